@@ -1,0 +1,60 @@
+-- Expressions of the calculus, and substitution with no name caught. Assumes nothing: these are definitions.
+-- A variable is the number of binders between it and its own, so that a name cannot be caught.
+use mathlib.Core.List.{List, [], _∷_, map, reverse}
+use Prim.Native.Nat.{ℕ, zero, suc}
+use lib.ListN.{getD}
+use lib.IntN.{ℤ, pos}
+
+pub data Param : Type 0 where
+  value : ℤ → Param
+  variable : ℕ → Param
+
+pub data Exp : Type 0 where
+  stop : Exp
+  -- M(P), a site call; E(P), a definition call
+  site : (s : ℕ) → List Param → Exp
+  call : (d : ℕ) → List Param → Exp
+  -- f | g; f >x> g, x bound in g; f <x< g, x bound in f
+  par : (f g : Exp) → Exp
+  seq : (f g : Exp) → Exp
+  prune : (f g : Exp) → Exp
+  -- an open call, by its handle; a value in hand
+  pending : (handle : ℕ) → Exp
+  hand : (v : ℤ) → Exp
+
+-- what stands for each variable
+abbrev pub Substitution : Type 0
+Substitution = ℕ → Param
+
+-- a parameter taken under one more binder
+unfoldable pub raise : Param → Param
+raise (value v) = value v
+raise (variable i) = variable (suc i)
+
+-- a substitution taken under one more binder, whose own variable it leaves alone
+unfoldable pub lift : Substitution → Substitution
+lift σ zero = variable zero
+lift σ (suc i) = raise (σ i)
+
+unfoldable pub substParam : Substitution → Param → Param
+substParam σ (value v) = value v
+substParam σ (variable i) = σ i
+
+unfoldable pub subst : Substitution → Exp → Exp
+subst σ stop = stop
+subst σ (site s ps) = site s (map (substParam σ) ps)
+subst σ (call d ps) = call d (map (substParam σ) ps)
+subst σ (par f g) = par (subst σ f) (subst σ g)
+subst σ (seq f g) = seq (subst σ f) (subst (lift σ) g)
+subst σ (prune f g) = prune (subst (lift σ) f) (subst σ g)
+subst σ (pending h) = pending h
+subst σ (hand v) = hand v
+
+-- v for the innermost variable; the others are one binder nearer
+unfoldable pub one : ℤ → Substitution
+one v zero = value v
+one v (suc i) = variable i
+
+-- P for the formals: the last formal is the innermost variable
+unfoldable pub formals : List Param → Substitution
+formals ps i = getD (reverse ps) i (value (pos 0))

@@ -1,0 +1,3 @@
+-- "`orcrun` and its lines".
+pub mod Line
+pub mod Orcrun

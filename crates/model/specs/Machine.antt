@@ -1,0 +1,11 @@
+-- "One step", the index rules and the refusals 9 to 14.
+pub mod Limits
+pub mod Blank
+pub mod Active
+pub mod InUse
+pub mod Places
+pub mod Rules
+pub mod Reply
+pub mod Start
+pub mod Step
+pub mod Answer

@@ -1,0 +1,98 @@
+-- Document 01: blank. A blank token or cell holds nothing. Assumes nothing: these are definitions.
+use mathlib.Core.Bool.{Bool, true, false, not}
+use mathlib.Core.List.{List, [], _∷_}
+use Prim.Native.Nat.{ℕ}
+use lib.ListN.{getD, replicate}
+use lib.Dec.{eqb}
+use Rattle.model.specs.Test.{_and_, all}
+use Rattle.model.specs.Machine.Limits.{Limits}
+use Rattle.model.specs.declared.token.Slot.{Slot}
+use Rattle.model.specs.declared.token.Slot.the-variants as slots
+use Rattle.model.specs.declared.token.Bind.{Bind}
+use Rattle.model.specs.declared.token.Held.{Held}
+use Rattle.model.specs.declared.token.Held.the-variants as helds
+use Rattle.model.specs.declared.token.Place.{Place}
+use Rattle.model.specs.declared.token.Place.the-variants as places
+use Rattle.model.specs.declared.token.State.{State}
+use Rattle.model.specs.declared.token.State.the-variants as states
+use Rattle.model.specs.declared.token.Token.{Token}
+use Rattle.model.specs.declared.cell.Cell.{Cell}
+use Rattle.model.specs.declared.machine.Machine.{Machine}
+
+abbrev pub empty : Bind
+empty = record { slot = slots.Empty }
+
+-- "nothing bound"
+abbrev pub unbound : List Bind
+unbound = replicate 8 empty
+
+abbrev pub blankToken : Token
+blankToken =
+    record {
+      node = 0;
+      binds = unbound;
+      value = helds.Nothing;
+      caller = places.Nowhere;
+      cell = places.Nowhere;
+      state = states.Blank
+    }
+
+abbrev pub blankCell : Cell
+blankCell = record { parent = places.Nowhere; value = helds.Nothing }
+
+-- the record in which nothing is in use
+abbrev pub blankMachine : Limits → Machine
+blankMachine lim =
+    record {
+      tokens = replicate (lim .tokenPlaces) blankToken;
+      cells = replicate (lim .cellPlaces) blankCell;
+      queue = replicate (lim .tokenPlaces) 0;
+      queued = 0;
+      waits = replicate (lim .tokenPlaces) 0;
+      waiting = 0;
+      calls = 0;
+      newtoken = 0;
+      newcell = 0
+    }
+
+-- what stands at a place of a table
+unfoldable pub tokenAt : List Token → ℕ → Token
+tokenAt ts p = getD ts p blankToken
+
+unfoldable pub cellAt : List Cell → ℕ → Cell
+cellAt cs c = getD cs c blankCell
+
+unfoldable pub slotAt : List Bind → ℕ → Slot
+slotAt bs x = getD bs x empty .slot
+
+unfoldable pub isBound : Slot → Bool
+isBound slots.Empty = false
+isBound (slots.Value v) = true
+isBound (slots.Cell c) = true
+
+unfoldable pub hasValue : Held → Bool
+hasValue helds.Nothing = false
+hasValue (helds.Value v) = true
+
+unfoldable pub isPlace : Place → Bool
+isPlace places.Nowhere = false
+isPlace (places.At p) = true
+
+unfoldable pub isBlankState : State → Bool
+isBlankState states.Blank = true
+isBlankState states.Ready = false
+isBlankState (states.Waiting c) = false
+isBlankState (states.Called h) = false
+isBlankState states.Frame = false
+
+unfoldable pub tokenIsBlank : Token → Bool
+tokenIsBlank t =
+    isBlankState (t .state)
+    and eqb (t .node) 0
+    and all (λ (b : Bind). not (isBound (b .slot))) (t .binds)
+    and not (hasValue (t .value))
+    and not (isPlace (t .caller))
+    and not (isPlace (t .cell))
+
+unfoldable pub cellIsBlank : Cell → Bool
+cellIsBlank c = not (isPlace (c .parent)) and not (hasValue (c .value))

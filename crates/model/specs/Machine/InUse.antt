@@ -1,0 +1,97 @@
+-- Document 01: in use, and blank after each accepted call. Assumes nothing: these are definitions.
+use mathlib.Core.Bool.{Bool, true, false}
+use mathlib.Core.List.{List, [], _∷_, _++_, map}
+use Prim.Native.Nat.{ℕ, zero, suc}
+use lib.ListN.{length, getD, set, replicate}
+use Rattle.model.specs.Machine.Blank.{blankToken, blankCell}
+use Rattle.model.specs.Machine.Active.{isActive}
+use Rattle.model.specs.declared.token.Slot.{Slot}
+use Rattle.model.specs.declared.token.Slot.the-variants as slots
+use Rattle.model.specs.declared.token.Bind.{Bind}
+use Rattle.model.specs.declared.token.Place.{Place}
+use Rattle.model.specs.declared.token.Place.the-variants as places
+use Rattle.model.specs.declared.token.Token.{Token}
+use Rattle.model.specs.declared.cell.Cell.{Cell}
+use Rattle.model.specs.declared.machine.Machine.{Machine}
+
+-- Marks are a Bool for each place. A chain of links is marked until it ends or comes to a place that is marked already;
+-- it is followed for so many links at most
+unfoldable pub markChain : {A : Type 0} → (A → Place) → A → List A → ℕ → Place → List Bool → List Bool
+markChain link blank xs zero q marks = marks
+markChain link blank xs (suc n) q marks =
+    elim q [ places.Nowhere ↦ marks
+           | places.At i ↦
+               elim (getD marks i true) [
+                 true ↦ marks
+               | false ↦ markChain link blank xs n (link (getD xs i blank)) (set marks i true)
+               ] ]
+
+unfoldable pub markChains : {A : Type 0} → (A → Place) → A → List A → List Place → List Bool → List Bool
+markChains link blank xs [] marks = marks
+markChains link blank xs (q ∷ qs) marks = markChains link blank xs qs (markChain link blank xs (length xs) q marks)
+
+-- what is reached from some places
+unfoldable pub reached : {A : Type 0} → (A → Place) → A → List A → List Place → List Bool
+reached link blank xs from = markChains link blank xs from (replicate (length xs) false)
+
+-- the places of the active tokens, counted from i
+unfoldable pub activePlaces : List Cell → ℕ → List Token → List Place
+activePlaces cs i [] = []
+activePlaces cs i (t ∷ ts) =
+    let rest = activePlaces cs (suc i) ts in elim (isActive cs t) [ true ↦ places.At i ∷ rest | false ↦ rest ]
+
+-- the links: a token reaches its caller, its cell and the cells bound in it; a cell reaches its parent
+unfoldable pub boundCell : Bind → Place
+boundCell b = elim (b .slot) [ slots.Empty ↦ places.Nowhere | slots.Value v ↦ places.Nowhere | slots.Cell c ↦ places.At c ]
+
+unfoldable pub cellsOf : Token → List Place
+cellsOf t = t .cell ∷ map boundCell (t .binds)
+
+unfoldable pub cellsOfMarked : List Bool → List Token → List Place
+cellsOfMarked marks [] = []
+cellsOfMarked [] (t ∷ ts) = []
+cellsOfMarked (true ∷ marks) (t ∷ ts) = cellsOf t ++ cellsOfMarked marks ts
+cellsOfMarked (false ∷ marks) (t ∷ ts) = cellsOfMarked marks ts
+
+-- "In use: active tokens, and what they reach by caller, .."
+unfoldable pub usedTokens : List Token → List Cell → List Bool
+usedTokens ts cs = reached (λ (t : Token). t .caller) blankToken ts (activePlaces cs 0 ts)
+
+-- ".. cell, parent and binding": the cells that the tokens in use reach
+unfoldable pub usedCells : List Bool → List Token → List Cell → List Bool
+usedCells used ts cs = reached (λ (c : Cell). c .parent) blankCell cs (cellsOfMarked used ts)
+
+abbrev pub tokensUsed : Machine → List Bool
+tokensUsed m = usedTokens (m .tokens) (m .cells)
+
+abbrev pub cellsUsed : Machine → List Bool
+cellsUsed m = usedCells (tokensUsed m) (m .tokens) (m .cells)
+
+-- how many places are marked
+unfoldable pub marked : List Bool → ℕ
+marked [] = 0
+marked (true ∷ marks) = suc (marked marks)
+marked (false ∷ marks) = marked marks
+
+-- the table with what is not marked made blank
+unfoldable pub kept : {A : Type 0} → A → List Bool → List A → List A
+kept blank marks [] = []
+kept blank [] (x ∷ xs) = blank ∷ kept blank [] xs
+kept blank (true ∷ marks) (x ∷ xs) = x ∷ kept blank marks xs
+kept blank (false ∷ marks) (x ∷ xs) = blank ∷ kept blank marks xs
+
+-- "The rest is blank after each accepted call"
+unfoldable pub finish : Machine → Machine
+finish m =
+    let used = tokensUsed m in
+    record {
+      tokens = kept blankToken used (m .tokens);
+      cells = kept blankCell (usedCells used (m .tokens) (m .cells)) (m .cells);
+      queue = m .queue;
+      queued = m .queued;
+      waits = m .waits;
+      waiting = m .waiting;
+      calls = m .calls;
+      newtoken = m .newtoken;
+      newcell = m .newcell
+    }

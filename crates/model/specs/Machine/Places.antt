@@ -1,0 +1,20 @@
+-- Where a new record goes. Assumes nothing: these are definitions.
+use mathlib.Core.Bool.{Bool, true, false}
+use mathlib.Core.List.{List, [], _∷_}
+use Prim.Native.Nat.{ℕ, zero, suc}
+use lib.ListN.{length, getD}
+use lib.Dec.{ltb}
+
+-- "round from the end to 0"
+unfoldable pub around : ℕ → ℕ → ℕ
+around n p = elim (ltb p n) as (λ b. ℕ) [ true ↦ p | false ↦ 0 ]
+
+-- the first place from p on that is not marked; so many are looked at
+unfoldable pub freeFrom : List Bool → ℕ → ℕ → ℕ
+freeFrom marks zero p = 0
+freeFrom marks (suc n) p =
+    let q = around (length marks) p in elim (getD marks q true) [ true ↦ freeFrom marks n (suc q) | false ↦ q ]
+
+-- "A new record takes the next place not in use before the call, after the last one given"
+unfoldable pub nextPlace : List Bool → (last : ℕ) → ℕ
+nextPlace marks last = freeFrom marks (length marks) (suc last)

@@ -1,0 +1,192 @@
+-- Document 01: the index rules, in the order of their sentence. Assumes nothing: these are definitions.
+use mathlib.Core.Bool.{Bool, true, false, not}
+use mathlib.Core.List.{List, [], _∷_, _++_}
+use Prim.Native.Nat.{ℕ, zero, suc}
+use lib.ListN.{length, take, drop}
+use lib.Dec.{ltb, leb, eqb}
+use Rattle.model.specs.Test.{_and_, _or_, all, allFrom, count, once, differ}
+use Rattle.model.specs.Number.{fits}
+use Rattle.model.specs.Job.Syntax.{Param, variable, constant}
+use Rattle.model.specs.Job.Node.{Node, Dag, nodeAt, isNode, dagKept}
+use Rattle.model.specs.Machine.Limits.{Limits}
+use Rattle.model.specs.Machine.Blank.{tokenAt, cellAt, slotAt, isBound, hasValue, isPlace, isBlankState, tokenIsBlank, cellIsBlank}
+use Rattle.model.specs.Machine.Active.{isSet, underSet, isLive}
+use Rattle.model.specs.Machine.InUse.{tokensUsed, usedCells}
+use Rattle.model.specs.declared.token.Slot.{Slot}
+use Rattle.model.specs.declared.token.Slot.the-variants as slots
+use Rattle.model.specs.declared.token.Bind.{Bind}
+use Rattle.model.specs.declared.token.Held.{Held}
+use Rattle.model.specs.declared.token.Held.the-variants as helds
+use Rattle.model.specs.declared.token.Place.{Place}
+use Rattle.model.specs.declared.token.Place.the-variants as places
+use Rattle.model.specs.declared.token.State.{State}
+use Rattle.model.specs.declared.token.State.the-variants as states
+use Rattle.model.specs.declared.token.Token.{Token}
+use Rattle.model.specs.declared.cell.Cell.{Cell}
+use Rattle.model.specs.declared.machine.Machine.{Machine}
+
+-- "nodes, slots, tokens and cells named lie in their ranges"; "every value is signed 32-bit"
+unfoldable pub heldInRange : Held → Bool
+heldInRange helds.Nothing = true
+heldInRange (helds.Value v) = fits v
+
+unfoldable pub placeInRange : ℕ → Place → Bool
+placeInRange n places.Nowhere = true
+placeInRange n (places.At p) = ltb p n
+
+unfoldable pub slotInRange : ℕ → Slot → Bool
+slotInRange cells slots.Empty = true
+slotInRange cells (slots.Value v) = fits v
+slotInRange cells (slots.Cell c) = ltb c cells
+
+-- "open handles .. are below the call count"; a waiting token's cell is a cell named
+unfoldable pub stateInRange : (cells calls : ℕ) → State → Bool
+stateInRange cells calls states.Blank = true
+stateInRange cells calls states.Ready = true
+stateInRange cells calls (states.Waiting c) = ltb c cells
+stateInRange cells calls (states.Called h) = ltb h calls
+stateInRange cells calls states.Frame = true
+
+module _ (lim : Limits) (d : Dag) where
+  unfoldable pub tokenInRange : (calls : ℕ) → Token → Bool
+  tokenInRange calls t =
+      isNode d (t .node)
+      and eqb (length (t .binds)) 8
+      and all (λ (b : Bind). slotInRange (lim .cellPlaces) (b .slot)) (t .binds)
+      and heldInRange (t .value)
+      and placeInRange (lim .tokenPlaces) (t .caller)
+      and placeInRange (lim .cellPlaces) (t .cell)
+      and stateInRange (lim .cellPlaces) calls (t .state)
+
+  unfoldable pub cellInRange : Cell → Bool
+  cellInRange c = placeInRange (lim .cellPlaces) (c .parent) and heldInRange (c .value)
+
+  -- the fields that the representation adds: docs/DECISIONS.md, "Fields and their ranges"
+  unfoldable pub sizesInRange : Machine → Bool
+  sizesInRange m =
+      eqb (length (m .tokens)) (lim .tokenPlaces)
+      and eqb (length (m .cells)) (lim .cellPlaces)
+      and leb (m .calls) (lim .calls)
+      and ltb (m .newtoken) (lim .tokenPlaces)
+      and ltb (m .newcell) (lim .cellPlaces)
+
+unfoldable pub isReady : State → Bool
+isReady states.Blank = false
+isReady states.Ready = true
+isReady (states.Waiting c) = false
+isReady (states.Called h) = false
+isReady states.Frame = false
+
+unfoldable pub isWaiting : State → Bool
+isWaiting states.Blank = false
+isWaiting states.Ready = false
+isWaiting (states.Waiting c) = true
+isWaiting (states.Called h) = false
+isWaiting states.Frame = false
+
+unfoldable pub isFrame : State → Bool
+isFrame states.Blank = false
+isFrame states.Ready = false
+isFrame (states.Waiting c) = false
+isFrame (states.Called h) = false
+isFrame states.Frame = true
+
+-- "the queue names each ready token once and nothing else"; "the wait order names each waiting token once".
+-- An order is the first n numbers of its array; what stands behind them is 0
+unfoldable pub namesOnce : (State → Bool) → List Token → List ℕ → ℕ → Bool
+namesOnce of ts array n =
+    let order = take n array in
+    eqb (length array) (length ts)
+    and leb n (length array)
+    and all (λ (p : ℕ). ltb p (length ts)) order
+    and allFrom (λ p (t : Token). eqb (count p order) (once (of (t .state)))) 0 ts
+    and all (eqb 0) (drop n array)
+
+-- "each parent chain ends": within as many links as there are cells
+unfoldable pub chainEnds : List Cell → ℕ → Place → Bool
+chainEnds cs zero q = not (isPlace q)
+chainEnds cs (suc n) q = elim q [ places.Nowhere ↦ true | places.At c ↦ chainEnds cs n (cellAt cs c .parent) ]
+
+unfoldable pub chainsEnd : List Cell → Bool
+chainsEnd cs = all (λ (c : Cell). chainEnds cs (length cs) (c .parent)) cs
+
+-- "no ready, waiting or called-out token is under a set cell"
+unfoldable pub notUnderSet : List Cell → Token → Bool
+notUnderSet cs t = elim (isLive (t .state)) [ true ↦ not (underSet cs (t .cell)) | false ↦ true ]
+
+-- document 01: open handle. The handle of a token that is called out
+unfoldable pub handleOf : State → List ℕ
+handleOf states.Blank = []
+handleOf states.Ready = []
+handleOf (states.Waiting c) = []
+handleOf (states.Called h) = h ∷ []
+handleOf states.Frame = []
+
+unfoldable pub openHandles : List Token → List ℕ
+openHandles [] = []
+openHandles (t ∷ ts) = handleOf (t .state) ++ openHandles ts
+
+-- ".. at an unset cell"
+unfoldable pub waitsAtUnset : List Cell → State → Bool
+waitsAtUnset cs states.Blank = true
+waitsAtUnset cs states.Ready = true
+waitsAtUnset cs (states.Waiting c) = not (isSet (cellAt cs c))
+waitsAtUnset cs (states.Called h) = true
+waitsAtUnset cs states.Frame = true
+
+-- "a token at return names a frame, at choke a cell, at a call no empty variable"
+unfoldable pub namesFrame : List Token → Place → Bool
+namesFrame ts places.Nowhere = false
+namesFrame ts (places.At p) = isFrame (tokenAt ts p .state)
+
+unfoldable pub notEmpty : List Bind → Param → Bool
+notEmpty bs (variable x) = isBound (slotAt bs x)
+notEmpty bs (constant v) = true
+
+-- "a ready token at assign, remove, return, choke or publish has a value"
+unfoldable pub valueIfReady : Token → Bool
+valueIfReady t = not (isReady (t .state)) or hasValue (t .value)
+
+unfoldable pub nodeRule : List Token → Token → Node → Bool
+nodeRule ts t Node.stop = true
+nodeRule ts t (Node.site s ps k) = all (notEmpty (t .binds)) ps
+nodeRule ts t (Node.call e ps k) = all (notEmpty (t .binds)) ps
+nodeRule ts t (Node.fork l r) = true
+nodeRule ts t (Node.assign x k) = valueIfReady t
+nodeRule ts t (Node.remove x k) = valueIfReady t
+nodeRule ts t (Node.where' x l r) = true
+nodeRule ts t Node.choke = isPlace (t .cell) and valueIfReady t
+nodeRule ts t Node.return = namesFrame ts (t .caller) and valueIfReady t
+nodeRule ts t Node.publish = valueIfReady t
+nodeRule ts t Node.unknown = true
+
+-- a blank token is at no node
+unfoldable pub atNode : Dag → List Token → Token → Bool
+atNode d ts t = elim (isBlankState (t .state)) [ true ↦ true | false ↦ nodeRule ts t (nodeAt d (t .node)) ]
+
+-- "what is not in use is blank"
+unfoldable pub restIsBlank : {A : Type 0} → (A → Bool) → List Bool → List A → Bool
+restIsBlank isBlank marks [] = true
+restIsBlank isBlank [] (x ∷ xs) = isBlank x and restIsBlank isBlank [] xs
+restIsBlank isBlank (true ∷ marks) (x ∷ xs) = restIsBlank isBlank marks xs
+restIsBlank isBlank (false ∷ marks) (x ∷ xs) = isBlank x and restIsBlank isBlank marks xs
+
+unfoldable pub machineKept : Limits → Dag → Machine → Bool
+machineKept lim d m =
+    let used = tokensUsed m in
+    sizesInRange lim d m
+    and all (tokenInRange lim d (m .calls)) (m .tokens)
+    and all (cellInRange lim d) (m .cells)
+    and namesOnce isReady (m .tokens) (m .queue) (m .queued)
+    and chainsEnd (m .cells)
+    and all (notUnderSet (m .cells)) (m .tokens)
+    and differ (openHandles (m .tokens))
+    and namesOnce isWaiting (m .tokens) (m .waits) (m .waiting)
+    and all (λ (t : Token). waitsAtUnset (m .cells) (t .state)) (m .tokens)
+    and all (atNode d (m .tokens)) (m .tokens)
+    and restIsBlank tokenIsBlank used (m .tokens)
+    and restIsBlank cellIsBlank (usedCells used (m .tokens) (m .cells)) (m .cells)
+
+-- "14: dag or machine record breaks an index rule"
+unfoldable pub rulesKept : Limits → Dag → Machine → Bool
+rulesKept lim d m = dagKept d and machineKept lim d m

@@ -1,0 +1,52 @@
+-- The start. Assumes nothing: these are definitions.
+use mathlib.Core.Bool.{Bool, true, false}
+use mathlib.Core.List.{List, [], _∷_}
+use Prim.Native.Nat.{ℕ, _-_}
+use lib.ListN.{set, replicate}
+use Rattle.model.specs.Job.Node.{Dag, dagKept}
+use Rattle.model.specs.Machine.Limits.{Limits}
+use Rattle.model.specs.Machine.Blank.{unbound, blankToken, blankCell, blankMachine}
+use Rattle.model.specs.Machine.Reply.{valuesBeside}
+use Rattle.model.specs.declared.token.Held.the-variants as helds
+use Rattle.model.specs.declared.token.Place.the-variants as places
+use Rattle.model.specs.declared.token.State.the-variants as states
+use Rattle.model.specs.declared.token.Token.{Token}
+use Rattle.model.specs.declared.machine.Machine.{Machine}
+use Rattle.model.specs.declared.reply.Refusal.the-variants as refusals
+use Rattle.model.specs.declared.reply.Reply.the-variants as replies
+use Rattle.model.specs.declared.reply.Outcome.{Outcome}
+
+-- "The starting token has nothing bound, no value, no caller and no cell but the root"
+abbrev pub startToken : ℕ → Token
+startToken goal =
+    record {
+      node = goal;
+      binds = unbound;
+      value = helds.Nothing;
+      caller = places.Nowhere;
+      cell = places.Nowhere;
+      state = states.Ready
+    }
+
+-- "the starting token is at 0, the first cell takes 0": the last cell place given is the last one there is
+abbrev pub startMachine : Limits → ℕ → Machine
+startMachine lim goal =
+    record {
+      tokens = set (replicate (lim .tokenPlaces) blankToken) 0 (startToken goal);
+      cells = replicate (lim .cellPlaces) blankCell;
+      queue = replicate (lim .tokenPlaces) 0;
+      queued = 1;
+      waits = replicate (lim .tokenPlaces) 0;
+      waiting = 0;
+      calls = 0;
+      newtoken = 0;
+      newcell = lim .cellPlaces - 1
+    }
+
+-- "The start tests 14": the dag's rules. A refused start hands back the blank record
+unfoldable pub start : Limits → Dag → Outcome
+start lim d =
+    elim (dagKept d) [
+      true ↦ record { reply = replies.Done; values = valuesBeside []; machine = startMachine lim (d .goal) }
+    | false ↦ record { reply = replies.Refused refusals.Rule; values = valuesBeside []; machine = blankMachine lim }
+    ]

@@ -1,0 +1,301 @@
+-- Document 01: one step. One clause for each instruction. Assumes nothing: these are definitions.
+use mathlib.Core.Bool.{Bool, true, false}
+use mathlib.Core.List.{List, [], _∷_, _++_, map}
+use Prim.Native.Nat.{ℕ, suc}
+use lib.ListN.{length, getD, set, take, drop}
+use lib.Dec.{ltb, eqb}
+use lib.IntN.{ℤ, pos}
+use Rattle.model.specs.Test.{filter, padded, without}
+use Rattle.model.specs.Site.{Said, gives, silent, isBuiltin, builtin}
+use Rattle.model.specs.Job.Syntax.{Param, variable, constant}
+use Rattle.model.specs.Job.Node.{Node, Dag, nodeAt, bodyAt}
+use Rattle.model.specs.Machine.Limits.{Limits}
+use Rattle.model.specs.Machine.Blank.{empty, unbound, blankToken, tokenAt, cellAt, slotAt}
+use Rattle.model.specs.Machine.Active.{within}
+use Rattle.model.specs.Machine.InUse.{tokensUsed, cellsUsed, marked}
+use Rattle.model.specs.Machine.Places.{nextPlace}
+use Rattle.model.specs.Machine.Rules.{isReady, isWaiting, rulesKept}
+use Rattle.model.specs.Machine.Reply.{Effect, moves, waits, publishes, calls, refuses, unless, outcome}
+use Rattle.model.specs.declared.token.Slot.{Slot}
+use Rattle.model.specs.declared.token.Slot.the-variants as slots
+use Rattle.model.specs.declared.token.Bind.{Bind}
+use Rattle.model.specs.declared.token.Held.{Held}
+use Rattle.model.specs.declared.token.Held.the-variants as helds
+use Rattle.model.specs.declared.token.Place.{Place}
+use Rattle.model.specs.declared.token.Place.the-variants as places
+use Rattle.model.specs.declared.token.State.{State}
+use Rattle.model.specs.declared.token.State.the-variants as states
+use Rattle.model.specs.declared.token.Token.{Token}
+use Rattle.model.specs.declared.cell.Cell.{Cell}
+use Rattle.model.specs.declared.machine.Machine.{Machine}
+use Rattle.model.specs.declared.reply.Refusal.the-variants as refusals
+use Rattle.model.specs.declared.reply.Outcome.{Outcome}
+
+-- Tokens. "What a line does not name is copied from the token acted on"
+unfoldable pub to : ℕ → Token → Token
+to k t = record { node = k; binds = t .binds; value = t .value; caller = t .caller; cell = t .cell; state = t .state }
+
+unfoldable pub binding : ℕ → Slot → Token → Token
+binding x s t =
+    record {
+      node = t .node;
+      binds = set (t .binds) x (record { slot = s });
+      value = t .value;
+      caller = t .caller;
+      cell = t .cell;
+      state = t .state
+    }
+
+unfoldable pub holding : Held → Token → Token
+holding v t = record { node = t .node; binds = t .binds; value = v; caller = t .caller; cell = t .cell; state = t .state }
+
+unfoldable pub inCell : ℕ → Token → Token
+inCell c t =
+    record { node = t .node; binds = t .binds; value = t .value; caller = t .caller; cell = places.At c; state = t .state }
+
+unfoldable pub being : State → Token → Token
+being s t = record { node = t .node; binds = t .binds; value = t .value; caller = t .caller; cell = t .cell; state = s }
+
+-- Machines, a field or two at a time
+unfoldable pub withTables : List Token → List Cell → Machine → Machine
+withTables ts cs m =
+    record {
+      tokens = ts;
+      cells = cs;
+      queue = m .queue;
+      queued = m .queued;
+      waits = m .waits;
+      waiting = m .waiting;
+      calls = m .calls;
+      newtoken = m .newtoken;
+      newcell = m .newcell
+    }
+
+unfoldable pub withOrders : (queue waits : List ℕ) → Machine → Machine
+withOrders q w m =
+    record {
+      tokens = m .tokens;
+      cells = m .cells;
+      queue = padded 0 (length (m .tokens)) q;
+      queued = length q;
+      waits = padded 0 (length (m .tokens)) w;
+      waiting = length w;
+      calls = m .calls;
+      newtoken = m .newtoken;
+      newcell = m .newcell
+    }
+
+unfoldable pub withCounts : (calls newtoken newcell : ℕ) → Machine → Machine
+withCounts n p c m =
+    record {
+      tokens = m .tokens;
+      cells = m .cells;
+      queue = m .queue;
+      queued = m .queued;
+      waits = m .waits;
+      waiting = m .waiting;
+      calls = n;
+      newtoken = p;
+      newcell = c
+    }
+
+-- the queue, and the wait order, longest wait first
+unfoldable pub queueOf : Machine → List ℕ
+queueOf m = take (m .queued) (m .queue)
+
+unfoldable pub waitsOf : Machine → List ℕ
+waitsOf m = take (m .waiting) (m .waits)
+
+unfoldable pub put : ℕ → Token → Machine → Machine
+put p t m = withTables (set (m .tokens) p t) (m .cells) m
+
+-- "A ready token goes to the back of the queue"
+unfoldable pub enqueue : ℕ → Machine → Machine
+enqueue p m = withOrders (queueOf m ++ (p ∷ [])) (waitsOf m) m
+
+-- a new token, a new cell: the place is the last one given
+unfoldable pub newToken : ℕ → Token → Machine → Machine
+newToken p t m = withCounts (m .calls) p (m .newcell) (put p t m)
+
+unfoldable pub newCell : ℕ → Cell → Machine → Machine
+newCell c k m = withCounts (m .calls) (m .newtoken) c (withTables (m .tokens) (set (m .cells) c k) m)
+
+-- "parameters in order": all their values, or the first unset cell
+pub data Looked : Type 0 where
+  values : List ℤ → Looked
+  unset : (cell : ℕ) → Looked
+
+unfoldable pub andThen : ℤ → Looked → Looked
+andThen v (values vs) = values (v ∷ vs)
+andThen v (unset c) = unset c
+
+module _ (cs : List Cell) (bs : List Bind) where
+  unfoldable pub look : List Param → Looked
+  look [] = values []
+  look (constant v ∷ ps) = andThen v (look ps)
+  look (variable x ∷ ps) =
+      elim (slotAt bs x) [
+        -- "at a call no empty variable": the test for 14 leaves none
+        slots.Empty ↦ values []
+      | slots.Value v ↦ andThen v (look ps)
+      | slots.Cell c ↦ elim (cellAt cs c .value) [ helds.Nothing ↦ unset c | helds.Value v ↦ andThen v (look ps) ]
+      ]
+
+-- "A variable's binding is passed on as it is, its cell set or unset"
+unfoldable pub passed : List Bind → Param → Bind
+passed bs (variable x) = record { slot = slotAt bs x }
+passed bs (constant v) = record { slot = slots.Value v }
+
+-- "only its formals bound"
+unfoldable pub formalsBound : List Bind → List Param → List Bind
+formalsBound bs ps = map (passed bs) ps ++ drop (length ps) unbound
+
+-- "a ready token at .. has a value": the test for 14 leaves none without
+unfoldable pub valueOf : Held → ℤ
+valueOf helds.Nothing = pos 0
+valueOf (helds.Value v) = v
+
+-- does a token wait at the cell c
+unfoldable pub waitsAt : ℕ → State → Bool
+waitsAt c states.Blank = false
+waitsAt c states.Ready = false
+waitsAt c (states.Waiting b) = eqb c b
+waitsAt c (states.Called h) = false
+waitsAt c states.Frame = false
+
+-- "all tokens of it and of its descendants end; waiters become ready"
+unfoldable pub chokeToken : List Cell → ℕ → Token → Token
+chokeToken cs c t =
+    elim (within cs c (t .cell)) [
+      true ↦ blankToken
+    | false ↦ elim (waitsAt c (t .state)) [ true ↦ being states.Ready t | false ↦ t ]
+    ]
+
+-- the machine after a choke: the queue has those that are still ready, then the woken ones, "longest wait first"
+unfoldable pub choked : ℕ → Held → Machine → Machine
+choked c v m =
+    let ts = map (chokeToken (m .cells) c) (m .tokens) in
+    let cs = set (m .cells) c (record { parent = cellAt (m .cells) c .parent; value = v }) in
+    withOrders
+      (filter (λ (p : ℕ). isReady (tokenAt ts p .state)) (queueOf m ++ waitsOf m))
+      (filter (λ (p : ℕ). isWaiting (tokenAt ts p .state)) (waitsOf m))
+      (withTables ts cs m)
+
+-- What each node does. The token t at place p acts; m is the machine with p taken from its queue
+module _ (m : Machine) (p : ℕ) (t : Token) where
+  -- "the token ends"
+  unfoldable pub ended : Machine
+  ended = put p blankToken m
+
+  -- the token goes on as u
+  unfoldable pub goesOn : Token → Effect
+  goesOn u = moves (enqueue p (put p u m))
+
+  -- "left keeps the place, right is new", at place q
+  unfoldable pub forked : (q left right : ℕ) → Effect
+  forked q l r = moves (enqueue q (enqueue p (newToken q (to r t) (put p (to l t) m))))
+
+  -- "left binds x to the new cell; right is new and belongs to it"; the cell is at place c
+  unfoldable pub split : (q c x left right : ℕ) → Effect
+  split q c x l r =
+      moves
+      (enqueue q
+      (enqueue p
+      (newCell c (record { parent = t .cell; value = helds.Nothing })
+      (newToken q (inCell c (to r t)) (put p (to l (binding x (slots.Cell c) t)) m)))))
+
+  -- "the token becomes a frame at next, the callee is new, in the token's cell, with no value and only its formals bound"
+  unfoldable pub entered : (q root : ℕ) → List Param → (next : ℕ) → Effect
+  entered q root ps k =
+      moves
+      (enqueue q
+      (newToken q
+      (record {
+        node = root;
+        binds = formalsBound (t .binds) ps;
+        value = helds.Nothing;
+        caller = places.At p;
+        cell = t .cell;
+        state = states.Ready
+      })
+      (put p (to k (being states.Frame t)) m)))
+
+  -- "the first unset cell makes the token wait there"
+  unfoldable pub waited : ℕ → Effect
+  waited c = waits (withOrders (queueOf m) (waitsOf m ++ (p ∷ [])) (put p (being (states.Waiting c) t) m))
+
+  -- "a built-in replies and the token goes on, or it is silent and the token ends"
+  unfoldable pub replied : (next : ℕ) → Said → Effect
+  replied k (gives v) = goesOn (to k (holding (helds.Value v) t))
+  replied k silent = moves ended
+
+  -- "an outside call takes the next handle (from 0), and the token is called out at the next node"
+  unfoldable pub calledOut : (site : ℕ) → List ℤ → (next : ℕ) → Effect
+  calledOut s vs k =
+      calls (m .calls) s vs
+      (withCounts (suc (m .calls)) (m .newtoken) (m .newcell) (put p (to k (being (states.Called (m .calls)) t)) m))
+
+  -- "return: the place takes a copy of the frame with the value". (The test for 14 leaves no token without a frame.)
+  unfoldable pub returned : Place → Effect
+  returned places.Nowhere = refuses refusals.Rule
+  returned (places.At f) = goesOn (being states.Ready (holding (t .value) (tokenAt (m .tokens) f)))
+
+  -- "choke: set the cell; .." (The test for 14 leaves no token without a cell.)
+  unfoldable pub chokes : Place → Effect
+  chokes places.Nowhere = refuses refusals.Rule
+  chokes (places.At c) = moves (choked c (t .value) m)
+
+module _ (lim : Limits) (d : Dag) where
+  -- "13: outside call, all values there, after 1,000,000 such calls"
+  unfoldable pub callSite : Machine → ℕ → Token → (site next : ℕ) → Looked → Effect
+  callSite m p t s k (unset c) = waited m p t c
+  callSite m p t s k (values vs) =
+      elim (isBuiltin s) [
+        true ↦ replied m p t k (builtin s vs)
+      | false ↦ unless (ltb (m .calls) (lim .calls)) refusals.CallLimit (calledOut m p t s vs k)
+      ]
+
+  -- "10: fork, where or definition call with 64 tokens in use", "11: where with 32 cells in use": `before` is the machine before the call
+  unfoldable pub hasTokenPlace : Machine → Bool
+  hasTokenPlace before = ltb (marked (tokensUsed before)) (lim .tokens)
+
+  unfoldable pub hasCellPlace : Machine → Bool
+  hasCellPlace before = ltb (marked (cellsUsed before)) (lim .cells)
+
+  abbrev tokenPlace : Machine → ℕ
+  tokenPlace before = nextPlace (tokensUsed before) (before .newtoken)
+
+  abbrev cellPlace : Machine → ℕ
+  cellPlace before = nextPlace (cellsUsed before) (before .newcell)
+
+  -- the instruction table
+  unfoldable pub act : (before m : Machine) → ℕ → Token → Node → Effect
+  act before m p t Node.stop = moves (ended m p t)
+  act before m p t Node.publish = publishes (valueOf (t .value)) (ended m p t)
+  act before m p t (Node.fork l r) =
+      unless (hasTokenPlace before) refusals.TokenLimit (forked m p t (tokenPlace before) l r)
+  act before m p t (Node.assign x k) = goesOn m p t (to k (binding x (slots.Value (valueOf (t .value))) t))
+  act before m p t (Node.remove x k) = goesOn m p t (to k (binding x slots.Empty t))
+  act before m p t (Node.where' x l r) =
+      unless (hasTokenPlace before) refusals.TokenLimit
+      (unless (hasCellPlace before) refusals.CellLimit (split m p t (tokenPlace before) (cellPlace before) x l r))
+  act before m p t (Node.site s ps k) = callSite m p t s k (look (m .cells) (t .binds) ps)
+  act before m p t (Node.call e ps k) =
+      unless (hasTokenPlace before) refusals.TokenLimit (entered m p t (tokenPlace before) (bodyAt d e .root) ps k)
+  act before m p t Node.return = returned m p t (t .caller)
+  act before m p t Node.choke = chokes m p t (t .cell)
+  -- the test for 14 leaves no such node
+  act before m p t Node.unknown = refuses refusals.Rule
+
+  -- the token that the queue has at a place acts
+  unfoldable pub takes : Machine → (place : ℕ) → Effect
+  takes m place =
+      let p = getD (m .queue) place 0 in
+      let t = tokenAt (m .tokens) p in
+      act m (withOrders (without place (queueOf m)) (waitsOf m) m) p t (nodeAt d (t .node))
+
+  -- "A step tests 14, 9, then 10, 11 or 13"
+  unfoldable pub step : Machine → (place : ℕ) → Outcome
+  step m place =
+      let effect = takes m place in
+      outcome m (unless (rulesKept lim d m) refusals.Rule (unless (ltb place (m .queued)) refusals.NoToken effect))

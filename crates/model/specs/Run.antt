@@ -1,0 +1,6 @@
+-- "Runs and their lists", and the statement of demand 3.
+pub mod Meaning
+pub mod Call
+pub mod Follow
+pub mod Demand3
+pub mod Marked

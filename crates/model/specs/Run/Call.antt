@@ -1,0 +1,68 @@
+-- The calls of a run, the run, and its event list. Assumes nothing: these are definitions.
+use mathlib.Core.Path.{_≡_}
+use mathlib.Core.Bool.{Bool, true, false}
+use mathlib.Core.List.{List, [], _∷_, _++_}
+use Prim.Native.Nat.{ℕ}
+use lib.IntN.{ℤ}
+use Rattle.model.specs.Number.{Signed32}
+use Rattle.model.specs.Job.Node.{Dag}
+use Rattle.model.specs.Machine.Limits.{Limits}
+use Rattle.model.specs.Machine.Reply.{Told, told, isRefused}
+use Rattle.model.specs.Machine.Start as Start
+use Rattle.model.specs.Machine.Step as Step
+use Rattle.model.specs.Machine.Answer as Answer
+use Rattle.model.specs.Calculus.Event.{Event}
+use Rattle.model.specs.declared.machine.Machine.{Machine}
+use Rattle.model.specs.declared.reply.Outcome.{Outcome}
+
+-- "steps, each with the queue place it picks, and answers, each with handle and value"
+pub data Call : Type 0 where
+  step : (place : ℕ) → Call
+  answer : (handle : ℕ) (v : ℤ) → Signed32 v → Call
+
+-- what runs: the three calls of a machine. Demand 3 is stated over these, so that it can be tried on wrong ones
+pub record Runner : Type 0 where
+  pub start : Limits → Dag → Outcome
+  pub step : Limits → Dag → Machine → (place : ℕ) → Outcome
+  pub answer : Limits → Dag → Machine → (handle : ℕ) → (value : ℤ) → Outcome
+
+-- the machine of document 01
+abbrev pub runner : Runner
+runner = record { start = Start.start; step = Step.step; answer = Answer.answer }
+
+module _ (R : Runner) (lim : Limits) (d : Dag) where
+  unfoldable pub outcomeOf : Machine → Call → Outcome
+  outcomeOf m (step place) = R .step lim d m place
+  outcomeOf m (answer h v fits) = R .answer lim d m h v
+
+  -- "each later one [gets] the record that the call before returned, or left when refused"
+  unfoldable pub machineAfter : Machine → List Call → Machine
+  machineAfter m [] = m
+  machineAfter m (c ∷ cs) = machineAfter (outcomeOf m c .machine) cs
+
+  -- what a call and its reply give: "an outside call gives handle, site and parameter values, a publish step its value,
+  -- an accepted answer its handle and value; other accepted steps and all refused calls give nothing"
+  unfoldable pub eventsOf : Call → Told → List Event
+  eventsOf (step place) Told.nothing = []
+  eventsOf (step place) (Told.published v) = Event.publish v ∷ []
+  eventsOf (step place) (Told.called h s vs) = Event.call h s vs ∷ []
+  eventsOf (step place) (Told.refused n) = []
+  eventsOf (answer h v fits) Told.nothing = Event.answer h v ∷ []
+  eventsOf (answer h v fits) (Told.refused n) = []
+  -- an answer's reply is none of these
+  eventsOf (answer h v fits) (Told.published w) = []
+  eventsOf (answer h v fits) (Told.called k s vs) = []
+
+  unfoldable pub eventsFrom : Machine → List Call → List Event
+  eventsFrom m [] = []
+  eventsFrom m (c ∷ cs) =
+      let o = outcomeOf m c in eventsOf c (told (o .reply) (o .values)) ++ eventsFrom (o .machine) cs
+
+  unfoldable pub noneRefused : Machine → List Call → Bool
+  noneRefused m [] = true
+  noneRefused m (c ∷ cs) =
+      let o = outcomeOf m c in elim (isRefused (o .reply)) [ true ↦ false | false ↦ noneRefused (o .machine) cs ]
+
+  -- "the start on its dag, then any list of calls"
+  abbrev pub started : Machine
+  started = R .start lim d .machine

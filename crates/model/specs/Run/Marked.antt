@@ -1,0 +1,81 @@
+-- "Twelve marked runs": inputs and outputs. Assumes nothing: these are definitions.
+use mathlib.Core.List.{List, [], _∷_, _++_}
+use Prim.Native.Nat.{ℕ}
+use Prim.Native.String.{String}
+use lib.IntN.{ℤ, pos}
+use Rattle.model.specs.Number.{bytes, unsigned}
+use Rattle.model.specs.Job.Syntax.{Param, variable, constant, Join, par, seq, prune, Exp, stop, site, call, join, Definition, Program}
+use Rattle.model.specs.Job.Encode.{encode}
+use Rattle.model.specs.Lines.Line.{ascii}
+
+-- A notation close to document 01's: f ∣ g, f >[ x ]> g, f <[ x ]< g, where x is the variable's number
+infixr 20 _∣_
+infixr 22 _>[_]>_
+infixl 21 _<[_]<_
+
+abbrev pub _∣_ : Exp → Exp → Exp
+f ∣ g = join par f g
+
+abbrev pub _>[_]>_ : Exp → ℕ → Exp → Exp
+f >[ x ]> g = join (seq x) f g
+
+abbrev pub _<[_]<_ : Exp → ℕ → Exp → Exp
+f <[ x ]< g = join (prune x) f g
+
+abbrev pub v : ℕ → Param
+v x = variable x
+
+abbrev pub # : ℕ → Param
+# n = constant (pos n)
+
+abbrev pub let′ : Param → Exp
+let′ a = site 0 (a ∷ [])
+
+abbrev pub signal : Exp
+signal = site 3 []
+
+abbrev pub add : Param → Param → Exp
+add a b = site 4 (a ∷ b ∷ [])
+
+abbrev pub goal : Exp → Program
+goal g = record { definitions = []; goal = g }
+
+-- E() = body, with the goal E()
+abbrev pub calling : Exp → Program
+calling b = record { definitions = record { formals = 0; body = b } ∷ []; goal = call 0 [] }
+
+-- an answer's 8 bytes
+abbrev pub answering : ℕ → ℤ → List ℕ
+answering h a = bytes 4 h ++ bytes 4 (unsigned a)
+
+pub record Case : Type 0 where
+  pub input : List ℕ
+  pub output : List ℕ
+
+abbrev pub prints : List ℕ → String → Case
+prints i s = record { input = i; output = ascii s }
+
+abbrev pub markedRuns : List Case
+markedRuns =
+    -- "The run above": table 00 00 07 00, kinds, operands, records (1, 42), (0, 7), as bytes
+    prints
+      (0x00 ∷ 0x00 ∷ 0x07 ∷ 0x00
+      ∷ 0x05 ∷ 0x01 ∷ 0x07 ∷ 0x03 ∷ 0x01 ∷ 0x08 ∷ 0x01
+      ∷ bytes 4 0 ++ bytes 4 0x00010000 ++ bytes 4 0 ++ bytes 4 0 ++ bytes 4 0x00010010 ++ bytes 4 5 ++ bytes 4 0x00000011
+      ++ answering 1 (pos 42) ++ answering 0 (pos 7))
+      "call 0 16 5\ncall 1 17\npublish 42\nrefused 12\nend 9\n"
+    ∷ prints (encode (goal stop)) "end 1\n"
+    -- N = 0
+    ∷ prints (0x00 ∷ 0x00 ∷ 0x00 ∷ 0x00 ∷ []) "table 2 0\n"
+    ∷ prints (encode (goal signal)) "publish 0\nend 2\n"
+    ∷ prints (encode (goal (stop >[ 0 ]> let′ (v 0)))) "end 1\n"
+    ∷ prints (encode (goal (let′ (v 0) <[ 0 ]< stop))) "end 3\n"
+    ∷ prints (encode (goal (add (# 2147483647) (# 1)))) "end 1\n"
+    ∷ prints (encode (goal (add (# 2147483646) (# 1)))) "publish 2147483647\nend 2\n"
+    ∷ prints (encode (goal ((let′ (# 1) ∣ let′ (# 2)) >[ 0 ]> let′ (v 0)))) "publish 1\npublish 2\nend 11\n"
+    ∷ prints (encode (goal (let′ (v 0) <[ 0 ]< (let′ (# 1) ∣ let′ (# 2))))) "publish 1\nend 9\n"
+    -- E() = E(), goal E()
+    ∷ prints (encode (calling (call 0 []))) "refused 10\nend 63\n"
+    -- W() = stop <x< W(), goal W()
+    ∷ prints (encode (calling (stop <[ 0 ]< call 0 []))) "refused 11\nend 97\n"
+    ∷ []

@@ -1,0 +1,77 @@
+// The machine record: its tables, orders and counts, its limits, and the record of a start.
+ghost use mathlib.Core.Path.{_≡_};
+ghost use Rattle.model.specs.Machine.Limits.{paper};
+ghost use Rattle.model.specs.Machine.Blank.{blankMachine};
+ghost use Rattle.model.specs.Machine.Start.{startMachine};
+use crate::cell::Cell;
+use crate::token::Bind;
+use crate::token::Held;
+use crate::token::Place;
+use crate::token::Slot;
+use crate::token::State;
+use crate::token::Token;
+
+// `queue` and `waits` are in use up to `queued` and `waiting`; `newtoken` and `newcell` are the
+// last places given.
+pub struct Machine {
+    pub tokens: [Token; Machine::TOKENS],
+    pub cells: [Cell; Machine::CELLS],
+    pub queue: [u8; Machine::TOKENS],
+    pub queued: usize,
+    pub waits: [u8; Machine::TOKENS],
+    pub waiting: usize,
+    pub calls: u32,
+    pub newtoken: u8,
+    pub newcell: u8,
+}
+
+impl Machine {
+    // "Tokens in use: at most 64."
+    pub const TOKENS: usize = 64;
+    // "Cells in use: at most 32."
+    pub const CELLS: usize = 32;
+
+    // The record in which nothing is in use.
+    pub fn blank() -> Machine
+        ensures { λ r. ⌜ r ≡ blankMachine paper ⌝ }
+    {
+        let token = Token {
+            node: 0,
+            binds: [Bind { slot: Slot::Empty }; 8],
+            value: Held::Nothing,
+            caller: Place::Nowhere,
+            cell: Place::Nowhere,
+            state: State::Blank,
+        };
+        let cell = Cell { parent: Place::Nowhere, value: Held::Nothing };
+        Machine {
+            tokens: [token; Machine::TOKENS],
+            cells: [cell; Machine::CELLS],
+            queue: [0; Machine::TOKENS],
+            queued: 0,
+            waits: [0; Machine::TOKENS],
+            waiting: 0,
+            calls: 0,
+            newtoken: 0,
+            newcell: 0,
+        }
+    }
+
+    // The record of a start: one ready token, at place 0 and at the goal's first node.
+    pub fn start(goal: u16) -> Machine
+        ensures { λ r. ⌜ r ≡ startMachine paper goal ⌝ }
+    {
+        let mut machine = Machine::blank();
+        machine.tokens[0] = Token {
+            node: goal,
+            binds: [Bind { slot: Slot::Empty }; 8],
+            value: Held::Nothing,
+            caller: Place::Nowhere,
+            cell: Place::Nowhere,
+            state: State::Ready,
+        };
+        machine.queued = 1;
+        machine.newcell = 31;
+        machine
+    }
+}
