@@ -7,7 +7,6 @@ use lib.Dec.{eqb}
 
 infixr 30 _and_
 infixr 25 _or_
-
 unfoldable pub _and_ : Bool → Bool → Bool
 true and b = b
 false and b = false
@@ -23,6 +22,11 @@ all p (x ∷ xs) = p x and all p xs
 unfoldable pub any : {A : Type 0} → (A → Bool) → List A → Bool
 any p [] = false
 any p (x ∷ xs) = p x or any p xs
+
+-- a property of each element
+pub data All {A : Type 0} (P : A → Type 0) : List A → Type 0 where
+  none : All P []
+  more : {x : A} {xs : List A} → P x → All P xs → All P (x ∷ xs)
 
 -- a test of each element together with its index, counted from i
 unfoldable pub allFrom : {A : Type 0} → (ℕ → A → Bool) → ℕ → List A → Bool

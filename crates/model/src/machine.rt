@@ -43,7 +43,10 @@ impl Machine {
             cell: Place::Nowhere,
             state: State::Blank,
         };
-        let cell = Cell { parent: Place::Nowhere, value: Held::Nothing };
+        let cell = Cell {
+            parent: Place::Nowhere,
+            value: Held::Nothing,
+        };
         Machine {
             tokens: [token; Machine::TOKENS],
             cells: [cell; Machine::CELLS],
@@ -71,7 +74,7 @@ impl Machine {
             state: State::Ready,
         };
         machine.queued = 1;
-        machine.newcell = 31;
+        machine.newcell = (Machine::CELLS - 1) as u8;
         machine
     }
 }

@@ -31,9 +31,9 @@ shown (showing e) es = e ∷ es
 pub data Shows (body : ℕ → Exp) : Configuration → List Event → Type 0 where
   ends : {c : Configuration} → Shows body c []
   then : {c : Configuration} {a : Label} {f : Exp} {es : List Event}
-    → Rewrites body (c .handle) (c .exp) a f
-    → Shows body (record { exp = f; handle = nextHandle a (c .handle) }) es
-    → Shows body c (shown a es)
+      → Rewrites body (c .handle) (c .exp) a f
+      → Shows body (record { exp = f; handle = nextHandle a (c .handle) }) es
+      → Shows body c (shown a es)
 
 -- "A list is allowed exactly when finitely many of these rewritings .. from the table's goal, show it"
 abbrev pub Allowed : Goal → List Event → Type 0

@@ -27,13 +27,13 @@ module _ (body : ℕ → Exp) (h : ℕ) where
   pub data Rewrites : Exp → Label → Exp → Type 0 where
     -- "A built-in call with all values silently becomes its value in hand, .."
     builtin-gives : {s : ℕ} {ps : List Param} {vs : List ℤ} {v : ℤ}
-      → valuesOf ps ≡ some vs → isBuiltin s ≡ true → builtin s vs ≡ gives v → Rewrites (site s ps) silently (hand v)
+        → valuesOf ps ≡ some vs → isBuiltin s ≡ true → builtin s vs ≡ gives v → Rewrites (site s ps) silently (hand v)
     -- ".. or stop where it is silent."
     builtin-silent : {s : ℕ} {ps : List Param} {vs : List ℤ}
-      → valuesOf ps ≡ some vs → isBuiltin s ≡ true → builtin s vs ≡ silent → Rewrites (site s ps) silently stop
+        → valuesOf ps ≡ some vs → isBuiltin s ≡ true → builtin s vs ≡ silent → Rewrites (site s ps) silently stop
     -- "An outside call with all values becomes an open call; .."
     outside-call : {s : ℕ} {ps : List Param} {vs : List ℤ}
-      → valuesOf ps ≡ some vs → isOutside s ≡ true → Rewrites (site s ps) (showing (Event.call h s vs)) (pending h)
+        → valuesOf ps ≡ some vs → isOutside s ≡ true → Rewrites (site s ps) (showing (Event.call h s vs)) (pending h)
     -- ".. its answer makes a value in hand; .."
     answered : {k : ℕ} {v : ℤ} → Signed32 v → Rewrites (pending k) (showing (Event.answer k v)) (hand v)
     -- ".. that publishes once and becomes stop."
@@ -46,9 +46,9 @@ module _ (body : ℕ → Exp) (h : ℕ) where
     -- "f >x> g acts as f, but where f publishes v it silently becomes (f' >x> g) | g with v for x."
     seq-acts : {f f′ g : Exp} {a : Label} → Rewrites f a f′ → Passes a → Rewrites (seq f g) a (seq f′ g)
     seq-publishes : {f f′ g : Exp} {v : ℤ}
-      → Rewrites f (showing (Event.publish v)) f′ → Rewrites (seq f g) silently (par (seq f′ g) (subst (one v) g))
+        → Rewrites f (showing (Event.publish v)) f′ → Rewrites (seq f g) silently (par (seq f′ g) (subst (one v) g))
     -- "f <x< g acts as f or as g, but where g publishes v it silently becomes f with v for x."
     prune-left : {f f′ g : Exp} {a : Label} → Rewrites f a f′ → Rewrites (prune f g) a (prune f′ g)
     prune-right : {f g g′ : Exp} {a : Label} → Rewrites g a g′ → Passes a → Rewrites (prune f g) a (prune f g′)
     prune-publishes : {f g g′ : Exp} {v : ℤ}
-      → Rewrites g (showing (Event.publish v)) g′ → Rewrites (prune f g) silently (subst (one v) f)
+        → Rewrites g (showing (Event.publish v)) g′ → Rewrites (prune f g) silently (subst (one v) f)

@@ -71,7 +71,7 @@ constructFrom n (d ∷ ds) g =
     record {
       nodes = nodesOf (d .body) n sink ++ (Node.return ∷ rest .nodes);
       bodies = record { root = root (d .body) n; formals = d .formals } ∷ rest .bodies;
-      goal = rest .goal
+      goal = rest .goal;
     }
 
 unfoldable pub construct : Program → Dag

@@ -20,7 +20,6 @@ pub data Read (A : Type 0) : Type 0 where
   refused : (number entry : ℕ) → Read A
 
 infixl 10 _>>=_
-
 unfoldable pub _>>=_ : {A B : Type 0} → Read A → (Got A → Read B) → Read B
 got a >>= f = f a
 refused n e >>= f = refused n e
@@ -39,28 +38,29 @@ entryAt e [] = refused 5 e
 entryAt e (x ∷ es) = gives x (suc e) es
 
 -- a parameter, where these variables are in scope: "3: kind unknown, or not one that may stand here", "7: variable out of scope"
-unfoldable pub readParam : List ℕ → ℕ → Entry → Read Param
-readParam scope e x =
-    elim (kindOf (x .kind)) as (λ k. Read Param) [
-      Kind.stop ↦ refused 3 e
+unfoldable pub readParam : List ℕ → ℕ → List Entry → Read Param
+readParam scope e es = do
+  x ← entryAt e es
+  let o = x .value .operand
+  elim (kindOf (x .value .kind)) as (λ k. Read Param) [
+    | Kind.stop ↦ refused 3 e
     | Kind.site ↦ refused 3 e
     | Kind.call ↦ refused 3 e
     | Kind.par ↦ refused 3 e
     | Kind.seq ↦ refused 3 e
     | Kind.prune ↦ refused 3 e
     | Kind.definition ↦ refused 3 e
-    | Kind.variable ↦ need (any (eqb (x .operand)) scope) 7 e >>= (λ _. gives (variable (x .operand)) e [])
-    | Kind.constant ↦ gives (constant (signed (x .operand))) e []
+    | Kind.variable ↦ need (any (eqb o) scope) 7 e >>= (λ _. gives (variable o) (x .next) (x .rest))
+    | Kind.constant ↦ gives (constant (signed o)) (x .next) (x .rest)
     | Kind.unknown ↦ refused 3 e
-    ]
+  ]
 
 -- so many parameters, from entry e on
 unfoldable pub readParams : ℕ → List ℕ → ℕ → List Entry → Read (List Param)
 readParams zero scope e es = gives [] e es
 readParams (suc n) scope e es = do
-  x ← entryAt e es
-  p ← readParam scope e (x .value)
-  ps ← readParams n scope (x .next) (x .rest)
+  p ← readParam scope e es
+  ps ← readParams n scope (p .next) (p .rest)
   gives (p .value ∷ ps .value) (ps .next) (ps .rest)
 
 -- a call with its parameters, a join with its two sides
@@ -92,7 +92,7 @@ readExp (suc left) scope e es = do
   _ ← need (rowKept k o) 4 e
   _ ← need (not (isBinder k) or ltb level 8) 7 e
   elim k as (λ k. Read Exp) [
-      Kind.stop ↦ gives stop (x .next) (x .rest)
+    | Kind.stop ↦ gives stop (x .next) (x .rest)
     | Kind.site ↦ readCall (site (low o)) (high o) scope (x .next) (x .rest)
     | Kind.call ↦ readCall (call (low o)) (high o) scope (x .next) (x .rest)
     | Kind.par ↦ readJoin (readExp left) par scope (x .next) (x .rest)

@@ -4,14 +4,11 @@ use mathlib.Core.List.{List, [], _∷_, List·Memᴰ}
 use Prim.Native.Nat.{ℕ, suc, _≤_, _<_}
 use lib.ListN.{length, getD}
 use lib.IntN.{ℤ}
+use Rattle.model.specs.Test.{All}
 use Rattle.model.specs.Number.{Signed32}
 use Rattle.model.specs.Site.{counts}
 use Rattle.model.specs.Job.Syntax.{Param, Join, Exp, Definition, Program, formalsOf, levels, scopeLeft, scopeRight}
 use Rattle.model.specs.Job.Encode.{encodeEntries}
-
-pub data All {A : Type 0} (P : A → Type 0) : List A → Type 0 where
-  none : All P []
-  more : {x : A} {xs : List A} → P x → All P xs → All P (x ∷ xs)
 
 -- a parameter where these variables are in scope
 pub data GoodParam (scope : List ℕ) : Param → Type 0 where
@@ -33,12 +30,12 @@ pub data Binds (scope : List ℕ) : Join → Type 0 where
 pub data Good (formals : List ℕ) : (left : ℕ) → (scope : List ℕ) → Exp → Type 0 where
   stop : {left : ℕ} {scope : List ℕ} → Good formals (suc left) scope Exp.stop
   site : {left : ℕ} {scope : List ℕ} {s : ℕ} {ps : List Param}
-    → SiteTakes s (length ps) → All (GoodParam scope) ps → Good formals (suc left) scope (Exp.site s ps)
+      → SiteTakes s (length ps) → All (GoodParam scope) ps → Good formals (suc left) scope (Exp.site s ps)
   call : {left : ℕ} {scope : List ℕ} {d : ℕ} {ps : List Param}
-    → d < length formals → length ps ≡ getD formals d 0 → All (GoodParam scope) ps → Good formals (suc left) scope (Exp.call d ps)
+      → d < length formals → length ps ≡ getD formals d 0 → All (GoodParam scope) ps → Good formals (suc left) scope (Exp.call d ps)
   join : {left : ℕ} {scope : List ℕ} {j : Join} {f g : Exp}
-    → Binds scope j → Good formals left (scopeLeft j scope) f → Good formals left (scopeRight j scope) g
-    → Good formals (suc left) scope (Exp.join j f g)
+      → Binds scope j → Good formals left (scopeLeft j scope) f → Good formals left (scopeRight j scope) g
+      → Good formals (suc left) scope (Exp.join j f g)
 
 -- "count of formals, 0 to 4"; "the root of a body or of the goal has depth 1; depth ends at 24"
 pub record GoodDefinition (formals : List ℕ) (d : Definition) : Type 0 where

@@ -50,18 +50,18 @@ nodeBy ws =
     let c = getD ws 3 0 in
     let ps = paramsFrom c (drop 4 ws) in
     getD
-      (Node.stop
-      ∷ Node.site a ps b
-      ∷ Node.call a ps b
-      ∷ Node.fork a b
-      ∷ Node.assign a b
-      ∷ Node.remove a b
-      ∷ Node.where' c a b
-      ∷ Node.choke
-      ∷ Node.return
-      ∷ Node.publish
-      ∷ [])
-      (getD ws 0 0) Node.unknown
+    (Node.stop
+    ∷ Node.site a ps b
+    ∷ Node.call a ps b
+    ∷ Node.fork a b
+    ∷ Node.assign a b
+    ∷ Node.remove a b
+    ∷ Node.where' c a b
+    ∷ Node.choke
+    ∷ Node.return
+    ∷ Node.publish
+    ∷ [])
+    (getD ws 0 0) Node.unknown
 
 -- the node whose words these are
 unfoldable pub nodeOf : List ℕ → Node
@@ -88,7 +88,7 @@ dagOf ws =
     record {
       nodes = nodesFrom (getD ws 0 0) (drop headWords ws);
       bodies = bodiesFrom (getD ws 1 0) (drop 3 ws);
-      goal = getD ws 2 0
+      goal = getD ws 2 0;
     }
 
 unfoldable pub rowsOf : List Node → List ℕ

@@ -40,14 +40,14 @@ module _ (lim : Limits) (most : ℕ) (d : Dag) where
   unfoldable pub stepTurn : Standing → Turn
   stepTurn s =
       elim (ltb (s .steps) most) [
-        false ↦ over (limit ∷ end (s .steps) ∷ [])
-      | true ↦
-          (let o = step lim d (s .machine) 0 in
-          let ls = linesOf (told (o .reply) (o .values)) in
-          elim (isRefused (o .reply)) [
-            true ↦ over (ls ++ (end (s .steps) ∷ []))
-          | false ↦ on ls (record { machine = o .machine; steps = suc (s .steps); rest = s .rest })
-          ])
+        | false ↦ over (limit ∷ end (s .steps) ∷ [])
+        | true ↦
+            (let o = step lim d (s .machine) 0 in
+            let ls = linesOf (told (o .reply) (o .values)) in
+            elim (isRefused (o .reply)) [
+              | true ↦ over (ls ++ (end (s .steps) ∷ []))
+              | false ↦ on ls (record { machine = o .machine; steps = suc (s .steps); rest = s .rest })
+            ])
       ]
 
   -- "with the queue empty it delivers a record": "handle and signed value, each little-endian"; a refused answer doesn't end the run
@@ -60,15 +60,15 @@ module _ (lim : Limits) (most : ℕ) (d : Dag) where
   unfoldable pub lastTurn : Standing → Turn
   lastTurn s =
       elim (eqb (length (s .rest)) 0) [
-        true ↦ over (end (s .steps) ∷ [])
-      | false ↦ over (short ∷ end (s .steps) ∷ [])
+        | true ↦ over (end (s .steps) ∷ [])
+        | false ↦ over (short ∷ end (s .steps) ∷ [])
       ]
 
   unfoldable pub turn : Standing → Turn
   turn s =
       elim (eqb (s .machine .queued) 0) [
-        false ↦ stepTurn s
-      | true ↦ elim (leb 8 (length (s .rest))) [ true ↦ deliverTurn s | false ↦ lastTurn s ]
+        | false ↦ stepTurn s
+        | true ↦ elim (leb 8 (length (s .rest))) [ true ↦ deliverTurn s | false ↦ lastTurn s ]
       ]
 
   -- so many turns at most
@@ -89,8 +89,8 @@ tableLines lim most rest (accepted p) = runLines lim most (construct p) rest
 unfoldable pub inputLines : Limits → (most : ℕ) → List ℕ → List Line
 inputLines lim most input =
     elim (leb (length input) 65536) [
-      false ↦ long ∷ []
-    | true ↦ tableLines lim most (drop (tableLength input) input) (readTable (take (tableLength input) input))
+      | false ↦ long ∷ []
+      | true ↦ tableLines lim most (drop (tableLength input) input) (readTable (take (tableLength input) input))
     ]
 
 -- the program: from the bytes of standard input to those of standard output

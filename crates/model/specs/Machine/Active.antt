@@ -20,9 +20,11 @@ isSet c = hasValue (c .value)
 unfoldable pub upward : (ℕ → Cell → Bool) → List Cell → ℕ → Place → Bool
 upward test cs zero q = false
 upward test cs (suc n) q =
-    elim q [ places.Nowhere ↦ false
-           | places.At c ↦
-               (let k = cellAt cs c in elim (test c k) [ true ↦ true | false ↦ upward test cs n (k .parent) ]) ]
+    elim q [
+      | places.Nowhere ↦ false
+      | places.At c ↦
+          (let k = cellAt cs c in elim (test c k) [ true ↦ true | false ↦ upward test cs n (k .parent) ])
+    ]
 
 -- "[a] set cell among their cell and its ancestors"
 unfoldable pub underSet : List Cell → Place → Bool

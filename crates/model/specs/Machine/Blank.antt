@@ -34,7 +34,7 @@ blankToken =
       value = helds.Nothing;
       caller = places.Nowhere;
       cell = places.Nowhere;
-      state = states.Blank
+      state = states.Blank;
     }
 
 abbrev pub blankCell : Cell
@@ -52,7 +52,7 @@ blankMachine lim =
       waiting = 0;
       calls = 0;
       newtoken = 0;
-      newcell = 0
+      newcell = 0;
     }
 
 -- what stands at a place of a table

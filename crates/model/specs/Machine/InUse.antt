@@ -19,12 +19,14 @@ use Rattle.model.specs.declared.machine.Machine.{Machine}
 unfoldable pub markChain : {A : Type 0} → (A → Place) → A → List A → ℕ → Place → List Bool → List Bool
 markChain link blank xs zero q marks = marks
 markChain link blank xs (suc n) q marks =
-    elim q [ places.Nowhere ↦ marks
-           | places.At i ↦
-               elim (getD marks i true) [
-                 true ↦ marks
-               | false ↦ markChain link blank xs n (link (getD xs i blank)) (set marks i true)
-               ] ]
+    elim q [
+      | places.Nowhere ↦ marks
+      | places.At i ↦
+          elim (getD marks i true) [
+            | true ↦ marks
+            | false ↦ markChain link blank xs n (link (getD xs i blank)) (set marks i true)
+          ]
+    ]
 
 unfoldable pub markChains : {A : Type 0} → (A → Place) → A → List A → List Place → List Bool → List Bool
 markChains link blank xs [] marks = marks
@@ -93,5 +95,5 @@ finish m =
       waiting = m .waiting;
       calls = m .calls;
       newtoken = m .newtoken;
-      newcell = m .newcell
+      newcell = m .newcell;
     }

@@ -174,16 +174,24 @@ restIsBlank isBlank (false ∷ marks) (x ∷ xs) = isBlank x and restIsBlank isB
 unfoldable pub machineKept : Limits → Dag → Machine → Bool
 machineKept lim d m =
     let used = tokensUsed m in
+    -- "kinds, sites, counts, nodes, slots, tokens and cells named lie in their ranges"
     sizesInRange lim d m
     and all (tokenInRange lim d (m .calls)) (m .tokens)
     and all (cellInRange lim d) (m .cells)
+    -- "the queue names each ready token once and nothing else"
     and namesOnce isReady (m .tokens) (m .queue) (m .queued)
+    -- "each parent chain ends"
     and chainsEnd (m .cells)
+    -- "no ready, waiting or called-out token is under a set cell"
     and all (notUnderSet (m .cells)) (m .tokens)
+    -- "open handles differ and are below the call count" (the second is among the ranges)
     and differ (openHandles (m .tokens))
+    -- "the wait order names each waiting token once, at an unset cell"
     and namesOnce isWaiting (m .tokens) (m .waits) (m .waiting)
     and all (λ (t : Token). waitsAtUnset (m .cells) (t .state)) (m .tokens)
+    -- "a token at return names a frame, at choke a cell, at a call no empty variable; a ready token at assign, remove, .. has a value"
     and all (atNode d (m .tokens)) (m .tokens)
+    -- "what is not in use is blank"
     and restIsBlank tokenIsBlank used (m .tokens)
     and restIsBlank cellIsBlank (usedCells used (m .tokens) (m .cells)) (m .cells)
 

@@ -25,7 +25,7 @@ startToken goal =
       value = helds.Nothing;
       caller = places.Nowhere;
       cell = places.Nowhere;
-      state = states.Ready
+      state = states.Ready;
     }
 
 -- "the starting token is at 0, the first cell takes 0": the last cell place given is the last one there is
@@ -40,13 +40,13 @@ startMachine lim goal =
       waiting = 0;
       calls = 0;
       newtoken = 0;
-      newcell = lim .cellPlaces - 1
+      newcell = lim .cellPlaces - 1;
     }
 
 -- "The start tests 14": the dag's rules. A refused start hands back the blank record
 unfoldable pub start : Limits → Dag → Outcome
 start lim d =
     elim (dagKept d) [
-      true ↦ record { reply = replies.Done; values = valuesBeside []; machine = startMachine lim (d .goal) }
-    | false ↦ record { reply = replies.Refused refusals.Rule; values = valuesBeside []; machine = blankMachine lim }
+      | true ↦ record { reply = replies.Done; values = valuesBeside []; machine = startMachine lim (d .goal) }
+      | false ↦ record { reply = replies.Refused refusals.Rule; values = valuesBeside []; machine = blankMachine lim }
     ]

@@ -43,7 +43,7 @@ binding x s t =
       value = t .value;
       caller = t .caller;
       cell = t .cell;
-      state = t .state
+      state = t .state;
     }
 
 unfoldable pub holding : Held → Token → Token
@@ -68,7 +68,7 @@ withTables ts cs m =
       waiting = m .waiting;
       calls = m .calls;
       newtoken = m .newtoken;
-      newcell = m .newcell
+      newcell = m .newcell;
     }
 
 unfoldable pub withOrders : (queue waits : List ℕ) → Machine → Machine
@@ -82,7 +82,7 @@ withOrders q w m =
       waiting = length w;
       calls = m .calls;
       newtoken = m .newtoken;
-      newcell = m .newcell
+      newcell = m .newcell;
     }
 
 unfoldable pub withCounts : (calls newtoken newcell : ℕ) → Machine → Machine
@@ -96,7 +96,7 @@ withCounts n p c m =
       waiting = m .waiting;
       calls = n;
       newtoken = p;
-      newcell = c
+      newcell = c;
     }
 
 -- the queue, and the wait order, longest wait first
@@ -136,9 +136,9 @@ module _ (cs : List Cell) (bs : List Bind) where
   look (variable x ∷ ps) =
       elim (slotAt bs x) [
         -- "at a call no empty variable": the test for 14 leaves none
-        slots.Empty ↦ values []
-      | slots.Value v ↦ andThen v (look ps)
-      | slots.Cell c ↦ elim (cellAt cs c .value) [ helds.Nothing ↦ unset c | helds.Value v ↦ andThen v (look ps) ]
+        | slots.Empty ↦ values []
+        | slots.Value v ↦ andThen v (look ps)
+        | slots.Cell c ↦ elim (cellAt cs c .value) [ helds.Nothing ↦ unset c | helds.Value v ↦ andThen v (look ps) ]
       ]
 
 -- "A variable's binding is passed on as it is, its cell set or unset"
@@ -167,8 +167,8 @@ waitsAt c states.Frame = false
 unfoldable pub chokeToken : List Cell → ℕ → Token → Token
 chokeToken cs c t =
     elim (within cs c (t .cell)) [
-      true ↦ blankToken
-    | false ↦ elim (waitsAt c (t .state)) [ true ↦ being states.Ready t | false ↦ t ]
+      | true ↦ blankToken
+      | false ↦ elim (waitsAt c (t .state)) [ true ↦ being states.Ready t | false ↦ t ]
     ]
 
 -- the machine after a choke: the queue has those that are still ready, then the woken ones, "longest wait first"
@@ -177,9 +177,9 @@ choked c v m =
     let ts = map (chokeToken (m .cells) c) (m .tokens) in
     let cs = set (m .cells) c (record { parent = cellAt (m .cells) c .parent; value = v }) in
     withOrders
-      (filter (λ (p : ℕ). isReady (tokenAt ts p .state)) (queueOf m ++ waitsOf m))
-      (filter (λ (p : ℕ). isWaiting (tokenAt ts p .state)) (waitsOf m))
-      (withTables ts cs m)
+    (filter (λ (p : ℕ). isReady (tokenAt ts p .state)) (queueOf m ++ waitsOf m))
+    (filter (λ (p : ℕ). isWaiting (tokenAt ts p .state)) (waitsOf m))
+    (withTables ts cs m)
 
 -- What each node does. The token t at place p acts; m is the machine with p taken from its queue
 module _ (m : Machine) (p : ℕ) (t : Token) where
@@ -216,7 +216,7 @@ module _ (m : Machine) (p : ℕ) (t : Token) where
         value = helds.Nothing;
         caller = places.At p;
         cell = t .cell;
-        state = states.Ready
+        state = states.Ready;
       })
       (put p (to k (being states.Frame t)) m)))
 
@@ -251,8 +251,8 @@ module _ (lim : Limits) (d : Dag) where
   callSite m p t s k (unset c) = waited m p t c
   callSite m p t s k (values vs) =
       elim (isBuiltin s) [
-        true ↦ replied m p t k (builtin s vs)
-      | false ↦ unless (ltb (m .calls) (lim .calls)) refusals.CallLimit (calledOut m p t s vs k)
+        | true ↦ replied m p t k (builtin s vs)
+        | false ↦ unless (ltb (m .calls) (lim .calls)) refusals.CallLimit (calledOut m p t s vs k)
       ]
 
   -- "10: fork, where or definition call with 64 tokens in use", "11: where with 32 cells in use": `before` is the machine before the call

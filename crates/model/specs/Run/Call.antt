@@ -30,6 +30,19 @@ pub record Runner : Type 0 where
 abbrev pub runner : Runner
 runner = record { start = Start.start; step = Step.step; answer = Answer.answer }
 
+-- what a call and its reply give: "an outside call gives handle, site and parameter values, a publish step its value,
+-- an accepted answer its handle and value; other accepted steps and all refused calls give nothing"
+unfoldable pub eventsOf : Call → Told → List Event
+eventsOf (step place) Told.nothing = []
+eventsOf (step place) (Told.published v) = Event.publish v ∷ []
+eventsOf (step place) (Told.called h s vs) = Event.call h s vs ∷ []
+eventsOf (step place) (Told.refused n) = []
+eventsOf (answer h v fits) Told.nothing = Event.answer h v ∷ []
+eventsOf (answer h v fits) (Told.refused n) = []
+-- an answer's reply is none of these
+eventsOf (answer h v fits) (Told.published w) = []
+eventsOf (answer h v fits) (Told.called k s vs) = []
+
 module _ (R : Runner) (lim : Limits) (d : Dag) where
   unfoldable pub outcomeOf : Machine → Call → Outcome
   outcomeOf m (step place) = R .step lim d m place
@@ -39,19 +52,6 @@ module _ (R : Runner) (lim : Limits) (d : Dag) where
   unfoldable pub machineAfter : Machine → List Call → Machine
   machineAfter m [] = m
   machineAfter m (c ∷ cs) = machineAfter (outcomeOf m c .machine) cs
-
-  -- what a call and its reply give: "an outside call gives handle, site and parameter values, a publish step its value,
-  -- an accepted answer its handle and value; other accepted steps and all refused calls give nothing"
-  unfoldable pub eventsOf : Call → Told → List Event
-  eventsOf (step place) Told.nothing = []
-  eventsOf (step place) (Told.published v) = Event.publish v ∷ []
-  eventsOf (step place) (Told.called h s vs) = Event.call h s vs ∷ []
-  eventsOf (step place) (Told.refused n) = []
-  eventsOf (answer h v fits) Told.nothing = Event.answer h v ∷ []
-  eventsOf (answer h v fits) (Told.refused n) = []
-  -- an answer's reply is none of these
-  eventsOf (answer h v fits) (Told.published w) = []
-  eventsOf (answer h v fits) (Told.called k s vs) = []
 
   unfoldable pub eventsFrom : Machine → List Call → List Event
   eventsFrom m [] = []

@@ -81,18 +81,18 @@ module _ (R : Runner) (lim : Limits) (d : Dag) where
     over : {m : Machine} {k : ℕ} → Followed m k [] 0
     -- a refused step
     refused : {m : Machine} {k : ℕ} {cs : List Call}
-      → isRefused (outcomeOf R lim d m (step 0) .reply) ≡ true → Followed m k (step 0 ∷ cs) 0
+        → isRefused (outcomeOf R lim d m (step 0) .reply) ≡ true → Followed m k (step 0 ∷ cs) 0
     -- an accepted step that takes it, or that ends it
     acted : {m : Machine} {k : ℕ} {cs : List Call}
-      → isRefused (outcomeOf R lim d m (step 0) .reply) ≡ false → fate d m k ≡ acts → Followed m k (step 0 ∷ cs) 0
+        → isRefused (outcomeOf R lim d m (step 0) .reply) ≡ false → fate d m k ≡ acts → Followed m k (step 0 ∷ cs) 0
     pruned : {m : Machine} {k : ℕ} {cs : List Call}
-      → isRefused (outcomeOf R lim d m (step 0) .reply) ≡ false → fate d m k ≡ falls → Followed m k (step 0 ∷ cs) 0
+        → isRefused (outcomeOf R lim d m (step 0) .reply) ≡ false → fate d m k ≡ falls → Followed m k (step 0 ∷ cs) 0
     -- an accepted step that leaves it in the queue
     passed : {m : Machine} {k k′ n : ℕ} {cs : List Call}
-      → isRefused (outcomeOf R lim d m (step 0) .reply) ≡ false → fate d m k ≡ stays k′
-      → Stands m k (outcomeOf R lim d m (step 0) .machine) k′
-      → Followed (outcomeOf R lim d m (step 0) .machine) k′ cs n → Followed m k (step 0 ∷ cs) (suc n)
+        → isRefused (outcomeOf R lim d m (step 0) .reply) ≡ false → fate d m k ≡ stays k′
+        → Stands m k (outcomeOf R lim d m (step 0) .machine) k′
+        → Followed (outcomeOf R lim d m (step 0) .machine) k′ cs n → Followed m k (step 0 ∷ cs) (suc n)
     -- an answer, accepted or not
     between : {m : Machine} {k n : ℕ} {h : ℕ} {v : ℤ} {fits : Signed32 v} {cs : List Call}
-      → Stands m k (outcomeOf R lim d m (answer h v fits) .machine) k
-      → Followed (outcomeOf R lim d m (answer h v fits) .machine) k cs n → Followed m k (answer h v fits ∷ cs) n
+        → Stands m k (outcomeOf R lim d m (answer h v fits) .machine) k
+        → Followed (outcomeOf R lim d m (answer h v fits) .machine) k cs n → Followed m k (answer h v fits ∷ cs) n

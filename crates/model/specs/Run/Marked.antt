@@ -12,7 +12,6 @@ use Rattle.model.specs.Lines.Line.{ascii}
 infixr 20 _∣_
 infixr 22 _>[_]>_
 infixl 21 _<[_]<_
-
 abbrev pub _∣_ : Exp → Exp → Exp
 f ∣ g = join par f g
 
@@ -59,11 +58,11 @@ abbrev pub markedRuns : List Case
 markedRuns =
     -- "The run above": table 00 00 07 00, kinds, operands, records (1, 42), (0, 7), as bytes
     prints
-      (0x00 ∷ 0x00 ∷ 0x07 ∷ 0x00
-      ∷ 0x05 ∷ 0x01 ∷ 0x07 ∷ 0x03 ∷ 0x01 ∷ 0x08 ∷ 0x01
-      ∷ bytes 4 0 ++ bytes 4 0x00010000 ++ bytes 4 0 ++ bytes 4 0 ++ bytes 4 0x00010010 ++ bytes 4 5 ++ bytes 4 0x00000011
-      ++ answering 1 (pos 42) ++ answering 0 (pos 7))
-      "call 0 16 5\ncall 1 17\npublish 42\nrefused 12\nend 9\n"
+    (0x00 ∷ 0x00 ∷ 0x07 ∷ 0x00
+    ∷ 0x05 ∷ 0x01 ∷ 0x07 ∷ 0x03 ∷ 0x01 ∷ 0x08 ∷ 0x01
+    ∷ bytes 4 0 ++ bytes 4 0x00010000 ++ bytes 4 0 ++ bytes 4 0 ++ bytes 4 0x00010010 ++ bytes 4 5 ++ bytes 4 0x00000011
+    ++ answering 1 (pos 42) ++ answering 0 (pos 7))
+    "call 0 16 5\ncall 1 17\npublish 42\nrefused 12\nend 9\n"
     ∷ prints (encode (goal stop)) "end 1\n"
     -- N = 0
     ∷ prints (0x00 ∷ 0x00 ∷ 0x00 ∷ 0x00 ∷ []) "table 2 0\n"

@@ -19,7 +19,7 @@ begun goal m =
       waiting = m .waiting;
       calls = m .calls;
       newtoken = m .newtoken;
-      newcell = 31
+      newcell = 31;
     }
 
 blank-requires : tie.Need-blank-requires
@@ -28,8 +28,14 @@ blank-requires c κs = search needs
 element-set-from-machine : tie.Need-element-set-from-machine
 element-set-from-machine c = search needs
 
+sub-machine : tie.Need-sub-machine
+sub-machine c = search needs
+
+cast-machine : tie.Need-cast-machine
+cast-machine c = search needs
+
 returns : tie.Need-returns
 returns c = ap (begun _) (c .blank .ensures)
 
 pub start-spec : {M : Type 1} → statement M
-start-spec = tie.close (tie.spec blank-requires element-set-from-machine returns)
+start-spec = tie.close (tie.spec blank-requires element-set-from-machine sub-machine cast-machine returns)

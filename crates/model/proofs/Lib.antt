@@ -1,0 +1,3 @@
+-- Laws of the definitions, under the folder names of specs/.
+pub mod Test
+pub mod Run

@@ -1,0 +1,3 @@
+-- Laws of runs.
+pub mod Computing
+pub mod Marked
