@@ -1,5 +1,5 @@
 // What start, step and answer hand back.
-use crate::machine::Machine;
+use crate::record::Machine;
 
 // Why a call was declined. specs/Machine/Reply.antt gives each its number in document 01.
 pub enum Refusal {

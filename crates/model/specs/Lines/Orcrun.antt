@@ -14,7 +14,7 @@ use Rattle.model.specs.Machine.Start.{start}
 use Rattle.model.specs.Machine.Step.{step}
 use Rattle.model.specs.Machine.Answer.{answer}
 use Rattle.model.specs.Lines.Line.{Line, call, publish, refused, table, end, limit, short, long, textOfAll}
-use Rattle.model.specs.declared.machine.Machine.{Machine}
+use Rattle.model.specs.declared.record.Machine.{Machine}
 use Rattle.model.specs.declared.reply.Outcome.{Outcome}
 
 -- the lines of what a call told

@@ -12,7 +12,7 @@ use Rattle.model.specs.declared.token.Place.{Place}
 use Rattle.model.specs.declared.token.Place.the-variants as places
 use Rattle.model.specs.declared.token.Token.{Token}
 use Rattle.model.specs.declared.cell.Cell.{Cell}
-use Rattle.model.specs.declared.machine.Machine.{Machine}
+use Rattle.model.specs.declared.record.Machine.{Machine}
 
 -- Marks are a Bool for each place. A chain of links is marked until it ends or comes to a place that is marked already;
 -- it is followed for so many links at most

@@ -6,7 +6,7 @@ use lib.ListN.{length, take}
 use lib.IntN.{ℤ, pos}
 use Rattle.model.specs.Test.{padded}
 use Rattle.model.specs.Machine.InUse.{finish}
-use Rattle.model.specs.declared.machine.Machine.{Machine}
+use Rattle.model.specs.declared.record.Machine.{Machine}
 use Rattle.model.specs.declared.reply.Refusal.{Refusal}
 use Rattle.model.specs.declared.reply.Refusal.the-variants as refusals
 use Rattle.model.specs.declared.reply.Reply.{Reply}

@@ -23,7 +23,7 @@ use Rattle.model.specs.declared.token.State.{State}
 use Rattle.model.specs.declared.token.State.the-variants as states
 use Rattle.model.specs.declared.token.Token.{Token}
 use Rattle.model.specs.declared.cell.Cell.{Cell}
-use Rattle.model.specs.declared.machine.Machine.{Machine}
+use Rattle.model.specs.declared.record.Machine.{Machine}
 
 -- "nodes, slots, tokens and cells named lie in their ranges"; "every value is signed 32-bit"
 unfoldable pub heldInRange : Held → Bool

@@ -12,7 +12,7 @@ use Rattle.model.specs.Machine.Start as Start
 use Rattle.model.specs.Machine.Step as Step
 use Rattle.model.specs.Machine.Answer as Answer
 use Rattle.model.specs.Calculus.Event.{Event}
-use Rattle.model.specs.declared.machine.Machine.{Machine}
+use Rattle.model.specs.declared.record.Machine.{Machine}
 use Rattle.model.specs.declared.reply.Outcome.{Outcome}
 
 -- "steps, each with the queue place it picks, and answers, each with handle and value"

@@ -15,7 +15,7 @@ use Rattle.model.specs.Run.Call.{Call, step, answer, Runner, outcomeOf}
 use Rattle.model.specs.declared.token.Place.{Place}
 use Rattle.model.specs.declared.token.Place.the-variants as places
 use Rattle.model.specs.declared.token.Token.{Token}
-use Rattle.model.specs.declared.machine.Machine.{Machine}
+use Rattle.model.specs.declared.record.Machine.{Machine}
 
 -- the token at a position of the queue
 abbrev pub queuedToken : Machine → ℕ → Token

@@ -4,9 +4,9 @@ use Prim.Native.Nat.{ℕ}
 use lib.ListN.{set}
 use borrow.Author.Needs.{needs}
 use Rattle.model.specs.Machine.Start.{startToken}
-use Rattle.model.specs.declared.machine.Machine.{Machine}
-use Rattle.model.proofs.machine.Machine.start.Statement.{statement}
-use Rattle.model.proofs.machine.Machine.start.Tie as tie
+use Rattle.model.specs.declared.record.Machine.{Machine}
+use Rattle.model.proofs.record.Machine.start.Statement.{statement}
+use Rattle.model.proofs.record.Machine.start.Tie as tie
 
 abbrev begun : ℕ → Machine → Machine
 begun goal m =
