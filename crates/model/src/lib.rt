@@ -2,4 +2,5 @@
 pub mod cell;
 pub mod record;
 pub mod reply;
+pub mod sites;
 pub mod token;
