@@ -1,4 +1,5 @@
 -- Laws of the definitions, under the folder names of specs/.
 pub mod Test
 pub mod Site
+pub mod Job
 pub mod Run
