@@ -1,3 +1,5 @@
 -- Laws of jobs: the construction of a dag, its index rules, its words.
 pub mod Size
+pub mod Rules
 pub mod Kept
+pub mod Decode
