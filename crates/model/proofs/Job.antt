@@ -3,3 +3,4 @@ pub mod Size
 pub mod Rules
 pub mod Kept
 pub mod Decode
+pub mod Begins
