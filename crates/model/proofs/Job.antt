@@ -2,5 +2,6 @@
 pub mod Size
 pub mod Rules
 pub mod Kept
+pub mod Laid
 pub mod Decode
 pub mod Begins

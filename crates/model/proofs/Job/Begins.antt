@@ -1,5 +1,5 @@
--- A well-formed program begins: the start accepts its dag, also from the words that the dag was written to. Its dag keeps the index rules, which is all
--- that the start tests. Assumes nothing.
+-- A well-formed program begins: the start accepts its dag, also read back from the words that it was written to.
+-- The dag keeps the index rules, and the start tests nothing else. Assumes nothing.
 use mathlib.Core.Path.{_≡_, _∙_, ap}
 use mathlib.Core.Bool.{true}
 use mathlib.Core.List.{List, []}

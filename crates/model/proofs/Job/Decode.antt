@@ -1,24 +1,24 @@
 -- Decoding the words of a dag gives the dag back, and writing a dag leaves every other word as it was: a row's twelve words determine its node,
 -- and the head and the rows stand side by side in the array. Assumes nothing.
-use mathlib.Core.Path.{_≡_, refl, sym, _∙_, ap, ap₂, subst}
+use mathlib.Core.Path.{_≡_, refl, _∙_, ap, ap₂}
 use mathlib.Core.Logic.{_⊎_, inl, inr}
-use mathlib.Core.Bool.{Bool, true, false}
+use mathlib.Core.Bool.{true, false}
 use mathlib.Core.List.{List, [], _∷_, _++_, append-assoc}
 use Prim.Native.Nat.{ℕ, zero, suc, _+_, _-_, _*_, _^_, _≤_, _<_}
 use native.Mathlib.Omega.{arith}
-use lib.ListN.{length, getD, take, drop, set, length-append, length-drop}
-use lib.Seq.{sets, length-sets, sets-eq, getD-set-other, take-at, drop-at, take-append-add, length-take-le}
+use lib.ListN.{length, getD, length-append}
+use lib.Seq.{sets, length-sets, take-at, drop-at}
 use lib.Dec.{ltb, leb}
 use lib.IntN.{ℤ, pos, negsuc}
-use lib.Signed.{mag}
 use Rattle.model.specs.Test.{_and_, all, same}
 use Rattle.model.specs.Number.{Signed32, fits, signed, unsigned}
 use Rattle.model.specs.Site.{siteTakes}
 use Rattle.model.specs.Job.Syntax.{Param, variable, constant}
-use Rattle.model.specs.Job.Node.{Node, Body, Dag, paramKept, paramsKept, isNode, nodeKept, bodyKept, dagKept}
+use Rattle.model.specs.Job.Node.{Node, Body, Dag, paramKept, paramsKept, isNode, nodeKept, dagKept}
 use Rattle.model.specs.Job.Words.{paramWords, nodeWords, paramOf, paramsFrom, nodeBy, nodeOf, nodesFrom, bodiesFrom, headWords, arrayWords, dagOf, rowsOf, bodyWords, written}
+use Rattle.model.proofs.Job.Laid.{Laid, laid, getD-sets-before, getD-sets-after}
 use Rattle.model.proofs.Job.Rules.{DagRules, dag-rules}
-use Rattle.model.proofs.Test.{clash, lt-ltb, ltb-lt, leb-le, le-not-ltb, and-left, and-right, all-head, all-tail, same-refl}
+use Rattle.model.proofs.Test.{clash, ltb-lt, leb-le, le-not-ltb, and-left, and-right, all-head, all-tail, same-refl}
 
 -- 32 bits keep a signed number
 signed-unsigned : (v : ℤ) → Signed32 v → signed (unsigned v) ≡ v
@@ -89,7 +89,7 @@ pub node-back : (d : Dag) (n : Node) → nodeKept d n ≡ true → nodeOf (nodeW
 unfolding nodeOf
 node-back d n e =
     let by : nodeBy (nodeWords n) ≡ n = node-by-words d n e in
-    let words : same (nodeWords n) (nodeWords (nodeBy (nodeWords n))) ≡ true = subst (λ m. same (nodeWords n) (nodeWords m) ≡ true) (sym by) (same-refl (nodeWords n)) in
+    let words : same (nodeWords n) (nodeWords (nodeBy (nodeWords n))) ≡ true = rw by (same-refl (nodeWords n)) in
     rw (words, nodeOf) by
 
 pub rows-length : (d : Dag) (ns : List Node) → all (nodeKept d) ns ≡ true → length (rowsOf ns) ≡ 12 * length ns
@@ -106,7 +106,8 @@ rows-back d [] rest e = refl
 rows-back d (n ∷ ns) rest e =
     let kept = all-head (nodeKept d) n ns e in
     let row = node-words-length d n kept in
-    rw (append-assoc (nodeWords n) (rowsOf ns) rest, take-at (nodeWords n) (rowsOf ns ++ rest) 12 row, drop-at (nodeWords n) (rowsOf ns ++ rest) 12 row)
+    let others = rowsOf ns ++ rest in
+    rw (append-assoc (nodeWords n) (rowsOf ns) rest, take-at (nodeWords n) others 12 row, drop-at (nodeWords n) others 12 row)
     (ap₂ (λ m ms. m ∷ ms) (node-back d n kept) (rows-back d ns rest (all-tail (nodeKept d) n ns e)))
 
 -- bodies
@@ -128,50 +129,17 @@ pub head-length : (d : Dag) → length (headOf d) ≡ 3 + 2 * length (d .bodies)
 unfolding headOf
 head-length d = omega (arith, body-words-length (d .bodies))
 
--- words that are set between others
-getD-sets-before : {A : Type 0} (vs l : List A) (i j : ℕ) (z : A) → j < i → getD (sets l i vs) j z ≡ getD l j z
-getD-sets-before [] l i j z h = refl
-getD-sets-before (v ∷ vs) l i j z h = getD-sets-before vs (set l i v) (suc i) j z (omega arith) ∙ getD-set-other l i j v z (omega arith)
-
-getD-sets-after : {A : Type 0} (vs l : List A) (i j : ℕ) (z : A) → i + length vs ≤ j → getD (sets l i vs) j z ≡ getD l j z
-getD-sets-after [] l i j z h = refl
-getD-sets-after (v ∷ vs) l i j z h = getD-sets-after vs (set l i v) (suc i) j z (omega arith) ∙ getD-set-other l i j v z (omega arith)
-
--- a list whose first words and whose words from i on were set: what stands between and after them
-record Laid (vs us l : List ℕ) (i : ℕ) : Type 0 where
-  between : List ℕ
-  after : List ℕ
-  seam : length (vs ++ between) ≡ i
-  form : l ≡ (vs ++ between) ++ (us ++ after)
-
-laid : (vs us l : List ℕ) (i : ℕ) → length vs ≤ i → i + length us ≤ length l → Laid vs us (sets (sets l 0 vs) i us) i
-laid vs us l i h fit =
-    let rest = drop (0 + length vs) l in
-    let between = take (i - length vs) rest in
-    let after = drop (i + length us) (sets l 0 vs) in
-    let whole : length (sets l 0 vs) ≡ length l = length-sets l 0 vs in
-    let left : length rest ≡ length l - (0 + length vs) = length-drop (0 + length vs) l in
-    let taken : length between ≡ i - length vs = length-take-le (i - length vs) rest (omega arith) in
-    let first : sets l 0 vs ≡ vs ++ rest = sets-eq vs l 0 (omega arith) in
-    let middle : take (length vs + (i - length vs)) (vs ++ rest) ≡ vs ++ between = take-append-add vs rest (i - length vs) in
-    let index : length vs + (i - length vs) ≡ i = omega arith in
-    let second : sets (sets l 0 vs) i us ≡ take i (sets l 0 vs) ++ us ++ after = sets-eq us (sets l 0 vs) i (omega arith) in
-    record {
-      between = between;
-      after = after;
-      seam = simp length-append (omega arith);
-      form = second ∙ append-assoc (take i (sets l 0 vs)) us after ∙ ap (λ p. p ++ (us ++ after)) (ap (take i) first ∙ ap (λ n. take n (vs ++ rest)) (sym index) ∙ middle);
-    }
-
 -- the dag that words laid out so hold
-laid-back : (d : Dag) (m t : List ℕ) → all (nodeKept d) (d .nodes) ≡ true → length (headOf d ++ m) ≡ headWords
-    → dagOf ((headOf d ++ m) ++ (rowsOf (d .nodes) ++ t)) ≡ d
+laid-back : (d : Dag) {ws : List ℕ} → all (nodeKept d) (d .nodes) ≡ true → Laid (headOf d) (rowsOf (d .nodes)) ws headWords → dagOf ws ≡ d
 unfolding dagOf headOf
-laid-back d m t e seam =
-    let rest = rowsOf (d .nodes) ++ t in
-    let nodes = ap (nodesFrom (length (d .nodes))) (drop-at (headOf d ++ m) rest headWords seam) ∙ rows-back d (d .nodes) t e in
-    let bodies = ap (bodiesFrom (length (d .bodies))) (append-assoc (bodyWords (d .bodies)) m rest) ∙ bodies-back (d .bodies) (m ++ rest) in
-    λ i. record { nodes = nodes i; bodies = bodies i; goal = d .goal }
+laid-back d {ws} e r =
+    let rest = rowsOf (d .nodes) ++ r .after in
+    let seam = drop-at (headOf d ++ r .between) rest headWords (r .seam) in
+    let nodes = ap (nodesFrom (length (d .nodes))) seam ∙ rows-back d (d .nodes) (r .after) e in
+    let assoc = append-assoc (bodyWords (d .bodies)) (r .between) rest in
+    let bodies = ap (bodiesFrom (length (d .bodies))) assoc ∙ bodies-back (d .bodies) (r .between ++ rest) in
+    let held : dagOf ((headOf d ++ r .between) ++ rest) ≡ d = λ i. record { nodes = nodes i; bodies = bodies i; goal = d .goal } in
+    ap dagOf (r .form) ∙ held
 
 -- writing keeps the number of words
 pub written-length : (d : Dag) (ws : List ℕ) → length (written d ws) ≡ length ws
@@ -184,16 +152,14 @@ unfolding written headOf
 decode-written d ws e l =
     let rules = dag-rules d e in
     let nodes = rows-length d (d .nodes) (rules .nodes) in
-    let few = rules .nodes-few in
     let head = head-length d in
-    let bodies = rules .bodies-few in
-    let r = laid (headOf d) (rowsOf (d .nodes)) ws headWords (omega arith) (omega arith) in
-    ap dagOf (r .form) ∙ laid-back d (r .between) (r .after) (rules .nodes) (r .seam)
+    laid-back d (rules .nodes) (laid (headOf d) (rowsOf (d .nodes)) ws headWords (omega arith) (omega arith))
 
--- words outside of what is written stay
-pub written-outside : (d : Dag) (ws : List ℕ) (i : ℕ) → dagKept d ≡ true
-    → ((3 + 2 * length (d .bodies) ≤ i) × (i < headWords)) ⊎ (headWords + 12 * length (d .nodes) ≤ i)
-    → getD (written d ws) i 0 ≡ getD ws i 0
+-- the words that a dag leaves alone: between its head and the nodes, and past its last node
+abbrev pub Outside : Dag → ℕ → Type 0
+Outside d i = ((3 + 2 * length (d .bodies) ≤ i) × (i < headWords)) ⊎ (headWords + 12 * length (d .nodes) ≤ i)
+
+pub written-outside : (d : Dag) (ws : List ℕ) (i : ℕ) → dagKept d ≡ true → Outside d i → getD (written d ws) i 0 ≡ getD ws i 0
 unfolding written headOf
 written-outside d ws i e h = rows h ∙ getD-sets-after (headOf d) ws 0 i 0 (head h)
   where
@@ -203,12 +169,10 @@ written-outside d ws i e h = rows h ∙ getD-sets-after (headOf d) ws 0 i 0 (hea
     size : length (rowsOf (d .nodes)) ≡ 12 * length (d .nodes)
     size = rows-length d (d .nodes) (rules .nodes)
 
-    rows : ((3 + 2 * length (d .bodies) ≤ i) × (i < headWords)) ⊎ (headWords + 12 * length (d .nodes) ≤ i)
-        → getD (written d ws) i 0 ≡ getD (sets ws 0 (headOf d)) i 0
+    rows : Outside d i → getD (written d ws) i 0 ≡ getD (sets ws 0 (headOf d)) i 0
     rows (inl b) = getD-sets-before (rowsOf (d .nodes)) (sets ws 0 (headOf d)) headWords i 0 (b .1)
     rows (inr b) = getD-sets-after (rowsOf (d .nodes)) (sets ws 0 (headOf d)) headWords i 0 (omega (arith, size))
 
-    head : ((3 + 2 * length (d .bodies) ≤ i) × (i < headWords)) ⊎ (headWords + 12 * length (d .nodes) ≤ i)
-        → 0 + length (headOf d) ≤ i
+    head : Outside d i → 0 + length (headOf d) ≤ i
     head (inl b) = omega (arith, head-length d, b .0)
     head (inr b) = omega (arith, head-length d, rules .bodies-few)

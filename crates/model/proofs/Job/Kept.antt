@@ -3,20 +3,20 @@
 use mathlib.Core.Path.{_≡_, refl, sym, _∙_, ap, subst}
 use mathlib.Core.Logic.{_⊎_, inl, inr}
 use mathlib.Core.Bool.{true}
-use mathlib.Core.List.{List, [], _∷_, _++_, List·Memᴰ, List·Memᴰ·not-nil, List·Memᴰ·cases-cons}
+use mathlib.Core.List.{List, [], _∷_, List·Memᴰ, List·Memᴰ·not-nil, List·Memᴰ·cases-cons}
 use Prim.Native.Nat.{ℕ, zero, suc, _+_, _≤_, _<_}
 use native.Mathlib.Omega.{arith}
-use lib.ListN.{length, getD, length-append, length-map}
+use lib.ListN.{length, getD, length-map}
 use lib.Dec.{leb, eqb}
-use Rattle.model.specs.Test.{_and_, _or_, all, All, none, more}
-use Rattle.model.specs.Number.{Signed32}
+use Rattle.model.specs.Test.{_and_, all, All, none, more}
 use Rattle.model.specs.Site.{counts, builtins, isBuiltin, isOutside, siteTakes}
 use Rattle.model.specs.Job.Syntax.{Param, Join, Exp, Definition, Program, formalsOf, levels, scopeLeft, scopeRight}
 use Rattle.model.specs.Job.WellFormed.{GoodParam, SiteTakes, Binds, Good, GoodDefinition, WellFormed}
-use Rattle.model.specs.Job.Node.{Node, Body, Dag, paramKept, paramsKept, isNode, nodeKept, bodyKept, dagKept}
+use Rattle.model.specs.Job.Node.{Node, Dag, paramKept, paramsKept, isNode, nodeKept, bodyKept, dagKept}
 use Rattle.model.specs.Job.Construct.{own, size, root, ownNodes, nodesOf, nextLeft, nextRight, constructFrom, construct}
 use Rattle.model.proofs.Test.{eq-eqb, lt-ltb, le-leb, leb-le, and-both, or-left, or-right, all-nil, all-cons, all-append, all-at, All-all, All-map}
-use Rattle.model.proofs.Job.Size.{nodes-length, nodes-few}
+use Rattle.model.proofs.Job.Size.{nodes-append-length, nodes-few}
+use Rattle.model.proofs.Job.Rules.{DagRules, rules-dag}
 
 -- an expression is entered at one of its own nodes
 pub root-from : (e : Exp) (n : ℕ) → n ≤ root e n
@@ -96,53 +96,51 @@ site-takes s n (SiteTakes.builtin l e) =
 site-takes s n (SiteTakes.outside l u f) =
     or-right (isBuiltin s and eqb n (getD counts s 0)) (and-both (and-both (le-leb 16 s l) (le-leb s 1023 u)) (le-leb n 4 f))
 
+-- the nodes that the operands of a join go toward
+next-left : (j : Join) (n k m : ℕ) → n + own j ≤ m → k < m → nextLeft j n k < m
+unfolding nextLeft own
+next-left Join.par n k m h l = l
+next-left (Join.seq x) n k m h l = omega arith
+next-left (Join.prune x) n k m h l = omega arith
+
+next-right : (j : Join) (n k m : ℕ) → n + own j ≤ m → k < m → nextRight j n k < m
+unfolding nextRight own
+next-right Join.par n k m h l = l
+next-right (Join.seq x) n k m h l = omega arith
+next-right (Join.prune x) n k m h l = omega arith
+
 module _ (d : Dag) (formals : List ℕ) (counted : length formals ≡ length (d .bodies)) (few : All (λ c. c ≤ 4) formals) where
   is-node : (k : ℕ) → k < length (d .nodes) → isNode d k ≡ true
   unfolding isNode
   is-node k l = lt-ltb k (length (d .nodes)) l
 
+  only-kept : (x : Node) → nodeKept d x ≡ true → all (nodeKept d) (x ∷ []) ≡ true
+  only-kept x e = all-cons (nodeKept d) x [] e (all-nil (nodeKept d))
+
   -- the nodes that a join makes itself
   own-kept : {scope : List ℕ} {j : Join} → Binds scope j → (l r k : ℕ)
       → l < length (d .nodes) → r < length (d .nodes) → k < length (d .nodes) → all (nodeKept d) (ownNodes j l r k) ≡ true
   unfolding ownNodes nodeKept
-  own-kept Binds.par l r k hl hr hk =
-      all-cons (nodeKept d) _ _ (and-both (is-node l hl) (is-node r hr)) (all-nil (nodeKept d))
+  own-kept Binds.par l r k hl hr hk = only-kept _ (and-both (is-node l hl) (is-node r hr))
   own-kept {scope} (Binds.seq b) l r k hl hr hk =
       let slot = lt-ltb (length scope) 8 b in
-      all-cons (nodeKept d) _ _ (and-both slot (is-node r hr))
-      (all-cons (nodeKept d) _ _ (and-both slot (is-node k hk)) (all-nil (nodeKept d)))
+      all-cons (nodeKept d) _ _ (and-both slot (is-node r hr)) (only-kept _ (and-both slot (is-node k hk)))
   own-kept {scope} (Binds.prune b) l r k hl hr hk =
       let slot = lt-ltb (length scope) 8 b in
       all-cons (nodeKept d) _ _ (and-both slot (and-both (is-node l hl) (is-node r hr)))
-      (all-cons (nodeKept d) _ _ (and-both slot (is-node k hk))
-      (all-cons (nodeKept d) _ _ refl (all-nil (nodeKept d))))
-
-  next-left : (j : Join) (n k m : ℕ) → n + own j ≤ m → k < m → nextLeft j n k < m
-  unfolding nextLeft own
-  next-left Join.par n k m h l = l
-  next-left (Join.seq x) n k m h l = omega arith
-  next-left (Join.prune x) n k m h l = omega arith
-
-  next-right : (j : Join) (n k m : ℕ) → n + own j ≤ m → k < m → nextRight j n k < m
-  unfolding nextRight own
-  next-right Join.par n k m h l = l
-  next-right (Join.seq x) n k m h l = omega arith
-  next-right (Join.prune x) n k m h l = omega arith
+      (all-cons (nodeKept d) _ _ (and-both slot (is-node k hk)) (only-kept _ refl))
 
   -- the nodes of an expression, numbered from n, toward k
   nodes-kept : {left : ℕ} {scope : List ℕ} {e : Exp} → Good formals left scope e → Slots scope → (n k : ℕ)
       → k < length (d .nodes) → n + size e ≤ length (d .nodes) → all (nodeKept d) (nodesOf e n k) ≡ true
   unfolding nodesOf nodeKept size
-  nodes-kept Good.stop s n k hk fit = all-cons (nodeKept d) _ _ refl (all-nil (nodeKept d))
+  nodes-kept Good.stop s n k hk fit = only-kept _ refl
   nodes-kept (Good.site {s = x} {ps = ps} t a) s n k hk fit =
-      all-cons (nodeKept d) _ _
-      (and-both (site-takes x (length ps) t) (and-both (params-kept s ps (site-few t) a) (is-node k hk)))
-      (all-nil (nodeKept d))
+      only-kept _ (and-both (site-takes x (length ps) t) (and-both (params-kept s ps (site-few t) a) (is-node k hk)))
   nodes-kept (Good.call {d = x} {ps = ps} l t a) s n k hk fit =
       let c : getD formals x 0 ≤ 4 = All-at few x 0 l in
-      all-cons (nodeKept d) _ _
+      only-kept _
       (and-both (lt-ltb x (length (d .bodies)) (omega arith)) (and-both (params-kept s ps (omega arith) a) (is-node k hk)))
-      (all-nil (nodeKept d))
   nodes-kept (Good.join {j = j} {f = f} {g = g} b gf gg) s n k hk fit =
       let m = length (d .nodes) in
       let first = n + own j in
@@ -158,15 +156,12 @@ module _ (d : Dag) (formals : List ℕ) (counted : length formals ≡ length (d 
   unfolding constructFrom nodeKept
   program-kept {g = g} none gg n fit =
       let sink = n + size g in
-      let split = length-append (nodesOf g n sink) (Node.publish ∷ []) in
-      let counted = nodes-length g n sink in
-      all-append (nodeKept d) _ _ (nodes-kept gg none n sink (omega arith) (omega arith))
-      (all-cons (nodeKept d) _ _ refl (all-nil (nodeKept d)))
+      let whole = nodes-append-length g n sink (Node.publish ∷ []) in
+      all-append (nodeKept d) _ _ (nodes-kept gg none n sink (omega arith) (omega arith)) (only-kept _ refl)
   program-kept {g = g} (more {x = x} {xs = xs} h hs) gg n fit =
       let sink = n + size (x .body) in
       let rest = constructFrom (suc sink) xs g .nodes in
-      let split = length-append (nodesOf (x .body) n sink) (Node.return ∷ rest) in
-      let counted = nodes-length (x .body) n sink in
+      let whole = nodes-append-length (x .body) n sink (Node.return ∷ rest) in
       let slots = levels-slots (x .formals) (omega (arith, h .count)) in
       all-append (nodeKept d) _ _ (nodes-kept (h .body) slots n sink (omega arith) (omega arith))
       (all-cons (nodeKept d) _ _ refl (program-kept hs gg (suc sink) (omega arith)))
@@ -178,19 +173,18 @@ module _ (d : Dag) (formals : List ℕ) (counted : length formals ≡ length (d 
   bodies-kept g (more {x = x} {xs = xs} h hs) n fit =
       let sink = n + size (x .body) in
       let rest = constructFrom (suc sink) xs g .nodes in
-      let split = length-append (nodesOf (x .body) n sink) (Node.return ∷ rest) in
-      let counted = nodes-length (x .body) n sink in
+      let whole = nodes-append-length (x .body) n sink (Node.return ∷ rest) in
       all-cons (bodyKept d) _ _
       (and-both (is-node (root (x .body) n) (omega (arith, root-below (x .body) n))) (le-leb (x .formals) 4 (h .count)))
       (bodies-kept g hs (suc sink) (omega arith))
 
 pub goal-below : (n : ℕ) (ds : List Definition) (g : Exp) → constructFrom n ds g .goal < n + length (constructFrom n ds g .nodes)
 unfolding constructFrom
-goal-below n [] g = simp (length-append, nodes-length) (omega (arith, root-below g n))
+goal-below n [] g = simp nodes-append-length (omega (arith, root-below g n))
 goal-below n (d ∷ ds) g =
     let sink = n + size (d .body) in
     let rest = goal-below (suc sink) ds g in
-    simp (length-append, nodes-length) (omega arith)
+    simp nodes-append-length (omega arith)
 
 pub bodies-length : (n : ℕ) (ds : List Definition) (g : Exp) → length (constructFrom n ds g .bodies) ≡ length ds
 unfolding constructFrom
@@ -201,9 +195,9 @@ formals-few : {fs : List ℕ} {ds : List Definition} → All (GoodDefinition fs)
 formals-few none = none
 formals-few (more h hs) = more (h .count) (formals-few hs)
 
-pub construct-kept : (p : Program) → WellFormed p → dagKept (construct p) ≡ true
-unfolding construct dagKept
-construct-kept p w =
+pub construct-rules : (p : Program) → WellFormed p → DagRules (construct p)
+unfolding construct
+construct-rules p w =
     let d = construct p in
     let ds = p .definitions in
     let g = p .goal in
@@ -211,8 +205,13 @@ construct-kept p w =
     let bodies : length (d .bodies) ≡ length ds = bodies-length 0 ds g in
     let counted : length formals ≡ length (d .bodies) = length-map ds (λ x. x .formals) ∙ sym bodies in
     let few = formals-few (w .bodies) in
-    and-both (le-leb (length (d .nodes)) 1022 (nodes-few p w))
-    (and-both (le-leb (length (d .bodies)) 32 (omega (arith, w .definitions)))
-    (and-both (is-node d formals counted few (d .goal) (omega (arith, goal-below 0 ds g)))
-    (and-both (bodies-kept d formals counted few g (w .bodies) 0 (omega arith))
-    (program-kept d formals counted few (w .bodies) (w .goal) 0 (omega arith)))))
+    record {
+      nodes-few = nodes-few p w;
+      bodies-few = omega (arith, w .definitions);
+      goal = omega (arith, goal-below 0 ds g);
+      bodies = bodies-kept d formals counted few g (w .bodies) 0 (omega arith);
+      nodes = program-kept d formals counted few (w .bodies) (w .goal) 0 (omega arith);
+    }
+
+pub construct-kept : (p : Program) → WellFormed p → dagKept (construct p) ≡ true
+construct-kept p w = rules-dag (construct p) (construct-rules p w)

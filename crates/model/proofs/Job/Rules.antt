@@ -1,11 +1,11 @@
 -- What the index rules of a dag say, as facts: each conjunct of the test by its name, and a node or a body at its index. Assumes nothing.
 use mathlib.Core.Path.{_≡_}
-use mathlib.Core.Bool.{Bool, true}
+use mathlib.Core.Bool.{true}
 use Prim.Native.Nat.{ℕ, _≤_, _<_}
 use lib.ListN.{length}
 use lib.Dec.{leb}
 use Rattle.model.specs.Test.{_and_, all}
-use Rattle.model.specs.Job.Node.{Node, Body, Dag, nodeAt, bodyAt, isNode, nodeKept, bodyKept, dagKept}
+use Rattle.model.specs.Job.Node.{Node, Dag, nodeAt, bodyAt, isNode, nodeKept, bodyKept, dagKept}
 use Rattle.model.proofs.Test.{lt-ltb, ltb-lt, le-leb, leb-le, and-left, and-right, and-both, all-at}
 
 pub record DagRules (d : Dag) : Type 0 where

@@ -31,6 +31,9 @@ nodes-length (join j f g) n k =
     let r = nodes-length g b (nextRight j n k) in
     simp (length-append, o, l, r)
 
+pub nodes-append-length : (e : Exp) (n k : ℕ) (ns : List Node) → length (nodesOf e n k ++ ns) ≡ size e + length ns
+nodes-append-length e n k ns = simp (length-append, nodes-length)
+
 -- how many joins an expression has
 unfoldable pub joins : Exp → ℕ
 joins stop = 0
@@ -66,11 +69,11 @@ joinsIn (d ∷ ds) g = joins (d .body) + joinsIn ds g
 pub nodes-by-joins : (n : ℕ) (ds : List Definition) (g : Exp)
     → length (constructFrom n ds g .nodes) ≤ 4 * joinsIn ds g + 2 * length ds + 2
 unfolding constructFrom joinsIn
-nodes-by-joins n [] g = simp (length-append, nodes-length) (omega (arith, size-few g))
+nodes-by-joins n [] g = simp nodes-append-length (omega (arith, size-few g))
 nodes-by-joins n (d ∷ ds) g =
     let sink = n + size (d .body) in
     let rest = nodes-by-joins (suc sink) ds g in
-    simp (length-append, nodes-length) (omega (arith, size-few (d .body), rest))
+    simp nodes-append-length (omega (arith, size-few (d .body), rest))
 
 pub entries-by-joins : (ds : List Definition) (g : Exp)
     → 2 * joinsIn ds g + 2 * length ds + 1 ≤ length (encodeDefinitions ds ++ encodeExp g)
@@ -81,7 +84,7 @@ entries-by-joins (d ∷ ds) g =
     let split = length-append (encodeDefinitions ds) (encodeExp g) in
     simp length-append (omega (arith, entries-many (d .body), rest, split))
 
--- "at most 1,022 nodes"
+-- "at most 1,022 nodes": j joins and D definitions take at least 2j + 2D + 1 of 512 entries, so j + D is at most 255
 pub nodes-few : (p : Program) → WellFormed p → length (construct p .nodes) ≤ 1022
 unfolding construct encodeEntries
 nodes-few p w =
