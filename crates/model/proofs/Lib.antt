@@ -2,3 +2,5 @@
 pub mod Test
 pub mod Run
 pub mod Calculus
+pub mod Abstract
+pub mod Rep

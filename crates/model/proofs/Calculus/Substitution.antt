@@ -9,7 +9,6 @@ use lib.IntN.{ℤ}
 use Rattle.model.specs.Calculus.Expression.{Param, value, variable, Exp, stop, site, call, par, seq, prune, pending, hand, Substitution, raise, lift, substParam, subst, one}
 
 infixr 40 _after_
-
 -- first ρ, then θ
 abbrev pub _after_ : Substitution → Substitution → Substitution
 _after_ θ ρ i = substParam θ (ρ i)
