@@ -3,3 +3,6 @@ pub mod Test
 pub mod Site
 pub mod Job
 pub mod Run
+pub mod Calculus
+pub mod Abstract
+pub mod Rep

@@ -1,0 +1,2 @@
+-- Laws of the calculus.
+pub mod Substitution

@@ -1,0 +1,4 @@
+-- Which states of the abstract machine stand for which expressions, and that both do the same.
+pub mod Cells
+pub mod Binding
+pub mod Relation
