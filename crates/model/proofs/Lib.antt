@@ -6,3 +6,4 @@ pub mod Run
 pub mod Calculus
 pub mod Abstract
 pub mod Rep
+pub mod Sees

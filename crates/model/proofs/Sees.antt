@@ -1,0 +1,2 @@
+-- The concrete machine and the abstract machine.
+pub mod Labels
