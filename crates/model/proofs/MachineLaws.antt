@@ -5,3 +5,6 @@ pub mod InUse
 pub mod Kept
 pub mod Places
 pub mod Refused
+pub mod Rules
+pub mod Inside
+pub mod Within
