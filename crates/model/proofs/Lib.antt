@@ -2,7 +2,7 @@
 pub mod Test
 pub mod Site
 pub mod Job
-pub mod MachineLaws
+pub mod Machine
 pub mod Run
 pub mod Calculus
 pub mod Abstract

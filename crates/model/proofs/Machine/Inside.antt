@@ -16,12 +16,12 @@ use Rattle.model.specs.Machine.InUse.{usedTokens, usedCells, tokensUsed,
 use Rattle.model.specs.declared.token.Place.{Place}
 use Rattle.model.specs.declared.token.Token.{Token}
 use Rattle.model.specs.declared.cell.Cell.{Cell}
-use Rattle.model.specs.declared.machine.Machine.{Machine}
+use Rattle.model.specs.declared.record.Machine.{Machine}
 use Rattle.model.proofs.Test.{clash}
-use Rattle.model.proofs.MachineLaws.Marks.{Marked}
-use Rattle.model.proofs.MachineLaws.Reach.{Names, names-nowhere}
-use Rattle.model.proofs.MachineLaws.InUse.{CellsIn, cells-in-blank, cells-in-map, tokens-used, cells-used}
-use Rattle.model.proofs.MachineLaws.Kept.{kept-cases, length-kept}
+use Rattle.model.proofs.Machine.Marks.{Marked}
+use Rattle.model.proofs.Machine.Reach.{Names, names-nowhere}
+use Rattle.model.proofs.Machine.InUse.{CellsIn, cells-in-blank, cells-in-map, tokens-used, cells-used}
+use Rattle.model.proofs.Machine.Kept.{kept-cases, length-kept}
 
 -- a token names places of Q and cells of R only
 pub record Fits (Q R : ℕ → Type 0) (t : Token) : Type 0 where

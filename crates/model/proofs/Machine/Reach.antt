@@ -11,7 +11,7 @@ use Rattle.model.specs.Machine.InUse.{markChain, markChains, reached, ma
 use Rattle.model.specs.declared.token.Place.{Place}
 use Rattle.model.specs.declared.token.Place.the-variants as places
 use Rattle.model.proofs.Test.{clash}
-use Rattle.model.proofs.MachineLaws.Marks.{Marked, marked-none, free-inside, mark-same, mark-mono, mark-inverse, marked-all, marked-set-free}
+use Rattle.model.proofs.Machine.Marks.{Marked, marked-none, free-inside, mark-same, mark-mono, mark-inverse, marked-all, marked-set-free}
 
 -- the places that a place names: one or none
 abbrev pub Names : (ℕ → Type 0) → Place → Type 0

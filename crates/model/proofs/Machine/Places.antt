@@ -11,7 +11,7 @@ use lib.Dec.{ltb}
 use Rattle.model.specs.Machine.InUse.{marked}
 use Rattle.model.specs.Machine.Places.{around, freeFrom, nextPlace}
 use Rattle.model.proofs.Test.{clash, lt-ltb, le-not-ltb}
-use Rattle.model.proofs.MachineLaws.Marks.{Marked, Free, free-inside, some-free}
+use Rattle.model.proofs.Machine.Marks.{Marked, Free, free-inside, some-free}
 
 around-inside : (n p : ℕ) → p < n → around n p ≡ p
 unfolding around

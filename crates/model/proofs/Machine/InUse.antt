@@ -18,10 +18,10 @@ use Rattle.model.specs.declared.token.Place.{Place}
 use Rattle.model.specs.declared.token.Place.the-variants as places
 use Rattle.model.specs.declared.token.Token.{Token}
 use Rattle.model.specs.declared.cell.Cell.{Cell}
-use Rattle.model.specs.declared.machine.Machine.{Machine}
+use Rattle.model.specs.declared.record.Machine.{Machine}
 use Rattle.model.proofs.Test.{clash}
-use Rattle.model.proofs.MachineLaws.Marks.{Marked}
-use Rattle.model.proofs.MachineLaws.Reach.{Names, names-nowhere, Reached, reached-law}
+use Rattle.model.proofs.Machine.Marks.{Marked}
+use Rattle.model.proofs.Machine.Reach.{Names, names-nowhere, Reached, reached-law}
 
 -- behind the end of a table all is blank
 pub token-outside : (ts : List Token) (i : ℕ) → length ts ≤ i → tokenAt ts i ≡ blankToken

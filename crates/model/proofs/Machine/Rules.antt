@@ -17,7 +17,7 @@ use Rattle.model.specs.Machine.Rules as rules
 use Rattle.model.specs.Machine.Rules.{isReady, isWaiting, namesOnce, restIsBlank, machineKept, rulesKept}
 use Rattle.model.specs.declared.token.State.{State}
 use Rattle.model.specs.declared.token.Token.{Token}
-use Rattle.model.specs.declared.machine.Machine.{Machine}
+use Rattle.model.specs.declared.record.Machine.{Machine}
 use Rattle.model.proofs.Test.{clash, and-left, and-right, all-at, eqb-eq, eqb-same, leb-le, ltb-lt}
 
 both : (a b : Bool) → (a and b) ≡ true → (a ≡ true) × (b ≡ true)

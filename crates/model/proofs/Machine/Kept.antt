@@ -8,7 +8,7 @@ use native.Mathlib.Omega.{arith}
 use lib.ListN.{length, getD}
 use Rattle.model.specs.Machine.InUse.{kept}
 use Rattle.model.proofs.Test.{clash}
-use Rattle.model.proofs.MachineLaws.Marks.{Marked, Free}
+use Rattle.model.proofs.Machine.Marks.{Marked, Free}
 
 module _ {A : Type 0} (blank : A) where
   pub length-kept : (marks : List Bool) (xs : List A) → length (kept blank marks xs) ≡ length xs

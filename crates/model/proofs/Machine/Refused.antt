@@ -16,7 +16,7 @@ use Rattle.model.specs.Machine.Reply.{Effect, moves, waits, publishes, c
 use Rattle.model.specs.Machine.Start.{start, startMachine}
 use Rattle.model.specs.Machine.Step.{step, takes}
 use Rattle.model.specs.Machine.Answer.{answer, answered, holder}
-use Rattle.model.specs.declared.machine.Machine.{Machine}
+use Rattle.model.specs.declared.record.Machine.{Machine}
 use Rattle.model.specs.declared.reply.Refusal.{Refusal}
 use Rattle.model.specs.declared.reply.Refusal.the-variants as refusals
 use Rattle.model.specs.declared.reply.Reply.{Reply}
