@@ -3,3 +3,6 @@ pub mod Computing
 pub mod Marked
 pub mod Queue
 pub mod Survivors
+pub mod Chain
+pub mod Bystander
+pub mod Passing

@@ -114,7 +114,7 @@ module _ (of : State → Bool) (ts : List Token) (array : List ℕ) (n : ℕ) (k
       (subst (λ p. 1 < count p order) (names-at (suc k) l)
       (counted-twice order k (let z = order-length in omega arith) (names-at 0 (omega arith) ∙ (e ∙ sym (names-at (suc k) l))))))
 
-ready-live : (s : State) → isReady s ≡ true → isLive s ≡ true
+pub ready-live : (s : State) → isReady s ≡ true → isLive s ≡ true
 unfolding isReady isLive
 ready-live states.Blank e = e
 ready-live states.Ready e = refl
