@@ -5,4 +5,6 @@ pub mod Queue
 pub mod Survivors
 pub mod Chain
 pub mod Bystander
+pub mod Choking
 pub mod Passing
+pub mod Answering

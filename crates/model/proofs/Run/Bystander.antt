@@ -59,7 +59,7 @@ module _ {u : Token} {p : ℕ} where
   unharmed-cell c above m e h =
       record { token = h .token; clear = new-cell-clear (m .cells) c above (u .cell) (h .clear) e }
 
-queue-orders : (q w : List ℕ) (m : Machine) → queueOf (withOrders q w m) ≡ q
+pub queue-orders : (q w : List ℕ) (m : Machine) → queueOf (withOrders q w m) ≡ q
 unfolding queueOf withOrders padded
 queue-orders q w m = take-append-seam q _
 
@@ -141,5 +141,6 @@ untouched-stands m k after k′ r h =
   where
     inside : k′ < after .queued
     inside = let z = length-take (after .queued) (after .queue) in let l = h .queued in omega arith
+
     named : getD (after .queue) k′ 0 ≡ getD (m .queue) k 0
     named = sym (getD-take (after .queued) (after .queue) k′ 0 inside) ∙ h .place

@@ -89,8 +89,10 @@ module _ (cs : List Cell) (c : ℕ) (above : Place) (inside : c < length cs) whe
     where
       cs′ : List Cell
       cs′ = set cs c (unsetCell above)
+
       shorter : upward setTest cs n above ≡ false
       shorter = up-less setTest cs n above f
+
       go :
           Dec (b ≡ c) → upward setTest cs′ n (cellAt cs b .parent) ≡ false → upward setTest cs′ n above ≡ false
           → upward setTest cs′ (suc n) (places.At b) ≡ false

@@ -9,7 +9,7 @@ use native.Mathlib.Omega.{arith}
 use lib.ListN.{length, getD, take}
 use Rattle.model.specs.Test.{filter}
 use Rattle.model.specs.Job.Node.{Dag}
-use Rattle.model.specs.Run.Follow.{frontEnds, survivors}
+use Rattle.model.specs.Run.Follow.{frontEnds, survivors, Fate, falls, stays, fate}
 use Rattle.model.specs.declared.machine.Machine.{Machine}
 use Rattle.model.proofs.Test.{holds-or-fails}
 
@@ -100,3 +100,14 @@ module _ (d : Dag) (m : Machine) where
       go : (b : Bool) → f x ≡ b → survivors d m (suc i) n ≡ among f xs n → survivors d m i (suc n) ≡ length (filter f (x ∷ take n xs))
       go true e r = spared-one i n (front ∙ ap not e) ∙ (ap suc r ∙ ap length (sym (filter-yes f x (take n xs) e)))
       go false e r = ended-one i n (front ∙ ap not e) ∙ (r ∙ ap length (sym (filter-no f x (take n xs) e)))
+
+  -- what it says of a token that it stays
+  pub fate-stays : (k k′ : ℕ) → fate d m (suc k) ≡ stays k′ → (frontEnds d m (suc k) ≡ false) × (survivors d m 1 k ≡ k′)
+  unfolding fate
+  fate-stays k k′ e = go (frontEnds d m (suc k)) e
+    where
+      go :
+          (b : Bool) → elim b as (λ b. Fate) [ true ↦ falls | false ↦ stays (survivors d m 1 k) ] ≡ stays k′
+          → (b ≡ false) × (survivors d m 1 k ≡ k′)
+      go true x = let z : _≡_ {A = ℕ} 0 1 = cc in absurd (omega arith)
+      go false x = (refl, cc)
