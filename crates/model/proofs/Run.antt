@@ -8,3 +8,4 @@ pub mod Bystander
 pub mod Choking
 pub mod Passing
 pub mod Answering
+pub mod Last
