@@ -1,12 +1,12 @@
 -- An answer, accepted or not, leaves each token of the queue as it is and at its position: it writes at the place of a token that is called
 -- out, so not ready, and puts it at the back. Assumes nothing.
-use mathlib.Core.Path.{_≡_, refl, sym, _∙_, ap, subst}
+use mathlib.Core.Path.{_≡_, refl, sym, subst}
 use mathlib.Core.Logic.{_⊎_, inl, inr}
 use mathlib.Core.Bool.{Bool, true, false}
 use mathlib.Core.List.{List, [], _∷_}
-use Prim.Native.Nat.{ℕ, zero, suc, _+_, _<_}
+use Prim.Native.Nat.{ℕ, suc, _+_, _<_}
 use native.Mathlib.Omega.{arith}
-use lib.ListN.{length, getD, length-take}
+use lib.ListN.{getD, length-take}
 use lib.Seq.{getD-take}
 use lib.Dec.{eqb}
 use lib.IntN.{ℤ}
@@ -15,8 +15,8 @@ use Rattle.model.specs.Job.Node.{Dag}
 use Rattle.model.specs.Machine.Limits.{Limits}
 use Rattle.model.specs.Machine.Blank.{blankToken, tokenAt}
 use Rattle.model.specs.Machine.Rules.{handleOf, isReady}
-use Rattle.model.specs.Machine.Reply.{Effect, outcome, isRefused}
-use Rattle.model.specs.Machine.Step.{queueOf, put, enqueue}
+use Rattle.model.specs.Machine.Reply.{Effect, isRefused}
+use Rattle.model.specs.Machine.Step.{queueOf}
 use Rattle.model.specs.Machine.Answer.{holder, answered, answer}
 use Rattle.model.specs.Run.Follow.{queuedToken, Stands}
 use Rattle.model.specs.declared.token.Place.{Place}
@@ -92,12 +92,18 @@ pub answer-stands :
     (lim : Limits) (d : Dag) (m : Machine) (handle : ℕ) (v : ℤ) (k : ℕ)
     → k < m .queued
     → Stands m k (answer lim d m handle v .machine) k
-answer-stands lim d m handle v k l = go (holds-or-fails (isRefused (answer lim d m handle v .reply)))
+answer-stands lim d m handle v k l = go (holds-or-fails (isRefused (o .reply)))
   where
+    o : Outcome
+    o = answer lim d m handle v
+
     same : Stands m k m k
     same = record { queued = l; place = refl; token = refl }
 
-    accepted : (ok : isRefused (answer lim d m handle v .reply) ≡ false) → AnswerAccepted lim d m handle v → Stands m k (answer lim d m handle v .machine) k
+    left : isRefused (o .reply) ≡ true → o .machine ≡ m
+    left e = unfold answer in outcome-refused m _ e
+
+    accepted : isRefused (o .reply) ≡ false → AnswerAccepted lim d m handle v → Stands m k (o .machine) k
     accepted ok a =
         let h : QueueKept m = queue-kept lim d m (a .kept) in
         subst (λ (o : Outcome). Stands m k (o .machine) k) (sym (a .does))
@@ -106,9 +112,6 @@ answer-stands lim d m handle v k l = go (holds-or-fails (isRefused (answer lim d
         (after-answered m h k l handle v (holder handle 0 (m .tokens)) refl)
         (subst (λ (o : Outcome). isRefused (o .reply) ≡ false) (a .does) ok))
 
-    left : isRefused (answer lim d m handle v .reply) ≡ true → answer lim d m handle v .machine ≡ m
-    left e = unfold answer in outcome-refused m _ e
-
-    go : (isRefused (answer lim d m handle v .reply) ≡ true) ⊎ (isRefused (answer lim d m handle v .reply) ≡ false) → Stands m k (answer lim d m handle v .machine) k
+    go : (isRefused (o .reply) ≡ true) ⊎ (isRefused (o .reply) ≡ false) → Stands m k (o .machine) k
     go (inl e) = subst (λ (o : Machine). Stands m k o k) (sym (left e)) same
     go (inr ok) = accepted ok (answer-accepted lim d m handle v ok)

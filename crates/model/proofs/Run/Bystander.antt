@@ -1,20 +1,19 @@
 -- A ready token that does not act: what a step writes at other places leaves it as it is, at its position and active, so that
 -- blanking keeps it. One lemma for each change of a machine. Assumes nothing.
 use mathlib.Core.Path.{_≡_, refl, sym, _∙_, ap, subst}
-use mathlib.Core.Bool.{Bool, true, false, not}
+use mathlib.Core.Bool.{true, false, not}
 use mathlib.Core.List.{List, [], _∷_, _++_}
-use Prim.Native.Nat.{ℕ, zero, suc, _+_, _≤_, _<_, min}
+use Prim.Native.Nat.{ℕ, _<_}
 use native.Mathlib.Omega.{arith}
-use lib.ListN.{length, getD, set, take, length-set, length-append, length-take, List·getD-append}
+use lib.ListN.{length, getD, set, length-append, length-take, List·getD-append}
 use lib.Seq.{getD-set-other, getD-take, take-append-seam}
 use Rattle.model.specs.Test.{padded}
 use Rattle.model.specs.Machine.Blank.{blankToken, tokenAt}
-use Rattle.model.specs.Machine.Active.{underSet, isLive, isActive}
-use Rattle.model.specs.Machine.InUse.{usedTokens, tokensUsed, finish}
+use Rattle.model.specs.Machine.Active.{underSet, isActive}
+use Rattle.model.specs.Machine.InUse.{tokensUsed, finish}
 use Rattle.model.specs.Machine.Rules.{isReady}
 use Rattle.model.specs.Machine.Step.{withTables, withOrders, withCounts, queueOf, waitsOf, put, enqueue, newToken, newCell}
 use Rattle.model.specs.Run.Follow.{Stands, queuedToken}
-use Rattle.model.specs.declared.token.Held.the-variants as helds
 use Rattle.model.specs.declared.token.Place.{Place}
 use Rattle.model.specs.declared.token.Token.{Token}
 use Rattle.model.specs.declared.cell.Cell.{Cell}
@@ -54,7 +53,10 @@ module _ {u : Token} {p : ℕ} where
   unharmed-counts n a c m h = record { token = h .token; clear = h .clear }
 
   pub unharmed-cell :
-      (c : ℕ) (above : Place) (m : Machine) → underSet (m .cells) above ≡ false → Unharmed u p m → Unharmed u p (newCell c (unsetCell above) m)
+      (c : ℕ) (above : Place) (m : Machine)
+      → underSet (m .cells) above ≡ false
+      → Unharmed u p m
+      → Unharmed u p (newCell c (unsetCell above) m)
   unfolding newCell withTables withCounts
   unharmed-cell c above m e h =
       record { token = h .token; clear = new-cell-clear (m .cells) c above (u .cell) (h .clear) e }

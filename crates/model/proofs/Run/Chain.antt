@@ -2,11 +2,11 @@
 -- what is within it. A chain is followed cell by cell, so each is an induction over the links looked at. Assumes nothing.
 use mathlib.Core.Path.{_≡_, refl, sym, _∙_, ap, subst}
 use mathlib.Core.Bool.{Bool, true, false}
-use mathlib.Core.List.{List, [], _∷_}
+use mathlib.Core.List.{List}
 use Prim.Native.Nat.{ℕ, zero, suc, _<_}
 use native.Mathlib.Decide.{decLt, ℕ-discrete}
 use native.Mathlib.Omega.{arith}
-use lib.ListN.{length, getD, set, length-set}
+use lib.ListN.{length, set, length-set}
 use lib.Seq.{getD-set-same, getD-set-other, set-out}
 use lib.Dec.{eqb}
 use Rattle.model.specs.Machine.Blank.{blankCell, cellAt, hasValue}
@@ -51,7 +51,9 @@ module _ (test : ℕ → Cell → Bool) (cs : List Cell) where
       (n c : ℕ) (k : Cell) → cellAt cs c ≡ k → test c k ≡ false → upward test cs n (k .parent) ≡ false
       → upward test cs (suc n) (places.At c) ≡ false
   unfolding upward
-  up-at n c k p e f = subst (λ (k : Cell). elim (test c k) as (λ b. Bool) [ true ↦ true | false ↦ upward test cs n (k .parent) ] ≡ false) (sym p) (rw e f)
+  up-at n c k p e f =
+      subst (λ (k : Cell). elim (test c k) as (λ b. Bool) [ true ↦ true | false ↦ upward test cs n (k .parent) ] ≡ false) (sym p)
+      (rw e f)
 
   up-less : (n : ℕ) (q : Place) → upward test cs (suc n) q ≡ false → upward test cs n q ≡ false
   up-less zero q e = up-none q

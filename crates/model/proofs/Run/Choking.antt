@@ -1,5 +1,5 @@
 -- What a choke does to ready tokens: those within its cell end, the others are as they were, and the queue keeps just these. Assumes nothing.
-use mathlib.Core.Path.{_≡_, refl, sym, _∙_, ap, subst}
+use mathlib.Core.Path.{_≡_, refl, sym, _∙_, ap}
 use mathlib.Core.Bool.{Bool, true, false, not}
 use mathlib.Core.List.{List, [], _∷_, _++_, map}
 use Prim.Native.Nat.{ℕ, zero, suc, _<_}
@@ -7,9 +7,9 @@ use native.Mathlib.Omega.{arith}
 use lib.ListN.{length, getD, set}
 use Rattle.model.specs.Test.{filter}
 use Rattle.model.specs.Machine.Blank.{blankToken, tokenAt, cellAt}
-use Rattle.model.specs.Machine.Active.{underSet, within}
-use Rattle.model.specs.Machine.Rules.{isReady, isWaiting}
-use Rattle.model.specs.Machine.Step.{being, withTables, queueOf, waitsOf, waitsAt, chokeToken, choked}
+use Rattle.model.specs.Machine.Active.{within}
+use Rattle.model.specs.Machine.Rules.{isReady}
+use Rattle.model.specs.Machine.Step.{withTables, queueOf, waitsOf, waitsAt, chokeToken, choked}
 use Rattle.model.specs.declared.token.Held.{Held}
 use Rattle.model.specs.declared.token.State.{State}
 use Rattle.model.specs.declared.token.State.the-variants as states

@@ -1,9 +1,10 @@
--- Demand 3, last part: "house order is fair". Each accepted step at place 0 that neither takes nor ends a token leaves it in the queue with
+-- Demand 3, last part: while a ready token with k others before it neither acts nor is pruned, "at most k later steps have been accepted",
+-- if every step takes place 0. Each accepted step at place 0 that neither takes nor ends a token leaves it in the queue with
 -- fewer others before it, so there are at most as many such steps as stood before it; answers leave it where it was. Assumes nothing.
-use mathlib.Core.Path.{_≡_, refl, sym, _∙_, ap, subst}
+use mathlib.Core.Path.{_≡_, refl}
 use mathlib.Core.Logic.{_⊎_, inl, inr}
-use mathlib.Core.Bool.{Bool, true, false}
-use mathlib.Core.List.{List, [], _∷_}
+use mathlib.Core.Bool.{true, false}
+use mathlib.Core.List.{List, _∷_}
 use Prim.Native.Nat.{ℕ, zero, suc, _≤_, _<_}
 use native.Mathlib.Omega.{arith}
 use Rattle.model.specs.Job.Node.{Dag}
@@ -12,7 +13,7 @@ use Rattle.model.specs.Machine.Limits.{Limits, paper}
 use Rattle.model.specs.Machine.Reply.{isRefused}
 use Rattle.model.specs.Machine.Step as Step
 use Rattle.model.specs.Run.Call.{Call, runner, outcomeOf, started, machineAfter}
-use Rattle.model.specs.Run.Follow.{Fate, acts, falls, stays, fate, Stands, House, Followed}
+use Rattle.model.specs.Run.Follow.{Fate, acts, falls, stays, fate, House, Followed}
 use Rattle.model.specs.Run.Demand3.{Last}
 use Rattle.model.specs.declared.machine.Machine.{Machine}
 use Rattle.model.proofs.Test.{holds-or-fails}
@@ -73,7 +74,7 @@ module _ (lim : Limits) (d : Dag) (fits : lim .tokens ≤ lim .tokenPlaces) wher
       let r = follow rest _ k (s .queued) in
       (r .0, Followed.between s (r .1), r .2)
 
--- "Last part: house order is fair."
+-- "Last part: .. at most k later steps have been accepted."
 pub house-order-is-fair : Last runner
 house-order-is-fair table p read earlier later house k l =
     follow paper (construct p) (omega arith) house (machineAfter runner paper (construct p) (started runner paper (construct p)) earlier) k l

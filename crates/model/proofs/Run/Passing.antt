@@ -1,36 +1,31 @@
 -- An accepted step that takes the front of the queue leaves a token behind it as it is, at the position that its fate says, unless the step
 -- ends it: each instruction writes at the front's place, at a place that was not in use, or, at choke, what is within its cell. Assumes nothing.
-use mathlib.Core.Path.{_≡_, refl, sym, _∙_, ap, subst, subst₂}
+use mathlib.Core.Path.{_≡_, refl, sym, _∙_, ap, subst}
 use mathlib.Core.Logic.{_⊎_, inl, inr}
 use mathlib.Core.Bool.{Bool, true, false, not}
-use mathlib.Core.List.{List, [], _∷_, _++_, map}
-use Prim.Native.Nat.{ℕ, zero, suc, _+_, _≤_, _<_}
+use mathlib.Core.List.{List, [], _∷_, _++_}
+use Prim.Native.Nat.{ℕ, suc, _+_, _≤_, _<_}
 use native.Mathlib.Omega.{arith}
-use lib.ListN.{length, getD, set, take, length-append, length-take, List·getD-append}
+use lib.ListN.{length, getD, take, length-append, length-take, List·getD-append}
 use lib.Seq.{getD-take}
 use lib.Dec.{ltb}
 use lib.IntN.{ℤ}
-use Rattle.model.specs.Test.{filter, padded, without}
+use Rattle.model.specs.Test.{filter, without}
 use Rattle.model.specs.Site.{Said, gives, silent, isBuiltin, builtin}
 use Rattle.model.specs.Job.Syntax.{Param}
-use Rattle.model.specs.Job.Node.{Node, Dag, nodeAt, bodyAt}
+use Rattle.model.specs.Job.Node.{Node, Dag, nodeAt}
 use Rattle.model.specs.Machine.Limits.{Limits}
-use Rattle.model.specs.Machine.Blank.{blankToken, tokenAt, cellAt}
+use Rattle.model.specs.Machine.Blank.{blankToken}
 use Rattle.model.specs.Machine.Active.{underSet, within}
-use Rattle.model.specs.Machine.InUse.{tokensUsed, cellsUsed, marked, finish}
+use Rattle.model.specs.Machine.InUse.{tokensUsed, marked}
 use Rattle.model.specs.Machine.Places.{nextPlace}
-use Rattle.model.specs.Machine.Rules.{isReady, isWaiting, rulesKept}
-use Rattle.model.specs.Machine.Reply.{Effect, moves, waits, publishes, calls, refuses, unless, accepted, outcome, isRefused}
-use Rattle.model.specs.Machine.Step as Step
-use Rattle.model.specs.Machine.Step.{to, binding, holding, inCell, being, withTables, withOrders, withCounts, queueOf, waitsOf, put, enqueue, newToken, newCell, Looked, values, unset, look, formalsBound, valueOf, waitsAt, chokeToken, choked, ended, goesOn, forked, split, entered, waited, replied, calledOut, returned, chokes, callSite, hasTokenPlace, hasCellPlace, act, takes, step}
-use Rattle.model.specs.Run.Follow.{queuedToken, cellSet, endsToken, frontEnds, survivors, Fate, acts, falls, stays, fate, Stands}
+use Rattle.model.specs.Machine.Rules.{rulesKept}
+use Rattle.model.specs.Machine.Reply.{Effect, calls, unless, isRefused}
+use Rattle.model.specs.Machine.Step.{to, binding, inCell, withTables, withOrders, withCounts, queueOf, waitsOf, put, newToken, Looked, values, unset, ended, goesOn, forked, split, entered, waited, replied, calledOut, returned, chokes, callSite, hasTokenPlace, act, takes, step}
+use Rattle.model.specs.Run.Follow.{queuedToken, cellSet, endsToken, frontEnds, survivors, stays, fate, Stands}
 use Rattle.model.specs.declared.token.Slot.the-variants as slots
-use Rattle.model.specs.declared.token.Held.{Held}
-use Rattle.model.specs.declared.token.Held.the-variants as helds
 use Rattle.model.specs.declared.token.Place.{Place}
 use Rattle.model.specs.declared.token.Place.the-variants as places
-use Rattle.model.specs.declared.token.State.{State}
-use Rattle.model.specs.declared.token.State.the-variants as states
 use Rattle.model.specs.declared.token.Token.{Token}
 use Rattle.model.specs.declared.cell.Cell.{Cell}
 use Rattle.model.specs.declared.machine.Machine.{Machine}
@@ -41,13 +36,16 @@ use Rattle.model.proofs.MachineLaws.InUse.{tokens-used}
 use Rattle.model.proofs.MachineLaws.Places.{next-place-free}
 use Rattle.model.proofs.MachineLaws.Refused.{After, after-unless, after-outcome, StepAccepted, step-accepted}
 use Rattle.model.proofs.Run.Queue.{QueueKept, queue-kept, tokens-sized, newtoken-inside}
-use Rattle.model.proofs.Run.Survivors.{among, Found, filter-finds, survivors-all, survivors-pass, fate-stays}
+use Rattle.model.proofs.Run.Survivors.{among, Behind, filter-finds, survivors-all, survivors-pass, fate-stays}
 use Rattle.model.proofs.Run.Choking.{readyThen, queueThen, within-ready, untouched-choked}
 use Rattle.model.proofs.Run.Bystander.{Unharmed, Untouched, queue-orders, untouched-orders, untouched-waits, untouched-enqueue, untouched-put, untouched-counts, untouched-token, untouched-cell, unharmed-marked, kept-unharmed, untouched-stands}
 
 -- if no cell is set no token is ended
 spares-all :
-    (d : Dag) (m : Machine) → cellSet (nodeAt d (queuedToken m 0 .node)) (queuedToken m 0) ≡ places.Nowhere → (i : ℕ) → frontEnds d m i ≡ false
+    (d : Dag) (m : Machine)
+    → cellSet (nodeAt d (queuedToken m 0 .node)) (queuedToken m 0) ≡ places.Nowhere
+    → (i : ℕ)
+    → frontEnds d m i ≡ false
 unfolding frontEnds endsToken
 spares-all d m e i = ap (λ q. endsToken m q (queuedToken m i)) e
 
@@ -266,7 +264,7 @@ module _ (lim : Limits) (d : Dag) (m : Machine) (h : QueueKept m) (k : ℕ) (l :
         here : among (readyThen c taken) both k ≡ k′
         here = sym position ∙ s
 
-        found : Found (readyThen c taken) both k
+        found : Behind (filter (readyThen c taken) (take k both)) (queueThen c taken) (getD both k 0)
         found = filter-finds (readyThen c taken) both k both-long (not-false _ (sym (told-both k (omega arith)) ∙ f))
 
   -- any instruction: at choke by its own law, else no cell is set and the token watched moves up by one

@@ -2,14 +2,14 @@
 -- nowhere else in it: the rules test that it names each ready token once. Assumes nothing.
 use mathlib.Core.Path.{_≡_, refl, sym, _∙_, subst}
 use mathlib.Core.Bool.{Bool, true, false, not}
-use mathlib.Core.List.{List, [], _∷_, _++_}
+use mathlib.Core.List.{List, [], _∷_}
 use Prim.Native.Nat.{ℕ, zero, suc, _+_, _≤_, _<_}
 use native.Mathlib.Nat.{zero-add}
 use native.Mathlib.Omega.{arith}
 use lib.ListN.{length, getD, take, length-take}
 use lib.Seq.{getD-take}
-use lib.Dec.{eqb, ltb, leb}
-use Rattle.model.specs.Test.{_and_, all, allFrom, count, once}
+use lib.Dec.{eqb, ltb}
+use Rattle.model.specs.Test.{all, allFrom, count, once}
 use Rattle.model.specs.Job.Node.{Dag, dagKept}
 use Rattle.model.specs.Machine.Limits.{Limits}
 use Rattle.model.specs.Machine.Blank.{blankToken, tokenAt}
@@ -162,7 +162,10 @@ module _ (lim : Limits) (d : Dag) (m : Machine) (kept : rulesKept lim d m ≡ tr
         short = names-short isReady (m .tokens) (m .queue) (m .queued) queue-names;
         named = named;
         ready = ready;
-        clear = λ k l. not-under (m .cells) (queuedToken m k) (ready k l) (all-at (notUnderSet (m .cells)) (m .tokens) _ blankToken none-under (named k l));
+        clear =
+            λ k l.
+            not-under (m .cells) (queuedToken m k) (ready k l)
+            (all-at (notUnderSet (m .cells)) (m .tokens) _ blankToken none-under (named k l));
         apart = names-front isReady (m .tokens) (m .queue) (m .queued) queue-names;
       }
     where

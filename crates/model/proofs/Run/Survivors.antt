@@ -23,38 +23,37 @@ unfolding filter
 filter-no f x xs e = rw (e, filter)
 
 -- the position that the k-th of a list has among those that pass
-pub among : (ℕ → Bool) → List ℕ → ℕ → ℕ
+abbrev pub among : (ℕ → Bool) → List ℕ → ℕ → ℕ
 among f xs k = length (filter f (take k xs))
 
-among-none : (f : ℕ → Bool) (xs : List ℕ) → among f xs 0 ≡ 0
-unfolding among filter
-among-none f xs = refl
+-- behind the numbers of ys, zs has x
+pub record Behind (ys zs : List ℕ) (x : ℕ) : Type 0 where
+  pub inside : length ys < length zs
+  pub found : getD zs (length ys) 0 ≡ x
 
-pub record Found (f : ℕ → Bool) (xs : List ℕ) (k : ℕ) : Type 0 where
-  pub inside : among f xs k < length (filter f xs)
-  pub found : getD (filter f xs) (among f xs k) 0 ≡ getD xs k 0
+filter-nil : (f : ℕ → Bool) → filter f [] ≡ []
+unfolding filter
+filter-nil f = refl
 
-pub filter-finds : (f : ℕ → Bool) (xs : List ℕ) (k : ℕ) → k < length xs → f (getD xs k 0) ≡ true → Found f xs k
-unfolding among
+pub filter-finds :
+    (f : ℕ → Bool) (xs : List ℕ) (k : ℕ)
+    → k < length xs
+    → f (getD xs k 0) ≡ true
+    → Behind (filter f (take k xs)) (filter f xs) (getD xs k 0)
 filter-finds f [] k l e = absurd (omega arith)
 filter-finds f (x ∷ xs) zero l e =
-    record {
-      inside = subst₂ (λ n ys. n < length ys) (sym (among-none f (x ∷ xs))) (sym (filter-yes f x xs e)) (omega arith);
-      found = subst₂ (λ n ys. getD ys n 0 ≡ x) (sym (among-none f (x ∷ xs))) (sym (filter-yes f x xs e)) refl;
-    }
+    subst₂ (λ ys zs. Behind ys zs x) (sym (filter-nil f)) (sym (filter-yes f x xs e)) (record { inside = omega arith; found = refl })
 filter-finds f (x ∷ xs) (suc k) l e = go (holds-or-fails (f x)) (filter-finds f xs k (omega arith) e)
   where
-    go : (f x ≡ true) ⊎ (f x ≡ false) → Found f xs k → Found f (x ∷ xs) (suc k)
+    go :
+        (f x ≡ true) ⊎ (f x ≡ false)
+        → Behind (filter f (take k xs)) (filter f xs) (getD xs k 0)
+        → Behind (filter f (x ∷ take k xs)) (filter f (x ∷ xs)) (getD xs k 0)
     go (inl p) r =
-        record {
-          inside = subst₂ (λ ys zs. length ys < length zs) (sym (filter-yes f x (take k xs) p)) (sym (filter-yes f x xs p)) (let z = r .inside in omega arith);
-          found = subst₂ (λ ys zs. getD zs (length ys) 0 ≡ getD xs k 0) (sym (filter-yes f x (take k xs) p)) (sym (filter-yes f x xs p)) (r .found);
-        }
+        subst₂ (λ ys zs. Behind ys zs (getD xs k 0)) (sym (filter-yes f x (take k xs) p)) (sym (filter-yes f x xs p))
+        (record { inside = omega (arith, r .inside); found = r .found })
     go (inr p) r =
-        record {
-          inside = subst₂ (λ ys zs. length ys < length zs) (sym (filter-no f x (take k xs) p)) (sym (filter-no f x xs p)) (r .inside);
-          found = subst₂ (λ ys zs. getD zs (length ys) 0 ≡ getD xs k 0) (sym (filter-no f x (take k xs) p)) (sym (filter-no f x xs p)) (r .found);
-        }
+        subst₂ (λ ys zs. Behind ys zs (getD xs k 0)) (sym (filter-no f x (take k xs) p)) (sym (filter-no f x xs p)) r
 
 -- survivors: at most as many as were counted; all of them if none is ended; those that pass a test, if it tells who is ended
 module _ (d : Dag) (m : Machine) where
@@ -86,8 +85,7 @@ module _ (d : Dag) (m : Machine) where
       (f : ℕ → Bool) (i : ℕ) (xs : List ℕ) (n : ℕ) → n ≤ length xs
       → ((j : ℕ) → j < n → frontEnds d m (i + j) ≡ not (f (getD xs j 0)))
       → survivors d m i n ≡ among f xs n
-  unfolding among
-  survivors-pass f i xs zero l h = survivors-none i ∙ sym (among-none f xs)
+  survivors-pass f i xs zero l h = survivors-none i ∙ ap length (sym (filter-nil f))
   survivors-pass f i [] (suc n) l h = absurd (omega arith)
   survivors-pass f i (x ∷ xs) (suc n) l h = go (f x) refl (survivors-pass f (suc i) xs n (omega arith) later)
     where
