@@ -99,7 +99,7 @@ module _ (lim : Limits) (d : Dag) (m : Machine) (h : QueueKept m) (k : ℕ) (l :
   unharmed : Unharmed watched place m
   unharmed = kept-unharmed m h (suc k) l
 
-  -- the token watched is one position further and else untouched
+  -- the token watched is one position nearer to the front, and else untouched
   abbrev Leaves : Effect → Type 0
   Leaves e = After (Untouched watched place k) e
 
@@ -217,7 +217,7 @@ module _ (lim : Limits) (d : Dag) (m : Machine) (h : QueueKept m) (k : ℕ) (l :
     table Node.choke = inl refl
     table Node.unknown = inr (refl, tt)
 
-  -- choke
+  -- choke: the test that it filters the queue with says who is ended, so the position after it is the count of survivors
   module _ (c : ℕ) (chokes-here : nodeAt d (actor .node) ≡ Node.choke) (cell : actor .cell ≡ places.At c) where
     sets : cellSet (nodeAt d (actor .node)) actor ≡ places.At c
     unfolding cellSet

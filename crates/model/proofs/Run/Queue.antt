@@ -44,13 +44,13 @@ count-more : (n x : ℕ) (q : List ℕ) → count n q ≤ count n (x ∷ q)
 unfolding count
 count-more n x q = omega arith
 
-pub counted : (q : List ℕ) (k : ℕ) → k < length q → 0 < count (getD q k 0) q
+counted : (q : List ℕ) (k : ℕ) → k < length q → 0 < count (getD q k 0) q
 counted [] k l = absurd (omega arith)
 counted (x ∷ q) zero l = let z = count-head x q in omega arith
 counted (x ∷ q) (suc k) l = let z = count-more (getD q k 0) x q in let c = counted q k (omega arith) in omega arith
 
 -- what stands at the front and again behind is counted twice
-pub counted-twice : (q : List ℕ) (k : ℕ) → suc k < length q → getD q 0 0 ≡ getD q (suc k) 0 → 1 < count (getD q (suc k) 0) q
+counted-twice : (q : List ℕ) (k : ℕ) → suc k < length q → getD q 0 0 ≡ getD q (suc k) 0 → 1 < count (getD q (suc k) 0) q
 counted-twice [] k l e = absurd (omega arith)
 counted-twice (x ∷ q) k l e =
     subst (λ n. 1 < count n (x ∷ q)) e
@@ -99,14 +99,14 @@ module _ (of : State → Bool) (ts : List Token) (array : List ℕ) (n : ℕ) (k
   kind-at : ℕ → Bool
   kind-at k = of (tokenAt ts (getD array k 0) .state)
 
-  pub names-kind : (k : ℕ) → k < n → of (tokenAt ts (getD array k 0) .state) ≡ true
+  names-kind : (k : ℕ) → k < n → of (tokenAt ts (getD array k 0) .state) ≡ true
   unfolding kind-at
   names-kind k l =
       once-positive (kind-at k)
       (subst (λ c. 0 < c) (names-count k l)
       (subst (λ p. 0 < count p order) (names-at k l) (counted order k (let z = order-length in omega arith))))
 
-  pub names-front : (k : ℕ) → suc k < n → getD array 0 0 ≡ getD array (suc k) 0 → ⊥
+  names-front : (k : ℕ) → suc k < n → getD array 0 0 ≡ getD array (suc k) 0 → ⊥
   unfolding kind-at
   names-front k l e =
       once-small (kind-at (suc k))
@@ -143,7 +143,7 @@ module _ (lim : Limits) (d : Dag) (m : Machine) (kept : rulesKept lim d m ≡ tr
   unfolding rulesKept
   machine-kept = and-right (dagKept d) _ kept
 
-  pub sizes-kept : sizesInRange lim d m ≡ true
+  sizes-kept : sizesInRange lim d m ≡ true
   unfolding machineKept
   sizes-kept = and-left _ _ machine-kept
 
