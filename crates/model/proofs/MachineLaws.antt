@@ -5,3 +5,4 @@ pub mod InUse
 pub mod Kept
 pub mod Places
 pub mod Refused
+pub mod Rules
