@@ -1,3 +1,11 @@
 -- Laws of runs.
 pub mod Computing
 pub mod Marked
+pub mod Queue
+pub mod Survivors
+pub mod Chain
+pub mod Bystander
+pub mod Choking
+pub mod Passing
+pub mod Answering
+pub mod Last

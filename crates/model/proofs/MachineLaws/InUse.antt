@@ -1,0 +1,243 @@
+-- In use: the active tokens and what they reach by caller; the cells that tokens in use name and what those reach by parent; and nothing else.
+-- Both are what is reached from some places by a link (Reach). Assumes nothing.
+use mathlib.Core.Path.{_≡_, refl, sym, _∙_, ap, subst}
+use mathlib.Core.Logic.{_⊎_, inl, inr}
+use mathlib.Core.Bool.{Bool, true, false}
+use mathlib.Core.List.{List, [], _∷_, _++_, map, List·Memᴰ, List·Memᴰ·head, List·Memᴰ·tail, List·Memᴰ·not-nil, List·Memᴰ·append-cases, Memᴰ·append-left, Memᴰ·append-right}
+use Prim.Native.Nat.{ℕ, zero, suc, _+_, _<_, _≤_}
+use native.Mathlib.Decide.{decLt}
+use native.Mathlib.Omega.{arith}
+use lib.ListN.{length, getD, replicate, List·getD-eq-default}
+use Rattle.model.specs.Machine.Blank.{empty, unbound, blankToken, blankCell, tokenAt, cellAt, slotAt}
+use Rattle.model.specs.Machine.Active.{isActive, isLive}
+use Rattle.model.specs.Machine.InUse.{reached, activePlaces, boundCell, cellsOf, cellsOfMarked, usedTokens, usedCells, tokensUsed, cellsUsed}
+use Rattle.model.specs.declared.token.Slot.{Slot}
+use Rattle.model.specs.declared.token.Slot.the-variants as slots
+use Rattle.model.specs.declared.token.Bind.{Bind}
+use Rattle.model.specs.declared.token.Place.{Place}
+use Rattle.model.specs.declared.token.Place.the-variants as places
+use Rattle.model.specs.declared.token.Token.{Token}
+use Rattle.model.specs.declared.cell.Cell.{Cell}
+use Rattle.model.specs.declared.machine.Machine.{Machine}
+use Rattle.model.proofs.Test.{clash}
+use Rattle.model.proofs.MachineLaws.Marks.{Marked}
+use Rattle.model.proofs.MachineLaws.Reach.{Names, names-nowhere, Reached, reached-law}
+
+-- behind the end of a table all is blank
+pub token-outside : (ts : List Token) (i : ℕ) → length ts ≤ i → tokenAt ts i ≡ blankToken
+unfolding tokenAt
+token-outside ts i l = List·getD-eq-default ts blankToken l
+
+pub cell-outside : (cs : List Cell) (c : ℕ) → length cs ≤ c → cellAt cs c ≡ blankCell
+unfolding cellAt
+cell-outside cs c l = List·getD-eq-default cs blankCell l
+
+pub blank-inactive : (cs : List Cell) → isActive cs blankToken ≡ false
+unfolding isActive isLive
+blank-inactive cs = refl
+
+pub active-inside : (ts : List Token) (cs : List Cell) (i : ℕ) → isActive cs (tokenAt ts i) ≡ true → i < length ts
+active-inside ts cs i e = go (decLt i (length ts))
+  where
+    go : Dec (i < length ts) → i < length ts
+    go (yes l) = l
+    go (no n) = clash e (ap (isActive cs) (token-outside ts i (omega arith)) ∙ blank-inactive cs)
+
+-- the places of the active tokens
+module _ (cs : List Cell) where
+  abbrev here : Bool → ℕ → List Place → List Place
+  here b i rest = elim b [ true ↦ places.At i ∷ rest | false ↦ rest ]
+
+  active-place : (i : ℕ) (ts : List Token) (k : ℕ) → isActive cs (tokenAt ts k) ≡ true → List·Memᴰ (places.At (i + k)) (activePlaces cs i ts)
+  unfolding activePlaces tokenAt
+  active-place i [] k e = clash e (blank-inactive cs)
+  active-place i (t ∷ ts) zero e = go (isActive cs t) e
+    where
+      go : (b : Bool) → b ≡ true → List·Memᴰ (places.At (i + 0)) (here b i (activePlaces cs (suc i) ts))
+      go true x = List·Memᴰ·head (ap places.At (let z : i + 0 ≡ i = omega arith in z))
+      go false x = clash x refl
+  active-place i (t ∷ ts) (suc k) e = go (isActive cs t) (active-place (suc i) ts k e)
+    where
+      later : List·Memᴰ (places.At (suc i + k)) (activePlaces cs (suc i) ts) → List·Memᴰ (places.At (i + suc k)) (activePlaces cs (suc i) ts)
+      later m = subst (λ n. List·Memᴰ (places.At n) (activePlaces cs (suc i) ts)) (let z : suc i + k ≡ i + suc k = omega arith in z) m
+
+      go : (b : Bool) → List·Memᴰ (places.At (suc i + k)) (activePlaces cs (suc i) ts) → List·Memᴰ (places.At (i + suc k)) (here b i (activePlaces cs (suc i) ts))
+      go true m = List·Memᴰ·tail (later m)
+      go false m = later m
+
+  place-active : (i : ℕ) (ts : List Token) (j : ℕ) → List·Memᴰ (places.At j) (activePlaces cs i ts) → (k : ℕ) × (j ≡ i + k) × (isActive cs (tokenAt ts k) ≡ true)
+  unfolding activePlaces tokenAt
+  place-active i [] j m = absurd (List·Memᴰ·not-nil m)
+  place-active i (t ∷ ts) j m = go (isActive cs t) refl (λ x. place-active (suc i) ts j x) m
+    where
+      Found : Type 0
+      Found = (k : ℕ) × (j ≡ i + k) × (isActive cs (getD (t ∷ ts) k blankToken) ≡ true)
+
+      later : (k : ℕ) × (j ≡ suc i + k) × (isActive cs (getD ts k blankToken) ≡ true) → Found
+      later (k, e, h) = (suc k, (let z : j ≡ i + suc k = omega arith in z), h)
+
+      go : (b : Bool) → isActive cs t ≡ b
+          → (List·Memᴰ (places.At j) (activePlaces cs (suc i) ts) → (k : ℕ) × (j ≡ suc i + k) × (isActive cs (getD ts k blankToken) ≡ true))
+          → List·Memᴰ (places.At j) (here b i (activePlaces cs (suc i) ts)) → Found
+      go true h f (List·Memᴰ·head e) = (0, (let z : j ≡ i = cc in omega arith), h)
+      go true h f (List·Memᴰ·tail x) = later (f x)
+      go false h f x = later (f x)
+
+  -- from the first place on, they are the active ones exactly
+  pub active-places : (ts : List Token) (i : ℕ) → isActive cs (tokenAt ts i) ≡ true → List·Memᴰ (places.At i) (activePlaces cs 0 ts)
+  active-places ts i e =
+      subst (λ n. List·Memᴰ (places.At n) (activePlaces cs 0 ts)) (let z : 0 + i ≡ i = omega arith in z) (active-place 0 ts i e)
+
+  pub places-active : (ts : List Token) (i : ℕ) → List·Memᴰ (places.At i) (activePlaces cs 0 ts) → isActive cs (tokenAt ts i) ≡ true
+  places-active ts i m = go (place-active 0 ts i m)
+    where
+      go : (k : ℕ) × (i ≡ 0 + k) × (isActive cs (tokenAt ts k) ≡ true) → isActive cs (tokenAt ts i) ≡ true
+      go (k, e, a) = subst (λ n. isActive cs (tokenAt ts n) ≡ true) (let z : k ≡ i = omega arith in z) a
+
+-- the tokens in use
+pub record TokensUsed (ts : List Token) (cs : List Cell) (used : List Bool) : Type 1 where
+  pub size : length used ≡ length ts
+  pub active : (i : ℕ) → isActive cs (tokenAt ts i) ≡ true → Marked used i
+  pub caller : (i : ℕ) → Marked used i → Names (Marked used) (tokenAt ts i .caller)
+  pub least :
+      (Q : ℕ → Type 0)
+      → ((i : ℕ) → isActive cs (tokenAt ts i) ≡ true → Q i)
+      → ((i : ℕ) → i < length ts → Q i → Names Q (tokenAt ts i .caller))
+      → (i : ℕ)
+      → i < length ts
+      → Marked used i
+      → Q i
+
+pub tokens-used : (ts : List Token) (cs : List Cell) → TokensUsed ts cs (usedTokens ts cs)
+unfolding usedTokens tokenAt
+tokens-used ts cs =
+    record {
+      size = g .size;
+      active = λ i e. g .given i (active-places cs ts i e);
+      caller = λ i m. next i m (decLt i (length ts));
+      least = λ Q h c i l m. g .least Q (λ j x. h j (places-active cs ts j x)) c i l m;
+    }
+  where
+    g : Reached (λ (t : Token). t .caller) blankToken ts (activePlaces cs 0 ts) (usedTokens ts cs)
+    g = reached-law (λ (t : Token). t .caller) blankToken ts (activePlaces cs 0 ts)
+
+    next : (i : ℕ) → Marked (usedTokens ts cs) i → Dec (i < length ts) → Names (Marked (usedTokens ts cs)) (tokenAt ts i .caller)
+    next i m (yes l) = g .closed i l m
+    next i m (no n) =
+        subst (λ (t : Token). Names (Marked (usedTokens ts cs)) (t .caller)) (sym (token-outside ts i (omega arith))) (names-nowhere _)
+
+-- the cells that a token names: its own and the bound ones
+pub record CellsIn (Q : ℕ → Type 0) (t : Token) : Type 0 where
+  pub cell : Names Q (t .cell)
+  pub binds : (x c : ℕ) → slotAt (t .binds) x ≡ slots.Cell c → Q c
+
+bound-place : (bs : List Bind) (x c : ℕ) → slotAt bs x ≡ slots.Cell c → List·Memᴰ (places.At c) (map boundCell bs)
+unfolding slotAt boundCell
+bound-place [] x c e = let z : _≡_ {A = ℕ} 0 1 = cc in absurd (omega arith)
+bound-place (b ∷ bs) zero c e = List·Memᴰ·head (sym (go (b .slot) e))
+  where
+    go : (s : Slot) → s ≡ slots.Cell c → elim s as (λ s. Place) [ slots.Empty ↦ places.Nowhere | slots.Value v ↦ places.Nowhere | slots.Cell c ↦ places.At c ] ≡ places.At c
+    go slots.Empty e = let z : _≡_ {A = ℕ} 0 1 = cc in absurd (omega arith)
+    go (slots.Value v) e = let z : _≡_ {A = ℕ} 0 1 = cc in absurd (omega arith)
+    go (slots.Cell b) e = ap places.At (let z : b ≡ c = cc in z)
+bound-place (b ∷ bs) (suc x) c e = List·Memᴰ·tail (bound-place bs x c e)
+
+place-bound : (bs : List Bind) (c : ℕ) → List·Memᴰ (places.At c) (map boundCell bs) → (x : ℕ) × (slotAt bs x ≡ slots.Cell c)
+unfolding slotAt boundCell
+place-bound [] c m = absurd (List·Memᴰ·not-nil m)
+place-bound (b ∷ bs) c m = go m (λ x. place-bound bs c x)
+  where
+    bound : (s : Slot) → elim s as (λ s. Place) [ slots.Empty ↦ places.Nowhere | slots.Value v ↦ places.Nowhere | slots.Cell c ↦ places.At c ] ≡ places.At c → s ≡ slots.Cell c
+    bound slots.Empty e = let z : _≡_ {A = ℕ} 0 1 = cc in absurd (omega arith)
+    bound (slots.Value v) e = let z : _≡_ {A = ℕ} 0 1 = cc in absurd (omega arith)
+    bound (slots.Cell b) e = ap slots.Cell (let z : b ≡ c = cc in z)
+
+    go : List·Memᴰ (places.At c) (map boundCell (b ∷ bs)) → (List·Memᴰ (places.At c) (map boundCell bs) → (x : ℕ) × (slotAt bs x ≡ slots.Cell c)) → (x : ℕ) × (slotAt (b ∷ bs) x ≡ slots.Cell c)
+    go (List·Memᴰ·head e) f = (0, bound (b .slot) (sym e))
+    go (List·Memᴰ·tail x) f = let y = f x in (suc (y .0), y .1)
+
+cells-of : (Q : ℕ → Type 0) (t : Token) → ((c : ℕ) → List·Memᴰ (places.At c) (cellsOf t) → Q c) → CellsIn Q t
+unfolding cellsOf
+cells-of Q t h = record { cell = λ c e. h c (List·Memᴰ·head (sym e)); binds = λ x c e. h c (List·Memᴰ·tail (bound-place (t .binds) x c e)) }
+
+of-cells : (Q : ℕ → Type 0) (t : Token) → CellsIn Q t → (c : ℕ) → List·Memᴰ (places.At c) (cellsOf t) → Q c
+unfolding cellsOf
+of-cells Q t h c (List·Memᴰ·head e) = h .cell c (sym e)
+of-cells Q t h c (List·Memᴰ·tail m) = let y = place-bound (t .binds) c m in h .binds (y .0) c (y .1)
+
+slot-unbound : (n x c : ℕ) → slotAt (replicate n empty) x ≡ slots.Cell c → ⊥
+unfolding slotAt
+slot-unbound zero x c e = let z : _≡_ {A = ℕ} 0 1 = cc in omega arith
+slot-unbound (suc n) zero c e = let z : _≡_ {A = ℕ} 0 1 = cc in omega arith
+slot-unbound (suc n) (suc x) c e = slot-unbound n x c e
+
+pub cells-in-blank : (Q : ℕ → Type 0) → CellsIn Q blankToken
+cells-in-blank Q = record { cell = names-nowhere Q; binds = λ x c e. absurd (slot-unbound 8 x c e) }
+
+pub cells-in-map : {P Q : ℕ → Type 0} {t : Token} → ((c : ℕ) → P c → Q c) → CellsIn P t → CellsIn Q t
+cells-in-map f h = record { cell = λ c e. f c (h .cell c e); binds = λ x c e. f c (h .binds x c e) }
+
+-- the places that the marked tokens name
+marked-names : (used : List Bool) (ts : List Token) (i : ℕ) → length used ≡ length ts → i < length ts → Marked used i
+    → (q : Place) → List·Memᴰ q (cellsOf (tokenAt ts i)) → List·Memᴰ q (cellsOfMarked used ts)
+unfolding cellsOfMarked tokenAt
+marked-names used [] i s l h q m = absurd (omega arith)
+marked-names [] (t ∷ ts) i s l h q m = absurd (omega arith)
+marked-names (true ∷ used) (t ∷ ts) zero s l h q m = Memᴰ·append-left _ m
+marked-names (false ∷ used) (t ∷ ts) zero s l h q m = clash h refl
+marked-names (true ∷ used) (t ∷ ts) (suc i) s l h q m = Memᴰ·append-right (cellsOf t) (marked-names used ts i (omega arith) (omega arith) h q m)
+marked-names (false ∷ used) (t ∷ ts) (suc i) s l h q m = marked-names used ts i (omega arith) (omega arith) h q m
+
+names-marked : (Q : Place → Type 0) (used : List Bool) (ts : List Token)
+    → ((i : ℕ) → i < length ts → Marked used i → (q : Place) → List·Memᴰ q (cellsOf (tokenAt ts i)) → Q q)
+    → (q : Place) → List·Memᴰ q (cellsOfMarked used ts) → Q q
+unfolding cellsOfMarked tokenAt
+names-marked Q used [] h q m = absurd (List·Memᴰ·not-nil m)
+names-marked Q [] (t ∷ ts) h q m = absurd (List·Memᴰ·not-nil m)
+names-marked Q (true ∷ used) (t ∷ ts) h q m = go (List·Memᴰ·append-cases (cellsOf t) m) (λ x. names-marked Q used ts (λ i l. h (suc i) (omega arith)) q x)
+  where
+    go : List·Memᴰ q (cellsOf t) ⊎ List·Memᴰ q (cellsOfMarked used ts) → (List·Memᴰ q (cellsOfMarked used ts) → Q q) → Q q
+    go (inl x) f = h 0 (omega arith) refl q x
+    go (inr x) f = f x
+names-marked Q (false ∷ used) (t ∷ ts) h q m = names-marked Q used ts (λ i l. h (suc i) (omega arith)) q m
+
+-- the cells in use
+pub record CellsUsed (used : List Bool) (ts : List Token) (cs : List Cell) (r : List Bool) : Type 1 where
+  pub size : length r ≡ length cs
+  pub named : (i : ℕ) → Marked used i → CellsIn (Marked r) (tokenAt ts i)
+  pub parent : (c : ℕ) → Marked r c → Names (Marked r) (cellAt cs c .parent)
+  pub least :
+      (Q : ℕ → Type 0)
+      → ((i : ℕ) → i < length ts → Marked used i → CellsIn Q (tokenAt ts i))
+      → ((c : ℕ) → c < length cs → Q c → Names Q (cellAt cs c .parent))
+      → (c : ℕ)
+      → c < length cs
+      → Marked r c
+      → Q c
+
+pub cells-used : (used : List Bool) (ts : List Token) (cs : List Cell) → length used ≡ length ts → CellsUsed used ts cs (usedCells used ts cs)
+unfolding usedCells cellAt
+cells-used used ts cs s =
+    record {
+      size = g .size;
+      named = λ i m. named i m (decLt i (length ts));
+      parent = λ c m. next c m (decLt c (length cs));
+      least = λ Q h n c l m. g .least Q (λ b x. only Q h b x) n c l m;
+    }
+  where
+    r : List Bool
+    r = usedCells used ts cs
+
+    g : Reached (λ (c : Cell). c .parent) blankCell cs (cellsOfMarked used ts) r
+    g = reached-law (λ (c : Cell). c .parent) blankCell cs (cellsOfMarked used ts)
+
+    named : (i : ℕ) → Marked used i → Dec (i < length ts) → CellsIn (Marked r) (tokenAt ts i)
+    named i m (yes l) = cells-of (Marked r) (tokenAt ts i) (λ c x. g .given c (marked-names used ts i s l m (places.At c) x))
+    named i m (no n) = subst (CellsIn (Marked r)) (sym (token-outside ts i (omega arith))) (cells-in-blank (Marked r))
+
+    next : (c : ℕ) → Marked r c → Dec (c < length cs) → Names (Marked r) (cellAt cs c .parent)
+    next c m (yes l) = g .closed c l m
+    next c m (no n) = subst (λ (k : Cell). Names (Marked r) (k .parent)) (sym (cell-outside cs c (omega arith))) (names-nowhere _)
+
+    only : (Q : ℕ → Type 0) → ((i : ℕ) → i < length ts → Marked used i → CellsIn Q (tokenAt ts i)) → (b : ℕ) → List·Memᴰ (places.At b) (cellsOfMarked used ts) → Q b
+    only Q h b x = names-marked (λ q. Names Q q) used ts (λ i l m q y a e. of-cells Q (tokenAt ts i) (h i l m) a (subst (λ p. List·Memᴰ p (cellsOf (tokenAt ts i))) e y)) (places.At b) x b refl

@@ -1,0 +1,54 @@
+-- Blanking keeps what is marked and makes the rest blank, place by place, by induction over the table. Assumes nothing.
+use mathlib.Core.Path.{_≡_, refl, sym, _∙_, ap}
+use mathlib.Core.Logic.{_⊎_, inl, inr}
+use mathlib.Core.Bool.{Bool, true, false}
+use mathlib.Core.List.{List, [], _∷_}
+use Prim.Native.Nat.{ℕ, zero, suc, _<_, _≤_}
+use native.Mathlib.Omega.{arith}
+use lib.ListN.{length, getD}
+use Rattle.model.specs.Machine.InUse.{kept}
+use Rattle.model.proofs.Test.{clash}
+use Rattle.model.proofs.MachineLaws.Marks.{Marked, Free}
+
+module _ {A : Type 0} (blank : A) where
+  pub length-kept : (marks : List Bool) (xs : List A) → length (kept blank marks xs) ≡ length xs
+  unfolding kept
+  length-kept marks [] = refl
+  length-kept [] (x ∷ xs) = ap suc (length-kept [] xs)
+  length-kept (true ∷ marks) (x ∷ xs) = ap suc (length-kept marks xs)
+  length-kept (false ∷ marks) (x ∷ xs) = ap suc (length-kept marks xs)
+
+  pub kept-marked :
+      (marks : List Bool) (xs : List A) (i : ℕ)
+      → length marks ≡ length xs
+      → Marked marks i
+      → getD (kept blank marks xs) i blank ≡ getD xs i blank
+  unfolding kept
+  kept-marked marks [] i l m = refl
+  kept-marked [] (x ∷ xs) i l m = absurd (omega arith)
+  kept-marked (true ∷ marks) (x ∷ xs) zero l m = refl
+  kept-marked (true ∷ marks) (x ∷ xs) (suc i) l m = kept-marked marks xs i (omega arith) m
+  kept-marked (false ∷ marks) (x ∷ xs) zero l m = clash m refl
+  kept-marked (false ∷ marks) (x ∷ xs) (suc i) l m = kept-marked marks xs i (omega arith) m
+
+  pub kept-free : (marks : List Bool) (xs : List A) (i : ℕ) → Free marks i → getD (kept blank marks xs) i blank ≡ blank
+  unfolding kept
+  kept-free marks [] i e = refl
+  kept-free [] (x ∷ xs) i e = clash refl e
+  kept-free (true ∷ marks) (x ∷ xs) zero e = clash refl e
+  kept-free (true ∷ marks) (x ∷ xs) (suc i) e = kept-free marks xs i e
+  kept-free (false ∷ marks) (x ∷ xs) zero e = refl
+  kept-free (false ∷ marks) (x ∷ xs) (suc i) e = kept-free marks xs i e
+
+  -- what stands at a place afterwards stood there before, or is blank
+  pub kept-cases :
+      (marks : List Bool) (xs : List A) (i : ℕ)
+      → (getD (kept blank marks xs) i blank ≡ getD xs i blank) ⊎ (getD (kept blank marks xs) i blank ≡ blank)
+  unfolding kept
+  kept-cases marks [] i = inr refl
+  kept-cases [] (x ∷ xs) zero = inr refl
+  kept-cases [] (x ∷ xs) (suc i) = kept-cases [] xs i
+  kept-cases (true ∷ marks) (x ∷ xs) zero = inl refl
+  kept-cases (true ∷ marks) (x ∷ xs) (suc i) = kept-cases marks xs i
+  kept-cases (false ∷ marks) (x ∷ xs) zero = inr refl
+  kept-cases (false ∷ marks) (x ∷ xs) (suc i) = kept-cases marks xs i

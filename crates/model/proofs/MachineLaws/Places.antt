@@ -1,0 +1,73 @@
+-- The place given to a new record was not in use, if some place was not: the search goes once round the table, so it comes to that place or
+-- stops at one before it. Assumes nothing.
+use mathlib.Core.Path.{_≡_, refl, sym, _∙_, ap, subst}
+use mathlib.Core.Bool.{Bool, true, false}
+use mathlib.Core.List.{List, [], _∷_}
+use Prim.Native.Nat.{ℕ, zero, suc, _+_, _<_, _≤_}
+use native.Mathlib.Decide.{decLt}
+use native.Mathlib.Omega.{arith}
+use lib.ListN.{length, getD}
+use lib.Dec.{ltb}
+use Rattle.model.specs.Machine.InUse.{marked}
+use Rattle.model.specs.Machine.Places.{around, freeFrom, nextPlace}
+use Rattle.model.proofs.Test.{clash, lt-ltb, le-not-ltb}
+use Rattle.model.proofs.MachineLaws.Marks.{Marked, Free, free-inside, some-free}
+
+around-inside : (n p : ℕ) → p < n → around n p ≡ p
+unfolding around
+around-inside n p l = rw (lt-ltb p n l, around) refl
+
+around-outside : (n p : ℕ) → n ≤ p → around n p ≡ 0
+unfolding around
+around-outside n p l = rw (le-not-ltb p n l, around) refl
+
+module _ (marks : List Bool) where
+  -- the search at place q, with n places after it
+  lookAt : ℕ → ℕ → ℕ
+  lookAt n q = elim (getD marks q true) [ true ↦ freeFrom marks n (suc q) | false ↦ q ]
+
+  free-from : (n p q : ℕ) → around (length marks) p ≡ q → freeFrom marks (suc n) p ≡ lookAt n q
+  unfolding freeFrom lookAt
+  free-from n p q e = ap (lookAt n) e
+
+  look-free : (n q : ℕ) → (Marked marks q → Free marks (freeFrom marks n (suc q))) → Free marks (lookAt n q)
+  unfolding lookAt
+  look-free n q h = go (getD marks q true) refl
+    where
+      go : (b : Bool) → getD marks q true ≡ b → Free marks (elim b [ true ↦ freeFrom marks n (suc q) | false ↦ q ])
+      go true e = h e
+      go false e = e
+
+  later : (q j : ℕ) → Marked marks q → Free marks j → q ≤ j → q < j
+  later q j m f l = let n : q ≡ j → ⊥ = λ e. clash m (ap (λ x. getD marks x true) e ∙ f) in omega arith
+
+  -- the free place j lies ahead
+  ahead : (n q j : ℕ) → Free marks j → j < length marks → q ≤ j → j < q + n → Free marks (freeFrom marks n q)
+  ahead zero q j f l k h = absurd (omega arith)
+  ahead (suc n) q j f l k h =
+      subst
+      (Free marks)
+      (sym (free-from n q q (around-inside (length marks) q (omega arith))))
+      (look-free n q (λ m. ahead n (suc q) j f l (later q j m f k) (omega arith)))
+
+  -- the free place j comes after the turn at the end
+  behind : (n q j : ℕ) → Free marks j → j < length marks → q ≤ length marks → length marks + j < q + n → Free marks (freeFrom marks n q)
+  behind zero q j f l k h = absurd (omega arith)
+  behind (suc n) q j f l k h = go (decLt q (length marks)) (λ x. behind n (suc q) j f l (omega arith) (omega arith))
+    where
+      go : Dec (q < length marks) → (q < length marks → Free marks (freeFrom marks n (suc q))) → Free marks (freeFrom marks (suc n) q)
+      go (yes x) next =
+          subst (Free marks) (sym (free-from n q q (around-inside (length marks) q x))) (look-free n q (λ m. next x))
+      go (no x) next =
+          subst
+          (Free marks)
+          (sym (free-from n q 0 (around-outside (length marks) q (omega arith))))
+          (look-free n 0 (λ m. ahead n 1 j f l (later 0 j m f (omega arith)) (omega arith)))
+
+pub next-place-free : (marks : List Bool) (last : ℕ) → last < length marks → marked marks < length marks → getD marks (nextPlace marks last) true ≡ false
+unfolding nextPlace
+next-place-free marks last l h = let x = some-free marks h in go (x .0) (x .1) (free-inside marks (x .0) (x .1)) (decLt last (x .0))
+  where
+    go : (j : ℕ) → Free marks j → j < length marks → Dec (last < j) → Free marks (freeFrom marks (length marks) (suc last))
+    go j f k (yes x) = ahead marks (length marks) (suc last) j f k (omega arith) (omega arith)
+    go j f k (no x) = behind marks (length marks) (suc last) j f k (omega arith) (omega arith)

@@ -1,0 +1,158 @@
+-- A refusal leaves the record, and an accepted call was tested: by the shape of an outcome, which has the old record exactly where its effect
+-- refuses. Assumes nothing.
+use mathlib.Core.Path.{_≡_, refl, sym, _∙_, ap, subst}
+use mathlib.Core.Bool.{Bool, true, false}
+use mathlib.Core.List.{[]}
+use Prim.Native.Nat.{ℕ, _<_}
+use native.Mathlib.Omega.{arith}
+use lib.Dec.{ltb}
+use lib.IntN.{ℤ}
+use Rattle.model.specs.Job.Node.{Dag, dagKept}
+use Rattle.model.specs.Machine.Limits.{Limits}
+use Rattle.model.specs.Machine.Blank.{blankMachine}
+use Rattle.model.specs.Machine.InUse.{finish}
+use Rattle.model.specs.Machine.Rules.{rulesKept}
+use Rattle.model.specs.Machine.Reply.{Effect, moves, waits, publishes, calls, refuses, accepted, outcome, unless, valuesBeside, isRefused}
+use Rattle.model.specs.Machine.Start.{start, startMachine}
+use Rattle.model.specs.Machine.Step.{step, takes}
+use Rattle.model.specs.Machine.Answer.{answer, answered, holder}
+use Rattle.model.specs.declared.machine.Machine.{Machine}
+use Rattle.model.specs.declared.reply.Refusal.{Refusal}
+use Rattle.model.specs.declared.reply.Refusal.the-variants as refusals
+use Rattle.model.specs.declared.reply.Reply.{Reply}
+use Rattle.model.specs.declared.reply.Reply.the-variants as replies
+use Rattle.model.specs.declared.reply.Outcome.{Outcome}
+use Rattle.model.proofs.Test.{clash, ltb-lt}
+
+-- the reply says whether the call was refused
+pub refused-is : (r : Reply) (why : Refusal) → r ≡ replies.Refused why → isRefused r ≡ true
+unfolding isRefused
+refused-is r why e = ap isRefused e
+
+-- one lemma over effects
+pub outcome-refused : (m : Machine) (e : Effect) → isRefused (outcome m e .reply) ≡ true → outcome m e .machine ≡ m
+unfolding outcome accepted isRefused
+outcome-refused m (moves o) h = clash h refl
+outcome-refused m (waits o) h = clash h refl
+outcome-refused m (publishes v o) h = clash h refl
+outcome-refused m (calls n s vs o) h = clash h refl
+outcome-refused m (refuses r) h = refl
+
+unless-accepted : (m : Machine) (b : Bool) (r : Refusal) (e : Effect) → isRefused (outcome m (unless b r e) .reply) ≡ false → b ≡ true
+unfolding unless outcome isRefused
+unless-accepted m true r e h = refl
+unless-accepted m false r e h = clash refl h
+
+unless-true : (b : Bool) (r : Refusal) (e : Effect) → b ≡ true → unless b r e ≡ e
+unfolding unless
+unless-true true r e h = refl
+unless-true false r e h = clash h refl
+
+-- a property of the machine of an accepted effect, before it is blanked
+unfoldable pub After : (Machine → Type 0) → Effect → Type 0
+After P (moves o) = P o
+After P (waits o) = P o
+After P (publishes v o) = P o
+After P (calls n s vs o) = P o
+After P (refuses r) = Unit
+
+pub after-unless : (P : Machine → Type 0) (b : Bool) (r : Refusal) (e : Effect) → (b ≡ true → After P e) → After P (unless b r e)
+unfolding After unless
+after-unless P true r e h = h refl
+after-unless P false r e h = tt
+
+pub after-outcome :
+    (P Q : Machine → Type 0)
+    → ((o : Machine) → P o → Q (finish o))
+    → (m : Machine) (e : Effect)
+    → After P e
+    → isRefused (outcome m e .reply) ≡ false
+    → Q (outcome m e .machine)
+unfolding After outcome accepted isRefused
+after-outcome P Q f m (moves o) h a = f o h
+after-outcome P Q f m (waits o) h a = f o h
+after-outcome P Q f m (publishes v o) h a = f o h
+after-outcome P Q f m (calls n s vs o) h a = f o h
+after-outcome P Q f m (refuses r) h a = clash refl a
+
+-- "a refusal leaves machine and dag as before the call"
+pub step-refused :
+    (lim : Limits) (d : Dag) (m : Machine) (place : ℕ) (r : Refusal)
+    → step lim d m place .reply ≡ replies.Refused r
+    → step lim d m place .machine ≡ m
+unfolding step
+step-refused lim d m place r e = outcome-refused m _ (refused-is _ r e)
+
+pub answer-refused :
+    (lim : Limits) (d : Dag) (m : Machine) (handle : ℕ) (value : ℤ) (r : Refusal)
+    → answer lim d m handle value .reply ≡ replies.Refused r
+    → answer lim d m handle value .machine ≡ m
+unfolding answer
+answer-refused lim d m h v r e = outcome-refused m _ (refused-is _ r e)
+
+-- a refused start hands back the blank record
+pub start-refused :
+    (lim : Limits) (d : Dag) (r : Refusal)
+    → start lim d .reply ≡ replies.Refused r
+    → start lim d .machine ≡ blankMachine lim
+unfolding start
+start-refused lim d r e = go (dagKept d) e
+  where
+    begun : Bool → Outcome
+    begun b =
+        elim b [
+          | true ↦ record { reply = replies.Done; values = valuesBeside []; machine = startMachine lim (d .goal) }
+          | false ↦ record { reply = replies.Refused refusals.Rule; values = valuesBeside []; machine = blankMachine lim }
+        ]
+
+    go : (b : Bool) → begun b .reply ≡ replies.Refused r → begun b .machine ≡ blankMachine lim
+    go true x = let z : _≡_ {A = ℕ} 0 1 = cc in absurd (omega arith)
+    go false x = refl
+
+-- "A step tests 14, 9": an accepted step kept the rules, took a queued token and did what its node does
+pub record StepAccepted (lim : Limits) (d : Dag) (m : Machine) (place : ℕ) : Type 0 where
+  pub kept : rulesKept lim d m ≡ true
+  pub queued : place < m .queued
+  pub does : step lim d m place ≡ outcome m (takes lim d m place)
+
+pub step-accepted :
+    (lim : Limits) (d : Dag) (m : Machine) (place : ℕ)
+    → isRefused (step lim d m place .reply) ≡ false
+    → StepAccepted lim d m place
+unfolding step
+step-accepted lim d m place a = record { kept = k; queued = ltb-lt place (m .queued) q; does = ap (outcome m) (tested ∙ there) }
+  where
+    inner : Effect
+    inner = unless (ltb place (m .queued)) refusals.NoToken (takes lim d m place)
+
+    k : rulesKept lim d m ≡ true
+    k = unless-accepted m (rulesKept lim d m) refusals.Rule inner a
+
+    tested : unless (rulesKept lim d m) refusals.Rule inner ≡ inner
+    tested = unless-true (rulesKept lim d m) refusals.Rule inner k
+
+    q : ltb place (m .queued) ≡ true
+    q =
+        unless-accepted m (ltb place (m .queued)) refusals.NoToken (takes lim d m place)
+        (subst (λ e. isRefused (outcome m e .reply) ≡ false) tested a)
+
+    there : inner ≡ takes lim d m place
+    there = unless-true (ltb place (m .queued)) refusals.NoToken (takes lim d m place) q
+
+-- "An answer tests 14, 12"
+pub record AnswerAccepted (lim : Limits) (d : Dag) (m : Machine) (handle : ℕ) (value : ℤ) : Type 0 where
+  pub kept : rulesKept lim d m ≡ true
+  pub does : answer lim d m handle value ≡ outcome m (answered m value (holder handle 0 (m .tokens)))
+
+pub answer-accepted :
+    (lim : Limits) (d : Dag) (m : Machine) (handle : ℕ) (value : ℤ)
+    → isRefused (answer lim d m handle value .reply) ≡ false
+    → AnswerAccepted lim d m handle value
+unfolding answer
+answer-accepted lim d m h v a = record { kept = k; does = ap (outcome m) (unless-true (rulesKept lim d m) refusals.Rule inner k) }
+  where
+    inner : Effect
+    inner = answered m v (holder h 0 (m .tokens))
+
+    k : rulesKept lim d m ≡ true
+    k = unless-accepted m (rulesKept lim d m) refusals.Rule inner a

@@ -1,0 +1,117 @@
+-- An answer, accepted or not, leaves each token of the queue as it is and at its position: it writes at the place of a token that is called
+-- out, so not ready, and puts it at the back. Assumes nothing.
+use mathlib.Core.Path.{_≡_, refl, sym, subst}
+use mathlib.Core.Logic.{_⊎_, inl, inr}
+use mathlib.Core.Bool.{Bool, true, false}
+use mathlib.Core.List.{List, [], _∷_}
+use Prim.Native.Nat.{ℕ, suc, _+_, _<_}
+use native.Mathlib.Omega.{arith}
+use lib.ListN.{getD, length-take}
+use lib.Seq.{getD-take}
+use lib.Dec.{eqb}
+use lib.IntN.{ℤ}
+use Rattle.model.specs.Test.{any}
+use Rattle.model.specs.Job.Node.{Dag}
+use Rattle.model.specs.Machine.Limits.{Limits}
+use Rattle.model.specs.Machine.Blank.{blankToken, tokenAt}
+use Rattle.model.specs.Machine.Rules.{handleOf, isReady}
+use Rattle.model.specs.Machine.Reply.{Effect, isRefused}
+use Rattle.model.specs.Machine.Step.{queueOf}
+use Rattle.model.specs.Machine.Answer.{holder, answered, answer}
+use Rattle.model.specs.Run.Follow.{queuedToken, Stands}
+use Rattle.model.specs.declared.token.Place.{Place}
+use Rattle.model.specs.declared.token.Place.the-variants as places
+use Rattle.model.specs.declared.token.State.{State}
+use Rattle.model.specs.declared.token.State.the-variants as states
+use Rattle.model.specs.declared.token.Token.{Token}
+use Rattle.model.specs.declared.machine.Machine.{Machine}
+use Rattle.model.specs.declared.reply.Outcome.{Outcome}
+use Rattle.model.proofs.Test.{clash, holds-or-fails}
+use Rattle.model.proofs.MachineLaws.Refused.{After, after-outcome, outcome-refused, AnswerAccepted, answer-accepted}
+use Rattle.model.proofs.Run.Queue.{QueueKept, queue-kept}
+use Rattle.model.proofs.Run.Bystander.{Untouched, untouched-enqueue, untouched-put, kept-unharmed, untouched-stands}
+
+-- a token with a handle is not ready
+handle-busy : (h : ℕ) (s : State) → any (eqb h) (handleOf s) ≡ true → isReady s ≡ false
+unfolding any handleOf isReady
+handle-busy h states.Blank e = refl
+handle-busy h states.Ready e = clash e refl
+handle-busy h (states.Waiting c) e = refl
+handle-busy h (states.Called n) e = refl
+handle-busy h states.Frame e = refl
+
+-- the holder of a handle, counted from i, is at a place j places on and is not ready
+holder-busy :
+    (h i : ℕ) (ts : List Token) (q : ℕ) → holder h i ts ≡ places.At q
+    → (j : ℕ) × (q ≡ i + j) × (isReady (tokenAt ts j .state) ≡ false)
+unfolding holder tokenAt
+holder-busy h i [] q e = let z : _≡_ {A = ℕ} 0 1 = cc in absurd (omega arith)
+holder-busy h i (t ∷ ts) q e = go (any (eqb h) (handleOf (t .state))) refl e (λ x. holder-busy h (suc i) ts q x)
+  where
+    Busy : Type 0
+    Busy = (j : ℕ) × (q ≡ i + j) × (isReady (getD (t ∷ ts) j blankToken .state) ≡ false)
+
+    later : (j : ℕ) × (q ≡ suc i + j) × (isReady (getD ts j blankToken .state) ≡ false) → Busy
+    later (j, x, r) = (suc j, (let z : q ≡ i + suc j = omega arith in z), r)
+
+    go :
+        (b : Bool) → any (eqb h) (handleOf (t .state)) ≡ b
+        → elim b as (λ b. Place) [ true ↦ places.At i | false ↦ holder h (suc i) ts ] ≡ places.At q
+        → (holder h (suc i) ts ≡ places.At q → (j : ℕ) × (q ≡ suc i + j) × (isReady (getD ts j blankToken .state) ≡ false))
+        → Busy
+    go true x y f = (0, (let z : i ≡ q = cc in omega arith), handle-busy h (t .state) x)
+    go false x y f = later (f y)
+
+module _ (m : Machine) (h : QueueKept m) (k : ℕ) (l : k < m .queued) where
+  abbrev Leaves : Effect → Type 0
+  Leaves e = After (Untouched (queuedToken m k) (getD (m .queue) k 0) k) e
+
+  before : Untouched (queuedToken m k) (getD (m .queue) k 0) k m
+  unfolding queueOf
+  before =
+      record {
+        queued = let z = length-take (m .queued) (m .queue) in let s = h .short in omega arith;
+        place = getD-take (m .queued) (m .queue) k 0 l;
+        unharmed = kept-unharmed m h k l;
+      }
+
+  apart : (handle q : ℕ) → holder handle 0 (m .tokens) ≡ places.At q → getD (m .queue) k 0 ≡ q → ⊥
+  apart handle q e p = go (holder-busy handle 0 (m .tokens) q e)
+    where
+      go : (j : ℕ) × (q ≡ 0 + j) × (isReady (tokenAt (m .tokens) j .state) ≡ false) → ⊥
+      go (j, x, r) =
+          clash (h .ready k l)
+          (subst (λ i. isReady (tokenAt (m .tokens) i .state) ≡ false) (let z : j ≡ getD (m .queue) k 0 = omega arith in z) r)
+
+  after-answered : (handle : ℕ) (v : ℤ) (q : Place) → holder handle 0 (m .tokens) ≡ q → Leaves (answered m v q)
+  unfolding answered After
+  after-answered handle v places.Nowhere e = tt
+  after-answered handle v (places.At q) e = untouched-enqueue q _ (untouched-put q _ m (apart handle q e) before)
+
+pub answer-stands :
+    (lim : Limits) (d : Dag) (m : Machine) (handle : ℕ) (v : ℤ) (k : ℕ)
+    → k < m .queued
+    → Stands m k (answer lim d m handle v .machine) k
+answer-stands lim d m handle v k l = go (holds-or-fails (isRefused (o .reply)))
+  where
+    o : Outcome
+    o = answer lim d m handle v
+
+    same : Stands m k m k
+    same = record { queued = l; place = refl; token = refl }
+
+    left : isRefused (o .reply) ≡ true → o .machine ≡ m
+    left e = unfold answer in outcome-refused m _ e
+
+    accepted : isRefused (o .reply) ≡ false → AnswerAccepted lim d m handle v → Stands m k (o .machine) k
+    accepted ok a =
+        let h : QueueKept m = queue-kept lim d m (a .kept) in
+        subst (λ (o : Outcome). Stands m k (o .machine) k) (sym (a .does))
+        (after-outcome (Untouched (queuedToken m k) (getD (m .queue) k 0) k) (λ o. Stands m k o k)
+        (λ o u. untouched-stands m k o k (h .ready k l) u) m (answered m v (holder handle 0 (m .tokens)))
+        (after-answered m h k l handle v (holder handle 0 (m .tokens)) refl)
+        (subst (λ (o : Outcome). isRefused (o .reply) ≡ false) (a .does) ok))
+
+    go : (isRefused (o .reply) ≡ true) ⊎ (isRefused (o .reply) ≡ false) → Stands m k (o .machine) k
+    go (inl e) = subst (λ (o : Machine). Stands m k o k) (sym (left e)) same
+    go (inr ok) = accepted ok (answer-accepted lim d m handle v ok)

@@ -1,0 +1,148 @@
+-- A ready token that does not act: what a step writes at other places leaves it as it is, at its position and active, so that
+-- blanking keeps it. One lemma for each change of a machine. Assumes nothing.
+use mathlib.Core.Path.{_≡_, refl, sym, _∙_, ap, subst}
+use mathlib.Core.Bool.{true, false, not}
+use mathlib.Core.List.{List, [], _∷_, _++_}
+use Prim.Native.Nat.{ℕ, _<_}
+use native.Mathlib.Omega.{arith}
+use lib.ListN.{length, getD, set, length-append, length-take, List·getD-append}
+use lib.Seq.{getD-set-other, getD-take, take-append-seam}
+use Rattle.model.specs.Test.{padded}
+use Rattle.model.specs.Machine.Blank.{blankToken, tokenAt}
+use Rattle.model.specs.Machine.Active.{underSet, isActive}
+use Rattle.model.specs.Machine.InUse.{tokensUsed, finish}
+use Rattle.model.specs.Machine.Rules.{isReady}
+use Rattle.model.specs.Machine.Step.{withTables, withOrders, withCounts, queueOf, waitsOf, put, enqueue, newToken, newCell}
+use Rattle.model.specs.Run.Follow.{Stands, queuedToken}
+use Rattle.model.specs.declared.token.Place.{Place}
+use Rattle.model.specs.declared.token.Token.{Token}
+use Rattle.model.specs.declared.cell.Cell.{Cell}
+use Rattle.model.specs.declared.machine.Machine.{Machine}
+use Rattle.model.proofs.MachineLaws.Marks.{Marked}
+use Rattle.model.proofs.MachineLaws.InUse.{tokens-used}
+use Rattle.model.proofs.MachineLaws.Kept.{kept-marked}
+use Rattle.model.proofs.Run.Queue.{ready-live, QueueKept}
+use Rattle.model.proofs.Run.Chain.{unsetCell, new-cell-clear}
+
+-- the token u is at place p and not under a set cell
+pub record Unharmed (u : Token) (p : ℕ) (m : Machine) : Type 0 where
+  pub token : tokenAt (m .tokens) p ≡ u
+  pub clear : underSet (m .cells) (u .cell) ≡ false
+
+-- and its place is at position k of the queue
+pub record Untouched (u : Token) (p k : ℕ) (m : Machine) : Type 0 where
+  pub queued : k < length (queueOf m)
+  pub place : getD (queueOf m) k 0 ≡ p
+  pub unharmed : Unharmed u p m
+
+token-other : (ts : List Token) (p q : ℕ) (t : Token) → (p ≡ q → ⊥) → tokenAt (set ts q t) p ≡ tokenAt ts p
+unfolding tokenAt
+token-other ts p q t n = getD-set-other ts q p t blankToken n
+
+module _ {u : Token} {p : ℕ} where
+  pub unharmed-orders : (q w : List ℕ) (m : Machine) → Unharmed u p m → Unharmed u p (withOrders q w m)
+  unfolding withOrders
+  unharmed-orders q w m h = record { token = h .token; clear = h .clear }
+
+  pub unharmed-put : (q : ℕ) (t : Token) (m : Machine) → (p ≡ q → ⊥) → Unharmed u p m → Unharmed u p (put q t m)
+  unfolding put withTables
+  unharmed-put q t m n h = record { token = token-other (m .tokens) p q t n ∙ h .token; clear = h .clear }
+
+  pub unharmed-counts : (n a c : ℕ) (m : Machine) → Unharmed u p m → Unharmed u p (withCounts n a c m)
+  unfolding withCounts
+  unharmed-counts n a c m h = record { token = h .token; clear = h .clear }
+
+  pub unharmed-cell :
+      (c : ℕ) (above : Place) (m : Machine)
+      → underSet (m .cells) above ≡ false
+      → Unharmed u p m
+      → Unharmed u p (newCell c (unsetCell above) m)
+  unfolding newCell withTables withCounts
+  unharmed-cell c above m e h =
+      record { token = h .token; clear = new-cell-clear (m .cells) c above (u .cell) (h .clear) e }
+
+pub queue-orders : (q w : List ℕ) (m : Machine) → queueOf (withOrders q w m) ≡ q
+unfolding queueOf withOrders padded
+queue-orders q w m = take-append-seam q _
+
+module _ {u : Token} {p k : ℕ} where
+  -- a queue that has p at position k
+  pub untouched-orders :
+      (q w : List ℕ) (m : Machine) → k < length q → getD q k 0 ≡ p → Unharmed u p m → Untouched u p k (withOrders q w m)
+  untouched-orders q w m l e h =
+      record {
+        queued = subst (λ xs. k < length xs) (sym (queue-orders q w m)) l;
+        place = subst (λ xs. getD xs k 0 ≡ p) (sym (queue-orders q w m)) e;
+        unharmed = unharmed-orders q w m h;
+      }
+
+  -- only the wait order changes
+  pub untouched-waits : (w : List ℕ) (m : Machine) → Untouched u p k m → Untouched u p k (withOrders (queueOf m) w m)
+  untouched-waits w m h = untouched-orders (queueOf m) w m (h .queued) (h .place) (h .unharmed)
+
+  -- others go to the back
+  pub untouched-enqueue : (q : ℕ) (m : Machine) → Untouched u p k m → Untouched u p k (enqueue q m)
+  unfolding enqueue
+  untouched-enqueue q m h =
+      untouched-orders (queueOf m ++ (q ∷ [])) (waitsOf m) m
+      (let z = length-append (queueOf m) (q ∷ []) in let l = h .queued in omega arith)
+      (List·getD-append (queueOf m) (q ∷ []) 0 k (h .queued) ∙ h .place)
+      (h .unharmed)
+
+  pub untouched-put : (q : ℕ) (t : Token) (m : Machine) → (p ≡ q → ⊥) → Untouched u p k m → Untouched u p k (put q t m)
+  unfolding put withTables queueOf
+  untouched-put q t m n h = record { queued = h .queued; place = h .place; unharmed = unharmed-put q t m n (h .unharmed) }
+
+  pub untouched-counts : (n a c : ℕ) (m : Machine) → Untouched u p k m → Untouched u p k (withCounts n a c m)
+  unfolding withCounts queueOf
+  untouched-counts n a c m h = record { queued = h .queued; place = h .place; unharmed = unharmed-counts n a c m (h .unharmed) }
+
+  pub untouched-token : (q : ℕ) (t : Token) (m : Machine) → (p ≡ q → ⊥) → Untouched u p k m → Untouched u p k (newToken q t m)
+  unfolding newToken
+  untouched-token q t m n h = untouched-counts (m .calls) q (m .newcell) (put q t m) (untouched-put q t m n h)
+
+  pub untouched-cell :
+      (c : ℕ) (above : Place) (m : Machine) → underSet (m .cells) above ≡ false
+      → Untouched u p k m → Untouched u p k (newCell c (unsetCell above) m)
+  unfolding newCell withTables withCounts queueOf
+  untouched-cell c above m e h =
+      record { queued = h .queued; place = h .place; unharmed = unharmed-cell c above m e (h .unharmed) }
+
+-- a ready token under no set cell is active, so it is in use, and blanking keeps it
+pub ready-active : (cs : List Cell) (t : Token) → isReady (t .state) ≡ true → underSet cs (t .cell) ≡ false → isActive cs t ≡ true
+unfolding isActive
+ready-active cs t r e = rw (ready-live (t .state) r, isActive) (ap not e)
+
+module _ {u : Token} {p : ℕ} (ready : isReady (u .state) ≡ true) where
+  pub unharmed-marked : (m : Machine) → Unharmed u p m → Marked (tokensUsed m) p
+  unharmed-marked m h =
+      tokens-used (m .tokens) (m .cells) .active p
+      (subst (λ (t : Token). isActive (m .cells) t ≡ true) (sym (h .token)) (ready-active (m .cells) u ready (h .clear)))
+
+  pub unharmed-finish : (m : Machine) → Unharmed u p m → tokenAt (finish m .tokens) p ≡ u
+  unfolding finish tokenAt
+  unharmed-finish m h =
+      kept-marked blankToken (tokensUsed m) (m .tokens) p (tokens-used (m .tokens) (m .cells) .size) (unharmed-marked m h) ∙ h .token
+
+-- the token at a position of the queue, unharmed by the rules; and standing, once it is untouched
+pub kept-unharmed : (m : Machine) → QueueKept m → (k : ℕ) → k < m .queued → Unharmed (queuedToken m k) (getD (m .queue) k 0) m
+kept-unharmed m h k l = record { token = refl; clear = h .clear k l }
+
+pub untouched-stands :
+    (m : Machine) (k : ℕ) (after : Machine) (k′ : ℕ)
+    → isReady (queuedToken m k .state) ≡ true
+    → Untouched (queuedToken m k) (getD (m .queue) k 0) k′ after
+    → Stands m k (finish after) k′
+unfolding finish queueOf
+untouched-stands m k after k′ r h =
+    record {
+      queued = inside;
+      place = named;
+      token = subst (λ p. tokenAt (finish after .tokens) p ≡ queuedToken m k) (sym named) (unharmed-finish r after (h .unharmed));
+    }
+  where
+    inside : k′ < after .queued
+    inside = let z = length-take (after .queued) (after .queue) in let l = h .queued in omega arith
+
+    named : getD (after .queue) k′ 0 ≡ getD (m .queue) k 0
+    named = sym (getD-take (after .queued) (after .queue) k′ 0 inside) ∙ h .place

@@ -1,0 +1,126 @@
+-- The queue of a machine that keeps the rules names tokens that are ready and not under a set cell, and the one at its front stands
+-- nowhere else in it: the rules test that it names each ready token once. Assumes nothing.
+use mathlib.Core.Path.{_≡_, refl, sym, _∙_, subst}
+use mathlib.Core.Bool.{Bool, true, false, not}
+use mathlib.Core.List.{List, [], _∷_}
+use Prim.Native.Nat.{ℕ, zero, suc, _≤_, _<_}
+use native.Mathlib.Omega.{arith}
+use lib.ListN.{length, getD, take}
+use lib.Seq.{getD-take, length-take-le}
+use Rattle.model.specs.Test.{count, once}
+use Rattle.model.specs.Job.Node.{Dag}
+use Rattle.model.specs.Machine.Limits.{Limits}
+use Rattle.model.specs.Machine.Blank.{blankToken, tokenAt}
+use Rattle.model.specs.Machine.Active.{underSet, isLive}
+use Rattle.model.specs.Machine.Rules.{isReady, notUnderSet, sizesInRange, rulesKept}
+use Rattle.model.specs.Run.Follow.{queuedToken}
+use Rattle.model.specs.declared.token.State.{State}
+use Rattle.model.specs.declared.token.State.the-variants as states
+use Rattle.model.specs.declared.token.Token.{Token}
+use Rattle.model.specs.declared.cell.Cell.{Cell}
+use Rattle.model.specs.declared.machine.Machine.{Machine}
+use Rattle.model.proofs.MachineLaws.Rules.{RulesKept, rules-kept, NamesOnce, names-once, order-inside, order-names}
+use Rattle.model.proofs.Test.{clash, eqb-eq, eqb-same, ltb-lt, and-left, and-right, all-at}
+
+-- what stands in a list is counted
+count-head : (n : ℕ) (q : List ℕ) → count n (n ∷ q) ≡ suc (count n q)
+unfolding count
+count-head n q = rw (eqb-same n) (omega arith)
+
+count-more : (n x : ℕ) (q : List ℕ) → count n q ≤ count n (x ∷ q)
+unfolding count
+count-more n x q = omega arith
+
+counted : (q : List ℕ) (k : ℕ) → k < length q → 0 < count (getD q k 0) q
+counted [] k l = absurd (omega arith)
+counted (x ∷ q) zero l = let z = count-head x q in omega arith
+counted (x ∷ q) (suc k) l = let z = count-more (getD q k 0) x q in let c = counted q k (omega arith) in omega arith
+
+-- what stands at the front and again behind is counted twice
+counted-twice : (q : List ℕ) (k : ℕ) → suc k < length q → getD q 0 0 ≡ getD q (suc k) 0 → 1 < count (getD q (suc k) 0) q
+counted-twice [] k l e = absurd (omega arith)
+counted-twice (x ∷ q) k l e =
+    subst (λ n. 1 < count n (x ∷ q)) e
+    (let z = count-head x q in let c = subst (λ n. 0 < count n q) (sym e) (counted q k (omega arith)) in omega arith)
+
+once-small : (b : Bool) → 1 < once b → ⊥
+once-small true l = omega arith
+once-small false l = omega arith
+
+-- an order that names each token of a kind once has its front nowhere else
+module _ (of : State → Bool) (ts : List Token) (array : List ℕ) (n : ℕ) (o : NamesOnce of ts array n) where
+  abbrev order : List ℕ
+  order = take n array
+
+  order-length : length order ≡ n
+  order-length = length-take-le n array (o .fits)
+
+  order-at : (k : ℕ) → k < n → getD order k 0 ≡ getD array k 0
+  order-at k l = getD-take n array k 0 l
+
+  order-front : (k : ℕ) → suc k < n → getD array 0 0 ≡ getD array (suc k) 0 → ⊥
+  order-front k l e =
+      once-small (of (tokenAt ts (getD array (suc k) 0) .state))
+      (subst (λ c. 1 < c) (o .counts (getD array (suc k) 0) (order-inside of ts array n o (suc k) l))
+      (subst (λ p. 1 < count p order) (order-at (suc k) l)
+      (counted-twice order k (let z = order-length in omega arith) (order-at 0 (omega arith) ∙ (e ∙ sym (order-at (suc k) l))))))
+
+pub ready-live : (s : State) → isReady s ≡ true → isLive s ≡ true
+unfolding isReady isLive
+ready-live states.Blank e = e
+ready-live states.Ready e = refl
+ready-live (states.Waiting c) e = clash e refl
+ready-live (states.Called h) e = clash e refl
+ready-live states.Frame e = e
+
+not-true : (b : Bool) → not b ≡ true → b ≡ false
+not-true true e = clash e refl
+not-true false e = refl
+
+-- what the rules say of the queue
+pub record QueueKept (m : Machine) : Type 0 where
+  pub short : m .queued ≤ length (m .queue)
+  pub named : (k : ℕ) → k < m .queued → getD (m .queue) k 0 < length (m .tokens)
+  pub ready : (k : ℕ) → k < m .queued → isReady (queuedToken m k .state) ≡ true
+  pub clear : (k : ℕ) → k < m .queued → underSet (m .cells) (queuedToken m k .cell) ≡ false
+  pub apart : (k : ℕ) → suc k < m .queued → getD (m .queue) 0 0 ≡ getD (m .queue) (suc k) 0 → ⊥
+
+not-under : (cs : List Cell) (t : Token) → isReady (t .state) ≡ true → notUnderSet cs t ≡ true → underSet cs (t .cell) ≡ false
+unfolding notUnderSet
+not-under cs t r e = not-true _ (rw (ready-live (t .state) r, notUnderSet) at e)
+
+module _ (lim : Limits) (d : Dag) (m : Machine) (kept : rulesKept lim d m ≡ true) where
+  rules : RulesKept lim d m
+  rules = rules-kept lim d m kept
+
+  names : NamesOnce isReady (m .tokens) (m .queue) (m .queued)
+  names = names-once isReady (m .tokens) (m .queue) (m .queued) (rules .queue)
+
+  pub queue-kept : QueueKept m
+  unfolding tokenAt
+  queue-kept =
+      record {
+        short = names .fits;
+        named = named;
+        ready = ready;
+        clear =
+            λ k l.
+            not-under (m .cells) (queuedToken m k) (ready k l)
+            (all-at (notUnderSet (m .cells)) (m .tokens) _ blankToken (rules .under) (named k l));
+        apart = order-front isReady (m .tokens) (m .queue) (m .queued) names;
+      }
+    where
+      named : (k : ℕ) → k < m .queued → getD (m .queue) k 0 < length (m .tokens)
+      named = order-inside isReady (m .tokens) (m .queue) (m .queued) names
+
+      ready : (k : ℕ) → k < m .queued → isReady (queuedToken m k .state) ≡ true
+      ready = order-names isReady (m .tokens) (m .queue) (m .queued) names
+
+  -- how many places there are, and that the last one given is one of them
+  pub tokens-sized : length (m .tokens) ≡ lim .tokenPlaces
+  unfolding sizesInRange
+  tokens-sized = eqb-eq _ _ (and-left _ _ (rules .sizes))
+
+  pub newtoken-inside : m .newtoken < lim .tokenPlaces
+  unfolding sizesInRange
+  newtoken-inside = ltb-lt _ _ (and-left _ _ (and-right _ _ (and-right _ _ (and-right _ _ (rules .sizes)))))
