@@ -3,7 +3,6 @@ pub mod Test
 pub mod Site
 pub mod Job
 pub mod Machine
-pub mod MachineLaws
 pub mod Run
 pub mod Calculus
 pub mod Abstract

@@ -24,10 +24,10 @@ use Rattle.model.specs.declared.token.Place.the-variants as places
 use Rattle.model.specs.declared.token.State.{State}
 use Rattle.model.specs.declared.token.State.the-variants as states
 use Rattle.model.specs.declared.token.Token.{Token}
-use Rattle.model.specs.declared.machine.Machine.{Machine}
+use Rattle.model.specs.declared.record.Machine.{Machine}
 use Rattle.model.specs.declared.reply.Outcome.{Outcome}
 use Rattle.model.proofs.Test.{clash, holds-or-fails}
-use Rattle.model.proofs.MachineLaws.Refused.{After, after-outcome, outcome-refused, AnswerAccepted, answer-accepted}
+use Rattle.model.proofs.Machine.Refused.{After, after-outcome, outcome-refused, AnswerAccepted, answer-accepted}
 use Rattle.model.proofs.Run.Queue.{QueueKept, queue-kept}
 use Rattle.model.proofs.Run.Bystander.{Untouched, untouched-enqueue, untouched-put, kept-unharmed, untouched-stands}
 

@@ -17,10 +17,10 @@ use Rattle.model.specs.Run.Follow.{Stands, queuedToken}
 use Rattle.model.specs.declared.token.Place.{Place}
 use Rattle.model.specs.declared.token.Token.{Token}
 use Rattle.model.specs.declared.cell.Cell.{Cell}
-use Rattle.model.specs.declared.machine.Machine.{Machine}
-use Rattle.model.proofs.MachineLaws.Marks.{Marked}
-use Rattle.model.proofs.MachineLaws.InUse.{tokens-used}
-use Rattle.model.proofs.MachineLaws.Kept.{kept-marked}
+use Rattle.model.specs.declared.record.Machine.{Machine}
+use Rattle.model.proofs.Machine.Marks.{Marked}
+use Rattle.model.proofs.Machine.InUse.{tokens-used}
+use Rattle.model.proofs.Machine.Kept.{kept-marked}
 use Rattle.model.proofs.Run.Queue.{ready-live, QueueKept}
 use Rattle.model.proofs.Run.Chain.{unsetCell, new-cell-clear}
 

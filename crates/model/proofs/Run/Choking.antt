@@ -15,7 +15,7 @@ use Rattle.model.specs.declared.token.State.{State}
 use Rattle.model.specs.declared.token.State.the-variants as states
 use Rattle.model.specs.declared.token.Token.{Token}
 use Rattle.model.specs.declared.cell.Cell.{Cell}
-use Rattle.model.specs.declared.machine.Machine.{Machine}
+use Rattle.model.specs.declared.record.Machine.{Machine}
 use Rattle.model.proofs.Test.{clash}
 use Rattle.model.proofs.Run.Chain.{set-cell-clear}
 use Rattle.model.proofs.Run.Bystander.{Unharmed, Untouched, untouched-orders}

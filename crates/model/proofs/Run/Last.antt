@@ -15,7 +15,7 @@ use Rattle.model.specs.Machine.Step as Step
 use Rattle.model.specs.Run.Call.{Call, runner, outcomeOf, started, machineAfter}
 use Rattle.model.specs.Run.Follow.{Fate, acts, falls, stays, fate, House, Followed}
 use Rattle.model.specs.Run.Demand3.{Last}
-use Rattle.model.specs.declared.machine.Machine.{Machine}
+use Rattle.model.specs.declared.record.Machine.{Machine}
 use Rattle.model.proofs.Test.{holds-or-fails}
 use Rattle.model.proofs.Run.Survivors.{survivors-bound, fate-stays}
 use Rattle.model.proofs.Run.Passing.{step-stands}

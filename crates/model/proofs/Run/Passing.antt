@@ -28,13 +28,13 @@ use Rattle.model.specs.declared.token.Place.{Place}
 use Rattle.model.specs.declared.token.Place.the-variants as places
 use Rattle.model.specs.declared.token.Token.{Token}
 use Rattle.model.specs.declared.cell.Cell.{Cell}
-use Rattle.model.specs.declared.machine.Machine.{Machine}
+use Rattle.model.specs.declared.record.Machine.{Machine}
 use Rattle.model.specs.declared.reply.Refusal.the-variants as refusals
 use Rattle.model.specs.declared.reply.Outcome.{Outcome}
 use Rattle.model.proofs.Test.{clash, ltb-lt}
-use Rattle.model.proofs.MachineLaws.InUse.{tokens-used}
-use Rattle.model.proofs.MachineLaws.Places.{next-place-free}
-use Rattle.model.proofs.MachineLaws.Refused.{After, after-unless, after-outcome, StepAccepted, step-accepted}
+use Rattle.model.proofs.Machine.InUse.{tokens-used}
+use Rattle.model.proofs.Machine.Places.{next-place-free}
+use Rattle.model.proofs.Machine.Refused.{After, after-unless, after-outcome, StepAccepted, step-accepted}
 use Rattle.model.proofs.Run.Queue.{QueueKept, queue-kept, tokens-sized, newtoken-inside}
 use Rattle.model.proofs.Run.Survivors.{among, Behind, filter-finds, survivors-all, survivors-pass, fate-stays}
 use Rattle.model.proofs.Run.Choking.{readyThen, queueThen, within-ready, untouched-choked}

@@ -18,8 +18,8 @@ use Rattle.model.specs.declared.token.State.{State}
 use Rattle.model.specs.declared.token.State.the-variants as states
 use Rattle.model.specs.declared.token.Token.{Token}
 use Rattle.model.specs.declared.cell.Cell.{Cell}
-use Rattle.model.specs.declared.machine.Machine.{Machine}
-use Rattle.model.proofs.MachineLaws.Rules.{RulesKept, rules-kept, NamesOnce, names-once, order-inside, order-names}
+use Rattle.model.specs.declared.record.Machine.{Machine}
+use Rattle.model.proofs.Machine.Rules.{RulesKept, rules-kept, NamesOnce, names-once, order-inside, order-names}
 use Rattle.model.proofs.Test.{clash, eqb-eq, eqb-same, ltb-lt, and-left, and-right, all-at}
 
 -- what stands in a list is counted

@@ -10,7 +10,7 @@ use lib.ListN.{length, getD, take}
 use Rattle.model.specs.Test.{filter}
 use Rattle.model.specs.Job.Node.{Dag}
 use Rattle.model.specs.Run.Follow.{frontEnds, survivors, Fate, falls, stays, fate}
-use Rattle.model.specs.declared.machine.Machine.{Machine}
+use Rattle.model.specs.declared.record.Machine.{Machine}
 use Rattle.model.proofs.Test.{holds-or-fails}
 
 -- what a filter leaves of a list, and where

@@ -1,8 +1,0 @@
--- Laws of the machine's definitions, specs/Machine.
-pub mod Marks
-pub mod Reach
-pub mod InUse
-pub mod Kept
-pub mod Places
-pub mod Refused
-pub mod Rules
