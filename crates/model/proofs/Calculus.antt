@@ -1,0 +1,2 @@
+-- Laws and worked examples of the calculus.
+pub mod Refute
