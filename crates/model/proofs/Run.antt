@@ -1,3 +1,4 @@
 -- Laws of runs.
 pub mod Computing
 pub mod Marked
+pub mod Meaning

@@ -176,3 +176,8 @@ module _ (body : ℕ → Exp) where
 -- the way to use it: some number of rewritings is enough to see that the list is not allowed
 pub not-allowed : (g : Goal) (n : ℕ) {es : List Event} → refutes (g .body) n 0 (g .goal) es ≡ true → Allowed g es → ⊥
 not-allowed g n t s = refuted (g .body) n t s
+
+-- a name for all that it computes with
+unfoldable pub refuting : Unit {0}
+unfolding _implies_ afterSaid sorted everyOfSite every sameValues sameEvent answerIn refutes
+refuting = tt
