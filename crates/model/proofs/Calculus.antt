@@ -1,5 +1,5 @@
 -- Laws and worked examples of the calculus.
 pub mod Computing
-pub mod Refute
+pub mod Moves
+pub mod Search
 pub mod Programs
-pub mod NotAllowed
