@@ -3,3 +3,5 @@ pub mod Computing
 pub mod Moves
 pub mod Search
 pub mod Programs
+pub mod Allowed
+pub mod NotAllowed
