@@ -5,3 +5,4 @@ pub mod Search
 pub mod Programs
 pub mod Allowed
 pub mod NotAllowed
+pub mod Silent

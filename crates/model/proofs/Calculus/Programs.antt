@@ -91,3 +91,7 @@ same-number = defining (ask 17 >[ 1 ]> let′ (v 0)) (let′ (# 4) >[ 0 ]> (call
 -- E() = E(), goal E()
 abbrev pub never-ends : Program
 never-ends = calling (call 0 [])
+
+-- W() = stop <x< W(), goal W()
+abbrev pub ever-deeper : Program
+ever-deeper = calling (stop <[ 0 ]< call 0 [])
