@@ -2,7 +2,9 @@
 pub mod Computing
 pub mod Moves
 pub mod Search
+pub mod Builtins
 pub mod Programs
 pub mod Allowed
 pub mod NotAllowed
+pub mod Marked
 pub mod Silent

@@ -1,13 +1,13 @@
 -- Worked examples: lists that are allowed, each with its program. The first four are written out, rewriting by rewriting; the others' rewritings are
 -- found by computation (`Search`). Assumes nothing.
-use mathlib.Core.Path.{_≡_, refl}
+use mathlib.Core.Path.{refl}
 use mathlib.Core.List.{List, [], _∷_}
 use Prim.Native.Nat.{ℕ}
-use lib.IntN.{ℤ, pos}
+use lib.IntN.{pos}
 use Rattle.model.specs.Calculus.Event.{Event, publish, call, answer, silently, showing}
 use Rattle.model.specs.Calculus.Expression.{Exp}
 use Rattle.model.specs.Calculus.Rewriting.{silence, calling, answering, Rewrites, builtin-gives, outside-call, answered, published}
-use Rattle.model.specs.Calculus.Rewriting.{par-left, par-right, seq-acts, seq-publishes, prune-left, prune-right, prune-publishes}
+use Rattle.model.specs.Calculus.Rewriting.{par-left, par-right, seq-acts, seq-publishes, prune-right, prune-publishes}
 use Rattle.model.specs.Calculus.Allowed.{Goal, nextHandle, shown, Shows, ends, then, Allowed}
 use Rattle.model.specs.Run.Meaning.{meaning}
 use Rattle.model.proofs.Calculus.Computing.{meant, rewritten}

@@ -19,7 +19,7 @@ pub record NoNext (p : Program) (es : List Event) (e : Event) : Type 0 where
   pub not-then : Allowed (meaning p) (es ++ (e ∷ [])) → ⊥
 
 -- n bounds the rewritings that are tried
-no-next : (n : ℕ) {p : Program} {es : List Event} {e : Event}
+pub no-next : (n : ℕ) {p : Program} {es : List Event} {e : Event}
     → misses (meaning p .body) true n 0 (meaning p .goal) es ≡ false
     → misses (meaning p .body) false n 0 (meaning p .goal) (es ++ (e ∷ [])) ≡ true
     → NoNext p es e

@@ -2,8 +2,7 @@
 -- Assumes nothing: these are definitions.
 use mathlib.Core.List.{List, [], _∷_}
 use Prim.Native.Nat.{ℕ}
-use lib.IntN.{ℤ, pos}
-use Rattle.model.specs.Job.Syntax.{Param, Exp, stop, site, call, Definition, Program}
+use Rattle.model.specs.Job.Syntax.{Param, Exp, stop, site, call, Program}
 use Rattle.model.specs.Run.Marked.{_∣_, _>[_]>_, _<[_]<_, v, #, let′, signal, add, goal, calling}
 
 -- calls of sites with no, one and two parameters
@@ -19,9 +18,26 @@ tell-both s a b = site s (a ∷ b ∷ [])
 abbrev pub ift : Param → Exp
 ift a = site 1 (a ∷ [])
 
--- E(x) = b, with one formal
-abbrev pub defining : Exp → Exp → Program
-defining b g = record { definitions = record { formals = 1; body = b } ∷ []; goal = g }
+-- one definition E, with its count of formals, and a goal
+abbrev pub defining : ℕ → Exp → Exp → Program
+defining n b g = record { definitions = record { formals = n; body = b } ∷ []; goal = g }
+
+-- a call of E
+abbrev pub E : List Param → Exp
+E ps = call 0 ps
+
+-- stop; signal(); stop >x> let(x); let(x) <x< stop
+abbrev pub nothing : Program
+nothing = goal stop
+
+abbrev pub one-signal : Program
+one-signal = goal signal
+
+abbrev pub nothing-passed : Program
+nothing-passed = goal (stop >[ 0 ]> let′ (v 0))
+
+abbrev pub nothing-awaited : Program
+nothing-awaited = goal (let′ (v 0) <[ 0 ]< stop)
 
 -- let(1)
 abbrev pub one-value : Program
@@ -78,20 +94,20 @@ parallel-or =
 
 -- "Metronome() = signal | (Rwait(1) ≫ Metronome())", with site 16 for Rwait
 abbrev pub metronome : Program
-metronome = calling (signal ∣ (tell 16 (# 1) >[ 0 ]> call 0 []))
+metronome = calling (signal ∣ (tell 16 (# 1) >[ 0 ]> E []))
 
 -- "Function calls non-strict": E(x) = let(1) | 17(x), goal E(x) <x< 16()
 abbrev pub not-strict : Program
-not-strict = defining (let′ (# 1) ∣ tell 17 (v 0)) (call 0 (v 0 ∷ []) <[ 0 ]< ask 16)
+not-strict = defining 1 (let′ (# 1) ∣ tell 17 (v 0)) (E (v 0 ∷ []) <[ 0 ]< ask 16)
 
--- E(x) = 17() >z> let(x), goal let(4) >a> (E(y) <y< 16()): z and y have the same number
+-- E(x) = 17() >z> let(x), goal let(4) >a> (E(y) <y< 16()). Formals count from 0: x is 0 and z is 1; in the goal a is 0 and y is 1, as z is.
 abbrev pub same-number : Program
-same-number = defining (ask 17 >[ 1 ]> let′ (v 0)) (let′ (# 4) >[ 0 ]> (call 0 (v 1 ∷ []) <[ 1 ]< ask 16))
+same-number = defining 1 (ask 17 >[ 1 ]> let′ (v 0)) (let′ (# 4) >[ 0 ]> (E (v 1 ∷ []) <[ 1 ]< ask 16))
 
 -- E() = E(), goal E()
 abbrev pub never-ends : Program
-never-ends = calling (call 0 [])
+never-ends = calling (E [])
 
 -- W() = stop <x< W(), goal W()
 abbrev pub ever-deeper : Program
-ever-deeper = calling (stop <[ 0 ]< call 0 [])
+ever-deeper = calling (stop <[ 0 ]< E [])

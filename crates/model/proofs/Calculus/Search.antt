@@ -14,7 +14,7 @@ use Rattle.model.specs.Calculus.Rewriting.{Rewrites}
 use Rattle.model.specs.Calculus.Allowed.{Goal, Configuration, nextHandle, shown, Shows, ends, then, Allowed}
 use Rattle.model.proofs.Test.{clash, eqb-same, eqb-eq, and-left, and-right, and-both}
 use Rattle.model.proofs.Calculus.Moves.{_implies_, under, implies-fails, Tests, Within, in-silence, in-publishing, in-calling, in-answering}
-use Rattle.model.proofs.Calculus.Moves.{every, every-move, Failing, some-move, moving}
+use Rattle.model.proofs.Calculus.Moves.{every, every-move, some-move, moving}
 
 -- two events are the same
 unfoldable pub sameValues : List ℤ → List ℤ → Bool

@@ -1,12 +1,12 @@
 -- The two marked programs that go on for ever, E() = E() and W() = stop <x< W(), show nothing: their lists are empty. True because each silent
 -- rewriting leads to an expression of the same form, and no other rewriting is there. Assumes nothing.
-use mathlib.Core.Path.{_≡_, refl, subst as along}
-use mathlib.Core.List.{List, [], _∷_}
+use mathlib.Core.Path.{_≡_, refl}
+use mathlib.Core.List.{List, []}
 use Prim.Native.Nat.{ℕ}
 use native.Mathlib.Omega.{arith}
 use Rattle.model.specs.Calculus.Event.{Event, Label, silently, showing}
-use Rattle.model.specs.Calculus.Expression.{Exp, stop, call, prune, subst, formals}
-use Rattle.model.specs.Calculus.Rewriting.{Rewrites, entered, prune-left, prune-right, prune-publishes}
+use Rattle.model.specs.Calculus.Expression.{Exp, stop, call, prune}
+use Rattle.model.specs.Calculus.Rewriting.{Rewrites, entered, prune-right, prune-publishes}
 use Rattle.model.specs.Calculus.Allowed.{Configuration, shown, Shows, ends, then, Allowed}
 use Rattle.model.specs.Run.Meaning.{meaning}
 use Rattle.model.proofs.Calculus.Computing.{meant, rewritten}

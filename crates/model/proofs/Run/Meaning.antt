@@ -1,31 +1,21 @@
 -- "E(P) silently becomes its body with P for the formals, no name caught": programs, the goals with definitions that they mean, and what a call
 -- becomes, written out. Each holds by computation. In a meaning a variable is the number of binders between it and its own. Assumes nothing.
 use mathlib.Core.Path.{_≡_, refl}
-use mathlib.Core.List.{List, [], _∷_}
+use mathlib.Core.List.{[], _∷_}
 use Prim.Native.Nat.{ℕ}
-use lib.IntN.{ℤ, pos}
+use lib.IntN.{pos}
 use Rattle.model.specs.Job.Syntax as Job
-use Rattle.model.specs.Job.Syntax.{Definition, Program}
+use Rattle.model.specs.Job.Syntax.{Program}
 use Rattle.model.specs.Run.Marked.{_∣_, _>[_]>_, _<[_]<_, v, #, let′}
 use Rattle.model.specs.Run.Meaning.{meaning}
 use Rattle.model.specs.Calculus.Event.{silently}
-use Rattle.model.specs.Calculus.Expression.{Param, value, variable, Exp, site, call, par, seq, prune}
-use Rattle.model.specs.Calculus.Rewriting.{Rewrites, entered, par-left, par-right, prune-left, prune-right}
+use Rattle.model.specs.Calculus.Expression.{value, variable, Exp, site, call, par, seq, prune}
+use Rattle.model.specs.Calculus.Rewriting.{Rewrites, entered, par-left, prune-left}
 use Rattle.model.proofs.Calculus.Computing.{meant, rewritten}
-
--- one definition E with its count of formals, and a goal
-abbrev pub defining : ℕ → Job.Exp → Job.Exp → Program
-defining n b g = record { definitions = record { formals = n; body = b } ∷ []; goal = g }
-
--- a call of E
-abbrev pub E : List Job.Param → Job.Exp
-E ps = Job.call 0 ps
+use Rattle.model.proofs.Calculus.Programs.{ask, defining, E, same-number}
 
 -- 1. A binder of the body has the number of the parameter's variable.
--- E(x) = 17() >z> let(x), goal let(4) >a> (E(y) <y< 16()). Formals count from 0: x is 0 and z is 1; in the goal a is 0 and y is 1.
-abbrev pub same-number : Program
-same-number = defining 1 (Job.site 17 [] >[ 1 ]> let′ (v 0)) (let′ (# 4) >[ 0 ]> (E (v 1 ∷ []) <[ 1 ]< Job.site 16 []))
-
+-- E(x) = 17() >z> let(x), goal let(4) >a> (E(y) <y< 16()), where z and y are both 1: `same-number`.
 -- under z, x is one binder further out: variable 1
 pub same-number-body : meaning same-number .body 0 ≡ seq (site 17 []) (site 0 (variable 1 ∷ []))
 unfolding meant
@@ -53,8 +43,8 @@ abbrev pub further-out : Program
 further-out =
     defining
     1
-    (Job.site 17 [] >[ 1 ]> let′ (v 0))
-    (((E (v 0 ∷ []) ∣ E (v 1 ∷ [])) <[ 1 ]< Job.site 16 []) <[ 0 ]< Job.site 18 [])
+    (ask 17 >[ 1 ]> let′ (v 0))
+    (((E (v 0 ∷ []) ∣ E (v 1 ∷ [])) <[ 1 ]< ask 16) <[ 0 ]< ask 18)
 
 pub further-out-goal :
     meaning further-out .goal ≡ prune (prune (par (call 0 (variable 1 ∷ [])) (call 0 (variable 0 ∷ []))) (site 16 [])) (site 18 [])
@@ -78,8 +68,8 @@ abbrev pub two-binders : Program
 two-binders =
     defining
     2
-    (Job.site 17 [] >[ 2 ]> (Job.site 18 (v 2 ∷ v 3 ∷ v 0 ∷ v 1 ∷ []) <[ 3 ]< let′ (v 1)))
-    (E (# 7 ∷ v 0 ∷ []) <[ 0 ]< Job.site 16 [])
+    (ask 17 >[ 2 ]> (Job.site 18 (v 2 ∷ v 3 ∷ v 0 ∷ v 1 ∷ []) <[ 3 ]< let′ (v 1)))
+    (E (# 7 ∷ v 0 ∷ []) <[ 0 ]< ask 16)
 
 -- Under z and w: z is variable 1, w is 0, a is 3 and b is 2. To the right of <w< there is no w: there b is variable 1.
 pub two-binders-body :
@@ -112,7 +102,7 @@ two-binders-entered h g = prune-left entered
 
 -- 4. A call inside the body: E(x) = 17() >z> (E(z) | E(x)), goal E(5). Its parameters are replaced as a site's are.
 abbrev pub calls-itself : Program
-calls-itself = defining 1 (Job.site 17 [] >[ 1 ]> (E (v 1 ∷ []) ∣ E (v 0 ∷ []))) (E (# 5 ∷ []))
+calls-itself = defining 1 (ask 17 >[ 1 ]> (E (v 1 ∷ []) ∣ E (v 0 ∷ []))) (E (# 5 ∷ []))
 
 -- z stays z: with 5 put for variable 0 under z's binder too, E(z) would become E(5)
 pub calls-itself-entered : (h : ℕ)
