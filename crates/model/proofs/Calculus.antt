@@ -4,6 +4,7 @@ pub mod Moves
 pub mod Search
 pub mod Builtins
 pub mod Programs
+pub mod Tables
 pub mod Allowed
 pub mod NotAllowed
 pub mod Marked
