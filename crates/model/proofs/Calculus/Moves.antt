@@ -1,5 +1,5 @@
--- All moves of an expression, by computation: a test that `every` says holds of every move holds of each rewriting, and of one where `every`
--- fails the test fails. True because `every` has the same cases as `Rewrites`. Assumes nothing.
+-- All moves of an expression, by computation. `every` asks a test of each move: where it says true, the test holds of every rewriting, and
+-- where it says false, it fails of some rewriting. True because `every` has the same cases as `Rewrites`. Assumes nothing.
 use mathlib.Core.Path.{_≡_, refl, subst as along}
 use mathlib.Core.Logic.{_⊎_, inl, inr}
 use mathlib.Core.Bool.{Bool, true, false}
@@ -96,7 +96,7 @@ module _ (body : ℕ → Exp) (h : ℕ) where
   unfolding everyOfSite
   site-outside s vs p b t = under _ _ b (and-right _ _ t)
 
-  -- what holds of every move holds of each rewriting
+  -- where `every` says true, the test holds of each rewriting
   pub every-move : {f f′ : Exp} {a : Label} (w : ℤ) (p : Tests) → Rewrites body h f a f′ → Within w a → every w f p ≡ true → p a f′ ≡ true
   unfolding every afterSaid sorted
   every-move w p (builtin-gives {s = s} {vs = vs} {v = v} e b r) i t =
@@ -152,7 +152,7 @@ module _ (body : ℕ → Exp) (h : ℕ) where
   sorted-failing q p′ passes publishes (showing (Event.call k s vs)) f′ r t = passes (showing (Event.call k s vs)) f′ r calling t
   sorted-failing q p′ passes publishes (showing (answer k v)) f′ r t = passes (showing (answer k v)) f′ r answering t
 
-  -- a test that fails of a move, where `every` fails
+  -- where `every` says false, the test fails of some move
   pub some-move : (w : ℤ) (f : Exp) (p : Tests) → every w f p ≡ false → Failing f p
   unfolding every
   some-move w stop p t = clash refl t

@@ -16,7 +16,7 @@ use Rattle.model.proofs.Calculus.Programs.{ask, defining, E, same-numbe
 
 -- 1. A binder of the body has the number of the parameter's variable.
 -- E(x) = 17() >z> let(x), goal let(4) >a> (E(y) <y< 16()), where z and y are both 1: `same-number`.
--- under z, x is one binder further out: variable 1
+-- Under z, x is one binder further out: variable 1.
 pub same-number-body : meaning same-number .body 0 ≡ seq (site 17 []) (site 0 (variable 1 ∷ []))
 unfolding meant
 same-number-body = refl
@@ -27,7 +27,7 @@ unfolding meant
 same-number-goal = refl
 
 -- The call is entered while y has no value. Its let(x) becomes a let of y, one binder further out than z: variable 1.
--- Caught, it would be variable 0, the answer of 17: so it would go with the job's own number of y, 1, put for x's.
+-- Caught, it would be variable 0, the answer of 17: that comes of putting y's number, 1, for x's, since under z 1 is z.
 pub same-number-entered : (h : ℕ) (g : Exp)
     → Rewrites
     (meaning same-number .body)
