@@ -1,2 +1,13 @@
 -- Laws of the calculus.
 pub mod Substitution
+-- Laws and worked examples of the calculus.
+pub mod Computing
+pub mod Moves
+pub mod Search
+pub mod Builtins
+pub mod Programs
+pub mod Tables
+pub mod Allowed
+pub mod NotAllowed
+pub mod Marked
+pub mod Silent

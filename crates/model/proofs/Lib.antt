@@ -3,6 +3,7 @@ pub mod Test
 pub mod Site
 pub mod Job
 pub mod Machine
+pub mod Calculus
 pub mod Run
 pub mod Calculus
 pub mod Abstract

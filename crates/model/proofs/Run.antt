@@ -9,3 +9,4 @@ pub mod Choking
 pub mod Passing
 pub mod Answering
 pub mod Last
+pub mod Meaning
