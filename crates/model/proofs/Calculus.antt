@@ -1,6 +1,5 @@
--- Laws of the calculus.
-pub mod Substitution
 -- Laws and worked examples of the calculus.
+pub mod Substitution
 pub mod Computing
 pub mod Moves
 pub mod Search

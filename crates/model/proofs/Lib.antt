@@ -5,7 +5,6 @@ pub mod Job
 pub mod Machine
 pub mod Calculus
 pub mod Run
-pub mod Calculus
 pub mod Abstract
 pub mod Rep
 pub mod Sees
