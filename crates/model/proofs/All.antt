@@ -1,0 +1,20 @@
+-- A property of each element, over the parts of a list and over joined lists. Assumes nothing.
+use mathlib.Core.List.{List, [], _∷_, _++_}
+use Prim.Native.Nat.{ℕ, zero, suc}
+use lib.ListN.{take, drop}
+use Rattle.model.specs.Test.{All, none, more}
+
+module _ {A : Type 0} {P : A → Type 0} where
+  pub All-append : {xs ys : List A} → All P xs → All P ys → All P (xs ++ ys)
+  All-append none bs = bs
+  All-append (more a rest) bs = more a (All-append rest bs)
+
+  pub All-take : (n : ℕ) {xs : List A} → All P xs → All P (take n xs)
+  All-take zero all = none
+  All-take (suc n) none = none
+  All-take (suc n) (more a rest) = more a (All-take n rest)
+
+  pub All-drop : (n : ℕ) {xs : List A} → All P xs → All P (drop n xs)
+  All-drop zero all = all
+  All-drop (suc n) none = none
+  All-drop (suc n) (more a rest) = All-drop n rest

@@ -1,0 +1,2 @@
+-- Laws of the job table.
+pub mod Entry
