@@ -1,2 +1,6 @@
 -- Laws of the job table.
 pub mod Entry
+pub mod Read
+pub mod WellFormed
+pub mod Begins
+pub mod EncodeRead
