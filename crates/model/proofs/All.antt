@@ -1,7 +1,9 @@
 -- A property of each element, over the parts of a list and over joined lists. Assumes nothing.
-use mathlib.Core.List.{List, [], _∷_, _++_}
-use Prim.Native.Nat.{ℕ, zero, suc}
-use lib.ListN.{take, drop}
+use mathlib.Core.Path.{_≡_, sym, subst}
+use mathlib.Core.List.{List, [], _∷_, _++_, List·Memᴰ, List·Memᴰ·head, List·Memᴰ·tail}
+use Prim.Native.Nat.{ℕ, zero, suc, _<_}
+use native.Mathlib.Omega.{arith}
+use lib.ListN.{length, getD, take, drop}
 use Rattle.model.specs.Test.{All, none, more}
 
 module _ {A : Type 0} {P : A → Type 0} where
@@ -18,3 +20,12 @@ module _ {A : Type 0} {P : A → Type 0} where
   All-drop zero all = all
   All-drop (suc n) none = none
   All-drop (suc n) (more a rest) = All-drop n rest
+
+  pub All-member : {x : A} {xs : List A} → All P xs → List·Memᴰ x xs → P x
+  All-member (more p ps) (List·Memᴰ·head e) = subst P (sym e) p
+  All-member (more p ps) (List·Memᴰ·tail m) = All-member ps m
+
+  pub All-at : {xs : List A} → All P xs → (i : ℕ) (d : A) → i < length xs → P (getD xs i d)
+  All-at none i d l = absurd (omega arith)
+  All-at (more p ps) zero d l = p
+  All-at (more p ps) (suc i) d l = All-at ps i d (omega arith)

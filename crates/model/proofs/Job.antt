@@ -4,3 +4,5 @@ pub mod Read
 pub mod WellFormed
 pub mod Begins
 pub mod EncodeRead
+pub mod Encode
+pub mod ReadEncode
