@@ -3,6 +3,8 @@ pub mod Entry
 pub mod Read
 pub mod WellFormed
 pub mod Begins
-pub mod EncodeRead
 pub mod Encode
+pub mod Table
 pub mod ReadEncode
+pub mod EncodeRead
+pub mod Accepted

@@ -1,17 +1,19 @@
 -- Bytes and signed numbers, there and back: a number below 256 ^ w is its w bytes, and a signed 32-bit number is its 32 bits,
 -- because each step takes off one byte, and because both halves of the 32-bit numbers are counted from their lower end.
 -- Assumes nothing.
-use mathlib.Core.Path.{_≡_, refl, sym, _∙_, ap, ap₂}
+use mathlib.Core.Path.{_≡_, refl, sym, _∙_, ap, ap₂, subst}
 use mathlib.Core.Bool.{true}
 use mathlib.Core.List.{List, [], _∷_}
 use Prim.Native.Nat.{ℕ, zero, suc, _+_, _-_, _*_, _/_, _%_, _^_, _<_, _≤_}
 use native.Mathlib.Nat.{pow-suc}
 use native.Mathlib.Decide.{decLt}
 use native.Mathlib.Omega.{arith}
-use lib.ListN.{length}
+use lib.ListN.{length, take}
+use lib.Seq.{length-take-le}
 use lib.IntN.{ℤ, pos, negsuc}
 use Rattle.model.specs.Test.{All, none, more}
 use Rattle.model.specs.Number.{number, bytes, signed, unsigned, fits, Signed32}
+use Rattle.model.proofs.All.{All-take}
 use Rattle.model.proofs.Test.{ltb-lt, lt-ltb, le-not-ltb}
 
 -- "byte"
@@ -53,6 +55,15 @@ number-below (b ∷ bs) (more l ls) =
     let s : 256 ^ suc (length bs) ≡ 256 ^ length bs * 256 = pow-suc 256 (length bs) in
     let h : number bs < 256 ^ length bs = number-below bs ls in
     omega arith
+
+-- the same of the bytes in front of a list
+pub bytes-front : (w : ℕ) (bs : List ℕ) → w ≤ length bs → All Byte bs → bytes w (number (take w bs)) ≡ take w bs
+bytes-front w bs l all =
+    ap (λ (n : ℕ). bytes n (number (take w bs))) (sym (length-take-le w bs l)) ∙ bytes-number (take w bs) (All-take w all)
+
+pub front-below : (w : ℕ) (bs : List ℕ) → w ≤ length bs → All Byte bs → number (take w bs) < 256 ^ w
+front-below w bs l all =
+    subst (λ (n : ℕ). number (take w bs) < 256 ^ n) (length-take-le w bs l) (number-below (take w bs) (All-take w all))
 
 -- ---- signed numbers
 

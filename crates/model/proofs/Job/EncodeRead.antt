@@ -2,25 +2,28 @@
 -- well-formed programs, and it takes entries in the order in which they are encoded. Assumes nothing.
 use mathlib.Core.Path.{_≡_, refl, sym, _∙_, ap, ap₂, subst}
 use mathlib.Core.Bool.{Bool, true, false, not}
-use mathlib.Core.List.{List, [], _∷_, _++_, map, append-assoc}
+use mathlib.Core.List.{List, [], _∷_, _++_, map, append-assoc, append-nil}
 use Prim.Native.Nat.{ℕ, zero, suc, _+_, _*_, _<_, _≤_}
 use native.Mathlib.Omega.{arith}
-use lib.ListN.{length, getD}
+use lib.ListN.{length, drop, length-drop}
+use lib.Seq.{length-take-le}
 use lib.Dec.{ltb, leb, eqb}
 use Rattle.model.specs.Test.{_or_, any, All, none, more}
-use Rattle.model.specs.Number.{signed}
+use Rattle.model.specs.Number.{bytes, signed}
 use Rattle.model.specs.Site.{siteTakes}
 use Rattle.model.specs.Job.Syntax.{Param, Join, Exp, Definition, Program, formalsOf, levels, scopeLeft, scopeRight}
-use Rattle.model.specs.Job.Entry.{Entry, entry, low, high, Kind, kindOf, isExpression, rowKept, isBinder}
-use Rattle.model.specs.Job.Encode.{encodeParam, encodeJoin, encodeExp, encodeDefinitions, encodeEntries}
-use Rattle.model.specs.Job.WellFormed.{GoodParam, SiteTakes, Binds, Good, GoodDefinition}
-use Rattle.model.specs.Job.Read.{Got, Read, got, refused, _>>=_, entryAt, need, readParam, readParams, readCall, readJoin, readExp, isDefinition, readDefinition, readProgram}
-use Rattle.model.proofs.Test.{eqb-eq, ltb-lt, leb-le, clash}
-use Rattle.model.proofs.Number.{signed-fits, unsigned-signed}
-use Rattle.model.proofs.Job.Entry.{kind-number, halves, Short}
-use Rattle.model.proofs.Job.Read.{Yields, something, nothing, yields-need, yields-entry, yields-bind}
+use Rattle.model.specs.Job.Entry.{Entry, entry, entries, low, high, Kind, kindOf, isExpression, rowKept, isBinder}
+use Rattle.model.specs.Job.Encode.{encodeParam, encodeJoin, encodeExp, encodeDefinitions, encodeEntries, operandBytes, encode}
+use Rattle.model.specs.Job.WellFormed.{GoodParam, SiteTakes, Binds, Good, GoodDefinition, WellFormed}
+use Rattle.model.specs.Job.Read.{Got, Read, got, refused, _>>=_, entryAt, need, readParam, readParams, readCall, readJoin, readExp, isDefinition, readDefinition, readProgram, leftovers, callKept, definitionsKept, readEntries, sizeD, sizeN, tableLength, readBytes}
+use Rattle.model.proofs.All.{All-drop}
+use Rattle.model.proofs.Test.{eqb-eq, ltb-lt, leb-le, and-left, and-right, clash}
+use Rattle.model.proofs.Number.{Byte, signed-fits, unsigned-signed}
+use Rattle.model.proofs.Job.Entry.{kind-number, Short, kindBytes, length-entries, kind-bytes-entries, operand-bytes-entries, entries-short}
+use Rattle.model.proofs.Job.Read.{Yields, something, nothing, yields-got, yields-need, yields-bind, yields-map, yields-itself}
 use Rattle.model.proofs.Job.WellFormed.{any-member, site-takes, Kept, Names, kept-call}
-use Rattle.model.proofs.Job.Begins.{Begins, done, next, begins-one, begins-append, begins-rest}
+use Rattle.model.proofs.Job.Begins.{Begins, done, next, begins-one, begins-append, begins-rest, begins-length, begins-exact}
+use Rattle.model.proofs.Job.Table.{table, kindPart, operandPart, table-parts}
 
 -- an entry of this kind and operand
 entry-of : (x : Entry) (k o : ℕ) → x .kind ≡ k → x .operand ≡ o → x ≡ entry k o
@@ -208,3 +211,85 @@ program-found formals (suc n) e es kept =
       goal = hs .goal;
       begins = rw append-assoc (begins-append (h .begins) (hs .begins));
     })
+
+-- ---- the entries and the bytes of a table
+
+leftovers-found : (e : ℕ) (es : List Entry) → Yields (λ _. es ≡ []) (leftovers e es)
+unfolding leftovers need
+leftovers-found e [] = something refl
+leftovers-found e (x ∷ es) = nothing
+
+kept-found : (formals : List ℕ) (e : ℕ) (es : List Entry) → Yields (λ _. All (Kept formals) es) (definitionsKept formals e es)
+unfolding definitionsKept need
+kept-found formals e [] = something none
+kept-found formals e (x ∷ es) =
+    yields-need (callKept formals x) 8 e _ λ t.
+    yields-map (λ _ ts. more t ts) (kept-found formals (suc e) es)
+
+record FoundEntries (n : ℕ) (es : List Entry) (g : Got Program) : Type 0 where
+  program : FoundProgram (formalsOf (g .value .definitions)) n es g
+  ends : g .rest ≡ []
+
+entries-found : (n : ℕ) (es : List Entry) → Yields (FoundEntries n es) (readEntries n es)
+unfolding readEntries
+entries-found n es =
+    yields-bind _ (yields-itself (readProgram n 0 es)) λ p is.
+    yields-bind _ (leftovers-found (p .next) (p .rest)) λ _ ends.
+    yields-bind _ (kept-found (formalsOf (p .value .definitions)) 0 es) λ _ kept.
+    something (record { program = yields-got (program-found _ n 0 es kept) is; ends = ends })
+
+pub record FoundBytes (b : List ℕ) (g : Got Program) : Type 0 where
+  pub well-formed : WellFormed (g .value)
+  pub exact : All Byte b → b ≡ encode (g .value)
+
+module _ (b : List ℕ) (four : 4 ≤ length b) (total : length b ≡ tableLength b) where
+  length-kind-part : length (kindPart b) ≡ sizeN b
+  length-kind-part = length-take-le (sizeN b) (drop 4 b) (rw length-drop (omega arith))
+
+  length-operand-part : length (operandPart b) ≡ 4 * length (kindPart b)
+  length-operand-part = let z = length-kind-part in length-drop (4 + sizeN b) b ∙ omega arith
+
+  -- entries read from the parts of a table whose sizes are kept
+  module _ (g : Got Program) (found : FoundEntries (sizeD b) (entries (kindPart b) (operandPart b)) g) where
+    entry-count : length (encodeEntries (g .value)) ≡ sizeN b
+    entry-count =
+        let begun = begins-length (found .program .begins) in
+        let ended : length (g .rest) ≡ 0 = ap length (found .ends) in
+        let read = length-entries (kindPart b) (operandPart b) in
+        let kinds = length-kind-part in
+        omega arith
+
+    found-well-formed : sizeD b ≤ 32 → sizeN b ≤ 512 → WellFormed (g .value)
+    found-well-formed d n =
+        let D = found .program .count in
+        let N = entry-count in
+        record { definitions = omega arith; entries = omega arith; bodies = found .program .bodies; goal = found .program .goal }
+
+    found-exact : All Byte b → b ≡ encode (g .value)
+    unfolding encode
+    found-exact all =
+        let es = encodeEntries (g .value) in
+        let operands = All-drop (4 + sizeN b) all in
+        let short = entries-short (kindPart b) (operandPart b) operands length-operand-part in
+        let same : entries (kindPart b) (operandPart b) ≡ es =
+        begins-exact (found .program .begins) short ∙ ap (_++_ es) (found .ends) ∙ append-nil es in
+        let D : sizeD b ≡ length (g .value .definitions) = sym (found .program .count) in
+        let N : sizeN b ≡ length es = sym entry-count in
+        let ks : kindPart b ≡ kindBytes es = sym (kind-bytes-entries (kindPart b) (operandPart b)) ∙ ap kindBytes same in
+        let os : operandPart b ≡ operandBytes es =
+        sym (operand-bytes-entries (kindPart b) (operandPart b) operands length-operand-part) ∙ ap operandBytes same in
+        sym (table-parts b all four) ∙ ap₂ _++_ (ap₂ _++_ (ap₂ _++_ (ap (bytes 2) D) (ap (bytes 2) N)) ks) os
+
+pub bytes-found : (b : List ℕ) → Yields (FoundBytes b) (readBytes b)
+unfolding readBytes
+bytes-found b =
+    yields-need _ 1 0 _ λ l.
+    yields-need _ 1 0 _ λ e.
+    yields-need _ 2 0 _ λ sizes.
+    let four = leb-le 4 (length b) l in
+    let total = eqb-eq (length b) (tableLength b) e in
+    let d = leb-le (sizeD b) 32 (and-left _ _ sizes) in
+    let n = leb-le (sizeN b) 512 (and-right (leb 1 (sizeN b)) _ (and-right (leb (sizeD b) 32) _ sizes)) in
+    yields-map
+    (λ g h. record { well-formed = found-well-formed b four total g h d n; exact = found-exact b four total g h })
+    (entries-found (sizeD b) (entries (kindPart b) (operandPart b)))

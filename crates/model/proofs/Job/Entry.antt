@@ -5,13 +5,13 @@ use mathlib.Core.List.{List, [], _∷_, _++_, map}
 use Prim.Native.Nat.{ℕ, zero, suc, _+_, _*_, _^_, _<_}
 use native.Mathlib.Omega.{arith}
 use lib.ListN.{length, take, drop, length-append, length-drop, take-append-drop}
-use lib.Seq.{take-at, drop-at, length-take-le}
+use lib.Seq.{take-at, drop-at}
 use Rattle.model.specs.Test.{All, none, more}
 use Rattle.model.specs.Number.{number, bytes}
 use Rattle.model.specs.Job.Entry.{Entry, entry, entries, low, high, Kind, kindOf}
 use Rattle.model.specs.Job.Encode.{operandBytes}
-use Rattle.model.proofs.All.{All-take, All-drop}
-use Rattle.model.proofs.Number.{Byte, length-bytes, number-bytes, bytes-number, number-below}
+use Rattle.model.proofs.All.{All-drop}
+use Rattle.model.proofs.Number.{Byte, length-bytes, number-bytes, bytes-front, front-below}
 
 -- ---- the kind of a number
 
@@ -94,10 +94,7 @@ unfolding entries
 kind-bytes-entries [] os = refl
 kind-bytes-entries (k ∷ ks) os = ap (_∷_ k) (kind-bytes-entries ks (drop 4 os))
 
--- the 4 bytes in front of at least 4
-front-length : (n : ℕ) (os : List ℕ) → length os ≡ 4 * suc n → length (take 4 os) ≡ 4
-front-length n os e = length-take-le 4 os (omega arith)
-
+-- 4 bytes for each entry
 tail-length : (n : ℕ) (os : List ℕ) → length os ≡ 4 * suc n → length (drop 4 os) ≡ 4 * n
 tail-length n os e = length-drop 4 os ∙ omega arith
 
@@ -106,16 +103,12 @@ unfolding entries operandBytes
 operand-bytes-entries [] [] bs e = refl
 operand-bytes-entries [] (o ∷ os) bs e = absurd (omega arith)
 operand-bytes-entries (k ∷ ks) os bs e =
-    let f : bytes 4 (number (take 4 os)) ≡ take 4 os =
-    ap (λ (w : ℕ). bytes w (number (take 4 os))) (sym (front-length (length ks) os e)) ∙ bytes-number (take 4 os) (All-take 4 bs) in
-    let r : operandBytes (entries ks (drop 4 os)) ≡ drop 4 os = operand-bytes-entries ks (drop 4 os) (All-drop 4 bs) (tail-length (length ks) os e) in
-    ap₂ _++_ f r ∙ take-append-drop 4 os
+    let front = bytes-front 4 os (omega arith) bs in
+    let back = operand-bytes-entries ks (drop 4 os) (All-drop 4 bs) (tail-length (length ks) os e) in
+    ap₂ _++_ front back ∙ take-append-drop 4 os
 
 pub entries-short : (ks os : List ℕ) → All Byte os → length os ≡ 4 * length ks → All Short (entries ks os)
 unfolding entries
 entries-short [] os bs e = none
 entries-short (k ∷ ks) os bs e =
-    let f : number (take 4 os) < 256 ^ length (take 4 os) = number-below (take 4 os) (All-take 4 bs) in
-    let l : 256 ^ length (take 4 os) ≡ 256 ^ 4 = ap (λ (w : ℕ). 256 ^ w) (front-length (length ks) os e) in
-    let h : number (take 4 os) < 2 ^ 32 = omega arith in
-    more h (entries-short ks (drop 4 os) (All-drop 4 bs) (tail-length (length ks) os e))
+    more (front-below 4 os (omega arith) bs) (entries-short ks (drop 4 os) (All-drop 4 bs) (tail-length (length ks) os e))

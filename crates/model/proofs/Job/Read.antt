@@ -37,6 +37,10 @@ module _ {A : Type 0} {P : Got A → Type 0} where
   yields-bind f (something {g = g} q) h = h g q
   yields-bind f nothing h = nothing
 
+pub yields-map : {A : Type 0} {P Q : Got A → Type 0} {r : Read A} → ((g : Got A) → P g → Q g) → Yields P r → Yields Q r
+yields-map f (something {g = g} p) = something (f g p)
+yields-map f nothing = nothing
+
 -- what is read is what is read
 pub yields-itself : {A : Type 0} (r : Read A) → Yields (λ g. r ≡ got g) r
 yields-itself (got g) = something refl

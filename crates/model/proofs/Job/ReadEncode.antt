@@ -1,22 +1,24 @@
 -- Reading the encoding of a well-formed program gives that program: at each entry the reader's tests are conditions that the
 -- program keeps, and what it takes from the entry is what was put there. Assumes nothing.
-use mathlib.Core.Path.{_≡_, refl, sym, _∙_, ap, subst}
+use mathlib.Core.Path.{_≡_, refl, sym, _∙_, ap₂, subst}
 use mathlib.Core.Bool.{Bool, true, false, not}
 use mathlib.Core.List.{List, [], _∷_, _++_, map, append-assoc, append-nil}
 use Prim.Native.Nat.{ℕ, zero, suc, _+_, _*_, _<_, _≤_}
-use lib.ListN.{length, getD}
+use native.Mathlib.Omega.{arith}
+use lib.ListN.{length, length-append, length-map}
 use lib.Dec.{ltb, leb, eqb}
 use Rattle.model.specs.Test.{_or_, All, none, more}
 use Rattle.model.specs.Job.Syntax.{Param, Join, Exp, Definition, Program, formalsOf, levels, scopeLeft, scopeRight}
-use Rattle.model.specs.Job.Entry.{Entry, entry, low, high, Kind, kindOf, isExpression, rowKept, isBinder}
-use Rattle.model.specs.Job.Encode.{encodeParam, encodeJoin, encodeExp, encodeDefinitions, encodeEntries}
+use Rattle.model.specs.Job.Entry.{Entry, entry, entries, low, high, Kind, kindOf, isExpression, rowKept, isBinder}
+use Rattle.model.specs.Job.Encode.{encodeParam, encodeJoin, encodeExp, encodeDefinitions, encodeEntries, operandBytes, encode}
 use Rattle.model.specs.Job.WellFormed.{GoodParam, SiteTakes, Binds, Good, GoodDefinition, WellFormed}
-use Rattle.model.specs.Job.Read.{Got, Read, _>>=_, entryAt, need, readParam, readParams, readCall, readJoin, readExp, isDefinition, readDefinition, readProgram, leftovers, definitionsKept, readEntries}
-use Rattle.model.proofs.Test.{eqb-same, lt-ltb, le-leb}
+use Rattle.model.specs.Job.Read.{Got, Read, _>>=_, entryAt, need, readParam, readParams, readCall, readJoin, readExp, isDefinition, readDefinition, readProgram, leftovers, definitionsKept, readEntries, sizeD, sizeN, tableLength, readBytes}
+use Rattle.model.proofs.Test.{eq-eqb, lt-ltb, le-leb, and-both, All-map}
 use Rattle.model.proofs.Number.{signed-unsigned}
-use Rattle.model.proofs.Job.Entry.{low-of, high-of}
+use Rattle.model.proofs.Job.Entry.{low-of, high-of, kindBytes, length-operand-bytes, entries-encoded}
 use Rattle.model.proofs.Job.Read.{Gives, given, gives-need, gives-bind}
 use Rattle.model.proofs.Job.WellFormed.{member-any, takes-site}
+use Rattle.model.proofs.Job.Table.{table, kindPart, operandPart, size-definitions, size-entries, length-table, kind-part, operand-part}
 use Rattle.model.proofs.Job.Encode.{Few, Fine, site-small, call-small, call-count, program-few, program-fine}
 
 -- ---- parameters
@@ -106,3 +108,45 @@ entries-read {p} w =
     gives-bind {b = tt} {mid = []} _ given λ m.
     gives-bind _ (kept-read (program-fine w) 0) λ k.
     given
+
+-- ---- the bytes of a program
+
+exp-some : (x : Exp) → 1 ≤ length (encodeExp x)
+unfolding encodeExp
+exp-some Exp.stop = omega arith
+exp-some (Exp.site s ps) = omega arith
+exp-some (Exp.call d ps) = omega arith
+exp-some (Exp.join j f g) = omega arith
+
+-- a table whose sizes are kept is read by its entries
+sizes-read : {p : Program} (b : List ℕ) → 4 ≤ length b → length b ≡ tableLength b → sizeD b ≤ 32 → 1 ≤ sizeN b → sizeN b ≤ 512
+    → Gives p [] (readEntries (sizeD b) (entries (kindPart b) (operandPart b))) → Gives p [] (readBytes b)
+unfolding readBytes
+sizes-read b l e d n m h =
+    gives-need _ 1 0 (le-leb 4 (length b) l)
+    (gives-need _ 1 0 (eq-eqb (length b) (tableLength b) e)
+    (gives-need _ 2 0 (and-both (le-leb (sizeD b) 32 d) (and-both (le-leb 1 (sizeN b) n) (le-leb (sizeN b) 512 m))) h))
+
+pub bytes-read : {p : Program} → WellFormed p → Gives p [] (readBytes (encode p))
+unfolding encode encodeEntries
+bytes-read {p} w =
+    let es = encodeEntries p in
+    let D = length (p .definitions) in
+    let N = length es in
+    let ks = kindBytes es in
+    let os = operandBytes es in
+    let b = table D N ks os in
+    let d : D ≤ 32 = w .definitions in
+    let n : N ≤ 512 = w .entries in
+    let some = exp-some (p .goal) in
+    let sum = length-append (encodeDefinitions (p .definitions)) (encodeExp (p .goal)) in
+    let c : length ks ≡ N = length-map es _ in
+    let sizeD-is : sizeD b ≡ D = size-definitions D N ks os (omega arith) in
+    let sizeN-is : sizeN b ≡ N = size-entries D N ks os (omega arith) in
+    let total : length b ≡ 4 + length ks + length os = length-table D N ks os in
+    let operands : length os ≡ 4 * N = length-operand-bytes es in
+    let back : entries (kindPart b) (operandPart b) ≡ es =
+    ap₂ entries (kind-part D N ks os (omega arith) c) (operand-part D N ks os (omega arith) c) ∙ entries-encoded es (All-map (λ x f. f .short) (program-fine w)) in
+    sizes-read b (omega arith) (omega arith) (omega arith) (omega arith) (omega arith)
+    (subst (λ (D : ℕ). Gives p [] (readEntries D (entries (kindPart b) (operandPart b)))) (sym sizeD-is)
+    (subst (λ (es : List Entry). Gives p [] (readEntries D es)) (sym back) (entries-read w)))
