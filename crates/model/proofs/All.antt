@@ -1,6 +1,6 @@
 -- A property of each element, over the parts of a list and over joined lists. Assumes nothing.
-use mathlib.Core.Path.{_≡_, sym, subst}
-use mathlib.Core.List.{List, [], _∷_, _++_, List·Memᴰ, List·Memᴰ·head, List·Memᴰ·tail}
+use mathlib.Core.Path.{sym, subst}
+use mathlib.Core.List.{List, _++_, map, List·Memᴰ, List·Memᴰ·head, List·Memᴰ·tail}
 use Prim.Native.Nat.{ℕ, zero, suc, _<_}
 use native.Mathlib.Omega.{arith}
 use lib.ListN.{length, getD, take, drop}
@@ -29,3 +29,7 @@ module _ {A : Type 0} {P : A → Type 0} where
   All-at none i d l = absurd (omega arith)
   All-at (more p ps) zero d l = p
   All-at (more p ps) (suc i) d l = All-at ps i d (omega arith)
+
+pub All-image : {A B : Type 0} {P : B → Type 0} (f : A → B) {xs : List A} → All (λ x. P (f x)) xs → All P (map f xs)
+All-image f none = none
+All-image f (more p ps) = more p (All-image f ps)

@@ -6,5 +6,6 @@ pub mod Begins
 pub mod Encode
 pub mod Table
 pub mod ReadEncode
+pub mod FoundExpression
 pub mod EncodeRead
 pub mod Accepted

@@ -1,17 +1,16 @@
 -- The reader accepts a list of bytes exactly when it is the encoding of a well-formed program, and the program read is that one.
 -- Every list has one reply. Assumes nothing.
-use mathlib.Core.Path.{_≡_, refl, sym, _∙_, ap, subst}
+use mathlib.Core.Path.{_≡_, refl, _∙_, ap, subst}
 use mathlib.Core.Logic.{_⊎_, inl, inr, _↔_}
 use mathlib.Core.List.{List, []}
 use Prim.Native.Nat.{ℕ, _<_}
 use native.Mathlib.Omega.{arith}
 use Rattle.model.specs.Test.{All}
 use Rattle.model.specs.Job.Syntax.{Program}
-use Rattle.model.specs.Job.Entry.{Entry}
 use Rattle.model.specs.Job.Encode.{encode}
 use Rattle.model.specs.Job.WellFormed.{WellFormed}
 use Rattle.model.specs.Job.Read.{Read, got, refused, readBytes, Answer, accepted, declined, answerOf, readTable}
-use Rattle.model.proofs.Job.Read.{Yields, something, nothing, Gives, given}
+use Rattle.model.proofs.Job.Read.{Yields, something, Gives, given}
 use Rattle.model.proofs.Job.EncodeRead.{FoundBytes, bytes-found}
 use Rattle.model.proofs.Job.ReadEncode.{bytes-read}
 

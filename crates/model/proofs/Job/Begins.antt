@@ -1,11 +1,11 @@
 -- `Begins enc es rest`: the entries es are those of enc, and then rest; an entry of es whose operand has more than 4 bytes need
 -- only stand where enc has one. So lengths agree for any entries, and entries of 4-byte operands are the same. Assumes nothing.
-use mathlib.Core.Path.{_≡_, refl, sym, _∙_, ap, ap₂}
+use mathlib.Core.Path.{_≡_, refl, ap₂}
 use mathlib.Core.List.{List, [], _∷_, _++_}
-use Prim.Native.Nat.{ℕ, suc, _+_}
+use Prim.Native.Nat.{_+_}
 use native.Mathlib.Omega.{arith}
 use lib.ListN.{length}
-use Rattle.model.specs.Test.{All, none, more}
+use Rattle.model.specs.Test.{All, more}
 use Rattle.model.specs.Job.Entry.{Entry}
 use Rattle.model.proofs.Job.Entry.{Short}
 

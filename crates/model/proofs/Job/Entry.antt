@@ -1,10 +1,10 @@
 -- Entries and their bytes, there and back, and the parts of an operand: each entry is its kind byte and the 4 bytes of its
 -- operand, and an operand is its low and its high 16 bits. Assumes nothing.
-use mathlib.Core.Path.{_≡_, refl, sym, _∙_, ap, ap₂}
+use mathlib.Core.Path.{_≡_, refl, _∙_, ap, ap₂}
 use mathlib.Core.List.{List, [], _∷_, _++_, map}
 use Prim.Native.Nat.{ℕ, zero, suc, _+_, _*_, _^_, _<_}
 use native.Mathlib.Omega.{arith}
-use lib.ListN.{length, take, drop, length-append, length-drop, take-append-drop}
+use lib.ListN.{length, drop, length-append, length-drop, take-append-drop}
 use lib.Seq.{take-at, drop-at}
 use Rattle.model.specs.Test.{All, none, more}
 use Rattle.model.specs.Number.{number, bytes}
@@ -12,6 +12,10 @@ use Rattle.model.specs.Job.Entry.{Entry, entry, entries, low, high, Kind
 use Rattle.model.specs.Job.Encode.{operandBytes}
 use Rattle.model.proofs.All.{All-drop}
 use Rattle.model.proofs.Number.{Byte, length-bytes, number-bytes, bytes-front, front-below}
+
+-- an entry of this kind and operand
+pub entry-of : (x : Entry) (k o : ℕ) → x .kind ≡ k → x .operand ≡ o → x ≡ entry k o
+entry-of x k o p q = ap₂ entry p q
 
 -- ---- the kind of a number
 
@@ -52,8 +56,8 @@ low-of s n l = omega arith
 pub high-of : (s n : ℕ) → s < 65536 → high (s + 65536 * n) ≡ n
 high-of s n l = omega arith
 
-pub halves : (o : ℕ) → low o + 65536 * high o ≡ o
-halves o = omega arith
+pub halves : (o n : ℕ) → n ≡ high o → o ≡ low o + 65536 * n
+halves o n e = omega arith
 
 -- ---- entries and bytes
 

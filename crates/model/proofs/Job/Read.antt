@@ -1,12 +1,12 @@
 -- Readings in steps, both ways. `Yields P r`: if r reads anything, then P holds of it. `Gives a rest r`: r reads a and leaves
 -- rest. Each follows a reading step by step, because each step either refuses or hands on what it read. Assumes nothing.
-use mathlib.Core.Path.{_≡_, refl, sym, subst}
+use mathlib.Core.Path.{_≡_, refl, subst}
 use mathlib.Core.Bool.{Bool, true, false}
-use mathlib.Core.List.{List, [], _∷_}
-use Prim.Native.Nat.{ℕ, suc}
+use mathlib.Core.List.{List}
+use Prim.Native.Nat.{ℕ}
 use native.Mathlib.Omega.{arith}
 use Rattle.model.specs.Job.Entry.{Entry}
-use Rattle.model.specs.Job.Read.{Got, Read, got, refused, _>>=_, need, entryAt}
+use Rattle.model.specs.Job.Read.{Got, Read, got, refused, _>>=_, need}
 
 -- ---- what holds of all that is read
 
@@ -23,13 +23,6 @@ module _ {A : Type 0} {P : Got A → Type 0} where
   unfolding need _>>=_
   yields-need true n e r h = h refl
   yields-need false n e r h = nothing
-
-  pub yields-entry : (e : ℕ) (es : List Entry) (f : Got Entry → Read A)
-      → ((x : Entry) (rest : List Entry) → es ≡ x ∷ rest → Yields P (f (record { value = x; next = suc e; rest = rest })))
-      → Yields P (entryAt e es >>= f)
-  unfolding entryAt _>>=_
-  yields-entry e [] f h = nothing
-  yields-entry e (x ∷ es) f h = h x es refl
 
   pub yields-bind : {B : Type 0} {Q : Got B → Type 0} {r : Read B} (f : Got B → Read A)
       → Yields Q r → ((b : Got B) → Q b → Yields P (f b)) → Yields P (r >>= f)

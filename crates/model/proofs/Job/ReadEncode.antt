@@ -1,29 +1,32 @@
 -- Reading the encoding of a well-formed program gives that program: at each entry the reader's tests are conditions that the
 -- program keeps, and what it takes from the entry is what was put there. Assumes nothing.
-use mathlib.Core.Path.{_≡_, refl, sym, _∙_, ap₂, subst}
-use mathlib.Core.Bool.{Bool, true, false, not}
+use mathlib.Core.Path.{_≡_, _∙_, ap₂}
+use mathlib.Core.Bool.{true}
 use mathlib.Core.List.{List, [], _∷_, _++_, map, append-assoc, append-nil}
-use Prim.Native.Nat.{ℕ, zero, suc, _+_, _*_, _<_, _≤_}
+use Prim.Native.Nat.{ℕ, suc, _+_, _*_, _<_, _≤_}
 use native.Mathlib.Omega.{arith}
 use lib.ListN.{length, length-append, length-map}
-use lib.Dec.{ltb, leb, eqb}
+use lib.Dec.{leb}
 use Rattle.model.specs.Test.{_or_, All, none, more}
-use Rattle.model.specs.Job.Syntax.{Param, Join, Exp, Definition, Program, formalsOf, levels, scopeLeft, scopeRight}
-use Rattle.model.specs.Job.Entry.{Entry, entry, entries, low, high, Kind, kindOf, isExpression, rowKept, isBinder}
+use Rattle.model.specs.Job.Syntax.{Param, Join, Exp, Definition, Program, scopeLeft, scopeRight}
+use Rattle.model.specs.Job.Entry.{Entry, entry, entries, kindOf, isExpression, rowKept, isBinder}
 use Rattle.model.specs.Job.Encode.{encodeParam, encodeJoin, encodeExp, encodeDefinitions, encodeEntries, operandBytes, encode}
-use Rattle.model.specs.Job.WellFormed.{GoodParam, SiteTakes, Binds, Good, GoodDefinition, WellFormed}
-use Rattle.model.specs.Job.Read.{Got, Read, _>>=_, entryAt, need, readParam, readParams, readCall, readJoin, readExp, isDefinition, readDefinition, readProgram, leftovers, definitionsKept, readEntries, sizeD, sizeN, tableLength, readBytes}
+use Rattle.model.specs.Job.WellFormed.{GoodParam, Binds, Good, GoodDefinition, WellFormed}
+use Rattle.model.specs.Job.Read.{Read, _>>=_, entryAt, need, readParam, readParams, readCall, readJoin, readExp}
+use Rattle.model.specs.Job.Read.{isDefinition, readDefinition, readProgram, leftovers, definitionsKept, readEntries}
+use Rattle.model.specs.Job.Read.{sizeD, sizeN, tableLength, readBytes}
 use Rattle.model.proofs.Test.{eq-eqb, lt-ltb, le-leb, and-both, All-map}
 use Rattle.model.proofs.Number.{signed-unsigned}
 use Rattle.model.proofs.Job.Entry.{low-of, high-of, kindBytes, length-operand-bytes, entries-encoded}
 use Rattle.model.proofs.Job.Read.{Gives, given, gives-need, gives-bind}
 use Rattle.model.proofs.Job.WellFormed.{member-any, takes-site}
-use Rattle.model.proofs.Job.Table.{table, kindPart, operandPart, size-definitions, size-entries, length-table, kind-part, operand-part}
+use Rattle.model.proofs.Job.Table.{kindPart, operandPart, size-definitions, size-entries, length-table, kind-part, operand-part}
 use Rattle.model.proofs.Job.Encode.{Few, Fine, site-small, call-small, call-count, program-few, program-fine}
 
 -- ---- parameters
 
-param-read : {scope : List ℕ} {p : Param} (e : ℕ) (rest : List Entry) → GoodParam scope p → Gives p rest (readParam scope e (encodeParam p ∷ rest))
+param-read : {scope : List ℕ} {p : Param} (e : ℕ) (rest : List Entry) → GoodParam scope p
+    → Gives p rest (readParam scope e (encodeParam p ∷ rest))
 unfolding readParam encodeParam entryAt _>>=_ kindOf
 param-read e rest (GoodParam.variable m) = gives-need _ 7 e (member-any m) given
 param-read e rest (GoodParam.constant {v = v} f) = rw (signed-unsigned v f) given
@@ -81,7 +84,8 @@ module _ {formals : List ℕ} (few : Few formals) where
   definition-read {d} good e rest =
       gives-need _ 4 e (le-leb (d .formals) 4 (good .count)) (gives-bind _ (exp-read (good .body) (suc e) rest) λ n. given)
 
-  pub program-read : {ds : List Definition} {goal : Exp} → All (GoodDefinition formals) ds → Good formals 24 [] goal → (e : ℕ) (rest : List Entry)
+  pub program-read : {ds : List Definition} {goal : Exp} → All (GoodDefinition formals) ds → Good formals 24 [] goal
+      → (e : ℕ) (rest : List Entry)
       → Gives (record { definitions = ds; goal = goal }) rest (readProgram (length ds) e (encodeDefinitions ds ++ encodeExp goal ++ rest))
   unfolding readProgram encodeDefinitions
   program-read none good e rest = gives-bind _ (exp-read good e rest) λ n. given
@@ -103,7 +107,7 @@ kept-read (more h hs) e = gives-need _ 8 e (h .kept) (kept-read hs (suc e))
 pub entries-read : {p : Program} → WellFormed p → Gives p [] (readEntries (length (p .definitions)) (encodeEntries p))
 unfolding readEntries encodeEntries leftovers need
 entries-read {p} w =
-    let all : _ = program-read (program-few w) (w .bodies) (w .goal) 0 [] in
+    let all = program-read (program-few w) (w .bodies) (w .goal) 0 [] in
     gives-bind _ (rw append-nil at all) λ n.
     gives-bind {b = tt} {mid = []} _ given λ m.
     gives-bind _ (kept-read (program-fine w) 0) λ k.
@@ -127,26 +131,53 @@ sizes-read b l e d n m h =
     (gives-need _ 1 0 (eq-eqb (length b) (tableLength b) e)
     (gives-need _ 2 0 (and-both (le-leb (sizeD b) 32 d) (and-both (le-leb 1 (sizeN b) n) (le-leb (sizeN b) 512 m))) h))
 
-pub bytes-read : {p : Program} → WellFormed p → Gives p [] (readBytes (encode p))
-unfolding encode encodeEntries
-bytes-read {p} w =
-    let es = encodeEntries p in
-    let D = length (p .definitions) in
-    let N = length es in
-    let ks = kindBytes es in
-    let os = operandBytes es in
-    let b = table D N ks os in
-    let d : D ≤ 32 = w .definitions in
-    let n : N ≤ 512 = w .entries in
-    let some = exp-some (p .goal) in
-    let sum = length-append (encodeDefinitions (p .definitions)) (encodeExp (p .goal)) in
-    let c : length ks ≡ N = length-map es _ in
-    let sizeD-is : sizeD b ≡ D = size-definitions D N ks os (omega arith) in
-    let sizeN-is : sizeN b ≡ N = size-entries D N ks os (omega arith) in
-    let total : length b ≡ 4 + length ks + length os = length-table D N ks os in
-    let operands : length os ≡ 4 * N = length-operand-bytes es in
-    let back : entries (kindPart b) (operandPart b) ≡ es =
-    ap₂ entries (kind-part D N ks os (omega arith) c) (operand-part D N ks os (omega arith) c) ∙ entries-encoded es (All-map (λ x f. f .short) (program-fine w)) in
-    sizes-read b (omega arith) (omega arith) (omega arith) (omega arith) (omega arith)
-    (subst (λ (D : ℕ). Gives p [] (readEntries D (entries (kindPart b) (operandPart b)))) (sym sizeD-is)
-    (subst (λ (es : List Entry). Gives p [] (readEntries D es)) (sym back) (entries-read w)))
+module _ {p : Program} (w : WellFormed p) where
+  entry-limit : length (encodeEntries p) < 65536
+  entry-limit = let n = w .entries in omega arith
+
+  encode-definitions : sizeD (encode p) ≡ length (p .definitions)
+  unfolding encode
+  encode-definitions = let d = w .definitions in size-definitions (length (p .definitions)) _ _ _ (omega arith)
+
+  encode-count : sizeN (encode p) ≡ length (encodeEntries p)
+  unfolding encode
+  encode-count = size-entries (length (p .definitions)) _ _ _ entry-limit
+
+  encode-length : length (encode p) ≡ 4 + 5 * length (encodeEntries p)
+  unfolding encode
+  encode-length =
+      let es = encodeEntries p in
+      let total = length-table (length (p .definitions)) (length es) (kindBytes es) (operandBytes es) in
+      let kinds : length (kindBytes es) ≡ length es = length-map es _ in
+      let operands = length-operand-bytes es in
+      omega arith
+
+  entries-back : entries (kindPart (encode p)) (operandPart (encode p)) ≡ encodeEntries p
+  unfolding encode
+  entries-back =
+      let es = encodeEntries p in
+      let D = length (p .definitions) in
+      let kinds : length (kindBytes es) ≡ length es = length-map es _ in
+      let ks = kind-part D (length es) (kindBytes es) (operandBytes es) entry-limit kinds in
+      let os = operand-part D (length es) (kindBytes es) (operandBytes es) entry-limit kinds in
+      ap₂ entries ks os ∙ entries-encoded es (All-map (λ x f. f .short) (program-fine w))
+
+  entries-some : 1 ≤ length (encodeEntries p)
+  unfolding encodeEntries
+  entries-some =
+      let goal = exp-some (p .goal) in
+      let sum = length-append (encodeDefinitions (p .definitions)) (encodeExp (p .goal)) in
+      omega arith
+
+  parts-read : Gives p [] (readEntries (sizeD (encode p)) (entries (kindPart (encode p)) (operandPart (encode p))))
+  parts-read = rw (entries-back, encode-definitions) (entries-read w)
+
+  pub bytes-read : Gives p [] (readBytes (encode p))
+  bytes-read =
+      let D = encode-definitions in
+      let N = encode-count in
+      let total = encode-length in
+      let some = entries-some in
+      let d : length (p .definitions) ≤ 32 = w .definitions in
+      let n : length (encodeEntries p) ≤ 512 = w .entries in
+      sizes-read (encode p) (omega arith) (omega arith) (omega arith) (omega arith) (omega arith) parts-read

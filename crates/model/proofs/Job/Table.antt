@@ -1,16 +1,16 @@
 -- The bytes of a table and its parts: the two sizes, the kind bytes and the operand bytes, put together and taken apart. A
 -- size below 65536 is its 2 bytes, so both ways come out at the start. Assumes nothing.
 use mathlib.Core.Path.{_≡_, refl, sym, _∙_, ap, ap₂}
-use mathlib.Core.List.{List, [], _∷_, _++_}
-use Prim.Native.Nat.{ℕ, _+_, _-_, _*_, _<_, _≤_}
+use mathlib.Core.List.{List, _++_}
+use Prim.Native.Nat.{ℕ, _+_, _<_, _≤_}
 use native.Mathlib.Omega.{arith}
-use lib.ListN.{length, take, drop, length-append, length-take, length-drop, take-append-drop}
-use lib.Seq.{take-add, take-at, drop-at, drop-drop, length-take-le}
+use lib.ListN.{length, take, drop, length-append, length-drop, take-append-drop}
+use lib.Seq.{take-add, take-at, drop-at, drop-drop}
 use Rattle.model.specs.Test.{All}
 use Rattle.model.specs.Number.{bytes}
 use Rattle.model.specs.Job.Read.{sizeD, sizeN}
 use Rattle.model.proofs.All.{All-drop}
-use Rattle.model.proofs.Number.{Byte, length-bytes, number-bytes, bytes-front}
+use Rattle.model.proofs.Number.{Byte, number-bytes, bytes-front}
 
 -- "bytes 0-1: D; bytes 2-3: N; then N kind bytes, then N operands of 4 bytes"
 abbrev pub table : (D N : ℕ) (ks os : List ℕ) → List ℕ

@@ -1,10 +1,10 @@
 -- The reader's tests and the conditions of well-formed programs are the same: a variable is in scope, a site takes so many
 -- parameters, a call names a definition with as many formals. Each is a test of numbers. Assumes nothing.
-use mathlib.Core.Path.{_≡_, refl, sym}
+use mathlib.Core.Path.{_≡_, refl}
 use mathlib.Core.Logic.{_⊎_, inl, inr}
-use mathlib.Core.Bool.{Bool, true, false, not}
+use mathlib.Core.Bool.{true, not}
 use mathlib.Core.List.{List, [], _∷_, List·Memᴰ, List·Memᴰ·head, List·Memᴰ·tail}
-use Prim.Native.Nat.{ℕ, _<_, _≤_}
+use Prim.Native.Nat.{ℕ, _<_}
 use lib.ListN.{length, getD}
 use lib.Dec.{eqb, ltb, leb}
 use Rattle.model.specs.Test.{_and_, _or_, any}
@@ -12,7 +12,8 @@ use Rattle.model.specs.Site.{counts, siteTakes, isBuiltin, isOutside}
 use Rattle.model.specs.Job.WellFormed.{SiteTakes, builtin, outside}
 use Rattle.model.specs.Job.Entry.{Entry, low, high}
 use Rattle.model.specs.Job.Read.{callKept}
-use Rattle.model.proofs.Test.{eqb-eq, eq-eqb, eqb-same, ltb-lt, lt-ltb, leb-le, le-leb, and-left, and-right, and-both, or-left, or-right, or-cases, clash}
+use Rattle.model.proofs.Test.{eqb-eq, eq-eqb, ltb-lt, lt-ltb, leb-le, le-leb}
+use Rattle.model.proofs.Test.{and-left, and-right, and-both, or-left, or-right, or-cases, clash}
 
 -- ---- a variable in scope
 
@@ -71,7 +72,7 @@ kept-call formals x k e =
 pub call-kept : (formals : List ℕ) (x : Entry) → Names formals (low (x .operand)) (high (x .operand)) → Kept formals x
 unfolding callKept
 call-kept formals x h =
-    or-right (not (eqb (x .kind) 2)) (and-both (lt-ltb (low (x .operand)) (length formals) (h .defined)) (eq-eqb (high (x .operand)) _ (h .count)))
+    or-right (not (eqb (x .kind) 2)) (and-both (lt-ltb _ (length formals) (h .defined)) (eq-eqb (high (x .operand)) _ (h .count)))
 
 pub other-kept : (formals : List ℕ) (x : Entry) → not (eqb (x .kind) 2) ≡ true → Kept formals x
 unfolding callKept
