@@ -2,7 +2,7 @@
 pub mod Entry
 pub mod Read
 pub mod WellFormed
-pub mod Begins
+pub mod Prefix
 pub mod Encode
 pub mod Table
 pub mod ReadEncode

@@ -23,7 +23,7 @@ use Rattle.model.proofs.Job.Entry.{entry-of, kind-number, kindBytes}
 use Rattle.model.proofs.Job.Entry.{length-entries, kind-bytes-entries, operand-bytes-entries, entries-short}
 use Rattle.model.proofs.Job.Read.{Yields, something, nothing, yields-got, yields-need, yields-bind, yields-map, yields-itself}
 use Rattle.model.proofs.Job.WellFormed.{Kept}
-use Rattle.model.proofs.Job.Begins.{Begins, next, begins-append, begins-rest, begins-length, begins-exact}
+use Rattle.model.proofs.Job.Prefix.{Begins, next, begins-append, begins-rest, begins-length, begins-exact}
 use Rattle.model.proofs.Job.Table.{kindPart, operandPart, table-parts}
 use Rattle.model.proofs.Job.FoundExpression.{exp-found}
 

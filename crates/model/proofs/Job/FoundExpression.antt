@@ -19,7 +19,7 @@ use Rattle.model.proofs.Number.{signed-fits, unsigned-signed}
 use Rattle.model.proofs.Job.Entry.{entry-of, kind-number, halves, Short}
 use Rattle.model.proofs.Job.Read.{Yields, something, nothing, yields-need, yields-bind}
 use Rattle.model.proofs.Job.WellFormed.{any-member, site-takes, Kept, kept-call}
-use Rattle.model.proofs.Job.Begins.{Begins, done, next, begins-one, begins-append, begins-rest}
+use Rattle.model.proofs.Job.Prefix.{Begins, done, next, begins-one, begins-append, begins-rest}
 
 -- ---- parameters
 
