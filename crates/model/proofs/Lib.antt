@@ -4,6 +4,9 @@ pub mod Site
 pub mod Job
 pub mod Machine
 pub mod Calculus
+pub mod All
+pub mod Number
+pub mod Job
 pub mod Run
 pub mod Abstract
 pub mod Rep
