@@ -1,13 +1,6 @@
 -- Laws of jobs: the reader's answer, the construction of a dag, its index rules, its words.
-pub mod Position
-pub mod Size
-pub mod Rules
-pub mod Kept
-pub mod Laid
-pub mod Decode
-pub mod Begins
--- Laws of the job table.
 pub mod Entry
+pub mod Position
 pub mod Read
 pub mod WellFormed
 pub mod Prefix
@@ -17,3 +10,9 @@ pub mod ReadEncode
 pub mod FoundExpression
 pub mod EncodeRead
 pub mod Accepted
+pub mod Size
+pub mod Rules
+pub mod Kept
+pub mod Laid
+pub mod Decode
+pub mod Begins

@@ -1,12 +1,11 @@
 -- Laws of the definitions, under the folder names of specs/.
 pub mod Test
+pub mod All
+pub mod Number
 pub mod Site
 pub mod Job
 pub mod Machine
 pub mod Calculus
-pub mod All
-pub mod Number
-pub mod Job
 pub mod Run
 pub mod Abstract
 pub mod Rep
