@@ -2,6 +2,7 @@
 pub mod Entry
 pub mod Position
 pub mod Read
+pub mod Scope
 pub mod WellFormed
 pub mod Prefix
 pub mod Encode

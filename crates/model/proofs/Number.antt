@@ -20,7 +20,7 @@ use Rattle.model.proofs.Test.{ltb-lt, lt-ltb, le-not-ltb}
 abbrev pub Byte : ℕ → Type 0
 Byte b = b < 256
 
--- ---- bytes
+-- bytes
 
 pub length-bytes : (w n : ℕ) → length (bytes w n) ≡ w
 unfolding bytes
@@ -65,7 +65,7 @@ pub front-below : (w : ℕ) (bs : List ℕ) → w ≤ length bs → All Byte bs 
 front-below w bs l all =
     subst (λ (n : ℕ). number (take w bs) < 256 ^ n) (length-take-le w bs l) (number-below (take w bs) (All-take w all))
 
--- ---- signed numbers
+-- signed numbers
 
 signed-lower : (n : ℕ) → n < 2 ^ 31 → signed n ≡ pos n
 unfolding signed

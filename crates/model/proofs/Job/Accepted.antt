@@ -43,7 +43,7 @@ pub accepted-exactly : (b : List ℕ) (p : Program) → All (λ x. x < 256) b �
 accepted-exactly b p all =
     ((λ e. let h = accepted-found b p e in (h .well-formed, h .exact all)), λ h. ap readTable (h .1) ∙ encode-accepted p (h .0))
 
--- ---- one reply
+-- one reply
 
 abbrev pub Declined : List ℕ → Type 0
 Declined b = (n : ℕ) × (e : ℕ) × (readTable b ≡ declined n e)

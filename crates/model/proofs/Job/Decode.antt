@@ -18,16 +18,8 @@ use Rattle.model.specs.Job.Node.{Node, Body, Dag, paramKept, paramsKept,
 use Rattle.model.specs.Job.Words.{paramWords, nodeWords, paramOf, paramsFrom, nodeBy, nodeOf, nodesFrom, bodiesFrom, headWords, arrayWords, dagOf, rowsOf, bodyWords, written}
 use Rattle.model.proofs.Job.Laid.{Laid, laid, getD-sets-before, getD-sets-after}
 use Rattle.model.proofs.Job.Rules.{DagRules, dag-rules}
+use Rattle.model.proofs.Number.{signed-unsigned}
 use Rattle.model.proofs.Test.{clash, ltb-lt, leb-le, le-not-ltb, and-left, and-right, all-head, all-tail, same-refl}
-
--- 32 bits keep a signed number
-signed-unsigned : (v : ℤ) → Signed32 v → signed (unsigned v) ≡ v
-unfolding signed unsigned fits
-signed-unsigned (pos n) f = rw (f, signed)
-signed-unsigned (negsuc n) f =
-    let small : n < 2 ^ 31 = ltb-lt n (2 ^ 31) f in
-    let large : ltb (2 ^ 32 - 1 - n) (2 ^ 31) ≡ false = le-not-ltb (2 ^ 32 - 1 - n) (2 ^ 31) (omega arith) in
-    rw (large, signed) (ap negsuc (omega arith))
 
 -- parameters
 param-words-length : (n : ℕ) (ps : List Param) → length (paramWords n ps) ≡ 2 * n

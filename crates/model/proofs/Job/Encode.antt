@@ -17,7 +17,8 @@ use Rattle.model.proofs.Test.{leb-le, all-at, All-map}
 use Rattle.model.proofs.All.{All-append, All-member, All-at, All-image}
 use Rattle.model.proofs.Number.{Byte, bytes-are, unsigned-below}
 use Rattle.model.proofs.Job.Entry.{Short, low-of, high-of}
-use Rattle.model.proofs.Job.WellFormed.{Kept, Names, call-kept, other-kept}
+use Rattle.model.proofs.Job.Scope.{Slots, levels-slots, left-slots, right-slots}
+use Rattle.model.proofs.Job.WellFormed.{Kept, Names, site-few, call-kept, other-kept}
 
 -- the definitions that a table may have
 pub record Few (formals : List ℕ) : Type 0 where
@@ -33,12 +34,6 @@ pub site-small : {s n : ℕ} → SiteTakes s n → s < 65536
 site-small (SiteTakes.builtin l e) = omega arith
 site-small (SiteTakes.outside l m k) = omega arith
 
-pub site-count : {s n : ℕ} → SiteTakes s n → n ≤ 4
-unfolding all _and_
-site-count {s} (SiteTakes.builtin l e) =
-    let z : getD counts s 0 ≤ 4 = leb-le _ 4 (all-at (λ n. leb n 4) counts s 0 refl l) in omega arith
-site-count (SiteTakes.outside l m k) = k
-
 -- a definition's count of formals, and the parameters of a call of it
 pub call-small : {formals : List ℕ} → Few formals → (d : ℕ) → d < length formals → d < 65536
 call-small few d l = let z = few .definitions in omega arith
@@ -46,40 +41,18 @@ call-small few d l = let z = few .definitions in omega arith
 pub call-count : {formals : List ℕ} → Few formals → (d n : ℕ) → d < length formals → n ≡ getD formals d 0 → n ≤ 4
 call-count {formals} few d n l e = let z : getD formals d 0 ≤ 4 = All-at (few .counts) d 0 l in omega arith
 
--- ---- variables
-
-abbrev Small : ℕ → Type 0
-Small x = x < 8
-
-levels-small : (n : ℕ) → n ≤ 4 → All Small (levels n)
-unfolding levels
-levels-small zero l = none
-levels-small (suc n) l = let s : n < 8 = omega arith in more s (levels-small n (omega arith))
-
-small-left : {scope : List ℕ} {j : Join} → Binds scope j → All Small scope → All Small (scopeLeft j scope)
-unfolding scopeLeft
-small-left Binds.par small = small
-small-left (Binds.seq l) small = small
-small-left (Binds.prune l) small = more l small
-
-small-right : {scope : List ℕ} {j : Join} → Binds scope j → All Small scope → All Small (scopeRight j scope)
-unfolding scopeRight
-small-right Binds.par small = small
-small-right (Binds.seq l) small = more l small
-small-right (Binds.prune l) small = small
-
--- ---- entries
+-- entries
 
 module _ (formals : List ℕ) where
   other-fine : (k o : ℕ) → not (eqb k 2) ≡ true → k < 256 → o < 2 ^ 32 → Fine formals (entry k o)
   other-fine k o t b l = record { kind = b; short = l; kept = other-kept formals _ t }
 
-  param-fine : {scope : List ℕ} {p : Param} → All Small scope → GoodParam scope p → Fine formals (encodeParam p)
+  param-fine : {scope : List ℕ} {p : Param} → Slots scope → GoodParam scope p → Fine formals (encodeParam p)
   unfolding encodeParam
   param-fine small (GoodParam.variable {x = x} m) = let l : x < 8 = All-member small m in other-fine 7 x refl (omega arith) (omega arith)
   param-fine small (GoodParam.constant {v = v} f) = other-fine 8 _ refl (omega arith) (unsigned-below v f)
 
-  params-fine : {scope : List ℕ} {ps : List Param} → All Small scope → All (GoodParam scope) ps → All (Fine formals) (map encodeParam ps)
+  params-fine : {scope : List ℕ} {ps : List Param} → Slots scope → All (GoodParam scope) ps → All (Fine formals) (map encodeParam ps)
   params-fine small none = none
   params-fine small (more g gs) = more (param-fine small g) (params-fine small gs)
 
@@ -93,7 +66,7 @@ module _ (formals : List ℕ) where
     site-fine : {s n : ℕ} → SiteTakes s n → Fine formals (entry 1 (s + 65536 * n))
     site-fine {s} {n} t =
         let l : s < 65536 = site-small t in
-        let c : n ≤ 4 = site-count t in
+        let c : n ≤ 4 = site-few t in
         other-fine 1 _ refl (omega arith) (omega arith)
 
     call-fine : (d n : ℕ) → d < length formals → n ≡ getD formals d 0 → Fine formals (entry 2 (d + 65536 * n))
@@ -103,13 +76,13 @@ module _ (formals : List ℕ) where
         let names : Names formals d n = record { defined = l; count = e } in
         record { kind = omega arith; short = omega arith; kept = call-kept formals _ (rw (low-of d n b, high-of d n b) names) }
 
-    exp-fine : {left : ℕ} {scope : List ℕ} {x : Exp} → All Small scope → Good formals left scope x → All (Fine formals) (encodeExp x)
+    exp-fine : {left : ℕ} {scope : List ℕ} {x : Exp} → Slots scope → Good formals left scope x → All (Fine formals) (encodeExp x)
     unfolding encodeExp
     exp-fine small Good.stop = more (other-fine 0 0 refl (omega arith) (omega arith)) none
     exp-fine small (Good.site t good) = more (site-fine t) (params-fine small good)
     exp-fine small (Good.call {d = d} l e good) = more (call-fine d _ l e) (params-fine small good)
     exp-fine small (Good.join {j = j} b f g) =
-        more (join-fine j) (All-append (exp-fine (small-left b small) f) (exp-fine (small-right b small) g))
+        more (join-fine j) (All-append (exp-fine (left-slots b small) f) (exp-fine (right-slots b small) g))
 
     definitions-fine : {ds : List Definition} → All (GoodDefinition formals) ds → All (Fine formals) (encodeDefinitions ds)
     unfolding encodeDefinitions
@@ -117,9 +90,9 @@ module _ (formals : List ℕ) where
     definitions-fine (more {x = d} g gs) =
         let c : d .formals ≤ 4 = g .count in
         more (other-fine 6 (d .formals) refl (omega arith) (omega arith))
-        (All-append (exp-fine (levels-small (d .formals) c) (g .body)) (definitions-fine gs))
+        (All-append (exp-fine (levels-slots (d .formals) (omega arith)) (g .body)) (definitions-fine gs))
 
--- ---- programs
+-- programs
 
 formals-few : {formals : List ℕ} {ds : List Definition} → All (GoodDefinition formals) ds → All (λ n. n ≤ 4) (formalsOf ds)
 formals-few none = none
@@ -135,7 +108,7 @@ pub program-fine : {p : Program} → WellFormed p → All (Fine (formalsOf (p .d
 unfolding encodeEntries
 program-fine w = let few = program-few w in All-append (definitions-fine _ few (w .bodies)) (exp-fine _ few none (w .goal))
 
--- ---- bytes
+-- bytes
 
 operands-bytes : (es : List Entry) → All Byte (operandBytes es)
 unfolding operandBytes

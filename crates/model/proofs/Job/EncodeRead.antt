@@ -27,7 +27,7 @@ use Rattle.model.proofs.Job.Prefix.{Begins, next, begins-append, begins
 use Rattle.model.proofs.Job.Table.{kindPart, operandPart, table-parts}
 use Rattle.model.proofs.Job.FoundExpression.{exp-found}
 
--- ---- definitions and programs
+-- definitions and programs
 
 record FoundDefinition (formals : List ℕ) (es : List Entry) (g : Got Definition) : Type 0 where
   good : GoodDefinition formals (g .value)
@@ -84,7 +84,7 @@ program-found formals (suc n) e es kept =
       begins = rw append-assoc (begins-append (h .begins) (hs .begins));
     })
 
--- ---- the entries and the bytes of a table
+-- the entries and the bytes of a table
 
 leftovers-found : (e : ℕ) (es : List Entry) → Yields (λ _. es ≡ []) (leftovers e es)
 unfolding leftovers need

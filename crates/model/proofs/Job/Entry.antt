@@ -17,7 +17,7 @@ use Rattle.model.proofs.Number.{Byte, length-bytes, number-bytes, bytes
 pub entry-of : (x : Entry) (k o : ℕ) → x .kind ≡ k → x .operand ≡ o → x ≡ entry k o
 entry-of x k o p q = ap₂ entry p q
 
--- ---- the kind of a number
+-- the kind of a number
 
 -- the number of a kind: an unknown one has any
 abbrev pub kindNumber : Kind → ℕ → ℕ
@@ -48,7 +48,7 @@ own-number (suc (suc (suc (suc (suc (suc (suc (suc (suc n))))))))) = refl
 pub kind-number : (n : ℕ) (k : Kind) → kindOf n ≡ k → n ≡ kindNumber k n
 kind-number n k e = own-number n ∙ ap (λ (k : Kind). kindNumber k n) e
 
--- ---- the two halves of an operand
+-- the two halves of an operand
 
 pub low-of : (s n : ℕ) → s < 65536 → low (s + 65536 * n) ≡ s
 low-of s n l = omega arith
@@ -59,7 +59,7 @@ high-of s n l = omega arith
 pub halves : (o n : ℕ) → n ≡ high o → o ≡ low o + 65536 * n
 halves o n e = omega arith
 
--- ---- entries and bytes
+-- entries and bytes
 
 -- an operand of 4 bytes
 abbrev pub Short : Entry → Type 0

@@ -21,7 +21,7 @@ use Rattle.model.proofs.Job.Read.{Yields, something, nothing, yields-ne
 use Rattle.model.proofs.Job.WellFormed.{any-member, site-takes, Kept, kept-call}
 use Rattle.model.proofs.Job.Prefix.{Begins, done, next, begins-one, begins-append, begins-rest}
 
--- ---- parameters
+-- parameters
 
 record FoundParam (scope : List ℕ) (es : List Entry) (g : Got Param) : Type 0 where
   good : GoodParam scope (g .value)
@@ -75,7 +75,7 @@ params-found (suc n) scope e es =
     yields-bind _ (params-found n scope (p .next) (p .rest)) λ ps hs.
     something (record { good = more (h .good) (hs .good); count = ap suc (hs .count); begins = begins-append (h .begins) (hs .begins) })
 
--- ---- expressions
+-- expressions
 
 pub record FoundExp (formals : List ℕ) (left : ℕ) (scope : List ℕ) (es : List Entry) (g : Got Exp) : Type 0 where
   pub good : Good formals left scope (g .value)

@@ -15,6 +15,9 @@ use Rattle.model.specs.Job.WellFormed.{GoodParam, SiteTakes, Binds, Good
 use Rattle.model.specs.Job.Node.{Node, Dag, paramKept, paramsKept, isNode, nodeKept, bodyKept, dagKept}
 use Rattle.model.specs.Job.Construct.{own, size, root, ownNodes, nodesOf, nextLeft, nextRight, constructFrom, construct}
 use Rattle.model.proofs.Test.{eq-eqb, lt-ltb, le-leb, leb-le, and-both, or-left, or-right, all-nil, all-cons, all-append, all-at, All-all, All-map}
+use Rattle.model.proofs.All.{All-member, All-at}
+use Rattle.model.proofs.Job.Scope.{Slots, levels-slots, left-slots, right-slots}
+use Rattle.model.proofs.Job.WellFormed.{takes-site, site-few}
 use Rattle.model.proofs.Job.Size.{nodes-append-length, nodes-few}
 use Rattle.model.proofs.Job.Rules.{DagRules, rules-dag}
 
@@ -37,41 +40,6 @@ root-below (Exp.join Join.par f g) n = omega arith
 root-below (Exp.join (Join.seq x) f g) n = omega (arith, root-below f (n + 2))
 root-below (Exp.join (Join.prune x) f g) n = omega arith
 
--- what is of each element is of a member
-pub All-member : {A : Type 0} {P : A → Type 0} {x : A} {xs : List A} → All P xs → List·Memᴰ x xs → P x
-All-member none m = absurd (List·Memᴰ·not-nil m)
-All-member {P = P} {x = y} (more {x = x} {xs = xs} p ps) m = go (λ r. All-member ps r) (List·Memᴰ·cases-cons m)
-  where
-    go : (List·Memᴰ y xs → P y) → (y ≡ x) ⊎ List·Memᴰ y xs → P y
-    go below (inl e) = subst P (sym e) p
-    go below (inr r) = below r
-
-pub All-at : {A : Type 0} {P : A → Type 0} {xs : List A} → All P xs → (i : ℕ) (d : A) → i < length xs → P (getD xs i d)
-All-at none i d l = absurd (omega arith)
-All-at (more p ps) zero d l = p
-All-at (more p ps) (suc i) d l = All-at ps i d (omega arith)
-
--- variables: "at most 8 are in scope"
-abbrev Slots : List ℕ → Type 0
-Slots scope = All (λ x. x < 8) scope
-
-levels-slots : (n : ℕ) → n ≤ 8 → Slots (levels n)
-unfolding levels
-levels-slots zero l = none
-levels-slots (suc n) l = more {x = n} (omega arith) (levels-slots n (omega arith))
-
-left-slots : {scope : List ℕ} {j : Join} → Binds scope j → Slots scope → Slots (scopeLeft j scope)
-unfolding scopeLeft
-left-slots Binds.par s = s
-left-slots (Binds.seq l) s = s
-left-slots (Binds.prune l) s = more l s
-
-right-slots : {scope : List ℕ} {j : Join} → Binds scope j → Slots scope → Slots (scopeRight j scope)
-unfolding scopeRight
-right-slots Binds.par s = s
-right-slots (Binds.seq l) s = more l s
-right-slots (Binds.prune l) s = s
-
 -- parameters
 param-kept : {scope : List ℕ} → Slots scope → (q : Param) → GoodParam scope q → paramKept q ≡ true
 unfolding paramKept
@@ -81,20 +49,6 @@ param-kept s (Param.constant v) (GoodParam.constant f) = f
 params-kept : {scope : List ℕ} → Slots scope → (ps : List Param) → length ps ≤ 4 → All (GoodParam scope) ps → paramsKept ps ≡ true
 unfolding paramsKept
 params-kept s ps l a = and-both (le-leb (length ps) 4 l) (All-all paramKept ps (All-map (param-kept s) a))
-
--- sites
-pub site-few : {s n : ℕ} → SiteTakes s n → n ≤ 4
-unfolding all _and_
-site-few {s} (SiteTakes.builtin l e) =
-    let few : getD counts s 0 ≤ 4 = leb-le (getD counts s 0) 4 (all-at (λ c. leb c 4) counts s 0 refl l) in omega arith
-site-few (SiteTakes.outside l u f) = f
-
-pub site-takes : (s n : ℕ) → SiteTakes s n → siteTakes s n ≡ true
-unfolding siteTakes isBuiltin isOutside
-site-takes s n (SiteTakes.builtin l e) =
-    or-left (isOutside s and leb n 4) (and-both (lt-ltb s (length builtins) l) (eq-eqb n (getD counts s 0) e))
-site-takes s n (SiteTakes.outside l u f) =
-    or-right (isBuiltin s and eqb n (getD counts s 0)) (and-both (and-both (le-leb 16 s l) (le-leb s 1023 u)) (le-leb n 4 f))
 
 -- the nodes that the operands of a join go toward
 next-left : (j : Join) (n k m : ℕ) → n + own j ≤ m → k < m → nextLeft j n k < m
@@ -136,7 +90,7 @@ module _ (d : Dag) (formals : List ℕ) (counted : length formals ≡ length (d 
   unfolding nodesOf nodeKept size
   nodes-kept Good.stop s n k hk fit = only-kept _ refl
   nodes-kept (Good.site {s = x} {ps = ps} t a) s n k hk fit =
-      only-kept _ (and-both (site-takes x (length ps) t) (and-both (params-kept s ps (site-few t) a) (is-node k hk)))
+      only-kept _ (and-both (takes-site t) (and-both (params-kept s ps (site-few t) a) (is-node k hk)))
   nodes-kept (Good.call {d = x} {ps = ps} l t a) s n k hk fit =
       let c : getD formals x 0 ≤ 4 = All-at few x 0 l in
       only-kept _

@@ -8,7 +8,7 @@ use native.Mathlib.Omega.{arith}
 use Rattle.model.specs.Job.Entry.{Entry}
 use Rattle.model.specs.Job.Read.{Got, Read, got, refused, _>>=_, need}
 
--- ---- what holds of all that is read
+-- what holds of all that is read
 
 pub data Yields {A : Type 0} (P : Got A → Type 0) : Read A → Type 0 where
   something : {g : Got A} → P g → Yields P (got g)
@@ -39,7 +39,7 @@ pub yields-itself : {A : Type 0} (r : Read A) → Yields (λ g. r ≡ got g) r
 yields-itself (got g) = something refl
 yields-itself (refused n e) = nothing
 
--- ---- a reading that succeeds
+-- a reading that succeeds
 
 pub data Gives {A : Type 0} (a : A) (rest : List Entry) : Read A → Type 0 where
   given : {n : ℕ} → Gives a rest (got (record { value = a; next = n; rest = rest }))

@@ -23,7 +23,7 @@ use Rattle.model.proofs.Job.WellFormed.{member-any, takes-site}
 use Rattle.model.proofs.Job.Table.{kindPart, operandPart, size-definitions, size-entries, length-table, kind-part, operand-part}
 use Rattle.model.proofs.Job.Encode.{Few, Fine, site-small, call-small, call-count, program-few, program-fine}
 
--- ---- parameters
+-- parameters
 
 param-read : {scope : List ℕ} {p : Param} (e : ℕ) (rest : List Entry) → GoodParam scope p
     → Gives p rest (readParam scope e (encodeParam p ∷ rest))
@@ -46,7 +46,7 @@ call-read : (h : List Param → Exp) {scope : List ℕ} {ps : List Param} (e : �
 unfolding readCall
 call-read h e rest good = gives-bind _ (params-read e rest good) λ n. given
 
--- ---- expressions
+-- expressions
 
 -- a join, where its two sides are read
 join-read : (side : List ℕ → ℕ → List Entry → Read Exp) (j : Join) (scope : List ℕ) (f g : Exp) (e : ℕ) (rest : List Entry)
@@ -76,7 +76,7 @@ module _ {formals : List ℕ} (few : Few formals) where
   exp-read (Good.join {f = f} {g = g} (Binds.prune l) hf hg) e rest =
       gives-need _ 7 e (lt-ltb _ 8 l) (join-read _ (Join.prune _) _ f g (suc e) rest (exp-read hf) (exp-read hg))
 
-  -- ---- definitions and programs
+  -- definitions and programs
 
   definition-read : {d : Definition} → GoodDefinition formals d → (e : ℕ) (rest : List Entry)
       → Gives d rest (readDefinition e (entry 6 (d .formals) ∷ encodeExp (d .body) ++ rest))
@@ -97,7 +97,7 @@ module _ {formals : List ℕ} (few : Few formals) where
       gives-bind _ (program-read hs good n rest) λ m.
       given)
 
--- ---- the entries of a program
+-- the entries of a program
 
 kept-read : {formals : List ℕ} {es : List Entry} → All (Fine formals) es → (e : ℕ) → Gives tt [] (definitionsKept formals e es)
 unfolding definitionsKept need
@@ -113,7 +113,7 @@ entries-read {p} w =
     gives-bind _ (kept-read (program-fine w) 0) λ k.
     given
 
--- ---- the bytes of a program
+-- the bytes of a program
 
 exp-some : (x : Exp) → 1 ≤ length (encodeExp x)
 unfolding encodeExp

@@ -4,18 +4,19 @@ use mathlib.Core.Path.{_≡_, refl}
 use mathlib.Core.Logic.{_⊎_, inl, inr}
 use mathlib.Core.Bool.{true, not}
 use mathlib.Core.List.{List, [], _∷_, List·Memᴰ, List·Memᴰ·head, List·Memᴰ·tail}
-use Prim.Native.Nat.{ℕ, _<_}
+use Prim.Native.Nat.{ℕ, _<_, _≤_}
+use native.Mathlib.Omega.{arith}
 use lib.ListN.{length, getD}
 use lib.Dec.{eqb, ltb, leb}
-use Rattle.model.specs.Test.{_and_, _or_, any}
+use Rattle.model.specs.Test.{_and_, _or_, all, any}
 use Rattle.model.specs.Site.{counts, siteTakes, isBuiltin, isOutside}
 use Rattle.model.specs.Job.WellFormed.{SiteTakes, builtin, outside}
 use Rattle.model.specs.Job.Entry.{Entry, low, high}
 use Rattle.model.specs.Job.Read.{callKept}
 use Rattle.model.proofs.Test.{eqb-eq, eq-eqb, ltb-lt, lt-ltb, leb-le, le-leb}
-use Rattle.model.proofs.Test.{and-left, and-right, and-both, or-left, or-right, or-cases, clash}
+use Rattle.model.proofs.Test.{all-at, and-left, and-right, and-both, or-left, or-right, or-cases, clash}
 
--- ---- a variable in scope
+-- a variable in scope
 
 pub any-member : (x : ℕ) (scope : List ℕ) → any (eqb x) scope ≡ true → List·Memᴰ x scope
 unfolding any
@@ -31,7 +32,7 @@ unfolding any
 member-any {x} (List·Memᴰ·head {x = y} {xs = scope} e) = or-left (any (eqb x) scope) (eq-eqb x y e)
 member-any {x} (List·Memᴰ·tail {x = y} m) = or-right (eqb x y) (member-any m)
 
--- ---- a site that takes n parameters
+-- a site that takes n parameters
 
 pub site-takes : (s n : ℕ) → siteTakes s n ≡ true → SiteTakes s n
 unfolding siteTakes isBuiltin isOutside
@@ -51,7 +52,14 @@ takes-site {s} {n} (builtin l e) = or-left (isOutside s and leb n 4) (and-both (
 takes-site {s} {n} (outside l m k) =
     or-right (isBuiltin s and eqb n (getD counts s 0)) (and-both (and-both (le-leb 16 s l) (le-leb s 1023 m)) (le-leb n 4 k))
 
--- ---- a call of a definition
+-- a call has at most 4 parameters
+pub site-few : {s n : ℕ} → SiteTakes s n → n ≤ 4
+unfolding all _and_
+site-few {s} (builtin l e) =
+    let few : getD counts s 0 ≤ 4 = leb-le (getD counts s 0) 4 (all-at (λ c. leb c 4) counts s 0 refl l) in omega arith
+site-few (outside l u f) = f
+
+-- a call of a definition
 
 -- entry x, if it is a call, names a definition with as many formals
 abbrev pub Kept : List ℕ → Entry → Type 0
