@@ -165,7 +165,7 @@ unfolding cellsOf
 of-cells Q t h c (List·Memᴰ·head e) = h .cell c (sym e)
 of-cells Q t h c (List·Memᴰ·tail m) = let y = place-bound (t .binds) c m in h .binds (y .0) c (y .1)
 
-slot-unbound : (n x c : ℕ) → slotAt (replicate n empty) x ≡ slots.Cell c → ⊥
+pub slot-unbound : (n x c : ℕ) → slotAt (replicate n empty) x ≡ slots.Cell c → ⊥
 unfolding slotAt
 slot-unbound zero x c e = let z : _≡_ {A = ℕ} 0 1 = cc in omega arith
 slot-unbound (suc n) zero c e = let z : _≡_ {A = ℕ} 0 1 = cc in omega arith

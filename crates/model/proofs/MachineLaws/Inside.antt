@@ -96,9 +96,11 @@ inside-less {n} {k} {Q} {R} {ts} {cs} us ds a b f g h =
     live : (i : ℕ) → (tokenAt us i ≡ tokenAt ts i) ⊎ (tokenAt us i ≡ blankToken) → isLive (tokenAt us i .state) ≡ true → Q i
     live i (inl e) x = h .live i (ap (λ (t : Token). isLive (t .state)) (sym e) ∙ x)
     live i (inr e) x = clash x (ap (λ (t : Token). isLive (t .state)) e)
+
     fits : (i : ℕ) → Fits Q R (tokenAt ts i) → (tokenAt us i ≡ tokenAt ts i) ⊎ (tokenAt us i ≡ blankToken) → Fits Q R (tokenAt us i)
     fits i x (inl e) = subst (Fits Q R) (sym e) x
     fits i x (inr e) = subst (Fits Q R) (sym e) (fits-blank Q R)
+
     parent :
         (c : ℕ)
         → Names R (cellAt cs c .parent)
@@ -168,9 +170,11 @@ module _ {n k : ℕ} {Q R : ℕ → Type 0} {ts : List Token} {cs : List Cell} (
     where
       now : ℕ → Token
       now i = getD (set ts q u) i blankToken
+
       live : (i : ℕ) → ((i ≡ q) × (now i ≡ u)) ⊎ (now i ≡ getD ts i blankToken) → isLive (now i .state) ≡ true → With Q q i
       live i (inl x) e = inr (x .0)
       live i (inr x) e = inl (h .live i (ap (λ (t : Token). isLive (t .state)) (sym x) ∙ e))
+
       fits :
           (i : ℕ)
           → i < n
@@ -195,6 +199,7 @@ module _ {n k : ℕ} {Q R : ℕ → Type 0} {ts : List Token} {cs : List Cell} (
     where
       now : ℕ → Cell
       now b = getD (set cs c x) b blankCell
+
       parent :
           (b : ℕ)
           → b < k

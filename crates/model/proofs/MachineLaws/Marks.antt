@@ -119,3 +119,22 @@ marked-inside-one fewer more q l h =
     go : (i : ℕ) → Marked more i ⊎ (i ≡ q) → Marked (set more q true) i
     go i (inl m) = mark-mono more q i m
     go i (inr e) = subst (λ x. Marked (set more q true) x) (sym e) (mark-same more q)
+
+-- none, and some
+pub marked-replicate : (n : ℕ) → marked (replicate n false) ≡ 0
+unfolding marked
+marked-replicate zero = refl
+marked-replicate (suc n) = marked-replicate n
+
+pub marked-no-place : (marks : List Bool) → ((i : ℕ) → i < length marks → Marked marks i → ⊥) → marked marks ≡ 0
+unfolding marked
+marked-no-place [] h = refl
+marked-no-place (true ∷ marks) h = absurd (h 0 (omega arith) refl)
+marked-no-place (false ∷ marks) h = marked-no-place marks (λ i l m. h (suc i) (omega arith) m)
+
+pub marked-some : (marks : List Bool) (i : ℕ) → i < length marks → Marked marks i → 0 < marked marks
+unfolding marked
+marked-some [] i l m = absurd (omega arith)
+marked-some (true ∷ marks) i l m = omega arith
+marked-some (false ∷ marks) zero l m = clash m refl
+marked-some (false ∷ marks) (suc i) l m = marked-some marks i (omega arith) m

@@ -107,6 +107,7 @@ names-once of ts array n e =
   where
     test : ℕ → Token → Bool
     test p t = eqb (count p (take n array)) (once (of (t .state)))
+
     at : (p : ℕ) → p < length ts → allFrom test 0 ts ≡ true → test p (getD ts p blankToken) ≡ true
     at p l h = subst (λ i. test i (getD ts p blankToken) ≡ true) (let z : 0 + p ≡ p = omega arith in z) (all-from-at test 0 ts p blankToken h l)
 
