@@ -1,7 +1,7 @@
 -- What each node does leaves the record within the limits: the token that acts is in use, so what it names is, and a call adds at most the
 -- places that it was tested for. Assumes nothing.
 use mathlib.Core.Path.{_≡_, refl}
-use mathlib.Core.Logic.{_⊎_, inl, inr}
+use mathlib.Core.Logic.{inl, inr}
 use mathlib.Core.Bool.{Bool, true, false}
 use mathlib.Core.List.{List}
 use Prim.Native.Nat.{ℕ}
@@ -18,7 +18,6 @@ use Rattle.model.specs.Machine.InUse.{finish}
 use Rattle.model.specs.Machine.Reply.{Effect, unless}
 use Rattle.model.specs.Machine.Step as Step
 use Rattle.model.specs.Machine.Step.{Looked, values, unset, hasTokenPlace, hasCellPlace, withOrders, chokeToken, act}
-use Rattle.model.specs.declared.token.Slot.{Slot}
 use Rattle.model.specs.declared.token.Slot.the-variants as slots
 use Rattle.model.specs.declared.token.Held.the-variants as helds
 use Rattle.model.specs.declared.token.Place.{Place}
@@ -31,8 +30,10 @@ use Rattle.model.proofs.MachineLaws.Reach.{Names, names-at}
 use Rattle.model.proofs.MachineLaws.Refused.{After, after-unless}
 use Rattle.model.proofs.MachineLaws.Rules.{RulesKept}
 use Rattle.model.proofs.MachineLaws.Inside.{Fits, fits-blank, fits-map, With, inside-token, inside-cell, inside-map, inside-put, inside-set}
-use Rattle.model.proofs.MachineLaws.Writes.{fits-same, fits-binding, formals-cell, choked-cases, choked-blank, choked-live, choked-fits}
-use Rattle.model.proofs.MachineLaws.Used.{Within, Used, UsedCell, InsideUsed, used-fits, used-parent, inside-old, none-new, token-new, both-new}
+use Rattle.model.proofs.MachineLaws.Writes.{fits-same, fits-binding, fits-value, fits-empty, formals-cell}
+use Rattle.model.proofs.MachineLaws.Writes.{choked-cases, choked-blank, choked-live, choked-fits}
+use Rattle.model.proofs.MachineLaws.Used.{Within, Used, UsedCell, InsideUsed, used-fits, used-parent, inside-old}
+use Rattle.model.proofs.MachineLaws.Used.{none-new, token-new, both-new}
 
 -- The token at a place p in use acts; only the tables matter, so the orders may be any
 module _
@@ -74,19 +75,26 @@ module _
         → hasTokenPlace lim d m ≡ true
         → hasCellPlace lim d m ≡ true
         → Kept (Step.split at p acting r c x left right)
-    unfolding After Step.split Step.enqueue Step.newToken Step.newCell Step.put Step.withTables withOrders Step.withCounts Step.to Step.inCell
-    split r c x left right t k =
-        both-new lim d m rules old _ r c t k
-        (inside-token
-        (inside-put
-        (inside-cell (inside-old lim d m rules old) c (record { parent = acting .cell; value = helds.Nothing }) (λ b e. inl (acts .cells .cell b e)))
-        p (Step.to left (Step.binding x (slots.Cell c) acting)) inUse
-        (fits-same refl refl refl (fits-binding x (slots.Cell c) (λ b e. inr (let z : b ≡ c = cc in z)) old-cell)))
-        r (Step.inCell c (Step.to right acting))
-        (record { caller = λ i e. inl (acts .caller i e); cells = record { cell = names-at (With (UsedCell m) c) c (inr refl); binds = old-cell .cells .binds } }))
+    unfolding
+        After Step.split Step.enqueue Step.newToken Step.newCell Step.put Step.withTables withOrders Step.withCounts Step.to Step.inCell
+    split r c x left right t k = both-new lim d m rules old _ r c t k (inside-token (inside-put cell p _ inUse binds) r _ belongs)
       where
-        old-cell : Fits (Used m) (With (UsedCell m) c) acting
-        old-cell = fits-map (λ i y. y) (λ b y. inl y) acts
+        cell :
+            InsideUsed m (Used m) (With (UsedCell m) c) (m .tokens) (set (m .cells) c (record { parent = acting .cell; value = helds.Nothing }))
+        cell = inside-cell (inside-old lim d m rules old) c _ (λ b e. inl (acts .cells .cell b e))
+
+        acts-still : Fits (Used m) (With (UsedCell m) c) acting
+        acts-still = fits-map (λ i y. y) (λ b y. inl y) acts
+
+        binds : Fits (Used m) (With (UsedCell m) c) (Step.to left (Step.binding x (slots.Cell c) acting))
+        binds = fits-same refl refl refl (fits-binding x (slots.Cell c) (λ b e. inr (let z : b ≡ c = cc in z)) acts-still)
+
+        belongs : Fits (With (Used m) r) (With (UsedCell m) c) (Step.inCell c (Step.to right acting))
+        belongs =
+            record {
+              caller = λ i e. inl (acts .caller i e);
+              cells = record { cell = names-at (With (UsedCell m) c) c (inr refl); binds = acts-still .cells .binds };
+            }
 
     entered : (r root : ℕ) (ps : List Param) (next : ℕ) → hasTokenPlace lim d m ≡ true → Kept (Step.entered at p acting r root ps next)
     unfolding After Step.entered Step.enqueue Step.newToken Step.put Step.withTables withOrders Step.withCounts Step.to Step.being
@@ -151,8 +159,8 @@ module _
     acted Node.stop = ended
     acted Node.publish = ended
     acted (Node.fork l r) = after-unless _ _ _ _ (λ t. forked _ l r t)
-    acted (Node.assign x k) = goes-on _ (fits-same refl refl refl (fits-binding x _ (λ c e. let z : _≡_ {A = ℕ} 0 1 = cc in absurd (omega arith)) acts))
-    acted (Node.remove x k) = goes-on _ (fits-same refl refl refl (fits-binding x _ (λ c e. let z : _≡_ {A = ℕ} 0 1 = cc in absurd (omega arith)) acts))
+    acted (Node.assign x k) = goes-on _ (fits-same refl refl refl (fits-value x _ acts))
+    acted (Node.remove x k) = goes-on _ (fits-same refl refl refl (fits-empty x acts))
     acted (Node.where' x l r) = after-unless _ _ _ _ (λ t. after-unless _ _ _ _ (λ k. split _ _ x l r t k))
     acted (Node.site s ps k) = callSite s k _
     acted (Node.call e ps k) = after-unless _ _ _ _ (λ t. entered _ _ ps k t)

@@ -1,20 +1,19 @@
 -- "Tokens and cells in use stay within the limits after any accepted call from a record within them", for tables of any size and any limits:
 -- the token that acts, or is answered, is alive and so in use; at the start one token is. Assumes nothing.
-use mathlib.Core.Path.{_≡_, refl, sym, _∙_, ap, subst}
-use mathlib.Core.Logic.{_⊎_, inl, inr}
+use mathlib.Core.Path.{_≡_, refl, sym, subst}
 use mathlib.Core.Bool.{Bool, true, false}
 use mathlib.Core.List.{List, [], _∷_}
-use Prim.Native.Nat.{ℕ, zero, suc, _+_, _<_, _≤_}
+use Prim.Native.Nat.{ℕ, suc, _+_}
 use native.Mathlib.Omega.{arith}
-use lib.ListN.{length, getD, set, replicate, length-replicate}
+use lib.ListN.{getD}
 use lib.Dec.{eqb}
 use lib.IntN.{ℤ}
 use Rattle.model.specs.Test.{any, without}
-use Rattle.model.specs.Job.Node.{Dag, nodeAt, dagKept}
+use Rattle.model.specs.Job.Node.{Dag, nodeAt}
 use Rattle.model.specs.Machine.Limits.{Limits}
 use Rattle.model.specs.Machine.Blank.{tokenAt}
 use Rattle.model.specs.Machine.Active.{isLive}
-use Rattle.model.specs.Machine.InUse.{tokensUsed, cellsUsed, marked, finish}
+use Rattle.model.specs.Machine.InUse.{finish}
 use Rattle.model.specs.Machine.Rules.{isReady, handleOf}
 use Rattle.model.specs.Machine.Reply.{isRefused}
 use Rattle.model.specs.Machine.Step as Step
@@ -27,7 +26,6 @@ use Rattle.model.specs.declared.token.State.the-variants as states
 use Rattle.model.specs.declared.token.Token.{Token}
 use Rattle.model.specs.declared.machine.Machine.{Machine}
 use Rattle.model.specs.declared.reply.Outcome.{Outcome}
-use Rattle.model.proofs.Test.{clash}
 use Rattle.model.proofs.MachineLaws.Refused.{After, after-outcome, StepAccepted, step-accepted, AnswerAccepted, answer-accepted}
 use Rattle.model.proofs.MachineLaws.Rules.{RulesKept, rules-kept, names-once, order-names}
 use Rattle.model.proofs.MachineLaws.Inside.{inside-put}

@@ -1,6 +1,6 @@
 -- The tokens that a step writes name nothing but what the token acted on names, and the cell that is bound: by their definitions, field by
 -- field. Assumes nothing.
-use mathlib.Core.Path.{_≡_, refl, sym, _∙_, ap, subst}
+use mathlib.Core.Path.{_≡_, refl, sym, _∙_, ap}
 use mathlib.Core.Logic.{_⊎_, inl, inr}
 use mathlib.Core.Bool.{Bool, true, false}
 use mathlib.Core.List.{List, [], _∷_, _++_, map}
@@ -8,7 +8,7 @@ use Prim.Native.Nat.{ℕ, zero, suc, _+_}
 use native.Mathlib.Omega.{arith}
 use lib.ListN.{length, getD, set, drop}
 use lib.Seq.{getD-drop}
-use lib.Dec.{eqb}
+use lib.IntN.{ℤ}
 use Rattle.model.specs.Job.Syntax.{Param, variable, constant}
 use Rattle.model.specs.Machine.Blank.{empty, unbound, blankToken, slotAt}
 use Rattle.model.specs.Machine.Active.{isLive, within}
@@ -65,6 +65,12 @@ fits-binding {Q} {R} {t} x s g f =
     bound y c (inl w) e = g c (ap (λ (b : Bind). b .slot) (sym (w .1)) ∙ e)
     bound y c (inr w) e = f .cells .binds y c (ap (λ (b : Bind). b .slot) (sym w) ∙ e)
 
+pub fits-value : {Q R : ℕ → Type 0} {t : Token} (x : ℕ) (v : ℤ) → Fits Q R t → Fits Q R (binding x (slots.Value v) t)
+fits-value x v f = fits-binding x (slots.Value v) (λ c e. let z : _≡_ {A = ℕ} 0 1 = cc in absurd (omega arith)) f
+
+pub fits-empty : {Q R : ℕ → Type 0} {t : Token} (x : ℕ) → Fits Q R t → Fits Q R (binding x slots.Empty t)
+fits-empty x f = fits-binding x slots.Empty (λ c e. let z : _≡_ {A = ℕ} 0 1 = cc in absurd (omega arith)) f
+
 -- a formal is bound to a value, or as a variable was
 passed-cell : (bs : List Bind) (p : Param) (c : ℕ) → passed bs p .slot ≡ slots.Cell c → (x : ℕ) × (slotAt bs x ≡ slots.Cell c)
 unfolding passed
@@ -78,7 +84,10 @@ pub formals-cell :
 unfolding formalsBound slotAt
 formals-cell bs ps y c e = go (length ps) ps y e
   where
-    go : (n : ℕ) (ps : List Param) (y : ℕ) → getD (map (passed bs) ps ++ drop n unbound) y empty .slot ≡ slots.Cell c → (x : ℕ) × (slotAt bs x ≡ slots.Cell c)
+    go :
+        (n : ℕ) (ps : List Param) (y : ℕ)
+        → slotAt (map (passed bs) ps ++ drop n unbound) y ≡ slots.Cell c
+        → (x : ℕ) × (slotAt bs x ≡ slots.Cell c)
     go n [] y e = absurd (slot-unbound 8 (n + y) c (ap (λ (b : Bind). b .slot) (sym (getD-drop n unbound y empty)) ∙ e))
     go n (p ∷ ps) zero e = passed-cell bs p c e
     go n (p ∷ ps) (suc y) e = go n ps y e
