@@ -5,7 +5,6 @@ use mathlib.Core.Logic.{inl, inr}
 use mathlib.Core.Bool.{Bool, true, false}
 use mathlib.Core.List.{List}
 use Prim.Native.Nat.{ℕ}
-use native.Mathlib.Omega.{arith}
 use lib.ListN.{set}
 use lib.Dec.{ltb}
 use lib.IntN.{ℤ}
@@ -53,20 +52,20 @@ module _
 
     -- a token written where the acting one stands
     writes : (u : Token) → Fits (Used m) (UsedCell m) u → InsideUsed m (Used m) (UsedCell m) (set (m .tokens) p u) (m .cells)
-    writes u f = inside-put (inside-old lim d m rules old) p u inUse f
+    writes u f = inside-put (inside-old lim d m rules) p u inUse f
 
     goes-on : (u : Token) → Fits (Used m) (UsedCell m) u → Kept (Step.goesOn at p acting u)
     unfolding After Step.goesOn Step.enqueue Step.put Step.withTables withOrders
-    goes-on u f = none-new lim d m rules old _ (writes u f)
+    goes-on u f = none-new lim d m old _ (writes u f)
 
     ended : Within lim (finish (Step.ended at p acting))
     unfolding Step.ended Step.put Step.withTables withOrders
-    ended = none-new lim d m rules old _ (writes blankToken (fits-blank (Used m) (UsedCell m)))
+    ended = none-new lim d m old _ (writes blankToken (fits-blank (Used m) (UsedCell m)))
 
     forked : (r left right : ℕ) → hasTokenPlace lim d m ≡ true → Kept (Step.forked at p acting r left right)
     unfolding After Step.forked Step.enqueue Step.newToken Step.put Step.withTables withOrders Step.withCounts Step.to
     forked r left right t =
-        token-new lim d m rules old _ r t
+        token-new lim d m old _ r t
         (inside-token (writes (Step.to left acting) (fits-same refl refl refl acts)) r (Step.to right acting)
         (fits-map (λ i x. inl x) (λ c x. x) (fits-same refl refl refl acts)))
 
@@ -77,11 +76,11 @@ module _
         → Kept (Step.split at p acting r c x left right)
     unfolding
         After Step.split Step.enqueue Step.newToken Step.newCell Step.put Step.withTables withOrders Step.withCounts Step.to Step.inCell
-    split r c x left right t k = both-new lim d m rules old _ r c t k (inside-token (inside-put cell p _ inUse binds) r _ belongs)
+    split r c x left right t k = both-new lim d m old _ r c t k (inside-token (inside-put cell p _ inUse binds) r _ belongs)
       where
         cell :
             InsideUsed m (Used m) (With (UsedCell m) c) (m .tokens) (set (m .cells) c (record { parent = acting .cell; value = helds.Nothing }))
-        cell = inside-cell (inside-old lim d m rules old) c _ (λ b e. inl (acts .cells .cell b e))
+        cell = inside-cell (inside-old lim d m rules) c _ (λ b e. inl (acts .cells .cell b e))
 
         acts-still : Fits (Used m) (With (UsedCell m) c) acting
         acts-still = fits-map (λ i y. y) (λ b y. inl y) acts
@@ -99,7 +98,7 @@ module _
     entered : (r root : ℕ) (ps : List Param) (next : ℕ) → hasTokenPlace lim d m ≡ true → Kept (Step.entered at p acting r root ps next)
     unfolding After Step.entered Step.enqueue Step.newToken Step.put Step.withTables withOrders Step.withCounts Step.to Step.being
     entered r root ps next t =
-        token-new lim d m rules old _ r t
+        token-new lim d m old _ r t
         (inside-token (writes (Step.to next (Step.being states.Frame acting)) (fits-same refl refl refl acts)) r _
         (record {
           caller = names-at (With (Used m) r) p (inl inUse);
@@ -112,7 +111,7 @@ module _
 
     waited : (c : ℕ) → Kept (Step.waited at p acting c)
     unfolding After Step.waited Step.put Step.withTables withOrders Step.being
-    waited c = none-new lim d m rules old _ (writes (Step.being (states.Waiting c) acting) (fits-same refl refl refl acts))
+    waited c = none-new lim d m old _ (writes (Step.being (states.Waiting c) acting) (fits-same refl refl refl acts))
 
     replied : (next : ℕ) (s : Said) → Kept (Step.replied at p acting next s)
     unfolding After Step.replied Step.to Step.holding
@@ -121,7 +120,7 @@ module _
 
     calledOut : (s : ℕ) (vs : List ℤ) (next : ℕ) → Kept (Step.calledOut at p acting s vs next)
     unfolding After Step.calledOut Step.put Step.withTables withOrders Step.withCounts Step.to Step.being
-    calledOut s vs next = none-new lim d m rules old _ (writes _ (fits-same refl refl refl acts))
+    calledOut s vs next = none-new lim d m old _ (writes _ (fits-same refl refl refl acts))
 
     callSite : (s next : ℕ) (l : Looked) → Kept (Step.callSite lim d at p acting s next l)
     unfolding Step.callSite
@@ -147,9 +146,9 @@ module _
     unfolding After Step.chokes Step.choked Step.withTables withOrders
     chokes places.Nowhere n = tt
     chokes (places.At c) n =
-        none-new lim d m rules old _
+        none-new lim d m old _
         (inside-set
-        (inside-map (inside-old lim d m rules old) (chokeToken (m .cells) c) (choked-blank (m .cells) c)
+        (inside-map (inside-old lim d m rules) (chokeToken (m .cells) c) (choked-blank (m .cells) c)
         (λ t. choked-live (choked-cases (m .cells) c t))
         (λ t. choked-fits (choked-cases (m .cells) c t)))
         c _ (n c refl) (used-parent m c (n c refl)))

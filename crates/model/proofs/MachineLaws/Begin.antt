@@ -8,7 +8,7 @@ use Prim.Native.Nat.{ℕ, zero, suc, _<_, _≤_}
 use native.Mathlib.Omega.{arith}
 use lib.ListN.{length, getD, replicate, length-replicate}
 use lib.Seq.{getD-set-same}
-use Rattle.model.specs.Job.Node.{Dag, dagKept}
+use Rattle.model.specs.Job.Node.{Dag}
 use Rattle.model.specs.Machine.Limits.{Limits}
 use Rattle.model.specs.Machine.Blank.{blankToken, blankCell, blankMachine, tokenAt}
 use Rattle.model.specs.Machine.Active.{isLive, isActive, underSet, upward}
@@ -17,11 +17,12 @@ use Rattle.model.specs.Machine.Start.{start, startToken, startMachine}
 use Rattle.model.specs.declared.token.Place.the-variants as places
 use Rattle.model.specs.declared.token.Token.{Token}
 use Rattle.model.specs.declared.cell.Cell.{Cell}
+use Rattle.model.specs.declared.machine.Machine.{Machine}
 use Rattle.model.specs.declared.reply.Outcome.{Outcome}
 use Rattle.model.proofs.Test.{clash}
 use Rattle.model.proofs.MachineLaws.Marks.{Marked, marked-no-place, marked-inside-one, marked-some, marked-replicate}
 use Rattle.model.proofs.MachineLaws.InUse.{tokens-used}
-use Rattle.model.proofs.MachineLaws.Refused.{begun, notBegun, start-cases}
+use Rattle.model.proofs.MachineLaws.Refused.{StartCases, start-cases}
 use Rattle.model.proofs.MachineLaws.Inside.{Inside, With, fits-blank, tokens-inside, cells-inside, inside-token}
 use Rattle.model.proofs.MachineLaws.Writes.{fits-same}
 use Rattle.model.proofs.MachineLaws.Used.{Within}
@@ -68,44 +69,47 @@ pub start-no-cell : (lim : Limits) (goal : ℕ) → marked (cellsUsed (startMach
 unfolding None
 start-no-cell lim goal = marked-no-place (cellsUsed (startMachine lim goal)) (cells-inside (start-inside lim goal))
 
-start-tokens : (lim : Limits) (goal : ℕ) → marked (tokensUsed (startMachine lim goal)) ≤ 1
-unfolding None
-start-tokens lim goal =
-    let z = marked-replicate (lim .tokenPlaces) in
-    let y =
-    marked-inside-one used (replicate (lim .tokenPlaces) false) 0
-    (tokens-used (startMachine lim goal .tokens) (startMachine lim goal .cells) .size
-    ∙ start-inside lim goal .tokens ∙ sym (length-replicate (lim .tokenPlaces) false))
-    (λ i l m. only i (tokens-inside (start-inside lim goal) i l m)) in
-    omega arith
-  where
-    used : List Bool
-    used = tokensUsed (startMachine lim goal)
+module _ (lim : Limits) (goal : ℕ) where
+  abbrev begins : Machine
+  begins = startMachine lim goal
 
-    only : (i : ℕ) → With None 0 i → Marked (replicate (lim .tokenPlaces) false) i ⊎ (i ≡ 0)
-    only i (inl x) = absurd x
-    only i (inr e) = inr e
+  size : length (tokensUsed begins) ≡ lim .tokenPlaces
+  size = tokens-used (begins .tokens) (begins .cells) .size ∙ start-inside lim goal .tokens
 
--- exactly one token, where there is a place for it
-pub start-one-token : (lim : Limits) (goal : ℕ) → 1 ≤ lim .tokenPlaces → marked (tokensUsed (startMachine lim goal)) ≡ 1
-unfolding tokenAt
-start-one-token lim goal l =
-    let x = start-tokens lim goal in
-    let y = marked-some (tokensUsed (startMachine lim goal)) 0 (subst (λ n. 0 < n) (sym size) l) first in
-    omega arith
-  where
-    size : length (tokensUsed (startMachine lim goal)) ≡ lim .tokenPlaces
-    size = tokens-used (startMachine lim goal .tokens) (startMachine lim goal .cells) .size ∙ start-inside lim goal .tokens
+  start-tokens : marked (tokensUsed begins) ≤ 1
+  unfolding None
+  start-tokens = let y = marked-replicate (lim .tokenPlaces) in let z = marked-inside-one (tokensUsed begins) none 0 sizes only in omega arith
+    where
+      none : List Bool
+      none = replicate (lim .tokenPlaces) false
 
-    stands : getD (startMachine lim goal .tokens) 0 blankToken ≡ startToken goal
-    stands =
-        getD-set-same (replicate (lim .tokenPlaces) blankToken) 0 (startToken goal) blankToken
-        (let z = length-replicate (lim .tokenPlaces) blankToken in omega arith)
+      sizes : length (tokensUsed begins) ≡ length none
+      sizes = size ∙ sym (length-replicate (lim .tokenPlaces) false)
 
-    first : Marked (tokensUsed (startMachine lim goal)) 0
-    first =
-        tokens-used (startMachine lim goal .tokens) (startMachine lim goal .cells) .active 0
-        (ap (isActive (startMachine lim goal .cells)) stands ∙ start-active (startMachine lim goal .cells) goal)
+      first : (i : ℕ) → With None 0 i → Marked none i ⊎ (i ≡ 0)
+      first i (inl x) = absurd x
+      first i (inr e) = inr e
+
+      only : (i : ℕ) → i < length (tokensUsed begins) → Marked (tokensUsed begins) i → Marked none i ⊎ (i ≡ 0)
+      only i l m = first i (tokens-inside (start-inside lim goal) i l m)
+
+  -- exactly one token, where there is a place for it
+  pub start-one-token : 1 ≤ lim .tokenPlaces → marked (tokensUsed begins) ≡ 1
+  unfolding tokenAt
+  start-one-token l =
+      let x = start-tokens in
+      let y = marked-some (tokensUsed begins) 0 (subst (λ n. 0 < n) (sym size) l) first in
+      omega arith
+    where
+      stands : getD (begins .tokens) 0 blankToken ≡ startToken goal
+      stands =
+          getD-set-same (replicate (lim .tokenPlaces) blankToken) 0 (startToken goal) blankToken
+          (let z = length-replicate (lim .tokenPlaces) blankToken in omega arith)
+
+      first : Marked (tokensUsed begins) 0
+      first =
+          tokens-used (begins .tokens) (begins .cells) .active 0
+          (ap (isActive (begins .cells)) stands ∙ start-active (begins .cells) goal)
 
 blank-within : (lim : Limits) → Within lim (blankMachine lim)
 unfolding None
@@ -122,6 +126,6 @@ start-within lim d l = go (start-cases lim d)
     started : Within lim (startMachine lim (d .goal))
     started = let x = start-tokens lim (d .goal) in let y = start-no-cell lim (d .goal) in (omega arith, omega arith)
 
-    go : ((dagKept d ≡ true) × (start lim d ≡ begun lim d)) ⊎ ((dagKept d ≡ false) × (start lim d ≡ notBegun lim)) → Within lim (start lim d .machine)
+    go : StartCases lim d (start lim d) → Within lim (start lim d .machine)
     go (inl x) = subst (λ (o : Outcome). Within lim (o .machine)) (sym (x .1)) started
     go (inr x) = subst (λ (o : Outcome). Within lim (o .machine)) (sym (x .1)) (blank-within lim)

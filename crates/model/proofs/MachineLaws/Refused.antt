@@ -98,17 +98,14 @@ begun lim d = record { reply = replies.Done; values = valuesBeside []; machine =
 abbrev pub notBegun : Limits → Outcome
 notBegun lim = record { reply = replies.Refused refusals.Rule; values = valuesBeside []; machine = blankMachine lim }
 
-pub start-cases :
-    (lim : Limits) (d : Dag)
-    → ((dagKept d ≡ true) × (start lim d ≡ begun lim d)) ⊎ ((dagKept d ≡ false) × (start lim d ≡ notBegun lim))
+abbrev pub StartCases : Limits → Dag → Outcome → Type 0
+StartCases lim d o = ((dagKept d ≡ true) × (o ≡ begun lim d)) ⊎ ((dagKept d ≡ false) × (o ≡ notBegun lim))
+
+pub start-cases : (lim : Limits) (d : Dag) → StartCases lim d (start lim d)
 unfolding start
 start-cases lim d = go (dagKept d) refl
   where
-    go :
-        (b : Bool)
-        → dagKept d ≡ b
-        → ((dagKept d ≡ true) × (elim b [ true ↦ begun lim d | false ↦ notBegun lim ] ≡ begun lim d))
-        ⊎ ((dagKept d ≡ false) × (elim b [ true ↦ begun lim d | false ↦ notBegun lim ] ≡ notBegun lim))
+    go : (b : Bool) → dagKept d ≡ b → StartCases lim d (elim b [ true ↦ begun lim d | false ↦ notBegun lim ])
     go true e = inl (e, refl)
     go false e = inr (e, refl)
 
@@ -119,9 +116,7 @@ pub start-refused :
     → start lim d .machine ≡ blankMachine lim
 start-refused lim d r e = go (start-cases lim d)
   where
-    go :
-        ((dagKept d ≡ true) × (start lim d ≡ begun lim d)) ⊎ ((dagKept d ≡ false) × (start lim d ≡ notBegun lim))
-        → start lim d .machine ≡ blankMachine lim
+    go : StartCases lim d (start lim d) → start lim d .machine ≡ blankMachine lim
     go (inl x) =
         let y : replies.Done ≡ replies.Refused r = sym (ap (λ (o : Outcome). o .reply) (x .1)) ∙ e in
         let z : _≡_ {A = ℕ} 0 1 = cc in
@@ -136,9 +131,7 @@ pub start-accepted :
 unfolding isRefused
 start-accepted lim d e = go (start-cases lim d)
   where
-    go :
-        ((dagKept d ≡ true) × (start lim d ≡ begun lim d)) ⊎ ((dagKept d ≡ false) × (start lim d ≡ notBegun lim))
-        → (dagKept d ≡ true) × (start lim d ≡ begun lim d)
+    go : StartCases lim d (start lim d) → (dagKept d ≡ true) × (start lim d ≡ begun lim d)
     go (inl x) = x
     go (inr x) = clash (ap (λ (o : Outcome). isRefused (o .reply)) (x .1)) e
 

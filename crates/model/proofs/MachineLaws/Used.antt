@@ -96,8 +96,8 @@ module _ (m : Machine) where
     cells-one : {Q : ℕ → Type 0} (c : ℕ) → InsideUsed Q (With UsedCell c) (o .tokens) (o .cells) → marked (cellsUsed o) ≤ suc (marked (cellsUsed m))
     cells-one c h = marked-inside-one (cellsUsed o) (cellsUsed m) c (cells-size (h .cells)) (cells-inside h)
 
--- a record within the limits that keeps the rules
-module _ (lim : Limits) (d : Dag) (m : Machine) (rules : RulesKept lim d m) (old : Within lim m) where
+-- a record that keeps the rules: its live tokens are active, so in use
+module _ (lim : Limits) (d : Dag) (m : Machine) (rules : RulesKept lim d m) where
   pub live-used : (i : ℕ) → isLive (tokenAt (m .tokens) i .state) ≡ true → Used m i
   unfolding tokenAt
   live-used i e =
@@ -110,7 +110,8 @@ module _ (lim : Limits) (d : Dag) (m : Machine) (rules : RulesKept lim d m) (old
   inside-old =
       record { tokens = refl; cells = refl; live = live-used; fits = λ i l u. used-fits m i u; parent = λ c l r. used-parent m c r }
 
-  -- nothing new; a new token; a new token and a new cell
+-- a record within the limits: nothing new; a new token; a new token and a new cell
+module _ (lim : Limits) (d : Dag) (m : Machine) (old : Within lim m) where
   pub none-new : (o : Machine) → InsideUsed m (Used m) (UsedCell m) (o .tokens) (o .cells) → Within lim (finish o)
   none-new o h =
       let f = inside-finish o h in

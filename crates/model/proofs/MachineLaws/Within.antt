@@ -1,5 +1,5 @@
 -- "Tokens and cells in use stay within the limits after any accepted call from a record within them", for tables of any size and any limits:
--- the token that acts, or is answered, is alive and so in use; at the start one token is. Assumes nothing.
+-- the token that acts, or is answered, is alive, so it is in use and all that it names. Assumes nothing.
 use mathlib.Core.Path.{_≡_, refl, sym, subst}
 use mathlib.Core.Bool.{Bool, true, false}
 use mathlib.Core.List.{List, [], _∷_}
@@ -94,7 +94,7 @@ module _ (lim : Limits) (d : Dag) (m : Machine) where
 
       inUse : Used m p
       inUse =
-          live-used lim d m rules old p
+          live-used lim d m rules p
           (ready-live _
           (order-names isReady (m .tokens) (m .queue) (m .queued)
           (names-once isReady (m .tokens) (m .queue) (m .queued) (rules .queue)) place (a .queued)))
@@ -108,7 +108,7 @@ module _ (lim : Limits) (d : Dag) (m : Machine) where
   unfolding After answered Step.enqueue Step.put Step.withTables Step.withOrders Step.being Step.holding
   answered-within v handle places.Nowhere e rules old = tt
   answered-within v handle (places.At p) e rules old =
-      none-new lim d m rules old _ (inside-put (inside-old lim d m rules old) p _ inUse (fits-same refl refl refl (used-fits m p inUse)))
+      none-new lim d m old _ (inside-put (inside-old lim d m rules) p _ inUse (fits-same refl refl refl (used-fits m p inUse)))
     where
       found : (k : ℕ) × (p ≡ 0 + k) × (any (eqb handle) (handleOf (tokenAt (m .tokens) k .state)) ≡ true)
       found = holder-holds handle 0 (m .tokens) p e
@@ -117,7 +117,7 @@ module _ (lim : Limits) (d : Dag) (m : Machine) where
       same = let z : p ≡ 0 + found .0 = found .1 in omega arith
 
       inUse : Used m p
-      inUse = subst (Used m) same (live-used lim d m rules old (found .0) (open-live handle _ (found .2)))
+      inUse = subst (Used m) same (live-used lim d m rules (found .0) (open-live handle _ (found .2)))
 
   pub answer-within :
       (handle : ℕ) (value : ℤ)
