@@ -7,4 +7,8 @@ pub mod Places
 pub mod Refused
 pub mod Rules
 pub mod Inside
+pub mod Writes
+pub mod Used
+pub mod Acts
 pub mod Within
+pub mod Begin

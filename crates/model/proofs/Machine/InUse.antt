@@ -3,14 +3,15 @@
 use mathlib.Core.Path.{_≡_, refl, sym, _∙_, ap, subst}
 use mathlib.Core.Logic.{_⊎_, inl, inr}
 use mathlib.Core.Bool.{Bool, true, false}
-use mathlib.Core.List.{List, [], _∷_, _++_, map, List·Memᴰ, List·Memᴰ·head, List·Memᴰ·tail, List·Memᴰ·not-nil, List·Memᴰ·append-cases, Memᴰ·append-left, Memᴰ·append-right}
+use mathlib.Core.List.{List, [], _∷_, map, List·Memᴰ, List·Memᴰ·head, List·Memᴰ·tail, List·Memᴰ·not-nil}
+use mathlib.Core.List.{List·Memᴰ·append-cases, Memᴰ·append-left, Memᴰ·append-right}
 use Prim.Native.Nat.{ℕ, zero, suc, _+_, _<_, _≤_}
 use native.Mathlib.Decide.{decLt}
 use native.Mathlib.Omega.{arith}
-use lib.ListN.{length, getD, replicate, List·getD-eq-default}
-use Rattle.model.specs.Machine.Blank.{empty, unbound, blankToken, blankCell, tokenAt, cellAt, slotAt}
+use lib.ListN.{length, replicate, List·getD-eq-default}
+use Rattle.model.specs.Machine.Blank.{empty, blankToken, blankCell, tokenAt, cellAt, slotAt}
 use Rattle.model.specs.Machine.Active.{isActive, isLive}
-use Rattle.model.specs.Machine.InUse.{reached, activePlaces, boundCell, cellsOf, cellsOfMarked, usedTokens, usedCells, tokensUsed, cellsUsed}
+use Rattle.model.specs.Machine.InUse.{activePlaces, boundCell, cellsOf, cellsOfMarked, usedTokens, usedCells}
 use Rattle.model.specs.declared.token.Slot.{Slot}
 use Rattle.model.specs.declared.token.Slot.the-variants as slots
 use Rattle.model.specs.declared.token.Bind.{Bind}
@@ -18,7 +19,6 @@ use Rattle.model.specs.declared.token.Place.{Place}
 use Rattle.model.specs.declared.token.Place.the-variants as places
 use Rattle.model.specs.declared.token.Token.{Token}
 use Rattle.model.specs.declared.cell.Cell.{Cell}
-use Rattle.model.specs.declared.record.Machine.{Machine}
 use Rattle.model.proofs.Test.{clash}
 use Rattle.model.proofs.Machine.Marks.{Marked}
 use Rattle.model.proofs.Machine.Reach.{Names, names-nowhere, Reached, reached-law}
@@ -45,53 +45,58 @@ active-inside ts cs i e = go (decLt i (length ts))
 
 -- the places of the active tokens
 module _ (cs : List Cell) where
-  abbrev here : Bool → ℕ → List Place → List Place
-  here b i rest = elim b [ true ↦ places.At i ∷ rest | false ↦ rest ]
+  -- the active places of a rest of the table that begins at i
+  abbrev Holds : ℕ → List Token → ℕ → Type 0
+  Holds i ts j = List·Memᴰ (places.At j) (activePlaces cs i ts)
 
-  active-place : (i : ℕ) (ts : List Token) (k : ℕ) → isActive cs (tokenAt ts k) ≡ true → List·Memᴰ (places.At (i + k)) (activePlaces cs i ts)
+  abbrev here : Bool → ℕ → List Token → List Place
+  here b i ts = elim b [ true ↦ places.At i ∷ activePlaces cs (suc i) ts | false ↦ activePlaces cs (suc i) ts ]
+
+  active-place : (i : ℕ) (ts : List Token) (k : ℕ) → isActive cs (tokenAt ts k) ≡ true → Holds i ts (i + k)
   unfolding activePlaces tokenAt
   active-place i [] k e = clash e (blank-inactive cs)
   active-place i (t ∷ ts) zero e = go (isActive cs t) e
     where
-      go : (b : Bool) → b ≡ true → List·Memᴰ (places.At (i + 0)) (here b i (activePlaces cs (suc i) ts))
+      go : (b : Bool) → b ≡ true → List·Memᴰ (places.At (i + 0)) (here b i ts)
       go true x = List·Memᴰ·head (ap places.At (let z : i + 0 ≡ i = omega arith in z))
       go false x = clash x refl
-  active-place i (t ∷ ts) (suc k) e = go (isActive cs t) (active-place (suc i) ts k e)
+  active-place i (t ∷ ts) (suc k) e =
+      go (isActive cs t) (subst (Holds (suc i) ts) (let z : suc i + k ≡ i + suc k = omega arith in z) (active-place (suc i) ts k e))
     where
-      later : List·Memᴰ (places.At (suc i + k)) (activePlaces cs (suc i) ts) → List·Memᴰ (places.At (i + suc k)) (activePlaces cs (suc i) ts)
-      later m = subst (λ n. List·Memᴰ (places.At n) (activePlaces cs (suc i) ts)) (let z : suc i + k ≡ i + suc k = omega arith in z) m
+      go : (b : Bool) → Holds (suc i) ts (i + suc k) → List·Memᴰ (places.At (i + suc k)) (here b i ts)
+      go true m = List·Memᴰ·tail m
+      go false m = m
 
-      go : (b : Bool) → List·Memᴰ (places.At (suc i + k)) (activePlaces cs (suc i) ts) → List·Memᴰ (places.At (i + suc k)) (here b i (activePlaces cs (suc i) ts))
-      go true m = List·Memᴰ·tail (later m)
-      go false m = later m
+  -- the token that stands at j in a rest of the table that begins at i is active
+  abbrev ActiveAt : ℕ → List Token → ℕ → Type 0
+  ActiveAt i ts j = (k : ℕ) × (j ≡ i + k) × (isActive cs (tokenAt ts k) ≡ true)
 
-  place-active : (i : ℕ) (ts : List Token) (j : ℕ) → List·Memᴰ (places.At j) (activePlaces cs i ts) → (k : ℕ) × (j ≡ i + k) × (isActive cs (tokenAt ts k) ≡ true)
+  place-active : (i : ℕ) (ts : List Token) (j : ℕ) → Holds i ts j → ActiveAt i ts j
   unfolding activePlaces tokenAt
   place-active i [] j m = absurd (List·Memᴰ·not-nil m)
   place-active i (t ∷ ts) j m = go (isActive cs t) refl (λ x. place-active (suc i) ts j x) m
     where
-      Found : Type 0
-      Found = (k : ℕ) × (j ≡ i + k) × (isActive cs (getD (t ∷ ts) k blankToken) ≡ true)
+      later : ActiveAt (suc i) ts j → ActiveAt i (t ∷ ts) j
+      later (k, e, a) = (suc k, (let z : j ≡ i + suc k = omega arith in z), a)
 
-      later : (k : ℕ) × (j ≡ suc i + k) × (isActive cs (getD ts k blankToken) ≡ true) → Found
-      later (k, e, h) = (suc k, (let z : j ≡ i + suc k = omega arith in z), h)
-
-      go : (b : Bool) → isActive cs t ≡ b
-          → (List·Memᴰ (places.At j) (activePlaces cs (suc i) ts) → (k : ℕ) × (j ≡ suc i + k) × (isActive cs (getD ts k blankToken) ≡ true))
-          → List·Memᴰ (places.At j) (here b i (activePlaces cs (suc i) ts)) → Found
-      go true h f (List·Memᴰ·head e) = (0, (let z : j ≡ i = cc in omega arith), h)
-      go true h f (List·Memᴰ·tail x) = later (f x)
-      go false h f x = later (f x)
+      go :
+          (b : Bool)
+          → isActive cs t ≡ b
+          → (Holds (suc i) ts j → ActiveAt (suc i) ts j)
+          → List·Memᴰ (places.At j) (here b i ts)
+          → ActiveAt i (t ∷ ts) j
+      go true a f (List·Memᴰ·head e) = (0, (let z : j ≡ i = cc in omega arith), a)
+      go true a f (List·Memᴰ·tail x) = later (f x)
+      go false a f x = later (f x)
 
   -- from the first place on, they are the active ones exactly
   pub active-places : (ts : List Token) (i : ℕ) → isActive cs (tokenAt ts i) ≡ true → List·Memᴰ (places.At i) (activePlaces cs 0 ts)
-  active-places ts i e =
-      subst (λ n. List·Memᴰ (places.At n) (activePlaces cs 0 ts)) (let z : 0 + i ≡ i = omega arith in z) (active-place 0 ts i e)
+  active-places ts i e = subst (Holds 0 ts) (let z : 0 + i ≡ i = omega arith in z) (active-place 0 ts i e)
 
   pub places-active : (ts : List Token) (i : ℕ) → List·Memᴰ (places.At i) (activePlaces cs 0 ts) → isActive cs (tokenAt ts i) ≡ true
   places-active ts i m = go (place-active 0 ts i m)
     where
-      go : (k : ℕ) × (i ≡ 0 + k) × (isActive cs (tokenAt ts k) ≡ true) → isActive cs (tokenAt ts i) ≡ true
+      go : ActiveAt 0 ts i → isActive cs (tokenAt ts i) ≡ true
       go (k, e, a) = subst (λ n. isActive cs (tokenAt ts n) ≡ true) (let z : k ≡ i = omega arith in z) a
 
 -- the tokens in use
@@ -131,30 +136,28 @@ pub record CellsIn (Q : ℕ → Type 0) (t : Token) : Type 0 where
   pub cell : Names Q (t .cell)
   pub binds : (x c : ℕ) → slotAt (t .binds) x ≡ slots.Cell c → Q c
 
+abbrev slotPlace : Slot → Place
+slotPlace s = elim s [ slots.Empty ↦ places.Nowhere | slots.Value v ↦ places.Nowhere | slots.Cell c ↦ places.At c ]
+
+slot-place : (s : Slot) (c : ℕ) → s ≡ slots.Cell c → slotPlace s ≡ places.At c
+slot-place s c e = ap slotPlace e
+
+place-slot : (s : Slot) (c : ℕ) → slotPlace s ≡ places.At c → s ≡ slots.Cell c
+place-slot slots.Empty c e = let z : _≡_ {A = ℕ} 0 1 = cc in absurd (omega arith)
+place-slot (slots.Value v) c e = let z : _≡_ {A = ℕ} 0 1 = cc in absurd (omega arith)
+place-slot (slots.Cell b) c e = ap slots.Cell (let z : b ≡ c = cc in z)
+
 bound-place : (bs : List Bind) (x c : ℕ) → slotAt bs x ≡ slots.Cell c → List·Memᴰ (places.At c) (map boundCell bs)
 unfolding slotAt boundCell
 bound-place [] x c e = let z : _≡_ {A = ℕ} 0 1 = cc in absurd (omega arith)
-bound-place (b ∷ bs) zero c e = List·Memᴰ·head (sym (go (b .slot) e))
-  where
-    go : (s : Slot) → s ≡ slots.Cell c → elim s as (λ s. Place) [ slots.Empty ↦ places.Nowhere | slots.Value v ↦ places.Nowhere | slots.Cell c ↦ places.At c ] ≡ places.At c
-    go slots.Empty e = let z : _≡_ {A = ℕ} 0 1 = cc in absurd (omega arith)
-    go (slots.Value v) e = let z : _≡_ {A = ℕ} 0 1 = cc in absurd (omega arith)
-    go (slots.Cell b) e = ap places.At (let z : b ≡ c = cc in z)
+bound-place (b ∷ bs) zero c e = List·Memᴰ·head (sym (slot-place (b .slot) c e))
 bound-place (b ∷ bs) (suc x) c e = List·Memᴰ·tail (bound-place bs x c e)
 
 place-bound : (bs : List Bind) (c : ℕ) → List·Memᴰ (places.At c) (map boundCell bs) → (x : ℕ) × (slotAt bs x ≡ slots.Cell c)
 unfolding slotAt boundCell
 place-bound [] c m = absurd (List·Memᴰ·not-nil m)
-place-bound (b ∷ bs) c m = go m (λ x. place-bound bs c x)
-  where
-    bound : (s : Slot) → elim s as (λ s. Place) [ slots.Empty ↦ places.Nowhere | slots.Value v ↦ places.Nowhere | slots.Cell c ↦ places.At c ] ≡ places.At c → s ≡ slots.Cell c
-    bound slots.Empty e = let z : _≡_ {A = ℕ} 0 1 = cc in absurd (omega arith)
-    bound (slots.Value v) e = let z : _≡_ {A = ℕ} 0 1 = cc in absurd (omega arith)
-    bound (slots.Cell b) e = ap slots.Cell (let z : b ≡ c = cc in z)
-
-    go : List·Memᴰ (places.At c) (map boundCell (b ∷ bs)) → (List·Memᴰ (places.At c) (map boundCell bs) → (x : ℕ) × (slotAt bs x ≡ slots.Cell c)) → (x : ℕ) × (slotAt (b ∷ bs) x ≡ slots.Cell c)
-    go (List·Memᴰ·head e) f = (0, bound (b .slot) (sym e))
-    go (List·Memᴰ·tail x) f = let y = f x in (suc (y .0), y .1)
+place-bound (b ∷ bs) c (List·Memᴰ·head e) = (0, place-slot (b .slot) c (sym e))
+place-bound (b ∷ bs) c (List·Memᴰ·tail m) = let y = place-bound bs c m in (suc (y .0), y .1)
 
 cells-of : (Q : ℕ → Type 0) (t : Token) → ((c : ℕ) → List·Memᴰ (places.At c) (cellsOf t) → Q c) → CellsIn Q t
 unfolding cellsOf
@@ -165,7 +168,7 @@ unfolding cellsOf
 of-cells Q t h c (List·Memᴰ·head e) = h .cell c (sym e)
 of-cells Q t h c (List·Memᴰ·tail m) = let y = place-bound (t .binds) c m in h .binds (y .0) c (y .1)
 
-slot-unbound : (n x c : ℕ) → slotAt (replicate n empty) x ≡ slots.Cell c → ⊥
+pub slot-unbound : (n x c : ℕ) → slotAt (replicate n empty) x ≡ slots.Cell c → ⊥
 unfolding slotAt
 slot-unbound zero x c e = let z : _≡_ {A = ℕ} 0 1 = cc in omega arith
 slot-unbound (suc n) zero c e = let z : _≡_ {A = ℕ} 0 1 = cc in omega arith
@@ -185,7 +188,8 @@ marked-names used [] i s l h q m = absurd (omega arith)
 marked-names [] (t ∷ ts) i s l h q m = absurd (omega arith)
 marked-names (true ∷ used) (t ∷ ts) zero s l h q m = Memᴰ·append-left _ m
 marked-names (false ∷ used) (t ∷ ts) zero s l h q m = clash h refl
-marked-names (true ∷ used) (t ∷ ts) (suc i) s l h q m = Memᴰ·append-right (cellsOf t) (marked-names used ts i (omega arith) (omega arith) h q m)
+marked-names (true ∷ used) (t ∷ ts) (suc i) s l h q m =
+    Memᴰ·append-right (cellsOf t) (marked-names used ts i (omega arith) (omega arith) h q m)
 marked-names (false ∷ used) (t ∷ ts) (suc i) s l h q m = marked-names used ts i (omega arith) (omega arith) h q m
 
 names-marked : (Q : Place → Type 0) (used : List Bool) (ts : List Token)
@@ -194,7 +198,8 @@ names-marked : (Q : Place → Type 0) (used : List Bool) (ts : List Token)
 unfolding cellsOfMarked tokenAt
 names-marked Q used [] h q m = absurd (List·Memᴰ·not-nil m)
 names-marked Q [] (t ∷ ts) h q m = absurd (List·Memᴰ·not-nil m)
-names-marked Q (true ∷ used) (t ∷ ts) h q m = go (List·Memᴰ·append-cases (cellsOf t) m) (λ x. names-marked Q used ts (λ i l. h (suc i) (omega arith)) q x)
+names-marked Q (true ∷ used) (t ∷ ts) h q m =
+    go (List·Memᴰ·append-cases (cellsOf t) m) (λ x. names-marked Q used ts (λ i l. h (suc i) (omega arith)) q x)
   where
     go : List·Memᴰ q (cellsOf t) ⊎ List·Memᴰ q (cellsOfMarked used ts) → (List·Memᴰ q (cellsOfMarked used ts) → Q q) → Q q
     go (inl x) f = h 0 (omega arith) refl q x
@@ -239,5 +244,13 @@ cells-used used ts cs s =
     next c m (yes l) = g .closed c l m
     next c m (no n) = subst (λ (k : Cell). Names (Marked r) (k .parent)) (sym (cell-outside cs c (omega arith))) (names-nowhere _)
 
-    only : (Q : ℕ → Type 0) → ((i : ℕ) → i < length ts → Marked used i → CellsIn Q (tokenAt ts i)) → (b : ℕ) → List·Memᴰ (places.At b) (cellsOfMarked used ts) → Q b
-    only Q h b x = names-marked (λ q. Names Q q) used ts (λ i l m q y a e. of-cells Q (tokenAt ts i) (h i l m) a (subst (λ p. List·Memᴰ p (cellsOf (tokenAt ts i))) e y)) (places.At b) x b refl
+    only :
+        (Q : ℕ → Type 0)
+        → ((i : ℕ) → i < length ts → Marked used i → CellsIn Q (tokenAt ts i))
+        → (b : ℕ)
+        → List·Memᴰ (places.At b) (cellsOfMarked used ts)
+        → Q b
+    only Q h b x = names-marked (Names Q) used ts (λ i l m q y. listed i (h i l m) q y) (places.At b) x b refl
+      where
+        listed : (i : ℕ) → CellsIn Q (tokenAt ts i) → (q : Place) → List·Memᴰ q (cellsOf (tokenAt ts i)) → Names Q q
+        listed i n q y a e = of-cells Q (tokenAt ts i) n a (subst (λ p. List·Memᴰ p (cellsOf (tokenAt ts i))) e y)

@@ -4,7 +4,7 @@ use mathlib.Core.Path.{_≡_, refl, sym, _∙_, ap, subst}
 use mathlib.Core.Logic.{_⊎_, inl, inr}
 use mathlib.Core.Bool.{Bool, true, false}
 use mathlib.Core.List.{List, [], _∷_}
-use Prim.Native.Nat.{ℕ, zero, suc, _+_, _<_, _≤_}
+use Prim.Native.Nat.{ℕ, zero, suc, _<_, _≤_}
 use native.Mathlib.Decide.{ℕ-discrete}
 use native.Mathlib.Omega.{arith}
 use lib.ListN.{length, getD, set, replicate, length-set, List·getD-eq-default}
@@ -119,3 +119,22 @@ marked-inside-one fewer more q l h =
     go : (i : ℕ) → Marked more i ⊎ (i ≡ q) → Marked (set more q true) i
     go i (inl m) = mark-mono more q i m
     go i (inr e) = subst (λ x. Marked (set more q true) x) (sym e) (mark-same more q)
+
+-- none, and some
+pub marked-replicate : (n : ℕ) → marked (replicate n false) ≡ 0
+unfolding marked
+marked-replicate zero = refl
+marked-replicate (suc n) = marked-replicate n
+
+pub marked-no-place : (marks : List Bool) → ((i : ℕ) → i < length marks → Marked marks i → ⊥) → marked marks ≡ 0
+unfolding marked
+marked-no-place [] h = refl
+marked-no-place (true ∷ marks) h = absurd (h 0 (omega arith) refl)
+marked-no-place (false ∷ marks) h = marked-no-place marks (λ i l m. h (suc i) (omega arith) m)
+
+pub marked-some : (marks : List Bool) (i : ℕ) → i < length marks → Marked marks i → 0 < marked marks
+unfolding marked
+marked-some [] i l m = absurd (omega arith)
+marked-some (true ∷ marks) i l m = omega arith
+marked-some (false ∷ marks) zero l m = clash m refl
+marked-some (false ∷ marks) (suc i) l m = marked-some marks i (omega arith) m

@@ -2,12 +2,11 @@
 -- stops at one before it. Assumes nothing.
 use mathlib.Core.Path.{_≡_, refl, sym, _∙_, ap, subst}
 use mathlib.Core.Bool.{Bool, true, false}
-use mathlib.Core.List.{List, [], _∷_}
+use mathlib.Core.List.{List}
 use Prim.Native.Nat.{ℕ, zero, suc, _+_, _<_, _≤_}
 use native.Mathlib.Decide.{decLt}
 use native.Mathlib.Omega.{arith}
 use lib.ListN.{length, getD}
-use lib.Dec.{ltb}
 use Rattle.model.specs.Machine.InUse.{marked}
 use Rattle.model.specs.Machine.Places.{around, freeFrom, nextPlace}
 use Rattle.model.proofs.Test.{clash, lt-ltb, le-not-ltb}
@@ -64,7 +63,11 @@ module _ (marks : List Bool) where
           (sym (free-from n q 0 (around-outside (length marks) q (omega arith))))
           (look-free n 0 (λ m. ahead n 1 j f l (later 0 j m f (omega arith)) (omega arith)))
 
-pub next-place-free : (marks : List Bool) (last : ℕ) → last < length marks → marked marks < length marks → getD marks (nextPlace marks last) true ≡ false
+pub next-place-free :
+    (marks : List Bool) (last : ℕ)
+    → last < length marks
+    → marked marks < length marks
+    → getD marks (nextPlace marks last) true ≡ false
 unfolding nextPlace
 next-place-free marks last l h = let x = some-free marks h in go (x .0) (x .1) (free-inside marks (x .0) (x .1)) (decLt last (x .0))
   where

@@ -10,7 +10,6 @@ use lib.ListN.{length, getD, set, replicate, length-set, length-replicate}
 use Rattle.model.specs.Machine.InUse.{markChain, markChains, reached, marked}
 use Rattle.model.specs.declared.token.Place.{Place}
 use Rattle.model.specs.declared.token.Place.the-variants as places
-use Rattle.model.proofs.Test.{clash}
 use Rattle.model.proofs.Machine.Marks.{Marked, marked-none, free-inside, mark-same, mark-mono, mark-inverse, marked-all, marked-set-free}
 
 -- the places that a place names: one or none

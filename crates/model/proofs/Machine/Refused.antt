@@ -1,6 +1,7 @@
 -- A refusal leaves the record, and an accepted call was tested: by the shape of an outcome, which has the old record exactly where its effect
 -- refuses. Assumes nothing.
 use mathlib.Core.Path.{_≡_, refl, sym, _∙_, ap, subst}
+use mathlib.Core.Logic.{_⊎_, inl, inr}
 use mathlib.Core.Bool.{Bool, true, false}
 use mathlib.Core.List.{[]}
 use Prim.Native.Nat.{ℕ, _<_}
@@ -90,24 +91,49 @@ pub answer-refused :
 unfolding answer
 answer-refused lim d m h v r e = outcome-refused m _ (refused-is _ r e)
 
+-- the two outcomes of a start
+abbrev pub begun : Limits → Dag → Outcome
+begun lim d = record { reply = replies.Done; values = valuesBeside []; machine = startMachine lim (d .goal) }
+
+abbrev pub notBegun : Limits → Outcome
+notBegun lim = record { reply = replies.Refused refusals.Rule; values = valuesBeside []; machine = blankMachine lim }
+
+abbrev pub StartCases : Limits → Dag → Outcome → Type 0
+StartCases lim d o = ((dagKept d ≡ true) × (o ≡ begun lim d)) ⊎ ((dagKept d ≡ false) × (o ≡ notBegun lim))
+
+pub start-cases : (lim : Limits) (d : Dag) → StartCases lim d (start lim d)
+unfolding start
+start-cases lim d = go (dagKept d) refl
+  where
+    go : (b : Bool) → dagKept d ≡ b → StartCases lim d (elim b [ true ↦ begun lim d | false ↦ notBegun lim ])
+    go true e = inl (e, refl)
+    go false e = inr (e, refl)
+
 -- a refused start hands back the blank record
 pub start-refused :
     (lim : Limits) (d : Dag) (r : Refusal)
     → start lim d .reply ≡ replies.Refused r
     → start lim d .machine ≡ blankMachine lim
-unfolding start
-start-refused lim d r e = go (dagKept d) e
+start-refused lim d r e = go (start-cases lim d)
   where
-    begun : Bool → Outcome
-    begun b =
-        elim b [
-          | true ↦ record { reply = replies.Done; values = valuesBeside []; machine = startMachine lim (d .goal) }
-          | false ↦ record { reply = replies.Refused refusals.Rule; values = valuesBeside []; machine = blankMachine lim }
-        ]
+    go : StartCases lim d (start lim d) → start lim d .machine ≡ blankMachine lim
+    go (inl x) =
+        let y : replies.Done ≡ replies.Refused r = sym (ap (λ (o : Outcome). o .reply) (x .1)) ∙ e in
+        let z : _≡_ {A = ℕ} 0 1 = cc in
+        absurd (omega arith)
+    go (inr x) = ap (λ (o : Outcome). o .machine) (x .1)
 
-    go : (b : Bool) → begun b .reply ≡ replies.Refused r → begun b .machine ≡ blankMachine lim
-    go true x = let z : _≡_ {A = ℕ} 0 1 = cc in absurd (omega arith)
-    go false x = refl
+-- "The start tests 14"
+pub start-accepted :
+    (lim : Limits) (d : Dag)
+    → isRefused (start lim d .reply) ≡ false
+    → (dagKept d ≡ true) × (start lim d ≡ begun lim d)
+unfolding isRefused
+start-accepted lim d e = go (start-cases lim d)
+  where
+    go : StartCases lim d (start lim d) → (dagKept d ≡ true) × (start lim d ≡ begun lim d)
+    go (inl x) = x
+    go (inr x) = clash (ap (λ (o : Outcome). isRefused (o .reply)) (x .1)) e
 
 -- "A step tests 14, 9": an accepted step kept the rules, took a queued token and did what its node does
 pub record StepAccepted (lim : Limits) (d : Dag) (m : Machine) (place : ℕ) : Type 0 where

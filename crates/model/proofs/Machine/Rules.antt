@@ -1,13 +1,13 @@
 -- What the index rules say, rule by rule: the test of all of them is taken apart, and the tests of the orders are turned into facts on the
 -- places they name. Assumes nothing.
-use mathlib.Core.Path.{_≡_, refl, sym, _∙_, ap, subst}
+use mathlib.Core.Path.{_≡_, refl, subst}
 use mathlib.Core.Bool.{Bool, true, false}
 use mathlib.Core.List.{List, [], _∷_}
 use Prim.Native.Nat.{ℕ, zero, suc, _+_, _<_, _≤_}
 use native.Mathlib.Omega.{arith}
 use lib.ListN.{length, getD, take, drop}
 use lib.Seq.{getD-take, length-take-le}
-use lib.Dec.{ltb, leb, eqb}
+use lib.Dec.{ltb, eqb}
 use Rattle.model.specs.Test.{_and_, all, allFrom, count, once, differ}
 use Rattle.model.specs.Job.Node.{Dag, dagKept}
 use Rattle.model.specs.Machine.Limits.{Limits}
@@ -18,7 +18,7 @@ use Rattle.model.specs.Machine.Rules.{isReady, isWaiting, namesOnce, res
 use Rattle.model.specs.declared.token.State.{State}
 use Rattle.model.specs.declared.token.Token.{Token}
 use Rattle.model.specs.declared.record.Machine.{Machine}
-use Rattle.model.proofs.Test.{clash, and-left, and-right, all-at, eqb-eq, eqb-same, leb-le, ltb-lt}
+use Rattle.model.proofs.Test.{and-left, and-right, all-at, eqb-eq, eqb-same, leb-le, ltb-lt}
 
 both : (a b : Bool) → (a and b) ≡ true → (a ≡ true) × (b ≡ true)
 both a b e = (and-left a b e, and-right a b e)

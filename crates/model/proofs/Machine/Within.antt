@@ -1,1 +1,134 @@
--- x
+-- "Tokens and cells in use stay within the limits after any accepted call from a record within them", for tables of any size and any limits:
+-- the token that acts, or is answered, is alive, so it is in use and all that it names. Assumes nothing.
+use mathlib.Core.Path.{_≡_, refl, sym, subst}
+use mathlib.Core.Bool.{Bool, true, false}
+use mathlib.Core.List.{List, [], _∷_}
+use Prim.Native.Nat.{ℕ, suc, _+_}
+use native.Mathlib.Omega.{arith}
+use lib.ListN.{getD}
+use lib.Dec.{eqb}
+use lib.IntN.{ℤ}
+use Rattle.model.specs.Test.{any, without}
+use Rattle.model.specs.Job.Node.{Dag, nodeAt}
+use Rattle.model.specs.Machine.Limits.{Limits}
+use Rattle.model.specs.Machine.Blank.{tokenAt}
+use Rattle.model.specs.Machine.Active.{isLive}
+use Rattle.model.specs.Machine.InUse.{finish}
+use Rattle.model.specs.Machine.Rules.{isReady, handleOf}
+use Rattle.model.specs.Machine.Reply.{isRefused}
+use Rattle.model.specs.Machine.Step as Step
+use Rattle.model.specs.Machine.Step.{queueOf, waitsOf, takes, step}
+use Rattle.model.specs.Machine.Answer.{holder, answered, answer}
+use Rattle.model.specs.declared.token.Place.{Place}
+use Rattle.model.specs.declared.token.Place.the-variants as places
+use Rattle.model.specs.declared.token.State.{State}
+use Rattle.model.specs.declared.token.State.the-variants as states
+use Rattle.model.specs.declared.token.Token.{Token}
+use Rattle.model.specs.declared.record.Machine.{Machine}
+use Rattle.model.specs.declared.reply.Outcome.{Outcome}
+use Rattle.model.proofs.Machine.Refused.{After, after-outcome, StepAccepted, step-accepted, AnswerAccepted, answer-accepted}
+use Rattle.model.proofs.Machine.Rules.{RulesKept, rules-kept, names-once, order-names}
+use Rattle.model.proofs.Machine.Inside.{inside-put}
+use Rattle.model.proofs.Machine.Writes.{fits-same}
+use Rattle.model.proofs.Machine.Used.{Within, Used, used-fits, live-used, inside-old, none-new}
+use Rattle.model.proofs.Machine.Acts.{acted}
+
+ready-live : (s : State) → isReady s ≡ true → isLive s ≡ true
+unfolding isReady isLive
+ready-live states.Blank e = e
+ready-live states.Ready e = refl
+ready-live (states.Waiting c) e = refl
+ready-live (states.Called h) e = refl
+ready-live states.Frame e = e
+
+open-live : (h : ℕ) (s : State) → any (eqb h) (handleOf s) ≡ true → isLive s ≡ true
+unfolding any handleOf isLive
+open-live h states.Blank e = e
+open-live h states.Ready e = refl
+open-live h (states.Waiting c) e = refl
+open-live h (states.Called g) e = refl
+open-live h states.Frame e = e
+
+-- the token under a handle is called out under it
+pub holder-holds :
+    (h i : ℕ) (ts : List Token) (p : ℕ)
+    → holder h i ts ≡ places.At p
+    → (k : ℕ) × (p ≡ i + k) × (any (eqb h) (handleOf (tokenAt ts k .state)) ≡ true)
+unfolding holder tokenAt
+holder-holds h i [] p e = let z : _≡_ {A = ℕ} 0 1 = cc in absurd (omega arith)
+holder-holds h i (t ∷ ts) p e = go (any (eqb h) (handleOf (t .state))) refl e (λ x. holder-holds h (suc i) ts p x)
+  where
+    Holds : Type 0
+    Holds = (k : ℕ) × (p ≡ i + k) × (any (eqb h) (handleOf (tokenAt (t ∷ ts) k .state)) ≡ true)
+
+    go :
+        (b : Bool)
+        → any (eqb h) (handleOf (t .state)) ≡ b
+        → elim b as (λ b. Place) [ true ↦ places.At i | false ↦ holder h (suc i) ts ] ≡ places.At p
+        → (holder h (suc i) ts ≡ places.At p → (k : ℕ) × (p ≡ suc i + k) × (any (eqb h) (handleOf (tokenAt ts k .state)) ≡ true))
+        → Holds
+    go true x y f = (0, (let z : i ≡ p = cc in omega arith), x)
+    go false x y f = let (k, a, b) = f y in (suc k, omega arith, b)
+
+module _ (lim : Limits) (d : Dag) (m : Machine) where
+  pub step-within :
+      (place : ℕ)
+      → Within lim m
+      → isRefused (step lim d m place .reply) ≡ false
+      → Within lim (step lim d m place .machine)
+  unfolding takes
+  step-within place old e =
+      subst (λ (o : Outcome). Within lim (o .machine)) (sym (a .does))
+      (after-outcome (λ o. Within lim (finish o)) (Within lim) (λ o x. x) m (takes lim d m place)
+      (acted lim d m rules old p inUse (without place (queueOf m)) (waitsOf m) (nodeAt d (tokenAt (m .tokens) p .node)))
+      (subst (λ (o : Outcome). isRefused (o .reply) ≡ false) (a .does) e))
+    where
+      a : StepAccepted lim d m place
+      a = step-accepted lim d m place e
+
+      rules : RulesKept lim d m
+      rules = rules-kept lim d m (a .kept)
+
+      p : ℕ
+      p = getD (m .queue) place 0
+
+      inUse : Used m p
+      inUse =
+          live-used lim d m rules p
+          (ready-live _
+          (order-names isReady (m .tokens) (m .queue) (m .queued)
+          (names-once isReady (m .tokens) (m .queue) (m .queued) (rules .queue)) place (a .queued)))
+
+  answered-within :
+      (value : ℤ) (handle : ℕ) (h : Place)
+      → holder handle 0 (m .tokens) ≡ h
+      → RulesKept lim d m
+      → Within lim m
+      → After (λ o. Within lim (finish o)) (answered m value h)
+  unfolding After answered Step.enqueue Step.put Step.withTables Step.withOrders Step.being Step.holding
+  answered-within v handle places.Nowhere e rules old = tt
+  answered-within v handle (places.At p) e rules old =
+      none-new lim d m old _ (inside-put (inside-old lim d m rules) p _ inUse (fits-same refl refl refl (used-fits m p inUse)))
+    where
+      found : (k : ℕ) × (p ≡ 0 + k) × (any (eqb handle) (handleOf (tokenAt (m .tokens) k .state)) ≡ true)
+      found = holder-holds handle 0 (m .tokens) p e
+
+      same : found .0 ≡ p
+      same = let z : p ≡ 0 + found .0 = found .1 in omega arith
+
+      inUse : Used m p
+      inUse = subst (Used m) same (live-used lim d m rules (found .0) (open-live handle _ (found .2)))
+
+  pub answer-within :
+      (handle : ℕ) (value : ℤ)
+      → Within lim m
+      → isRefused (answer lim d m handle value .reply) ≡ false
+      → Within lim (answer lim d m handle value .machine)
+  answer-within handle value old e =
+      subst (λ (o : Outcome). Within lim (o .machine)) (sym (a .does))
+      (after-outcome (λ o. Within lim (finish o)) (Within lim) (λ o x. x) m (answered m value (holder handle 0 (m .tokens)))
+      (answered-within value handle (holder handle 0 (m .tokens)) refl (rules-kept lim d m (a .kept)) old)
+      (subst (λ (o : Outcome). isRefused (o .reply) ≡ false) (a .does) e))
+    where
+      a : AnswerAccepted lim d m handle value
+      a = answer-accepted lim d m handle value e

@@ -1,0 +1,168 @@
+-- What each node does leaves the record within the limits: the token that acts is in use, so what it names is, and a call adds at most the
+-- places that it was tested for. Assumes nothing.
+use mathlib.Core.Path.{_≡_, refl}
+use mathlib.Core.Logic.{inl, inr}
+use mathlib.Core.Bool.{Bool, true, false}
+use mathlib.Core.List.{List}
+use Prim.Native.Nat.{ℕ}
+use lib.ListN.{set}
+use lib.Dec.{ltb}
+use lib.IntN.{ℤ}
+use Rattle.model.specs.Site.{Said, gives, silent, isBuiltin, builtin}
+use Rattle.model.specs.Job.Syntax.{Param}
+use Rattle.model.specs.Job.Node.{Node, Dag}
+use Rattle.model.specs.Machine.Limits.{Limits}
+use Rattle.model.specs.Machine.Blank.{blankToken, tokenAt}
+use Rattle.model.specs.Machine.InUse.{finish}
+use Rattle.model.specs.Machine.Reply.{Effect, unless}
+use Rattle.model.specs.Machine.Step as Step
+use Rattle.model.specs.Machine.Step.{Looked, values, unset, hasTokenPlace, hasCellPlace, withOrders, chokeToken, act}
+use Rattle.model.specs.declared.token.Slot.the-variants as slots
+use Rattle.model.specs.declared.token.Held.the-variants as helds
+use Rattle.model.specs.declared.token.Place.{Place}
+use Rattle.model.specs.declared.token.Place.the-variants as places
+use Rattle.model.specs.declared.token.State.the-variants as states
+use Rattle.model.specs.declared.token.Token.{Token}
+use Rattle.model.specs.declared.record.Machine.{Machine}
+use Rattle.model.specs.declared.reply.Refusal.the-variants as refusals
+use Rattle.model.proofs.Machine.Reach.{Names, names-at}
+use Rattle.model.proofs.Machine.Refused.{After, after-unless}
+use Rattle.model.proofs.Machine.Rules.{RulesKept}
+use Rattle.model.proofs.Machine.Inside.{Fits, fits-blank, fits-map, With, inside-token, inside-cell, inside-map, inside-put, inside-set}
+use Rattle.model.proofs.Machine.Writes.{fits-same, fits-binding, fits-value, fits-empty, formals-cell}
+use Rattle.model.proofs.Machine.Writes.{choked-cases, choked-blank, choked-live, choked-fits}
+use Rattle.model.proofs.Machine.Used.{Within, Used, UsedCell, InsideUsed, used-fits, used-parent, inside-old}
+use Rattle.model.proofs.Machine.Used.{none-new, token-new, both-new}
+
+-- The token at a place p in use acts; only the tables matter, so the orders may be any
+module _
+    (lim : Limits) (d : Dag) (m : Machine) (rules : RulesKept lim d m) (old : Within lim m) (p : ℕ) (inUse : Used m p) (q w : List ℕ)
+  where
+    abbrev pub acting : Token
+    acting = tokenAt (m .tokens) p
+
+    abbrev pub at : Machine
+    at = withOrders q w m
+
+    abbrev pub Kept : Effect → Type 0
+    Kept = After (λ o. Within lim (finish o))
+
+    acts : Fits (Used m) (UsedCell m) acting
+    acts = used-fits m p inUse
+
+    -- a token written where the acting one stands
+    writes : (u : Token) → Fits (Used m) (UsedCell m) u → InsideUsed m (Used m) (UsedCell m) (set (m .tokens) p u) (m .cells)
+    writes u f = inside-put (inside-old lim d m rules) p u inUse f
+
+    goes-on : (u : Token) → Fits (Used m) (UsedCell m) u → Kept (Step.goesOn at p acting u)
+    unfolding After Step.goesOn Step.enqueue Step.put Step.withTables withOrders
+    goes-on u f = none-new lim d m old _ (writes u f)
+
+    ended : Within lim (finish (Step.ended at p acting))
+    unfolding Step.ended Step.put Step.withTables withOrders
+    ended = none-new lim d m old _ (writes blankToken (fits-blank (Used m) (UsedCell m)))
+
+    forked : (r left right : ℕ) → hasTokenPlace lim d m ≡ true → Kept (Step.forked at p acting r left right)
+    unfolding After Step.forked Step.enqueue Step.newToken Step.put Step.withTables withOrders Step.withCounts Step.to
+    forked r left right t =
+        token-new lim d m old _ r t
+        (inside-token (writes (Step.to left acting) (fits-same refl refl refl acts)) r (Step.to right acting)
+        (fits-map (λ i x. inl x) (λ c x. x) (fits-same refl refl refl acts)))
+
+    split :
+        (r c x left right : ℕ)
+        → hasTokenPlace lim d m ≡ true
+        → hasCellPlace lim d m ≡ true
+        → Kept (Step.split at p acting r c x left right)
+    unfolding
+        After Step.split Step.enqueue Step.newToken Step.newCell Step.put Step.withTables withOrders Step.withCounts Step.to Step.inCell
+    split r c x left right t k = both-new lim d m old _ r c t k (inside-token (inside-put cell p _ inUse binds) r _ belongs)
+      where
+        cell :
+            InsideUsed m (Used m) (With (UsedCell m) c) (m .tokens) (set (m .cells) c (record { parent = acting .cell; value = helds.Nothing }))
+        cell = inside-cell (inside-old lim d m rules) c _ (λ b e. inl (acts .cells .cell b e))
+
+        acts-still : Fits (Used m) (With (UsedCell m) c) acting
+        acts-still = fits-map (λ i y. y) (λ b y. inl y) acts
+
+        binds : Fits (Used m) (With (UsedCell m) c) (Step.to left (Step.binding x (slots.Cell c) acting))
+        binds = fits-same refl refl refl (fits-binding x (slots.Cell c) (λ b e. inr (let z : b ≡ c = cc in z)) acts-still)
+
+        belongs : Fits (With (Used m) r) (With (UsedCell m) c) (Step.inCell c (Step.to right acting))
+        belongs =
+            record {
+              caller = λ i e. inl (acts .caller i e);
+              cells = record { cell = names-at (With (UsedCell m) c) c (inr refl); binds = acts-still .cells .binds };
+            }
+
+    entered : (r root : ℕ) (ps : List Param) (next : ℕ) → hasTokenPlace lim d m ≡ true → Kept (Step.entered at p acting r root ps next)
+    unfolding After Step.entered Step.enqueue Step.newToken Step.put Step.withTables withOrders Step.withCounts Step.to Step.being
+    entered r root ps next t =
+        token-new lim d m old _ r t
+        (inside-token (writes (Step.to next (Step.being states.Frame acting)) (fits-same refl refl refl acts)) r _
+        (record {
+          caller = names-at (With (Used m) r) p (inl inUse);
+          cells =
+              record {
+                cell = acts .cells .cell;
+                binds = λ y c e. let x = formals-cell (acting .binds) ps y c e in acts .cells .binds (x .0) c (x .1);
+              };
+        }))
+
+    waited : (c : ℕ) → Kept (Step.waited at p acting c)
+    unfolding After Step.waited Step.put Step.withTables withOrders Step.being
+    waited c = none-new lim d m old _ (writes (Step.being (states.Waiting c) acting) (fits-same refl refl refl acts))
+
+    replied : (next : ℕ) (s : Said) → Kept (Step.replied at p acting next s)
+    unfolding After Step.replied Step.to Step.holding
+    replied next (gives v) = goes-on _ (fits-same refl refl refl acts)
+    replied next silent = ended
+
+    calledOut : (s : ℕ) (vs : List ℤ) (next : ℕ) → Kept (Step.calledOut at p acting s vs next)
+    unfolding After Step.calledOut Step.put Step.withTables withOrders Step.withCounts Step.to Step.being
+    calledOut s vs next = none-new lim d m old _ (writes _ (fits-same refl refl refl acts))
+
+    callSite : (s next : ℕ) (l : Looked) → Kept (Step.callSite lim d at p acting s next l)
+    unfolding Step.callSite
+    callSite s next (unset c) = waited c
+    callSite s next (values vs) = go (isBuiltin s)
+      where
+        go :
+            (b : Bool)
+            → Kept
+            (elim b [
+              | true ↦ Step.replied at p acting next (builtin s vs)
+              | false ↦ unless (ltb (at .calls) (lim .calls)) refusals.CallLimit (Step.calledOut at p acting s vs next)
+            ])
+        go true = replied next (builtin s vs)
+        go false = after-unless _ _ _ _ (λ e. calledOut s vs next)
+
+    returned : (f : Place) → Names (Used m) f → Kept (Step.returned at p acting f)
+    unfolding After Step.returned withOrders Step.being Step.holding
+    returned places.Nowhere n = tt
+    returned (places.At f) n = goes-on _ (fits-same refl refl refl (used-fits m f (n f refl)))
+
+    chokes : (c : Place) → Names (UsedCell m) c → Kept (Step.chokes at p acting c)
+    unfolding After Step.chokes Step.choked Step.withTables withOrders
+    chokes places.Nowhere n = tt
+    chokes (places.At c) n =
+        none-new lim d m old _
+        (inside-set
+        (inside-map (inside-old lim d m rules) (chokeToken (m .cells) c) (choked-blank (m .cells) c)
+        (λ t. choked-live (choked-cases (m .cells) c t))
+        (λ t. choked-fits (choked-cases (m .cells) c t)))
+        c _ (n c refl) (used-parent m c (n c refl)))
+
+    pub acted : (n : Node) → Kept (act lim d m at p acting n)
+    unfolding After act Step.to Step.binding
+    acted Node.stop = ended
+    acted Node.publish = ended
+    acted (Node.fork l r) = after-unless _ _ _ _ (λ t. forked _ l r t)
+    acted (Node.assign x k) = goes-on _ (fits-same refl refl refl (fits-value x _ acts))
+    acted (Node.remove x k) = goes-on _ (fits-same refl refl refl (fits-empty x acts))
+    acted (Node.where' x l r) = after-unless _ _ _ _ (λ t. after-unless _ _ _ _ (λ k. split _ _ x l r t k))
+    acted (Node.site s ps k) = callSite s k _
+    acted (Node.call e ps k) = after-unless _ _ _ _ (λ t. entered _ _ ps k t)
+    acted Node.return = returned (acting .caller) (acts .caller)
+    acted Node.choke = chokes (acting .cell) (acts .cells .cell)
+    acted Node.unknown = tt
