@@ -2,3 +2,5 @@
 pub mod Cells
 pub mod Binding
 pub mod Relation
+pub mod Hole
+pub mod Outcome

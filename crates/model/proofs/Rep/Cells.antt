@@ -68,6 +68,13 @@ Grows new new₁ C C₁ = (c : ℕ) → c ∈ C₁ → (c ∈ C) ⊎ ((new ≤ c
 pub grows-within : {new new₁ : ℕ} {C C₁ : List ℕ} → Within C₁ C → Grows new new₁ C C₁
 grows-within w c m = inl (w c m)
 
+pub grows-from : {new new₁ : ℕ} {C C₁ D : List ℕ} → Within C D → Grows new new₁ C C₁ → Grows new new₁ D C₁
+grows-from {new} {new₁} {C} {D = D} w g c m = go (g c m)
+  where
+    go : (c ∈ C) ⊎ ((new ≤ c) × (c < new₁)) → (c ∈ D) ⊎ ((new ≤ c) × (c < new₁))
+    go (inl x) = inl (w c x)
+    go (inr x) = inr x
+
 pub grows-all : {new new₁ : ℕ} {C : List ℕ} → Grows new new₁ C C
 grows-all c m = inl m
 
