@@ -4,3 +4,5 @@ pub mod Binding
 pub mod Relation
 pub mod Hole
 pub mod Outcome
+pub mod Code
+pub mod Moves

@@ -79,9 +79,9 @@ pub grows-all : {new new₁ : ℕ} {C : List ℕ} → Grows new new₁ C C
 grows-all c m = inl m
 
 -- one more cell
-pub grows-new : {new : ℕ} → Grows new (suc new) [] (new ∷ [])
+pub grows-new : {new : ℕ} {C : List ℕ} → Grows new (suc new) C (new ∷ [])
 grows-new c (List·Memᴰ·head p) = inr (omega arith, omega arith)
-grows-new c (List·Memᴰ·tail m) = inl m
+grows-new c (List·Memᴰ·tail m) = absurd (List·Memᴰ·not-nil m)
 
 pub grows-then : {new new₁ new₂ : ℕ} {C C₁ C₂ : List ℕ}
     → new ≤ new₁ → new₁ ≤ new₂ → Grows new new₁ C C₁ → Grows new₁ new₂ C₁ C₂ → Grows new new₂ C C₂
