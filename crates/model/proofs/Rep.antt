@@ -6,3 +6,5 @@ pub mod Hole
 pub mod Outcome
 pub mod Code
 pub mod Moves
+pub mod Whole
+pub mod Ready
