@@ -8,3 +8,4 @@ pub mod Code
 pub mod Moves
 pub mod Whole
 pub mod Ready
+pub mod Complete

@@ -34,6 +34,9 @@ module _ {A : Type 0} where
   mix-nothing [] = empty
   mix-nothing (x ∷ S) = left (mix-nothing S)
 
+  pub pair : {x y : A} → Mix (x ∷ []) (y ∷ []) (x ∷ y ∷ [])
+  pair = left (right empty)
+
   pub mix-unit : {S Q : List A} → Mix S [] Q → S ≡ Q
   mix-unit empty = refl
   mix-unit (left {x = x} m) = ap (_∷_ x) (mix-unit m)

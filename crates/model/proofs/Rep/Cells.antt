@@ -42,6 +42,9 @@ parts-swap p = record { apart = λ c m k. p .apart c k m; in-left = p .in-right;
 pub parts-alone : {C : List ℕ} → Parts C [] C
 parts-alone = record { apart = apart-none; in-left = λ c m. m; in-right = λ c m. absurd (List·Memᴰ·not-nil m) }
 
+pub parts-own : {C : List ℕ} → Parts [] C C
+parts-own = parts-swap parts-alone
+
 pub parts-none : {C : List ℕ} → Parts [] [] C
 parts-none =
     record { apart = apart-none; in-left = λ c m. absurd (List·Memᴰ·not-nil m); in-right = λ c m. absurd (List·Memᴰ·not-nil m) }

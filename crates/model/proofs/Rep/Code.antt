@@ -20,14 +20,15 @@ use Rattle.model.proofs.Rep.Binding.{Env, Unset, env-formals, values-ag
 use Rattle.model.proofs.Rep.Relation.{Code, Leads, returns, Rep}
 use Rattle.model.proofs.Rep.Outcome.{once, Outcome, makes, act-at}
 
--- a definition's body is laid out toward return
-pub record Body (G : Program) (d : ℕ) : Type 0 where
+-- e is laid out from node n toward a node of its own
+pub record Laid (G : Program) (last : Node) (e : Exp) (n : ℕ) : Type 0 where
   pub sink : ℕ
-  pub laid : Code G (G .body d) (G .entry d) sink
-  pub returning : G .node sink ≡ Node.return
+  pub laid : Code G e n sink
+  pub at-sink : G .node sink ≡ last
 
+-- each definition's body is laid out toward return
 abbrev pub Bodies : Program → Type 0
-Bodies G = (d : ℕ) → d < G .count → Body G d
+Bodies G = (d : ℕ) → d < G .count → Laid G Node.return (G .body d) (G .entry d)
 
 pub outside-not-builtin : (s : ℕ) → isOutside s ≡ true → isBuiltin s ≡ false
 unfolding isOutside isBuiltin
@@ -59,9 +60,9 @@ module _ (G : Program) (σ : Store) (new h : ℕ) where
         (site-effect u e p ∙ ap (λ x. callsSite h s vs x (at k B F U)) (outside-not-builtin s o))
         calling (once (Rewrites.outside-call p o)) (Rep.pending l) grows-all
 
-    pub call-outcome : {C : List ℕ} {d : ℕ} → Body G d → G .node n ≡ Node.call d ps k
+    pub call-outcome : {C : List ℕ} {d : ℕ} → Laid G Node.return (G .body d) (G .entry d) → G .node n ≡ Node.call d ps k
         → Outcome G σ new h Γ (Exp.call d (map (substParam ρ) ps)) K [] [] C (running (at n B F U) w) acts
         silently (subst (formals (map (substParam ρ) ps)) (G .body d))
     call-outcome b e =
         makes (act-at G σ new h w refl e) silence (once Rewrites.entered)
-        (Rep.code (formals (map (substParam ρ) ps)) (b .laid) (env-formals env ps) (returns (b .returning) l)) grows-all
+        (Rep.code (formals (map (substParam ρ) ps)) (b .laid) (env-formals env ps) (returns (b .at-sink) l)) grows-all

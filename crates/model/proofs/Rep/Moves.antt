@@ -11,11 +11,11 @@ use Rattle.model.specs.Site.{Said, gives, silent, isBuiltin, isOutside, 
 use Rattle.model.specs.Calculus.Expression.{Param, Exp, Substitution, lift, substParam, subst}
 use Rattle.model.specs.Calculus.Rewriting.{valuesOf, silence, answering, Rewrites}
 use Rattle.model.proofs.Test.{clash}
-use Rattle.model.proofs.Abstract.Shuffle.{Split, first, later, Mix, split-none, gap-alone, found, either-side}
+use Rattle.model.proofs.Abstract.Shuffle.{Split, first, later, pair, split-none, gap-alone, found, either-side}
 use Rattle.model.proofs.Abstract.Machine.{Node, Program, Binding, Frame, Place, at, above, Token, running, Store, asksSite, Move, acts, answered}
-use Rattle.model.proofs.Rep.Cells.{parts-swap, parts-move, parts-alone, parts-none, grows-all, grows-new, apart-none, Tidy}
+use Rattle.model.proofs.Rep.Cells.{parts-swap, parts-move, parts-alone, parts-own, parts-none, grows-all, grows-new, Tidy}
 use Rattle.model.proofs.Rep.Binding.{Env, Unset, env-cell, values-agree}
-use Rattle.model.proofs.Rep.Relation.{Code, Leads, here, removes, returns, then, chokes, Rep, leads-above, leads-same}
+use Rattle.model.proofs.Rep.Relation.{Code, Leads, here, removes, returns, then, chokes, Rep, leads-under-new}
 use Rattle.model.proofs.Rep.Hole.{free, catching, Hole, hole-tidy}
 use Rattle.model.proofs.Rep.Outcome.{AtMost, same, once, Outcome, publishes, makes, act-at, Moves, moves, moves-inside}
 use Rattle.model.proofs.Rep.Code.{Bodies, site-outcome, call-outcome}
@@ -58,16 +58,16 @@ module _ (G : Program) (σ : Store) (new h : ℕ) where
   code-moves w ρ bs t (Code.par e cf cg) env l =
       moves
       (makes (act-at G σ new h w refl e) silence same
-      (Rep.par parts-none (Mix.left (Mix.right Mix.empty)) (Rep.code ρ cf env l) (Rep.code ρ cg env l)) grows-all)
+      (Rep.par parts-none pair (Rep.code ρ cf env l) (Rep.code ρ cg env l)) grows-all)
   code-moves w ρ bs t (Code.seq cf ea cg er) env l =
       let H = Hole.seq (then ea cg er env l) in
       moves-inside G σ new h _ H parts-alone t gap-alone (code-moves w ρ bs (hole-tidy G H parts-alone t) cf env here)
-  code-moves {B = B} {F} w ρ bs t (Code.prune {c = c} e cf er cg ec) env l =
+  code-moves w ρ bs t (Code.prune e cf er cg ec) env l =
       moves
       (makes (act-at G σ new h w refl e) silence same
-      (Rep.prune List·Memᴰ·not-nil (parts-swap parts-alone) (Mix.left (Mix.right Mix.empty)) (chokes ec)
+      (Rep.prune List·Memᴰ·not-nil parts-own pair (chokes ec)
       (Rep.code (lift ρ) cf (env-cell env new) (removes er l))
-      (Rep.code ρ cg env (leads-same G (ap (λ x. at c B F (new ∷ x)) (leads-above G l))))) grows-new)
+      (Rep.code ρ cg env (leads-under-new G new l))) grows-new)
 
   -- a token among those that stand for e
   pub token-moves : {Γ C : List ℕ} {K : Place} {e : Exp} {S X Y : List Token} {u : Token}

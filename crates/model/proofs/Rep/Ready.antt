@@ -8,11 +8,11 @@ use lib.IntN.{ℤ}
 use Rattle.model.specs.Calculus.Event.{Event, Label, silently, showing}
 use Rattle.model.specs.Calculus.Expression.{Exp, Substitution, lift, subst}
 use Rattle.model.specs.Calculus.Rewriting.{silence, answering, Rewrites}
-use Rattle.model.proofs.Abstract.Shuffle.{Split, first, Mix, mix-swap, mix-nothing, Kept, kept, keeps, Gap}
+use Rattle.model.proofs.Abstract.Shuffle.{Split, first, Mix, mix-swap, mix-nothing, pair, Kept, kept, keeps, Gap}
 use Rattle.model.proofs.Abstract.Machine.{Program, Binding, Frame, Place, at, above, Token, running, Store, Effect, Move, acts, answered, effect}
-use Rattle.model.proofs.Rep.Cells.{Parts, parts-swap, parts-move, parts-alone, parts-none, Grows, grows-all, grows-new, grows-then, grown-parts, whole-grows, Tidy, tidy-grown}
+use Rattle.model.proofs.Rep.Cells.{Parts, parts-swap, parts-move, parts-alone, parts-own, parts-none, Grows, grows-all, grows-new, grows-then, grown-parts, whole-grows, Tidy, tidy-grown}
 use Rattle.model.proofs.Rep.Binding.{Env, env-cell}
-use Rattle.model.proofs.Rep.Relation.{Code, Leads, here, removes, returns, then, chokes, Rep, leads-above, leads-same}
+use Rattle.model.proofs.Rep.Relation.{Code, Leads, here, removes, returns, then, chokes, Rep, leads-under-new}
 use Rattle.model.proofs.Rep.Hole.{Gate, Lifts, acting, caught, through, passing, Hole, hole-tidy}
 use Rattle.model.proofs.Rep.Outcome.{once, Outcome, publishes, makes, act-at, inside}
 use Rattle.model.proofs.Rep.Code.{Bodies, site-outcome, call-outcome}
@@ -76,17 +76,6 @@ module _ (G : Program) (σ : Store) (h : ℕ) where
   hand-ready {new = new} v (removes e l) = ready-after acts first (act-at G σ new h v refl e) grows-all (hand-ready v l)
   hand-ready {new = new} v (returns e l) = ready-after acts first (act-at G σ new h v refl e) grows-all (hand-ready v l)
 
-  pair : {x y : Token} → Mix (x ∷ []) (y ∷ []) (x ∷ y ∷ [])
-  pair = Mix.left (Mix.right Mix.empty)
-
-  parts-own : {C : List ℕ} → Parts [] C C
-  parts-own = parts-swap parts-alone
-
-  -- below a prune, under its cell
-  leads-under-new : {c k : ℕ} {B : List Binding} {F : List Frame} {U : List ℕ} {K : Place} (new : ℕ)
-      → Leads G (at k B F U) K → Leads G (at c B F (new ∷ U)) (at c B F (new ∷ above K))
-  leads-under-new {c} {B = B} {F} new l = leads-same G (ap (λ x. at c B F (new ∷ x)) (leads-above G l))
-
   later-tidy : {Γ U C C₁ : List ℕ} {new : ℕ} → Tidy σ new Γ U C → Grows new (suc new) C C₁ → Tidy σ (suc new) Γ U C₁
   later-tidy t g = tidy-grown t (omega arith) g
 
@@ -117,7 +106,7 @@ module _ (G : Program) (σ : Store) (h : ℕ) where
       ready-inside H parts-alone t (mix-nothing _) caught (code-ready w ρ bs (hole-tidy G H parts-alone t) cf env here s)
   code-ready {new = new} w ρ bs t (Code.prune e cf er cg ec) env l (Rewrites.prune-left s) =
       let t′ = later-tidy t grows-new in
-      let H = Hole.prune-left List·Memᴰ·not-nil (chokes ec) (Rep.code ρ cg env (leads-under-new new l)) in
+      let H = Hole.prune-left List·Memᴰ·not-nil (chokes ec) (Rep.code ρ cg env (leads-under-new G new l)) in
       ready-after acts first (act-at G σ new h w refl e) grows-new
       (ready-inside H parts-own t′ pair (acting through)
       (code-ready w (lift ρ) bs (hole-tidy G H parts-own t′) cf (env-cell env new) (removes er l) s))
@@ -126,13 +115,13 @@ module _ (G : Program) (σ : Store) (h : ℕ) where
       let H = Hole.prune-right List·Memᴰ·not-nil (chokes ec) (Rep.code (lift ρ) cf (env-cell env new) (removes er l)) in
       ready-after acts first (act-at G σ new h w refl e) grows-new
       (ready-inside H parts-own t′ (mix-swap pair) (acting (passing p))
-      (code-ready w ρ bs (hole-tidy G H parts-own t′) cg env (leads-under-new new l) s))
+      (code-ready w ρ bs (hole-tidy G H parts-own t′) cg env (leads-under-new G new l) s))
   code-ready {new = new} w ρ bs t (Code.prune e cf er cg ec) env l (Rewrites.prune-publishes s) =
       let t′ = later-tidy t grows-new in
       let H = Hole.prune-right List·Memᴰ·not-nil (chokes ec) (Rep.code (lift ρ) cf (env-cell env new) (removes er l)) in
       ready-after acts first (act-at G σ new h w refl e) grows-new
       (ready-inside H parts-own t′ (mix-swap pair) caught
-      (code-ready w ρ bs (hole-tidy G H parts-own t′) cg env (leads-under-new new l) s))
+      (code-ready w ρ bs (hole-tidy G H parts-own t′) cg env (leads-under-new G new l) s))
 
   pub rep-ready : {Γ C : List ℕ} {K : Place} {e e′ : Exp} {a : Label} {S : List Token} {new : ℕ}
       → Bodies G → Tidy σ new Γ (above K) C → Rep G σ Γ e K S C → Rewrites (G .body) h e a e′ → Ready Γ e K S C new a e′
