@@ -1,2 +1,3 @@
 -- Laws of the calculus.
 pub mod Substitution
+pub mod Scope
