@@ -10,3 +10,4 @@ pub mod Allowed
 pub mod NotAllowed
 pub mod Marked
 pub mod Silent
+pub mod Scope

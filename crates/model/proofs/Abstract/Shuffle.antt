@@ -34,6 +34,9 @@ module _ {A : Type 0} where
   mix-nothing [] = empty
   mix-nothing (x ∷ S) = left (mix-nothing S)
 
+  pub pair : {x y : A} → Mix (x ∷ []) (y ∷ []) (x ∷ y ∷ [])
+  pair = left (right empty)
+
   pub mix-unit : {S Q : List A} → Mix S [] Q → S ≡ Q
   mix-unit empty = refl
   mix-unit (left {x = x} m) = ap (_∷_ x) (mix-unit m)
@@ -80,6 +83,13 @@ module _ {A : Type 0} where
 pub data Found {A : Type 0} (x : A) (S T L R : List A) : Type 0 where
   in-left : {L₁ R₁ : List A} → Split x S L₁ R₁ → Gap L₁ R₁ T L R → Found x S T L R
   in-right : {L₁ R₁ : List A} → Split x T L₁ R₁ → Gap L₁ R₁ S L R → Found x S T L R
+
+pub either-side : {A B : Type 0} {x : A} {S T L R : List A}
+    → ((L₁ R₁ : List A) → Split x S L₁ R₁ → Gap L₁ R₁ T L R → B)
+    → ((L₁ R₁ : List A) → Split x T L₁ R₁ → Gap L₁ R₁ S L R → B)
+    → Found x S T L R → B
+either-side f g (in-left s gap) = f _ _ s gap
+either-side f g (in-right s gap) = g _ _ s gap
 
 -- x of a list is in its shuffle Q with Z
 pub data Kept {A : Type 0} (x : A) (L₁ R₁ Z Q : List A) : Type 0 where

@@ -104,13 +104,16 @@ module _ (G : Program) where
   leads-above (removes e l) = leads-above l
   leads-above (returns e l) = leads-above l
 
-  pub leads-same : {K L : Place} → K ≡ L → Leads K L
-  leads-same {K} p = along (Leads K) p here
+  -- on the right side of a prune, under its cell
+  pub leads-under-new : {c k : ℕ} {B : List Binding} {F : List Frame} {U : List ℕ} {K : Place} (new : ℕ)
+      → Leads (at k B F U) K → Leads (at c B F (new ∷ U)) (at c B F (new ∷ above K))
+  leads-under-new {c} {B = B} {F} {U} new l =
+      along (λ x. Leads (at c B F (new ∷ U)) (at c B F (new ∷ x))) (leads-above l) here
 
   pub then-above : {σ : Store} {Γ : List ℕ} {ρ : Substitution} {g : Exp} {K L : Place} → Then σ Γ ρ g K L → above L ≡ above K
   then-above (then a c r env l) = leads-above l
 
-  chokes-above : {c : ℕ} {U : List ℕ} {L : Place} → Chokes c U L → above L ≡ c ∷ U
+  pub chokes-above : {c : ℕ} {U : List ℕ} {L : Place} → Chokes c U L → above L ≡ c ∷ U
   chokes-above (chokes e) = refl
 
   leads-out : {K L : Place} {c : ℕ} → Leads K L → c ∉ above L → c ∉ above K
@@ -125,7 +128,7 @@ module _ (G : Program) where
   then-under : {σ : Store} {Γ : List ℕ} {ρ : Substitution} {g : Exp} {K L : Place} {c : ℕ} → Then σ Γ ρ g K L → c ∈ above K → c ∈ above L
   then-under t m = rw (then-above t) m
 
-  chokes-out : {b c : ℕ} {U : List ℕ} {L : Place} → Chokes b U L → c ∉ (b ∷ U) → c ∉ above L
+  pub chokes-out : {b c : ℕ} {U : List ℕ} {L : Place} → Chokes b U L → c ∉ (b ∷ U) → c ∉ above L
   chokes-out ch n = rw (chokes-above ch) n
 
   chokes-under : {b c : ℕ} {U : List ℕ} {L : Place} → Chokes b U L → c ∈ (b ∷ U) → c ∈ above L
