@@ -64,6 +64,10 @@ module _ {A : Type 0} {P : ℕ → A → Type 0} where
       more (subst (λ i. P i x) (let z : n + 0 ≡ n = omega arith in z) (h 0 (omega arith)))
       (at-each (suc n) xs d (λ i l. subst (λ j. P j (getD xs i d)) (let z : n + suc i ≡ suc n + i = omega arith in z) (h (suc i) (omega arith))))
 
+pub each-map : {A : Type 0} {P Q : ℕ → A → Type 0} {n : ℕ} {xs : List A} → ((i : ℕ) (x : A) → P i x → Q i x) → Each P n xs → Each Q n xs
+each-map f none = none
+each-map f (more {n = n} {x = x} p ps) = more (f n x p) (each-map f ps)
+
 -- a list has its own elements
 pub each-own : {A : Type 0} (xs : List A) (d : A) → Each (λ i x. getD xs i d ≡ x) 0 xs
 each-own xs d = at-each 0 xs d (λ i l. ap (λ j. getD xs j d) (let z : 0 + i ≡ i = omega arith in z))

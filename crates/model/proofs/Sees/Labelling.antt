@@ -1,13 +1,14 @@
 -- The labels of the nodes that `construct` makes, built beside it: by the same recursion, as many as the nodes, in their order.
 -- Assumes nothing: these are definitions, and that the numbers agree.
-use mathlib.Core.Path.{_≡_, refl}
+use mathlib.Core.Path.{_≡_, refl, ap}
 use mathlib.Core.Bool.{Bool, true, false}
 use mathlib.Core.List.{List, [], _∷_, _++_}
-use Prim.Native.Nat.{ℕ, suc}
+use Prim.Native.Nat.{ℕ, suc, _+_}
 use lib.ListN.{length, getD, length-append}
 use Rattle.model.specs.Job.Syntax.{Join, par, seq, prune, Exp, stop, site, call, join, Definition, Program, levels, scopeLeft, scopeRight}
 use Rattle.model.specs.Job.Construct.{own, size}
 use Rattle.model.proofs.Sees.Labels.{Labels}
+use Rattle.model.proofs.Sees.Each.{Each, Three, each-map, each-left, each-right, each-three, each-own}
 
 pub record Label : Type 0 where
   pub scope : List ℕ
@@ -83,3 +84,43 @@ exp-labels-length (join j f g) scope nest body =
     let l = exp-labels-length f (scopeLeft j scope) nest body in
     let r = exp-labels-length g (scopeRight j scope) (nestRight j nest) body in
     simp (length-append, o, l, r)
+
+-- labels stand for the nodes from n on; those of a join: its own, its left side's, its right side's
+abbrev pub Labelled : Labels → ℕ → List Label → Type 0
+Labelled M n ls = Each (Has M) n ls
+
+abbrev pub JoinLabelled : Labels → ℕ → Join → (f g : Exp) → List ℕ → ℕ → Bool → Type 0
+JoinLabelled M n j f g scope nest body =
+    Three (Has M) n (own j) (size f)
+    (ownLabels j scope nest body)
+    (expLabels f (scopeLeft j scope) nest body)
+    (expLabels g (scopeRight j scope) (nestRight j nest) body)
+
+module _ (M : Labels) where
+  pub join-labelled : {n : ℕ} (j : Join) (f g : Exp) (scope : List ℕ) (nest : ℕ) (body : Bool)
+      → Labelled M n (expLabels (join j f g) scope nest body) → JoinLabelled M n j f g scope nest body
+  unfolding expLabels
+  join-labelled j f g scope nest body ls =
+      each-three (own j) (size f) _ _ _ (own-labels-length j scope nest body) (exp-labels-length f (scopeLeft j scope) nest body) ls
+
+  module _ {n : ℕ} (e : Exp) (scope : List ℕ) (nest : ℕ) (body : Bool) (ls : List Label)
+      (labelled : Labelled M n (expLabels e scope nest body ++ ls)) where
+    pub here-labelled : Labelled M n (expLabels e scope nest body)
+    here-labelled = each-left _ ls labelled
+
+    pub then-labelled : Labelled M (n + size e) ls
+    then-labelled = each-right (expLabels e scope nest body) ls (n + size e) (ap (λ m. n + m) (exp-labels-length e scope nest body)) labelled
+
+-- the labels of a program stand for its nodes
+pub labelled-whole : (p : Program) → Labelled (labelsOf p) 0 (programLabels (p .definitions) (p .goal))
+unfolding labelAt
+labelled-whole p = each-map has (each-own (programLabels (p .definitions) (p .goal)) (plain [] 0 false))
+  where
+    has : (n : ℕ) (l : Label) → labelAt p n ≡ l → Has (labelsOf p) n l
+    has n l e =
+        record {
+          scope = ap (λ (x : Label). x .scope) e;
+          nest = ap (λ (x : Label). x .nest) e;
+          value = ap (λ (x : Label). x .value) e;
+          body = ap (λ (x : Label). x .body) e;
+        }
