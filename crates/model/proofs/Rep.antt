@@ -2,3 +2,9 @@
 pub mod Cells
 pub mod Binding
 pub mod Relation
+pub mod Hole
+pub mod Outcome
+pub mod Code
+pub mod Moves
+pub mod Whole
+pub mod Ready

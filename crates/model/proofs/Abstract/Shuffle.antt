@@ -81,6 +81,13 @@ pub data Found {A : Type 0} (x : A) (S T L R : List A) : Type 0 where
   in-left : {L₁ R₁ : List A} → Split x S L₁ R₁ → Gap L₁ R₁ T L R → Found x S T L R
   in-right : {L₁ R₁ : List A} → Split x T L₁ R₁ → Gap L₁ R₁ S L R → Found x S T L R
 
+pub either-side : {A B : Type 0} {x : A} {S T L R : List A}
+    → ((L₁ R₁ : List A) → Split x S L₁ R₁ → Gap L₁ R₁ T L R → B)
+    → ((L₁ R₁ : List A) → Split x T L₁ R₁ → Gap L₁ R₁ S L R → B)
+    → Found x S T L R → B
+either-side f g (in-left s gap) = f _ _ s gap
+either-side f g (in-right s gap) = g _ _ s gap
+
 -- x of a list is in its shuffle Q with Z
 pub data Kept {A : Type 0} (x : A) (L₁ R₁ Z Q : List A) : Type 0 where
   kept : {L R : List A} → Split x Q L R → Gap L₁ R₁ Z L R → Kept x L₁ R₁ Z Q

@@ -68,13 +68,20 @@ Grows new new₁ C C₁ = (c : ℕ) → c ∈ C₁ → (c ∈ C) ⊎ ((new ≤ c
 pub grows-within : {new new₁ : ℕ} {C C₁ : List ℕ} → Within C₁ C → Grows new new₁ C C₁
 grows-within w c m = inl (w c m)
 
+pub grows-from : {new new₁ : ℕ} {C C₁ D : List ℕ} → Within C D → Grows new new₁ C C₁ → Grows new new₁ D C₁
+grows-from {new} {new₁} {C} {D = D} w g c m = go (g c m)
+  where
+    go : (c ∈ C) ⊎ ((new ≤ c) × (c < new₁)) → (c ∈ D) ⊎ ((new ≤ c) × (c < new₁))
+    go (inl x) = inl (w c x)
+    go (inr x) = inr x
+
 pub grows-all : {new new₁ : ℕ} {C : List ℕ} → Grows new new₁ C C
 grows-all c m = inl m
 
 -- one more cell
-pub grows-new : {new : ℕ} → Grows new (suc new) [] (new ∷ [])
+pub grows-new : {new : ℕ} {C : List ℕ} → Grows new (suc new) C (new ∷ [])
 grows-new c (List·Memᴰ·head p) = inr (omega arith, omega arith)
-grows-new c (List·Memᴰ·tail m) = inl m
+grows-new c (List·Memᴰ·tail m) = absurd (List·Memᴰ·not-nil m)
 
 pub grows-then : {new new₁ new₂ : ℕ} {C C₁ C₂ : List ℕ}
     → new ≤ new₁ → new₁ ≤ new₂ → Grows new new₁ C C₁ → Grows new₁ new₂ C₁ C₂ → Grows new new₂ C C₂

@@ -110,7 +110,7 @@ module _ (G : Program) where
   pub then-above : {σ : Store} {Γ : List ℕ} {ρ : Substitution} {g : Exp} {K L : Place} → Then σ Γ ρ g K L → above L ≡ above K
   then-above (then a c r env l) = leads-above l
 
-  chokes-above : {c : ℕ} {U : List ℕ} {L : Place} → Chokes c U L → above L ≡ c ∷ U
+  pub chokes-above : {c : ℕ} {U : List ℕ} {L : Place} → Chokes c U L → above L ≡ c ∷ U
   chokes-above (chokes e) = refl
 
   leads-out : {K L : Place} {c : ℕ} → Leads K L → c ∉ above L → c ∉ above K
@@ -125,7 +125,7 @@ module _ (G : Program) where
   then-under : {σ : Store} {Γ : List ℕ} {ρ : Substitution} {g : Exp} {K L : Place} {c : ℕ} → Then σ Γ ρ g K L → c ∈ above K → c ∈ above L
   then-under t m = rw (then-above t) m
 
-  chokes-out : {b c : ℕ} {U : List ℕ} {L : Place} → Chokes b U L → c ∉ (b ∷ U) → c ∉ above L
+  pub chokes-out : {b c : ℕ} {U : List ℕ} {L : Place} → Chokes b U L → c ∉ (b ∷ U) → c ∉ above L
   chokes-out ch n = rw (chokes-above ch) n
 
   chokes-under : {b c : ℕ} {U : List ℕ} {L : Place} → Chokes b U L → c ∈ (b ∷ U) → c ∈ above L
