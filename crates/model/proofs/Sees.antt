@@ -3,3 +3,5 @@ pub mod Labels
 pub mod Each
 pub mod Labelling
 pub mod Flowing
+pub mod Coded
+pub mod Closed

@@ -2,7 +2,7 @@
 -- and a binder's number, the length of its scope, is in no scope yet. Assumes nothing.
 use mathlib.Core.Path.{_≡_, refl, sym, _∙_, ap, subst}
 use mathlib.Core.Bool.{Bool, true, false}
-use mathlib.Core.List.{List, [], _∷_, _++_}
+use mathlib.Core.List.{List, [], _∷_}
 use Prim.Native.Nat.{ℕ, zero, suc, _+_, _≤_, _<_}
 use native.Mathlib.Omega.{arith}
 use lib.ListN.{length, getD, length-map}
@@ -16,7 +16,8 @@ use Rattle.model.proofs.Job.Size.{own-length, nodes-length}
 use Rattle.model.proofs.Job.Kept.{All-member, All-at, bodies-length, formals-few}
 use Rattle.model.proofs.Sees.Labels.{Labels, Fresh, Follows, Enters, FlowAt, Flow}
 use Rattle.model.proofs.Sees.Each.{Each, each-head, each-tail, each-from, each-append, three-each, each-at}
-use Rattle.model.proofs.Sees.Labelling.{Label, plain, nestRight, ownLabels, expLabels, programLabels, labelsOf, Has, Labelled, join-labelled, here-labelled, then-labelled, labelled-whole}
+use Rattle.model.proofs.Sees.Labelling.{Label, plain, nestRight, ownLabels, expLabels, programLabels, labelsOf}
+use Rattle.model.proofs.Sees.Labelling.{Has, Labelled, join-labelled, here-labelled, then-labelled, labelled-whole}
 
 -- each variable in scope is below the next one's number
 abbrev pub Below : List ℕ → Type 0
