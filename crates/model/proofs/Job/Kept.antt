@@ -145,7 +145,7 @@ unfolding constructFrom
 bodies-length n [] g = refl
 bodies-length n (d ∷ ds) g = ap suc (bodies-length (suc (n + size (d .body))) ds g)
 
-formals-few : {fs : List ℕ} {ds : List Definition} → All (GoodDefinition fs) ds → All (λ c. c ≤ 4) (formalsOf ds)
+pub formals-few : {fs : List ℕ} {ds : List Definition} → All (GoodDefinition fs) ds → All (λ c. c ≤ 4) (formalsOf ds)
 formals-few none = none
 formals-few (more h hs) = more (h .count) (formals-few hs)
 

@@ -12,7 +12,7 @@ use Rattle.model.specs.Job.WellFormed.{WellFormed}
 use Rattle.model.specs.Job.Node.{Node}
 use Rattle.model.specs.Job.Construct.{own, size, root, ownNodes, nodesOf, nextLeft, nextRight, constructFrom, construct}
 
-own-length : (j : Join) (l r k : ℕ) → length (ownNodes j l r k) ≡ own j
+pub own-length : (j : Join) (l r k : ℕ) → length (ownNodes j l r k) ≡ own j
 unfolding ownNodes own
 own-length par l r k = refl
 own-length (seq x) l r k = refl
