@@ -4,3 +4,5 @@ pub mod Machine
 pub mod Store
 pub mod Construct
 pub mod Laid
+pub mod Sound
+pub mod Complete

@@ -147,3 +147,67 @@ module _ (G : Program) where
       (t .own-part .placed 1 (omega arith))
       (code-of _ (n + 2) c gg (t .right-part))
       (t .own-part .placed 2 (omega arith))
+
+  -- an expression's nodes, a sink, and more
+  record Sunk (n a : ℕ) (s₁ s₃ : List (List ℕ)) (scope : List ℕ) (n₁ n₃ : List Dag.Node) (x : Dag.Node) : Type 0 where
+    code-part : Placed n s₁ n₁
+    sink-part : G .node (n + a) ≡ nodeMeant scope x
+    rest-part : Placed (suc (n + a)) s₃ n₃
+
+  placed-tail : {n : ℕ} {scope : List ℕ} {x : Dag.Node} {ss : List (List ℕ)} {ns : List Dag.Node}
+      → Placed n (scope ∷ ss) (x ∷ ns) → Placed (suc n) ss ns
+  placed-tail {n} p =
+      record { placed = λ i l. ap (G .node) (let z : suc n + i ≡ n + suc i = omega arith in z) ∙ p .placed (suc i) (omega arith) }
+
+  sunk : {n a : ℕ} {s₁ s₃ : List (List ℕ)} {scope : List ℕ} {n₁ n₃ : List Dag.Node} {x : Dag.Node}
+      → length s₁ ≡ a → length n₁ ≡ a → Placed n (s₁ ++ (scope ∷ s₃)) (n₁ ++ (x ∷ n₃)) → Sunk n a s₁ s₃ scope n₁ n₃ x
+  sunk {n} {a} {s₁} {s₃} {scope} {n₁} {n₃} {x} e f p =
+      let rest = placed-right s₁ (scope ∷ s₃) n₁ (x ∷ n₃) (e ∙ sym f) p (n + a) (ap (λ y. n + y) f) in
+      record {
+        code-part = placed-left s₁ (scope ∷ s₃) n₁ (x ∷ n₃) (e ∙ sym f) p;
+        sink-part = placed-here rest;
+        rest-part = placed-tail rest;
+      }
+
+  body-sunk : (e : Definition) (ds : List Definition) (n : ℕ) (g : Exp)
+      → Placed n (allScopes (e ∷ ds) g) (constructFrom n (e ∷ ds) g .nodes)
+      → Sunk n (size (e .body)) (scopesOf (levels (e .formals)) (e .body)) (allScopes ds g) (levels (e .formals))
+      (nodesOf (e .body) n (n + size (e .body))) (constructFrom (suc (n + size (e .body))) ds g .nodes) Dag.Node.return
+  unfolding allScopes constructFrom
+  body-sunk e ds n g p = sunk (scopesOf-length _ (e .body)) (nodesOf-length (e .body) _ _) p
+
+  body-laid : {formals : List ℕ} (ds : List Definition) (n : ℕ) (g : Exp)
+      → length formals ≡ G .count → All (GoodDefinition formals) ds → Placed n (allScopes ds g) (constructFrom n ds g .nodes)
+      → (d : ℕ) → d < length ds → Laid G Node.return (bodyMeant ds d) (bodyAt (constructFrom n ds g) d .root)
+  unfolding constructFrom bodyMeant bodyAt nodeMeant
+  body-laid [] n g c a p d l = absurd (omega arith)
+  body-laid (e ∷ es) n g c (more ge gs) p zero l =
+      let s = body-sunk e es n g p in
+      record { sink = n + size (e .body); laid = code-of n _ c (ge .body) (s .code-part); at-sink = s .sink-part }
+  body-laid (e ∷ es) n g c (more ge gs) p (suc d) l = body-laid es _ g c gs (body-sunk e es n g p .rest-part) d (omega arith)
+
+  goal-laid : {formals : List ℕ} {left : ℕ} (ds : List Definition) (n : ℕ) (g : Exp)
+      → length formals ≡ G .count → Good formals left [] g → Placed n (allScopes ds g) (constructFrom n ds g .nodes)
+      → Laid G Node.publish (expMeant [] g) (constructFrom n ds g .goal)
+  unfolding allScopes constructFrom nodeMeant
+  goal-laid [] n g c good p =
+      let s = sunk (scopesOf-length [] g) (nodesOf-length g _ _) p in
+      record { sink = n + size g; laid = code-of n _ c good (s .code-part); at-sink = s .sink-part }
+  goal-laid (e ∷ es) n g c good p = goal-laid es _ g c good (body-sunk e es n g p .rest-part)
+
+module _ (p : Job.Program) (wf : WellFormed p) where
+  all-placed : Placed (abstractOf p) 0 (allScopes (p .definitions) (p .goal)) (construct p .nodes)
+  unfolding abstractOf scopeAt nodeAt
+  all-placed = record { placed = λ i l. ap (abstractOf p .node) (let z : 0 + i ≡ i = omega arith in z) }
+
+  counted : length (formalsOf (p .definitions)) ≡ abstractOf p .count
+  unfolding abstractOf
+  counted = length-map (p .definitions) _
+
+  pub bodies-laid : Bodies (abstractOf p)
+  unfolding abstractOf construct
+  bodies-laid d l = body-laid (abstractOf p) (p .definitions) 0 (p .goal) counted (wf .bodies) all-placed d l
+
+  pub goal-is-laid : Laid (abstractOf p) Node.publish (expMeant [] (p .goal)) (construct p .goal)
+  unfolding construct
+  goal-is-laid = goal-laid (abstractOf p) (p .definitions) 0 (p .goal) counted (wf .goal) all-placed
