@@ -2,7 +2,5 @@
 pub mod Shuffle
 pub mod Machine
 pub mod Store
-pub mod Construct
-pub mod Laid
 pub mod Sound
 pub mod Complete

@@ -10,4 +10,3 @@ pub mod Allowed
 pub mod NotAllowed
 pub mod Marked
 pub mod Silent
-pub mod Scope
