@@ -34,7 +34,7 @@ module _ (body : ℕ → Exp) (h : ℕ) where
     -- "An outside call with all values becomes an open call; .."
     outside-call : {s : ℕ} {ps : List Param} {vs : List ℤ}
         → valuesOf ps ≡ some vs → isOutside s ≡ true → Rewrites (site s ps) (showing (Event.call h s vs)) (pending h)
-    -- ".. its answer makes a value in hand; .."
+    -- ".. its answer makes a value in hand; .." (docs/DECISIONS.md, "Values and answers")
     answered : {k : ℕ} {v : ℤ} → Signed32 v → Rewrites (pending k) (showing (Event.answer k v)) (hand v)
     -- ".. that publishes once and becomes stop."
     published : {v : ℤ} → Rewrites (hand v) (showing (Event.publish v)) stop

@@ -24,7 +24,7 @@ firstLeft j n = n + own j
 abbrev pub firstRight : Join → Exp → ℕ → ℕ
 firstRight j f n = n + own j + size f
 
--- where a token enters an expression whose nodes are numbered from n: a sequence is entered at its f
+-- where a token enters an expression whose nodes are numbered from n: a sequence is entered at its f (docs/DECISIONS.md, "Where a sequence begins")
 unfoldable pub root : Exp → ℕ → ℕ
 root stop n = n
 root (site s ps) n = n

@@ -37,7 +37,7 @@ kinds = stop ∷ site ∷ call ∷ par ∷ seq ∷ prune ∷ definition ∷ vari
 unfoldable pub kindOf : ℕ → Kind
 kindOf k = getD kinds k unknown
 
--- the kinds that may stand where an expression is read
+-- the kinds that may stand where an expression is read (docs/DECISIONS.md, "Positions")
 unfoldable pub isExpression : Kind → Bool
 isExpression stop = true
 isExpression site = true
@@ -50,7 +50,7 @@ isExpression variable = false
 isExpression constant = false
 isExpression unknown = false
 
--- the operand keeps to its row of the table, "site unknown, or built-in count wrong" included
+-- (docs/DECISIONS.md, "What breaks a row") the operand keeps to its row of the table, "site unknown, or built-in count wrong" included
 unfoldable pub rowKept : Kind → ℕ → Bool
 rowKept stop o = eqb o 0
 rowKept site o = siteTakes (low o) (high o)

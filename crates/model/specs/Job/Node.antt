@@ -9,7 +9,7 @@ use Rattle.model.specs.Number.{fits}
 use Rattle.model.specs.Site.{siteTakes}
 use Rattle.model.specs.Job.Syntax.{Param, variable, constant}
 
--- The ten instructions. (`where` alone is a reserved word.) `unknown` is a row of words that no node has.
+-- The ten instructions (docs/DECISIONS.md, "Numbering"). (`where` alone is a reserved word.) `unknown` is a row of words that no node has.
 pub data Node : Type 0 where
   stop : Node
   site : (s : ℕ) (ps : List Param) (next : ℕ) → Node

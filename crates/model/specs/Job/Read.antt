@@ -75,7 +75,7 @@ readJoin side j scope e es = do
   g ← side (scopeRight j scope) (f .next) (f .rest)
   gives (join j (f .value) (g .value)) (g .next) (g .rest)
 
--- an expression from entry e on: so many levels of depth are left, these variables are in scope.
+-- an expression from entry e on (docs/DECISIONS.md, "Order at one entry", "Depth"): so many levels of depth are left, these variables are in scope.
 -- "Entry by entry 5, 3, 4, 6, 7": "6: depth 25", "7: .. a binder where 8 are in scope"
 unfoldable pub readExp : ℕ → List ℕ → ℕ → List Entry → Read Exp
 readExp zero scope e es = do
@@ -169,7 +169,7 @@ sizeN b = number (take 2 (drop 2 b))
 abbrev pub tableLength : List ℕ → ℕ
 tableLength b = 4 + 5 * sizeN b
 
--- "Order: 1 (N is read only with 4 bytes present), 2; then entry by entry .."
+-- "Order: 1 (N is read only with 4 bytes present), 2; then entry by entry .." (docs/DECISIONS.md, "Length and N")
 unfoldable pub readBytes : List ℕ → Read Program
 readBytes b = do
   _ ← need (leb 4 (length b)) 1 0

@@ -33,7 +33,7 @@ pub record Program : Type 0 where
 abbrev pub formalsOf : List Definition → List ℕ
 formalsOf ds = map (λ (d : Definition). d .formals) ds
 
--- the variables in scope, the innermost binder's first: "formals from 0"
+-- the variables in scope, the innermost binder's first: "formals from 0" (docs/DECISIONS.md, "Scope as a list")
 unfoldable pub levels : ℕ → List ℕ
 levels zero = []
 levels (suc n) = n ∷ levels n

@@ -1,4 +1,4 @@
--- The dag's words: what stands in the array that a host lends. Assumes nothing: these are definitions.
+-- The dag's words: what stands in the array that a host lends (docs/DECISIONS.md, "Words"). Assumes nothing: these are definitions.
 -- A head of 67 words (number of nodes, number of definitions, the goal's root, root and formals of each definition),
 -- then 12 words a node: kind, two numbers, a third number, and four parameters of two words each.
 use mathlib.Core.Bool.{Bool, true, false}

@@ -36,7 +36,7 @@ pub data Turn : Type 0 where
   over : List Line → Turn
 
 module _ (lim : Limits) (most : ℕ) (d : Dag) where
-  -- "It runs house order"; "a refused step ends the run"; "with 100,000 steps made and a token ready: `limit`, then `end`"
+  -- (docs/DECISIONS.md, "`limit` before any refusal") "It runs house order"; "a refused step ends the run"; "with 100,000 steps made and a token ready: `limit`, then `end`"
   unfoldable pub stepTurn : Standing → Turn
   stepTurn s =
       elim (ltb (s .steps) most) [
@@ -56,7 +56,7 @@ module _ (lim : Limits) (most : ℕ) (d : Dag) where
       let o = answer lim d (s .machine) (number (take 4 (s .rest))) (signed (number (take 4 (drop 4 (s .rest))))) in
       on (linesOf (told (o .reply) (o .values))) (record { machine = o .machine; steps = s .steps; rest = drop 8 (s .rest) })
 
-  -- "A trailing piece prints `short`"; "last .. `end` and accepted steps"
+  -- (docs/DECISIONS.md, "`short`") "A trailing piece prints `short`"; "last .. `end` and accepted steps"
   unfoldable pub lastTurn : Standing → Turn
   lastTurn s =
       elim (eqb (length (s .rest)) 0) [

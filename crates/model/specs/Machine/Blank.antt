@@ -1,4 +1,4 @@
--- Document 01: blank. A blank token or cell holds nothing. Assumes nothing: these are definitions.
+-- Document 01: blank. A blank token or cell holds nothing (docs/DECISIONS.md, "Blank"). Assumes nothing: these are definitions.
 use mathlib.Core.Bool.{Bool, true, false, not}
 use mathlib.Core.List.{List, [], _∷_}
 use Prim.Native.Nat.{ℕ}

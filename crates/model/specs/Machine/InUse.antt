@@ -1,4 +1,4 @@
--- Document 01: in use, and blank after each accepted call. Assumes nothing: these are definitions.
+-- Document 01: in use, and blank after each accepted call (docs/DECISIONS.md, "In use"). Assumes nothing: these are definitions.
 use mathlib.Core.Bool.{Bool, true, false}
 use mathlib.Core.List.{List, [], _∷_, _++_, map}
 use Prim.Native.Nat.{ℕ, zero, suc}

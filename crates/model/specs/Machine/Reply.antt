@@ -21,7 +21,7 @@ pub data Effect : Type 0 where
   calls : (handle site : ℕ) → List ℤ → Machine → Effect
   refuses : Refusal → Effect
 
--- the values beside a reply: the call's in order, then zeros
+-- the values beside a reply: the call's in order, then zeros (docs/DECISIONS.md, "The values beside a reply")
 abbrev pub valuesBeside : List ℤ → List ℤ
 valuesBeside vs = padded (pos 0) 4 vs
 

@@ -28,7 +28,7 @@ startToken goal =
       state = states.Ready;
     }
 
--- "the starting token is at 0, the first cell takes 0": the last cell place given is the last one there is
+-- "the starting token is at 0, the first cell takes 0": the last cell place given is the last one there is (docs/DECISIONS.md, "Places")
 abbrev pub startMachine : Limits → ℕ → Machine
 startMachine lim goal =
     record {
@@ -43,7 +43,7 @@ startMachine lim goal =
       newcell = lim .cellPlaces - 1;
     }
 
--- "The start tests 14": the dag's rules. A refused start hands back the blank record
+-- "The start tests 14": the dag's rules. A refused start hands back the blank record (docs/DECISIONS.md, "The start", "A refused start")
 unfoldable pub start : Limits → Dag → Outcome
 start lim d =
     elim (dagKept d) [

@@ -1,4 +1,5 @@
--- Document 01: one step. One clause for each instruction. Assumes nothing: these are definitions.
+-- Document 01: one step, and house order where the place is 0. One clause for each instruction; a branch that a test excludes gives the plainest
+-- value (docs/DECISIONS.md, "Branches that a test excludes"). Assumes nothing: these are definitions.
 use mathlib.Core.Bool.{Bool, true, false}
 use mathlib.Core.List.{List, [], _∷_, _++_, map}
 use Prim.Native.Nat.{ℕ, suc}
@@ -163,7 +164,7 @@ waitsAt c (states.Waiting b) = eqb c b
 waitsAt c (states.Called h) = false
 waitsAt c states.Frame = false
 
--- "all tokens of it and of its descendants end; waiters become ready"
+-- "all tokens of it and of its descendants end; waiters become ready" (docs/DECISIONS.md, "Choke ends every token", "Waiting")
 unfoldable pub chokeToken : List Cell → ℕ → Token → Token
 chokeToken cs c t =
     elim (within cs c (t .cell)) [
@@ -262,10 +263,10 @@ module _ (lim : Limits) (d : Dag) where
   unfoldable pub hasCellPlace : Machine → Bool
   hasCellPlace before = ltb (marked (cellsUsed before)) (lim .cells)
 
-  abbrev tokenPlace : Machine → ℕ
+  abbrev pub tokenPlace : Machine → ℕ
   tokenPlace before = nextPlace (tokensUsed before) (before .newtoken)
 
-  abbrev cellPlace : Machine → ℕ
+  abbrev pub cellPlace : Machine → ℕ
   cellPlace before = nextPlace (cellsUsed before) (before .newcell)
 
   -- the instruction table
@@ -294,7 +295,7 @@ module _ (lim : Limits) (d : Dag) where
       let t = tokenAt (m .tokens) p in
       act m (withOrders (without place (queueOf m)) (waitsOf m) m) p t (nodeAt d (t .node))
 
-  -- "A step tests 14, 9, then 10, 11 or 13"
+  -- "A step tests 14, 9, then 10, 11 or 13" (docs/DECISIONS.md, "A step")
   unfoldable pub step : Machine → (place : ℕ) → Outcome
   step m place =
       let effect = takes m place in

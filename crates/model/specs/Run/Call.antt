@@ -15,7 +15,7 @@ use Rattle.model.specs.Calculus.Event.{Event}
 use Rattle.model.specs.declared.record.Machine.{Machine}
 use Rattle.model.specs.declared.reply.Outcome.{Outcome}
 
--- "steps, each with the queue place it picks, and answers, each with handle and value"
+-- "steps, each with the queue place it picks, and answers, each with handle and value" (docs/DECISIONS.md, "A call of a run")
 pub data Call : Type 0 where
   step : (place : ℕ) → Call
   answer : (handle : ℕ) (v : ℤ) → Signed32 v → Call

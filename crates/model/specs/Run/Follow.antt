@@ -1,4 +1,4 @@
--- A ready token, followed by its position in the queue from call to call. Assumes nothing: these are definitions.
+-- A ready token, followed by its position in the queue from call to call (docs/DECISIONS.md, "Following a token"). Assumes nothing: these are definitions.
 use mathlib.Core.Path.{_≡_}
 use mathlib.Core.Bool.{Bool, true, false}
 use mathlib.Core.List.{List, [], _∷_}
