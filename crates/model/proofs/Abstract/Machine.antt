@@ -1,10 +1,10 @@
 -- The abstract machine. A token carries its bindings, its callers' frames and the cells that it is under; cells have names that are never
--- used again; a call that finds an unset cell stays as it is. No places, no garbage, no limits, no queue. Assumes nothing: these are definitions.
-use mathlib.Core.Path.{_≡_}
+-- used again; a call that finds an unset cell stays as it is. No places, no garbage, no limits, no queue.
+-- Assumes nothing: these are definitions.
 use mathlib.Core.Bool.{Bool, true, false, not}
 use mathlib.Core.List.{List, [], _∷_, _++_, map, reverse, tail}
 use mathlib.Core.Option.{Option, some, none}
-use Prim.Native.Nat.{ℕ, zero, suc}
+use Prim.Native.Nat.{ℕ, suc}
 use lib.ListN.{getD}
 use lib.Dec.{eqb}
 use lib.IntN.{ℤ, pos}

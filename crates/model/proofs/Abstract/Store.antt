@@ -1,5 +1,5 @@
 -- Laws of the abstract machine's cells: what a set cell holds, and which tokens its setting ends. By the tests that decide it. Assumes nothing.
-use mathlib.Core.Path.{_≡_, refl, sym, _∙_, ap}
+use mathlib.Core.Path.{_≡_, refl, _∙_, ap}
 use mathlib.Core.Bool.{Bool, true, false, not}
 use mathlib.Core.List.{List, [], _∷_, List·Memᴰ, List·Memᴰ·head, List·Memᴰ·tail, List·Memᴰ·not-nil}
 use mathlib.Core.Option.{Option, some, none}
@@ -25,7 +25,7 @@ set-same σ c v = ap (λ b. chosen b v (σ c)) (eqb-same c)
 pub set-other : (σ : Store) (c b : ℕ) (v : ℤ) → (b ≡ c → ⊥) → withSet σ c v b ≡ σ b
 set-other σ c b v n = ap (λ x. chosen x v (σ b)) (ne-eqb b c n)
 
-pub not-both : {o : Option ℤ} {v : ℤ} → o ≡ none → o ≡ some v → ⊥
+not-both : {o : Option ℤ} {v : ℤ} → o ≡ none → o ≡ some v → ⊥
 not-both p q = let z : _≡_ {A = ℕ} 0 1 = cc in omega arith
 
 -- a cell that was set keeps its value

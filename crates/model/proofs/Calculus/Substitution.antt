@@ -1,7 +1,7 @@
 -- Laws of substitution: two after one another are one, the variables for themselves change nothing, a value put in for the variable of a
 -- binder just passed is bound in front, and what is in scope of what a substitution leaves alone stays. By recursion on the expression.
 -- Assumes nothing.
-use mathlib.Core.Path.{_≡_, refl, sym, _∙_, ap, ap₂, fun-ext}
+use mathlib.Core.Path.{_≡_, refl, _∙_, ap, ap₂, fun-ext}
 use mathlib.Core.List.{List, [], _∷_, map}
 use Prim.Native.Nat.{ℕ, zero, suc, _<_}
 use native.Mathlib.Omega.{arith}

@@ -1,6 +1,6 @@
 -- How the bindings of a token stand for a substitution, and that both give the same values: a variable of the calculus is an unset cell,
 -- a cell that is set is its value. By cases on a binding. Assumes nothing.
-use mathlib.Core.Path.{_≡_, refl, sym, _∙_, ap, ap₂}
+use mathlib.Core.Path.{_≡_, refl, sym, _∙_, ap₂}
 use mathlib.Core.List.{List, [], _∷_, map, reverse, reverseAux, List·Memᴰ·head, List·Memᴰ·tail}
 use mathlib.Core.Option.{Option, some, none}
 use Prim.Native.Nat.{ℕ, zero, suc}
@@ -103,7 +103,7 @@ module _ {σ : Store} {Γ : List ℕ} {ρ : Substitution} {B : List Binding} (en
       go (suc i) = raised (env .binds i)
 
   -- parameters, with the bindings that they name
-  pub named-bind : (p : Param) → Bind σ Γ (substParam ρ p) (named B p)
+  named-bind : (p : Param) → Bind σ Γ (substParam ρ p) (named B p)
   unfolding substParam
   named-bind (Param.value v) = value
   named-bind (Param.variable i) = env .binds i

@@ -1,10 +1,10 @@
 -- Which cells are told apart: two parts of a list, what a list grows to, and the invariant of the cells around an expression.
 -- Cell names are given in order, so a new one is in no list of old ones. Assumes nothing.
-use mathlib.Core.Path.{_≡_, refl, sym, _∙_, ap, subst}
+use mathlib.Core.Path.{_≡_, _∙_, subst}
 use mathlib.Core.Logic.{_⊎_, inl, inr}
 use mathlib.Core.List.{List, [], _∷_, _++_, List·Memᴰ·head, List·Memᴰ·tail, List·Memᴰ·append-cases, List·Memᴰ·not-nil, Memᴰ·append-left, Memᴰ·append-right}
-use mathlib.Core.Option.{Option, some, none}
-use Prim.Native.Nat.{ℕ, zero, suc, _<_, _≤_}
+use mathlib.Core.Option.{none}
+use Prim.Native.Nat.{ℕ, suc, _<_, _≤_}
 use native.Mathlib.Omega.{arith}
 use lib.IntN.{ℤ}
 use Rattle.model.proofs.Abstract.Machine.{Store, withSet}
@@ -39,6 +39,9 @@ pub record Parts (C D E : List ℕ) : Type 0 where
 pub parts-swap : {C D E : List ℕ} → Parts C D E → Parts D C E
 parts-swap p = record { apart = λ c m k. p .apart c k m; in-left = p .in-right; in-right = p .in-left }
 
+pub parts-within : {C D E F : List ℕ} → Within E F → Parts C D E → Parts C D F
+parts-within w p = record { apart = p .apart; in-left = λ c m. w c (p .in-left c m); in-right = λ c m. w c (p .in-right c m) }
+
 pub parts-alone : {C : List ℕ} → Parts C [] C
 parts-alone = record { apart = apart-none; in-left = λ c m. m; in-right = λ c m. absurd (List·Memᴰ·not-nil m) }
 
@@ -49,7 +52,7 @@ pub parts-none : {C : List ℕ} → Parts [] [] C
 parts-none =
     record { apart = apart-none; in-left = λ c m. absurd (List·Memᴰ·not-nil m); in-right = λ c m. absurd (List·Memᴰ·not-nil m) }
 
-pub parts-append : {C D : List ℕ} → Apart C D → Parts C D (C ++ D)
+parts-append : {C D : List ℕ} → Apart C D → Parts C D (C ++ D)
 parts-append {C} {D} a = record { apart = a; in-left = λ c m. Memᴰ·append-left D m; in-right = λ c m. Memᴰ·append-right C m }
 
 -- the cell b changes sides
@@ -100,7 +103,7 @@ grows-then {new} {new₁} {new₂} {C} {C₁} {C₂} l k f g c m = go (g c m)
 
 -- a part grows beside another one that is old
 module _ {new new₁ : ℕ} {C C₁ D E : List ℕ} (p : Parts C D E) (g : Grows new new₁ C C₁) where
-  pub grown-parts : ((c : ℕ) → c ∈ D → c < new) → Parts C₁ D (C₁ ++ D)
+  grown-parts : ((c : ℕ) → c ∈ D → c < new) → Parts C₁ D (C₁ ++ D)
   grown-parts old = parts-append (λ c m k. go c k (g c m))
     where
       go : (c : ℕ) → c ∈ D → (c ∈ C) ⊎ ((new ≤ c) × (c < new₁)) → ⊥
@@ -147,7 +150,7 @@ module _ {σ : Store} {new : ℕ} {Γ U C : List ℕ} (t : Tidy σ new Γ U C) w
         clean = t .clean;
       }
 
-  pub tidy-under : {V₁ : List ℕ} → U ≡ V₁ → Tidy σ new Γ V₁ C
+  pub tidy-under : {U₁ : List ℕ} → U ≡ U₁ → Tidy σ new Γ U₁ C
   tidy-under p = subst (λ x. Tidy σ new Γ x C) p t
 
   pub tidy-grown : {new₁ : ℕ} {C₁ : List ℕ} → new ≤ new₁ → Grows new new₁ C C₁ → Tidy σ new₁ Γ U C₁
@@ -168,6 +171,11 @@ module _ {σ : Store} {new : ℕ} {Γ U C : List ℕ} (t : Tidy σ new Γ U C) w
       not : (c : ℕ) → Open σ new c → c ∉ C → (c ∈ C) ⊎ ((new ≤ c) × (c < new₁)) → ⊥
       not c o n (inl m) = n m
       not c o n (inr x) = omega arith
+
+-- a part that grows stays apart from the other
+pub grown : {σ : Store} {new new₁ : ℕ} {Γ U C C₁ D E : List ℕ}
+    → Parts C D E → Tidy σ new Γ U E → Grows new new₁ C C₁ → Parts C₁ D (C₁ ++ D)
+grown p t g = grown-parts p g (λ c m. t .own c (p .in-right c m) .old)
 
 module _ {σ : Store} {new b : ℕ} {Γ U C D E : List ℕ} (p : Parts C (b ∷ D) E) (t : Tidy σ new Γ U E) where
   open-here : (c : ℕ) → c ≡ b → Open σ new c

@@ -1,15 +1,14 @@
 -- What a token does at a site call or a definition call, where the calculus rewrites that call: the same, with the same label.
 -- Both sides read the same values. Assumes nothing.
-use mathlib.Core.Path.{_≡_, refl, sym, _∙_, ap}
+use mathlib.Core.Path.{_≡_, refl, _∙_, ap}
 use mathlib.Core.Bool.{true, false}
-use mathlib.Core.List.{List, [], _∷_, map}
+use mathlib.Core.List.{List, [], map}
 use mathlib.Core.Option.{some}
 use Prim.Native.Nat.{ℕ, _<_, _≤_}
 use native.Mathlib.Omega.{arith}
 use lib.Dec.{leb}
 use lib.IntN.{ℤ}
-use Rattle.model.specs.Test.{_and_}
-use Rattle.model.specs.Site.{isBuiltin, isOutside, builtin}
+use Rattle.model.specs.Site.{isBuiltin, isOutside}
 use Rattle.model.specs.Calculus.Event.{Label, silently}
 use Rattle.model.specs.Calculus.Expression.{Param, Exp, Substitution, substParam, subst, formals}
 use Rattle.model.specs.Calculus.Rewriting.{valuesOf, silence, calling, Rewrites}

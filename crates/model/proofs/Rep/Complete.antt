@@ -1,19 +1,19 @@
 -- Completeness of runs: what rewritings of an expression show, a run of the abstract machine shows from any state that stands for it. By
 -- recursion on the rewritings. Assumes nothing.
-use mathlib.Core.Path.{_≡_, refl, sym, _∙_, ap}
+use mathlib.Core.Path.{_≡_, sym, _∙_, ap}
 use mathlib.Core.Path.{subst as along}
-use mathlib.Core.List.{List, [], _∷_, _++_}
-use Prim.Native.Nat.{ℕ, suc}
-use Rattle.model.specs.Calculus.Event.{Event, Label, silently, showing}
+use mathlib.Core.List.{List, []}
+use Prim.Native.Nat.{ℕ}
+use Rattle.model.specs.Calculus.Event.{Event, Label}
 use Rattle.model.specs.Calculus.Expression.{Exp}
 use Rattle.model.specs.Calculus.Rewriting.{Rewrites}
 use Rattle.model.specs.Calculus.Allowed.{Configuration, nextHandle, shown, Shows}
 use Rattle.model.proofs.Abstract.Shuffle.{Split}
 use Rattle.model.proofs.Abstract.Machine.{Node, Program, at, Token, Store, Effect, Move, effect, State, state, handleOf, after, labelOf, Step, step, Run, rests}
-use Rattle.model.proofs.Rep.Cells.{Tidy, tidy-grown}
+use Rattle.model.proofs.Rep.Cells.{tidy-grown}
 use Rattle.model.proofs.Rep.Code.{Bodies}
 use Rattle.model.proofs.Rep.Ready.{Quiet, done, quiet, Ready, ready, rep-ready}
-use Rattle.model.proofs.Rep.Whole.{Stands, stands, Follows, follows}
+use Rattle.model.proofs.Rep.Whole.{Stands, stands, follows}
 
 module _ (G : Program) where
   -- a step with a known effect

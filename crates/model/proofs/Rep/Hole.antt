@@ -1,21 +1,22 @@
 -- An expression with a hole, one operator deep, and the tokens of its other side. Whatever stands for what fills the hole makes, with them,
 -- what stands for the whole; and the whole acts as its filling does, but where it catches what the filling publishes. By cases on the operator.
 -- Assumes nothing.
-use mathlib.Core.Path.{_≡_, refl, sym, _∙_, ap}
+use mathlib.Core.Path.{_≡_, refl, sym}
 use mathlib.Core.Path.{subst as along}
 use mathlib.Core.List.{List, [], _∷_, List·Memᴰ·head, List·Memᴰ·tail}
 use mathlib.Core.Option.{none}
 use Prim.Native.Nat.{ℕ}
 use lib.IntN.{ℤ}
+use Rattle.model.specs.Test.{filter}
 use Rattle.model.specs.Calculus.Event.{Event, Label, silently, showing}
 use Rattle.model.specs.Calculus.Expression.{Exp, Substitution, lift, subst, one}
-use Rattle.model.specs.Calculus.Rewriting.{Passes, silence, calling, answering, Rewrites}
+use Rattle.model.specs.Calculus.Rewriting.{Passes, Rewrites}
 use Rattle.model.proofs.Abstract.Shuffle.{Mix, mix-swap, mix-unit}
 use Rattle.model.proofs.Abstract.Machine.{Program, Place, above, Token, Store, withSet, outOf}
-use Rattle.model.proofs.Abstract.Store.{_∈_, _∉_}
+use Rattle.model.proofs.Abstract.Store.{_∉_}
 use Rattle.model.proofs.Rep.Cells.{Parts, parts-swap, parts-move, not-in-cons, Tidy, tidy-part, tidy-under, tidy-left, tidy-right}
 use Rattle.model.proofs.Rep.Binding.{env-set}
-use Rattle.model.proofs.Rep.Relation.{Then, then, Chokes, Rep, rep-set, rep-more, rep-stays, then-above, chokes-above, chokes-out}
+use Rattle.model.proofs.Rep.Relation.{Then, then, Chokes, Rep, rep-set, rep-more, rep-stays, then-above, chokes-above}
 
 -- what a hole does with a published value: it lets it through, or the whole silently becomes what the function says
 pub data Gate : Type 0 where
@@ -25,10 +26,6 @@ pub data Gate : Type 0 where
 pub data Lets : Gate → Label → Type 0 where
   through : {a : Label} → Lets free a
   passing : {k : ℤ → Exp → Exp} {a : Label} → Passes a → Lets (catching k) a
-
-pub lets-passing : {a : Label} (gate : Gate) → Passes a → Lets gate a
-lets-passing free p = through
-lets-passing (catching k) p = passing p
 
 -- where the filling becomes f with the label a, the whole becomes e with the label b
 pub data Lifts : Gate → (Exp → Exp) → Label → Exp → Label → Exp → Type 0 where
@@ -82,12 +79,12 @@ module _ (G : Program) where
   -- the other side's tokens are not under a cell of the hole's
   pub hole-stays : {σ : Store} {Γ Δ D : List ℕ} {K L : Place} {gate : Gate} {plug : Exp → Exp} {Z : List Token} (c : ℕ)
       → c ∉ D → c ∉ above K → Hole σ Γ K gate Δ L Z D plug → outOf c Z ≡ Z
-  unfolding Rattle.model.specs.Test.filter
+  unfolding filter
   hole-stays c n u (par-left g) = rep-stays G c n u g
   hole-stays c n u (par-right f) = rep-stays G c n u f
   hole-stays c n u (seq t) = refl
   hole-stays c n u (prune-left k ch g) =
-      rep-stays G c (λ m. n (List·Memᴰ·tail m)) (chokes-out G ch (not-in-cons (λ q. n (List·Memᴰ·head q)) u)) g
+      rep-stays G c (λ m. n (List·Memᴰ·tail m)) (rw (chokes-above G ch) (not-in-cons (λ q. n (List·Memᴰ·head q)) u)) g
   hole-stays c n u (prune-right k ch f) = rep-stays G c (λ m. n (List·Memᴰ·tail m)) u f
 
   pub hole-place : {σ : Store} {Γ Δ D : List ℕ} {K L : Place} {plug : Exp → Exp} {Z : List Token} → Hole σ Γ K free Δ L Z D plug → L ≡ K
@@ -95,7 +92,8 @@ module _ (G : Program) where
   hole-place (par-right f) = refl
   hole-place (prune-left n ch g) = refl
 
-  pub hole-acts : {σ : Store} {Γ Δ D : List ℕ} {K L : Place} {gate : Gate} {plug : Exp → Exp} {Z : List Token} {h : ℕ} {a b : Label} {f f′ e : Exp}
+  pub hole-acts : {σ : Store} {Γ Δ D : List ℕ} {K L : Place} {gate : Gate} {plug : Exp → Exp} {Z : List Token}
+      {h : ℕ} {a b : Label} {f f′ e : Exp}
       → Hole σ Γ K gate Δ L Z D plug → Lifts gate plug a f′ b e → Rewrites (G .body) h f a f′ → Rewrites (G .body) h (plug f) b e
   hole-acts (par-left g) (acting l) s = Rewrites.par-left s
   hole-acts (par-right f) (acting l) s = Rewrites.par-right s

@@ -1,23 +1,22 @@
 -- Soundness of a move: whatever a token does, the expression that the tokens stand for is rewritten at most once, with the same label, and
 -- the tokens stand for the result. By recursion on the relation, through holes. Assumes nothing.
-use mathlib.Core.Path.{_≡_, refl, sym, _∙_, ap}
+use mathlib.Core.Path.{_≡_, refl, _∙_, ap}
 use mathlib.Core.Logic.{_⊎_, inl, inr}
-use mathlib.Core.Bool.{Bool, true, false}
-use mathlib.Core.List.{List, [], _∷_, map, List·Memᴰ·head, List·Memᴰ·not-nil}
+use mathlib.Core.Bool.{true}
+use mathlib.Core.List.{List, [], map, List·Memᴰ·head, List·Memᴰ·not-nil}
 use mathlib.Core.Option.{Option, some, none}
 use Prim.Native.Nat.{ℕ}
 use lib.IntN.{ℤ}
 use Rattle.model.specs.Site.{Said, gives, silent, isBuiltin, isOutside, builtin}
 use Rattle.model.specs.Calculus.Expression.{Param, Exp, Substitution, lift, substParam, subst}
 use Rattle.model.specs.Calculus.Rewriting.{valuesOf, silence, answering, Rewrites}
-use Rattle.model.proofs.Test.{clash}
 use Rattle.model.proofs.Abstract.Shuffle.{Split, first, later, pair, split-none, gap-alone, found, either-side}
 use Rattle.model.proofs.Abstract.Machine.{Node, Program, Binding, Frame, Place, at, above, Token, running, Store, asksSite, Move, acts, answered}
 use Rattle.model.proofs.Rep.Cells.{parts-swap, parts-move, parts-alone, parts-own, parts-none, grows-all, grows-new, Tidy}
 use Rattle.model.proofs.Rep.Binding.{Env, Unset, env-cell, values-agree}
 use Rattle.model.proofs.Rep.Relation.{Code, Leads, here, removes, returns, then, chokes, Rep, leads-under-new}
-use Rattle.model.proofs.Rep.Hole.{free, catching, Hole, hole-tidy}
-use Rattle.model.proofs.Rep.Outcome.{AtMost, same, once, Outcome, publishes, makes, act-at, Moves, moves, moves-inside}
+use Rattle.model.proofs.Rep.Hole.{free, Hole, hole-tidy}
+use Rattle.model.proofs.Rep.Outcome.{same, once, publishes, makes, act-at, Moves, moves, moves-inside}
 use Rattle.model.proofs.Rep.Code.{Bodies, site-outcome, call-outcome}
 
 module _ (G : Program) (σ : Store) (new h : ℕ) where

@@ -3,7 +3,7 @@
 use mathlib.Core.Path.{_≡_, refl, sym, _∙_, ap}
 use mathlib.Core.Path.{subst as along}
 use mathlib.Core.List.{List, [], _∷_, _++_, List·Memᴰ·head, List·Memᴰ·tail}
-use Prim.Native.Nat.{ℕ, suc, _<_}
+use Prim.Native.Nat.{ℕ, suc}
 use lib.IntN.{ℤ}
 use Rattle.model.specs.Calculus.Event.{Event, Label, silently, showing}
 use Rattle.model.specs.Calculus.Expression.{Exp, Substitution, lift, subst, one}
@@ -12,13 +12,13 @@ use Rattle.model.proofs.Calculus.Substitution.{bound, one-lift}
 use Rattle.model.proofs.Abstract.Shuffle.{Mix, mix-filter, mix-unit, mix-middle, mix-swap, Gap}
 use Rattle.model.proofs.Abstract.Machine.{Node, Program, Binding, Frame, Place, at, above, Token, running, Store, withSet, isOutOf, outOf, Effect, Move, acts, actsAt, act, effect}
 use Rattle.model.proofs.Abstract.Store.{_∈_, _∉_}
-use Rattle.model.proofs.Rep.Cells.{Parts, parts-alone, Grows, grows-within, grows-from, grown-parts, whole-grows, not-in-append, Tidy}
+use Rattle.model.proofs.Rep.Cells.{Parts, parts-alone, Grows, grows-within, grows-from, grown, whole-grows, not-in-append, Tidy}
 use Rattle.model.proofs.Rep.Binding.{change-one, env-value}
-use Rattle.model.proofs.Rep.Relation.{Then, then, Chokes, chokes, Leads, removes, Rep, rep-changed, rep-ends, rep-stays}
-use Rattle.model.proofs.Rep.Hole.{Gate, free, catching, Lets, through, passing, lets-passing, Lifts, acting, caught, Hole, fill, hole-tidy, hole-set, hole-stays, hole-place, hole-acts}
+use Rattle.model.proofs.Rep.Relation.{Then, then, Chokes, chokes, removes, Rep, rep-changed, rep-ends, rep-stays}
+use Rattle.model.proofs.Rep.Hole.{Gate, free, catching, Lets, through, passing, Lifts, acting, caught, Hole, fill, hole-set, hole-stays, hole-place, hole-acts}
 
 -- publishing passes no gate that catches
-pub publish-stays : {v : ℤ} {A : Type 0} → Passes (showing (Event.publish v)) → A
+publish-stays : {v : ℤ} {A : Type 0} → Passes (showing (Event.publish v)) → A
 publish-stays p = elim p [ ]
 
 module _ (G : Program) where
@@ -80,38 +80,39 @@ module _ (G : Program) (σ : Store) (new h : ℕ) where
       (along (λ x. Rep G (withSet σ c w) Γ (subst (one w) f) K x D) left (rep-changed G (change-one σ c w (t .own c own .unset)) rf))
       (grows-within (λ b m. p .in-right b (List·Memᴰ·tail m)))
 
-  module _ {Γ Δ C D E : List ℕ} {K L : Place} {gate : Gate} {plug : Exp → Exp} {Z X Y X₁ Y₁ : List Token}
-      (H : Hole G σ Γ K gate Δ L Z D plug) (p : Parts C D E) (t : Tidy σ new Γ (above K) E) (gap : Gap X₁ Y₁ Z X Y) where
-    grown : {C₁ : List ℕ} → Grows new (suc new) C C₁ → Parts C₁ D (C₁ ++ D)
-    grown g = grown-parts p g (λ c m. t .own c (p .in-right c m) .old)
+  -- where an own cell of the filling is set, the other side of the hole stays
+  other-stays : {Γ Δ C D E : List ℕ} {K L : Place} {gate : Gate} {plug : Exp → Exp} {Z X Y X₁ Y₁ : List Token}
+      → Hole G σ Γ K gate Δ L Z D plug → Parts C D E → Tidy σ new Γ (above K) E → Gap X₁ Y₁ Z X Y
+      → (c : ℕ) → c ∈ C → Mix (outOf c (X₁ ++ Y₁)) Z (outOf c (X ++ Y))
+  other-stays {X = X} {Y} {X₁} {Y₁} H p t gap c m =
+      along (λ z. Mix (outOf c (X₁ ++ Y₁)) z (outOf c (X ++ Y)))
+      (hole-stays G c (p .apart c m) (t .not-over c (p .in-left c m)) H)
+      (mix-filter (isOutOf c) (gap .filled []))
 
-    -- the other side of the hole while an own cell of the filling is set
-    other-stays : (c : ℕ) → c ∈ C → Mix (outOf c (X₁ ++ Y₁)) Z (outOf c (X ++ Y))
-    other-stays c m =
-        along (λ z. Mix (outOf c (X₁ ++ Y₁)) z (outOf c (X ++ Y)))
-        (hole-stays G c (p .apart c m) (t .not-over c (p .in-left c m)) H)
-        (mix-filter (isOutOf c) (gap .filled []))
-
-  publishing : {Γ Δ C C₁ D E : List ℕ} {K L T : Place} {gate : Gate} {plug : Exp → Exp} {Z X Y X₁ Y₁ : List Token} {w : ℤ} {b : Label} {f f′ e : Exp}
-      → Hole G σ Γ K gate Δ L Z D plug → Parts C D E → Tidy σ new Γ (above K) E → Gap X₁ Y₁ Z X Y → Lifts gate plug (showing (Event.publish w)) f′ b e
-      → T ≡ L → Rewrites (G .body) h f (showing (Event.publish w)) f′ → Rep G σ Δ f′ L (X₁ ++ Y₁) C₁ → Grows new (suc new) C C₁
+  -- a filling that publishes: the whole publishes too, or it catches the value
+  publishing : {Γ Δ C C₁ D E : List ℕ} {K L T : Place} {gate : Gate} {plug : Exp → Exp} {Z X Y X₁ Y₁ : List Token} {w : ℤ}
+      {b : Label} {f f′ e : Exp}
+      → Hole G σ Γ K gate Δ L Z D plug → Parts C D E → Tidy σ new Γ (above K) E → Gap X₁ Y₁ Z X Y
+      → Lifts gate plug (showing (Event.publish w)) f′ b e → T ≡ L
+      → Rewrites (G .body) h f (showing (Event.publish w)) f′ → Rep G σ Δ f′ L (X₁ ++ Y₁) C₁ → Grows new (suc new) C C₁
       → Outcome Γ (plug f) K X Y E (running T w) acts b e
   publishing H p t gap (acting through) q s r g =
-      publishes (q ∙ hole-place G H) (hole-acts G H (acting through) s) (fill G H (grown H p t gap g) (gap .filled []) r) (whole-grows p g)
+      publishes (q ∙ hole-place G H) (hole-acts G H (acting through) s) (fill G H (grown p t g) (gap .filled []) r) (whole-grows p g)
   publishing H p t gap (acting (passing n)) q s r g = publish-stays n
   publishing {w = w} (Hole.seq h) p t gap caught q s r g = sequel w q (grows-from (p .in-left) g) gap h r (Rewrites.seq-publishes s)
   publishing {w = w} (Hole.prune-right n ch rf) p t gap caught q s r g = pruned w q p t gap n ch rf r (Rewrites.prune-publishes s)
 
   -- what a token does in a hole, it does in the whole
-  pub inside : {Γ Δ C D E : List ℕ} {K L : Place} {gate : Gate} {plug : Exp → Exp} {Z X Y X₁ Y₁ : List Token} {u : Token} {m : Move u} {a b : Label} {f f′ e : Exp}
+  pub inside : {Γ Δ C D E : List ℕ} {K L : Place} {gate : Gate} {plug : Exp → Exp} {Z X Y X₁ Y₁ : List Token}
+      {u : Token} {m : Move u} {a b : Label} {f f′ e : Exp}
       → Hole G σ Γ K gate Δ L Z D plug → Parts C D E → Tidy σ new Γ (above K) E → Gap X₁ Y₁ Z X Y → Lifts gate plug a f′ b e
       → Outcome Δ f L X₁ Y₁ C u m a f′ → Outcome Γ (plug f) K X Y E u m b e
   inside H p t gap l (publishes q s r g) = publishing H p t gap l q s r g
   inside H p t gap (acting l) (makes {N = N} q n s r g) =
-      makes q n (atMost-acts H l s) (fill G H (grown H p t gap g) (gap .filled N) r) (whole-grows p g)
+      makes q n (atMost-acts H l s) (fill G H (grown p t g) (gap .filled N) r) (whole-grows p g)
   inside H p t gap (acting l) (sets {c = c} {v = v} q m n s r g) =
       sets q (p .in-left c m) (not-in-append n (p .apart c m)) (atMost-acts H l s)
-      (fill G (hole-set G c v (t .own c (p .in-left c m) .unset) H) (grown H p t gap g) (other-stays H p t gap c m) r)
+      (fill G (hole-set G c v (t .own c (p .in-left c m) .unset) H) (grown p t g) (other-stays H p t gap c m) r)
       (whole-grows p g)
   inside H p t gap caught (makes q n s r g) = publish-stays n
 
@@ -119,7 +120,8 @@ module _ (G : Program) (σ : Store) (new h : ℕ) where
   pub data Moves (Γ : List ℕ) (e : Exp) (K : Place) (X Y : List Token) (C : List ℕ) (t : Token) (m : Move t) : Type 0 where
     moves : {a : Label} {e′ : Exp} → Outcome Γ e K X Y C t m a e′ → Moves Γ e K X Y C t m
 
-  pub moves-inside : {Γ Δ C D E : List ℕ} {K L : Place} {plug : Exp → Exp} {Z X Y X₁ Y₁ : List Token} {u : Token} {m : Move u} {f : Exp} (gate : Gate)
+  pub moves-inside : {Γ Δ C D E : List ℕ} {K L : Place} {plug : Exp → Exp} {Z X Y X₁ Y₁ : List Token}
+      {u : Token} {m : Move u} {f : Exp} (gate : Gate)
       → Hole G σ Γ K gate Δ L Z D plug → Parts C D E → Tidy σ new Γ (above K) E → Gap X₁ Y₁ Z X Y
       → Moves Δ f L X₁ Y₁ C u m → Moves Γ (plug f) K X Y E u m
   moves-inside free H p t gap (moves o) = moves (inside H p t gap (acting through) o)

@@ -1,16 +1,16 @@
 -- Completeness of a rewriting: where an expression is rewritten, the tokens that stand for it come by steps that show nothing to a token
 -- whose move is that rewriting. By recursion on the relation and on the code, through holes. Assumes nothing.
-use mathlib.Core.Path.{_≡_, refl, sym, _∙_, ap}
+use mathlib.Core.Path.{_≡_, refl}
 use mathlib.Core.List.{List, [], _∷_, _++_, List·Memᴰ·head, List·Memᴰ·not-nil}
 use Prim.Native.Nat.{ℕ, suc, _≤_}
 use native.Mathlib.Omega.{arith}
 use lib.IntN.{ℤ}
 use Rattle.model.specs.Calculus.Event.{Event, Label, silently, showing}
 use Rattle.model.specs.Calculus.Expression.{Exp, Substitution, lift, subst}
-use Rattle.model.specs.Calculus.Rewriting.{silence, answering, Rewrites}
-use Rattle.model.proofs.Abstract.Shuffle.{Split, first, Mix, mix-swap, mix-nothing, pair, Kept, kept, keeps, Gap}
+use Rattle.model.specs.Calculus.Rewriting.{answering, Rewrites}
+use Rattle.model.proofs.Abstract.Shuffle.{Split, first, Mix, mix-swap, mix-nothing, pair, Kept, kept, keeps}
 use Rattle.model.proofs.Abstract.Machine.{Program, Binding, Frame, Place, at, above, Token, running, Store, Effect, Move, acts, answered, effect}
-use Rattle.model.proofs.Rep.Cells.{Parts, parts-swap, parts-move, parts-alone, parts-own, parts-none, Grows, grows-all, grows-new, grows-then, grown-parts, whole-grows, Tidy, tidy-grown}
+use Rattle.model.proofs.Rep.Cells.{Parts, parts-swap, parts-move, parts-alone, parts-own, parts-none, Grows, grows-all, grows-new, grows-then, grown, whole-grows, Tidy, tidy-grown}
 use Rattle.model.proofs.Rep.Binding.{Env, env-cell}
 use Rattle.model.proofs.Rep.Relation.{Code, Leads, here, removes, returns, then, chokes, Rep, leads-under-new}
 use Rattle.model.proofs.Rep.Hole.{Gate, Lifts, acting, caught, through, passing, Hole, hole-tidy}
@@ -62,7 +62,7 @@ module _ (G : Program) (σ : Store) (h : ℕ) where
       go₁ r′ (kept s gap) =
           ready r′ le (whole-grows p g) s
           (inside G σ new₁ h H
-          (grown-parts p g (λ c k. t .own c (p .in-right c k) .old)) (tidy-grown t le (whole-grows p g)) gap l o)
+          (grown p t g) (tidy-grown t le (whole-grows p g)) gap l o)
 
       go : Beside S₁ Z Q new new₁ → Ready Γ (plug f) K Q E new b e
       go (beside r′ mx′) = go₁ r′ (keeps z mx′)

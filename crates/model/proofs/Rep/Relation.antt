@@ -1,6 +1,6 @@
--- The relation between expressions and tokens: `Rep σ Γ e K S C` says that the tokens S stand for e, whose values go to the place K.
--- It is kept when a value is put in for a cell, and when K leads on by remove and return alone. By recursion on the relation. Assumes nothing.
-use mathlib.Core.Path.{_≡_, refl, sym, _∙_, ap}
+-- The relation between expressions and tokens: `Rep σ Γ e K S C` says that the tokens S stand for e, whose values go to the place K. It is
+-- kept where values are put in for cells, and it tells which tokens are under which cells. By recursion on the relation. Assumes nothing.
+use mathlib.Core.Path.{_≡_, refl, sym}
 use mathlib.Core.Path.{subst as along}
 use mathlib.Core.Logic.{_⊎_}
 use mathlib.Core.Bool.{true}
@@ -15,14 +15,15 @@ use Rattle.model.proofs.Calculus.Substitution.{_after_, subst-after, li
 use Rattle.model.proofs.Abstract.Shuffle.{Mix, mix-all}
 use Rattle.model.proofs.Abstract.Machine.{Node, Program, Binding, Frame, frame, Place, at, above, Token, running, calledOut, cellsOf, Store, withSet, outOf}
 use Rattle.model.proofs.Abstract.Store.{_∈_, _∉_, all-stay, all-end}
-use Rattle.model.proofs.Rep.Cells.{Within, Parts, not-in-cons}
+use Rattle.model.proofs.Rep.Cells.{Within, Parts, parts-within, not-in-cons}
 use Rattle.model.proofs.Rep.Binding.{Env, Change, change-lift, change-set, env-changed}
 
 module _ (G : Program) where
   -- node n is the root of e, laid out toward k
   pub data Code : Exp → (n k : ℕ) → Type 0 where
     stop : {n k : ℕ} → G .node n ≡ Node.stop → Code Exp.stop n k
-    site : {n k s : ℕ} {ps : List Param} → (isBuiltin s ≡ true) ⊎ (isOutside s ≡ true) → G .node n ≡ Node.site s ps k → Code (Exp.site s ps) n k
+    site : {n k s : ℕ} {ps : List Param}
+        → (isBuiltin s ≡ true) ⊎ (isOutside s ≡ true) → G .node n ≡ Node.site s ps k → Code (Exp.site s ps) n k
     call : {n k d : ℕ} {ps : List Param} → d < G .count → G .node n ≡ Node.call d ps k → Code (Exp.call d ps) n k
     par : {n k l r : ℕ} {f g : Exp} → G .node n ≡ Node.fork l r → Code f l k → Code g r k → Code (Exp.par f g) n k
     seq : {n k a b r : ℕ} {f g : Exp}
@@ -49,7 +50,7 @@ module _ (G : Program) where
   pub data Chokes (c : ℕ) (U : List ℕ) : Place → Type 0 where
     chokes : {n : ℕ} {B : List Binding} {F : List Frame} → G .node n ≡ Node.choke → Chokes c U (at n B F (c ∷ U))
 
-  -- Γ: the cells of the prunes on whose left side e stands, its variables; C has the cells of the prunes in e
+  -- Γ: the cells of the prunes on whose left side e stands, its variables; C has the cells of the prunes in e, and may have more
   pub data Rep (σ : Store) : List ℕ → Exp → Place → List Token → List ℕ → Type 0 where
     stop : {Γ C : List ℕ} {K : Place} → Rep σ Γ Exp.stop K [] C
     hand : {Γ C : List ℕ} {K L : Place} {v : ℤ} → Leads L K → Rep σ Γ (Exp.hand v) K (running L v ∷ []) C
@@ -93,16 +94,18 @@ module _ (G : Program) where
   rep-more w (hand l) = hand l
   rep-more w (pending l) = pending l
   rep-more w (code ρ c env l) = code ρ c env l
-  rep-more w (par p mx f g) =
-      par (record { apart = p .apart; in-left = λ c m. w c (p .in-left c m); in-right = λ c m. w c (p .in-right c m) }) mx f g
+  rep-more w (par p mx f g) = par (parts-within w p) mx f g
   rep-more w (seq ρ t f) = seq ρ t (rep-more w f)
-  rep-more w (prune n p mx ch f g) =
-      prune n (record { apart = p .apart; in-left = λ c m. w c (p .in-left c m); in-right = λ c m. w c (p .in-right c m) }) mx ch f g
+  rep-more w (prune n p mx ch f g) = prune n (parts-within w p) mx ch f g
 
   pub leads-above : {K L : Place} → Leads K L → above K ≡ above L
   leads-above here = refl
   leads-above (removes e l) = leads-above l
   leads-above (returns e l) = leads-above l
+
+  -- what holds of the cells above the second place holds of those above the first
+  leads-cells : {K L : Place} (P : List ℕ → Type 0) → Leads L K → P (above K) → P (above L)
+  leads-cells P l u = along P (sym (leads-above l)) u
 
   -- on the right side of a prune, under its cell
   pub leads-under-new : {c k : ℕ} {B : List Binding} {F : List Frame} {U : List ℕ} {K : Place} (new : ℕ)
@@ -116,48 +119,31 @@ module _ (G : Program) where
   pub chokes-above : {c : ℕ} {U : List ℕ} {L : Place} → Chokes c U L → above L ≡ c ∷ U
   chokes-above (chokes e) = refl
 
-  leads-out : {K L : Place} {c : ℕ} → Leads K L → c ∉ above L → c ∉ above K
-  leads-out l n = rw (leads-above l) n
-
-  leads-under : {K L : Place} {c : ℕ} → Leads K L → c ∈ above L → c ∈ above K
-  leads-under l m = rw (leads-above l) m
-
-  then-out : {σ : Store} {Γ : List ℕ} {ρ : Substitution} {g : Exp} {K L : Place} {c : ℕ} → Then σ Γ ρ g K L → c ∉ above K → c ∉ above L
-  then-out t n = rw (then-above t) n
-
-  then-under : {σ : Store} {Γ : List ℕ} {ρ : Substitution} {g : Exp} {K L : Place} {c : ℕ} → Then σ Γ ρ g K L → c ∈ above K → c ∈ above L
-  then-under t m = rw (then-above t) m
-
-  pub chokes-out : {b c : ℕ} {U : List ℕ} {L : Place} → Chokes b U L → c ∉ (b ∷ U) → c ∉ above L
-  chokes-out ch n = rw (chokes-above ch) n
-
-  chokes-under : {b c : ℕ} {U : List ℕ} {L : Place} → Chokes b U L → c ∈ (b ∷ U) → c ∈ above L
-  chokes-under ch m = rw (chokes-above ch) m
-
   -- no token is under a cell that K is not under and that is not set aside
   rep-out : {σ : Store} {Γ C : List ℕ} {e : Exp} {K : Place} {S : List Token} (c : ℕ)
       → c ∉ C → c ∉ above K → Rep σ Γ e K S C → All (λ t. c ∉ cellsOf t) S
   rep-out c n u stop = All.none
-  rep-out c n u (hand l) = more (leads-out l u) All.none
-  rep-out c n u (pending l) = more (leads-out l u) All.none
-  rep-out c n u (code ρ d env l) = more (leads-out l u) All.none
+  rep-out c n u (hand l) = more (leads-cells (λ U. c ∉ U) l u) All.none
+  rep-out c n u (pending l) = more (leads-cells (λ U. c ∉ U) l u) All.none
+  rep-out c n u (code ρ d env l) = more (leads-cells (λ U. c ∉ U) l u) All.none
   rep-out c n u (par p mx f g) = mix-all mx (rep-out c (λ m. n (p .in-left c m)) u f) (rep-out c (λ m. n (p .in-right c m)) u g)
-  rep-out c n u (seq ρ t f) = rep-out c n (then-out t u) f
+  rep-out c n u (seq ρ t f) = rep-out c n (rw (then-above t) u) f
   rep-out c n u (prune k p mx ch f g) =
       mix-all mx
       (rep-out c (λ m. n (p .in-left c m)) u f)
-      (rep-out c (λ m. n (p .in-right c (List·Memᴰ·tail m))) (chokes-out ch (not-in-cons (λ q. n (p .in-right c (List·Memᴰ·head q))) u)) g)
+      (rep-out c (λ m. n (p .in-right c (List·Memᴰ·tail m)))
+      (rw (chokes-above ch) (not-in-cons (λ q. n (p .in-right c (List·Memᴰ·head q))) u)) g)
 
   -- all tokens are under each cell that K is under
   rep-under : {σ : Store} {Γ C : List ℕ} {e : Exp} {K : Place} {S : List Token} (c : ℕ)
       → c ∈ above K → Rep σ Γ e K S C → All (λ t. c ∈ cellsOf t) S
   rep-under c u stop = All.none
-  rep-under c u (hand l) = more (leads-under l u) All.none
-  rep-under c u (pending l) = more (leads-under l u) All.none
-  rep-under c u (code ρ d env l) = more (leads-under l u) All.none
+  rep-under c u (hand l) = more (leads-cells (λ U. c ∈ U) l u) All.none
+  rep-under c u (pending l) = more (leads-cells (λ U. c ∈ U) l u) All.none
+  rep-under c u (code ρ d env l) = more (leads-cells (λ U. c ∈ U) l u) All.none
   rep-under c u (par p mx f g) = mix-all mx (rep-under c u f) (rep-under c u g)
-  rep-under c u (seq ρ t f) = rep-under c (then-under t u) f
-  rep-under c u (prune k p mx ch f g) = mix-all mx (rep-under c u f) (rep-under c (chokes-under ch (List·Memᴰ·tail u)) g)
+  rep-under c u (seq ρ t f) = rep-under c (rw (then-above t) u) f
+  rep-under c u (prune k p mx ch f g) = mix-all mx (rep-under c u f) (rep-under c (rw (chokes-above ch) (List·Memᴰ·tail u)) g)
 
   pub rep-stays : {σ : Store} {Γ C : List ℕ} {e : Exp} {K : Place} {S : List Token} (c : ℕ)
       → c ∉ C → c ∉ above K → Rep σ Γ e K S C → outOf c S ≡ S

@@ -2,16 +2,16 @@
 -- on the run. Assumes nothing.
 use mathlib.Core.Path.{_≡_, refl, sym, _∙_, ap}
 use mathlib.Core.Path.{subst as along}
-use mathlib.Core.List.{List, [], _∷_, _++_, List·Memᴰ·not-nil}
-use Prim.Native.Nat.{ℕ, suc}
+use mathlib.Core.List.{List, [], List·Memᴰ·not-nil}
+use Prim.Native.Nat.{ℕ}
 use native.Mathlib.Omega.{arith}
-use lib.IntN.{ℤ, pos}
-use Rattle.model.specs.Calculus.Event.{Event, Label, silently, showing}
+use lib.IntN.{pos}
+use Rattle.model.specs.Calculus.Event.{Event, Label}
 use Rattle.model.specs.Calculus.Expression.{Exp, Substitution, subst}
 use Rattle.model.specs.Calculus.Expression as Calculus
-use Rattle.model.specs.Calculus.Allowed.{Configuration, nextHandle, shown, Shows}
-use Rattle.model.proofs.Abstract.Machine.{Node, Program, Place, at, Token, Store, Effect, Move, effect, State, state, handleOf, after, labelOf, Step, step, Run, rests, startAt}
-use Rattle.model.proofs.Rep.Cells.{apart-none, grows-all, Tidy, tidy-grown, tidy-set}
+use Rattle.model.specs.Calculus.Allowed.{nextHandle, shown, Shows}
+use Rattle.model.proofs.Abstract.Machine.{Node, Program, at, Token, Store, Effect, Move, effect, State, state, handleOf, after, labelOf, Step, step, Run, rests, startAt}
+use Rattle.model.proofs.Rep.Cells.{apart-none, Tidy, tidy-grown, tidy-set}
 use Rattle.model.proofs.Rep.Binding as Binding
 use Rattle.model.proofs.Rep.Relation.{Code, here, Rep}
 use Rattle.model.proofs.Rep.Outcome.{AtMost, same, once, Outcome, publishes, makes, sets, act-at, Moves, moves}
@@ -70,7 +70,8 @@ module _ (G : Program) (sink : ℕ) where
       pub handle : handleOf s′ ≡ nextHandle a h
 
     pub step-sound : {e : Exp} {s s′ : State} {a : Label} → Stands e s → Step G s a s′ → Rewritten e (handleOf s) a s′
-    step-sound {e} (stands {σ = σ} {new = new} {h = h} {C = C} t r) (step {t = u} {L = X} {R = Y} m z) = go (token-moves G σ new h bodies t r m z)
+    step-sound {e} (stands {σ = σ} {new = new} {h = h} {C = C} t r) (step {t = u} {L = X} {R = Y} m z) =
+        go (token-moves G σ new h bodies t r m z)
       where
         go : Moves G σ new h [] e (at sink [] [] []) X Y C u m
             → Rewritten e h (labelOf (effect G σ new h u m)) (after X Y σ new h (effect G σ new h u m))
