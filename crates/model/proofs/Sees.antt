@@ -1,2 +1,3 @@
 -- The concrete machine and the abstract machine.
 pub mod Labels
+pub mod View
