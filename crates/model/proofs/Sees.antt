@@ -1,3 +1,4 @@
 -- The concrete machine and the abstract machine.
 pub mod Labels
 pub mod View
+pub mod Sees
