@@ -2,3 +2,4 @@
 pub mod Labels
 pub mod View
 pub mod Sees
+pub mod Slots
