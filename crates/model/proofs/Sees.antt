@@ -3,3 +3,4 @@ pub mod Labels
 pub mod View
 pub mod Sees
 pub mod Slots
+pub mod Others
