@@ -4,3 +4,4 @@ pub mod View
 pub mod Sees
 pub mod Slots
 pub mod Others
+pub mod Moving
