@@ -5,3 +5,5 @@ pub mod Sees
 pub mod Slots
 pub mod Others
 pub mod Moving
+pub mod Agrees
+pub mod Going
