@@ -7,3 +7,4 @@ pub mod Others
 pub mod Moving
 pub mod Agrees
 pub mod Going
+pub mod Making
