@@ -8,3 +8,4 @@ pub mod Moving
 pub mod Agrees
 pub mod Going
 pub mod Making
+pub mod Within
