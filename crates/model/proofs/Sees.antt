@@ -9,3 +9,4 @@ pub mod Agrees
 pub mod Going
 pub mod Making
 pub mod Within
+pub mod Choke
