@@ -10,3 +10,4 @@ pub mod Going
 pub mod Making
 pub mod Within
 pub mod Choke
+pub mod Acts
