@@ -5,3 +5,14 @@ pub mod Labelling
 pub mod Flowing
 pub mod Coded
 pub mod Closed
+pub mod View
+pub mod Sees
+pub mod Slots
+pub mod Others
+pub mod Moving
+pub mod Agrees
+pub mod Going
+pub mod Making
+pub mod Within
+pub mod Choke
+pub mod Acts
