@@ -10,3 +10,4 @@ pub mod Run
 pub mod Abstract
 pub mod Rep
 pub mod Sees
+pub mod Keeps

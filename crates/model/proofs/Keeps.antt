@@ -1,0 +1,4 @@
+-- The index rules hold of every record of a run.
+pub mod Lines
+pub mod Orders
+pub mod Values

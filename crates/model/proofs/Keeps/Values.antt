@@ -1,0 +1,108 @@
+-- Values stay signed 32-bit: what a call's parameters give is, if constants, bindings and cells' values are, and so is what a built-in replies,
+-- since it replies a parameter, 0, 1 or a sum that it has tested. Assumes nothing.
+use mathlib.Core.Path.{_≡_, refl, sym, _∙_, ap, subst}
+use mathlib.Core.Bool.{Bool, true, false}
+use mathlib.Core.List.{List, [], _∷_}
+use Prim.Native.Nat.{ℕ, zero, suc}
+use native.Mathlib.Omega.{arith}
+use lib.ListN.{getD}
+use lib.IntN.{ℤ, pos, _+ℤ_}
+use Rattle.model.specs.Test.{_and_, all, All, none, more}
+use Rattle.model.specs.Number.{fits, Signed32}
+use Rattle.model.specs.Site.{Said, gives, silent, at, zeroIf, truth, sum, builtin}
+use Rattle.model.specs.Job.Syntax.{Param, variable, constant}
+use Rattle.model.specs.Job.Node.{paramKept}
+use Rattle.model.specs.Machine.Blank.{cellAt, slotAt}
+use Rattle.model.specs.Machine.Rules.{heldInRange}
+use Rattle.model.specs.Machine.Step.{Looked, values, unset, andThen, look, valueOf}
+use Rattle.model.specs.declared.token.Slot.{Slot}
+use Rattle.model.specs.declared.token.Slot.the-variants as slots
+use Rattle.model.specs.declared.token.Bind.{Bind}
+use Rattle.model.specs.declared.token.Held.{Held}
+use Rattle.model.specs.declared.token.Held.the-variants as helds
+use Rattle.model.specs.declared.cell.Cell.{Cell}
+use Rattle.model.proofs.Test.{clash, all-head, all-tail}
+
+pub zero-fits : Signed32 (pos 0)
+unfolding fits
+zero-fits = refl
+
+pub held-fits : (w : Held) → heldInRange w ≡ true → Signed32 (valueOf w)
+unfolding heldInRange valueOf
+held-fits helds.Nothing e = zero-fits
+held-fits (helds.Value v) e = e
+
+-- what is looked up
+pub data Fitting : Looked → Type 0 where
+  fitting : {vs : List ℤ} → All Signed32 vs → Fitting (values vs)
+  waiting : {c : ℕ} → Fitting (unset c)
+
+then-fits : (v : ℤ) {l : Looked} → Signed32 v → Fitting l → Fitting (andThen v l)
+unfolding andThen
+then-fits v e (fitting a) = fitting (more e a)
+then-fits v e waiting = waiting
+
+module _ (cs : List Cell) (bs : List Bind)
+    (bound : (x : ℕ) (v : ℤ) → slotAt bs x ≡ slots.Value v → Signed32 v)
+    (cells : (c : ℕ) → heldInRange (cellAt cs c .value) ≡ true) where
+  cell-fits : (c : ℕ) (w : Held) → cellAt cs c .value ≡ w → (l : Looked) → Fitting l
+      → Fitting (elim w [ helds.Nothing ↦ unset c | helds.Value v ↦ andThen v l ])
+  unfolding heldInRange
+  cell-fits c helds.Nothing e l f = waiting
+  cell-fits c (helds.Value v) e l f = then-fits v (ap heldInRange (sym e) ∙ cells c) f
+
+  slot-fits : (x : ℕ) (s : Slot) → slotAt bs x ≡ s → (l : Looked) → Fitting l
+      → Fitting
+      (elim s [
+        | slots.Empty ↦ values []
+        | slots.Value v ↦ andThen v l
+        | slots.Cell c ↦ elim (cellAt cs c .value) [ helds.Nothing ↦ unset c | helds.Value v ↦ andThen v l ]
+      ])
+  slot-fits x slots.Empty e l f = fitting none
+  slot-fits x (slots.Value v) e l f = then-fits v (bound x v e) f
+  slot-fits x (slots.Cell c) e l f = cell-fits c (cellAt cs c .value) refl l f
+
+  pub look-fits : (ps : List Param) → all paramKept ps ≡ true → Fitting (look cs bs ps)
+  unfolding look paramKept
+  look-fits [] e = fitting none
+  look-fits (constant v ∷ ps) e = then-fits v (all-head paramKept _ ps e) (look-fits ps (all-tail paramKept _ ps e))
+  look-fits (variable x ∷ ps) e = slot-fits x (slotAt bs x) refl (look cs bs ps) (look-fits ps (all-tail paramKept _ ps e))
+
+-- what a built-in replies
+pub data SaidFits : Said → Type 0 where
+  said : {v : ℤ} → Signed32 v → SaidFits (gives v)
+  nothing : SaidFits silent
+
+zero-if-fits : (b : Bool) → SaidFits (zeroIf b)
+unfolding zeroIf
+zero-if-fits true = said zero-fits
+zero-if-fits false = nothing
+
+truth-fits : (b : Bool) → SaidFits (gives (truth b))
+unfolding truth fits
+truth-fits true = said refl
+truth-fits false = said refl
+
+sum-fits : (a b : ℤ) → SaidFits (sum a b)
+unfolding sum
+sum-fits a b = go (fits (a +ℤ b)) refl
+  where
+    go : (t : Bool) → fits (a +ℤ b) ≡ t → SaidFits (elim t [ true ↦ gives (a +ℤ b) | false ↦ silent ])
+    go true e = said e
+    go false e = nothing
+
+at-fits : {vs : List ℤ} → All Signed32 vs → (i : ℕ) → Signed32 (at vs i)
+at-fits none i = zero-fits
+at-fits (more e a) zero = e
+at-fits (more e a) (suc i) = at-fits a i
+
+pub builtin-fits : (s : ℕ) {vs : List ℤ} → All Signed32 vs → SaidFits (builtin s vs)
+unfolding builtin
+builtin-fits zero a = said (at-fits a 0)
+builtin-fits (suc zero) a = zero-if-fits _
+builtin-fits (suc (suc zero)) a = zero-if-fits _
+builtin-fits (suc (suc (suc zero))) a = said zero-fits
+builtin-fits (suc (suc (suc (suc zero)))) a = sum-fits _ _
+builtin-fits (suc (suc (suc (suc (suc zero))))) a = truth-fits _
+builtin-fits (suc (suc (suc (suc (suc (suc zero)))))) a = truth-fits _
+builtin-fits (suc (suc (suc (suc (suc (suc (suc s))))))) a = nothing
