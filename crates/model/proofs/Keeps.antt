@@ -2,3 +2,4 @@
 pub mod Lines
 pub mod Orders
 pub mod Values
+pub mod Tables
