@@ -3,3 +3,5 @@ pub mod Lines
 pub mod Orders
 pub mod Values
 pub mod Tables
+pub mod Facts
+pub mod Acts

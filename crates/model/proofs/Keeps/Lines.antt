@@ -197,9 +197,38 @@ back-same p l b e f =
 back-other : (r p : ℕ) (l : List ℕ) (n : ℕ) → (r ≡ p → ⊥) → count r l ≡ n → count r (l ++ (p ∷ [])) ≡ n
 back-other r p l n f e = let x = count-back r l p in let z : once (eqb r p) ≡ 0 = ap once (ne-eqb r p f) in omega arith
 
--- the token that was taken is written
-module _ {ts : List Token} {p : ℕ} {queue waits : List ℕ} (l : Taken ts p queue waits) (i : p < length ts)
-    (ready : tokenAt ts p .state ≡ states.Ready) where
+-- the token that was taken is ready, so it is in the table
+ready-state : (s : State) → isReady s ≡ true → s ≡ states.Ready
+unfolding isReady
+ready-state states.Blank e = clash e refl
+ready-state states.Ready e = refl
+ready-state (states.Waiting c) e = clash e refl
+ready-state (states.Called h) e = clash e refl
+ready-state states.Frame e = clash e refl
+
+module _ {ts : List Token} {p : ℕ} {queue waits : List ℕ} (l : Taken ts p queue waits) where
+  pub taken-ready : tokenAt ts p .state ≡ states.Ready
+  taken-ready =
+      ready-state _
+      (once-true _ (let a = l .ready p in let c : once (eqb p p) ≡ 1 = ap once (eqb-same p) in omega arith))
+
+  pub taken-inside : p < length ts
+  unfolding isReady
+  taken-inside = go (decLt p (length ts))
+    where
+      go : Dec (p < length ts) → p < length ts
+      go (yes i) = i
+      go (no n) =
+          clash (ap isReady taken-ready) (ap (λ (t : Token). isReady (t .state)) (token-outside ts p (omega arith)))
+
+-- it is written
+module _ {ts : List Token} {p : ℕ} {queue waits : List ℕ} (l : Taken ts p queue waits) where
+  abbrev i : p < length ts
+  i = taken-inside l
+
+  abbrev ready : tokenAt ts p .state ≡ states.Ready
+  ready = taken-ready l
+
   not-queued : count p queue ≡ 0
   unfolding isReady
   not-queued =

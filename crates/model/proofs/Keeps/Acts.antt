@@ -1,0 +1,469 @@
+-- Each instruction keeps the facts: what it writes is a token whose fields come from the one that acts, from its node or from a frame, and the
+-- orders gain the places that become ready or wait. Stated of the machine before blanking. Assumes nothing.
+use mathlib.Core.Path.{_≡_, refl, sym, _∙_, ap, subst}
+use mathlib.Core.Bool.{Bool, true, false}
+use mathlib.Core.List.{List, [], _∷_, _++_, map, List·Memᴰ, List·Memᴰ·head, List·Memᴰ·tail}
+use Prim.Native.Nat.{ℕ, zero, suc, _<_, _≤_}
+use native.Mathlib.Omega.{arith}
+use lib.ListN.{length, getD, set, length-set, length-map}
+use lib.Dec.{ltb, leb, eqb}
+use lib.IntN.{ℤ}
+use Rattle.model.specs.Test.{_and_, all, All, filter}
+use Rattle.model.specs.Number.{Signed32}
+use Rattle.model.specs.Site.{Said, gives, silent, siteTakes, isBuiltin, builtin}
+use Rattle.model.specs.Job.Syntax.{Param, variable, constant}
+use Rattle.model.specs.Job.Node.{Node, Body, Dag, nodeAt, bodyAt, paramKept, paramsKept, isNode, nodeKept, bodyKept, dagKept}
+use Rattle.model.specs.Machine.Limits.{Limits}
+use Rattle.model.specs.Machine.Blank.{blankToken, tokenAt, cellAt, slotAt}
+use Rattle.model.specs.Machine.Active.{upward, within, isLive}
+use Rattle.model.specs.Machine.Rules.{isReady, isWaiting, heldInRange}
+use Rattle.model.specs.Machine.Reply.{Effect, unless}
+use Rattle.model.specs.Machine.Step as Step
+use Rattle.model.specs.Machine.Step.{Looked, values, unset, andThen, look, hasTokenPlace, hasCellPlace, tokenPlace, cellPlace, withOrders, queueOf, waitsOf, chokeToken, act}
+use Rattle.model.specs.declared.token.Slot.{Slot}
+use Rattle.model.specs.declared.token.Slot.the-variants as slots
+use Rattle.model.specs.declared.token.Bind.{Bind}
+use Rattle.model.specs.declared.token.Held.{Held}
+use Rattle.model.specs.declared.token.Held.the-variants as helds
+use Rattle.model.specs.declared.token.Place.{Place}
+use Rattle.model.specs.declared.token.Place.the-variants as places
+use Rattle.model.specs.declared.token.State.{State}
+use Rattle.model.specs.declared.token.State.the-variants as states
+use Rattle.model.specs.declared.token.Token.{Token}
+use Rattle.model.specs.declared.cell.Cell.{Cell}
+use Rattle.model.specs.declared.record.Machine.{Machine}
+use Rattle.model.specs.declared.reply.Refusal.the-variants as refusals
+use Rattle.model.proofs.Test.{clash, eqb-same, ltb-lt, and-left, and-right, all-at}
+use Rattle.model.proofs.Job.Rules.{body-rules}
+use Rattle.model.proofs.Machine.Refused.{After, after-unless}
+use Rattle.model.proofs.Sees.Others.{token-other}
+use Rattle.model.proofs.Keeps.Lines.{Lines, Taken, taken-ready, taken-inside, lines-gone, lines-back, lines-wait, lines-new, lines-choke}
+use Rattle.model.proofs.Keeps.Orders.{Orders, queue-is, waits-are, orders-with, orders-counts, orders-put, orders-enqueue, orders-token, orders-cell}
+use Rattle.model.proofs.Keeps.Values.{held-fits, Fitting, fitting, waiting, look-fits, SaidFits, said, nothing, builtin-fits}
+use Rattle.model.proofs.Keeps.Tables.{BindsFit, binds-written, formals-fit, Blocked, blocked-as, TokenKept, Tables, Idle, idle-kept, blank-kept, tables-write, tables-wait, tables-call, tables-cell, tables-choke}
+use Rattle.model.proofs.Keeps.Facts.{Facts}
+
+not-live-ready : (s : State) → isLive s ≡ false → isReady s ≡ false
+unfolding isLive isReady
+not-live-ready states.Blank e = refl
+not-live-ready states.Ready e = e
+not-live-ready (states.Waiting c) e = refl
+not-live-ready (states.Called h) e = refl
+not-live-ready states.Frame e = refl
+
+not-live-waiting : (s : State) → isLive s ≡ false → isWaiting s ≡ false
+unfolding isLive isWaiting
+not-live-waiting states.Blank e = refl
+not-live-waiting states.Ready e = refl
+not-live-waiting (states.Waiting c) e = e
+not-live-waiting (states.Called h) e = refl
+not-live-waiting states.Frame e = refl
+
+-- a cell is within itself
+own-within : (cs : List Cell) (c : ℕ) → c < length cs → within cs c (places.At c) ≡ true
+unfolding within
+own-within cs c l = go (length cs) (omega arith)
+  where
+    go : (n : ℕ) → 0 < n → upward (λ b k. eqb c b) cs n (places.At c) ≡ true
+    go zero i = absurd (omega arith)
+    go (suc n) i = unfold upward in rw (eqb-same c, upward) refl
+
+-- the first unset cell is that of a parameter
+then-unset : (v : ℤ) (l : Looked) (c : ℕ) → andThen v l ≡ unset c → l ≡ unset c
+unfolding andThen
+then-unset v (values vs) c e = let z : _≡_ {A = ℕ} 0 1 = cc in absurd (omega arith)
+then-unset v (unset b) c e = e
+
+abbrev Asks : List Cell → List Bind → List Param → ℕ → Type 0
+Asks cs bs ps c = (x : ℕ) × List·Memᴰ (variable x) ps × (slotAt bs x ≡ slots.Cell c) × (cellAt cs c .value ≡ helds.Nothing)
+
+asks-later : (cs : List Cell) (bs : List Bind) (p : Param) (ps : List Param) (c : ℕ) → Asks cs bs ps c → Asks cs bs (p ∷ ps) c
+asks-later cs bs p ps c (x, m, e, f) = (x, List·Memᴰ·tail m, e, f)
+
+module _ (cs : List Cell) (bs : List Bind) where
+  cell-unset : (x : ℕ) (ps : List Param) (b : ℕ) → slotAt bs x ≡ slots.Cell b → (w : Held) → cellAt cs b .value ≡ w → (c : ℕ)
+      → (look cs bs ps ≡ unset c → Asks cs bs ps c)
+      → elim w as (λ w. Looked) [ helds.Nothing ↦ unset b | helds.Value v ↦ andThen v (look cs bs ps) ] ≡ unset c → Asks cs bs (variable x ∷ ps) c
+  cell-unset x ps b s helds.Nothing w c f e =
+      let z : b ≡ c = cc in
+      (x, List·Memᴰ·head refl, s ∙ ap slots.Cell z, subst (λ i. cellAt cs i .value ≡ helds.Nothing) z w)
+  cell-unset x ps b s (helds.Value v) w c f e = asks-later cs bs (variable x) ps c (f (then-unset v (look cs bs ps) c e))
+
+  slot-unset : (x : ℕ) (ps : List Param) (s : Slot) → slotAt bs x ≡ s → (c : ℕ)
+      → (look cs bs ps ≡ unset c → Asks cs bs ps c)
+      → elim s as (λ s. Looked) [
+        | slots.Empty ↦ values []
+        | slots.Value v ↦ andThen v (look cs bs ps)
+        | slots.Cell c ↦ elim (cellAt cs c .value) [ helds.Nothing ↦ unset c | helds.Value v ↦ andThen v (look cs bs ps) ]
+      ]
+      ≡ unset c
+      → Asks cs bs (variable x ∷ ps) c
+  slot-unset x ps slots.Empty s c f e = let z : _≡_ {A = ℕ} 0 1 = cc in absurd (omega arith)
+  slot-unset x ps (slots.Value v) s c f e = asks-later cs bs (variable x) ps c (f (then-unset v (look cs bs ps) c e))
+  slot-unset x ps (slots.Cell b) s c f e = cell-unset x ps b s (cellAt cs b .value) refl c f e
+
+  look-unset : (ps : List Param) (c : ℕ) → look cs bs ps ≡ unset c → Asks cs bs ps c
+  unfolding look
+  look-unset [] c e = let z : _≡_ {A = ℕ} 0 1 = cc in absurd (omega arith)
+  look-unset (constant v ∷ ps) c e = asks-later cs bs (constant v) ps c (look-unset ps c (then-unset v (look cs bs ps) c e))
+  look-unset (variable x ∷ ps) c e = slot-unset x ps (slotAt bs x) refl c (λ f. look-unset ps c f) e
+
+-- a place for a new token
+pub record Vacant (m : Machine) (q : ℕ) : Type 0 where
+  pub inside : q < length (m .tokens)
+  pub dead : isLive (tokenAt (m .tokens) q .state) ≡ false
+
+-- The token at p acts, taken from the queue of m; its orders are then `queue` and `waits`
+module _ (lim : Limits) (d : Dag) (m : Machine) (F : Facts lim d m) (some : 0 < length (d .nodes))
+    (queue waits : List ℕ) (p : ℕ) (T : Taken (m .tokens) p queue waits) where
+  abbrev pub acting : Token
+  acting = tokenAt (m .tokens) p
+
+  abbrev pub at : Machine
+  at = withOrders queue waits m
+
+  abbrev pub Keeps : Effect → Type 0
+  Keeps = After (Facts lim d)
+
+  abbrev Good : Token → Type 0
+  Good u = TokenKept d (m .cells) (m .calls) u
+
+  inside : p < length (m .tokens)
+  inside = taken-inside T
+
+  was : Good acting
+  was = F .tables .tokens p
+
+  begun : Orders at queue waits
+  begun = orders-with queue waits m
+
+  -- the token, with a node, a value and bindings of another, ready or a frame
+  going : {u : Token} → u .node < length (d .nodes) → heldInRange (u .value) ≡ true → BindsFit (u .binds) → Idle (u .state) → Good u
+  going n v b i = idle-kept n v b i
+
+  ready-idle : {s : State} → s ≡ states.Ready → Idle s
+  ready-idle e = subst Idle (sym e) Idle.ready
+
+  goes-on : (u : Token) → Good u → u .state ≡ states.Ready → Keeps (Step.goesOn at p acting u)
+  unfolding After Step.goesOn Step.enqueue Step.put Step.withTables withOrders
+  goes-on u k s =
+      record {
+        tokenPlaces = length-set (m .tokens) p u ∙ F .tokenPlaces;
+        cellPlaces = F .cellPlaces;
+        calls = F .calls;
+        newtoken = F .newtoken;
+        newcell = F .newcell;
+        queue = queue ++ (p ∷ []);
+        waits = waits;
+        orders = orders-enqueue (orders-put begun p u) p;
+        lines = lines-back T u s;
+        tables = tables-write (F .tables) p u inside k (ready-idle s);
+      }
+
+  -- to another node, with what it has
+  ahead : (k : ℕ) → k < length (d .nodes) → {u : Token} → u .node ≡ k → u .value ≡ acting .value → u .binds ≡ acting .binds → Idle (u .state) → Good u
+  ahead k l n v b i =
+      going (subst (λ j. j < length (d .nodes)) (sym n) l) (ap heldInRange v ∙ was .value) (subst BindsFit (sym b) (was .binds)) i
+
+  pub ended : Facts lim d (Step.ended at p acting)
+  unfolding Step.ended Step.put Step.withTables withOrders isReady isWaiting
+  ended =
+      record {
+        tokenPlaces = length-set (m .tokens) p blankToken ∙ F .tokenPlaces;
+        cellPlaces = F .cellPlaces;
+        calls = F .calls;
+        newtoken = F .newtoken;
+        newcell = F .newcell;
+        queue = queue;
+        waits = waits;
+        orders = orders-put begun p blankToken;
+        lines = lines-gone T blankToken refl refl;
+        tables = tables-write (F .tables) p blankToken inside (blank-kept some) Idle.blank;
+      }
+
+  -- a second place
+  module _ (q : ℕ) (v : Vacant m q) where
+    apart : q ≡ p → ⊥
+    unfolding isLive
+    apart e = clash (ap isLive (taken-ready T)) (ap (λ i. isLive (tokenAt (m .tokens) i .state)) (sym e) ∙ v .dead)
+
+    still : (u : Token) → tokenAt (set (m .tokens) p u) q ≡ tokenAt (m .tokens) q
+    still u = token-other (m .tokens) p q u apart
+
+    beside : (u : Token) → q < length (set (m .tokens) p u)
+    beside u = let z = length-set (m .tokens) p u in let y = v .inside in omega arith
+
+    sizes : (u w : Token) → length (set (set (m .tokens) p u) q w) ≡ lim .tokenPlaces
+    sizes u w = length-set (set (m .tokens) p u) q w ∙ (length-set (m .tokens) p u ∙ F .tokenPlaces)
+
+    given : q < lim .tokenPlaces
+    given = let z = F .tokenPlaces in let y = v .inside in omega arith
+
+    second : (u : Token) {a b : List ℕ} (w : Token) → w .state ≡ states.Ready → Lines (set (m .tokens) p u) a b
+        → Lines (set (set (m .tokens) p u) q w) (a ++ (q ∷ [])) b
+    second u w s l =
+        lines-new q w (beside u)
+        (ap (λ (t : Token). isReady (t .state)) (still u) ∙ not-live-ready _ (v .dead))
+        (ap (λ (t : Token). isWaiting (t .state)) (still u) ∙ not-live-waiting _ (v .dead)) s l
+
+    two : {u w : Token} → Good u → Idle (u .state) → Good w → Idle (w .state) → Tables d (set (set (m .tokens) p u) q w) (m .cells) (m .calls)
+    two {u} {w} a i b j = tables-write (tables-write (F .tables) p u inside a i) q w (beside u) b j
+
+    forked : (l r : ℕ) → l < length (d .nodes) → r < length (d .nodes) → Keeps (Step.forked at p acting q l r)
+    unfolding After Step.forked Step.enqueue Step.newToken Step.put Step.withTables withOrders Step.withCounts Step.to
+    forked l r il ir =
+        let s = ready-idle (taken-ready T) in
+        record {
+          tokenPlaces = sizes _ _;
+          cellPlaces = F .cellPlaces;
+          calls = F .calls;
+          newtoken = given;
+          newcell = F .newcell;
+          queue = (queue ++ (p ∷ [])) ++ (q ∷ []);
+          waits = waits;
+          orders = orders-enqueue (orders-enqueue (orders-token (orders-put begun p (Step.to l acting)) q (Step.to r acting)) p) q;
+          lines = second (Step.to l acting) (Step.to r acting) (taken-ready T) (lines-back T (Step.to l acting) (taken-ready T));
+          tables = two (ahead l il refl refl refl s) s (ahead r ir refl refl refl s) s;
+        }
+
+    entered : (root : ℕ) (ps : List Param) (k : ℕ) → root < length (d .nodes) → all paramKept ps ≡ true → k < length (d .nodes)
+        → Keeps (Step.entered at p acting q root ps k)
+    unfolding
+        After Step.entered Step.enqueue Step.newToken Step.put Step.withTables withOrders Step.withCounts Step.to Step.being isReady isWaiting heldInRange
+    entered root ps k ir kept ik =
+        record {
+          tokenPlaces = sizes _ _;
+          cellPlaces = F .cellPlaces;
+          calls = F .calls;
+          newtoken = given;
+          newcell = F .newcell;
+          queue = queue ++ (q ∷ []);
+          waits = waits;
+          orders = orders-enqueue (orders-token (orders-put begun p (Step.to k (Step.being states.Frame acting))) q callee) q;
+          lines = second (Step.to k (Step.being states.Frame acting)) callee refl (lines-gone T (Step.to k (Step.being states.Frame acting)) refl refl);
+          tables =
+              two (ahead k ik refl refl refl Idle.frame) Idle.frame
+              (going ir refl (formals-fit (acting .binds) ps kept (was .binds)) Idle.ready) Idle.ready;
+        }
+      where
+        callee : Token
+        callee =
+            record {
+              node = root;
+              binds = Step.formalsBound (acting .binds) ps;
+              value = helds.Nothing;
+              caller = places.At p;
+              cell = acting .cell;
+              state = states.Ready;
+            }
+
+    split : (c x l r : ℕ) → c < length (m .cells) → l < length (d .nodes) → r < length (d .nodes) → Keeps (Step.split at p acting q c x l r)
+    unfolding
+        After Step.split Step.enqueue Step.newToken Step.newCell Step.put Step.withTables withOrders Step.withCounts Step.to Step.inCell Step.binding
+    split c x l r ic il ir =
+        let s = ready-idle (taken-ready T) in
+        record {
+          tokenPlaces = sizes _ _;
+          cellPlaces = length-set (m .cells) c own ∙ F .cellPlaces;
+          calls = F .calls;
+          newtoken = given;
+          newcell = let z = F .cellPlaces in omega arith;
+          queue = (queue ++ (p ∷ [])) ++ (q ∷ []);
+          waits = waits;
+          orders = orders-enqueue (orders-enqueue (orders-cell (orders-token (orders-put begun p left) q right) c own) p) q;
+          lines = second left right (taken-ready T) (lines-back T left (taken-ready T));
+          tables =
+              tables-cell
+              (two
+              (going il (was .value)
+              (binds-written (acting .binds) x (slots.Cell c) (λ v e. let z : _≡_ {A = ℕ} 0 1 = cc in absurd (omega arith)) (was .binds)) s) s
+              (ahead r ir refl refl refl s) s)
+              c own ic refl;
+        }
+      where
+        left : Token
+        left = Step.to l (Step.binding x (slots.Cell c) acting)
+
+        right : Token
+        right = Step.inCell c (Step.to r acting)
+
+        own : Cell
+        own = record { parent = acting .cell; value = helds.Nothing }
+
+  -- site calls
+  waited : (c : ℕ) → Blocked d (m .cells) acting c → Keeps (Step.waited at p acting c)
+  unfolding After Step.waited Step.put Step.withTables withOrders Step.being
+  waited c b =
+      record {
+        tokenPlaces = length-set (m .tokens) p u ∙ F .tokenPlaces;
+        cellPlaces = F .cellPlaces;
+        calls = F .calls;
+        newtoken = F .newtoken;
+        newcell = F .newcell;
+        queue = queueOf at;
+        waits = waitsOf at ++ (p ∷ []);
+        orders = orders-with (queueOf at) (waitsOf at ++ (p ∷ [])) (Step.put p u at);
+        lines =
+            subst (λ q. Lines (set (m .tokens) p u) q (waitsOf at ++ (p ∷ []))) (sym (queue-is begun))
+            (subst (λ w. Lines (set (m .tokens) p u) queue (w ++ (p ∷ []))) (sym (waits-are begun)) (lines-wait T u c refl));
+        tables =
+            tables-wait (F .tables) p u inside c refl
+            (record {
+              node = was .node;
+              value = was .value;
+              binds = was .binds;
+              waits = λ a e. subst (Blocked d (m .cells) u) (let z : c ≡ a = cc in z) (blocked-as refl refl refl (b .unset) b);
+              called = λ h e. let z : _≡_ {A = ℕ} 0 1 = cc in absurd (omega arith);
+            });
+      }
+    where
+      u : Token
+      u = Step.being (states.Waiting c) acting
+
+  replied : (k : ℕ) → k < length (d .nodes) → {s : Said} → SaidFits s → Keeps (Step.replied at p acting k s)
+  unfolding After Step.replied Step.to Step.holding heldInRange
+  replied k l (said e) = goes-on _ (going l e (was .binds) (ready-idle (taken-ready T))) (taken-ready T)
+  replied k l nothing = ended
+
+  calledOut : (s : ℕ) (vs : List ℤ) (k : ℕ) → m .calls < lim .calls → k < length (d .nodes) → Keeps (Step.calledOut at p acting s vs k)
+  unfolding After Step.calledOut Step.put Step.withTables withOrders Step.withCounts Step.to Step.being isReady isWaiting
+  calledOut s vs k few l =
+      record {
+        tokenPlaces = length-set (m .tokens) p u ∙ F .tokenPlaces;
+        cellPlaces = F .cellPlaces;
+        calls = omega arith;
+        newtoken = F .newtoken;
+        newcell = F .newcell;
+        queue = queue;
+        waits = waits;
+        orders = orders-counts (orders-put begun p u) _ _ _;
+        lines = lines-gone T u refl refl;
+        tables =
+            tables-call (F .tables) p u inside refl
+            (record {
+              node = l;
+              value = was .value;
+              binds = was .binds;
+              waits = λ c e. let z : _≡_ {A = ℕ} 0 1 = cc in absurd (omega arith);
+              called = λ h e. let z : m .calls ≡ h = cc in omega arith;
+            });
+      }
+    where
+      u : Token
+      u = Step.to k (Step.being (states.Called (m .calls)) acting)
+
+  -- "the first unset cell makes the token wait there"
+  module _ (named : (x c : ℕ) → slotAt (acting .binds) x ≡ slots.Cell c → c < length (m .cells))
+      (s : ℕ) (ps : List Param) (k : ℕ) (node : nodeAt d (acting .node) ≡ Node.site s ps k) (kept : all paramKept ps ≡ true) (next : k < length (d .nodes)) where
+    called : (vs : List ℤ) → All Signed32 vs → (b : Bool)
+        → Keeps
+        (elim b [
+          | true ↦ Step.replied at p acting k (builtin s vs)
+          | false ↦ unless (ltb (at .calls) (lim .calls)) refusals.CallLimit (Step.calledOut at p acting s vs k)
+        ])
+    unfolding withOrders
+    called vs a true = replied k next (builtin-fits s a)
+    called vs a false = after-unless (Facts lim d) _ _ _ (λ e. calledOut s vs k (ltb-lt _ _ e) next)
+
+    callSite : (l : Looked) → look (m .cells) (acting .binds) ps ≡ l → Fitting l → Keeps (Step.callSite lim d at p acting s k l)
+    unfolding Step.callSite
+    callSite (unset c) e f =
+        let x = look-unset (m .cells) (acting .binds) ps c e in
+        waited c
+        (record {
+          site = s;
+          params = ps;
+          next = k;
+          name = x .0;
+          node = node;
+          asked = x .1;
+          bound = x .2;
+          inside = named (x .0) c (x .2);
+          unset = x .3;
+        })
+    callSite (values vs) e (fitting a) = called vs a (isBuiltin s)
+
+    looked : Keeps (Step.callSite lim d at p acting s k (look (m .cells) (acting .binds) ps))
+    looked = callSite _ refl (look-fits (m .cells) (acting .binds) (was .binds) (F .tables .cells) ps kept)
+
+  returned : (f : Place) → Keeps (Step.returned at p acting f)
+  unfolding After Step.returned withOrders Step.being Step.holding
+  returned places.Nowhere = tt
+  returned (places.At f) =
+      let fr = F .tables .tokens f in goes-on _ (going (fr .node) (was .value) (fr .binds) Idle.ready) refl
+
+  chokes : (c : Place) → acting .cell ≡ c → ((b : ℕ) → c ≡ places.At b → b < length (m .cells)) → Keeps (Step.chokes at p acting c)
+  unfolding After Step.chokes Step.choked Step.withTables withOrders
+  chokes places.Nowhere e i = tt
+  chokes (places.At c) e i =
+      record {
+        tokenPlaces = length-map (m .tokens) (chokeToken (m .cells) c) ∙ F .tokenPlaces;
+        cellPlaces = length-set (m .cells) c k ∙ F .cellPlaces;
+        calls = F .calls;
+        newtoken = F .newtoken;
+        newcell = F .newcell;
+        queue = filter (λ (r : ℕ). isReady (tokenAt ts r .state)) (queueOf at ++ waitsOf at);
+        waits = filter (λ (r : ℕ). isWaiting (tokenAt ts r .state)) (waitsOf at);
+        orders = orders-with _ _ (Step.withTables ts (set (m .cells) c k) at);
+        lines =
+            subst (λ q. Lines ts (filter (λ (r : ℕ). isReady (tokenAt ts r .state)) (q ++ waitsOf at)) (filter (λ (r : ℕ). isWaiting (tokenAt ts r .state)) (waitsOf at))) (sym (queue-is begun))
+            (subst (λ w. Lines ts (filter (λ (r : ℕ). isReady (tokenAt ts r .state)) (queue ++ w)) (filter (λ (r : ℕ). isWaiting (tokenAt ts r .state)) w)) (sym (waits-are begun))
+            (lines-choke (m .tokens) (m .cells) c p queue waits T (ap (within (m .cells) c) e ∙ own-within (m .cells) c (i c refl))));
+        tables = tables-choke (F .tables) some c k (i c refl) (was .value);
+      }
+    where
+      ts : List Token
+      ts = map (chokeToken (m .cells) c) (m .tokens)
+
+      k : Cell
+      k = record { parent = cellAt (m .cells) c .parent; value = acting .value }
+
+  -- what the node at which the token stands does
+  module _ (dag : dagKept d ≡ true)
+      (named : (x c : ℕ) → slotAt (acting .binds) x ≡ slots.Cell c → c < length (m .cells))
+      (own : (c : ℕ) → acting .cell ≡ places.At c → c < length (m .cells))
+      (token : hasTokenPlace lim d m ≡ true → Vacant m (tokenPlace lim d m))
+      (cell : hasCellPlace lim d m ≡ true → cellPlace lim d m < length (m .cells)) where
+    node-inside : (k : ℕ) → isNode d k ≡ true → k < length (d .nodes)
+    unfolding isNode
+    node-inside k e = ltb-lt k (length (d .nodes)) e
+
+    params : (ps : List Param) → paramsKept ps ≡ true → all paramKept ps ≡ true
+    unfolding paramsKept
+    params ps e = and-right _ _ e
+
+    body : (e : ℕ) → ltb e (length (d .bodies)) ≡ true → bodyAt d e .root < length (d .nodes)
+    unfolding bodyKept
+    body e l = node-inside (bodyAt d e .root) (and-left _ _ (body-rules d e dag (ltb-lt e (length (d .bodies)) l)))
+
+    pub acted : (N : Node) → nodeAt d (acting .node) ≡ N → nodeKept d N ≡ true → Keeps (act lim d m at p acting N)
+    unfolding After act nodeKept Step.to Step.binding withOrders
+    acted Node.stop e k = ended
+    acted Node.publish e k = ended
+    acted (Node.fork l r) e k =
+        after-unless (Facts lim d) _ _ _ (λ t. forked _ (token t) l r (node-inside l (and-left _ _ k)) (node-inside r (and-right _ _ k)))
+    acted (Node.assign x j) e k =
+        goes-on _
+        (going (node-inside j (and-right _ _ k)) (was .value)
+        (binds-written (acting .binds) x _ (λ v f. subst Signed32 (let z : Step.valueOf (acting .value) ≡ v = cc in z) (held-fits (acting .value) (was .value))) (was .binds))
+        (ready-idle (taken-ready T)))
+        (taken-ready T)
+    acted (Node.remove x j) e k =
+        goes-on _
+        (going (node-inside j (and-right _ _ k)) (was .value)
+        (binds-written (acting .binds) x _ (λ v f. let z : _≡_ {A = ℕ} 0 1 = cc in absurd (omega arith)) (was .binds))
+        (ready-idle (taken-ready T)))
+        (taken-ready T)
+    acted (Node.where' x l r) e k =
+        after-unless (Facts lim d) _ _ _
+        (λ t.
+        after-unless (Facts lim d) _ _ _
+        (λ c. split _ (token t) _ x l r (cell c) (node-inside l (and-left _ _ (and-right _ _ k))) (node-inside r (and-right _ _ (and-right _ _ k)))))
+    acted (Node.site s ps j) e k =
+        looked named s ps j e (params ps (and-left _ _ (and-right _ _ k))) (node-inside j (and-right _ _ (and-right _ _ k)))
+    acted (Node.call f ps j) e k =
+        after-unless (Facts lim d) _ _ _
+        (λ t. entered _ (token t) _ ps j (body f (and-left _ _ k)) (params ps (and-left _ _ (and-right _ _ k))) (node-inside j (and-right _ _ (and-right _ _ k))))
+    acted Node.return e k = returned (acting .caller)
+    acted Node.choke e k = chokes (acting .cell) refl own
+    acted Node.unknown e k = tt

@@ -1,0 +1,201 @@
+-- What a record of a run has beside its view: sizes and counts in range, orders that name each ready and each waiting token once, and tables
+-- whose nodes, values and handles are right and whose waiting tokens are blocked. The start has it, and blanking keeps it where live tokens are
+-- in use. Assumes nothing.
+use mathlib.Core.Path.{_≡_, refl, sym, _∙_, ap, subst}
+use mathlib.Core.Logic.{_⊎_, inl, inr}
+use mathlib.Core.Bool.{Bool, true, false}
+use mathlib.Core.List.{List, [], _∷_, _++_}
+use Prim.Native.Nat.{ℕ, zero, suc, _+_, _-_, _<_, _≤_}
+use native.Mathlib.Omega.{arith}
+use lib.ListN.{length, getD, set, replicate, length-set, length-replicate}
+use lib.Dec.{eqb}
+use Rattle.model.specs.Test.{padded, count, once}
+use Rattle.model.specs.Job.Node.{Dag, dagKept}
+use Rattle.model.specs.Machine.Limits.{Limits}
+use Rattle.model.specs.Machine.Blank.{blankToken, blankCell, tokenAt, cellAt}
+use Rattle.model.specs.Machine.Active.{isLive}
+use Rattle.model.specs.Machine.InUse.{tokensUsed, cellsUsed, kept, finish}
+use Rattle.model.specs.Machine.Rules.{isReady, isWaiting, heldInRange}
+use Rattle.model.specs.Machine.Start.{startToken, startMachine}
+use Rattle.model.specs.declared.token.State.{State}
+use Rattle.model.specs.declared.token.State.the-variants as states
+use Rattle.model.specs.declared.token.Token.{Token}
+use Rattle.model.specs.declared.cell.Cell.{Cell}
+use Rattle.model.specs.declared.record.Machine.{Machine}
+use Rattle.model.proofs.Test.{clash, eqb-same, ne-eqb}
+use Rattle.model.proofs.Machine.Marks.{Marked}
+use Rattle.model.proofs.Machine.InUse.{tokens-used}
+use Rattle.model.proofs.Machine.Kept.{length-kept, kept-marked, kept-cases}
+use Rattle.model.proofs.Sees.Others.{token-same, token-other}
+use Rattle.model.proofs.Keeps.Lines.{Names, Lines}
+use Rattle.model.proofs.Keeps.Orders.{Orders}
+use Rattle.model.proofs.Keeps.Tables.{Tables, TokenKept, Idle, idle-kept, blank-kept, unbound-fit, tables-write, tables-kept}
+
+pub record Facts (lim : Limits) (d : Dag) (m : Machine) : Type 0 where
+  pub tokenPlaces : length (m .tokens) ≡ lim .tokenPlaces
+  pub cellPlaces : length (m .cells) ≡ lim .cellPlaces
+  pub calls : m .calls ≤ lim .calls
+  pub newtoken : m .newtoken < lim .tokenPlaces
+  pub newcell : m .newcell < lim .cellPlaces
+  pub queue : List ℕ
+  pub waits : List ℕ
+  pub orders : Orders m queue waits
+  pub lines : Lines (m .tokens) queue waits
+  pub tables : Tables d (m .tokens) (m .cells) (m .calls)
+
+-- the start
+replicate-front : (n : ℕ) → 0 < n → replicate {A = ℕ} n 0 ≡ 0 ∷ replicate (n - 1) 0
+replicate-front zero l = absurd (omega arith)
+replicate-front (suc n) l = ap (λ k. 0 ∷ replicate k 0) (let z : n ≡ suc n - 1 = omega arith in z)
+
+blank-at : {A : Type 0} (n i : ℕ) (x : A) → getD (replicate n x) i x ≡ x
+blank-at zero i x = refl
+blank-at (suc n) zero x = refl
+blank-at (suc n) (suc i) x = blank-at n i x
+
+module _ (lim : Limits) (d : Dag) (some : 0 < lim .tokenPlaces) (cell : 0 < lim .cellPlaces) (goal : d .goal < length (d .nodes)) where
+  abbrev begins : Machine
+  begins = startMachine lim (d .goal)
+
+  abbrev blanks : List Token
+  blanks = replicate (lim .tokenPlaces) blankToken
+
+  size : length blanks ≡ lim .tokenPlaces
+  size = length-replicate (lim .tokenPlaces) blankToken
+
+  sized : length (begins .tokens) ≡ lim .tokenPlaces
+  sized = length-set blanks 0 (startToken (d .goal)) ∙ size
+
+  start-orders : Orders begins (0 ∷ []) []
+  unfolding padded
+  start-orders =
+      record {
+        queue = replicate-front (lim .tokenPlaces) some ∙ ap (λ n. 0 ∷ replicate (n - 1) 0) (sym sized);
+        queued = refl;
+        waits = ap (λ n. replicate n 0) (let z = sized in let y : lim .tokenPlaces ≡ length (begins .tokens) - 0 = omega arith in y);
+        waiting = refl;
+      }
+
+  first : tokenAt (begins .tokens) 0 ≡ startToken (d .goal)
+  first = token-same blanks 0 (startToken (d .goal)) (let z = size in omega arith)
+
+  other : (r : ℕ) → tokenAt (begins .tokens) (suc r) ≡ blankToken
+  unfolding tokenAt
+  other r = token-other blanks 0 (suc r) (startToken (d .goal)) (λ e. omega arith) ∙ blank-at (lim .tokenPlaces) (suc r) blankToken
+
+  -- a test of the start's tokens
+  at-start : (of : State → Bool) (n : ℕ → ℕ) → n 0 ≡ once (of states.Ready) → ((r : ℕ) → n (suc r) ≡ once (of states.Blank))
+      → (r : ℕ) → n r ≡ once (of (tokenAt (begins .tokens) r .state))
+  at-start of n a b zero = a ∙ ap (λ (t : Token). once (of (t .state))) (sym first)
+  at-start of n a b (suc r) = b r ∙ ap (λ (t : Token). once (of (t .state))) (sym (other r))
+
+  start-lines : Lines (begins .tokens) (0 ∷ []) []
+  unfolding count isReady isWaiting
+  start-lines =
+      record {
+        ready =
+            at-start isReady (λ r. count r (0 ∷ [])) (let z : once (eqb 0 0) ≡ 1 = ap once (eqb-same 0) in omega arith)
+            (λ r. let z : once (eqb (suc r) 0) ≡ 0 = ap once (ne-eqb (suc r) 0 (λ e. omega arith)) in omega arith);
+        waiting = at-start isWaiting (λ r. count r []) refl (λ r. refl);
+      }
+
+  blank-tables : Tables d blanks (begins .cells) 0
+  unfolding tokenAt cellAt heldInRange
+  blank-tables =
+      record {
+        tokens =
+            λ p. subst (TokenKept d (begins .cells) 0) (sym (blank-at (lim .tokenPlaces) p blankToken)) (blank-kept (omega arith));
+        cells = λ c. ap (λ (k : Cell). heldInRange (k .value)) (blank-at (lim .cellPlaces) c blankCell);
+        apart =
+            λ p q h e f.
+            let y : states.Blank ≡ states.Called h = sym (ap (λ (t : Token). t .state) (blank-at (lim .tokenPlaces) p blankToken)) ∙ e in
+            let z : _≡_ {A = ℕ} 0 1 = cc in
+            absurd (omega arith);
+      }
+
+  pub start-facts : Facts lim d (startMachine lim (d .goal))
+  unfolding heldInRange
+  start-facts =
+      record {
+        tokenPlaces = sized;
+        cellPlaces = length-replicate (lim .cellPlaces) blankCell;
+        calls = omega arith;
+        newtoken = some;
+        newcell = omega arith;
+        queue = 0 ∷ [];
+        waits = [];
+        orders = start-orders;
+        lines = start-lines;
+        tables =
+            tables-write blank-tables 0 (startToken (d .goal)) (let z = size in omega arith) (idle-kept goal refl unbound-fit Idle.ready) Idle.ready;
+      }
+
+-- live tokens are in use
+abbrev pub LiveUsed : Machine → Type 0
+LiveUsed m = (p : ℕ) → isLive (tokenAt (m .tokens) p .state) ≡ true → Marked (tokensUsed m) p
+
+ready-live : (s : State) → isReady s ≡ true → isLive s ≡ true
+unfolding isReady isLive
+ready-live states.Blank e = e
+ready-live states.Ready e = refl
+ready-live (states.Waiting c) e = refl
+ready-live (states.Called h) e = refl
+ready-live states.Frame e = e
+
+waiting-live : (s : State) → isWaiting s ≡ true → isLive s ≡ true
+unfolding isWaiting isLive
+waiting-live states.Blank e = e
+waiting-live states.Ready e = refl
+waiting-live (states.Waiting c) e = refl
+waiting-live (states.Called h) e = refl
+waiting-live states.Frame e = e
+
+module _ {lim : Limits} {d : Dag} {m : Machine} (F : Facts lim d m) (live : LiveUsed m) where
+  abbrev used : List Bool
+  used = tokensUsed m
+
+  -- a line of live tokens stays
+  line-stays : (of : State → Bool) → of states.Blank ≡ false → ((s : State) → of s ≡ true → isLive s ≡ true) → (l : List ℕ)
+      → Names of (m .tokens) l → Names of (kept blankToken used (m .tokens)) l
+  unfolding tokenAt
+  line-stays of none lives l h r = go (of (tokenAt (m .tokens) r .state)) refl (kept-cases blankToken used (m .tokens) r)
+    where
+      now : Token
+      now = getD (kept blankToken used (m .tokens)) r blankToken
+
+      at : Token → ℕ
+      at t = once (of (t .state))
+
+      go : (b : Bool) → of (getD (m .tokens) r blankToken .state) ≡ b → (now ≡ getD (m .tokens) r blankToken) ⊎ (now ≡ blankToken) → count r l ≡ at now
+      go true e x =
+          h r ∙ ap at (sym (kept-marked blankToken used (m .tokens) r (tokens-used (m .tokens) (m .cells) .size) (live r (lives _ e))))
+      go false e (inl x) = h r ∙ ap at (sym x)
+      go false e (inr x) = h r ∙ (ap once (e ∙ sym none) ∙ ap at (sym x))
+
+  pub finish-facts : 0 < length (d .nodes) → Facts lim d (finish m)
+  unfolding finish isReady isWaiting
+  finish-facts some =
+      let lt = length-kept blankToken used (m .tokens) in
+      let lc = length-kept blankCell (cellsUsed m) (m .cells) in
+      record {
+        tokenPlaces = lt ∙ F .tokenPlaces;
+        cellPlaces = lc ∙ F .cellPlaces;
+        calls = F .calls;
+        newtoken = F .newtoken;
+        newcell = F .newcell;
+        queue = F .queue;
+        waits = F .waits;
+        orders =
+            record {
+              queue = F .orders .queue ∙ ap (λ n. padded 0 n (F .queue)) (sym lt);
+              queued = F .orders .queued;
+              waits = F .orders .waits ∙ ap (λ n. padded 0 n (F .waits)) (sym lt);
+              waiting = F .orders .waiting;
+            };
+        lines =
+            record {
+              ready = line-stays isReady refl ready-live (F .queue) (F .lines .ready);
+              waiting = line-stays isWaiting refl waiting-live (F .waits) (F .lines .waiting);
+            };
+        tables = tables-kept (F .tables) some used (cellsUsed m);
+      }
