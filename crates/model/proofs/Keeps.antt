@@ -5,3 +5,5 @@ pub mod Values
 pub mod Tables
 pub mod Facts
 pub mod Acts
+pub mod Clean
+pub mod Rules

@@ -48,7 +48,7 @@ replicate-front : (n : ℕ) → 0 < n → replicate {A = ℕ} n 0 ≡ 0 ∷ repl
 replicate-front zero l = absurd (omega arith)
 replicate-front (suc n) l = ap (λ k. 0 ∷ replicate k 0) (let z : n ≡ suc n - 1 = omega arith in z)
 
-blank-at : {A : Type 0} (n i : ℕ) (x : A) → getD (replicate n x) i x ≡ x
+pub blank-at : {A : Type 0} (n i : ℕ) (x : A) → getD (replicate n x) i x ≡ x
 blank-at zero i x = refl
 blank-at (suc n) zero x = refl
 blank-at (suc n) (suc i) x = blank-at n i x

@@ -1,0 +1,164 @@
+-- "What is not in use is blank": blanking makes it so, since what was in use stays in use. The tokens in use name the same cells and callers as
+-- before, and a token stays active because the cells above it are in use. Assumes nothing.
+use mathlib.Core.Path.{_≡_, refl, sym, _∙_, ap, subst}
+use mathlib.Core.Bool.{Bool, true, false, not}
+use mathlib.Core.List.{List, [], _∷_}
+use Prim.Native.Nat.{ℕ, zero, suc, _<_, _≤_}
+use native.Mathlib.Decide.{ℕ-discrete, decLt}
+use native.Mathlib.Omega.{arith}
+use lib.ListN.{length, getD, replicate, set, length-replicate}
+use Rattle.model.specs.Test.{_and_, all}
+use Rattle.model.specs.Machine.Limits.{Limits}
+use Rattle.model.specs.Machine.Blank.{blankToken, blankCell, tokenAt, cellAt, slotAt, isBound, hasValue, isPlace, isBlankState, tokenIsBlank, cellIsBlank}
+use Rattle.model.specs.Machine.Active.{isSet, upward, underSet, isLive, isActive}
+use Rattle.model.specs.Machine.InUse.{tokensUsed, cellsUsed, kept, finish}
+use Rattle.model.specs.Machine.Rules.{restIsBlank}
+use Rattle.model.specs.Machine.Start.{startToken, startMachine}
+use Rattle.model.specs.declared.token.Place.{Place}
+use Rattle.model.specs.declared.token.Place.the-variants as places
+use Rattle.model.specs.declared.token.Token.{Token}
+use Rattle.model.specs.declared.cell.Cell.{Cell}
+use Rattle.model.specs.declared.record.Machine.{Machine}
+use Rattle.model.proofs.Test.{clash, false-of, and-both}
+use Rattle.model.proofs.Machine.Marks.{Marked, Free, free-inside}
+use Rattle.model.proofs.Machine.Reach.{Names}
+use Rattle.model.proofs.Machine.InUse.{CellsIn, TokensUsed, CellsUsed, tokens-used, cells-used}
+use Rattle.model.proofs.Machine.Kept.{length-kept, kept-marked, kept-free}
+use Rattle.model.proofs.Machine.Used.{Used, UsedCell, used-fits, used-parent}
+use Rattle.model.proofs.Sees.Others.{token-other}
+use Rattle.model.proofs.Keeps.Facts.{blank-at}
+
+pub record Clean (m : Machine) : Type 0 where
+  pub tokens : (p : ℕ) → Free (tokensUsed m) p → tokenAt (m .tokens) p ≡ blankToken
+  pub cells : (c : ℕ) → Free (cellsUsed m) c → cellAt (m .cells) c ≡ blankCell
+
+-- as the rules have it
+rest-blank : {A : Type 0} (test : A → Bool) (marks : List Bool) (xs : List A) (b : A) → length marks ≡ length xs
+    → ((i : ℕ) → Free marks i → test (getD xs i b) ≡ true) → restIsBlank test marks xs ≡ true
+unfolding restIsBlank
+rest-blank test marks [] b l h = refl
+rest-blank test [] (x ∷ xs) b l h = absurd (omega arith)
+rest-blank test (true ∷ marks) (x ∷ xs) b l h = rest-blank test marks xs b (omega arith) (λ i e. h (suc i) e)
+rest-blank test (false ∷ marks) (x ∷ xs) b l h = and-both (h 0 refl) (rest-blank test marks xs b (omega arith) (λ i e. h (suc i) e))
+
+blank-token : tokenIsBlank blankToken ≡ true
+unfolding tokenIsBlank isBlankState all isBound hasValue isPlace _and_
+blank-token = refl
+
+blank-cell : cellIsBlank blankCell ≡ true
+unfolding cellIsBlank hasValue isPlace _and_
+blank-cell = refl
+
+module _ (m : Machine) where
+  tokensOf : TokensUsed (m .tokens) (m .cells) (tokensUsed m)
+  tokensOf = tokens-used (m .tokens) (m .cells)
+
+  cellsOf : CellsUsed (tokensUsed m) (m .tokens) (m .cells) (cellsUsed m)
+  cellsOf = cells-used (tokensUsed m) (m .tokens) (m .cells) (tokens-used (m .tokens) (m .cells) .size)
+
+  pub clean-tokens : Clean m → restIsBlank tokenIsBlank (tokensUsed m) (m .tokens) ≡ true
+  unfolding tokenAt
+  clean-tokens c =
+      rest-blank tokenIsBlank (tokensUsed m) (m .tokens) blankToken (tokens-used (m .tokens) (m .cells) .size) (λ i e. ap tokenIsBlank (c .tokens i e) ∙ blank-token)
+
+  pub clean-cells : Clean m → restIsBlank cellIsBlank (cellsUsed m) (m .cells) ≡ true
+  unfolding cellAt
+  clean-cells c =
+      rest-blank cellIsBlank (cellsUsed m) (m .cells) blankCell (cells-used (tokensUsed m) (m .tokens) (m .cells) (tokens-used (m .tokens) (m .cells) .size) .size)
+      (λ i e. ap cellIsBlank (c .cells i e) ∙ blank-cell)
+
+module _ (m : Machine) where
+  abbrev then : Machine
+  then = finish m
+
+  token-stays : (i : ℕ) → Used m i → tokenAt (then .tokens) i ≡ tokenAt (m .tokens) i
+  unfolding finish tokenAt
+  token-stays i u = kept-marked blankToken (tokensUsed m) (m .tokens) i (tokensOf m .size) u
+
+  cell-stays : (c : ℕ) → UsedCell m c → cellAt (then .cells) c ≡ cellAt (m .cells) c
+  unfolding finish cellAt
+  cell-stays c u = kept-marked blankCell (cellsUsed m) (m .cells) c (cellsOf m .size) u
+
+  -- what is above a place in use
+  upward-stays : (test : ℕ → Cell → Bool) (n : ℕ) (q : Place) → Names (UsedCell m) q → upward test (then .cells) n q ≡ upward test (m .cells) n q
+  unfolding upward
+  upward-stays test zero q h = refl
+  upward-stays test (suc n) places.Nowhere h = refl
+  upward-stays test (suc n) (places.At c) h =
+      ap (λ k. looks k (upward test (then .cells) n (k .parent))) (cell-stays c (h c refl))
+      ∙ ap (looks (cellAt (m .cells) c)) (upward-stays test n (cellAt (m .cells) c .parent) (used-parent m c (h c refl)))
+    where
+      looks : Cell → Bool → Bool
+      looks k b = elim (test c k) [ true ↦ true | false ↦ b ]
+
+  under-stays : (q : Place) → Names (UsedCell m) q → underSet (then .cells) q ≡ underSet (m .cells) q
+  unfolding finish underSet
+  under-stays q h =
+      ap (λ n. upward (λ c k. isSet k) (then .cells) n q) (length-kept blankCell (cellsUsed m) (m .cells)) ∙ upward-stays (λ c k. isSet k) (length (m .cells)) q h
+
+  active-stays : (i : ℕ) → Used m i → isActive (m .cells) (tokenAt (m .tokens) i) ≡ true → isActive (then .cells) (tokenAt (then .tokens) i) ≡ true
+  active-stays i u e = ap (isActive (then .cells)) (token-stays i u) ∙ (same (tokenAt (m .tokens) i) (used-fits m i u .cells .cell) ∙ e)
+    where
+      same : (t : Token) → Names (UsedCell m) (t .cell) → isActive (then .cells) t ≡ isActive (m .cells) t
+      same t h = unfold isActive in ap (λ b. elim (isLive (t .state)) [ true ↦ not b | false ↦ false ]) (under-stays (t .cell) h)
+
+  Both : ℕ → Type 0
+  Both i = Used m i × Used (finish m) i
+
+  tokens-stay : (i : ℕ) → i < length (m .tokens) → Used m i → Both i
+  unfolding Both
+  tokens-stay =
+      tokensOf m .least Both
+      (λ i e. let u = tokensOf m .active i e in (u, tokensOf then .active i (active-stays i u e)))
+      (λ i l b j e. (tokensOf m .caller i (b .0) j e, tokensOf then .caller i (b .1) j (ap (λ (t : Token). t .caller) (token-stays i (b .0)) ∙ e)))
+
+  BothCells : ℕ → Type 0
+  BothCells c = UsedCell m c × UsedCell (finish m) c
+
+  cells-stay : (c : ℕ) → c < length (m .cells) → UsedCell m c → BothCells c
+  unfolding Both BothCells
+  cells-stay = cellsOf m .least BothCells named parents
+    where
+      named : (i : ℕ) → i < length (m .tokens) → Used m i → CellsIn BothCells (tokenAt (m .tokens) i)
+      named i l u =
+          let e = token-stays i u in
+          let here = cellsOf m .named i u in
+          let there = cellsOf then .named i (tokens-stay i l u .1) in
+          record {
+            cell = λ c f. (here .cell c f, there .cell c (ap (λ (t : Token). t .cell) e ∙ f));
+            binds = λ x c f. (here .binds x c f, there .binds x c (ap (λ (t : Token). slotAt (t .binds) x) e ∙ f));
+          }
+
+      parents : (c : ℕ) → c < length (m .cells) → BothCells c → Names BothCells (cellAt (m .cells) c .parent)
+      parents c l b a e = (cellsOf m .parent c (b .0) a e, cellsOf then .parent c (b .1) a (ap (λ (k : Cell). k .parent) (cell-stays c (b .0)) ∙ e))
+
+  -- "The rest is blank after each accepted call"
+  pub finish-clean : Clean (finish m)
+  unfolding finish tokenAt cellAt Both BothCells
+  finish-clean =
+      record {
+        tokens =
+            λ p e.
+            let l = free-inside (tokensUsed then) p e in
+            let s = tokensOf then .size in
+            let k = length-kept blankToken (tokensUsed m) (m .tokens) in
+            kept-free blankToken (tokensUsed m) (m .tokens) p (false-of _ (λ u. clash (tokens-stay p (omega arith) u .1) e));
+        cells =
+            λ c e.
+            let l = free-inside (cellsUsed then) c e in
+            let s = cellsOf then .size in
+            let k = length-kept blankCell (cellsUsed m) (m .cells) in
+            kept-free blankCell (cellsUsed m) (m .cells) c (false-of _ (λ u. clash (cells-stay c (omega arith) u .1) e));
+      }
+
+-- the start, whose token is in use
+pub start-clean : (lim : Limits) (goal : ℕ) → Marked (tokensUsed (startMachine lim goal)) 0 → Clean (startMachine lim goal)
+unfolding tokenAt cellAt
+start-clean lim goal u = record { tokens = λ p e. go p e (ℕ-discrete p 0); cells = λ c e. blank-at (lim .cellPlaces) c blankCell }
+  where
+    m : Machine
+    m = startMachine lim goal
+
+    go : (p : ℕ) → Free (tokensUsed m) p → Dec (p ≡ 0) → getD (m .tokens) p blankToken ≡ blankToken
+    go p e (yes f) = clash (subst (Marked (tokensUsed m)) (sym f) u) e
+    go p e (no n) = token-other (replicate (lim .tokenPlaces) blankToken) 0 p (startToken goal) n ∙ blank-at (lim .tokenPlaces) p blankToken

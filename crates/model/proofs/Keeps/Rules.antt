@@ -1,0 +1,2 @@
+-- The index rules.
+use Prim.Native.Nat.{ℕ}
