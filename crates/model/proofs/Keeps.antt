@@ -7,3 +7,4 @@ pub mod Facts
 pub mod Acts
 pub mod Clean
 pub mod Rules
+pub mod Reached

@@ -91,7 +91,7 @@ slot-range n (slots.Value v) f g = f v refl
 slot-range n (slots.Cell c) f g = lt-ltb _ _ (g c refl)
 
 module _ {W : World} where
-  cells-range : {q : Place} {U : List ℕ} → CellsSeen W q U → placeInRange (length (W .cells)) q ≡ true
+  pub cells-range : {q : Place} {U : List ℕ} → CellsSeen W q U → placeInRange (length (W .cells)) q ≡ true
   unfolding placeInRange
   cells-range root = refl
   cells-range (below s v) = lt-ltb _ _ (s .inside)
