@@ -1,0 +1,3 @@
+-- Laws that the compiler's proofs share.
+pub mod Stores
+pub mod Operand

@@ -1,0 +1,3 @@
+-- What the compiler writes, said of a reading. Assumes nothing: these are definitions.
+pub mod Parts
+pub mod Call

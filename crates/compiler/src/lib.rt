@@ -1,0 +1,4 @@
+// The compiler: from the entries of an accepted expression to the dag's words.
+pub mod call;
+pub mod entry;
+pub mod store;
