@@ -1,3 +1,5 @@
 -- Laws that the compiler's proofs share.
 pub mod Stores
 pub mod Operand
+pub mod Places
+pub mod CallNode
