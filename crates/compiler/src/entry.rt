@@ -17,5 +17,10 @@ pub fn operand(operands: &[u8], at: usize) -> u32
     ensures { λ r. ⌜ r ≡ operandAt (now (operands .entry)) at ⌝ }
 {
     let i = 4 * at;
-    word(operands[i], operands[i + 1], operands[i + 2], operands[i + 3])
+    word(
+        operands[i],
+        operands[i + 1],
+        operands[i + 2],
+        operands[i + 3],
+    )
 }
