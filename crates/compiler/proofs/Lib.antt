@@ -3,3 +3,4 @@ pub mod Stores
 pub mod Operand
 pub mod Places
 pub mod CallNode
+pub mod Sides
