@@ -4,3 +4,5 @@ pub mod Operand
 pub mod Places
 pub mod CallNode
 pub mod Sides
+pub mod Rows
+pub mod Heads

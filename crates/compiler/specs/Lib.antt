@@ -2,3 +2,4 @@
 pub mod Parts
 pub mod Call
 pub mod Join
+pub mod Compiled
