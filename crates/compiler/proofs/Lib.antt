@@ -6,3 +6,6 @@ pub mod CallNode
 pub mod Sides
 pub mod Rows
 pub mod Heads
+pub mod Taking
+pub mod OneNode
+pub mod TwoSides
