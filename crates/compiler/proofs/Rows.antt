@@ -78,6 +78,6 @@ join-rows j f g n k d =
     sets-swap _ at (headWords + 12 * firstRight j f n) H G (omega arith)
     ∙ ap (λ (m : List ℕ). sets m (headWords + 12 * firstRight j f n) G) (sets-swap d at (headWords + 12 * firstLeft j n) H F (omega arith))
     ∙ sym (ap (λ (w : List ℕ). sets d at w) e
-        ∙ sets-append d at H (F ++ G)
-        ∙ sets-append _ (at + length H) F G
-        ∙ rw (← b, ← a))
+    ∙ sets-append d at H (F ++ G)
+    ∙ sets-append _ (at + length H) F G
+    ∙ rw (← b, ← a))

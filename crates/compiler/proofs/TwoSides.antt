@@ -110,12 +110,12 @@ module _ {left : ℕ} {ks os : List ℕ} {s at n : ℕ} (t : Taken left ks os s 
               let f = sides .left .value in
               let g = sides .right .value in
               let a : d1 ≡ sets d (headWords + 12 * firstLeft j n) (rowsOf (nodesOf f (firstLeft j n) (nextLeft j n k))) =
-                  e1 ∙ ap (λ r. stored r (l .first) (l .next) d) read-left
-                  ∙ ap₂ (λ m i. sets d (headWords + 12 * m) (rowsOf (nodesOf f m i))) (el .begins) (el .goes) in
+              e1 ∙ ap (λ r. stored r (l .first) (l .next) d) read-left
+              ∙ ap₂ (λ m i. sets d (headWords + 12 * m) (rowsOf (nodesOf f m i))) (el .begins) (el .goes) in
               let b : d2 ≡ sets d1 (headWords + 12 * firstRight j f n) (rowsOf (nodesOf g (firstRight j f n) (nextRight j n k))) =
-                  e2 ∙ ap (λ r' . stored r' (r .first) (r .next) d1) read-right
-                  ∙ ap₂ (λ m i. sets d1 (headWords + 12 * m) (rowsOf (nodesOf g m i))) (er .begins ∙ node-left) (er .goes) in
+              e2 ∙ ap (λ r'. stored r' (r .first) (r .next) d1) read-right
+              ∙ ap₂ (λ m i. sets d1 (headWords + 12 * m) (rowsOf (nodesOf g m i))) (er .begins ∙ node-left) (er .goes) in
               let c : d3 ≡ sets d2 (headWords + 12 * n) (rowsOf (ownNodes j (root f (firstLeft j n)) (root g (firstRight j f n)) k)) =
-                  e3 ∙ ap₂ (λ m i. sets d2 (headWords + 12 * n) (rowsOf (ownNodes j m i k))) root-left (ap (λ (y : Compiled). y .root) last) in
+              e3 ∙ ap₂ (λ m i. sets d2 (headWords + 12 * n) (rowsOf (ownNodes j m i k))) root-left (ap (λ (y : Compiled). y .root) last) in
               done t k _ d d3 (result x ex)
               (c ∙ rw (b, a) (join-rows j f g n k d) ∙ ap (λ y. sets d (headWords + 12 * n) (rowsOf (nodesOf y n k))) (sym (sides .value)))

@@ -18,7 +18,16 @@ pub struct Compiled {
 
 // Stores the nodes of the expression at entry `at`, numbered from `node` toward `next`. So many levels of depth are
 // left, and so many variables are in scope.
-pub fn compile_expression(kinds: &[u8], operands: &[u8], dag: &mut [u32; 12331], left: usize, scope: usize, at: usize, node: usize, next: u32) -> Compiled
+pub fn compile_expression(
+    kinds: &[u8],
+    operands: &[u8],
+    dag: &mut [u32; 12331],
+    left: usize,
+    scope: usize,
+    at: usize,
+    node: usize,
+    next: u32,
+) -> Compiled
     requires { ⌜ Accepted left (now kinds) (now operands) scope at node ⌝ }
     ensures { λ r. ⌜ r ≡ compiled (reading left (now (kinds .entry)) (now (operands .entry)) scope at) node ⌝ }
     ensures { λ _. ⌜ now (dag .exit) ≡ stored (reading left (now (kinds .entry)) (now (operands .entry)) scope at) node next (now (dag .entry)) ⌝ }
@@ -26,17 +35,47 @@ pub fn compile_expression(kinds: &[u8], operands: &[u8], dag: &mut [u32; 12331],
     let kind = kinds[at];
     if kind == 0 {
         put(dag, node, [0, 0, 0, 0, 0, 0, 0, 0, 0, 0, 0, 0]);
-        return Compiled { at: at + 1, node: node + 1, root: node as u32 };
+        return Compiled {
+            at: at + 1,
+            node: node + 1,
+            root: node as u32,
+        };
     }
     if kind < 3 {
         let count = (operand(operands, at) / 65536) as usize;
         put(dag, node, call_words(kinds, operands, at, next));
-        return Compiled { at: at + 1 + count, node: node + 1, root: node as u32 };
+        return Compiled {
+            at: at + 1 + count,
+            node: node + 1,
+            root: node as u32,
+        };
     }
     let l = left_side(kind, scope, node, next);
-    let f = compile_expression(kinds, operands, dag, left - 1, l.scope, at + 1, l.first, l.next);
+    let f = compile_expression(
+        kinds,
+        operands,
+        dag,
+        left - 1,
+        l.scope,
+        at + 1,
+        l.first,
+        l.next,
+    );
     let r = right_side(kind, scope, node, f.node, next);
-    let g = compile_expression(kinds, operands, dag, left - 1, r.scope, f.at, r.first, r.next);
+    let g = compile_expression(
+        kinds,
+        operands,
+        dag,
+        left - 1,
+        r.scope,
+        f.at,
+        r.first,
+        r.next,
+    );
     put_own(dag, kind, scope, node, f.root, g.root, next);
-    Compiled { at: g.at, node: g.node, root: entered(kind, scope, node, f.root) }
+    Compiled {
+        at: g.at,
+        node: g.node,
+        root: entered(kind, scope, node, f.root),
+    }
 }
