@@ -9,3 +9,4 @@ pub mod Heads
 pub mod Taking
 pub mod OneNode
 pub mod TwoSides
+pub mod Sinks

@@ -33,7 +33,7 @@ params-length (suc w) [] = omega (arith, params-length w [])
 params-length (suc w) (variable x ∷ ps) = omega (arith, params-length w ps)
 params-length (suc w) (constant v ∷ ps) = omega (arith, params-length w ps)
 
-rows-append : (a b : List Node) → rowsOf (a ++ b) ≡ rowsOf a ++ rowsOf b
+pub rows-append : (a b : List Node) → rowsOf (a ++ b) ≡ rowsOf a ++ rowsOf b
 unfolding rowsOf
 rows-append [] b = refl
 rows-append (x ∷ a) b = rw (rows-append a b, append-assoc)

@@ -3,3 +3,4 @@ pub mod Parts
 pub mod Call
 pub mod Join
 pub mod Compiled
+pub mod Body
