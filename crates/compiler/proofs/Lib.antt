@@ -3,7 +3,8 @@ pub mod Stores
 pub mod Operand
 pub mod Places
 pub mod CallNode
-pub mod Sides
+pub mod Plans
+pub mod OwnRows
 pub mod Rows
 pub mod Heads
 pub mod Taking

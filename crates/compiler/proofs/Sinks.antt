@@ -17,7 +17,7 @@ use Rattle.compiler.specs.Body.{sinkOf, Sunk, sunk, Body, bodied, sunkRo
 use Rattle.compiler.specs.declared.expression.Compiled.{Compiled}
 use Rattle.compiler.proofs.Stores.{sets-append}
 use Rattle.compiler.proofs.Rows.{rows-append, rows-length}
-use Rattle.compiler.proofs.Sides.{words}
+use Rattle.compiler.proofs.OwnRows.{words}
 use Rattle.compiler.proofs.Taking.{accept, same}
 
 pub sink-goal : (goal : Bool) (a : ℕ) (d d' : List ℕ) → goal ≡ true → d' ≡ sets d a (words 9 0 0 0) → d' ≡ sets d a (nodeWords (sinkOf goal))

@@ -15,7 +15,7 @@ use Rattle.model.specs.Job.Read.{Got, Read, got, readExp}
 use Rattle.model.proofs.Job.Position.{exp-from}
 use Rattle.compiler.specs.Join.{joinOf, IsLeft, IsRight, entry}
 use Rattle.compiler.specs.Compiled.{reading, Accepted, compiled, stored}
-use Rattle.compiler.specs.declared.join.Side.{Side}
+use Rattle.compiler.specs.declared.plan.Plan.{Plan}
 use Rattle.compiler.specs.declared.expression.Compiled.{Compiled}
 use Rattle.compiler.proofs.Rows.{own-some, size-some, root-join, join-rows}
 use Rattle.compiler.proofs.Heads.{Joined, joined}
@@ -44,7 +44,7 @@ module _ {left : ℕ} {ks os : List ℕ} {s at n : ℕ} (t : Taken left ks os s 
       let f = t .fits in
       omega arith
 
-  module _ (k : ℕ) {l : Side} (el : IsLeft the-join s n k l) where
+  module _ (k : ℕ) {l : Plan} (el : IsLeft the-join s n k l) where
     read-left : reading (left - 1) ks os (l .scope) (at + 1) ≡ got (sides .left)
     read-left =
         subst (λ m. readExp (left - 1) (levels (l .scope)) m (drop m (entries ks os)) ≡ got (sides .left)) (sym (add-one at))
@@ -69,7 +69,7 @@ module _ {left : ℕ} {ks os : List ℕ} {s at n : ℕ} (t : Taken left ks os s 
       root-left : c .root ≡ root (sides .left .value) (firstLeft the-join n)
       root-left = ap (λ (x : Compiled). x .root) given
 
-      module _ {r : Side} (er : IsRight the-join s n (c .node) k r) where
+      module _ {r : Plan} (er : IsRight the-join s n (c .node) k r) where
         read-right : reading (left - 1) ks os (r .scope) (c .at) ≡ got (sides .right)
         read-right =
             let rest = exp-from (entries ks os) (left - 1) _ (suc at) _ (sides .left) refl (sides .read-left) .rest in

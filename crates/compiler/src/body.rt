@@ -7,6 +7,7 @@ ghost use Rattle.compiler.specs.Compiled.{reading};
 ghost use Rattle.compiler.specs.Body.{sinkOf, Body, bodied, sunkRows};
 use crate::expression::Compiled;
 use crate::expression::compile_expression;
+use crate::plan::Plan;
 use crate::store::put;
 
 // Stores the sink of the goal, or of a definition.
@@ -34,9 +35,15 @@ pub fn compile_body(
 ) -> Compiled
     requires { ⌜ Body (now kinds) (now operands) scope at node sink ⌝ }
     ensures { λ r. ⌜ r ≡ bodied (reading 24 (now (kinds .entry)) (now (operands .entry)) scope at) node ⌝ }
-    ensures { λ _. ⌜ now (dag .exit) ≡ sunkRows (reading 24 (now (kinds .entry)) (now (operands .entry)) scope at) goal node (now (dag .entry)) ⌝ }
+    ensures { λ _. ⌜ now (dag .exit) ≡ sunkRows (reading 24 (now (kinds .entry)) (now (operands .entry)) scope at)
+        goal node (now (dag .entry)) ⌝ }
 {
-    let body = compile_expression(kinds, operands, dag, 24, scope, at, node, sink as u32);
+    let plan = Plan {
+        scope: scope,
+        first: node,
+        next: sink as u32,
+    };
+    let body = compile_expression(kinds, operands, dag, 24, at, plan);
     put_sink(dag, sink, goal);
     Compiled {
         at: body.at,

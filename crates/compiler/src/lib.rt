@@ -4,4 +4,5 @@ pub mod call;
 pub mod entry;
 pub mod expression;
 pub mod join;
+pub mod plan;
 pub mod store;

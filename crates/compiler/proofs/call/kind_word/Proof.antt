@@ -1,29 +1,23 @@
+-- `call::kind_word` meets its contract: by whether the parameter is there. Assumes nothing.
 use borrow.Author.Needs.{needs}
 use Prim.Native.Nat.{_+_}
 use native.Mathlib.Omega.{arith}
 use Rattle.compiler.proofs.Places.{word-there, word-absent}
 use Rattle.compiler.proofs.call.kind_word.Statement.{statement}
 use Rattle.compiler.proofs.call.kind_word.Tie as tie
-use Rattle.compiler.proofs.call.kind_word.Reads as reads
-use Rattle.compiler.proofs.call.kind_word.Lts as lts
 
--- src/call.rt:18:17
 add-j : tie.Need-add-j
 add-j c = search needs
 
--- src/call.rt:19:16
 shared-slice-read-result : tie.Need-shared-slice-read-result
 shared-slice-read-result c = search needs
 
--- src/call.rt:19:16
 cast-result : tie.Need-cast-result
 cast-result c = let a = c .before .before .args in omega (arith, c .shared-slice-known .given (a .at + a .i))
 
--- src/call.rt:19:9
 returns : tie.Need-returns
 returns c = word-there _ _ _ (c .before .if1 .taken)
 
--- src/call.rt:13:1
 returns-2 : tie.Need-returns-2
 returns-2 c = word-absent _ _ _ (c .if1 .left)
 

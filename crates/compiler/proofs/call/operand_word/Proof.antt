@@ -1,25 +1,19 @@
+-- `call::operand_word` meets its contract: by whether the parameter is there. Assumes nothing.
 use borrow.Author.Needs.{needs}
 use mathlib.Core.Path.{_∙_}
 use Rattle.compiler.proofs.Places.{word-there, word-absent}
 use Rattle.compiler.proofs.call.operand_word.Statement.{statement}
 use Rattle.compiler.proofs.call.operand_word.Tie as tie
-use Rattle.compiler.proofs.call.operand_word.Reads as reads
-use Rattle.compiler.proofs.call.operand_word.Lts as lts
-use Rattle.compiler.proofs.entry.operand.Reads as operand-reads
 
--- src/call.rt:30:34
 add-operand : tie.Need-add-operand
 add-operand c = search needs
 
--- src/call.rt:30:9
 operand-requires : tie.Need-operand-requires
 operand-requires c κs = search needs
 
--- src/call.rt:30:9
 returns : tie.Need-returns
 returns c = c .operand .ensures ∙ word-there _ _ _ (c .before .if1 .taken)
 
--- src/call.rt:25:1
 returns-2 : tie.Need-returns-2
 returns-2 c = word-absent _ _ _ (c .if1 .left)
 

@@ -1,20 +1,22 @@
+-- `expression::compile_expression` meets its contract: a law for each outcome of the tests of the kind byte. It calls itself with one level of depth less. Assumes nothing.
 use Prim.Native.Nat.{ℕ, _<_}
 use borrow.Fn.Kinds.{In}
 use borrow.Fn.PlainCycle.{Measures, is, falls, and}
 use borrow.Author.Needs.{needs}
 use native.Mathlib.Omega.{arith}
-use Rattle.compiler.proofs.TwoSides.{own-room, accept-left, accept-right, join-done}
-use Rattle.compiler.proofs.OneNode.{stop-done, call-room, call-done}
 use Rattle.compiler.proofs.Taking.{taken}
+use Rattle.compiler.proofs.OneNode.{stop-done, call-room, call-done}
+use Rattle.compiler.proofs.TwoSides.{own-room, accept-left, accept-right, join-done}
 use Rattle.compiler.proofs.expression.compile_expression.Reads as reads
 use Rattle.compiler.proofs.expression.compile_expression.Kinds as kinds
 use Rattle.compiler.proofs.expression.+compile_expression.Lts-compile_expression as lts
 use Rattle.compiler.proofs.call.call_words.Reads as call-words-reads
 use Rattle.compiler.proofs.entry.operand.Reads as operand-reads
+use Rattle.compiler.proofs.expression.single.Reads as single-reads
 use Rattle.compiler.proofs.join.entered.Reads as entered-reads
-use Rattle.compiler.proofs.join.left_side.Reads as left-side-reads
 use Rattle.compiler.proofs.join.put_own.Reads as put-own-reads
-use Rattle.compiler.proofs.join.right_side.Reads as right-side-reads
+use Rattle.compiler.proofs.plan.left_plan.Reads as left-plan-reads
+use Rattle.compiler.proofs.plan.right_plan.Reads as right-plan-reads
 use Rattle.compiler.proofs.store.put.Reads as put-reads
 use Rattle.compiler.proofs.expression.+compile_expression.{statement}
 use Rattle.compiler.proofs.expression.+compile_expression.Tie.{close}
@@ -39,8 +41,26 @@ Below t =
     reads.Pre
 
 abbrev claims : ℕ → lts.Claims
-claims t =
-    (put-reads.Asked, put-reads.Learnt, operand-reads.Asked, operand-reads.Learnt, call-words-reads.Asked, call-words-reads.Learnt, left-side-reads.Asked, left-side-reads.Learnt, Below t, reads.Post, right-side-reads.Asked, right-side-reads.Learnt, put-own-reads.Asked, put-own-reads.Learnt, entered-reads.Asked, entered-reads.Learnt)
+claims t = (
+  put-reads.Asked,
+  put-reads.Learnt,
+  single-reads.Asked,
+  single-reads.Learnt,
+  operand-reads.Asked,
+  operand-reads.Learnt,
+  call-words-reads.Asked,
+  call-words-reads.Learnt,
+  left-plan-reads.Asked,
+  left-plan-reads.Learnt,
+  Below t,
+  reads.Post,
+  right-plan-reads.Asked,
+  right-plan-reads.Learnt,
+  put-own-reads.Asked,
+  put-own-reads.Learnt,
+  entered-reads.Asked,
+  entered-reads.Learnt,
+)
 
 shared-slice-read-kind : (t : ℕ) → lts.Need-shared-slice-read-kind (claims t) (At t) reads.Post
 shared-slice-read-kind t c = search needs
@@ -48,17 +68,16 @@ shared-slice-read-kind t c = search needs
 put-requires : (t : ℕ) → lts.Need-put-requires (claims t) (At t) reads.Post
 put-requires t c κs = search needs
 
-add-t21 : (t : ℕ) → lts.Need-add-t21 (claims t) (At t) reads.Post
-add-t21 t c = search needs
+add-single : (t : ℕ) → lts.Need-add-single (claims t) (At t) reads.Post
+add-single t c = search needs
 
-add-t22 : (t : ℕ) → lts.Need-add-t22 (claims t) (At t) reads.Post
-add-t22 t c = search needs
-
-cast-t23 : (t : ℕ) → lts.Need-cast-t23 (claims t) (At t) reads.Post
-cast-t23 t c = search needs
+single-requires : (t : ℕ) → lts.Need-single-requires (claims t) (At t) reads.Post
+single-requires t c κs = search needs
 
 returns : (t : ℕ) → lts.Need-returns (claims t) (At t) reads.Post
-returns t c = stop-done (taken (c .before .before .before .before .before .before .pre .1)) _ _ _ (c .before .before .if1 .taken) (c .put .ensures)
+returns t c =
+    let start = c .before .before .before .before .before .before .before in
+    stop-done (taken (start .pre .1)) _ _ _ _ (c .before .before .before .if1 .taken) (c .single .ensures) (c .before .put .ensures)
 
 operand-requires : (t : ℕ) → lts.Need-operand-requires (claims t) (At t) reads.Post
 operand-requires t c κs = search needs
@@ -67,29 +86,38 @@ cast-count : (t : ℕ) → lts.Need-cast-count (claims t) (At t) reads.Post
 cast-count t c = search needs
 
 call-words-requires : (t : ℕ) → lts.Need-call-words-requires (claims t) (At t) reads.Post
-call-words-requires t c κs = (search needs, call-room (taken (c .before .before .before .before .before .before .before .pre .1)) (λ i. omega (arith, c .before .before .before .before .before .shared-slice-known2 .given i)) (c .before .before .before .if1 .left) (c .before .before .if2 .taken))
+call-words-requires t c κs =
+    let call = c .before .before in
+    let known = call .before .before .before in
+    let start = known .before .before in (
+      search needs,
+      call-room (taken (start .pre .1)) (λ i. omega (arith, known .shared-slice-known2 .given i)) (call .before .if1 .left) (call .if2 .taken),
+    )
 
 put-requires-2 : (t : ℕ) → lts.Need-put-requires-2 (claims t) (At t) reads.Post
 put-requires-2 t c κs = search needs
 
-add-t29 : (t : ℕ) → lts.Need-add-t29 (claims t) (At t) reads.Post
-add-t29 t c = search needs
+add-single-2 : (t : ℕ) → lts.Need-add-single-2 (claims t) (At t) reads.Post
+add-single-2 t c = search needs
 
-add-t30 : (t : ℕ) → lts.Need-add-t30 (claims t) (At t) reads.Post
-add-t30 t c = search needs
+add-single-3 : (t : ℕ) → lts.Need-add-single-3 (claims t) (At t) reads.Post
+add-single-3 t c = search needs
 
-add-t31 : (t : ℕ) → lts.Need-add-t31 (claims t) (At t) reads.Post
-add-t31 t c = search needs
-
-cast-t24 : (t : ℕ) → lts.Need-cast-t24 (claims t) (At t) reads.Post
-cast-t24 t c = search needs
+single-requires-2 : (t : ℕ) → lts.Need-single-requires-2 (claims t) (At t) reads.Post
+single-requires-2 t c κs = search needs
 
 returns-2 : (t : ℕ) → lts.Need-returns-2 (claims t) (At t) reads.Post
-returns-2 t c = call-done (taken (c .before .before .before .before .before .before .before .before .before .pre .1)) (λ i. omega (arith, c .before .before .before .before .before .before .before .shared-slice-known2 .given i)) (c .before .before .before .before .before .if1 .left) (c .before .before .before .before .if2 .taken)
-    _ _ _ _ _ (c .before .before .before .operand .ensures) (c .before .call-words .ensures) (c .put2 .ensures)
+returns-2 t c =
+    let words = c .before .before in
+    let head = words .before .before in
+    let call = head .before in
+    let known = call .before .before .before in
+    let start = known .before .before in
+    call-done (taken (start .pre .1)) (λ i. omega (arith, known .shared-slice-known2 .given i)) (call .before .if1 .left) (call .if2 .taken)
+    _ _ _ _ _ _ (head .operand .ensures) (words .call-words .ensures) (c .single2 .ensures) (c .before .put2 .ensures)
 
-left-side-requires : (t : ℕ) → lts.Need-left-side-requires (claims t) (At t) reads.Post
-left-side-requires t c κs = search needs
+left-plan-requires : (t : ℕ) → lts.Need-left-plan-requires (claims t) (At t) reads.Post
+left-plan-requires t c κs = search needs
 
 sub-compile-expression : (t : ℕ) → lts.Need-sub-compile-expression (claims t) (At t) reads.Post
 sub-compile-expression t c = search needs
@@ -98,26 +126,50 @@ add-compile-expression : (t : ℕ) → lts.Need-add-compile-expression (claims t
 add-compile-expression t c = search needs
 
 compile-expression-requires : (t : ℕ) → lts.Need-compile-expression-requires (claims t) (At t) reads.Post
-compile-expression-requires t c κs = (omega arith, accept-left (taken (c .before .before .before .before .before .before .before .pre .1)) (c .before .before .if2 .left) _ (c .before .left-side .ensures))
+compile-expression-requires t c κs =
+    let test = c .before .before in
+    let start = test .before .before .before .before .before in
+    (omega arith, accept-left (taken (start .pre .1)) (test .if2 .left) _ (c .before .left-plan .ensures))
 
-right-side-requires : (t : ℕ) → lts.Need-right-side-requires (claims t) (At t) reads.Post
-right-side-requires t c κs = search needs
+right-plan-requires : (t : ℕ) → lts.Need-right-plan-requires (claims t) (At t) reads.Post
+right-plan-requires t c κs = search needs
 
 sub-compile-expression-2 : (t : ℕ) → lts.Need-sub-compile-expression-2 (claims t) (At t) reads.Post
 sub-compile-expression-2 t c = search needs
 
 compile-expression-requires-2 : (t : ℕ) → lts.Need-compile-expression-requires-2 (claims t) (At t) reads.Post
-compile-expression-requires-2 t c κs = (omega arith, accept-right (taken (c .before .before .before .before .before .before .before .before .before .before .pre .1)) (c .before .before .before .before .before .if2 .left) _ (c .before .before .before .before .left-side .ensures) (c .before .before .compile-expression .ensures .0) (c .before .right-side .ensures))
+compile-expression-requires-2 t c κs =
+    let r = c .before in
+    let f = r .before in
+    let l = f .before .before in
+    let test = l .before in
+    let start = test .before .before .before .before .before in (
+      omega arith,
+      accept-right (taken (start .pre .1)) (test .if2 .left) _ (l .left-plan .ensures) (f .compile-expression .ensures .0) (r .right-plan .ensures),
+    )
 
 put-own-requires : (t : ℕ) → lts.Need-put-own-requires (claims t) (At t) reads.Post
-put-own-requires t c κs = (c .before .before .before .before .before .before .before .before .before .before .before .before .pre .1 .scoped, own-room (taken (c .before .before .before .before .before .before .before .before .before .before .before .before .pre .1)) (c .before .before .before .before .before .before .before .if2 .left))
+put-own-requires t c κs =
+    let test = c .before .before .before .before .before .before .before in
+    let start = test .before .before .before .before .before in
+    (start .pre .1 .scoped, own-room (taken (start .pre .1)) (test .if2 .left))
 
 entered-requires : (t : ℕ) → lts.Need-entered-requires (claims t) (At t) reads.Post
-entered-requires t c κs = c .before .before .before .before .before .before .before .before .before .before .before .before .before .pre .1 .low
+entered-requires t c κs =
+    c .before .before .before .before .before .before .before .before .before .before .before .before .before .pre .1 .low
 
 returns-3 : (t : ℕ) → lts.Need-returns-3 (claims t) (At t) reads.Post
-returns-3 t c = join-done (taken (c .before .before .before .before .before .before .before .before .before .before .before .before .before .before .pre .1)) (c .before .before .before .before .before .before .before .before .before .if2 .left) _ (c .before .before .before .before .before .before .before .before .left-side .ensures) (c .before .before .before .before .before .before .compile-expression .ensures .0) (c .before .before .before .before .before .right-side .ensures)
-    (c .before .before .before .compile-expression2 .ensures .0) _ _ _ _ _ (c .entered .ensures) (c .before .before .before .before .before .before .compile-expression .ensures .1) (c .before .before .before .compile-expression2 .ensures .1) (c .before .put-own .ensures)
+returns-3 t c =
+    let own = c .before in
+    let g = own .before .before in
+    let r = g .before .before in
+    let f = r .before in
+    let l = f .before .before in
+    let test = l .before in
+    let start = test .before .before .before .before .before in
+    join-done (taken (start .pre .1)) (test .if2 .left) _ (l .left-plan .ensures) (f .compile-expression .ensures .0) (r .right-plan .ensures)
+    (g .compile-expression2 .ensures .0) _ _ _ _ _ (c .entered .ensures) (f .compile-expression .ensures .1) (g .compile-expression2 .ensures .1)
+    (own .put-own .ensures)
 
 pub +compile-expression-spec : {M : Type 1} → statement M
 +compile-expression-spec = close μ λ t. lts.spec (claims t)
@@ -125,24 +177,22 @@ pub +compile-expression-spec : {M : Type 1} → statement M
     reads.Post
     (shared-slice-read-kind t)
     (put-requires t)
-    (add-t21 t)
-    (add-t22 t)
-    (cast-t23 t)
+    (add-single t)
+    (single-requires t)
     (returns t)
     (operand-requires t)
     (cast-count t)
     (call-words-requires t)
     (put-requires-2 t)
-    (add-t29 t)
-    (add-t30 t)
-    (add-t31 t)
-    (cast-t24 t)
+    (add-single-2 t)
+    (add-single-3 t)
+    (single-requires-2 t)
     (returns-2 t)
-    (left-side-requires t)
+    (left-plan-requires t)
     (sub-compile-expression t)
     (add-compile-expression t)
     (compile-expression-requires t)
-    (right-side-requires t)
+    (right-plan-requires t)
     (sub-compile-expression-2 t)
     (compile-expression-requires-2 t)
     (put-own-requires t)

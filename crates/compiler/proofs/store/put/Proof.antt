@@ -1,3 +1,4 @@
+-- `store::put` meets its contract: each turn stores one more word: so far the first `i` words are stored. What is left of the twelve falls. Assumes nothing.
 use Prim.Native.Nat.{_-_, _≤_}
 use mathlib.Core.Path.{_≡_, refl}
 use lib.ListN.{take}
@@ -7,8 +8,6 @@ use native.Mathlib.Omega.{arith}
 use Rattle.compiler.proofs.Stores.{put-more, put-done}
 use Rattle.compiler.proofs.store.put.Statement.{statement}
 use Rattle.compiler.proofs.store.put.Tie as tie
-use Rattle.compiler.proofs.store.put.Reads as reads
-use Rattle.compiler.proofs.store.put.Lts as lts
 
 abbrev Inv-loop : tie.InvT-loop
 Inv-loop dag₀ node words base i₀ dag i = (i ≤ 12) × (dag ≡ sets dag₀ base (take i words))
@@ -16,51 +15,39 @@ Inv-loop dag₀ node words base i₀ dag i = (i ≤ 12) × (dag ≡ sets dag₀ 
 abbrev μ-loop : tie.MeasureT-loop
 μ-loop dag₀ node words base i₀ dag i = 12 - i
 
--- src/store.rt:12:21
 mul-base : tie.Need-mul-base Inv-loop μ-loop
 mul-base c = search needs
 
--- src/store.rt:12:16
 add-base : tie.Need-add-base Inv-loop μ-loop
 add-base c = search needs
 
--- src/store.rt:14:5
 loop-holds : tie.Need-loop-holds Inv-loop μ-loop
 loop-holds c = (search needs, refl)
 
--- src/store.rt:15:25
 mul-dag : tie.Need-mul-dag Inv-loop μ-loop
 mul-dag c = search needs
 
--- src/store.rt:15:25
 array-read-dag : tie.Need-array-read-dag Inv-loop μ-loop
 array-read-dag c = search needs
 
--- src/store.rt:15:13
 add-dag : tie.Need-add-dag Inv-loop μ-loop
 add-dag c = search needs
 
--- src/store.rt:15:9
 mul-dag-2 : tie.Need-mul-dag-2 Inv-loop μ-loop
 mul-dag-2 c = search needs
 
--- src/store.rt:15:9
 element-write-dag : tie.Need-element-write-dag Inv-loop μ-loop
 element-write-dag c = omega arith
 
--- src/store.rt:16:9
 add-i : tie.Need-add-i Inv-loop μ-loop
 add-i c = search needs
 
--- src/store.rt:14:5
 loop-less : tie.Need-loop-less Inv-loop μ-loop
 loop-less c = search needs
 
--- src/store.rt:14:5
 loop-again : tie.Need-loop-again Inv-loop μ-loop
 loop-again c = (search needs, search put-more)
 
--- src/store.rt:8:1
 returns : tie.Need-returns Inv-loop μ-loop
 returns c = search put-done
 
