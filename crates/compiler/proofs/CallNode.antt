@@ -1,13 +1,11 @@
 -- The words off a call's entries are the words of the node of the call that is read from them: a parameter's words are its entry's kind and
 -- operand, since an operand of 32 bits, read as a signed value, is that value's 32 bits. Assumes nothing.
-use Prim.Native.Nat.{ℕ, zero, suc, _+_, _*_, _-_, _^_, _<_, _≤_}
+use Prim.Native.Nat.{ℕ, zero, suc, _+_, _-_, _^_, _<_, _≤_}
 use mathlib.Core.Path.{_≡_, refl, sym, ap, subst, _∙_}
-use mathlib.Core.Logic.{_⊎_, inl, inr}
 use mathlib.Core.Bool.{Bool, true, false}
 use mathlib.Core.List.{List, [], _∷_}
 use native.Mathlib.Decide.{decLt}
-use native.Mathlib.Nat.{add-zero, sub-zero}
-use native.Mathlib.Numerals.{add-one}
+use native.Mathlib.Nat.{sub-zero}
 use native.Mathlib.Omega.{arith}
 use lib.ListN.{length, getD, drop}
 use lib.Dec.{ltb}
@@ -17,10 +15,11 @@ use Rattle.model.specs.Job.Entry.{Entry, entry, entries, low, high, kindOf}
 use Rattle.model.specs.Job.Syntax.{Param, variable, constant}
 use Rattle.model.specs.Job.Node.{Node}
 use Rattle.model.specs.Job.Words.{paramWords, nodeWords}
-use Rattle.model.specs.Job.Read.{Got, Read, got, _>>=_, gives, need, entryAt, readParam, readParams}
+use Rattle.model.specs.Job.Read.{Got, got, _>>=_, gives, need, entryAt, readParam, readParams}
 use Rattle.model.proofs.Test.{not-ltb-le, ltb-lt}
 use Rattle.model.proofs.Job.Position.{operandAt, entries-at, entries-end, bind-got, refused-got}
 use Rattle.compiler.specs.Call.{wordIf, placeWords, callWords}
+use Rattle.compiler.proofs.Reread.{reread}
 
 signed-unsigned : (n : ℕ) → n < 2 ^ 32 → unsigned (signed n) ≡ n
 unfolding signed unsigned
@@ -84,10 +83,9 @@ module _ (ks os : List ℕ) (small : (at : ℕ) → operandAt os at < 2 ^ 32) (s
       go : Dec (e < length ks) → First n e g
       go (yes l) =
           let t = drop (suc e) (entries ks os) in
-          let x = entry (getD ks e 0) (operandAt os e) in
           let p = bind-got (readParam scope e (drop e (entries ks os))) _ g r in
           let k : Taken (getD ks e 0) (operandAt os e) e t (p .0) =
-          param-taken scope e (operandAt os e) t (p .0) (small e) (getD ks e 0) (ap (λ es. readParam scope e es) (sym (entries-at ks os e l)) ∙ p .1) in
+          param-taken scope e (operandAt os e) t (p .0) (small e) (getD ks e 0) (reread readParam refl refl (entries-at ks os e l) (p .1)) in
           let ps = bind-got (readParams n scope (p .0 .next) (p .0 .rest)) _ g (p .2) in
           record {
             here = l;
@@ -95,12 +93,12 @@ module _ (ks os : List ℕ) (small : (at : ℕ) → operandAt os at < 2 ^ 32) (s
             others = ps .0;
             value = cc;
             next = cc;
-            again = subst (λ q. readParams n scope (suc e) q ≡ got (ps .0)) (k .rest) (subst (λ m. readParams n scope m (p .0 .rest) ≡ got (ps .0)) (k .next) (ps .1));
+            again = reread (readParams n) refl (k .next) (k .rest) (ps .1);
             words = λ w qs. k .words w qs;
           }
       go (no f) =
           let p = bind-got (readParam scope e (drop e (entries ks os))) _ g r in
-          none-left scope e (p .0) (ap (λ es. readParam scope e es) (sym (entries-end ks os e (omega arith))) ∙ p .1)
+          none-left scope e (p .0) (reread readParam refl refl (entries-end ks os e (omega arith)) (p .1))
 
   -- so many parameters end so many entries on
   pub record Ended (n e : ℕ) (g : Got (List Param)) : Type 0 where

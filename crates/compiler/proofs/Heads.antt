@@ -1,5 +1,5 @@
 -- What an accepted expression is, by the kind byte of its first entry. Assumes nothing.
-use Prim.Native.Nat.{ℕ, zero, suc, _+_, _*_, _-_, _<_, _≤_}
+use Prim.Native.Nat.{ℕ, zero, suc, _-_, _<_, _≤_}
 use mathlib.Core.Path.{_≡_, refl, sym, ap, subst, _∙_}
 use mathlib.Core.Logic.{_⊎_, inl, inr}
 use mathlib.Core.Bool.{Bool, true, false, not}
@@ -15,6 +15,7 @@ use Rattle.model.specs.Job.Read.{Got, Read, got, refused, _>>=_, gives, need, e
 use Rattle.model.proofs.Test.{ltb-lt}
 use Rattle.model.proofs.Job.Position.{operandAt, entries-at, entries-end, bind-got, refused-got}
 use Rattle.compiler.specs.Join.{joinBy, joinOf}
+use Rattle.compiler.proofs.Reread.{reread}
 
 -- at most eight variables are in scope in either side
 pub record Few (j : Join) (scope : List ℕ) : Type 0 where
@@ -111,9 +112,9 @@ headed (suc left) ks os scope at g few r = go (decLt at (length ks))
           deep = omega arith;
           here = l;
           head = subst (λ m. Head (readExp m) scope (operandAt os at) (suc at) (drop (suc at) (entries ks os)) g (getD ks at 0)) (sym z)
-              (by-kind left scope (operandAt os at) at _ g few (getD ks at 0) (ap (λ q. readExp (suc left) scope at q) (sym (entries-at ks os at l)) ∙ r));
+              (by-kind left scope (operandAt os at) at _ g few (getD ks at 0) (reread (readExp (suc left)) refl refl (entries-at ks os at l) r));
         }
-    go (no f) = none-here (suc left) scope at g (ap (λ q. readExp (suc left) scope at q) (sym (entries-end ks os at (omega arith))) ∙ r)
+    go (no f) = none-here (suc left) scope at g (reread (readExp (suc left)) refl refl (entries-end ks os at (omega arith)) r)
 
 module _ {side : List ℕ → ℕ → List Entry → Read Exp} {scope : List ℕ} {o e : ℕ} {l : List Entry} {g : Got Exp} where
   pub stops : {k : ℕ} → Head side scope o e l g k → k ≡ 0 → (g .value ≡ stop) × (g .next ≡ e)
@@ -130,7 +131,8 @@ pub record Called (scope : List ℕ) (o e : ℕ) (l : List Entry) (g : Got Exp) 
   pub which : ((k ≡ 1) × (g .value ≡ site (low o) (params .value))) ⊎ ((k ≡ 2) × (g .value ≡ call (low o) (params .value)))
 
 -- a join: its two sides
-pub record Joined (side : List ℕ → ℕ → List Entry → Read Exp) (scope : List ℕ) (e : ℕ) (l : List Entry) (g : Got Exp) (j : Join) : Type 0 where
+pub record Joined (side : List ℕ → ℕ → List Entry → Read Exp) (scope : List ℕ) (e : ℕ) (l : List Entry) (g : Got Exp) (j : Join)
+    : Type 0 where
   pub few : Few j scope
   pub left : Got Exp
   pub right : Got Exp

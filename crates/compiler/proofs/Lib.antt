@@ -1,6 +1,7 @@
--- Laws that the compiler's proofs share.
+-- Laws that the compiler's proofs share, from the dag's words to whole expressions.
 pub mod Stores
 pub mod Operand
+pub mod Reread
 pub mod Places
 pub mod CallNode
 pub mod Plans

@@ -13,7 +13,8 @@ use Rattle.compiler.proofs.Stores.{sets-append}
 use Rattle.compiler.proofs.Plans.{join-par, join-seq, join-prune}
 
 -- the row of one node, and of one node before others
-row-last : (d d' : List ℕ) (n : ℕ) (x : Node) → d' ≡ sets d (headWords + 12 * n) (nodeWords x) → d' ≡ sets d (headWords + 12 * n) (rowsOf (x ∷ []))
+row-last : (d d' : List ℕ) (n : ℕ) (x : Node) → d' ≡ sets d (headWords + 12 * n) (nodeWords x)
+    → d' ≡ sets d (headWords + 12 * n) (rowsOf (x ∷ []))
 unfolding rowsOf
 row-last d d' n x e = e ∙ sym (sets-append d (headWords + 12 * n) (nodeWords x) [])
 

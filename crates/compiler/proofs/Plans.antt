@@ -6,7 +6,7 @@ use native.Mathlib.Numerals.{add-one}
 use Rattle.model.specs.Job.Syntax.{par, seq, prune, levels, scopeLeft, scopeRight}
 use Rattle.model.specs.Job.Construct.{own, nextLeft, nextRight}
 use Rattle.model.proofs.Test.{eq-eqb, ne-eqb}
-use Rattle.compiler.specs.Join.{joinBy, joinOf, IsLeft, IsRight, entry}
+use Rattle.compiler.specs.Join.{joinBy, joinOf, IsLeft, IsRight, joinRoot}
 
 module _ (kind x : ℕ) where
   pub join-par : kind ≡ 3 → joinOf kind x ≡ par
@@ -52,14 +52,14 @@ module _ (kind s n k : ℕ) where
     unfolding scopeRight nextRight
     right-prune f e = rw (join-prune kind s f e) (record { scoped = refl; begins = refl; goes = refl })
 
-  pub entry-par : kind ≡ 3 → n ≡ entry (joinOf kind s) n k
-  unfolding entry
-  entry-par e = rw (join-par kind s e) refl
+  pub root-par : kind ≡ 3 → n ≡ joinRoot (joinOf kind s) n k
+  unfolding joinRoot
+  root-par e = rw (join-par kind s e) refl
 
-  pub entry-seq : (kind ≡ 3 → ⊥) → kind ≡ 4 → k ≡ entry (joinOf kind s) n k
-  unfolding entry
-  entry-seq f e = rw (join-seq kind s f e) refl
+  pub root-seq : (kind ≡ 3 → ⊥) → kind ≡ 4 → k ≡ joinRoot (joinOf kind s) n k
+  unfolding joinRoot
+  root-seq f e = rw (join-seq kind s f e) refl
 
-  pub entry-prune : (kind ≡ 3 → ⊥) → (kind ≡ 4 → ⊥) → n ≡ entry (joinOf kind s) n k
-  unfolding entry
-  entry-prune f e = rw (join-prune kind s f e) refl
+  pub root-prune : (kind ≡ 3 → ⊥) → (kind ≡ 4 → ⊥) → n ≡ joinRoot (joinOf kind s) n k
+  unfolding joinRoot
+  root-prune f e = rw (join-prune kind s f e) refl

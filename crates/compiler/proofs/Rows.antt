@@ -1,6 +1,6 @@
 -- The rows of an expression's nodes: twelve words a node, and a join's own rows, then f's, then g's. They may be stored in any order, since
 -- they lie behind each other. Assumes nothing.
-use Prim.Native.Nat.{ℕ, zero, suc, _+_, _*_, _<_, _≤_}
+use Prim.Native.Nat.{ℕ, zero, suc, _+_, _*_, _≤_}
 use mathlib.Core.Path.{_≡_, refl, sym, ap, _∙_}
 use mathlib.Core.List.{List, [], _∷_, _++_, append-assoc}
 use native.Mathlib.Omega.{arith}
@@ -10,7 +10,7 @@ use Rattle.model.specs.Job.Syntax.{Param, variable, constant, Join, par, seq, p
 use Rattle.model.specs.Job.Node.{Node}
 use Rattle.model.specs.Job.Construct.{own, size, root, firstLeft, firstRight, nextLeft, nextRight, ownNodes, nodesOf}
 use Rattle.model.specs.Job.Words.{headWords, paramWords, nodeWords, rowsOf}
-use Rattle.compiler.specs.Join.{entry}
+use Rattle.compiler.specs.Join.{joinRoot}
 use Rattle.compiler.proofs.Stores.{sets-append, sets-swap}
 
 pub own-some : (j : Join) → 1 ≤ own j
@@ -51,8 +51,8 @@ rows-length (site s ps) n k = simp (length-append, params-length)
 rows-length (call d ps) n k = simp (length-append, params-length)
 rows-length (join j f g) n k = simp (rows-append, length-append, own-length, rows-length f, rows-length g) (omega arith)
 
-pub root-join : (j : Join) (f g : Exp) (n : ℕ) → root (join j f g) n ≡ entry j n (root f (firstLeft j n))
-unfolding root entry own
+pub root-join : (j : Join) (f g : Exp) (n : ℕ) → root (join j f g) n ≡ joinRoot j n (root f (firstLeft j n))
+unfolding root joinRoot own
 root-join par f g n = refl
 root-join (seq x) f g n = refl
 root-join (prune x) f g n = refl

@@ -1,5 +1,5 @@
 -- What an accepted expression is that has room, and what is to be shown of compiling it. Assumes nothing.
-use Prim.Native.Nat.{ℕ, zero, suc, _+_, _*_, _-_, _<_, _≤_}
+use Prim.Native.Nat.{ℕ, zero, suc, _+_, _-_, _<_, _≤_}
 use mathlib.Core.Path.{_≡_, refl, sym, ap, subst, _∙_}
 use mathlib.Core.List.{List}
 use native.Mathlib.Omega.{arith}
@@ -40,7 +40,8 @@ accept left ks os s at n g p few r h =
     }
 
 -- a result by its parts
-pub same : {a a' b b' c c' : ℕ} → a ≡ a' → b ≡ b' → c ≡ c' → _≡_ {A = Compiled} (record { at = a; node = b; root = c }) (record { at = a'; node = b'; root = c' })
+pub same : {a a' b b' c c' : ℕ} → a ≡ a' → b ≡ b' → c ≡ c'
+    → _≡_ {A = Compiled} (record { at = a; node = b; root = c }) (record { at = a'; node = b'; root = c' })
 same p q r = cc
 
 -- what is read, and what is known of it

@@ -8,15 +8,16 @@ use native.Mathlib.Omega.{arith}
 use lib.ListN.{length, getD, drop}
 use lib.Seq.{sets}
 use Rattle.model.specs.Job.Entry.{entries}
-use Rattle.model.specs.Job.Syntax.{Join, Exp, join, levels, scopeLeft, scopeRight}
+use Rattle.model.specs.Job.Syntax.{Join, levels}
 use Rattle.model.specs.Job.Construct.{own, size, root, firstLeft, firstRight, nextLeft, nextRight, ownNodes, nodesOf}
 use Rattle.model.specs.Job.Words.{headWords, rowsOf}
-use Rattle.model.specs.Job.Read.{Got, Read, got, readExp}
+use Rattle.model.specs.Job.Read.{got, readExp}
 use Rattle.model.proofs.Job.Position.{exp-from}
-use Rattle.compiler.specs.Join.{joinOf, IsLeft, IsRight, entry}
+use Rattle.compiler.specs.Join.{joinOf, IsLeft, IsRight, joinRoot}
 use Rattle.compiler.specs.Compiled.{reading, Accepted, compiled, stored}
 use Rattle.compiler.specs.declared.plan.Plan.{Plan}
 use Rattle.compiler.specs.declared.expression.Compiled.{Compiled}
+use Rattle.compiler.proofs.Reread.{reread}
 use Rattle.compiler.proofs.Rows.{own-some, size-some, root-join, join-rows}
 use Rattle.compiler.proofs.Heads.{Joined, joined}
 use Rattle.compiler.proofs.Taking.{levels-length, accept, same, Taken, Done, done}
@@ -47,8 +48,8 @@ module _ {left : ℕ} {ks os : List ℕ} {s at n : ℕ} (t : Taken left ks os s 
   module _ (k : ℕ) {l : Plan} (el : IsLeft the-join s n k l) where
     read-left : reading (left - 1) ks os (l .scope) (at + 1) ≡ got (sides .left)
     read-left =
-        subst (λ m. readExp (left - 1) (levels (l .scope)) m (drop m (entries ks os)) ≡ got (sides .left)) (sym (add-one at))
-        (subst (λ v. readExp (left - 1) v (suc at) (drop (suc at) (entries ks os)) ≡ got (sides .left)) (sym (el .scoped)) (sides .read-left))
+        let e = sym (add-one at) in
+        reread (readExp (left - 1)) (sym (el .scoped)) e (ap (λ m. drop m (entries ks os)) e) (sides .read-left)
 
     pub accept-left : Accepted (left - 1) ks os (l .scope) (at + 1) (l .first)
     accept-left =
@@ -73,9 +74,8 @@ module _ {left : ℕ} {ks os : List ℕ} {s at n : ℕ} (t : Taken left ks os s 
         read-right : reading (left - 1) ks os (r .scope) (c .at) ≡ got (sides .right)
         read-right =
             let rest = exp-from (entries ks os) (left - 1) _ (suc at) _ (sides .left) refl (sides .read-left) .rest in
-            subst (λ m. readExp (left - 1) (levels (r .scope)) m (drop m (entries ks os)) ≡ got (sides .right)) (sym (ap (λ (x : Compiled). x .at) given))
-            (subst (λ v. readExp (left - 1) v (sides .left .next) (drop (sides .left .next) (entries ks os)) ≡ got (sides .right)) (sym (er .scoped))
-            (subst (λ v. readExp (left - 1) (scopeRight the-join (levels s)) (sides .left .next) v ≡ got (sides .right)) rest (sides .read-right)))
+            let e = sym (ap (λ (x : Compiled). x .at) given) in
+            reread (readExp (left - 1)) (sym (er .scoped)) e (rest ∙ ap (λ m. drop m (entries ks os)) e) (sides .read-right)
 
         pub accept-right : Accepted (left - 1) ks os (r .scope) (c .at) (r .first)
         accept-right =
@@ -91,16 +91,17 @@ module _ {left : ℕ} {ks os : List ℕ} {s at n : ℕ} (t : Taken left ks os s 
           last : q ≡ compiled (got (sides .right)) (firstRight the-join (sides .left .value) n)
           last = eq ∙ ap₂ (λ r m. compiled r m) read-right (er .begins ∙ node-left)
 
-          result : (x : ℕ) → x ≡ entry the-join n (c .root)
+          result : (x : ℕ) → x ≡ joinRoot the-join n (c .root)
               → _≡_ {A = Compiled} (record { at = q .at; node = q .node; root = x }) (compiled (got (t .it)) n)
           result x e =
-              let a : q .node ≡ firstRight the-join (sides .left .value) n + size (sides .right .value) = ap (λ (y : Compiled). y .node) last in
+              let a : q .node ≡ firstRight the-join (sides .left .value) n + size (sides .right .value) =
+              ap (λ (y : Compiled). y .node) last in
               let w = whole in
               same (ap (λ (y : Compiled). y .at) last ∙ sym (sides .next)) (omega arith)
-              (e ∙ ap (λ m. entry the-join n m) root-left ∙ sym (root-join the-join (sides .left .value) (sides .right .value) n)
+              (e ∙ ap (λ m. joinRoot the-join n m) root-left ∙ sym (root-join the-join (sides .left .value) (sides .right .value) n)
               ∙ ap (λ y. root y n) (sym (sides .value)))
 
-          pub join-done : (x : ℕ) (d d1 d2 d3 : List ℕ) → x ≡ entry the-join n (c .root)
+          pub join-done : (x : ℕ) (d d1 d2 d3 : List ℕ) → x ≡ joinRoot the-join n (c .root)
               → d1 ≡ stored (reading (left - 1) ks os (l .scope) (at + 1)) (l .first) (l .next) d
               → d2 ≡ stored (reading (left - 1) ks os (r .scope) (c .at)) (r .first) (r .next) d1
               → d3 ≡ sets d2 (headWords + 12 * n) (rowsOf (ownNodes the-join (c .root) (q .root) k))

@@ -24,19 +24,19 @@ pub data Sunk : Read Exp → (n sink : ℕ) → Type 0 where
   sunk : {g : Got Exp} {n sink : ℕ} → sink ≡ n + size (g .value) → Sunk (got g) n sink
 
 -- what is asked of a body's entries: its sink's number is known
-pub record Body (ks os : List ℕ) (scope at n sink : ℕ) : Type 0 where
+pub record BodyAccepted (ks os : List ℕ) (scope at n sink : ℕ) : Type 0 where
   pub parts : Parts ks os
   pub scoped : scope ≤ 8
   pub below : sink < 1022
   pub sinks : Sunk (reading 24 ks os scope at) n sink
 
 -- the entry behind the body, the node behind its sink, and its root. (A refused reading is not asked about.)
-abbrev pub bodied : Read Exp → (n : ℕ) → Compiled
-bodied (got g) n = record { at = g .next; node = suc (n + size (g .value)); root = root (g .value) n }
-bodied (refused i e) n = record { at = e; node = n; root = n }
+abbrev pub compiledBody : Read Exp → (n : ℕ) → Compiled
+compiledBody (got g) n = record { at = g .next; node = suc (n + size (g .value)); root = root (g .value) n }
+compiledBody (refused i e) n = record { at = e; node = n; root = n }
 
 -- the dag's words with the rows of the body's nodes, numbered from n, and of its sink
-abbrev pub sunkRows : Read Exp → (goal : Bool) (n : ℕ) → List ℕ → List ℕ
-sunkRows (got g) goal n d =
+abbrev pub storedBody : Read Exp → (goal : Bool) (n : ℕ) → List ℕ → List ℕ
+storedBody (got g) goal n d =
     sets d (headWords + 12 * n) (rowsOf (nodesOf (g .value) n (n + size (g .value)) ++ (sinkOf goal ∷ [])))
-sunkRows (refused i e) goal n d = d
+storedBody (refused i e) goal n d = d

@@ -31,7 +31,7 @@ abbrev pub IsRight : (j : Join) → (scope n m k : ℕ) → Plan → Type 0
 IsRight j scope n m k r = IsPlan r (scopeRight j (levels scope)) m (nextRight j n k)
 
 -- where a join is entered: n is its first node, l the root of its f
-unfoldable pub entry : Join → (n l : ℕ) → ℕ
-entry par n l = n
-entry (seq x) n l = l
-entry (prune x) n l = n
+unfoldable pub joinRoot : Join → (n l : ℕ) → ℕ
+joinRoot par n l = n
+joinRoot (seq x) n l = l
+joinRoot (prune x) n l = n

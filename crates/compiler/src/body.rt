@@ -4,7 +4,7 @@ ghost use Prim.Native.Nat.{_+_, _*_, _<_};
 ghost use lib.Seq.{sets};
 ghost use Rattle.model.specs.Job.Words.{headWords, nodeWords};
 ghost use Rattle.compiler.specs.Compiled.{reading};
-ghost use Rattle.compiler.specs.Body.{sinkOf, Body, bodied, sunkRows};
+ghost use Rattle.compiler.specs.Body.{sinkOf, BodyAccepted, compiledBody, storedBody};
 use crate::expression::Compiled;
 use crate::expression::compile_expression;
 use crate::plan::Plan;
@@ -33,9 +33,9 @@ pub fn compile_body(
     sink: usize,
     goal: bool,
 ) -> Compiled
-    requires { ⌜ Body (now kinds) (now operands) scope at node sink ⌝ }
-    ensures { λ r. ⌜ r ≡ bodied (reading 24 (now (kinds .entry)) (now (operands .entry)) scope at) node ⌝ }
-    ensures { λ _. ⌜ now (dag .exit) ≡ sunkRows (reading 24 (now (kinds .entry)) (now (operands .entry)) scope at)
+    requires { ⌜ BodyAccepted (now kinds) (now operands) scope at node sink ⌝ }
+    ensures { λ r. ⌜ r ≡ compiledBody (reading 24 (now (kinds .entry)) (now (operands .entry)) scope at) node ⌝ }
+    ensures { λ _. ⌜ now (dag .exit) ≡ storedBody (reading 24 (now (kinds .entry)) (now (operands .entry)) scope at)
         goal node (now (dag .entry)) ⌝ }
 {
     let plan = Plan {

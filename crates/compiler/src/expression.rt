@@ -4,7 +4,7 @@ ghost use Prim.Native.Nat.{_+_, _<_};
 ghost use Rattle.compiler.specs.Compiled.{Accepted, reading, compiled, stored};
 use crate::call::call_words;
 use crate::entry::operand;
-use crate::join::entered;
+use crate::join::join_root;
 use crate::join::put_own;
 use crate::plan::Plan;
 use crate::plan::left_plan;
@@ -62,6 +62,6 @@ pub fn compile_expression(
     Compiled {
         at: g.at,
         node: g.node,
-        root: entered(kind, plan, f.root),
+        root: join_root(kind, plan, f.root),
     }
 }

@@ -4,14 +4,14 @@ ghost use Prim.Native.Nat.{_+_, _*_, _<_, _≤_};
 ghost use lib.Seq.{sets};
 ghost use Rattle.model.specs.Job.Construct.{ownNodes};
 ghost use Rattle.model.specs.Job.Words.{headWords, rowsOf};
-ghost use Rattle.compiler.specs.Join.{joinOf, entry};
+ghost use Rattle.compiler.specs.Join.{joinOf, joinRoot};
 use crate::plan::Plan;
 use crate::store::put;
 
 // The join's root, where `left` is that of its f: a sequence is entered at its f.
-pub fn entered(kind: u8, plan: Plan, left: u32) -> u32
+pub fn join_root(kind: u8, plan: Plan, left: u32) -> u32
     requires { ⌜ plan .first < 1022 ⌝ }
-    ensures { λ r. ⌜ r ≡ entry (joinOf kind (plan .scope)) (plan .first) left ⌝ }
+    ensures { λ r. ⌜ r ≡ joinRoot (joinOf kind (plan .scope)) (plan .first) left ⌝ }
 {
     let first = plan.first as u32;
     if kind == 3 {

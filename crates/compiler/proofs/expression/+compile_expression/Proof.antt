@@ -1,4 +1,5 @@
--- `expression::compile_expression` meets its contract: a law for each outcome of the tests of the kind byte. It calls itself with one level of depth less. Assumes nothing.
+-- `expression::compile_expression` meets its contract: a law for each outcome of the tests of the kind byte. It calls itself with one level
+-- of depth less. Assumes nothing.
 use Prim.Native.Nat.{ℕ, _<_}
 use borrow.Fn.Kinds.{In}
 use borrow.Fn.PlainCycle.{Measures, is, falls, and}
@@ -13,7 +14,7 @@ use Rattle.compiler.proofs.expression.+compile_expression.Lts-compile_e
 use Rattle.compiler.proofs.call.call_words.Reads as call-words-reads
 use Rattle.compiler.proofs.entry.operand.Reads as operand-reads
 use Rattle.compiler.proofs.expression.single.Reads as single-reads
-use Rattle.compiler.proofs.join.entered.Reads as entered-reads
+use Rattle.compiler.proofs.join.join_root.Reads as join-root-reads
 use Rattle.compiler.proofs.join.put_own.Reads as put-own-reads
 use Rattle.compiler.proofs.plan.left_plan.Reads as left-plan-reads
 use Rattle.compiler.proofs.plan.right_plan.Reads as right-plan-reads
@@ -58,8 +59,8 @@ claims t = (
   right-plan-reads.Learnt,
   put-own-reads.Asked,
   put-own-reads.Learnt,
-  entered-reads.Asked,
-  entered-reads.Learnt,
+  join-root-reads.Asked,
+  join-root-reads.Learnt,
 )
 
 shared-slice-read-kind : (t : ℕ) → lts.Need-shared-slice-read-kind (claims t) (At t) reads.Post
@@ -154,8 +155,8 @@ put-own-requires t c κs =
     let start = test .before .before .before .before .before in
     (start .pre .1 .scoped, own-room (taken (start .pre .1)) (test .if2 .left))
 
-entered-requires : (t : ℕ) → lts.Need-entered-requires (claims t) (At t) reads.Post
-entered-requires t c κs =
+join-root-requires : (t : ℕ) → lts.Need-join-root-requires (claims t) (At t) reads.Post
+join-root-requires t c κs =
     c .before .before .before .before .before .before .before .before .before .before .before .before .before .pre .1 .low
 
 returns-3 : (t : ℕ) → lts.Need-returns-3 (claims t) (At t) reads.Post
@@ -168,7 +169,7 @@ returns-3 t c =
     let test = l .before in
     let start = test .before .before .before .before .before in
     join-done (taken (start .pre .1)) (test .if2 .left) _ (l .left-plan .ensures) (f .compile-expression .ensures .0) (r .right-plan .ensures)
-    (g .compile-expression2 .ensures .0) _ _ _ _ _ (c .entered .ensures) (f .compile-expression .ensures .1) (g .compile-expression2 .ensures .1)
+    (g .compile-expression2 .ensures .0) _ _ _ _ _ (c .join-root .ensures) (f .compile-expression .ensures .1) (g .compile-expression2 .ensures .1)
     (own .put-own .ensures)
 
 pub +compile-expression-spec : {M : Type 1} → statement M
@@ -196,5 +197,5 @@ pub +compile-expression-spec : {M : Type 1} → statement M
     (sub-compile-expression-2 t)
     (compile-expression-requires-2 t)
     (put-own-requires t)
-    (entered-requires t)
+    (join-root-requires t)
     (returns-3 t)

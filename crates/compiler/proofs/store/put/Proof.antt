@@ -1,4 +1,4 @@
--- `store::put` meets its contract: each turn stores one more word: so far the first `i` words are stored. What is left of the twelve falls. Assumes nothing.
+-- `store::put` meets its contract. The loop's invariant: the first `i` words are stored. What is left of the twelve falls. Assumes nothing.
 use Prim.Native.Nat.{_-_, _≤_}
 use mathlib.Core.Path.{_≡_, refl}
 use lib.ListN.{take}
