@@ -32,7 +32,7 @@ fn operand_word(operands: &[u8], at: usize, i: usize, count: usize) -> u32
     0
 }
 
-// "low 16 bits site [definition], high 16 bits parameter count": the words of the call at `at`.
+// "low 16 bits site, high 16 bits parameter count", or the same of a definition: the words of the call at `at`.
 pub fn call_words(kinds: &[u8], operands: &[u8], at: usize, next: u32) -> [u32; 12]
     requires { ⌜ Parts (now kinds) (now operands) ⌝ }
     requires { ⌜ at + 1 + high (operandAt (now operands) at) ≤ length (now kinds) ⌝ }

@@ -22,24 +22,15 @@ use Rattle.compiler.proofs.store.put.Reads as put-reads
 use Rattle.compiler.proofs.expression.+compile_expression.{statement}
 use Rattle.compiler.proofs.expression.+compile_expression.Tie.{close}
 
+-- what falls: the levels of depth that are left
 abbrev μ : Measures 3 kinds.ps ℕ
 μ κs a = a .1 .1 .1 .0
 
 abbrev At : ℕ → In 3 kinds.ps
-At t =
-    and
-    3
-    kinds.ps
-    (is 3 kinds.ps μ t)
-    reads.Pre
+At t = and 3 kinds.ps (is 3 kinds.ps μ t) reads.Pre
 
 abbrev Below : ℕ → In 3 kinds.ps
-Below t =
-    and
-    3
-    kinds.ps
-    (falls 3 kinds.ps _<_ μ t)
-    reads.Pre
+Below t = and 3 kinds.ps (falls 3 kinds.ps _<_ μ t) reads.Pre
 
 abbrev claims : ℕ → lts.Claims
 claims t = (
