@@ -11,3 +11,6 @@ pub mod Making
 pub mod Within
 pub mod Choke
 pub mod Acts
+pub mod Answering
+pub mod Begin
+pub mod Lockstep
