@@ -88,7 +88,7 @@ module _ (lim : Limits) (d : Dag) (M : Labels) (bodies : ℕ → Exp) (before : 
 
   pub act-agrees : {N : Node} → FlowAt d M n N
       → Agrees M W L R (before .calls) (act lim d before m p t N)
-        (actsAt (programOf d M bodies) σ new (before .calls) (nodeMeant (M .scope n) N) (at n B F U) v)
+      (actsAt (programOf d M bodies) σ new (before .calls) (nodeMeant (M .scope n) N) (at n B F U) v)
   unfolding act withOrders
   act-agrees FlowAt.stop = stop-agrees d M bodies m A
   act-agrees (FlowAt.site {s = s} e good f) = site-agrees d M bodies m A lim s f e good

@@ -109,8 +109,8 @@ pub answered-becomes : {M : Labels} (m : Machine) {name place : ℕ → ℕ} {σ
     → Unset σ U
     → TokenSeen (world (m .tokens) (m .cells) name place σ new) M (tokenAt (m .tokens) p) (Abstract.calledOut h (at n B F U))
     → Becomes M (world (m .tokens) (m .cells) name place σ new) L R (m .calls)
-      (makes (showing (Event.answer h v)) (running (at n B F U) v ∷ [])) (showing (Event.answer h v))
-      (enqueue p (put p (being states.Ready (holding (helds.Value v) (tokenAt (m .tokens) p))) m))
+    (makes (showing (Event.answer h v)) (running (at n B F U) v ∷ [])) (showing (Event.answer h v))
+    (enqueue p (put p (being states.Ready (holding (helds.Value v) (tokenAt (m .tokens) p))) m))
 unfolding enqueue put withTables withOrders being holding nextHandle
 answered-becomes m {name} {place} {σ} {new} {p} h v o z un seen =
     goes-becomes m o _ (showing (Event.answer h v)) _ refl refl refl

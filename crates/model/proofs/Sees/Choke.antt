@@ -237,8 +237,8 @@ module _ (M : Labels) (W : World) (c i : ℕ) (s : CellSeen W c i) (w : Held) (v
     where
       go : (a b : Bool) → stays p ≡ a → a ≡ b → TokensSeen chokedWorld M (filter stays A) (outOf i S)
           → TokensSeen chokedWorld M
-            (elim a as (λ b. List ℕ) [ true ↦ p ∷ filter stays A | false ↦ filter stays A ])
-            (elim b as (λ b. List Abstract.Token) [ true ↦ x ∷ outOf i S | false ↦ outOf i S ])
+          (elim a as (λ b. List ℕ) [ true ↦ p ∷ filter stays A | false ↦ filter stays A ])
+          (elim b as (λ b. List Abstract.Token) [ true ↦ x ∷ outOf i S | false ↦ outOf i S ])
       go true true f g h = also (token-spared p (not-not _ f) z) h
       go true false f g h = clash refl g
       go false true f g h = clash g refl

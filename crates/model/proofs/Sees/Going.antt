@@ -120,7 +120,6 @@ module _ (d : Dag) (M : Labels) (bodies : ℕ → Exp) (m : Machine) {name place
 
   -- site calls
   module _ (lim : Limits) (s : ℕ) {k : ℕ} (f : Follows d M n k (M .scope n) (M .nest n)) where
-
     replied-agrees : (r : Said) → Agrees M W L R (m .calls) (replied m p t k r) (Abstract.replies r (at k B F U))
     unfolding Shows replied goesOn ended enqueue put withTables withOrders nextHandle isLive to holding
     replied-agrees silent = ends-becomes m (A .others) _ silently blankToken refl refl refl refl
@@ -155,6 +154,6 @@ module _ (d : Dag) (M : Labels) (bodies : ℕ → Exp) (m : Machine) {name place
     site-agrees {ps} e good =
         subst
         (λ o. Agrees M W L R (m .calls) (callSite lim d m p t s k (look (m .cells) (t .binds) ps))
-            (Abstract.asksSite (m .calls) s (running (at n B F U) v) o (at k B F U)))
+        (Abstract.asksSite (m .calls) s (running (at n B F U) v) o (at k B F U)))
         (sym (values-seen (A .place .binds .views) good))
         (looked-agrees e (look (m .cells) (t .binds) ps))

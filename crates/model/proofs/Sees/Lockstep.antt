@@ -27,7 +27,7 @@ use Rattle.model.specs.Machine.Answer.{holder, answered}
 use Rattle.model.specs.Calculus.Event.{Event, Label, silently, showing}
 use Rattle.model.specs.Calculus.Expression.{Exp}
 use Rattle.model.specs.Calculus.Allowed.{shown}
-use Rattle.model.specs.Run.Call.{Call, step, answer, runner, eventsOf, outcomeOf, eventsFrom, started}
+use Rattle.model.specs.Run.Call.{Call, step, answer, runner, eventsOf, outcomeOf, eventsFrom, machineAfter, started}
 use Rattle.model.specs.declared.token.Place.{Place}
 use Rattle.model.specs.declared.token.Place.the-variants as places
 use Rattle.model.specs.declared.token.State.{State}
@@ -136,7 +136,7 @@ module _ (lim : Limits) (d : Dag) (M : Labels) (bodies : ℕ → Exp) (fits : Fi
       {L R : List Abstract.Token} {n : ℕ} {B : List Binding} {F : List Frame} {U : List ℕ} {v : ℤ}
       → Acting M (world (m .tokens) (m .cells) name place σ new) (getD (m .queue) k 0) L R n B F U v
       → Agrees M (world (m .tokens) (m .cells) name place σ new) L R (m .calls) (takes lim d m k)
-        (Abstract.act (programOf d M bodies) σ new (m .calls) (at n B F U) v)
+      (Abstract.act (programOf d M bodies) σ new (m .calls) (at n B F U) v)
   unfolding takes
   takes-agrees m k kept l {name} {place} {σ} {new} {L} {R} {n} {B} {F} {U} {v} acting =
       subst
@@ -179,9 +179,9 @@ module _ (lim : Limits) (d : Dag) (M : Labels) (bodies : ℕ → Exp) (fits : Fi
       go : Taken M W p S → Steps d M bodies (state S σ new (m .calls)) (eventsBy (step k) o) (o .machine)
       go (taken {L = L} {R = R} {n = n} {B = B} {F = F} {U = U} {v = v} split acting) =
           let both =
-              shown-by M W L R (m .calls) (Abstract.act (programOf d M bodies) σ new (m .calls) (at n B F U) v) k m (takes lim d m k)
-              (takes-agrees m k (a .kept) (a .queued) acting)
-              (subst (λ (o : Outcome). isRefused (o .reply) ≡ false) (a .does) ok) in
+          shown-by M W L R (m .calls) (Abstract.act (programOf d M bodies) σ new (m .calls) (at n B F U) v) k m (takes lim d m k)
+          (takes-agrees m k (a .kept) (a .queued) acting)
+          (subst (λ (o : Outcome). isRefused (o .reply) ≡ false) (a .does) ok) in
           steps (Abstract.step Move.acts split) (both .0) (both .1)
 
   -- an accepted answer
@@ -208,3 +208,104 @@ module _ (lim : Limits) (d : Dag) (M : Labels) (bodies : ℕ → Exp) (fits : Fi
       go : (q : Place) → holder h 0 (m .tokens) ≡ q → isRefused (outcome m (answered m v q) .reply) ≡ false → Locked (outcome m (answered m v q))
       go places.Nowhere e r = unfold answered outcome isRefused in clash refl r
       go (places.At p) e r = found p (find-pending p h K (holder-called h (m .tokens) p e))
+
+-- a refused call shows nothing and leaves the machine
+refused-shows : (c : Call) (r : Reply) (vs : List ℤ) → isRefused r ≡ true → eventsOf c (told r vs) ≡ []
+unfolding isRefused told eventsOf
+refused-shows c replies.Done vs e = clash e refl
+refused-shows c replies.Waits vs e = clash e refl
+refused-shows c (replies.Published v) vs e = clash e refl
+refused-shows c (replies.Called h s n) vs e = clash e refl
+refused-shows (step place) (replies.Refused r) vs e = refl
+refused-shows (answer h v signed) (replies.Refused r) vs e = refl
+
+refused-leaves : (lim : Limits) (d : Dag) (m : Machine) (c : Call)
+    → isRefused (outcomeOf runner lim d m c .reply) ≡ true → outcomeOf runner lim d m c .machine ≡ m
+unfolding outcomeOf Step.step Answer.answer
+refused-leaves lim d m (step place) e = outcome-refused m _ e
+refused-leaves lim d m (answer h v signed) e = outcome-refused m _ e
+
+-- "14: dag .. breaks an index rule": nothing is accepted on such a dag
+accepted-dag : (lim : Limits) (d : Dag) (m : Machine) (c : Call) → isRefused (outcomeOf runner lim d m c .reply) ≡ false → dagKept d ≡ true
+unfolding outcomeOf
+accepted-dag lim d m (step place) ok = rules-kept lim d m (step-accepted lim d m place ok .kept) .dag
+accepted-dag lim d m (answer h v signed) ok = rules-kept lim d m (answer-accepted lim d m h v ok .kept) .dag
+
+shown-append : (a : Label) (es : List Event) → shown a [] ++ es ≡ shown a es
+unfolding shown
+shown-append silently es = refl
+shown-append (showing e) es = refl
+
+module _ (lim : Limits) (d : Dag) (M : Labels) (bodies : ℕ → Exp) (fits : Fitting lim) (flow : Flow d M) where
+  pub call-locks : (m : Machine) {s : Abstract.State} → Sees M m s → (c : Call) → isRefused (outcomeOf runner lim d m c .reply) ≡ false
+      → Steps d M bodies s (eventsBy c (outcomeOf runner lim d m c)) (outcomeOf runner lim d m c .machine)
+  unfolding outcomeOf
+  call-locks m sn (step place) ok = step-locks lim d M bodies fits flow m sn place ok
+  call-locks m sn (answer h v signed) ok = answer-locks lim d M bodies fits flow m sn h v signed ok
+
+  -- the abstract machine runs from s and shows the events, and m is seen as what it comes to
+  pub data Runs (s : Abstract.State) (es : List Event) (m : Machine) : Type 0 where
+    runs : {s′ : Abstract.State} → Abstract.Run (programOf d M bodies) s es s′ → Sees M m s′ → Runs s es m
+
+  -- "any list of calls"
+  pub calls-lock : (cs : List Call) (m : Machine) (s : Abstract.State) → Sees M m s
+      → Runs s (eventsFrom runner lim d m cs) (machineAfter runner lim d m cs)
+  unfolding eventsFrom machineAfter
+  calls-lock [] m s sn = runs Abstract.rests sn
+  calls-lock (c ∷ cs) m s sn = go (holds-or-fails (isRefused (o .reply))) (λ m′ s′ x. calls-lock cs m′ s′ x)
+    where
+      o : Outcome
+      o = outcomeOf runner lim d m c
+
+      rest : Machine → List Event
+      rest m′ = eventsFrom runner lim d m′ cs
+
+      end : Machine → Machine
+      end m′ = machineAfter runner lim d m′ cs
+
+      Further : Type 0
+      Further = (m′ : Machine) (s′ : Abstract.State) → Sees M m′ s′ → Runs s′ (rest m′) (end m′)
+
+      first : {s₁ : Abstract.State} {a : Label} → Abstract.Step (programOf d M bodies) s a s₁ → eventsBy c o ≡ shown a []
+          → Runs s₁ (rest (o .machine)) (end (o .machine)) → Runs s (eventsBy c o ++ rest (o .machine)) (end (o .machine))
+      first {a = a} st e (runs r sn′) =
+          subst (λ es. Runs s es (end (o .machine))) (sym (ap (λ es. es ++ rest (o .machine)) e ∙ shown-append a (rest (o .machine))))
+          (runs (Abstract.then st r) sn′)
+
+      locked : Steps d M bodies s (eventsBy c o) (o .machine) → Further → Runs s (eventsBy c o ++ rest (o .machine)) (end (o .machine))
+      locked (steps st e sn′) f = first st e (f (o .machine) _ sn′)
+
+      go : (isRefused (o .reply) ≡ true) ⊎ (isRefused (o .reply) ≡ false) → Further → Runs s (eventsBy c o ++ rest (o .machine)) (end (o .machine))
+      go (inl no′) f =
+          subst (λ es. Runs s (es ++ rest (o .machine)) (end (o .machine))) (sym (refused-shows c (o .reply) (o .values) no′))
+          (subst (λ m′. Runs s (rest m′) (end m′)) (sym (refused-leaves lim d m c no′)) (f m s sn))
+      go (inr ok) f = locked (call-locks m sn c ok) f
+
+  -- on a dag that breaks a rule every call is refused
+  no-events : dagKept d ≡ false → (cs : List Call) (m : Machine) → eventsFrom runner lim d m cs ≡ []
+  unfolding eventsFrom
+  no-events e [] m = refl
+  no-events e (c ∷ cs) m =
+      go (holds-or-fails (isRefused (outcomeOf runner lim d m c .reply))) (no-events e cs (outcomeOf runner lim d m c .machine))
+    where
+      o : Outcome
+      o = outcomeOf runner lim d m c
+
+      go : (isRefused (o .reply) ≡ true) ⊎ (isRefused (o .reply) ≡ false) → eventsFrom runner lim d (o .machine) cs ≡ []
+          → eventsBy c o ++ eventsFrom runner lim d (o .machine) cs ≡ []
+      go (inl no′) f = ap (λ es. es ++ eventsFrom runner lim d (o .machine) cs) (refused-shows c (o .reply) (o .values) no′) ∙ f
+      go (inr ok) f = clash (accepted-dag lim d m c ok) e
+
+  -- "each run's event list": from the start on, some run of the abstract machine shows it
+  pub data Shown (es : List Event) : Type 0 where
+    shows : {s : Abstract.State} → Abstract.Run (programOf d M bodies) (startAt (d .goal)) es s → Shown es
+
+  pub run-shown : 0 < lim .tokenPlaces → (cs : List Call) → Shown (eventsFrom runner lim d (started runner lim d) cs)
+  run-shown some cs = go (holds-or-fails (dagKept d))
+    where
+      from : {es : List Event} {m : Machine} → Runs (startAt (d .goal)) es m → Shown es
+      from (runs r sn) = shows r
+
+      go : (dagKept d ≡ true) ⊎ (dagKept d ≡ false) → Shown (eventsFrom runner lim d (started runner lim d) cs)
+      go (inl kept) = from (calls-lock cs (started runner lim d) (startAt (d .goal)) (start-sees lim d M flow some kept))
+      go (inr broken) = subst Shown (sym (no-events broken cs (started runner lim d))) (shows Abstract.rests)

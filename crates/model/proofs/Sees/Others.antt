@@ -246,7 +246,6 @@ abbrev pub twoWritten : World → (p : ℕ) → Token → (q : ℕ) → Token �
 twoWritten W p u q w cs name place =
     record { tokens = set (set (W .tokens) p u) q w; cells = cs; name = name; place = place; store = W .store; new = suc (W .new) }
 
-
 module _ {M : Labels} {W : World} {p : ℕ} {L R : List Abstract.Token} (o : Others M W p L R) (used : UsedToken W p)
     (q : ℕ) (free : Free (usedTokens (W .tokens) (W .cells)) q) (u w : Token) (cs : List Cell) (name place : ℕ → ℕ) where
   abbrev W′ : World

@@ -82,8 +82,8 @@ module _ {W : World} where
   pub chain-short : {q : Place} {U : List ℕ} → CellsSeen W q U → length U ≤ length (W .cells)
   chain-short v =
       let z =
-          chain-marks (replicate (length (W .cells)) false) (length-replicate (length (W .cells)) false)
-          (λ b X w k. none-marked (length (W .cells)) b (chain-inside b refl w)) v in
+      chain-marks (replicate (length (W .cells)) false) (length-replicate (length (W .cells)) false)
+      (λ b X w k. none-marked (length (W .cells)) b (chain-inside b refl w)) v in
       omega arith
 
   -- a place and its name
