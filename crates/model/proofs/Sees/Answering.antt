@@ -1,20 +1,19 @@
 -- An answer agrees with the abstract machine's: the token that holds the handle is called out under it, and goes on with the value. Assumes nothing.
-use mathlib.Core.Path.{_≡_, refl, sym, _∙_, ap, subst}
+use mathlib.Core.Path.{_≡_, refl, sym, ap, subst}
 use mathlib.Core.Logic.{_⊎_, inl, inr}
 use mathlib.Core.Bool.{Bool, true, false}
 use mathlib.Core.List.{List, [], _∷_}
-use Prim.Native.Nat.{ℕ, suc, _+_, _<_}
+use Prim.Native.Nat.{ℕ, suc, _+_}
 use native.Mathlib.Omega.{arith}
 use lib.ListN.{getD}
 use lib.Dec.{eqb}
 use lib.IntN.{ℤ}
-use Rattle.model.specs.Test.{_or_, any}
+use Rattle.model.specs.Test.{any}
 use Rattle.model.specs.Machine.Blank.{blankToken, tokenAt}
 use Rattle.model.specs.Machine.Active.{isLive}
 use Rattle.model.specs.Machine.Rules.{handleOf}
-use Rattle.model.specs.Machine.Reply.{Effect, moves}
 use Rattle.model.specs.Machine.Step.{holding, being, withTables, withOrders, put, enqueue}
-use Rattle.model.specs.Machine.Answer.{holder, answered}
+use Rattle.model.specs.Machine.Answer.{holder}
 use Rattle.model.specs.Calculus.Event.{Event, showing}
 use Rattle.model.specs.Calculus.Allowed.{nextHandle}
 use Rattle.model.specs.declared.token.Held.{Held}

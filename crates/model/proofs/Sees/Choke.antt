@@ -4,8 +4,7 @@
 use mathlib.Core.Path.{_≡_, refl, sym, _∙_, ap, subst}
 use mathlib.Core.Bool.{Bool, true, false, not}
 use mathlib.Core.List.{List, [], _∷_, _++_, map}
-use mathlib.Core.Option.{none}
-use Prim.Native.Nat.{ℕ, suc, _+_, _<_, _≤_}
+use Prim.Native.Nat.{ℕ, suc, _+_, _<_}
 use native.Mathlib.Decide.{ℕ-discrete}
 use native.Mathlib.Omega.{arith}
 use lib.ListN.{length, getD, set, length-set, length-map, List·getD-map}
@@ -26,18 +25,18 @@ use Rattle.model.specs.declared.token.State.the-variants as states
 use Rattle.model.specs.declared.token.Token.{Token}
 use Rattle.model.specs.declared.cell.Cell.{Cell}
 use Rattle.model.specs.declared.record.Machine.{Machine}
-use Rattle.model.proofs.Test.{clash, eq-eqb, ne-eqb}
+use Rattle.model.proofs.Test.{clash, ne-eqb}
 use Rattle.model.proofs.Abstract.Machine as Abstract
-use Rattle.model.proofs.Abstract.Machine.{Binding, Frame, at, running, Store, withSet, isOutOf, outOf, actsAt}
+use Rattle.model.proofs.Abstract.Machine.{Binding, Frame, at, Store, withSet, isOutOf, outOf, actsAt}
 use Rattle.model.proofs.Abstract.Store.{_∈_, set-same, set-other}
 use Rattle.model.proofs.Sees.Labels.{Labels, nodeMeant, programOf}
 use Rattle.model.proofs.Sees.View.{held, World, Nested, StateSeen, ready, waiting, called, Unset, CellSeen, CellsSeen, root, below, PlaceSeen, TokenSeen, sees, TokensSeen, nobody, also, FrameSeen, frameAt, frame-seen, Kept, Closed, place-keep, tokens-append}
-use Rattle.model.proofs.Sees.Sees.{Core, world, Sees, sees-tables}
+use Rattle.model.proofs.Sees.Sees.{Core, world, sees-tables}
 use Rattle.model.proofs.Sees.Others.{Others, count-append}
 use Rattle.model.proofs.Sees.Making.{cell-same, cell-other}
 use Rattle.model.proofs.Sees.Within.{not-any, any-first, any-rest, within-seen}
 use Rattle.model.proofs.Sees.Moving.{value-there, value-optional, place-as}
-use Rattle.model.proofs.Sees.Agrees.{Acting, Becomes, Shows, Agrees}
+use Rattle.model.proofs.Sees.Agrees.{Acting, Shows, Agrees}
 
 -- a token at a place, choked
 choke-blank : (cs : List Cell) (c : ℕ) → chokeToken cs c blankToken ≡ blankToken

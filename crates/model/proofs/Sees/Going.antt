@@ -1,8 +1,8 @@
 -- The instructions that write one place agree with the abstract machine's: stop, publish, assign, remove, return, and site calls. Assumes nothing.
-use mathlib.Core.Path.{_≡_, refl, sym, _∙_, ap, subst}
+use mathlib.Core.Path.{_≡_, refl, sym, subst}
 use mathlib.Core.Bool.{Bool, true, false}
-use mathlib.Core.List.{List, [], _∷_, _++_, map}
-use Prim.Native.Nat.{ℕ, _<_, _≤_}
+use mathlib.Core.List.{List, _∷_}
+use Prim.Native.Nat.{ℕ, _<_}
 use native.Mathlib.Omega.{arith}
 use lib.ListN.{length}
 use lib.Dec.{ltb}
@@ -15,15 +15,12 @@ use Rattle.model.specs.Job.Node.{Node, Dag}
 use Rattle.model.specs.Machine.Limits.{Limits}
 use Rattle.model.specs.Machine.Blank.{blankToken, tokenAt}
 use Rattle.model.specs.Machine.Active.{isLive}
-use Rattle.model.specs.Machine.Reply.{Effect, moves, publishes, unless}
-use Rattle.model.specs.Machine.Step.{to, binding, holding, being, withTables, withOrders, withCounts, queueOf, waitsOf, put, enqueue, Looked, values, unset, look, valueOf, ended, goesOn, waited, replied, calledOut, returned, callSite}
-use Rattle.model.specs.Calculus.Event.{Event, Label, silently, showing}
+use Rattle.model.specs.Machine.Reply.{moves, publishes, unless}
+use Rattle.model.specs.Machine.Step.{to, binding, holding, being, withTables, withOrders, withCounts, put, enqueue, Looked, values, unset, look, valueOf, ended, goesOn, waited, replied, calledOut, returned, callSite}
+use Rattle.model.specs.Calculus.Event.{Event, silently, showing}
 use Rattle.model.specs.Calculus.Expression.{Exp}
 use Rattle.model.specs.Calculus.Allowed.{nextHandle}
-use Rattle.model.specs.Run.Meaning.{paramMeant}
-use Rattle.model.specs.declared.token.Slot.{Slot}
 use Rattle.model.specs.declared.token.Slot.the-variants as slots
-use Rattle.model.specs.declared.token.Held.{Held}
 use Rattle.model.specs.declared.token.Held.the-variants as helds
 use Rattle.model.specs.declared.token.Place.{Place}
 use Rattle.model.specs.declared.token.Place.the-variants as places
@@ -32,11 +29,11 @@ use Rattle.model.specs.declared.token.Token.{Token}
 use Rattle.model.specs.declared.record.Machine.{Machine}
 use Rattle.model.specs.declared.reply.Refusal.the-variants as refusals
 use Rattle.model.proofs.Abstract.Machine as Abstract
-use Rattle.model.proofs.Abstract.Machine.{Binding, Frame, at, running, Store, makes, actsAt, valuesIn}
+use Rattle.model.proofs.Abstract.Machine.{Binding, Frame, at, running, Store, actsAt}
 use Rattle.model.proofs.Abstract.Store.{_∈_}
 use Rattle.model.proofs.Sees.Labels.{Labels, nodeMeant, programOf, Fresh, Follows}
 use Rattle.model.proofs.Sees.View.{World, cellsOfCaller, present, waiting, called, valued, BindingSeen, FrameSeen, frameAt, frame-seen, TokenSeen, sees}
-use Rattle.model.proofs.Sees.Sees.{world, Sees, tokens-of, used-fits}
+use Rattle.model.proofs.Sees.Sees.{world, tokens-of, used-fits}
 use Rattle.model.proofs.Sees.Slots.{found, values-seen}
 use Rattle.model.proofs.Sees.Moving.{value-there, value-optional, value-held, ready-seen, nested-none, place-to, place-bind, place-drop, place-as, fits-as, fits-bind}
 use Rattle.model.proofs.Sees.Agrees.{Acting, acting-used, acting-fits, Becomes, Shows, shows-unless, Agrees, ends-becomes, goes-becomes}

@@ -3,23 +3,22 @@
 -- to call: an accepted call has tested the rules itself. Assumes nothing.
 use mathlib.Core.Path.{_≡_, refl, sym, _∙_, ap, subst}
 use mathlib.Core.Logic.{_⊎_, inl, inr}
-use mathlib.Core.Bool.{Bool, true, false}
+use mathlib.Core.Bool.{true, false}
 use mathlib.Core.List.{List, [], _∷_, _++_}
 use Prim.Native.Nat.{ℕ, _<_, _≤_}
 use native.Mathlib.Omega.{arith}
-use lib.ListN.{length, getD, take}
+use lib.ListN.{length, getD}
 use lib.Seq.{take-append-seam}
-use lib.IntN.{ℤ, pos}
-use Rattle.model.specs.Test.{_and_, padded, without}
+use lib.IntN.{ℤ}
+use Rattle.model.specs.Test.{padded, without}
 use Rattle.model.specs.Number.{Signed32}
-use Rattle.model.specs.Job.Node.{Node, Dag, nodeAt, isNode, dagKept}
+use Rattle.model.specs.Job.Node.{Dag, nodeAt, isNode, dagKept}
 use Rattle.model.specs.Machine.Limits.{Limits}
 use Rattle.model.specs.Machine.Blank.{blankToken, tokenAt}
 use Rattle.model.specs.Machine.InUse.{tokensUsed, cellsUsed, marked}
 use Rattle.model.specs.Machine.Places.{nextPlace}
 use Rattle.model.specs.Machine.Rules.{isReady, tokenInRange, sizesInRange, rulesKept}
-use Rattle.model.specs.Machine.Reply.{Effect, moves, waits, publishes, calls, refuses, accepted, outcome, valuesBeside, Told, told, isRefused}
-use Rattle.model.specs.Machine.Start as Start
+use Rattle.model.specs.Machine.Reply.{Effect, moves, waits, publishes, calls, refuses, accepted, outcome, told, isRefused}
 use Rattle.model.specs.Machine.Step as Step
 use Rattle.model.specs.Machine.Step.{withOrders, queueOf, waitsOf, hasTokenPlace, hasCellPlace, takes}
 use Rattle.model.specs.Machine.Answer as Answer
@@ -32,7 +31,6 @@ use Rattle.model.specs.declared.token.Place.{Place}
 use Rattle.model.specs.declared.token.Place.the-variants as places
 use Rattle.model.specs.declared.token.State.{State}
 use Rattle.model.specs.declared.token.State.the-variants as states
-use Rattle.model.specs.declared.token.Token.{Token}
 use Rattle.model.specs.declared.record.Machine.{Machine}
 use Rattle.model.specs.declared.reply.Reply.{Reply}
 use Rattle.model.specs.declared.reply.Reply.the-variants as replies
@@ -43,13 +41,13 @@ use Rattle.model.proofs.Machine.InUse.{tokens-used, cells-used}
 use Rattle.model.proofs.Machine.Places.{next-place-free}
 use Rattle.model.proofs.Machine.Rules.{RulesKept, rules-kept}
 use Rattle.model.proofs.Machine.Refused.{outcome-refused, StepAccepted, step-accepted, AnswerAccepted, answer-accepted}
-use Rattle.model.proofs.Run.Queue.{QueueKept, queue-kept, tokens-sized, newtoken-inside}
+use Rattle.model.proofs.Run.Queue.{queue-kept, tokens-sized, newtoken-inside}
 use Rattle.model.proofs.Abstract.Machine as Abstract
-use Rattle.model.proofs.Abstract.Machine.{Binding, Frame, at, Store, state, labelOf, after, Move, actsAt, startAt}
-use Rattle.model.proofs.Sees.Labels.{Labels, nodeMeant, programOf, FlowAt, Flow}
+use Rattle.model.proofs.Abstract.Machine.{Binding, Frame, at, Store, state, labelOf, after, Move, startAt}
+use Rattle.model.proofs.Sees.Labels.{Labels, programOf, Flow}
 use Rattle.model.proofs.Sees.View.{World}
-use Rattle.model.proofs.Sees.Sees.{Core, world, Sees, seenAs, finish-sees}
-use Rattle.model.proofs.Sees.Agrees.{Acting, Becomes, Shows, Agrees}
+use Rattle.model.proofs.Sees.Sees.{world, Sees, seenAs, finish-sees}
+use Rattle.model.proofs.Sees.Agrees.{Acting, Shows, Agrees}
 use Rattle.model.proofs.Sees.Acts.{Taken, taken, take-ready, act-agrees}
 use Rattle.model.proofs.Sees.Answering.{holder-called, Pending, pending, find-pending, answered-becomes}
 use Rattle.model.proofs.Sees.Begin.{start-sees}

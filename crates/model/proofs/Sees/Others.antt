@@ -18,7 +18,7 @@ use Rattle.model.specs.declared.token.State.the-variants as states
 use Rattle.model.specs.declared.token.Token.{Token}
 use Rattle.model.specs.declared.cell.Cell.{Cell}
 use Rattle.model.proofs.Test.{clash, false-of, eqb-eq, eqb-same, ne-eqb}
-use Rattle.model.proofs.Machine.Marks.{Marked, Free, free-inside}
+use Rattle.model.proofs.Machine.Marks.{Free, free-inside}
 use Rattle.model.proofs.Machine.Inside.{Fits}
 use Rattle.model.proofs.Abstract.Machine as Abstract
 use Rattle.model.proofs.Abstract.Shuffle.{Split, first, later}

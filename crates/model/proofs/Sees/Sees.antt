@@ -2,15 +2,14 @@
 -- are active, so what they name is in use, and blanking the rest keeps the view. Assumes nothing.
 use mathlib.Core.Path.{_≡_, refl, sym, _∙_, ap, subst}
 use mathlib.Core.Logic.{_⊎_, inl, inr}
-use mathlib.Core.Bool.{Bool, true, false, not}
-use mathlib.Core.List.{List, [], _∷_, List·Memᴰ·head, List·Memᴰ·tail}
-use mathlib.Core.Option.{Option, some, none}
+use mathlib.Core.Bool.{Bool, true, false}
+use mathlib.Core.List.{List, List·Memᴰ·head, List·Memᴰ·tail}
+use mathlib.Core.Option.{none}
 use Prim.Native.Nat.{ℕ, zero, suc, _+_, _<_, _≤_}
 use native.Mathlib.Decide.{decLt}
 use native.Mathlib.Omega.{arith}
 use lib.ListN.{length, getD}
 use lib.Dec.{eqb}
-use lib.IntN.{ℤ}
 use Rattle.model.specs.Test.{count, once}
 use Rattle.model.specs.Machine.Blank.{blankToken, blankCell, tokenAt, cellAt, hasValue}
 use Rattle.model.specs.Machine.Active.{isSet, upward, underSet, isLive, isActive}
@@ -31,7 +30,7 @@ use Rattle.model.proofs.Abstract.Machine as Abstract
 use Rattle.model.proofs.Abstract.Machine.{Store, state}
 use Rattle.model.proofs.Abstract.Store.{_∈_}
 use Rattle.model.proofs.Sees.Labels.{Labels}
-use Rattle.model.proofs.Sees.View.{held, World, CellSeen, CellsSeen, root, below, PlaceSeen, StateSeen, ready, waiting, called, Unset, TokenSeen, sees, TokensSeen, nobody, also, Kept, Closed, token-keep, tokens-map}
+use Rattle.model.proofs.Sees.View.{held, World, CellSeen, CellsSeen, root, below, StateSeen, ready, waiting, called, Unset, TokenSeen, sees, TokensSeen, nobody, also, Kept, Closed, token-keep, tokens-map}
 
 -- A: the places of the live tokens, in the order of S
 pub record Core (M : Labels) (W : World) (A : List ℕ) (S : List Abstract.Token) : Type 0 where

@@ -4,12 +4,11 @@ use mathlib.Core.Path.{_≡_, refl, sym, _∙_, ap, subst}
 use mathlib.Core.Bool.{Bool, true, false}
 use mathlib.Core.List.{List, [], _∷_, _++_}
 use mathlib.Core.Option.{Option, some, none}
-use Prim.Native.Nat.{ℕ, suc, _<_, _≤_}
+use Prim.Native.Nat.{ℕ, _<_}
 use native.Mathlib.Omega.{arith}
 use lib.ListN.{length}
 use lib.IntN.{ℤ}
-use lib.Dec.{eqb}
-use Rattle.model.specs.Test.{count, once}
+use Rattle.model.specs.Test.{count}
 use Rattle.model.specs.Machine.Blank.{tokenAt, cellAt, slotAt}
 use Rattle.model.specs.declared.token.Slot.{Slot}
 use Rattle.model.specs.declared.token.Slot.the-variants as slots
@@ -24,7 +23,6 @@ use Rattle.model.specs.declared.token.Token.{Token}
 use Rattle.model.specs.declared.cell.Cell.{Cell}
 use Rattle.model.proofs.Test.{eqb-same}
 use Rattle.model.proofs.Machine.Reach.{Names}
-use Rattle.model.proofs.Machine.InUse.{CellsIn}
 use Rattle.model.proofs.Machine.Inside.{Fits}
 use Rattle.model.proofs.Abstract.Machine as Abstract
 use Rattle.model.proofs.Abstract.Machine.{Binding, Frame, frame, at, running, Store}
