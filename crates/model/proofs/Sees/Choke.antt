@@ -260,7 +260,8 @@ module _ (M : Labels) (W : World) (c i : ℕ) (s : CellSeen W c i) (w : Held) (v
             let a = count-append r (o .before) (o .behind) in
             let b = o .each r in
             let g : once (eqb r p) ≡ 0 = ap once (ne-eqb r p (λ x. clash (ap (λ y. inCell (tokenAt (W .tokens) y)) x ∙ ends) f)) in
-            let h : alive (tokenAt (chokedWorld .tokens) r) ≡ alive (tokenAt (W .tokens) r) = ap alive (spared r f) ∙ ap once (woken-live c (tokenAt (W .tokens) r)) in
+            let h : alive (tokenAt (chokedWorld .tokens) r) ≡ alive (tokenAt (W .tokens) r) =
+            ap alive (spared r f) ∙ ap once (woken-live c (tokenAt (W .tokens) r)) in
             let k = filtered-in stays r (o .before ++ o .behind) (ap not f) in
             omega arith
 
@@ -295,6 +296,7 @@ module _ (d : Dag) (M : Labels) (bodies : ℕ → Exp) (m : Machine) {name place
       ends = ap (within (m .cells) c) f ∙ (within-seen s (below s z) ∙ any-first i X)
 
   pub choke-agrees : M .value n ≡ true
-      → Agrees M W L R (m .calls) (chokes m p t (t .cell)) (actsAt (programOf d M bodies) σ new (m .calls) (nodeMeant (M .scope n) Node.choke) (at n B F U) v)
+      → Agrees M W L R (m .calls) (chokes m p t (t .cell))
+      (actsAt (programOf d M bodies) σ new (m .calls) (nodeMeant (M .scope n) Node.choke) (at n B F U) v)
   unfolding nodeMeant
   choke-agrees e = choke-from e refl (A .place .cell)

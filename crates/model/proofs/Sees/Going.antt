@@ -140,7 +140,10 @@ module _ (d : Dag) (M : Labels) (bodies : ℕ → Exp) (m : Machine) {name place
     looked-agrees e (values vs) = go (isBuiltin s)
       where
         go : (b : Bool) → Agrees M W L R (m .calls)
-            (elim b [ true ↦ replied m p t k (builtin s vs) | false ↦ unless (ltb (m .calls) (lim .calls)) refusals.CallLimit (calledOut m p t s vs k) ])
+            (elim b [
+              | true ↦ replied m p t k (builtin s vs)
+              | false ↦ unless (ltb (m .calls) (lim .calls)) refusals.CallLimit (calledOut m p t s vs k)
+            ])
             (Abstract.callsSite (m .calls) s vs b (at k B F U))
         go true = replied-agrees (builtin s vs)
         go false = shows-unless _ (ltb (m .calls) (lim .calls)) refusals.CallLimit (calledOut m p t s vs k) (λ i. called-agrees vs)

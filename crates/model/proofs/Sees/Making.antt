@@ -35,7 +35,7 @@ use Rattle.model.proofs.Sees.Labels.{Labels, nodeMeant, programOf, Fres
 use Rattle.model.proofs.Sees.View.{held, World, Unset, absent, ready, CellSeen, CellsSeen, below, celled, calledBy, PlaceSeen, TokenSeen, sees, Kept, place-keep}
 use Rattle.model.proofs.Sees.Sees.{world, sees-tables, UsedToken, UsedCell, cells-of, used-closed}
 use Rattle.model.proofs.Sees.Slots.{formals-seen}
-use Rattle.model.proofs.Sees.Others.{acting-inside, twoWritten, two-first, two-kept, both-core, new-core}
+use Rattle.model.proofs.Sees.Others.{acting-inside, cell-later, twoWritten, two-first, two-kept, both-core, new-core}
 use Rattle.model.proofs.Sees.Moving.{value-optional, ready-seen, slots-at, place-to, place-bind, place-as}
 use Rattle.model.proofs.Sees.Agrees.{Acting, acting-used, acting-fits, Shows, Agrees}
 
@@ -78,8 +78,7 @@ module _ (d : Dag) (M : Labels) (bodies : ℕ → Exp) (m : Machine) {name place
   made u w = twoWritten W p u q w (m .cells) name place
 
   newer : (u w : Token) (c i : ℕ) → UsedCell W c → CellSeen W c i → CellSeen (made u w) c i
-  newer u w c i x s =
-      record { inside = s .inside; old = (let z : i < new = s .old in omega arith); name = s .name; place = s .place; value = s .value }
+  newer u w c i x s = cell-later s
 
   made-kept : (u w : Token) → Kept (UsedToken W) (UsedCell W) W (made u w)
   made-kept u w = two-kept (A .others) (acting-used A) q free u w (m .cells) name place (newer u w) (λ c i. refl)

@@ -178,7 +178,8 @@ module _ {M : Labels} {Q R : ℕ → Type 0} {O W : World} (K : Kept Q R O W) (Z
   frames-keep : {o : Place} {F : List Frame} → Names Q o → FramesSeen O M o F → FramesSeen W M o F
   frames-keep h outermost = outermost
   frames-keep h (calledBy {q = q} {t = t} {n = n} {B = B} {F = F} {U = U} l i s k b f u o) =
-      let fits : Fits Q R t = subst (Fits Q R) i (Z .token q (h q refl) (subst (λ t. PlaceSeen O M t n B F U) (sym i) (record { node = k; binds = b; caller = f; cell = u; nested = o }))) in
+      let view : PlaceSeen O M t n B F U = record { node = k; binds = b; caller = f; cell = u; nested = o } in
+      let fits : Fits Q R t = subst (Fits Q R) i (Z .token q (h q refl) (subst (λ t. PlaceSeen O M t n B F U) (sym i) view)) in
       calledBy {q = q} (let z : length (W .tokens) ≡ length (O .tokens) = K .size in omega arith)
       (K .frames q (h q refl) (ap (λ (t : Token). t .state) i ∙ s) ∙ i) s k
       (slots-keep (fits .cells .binds) b) (frames-keep (fits .caller) f) (cells-keep (fits .cells .cell) u) o
