@@ -3,6 +3,7 @@ pub mod Labels
 pub mod View
 pub mod Sees
 pub mod Slots
+pub mod Used
 pub mod Others
 pub mod Moving
 pub mod Agrees

@@ -28,7 +28,7 @@ use Rattle.model.proofs.Abstract.Machine.{Binding, Frame, at, running, 
 use Rattle.model.proofs.Abstract.Shuffle.{Split}
 use Rattle.model.proofs.Sees.Labels.{Labels, nodeMeant, programOf, FlowAt}
 use Rattle.model.proofs.Sees.View.{World, HeldSeen, StateSeen, ready, waiting, called, TokenSeen, sees}
-use Rattle.model.proofs.Sees.Sees.{Core, world}
+use Rattle.model.proofs.Sees.Sees.{Core, world, live-listed}
 use Rattle.model.proofs.Sees.Others.{Others, FoundAt, foundAt, find-place, others, spot-token}
 use Rattle.model.proofs.Sees.Agrees.{Acting, shows-unless, Agrees}
 use Rattle.model.proofs.Sees.Going.{stop-agrees, publish-agrees, assign-agrees, remove-agrees, return-agrees, site-agrees}
@@ -51,10 +51,6 @@ take-token : {M : Labels} {W : World} {p : ℕ} {S L R : List Abstract.Token} {x
 take-token {S = S} {L = L} {R = R} e i o (sees z un st) =
     let r = ready-is e st in
     taken (subst (λ x. Split x S L R) (r .1) i) (record { others = o; place = z; clear = un; value = r .2; state = e })
-
-pub live-listed : {M : Labels} {W : World} {A : List ℕ} {S : List Abstract.Token} (p : ℕ)
-    → Core M W A S → isLive (tokenAt (W .tokens) p .state) ≡ true → 0 < count p A
-live-listed {W = W} p K e = let z = K .each p in let y : once (isLive (tokenAt (W .tokens) p .state)) ≡ 1 = ap once e in omega arith
 
 pub take-ready : {M : Labels} {W : World} {A : List ℕ} {S : List Abstract.Token} (p : ℕ)
     → Core M W A S → tokenAt (W .tokens) p .state ≡ states.Ready → Taken M W p S

@@ -30,11 +30,10 @@ use Rattle.model.proofs.Abstract.Machine.{Binding, Frame, at, running, 
 use Rattle.model.proofs.Abstract.Shuffle.{Split}
 use Rattle.model.proofs.Sees.Labels.{Labels}
 use Rattle.model.proofs.Sees.View.{World, present, StateSeen, ready, waiting, called, PlaceSeen, Unset, TokenSeen, sees}
-use Rattle.model.proofs.Sees.Sees.{Core, world, used-fits, token-used}
+use Rattle.model.proofs.Sees.Sees.{Core, world, used-fits, token-used, live-listed}
 use Rattle.model.proofs.Sees.Others.{Others, FoundAt, foundAt, find-place, others, spot-token}
 use Rattle.model.proofs.Sees.Moving.{place-as, fits-as}
 use Rattle.model.proofs.Sees.Agrees.{Becomes, goes-becomes}
-use Rattle.model.proofs.Sees.Acts.{live-listed}
 
 -- the holder of a handle is called out under it
 holds-handle : (h : ℕ) (s : State) → any (eqb h) (handleOf s) ≡ true → s ≡ states.Called h

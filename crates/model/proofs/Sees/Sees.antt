@@ -145,6 +145,11 @@ token-at {M} {W} p l (also {p = q} {x = x} {A = B} v r) = go (eqb p q) refl (λ 
     go true e f = (x, subst (λ i. TokenSeen W M (tokenAt (W .tokens) i) x) (sym (eqb-eq p q e)) v)
     go false e f = f (let z : 0 < once (eqb p q) + count p B = l in let y : once (eqb p q) ≡ 0 = rw e refl in omega arith)
 
+-- each live token is listed
+pub live-listed : {M : Labels} {W : World} {A : List ℕ} {S : List Abstract.Token} (p : ℕ)
+    → Core M W A S → isLive (tokenAt (W .tokens) p .state) ≡ true → 0 < count p A
+live-listed {W = W} p K e = let z = K .each p in let y : once (isLive (tokenAt (W .tokens) p .state)) ≡ 1 = ap once e in omega arith
+
 -- what is not in use made blank
 abbrev pub swept : World → World
 swept W =
