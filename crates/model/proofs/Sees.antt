@@ -8,6 +8,7 @@ pub mod Closed
 pub mod View
 pub mod Sees
 pub mod Slots
+pub mod Used
 pub mod Others
 pub mod Moving
 pub mod Agrees
@@ -16,3 +17,6 @@ pub mod Making
 pub mod Within
 pub mod Choke
 pub mod Acts
+pub mod Answering
+pub mod Begin
+pub mod Lockstep

@@ -1,9 +1,9 @@
 -- Every instruction of a ready token agrees with the abstract machine's: one clause for each node. The same lemma serves both directions, since
 -- it speaks of the machine before blanking and of whatever is not refused. Assumes nothing.
-use mathlib.Core.Path.{_≡_, refl, sym, _∙_, ap, subst}
-use mathlib.Core.Bool.{Bool, true, false}
-use mathlib.Core.List.{List, [], _∷_}
-use Prim.Native.Nat.{ℕ, _<_, _≤_}
+use mathlib.Core.Path.{_≡_, refl, ap, subst}
+use mathlib.Core.Bool.{true}
+use mathlib.Core.List.{List}
+use Prim.Native.Nat.{ℕ, _<_}
 use native.Mathlib.Omega.{arith}
 use lib.IntN.{ℤ}
 use Rattle.model.specs.Test.{count, once}
@@ -28,7 +28,7 @@ use Rattle.model.proofs.Abstract.Machine.{Binding, Frame, at, running, 
 use Rattle.model.proofs.Abstract.Shuffle.{Split}
 use Rattle.model.proofs.Sees.Labels.{Labels, nodeMeant, programOf, FlowAt}
 use Rattle.model.proofs.Sees.View.{World, HeldSeen, StateSeen, ready, waiting, called, TokenSeen, sees}
-use Rattle.model.proofs.Sees.Sees.{Core, world}
+use Rattle.model.proofs.Sees.Sees.{Core, world, live-listed}
 use Rattle.model.proofs.Sees.Others.{Others, FoundAt, foundAt, find-place, others, spot-token}
 use Rattle.model.proofs.Sees.Agrees.{Acting, shows-unless, Agrees}
 use Rattle.model.proofs.Sees.Going.{stop-agrees, publish-agrees, assign-agrees, remove-agrees, return-agrees, site-agrees}
@@ -51,10 +51,6 @@ take-token : {M : Labels} {W : World} {p : ℕ} {S L R : List Abstract.Token} {x
 take-token {S = S} {L = L} {R = R} e i o (sees z un st) =
     let r = ready-is e st in
     taken (subst (λ x. Split x S L R) (r .1) i) (record { others = o; place = z; clear = un; value = r .2; state = e })
-
-pub live-listed : {M : Labels} {W : World} {A : List ℕ} {S : List Abstract.Token} (p : ℕ)
-    → Core M W A S → isLive (tokenAt (W .tokens) p .state) ≡ true → 0 < count p A
-live-listed {W = W} p K e = let z = K .each p in let y : once (isLive (tokenAt (W .tokens) p .state)) ≡ 1 = ap once e in omega arith
 
 pub take-ready : {M : Labels} {W : World} {A : List ℕ} {S : List Abstract.Token} (p : ℕ)
     → Core M W A S → tokenAt (W .tokens) p .state ≡ states.Ready → Taken M W p S
@@ -88,7 +84,7 @@ module _ (lim : Limits) (d : Dag) (M : Labels) (bodies : ℕ → Exp) (before : 
 
   pub act-agrees : {N : Node} → FlowAt d M n N
       → Agrees M W L R (before .calls) (act lim d before m p t N)
-        (actsAt (programOf d M bodies) σ new (before .calls) (nodeMeant (M .scope n) N) (at n B F U) v)
+      (actsAt (programOf d M bodies) σ new (before .calls) (nodeMeant (M .scope n) N) (at n B F U) v)
   unfolding act withOrders
   act-agrees FlowAt.stop = stop-agrees d M bodies m A
   act-agrees (FlowAt.site {s = s} e good f) = site-agrees d M bodies m A lim s f e good

@@ -21,7 +21,7 @@ use Rattle.model.proofs.Abstract.Machine.{Binding, Frame, at, running, 
 use Rattle.model.proofs.Sees.Labels.{Labels}
 use Rattle.model.proofs.Sees.View.{World, HeldSeen, Unset, PlaceSeen, TokenSeen, sees}
 use Rattle.model.proofs.Sees.Sees.{world, Sees, sees-tables, UsedToken, UsedCell, used-fits, token-used}
-use Rattle.model.proofs.Sees.Others.{Others, oneWritten, ends-core, goes-core}
+use Rattle.model.proofs.Sees.Others.{Others, ends-core, goes-core}
 use Rattle.model.proofs.Sees.Moving.{ready-seen}
 
 -- the ready token at p, with those before and behind it in the abstract machine's list

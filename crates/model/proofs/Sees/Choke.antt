@@ -4,8 +4,7 @@
 use mathlib.Core.Path.{_≡_, refl, sym, _∙_, ap, subst}
 use mathlib.Core.Bool.{Bool, true, false, not}
 use mathlib.Core.List.{List, [], _∷_, _++_, map}
-use mathlib.Core.Option.{none}
-use Prim.Native.Nat.{ℕ, suc, _+_, _<_, _≤_}
+use Prim.Native.Nat.{ℕ, suc, _+_, _<_}
 use native.Mathlib.Decide.{ℕ-discrete}
 use native.Mathlib.Omega.{arith}
 use lib.ListN.{length, getD, set, length-set, length-map, List·getD-map}
@@ -26,18 +25,18 @@ use Rattle.model.specs.declared.token.State.the-variants as states
 use Rattle.model.specs.declared.token.Token.{Token}
 use Rattle.model.specs.declared.cell.Cell.{Cell}
 use Rattle.model.specs.declared.record.Machine.{Machine}
-use Rattle.model.proofs.Test.{clash, eq-eqb, ne-eqb}
+use Rattle.model.proofs.Test.{clash, ne-eqb}
 use Rattle.model.proofs.Abstract.Machine as Abstract
-use Rattle.model.proofs.Abstract.Machine.{Binding, Frame, at, running, Store, withSet, isOutOf, outOf, actsAt}
+use Rattle.model.proofs.Abstract.Machine.{Binding, Frame, at, Store, withSet, isOutOf, outOf, actsAt}
 use Rattle.model.proofs.Abstract.Store.{_∈_, set-same, set-other}
 use Rattle.model.proofs.Sees.Labels.{Labels, nodeMeant, programOf}
 use Rattle.model.proofs.Sees.View.{held, World, Nested, StateSeen, ready, waiting, called, Unset, CellSeen, CellsSeen, root, below, PlaceSeen, TokenSeen, sees, TokensSeen, nobody, also, FrameSeen, frameAt, frame-seen, Kept, Closed, place-keep, tokens-append}
-use Rattle.model.proofs.Sees.Sees.{Core, world, Sees, sees-tables}
+use Rattle.model.proofs.Sees.Sees.{Core, world, sees-tables}
 use Rattle.model.proofs.Sees.Others.{Others, count-append}
 use Rattle.model.proofs.Sees.Making.{cell-same, cell-other}
 use Rattle.model.proofs.Sees.Within.{not-any, any-first, any-rest, within-seen}
 use Rattle.model.proofs.Sees.Moving.{value-there, value-optional, place-as}
-use Rattle.model.proofs.Sees.Agrees.{Acting, Becomes, Shows, Agrees}
+use Rattle.model.proofs.Sees.Agrees.{Acting, Shows, Agrees}
 
 -- a token at a place, choked
 choke-blank : (cs : List Cell) (c : ℕ) → chokeToken cs c blankToken ≡ blankToken
@@ -237,8 +236,8 @@ module _ (M : Labels) (W : World) (c i : ℕ) (s : CellSeen W c i) (w : Held) (v
     where
       go : (a b : Bool) → stays p ≡ a → a ≡ b → TokensSeen chokedWorld M (filter stays A) (outOf i S)
           → TokensSeen chokedWorld M
-            (elim a as (λ b. List ℕ) [ true ↦ p ∷ filter stays A | false ↦ filter stays A ])
-            (elim b as (λ b. List Abstract.Token) [ true ↦ x ∷ outOf i S | false ↦ outOf i S ])
+          (elim a as (λ b. List ℕ) [ true ↦ p ∷ filter stays A | false ↦ filter stays A ])
+          (elim b as (λ b. List Abstract.Token) [ true ↦ x ∷ outOf i S | false ↦ outOf i S ])
       go true true f g h = also (token-spared p (not-not _ f) z) h
       go true false f g h = clash refl g
       go false true f g h = clash g refl
@@ -261,7 +260,8 @@ module _ (M : Labels) (W : World) (c i : ℕ) (s : CellSeen W c i) (w : Held) (v
             let a = count-append r (o .before) (o .behind) in
             let b = o .each r in
             let g : once (eqb r p) ≡ 0 = ap once (ne-eqb r p (λ x. clash (ap (λ y. inCell (tokenAt (W .tokens) y)) x ∙ ends) f)) in
-            let h : alive (tokenAt (chokedWorld .tokens) r) ≡ alive (tokenAt (W .tokens) r) = ap alive (spared r f) ∙ ap once (woken-live c (tokenAt (W .tokens) r)) in
+            let h : alive (tokenAt (chokedWorld .tokens) r) ≡ alive (tokenAt (W .tokens) r) =
+            ap alive (spared r f) ∙ ap once (woken-live c (tokenAt (W .tokens) r)) in
             let k = filtered-in stays r (o .before ++ o .behind) (ap not f) in
             omega arith
 
@@ -296,6 +296,7 @@ module _ (d : Dag) (M : Labels) (bodies : ℕ → Exp) (m : Machine) {name place
       ends = ap (within (m .cells) c) f ∙ (within-seen s (below s z) ∙ any-first i X)
 
   pub choke-agrees : M .value n ≡ true
-      → Agrees M W L R (m .calls) (chokes m p t (t .cell)) (actsAt (programOf d M bodies) σ new (m .calls) (nodeMeant (M .scope n) Node.choke) (at n B F U) v)
+      → Agrees M W L R (m .calls) (chokes m p t (t .cell))
+      (actsAt (programOf d M bodies) σ new (m .calls) (nodeMeant (M .scope n) Node.choke) (at n B F U) v)
   unfolding nodeMeant
   choke-agrees e = choke-from e refl (A .place .cell)

@@ -1,8 +1,8 @@
 -- The instructions that write one place agree with the abstract machine's: stop, publish, assign, remove, return, and site calls. Assumes nothing.
-use mathlib.Core.Path.{_≡_, refl, sym, _∙_, ap, subst}
+use mathlib.Core.Path.{_≡_, refl, sym, subst}
 use mathlib.Core.Bool.{Bool, true, false}
-use mathlib.Core.List.{List, [], _∷_, _++_, map}
-use Prim.Native.Nat.{ℕ, _<_, _≤_}
+use mathlib.Core.List.{List, _∷_}
+use Prim.Native.Nat.{ℕ, _<_}
 use native.Mathlib.Omega.{arith}
 use lib.ListN.{length}
 use lib.Dec.{ltb}
@@ -15,15 +15,12 @@ use Rattle.model.specs.Job.Node.{Node, Dag}
 use Rattle.model.specs.Machine.Limits.{Limits}
 use Rattle.model.specs.Machine.Blank.{blankToken, tokenAt}
 use Rattle.model.specs.Machine.Active.{isLive}
-use Rattle.model.specs.Machine.Reply.{Effect, moves, publishes, unless}
-use Rattle.model.specs.Machine.Step.{to, binding, holding, being, withTables, withOrders, withCounts, queueOf, waitsOf, put, enqueue, Looked, values, unset, look, valueOf, ended, goesOn, waited, replied, calledOut, returned, callSite}
-use Rattle.model.specs.Calculus.Event.{Event, Label, silently, showing}
+use Rattle.model.specs.Machine.Reply.{moves, publishes, unless}
+use Rattle.model.specs.Machine.Step.{to, binding, holding, being, withTables, withOrders, withCounts, put, enqueue, Looked, values, unset, look, valueOf, ended, goesOn, waited, replied, calledOut, returned, callSite}
+use Rattle.model.specs.Calculus.Event.{Event, silently, showing}
 use Rattle.model.specs.Calculus.Expression.{Exp}
 use Rattle.model.specs.Calculus.Allowed.{nextHandle}
-use Rattle.model.specs.Run.Meaning.{paramMeant}
-use Rattle.model.specs.declared.token.Slot.{Slot}
 use Rattle.model.specs.declared.token.Slot.the-variants as slots
-use Rattle.model.specs.declared.token.Held.{Held}
 use Rattle.model.specs.declared.token.Held.the-variants as helds
 use Rattle.model.specs.declared.token.Place.{Place}
 use Rattle.model.specs.declared.token.Place.the-variants as places
@@ -32,11 +29,11 @@ use Rattle.model.specs.declared.token.Token.{Token}
 use Rattle.model.specs.declared.record.Machine.{Machine}
 use Rattle.model.specs.declared.reply.Refusal.the-variants as refusals
 use Rattle.model.proofs.Abstract.Machine as Abstract
-use Rattle.model.proofs.Abstract.Machine.{Binding, Frame, at, running, Store, makes, actsAt, valuesIn}
+use Rattle.model.proofs.Abstract.Machine.{Binding, Frame, at, running, Store, actsAt}
 use Rattle.model.proofs.Abstract.Store.{_∈_}
 use Rattle.model.proofs.Sees.Labels.{Labels, nodeMeant, programOf, Fresh, Follows}
 use Rattle.model.proofs.Sees.View.{World, cellsOfCaller, present, waiting, called, valued, BindingSeen, FrameSeen, frameAt, frame-seen, TokenSeen, sees}
-use Rattle.model.proofs.Sees.Sees.{world, Sees, tokens-of, used-fits}
+use Rattle.model.proofs.Sees.Sees.{world, tokens-of, used-fits}
 use Rattle.model.proofs.Sees.Slots.{found, values-seen}
 use Rattle.model.proofs.Sees.Moving.{value-there, value-optional, value-held, ready-seen, nested-none, place-to, place-bind, place-drop, place-as, fits-as, fits-bind}
 use Rattle.model.proofs.Sees.Agrees.{Acting, acting-used, acting-fits, Becomes, Shows, shows-unless, Agrees, ends-becomes, goes-becomes}
@@ -120,7 +117,6 @@ module _ (d : Dag) (M : Labels) (bodies : ℕ → Exp) (m : Machine) {name place
 
   -- site calls
   module _ (lim : Limits) (s : ℕ) {k : ℕ} (f : Follows d M n k (M .scope n) (M .nest n)) where
-
     replied-agrees : (r : Said) → Agrees M W L R (m .calls) (replied m p t k r) (Abstract.replies r (at k B F U))
     unfolding Shows replied goesOn ended enqueue put withTables withOrders nextHandle isLive to holding
     replied-agrees silent = ends-becomes m (A .others) _ silently blankToken refl refl refl refl
@@ -144,7 +140,10 @@ module _ (d : Dag) (M : Labels) (bodies : ℕ → Exp) (m : Machine) {name place
     looked-agrees e (values vs) = go (isBuiltin s)
       where
         go : (b : Bool) → Agrees M W L R (m .calls)
-            (elim b [ true ↦ replied m p t k (builtin s vs) | false ↦ unless (ltb (m .calls) (lim .calls)) refusals.CallLimit (calledOut m p t s vs k) ])
+            (elim b [
+              | true ↦ replied m p t k (builtin s vs)
+              | false ↦ unless (ltb (m .calls) (lim .calls)) refusals.CallLimit (calledOut m p t s vs k)
+            ])
             (Abstract.callsSite (m .calls) s vs b (at k B F U))
         go true = replied-agrees (builtin s vs)
         go false = shows-unless _ (ltb (m .calls) (lim .calls)) refusals.CallLimit (calledOut m p t s vs k) (λ i. called-agrees vs)
@@ -155,6 +154,6 @@ module _ (d : Dag) (M : Labels) (bodies : ℕ → Exp) (m : Machine) {name place
     site-agrees {ps} e good =
         subst
         (λ o. Agrees M W L R (m .calls) (callSite lim d m p t s k (look (m .cells) (t .binds) ps))
-            (Abstract.asksSite (m .calls) s (running (at n B F U) v) o (at k B F U)))
+        (Abstract.asksSite (m .calls) s (running (at n B F U) v) o (at k B F U)))
         (sym (values-seen (A .place .binds .views) good))
         (looked-agrees e (look (m .cells) (t .binds) ps))

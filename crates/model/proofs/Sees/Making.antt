@@ -1,9 +1,9 @@
 -- The instructions that give a new place agree with the abstract machine's: fork, a definition call, and where. Assumes nothing.
 use mathlib.Core.Path.{_≡_, refl, sym, _∙_, ap, subst}
-use mathlib.Core.Bool.{Bool, true, false}
+use mathlib.Core.Bool.{true, false}
 use mathlib.Core.List.{List, [], _∷_, _++_, map, reverse, List·Memᴰ·head, List·Memᴰ·tail}
 use mathlib.Core.Option.{none}
-use Prim.Native.Nat.{ℕ, suc, _<_, _≤_}
+use Prim.Native.Nat.{ℕ, suc, _<_}
 use native.Mathlib.Omega.{arith}
 use lib.ListN.{length, set, length-set}
 use lib.Seq.{getD-set-same, getD-set-other}
@@ -17,7 +17,6 @@ use Rattle.model.specs.Machine.Blank.{blankCell, tokenAt, cellAt}
 use Rattle.model.specs.Machine.Active.{isLive}
 use Rattle.model.specs.Machine.InUse.{tokensUsed, cellsUsed}
 use Rattle.model.specs.Machine.Step.{to, binding, inCell, being, withTables, withOrders, withCounts, put, enqueue, newToken, newCell, formalsBound, forked, split, entered}
-use Rattle.model.specs.Calculus.Event.{silently}
 use Rattle.model.specs.Calculus.Expression.{Exp}
 use Rattle.model.specs.Calculus.Allowed.{nextHandle}
 use Rattle.model.specs.Run.Meaning.{paramMeant}
@@ -31,15 +30,14 @@ use Rattle.model.specs.declared.record.Machine.{Machine}
 use Rattle.model.proofs.Test.{clash, eqb-same, ne-eqb}
 use Rattle.model.proofs.Machine.Marks.{Free, free-inside}
 use Rattle.model.proofs.Abstract.Machine as Abstract
-use Rattle.model.proofs.Abstract.Machine.{Binding, Frame, frame, at, running, Store, makes, named, actsAt}
-use Rattle.model.proofs.Abstract.Store.{_∈_}
+use Rattle.model.proofs.Abstract.Machine.{Binding, Frame, frame, at, running, Store, named, actsAt}
 use Rattle.model.proofs.Sees.Labels.{Labels, nodeMeant, programOf, Fresh, Follows, Enters}
 use Rattle.model.proofs.Sees.View.{held, World, Unset, absent, ready, CellSeen, CellsSeen, below, celled, calledBy, PlaceSeen, TokenSeen, sees, Kept, place-keep}
-use Rattle.model.proofs.Sees.Sees.{world, Sees, sees-tables, UsedToken, UsedCell, cells-of, used-closed}
+use Rattle.model.proofs.Sees.Sees.{world, sees-tables, UsedToken, UsedCell, cells-of, used-closed}
 use Rattle.model.proofs.Sees.Slots.{formals-seen}
-use Rattle.model.proofs.Sees.Others.{Others, acting-inside, twoWritten, two-first, two-kept, both-core, new-core}
+use Rattle.model.proofs.Sees.Others.{acting-inside, cell-later, twoWritten, two-first, two-kept, both-core, new-core}
 use Rattle.model.proofs.Sees.Moving.{value-optional, ready-seen, slots-at, place-to, place-bind, place-as}
-use Rattle.model.proofs.Sees.Agrees.{Acting, acting-used, acting-fits, Becomes, Shows, Agrees}
+use Rattle.model.proofs.Sees.Agrees.{Acting, acting-used, acting-fits, Shows, Agrees}
 
 -- a function with the value v at c
 unfoldable changed : (ℕ → ℕ) → (c v : ℕ) → ℕ → ℕ
@@ -80,8 +78,7 @@ module _ (d : Dag) (M : Labels) (bodies : ℕ → Exp) (m : Machine) {name place
   made u w = twoWritten W p u q w (m .cells) name place
 
   newer : (u w : Token) (c i : ℕ) → UsedCell W c → CellSeen W c i → CellSeen (made u w) c i
-  newer u w c i x s =
-      record { inside = s .inside; old = (let z : i < new = s .old in omega arith); name = s .name; place = s .place; value = s .value }
+  newer u w c i x s = cell-later s
 
   made-kept : (u w : Token) → Kept (UsedToken W) (UsedCell W) W (made u w)
   made-kept u w = two-kept (A .others) (acting-used A) q free u w (m .cells) name place (newer u w) (λ c i. refl)

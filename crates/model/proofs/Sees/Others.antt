@@ -18,7 +18,7 @@ use Rattle.model.specs.declared.token.State.the-variants as states
 use Rattle.model.specs.declared.token.Token.{Token}
 use Rattle.model.specs.declared.cell.Cell.{Cell}
 use Rattle.model.proofs.Test.{clash, false-of, eqb-eq, eqb-same, ne-eqb}
-use Rattle.model.proofs.Machine.Marks.{Marked, Free, free-inside}
+use Rattle.model.proofs.Machine.Marks.{Free, free-inside}
 use Rattle.model.proofs.Machine.Inside.{Fits}
 use Rattle.model.proofs.Abstract.Machine as Abstract
 use Rattle.model.proofs.Abstract.Shuffle.{Split, first, later}
@@ -100,7 +100,12 @@ others {A = A} {p = p} K (spot {Before = A₁} {Behind = A₂} e v l r) =
       behind = A₂;
       lefts = l;
       rights = r;
-      each = λ i. let a = count-append i A₁ (p ∷ A₂) in let b : count i A ≡ count i (A₁ ++ (p ∷ A₂)) = ap (count i) e in let c = K .each i in omega arith;
+      each =
+          λ i.
+          let a = count-append i A₁ (p ∷ A₂) in
+          let b : count i A ≡ count i (A₁ ++ (p ∷ A₂)) = ap (count i) e in
+          let c = K .each i in
+          omega arith;
       clean = K .clean;
     }
 
@@ -192,13 +197,19 @@ abbrev pub oneWritten : World → ℕ → Token → World
 oneWritten W p u =
     record { tokens = set (W .tokens) p u; cells = W .cells; name = W .name; place = W .place; store = W .store; new = suc (W .new) }
 
+-- names that were given stay
+pub cell-later : {W : World} {ts : List Token} {c n : ℕ} → CellSeen W c n
+    → CellSeen (record { tokens = ts; cells = W .cells; name = W .name; place = W .place; store = W .store; new = suc (W .new) }) c n
+cell-later {W} {n = n} s =
+    record { inside = s .inside; old = (let z : n < W .new = s .old in omega arith); name = s .name; place = s .place; value = s .value }
+
 module _ {M : Labels} {W : World} {p : ℕ} {L R : List Abstract.Token} (o : Others M W p L R) (u : Token) where
   one-kept : Kept (UsedToken W) (UsedCell W) W (oneWritten W p u)
   one-kept =
       record {
         size = length-set (W .tokens) p u;
         frames = λ q i e. token-other (W .tokens) p q u (frame-other o q e);
-        cells = λ c n i s. record { inside = s .inside; old = (let z : n < W .new = s .old in omega arith); name = s .name; place = s .place; value = s .value };
+        cells = λ c n i s. cell-later s;
         parents = λ c i. refl;
       }
 
@@ -208,7 +219,8 @@ module _ {M : Labels} {W : World} {p : ℕ} {L R : List Abstract.Token} (o : Oth
     where
       go : Dec (r ≡ p) → alive (tokenAt (set (W .tokens) p u) r) + once (eqb r p) ≡ alive (tokenAt (W .tokens) r) + count r N
       go (yes e) =
-          let a : alive (tokenAt (set (W .tokens) p u) r) ≡ alive u = ap alive (ap (tokenAt (set (W .tokens) p u)) e ∙ token-same (W .tokens) p u (acting-inside o)) in
+          let i : tokenAt (set (W .tokens) p u) r ≡ u = ap (tokenAt (set (W .tokens) p u)) e ∙ token-same (W .tokens) p u (acting-inside o) in
+          let a : alive (tokenAt (set (W .tokens) p u) r) ≡ alive u = ap alive i in
           let b : alive (tokenAt (W .tokens) r) ≡ 1 = ap (λ i. alive (tokenAt (W .tokens) i)) e ∙ ap once (acting-live o) in
           let c : once (eqb r p) ≡ 1 = ap once (ap (eqb r) (sym e) ∙ eqb-same r) in
           let f : count r N ≡ alive u = ap (λ i. count i N) e ∙ k in
@@ -245,7 +257,6 @@ module _ {M : Labels} {W : World} {p : ℕ} {L R : List Abstract.Token} (o : Oth
 abbrev pub twoWritten : World → (p : ℕ) → Token → (q : ℕ) → Token → List Cell → (name place : ℕ → ℕ) → World
 twoWritten W p u q w cs name place =
     record { tokens = set (set (W .tokens) p u) q w; cells = cs; name = name; place = place; store = W .store; new = suc (W .new) }
-
 
 module _ {M : Labels} {W : World} {p : ℕ} {L R : List Abstract.Token} (o : Others M W p L R) (used : UsedToken W p)
     (q : ℕ) (free : Free (usedTokens (W .tokens) (W .cells)) q) (u w : Token) (cs : List Cell) (name place : ℕ → ℕ) where

@@ -2,15 +2,14 @@
 -- are active, so what they name is in use, and blanking the rest keeps the view. Assumes nothing.
 use mathlib.Core.Path.{_≡_, refl, sym, _∙_, ap, subst}
 use mathlib.Core.Logic.{_⊎_, inl, inr}
-use mathlib.Core.Bool.{Bool, true, false, not}
-use mathlib.Core.List.{List, [], _∷_, List·Memᴰ·head, List·Memᴰ·tail}
-use mathlib.Core.Option.{Option, some, none}
+use mathlib.Core.Bool.{Bool, true, false}
+use mathlib.Core.List.{List, List·Memᴰ·head, List·Memᴰ·tail}
+use mathlib.Core.Option.{none}
 use Prim.Native.Nat.{ℕ, zero, suc, _+_, _<_, _≤_}
 use native.Mathlib.Decide.{decLt}
 use native.Mathlib.Omega.{arith}
 use lib.ListN.{length, getD}
 use lib.Dec.{eqb}
-use lib.IntN.{ℤ}
 use Rattle.model.specs.Test.{count, once}
 use Rattle.model.specs.Machine.Blank.{blankToken, blankCell, tokenAt, cellAt, hasValue}
 use Rattle.model.specs.Machine.Active.{isSet, upward, underSet, isLive, isActive}
@@ -31,7 +30,7 @@ use Rattle.model.proofs.Abstract.Machine as Abstract
 use Rattle.model.proofs.Abstract.Machine.{Store, state}
 use Rattle.model.proofs.Abstract.Store.{_∈_}
 use Rattle.model.proofs.Sees.Labels.{Labels}
-use Rattle.model.proofs.Sees.View.{held, World, CellSeen, CellsSeen, root, below, PlaceSeen, StateSeen, ready, waiting, called, Unset, TokenSeen, sees, TokensSeen, nobody, also, Kept, Closed, token-keep, tokens-map}
+use Rattle.model.proofs.Sees.View.{held, World, CellSeen, CellsSeen, root, below, StateSeen, ready, waiting, called, Unset, TokenSeen, sees, TokensSeen, nobody, also, Kept, Closed, token-keep, tokens-map}
 
 -- A: the places of the live tokens, in the order of S
 pub record Core (M : Labels) (W : World) (A : List ℕ) (S : List Abstract.Token) : Type 0 where
@@ -104,18 +103,24 @@ live-inside ts p e = go (decLt p (length ts))
     go (no n) = clash e (ap (λ (t : Token). isLive (t .state)) (token-outside ts p (omega arith)))
 
 -- in use, as the machine finds it
+abbrev pub tokenMarks : World → List Bool
+tokenMarks W = usedTokens (W .tokens) (W .cells)
+
+abbrev pub cellMarks : World → List Bool
+cellMarks W = usedCells (tokenMarks W) (W .tokens) (W .cells)
+
 abbrev pub UsedToken : World → ℕ → Type 0
-UsedToken W p = Marked (usedTokens (W .tokens) (W .cells)) p
+UsedToken W p = Marked (tokenMarks W) p
 
 abbrev pub UsedCell : World → ℕ → Type 0
-UsedCell W c = Marked (usedCells (usedTokens (W .tokens) (W .cells)) (W .tokens) (W .cells)) c
+UsedCell W c = Marked (cellMarks W) c
 
 module _ (W : World) where
-  pub tokens-of : TokensUsed (W .tokens) (W .cells) (usedTokens (W .tokens) (W .cells))
+  pub tokens-of : TokensUsed (W .tokens) (W .cells) (tokenMarks W)
   tokens-of = tokens-used (W .tokens) (W .cells)
 
-  pub cells-of : CellsUsed (usedTokens (W .tokens) (W .cells)) (W .tokens) (W .cells) (usedCells (usedTokens (W .tokens) (W .cells)) (W .tokens) (W .cells))
-  cells-of = cells-used (usedTokens (W .tokens) (W .cells)) (W .tokens) (W .cells) (tokens-of .size)
+  pub cells-of : CellsUsed (tokenMarks W) (W .tokens) (W .cells) (cellMarks W)
+  cells-of = cells-used (tokenMarks W) (W .tokens) (W .cells) (tokens-of .size)
 
   pub used-fits : (p : ℕ) → UsedToken W p → Fits (UsedToken W) (UsedCell W) (tokenAt (W .tokens) p)
   used-fits p u = record { caller = tokens-of .caller p u; cells = cells-of .named p u }
@@ -140,12 +145,17 @@ token-at {M} {W} p l (also {p = q} {x = x} {A = B} v r) = go (eqb p q) refl (λ 
     go true e f = (x, subst (λ i. TokenSeen W M (tokenAt (W .tokens) i) x) (sym (eqb-eq p q e)) v)
     go false e f = f (let z : 0 < once (eqb p q) + count p B = l in let y : once (eqb p q) ≡ 0 = rw e refl in omega arith)
 
+-- each live token is listed
+pub live-listed : {M : Labels} {W : World} {A : List ℕ} {S : List Abstract.Token} (p : ℕ)
+    → Core M W A S → isLive (tokenAt (W .tokens) p .state) ≡ true → 0 < count p A
+live-listed {W = W} p K e = let z = K .each p in let y : once (isLive (tokenAt (W .tokens) p .state)) ≡ 1 = ap once e in omega arith
+
 -- what is not in use made blank
 abbrev pub swept : World → World
 swept W =
     record {
-      tokens = kept blankToken (usedTokens (W .tokens) (W .cells)) (W .tokens);
-      cells = kept blankCell (usedCells (usedTokens (W .tokens) (W .cells)) (W .tokens) (W .cells)) (W .cells);
+      tokens = kept blankToken (tokenMarks W) (W .tokens);
+      cells = kept blankCell (cellMarks W) (W .cells);
       name = W .name;
       place = W .place;
       store = W .store;
@@ -155,21 +165,21 @@ swept W =
 module _ (W : World) where
   pub swept-token : (p : ℕ) → UsedToken W p → tokenAt (swept W .tokens) p ≡ tokenAt (W .tokens) p
   unfolding tokenAt
-  swept-token p u = kept-marked blankToken (usedTokens (W .tokens) (W .cells)) (W .tokens) p (tokens-of W .size) u
+  swept-token p u = kept-marked blankToken (tokenMarks W) (W .tokens) p (tokens-of W .size) u
 
   pub swept-cell : (c : ℕ) → UsedCell W c → cellAt (swept W .cells) c ≡ cellAt (W .cells) c
   unfolding cellAt
-  swept-cell c u = kept-marked blankCell (usedCells (usedTokens (W .tokens) (W .cells)) (W .tokens) (W .cells)) (W .cells) c (cells-of W .size) u
+  swept-cell c u = kept-marked blankCell (cellMarks W) (W .cells) c (cells-of W .size) u
 
   swept-kept : Kept (UsedToken W) (UsedCell W) W (swept W)
   swept-kept =
       record {
-        size = length-kept blankToken (usedTokens (W .tokens) (W .cells)) (W .tokens);
+        size = length-kept blankToken (tokenMarks W) (W .tokens);
         frames = λ q u e. swept-token q u;
         cells =
             λ c n u s.
             record {
-              inside = let z = length-kept blankCell (usedCells (usedTokens (W .tokens) (W .cells)) (W .tokens) (W .cells)) (W .cells) in let l : c < length (W .cells) = s .inside in omega arith;
+              inside = let z = length-kept blankCell (cellMarks W) (W .cells) in let l : c < length (W .cells) = s .inside in omega arith;
               old = s .old;
               name = s .name;
               place = s .place;
@@ -178,13 +188,19 @@ module _ (W : World) where
         parents = λ c u. ap (λ (k : Cell). k .parent) (swept-cell c u);
       }
 
+  swept-seen : {M : Labels} (p : ℕ) {x : Abstract.Token}
+      → TokenSeen W M (tokenAt (W .tokens) p) x → TokenSeen (swept W) M (tokenAt (swept W .tokens) p) x
+  swept-seen {M} p {x} v =
+      let u = token-used W p v in
+      subst (λ t. TokenSeen (swept W) M t x) (sym (swept-token p u)) (token-keep swept-kept (used-closed W) (used-fits W p u) (λ c e. e) v)
+
   module _ {M : Labels} {A : List ℕ} {S : List Abstract.Token} (K : Core M W A S) where
     listed-used : (r : ℕ) → 0 < count r A → UsedToken W r
     listed-used r l = token-used W r (token-at r l (K .seen) .1)
 
     swept-each : (r : ℕ) → count r A ≡ once (isLive (tokenAt (swept W .tokens) r .state))
     unfolding tokenAt isLive
-    swept-each r = go (decLt 0 (count r A)) (kept-cases blankToken (usedTokens (W .tokens) (W .cells)) (W .tokens) r)
+    swept-each r = go (decLt 0 (count r A)) (kept-cases blankToken (tokenMarks W) (W .tokens) r)
       where
         live : Token → ℕ
         live t = once (isLive (t .state))
@@ -201,10 +217,7 @@ module _ (W : World) where
     pub swept-core : Core M (swept W) A S
     swept-core =
         record {
-          seen =
-              tokens-map
-              (λ p x l v. let u = token-used W p v in subst (λ t. TokenSeen (swept W) M t x) (sym (swept-token p u)) (token-keep swept-kept (used-closed W) (used-fits W p u) (λ c e. e) v))
-              (K .seen);
+          seen = tokens-map (λ p x l v. swept-seen p v) (K .seen);
           each = swept-each;
           clean = K .clean;
         }

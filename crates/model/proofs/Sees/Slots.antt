@@ -1,14 +1,13 @@
 -- What instructions do to bindings, seen as the abstract machine's list of them: a new binder's slot is its head, a variable is found at its
 -- position in the scope, a call's formals are the parameters' bindings in reverse. By recursion on the scope or the parameters. Assumes nothing.
 use mathlib.Core.Path.{_≡_, refl, sym, _∙_, ap, subst}
-use mathlib.Core.Logic.{_⊎_, inl, inr}
 use mathlib.Core.Bool.{Bool, true, false}
-use mathlib.Core.List.{List, [], _∷_, _++_, map, reverse, reverseAux, tail, List·Memᴰ, List·Memᴰ·head, List·Memᴰ·tail, List·Memᴰ·not-nil}
+use mathlib.Core.List.{List, [], _∷_, _++_, map, reverse, reverseAux, tail, List·Memᴰ·head, List·Memᴰ·tail, List·Memᴰ·not-nil}
 use mathlib.Core.Option.{Option, some, none}
 use Prim.Native.Nat.{ℕ, zero, suc, _+_, _-_, _<_, _≤_}
 use native.Mathlib.Decide.{ℕ-discrete, decLt}
 use native.Mathlib.Omega.{arith}
-use lib.ListN.{length, getD, set, drop, replicate, length-set, length-append, length-drop, length-map, List·getD-append}
+use lib.ListN.{length, set, drop, replicate, length-set, length-append, length-drop, length-map, List·getD-append}
 use lib.Seq.{getD-set-same, getD-set-other, getD-append-add, getD-drop}
 use lib.Dec.{eqb}
 use lib.IntN.{ℤ}
@@ -24,14 +23,12 @@ use Rattle.model.specs.declared.token.Slot.the-variants as slots
 use Rattle.model.specs.declared.token.Bind.{Bind}
 use Rattle.model.specs.declared.token.Held.{Held}
 use Rattle.model.specs.declared.token.Held.the-variants as helds
-use Rattle.model.specs.declared.token.Place.the-variants as places
-use Rattle.model.specs.declared.cell.Cell.{Cell}
-use Rattle.model.proofs.Test.{clash, eqb-eq, eq-eqb, eqb-ne}
-use Rattle.model.proofs.Abstract.Machine.{Binding, Store, bindingAt, named, valueIn, inFront, valuesIn}
+use Rattle.model.proofs.Test.{eqb-eq, eqb-ne}
+use Rattle.model.proofs.Abstract.Machine.{Binding, bindingAt, named, valueIn, inFront, valuesIn}
 use Rattle.model.proofs.Abstract.Store.{_∈_}
 use Rattle.model.specs.Calculus.Expression as Calculus
 use Rattle.model.proofs.Sees.Labels.{Fresh}
-use Rattle.model.proofs.Sees.View.{held, World, CellsSeen, below, BindingSeen, valued, celled, BindingsSeen, nothing, binds, SlotsSeen}
+use Rattle.model.proofs.Sees.View.{held, World, below, BindingSeen, valued, celled, BindingsSeen, nothing, binds, SlotsSeen}
 
 -- one slot written
 abbrev pub withSlot : List Bind → ℕ → Slot → List Bind

@@ -4,12 +4,11 @@ use mathlib.Core.Path.{_≡_, refl, sym, _∙_, ap, subst}
 use mathlib.Core.Bool.{Bool, true, false}
 use mathlib.Core.List.{List, [], _∷_, _++_}
 use mathlib.Core.Option.{Option, some, none}
-use Prim.Native.Nat.{ℕ, suc, _<_, _≤_}
+use Prim.Native.Nat.{ℕ, _<_}
 use native.Mathlib.Omega.{arith}
 use lib.ListN.{length}
 use lib.IntN.{ℤ}
-use lib.Dec.{eqb}
-use Rattle.model.specs.Test.{count, once}
+use Rattle.model.specs.Test.{count}
 use Rattle.model.specs.Machine.Blank.{tokenAt, cellAt, slotAt}
 use Rattle.model.specs.declared.token.Slot.{Slot}
 use Rattle.model.specs.declared.token.Slot.the-variants as slots
@@ -24,7 +23,6 @@ use Rattle.model.specs.declared.token.Token.{Token}
 use Rattle.model.specs.declared.cell.Cell.{Cell}
 use Rattle.model.proofs.Test.{eqb-same}
 use Rattle.model.proofs.Machine.Reach.{Names}
-use Rattle.model.proofs.Machine.InUse.{CellsIn}
 use Rattle.model.proofs.Machine.Inside.{Fits}
 use Rattle.model.proofs.Abstract.Machine as Abstract
 use Rattle.model.proofs.Abstract.Machine.{Binding, Frame, frame, at, running, Store}
@@ -180,7 +178,8 @@ module _ {M : Labels} {Q R : ℕ → Type 0} {O W : World} (K : Kept Q R O W) (Z
   frames-keep : {o : Place} {F : List Frame} → Names Q o → FramesSeen O M o F → FramesSeen W M o F
   frames-keep h outermost = outermost
   frames-keep h (calledBy {q = q} {t = t} {n = n} {B = B} {F = F} {U = U} l i s k b f u o) =
-      let fits : Fits Q R t = subst (Fits Q R) i (Z .token q (h q refl) (subst (λ t. PlaceSeen O M t n B F U) (sym i) (record { node = k; binds = b; caller = f; cell = u; nested = o }))) in
+      let view : PlaceSeen O M t n B F U = record { node = k; binds = b; caller = f; cell = u; nested = o } in
+      let fits : Fits Q R t = subst (Fits Q R) i (Z .token q (h q refl) (subst (λ t. PlaceSeen O M t n B F U) (sym i) view)) in
       calledBy {q = q} (let z : length (W .tokens) ≡ length (O .tokens) = K .size in omega arith)
       (K .frames q (h q refl) (ap (λ (t : Token). t .state) i ∙ s) ∙ i) s k
       (slots-keep (fits .cells .binds) b) (frames-keep (fits .caller) f) (cells-keep (fits .cells .cell) u) o

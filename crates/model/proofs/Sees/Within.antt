@@ -6,7 +6,7 @@ use mathlib.Core.List.{List, [], _∷_, _++_, List·Memᴰ·head, List·Memᴰ·
 use Prim.Native.Nat.{ℕ, zero, suc, _+_, _<_, _≤_}
 use native.Mathlib.Decide.{ℕ-discrete}
 use native.Mathlib.Omega.{arith}
-use lib.ListN.{length, getD, set, replicate, length-set, length-replicate}
+use lib.ListN.{length, set, replicate, length-set, length-replicate}
 use lib.Seq.{getD-set-other}
 use lib.Dec.{eqb}
 use Rattle.model.specs.Test.{_or_, any}
@@ -15,9 +15,8 @@ use Rattle.model.specs.Machine.Active.{upward, within}
 use Rattle.model.specs.Machine.InUse.{marked}
 use Rattle.model.specs.declared.token.Place.{Place}
 use Rattle.model.specs.declared.token.Place.the-variants as places
-use Rattle.model.specs.declared.cell.Cell.{Cell}
-use Rattle.model.proofs.Test.{clash, eqb-eq, eqb-ne, eq-eqb, ne-eqb, or-left, or-right}
-use Rattle.model.proofs.Machine.Marks.{Marked, Free, marked-none, marked-le-length, marked-set-free}
+use Rattle.model.proofs.Test.{clash, eq-eqb, ne-eqb, or-left, or-right}
+use Rattle.model.proofs.Machine.Marks.{Free, marked-le-length, marked-set-free}
 use Rattle.model.proofs.Abstract.Store.{_∈_, _∉_}
 use Rattle.model.proofs.Sees.View.{World, CellSeen, CellsSeen, root, below}
 
@@ -82,8 +81,8 @@ module _ {W : World} where
   pub chain-short : {q : Place} {U : List ℕ} → CellsSeen W q U → length U ≤ length (W .cells)
   chain-short v =
       let z =
-          chain-marks (replicate (length (W .cells)) false) (length-replicate (length (W .cells)) false)
-          (λ b X w k. none-marked (length (W .cells)) b (chain-inside b refl w)) v in
+      chain-marks (replicate (length (W .cells)) false) (length-replicate (length (W .cells)) false)
+      (λ b X w k. none-marked (length (W .cells)) b (chain-inside b refl w)) v in
       omega arith
 
   -- a place and its name
