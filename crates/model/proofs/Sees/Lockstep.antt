@@ -1,0 +1,309 @@
+-- The lock step: each accepted call of the concrete machine is one step of the abstract machine that shows the same events, and the machines
+-- are seen as one another again. So each run's event list is shown by a run of the abstract machine. Nothing but the view is carried from call
+-- to call: an accepted call has tested the rules itself. Assumes nothing.
+use mathlib.Core.Path.{_≡_, refl, sym, _∙_, ap, subst}
+use mathlib.Core.Logic.{_⊎_, inl, inr}
+use mathlib.Core.Bool.{true, false}
+use mathlib.Core.List.{List, [], _∷_, _++_}
+use Prim.Native.Nat.{ℕ, _<_, _≤_}
+use native.Mathlib.Omega.{arith}
+use lib.ListN.{length, getD}
+use lib.Seq.{take-append-seam}
+use lib.IntN.{ℤ}
+use Rattle.model.specs.Test.{padded, without}
+use Rattle.model.specs.Number.{Signed32}
+use Rattle.model.specs.Job.Node.{Dag, nodeAt, isNode, dagKept}
+use Rattle.model.specs.Machine.Limits.{Limits}
+use Rattle.model.specs.Machine.Blank.{blankToken, tokenAt}
+use Rattle.model.specs.Machine.InUse.{tokensUsed, cellsUsed, marked}
+use Rattle.model.specs.Machine.Places.{nextPlace}
+use Rattle.model.specs.Machine.Rules.{isReady, tokenInRange, sizesInRange, rulesKept}
+use Rattle.model.specs.Machine.Reply.{Effect, moves, waits, publishes, calls, refuses, accepted, outcome, told, isRefused}
+use Rattle.model.specs.Machine.Step as Step
+use Rattle.model.specs.Machine.Step.{withOrders, queueOf, waitsOf, hasTokenPlace, hasCellPlace, takes}
+use Rattle.model.specs.Machine.Answer as Answer
+use Rattle.model.specs.Machine.Answer.{holder, answered}
+use Rattle.model.specs.Calculus.Event.{Event, Label, silently, showing}
+use Rattle.model.specs.Calculus.Expression.{Exp}
+use Rattle.model.specs.Calculus.Allowed.{shown}
+use Rattle.model.specs.Run.Call.{Call, step, answer, runner, eventsOf, outcomeOf, eventsFrom, machineAfter, started}
+use Rattle.model.specs.declared.token.Place.{Place}
+use Rattle.model.specs.declared.token.Place.the-variants as places
+use Rattle.model.specs.declared.token.State.{State}
+use Rattle.model.specs.declared.token.State.the-variants as states
+use Rattle.model.specs.declared.record.Machine.{Machine}
+use Rattle.model.specs.declared.reply.Reply.{Reply}
+use Rattle.model.specs.declared.reply.Reply.the-variants as replies
+use Rattle.model.specs.declared.reply.Outcome.{Outcome}
+use Rattle.model.proofs.Test.{clash, holds-or-fails, and-left, and-right, all-at, ltb-lt, eqb-eq}
+use Rattle.model.proofs.Machine.Marks.{Free}
+use Rattle.model.proofs.Machine.InUse.{tokens-used, cells-used}
+use Rattle.model.proofs.Machine.Places.{next-place-free}
+use Rattle.model.proofs.Machine.Rules.{RulesKept, rules-kept}
+use Rattle.model.proofs.Machine.Refused.{outcome-refused, StepAccepted, step-accepted, AnswerAccepted, answer-accepted}
+use Rattle.model.proofs.Run.Queue.{queue-kept, tokens-sized, newtoken-inside}
+use Rattle.model.proofs.Abstract.Machine as Abstract
+use Rattle.model.proofs.Abstract.Machine.{Binding, Frame, at, Store, state, labelOf, after, Move, startAt}
+use Rattle.model.proofs.Sees.Labels.{Labels, programOf, Flow}
+use Rattle.model.proofs.Sees.View.{World}
+use Rattle.model.proofs.Sees.Sees.{world, Sees, seenAs, finish-sees}
+use Rattle.model.proofs.Sees.Agrees.{Acting, Shows, Agrees}
+use Rattle.model.proofs.Sees.Acts.{Taken, taken, take-ready, act-agrees}
+use Rattle.model.proofs.Sees.Answering.{holder-called, Pending, pending, find-pending, answered-becomes}
+use Rattle.model.proofs.Sees.Begin.{start-sees}
+
+-- tables at least as large as the limits
+pub record Fitting (lim : Limits) : Type 0 where
+  pub tokens : lim .tokens ≤ lim .tokenPlaces
+  pub cells : lim .cells ≤ lim .cellPlaces
+
+ready-state : (s : State) → isReady s ≡ true → s ≡ states.Ready
+unfolding isReady
+ready-state states.Blank e = clash e refl
+ready-state states.Ready e = refl
+ready-state (states.Waiting c) e = clash e refl
+ready-state (states.Called h) e = clash e refl
+ready-state states.Frame e = clash e refl
+
+-- what the rules of an accepted step give: new places are free, and the token that acts is ready and at a node
+module _ (lim : Limits) (d : Dag) (m : Machine) (kept : rulesKept lim d m ≡ true) where
+  rules : RulesKept lim d m
+  rules = rules-kept lim d m kept
+
+  cells-sized : length (m .cells) ≡ lim .cellPlaces
+  unfolding sizesInRange
+  cells-sized = eqb-eq _ _ (and-left _ _ (and-right _ _ (rules .sizes)))
+
+  newcell-inside : m .newcell < lim .cellPlaces
+  unfolding sizesInRange
+  newcell-inside = ltb-lt _ _ (and-right _ _ (and-right _ _ (and-right _ _ (and-right _ _ (rules .sizes)))))
+
+  pub free-token : Fitting lim → hasTokenPlace lim d m ≡ true → Free (tokensUsed m) (nextPlace (tokensUsed m) (m .newtoken))
+  unfolding hasTokenPlace
+  free-token fits e =
+      let few = ltb-lt (marked (tokensUsed m)) (lim .tokens) e in
+      let size = tokens-used (m .tokens) (m .cells) .size in
+      let places = tokens-sized lim d m kept in
+      let last = newtoken-inside lim d m kept in
+      let room : lim .tokens ≤ lim .tokenPlaces = fits .tokens in
+      next-place-free (tokensUsed m) (m .newtoken) (omega arith) (omega arith)
+
+  pub free-cell : Fitting lim → hasCellPlace lim d m ≡ true → Free (cellsUsed m) (nextPlace (cellsUsed m) (m .newcell))
+  unfolding hasCellPlace
+  free-cell fits e =
+      let few = ltb-lt (marked (cellsUsed m)) (lim .cells) e in
+      let size = cells-used (tokensUsed m) (m .tokens) (m .cells) (tokens-used (m .tokens) (m .cells) .size) .size in
+      let places = cells-sized in
+      let last = newcell-inside in
+      let room : lim .cells ≤ lim .cellPlaces = fits .cells in
+      next-place-free (cellsUsed m) (m .newcell) (omega arith) (omega arith)
+
+  pub at-node : (p : ℕ) → p < length (m .tokens) → tokenAt (m .tokens) p .node < length (d .nodes)
+  unfolding tokenAt tokenInRange isNode
+  at-node p l = ltb-lt _ _ (and-left _ _ (all-at (tokenInRange lim d (m .calls)) (m .tokens) p blankToken (rules .tokens) l))
+
+-- the abstract machine makes a step that shows the events, and m is seen as what it comes to
+module _ (d : Dag) (M : Labels) (bodies : ℕ → Exp) where
+  pub data Steps (s : Abstract.State) (es : List Event) (m : Machine) : Type 0 where
+    steps : {a : Label} {s′ : Abstract.State} → Abstract.Step (programOf d M bodies) s a s′ → es ≡ shown a [] → Sees M m s′ → Steps s es m
+
+-- what a call and its outcome show
+abbrev pub eventsBy : Call → Outcome → List Event
+eventsBy c o = eventsOf c (told (o .reply) (o .values))
+
+called-shows : (place h s : ℕ) (vs : List ℤ) (m : Machine)
+    → eventsBy (step place) (accepted (replies.Called h s (length vs)) vs m) ≡ Event.call h s vs ∷ []
+unfolding eventsOf told accepted padded
+called-shows place h s vs m = ap (λ ws. Event.call h s ws ∷ []) (take-append-seam vs _)
+
+-- an outcome shows what its effect does, and its machine is the effect's, blanked
+module _ (M : Labels) (W : World) (L R : List Abstract.Token) (h : ℕ) (x : Abstract.Effect) (place : ℕ) (before : Machine) where
+  shown-by : (e : Effect) → Agrees M W L R h e x → isRefused (outcome before e .reply) ≡ false
+      → (eventsBy (step place) (outcome before e) ≡ shown (labelOf x) [])
+      × Sees M (outcome before e .machine) (after L R (W .store) (W .new) h x)
+  unfolding Shows outcome accepted told eventsOf isRefused shown
+  shown-by (moves m) b ok = (ap (λ a. shown a []) (sym (b .label)), finish-sees m (b .machine))
+  shown-by (waits m) b ok = (ap (λ a. shown a []) (sym (b .label)), finish-sees m (b .machine))
+  shown-by (publishes v m) b ok = (ap (λ a. shown a []) (sym (b .label)), finish-sees m (b .machine))
+  shown-by (calls k s vs m) b ok = (called-shows place k s vs m ∙ ap (λ a. shown a []) (sym (b .label)), finish-sees m (b .machine))
+  shown-by (refuses r) b ok = clash refl ok
+
+module _ (lim : Limits) (d : Dag) (M : Labels) (bodies : ℕ → Exp) (fits : Fitting lim) (flow : Flow d M) where
+  -- what a step that takes a queued token does, whether or not it is refused
+  pub takes-agrees : (m : Machine) (k : ℕ) → rulesKept lim d m ≡ true → k < m .queued → {name place : ℕ → ℕ} {σ : Store} {new : ℕ}
+      {L R : List Abstract.Token} {n : ℕ} {B : List Binding} {F : List Frame} {U : List ℕ} {v : ℤ}
+      → Acting M (world (m .tokens) (m .cells) name place σ new) (getD (m .queue) k 0) L R n B F U v
+      → Agrees M (world (m .tokens) (m .cells) name place σ new) L R (m .calls) (takes lim d m k)
+      (Abstract.act (programOf d M bodies) σ new (m .calls) (at n B F U) v)
+  unfolding takes
+  takes-agrees m k kept l {name} {place} {σ} {new} {L} {R} {n} {B} {F} {U} {v} acting =
+      subst
+      (λ i. Agrees M W L R (m .calls) (Step.act lim d m (withOrders (without k (queueOf m)) (waitsOf m) m) p (tokenAt (m .tokens) p) (nodeAt d i)) x)
+      (sym (acting .place .node))
+      (act-agrees lim d M bodies m (without k (queueOf m)) (waitsOf m) acting
+      (free-token lim d m kept fits) (free-cell lim d m kept fits) (flow .at n there))
+    where
+      W : World
+      W = world (m .tokens) (m .cells) name place σ new
+
+      p : ℕ
+      p = getD (m .queue) k 0
+
+      x : Abstract.Effect
+      x = Abstract.act (programOf d M bodies) σ new (m .calls) (at n B F U) v
+
+      there : n < length (d .nodes)
+      there = subst (λ i. i < length (d .nodes)) (acting .place .node) (at-node lim d m kept p (queue-kept lim d m kept .named k l))
+
+  -- an accepted step
+  pub step-locks : (m : Machine) {s : Abstract.State} → Sees M m s → (place : ℕ) → isRefused (Step.step lim d m place .reply) ≡ false
+      → Steps d M bodies s (eventsBy (step place) (Step.step lim d m place)) (Step.step lim d m place .machine)
+  step-locks m (seenAs {S = S} {σ = σ} {new = new} name place A K) k ok =
+      subst (λ (o : Outcome). Steps d M bodies (state S σ new (m .calls)) (eventsBy (step k) o) (o .machine)) (sym (a .does))
+      (go (take-ready p K (ready-state _ (queue-kept lim d m (a .kept) .ready k (a .queued)))))
+    where
+      a : StepAccepted lim d m k
+      a = step-accepted lim d m k ok
+
+      p : ℕ
+      p = getD (m .queue) k 0
+
+      W : World
+      W = world (m .tokens) (m .cells) name place σ new
+
+      o : Outcome
+      o = outcome m (takes lim d m k)
+
+      go : Taken M W p S → Steps d M bodies (state S σ new (m .calls)) (eventsBy (step k) o) (o .machine)
+      go (taken {L = L} {R = R} {n = n} {B = B} {F = F} {U = U} {v = v} split acting) =
+          let both =
+          shown-by M W L R (m .calls) (Abstract.act (programOf d M bodies) σ new (m .calls) (at n B F U) v) k m (takes lim d m k)
+          (takes-agrees m k (a .kept) (a .queued) acting)
+          (subst (λ (o : Outcome). isRefused (o .reply) ≡ false) (a .does) ok) in
+          steps (Abstract.step Move.acts split) (both .0) (both .1)
+
+  -- an accepted answer
+  pub answer-locks : (m : Machine) {s : Abstract.State} → Sees M m s → (h : ℕ) (v : ℤ) (signed : Signed32 v)
+      → isRefused (Answer.answer lim d m h v .reply) ≡ false
+      → Steps d M bodies s (eventsBy (answer h v signed) (Answer.answer lim d m h v)) (Answer.answer lim d m h v .machine)
+  answer-locks m (seenAs {S = S} {σ = σ} {new = new} name place A K) h v signed ok =
+      subst Locked (sym (a .does))
+      (go (holder h 0 (m .tokens)) refl (subst (λ (o : Outcome). isRefused (o .reply) ≡ false) (a .does) ok))
+    where
+      Locked : Outcome → Type 0
+      Locked o = Steps d M bodies (state S σ new (m .calls)) (eventsBy (answer h v signed) o) (o .machine)
+
+      a : AnswerAccepted lim d m h v
+      a = answer-accepted lim d m h v ok
+
+      W : World
+      W = world (m .tokens) (m .cells) name place σ new
+
+      found : (p : ℕ) → Pending M W p h S → Locked (outcome m (answered m v (places.At p)))
+      found p (pending split others view clear seen) = unfold answered outcome accepted eventsOf told shown in
+          steps (Abstract.step (Move.answered v signed) split) refl (finish-sees _ (answered-becomes m h v others view clear seen .machine))
+
+      go : (q : Place) → holder h 0 (m .tokens) ≡ q → isRefused (outcome m (answered m v q) .reply) ≡ false → Locked (outcome m (answered m v q))
+      go places.Nowhere e r = unfold answered outcome isRefused in clash refl r
+      go (places.At p) e r = found p (find-pending p h K (holder-called h (m .tokens) p e))
+
+-- a refused call shows nothing and leaves the machine
+refused-shows : (c : Call) (r : Reply) (vs : List ℤ) → isRefused r ≡ true → eventsOf c (told r vs) ≡ []
+unfolding isRefused told eventsOf
+refused-shows c replies.Done vs e = clash e refl
+refused-shows c replies.Waits vs e = clash e refl
+refused-shows c (replies.Published v) vs e = clash e refl
+refused-shows c (replies.Called h s n) vs e = clash e refl
+refused-shows (step place) (replies.Refused r) vs e = refl
+refused-shows (answer h v signed) (replies.Refused r) vs e = refl
+
+refused-leaves : (lim : Limits) (d : Dag) (m : Machine) (c : Call)
+    → isRefused (outcomeOf runner lim d m c .reply) ≡ true → outcomeOf runner lim d m c .machine ≡ m
+unfolding outcomeOf Step.step Answer.answer
+refused-leaves lim d m (step place) e = outcome-refused m _ e
+refused-leaves lim d m (answer h v signed) e = outcome-refused m _ e
+
+-- "14: dag .. breaks an index rule": nothing is accepted on such a dag
+accepted-dag : (lim : Limits) (d : Dag) (m : Machine) (c : Call) → isRefused (outcomeOf runner lim d m c .reply) ≡ false → dagKept d ≡ true
+unfolding outcomeOf
+accepted-dag lim d m (step place) ok = rules-kept lim d m (step-accepted lim d m place ok .kept) .dag
+accepted-dag lim d m (answer h v signed) ok = rules-kept lim d m (answer-accepted lim d m h v ok .kept) .dag
+
+shown-append : (a : Label) (es : List Event) → shown a [] ++ es ≡ shown a es
+unfolding shown
+shown-append silently es = refl
+shown-append (showing e) es = refl
+
+module _ (lim : Limits) (d : Dag) (M : Labels) (bodies : ℕ → Exp) (fits : Fitting lim) (flow : Flow d M) where
+  pub call-locks : (m : Machine) {s : Abstract.State} → Sees M m s → (c : Call) → isRefused (outcomeOf runner lim d m c .reply) ≡ false
+      → Steps d M bodies s (eventsBy c (outcomeOf runner lim d m c)) (outcomeOf runner lim d m c .machine)
+  unfolding outcomeOf
+  call-locks m sn (step place) ok = step-locks lim d M bodies fits flow m sn place ok
+  call-locks m sn (answer h v signed) ok = answer-locks lim d M bodies fits flow m sn h v signed ok
+
+  -- the abstract machine runs from s and shows the events, and m is seen as what it comes to
+  pub data Runs (s : Abstract.State) (es : List Event) (m : Machine) : Type 0 where
+    runs : {s′ : Abstract.State} → Abstract.Run (programOf d M bodies) s es s′ → Sees M m s′ → Runs s es m
+
+  -- "any list of calls"
+  pub calls-lock : (cs : List Call) (m : Machine) (s : Abstract.State) → Sees M m s
+      → Runs s (eventsFrom runner lim d m cs) (machineAfter runner lim d m cs)
+  unfolding eventsFrom machineAfter
+  calls-lock [] m s sn = runs Abstract.rests sn
+  calls-lock (c ∷ cs) m s sn = go (holds-or-fails (isRefused (o .reply))) (λ m′ s′ x. calls-lock cs m′ s′ x)
+    where
+      o : Outcome
+      o = outcomeOf runner lim d m c
+
+      rest : Machine → List Event
+      rest m′ = eventsFrom runner lim d m′ cs
+
+      end : Machine → Machine
+      end m′ = machineAfter runner lim d m′ cs
+
+      Further : Type 0
+      Further = (m′ : Machine) (s′ : Abstract.State) → Sees M m′ s′ → Runs s′ (rest m′) (end m′)
+
+      first : {s₁ : Abstract.State} {a : Label} → Abstract.Step (programOf d M bodies) s a s₁ → eventsBy c o ≡ shown a []
+          → Runs s₁ (rest (o .machine)) (end (o .machine)) → Runs s (eventsBy c o ++ rest (o .machine)) (end (o .machine))
+      first {a = a} st e (runs r sn′) =
+          subst (λ es. Runs s es (end (o .machine))) (sym (ap (λ es. es ++ rest (o .machine)) e ∙ shown-append a (rest (o .machine))))
+          (runs (Abstract.then st r) sn′)
+
+      locked : Steps d M bodies s (eventsBy c o) (o .machine) → Further → Runs s (eventsBy c o ++ rest (o .machine)) (end (o .machine))
+      locked (steps st e sn′) f = first st e (f (o .machine) _ sn′)
+
+      go : (isRefused (o .reply) ≡ true) ⊎ (isRefused (o .reply) ≡ false) → Further → Runs s (eventsBy c o ++ rest (o .machine)) (end (o .machine))
+      go (inl no′) f =
+          subst (λ es. Runs s (es ++ rest (o .machine)) (end (o .machine))) (sym (refused-shows c (o .reply) (o .values) no′))
+          (subst (λ m′. Runs s (rest m′) (end m′)) (sym (refused-leaves lim d m c no′)) (f m s sn))
+      go (inr ok) f = locked (call-locks m sn c ok) f
+
+  -- on a dag that breaks a rule every call is refused
+  no-events : dagKept d ≡ false → (cs : List Call) (m : Machine) → eventsFrom runner lim d m cs ≡ []
+  unfolding eventsFrom
+  no-events e [] m = refl
+  no-events e (c ∷ cs) m =
+      go (holds-or-fails (isRefused (outcomeOf runner lim d m c .reply))) (no-events e cs (outcomeOf runner lim d m c .machine))
+    where
+      o : Outcome
+      o = outcomeOf runner lim d m c
+
+      go : (isRefused (o .reply) ≡ true) ⊎ (isRefused (o .reply) ≡ false) → eventsFrom runner lim d (o .machine) cs ≡ []
+          → eventsBy c o ++ eventsFrom runner lim d (o .machine) cs ≡ []
+      go (inl no′) f = ap (λ es. es ++ eventsFrom runner lim d (o .machine) cs) (refused-shows c (o .reply) (o .values) no′) ∙ f
+      go (inr ok) f = clash (accepted-dag lim d m c ok) e
+
+  -- "each run's event list": from the start on, some run of the abstract machine shows it
+  pub data Shown (es : List Event) : Type 0 where
+    shows : {s : Abstract.State} → Abstract.Run (programOf d M bodies) (startAt (d .goal)) es s → Shown es
+
+  pub run-shown : 0 < lim .tokenPlaces → (cs : List Call) → Shown (eventsFrom runner lim d (started runner lim d) cs)
+  run-shown some cs = go (holds-or-fails (dagKept d))
+    where
+      from : {es : List Event} {m : Machine} → Runs (startAt (d .goal)) es m → Shown es
+      from (runs r sn) = shows r
+
+      go : (dagKept d ≡ true) ⊎ (dagKept d ≡ false) → Shown (eventsFrom runner lim d (started runner lim d) cs)
+      go (inl kept) = from (calls-lock cs (started runner lim d) (startAt (d .goal)) (start-sees lim d M flow some kept))
+      go (inr broken) = subst Shown (sym (no-events broken cs (started runner lim d))) (shows Abstract.rests)
