@@ -15,3 +15,4 @@ pub mod Acts
 pub mod Answering
 pub mod Begin
 pub mod Lockstep
+pub mod Room
