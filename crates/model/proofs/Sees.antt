@@ -16,3 +16,6 @@ pub mod Answering
 pub mod Begin
 pub mod Lockstep
 pub mod Room
+pub mod Turn
+pub mod Back
+pub mod Following

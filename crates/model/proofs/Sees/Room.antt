@@ -1,27 +1,25 @@
 -- With room for a token, a cell and a call, an instruction of a ready token that is seen is not refused: at choke it has a cell and at return a
 -- caller, by the labels of its node. Assumes nothing.
-use mathlib.Core.Path.{_≡_, refl, sym, _∙_, ap, subst}
+use mathlib.Core.Path.{_≡_, refl, sym, _∙_, subst}
 use mathlib.Core.Bool.{Bool, true, false}
 use mathlib.Core.List.{List, [], _∷_, _++_}
 use Prim.Native.Nat.{ℕ, _<_, _≤_}
 use native.Mathlib.Omega.{arith}
-use lib.ListN.{length, getD}
+use lib.ListN.{length}
 use lib.Dec.{ltb}
 use lib.IntN.{ℤ}
 use Rattle.model.specs.Site.{Said, gives, silent, isBuiltin, builtin}
-use Rattle.model.specs.Job.Node.{Node, Dag, nodeAt}
+use Rattle.model.specs.Job.Node.{Node, Dag}
 use Rattle.model.specs.Machine.Limits.{Limits}
 use Rattle.model.specs.Machine.Blank.{tokenAt}
-use Rattle.model.specs.Machine.Rules.{rulesKept}
 use Rattle.model.specs.Machine.Reply.{Effect, accepted, outcome, unless, isRefused}
-use Rattle.model.specs.Machine.Step.{Looked, values, unset, goesOn, forked, split, entered, waited, replied, calledOut, returned, chokes, look, callSite, hasTokenPlace, hasCellPlace, act, takes, step}
+use Rattle.model.specs.Machine.Step.{Looked, values, unset, goesOn, forked, split, entered, waited, replied, calledOut, returned, chokes, look, callSite, hasTokenPlace, hasCellPlace, act}
 use Rattle.model.specs.declared.token.Place.{Place}
 use Rattle.model.specs.declared.token.Place.the-variants as places
 use Rattle.model.specs.declared.token.Token.{Token}
 use Rattle.model.specs.declared.record.Machine.{Machine}
 use Rattle.model.specs.declared.reply.Refusal.{Refusal}
 use Rattle.model.specs.declared.reply.Refusal.the-variants as refusals
-use Rattle.model.specs.declared.reply.Outcome.{Outcome}
 use Rattle.model.proofs.Test.{clash, lt-ltb}
 use Rattle.model.proofs.Abstract.Machine as Abstract
 use Rattle.model.proofs.Abstract.Machine.{Binding, Frame}
