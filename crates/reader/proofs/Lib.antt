@@ -1,0 +1,8 @@
+-- Laws that the proofs of the code cite.
+pub mod Word
+pub mod Scope
+pub mod Row
+pub mod Answer
+pub mod EntryFault
+pub mod Onward
+pub mod Parameters

@@ -1,0 +1,28 @@
+use borrow.Author.Needs.{needs}
+use Rattle.reader.proofs.expression.sides_of.Statement.{statement}
+use Rattle.reader.proofs.expression.sides_of.Tie as tie
+use Rattle.reader.proofs.expression.sides_of.Reads as reads
+use Rattle.reader.proofs.expression.sides_of.Lts as lts
+
+-- src/expression.rt:26:9
+returns : tie.Need-returns
+returns c = ?
+
+-- src/expression.rt:29:44
+add-t4 : tie.Need-add-t4
+add-t4 c = search needs
+
+-- src/expression.rt:29:9
+returns-2 : tie.Need-returns-2
+returns-2 c = ?
+
+-- src/expression.rt:31:19
+add-t5 : tie.Need-add-t5
+add-t5 c = search needs
+
+-- src/expression.rt:21:1
+returns-3 : tie.Need-returns-3
+returns-3 c = ?
+
+pub sides-of-spec : {M : Type 1} → statement M
+sides-of-spec = tie.close (tie.spec returns add-t4 returns-2 add-t5 returns-3)

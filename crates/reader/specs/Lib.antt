@@ -1,0 +1,4 @@
+-- The reader's answers, in the words of the definitions of `model`.
+pub mod Checked
+pub mod Fault
+pub mod Join

@@ -1,0 +1,5 @@
+// The reader of a job table: it checks the entries, and finds what is read or the refusal's number and entry.
+pub mod checked;
+pub mod entry;
+pub mod expression;
+pub mod parameter;
