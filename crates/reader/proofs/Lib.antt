@@ -6,3 +6,4 @@ pub mod Answer
 pub mod EntryFault
 pub mod Onward
 pub mod Parameters
+pub mod JoinSides

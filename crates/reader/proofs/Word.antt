@@ -13,5 +13,12 @@ pub number-at : (s : List ℕ) (i r : ℕ) → i + 4 ≤ length s
 unfolding number
 number-at s i r l e =
     e
-    ∙ rw (add-one, add-two, add-three, drop-cons s i 0 (omega arith), drop-cons s (suc i) 0 (omega arith),
-    drop-cons s (suc (suc i)) 0 (omega arith), drop-cons s (suc (suc (suc i))) 0 (omega arith)) (omega arith)
+    ∙ rw (
+      add-one,
+      add-two,
+      add-three,
+      drop-cons s i 0 (omega arith),
+      drop-cons s (suc i) 0 (omega arith),
+      drop-cons s (suc (suc i)) 0 (omega arith),
+      drop-cons s (suc (suc (suc i))) 0 (omega arith),
+    ) (omega arith)

@@ -20,7 +20,12 @@ pub fn operand(operands: &[u8], at: usize) -> u32
     ensures { λ r. ⌜ r ≡ number (take 4 (drop (4 * at) (now (operands .entry)))) ⌝ }
 {
     let i = 4 * at;
-    word(operands[i], operands[i + 1], operands[i + 2], operands[i + 3])
+    word(
+        operands[i],
+        operands[i + 1],
+        operands[i + 2],
+        operands[i + 3],
+    )
 }
 
 // Does the operand of an expression's entry keep to its row of the table?

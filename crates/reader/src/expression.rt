@@ -23,16 +23,34 @@ pub fn sides_of(kind: u8, scope: usize) -> Sides
     ensures { λ r. ⌜ JoinKept kind scope r ⌝ }
 {
     if kind == 3 {
-        return Sides { left: scope, right: scope, nodes: 1 };
+        return Sides {
+            left: scope,
+            right: scope,
+            nodes: 1,
+        };
     }
     if kind == 4 {
-        return Sides { left: scope, right: scope + 1, nodes: 2 };
+        return Sides {
+            left: scope,
+            right: scope + 1,
+            nodes: 2,
+        };
     }
-    Sides { left: scope + 1, right: scope, nodes: 3 }
+    Sides {
+        left: scope + 1,
+        right: scope,
+        nodes: 3,
+    }
 }
 
 // The expression from entry `at` on, where so many levels of depth are left and so many variables in scope.
-pub fn check_expression(kinds: &[u8], operands: &[u8], left: usize, scope: usize, at: usize) -> Checked
+pub fn check_expression(
+    kinds: &[u8],
+    operands: &[u8],
+    left: usize,
+    scope: usize,
+    at: usize,
+) -> Checked
     requires { ⌜ Parts (now kinds) (now operands) ⌝ }
     requires { ⌜ scope ≤ 8 ⌝ }
     ensures { λ r. ⌜ r ≡ checkedExp (readExp left (levels scope) at (entriesFrom (now (kinds .entry)) (now (operands .entry)) at)) ⌝ }
@@ -51,7 +69,10 @@ pub fn check_expression(kinds: &[u8], operands: &[u8], left: usize, scope: usize
     }
     if kind < 3 {
         let count = operand / 65536;
-        return checked::add_nodes(parameter::check_parameters(kinds, operands, count as usize, scope, at + 1), 1);
+        return checked::add_nodes(
+            parameter::check_parameters(kinds, operands, count as usize, scope, at + 1),
+            1,
+        );
     }
     let sides = sides_of(kind, scope);
     let first = check_expression(kinds, operands, left - 1, sides.left, at + 1);

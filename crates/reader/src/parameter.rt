@@ -30,7 +30,13 @@ fn check_parameter(kinds: &[u8], operands: &[u8], scope: usize, at: usize) -> Ch
 }
 
 // So many parameters from entry `at` on.
-pub fn check_parameters(kinds: &[u8], operands: &[u8], count: usize, scope: usize, at: usize) -> Checked
+pub fn check_parameters(
+    kinds: &[u8],
+    operands: &[u8],
+    count: usize,
+    scope: usize,
+    at: usize,
+) -> Checked
     requires { ⌜ Parts (now kinds) (now operands) ⌝ }
     ensures { λ r. ⌜ r ≡ checkedParams (readParams count (levels scope) at (entriesFrom (now (kinds .entry)) (now (operands .entry)) at)) ⌝ }
 {

@@ -1,4 +1,5 @@
 use borrow.Author.Needs.{needs}
+use Rattle.reader.proofs.JoinSides.{sides-par, sides-seq, sides-prune}
 use Rattle.reader.proofs.expression.sides_of.Statement.{statement}
 use Rattle.reader.proofs.expression.sides_of.Tie as tie
 use Rattle.reader.proofs.expression.sides_of.Reads as reads
@@ -6,7 +7,7 @@ use Rattle.reader.proofs.expression.sides_of.Lts as lts
 
 -- src/expression.rt:26:9
 returns : tie.Need-returns
-returns c = ?
+returns c = sides-par _ _ (c .if1 .taken)
 
 -- src/expression.rt:29:44
 add-t4 : tie.Need-add-t4
@@ -14,7 +15,7 @@ add-t4 c = search needs
 
 -- src/expression.rt:29:9
 returns-2 : tie.Need-returns-2
-returns-2 c = ?
+returns-2 c = sides-seq _ _ (c .if2 .taken)
 
 -- src/expression.rt:31:19
 add-t5 : tie.Need-add-t5
@@ -22,7 +23,7 @@ add-t5 c = search needs
 
 -- src/expression.rt:21:1
 returns-3 : tie.Need-returns-3
-returns-3 c = ?
+returns-3 c = sides-prune _ _ (c .before .if1 .left) (c .if2 .left)
 
 pub sides-of-spec : {M : Type 1} → statement M
 sides-of-spec = tie.close (tie.spec returns add-t4 returns-2 add-t5 returns-3)

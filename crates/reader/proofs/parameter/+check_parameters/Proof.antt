@@ -1,81 +1,65 @@
 use Prim.Native.Nat.{ℕ, _<_}
 use borrow.Fn.Kinds.{In}
 use borrow.Fn.PlainCycle.{Measures, is, falls, and}
-use Rattle.reader.proofs.parameter.check_parameters.Reads as check-parameters
-use Rattle.reader.proofs.parameter.check_parameters.Kinds as check-parameters-kinds
-use Rattle.reader.proofs.parameter.+check_parameters.Lts-check_parameters as check-parameters-lts
+use Rattle.reader.proofs.Parameters.{params-none, params-refused, params-more}
+use Rattle.reader.proofs.parameter.check_parameters.Reads as reads
+use Rattle.reader.proofs.parameter.check_parameters.Kinds as kinds
+use Rattle.reader.proofs.parameter.+check_parameters.Lts-check_parameters as lts
 use Rattle.reader.proofs.parameter.check_parameter.Reads as check-parameter-reads
 use Rattle.reader.proofs.parameter.+check_parameters.{statement}
 use Rattle.reader.proofs.parameter.+check_parameters.Tie.{close}
+use borrow.Author.Needs.{needs}
+use native.Mathlib.Omega.{arith}
 
-abbrev μ-check-parameters : Measures 2 check-parameters-kinds.ps ℕ
-μ-check-parameters κs a = ?
+abbrev measure : Measures 2 kinds.ps ℕ
+measure κs a = a .1 .1 .0
 
-abbrev check-parameters-at : ℕ → In 2 check-parameters-kinds.ps
-check-parameters-at t =
-    and
-    2
-    check-parameters-kinds.ps
-    (is 2 check-parameters-kinds.ps μ-check-parameters t)
-    check-parameters.Pre
+abbrev starts : ℕ → In 2 kinds.ps
+starts t = and 2 kinds.ps (is 2 kinds.ps measure t) reads.Pre
 
-abbrev check-parameters-below : ℕ → In 2 check-parameters-kinds.ps
-check-parameters-below t =
-    and
-    2
-    check-parameters-kinds.ps
-    (falls 2 check-parameters-kinds.ps _<_ μ-check-parameters t)
-    check-parameters.Pre
+abbrev below : ℕ → In 2 kinds.ps
+below t = and 2 kinds.ps (falls 2 kinds.ps _<_ measure t) reads.Pre
 
-abbrev claims : ℕ → check-parameters-lts.Claims
-claims t =
-    (check-parameter-reads.Asked, check-parameter-reads.Learnt, check-parameters-below t, check-parameters.Post)
+abbrev claims : ℕ → lts.Claims
+claims t = (
+  check-parameter-reads.Asked,
+  check-parameter-reads.Learnt,
+  below t,
+  reads.Post,
+)
 
-check-parameters-returns : (t : ℕ) → check-parameters-lts.Need-returns (claims t) (check-parameters-at t) check-parameters.Post
-check-parameters-returns t c = ?
+module _ (t : ℕ) where
+  returns : lts.Need-returns (claims t) (starts t) reads.Post
+  returns c = search params-none
 
-check-parameters-check-parameter-requires :
-    (t : ℕ) → check-parameters-lts.Need-check-parameter-requires (
-      check-parameter-reads.Asked,
-      check-parameter-reads.Learnt,
-      check-parameters-below t,
-      check-parameters.Post,
-    ) (check-parameters-at t) check-parameters.Post
-check-parameters-check-parameter-requires t c κs = ?
+  check-parameter-requires : lts.Need-check-parameter-requires (claims t) (starts t) reads.Post
+  check-parameter-requires c κs = search needs
 
-check-parameters-enum-known-first : (t : ℕ) → check-parameters-lts.Need-enum-known-first (claims t) (check-parameters-at t) check-parameters.Post
-check-parameters-enum-known-first t c = ?
+  enum-known-first : lts.Need-enum-known-first (claims t) (starts t) reads.Post
+  enum-known-first c = search needs
 
-check-parameters-enum-known-first-2 : (t : ℕ) → check-parameters-lts.Need-enum-known-first-2 (claims t) (check-parameters-at t) check-parameters.Post
-check-parameters-enum-known-first-2 t c = ?
+  enum-known-first-2 : lts.Need-enum-known-first-2 (claims t) (starts t) reads.Post
+  enum-known-first-2 c = search needs
 
-check-parameters-sub-check-parameters : (t : ℕ) → check-parameters-lts.Need-sub-check-parameters (claims t) (check-parameters-at t) check-parameters.Post
-check-parameters-sub-check-parameters t c = ?
+  sub-check-parameters : lts.Need-sub-check-parameters (claims t) (starts t) reads.Post
+  sub-check-parameters c = search needs
 
-check-parameters-check-parameters-requires :
-    (t : ℕ) → check-parameters-lts.Need-check-parameters-requires (
-      check-parameter-reads.Asked,
-      check-parameter-reads.Learnt,
-      check-parameters-below t,
-      check-parameters.Post,
-    ) (check-parameters-at t) check-parameters.Post
-check-parameters-check-parameters-requires t c κs = ?
+  check-parameters-requires : lts.Need-check-parameters-requires (claims t) (starts t) reads.Post
+  check-parameters-requires c κs = (omega arith, search needs)
 
-check-parameters-returns-2 : (t : ℕ) → check-parameters-lts.Need-returns-2 (claims t) (check-parameters-at t) check-parameters.Post
-check-parameters-returns-2 t c = ?
+  returns-2 : lts.Need-returns-2 (claims t) (starts t) reads.Post
+  returns-2 c = search params-refused
 
-check-parameters-returns-3 : (t : ℕ) → check-parameters-lts.Need-returns-3 (claims t) (check-parameters-at t) check-parameters.Post
-check-parameters-returns-3 t c = ?
+  returns-3 : lts.Need-returns-3 (claims t) (starts t) reads.Post
+  returns-3 c = search params-more
 
 pub +check-parameters-spec : {M : Type 1} → statement M
-+check-parameters-spec = close μ-check-parameters λ t. check-parameters-lts.spec (claims t)
-    (check-parameters-at t)
-    check-parameters.Post
-    (check-parameters-returns t)
-    (check-parameters-check-parameter-requires t)
-    (check-parameters-enum-known-first t)
-    (check-parameters-enum-known-first-2 t)
-    (check-parameters-sub-check-parameters t)
-    (check-parameters-check-parameters-requires t)
-    (check-parameters-returns-2 t)
-    (check-parameters-returns-3 t)
++check-parameters-spec = close measure λ t. lts.spec (claims t) (starts t) reads.Post
+    (returns t)
+    (check-parameter-requires t)
+    (enum-known-first t)
+    (enum-known-first-2 t)
+    (sub-check-parameters t)
+    (check-parameters-requires t)
+    (returns-2 t)
+    (returns-3 t)
