@@ -7,3 +7,6 @@ pub mod EntryFault
 pub mod Onward
 pub mod Parameters
 pub mod JoinSides
+pub mod Opened
+pub mod Few
+pub mod Expressions

@@ -13,7 +13,7 @@ use Rattle.model.specs.Job.Syntax.{Param, levels}
 use Rattle.model.specs.Job.Entry.{Entry, entry, entries, kindOf}
 use Rattle.model.specs.Job.Read.{Got, Read, got, refused, _>>=_, gives, need, entryAt, readParam, readParams}
 use Rattle.model.proofs.Job.Position.{entries-end, entries-at, param-from}
-use Rattle.reader.specs.Checked.{entriesFrom, checked, checkedParam, checkedParams}
+use Rattle.reader.specs.Checked.{entriesFrom, checked, checkedParam, checkedParams, nodesOf}
 use Rattle.reader.specs.declared.checked.Checked.{Checked}
 use Rattle.reader.specs.declared.checked.Checked.the-variants.{Next, Refused}
 use Rattle.reader.proofs.Scope.{in-scope, out-of-scope}
@@ -91,3 +91,9 @@ module _ (ks os : List ℕ) (n s at : ℕ) where
         ∙ sym (ap checkedParams (opened ∙ ap (λ r. r >>= rest (n - 1) (levels s)) (a .1))
         ∙ same-nodes (λ ps. 0) (λ ps. 0) (λ ps. a .0 .value ∷ ps) (λ ps. refl) tail
         ∙ ap₂ (λ i l. checkedParams (readParams (n - 1) (levels s) i l)) (a .2) (b .rest ∙ ap (λ i. drop i (entries ks os)) (a .2)))
+
+-- parameters make no node
+pub params-nodes : (q : Checked) (r : Read (List Param)) → q ≡ checkedParams r → nodesOf q < 4096
+unfolding checked nodesOf
+params-nodes q (got g) e = rw e (omega arith)
+params-nodes q (refused n i) e = rw e (omega arith)

@@ -65,7 +65,7 @@ module _ (es : List Entry) where
   drop-one (suc e) x l (y ∷ ys) q = let r = drop-one e x l ys q in (r .0, (let z = r .1 in omega arith))
 
   -- an entry that is there is followed by the entries behind it
-  entry-from : (e : ℕ) (l : List Entry) (x : Got Entry) → l ≡ drop e es → entryAt e l ≡ got x
+  pub entry-from : (e : ℕ) (l : List Entry) (x : Got Entry) → l ≡ drop e es → entryAt e l ≡ got x
       → (x .next ≡ suc e) × (x .rest ≡ drop (suc e) es) × (e < length es)
   unfolding entryAt
   entry-from e [] x q r = refused-got r
