@@ -2,7 +2,7 @@
 use mathlib.Core.Path.{_≡_, refl}
 use Prim.Native.Nat.{ℕ, _+_, _≤_}
 use native.Mathlib.Omega.{arith}
-use Rattle.reader.specs.Checked.{nodesOf, more}
+use Rattle.reader.specs.Checked.{nodesOf, more, afterwards}
 use Rattle.reader.specs.declared.checked.Checked.{Checked}
 use Rattle.reader.specs.declared.checked.Checked.the-variants.{Next, Refused}
 
@@ -23,3 +23,13 @@ module _ (r : Checked) where
     pub more-refused : (k e : ℕ) → r ≡ Refused k e → Refused k e ≡ more n r
     unfolding more
     more-refused k e h = rw h
+
+-- one answer after another
+module _ (r s : Checked) where
+  pub after-refused : (k e : ℕ) → r ≡ Refused k e → Refused k e ≡ afterwards r s
+  unfolding afterwards
+  after-refused k e h = rw h
+
+  pub after-next : (e k : ℕ) → r ≡ Next e k → s ≡ afterwards r s
+  unfolding afterwards
+  after-next e k h = rw h

@@ -10,3 +10,5 @@ pub mod JoinSides
 pub mod Opened
 pub mod Few
 pub mod Expressions
+pub mod Calling
+pub mod Definitions

@@ -34,6 +34,10 @@ checkedParams = checked (λ ps. 0)
 abbrev pub checkedExp : Read Exp → Checked
 checkedExp = checked size
 
+-- a test makes none either
+abbrev pub checkedTest : Read (Unit {0}) → Checked
+checkedTest = checked (λ u. 0)
+
 -- the nodes of the dag, sinks included
 abbrev pub checkedProgram : Read Program → Checked
 checkedProgram = checked (λ p. length (construct p .nodes))
@@ -46,3 +50,8 @@ nodesOf (Refused n e) = 0
 unfoldable pub more : ℕ → Checked → Checked
 more k (Next e n) = Next e (k + n)
 more k (Refused n e) = Refused n e
+
+-- the first answer if it is a refusal, else the second
+unfoldable pub afterwards : Checked → Checked → Checked
+afterwards (Next e n) second = second
+afterwards (Refused n e) second = Refused n e

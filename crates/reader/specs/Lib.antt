@@ -2,3 +2,4 @@
 pub mod Checked
 pub mod Fault
 pub mod Join
+pub mod Definitions
