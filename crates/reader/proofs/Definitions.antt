@@ -37,7 +37,7 @@ other-kind (suc (suc (suc (suc (suc (suc (suc (suc zero)))))))) f = refl
 other-kind (suc (suc (suc (suc (suc (suc (suc (suc (suc k))))))))) f = refl
 
 -- a definition, of its body
-define : ℕ → Got Exp → Read Definition
+pub define : ℕ → Got Exp → Read Definition
 define n b = gives (record { formals = n; body = b .value }) (b .next) (b .rest)
 
 body-answer : (n : ℕ) (r : Read Exp) → checkedDefinition (r >>= define n) ≡ more 1 (checkedExp r)

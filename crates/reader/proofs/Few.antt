@@ -105,13 +105,17 @@ module _ (es : List Entry) where
       (each-need (Small e) _ 3 e _ (each-need (Small e) _ 4 e _ (each-need (Small e) _ 7 e _
       (kind-few (readExp left) sides scope e l (f .1) (f .2) (kindOf (x .kind)) (x .operand)))))
 
+pub read-few : (ks os : List ℕ) (left : ℕ) (scope : List ℕ) (e : ℕ) (g : Got Exp) → readExp left scope e (entriesFrom ks os e) ≡ got g
+    → size (g .value) + 1 + 2 * e ≤ 2 * g .next
+read-few ks os left scope e g r = each-got (exp-few (entries ks os) left scope e (entriesFrom ks os e) refl) r
+
 -- what an answer says of it
 module _ (ks os : List ℕ) (left : ℕ) (scope : List ℕ) (e : ℕ) (q : Checked) (eq : q ≡ checkedExp (readExp left scope e (entriesFrom ks os e))) where
   pub next-few : (m d : ℕ) → q ≡ Next m d → (d + 1 + 2 * e ≤ 2 * m) × (m ≤ length ks)
   next-few m d h =
       let a = checked-next size (readExp left scope e (entriesFrom ks os e)) m d (sym eq ∙ h) in
       let f = exp-from (entries ks os) left scope e (entriesFrom ks os e) (a .0) refl (a .1) in
-      let small = each-got (exp-few (entries ks os) left scope e (entriesFrom ks os e) refl) (a .1) in
+      let small = read-few ks os left scope e (a .0) (a .1) in
       let x = a .2 in
       let y = a .3 in
       let last = f .last in

@@ -12,3 +12,4 @@ pub mod Few
 pub mod Expressions
 pub mod Calling
 pub mod Definitions
+pub mod DefinitionLoop

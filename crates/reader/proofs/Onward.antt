@@ -19,6 +19,14 @@ module _ {A : Type 0} (f : A → ℕ) (r : Read A) where
       go (got a) q = clash q
       go (refused n′ e′) q = sym q
 
+  pub checked-refused : (n e : ℕ) → checked f r ≡ Refused n e → r ≡ refused n e
+  unfolding checked
+  checked-refused n e = go r
+    where
+      go : (r : Read A) → checked f r ≡ Refused n e → r ≡ refused n e
+      go (got a) q = clash q
+      go (refused n′ e′) q = cc
+
   pub checked-next : (m d : ℕ) → checked f r ≡ Next m d → (a : Got A) × (r ≡ got a) × (a .next ≡ m) × (f (a .value) ≡ d)
   unfolding checked
   checked-next m d = go r
