@@ -79,7 +79,7 @@ formals-more : (ds : List Definition) (d : Definition) → formalsOf (ds ++ (d �
 formals-more [] d = refl
 formals-more (x ∷ ds) d = ap (λ l. x .formals ∷ l) (formals-more ds d)
 
-formals-length : (ds : List Definition) → length (formalsOf ds) ≡ length ds
+pub formals-length : (ds : List Definition) → length (formalsOf ds) ≡ length ds
 formals-length [] = refl
 formals-length (d ∷ ds) = ap suc (formals-length ds)
 

@@ -13,3 +13,5 @@ pub mod Expressions
 pub mod Calling
 pub mod Definitions
 pub mod DefinitionLoop
+pub mod NodeCount
+pub mod Programs

@@ -1,3 +1,4 @@
+use Rattle.reader.proofs.Programs.{end-left, end-none}
 use Rattle.reader.proofs.program.check_end.Statement.{statement}
 use Rattle.reader.proofs.program.check_end.Tie as tie
 use Rattle.reader.proofs.program.check_end.Reads as reads
@@ -5,11 +6,11 @@ use Rattle.reader.proofs.program.check_end.Lts as lts
 
 -- src/program.rt:19:9
 returns : tie.Need-returns
-returns c = ?
+returns c = search end-left
 
 -- src/program.rt:14:1
 returns-2 : tie.Need-returns-2
-returns-2 c = ?
+returns-2 c = search end-none
 
 pub check-end-spec : {M : Type 1} → statement M
 check-end-spec = tie.close (tie.spec returns returns-2)

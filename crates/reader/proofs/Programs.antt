@@ -1,0 +1,187 @@
+-- What is answered for the whole table, at each outcome of the code's tests. Assumes nothing.
+use mathlib.Core.Path.{_≡_, refl, sym, _∙_, ap, ap₂, subst}
+use mathlib.Core.List.{List, [], _∷_}
+use Prim.Native.Nat.{ℕ, zero, suc, _+_, _*_, _<_, _≤_}
+use native.Mathlib.Omega.{arith}
+use lib.ListN.{length, take, drop}
+use Rattle.model.specs.Job.Syntax.{Exp, Definition, Program, formalsOf, levels}
+use Rattle.model.specs.Job.Entry.{Entry, entries}
+use Rattle.model.specs.Job.Read.{Got, Read, got, refused, _>>=_, gives, need, readExp, readDefinition, readProgram, leftovers, definitionsKept, readEntries}
+use Rattle.model.specs.Job.Construct.{size, construct}
+use Rattle.model.proofs.Job.Position.{entries-end, entries-at, bind-got, exp-from}
+use Rattle.reader.specs.Checked.{entriesFrom, checked, checkedTest, checkedExp, checkedProgram, afterwards}
+use Rattle.reader.specs.Definitions.{readDefinitions, definitionNodes, definitionsNodes, checkedDefinitions, formalsRead, DefinitionsKept}
+use Rattle.reader.specs.declared.checked.Checked.{Checked}
+use Rattle.reader.specs.declared.checked.Checked.the-variants.{Next, Refused}
+use Rattle.reader.specs.declared.definition.Definitions.{Definitions}
+use Rattle.reader.proofs.Onward.{bind-refused, checked-refused, checked-next}
+use Rattle.reader.proofs.Few.{next-few}
+use Rattle.reader.proofs.DefinitionLoop.{formals-length, Defined, defined}
+use Rattle.reader.proofs.NodeCount.{construct-length}
+
+module _ (ks os : List ℕ) (at : ℕ) where
+  pub end-left : at < length ks → Refused 5 at ≡ checkedTest (leftovers at (entriesFrom ks os at))
+  unfolding leftovers checked
+  end-left l = rw (entries-at ks os at l)
+
+  pub end-none : length ks ≤ at → Next at 0 ≡ checkedTest (leftovers at (entriesFrom ks os at))
+  unfolding leftovers need checked
+  end-none l = rw (entries-end ks os at l)
+
+-- a goal behind its definitions; a definition in front of a program, and in front of others
+whole : List Definition → Got Exp → Read Program
+whole ds g = gives (record { definitions = ds; goal = g .value }) (g .next) (g .rest)
+
+ahead : Definition → Got Program → Read Program
+ahead d p = gives (record { definitions = d ∷ p .value .definitions; goal = p .value .goal }) (p .next) (p .rest)
+
+more : Definition → Got (List Definition) → Read (List Definition)
+more d ds = gives (d ∷ ds .value) (ds .next) (ds .rest)
+
+-- the goal, read behind the definitions
+goalRead : Got (List Definition) → Read Program
+goalRead ds = readExp 24 [] (ds .next) (ds .rest) >>= whole (ds .value)
+
+-- a program is its definitions, then its goal
+program-split : (n e : ℕ) (es : List Entry) → readProgram n e es ≡ (readDefinitions n e es >>= goalRead)
+unfolding readProgram readDefinitions goalRead whole ahead more _>>=_
+program-split zero e es = refl
+program-split (suc n) e es = go (readDefinition e es) (program-split n)
+  where
+    goal : (d : Definition) (ds : List Definition) (r : Read Exp) → (r >>= whole ds >>= ahead d) ≡ (r >>= whole (d ∷ ds))
+    goal d ds (got g) = refl
+    goal d ds (refused k i) = refl
+
+    rest : (d : Definition) (r : Read (List Definition)) → (r >>= goalRead >>= ahead d) ≡ (r >>= more d >>= goalRead)
+    rest d (got ds) = goal d (ds .value) (readExp 24 [] (ds .next) (ds .rest))
+    rest d (refused k i) = refl
+
+    go : (r : Read Definition) → ((e : ℕ) (es : List Entry) → readProgram n e es ≡ (readDefinitions n e es >>= goalRead))
+        → (r >>= (λ d. readProgram n (d .next) (d .rest) >>= ahead (d .value)))
+        ≡ (r >>= (λ d. readDefinitions n (d .next) (d .rest) >>= more (d .value)) >>= goalRead)
+    go (got d) same = ap (λ r. r >>= ahead (d .value)) (same (d .next) (d .rest)) ∙ rest (d .value) (readDefinitions n (d .next) (d .rest))
+    go (refused k i) same = refl
+
+-- definitions that were read from entry e on
+record AllDefined (ks os : List ℕ) (n e : ℕ) (g : Got (List Definition)) : Type 0 where
+  rest : g .rest ≡ entriesFrom ks os (g .next)
+  many : length (g .value) ≡ n
+  few : definitionsNodes (g .value) + 2 * e ≤ 2 * g .next
+
+same-got : {A : Type 0} (P : Got A → Type 0) (g h : Got A) → got g ≡ got h → P g → P h
+same-got P g h e p = let z : g ≡ h = cc in subst P z p
+
+one-more : (ks os : List ℕ) (n e : ℕ) (d : Got Definition) (ds : Got (List Definition)) → Defined ks os e d → AllDefined ks os n (d .next) ds
+    → AllDefined ks os (suc n) e (record { value = d .value ∷ ds .value; next = ds .next; rest = ds .rest })
+unfolding definitionsNodes
+one-more ks os n e d ds f fs =
+    let x = f .few in let y = fs .few in record { rest = fs .rest; many = ap suc (fs .many); few = omega arith }
+
+all-defined : (ks os : List ℕ) (n e : ℕ) (l : List Entry) → l ≡ entriesFrom ks os e → (g : Got (List Definition))
+    → readDefinitions n e l ≡ got g → AllDefined ks os n e g
+unfolding readDefinitions definitionsNodes
+all-defined ks os zero e l q g r =
+    same-got (AllDefined ks os 0 e) (record { value = []; next = e; rest = l }) g r (record { rest = q; many = refl; few = omega arith })
+all-defined ks os (suc n) e l q g r =
+    let d = bind-got (readDefinition e l) _ g r in
+    let f = defined ks os e (d .0) (ap (readDefinition e) (sym q) ∙ d .1) in
+    let ds = bind-got (readDefinitions n (d .0 .next) (d .0 .rest)) _ g (d .2) in
+    let fs = all-defined ks os n (d .0 .next) (d .0 .rest) (f .rest) (ds .0) (ds .1) in
+    same-got (AllDefined ks os (suc n) e) _ g (ds .2) (one-more ks os n e (d .0) (ds .0) f fs)
+
+-- the tests behind a program that was read
+tests : List Entry → Got Program → Read Program
+tests es p = leftovers (p .next) (p .rest) >>= (λ _. definitionsKept (formalsOf (p .value .definitions)) 0 es >>= (λ _. got p))
+
+tests-answer : {A : Type 0} (f : A → ℕ) (r : Read (Unit {0})) (s : Read A) → checked f (r >>= (λ _. s)) ≡ afterwards (checkedTest r) (checked f s)
+unfolding _>>=_ checked afterwards
+tests-answer f (got g) s = refl
+tests-answer f (refused n e) s = refl
+
+-- the answer for them: leftovers, then calls, then the program's end and nodes
+tests-all : (es : List Entry) (p : Got Program) → checkedProgram (tests es p)
+    ≡ afterwards (checkedTest (leftovers (p .next) (p .rest)))
+    (afterwards (checkedTest (definitionsKept (formalsOf (p .value .definitions)) 0 es))
+    (Next (p .next) (definitionsNodes (p .value .definitions) + (size (p .value .goal) + 1))))
+unfolding tests checked
+tests-all es p =
+    let nodes : Program → ℕ = λ p. length (construct p .nodes) in
+    let calls = definitionsKept (formalsOf (p .value .definitions)) 0 es in
+    tests-answer nodes (leftovers (p .next) (p .rest)) (calls >>= (λ _. got p))
+    ∙ ap (afterwards (checkedTest (leftovers (p .next) (p .rest))))
+    (tests-answer nodes calls (got p)
+    ∙ ap (λ m. afterwards (checkedTest calls) (Next (p .next) m)) (construct-length (p .value)))
+
+module _ (ks os : List ℕ) (n : ℕ) (d : Definitions) (kept : DefinitionsKept (readDefinitions n 0 (entries ks os)) d) where
+  -- the code's answer
+  abbrev Answers : Checked → Type 0
+  Answers r = r ≡ checkedProgram (readEntries n (entries ks os))
+
+  opened : readEntries n (entries ks os) ≡ (readDefinitions n 0 (entries ks os) >>= goalRead >>= tests (entries ks os))
+  unfolding readEntries tests
+  opened = ap (λ r. r >>= tests (entries ks os)) (program-split n 0 (entries ks os))
+
+  pub program-refused : (k e : ℕ) → d .answer ≡ Refused k e → Answers (Refused k e)
+  unfolding _>>=_ checked
+  program-refused k e h =
+      let r = checked-refused definitionsNodes (readDefinitions n 0 (entries ks os)) k e (sym (kept .answer) ∙ h) in
+      sym (ap checkedProgram (opened ∙ ap (λ r. r >>= goalRead >>= tests (entries ks os)) r))
+
+  module _ (at before : ℕ) (h : d .answer ≡ Next at before) (q : Checked) (eq : q ≡ checkedExp (readExp 24 (levels 0) at (entriesFrom ks os at))) where
+    first : (a : Got (List Definition)) × (readDefinitions n 0 (entries ks os) ≡ got a) × (a .next ≡ at) × (definitionsNodes (a .value) ≡ before)
+    first = checked-next definitionsNodes (readDefinitions n 0 (entries ks os)) at before (sym (kept .answer) ∙ h)
+
+    facts : AllDefined ks os n 0 (first .0)
+    facts = all-defined ks os n 0 (entries ks os) refl (first .0) (first .1)
+
+    -- what is left when the definitions are read
+    goal : readEntries n (entries ks os) ≡ (readExp 24 (levels 0) at (entriesFrom ks os at) >>= whole (first .0 .value) >>= tests (entries ks os))
+    unfolding goalRead levels _>>=_
+    goal =
+        opened
+        ∙ ap (λ r. r >>= goalRead >>= tests (entries ks os)) (first .1)
+        ∙ ap₂ (λ i l. readExp 24 [] i l >>= whole (first .0 .value) >>= tests (entries ks os)) (first .2)
+        (facts .rest ∙ ap (λ i. entriesFrom ks os i) (first .2))
+
+    pub goal-refused : (k e : ℕ) → q ≡ Refused k e → Answers (Refused k e)
+    unfolding _>>=_ checked
+    goal-refused k e w =
+        let r = checked-refused size (readExp 24 (levels 0) at (entriesFrom ks os at)) k e (sym eq ∙ w) in
+        sym (ap checkedProgram (goal ∙ ap (λ r. r >>= whole (first .0 .value) >>= tests (entries ks os)) r))
+
+    module _ (end nodes : ℕ) (w : q ≡ Next end nodes) where
+      pub all-few : length ks ≤ 512 → before + nodes + 1 < 4096
+      all-few l =
+          let f = next-few ks os 24 (levels 0) at q eq end nodes w in
+          let x = f .0 in
+          let y = f .1 in
+          let u = facts .few in
+          let v = first .2 in
+          let z = first .3 in
+          omega arith
+
+      pub sum-few : length ks ≤ 512 → before + nodes < 4096
+      sum-few l = let x = all-few l in omega arith
+
+      pub program-done : (u v x r : Checked) → u ≡ checkedTest (leftovers end (entriesFrom ks os end))
+          → v ≡ checkedTest (definitionsKept (take n (d .formals)) 0 (entries ks os)) → x ≡ afterwards v (Next end (before + nodes + 1))
+          → r ≡ afterwards u x → Answers r
+      unfolding whole formalsRead _>>=_
+      program-done u v x r eu ev ex er =
+          let ds = first .0 .value in
+          let a = checked-next size (readExp 24 (levels 0) at (entriesFrom ks os at)) end nodes (sym eq ∙ w) in
+          let f = exp-from (entries ks os) 24 (levels 0) at (entriesFrom ks os at) (a .0) refl (a .1) in
+          let b = first .3 in
+          let c = a .3 in
+          let fs : take n (d .formals) ≡ formalsOf ds =
+          ap (λ i. take i (d .formals)) (sym (ap (λ r. length (formalsRead r)) (first .1) ∙ formals-length ds ∙ facts .many))
+          ∙ kept .formals
+          ∙ ap formalsRead (first .1) in
+          let sum : definitionsNodes ds + (size (a .0 .value) + 1) ≡ before + nodes + 1 = omega arith in
+          er
+          ∙ ap₂ afterwards eu (ex ∙ ap (λ v. afterwards v (Next end (before + nodes + 1))) ev)
+          ∙ sym (ap checkedProgram (goal ∙ ap (λ r. r >>= whole ds >>= tests (entries ks os)) (a .1))
+          ∙ tests-all (entries ks os) (record { value = record { definitions = ds; goal = a .0 .value }; next = a .0 .next; rest = a .0 .rest })
+          ∙ ap₂ afterwards
+          (ap₂ (λ i l. checkedTest (leftovers i l)) (a .2) (f .rest ∙ ap (λ i. entriesFrom ks os i) (a .2)))
+          (ap₂ afterwards (ap (λ fs. checkedTest (definitionsKept fs 0 (entries ks os))) (sym fs)) (ap₂ (λ i k. Next i k) (a .2) sum)))
