@@ -1,6 +1,6 @@
 -- Answers by their variant: the number of nodes, and adding to it. Assumes nothing.
-use mathlib.Core.Path.{_≡_, refl}
-use Prim.Native.Nat.{ℕ, _+_, _≤_}
+use mathlib.Core.Path.{_≡_}
+use Prim.Native.Nat.{ℕ, _+_}
 use native.Mathlib.Omega.{arith}
 use Rattle.reader.specs.Checked.{nodesOf, more, afterwards}
 use Rattle.reader.specs.declared.checked.Checked.{Checked}

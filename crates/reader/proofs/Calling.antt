@@ -1,7 +1,7 @@
 -- Calls of definitions: the test of one entry at each outcome, and the loop over all of them. Assumes nothing.
-use mathlib.Core.Path.{_≡_, refl, sym, _∙_, ap}
+use mathlib.Core.Path.{_≡_, refl, _∙_}
 use mathlib.Core.Bool.{Bool, true, false, not}
-use mathlib.Core.List.{List, [], _∷_}
+use mathlib.Core.List.{List}
 use Prim.Native.Nat.{ℕ, suc, _+_, _*_, _/_, _%_, _<_, _≤_}
 use native.Mathlib.Omega.{arith}
 use native.Mathlib.Numerals.{add-one}
@@ -11,8 +11,8 @@ use lib.Dec.{eqb}
 use borrow.Author.Tests.{not-true, not-false}
 use Rattle.model.specs.Test.{_and_, _or_}
 use Rattle.model.specs.Number.{number}
-use Rattle.model.specs.Job.Entry.{Entry, entry, entries}
-use Rattle.model.specs.Job.Read.{Read, _>>=_, need, callKept, definitionsKept}
+use Rattle.model.specs.Job.Entry.{entry, entries}
+use Rattle.model.specs.Job.Read.{_>>=_, need, callKept, definitionsKept}
 use Rattle.model.proofs.Test.{eq-eqb, ne-eqb, lt-ltb, le-not-ltb}
 use Rattle.model.proofs.Job.Position.{entries-end, entries-at}
 use Rattle.reader.specs.Checked.{entriesFrom, checked, checkedTest}

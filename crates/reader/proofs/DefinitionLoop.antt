@@ -1,8 +1,7 @@
 -- The loop over the definitions: those that are done stand in front of what is left to read. Assumes nothing.
 use mathlib.Core.Path.{_≡_, refl, sym, _∙_, ap, ap₂, subst}
-use mathlib.Core.Bool.{Bool, true, false}
-use mathlib.Core.List.{List, [], _∷_, _++_, map, append-assoc, append-nil}
-use Prim.Native.Nat.{ℕ, zero, suc, _+_, _*_, _-_, _<_, _≤_}
+use mathlib.Core.List.{List, [], _∷_, _++_, append-assoc, append-nil}
+use Prim.Native.Nat.{ℕ, suc, _+_, _*_, _-_, _<_, _≤_}
 use native.Mathlib.Omega.{arith}
 use native.Mathlib.Decide.{decLt}
 use native.Mathlib.Numerals.{add-one}
@@ -10,15 +9,13 @@ use lib.ListN.{length, getD, take, drop, set, length-append, length-set}
 use lib.Seq.{take-suc-set}
 use Rattle.model.specs.Number.{number}
 use Rattle.model.specs.Job.Syntax.{Exp, Definition, levels, formalsOf}
-use Rattle.model.specs.Job.Entry.{Entry, entry, entries, kindOf, rowKept}
+use Rattle.model.specs.Job.Entry.{entries, kindOf}
 use Rattle.model.specs.Job.Read.{Got, Read, got, refused, _>>=_, gives, need, entryAt, readExp, isDefinition, readDefinition}
-use Rattle.model.specs.Job.Construct.{size}
 use Rattle.model.proofs.Job.Position.{entries-end, entries-at, entries-length, bind-got, refused-got, exp-from}
 use Rattle.reader.specs.Checked.{entriesFrom, checked}
-use Rattle.reader.specs.Definitions.{readDefinitions, definitionNodes, definitionsNodes, checkedDefinition, checkedDefinitions, formalsRead, DefinitionsKept}
+use Rattle.reader.specs.Definitions.{readDefinitions, definitionNodes, definitionsNodes, checkedDefinition, formalsRead, DefinitionsKept}
 use Rattle.reader.specs.declared.checked.Checked.{Checked}
 use Rattle.reader.specs.declared.checked.Checked.the-variants.{Next, Refused}
-use Rattle.reader.proofs.Answer.{clash}
 use Rattle.reader.proofs.Onward.{checked-refused, checked-next}
 use Rattle.reader.proofs.Few.{read-few}
 
@@ -152,8 +149,11 @@ module _ (count : ℕ) (ks os fs : List ℕ) (at nodes i : ℕ) (g : Reading cou
       facts : Defined ks os at (first .0)
       facts = defined ks os at (first .0) (first .1)
 
-      pub reading-here : at < length ks
-      reading-here = facts .here
+      pub reading-below : length ks ≤ 512 → at < 512
+      reading-below k = let x = facts .here in omega arith
+
+      pub reading-within : length os ≡ 4 * length ks → 4 * at + 4 ≤ length os
+      reading-within k = let x = facts .here in omega arith
 
       pub reading-fits : length ks ≤ 512 → nodes + d < 4096
       reading-fits k =

@@ -1,40 +1,29 @@
 -- What is answered for a definition and for several, at each outcome of the code's tests. Assumes nothing.
-use mathlib.Core.Path.{_≡_, refl, sym, _∙_, ap, ap₂}
-use mathlib.Core.Bool.{Bool, true, false}
-use mathlib.Core.List.{List, [], _∷_, _++_, map, append-assoc}
-use Prim.Native.Nat.{ℕ, zero, suc, _+_, _*_, _-_, _<_, _≤_}
-use native.Mathlib.Omega.{arith}
+use mathlib.Core.Path.{_≡_, refl, sym, _∙_, ap}
+use mathlib.Core.Bool.{false}
+use mathlib.Core.List.{List}
+use Prim.Native.Nat.{ℕ, _+_, _*_, _<_, _≤_}
 use native.Mathlib.Numerals.{add-one}
-use lib.ListN.{length, getD, take, drop, set, length-append, length-set}
-use lib.Seq.{take-suc-set}
+use lib.ListN.{length, getD, take, drop}
 use lib.Dec.{leb}
 use Rattle.model.specs.Number.{number}
-use Rattle.model.specs.Job.Syntax.{Exp, Definition, levels, formalsOf}
-use Rattle.model.specs.Job.Entry.{Entry, entry, entries, Kind, kindOf, rowKept}
+use Rattle.model.specs.Job.Syntax.{Exp, Definition, levels}
+use Rattle.model.specs.Job.Entry.{kindOf, rowKept}
 use Rattle.model.specs.Job.Read.{Got, Read, got, refused, _>>=_, gives, need, entryAt, readExp, isDefinition, readDefinition}
-use Rattle.model.specs.Job.Construct.{size}
 use Rattle.model.proofs.Test.{le-leb, lt-not-leb}
-use Rattle.model.proofs.Job.Position.{entries-end, entries-at, bind-got, exp-from}
+use Rattle.model.proofs.Job.Position.{entries-end, entries-at}
 use Rattle.reader.specs.Checked.{entriesFrom, checked, checkedExp, more}
-use Rattle.reader.specs.Definitions.{readDefinitions, definitionsNodes, checkedDefinition, checkedDefinitions, formalsRead, DefinitionsKept}
+use Rattle.reader.specs.Definitions.{checkedDefinition}
 use Rattle.reader.specs.declared.checked.Checked.{Checked}
-use Rattle.reader.specs.declared.checked.Checked.the-variants.{Next, Refused}
-use Rattle.reader.proofs.Onward.{bind-refused, checked-next}
-use Rattle.reader.proofs.Few.{next-few}
+use Rattle.reader.specs.declared.checked.Checked.the-variants.{Refused}
+use Rattle.reader.proofs.Row.{by-kind}
 
 -- an entry of another kind is no definition
 other-kind : (k : ℕ) → (k ≡ 6 → ⊥) → isDefinition (kindOf k) ≡ false
 unfolding isDefinition kindOf
-other-kind zero f = refl
-other-kind (suc zero) f = refl
-other-kind (suc (suc zero)) f = refl
-other-kind (suc (suc (suc zero))) f = refl
-other-kind (suc (suc (suc (suc zero)))) f = refl
-other-kind (suc (suc (suc (suc (suc zero))))) f = refl
-other-kind (suc (suc (suc (suc (suc (suc zero)))))) f = absurd (f refl)
-other-kind (suc (suc (suc (suc (suc (suc (suc zero))))))) f = refl
-other-kind (suc (suc (suc (suc (suc (suc (suc (suc zero)))))))) f = refl
-other-kind (suc (suc (suc (suc (suc (suc (suc (suc (suc k))))))))) f = refl
+other-kind =
+    by-kind (λ k. (k ≡ 6 → ⊥) → isDefinition (kindOf k) ≡ false)
+    (λ f. refl) (λ f. refl) (λ f. refl) (λ f. refl) (λ f. refl) (λ f. refl) (λ f. absurd (f refl)) (λ f. refl) (λ f. refl) (λ k f. refl)
 
 -- a definition, of its body
 pub define : ℕ → Got Exp → Read Definition

@@ -5,7 +5,7 @@ use Prim.Native.Nat.{ℕ, zero, suc, _<_, _≤_}
 use native.Mathlib.Omega.{arith}
 use lib.Dec.{ltb}
 use Rattle.model.specs.Test.{_or_}
-use Rattle.model.specs.Job.Entry.{Kind, kindOf, isExpression, rowKept, isBinder}
+use Rattle.model.specs.Job.Entry.{kindOf, rowKept, isBinder}
 use borrow.Author.Tests.{not-true, not-false}
 use Rattle.model.proofs.Test.{lt-ltb, le-not-ltb}
 use Rattle.reader.specs.Fault.{unless, expressionFault}

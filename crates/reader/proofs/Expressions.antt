@@ -1,18 +1,18 @@
 -- What is answered for an expression, at each outcome of the code's tests. Assumes nothing.
 use mathlib.Core.Path.{_≡_, refl, sym, _∙_, ap, ap₂}
-use mathlib.Core.List.{List, [], _∷_}
+use mathlib.Core.List.{List, _∷_}
 use Prim.Native.Nat.{ℕ, zero, suc, _+_, _*_, _-_, _/_, _<_, _≤_}
 use native.Mathlib.Omega.{arith}
 use native.Mathlib.Decide.{decLt}
 use native.Mathlib.Numerals.{add-one}
 use lib.ListN.{length, getD, take, drop}
 use Rattle.model.specs.Number.{number}
-use Rattle.model.specs.Job.Syntax.{Param, Join, par, seq, prune, Exp, stop, site, call, join, levels, scopeLeft, scopeRight}
-use Rattle.model.specs.Job.Entry.{Entry, entry, entries, low, high, Kind, kindOf}
+use Rattle.model.specs.Job.Syntax.{Param, Join, par, seq, prune, Exp, site, call, join, levels, scopeLeft, scopeRight}
+use Rattle.model.specs.Job.Entry.{Entry, entry, entries, low, high, kindOf}
 use Rattle.model.specs.Job.Read.{Got, Read, got, refused, _>>=_, gives, entryAt, readParams, readCall, readJoin, readExp}
 use Rattle.model.specs.Job.Construct.{own, size}
 use Rattle.model.proofs.Job.Position.{entries-end, entries-at, exp-from}
-use Rattle.reader.specs.Checked.{entriesFrom, checked, checkedParams, checkedExp, nodesOf, more}
+use Rattle.reader.specs.Checked.{entriesFrom, checked, checkedParams, checkedExp, more}
 use Rattle.reader.specs.Fault.{expressionFault}
 use Rattle.reader.specs.Join.{either, joinOf, JoinKept}
 use Rattle.reader.specs.declared.checked.Checked.{Checked}

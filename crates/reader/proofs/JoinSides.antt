@@ -1,9 +1,9 @@
 -- A join by its kind byte, and what the code keeps of its two sides. Assumes nothing.
-use mathlib.Core.Path.{_≡_, refl}
-use Prim.Native.Nat.{ℕ, _+_, _≤_}
+use mathlib.Core.Path.{_≡_}
+use Prim.Native.Nat.{ℕ, _+_}
 use native.Mathlib.Omega.{arith}
 use native.Mathlib.Numerals.{add-one}
-use Rattle.model.specs.Job.Syntax.{Join, par, seq, prune, levels, scopeLeft, scopeRight}
+use Rattle.model.specs.Job.Syntax.{par, seq, prune, levels, scopeLeft, scopeRight}
 use Rattle.model.specs.Job.Construct.{own}
 use Rattle.model.proofs.Test.{eq-eqb, ne-eqb}
 use Rattle.reader.specs.Join.{either, joinOf, JoinKept}

@@ -1,12 +1,9 @@
 -- What is answered for a reading that goes on: its first part's refusal is its own, and where its first part was read, the second part
 -- begins behind it. Assumes nothing.
-use mathlib.Core.Path.{_≡_, refl, sym, _∙_}
-use mathlib.Core.List.{List}
+use mathlib.Core.Path.{_≡_, refl, sym}
 use Prim.Native.Nat.{ℕ}
-use Rattle.model.specs.Job.Entry.{Entry}
 use Rattle.model.specs.Job.Read.{Got, Read, got, refused, _>>=_, gives}
 use Rattle.reader.specs.Checked.{checked}
-use Rattle.reader.specs.declared.checked.Checked.{Checked}
 use Rattle.reader.specs.declared.checked.Checked.the-variants.{Next, Refused}
 use Rattle.reader.proofs.Answer.{clash}
 

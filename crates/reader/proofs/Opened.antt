@@ -2,17 +2,16 @@
 -- is refused by itself the reading is refused with that number, and where it is not, the kind's reading is all that is left. Assumes nothing.
 use mathlib.Core.Path.{_≡_, refl, sym, _∙_, ap}
 use mathlib.Core.Bool.{Bool, true, false, not}
-use mathlib.Core.List.{List, [], _∷_}
+use mathlib.Core.List.{List, _∷_}
 use Prim.Native.Nat.{ℕ, zero, suc, _-_, _<_, _≤_}
 use native.Mathlib.Omega.{arith}
-use native.Mathlib.Numerals.{sub-one}
 use native.Mathlib.Decide.{decLt}
 use lib.ListN.{length}
 use lib.Dec.{ltb}
 use Rattle.model.specs.Test.{_or_}
-use Rattle.model.specs.Job.Syntax.{Join, par, seq, prune, Exp, stop, site, call, levels}
+use Rattle.model.specs.Job.Syntax.{par, seq, prune, Exp, stop, site, call, levels}
 use Rattle.model.specs.Job.Entry.{Entry, entry, low, high, Kind, kindOf, isExpression, rowKept, isBinder}
-use Rattle.model.specs.Job.Read.{Got, Read, got, refused, _>>=_, gives, need, entryAt, readCall, readJoin, readExp}
+use Rattle.model.specs.Job.Read.{Read, refused, _>>=_, gives, need, entryAt, readCall, readJoin, readExp}
 use Rattle.model.proofs.Test.{clash, ltb-lt}
 use Rattle.reader.specs.Fault.{unless, expressionFault}
 use Rattle.reader.proofs.Scope.{levels-length}

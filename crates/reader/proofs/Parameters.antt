@@ -1,14 +1,11 @@
 -- What is answered for one parameter and for several, at each outcome of the code's tests. Assumes nothing.
 use mathlib.Core.Path.{_≡_, refl, sym, _∙_, ap, ap₂}
-use mathlib.Core.Bool.{Bool, true, false}
-use mathlib.Core.List.{List, [], _∷_}
-use Prim.Native.Nat.{ℕ, zero, suc, _+_, _*_, _-_, _<_, _≤_}
+use mathlib.Core.List.{List, _∷_}
+use Prim.Native.Nat.{ℕ, suc, _+_, _*_, _-_, _<_, _≤_}
 use native.Mathlib.Omega.{arith}
-use native.Mathlib.Numerals.{add-one, sub-one}
+use native.Mathlib.Numerals.{add-one}
 use lib.ListN.{length, getD, take, drop}
-use lib.Dec.{eqb}
-use Rattle.model.specs.Test.{any}
-use Rattle.model.specs.Number.{number, signed}
+use Rattle.model.specs.Number.{number}
 use Rattle.model.specs.Job.Syntax.{Param, levels}
 use Rattle.model.specs.Job.Entry.{Entry, entry, entries, kindOf}
 use Rattle.model.specs.Job.Read.{Got, Read, got, refused, _>>=_, gives, need, entryAt, readParam, readParams}
@@ -17,21 +14,16 @@ use Rattle.reader.specs.Checked.{entriesFrom, checked, checkedParam, che
 use Rattle.reader.specs.declared.checked.Checked.{Checked}
 use Rattle.reader.specs.declared.checked.Checked.the-variants.{Next, Refused}
 use Rattle.reader.proofs.Scope.{in-scope, out-of-scope}
+use Rattle.reader.proofs.Row.{by-kind}
 use Rattle.reader.proofs.Onward.{bind-refused, checked-next, same-nodes}
 
 -- an entry of another kind is no parameter
 other-kind : (scope : List ℕ) (e k o : ℕ) (es : List Entry) → (k ≡ 8 → ⊥) → (k ≡ 7 → ⊥) → readParam scope e (entry k o ∷ es) ≡ refused 3 e
 unfolding readParam entryAt kindOf _>>=_
-other-kind scope e zero o es a b = refl
-other-kind scope e (suc zero) o es a b = refl
-other-kind scope e (suc (suc zero)) o es a b = refl
-other-kind scope e (suc (suc (suc zero))) o es a b = refl
-other-kind scope e (suc (suc (suc (suc zero)))) o es a b = refl
-other-kind scope e (suc (suc (suc (suc (suc zero))))) o es a b = refl
-other-kind scope e (suc (suc (suc (suc (suc (suc zero)))))) o es a b = refl
-other-kind scope e (suc (suc (suc (suc (suc (suc (suc zero))))))) o es a b = absurd (b refl)
-other-kind scope e (suc (suc (suc (suc (suc (suc (suc (suc zero)))))))) o es a b = absurd (a refl)
-other-kind scope e (suc (suc (suc (suc (suc (suc (suc (suc (suc k))))))))) o es a b = refl
+other-kind scope e k o es =
+    by-kind (λ k. (k ≡ 8 → ⊥) → (k ≡ 7 → ⊥) → readParam scope e (entry k o ∷ es) ≡ refused 3 e)
+    (λ a b. refl) (λ a b. refl) (λ a b. refl) (λ a b. refl) (λ a b. refl) (λ a b. refl) (λ a b. refl)
+    (λ a b. absurd (b refl)) (λ a b. absurd (a refl)) (λ k a b. refl) k
 
 module _ (ks os : List ℕ) (s at : ℕ) where
   -- the code's answer

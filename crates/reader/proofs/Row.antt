@@ -1,22 +1,32 @@
 -- The table of kinds at each kind byte: which may stand where an expression is read, which bind, and what their operands may be.
 -- Assumes nothing.
-use mathlib.Core.Path.{_≡_, refl, sym, _∙_}
-use mathlib.Core.Bool.{Bool, true, false}
+use mathlib.Core.Path.{_≡_, refl}
+use mathlib.Core.Bool.{true, false}
 use Prim.Native.Nat.{ℕ, zero, suc, _<_, _≤_}
 use native.Mathlib.Omega.{arith}
 use lib.Dec.{eqb, leb}
 use Rattle.model.specs.Site.{siteTakes}
-use Rattle.model.specs.Job.Entry.{low, high, Kind, kindOf, isExpression, rowKept, isBinder}
+use Rattle.model.specs.Job.Entry.{low, high, kindOf, isExpression, rowKept, isBinder}
 
--- what holds of 0 to 5 holds of every number up to 5
+-- what holds of 0 to 8, the known kinds, and of every number from 9 on holds of every number
+pub by-kind : (P : ℕ → Type 0) → P 0 → P 1 → P 2 → P 3 → P 4 → P 5 → P 6 → P 7 → P 8
+    → ((k : ℕ) → P (suc (suc (suc (suc (suc (suc (suc (suc (suc k)))))))))) → (k : ℕ) → P k
+by-kind P a b c d e f g h i j zero = a
+by-kind P a b c d e f g h i j (suc zero) = b
+by-kind P a b c d e f g h i j (suc (suc zero)) = c
+by-kind P a b c d e f g h i j (suc (suc (suc zero))) = d
+by-kind P a b c d e f g h i j (suc (suc (suc (suc zero)))) = e
+by-kind P a b c d e f g h i j (suc (suc (suc (suc (suc zero))))) = f
+by-kind P a b c d e f g h i j (suc (suc (suc (suc (suc (suc zero)))))) = g
+by-kind P a b c d e f g h i j (suc (suc (suc (suc (suc (suc (suc zero))))))) = h
+by-kind P a b c d e f g h i j (suc (suc (suc (suc (suc (suc (suc (suc zero)))))))) = i
+by-kind P a b c d e f g h i j (suc (suc (suc (suc (suc (suc (suc (suc (suc k))))))))) = j k
+
+-- the expressions' kinds
 pub up-to-five : (P : ℕ → Type 0) → P 0 → P 1 → P 2 → P 3 → P 4 → P 5 → (k : ℕ) → k ≤ 5 → P k
-up-to-five P a b c d e f zero l = a
-up-to-five P a b c d e f (suc zero) l = b
-up-to-five P a b c d e f (suc (suc zero)) l = c
-up-to-five P a b c d e f (suc (suc (suc zero))) l = d
-up-to-five P a b c d e f (suc (suc (suc (suc zero)))) l = e
-up-to-five P a b c d e f (suc (suc (suc (suc (suc zero))))) l = f
-up-to-five P a b c d e f (suc (suc (suc (suc (suc (suc k)))))) l = absurd (omega arith)
+up-to-five P a b c d e f =
+    by-kind (λ k. k ≤ 5 → P k) (λ l. a) (λ l. b) (λ l. c) (λ l. d) (λ l. e) (λ l. f)
+    (λ l. absurd (omega arith)) (λ l. absurd (omega arith)) (λ l. absurd (omega arith)) (λ k l. absurd (omega arith))
 
 pub is-expression : (k : ℕ) → k ≤ 5 → isExpression (kindOf k) ≡ true
 unfolding kindOf isExpression
@@ -24,16 +34,9 @@ is-expression = up-to-five (λ k. isExpression (kindOf k) ≡ true) refl refl re
 
 pub no-expression : (k : ℕ) → 5 < k → isExpression (kindOf k) ≡ false
 unfolding kindOf isExpression
-no-expression zero l = absurd (omega arith)
-no-expression (suc zero) l = absurd (omega arith)
-no-expression (suc (suc zero)) l = absurd (omega arith)
-no-expression (suc (suc (suc zero))) l = absurd (omega arith)
-no-expression (suc (suc (suc (suc zero)))) l = absurd (omega arith)
-no-expression (suc (suc (suc (suc (suc zero))))) l = absurd (omega arith)
-no-expression (suc (suc (suc (suc (suc (suc zero)))))) l = refl
-no-expression (suc (suc (suc (suc (suc (suc (suc zero))))))) l = refl
-no-expression (suc (suc (suc (suc (suc (suc (suc (suc zero)))))))) l = refl
-no-expression (suc (suc (suc (suc (suc (suc (suc (suc (suc k))))))))) l = refl
+no-expression =
+    by-kind (λ k. 5 < k → isExpression (kindOf k) ≡ false) (λ l. absurd (omega arith)) (λ l. absurd (omega arith)) (λ l. absurd (omega arith))
+    (λ l. absurd (omega arith)) (λ l. absurd (omega arith)) (λ l. absurd (omega arith)) (λ l. refl) (λ l. refl) (λ l. refl) (λ k l. refl)
 
 pub is-binder : (k : ℕ) → k ≤ 5 → 4 ≤ k → isBinder (kindOf k) ≡ true
 unfolding kindOf isBinder

@@ -5,7 +5,7 @@ use Prim.Native.Nat.{ℕ, zero, suc, _+_}
 use lib.ListN.{length, take}
 use Rattle.model.specs.Job.Syntax.{Definition, formalsOf}
 use Rattle.model.specs.Job.Entry.{Entry}
-use Rattle.model.specs.Job.Read.{Got, Read, got, refused, _>>=_, gives, readDefinition}
+use Rattle.model.specs.Job.Read.{Read, got, refused, _>>=_, gives, readDefinition}
 use Rattle.model.specs.Job.Construct.{size}
 use Rattle.reader.specs.Checked.{checked}
 use Rattle.reader.specs.declared.checked.Checked.{Checked}

@@ -2,7 +2,6 @@
 use crate::checked::Checked;
 use crate::entry;
 ghost use mathlib.Core.Path.{_≡_};
-ghost use Prim.Native.Nat.{_≤_};
 ghost use Rattle.model.specs.Job.Syntax.{levels};
 ghost use Rattle.model.specs.Job.Read.{readParam, readParams};
 ghost use Rattle.reader.specs.Checked.{Parts, entriesFrom, checkedParam, checkedParams};

@@ -1,36 +1,27 @@
+-- `entry::fault` meets its contract: there is a law for each way out of the tests. Assumes nothing.
 use borrow.Author.Needs.{needs}
 use Rattle.reader.proofs.EntryFault.{fault-3, fault-4, fault-6, fault-none, fault-7, fault-room}
 use Rattle.reader.proofs.entry.fault.Statement.{statement}
 use Rattle.reader.proofs.entry.fault.Tie as tie
-use Rattle.reader.proofs.entry.fault.Reads as reads
-use Rattle.reader.proofs.entry.fault.Lts as lts
-use Rattle.reader.proofs.entry.row_kept.Reads as row-kept-reads
 
--- src/entry.rt:45:9
 returns : tie.Need-returns
 returns c = search fault-3
 
--- src/entry.rt:47:9
 row-kept-requires : tie.Need-row-kept-requires
 row-kept-requires c κs = search needs
 
--- src/entry.rt:48:9
 returns-2 : tie.Need-returns-2
 returns-2 c = search fault-4
 
--- src/entry.rt:51:9
 returns-3 : tie.Need-returns-3
 returns-3 c = search fault-6
 
--- src/entry.rt:54:9
 returns-4 : tie.Need-returns-4
 returns-4 c = search fault-none
 
--- src/entry.rt:57:9
 returns-5 : tie.Need-returns-5
 returns-5 c = search fault-7
 
--- src/entry.rt:41:1
 returns-6 : tie.Need-returns-6
 returns-6 c = search fault-room
 

@@ -1,48 +1,36 @@
+-- `entry::operand` meets its contract: its four bytes lie within the operands, and their number is the lowest byte first. Assumes nothing.
 use borrow.Author.Needs.{needs}
 use Rattle.reader.proofs.Word.{number-at}
 use Rattle.reader.proofs.entry.operand.Statement.{statement}
 use Rattle.reader.proofs.entry.operand.Tie as tie
-use Rattle.reader.proofs.entry.operand.Reads as reads
-use Rattle.reader.proofs.entry.operand.Lts as lts
-use Rattle.reader.proofs.entry.word.Reads as word-reads
 
--- src/entry.rt:22:13
 mul-i : tie.Need-mul-i
 mul-i c = search needs
 
--- src/entry.rt:23:10
 shared-slice-read-word : tie.Need-shared-slice-read-word
 shared-slice-read-word c = search needs
 
--- src/entry.rt:23:32
 add-word : tie.Need-add-word
 add-word c = search needs
 
--- src/entry.rt:23:23
 shared-slice-read-word-2 : tie.Need-shared-slice-read-word-2
 shared-slice-read-word-2 c = search needs
 
--- src/entry.rt:23:49
 add-word-2 : tie.Need-add-word-2
 add-word-2 c = search needs
 
--- src/entry.rt:23:40
 shared-slice-read-word-3 : tie.Need-shared-slice-read-word-3
 shared-slice-read-word-3 c = search needs
 
--- src/entry.rt:23:66
 add-word-3 : tie.Need-add-word-3
 add-word-3 c = search needs
 
--- src/entry.rt:23:57
 shared-slice-read-word-4 : tie.Need-shared-slice-read-word-4
 shared-slice-read-word-4 c = search needs
 
--- src/entry.rt:23:5
 word-requires : tie.Need-word-requires
 word-requires c κs = search needs
 
--- src/entry.rt:18:1
 returns : tie.Need-returns
 returns c = search number-at
 

@@ -1,26 +1,20 @@
+-- `entry::row_kept` meets its contract: each answer is that of the kind's row. Assumes nothing.
 use borrow.Author.Needs.{needs}
 use mathlib.Core.Path.{sym, _∙_}
 use native.Mathlib.Omega.{arith}
 use Rattle.reader.proofs.Row.{row-site, row-call, row-zero}
 use Rattle.reader.proofs.entry.row_kept.Statement.{statement}
 use Rattle.reader.proofs.entry.row_kept.Tie as tie
-use Rattle.reader.proofs.entry.row_kept.Reads as reads
-use Rattle.reader.proofs.entry.row_kept.Lts as lts
-use Rattle.model.proofs.sites.takes.Reads as takes-reads
 
--- src/entry.rt:32:9
 takes-requires : tie.Need-takes-requires
 takes-requires c κs = search needs
 
--- src/entry.rt:32:9
 returns : tie.Need-returns
 returns c = c .takes .ensures ∙ sym (row-site _ _ (c .before .if1 .taken))
 
--- src/entry.rt:35:9
 returns-2 : tie.Need-returns-2
 returns-2 c = sym (row-call _ _ (c .if2 .taken))
 
--- src/entry.rt:27:1
 returns-3 : tie.Need-returns-3
 returns-3 c = sym (row-zero _ _ (omega arith) (c .before .if1 .left) (c .if2 .left))
 

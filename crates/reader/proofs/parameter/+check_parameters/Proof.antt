@@ -1,3 +1,4 @@
+-- `parameter::check_parameters` meets its contract: it goes on behind the first parameter, and the count falls. Assumes nothing.
 use Prim.Native.Nat.{ℕ, _<_}
 use borrow.Fn.Kinds.{In}
 use borrow.Fn.PlainCycle.{Measures, is, falls, and}

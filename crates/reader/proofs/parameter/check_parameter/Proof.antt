@@ -1,48 +1,36 @@
+-- `parameter::check_parameter` meets its contract: there is a law for each way out of the tests. Assumes nothing.
 use borrow.Author.Needs.{needs}
 use Rattle.reader.proofs.Parameters.{param-end, param-constant, param-other, param-in, param-out}
 use Rattle.reader.proofs.parameter.check_parameter.Statement.{statement}
 use Rattle.reader.proofs.parameter.check_parameter.Tie as tie
-use Rattle.reader.proofs.parameter.check_parameter.Reads as reads
-use Rattle.reader.proofs.parameter.check_parameter.Lts as lts
-use Rattle.reader.proofs.entry.operand.Reads as operand-reads
 
--- src/parameter.rt:16:9
 returns : tie.Need-returns
 returns c = search param-end
 
--- src/parameter.rt:18:16
 shared-slice-read-kind : tie.Need-shared-slice-read-kind
 shared-slice-read-kind c = search needs
 
--- src/parameter.rt:20:30
 add-t11 : tie.Need-add-t11
 add-t11 c = search needs
 
--- src/parameter.rt:20:9
 returns-2 : tie.Need-returns-2
 returns-2 c = search param-constant
 
--- src/parameter.rt:23:9
 returns-3 : tie.Need-returns-3
 returns-3 c = search param-other
 
--- src/parameter.rt:25:9
 operand-requires : tie.Need-operand-requires
 operand-requires c κs = search needs
 
--- src/parameter.rt:26:9
 cast-if4 : tie.Need-cast-if4
 cast-if4 c = search needs
 
--- src/parameter.rt:27:30
 add-t12 : tie.Need-add-t12
 add-t12 c = search needs
 
--- src/parameter.rt:27:9
 returns-4 : tie.Need-returns-4
 returns-4 c = search param-in
 
--- src/parameter.rt:11:1
 returns-5 : tie.Need-returns-5
 returns-5 c = search param-out
 

@@ -1,14 +1,11 @@
+-- `program::check_end` meets its contract: there is an entry at the index, or none. Assumes nothing.
 use Rattle.reader.proofs.Programs.{end-left, end-none}
 use Rattle.reader.proofs.program.check_end.Statement.{statement}
 use Rattle.reader.proofs.program.check_end.Tie as tie
-use Rattle.reader.proofs.program.check_end.Reads as reads
-use Rattle.reader.proofs.program.check_end.Lts as lts
 
--- src/program.rt:19:9
 returns : tie.Need-returns
 returns c = search end-left
 
--- src/program.rt:14:1
 returns-2 : tie.Need-returns-2
 returns-2 c = search end-none
 
