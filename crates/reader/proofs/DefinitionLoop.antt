@@ -25,7 +25,7 @@ pub record Defined (ks os : List ℕ) (at : ℕ) (g : Got Definition) : Type 0 w
   pub last : g .next ≤ length ks
   pub here : at < length ks
   pub formals : g .value .formals ≡ number (take 4 (drop (4 * at) os))
-  pub few : definitionNodes (g .value) + 2 * at ≤ 2 * g .next
+  pub few : definitionNodes (g .value) + 2 + 2 * at ≤ 2 * g .next
 
 body-defined : (ks os : List ℕ) (at : ℕ) (b : Got Exp) → at < length ks
     → readExp 24 (levels (number (take 4 (drop (4 * at) os)))) (suc at) (entriesFrom ks os (suc at)) ≡ got b
@@ -33,7 +33,7 @@ body-defined : (ks os : List ℕ) (at : ℕ) (b : Got Exp) → at < length ks
 body-defined ks os at b l r =
     let scope = levels (number (take 4 (drop (4 * at) os))) in
     let f = exp-from (entries ks os) 24 scope (suc at) (entriesFrom ks os (suc at)) b refl r in
-    let small = read-few ks os 24 scope (suc at) b r in
+    let small = read-few ks os 24 scope (suc at) b r .few in
     let last = f .last in
     record { rest = f .rest; last = omega (arith, entries-length ks os); here = l; formals = refl; few = omega arith }
 

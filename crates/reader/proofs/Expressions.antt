@@ -129,7 +129,8 @@ module _ (ks os : List ℕ) (left s at : ℕ) where
       exp-stop k = rw (by-kind, k, add-one)
 
       module _ (f : getD ks at 0 ≡ 0 → ⊥) where
-        pub exp-call : (q r : Checked) → getD ks at 0 < 3 → q ≡ checkedParams (readParams (o / 65536) (levels s) (at + 1) (entriesFrom ks os (at + 1)))
+        pub exp-call : (q r : Checked) → getD ks at 0 < 3
+            → q ≡ checkedParams (readParams (o / 65536) (levels s) (at + 1) (entriesFrom ks os (at + 1)))
             → r ≡ more 1 q → Answers r
         unfolding behind
         exp-call q r k eq er =

@@ -1,8 +1,8 @@
--- How many nodes an expression has: at most two for each of its entries, less one. Assumes nothing.
+-- How many nodes an expression has: at most two for each of its entries that is no parameter, less one. Assumes nothing.
 use mathlib.Core.Path.{_≡_, refl, sym, _∙_, subst}
 use mathlib.Core.Bool.{Bool, true, false}
 use mathlib.Core.List.{List, [], _∷_}
-use Prim.Native.Nat.{ℕ, zero, suc, _+_, _*_, _<_, _≤_}
+use Prim.Native.Nat.{ℕ, zero, suc, _+_, _*_, _-_, _<_, _≤_}
 use native.Mathlib.Omega.{arith}
 use lib.ListN.{length, drop}
 use Rattle.model.specs.Job.Syntax.{Param, Join, par, seq, prune, Exp, stop, site, call, scopeLeft, scopeRight}
@@ -46,9 +46,12 @@ own-few par = omega arith
 own-few (seq x) = omega arith
 own-few (prune x) = omega arith
 
--- an expression that is read from entry e on
-abbrev Small : ℕ → Got Exp → Type 0
-Small e g = size (g .value) + 1 + 2 * e ≤ 2 * g .next
+-- an expression that is read from entry e on: its joins have one call or stop more than there are joins
+pub record Small (e : ℕ) (g : Got Exp) : Type 0 where
+  pub joins : ℕ
+  pub params : ℕ
+  pub ends : g .next ≡ e + 1 + 2 * joins + params
+  pub few : size (g .value) + 1 + 2 * params + 2 * e ≤ 2 * g .next
 
 module _ (es : List Entry) where
   -- one that is read from entry e of these on, with what is left behind it
@@ -61,7 +64,12 @@ module _ (es : List Entry) where
   call-few h one n scope e l q m =
       each-bind (λ g. suc e ≤ g .next) (Small e) (readParams n scope (suc e) l) _
       (each-of (readParams n scope (suc e) l) (λ g r. params-from es n scope (suc e) l g q m r .next))
-      (λ g k. is (omega (arith, one (g .value))))
+      (λ g k. is (record {
+        joins = 0;
+        params = g .next - suc e;
+        ends = omega arith;
+        few = omega (arith, one (g .value));
+      }))
 
   abbrev Sides : (List ℕ → ℕ → List Entry → Read Exp) → Type 0
   Sides side = (scope : List ℕ) (e : ℕ) (l : List Entry) → l ≡ drop e es → Each (Kept e) (side scope e l)
@@ -73,12 +81,18 @@ module _ (es : List Entry) where
       each-bind (Kept (suc e)) (Small e) (side (scopeLeft j scope) (suc e) l) _ (few (scopeLeft j scope) (suc e) l q)
       (λ f a. each-bind (Kept (f .next)) (Small e) (side (scopeRight j scope) (f .next) (f .rest)) _
       (few (scopeRight j scope) (f .next) (f .rest) (a .1))
-      (λ g b. is (let x = a .0 in let y = b .0 in omega (arith, own-few j))))
+      (λ g b. is (record {
+        joins = a .0 .joins + b .0 .joins + 1;
+        params = a .0 .params + b .0 .params;
+        ends = omega (arith, a .0 .ends, b .0 .ends);
+        few = omega (arith, own-few j, a .0 .few, b .0 .few);
+      })))
 
   kind-few : (side : List ℕ → ℕ → List Entry → Read Exp) → Sides side → (scope : List ℕ) (e : ℕ) (l : List Entry)
       → l ≡ drop (suc e) es → suc e ≤ length es → (k : Kind) (o : ℕ) → Each (Small e) (readKind side scope e (suc e) l k o)
   unfolding readKind size
-  kind-few side few scope e l q m Kind.stop o = is {g = record { value = stop; next = suc e; rest = l }} (omega arith)
+  kind-few side few scope e l q m Kind.stop o =
+      is {g = record { value = stop; next = suc e; rest = l }} (record { joins = 0; params = 0; ends = omega arith; few = omega arith })
   kind-few side few scope e l q m Kind.site o = call-few (λ ps. site (low o) ps) (λ ps. refl) (high o) scope e l q m
   kind-few side few scope e l q m Kind.call o = call-few (λ ps. call (low o) ps) (λ ps. refl) (high o) scope e l q m
   kind-few side few scope e l q m Kind.par o = join-few side few par scope e l q
@@ -106,7 +120,7 @@ module _ (es : List Entry) where
       (kind-few (readExp left) sides scope e l (f .1) (f .2) (kindOf (x .kind)) (x .operand)))))
 
 pub read-few : (ks os : List ℕ) (left : ℕ) (scope : List ℕ) (e : ℕ) (g : Got Exp) → readExp left scope e (entriesFrom ks os e) ≡ got g
-    → size (g .value) + 1 + 2 * e ≤ 2 * g .next
+    → Small e g
 read-few ks os left scope e g r = each-got (exp-few (entries ks os) left scope e (entriesFrom ks os e) refl) r
 
 -- what an answer says of it
@@ -115,7 +129,7 @@ module _ (ks os : List ℕ) (left : ℕ) (scope : List ℕ) (e : ℕ) (q : Check
   next-few m d h =
       let a = checked-next size (readExp left scope e (entriesFrom ks os e)) m d (sym eq ∙ h) in
       let f = exp-from (entries ks os) left scope e (entriesFrom ks os e) (a .0) refl (a .1) in
-      let small = read-few ks os left scope e (a .0) (a .1) in
+      let small = read-few ks os left scope e (a .0) (a .1) .few in
       let x = a .2 in
       let y = a .3 in
       let last = f .last in

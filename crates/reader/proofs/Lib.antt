@@ -14,4 +14,6 @@ pub mod Calling
 pub mod Definitions
 pub mod DefinitionLoop
 pub mod NodeCount
+pub mod ProgramParts
 pub mod Programs
+pub mod AtMost

@@ -1,14 +1,14 @@
 -- What is answered for the whole table, at each outcome of the code's tests. Assumes nothing.
-use mathlib.Core.Path.{_≡_, refl, sym, _∙_, ap, ap₂, subst}
-use mathlib.Core.List.{List, [], _∷_}
-use Prim.Native.Nat.{ℕ, zero, suc, _+_, _*_, _<_, _≤_}
+use mathlib.Core.Path.{_≡_, refl, sym, _∙_, ap, ap₂}
+use mathlib.Core.List.{List, []}
+use Prim.Native.Nat.{ℕ, _+_, _<_, _≤_}
 use native.Mathlib.Omega.{arith}
 use lib.ListN.{length, take}
-use Rattle.model.specs.Job.Syntax.{Exp, Definition, Program, formalsOf, levels}
+use Rattle.model.specs.Job.Syntax.{Definition, Program, formalsOf, levels}
 use Rattle.model.specs.Job.Entry.{Entry, entries}
-use Rattle.model.specs.Job.Read.{Got, Read, got, refused, _>>=_, gives, need, readExp, readDefinition, readProgram, leftovers, definitionsKept, readEntries}
+use Rattle.model.specs.Job.Read.{Got, Read, got, refused, _>>=_, need, readExp, leftovers, definitionsKept, readEntries}
 use Rattle.model.specs.Job.Construct.{size, construct}
-use Rattle.model.proofs.Job.Position.{entries-end, entries-at, bind-got, exp-from}
+use Rattle.model.proofs.Job.Position.{entries-end, entries-at, exp-from}
 use Rattle.reader.specs.Checked.{entriesFrom, checked, checkedTest, checkedExp, checkedProgram, afterwards}
 use Rattle.reader.specs.Definitions.{readDefinitions, definitionsNodes, formalsRead, DefinitionsKept}
 use Rattle.reader.specs.declared.checked.Checked.{Checked}
@@ -16,7 +16,8 @@ use Rattle.reader.specs.declared.checked.Checked.the-variants.{Next, Ref
 use Rattle.reader.specs.declared.definition.Definitions.{Definitions}
 use Rattle.reader.proofs.Onward.{checked-refused, checked-next}
 use Rattle.reader.proofs.Few.{next-few}
-use Rattle.reader.proofs.DefinitionLoop.{formals-length, Defined, defined}
+use Rattle.reader.proofs.DefinitionLoop.{formals-length}
+use Rattle.reader.proofs.ProgramParts.{whole, goalRead, AllDefined, all-defined, tests, entries-opened}
 use Rattle.reader.proofs.NodeCount.{construct-length}
 
 module _ (ks os : List ℕ) (at : ℕ) where
@@ -27,71 +28,6 @@ module _ (ks os : List ℕ) (at : ℕ) where
   pub end-none : length ks ≤ at → Next at 0 ≡ checkedTest (leftovers at (entriesFrom ks os at))
   unfolding leftovers need checked
   end-none l = rw (entries-end ks os at l)
-
--- a goal behind its definitions; a definition in front of a program, and in front of others
-whole : List Definition → Got Exp → Read Program
-whole ds g = gives (record { definitions = ds; goal = g .value }) (g .next) (g .rest)
-
-ahead : Definition → Got Program → Read Program
-ahead d p = gives (record { definitions = d ∷ p .value .definitions; goal = p .value .goal }) (p .next) (p .rest)
-
-more : Definition → Got (List Definition) → Read (List Definition)
-more d ds = gives (d ∷ ds .value) (ds .next) (ds .rest)
-
--- the goal, read behind the definitions
-goalRead : Got (List Definition) → Read Program
-goalRead ds = readExp 24 [] (ds .next) (ds .rest) >>= whole (ds .value)
-
--- a program is its definitions, then its goal
-program-split : (n e : ℕ) (es : List Entry) → readProgram n e es ≡ (readDefinitions n e es >>= goalRead)
-unfolding readProgram readDefinitions goalRead whole ahead more _>>=_
-program-split zero e es = refl
-program-split (suc n) e es = go (readDefinition e es) (program-split n)
-  where
-    goal : (d : Definition) (ds : List Definition) (r : Read Exp) → (r >>= whole ds >>= ahead d) ≡ (r >>= whole (d ∷ ds))
-    goal d ds (got g) = refl
-    goal d ds (refused k i) = refl
-
-    rest : (d : Definition) (r : Read (List Definition)) → (r >>= goalRead >>= ahead d) ≡ (r >>= more d >>= goalRead)
-    rest d (got ds) = goal d (ds .value) (readExp 24 [] (ds .next) (ds .rest))
-    rest d (refused k i) = refl
-
-    go : (r : Read Definition) → ((e : ℕ) (es : List Entry) → readProgram n e es ≡ (readDefinitions n e es >>= goalRead))
-        → (r >>= (λ d. readProgram n (d .next) (d .rest) >>= ahead (d .value)))
-        ≡ (r >>= (λ d. readDefinitions n (d .next) (d .rest) >>= more (d .value)) >>= goalRead)
-    go (got d) same = ap (λ r. r >>= ahead (d .value)) (same (d .next) (d .rest)) ∙ rest (d .value) (readDefinitions n (d .next) (d .rest))
-    go (refused k i) same = refl
-
--- definitions that were read from entry e on
-record AllDefined (ks os : List ℕ) (n e : ℕ) (g : Got (List Definition)) : Type 0 where
-  rest : g .rest ≡ entriesFrom ks os (g .next)
-  many : length (g .value) ≡ n
-  few : definitionsNodes (g .value) + 2 * e ≤ 2 * g .next
-
-same-got : {A : Type 0} (P : Got A → Type 0) (g h : Got A) → got g ≡ got h → P g → P h
-same-got P g h e p = let z : g ≡ h = cc in subst P z p
-
-one-more : (ks os : List ℕ) (n e : ℕ) (d : Got Definition) (ds : Got (List Definition)) → Defined ks os e d → AllDefined ks os n (d .next) ds
-    → AllDefined ks os (suc n) e (record { value = d .value ∷ ds .value; next = ds .next; rest = ds .rest })
-unfolding definitionsNodes
-one-more ks os n e d ds f fs =
-    let x = f .few in let y = fs .few in record { rest = fs .rest; many = ap suc (fs .many); few = omega arith }
-
-all-defined : (ks os : List ℕ) (n e : ℕ) (l : List Entry) → l ≡ entriesFrom ks os e → (g : Got (List Definition))
-    → readDefinitions n e l ≡ got g → AllDefined ks os n e g
-unfolding readDefinitions definitionsNodes
-all-defined ks os zero e l q g r =
-    same-got (AllDefined ks os 0 e) (record { value = []; next = e; rest = l }) g r (record { rest = q; many = refl; few = omega arith })
-all-defined ks os (suc n) e l q g r =
-    let d = bind-got (readDefinition e l) _ g r in
-    let f = defined ks os e (d .0) (ap (readDefinition e) (sym q) ∙ d .1) in
-    let ds = bind-got (readDefinitions n (d .0 .next) (d .0 .rest)) _ g (d .2) in
-    let fs = all-defined ks os n (d .0 .next) (d .0 .rest) (f .rest) (ds .0) (ds .1) in
-    same-got (AllDefined ks os (suc n) e) _ g (ds .2) (one-more ks os n e (d .0) (ds .0) f fs)
-
--- the tests behind a program that was read
-tests : List Entry → Got Program → Read Program
-tests es p = leftovers (p .next) (p .rest) >>= (λ _. definitionsKept (formalsOf (p .value .definitions)) 0 es >>= (λ _. got p))
 
 tests-answer : {A : Type 0} (f : A → ℕ) (r : Read (Unit {0})) (s : Read A) → checked f (r >>= (λ _. s)) ≡ afterwards (checkedTest r) (checked f s)
 unfolding _>>=_ checked afterwards
@@ -117,15 +53,11 @@ module _ (ks os : List ℕ) (n : ℕ) (d : Definitions) (kept : DefinitionsKept 
   abbrev Answers : Checked → Type 0
   Answers r = r ≡ checkedProgram (readEntries n (entries ks os))
 
-  opened : readEntries n (entries ks os) ≡ (readDefinitions n 0 (entries ks os) >>= goalRead >>= tests (entries ks os))
-  unfolding readEntries tests
-  opened = ap (λ r. r >>= tests (entries ks os)) (program-split n 0 (entries ks os))
-
   pub program-refused : (k e : ℕ) → d .answer ≡ Refused k e → Answers (Refused k e)
   unfolding _>>=_ checked
   program-refused k e h =
       let r = checked-refused definitionsNodes (readDefinitions n 0 (entries ks os)) k e (sym (kept .answer) ∙ h) in
-      sym (ap checkedProgram (opened ∙ ap (λ r. r >>= goalRead >>= tests (entries ks os)) r))
+      sym (ap checkedProgram (entries-opened n (entries ks os) ∙ ap (λ r. r >>= goalRead >>= tests (entries ks os)) r))
 
   module _ (at before : ℕ) (h : d .answer ≡ Next at before) where
     first : (a : Got (List Definition)) × (readDefinitions n 0 (entries ks os) ≡ got a) × (a .next ≡ at) × (definitionsNodes (a .value) ≡ before)
@@ -154,7 +86,7 @@ module _ (ks os : List ℕ) (n : ℕ) (d : Definitions) (kept : DefinitionsKept 
     goal : readEntries n (entries ks os) ≡ (readExp 24 (levels 0) at (entriesFrom ks os at) >>= whole (first .0 .value) >>= tests (entries ks os))
     unfolding goalRead levels _>>=_
     goal =
-        opened
+        entries-opened n (entries ks os)
         ∙ ap (λ r. r >>= goalRead >>= tests (entries ks os)) (first .1)
         ∙ ap₂ (λ i l. readExp 24 [] i l >>= whole (first .0 .value) >>= tests (entries ks os)) (first .2)
         (facts .rest ∙ ap (λ i. entriesFrom ks os i) (first .2))

@@ -32,7 +32,7 @@ fn check_definition(kinds: &[u8], operands: &[u8], at: usize) -> Checked
         return Checked::Refused(4, at);
     }
     checked::add_nodes(
-        expression::check_expression(kinds, operands, 24, formals as usize, at + 1),
+        expression::check_expression(kinds, operands, expression::DEPTH, formals as usize, at + 1),
         1,
     )
 }

@@ -10,6 +10,9 @@ ghost use Rattle.model.specs.Job.Read.{readExp};
 ghost use Rattle.reader.specs.Checked.{Parts, entriesFrom, checkedExp};
 ghost use Rattle.reader.specs.Join.{JoinKept};
 
+// "Depth ends at 24".
+pub const DEPTH: usize = 24;
+
 // How many variables are in scope in a join's left and right side, and the nodes that the join makes itself.
 pub struct Sides {
     pub left: usize,

@@ -33,7 +33,7 @@ pub fn check_program(kinds: &[u8], operands: &[u8], definitions: usize) -> Check
     match answer {
         Checked::Refused(n, e) => Checked::Refused(n, e),
         Checked::Next(at, before) => {
-            let goal = expression::check_expression(kinds, operands, 24, 0, at);
+            let goal = expression::check_expression(kinds, operands, expression::DEPTH, 0, at);
             match goal {
                 Checked::Refused(n, e) => Checked::Refused(n, e),
                 Checked::Next(end, nodes) => {

@@ -13,7 +13,7 @@ abbrev μ-loop : tie.MeasureT-loop
 μ-loop kinds operands formals count i₀ i = length kinds - i
 
 loop-holds : tie.Need-loop-holds Inv-loop μ-loop
-loop-holds c = (search needs, search scan-start)
+loop-holds c = (search needs, scan-start _ _ _)
 
 shared-slice-read-call-kept : tie.Need-shared-slice-read-call-kept Inv-loop μ-loop
 shared-slice-read-call-kept c = search needs

@@ -4,7 +4,8 @@ use Prim.Native.Nat.{_-_}
 use mathlib.Core.Path.{refl}
 use borrow.Author.Needs.{needs, fits-under}
 use mir.Syntax.{w64}
-use Rattle.reader.proofs.DefinitionLoop.{Reading, reading-start, reading-end, reading-refused, reading-below, reading-within, reading-fits, reading-more}
+use Rattle.reader.proofs.DefinitionLoop.{Reading, reading-start, reading-end, reading-refused, reading-more}
+use Rattle.reader.proofs.DefinitionLoop.{reading-below, reading-within, reading-fits}
 use Rattle.reader.proofs.definition.check_definitions.Statement.{statement}
 use Rattle.reader.proofs.definition.check_definitions.Tie as tie
 
