@@ -12,3 +12,4 @@ pub mod Used
 pub mod Acts
 pub mod Within
 pub mod Begin
+pub mod Larger

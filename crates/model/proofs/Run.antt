@@ -10,3 +10,4 @@ pub mod Passing
 pub mod Answering
 pub mod Last
 pub mod Meaning
+pub mod First

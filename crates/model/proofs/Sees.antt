@@ -20,3 +20,7 @@ pub mod Acts
 pub mod Answering
 pub mod Begin
 pub mod Lockstep
+pub mod Room
+pub mod Turn
+pub mod Back
+pub mod Following

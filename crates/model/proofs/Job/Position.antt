@@ -65,7 +65,7 @@ module _ (es : List Entry) where
   drop-one (suc e) x l (y ∷ ys) q = let r = drop-one e x l ys q in (r .0, (let z = r .1 in omega arith))
 
   -- an entry that is there is followed by the entries behind it
-  entry-from : (e : ℕ) (l : List Entry) (x : Got Entry) → l ≡ drop e es → entryAt e l ≡ got x
+  pub entry-from : (e : ℕ) (l : List Entry) (x : Got Entry) → l ≡ drop e es → entryAt e l ≡ got x
       → (x .next ≡ suc e) × (x .rest ≡ drop (suc e) es) × (e < length es)
   unfolding entryAt
   entry-from e [] x q r = refused-got r
@@ -84,7 +84,7 @@ module _ (es : List Entry) where
       let w = z .2 in
       record { rest = z .1 ∙ ap (λ n. drop n es) (sym (z .0)); next = omega arith; last = omega arith }
 
-  param-from : (scope : List ℕ) (e : ℕ) (l : List Entry) (g : Got Param)
+  pub param-from : (scope : List ℕ) (e : ℕ) (l : List Entry) (g : Got Param)
       → l ≡ drop e es → readParam scope e l ≡ got g → From es e g
   unfolding readParam
   param-from scope e l g q r = let b = bind-got (entryAt e l) _ g r in kind-from (b .0) (entered l (b .0) q (b .1)) (kindOf (b .0 .value .kind)) (b .2)
@@ -119,7 +119,7 @@ module _ (es : List Entry) where
   here : {A : Type 0} (a : A) (e : ℕ) (l : List Entry) → l ≡ drop e es → e ≤ length es → (g : Got A) → gives a e l ≡ got g → From es e g
   here a e l q m g r = record { rest = (let z : l ≡ g .rest = cc in let y : e ≡ g .next = cc in sym z ∙ (q ∙ ap (λ n. drop n es) y)); next = (let y : e ≡ g .next = cc in omega arith); last = (let y : e ≡ g .next = cc in omega arith) }
 
-  params-from : (n : ℕ) (scope : List ℕ) (e : ℕ) (l : List Entry) (g : Got (List Param))
+  pub params-from : (n : ℕ) (scope : List ℕ) (e : ℕ) (l : List Entry) (g : Got (List Param))
       → l ≡ drop e es → e ≤ length es → readParams n scope e l ≡ got g → From es e g
   unfolding readParams
   params-from zero scope e l g q m r = here [] e l q m g r

@@ -36,7 +36,7 @@ use Rattle.model.proofs.Sees.Moving.{place-as, fits-as}
 use Rattle.model.proofs.Sees.Agrees.{Becomes, goes-becomes}
 
 -- the holder of a handle is called out under it
-holds-handle : (h : ℕ) (s : State) → any (eqb h) (handleOf s) ≡ true → s ≡ states.Called h
+pub holds-handle : (h : ℕ) (s : State) → any (eqb h) (handleOf s) ≡ true → s ≡ states.Called h
 unfolding any handleOf
 holds-handle h states.Blank e = clash e refl
 holds-handle h states.Ready e = clash e refl
@@ -54,16 +54,16 @@ unfolding holder tokenAt
 holder-from h i [] p e = let z : _≡_ {A = ℕ} 0 1 = cc in absurd (omega arith)
 holder-from h i (t ∷ ts) p e = go (any (eqb h) (handleOf (t .state))) refl e (λ x. holder-from h (suc i) ts p x)
   where
-    Held′ : Type 0
-    Held′ = (j : ℕ) × (p ≡ i + j) × (getD (t ∷ ts) j blankToken .state ≡ states.Called h)
+    Holding : Type 0
+    Holding = (j : ℕ) × (p ≡ i + j) × (getD (t ∷ ts) j blankToken .state ≡ states.Called h)
 
-    later : (j : ℕ) × (p ≡ suc i + j) × (getD ts j blankToken .state ≡ states.Called h) → Held′
+    later : (j : ℕ) × (p ≡ suc i + j) × (getD ts j blankToken .state ≡ states.Called h) → Holding
     later (j, x, r) = (suc j, (let z : p ≡ i + suc j = omega arith in z), r)
 
     go : (b : Bool) → any (eqb h) (handleOf (t .state)) ≡ b
         → elim b as (λ b. Place) [ true ↦ places.At i | false ↦ holder h (suc i) ts ] ≡ places.At p
         → (holder h (suc i) ts ≡ places.At p → (j : ℕ) × (p ≡ suc i + j) × (getD ts j blankToken .state ≡ states.Called h))
-        → Held′
+        → Holding
     go true x y f = (0, (let z : i ≡ p = cc in omega arith), holds-handle h (t .state) x)
     go false x y f = later (f y)
 

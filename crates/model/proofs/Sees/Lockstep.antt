@@ -13,7 +13,7 @@ use lib.IntN.{ℤ}
 use Rattle.model.specs.Test.{padded, without}
 use Rattle.model.specs.Number.{Signed32}
 use Rattle.model.specs.Job.Node.{Dag, nodeAt, isNode, dagKept}
-use Rattle.model.specs.Machine.Limits.{Limits}
+use Rattle.model.specs.Machine.Limits.{Limits, limits}
 use Rattle.model.specs.Machine.Blank.{blankToken, tokenAt}
 use Rattle.model.specs.Machine.InUse.{tokensUsed, cellsUsed, marked}
 use Rattle.model.specs.Machine.Places.{nextPlace}
@@ -56,6 +56,9 @@ use Rattle.model.proofs.Sees.Begin.{start-sees}
 pub record Fitting (lim : Limits) : Type 0 where
   pub tokens : lim .tokens ≤ lim .tokenPlaces
   pub cells : lim .cells ≤ lim .cellPlaces
+
+pub fitting : (t c k : ℕ) → Fitting (limits t c k)
+fitting t c k = record { tokens = omega arith; cells = omega arith }
 
 ready-state : (s : State) → isReady s ≡ true → s ≡ states.Ready
 unfolding isReady
@@ -118,7 +121,7 @@ called-shows place h s vs m = ap (λ ws. Event.call h s ws ∷ []) (take-append-
 
 -- an outcome shows what its effect does, and its machine is the effect's, blanked
 module _ (M : Labels) (W : World) (L R : List Abstract.Token) (h : ℕ) (x : Abstract.Effect) (place : ℕ) (before : Machine) where
-  shown-by : (e : Effect) → Agrees M W L R h e x → isRefused (outcome before e .reply) ≡ false
+  pub shown-by : (e : Effect) → Agrees M W L R h e x → isRefused (outcome before e .reply) ≡ false
       → (eventsBy (step place) (outcome before e) ≡ shown (labelOf x) [])
       × Sees M (outcome before e .machine) (after L R (W .store) (W .new) h x)
   unfolding Shows outcome accepted told eventsOf isRefused shown
@@ -229,7 +232,7 @@ unfolding outcomeOf
 accepted-dag lim d m (step place) ok = rules-kept lim d m (step-accepted lim d m place ok .kept) .dag
 accepted-dag lim d m (answer h v signed) ok = rules-kept lim d m (answer-accepted lim d m h v ok .kept) .dag
 
-shown-append : (a : Label) (es : List Event) → shown a [] ++ es ≡ shown a es
+pub shown-append : (a : Label) (es : List Event) → shown a [] ++ es ≡ shown a es
 unfolding shown
 shown-append silently es = refl
 shown-append (showing e) es = refl

@@ -1,0 +1,65 @@
+-- How a join's sides are compiled and where it is entered, for each outcome of the tests of its kind byte. Assumes nothing.
+use Prim.Native.Nat.{ℕ, _+_}
+use mathlib.Core.Path.{_≡_, refl}
+use mathlib.Core.List.{_∷_}
+use native.Mathlib.Numerals.{add-one}
+use Rattle.model.specs.Job.Syntax.{par, seq, prune, levels, scopeLeft, scopeRight}
+use Rattle.model.specs.Job.Construct.{own, nextLeft, nextRight}
+use Rattle.model.proofs.Test.{eq-eqb, ne-eqb}
+use Rattle.compiler.specs.Join.{joinBy, joinOf, IsLeft, IsRight, joinRoot}
+
+module _ (kind x : ℕ) where
+  pub join-par : kind ≡ 3 → joinOf kind x ≡ par
+  unfolding joinOf joinBy
+  join-par e = rw (eq-eqb kind 3 e) refl
+
+  pub join-seq : (kind ≡ 3 → ⊥) → kind ≡ 4 → joinOf kind x ≡ seq x
+  unfolding joinOf joinBy
+  join-seq f e = rw (ne-eqb kind 3 f, eq-eqb kind 4 e) refl
+
+  pub join-prune : (kind ≡ 3 → ⊥) → (kind ≡ 4 → ⊥) → joinOf kind x ≡ prune x
+  unfolding joinOf joinBy
+  join-prune f g = rw (ne-eqb kind 3 f, ne-eqb kind 4 g) refl
+
+-- one more variable
+levels-more : (n : ℕ) → levels (n + 1) ≡ n ∷ levels n
+unfolding levels
+levels-more n = rw add-one refl
+
+module _ (kind s n k : ℕ) where
+  pub left-par : kind ≡ 3 → IsLeft (joinOf kind s) s n k (record { scope = s; first = n + 1; next = k })
+  unfolding scopeLeft own nextLeft
+  left-par e = rw (join-par kind s e) (record { scoped = refl; begins = refl; goes = refl })
+
+  pub left-seq : (kind ≡ 3 → ⊥) → kind ≡ 4 → IsLeft (joinOf kind s) s n k (record { scope = s; first = n + 2; next = n })
+  unfolding scopeLeft own nextLeft
+  left-seq f e = rw (join-seq kind s f e) (record { scoped = refl; begins = refl; goes = refl })
+
+  pub left-prune : (kind ≡ 3 → ⊥) → (kind ≡ 4 → ⊥) → IsLeft (joinOf kind s) s n k (record { scope = s + 1; first = n + 3; next = n + 1 })
+  unfolding scopeLeft own nextLeft
+  left-prune f e = rw (join-prune kind s f e) (record { scoped = levels-more s; begins = refl; goes = refl })
+
+  module _ (m : ℕ) where
+    pub right-par : kind ≡ 3 → IsRight (joinOf kind s) s n m k (record { scope = s; first = m; next = k })
+    unfolding scopeRight nextRight
+    right-par e = rw (join-par kind s e) (record { scoped = refl; begins = refl; goes = refl })
+
+    pub right-seq : (kind ≡ 3 → ⊥) → kind ≡ 4 → IsRight (joinOf kind s) s n m k (record { scope = s + 1; first = m; next = n + 1 })
+    unfolding scopeRight nextRight
+    right-seq f e = rw (join-seq kind s f e) (record { scoped = levels-more s; begins = refl; goes = refl })
+
+    pub right-prune : (kind ≡ 3 → ⊥) → (kind ≡ 4 → ⊥) → IsRight (joinOf kind s) s n m k (record { scope = s; first = m; next = n + 2 })
+    unfolding scopeRight nextRight
+    right-prune f e = rw (join-prune kind s f e) (record { scoped = refl; begins = refl; goes = refl })
+
+  pub root-par : kind ≡ 3 → n ≡ joinRoot (joinOf kind s) n k
+  unfolding joinRoot
+  root-par e = rw (join-par kind s e) refl
+
+  pub root-seq : (kind ≡ 3 → ⊥) → kind ≡ 4 → k ≡ joinRoot (joinOf kind s) n k
+  unfolding joinRoot
+  root-seq f e = rw (join-seq kind s f e) refl
+
+  pub root-prune : (kind ≡ 3 → ⊥) → (kind ≡ 4 → ⊥) → n ≡ joinRoot (joinOf kind s) n k
+  unfolding joinRoot
+  root-prune f e = rw (join-prune kind s f e) refl

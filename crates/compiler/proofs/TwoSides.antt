@@ -1,0 +1,122 @@
+-- A join's nodes are its own, then f's, then g's: what is stored and given for a join, whose sides are compiled first, is that of the join
+-- which is read. Assumes nothing.
+use Prim.Native.Nat.{ℕ, suc, _+_, _*_, _-_, _≤_}
+use mathlib.Core.Path.{_≡_, refl, sym, ap, ap₂, subst, _∙_}
+use mathlib.Core.List.{List}
+use native.Mathlib.Numerals.{add-one}
+use native.Mathlib.Omega.{arith}
+use lib.ListN.{length, getD, drop}
+use lib.Seq.{sets}
+use Rattle.model.specs.Job.Entry.{entries}
+use Rattle.model.specs.Job.Syntax.{Join, levels}
+use Rattle.model.specs.Job.Construct.{own, size, root, firstLeft, firstRight, nextLeft, nextRight, ownNodes, nodesOf}
+use Rattle.model.specs.Job.Words.{headWords, rowsOf}
+use Rattle.model.specs.Job.Read.{got, readExp}
+use Rattle.model.proofs.Job.Position.{exp-from}
+use Rattle.compiler.specs.Join.{joinOf, IsLeft, IsRight, joinRoot}
+use Rattle.compiler.specs.Compiled.{reading, Accepted, compiled, stored}
+use Rattle.compiler.specs.declared.plan.Plan.{Plan}
+use Rattle.compiler.specs.declared.expression.Compiled.{Compiled}
+use Rattle.compiler.proofs.Reread.{reread}
+use Rattle.compiler.proofs.Rows.{own-some, size-some, root-join, join-rows}
+use Rattle.compiler.proofs.Heads.{Joined, joined}
+use Rattle.compiler.proofs.Taking.{levels-length, accept, same, Taken, Done, done}
+
+module _ {left : ℕ} {ks os : List ℕ} {s at n : ℕ} (t : Taken left ks os s at n) (k3 : 3 ≤ getD ks at 0) where
+  abbrev the-join : Join
+  the-join = joinOf (getD ks at 0) s
+
+  -- its two sides, as they are read
+  sides : Joined (readExp (left - 1)) (levels s) (suc at) (drop (suc at) (entries ks os)) (t .it) (joinOf (getD ks at 0) s)
+  sides =
+      subst (λ m. Joined (readExp (left - 1)) (levels s) (suc at) (drop (suc at) (entries ks os)) (t .it) (joinOf (getD ks at 0) m))
+      (levels-length s) (joined (t .head) k3)
+
+  whole : size (t .it .value) ≡ own the-join + size (sides .left .value) + size (sides .right .value)
+  unfolding size
+  whole = ap size (sides .value)
+
+  pub own-room : n + 3 ≤ 1022
+  own-room =
+      let a = own-some the-join in
+      let b = size-some (sides .left .value) in
+      let c = size-some (sides .right .value) in
+      let w = whole in
+      let f = t .fits in
+      omega arith
+
+  module _ (k : ℕ) {l : Plan} (el : IsLeft the-join s n k l) where
+    read-left : reading (left - 1) ks os (l .scope) (at + 1) ≡ got (sides .left)
+    read-left =
+        let e = sym (add-one at) in
+        reread (readExp (left - 1)) (sym (el .scoped)) e (ap (λ m. drop m (entries ks os)) e) (sides .read-left)
+
+    pub accept-left : Accepted (left - 1) ks os (l .scope) (at + 1) (l .first)
+    accept-left =
+        let a = sym (levels-length (l .scope)) ∙ ap length (el .scoped) in
+        let b = sides .few .left in
+        let c = el .begins in
+        let w = whole in
+        let f = t .fits in
+        accept (left - 1) ks os (l .scope) (at + 1) (l .first) (sides .left) (t .parts) (omega arith) read-left (omega arith)
+
+    module _ {c : Compiled} (ec : c ≡ compiled (reading (left - 1) ks os (l .scope) (at + 1)) (l .first)) where
+      given : c ≡ compiled (got (sides .left)) (firstLeft the-join n)
+      given = ec ∙ ap₂ (λ r m. compiled r m) read-left (el .begins)
+
+      node-left : c .node ≡ firstRight the-join (sides .left .value) n
+      node-left = ap (λ (x : Compiled). x .node) given
+
+      root-left : c .root ≡ root (sides .left .value) (firstLeft the-join n)
+      root-left = ap (λ (x : Compiled). x .root) given
+
+      module _ {r : Plan} (er : IsRight the-join s n (c .node) k r) where
+        read-right : reading (left - 1) ks os (r .scope) (c .at) ≡ got (sides .right)
+        read-right =
+            let rest = exp-from (entries ks os) (left - 1) _ (suc at) _ (sides .left) refl (sides .read-left) .rest in
+            let e = sym (ap (λ (x : Compiled). x .at) given) in
+            reread (readExp (left - 1)) (sym (er .scoped)) e (rest ∙ ap (λ m. drop m (entries ks os)) e) (sides .read-right)
+
+        pub accept-right : Accepted (left - 1) ks os (r .scope) (c .at) (r .first)
+        accept-right =
+            let a = sym (levels-length (r .scope)) ∙ ap length (er .scoped) in
+            let b = sides .few .right in
+            let e = er .begins in
+            let h = node-left in
+            let w = whole in
+            let f = t .fits in
+            accept (left - 1) ks os (r .scope) (c .at) (r .first) (sides .right) (t .parts) (omega arith) read-right (omega arith)
+
+        module _ {q : Compiled} (eq : q ≡ compiled (reading (left - 1) ks os (r .scope) (c .at)) (r .first)) where
+          last : q ≡ compiled (got (sides .right)) (firstRight the-join (sides .left .value) n)
+          last = eq ∙ ap₂ (λ r m. compiled r m) read-right (er .begins ∙ node-left)
+
+          result : (x : ℕ) → x ≡ joinRoot the-join n (c .root)
+              → _≡_ {A = Compiled} (record { at = q .at; node = q .node; root = x }) (compiled (got (t .it)) n)
+          result x e =
+              let a : q .node ≡ firstRight the-join (sides .left .value) n + size (sides .right .value) =
+              ap (λ (y : Compiled). y .node) last in
+              let w = whole in
+              same (ap (λ (y : Compiled). y .at) last ∙ sym (sides .next)) (omega arith)
+              (e ∙ ap (λ m. joinRoot the-join n m) root-left ∙ sym (root-join the-join (sides .left .value) (sides .right .value) n)
+              ∙ ap (λ y. root y n) (sym (sides .value)))
+
+          pub join-done : (x : ℕ) (d d1 d2 d3 : List ℕ) → x ≡ joinRoot the-join n (c .root)
+              → d1 ≡ stored (reading (left - 1) ks os (l .scope) (at + 1)) (l .first) (l .next) d
+              → d2 ≡ stored (reading (left - 1) ks os (r .scope) (c .at)) (r .first) (r .next) d1
+              → d3 ≡ sets d2 (headWords + 12 * n) (rowsOf (ownNodes the-join (c .root) (q .root) k))
+              → Done left ks os s at n k (record { at = q .at; node = q .node; root = x }) d d3
+          join-done x d d1 d2 d3 ex e1 e2 e3 =
+              let j = the-join in
+              let f = sides .left .value in
+              let g = sides .right .value in
+              let a : d1 ≡ sets d (headWords + 12 * firstLeft j n) (rowsOf (nodesOf f (firstLeft j n) (nextLeft j n k))) =
+              e1 ∙ ap (λ r. stored r (l .first) (l .next) d) read-left
+              ∙ ap₂ (λ m i. sets d (headWords + 12 * m) (rowsOf (nodesOf f m i))) (el .begins) (el .goes) in
+              let b : d2 ≡ sets d1 (headWords + 12 * firstRight j f n) (rowsOf (nodesOf g (firstRight j f n) (nextRight j n k))) =
+              e2 ∙ ap (λ r'. stored r' (r .first) (r .next) d1) read-right
+              ∙ ap₂ (λ m i. sets d1 (headWords + 12 * m) (rowsOf (nodesOf g m i))) (er .begins ∙ node-left) (er .goes) in
+              let c : d3 ≡ sets d2 (headWords + 12 * n) (rowsOf (ownNodes j (root f (firstLeft j n)) (root g (firstRight j f n)) k)) =
+              e3 ∙ ap₂ (λ m i. sets d2 (headWords + 12 * n) (rowsOf (ownNodes j m i k))) root-left (ap (λ (y : Compiled). y .root) last) in
+              done t k _ d d3 (result x ex)
+              (c ∙ rw (b, a) (join-rows j f g n k d) ∙ ap (λ y. sets d (headWords + 12 * n) (rowsOf (nodesOf y n k))) (sym (sides .value)))

@@ -1,0 +1,42 @@
+-- What compiling a body gives and stores: "a definition's body goes toward return, the goal toward publish", "a body's sink follows its last
+-- entry". Assumes nothing: these are definitions.
+use mathlib.Core.Path.{_≡_}
+use mathlib.Core.Bool.{Bool, true, false}
+use mathlib.Core.List.{List, [], _∷_, _++_}
+use Prim.Native.Nat.{ℕ, suc, _+_, _*_, _<_, _≤_}
+use lib.Seq.{sets}
+use Rattle.model.specs.Job.Syntax.{Exp}
+use Rattle.model.specs.Job.Node.{Node}
+use Rattle.model.specs.Job.Construct.{size, root, nodesOf}
+use Rattle.model.specs.Job.Words.{headWords, rowsOf}
+use Rattle.model.specs.Job.Read.{Got, Read, got, refused}
+use Rattle.compiler.specs.Parts.{Parts}
+use Rattle.compiler.specs.Compiled.{reading}
+use Rattle.compiler.specs.declared.expression.Compiled.{Compiled}
+
+-- the sink of the goal, or of a definition
+unfoldable pub sinkOf : (goal : Bool) → Node
+sinkOf true = Node.publish
+sinkOf false = Node.return
+
+-- accepted, and its nodes from n on end where the sink is
+pub data Sunk : Read Exp → (n sink : ℕ) → Type 0 where
+  sunk : {g : Got Exp} {n sink : ℕ} → sink ≡ n + size (g .value) → Sunk (got g) n sink
+
+-- what is asked of a body's entries: its sink's number is known
+pub record BodyAccepted (ks os : List ℕ) (scope at n sink : ℕ) : Type 0 where
+  pub parts : Parts ks os
+  pub scoped : scope ≤ 8
+  pub below : sink < 1022
+  pub sinks : Sunk (reading 24 ks os scope at) n sink
+
+-- the entry behind the body, the node behind its sink, and its root. (A refused reading is not asked about.)
+abbrev pub compiledBody : Read Exp → (n : ℕ) → Compiled
+compiledBody (got g) n = record { at = g .next; node = suc (n + size (g .value)); root = root (g .value) n }
+compiledBody (refused i e) n = record { at = e; node = n; root = n }
+
+-- the dag's words with the rows of the body's nodes, numbered from n, and of its sink
+abbrev pub storedBody : Read Exp → (goal : Bool) (n : ℕ) → List ℕ → List ℕ
+storedBody (got g) goal n d =
+    sets d (headWords + 12 * n) (rowsOf (nodesOf (g .value) n (n + size (g .value)) ++ (sinkOf goal ∷ [])))
+storedBody (refused i e) goal n d = d

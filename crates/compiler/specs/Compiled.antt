@@ -1,0 +1,39 @@
+-- What compiling an accepted expression gives and stores. Assumes nothing: these are definitions.
+use mathlib.Core.List.{List}
+use Prim.Native.Nat.{ℕ, _+_, _*_, _<_, _≤_}
+use lib.ListN.{length, drop}
+use lib.Seq.{sets}
+use Rattle.model.specs.Job.Entry.{entries}
+use Rattle.model.specs.Job.Syntax.{Exp, levels}
+use Rattle.model.specs.Job.Construct.{size, root, nodesOf}
+use Rattle.model.specs.Job.Words.{headWords, rowsOf}
+use Rattle.model.specs.Job.Read.{Got, Read, got, refused, readExp}
+use Rattle.compiler.specs.Parts.{Parts}
+use Rattle.compiler.specs.declared.expression.Compiled.{Compiled}
+
+-- the reading of the entries from an index on
+abbrev pub reading : (left : ℕ) → (ks os : List ℕ) → (scope at : ℕ) → Read Exp
+reading left ks os scope at = readExp left (levels scope) at (drop at (entries ks os))
+
+-- accepted, and its nodes from n on fit the dag's 1,022 places
+pub data Room : Read Exp → ℕ → Type 0 where
+  room : {g : Got Exp} {n : ℕ} → n + size (g .value) ≤ 1022 → Room (got g) n
+
+-- what is asked of an expression's entries: `fits` implies the three before it
+pub record Accepted (left : ℕ) (ks os : List ℕ) (scope at n : ℕ) : Type 0 where
+  pub parts : Parts ks os
+  pub scoped : scope ≤ 8
+  pub deep : 0 < left
+  pub here : at < length ks
+  pub low : n < 1022
+  pub fits : Room (reading left ks os scope at) n
+
+-- the entry and the node behind the expression, and its root. (A refused reading is not asked about.)
+abbrev pub compiled : Read Exp → (n : ℕ) → Compiled
+compiled (got g) n = record { at = g .next; node = n + size (g .value); root = root (g .value) n }
+compiled (refused i e) n = record { at = e; node = n; root = n }
+
+-- the dag's words with the rows of the expression's nodes, numbered from n toward k
+abbrev pub stored : Read Exp → (n k : ℕ) → List ℕ → List ℕ
+stored (got g) n k d = sets d (headWords + 12 * n) (rowsOf (nodesOf (g .value) n k))
+stored (refused i e) n k d = d

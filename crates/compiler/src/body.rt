@@ -1,0 +1,53 @@
+// A body and its sink: "a definition's body goes toward return, the goal toward publish".
+ghost use mathlib.Core.Path.{_≡_};
+ghost use Prim.Native.Nat.{_+_, _*_, _<_};
+ghost use lib.Seq.{sets};
+ghost use Rattle.model.specs.Job.Words.{headWords, nodeWords};
+ghost use Rattle.compiler.specs.Compiled.{reading};
+ghost use Rattle.compiler.specs.Body.{sinkOf, BodyAccepted, compiledBody, storedBody};
+use crate::expression::Compiled;
+use crate::expression::compile_expression;
+use crate::plan::Plan;
+use crate::store::put;
+
+// Stores the sink of the goal, or of a definition.
+fn put_sink(dag: &mut [u32; 12331], sink: usize, goal: bool)
+    requires { ⌜ sink < 1022 ⌝ }
+    ensures { λ _. ⌜ now (dag .exit) ≡ sets (now (dag .entry)) (headWords + 12 * sink) (nodeWords (sinkOf goal)) ⌝ }
+{
+    if goal {
+        put(dag, sink, [9, 0, 0, 0, 0, 0, 0, 0, 0, 0, 0, 0]);
+        return;
+    }
+    put(dag, sink, [8, 0, 0, 0, 0, 0, 0, 0, 0, 0, 0, 0]);
+}
+
+// Stores the nodes of the body at entry `at`, numbered from `node`, and behind them its sink, whose number is known.
+pub fn compile_body(
+    kinds: &[u8],
+    operands: &[u8],
+    dag: &mut [u32; 12331],
+    scope: usize,
+    at: usize,
+    node: usize,
+    sink: usize,
+    goal: bool,
+) -> Compiled
+    requires { ⌜ BodyAccepted (now kinds) (now operands) scope at node sink ⌝ }
+    ensures { λ r. ⌜ r ≡ compiledBody (reading 24 (now (kinds .entry)) (now (operands .entry)) scope at) node ⌝ }
+    ensures { λ _. ⌜ now (dag .exit) ≡ storedBody (reading 24 (now (kinds .entry)) (now (operands .entry)) scope at)
+        goal node (now (dag .entry)) ⌝ }
+{
+    let plan = Plan {
+        scope: scope,
+        first: node,
+        next: sink as u32,
+    };
+    let body = compile_expression(kinds, operands, dag, 24, at, plan);
+    put_sink(dag, sink, goal);
+    Compiled {
+        at: body.at,
+        node: sink + 1,
+        root: body.root,
+    }
+}

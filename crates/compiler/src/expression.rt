@@ -1,0 +1,67 @@
+// "Compile an expression toward a next node."
+ghost use mathlib.Core.Path.{_≡_};
+ghost use Prim.Native.Nat.{_+_, _<_};
+ghost use Rattle.compiler.specs.Compiled.{Accepted, reading, compiled, stored};
+use crate::call::call_words;
+use crate::entry::operand;
+use crate::join::join_root;
+use crate::join::put_own;
+use crate::plan::Plan;
+use crate::plan::left_plan;
+use crate::plan::right_plan;
+use crate::store::put;
+
+// The entry and the node behind an expression, and the node at which a token enters it.
+pub struct Compiled {
+    pub at: usize,
+    pub node: usize,
+    pub root: u32,
+}
+
+// An expression of one node, which ends before entry `at`.
+fn single(at: usize, node: usize) -> Compiled
+    requires { ⌜ node < 1022 ⌝ }
+    ensures { λ r. ⌜ r ≡ record { at = at; node = node + 1; root = node } ⌝ }
+{
+    Compiled {
+        at: at,
+        node: node + 1,
+        root: node as u32,
+    }
+}
+
+// Stores the nodes of the expression at entry `at`. So many levels of depth are left.
+pub fn compile_expression(
+    kinds: &[u8],
+    operands: &[u8],
+    dag: &mut [u32; 12331],
+    left: usize,
+    at: usize,
+    plan: Plan,
+) -> Compiled
+    requires { ⌜ Accepted left (now kinds) (now operands) (plan .scope) at (plan .first) ⌝ }
+    ensures { λ r. ⌜ r ≡ compiled (reading left (now (kinds .entry)) (now (operands .entry)) (plan .scope) at) (plan .first) ⌝ }
+    ensures { λ _. ⌜ now (dag .exit) ≡ stored (reading left (now (kinds .entry)) (now (operands .entry)) (plan .scope) at)
+        (plan .first) (plan .next) (now (dag .entry)) ⌝ }
+{
+    let kind = kinds[at];
+    if kind == 0 {
+        put(dag, plan.first, [0, 0, 0, 0, 0, 0, 0, 0, 0, 0, 0, 0]);
+        return single(at + 1, plan.first);
+    }
+    if kind < 3 {
+        let count = (operand(operands, at) / 65536) as usize;
+        put(dag, plan.first, call_words(kinds, operands, at, plan.next));
+        return single(at + 1 + count, plan.first);
+    }
+    let l = left_plan(kind, plan);
+    let f = compile_expression(kinds, operands, dag, left - 1, at + 1, l);
+    let r = right_plan(kind, plan, f.node);
+    let g = compile_expression(kinds, operands, dag, left - 1, f.at, r);
+    put_own(dag, kind, plan, f.root, g.root);
+    Compiled {
+        at: g.at,
+        node: g.node,
+        root: join_root(kind, plan, f.root),
+    }
+}

@@ -1,0 +1,47 @@
+// A join's own nodes, "sequence makes assign, remove; prune makes where, remove, choke", and where it is entered.
+ghost use mathlib.Core.Path.{_≡_};
+ghost use Prim.Native.Nat.{_+_, _*_, _<_, _≤_};
+ghost use lib.Seq.{sets};
+ghost use Rattle.model.specs.Job.Construct.{ownNodes};
+ghost use Rattle.model.specs.Job.Words.{headWords, rowsOf};
+ghost use Rattle.compiler.specs.Join.{joinOf, joinRoot};
+use crate::plan::Plan;
+use crate::store::put;
+
+// The join's root, where `left` is that of its f: a sequence is entered at its f.
+pub fn join_root(kind: u8, plan: Plan, left: u32) -> u32
+    requires { ⌜ plan .first < 1022 ⌝ }
+    ensures { λ r. ⌜ r ≡ joinRoot (joinOf kind (plan .scope)) (plan .first) left ⌝ }
+{
+    let first = plan.first as u32;
+    if kind == 3 {
+        return first;
+    }
+    if kind == 4 {
+        return left;
+    }
+    first
+}
+
+// Stores the join's own nodes: `left` and `right` are the roots of its sides.
+pub fn put_own(dag: &mut [u32; 12331], kind: u8, plan: Plan, left: u32, right: u32)
+    requires { ⌜ (plan .scope ≤ 8) × (plan .first + 3 ≤ 1022) ⌝ }
+    ensures { λ _. ⌜ now (dag .exit) ≡ sets (now (dag .entry)) (headWords + 12 * plan .first)
+        (rowsOf (ownNodes (joinOf kind (plan .scope)) left right (plan .next))) ⌝ }
+{
+    let x = plan.scope as u32;
+    let node = plan.first;
+    let next = plan.next;
+    if kind == 3 {
+        put(dag, node, [3, left, right, 0, 0, 0, 0, 0, 0, 0, 0, 0]);
+        return;
+    }
+    if kind == 4 {
+        put(dag, node, [4, x, right, 0, 0, 0, 0, 0, 0, 0, 0, 0]);
+        put(dag, node + 1, [5, x, next, 0, 0, 0, 0, 0, 0, 0, 0, 0]);
+        return;
+    }
+    put(dag, node, [6, left, right, x, 0, 0, 0, 0, 0, 0, 0, 0]);
+    put(dag, node + 1, [5, x, next, 0, 0, 0, 0, 0, 0, 0, 0, 0]);
+    put(dag, node + 2, [7, 0, 0, 0, 0, 0, 0, 0, 0, 0, 0, 0]);
+}

@@ -1,0 +1,122 @@
+-- Larger limits change nothing that was accepted: an accepted step under some limits is the same step under limits neither of which is
+-- smaller. So a step adds at most one token and one cell to those in use, and an answer none. Assumes nothing.
+use mathlib.Core.Path.{_≡_, refl, sym, _∙_, ap, subst}
+use mathlib.Core.Bool.{Bool, true, false}
+use mathlib.Core.List.{List}
+use Prim.Native.Nat.{ℕ, suc, _≤_}
+use native.Mathlib.Omega.{arith}
+use lib.ListN.{getD}
+use lib.Dec.{ltb}
+use lib.IntN.{ℤ}
+use Rattle.model.specs.Test.{without}
+use Rattle.model.specs.Job.Node.{Node, Dag, nodeAt}
+use Rattle.model.specs.Machine.Limits.{Limits}
+use Rattle.model.specs.Machine.Blank.{tokenAt}
+use Rattle.model.specs.Machine.InUse.{marked, tokensUsed, cellsUsed}
+use Rattle.model.specs.Machine.Rules.{tokenInRange, cellInRange, sizesInRange, machineKept, rulesKept}
+use Rattle.model.specs.Machine.Reply.{Effect, refuses, unless, outcome, isRefused}
+use Rattle.model.specs.Machine.Step.{Looked, values, unset, withOrders, queueOf, waitsOf, callSite, hasTokenPlace, hasCellPlace, act, takes, step}
+use Rattle.model.specs.Machine.Answer.{holder, answered, answer}
+use Rattle.model.specs.declared.token.Token.{Token}
+use Rattle.model.specs.declared.record.Machine.{Machine}
+use Rattle.model.specs.declared.reply.Refusal.{Refusal}
+use Rattle.model.specs.declared.reply.Refusal.the-variants as refusals
+use Rattle.model.specs.declared.reply.Outcome.{Outcome}
+use Rattle.model.proofs.Test.{clash, ltb-lt, lt-ltb}
+use Rattle.model.proofs.Machine.Refused.{StepAccepted, step-accepted}
+use Rattle.model.proofs.Machine.Used.{Within}
+use Rattle.model.proofs.Machine.Within.{step-within, answer-within}
+
+-- these limits, for as many tokens and cells
+abbrev pub allowing : Limits → (tokens cells : ℕ) → Limits
+allowing lim t c =
+    record { tokenPlaces = lim .tokenPlaces; cellPlaces = lim .cellPlaces; tokens = t; cells = c; calls = lim .calls }
+
+-- the rules do not speak of these limits, and an answer does not test them
+same-rules : (lim : Limits) (t c : ℕ) (d : Dag) (m : Machine) → rulesKept (allowing lim t c) d m ≡ rulesKept lim d m
+unfolding rulesKept machineKept tokenInRange cellInRange sizesInRange
+same-rules lim t c d m = refl
+
+same-answer : (lim : Limits) (t c : ℕ) (d : Dag) (m : Machine) (h : ℕ) (v : ℤ) → answer (allowing lim t c) d m h v ≡ answer lim d m h v
+unfolding answer
+same-answer lim t c d m h v =
+    ap (λ b. outcome m (unless b refusals.Rule (answered m v (holder h 0 (m .tokens))))) (same-rules lim t c d m)
+
+-- a call that the test did not refuse is the same under a test that holds as well
+unless-same : (m : Machine) (b b′ : Bool) (r : Refusal) (e e′ : Effect)
+    → (b ≡ true → b′ ≡ true) → (isRefused (outcome m e .reply) ≡ false → e′ ≡ e)
+    → isRefused (outcome m (unless b r e) .reply) ≡ false → unless b′ r e′ ≡ unless b r e
+unfolding unless outcome isRefused
+unless-same m true b′ r e e′ f g ok = rw (f refl) (g ok)
+unless-same m false b′ r e e′ f g ok = clash refl ok
+
+module _ (lim : Limits) (t c : ℕ) (d : Dag) (m : Machine)
+    (token-too : hasTokenPlace lim d m ≡ true → hasTokenPlace (allowing lim t c) d m ≡ true)
+    (cell-too : hasCellPlace lim d m ≡ true → hasCellPlace (allowing lim t c) d m ≡ true) where
+  same-site : (at : Machine) (p : ℕ) (u : Token) (s k : ℕ) (l : Looked)
+      → callSite (allowing lim t c) d at p u s k l ≡ callSite lim d at p u s k l
+  unfolding callSite
+  same-site at p u s k (values vs) = refl
+  same-site at p u s k (unset b) = refl
+
+  same-act : (at : Machine) (p : ℕ) (u : Token) (n : Node) → isRefused (outcome m (act lim d m at p u n) .reply) ≡ false
+      → act (allowing lim t c) d m at p u n ≡ act lim d m at p u n
+  unfolding act
+  same-act at p u Node.stop ok = refl
+  same-act at p u Node.publish ok = refl
+  same-act at p u (Node.fork l r) ok = unless-same m _ _ _ _ _ token-too (λ x. refl) ok
+  same-act at p u (Node.assign x k) ok = refl
+  same-act at p u (Node.remove x k) ok = refl
+  same-act at p u (Node.where' x l r) ok = unless-same m _ _ _ _ _ token-too (unless-same m _ _ _ _ _ cell-too (λ x. refl)) ok
+  same-act at p u (Node.site s ps k) ok = same-site at p u s k _
+  same-act at p u (Node.call e ps k) ok = unless-same m _ _ _ _ _ token-too (λ x. refl) ok
+  same-act at p u Node.return ok = refl
+  same-act at p u Node.choke ok = refl
+  same-act at p u Node.unknown ok = refl
+
+  same-takes : (place : ℕ) → isRefused (outcome m (takes lim d m place) .reply) ≡ false
+      → takes (allowing lim t c) d m place ≡ takes lim d m place
+  unfolding takes
+  same-takes place ok = same-act _ _ _ _ ok
+
+  same-step : (place : ℕ) → isRefused (step lim d m place .reply) ≡ false → step (allowing lim t c) d m place ≡ step lim d m place
+  unfolding step
+  same-step place ok =
+      ap (outcome m)
+      (unless-same m _ _ _ _ _ (λ e. same-rules lim t c d m ∙ e) (unless-same m _ _ _ _ _ (λ e. e) (same-takes place)) ok)
+
+below-more : (n a b : ℕ) → a ≤ b → ltb n a ≡ true → ltb n b ≡ true
+below-more n a b l e = lt-ltb n b (let z = ltb-lt n a e in omega arith)
+
+pub step-larger : (lim : Limits) (t c : ℕ) → lim .tokens ≤ t → lim .cells ≤ c → (d : Dag) (m : Machine) (place : ℕ)
+    → isRefused (step lim d m place .reply) ≡ false → step (allowing lim t c) d m place ≡ step lim d m place
+unfolding hasTokenPlace hasCellPlace
+step-larger lim t c l k d m place ok =
+    same-step lim t c d m (below-more (marked (tokensUsed m)) (lim .tokens) t l) (below-more (marked (cellsUsed m)) (lim .cells) c k) place ok
+
+-- the tokens and the cells in use
+abbrev pub UsedAtMost : Machine → (tokens cells : ℕ) → Type 0
+UsedAtMost m t c = (marked (tokensUsed m) ≤ t) × (marked (cellsUsed m) ≤ c)
+
+module _ (lim : Limits) (d : Dag) (m : Machine) where
+  pub step-adds : (place : ℕ) → isRefused (step lim d m place .reply) ≡ false
+      → UsedAtMost (step lim d m place .machine) (suc (marked (tokensUsed m))) (suc (marked (cellsUsed m)))
+  unfolding hasTokenPlace hasCellPlace
+  step-adds place ok =
+      let t = marked (tokensUsed m) in
+      let c = marked (cellsUsed m) in
+      let same = same-step lim (suc t) (suc c) d m (λ e. lt-ltb t (suc t) (omega arith)) (λ e. lt-ltb c (suc c) (omega arith)) place ok in
+      subst (λ (o : Outcome). UsedAtMost (o .machine) (suc t) (suc c)) same
+      (step-within (allowing lim (suc t) (suc c)) d m place (omega arith, omega arith)
+      (subst (λ (o : Outcome). isRefused (o .reply) ≡ false) (sym same) ok))
+
+  pub answer-adds : (h : ℕ) (v : ℤ) → isRefused (answer lim d m h v .reply) ≡ false
+      → UsedAtMost (answer lim d m h v .machine) (marked (tokensUsed m)) (marked (cellsUsed m))
+  unfolding answer
+  answer-adds h v ok =
+      let t = marked (tokensUsed m) in
+      let c = marked (cellsUsed m) in
+      let same = same-answer lim t c d m h v in
+      subst (λ (o : Outcome). UsedAtMost (o .machine) t c) same
+      (answer-within (allowing lim t c) d m h v (omega arith, omega arith)
+      (subst (λ (o : Outcome). isRefused (o .reply) ≡ false) (sym same) ok))

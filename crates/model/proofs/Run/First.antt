@@ -1,0 +1,31 @@
+-- Demand 3, first part: each run's event list is allowed for its table. A run is in lock step with a run of the abstract machine, and what that
+-- shows is allowed. Assumes nothing.
+use mathlib.Core.List.{List}
+use native.Mathlib.Omega.{arith}
+use Rattle.model.specs.Job.Syntax.{Program}
+use Rattle.model.specs.Job.Construct.{construct}
+use Rattle.model.specs.Machine.Limits.{paper}
+use Rattle.model.specs.Calculus.Event.{Event}
+use Rattle.model.specs.Calculus.Allowed.{Allowed}
+use Rattle.model.specs.Run.Meaning.{meaning}
+use Rattle.model.specs.Run.Call.{runner}
+use Rattle.model.specs.Run.Demand3.{First}
+use Rattle.model.specs.Job.WellFormed.{WellFormed}
+use Rattle.model.proofs.Job.Accepted.{accepted-well-formed}
+use Rattle.model.proofs.Abstract.Sound.{sound}
+use Rattle.model.proofs.Sees.Labelling.{labelsOf}
+use Rattle.model.proofs.Sees.Flowing.{construct-flows}
+use Rattle.model.proofs.Sees.Lockstep.{Fitting, Shown, shows, run-shown}
+
+pub runs-are-allowed : First runner
+runs-are-allowed table p e calls =
+    allowed (run-shown paper (construct p) (labelsOf p) (meaning p .body) fitting (construct-flows p w) (omega arith) calls)
+  where
+    w : WellFormed p
+    w = accepted-well-formed table p e
+
+    fitting : Fitting paper
+    fitting = record { tokens = omega arith; cells = omega arith }
+
+    allowed : {es : List Event} → Shown paper (construct p) (labelsOf p) (meaning p .body) fitting (construct-flows p w) es → Allowed (meaning p) es
+    allowed (shows r) = sound p w r

@@ -1,0 +1,110 @@
+-- With room for a token, a cell and a call, an instruction of a ready token that is seen is not refused: at choke it has a cell and at return a
+-- caller, by the labels of its node. Assumes nothing.
+use mathlib.Core.Path.{_≡_, refl, sym, _∙_, subst}
+use mathlib.Core.Bool.{Bool, true, false}
+use mathlib.Core.List.{List, [], _∷_, _++_}
+use Prim.Native.Nat.{ℕ, _<_, _≤_}
+use native.Mathlib.Omega.{arith}
+use lib.ListN.{length}
+use lib.Dec.{ltb}
+use lib.IntN.{ℤ}
+use Rattle.model.specs.Site.{Said, gives, silent, isBuiltin, builtin}
+use Rattle.model.specs.Job.Node.{Node, Dag}
+use Rattle.model.specs.Machine.Limits.{Limits}
+use Rattle.model.specs.Machine.Blank.{tokenAt}
+use Rattle.model.specs.Machine.Reply.{Effect, accepted, outcome, unless, isRefused}
+use Rattle.model.specs.Machine.Step.{Looked, values, unset, goesOn, forked, split, entered, waited, replied, calledOut, returned, chokes, look, callSite, hasTokenPlace, hasCellPlace, act}
+use Rattle.model.specs.declared.token.Place.{Place}
+use Rattle.model.specs.declared.token.Place.the-variants as places
+use Rattle.model.specs.declared.token.Token.{Token}
+use Rattle.model.specs.declared.record.Machine.{Machine}
+use Rattle.model.specs.declared.reply.Refusal.{Refusal}
+use Rattle.model.specs.declared.reply.Refusal.the-variants as refusals
+use Rattle.model.proofs.Test.{clash, lt-ltb}
+use Rattle.model.proofs.Abstract.Machine as Abstract
+use Rattle.model.proofs.Abstract.Machine.{Binding, Frame}
+use Rattle.model.proofs.Sees.Labels.{Labels, FlowAt}
+use Rattle.model.proofs.Sees.View.{World, Nested, hasCaller, cellsOfCaller, CellsSeen, root, below, FramesSeen, outermost, calledBy}
+use Rattle.model.proofs.Sees.Agrees.{Acting}
+
+pub record Room (lim : Limits) (d : Dag) (m : Machine) : Type 0 where
+  pub tokens : hasTokenPlace lim d m ≡ true
+  pub cells : hasCellPlace lim d m ≡ true
+  pub calls : m .calls < lim .calls
+
+abbrev pub Accepted : Machine → Effect → Type 0
+Accepted before e = isRefused (outcome before e .reply) ≡ false
+
+accepted-unless : (before : Machine) (b : Bool) (r : Refusal) (e : Effect) → b ≡ true → Accepted before e → Accepted before (unless b r e)
+unfolding unless
+accepted-unless before true r e t a = a
+accepted-unless before false r e t a = clash t refl
+
+-- a token under a cell names one, a token with a caller names it
+some-cell : {W : World} {q : Place} {U : List ℕ} → 1 ≤ length U → CellsSeen W q U → (c : ℕ) × (q ≡ places.At c)
+some-cell l root = absurd (omega arith)
+some-cell l (below {c = c} s v) = (c, refl)
+
+some-caller : {W : World} {M : Labels} {q : Place} {F : List Frame} → hasCaller F ≡ true → FramesSeen W M q F → (f : ℕ) × (q ≡ places.At f)
+some-caller e outermost = clash e refl
+some-caller e (calledBy {q = f} l i s n b r u o) = (f, refl)
+
+longer : (C D : List ℕ) → 1 ≤ length C → 1 ≤ length (C ++ D)
+longer [] D l = absurd (omega arith)
+longer (c ∷ C) D l = omega arith
+
+under-cell : {M : Labels} {n : ℕ} {U : List ℕ} {F : List Frame} → 1 ≤ M .nest n → Nested M n U F → 1 ≤ length U
+under-cell {M} {n} {F = F} l o =
+    subst (λ U. 1 ≤ length U) (sym (o .parts)) (longer (o .own) (cellsOfCaller F) (let z : length (o .own) ≡ M .nest n = o .size in omega arith))
+
+module _ (lim : Limits) (d : Dag) (before m : Machine) (room : Room lim d before) (same : m .calls ≡ before .calls) (p : ℕ) (t : Token) where
+  replied-accepted : (k : ℕ) (r : Said) → Accepted before (replied m p t k r)
+  unfolding replied goesOn outcome accepted isRefused
+  replied-accepted k (gives v) = refl
+  replied-accepted k silent = refl
+
+  site-accepted : (s k : ℕ) (l : Looked) → Accepted before (callSite lim d m p t s k l)
+  unfolding callSite waited calledOut outcome accepted isRefused
+  site-accepted s k (unset c) = refl
+  site-accepted s k (values vs) = go (isBuiltin s)
+    where
+      go : (b : Bool) → Accepted before
+          (elim b as (λ b. Effect) [
+            | true ↦ replied m p t k (builtin s vs)
+            | false ↦ unless (ltb (m .calls) (lim .calls)) refusals.CallLimit (calledOut m p t s vs k)
+          ])
+      go true = replied-accepted k (builtin s vs)
+      go false =
+          accepted-unless before (ltb (m .calls) (lim .calls)) refusals.CallLimit (calledOut m p t s vs k)
+          (lt-ltb (m .calls) (lim .calls) (let z : before .calls < lim .calls = room .calls in omega arith)) refl
+
+  chokes-accepted : (q : Place) → (c : ℕ) × (q ≡ places.At c) → Accepted before (chokes m p t q)
+  unfolding chokes outcome accepted isRefused
+  chokes-accepted places.Nowhere x = let e = x .1 in let z : _≡_ {A = ℕ} 0 1 = cc in absurd (omega arith)
+  chokes-accepted (places.At c) x = refl
+
+  returned-accepted : (q : Place) → (f : ℕ) × (q ≡ places.At f) → Accepted before (returned m p t q)
+  unfolding returned goesOn outcome accepted isRefused
+  returned-accepted places.Nowhere x = let e = x .1 in let z : _≡_ {A = ℕ} 0 1 = cc in absurd (omega arith)
+  returned-accepted (places.At f) x = refl
+
+pub act-accepted : (lim : Limits) (d : Dag) {M : Labels} (before m : Machine) → Room lim d before → m .calls ≡ before .calls
+    → {W : World} {p : ℕ} {L R : List Abstract.Token} {n : ℕ} {B : List Binding} {F : List Frame} {U : List ℕ} {v : ℤ}
+    → Acting M W p L R n B F U v → {N : Node} → FlowAt d M n N → Accepted before (act lim d before m p (tokenAt (W .tokens) p) N)
+unfolding act goesOn forked split entered outcome accepted isRefused
+act-accepted lim d before m room same A FlowAt.stop = refl
+act-accepted lim d before m room same {W} {p} A (FlowAt.site {s = s} {ps = ps} {k = k} e good f) =
+    site-accepted lim d before m room same p (tokenAt (W .tokens) p) s k (look (m .cells) (tokenAt (W .tokens) p .binds) ps)
+act-accepted lim d before m room same A (FlowAt.call x good f enters) = accepted-unless before _ refusals.TokenLimit _ (room .tokens) refl
+act-accepted lim d before m room same A (FlowAt.fork a b f g) = accepted-unless before _ refusals.TokenLimit _ (room .tokens) refl
+act-accepted lim d before m room same A (FlowAt.assign e l g f) = refl
+act-accepted lim d before m room same A (FlowAt.remove e l x g f) = refl
+act-accepted lim d before m room same A (FlowAt.where' a b i fresh f g) =
+    accepted-unless before _ refusals.TokenLimit _ (room .tokens) (accepted-unless before _ refusals.CellLimit _ (room .cells) refl)
+act-accepted lim d before m room same {W} {p} A (FlowAt.choke e x) =
+    chokes-accepted lim d before m room same p (tokenAt (W .tokens) p) (tokenAt (W .tokens) p .cell)
+    (some-cell (under-cell x (A .place .nested)) (A .place .cell))
+act-accepted lim d before m room same {W} {p} A (FlowAt.return e z x) =
+    returned-accepted lim d before m room same p (tokenAt (W .tokens) p) (tokenAt (W .tokens) p .caller)
+    (some-caller (sym (A .place .nested .body) ∙ x) (A .place .caller))
+act-accepted lim d before m room same A (FlowAt.publish e) = refl

@@ -1,0 +1,48 @@
+-- "At most 1,022 nodes": the dag of a table of at most 512 entries has no more. An expression has two nodes less for each parameter, and one
+-- with no parameter has an odd number of entries; each definition saves the two nodes of its own entry. Assumes nothing.
+use mathlib.Core.Path.{_≡_, refl, sym, _∙_, ap}
+use mathlib.Core.List.{List, []}
+use Prim.Native.Nat.{ℕ, zero, suc, _+_, _*_, _≤_}
+use native.Mathlib.Omega.{arith}
+use lib.ListN.{length}
+use Rattle.model.specs.Job.Syntax.{Exp, Definition, Program}
+use Rattle.model.specs.Job.Entry.{entries}
+use Rattle.model.specs.Job.Read.{Got, got, _>>=_, readExp, readEntries, leftovers, definitionsKept}
+use Rattle.model.specs.Job.Construct.{size, construct}
+use Rattle.model.proofs.Job.Position.{entries-length, bind-got, exp-from}
+use Rattle.reader.specs.Checked.{entriesFrom}
+use Rattle.reader.specs.Definitions.{readDefinitions, definitionsNodes}
+use Rattle.reader.proofs.Few.{read-few}
+use Rattle.reader.proofs.NodeCount.{construct-length}
+use Rattle.reader.proofs.ProgramParts.{whole, goalRead, same-got, all-defined, tests, entries-opened}
+
+-- n definitions with these nodes end at entry `at`, a goal with so many nodes, joins and parameters behind them at entry `end`
+count : (n at end nodes goal joins params : ℕ) → (n ≡ 0 → at ≡ 0) → nodes + 2 * n + 2 * 0 ≤ 2 * at → end ≡ at + 1 + 2 * joins + params
+    → goal + 1 + 2 * params + 2 * at ≤ 2 * end → end ≤ 512 → nodes + (goal + 1) ≤ 1022
+count zero at end nodes goal joins zero z d e g l = let y = z refl in omega arith
+count zero at end nodes goal joins (suc params) z d e g l = omega arith
+count (suc n) at end nodes goal joins params z d e g l = omega arith
+
+module _ (ks os : List ℕ) (l : length ks ≤ 512) (n : ℕ) where
+  read-most : (ds : Got (List Definition)) (g : Got Exp) → readDefinitions n 0 (entries ks os) ≡ got ds
+      → readExp 24 [] (ds .next) (ds .rest) ≡ got g → length (construct (record { definitions = ds .value; goal = g .value }) .nodes) ≤ 1022
+  read-most ds g rd rg =
+      let f = all-defined ks os n 0 (entries ks os) refl ds rd in
+      let r = ap (readExp 24 [] (ds .next)) (sym (f .rest)) ∙ rg in
+      let s = read-few ks os 24 [] (ds .next) g r in
+      let last = exp-from (entries ks os) 24 [] (ds .next) (entriesFrom ks os (ds .next)) g refl r .last in
+      rw (construct-length (record { definitions = ds .value; goal = g .value }))
+      (count n (ds .next) (g .next) (definitionsNodes (ds .value)) (size (g .value)) (s .joins) (s .params)
+      (f .none) (f .few) (s .ends) (s .few) (omega (arith, entries-length ks os)))
+
+  pub nodes-at-most : (p : Got Program) → readEntries n (entries ks os) ≡ got p → length (construct (p .value) .nodes) ≤ 1022
+  unfolding goalRead whole tests
+  nodes-at-most p r =
+      let es = entries ks os in
+      let few : Got Program → Type 0 = λ p. length (construct (p .value) .nodes) ≤ 1022 in
+      let b = bind-got (readDefinitions n 0 es >>= goalRead) (tests es) p (sym (entries-opened n es) ∙ r) in
+      let c = bind-got (leftovers (b .0 .next) (b .0 .rest)) _ p (b .2) in
+      let d = bind-got (definitionsKept _ 0 es) _ p (c .2) in
+      let e = bind-got (readDefinitions n 0 es) goalRead (b .0) (b .1) in
+      let f = bind-got (readExp 24 [] (e .0 .next) (e .0 .rest)) (whole (e .0 .value)) (b .0) (e .2) in
+      same-got few (b .0) p (d .2) (same-got few _ (b .0) (f .2) (read-most (e .0) (f .0) (e .1) (f .1)))

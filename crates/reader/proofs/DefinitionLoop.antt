@@ -1,0 +1,195 @@
+-- The loop over the definitions: those that are done stand in front of what is left to read. Assumes nothing.
+use mathlib.Core.Path.{_≡_, refl, sym, _∙_, ap, ap₂, subst}
+use mathlib.Core.List.{List, [], _∷_, _++_, append-assoc, append-nil}
+use Prim.Native.Nat.{ℕ, suc, _+_, _*_, _-_, _<_, _≤_}
+use native.Mathlib.Omega.{arith}
+use native.Mathlib.Decide.{decLt}
+use native.Mathlib.Numerals.{add-one}
+use lib.ListN.{length, getD, take, drop, set, length-append, length-set}
+use lib.Seq.{take-suc-set}
+use Rattle.model.specs.Number.{number}
+use Rattle.model.specs.Job.Syntax.{Exp, Definition, levels, formalsOf}
+use Rattle.model.specs.Job.Entry.{entries, kindOf}
+use Rattle.model.specs.Job.Read.{Got, Read, got, refused, _>>=_, gives, need, entryAt, readExp, isDefinition, readDefinition}
+use Rattle.model.proofs.Job.Position.{entries-end, entries-at, entries-length, bind-got, refused-got, exp-from}
+use Rattle.reader.specs.Checked.{entriesFrom, checked}
+use Rattle.reader.specs.Definitions.{readDefinitions, definitionNodes, definitionsNodes, checkedDefinition, formalsRead, DefinitionsKept}
+use Rattle.reader.specs.declared.checked.Checked.{Checked}
+use Rattle.reader.specs.declared.checked.Checked.the-variants.{Next, Refused}
+use Rattle.reader.proofs.Onward.{checked-refused, checked-next}
+use Rattle.reader.proofs.Few.{read-few}
+
+-- a definition that was read from entry `at` on
+pub record Defined (ks os : List ℕ) (at : ℕ) (g : Got Definition) : Type 0 where
+  pub rest : g .rest ≡ entriesFrom ks os (g .next)
+  pub last : g .next ≤ length ks
+  pub here : at < length ks
+  pub formals : g .value .formals ≡ number (take 4 (drop (4 * at) os))
+  pub few : definitionNodes (g .value) + 2 + 2 * at ≤ 2 * g .next
+
+body-defined : (ks os : List ℕ) (at : ℕ) (b : Got Exp) → at < length ks
+    → readExp 24 (levels (number (take 4 (drop (4 * at) os)))) (suc at) (entriesFrom ks os (suc at)) ≡ got b
+    → Defined ks os at (record { value = record { formals = number (take 4 (drop (4 * at) os)); body = b .value }; next = b .next; rest = b .rest })
+body-defined ks os at b l r =
+    let scope = levels (number (take 4 (drop (4 * at) os))) in
+    let f = exp-from (entries ks os) 24 scope (suc at) (entriesFrom ks os (suc at)) b refl r in
+    let small = read-few ks os 24 scope (suc at) b r .few in
+    let last = f .last in
+    record { rest = f .rest; last = omega (arith, entries-length ks os); here = l; formals = refl; few = omega arith }
+
+pub defined : (ks os : List ℕ) (at : ℕ) (g : Got Definition) → readDefinition at (entriesFrom ks os at) ≡ got g → Defined ks os at g
+unfolding readDefinition entryAt _>>=_
+defined ks os at g r = go (decLt at (length ks))
+  where
+    same : (h : Got Definition) → got h ≡ got g → Defined ks os at h → Defined ks os at g
+    same h e d = let z : h ≡ g = cc in subst (Defined ks os at) z d
+
+    go : Dec (at < length ks) → Defined ks os at g
+    go (no f) = refused-got (ap (readDefinition at) (sym (entries-end ks os at (omega arith))) ∙ r)
+    go (yes l) =
+        let a = bind-got (need (isDefinition (kindOf (getD ks at 0))) 3 at) _ g (ap (readDefinition at) (sym (entries-at ks os at l)) ∙ r) in
+        let b = bind-got (need _ 4 at) _ g (a .2) in
+        let c = bind-got (readExp 24 _ (suc at) (drop (suc at) (entries ks os))) _ g (b .2) in
+        same _ (c .2) (body-defined ks os at (c .0) l (c .1))
+
+-- definitions in front of those that a reading gives
+pub prefixed : List Definition → Read (List Definition) → Read (List Definition)
+prefixed ds r = r >>= (λ g. gives (ds ++ g .value) (g .next) (g .rest))
+
+prefixed-none : (r : Read (List Definition)) → r ≡ prefixed [] r
+unfolding prefixed _>>=_
+prefixed-none (got g) = refl
+prefixed-none (refused n e) = refl
+
+prefixed-more : (ds : List Definition) (d : Definition) (r : Read (List Definition))
+    → prefixed ds (r >>= (λ g. gives (d ∷ g .value) (g .next) (g .rest))) ≡ prefixed (ds ++ (d ∷ [])) r
+unfolding prefixed _>>=_
+prefixed-more ds d (got g) = rw append-assoc
+prefixed-more ds d (refused n e) = refl
+
+nodes-more : (ds : List Definition) (d : Definition) → definitionsNodes (ds ++ (d ∷ [])) ≡ definitionsNodes ds + definitionNodes d
+unfolding definitionsNodes
+nodes-more [] d = omega arith
+nodes-more (x ∷ ds) d = omega (arith, nodes-more ds d)
+
+formals-more : (ds : List Definition) (d : Definition) → formalsOf (ds ++ (d ∷ [])) ≡ formalsOf ds ++ (d .formals ∷ [])
+formals-more [] d = refl
+formals-more (x ∷ ds) d = ap (λ l. x .formals ∷ l) (formals-more ds d)
+
+pub formals-length : (ds : List Definition) → length (formalsOf ds) ≡ length ds
+formals-length [] = refl
+formals-length (d ∷ ds) = ap suc (formals-length ds)
+
+-- the loop's invariant: i definitions are done, and what is left is read from entry `at` on
+pub record Reading (count : ℕ) (ks os fs : List ℕ) (at nodes i : ℕ) : Type 0 where
+  pub done : List Definition
+  pub many : length done ≡ i
+  pub most : i ≤ count
+  pub rest : readDefinitions count 0 (entries ks os) ≡ prefixed done (readDefinitions (count - i) at (entriesFrom ks os at))
+  pub placed : nodes ≡ definitionsNodes done
+  pub few : nodes ≤ 2 * at
+  pub last : at ≤ length ks
+  pub kept : take i fs ≡ formalsOf done
+  pub long : length fs ≡ 32
+
+pub reading-start : (count : ℕ) (ks os fs : List ℕ) → length fs ≡ 32 → Reading count ks os fs 0 0 0
+unfolding definitionsNodes
+reading-start count ks os fs l = record {
+  done = [];
+  many = refl;
+  most = omega arith;
+  rest =
+      prefixed-none (readDefinitions count 0 (entries ks os))
+      ∙ ap (λ n. prefixed [] (readDefinitions n 0 (entries ks os))) (let z : count ≡ count - 0 = omega arith in z);
+  placed = refl;
+  few = omega arith;
+  last = omega arith;
+  kept = refl;
+  long = l;
+}
+
+-- the definitions behind the first
+tail : ℕ → Got Definition → Read (List Definition)
+tail n d = readDefinitions n (d .next) (d .rest) >>= (λ ds. gives (d .value ∷ ds .value) (ds .next) (ds .rest))
+
+module _ (count : ℕ) (ks os fs : List ℕ) (at nodes i : ℕ) (g : Reading count ks os fs at nodes i) where
+  pub reading-end : count ≤ i
+      → DefinitionsKept (readDefinitions count 0 (entries ks os)) (record { answer = Next at nodes; formals = fs })
+  unfolding readDefinitions prefixed _>>=_ checked formalsRead
+  reading-end l =
+      let z : count - i ≡ 0 = omega (arith, g .most) in
+      let e : readDefinitions count 0 (entries ks os) ≡ gives (g .done) at (entriesFrom ks os at) =
+      g .rest
+      ∙ ap (λ k. prefixed (g .done) (readDefinitions k at (entriesFrom ks os at))) z
+      ∙ ap (λ ds. gives ds at (entriesFrom ks os at)) (append-nil (g .done)) in
+      record {
+        answer = rw e (ap (λ n. Next at n) (g .placed));
+        formals = rw (e, formals-length (g .done), g .many) (g .kept);
+      }
+
+  module _ (l : i < count) (q : Checked) (eq : q ≡ checkedDefinition (readDefinition at (entriesFrom ks os at))) where
+    opened : readDefinitions count 0 (entries ks os) ≡ prefixed (g .done) (readDefinition at (entriesFrom ks os at) >>= tail (count - (i + 1)))
+    unfolding readDefinitions tail
+    opened =
+        let z : count - i ≡ suc (count - (i + 1)) = omega arith in
+        g .rest ∙ ap (λ k. prefixed (g .done) (readDefinitions k at (entriesFrom ks os at))) z
+
+    pub reading-refused : (n e : ℕ) → q ≡ Refused n e
+        → DefinitionsKept (readDefinitions count 0 (entries ks os)) (record { answer = Refused n e; formals = fs })
+    unfolding prefixed _>>=_ checked formalsRead
+    reading-refused n e h =
+        let r = checked-refused definitionNodes (readDefinition at (entriesFrom ks os at)) n e (sym eq ∙ h) in
+        let all = opened ∙ ap (λ r. prefixed (g .done) (r >>= tail (count - (i + 1)))) r in
+        record { answer = rw all; formals = rw all }
+
+    module _ (m d : ℕ) (h : q ≡ Next m d) where
+      first : (a : Got Definition) × (readDefinition at (entriesFrom ks os at) ≡ got a) × (a .next ≡ m) × (definitionNodes (a .value) ≡ d)
+      first = checked-next definitionNodes (readDefinition at (entriesFrom ks os at)) m d (sym eq ∙ h)
+
+      facts : Defined ks os at (first .0)
+      facts = defined ks os at (first .0) (first .1)
+
+      pub reading-below : length ks ≤ 512 → at < 512
+      reading-below k = let x = facts .here in omega arith
+
+      pub reading-within : length os ≡ 4 * length ks → 4 * at + 4 ≤ length os
+      reading-within k = let x = facts .here in omega arith
+
+      pub reading-fits : length ks ≤ 512 → nodes + d < 4096
+      reading-fits k =
+          let x = facts .few in
+          let y = facts .last in
+          let u = first .2 in
+          let v = first .3 in
+          let w = g .few in
+          omega arith
+
+      pub reading-more : (o : ℕ) → o ≡ number (take 4 (drop (4 * at) os)) → count ≤ 32 → Reading count ks os (set fs i o) m (nodes + d) (i + 1)
+      unfolding tail _>>=_
+      reading-more o eo k =
+          let n = count - (i + 1) in
+          let new = first .0 .value in
+          let x = facts .few in
+          let y = facts .last in
+          let u = first .2 in
+          let v = first .3 in
+          let w = g .few in
+          record {
+            done = g .done ++ (new ∷ []);
+            many = simp length-append (omega (arith, g .many));
+            most = omega arith;
+            rest =
+                opened
+                ∙ ap (λ r. prefixed (g .done) (r >>= tail n)) (first .1)
+                ∙ prefixed-more (g .done) new (readDefinitions n (first .0 .next) (first .0 .rest))
+                ∙ ap₂ (λ k l. prefixed (g .done ++ (new ∷ [])) (readDefinitions n k l)) u (facts .rest ∙ ap (λ k. entriesFrom ks os k) u);
+            placed = omega (arith, nodes-more (g .done) new, g .placed);
+            few = omega arith;
+            last = omega arith;
+            kept =
+                rw add-one
+                (take-suc-set fs i o (omega (arith, g .long))
+                ∙ ap₂ (λ l x. l ++ (x ∷ [])) (g .kept) (eo ∙ sym (facts .formals))
+                ∙ sym (formals-more (g .done) new));
+            long = simp length-set (g .long);
+          }

@@ -1,0 +1,57 @@
+-- The number that refuses an expression's entry, at each outcome of the tests. Assumes nothing.
+use mathlib.Core.Path.{_≡_, refl, sym, _∙_}
+use mathlib.Core.Bool.{Bool, true, false, not}
+use Prim.Native.Nat.{ℕ, zero, suc, _<_, _≤_}
+use native.Mathlib.Omega.{arith}
+use lib.Dec.{ltb}
+use Rattle.model.specs.Test.{_or_}
+use Rattle.model.specs.Job.Entry.{kindOf, rowKept, isBinder}
+use borrow.Author.Tests.{not-true, not-false}
+use Rattle.model.proofs.Test.{lt-ltb, le-not-ltb}
+use Rattle.reader.specs.Fault.{unless, expressionFault}
+use Rattle.reader.proofs.Row.{is-expression, no-expression, is-binder, no-binder}
+
+module _ (k o left s : ℕ) where
+  pub fault-3 : 5 < k → 3 ≡ expressionFault left s (kindOf k) o
+  unfolding expressionFault unless
+  fault-3 l = go left
+    where
+      go : (left : ℕ) → 3 ≡ expressionFault left s (kindOf k) o
+      go zero = rw (no-expression k l)
+      go (suc left) = rw (no-expression k l)
+
+  module _ (r : Bool) (row : r ≡ rowKept (kindOf k) o) (l : k ≤ 5) where
+    pub fault-4 : not r ≡ true → 4 ≡ expressionFault left s (kindOf k) o
+    unfolding expressionFault unless
+    fault-4 e = go left (sym row ∙ not-true r e)
+      where
+        go : (left : ℕ) → rowKept (kindOf k) o ≡ false → 4 ≡ expressionFault left s (kindOf k) o
+        go zero e = rw (is-expression k l, e)
+        go (suc left) e = rw (is-expression k l, e)
+
+    module _ (e : not r ≡ false) where
+      pub fault-6 : left ≡ 0 → 6 ≡ expressionFault left s (kindOf k) o
+      unfolding expressionFault unless
+      fault-6 z = rw (z, is-expression k l, ← row, not-false r e)
+
+      module _ (f : left ≡ 0 → ⊥) where
+        -- with depth left, the answer is the binder's
+        deeper : expressionFault left s (kindOf k) o ≡ unless (not (isBinder (kindOf k)) or ltb s 8) 7 0
+        unfolding expressionFault unless
+        deeper = go left f
+          where
+            go : (left : ℕ) → (left ≡ 0 → ⊥) → expressionFault left s (kindOf k) o ≡ unless (not (isBinder (kindOf k)) or ltb s 8) 7 0
+            go zero f = absurd (f refl)
+            go (suc left) f = rw (is-expression k l, ← row, not-false r e)
+
+        pub fault-none : k < 4 → 0 ≡ expressionFault left s (kindOf k) o
+        unfolding unless _or_
+        fault-none m = sym (deeper ∙ rw (no-binder k m))
+
+        pub fault-7 : 4 ≤ k → 7 < s → 7 ≡ expressionFault left s (kindOf k) o
+        unfolding unless _or_
+        fault-7 m n = sym (deeper ∙ rw (is-binder k l m, le-not-ltb s 8 n))
+
+        pub fault-room : 4 ≤ k → s ≤ 7 → 0 ≡ expressionFault left s (kindOf k) o
+        unfolding unless _or_
+        fault-room m n = sym (deeper ∙ rw (is-binder k l m, lt-ltb s 8 (omega arith)))

@@ -1,0 +1,189 @@
+-- What is answered for an expression, at each outcome of the code's tests. Assumes nothing.
+use mathlib.Core.Path.{_≡_, refl, sym, _∙_, ap, ap₂}
+use mathlib.Core.List.{List, _∷_}
+use Prim.Native.Nat.{ℕ, zero, suc, _+_, _*_, _-_, _/_, _<_, _≤_}
+use native.Mathlib.Omega.{arith}
+use native.Mathlib.Decide.{decLt}
+use native.Mathlib.Numerals.{add-one}
+use lib.ListN.{length, getD, take, drop}
+use Rattle.model.specs.Number.{number}
+use Rattle.model.specs.Job.Syntax.{Param, Join, par, seq, prune, Exp, site, call, join, levels, scopeLeft, scopeRight}
+use Rattle.model.specs.Job.Entry.{Entry, entry, entries, low, high, kindOf}
+use Rattle.model.specs.Job.Read.{Got, Read, got, refused, _>>=_, gives, entryAt, readParams, readCall, readJoin, readExp}
+use Rattle.model.specs.Job.Construct.{own, size}
+use Rattle.model.proofs.Job.Position.{entries-end, entries-at, exp-from}
+use Rattle.reader.specs.Checked.{entriesFrom, checked, checkedParams, checkedExp, more}
+use Rattle.reader.specs.Fault.{expressionFault}
+use Rattle.reader.specs.Join.{either, joinOf, JoinKept}
+use Rattle.reader.specs.declared.checked.Checked.{Checked}
+use Rattle.reader.specs.declared.checked.Checked.the-variants.{Next, Refused}
+use Rattle.reader.specs.declared.expression.Sides.{Sides}
+use Rattle.reader.proofs.Scope.{levels-length}
+use Rattle.reader.proofs.Row.{up-to-five}
+use Rattle.reader.proofs.Opened.{readKind, exp-refused, exp-kind, sound}
+use Rattle.reader.proofs.Few.{own-few}
+use Rattle.reader.proofs.Onward.{bind-refused, checked-next}
+use Rattle.reader.proofs.JoinSides.{join-par}
+
+-- the answer for a call is that for its parameters, with one node
+call-answer : (h : List Param → Exp) → ((ps : List Param) → size (h ps) ≡ 1) → (n : ℕ) (scope : List ℕ) (e : ℕ) (es : List Entry)
+    → checkedExp (readCall h n scope e es) ≡ more 1 (checkedParams (readParams n scope e es))
+unfolding readCall _>>=_ checked more
+call-answer h one n scope e es = go (readParams n scope e es)
+  where
+    go : (r : Read (List Param)) → checkedExp (r >>= (λ ps. gives (h (ps .value)) (ps .next) (ps .rest))) ≡ more 1 (checkedParams r)
+    go (got g) = rw (one (g .value))
+    go (refused n e) = refl
+
+-- kinds 1 and 2 are calls, kinds 3 to 5 are joins
+call-kind : (side : List ℕ → ℕ → List Entry → Read Exp) (scope : List ℕ) (e i : ℕ) (es : List Entry) (k o : ℕ)
+    → (k ≡ 0 → ⊥) → k < 3 → checkedExp (readKind side scope e i es (kindOf k) o) ≡ more 1 (checkedParams (readParams (high o) scope i es))
+unfolding readKind kindOf size
+call-kind side scope e i es zero o f l = absurd (f refl)
+call-kind side scope e i es (suc zero) o f l = call-answer (λ ps. site (low o) ps) (λ ps. refl) (high o) scope i es
+call-kind side scope e i es (suc (suc zero)) o f l = call-answer (λ ps. call (low o) ps) (λ ps. refl) (high o) scope i es
+call-kind side scope e i es (suc (suc (suc k))) o f l = absurd (omega arith)
+
+join-kind : (side : List ℕ → ℕ → List Entry → Read Exp) (s e i : ℕ) (es : List Entry) (k o : ℕ)
+    → k ≤ 5 → 3 ≤ k → readKind side (levels s) e i es (kindOf k) o ≡ readJoin side (joinOf k s) (levels s) i es
+unfolding readKind kindOf joinOf either
+join-kind side s e i es k o =
+    up-to-five (λ k. 3 ≤ k → readKind side (levels s) e i es (kindOf k) o ≡ readJoin side (joinOf k s) (levels s) i es)
+    (λ l. absurd (omega arith)) (λ l. absurd (omega arith)) (λ l. absurd (omega arith))
+    (λ l. refl) (λ l. rw (levels-length s)) (λ l. rw (levels-length s)) k
+
+-- a side has at most one variable more, and none more in a parallel
+side-fits : (k s n : ℕ) (scope : Join → List ℕ → List ℕ) → ((j : Join) → length (scope j (levels s)) ≤ suc s) → scope par (levels s) ≡ levels s
+    → s ≤ 8 → 3 ≤ k → (4 ≤ k → s < 8) → levels n ≡ scope (joinOf k s) (levels s) → n ≤ 8
+side-fits k s n scope most none l m room e = go (decLt 3 k)
+  where
+    long : n ≡ length (scope (joinOf k s) (levels s))
+    long = sym (levels-length n) ∙ ap length e
+
+    go : Dec (3 < k) → n ≤ 8
+    go (yes h) = let x = room h in let y = most (joinOf k s) in let z = long in omega arith
+    go (no h) =
+        let x : k ≡ 3 = omega arith in
+        let y : n ≡ s = long ∙ ap (λ j. length (scope j (levels s))) (join-par k s x) ∙ ap length none ∙ levels-length s in
+        omega arith
+
+left-most : (s : ℕ) (j : Join) → length (scopeLeft j (levels s)) ≤ suc s
+unfolding scopeLeft
+left-most s par = omega (arith, levels-length s)
+left-most s (seq x) = omega (arith, levels-length s)
+left-most s (prune x) = omega (arith, levels-length s)
+
+right-most : (s : ℕ) (j : Join) → length (scopeRight j (levels s)) ≤ suc s
+unfolding scopeRight
+right-most s par = omega (arith, levels-length s)
+right-most s (seq x) = omega (arith, levels-length s)
+right-most s (prune x) = omega (arith, levels-length s)
+
+-- the second side of a join, behind the first
+second : (List ℕ → ℕ → List Entry → Read Exp) → Join → List ℕ → Got Exp → Read Exp
+second side j scope f = side scope (f .next) (f .rest) >>= (λ g. gives (join j (f .value) (g .value)) (g .next) (g .rest))
+
+second-answer : (side : List ℕ → ℕ → List Entry → Read Exp) (j : Join) (scope : List ℕ) (f : Got Exp)
+    → checkedExp (second side j scope f) ≡ more (own j + size (f .value)) (checkedExp (side scope (f .next) (f .rest)))
+unfolding second _>>=_ checked more size
+second-answer side j scope f = go (side scope (f .next) (f .rest))
+  where
+    go : (r : Read Exp)
+        → checkedExp (r >>= (λ g. gives (join j (f .value) (g .value)) (g .next) (g .rest))) ≡ more (own j + size (f .value)) (checkedExp r)
+    go (got g) = refl
+    go (refused n e) = refl
+
+module _ (ks os : List ℕ) (left s at : ℕ) where
+  -- the code's answer
+  abbrev Answers : Checked → Type 0
+  Answers r = r ≡ checkedExp (readExp left (levels s) at (entriesFrom ks os at))
+
+  pub exp-end : length ks ≤ at → Answers (Refused 5 at)
+  unfolding readExp entryAt _>>=_ checked
+  exp-end l = go left
+    where
+      go : (left : ℕ) → Refused 5 at ≡ checkedExp (readExp left (levels s) at (entriesFrom ks os at))
+      go zero = rw (entries-end ks os at l)
+      go (suc left) = rw (entries-end ks os at l)
+
+  module _ (l : at < length ks) (o : ℕ) (eo : o ≡ number (take 4 (drop (4 * at) os))) (n : ℕ)
+      (en : n ≡ expressionFault left s (kindOf (getD ks at 0)) o) where
+    behind : List Entry
+    behind = drop (suc at) (entries ks os)
+
+    here : entriesFrom ks os at ≡ entry (getD ks at 0) o ∷ behind
+    unfolding behind
+    here = entries-at ks os at l ∙ ap (λ x. entry (getD ks at 0) x ∷ drop (suc at) (entries ks os)) (sym eo)
+
+    pub exp-fault : (n ≡ 0 → ⊥) → Answers (Refused n at)
+    unfolding checked
+    exp-fault f = rw (here, exp-refused s at (getD ks at 0) o behind left n en f)
+
+    module _ (z : n ≡ 0) where
+      by-kind : readExp left (levels s) at (entriesFrom ks os at)
+          ≡ readKind (readExp (left - 1)) (levels s) at (suc at) behind (kindOf (getD ks at 0)) o
+      by-kind = rw here (exp-kind s at (getD ks at 0) o behind left (sym en ∙ z))
+
+      pub exp-stop : getD ks at 0 ≡ 0 → Answers (Next (at + 1) 1)
+      unfolding kindOf readKind checked size
+      exp-stop k = rw (by-kind, k, add-one)
+
+      module _ (f : getD ks at 0 ≡ 0 → ⊥) where
+        pub exp-call : (q r : Checked) → getD ks at 0 < 3
+            → q ≡ checkedParams (readParams (o / 65536) (levels s) (at + 1) (entriesFrom ks os (at + 1)))
+            → r ≡ more 1 q → Answers r
+        unfolding behind
+        exp-call q r k eq er =
+            er
+            ∙ ap (more 1) (eq ∙ ap (λ i. checkedParams (readParams (o / 65536) (levels s) i (entriesFrom ks os i))) (add-one at))
+            ∙ sym (ap checkedExp by-kind ∙ call-kind (readExp (left - 1)) (levels s) at (suc at) behind (getD ks at 0) o f k)
+
+        module _ (k3 : 3 ≤ getD ks at 0) (sd : Sides) (kept : JoinKept (getD ks at 0) s sd) where
+          pub left-fits : s ≤ 8 → sd .left ≤ 8
+          unfolding scopeLeft
+          left-fits m =
+              let x = sound left s (getD ks at 0) o (sym en ∙ z) in
+              side-fits (getD ks at 0) s (sd .left) scopeLeft (left-most s) refl m k3 (x .room) (kept .left)
+
+          pub right-fits : s ≤ 8 → sd .right ≤ 8
+          unfolding scopeRight
+          right-fits m =
+              let x = sound left s (getD ks at 0) o (sym en ∙ z) in
+              side-fits (getD ks at 0) s (sd .right) scopeRight (right-most s) refl m k3 (x .room) (kept .right)
+
+          pub own-fits : sd .nodes ≤ 3
+          own-fits = let x = kept .nodes in omega (arith, own-few (joinOf (getD ks at 0) s))
+
+          by-join : readExp left (levels s) at (entriesFrom ks os at)
+              ≡ (readExp (left - 1) (levels (sd .left)) (at + 1) (entriesFrom ks os (at + 1))
+              >>= second (readExp (left - 1)) (joinOf (getD ks at 0) s) (levels (sd .right)))
+          unfolding second behind readJoin
+          by-join =
+              let j = joinOf (getD ks at 0) s in
+              let side = readExp (left - 1) in
+              let x = sound left s (getD ks at 0) o (sym en ∙ z) in
+              by-kind
+              ∙ join-kind side s at (suc at) behind (getD ks at 0) o (x .kind) k3
+              ∙ ap₂ (λ a b. side a (suc at) behind >>= second side j b) (sym (kept .left)) (sym (kept .right))
+              ∙ ap (λ i. side (levels (sd .left)) i (entriesFrom ks os i) >>= second side j (levels (sd .right))) (sym (add-one at))
+
+          module _ (q : Checked) (eq : q ≡ checkedExp (readExp (left - 1) (levels (sd .left)) (at + 1) (entriesFrom ks os (at + 1)))) where
+            pub exp-left : (n e : ℕ) → q ≡ Refused n e → Answers (Refused n e)
+            exp-left n e h = rw by-join (bind-refused size _ size (second _ _ _) n e (sym eq ∙ h))
+
+            pub exp-join : (m d : ℕ) (z r : Checked) → q ≡ Next m d
+                → z ≡ checkedExp (readExp (left - 1) (levels (sd .right)) m (entriesFrom ks os m)) → r ≡ more (sd .nodes + d) z → Answers r
+            unfolding _>>=_
+            exp-join m d z r h ez er =
+                let j = joinOf (getD ks at 0) s in
+                let side = readExp (left - 1) in
+                let es = entries ks os in
+                let a = checked-next size (side (levels (sd .left)) (at + 1) (entriesFrom ks os (at + 1))) m d (sym eq ∙ h) in
+                let f = exp-from es (left - 1) (levels (sd .left)) (at + 1) (entriesFrom ks os (at + 1)) (a .0) refl (a .1) in
+                let x : own j + size (a .0 .value) ≡ sd .nodes + d = ap₂ (λ i k. i + k) (sym (kept .nodes)) (a .3) in
+                er
+                ∙ ap (more (sd .nodes + d)) ez
+                ∙ sym (ap checkedExp (by-join ∙ ap (λ r. r >>= second side j (levels (sd .right))) (a .1))
+                ∙ second-answer side j (levels (sd .right)) (a .0)
+                ∙ ap (λ n. more n (checkedExp (side (levels (sd .right)) (a .0 .next) (a .0 .rest)))) x
+                ∙ ap₂ (λ i l. more (sd .nodes + d) (checkedExp (side (levels (sd .right)) i l))) (a .2) (f .rest ∙ ap (λ i. drop i es) (a .2)))

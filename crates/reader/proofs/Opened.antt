@@ -1,0 +1,167 @@
+-- An expression's reading, opened at its first entry: the tests for 3, 4 and 7 (or 6), then what its kind asks for. So where an entry
+-- is refused by itself the reading is refused with that number, and where it is not, the kind's reading is all that is left. Assumes nothing.
+use mathlib.Core.Path.{_≡_, refl, sym, _∙_, ap}
+use mathlib.Core.Bool.{Bool, true, false, not}
+use mathlib.Core.List.{List, _∷_}
+use Prim.Native.Nat.{ℕ, zero, suc, _-_, _<_, _≤_}
+use native.Mathlib.Omega.{arith}
+use native.Mathlib.Decide.{decLt}
+use lib.ListN.{length}
+use lib.Dec.{ltb}
+use Rattle.model.specs.Test.{_or_}
+use Rattle.model.specs.Job.Syntax.{par, seq, prune, Exp, stop, site, call, levels}
+use Rattle.model.specs.Job.Entry.{Entry, entry, low, high, Kind, kindOf, isExpression, rowKept, isBinder}
+use Rattle.model.specs.Job.Read.{Read, refused, _>>=_, gives, need, entryAt, readCall, readJoin, readExp}
+use Rattle.model.proofs.Test.{clash, ltb-lt}
+use Rattle.reader.specs.Fault.{unless, expressionFault}
+use Rattle.reader.proofs.Scope.{levels-length}
+use Rattle.reader.proofs.Row.{no-expression, is-binder}
+
+-- what the kind of entry e asks for, where the entries from i on are left
+unfoldable pub readKind : (List ℕ → ℕ → List Entry → Read Exp) → List ℕ → ℕ → ℕ → List Entry → Kind → ℕ → Read Exp
+readKind side scope e i es Kind.stop o = gives stop i es
+readKind side scope e i es Kind.site o = readCall (site (low o)) (high o) scope i es
+readKind side scope e i es Kind.call o = readCall (call (low o)) (high o) scope i es
+readKind side scope e i es Kind.par o = readJoin side par scope i es
+readKind side scope e i es Kind.seq o = readJoin side (seq (length scope)) scope i es
+readKind side scope e i es Kind.prune o = readJoin side (prune (length scope)) scope i es
+readKind side scope e i es Kind.definition o = refused 3 e
+readKind side scope e i es Kind.variable o = refused 3 e
+readKind side scope e i es Kind.constant o = refused 3 e
+readKind side scope e i es Kind.unknown o = refused 3 e
+
+module _ (left : ℕ) (scope : List ℕ) (e : ℕ) (x : Entry) (es : List Entry) where
+  same-kind : (k : Kind)
+      → (elim k as (λ k. Read Exp) [
+        | Kind.stop ↦ gives stop (suc e) es
+        | Kind.site ↦ readCall (site (low (x .operand))) (high (x .operand)) scope (suc e) es
+        | Kind.call ↦ readCall (call (low (x .operand))) (high (x .operand)) scope (suc e) es
+        | Kind.par ↦ readJoin (readExp left) par scope (suc e) es
+        | Kind.seq ↦ readJoin (readExp left) (seq (length scope)) scope (suc e) es
+        | Kind.prune ↦ readJoin (readExp left) (prune (length scope)) scope (suc e) es
+        | Kind.definition ↦ refused 3 e
+        | Kind.variable ↦ refused 3 e
+        | Kind.constant ↦ refused 3 e
+        | Kind.unknown ↦ refused 3 e
+      ]) ≡ readKind (readExp left) scope e (suc e) es k (x .operand)
+  unfolding readKind
+  same-kind Kind.stop = refl
+  same-kind Kind.site = refl
+  same-kind Kind.call = refl
+  same-kind Kind.par = refl
+  same-kind Kind.seq = refl
+  same-kind Kind.prune = refl
+  same-kind Kind.definition = refl
+  same-kind Kind.variable = refl
+  same-kind Kind.constant = refl
+  same-kind Kind.unknown = refl
+
+  -- the three tests of an entry above the greatest depth, then its kind
+  abbrev pub tests : Kind → ℕ → Read Exp → Read Exp
+  tests k o r =
+      need (isExpression k) 3 e
+      >>= (λ _. need (rowKept k o) 4 e >>= (λ _. need (not (isBinder k) or ltb (length scope) 8) 7 e >>= (λ _. r)))
+
+  pub exp-opened : readExp (suc left) scope e (x ∷ es)
+      ≡ tests (kindOf (x .kind)) (x .operand) (readKind (readExp left) scope e (suc e) es (kindOf (x .kind)) (x .operand))
+  unfolding readExp entryAt _>>=_
+  exp-opened = ap (tests (kindOf (x .kind)) (x .operand)) (same-kind (kindOf (x .kind)))
+
+module _ (s e k o : ℕ) (es : List Entry) where
+  scoped : (left : ℕ) → readExp (suc left) (levels s) e (entry k o ∷ es)
+      ≡ (need (isExpression (kindOf k)) 3 e
+      >>= (λ _. need (rowKept (kindOf k) o) 4 e
+      >>= (λ _. need (not (isBinder (kindOf k)) or ltb s 8) 7 e
+      >>= (λ _. readKind (readExp left) (levels s) e (suc e) es (kindOf k) o))))
+  scoped left =
+      exp-opened left (levels s) e (entry k o) es
+      ∙ ap (λ n. need (isExpression (kindOf k)) 3 e
+      >>= (λ _. need (rowKept (kindOf k) o) 4 e
+      >>= (λ _. need (not (isBinder (kindOf k)) or ltb n 8) 7 e
+      >>= (λ _. readKind (readExp left) (levels s) e (suc e) es (kindOf k) o)))) (levels-length s)
+
+  -- an entry with a fault is refused
+  pub exp-refused : (left n : ℕ) → n ≡ expressionFault left s (kindOf k) o → (n ≡ 0 → ⊥)
+      → readExp left (levels s) e (entry k o ∷ es) ≡ refused n e
+  unfolding readExp entryAt need _>>=_ expressionFault unless
+  exp-refused zero n q f = go (isExpression (kindOf k)) (rowKept (kindOf k) o) q
+    where
+      go : (a b : Bool) → n ≡ unless a 3 (unless b 4 6) → _≡_ {A = Read Exp} (need a 3 e >>= (λ _. need b 4 e >>= (λ _. refused 6 e))) (refused n e)
+      go true true q = ap (λ n. refused n e) (sym q)
+      go true false q = ap (λ n. refused n e) (sym q)
+      go false b q = ap (λ n. refused n e) (sym q)
+  exp-refused (suc left) n q f =
+      scoped left ∙ go (isExpression (kindOf k)) (rowKept (kindOf k) o) (not (isBinder (kindOf k)) or ltb s 8) q
+    where
+      go : (a b c : Bool) → n ≡ unless a 3 (unless b 4 (unless c 7 0))
+          → (need a 3 e
+          >>= (λ _. need b 4 e >>= (λ _. need c 7 e >>= (λ _. readKind (readExp left) (levels s) e (suc e) es (kindOf k) o)))) ≡ refused n e
+      go true true true q = absurd (f q)
+      go true true false q = ap (λ n. refused n e) (sym q)
+      go true false c q = ap (λ n. refused n e) (sym q)
+      go false b c q = ap (λ n. refused n e) (sym q)
+
+  -- an entry with none is read by its kind
+  pub exp-kind : (left : ℕ) → expressionFault left s (kindOf k) o ≡ 0
+      → readExp left (levels s) e (entry k o ∷ es) ≡ readKind (readExp (left - 1)) (levels s) e (suc e) es (kindOf k) o
+  unfolding need _>>=_ expressionFault unless
+  exp-kind zero q = absurd (go (isExpression (kindOf k)) (rowKept (kindOf k) o) q)
+    where
+      go : (a b : Bool) → unless a 3 (unless b 4 6) ≡ 0 → ⊥
+      go true true q = omega arith
+      go true false q = omega arith
+      go false b q = omega arith
+  exp-kind (suc left) q =
+      scoped left
+      ∙ go (isExpression (kindOf k)) (rowKept (kindOf k) o) (not (isBinder (kindOf k)) or ltb s 8) q
+      ∙ ap (λ l. readKind (readExp l) (levels s) e (suc e) es (kindOf k) o) (let z : left ≡ suc left - 1 = omega arith in z)
+    where
+      go : (a b c : Bool) → unless a 3 (unless b 4 (unless c 7 0)) ≡ 0
+          → (need a 3 e
+          >>= (λ _. need b 4 e >>= (λ _. need c 7 e >>= (λ _. readKind (readExp left) (levels s) e (suc e) es (kindOf k) o))))
+          ≡ readKind (readExp left) (levels s) e (suc e) es (kindOf k) o
+      go true true true q = refl
+      go true true false q = absurd (omega arith)
+      go true false c q = absurd (omega arith)
+      go false b c q = absurd (omega arith)
+
+-- what an entry with no fault has
+pub record Sound (left s k : ℕ) : Type 0 where
+  pub depth : 1 ≤ left
+  pub kind : k ≤ 5
+  pub room : 4 ≤ k → s < 8
+
+pub sound : (left s k o : ℕ) → expressionFault left s (kindOf k) o ≡ 0 → Sound left s k
+unfolding expressionFault unless _or_
+sound zero s k o q = absurd (go (isExpression (kindOf k)) (rowKept (kindOf k) o) q)
+  where
+    go : (a b : Bool) → unless a 3 (unless b 4 6) ≡ 0 → ⊥
+    go true true q = omega arith
+    go true false q = omega arith
+    go false b q = omega arith
+sound (suc left) s k o q = go (isExpression (kindOf k)) (rowKept (kindOf k) o) (not (isBinder (kindOf k)) or ltb s 8) refl refl q
+  where
+    small : isExpression (kindOf k) ≡ true → Dec (5 < k) → k ≤ 5
+    small e (yes l) = clash e (no-expression k l)
+    small e (no f) = omega arith
+
+    roomy : k ≤ 5 → (not (isBinder (kindOf k)) or ltb s 8) ≡ true → 4 ≤ k → s < 8
+    roomy l e m = ltb-lt s 8 (room (isBinder (kindOf k)) (is-binder k l m) e)
+      where
+        room : (b : Bool) → b ≡ true → (not b or ltb s 8) ≡ true → ltb s 8 ≡ true
+        room true p e = e
+        room false p e = clash p refl
+
+    go : (a b c : Bool) → isExpression (kindOf k) ≡ a → (not (isBinder (kindOf k)) or ltb s 8) ≡ c
+        → unless a 3 (unless b 4 (unless c 7 0)) ≡ 0 → Sound (suc left) s k
+    go true true true p r q = let l = small p (decLt 5 k) in record { depth = omega arith; kind = l; room = roomy l r }
+    go true true false p r q = absurd (omega arith)
+    go true false c p r q = absurd (omega arith)
+    go false b c p r q = absurd (omega arith)
+
+-- the depth left falls
+pub depth-left : (left s k o n : ℕ) → n ≡ expressionFault left s (kindOf k) o → n ≡ 0 → 1 ≤ left
+depth-left left s k o n e z = sound left s k o (sym e ∙ z) .depth
+
+pub depth-falls : (left s k o n t : ℕ) → n ≡ expressionFault left s (kindOf k) o → n ≡ 0 → left ≡ t → left - 1 < t
+depth-falls left s k o n t e z q = let d = depth-left left s k o n e z in omega arith

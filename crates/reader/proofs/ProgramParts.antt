@@ -1,0 +1,85 @@
+-- A program is read in parts: its definitions, its goal, then the tests of the whole table. Where the definitions end, how many there are,
+-- and how few nodes they have. Assumes nothing.
+use mathlib.Core.Path.{_≡_, refl, sym, _∙_, ap, subst}
+use mathlib.Core.List.{List, [], _∷_}
+use Prim.Native.Nat.{ℕ, zero, suc, _+_, _*_, _≤_}
+use native.Mathlib.Omega.{arith}
+use lib.ListN.{length}
+use Rattle.model.specs.Job.Syntax.{Exp, Definition, Program, formalsOf}
+use Rattle.model.specs.Job.Entry.{Entry}
+use Rattle.model.specs.Job.Read.{Got, Read, got, refused, _>>=_, gives, readExp, readDefinition, readProgram, leftovers, definitionsKept, readEntries}
+use Rattle.model.proofs.Job.Position.{bind-got}
+use Rattle.reader.specs.Checked.{entriesFrom}
+use Rattle.reader.specs.Definitions.{readDefinitions, definitionsNodes}
+use Rattle.reader.proofs.DefinitionLoop.{Defined, defined}
+
+-- a goal behind its definitions; a definition in front of a program, and in front of others
+unfoldable pub whole : List Definition → Got Exp → Read Program
+whole ds g = gives (record { definitions = ds; goal = g .value }) (g .next) (g .rest)
+
+ahead : Definition → Got Program → Read Program
+ahead d p = gives (record { definitions = d ∷ p .value .definitions; goal = p .value .goal }) (p .next) (p .rest)
+
+more : Definition → Got (List Definition) → Read (List Definition)
+more d ds = gives (d ∷ ds .value) (ds .next) (ds .rest)
+
+-- the goal, read behind the definitions
+unfoldable pub goalRead : Got (List Definition) → Read Program
+goalRead ds = readExp 24 [] (ds .next) (ds .rest) >>= whole (ds .value)
+
+-- a program is its definitions, then its goal
+pub program-split : (n e : ℕ) (es : List Entry) → readProgram n e es ≡ (readDefinitions n e es >>= goalRead)
+unfolding readProgram readDefinitions goalRead whole ahead more _>>=_
+program-split zero e es = refl
+program-split (suc n) e es = go (readDefinition e es) (program-split n)
+  where
+    goal : (d : Definition) (ds : List Definition) (r : Read Exp) → (r >>= whole ds >>= ahead d) ≡ (r >>= whole (d ∷ ds))
+    goal d ds (got g) = refl
+    goal d ds (refused k i) = refl
+
+    rest : (d : Definition) (r : Read (List Definition)) → (r >>= goalRead >>= ahead d) ≡ (r >>= more d >>= goalRead)
+    rest d (got ds) = goal d (ds .value) (readExp 24 [] (ds .next) (ds .rest))
+    rest d (refused k i) = refl
+
+    go : (r : Read Definition) → ((e : ℕ) (es : List Entry) → readProgram n e es ≡ (readDefinitions n e es >>= goalRead))
+        → (r >>= (λ d. readProgram n (d .next) (d .rest) >>= ahead (d .value)))
+        ≡ (r >>= (λ d. readDefinitions n (d .next) (d .rest) >>= more (d .value)) >>= goalRead)
+    go (got d) same = ap (λ r. r >>= ahead (d .value)) (same (d .next) (d .rest)) ∙ rest (d .value) (readDefinitions n (d .next) (d .rest))
+    go (refused k i) same = refl
+
+-- definitions that were read from entry e on
+pub record AllDefined (ks os : List ℕ) (n e : ℕ) (g : Got (List Definition)) : Type 0 where
+  pub rest : g .rest ≡ entriesFrom ks os (g .next)
+  pub many : length (g .value) ≡ n
+  pub few : definitionsNodes (g .value) + 2 * n + 2 * e ≤ 2 * g .next
+  pub none : n ≡ 0 → g .next ≡ e
+
+pub same-got : {A : Type 0} (P : Got A → Type 0) (g h : Got A) → got g ≡ got h → P g → P h
+same-got P g h e p = let z : g ≡ h = cc in subst P z p
+
+one-more : (ks os : List ℕ) (n e : ℕ) (d : Got Definition) (ds : Got (List Definition)) → Defined ks os e d → AllDefined ks os n (d .next) ds
+    → AllDefined ks os (suc n) e (record { value = d .value ∷ ds .value; next = ds .next; rest = ds .rest })
+unfolding definitionsNodes
+one-more ks os n e d ds f fs =
+    let x = f .few in let y = fs .few in record { rest = fs .rest; many = ap suc (fs .many); few = omega arith; none = λ z. absurd (omega arith) }
+
+pub all-defined : (ks os : List ℕ) (n e : ℕ) (l : List Entry) → l ≡ entriesFrom ks os e → (g : Got (List Definition))
+    → readDefinitions n e l ≡ got g → AllDefined ks os n e g
+unfolding readDefinitions definitionsNodes
+all-defined ks os zero e l q g r =
+    same-got (AllDefined ks os 0 e) (record { value = []; next = e; rest = l }) g r
+    (record { rest = q; many = refl; few = omega arith; none = λ z. refl })
+all-defined ks os (suc n) e l q g r =
+    let d = bind-got (readDefinition e l) _ g r in
+    let f = defined ks os e (d .0) (ap (readDefinition e) (sym q) ∙ d .1) in
+    let ds = bind-got (readDefinitions n (d .0 .next) (d .0 .rest)) _ g (d .2) in
+    let fs = all-defined ks os n (d .0 .next) (d .0 .rest) (f .rest) (ds .0) (ds .1) in
+    same-got (AllDefined ks os (suc n) e) _ g (ds .2) (one-more ks os n e (d .0) (ds .0) f fs)
+
+-- the tests behind a program that was read
+unfoldable pub tests : List Entry → Got Program → Read Program
+tests es p = leftovers (p .next) (p .rest) >>= (λ _. definitionsKept (formalsOf (p .value .definitions)) 0 es >>= (λ _. got p))
+
+pub entries-opened : (n : ℕ) (es : List Entry) → readEntries n es ≡ (readDefinitions n 0 es >>= goalRead >>= tests es)
+unfolding readEntries tests
+entries-opened n es = ap (λ r. r >>= tests es) (program-split n 0 es)

@@ -1,0 +1,125 @@
+-- What is answered for the whole table, at each outcome of the code's tests. Assumes nothing.
+use mathlib.Core.Path.{_≡_, refl, sym, _∙_, ap, ap₂}
+use mathlib.Core.List.{List, []}
+use Prim.Native.Nat.{ℕ, _+_, _<_, _≤_}
+use native.Mathlib.Omega.{arith}
+use lib.ListN.{length, take}
+use Rattle.model.specs.Job.Syntax.{Definition, Program, formalsOf, levels}
+use Rattle.model.specs.Job.Entry.{Entry, entries}
+use Rattle.model.specs.Job.Read.{Got, Read, got, refused, _>>=_, need, readExp, leftovers, definitionsKept, readEntries}
+use Rattle.model.specs.Job.Construct.{size, construct}
+use Rattle.model.proofs.Job.Position.{entries-end, entries-at, exp-from}
+use Rattle.reader.specs.Checked.{entriesFrom, checked, checkedTest, checkedExp, checkedProgram, afterwards}
+use Rattle.reader.specs.Definitions.{readDefinitions, definitionsNodes, formalsRead, DefinitionsKept}
+use Rattle.reader.specs.declared.checked.Checked.{Checked}
+use Rattle.reader.specs.declared.checked.Checked.the-variants.{Next, Refused}
+use Rattle.reader.specs.declared.definition.Definitions.{Definitions}
+use Rattle.reader.proofs.Onward.{checked-refused, checked-next}
+use Rattle.reader.proofs.Few.{next-few}
+use Rattle.reader.proofs.DefinitionLoop.{formals-length}
+use Rattle.reader.proofs.ProgramParts.{whole, goalRead, AllDefined, all-defined, tests, entries-opened}
+use Rattle.reader.proofs.NodeCount.{construct-length}
+
+module _ (ks os : List ℕ) (at : ℕ) where
+  pub end-left : at < length ks → Refused 5 at ≡ checkedTest (leftovers at (entriesFrom ks os at))
+  unfolding leftovers checked
+  end-left l = rw (entries-at ks os at l)
+
+  pub end-none : length ks ≤ at → Next at 0 ≡ checkedTest (leftovers at (entriesFrom ks os at))
+  unfolding leftovers need checked
+  end-none l = rw (entries-end ks os at l)
+
+tests-answer : {A : Type 0} (f : A → ℕ) (r : Read (Unit {0})) (s : Read A) → checked f (r >>= (λ _. s)) ≡ afterwards (checkedTest r) (checked f s)
+unfolding _>>=_ checked afterwards
+tests-answer f (got g) s = refl
+tests-answer f (refused n e) s = refl
+
+-- the answer for them: leftovers, then calls, then the program's end and nodes
+tests-all : (es : List Entry) (p : Got Program) → checkedProgram (tests es p)
+    ≡ afterwards (checkedTest (leftovers (p .next) (p .rest)))
+    (afterwards (checkedTest (definitionsKept (formalsOf (p .value .definitions)) 0 es))
+    (Next (p .next) (definitionsNodes (p .value .definitions) + (size (p .value .goal) + 1))))
+unfolding tests checked
+tests-all es p =
+    let nodes : Program → ℕ = λ p. length (construct p .nodes) in
+    let calls = definitionsKept (formalsOf (p .value .definitions)) 0 es in
+    tests-answer nodes (leftovers (p .next) (p .rest)) (calls >>= (λ _. got p))
+    ∙ ap (afterwards (checkedTest (leftovers (p .next) (p .rest))))
+    (tests-answer nodes calls (got p)
+    ∙ ap (λ m. afterwards (checkedTest calls) (Next (p .next) m)) (construct-length (p .value)))
+
+module _ (ks os : List ℕ) (n : ℕ) (d : Definitions) (kept : DefinitionsKept (readDefinitions n 0 (entries ks os)) d) where
+  -- the code's answer
+  abbrev Answers : Checked → Type 0
+  Answers r = r ≡ checkedProgram (readEntries n (entries ks os))
+
+  pub program-refused : (k e : ℕ) → d .answer ≡ Refused k e → Answers (Refused k e)
+  unfolding _>>=_ checked
+  program-refused k e h =
+      let r = checked-refused definitionsNodes (readDefinitions n 0 (entries ks os)) k e (sym (kept .answer) ∙ h) in
+      sym (ap checkedProgram (entries-opened n (entries ks os) ∙ ap (λ r. r >>= goalRead >>= tests (entries ks os)) r))
+
+  module _ (at before : ℕ) (h : d .answer ≡ Next at before) where
+    first : (a : Got (List Definition)) × (readDefinitions n 0 (entries ks os) ≡ got a) × (a .next ≡ at) × (definitionsNodes (a .value) ≡ before)
+    first = checked-next definitionsNodes (readDefinitions n 0 (entries ks os)) at before (sym (kept .answer) ∙ h)
+
+    facts : AllDefined ks os n 0 (first .0)
+    facts = all-defined ks os n 0 (entries ks os) refl (first .0) (first .1)
+
+    -- the nodes of the definitions and of an expression behind them
+    module _ (left : ℕ) (scope : List ℕ) (q : Checked) (eq : q ≡ checkedExp (readExp left scope at (entriesFrom ks os at)))
+        (end nodes : ℕ) (w : q ≡ Next end nodes) where
+      pub all-few : length ks ≤ 512 → before + nodes + 1 < 4096
+      all-few l =
+          let f = next-few ks os left scope at q eq end nodes w in
+          let x = f .0 in
+          let y = f .1 in
+          let u = facts .few in
+          let v = first .2 in
+          let z = first .3 in
+          omega arith
+
+      pub sum-few : length ks ≤ 512 → before + nodes < 4096
+      sum-few l = let x = all-few l in omega arith
+
+    -- what is left when the definitions are read
+    goal : readEntries n (entries ks os) ≡ (readExp 24 (levels 0) at (entriesFrom ks os at) >>= whole (first .0 .value) >>= tests (entries ks os))
+    unfolding goalRead levels _>>=_
+    goal =
+        entries-opened n (entries ks os)
+        ∙ ap (λ r. r >>= goalRead >>= tests (entries ks os)) (first .1)
+        ∙ ap₂ (λ i l. readExp 24 [] i l >>= whole (first .0 .value) >>= tests (entries ks os)) (first .2)
+        (facts .rest ∙ ap (λ i. entriesFrom ks os i) (first .2))
+
+    counts : take n (d .formals) ≡ formalsOf (first .0 .value)
+    unfolding formalsRead
+    counts =
+        let many = ap (λ r. length (formalsRead r)) (first .1) ∙ formals-length (first .0 .value) ∙ facts .many in
+        ap (λ i. take i (d .formals)) (sym many) ∙ kept .formals ∙ ap formalsRead (first .1)
+
+    module _ (q : Checked) (eq : q ≡ checkedExp (readExp 24 (levels 0) at (entriesFrom ks os at))) where
+      pub goal-refused : (k e : ℕ) → q ≡ Refused k e → Answers (Refused k e)
+      unfolding _>>=_ checked
+      goal-refused k e w =
+          let r = checked-refused size (readExp 24 (levels 0) at (entriesFrom ks os at)) k e (sym eq ∙ w) in
+          sym (ap checkedProgram (goal ∙ ap (λ r. r >>= whole (first .0 .value) >>= tests (entries ks os)) r))
+
+      pub program-done : (end nodes : ℕ) (u v x r : Checked) → q ≡ Next end nodes
+          → u ≡ checkedTest (leftovers end (entriesFrom ks os end))
+          → v ≡ checkedTest (definitionsKept (take n (d .formals)) 0 (entries ks os)) → x ≡ afterwards v (Next end (before + nodes + 1))
+          → r ≡ afterwards u x → Answers r
+      unfolding whole _>>=_
+      program-done end nodes u v x r w eu ev ex er =
+          let ds = first .0 .value in
+          let a = checked-next size (readExp 24 (levels 0) at (entriesFrom ks os at)) end nodes (sym eq ∙ w) in
+          let f = exp-from (entries ks os) 24 (levels 0) at (entriesFrom ks os at) (a .0) refl (a .1) in
+          let b = first .3 in
+          let c = a .3 in
+          let sum : definitionsNodes ds + (size (a .0 .value) + 1) ≡ before + nodes + 1 = omega arith in
+          er
+          ∙ ap₂ afterwards eu (ex ∙ ap (λ v. afterwards v (Next end (before + nodes + 1))) ev)
+          ∙ sym (ap checkedProgram (goal ∙ ap (λ r. r >>= whole ds >>= tests (entries ks os)) (a .1))
+          ∙ tests-all (entries ks os) (record { value = record { definitions = ds; goal = a .0 .value }; next = a .0 .next; rest = a .0 .rest })
+          ∙ ap₂ afterwards
+          (ap₂ (λ i l. checkedTest (leftovers i l)) (a .2) (f .rest ∙ ap (λ i. entriesFrom ks os i) (a .2)))
+          (ap₂ afterwards (ap (λ fs. checkedTest (definitionsKept fs 0 (entries ks os))) (sym counts)) (ap₂ (λ i k. Next i k) (a .2) sum)))

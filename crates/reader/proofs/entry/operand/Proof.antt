@@ -1,0 +1,50 @@
+-- `entry::operand` meets its contract: its four bytes lie within the operands, and their number is the lowest byte first. Assumes nothing.
+use borrow.Author.Needs.{needs}
+use Rattle.reader.proofs.Word.{number-at}
+use Rattle.reader.proofs.entry.operand.Statement.{statement}
+use Rattle.reader.proofs.entry.operand.Tie as tie
+
+mul-i : tie.Need-mul-i
+mul-i c = search needs
+
+shared-slice-read-word : tie.Need-shared-slice-read-word
+shared-slice-read-word c = search needs
+
+add-word : tie.Need-add-word
+add-word c = search needs
+
+shared-slice-read-word-2 : tie.Need-shared-slice-read-word-2
+shared-slice-read-word-2 c = search needs
+
+add-word-2 : tie.Need-add-word-2
+add-word-2 c = search needs
+
+shared-slice-read-word-3 : tie.Need-shared-slice-read-word-3
+shared-slice-read-word-3 c = search needs
+
+add-word-3 : tie.Need-add-word-3
+add-word-3 c = search needs
+
+shared-slice-read-word-4 : tie.Need-shared-slice-read-word-4
+shared-slice-read-word-4 c = search needs
+
+word-requires : tie.Need-word-requires
+word-requires c κs = search needs
+
+returns : tie.Need-returns
+returns c = search number-at
+
+pub operand-spec : {M : Type 1} → statement M
+operand-spec =
+    tie.close
+    (tie.spec
+    mul-i
+    shared-slice-read-word
+    add-word
+    shared-slice-read-word-2
+    add-word-2
+    shared-slice-read-word-3
+    add-word-3
+    shared-slice-read-word-4
+    word-requires
+    returns)

@@ -1,0 +1,44 @@
+-- The definitions of a program, as one reading, and what the code keeps of them. Assumes nothing: these are definitions.
+use mathlib.Core.Path.{_≡_}
+use mathlib.Core.List.{List, [], _∷_}
+use Prim.Native.Nat.{ℕ, zero, suc, _+_}
+use lib.ListN.{length, take}
+use Rattle.model.specs.Job.Syntax.{Definition, formalsOf}
+use Rattle.model.specs.Job.Entry.{Entry}
+use Rattle.model.specs.Job.Read.{Read, got, refused, _>>=_, gives, readDefinition}
+use Rattle.model.specs.Job.Construct.{size}
+use Rattle.reader.specs.Checked.{checked}
+use Rattle.reader.specs.declared.checked.Checked.{Checked}
+use Rattle.reader.specs.declared.definition.Definitions.{Definitions}
+
+-- so many definitions, from entry e on
+unfoldable pub readDefinitions : ℕ → ℕ → List Entry → Read (List Definition)
+readDefinitions zero e es = gives [] e es
+readDefinitions (suc n) e es = do
+  d ← readDefinition e es
+  ds ← readDefinitions n (d .next) (d .rest)
+  gives (d .value ∷ ds .value) (ds .next) (ds .rest)
+
+-- the nodes of a definition's body, and its sink
+abbrev pub definitionNodes : Definition → ℕ
+definitionNodes d = 1 + size (d .body)
+
+unfoldable pub definitionsNodes : List Definition → ℕ
+definitionsNodes [] = 0
+definitionsNodes (d ∷ ds) = definitionNodes d + definitionsNodes ds
+
+abbrev pub checkedDefinition : Read Definition → Checked
+checkedDefinition = checked definitionNodes
+
+abbrev pub checkedDefinitions : Read (List Definition) → Checked
+checkedDefinitions = checked definitionsNodes
+
+-- the counts of formals, where the definitions were read
+unfoldable pub formalsRead : Read (List Definition) → List ℕ
+formalsRead (got g) = formalsOf (g .value)
+formalsRead (refused n e) = []
+
+-- the answer, and the counts of formals at the front of the array
+pub record DefinitionsKept (r : Read (List Definition)) (d : Definitions) : Type 0 where
+  pub answer : d .answer ≡ checkedDefinitions r
+  pub formals : take (length (formalsRead r)) (d .formals) ≡ formalsRead r

@@ -1,0 +1,5 @@
+-- The reader's answers, in the words of the definitions of `model`.
+pub mod Checked
+pub mod Fault
+pub mod Join
+pub mod Definitions

@@ -1,0 +1,65 @@
+// One entry: its operand, its row, and what refuses it where an expression is read.
+use model::sites;
+ghost use mathlib.Core.Path.{_≡_};
+ghost use Prim.Native.Nat.{_+_, _*_, _<_, _≤_};
+ghost use lib.ListN.{length, take, drop};
+ghost use Rattle.model.specs.Number.{number};
+ghost use Rattle.model.specs.Job.Entry.{kindOf, rowKept};
+ghost use Rattle.reader.specs.Fault.{expressionFault};
+
+// Four bytes, the lowest first.
+fn word(a: u8, b: u8, c: u8, d: u8) -> u32
+    ensures { λ r. ⌜ r ≡ a + 256 * (b + 256 * (c + 256 * d)) ⌝ }
+{
+    a as u32 + 256 * (b as u32 + 256 * (c as u32 + 256 * d as u32))
+}
+
+// The operand of entry `at`.
+pub fn operand(operands: &[u8], at: usize) -> u32
+    requires { ⌜ (at < 512) × (4 * at + 4 ≤ length (now operands)) ⌝ }
+    ensures { λ r. ⌜ r ≡ number (take 4 (drop (4 * at) (now (operands .entry)))) ⌝ }
+{
+    let i = 4 * at;
+    word(
+        operands[i],
+        operands[i + 1],
+        operands[i + 2],
+        operands[i + 3],
+    )
+}
+
+// Does the operand of an expression's entry keep to its row of the table?
+pub fn row_kept(kind: u8, operand: u32) -> bool
+    requires { ⌜ kind < 6 ⌝ }
+    ensures { λ r. ⌜ r ≡ rowKept (kindOf kind) operand ⌝ }
+{
+    if kind == 1 {
+        return sites::takes(operand % 65536, operand / 65536);
+    }
+    if kind == 2 {
+        return operand / 65536 <= 4;
+    }
+    operand == 0
+}
+
+// The number that refuses an expression's entry by itself, or 0: so many levels of depth are left, so many variables in scope.
+pub fn fault(kind: u8, operand: u32, left: usize, scope: usize) -> u8
+    ensures { λ r. ⌜ r ≡ expressionFault left scope (kindOf kind) operand ⌝ }
+{
+    if 5 < kind {
+        return 3;
+    }
+    if !row_kept(kind, operand) {
+        return 4;
+    }
+    if left == 0 {
+        return 6;
+    }
+    if kind < 4 {
+        return 0;
+    }
+    if 7 < scope {
+        return 7;
+    }
+    0
+}

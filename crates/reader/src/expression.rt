@@ -1,0 +1,89 @@
+// An expression, from its first entry on.
+use crate::checked;
+use crate::checked::Checked;
+use crate::entry;
+use crate::parameter;
+ghost use mathlib.Core.Path.{_≡_};
+ghost use Prim.Native.Nat.{_≤_};
+ghost use Rattle.model.specs.Job.Syntax.{levels};
+ghost use Rattle.model.specs.Job.Read.{readExp};
+ghost use Rattle.reader.specs.Checked.{Parts, entriesFrom, checkedExp};
+ghost use Rattle.reader.specs.Join.{JoinKept};
+
+// "Depth ends at 24".
+pub const DEPTH: usize = 24;
+
+// How many variables are in scope in a join's left and right side, and the nodes that the join makes itself.
+pub struct Sides {
+    pub left: usize,
+    pub right: usize,
+    pub nodes: usize,
+}
+
+// The sides of a join of this kind (3, 4 or 5), where so many variables are in scope.
+pub fn sides_of(kind: u8, scope: usize) -> Sides
+    requires { ⌜ scope ≤ 8 ⌝ }
+    ensures { λ r. ⌜ JoinKept kind scope r ⌝ }
+{
+    if kind == 3 {
+        return Sides {
+            left: scope,
+            right: scope,
+            nodes: 1,
+        };
+    }
+    if kind == 4 {
+        return Sides {
+            left: scope,
+            right: scope + 1,
+            nodes: 2,
+        };
+    }
+    Sides {
+        left: scope + 1,
+        right: scope,
+        nodes: 3,
+    }
+}
+
+// The expression from entry `at` on, where so many levels of depth are left and so many variables in scope.
+pub fn check_expression(
+    kinds: &[u8],
+    operands: &[u8],
+    left: usize,
+    scope: usize,
+    at: usize,
+) -> Checked
+    requires { ⌜ Parts (now kinds) (now operands) ⌝ }
+    requires { ⌜ scope ≤ 8 ⌝ }
+    ensures { λ r. ⌜ r ≡ checkedExp (readExp left (levels scope) at (entriesFrom (now (kinds .entry)) (now (operands .entry)) at)) ⌝ }
+{
+    if kinds.len() <= at {
+        return Checked::Refused(5, at);
+    }
+    let kind = kinds[at];
+    let operand = entry::operand(operands, at);
+    let fault = entry::fault(kind, operand, left, scope);
+    if fault != 0 {
+        return Checked::Refused(fault, at);
+    }
+    if kind == 0 {
+        return Checked::Next(at + 1, 1);
+    }
+    if kind < 3 {
+        let count = operand / 65536;
+        return checked::add_nodes(
+            parameter::check_parameters(kinds, operands, count as usize, scope, at + 1),
+            1,
+        );
+    }
+    let sides = sides_of(kind, scope);
+    let first = check_expression(kinds, operands, left - 1, sides.left, at + 1);
+    match first {
+        Checked::Refused(n, e) => Checked::Refused(n, e),
+        Checked::Next(e, k) => {
+            let second = check_expression(kinds, operands, left - 1, sides.right, e);
+            checked::add_nodes(second, sides.nodes + k)
+        }
+    }
+}

@@ -1,0 +1,48 @@
+// The whole table: definitions, goal, leftovers, calls.
+use crate::calls;
+use crate::checked;
+use crate::checked::Checked;
+use crate::definition;
+use crate::expression;
+ghost use mathlib.Core.Path.{_≡_};
+ghost use Prim.Native.Nat.{_≤_};
+ghost use Rattle.model.specs.Job.Entry.{entries};
+ghost use Rattle.model.specs.Job.Read.{leftovers, readEntries};
+ghost use Rattle.reader.specs.Checked.{Parts, entriesFrom, checkedTest, checkedProgram};
+
+// Does the table end at entry `at`?
+fn check_end(kinds: &[u8], operands: &[u8], at: usize) -> Checked
+    requires { ⌜ Parts (now kinds) (now operands) ⌝ }
+    ensures { λ r. ⌜ r ≡ checkedTest (leftovers at (entriesFrom (now (kinds .entry)) (now (operands .entry)) at)) ⌝ }
+{
+    if at < kinds.len() {
+        return Checked::Refused(5, at);
+    }
+    Checked::Next(at, 0)
+}
+
+// The entries of a table with so many definitions: the first entry behind them and the number of nodes, or the refusal.
+pub fn check_program(kinds: &[u8], operands: &[u8], definitions: usize) -> Checked
+    requires { ⌜ Parts (now kinds) (now operands) ⌝ }
+    requires { ⌜ definitions ≤ 32 ⌝ }
+    ensures { λ r. ⌜ r ≡ checkedProgram (readEntries definitions (entries (now (kinds .entry)) (now (operands .entry)))) ⌝ }
+{
+    let found = definition::check_definitions(kinds, operands, definitions);
+    let answer = found.answer;
+    let formals = found.formals;
+    match answer {
+        Checked::Refused(n, e) => Checked::Refused(n, e),
+        Checked::Next(at, before) => {
+            let goal = expression::check_expression(kinds, operands, expression::DEPTH, 0, at);
+            match goal {
+                Checked::Refused(n, e) => Checked::Refused(n, e),
+                Checked::Next(end, nodes) => {
+                    let unread = check_end(kinds, operands, end);
+                    let calls = calls::check_calls(kinds, operands, formals, definitions);
+                    let whole = Checked::Next(end, before + nodes + 1);
+                    checked::after(unread, checked::after(calls, whole))
+                }
+            }
+        }
+    }
+}
