@@ -8,3 +8,6 @@ pub mod Acts
 pub mod Clean
 pub mod Rules
 pub mod Reached
+pub mod Blocked
+pub mod NotRule
+pub mod Never

@@ -11,3 +11,4 @@ pub mod Abstract
 pub mod Rep
 pub mod Sees
 pub mod Keeps
+pub mod Demand3

@@ -40,7 +40,7 @@ use Rattle.model.proofs.Sees.Others.{token-other}
 use Rattle.model.proofs.Keeps.Lines.{Lines, Taken, taken-ready, taken-inside, lines-gone, lines-back, lines-wait, lines-new, lines-choke}
 use Rattle.model.proofs.Keeps.Orders.{Orders, queue-is, waits-are, orders-with, orders-counts, orders-put, orders-enqueue, orders-token, orders-cell}
 use Rattle.model.proofs.Keeps.Values.{held-fits, Fitting, fitting, waiting, look-fits, SaidFits, said, nothing, builtin-fits}
-use Rattle.model.proofs.Keeps.Tables.{BindsFit, binds-written, formals-fit, Blocked, blocked-as, TokenKept, Tables, Idle, idle-kept, blank-kept, tables-write, tables-wait, tables-call, tables-cell, tables-choke}
+use Rattle.model.proofs.Keeps.Tables.{BindsFit, binds-written, formals-fit, Awaits, awaits-as, TokenKept, Tables, Idle, idle-kept, blank-kept, tables-write, tables-wait, tables-call, tables-cell, tables-choke}
 use Rattle.model.proofs.Keeps.Facts.{Facts}
 
 not-live-ready : (s : State) → isLive s ≡ false → isReady s ≡ false
@@ -291,7 +291,7 @@ module _ (lim : Limits) (d : Dag) (m : Machine) (F : Facts lim d m) (some : 0 < 
         own = record { parent = acting .cell; value = helds.Nothing }
 
   -- site calls
-  waited : (c : ℕ) → Blocked d (m .cells) acting c → Keeps (Step.waited at p acting c)
+  waited : (c : ℕ) → Awaits d (m .cells) acting c → Keeps (Step.waited at p acting c)
   unfolding After Step.waited Step.put Step.withTables withOrders Step.being
   waited c b =
       record {
@@ -312,7 +312,7 @@ module _ (lim : Limits) (d : Dag) (m : Machine) (F : Facts lim d m) (some : 0 < 
               node = was .node;
               value = was .value;
               binds = was .binds;
-              waits = λ a e. subst (Blocked d (m .cells) u) (let z : c ≡ a = cc in z) (blocked-as refl refl refl (b .unset) b);
+              waits = λ a e. subst (Awaits d (m .cells) u) (let z : c ≡ a = cc in z) (awaits-as refl refl refl (b .unset) b);
               called = λ h e. let z : _≡_ {A = ℕ} 0 1 = cc in absurd (omega arith);
             });
       }

@@ -54,7 +54,7 @@ use Rattle.model.proofs.Sees.Acts as Acts
 use Rattle.model.proofs.Sees.Answering.{holder-called, Pending, pending, find-pending, answered-becomes}
 use Rattle.model.proofs.Sees.Begin.{start-machine-sees}
 use Rattle.model.proofs.Sees.Lockstep as Lockstep
-use Rattle.model.proofs.Sees.Lockstep.{free-token, free-cell, takes-agrees, eventsBy, Steps, steps, step-locks, answer-locks}
+use Rattle.model.proofs.Sees.Lockstep.{free-token, free-cell, takes-agrees, eventsBy, Steps, steps, call-locks}
 use Rattle.model.proofs.Keeps.Lines.{Lines, Taken, take-out, taken-ready, lines-new}
 use Rattle.model.proofs.Keeps.Orders.{Orders, queue-is, waits-are, orders-put, orders-enqueue}
 use Rattle.model.proofs.Keeps.Tables.{Idle, idle-kept, tables-write}
@@ -152,7 +152,10 @@ module _ (lim : Limits) (d : Dag) (M : Labels) (room : Roomy lim) (flow : Flow d
       used = sees-live seen 0 (ap (λ (t : Token). isLive (t .state)) stands)
 
   -- what is blanked
-  finished : (o : Machine) → Facts lim d o × LiveUsed o → Facts lim d (finish o) × Clean (finish o)
+  abbrev Left : Machine → Type 0
+  Left m = Facts lim d m × Clean m
+
+  finished : (o : Machine) → Facts lim d o × LiveUsed o → Left (finish o)
   finished o x = (finish-facts (x .0) (x .1) some, finish-clean o)
 
   module _ (bodies : ℕ → Exp) where
@@ -230,55 +233,50 @@ module _ (lim : Limits) (d : Dag) (M : Labels) (room : Roomy lim) (flow : Flow d
     pub data Reaches (s : Abstract.State) (es : List Event) (m : Machine) : Type 0 where
       reaches : {a : Label} {s′ : Abstract.State} → Abstract.Step (programOf d M bodies) s a s′ → es ≡ shown a [] → Reached lim d M m s′ → Reaches s es m
 
-    joined : {s : Abstract.State} {es : List Event} {m : Machine} → Facts lim d m × Clean m → Steps d M bodies s es m → Reaches s es m
+    joined : {s : Abstract.State} {es : List Event} {m : Machine} → Left m → Steps d M bodies s es m → Reaches s es m
     joined x (steps st e v) = reaches st e (record { view = v; facts = x .0; clean = x .1 })
 
-    pub step-reached : (m : Machine) {s : Abstract.State} → Reached lim d M m s → (k : ℕ) → isRefused (Step.step lim d m k .reply) ≡ false
-        → Reaches s (eventsBy (step k) (Step.step lim d m k)) (Step.step lim d m k .machine)
-    step-reached m r k ok = joined after (step-locks lim d M bodies (fitting room) flow m (r .view) k ok)
-      where
-        a : StepAccepted lim d m k
-        a = step-accepted lim d m k ok
+    -- what an accepted call leaves
+    step-facts : (m : Machine) {s : Abstract.State} → Reached lim d M m s → (k : ℕ) → isRefused (Step.step lim d m k .reply) ≡ false
+        → Left (Step.step lim d m k .machine)
+    step-facts m r k ok =
+        let a = step-accepted lim d m k ok in
+        subst (λ (o : Outcome). Left (o .machine)) (sym (a .does))
+        (after-outcome (λ o. Facts lim d o × LiveUsed o) Left finished m (takes lim d m k) (takes-facts m r k (a .queued))
+        (subst (λ (o : Outcome). isRefused (o .reply) ≡ false) (a .does) ok))
 
-        after : Facts lim d (Step.step lim d m k .machine) × Clean (Step.step lim d m k .machine)
-        after =
-            subst (λ (o : Outcome). Facts lim d (o .machine) × Clean (o .machine)) (sym (a .does))
-            (after-outcome (λ o. Facts lim d o × LiveUsed o) (λ o. Facts lim d o × Clean o) finished m (takes lim d m k)
-            (takes-facts m r k (a .queued))
-            (subst (λ (o : Outcome). isRefused (o .reply) ≡ false) (a .does) ok))
-
-    pub answer-reached : (m : Machine) {s : Abstract.State} → Reached lim d M m s → (h : ℕ) (v : ℤ) (signed : Signed32 v)
-        → isRefused (Answer.answer lim d m h v .reply) ≡ false
-        → Reaches s (eventsBy (answer h v signed) (Answer.answer lim d m h v)) (Answer.answer lim d m h v .machine)
-    answer-reached m r h v signed ok = joined after (answer-locks lim d M bodies (fitting room) flow m (r .view) h v signed ok)
+    answer-facts : (m : Machine) {s : Abstract.State} → Reached lim d M m s → (h : ℕ) (v : ℤ) → Signed32 v
+        → isRefused (Answer.answer lim d m h v .reply) ≡ false → Left (Answer.answer lim d m h v .machine)
+    answer-facts m r h v signed ok =
+        subst (λ (o : Outcome). Left (o .machine)) (sym (a .does))
+        (after-outcome (λ o. Facts lim d o × LiveUsed o) Left finished m (answered m v (holder h 0 (m .tokens)))
+        (go (holder h 0 (m .tokens)) refl)
+        (subst (λ (o : Outcome). isRefused (o .reply) ≡ false) (a .does) ok))
       where
         a : AnswerAccepted lim d m h v
         a = answer-accepted lim d m h v ok
 
-        Left : Effect → Type 0
-        Left = After (λ o. Facts lim d o × LiveUsed o)
+        Good : Effect → Type 0
+        Good = After (λ o. Facts lim d o × LiveUsed o)
 
         found : {name place : ℕ → ℕ} {σ : Store} {new p : ℕ} {S : List Abstract.Token} → tokenAt (m .tokens) p .state ≡ states.Called h
-            → Pending M (world (m .tokens) (m .cells) name place σ new) p h S → Left (answered m v (places.At p))
+            → Pending M (world (m .tokens) (m .cells) name place σ new) p h S → Good (answered m v (places.At p))
         found {p = p} e (pending split others view clear seen) = unfold answered After in
             (answered-facts m (r .facts) v signed p h e, sees-live (answered-becomes m h v others view clear seen .machine))
 
-        from : {s : Abstract.State} → Sees M m s → (p : ℕ) → tokenAt (m .tokens) p .state ≡ states.Called h → Left (answered m v (places.At p))
+        from : {s : Abstract.State} → Sees M m s → (p : ℕ) → tokenAt (m .tokens) p .state ≡ states.Called h → Good (answered m v (places.At p))
         from (seenAs name place A K) p e = found e (find-pending p h K e)
 
-        go : (q : Place) → holder h 0 (m .tokens) ≡ q → Left (answered m v q)
+        go : (q : Place) → holder h 0 (m .tokens) ≡ q → Good (answered m v q)
         go places.Nowhere e = unfold answered After in tt
         go (places.At p) e = from (r .view) p (holder-called h (m .tokens) p e)
 
-        after : Facts lim d (Answer.answer lim d m h v .machine) × Clean (Answer.answer lim d m h v .machine)
-        after =
-            subst (λ (o : Outcome). Facts lim d (o .machine) × Clean (o .machine)) (sym (a .does))
-            (after-outcome (λ o. Facts lim d o × LiveUsed o) (λ o. Facts lim d o × Clean o) finished m (answered m v (holder h 0 (m .tokens)))
-            (go (holder h 0 (m .tokens)) refl)
-            (subst (λ (o : Outcome). isRefused (o .reply) ≡ false) (a .does) ok))
+    pub call-facts : (m : Machine) {s : Abstract.State} → Reached lim d M m s → (c : Call) → isRefused (outcomeOf runner lim d m c .reply) ≡ false
+        → Facts lim d (outcomeOf runner lim d m c .machine) × Clean (outcomeOf runner lim d m c .machine)
+    unfolding outcomeOf
+    call-facts m r (step k) ok = step-facts m r k ok
+    call-facts m r (answer h v signed) ok = answer-facts m r h v signed ok
 
     pub call-reached : (m : Machine) {s : Abstract.State} → Reached lim d M m s → (c : Call) → isRefused (outcomeOf runner lim d m c .reply) ≡ false
         → Reaches s (eventsBy c (outcomeOf runner lim d m c)) (outcomeOf runner lim d m c .machine)
-    unfolding outcomeOf
-    call-reached m r (step k) ok = step-reached m r k ok
-    call-reached m r (answer h v signed) ok = answer-reached m r h v signed ok
+    call-reached m r c ok = joined (call-facts m r c ok) (call-locks lim d M bodies (fitting room) flow m (r .view) c ok)

@@ -1,5 +1,5 @@
 -- What is asked of the tables of tokens and cells beside their view: nodes in range, values signed 32-bit, open handles below the count of calls
--- and different, and a waiting token blocked, that is, at a site call with a parameter bound to the unset cell that it waits at. Each way to write
+-- and different, and a waiting token at a site call with a parameter bound to the unset cell that it waits at. Each way to write
 -- the tables keeps it: one token, an unset cell, a choke, blanking. Assumes nothing.
 use mathlib.Core.Path.{_≡_, refl, sym, _∙_, ap, subst}
 use mathlib.Core.Logic.{_⊎_, inl, inr}
@@ -74,7 +74,7 @@ formals-fit bs ps k f y v e = go (length ps) ps k y e
     go n (p ∷ ps) k (suc y) e = go n ps (all-tail paramKept p ps k) y e
 
 -- a token that waits at the cell c
-pub record Blocked (d : Dag) (cs : List Cell) (t : Token) (c : ℕ) : Type 0 where
+pub record Awaits (d : Dag) (cs : List Cell) (t : Token) (c : ℕ) : Type 0 where
   pub site : ℕ
   pub params : List Param
   pub next : ℕ
@@ -89,7 +89,7 @@ pub record TokenKept (d : Dag) (cs : List Cell) (calls : ℕ) (t : Token) : Type
   pub node : t .node < length (d .nodes)
   pub value : heldInRange (t .value) ≡ true
   pub binds : BindsFit (t .binds)
-  pub waits : (c : ℕ) → t .state ≡ states.Waiting c → Blocked d cs t c
+  pub waits : (c : ℕ) → t .state ≡ states.Waiting c → Awaits d cs t c
   pub called : (h : ℕ) → t .state ≡ states.Called h → h < calls
 
 -- no handle is open twice
@@ -126,9 +126,9 @@ module _ {d : Dag} {cs : List Cell} {calls : ℕ} where
   blank-kept l = idle-kept l refl unbound-fit blank
 
 -- the token's own fields but its state, the length of the cells and the cell's value are what matters
-pub blocked-as : {d : Dag} {cs cs′ : List Cell} {t u : Token} {c : ℕ} → u .node ≡ t .node → u .binds ≡ t .binds → length cs′ ≡ length cs
-    → cellAt cs′ c .value ≡ helds.Nothing → Blocked d cs t c → Blocked d cs′ u c
-blocked-as {d} n b l v k =
+pub awaits-as : {d : Dag} {cs cs′ : List Cell} {t u : Token} {c : ℕ} → u .node ≡ t .node → u .binds ≡ t .binds → length cs′ ≡ length cs
+    → cellAt cs′ c .value ≡ helds.Nothing → Awaits d cs t c → Awaits d cs′ u c
+awaits-as {d} n b l v k =
     record {
       site = k .site;
       params = k .params;
@@ -150,7 +150,7 @@ token-cells l k f t =
       node = t .node;
       value = t .value;
       binds = t .binds;
-      waits = λ c e. let b = t .waits c e in blocked-as refl refl l (f c e (b .inside) (b .unset)) b;
+      waits = λ c e. let b = t .waits c e in awaits-as refl refl l (f c e (b .inside) (b .unset)) b;
       called = λ h e. let z = t .called h e in omega arith;
     }
 

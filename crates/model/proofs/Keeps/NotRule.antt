@@ -1,0 +1,170 @@
+-- A call on a record that keeps the index rules is not refused with 14: the instruction table refuses so only at no node, at return without a
+-- frame and at choke without a cell, and the rules leave none of these. Assumes nothing.
+use mathlib.Core.Path.{_≡_, refl, sym, _∙_, ap, subst}
+use mathlib.Core.Bool.{Bool, true, false}
+use mathlib.Core.List.{List}
+use Prim.Native.Nat.{ℕ, _<_}
+use native.Mathlib.Omega.{arith}
+use lib.ListN.{length, getD}
+use lib.Dec.{ltb}
+use lib.IntN.{ℤ}
+use Rattle.model.specs.Test.{_and_}
+use Rattle.model.specs.Site.{Said, gives, silent, isBuiltin, builtin}
+use Rattle.model.specs.Job.Node.{Node, Dag, nodeAt, nodeKept}
+use Rattle.model.specs.Machine.Limits.{Limits}
+use Rattle.model.specs.Machine.Blank.{blankToken, tokenAt, isPlace, isBlankState}
+use Rattle.model.specs.Machine.Rules.{isReady, namesFrame, nodeRule, atNode, rulesKept}
+use Rattle.model.specs.Machine.Reply.{Effect, moves, waits, publishes, calls, refuses, unless, accepted, outcome}
+use Rattle.model.specs.Machine.Step as Step
+use Rattle.model.specs.Machine.Step.{Looked, values, unset, withOrders, act, takes}
+use Rattle.model.specs.Machine.Answer as Answer
+use Rattle.model.specs.Machine.Answer.{holder, answered}
+use Rattle.model.specs.Run.Call.{Call, step, answer, runner, outcomeOf}
+use Rattle.model.specs.declared.token.Place.{Place}
+use Rattle.model.specs.declared.token.Place.the-variants as places
+use Rattle.model.specs.declared.token.State.{State}
+use Rattle.model.specs.declared.token.State.the-variants as states
+use Rattle.model.specs.declared.token.Token.{Token}
+use Rattle.model.specs.declared.record.Machine.{Machine}
+use Rattle.model.specs.declared.reply.Refusal.{Refusal}
+use Rattle.model.specs.declared.reply.Refusal.the-variants as refusals
+use Rattle.model.specs.declared.reply.Reply.{Reply}
+use Rattle.model.specs.declared.reply.Reply.the-variants as replies
+use Rattle.model.specs.declared.reply.Outcome.{Outcome}
+use Rattle.model.proofs.Test.{clash, ltb-lt, and-left, all-at}
+use Rattle.model.proofs.Job.Rules.{node-rules}
+use Rattle.model.proofs.Machine.Rules.{RulesKept, rules-kept}
+use Rattle.model.proofs.Run.Queue.{QueueKept, queue-kept}
+use Rattle.model.proofs.Sees.Lockstep.{at-node}
+
+-- an effect that is not a refusal with 14
+unfoldable pub NotRule : Effect → Type 0
+NotRule (moves m) = Unit
+NotRule (waits m) = Unit
+NotRule (publishes v m) = Unit
+NotRule (calls h s vs m) = Unit
+NotRule (refuses r) = r ≡ refusals.Rule → ⊥
+
+unless-not : (b : Bool) (r : Refusal) (e : Effect) → (r ≡ refusals.Rule → ⊥) → (b ≡ true → NotRule e) → NotRule (unless b r e)
+unfolding unless NotRule
+unless-not true r e n f = f refl
+unless-not false r e n f = n
+
+outcome-not : (m : Machine) (e : Effect) → NotRule e → outcome m e .reply ≡ replies.Refused refusals.Rule → ⊥
+unfolding NotRule outcome accepted
+outcome-not m (moves o) n e = let z : _≡_ {A = ℕ} 0 1 = cc in omega arith
+outcome-not m (waits o) n e = let z : _≡_ {A = ℕ} 0 1 = cc in omega arith
+outcome-not m (publishes v o) n e = let z : _≡_ {A = ℕ} 0 1 = cc in omega arith
+outcome-not m (calls h s vs o) n e = let z : _≡_ {A = ℕ} 0 1 = cc in omega arith
+outcome-not m (refuses r) n e = n (let z : r ≡ refusals.Rule = cc in z)
+
+token-limit : refusals.TokenLimit ≡ refusals.Rule → ⊥
+token-limit e = let z : _≡_ {A = ℕ} 0 1 = cc in omega arith
+
+cell-limit : refusals.CellLimit ≡ refusals.Rule → ⊥
+cell-limit e = let z : _≡_ {A = ℕ} 0 1 = cc in omega arith
+
+call-limit : refusals.CallLimit ≡ refusals.Rule → ⊥
+call-limit e = let z : _≡_ {A = ℕ} 0 1 = cc in omega arith
+
+no-token : refusals.NoToken ≡ refusals.Rule → ⊥
+no-token e = let z : _≡_ {A = ℕ} 0 1 = cc in omega arith
+
+not-open : refusals.NotOpen ≡ refusals.Rule → ⊥
+not-open e = let z : _≡_ {A = ℕ} 0 1 = cc in omega arith
+
+-- instructions
+module _ (lim : Limits) (d : Dag) (before m : Machine) (p : ℕ) (t : Token) where
+  replied-not : (k : ℕ) (s : Said) → NotRule (Step.replied m p t k s)
+  unfolding NotRule Step.replied Step.goesOn
+  replied-not k (gives v) = tt
+  replied-not k silent = tt
+
+  site-not : (s k : ℕ) (l : Looked) → NotRule (Step.callSite lim d m p t s k l)
+  unfolding NotRule Step.callSite Step.waited Step.calledOut
+  site-not s k (unset c) = tt
+  site-not s k (values vs) = go (isBuiltin s)
+    where
+      go : (b : Bool)
+          → NotRule
+          (elim b [
+            | true ↦ Step.replied m p t k (builtin s vs)
+            | false ↦ unless (ltb (m .calls) (lim .calls)) refusals.CallLimit (Step.calledOut m p t s vs k)
+          ])
+      go true = replied-not k (builtin s vs)
+      go false = unless-not _ _ _ call-limit (λ e. tt)
+
+  return-not : (ts : List Token) (f : Place) → namesFrame ts f ≡ true → NotRule (Step.returned m p t f)
+  unfolding NotRule namesFrame Step.returned Step.goesOn
+  return-not ts places.Nowhere e = clash e refl
+  return-not ts (places.At f) e = tt
+
+  choke-not : (c : Place) → isPlace c ≡ true → NotRule (Step.chokes m p t c)
+  unfolding NotRule isPlace Step.chokes
+  choke-not places.Nowhere e = clash e refl
+  choke-not (places.At c) e = tt
+
+  act-not : (ts : List Token) (N : Node) → nodeKept d N ≡ true → nodeRule ts t N ≡ true → NotRule (act lim d before m p t N)
+  unfolding NotRule act nodeKept nodeRule Step.goesOn Step.forked Step.split Step.entered
+  act-not ts Node.stop k r = tt
+  act-not ts Node.publish k r = tt
+  act-not ts (Node.fork a b) k r = unless-not _ _ _ token-limit (λ e. tt)
+  act-not ts (Node.assign x j) k r = tt
+  act-not ts (Node.remove x j) k r = tt
+  act-not ts (Node.where' x a b) k r = unless-not _ _ _ token-limit (λ e. unless-not _ _ _ cell-limit (λ f. tt))
+  act-not ts (Node.site s ps j) k r = site-not s j _
+  act-not ts (Node.call e ps j) k r = unless-not _ _ _ token-limit (λ e. tt)
+  act-not ts Node.return k r = return-not ts (t .caller) (and-left _ _ r)
+  act-not ts Node.choke k r = choke-not (t .cell) (and-left _ _ r)
+  act-not ts Node.unknown k r = clash k refl
+
+ready-at : (d : Dag) (ts : List Token) (t : Token) → isReady (t .state) ≡ true → atNode d ts t ≡ true → nodeRule ts t (nodeAt d (t .node)) ≡ true
+unfolding atNode
+ready-at d ts t r e = go (t .state) refl
+  where
+    at : (b : Bool) → isBlankState (t .state) ≡ b → b ≡ false → nodeRule ts t (nodeAt d (t .node)) ≡ true
+    at true x y = clash refl y
+    at false x y = rw (x, atNode) at e
+
+    go : (s : State) → t .state ≡ s → nodeRule ts t (nodeAt d (t .node)) ≡ true
+    go states.Blank x = unfold isReady in clash r (ap isReady x)
+    go states.Ready x = at (isBlankState (t .state)) refl (unfold isBlankState in ap isBlankState x)
+    go (states.Waiting c) x = unfold isReady in clash r (ap isReady x)
+    go (states.Called h) x = unfold isReady in clash r (ap isReady x)
+    go states.Frame x = unfold isReady in clash r (ap isReady x)
+
+module _ (lim : Limits) (d : Dag) (m : Machine) (kept : rulesKept lim d m ≡ true) where
+  takes-not : (k : ℕ) → k < m .queued → NotRule (takes lim d m k)
+  unfolding takes tokenAt
+  takes-not k l =
+      act-not lim d m _ p t (m .tokens) (nodeAt d (t .node))
+      (node-rules d (t .node) (rules .dag) (at-node lim d m kept p (queue .named k l)))
+      (ready-at d (m .tokens) t (queue .ready k l) (all-at (atNode d (m .tokens)) (m .tokens) p blankToken (rules .nodes) (queue .named k l)))
+    where
+      rules : RulesKept lim d m
+      rules = rules-kept lim d m kept
+
+      queue : QueueKept m
+      queue = queue-kept lim d m kept
+
+      p : ℕ
+      p = getD (m .queue) k 0
+
+      t : Token
+      t = tokenAt (m .tokens) p
+
+  tested : (e : Effect) → NotRule e → NotRule (unless (rulesKept lim d m) refusals.Rule e)
+  unfolding unless
+  tested e n = rw (kept, unless) n
+
+  answered-not : (v : ℤ) (q : Place) → NotRule (answered m v q)
+  unfolding NotRule answered
+  answered-not v places.Nowhere = not-open
+  answered-not v (places.At p) = tt
+
+  -- no call is refused with 14
+  pub not-rule : (c : Call) → outcomeOf runner lim d m c .reply ≡ replies.Refused refusals.Rule → ⊥
+  unfolding outcomeOf Step.step Answer.answer
+  not-rule (step k) =
+      outcome-not m _ (tested _ (unless-not (ltb k (m .queued)) refusals.NoToken (takes lim d m k) no-token (λ l. takes-not k (ltb-lt k (m .queued) l))))
+  not-rule (answer h v fits) = outcome-not m _ (tested _ (answered-not v (holder h 0 (m .tokens))))

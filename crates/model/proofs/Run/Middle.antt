@@ -1,0 +1,173 @@
+-- Demand 3, middle part: each list allowed for a table is shown by some run without refused calls, at limits large enough and at all larger ones.
+-- The abstract machine shows the list in some number of steps; a step adds at most one token, one cell and one call, so limits above that number leave
+-- room for each, and the concrete machine follows. Assumes nothing.
+use mathlib.Core.Path.{_≡_, refl, sym, subst}
+use mathlib.Core.Bool.{Bool, true, false}
+use mathlib.Core.List.{List}
+use Prim.Native.Nat.{ℕ, zero, suc, _+_, _<_, _≤_}
+use native.Mathlib.Omega.{arith}
+use lib.ListN.{length}
+use Rattle.model.specs.Job.Syntax.{Program}
+use Rattle.model.specs.Job.WellFormed.{WellFormed}
+use Rattle.model.specs.Job.Node.{Dag, dagKept}
+use Rattle.model.specs.Job.Construct.{construct}
+use Rattle.model.specs.Machine.Limits.{Limits, limits}
+use Rattle.model.specs.Machine.InUse.{marked, tokensUsed, cellsUsed}
+use Rattle.model.specs.Machine.Reply.{isRefused}
+use Rattle.model.specs.Machine.Start.{startMachine}
+use Rattle.model.specs.Machine.Step.{hasTokenPlace, hasCellPlace}
+use Rattle.model.specs.Calculus.Event.{Event, Label, silently, showing}
+use Rattle.model.specs.Calculus.Expression.{Exp}
+use Rattle.model.specs.Calculus.Allowed.{Allowed, nextHandle}
+use Rattle.model.specs.Run.Meaning.{meaning}
+use Rattle.model.specs.Run.Call.{Call, step, answer, runner, outcomeOf, noneRefused, eventsFrom}
+use Rattle.model.specs.Run.Demand3.{Shown, Middle}
+use Rattle.model.specs.declared.record.Machine.{Machine}
+use Rattle.model.specs.declared.reply.Outcome.{Outcome}
+use Rattle.model.proofs.Test.{lt-ltb}
+use Rattle.model.proofs.Job.Accepted.{accepted-well-formed}
+use Rattle.model.proofs.Job.Kept.{construct-kept}
+use Rattle.model.proofs.Job.Begins.{start-machine}
+use Rattle.model.proofs.Machine.Begin.{start-one-token, start-no-cell}
+use Rattle.model.proofs.Machine.Larger.{UsedAtMost, step-adds, answer-adds}
+use Rattle.model.proofs.Abstract.Machine as Abstract
+use Rattle.model.proofs.Abstract.Machine.{startAt, handleOf}
+use Rattle.model.proofs.Abstract.Complete.{complete}
+use Rattle.model.proofs.Sees.Labels.{Labels, programOf, Flow}
+use Rattle.model.proofs.Sees.Labelling.{labelsOf}
+use Rattle.model.proofs.Sees.Flowing.{construct-flows}
+use Rattle.model.proofs.Sees.Sees.{Sees, seenAs}
+use Rattle.model.proofs.Sees.Room.{Room}
+use Rattle.model.proofs.Sees.Back.{Ready}
+use Rattle.model.proofs.Sees.Following.{stepsOf, Keeps, Does, does, run-followed}
+use Rattle.model.proofs.Sees.Lockstep.{fitting}
+use Rattle.model.proofs.Keeps.Reached.{Reached, Roomy, limits-roomy, start-reached, Reaches, reaches, call-reached}
+use Rattle.model.proofs.Keeps.Blocked.{reached-ready}
+
+-- a step raises the next handle by one at most
+next-handle : (a : Label) (h : ℕ) → nextHandle a h ≤ suc h
+unfolding nextHandle
+next-handle silently h = omega arith
+next-handle (showing (Event.publish v)) h = omega arith
+next-handle (showing (Event.call k s vs)) h = omega arith
+next-handle (showing (Event.answer k v)) h = omega arith
+
+handle-after : (L R : List Abstract.Token) (σ : Abstract.Store) (new h : ℕ) (x : Abstract.Effect)
+    → handleOf (Abstract.after L R σ new h x) ≤ suc h
+handle-after L R σ new h (Abstract.makes a N) = next-handle a h
+handle-after L R σ new h (Abstract.sets c v) = omega arith
+
+handle-step : {G : Abstract.Program} {s s′ : Abstract.State} {a : Label} → Abstract.Step G s a s′ → handleOf s′ ≤ suc (handleOf s)
+handle-step {G} (Abstract.step {t = t} {L = L} {R = R} {σ = σ} {new = new} {h = h} m split) =
+    handle-after L R σ new h (Abstract.effect G σ new h t m)
+
+-- the next handle is the count of calls
+handle-seen : {M : Labels} {m : Machine} {s : Abstract.State} → Sees M m s → handleOf s ≡ m .calls
+handle-seen (seenAs name place A K) = refl
+
+-- what a call adds to those in use
+call-adds : (lim : Limits) (d : Dag) (m : Machine) (c : Call) → isRefused (outcomeOf runner lim d m c .reply) ≡ false
+    → UsedAtMost (outcomeOf runner lim d m c .machine) (suc (marked (tokensUsed m))) (suc (marked (cellsUsed m)))
+unfolding outcomeOf
+call-adds lim d m (step k) ok = step-adds lim d m k ok
+call-adds lim d m (answer h v signed) ok = let x = answer-adds lim d m h v ok in (let z = x .0 in omega arith, (let z = x .1 in omega arith))
+
+module _ (lim : Limits) (d : Dag) (M : Labels) (bodies : ℕ → Exp) (room : Roomy lim) (flow : Flow d M) (dag : dagKept d ≡ true) where
+  -- a record of a run with room for n more steps
+  record Spare (n : ℕ) (m : Machine) : Type 0 where
+    state : Abstract.State
+    reached : Reached lim d M m state
+    tokens : marked (tokensUsed m) + n ≤ lim .tokens
+    cells : marked (cellsUsed m) + n ≤ lim .cells
+    calls : m .calls + n ≤ lim .calls
+
+  spare-room : (n : ℕ) (m : Machine) → Spare (suc n) m → Room lim d m
+  unfolding hasTokenPlace hasCellPlace
+  spare-room n m x =
+      let t = x .tokens in let c = x .cells in let k = x .calls in
+      record {
+        tokens = lt-ltb (marked (tokensUsed m)) (lim .tokens) (omega arith);
+        cells = lt-ltb (marked (cellsUsed m)) (lim .cells) (omega arith);
+        calls = omega arith;
+      }
+
+  spare-call : (n : ℕ) (m : Machine) (c : Call) → Spare (suc n) m → isRefused (outcomeOf runner lim d m c .reply) ≡ false
+      → Spare n (outcomeOf runner lim d m c .machine)
+  spare-call n m c x ok = go (call-reached lim d M room flow dag bodies m (x .reached) c ok)
+    where
+      m′ : Machine
+      m′ = outcomeOf runner lim d m c .machine
+
+      adds : UsedAtMost m′ (suc (marked (tokensUsed m))) (suc (marked (cellsUsed m)))
+      adds = call-adds lim d m c ok
+
+      go : {es : List Event} → Reaches lim d M room flow dag bodies (x .state) es m′ → Spare n m′
+      go (reaches {s′ = s′} st e r) =
+          let h : handleOf s′ ≤ suc (handleOf (x .state)) = handle-step st in
+          let new : handleOf s′ ≡ m′ .calls = handle-seen (r .view) in
+          let old : handleOf (x .state) ≡ m .calls = handle-seen (x .reached .view) in
+          let t = x .tokens in let c = x .cells in let k = x .calls in
+          let a = adds .0 in let b = adds .1 in
+          record { state = s′; reached = r; tokens = omega arith; cells = omega arith; calls = omega arith }
+
+  spare-keeps : Keeps lim d M bodies Spare
+  spare-keeps =
+      record {
+        ready = λ n m x. reached-ready lim d M room flow dag (x .reached) (spare-room n m x);
+        stay = λ n m x.
+            (let t = x .tokens in let c = x .cells in let k = x .calls in
+            record { state = x .state; reached = x .reached; tokens = omega arith; cells = omega arith; calls = omega arith });
+        call = λ n m c x v ok w. spare-call n m c x ok;
+      }
+
+module _ (p : Program) (w : WellFormed p) {events : List Event} {s : Abstract.State}
+    (r : Abstract.Run (programOf (construct p) (labelsOf p) (meaning p .body)) (startAt (construct p .goal)) events s) where
+  shown-at : (t c k : ℕ) → suc (stepsOf r) ≤ t → suc (stepsOf r) ≤ c → stepsOf r ≤ k → Shown runner p events t c k
+  shown-at t c k at ac ak =
+      subst (λ m. Run lim m) (sym (start-machine lim p w)) (from (run-followed lim d M bodies (fitting t c k) flow (Spare lim d M bodies room flow dag) (spare-keeps lim d M bodies room flow dag) m r (begun .view) spare))
+    where
+      lim : Limits
+      lim = limits t c k
+
+      d : Dag
+      d = construct p
+
+      M : Labels
+      M = labelsOf p
+
+      bodies : ℕ → Exp
+      bodies = meaning p .body
+
+      m : Machine
+      m = startMachine lim (d .goal)
+
+      room : Roomy lim
+      room = limits-roomy t c k (omega arith) (omega arith)
+
+      flow : Flow d M
+      flow = construct-flows p w
+
+      dag : dagKept d ≡ true
+      dag = construct-kept p w
+
+      begun : Reached lim d M m (startAt (d .goal))
+      begun = start-reached lim d M room flow dag
+
+      spare : Spare lim d M bodies room flow dag (stepsOf r) m
+      spare =
+          let one : marked (tokensUsed m) ≡ 1 = start-one-token lim (d .goal) (omega arith) in
+          let none : marked (cellsUsed m) ≡ 0 = start-no-cell lim (d .goal) in
+          record { state = startAt (d .goal); reached = begun; tokens = omega arith; cells = omega arith; calls = omega arith }
+
+      -- calls on a machine, none refused, that show the list
+      Run : Limits → Machine → Type 0
+      Run l o = (calls : List Call) × (noneRefused runner l d o calls ≡ true) × (eventsFrom runner l d o calls ≡ events)
+
+      from : Does lim d M bodies m events → Run lim m
+      from (does calls fine same) = (calls, fine, same)
+
+pub allowed-lists-are-shown : Middle runner
+allowed-lists-are-shown table p e events allowed =
+    let w = accepted-well-formed table p e in
+    let r = complete p w allowed .1 in
+    (suc (stepsOf r), suc (stepsOf r), stepsOf r, λ t c k at ac ak. shown-at p w r t c k at ac ak)
