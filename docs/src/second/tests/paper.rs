@@ -102,11 +102,13 @@ fn balanced(leaves: usize) -> Expr {
 
 #[test]
 fn entries() {
-    // 255 rows of forks and stops, 257 more in a second half with one call of one parameter.
+    // 255 rows of forks and stops, 257 more with one call of one parameter. By rounds of the
+    // queue: 1, 2 and 4 tokens act (7 steps, 7 tokens); 6 fork and one publishes (14 steps,
+    // 12 tokens); 12 fork, 24 fork (50 steps, 48 tokens); 16 more fork and all places are taken.
     let full = fork(balanced(128), fork(balanced(127), give(Const(1))));
     let program = Program::new(full);
     assert_eq!(program.rows().len(), 512);
-    assert_eq!(lines(program), "refused 10\nend 63\n");
+    assert_eq!(lines(program), "publish 1\nrefused 10\nend 66\n");
     let more = fork(balanced(128), balanced(129));
     let program = Program::new(more);
     assert_eq!(program.rows().len(), 513);
