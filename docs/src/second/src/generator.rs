@@ -551,20 +551,32 @@ fn edges_of_tables() -> Vec<Vec<u8>> {
         let bound = (0..binders).fold(inner, |inner, _| prune(inner, signal()));
         cases.push(Program::new(bound).bytes());
     }
-    // 32 definitions of 15 rows, and a goal that fills the table or overfills it by one.
-    for goal in [32, 33] {
-        let body = (0..7).fold(signal(), |inner, _| fork(signal(), inner));
-        let definitions: Vec<_> = vec![(0, body); MOST_DEFINITIONS - 2];
-        let mut rows = Program { definitions, goal: Expr::Stop }.rows();
-        rows.pop();
-        rows.extend((1..goal / 2).flat_map(|_| [(3, 0), (0, 0)]));
-        rows.extend(match goal % 2 {
-            0 => vec![(1, 0x0001_0010), (8, 7)],
-            _ => vec![(3, 0), (0, 0), (1, 3 << 0)],
-        });
-        cases.push(encode(MOST_DEFINITIONS as u16 - 2, &rows));
+    // 32 definitions of 14 rows, and a goal that fills the table or overfills it by one.
+    for goal in [64, 65] {
+        let body = (0..6).fold(signal(), |inner, _| fork(signal(), inner));
+        let mut rows = Vec::new();
+        for _ in 0..MOST_DEFINITIONS {
+            rows.push((6, 0));
+            rows.extend(Program::new(body.clone()).rows());
+        }
+        rows.extend(Program::new(stops_and_one_call(goal)).rows());
+        cases.push(encode(MOST_DEFINITIONS as u16, &rows));
     }
     cases
+}
+
+/// Stops side by side and, where the number of rows asks for it, a call with one parameter.
+fn stops_and_one_call(rows: usize) -> Expr {
+    match rows {
+        1 => Expr::Stop,
+        2 => Expr::Site(16, vec![Param::Const(7)]),
+        _ => {
+            // Halves keep it flat; the left side always has an odd number of rows.
+            let left = (rows / 2) | 1;
+            let left = if left + 1 < rows { left } else { 1 };
+            fork(stops_and_one_call(left), stops_and_one_call(rows - 1 - left))
+        }
+    }
 }
 
 /// F0() = signal(), Fk() = F(k-1)() >x> F(k-1)(). One token runs, with k frames at most, and a

@@ -1,7 +1,8 @@
 //! `generate SEED COUNT [--report]`: writes so many cases to standard output, in the format of
 //! `cases`. With --report it also runs them, and tells on standard error how often each line
-//! occurs, and for the refusals of tables at how many different entries.
+//! occurs, for the refusals of tables at how many different entries, and what happens inside.
 
+use second::coverage::{Coverage, HAPPENINGS};
 use second::{cases, generator, lines};
 use std::collections::{BTreeMap, BTreeSet};
 use std::io::{self, Write};
@@ -22,7 +23,7 @@ fn main() -> ExitCode {
         return ExitCode::FAILURE;
     }
     if report {
-        eprint!("{}", Tally::of(&made).report());
+        eprint!("{}\n{}", Tally::of(&made).report(), happenings(&made));
     }
     ExitCode::SUCCESS
 }
@@ -40,7 +41,14 @@ fn write(made: &[Vec<u8>]) -> io::Result<()> {
     io::stdout().write_all(&file)
 }
 
-/// For each kind of line: how often, in how many cases, and with which last words.
+fn happenings(made: &[Vec<u8>]) -> String {
+    let mut coverage = Coverage::default();
+    made.iter().for_each(|case| coverage.add(case));
+    let count = |happening| coverage.counts.get(happening).copied().unwrap_or(0);
+    HAPPENINGS.iter().map(|happening| format!("{happening:<38} {:>9}\n", count(happening))).collect()
+}
+
+/// For each kind of line: how often, in how many cases, and for tables at which entries.
 #[derive(Default)]
 struct Tally {
     lines: BTreeMap<String, usize>,
