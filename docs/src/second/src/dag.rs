@@ -15,12 +15,33 @@ pub enum Node {
     /// No node at all; no table makes it, and the index rules refuse it.
     Unknown,
     Stop,
-    SiteCall { site: u32, parameters: Vec<Parameter>, next: usize },
-    DefinitionCall { definition: usize, parameters: Vec<Parameter>, next: usize },
-    Fork { left: usize, right: usize },
-    Assign { variable: usize, next: usize },
-    Remove { variable: usize, next: usize },
-    Where { variable: usize, left: usize, right: usize },
+    SiteCall {
+        site: u32,
+        parameters: Vec<Parameter>,
+        next: usize,
+    },
+    DefinitionCall {
+        definition: usize,
+        parameters: Vec<Parameter>,
+        next: usize,
+    },
+    Fork {
+        left: usize,
+        right: usize,
+    },
+    Assign {
+        variable: usize,
+        next: usize,
+    },
+    Remove {
+        variable: usize,
+        next: usize,
+    },
+    Where {
+        variable: usize,
+        left: usize,
+        right: usize,
+    },
     Choke,
     Return,
     Publish,
@@ -29,7 +50,9 @@ pub enum Node {
 impl Node {
     pub fn parameters(&self) -> &[Parameter] {
         match self {
-            Node::SiteCall { parameters, .. } | Node::DefinitionCall { parameters, .. } => parameters,
+            Node::SiteCall { parameters, .. } | Node::DefinitionCall { parameters, .. } => {
+                parameters
+            }
             _ => &[],
         }
     }
@@ -41,7 +64,9 @@ impl Node {
             | Node::DefinitionCall { next, .. }
             | Node::Assign { next, .. }
             | Node::Remove { next, .. } => [Some(next), None],
-            Node::Fork { left, right } | Node::Where { left, right, .. } => [Some(left), Some(right)],
+            Node::Fork { left, right } | Node::Where { left, right, .. } => {
+                [Some(left), Some(right)]
+            }
             Node::Unknown | Node::Stop | Node::Choke | Node::Return | Node::Publish => [None, None],
         }
     }
@@ -97,16 +122,28 @@ pub fn build(table: &Table) -> Dag {
     while let Some((entry, next)) = todo.pop() {
         write(table, &numbers, entry, next, &mut nodes, &mut todo);
     }
-    Dag { nodes, definitions: definitions(table, &numbers), goal: begin(table, &numbers, table.goal) }
+    Dag {
+        nodes,
+        definitions: definitions(table, &numbers),
+        goal: begin(table, &numbers, table.goal),
+    }
 }
 
 fn bodies(table: &Table) -> Vec<Body> {
     let mut bodies: Vec<Body> = table
         .definitions
         .iter()
-        .map(|&start| Body { start: start + 1, end: table.behind[start], sink: Node::Return })
+        .map(|&start| Body {
+            start: start + 1,
+            end: table.behind[start],
+            sink: Node::Return,
+        })
         .collect();
-    bodies.push(Body { start: table.goal, end: table.entries.len(), sink: Node::Publish });
+    bodies.push(Body {
+        start: table.goal,
+        end: table.entries.len(),
+        sink: Node::Publish,
+    });
     bodies
 }
 
@@ -116,14 +153,22 @@ fn number(table: &Table, bodies: &[Body]) -> Numbers {
     let mut of_sink = Vec::new();
     let mut total = 0;
     for body in bodies {
-        for entry in body.start..body.end {
-            of_entry[entry] = total;
-            total += nodes_made(&table.entries[entry]);
+        let range = body.start..body.end;
+        for (first, entry) in of_entry[range.clone()]
+            .iter_mut()
+            .zip(&table.entries[range])
+        {
+            *first = total;
+            total += nodes_made(entry);
         }
         of_sink.push(total);
         total += 1;
     }
-    Numbers { of_entry, of_sink, total }
+    Numbers {
+        of_entry,
+        of_sink,
+        total,
+    }
 }
 
 fn nodes_made(entry: &Entry) -> usize {
@@ -169,26 +214,43 @@ fn write(
     match table.entries[entry] {
         Entry::Stop => nodes[own] = Node::Stop,
         Entry::SiteCall { site, count } => {
-            nodes[own] = Node::SiteCall { site, parameters: parameters(table, f, count), next }
+            nodes[own] = Node::SiteCall {
+                site,
+                parameters: parameters(table, f, count),
+                next,
+            }
         }
         Entry::DefinitionCall { definition, count } => {
-            nodes[own] =
-                Node::DefinitionCall { definition, parameters: parameters(table, f, count), next }
+            nodes[own] = Node::DefinitionCall {
+                definition,
+                parameters: parameters(table, f, count),
+                next,
+            }
         }
         Entry::Fork => {
             let g = table.behind[f];
-            nodes[own] = Node::Fork { left: begin(f), right: begin(g) };
+            nodes[own] = Node::Fork {
+                left: begin(f),
+                right: begin(g),
+            };
             todo.extend([(f, next), (g, next)]);
         }
         Entry::Sequence { binds: variable } => {
             let (assign, remove, g) = (own, own + 1, table.behind[f]);
-            nodes[assign] = Node::Assign { variable, next: begin(g) };
+            nodes[assign] = Node::Assign {
+                variable,
+                next: begin(g),
+            };
             nodes[remove] = Node::Remove { variable, next };
             todo.extend([(f, assign), (g, remove)]);
         }
         Entry::Prune { binds: variable } => {
             let (where_, remove, choke, g) = (own, own + 1, own + 2, table.behind[f]);
-            nodes[where_] = Node::Where { variable, left: begin(f), right: begin(g) };
+            nodes[where_] = Node::Where {
+                variable,
+                left: begin(f),
+                right: begin(g),
+            };
             nodes[remove] = Node::Remove { variable, next };
             nodes[choke] = Node::Choke;
             todo.extend([(f, remove), (g, choke)]);
@@ -204,5 +266,8 @@ fn parameters(table: &Table, first: usize, count: usize) -> Vec<Parameter> {
         Entry::Constant(value) => Some(Parameter::Constant(value)),
         _ => None,
     };
-    table.entries[first..first + count].iter().filter_map(one).collect()
+    table.entries[first..first + count]
+        .iter()
+        .filter_map(one)
+        .collect()
 }

@@ -26,8 +26,9 @@ pub fn cases(seed: u64, count: usize) -> Vec<Vec<u8>> {
 
 pub fn any_case(random: &mut Random) -> Vec<u8> {
     match random.below(100) {
-        0..=61 => valid_case(random),
-        62..=94 => damaged_case(random),
+        0..=60 => valid_case(random),
+        61..=91 => damaged_case(random),
+        92..=94 => clash_case(random),
         _ => random_bytes(random),
     }
 }
@@ -66,7 +67,11 @@ impl Writer<'_> {
             _ => random.between(5, MOST_DEFINITIONS),
         };
         let formals = (0..count).map(|_| random.below(5) as u32).collect();
-        Writer { random, formals, callable: 0 }
+        Writer {
+            random,
+            formals,
+            callable: 0,
+        }
     }
 
     /// Without recursion a body calls only definitions before its own.
@@ -117,13 +122,18 @@ impl Writer<'_> {
         let (f, g) = (f.min(budget - 1), (budget - f).max(1));
         let may_bind = (scope as usize) < MOST_IN_SCOPE;
         match self.random.below(20) {
-            0..=4 => fork(self.expr(depth + 1, scope, f), self.expr(depth + 1, scope, g)),
-            5..=10 if may_bind => {
-                sequence(self.expr(depth + 1, scope, f), self.expr(depth + 1, scope + 1, g))
-            }
-            11..=16 if may_bind => {
-                prune(self.expr(depth + 1, scope + 1, f), self.expr(depth + 1, scope, g))
-            }
+            0..=4 => fork(
+                self.expr(depth + 1, scope, f),
+                self.expr(depth + 1, scope, g),
+            ),
+            5..=10 if may_bind => sequence(
+                self.expr(depth + 1, scope, f),
+                self.expr(depth + 1, scope + 1, g),
+            ),
+            11..=16 if may_bind => prune(
+                self.expr(depth + 1, scope + 1, f),
+                self.expr(depth + 1, scope, g),
+            ),
             17 if may_bind => self.race(depth, scope),
             18 if may_bind => self.pass_unset(depth, scope, g),
             _ => self.leaf(scope),
@@ -254,14 +264,17 @@ impl Writer<'_> {
             };
         }
         let half = budget / 2;
-        fork(self.cells(depth + 1, scope, half), self.cells(depth + 1, scope, budget - half))
+        fork(
+            self.cells(depth + 1, scope, half),
+            self.cells(depth + 1, scope, budget - half),
+        )
     }
 }
 
 fn value(random: &mut Random) -> i32 {
     match random.below(10) {
         0 => *random.pick(&[i32::MAX, i32::MIN, i32::MAX - 1, i32::MIN + 1]),
-        1 => random.next() as i32,
+        1 => random.draw() as i32,
         2..=5 => random.below(2) as i32,
         _ => random.below(8) as i32 - 1,
     }
@@ -305,10 +318,14 @@ fn choose_handle(random: &mut Random, record: &Record) -> u32 {
     if !open.is_empty() && random.percent(88) {
         return *random.pick(&open);
     }
+    // An open handle with a high bit added must not pass for the handle.
+    if !open.is_empty() && random.percent(40) {
+        return random.pick(&open) | 1 << random.between(8, 31);
+    }
     match random.below(4) {
         0 => record.calls,
         1 => record.calls + random.below(3) as u32,
-        2 => random.next() as u32,
+        2 => random.draw() as u32,
         _ => random.below(record.calls as usize + 1) as u32,
     }
 }
@@ -317,7 +334,7 @@ fn choose_handle(random: &mut Random, record: &Record) -> u32 {
 fn append_piece(random: &mut Random, bytes: &mut Vec<u8>) {
     if random.percent(15) {
         let length = random.between(1, 7);
-        bytes.extend((0..length).map(|_| random.next() as u8));
+        bytes.extend((0..length).map(|_| random.draw() as u8));
     }
 }
 
@@ -325,7 +342,10 @@ fn append_piece(random: &mut Random, bytes: &mut Vec<u8>) {
 
 fn damaged_case(random: &mut Random) -> Vec<u8> {
     let program = program(random);
-    let mut damaged = Damaged { definitions: program.definitions.len() as u16, rows: program.rows() };
+    let mut damaged = Damaged {
+        definitions: program.definitions.len() as u16,
+        rows: program.rows(),
+    };
     let mut target = random.between(1, 8);
     damaged.damage(random, target);
     if random.percent(30) {
@@ -341,6 +361,37 @@ fn damaged_case(random: &mut Random) -> Vec<u8> {
         append_piece(random, &mut bytes);
     }
     bytes
+}
+
+/// An entry at depth 24 or 25, with up to 8 variables in scope, that earns several refusals: the
+/// order of the tests decides.
+fn clash_case(random: &mut Random) -> Vec<u8> {
+    let deep = random.between(MOST_DEPTH - 1, MOST_DEPTH) - 1;
+    let binders = *random.pick(&[0, 6, 7, 8, 8, 8]);
+    let mut rows: Vec<Row> = (0..deep)
+        .flat_map(|level| [(if level < binders { 4 } else { 3 }, 0), (0, 0)])
+        .collect();
+    rows.push((3, 0));
+    let clashes = [
+        (0, 0),
+        (0, 1),
+        (1, 7),
+        (1, 0x0005_0010),
+        (2, 0x0005_0000),
+        (2, 0),
+        (3, 0),
+        (3, 5),
+        (4, 0),
+        (4, 1),
+        (5, 0),
+        (5, 2),
+        (6, 9),
+        (7, 99),
+        (9, 9),
+    ];
+    rows.push(*random.pick(&clashes));
+    rows.extend((0..random.below(5)).map(|_| (0, 0)));
+    encode(0, &rows)
 }
 
 struct Damaged {
@@ -373,15 +424,18 @@ impl Damaged {
 
     /// Any row of one of these kinds.
     fn any_of(&self, random: &mut Random, kinds: &[u8]) -> Option<usize> {
-        let places: Vec<usize> =
-            (0..self.rows.len()).filter(|at| kinds.contains(&self.rows[*at].0)).collect();
+        let places: Vec<usize> = (0..self.rows.len())
+            .filter(|at| kinds.contains(&self.rows[*at].0))
+            .collect();
         (!places.is_empty()).then(|| *random.pick(&places))
     }
 
     fn damage_sizes(&mut self, random: &mut Random) {
         match random.below(4) {
             0 => self.rows.clear(),
-            1 => self.rows.resize(random.between(MOST_ENTRIES + 1, 600), (0, 0)),
+            1 => self
+                .rows
+                .resize(random.between(MOST_ENTRIES + 1, 600), (0, 0)),
             2 => self.definitions = MOST_DEFINITIONS as u16 + 1,
             _ => self.definitions = random.between(MOST_DEFINITIONS + 1, 0xffff) as u16,
         }
@@ -396,10 +450,13 @@ impl Damaged {
     }
 
     fn damage_operand(&mut self, random: &mut Random) {
-        let Some(at) = self.any_of(random, &[0, 1, 2, 3, 4, 5, 6]) else { return };
+        let Some(at) = self.any_of(random, &[0, 1, 2, 3, 4, 5, 6]) else {
+            return;
+        };
         let (kind, operand) = self.rows[at];
         let (low, high) = (operand & 0xffff, operand >> 16);
-        let count = |random: &mut Random| *random.pick(&[0, 1, 2, 3, 4, 5, 5, 6, 255, 0xffff]) << 16;
+        let count =
+            |random: &mut Random| *random.pick(&[0, 1, 2, 3, 4, 5, 5, 6, 255, 0xffff]) << 16;
         self.rows[at].1 = match kind {
             1 if random.percent(50) => {
                 let sites = [7, 8, 15, 16, 1023, 1024, 0x7fff, 0xffff];
@@ -425,7 +482,9 @@ impl Damaged {
 
     /// Before any expression: so many times `stop |`, which makes it that much deeper.
     fn insert_spine(&mut self, random: &mut Random) {
-        let Some(at) = self.any_of(random, &[0, 1, 2, 3, 4, 5]) else { return };
+        let Some(at) = self.any_of(random, &[0, 1, 2, 3, 4, 5]) else {
+            return;
+        };
         let levels = random.between(18, 26);
         self.insert_pairs(at, 3, levels);
     }
@@ -442,7 +501,9 @@ impl Damaged {
             }
             _ => {
                 // `stop >x>` puts one more variable in scope each time.
-                let Some(at) = self.any_of(random, &[0, 1, 2, 3, 4, 5]) else { return };
+                let Some(at) = self.any_of(random, &[0, 1, 2, 3, 4, 5]) else {
+                    return;
+                };
                 let binders = random.between(4, 10);
                 self.insert_pairs(at, 4, binders);
             }
@@ -493,14 +554,15 @@ fn random_row(random: &mut Random) -> Row {
 fn random_bytes(random: &mut Random) -> Vec<u8> {
     let length = random.below(80);
     match random.below(3) {
-        0 => (0..length).map(|_| random.next() as u8).collect(),
+        0 => (0..length).map(|_| random.draw() as u8).collect(),
         1 => {
             let rows: Vec<Row> = (0..=length).map(|_| random_row(random)).collect();
             encode(random.below(3) as u16, &rows)
         }
         _ => {
-            let rows: Vec<Row> =
-                (0..=length).map(|_| (random.below(10) as u8, random.next() as u32)).collect();
+            let rows: Vec<Row> = (0..=length)
+                .map(|_| (random.below(10) as u8, random.draw() as u32))
+                .collect();
             encode(random.below(34) as u16, &rows)
         }
     }
@@ -534,6 +596,8 @@ fn long_inputs() -> Vec<Vec<u8>> {
         with_length(&good, MOST_INPUT),
         with_length(&good, MOST_INPUT + 1),
         with_length(&[33, 0, 0xff, 0xff], MOST_INPUT),
+        // 13,106 entries are all there, but too many.
+        with_length(&[0, 0, 0x32, 0x33], MOST_INPUT),
         with_length(&[], MOST_INPUT + 1),
     ]
 }
@@ -551,6 +615,7 @@ fn edges_of_tables() -> Vec<Vec<u8>> {
         let bound = (0..binders).fold(inner, |inner, _| prune(inner, signal()));
         cases.push(Program::new(bound).bytes());
     }
+    cases.push(Program::new(full_prunes(8)).bytes());
     // 32 definitions of 14 rows, and a goal that fills the table or overfills it by one.
     for goal in [64, 65] {
         let body = (0..6).fold(signal(), |inner, _| fork(signal(), inner));
@@ -565,6 +630,14 @@ fn edges_of_tables() -> Vec<Vec<u8>> {
     cases
 }
 
+/// Prunes in both sides of prunes. Eight levels make 511 rows and 1,022 nodes, the most there are.
+pub fn full_prunes(levels: usize) -> Expr {
+    match levels {
+        0 => signal(),
+        _ => prune(full_prunes(levels - 1), full_prunes(levels - 1)),
+    }
+}
+
 /// Stops side by side and, where the number of rows asks for it, a call with one parameter.
 fn stops_and_one_call(rows: usize) -> Expr {
     match rows {
@@ -574,7 +647,10 @@ fn stops_and_one_call(rows: usize) -> Expr {
             // Halves keep it flat; the left side always has an odd number of rows.
             let left = (rows / 2) | 1;
             let left = if left + 1 < rows { left } else { 1 };
-            fork(stops_and_one_call(left), stops_and_one_call(rows - 1 - left))
+            fork(
+                stops_and_one_call(left),
+                stops_and_one_call(rows - 1 - left),
+            )
         }
     }
 }
@@ -609,7 +685,10 @@ pub fn exact_steps(steps: u32) -> Program {
             left -= 2;
         }
     }
-    Program { definitions: doubling(signal(), LEVELS), goal }
+    Program {
+        definitions: doubling(signal(), LEVELS),
+        goal,
+    }
 }
 
 /// Runs that end before, at and beyond the most steps; at the most steps also with records, with
@@ -633,13 +712,29 @@ fn step_limits() -> Vec<Vec<u8>> {
         bytes.extend([0; 3]);
         cases.push(bytes);
     }
+    // At the limit a token waits, or a second one is ready.
+    let call = |level| Expr::Call(level, vec![]);
+    for goal in [
+        prune(give(Param::Var(0)), call(LEVELS)),
+        fork(call(13), call(13)),
+    ] {
+        cases.push(
+            Program {
+                definitions: doubling(signal(), LEVELS),
+                goal,
+            }
+            .bytes(),
+        );
+    }
     cases
 }
 
 /// One outside call after the other, as many as there is room for answers.
 fn many_answers() -> Vec<u8> {
-    let program =
-        Program { definitions: doubling(outside_call(), 12), goal: Expr::Call(12, vec![]) };
+    let program = Program {
+        definitions: doubling(outside_call(), 12),
+        goal: Expr::Call(12, vec![]),
+    };
     let mut bytes = program.bytes();
     for handle in 0..5000 {
         append_record(&mut bytes, handle, handle as i32 - 2500);

@@ -19,7 +19,10 @@ pub fn orcrun(input: &[u8]) -> String {
     let (bytes, records) = input.split_at(table::length_in(input));
     match table::read(bytes) {
         Ok(table) => run(&dag::build(&table), records, &mut lines),
-        Err(refusal) => say(&mut lines, &format!("table {} {}", refusal.number, refusal.entry)),
+        Err(refusal) => say(
+            &mut lines,
+            &format!("table {} {}", refusal.number, refusal.entry),
+        ),
     }
     lines
 }
@@ -70,7 +73,11 @@ fn step(machine: &Machine, record: &mut Record, steps: &mut u32, lines: &mut Str
 
 fn report(reply: &Reply, lines: &mut String) {
     match reply {
-        Reply::CallsOut { handle, site, values } => {
+        Reply::CallsOut {
+            handle,
+            site,
+            values,
+        } => {
             let values: String = values.iter().map(|value| format!(" {value}")).collect();
             say(lines, &format!("call {handle} {site}{values}"));
         }
@@ -80,7 +87,12 @@ fn report(reply: &Reply, lines: &mut String) {
 }
 
 /// Takes the next record from the input. A refused answer does not end the run.
-fn deliver(machine: &Machine, record: &mut Record, records: &mut &[u8], lines: &mut String) -> bool {
+fn deliver(
+    machine: &Machine,
+    record: &mut Record,
+    records: &mut &[u8],
+    lines: &mut String,
+) -> bool {
     let Some((next, rest)) = records.split_first_chunk::<RECORD>() else {
         if !records.is_empty() {
             say(lines, "short");

@@ -16,7 +16,9 @@ fn main() -> ExitCode {
         [seed, count, "--report"] => (seed.parse(), count.parse(), true),
         _ => return usage(),
     };
-    let (Ok(seed), Ok(count)) = (seed, count) else { return usage() };
+    let (Ok(seed), Ok(count)) = (seed, count) else {
+        return usage();
+    };
     let made = generator::cases(seed, count);
     if let Err(error) = write(&made) {
         eprintln!("generate: {error}");
@@ -45,7 +47,10 @@ fn happenings(made: &[Vec<u8>]) -> String {
     let mut coverage = Coverage::default();
     made.iter().for_each(|case| coverage.add(case));
     let count = |happening| coverage.counts.get(happening).copied().unwrap_or(0);
-    HAPPENINGS.iter().map(|happening| format!("{happening:<38} {:>9}\n", count(happening))).collect()
+    HAPPENINGS
+        .iter()
+        .map(|happening| format!("{happening:<38} {:>9}\n", count(happening)))
+        .collect()
 }
 
 /// For each kind of line: how often, in how many cases, and for tables at which entries.
@@ -57,10 +62,25 @@ struct Tally {
 }
 
 /// The lines that can occur. 9, 13 and 14 cannot: orcrun takes place 0 of a queue that is not
-/// empty, 65,536 bytes do not hold the answers to a million calls, and a run keeps the rules.
+/// empty, 100,000 steps make no million calls, and a run keeps the rules.
 const KINDS: [&str; 17] = [
-    "call", "publish", "refused 10", "refused 11", "refused 12", "table 1", "table 2", "table 3",
-    "table 4", "table 5", "table 6", "table 7", "table 8", "end", "limit", "short", "long",
+    "call",
+    "publish",
+    "refused 10",
+    "refused 11",
+    "refused 12",
+    "table 1",
+    "table 2",
+    "table 3",
+    "table 4",
+    "table 5",
+    "table 6",
+    "table 7",
+    "table 8",
+    "end",
+    "limit",
+    "short",
+    "long",
 ];
 
 impl Tally {
@@ -79,7 +99,10 @@ impl Tally {
             *self.lines.entry(kind.clone()).or_default() += 1;
             if kind.starts_with("table") {
                 let entry = line.rsplit(' ').next().unwrap_or_default();
-                self.entries.entry(kind.clone()).or_default().insert(entry.to_string());
+                self.entries
+                    .entry(kind.clone())
+                    .or_default()
+                    .insert(entry.to_string());
             }
             seen.insert(kind);
         }
@@ -90,10 +113,16 @@ impl Tally {
 
     fn report(&self) -> String {
         let mut text = String::from("line          lines    cases  entries\n");
-        let extra = self.lines.keys().filter(|kind| !KINDS.contains(&kind.as_str()));
+        let extra = self
+            .lines
+            .keys()
+            .filter(|kind| !KINDS.contains(&kind.as_str()));
         for kind in KINDS.into_iter().chain(extra.map(String::as_str)) {
             let of = |counts: &BTreeMap<String, usize>| counts.get(kind).copied().unwrap_or(0);
-            let entries = self.entries.get(kind).map(|entries| entries.len().to_string());
+            let entries = self
+                .entries
+                .get(kind)
+                .map(|entries| entries.len().to_string());
             text.push_str(&format!(
                 "{kind:<11} {:>7} {:>8} {:>8}\n",
                 of(&self.lines),
@@ -107,6 +136,10 @@ impl Tally {
 
 /// The first word, and the number behind `refused` or `table`.
 fn kind(line: &str) -> String {
-    let words = if line.starts_with("refused") || line.starts_with("table") { 2 } else { 1 };
+    let words = if line.starts_with("refused") || line.starts_with("table") {
+        2
+    } else {
+        1
+    };
     line.split(' ').take(words).collect::<Vec<&str>>().join(" ")
 }
