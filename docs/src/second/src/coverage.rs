@@ -110,14 +110,8 @@ impl Coverage {
             Node::Return => self.note_return(before, after),
             Node::Publish => self.note("publish"),
         }
-        self.note_if(
-            after.last_token < before.last_token,
-            "token place given again from 0",
-        );
-        self.note_if(
-            after.last_cell < before.last_cell,
-            "cell place given again from 0",
-        );
+        self.note_if(after.last_token < before.last_token, "token place given again from 0");
+        self.note_if(after.last_cell < before.last_cell, "cell place given again from 0");
     }
 
     fn note_site_call(&mut self, before: &Record, node: &Node, site: u32, reply: &Reply) {
@@ -135,17 +129,12 @@ impl Coverage {
         self.note("definition call");
         let cells: Vec<bool> = cells_read(before, node).collect();
         self.note_if(cells.contains(&true), "definition call passes a set cell");
-        self.note_if(
-            cells.contains(&false),
-            "definition call passes an unset cell",
-        );
+        self.note_if(cells.contains(&false), "definition call passes an unset cell");
     }
 
     fn note_return(&mut self, before: &Record, after: &Record) {
         self.note("return");
-        let frame = before.tokens[before.queue[0]]
-            .caller
-            .expect("the rules ask for a frame");
+        let frame = before.tokens[before.queue[0]].caller.expect("the rules ask for a frame");
         let left = after.tokens[frame].state == State::Frame;
         self.note_if(left, "return leaves its frame in use");
     }
@@ -175,13 +164,11 @@ impl Coverage {
 /// For each parameter that is a cell, whether it is set.
 fn cells_read<'a>(record: &'a Record, node: &'a Node) -> impl Iterator<Item = bool> + 'a {
     let token = &record.tokens[record.queue[0]];
-    node.parameters()
-        .iter()
-        .filter_map(|parameter| match *parameter {
-            Parameter::Variable(number) => match token.bindings[number] {
-                Binding::Cell(cell) => Some(record.cells[cell].value.is_some()),
-                _ => None,
-            },
-            Parameter::Constant(_) => None,
-        })
+    node.parameters().iter().filter_map(|parameter| match *parameter {
+        Parameter::Variable(number) => match token.bindings[number] {
+            Binding::Cell(cell) => Some(record.cells[cell].value.is_some()),
+            _ => None,
+        },
+        Parameter::Constant(_) => None,
+    })
 }

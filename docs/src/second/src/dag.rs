@@ -133,17 +133,9 @@ fn bodies(table: &Table) -> Vec<Body> {
     let mut bodies: Vec<Body> = table
         .definitions
         .iter()
-        .map(|&start| Body {
-            start: start + 1,
-            end: table.behind[start],
-            sink: Node::Return,
-        })
+        .map(|&start| Body { start: start + 1, end: table.behind[start], sink: Node::Return })
         .collect();
-    bodies.push(Body {
-        start: table.goal,
-        end: table.entries.len(),
-        sink: Node::Publish,
-    });
+    bodies.push(Body { start: table.goal, end: table.entries.len(), sink: Node::Publish });
     bodies
 }
 
@@ -154,21 +146,14 @@ fn number(table: &Table, bodies: &[Body]) -> Numbers {
     let mut total = 0;
     for body in bodies {
         let range = body.start..body.end;
-        for (first, entry) in of_entry[range.clone()]
-            .iter_mut()
-            .zip(&table.entries[range])
-        {
+        for (first, entry) in of_entry[range.clone()].iter_mut().zip(&table.entries[range]) {
             *first = total;
             total += nodes_made(entry);
         }
         of_sink.push(total);
         total += 1;
     }
-    Numbers {
-        of_entry,
-        of_sink,
-        total,
-    }
+    Numbers { of_entry, of_sink, total }
 }
 
 fn nodes_made(entry: &Entry) -> usize {
@@ -214,43 +199,26 @@ fn write(
     match table.entries[entry] {
         Entry::Stop => nodes[own] = Node::Stop,
         Entry::SiteCall { site, count } => {
-            nodes[own] = Node::SiteCall {
-                site,
-                parameters: parameters(table, f, count),
-                next,
-            }
+            nodes[own] = Node::SiteCall { site, parameters: parameters(table, f, count), next }
         }
         Entry::DefinitionCall { definition, count } => {
-            nodes[own] = Node::DefinitionCall {
-                definition,
-                parameters: parameters(table, f, count),
-                next,
-            }
+            nodes[own] =
+                Node::DefinitionCall { definition, parameters: parameters(table, f, count), next }
         }
         Entry::Fork => {
             let g = table.behind[f];
-            nodes[own] = Node::Fork {
-                left: begin(f),
-                right: begin(g),
-            };
+            nodes[own] = Node::Fork { left: begin(f), right: begin(g) };
             todo.extend([(f, next), (g, next)]);
         }
         Entry::Sequence { binds: variable } => {
             let (assign, remove, g) = (own, own + 1, table.behind[f]);
-            nodes[assign] = Node::Assign {
-                variable,
-                next: begin(g),
-            };
+            nodes[assign] = Node::Assign { variable, next: begin(g) };
             nodes[remove] = Node::Remove { variable, next };
             todo.extend([(f, assign), (g, remove)]);
         }
         Entry::Prune { binds: variable } => {
             let (where_, remove, choke, g) = (own, own + 1, own + 2, table.behind[f]);
-            nodes[where_] = Node::Where {
-                variable,
-                left: begin(f),
-                right: begin(g),
-            };
+            nodes[where_] = Node::Where { variable, left: begin(f), right: begin(g) };
             nodes[remove] = Node::Remove { variable, next };
             nodes[choke] = Node::Choke;
             todo.extend([(f, remove), (g, choke)]);
@@ -266,8 +234,5 @@ fn parameters(table: &Table, first: usize, count: usize) -> Vec<Parameter> {
         Entry::Constant(value) => Some(Parameter::Constant(value)),
         _ => None,
     };
-    table.entries[first..first + count]
-        .iter()
-        .filter_map(one)
-        .collect()
+    table.entries[first..first + count].iter().filter_map(one).collect()
 }

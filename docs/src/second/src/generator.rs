@@ -67,11 +67,7 @@ impl Writer<'_> {
             _ => random.between(5, MOST_DEFINITIONS),
         };
         let formals = (0..count).map(|_| random.below(5) as u32).collect();
-        Writer {
-            random,
-            formals,
-            callable: 0,
-        }
+        Writer { random, formals, callable: 0 }
     }
 
     /// Without recursion a body calls only definitions before its own.
@@ -122,18 +118,13 @@ impl Writer<'_> {
         let (f, g) = (f.min(budget - 1), (budget - f).max(1));
         let may_bind = (scope as usize) < MOST_IN_SCOPE;
         match self.random.below(20) {
-            0..=4 => fork(
-                self.expr(depth + 1, scope, f),
-                self.expr(depth + 1, scope, g),
-            ),
-            5..=10 if may_bind => sequence(
-                self.expr(depth + 1, scope, f),
-                self.expr(depth + 1, scope + 1, g),
-            ),
-            11..=16 if may_bind => prune(
-                self.expr(depth + 1, scope + 1, f),
-                self.expr(depth + 1, scope, g),
-            ),
+            0..=4 => fork(self.expr(depth + 1, scope, f), self.expr(depth + 1, scope, g)),
+            5..=10 if may_bind => {
+                sequence(self.expr(depth + 1, scope, f), self.expr(depth + 1, scope + 1, g))
+            }
+            11..=16 if may_bind => {
+                prune(self.expr(depth + 1, scope + 1, f), self.expr(depth + 1, scope, g))
+            }
             17 if may_bind => self.race(depth, scope),
             18 if may_bind => self.pass_unset(depth, scope, g),
             _ => self.leaf(scope),
@@ -264,10 +255,7 @@ impl Writer<'_> {
             };
         }
         let half = budget / 2;
-        fork(
-            self.cells(depth + 1, scope, half),
-            self.cells(depth + 1, scope, budget - half),
-        )
+        fork(self.cells(depth + 1, scope, half), self.cells(depth + 1, scope, budget - half))
     }
 }
 
@@ -342,10 +330,8 @@ fn append_piece(random: &mut Random, bytes: &mut Vec<u8>) {
 
 fn damaged_case(random: &mut Random) -> Vec<u8> {
     let program = program(random);
-    let mut damaged = Damaged {
-        definitions: program.definitions.len() as u16,
-        rows: program.rows(),
-    };
+    let mut damaged =
+        Damaged { definitions: program.definitions.len() as u16, rows: program.rows() };
     let mut target = random.between(1, 8);
     damaged.damage(random, target);
     if random.percent(30) {
@@ -368,9 +354,8 @@ fn damaged_case(random: &mut Random) -> Vec<u8> {
 fn clash_case(random: &mut Random) -> Vec<u8> {
     let deep = random.between(MOST_DEPTH - 1, MOST_DEPTH) - 1;
     let binders = *random.pick(&[0, 6, 7, 8, 8, 8]);
-    let mut rows: Vec<Row> = (0..deep)
-        .flat_map(|level| [(if level < binders { 4 } else { 3 }, 0), (0, 0)])
-        .collect();
+    let mut rows: Vec<Row> =
+        (0..deep).flat_map(|level| [(if level < binders { 4 } else { 3 }, 0), (0, 0)]).collect();
     rows.push((3, 0));
     let clashes = [
         (0, 0),
@@ -424,18 +409,15 @@ impl Damaged {
 
     /// Any row of one of these kinds.
     fn any_of(&self, random: &mut Random, kinds: &[u8]) -> Option<usize> {
-        let places: Vec<usize> = (0..self.rows.len())
-            .filter(|at| kinds.contains(&self.rows[*at].0))
-            .collect();
+        let places: Vec<usize> =
+            (0..self.rows.len()).filter(|at| kinds.contains(&self.rows[*at].0)).collect();
         (!places.is_empty()).then(|| *random.pick(&places))
     }
 
     fn damage_sizes(&mut self, random: &mut Random) {
         match random.below(4) {
             0 => self.rows.clear(),
-            1 => self
-                .rows
-                .resize(random.between(MOST_ENTRIES + 1, 600), (0, 0)),
+            1 => self.rows.resize(random.between(MOST_ENTRIES + 1, 600), (0, 0)),
             2 => self.definitions = MOST_DEFINITIONS as u16 + 1,
             _ => self.definitions = random.between(MOST_DEFINITIONS + 1, 0xffff) as u16,
         }
@@ -560,9 +542,8 @@ fn random_bytes(random: &mut Random) -> Vec<u8> {
             encode(random.below(3) as u16, &rows)
         }
         _ => {
-            let rows: Vec<Row> = (0..=length)
-                .map(|_| (random.below(10) as u8, random.draw() as u32))
-                .collect();
+            let rows: Vec<Row> =
+                (0..=length).map(|_| (random.below(10) as u8, random.draw() as u32)).collect();
             encode(random.below(34) as u16, &rows)
         }
     }
@@ -647,10 +628,7 @@ fn stops_and_one_call(rows: usize) -> Expr {
             // Halves keep it flat; the left side always has an odd number of rows.
             let left = (rows / 2) | 1;
             let left = if left + 1 < rows { left } else { 1 };
-            fork(
-                stops_and_one_call(left),
-                stops_and_one_call(rows - 1 - left),
-            )
+            fork(stops_and_one_call(left), stops_and_one_call(rows - 1 - left))
         }
     }
 }
@@ -666,7 +644,7 @@ fn doubling(first: Expr, levels: u16) -> Vec<(u32, Expr)> {
 
 const LEVELS: u16 = 14;
 
-/// A program that makes exactly so many steps (2 or more) and publishes once. Behind a first
+/// A program that makes exactly so many steps (2, or 4 and more) and publishes once. Behind a first
 /// signal() and its publish, the parts are `>x> Fk()`, `>x> signal()` and `stop |`.
 pub fn exact_steps(steps: u32) -> Program {
     let mut goal = signal();
@@ -685,10 +663,7 @@ pub fn exact_steps(steps: u32) -> Program {
             left -= 2;
         }
     }
-    Program {
-        definitions: doubling(signal(), LEVELS),
-        goal,
-    }
+    Program { definitions: doubling(signal(), LEVELS), goal }
 }
 
 /// Runs that end before, at and beyond the most steps; at the most steps also with records, with
@@ -714,27 +689,16 @@ fn step_limits() -> Vec<Vec<u8>> {
     }
     // At the limit a token waits, or a second one is ready.
     let call = |level| Expr::Call(level, vec![]);
-    for goal in [
-        prune(give(Param::Var(0)), call(LEVELS)),
-        fork(call(13), call(13)),
-    ] {
-        cases.push(
-            Program {
-                definitions: doubling(signal(), LEVELS),
-                goal,
-            }
-            .bytes(),
-        );
+    for goal in [prune(give(Param::Var(0)), call(LEVELS)), fork(call(13), call(13))] {
+        cases.push(Program { definitions: doubling(signal(), LEVELS), goal }.bytes());
     }
     cases
 }
 
 /// One outside call after the other, as many as there is room for answers.
 fn many_answers() -> Vec<u8> {
-    let program = Program {
-        definitions: doubling(outside_call(), 12),
-        goal: Expr::Call(12, vec![]),
-    };
+    let program =
+        Program { definitions: doubling(outside_call(), 12), goal: Expr::Call(12, vec![]) };
     let mut bytes = program.bytes();
     for handle in 0..5000 {
         append_record(&mut bytes, handle, handle as i32 - 2500);

@@ -19,10 +19,7 @@ pub fn orcrun(input: &[u8]) -> String {
     let (bytes, records) = input.split_at(table::length_in(input));
     match table::read(bytes) {
         Ok(table) => run(&dag::build(&table), records, &mut lines),
-        Err(refusal) => say(
-            &mut lines,
-            &format!("table {} {}", refusal.number, refusal.entry),
-        ),
+        Err(refusal) => say(&mut lines, &format!("table {} {}", refusal.number, refusal.entry)),
     }
     lines
 }
@@ -73,11 +70,7 @@ fn step(machine: &Machine, record: &mut Record, steps: &mut u32, lines: &mut Str
 
 fn report(reply: &Reply, lines: &mut String) {
     match reply {
-        Reply::CallsOut {
-            handle,
-            site,
-            values,
-        } => {
+        Reply::CallsOut { handle, site, values } => {
             let values: String = values.iter().map(|value| format!(" {value}")).collect();
             say(lines, &format!("call {handle} {site}{values}"));
         }

@@ -15,26 +15,11 @@ pub struct Refused {
     pub why: &'static str,
 }
 
-const NO_READY: Refused = Refused {
-    number: 9,
-    why: "no ready token at this place of the queue",
-};
-const TOKENS_FULL: Refused = Refused {
-    number: 10,
-    why: "all token places are in use",
-};
-const CELLS_FULL: Refused = Refused {
-    number: 11,
-    why: "all cell places are in use",
-};
-const NOT_OPEN: Refused = Refused {
-    number: 12,
-    why: "the handle is not open",
-};
-const CALLS_FULL: Refused = Refused {
-    number: 13,
-    why: "all outside calls are made",
-};
+const NO_READY: Refused = Refused { number: 9, why: "no ready token at this place of the queue" };
+const TOKENS_FULL: Refused = Refused { number: 10, why: "all token places are in use" };
+const CELLS_FULL: Refused = Refused { number: 11, why: "all cell places are in use" };
+const NOT_OPEN: Refused = Refused { number: 12, why: "the handle is not open" };
+const CALLS_FULL: Refused = Refused { number: 13, why: "all outside calls are made" };
 
 /// What an accepted step tells.
 #[derive(Clone, Debug, PartialEq, Eq)]
@@ -74,11 +59,7 @@ impl<'a> Machine<'a> {
             return Err(Refused { number: 14, why });
         }
         let mut record = Record::blank(&self.limits);
-        record.tokens[0] = Token {
-            node: self.dag.goal,
-            state: State::Ready,
-            ..Token::BLANK
-        };
+        record.tokens[0] = Token { node: self.dag.goal, state: State::Ready, ..Token::BLANK };
         record.queue.push(0);
         Ok(record)
     }
@@ -118,11 +99,9 @@ impl<'a> Machine<'a> {
     fn act(&self, record: &mut Record, at: usize, used: &InUse) -> Result<Reply, Refused> {
         match &self.dag.nodes[record.tokens[at].node] {
             Node::Fork { left, right } => fork(record, at, used, *left, *right),
-            Node::Where {
-                variable,
-                left,
-                right,
-            } => where_(record, at, used, *variable, (*left, *right)),
+            Node::Where { variable, left, right } => {
+                where_(record, at, used, *variable, (*left, *right))
+            }
             Node::Assign { variable, next } => {
                 let value = record.tokens[at].value.expect("the rules ask for a value");
                 Ok(bind(record, at, *variable, Binding::Value(value), *next))
@@ -130,16 +109,10 @@ impl<'a> Machine<'a> {
             Node::Remove { variable, next } => {
                 Ok(bind(record, at, *variable, Binding::Empty, *next))
             }
-            Node::SiteCall {
-                site,
-                parameters,
-                next,
-            } => self.site_call(record, at, *site, parameters, *next),
-            Node::DefinitionCall {
-                definition,
-                parameters,
-                next,
-            } => {
+            Node::SiteCall { site, parameters, next } => {
+                self.site_call(record, at, *site, parameters, *next)
+            }
+            Node::DefinitionCall { definition, parameters, next } => {
                 let first = self.dag.definitions[*definition].first;
                 definition_call(record, at, used, first, parameters, *next)
             }
@@ -205,11 +178,7 @@ impl<'a> Machine<'a> {
         record.calls += 1;
         record.tokens[at].node = next;
         record.tokens[at].state = State::CalledOut(handle);
-        Ok(Reply::CallsOut {
-            handle,
-            site,
-            values,
-        })
+        Ok(Reply::CallsOut { handle, site, values })
     }
 }
 
@@ -248,9 +217,7 @@ fn end(record: &mut Record, at: usize) {
 
 /// The next free place after the last one given, round from the end to 0.
 fn free_place(used: &[bool], last: usize) -> Option<usize> {
-    (1..=used.len())
-        .map(|ahead| (last + ahead) % used.len())
-        .find(|place| !used[*place])
+    (1..=used.len()).map(|ahead| (last + ahead) % used.len()).find(|place| !used[*place])
 }
 
 /// Puts a ready token at the next free place. It is not yet in the queue.
@@ -269,14 +236,7 @@ fn fork(
     right: usize,
 ) -> Result<Reply, Refused> {
     let token = record.tokens[at];
-    let new = new_token(
-        record,
-        used,
-        Token {
-            node: right,
-            ..token
-        },
-    )?;
+    let new = new_token(record, used, Token { node: right, ..token })?;
     record.tokens[at].node = left;
     make_ready(record, at);
     make_ready(record, new);
@@ -292,20 +252,10 @@ fn where_(
 ) -> Result<Reply, Refused> {
     let token = record.tokens[at];
     // Tokens are tested before cells. The cell of the right side is filled in below.
-    let new = new_token(
-        record,
-        used,
-        Token {
-            node: right,
-            ..token
-        },
-    )?;
+    let new = new_token(record, used, Token { node: right, ..token })?;
     let cell = free_place(&used.cells, record.last_cell).ok_or(CELLS_FULL)?;
     record.last_cell = cell;
-    record.cells[cell] = Cell {
-        parent: token.cell,
-        value: None,
-    };
+    record.cells[cell] = Cell { parent: token.cell, value: None };
     record.tokens[new].cell = Some(cell);
     record.tokens[at].node = left;
     record.tokens[at].bindings[variable] = Binding::Cell(cell);
@@ -331,12 +281,7 @@ fn definition_call(
     next: usize,
 ) -> Result<Reply, Refused> {
     let token = record.tokens[at];
-    let mut callee = Token {
-        node: first,
-        caller: Some(at),
-        cell: token.cell,
-        ..Token::BLANK
-    };
+    let mut callee = Token { node: first, caller: Some(at), cell: token.cell, ..Token::BLANK };
     for (formal, parameter) in callee.bindings.iter_mut().zip(parameters) {
         *formal = binding(&token, parameter);
     }
@@ -351,10 +296,7 @@ fn definition_call(
 fn return_(record: &mut Record, at: usize) -> Reply {
     let token = record.tokens[at];
     let frame = record.tokens[token.caller.expect("the rules ask for a frame")];
-    record.tokens[at] = Token {
-        value: token.value,
-        ..frame
-    };
+    record.tokens[at] = Token { value: token.value, ..frame };
     make_ready(record, at);
     Reply::GoesOn
 }
@@ -370,11 +312,7 @@ fn choke(record: &mut Record, at: usize) -> Reply {
 }
 
 fn end_under(record: &mut Record, cell: usize) {
-    let below = |place: &usize| {
-        record
-            .chain(record.tokens[*place].cell)
-            .any(|at| at == cell)
-    };
+    let below = |place: &usize| record.chain(record.tokens[*place].cell).any(|at| at == cell);
     let ended: Vec<usize> = (0..record.tokens.len()).filter(below).collect();
     for &place in &ended {
         end(record, place);

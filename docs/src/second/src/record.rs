@@ -11,11 +11,7 @@ pub struct Limits {
 }
 
 /// The paper's numbers.
-pub const PAPER: Limits = Limits {
-    tokens: 64,
-    cells: 32,
-    calls: 1_000_000,
-};
+pub const PAPER: Limits = Limits { tokens: 64, cells: 32, calls: 1_000_000 };
 
 #[derive(Clone, Copy, Debug, PartialEq, Eq)]
 pub enum Binding {
@@ -59,10 +55,7 @@ impl Token {
 
     /// Ready, waiting or called out: these act, now or later.
     pub fn is_live(&self) -> bool {
-        matches!(
-            self.state,
-            State::Ready | State::Waiting(_) | State::CalledOut(_)
-        )
+        matches!(self.state, State::Ready | State::Waiting(_) | State::CalledOut(_))
     }
 
     /// The cells that the bindings name.
@@ -82,10 +75,7 @@ pub struct Cell {
 }
 
 impl Cell {
-    pub const BLANK: Cell = Cell {
-        parent: None,
-        value: None,
-    };
+    pub const BLANK: Cell = Cell { parent: None, value: None };
 }
 
 #[derive(Clone, Debug, PartialEq, Eq)]
@@ -138,8 +128,7 @@ impl Record {
     }
 
     pub fn is_under_set_cell(&self, token: &Token) -> bool {
-        self.chain(token.cell)
-            .any(|cell| self.cells[cell].value.is_some())
+        self.chain(token.cell).any(|cell| self.cells[cell].value.is_some())
     }
 
     pub fn is_active(&self, token: &Token) -> bool {
@@ -148,15 +137,11 @@ impl Record {
 
     /// Active tokens, and what they reach by caller, cell, parent and binding.
     pub fn in_use(&self) -> InUse {
-        let mut used = InUse {
-            tokens: vec![false; self.tokens.len()],
-            cells: vec![false; self.cells.len()],
-        };
+        let mut used =
+            InUse { tokens: vec![false; self.tokens.len()], cells: vec![false; self.cells.len()] };
         let active = |place: &usize| self.is_active(&self.tokens[*place]);
-        let mut todo: Vec<Found> = (0..self.tokens.len())
-            .filter(active)
-            .map(Found::Token)
-            .collect();
+        let mut todo: Vec<Found> =
+            (0..self.tokens.len()).filter(active).map(Found::Token).collect();
         while let Some(found) = todo.pop() {
             match found {
                 Found::Token(place) if !used.tokens[place] => {

@@ -32,10 +32,7 @@ const RECORD_RULES: [RecordRule; 14] = [
     ("each parent chain ends", chains_end),
     ("no live token under a set cell", none_under_set_cell),
     ("open handles", open_handles),
-    (
-        "the wait order names each waiting token once",
-        waits_names_waiting,
-    ),
+    ("the wait order names each waiting token once", waits_names_waiting),
     ("waiting at an unset cell", waits_at_unset),
     ("what a token's node needs", nodes_served),
     ("a ready token has the value it needs", values_there),
@@ -44,19 +41,13 @@ const RECORD_RULES: [RecordRule; 14] = [
 
 /// The first clause that the dag breaks.
 pub fn broken_in_dag(dag: &Dag) -> Option<&'static str> {
-    DAG_RULES
-        .iter()
-        .find(|(_, holds)| !holds(dag))
-        .map(|(name, _)| *name)
+    DAG_RULES.iter().find(|(_, holds)| !holds(dag)).map(|(name, _)| *name)
 }
 
 /// The first clause that the dag or else the record breaks.
 pub fn broken(dag: &Dag, record: &Record, limits: &Limits) -> Option<&'static str> {
     broken_in_dag(dag).or_else(|| {
-        RECORD_RULES
-            .iter()
-            .find(|(_, holds)| !holds(dag, record, limits))
-            .map(|(name, _)| *name)
+        RECORD_RULES.iter().find(|(_, holds)| !holds(dag, record, limits)).map(|(name, _)| *name)
     })
 }
 
@@ -76,21 +67,13 @@ fn sites_known(dag: &Dag) -> bool {
 fn dag_counts(dag: &Dag) -> bool {
     dag.nodes.len() <= MOST_NODES
         && dag.definitions.len() <= MOST_DEFINITIONS
-        && dag
-            .definitions
-            .iter()
-            .all(|definition| definition.formals <= sites::MOST_PARAMETERS)
-        && dag
-            .nodes
-            .iter()
-            .all(|node| node.parameters().len() <= sites::MOST_PARAMETERS)
+        && dag.definitions.iter().all(|definition| definition.formals <= sites::MOST_PARAMETERS)
+        && dag.nodes.iter().all(|node| node.parameters().len() <= sites::MOST_PARAMETERS)
 }
 
 fn built_in_counts(dag: &Dag) -> bool {
     dag.nodes.iter().all(|node| match node {
-        Node::SiteCall {
-            site, parameters, ..
-        } => sites::count_fits(*site, parameters.len()),
+        Node::SiteCall { site, parameters, .. } => sites::count_fits(*site, parameters.len()),
         _ => true,
     })
 }
@@ -105,14 +88,8 @@ fn definitions_there(dag: &Dag) -> bool {
 fn dag_nodes(dag: &Dag) -> bool {
     let there = |node: usize| node < dag.nodes.len();
     there(dag.goal)
-        && dag
-            .definitions
-            .iter()
-            .all(|definition| there(definition.first))
-        && dag
-            .nodes
-            .iter()
-            .all(|node| node.successors().into_iter().flatten().all(there))
+        && dag.definitions.iter().all(|definition| there(definition.first))
+        && dag.nodes.iter().all(|node| node.successors().into_iter().flatten().all(there))
 }
 
 fn dag_slots(dag: &Dag) -> bool {
@@ -137,19 +114,13 @@ fn call_count(_: &Dag, record: &Record, limits: &Limits) -> bool {
 }
 
 fn token_nodes(dag: &Dag, record: &Record, _: &Limits) -> bool {
-    record
-        .tokens
-        .iter()
-        .all(|token| token.node < dag.nodes.len())
+    record.tokens.iter().all(|token| token.node < dag.nodes.len())
 }
 
 fn tokens_named(_: &Dag, record: &Record, limits: &Limits) -> bool {
     let callers = record.tokens.iter().filter_map(|token| token.caller);
     let orders = record.queue.iter().chain(&record.waits).copied();
-    callers
-        .chain(orders)
-        .chain([record.last_token])
-        .all(|place| place < limits.tokens)
+    callers.chain(orders).chain([record.last_token]).all(|place| place < limits.tokens)
 }
 
 fn cells_named(_: &Dag, record: &Record, limits: &Limits) -> bool {
@@ -161,10 +132,7 @@ fn cells_named(_: &Dag, record: &Record, limits: &Limits) -> bool {
     };
     there(record.last_cell)
         && record.tokens.iter().all(by_token)
-        && record
-            .cells
-            .iter()
-            .all(|cell| cell.parent.is_none_or(there))
+        && record.cells.iter().all(|cell| cell.parent.is_none_or(there))
 }
 
 fn queue_names_ready(_: &Dag, record: &Record, _: &Limits) -> bool {
@@ -177,10 +145,7 @@ fn chains_end(_: &Dag, record: &Record, _: &Limits) -> bool {
 }
 
 fn none_under_set_cell(_: &Dag, record: &Record, _: &Limits) -> bool {
-    record
-        .tokens
-        .iter()
-        .all(|token| !token.is_live() || !record.is_under_set_cell(token))
+    record.tokens.iter().all(|token| !token.is_live() || !record.is_under_set_cell(token))
 }
 
 fn open_handles(_: &Dag, record: &Record, _: &Limits) -> bool {
@@ -209,15 +174,9 @@ fn nodes_served(dag: &Dag, record: &Record, _: &Limits) -> bool {
     let served = |token: &Token| match &dag.nodes[token.node] {
         Node::Return => token.caller.is_some_and(is_frame),
         Node::Choke => token.cell.is_some(),
-        node => node
-            .parameters()
-            .iter()
-            .all(|parameter| filled(token, parameter)),
+        node => node.parameters().iter().all(|parameter| filled(token, parameter)),
     };
-    record
-        .tokens
-        .iter()
-        .all(|token| token.state == State::Blank || served(token))
+    record.tokens.iter().all(|token| token.state == State::Blank || served(token))
 }
 
 fn values_there(dag: &Dag, record: &Record, _: &Limits) -> bool {
@@ -229,22 +188,15 @@ fn values_there(dag: &Dag, record: &Record, _: &Limits) -> bool {
         );
         takes && token.state == State::Ready
     };
-    record
-        .tokens
-        .iter()
-        .all(|token| !needs_value(token) || token.value.is_some())
+    record.tokens.iter().all(|token| !needs_value(token) || token.value.is_some())
 }
 
 fn unused_blank(_: &Dag, record: &Record, _: &Limits) -> bool {
     let used = record.in_use();
     let tokens = record.tokens.iter().zip(used.tokens);
     let cells = record.cells.iter().zip(used.cells);
-    tokens
-        .into_iter()
-        .all(|(token, used)| used || *token == Token::BLANK)
-        && cells
-            .into_iter()
-            .all(|(cell, used)| used || *cell == Cell::BLANK)
+    tokens.into_iter().all(|(token, used)| used || *token == Token::BLANK)
+        && cells.into_iter().all(|(cell, used)| used || *cell == Cell::BLANK)
 }
 
 fn waiting_at(token: &Token) -> Option<usize> {

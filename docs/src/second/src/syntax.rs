@@ -48,10 +48,7 @@ pub fn give(param: Param) -> Expr {
 
 impl Program {
     pub fn new(goal: Expr) -> Program {
-        Program {
-            definitions: vec![],
-            goal,
-        }
+        Program { definitions: vec![], goal }
     }
 
     pub fn rows(&self) -> Vec<Row> {

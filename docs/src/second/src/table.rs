@@ -78,11 +78,7 @@ pub fn length_in(input: &[u8]) -> usize {
 pub fn read(bytes: &[u8]) -> Result<Table, Refusal> {
     let (d, n) = sizes(bytes)?;
     let (kinds, operands) = bytes[HEADER..].split_at(n);
-    let mut reader = Reader {
-        kinds,
-        operands,
-        entries: Vec::new(),
-    };
+    let mut reader = Reader { kinds, operands, entries: Vec::new() };
     reader.read_all(d)?;
     let table = arrange(reader.entries, d);
     check_definition_calls(&table)?;
@@ -91,31 +87,21 @@ pub fn read(bytes: &[u8]) -> Result<Table, Refusal> {
 
 fn header(bytes: &[u8]) -> Option<(usize, usize)> {
     match bytes {
-        [a, b, c, d, ..] => Some((
-            u16::from_le_bytes([*a, *b]) as usize,
-            u16::from_le_bytes([*c, *d]) as usize,
-        )),
+        [a, b, c, d, ..] => {
+            Some((u16::from_le_bytes([*a, *b]) as usize, u16::from_le_bytes([*c, *d]) as usize))
+        }
         _ => None,
     }
 }
 
 /// Refusals 1 and 2, in that order.
 fn sizes(bytes: &[u8]) -> Result<(usize, usize), Refusal> {
-    let (d, n) = header(bytes).ok_or(Refusal {
-        number: 1,
-        entry: 0,
-    })?;
+    let (d, n) = header(bytes).ok_or(Refusal { number: 1, entry: 0 })?;
     if bytes.len() != HEADER + PER_ENTRY * n {
-        return Err(Refusal {
-            number: 1,
-            entry: 0,
-        });
+        return Err(Refusal { number: 1, entry: 0 });
     }
     if d > MOST_DEFINITIONS || n == 0 || n > MOST_ENTRIES {
-        return Err(Refusal {
-            number: 2,
-            entry: 0,
-        });
+        return Err(Refusal { number: 2, entry: 0 });
     }
     Ok((d, n))
 }
@@ -133,17 +119,13 @@ impl Reader<'_> {
         stack.extend(vec![Expected::Definition; definitions]);
         while let Some(expected) = stack.pop() {
             let entry = self.entries.len();
-            let read = self
-                .read_one(entry, expected)
-                .map_err(|number| Refusal { number, entry })?;
+            let read =
+                self.read_one(entry, expected).map_err(|number| Refusal { number, entry })?;
             push_followers(&mut stack, expected, read);
             self.entries.push(read);
         }
         match self.entries.len() {
-            read if read < self.kinds.len() => Err(Refusal {
-                number: 5,
-                entry: read,
-            }),
+            read if read < self.kinds.len() => Err(Refusal { number: 5, entry: read }),
             _ => Ok(()),
         }
     }
@@ -195,16 +177,11 @@ fn decode(kind: u8, operand: u32, scope: usize) -> Option<Entry> {
     let entry = match kind {
         0 => Entry::Stop,
         1 => Entry::SiteCall { site: low, count },
-        2 => Entry::DefinitionCall {
-            definition: low as usize,
-            count,
-        },
+        2 => Entry::DefinitionCall { definition: low as usize, count },
         3 => Entry::Fork,
         4 => Entry::Sequence { binds: scope },
         5 => Entry::Prune { binds: scope },
-        6 => Entry::Definition {
-            formals: operand as usize,
-        },
+        6 => Entry::Definition { formals: operand as usize },
         7 => Entry::Variable(operand as usize),
         _ => Entry::Constant(operand as i32),
     };
@@ -248,12 +225,7 @@ fn arrange(entries: Vec<Entry>, definitions: usize) -> Table {
         starts.push(at);
         at = behind[at];
     }
-    Table {
-        entries,
-        definitions: starts,
-        goal: at,
-        behind,
-    }
+    Table { entries, definitions: starts, goal: at, behind }
 }
 
 /// From the last entry to the first: jump over each follower in turn.

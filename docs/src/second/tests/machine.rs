@@ -17,57 +17,28 @@ fn dag_of(program: &Program) -> Dag {
 fn waiting_program() -> Program {
     let body = fork(give(Param::Var(0)), Expr::Site(16, vec![]));
     let goal = prune(Expr::Call(0, vec![Param::Var(0)]), Expr::Site(17, vec![]));
-    Program {
-        definitions: vec![(1, body)],
-        goal,
-    }
+    Program { definitions: vec![(1, body)], goal }
 }
 
 #[test]
 fn numbering() {
     let dag = dag_of(&waiting_program());
-    let call = |site, next| Node::SiteCall {
-        site,
-        parameters: vec![],
-        next,
-    };
+    let call = |site, next| Node::SiteCall { site, parameters: vec![], next };
     let x = vec![Parameter::Variable(0)];
     let nodes = vec![
         Node::Fork { left: 1, right: 2 },
-        Node::SiteCall {
-            site: 0,
-            parameters: x.clone(),
-            next: 3,
-        },
+        Node::SiteCall { site: 0, parameters: x.clone(), next: 3 },
         call(16, 3),
         Node::Return,
-        Node::Where {
-            variable: 0,
-            left: 7,
-            right: 8,
-        },
-        Node::Remove {
-            variable: 0,
-            next: 9,
-        },
+        Node::Where { variable: 0, left: 7, right: 8 },
+        Node::Remove { variable: 0, next: 9 },
         Node::Choke,
-        Node::DefinitionCall {
-            definition: 0,
-            parameters: x,
-            next: 5,
-        },
+        Node::DefinitionCall { definition: 0, parameters: x, next: 5 },
         call(17, 6),
         Node::Publish,
     ];
     assert_eq!(dag.nodes, nodes);
-    assert_eq!(
-        (
-            dag.goal,
-            dag.definitions[0].first,
-            dag.definitions[0].formals
-        ),
-        (4, 0, 1)
-    );
+    assert_eq!((dag.goal, dag.definitions[0].first, dag.definitions[0].formals), (4, 0, 1));
 }
 
 #[test]
@@ -94,17 +65,9 @@ fn middle_is_as_told() {
     let dag = dag_of(&waiting_program());
     let record = middle(&dag);
     let states: Vec<State> = record.tokens[..4].iter().map(|token| token.state).collect();
-    let told = [
-        State::Frame,
-        State::CalledOut(0),
-        State::Waiting(0),
-        State::Ready,
-    ];
+    let told = [State::Frame, State::CalledOut(0), State::Waiting(0), State::Ready];
     assert_eq!(states, told);
-    assert_eq!(
-        (record.queue, record.waits, record.calls),
-        (vec![3], vec![2], 1)
-    );
+    assert_eq!((record.queue, record.waits, record.calls), (vec![3], vec![2], 1));
     assert_eq!((record.last_token, record.last_cell), (3, 0));
 }
 
@@ -117,18 +80,8 @@ fn each_clause_of_the_record() {
         assert_eq!(rules::broken(&dag, &record, &PAPER), Some(clause));
         let before = record.clone();
         let machine = Machine::new(&dag);
-        assert_eq!(
-            machine
-                .step(&mut record, 0)
-                .map_err(|refused| refused.number),
-            Err(14)
-        );
-        assert_eq!(
-            machine
-                .answer(&mut record, 0, 0)
-                .map_err(|refused| refused.number),
-            Err(14)
-        );
+        assert_eq!(machine.step(&mut record, 0).map_err(|refused| refused.number), Err(14));
+        assert_eq!(machine.answer(&mut record, 0, 0).map_err(|refused| refused.number), Err(14));
         assert_eq!(record, before);
     };
     breaks("sizes of the tables", |r| r.tokens.truncate(63));
@@ -139,9 +92,7 @@ fn each_clause_of_the_record() {
     breaks("tokens named", |r| r.waits.push(64));
     breaks("tokens named", |r| r.last_token = 64);
     breaks("cells named", |r| r.tokens[0].cell = Some(32));
-    breaks("cells named", |r| {
-        r.tokens[0].bindings[7] = Binding::Cell(32)
-    });
+    breaks("cells named", |r| r.tokens[0].bindings[7] = Binding::Cell(32));
     breaks("cells named", |r| r.tokens[2].state = State::Waiting(32));
     breaks("cells named", |r| r.cells[0].parent = Some(32));
     breaks("cells named", |r| r.last_cell = 32);
@@ -150,45 +101,27 @@ fn each_clause_of_the_record() {
     breaks(queue, |r| r.queue.push(2));
     breaks(queue, |r| r.queue.clear());
     breaks("each parent chain ends", |r| r.cells[0].parent = Some(0));
-    breaks("no live token under a set cell", |r| {
-        r.cells[0].value = Some(1)
-    });
+    breaks("no live token under a set cell", |r| r.cells[0].value = Some(1));
     breaks("open handles", |r| r.tokens[1].state = State::CalledOut(1));
     breaks("open handles", |r| {
         r.tokens[2].state = State::CalledOut(0);
         r.waits.clear();
     });
-    breaks("the wait order names each waiting token once", |r| {
-        r.waits.clear()
-    });
-    breaks("the wait order names each waiting token once", |r| {
-        r.waits.push(2)
-    });
+    breaks("the wait order names each waiting token once", |r| r.waits.clear());
+    breaks("the wait order names each waiting token once", |r| r.waits.push(2));
     breaks("waiting at an unset cell", |r| {
         r.tokens[2].state = State::Waiting(5);
         r.cells[5].value = Some(1);
     });
     let needs = "what a token's node needs";
-    breaks(needs, |r| {
-        (r.tokens[3].node, r.tokens[3].caller) = (3, None)
-    });
-    breaks(needs, |r| {
-        (r.tokens[3].node, r.tokens[3].caller) = (3, Some(1))
-    });
+    breaks(needs, |r| (r.tokens[3].node, r.tokens[3].caller) = (3, None));
+    breaks(needs, |r| (r.tokens[3].node, r.tokens[3].caller) = (3, Some(1)));
     breaks(needs, |r| r.tokens[3].node = 6);
     breaks(needs, |r| r.tokens[2].bindings[0] = Binding::Empty);
-    breaks(needs, |r| {
-        (r.tokens[3].node, r.tokens[3].bindings[0]) = (7, Binding::Empty)
-    });
-    breaks("a ready token has the value it needs", |r| {
-        r.tokens[3].node = 9
-    });
-    breaks("what is not in use is blank", |r| {
-        r.tokens[50].value = Some(1)
-    });
-    breaks("what is not in use is blank", |r| {
-        r.cells[9].parent = Some(0)
-    });
+    breaks(needs, |r| (r.tokens[3].node, r.tokens[3].bindings[0]) = (7, Binding::Empty));
+    breaks("a ready token has the value it needs", |r| r.tokens[3].node = 9);
+    breaks("what is not in use is blank", |r| r.tokens[50].value = Some(1));
+    breaks("what is not in use is blank", |r| r.cells[9].parent = Some(0));
 }
 
 #[test]
@@ -201,34 +134,17 @@ fn each_clause_of_the_dag() {
         assert_eq!(machine.start().map_err(|refused| refused.number), Err(14));
     };
     breaks("kinds", |d| d.nodes[0] = Node::Unknown);
-    breaks("sites", |d| {
-        d.nodes[2] = Node::SiteCall {
-            site: 7,
-            parameters: vec![],
-            next: 3,
-        }
-    });
+    breaks("sites", |d| d.nodes[2] = Node::SiteCall { site: 7, parameters: vec![], next: 3 });
     breaks("counts of the dag", |d| d.definitions[0].formals = 5);
     breaks("counts of the dag", |d| d.nodes.resize(1023, Node::Stop));
     breaks("a built-in with its own count", |d| {
-        d.nodes[2] = Node::SiteCall {
-            site: 0,
-            parameters: vec![],
-            next: 3,
-        }
+        d.nodes[2] = Node::SiteCall { site: 0, parameters: vec![], next: 3 }
     });
     breaks("definitions", |d| d.definitions.clear());
     breaks("nodes of the dag", |d| d.goal = 10);
     breaks("nodes of the dag", |d| d.definitions[0].first = 10);
-    breaks("nodes of the dag", |d| {
-        d.nodes[0] = Node::Fork { left: 1, right: 10 }
-    });
-    breaks("slots", |d| {
-        d.nodes[5] = Node::Remove {
-            variable: 8,
-            next: 9,
-        }
-    });
+    breaks("nodes of the dag", |d| d.nodes[0] = Node::Fork { left: 1, right: 10 });
+    breaks("slots", |d| d.nodes[5] = Node::Remove { variable: 8, next: 9 });
 }
 
 #[test]
@@ -237,27 +153,11 @@ fn refusals_leave_the_record() {
     let machine = Machine::new(&dag);
     let mut record = middle(&dag);
     let before = record.clone();
-    assert_eq!(
-        machine
-            .step(&mut record, 1)
-            .map_err(|refused| refused.number),
-        Err(9)
-    );
-    assert_eq!(
-        machine
-            .answer(&mut record, 1, 0)
-            .map_err(|refused| refused.number),
-        Err(12)
-    );
+    assert_eq!(machine.step(&mut record, 1).map_err(|refused| refused.number), Err(9));
+    assert_eq!(machine.answer(&mut record, 1, 0).map_err(|refused| refused.number), Err(12));
     assert_eq!(record, before);
-    let few = Machine {
-        dag: &dag,
-        limits: Limits { calls: 1, ..PAPER },
-    };
-    assert_eq!(
-        few.step(&mut record, 0).map_err(|refused| refused.number),
-        Err(13)
-    );
+    let few = Machine { dag: &dag, limits: Limits { calls: 1, ..PAPER } };
+    assert_eq!(few.step(&mut record, 0).map_err(|refused| refused.number), Err(13));
     assert_eq!(record, before);
 }
 
@@ -265,14 +165,7 @@ fn refusals_leave_the_record() {
 fn a_full_where_is_refused_for_tokens_first() {
     let dag = dag_of(&waiting_program());
     let refused = |tokens, cells| {
-        let machine = Machine {
-            dag: &dag,
-            limits: Limits {
-                tokens,
-                cells,
-                calls: 9,
-            },
-        };
+        let machine = Machine { dag: &dag, limits: Limits { tokens, cells, calls: 9 } };
         let mut record = machine.start().expect("started");
         for cell in &mut record.cells {
             cell.value = Some(1);
@@ -281,9 +174,7 @@ fn a_full_where_is_refused_for_tokens_first() {
         for (binding, cell) in record.tokens[0].bindings.iter_mut().zip(0..cells) {
             *binding = Binding::Cell(cell);
         }
-        machine
-            .step(&mut record, 0)
-            .map_err(|refused| refused.number)
+        machine.step(&mut record, 0).map_err(|refused| refused.number)
     };
     assert_eq!(refused(1, 2), Err(10));
     assert_eq!(refused(2, 2), Err(11));
@@ -299,23 +190,12 @@ fn run_in_any_order(random: &mut Random, program: &Program, limits: Limits) {
         let open = record.open_handles();
         let number = if open.is_empty() || random.percent(70) {
             let place = random.below(record.queue.len() + 1);
-            machine
-                .step(&mut record, place)
-                .err()
-                .map(|refused| refused.number)
+            machine.step(&mut record, place).err().map(|refused| refused.number)
         } else {
             let handle = *random.pick(&open) + random.below(2) as u32;
-            machine
-                .answer(&mut record, handle, 1)
-                .err()
-                .map(|refused| refused.number)
+            machine.answer(&mut record, handle, 1).err().map(|refused| refused.number)
         };
-        assert_ne!(
-            number,
-            Some(14),
-            "{:?}",
-            rules::broken(&dag, &before, &limits)
-        );
+        assert_ne!(number, Some(14), "{:?}", rules::broken(&dag, &before, &limits));
         assert_eq!(rules::broken(&dag, &record, &limits), None);
         assert!(number.is_none() || record == before);
     }
@@ -327,11 +207,7 @@ fn runs_keep_the_rules() {
     for _ in 0..300 {
         let program = generator::program(&mut random);
         run_in_any_order(&mut random, &program, PAPER);
-        let few = Limits {
-            tokens: random.between(1, 9),
-            cells: random.between(1, 5),
-            calls: 7,
-        };
+        let few = Limits { tokens: random.between(1, 9), cells: random.between(1, 5), calls: 7 };
         run_in_any_order(&mut random, &program, few);
     }
 }
@@ -340,10 +216,7 @@ fn runs_keep_the_rules() {
 fn places_go_round() {
     // F() = signal() | F(): each round gives two places and frees some.
     let body = fork(Expr::Site(3, vec![]), Expr::Call(0, vec![]));
-    let dag = dag_of(&Program {
-        definitions: vec![(0, body)],
-        goal: Expr::Call(0, vec![]),
-    });
+    let dag = dag_of(&Program { definitions: vec![(0, body)], goal: Expr::Call(0, vec![]) });
     let machine = Machine::new(&dag);
     let mut record = machine.start().expect("started");
     let mut last = 0;

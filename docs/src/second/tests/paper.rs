@@ -22,18 +22,12 @@ fn one_or_two() -> Expr {
 
 #[test]
 fn example() {
-    let program = prune(
-        give(Var(0)),
-        fork(Expr::Site(16, vec![Const(5)]), Expr::Site(17, vec![])),
-    );
+    let program = prune(give(Var(0)), fork(Expr::Site(16, vec![Const(5)]), Expr::Site(17, vec![])));
     let mut bytes = Program::new(program).bytes();
     assert_eq!(bytes[..11], [0, 0, 7, 0, 5, 1, 7, 3, 1, 8, 1]);
     append_record(&mut bytes, 1, 42);
     append_record(&mut bytes, 0, 7);
-    assert_eq!(
-        orcrun(&bytes),
-        "call 0 16 5\ncall 1 17\npublish 42\nrefused 12\nend 9\n"
-    );
+    assert_eq!(orcrun(&bytes), "call 0 16 5\ncall 1 17\npublish 42\nrefused 12\nend 9\n");
 }
 
 #[test]
@@ -54,16 +48,10 @@ fn marked_runs() {
 #[test]
 fn marked_recursion() {
     let call = || Expr::Call(0, vec![]);
-    let endless = Program {
-        definitions: vec![(0, call())],
-        goal: call(),
-    };
+    let endless = Program { definitions: vec![(0, call())], goal: call() };
     assert_eq!(lines(endless), "refused 10\nend 63\n");
     let body = prune(Expr::Stop, call());
-    let nested = Program {
-        definitions: vec![(0, body)],
-        goal: call(),
-    };
+    let nested = Program { definitions: vec![(0, body)], goal: call() };
     assert_eq!(lines(nested), "refused 11\nend 97\n");
 }
 
@@ -97,10 +85,7 @@ fn variables() {
     // Formals count too.
     let body = (0..4).fold(give(Var(7)), |inner, _| prune(inner, signal()));
     let formals = vec![Const(1); 4];
-    let program = Program {
-        definitions: vec![(4, body)],
-        goal: Expr::Call(0, formals),
-    };
+    let program = Program { definitions: vec![(4, body)], goal: Expr::Call(0, formals) };
     assert!(lines(program).starts_with("publish 0\n"));
 }
 
@@ -136,12 +121,7 @@ fn entries_that_run_to_the_end() {
     for _ in 0..12 {
         goal = fork(Expr::Stop, goal);
     }
-    let rows = Program {
-        definitions: definitions.clone(),
-        goal: goal.clone(),
-    }
-    .rows()
-    .len();
+    let rows = Program { definitions: definitions.clone(), goal: goal.clone() }.rows().len();
     // Fill up to 512 with a body of the right size.
     let mut filled = definitions;
     let missing = 512 - rows - 1;
@@ -151,10 +131,7 @@ fn entries_that_run_to_the_end() {
         fork(balanced((missing - 2) / 2), give(Const(1)))
     };
     filled.push((0, last));
-    let program = Program {
-        definitions: filled,
-        goal,
-    };
+    let program = Program { definitions: filled, goal };
     assert_eq!(program.rows().len(), 512);
     assert!(lines(program).starts_with("call 0 16 0 0 0\nend "));
 }
@@ -196,10 +173,7 @@ fn the_paper_names_three_misreadings() {
     assert!(lines(program).starts_with("publish 0\n"));
     // An answer to a pruned call is refused, also when its place is taken again.
     let race = fork(Expr::Site(16, vec![]), Expr::Site(17, vec![]));
-    let after = sequence(
-        give(Var(0)),
-        fork(Expr::Site(18, vec![]), Expr::Site(19, vec![])),
-    );
+    let after = sequence(give(Var(0)), fork(Expr::Site(18, vec![]), Expr::Site(19, vec![])));
     let mut bytes = Program::new(prune(after, race)).bytes();
     append_record(&mut bytes, 1, 5);
     append_record(&mut bytes, 0, 6);
@@ -227,17 +201,19 @@ fn doubling(levels: u16) -> Program {
     for level in 0..levels {
         definitions.push((0, sequence(call(level), call(level))));
     }
-    Program {
-        definitions,
-        goal: call(levels),
-    }
+    Program { definitions, goal: call(levels) }
 }
 
 #[test]
 fn limit() {
-    assert_eq!(
-        lines(doubling(13)),
-        format!("publish 0\nend {}\n", 7 * 8192 - 4 + 1)
-    );
+    assert_eq!(lines(doubling(13)), format!("publish 0\nend {}\n", 7 * 8192 - 4 + 1));
     assert_eq!(lines(doubling(14)), "limit\nend 100000\n");
+}
+
+#[test]
+fn exact_steps() {
+    for steps in (4..200).chain([2, 99_999, 100_000]) {
+        let told = format!("publish 0\nend {steps}\n");
+        assert_eq!(lines(second::generator::exact_steps(steps)), told);
+    }
 }

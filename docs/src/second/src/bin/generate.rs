@@ -99,10 +99,7 @@ impl Tally {
             *self.lines.entry(kind.clone()).or_default() += 1;
             if kind.starts_with("table") {
                 let entry = line.rsplit(' ').next().unwrap_or_default();
-                self.entries
-                    .entry(kind.clone())
-                    .or_default()
-                    .insert(entry.to_string());
+                self.entries.entry(kind.clone()).or_default().insert(entry.to_string());
             }
             seen.insert(kind);
         }
@@ -113,16 +110,10 @@ impl Tally {
 
     fn report(&self) -> String {
         let mut text = String::from("line          lines    cases  entries\n");
-        let extra = self
-            .lines
-            .keys()
-            .filter(|kind| !KINDS.contains(&kind.as_str()));
+        let extra = self.lines.keys().filter(|kind| !KINDS.contains(&kind.as_str()));
         for kind in KINDS.into_iter().chain(extra.map(String::as_str)) {
             let of = |counts: &BTreeMap<String, usize>| counts.get(kind).copied().unwrap_or(0);
-            let entries = self
-                .entries
-                .get(kind)
-                .map(|entries| entries.len().to_string());
+            let entries = self.entries.get(kind).map(|entries| entries.len().to_string());
             text.push_str(&format!(
                 "{kind:<11} {:>7} {:>8} {:>8}\n",
                 of(&self.lines),
@@ -136,10 +127,6 @@ impl Tally {
 
 /// The first word, and the number behind `refused` or `table`.
 fn kind(line: &str) -> String {
-    let words = if line.starts_with("refused") || line.starts_with("table") {
-        2
-    } else {
-        1
-    };
+    let words = if line.starts_with("refused") || line.starts_with("table") { 2 } else { 1 };
     line.split(' ').take(words).collect::<Vec<&str>>().join(" ")
 }

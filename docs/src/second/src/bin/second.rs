@@ -14,9 +14,7 @@ fn main() -> ExitCode {
         [] => run_standard_input(),
         ["--cases", file] => run_cases(file),
         ["--split", file, directory] => split_cases(file, directory),
-        _ => Err(io::Error::other(
-            "usage: second [--cases FILE | --split FILE DIRECTORY]",
-        )),
+        _ => Err(io::Error::other("usage: second [--cases FILE | --split FILE DIRECTORY]")),
     };
     match done {
         Ok(()) => ExitCode::SUCCESS,
@@ -30,9 +28,7 @@ fn main() -> ExitCode {
 fn run_standard_input() -> io::Result<()> {
     let mut input = Vec::new();
     // One byte more than allowed is enough to see that the input is too long.
-    io::stdin()
-        .take(lines::MOST_INPUT as u64 + 1)
-        .read_to_end(&mut input)?;
+    io::stdin().take(lines::MOST_INPUT as u64 + 1).read_to_end(&mut input)?;
     io::stdout().write_all(lines::orcrun(&input).as_bytes())
 }
 
