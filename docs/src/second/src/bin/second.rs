@@ -1,0 +1,53 @@
+//! `second`: standard input to orcrun's lines.
+//! `second --cases FILE`: the lines of each case of a file, after a line `case` and its number.
+//! `second --split FILE DIRECTORY`: writes each case to a file of its own, named by its number.
+
+use second::{cases, lines};
+use std::io::{self, Read, Write};
+use std::path::Path;
+use std::process::ExitCode;
+
+fn main() -> ExitCode {
+    let arguments: Vec<String> = std::env::args().skip(1).collect();
+    let words: Vec<&str> = arguments.iter().map(String::as_str).collect();
+    let done = match words[..] {
+        [] => run_standard_input(),
+        ["--cases", file] => run_cases(file),
+        ["--split", file, directory] => split_cases(file, directory),
+        _ => Err(io::Error::other("usage: second [--cases FILE | --split FILE DIRECTORY]")),
+    };
+    match done {
+        Ok(()) => ExitCode::SUCCESS,
+        Err(error) => {
+            eprintln!("second: {error}");
+            ExitCode::FAILURE
+        }
+    }
+}
+
+fn run_standard_input() -> io::Result<()> {
+    let mut input = Vec::new();
+    // One byte more than allowed is enough to see that the input is too long.
+    io::stdin().take(lines::MOST_INPUT as u64 + 1).read_to_end(&mut input)?;
+    io::stdout().write_all(lines::orcrun(&input).as_bytes())
+}
+
+fn run_cases(file: &str) -> io::Result<()> {
+    let mut out = io::BufWriter::new(io::stdout().lock());
+    for (number, case) in split(&std::fs::read(file)?)?.iter().enumerate() {
+        write!(out, "case {number}\n{}", lines::orcrun(case))?;
+    }
+    out.flush()
+}
+
+fn split_cases(file: &str, directory: &str) -> io::Result<()> {
+    std::fs::create_dir_all(directory)?;
+    for (number, case) in split(&std::fs::read(file)?)?.iter().enumerate() {
+        std::fs::write(Path::new(directory).join(number.to_string()), case)?;
+    }
+    Ok(())
+}
+
+fn split(file: &[u8]) -> io::Result<Vec<&[u8]>> {
+    cases::split(file).ok_or_else(|| io::Error::other("the file of cases is cut short"))
+}

@@ -1,0 +1,174 @@
+//! What happens inside the runs of a set of cases: lines alone do not show whether a choke ended
+//! a called-out token, or whether a place was given a second time.
+
+use crate::dag::{self, Dag, Node, Parameter};
+use crate::lines::{MOST_INPUT, MOST_STEPS, RECORD};
+use crate::machine::{Machine, Reply};
+use crate::record::{Binding, Record, State};
+use crate::sites;
+use crate::table;
+use std::collections::BTreeMap;
+
+/// Happenings that a good set of cases has, each with how often it was seen.
+#[derive(Default)]
+pub struct Coverage {
+    pub counts: BTreeMap<&'static str, usize>,
+}
+
+pub const HAPPENINGS: [&str; 27] = [
+    "answer accepted",
+    "assign",
+    "cell place given again from 0",
+    "choke",
+    "choke ends a called-out token",
+    "choke ends a frame",
+    "choke ends a ready token",
+    "choke ends a waiting token",
+    "choke wakes one token",
+    "choke wakes several tokens",
+    "definition call",
+    "definition call passes a set cell",
+    "definition call passes an unset cell",
+    "fork",
+    "outside call",
+    "publish",
+    "remove",
+    "return",
+    "return leaves its frame in use",
+    "set cell stays in use",
+    "silent built-in",
+    "site call reads a set cell",
+    "stop",
+    "token place given again from 0",
+    "value from a built-in",
+    "wait",
+    "where",
+];
+
+impl Coverage {
+    /// Runs one case as orcrun does and notes what happens.
+    pub fn add(&mut self, input: &[u8]) {
+        let (bytes, records) = input.split_at(table::length_in(input));
+        if input.len() > MOST_INPUT {
+            return;
+        }
+        if let Ok(table) = table::read(bytes) {
+            self.run(&dag::build(&table), records);
+        }
+    }
+
+    fn note(&mut self, happening: &'static str) {
+        *self.counts.entry(happening).or_default() += 1;
+    }
+
+    fn note_if(&mut self, happened: bool, happening: &'static str) {
+        if happened {
+            self.note(happening);
+        }
+    }
+
+    fn run(&mut self, dag: &Dag, records: &[u8]) {
+        let machine = Machine::new(dag);
+        let Ok(mut record) = machine.start() else {
+            return;
+        };
+        let mut records = records.chunks_exact(RECORD);
+        let mut steps = 0;
+        loop {
+            while !record.queue.is_empty() {
+                let before = record.clone();
+                let Ok(reply) = machine.step(&mut record, 0) else {
+                    return;
+                };
+                self.note_step(dag, &before, &reply, &record);
+                steps += 1;
+                if steps == MOST_STEPS {
+                    return;
+                }
+            }
+            let Some(next) = records.next() else { return };
+            let word = |at: usize| [next[at], next[at + 1], next[at + 2], next[at + 3]];
+            let (handle, value) = (u32::from_le_bytes(word(0)), i32::from_le_bytes(word(4)));
+            let accepted = machine.answer(&mut record, handle, value).is_ok();
+            self.note_if(accepted, "answer accepted");
+        }
+    }
+
+    fn note_step(&mut self, dag: &Dag, before: &Record, reply: &Reply, after: &Record) {
+        let at = before.queue[0];
+        let node = &dag.nodes[before.tokens[at].node];
+        match node {
+            Node::Unknown => {}
+            Node::Stop => self.note("stop"),
+            Node::SiteCall { site, .. } => self.note_site_call(before, node, *site, reply),
+            Node::DefinitionCall { .. } => self.note_definition_call(before, node),
+            Node::Fork { .. } => self.note("fork"),
+            Node::Assign { .. } => self.note("assign"),
+            Node::Remove { .. } => self.note("remove"),
+            Node::Where { .. } => self.note("where"),
+            Node::Choke => self.note_choke(before, after),
+            Node::Return => self.note_return(before, after),
+            Node::Publish => self.note("publish"),
+        }
+        self.note_if(after.last_token < before.last_token, "token place given again from 0");
+        self.note_if(after.last_cell < before.last_cell, "cell place given again from 0");
+    }
+
+    fn note_site_call(&mut self, before: &Record, node: &Node, site: u32, reply: &Reply) {
+        match reply {
+            Reply::Waits => return self.note("wait"),
+            Reply::Ends => self.note("silent built-in"),
+            _ if sites::is_outside(site) => self.note("outside call"),
+            _ => self.note("value from a built-in"),
+        }
+        let reads = cells_read(before, node).any(|set| set);
+        self.note_if(reads, "site call reads a set cell");
+    }
+
+    fn note_definition_call(&mut self, before: &Record, node: &Node) {
+        self.note("definition call");
+        let cells: Vec<bool> = cells_read(before, node).collect();
+        self.note_if(cells.contains(&true), "definition call passes a set cell");
+        self.note_if(cells.contains(&false), "definition call passes an unset cell");
+    }
+
+    fn note_return(&mut self, before: &Record, after: &Record) {
+        self.note("return");
+        let frame = before.tokens[before.queue[0]].caller.expect("the rules ask for a frame");
+        let left = after.tokens[frame].state == State::Frame;
+        self.note_if(left, "return leaves its frame in use");
+    }
+
+    fn note_choke(&mut self, before: &Record, after: &Record) {
+        self.note("choke");
+        let at = before.queue[0];
+        let cell = before.tokens[at].cell.expect("the rules ask for a cell");
+        self.note_if(after.cells[cell].value.is_some(), "set cell stays in use");
+        let mut woken = 0;
+        for (place, token) in before.tokens.iter().enumerate() {
+            let ended = before.chain(token.cell).any(|above| above == cell) && place != at;
+            match token.state {
+                State::Ready => self.note_if(ended, "choke ends a ready token"),
+                State::CalledOut(_) => self.note_if(ended, "choke ends a called-out token"),
+                State::Frame => self.note_if(ended, "choke ends a frame"),
+                State::Waiting(_) if ended => self.note("choke ends a waiting token"),
+                State::Waiting(at) => woken += (at == cell) as usize,
+                State::Blank => {}
+            }
+        }
+        self.note_if(woken == 1, "choke wakes one token");
+        self.note_if(woken > 1, "choke wakes several tokens");
+    }
+}
+
+/// For each parameter that is a cell, whether it is set.
+fn cells_read<'a>(record: &'a Record, node: &'a Node) -> impl Iterator<Item = bool> + 'a {
+    let token = &record.tokens[record.queue[0]];
+    node.parameters().iter().filter_map(|parameter| match *parameter {
+        Parameter::Variable(number) => match token.bindings[number] {
+            Binding::Cell(cell) => Some(record.cells[cell].value.is_some()),
+            _ => None,
+        },
+        Parameter::Constant(_) => None,
+    })
+}

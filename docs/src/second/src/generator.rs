@@ -1,0 +1,707 @@
+//! Inputs made by chance from a seed, steered so that every line that can occur does occur.
+//!
+//! A valid case is a program with answers to it: the answers are found by running the program, so
+//! that most of them meet an open handle. A damaged case is a valid one with one or two faults.
+
+use crate::dag;
+use crate::lines::{MOST_INPUT, MOST_STEPS};
+use crate::machine::{Machine, Reply};
+use crate::random::Random;
+use crate::record::Record;
+use crate::sites::BUILT_IN_COUNTS;
+use crate::syntax::{append_record, encode, fork, give, prune, sequence, signal};
+use crate::syntax::{Expr, Param, Program, Row};
+use crate::table::{self, MOST_DEFINITIONS, MOST_DEPTH, MOST_ENTRIES, MOST_IN_SCOPE};
+
+/// The first cases are the special ones, the rest are made by chance.
+pub fn cases(seed: u64, count: usize) -> Vec<Vec<u8>> {
+    let mut random = Random::new(seed);
+    let mut cases = special_cases();
+    cases.truncate(count);
+    while cases.len() < count {
+        cases.push(any_case(&mut random));
+    }
+    cases
+}
+
+pub fn any_case(random: &mut Random) -> Vec<u8> {
+    match random.below(100) {
+        0..=60 => valid_case(random),
+        61..=91 => damaged_case(random),
+        92..=94 => clash_case(random),
+        _ => random_bytes(random),
+    }
+}
+
+// Valid cases.
+
+fn valid_case(random: &mut Random) -> Vec<u8> {
+    let mut bytes = program(random).bytes();
+    append_answers(random, &mut bytes);
+    append_piece(random, &mut bytes);
+    bytes
+}
+
+/// A program whose table is accepted.
+pub fn program(random: &mut Random) -> Program {
+    loop {
+        let program = Writer::new(random).program();
+        if program.rows().len() <= MOST_ENTRIES {
+            return program;
+        }
+    }
+}
+
+/// Writes one program. `callable` are the definitions that the body at work may call.
+struct Writer<'a> {
+    random: &'a mut Random,
+    formals: Vec<u32>,
+    callable: usize,
+}
+
+impl Writer<'_> {
+    fn new(random: &mut Random) -> Writer<'_> {
+        let count = match random.below(20) {
+            0..=4 => 0,
+            5..=17 => random.between(1, 4),
+            _ => random.between(5, MOST_DEFINITIONS),
+        };
+        let formals = (0..count).map(|_| random.below(5) as u32).collect();
+        Writer { random, formals, callable: 0 }
+    }
+
+    /// Without recursion a body calls only definitions before its own.
+    fn program(&mut self) -> Program {
+        let total = self.formals.len();
+        let recursive = self.random.percent(20);
+        let budget = self.budget() / (1 + total / 8);
+        let mut definitions = Vec::new();
+        for own in 0..total {
+            self.callable = if recursive { total } else { own };
+            definitions.push((self.formals[own], self.body(own, budget)));
+        }
+        self.callable = total;
+        let goal = self.goal(budget);
+        Program { definitions, goal }
+    }
+
+    fn budget(&mut self) -> usize {
+        match self.random.below(10) {
+            0..=2 => self.random.between(1, 6),
+            3..=7 => self.random.between(6, 25),
+            _ => self.random.between(25, 120),
+        }
+    }
+
+    fn goal(&mut self, budget: usize) -> Expr {
+        match self.random.below(12) {
+            0 => self.spine(1, 0),
+            1 => self.cells(1, 0, budget),
+            _ => self.expr(1, 0, budget),
+        }
+    }
+
+    fn body(&mut self, own: usize, budget: usize) -> Expr {
+        let formals = self.formals[own];
+        match self.random.below(10) {
+            0..=2 if formals > 0 => self.countdown(own, budget),
+            3 => self.nested_where(own),
+            _ => self.expr(1, formals, budget),
+        }
+    }
+
+    fn expr(&mut self, depth: usize, scope: u32, budget: usize) -> Expr {
+        if budget <= 1 || depth >= MOST_DEPTH {
+            return self.leaf(scope);
+        }
+        let f = self.random.between(1, budget);
+        let (f, g) = (f.min(budget - 1), (budget - f).max(1));
+        let may_bind = (scope as usize) < MOST_IN_SCOPE;
+        match self.random.below(20) {
+            0..=4 => fork(self.expr(depth + 1, scope, f), self.expr(depth + 1, scope, g)),
+            5..=10 if may_bind => {
+                sequence(self.expr(depth + 1, scope, f), self.expr(depth + 1, scope + 1, g))
+            }
+            11..=16 if may_bind => {
+                prune(self.expr(depth + 1, scope + 1, f), self.expr(depth + 1, scope, g))
+            }
+            17 if may_bind => self.race(depth, scope),
+            18 if may_bind => self.pass_unset(depth, scope, g),
+            _ => self.leaf(scope),
+        }
+    }
+
+    fn leaf(&mut self, scope: u32) -> Expr {
+        match self.random.below(20) {
+            0 => Expr::Stop,
+            1..=7 => self.built_in(scope),
+            8..=14 => self.outside(scope),
+            _ if self.callable > 0 => self.call(scope),
+            _ => self.built_in(scope),
+        }
+    }
+
+    fn built_in(&mut self, scope: u32) -> Expr {
+        let site = *self.random.pick(&[0, 0, 0, 0, 1, 2, 3, 4, 4, 5, 6]);
+        Expr::Site(site, self.params(scope, BUILT_IN_COUNTS[site as usize]))
+    }
+
+    fn outside(&mut self, scope: u32) -> Expr {
+        let site = match self.random.below(6) {
+            0 => self.random.between(16, 1023),
+            1 => 1023,
+            _ => self.random.between(16, 20),
+        };
+        let count = self.random.below(5);
+        Expr::Site(site as u16, self.params(scope, count))
+    }
+
+    fn call(&mut self, scope: u32) -> Expr {
+        let definition = self.random.below(self.callable);
+        let count = self.formals[definition] as usize;
+        Expr::Call(definition as u16, self.params(scope, count))
+    }
+
+    fn params(&mut self, scope: u32, count: usize) -> Vec<Param> {
+        (0..count).map(|_| self.param(scope)).collect()
+    }
+
+    fn param(&mut self, scope: u32) -> Param {
+        if scope == 0 || self.random.percent(25) {
+            return Param::Const(value(self.random));
+        }
+        // The innermost variable is the one most likely used.
+        match self.random.percent(50) {
+            true => Param::Var(scope - 1),
+            false => Param::Var(self.random.below(scope as usize) as u32),
+        }
+    }
+
+    /// Two outside calls of which the first to answer wins.
+    fn race(&mut self, depth: usize, scope: u32) -> Expr {
+        if depth + 2 > MOST_DEPTH {
+            return self.leaf(scope);
+        }
+        let calls = fork(self.outside(scope), self.outside(scope));
+        prune(self.leaf(scope + 1), calls)
+    }
+
+    /// A definition call gets a variable that stays unset for a while.
+    fn pass_unset(&mut self, depth: usize, scope: u32, budget: usize) -> Expr {
+        if self.callable == 0 {
+            return self.race(depth, scope);
+        }
+        prune(self.call(scope + 1), self.expr(depth + 1, scope, budget))
+    }
+
+    /// F(n, ..): while n is above 0, with m = n - 1, the rest calls F(m, ..).
+    fn countdown(&mut self, own: usize, budget: usize) -> Expr {
+        let formals = self.formals[own];
+        let m = formals + 2;
+        let mut params = vec![Param::Var(m)];
+        params.extend((1..formals).map(|_| self.param(formals)));
+        let again = Expr::Call(own as u16, params);
+        let rest = match self.random.below(6) {
+            0 => again,
+            1 => sequence(again.clone(), again),
+            2 => fork(again, self.leaf(m + 1)),
+            3 => prune(self.leaf(m + 2), again),
+            4 => sequence(self.outside(m + 1), again),
+            _ => fork(self.expr(6, m + 1, budget / 2), again),
+        };
+        let less = Expr::Site(5, vec![Param::Const(0), Param::Var(0)]);
+        let ift = Expr::Site(1, vec![Param::Var(formals)]);
+        let step = Expr::Site(4, vec![Param::Var(0), Param::Const(-1)]);
+        let loops = sequence(less, sequence(ift, sequence(step, rest)));
+        match self.random.percent(70) {
+            true => fork(loops, self.leaf(formals)),
+            false => fork(self.leaf(formals), loops),
+        }
+    }
+
+    /// W() = f <x< W(): cells run out before tokens do.
+    fn nested_where(&mut self, own: usize) -> Expr {
+        let formals = self.formals[own];
+        let params = self.params(formals, formals as usize);
+        let again = Expr::Call(own as u16, params);
+        match self.random.percent(50) {
+            true => prune(Expr::Stop, again),
+            false => prune(self.leaf(formals + 1), again),
+        }
+    }
+
+    /// A program as deep as depth goes, along one side.
+    fn spine(&mut self, depth: usize, scope: u32) -> Expr {
+        if depth == MOST_DEPTH {
+            return self.leaf(scope);
+        }
+        let may_bind = (scope as usize) < MOST_IN_SCOPE;
+        match self.random.below(6) {
+            0 if may_bind => sequence(self.leaf(scope), self.spine(depth + 1, scope + 1)),
+            1 if may_bind => prune(self.spine(depth + 1, scope + 1), self.leaf(scope)),
+            2 if may_bind => prune(self.leaf(scope + 1), self.spine(depth + 1, scope)),
+            3 if may_bind => sequence(self.spine(depth + 1, scope), self.leaf(scope + 1)),
+            4 => fork(self.leaf(scope), self.spine(depth + 1, scope)),
+            _ => fork(self.spine(depth + 1, scope), self.leaf(scope)),
+        }
+    }
+
+    /// Many cells side by side: each branch waits for an outside answer of its own.
+    fn cells(&mut self, depth: usize, scope: u32, budget: usize) -> Expr {
+        if budget <= 2 || depth + 2 > MOST_DEPTH {
+            return match depth < MOST_DEPTH {
+                true => prune(self.leaf(scope + 1), self.outside(scope)),
+                false => self.leaf(scope),
+            };
+        }
+        let half = budget / 2;
+        fork(self.cells(depth + 1, scope, half), self.cells(depth + 1, scope, budget - half))
+    }
+}
+
+fn value(random: &mut Random) -> i32 {
+    match random.below(10) {
+        0 => *random.pick(&[i32::MAX, i32::MIN, i32::MAX - 1, i32::MIN + 1]),
+        1 => random.draw() as i32,
+        2..=5 => random.below(2) as i32,
+        _ => random.below(8) as i32 - 1,
+    }
+}
+
+/// Runs the table in house order and appends the answers given where the queue was empty.
+fn append_answers(random: &mut Random, bytes: &mut Vec<u8>) {
+    let table = table::read(bytes).expect("a valid program has an accepted table");
+    let dag = dag::build(&table);
+    let machine = Machine::new(&dag);
+    let mut record = machine.start().expect("a table's dag keeps the rules");
+    let most = match random.below(20) {
+        0 => 300,
+        1..=3 => 0,
+        _ => 25,
+    };
+    let mut steps = 0;
+    for _ in 0..random.between(0, most) {
+        run_until_empty(&machine, &mut record, &mut steps);
+        let handle = choose_handle(random, &record);
+        let value = value(random);
+        append_record(bytes, handle, value);
+        // A wrong handle is refused and changes nothing; the run goes on.
+        let _ = machine.answer(&mut record, handle, value);
+    }
+}
+
+fn run_until_empty(machine: &Machine, record: &mut Record, steps: &mut u32) {
+    while !record.queue.is_empty() && *steps < MOST_STEPS {
+        let reply: Result<Reply, _> = machine.step(record, 0);
+        if reply.is_err() {
+            return;
+        }
+        *steps += 1;
+    }
+}
+
+/// Mostly an open handle, in any order; else one that is not open, or may not be.
+fn choose_handle(random: &mut Random, record: &Record) -> u32 {
+    let open = record.open_handles();
+    if !open.is_empty() && random.percent(88) {
+        return *random.pick(&open);
+    }
+    // An open handle with a high bit added must not pass for the handle.
+    if !open.is_empty() && random.percent(40) {
+        return random.pick(&open) | 1 << random.between(8, 31);
+    }
+    match random.below(4) {
+        0 => record.calls,
+        1 => record.calls + random.below(3) as u32,
+        2 => random.draw() as u32,
+        _ => random.below(record.calls as usize + 1) as u32,
+    }
+}
+
+/// Sometimes a piece that is too short for a record.
+fn append_piece(random: &mut Random, bytes: &mut Vec<u8>) {
+    if random.percent(15) {
+        let length = random.between(1, 7);
+        bytes.extend((0..length).map(|_| random.draw() as u8));
+    }
+}
+
+// Damaged cases.
+
+fn damaged_case(random: &mut Random) -> Vec<u8> {
+    let program = program(random);
+    let mut damaged =
+        Damaged { definitions: program.definitions.len() as u16, rows: program.rows() };
+    let mut target = random.between(1, 8);
+    damaged.damage(random, target);
+    if random.percent(30) {
+        target = random.between(1, 8);
+        damaged.damage(random, target);
+    }
+    let mut bytes = encode(damaged.definitions, &damaged.rows);
+    if target == 1 || random.percent(3) {
+        bytes.truncate(random.below(bytes.len()));
+    }
+    if random.percent(30) {
+        append_record(&mut bytes, 0, value(random));
+        append_piece(random, &mut bytes);
+    }
+    bytes
+}
+
+/// An entry at depth 24 or 25, with up to 8 variables in scope, that earns several refusals: the
+/// order of the tests decides.
+fn clash_case(random: &mut Random) -> Vec<u8> {
+    let deep = random.between(MOST_DEPTH - 1, MOST_DEPTH) - 1;
+    let binders = *random.pick(&[0, 6, 7, 8, 8, 8]);
+    let mut rows: Vec<Row> =
+        (0..deep).flat_map(|level| [(if level < binders { 4 } else { 3 }, 0), (0, 0)]).collect();
+    rows.push((3, 0));
+    let clashes = [
+        (0, 0),
+        (0, 1),
+        (1, 7),
+        (1, 0x0005_0010),
+        (2, 0x0005_0000),
+        (2, 0),
+        (3, 0),
+        (3, 5),
+        (4, 0),
+        (4, 1),
+        (5, 0),
+        (5, 2),
+        (6, 9),
+        (7, 99),
+        (9, 9),
+    ];
+    rows.push(*random.pick(&clashes));
+    rows.extend((0..random.below(5)).map(|_| (0, 0)));
+    encode(0, &rows)
+}
+
+struct Damaged {
+    definitions: u16,
+    rows: Vec<Row>,
+}
+
+impl Damaged {
+    /// Aims at one refusal. An earlier entry may turn it into another one.
+    fn damage(&mut self, random: &mut Random, target: usize) {
+        if self.rows.is_empty() {
+            return;
+        }
+        match target {
+            2 => self.damage_sizes(random),
+            3 => self.damage_kind(random),
+            4 => self.damage_operand(random),
+            5 => self.damage_length(random),
+            6 => self.insert_spine(random),
+            7 => self.damage_variable(random),
+            8 => self.damage_call(random),
+            // 1 is done on the bytes.
+            _ => {}
+        }
+    }
+
+    fn any(&self, random: &mut Random) -> usize {
+        random.below(self.rows.len())
+    }
+
+    /// Any row of one of these kinds.
+    fn any_of(&self, random: &mut Random, kinds: &[u8]) -> Option<usize> {
+        let places: Vec<usize> =
+            (0..self.rows.len()).filter(|at| kinds.contains(&self.rows[*at].0)).collect();
+        (!places.is_empty()).then(|| *random.pick(&places))
+    }
+
+    fn damage_sizes(&mut self, random: &mut Random) {
+        match random.below(4) {
+            0 => self.rows.clear(),
+            1 => self.rows.resize(random.between(MOST_ENTRIES + 1, 600), (0, 0)),
+            2 => self.definitions = MOST_DEFINITIONS as u16 + 1,
+            _ => self.definitions = random.between(MOST_DEFINITIONS + 1, 0xffff) as u16,
+        }
+    }
+
+    fn damage_kind(&mut self, random: &mut Random) {
+        let at = self.any(random);
+        self.rows[at].0 = match random.percent(40) {
+            true => random.between(9, 255) as u8,
+            false => random.below(9) as u8,
+        };
+    }
+
+    fn damage_operand(&mut self, random: &mut Random) {
+        let Some(at) = self.any_of(random, &[0, 1, 2, 3, 4, 5, 6]) else {
+            return;
+        };
+        let (kind, operand) = self.rows[at];
+        let (low, high) = (operand & 0xffff, operand >> 16);
+        let count =
+            |random: &mut Random| *random.pick(&[0, 1, 2, 3, 4, 5, 5, 6, 255, 0xffff]) << 16;
+        self.rows[at].1 = match kind {
+            1 if random.percent(50) => {
+                let sites = [7, 8, 15, 16, 1023, 1024, 0x7fff, 0xffff];
+                high << 16 | *random.pick(&sites)
+            }
+            1 | 2 => low | count(random),
+            6 => *random.pick(&[5, 6, 255, 0x0001_0000, 0xffff_ffff]),
+            _ => *random.pick(&[1, 2, 255, 0x0001_0000, 0x8000_0000, 0xffff_ffff]),
+        };
+    }
+
+    fn damage_length(&mut self, random: &mut Random) {
+        match random.below(4) {
+            0 => self.definitions = (self.definitions + 1).min(MOST_DEFINITIONS as u16),
+            1 => {
+                let more = random.between(1, 5);
+                self.rows.extend((0..more).map(|_| random_row(random)));
+            }
+            2 => self.rows.truncate(random.between(1, self.rows.len())),
+            _ => self.rows.truncate(self.rows.len().max(2) - 1),
+        }
+    }
+
+    /// Before any expression: so many times `stop |`, which makes it that much deeper.
+    fn insert_spine(&mut self, random: &mut Random) {
+        let Some(at) = self.any_of(random, &[0, 1, 2, 3, 4, 5]) else {
+            return;
+        };
+        let levels = random.between(18, 26);
+        self.insert_pairs(at, 3, levels);
+    }
+
+    fn insert_pairs(&mut self, at: usize, kind: u8, count: usize) {
+        let pairs = (0..count).flat_map(|_| [(kind, 0), (0, 0)]);
+        self.rows.splice(at..at, pairs);
+    }
+
+    fn damage_variable(&mut self, random: &mut Random) {
+        match self.any_of(random, &[7, 8]) {
+            Some(at) if random.percent(60) => {
+                self.rows[at] = (7, *random.pick(&[0, 1, 2, 3, 5, 7, 8, 9, 255, 0xffff_ffff]));
+            }
+            _ => {
+                // `stop >x>` puts one more variable in scope each time.
+                let Some(at) = self.any_of(random, &[0, 1, 2, 3, 4, 5]) else {
+                    return;
+                };
+                let binders = random.between(4, 10);
+                self.insert_pairs(at, 4, binders);
+            }
+        }
+    }
+
+    fn damage_call(&mut self, random: &mut Random) {
+        match (self.any_of(random, &[2]), self.any_of(random, &[6])) {
+            (Some(at), _) if random.percent(60) => {
+                let high = self.rows[at].1 & 0xffff_0000;
+                let d = self.definitions as u32;
+                let definition = *random.pick(&[0, d.saturating_sub(1), d, d + 1, 32, 0xffff]);
+                self.rows[at].1 = high | definition;
+            }
+            (_, Some(at)) if random.percent(60) => self.rows[at].1 = random.below(5) as u32,
+            _ => {
+                // A call in place of a stop, or in front of the whole goal.
+                let call = (2, random.below(4) as u32);
+                match self.any_of(random, &[0]) {
+                    Some(at) => self.rows[at] = call,
+                    None if self.definitions == 0 => {
+                        self.rows.splice(0..0, [(3, 0), call]);
+                    }
+                    None => {}
+                }
+            }
+        }
+    }
+}
+
+/// A row that often fits somewhere.
+fn random_row(random: &mut Random) -> Row {
+    let kind = random.below(9) as u8;
+    let operand = match kind {
+        1 => {
+            let site = random.below(7);
+            site as u32 | (BUILT_IN_COUNTS[site] as u32) << 16
+        }
+        2 => random.below(3) as u32 | (random.below(3) as u32) << 16,
+        6 | 7 => random.below(5) as u32,
+        8 => value(random) as u32,
+        _ => 0,
+    };
+    (kind, operand)
+}
+
+/// Bytes by chance, with or without a header that fits.
+fn random_bytes(random: &mut Random) -> Vec<u8> {
+    let length = random.below(80);
+    match random.below(3) {
+        0 => (0..length).map(|_| random.draw() as u8).collect(),
+        1 => {
+            let rows: Vec<Row> = (0..=length).map(|_| random_row(random)).collect();
+            encode(random.below(3) as u16, &rows)
+        }
+        _ => {
+            let rows: Vec<Row> =
+                (0..=length).map(|_| (random.below(10) as u8, random.draw() as u32)).collect();
+            encode(random.below(34) as u16, &rows)
+        }
+    }
+}
+
+// Special cases.
+
+/// The edges of the paper's numbers, the same for every seed.
+pub fn special_cases() -> Vec<Vec<u8>> {
+    let mut cases: Vec<Vec<u8>> = vec![vec![], vec![0], vec![0, 0], vec![0, 0, 1], vec![0; 4]];
+    cases.extend(long_inputs());
+    cases.extend(edges_of_tables());
+    cases.extend(step_limits());
+    cases.push(many_answers());
+    cases
+}
+
+fn outside_call() -> Expr {
+    Expr::Site(16, vec![])
+}
+
+/// Just allowed and just too long, with a good table and with a bad one.
+fn long_inputs() -> Vec<Vec<u8>> {
+    let good = Program::new(outside_call()).bytes();
+    let with_length = |bytes: &[u8], length| {
+        let mut bytes = bytes.to_vec();
+        bytes.resize(length, 0);
+        bytes
+    };
+    vec![
+        with_length(&good, MOST_INPUT),
+        with_length(&good, MOST_INPUT + 1),
+        with_length(&[33, 0, 0xff, 0xff], MOST_INPUT),
+        // 13,106 entries are all there, but too many.
+        with_length(&[0, 0, 0x32, 0x33], MOST_INPUT),
+        with_length(&[], MOST_INPUT + 1),
+    ]
+}
+
+fn edges_of_tables() -> Vec<Vec<u8>> {
+    let mut cases = Vec::new();
+    for depth in [24, 25] {
+        let deep = (1..depth).fold(signal(), |inner, _| fork(signal(), inner));
+        cases.push(Program::new(deep).bytes());
+    }
+    for binders in [8, 9] {
+        let inner = give(Param::Var(binders - 1));
+        let bound = (0..binders).fold(inner.clone(), |inner, _| sequence(signal(), inner));
+        cases.push(Program::new(bound).bytes());
+        let bound = (0..binders).fold(inner, |inner, _| prune(inner, signal()));
+        cases.push(Program::new(bound).bytes());
+    }
+    cases.push(Program::new(full_prunes(8)).bytes());
+    // 32 definitions of 14 rows, and a goal that fills the table or overfills it by one.
+    for goal in [64, 65] {
+        let body = (0..6).fold(signal(), |inner, _| fork(signal(), inner));
+        let mut rows = Vec::new();
+        for _ in 0..MOST_DEFINITIONS {
+            rows.push((6, 0));
+            rows.extend(Program::new(body.clone()).rows());
+        }
+        rows.extend(Program::new(stops_and_one_call(goal)).rows());
+        cases.push(encode(MOST_DEFINITIONS as u16, &rows));
+    }
+    cases
+}
+
+/// Prunes in both sides of prunes. Eight levels make 511 rows and 1,022 nodes, the most there are.
+pub fn full_prunes(levels: usize) -> Expr {
+    match levels {
+        0 => signal(),
+        _ => prune(full_prunes(levels - 1), full_prunes(levels - 1)),
+    }
+}
+
+/// Stops side by side and, where the number of rows asks for it, a call with one parameter.
+fn stops_and_one_call(rows: usize) -> Expr {
+    match rows {
+        1 => Expr::Stop,
+        2 => Expr::Site(16, vec![Param::Const(7)]),
+        _ => {
+            // Halves keep it flat; the left side always has an odd number of rows.
+            let left = (rows / 2) | 1;
+            let left = if left + 1 < rows { left } else { 1 };
+            fork(stops_and_one_call(left), stops_and_one_call(rows - 1 - left))
+        }
+    }
+}
+
+/// F0() = signal(), Fk() = F(k-1)() >x> F(k-1)(). One token runs, with k frames at most, and a
+/// call of Fk takes 7 * 2^k - 4 steps: so a run may be long without growth.
+fn doubling(first: Expr, levels: u16) -> Vec<(u32, Expr)> {
+    let call = |level| Expr::Call(level, vec![]);
+    let mut definitions = vec![(0, first)];
+    definitions.extend((0..levels).map(|level| (0, sequence(call(level), call(level)))));
+    definitions
+}
+
+const LEVELS: u16 = 14;
+
+/// A program that makes exactly so many steps (2, or 4 and more) and publishes once. Behind a first
+/// signal() and its publish, the parts are `>x> Fk()`, `>x> signal()` and `stop |`.
+pub fn exact_steps(steps: u32) -> Program {
+    let mut goal = signal();
+    let mut left = steps - 2;
+    while left > 0 {
+        let fits = |cost: u32| cost <= left && left - cost != 1;
+        let level = (0..=LEVELS).rev().find(|level| fits((7 << level) - 2));
+        if let Some(level) = level {
+            goal = sequence(goal, Expr::Call(level, vec![]));
+            left -= (7 << level) - 2;
+        } else if fits(3) {
+            goal = sequence(goal, signal());
+            left -= 3;
+        } else {
+            goal = fork(Expr::Stop, goal);
+            left -= 2;
+        }
+    }
+    Program { definitions: doubling(signal(), LEVELS), goal }
+}
+
+/// Runs that end before, at and beyond the most steps; at the most steps also with records, with
+/// a short piece and with an open call.
+fn step_limits() -> Vec<Vec<u8>> {
+    let mut cases = Vec::new();
+    for steps in [MOST_STEPS - 1, MOST_STEPS, MOST_STEPS + 1] {
+        cases.push(exact_steps(steps).bytes());
+    }
+    let mut with_piece = exact_steps(MOST_STEPS).bytes();
+    append_record(&mut with_piece, 0, 0);
+    with_piece.push(1);
+    cases.push(with_piece);
+    // The fork and the outside call take 2 steps more.
+    for steps in [MOST_STEPS - 1, MOST_STEPS] {
+        let mut program = exact_steps(steps - 2);
+        program.goal = fork(outside_call(), program.goal);
+        let mut bytes = program.bytes();
+        append_record(&mut bytes, 1, 5);
+        append_record(&mut bytes, 0, 6);
+        bytes.extend([0; 3]);
+        cases.push(bytes);
+    }
+    // At the limit a token waits, or a second one is ready.
+    let call = |level| Expr::Call(level, vec![]);
+    for goal in [prune(give(Param::Var(0)), call(LEVELS)), fork(call(13), call(13))] {
+        cases.push(Program { definitions: doubling(signal(), LEVELS), goal }.bytes());
+    }
+    cases
+}
+
+/// One outside call after the other, as many as there is room for answers.
+fn many_answers() -> Vec<u8> {
+    let program =
+        Program { definitions: doubling(outside_call(), 12), goal: Expr::Call(12, vec![]) };
+    let mut bytes = program.bytes();
+    for handle in 0..5000 {
+        append_record(&mut bytes, handle, handle as i32 - 2500);
+    }
+    bytes
+}

@@ -1,0 +1,230 @@
+//! The machine's calls one by one: refusals, the rules' clauses, and runs in any order.
+
+use second::dag::{self, Dag, Node, Parameter};
+use second::generator;
+use second::machine::{Machine, Reply};
+use second::random::Random;
+use second::record::{Binding, Limits, Record, State, PAPER};
+use second::rules;
+use second::syntax::{fork, give, prune, Expr, Param, Program};
+use second::table;
+
+fn dag_of(program: &Program) -> Dag {
+    dag::build(&table::read(&program.bytes()).expect("accepted"))
+}
+
+/// D(a) = let(a) | out(), goal D(x) <x< out().
+fn waiting_program() -> Program {
+    let body = fork(give(Param::Var(0)), Expr::Site(16, vec![]));
+    let goal = prune(Expr::Call(0, vec![Param::Var(0)]), Expr::Site(17, vec![]));
+    Program { definitions: vec![(1, body)], goal }
+}
+
+#[test]
+fn numbering() {
+    let dag = dag_of(&waiting_program());
+    let call = |site, next| Node::SiteCall { site, parameters: vec![], next };
+    let x = vec![Parameter::Variable(0)];
+    let nodes = vec![
+        Node::Fork { left: 1, right: 2 },
+        Node::SiteCall { site: 0, parameters: x.clone(), next: 3 },
+        call(16, 3),
+        Node::Return,
+        Node::Where { variable: 0, left: 7, right: 8 },
+        Node::Remove { variable: 0, next: 9 },
+        Node::Choke,
+        Node::DefinitionCall { definition: 0, parameters: x, next: 5 },
+        call(17, 6),
+        Node::Publish,
+    ];
+    assert_eq!(dag.nodes, nodes);
+    assert_eq!((dag.goal, dag.definitions[0].first, dag.definitions[0].formals), (4, 0, 1));
+}
+
+#[test]
+fn most_nodes() {
+    let program = Program::new(generator::full_prunes(8));
+    assert_eq!(program.rows().len(), 511);
+    let dag = dag_of(&program);
+    assert_eq!(dag.nodes.len(), 1022);
+    assert_eq!(rules::broken_in_dag(&dag), None);
+}
+
+/// After five steps: token 0 is a frame, 1 called out under cell 0, 2 waits, 3 is ready.
+fn middle(dag: &Dag) -> Record {
+    let machine = Machine::new(dag);
+    let mut record = machine.start().expect("started");
+    for _ in 0..5 {
+        machine.step(&mut record, 0).expect("accepted");
+    }
+    record
+}
+
+#[test]
+fn middle_is_as_told() {
+    let dag = dag_of(&waiting_program());
+    let record = middle(&dag);
+    let states: Vec<State> = record.tokens[..4].iter().map(|token| token.state).collect();
+    let told = [State::Frame, State::CalledOut(0), State::Waiting(0), State::Ready];
+    assert_eq!(states, told);
+    assert_eq!((record.queue, record.waits, record.calls), (vec![3], vec![2], 1));
+    assert_eq!((record.last_token, record.last_cell), (3, 0));
+}
+
+#[test]
+fn each_clause_of_the_record() {
+    let dag = dag_of(&waiting_program());
+    let breaks = |clause: &str, damage: fn(&mut Record)| {
+        let mut record = middle(&dag);
+        damage(&mut record);
+        assert_eq!(rules::broken(&dag, &record, &PAPER), Some(clause));
+        let before = record.clone();
+        let machine = Machine::new(&dag);
+        assert_eq!(machine.step(&mut record, 0).map_err(|refused| refused.number), Err(14));
+        assert_eq!(machine.answer(&mut record, 0, 0).map_err(|refused| refused.number), Err(14));
+        assert_eq!(record, before);
+    };
+    breaks("sizes of the tables", |r| r.tokens.truncate(63));
+    breaks("the call count", |r| r.calls = 1_000_001);
+    breaks("nodes of tokens", |r| r.tokens[0].node = 10);
+    breaks("tokens named", |r| r.tokens[2].caller = Some(64));
+    breaks("tokens named", |r| r.queue.push(64));
+    breaks("tokens named", |r| r.waits.push(64));
+    breaks("tokens named", |r| r.last_token = 64);
+    breaks("cells named", |r| r.tokens[0].cell = Some(32));
+    breaks("cells named", |r| r.tokens[0].bindings[7] = Binding::Cell(32));
+    breaks("cells named", |r| r.tokens[2].state = State::Waiting(32));
+    breaks("cells named", |r| r.cells[0].parent = Some(32));
+    breaks("cells named", |r| r.last_cell = 32);
+    let queue = "the queue names each ready token once";
+    breaks(queue, |r| r.queue.push(3));
+    breaks(queue, |r| r.queue.push(2));
+    breaks(queue, |r| r.queue.clear());
+    breaks("each parent chain ends", |r| r.cells[0].parent = Some(0));
+    breaks("no live token under a set cell", |r| r.cells[0].value = Some(1));
+    breaks("open handles", |r| r.tokens[1].state = State::CalledOut(1));
+    breaks("open handles", |r| {
+        r.tokens[2].state = State::CalledOut(0);
+        r.waits.clear();
+    });
+    breaks("the wait order names each waiting token once", |r| r.waits.clear());
+    breaks("the wait order names each waiting token once", |r| r.waits.push(2));
+    breaks("waiting at an unset cell", |r| {
+        r.tokens[2].state = State::Waiting(5);
+        r.cells[5].value = Some(1);
+    });
+    let needs = "what a token's node needs";
+    breaks(needs, |r| (r.tokens[3].node, r.tokens[3].caller) = (3, None));
+    breaks(needs, |r| (r.tokens[3].node, r.tokens[3].caller) = (3, Some(1)));
+    breaks(needs, |r| r.tokens[3].node = 6);
+    breaks(needs, |r| r.tokens[2].bindings[0] = Binding::Empty);
+    breaks(needs, |r| (r.tokens[3].node, r.tokens[3].bindings[0]) = (7, Binding::Empty));
+    breaks("a ready token has the value it needs", |r| r.tokens[3].node = 9);
+    breaks("what is not in use is blank", |r| r.tokens[50].value = Some(1));
+    breaks("what is not in use is blank", |r| r.cells[9].parent = Some(0));
+}
+
+#[test]
+fn each_clause_of_the_dag() {
+    let breaks = |clause: &str, damage: fn(&mut Dag)| {
+        let mut dag = dag_of(&waiting_program());
+        damage(&mut dag);
+        assert_eq!(rules::broken_in_dag(&dag), Some(clause));
+        let machine = Machine::new(&dag);
+        assert_eq!(machine.start().map_err(|refused| refused.number), Err(14));
+    };
+    breaks("kinds", |d| d.nodes[0] = Node::Unknown);
+    breaks("sites", |d| d.nodes[2] = Node::SiteCall { site: 7, parameters: vec![], next: 3 });
+    breaks("counts of the dag", |d| d.definitions[0].formals = 5);
+    breaks("counts of the dag", |d| d.nodes.resize(1023, Node::Stop));
+    breaks("a built-in with its own count", |d| {
+        d.nodes[2] = Node::SiteCall { site: 0, parameters: vec![], next: 3 }
+    });
+    breaks("definitions", |d| d.definitions.clear());
+    breaks("nodes of the dag", |d| d.goal = 10);
+    breaks("nodes of the dag", |d| d.definitions[0].first = 10);
+    breaks("nodes of the dag", |d| d.nodes[0] = Node::Fork { left: 1, right: 10 });
+    breaks("slots", |d| d.nodes[5] = Node::Remove { variable: 8, next: 9 });
+}
+
+#[test]
+fn refusals_leave_the_record() {
+    let dag = dag_of(&waiting_program());
+    let machine = Machine::new(&dag);
+    let mut record = middle(&dag);
+    let before = record.clone();
+    assert_eq!(machine.step(&mut record, 1).map_err(|refused| refused.number), Err(9));
+    assert_eq!(machine.answer(&mut record, 1, 0).map_err(|refused| refused.number), Err(12));
+    assert_eq!(record, before);
+    let few = Machine { dag: &dag, limits: Limits { calls: 1, ..PAPER } };
+    assert_eq!(few.step(&mut record, 0).map_err(|refused| refused.number), Err(13));
+    assert_eq!(record, before);
+}
+
+#[test]
+fn a_full_where_is_refused_for_tokens_first() {
+    let dag = dag_of(&waiting_program());
+    let refused = |tokens, cells| {
+        let machine = Machine { dag: &dag, limits: Limits { tokens, cells, calls: 9 } };
+        let mut record = machine.start().expect("started");
+        for cell in &mut record.cells {
+            cell.value = Some(1);
+        }
+        // A binding keeps every set cell in use.
+        for (binding, cell) in record.tokens[0].bindings.iter_mut().zip(0..cells) {
+            *binding = Binding::Cell(cell);
+        }
+        machine.step(&mut record, 0).map_err(|refused| refused.number)
+    };
+    assert_eq!(refused(1, 2), Err(10));
+    assert_eq!(refused(2, 2), Err(11));
+}
+
+/// A run in any order with any answers: no call is ever refused with 14.
+fn run_in_any_order(random: &mut Random, program: &Program, limits: Limits) {
+    let dag = dag_of(program);
+    let machine = Machine { dag: &dag, limits };
+    let mut record = machine.start().expect("started");
+    for _ in 0..300 {
+        let before = record.clone();
+        let open = record.open_handles();
+        let number = if open.is_empty() || random.percent(70) {
+            let place = random.below(record.queue.len() + 1);
+            machine.step(&mut record, place).err().map(|refused| refused.number)
+        } else {
+            let handle = *random.pick(&open) + random.below(2) as u32;
+            machine.answer(&mut record, handle, 1).err().map(|refused| refused.number)
+        };
+        assert_ne!(number, Some(14), "{:?}", rules::broken(&dag, &before, &limits));
+        assert_eq!(rules::broken(&dag, &record, &limits), None);
+        assert!(number.is_none() || record == before);
+    }
+}
+
+#[test]
+fn runs_keep_the_rules() {
+    let mut random = Random::new(7);
+    for _ in 0..300 {
+        let program = generator::program(&mut random);
+        run_in_any_order(&mut random, &program, PAPER);
+        let few = Limits { tokens: random.between(1, 9), cells: random.between(1, 5), calls: 7 };
+        run_in_any_order(&mut random, &program, few);
+    }
+}
+
+#[test]
+fn places_go_round() {
+    // F() = signal() | F(): each round gives two places and frees some.
+    let body = fork(Expr::Site(3, vec![]), Expr::Call(0, vec![]));
+    let dag = dag_of(&Program { definitions: vec![(0, body)], goal: Expr::Call(0, vec![]) });
+    let machine = Machine::new(&dag);
+    let mut record = machine.start().expect("started");
+    let mut last = 0;
+    let mut wrapped = false;
+    while let Ok(reply) = machine.step(&mut record, 0) {
+        wrapped |= record.last_token < last;
+        last = record.last_token;
+        assert!(!matches!(reply, Reply::Waits));
+    }
+    assert!(wrapped);
+}
