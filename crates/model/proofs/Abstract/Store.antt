@@ -8,6 +8,7 @@ use native.Mathlib.Omega.{arith}
 use lib.Dec.{eqb}
 use lib.IntN.{ℤ}
 use Rattle.model.specs.Test.{_or_, any, filter, All, more}
+use Rattle.model.proofs.Job.WellFormed.{member-any}
 use Rattle.model.proofs.Test.{eqb-same, eq-eqb, ne-eqb, or-left, or-right}
 use Rattle.model.proofs.Abstract.Machine.{Token, Store, chosen, withSet, cellsOf, isOutOf, outOf}
 
@@ -31,12 +32,6 @@ not-both p q = let z : _≡_ {A = ℕ} 0 1 = cc in omega arith
 -- a cell that was set keeps its value
 pub set-keeps : (σ : Store) (c b : ℕ) (v : ℤ) {w : ℤ} → σ c ≡ none → σ b ≡ some w → withSet σ c v b ≡ some w
 set-keeps σ c b v n s = set-other σ c b v (λ p. not-both (ap σ p ∙ n) s) ∙ s
-
-any-member : (c : ℕ) (l : List ℕ) → c ∈ l → any (eqb c) l ≡ true
-unfolding any
-any-member c [] m = absurd (List·Memᴰ·not-nil m)
-any-member c (b ∷ l) (List·Memᴰ·head p) = or-left (any (eqb c) l) (eq-eqb c b p)
-any-member c (b ∷ l) (List·Memᴰ·tail m) = or-right (eqb c b) (any-member c l m)
 
 any-none : (c : ℕ) (l : List ℕ) → c ∉ l → any (eqb c) l ≡ false
 unfolding any _or_
@@ -62,4 +57,4 @@ all-stay {c} (more {x = t} {xs = S} n a) =
 pub all-end : {c : ℕ} {S : List Token} → All (λ t. c ∈ cellsOf t) S → outOf c S ≡ []
 unfolding filter
 all-end All.none = refl
-all-end {c} (more {x = t} {xs = S} m a) = filter-no (isOutOf c) t S (ap not (any-member c (cellsOf t) m)) ∙ all-end a
+all-end {c} (more {x = t} {xs = S} m a) = filter-no (isOutOf c) t S (ap not (member-any m)) ∙ all-end a

@@ -2,28 +2,26 @@
 -- orders gain the places that become ready or wait. Stated of the machine before blanking. Assumes nothing.
 use mathlib.Core.Path.{_≡_, refl, sym, _∙_, ap, subst}
 use mathlib.Core.Bool.{Bool, true, false}
-use mathlib.Core.List.{List, [], _∷_, _++_, map, List·Memᴰ, List·Memᴰ·head, List·Memᴰ·tail}
-use Prim.Native.Nat.{ℕ, zero, suc, _<_, _≤_}
+use mathlib.Core.List.{List, [], _∷_, _++_, map}
+use Prim.Native.Nat.{ℕ, zero, suc, _<_}
 use native.Mathlib.Omega.{arith}
-use lib.ListN.{length, getD, set, length-set, length-map}
-use lib.Dec.{ltb, leb, eqb}
+use lib.ListN.{length, set, length-set, length-map}
+use lib.Dec.{ltb, eqb}
 use lib.IntN.{ℤ}
-use Rattle.model.specs.Test.{_and_, all, All, filter}
+use Rattle.model.specs.Test.{all, All, filter}
 use Rattle.model.specs.Number.{Signed32}
-use Rattle.model.specs.Site.{Said, gives, silent, siteTakes, isBuiltin, builtin}
-use Rattle.model.specs.Job.Syntax.{Param, variable, constant}
-use Rattle.model.specs.Job.Node.{Node, Body, Dag, nodeAt, bodyAt, paramKept, paramsKept, isNode, nodeKept, bodyKept, dagKept}
+use Rattle.model.specs.Site.{Said, isBuiltin, builtin}
+use Rattle.model.specs.Job.Syntax.{Param}
+use Rattle.model.specs.Job.Node.{Node, Dag, nodeAt, bodyAt, paramKept, paramsKept, isNode, nodeKept, bodyKept, dagKept}
 use Rattle.model.specs.Machine.Limits.{Limits}
 use Rattle.model.specs.Machine.Blank.{blankToken, tokenAt, cellAt, slotAt}
 use Rattle.model.specs.Machine.Active.{upward, within, isLive}
 use Rattle.model.specs.Machine.Rules.{isReady, isWaiting, heldInRange}
 use Rattle.model.specs.Machine.Reply.{Effect, unless}
 use Rattle.model.specs.Machine.Step as Step
-use Rattle.model.specs.Machine.Step.{Looked, values, unset, andThen, look, hasTokenPlace, hasCellPlace, tokenPlace, cellPlace, withOrders, queueOf, waitsOf, chokeToken, act}
-use Rattle.model.specs.declared.token.Slot.{Slot}
+use Rattle.model.specs.Machine.Step.{Looked, values, unset, look, hasTokenPlace, hasCellPlace, tokenPlace}
+use Rattle.model.specs.Machine.Step.{cellPlace, withOrders, queueOf, waitsOf, chokeToken, act}
 use Rattle.model.specs.declared.token.Slot.the-variants as slots
-use Rattle.model.specs.declared.token.Bind.{Bind}
-use Rattle.model.specs.declared.token.Held.{Held}
 use Rattle.model.specs.declared.token.Held.the-variants as helds
 use Rattle.model.specs.declared.token.Place.{Place}
 use Rattle.model.specs.declared.token.Place.the-variants as places
@@ -33,14 +31,17 @@ use Rattle.model.specs.declared.token.Token.{Token}
 use Rattle.model.specs.declared.cell.Cell.{Cell}
 use Rattle.model.specs.declared.record.Machine.{Machine}
 use Rattle.model.specs.declared.reply.Refusal.the-variants as refusals
-use Rattle.model.proofs.Test.{clash, eqb-same, ltb-lt, and-left, and-right, all-at}
+use Rattle.model.proofs.Test.{clash, eqb-same, ltb-lt, and-left, and-right}
 use Rattle.model.proofs.Job.Rules.{body-rules}
 use Rattle.model.proofs.Machine.Refused.{After, after-unless}
 use Rattle.model.proofs.Sees.Others.{token-other}
 use Rattle.model.proofs.Keeps.Lines.{Lines, Taken, taken-ready, taken-inside, lines-gone, lines-back, lines-wait, lines-new, lines-choke}
-use Rattle.model.proofs.Keeps.Orders.{Orders, queue-is, waits-are, orders-with, orders-counts, orders-put, orders-enqueue, orders-token, orders-cell}
-use Rattle.model.proofs.Keeps.Values.{held-fits, Fitting, fitting, waiting, look-fits, SaidFits, said, nothing, builtin-fits}
-use Rattle.model.proofs.Keeps.Tables.{BindsFit, binds-written, formals-fit, Awaits, awaits-as, TokenKept, Tables, Idle, idle-kept, blank-kept, tables-write, tables-wait, tables-call, tables-cell, tables-choke}
+use Rattle.model.proofs.Keeps.Orders.{Orders, queue-is, waits-are, orders-with, orders-counts}
+use Rattle.model.proofs.Keeps.Orders.{orders-put, orders-enqueue, orders-token, orders-cell}
+use Rattle.model.proofs.Keeps.Values.{held-fits, LookedFits, found, look-fits, SaidFits, said, nothing, builtin-fits}
+use Rattle.model.proofs.Keeps.Looking.{look-unset}
+use Rattle.model.proofs.Keeps.Tables.{BindsFit, binds-written, formals-fit, Awaits, awaits-as, TokenKept, Tables, Idle}
+use Rattle.model.proofs.Keeps.Tables.{idle-kept, blank-kept, tables-write, tables-wait, tables-call, tables-cell, tables-choke}
 use Rattle.model.proofs.Keeps.Facts.{Facts}
 
 not-live-ready : (s : State) → isLive s ≡ false → isReady s ≡ false
@@ -67,46 +68,6 @@ own-within cs c l = go (length cs) (omega arith)
     go : (n : ℕ) → 0 < n → upward (λ b k. eqb c b) cs n (places.At c) ≡ true
     go zero i = absurd (omega arith)
     go (suc n) i = unfold upward in rw (eqb-same c, upward) refl
-
--- the first unset cell is that of a parameter
-then-unset : (v : ℤ) (l : Looked) (c : ℕ) → andThen v l ≡ unset c → l ≡ unset c
-unfolding andThen
-then-unset v (values vs) c e = let z : _≡_ {A = ℕ} 0 1 = cc in absurd (omega arith)
-then-unset v (unset b) c e = e
-
-abbrev Asks : List Cell → List Bind → List Param → ℕ → Type 0
-Asks cs bs ps c = (x : ℕ) × List·Memᴰ (variable x) ps × (slotAt bs x ≡ slots.Cell c) × (cellAt cs c .value ≡ helds.Nothing)
-
-asks-later : (cs : List Cell) (bs : List Bind) (p : Param) (ps : List Param) (c : ℕ) → Asks cs bs ps c → Asks cs bs (p ∷ ps) c
-asks-later cs bs p ps c (x, m, e, f) = (x, List·Memᴰ·tail m, e, f)
-
-module _ (cs : List Cell) (bs : List Bind) where
-  cell-unset : (x : ℕ) (ps : List Param) (b : ℕ) → slotAt bs x ≡ slots.Cell b → (w : Held) → cellAt cs b .value ≡ w → (c : ℕ)
-      → (look cs bs ps ≡ unset c → Asks cs bs ps c)
-      → elim w as (λ w. Looked) [ helds.Nothing ↦ unset b | helds.Value v ↦ andThen v (look cs bs ps) ] ≡ unset c → Asks cs bs (variable x ∷ ps) c
-  cell-unset x ps b s helds.Nothing w c f e =
-      let z : b ≡ c = cc in
-      (x, List·Memᴰ·head refl, s ∙ ap slots.Cell z, subst (λ i. cellAt cs i .value ≡ helds.Nothing) z w)
-  cell-unset x ps b s (helds.Value v) w c f e = asks-later cs bs (variable x) ps c (f (then-unset v (look cs bs ps) c e))
-
-  slot-unset : (x : ℕ) (ps : List Param) (s : Slot) → slotAt bs x ≡ s → (c : ℕ)
-      → (look cs bs ps ≡ unset c → Asks cs bs ps c)
-      → elim s as (λ s. Looked) [
-        | slots.Empty ↦ values []
-        | slots.Value v ↦ andThen v (look cs bs ps)
-        | slots.Cell c ↦ elim (cellAt cs c .value) [ helds.Nothing ↦ unset c | helds.Value v ↦ andThen v (look cs bs ps) ]
-      ]
-      ≡ unset c
-      → Asks cs bs (variable x ∷ ps) c
-  slot-unset x ps slots.Empty s c f e = let z : _≡_ {A = ℕ} 0 1 = cc in absurd (omega arith)
-  slot-unset x ps (slots.Value v) s c f e = asks-later cs bs (variable x) ps c (f (then-unset v (look cs bs ps) c e))
-  slot-unset x ps (slots.Cell b) s c f e = cell-unset x ps b s (cellAt cs b .value) refl c f e
-
-  look-unset : (ps : List Param) (c : ℕ) → look cs bs ps ≡ unset c → Asks cs bs ps c
-  unfolding look
-  look-unset [] c e = let z : _≡_ {A = ℕ} 0 1 = cc in absurd (omega arith)
-  look-unset (constant v ∷ ps) c e = asks-later cs bs (constant v) ps c (look-unset ps c (then-unset v (look cs bs ps) c e))
-  look-unset (variable x ∷ ps) c e = slot-unset x ps (slotAt bs x) refl c (λ f. look-unset ps c f) e
 
 -- a place for a new token
 pub record Vacant (m : Machine) (q : ℕ) : Type 0 where
@@ -229,7 +190,8 @@ module _ (lim : Limits) (d : Dag) (m : Machine) (F : Facts lim d m) (some : 0 < 
     entered : (root : ℕ) (ps : List Param) (k : ℕ) → root < length (d .nodes) → all paramKept ps ≡ true → k < length (d .nodes)
         → Keeps (Step.entered at p acting q root ps k)
     unfolding
-        After Step.entered Step.enqueue Step.newToken Step.put Step.withTables withOrders Step.withCounts Step.to Step.being isReady isWaiting heldInRange
+        After Step.entered Step.enqueue Step.newToken Step.put Step.withTables withOrders Step.withCounts Step.to Step.being
+        isReady isWaiting heldInRange
     entered root ps k ir kept ik =
         record {
           tokenPlaces = sizes _ _;
@@ -239,13 +201,16 @@ module _ (lim : Limits) (d : Dag) (m : Machine) (F : Facts lim d m) (some : 0 < 
           newcell = F .newcell;
           queue = queue ++ (q ∷ []);
           waits = waits;
-          orders = orders-enqueue (orders-token (orders-put begun p (Step.to k (Step.being states.Frame acting))) q callee) q;
-          lines = second (Step.to k (Step.being states.Frame acting)) callee refl (lines-gone T (Step.to k (Step.being states.Frame acting)) refl refl);
+          orders = orders-enqueue (orders-token (orders-put begun p frame) q callee) q;
+          lines = second frame callee refl (lines-gone T frame refl refl);
           tables =
               two (ahead k ik refl refl refl Idle.frame) Idle.frame
               (going ir refl (formals-fit (acting .binds) ps kept (was .binds)) Idle.ready) Idle.ready;
         }
       where
+        frame : Token
+        frame = Step.to k (Step.being states.Frame acting)
+
         callee : Token
         callee =
             record {
@@ -354,7 +319,8 @@ module _ (lim : Limits) (d : Dag) (m : Machine) (F : Facts lim d m) (some : 0 < 
 
   -- "the first unset cell makes the token wait there"
   module _ (named : (x c : ℕ) → slotAt (acting .binds) x ≡ slots.Cell c → c < length (m .cells))
-      (s : ℕ) (ps : List Param) (k : ℕ) (node : nodeAt d (acting .node) ≡ Node.site s ps k) (kept : all paramKept ps ≡ true) (next : k < length (d .nodes)) where
+      (s : ℕ) (ps : List Param) (k : ℕ) (node : nodeAt d (acting .node) ≡ Node.site s ps k)
+      (kept : all paramKept ps ≡ true) (next : k < length (d .nodes)) where
     called : (vs : List ℤ) → All Signed32 vs → (b : Bool)
         → Keeps
         (elim b [
@@ -365,7 +331,7 @@ module _ (lim : Limits) (d : Dag) (m : Machine) (F : Facts lim d m) (some : 0 < 
     called vs a true = replied k next (builtin-fits s a)
     called vs a false = after-unless (Facts lim d) _ _ _ (λ e. calledOut s vs k (ltb-lt _ _ e) next)
 
-    callSite : (l : Looked) → look (m .cells) (acting .binds) ps ≡ l → Fitting l → Keeps (Step.callSite lim d at p acting s k l)
+    callSite : (l : Looked) → look (m .cells) (acting .binds) ps ≡ l → LookedFits l → Keeps (Step.callSite lim d at p acting s k l)
     unfolding Step.callSite
     callSite (unset c) e f =
         let x = look-unset (m .cells) (acting .binds) ps c e in
@@ -381,7 +347,7 @@ module _ (lim : Limits) (d : Dag) (m : Machine) (F : Facts lim d m) (some : 0 < 
           inside = named (x .0) c (x .2);
           unset = x .3;
         })
-    callSite (values vs) e (fitting a) = called vs a (isBuiltin s)
+    callSite (values vs) e (found a) = called vs a (isBuiltin s)
 
     looked : Keeps (Step.callSite lim d at p acting s k (look (m .cells) (acting .binds) ps))
     looked = callSite _ refl (look-fits (m .cells) (acting .binds) (was .binds) (F .tables .cells) ps kept)
@@ -402,18 +368,24 @@ module _ (lim : Limits) (d : Dag) (m : Machine) (F : Facts lim d m) (some : 0 < 
         calls = F .calls;
         newtoken = F .newtoken;
         newcell = F .newcell;
-        queue = filter (λ (r : ℕ). isReady (tokenAt ts r .state)) (queueOf at ++ waitsOf at);
-        waits = filter (λ (r : ℕ). isWaiting (tokenAt ts r .state)) (waitsOf at);
+        queue = readyOf (queueOf at ++ waitsOf at);
+        waits = waitingOf (waitsOf at);
         orders = orders-with _ _ (Step.withTables ts (set (m .cells) c k) at);
         lines =
-            subst (λ q. Lines ts (filter (λ (r : ℕ). isReady (tokenAt ts r .state)) (q ++ waitsOf at)) (filter (λ (r : ℕ). isWaiting (tokenAt ts r .state)) (waitsOf at))) (sym (queue-is begun))
-            (subst (λ w. Lines ts (filter (λ (r : ℕ). isReady (tokenAt ts r .state)) (queue ++ w)) (filter (λ (r : ℕ). isWaiting (tokenAt ts r .state)) w)) (sym (waits-are begun))
+            subst (λ q. Lines ts (readyOf (q ++ waitsOf at)) (waitingOf (waitsOf at))) (sym (queue-is begun))
+            (subst (λ w. Lines ts (readyOf (queue ++ w)) (waitingOf w)) (sym (waits-are begun))
             (lines-choke (m .tokens) (m .cells) c p queue waits T (ap (within (m .cells) c) e ∙ own-within (m .cells) c (i c refl))));
         tables = tables-choke (F .tables) some c k (i c refl) (was .value);
       }
     where
       ts : List Token
       ts = map (chokeToken (m .cells) c) (m .tokens)
+
+      readyOf : List ℕ → List ℕ
+      readyOf l = filter (λ (r : ℕ). isReady (tokenAt ts r .state)) l
+
+      waitingOf : List ℕ → List ℕ
+      waitingOf l = filter (λ (r : ℕ). isWaiting (tokenAt ts r .state)) l
 
       k : Cell
       k = record { parent = cellAt (m .cells) c .parent; value = acting .value }
@@ -445,7 +417,8 @@ module _ (lim : Limits) (d : Dag) (m : Machine) (F : Facts lim d m) (some : 0 < 
     acted (Node.assign x j) e k =
         goes-on _
         (going (node-inside j (and-right _ _ k)) (was .value)
-        (binds-written (acting .binds) x _ (λ v f. subst Signed32 (let z : Step.valueOf (acting .value) ≡ v = cc in z) (held-fits (acting .value) (was .value))) (was .binds))
+        (binds-written (acting .binds) x _
+        (λ v f. subst Signed32 (let z : Step.valueOf (acting .value) ≡ v = cc in z) (held-fits (acting .value) (was .value))) (was .binds))
         (ready-idle (taken-ready T)))
         (taken-ready T)
     acted (Node.remove x j) e k =
@@ -463,7 +436,9 @@ module _ (lim : Limits) (d : Dag) (m : Machine) (F : Facts lim d m) (some : 0 < 
         looked named s ps j e (params ps (and-left _ _ (and-right _ _ k))) (node-inside j (and-right _ _ (and-right _ _ k)))
     acted (Node.call f ps j) e k =
         after-unless (Facts lim d) _ _ _
-        (λ t. entered _ (token t) _ ps j (body f (and-left _ _ k)) (params ps (and-left _ _ (and-right _ _ k))) (node-inside j (and-right _ _ (and-right _ _ k))))
+        (λ t.
+        entered _ (token t) _ ps j (body f (and-left _ _ k)) (params ps (and-left _ _ (and-right _ _ k)))
+        (node-inside j (and-right _ _ (and-right _ _ k))))
     acted Node.return e k = returned (acting .caller)
     acted Node.choke e k = chokes (acting .cell) refl own
     acted Node.unknown e k = tt

@@ -3,15 +3,16 @@
 use mathlib.Core.Path.{_≡_, refl, sym, _∙_, ap, subst}
 use mathlib.Core.Bool.{Bool, true, false, not}
 use mathlib.Core.List.{List, [], _∷_}
-use Prim.Native.Nat.{ℕ, zero, suc, _<_, _≤_}
-use native.Mathlib.Decide.{ℕ-discrete, decLt}
+use Prim.Native.Nat.{ℕ, zero, suc, _<_}
+use native.Mathlib.Decide.{ℕ-discrete}
 use native.Mathlib.Omega.{arith}
-use lib.ListN.{length, getD, replicate, set, length-replicate}
+use lib.ListN.{length, getD, replicate}
 use Rattle.model.specs.Test.{_and_, all}
 use Rattle.model.specs.Machine.Limits.{Limits}
-use Rattle.model.specs.Machine.Blank.{blankToken, blankCell, tokenAt, cellAt, slotAt, isBound, hasValue, isPlace, isBlankState, tokenIsBlank, cellIsBlank}
+use Rattle.model.specs.Machine.Blank.{blankToken, blankCell, tokenAt, cellAt, slotAt, isBound}
+use Rattle.model.specs.Machine.Blank.{hasValue, isPlace, isBlankState, tokenIsBlank, cellIsBlank}
 use Rattle.model.specs.Machine.Active.{isSet, upward, underSet, isLive, isActive}
-use Rattle.model.specs.Machine.InUse.{tokensUsed, cellsUsed, kept, finish}
+use Rattle.model.specs.Machine.InUse.{tokensUsed, cellsUsed, finish}
 use Rattle.model.specs.Machine.Rules.{restIsBlank}
 use Rattle.model.specs.Machine.Start.{startToken, startMachine}
 use Rattle.model.specs.declared.token.Place.{Place}
@@ -59,12 +60,12 @@ module _ (m : Machine) where
   pub clean-tokens : Clean m → restIsBlank tokenIsBlank (tokensUsed m) (m .tokens) ≡ true
   unfolding tokenAt
   clean-tokens c =
-      rest-blank tokenIsBlank (tokensUsed m) (m .tokens) blankToken (tokens-used (m .tokens) (m .cells) .size) (λ i e. ap tokenIsBlank (c .tokens i e) ∙ blank-token)
+      rest-blank tokenIsBlank (tokensUsed m) (m .tokens) blankToken (tokensOf .size) (λ i e. ap tokenIsBlank (c .tokens i e) ∙ blank-token)
 
   pub clean-cells : Clean m → restIsBlank cellIsBlank (cellsUsed m) (m .cells) ≡ true
   unfolding cellAt
   clean-cells c =
-      rest-blank cellIsBlank (cellsUsed m) (m .cells) blankCell (cells-used (tokensUsed m) (m .tokens) (m .cells) (tokens-used (m .tokens) (m .cells) .size) .size)
+      rest-blank cellIsBlank (cellsUsed m) (m .cells) blankCell (cellsOf .size)
       (λ i e. ap cellIsBlank (c .cells i e) ∙ blank-cell)
 
 module _ (m : Machine) where
@@ -94,7 +95,8 @@ module _ (m : Machine) where
   under-stays : (q : Place) → Names (UsedCell m) q → underSet (then .cells) q ≡ underSet (m .cells) q
   unfolding finish underSet
   under-stays q h =
-      ap (λ n. upward (λ c k. isSet k) (then .cells) n q) (length-kept blankCell (cellsUsed m) (m .cells)) ∙ upward-stays (λ c k. isSet k) (length (m .cells)) q h
+      ap (λ n. upward (λ c k. isSet k) (then .cells) n q) (length-kept blankCell (cellsUsed m) (m .cells))
+      ∙ upward-stays (λ c k. isSet k) (length (m .cells)) q h
 
   active-stays : (i : ℕ) → Used m i → isActive (m .cells) (tokenAt (m .tokens) i) ≡ true → isActive (then .cells) (tokenAt (then .tokens) i) ≡ true
   active-stays i u e = ap (isActive (then .cells)) (token-stays i u) ∙ (same (tokenAt (m .tokens) i) (used-fits m i u .cells .cell) ∙ e)

@@ -4,13 +4,13 @@
 use mathlib.Core.Path.{_≡_, refl, sym, _∙_, ap, subst}
 use mathlib.Core.Logic.{_⊎_, inl, inr}
 use mathlib.Core.Bool.{Bool, true, false}
-use mathlib.Core.List.{List, [], _∷_, _++_}
-use Prim.Native.Nat.{ℕ, zero, suc, _+_, _-_, _<_, _≤_}
+use mathlib.Core.List.{List, [], _∷_}
+use Prim.Native.Nat.{ℕ, zero, suc, _-_, _<_, _≤_}
 use native.Mathlib.Omega.{arith}
-use lib.ListN.{length, getD, set, replicate, length-set, length-replicate}
+use lib.ListN.{length, getD, replicate, length-set, length-replicate}
 use lib.Dec.{eqb}
 use Rattle.model.specs.Test.{padded, count, once}
-use Rattle.model.specs.Job.Node.{Dag, dagKept}
+use Rattle.model.specs.Job.Node.{Dag}
 use Rattle.model.specs.Machine.Limits.{Limits}
 use Rattle.model.specs.Machine.Blank.{blankToken, blankCell, tokenAt, cellAt}
 use Rattle.model.specs.Machine.Active.{isLive}
@@ -22,7 +22,8 @@ use Rattle.model.specs.declared.token.State.the-variants as states
 use Rattle.model.specs.declared.token.Token.{Token}
 use Rattle.model.specs.declared.cell.Cell.{Cell}
 use Rattle.model.specs.declared.record.Machine.{Machine}
-use Rattle.model.proofs.Test.{clash, eqb-same, ne-eqb}
+use Rattle.model.proofs.Machine.Rules.{ready-live}
+use Rattle.model.proofs.Test.{eqb-same, ne-eqb}
 use Rattle.model.proofs.Machine.Marks.{Marked}
 use Rattle.model.proofs.Machine.InUse.{tokens-used}
 use Rattle.model.proofs.Machine.Kept.{length-kept, kept-marked, kept-cases}
@@ -134,14 +135,6 @@ module _ (lim : Limits) (d : Dag) (some : 0 < lim .tokenPlaces) (cell : 0 < lim 
 abbrev pub LiveUsed : Machine → Type 0
 LiveUsed m = (p : ℕ) → isLive (tokenAt (m .tokens) p .state) ≡ true → Marked (tokensUsed m) p
 
-ready-live : (s : State) → isReady s ≡ true → isLive s ≡ true
-unfolding isReady isLive
-ready-live states.Blank e = e
-ready-live states.Ready e = refl
-ready-live (states.Waiting c) e = refl
-ready-live (states.Called h) e = refl
-ready-live states.Frame e = e
-
 waiting-live : (s : State) → isWaiting s ≡ true → isLive s ≡ true
 unfolding isWaiting isLive
 waiting-live states.Blank e = e
@@ -166,7 +159,8 @@ module _ {lim : Limits} {d : Dag} {m : Machine} (F : Facts lim d m) (live : Live
       at : Token → ℕ
       at t = once (of (t .state))
 
-      go : (b : Bool) → of (getD (m .tokens) r blankToken .state) ≡ b → (now ≡ getD (m .tokens) r blankToken) ⊎ (now ≡ blankToken) → count r l ≡ at now
+      go : (b : Bool) → of (getD (m .tokens) r blankToken .state) ≡ b → (now ≡ getD (m .tokens) r blankToken) ⊎ (now ≡ blankToken)
+          → count r l ≡ at now
       go true e x =
           h r ∙ ap at (sym (kept-marked blankToken used (m .tokens) r (tokens-used (m .tokens) (m .cells) .size) (live r (lives _ e))))
       go false e (inl x) = h r ∙ ap at (sym x)

@@ -9,7 +9,7 @@ use native.Mathlib.Omega.{arith}
 use lib.ListN.{length, getD, set, take, drop, replicate, length-append, length-replicate, length-set}
 use lib.Seq.{getD-set-other, take-append-seam}
 use lib.Dec.{eqb, ltb}
-use Rattle.model.specs.Test.{_and_, all, allFrom, filter, padded, count, once, without}
+use Rattle.model.specs.Test.{all, allFrom, filter, padded, count, once, without}
 use Rattle.model.specs.Machine.Blank.{blankToken, tokenAt}
 use Rattle.model.specs.Machine.Active.{within}
 use Rattle.model.specs.Machine.InUse.{marked}
@@ -22,7 +22,7 @@ use Rattle.model.specs.declared.cell.Cell.{Cell}
 use Rattle.model.proofs.Test.{clash, false-of, eqb-same, eqb-eq, eq-eqb, ne-eqb, lt-ltb, le-leb, ltb-lt, and-both, all-head, all-tail}
 use Rattle.model.proofs.Machine.Marks.{Free, marked-le-length, marked-set-free}
 use Rattle.model.proofs.Machine.InUse.{token-outside}
-use Rattle.model.proofs.Machine.Rules.{NamesOnce, names-once}
+use Rattle.model.proofs.Machine.Rules.{NamesOnce, names-once, ready-state}
 use Rattle.model.proofs.Sees.Others.{count-append, token-same, token-other}
 use Rattle.model.proofs.Sees.Choke.{woken, choke-at, choke-ends, choke-spares}
 
@@ -87,7 +87,8 @@ unfolding allFrom
 all-from-at test n [] d h = refl
 all-from-at test n (x ∷ xs) d h =
     and-both (subst (λ k. test k x ≡ true) (let z : n + 0 ≡ n = omega arith in z) (h 0 (omega arith)))
-    (all-from-at test (suc n) xs d (λ i k. subst (λ j. test j (getD xs i d) ≡ true) (let z : n + suc i ≡ suc n + i = omega arith in z) (h (suc i) (omega arith))))
+    (all-from-at test (suc n) xs d
+    (λ i k. subst (λ j. test j (getD xs i d) ≡ true) (let z : n + suc i ≡ suc n + i = omega arith in z) (h (suc i) (omega arith))))
 
 all-zero : (n : ℕ) → all (eqb 0) (replicate n 0) ≡ true
 unfolding all
@@ -198,14 +199,6 @@ back-other : (r p : ℕ) (l : List ℕ) (n : ℕ) → (r ≡ p → ⊥) → coun
 back-other r p l n f e = let x = count-back r l p in let z : once (eqb r p) ≡ 0 = ap once (ne-eqb r p f) in omega arith
 
 -- the token that was taken is ready, so it is in the table
-ready-state : (s : State) → isReady s ≡ true → s ≡ states.Ready
-unfolding isReady
-ready-state states.Blank e = clash e refl
-ready-state states.Ready e = refl
-ready-state (states.Waiting c) e = clash e refl
-ready-state (states.Called h) e = clash e refl
-ready-state states.Frame e = clash e refl
-
 module _ {ts : List Token} {p : ℕ} {queue waits : List ℕ} (l : Taken ts p queue waits) where
   pub taken-ready : tokenAt ts p .state ≡ states.Ready
   taken-ready =
@@ -316,7 +309,8 @@ count-filter test r l h = go (test r) refl
     go false e = count-dropped test r l e
 
 -- a choke: who is ready then was ready or waiting, who waits then waited
-woken-ready : (c : ℕ) (s : State) (t : Token) → t .state ≡ s → isReady (woken (waitsAt c s) t .state) ≡ true → once (isReady s) + once (isWaiting s) ≡ 1
+woken-ready : (c : ℕ) (s : State) (t : Token) → t .state ≡ s → isReady (woken (waitsAt c s) t .state) ≡ true
+    → once (isReady s) + once (isWaiting s) ≡ 1
 unfolding woken waitsAt isReady isWaiting being
 woken-ready c states.Blank t e h = clash h (ap isReady e)
 woken-ready c states.Ready t e h = refl
@@ -362,7 +356,8 @@ module _ (ts : List Token) (cs : List Cell) (c p : ℕ) (queue waits : List ℕ)
             count-filter (λ (r : ℕ). isWaiting (tokenAt then r .state)) r waits
             (λ e.
             let x = spared isWaiting refl r e in
-            let a : once (isWaiting (tokenAt ts r .state)) ≡ 1 = ap once (woken-waiting (waitsAt c (tokenAt ts r .state)) (tokenAt ts r) (ap (λ (t : Token). isWaiting (t .state)) (sym (spared-at r x)) ∙ e)) in
+            let w = ap (λ (t : Token). isWaiting (t .state)) (sym (spared-at r x)) ∙ e in
+            let a : once (isWaiting (tokenAt ts r .state)) ≡ 1 = ap once (woken-waiting (waitsAt c (tokenAt ts r .state)) (tokenAt ts r) w) in
             let d = l .waiting r in
             omega arith);
       }

@@ -1,14 +1,13 @@
 -- A call on a record that keeps the index rules is not refused with 14: the instruction table refuses so only at no node, at return without a
 -- frame and at choke without a cell, and the rules leave none of these. Assumes nothing.
-use mathlib.Core.Path.{_≡_, refl, sym, _∙_, ap, subst}
+use mathlib.Core.Path.{_≡_, refl, ap}
 use mathlib.Core.Bool.{Bool, true, false}
 use mathlib.Core.List.{List}
 use Prim.Native.Nat.{ℕ, _<_}
 use native.Mathlib.Omega.{arith}
-use lib.ListN.{length, getD}
+use lib.ListN.{getD}
 use lib.Dec.{ltb}
 use lib.IntN.{ℤ}
-use Rattle.model.specs.Test.{_and_}
 use Rattle.model.specs.Site.{Said, gives, silent, isBuiltin, builtin}
 use Rattle.model.specs.Job.Node.{Node, Dag, nodeAt, nodeKept}
 use Rattle.model.specs.Machine.Limits.{Limits}
@@ -16,7 +15,7 @@ use Rattle.model.specs.Machine.Blank.{blankToken, tokenAt, isPlace, isBl
 use Rattle.model.specs.Machine.Rules.{isReady, namesFrame, nodeRule, atNode, rulesKept}
 use Rattle.model.specs.Machine.Reply.{Effect, moves, waits, publishes, calls, refuses, unless, accepted, outcome}
 use Rattle.model.specs.Machine.Step as Step
-use Rattle.model.specs.Machine.Step.{Looked, values, unset, withOrders, act, takes}
+use Rattle.model.specs.Machine.Step.{Looked, values, unset, act, takes}
 use Rattle.model.specs.Machine.Answer as Answer
 use Rattle.model.specs.Machine.Answer.{holder, answered}
 use Rattle.model.specs.Run.Call.{Call, step, answer, runner, outcomeOf}
@@ -28,9 +27,7 @@ use Rattle.model.specs.declared.token.Token.{Token}
 use Rattle.model.specs.declared.record.Machine.{Machine}
 use Rattle.model.specs.declared.reply.Refusal.{Refusal}
 use Rattle.model.specs.declared.reply.Refusal.the-variants as refusals
-use Rattle.model.specs.declared.reply.Reply.{Reply}
 use Rattle.model.specs.declared.reply.Reply.the-variants as replies
-use Rattle.model.specs.declared.reply.Outcome.{Outcome}
 use Rattle.model.proofs.Test.{clash, ltb-lt, and-left, all-at}
 use Rattle.model.proofs.Job.Rules.{node-rules}
 use Rattle.model.proofs.Machine.Rules.{RulesKept, rules-kept}
@@ -118,20 +115,19 @@ module _ (lim : Limits) (d : Dag) (before m : Machine) (p : ℕ) (t : Token) whe
   act-not ts Node.choke k r = choke-not (t .cell) (and-left _ _ r)
   act-not ts Node.unknown k r = clash k refl
 
-ready-at : (d : Dag) (ts : List Token) (t : Token) → isReady (t .state) ≡ true → atNode d ts t ≡ true → nodeRule ts t (nodeAt d (t .node)) ≡ true
+-- the rule at its node, of a token that is not blank
+pub at-rule : (d : Dag) (ts : List Token) (t : Token) → isBlankState (t .state) ≡ false → atNode d ts t ≡ true
+    → nodeRule ts t (nodeAt d (t .node)) ≡ true
 unfolding atNode
-ready-at d ts t r e = go (t .state) refl
-  where
-    at : (b : Bool) → isBlankState (t .state) ≡ b → b ≡ false → nodeRule ts t (nodeAt d (t .node)) ≡ true
-    at true x y = clash refl y
-    at false x y = rw (x, atNode) at e
+at-rule d ts t b e = rw (b, atNode) at e
 
-    go : (s : State) → t .state ≡ s → nodeRule ts t (nodeAt d (t .node)) ≡ true
-    go states.Blank x = unfold isReady in clash r (ap isReady x)
-    go states.Ready x = at (isBlankState (t .state)) refl (unfold isBlankState in ap isBlankState x)
-    go (states.Waiting c) x = unfold isReady in clash r (ap isReady x)
-    go (states.Called h) x = unfold isReady in clash r (ap isReady x)
-    go states.Frame x = unfold isReady in clash r (ap isReady x)
+ready-not-blank : (s : State) → isReady s ≡ true → isBlankState s ≡ false
+unfolding isReady isBlankState
+ready-not-blank states.Blank e = clash e refl
+ready-not-blank states.Ready e = refl
+ready-not-blank (states.Waiting c) e = refl
+ready-not-blank (states.Called h) e = refl
+ready-not-blank states.Frame e = refl
 
 module _ (lim : Limits) (d : Dag) (m : Machine) (kept : rulesKept lim d m ≡ true) where
   takes-not : (k : ℕ) → k < m .queued → NotRule (takes lim d m k)
@@ -139,7 +135,8 @@ module _ (lim : Limits) (d : Dag) (m : Machine) (kept : rulesKept lim d m ≡ tr
   takes-not k l =
       act-not lim d m _ p t (m .tokens) (nodeAt d (t .node))
       (node-rules d (t .node) (rules .dag) (at-node lim d m kept p (queue .named k l)))
-      (ready-at d (m .tokens) t (queue .ready k l) (all-at (atNode d (m .tokens)) (m .tokens) p blankToken (rules .nodes) (queue .named k l)))
+      (at-rule d (m .tokens) t (ready-not-blank _ (queue .ready k l))
+      (all-at (atNode d (m .tokens)) (m .tokens) p blankToken (rules .nodes) (queue .named k l)))
     where
       rules : RulesKept lim d m
       rules = rules-kept lim d m kept
@@ -166,5 +163,6 @@ module _ (lim : Limits) (d : Dag) (m : Machine) (kept : rulesKept lim d m ≡ tr
   pub not-rule : (c : Call) → outcomeOf runner lim d m c .reply ≡ replies.Refused refusals.Rule → ⊥
   unfolding outcomeOf Step.step Answer.answer
   not-rule (step k) =
-      outcome-not m _ (tested _ (unless-not (ltb k (m .queued)) refusals.NoToken (takes lim d m k) no-token (λ l. takes-not k (ltb-lt k (m .queued) l))))
+      outcome-not m _
+      (tested _ (unless-not (ltb k (m .queued)) refusals.NoToken (takes lim d m k) no-token (λ l. takes-not k (ltb-lt k (m .queued) l))))
   not-rule (answer h v fits) = outcome-not m _ (tested _ (answered-not v (holder h 0 (m .tokens))))

@@ -4,7 +4,7 @@ use mathlib.Core.Path.{_≡_, refl, sym, _∙_, ap, subst}
 use mathlib.Core.Bool.{true}
 use mathlib.Core.List.{List, [], _∷_, _++_}
 use Prim.Native.Nat.{ℕ}
-use lib.ListN.{length, set, take, length-set}
+use lib.ListN.{length, take, length-set}
 use lib.Seq.{take-append-seam}
 use Rattle.model.specs.Test.{padded}
 use Rattle.model.specs.Machine.Rules.{isReady, isWaiting, namesOnce}

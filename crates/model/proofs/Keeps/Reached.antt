@@ -2,7 +2,7 @@
 -- not in use. It holds of the start and after each accepted step and answer, together with the abstract machine's step; and it gives the index
 -- rules. Assumes nothing.
 use mathlib.Core.Path.{_≡_, refl, sym, _∙_, ap, subst}
-use mathlib.Core.Bool.{Bool, true, false}
+use mathlib.Core.Bool.{true, false}
 use mathlib.Core.List.{List, [], _∷_, _++_}
 use Prim.Native.Nat.{ℕ, _<_, _≤_}
 use native.Mathlib.Omega.{arith}
@@ -17,18 +17,17 @@ use Rattle.model.specs.Machine.Blank.{blankToken, tokenAt}
 use Rattle.model.specs.Machine.Active.{isLive}
 use Rattle.model.specs.Machine.InUse.{tokensUsed, cellsUsed, finish}
 use Rattle.model.specs.Machine.Rules.{isReady, isWaiting, heldInRange, placeInRange, rulesKept}
-use Rattle.model.specs.Machine.Reply.{Effect, moves, waits, publishes, calls, refuses, outcome, isRefused}
+use Rattle.model.specs.Machine.Reply.{Effect, moves, waits, publishes, calls, refuses, isRefused}
 use Rattle.model.specs.Machine.Start.{startToken, startMachine}
-use Rattle.model.specs.Machine.Start as Start
 use Rattle.model.specs.Machine.Step as Step
-use Rattle.model.specs.Machine.Step.{withOrders, queueOf, waitsOf, put, enqueue, being, holding, hasTokenPlace, hasCellPlace, tokenPlace, cellPlace, takes}
+use Rattle.model.specs.Machine.Step.{withOrders, queueOf, waitsOf, put, enqueue, being}
+use Rattle.model.specs.Machine.Step.{holding, hasTokenPlace, hasCellPlace, tokenPlace, cellPlace, takes}
 use Rattle.model.specs.Machine.Answer as Answer
 use Rattle.model.specs.Machine.Answer.{holder, answered}
 use Rattle.model.specs.Calculus.Event.{Event, Label}
 use Rattle.model.specs.Calculus.Expression.{Exp}
 use Rattle.model.specs.Calculus.Allowed.{shown}
 use Rattle.model.specs.Run.Call.{Call, step, answer, runner, outcomeOf}
-use Rattle.model.specs.declared.token.Slot.the-variants as slots
 use Rattle.model.specs.declared.token.Held.the-variants as helds
 use Rattle.model.specs.declared.token.Place.{Place}
 use Rattle.model.specs.declared.token.Place.the-variants as places
@@ -39,16 +38,16 @@ use Rattle.model.specs.declared.record.Machine.{Machine}
 use Rattle.model.specs.declared.reply.Outcome.{Outcome}
 use Rattle.model.proofs.Test.{clash, false-of, ltb-lt}
 use Rattle.model.proofs.Job.Rules.{dag-rules, node-rules}
-use Rattle.model.proofs.Machine.Marks.{Marked, Free, free-inside}
+use Rattle.model.proofs.Machine.Marks.{Marked, free-inside}
 use Rattle.model.proofs.Machine.InUse.{tokens-used, cells-used}
-use Rattle.model.proofs.Machine.Refused.{After, after-outcome, begun, start-accepted, StepAccepted, step-accepted, AnswerAccepted, answer-accepted}
+use Rattle.model.proofs.Machine.Refused.{After, after-outcome, step-accepted, AnswerAccepted, answer-accepted}
 use Rattle.model.proofs.Abstract.Machine as Abstract
-use Rattle.model.proofs.Abstract.Machine.{Binding, Frame, Store, startAt}
+use Rattle.model.proofs.Abstract.Machine.{Store, startAt}
 use Rattle.model.proofs.Sees.Labels.{Labels, programOf, Flow}
 use Rattle.model.proofs.Sees.View.{World, CellsSeen}
-use Rattle.model.proofs.Sees.Sees.{Core, world, Sees, seenAs, live-inside, token-at, token-used, live-listed}
+use Rattle.model.proofs.Sees.Sees.{world, Sees, seenAs, live-inside, token-at, token-used, live-listed}
 use Rattle.model.proofs.Sees.Others.{token-same}
-use Rattle.model.proofs.Sees.Agrees.{Acting, Becomes, Shows}
+use Rattle.model.proofs.Sees.Agrees.{Shows}
 use Rattle.model.proofs.Sees.Acts.{taken, take-ready}
 use Rattle.model.proofs.Sees.Acts as Acts
 use Rattle.model.proofs.Sees.Answering.{holder-called, Pending, pending, find-pending, answered-becomes}
@@ -56,7 +55,7 @@ use Rattle.model.proofs.Sees.Begin.{start-machine-sees}
 use Rattle.model.proofs.Sees.Lockstep as Lockstep
 use Rattle.model.proofs.Sees.Lockstep.{free-token, free-cell, takes-agrees, eventsBy, Steps, steps, call-locks}
 use Rattle.model.proofs.Keeps.Lines.{Lines, Taken, take-out, taken-ready, lines-new}
-use Rattle.model.proofs.Keeps.Orders.{Orders, queue-is, waits-are, orders-put, orders-enqueue}
+use Rattle.model.proofs.Keeps.Orders.{queue-is, waits-are, orders-put, orders-enqueue}
 use Rattle.model.proofs.Keeps.Tables.{Idle, idle-kept, tables-write}
 use Rattle.model.proofs.Keeps.Facts.{Facts, start-facts, LiveUsed, finish-facts}
 use Rattle.model.proofs.Keeps.Acts.{Vacant, acted}
@@ -132,7 +131,12 @@ module _ (lim : Limits) (d : Dag) (M : Labels) (room : Roomy lim) (flow : Flow d
   -- the start
   pub start-reached : Reached lim d M (startMachine lim (d .goal)) (startAt (d .goal))
   unfolding isLive
-  start-reached = record { view = seen; facts = start-facts lim d (room .tokenPlaces) (room .cellPlaces) (dag-rules d dag .goal); clean = start-clean lim (d .goal) used }
+  start-reached =
+      record {
+        view = seen;
+        facts = start-facts lim d (room .tokenPlaces) (room .cellPlaces) (dag-rules d dag .goal);
+        clean = start-clean lim (d .goal) used;
+      }
     where
       begins : Machine
       begins = startMachine lim (d .goal)
@@ -197,9 +201,11 @@ module _ (lim : Limits) (d : Dag) (M : Labels) (room : Roomy lim) (flow : Flow d
             → Acts.Taken M (world (m .tokens) (m .cells) name place σ new) p S → After (λ o. Facts lim d o × LiveUsed o) (takes lim d m k)
         both (taken split acting) =
             after-both (Facts lim d) LiveUsed (takes lim d m k)
-            (acted lim d m F some (without k (queueOf m)) (waitsOf m) p T dag (slot-inside (acting .place .binds)) (cell-inside (acting .place .cell)) token cell
+            (acted lim d m F some (without k (queueOf m)) (waitsOf m) p T dag
+            (slot-inside (acting .place .binds)) (cell-inside (acting .place .cell)) token cell
             (nodeAt d (tokenAt (m .tokens) p .node)) refl (node-rules d _ dag (F .tables .tokens p .node)))
-            (shows-after _ LiveUsed (λ a o b. sees-live (b .machine)) (takes lim d m k) (takes-agrees lim d M bodies (fitting room) flow m k rules l acting))
+            (shows-after _ LiveUsed (λ a o b. sees-live (b .machine)) (takes lim d m k)
+            (takes-agrees lim d M bodies (fitting room) flow m k rules l acting))
 
         go : {s : Abstract.State} → Sees M m s → After (λ o. Facts lim d o × LiveUsed o) (takes lim d m k)
         go (seenAs name place A K) = both (take-ready p K (taken-ready T))
@@ -231,7 +237,8 @@ module _ (lim : Limits) (d : Dag) (M : Labels) (room : Roomy lim) (flow : Flow d
 
     -- an accepted call is a step of the abstract machine that shows the same events, and the machine is reached again
     pub data Reaches (s : Abstract.State) (es : List Event) (m : Machine) : Type 0 where
-      reaches : {a : Label} {s′ : Abstract.State} → Abstract.Step (programOf d M bodies) s a s′ → es ≡ shown a [] → Reached lim d M m s′ → Reaches s es m
+      reaches : {a : Label} {s′ : Abstract.State}
+          → Abstract.Step (programOf d M bodies) s a s′ → es ≡ shown a [] → Reached lim d M m s′ → Reaches s es m
 
     joined : {s : Abstract.State} {es : List Event} {m : Machine} → Left m → Steps d M bodies s es m → Reaches s es m
     joined x (steps st e v) = reaches st e (record { view = v; facts = x .0; clean = x .1 })

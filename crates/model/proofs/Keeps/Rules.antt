@@ -3,12 +3,12 @@
 use mathlib.Core.Path.{_≡_, refl, sym, _∙_, ap, subst}
 use mathlib.Core.Logic.{_⊎_, inl, inr}
 use mathlib.Core.Bool.{Bool, true, false, not}
-use mathlib.Core.List.{List, [], _∷_, _++_, List·Memᴰ, List·Memᴰ·head, List·Memᴰ·tail, List·Memᴰ·not-nil}
+use mathlib.Core.List.{List, [], _∷_, _++_, List·Memᴰ·head, List·Memᴰ·tail, List·Memᴰ·not-nil}
 use Prim.Native.Nat.{ℕ, zero, suc, _<_, _≤_}
 use native.Mathlib.Decide.{ℕ-discrete}
 use native.Mathlib.Omega.{arith}
 use lib.ListN.{length, getD, length-append}
-use lib.Dec.{eqb, ltb}
+use lib.Dec.{eqb}
 use lib.IntN.{ℤ}
 use Rattle.model.specs.Test.{_and_, _or_, all, any, All, none, more, differ}
 use Rattle.model.specs.Number.{fits}
@@ -16,10 +16,12 @@ use Rattle.model.specs.Job.Syntax.{Param}
 use Rattle.model.specs.Job.Node.{Node, Dag, nodeAt, isNode, dagKept}
 use Rattle.model.specs.Job.WellFormed.{GoodParam}
 use Rattle.model.specs.Machine.Limits.{Limits}
-use Rattle.model.specs.Machine.Blank.{empty, unbound, blankToken, blankCell, tokenAt, cellAt, slotAt, isBound, hasValue, isPlace, isBlankState}
+use Rattle.model.specs.Machine.Blank.{empty, blankToken, blankCell, tokenAt, cellAt, slotAt, isBound, hasValue, isPlace, isBlankState}
 use Rattle.model.specs.Machine.Active.{isSet, underSet, isLive}
 use Rattle.model.specs.Machine.InUse.{tokensUsed, cellsUsed}
-use Rattle.model.specs.Machine.Rules.{heldInRange, placeInRange, slotInRange, stateInRange, tokenInRange, cellInRange, sizesInRange, isReady, isWaiting, isFrame, chainEnds, chainsEnd, notUnderSet, handleOf, openHandles, waitsAtUnset, namesFrame, notEmpty, valueIfReady, nodeRule, atNode, machineKept, rulesKept}
+use Rattle.model.specs.Machine.Rules.{heldInRange, placeInRange, slotInRange, stateInRange, tokenInRange, cellInRange, sizesInRange, isReady}
+use Rattle.model.specs.Machine.Rules.{isFrame, chainEnds, chainsEnd, notUnderSet, handleOf, openHandles, waitsAtUnset, namesFrame}
+use Rattle.model.specs.Machine.Rules.{notEmpty, valueIfReady, nodeRule, atNode, machineKept, rulesKept}
 use Rattle.model.specs.declared.token.Slot.{Slot}
 use Rattle.model.specs.declared.token.Slot.the-variants as slots
 use Rattle.model.specs.declared.token.Bind.{Bind}
@@ -32,18 +34,21 @@ use Rattle.model.specs.declared.token.State.the-variants as states
 use Rattle.model.specs.declared.token.Token.{Token}
 use Rattle.model.specs.declared.cell.Cell.{Cell}
 use Rattle.model.specs.declared.record.Machine.{Machine}
-use Rattle.model.proofs.Test.{clash, false-of, eqb-eq, eq-eqb, lt-ltb, le-leb, and-both, or-right, all-from}
+use Rattle.model.proofs.Machine.Rules.{ready-live}
+use Rattle.model.proofs.Test.{clash, false-of, eqb-eq, eq-eqb, lt-ltb, le-leb, and-both, all-from}
 use Rattle.model.proofs.Abstract.Machine as Abstract
 use Rattle.model.proofs.Abstract.Machine.{Binding, Frame, Store}
-use Rattle.model.proofs.Abstract.Store.{_∈_, _∉_}
+use Rattle.model.proofs.Abstract.Store.{_∉_}
 use Rattle.model.proofs.Sees.Labels.{Labels, Flow, FlowAt}
-use Rattle.model.proofs.Sees.View.{World, cellsOfCaller, hasCaller, Nested, HeldSeen, absent, present, StateSeen, ready, waiting, called, CellsSeen, root, below, BindingSeen, valued, celled, BindingsSeen, binds, SlotsSeen, FramesSeen, outermost, calledBy, PlaceSeen, TokenSeen, sees}
-use Rattle.model.proofs.Sees.Sees.{Core, world, Sees, seenAs, not-under-set, token-at, live-listed}
+use Rattle.model.proofs.Sees.View.{World, cellsOfCaller, hasCaller, Nested, absent, present, StateSeen, ready, waiting}
+use Rattle.model.proofs.Sees.View.{called, CellsSeen, root, below, BindingSeen, valued, celled, BindingsSeen, binds}
+use Rattle.model.proofs.Sees.View.{SlotsSeen, FramesSeen, outermost, calledBy, PlaceSeen, TokenSeen, sees}
+use Rattle.model.proofs.Sees.Sees.{Core, world, not-under-set, token-at, live-listed}
 use Rattle.model.proofs.Sees.Slots.{variable-seen}
 use Rattle.model.proofs.Sees.Used.{Standing, standing, Named, named, used-stands, used-named}
 use Rattle.model.proofs.Sees.Within.{chain-short}
 use Rattle.model.proofs.Keeps.Orders.{queue-names, waits-name}
-use Rattle.model.proofs.Keeps.Tables.{BindsFit, TokenKept, Apart}
+use Rattle.model.proofs.Keeps.Tables.{BindsFit, TokenKept}
 use Rattle.model.proofs.Keeps.Facts.{Facts}
 use Rattle.model.proofs.Keeps.Clean.{Clean, clean-tokens, clean-cells}
 
@@ -203,14 +208,6 @@ value-there e called = refl
 unset-if : (k : Cell) → k .value ≡ helds.Nothing → isSet k ≡ false
 unfolding isSet hasValue
 unset-if k e = ap hasValue e
-
-ready-live : (s : State) → isReady s ≡ true → isLive s ≡ true
-unfolding isReady isLive
-ready-live states.Blank e = e
-ready-live states.Ready e = refl
-ready-live (states.Waiting c) e = refl
-ready-live (states.Called h) e = refl
-ready-live states.Frame e = e
 
 module _ (lim : Limits) (d : Dag) (M : Labels) (flow : Flow d M) (dag : dagKept d ≡ true) (some : 0 < length (d .nodes))
     (m : Machine) (X : Facts lim d m) (clean : Clean m) {name place : ℕ → ℕ} {σ : Store} {new : ℕ} {A : List ℕ} {S : List Abstract.Token}

@@ -10,10 +10,9 @@ use native.Mathlib.Decide.{ℕ-discrete}
 use native.Mathlib.Omega.{arith}
 use lib.ListN.{length, getD, set, drop, length-set}
 use lib.Seq.{getD-drop}
-use lib.Dec.{eqb}
 use lib.IntN.{ℤ}
 use Rattle.model.specs.Test.{all}
-use Rattle.model.specs.Number.{fits, Signed32}
+use Rattle.model.specs.Number.{Signed32}
 use Rattle.model.specs.Job.Syntax.{Param, variable, constant}
 use Rattle.model.specs.Job.Node.{Node, Dag, nodeAt, paramKept}
 use Rattle.model.specs.Machine.Blank.{empty, unbound, blankToken, blankCell, tokenAt, cellAt, slotAt}
@@ -24,19 +23,18 @@ use Rattle.model.specs.Machine.Step.{being, passed, formalsBound, waitsA
 use Rattle.model.specs.declared.token.Slot.{Slot}
 use Rattle.model.specs.declared.token.Slot.the-variants as slots
 use Rattle.model.specs.declared.token.Bind.{Bind}
-use Rattle.model.specs.declared.token.Held.{Held}
 use Rattle.model.specs.declared.token.Held.the-variants as helds
 use Rattle.model.specs.declared.token.State.{State}
 use Rattle.model.specs.declared.token.State.the-variants as states
 use Rattle.model.specs.declared.token.Token.{Token}
 use Rattle.model.specs.declared.cell.Cell.{Cell}
-use Rattle.model.proofs.Test.{clash, eqb-same, eqb-ne, all-head, all-tail}
+use Rattle.model.proofs.Test.{eqb-ne, all-head, all-tail}
 use Rattle.model.proofs.Machine.Kept.{length-kept, kept-cases}
 use Rattle.model.proofs.Machine.Inside.{written}
 use Rattle.model.proofs.Machine.Writes.{Choked, ends, wakes, stays, choked-cases}
 use Rattle.model.proofs.Sees.Slots.{unbound-empty}
 use Rattle.model.proofs.Sees.Others.{token-same, token-other}
-use Rattle.model.proofs.Sees.Making.{cell-same, cell-other}
+use Rattle.model.proofs.Run.Chain.{cell-same, cell-other}
 use Rattle.model.proofs.Sees.Choke.{choke-at}
 
 -- the values that variables are bound to
@@ -68,7 +66,8 @@ pub formals-fit : (bs : List Bind) (ps : List Param) → all paramKept ps ≡ tr
 unfolding formalsBound slotAt
 formals-fit bs ps k f y v e = go (length ps) ps k y e
   where
-    go : (n : ℕ) (ps : List Param) → all paramKept ps ≡ true → (y : ℕ) → getD (map (passed bs) ps ++ drop n unbound) y empty .slot ≡ slots.Value v → Signed32 v
+    go : (n : ℕ) (ps : List Param) → all paramKept ps ≡ true → (y : ℕ)
+        → getD (map (passed bs) ps ++ drop n unbound) y empty .slot ≡ slots.Value v → Signed32 v
     go n [] k y e = unbound-fit (n + y) v (ap (λ (b : Bind). b .slot) (sym (getD-drop n unbound y empty)) ∙ e)
     go n (p ∷ ps) k zero e = passed-fits bs f p (all-head paramKept p ps k) v e
     go n (p ∷ ps) k (suc y) e = go n ps (all-tail paramKept p ps k) y e
@@ -118,7 +117,8 @@ not-called ready e = let z : _≡_ {A = ℕ} 0 1 = cc in absurd (omega arith)
 not-called frame e = let z : _≡_ {A = ℕ} 0 1 = cc in absurd (omega arith)
 
 module _ {d : Dag} {cs : List Cell} {calls : ℕ} where
-  pub idle-kept : {t : Token} → t .node < length (d .nodes) → heldInRange (t .value) ≡ true → BindsFit (t .binds) → Idle (t .state) → TokenKept d cs calls t
+  pub idle-kept : {t : Token} → t .node < length (d .nodes) → heldInRange (t .value) ≡ true → BindsFit (t .binds) → Idle (t .state)
+      → TokenKept d cs calls t
   idle-kept n v b i = record { node = n; value = v; binds = b; waits = λ c e. not-waiting i e; called = λ h e. not-called i e }
 
   pub blank-kept : 0 < length (d .nodes) → TokenKept d cs calls blankToken
@@ -293,7 +293,8 @@ module _ {d : Dag} {ts : List Token} {cs : List Cell} {calls : ℕ} (T : Tables 
     none-wait t = go (within cs c (t .cell)) (waitsAt c (t .state)) refl
       where
         go : (a b : Bool) → waitsAt c (t .state) ≡ b
-            → waitsAt c ((elim a as (λ a. Token) [ true ↦ blankToken | false ↦ elim b as (λ b. Token) [ true ↦ being states.Ready t | false ↦ t ] ]) .state) ≡ false
+            → waitsAt c
+            ((elim a as (λ a. Token) [ true ↦ blankToken | false ↦ elim b as (λ b. Token) [ true ↦ being states.Ready t | false ↦ t ] ]) .state) ≡ false
         go true b e = refl
         go false true e = refl
         go false false e = e
@@ -308,7 +309,9 @@ module _ {d : Dag} {ts : List Token} {cs : List Cell} {calls : ℕ} (T : Tables 
     tables-choke =
         record {
           tokens =
-              λ p. subst (TokenKept d then calls) (sym (choke-at cs c ts p)) (choked-kept (choked-cases cs c (tokenAt ts p)) (none-wait (tokenAt ts p)) (T .tokens p));
+              λ p.
+              subst (TokenKept d then calls) (sym (choke-at cs c ts p))
+              (choked-kept (choked-cases cs c (tokenAt ts p)) (none-wait (tokenAt ts p)) (T .tokens p));
           cells = λ b. cell-now b (ℕ-discrete b c);
           apart = λ p q h a b. T .apart p q h (before p h a) (before q h b);
         }

@@ -1,13 +1,11 @@
 -- Values stay signed 32-bit: what a call's parameters give is, if constants, bindings and cells' values are, and so is what a built-in replies,
 -- since it replies a parameter, 0, 1 or a sum that it has tested. Assumes nothing.
-use mathlib.Core.Path.{_≡_, refl, sym, _∙_, ap, subst}
+use mathlib.Core.Path.{_≡_, refl, sym, _∙_, ap}
 use mathlib.Core.Bool.{Bool, true, false}
 use mathlib.Core.List.{List, [], _∷_}
 use Prim.Native.Nat.{ℕ, zero, suc}
-use native.Mathlib.Omega.{arith}
-use lib.ListN.{getD}
 use lib.IntN.{ℤ, pos, _+ℤ_}
-use Rattle.model.specs.Test.{_and_, all, All, none, more}
+use Rattle.model.specs.Test.{all, All, none, more}
 use Rattle.model.specs.Number.{fits, Signed32}
 use Rattle.model.specs.Site.{Said, gives, silent, at, zeroIf, truth, sum, builtin}
 use Rattle.model.specs.Job.Syntax.{Param, variable, constant}
@@ -21,7 +19,7 @@ use Rattle.model.specs.declared.token.Bind.{Bind}
 use Rattle.model.specs.declared.token.Held.{Held}
 use Rattle.model.specs.declared.token.Held.the-variants as helds
 use Rattle.model.specs.declared.cell.Cell.{Cell}
-use Rattle.model.proofs.Test.{clash, all-head, all-tail}
+use Rattle.model.proofs.Test.{all-head, all-tail}
 
 pub zero-fits : Signed32 (pos 0)
 unfolding fits
@@ -33,38 +31,38 @@ held-fits helds.Nothing e = zero-fits
 held-fits (helds.Value v) e = e
 
 -- what is looked up
-pub data Fitting : Looked → Type 0 where
-  fitting : {vs : List ℤ} → All Signed32 vs → Fitting (values vs)
-  waiting : {c : ℕ} → Fitting (unset c)
+pub data LookedFits : Looked → Type 0 where
+  found : {vs : List ℤ} → All Signed32 vs → LookedFits (values vs)
+  waiting : {c : ℕ} → LookedFits (unset c)
 
-then-fits : (v : ℤ) {l : Looked} → Signed32 v → Fitting l → Fitting (andThen v l)
+then-fits : (v : ℤ) {l : Looked} → Signed32 v → LookedFits l → LookedFits (andThen v l)
 unfolding andThen
-then-fits v e (fitting a) = fitting (more e a)
+then-fits v e (found a) = found (more e a)
 then-fits v e waiting = waiting
 
 module _ (cs : List Cell) (bs : List Bind)
     (bound : (x : ℕ) (v : ℤ) → slotAt bs x ≡ slots.Value v → Signed32 v)
     (cells : (c : ℕ) → heldInRange (cellAt cs c .value) ≡ true) where
-  cell-fits : (c : ℕ) (w : Held) → cellAt cs c .value ≡ w → (l : Looked) → Fitting l
-      → Fitting (elim w [ helds.Nothing ↦ unset c | helds.Value v ↦ andThen v l ])
+  cell-fits : (c : ℕ) (w : Held) → cellAt cs c .value ≡ w → (l : Looked) → LookedFits l
+      → LookedFits (elim w [ helds.Nothing ↦ unset c | helds.Value v ↦ andThen v l ])
   unfolding heldInRange
   cell-fits c helds.Nothing e l f = waiting
   cell-fits c (helds.Value v) e l f = then-fits v (ap heldInRange (sym e) ∙ cells c) f
 
-  slot-fits : (x : ℕ) (s : Slot) → slotAt bs x ≡ s → (l : Looked) → Fitting l
-      → Fitting
+  slot-fits : (x : ℕ) (s : Slot) → slotAt bs x ≡ s → (l : Looked) → LookedFits l
+      → LookedFits
       (elim s [
         | slots.Empty ↦ values []
         | slots.Value v ↦ andThen v l
         | slots.Cell c ↦ elim (cellAt cs c .value) [ helds.Nothing ↦ unset c | helds.Value v ↦ andThen v l ]
       ])
-  slot-fits x slots.Empty e l f = fitting none
+  slot-fits x slots.Empty e l f = found none
   slot-fits x (slots.Value v) e l f = then-fits v (bound x v e) f
   slot-fits x (slots.Cell c) e l f = cell-fits c (cellAt cs c .value) refl l f
 
-  pub look-fits : (ps : List Param) → all paramKept ps ≡ true → Fitting (look cs bs ps)
+  pub look-fits : (ps : List Param) → all paramKept ps ≡ true → LookedFits (look cs bs ps)
   unfolding look paramKept
-  look-fits [] e = fitting none
+  look-fits [] e = found none
   look-fits (constant v ∷ ps) e = then-fits v (all-head paramKept _ ps e) (look-fits ps (all-tail paramKept _ ps e))
   look-fits (variable x ∷ ps) e = slot-fits x (slotAt bs x) refl (look cs bs ps) (look-fits ps (all-tail paramKept _ ps e))
 

@@ -1,6 +1,6 @@
 -- What the index rules say, rule by rule: the test of all of them is taken apart, and the tests of the orders are turned into facts on the
 -- places they name. Assumes nothing.
-use mathlib.Core.Path.{_≡_, refl, subst}
+use mathlib.Core.Path.{_≡_, refl, ap, subst}
 use mathlib.Core.Bool.{Bool, true, false}
 use mathlib.Core.List.{List, [], _∷_}
 use Prim.Native.Nat.{ℕ, zero, suc, _+_, _<_, _≤_}
@@ -12,13 +12,15 @@ use Rattle.model.specs.Test.{_and_, all, allFrom, count, once, differ}
 use Rattle.model.specs.Job.Node.{Dag, dagKept}
 use Rattle.model.specs.Machine.Limits.{Limits}
 use Rattle.model.specs.Machine.Blank.{blankToken, tokenAt, tokenIsBlank, cellIsBlank}
+use Rattle.model.specs.Machine.Active.{isLive}
 use Rattle.model.specs.Machine.InUse.{tokensUsed, cellsUsed}
 use Rattle.model.specs.Machine.Rules as rules
 use Rattle.model.specs.Machine.Rules.{isReady, isWaiting, namesOnce, restIsBlank, machineKept, rulesKept}
 use Rattle.model.specs.declared.token.State.{State}
+use Rattle.model.specs.declared.token.State.the-variants as states
 use Rattle.model.specs.declared.token.Token.{Token}
 use Rattle.model.specs.declared.record.Machine.{Machine}
-use Rattle.model.proofs.Test.{and-left, and-right, all-at, eqb-eq, eqb-same, leb-le, ltb-lt}
+use Rattle.model.proofs.Test.{clash, and-left, and-right, all-at, eqb-eq, eqb-same, leb-le, ltb-lt}
 
 both : (a b : Bool) → (a and b) ≡ true → (a ≡ true) × (b ≡ true)
 both a b e = (and-left a b e, and-right a b e)
@@ -112,7 +114,7 @@ names-once of ts array n e =
     at p l h = subst (λ i. test i (getD ts p blankToken) ≡ true) (let z : 0 + p ≡ p = omega arith in z) (all-from-at test 0 ts p blankToken h l)
 
 -- what stands in a list is counted there
-count-at : (xs : List ℕ) (k : ℕ) → k < length xs → 0 < count (getD xs k 0) xs
+pub count-at : (xs : List ℕ) (k : ℕ) → k < length xs → 0 < count (getD xs k 0) xs
 unfolding count
 count-at [] k l = absurd (omega arith)
 count-at (x ∷ xs) zero l = rw (eqb-same x) (omega arith)
@@ -138,3 +140,16 @@ module _ (of : State → Bool) (ts : List Token) (array : List ℕ) (n : ℕ) (o
       once-true _
       (subst (λ i. 0 < i) (o .counts (getD array k 0) order-inside)
       (subst (λ p. 0 < count p (take n array)) at-take (count-at (take n array) k short)))
+
+-- what a ready token's state is
+pub ready-state : (s : State) → isReady s ≡ true → s ≡ states.Ready
+unfolding isReady
+ready-state states.Blank e = clash e refl
+ready-state states.Ready e = refl
+ready-state (states.Waiting c) e = clash e refl
+ready-state (states.Called h) e = clash e refl
+ready-state states.Frame e = clash e refl
+
+pub ready-live : (s : State) → isReady s ≡ true → isLive s ≡ true
+unfolding isLive
+ready-live s e = ap isLive (ready-state s e)

@@ -27,19 +27,11 @@ use Rattle.model.specs.declared.token.Token.{Token}
 use Rattle.model.specs.declared.record.Machine.{Machine}
 use Rattle.model.specs.declared.reply.Outcome.{Outcome}
 use Rattle.model.proofs.Machine.Refused.{After, after-outcome, StepAccepted, step-accepted, AnswerAccepted, answer-accepted}
-use Rattle.model.proofs.Machine.Rules.{RulesKept, rules-kept, names-once, order-names}
+use Rattle.model.proofs.Machine.Rules.{RulesKept, rules-kept, names-once, order-names, ready-live}
 use Rattle.model.proofs.Machine.Inside.{inside-put}
 use Rattle.model.proofs.Machine.Writes.{fits-same}
 use Rattle.model.proofs.Machine.Used.{Within, Used, used-fits, live-used, inside-old, none-new}
 use Rattle.model.proofs.Machine.Acts.{acted}
-
-ready-live : (s : State) → isReady s ≡ true → isLive s ≡ true
-unfolding isReady isLive
-ready-live states.Blank e = e
-ready-live states.Ready e = refl
-ready-live (states.Waiting c) e = refl
-ready-live (states.Called h) e = refl
-ready-live states.Frame e = e
 
 open-live : (h : ℕ) (s : State) → any (eqb h) (handleOf s) ≡ true → isLive s ≡ true
 unfolding any handleOf isLive

@@ -18,10 +18,11 @@ use Rattle.model.specs.declared.token.Place.{Place}
 use Rattle.model.specs.declared.token.Token.{Token}
 use Rattle.model.specs.declared.cell.Cell.{Cell}
 use Rattle.model.specs.declared.record.Machine.{Machine}
+use Rattle.model.proofs.Machine.Rules.{ready-live}
 use Rattle.model.proofs.Machine.Marks.{Marked}
 use Rattle.model.proofs.Machine.InUse.{tokens-used}
 use Rattle.model.proofs.Machine.Kept.{kept-marked}
-use Rattle.model.proofs.Run.Queue.{ready-live, QueueKept}
+use Rattle.model.proofs.Run.Queue.{QueueKept}
 use Rattle.model.proofs.Run.Chain.{unsetCell, new-cell-clear}
 
 -- the token u is at place p and not under a set cell

@@ -64,11 +64,11 @@ module _ (test : ℕ → Cell → Bool) (cs : List Cell) where
 abbrev setTest : ℕ → Cell → Bool
 setTest c k = isSet k
 
-cell-other : (cs : List Cell) (c b : ℕ) (k : Cell) → (b ≡ c → ⊥) → cellAt (set cs c k) b ≡ cellAt cs b
+pub cell-other : (cs : List Cell) (c b : ℕ) (k : Cell) → (b ≡ c → ⊥) → cellAt (set cs c k) b ≡ cellAt cs b
 unfolding cellAt
 cell-other cs c b k n = getD-set-other cs c b k blankCell n
 
-cell-same : (cs : List Cell) (c : ℕ) (k : Cell) → c < length cs → cellAt (set cs c k) c ≡ k
+pub cell-same : (cs : List Cell) (c : ℕ) (k : Cell) → c < length cs → cellAt (set cs c k) c ≡ k
 unfolding cellAt
 cell-same cs c k l = getD-set-same cs c k blankCell l
 

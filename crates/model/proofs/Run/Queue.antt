@@ -19,7 +19,7 @@ use Rattle.model.specs.declared.token.State.the-variants as states
 use Rattle.model.specs.declared.token.Token.{Token}
 use Rattle.model.specs.declared.cell.Cell.{Cell}
 use Rattle.model.specs.declared.record.Machine.{Machine}
-use Rattle.model.proofs.Machine.Rules.{RulesKept, rules-kept, NamesOnce, names-once, order-inside, order-names}
+use Rattle.model.proofs.Machine.Rules.{RulesKept, rules-kept, NamesOnce, names-once, order-inside, order-names, count-at, ready-live}
 use Rattle.model.proofs.Test.{clash, eqb-eq, eqb-same, ltb-lt, and-left, and-right, all-at}
 
 -- what stands in a list is counted
@@ -31,17 +31,12 @@ count-more : (n x : ℕ) (q : List ℕ) → count n q ≤ count n (x ∷ q)
 unfolding count
 count-more n x q = omega arith
 
-counted : (q : List ℕ) (k : ℕ) → k < length q → 0 < count (getD q k 0) q
-counted [] k l = absurd (omega arith)
-counted (x ∷ q) zero l = let z = count-head x q in omega arith
-counted (x ∷ q) (suc k) l = let z = count-more (getD q k 0) x q in let c = counted q k (omega arith) in omega arith
-
 -- what stands at the front and again behind is counted twice
 counted-twice : (q : List ℕ) (k : ℕ) → suc k < length q → getD q 0 0 ≡ getD q (suc k) 0 → 1 < count (getD q (suc k) 0) q
 counted-twice [] k l e = absurd (omega arith)
 counted-twice (x ∷ q) k l e =
     subst (λ n. 1 < count n (x ∷ q)) e
-    (let z = count-head x q in let c = subst (λ n. 0 < count n q) (sym e) (counted q k (omega arith)) in omega arith)
+    (let z = count-head x q in let c = subst (λ n. 0 < count n q) (sym e) (count-at q k (omega arith)) in omega arith)
 
 once-small : (b : Bool) → 1 < once b → ⊥
 once-small true l = omega arith
@@ -64,14 +59,6 @@ module _ (of : State → Bool) (ts : List Token) (array : List ℕ) (n : ℕ) (o
       (subst (λ c. 1 < c) (o .counts (getD array (suc k) 0) (order-inside of ts array n o (suc k) l))
       (subst (λ p. 1 < count p order) (order-at (suc k) l)
       (counted-twice order k (let z = order-length in omega arith) (order-at 0 (omega arith) ∙ (e ∙ sym (order-at (suc k) l))))))
-
-pub ready-live : (s : State) → isReady s ≡ true → isLive s ≡ true
-unfolding isReady isLive
-ready-live states.Blank e = e
-ready-live states.Ready e = refl
-ready-live (states.Waiting c) e = clash e refl
-ready-live (states.Called h) e = clash e refl
-ready-live states.Frame e = e
 
 not-true : (b : Bool) → not b ≡ true → b ≡ false
 not-true true e = clash e refl

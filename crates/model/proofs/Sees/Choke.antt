@@ -33,7 +33,7 @@ use Rattle.model.proofs.Sees.Labels.{Labels, nodeMeant, programOf}
 use Rattle.model.proofs.Sees.View.{held, World, Nested, StateSeen, ready, waiting, called, Unset, CellSeen, CellsSeen, root, below, PlaceSeen, TokenSeen, sees, TokensSeen, nobody, also, FrameSeen, frameAt, frame-seen, Kept, Closed, place-keep, tokens-append}
 use Rattle.model.proofs.Sees.Sees.{Core, world, sees-tables}
 use Rattle.model.proofs.Sees.Others.{Others, count-append}
-use Rattle.model.proofs.Sees.Making.{cell-same, cell-other}
+use Rattle.model.proofs.Run.Chain.{cell-same, cell-other}
 use Rattle.model.proofs.Sees.Within.{not-any, any-first, any-rest, within-seen}
 use Rattle.model.proofs.Sees.Moving.{value-there, value-optional, place-as}
 use Rattle.model.proofs.Sees.Agrees.{Acting, Shows, Agrees}

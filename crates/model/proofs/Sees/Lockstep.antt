@@ -39,7 +39,7 @@ use Rattle.model.proofs.Test.{clash, holds-or-fails, and-left, and-righ
 use Rattle.model.proofs.Machine.Marks.{Free}
 use Rattle.model.proofs.Machine.InUse.{tokens-used, cells-used}
 use Rattle.model.proofs.Machine.Places.{next-place-free}
-use Rattle.model.proofs.Machine.Rules.{RulesKept, rules-kept}
+use Rattle.model.proofs.Machine.Rules.{RulesKept, rules-kept, ready-state}
 use Rattle.model.proofs.Machine.Refused.{outcome-refused, StepAccepted, step-accepted, AnswerAccepted, answer-accepted}
 use Rattle.model.proofs.Run.Queue.{queue-kept, tokens-sized, newtoken-inside}
 use Rattle.model.proofs.Abstract.Machine as Abstract
@@ -59,14 +59,6 @@ pub record Fitting (lim : Limits) : Type 0 where
 
 pub fitting : (t c k : ℕ) → Fitting (limits t c k)
 fitting t c k = record { tokens = omega arith; cells = omega arith }
-
-ready-state : (s : State) → isReady s ≡ true → s ≡ states.Ready
-unfolding isReady
-ready-state states.Blank e = clash e refl
-ready-state states.Ready e = refl
-ready-state (states.Waiting c) e = clash e refl
-ready-state (states.Called h) e = clash e refl
-ready-state states.Frame e = clash e refl
 
 -- what the rules of an accepted step give: new places are free, and the token that acts is ready and at a node
 module _ (lim : Limits) (d : Dag) (m : Machine) (kept : rulesKept lim d m ≡ true) where
@@ -220,7 +212,7 @@ refused-shows c (replies.Called h s n) vs e = clash e refl
 refused-shows (step place) (replies.Refused r) vs e = refl
 refused-shows (answer h v signed) (replies.Refused r) vs e = refl
 
-refused-leaves : (lim : Limits) (d : Dag) (m : Machine) (c : Call)
+pub refused-leaves : (lim : Limits) (d : Dag) (m : Machine) (c : Call)
     → isRefused (outcomeOf runner lim d m c .reply) ≡ true → outcomeOf runner lim d m c .machine ≡ m
 unfolding outcomeOf Step.step Answer.answer
 refused-leaves lim d m (step place) e = outcome-refused m _ e

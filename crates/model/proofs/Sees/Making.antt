@@ -27,6 +27,7 @@ use Rattle.model.specs.declared.token.State.the-variants as states
 use Rattle.model.specs.declared.token.Token.{Token}
 use Rattle.model.specs.declared.cell.Cell.{Cell}
 use Rattle.model.specs.declared.record.Machine.{Machine}
+use Rattle.model.proofs.Run.Chain.{cell-same, cell-other}
 use Rattle.model.proofs.Test.{clash, eqb-same, ne-eqb}
 use Rattle.model.proofs.Machine.Marks.{Free, free-inside}
 use Rattle.model.proofs.Abstract.Machine as Abstract
@@ -50,14 +51,6 @@ changed-same f c v = rw (eqb-same c, changed) refl
 changed-other : (f : ℕ → ℕ) (c v b : ℕ) → (b ≡ c → ⊥) → changed f c v b ≡ f b
 unfolding changed
 changed-other f c v b n = rw (ne-eqb b c n, changed) refl
-
-pub cell-same : (cs : List Cell) (c : ℕ) (k : Cell) → c < length cs → cellAt (set cs c k) c ≡ k
-unfolding cellAt
-cell-same cs c k l = getD-set-same cs c k blankCell l
-
-pub cell-other : (cs : List Cell) (c b : ℕ) (k : Cell) → (b ≡ c → ⊥) → cellAt (set cs c k) b ≡ cellAt cs b
-unfolding cellAt
-cell-other cs c b k n = getD-set-other cs c b k blankCell n
 
 module _ (d : Dag) (M : Labels) (bodies : ℕ → Exp) (m : Machine) {name place : ℕ → ℕ} {σ : Store} {new p : ℕ}
     {L R : List Abstract.Token} {n : ℕ} {B : List Binding} {F : List Frame} {U : List ℕ} {v : ℤ}

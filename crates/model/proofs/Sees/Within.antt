@@ -15,23 +15,18 @@ use Rattle.model.specs.Machine.Active.{upward, within}
 use Rattle.model.specs.Machine.InUse.{marked}
 use Rattle.model.specs.declared.token.Place.{Place}
 use Rattle.model.specs.declared.token.Place.the-variants as places
+use Rattle.model.proofs.Job.WellFormed.{member-any}
 use Rattle.model.proofs.Test.{clash, eq-eqb, ne-eqb, or-left, or-right}
 use Rattle.model.proofs.Machine.Marks.{Free, marked-le-length, marked-set-free}
 use Rattle.model.proofs.Abstract.Store.{_∈_, _∉_}
 use Rattle.model.proofs.Sees.View.{World, CellSeen, CellsSeen, root, below}
 
 -- names in a list
-any-member : (n : ℕ) (U : List ℕ) → n ∈ U → any (eqb n) U ≡ true
-unfolding any
-any-member n [] m = absurd (List·Memᴰ·not-nil m)
-any-member n (i ∷ U) (List·Memᴰ·head e) = or-left (any (eqb n) U) (eq-eqb n i e)
-any-member n (i ∷ U) (List·Memᴰ·tail m) = or-right (eqb n i) (any-member n U m)
-
 pub not-any : (n : ℕ) (U : List ℕ) → any (eqb n) U ≡ false → n ∉ U
-not-any n U e m = clash (any-member n U m) e
+not-any n U e m = clash (member-any m) e
 
 pub any-first : (n : ℕ) (U : List ℕ) → any (eqb n) (n ∷ U) ≡ true
-any-first n U = any-member n (n ∷ U) (List·Memᴰ·head refl)
+any-first n U = member-any (List·Memᴰ·head refl)
 
 pub any-rest : (test : ℕ → Bool) (C D : List ℕ) → any test (C ++ D) ≡ false → any test D ≡ false
 unfolding any _or_
