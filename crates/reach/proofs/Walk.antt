@@ -1,0 +1,56 @@
+-- The loop that marks along a chain of links: what is left to do, at each way out and after each turn. Assumes nothing.
+use mathlib.Core.Path.{_≡_, refl, sym, _∙_, ap, subst}
+use mathlib.Core.Bool.{Bool, true, false}
+use mathlib.Core.List.{List, [], _∷_}
+use Prim.Native.Nat.{ℕ, zero, suc, _+_, _-_, _≤_, _<_}
+use native.Mathlib.Omega.{arith}
+use lib.ListN.{length, getD, set, length-set}
+use Rattle.model.specs.Machine.InUse.{markChain}
+use Rattle.model.specs.declared.token.Place.{Place}
+use Rattle.model.proofs.Machine.Marks.{Marked, Free, marked-outside}
+use Rattle.reach.specs.Link.{at}
+use Rattle.reach.proofs.Fill.{any-default}
+
+module _ (links : List ℕ) where
+  abbrev pub walk : ℕ → ℕ → List Bool → List Bool
+  walk n p marks = markChain at 255 links n (at p) marks
+
+  pub walk-stops : (n p : ℕ) (marks : List Bool) → Marked marks p → walk n p marks ≡ marks
+  unfolding markChain
+  walk-stops zero p marks e = refl
+  walk-stops (suc n) p marks e = rw (e, markChain)
+
+  pub walk-goes : (n p : ℕ) (marks : List Bool) → Free marks p → walk (suc n) p marks ≡ walk n (getD links p 255) (set marks p true)
+  unfolding markChain
+  walk-goes n p marks e = rw (e, markChain)
+
+  -- k links are followed, and the chain goes on at p
+  module _ (size k p : ℕ) (marks end : List Bool) (long : length marks ≡ size) (left : end ≡ walk (size - k) p marks) where
+    pub chain-outside : size ≤ p → marks ≡ end
+    chain-outside h = sym (left ∙ walk-stops (size - k) p marks (marked-outside marks p (omega arith)))
+
+    pub chain-met : p < size → getD marks p false ≡ true → marks ≡ end
+    chain-met h e =
+        let i : p < length marks = omega arith in
+        sym (left ∙ walk-stops (size - k) p marks (any-default marks p true false i ∙ e))
+
+    pub chain-over : size ≤ k → marks ≡ end
+    unfolding markChain
+    chain-over h = let z : size - k ≡ 0 = omega arith in sym (left ∙ ap (λ (n : ℕ). walk n p marks) z)
+
+    pub chain-on :
+        (q : ℕ)
+        → length links ≡ size
+        → k < size
+        → p < size
+        → getD marks p false ≡ false
+        → q ≡ getD links p 0
+        → end ≡ walk (size - (k + 1)) q (set marks p true)
+    chain-on q l h i e f =
+        let z : size - k ≡ suc (size - (k + 1)) = omega arith in
+        let x : p < length marks = omega arith in
+        let y : p < length links = omega arith in
+        left
+        ∙ ap (λ (n : ℕ). walk n p marks) z
+        ∙ walk-goes (size - (k + 1)) p marks (any-default marks p true false x ∙ e)
+        ∙ ap (λ (r : ℕ). walk (size - (k + 1)) r (set marks p true)) (any-default links p 255 0 y ∙ sym f)

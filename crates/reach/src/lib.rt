@@ -1,0 +1,5 @@
+// What of a machine record is in use, what is made blank, and where a new record goes.
+pub mod active;
+mod chain;
+mod link;
+pub mod places;
