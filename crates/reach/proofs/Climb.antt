@@ -10,11 +10,11 @@ use Rattle.reach.specs.Link.{climbs}
 use Rattle.reach.proofs.Fill.{any-default}
 
 module _ (set : List Bool) (parents : List ℕ) where
-  climb-goes : (n p : ℕ) → getD set p false ≡ false → climbs set parents (suc n) p ≡ climbs set parents n (getD parents p 255)
+  pub climb-goes : (n p : ℕ) → getD set p false ≡ false → climbs set parents (suc n) p ≡ climbs set parents n (getD parents p 255)
   unfolding climbs
   climb-goes n p e = rw (e, climbs)
 
-  climb-stops : (n p : ℕ) → getD set p false ≡ true → climbs set parents (suc n) p ≡ true
+  pub climb-stops : (n p : ℕ) → getD set p false ≡ true → climbs set parents (suc n) p ≡ true
   unfolding climbs
   climb-stops n p e = rw (e, climbs)
 

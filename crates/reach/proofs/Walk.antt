@@ -11,6 +11,19 @@ use Rattle.model.proofs.Machine.Marks.{Marked, Free, marked-outside}
 use Rattle.reach.specs.Link.{at}
 use Rattle.reach.proofs.Fill.{any-default}
 
+-- a chain comes to the place i
+module _ {A : Type 0} (link : A → Place) (blank : A) (xs : List A) (n i : ℕ) (marks : List Bool) where
+  pub chain-stops : Marked marks i → markChain link blank xs (suc n) (at i) marks ≡ marks
+  unfolding markChain
+  chain-stops e = rw (e, markChain)
+
+  pub chain-goes :
+      Free marks i
+      → markChain link blank xs (suc n) (at i) marks ≡ markChain link blank xs n (link (getD xs i blank)) (set marks i true)
+  unfolding markChain
+  chain-goes e = rw (e, markChain)
+
+-- the same by numbers
 module _ (links : List ℕ) where
   abbrev pub walk : ℕ → ℕ → List Bool → List Bool
   walk n p marks = markChain at 255 links n (at p) marks
@@ -18,11 +31,7 @@ module _ (links : List ℕ) where
   pub walk-stops : (n p : ℕ) (marks : List Bool) → Marked marks p → walk n p marks ≡ marks
   unfolding markChain
   walk-stops zero p marks e = refl
-  walk-stops (suc n) p marks e = rw (e, markChain)
-
-  pub walk-goes : (n p : ℕ) (marks : List Bool) → Free marks p → walk (suc n) p marks ≡ walk n (getD links p 255) (set marks p true)
-  unfolding markChain
-  walk-goes n p marks e = rw (e, markChain)
+  walk-stops (suc n) p marks e = chain-stops at 255 links n p marks e
 
   -- k links are followed, and the chain goes on at p
   module _ (size k p : ℕ) (marks end : List Bool) (long : length marks ≡ size) (left : end ≡ walk (size - k) p marks) where
@@ -52,5 +61,5 @@ module _ (links : List ℕ) where
         let y : p < length links = omega arith in
         left
         ∙ ap (λ (n : ℕ). walk n p marks) z
-        ∙ walk-goes (size - (k + 1)) p marks (any-default marks p true false x ∙ e)
+        ∙ chain-goes at 255 links (size - (k + 1)) p marks (any-default marks p true false x ∙ e)
         ∙ ap (λ (r : ℕ). walk (size - (k + 1)) r (set marks p true)) (any-default links p 255 0 y ∙ sym f)

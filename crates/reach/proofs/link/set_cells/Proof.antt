@@ -49,6 +49,7 @@ loop-less c = search needs
 
 -- src/link.rt:58:5
 loop-again : tie.Need-loop-again Inv-loop μ-loop
+unfolding isSet
 loop-again c = (search needs, search needs, simp length-set (search needs), search (needs, fill-more))
 
 -- src/link.rt:53:1

@@ -3,10 +3,8 @@ use mathlib.Core.Bool.{Bool, true, false}
 use Prim.Native.Nat.{ℕ, _+_, _-_, _≤_, _<_}
 use native.Mathlib.Omega.{arith}
 use borrow.Author.Needs.{needs}
-use lib.ListN.{length}
-use native.Mathlib.Numerals.{add-one}
 use Rattle.model.specs.Machine.Places.{freeFrom, nextPlace}
-use Rattle.reach.proofs.Place.{place-none, place-found, place-next}
+use Rattle.reach.proofs.Place.{place-first, place-none, place-found, place-next}
 use Rattle.reach.proofs.places.next_place32.Statement.{statement}
 use Rattle.reach.proofs.places.next_place32.Tie as tie
 use Rattle.reach.proofs.places.next_place32.Reads as reads
@@ -30,8 +28,7 @@ add-p c = search needs
 
 -- src/places.rt:70:5
 loop-holds : tie.Need-loop-holds Inv-loop μ-loop
-unfolding nextPlace
-loop-holds c = (search needs, ap (freeFrom (c .before .args .t1) 32) (sym (add-one _) ∙ ap (λ (k : ℕ). k + 1) (sym (c .wide .ensures))))
+loop-holds c = (search needs, search (needs, place-first))
 
 -- src/places.rt:71:13
 around-requires : tie.Need-around-requires Inv-loop μ-loop
@@ -43,7 +40,7 @@ array-read-if1 c = search needs
 
 -- src/places.rt:73:13
 returns : tie.Need-returns Inv-loop μ-loop
-returns c = let z = c .if1 .taken in (?, search needs)
+returns c = (search (needs, place-found), search needs)
 
 -- src/places.rt:75:13
 add-p-2 : tie.Need-add-p-2 Inv-loop μ-loop
@@ -59,7 +56,7 @@ loop-less c = search needs
 
 -- src/places.rt:70:5
 loop-again : tie.Need-loop-again Inv-loop μ-loop
-loop-again c = let z = c .if1 .left in (search needs, ?)
+loop-again c = (search needs, search (needs, place-next))
 
 -- src/places.rt:64:1
 returns-2 : tie.Need-returns-2 Inv-loop μ-loop

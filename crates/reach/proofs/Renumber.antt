@@ -1,0 +1,62 @@
+-- A chain of places is marked as the chain of their numbers: 255, which stands for nowhere, is no place of a table, and a chain ends at
+-- such a place. Assumes nothing.
+use mathlib.Core.Path.{_≡_, refl, sym, _∙_, ap}
+use mathlib.Core.Bool.{Bool, true, false}
+use mathlib.Core.List.{List, [], _∷_, _++_, map}
+use Prim.Native.Nat.{ℕ, zero, suc, _≤_}
+use native.Mathlib.Omega.{arith}
+use lib.ListN.{length, getD, set, length-set, List·getD-map}
+use Rattle.model.specs.Machine.InUse.{markChain, markChains}
+use Rattle.model.specs.declared.token.Place.{Place}
+use Rattle.model.specs.declared.token.Place.the-variants as places
+use Rattle.model.proofs.Machine.Marks.{marked-outside}
+use Rattle.reach.specs.Link.{number, at, renamed}
+use Rattle.reach.proofs.Walk.{walk, walk-stops, chain-stops, chain-goes}
+
+module _ {A : Type 0} (link : A → Place) (blank : A) (xs : List A) where
+  -- marking keeps the number of places
+  pub chain-length : (n : ℕ) (q : Place) (marks : List Bool) → length (markChain link blank xs n q marks) ≡ length marks
+  unfolding markChain
+  chain-length zero q marks = refl
+  chain-length (suc n) places.Nowhere marks = refl
+  chain-length (suc n) (places.At i) marks =
+      go (getD marks i true) refl (chain-length n (link (getD xs i blank)) (set marks i true))
+    where
+      go :
+          (b : Bool)
+          → getD marks i true ≡ b
+          → length (markChain link blank xs n (link (getD xs i blank)) (set marks i true)) ≡ length (set marks i true)
+          → length (markChain link blank xs (suc n) (places.At i) marks) ≡ length marks
+      go true e h = ap length (chain-stops link blank xs n i marks e)
+      go false e h = ap length (chain-goes link blank xs n i marks e) ∙ h ∙ length-set marks i true
+
+  module _ (none : number (link blank) ≡ 255) where
+    abbrev linked : A → ℕ
+    linked x = number (link x)
+
+    pub chain-numbers :
+        (n : ℕ) (q : Place) (marks : List Bool)
+        → length marks ≤ 255
+        → markChain link blank xs n q marks ≡ walk (map linked xs) n (number q) marks
+    unfolding markChain
+    chain-numbers zero q marks s = refl
+    chain-numbers (suc n) places.Nowhere marks s =
+        sym (walk-stops (map linked xs) (suc n) 255 marks (marked-outside marks 255 s))
+    chain-numbers (suc n) (places.At i) marks s =
+        let z = length-set marks i true in
+        go (getD marks i true) refl (chain-numbers n (link (getD xs i blank)) (set marks i true) (omega arith))
+      where
+        go :
+            (b : Bool)
+            → getD marks i true ≡ b
+            → markChain link blank xs n (link (getD xs i blank)) (set marks i true)
+            ≡ walk (map linked xs) n (linked (getD xs i blank)) (set marks i true)
+            → markChain link blank xs (suc n) (places.At i) marks ≡ walk (map linked xs) (suc n) i marks
+        go true e h = chain-stops link blank xs n i marks e ∙ sym (chain-stops at 255 (map linked xs) n i marks e)
+        go false e h =
+            chain-goes link blank xs n i marks e
+            ∙ h
+            ∙ ap
+            (λ (p : ℕ). walk (map linked xs) n p (set marks i true))
+            (sym (ap (getD (map linked xs) i) (sym none) ∙ List·getD-map linked xs i blank))
+            ∙ sym (chain-goes at 255 (map linked xs) n i marks e)
