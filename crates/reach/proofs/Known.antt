@@ -18,14 +18,14 @@ module _ (cs : List Cell) (few : length cs ≤ 255) where
   abbrev above : ℕ → Place → Bool
   above n q = upward (λ (c : ℕ) (k : Cell). isSet k) cs n q
 
-  sets : List Bool
+  abbrev sets : List Bool
   sets = map isSet cs
 
-  parents : List ℕ
+  abbrev parents : List ℕ
   parents = map parentNumber cs
 
   set-at : (c : ℕ) → getD sets c false ≡ isSet (getD cs c blankCell)
-  unfolding sets isSet hasValue
+  unfolding isSet hasValue
   set-at c = List·getD-map isSet cs c blankCell
 
   above-stops : (n c : ℕ) → isSet (getD cs c blankCell) ≡ true → above (suc n) (places.At c) ≡ true

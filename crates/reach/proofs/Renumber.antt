@@ -5,7 +5,7 @@ use mathlib.Core.Bool.{Bool, true, false}
 use mathlib.Core.List.{List, [], _∷_, _++_, map}
 use Prim.Native.Nat.{ℕ, zero, suc, _≤_}
 use native.Mathlib.Omega.{arith}
-use lib.ListN.{length, getD, set, length-set, List·getD-map}
+use lib.ListN.{length, getD, set, length-set, length-map, List·getD-map}
 use Rattle.model.specs.Machine.InUse.{markChain, markChains}
 use Rattle.model.specs.declared.token.Place.{Place}
 use Rattle.model.specs.declared.token.Place.the-variants as places
@@ -60,3 +60,25 @@ module _ {A : Type 0} (link : A → Place) (blank : A) (xs : List A) where
             (λ (p : ℕ). walk (map linked xs) n p (set marks i true))
             (sym (ap (getD (map linked xs) i) (sym none) ∙ List·getD-map linked xs i blank))
             ∙ sym (chain-goes at 255 (map linked xs) n i marks e)
+
+    pub chains-numbers :
+        (qs : List Place) (marks : List Bool)
+        → length marks ≤ 255
+        → markChains link blank xs qs marks ≡ markChains at 255 (map linked xs) (map renamed qs) marks
+    unfolding markChains
+    chains-numbers [] marks s = refl
+    chains-numbers (q ∷ qs) marks s =
+        let z = chain-length (length xs) q marks in
+        chains-numbers qs (markChain link blank xs (length xs) q marks) (omega arith)
+        ∙ ap
+        (markChains at 255 (map linked xs) (map renamed qs))
+        (chain-numbers (length xs) q marks s
+        ∙ ap (λ (n : ℕ). walk (map linked xs) n (number q) marks) (sym (length-map xs linked)))
+
+-- marking from one list of places and then from another
+pub chains-append :
+    {A : Type 0} (link : A → Place) (blank : A) (xs : List A) (qs rs : List Place) (marks : List Bool)
+    → markChains link blank xs (qs ++ rs) marks ≡ markChains link blank xs rs (markChains link blank xs qs marks)
+unfolding markChains
+chains-append link blank xs [] rs marks = refl
+chains-append link blank xs (q ∷ qs) rs marks = chains-append link blank xs qs rs (markChain link blank xs (length xs) q marks)

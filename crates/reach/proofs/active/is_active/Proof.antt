@@ -1,0 +1,28 @@
+use borrow.Author.Needs.{needs}
+use Rattle.reach.proofs.active.is_active.Statement.{statement}
+use Rattle.reach.proofs.active.is_active.Tie as tie
+use Rattle.reach.proofs.active.is_active.Reads as reads
+use Rattle.reach.proofs.active.is_active.Lts as lts
+use Rattle.reach.proofs.active.active_in.Reads as active-in-reads
+use Rattle.reach.proofs.link.parents.Reads as parents-reads
+use Rattle.reach.proofs.link.set_cells.Reads as set-cells-reads
+
+-- src/active.rt:62:15
+set-cells-requires : tie.Need-set-cells-requires
+set-cells-requires c κs = search needs
+
+-- src/active.rt:62:33
+parents-requires : tie.Need-parents-requires
+parents-requires c κs = search needs
+
+-- src/active.rt:62:5
+active-in-requires : tie.Need-active-in-requires
+active-in-requires c κs = search needs
+
+-- src/active.rt:59:1
+returns : tie.Need-returns
+returns c = ?
+
+pub is-active-spec : {M : Type 1} → statement M
+is-active-spec =
+    tie.close (tie.spec set-cells-requires parents-requires active-in-requires returns)

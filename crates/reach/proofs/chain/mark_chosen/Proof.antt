@@ -1,0 +1,63 @@
+use Rattle.reach.proofs.chain.mark_chosen.Statement.{statement}
+use Rattle.reach.proofs.chain.mark_chosen.Tie as tie
+use Rattle.reach.proofs.chain.mark_chosen.Reads as reads
+use Rattle.reach.proofs.chain.mark_chosen.Lts as lts
+use Rattle.reach.proofs.chain.mark64.Reads as mark64-reads
+
+abbrev Inv-loop : tie.InvT-loop
+Inv-loop links from marks₀ i₀ marks i = ?
+
+abbrev μ-loop : tie.MeasureT-loop
+μ-loop links from marks₀ i₀ marks i = ?
+
+-- src/chain.rt:54:5
+loop-holds : tie.Need-loop-holds Inv-loop μ-loop
+loop-holds c = ?
+
+-- src/chain.rt:56:9
+add-i : tie.Need-add-i Inv-loop μ-loop
+add-i c = ?
+
+-- src/chain.rt:57:12
+array-read-if1 : tie.Need-array-read-if1 Inv-loop μ-loop
+array-read-if1 c = ?
+
+-- src/chain.rt:58:17
+mark64-requires : tie.Need-mark64-requires Inv-loop μ-loop
+mark64-requires c κs = ?
+
+-- src/chain.rt:54:5
+loop-less : tie.Need-loop-less Inv-loop μ-loop
+loop-less c = ?
+
+-- src/chain.rt:54:5
+loop-again : tie.Need-loop-again Inv-loop μ-loop
+loop-again c = ?
+
+-- src/chain.rt:54:5
+loop-less-2 : tie.Need-loop-less-2 Inv-loop μ-loop
+loop-less-2 c = ?
+
+-- src/chain.rt:54:5
+loop-again-2 : tie.Need-loop-again-2 Inv-loop μ-loop
+loop-again-2 c = ?
+
+-- src/chain.rt:49:1
+returns : tie.Need-returns Inv-loop μ-loop
+returns c = ?
+
+pub mark-chosen-spec : {M : Type 1} → statement M
+mark-chosen-spec =
+    tie.close
+    (tie.spec
+    Inv-loop
+    μ-loop
+    loop-holds
+    add-i
+    array-read-if1
+    mark64-requires
+    loop-less
+    loop-again
+    loop-less-2
+    loop-again-2
+    returns)

@@ -1,0 +1,86 @@
+use Rattle.reach.proofs.used.mark_named.Statement.{statement}
+use Rattle.reach.proofs.used.mark_named.Tie as tie
+use Rattle.reach.proofs.used.mark_named.Reads as reads
+use Rattle.reach.proofs.used.mark_named.Lts as lts
+use Rattle.reach.proofs.chain.mark32.Reads as mark32-reads
+use Rattle.reach.proofs.link.number.Reads as number-reads
+use Rattle.reach.proofs.link.wide.Reads as wide-reads
+use Rattle.reach.proofs.used.bound_number.Reads as bound-number-reads
+
+abbrev Inv-loop : tie.InvT-loop
+Inv-loop above marks₀ binds x₀ marks x = ?
+
+abbrev μ-loop : tie.MeasureT-loop
+μ-loop above marks₀ binds x₀ marks x = ?
+
+-- src/used.rt:56:36
+number-requires : tie.Need-number-requires Inv-loop μ-loop
+number-requires c κs = ?
+
+-- src/used.rt:56:31
+wide-requires : tie.Need-wide-requires Inv-loop μ-loop
+wide-requires c κs = ?
+
+-- src/used.rt:56:9
+mark32-requires : tie.Need-mark32-requires Inv-loop μ-loop
+mark32-requires c κs = ?
+
+-- src/used.rt:59:5
+loop-holds : tie.Need-loop-holds Inv-loop μ-loop
+loop-holds c = ?
+
+-- src/used.rt:60:17
+mul-b : tie.Need-mul-b Inv-loop μ-loop
+mul-b c = ?
+
+-- src/used.rt:60:17
+array-copy-out-b : tie.Need-array-copy-out-b Inv-loop μ-loop
+array-copy-out-b c = ?
+
+-- src/used.rt:61:39
+bound-number-requires : tie.Need-bound-number-requires Inv-loop μ-loop
+bound-number-requires c κs = ?
+
+-- src/used.rt:61:34
+wide-requires-2 : tie.Need-wide-requires-2 Inv-loop μ-loop
+wide-requires-2 c κs = ?
+
+-- src/used.rt:61:13
+mark32-requires-2 : tie.Need-mark32-requires-2 Inv-loop μ-loop
+mark32-requires-2 c κs = ?
+
+-- src/used.rt:63:9
+add-x : tie.Need-add-x Inv-loop μ-loop
+add-x c = ?
+
+-- src/used.rt:59:5
+loop-less : tie.Need-loop-less Inv-loop μ-loop
+loop-less c = ?
+
+-- src/used.rt:59:5
+loop-again : tie.Need-loop-again Inv-loop μ-loop
+loop-again c = ?
+
+-- src/used.rt:51:1
+returns : tie.Need-returns Inv-loop μ-loop
+returns c = ?
+
+pub mark-named-spec : {M : Type 1} → statement M
+mark-named-spec =
+    tie.close
+    (tie.spec
+    Inv-loop
+    μ-loop
+    number-requires
+    wide-requires
+    mark32-requires
+    loop-holds
+    mul-b
+    array-copy-out-b
+    bound-number-requires
+    wide-requires-2
+    mark32-requires-2
+    add-x
+    loop-less
+    loop-again
+    returns)

@@ -1,0 +1,63 @@
+// "The rest is blank after each accepted call."
+ghost use mathlib.Core.Path.{_≡_};
+ghost use Rattle.model.specs.Machine.Blank.{blankToken, blankCell};
+ghost use Rattle.model.specs.Machine.InUse.{finish};
+use crate::used::used_cells;
+use crate::used::used_tokens;
+use model::cell::Cell;
+use model::record::Machine;
+use model::token::Bind;
+use model::token::Held;
+use model::token::Place;
+use model::token::Slot;
+use model::token::State;
+use model::token::Token;
+
+pub fn blank_token() -> Token
+    ensures { λ r. ⌜ r ≡ blankToken ⌝ }
+{
+    Token {
+        node: 0,
+        binds: [Bind { slot: Slot::Empty }; 8],
+        value: Held::Nothing,
+        caller: Place::Nowhere,
+        cell: Place::Nowhere,
+        state: State::Blank,
+    }
+}
+
+pub fn blank_cell() -> Cell
+    ensures { λ r. ⌜ r ≡ blankCell ⌝ }
+{
+    Cell {
+        parent: Place::Nowhere,
+        value: Held::Nothing,
+    }
+}
+
+// The record with all that is not in use made blank.
+pub fn finish(mut m: Machine) -> Machine
+    ensures { λ r. ⌜ r ≡ finish m ⌝ }
+{
+    let used = used_tokens(m);
+    let cells = used_cells(m, used);
+    let mut i: usize = 0;
+    while i < Machine::TOKENS {
+        let p = i;
+        i += 1;
+        if !used[p] {
+            let t = blank_token();
+            m.tokens[p] = t;
+        }
+    }
+    let mut j: usize = 0;
+    while j < Machine::CELLS {
+        let p = j;
+        j += 1;
+        if !cells[p] {
+            let c = blank_cell();
+            m.cells[p] = c;
+        }
+    }
+    m
+}
