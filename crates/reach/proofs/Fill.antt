@@ -5,7 +5,7 @@ use Prim.Native.Nat.{ℕ, zero, suc, _+_, _≤_, _<_}
 use native.Mathlib.Numerals.{add-one}
 use native.Mathlib.Omega.{arith}
 use lib.ListN.{length, getD, set, take, drop, length-map}
-use lib.Seq.{take-suc, take-suc-set, take-all}
+use lib.Seq.{drop-cons, take-suc, take-suc-set, take-all}
 
 -- within a list the default is never read
 pub any-default : {A : Type 0} (l : List A) (i : ℕ) (d e : A) → i < length l → getD l i d ≡ getD l i e
@@ -22,6 +22,10 @@ pub map-at : {A B : Type 0} (f : A → B) (l : List A) (i : ℕ) (d : A) (e : B)
 map-at f [] i d e h = absurd (omega arith)
 map-at f (x ∷ l) zero d e h = refl
 map-at f (x ∷ l) (suc i) d e h = map-at f l i d e (omega arith)
+
+-- a loop that reads a list comes to an element
+pub drop-next : {A : Type 0} (l : List A) (i : ℕ) (d x : A) → i < length l → getD l i d ≡ x → drop i l ≡ x ∷ drop (i + 1) l
+drop-next {A} l i d x h e = rw (add-one) (drop-cons l i d h ∙ ap (λ (y : A). y ∷ drop (suc i) l) e)
 
 -- what f makes of the first i elements is written
 module _

@@ -4,6 +4,7 @@ use mathlib.Core.Bool.{Bool, true, false, not}
 use mathlib.Core.List.{List, [], _∷_, map}
 use Prim.Native.Nat.{ℕ, zero, suc, _≤_}
 use native.Mathlib.Omega.{arith}
+use borrow.Author.Tests.{not-true, not-false}
 use lib.ListN.{length, getD, length-map, List·getD-map}
 use Rattle.model.specs.Machine.Blank.{blankCell, cellAt, hasValue}
 use Rattle.model.specs.Machine.Active.{isSet, upward, underSet, isLive, isActive}
@@ -70,3 +71,19 @@ active-known cs sets parents t l e f =
     ∙ ap
     (λ (b : Bool). elim (isLive (t .state)) [ true ↦ not b | false ↦ false ])
     (ap (λ (n : ℕ). climbs (map isSet cs) (map parentNumber cs) n (number (t .cell))) (sym l) ∙ sym (above-numbers cs s (length cs) (t .cell)))
+
+-- the two answers of the code
+module _ (sets : List Bool) (parents : List ℕ) (t : Token) (live : Bool) (e : live ≡ isLive (t .state)) where
+  pub not-live : not live ≡ true → false ≡ activeIn sets parents t
+  unfolding activeIn
+  not-live h = sym (rw (sym e ∙ not-true live h, activeIn))
+
+  pub by-cells :
+      (p : ℕ) (up : Bool)
+      → not live ≡ false
+      → p ≡ number (t .cell)
+      → up ≡ climbs sets parents 32 p
+      → not up ≡ activeIn sets parents t
+  unfolding activeIn
+  by-cells p up h f g =
+      ap not (g ∙ ap (climbs sets parents 32) f) ∙ sym (rw (sym e ∙ not-false live h, activeIn))

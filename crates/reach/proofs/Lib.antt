@@ -5,3 +5,6 @@ pub mod Count
 pub mod Place
 pub mod Renumber
 pub mod Known
+pub mod Tokens
+pub mod Cells
+pub mod Keep

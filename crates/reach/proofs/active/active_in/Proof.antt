@@ -1,4 +1,5 @@
 use borrow.Author.Needs.{needs}
+use Rattle.reach.proofs.Known.{not-live, by-cells}
 use Rattle.reach.proofs.active.active_in.Statement.{statement}
 use Rattle.reach.proofs.active.active_in.Tie as tie
 use Rattle.reach.proofs.active.active_in.Reads as reads
@@ -13,7 +14,7 @@ is-live-requires c κs = search needs
 
 -- src/active.rt:52:9
 returns : tie.Need-returns
-returns c = ?
+returns c = search (needs, not-live)
 
 -- src/active.rt:55:30
 number-requires : tie.Need-number-requires
@@ -25,7 +26,7 @@ under-set-requires c κs = search needs
 
 -- src/active.rt:47:1
 returns-2 : tie.Need-returns-2
-returns-2 c = ?
+returns-2 c = search (needs, by-cells)
 
 pub active-in-spec : {M : Type 1} → statement M
 active-in-spec =

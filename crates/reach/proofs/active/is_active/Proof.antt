@@ -1,4 +1,7 @@
 use borrow.Author.Needs.{needs}
+use mathlib.Core.Path.{_≡_, _∙_}
+use Rattle.reach.proofs.Known.{active-known}
+use Rattle.reach.proofs.Fill.{mapped-length}
 use Rattle.reach.proofs.active.is_active.Statement.{statement}
 use Rattle.reach.proofs.active.is_active.Tie as tie
 use Rattle.reach.proofs.active.is_active.Reads as reads
@@ -21,7 +24,7 @@ active-in-requires c κs = search needs
 
 -- src/active.rt:59:1
 returns : tie.Need-returns
-returns c = ?
+returns c = c .active-in .ensures ∙ active-known _ _ _ _ (search (needs, mapped-length)) (c .before .before .set-cells .ensures) (c .before .parents .ensures)
 
 pub is-active-spec : {M : Type 1} → statement M
 is-active-spec =

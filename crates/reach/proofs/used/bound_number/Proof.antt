@@ -1,4 +1,5 @@
 use borrow.Author.Needs.{needs}
+use Rattle.model.specs.Machine.InUse.{boundCell}
 use Rattle.reach.proofs.used.bound_number.Statement.{statement}
 use Rattle.reach.proofs.used.bound_number.Tie as tie
 use Rattle.reach.proofs.used.bound_number.Reads as reads
@@ -18,15 +19,18 @@ enum-known-s c = search needs
 
 -- src/used.rt:39:1
 returns : tie.Need-returns
-returns c = ?
+unfolding boundCell
+returns c = search needs
 
 -- src/used.rt:39:1
 returns-2 : tie.Need-returns-2
-returns-2 c = ?
+unfolding boundCell
+returns-2 c = search needs
 
 -- src/used.rt:39:1
 returns-3 : tie.Need-returns-3
-returns-3 c = ?
+unfolding boundCell
+returns-3 c = search needs
 
 pub bound-number-spec : {M : Type 1} → statement M
 bound-number-spec =

@@ -1,3 +1,13 @@
+use mathlib.Core.Path.{_≡_, refl, sym, _∙_, ap}
+use mathlib.Core.Bool.{Bool, true, false}
+use Prim.Native.Nat.{ℕ, _+_, _-_, _≤_, _<_}
+use borrow.Author.Needs.{needs}
+use lib.ListN.{length, drop}
+use Rattle.model.specs.Machine.InUse.{markChains}
+use Rattle.reach.specs.Link.{at}
+use Rattle.reach.proofs.Fill.{mapped-length}
+use Rattle.reach.proofs.Renumber.{chain-length}
+use Rattle.reach.proofs.Cells.{named, named-first, named-more, named-over}
 use Rattle.reach.proofs.used.mark_named.Statement.{statement}
 use Rattle.reach.proofs.used.mark_named.Tie as tie
 use Rattle.reach.proofs.used.mark_named.Reads as reads
@@ -8,22 +18,22 @@ use Rattle.reach.proofs.link.wide.Reads as wide-reads
 use Rattle.reach.proofs.used.bound_number.Reads as bound-number-reads
 
 abbrev Inv-loop : tie.InvT-loop
-Inv-loop above marks₀ binds x₀ marks x = ?
+Inv-loop above marks₀ binds x₀ marks x = (x ≤ 8) × (length binds ≡ 8) × (length marks ≡ 32) × (markChains at 255 above (named binds) marks₀ ≡ markChains at 255 above (named (drop x binds)) marks)
 
 abbrev μ-loop : tie.MeasureT-loop
-μ-loop above marks₀ binds x₀ marks x = ?
+μ-loop above marks₀ binds x₀ marks x = 8 - x
 
 -- src/used.rt:56:36
 number-requires : tie.Need-number-requires Inv-loop μ-loop
-number-requires c κs = ?
+number-requires c κs = search needs
 
 -- src/used.rt:56:31
 wide-requires : tie.Need-wide-requires Inv-loop μ-loop
-wide-requires c κs = ?
+wide-requires c κs = search needs
 
 -- src/used.rt:56:9
 mark32-requires : tie.Need-mark32-requires Inv-loop μ-loop
-mark32-requires c κs = ?
+mark32-requires c κs = search needs
 
 -- src/used.rt:59:5
 loop-holds : tie.Need-loop-holds Inv-loop μ-loop
@@ -31,31 +41,31 @@ loop-holds c = ?
 
 -- src/used.rt:60:17
 mul-b : tie.Need-mul-b Inv-loop μ-loop
-mul-b c = ?
+mul-b c = search needs
 
 -- src/used.rt:60:17
 array-copy-out-b : tie.Need-array-copy-out-b Inv-loop μ-loop
-array-copy-out-b c = ?
+array-copy-out-b c = search needs
 
 -- src/used.rt:61:39
 bound-number-requires : tie.Need-bound-number-requires Inv-loop μ-loop
-bound-number-requires c κs = ?
+bound-number-requires c κs = search needs
 
 -- src/used.rt:61:34
 wide-requires-2 : tie.Need-wide-requires-2 Inv-loop μ-loop
-wide-requires-2 c κs = ?
+wide-requires-2 c κs = search needs
 
 -- src/used.rt:61:13
 mark32-requires-2 : tie.Need-mark32-requires-2 Inv-loop μ-loop
-mark32-requires-2 c κs = ?
+mark32-requires-2 c κs = search needs
 
 -- src/used.rt:63:9
 add-x : tie.Need-add-x Inv-loop μ-loop
-add-x c = ?
+add-x c = search needs
 
 -- src/used.rt:59:5
 loop-less : tie.Need-loop-less Inv-loop μ-loop
-loop-less c = ?
+loop-less c = search needs
 
 -- src/used.rt:59:5
 loop-again : tie.Need-loop-again Inv-loop μ-loop
