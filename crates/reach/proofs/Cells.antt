@@ -6,7 +6,7 @@ use mathlib.Core.List.{List, [], _∷_, _++_, map, map-append}
 use Prim.Native.Nat.{ℕ, zero, suc, _+_, _≤_, _<_}
 use native.Mathlib.Omega.{arith}
 use lib.ListN.{length, getD, drop, replicate, drop-of-length-le, length-replicate}
-use Rattle.model.specs.Machine.Blank.{blankCell}
+use Rattle.model.specs.Machine.Blank.{blankToken, blankCell}
 use Rattle.model.specs.Machine.InUse.{markChain, markChains, reached, boundCell, cellsOf, cellsOfMarked, usedCells}
 use Rattle.model.specs.declared.token.Bind.{Bind}
 use Rattle.model.specs.declared.token.Place.{Place}
@@ -103,12 +103,11 @@ module _ (links : List ℕ) where
         ∙ ap (marking (map renamed rs)) (sym f)
 
     pub cells-none :
-        (d : Token)
-        → i < size
+        i < size
         → getD used i false ≡ false
         → end ≡ marking (map renamed (cellsOfMarked (drop (i + 1) used) (drop (i + 1) ts))) marks
     unfolding cellsOfMarked
-    cells-none d h e = comes false d h e
+    cells-none h e = comes false blankToken h e
 
     pub cells-over : size ≤ i → marks ≡ end
     unfolding cellsOfMarked markChains

@@ -6,7 +6,6 @@ use lib.ListN.{length, drop}
 use Rattle.model.specs.Machine.InUse.{markChains}
 use Rattle.reach.specs.Link.{at}
 use Rattle.reach.proofs.Fill.{mapped-length}
-use Rattle.reach.proofs.Renumber.{chain-length}
 use Rattle.reach.proofs.Cells.{named, named-first, named-more, named-over}
 use Rattle.reach.proofs.used.mark_named.Statement.{statement}
 use Rattle.reach.proofs.used.mark_named.Tie as tie
@@ -18,7 +17,7 @@ use Rattle.reach.proofs.link.wide.Reads as wide-reads
 use Rattle.reach.proofs.used.bound_number.Reads as bound-number-reads
 
 abbrev Inv-loop : tie.InvT-loop
-Inv-loop above marks₀ binds x₀ marks x = (x ≤ 8) × (length binds ≡ 8) × (length marks ≡ 32) × (markChains at 255 above (named binds) marks₀ ≡ markChains at 255 above (named (drop x binds)) marks)
+Inv-loop above marks₀ binds x₀ marks x = (x ≤ 8) × (length binds ≡ 8) × (markChains at 255 above (named binds) marks₀ ≡ markChains at 255 above (named (drop x binds)) marks)
 
 abbrev μ-loop : tie.MeasureT-loop
 μ-loop above marks₀ binds x₀ marks x = 8 - x
@@ -37,7 +36,7 @@ mark32-requires c κs = search needs
 
 -- src/used.rt:59:5
 loop-holds : tie.Need-loop-holds Inv-loop μ-loop
-loop-holds c = ?
+loop-holds c = (search needs, search (needs, mapped-length), refl)
 
 -- src/used.rt:60:17
 mul-b : tie.Need-mul-b Inv-loop μ-loop
@@ -69,11 +68,20 @@ loop-less c = search needs
 
 -- src/used.rt:59:5
 loop-again : tie.Need-loop-again Inv-loop μ-loop
-loop-again c = ?
+loop-again c = 
+    let l = c .before .before .before .before .before .loop in
+    let bs = c .before .before .before .before .before .before .before .before .before .before .args .t .binds in
+    let number = c .before .wide2 .ensures ∙ c .before .before .bound-number .ensures in
+    (search needs, l .inv .1, named-more _ bs 8 (l .x) _ _ (l .inv .1) (l .inv .2) 32 _ _ _ (search needs) (search needs) number (c .mark322 .ensures))
 
 -- src/used.rt:51:1
 returns : tie.Need-returns Inv-loop μ-loop
-returns c = ?
+returns c = 
+    let l = c .before .loop in
+    let bs = c .before .before .before .before .before .before .args .t .binds in
+    let number = c .before .before .before .wide .ensures ∙ c .before .before .before .before .number .ensures in
+    named-over _ bs 8 (l .x) _ _ (l .inv .1) (l .inv .2) (search needs)
+    ∙ named-first _ 32 _ _ _ _ _ (search needs) number (c .before .before .mark32 .ensures) refl
 
 pub mark-named-spec : {M : Type 1} → statement M
 mark-named-spec =
