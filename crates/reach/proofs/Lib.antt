@@ -8,3 +8,4 @@ pub mod Known
 pub mod Tokens
 pub mod Cells
 pub mod Keep
+pub mod Blanking

@@ -78,7 +78,8 @@ loop-less c = search needs
 -- src/used.rt:28:5
 loop-again : tie.Need-loop-again Inv-loop μ-loop
 loop-again c = 
-    let known = c .active-in .ensures ∙ active-known _ _ _ _ (search (needs, mapped-length)) (c .before .before .before .before .before .before .set-cells .ensures) (c .before .before .before .before .before .parents .ensures) in
+    let cells = c .before .before .before .before .before .before .before .before .args .t1 .cells in
+    let known = c .active-in .ensures ∙ active-known cells _ _ _ (search (needs, mapped-length)) (c .before .before .before .before .before .before .set-cells .ensures) (c .before .before .before .before .before .parents .ensures) in
     (search needs,
     search needs,
     simp length-set (search needs),
@@ -94,10 +95,11 @@ mark-chosen-requires c κs = search needs
 returns : tie.Need-returns Inv-loop μ-loop
 returns c = 
     let l = c .before .before .loop in
+    let m = c .before .before .before .before .before .before .args .t1 in
     let over : 64 ≤ l .i = search needs in
     tokens-marked _ _ _ _ _ 64 (l .inv .1) (search needs)
-    (fill-all _ _ _ 64 _ (l .inv .1) (l .inv .2) (l .inv .4) over)
-    (fill-all _ _ _ 64 _ (l .inv .1) (l .inv .3) (l .inv .5) over)
+    (fill-all callerNumber (m .tokens) _ 64 _ (l .inv .1) (l .inv .2) (l .inv .4) over)
+    (fill-all (isActive (m .cells)) (m .tokens) _ 64 _ (l .inv .1) (l .inv .3) (l .inv .5) over)
     (c .mark-chosen .ensures)
 
 pub used-tokens-spec : {M : Type 1} → statement M
