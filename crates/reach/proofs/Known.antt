@@ -13,7 +13,7 @@ use Rattle.model.specs.declared.token.Place.the-variants as places
 use Rattle.model.specs.declared.token.Token.{Token}
 use Rattle.model.specs.declared.cell.Cell.{Cell}
 use Rattle.reach.specs.Link.{number, parentNumber, climbs, activeIn}
-use Rattle.reach.proofs.Climb.{climb-stops, climb-goes, climb-outside}
+use Rattle.reach.proofs.Ancestors.{climb-stops, climb-goes, climb-outside}
 
 module _ (cs : List Cell) (few : length cs ≤ 255) where
   abbrev above : ℕ → Place → Bool

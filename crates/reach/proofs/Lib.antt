@@ -1,6 +1,6 @@
 pub mod Fill
 pub mod Walk
-pub mod Climb
+pub mod Ancestors
 pub mod Count
 pub mod Place
 pub mod Renumber

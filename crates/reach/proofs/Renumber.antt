@@ -15,7 +15,7 @@ use Rattle.reach.proofs.Walk.{walk, walk-stops, chain-stops, chain-goes
 
 module _ {A : Type 0} (link : A → Place) (blank : A) (xs : List A) where
   -- marking keeps the number of places
-  pub chain-length : (n : ℕ) (q : Place) (marks : List Bool) → length (markChain link blank xs n q marks) ≡ length marks
+  chain-length : (n : ℕ) (q : Place) (marks : List Bool) → length (markChain link blank xs n q marks) ≡ length marks
   unfolding markChain
   chain-length zero q marks = refl
   chain-length (suc n) places.Nowhere marks = refl
@@ -29,6 +29,26 @@ module _ {A : Type 0} (link : A → Place) (blank : A) (xs : List A) where
           → length (markChain link blank xs (suc n) (places.At i) marks) ≡ length marks
       go true e h = ap length (chain-stops link blank xs n i marks e)
       go false e h = ap length (chain-goes link blank xs n i marks e) ∙ h ∙ length-set marks i true
+
+  chains-length : (qs : List Place) (marks : List Bool) → length (markChains link blank xs qs marks) ≡ length marks
+  unfolding markChains
+  chains-length [] marks = refl
+  chains-length (q ∷ qs) marks = chains-length qs (markChain link blank xs (length xs) q marks) ∙ chain-length (length xs) q marks
+
+  -- the same of what a function hands back
+  pub chain-keeps :
+      (n size : ℕ) (q : Place) (marks more : List Bool)
+      → more ≡ markChain link blank xs n q marks
+      → length marks ≡ size
+      → length more ≡ size
+  chain-keeps n size q marks more e l = ap length e ∙ chain-length n q marks ∙ l
+
+  pub chains-keep :
+      (size : ℕ) (qs : List Place) (marks more : List Bool)
+      → more ≡ markChains link blank xs qs marks
+      → length marks ≡ size
+      → length more ≡ size
+  chains-keep size qs marks more e l = ap length e ∙ chains-length qs marks ∙ l
 
   module _ (none : number (link blank) ≡ 255) where
     abbrev linked : A → ℕ

@@ -41,22 +41,22 @@ pub fn finish(mut m: Machine) -> Machine
 {
     let used = used_tokens(m);
     let cells = used_cells(m, used);
+    let token = blank_token();
     let mut i: usize = 0;
     while i < Machine::TOKENS {
         let p = i;
         i += 1;
         if !used[p] {
-            let t = blank_token();
-            m.tokens[p] = t;
+            m.tokens[p] = token;
         }
     }
+    let cell = blank_cell();
     let mut j: usize = 0;
     while j < Machine::CELLS {
         let p = j;
         j += 1;
         if !cells[p] {
-            let c = blank_cell();
-            m.cells[p] = c;
+            m.cells[p] = cell;
         }
     }
     m

@@ -1,9 +1,10 @@
 // "In use: active tokens, and what they reach by caller, cell, parent and binding."
 ghost use mathlib.Core.Path.{_≡_};
 ghost use mathlib.Core.List.{map};
+ghost use lib.ListN.{length};
 ghost use Rattle.model.specs.Machine.InUse.{tokensUsed, usedCells, boundCell, cellsOf, markChains};
 ghost use Rattle.reach.specs.Link.{number, at, renamed};
-use crate::active::active_in;
+use crate::climb::active_in;
 use crate::chain::mark32;
 use crate::chain::mark_chosen;
 use crate::link::number;
@@ -29,10 +30,10 @@ pub fn used_tokens(m: Machine) -> [bool; Machine::TOKENS]
         let t = m.tokens[i];
         let q = t.caller;
         callers[i] = number(q);
-        active[i] = active_in(set, above, t);
+        active[i] = active_in(&set, &above, t);
         i += 1;
     }
-    mark_chosen(callers, active)
+    mark_chosen(&callers, &active)
 }
 
 // The number of the cell that a binding names.
@@ -48,21 +49,19 @@ fn bound_number(b: Bind) -> u8
 }
 
 // Marks what a token's own cell and its bindings reach.
-fn mark_named(above: [u8; Machine::CELLS], t: Token, mut marks: [bool; Machine::CELLS]) -> [bool; Machine::CELLS]
-    ensures { λ r. ⌜ r ≡ markChains at 255 above (map renamed (cellsOf t)) marks ⌝ }
+fn mark_named(above: &[u8; Machine::CELLS], t: Token, marks: &mut [bool; Machine::CELLS])
+    requires { ⌜ (length (now above) ≡ 32) × (length (now marks) ≡ 32) ⌝ }
+    ensures { λ r. ⌜ now (marks .exit) ≡ markChains at 255 (now (above .entry)) (map renamed (cellsOf t)) (now (marks .entry)) ⌝ }
 {
     let q = t.cell;
     let binds = t.binds;
-    let first = mark32(above, wide(number(q)), marks);
-    marks = first;
+    mark32(above, wide(number(q)), marks);
     let mut x: usize = 0;
     while x < 8 {
         let b = binds[x];
-        let more = mark32(above, wide(bound_number(b)), marks);
-        marks = more;
+        mark32(above, wide(bound_number(b)), marks);
         x += 1;
     }
-    marks
 }
 
 // The cells that the tokens in use reach.
@@ -78,8 +77,7 @@ pub fn used_cells(m: Machine, used: [bool; Machine::TOKENS]) -> [bool; Machine::
         i += 1;
         if used[p] {
             let t = m.tokens[p];
-            let more = mark_named(above, t, marks);
-            marks = more;
+            mark_named(&above, t, &mut marks);
         }
     }
     marks

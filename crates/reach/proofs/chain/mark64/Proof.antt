@@ -1,7 +1,6 @@
 use mathlib.Core.Path.{_≡_, refl, sym, _∙_, ap}
 use mathlib.Core.Bool.{Bool, true, false}
 use Prim.Native.Nat.{ℕ, _+_, _-_, _≤_, _<_}
-use native.Mathlib.Omega.{arith}
 use borrow.Author.Needs.{needs}
 use lib.ListN.{length, length-set}
 use Rattle.model.specs.Machine.InUse.{markChain}
@@ -14,48 +13,48 @@ use Rattle.reach.proofs.chain.mark64.Lts as lts
 use Rattle.reach.proofs.link.wide.Reads as wide-reads
 
 abbrev Inv-loop : tie.InvT-loop
-Inv-loop start links marks₀ p₀ n₀ marks p n = (n ≤ 64) × (length marks ≡ 64) × (markChain at 255 links 64 (at start) marks₀ ≡ walk links (64 - n) p marks)
+Inv-loop links start marks₀ p₀ n₀ marks p n = (n ≤ 64) × (length marks ≡ 64) × (markChain at 255 links 64 (at start) marks₀ ≡ walk links (64 - n) p marks)
 
 abbrev μ-loop : tie.MeasureT-loop
-μ-loop start links marks₀ p₀ n₀ marks p n = 64 - n
+μ-loop links start marks₀ p₀ n₀ marks p n = 64 - n
 
--- src/chain.rt:15:5
+-- src/chain.rt:16:5
 loop-holds : tie.Need-loop-holds Inv-loop μ-loop
 loop-holds c = search needs
 
--- src/chain.rt:17:13
+-- src/chain.rt:18:13
 returns : tie.Need-returns Inv-loop μ-loop
 returns c = search (needs, chain-outside)
 
--- src/chain.rt:19:12
-array-read-if2 : tie.Need-array-read-if2 Inv-loop μ-loop
-array-read-if2 c = search needs
+-- src/chain.rt:20:12
+element-copy-out-if2 : tie.Need-element-copy-out-if2 Inv-loop μ-loop
+element-copy-out-if2 c = search needs
 
--- src/chain.rt:20:13
+-- src/chain.rt:21:13
 returns-2 : tie.Need-returns-2 Inv-loop μ-loop
 returns-2 c = search (needs, chain-met)
 
--- src/chain.rt:22:9
-array-write-marks : tie.Need-array-write-marks Inv-loop μ-loop
-array-write-marks c = search needs
-
--- src/chain.rt:23:18
-array-read-wide : tie.Need-array-read-wide Inv-loop μ-loop
-array-read-wide c = search needs
-
 -- src/chain.rt:23:9
+element-write-marks : tie.Need-element-write-marks Inv-loop μ-loop
+element-write-marks c = search needs
+
+-- src/chain.rt:24:18
+element-copy-out-wide : tie.Need-element-copy-out-wide Inv-loop μ-loop
+element-copy-out-wide c = search needs
+
+-- src/chain.rt:24:9
 wide-requires : tie.Need-wide-requires Inv-loop μ-loop
 wide-requires c κs = search needs
 
--- src/chain.rt:24:9
+-- src/chain.rt:25:9
 add-n : tie.Need-add-n Inv-loop μ-loop
 add-n c = search needs
 
--- src/chain.rt:15:5
+-- src/chain.rt:16:5
 loop-less : tie.Need-loop-less Inv-loop μ-loop
 loop-less c = search needs
 
--- src/chain.rt:15:5
+-- src/chain.rt:16:5
 loop-again : tie.Need-loop-again Inv-loop μ-loop
 loop-again c = (search needs, simp length-set (search needs), search (needs, chain-on))
 
@@ -71,10 +70,10 @@ mark64-spec =
     μ-loop
     loop-holds
     returns
-    array-read-if2
+    element-copy-out-if2
     returns-2
-    array-write-marks
-    array-read-wide
+    element-write-marks
+    element-copy-out-wide
     wide-requires
     add-n
     loop-less

@@ -1,13 +1,3 @@
-use mathlib.Core.Path.{_≡_, refl, sym, _∙_, ap}
-use mathlib.Core.Bool.{Bool, true, false}
-use Prim.Native.Nat.{ℕ, _+_, _-_, _≤_, _<_}
-use borrow.Author.Needs.{needs}
-use mathlib.Core.List.{map}
-use lib.ListN.{length, drop, replicate}
-use Rattle.model.specs.Machine.InUse.{markChains, cellsOfMarked}
-use Rattle.reach.specs.Link.{at, renamed}
-use Rattle.reach.proofs.Fill.{mapped-length}
-use Rattle.reach.proofs.Cells.{cells-more, cells-none, cells-over, cells-marked}
 use Rattle.reach.proofs.used.used_cells.Statement.{statement}
 use Rattle.reach.proofs.used.used_cells.Tie as tie
 use Rattle.reach.proofs.used.used_cells.Reads as reads
@@ -16,64 +6,58 @@ use Rattle.reach.proofs.link.parents.Reads as parents-reads
 use Rattle.reach.proofs.used.mark_named.Reads as mark-named-reads
 
 abbrev Inv-loop : tie.InvT-loop
-Inv-loop m used above marks₀ i₀ marks i = 
-    (i ≤ 64)
-    × (length used ≡ 64)
-    × (length (m .tokens) ≡ 64)
-    × (markChains at 255 above (map renamed (cellsOfMarked used (m .tokens))) (replicate 32 false)
-    ≡ markChains at 255 above (map renamed (cellsOfMarked (drop i used) (drop i (m .tokens)))) marks)
+Inv-loop m used above marks₀ i₀ marks i = ?
 
 abbrev μ-loop : tie.MeasureT-loop
-μ-loop m used above marks₀ i₀ marks i = 64 - i
+μ-loop m used above marks₀ i₀ marks i = ?
 
--- src/used.rt:73:9
+-- src/used.rt:72:17
 parents-requires : tie.Need-parents-requires Inv-loop μ-loop
-parents-requires c κs = search needs
+parents-requires c κs = ?
 
--- src/used.rt:76:5
+-- src/used.rt:75:5
 loop-holds : tie.Need-loop-holds Inv-loop μ-loop
-loop-holds c = (search needs, search (needs, mapped-length), search (needs, mapped-length), refl)
+loop-holds c = ?
 
--- src/used.rt:78:9
+-- src/used.rt:77:9
 add-i : tie.Need-add-i Inv-loop μ-loop
-add-i c = search needs
+add-i c = ?
 
--- src/used.rt:79:12
+-- src/used.rt:78:12
 array-read-if1 : tie.Need-array-read-if1 Inv-loop μ-loop
-array-read-if1 c = search needs
+array-read-if1 c = ?
 
--- src/used.rt:80:21
+-- src/used.rt:79:21
 mul-t : tie.Need-mul-t Inv-loop μ-loop
-mul-t c = search needs
+mul-t c = ?
 
--- src/used.rt:80:21
+-- src/used.rt:79:21
 element-copy-out-t : tie.Need-element-copy-out-t Inv-loop μ-loop
-element-copy-out-t c = search needs
+element-copy-out-t c = ?
 
--- src/used.rt:81:17
+-- src/used.rt:80:13
 mark-named-requires : tie.Need-mark-named-requires Inv-loop μ-loop
-mark-named-requires c κs = search needs
+mark-named-requires c κs = ?
 
--- src/used.rt:76:5
+-- src/used.rt:75:5
 loop-less : tie.Need-loop-less Inv-loop μ-loop
-loop-less c = search needs
+loop-less c = ?
 
--- src/used.rt:76:5
+-- src/used.rt:75:5
 loop-again : tie.Need-loop-again Inv-loop μ-loop
-loop-again c = (search needs, search needs, search needs, search (needs, cells-more))
+loop-again c = ?
 
--- src/used.rt:76:5
+-- src/used.rt:75:5
 loop-less-2 : tie.Need-loop-less-2 Inv-loop μ-loop
-loop-less-2 c = search needs
+loop-less-2 c = ?
 
--- src/used.rt:76:5
+-- src/used.rt:75:5
 loop-again-2 : tie.Need-loop-again-2 Inv-loop μ-loop
-loop-again-2 c = (search needs, search needs, search needs, search (needs, cells-none))
+loop-again-2 c = ?
 
--- src/used.rt:69:1
+-- src/used.rt:68:1
 returns : tie.Need-returns Inv-loop μ-loop
-returns c = 
-    cells-marked _ _ _ _ _ 32 (search (needs, mapped-length)) (search needs) (c .before .before .parents .ensures) (search (needs, cells-over))
+returns c = ?
 
 pub used-cells-spec : {M : Type 1} → statement M
 used-cells-spec =

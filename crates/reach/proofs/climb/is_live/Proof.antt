@@ -1,9 +1,9 @@
 use borrow.Author.Needs.{needs}
 use Rattle.model.specs.Machine.Active.{isLive}
-use Rattle.reach.proofs.active.is_live.Statement.{statement}
-use Rattle.reach.proofs.active.is_live.Tie as tie
-use Rattle.reach.proofs.active.is_live.Reads as reads
-use Rattle.reach.proofs.active.is_live.Lts as lts
+use Rattle.reach.proofs.climb.is_live.Statement.{statement}
+use Rattle.reach.proofs.climb.is_live.Tie as tie
+use Rattle.reach.proofs.climb.is_live.Reads as reads
+use Rattle.reach.proofs.climb.is_live.Lts as lts
 
 -- src/active.rt:19:25
 enum-told : tie.Need-enum-told

@@ -1,63 +1,62 @@
 use mathlib.Core.Path.{_≡_, refl, sym, _∙_, ap}
 use mathlib.Core.Bool.{Bool, true, false}
 use Prim.Native.Nat.{ℕ, _+_, _-_, _≤_, _<_}
-use native.Mathlib.Omega.{arith}
 use borrow.Author.Needs.{needs}
 use Rattle.reach.specs.Link.{climbs}
-use Rattle.reach.proofs.Climb.{climb-out, climb-found, climb-over, climb-on}
-use Rattle.reach.proofs.active.under_set.Statement.{statement}
-use Rattle.reach.proofs.active.under_set.Tie as tie
-use Rattle.reach.proofs.active.under_set.Reads as reads
-use Rattle.reach.proofs.active.under_set.Lts as lts
+use Rattle.reach.proofs.Ancestors.{climb-out, climb-found, climb-over, climb-on}
+use Rattle.reach.proofs.climb.under_set.Statement.{statement}
+use Rattle.reach.proofs.climb.under_set.Tie as tie
+use Rattle.reach.proofs.climb.under_set.Reads as reads
+use Rattle.reach.proofs.climb.under_set.Lts as lts
 use Rattle.reach.proofs.link.wide.Reads as wide-reads
 
 abbrev Inv-loop : tie.InvT-loop
-Inv-loop start set parents p₀ n₀ p n = (n ≤ 32) × (climbs set parents 32 start ≡ climbs set parents (32 - n) p)
+Inv-loop set parents start p₀ n₀ p n = (n ≤ 32) × (climbs set parents 32 start ≡ climbs set parents (32 - n) p)
 
 abbrev μ-loop : tie.MeasureT-loop
-μ-loop start set parents p₀ n₀ p n = 32 - n
+μ-loop set parents start p₀ n₀ p n = 32 - n
 
--- src/active.rt:31:9
+-- src/climb.rt:30:9
 wide-requires : tie.Need-wide-requires Inv-loop μ-loop
 wide-requires c κs = search needs
 
--- src/active.rt:33:5
+-- src/climb.rt:32:5
 loop-holds : tie.Need-loop-holds Inv-loop μ-loop
 loop-holds c = (search needs, ap (climbs _ _ 32) (sym (c .wide .ensures)))
 
--- src/active.rt:35:13
+-- src/climb.rt:34:13
 returns : tie.Need-returns Inv-loop μ-loop
 returns c = search (needs, climb-out)
 
--- src/active.rt:37:12
-array-read-if2 : tie.Need-array-read-if2 Inv-loop μ-loop
-array-read-if2 c = search needs
+-- src/climb.rt:36:12
+element-copy-out-if2 : tie.Need-element-copy-out-if2 Inv-loop μ-loop
+element-copy-out-if2 c = search needs
 
--- src/active.rt:38:13
+-- src/climb.rt:37:13
 returns-2 : tie.Need-returns-2 Inv-loop μ-loop
 returns-2 c = search (needs, climb-found)
 
--- src/active.rt:40:18
-array-read-wide : tie.Need-array-read-wide Inv-loop μ-loop
-array-read-wide c = search needs
+-- src/climb.rt:39:18
+element-copy-out-wide : tie.Need-element-copy-out-wide Inv-loop μ-loop
+element-copy-out-wide c = search needs
 
--- src/active.rt:40:9
+-- src/climb.rt:39:9
 wide-requires-2 : tie.Need-wide-requires-2 Inv-loop μ-loop
 wide-requires-2 c κs = search needs
 
--- src/active.rt:41:9
+-- src/climb.rt:40:9
 add-n : tie.Need-add-n Inv-loop μ-loop
 add-n c = search needs
 
--- src/active.rt:33:5
+-- src/climb.rt:32:5
 loop-less : tie.Need-loop-less Inv-loop μ-loop
 loop-less c = search needs
 
--- src/active.rt:33:5
+-- src/climb.rt:32:5
 loop-again : tie.Need-loop-again Inv-loop μ-loop
 loop-again c = (search needs, search (needs, climb-on))
 
--- src/active.rt:28:1
+-- src/climb.rt:26:1
 returns-3 : tie.Need-returns-3 Inv-loop μ-loop
 returns-3 c = search (needs, climb-over)
 
@@ -70,9 +69,9 @@ under-set-spec =
     wide-requires
     loop-holds
     returns
-    array-read-if2
+    element-copy-out-if2
     returns-2
-    array-read-wide
+    element-copy-out-wide
     wide-requires-2
     add-n
     loop-less
