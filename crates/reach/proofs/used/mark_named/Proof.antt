@@ -73,7 +73,7 @@ loop-again : tie.Need-loop-again Inv-loop μ-loop
 loop-again c = 
     let l = c .before .before .before .before .before .before .loop in
     let bs = c .before .before .before .before .before .before .before .before .before .before .before .before .args .t .binds in
-    let number = c .before .wide2 .ensures ∙ c .before .before .bound-number .ensures in
+    let number = c .before .before .wide2 .ensures ∙ c .before .before .before .bound-number .ensures in
     (search needs, l .inv .1, chain-keeps _ _ _ 32 32 _ _ _ (c .mark322 .ensures) (search needs),
     named-more _ bs 8 (l .x) _ _ (l .inv .1) (l .inv .3) 32 _ _ _ (search needs) (search needs) number (c .mark322 .ensures))
 
@@ -82,7 +82,7 @@ returns : tie.Need-returns Inv-loop μ-loop
 returns c = 
     let l = c .before .loop in
     let bs = c .before .before .before .before .before .before .before .args .t .binds in
-    let number = c .before .before .before .wide .ensures ∙ c .before .before .before .before .number .ensures in
+    let number = c .before .before .before .before .wide .ensures ∙ c .before .before .before .before .before .number .ensures in
     named-over _ bs 8 (l .x) _ _ (l .inv .1) (l .inv .3) (search needs)
     ∙ named-first _ 32 _ _ _ _ _ (search needs) number (c .before .before .mark32 .ensures) refl
 

@@ -1,3 +1,14 @@
+use mathlib.Core.Path.{_≡_, refl, sym, _∙_, ap}
+use mathlib.Core.Bool.{Bool, true, false}
+use Prim.Native.Nat.{ℕ, _+_, _-_, _≤_, _<_}
+use borrow.Author.Needs.{needs}
+use mathlib.Core.List.{map}
+use lib.ListN.{length, length-set, take}
+use Rattle.model.specs.Machine.Active.{isActive}
+use Rattle.reach.specs.Link.{callerNumber}
+use Rattle.reach.proofs.Fill.{mapped-length, fill-more, fill-all}
+use Rattle.reach.proofs.Known.{active-known}
+use Rattle.reach.proofs.Tokens.{tokens-marked}
 use Rattle.reach.proofs.used.used_tokens.Statement.{statement}
 use Rattle.reach.proofs.used.used_tokens.Tie as tie
 use Rattle.reach.proofs.used.used_tokens.Reads as reads
@@ -9,66 +20,87 @@ use Rattle.reach.proofs.link.parents.Reads as parents-reads
 use Rattle.reach.proofs.link.set_cells.Reads as set-cells-reads
 
 abbrev Inv-loop : tie.InvT-loop
-Inv-loop m set above callers₀ active₀ i₀ callers active i = ?
+Inv-loop m set above callers₀ active₀ i₀ callers active i = 
+    (i ≤ 64)
+    × (length (m .tokens) ≡ 64)
+    × (length callers ≡ 64)
+    × (length active ≡ 64)
+    × (take i callers ≡ take i (map callerNumber (m .tokens)))
+    × (take i active ≡ take i (map (isActive (m .cells)) (m .tokens)))
 
 abbrev μ-loop : tie.MeasureT-loop
-μ-loop m set above callers₀ active₀ i₀ callers active i = ?
+μ-loop m set above callers₀ active₀ i₀ callers active i = 64 - i
 
 -- src/used.rt:24:15
 set-cells-requires : tie.Need-set-cells-requires Inv-loop μ-loop
-set-cells-requires c κs = ?
+set-cells-requires c κs = search needs
 
 -- src/used.rt:25:17
 parents-requires : tie.Need-parents-requires Inv-loop μ-loop
-parents-requires c κs = ?
+parents-requires c κs = search needs
 
 -- src/used.rt:29:5
 loop-holds : tie.Need-loop-holds Inv-loop μ-loop
-loop-holds c = ?
+loop-holds c = (search needs, search (needs, mapped-length), refl, refl, refl, refl)
 
 -- src/used.rt:30:17
 mul-t : tie.Need-mul-t Inv-loop μ-loop
-mul-t c = ?
+mul-t c = search needs
 
 -- src/used.rt:30:17
 element-copy-out-t : tie.Need-element-copy-out-t Inv-loop μ-loop
-element-copy-out-t c = ?
+element-copy-out-t c = search needs
 
 -- src/used.rt:32:22
 number-requires : tie.Need-number-requires Inv-loop μ-loop
-number-requires c κs = ?
+number-requires c κs = search needs
 
 -- src/used.rt:32:9
 array-write-callers : tie.Need-array-write-callers Inv-loop μ-loop
-array-write-callers c = ?
+array-write-callers c = search needs
 
 -- src/used.rt:33:21
 active-in-requires : tie.Need-active-in-requires Inv-loop μ-loop
-active-in-requires c κs = ?
+active-in-requires c κs = search needs
 
 -- src/used.rt:33:9
 array-write-active : tie.Need-array-write-active Inv-loop μ-loop
-array-write-active c = ?
+array-write-active c = search needs
 
 -- src/used.rt:34:9
 add-i : tie.Need-add-i Inv-loop μ-loop
-add-i c = ?
+add-i c = search needs
 
 -- src/used.rt:29:5
 loop-less : tie.Need-loop-less Inv-loop μ-loop
-loop-less c = ?
+loop-less c = search needs
 
 -- src/used.rt:29:5
 loop-again : tie.Need-loop-again Inv-loop μ-loop
-loop-again c = ?
+loop-again c = 
+    let cells = c .before .before .before .before .before .before .before .before .before .before .args .t1 .cells in
+    let known = c .active-in .ensures ∙ active-known cells _ _ _ (search (needs, mapped-length)) (c .before .before .before .before .before .before .before .before .set-cells .ensures) (c .before .before .before .before .before .before .before .parents .ensures) in
+    (search needs,
+    search needs,
+    simp length-set (search needs),
+    simp length-set (search needs),
+    search (needs, fill-more),
+    search (needs, fill-more))
 
 -- src/used.rt:36:5
 mark-chosen-requires : tie.Need-mark-chosen-requires Inv-loop μ-loop
-mark-chosen-requires c κs = ?
+mark-chosen-requires c κs = search needs
 
 -- src/used.rt:20:1
 returns : tie.Need-returns Inv-loop μ-loop
-returns c = ?
+returns c = 
+    let l = c .before .before .before .before .loop in
+    let m = c .before .before .before .before .before .before .before .before .args .t1 in
+    let over : 64 ≤ l .i = search needs in
+    tokens-marked _ _ _ _ _ 64 (l .inv .1) (search needs)
+    (fill-all callerNumber (m .tokens) _ 64 _ (l .inv .1) (l .inv .2) (l .inv .4) over)
+    (fill-all (isActive (m .cells)) (m .tokens) _ 64 _ (l .inv .1) (l .inv .3) (l .inv .5) over)
+    (c .mark-chosen .ensures)
 
 pub used-tokens-spec : {M : Type 1} → statement M
 used-tokens-spec =
