@@ -1,8 +1,8 @@
 -- The loop that looks for a set cell among a place and its ancestors: what is left to do, at each way out and after each turn.
 -- Assumes nothing.
-use mathlib.Core.Path.{_≡_, refl, sym, _∙_, ap, subst}
+use mathlib.Core.Path.{_≡_, refl, sym, _∙_, ap}
 use mathlib.Core.Bool.{Bool, true, false}
-use mathlib.Core.List.{List, [], _∷_}
+use mathlib.Core.List.{List}
 use Prim.Native.Nat.{ℕ, zero, suc, _+_, _-_, _≤_, _<_}
 use native.Mathlib.Omega.{arith}
 use lib.ListN.{length, getD, List·getD-eq-default}
@@ -35,29 +35,29 @@ module _ (set : List Bool) (parents : List ℕ) where
       (wide : length parents ≡ size)
       (left : end ≡ climbs set parents (size - k) p)
     where
-    pub climb-out : size ≤ 255 → size ≤ p → false ≡ end
-    climb-out s h = sym (left ∙ climb-outside (size - k) p (omega arith) (omega arith) (omega arith))
+      pub climb-out : size ≤ 255 → size ≤ p → false ≡ end
+      climb-out s h = sym (left ∙ climb-outside (size - k) p (omega arith) (omega arith) (omega arith))
 
-    pub climb-found : k < size → getD set p false ≡ true → true ≡ end
-    climb-found h e =
-        let z : size - k ≡ suc (size - (k + 1)) = omega arith in
-        sym (left ∙ ap (λ (n : ℕ). climbs set parents n p) z ∙ climb-stops (size - (k + 1)) p e)
+      pub climb-found : k < size → getD set p false ≡ true → true ≡ end
+      climb-found h e =
+          let z : size - k ≡ suc (size - (k + 1)) = omega arith in
+          sym (left ∙ ap (λ (n : ℕ). climbs set parents n p) z ∙ climb-stops (size - (k + 1)) p e)
 
-    pub climb-over : size ≤ k → false ≡ end
-    unfolding climbs
-    climb-over h = let z : size - k ≡ 0 = omega arith in sym (left ∙ ap (λ (n : ℕ). climbs set parents n p) z)
+      pub climb-over : size ≤ k → false ≡ end
+      unfolding climbs
+      climb-over h = let z : size - k ≡ 0 = omega arith in sym (left ∙ ap (λ (n : ℕ). climbs set parents n p) z)
 
-    pub climb-on :
-        (q : ℕ)
-        → k < size
-        → p < size
-        → getD set p false ≡ false
-        → q ≡ getD parents p 0
-        → end ≡ climbs set parents (size - (k + 1)) q
-    climb-on q h i e f =
-        let z : size - k ≡ suc (size - (k + 1)) = omega arith in
-        let y : p < length parents = omega arith in
-        left
-        ∙ ap (λ (n : ℕ). climbs set parents n p) z
-        ∙ climb-goes (size - (k + 1)) p e
-        ∙ ap (climbs set parents (size - (k + 1))) (any-default parents p 255 0 y ∙ sym f)
+      pub climb-on :
+          (q : ℕ)
+          → k < size
+          → p < size
+          → getD set p false ≡ false
+          → q ≡ getD parents p 0
+          → end ≡ climbs set parents (size - (k + 1)) q
+      climb-on q h i e f =
+          let z : size - k ≡ suc (size - (k + 1)) = omega arith in
+          let y : p < length parents = omega arith in
+          left
+          ∙ ap (λ (n : ℕ). climbs set parents n p) z
+          ∙ climb-goes (size - (k + 1)) p e
+          ∙ ap (climbs set parents (size - (k + 1))) (any-default parents p 255 0 y ∙ sym f)

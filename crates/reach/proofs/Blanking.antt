@@ -1,6 +1,6 @@
 -- A table of the record that is made blank in its place, in the tokens and in the cells alike: the record after each turn and at the end.
 -- Assumes nothing.
-use mathlib.Core.Path.{_≡_, refl, sym, _∙_, ap, ap₂}
+use mathlib.Core.Path.{_≡_, refl, _∙_, ap}
 use mathlib.Core.Bool.{Bool, true, false, not}
 use mathlib.Core.List.{List}
 use Prim.Native.Nat.{ℕ, _+_, _≤_, _<_}
@@ -102,5 +102,5 @@ finished m n o used reached a b p q =
     b
     ∙ ap
     (λ (us : List Bool).
-      withCells (withTokens o (kept blankToken us (o .tokens))) (kept blankCell (usedCells us (o .tokens) (o .cells)) (o .cells)))
+    withCells (withTokens o (kept blankToken us (o .tokens))) (kept blankCell (usedCells us (o .tokens) (o .cells)) (o .cells)))
     a

@@ -2,8 +2,8 @@
 -- what they come to. Assumes nothing.
 use mathlib.Core.Path.{_≡_, refl, sym, _∙_, ap, ap₂}
 use mathlib.Core.Bool.{Bool, true, false}
-use mathlib.Core.List.{List, [], _∷_, _++_, map, map-append}
-use Prim.Native.Nat.{ℕ, zero, suc, _+_, _≤_, _<_}
+use mathlib.Core.List.{List, _∷_, map, map-append}
+use Prim.Native.Nat.{ℕ, _+_, _≤_, _<_}
 use native.Mathlib.Omega.{arith}
 use lib.ListN.{length, getD, drop, replicate, drop-of-length-le, length-replicate}
 use Rattle.model.specs.Machine.Blank.{blankToken, blankCell}
@@ -51,23 +51,23 @@ module _ (links : List ℕ) where
       (long : length bs ≡ size)
       (left : end ≡ marking (named (drop x bs)) marks)
     where
-    pub named-more :
-        (wide p : ℕ) (d : Bind) (more : List Bool)
-        → length links ≡ wide
-        → x < size
-        → p ≡ number (boundCell (getD bs x d))
-        → more ≡ markChain at 255 links wide (at p) marks
-        → end ≡ marking (named (drop (x + 1) bs)) more
-    named-more wide p d more l h e f =
-        left
-        ∙ ap (λ (rest : List Bind). marking (named rest) marks) (drop-next bs x d (getD bs x d) (omega arith) refl)
-        ∙ chain-first wide p (boundCell (getD bs x d)) (named (drop (x + 1) bs)) marks more l e f
+      pub named-more :
+          (wide p : ℕ) (d : Bind) (more : List Bool)
+          → length links ≡ wide
+          → x < size
+          → p ≡ number (boundCell (getD bs x d))
+          → more ≡ markChain at 255 links wide (at p) marks
+          → end ≡ marking (named (drop (x + 1) bs)) more
+      named-more wide p d more l h e f =
+          left
+          ∙ ap (λ (rest : List Bind). marking (named rest) marks) (drop-next bs x d (getD bs x d) (omega arith) refl)
+          ∙ chain-first wide p (boundCell (getD bs x d)) (named (drop (x + 1) bs)) marks more l e f
 
-    pub named-over : size ≤ x → marks ≡ end
-    unfolding markChains
-    named-over h =
-        let l : length bs ≤ x = omega arith in
-        sym (left ∙ ap (λ (rest : List Bind). marking (named rest) marks) (drop-of-length-le bs l))
+      pub named-over : size ≤ x → marks ≡ end
+      unfolding markChains
+      named-over h =
+          let l : length bs ≤ x = omega arith in
+          sym (left ∙ ap (λ (rest : List Bind). marking (named rest) marks) (drop-of-length-le bs l))
 
   -- i tokens are looked at
   module _
@@ -76,50 +76,50 @@ module _ (links : List ℕ) where
       (long : length ts ≡ size)
       (left : end ≡ marking (map renamed (cellsOfMarked (drop i used) (drop i ts))) marks)
     where
-    abbrev rest : Bool → Token → List Bool
-    rest b t = marking (map renamed (cellsOfMarked (b ∷ drop (i + 1) used) (t ∷ drop (i + 1) ts))) marks
+      abbrev rest : Bool → Token → List Bool
+      rest b t = marking (map renamed (cellsOfMarked (b ∷ drop (i + 1) used) (t ∷ drop (i + 1) ts))) marks
 
-    comes : (b : Bool) (d : Token) → i < size → getD used i false ≡ b → end ≡ rest b (getD ts i d)
-    comes b d h e =
-        left
-        ∙ ap₂
-        (λ (bs : List Bool) (us : List Token). marking (map renamed (cellsOfMarked bs us)) marks)
-        (drop-next used i false b (omega arith) e)
-        (drop-next ts i d (getD ts i d) (omega arith) refl)
+      comes : (b : Bool) (d : Token) → i < size → getD used i false ≡ b → end ≡ rest b (getD ts i d)
+      comes b d h e =
+          left
+          ∙ ap₂
+          (λ (bs : List Bool) (us : List Token). marking (map renamed (cellsOfMarked bs us)) marks)
+          (drop-next used i false b (omega arith) e)
+          (drop-next ts i d (getD ts i d) (omega arith) refl)
 
-    pub cells-more :
-        (d : Token) (more : List Bool)
-        → i < size
-        → getD used i false ≡ true
-        → more ≡ marking (map renamed (cellsOf (getD ts i d))) marks
-        → end ≡ marking (map renamed (cellsOfMarked (drop (i + 1) used) (drop (i + 1) ts))) more
-    unfolding cellsOfMarked
-    cells-more d more h e f =
-        let qs = cellsOf (getD ts i d) in
-        let rs = cellsOfMarked (drop (i + 1) used) (drop (i + 1) ts) in
-        comes true d h e
-        ∙ ap (λ (ps : List Place). marking ps marks) (map-append renamed qs rs)
-        ∙ chains-append at 255 links (map renamed qs) (map renamed rs) marks
-        ∙ ap (marking (map renamed rs)) (sym f)
+      pub cells-more :
+          (d : Token) (more : List Bool)
+          → i < size
+          → getD used i false ≡ true
+          → more ≡ marking (map renamed (cellsOf (getD ts i d))) marks
+          → end ≡ marking (map renamed (cellsOfMarked (drop (i + 1) used) (drop (i + 1) ts))) more
+      unfolding cellsOfMarked
+      cells-more d more h e f =
+          let qs = cellsOf (getD ts i d) in
+          let rs = cellsOfMarked (drop (i + 1) used) (drop (i + 1) ts) in
+          comes true d h e
+          ∙ ap (λ (ps : List Place). marking ps marks) (map-append renamed qs rs)
+          ∙ chains-append at 255 links (map renamed qs) (map renamed rs) marks
+          ∙ ap (marking (map renamed rs)) (sym f)
 
-    pub cells-none :
-        i < size
-        → getD used i false ≡ false
-        → end ≡ marking (map renamed (cellsOfMarked (drop (i + 1) used) (drop (i + 1) ts))) marks
-    unfolding cellsOfMarked
-    cells-none h e = comes false blankToken h e
+      pub cells-none :
+          i < size
+          → getD used i false ≡ false
+          → end ≡ marking (map renamed (cellsOfMarked (drop (i + 1) used) (drop (i + 1) ts))) marks
+      unfolding cellsOfMarked
+      cells-none h e = comes false blankToken h e
 
-    pub cells-over : size ≤ i → marks ≡ end
-    unfolding cellsOfMarked markChains
-    cells-over h =
-        let l : length used ≤ i = omega arith in
-        let m : length ts ≤ i = omega arith in
-        sym
-        (left
-        ∙ ap₂
-        (λ (bs : List Bool) (us : List Token). marking (map renamed (cellsOfMarked bs us)) marks)
-        (drop-of-length-le used l)
-        (drop-of-length-le ts m))
+      pub cells-over : size ≤ i → marks ≡ end
+      unfolding cellsOfMarked markChains
+      cells-over h =
+          let l : length used ≤ i = omega arith in
+          let m : length ts ≤ i = omega arith in
+          sym
+          (left
+          ∙ ap₂
+          (λ (bs : List Bool) (us : List Token). marking (map renamed (cellsOfMarked bs us)) marks)
+          (drop-of-length-le used l)
+          (drop-of-length-le ts m))
 
 pub cells-marked :
     (used : List Bool) (ts : List Token) (cs : List Cell) (parents : List ℕ) (marks : List Bool) (size : ℕ)

@@ -34,16 +34,16 @@ module _
     (wide : length out ≡ n)
     (done : take i out ≡ take i (map f xs))
   where
-  pub fill-more : (d : A) (v : B) → i < n → v ≡ f (getD xs i d) → take (i + 1) (set out i v) ≡ take (i + 1) (map f xs)
-  fill-more d v h e =
-      let x : i < length xs = omega arith in
-      let y : i < length out = omega arith in
-      let z : i < length (map f xs) = omega (arith, length-map xs f) in
-      rw (add-one, take-suc-set out i v y, take-suc (map f xs) i v z)
-      (ap₂ (λ (w : List B) (u : B). w ++ (u ∷ [])) done (e ∙ sym (map-at f xs i d v x)))
+    pub fill-more : (d : A) (v : B) → i < n → v ≡ f (getD xs i d) → take (i + 1) (set out i v) ≡ take (i + 1) (map f xs)
+    fill-more d v h e =
+        let x : i < length xs = omega arith in
+        let y : i < length out = omega arith in
+        let z : i < length (map f xs) = omega (arith, length-map xs f) in
+        rw (add-one, take-suc-set out i v y, take-suc (map f xs) i v z)
+        (ap₂ (λ (w : List B) (u : B). w ++ (u ∷ [])) done (e ∙ sym (map-at f xs i d v x)))
 
-  pub fill-all : n ≤ i → out ≡ map f xs
-  fill-all h =
-      let y : length out ≤ i = omega arith in
-      let z : length (map f xs) ≤ i = omega (arith, length-map xs f) in
-      sym (take-all i out y) ∙ done ∙ take-all i (map f xs) z
+    pub fill-all : n ≤ i → out ≡ map f xs
+    fill-all h =
+        let y : length out ≤ i = omega arith in
+        let z : length (map f xs) ≤ i = omega (arith, length-map xs f) in
+        sym (take-all i out y) ∙ done ∙ take-all i (map f xs) z

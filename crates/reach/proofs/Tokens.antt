@@ -2,7 +2,7 @@
 use mathlib.Core.Path.{_≡_, refl, sym, _∙_, ap, ap₂}
 use mathlib.Core.Bool.{Bool, true, false}
 use mathlib.Core.List.{List, [], _∷_, map}
-use Prim.Native.Nat.{ℕ, zero, suc, _+_, _≤_, _<_}
+use Prim.Native.Nat.{ℕ, suc, _+_, _≤_, _<_}
 use native.Mathlib.Numerals.{add-one}
 use native.Mathlib.Omega.{arith}
 use lib.ListN.{length, getD, drop, replicate, drop-of-length-le, length-replicate}
@@ -23,34 +23,34 @@ module _
     (long : length from ≡ size)
     (left : end ≡ markChains at 255 links (chosen i (drop i from)) marks)
   where
-  pub chosen-one :
-      (more : List Bool)
-      → length links ≡ size
-      → i < size
-      → getD from i false ≡ true
-      → more ≡ markChain at 255 links size (at i) marks
-      → end ≡ markChains at 255 links (chosen (i + 1) (drop (i + 1) from)) more
-  unfolding chosen markChains
-  chosen-one more l h e f =
-      left
-      ∙ ap (λ (bs : List Bool). markChains at 255 links (chosen i bs) marks) (drop-next from i false true (omega arith) e)
-      ∙ ap₂
-      (λ (k : ℕ) (ms : List Bool). markChains at 255 links (chosen k (drop (i + 1) from)) ms)
-      (sym (add-one i))
-      (ap (λ (n : ℕ). markChain at 255 links n (at i) marks) l ∙ sym f)
+    pub chosen-one :
+        (more : List Bool)
+        → length links ≡ size
+        → i < size
+        → getD from i false ≡ true
+        → more ≡ markChain at 255 links size (at i) marks
+        → end ≡ markChains at 255 links (chosen (i + 1) (drop (i + 1) from)) more
+    unfolding chosen markChains
+    chosen-one more l h e f =
+        left
+        ∙ ap (λ (bs : List Bool). markChains at 255 links (chosen i bs) marks) (drop-next from i false true (omega arith) e)
+        ∙ ap₂
+        (λ (k : ℕ) (ms : List Bool). markChains at 255 links (chosen k (drop (i + 1) from)) ms)
+        (sym (add-one i))
+        (ap (λ (n : ℕ). markChain at 255 links n (at i) marks) l ∙ sym f)
 
-  pub chosen-none : i < size → getD from i false ≡ false → end ≡ markChains at 255 links (chosen (i + 1) (drop (i + 1) from)) marks
-  unfolding chosen
-  chosen-none h e =
-      left
-      ∙ ap (λ (bs : List Bool). markChains at 255 links (chosen i bs) marks) (drop-next from i false false (omega arith) e)
-      ∙ ap (λ (k : ℕ). markChains at 255 links (chosen k (drop (i + 1) from)) marks) (sym (add-one i))
+    pub chosen-none : i < size → getD from i false ≡ false → end ≡ markChains at 255 links (chosen (i + 1) (drop (i + 1) from)) marks
+    unfolding chosen
+    chosen-none h e =
+        left
+        ∙ ap (λ (bs : List Bool). markChains at 255 links (chosen i bs) marks) (drop-next from i false false (omega arith) e)
+        ∙ ap (λ (k : ℕ). markChains at 255 links (chosen k (drop (i + 1) from)) marks) (sym (add-one i))
 
-  pub chosen-over : size ≤ i → marks ≡ end
-  unfolding chosen markChains
-  chosen-over h =
-      let l : length from ≤ i = omega arith in
-      sym (left ∙ ap (λ (bs : List Bool). markChains at 255 links (chosen i bs) marks) (drop-of-length-le from l))
+    pub chosen-over : size ≤ i → marks ≡ end
+    unfolding chosen markChains
+    chosen-over h =
+        let l : length from ≤ i = omega arith in
+        sym (left ∙ ap (λ (bs : List Bool). markChains at 255 links (chosen i bs) marks) (drop-of-length-le from l))
 
 -- the active tokens are those that the code chooses
 active-chosen : (cs : List Cell) (i : ℕ) (ts : List Token) → map renamed (activePlaces cs i ts) ≡ chosen i (map (isActive cs) ts)

@@ -1,10 +1,10 @@
 -- The loop that marks along a chain of links: what is left to do, at each way out and after each turn. Assumes nothing.
-use mathlib.Core.Path.{_≡_, refl, sym, _∙_, ap, subst}
+use mathlib.Core.Path.{_≡_, refl, sym, _∙_, ap}
 use mathlib.Core.Bool.{Bool, true, false}
-use mathlib.Core.List.{List, [], _∷_}
+use mathlib.Core.List.{List}
 use Prim.Native.Nat.{ℕ, zero, suc, _+_, _-_, _≤_, _<_}
 use native.Mathlib.Omega.{arith}
-use lib.ListN.{length, getD, set, length-set}
+use lib.ListN.{length, getD, set}
 use Rattle.model.specs.Machine.InUse.{markChain}
 use Rattle.model.specs.declared.token.Place.{Place}
 use Rattle.model.proofs.Machine.Marks.{Marked, Free, marked-outside}

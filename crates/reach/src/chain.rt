@@ -46,7 +46,10 @@ pub fn mark32(links: &[u8; Machine::CELLS], start: usize, marks: &mut [bool; Mac
 }
 
 // The chains from the chosen places.
-pub fn mark_chosen(links: &[u8; Machine::TOKENS], from: &[bool; Machine::TOKENS]) -> [bool; Machine::TOKENS]
+pub fn mark_chosen(
+    links: &[u8; Machine::TOKENS],
+    from: &[bool; Machine::TOKENS],
+) -> [bool; Machine::TOKENS]
     requires { ⌜ (length (now links) ≡ 64) × (length (now from) ≡ 64) ⌝ }
     ensures { λ r. ⌜ r ≡ markChains at 255 (now (links .entry)) (chosen 0 (now (from .entry))) (replicate 64 false) ⌝ }
 {

@@ -1,6 +1,7 @@
-use mathlib.Core.Path.{_≡_, refl, sym, _∙_, ap}
-use mathlib.Core.Bool.{Bool, true, false}
-use Prim.Native.Nat.{ℕ, _+_, _-_, _≤_, _<_}
+-- `chain::mark32` meets its contract. The loop's invariant: the marks at the end are those of a chain from `p` over the links that are left.
+-- Assumes nothing.
+use mathlib.Core.Path.{_≡_}
+use Prim.Native.Nat.{_-_, _≤_}
 use borrow.Author.Needs.{needs}
 use lib.ListN.{length, length-set}
 use Rattle.model.specs.Machine.InUse.{markChain}
@@ -8,9 +9,6 @@ use Rattle.reach.specs.Link.{at}
 use Rattle.reach.proofs.Walk.{walk, chain-outside, chain-met, chain-over, chain-on}
 use Rattle.reach.proofs.chain.mark32.Statement.{statement}
 use Rattle.reach.proofs.chain.mark32.Tie as tie
-use Rattle.reach.proofs.chain.mark32.Reads as reads
-use Rattle.reach.proofs.chain.mark32.Lts as lts
-use Rattle.reach.proofs.link.wide.Reads as wide-reads
 
 abbrev Inv-loop : tie.InvT-loop
 Inv-loop links start marks₀ p₀ n₀ marks p n = (n ≤ 32) × (length marks ≡ 32) × (markChain at 255 links 32 (at start) marks₀ ≡ walk links (32 - n) p marks)
@@ -18,47 +16,36 @@ Inv-loop links start marks₀ p₀ n₀ marks p n = (n ≤ 32) × (length marks 
 abbrev μ-loop : tie.MeasureT-loop
 μ-loop links start marks₀ p₀ n₀ marks p n = 32 - n
 
--- src/chain.rt:35:5
 loop-holds : tie.Need-loop-holds Inv-loop μ-loop
 loop-holds c = search needs
 
--- src/chain.rt:37:13
 returns : tie.Need-returns Inv-loop μ-loop
 returns c = search (needs, chain-outside)
 
--- src/chain.rt:39:12
 element-copy-out-if2 : tie.Need-element-copy-out-if2 Inv-loop μ-loop
 element-copy-out-if2 c = search needs
 
--- src/chain.rt:40:13
 returns-2 : tie.Need-returns-2 Inv-loop μ-loop
 returns-2 c = search (needs, chain-met)
 
--- src/chain.rt:42:9
 element-write-marks : tie.Need-element-write-marks Inv-loop μ-loop
 element-write-marks c = search needs
 
--- src/chain.rt:43:18
 element-copy-out-wide : tie.Need-element-copy-out-wide Inv-loop μ-loop
 element-copy-out-wide c = search needs
 
--- src/chain.rt:43:9
 wide-requires : tie.Need-wide-requires Inv-loop μ-loop
 wide-requires c κs = search needs
 
--- src/chain.rt:44:9
 add-n : tie.Need-add-n Inv-loop μ-loop
 add-n c = search needs
 
--- src/chain.rt:35:5
 loop-less : tie.Need-loop-less Inv-loop μ-loop
 loop-less c = search needs
 
--- src/chain.rt:35:5
 loop-again : tie.Need-loop-again Inv-loop μ-loop
 loop-again c = (search needs, simp length-set (search needs), search (needs, chain-on))
 
--- src/chain.rt:29:1
 returns-3 : tie.Need-returns-3 Inv-loop μ-loop
 returns-3 c = search (needs, chain-over)
 

@@ -1,20 +1,15 @@
-use mathlib.Core.Path.{_≡_, refl, sym, _∙_, ap}
-use mathlib.Core.Bool.{Bool, true, false}
-use Prim.Native.Nat.{ℕ, _+_, _-_, _≤_, _<_}
+-- `finish::finish` meets its contract. The loops' invariants: the record is as it was, but for the table of tokens, and then of cells, which is
+-- made blank up to a place. Assumes nothing.
+use mathlib.Core.Path.{_≡_, refl, _∙_, ap}
+use Prim.Native.Nat.{_-_, _≤_}
 use borrow.Author.Needs.{needs}
 use lib.ListN.{length, length-set}
+use Rattle.model.specs.declared.record.Machine.{Machine}
 use Rattle.reach.proofs.Fill.{mapped-length}
 use Rattle.reach.proofs.Blanking.{upTo, table-keeps, table-blanks, table-over, finished}
 use Rattle.reach.proofs.Blanking.{tokens as by-tokens, cells as by-cells}
-use Rattle.model.specs.declared.record.Machine.{Machine}
 use Rattle.reach.proofs.finish.finish.Statement.{statement}
 use Rattle.reach.proofs.finish.finish.Tie as tie
-use Rattle.reach.proofs.finish.finish.Reads as reads
-use Rattle.reach.proofs.finish.finish.Lts as lts
-use Rattle.reach.proofs.finish.blank_cell.Reads as blank-cell-reads
-use Rattle.reach.proofs.finish.blank_token.Reads as blank-token-reads
-use Rattle.reach.proofs.used.used_cells.Reads as used-cells-reads
-use Rattle.reach.proofs.used.used_tokens.Reads as used-tokens-reads
 
 abbrev Inv-loop : tie.InvT-loop
 Inv-loop m₀ used cells token i₀ m i = (i ≤ 64) × (length (m₀ .tokens) ≡ 64) × (length (m .tokens) ≡ 64) × (m ≡ upTo by-tokens m₀ used i)
@@ -28,111 +23,94 @@ Inv-loop2 m₀ cells i cell j₀ m j = (j ≤ 32) × (length (m₀ .cells) ≡ 3
 abbrev μ-loop2 : tie.MeasureT-loop2
 μ-loop2 m₀ cells i cell j₀ m j = 32 - j
 
--- src/finish.rt:42:16
 used-tokens-requires : tie.Need-used-tokens-requires Inv-loop μ-loop Inv-loop2 μ-loop2
 used-tokens-requires c κs = search needs
 
--- src/finish.rt:43:17
 used-cells-requires : tie.Need-used-cells-requires Inv-loop μ-loop Inv-loop2 μ-loop2
 used-cells-requires c κs = search needs
 
--- src/finish.rt:44:9
 blank-token-requires : tie.Need-blank-token-requires Inv-loop μ-loop Inv-loop2 μ-loop2
 blank-token-requires c κs = search needs
 
--- src/finish.rt:46:5
 loop-holds : tie.Need-loop-holds Inv-loop μ-loop Inv-loop2 μ-loop2
 loop-holds c = (search needs, search (needs, mapped-length), search (needs, mapped-length), refl)
 
--- src/finish.rt:48:9
 add-i : tie.Need-add-i Inv-loop μ-loop Inv-loop2 μ-loop2
 add-i c = search needs
 
--- src/finish.rt:49:13
 array-read-if1 : tie.Need-array-read-if1 Inv-loop μ-loop Inv-loop2 μ-loop2
 array-read-if1 c = search needs
 
--- src/finish.rt:50:13
 mul-token : tie.Need-mul-token Inv-loop μ-loop Inv-loop2 μ-loop2
 mul-token c = search needs
 
--- src/finish.rt:50:13
 element-set-from-token : tie.Need-element-set-from-token Inv-loop μ-loop Inv-loop2 μ-loop2
 element-set-from-token c = search needs
 
--- src/finish.rt:46:5
 loop-less : tie.Need-loop-less Inv-loop μ-loop Inv-loop2 μ-loop2
 loop-less c = search needs
 
--- src/finish.rt:46:5
 loop-again : tie.Need-loop-again Inv-loop μ-loop Inv-loop2 μ-loop2
-loop-again c = 
-    let l = c .before .before .loop in
-    (search needs, l .inv .1, simp length-set (l .inv .2),
-    table-blanks by-tokens (l .m) _ _ 64 (l .i) (l .inv .1) (l .inv .3) _ (search needs) (c .before .before .before .blank-token .ensures) (c .if1 .taken))
+loop-again c =
+    let l = c .before .before .loop in (
+      search needs,
+      l .inv .1,
+      simp length-set (l .inv .2),
+      table-blanks by-tokens (l .m) _ _ 64 (l .i) (l .inv .1) (l .inv .3) _ (search needs) (c .before .before .before .blank-token .ensures) (c .if1 .taken),
+    )
 
--- src/finish.rt:46:5
 loop-less-2 : tie.Need-loop-less-2 Inv-loop μ-loop Inv-loop2 μ-loop2
 loop-less-2 c = search needs
 
--- src/finish.rt:46:5
 loop-again-2 : tie.Need-loop-again-2 Inv-loop μ-loop Inv-loop2 μ-loop2
-loop-again-2 c = 
+loop-again-2 c =
     let l = c .before .before .loop in
     (search needs, l .inv .1, l .inv .2, table-keeps by-tokens (l .m) _ _ 64 (l .i) (l .inv .1) (l .inv .3) (search needs) (c .if1 .left))
 
--- src/finish.rt:53:9
 blank-cell-requires : tie.Need-blank-cell-requires Inv-loop μ-loop Inv-loop2 μ-loop2
 blank-cell-requires c κs = search needs
 
--- src/finish.rt:55:5
 loop2-holds : tie.Need-loop2-holds Inv-loop μ-loop Inv-loop2 μ-loop2
-loop2-holds c = 
+loop2-holds c =
     let l = c .before .before .loop in
     let old : length (c .before .before .before .before .before .before .args .t1 .cells) ≡ 32 = search (needs, mapped-length) in
     let long = ap (λ (x : Machine). length (x .cells)) (l .inv .3) ∙ old in
     (search needs, long, long, refl)
 
--- src/finish.rt:57:9
 add-j : tie.Need-add-j Inv-loop μ-loop Inv-loop2 μ-loop2
 add-j c = search needs
 
--- src/finish.rt:58:13
 array-read-if2 : tie.Need-array-read-if2 Inv-loop μ-loop Inv-loop2 μ-loop2
 array-read-if2 c = search needs
 
--- src/finish.rt:59:13
 mul-cell : tie.Need-mul-cell Inv-loop μ-loop Inv-loop2 μ-loop2
 mul-cell c = search needs
 
--- src/finish.rt:59:13
 element-set-from-cell : tie.Need-element-set-from-cell Inv-loop μ-loop Inv-loop2 μ-loop2
 element-set-from-cell c = search needs
 
--- src/finish.rt:55:5
 loop2-less : tie.Need-loop2-less Inv-loop μ-loop Inv-loop2 μ-loop2
 loop2-less c = search needs
 
--- src/finish.rt:55:5
 loop2-again : tie.Need-loop2-again Inv-loop μ-loop Inv-loop2 μ-loop2
-loop2-again c = 
-    let l = c .before .before .loop2 in
-    (search needs, l .inv .1, simp length-set (l .inv .2),
-    table-blanks by-cells (l .m) _ _ 32 (l .j) (l .inv .1) (l .inv .3) _ (search needs) (c .before .before .before .blank-cell .ensures) (c .if2 .taken))
+loop2-again c =
+    let l = c .before .before .loop2 in (
+      search needs,
+      l .inv .1,
+      simp length-set (l .inv .2),
+      table-blanks by-cells (l .m) _ _ 32 (l .j) (l .inv .1) (l .inv .3) _ (search needs) (c .before .before .before .blank-cell .ensures) (c .if2 .taken),
+    )
 
--- src/finish.rt:55:5
 loop2-less-2 : tie.Need-loop2-less-2 Inv-loop μ-loop Inv-loop2 μ-loop2
 loop2-less-2 c = search needs
 
--- src/finish.rt:55:5
 loop2-again-2 : tie.Need-loop2-again-2 Inv-loop μ-loop Inv-loop2 μ-loop2
-loop2-again-2 c = 
+loop2-again-2 c =
     let l = c .before .before .loop2 in
     (search needs, l .inv .1, l .inv .2, table-keeps by-cells (l .m) _ _ 32 (l .j) (l .inv .1) (l .inv .3) (search needs) (c .if2 .left))
 
--- src/finish.rt:39:1
 returns : tie.Need-returns Inv-loop μ-loop Inv-loop2 μ-loop2
-returns c = 
+returns c =
     let k = c .before .loop2 in
     let l = c .before .before .before .before .loop in
     finished (k .m) (l .m) _ _ _ (c .before .before .before .before .before .before .before .used-tokens .ensures) (c .before .before .before .before .before .before .used-cells .ensures)

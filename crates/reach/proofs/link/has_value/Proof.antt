@@ -1,24 +1,19 @@
+-- `link::has_value` meets its contract: case by case. Assumes nothing.
 use borrow.Author.Needs.{needs}
 use Rattle.model.specs.Machine.Blank.{hasValue}
 use Rattle.reach.proofs.link.has_value.Statement.{statement}
 use Rattle.reach.proofs.link.has_value.Tie as tie
-use Rattle.reach.proofs.link.has_value.Reads as reads
-use Rattle.reach.proofs.link.has_value.Lts as lts
 
--- src/link.rt:47:26
 enum-told : tie.Need-enum-told
 enum-told c = search needs
 
--- src/link.rt:48:27
 enum-told-2 : tie.Need-enum-told-2
 enum-told-2 c = search needs
 
--- src/link.rt:43:1
 returns : tie.Need-returns
 unfolding hasValue
 returns c = search needs
 
--- src/link.rt:43:1
 returns-2 : tie.Need-returns-2
 unfolding hasValue
 returns-2 c = search needs

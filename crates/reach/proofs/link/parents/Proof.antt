@@ -1,17 +1,13 @@
-use mathlib.Core.Path.{_≡_, refl, sym, _∙_, ap}
-use mathlib.Core.Bool.{Bool, true, false}
-use Prim.Native.Nat.{ℕ, _+_, _-_, _≤_, _<_}
-use native.Mathlib.Omega.{arith}
-use borrow.Author.Needs.{needs}
+-- `link::parents` meets its contract. The loop's invariant: the first `i` parents are written. Assumes nothing.
+use mathlib.Core.Path.{_≡_, refl}
 use mathlib.Core.List.{map}
-use lib.ListN.{length, length-set, length-map, take}
+use Prim.Native.Nat.{_-_, _≤_}
+use borrow.Author.Needs.{needs}
+use lib.ListN.{length, length-set, take}
 use Rattle.reach.specs.Link.{parentNumber}
 use Rattle.reach.proofs.Fill.{fill-more, fill-all, mapped-length}
 use Rattle.reach.proofs.link.parents.Statement.{statement}
 use Rattle.reach.proofs.link.parents.Tie as tie
-use Rattle.reach.proofs.link.parents.Reads as reads
-use Rattle.reach.proofs.link.parents.Lts as lts
-use Rattle.reach.proofs.link.number.Reads as number-reads
 
 abbrev Inv-loop : tie.InvT-loop
 Inv-loop cells out₀ i₀ out i = (i ≤ 32) × (length cells ≡ 32) × (length out ≡ 32) × (take i out ≡ take i (map parentNumber cells))
@@ -19,39 +15,30 @@ Inv-loop cells out₀ i₀ out i = (i ≤ 32) × (length cells ≡ 32) × (lengt
 abbrev μ-loop : tie.MeasureT-loop
 μ-loop cells out₀ i₀ out i = 32 - i
 
--- src/link.rt:34:5
 loop-holds : tie.Need-loop-holds Inv-loop μ-loop
 loop-holds c = (search needs, search (needs, mapped-length), refl, refl)
 
--- src/link.rt:35:17
 mul-c : tie.Need-mul-c Inv-loop μ-loop
 mul-c c = search needs
 
--- src/link.rt:35:17
 array-copy-out-c : tie.Need-array-copy-out-c Inv-loop μ-loop
 array-copy-out-c c = search needs
 
--- src/link.rt:37:18
 number-requires : tie.Need-number-requires Inv-loop μ-loop
 number-requires c κs = search needs
 
--- src/link.rt:37:9
 array-write-out : tie.Need-array-write-out Inv-loop μ-loop
 array-write-out c = search needs
 
--- src/link.rt:38:9
 add-i : tie.Need-add-i Inv-loop μ-loop
 add-i c = search needs
 
--- src/link.rt:34:5
 loop-less : tie.Need-loop-less Inv-loop μ-loop
 loop-less c = search needs
 
--- src/link.rt:34:5
 loop-again : tie.Need-loop-again Inv-loop μ-loop
 loop-again c = (search needs, search needs, simp length-set (search needs), search (needs, fill-more))
 
--- src/link.rt:29:1
 returns : tie.Need-returns Inv-loop μ-loop
 returns c = search (needs, fill-all)
 

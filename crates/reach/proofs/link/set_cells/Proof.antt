@@ -1,17 +1,13 @@
-use mathlib.Core.Path.{_≡_, refl, sym, _∙_, ap}
-use mathlib.Core.Bool.{Bool, true, false}
-use Prim.Native.Nat.{ℕ, _+_, _-_, _≤_, _<_}
-use native.Mathlib.Omega.{arith}
-use borrow.Author.Needs.{needs}
+-- `link::set_cells` meets its contract. The loop's invariant: the first `i` answers are written. Assumes nothing.
+use mathlib.Core.Path.{_≡_, refl}
 use mathlib.Core.List.{map}
-use lib.ListN.{length, length-set, length-map, take}
+use Prim.Native.Nat.{_-_, _≤_}
+use borrow.Author.Needs.{needs}
+use lib.ListN.{length, length-set, take}
 use Rattle.model.specs.Machine.Active.{isSet}
 use Rattle.reach.proofs.Fill.{fill-more, fill-all, mapped-length}
 use Rattle.reach.proofs.link.set_cells.Statement.{statement}
 use Rattle.reach.proofs.link.set_cells.Tie as tie
-use Rattle.reach.proofs.link.set_cells.Reads as reads
-use Rattle.reach.proofs.link.set_cells.Lts as lts
-use Rattle.reach.proofs.link.has_value.Reads as has-value-reads
 
 abbrev Inv-loop : tie.InvT-loop
 Inv-loop cells out₀ i₀ out i = (i ≤ 32) × (length cells ≡ 32) × (length out ≡ 32) × (take i out ≡ take i (map isSet cells))
@@ -19,40 +15,31 @@ Inv-loop cells out₀ i₀ out i = (i ≤ 32) × (length cells ≡ 32) × (lengt
 abbrev μ-loop : tie.MeasureT-loop
 μ-loop cells out₀ i₀ out i = 32 - i
 
--- src/link.rt:58:5
 loop-holds : tie.Need-loop-holds Inv-loop μ-loop
 loop-holds c = (search needs, search (needs, mapped-length), refl, refl)
 
--- src/link.rt:59:17
 mul-c : tie.Need-mul-c Inv-loop μ-loop
 mul-c c = search needs
 
--- src/link.rt:59:17
 array-copy-out-c : tie.Need-array-copy-out-c Inv-loop μ-loop
 array-copy-out-c c = search needs
 
--- src/link.rt:61:18
 has-value-requires : tie.Need-has-value-requires Inv-loop μ-loop
 has-value-requires c κs = search needs
 
--- src/link.rt:61:9
 array-write-out : tie.Need-array-write-out Inv-loop μ-loop
 array-write-out c = search needs
 
--- src/link.rt:62:9
 add-i : tie.Need-add-i Inv-loop μ-loop
 add-i c = search needs
 
--- src/link.rt:58:5
 loop-less : tie.Need-loop-less Inv-loop μ-loop
 loop-less c = search needs
 
--- src/link.rt:58:5
 loop-again : tie.Need-loop-again Inv-loop μ-loop
 unfolding isSet
 loop-again c = (search needs, search needs, simp length-set (search needs), search (needs, fill-more))
 
--- src/link.rt:53:1
 returns : tie.Need-returns Inv-loop μ-loop
 returns c = search (needs, fill-all)
 

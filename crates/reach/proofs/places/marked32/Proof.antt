@@ -1,15 +1,12 @@
-use mathlib.Core.Path.{_≡_, refl, sym, _∙_, ap}
-use mathlib.Core.Bool.{Bool, true, false}
-use Prim.Native.Nat.{ℕ, _+_, _-_, _≤_, _<_}
-use native.Mathlib.Omega.{arith}
+-- `places::marked32` meets its contract. The loop's invariant: the marks from `i` on are left to count. Assumes nothing.
+use mathlib.Core.Path.{_≡_}
+use Prim.Native.Nat.{_+_, _-_, _≤_}
 use borrow.Author.Needs.{needs}
 use lib.ListN.{drop}
 use Rattle.model.specs.Machine.InUse.{marked}
 use Rattle.reach.proofs.Count.{count-one, count-none, count-over}
 use Rattle.reach.proofs.places.marked32.Statement.{statement}
 use Rattle.reach.proofs.places.marked32.Tie as tie
-use Rattle.reach.proofs.places.marked32.Reads as reads
-use Rattle.reach.proofs.places.marked32.Lts as lts
 
 abbrev Inv-loop : tie.InvT-loop
 Inv-loop marks count₀ i₀ count i = (i ≤ 32) × (count ≤ i) × (marked marks ≡ count + marked (drop i marks))
@@ -17,39 +14,30 @@ Inv-loop marks count₀ i₀ count i = (i ≤ 32) × (count ≤ i) × (marked ma
 abbrev μ-loop : tie.MeasureT-loop
 μ-loop marks count₀ i₀ count i = 32 - i
 
--- src/places.rt:29:5
 loop-holds : tie.Need-loop-holds Inv-loop μ-loop
 loop-holds c = search needs
 
--- src/places.rt:31:9
 add-i : tie.Need-add-i Inv-loop μ-loop
 add-i c = search needs
 
--- src/places.rt:32:12
 array-read-if1 : tie.Need-array-read-if1 Inv-loop μ-loop
 array-read-if1 c = search needs
 
--- src/places.rt:33:13
 add-count : tie.Need-add-count Inv-loop μ-loop
 add-count c = search needs
 
--- src/places.rt:29:5
 loop-less : tie.Need-loop-less Inv-loop μ-loop
 loop-less c = search needs
 
--- src/places.rt:29:5
 loop-again : tie.Need-loop-again Inv-loop μ-loop
 loop-again c = (search needs, search needs, search (needs, count-one))
 
--- src/places.rt:29:5
 loop-less-2 : tie.Need-loop-less-2 Inv-loop μ-loop
 loop-less-2 c = search needs
 
--- src/places.rt:29:5
 loop-again-2 : tie.Need-loop-again-2 Inv-loop μ-loop
 loop-again-2 c = (search needs, search needs, search (needs, count-none))
 
--- src/places.rt:24:1
 returns : tie.Need-returns Inv-loop μ-loop
 returns c = search (needs, count-over)
 

@@ -1,16 +1,11 @@
-use mathlib.Core.Path.{_≡_, refl, sym, _∙_, ap}
-use mathlib.Core.Bool.{Bool, true, false}
-use Prim.Native.Nat.{ℕ, _+_, _-_, _≤_, _<_}
-use native.Mathlib.Omega.{arith}
+-- `places::next_place64` meets its contract. The loop's invariant: the search goes on at `p`, over the places that are left. Assumes nothing.
+use mathlib.Core.Path.{_≡_}
+use Prim.Native.Nat.{_-_, _≤_}
 use borrow.Author.Needs.{needs}
 use Rattle.model.specs.Machine.Places.{freeFrom, nextPlace}
 use Rattle.reach.proofs.Place.{place-first, place-none, place-found, place-next}
 use Rattle.reach.proofs.places.next_place64.Statement.{statement}
 use Rattle.reach.proofs.places.next_place64.Tie as tie
-use Rattle.reach.proofs.places.next_place64.Reads as reads
-use Rattle.reach.proofs.places.next_place64.Lts as lts
-use Rattle.reach.proofs.link.wide.Reads as wide-reads
-use Rattle.reach.proofs.places.around.Reads as around-reads
 
 abbrev Inv-loop : tie.InvT-loop
 Inv-loop last marks p₀ n₀ p n = (n ≤ 64) × (nextPlace marks last ≡ freeFrom marks (64 - n) p)
@@ -18,47 +13,36 @@ Inv-loop last marks p₀ n₀ p n = (n ≤ 64) × (nextPlace marks last ≡ free
 abbrev μ-loop : tie.MeasureT-loop
 μ-loop last marks p₀ n₀ p n = 64 - n
 
--- src/places.rt:51:17
 wide-requires : tie.Need-wide-requires Inv-loop μ-loop
 wide-requires c κs = search needs
 
--- src/places.rt:51:17
 add-p : tie.Need-add-p Inv-loop μ-loop
 add-p c = search needs
 
--- src/places.rt:53:5
 loop-holds : tie.Need-loop-holds Inv-loop μ-loop
 loop-holds c = (search needs, search (needs, place-first))
 
--- src/places.rt:54:13
 around-requires : tie.Need-around-requires Inv-loop μ-loop
 around-requires c κs = search needs
 
--- src/places.rt:55:13
 array-read-if1 : tie.Need-array-read-if1 Inv-loop μ-loop
 array-read-if1 c = search needs
 
--- src/places.rt:56:13
 returns : tie.Need-returns Inv-loop μ-loop
 returns c = (search (needs, place-found), search needs)
 
--- src/places.rt:58:13
 add-p-2 : tie.Need-add-p-2 Inv-loop μ-loop
 add-p-2 c = search needs
 
--- src/places.rt:59:9
 add-n : tie.Need-add-n Inv-loop μ-loop
 add-n c = search needs
 
--- src/places.rt:53:5
 loop-less : tie.Need-loop-less Inv-loop μ-loop
 loop-less c = search needs
 
--- src/places.rt:53:5
 loop-again : tie.Need-loop-again Inv-loop μ-loop
 loop-again c = (search needs, search (needs, place-next))
 
--- src/places.rt:47:1
 returns-2 : tie.Need-returns-2 Inv-loop μ-loop
 returns-2 c = (search (needs, place-none), search needs)
 

@@ -1,8 +1,9 @@
-use mathlib.Core.Path.{_≡_, refl, sym, _∙_, ap}
-use mathlib.Core.Bool.{Bool, true, false}
-use Prim.Native.Nat.{ℕ, _+_, _-_, _≤_, _<_}
-use borrow.Author.Needs.{needs}
+-- `used::used_cells` meets its contract. The loop's invariant: the cells of the tokens in use from `i` on are left to mark. Assumes nothing.
+use mathlib.Core.Path.{_≡_, refl}
+use mathlib.Core.Bool.{false}
 use mathlib.Core.List.{map}
+use Prim.Native.Nat.{_-_, _≤_}
+use borrow.Author.Needs.{needs}
 use lib.ListN.{length, drop, replicate}
 use Rattle.model.specs.Machine.InUse.{markChains, cellsOfMarked}
 use Rattle.reach.specs.Link.{at, renamed}
@@ -11,13 +12,9 @@ use Rattle.reach.proofs.Renumber.{chains-keep}
 use Rattle.reach.proofs.Cells.{cells-more, cells-none, cells-over, cells-marked}
 use Rattle.reach.proofs.used.used_cells.Statement.{statement}
 use Rattle.reach.proofs.used.used_cells.Tie as tie
-use Rattle.reach.proofs.used.used_cells.Reads as reads
-use Rattle.reach.proofs.used.used_cells.Lts as lts
-use Rattle.reach.proofs.link.parents.Reads as parents-reads
-use Rattle.reach.proofs.used.mark_named.Reads as mark-named-reads
 
 abbrev Inv-loop : tie.InvT-loop
-Inv-loop m used above marks₀ i₀ marks i = 
+Inv-loop m used above marks₀ i₀ marks i =
     (i ≤ 64)
     × (length used ≡ 64)
     × (length (m .tokens) ≡ 64)
@@ -29,55 +26,43 @@ Inv-loop m used above marks₀ i₀ marks i =
 abbrev μ-loop : tie.MeasureT-loop
 μ-loop m used above marks₀ i₀ marks i = 64 - i
 
--- src/used.rt:72:17
 parents-requires : tie.Need-parents-requires Inv-loop μ-loop
 parents-requires c κs = search needs
 
--- src/used.rt:75:5
 loop-holds : tie.Need-loop-holds Inv-loop μ-loop
 loop-holds c = (search needs, search (needs, mapped-length), search (needs, mapped-length), search needs, refl, refl)
 
--- src/used.rt:77:9
 add-i : tie.Need-add-i Inv-loop μ-loop
 add-i c = search needs
 
--- src/used.rt:78:12
 array-read-if1 : tie.Need-array-read-if1 Inv-loop μ-loop
 array-read-if1 c = search needs
 
--- src/used.rt:79:21
 mul-t : tie.Need-mul-t Inv-loop μ-loop
 mul-t c = search needs
 
--- src/used.rt:79:21
 element-copy-out-t : tie.Need-element-copy-out-t Inv-loop μ-loop
 element-copy-out-t c = search needs
 
--- src/used.rt:80:13
 mark-named-requires : tie.Need-mark-named-requires Inv-loop μ-loop
 mark-named-requires c κs = search needs
 
--- src/used.rt:75:5
 loop-less : tie.Need-loop-less Inv-loop μ-loop
 loop-less c = search needs
 
--- src/used.rt:75:5
 loop-again : tie.Need-loop-again Inv-loop μ-loop
-loop-again c = 
+loop-again c =
     let l = c .before .before .before .before .before .before .loop in
     (search needs, l .inv .1, l .inv .2, l .inv .3, chains-keep _ _ _ 32 _ _ _ (c .mark-named .ensures) (l .inv .4), search (needs, cells-more))
 
--- src/used.rt:75:5
 loop-less-2 : tie.Need-loop-less-2 Inv-loop μ-loop
 loop-less-2 c = search needs
 
--- src/used.rt:75:5
 loop-again-2 : tie.Need-loop-again-2 Inv-loop μ-loop
 loop-again-2 c = (search needs, search needs, search needs, search needs, search needs, search (needs, cells-none))
 
--- src/used.rt:68:1
 returns : tie.Need-returns Inv-loop μ-loop
-returns c = 
+returns c =
     cells-marked _ _ _ _ _ 32 (search (needs, mapped-length)) (search needs) (c .before .before .parents .ensures) (search (needs, cells-over))
 
 pub used-cells-spec : {M : Type 1} → statement M

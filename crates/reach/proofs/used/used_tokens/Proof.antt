@@ -1,8 +1,9 @@
-use mathlib.Core.Path.{_≡_, refl, sym, _∙_, ap}
-use mathlib.Core.Bool.{Bool, true, false}
-use Prim.Native.Nat.{ℕ, _+_, _-_, _≤_, _<_}
-use borrow.Author.Needs.{needs}
+-- `used::used_tokens` meets its contract. The loop's invariant: the first `i` callers and answers are written; then the chains from the active
+-- tokens are marked. Assumes nothing.
+use mathlib.Core.Path.{_≡_, refl, _∙_}
 use mathlib.Core.List.{map}
+use Prim.Native.Nat.{_-_, _≤_}
+use borrow.Author.Needs.{needs}
 use lib.ListN.{length, length-set, take}
 use Rattle.model.specs.Machine.Active.{isActive}
 use Rattle.reach.specs.Link.{callerNumber}
@@ -11,16 +12,9 @@ use Rattle.reach.proofs.Known.{active-known}
 use Rattle.reach.proofs.Tokens.{tokens-marked}
 use Rattle.reach.proofs.used.used_tokens.Statement.{statement}
 use Rattle.reach.proofs.used.used_tokens.Tie as tie
-use Rattle.reach.proofs.used.used_tokens.Reads as reads
-use Rattle.reach.proofs.used.used_tokens.Lts as lts
-use Rattle.reach.proofs.chain.mark_chosen.Reads as mark-chosen-reads
-use Rattle.reach.proofs.climb.active_in.Reads as active-in-reads
-use Rattle.reach.proofs.link.number.Reads as number-reads
-use Rattle.reach.proofs.link.parents.Reads as parents-reads
-use Rattle.reach.proofs.link.set_cells.Reads as set-cells-reads
 
 abbrev Inv-loop : tie.InvT-loop
-Inv-loop m set above callers₀ active₀ i₀ callers active i = 
+Inv-loop m set above callers₀ active₀ i₀ callers active i =
     (i ≤ 64)
     × (length (m .tokens) ≡ 64)
     × (length callers ≡ 64)
@@ -31,69 +25,56 @@ Inv-loop m set above callers₀ active₀ i₀ callers active i =
 abbrev μ-loop : tie.MeasureT-loop
 μ-loop m set above callers₀ active₀ i₀ callers active i = 64 - i
 
--- src/used.rt:24:15
 set-cells-requires : tie.Need-set-cells-requires Inv-loop μ-loop
 set-cells-requires c κs = search needs
 
--- src/used.rt:25:17
 parents-requires : tie.Need-parents-requires Inv-loop μ-loop
 parents-requires c κs = search needs
 
--- src/used.rt:29:5
 loop-holds : tie.Need-loop-holds Inv-loop μ-loop
 loop-holds c = (search needs, search (needs, mapped-length), refl, refl, refl, refl)
 
--- src/used.rt:30:17
 mul-t : tie.Need-mul-t Inv-loop μ-loop
 mul-t c = search needs
 
--- src/used.rt:30:17
 element-copy-out-t : tie.Need-element-copy-out-t Inv-loop μ-loop
 element-copy-out-t c = search needs
 
--- src/used.rt:32:22
 number-requires : tie.Need-number-requires Inv-loop μ-loop
 number-requires c κs = search needs
 
--- src/used.rt:32:9
 array-write-callers : tie.Need-array-write-callers Inv-loop μ-loop
 array-write-callers c = search needs
 
--- src/used.rt:33:21
 active-in-requires : tie.Need-active-in-requires Inv-loop μ-loop
 active-in-requires c κs = search needs
 
--- src/used.rt:33:9
 array-write-active : tie.Need-array-write-active Inv-loop μ-loop
 array-write-active c = search needs
 
--- src/used.rt:34:9
 add-i : tie.Need-add-i Inv-loop μ-loop
 add-i c = search needs
 
--- src/used.rt:29:5
 loop-less : tie.Need-loop-less Inv-loop μ-loop
 loop-less c = search needs
 
--- src/used.rt:29:5
 loop-again : tie.Need-loop-again Inv-loop μ-loop
-loop-again c = 
+loop-again c =
     let cells = c .before .before .before .before .before .before .before .before .before .before .args .t1 .cells in
-    let known = c .active-in .ensures ∙ active-known cells _ _ _ (search (needs, mapped-length)) (c .before .before .before .before .before .before .before .before .set-cells .ensures) (c .before .before .before .before .before .before .before .parents .ensures) in
-    (search needs,
-    search needs,
-    simp length-set (search needs),
-    simp length-set (search needs),
-    search (needs, fill-more),
-    search (needs, fill-more))
+    let known = c .active-in .ensures ∙ active-known cells _ _ _ (search (needs, mapped-length)) (c .before .before .before .before .before .before .before .before .set-cells .ensures) (c .before .before .before .before .before .before .before .parents .ensures) in (
+      search needs,
+      search needs,
+      simp length-set (search needs),
+      simp length-set (search needs),
+      search (needs, fill-more),
+      search (needs, fill-more),
+    )
 
--- src/used.rt:36:5
 mark-chosen-requires : tie.Need-mark-chosen-requires Inv-loop μ-loop
 mark-chosen-requires c κs = search needs
 
--- src/used.rt:20:1
 returns : tie.Need-returns Inv-loop μ-loop
-returns c = 
+returns c =
     let l = c .before .before .before .before .loop in
     let m = c .before .before .before .before .before .before .before .before .args .t1 in
     let over : 64 ≤ l .i = search needs in
