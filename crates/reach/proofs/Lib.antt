@@ -5,7 +5,7 @@ pub mod Count
 pub mod Place
 pub mod Renumber
 pub mod Known
-pub mod Tokens
-pub mod Cells
+pub mod UsedTokens
+pub mod UsedCells
 pub mod Keep
 pub mod Blanking

@@ -28,6 +28,11 @@ module _ (links : List ℕ) where
   abbrev pub walk : ℕ → ℕ → List Bool → List Bool
   walk n p marks = markChain at 255 links n (at p) marks
 
+  -- what is known at the loop's head: n links are followed, and the chain goes on at p
+  abbrev pub Left : (size start : ℕ) → List Bool → List Bool → ℕ → ℕ → Type 0
+  Left size start old marks p n =
+      (n ≤ size) × (length marks ≡ size) × (walk size start old ≡ walk (size - n) p marks)
+
   pub walk-stops : (n p : ℕ) (marks : List Bool) → Marked marks p → walk n p marks ≡ marks
   unfolding markChain
   walk-stops zero p marks e = refl

@@ -29,9 +29,10 @@ pub fn blank_token() -> Token
 pub fn blank_cell() -> Cell
     ensures { λ r. ⌜ r ≡ blankCell ⌝ }
 {
+    let nothing = Held::Nothing;
     Cell {
         parent: Place::Nowhere,
-        value: Held::Nothing,
+        value: nothing,
     }
 }
 

@@ -1,8 +1,10 @@
-// The links of the tables as numbers.
+// Places, and the links of the tables, as numbers.
 ghost use mathlib.Core.Path.{_≡_};
 ghost use mathlib.Core.List.{map};
+ghost use Prim.Native.Nat.{_<_};
 ghost use Rattle.model.specs.Machine.Active.{isSet};
 ghost use Rattle.model.specs.Machine.Blank.{hasValue};
+ghost use Rattle.model.specs.Machine.Places.{around};
 ghost use Rattle.reach.specs.Link.{number, parentNumber};
 use model::cell::Cell;
 use model::record::Machine;
@@ -23,6 +25,15 @@ pub fn wide(x: u8) -> usize
     ensures { λ r. ⌜ r ≡ x ⌝ }
 {
     x as usize
+}
+
+// "round from the end to 0"
+pub fn around(size: usize, p: usize) -> usize
+    requires { ⌜ 0 < size ⌝ }
+    ensures { λ r. ⌜ r ≡ around size p ⌝ }
+    ensures { λ r. ⌜ r < size ⌝ }
+{
+    if p < size { p } else { 0 }
 }
 
 // The parent of each cell.

@@ -1,17 +1,14 @@
 -- `chain::mark64` meets its contract. The loop's invariant: the marks at the end are those of a chain from `p` over the links that are left.
 -- Assumes nothing.
-use mathlib.Core.Path.{_≡_}
-use Prim.Native.Nat.{_-_, _≤_}
+use Prim.Native.Nat.{_-_}
 use borrow.Author.Needs.{needs}
-use lib.ListN.{length, length-set}
-use Rattle.model.specs.Machine.InUse.{markChain}
-use Rattle.reach.specs.Link.{at}
-use Rattle.reach.proofs.Walk.{walk, chain-outside, chain-met, chain-over, chain-on}
+use lib.ListN.{length-set}
+use Rattle.reach.proofs.Walk.{Left, chain-outside, chain-met, chain-over, chain-on}
 use Rattle.reach.proofs.chain.mark64.Statement.{statement}
 use Rattle.reach.proofs.chain.mark64.Tie as tie
 
 abbrev Inv-loop : tie.InvT-loop
-Inv-loop links start marks₀ p₀ n₀ marks p n = (n ≤ 64) × (length marks ≡ 64) × (markChain at 255 links 64 (at start) marks₀ ≡ walk links (64 - n) p marks)
+Inv-loop links start marks₀ p₀ n₀ marks p n = Left links 64 start marks₀ marks p n
 
 abbrev μ-loop : tie.MeasureT-loop
 μ-loop links start marks₀ p₀ n₀ marks p n = 64 - n

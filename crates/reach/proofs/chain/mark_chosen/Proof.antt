@@ -7,12 +7,15 @@ use lib.ListN.{length, drop, replicate}
 use Rattle.model.specs.Machine.InUse.{markChains}
 use Rattle.reach.specs.Link.{at, chosen}
 use Rattle.reach.proofs.Renumber.{chain-keeps}
-use Rattle.reach.proofs.Tokens.{chosen-one, chosen-none, chosen-over}
+use Rattle.reach.proofs.UsedTokens.{chosen-one, chosen-none, chosen-over}
 use Rattle.reach.proofs.chain.mark_chosen.Statement.{statement}
 use Rattle.reach.proofs.chain.mark_chosen.Tie as tie
 
 abbrev Inv-loop : tie.InvT-loop
-Inv-loop links from marks₀ i₀ marks i = (i ≤ 64) × (length marks ≡ 64) × (markChains at 255 links (chosen 0 from) (replicate 64 false) ≡ markChains at 255 links (chosen i (drop i from)) marks)
+Inv-loop links from marks₀ i₀ marks i =
+    (i ≤ 64)
+    × (length marks ≡ 64)
+    × (markChains at 255 links (chosen 0 from) (replicate 64 false) ≡ markChains at 255 links (chosen i (drop i from)) marks)
 
 abbrev μ-loop : tie.MeasureT-loop
 μ-loop links from marks₀ i₀ marks i = 64 - i

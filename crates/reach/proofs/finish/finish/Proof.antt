@@ -52,11 +52,12 @@ loop-less c = search needs
 
 loop-again : tie.Need-loop-again Inv-loop μ-loop Inv-loop2 μ-loop2
 loop-again c =
-    let l = c .before .before .loop in (
+    let l = c .before .before .loop in
+    let blank = c .before .before .before .blank-token .ensures in (
       search needs,
       l .inv .1,
       simp length-set (l .inv .2),
-      table-blanks by-tokens (l .m) _ _ 64 (l .i) (l .inv .1) (l .inv .3) _ (search needs) (c .before .before .before .blank-token .ensures) (c .if1 .taken),
+      table-blanks by-tokens (l .m) _ _ 64 (l .i) (l .inv .1) (l .inv .3) _ (search needs) blank (c .if1 .taken),
     )
 
 loop-less-2 : tie.Need-loop-less-2 Inv-loop μ-loop Inv-loop2 μ-loop2
@@ -94,11 +95,12 @@ loop2-less c = search needs
 
 loop2-again : tie.Need-loop2-again Inv-loop μ-loop Inv-loop2 μ-loop2
 loop2-again c =
-    let l = c .before .before .loop2 in (
+    let l = c .before .before .loop2 in
+    let blank = c .before .before .before .blank-cell .ensures in (
       search needs,
       l .inv .1,
       simp length-set (l .inv .2),
-      table-blanks by-cells (l .m) _ _ 32 (l .j) (l .inv .1) (l .inv .3) _ (search needs) (c .before .before .before .blank-cell .ensures) (c .if2 .taken),
+      table-blanks by-cells (l .m) _ _ 32 (l .j) (l .inv .1) (l .inv .3) _ (search needs) blank (c .if2 .taken),
     )
 
 loop2-less-2 : tie.Need-loop2-less-2 Inv-loop μ-loop Inv-loop2 μ-loop2
@@ -112,8 +114,10 @@ loop2-again-2 c =
 returns : tie.Need-returns Inv-loop μ-loop Inv-loop2 μ-loop2
 returns c =
     let k = c .before .loop2 in
-    let l = c .before .before .before .before .loop in
-    finished (k .m) (l .m) _ _ _ (c .before .before .before .before .before .before .before .used-tokens .ensures) (c .before .before .before .before .before .before .used-cells .ensures)
+    let begun = c .before .before .before .before in
+    let l = begun .loop in
+    let cells = begun .before .before in
+    finished (k .m) (l .m) _ _ _ (cells .before .used-tokens .ensures) (cells .used-cells .ensures)
     (table-over by-tokens (l .m) _ _ 64 (l .i) (l .inv .1) (l .inv .3) (search needs))
     (table-over by-cells (k .m) _ _ 32 (k .j) (k .inv .1) (k .inv .3) (search needs))
 

@@ -7,12 +7,16 @@ use Rattle.model.specs.Machine.InUse.{markChains}
 use Rattle.reach.specs.Link.{at}
 use Rattle.reach.proofs.Fill.{mapped-length}
 use Rattle.reach.proofs.Renumber.{chain-keeps}
-use Rattle.reach.proofs.Cells.{named, named-first, named-more, named-over}
+use Rattle.reach.proofs.UsedCells.{named, named-first, named-more, named-over}
 use Rattle.reach.proofs.used.mark_named.Statement.{statement}
 use Rattle.reach.proofs.used.mark_named.Tie as tie
 
 abbrev Inv-loop : tie.InvT-loop
-Inv-loop above marks₀ binds x₀ marks x = (x ≤ 8) × (length binds ≡ 8) × (length marks ≡ 32) × (markChains at 255 above (named binds) marks₀ ≡ markChains at 255 above (named (drop x binds)) marks)
+Inv-loop above marks₀ binds x₀ marks x =
+    (x ≤ 8)
+    × (length binds ≡ 8)
+    × (length marks ≡ 32)
+    × (markChains at 255 above (named binds) marks₀ ≡ markChains at 255 above (named (drop x binds)) marks)
 
 abbrev μ-loop : tie.MeasureT-loop
 μ-loop above marks₀ binds x₀ marks x = 8 - x

@@ -9,7 +9,7 @@ use Rattle.model.specs.Machine.InUse.{markChains, cellsOfMarked}
 use Rattle.reach.specs.Link.{at, renamed}
 use Rattle.reach.proofs.Fill.{mapped-length}
 use Rattle.reach.proofs.Renumber.{chains-keep}
-use Rattle.reach.proofs.Cells.{cells-more, cells-none, cells-over, cells-marked}
+use Rattle.reach.proofs.UsedCells.{cells-more, cells-none, cells-over, cells-marked}
 use Rattle.reach.proofs.used.used_cells.Statement.{statement}
 use Rattle.reach.proofs.used.used_cells.Tie as tie
 

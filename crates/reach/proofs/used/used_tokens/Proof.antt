@@ -9,7 +9,7 @@ use Rattle.model.specs.Machine.Active.{isActive}
 use Rattle.reach.specs.Link.{callerNumber}
 use Rattle.reach.proofs.Fill.{mapped-length, fill-more, fill-all}
 use Rattle.reach.proofs.Known.{active-known}
-use Rattle.reach.proofs.Tokens.{tokens-marked}
+use Rattle.reach.proofs.UsedTokens.{tokens-marked}
 use Rattle.reach.proofs.used.used_tokens.Statement.{statement}
 use Rattle.reach.proofs.used.used_tokens.Tie as tie
 
@@ -60,8 +60,11 @@ loop-less c = search needs
 
 loop-again : tie.Need-loop-again Inv-loop μ-loop
 loop-again c =
-    let cells = c .before .before .before .before .before .before .before .before .before .before .args .t1 .cells in
-    let known = c .active-in .ensures ∙ active-known cells _ _ _ (search (needs, mapped-length)) (c .before .before .before .before .before .before .before .before .set-cells .ensures) (c .before .before .before .before .before .before .before .parents .ensures) in (
+    let begun = c .before .before .before .before .before .before .before in
+    let cells = begun .before .before .before .args .t1 .cells in
+    let long : length cells ≡ 32 = search (needs, mapped-length) in
+    let known =
+    c .active-in .ensures ∙ active-known cells _ _ _ long (begun .before .set-cells .ensures) (begun .parents .ensures) in (
       search needs,
       search needs,
       simp length-set (search needs),

@@ -1,17 +1,17 @@
--- `places::next_place32` meets its contract. The loop's invariant: the search goes on at `p`, over the places that are left. Assumes nothing.
+-- `tokens::next_place` meets its contract. The loop's invariant: the search goes on at `p`, over the places that are left. Assumes nothing.
 use mathlib.Core.Path.{_≡_}
 use Prim.Native.Nat.{_-_, _≤_}
 use borrow.Author.Needs.{needs}
 use Rattle.model.specs.Machine.Places.{freeFrom, nextPlace}
 use Rattle.reach.proofs.Place.{place-first, place-none, place-found, place-next}
-use Rattle.reach.proofs.places.next_place32.Statement.{statement}
-use Rattle.reach.proofs.places.next_place32.Tie as tie
+use Rattle.reach.proofs.tokens.next_place.Statement.{statement}
+use Rattle.reach.proofs.tokens.next_place.Tie as tie
 
 abbrev Inv-loop : tie.InvT-loop
-Inv-loop last marks p₀ n₀ p n = (n ≤ 32) × (nextPlace marks last ≡ freeFrom marks (32 - n) p)
+Inv-loop last marks p₀ n₀ p n = (n ≤ 64) × (nextPlace marks last ≡ freeFrom marks (64 - n) p)
 
 abbrev μ-loop : tie.MeasureT-loop
-μ-loop last marks p₀ n₀ p n = 32 - n
+μ-loop last marks p₀ n₀ p n = 64 - n
 
 wide-requires : tie.Need-wide-requires Inv-loop μ-loop
 wide-requires c κs = search needs
@@ -46,8 +46,8 @@ loop-again c = (search needs, search (needs, place-next))
 returns-2 : tie.Need-returns-2 Inv-loop μ-loop
 returns-2 c = (search (needs, place-none), search needs)
 
-pub next-place32-spec : {M : Type 1} → statement M
-next-place32-spec =
+pub next-place-spec : {M : Type 1} → statement M
+next-place-spec =
     tie.close
     (tie.spec
     Inv-loop

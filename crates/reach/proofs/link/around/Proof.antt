@@ -1,8 +1,8 @@
--- `places::around` meets its contract: case by case. Assumes nothing.
+-- `link::around` meets its contract: case by case. Assumes nothing.
 use borrow.Author.Needs.{needs}
 use Rattle.reach.proofs.Place.{around-inside, around-outside}
-use Rattle.reach.proofs.places.around.Statement.{statement}
-use Rattle.reach.proofs.places.around.Tie as tie
+use Rattle.reach.proofs.link.around.Statement.{statement}
+use Rattle.reach.proofs.link.around.Tie as tie
 
 returns : tie.Need-returns
 returns c = (around-inside _ _ (c .if1 .taken), search needs)

@@ -1,12 +1,12 @@
--- `places::marked64` meets its contract. The loop's invariant: the marks from `i` on are left to count. Assumes nothing.
+-- `tokens::marked` meets its contract. The loop's invariant: the marks from `i` on are left to count. Assumes nothing.
 use mathlib.Core.Path.{_≡_}
 use Prim.Native.Nat.{_+_, _-_, _≤_}
 use borrow.Author.Needs.{needs}
 use lib.ListN.{drop}
 use Rattle.model.specs.Machine.InUse.{marked}
 use Rattle.reach.proofs.Count.{count-one, count-none, count-over}
-use Rattle.reach.proofs.places.marked64.Statement.{statement}
-use Rattle.reach.proofs.places.marked64.Tie as tie
+use Rattle.reach.proofs.tokens.marked.Statement.{statement}
+use Rattle.reach.proofs.tokens.marked.Tie as tie
 
 abbrev Inv-loop : tie.InvT-loop
 Inv-loop marks count₀ i₀ count i = (i ≤ 64) × (count ≤ i) × (marked marks ≡ count + marked (drop i marks))
@@ -41,8 +41,8 @@ loop-again-2 c = (search needs, search needs, search (needs, count-none))
 returns : tie.Need-returns Inv-loop μ-loop
 returns c = search (needs, count-over)
 
-pub marked64-spec : {M : Type 1} → statement M
-marked64-spec =
+pub marked-spec : {M : Type 1} → statement M
+marked-spec =
     tie.close
     (tie.spec
     Inv-loop
