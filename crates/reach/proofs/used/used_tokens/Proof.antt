@@ -2,7 +2,7 @@
 -- tokens are marked. Assumes nothing.
 use mathlib.Core.Path.{_≡_, refl, _∙_}
 use mathlib.Core.List.{map}
-use Prim.Native.Nat.{_-_, _≤_}
+use Prim.Native.Nat.{_-_, _≤_, _<_}
 use borrow.Author.Needs.{needs}
 use lib.ListN.{length, length-set, take}
 use Rattle.model.specs.Machine.Active.{isActive}
@@ -60,17 +60,19 @@ loop-less c = search needs
 
 loop-again : tie.Need-loop-again Inv-loop μ-loop
 loop-again c =
+    let l = c .before .before .before .before .before .before .loop in
     let begun = c .before .before .before .before .before .before .before in
-    let cells = begun .before .before .before .args .t1 .cells in
-    let long : length cells ≡ 32 = search (needs, mapped-length) in
-    let known =
-    c .active-in .ensures ∙ active-known cells _ _ _ long (begun .before .set-cells .ensures) (begun .parents .ensures) in (
+    let m = begun .before .before .before .args .t1 in
+    let long : length (m .cells) ≡ 32 = search (needs, mapped-length) in
+    let known = active-known (m .cells) _ _ _ long (begun .before .set-cells .ensures) (begun .parents .ensures) in
+    let caller = c .before .before .before .number .ensures in
+    let inside : l .i < 64 = search needs in (
       search needs,
-      search needs,
-      simp length-set (search needs),
-      simp length-set (search needs),
-      search (needs, fill-more),
-      search (needs, fill-more),
+      l .inv .1,
+      simp length-set (l .inv .2),
+      simp length-set (l .inv .3),
+      fill-more callerNumber (m .tokens) _ 64 (l .i) (l .inv .1) (l .inv .2) (l .inv .4) _ _ inside caller,
+      fill-more (isActive (m .cells)) (m .tokens) _ 64 (l .i) (l .inv .1) (l .inv .3) (l .inv .5) _ _ inside (c .active-in .ensures ∙ known),
     )
 
 mark-chosen-requires : tie.Need-mark-chosen-requires Inv-loop μ-loop
