@@ -10,7 +10,7 @@ use Rattle.model.specs.Machine.InUse.{tokensUsed, usedCells, kept, finish}
 use Rattle.model.specs.declared.token.Token.{Token}
 use Rattle.model.specs.declared.cell.Cell.{Cell}
 use Rattle.model.specs.declared.record.Machine.{Machine}
-use Rattle.reach.proofs.Keep.{partly, partly-length, partly-over, keeps, blanks}
+use Rattle.reach.proofs.Keep.{partly, partly-over, keeps, blanks}
 
 abbrev pub withTokens : Machine → List Token → Machine
 withTokens m ts =
@@ -61,12 +61,6 @@ module _ {A : Type 0} (f : Table A) where
   upTo o marks i = f .put o (partly (f .blank) marks (f .got o) i)
 
   module _ (m o : Machine) (marks : List Bool) (size i : ℕ) (long : length (f .got o) ≡ size) (done : m ≡ upTo o marks i) where
-    pub table-length : i ≤ size → length (f .got m) ≡ size
-    table-length h =
-        ap (λ (x : Machine). length (f .got x)) done
-        ∙ ap length (f .got-put o _)
-        ∙ partly-length (f .blank) marks (f .got o) size i long h
-
     pub table-keeps : i < size → not (getD marks i false) ≡ false → m ≡ upTo o marks (i + 1)
     table-keeps h e = done ∙ ap (f .put o) (keeps (f .blank) marks (f .got o) size i long h e)
 

@@ -1,4 +1,5 @@
--- Loops that write a list from the front to the end: what a turn and the end give, whatever is written. Assumes nothing.
+-- Loops that go through a list from the front: what is read at a turn, and what a list that is written holds after a turn and at the end.
+-- Assumes nothing.
 use mathlib.Core.Path.{_≡_, refl, sym, _∙_, ap, ap₂}
 use mathlib.Core.List.{List, [], _∷_, _++_, map}
 use Prim.Native.Nat.{ℕ, zero, suc, _+_, _≤_, _<_}

@@ -7,7 +7,7 @@ use Prim.Native.Nat.{ℕ, zero, suc, _+_, _≤_, _<_}
 use native.Mathlib.Numerals.{add-one}
 use native.Mathlib.Omega.{arith}
 use borrow.Author.Tests.{not-true, not-false}
-use lib.ListN.{length, getD, set, take, drop, length-append, length-drop, drop-of-length-le}
+use lib.ListN.{length, getD, set, take, drop, drop-of-length-le}
 use lib.Seq.{take-suc, take-all, drop-cons, append-snoc, set-at, length-take-le}
 use Rattle.model.specs.Machine.InUse.{kept}
 use Rattle.model.proofs.Test.{clash}
@@ -48,13 +48,6 @@ module _ {A : Type 0} (blank : A) where
   partly marks xs i = take i (kept blank marks xs) ++ drop i xs
 
   module _ (marks : List Bool) (xs : List A) (size i : ℕ) (long : length xs ≡ size) where
-    pub partly-length : i ≤ size → length (partly marks xs i) ≡ size
-    partly-length h =
-        let x = kept-length marks xs in
-        let y = length-take-le i (kept blank marks xs) (omega arith) in
-        let z = length-append (take i (kept blank marks xs)) (drop i xs) in
-        omega (arith, length-drop i xs)
-
     pub partly-over : size ≤ i → partly marks xs i ≡ kept blank marks xs
     partly-over h =
         let x = kept-length marks xs in

@@ -9,10 +9,12 @@ use Rattle.model.specs.declared.token.Place.the-variants as places
 use Rattle.model.specs.declared.token.Token.{Token}
 use Rattle.model.specs.declared.cell.Cell.{Cell}
 
+-- the number of a place
 abbrev pub number : Place → ℕ
 number places.Nowhere = 255
 number (places.At p) = p
 
+-- the links of a cell and of a token
 abbrev pub parentNumber : Cell → ℕ
 parentNumber c = number (c .parent)
 
@@ -23,6 +25,7 @@ callerNumber t = number (t .caller)
 abbrev pub at : ℕ → Place
 at p = places.At p
 
+-- a place by its number, which is 255 for nowhere
 abbrev pub renamed : Place → Place
 renamed q = at (number q)
 
@@ -37,5 +40,6 @@ unfoldable pub climbs : List Bool → List ℕ → ℕ → ℕ → Bool
 climbs set parents zero p = false
 climbs set parents (suc n) p = elim (getD set p false) [ true ↦ true | false ↦ climbs set parents n (getD parents p 255) ]
 
+-- is a token active, by which cells are set and their parents
 unfoldable pub activeIn : List Bool → List ℕ → Token → Bool
 activeIn set parents t = elim (isLive (t .state)) [ true ↦ not (climbs set parents 32 (number (t .cell))) | false ↦ false ]

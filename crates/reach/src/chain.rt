@@ -7,6 +7,7 @@ ghost use Rattle.reach.specs.Link.{at, chosen};
 use crate::link::wide;
 use model::record::Machine;
 
+// Marks the chain from a place, until it ends or comes to a marked place.
 fn mark64(links: &[u8; Machine::TOKENS], start: usize, marks: &mut [bool; Machine::TOKENS])
     requires { ⌜ (length (now links) ≡ 64) × (length (now marks) ≡ 64) ⌝ }
     ensures { λ r. ⌜ now (marks .exit) ≡ markChain at 255 (now (links .entry)) 64 (at start) (now (marks .entry)) ⌝ }
@@ -26,6 +27,7 @@ fn mark64(links: &[u8; Machine::TOKENS], start: usize, marks: &mut [bool; Machin
     }
 }
 
+// The same for cells.
 pub fn mark32(links: &[u8; Machine::CELLS], start: usize, marks: &mut [bool; Machine::CELLS])
     requires { ⌜ (length (now links) ≡ 32) × (length (now marks) ≡ 32) ⌝ }
     ensures { λ r. ⌜ now (marks .exit) ≡ markChain at 255 (now (links .entry)) 32 (at start) (now (marks .entry)) ⌝ }
@@ -45,7 +47,7 @@ pub fn mark32(links: &[u8; Machine::CELLS], start: usize, marks: &mut [bool; Mac
     }
 }
 
-// The chains from the chosen places.
+// Marks the chains from the chosen places.
 pub fn mark_chosen(
     links: &[u8; Machine::TOKENS],
     from: &[bool; Machine::TOKENS],

@@ -42,6 +42,7 @@ fn under_set(set: &[bool; Machine::CELLS], parents: &[u8; Machine::CELLS], start
     false
 }
 
+// Is a token active?
 pub fn active_in(set: &[bool; Machine::CELLS], parents: &[u8; Machine::CELLS], token: Token) -> bool
     requires { ⌜ (length (now set) ≡ 32) × (length (now parents) ≡ 32) ⌝ }
     ensures { λ r. ⌜ r ≡ activeIn (now (set .entry)) (now (parents .entry)) token ⌝ }

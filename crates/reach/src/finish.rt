@@ -13,6 +13,7 @@ use model::token::Slot;
 use model::token::State;
 use model::token::Token;
 
+// A token that holds nothing.
 pub fn blank_token() -> Token
     ensures { λ r. ⌜ r ≡ blankToken ⌝ }
 {
@@ -26,6 +27,7 @@ pub fn blank_token() -> Token
     }
 }
 
+// A cell that holds nothing.
 pub fn blank_cell() -> Cell
     ensures { λ r. ⌜ r ≡ blankCell ⌝ }
 {

@@ -21,6 +21,7 @@ pub fn number(q: Place) -> u8
     }
 }
 
+// A number of eight bits as an index.
 pub fn wide(x: u8) -> usize
     ensures { λ r. ⌜ r ≡ x ⌝ }
 {
@@ -51,6 +52,7 @@ pub fn parents(cells: [Cell; Machine::CELLS]) -> [u8; Machine::CELLS]
     out
 }
 
+// Is there a value?
 pub fn has_value(h: Held) -> bool
     ensures { λ r. ⌜ r ≡ hasValue h ⌝ }
 {
