@@ -1,0 +1,11 @@
+pub mod Fill
+pub mod Walk
+pub mod Ancestors
+pub mod Count
+pub mod Place
+pub mod Renumber
+pub mod Known
+pub mod UsedTokens
+pub mod UsedCells
+pub mod Keep
+pub mod Blanking
