@@ -1,0 +1,5 @@
+-- The laws of this crate; beside them stand the proofs of its functions.
+pub mod Both
+pub mod Array
+pub mod Loop
+pub mod Words

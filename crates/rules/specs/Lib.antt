@@ -1,0 +1,2 @@
+-- What the contracts of this crate's parts cite. Its exported contracts cite crate `model` alone.
+pub mod Words

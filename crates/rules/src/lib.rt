@@ -1,0 +1,3 @@
+// The index rules, tested on any record and any dag words. What they say is in crate `model`.
+pub mod dag;
+pub mod row;
