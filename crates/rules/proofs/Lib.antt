@@ -2,4 +2,5 @@
 pub mod Both
 pub mod Array
 pub mod Loop
+pub mod Ranges
 pub mod Words

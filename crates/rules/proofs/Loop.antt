@@ -1,11 +1,11 @@
 -- Loops that test each element of a list: what the flag says before, during and after them. Assumes nothing.
 use mathlib.Core.Path.{_≡_, refl, sym, _∙_, ap}
 use mathlib.Core.Bool.{Bool, true, false, _&&_}
-use mathlib.Core.List.{List, [], _∷_}
+use mathlib.Core.List.{List, [], _∷_, map}
 use Prim.Native.Nat.{ℕ, zero, suc, _+_, _<_, _≤_}
 use native.Mathlib.Numerals.{add-one}
 use native.Mathlib.Omega.{arith}
-use lib.ListN.{length, getD, take}
+use lib.ListN.{length, getD, take, length-map}
 use lib.Seq.{take-all}
 use Rattle.model.specs.Test.{_and_, all}
 use Rattle.rules.proofs.Both.{both}
@@ -35,3 +35,7 @@ module _ {A : Type 0} (p : A → Bool) where
   pub all-turn : (xs : List A) (i : ℕ) (d : A) {ok b : Bool}
       → i < length xs → ok ≡ all p (take i xs) → b ≡ p (getD xs i d) → (ok && b) ≡ all p (take (i + 1) xs)
   all-turn xs i d l e f = both e f ∙ rw add-one (sym (all-more xs i d l))
+
+-- what owning a struct tells of the length of a field that is an array: the relation stands at `map` over the list
+pub mapped : {A B : Type 0} (f : A → B) (l : List A) (n : ℕ) → length (map f l) ≡ n → length l ≡ n
+mapped f l n p = sym (length-map l f) ∙ p
