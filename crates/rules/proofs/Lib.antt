@@ -2,5 +2,7 @@
 pub mod Both
 pub mod Array
 pub mod Loop
+pub mod Orders
 pub mod Ranges
+pub mod States
 pub mod Words

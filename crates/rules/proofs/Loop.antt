@@ -10,12 +10,12 @@ use lib.Seq.{take-all}
 use Rattle.model.specs.Test.{_and_, all}
 use Rattle.rules.proofs.Both.{both}
 
-and-true : (a : Bool) → (a and true) ≡ a
+pub and-true : (a : Bool) → (a and true) ≡ a
 unfolding _and_
 and-true true = refl
 and-true false = refl
 
-and-assoc : (a b c : Bool) → ((a and b) and c) ≡ (a and b and c)
+pub and-assoc : (a b c : Bool) → ((a and b) and c) ≡ (a and b and c)
 unfolding _and_
 and-assoc true b c = refl
 and-assoc false b c = refl

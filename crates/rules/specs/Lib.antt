@@ -1,2 +1,3 @@
 -- What the contracts of this crate's parts cite. Its exported contracts cite crate `model` alone.
+pub mod Marks
 pub mod Words
