@@ -1,6 +1,7 @@
 -- The laws of this crate; beside them stand the proofs of its functions.
 pub mod Both
 pub mod Array
+pub mod Chains
 pub mod Loop
 pub mod Orders
 pub mod Ranges

@@ -1,4 +1,5 @@
 // The index rules, tested on any record and any dag words. What they say is in crate `model`.
+pub mod chain;
 pub mod dag;
 pub mod marks;
 pub mod order;
