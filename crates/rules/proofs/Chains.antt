@@ -6,10 +6,13 @@ use Prim.Native.Nat.{ℕ, zero, suc, _+_, _-_, _<_, _≤_}
 use native.Mathlib.Omega.{arith}
 use lib.ListN.{length, getD, List·getD-eq-default}
 use Rattle.model.specs.Machine.Blank.{cellAt, blankCell, hasValue, isPlace}
-use Rattle.model.specs.Machine.Active.{isSet, upward, underSet}
-use Rattle.model.specs.Machine.Rules.{chainEnds}
+use Rattle.model.specs.Machine.Active.{isSet, upward, underSet, isLive}
+use Rattle.model.specs.Machine.Rules.{chainEnds, notUnderSet, waitsAtUnset}
 use Rattle.model.specs.declared.token.Place.{Place}
 use Rattle.model.specs.declared.token.Place.the-variants as places
+use Rattle.model.specs.declared.token.State.{State}
+use Rattle.model.specs.declared.token.State.the-variants as states
+use Rattle.model.specs.declared.token.Token.{Token}
 use Rattle.model.specs.declared.cell.Cell.{Cell}
 
 -- within a list the default is never read
@@ -103,3 +106,23 @@ module _ (cs : List Cell) (q : Place) (i : ℕ) (long : length cs ≡ 32) where
 
     pub ends-on : (d : Cell) → c < 32 → chainEnds cs (32 - i) q ≡ chainEnds cs (32 - (i + 1)) (getD cs c d .parent)
     ends-on d l = link ∙ ap (λ (k : Cell). chainEnds cs (32 - (i + 1)) (k .parent)) (sym (cell-read cs c d (omega arith)))
+
+-- a token that is live, and one that is not
+module _ (cs : List Cell) (t : Token) where
+  pub live-under : isLive (t .state) ≡ true → not (underSet cs (t .cell)) ≡ notUnderSet cs t
+  unfolding notUnderSet
+  live-under e = rw (e, notUnderSet)
+
+  pub other-under : isLive (t .state) ≡ false → true ≡ notUnderSet cs t
+  unfolding notUnderSet
+  other-under e = rw (e, notUnderSet)
+
+-- the cell at which a token waits
+module _ (cs : List Cell) (s : State) (c : ℕ) (waits : s ≡ states.Waiting c) (long : length cs ≡ 32) where
+  pub waits-past : 32 ≤ c → true ≡ waitsAtUnset cs s
+  unfolding waitsAtUnset isSet hasValue
+  waits-past l = let blank : cellAt cs c ≡ blankCell = cell-past cs c (omega arith) in rw (waits, blank)
+
+  pub waits-read : (d : Cell) → c < 32 → not (hasValue (getD cs c d .value)) ≡ waitsAtUnset cs s
+  unfolding waitsAtUnset isSet
+  waits-read d l = rw (waits, cell-read cs c d (omega arith))

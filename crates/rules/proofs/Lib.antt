@@ -2,8 +2,10 @@
 pub mod Both
 pub mod Array
 pub mod Chains
+pub mod Gathered
 pub mod Loop
 pub mod Orders
 pub mod Ranges
+pub mod Rest
 pub mod States
 pub mod Words

@@ -5,6 +5,10 @@ ghost use Rattle.model.specs.Test.{all};
 ghost use Rattle.model.specs.Machine.Blank.{cellAt, hasValue};
 ghost use Rattle.model.specs.Machine.Active.{isSet, underSet};
 ghost use Rattle.model.specs.Machine.Rules.{chainEnds, chainsEnd, notUnderSet, waitsAtUnset};
+ghost use Rattle.model.specs.declared.token.Token.{Token};
+use crate::marks::BLANK;
+use crate::marks::FRAME;
+use crate::marks::state_number;
 use model::cell::Cell;
 use model::record::Machine;
 use model::token::Held;
@@ -72,4 +76,83 @@ pub fn chain_ends(cells: [Cell; Machine::CELLS], place: Place) -> bool
         Place::Nowhere => true,
         Place::At(_) => false,
     }
+}
+
+pub fn chains_end(machine: Machine) -> bool
+    ensures { λ r. ⌜ r ≡ chainsEnd (machine .cells) ⌝ }
+{
+    let cells = machine.cells;
+    let mut ok = true;
+    let mut i = 0;
+    while i < Machine::CELLS {
+        let cell = cells[i];
+        let parent = cell.parent;
+        ok = ok & chain_ends(cells, parent);
+        i += 1;
+    }
+    ok
+}
+
+pub fn not_under_set(cells: [Cell; Machine::CELLS], token: Token) -> bool
+    ensures { λ r. ⌜ r ≡ notUnderSet cells token ⌝ }
+{
+    let state = token.state;
+    let number = state_number(state);
+    let live = (BLANK < number) & (number < FRAME);
+    if live {
+        let place = token.cell;
+        return !under_set(cells, place);
+    }
+    true
+}
+
+pub fn waits_at_unset(cells: [Cell; Machine::CELLS], state: State) -> bool
+    ensures { λ r. ⌜ r ≡ waitsAtUnset cells state ⌝ }
+{
+    match state {
+        State::Blank => true,
+        State::Ready => true,
+        State::Waiting(c) => {
+            let at = c as usize;
+            if Machine::CELLS <= at {
+                return true;
+            }
+            let cell = cells[at];
+            let value = cell.value;
+            !has_value(value)
+        }
+        State::Called(_) => true,
+        State::Frame => true,
+    }
+}
+
+// No live token is under a set cell.
+pub fn none_under_set(machine: Machine) -> bool
+    ensures { λ r. ⌜ r ≡ all (notUnderSet (machine .cells)) (machine .tokens) ⌝ }
+{
+    let cells = machine.cells;
+    let mut ok = true;
+    let mut i = 0;
+    while i < Machine::TOKENS {
+        let token = machine.tokens[i];
+        ok = ok & not_under_set(cells, token);
+        i += 1;
+    }
+    ok
+}
+
+// Waiting tokens wait at unset cells.
+pub fn all_wait_at_unset(machine: Machine) -> bool
+    ensures { λ r. ⌜ r ≡ all (λ (t : Token). waitsAtUnset (machine .cells) (t .state)) (machine .tokens) ⌝ }
+{
+    let cells = machine.cells;
+    let mut ok = true;
+    let mut i = 0;
+    while i < Machine::TOKENS {
+        let token = machine.tokens[i];
+        let state = token.state;
+        ok = ok & waits_at_unset(cells, state);
+        i += 1;
+    }
+    ok
 }
