@@ -46,16 +46,16 @@ no-handle states.Frame f = refl
 module _ (ts : List Token) (list : List ℕ) (n i : ℕ) (d : Token) (l : i < length ts) (room : n < length list)
     (so-far : take n list ≡ openHandles (take i ts)) {h k : ℕ}
     (handle : h ≡ handleNumber (getD ts i d .state)) (number : k ≡ stateNumber (getD ts i d .state)) where
-  pub one-more : k ≡ 3 → take (n + 1) (set list n h) ≡ openHandles (take (i + 1) ts)
-  one-more e =
-      rw (add-one n, add-one i)
+  pub one-more : (n′ : ℕ) → k ≡ 3 → n′ ≡ n + 1 → take n′ (set list n h) ≡ openHandles (take (i + 1) ts)
+  one-more n′ e m =
+      rw (m, add-one n, add-one i)
       (take-suc-set list n h room
       ∙ ap₂ (λ (xs ys : List ℕ). xs ++ ys) so-far (ap (λ (x : ℕ). x ∷ []) handle ∙ sym (called-handle (getD ts i d .state) (sym number ∙ e)))
       ∙ sym (handles-more ts i d l))
 
-  pub no-more : (k ≡ 3 → ⊥) → take n (set list n h) ≡ openHandles (take (i + 1) ts)
-  no-more f =
-      rw (add-one i)
+  pub no-more : (n′ : ℕ) → (k ≡ 3 → ⊥) → n′ ≡ n → take n′ (set list n h) ≡ openHandles (take (i + 1) ts)
+  no-more n′ f m =
+      rw (m, add-one i)
       (take-set-le n list n h (omega arith)
       ∙ so-far
       ∙ sym (append-nil (openHandles (take i ts)))

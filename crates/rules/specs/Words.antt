@@ -9,6 +9,8 @@ use Rattle.model.specs.Test.{_and_, all, same, once}
 use Rattle.model.specs.Site.{siteTakes}
 use Rattle.model.specs.Job.Node.{paramKept}
 use Rattle.model.specs.Job.Words.{paramWords, paramsFrom}
+use Rattle.model.specs.Machine.Rules.{notEmpty}
+use Rattle.model.specs.declared.token.Bind.{Bind}
 
 -- words at the places of n parameters, of which so many are in use: those of the parameters that they would be, which are kept
 unfoldable pub paramWordsKept : (n count : ℕ) → List ℕ → Bool
@@ -17,6 +19,10 @@ paramWordsKept n count ws = let ps = paramsFrom count ws in same ws (paramWords 
 -- the two words at one place
 abbrev pub pairKept : Bool → (kind word : ℕ) → Bool
 pairKept named k w = paramWordsKept 1 (once named) (k ∷ w ∷ [])
+
+-- ".. no empty variable", at one place
+abbrev pub pairBound : List Bind → Bool → (kind word : ℕ) → Bool
+pairBound binds named k w = all (notEmpty binds) (paramsFrom (once named) (k ∷ w ∷ []))
 
 -- the number of parameters in use, by the node's kind and third number: only sites and calls have parameters
 unfoldable pub countOf : (kind c : ℕ) → ℕ

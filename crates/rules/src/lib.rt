@@ -4,6 +4,7 @@ pub mod chain;
 pub mod dag;
 pub mod handles;
 pub mod marks;
+pub mod node;
 pub mod order;
 pub mod range;
 pub mod row;

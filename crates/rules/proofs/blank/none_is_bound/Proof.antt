@@ -22,10 +22,11 @@ unfolding all
 loop-holds c = search needs
 
 loop-again : tie.Need-loop-again Inv-loop μ-loop
-loop-again c =
-    (search needs,
-    all-turn (λ (b : Bind). not (isBound (b .slot))) (c .before .before .before .before .args .t1) (c .before .before .before .loop .i) _ (search needs) (c .before .before .before .loop .inv .1)
-    (ap not (c .is-bound .ensures)))
+loop-again c = (
+  search needs,
+  all-turn (λ (b : Bind). not (isBound (b .slot))) (c .before .before .before .before .args .t1) (c .before .before .before .loop .i) _ (search needs) (c .before .before .before .loop .inv .1)
+      (ap not (c .is-bound .ensures)),
+)
 
 returns : tie.Need-returns Inv-loop μ-loop
 returns c = done (all (λ (b : Bind). not (isBound (b .slot)))) (c .before .before .args .t1) (c .before .loop .i) (search needs) (c .before .loop .inv .1)

@@ -26,9 +26,10 @@ loop-again c =
     let start = c .before .before .before .before in
     let cells = start .args .t1 .cells in
     let long : length cells ≡ 32 = search (needs, mapped) in
-    let marks : length (start .args .t2) ≡ 32 = search needs in
-    (search needs,
-    blank-turn cellIsBlank (start .args .t2) cells (c .before .before .before .loop .i) _ (omega arith) (omega arith) (c .before .before .before .loop .inv .1) (c .cell-is-blank .ensures))
+    let marks : length (start .args .t2) ≡ 32 = search needs in (
+      search needs,
+      blank-turn cellIsBlank (start .args .t2) cells (c .before .before .before .loop .i) _ (omega arith) (omega arith) (c .before .before .before .loop .inv .1) (c .cell-is-blank .ensures),
+    )
 
 returns : tie.Need-returns Inv-loop μ-loop
 returns c =

@@ -24,10 +24,11 @@ loop-holds c = search needs
 loop-again : tie.Need-loop-again Inv-loop μ-loop
 loop-again c =
     let machine = c .before .before .before .before .before .args .t1 in
-    let long : length (machine .tokens) ≡ 64 = search (needs, mapped) in
-    (search needs,
-    all-turn (λ (t : Token). waitsAtUnset (machine .cells) (t .state)) (machine .tokens) (c .before .before .before .loop .i) _ (omega arith) (c .before .before .before .loop .inv .1)
-    (c .waits-at-unset .ensures))
+    let long : length (machine .tokens) ≡ 64 = search (needs, mapped) in (
+      search needs,
+      all-turn (λ (t : Token). waitsAtUnset (machine .cells) (t .state)) (machine .tokens) (c .before .before .before .loop .i) _ (omega arith) (c .before .before .before .loop .inv .1)
+          (c .waits-at-unset .ensures),
+    )
 
 returns : tie.Need-returns Inv-loop μ-loop
 returns c =

@@ -24,9 +24,10 @@ loop-holds c = search needs
 loop-again : tie.Need-loop-again Inv-loop μ-loop
 loop-again c =
     let cells = c .before .before .before .before .before .args .machine .cells in
-    let long : length cells ≡ 32 = search (needs, mapped) in
-    (search needs,
-    all-turn (λ (k : Cell). chainEnds cells 32 (k .parent)) cells (c .before .before .before .loop .i) _ (omega arith) (c .before .before .before .loop .inv .1) (c .chain-ends .ensures))
+    let long : length cells ≡ 32 = search (needs, mapped) in (
+      search needs,
+      all-turn (λ (k : Cell). chainEnds cells 32 (k .parent)) cells (c .before .before .before .loop .i) _ (omega arith) (c .before .before .before .loop .inv .1) (c .chain-ends .ensures),
+    )
 
 returns : tie.Need-returns Inv-loop μ-loop
 unfolding chainsEnd

@@ -23,9 +23,10 @@ loop-holds c = search needs
 loop-again : tie.Need-loop-again Inv-loop μ-loop
 loop-again c =
     let machine = c .before .before .before .before .before .args .t1 in
-    let long : length (machine .tokens) ≡ 64 = search (needs, mapped) in
-    (search needs,
-    all-turn (notUnderSet (machine .cells)) (machine .tokens) (c .before .before .before .loop .i) _ (omega arith) (c .before .before .before .loop .inv .1) (c .not-under-set .ensures))
+    let long : length (machine .tokens) ≡ 64 = search (needs, mapped) in (
+      search needs,
+      all-turn (notUnderSet (machine .cells)) (machine .tokens) (c .before .before .before .loop .i) _ (omega arith) (c .before .before .before .loop .inv .1) (c .not-under-set .ensures),
+    )
 
 returns : tie.Need-returns Inv-loop μ-loop
 returns c =

@@ -25,9 +25,10 @@ loop-again : tie.Need-loop-again Inv-loop μ-loop
 loop-again c =
     let start = c .before .before in
     let list = start .args .t1 in
-    let long : length list ≡ 64 = search needs in
-    (search needs,
-    all-turn (λ (h : ℕ). not (eqb h (getD list (start .args .i) 0))) list (c .before .loop .j) 0 (omega arith) (c .before .loop .inv .1) refl)
+    let long : length list ≡ 64 = search needs in (
+      search needs,
+      all-turn (λ (h : ℕ). not (eqb h (getD list (start .args .i) 0))) list (c .before .loop .j) 0 (omega arith) (c .before .loop .inv .1) refl,
+    )
 
 returns : tie.Need-returns Inv-loop μ-loop
 returns c =
