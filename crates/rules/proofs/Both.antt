@@ -1,7 +1,7 @@
 -- The code's `&` and `|` are the definitions' `and` and `or`: they have the same tables. Assumes nothing.
 use mathlib.Core.Path.{_≡_, refl}
 use mathlib.Core.Bool.{Bool, true, false, _&&_, _||_}
-use Prim.Native.Nat.{ℕ, _+_, _≤_}
+use Prim.Native.Nat.{ℕ, zero, suc, _≤_}
 use native.Mathlib.Omega.{arith}
 use Rattle.model.specs.Test.{_and_, _or_}
 
@@ -37,6 +37,12 @@ three p q r = rw (p, q, r) (three-are _ _ _)
 pub four : {a b c d a′ b′ c′ d′ : Bool} → a ≡ a′ → b ≡ b′ → c ≡ c′ → d ≡ d′ → (a && b && c && d) ≡ (a′ and b′ and c′ and d′)
 four p q r s = rw (p, q, r, s) (four-are _ _ _ _)
 
--- a number that is none of the first ones
-pub above : (n k : ℕ) → n ≤ k → (k ≡ n → ⊥) → n + 1 ≤ k
-above n k l f = omega arith
+-- a number that is none of the first n, as a `match` on it tells
+unfoldable pub NoneBelow : ℕ → ℕ → Type 0
+NoneBelow zero k = Unit {0}
+NoneBelow (suc n) k = NoneBelow n k × (k ≡ n → ⊥)
+
+pub none-below : (n k : ℕ) → NoneBelow n k → n ≤ k
+unfolding NoneBelow
+none-below zero k r = omega arith
+none-below (suc n) k r = let l = none-below n k (r .0) in let f = r .1 in omega arith

@@ -4,6 +4,7 @@ pub mod Array
 pub mod Chains
 pub mod Gathered
 pub mod Loop
+pub mod Nodes
 pub mod Orders
 pub mod Ranges
 pub mod Rest

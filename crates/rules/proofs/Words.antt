@@ -234,11 +234,11 @@ unfolding countOf
 count-past k c l = rw List·getD-eq-default
 
 -- a list of n words is the n words that are read from it
-table : {A : Type 0} → ℕ → (ℕ → A) → List A
+unfoldable pub table : {A : Type 0} → ℕ → (ℕ → A) → List A
 table zero f = []
 table (suc n) f = f 0 ∷ table n (λ i. f (suc i))
 
-listed : {A : Type 0} (d : A) (n : ℕ) (xs : List A) → length xs ≡ n → xs ≡ table n (λ i. getD xs i d)
+pub listed : {A : Type 0} (d : A) (n : ℕ) (xs : List A) → length xs ≡ n → xs ≡ table n (λ i. getD xs i d)
 unfolding table
 listed d zero [] e = refl
 listed d zero (x ∷ xs) e = absurd (omega arith)

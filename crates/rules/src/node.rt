@@ -19,7 +19,6 @@ use crate::chain::has_value;
 use crate::marks::BLANK;
 use crate::marks::READY;
 use crate::marks::state_number;
-use crate::row::count_of;
 use model::record::Machine;
 use model::token::Bind;
 use model::token::Place;
@@ -93,10 +92,13 @@ pub fn node_rule(token: Token, frame: bool, row: &[u32]) -> bool
     let cell = token.cell;
     let valued = value_if_ready(token);
     match kind {
+        0 => true,
         1 => params_are_bound(binds, row, row[3]),
         2 => params_are_bound(binds, row, row[3]),
+        3 => true,
         4 => valued,
         5 => valued,
+        6 => true,
         7 => is_place(cell) & valued,
         8 => frame & valued,
         9 => valued,

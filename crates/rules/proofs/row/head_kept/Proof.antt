@@ -1,8 +1,7 @@
 -- `row::head_kept` meets its contract, kind by kind. Assumes nothing.
 use mathlib.Core.Path.{sym}
-use Prim.Native.Nat.{zero-le}
 use Rattle.rules.specs.Words.{headKept}
-use Rattle.rules.proofs.Both.{both-is, three-are, above}
+use Rattle.rules.proofs.Both.{both-is, three-are, NoneBelow, none-below}
 use Rattle.rules.proofs.Words.{head-past}
 use borrow.Author.Needs.{needs}
 use Rattle.rules.proofs.row.head_kept.Statement.{statement}
@@ -49,13 +48,8 @@ unfolding headKept
 returns-10 c = rw (c .match .keys10) (three-are _ _ _)
 
 returns-11 : tie.Need-returns-11
-returns-11 c =
-    let last = c .match .rest in
-    let fifth = last .0 .0 .0 .0 .0 in
-    let first = above 1 _ (above 0 _ zero-le (fifth .0 .0 .0 .0 .1)) (fifth .0 .0 .0 .1) in
-    let middle = above 4 _ (above 3 _ (above 2 _ first (fifth .0 .0 .1)) (fifth .0 .1)) (fifth .1) in
-    let past = above 7 _ (above 6 _ (above 5 _ middle (last .0 .0 .0 .0 .1)) (last .0 .0 .0 .1)) (last .0 .0 .1) in
-    sym (head-past _ _ _ _ _ _ (above 9 _ (above 8 _ past (last .0 .1)) (last .1)))
+unfolding NoneBelow
+returns-11 c = sym (head-past _ _ _ _ _ _ (none-below 10 _ (c .match .rest)))
 
 pub head-kept-spec : {M : Type 1} → statement M
 head-kept-spec =
