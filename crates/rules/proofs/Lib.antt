@@ -7,6 +7,7 @@ pub mod Loop
 pub mod Nodes
 pub mod Orders
 pub mod Ranges
+pub mod Record
 pub mod Rest
 pub mod States
 pub mod Words

@@ -8,3 +8,4 @@ pub mod node;
 pub mod order;
 pub mod range;
 pub mod row;
+pub mod rules;

@@ -7,6 +7,7 @@ ghost use Rattle.model.specs.Job.Node.{Dag};
 ghost use Rattle.model.specs.Machine.Limits.{paper};
 ghost use Rattle.model.specs.Machine.Rules.{heldInRange, placeInRange, slotInRange, stateInRange, tokenInRange, cellInRange, sizesInRange};
 ghost use Rattle.model.specs.declared.token.Bind.{Bind};
+ghost use Rattle.rules.specs.Ranges.{inRange};
 use model::cell::Cell;
 use model::record::Machine;
 use model::token::Bind;
@@ -137,4 +138,11 @@ pub fn sizes_in_range(machine: Machine) -> bool
     let newtoken = machine.newtoken as usize;
     let newcell = machine.newcell as usize;
     (machine.calls <= 1000000) & (newtoken < Machine::TOKENS) & (newcell < Machine::CELLS)
+}
+
+// All of these; the rules that follow may rely on them.
+pub fn in_range(machine: Machine, nodes: u32) -> bool
+    ensures { λ r. ⌜ ((d : Dag) → length (d .nodes) ≡ nodes → r ≡ inRange d machine) ⌝ }
+{
+    sizes_in_range(machine) & tokens_in_range(machine, nodes) & cells_in_range(machine)
 }
