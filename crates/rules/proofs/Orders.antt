@@ -1,0 +1,127 @@
+-- An order's rules from counts: how often each place stands in it, counted in one pass. Assumes nothing.
+use mathlib.Core.Path.{_≡_, refl, sym, _∙_, ap, ap₂, subst}
+use mathlib.Core.Bool.{Bool, true, false, _&&_}
+use mathlib.Core.List.{List, [], _∷_, map}
+use Prim.Native.Nat.{ℕ, zero, suc, _+_, _-_, _<_, _≤_}
+use native.Mathlib.Decide.{ℕ-discrete}
+use native.Mathlib.Nat.{add-assoc, add-zero, zero-add}
+use native.Mathlib.Numerals.{add-one}
+use native.Mathlib.Omega.{arith}
+use lib.ListN.{length, getD, take, drop, set, length-drop}
+use lib.Seq.{getD-set-same, getD-set-other, getD-drop, length-take-le, getD-take}
+use lib.Dec.{ltb, leb, eqb}
+use Rattle.model.specs.Test.{_and_, all, allFrom, count, once}
+use Rattle.model.specs.Machine.Rules.{namesOnce}
+use Rattle.model.specs.declared.token.State.{State}
+use Rattle.model.specs.declared.token.Token.{Token}
+use Rattle.model.proofs.Test.{all-at, ltb-lt, eq-eqb, ne-eqb, le-leb, lt-not-leb}
+use Rattle.rules.specs.Marks.{marked}
+use Rattle.rules.proofs.Both.{both}
+use Rattle.rules.proofs.Loop.{all-turn, and-true, and-assoc}
+
+-- counts
+pub count-most : (p : ℕ) (xs : List ℕ) → count p xs ≤ length xs
+unfolding count
+count-most p [] = omega arith
+count-most p (x ∷ xs) = go (eqb p x) (count-most p xs)
+  where
+    go : (b : Bool) → count p xs ≤ length xs → once b + count p xs ≤ suc (length xs)
+    go true l = omega arith
+    go false l = omega arith
+
+count-more : (p : ℕ) (xs : List ℕ) (i : ℕ) → i < length xs → count p (take (suc i) xs) ≡ count p (take i xs) + once (eqb p (getD xs i 0))
+unfolding count
+count-more p [] i l = absurd (omega arith)
+count-more p (x ∷ xs) zero l = omega arith
+count-more p (x ∷ xs) (suc i) l = let e = count-more p xs i (omega arith) in omega arith
+
+-- an order in range names places below 64
+pub named-below : (array : List ℕ) (n i : ℕ) → length array ≡ 64 → n ≤ 64 → i < n
+    → all (λ (p : ℕ). ltb p 64) (take n array) ≡ true → getD array i 0 < 64
+named-below array n i e m l h =
+    let long : length (take n array) ≡ n = length-take-le n array (omega arith) in
+    subst (λ (p : ℕ). p < 64) (getD-take n array i 0 l)
+    (ltb-lt (getD (take n array) i 0) 64 (all-at (λ (p : ℕ). ltb p 64) (take n array) i 0 h (omega arith)))
+
+module _ (array counts : List ℕ) (i : ℕ) (long : length counts ≡ 64) (l : i < length array)
+    (so-far : (p : ℕ) → p < 64 → getD counts p 0 ≡ count p (take i array)) where
+  pub count-small : (p : ℕ) → p < 64 → getD counts p 0 ≤ i
+  count-small p b =
+      let e = so-far p b in
+      let m = count-most p (take i array) in
+      let t : length (take i array) ≡ i = length-take-le i array (omega arith) in
+      omega arith
+
+  pub count-turn : (q : ℕ) → q < 64 → getD array i 0 ≡ q → (p : ℕ) → p < 64
+      → getD (set counts q (getD counts q 0 + 1)) p 0 ≡ count p (take (i + 1) array)
+  count-turn q b e p m = go (ℕ-discrete p q)
+    where
+      more : count p (take (i + 1) array) ≡ count p (take i array) + once (eqb p q)
+      more = rw (add-one, sym e) (count-more p array i l)
+
+      go : Dec (p ≡ q) → getD (set counts q (getD counts q 0 + 1)) p 0 ≡ count p (take (i + 1) array)
+      go (yes f) =
+          ap (λ k. getD (set counts q (getD counts q 0 + 1)) k 0) f
+          ∙ getD-set-same counts q (getD counts q 0 + 1) 0 (omega arith)
+          ∙ ap (λ k. getD counts k 0 + 1) (sym f)
+          ∙ ap (λ k. k + 1) (so-far p m)
+          ∙ sym (more ∙ rw (eq-eqb p q f))
+      go (no f) =
+          getD-set-other counts q p _ 0 f ∙ so-far p m
+          ∙ sym (more ∙ rw (ne-eqb p q f) (add-zero _))
+
+-- a test of each element with its index
+module _ {A : Type 0} (t : ℕ → A → Bool) where
+  from-more : (j : ℕ) (xs : List A) (i : ℕ) (d : A) → i < length xs
+      → allFrom t j (take (suc i) xs) ≡ (allFrom t j (take i xs) and t (j + i) (getD xs i d))
+  unfolding allFrom _and_
+  from-more j [] i d l = absurd (omega arith)
+  from-more j (x ∷ xs) zero d l = and-true (t j x) ∙ ap (λ k. t k x) (sym (add-zero j))
+  from-more j (x ∷ xs) (suc i) d l =
+      let e : suc j + i ≡ j + suc i = omega arith in
+      ap (_and_ (t j x)) (from-more (suc j) xs i d (omega arith) ∙ ap (λ k. allFrom t (suc j) (take i xs) and t k (getD xs i d)) e)
+      ∙ sym (and-assoc (t j x) _ _)
+
+  pub from-turn : (xs : List A) (i : ℕ) (d : A) {ok b : Bool}
+      → i < length xs → ok ≡ allFrom t 0 (take i xs) → b ≡ t i (getD xs i d) → (ok && b) ≡ allFrom t 0 (take (i + 1) xs)
+  from-turn xs i d l e f = both e f ∙ rw add-one (sym (from-more 0 xs i d l ∙ ap (λ k. allFrom t 0 (take i xs) and t k (getD xs i d)) (zero-add i)))
+
+-- the rest behind the order
+pub rest-none : (array : List ℕ) (n : ℕ) → true ≡ all (eqb 0) (take (n - n) (drop n array))
+unfolding all
+rest-none array n = let e : n - n ≡ 0 = omega arith in rw e
+
+pub rest-turn : (array : List ℕ) (n i : ℕ) {ok b : Bool} → n ≤ i → i < length array
+    → ok ≡ all (eqb 0) (take (i - n) (drop n array)) → b ≡ eqb 0 (getD array i 0) → (ok && b) ≡ all (eqb 0) (take (i + 1 - n) (drop n array))
+rest-turn array n i m l e f =
+    let g : n + (i - n) ≡ i = omega arith in
+    let h : i + 1 - n ≡ i - n + 1 = omega arith in
+    let k : i - n < length (drop n array) = simp length-drop (omega arith) in
+    rw h (all-turn (eqb 0) (drop n array) (i - n) 0 k e (f ∙ ap (eqb 0) (sym (getD-drop n array (i - n) 0 ∙ ap (λ j. getD array j 0) g))))
+
+-- the whole order: within its array, in range, and by its counts
+module _ (of : State → Bool) (ts : List Token) (array : List ℕ) (n : ℕ) (tokens : length ts ≡ 64) (long : length array ≡ 64) where
+  pub order-long : 64 < n → false ≡ namesOnce of ts array n
+  unfolding namesOnce _and_
+  order-long l = rw (tokens, long, lt-not-leb n 64 l)
+
+  pub order-wild : n ≤ 64 → all (λ (p : ℕ). ltb p 64) (take n array) ≡ false → false ≡ namesOnce of ts array n
+  unfolding namesOnce _and_
+  order-wild l e = rw (tokens, long, le-leb n 64 l, e)
+
+  agree : (counts : ℕ → ℕ) (j : ℕ) (us : List Token) → ((p : ℕ) → j ≤ p → p < j + length us → counts p ≡ count p (take n array))
+      → allFrom (λ p (w : Bool). eqb (counts p) (once w)) j (marked of us)
+      ≡ allFrom (λ p (t : Token). eqb (count p (take n array)) (once (of (t .state)))) j us
+  unfolding allFrom
+  agree counts j [] h = refl
+  agree counts j (t ∷ us) h =
+      ap₂ (λ k b. eqb k (once (of (t .state))) and b) (h j (omega arith) (omega arith))
+      (agree counts (suc j) us (λ p l m. h p (omega arith) (omega arith)))
+
+  pub order-counted : (counts : List ℕ) → n ≤ 64 → all (λ (p : ℕ). ltb p 64) (take n array) ≡ true
+      → ((p : ℕ) → p < 64 → getD counts p 0 ≡ count p (take n array))
+      → (allFrom (λ p (w : Bool). eqb (getD counts p 0) (once w)) 0 (marked of ts) and all (eqb 0) (drop n array)) ≡ namesOnce of ts array n
+  unfolding namesOnce _and_
+  order-counted counts l e h =
+      rw (tokens, long, le-leb n 64 l, e)
+      (ap (λ b. b and all (eqb 0) (drop n array)) (agree (λ p. getD counts p 0) 0 ts (λ p z m. h p (omega arith))))

@@ -1,0 +1,27 @@
+-- `blank::token_is_blank` meets its contract. Assumes nothing.
+use mathlib.Core.Path.{refl, _∙_, ap}
+use mathlib.Core.Bool.{not}
+use lib.Dec.{eqb}
+use Rattle.model.specs.Machine.Blank.{tokenIsBlank}
+use Rattle.rules.proofs.Both.{three, four}
+use Rattle.rules.proofs.States.{blank-is}
+use borrow.Author.Needs.{needs}
+use Rattle.rules.proofs.blank.token_is_blank.Statement.{statement}
+use Rattle.rules.proofs.blank.token_is_blank.Tie as tie
+
+returns : tie.Need-returns
+unfolding tokenIsBlank
+returns c =
+    four (ap (λ n. eqb n 0) (c .before .before .before .before .before .state-number .ensures) ∙ blank-is _) refl (c .none-is-bound .ensures)
+    (three (ap not (c .before .before .before .before .has-value .ensures)) (ap not (c .before .before .before .is-place .ensures)) (ap not (c .before .before .is-place2 .ensures)))
+
+pub token-is-blank-spec : {M : Type 1} → statement M
+token-is-blank-spec =
+    tie.close
+    (tie.spec
+    (λ c κs. search needs)
+    (λ c κs. search needs)
+    (λ c κs. search needs)
+    (λ c κs. search needs)
+    (λ c κs. search needs)
+    returns)

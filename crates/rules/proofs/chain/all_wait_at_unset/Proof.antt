@@ -1,0 +1,52 @@
+-- `chain::all_wait_at_unset` meets its contract: after i turns the flag says whether none of the first i tokens waits at a set cell. Assumes nothing.
+use mathlib.Core.Path.{_≡_, refl}
+use Prim.Native.Nat.{_-_, _≤_}
+use native.Mathlib.Omega.{arith}
+use lib.ListN.{length, take}
+use Rattle.model.specs.Test.{all}
+use Rattle.model.specs.Machine.Rules.{waitsAtUnset}
+use Rattle.model.specs.declared.token.Token.{Token}
+use Rattle.rules.proofs.Loop.{all-turn, done, mapped}
+use borrow.Author.Needs.{needs}
+use Rattle.rules.proofs.chain.all_wait_at_unset.Statement.{statement}
+use Rattle.rules.proofs.chain.all_wait_at_unset.Tie as tie
+
+abbrev Inv-loop : tie.InvT-loop
+Inv-loop machine cells ok₀ i₀ ok i = (i ≤ 64) × (ok ≡ all (λ (t : Token). waitsAtUnset (machine .cells) (t .state)) (take i (machine .tokens)))
+
+abbrev μ-loop : tie.MeasureT-loop
+μ-loop machine cells ok₀ i₀ ok i = 64 - i
+
+loop-holds : tie.Need-loop-holds Inv-loop μ-loop
+unfolding all
+loop-holds c = search needs
+
+loop-again : tie.Need-loop-again Inv-loop μ-loop
+loop-again c =
+    let machine = c .before .before .before .before .before .args .t1 in
+    let long : length (machine .tokens) ≡ 64 = search (needs, mapped) in (
+      search needs,
+      all-turn (λ (t : Token). waitsAtUnset (machine .cells) (t .state)) (machine .tokens) (c .before .before .before .loop .i) _ (omega arith) (c .before .before .before .loop .inv .1)
+          (c .waits-at-unset .ensures),
+    )
+
+returns : tie.Need-returns Inv-loop μ-loop
+returns c =
+    let machine = c .before .before .before .args .t1 in
+    let long : length (machine .tokens) ≡ 64 = search (needs, mapped) in
+    done (all (λ (t : Token). waitsAtUnset (machine .cells) (t .state))) (machine .tokens) (c .before .loop .i) (omega arith) (c .before .loop .inv .1)
+
+pub all-wait-at-unset-spec : {M : Type 1} → statement M
+all-wait-at-unset-spec =
+    tie.close
+    (tie.spec
+    Inv-loop
+    μ-loop
+    loop-holds
+    (λ c. search needs)
+    (λ c. search needs)
+    (λ c κs. search needs)
+    (λ c. search needs)
+    (λ c. search needs)
+    loop-again
+    returns)

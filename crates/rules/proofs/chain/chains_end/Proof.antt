@@ -1,0 +1,52 @@
+-- `chain::chains_end` meets its contract: after i turns the flag says whether the chains of the first i cells end. Assumes nothing.
+use mathlib.Core.Path.{_≡_, refl, ap, _∙_}
+use Prim.Native.Nat.{_-_, _≤_}
+use native.Mathlib.Omega.{arith}
+use lib.ListN.{length, take}
+use Rattle.model.specs.Test.{all}
+use Rattle.model.specs.Machine.Rules.{chainEnds, chainsEnd}
+use Rattle.model.specs.declared.cell.Cell.{Cell}
+use Rattle.rules.proofs.Loop.{all-turn, done, mapped}
+use borrow.Author.Needs.{needs}
+use Rattle.rules.proofs.chain.chains_end.Statement.{statement}
+use Rattle.rules.proofs.chain.chains_end.Tie as tie
+
+abbrev Inv-loop : tie.InvT-loop
+Inv-loop cells ok₀ i₀ ok i = (i ≤ 32) × (ok ≡ all (λ (k : Cell). chainEnds cells 32 (k .parent)) (take i cells))
+
+abbrev μ-loop : tie.MeasureT-loop
+μ-loop cells ok₀ i₀ ok i = 32 - i
+
+loop-holds : tie.Need-loop-holds Inv-loop μ-loop
+unfolding all
+loop-holds c = search needs
+
+loop-again : tie.Need-loop-again Inv-loop μ-loop
+loop-again c =
+    let cells = c .before .before .before .before .before .args .machine .cells in
+    let long : length cells ≡ 32 = search (needs, mapped) in (
+      search needs,
+      all-turn (λ (k : Cell). chainEnds cells 32 (k .parent)) cells (c .before .before .before .loop .i) _ (omega arith) (c .before .before .before .loop .inv .1) (c .chain-ends .ensures),
+    )
+
+returns : tie.Need-returns Inv-loop μ-loop
+unfolding chainsEnd
+returns c =
+    let cells = c .before .before .before .args .machine .cells in
+    let long : length cells ≡ 32 = search (needs, mapped) in
+    rw long (done (all (λ (k : Cell). chainEnds cells 32 (k .parent))) cells (c .before .loop .i) (omega arith) (c .before .loop .inv .1))
+
+pub chains-end-spec : {M : Type 1} → statement M
+chains-end-spec =
+    tie.close
+    (tie.spec
+    Inv-loop
+    μ-loop
+    loop-holds
+    (λ c. search needs)
+    (λ c. search needs)
+    (λ c κs. search needs)
+    (λ c. search needs)
+    (λ c. search needs)
+    loop-again
+    returns)

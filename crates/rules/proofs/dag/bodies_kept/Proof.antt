@@ -1,0 +1,62 @@
+-- `dag::bodies_kept` meets its contract: after i turns the flag says whether the first i bodies are kept. Assumes nothing.
+use mathlib.Core.Path.{_≡_, sym, _∙_}
+use Prim.Native.Nat.{_-_, _≤_, _<_}
+use native.Mathlib.Omega.{arith}
+use lib.ListN.{take, getD}
+use Rattle.model.specs.Test.{all}
+use Rattle.model.specs.Job.Node.{Body, bodyKept}
+use Rattle.model.specs.Job.Words.{dagOf}
+use Rattle.rules.proofs.Array.{bodies-length, body-kept-at}
+use Rattle.rules.proofs.Both.{both-is}
+use Rattle.rules.proofs.Loop.{all-turn, done}
+use borrow.Author.Needs.{needs}
+use Rattle.rules.proofs.dag.bodies_kept.Statement.{statement}
+use Rattle.rules.proofs.dag.bodies_kept.Tie as tie
+
+abbrev Inv-loop : tie.InvT-loop
+Inv-loop dag nodes bodies ok₀ i₀ ok i = (i ≤ bodies) × (ok ≡ all (bodyKept (dagOf dag)) (take i (dagOf dag .bodies)))
+
+abbrev μ-loop : tie.MeasureT-loop
+μ-loop dag nodes bodies ok₀ i₀ ok i = bodies - i
+
+loop-holds : tie.Need-loop-holds Inv-loop μ-loop
+unfolding all
+loop-holds c = search needs
+
+loop-again : tie.Need-loop-again Inv-loop μ-loop
+loop-again c =
+    let dag = c .before .before .before .before .before .before .args .dag .now in
+    let i = c .before .before .before .loop .i in
+    let inside : i < getD dag 1 0 = search needs in
+    let none : Body = record { root = 0; formals = 0 } in (
+      search needs,
+      all-turn (bodyKept (dagOf dag)) (dagOf dag .bodies) i none (omega (arith, bodies-length dag)) (c .before .before .before .loop .inv .1)
+          (both-is _ _ ∙ sym (body-kept-at dag i none inside)),
+    )
+
+returns : tie.Need-returns Inv-loop μ-loop
+returns c =
+    let dag = c .before .before .before .before .args .dag .now in
+    done (all (bodyKept (dagOf dag))) (dagOf dag .bodies) (c .before .loop .i) (omega (arith, bodies-length dag)) (c .before .loop .inv .1)
+
+pub bodies-kept-spec : {M : Type 1} → statement M
+bodies-kept-spec =
+    tie.close
+    (tie.spec
+    Inv-loop
+    μ-loop
+    (λ c. search needs)
+    (λ c. search needs)
+    (λ c. search needs)
+    loop-holds
+    (λ c. search needs)
+    (λ c. search needs)
+    (λ c. search needs)
+    (λ c. search needs)
+    (λ c. search needs)
+    (λ c. search needs)
+    (λ c. search needs)
+    (λ c. search needs)
+    (λ c. search needs)
+    loop-again
+    returns)

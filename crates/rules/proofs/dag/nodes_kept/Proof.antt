@@ -1,0 +1,65 @@
+-- `dag::nodes_kept` meets its contract: after i turns the flag says whether the first i nodes are kept. Assumes nothing.
+use mathlib.Core.Path.{_≡_, sym, _∙_, ap}
+use Prim.Native.Nat.{_+_, _-_, _*_, _≤_, _<_}
+use native.Mathlib.Omega.{arith}
+use lib.ListN.{take, getD}
+use Rattle.model.specs.Test.{all}
+use Rattle.model.specs.Job.Node.{Node, nodeKept}
+use Rattle.model.specs.Job.Words.{dagOf}
+use Rattle.rules.specs.Words.{rowKept}
+use Rattle.rules.proofs.Array.{nodes-length, node-kept-at, row-part}
+use Rattle.rules.proofs.Loop.{all-turn, done}
+use borrow.Author.Needs.{needs}
+use Rattle.rules.proofs.dag.nodes_kept.Statement.{statement}
+use Rattle.rules.proofs.dag.nodes_kept.Tie as tie
+
+abbrev Inv-loop : tie.InvT-loop
+Inv-loop dag nodes bodies count ok₀ i₀ ok i = (i ≤ count) × (ok ≡ all (nodeKept (dagOf dag)) (take i (dagOf dag .nodes)))
+
+abbrev μ-loop : tie.MeasureT-loop
+μ-loop dag nodes bodies count ok₀ i₀ ok i = count - i
+
+loop-holds : tie.Need-loop-holds Inv-loop μ-loop
+unfolding all
+loop-holds c = search needs
+
+loop-again : tie.Need-loop-again Inv-loop μ-loop
+loop-again c =
+    let start = c .before .before .before .before .before .before .before in
+    let dag = start .args .dag .now in
+    let i = c .before .before .before .loop .i in
+    let inside : i < getD dag 0 0 = search needs in (
+      search needs,
+      all-turn (nodeKept (dagOf dag)) (dagOf dag .nodes) i Node.unknown (omega (arith, nodes-length dag)) (c .before .before .before .loop .inv .1)
+          (c .row-kept .ensures
+          ∙ ap (rowKept (getD dag 0 0) (getD dag 1 0)) (row-part (67 + 12 * i) dag)
+          ∙ sym (node-kept-at dag (start .pre .0) (start .pre .1) i inside)),
+    )
+
+returns : tie.Need-returns Inv-loop μ-loop
+returns c =
+    let dag = c .before .before .before .before .before .args .dag .now in
+    done (all (nodeKept (dagOf dag))) (dagOf dag .nodes) (c .before .loop .i) (omega (arith, nodes-length dag)) (c .before .loop .inv .1)
+
+pub nodes-kept-spec : {M : Type 1} → statement M
+nodes-kept-spec =
+    tie.close
+    (tie.spec
+    Inv-loop
+    μ-loop
+    (λ c. search needs)
+    (λ c. search needs)
+    (λ c. search needs)
+    loop-holds
+    (λ c. search needs)
+    (λ c. search needs)
+    (λ c. search needs)
+    (λ c. search needs)
+    (λ c. search needs)
+    (λ c. search needs)
+    (λ c. search needs)
+    (λ c κs. search needs)
+    (λ c. search needs)
+    (λ c. search needs)
+    loop-again
+    returns)

@@ -1,0 +1,30 @@
+-- `dag::words_kept` meets its contract: each answer is that of the rule which decides. Assumes nothing.
+use mathlib.Core.Path.{refl, sym, _∙_}
+use Rattle.rules.proofs.Array.{many-nodes, many-bodies, kept-by-parts}
+use Rattle.rules.proofs.Both.{three}
+use borrow.Author.Needs.{needs}
+use Rattle.rules.proofs.dag.words_kept.Statement.{statement}
+use Rattle.rules.proofs.dag.words_kept.Tie as tie
+
+returns : tie.Need-returns
+returns c = search (needs, many-nodes)
+
+returns-2 : tie.Need-returns-2
+returns-2 c = search (needs, many-bodies)
+
+returns-3 : tie.Need-returns-3
+returns-3 c = three refl (c .before .bodies-kept .ensures) (c .nodes-kept .ensures) ∙ sym (kept-by-parts _ (search needs) (search needs))
+
+pub words-kept-spec : {M : Type 1} → statement M
+words-kept-spec =
+    tie.close
+    (tie.spec
+    (λ c. search needs)
+    returns
+    (λ c. search needs)
+    returns-2
+    (λ c. search needs)
+    (λ c. search needs)
+    (λ c κs. search needs)
+    (λ c κs. search needs)
+    returns-3)

@@ -1,0 +1,31 @@
+-- `node::params_are_bound` meets its contract, pair by pair. Assumes nothing.
+use mathlib.Core.Path.{sym, _∙_}
+use Rattle.rules.proofs.Both.{four}
+use Rattle.rules.proofs.Nodes.{params-bound}
+use borrow.Author.Needs.{needs}
+use Rattle.rules.proofs.node.params_are_bound.Statement.{statement}
+use Rattle.rules.proofs.node.params_are_bound.Tie as tie
+
+returns : tie.Need-returns
+returns c =
+    let start = c .before .before .before .before .before .before .before .before .before .before .before .before .before in
+    four (c .before .before .before .before .before .before .before .before .before .pair-is-bound .ensures) (c .before .before .before .before .before .before .pair-is-bound2 .ensures) (c .before .before .before .pair-is-bound3 .ensures) (c .pair-is-bound4 .ensures)
+    ∙ sym (params-bound (start .args .binds) (start .args .row .now) (start .pre) (start .args .count))
+
+pub params-are-bound-spec : {M : Type 1} → statement M
+params-are-bound-spec =
+    tie.close
+    (tie.spec
+    (λ c. search needs)
+    (λ c. search needs)
+    (λ c κs. search needs)
+    (λ c. search needs)
+    (λ c. search needs)
+    (λ c κs. search needs)
+    (λ c. search needs)
+    (λ c. search needs)
+    (λ c κs. search needs)
+    (λ c. search needs)
+    (λ c. search needs)
+    (λ c κs. search needs)
+    returns)

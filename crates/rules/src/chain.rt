@@ -1,0 +1,158 @@
+// Chains of cells: "each parent chain ends"; "no ready, waiting or called-out token is under a set cell"; waits at an unset cell.
+ghost use mathlib.Core.Path.{_≡_};
+ghost use lib.ListN.{length};
+ghost use Rattle.model.specs.Test.{all};
+ghost use Rattle.model.specs.Machine.Blank.{cellAt, hasValue};
+ghost use Rattle.model.specs.Machine.Active.{isSet, underSet};
+ghost use Rattle.model.specs.Machine.Rules.{chainEnds, chainsEnd, notUnderSet, waitsAtUnset};
+ghost use Rattle.model.specs.declared.token.Token.{Token};
+use crate::marks::BLANK;
+use crate::marks::FRAME;
+use crate::marks::state_number;
+use model::cell::Cell;
+use model::record::Machine;
+use model::token::Held;
+use model::token::Place;
+use model::token::State;
+use model::token::Token;
+
+pub fn has_value(held: Held) -> bool
+    ensures { λ r. ⌜ r ≡ hasValue held ⌝ }
+{
+    match held {
+        Held::Nothing => false,
+        Held::Value(_) => true,
+    }
+}
+
+// Is the cell at a place set, or one of its ancestors?
+pub fn under_set(cells: [Cell; Machine::CELLS], place: Place) -> bool
+    ensures { λ r. ⌜ r ≡ underSet cells place ⌝ }
+{
+    let mut here = place;
+    let mut i = 0;
+    while i < Machine::CELLS {
+        let at = match here {
+            Place::Nowhere => {
+                return false;
+            }
+            Place::At(c) => c as usize,
+        };
+        if Machine::CELLS <= at {
+            return false;
+        }
+        let cell = cells[at];
+        let value = cell.value;
+        if has_value(value) {
+            return true;
+        }
+        here = cell.parent;
+        i += 1;
+    }
+    false
+}
+
+// Does the chain from a place end, within as many links as there are cells?
+pub fn chain_ends(cells: [Cell; Machine::CELLS], place: Place) -> bool
+    ensures { λ r. ⌜ r ≡ chainEnds cells 32 place ⌝ }
+{
+    let mut here = place;
+    let mut i = 0;
+    while i < Machine::CELLS {
+        let at = match here {
+            Place::Nowhere => {
+                return true;
+            }
+            Place::At(c) => c as usize,
+        };
+        if Machine::CELLS <= at {
+            return true;
+        }
+        let cell = cells[at];
+        here = cell.parent;
+        i += 1;
+    }
+    match here {
+        Place::Nowhere => true,
+        Place::At(_) => false,
+    }
+}
+
+pub fn chains_end(machine: Machine) -> bool
+    ensures { λ r. ⌜ r ≡ chainsEnd (machine .cells) ⌝ }
+{
+    let cells = machine.cells;
+    let mut ok = true;
+    let mut i = 0;
+    while i < Machine::CELLS {
+        let cell = cells[i];
+        let parent = cell.parent;
+        ok = ok & chain_ends(cells, parent);
+        i += 1;
+    }
+    ok
+}
+
+pub fn not_under_set(cells: [Cell; Machine::CELLS], token: Token) -> bool
+    ensures { λ r. ⌜ r ≡ notUnderSet cells token ⌝ }
+{
+    let state = token.state;
+    let number = state_number(state);
+    let live = (BLANK < number) & (number < FRAME);
+    if live {
+        let place = token.cell;
+        return !under_set(cells, place);
+    }
+    true
+}
+
+pub fn waits_at_unset(cells: [Cell; Machine::CELLS], state: State) -> bool
+    ensures { λ r. ⌜ r ≡ waitsAtUnset cells state ⌝ }
+{
+    match state {
+        State::Blank => true,
+        State::Ready => true,
+        State::Waiting(c) => {
+            let at = c as usize;
+            if Machine::CELLS <= at {
+                return true;
+            }
+            let cell = cells[at];
+            let value = cell.value;
+            !has_value(value)
+        }
+        State::Called(_) => true,
+        State::Frame => true,
+    }
+}
+
+// No live token is under a set cell.
+pub fn none_under_set(machine: Machine) -> bool
+    ensures { λ r. ⌜ r ≡ all (notUnderSet (machine .cells)) (machine .tokens) ⌝ }
+{
+    let cells = machine.cells;
+    let mut ok = true;
+    let mut i = 0;
+    while i < Machine::TOKENS {
+        let token = machine.tokens[i];
+        ok = ok & not_under_set(cells, token);
+        i += 1;
+    }
+    ok
+}
+
+// Waiting tokens wait at unset cells.
+pub fn all_wait_at_unset(machine: Machine) -> bool
+    ensures { λ r. ⌜ r ≡ all (λ (t : Token). waitsAtUnset (machine .cells) (t .state)) (machine .tokens) ⌝ }
+{
+    let cells = machine.cells;
+    let mut ok = true;
+    let mut i = 0;
+    while i < Machine::TOKENS {
+        let token = machine.tokens[i];
+        let state = token.state;
+        ok = ok & waits_at_unset(cells, state);
+        i += 1;
+    }
+    ok
+}
