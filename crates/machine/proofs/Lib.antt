@@ -1,0 +1,2 @@
+-- Laws of the public calls: what each answer is, by the tests that lead to it.
+pub mod Starting

@@ -1,0 +1,2 @@
+// The machine's public calls: start, step, answer. Each is for any record and any dag words, and equals its definition in crate `model`.
+pub mod start;
