@@ -8,7 +8,8 @@ use native.Mathlib.Nat.{pow-suc}
 use native.Mathlib.Decide.{decLt}
 use native.Mathlib.Omega.{arith}
 use lib.ListN.{length, set, length-append}
-use lib.Dec.{ltb}
+use mir.Syntax.{w32}
+use mir.Val.{Fits}
 use Rattle.model.specs.Lines.Line.{digits, decimal}
 use Rattle.model.proofs.Test.{lt-ltb, le-not-ltb}
 use Rattle.text.specs.Written.{Written}
@@ -50,11 +51,6 @@ digits-few (suc m) n k l = go (decLt n 10) k l (λ j. digits-few m (n / 10) j)
         let d : length (digits (suc m) n) ≡ length (digits m (n / 10)) + 1 = rw e at (length-more (suc m) n (λ z. omega arith) (omega arith)) in
         omega arith
 
--- a number of 32 bits
-pub decimal-few : (n : ℕ) → n < 2 ^ 32 → length (decimal n) ≤ 10
-unfolding decimal
-decimal-few n l = digits-few 20 n 9 (omega arith)
-
 -- what the code leaves
 
 pub digits-none-written : (most n at : ℕ) (before : List ℕ) → most ≡ 0 → Written most before at (digits most n) before at
@@ -84,3 +80,18 @@ room-front most n at h l r = omega (arith, length-more most n h l)
 pub room-last : (most n at last : ℕ) (before middle : List ℕ) → (most ≡ 0 → ⊥) → 10 ≤ n → at + length (digits most n) ≤ 4096
     → Written (most - 1) before at (digits (most - 1) (n / 10)) middle last → last < 4096
 room-last most n at last before middle h l r w = let b = w .behind in omega (arith, length-more most n h l)
+
+-- a number of 32 bits has at most ten digits
+
+decimal-few : (n : ℕ) → Fits w32 n → length (decimal n) ≤ 10
+unfolding decimal
+decimal-few n f = digits-few 20 n 9 (omega (arith, f .fits))
+
+pub decimal-room : (n at : ℕ) → Fits w32 n → at + 10 ≤ 4096 → at + length (digits 20 n) ≤ 4096
+unfolding decimal
+decimal-room n at f r = omega (arith, decimal-few n f)
+
+pub decimal-written : (n at next : ℕ) (before after : List ℕ) → Fits w32 n → Written 20 before at (digits 20 n) after next
+    → Written 10 before at (decimal n) after next
+unfolding decimal
+decimal-written n at next before after f w = record { stored = w .stored; behind = w .behind; few = decimal-few n f }

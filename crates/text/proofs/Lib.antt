@@ -2,3 +2,4 @@
 pub mod Writing
 pub mod Digits
 pub mod Magnitude
+pub mod Parts

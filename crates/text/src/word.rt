@@ -2,10 +2,10 @@
 use crate::decimal;
 use crate::signed;
 ghost use Prim.Native.Nat.{_+_, _≤_};
-ghost use mathlib.Core.List.{_++_, map};
+ghost use mathlib.Core.List.{map};
 ghost use lib.ListN.{length, take};
-ghost use Rattle.model.specs.Lines.Line.{ascii, decimal, decimalZ};
-ghost use Rattle.text.specs.Written.{Written, spaced, feed};
+ghost use Rattle.model.specs.Lines.Line.{decimal, decimalZ};
+ghost use Rattle.text.specs.Written.{Written, spaced, allSpaced, feed};
 
 pub fn put_word(buffer: &mut [u8; 4096], at: usize, word: &[u8]) -> usize
     requires { ⌜ at + length (now word) ≤ 4096 ⌝ }
@@ -35,6 +35,19 @@ pub fn put_value(buffer: &mut [u8; 4096], at: usize, v: i32) -> usize
 {
     buffer[at] = b' ';
     signed::put_signed(buffer, at + 1, v)
+}
+
+pub fn put_values(buffer: &mut [u8; 4096], at: usize, values: [i32; 4], count: usize) -> usize
+    requires { ⌜ (at + 48 ≤ 4096) × (count ≤ 4) ⌝ }
+    ensures { λ r. ⌜ Written 48 (now (buffer .entry)) at (allSpaced (map decimalZ (take count values))) (now (buffer .exit)) r ⌝ }
+{
+    let mut to = at;
+    let mut i = 0;
+    while i < count {
+        to = put_value(buffer, to, values[i]);
+        i += 1;
+    }
+    to
 }
 
 pub fn put_feed(buffer: &mut [u8; 4096], at: usize) -> usize

@@ -1,31 +1,31 @@
+-- `line::put_publish` meets its contract: its parts are written one behind the other. Assumes nothing.
 use borrow.Author.Needs.{needs}
+use native.Mathlib.Omega.{arith}
+use mathlib.Core.Path.{refl}
+use mir.Facts.{toZ-ofZ}
+use Rattle.model.specs.Lines.Line.{ascii, lineOf, textOf}
+use Rattle.text.specs.Written.{spaced, feed}
+use Rattle.text.proofs.Writing.{then-written, written-as}
 use Rattle.text.proofs.line.put_publish.Statement.{statement}
 use Rattle.text.proofs.line.put_publish.Tie as tie
-use Rattle.text.proofs.line.put_publish.Reads as reads
-use Rattle.text.proofs.line.put_publish.Lts as lts
-use Rattle.text.proofs.word.put_feed.Reads as put-feed-reads
-use Rattle.text.proofs.word.put_value.Reads as put-value-reads
-use Rattle.text.proofs.word.put_word.Reads as put-word-reads
 
--- src/line.rt:14:44
 slice-aggregate-put-word : tie.Need-slice-aggregate-put-word
 slice-aggregate-put-word c = search needs
 
--- src/line.rt:14:9
 put-word-requires : tie.Need-put-word-requires
 put-word-requires c κs = search needs
 
--- src/line.rt:15:9
 put-value-requires : tie.Need-put-value-requires
 put-value-requires c κs = search needs
 
--- src/line.rt:16:5
 put-feed-requires : tie.Need-put-feed-requires
 put-feed-requires c κs = search needs
 
--- src/line.rt:10:1
 returns : tie.Need-returns
-returns c = ?
+unfolding ascii lineOf textOf spaced feed
+returns c =
+    let value = rw (toZ-ofZ (c .before .before .before .before .before .before .before .fits .v)) at (c .before .before .put-value .ensures) in
+    written-as (then-written (c .before .before .before .before .put-word .ensures) (then-written value (c .put-feed .ensures))) refl (omega arith)
 
 pub put-publish-spec : {M : Type 1} → statement M
 put-publish-spec =

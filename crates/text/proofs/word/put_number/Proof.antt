@@ -1,25 +1,23 @@
+-- `word::put_number` meets its contract: a space, and then the number. Assumes nothing.
 use borrow.Author.Needs.{needs}
+use Rattle.model.specs.Lines.Line.{ascii}
+use Rattle.text.specs.Written.{spaced}
+use Rattle.text.proofs.Writing.{one-written, then-written}
 use Rattle.text.proofs.word.put_number.Statement.{statement}
 use Rattle.text.proofs.word.put_number.Tie as tie
-use Rattle.text.proofs.word.put_number.Reads as reads
-use Rattle.text.proofs.word.put_number.Lts as lts
-use Rattle.text.proofs.decimal.put_decimal.Reads as put-decimal-reads
 
--- src/word.rt:28:5
 element-write-buffer : tie.Need-element-write-buffer
 element-write-buffer c = search needs
 
--- src/word.rt:29:34
 add-put-decimal : tie.Need-add-put-decimal
 add-put-decimal c = search needs
 
--- src/word.rt:29:5
 put-decimal-requires : tie.Need-put-decimal-requires
 put-decimal-requires c κs = search needs
 
--- src/word.rt:24:1
 returns : tie.Need-returns
-returns c = ?
+unfolding ascii spaced
+returns c = then-written (one-written _ _ 32) (c .put-decimal .ensures)
 
 pub put-number-spec : {M : Type 1} → statement M
 put-number-spec =

@@ -1,25 +1,24 @@
+-- `word::put_value` meets its contract: a space, and then the value. Assumes nothing.
 use borrow.Author.Needs.{needs}
+use mir.Facts.{toZ-ofZ}
+use Rattle.model.specs.Lines.Line.{ascii}
+use Rattle.text.specs.Written.{spaced}
+use Rattle.text.proofs.Writing.{one-written, then-written}
 use Rattle.text.proofs.word.put_value.Statement.{statement}
 use Rattle.text.proofs.word.put_value.Tie as tie
-use Rattle.text.proofs.word.put_value.Reads as reads
-use Rattle.text.proofs.word.put_value.Lts as lts
-use Rattle.text.proofs.signed.put_signed.Reads as put-signed-reads
 
--- src/word.rt:36:5
 element-write-buffer : tie.Need-element-write-buffer
 element-write-buffer c = search needs
 
--- src/word.rt:37:32
 add-put-signed : tie.Need-add-put-signed
 add-put-signed c = search needs
 
--- src/word.rt:37:5
 put-signed-requires : tie.Need-put-signed-requires
 put-signed-requires c κs = search needs
 
--- src/word.rt:32:1
 returns : tie.Need-returns
-returns c = ?
+unfolding ascii spaced
+returns c = then-written (one-written _ _ 32) (rw (toZ-ofZ (c .before .before .fits .v)) at (c .put-signed .ensures))
 
 pub put-value-spec : {M : Type 1} → statement M
 put-value-spec =
