@@ -36,7 +36,7 @@ then-written {before = before} {at = at} {a = a} {b = b} f s =
     record {
       stored = s .stored ∙ rw (f .stored, f .behind) (sym (sets-append before at a b));
       behind = omega arith;
-      few = omega arith
+      few = omega arith;
     }
 
 -- the same bytes otherwise put, and a larger bound

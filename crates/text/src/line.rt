@@ -9,7 +9,14 @@ ghost use Rattle.text.specs.Written.{Written};
 pub const LONGEST: usize = 80;
 
 // (the first `count` of the values)
-pub fn put_call(buffer: &mut [u8; 4096], at: usize, handle: u32, site: u16, values: [i32; 4], count: usize) -> usize
+pub fn put_call(
+    buffer: &mut [u8; 4096],
+    at: usize,
+    handle: u32,
+    site: u16,
+    values: [i32; 4],
+    count: usize,
+) -> usize
     requires { ⌜ (at + 80 ≤ 4096) × (count ≤ 4) ⌝ }
     ensures { λ r. ⌜ Written 80 (now (buffer .entry)) at (textOf (call handle site (take count values))) (now (buffer .exit)) r ⌝ }
 {

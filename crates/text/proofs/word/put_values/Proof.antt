@@ -1,12 +1,17 @@
 -- `word::put_values` meets its contract. The loop's invariant: the values passed are written, each with at most 12 bytes. Assumes nothing.
 use borrow.Author.Needs.{needs}
 use native.Mathlib.Omega.{arith}
+use mathlib.Core.Path.{_≡_, ap}
 use mathlib.Core.List.{map}
-use Prim.Native.Nat.{_+_, _-_, _*_, _≤_}
-use lib.ListN.{take}
+use Prim.Native.Nat.{ℕ, _+_, _-_, _*_, _≤_}
+use lib.IntN.{pos}
+use lib.ListN.{take, getD}
+use mir.Syntax.{w32}
+use mir.Val.{SFits}
+use mir.Facts.{toZ-ofZ}
 use Rattle.model.specs.Lines.Line.{decimalZ}
 use Rattle.text.specs.Written.{Written, allSpaced}
-use Rattle.text.proofs.Writing.{none-written}
+use Rattle.text.proofs.Writing.{none-written, written-as}
 use Rattle.text.proofs.Parts.{values-written}
 use Rattle.text.proofs.word.put_values.Statement.{statement}
 use Rattle.text.proofs.word.put_values.Tie as tie
@@ -37,10 +42,17 @@ loop-less : tie.Need-loop-less Inv-loop μ-loop
 loop-less c = search needs
 
 loop-again : tie.Need-loop-again Inv-loop μ-loop
-loop-again c = let h = c .put-value .ensures in (search needs, ?)
+loop-again c =
+    let values = c .before .before .before .before .before .args .t3 in
+    let i = c .before .before .before .before .loop .i in
+    let fits : SFits w32 (getD values i (pos 0)) = record { sfits = c .before .put-value-arg2 .given } in
+    let value = rw (toZ-ofZ fits) at (c .put-value .ensures) in
+    (search needs, values-written values (pos 0) _ _ _ _ _ _ _ (search needs) (c .before .before .before .before .loop .inv .1) value)
 
 returns : tie.Need-returns Inv-loop μ-loop
-returns c = let h = c .before .loop .inv .1 in ?
+returns c =
+    let i : c .before .loop .i ≡ c .before .before .args .count = omega arith in
+    written-as (c .before .loop .inv .1) (ap (λ (n : ℕ). allSpaced (map decimalZ (take n (c .before .before .args .t3)))) i) (omega arith)
 
 pub put-values-spec : {M : Type 1} → statement M
 put-values-spec =
