@@ -11,3 +11,4 @@ pub mod Answering
 pub mod Last
 pub mod Meaning
 pub mod First
+pub mod Broken
