@@ -35,6 +35,7 @@ use Rattle.model.proofs.Calculus.Search.{searching, allowed}
 use Rattle.model.proofs.Calculus.Programs.{one-signal}
 use Rattle.model.proofs.Run.Computing.{computing}
 
+-- every step is accepted, and leaves the machine as it was
 unfoldable pub idleStep : Limits → Dag → Machine → (place : ℕ) → Outcome
 idleStep lim d m place = record { reply = replies.Done; values = valuesBeside []; machine = m }
 
@@ -62,8 +63,10 @@ module _ (lim : Limits) (d : Dag) (m : Machine) (closed : (h : ℕ) → holder h
   -- an answer is refused, as not open if not for a rule
   answer-refused : (h : ℕ) (v : ℤ) → (q : Refusal) × (Answer.answer lim d m h v ≡ outcome m (refuses q))
   unfolding Answer.answer answered
-  answer-refused h v = let r = refuses-either-way (rulesKept lim d m) refusals.Rule refusals.NotOpen in (r .0, rw (closed h) (ap (outcome m) (r .1)))
+  answer-refused h v =
+      let r = refuses-either-way (rulesKept lim d m) refusals.Rule refusals.NotOpen in (r .0, rw (closed h) (ap (outcome m) (r .1)))
 
+  -- so the machine stays, and no call shows anything
   shows-nothing : (calls : List Call) → eventsFrom idle lim d m calls ≡ []
   unfolding eventsFrom eventsOf outcomeOf idleStep outcome told
   shows-nothing [] = refl

@@ -2,9 +2,9 @@
 -- (let(x) | let(2)) <x< let(1) the token at let(2) stands behind the one at choke, so that none would be before it after the choke; but let(x)
 -- waits for x, and in this machine it wakes before let(2). Assumes nothing.
 use mathlib.Core.Path.{_≡_, refl, subst}
-use mathlib.Core.Bool.{Bool, true, false, not}
+use mathlib.Core.Bool.{Bool, false, not}
 use mathlib.Core.List.{List, [], _∷_, _++_}
-use Prim.Native.Nat.{ℕ, _<_}
+use Prim.Native.Nat.{ℕ}
 use native.Mathlib.Omega.{arith}
 use Rattle.model.specs.Test.{filter}
 use Rattle.model.specs.Job.Syntax.{Program}
@@ -21,7 +21,7 @@ use Rattle.model.specs.Machine.Step.{queueOf, waitsOf, withOrders}
 use Rattle.model.specs.Machine.Answer as Answer
 use Rattle.model.specs.Run.Marked.{_∣_, _<[_]<_, v, #, let′, goal}
 use Rattle.model.specs.Run.Call.{Call, Runner, outcomeOf, machineAfter, started}
-use Rattle.model.specs.Run.Follow.{fate, acts, falls, stays, survivors, frontEnds, endsToken, cellSet, Stands, House, Followed}
+use Rattle.model.specs.Run.Follow.{fate, stays, survivors, frontEnds, endsToken, cellSet, Stands, House, Followed}
 use Rattle.model.specs.Run.Demand3.{Last}
 use Rattle.model.specs.declared.record.Machine.{Machine}
 use Rattle.model.specs.declared.reply.Outcome.{Outcome}
@@ -37,6 +37,7 @@ wokenFirst before after =
     (waitsOf after)
     after
 
+-- no token that a step finds in the queue waits, so that only a choke's step differs from document 01's
 unfoldable pub jumpingStep : Limits → Dag → Machine → (place : ℕ) → Outcome
 jumpingStep lim d m place =
     let o = Step.step lim d m place in record { reply = o .reply; values = o .values; machine = wokenFirst m (o .machine) }
@@ -76,4 +77,5 @@ overtaken s = let z : _≡_ {A = ℕ} 0 2 = s .place in omega arith
 pub jumping-is-unfair : Last jumping → ⊥
 unfolding computing outcomeOf machineAfter jumpingStep wokenFirst fate survivors frontEnds endsToken cellSet
 jumping-is-unfair last =
-    not-followed jumping paper (construct overtaking) refl refl overtaken (last (encode overtaking) overtaking refl five-steps (Call.step 0 ∷ []) (House.front House.none) 1 (omega arith) .1)
+    let followed = last (encode overtaking) overtaking refl five-steps (Call.step 0 ∷ []) (House.front House.none) 1 (omega arith) in
+    not-followed jumping paper (construct overtaking) refl refl overtaken (followed .1)
