@@ -11,4 +11,5 @@ pub mod Answering
 pub mod Last
 pub mod Meaning
 pub mod First
+pub mod Worked
 pub mod Broken

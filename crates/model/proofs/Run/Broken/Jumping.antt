@@ -20,13 +20,14 @@ use Rattle.model.specs.Machine.Step as Step
 use Rattle.model.specs.Machine.Step.{queueOf, waitsOf, withOrders}
 use Rattle.model.specs.Machine.Answer as Answer
 use Rattle.model.specs.Run.Marked.{_∣_, _<[_]<_, v, #, let′, goal}
-use Rattle.model.specs.Run.Call.{Call, Runner, outcomeOf, machineAfter, started}
+use Rattle.model.specs.Run.Call.{Call, Runner, outcomeOf, machineAfter}
 use Rattle.model.specs.Run.Follow.{fate, stays, survivors, frontEnds, endsToken, cellSet, Stands, House, Followed}
 use Rattle.model.specs.Run.Demand3.{Last}
 use Rattle.model.specs.declared.record.Machine.{Machine}
 use Rattle.model.specs.declared.reply.Outcome.{Outcome}
 use Rattle.model.proofs.Test.{clash}
 use Rattle.model.proofs.Run.Computing.{computing}
+use Rattle.model.proofs.Run.Worked.{house, after}
 
 -- the machine after a step, with the tokens that waited before it in front of its queue
 unfoldable pub wokenFirst : (before after : Machine) → Machine
@@ -63,11 +64,8 @@ abbrev pub overtaking : Program
 overtaking = goal ((let′ (v 0) ∣ let′ (# 2)) <[ 0 ]< let′ (# 1))
 
 -- after five steps the queue has the token at choke, then the one that has the 2; let(x) waits
-abbrev five-steps : List Call
-five-steps = Call.step 0 ∷ Call.step 0 ∷ Call.step 0 ∷ Call.step 0 ∷ Call.step 0 ∷ []
-
 abbrev choking : Machine
-choking = machineAfter jumping paper (construct overtaking) (started jumping paper (construct overtaking)) five-steps
+choking = after jumping overtaking (house 5)
 
 -- the place at the front after the choke is let(x)'s, and not the 2's
 overtaken : Stands choking 1 (outcomeOf jumping paper (construct overtaking) choking (Call.step 0) .machine) 0 → ⊥
@@ -77,5 +75,5 @@ overtaken s = let z : _≡_ {A = ℕ} 0 2 = s .place in omega arith
 pub jumping-is-unfair : Last jumping → ⊥
 unfolding computing outcomeOf machineAfter jumpingStep wokenFirst fate survivors frontEnds endsToken cellSet
 jumping-is-unfair last =
-    let followed = last (encode overtaking) overtaking refl five-steps (Call.step 0 ∷ []) (House.front House.none) 1 (omega arith) in
+    let followed = last (encode overtaking) overtaking refl (house 5) (Call.step 0 ∷ []) (House.front House.none) 1 (omega arith) in
     not-followed jumping paper (construct overtaking) refl refl overtaken (followed .1)

@@ -3,22 +3,21 @@
 -- call 0. Assumes nothing.
 use mathlib.Core.Path.{_≡_, refl}
 use mathlib.Core.Bool.{Bool, true, false}
-use mathlib.Core.List.{List, [], _∷_}
+use mathlib.Core.List.{List, [], _∷_, _++_}
 use Prim.Native.Nat.{ℕ}
+use native.Mathlib.Omega.{arith}
 use lib.Dec.{ltb}
 use lib.IntN.{ℤ, pos}
 use Rattle.model.specs.Test.{_and_}
-use Rattle.model.specs.Number.{Signed32, fits}
 use Rattle.model.specs.Job.Encode.{encode}
 use Rattle.model.specs.Job.Node.{Dag}
-use Rattle.model.specs.Job.Construct.{construct}
-use Rattle.model.specs.Machine.Limits.{Limits, paper}
+use Rattle.model.specs.Machine.Limits.{Limits}
 use Rattle.model.specs.Machine.Reply.{valuesBeside}
 use Rattle.model.specs.Machine.Start as Start
 use Rattle.model.specs.Machine.Step as Step
 use Rattle.model.specs.Machine.Answer as Answer
 use Rattle.model.specs.Calculus.Event.{Event}
-use Rattle.model.specs.Run.Call.{Call, Runner, outcomeOf, eventsOf, eventsFrom, started}
+use Rattle.model.specs.Run.Call.{Call, Runner, outcomeOf, eventsOf, eventsFrom}
 use Rattle.model.specs.Run.Demand3.{First}
 use Rattle.model.specs.declared.record.Machine.{Machine}
 use Rattle.model.specs.declared.reply.Refusal.{Refusal}
@@ -29,6 +28,7 @@ use Rattle.model.specs.declared.reply.Outcome.{Outcome}
 use Rattle.model.proofs.Calculus.Programs.{first-answer}
 use Rattle.model.proofs.Calculus.NotAllowed.{no-answer-to-pruned-call}
 use Rattle.model.proofs.Run.Computing.{computing}
+use Rattle.model.proofs.Run.Worked.{house, answering, events}
 
 -- "12: answer to a handle that is not open"
 unfoldable pub isNotOpen : Refusal → Bool
@@ -58,32 +58,12 @@ lateAnswer lim d m h v =
 abbrev pub late : Runner
 late = record { start = Start.start; step = Step.step; answer = lateAnswer }
 
-fits-42 : Signed32 (pos 42)
-unfolding fits
-fits-42 = refl
-
-fits-7 : Signed32 (pos 7)
-unfolding fits
-fits-7 = refl
-
 -- where, let(x) waits, fork, both calls; the answer 42; choke, let(x), remove, publish; the late answer 7
 abbrev late-calls : List Call
-late-calls =
-    Call.step 0
-    ∷ Call.step 0
-    ∷ Call.step 0
-    ∷ Call.step 0
-    ∷ Call.step 0
-    ∷ Call.answer 1 (pos 42) fits-42
-    ∷ Call.step 0
-    ∷ Call.step 0
-    ∷ Call.step 0
-    ∷ Call.step 0
-    ∷ Call.answer 0 (pos 7) fits-7
-    ∷ []
+late-calls = house 5 ++ (answering 1 42 (omega arith) ∷ house 4 ++ (answering 0 7 (omega arith) ∷ []))
 
 late-events :
-    eventsFrom late paper (construct first-answer) (started late paper (construct first-answer)) late-calls
+    events late first-answer late-calls
     ≡ Event.call 0 16 (pos 5 ∷ []) ∷ Event.call 1 17 [] ∷ Event.answer 1 (pos 42) ∷ Event.publish (pos 42) ∷ Event.answer 0 (pos 7) ∷ []
 unfolding computing outcomeOf eventsOf eventsFrom isNotOpen saysNotOpen lateAnswer
 late-events = refl
