@@ -1,0 +1,1 @@
+// From a job table to a dag.
