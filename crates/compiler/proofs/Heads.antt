@@ -30,7 +30,7 @@ module _ (side : List ℕ → ℕ → List Entry → Read Exp) (scope : List ℕ
     calls : readCall (call (low o)) (high o) scope e l ≡ got g → Head 2
     joins : {k : ℕ} → 3 ≤ k → Few (joinOf k (length scope)) scope → readJoin side (joinOf k (length scope)) scope e l ≡ got g → Head k
 
-test-kept : (b : Bool) (n e : ℕ) (x : Got (Unit {0})) → need b n e ≡ got x → b ≡ true
+pub test-kept : (b : Bool) (n e : ℕ) (x : Got (Unit {0})) → need b n e ≡ got x → b ≡ true
 unfolding need
 test-kept true n e x r = refl
 test-kept false n e x r = refused-got r

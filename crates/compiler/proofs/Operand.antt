@@ -17,7 +17,7 @@ four-bytes (a ∷ b ∷ []) = omega arith
 four-bytes (a ∷ b ∷ c ∷ []) = omega arith
 four-bytes (a ∷ b ∷ c ∷ d ∷ l) = omega arith
 
-pub operand-bytes : (os : List ℕ) (at : ℕ)
+operand-bytes : (os : List ℕ) (at : ℕ)
     → operandAt os at
     ≡ getD os (4 * at) 0 + getD os (4 * at + 1) 0 * 256 + getD os (4 * at + 2) 0 * 65536 + getD os (4 * at + 3) 0 * 16777216
 operand-bytes os at = four-bytes (drop (4 * at) os) ∙ simp (getD-drop, add-zero)

@@ -1,5 +1,5 @@
 -- What an accepted expression is that has room, and what is to be shown of compiling it. Assumes nothing.
-use Prim.Native.Nat.{ℕ, zero, suc, _+_, _-_, _<_, _≤_}
+use Prim.Native.Nat.{ℕ, suc, _+_, _-_, _<_, _≤_}
 use mathlib.Core.Path.{_≡_, refl, sym, ap, subst, _∙_}
 use mathlib.Core.List.{List}
 use native.Mathlib.Omega.{arith}
@@ -9,16 +9,12 @@ use Rattle.model.specs.Job.Syntax.{Exp, levels}
 use Rattle.model.specs.Job.Construct.{size}
 use Rattle.model.specs.Job.Read.{Got, Read, got, readExp}
 use Rattle.model.proofs.Job.Position.{operandAt}
-use Rattle.compiler.specs.Parts.{Parts}
+use Rattle.reader.specs.Checked.{Parts}
+use Rattle.reader.proofs.Scope.{levels-length}
 use Rattle.compiler.specs.Compiled.{reading, Room, room, Accepted, compiled, stored}
 use Rattle.compiler.specs.declared.expression.Compiled.{Compiled}
 use Rattle.compiler.proofs.Rows.{size-some}
 use Rattle.compiler.proofs.Heads.{Head, headed}
-
-pub levels-length : (n : ℕ) → length (levels n) ≡ n
-unfolding levels
-levels-length zero = refl
-levels-length (suc n) = ap suc (levels-length n)
 
 room-got : (p : Read Exp) (n : ℕ) → Room p n → (g : Got Exp) × (p ≡ got g) × (n + size (g .value) ≤ 1022)
 room-got (got g) n (room h) = (g, refl, h)

@@ -13,6 +13,7 @@ use Rattle.model.specs.Job.Construct.{own, size, root, firstLeft, firstRight, n
 use Rattle.model.specs.Job.Words.{headWords, rowsOf}
 use Rattle.model.specs.Job.Read.{got, readExp}
 use Rattle.model.proofs.Job.Position.{exp-from}
+use Rattle.reader.proofs.Scope.{levels-length}
 use Rattle.compiler.specs.Join.{joinOf, IsLeft, IsRight, joinRoot}
 use Rattle.compiler.specs.Compiled.{reading, Accepted, compiled, stored}
 use Rattle.compiler.specs.declared.plan.Plan.{Plan}
@@ -20,7 +21,7 @@ use Rattle.compiler.specs.declared.expression.Compiled.{Compiled}
 use Rattle.compiler.proofs.Reread.{reread}
 use Rattle.compiler.proofs.Rows.{own-some, size-some, root-join, join-rows}
 use Rattle.compiler.proofs.Heads.{Joined, joined}
-use Rattle.compiler.proofs.Taking.{levels-length, accept, same, Taken, Done, done}
+use Rattle.compiler.proofs.Taking.{accept, same, Taken, Done, done}
 
 module _ {left : ℕ} {ks os : List ℕ} {s at n : ℕ} (t : Taken left ks os s at n) (k3 : 3 ≤ getD ks at 0) where
   abbrev the-join : Join

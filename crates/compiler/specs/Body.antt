@@ -10,7 +10,7 @@ use Rattle.model.specs.Job.Node.{Node}
 use Rattle.model.specs.Job.Construct.{size, root, nodesOf}
 use Rattle.model.specs.Job.Words.{headWords, rowsOf}
 use Rattle.model.specs.Job.Read.{Got, Read, got, refused}
-use Rattle.compiler.specs.Parts.{Parts}
+use Rattle.reader.specs.Checked.{Parts}
 use Rattle.compiler.specs.Compiled.{reading}
 use Rattle.compiler.specs.declared.expression.Compiled.{Compiled}
 

@@ -8,7 +8,7 @@ use Rattle.model.specs.Job.Syntax.{Exp, levels}
 use Rattle.model.specs.Job.Construct.{size, root, nodesOf}
 use Rattle.model.specs.Job.Words.{headWords, rowsOf}
 use Rattle.model.specs.Job.Read.{Got, Read, got, refused, readExp}
-use Rattle.compiler.specs.Parts.{Parts}
+use Rattle.reader.specs.Checked.{Parts}
 use Rattle.compiler.specs.declared.expression.Compiled.{Compiled}
 
 -- the reading of the entries from an index on

@@ -1,5 +1,4 @@
 -- What the compiler writes, said of a reading. Assumes nothing: these are definitions.
-pub mod Parts
 pub mod Call
 pub mod Join
 pub mod Compiled

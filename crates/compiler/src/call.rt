@@ -5,9 +5,9 @@ ghost use lib.ListN.{length, getD};
 ghost use lib.Dec.{ltb};
 ghost use Rattle.model.specs.Job.Entry.{high};
 ghost use Rattle.model.proofs.Job.Position.{operandAt};
-ghost use Rattle.compiler.specs.Parts.{Parts};
+ghost use Rattle.reader.specs.Checked.{Parts};
 ghost use Rattle.compiler.specs.Call.{wordIf, callWords};
-use crate::entry::operand;
+use reader::entry::operand;
 
 // The kind of parameter `i` of `count`, whose entries begin at `at`, or 0.
 fn kind_word(kinds: &[u8], at: usize, i: usize, count: usize) -> u32

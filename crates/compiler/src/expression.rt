@@ -3,13 +3,13 @@ ghost use mathlib.Core.Path.{_≡_};
 ghost use Prim.Native.Nat.{_+_, _<_};
 ghost use Rattle.compiler.specs.Compiled.{Accepted, reading, compiled, stored};
 use crate::call::call_words;
-use crate::entry::operand;
 use crate::join::join_root;
 use crate::join::put_own;
 use crate::plan::Plan;
 use crate::plan::left_plan;
 use crate::plan::right_plan;
 use crate::store::put;
+use reader::entry::operand;
 
 // The entry and the node behind an expression, and the node at which a token enters it.
 pub struct Compiled {

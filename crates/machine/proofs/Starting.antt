@@ -26,10 +26,10 @@ unfolding start padded
 start-refuses d m e q =
     rw (← e, start) (ap (λ (o : Machine). record { reply = replies.Refused refusals.Rule; values = replicate 4 (pos 0); machine = o }) q)
 
-pub start-begins : (d : Dag) (m : Machine) → true ≡ dagKept d → m ≡ startMachine paper (d .goal)
-    → _≡_ {A = Outcome} (record { reply = replies.Done; values = replicate 4 (pos 0); machine = m }) (start paper d)
-unfolding start padded
-start-begins d m e q = rw (← e, start) (ap (λ (o : Machine). record { reply = replies.Done; values = replicate 4 (pos 0); machine = o }) q)
+pub start-begins : (ws : List ℕ) (m : Machine) → true ≡ dagKept (dagOf ws) → m ≡ startMachine paper (getD ws 2 0)
+    → _≡_ {A = Outcome} (record { reply = replies.Done; values = replicate 4 (pos 0); machine = m }) (start paper (dagOf ws))
+unfolding start padded dagOf
+start-begins ws m e q = rw (← e, start) (ap (λ (o : Machine). record { reply = replies.Done; values = replicate 4 (pos 0); machine = o }) q)
 
 -- a kept dag's goal is a node, so it fits 16 bits
 pub goal-small : (ws : List ℕ) → true ≡ dagKept (dagOf ws) → getD ws 2 0 < 65536

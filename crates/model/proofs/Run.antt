@@ -12,3 +12,5 @@ pub mod Last
 pub mod Meaning
 pub mod First
 pub mod Middle
+pub mod Worked
+pub mod Broken

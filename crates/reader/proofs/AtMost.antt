@@ -7,14 +7,14 @@ use native.Mathlib.Omega.{arith}
 use lib.ListN.{length}
 use Rattle.model.specs.Job.Syntax.{Exp, Definition, Program}
 use Rattle.model.specs.Job.Entry.{entries}
-use Rattle.model.specs.Job.Read.{Got, got, _>>=_, readExp, readEntries, leftovers, definitionsKept}
+use Rattle.model.specs.Job.Read.{Got, got, readExp, readEntries}
 use Rattle.model.specs.Job.Construct.{size, construct}
-use Rattle.model.proofs.Job.Position.{entries-length, bind-got, exp-from}
+use Rattle.model.proofs.Job.Position.{entries-length, exp-from}
 use Rattle.reader.specs.Checked.{entriesFrom}
 use Rattle.reader.specs.Definitions.{readDefinitions, definitionsNodes}
 use Rattle.reader.proofs.Few.{read-few}
 use Rattle.reader.proofs.NodeCount.{construct-length}
-use Rattle.reader.proofs.ProgramParts.{whole, goalRead, same-got, all-defined, tests, entries-opened}
+use Rattle.reader.proofs.ProgramParts.{all-defined, Parted, parted}
 
 -- n definitions with these nodes end at entry `at`, a goal with so many nodes, joins and parameters behind them at entry `end`
 count : (n at end nodes goal joins params : ℕ) → (n ≡ 0 → at ≡ 0) → nodes + 2 * n + 2 * 0 ≤ 2 * at → end ≡ at + 1 + 2 * joins + params
@@ -36,13 +36,6 @@ module _ (ks os : List ℕ) (l : length ks ≤ 512) (n : ℕ) where
       (f .none) (f .few) (s .ends) (s .few) (omega (arith, entries-length ks os)))
 
   pub nodes-at-most : (p : Got Program) → readEntries n (entries ks os) ≡ got p → length (construct (p .value) .nodes) ≤ 1022
-  unfolding goalRead whole tests
   nodes-at-most p r =
-      let es = entries ks os in
-      let few : Got Program → Type 0 = λ p. length (construct (p .value) .nodes) ≤ 1022 in
-      let b = bind-got (readDefinitions n 0 es >>= goalRead) (tests es) p (sym (entries-opened n es) ∙ r) in
-      let c = bind-got (leftovers (b .0 .next) (b .0 .rest)) _ p (b .2) in
-      let d = bind-got (definitionsKept _ 0 es) _ p (c .2) in
-      let e = bind-got (readDefinitions n 0 es) goalRead (b .0) (b .1) in
-      let f = bind-got (readExp 24 [] (e .0 .next) (e .0 .rest)) (whole (e .0 .value)) (b .0) (e .2) in
-      same-got few (b .0) p (d .2) (same-got few _ (b .0) (f .2) (read-most (e .0) (f .0) (e .1) (f .1)))
+      let t = parted n (entries ks os) p r in
+      rw (t .value) (read-most (t .definitions) (t .goal) (t .read-definitions) (t .read-goal))

@@ -83,3 +83,23 @@ tests es p = leftovers (p .next) (p .rest) >>= (λ _. definitionsKept (formalsOf
 pub entries-opened : (n : ℕ) (es : List Entry) → readEntries n es ≡ (readDefinitions n 0 es >>= goalRead >>= tests es)
 unfolding readEntries tests
 entries-opened n es = ap (λ r. r >>= tests es) (program-split n 0 es)
+
+-- a program that was read with all its tests: its definitions, then its goal
+pub record Parted (n : ℕ) (es : List Entry) (p : Program) : Type 0 where
+  pub definitions : Got (List Definition)
+  pub goal : Got Exp
+  pub read-definitions : readDefinitions n 0 es ≡ got definitions
+  pub read-goal : readExp 24 [] (definitions .next) (definitions .rest) ≡ got goal
+  pub value : p ≡ record { definitions = definitions .value; goal = goal .value }
+
+pub parted : (n : ℕ) (es : List Entry) (p : Got Program) → readEntries n es ≡ got p → Parted n es (p .value)
+unfolding goalRead whole tests
+parted n es p r =
+    let b = bind-got (readDefinitions n 0 es >>= goalRead) (tests es) p (sym (entries-opened n es) ∙ r) in
+    let c = bind-got (leftovers (b .0 .next) (b .0 .rest)) _ p (b .2) in
+    let d = bind-got (definitionsKept _ 0 es) _ p (c .2) in
+    let e = bind-got (readDefinitions n 0 es) goalRead (b .0) (b .1) in
+    let f = bind-got (readExp 24 [] (e .0 .next) (e .0 .rest)) (whole (e .0 .value)) (b .0) (e .2) in
+    same-got (λ q. Parted n es (q .value)) (b .0) p (d .2)
+    (same-got (λ q. Parted n es (q .value)) _ (b .0) (f .2)
+    (record { definitions = e .0; goal = f .0; read-definitions = e .1; read-goal = f .1; value = refl }))

@@ -1,5 +1,6 @@
 -- `start::start` meets its contract: each answer is that of the test of the dag. Assumes nothing.
 use mathlib.Core.Path.{sym, _∙_}
+use native.Mathlib.Omega.{arith}
 use borrow.Author.Needs.{needs}
 use Rattle.machine.proofs.Starting.{start-refuses, start-begins, goal-small}
 use Rattle.machine.proofs.start.start.Statement.{statement}
@@ -12,7 +13,7 @@ element-copy-out-goal : tie.Need-element-copy-out-goal
 element-copy-out-goal c = search needs
 
 cast-start : tie.Need-cast-start
-cast-start c = goal-small _ (sym (c .before .if1 .taken) ∙ c .before .before .dag-kept .ensures)
+cast-start c = omega (arith, goal-small _ (sym (c .before .if1 .taken) ∙ c .before .before .dag-kept .ensures))
 
 start-requires : tie.Need-start-requires
 start-requires c κs = search needs

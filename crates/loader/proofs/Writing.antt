@@ -1,0 +1,187 @@
+-- The loop over the definitions: the words of those that are done are stored, and the others are still to be read. Assumes nothing.
+use Prim.Native.Nat.{ℕ, suc, _+_, _*_, _-_, _<_, _≤_}
+use mathlib.Core.Path.{_≡_, refl, sym, ap, ap₂, subst, _∙_}
+use mathlib.Core.Bool.{true, false}
+use mathlib.Core.List.{List, [], _∷_, _++_, append-assoc, append-nil}
+use native.Mathlib.Decide.{decLt}
+use native.Mathlib.Numerals.{add-one}
+use native.Mathlib.Nat.{sub-zero}
+use native.Mathlib.Omega.{arith}
+use lib.ListN.{length, getD, drop, length-append}
+use lib.Seq.{sets}
+use Rattle.model.specs.Job.Syntax.{Exp, Definition, levels}
+use Rattle.model.specs.Job.Entry.{entries, Kind, kindOf, rowKept}
+use Rattle.model.specs.Job.Construct.{size, root}
+use Rattle.model.specs.Job.Words.{rowsOf, bodyWords}
+use Rattle.model.specs.Job.Read.{Got, Read, got, _>>=_, gives, need, entryAt, readExp, isDefinition, readDefinition}
+use Rattle.model.proofs.Test.{leb-le}
+use Rattle.model.proofs.Job.Position.{operandAt, entries-at, bind-got}
+use Rattle.reader.specs.Checked.{Parts, entriesFrom}
+use Rattle.reader.specs.Definitions.{readDefinitions, definitionNodes, definitionsNodes}
+use Rattle.reader.proofs.DefinitionLoop.{Defined, defined}
+use Rattle.reader.proofs.ProgramParts.{same-got}
+use Rattle.compiler.specs.Compiled.{reading}
+use Rattle.compiler.specs.Body.{compiledBody, storedBody}
+use Rattle.compiler.specs.declared.expression.Compiled.{Compiled}
+use Rattle.compiler.proofs.Heads.{test-kept}
+use Rattle.compiler.proofs.Reread.{reread}
+use Rattle.loader.specs.Stored.{Fits, fits, BodyRead, DefinitionsRead, definitions, nodesBefore, bodiesBefore, placed, wordsBefore, storedDefinitions}
+use Rattle.loader.specs.declared.program.Place.{Place}
+use Rattle.loader.proofs.Before.{count-append, one-more}
+
+-- the body of a definition that is read from entry `at` on
+record BodyOf (ks os : List ℕ) (at : ℕ) (g : Got Definition) : Type 0 where
+  body : Got Exp
+  read : readExp 24 (levels (operandAt os at)) (suc at) (entriesFrom ks os (suc at)) ≡ got body
+  value : g .value ≡ record { formals = operandAt os at; body = body .value }
+  next : g .next ≡ body .next
+  small : operandAt os at ≤ 4
+
+body-of : (ks os : List ℕ) (at : ℕ) (g : Got Definition) → at < length ks → readDefinition at (entriesFrom ks os at) ≡ got g → BodyOf ks os at g
+unfolding readDefinition entryAt _>>=_ rowKept
+body-of ks os at g l r =
+    let a = bind-got (need (isDefinition (kindOf (getD ks at 0))) 3 at) _ g (ap (readDefinition at) (sym (entries-at ks os at l)) ∙ r) in
+    let b = bind-got (need (rowKept Kind.definition (operandAt os at)) 4 at) _ g (a .2) in
+    let c = bind-got (readExp 24 (levels (operandAt os at)) (suc at) (drop (suc at) (entries ks os))) _ g (b .2) in
+    same-got (BodyOf ks os at) _ g (c .2)
+    (record { body = c .0; read = c .1; value = refl; next = refl; small = leb-le (operandAt os at) 4 (test-kept _ 4 at (b .0) (b .1)) })
+
+-- the loop's invariant: `done` are stored, `left` is read from entry `at` on, and both are all
+pub record Writing (count : ℕ) (ks os ws l : List ℕ) (at node i : ℕ) : Type 0 where
+  pub all : Got (List Definition)
+  pub read-all : readDefinitions count 0 (entries ks os) ≡ got all
+  pub fits : definitionsNodes (all .value) < 1022
+  pub done : List Definition
+  pub left : Got (List Definition)
+  pub read-left : readDefinitions (count - i) at (entriesFrom ks os at) ≡ got left
+  pub whole : done ++ left .value ≡ all .value
+  pub ends : left .next ≡ all .next
+  pub many : length done ≡ i
+  pub most : i ≤ count
+  pub placed : node ≡ definitionsNodes done
+  pub words : l ≡ wordsBefore done ws
+
+view : (r : Read (List Definition)) → DefinitionsRead r → (g : Got (List Definition)) × (r ≡ got g) × (definitionsNodes (g .value) < 1022)
+view (got g) (definitions h) = (g, refl, h)
+
+pub writing-start : (count : ℕ) (ks os ws : List ℕ) → DefinitionsRead (readDefinitions count 0 (entries ks os)) → Writing count ks os ws ws 0 0 0
+unfolding definitionsNodes wordsBefore nodesBefore bodiesBefore rowsOf bodyWords
+writing-start count ks os ws d =
+    let v = view (readDefinitions count 0 (entries ks os)) d in
+    record {
+      all = v .0;
+      read-all = v .1;
+      fits = v .2;
+      done = [];
+      left = v .0;
+      read-left = rw sub-zero (v .1);
+      whole = refl;
+      ends = refl;
+      many = refl;
+      most = omega arith;
+      placed = refl;
+      words = refl;
+    }
+
+module _ (count : ℕ) (ks os ws l : List ℕ) (at node i : ℕ) (g : Writing count ks os ws l at node i) where
+  pub writing-end : count ≤ i
+      → (_≡_ {A = Place} (record { at = at; node = node }) (placed (readDefinitions count 0 (entries ks os))))
+      × (l ≡ storedDefinitions (readDefinitions count 0 (entries ks os)) ws)
+  unfolding readDefinitions
+  writing-end h =
+      let z : count - i ≡ 0 = omega (arith, g .most) in
+      let e : gives [] at (entriesFrom ks os at) ≡ got (g .left) =
+      ap (λ n. readDefinitions n at (entriesFrom ks os at)) (sym z) ∙ g .read-left in
+      let none : g .left .value ≡ [] = cc in
+      let here : g .left .next ≡ at = cc in
+      let same : g .all .value ≡ g .done = sym (g .whole) ∙ ap (λ ds. g .done ++ ds) none ∙ append-nil (g .done) in
+      let next : g .all .next ≡ at = sym (g .ends) ∙ here in
+      (rw (g .read-all, next, same, ← g .placed), rw (g .read-all, same) (g .words))
+
+  module _ (more : i < count) where
+    -- the next definition, and those behind it
+    record Turn : Type 0 where
+      new : Got Definition
+      others : Got (List Definition)
+      read-new : readDefinition at (entriesFrom ks os at) ≡ got new
+      read-others : readDefinitions (count - (i + 1)) (new .next) (new .rest) ≡ got others
+      value : g .left .value ≡ new .value ∷ others .value
+      next : g .left .next ≡ others .next
+
+    turn : Turn
+    unfolding readDefinitions
+    turn =
+        let z : count - i ≡ suc (count - (i + 1)) = omega arith in
+        let r : readDefinitions (suc (count - (i + 1))) at (entriesFrom ks os at) ≡ got (g .left) =
+        ap (λ n. readDefinitions n at (entriesFrom ks os at)) (sym z) ∙ g .read-left in
+        let d = bind-got (readDefinition at (entriesFrom ks os at)) _ (g .left) r in
+        let ds = bind-got (readDefinitions (count - (i + 1)) (d .0 .next) (d .0 .rest)) _ (g .left) (d .2) in
+        record { new = d .0; others = ds .0; read-new = d .1; read-others = ds .1; value = cc; next = cc }
+
+    facts : Defined ks os at (turn .new)
+    facts = defined ks os at (turn .new) (turn .read-new)
+
+    its : BodyOf ks os at (turn .new)
+    its = body-of ks os at (turn .new) (facts .here) (turn .read-new)
+
+    pub turn-below : length ks ≤ 512 → at < 512
+    turn-below k = let x = facts .here in omega arith
+
+    pub turn-next : length ks ≤ 512 → at + 1 < 4096
+    turn-next k = let x = facts .here in omega arith
+
+    pub turn-within : length os ≡ 4 * length ks → 4 * at + 4 ≤ length os
+    turn-within k = let x = facts .here in omega arith
+
+    module _ (o : ℕ) (eo : o ≡ operandAt os at) where
+      read : reading 24 ks os o (at + 1) ≡ got (its .body)
+      read =
+          let e = sym (add-one at) in
+          reread (readExp 24) (ap levels (sym eo)) e (ap (λ m. drop m (entries ks os)) e) (its .read)
+
+      room : node + size (its .body .value) < 1022
+      unfolding definitionsNodes
+      room =
+          let a = count-append (g .done) (g .left .value) in
+          let b = ap definitionsNodes (g .whole) in
+          let c = ap definitionsNodes (turn .value) in
+          let d = ap (λ (d : Definition). size (d .body)) (its .value) in
+          let p = g .placed in
+          let f = g .fits in
+          omega arith
+
+      pub turn-read : Parts ks os → BodyRead ks os o (at + 1) node
+      turn-read p =
+          let s = its .small in
+          record { parts = p; scoped = omega arith; fits = subst (λ r. Fits r node) (sym read) (fits room) }
+
+      pub turn-more : count ≤ 32 → (c : Compiled) (l1 l2 : List ℕ) → c ≡ compiledBody (reading 24 ks os o (at + 1)) node
+          → l1 ≡ storedBody (reading 24 ks os o (at + 1)) false node l → l2 ≡ sets l1 (3 + 2 * i) (c .root ∷ o ∷ [])
+          → Writing count ks os ws l2 (c .at) (c .node) (i + 1)
+      unfolding definitionsNodes
+      turn-more k c l1 l2 ec e1 e2 =
+          let d : Definition = record { formals = o; body = its .body .value } in
+          let b = its .body in
+          let same : turn .new .value ≡ d = its .value ∙ ap (λ m. record { formals = m; body = b .value }) (sym eo) in
+          let given : c ≡ compiledBody (got b) node = ec ∙ ap (λ r. compiledBody r node) read in
+          let e : turn .new .next ≡ c .at = its .next ∙ sym (ap (λ (x : Compiled). x .at) given) in
+          let n : c .node ≡ suc (node + size (b .value)) = ap (λ (x : Compiled). x .node) given in
+          let p = g .placed in
+          record {
+            all = g .all;
+            read-all = g .read-all;
+            fits = g .fits;
+            done = g .done ++ (d ∷ []);
+            left = turn .others;
+            read-left = ap₂ (λ m es. readDefinitions (count - (i + 1)) m es) (sym e)
+                (sym (facts .rest ∙ ap (λ m. entriesFrom ks os m) e)) ∙ turn .read-others;
+            whole = append-assoc (g .done) (d ∷ []) (turn .others .value)
+                ∙ ap (λ ds. g .done ++ ds) (ap (λ x. x ∷ turn .others .value) (sym same) ∙ sym (turn .value)) ∙ g .whole;
+            ends = sym (turn .next) ∙ g .ends;
+            many = simp length-append (omega (arith, g .many));
+            most = omega arith;
+            placed = omega (arith, count-append (g .done) (d ∷ []));
+            words = one-more (g .done) d ws l l1 l2 i node (g .many) (g .placed) (omega arith) (g .words)
+                (e1 ∙ ap (λ r. storedBody r false node l) read)
+                (e2 ∙ ap (λ m. sets l1 (3 + 2 * i) (m ∷ o ∷ [])) (ap (λ (x : Compiled). x .root) given));
+          }

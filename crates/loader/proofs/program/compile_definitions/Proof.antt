@@ -1,0 +1,61 @@
+-- `program::compile_definitions` meets its contract. The loop's invariant: the words of the definitions so far are stored, and the others are
+-- still to be read. Assumes nothing.
+use Prim.Native.Nat.{_-_}
+use borrow.Author.Needs.{needs, fits-under}
+use mir.Syntax.{w64}
+use Rattle.loader.proofs.Writing.{Writing, writing-start, writing-end, turn-below, turn-next, turn-within, turn-read, turn-more}
+use Rattle.loader.proofs.program.compile_definitions.Statement.{statement}
+use Rattle.loader.proofs.program.compile_definitions.Tie as tie
+
+abbrev Inv-loop : tie.InvT-loop
+Inv-loop kinds operands dag₀ count at₀ node₀ i₀ dag at node i = Writing count kinds operands dag₀ dag at node i
+
+abbrev μ-loop : tie.MeasureT-loop
+μ-loop kinds operands dag₀ count at₀ node₀ i₀ dag at node i = count - i
+
+loop-holds : tie.Need-loop-holds Inv-loop μ-loop
+loop-holds c = search writing-start
+
+operand-requires : tie.Need-operand-requires Inv-loop μ-loop
+operand-requires c κs = (search turn-below, search turn-within)
+
+cast-compile-body : tie.Need-cast-compile-body Inv-loop μ-loop
+cast-compile-body c = search needs
+
+add-compile-body : tie.Need-add-compile-body Inv-loop μ-loop
+add-compile-body c = fits-under w64 _ 4096 (search turn-next) tt
+
+compile-body-requires : tie.Need-compile-body-requires Inv-loop μ-loop
+compile-body-requires c κs = search turn-read
+
+put-definition-requires : tie.Need-put-definition-requires Inv-loop μ-loop
+put-definition-requires c κs = search needs
+
+add-i : tie.Need-add-i Inv-loop μ-loop
+add-i c = search needs
+
+loop-less : tie.Need-loop-less Inv-loop μ-loop
+loop-less c = search needs
+
+loop-again : tie.Need-loop-again Inv-loop μ-loop
+loop-again c = search turn-more
+
+returns : tie.Need-returns Inv-loop μ-loop
+returns c = writing-end _ _ _ _ _ _ _ _ (c .before .loop .inv) (c .loop-test .left)
+
+pub compile-definitions-spec : {M : Type 1} → statement M
+compile-definitions-spec =
+    tie.close
+    (tie.spec
+    Inv-loop
+    μ-loop
+    loop-holds
+    operand-requires
+    cast-compile-body
+    add-compile-body
+    compile-body-requires
+    put-definition-requires
+    add-i
+    loop-less
+    loop-again
+    returns)

@@ -1,0 +1,61 @@
+// An accepted program: the bodies of its definitions, its goal, and the dag's head.
+use crate::body;
+use crate::head;
+use reader::entry;
+ghost use mathlib.Core.Path.{_≡_};
+ghost use Prim.Native.Nat.{_≤_};
+ghost use Rattle.model.specs.Job.Entry.{entries};
+ghost use Rattle.model.specs.Job.Read.{readEntries};
+ghost use Rattle.reader.specs.Checked.{Parts};
+ghost use Rattle.reader.specs.Definitions.{readDefinitions};
+ghost use Rattle.loader.specs.Stored.{DefinitionsRead, Accepts, placed, storedDefinitions, storedProgram};
+
+// The first entry and the first node behind what is compiled.
+pub struct Place {
+    pub at: usize,
+    pub node: usize,
+}
+
+// Stores the bodies of so many definitions, and their words of the head.
+fn compile_definitions(kinds: &[u8], operands: &[u8], dag: &mut [u32; 12331], count: usize) -> Place
+    requires { ⌜ Parts (now kinds) (now operands) ⌝ }
+    requires { ⌜ count ≤ 32 ⌝ }
+    requires { ⌜ DefinitionsRead (readDefinitions count 0 (entries (now kinds) (now operands))) ⌝ }
+    ensures { λ r. ⌜ r ≡ placed (readDefinitions count 0 (entries (now (kinds .entry)) (now (operands .entry)))) ⌝ }
+    ensures { λ _. ⌜ now (dag .exit) ≡ storedDefinitions (readDefinitions count 0 (entries (now (kinds .entry)) (now (operands .entry))))
+        (now (dag .entry)) ⌝ }
+{
+    let mut at = 0;
+    let mut node = 0;
+    let mut i = 0;
+    while i < count {
+        let formals = entry::operand(operands, at);
+        let definition = body::compile_body(
+            kinds,
+            operands,
+            dag,
+            formals as usize,
+            at + 1,
+            node,
+            false,
+        );
+        head::put_definition(dag, i, definition.root, formals);
+        at = definition.at;
+        node = definition.node;
+        i += 1;
+    }
+    Place { at: at, node: node }
+}
+
+// Stores the dag of a program with so many definitions.
+pub fn compile_program(kinds: &[u8], operands: &[u8], dag: &mut [u32; 12331], count: usize)
+    requires { ⌜ Parts (now kinds) (now operands) ⌝ }
+    requires { ⌜ count ≤ 32 ⌝ }
+    requires { ⌜ Accepts (readEntries count (entries (now kinds) (now operands))) ⌝ }
+    ensures { λ _. ⌜ now (dag .exit) ≡ storedProgram (readEntries count (entries (now (kinds .entry)) (now (operands .entry))))
+        (now (dag .entry)) ⌝ }
+{
+    let before = compile_definitions(kinds, operands, dag, count);
+    let goal = body::compile_body(kinds, operands, dag, 0, before.at, before.node, true);
+    head::put_sizes(dag, goal.node as u32, count as u32, goal.root);
+}

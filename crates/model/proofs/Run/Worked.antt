@@ -1,0 +1,67 @@
+-- Runs by computation, for rules that the marked runs do not show: a definition call does not wait, a handle is not given again, and a callee has
+-- only its formals bound. Assumes nothing.
+use mathlib.Core.Path.{_≡_, refl}
+use mathlib.Core.List.{List, [], _∷_, _++_}
+use Prim.Native.Nat.{ℕ, _<_}
+use native.Mathlib.Omega.{arith}
+use lib.ListN.{replicate}
+use lib.IntN.{pos}
+use Rattle.model.specs.Number.{Signed32, fits}
+use Rattle.model.specs.Job.Syntax.{Program}
+use Rattle.model.specs.Job.Construct.{construct}
+use Rattle.model.specs.Machine.Limits.{paper}
+use Rattle.model.specs.Machine.Blank.{empty}
+use Rattle.model.specs.Calculus.Event.{Event}
+use Rattle.model.specs.Run.Call.{Call, Runner, runner, outcomeOf, eventsOf, eventsFrom, machineAfter, started}
+use Rattle.model.specs.Run.Follow.{queuedToken}
+use Rattle.model.specs.declared.token.Slot.the-variants as slots
+use Rattle.model.specs.declared.record.Machine.{Machine}
+use Rattle.model.proofs.Test.{lt-ltb}
+use Rattle.model.proofs.Calculus.Programs.{mail-once, not-strict, same-number}
+use Rattle.model.proofs.Run.Computing.{computing}
+
+-- so many steps in house order
+abbrev pub house : ℕ → List Call
+house n = replicate n (Call.step 0)
+
+pub in-range : (n : ℕ) → n < 2147483648 → Signed32 (pos n)
+unfolding fits
+in-range n l = lt-ltb n 2147483648 l
+
+-- an answer that is not negative
+abbrev pub answering : (h n : ℕ) → n < 2147483648 → Call
+answering h n l = Call.answer h (pos n) (in-range n l)
+
+-- a run of a program's table with the numbers of document 01: its events, and the machine that it ends in
+abbrev pub events : Runner → Program → List Call → List Event
+events R p calls = eventsFrom R paper (construct p) (started R paper (construct p)) calls
+
+abbrev pub after : Runner → Program → List Call → Machine
+after R p calls = machineAfter R paper (construct p) (started R paper (construct p)) calls
+
+-- E(x) = let(1) | 17(x), goal E(x) <x< 16(): E is entered and publishes before x has a value; 17(x) waits for it
+pub call-does-not-wait :
+    events runner not-strict (house 9 ++ (answering 0 6 (omega arith) ∷ house 2))
+    ≡ Event.call 0 16 [] ∷ Event.publish (pos 1) ∷ Event.answer 0 (pos 6) ∷ Event.call 1 17 (pos 6 ∷ []) ∷ []
+unfolding computing outcomeOf eventsOf eventsFrom
+call-does-not-wait = refl
+
+-- 18(7, x) <x< (16() | 17()): the first answer prunes call 1. The next call is 2, and an answer to 1 is refused
+pub handle-not-given-again :
+    events runner mail-once
+    (house 5 ++ (answering 0 3 (omega arith) ∷ house 2 ++ (answering 1 9 (omega arith) ∷ answering 2 5 (omega arith) ∷ house 2)))
+    ≡ Event.call 0 16 []
+    ∷ Event.call 1 17 []
+    ∷ Event.answer 0 (pos 3)
+    ∷ Event.call 2 18 (pos 7 ∷ pos 3 ∷ [])
+    ∷ Event.answer 2 (pos 5)
+    ∷ Event.publish (pos 5)
+    ∷ []
+unfolding computing outcomeOf eventsOf eventsFrom
+handle-not-given-again = refl
+
+-- E(x) = 17() >z> let(x), goal let(4) >a> (E(y) <y< 16()): the caller has a and y bound, the callee x alone, to y's cell
+pub callee-has-its-formals :
+    queuedToken (after runner same-number (house 4)) 1 .binds ≡ record { slot = slots.Cell 0 } ∷ replicate 7 empty
+unfolding computing outcomeOf machineAfter
+callee-has-its-formals = refl

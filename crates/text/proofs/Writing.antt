@@ -1,0 +1,60 @@
+-- Writing in parts: what is written first and what is written behind it are written one after the other, since a run of stores
+-- may be cut anywhere. Assumes nothing.
+use mathlib.Core.Path.{_≡_, refl, sym, ap, _∙_, subst}
+use mathlib.Core.List.{List, [], _∷_, _++_}
+use Prim.Native.Nat.{ℕ, zero, suc, _+_, _<_, _≤_}
+use native.Mathlib.Nat.{add-zero}
+use native.Mathlib.Numerals.{add-one}
+use native.Mathlib.Omega.{arith}
+use lib.ListN.{length, getD, take, set, length-append}
+use lib.Seq.{sets, take-suc, length-take-le, take-all}
+use Rattle.text.specs.Written.{Written}
+
+sets-append : (l : List ℕ) (i : ℕ) (a b : List ℕ) → sets l i (a ++ b) ≡ sets (sets l i a) (i + length a) b
+sets-append l i [] b = rw add-zero
+sets-append l i (x ∷ a) b =
+    let e : suc i + length a ≡ i + suc (length a) = omega arith in
+    sets-append (set l i x) (suc i) a b ∙ rw e
+
+-- nothing is written
+pub none-written : (before : List ℕ) (at : ℕ) → Written 0 before at [] before at
+none-written before at = record { stored = refl; behind = omega arith; few = omega arith }
+
+-- one byte
+pub one-written : (before : List ℕ) (at x : ℕ) → Written 1 before at (x ∷ []) (set before at x) (at + 1)
+one-written before at x = record { stored = refl; behind = omega arith; few = omega arith }
+
+-- and then more
+pub then-written : {m k : ℕ} {before middle after : List ℕ} {at next end : ℕ} {a b : List ℕ}
+    → Written m before at a middle next → Written k middle next b after end → Written (m + k) before at (a ++ b) after end
+then-written {before = before} {at = at} {a = a} {b = b} f s =
+    let l : length (a ++ b) ≡ length a + length b = length-append a b in
+    let p = f .behind in
+    let q = s .behind in
+    let u = f .few in
+    let v = s .few in
+    record {
+      stored = s .stored ∙ rw (f .stored, f .behind) (sym (sets-append before at a b));
+      behind = omega arith;
+      few = omega arith;
+    }
+
+-- the same bytes otherwise put, and a larger bound
+pub written-as : {m k : ℕ} {before after : List ℕ} {at next : ℕ} {a b : List ℕ}
+    → Written m before at a after next → a ≡ b → m ≤ k → Written k before at b after next
+written-as {m} {k} {before} {after} {at} {next} {a} {b} w e h =
+    let u = w .few in
+    let v : Written k before at a after next = record { stored = w .stored; behind = w .behind; few = omega arith } in
+    subst (λ (bytes : List ℕ). Written k before at bytes after next) e v
+
+-- a loop's turn: one more byte of a word
+pub word-more : (word : List ℕ) (before middle : List ℕ) (at to i : ℕ) → i < length word → Written i before at (take i word) middle to
+    → Written (i + 1) before at (take (i + 1) word) (set middle to (getD word i 0)) (to + 1)
+word-more word before middle at to i h w =
+    let e : take i word ++ (getD word i 0 ∷ []) ≡ take (i + 1) word = rw (add-one, take-suc word i 0) in
+    let n : i + 1 ≤ i + 1 = omega arith in
+    written-as (then-written w (one-written middle to (getD word i 0))) e n
+
+pub word-written : (word : List ℕ) (before after : List ℕ) (at to i : ℕ) → length word ≤ i → i ≤ length word
+    → Written i before at (take i word) after to → Written (length word) before at word after to
+word-written word before after at to i h g w = written-as w (take-all i word h) g

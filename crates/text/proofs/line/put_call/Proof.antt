@@ -1,0 +1,50 @@
+-- `line::put_call` meets its contract: its parts are written one behind the other. Assumes nothing.
+use borrow.Author.Needs.{needs}
+use native.Mathlib.Omega.{arith}
+use mathlib.Core.List.{map}
+use Rattle.model.specs.Lines.Line.{ascii, textOf}
+use Rattle.text.proofs.Writing.{then-written, written-as}
+use Rattle.text.proofs.Parts.{two-spaced}
+use Rattle.text.proofs.line.put_call.Statement.{statement}
+use Rattle.text.proofs.line.put_call.Tie as tie
+
+slice-aggregate-put-word : tie.Need-slice-aggregate-put-word
+slice-aggregate-put-word c = search needs
+
+put-word-requires : tie.Need-put-word-requires
+put-word-requires c κs = search needs
+
+put-number-requires : tie.Need-put-number-requires
+put-number-requires c κs = search needs
+
+put-number-requires-2 : tie.Need-put-number-requires-2
+put-number-requires-2 c κs = search needs
+
+put-values-requires : tie.Need-put-values-requires
+put-values-requires c κs = search needs
+
+put-feed-requires : tie.Need-put-feed-requires
+put-feed-requires c κs = search needs
+
+returns : tie.Need-returns
+unfolding ascii textOf
+returns c =
+    let values = then-written (c .before .before .put-values .ensures) (c .put-feed .ensures) in
+    let site = then-written (c .before .before .before .before .put-number2 .ensures) values in
+    let handle = then-written (c .before .before .before .before .before .before .put-number .ensures) site in
+    written-as
+    (then-written (c .before .before .before .before .before .before .before .before .put-word .ensures) handle)
+    (two-spaced (ascii "call") _ _ _)
+    (omega arith)
+
+pub put-call-spec : {M : Type 1} → statement M
+put-call-spec =
+    tie.close
+    (tie.spec
+    slice-aggregate-put-word
+    put-word-requires
+    put-number-requires
+    put-number-requires-2
+    put-values-requires
+    put-feed-requires
+    returns)

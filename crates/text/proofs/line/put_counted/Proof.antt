@@ -1,0 +1,29 @@
+-- `line::put_counted` meets its contract: its parts are written one behind the other. Assumes nothing.
+use borrow.Author.Needs.{needs}
+use native.Mathlib.Omega.{arith}
+use mathlib.Core.List.{[]}
+use Rattle.model.specs.Lines.Line.{decimal}
+use Rattle.text.specs.Written.{allSpaced}
+use Rattle.text.proofs.Writing.{then-written, written-as}
+use Rattle.text.proofs.Parts.{one-spaced}
+use Rattle.text.proofs.line.put_counted.Statement.{statement}
+use Rattle.text.proofs.line.put_counted.Tie as tie
+
+put-word-requires : tie.Need-put-word-requires
+put-word-requires c κs = search needs
+
+put-number-requires : tie.Need-put-number-requires
+put-number-requires c κs = search needs
+
+put-feed-requires : tie.Need-put-feed-requires
+put-feed-requires c κs = search needs
+
+returns : tie.Need-returns
+unfolding allSpaced
+returns c =
+    let number = then-written (c .before .before .put-number .ensures) (c .put-feed .ensures) in
+    written-as (then-written (c .before .before .before .before .put-word .ensures) number) (one-spaced _ _ []) (omega arith)
+
+pub put-counted-spec : {M : Type 1} → statement M
+put-counted-spec =
+    tie.close (tie.spec put-word-requires put-number-requires put-feed-requires returns)

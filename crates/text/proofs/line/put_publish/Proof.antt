@@ -1,0 +1,38 @@
+-- `line::put_publish` meets its contract: its parts are written one behind the other. Assumes nothing.
+use borrow.Author.Needs.{needs}
+use native.Mathlib.Omega.{arith}
+use mathlib.Core.Path.{refl}
+use mir.Facts.{toZ-ofZ}
+use Rattle.model.specs.Lines.Line.{ascii, lineOf, textOf}
+use Rattle.text.specs.Written.{spaced, feed}
+use Rattle.text.proofs.Writing.{then-written, written-as}
+use Rattle.text.proofs.line.put_publish.Statement.{statement}
+use Rattle.text.proofs.line.put_publish.Tie as tie
+
+slice-aggregate-put-word : tie.Need-slice-aggregate-put-word
+slice-aggregate-put-word c = search needs
+
+put-word-requires : tie.Need-put-word-requires
+put-word-requires c κs = search needs
+
+put-value-requires : tie.Need-put-value-requires
+put-value-requires c κs = search needs
+
+put-feed-requires : tie.Need-put-feed-requires
+put-feed-requires c κs = search needs
+
+returns : tie.Need-returns
+unfolding ascii lineOf textOf spaced feed
+returns c =
+    let value = rw (toZ-ofZ (c .before .before .before .before .before .before .before .fits .v)) at (c .before .before .put-value .ensures) in
+    written-as (then-written (c .before .before .before .before .put-word .ensures) (then-written value (c .put-feed .ensures))) refl (omega arith)
+
+pub put-publish-spec : {M : Type 1} → statement M
+put-publish-spec =
+    tie.close
+    (tie.spec
+    slice-aggregate-put-word
+    put-word-requires
+    put-value-requires
+    put-feed-requires
+    returns)

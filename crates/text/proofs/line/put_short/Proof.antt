@@ -1,0 +1,21 @@
+-- `line::put_short` meets its contract: its line is one word. Assumes nothing.
+use borrow.Author.Needs.{needs}
+use native.Mathlib.Omega.{arith}
+use mathlib.Core.Path.{refl}
+use Rattle.model.specs.Lines.Line.{ascii, lineOf, textOf}
+use Rattle.text.proofs.Writing.{written-as}
+use Rattle.text.proofs.line.put_short.Statement.{statement}
+use Rattle.text.proofs.line.put_short.Tie as tie
+
+slice-aggregate-put-word : tie.Need-slice-aggregate-put-word
+slice-aggregate-put-word c = search needs
+
+put-word-requires : tie.Need-put-word-requires
+put-word-requires c κs = search needs
+
+returns : tie.Need-returns
+unfolding ascii lineOf textOf
+returns c = written-as (c .put-word .ensures) refl (omega arith)
+
+pub put-short-spec : {M : Type 1} → statement M
+put-short-spec = tie.close (tie.spec slice-aggregate-put-word put-word-requires returns)

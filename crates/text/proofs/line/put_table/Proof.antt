@@ -1,0 +1,46 @@
+-- `line::put_table` meets its contract: its parts are written one behind the other. Assumes nothing.
+use borrow.Author.Needs.{needs}
+use native.Mathlib.Omega.{arith}
+use mathlib.Core.List.{[]}
+use Rattle.model.specs.Lines.Line.{ascii, textOf, decimal}
+use Rattle.text.specs.Written.{allSpaced}
+use Rattle.text.proofs.Writing.{then-written, written-as}
+use Rattle.text.proofs.Parts.{two-spaced}
+use Rattle.text.proofs.line.put_table.Statement.{statement}
+use Rattle.text.proofs.line.put_table.Tie as tie
+
+slice-aggregate-put-word : tie.Need-slice-aggregate-put-word
+slice-aggregate-put-word c = search needs
+
+put-word-requires : tie.Need-put-word-requires
+put-word-requires c κs = search needs
+
+put-number-requires : tie.Need-put-number-requires
+put-number-requires c κs = search needs
+
+put-number-requires-2 : tie.Need-put-number-requires-2
+put-number-requires-2 c κs = search needs
+
+put-feed-requires : tie.Need-put-feed-requires
+put-feed-requires c κs = search needs
+
+returns : tie.Need-returns
+unfolding ascii textOf allSpaced
+returns c =
+    let last = then-written (c .before .before .put-number2 .ensures) (c .put-feed .ensures) in
+    let numbers = then-written (c .before .before .before .before .put-number .ensures) last in
+    written-as
+    (then-written (c .before .before .before .before .before .before .put-word .ensures) numbers)
+    (two-spaced (ascii "table") _ _ [])
+    (omega arith)
+
+pub put-table-spec : {M : Type 1} → statement M
+put-table-spec =
+    tie.close
+    (tie.spec
+    slice-aggregate-put-word
+    put-word-requires
+    put-number-requires
+    put-number-requires-2
+    put-feed-requires
+    returns)

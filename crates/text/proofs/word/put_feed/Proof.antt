@@ -1,0 +1,20 @@
+-- `word::put_feed` meets its contract: the line feed is one byte. Assumes nothing.
+use borrow.Author.Needs.{needs}
+use Rattle.model.specs.Lines.Line.{ascii}
+use Rattle.text.specs.Written.{feed}
+use Rattle.text.proofs.Writing.{one-written}
+use Rattle.text.proofs.word.put_feed.Statement.{statement}
+use Rattle.text.proofs.word.put_feed.Tie as tie
+
+element-write-buffer : tie.Need-element-write-buffer
+element-write-buffer c = search needs
+
+add-result : tie.Need-add-result
+add-result c = search needs
+
+returns : tie.Need-returns
+unfolding ascii feed
+returns c = one-written _ _ 10
+
+pub put-feed-spec : {M : Type 1} → statement M
+put-feed-spec = tie.close (tie.spec element-write-buffer add-result returns)

@@ -1,0 +1,2 @@
+-- What writing bytes into the buffer means.
+pub mod Written

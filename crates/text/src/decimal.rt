@@ -1,0 +1,29 @@
+// A number in base ten.
+ghost use Prim.Native.Nat.{_+_, _≤_};
+ghost use lib.ListN.{length};
+ghost use Rattle.model.specs.Lines.Line.{digits, decimal};
+ghost use Rattle.text.specs.Written.{Written};
+
+// So many digits at most: the front ones first, then the last.
+fn put_digits(buffer: &mut [u8; 4096], at: usize, most: usize, n: u32) -> usize
+    requires { ⌜ at + length (digits most n) ≤ 4096 ⌝ }
+    ensures { λ r. ⌜ Written most (now (buffer .entry)) at (digits most n) (now (buffer .exit)) r ⌝ }
+{
+    if most == 0 {
+        return at;
+    }
+    if n < 10 {
+        buffer[at] = b'0' + n as u8;
+        return at + 1;
+    }
+    let last = put_digits(buffer, at, most - 1, n / 10);
+    buffer[last] = b'0' + (n % 10) as u8;
+    last + 1
+}
+
+pub fn put_decimal(buffer: &mut [u8; 4096], at: usize, n: u32) -> usize
+    requires { ⌜ at + 10 ≤ 4096 ⌝ }
+    ensures { λ r. ⌜ Written 10 (now (buffer .entry)) at (decimal n) (now (buffer .exit)) r ⌝ }
+{
+    put_digits(buffer, at, 20, n)
+}

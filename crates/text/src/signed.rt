@@ -1,0 +1,28 @@
+// A signed number in base ten, with a minus sign where it is negative.
+use crate::decimal;
+ghost use mathlib.Core.Path.{_≡_};
+ghost use Prim.Native.Nat.{_+_, _≤_};
+ghost use lib.IntN.{natAbs};
+ghost use Rattle.model.specs.Lines.Line.{decimalZ};
+ghost use Rattle.text.specs.Written.{Written};
+
+// (the least number's magnitude is no i32)
+fn magnitude(v: i32) -> u32
+    ensures { λ r. ⌜ r ≡ natAbs v ⌝ }
+{
+    if v < 0 {
+        return (-(v as i64)) as u32;
+    }
+    v as u32
+}
+
+pub fn put_signed(buffer: &mut [u8; 4096], at: usize, v: i32) -> usize
+    requires { ⌜ at + 11 ≤ 4096 ⌝ }
+    ensures { λ r. ⌜ Written 11 (now (buffer .entry)) at (decimalZ v) (now (buffer .exit)) r ⌝ }
+{
+    if v < 0 {
+        buffer[at] = b'-';
+        return decimal::put_decimal(buffer, at + 1, magnitude(v));
+    }
+    decimal::put_decimal(buffer, at, magnitude(v))
+}
