@@ -1,0 +1,4 @@
+-- Laws that the proofs of the functions cite.
+pub mod Signed
+pub mod Sites
+pub mod Orders

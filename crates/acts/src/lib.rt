@@ -1,0 +1,3 @@
+// What a step's instruction and an answer do to the machine, before what is not in use is made blank.
+pub mod order;
+pub mod site;
