@@ -1,4 +1,7 @@
 -- Laws that the proofs of the functions cite.
 pub mod Signed
 pub mod Sites
+pub mod Tables
 pub mod Orders
+pub mod Params
+pub mod LookUps

@@ -2,15 +2,16 @@
 -- when their bits are. Assumes nothing.
 use mathlib.Core.Path.{_≡_, refl, sym, ap, _∙_}
 use mathlib.Core.Bool.{Bool, true, false, cond}
-use Prim.Native.Nat.{ℕ, suc, _+_, _-_, _≤_, _<_, _^_}
+use Prim.Native.Nat.{ℕ, zero, suc, _+_, _-_, _≤_, _<_, _^_}
 use native.Mathlib.Omega.{arith}
+use native.Mathlib.Nat.{zero-add}
 use lib.Dec.{ltb, eqb}
-use lib.IntN.{ℤ, pos, negsuc, _+ℤ_, subℕ}
+use lib.IntN.{ℤ, pos, negsuc, _+ℤ_, _-ℤ_, subℕ}
 use lib.Signed.{mag, ltZ}
 use mir.Syntax.{w32, w64}
 use mir.Val.{SFits, toZ, ofZ}
 use mir.Facts.{toZ-ofZ, sfits-widen}
-use Rattle.model.specs.Number.{fits, equalZ}
+use Rattle.model.specs.Number.{fits, equalZ, signed}
 use Rattle.model.proofs.Test.{clash, eqb-same, eqb-eq, ne-eqb, lt-ltb, ltb-lt, le-not-ltb, not-ltb-le, holds-or-fails}
 
 -- sums
@@ -77,3 +78,20 @@ equal-bits a b f g = go (equalZ a b) refl
     go false e =
         ne-eqb (ofZ w32 a) (ofZ w32 b)
         (λ s. clash (ap (equalZ a) (sym (sym (toZ-ofZ f) ∙ ap (toZ w32) s ∙ toZ-ofZ g)) ∙ equalZ-same a) e)
+
+-- -1 - d
+pub under : (d : ℕ) → negsuc 0 -ℤ pos d ≡ negsuc d
+under zero = refl
+under (suc k) = ap (λ (x : ℕ). negsuc (suc x)) (zero-add k)
+
+pub under-fits : (d : ℕ) → d < 2 ^ 31 → SFits w32 (negsuc 0 -ℤ pos d)
+under-fits d h = rw (under d) (record { sfits = h })
+
+-- 32 bits as a signed number, by halves
+pub signed-lower : (n : ℕ) → n < 2 ^ 31 → pos n ≡ signed n
+unfolding signed
+signed-lower n l = rw (lt-ltb n (2 ^ 31) l, signed)
+
+pub signed-upper : (n : ℕ) → 2 ^ 31 ≤ n → negsuc (4294967295 - n) ≡ signed n
+unfolding signed
+signed-upper n l = rw (le-not-ltb n (2 ^ 31) l, signed)

@@ -1,2 +1,4 @@
 -- What the contracts of this crate cite, over the definitions of crate `model`.
 pub mod Said
+pub mod Row
+pub mod Looking
