@@ -3,5 +3,6 @@ pub mod Signed
 pub mod Sites
 pub mod Tables
 pub mod Orders
+pub mod Shapes
 pub mod Params
 pub mod LookUps
