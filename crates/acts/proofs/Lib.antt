@@ -4,5 +4,7 @@ pub mod Sites
 pub mod Tables
 pub mod Orders
 pub mod Shapes
+pub mod Chokes
+pub mod Gathers
 pub mod Params
 pub mod LookUps

@@ -19,7 +19,7 @@ use Rattle.model.specs.declared.token.Slot.the-variants as slots
 use Rattle.model.specs.declared.token.Bind.{Bind}
 use Rattle.model.proofs.Test.{ne-eqb, ltb-lt, all-at}
 use Rattle.acts.specs.Row.{rowAt, paramsAt, ParamsKept}
-use Rattle.acts.proofs.Tables.{getD-any}
+use Rattle.acts.proofs.Tables.{getD-any, map-append}
 
 -- a parameter by its kind
 pub param-variable : (k w : ℕ) → k ≡ 7 → paramOf k w ≡ variable w
@@ -84,10 +84,6 @@ module _ (ws : List ℕ) (at : ℕ) (size : length ws ≡ 12331) (inside : at + 
       (param-word (suc (i * 2)) (omega arith) ∙ ap (λ k. getD ws k 0) word)
 
 -- the formals, one more bound at each turn
-map-append : {A B : Type 0} (f : A → B) (xs ys : List A) → map f (xs ++ ys) ≡ map f xs ++ map f ys
-map-append f [] ys = refl
-map-append f (x ∷ xs) ys = ap (_∷_ (f x)) (map-append f xs ys)
-
 pub bound-more :
     (bs : List Bind) (ps : List Param) (i : ℕ) (d : Param)
     → i < length ps

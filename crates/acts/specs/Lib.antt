@@ -3,3 +3,4 @@ pub mod Said
 pub mod Row
 pub mod Looking
 pub mod Unfinished
+pub mod Choking

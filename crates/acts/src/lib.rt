@@ -1,5 +1,6 @@
 // What a step's instruction and an answer do to the machine, before what is not in use is made blank.
 pub mod change;
+pub mod choke;
 pub mod effect;
 pub mod look;
 pub mod order;

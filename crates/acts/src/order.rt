@@ -3,7 +3,20 @@ ghost use mathlib.Core.Path.{_≡_};
 ghost use Prim.Native.Nat.{_<_, _≤_, _-_};
 ghost use lib.ListN.{take, drop, replicate};
 ghost use Rattle.model.specs.Test.{padded, without};
+ghost use mathlib.Core.Bool.{true};
+ghost use mathlib.Core.List.{[]};
+ghost use Prim.Native.Nat.{ℕ, _+_};
+ghost use lib.Dec.{ltb};
+ghost use Rattle.model.specs.Test.{all};
+ghost use Rattle.acts.specs.Unfinished.{OrderKept};
+ghost use Rattle.acts.specs.Choking.{orderOf, behindIf, gathering};
 use model::record::Machine;
+
+// The names of an order, and how many they are.
+pub struct Order {
+    pub names: [u8; Machine::TOKENS],
+    pub count: usize,
+}
 
 // The order with the name at an index left out.
 pub fn left_out(
@@ -23,4 +36,48 @@ pub fn left_out(
     }
     names[last] = 0;
     names
+}
+
+pub fn none() -> Order
+    ensures { λ r. ⌜ r ≡ orderOf [] ⌝ }
+{
+    Order {
+        names: [0; Machine::TOKENS],
+        count: 0,
+    }
+}
+
+// The order with a name behind it, if it is to be kept.
+pub fn behind(mut order: Order, name: u8, keep: bool) -> Order
+    requires { ⌜ order .count < 64 ⌝ }
+    ensures { λ r. ⌜ r ≡ behindIf keep name order ⌝ }
+{
+    if keep {
+        let n = order.count;
+        order.names[n] = name;
+        order.count = n + 1;
+        return order;
+    }
+    order
+}
+
+// The order with those of some names behind it that are marked.
+pub fn gathered(
+    order: Order,
+    names: [u8; Machine::TOKENS],
+    count: usize,
+    marks: [bool; Machine::TOKENS],
+) -> Order
+    requires { ⌜ OrderKept (order .names) (order .count) × (order .count + count ≤ 64) × (all (λ (p : ℕ). ltb p 64) (take count names) ≡ true) ⌝ }
+    ensures { λ r. ⌜ r ≡ gathering (take (order .count) (order .names)) marks (take count names) ⌝ }
+{
+    let mut out = order;
+    let mut i: usize = 0;
+    while i < count {
+        let name = names[i];
+        let p = name as usize;
+        out = behind(out, name, marks[p]);
+        i += 1;
+    }
+    out
 }
