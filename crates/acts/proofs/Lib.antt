@@ -6,5 +6,6 @@ pub mod Orders
 pub mod Shapes
 pub mod Chokes
 pub mod Gathers
+pub mod Choked
 pub mod Params
 pub mod LookUps

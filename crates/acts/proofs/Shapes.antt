@@ -28,7 +28,7 @@ abbrev pub shaped : List Token → List Cell → (queue waits : List ℕ) (calls
 shaped ts cs q w c a b = literal ts cs (padded 0 64 q) (length q) (padded 0 64 w) (length w) c a b
 
 -- an order's names, from its array
-names-back : (q : List ℕ) → take (length q) (padded 0 64 q) ≡ q
+pub names-back : (q : List ℕ) → take (length q) (padded 0 64 q) ≡ q
 unfolding padded
 names-back q = take-append-seam q _
 
@@ -114,6 +114,10 @@ module _ (m : Machine) (place at : ℕ) (o : Taking m place at) (names : List �
       let z : suc (length (without place (take (m .queued) (m .queue)))) ≡ length (take (m .queued) (m .queue)) =
       length-without place (take (m .queued) (m .queue)) (omega arith) in
       omega arith
+
+  pub taken-count : m .queued - 1 ≡ length (without place (take (m .queued) (m .queue)))
+  unfolding rest
+  taken-count = rest-count
 
   few : m .queued - 1 < 64
   few = let l : place < m .queued = o .queued in let f : m .queued ≤ 64 = o .orders .queue .fits in omega arith

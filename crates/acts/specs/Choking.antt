@@ -3,9 +3,10 @@
 use mathlib.Core.Path.{_≡_}
 use mathlib.Core.Bool.{Bool, true, false}
 use mathlib.Core.List.{List, [], _∷_, _++_, map}
-use Prim.Native.Nat.{ℕ, _+_, _<_}
-use lib.ListN.{length, getD, set}
-use Rattle.model.specs.Test.{filter, padded}
+use Prim.Native.Nat.{ℕ, _+_, _<_, _≤_}
+use lib.ListN.{length, getD, set, take}
+use lib.Dec.{ltb}
+use Rattle.model.specs.Test.{all, filter, padded}
 use Rattle.model.specs.Machine.Blank.{blankToken}
 use Rattle.model.specs.Machine.Active.{within}
 use Rattle.model.specs.Machine.Rules.{placeInRange, isReady, isWaiting}
@@ -15,6 +16,8 @@ use Rattle.model.specs.declared.token.Place.the-variants as places
 use Rattle.model.specs.declared.token.State.the-variants as states
 use Rattle.model.specs.declared.token.Token.{Token}
 use Rattle.model.specs.declared.cell.Cell.{Cell}
+use Rattle.model.specs.declared.record.Machine.{Machine}
+use Rattle.acts.specs.Unfinished.{OrdersKept}
 use Rattle.acts.specs.declared.order.Order.{Order}
 
 unfoldable pub parentInRange : ℕ → Cell → Bool
@@ -57,3 +60,14 @@ behindIf false p o = o
 -- an order with those of some names behind it that are marked
 abbrev pub gathering : List ℕ → List Bool → List ℕ → Order
 gathering xs marks names = orderOf (xs ++ filter (λ (p : ℕ). getD marks p false) names)
+
+-- what the index rules say of the record at a choke of the cell c
+pub record ChokingKept (m : Machine) (place c : ℕ) : Type 0 where
+  pub orders : OrdersKept m
+  pub queued : place < m .queued
+  pub room : m .queued + m .waiting ≤ 64
+  pub ready : all (λ (p : ℕ). ltb p 64) (take (m .queued) (m .queue)) ≡ true
+  pub waiting : all (λ (p : ℕ). ltb p 64) (take (m .waiting) (m .waits)) ≡ true
+  pub homes : all (homeInRange 32) (m .tokens) ≡ true
+  pub parents : all (parentInRange 32) (m .cells) ≡ true
+  pub inside : c < 32

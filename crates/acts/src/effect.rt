@@ -5,15 +5,22 @@ ghost use mathlib.Core.List.{[]};
 ghost use Prim.Native.Nat.{suc, _<_};
 ghost use Rattle.model.specs.Machine.Blank.{blankToken};
 ghost use Rattle.model.specs.Machine.Reply.{moves, waits};
-ghost use Rattle.model.specs.Machine.Step.{put, enqueue, newToken, newCell, withCounts};
+ghost use Rattle.model.specs.Machine.Step.{put, enqueue, newToken, newCell, withCounts, choked};
 ghost use Rattle.model.specs.declared.reply.Reply.the-variants as replies;
 ghost use Rattle.acts.specs.Unfinished.{unfinished, effectOutcome, taken, waitingAt, Taking};
+ghost use Rattle.acts.specs.Choking.{ChokingKept};
 use crate::change::blank;
+use crate::choke::below;
+use crate::choke::choke_all;
+use crate::order::gathered;
+use crate::order::gathered_both;
 use crate::order::left_out;
+use crate::order::none;
 use model::cell::Cell;
 use model::record::Machine;
 use model::reply::Outcome;
 use model::reply::Reply;
+use model::token::Held;
 use model::token::Token;
 
 // "The token ends."
@@ -183,6 +190,41 @@ pub fn called_out(
     Outcome {
         reply: Reply::Called(handle, site, given),
         values,
+        machine,
+    }
+}
+
+// "Set the cell; all tokens of it and of its descendants end; waiters become ready, longest wait first."
+pub fn chokes(mut machine: Machine, place: usize, cell: usize, value: Held) -> Outcome
+    requires { ⌜ ChokingKept machine place cell ⌝ }
+    ensures { λ r. ⌜ r ≡ effectOutcome machine (moves (choked cell value (taken machine place))) ⌝ }
+{
+    let cells = machine.cells;
+    let tokens = machine.tokens;
+    let after = choke_all(tokens, below(cells, cell as u8), cell as u8);
+    let ready = after.ready;
+    let waiting = after.waiting;
+    let names = machine.queue;
+    let count = machine.queued;
+    let rest = left_out(names, count, place);
+    let waits = machine.waits;
+    let n = machine.waiting;
+    let queue = gathered_both(rest, count - 1, waits, n, ready);
+    let left = gathered(none(), waits, n, waiting);
+    let rows = after.tokens;
+    machine.tokens = rows;
+    let old = machine.cells[cell];
+    let parent = old.parent;
+    machine.cells[cell] = Cell { parent, value };
+    let queued = queue.names;
+    machine.queue = queued;
+    machine.queued = queue.count;
+    let unset = left.names;
+    machine.waits = unset;
+    machine.waiting = left.count;
+    Outcome {
+        reply: Reply::Done,
+        values: [0; 4],
         machine,
     }
 }

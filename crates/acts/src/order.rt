@@ -4,7 +4,7 @@ ghost use Prim.Native.Nat.{_<_, _≤_, _-_};
 ghost use lib.ListN.{take, drop, replicate};
 ghost use Rattle.model.specs.Test.{padded, without};
 ghost use mathlib.Core.Bool.{true};
-ghost use mathlib.Core.List.{[]};
+ghost use mathlib.Core.List.{[], _++_};
 ghost use Prim.Native.Nat.{ℕ, _+_};
 ghost use lib.Dec.{ltb};
 ghost use Rattle.model.specs.Test.{all};
@@ -80,4 +80,19 @@ pub fn gathered(
         i += 1;
     }
     out
+}
+
+// Those of two orders' names that are marked, the first order's before the second's.
+pub fn gathered_both(
+    first: [u8; Machine::TOKENS],
+    n: usize,
+    second: [u8; Machine::TOKENS],
+    k: usize,
+    marks: [bool; Machine::TOKENS],
+) -> Order
+    requires { ⌜ (n + k ≤ 64) × (all (λ (p : ℕ). ltb p 64) (take n first) ≡ true) × (all (λ (p : ℕ). ltb p 64) (take k second) ≡ true) ⌝ }
+    ensures { λ r. ⌜ r ≡ gathering [] marks (take n first ++ take k second) ⌝ }
+{
+    let some = gathered(none(), first, n, marks);
+    gathered(some, second, k, marks)
 }
