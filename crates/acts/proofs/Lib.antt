@@ -3,9 +3,12 @@ pub mod Signed
 pub mod Sites
 pub mod Tables
 pub mod Orders
+pub mod Nodes
+pub mod Counting
 pub mod Shapes
 pub mod Chokes
 pub mod Gathers
 pub mod Choked
 pub mod Params
 pub mod LookUps
+pub mod Facts

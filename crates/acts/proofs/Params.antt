@@ -52,6 +52,10 @@ param-at (suc n) (suc i) (k ∷ w ∷ ws) d l fit =
     let two : suc (suc (i * 2)) ≡ suc i * 2 = omega arith in
     param-at n i ws d (omega arith) (omega arith) ∙ ap (λ j. paramOf (getD (k ∷ w ∷ ws) j 0) (getD (k ∷ w ∷ ws) (suc j) 0)) two
 
+-- a word of a row
+pub row-word : (ws : List ℕ) (at i : ℕ) → i < 12 → getD (rowAt ws at) i 0 ≡ getD ws (at + i) 0
+row-word ws at i l = getD-take 12 (drop at ws) i 0 l ∙ getD-drop at ws i 0
+
 module _ (ws : List ℕ) (at : ℕ) (size : length ws ≡ 12331) (inside : at + 12 ≤ 12331) (few : getD ws (at + 3) 0 ≤ 4) where
   row-long : length (rowAt ws at) ≡ 12
   row-long = let z : length (drop at ws) ≡ length ws - at = length-drop at ws in length-take-le 12 (drop at ws) (omega arith)
@@ -59,11 +63,8 @@ module _ (ws : List ℕ) (at : ℕ) (size : length ws ≡ 12331) (inside : at + 
   words-long : length (drop 4 (rowAt ws at)) ≡ 8
   words-long = let z : length (drop 4 (rowAt ws at)) ≡ length (rowAt ws at) - 4 = length-drop 4 (rowAt ws at) in let y = row-long in omega arith
 
-  pub row-word : (i : ℕ) → i < 12 → getD (rowAt ws at) i 0 ≡ getD ws (at + i) 0
-  row-word i l = getD-take 12 (drop at ws) i 0 l ∙ getD-drop at ws i 0
-
   param-word : (i : ℕ) → i < 8 → getD (drop 4 (rowAt ws at)) i 0 ≡ getD ws (at + (4 + i)) 0
-  param-word i l = getD-drop 4 (rowAt ws at) i 0 ∙ row-word (4 + i) (omega arith)
+  param-word i l = getD-drop 4 (rowAt ws at) i 0 ∙ row-word ws at (4 + i) (omega arith)
 
   pub params-count : length (paramsAt ws at) ≡ getD ws (at + 3) 0
   unfolding paramsAt
