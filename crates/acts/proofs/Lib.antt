@@ -12,3 +12,5 @@ pub mod Choked
 pub mod Params
 pub mod LookUps
 pub mod Facts
+pub mod Acts
+pub mod Places

@@ -4,3 +4,4 @@ pub mod Row
 pub mod Looking
 pub mod Unfinished
 pub mod Choking
+pub mod Acting
