@@ -107,13 +107,13 @@ module _ (d : Dag) (m : Machine) (k : rulesKept paper d m ≡ true) where
       let b : m .waiting ≡ length w = waits-length in
       let s : length (q ++ w) ≡ length q + length w = length-append q w in
       let few : length (q ++ w) ≤ 64 =
-          names-few 64 (q ++ w) (all-append (λ (p : ℕ). ltb p 64) q w queue-below waits-below)
-          (λ p l.
-            let c : count p (q ++ w) ≡ count p q + count p w = count-append p q w in
-            let x : count p q ≡ once (isReady (tokenAt (m .tokens) p .state)) = queue-counts p l in
-            let y : count p w ≡ once (isWaiting (tokenAt (m .tokens) p .state)) = waits .counts p (omega arith) in
-            let z = never-both (tokenAt (m .tokens) p .state) in
-            omega arith) in
+      names-few 64 (q ++ w) (all-append (λ (p : ℕ). ltb p 64) q w queue-below waits-below)
+      (λ p l.
+      let c : count p (q ++ w) ≡ count p q + count p w = count-append p q w in
+      let x : count p q ≡ once (isReady (tokenAt (m .tokens) p .state)) = queue-counts p l in
+      let y : count p w ≡ once (isWaiting (tokenAt (m .tokens) p .state)) = waits .counts p (omega arith) in
+      let z = never-both (tokenAt (m .tokens) p .state) in
+      omega arith) in
       omega arith
 
   -- room for one more where a token is not ready
@@ -123,12 +123,12 @@ module _ (d : Dag) (m : Machine) (k : rulesKept paper d m ≡ true) where
       let a : m .queued ≡ length xs = queue-length in
       let c : count q xs ≡ 0 = queue-counts q l ∙ ap once e in
       let few : length xs < 64 =
-          names-fewer 64 xs queue-below
-          (λ p l.
-            let x : count p xs ≡ once (isReady (tokenAt (m .tokens) p .state)) = queue-counts p l in
-            let y = once-few (isReady (tokenAt (m .tokens) p .state)) in
-            omega arith)
-          q l c in
+      names-fewer 64 xs queue-below
+      (λ p l.
+      let x : count p xs ≡ once (isReady (tokenAt (m .tokens) p .state)) = queue-counts p l in
+      let y = once-few (isReady (tokenAt (m .tokens) p .state)) in
+      omega arith)
+      q l c in
       omega arith
 
   -- the token at a place of the queue

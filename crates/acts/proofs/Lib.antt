@@ -14,3 +14,4 @@ pub mod LookUps
 pub mod Facts
 pub mod Acts
 pub mod Places
+pub mod Instructions

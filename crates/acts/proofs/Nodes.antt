@@ -83,4 +83,4 @@ node-of-kind ws at kind e =
     let row = rowAt ws at in
     ap₂ (λ x y. nodeOfKind x y (getD row 3 0) (paramsFrom (getD row 3 0) (drop 4 row)) (getD row 0 0)) (row-word ws at 1 (omega arith)) (row-word ws at 2 (omega arith))
     ∙ ap₂ (λ x y. nodeOfKind (getD ws (at + 1) 0) (getD ws (at + 2) 0) x (paramsFrom x (drop 4 row)) y) (row-word ws at 3 (omega arith))
-      (row-word ws at 0 (omega arith) ∙ ap (λ n. getD ws n 0) start ∙ e)
+    (row-word ws at 0 (omega arith) ∙ ap (λ n. getD ws n 0) start ∙ e)

@@ -84,6 +84,6 @@ module _ (ws : List ℕ) (m : Machine) (kept : rulesKept paper (dagOf ws) m ≡ 
       let l : m .newcell < 32 = last-cell in
       let h : marked (cellsUsed m) < 32 = ltb-lt (marked (cellsUsed m)) 32 (sym (o .has)) in
       let f : getD (cellsUsed m) new true ≡ false =
-          ap (λ i. getD (cellsUsed m) i true) (o .next) ∙ next-place-free (cellsUsed m) (m .newcell) (omega arith) (omega arith) in
+      ap (λ i. getD (cellsUsed m) i true) (o .next) ∙ next-place-free (cellsUsed m) (m .newcell) (omega arith) (omega arith) in
       let i = free-inside (cellsUsed m) new f in
       omega arith

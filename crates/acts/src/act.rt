@@ -35,7 +35,11 @@ use model::token::Token;
 pub fn refused(machine: Machine, refusal: Refusal) -> Outcome
     ensures { λ r. ⌜ r ≡ effectOutcome machine (refuses refusal) ⌝ }
 {
-    Outcome { reply: Reply::Refused(refusal), values: [0; 4], machine }
+    Outcome {
+        reply: Reply::Refused(refusal),
+        values: [0; 4],
+        machine,
+    }
 }
 
 // A word of the dag that is the number of a node.
@@ -72,7 +76,15 @@ pub fn value_of(held: Held) -> i32
     }
 }
 
-pub fn fork(machine: Machine, dag: &[u32; 12331], place: usize, p: usize, at: usize, new: usize, room: bool) -> Outcome
+pub fn fork(
+    machine: Machine,
+    dag: &[u32; 12331],
+    place: usize,
+    p: usize,
+    at: usize,
+    new: usize,
+    room: bool,
+) -> Outcome
     requires { ⌜ Acting (now dag) machine place p at × (getD (now dag) at 0 ≡ 3) × TokenPlace (now dag) machine new room ⌝ }
     ensures { λ r. ⌜ r ≡ stepped (now (dag .entry)) machine place ⌝ }
 {

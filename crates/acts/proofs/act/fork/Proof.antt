@@ -1,3 +1,11 @@
+use Rattle.acts.proofs.Places.{token-place-inside, token-place-room}
+use Rattle.acts.specs.Acting.{TokenPlace}
+use borrow.Author.Tests.{not-true, not-false}
+use mathlib.Core.Bool.{true}
+use Rattle.acts.proofs.Instructions.{fork-refused, fork-nodes, fork-is}
+use Rattle.acts.proofs.Acts.{p-inside, acting-taking, row-inside}
+use native.Mathlib.Omega.{arith}
+use mathlib.Core.Path.{_≡_, refl, sym, ap, subst, _∙_}
 use borrow.Author.Needs.{needs}
 use Rattle.acts.proofs.act.fork.Statement.{statement}
 use Rattle.acts.proofs.act.fork.Tie as tie
@@ -8,53 +16,63 @@ use Rattle.acts.proofs.act.refused.Reads as refused-reads
 use Rattle.acts.proofs.change.to.Reads as to-reads
 use Rattle.acts.proofs.effect.forked.Reads as forked-reads
 
--- src/act.rt:80:9
 refused-requires : tie.Need-refused-requires
 refused-requires c κs = search needs
 
--- src/act.rt:80:9
 returns : tie.Need-returns
-returns c = ?
+returns c =
+    let s = c .before .before in
+    let n = subst (λ b. TokenPlace (s .args .dag .now) (s .args .t1) (s .args .new) b) (not-true _ (c .before .if1 .taken)) (s .pre .2) in
+    c .refused .ensures ∙ fork-refused _ _ _ _ _ (s .pre .0) _ (s .pre .1) n
 
--- src/act.rt:82:17
 mul-token : tie.Need-mul-token
-mul-token c = ?
+mul-token c = let l = p-inside _ _ _ _ _ (c .before .pre .0) in omega arith
 
--- src/act.rt:82:17
 element-copy-out-token : tie.Need-element-copy-out-token
-element-copy-out-token c = ?
+element-copy-out-token c = p-inside _ _ _ _ _ (c .before .pre .0)
 
--- src/act.rt:83:36
 add-node : tie.Need-add-node
 add-node c = search needs
 
--- src/act.rt:83:26
 node-requires : tie.Need-node-requires
-node-requires c κs = ?
+node-requires c κs =
+    let s = c .before .before in
+    let l = row-inside _ _ _ _ _ (s .pre .0) in
+    (omega arith, fork-nodes _ _ _ _ _ (s .pre .0) (s .pre .1) .0)
 
--- src/act.rt:83:9
 to-requires : tie.Need-to-requires
 to-requires c κs = search needs
 
--- src/act.rt:84:37
 add-node-2 : tie.Need-add-node-2
 add-node-2 c = search needs
 
--- src/act.rt:84:27
 node-requires-2 : tie.Need-node-requires-2
-node-requires-2 c κs = ?
+node-requires-2 c κs =
+    let s = c .before .before .before .before in
+    let l = row-inside _ _ _ _ _ (s .pre .0) in
+    (omega arith, fork-nodes _ _ _ _ _ (s .pre .0) (s .pre .1) .1)
 
--- src/act.rt:84:9
 to-requires-2 : tie.Need-to-requires-2
 to-requires-2 c κs = search needs
 
--- src/act.rt:85:5
-forked-requires : tie.Need-forked-requires
-forked-requires c κs = ?
+-- there is room for the new token
+new : (c : tie.After-to2) → let s = c .before .before .before .before .before .before in TokenPlace (s .args .dag .now) (s .args .t1) (s .args .new) true
+new c =
+    let s = c .before .before .before .before .before .before in
+    subst (λ b. TokenPlace (s .args .dag .now) (s .args .t1) (s .args .new) b) (not-false _ (c .before .before .before .before .before .if1 .left)) (s .pre .2)
 
--- src/act.rt:75:1
+forked-requires : tie.Need-forked-requires
+forked-requires c κs =
+    let s = c .before .before .before .before .before .before in
+    let n = new c in
+    let k = s .pre .0 .rules .kept in
+    (acting-taking _ _ _ _ _ (s .pre .0), token-place-room _ _ k _ n, token-place-inside _ _ k _ n)
+
 returns-2 : tie.Need-returns-2
-returns-2 c = ?
+returns-2 c =
+    let s = c .before .before .before .before .before .before .before in
+    c .forked .ensures
+    ∙ fork-is _ _ _ _ _ (s .pre .0) _ _ _ _ _ _ (s .pre .1) (new (c .before)) (c .before .before .before .to .ensures) (c .before .to2 .ensures) (c .before .before .before .before .node .ensures) (c .before .before .node2 .ensures)
 
 pub fork-spec : {M : Type 1} → statement M
 fork-spec =

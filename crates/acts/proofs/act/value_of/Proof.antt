@@ -1,24 +1,29 @@
+use Rattle.model.specs.Machine.Step.{valueOf}
+use mir.Facts.{toZ-ofZ}
+use mir.Val.{SFits}
+use mir.Syntax.{w32}
+use mathlib.Core.Path.{sym, ap}
 use borrow.Author.Needs.{needs}
 use Rattle.acts.proofs.act.value_of.Statement.{statement}
 use Rattle.acts.proofs.act.value_of.Tie as tie
 use Rattle.acts.proofs.act.value_of.Reads as reads
 use Rattle.acts.proofs.act.value_of.Lts as lts
 
--- src/act.rt:70:26
 enum-told : tie.Need-enum-told
 enum-told c = search needs
 
--- src/act.rt:71:21
 enum-known-held : tie.Need-enum-known-held
 enum-known-held c = search needs
 
--- src/act.rt:66:1
 returns : tie.Need-returns
-returns c = ?
+unfolding valueOf
+returns c = sym (ap valueOf (c .enum-told .given .1))
 
--- src/act.rt:66:1
 returns-2 : tie.Need-returns-2
-returns-2 c = ?
+unfolding valueOf
+returns-2 c =
+    let f : SFits w32 (c .before .held .given .0 .0) = search needs in
+    rw (toZ-ofZ f) (sym (ap valueOf (c .before .held .given .1)))
 
 pub value-of-spec : {M : Type 1} → statement M
 value-of-spec = tie.close (tie.spec enum-told enum-known-held returns returns-2)
