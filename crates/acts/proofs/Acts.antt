@@ -9,12 +9,13 @@ use lib.ListN.{length, getD}
 use lib.Dec.{ltb, leb, eqb}
 use Rattle.model.specs.Test.{_and_, all, without}
 use Rattle.model.specs.Job.Node.{Node, Dag, nodeAt, nodeKept, isNode, dagKept}
-use Rattle.model.specs.Job.Words.{dagOf, nodeBy}
+use Rattle.model.specs.Job.Words.{dagOf, nodeWords, nodeBy}
 use Rattle.model.specs.Machine.Limits.{paper}
 use Rattle.model.specs.Machine.Blank.{blankToken, tokenAt}
-use Rattle.model.specs.Machine.Rules.{rulesKept, tokenInRange}
+use Rattle.model.specs.Machine.Rules.{rulesKept, tokenInRange, slotInRange, heldInRange, placeInRange, stateInRange}
 use Rattle.model.specs.Machine.Reply.{Effect}
 use Rattle.model.specs.Machine.Step.{act, takes, withOrders, queueOf, waitsOf}
+use Rattle.model.specs.declared.token.Bind.{Bind}
 use Rattle.model.specs.declared.token.Token.{Token}
 use Rattle.model.specs.declared.record.Machine.{Machine}
 use Rattle.model.proofs.Test.{and-left, and-right, ltb-lt}
@@ -24,7 +25,8 @@ use Rattle.acts.specs.Row.{rowOf, rowAt}
 use Rattle.acts.specs.Unfinished.{effectOutcome, taken, Taking}
 use Rattle.acts.specs.Acting.{Acting, stepped}
 use Rattle.acts.proofs.Tables.{getD-any}
-use Rattle.acts.proofs.Nodes.{nodeIn, node-of-kind, node-inside, node-read, node-rule}
+use Rattle.acts.proofs.Nodes.{nodeIn, node-of-kind, node-inside, node-read, node-rule, node-words}
+use Rattle.acts.proofs.Params.{row-word}
 use Rattle.acts.proofs.Facts.{tokens-size, queue-inside, token-range, orders-kept}
 
 module _ (ws : List ℕ) (m : Machine) (place p at : ℕ) (o : Acting ws m place p at) where
@@ -34,7 +36,7 @@ module _ (ws : List ℕ) (m : Machine) (place p at : ℕ) (o : Acting ws m place
   abbrev kept : rulesKept paper (dagOf ws) m ≡ true
   kept = o .rules .kept
 
-  dag-kept : dagKept (dagOf ws) ≡ true
+  pub dag-kept : dagKept (dagOf ws) ≡ true
   dag-kept = rules-kept paper (dagOf ws) m kept .dag
 
   pub p-inside : p < 64
@@ -46,6 +48,31 @@ module _ (ws : List ℕ) (m : Machine) (place p at : ℕ) (o : Acting ws m place
   pub token-read : (d : Token) → getD (m .tokens) p d ≡ token
   unfolding tokenAt
   token-read d = let t : length (m .tokens) ≡ 64 = tokens-size (dagOf ws) m kept in let l = p-inside in getD-any (m .tokens) p d blankToken (omega arith)
+
+  -- its ranges
+  range : tokenInRange paper (dagOf ws) (m .calls) token ≡ true
+  range = token-range (dagOf ws) m kept p p-inside
+
+  pub token-slots : all (λ (b : Bind). slotInRange 32 (b .slot)) (token .binds) ≡ true
+  unfolding tokenInRange
+  token-slots = and-left _ _ (and-right (eqb (length (token .binds)) 8) _ (and-right (isNode (dagOf ws) (token .node)) _ range))
+
+  after-slots :
+      (heldInRange (token .value)
+        and placeInRange 64 (token .caller)
+        and placeInRange 32 (token .cell)
+        and stateInRange 32 (m .calls) (token .state))
+      ≡ true
+  unfolding tokenInRange
+  after-slots =
+      and-right (all (λ (b : Bind). slotInRange 32 (b .slot)) (token .binds)) _
+      (and-right (eqb (length (token .binds)) 8) _ (and-right (isNode (dagOf ws) (token .node)) _ range))
+
+  pub token-caller : placeInRange 64 (token .caller) ≡ true
+  token-caller = and-left _ _ (and-right (heldInRange (token .value)) _ after-slots)
+
+  pub token-cell : placeInRange 32 (token .cell) ≡ true
+  token-cell = and-left _ _ (and-right (placeInRange 64 (token .caller)) _ (and-right (heldInRange (token .value)) _ after-slots))
 
   -- its node
   is-node : token .node < length (dagOf ws .nodes)
@@ -64,6 +91,14 @@ module _ (ws : List ℕ) (m : Machine) (place p at : ℕ) (o : Acting ws m place
 
     pub node-kept : nodeKept (dagOf ws) (nodeIn ws at kind) ≡ true
     node-kept = subst (λ n. nodeKept (dagOf ws) n ≡ true) row-is (node-rule ws (token .node) dag-kept is-node)
+
+    -- the word of the row that counts its parameters
+    pub count-word : getD ws (at + 3) 0 ≡ getD (nodeWords (nodeIn ws at kind)) 3 0
+    count-word =
+        sym (row-word ws at 3 (omega arith))
+        ∙ ap (λ i. getD (rowAt ws i) 3 0) (o .row)
+        ∙ ap (λ row. getD row 3 0) (node-words ws (token .node) dag-kept is-node)
+        ∙ ap (λ n. getD (nodeWords n) 3 0) row-is
 
     pub takes-is : takes paper (dagOf ws) m place ≡ act paper (dagOf ws) m (taken m place) p token (nodeIn ws at kind)
     unfolding takes

@@ -17,10 +17,11 @@ use Rattle.model.specs.Machine.Rules as rules
 use Rattle.model.specs.Machine.Rules.{isReady, isWaiting, rulesKept, tokenInRange, cellInRange, sizesInRange}
 use Rattle.model.specs.declared.token.State.{State}
 use Rattle.model.specs.declared.token.State.the-variants as states
+use Rattle.model.specs.declared.token.Bind.{Bind}
 use Rattle.model.specs.declared.token.Token.{Token}
 use Rattle.model.specs.declared.cell.Cell.{Cell}
 use Rattle.model.specs.declared.record.Machine.{Machine}
-use Rattle.model.proofs.Test.{and-left, and-right, eqb-eq, ltb-lt, all-at, all-head, all-tail, all-cons, all-append}
+use Rattle.model.proofs.Test.{and-left, and-right, eqb-eq, ltb-lt, all-at, all-head, all-tail, all-nil, all-cons, all-append}
 use Rattle.model.proofs.Machine.Rules.{RulesKept, rules-kept, NamesOnce, names-once, order-inside, order-names}
 use Rattle.acts.specs.Unfinished.{OrderKept, OrdersKept, Taking}
 use Rattle.acts.specs.Choking.{homeInRange, parentInRange, ChokingKept}
@@ -29,6 +30,10 @@ use Rattle.acts.proofs.Counting.{names-few, names-fewer, count-append}
 zeros : (xs : List ℕ) → all (eqb 0) xs ≡ true → xs ≡ replicate (length xs) 0
 zeros [] e = refl
 zeros (x ∷ xs) e = let h : 0 ≡ x = eqb-eq 0 x (all-head (eqb 0) x xs e) in let t = zeros xs (all-tail (eqb 0) x xs e) in cc
+
+all-implied : {A : Type 0} (f g : A → Bool) → ((x : A) → f x ≡ true → g x ≡ true) → (xs : List A) → all f xs ≡ true → all g xs ≡ true
+all-implied f g h [] e = all-nil g
+all-implied f g h (x ∷ xs) e = all-cons g x xs (h x (all-head f x xs e)) (all-implied f g h xs (all-tail f x xs e))
 
 never-both : (s : State) → once (isReady s) + once (isWaiting s) ≤ 1
 unfolding isReady isWaiting
@@ -141,6 +146,35 @@ module _ (d : Dag) (m : Machine) (k : rulesKept paper d m ≡ true) where
 
     pub taking : Taking m place (getD (m .queue) place 0)
     taking = record { orders = orders-kept; queued = l; inside = queue-inside }
+
+  -- every token's cell and every cell's parent are in range
+  pub homes : all (homeInRange 32) (m .tokens) ≡ true
+  unfolding tokenInRange homeInRange
+  homes = all-implied (tokenInRange paper d (m .calls)) (homeInRange 32) (λ t e. go t e) (m .tokens) (kept .tokens)
+    where
+      go : (t : Token) → tokenInRange paper d (m .calls) t ≡ true → homeInRange 32 t ≡ true
+      go t e =
+          let a = and-right (isNode d (t .node)) _ e in
+          let b = and-right (eqb (length (t .binds)) 8) _ a in
+          let c = and-right (all (λ (b : Bind). rules.slotInRange 32 (b .slot)) (t .binds)) _ b in
+          and-left _ _ (and-right (rules.placeInRange 64 (t .caller)) _ (and-right (rules.heldInRange (t .value)) _ c))
+
+  pub parents : all (parentInRange 32) (m .cells) ≡ true
+  unfolding cellInRange parentInRange
+  parents = all-implied (cellInRange paper d) (parentInRange 32) (λ c e. and-left _ _ e) (m .cells) (kept .cells)
+
+  pub choking-kept : (place c : ℕ) → place < m .queued → c < 32 → ChokingKept m place c
+  choking-kept place c l i =
+      record {
+        orders = orders-kept;
+        queued = l;
+        room = room;
+        ready = queue-below;
+        waiting = waits-below;
+        homes = homes;
+        parents = parents;
+        inside = i;
+      }
 
   -- a token's own ranges
   pub token-range : (p : ℕ) → p < 64 → tokenInRange paper d (m .calls) (tokenAt (m .tokens) p) ≡ true

@@ -2,33 +2,42 @@
 use mathlib.Core.Path.{_≡_, refl, sym, ap, ap₂, subst, _∙_}
 use mathlib.Core.Bool.{Bool, true, false}
 use mathlib.Core.List.{List, [], _∷_}
-use Prim.Native.Nat.{ℕ, _+_, _<_}
+use Prim.Native.Nat.{ℕ, _+_, _*_, _<_, _≤_}
 use native.Mathlib.Omega.{arith}
 use lib.ListN.{length, getD}
-use lib.Dec.{ltb}
+use lib.Dec.{ltb, leb}
 use lib.IntN.{ℤ}
 use Rattle.model.specs.Test.{_and_}
-use Rattle.model.specs.Job.Node.{Node, isNode, nodeKept}
-use Rattle.model.specs.Job.Words.{dagOf}
+use Rattle.model.specs.Job.Node.{Node, bodyAt, isNode, nodeKept, paramsKept}
+use Rattle.model.specs.Job.Words.{dagOf, nodeWords}
 use Rattle.model.specs.Machine.Limits.{paper}
-use Rattle.model.specs.Machine.Blank.{blankToken}
+use Rattle.model.specs.Machine.Blank.{blankToken, tokenAt}
 use Rattle.model.specs.Machine.Reply.{Effect, moves, refuses, unless}
 use Rattle.model.specs.Machine.Step as Step
-use Rattle.model.specs.Machine.Step.{act, to, binding, put, enqueue, newToken, newCell, valueOf, inCell, hasTokenPlace, hasCellPlace}
+use Rattle.model.specs.Machine.Step.{act, to, binding, put, enqueue, newToken, newCell, valueOf, inCell, holding, being, choked, formalsBound}
 use Rattle.model.specs.declared.token.Slot.{Slot}
 use Rattle.model.specs.declared.token.Slot.the-variants as slots
 use Rattle.model.specs.declared.token.Held.{Held}
 use Rattle.model.specs.declared.token.Held.the-variants as helds
+use Rattle.model.specs.declared.token.Bind.{Bind}
+use Rattle.model.specs.declared.token.Place.{Place}
+use Rattle.model.specs.declared.token.Place.the-variants as places
+use Rattle.model.specs.declared.token.State.the-variants as states
 use Rattle.model.specs.declared.token.Token.{Token}
-use Rattle.model.specs.declared.cell.Cell.{Cell}
 use Rattle.model.specs.declared.record.Machine.{Machine}
 use Rattle.model.specs.declared.reply.Refusal.{Refusal}
 use Rattle.model.specs.declared.reply.Refusal.the-variants as refusals
 use Rattle.model.specs.declared.reply.Reply.the-variants as replies
-use Rattle.model.proofs.Test.{and-left, and-right, ltb-lt}
+use Rattle.model.proofs.Test.{and-left, and-right, ltb-lt, leb-le}
 use Rattle.acts.specs.Unfinished.{unfinished, effectOutcome, taken}
 use Rattle.acts.specs.Acting.{Acting, TokenPlace, CellPlace, stepped}
-use Rattle.acts.proofs.Acts.{token, token-read, node-kept, stepped-is, node-number}
+use Rattle.acts.specs.Row.{paramsAt, ParamsKept}
+use Rattle.acts.specs.Choking.{ChokingKept}
+use Rattle.acts.proofs.Acts.{token, token-read, token-caller, token-cell, acting-taking, row-inside, node-kept, count-word, stepped-is, node-number, dag-kept}
+use Rattle.acts.proofs.Tables.{getD-any}
+use Rattle.acts.proofs.Nodes.{nodeIn, root-read}
+use Rattle.acts.proofs.Facts.{choking-kept}
+use Rattle.acts.proofs.Chokes.{place-inside}
 
 unless-true : (b : Bool) (r : Refusal) (e : Effect) → b ≡ true → unless b r e ≡ e
 unfolding unless
@@ -146,3 +155,207 @@ module _ (ws : List ℕ) (m : Machine) (place p at : ℕ) (o : Acting ws m place
   remove-is d u v x k e f g h y =
       ap (λ n. effectOutcome m (moves (enqueue p (put p n (taken m place))))) (read-bound d u v x k slots.Empty slots.Empty f g h y refl)
       ∙ sym (stepped-is ws m place p at o 5 e)
+
+  -- where
+  pub where-numbers : Kind 6 → (word 1 < 65536) × (word 2 < 65536) × (word 3 < 8)
+  unfolding nodeKept
+  where-numbers e =
+      let k = node-kept ws m place p at o 6 e in
+      let j = and-right (ltb (word 3) 8) _ k in
+      (node-number ws m place p at o (word 1) (and-left _ _ j),
+        node-number ws m place p at o (word 2) (and-right (isNode (dagOf ws) (word 1)) _ j),
+        ltb-lt (word 3) 8 (and-left _ _ k))
+
+  pub where-full : (new : ℕ) → Kind 6 → TokenPlace ws m new false → effectOutcome m (refuses refusals.TokenLimit) ≡ stepped ws m place
+  unfolding act
+  where-full new e n = sym (stepped-is ws m place p at o 6 e ∙ ap (effectOutcome m) (unless-false _ _ _ (sym (n .has))))
+
+  pub where-no-cell :
+      (new below : ℕ)
+      → Kind 6
+      → TokenPlace ws m new true
+      → CellPlace ws m below false
+      → effectOutcome m (refuses refusals.CellLimit) ≡ stepped ws m place
+  unfolding act
+  where-no-cell new below e n c =
+      sym
+      (stepped-is ws m place p at o 6 e
+      ∙ ap (effectOutcome m) (unless-true _ _ _ (sym (n .has)) ∙ unless-false _ _ _ (sym (c .has))))
+
+  pub where-is :
+      (new below : ℕ) (d u l v r : Token) (x a b : ℕ)
+      → Kind 6
+      → TokenPlace ws m new true
+      → CellPlace ws m below true
+      → u ≡ binding x (slots.Cell below) (getD (m .tokens) p d)
+      → l ≡ to a u
+      → v ≡ to b (getD (m .tokens) p d)
+      → r ≡ inCell below v
+      → x ≡ word 3
+      → a ≡ word 1
+      → b ≡ word 2
+      → effectOutcome m
+        (moves
+        (enqueue new
+        (enqueue p
+        (newCell below (record { parent = getD (m .tokens) p d .cell; value = helds.Nothing }) (newToken new r (put p l (taken m place)))))))
+      ≡ stepped ws m place
+  unfolding act Step.split
+  where-is new below d u l v r x a b e n c f g h i y z w =
+      let left : l ≡ to (word 1) (binding (word 3) (slots.Cell below) t) =
+          g ∙ ap₂ to z (f ∙ ap₂ (λ k s. binding k (slots.Cell below) s) y (token-read ws m place p at o d)) in
+      let right : r ≡ inCell below (to (word 2) t) = i ∙ ap (inCell below) (read-to d v b (word 2) h w) in
+      ap (effectOutcome m)
+      (ap₂
+        (λ k n. moves (enqueue new (enqueue p (newCell below (record { parent = k .cell; value = helds.Nothing }) (newToken new n (put p l (taken m place)))))))
+        (token-read ws m place p at o d) right
+      ∙ ap
+        (λ k.
+          moves
+          (enqueue new
+          (enqueue p
+          (newCell below (record { parent = t .cell; value = helds.Nothing }) (newToken new (inCell below (to (word 2) t)) (put p k (taken m place)))))))
+        left
+      ∙ ap₂ (λ q k. Step.split (taken m place) p t q k (word 3) (word 1) (word 2)) (n .next) (c .next))
+      ∙ sym
+        (stepped-is ws m place p at o 6 e
+        ∙ ap (effectOutcome m) (unless-true _ _ _ (sym (n .has)) ∙ unless-true _ _ _ (sym (c .has))))
+
+  -- return
+  pub frame-inside : (d : Token) (f : ℕ) → getD (m .tokens) p d .caller ≡ places.At f → f < 64
+  frame-inside d f e =
+      place-inside 64 f (t .caller) (token-caller ws m place p at o) (ap (λ (u : Token). u .caller) (sym (token-read ws m place p at o d)) ∙ e)
+
+  caller-is : (d : Token) (q : Place) → getD (m .tokens) p d .caller ≡ q → t .caller ≡ q
+  caller-is d q e = ap (λ (u : Token). u .caller) (sym (token-read ws m place p at o d)) ∙ e
+
+  pub return-refused : (d : Token) → Kind 8 → getD (m .tokens) p d .caller ≡ places.Nowhere → effectOutcome m (refuses refusals.Rule) ≡ stepped ws m place
+  unfolding act Step.returned
+  return-refused d e f = sym (stepped-is ws m place p at o 8 e ∙ ap (λ q. effectOutcome m (Step.returned (taken m place) p t q)) (caller-is d _ f))
+
+  pub return-is :
+      (d k u v : Token) (f : ℕ)
+      → Kind 8
+      → getD (m .tokens) p d .caller ≡ places.At f
+      → u ≡ holding (getD (m .tokens) p d .value) (getD (m .tokens) f k)
+      → v ≡ being states.Ready u
+      → effectOutcome m (moves (enqueue p (put p v (taken m place)))) ≡ stepped ws m place
+  unfolding act Step.returned Step.goesOn Step.withOrders tokenAt
+  return-is d k u v f e q g h =
+      let n : length (m .tokens) ≡ 64 = acting-taking ws m place p at o .orders .tokens in
+      let l : f < 64 = frame-inside d f q in
+      let frame : getD (m .tokens) f k ≡ getD (m .tokens) f blankToken = getD-any (m .tokens) f k blankToken (omega arith) in
+      let same : v ≡ being states.Ready (holding (t .value) (getD (m .tokens) f blankToken)) =
+          h ∙ ap (being states.Ready) (g ∙ ap₂ (λ (x y : Token). holding (x .value) y) (token-read ws m place p at o d) frame) in
+      ap (λ x. effectOutcome m (moves (enqueue p (put p x (taken m place))))) same
+      ∙ sym (stepped-is ws m place p at o 8 e ∙ ap (λ q. effectOutcome m (Step.returned (taken m place) p t q)) (caller-is d _ q))
+
+  -- choke
+  home-is : (d : Token) (q : Place) → getD (m .tokens) p d .cell ≡ q → t .cell ≡ q
+  home-is d q e = ap (λ (u : Token). u .cell) (sym (token-read ws m place p at o d)) ∙ e
+
+  pub choke-kept : (d : Token) (c : ℕ) → getD (m .tokens) p d .cell ≡ places.At c → ChokingKept m place c
+  choke-kept d c e =
+      choking-kept (dagOf ws) m (o .rules .kept) place c (o .rules .queued) (place-inside 32 c (t .cell) (token-cell ws m place p at o) (home-is d _ e))
+
+  pub choke-refused : (d : Token) → Kind 7 → getD (m .tokens) p d .cell ≡ places.Nowhere → effectOutcome m (refuses refusals.Rule) ≡ stepped ws m place
+  unfolding act Step.chokes
+  choke-refused d e f = sym (stepped-is ws m place p at o 7 e ∙ ap (λ q. effectOutcome m (Step.chokes (taken m place) p t q)) (home-is d _ f))
+
+  pub choke-is :
+      (d : Token) (c : ℕ)
+      → Kind 7
+      → getD (m .tokens) p d .cell ≡ places.At c
+      → effectOutcome m (moves (choked c (getD (m .tokens) p d .value) (taken m place))) ≡ stepped ws m place
+  unfolding act Step.chokes
+  choke-is d c e f =
+      ap (λ (u : Token). effectOutcome m (moves (choked c (u .value) (taken m place)))) (token-read ws m place p at o d)
+      ∙ sym (stepped-is ws m place p at o 7 e ∙ ap (λ q. effectOutcome m (Step.chokes (taken m place) p t q)) (home-is d _ f))
+
+  -- the parameters of a call
+  pub params-kept :
+      (kind : ℕ)
+      → Kind kind
+      → getD (nodeWords (nodeIn ws at kind)) 3 0 ≡ length (paramsAt ws at)
+      → paramsKept (paramsAt ws at) ≡ true
+      → ParamsKept ws at
+  unfolding paramsKept
+  params-kept kind e n k =
+      let c : getD ws (at + 3) 0 ≡ getD (nodeWords (nodeIn ws at kind)) 3 0 = count-word ws m place p at o kind e in
+      let l : length (paramsAt ws at) ≤ 4 = leb-le (length (paramsAt ws at)) 4 (and-left _ _ k) in
+      record {
+        size = o .rules .size;
+        inside = row-inside ws m place p at o;
+        few = omega arith;
+        kept = and-right (leb (length (paramsAt ws at)) 4) _ k;
+      }
+
+  -- definition call
+  pub call-full : (new : ℕ) → Kind 2 → TokenPlace ws m new false → effectOutcome m (refuses refusals.TokenLimit) ≡ stepped ws m place
+  unfolding act
+  call-full new e n = sym (stepped-is ws m place p at o 2 e ∙ ap (effectOutcome m) (unless-false _ _ _ (sym (n .has))))
+
+  call-rule : Kind 2 → (ltb (word 1) (length (dagOf ws .bodies)) and paramsKept (paramsAt ws at) and isNode (dagOf ws) (word 2)) ≡ true
+  unfolding nodeKept
+  call-rule e = node-kept ws m place p at o 2 e
+
+  pub call-params : Kind 2 → ParamsKept ws at
+  unfolding nodeWords
+  call-params e = params-kept 2 e refl (and-left _ _ (and-right (ltb (word 1) (length (dagOf ws .bodies))) _ (call-rule e)))
+
+  pub call-body : Kind 2 → word 1 < length (dagOf ws .bodies)
+  call-body e = ltb-lt (word 1) (length (dagOf ws .bodies)) (and-left _ _ (call-rule e))
+
+  pub call-next : Kind 2 → word 2 < 65536
+  call-next e =
+      node-number ws m place p at o (word 2)
+      (and-right (paramsKept (paramsAt ws at)) _ (and-right (ltb (word 1) (length (dagOf ws .bodies))) _ (call-rule e)))
+
+  pub call-is :
+      (new : ℕ) (d u f : Token) (bs : List Bind) (root k : ℕ)
+      → Kind 2
+      → TokenPlace ws m new true
+      → bs ≡ formalsBound (getD (m .tokens) p d .binds) (paramsAt ws at)
+      → root ≡ getD ws (3 + 2 * word 1) 0
+      → u ≡ being states.Frame (getD (m .tokens) p d)
+      → f ≡ to k u
+      → k ≡ word 2
+      → effectOutcome m
+        (moves
+        (enqueue new
+        (newToken new
+        (record { node = root; binds = bs; value = helds.Nothing; caller = places.At p; cell = getD (m .tokens) p d .cell; state = states.Ready })
+        (put p f (taken m place)))))
+      ≡ stepped ws m place
+  unfolding act Step.entered
+  call-is new d u f bs root k e n b r g h i =
+      let whose = token-read ws m place p at o d in
+      let frame : f ≡ to (word 2) (being states.Frame t) = h ∙ ap₂ to i (g ∙ ap (being states.Frame) whose) in
+      let start : root ≡ bodyAt (dagOf ws) (word 1) .root = r ∙ sym (root-read ws (word 1) (dag-kept ws m place p at o) (call-body e)) in
+      let binds : bs ≡ formalsBound (t .binds) (paramsAt ws at) = b ∙ ap (λ (x : Token). formalsBound (x .binds) (paramsAt ws at)) whose in
+      ap (effectOutcome m)
+      (ap₂
+        (λ x y.
+          moves
+          (enqueue new
+          (newToken new
+          (record { node = x; binds = y; value = helds.Nothing; caller = places.At p; cell = getD (m .tokens) p d .cell; state = states.Ready })
+          (put p f (taken m place)))))
+        start binds
+      ∙ ap₂
+        (λ (x y : Token).
+          moves
+          (enqueue new
+          (newToken new
+          (record {
+            node = bodyAt (dagOf ws) (word 1) .root;
+            binds = formalsBound (t .binds) (paramsAt ws at);
+            value = helds.Nothing;
+            caller = places.At p;
+            cell = x .cell;
+            state = states.Ready;
+          })
+          (put p y (taken m place)))))
+        whose frame
+      ∙ ap (λ q. Step.entered (taken m place) p t q (bodyAt (dagOf ws) (word 1) .root) (paramsAt ws at) (word 2)) (n .next))
+      ∙ sym (stepped-is ws m place p at o 2 e ∙ ap (effectOutcome m) (unless-true _ _ _ (sym (n .has))))

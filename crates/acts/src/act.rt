@@ -117,3 +117,81 @@ pub fn remove(machine: Machine, dag: &[u32; 12331], place: usize, p: usize, at: 
     let bound = binding(token, Slot::Empty, x);
     goes_on(machine, place, p, to(bound, node(dag, at + 2)))
 }
+
+// Where: "left binds x to the new cell; right is new and belongs to it".
+pub fn prune(machine: Machine, dag: &[u32; 12331], place: usize, p: usize, at: usize, new: usize, room: bool, below: usize, cell_room: bool) -> Outcome
+    requires { ⌜ Acting (now dag) machine place p at × (getD (now dag) at 0 ≡ 6) × TokenPlace (now dag) machine new room × CellPlace (now dag) machine below «cell_room» ⌝ }
+    ensures { λ r. ⌜ r ≡ stepped (now (dag .entry)) machine place ⌝ }
+{
+    if !room {
+        return refused(machine, Refusal::TokenLimit);
+    }
+    if !cell_room {
+        return refused(machine, Refusal::CellLimit);
+    }
+    let token = machine.tokens[p];
+    let x = word(dag, at + 3) as usize;
+    let bound = binding(token, Slot::Cell(below as u8), x);
+    let left = to(bound, node(dag, at + 1));
+    let right = in_cell(to(token, node(dag, at + 2)), below as u8);
+    let parent = token.cell;
+    let cell = Cell { parent, value: Held::Nothing };
+    split(machine, place, p, left, new, right, below, cell)
+}
+
+// Definition call: "the token becomes a frame at next, the callee is new, in the token's cell, with no value and only its formals bound".
+pub fn call(machine: Machine, dag: &[u32; 12331], place: usize, p: usize, at: usize, new: usize, room: bool) -> Outcome
+    requires { ⌜ Acting (now dag) machine place p at × (getD (now dag) at 0 ≡ 2) × TokenPlace (now dag) machine new room ⌝ }
+    ensures { λ r. ⌜ r ≡ stepped (now (dag .entry)) machine place ⌝ }
+{
+    if !room {
+        return refused(machine, Refusal::TokenLimit);
+    }
+    let token = machine.tokens[p];
+    let binds = token.binds;
+    let given = formals(dag, at, binds);
+    let body = word(dag, at + 1) as usize;
+    let root = node(dag, 3 + 2 * body);
+    let frame = to(being(token, State::Frame), node(dag, at + 2));
+    let cell = token.cell;
+    let callee = Token {
+        node: root,
+        binds: given,
+        value: Held::Nothing,
+        caller: Place::At(p as u8),
+        cell,
+        state: State::Ready,
+    };
+    entered(machine, place, p, frame, new, callee)
+}
+
+// Return: "the place takes a copy of the frame with the value". "A token at return names a frame."
+pub fn give_back(machine: Machine, dag: &[u32; 12331], place: usize, p: usize, at: usize) -> Outcome
+    requires { ⌜ Acting (now dag) machine place p at × (getD (now dag) at 0 ≡ 8) ⌝ }
+    ensures { λ r. ⌜ r ≡ stepped (now (dag .entry)) machine place ⌝ }
+{
+    let token = machine.tokens[p];
+    let caller = token.caller;
+    let held = token.value;
+    match caller {
+        Place::Nowhere => refused(machine, Refusal::Rule),
+        Place::At(f) => {
+            let frame = machine.tokens[f as usize];
+            goes_on(machine, place, p, being(holding(frame, held), State::Ready))
+        }
+    }
+}
+
+// "A token at choke names a cell."
+pub fn choke(machine: Machine, dag: &[u32; 12331], place: usize, p: usize, at: usize) -> Outcome
+    requires { ⌜ Acting (now dag) machine place p at × (getD (now dag) at 0 ≡ 7) ⌝ }
+    ensures { λ r. ⌜ r ≡ stepped (now (dag .entry)) machine place ⌝ }
+{
+    let token = machine.tokens[p];
+    let home = token.cell;
+    let held = token.value;
+    match home {
+        Place::Nowhere => refused(machine, Refusal::Rule),
+        Place::At(c) => chokes(machine, place, c as usize, held),
+    }
+}
