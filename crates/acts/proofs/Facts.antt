@@ -121,6 +121,9 @@ module _ (d : Dag) (m : Machine) (k : rulesKept paper d m ≡ true) where
       omega arith) in
       omega arith
 
+  pub waits-room : (place : ℕ) → place < m .queued → m .waiting < 64
+  waits-room place l = let z : m .queued + m .waiting ≤ 64 = room in omega arith
+
   -- room for one more where a token is not ready
   pub queue-room : (q : ℕ) → q < 64 → isReady (tokenAt (m .tokens) q .state) ≡ false → m .queued < 64
   queue-room q l e =

@@ -1,20 +1,21 @@
 -- Each instruction's clause of the instruction table, as the code's effects have it. Assumes nothing.
 use mathlib.Core.Path.{_≡_, refl, sym, ap, ap₂, subst, _∙_}
 use mathlib.Core.Bool.{Bool, true, false}
-use mathlib.Core.List.{List, [], _∷_}
+use mathlib.Core.List.{List, [], _∷_, map}
 use Prim.Native.Nat.{ℕ, _+_, _*_, _<_, _≤_}
 use native.Mathlib.Omega.{arith}
-use lib.ListN.{length, getD}
+use lib.ListN.{length, getD, take}
 use lib.Dec.{ltb, leb}
 use lib.IntN.{ℤ}
-use Rattle.model.specs.Test.{_and_}
+use Rattle.model.specs.Test.{_and_, all}
+use Rattle.model.specs.Site.{Said, siteTakes, isBuiltin, builtin}
 use Rattle.model.specs.Job.Node.{Node, bodyAt, isNode, nodeKept, paramsKept}
 use Rattle.model.specs.Job.Words.{dagOf, nodeWords}
 use Rattle.model.specs.Machine.Limits.{paper}
 use Rattle.model.specs.Machine.Blank.{blankToken, tokenAt}
-use Rattle.model.specs.Machine.Reply.{Effect, moves, refuses, unless}
+use Rattle.model.specs.Machine.Reply.{Effect, moves, waits, refuses, unless}
 use Rattle.model.specs.Machine.Step as Step
-use Rattle.model.specs.Machine.Step.{act, to, binding, put, enqueue, newToken, newCell, valueOf, inCell, holding, being, choked, formalsBound}
+use Rattle.model.specs.Machine.Step.{act, to, binding, put, enqueue, newToken, newCell, valueOf, inCell, holding, being, choked, passed, formalsBound, queueOf, waitsOf, Looked, values, unset, look, callSite}
 use Rattle.model.specs.declared.token.Slot.{Slot}
 use Rattle.model.specs.declared.token.Slot.the-variants as slots
 use Rattle.model.specs.declared.token.Held.{Held}
@@ -28,15 +29,18 @@ use Rattle.model.specs.declared.record.Machine.{Machine}
 use Rattle.model.specs.declared.reply.Refusal.{Refusal}
 use Rattle.model.specs.declared.reply.Refusal.the-variants as refusals
 use Rattle.model.specs.declared.reply.Reply.the-variants as replies
-use Rattle.model.proofs.Test.{and-left, and-right, ltb-lt, leb-le}
-use Rattle.acts.specs.Unfinished.{unfinished, effectOutcome, taken}
-use Rattle.acts.specs.Acting.{Acting, TokenPlace, CellPlace, stepped}
+use Rattle.model.proofs.Test.{and-left, and-right, ltb-lt, lt-ltb, le-not-ltb, leb-le}
+use Rattle.acts.specs.Unfinished.{unfinished, effectOutcome, taken, waitingAt}
+use Rattle.acts.specs.Acting.{Acting, TokenPlace, CellPlace, Known, stepped}
+use Rattle.acts.specs.Looking.{bindInRange, lookBinds}
 use Rattle.acts.specs.Row.{paramsAt, ParamsKept}
 use Rattle.acts.specs.Choking.{ChokingKept}
-use Rattle.acts.proofs.Acts.{token, token-read, token-caller, token-cell, acting-taking, row-inside, node-kept, count-word, stepped-is, node-number, dag-kept}
+use Rattle.acts.proofs.Acts.{token, token-read, token-slots, token-caller, token-cell, acting-taking, row-inside, node-kept, count-word, stepped-is, node-number, dag-kept}
 use Rattle.acts.proofs.Tables.{getD-any}
-use Rattle.acts.proofs.Nodes.{nodeIn, root-read}
+use Rattle.acts.proofs.Nodes.{nodeIn, root-read, root-few, body-few}
 use Rattle.acts.proofs.Facts.{choking-kept}
+use Rattle.acts.proofs.Params.{params-count}
+use Rattle.acts.proofs.Calls.{look-passed, formals-front, passed-known, site-below}
 use Rattle.acts.proofs.Chokes.{place-inside}
 
 unless-true : (b : Bool) (r : Refusal) (e : Effect) → b ≡ true → unless b r e ≡ e
@@ -306,6 +310,12 @@ module _ (ws : List ℕ) (m : Machine) (place p at : ℕ) (o : Acting ws m place
   pub call-body : Kind 2 → word 1 < length (dagOf ws .bodies)
   call-body e = ltb-lt (word 1) (length (dagOf ws .bodies)) (and-left _ _ (call-rule e))
 
+  pub call-root : (k : ℕ) → Kind 2 → k ≡ word 1 → (k < 32) × (getD ws (3 + 2 * k) 0 < 65536)
+  call-root k e same =
+      let b = body-few ws (word 1) (dag-kept ws m place p at o) (call-body e) in
+      let r = root-few ws (word 1) (dag-kept ws m place p at o) (call-body e) in
+      (subst (λ i. i < 32) (sym same) b, subst (λ i. getD ws (3 + 2 * i) 0 < 65536) (sym same) (let z : getD ws (3 + 2 * word 1) 0 < 65536 = omega arith in z))
+
   pub call-next : Kind 2 → word 2 < 65536
   call-next e =
       node-number ws m place p at o (word 2)
@@ -359,3 +369,93 @@ module _ (ws : List ℕ) (m : Machine) (place p at : ℕ) (o : Acting ws m place
         whose frame
       ∙ ap (λ q. Step.entered (taken m place) p t q (bodyAt (dagOf ws) (word 1) .root) (paramsAt ws at) (word 2)) (n .next))
       ∙ sym (stepped-is ws m place p at o 2 e ∙ ap (effectOutcome m) (unless-true _ _ _ (sym (n .has))))
+
+  -- site call
+  site-rule : Kind 1 → (siteTakes (word 1) (length (paramsAt ws at)) and paramsKept (paramsAt ws at) and isNode (dagOf ws) (word 2)) ≡ true
+  unfolding nodeKept
+  site-rule e = node-kept ws m place p at o 1 e
+
+  pub site-params : Kind 1 → ParamsKept ws at
+  unfolding nodeWords
+  site-params e = params-kept 1 e refl (and-left _ _ (and-right (siteTakes (word 1) (length (paramsAt ws at))) _ (site-rule e)))
+
+  pub site-number : Kind 1 → word 1 < 1024
+  site-number e = site-below (word 1) (length (paramsAt ws at)) (and-left _ _ (site-rule e))
+
+  pub site-next : Kind 1 → word 2 < 65536
+  site-next e =
+      node-number ws m place p at o (word 2)
+      (and-right (paramsKept (paramsAt ws at)) _ (and-right (siteTakes (word 1) (length (paramsAt ws at))) _ (site-rule e)))
+
+  abbrev looks : Looked
+  looks = look (m .cells) (t .binds) (paramsAt ws at)
+
+  site-does : (l : Looked) → Kind 1 → looks ≡ l → stepped ws m place ≡ effectOutcome m (callSite paper (dagOf ws) (taken m place) p t (word 1) (word 2) l)
+  unfolding act Step.withOrders
+  site-does l e f =
+      stepped-is ws m place p at o 1 e ∙ ap (λ x. effectOutcome m (callSite paper (dagOf ws) (taken m place) p t (word 1) (word 2) x)) f
+
+  -- what the code finds
+  pub site-looks :
+      (d : Token) (given : List Bind) (n : ℕ)
+      → Kind 1
+      → given ≡ formalsBound (getD (m .tokens) p d .binds) (paramsAt ws at)
+      → n ≡ word 3
+      → (looks ≡ lookBinds (m .cells) (take n given)) × (all (bindInRange 32) (take n given) ≡ true)
+  site-looks d given n e g c =
+      let k = site-params e in
+      let ps = paramsAt ws at in
+      let size : length ps ≡ word 3 = params-count ws at (k .size) (k .inside) (k .few) in
+      let front : take n given ≡ map (passed (t .binds)) ps =
+          ap₂ take (c ∙ sym size) (g ∙ ap (λ (u : Token). formalsBound (u .binds) ps) (token-read ws m place p at o d)) ∙ formals-front (t .binds) ps in
+      (look-passed (m .cells) (t .binds) ps ∙ ap (lookBinds (m .cells)) (sym front),
+        subst (λ bs. all (bindInRange 32) bs ≡ true) (sym front) (passed-known (t .binds) ps (token-slots ws m place p at o) (k .kept)))
+
+  pub site-waits :
+      (d u : Token) (c : ℕ)
+      → Kind 1
+      → looks ≡ unset c
+      → u ≡ being (states.Waiting c) (getD (m .tokens) p d)
+      → effectOutcome m (waits (waitingAt p (put p u (taken m place)))) ≡ stepped ws m place
+  unfolding callSite Step.waited queueOf waitsOf put Step.withTables
+  site-waits d u c e f g =
+      ap (λ x. effectOutcome m (waits (waitingAt p (put p x (taken m place))))) (g ∙ ap (being (states.Waiting c)) (token-read ws m place p at o d))
+      ∙ sym (site-does (unset c) e f)
+
+  pub site-builtin :
+      (d : Token) (vs : List ℤ) (n k s : ℕ) (said : Said)
+      → Kind 1
+      → Known ws m p at vs n
+      → s ≡ word 1
+      → s < 7
+      → said ≡ builtin s (take n vs)
+      → k ≡ word 2
+      → effectOutcome m (Step.replied (taken m place) p (getD (m .tokens) p d) k said) ≡ stepped ws m place
+  unfolding callSite isBuiltin
+  site-builtin d vs n k s said e known f l g h =
+      ap₂ (λ x y. effectOutcome m (Step.replied (taken m place) p x y said)) (token-read ws m place p at o d) h
+      ∙ ap (λ x. effectOutcome m (Step.replied (taken m place) p t (word 2) x)) (g ∙ ap (λ i. builtin i (take n vs)) f)
+      ∙ sym (site-does (values (take n vs)) e (known .found) ∙ ap (effectOutcome m) (by-kind (lt-ltb (word 1) 7 (subst (λ i. i < 7) f l))))
+    where
+      by-kind : isBuiltin (word 1) ≡ true → callSite paper (dagOf ws) (taken m place) p t (word 1) (word 2) (values (take n vs)) ≡ Step.replied (taken m place) p t (word 2) (builtin (word 1) (take n vs))
+      by-kind b = rw (b, callSite)
+
+  pub site-outside :
+      (d : Token) (vs : List ℤ) (n k s : ℕ)
+      → Kind 1
+      → Known ws m p at vs n
+      → s ≡ word 1
+      → 7 ≤ s
+      → k ≡ word 2
+      → effectOutcome m (unless (ltb (m .calls) 1000000) refusals.CallLimit (Step.calledOut (taken m place) p (getD (m .tokens) p d) s (take n vs) k)) ≡ stepped ws m place
+  unfolding callSite isBuiltin Step.withOrders
+  site-outside d vs n k s e known f l h =
+      ap₂ (λ x y. effectOutcome m (unless (ltb (m .calls) 1000000) refusals.CallLimit (Step.calledOut (taken m place) p x s (take n vs) y))) (token-read ws m place p at o d) h
+      ∙ ap (λ x. effectOutcome m (unless (ltb (m .calls) 1000000) refusals.CallLimit (Step.calledOut (taken m place) p t x (take n vs) (word 2)))) f
+      ∙ sym (site-does (values (take n vs)) e (known .found) ∙ ap (effectOutcome m) (by-kind (le-not-ltb (word 1) 7 (subst (λ i. 7 ≤ i) f l))))
+    where
+      by-kind :
+          isBuiltin (word 1) ≡ false
+          → callSite paper (dagOf ws) (taken m place) p t (word 1) (word 2) (values (take n vs))
+            ≡ unless (ltb (m .calls) 1000000) refusals.CallLimit (Step.calledOut (taken m place) p t (word 1) (take n vs) (word 2))
+      by-kind b = rw (b, callSite)

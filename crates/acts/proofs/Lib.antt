@@ -15,3 +15,4 @@ pub mod Facts
 pub mod Acts
 pub mod Places
 pub mod Instructions
+pub mod Calls

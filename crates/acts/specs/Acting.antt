@@ -3,18 +3,19 @@ use mathlib.Core.Path.{_≡_}
 use mathlib.Core.Bool.{Bool, true}
 use mathlib.Core.List.{List}
 use Prim.Native.Nat.{ℕ, _<_}
-use lib.ListN.{length, getD}
+use lib.ListN.{length, getD, take}
+use lib.IntN.{ℤ}
 use Rattle.model.specs.Job.Words.{dagOf}
 use Rattle.model.specs.Machine.Limits.{paper}
 use Rattle.model.specs.Machine.Blank.{tokenAt}
 use Rattle.model.specs.Machine.InUse.{tokensUsed, cellsUsed}
 use Rattle.model.specs.Machine.Places.{nextPlace}
 use Rattle.model.specs.Machine.Rules.{rulesKept}
-use Rattle.model.specs.Machine.Reply.{Effect}
-use Rattle.model.specs.Machine.Step.{hasTokenPlace, hasCellPlace, takes}
+use Rattle.model.specs.Machine.Reply.{valuesBeside}
+use Rattle.model.specs.Machine.Step.{values, look, hasTokenPlace, hasCellPlace, takes}
 use Rattle.model.specs.declared.record.Machine.{Machine}
 use Rattle.model.specs.declared.reply.Outcome.{Outcome}
-use Rattle.acts.specs.Row.{rowOf}
+use Rattle.acts.specs.Row.{rowOf, paramsAt}
 use Rattle.acts.specs.Unfinished.{effectOutcome}
 
 -- the index rules are kept, and the queue has a token at the place
@@ -38,6 +39,16 @@ pub record TokenPlace (ws : List ℕ) (m : Machine) (new : ℕ) (room : Bool) : 
 pub record CellPlace (ws : List ℕ) (m : Machine) (new : ℕ) (room : Bool) : Type 0 where
   pub next : new ≡ nextPlace (cellsUsed m) (m .newcell)
   pub has : room ≡ hasCellPlace paper (dagOf ws) m
+
+-- the first n of four values, with zeros behind them
+pub record Beside (vs : List ℤ) (n : ℕ) : Type 0 where
+  pub zeros : valuesBeside (take n vs) ≡ vs
+  pub size : length (take n vs) ≡ n
+
+-- the values of all parameters of the token's node
+pub record Known (ws : List ℕ) (m : Machine) (p at : ℕ) (vs : List ℤ) (n : ℕ) : Type 0 where
+  pub found : look (m .cells) (tokenAt (m .tokens) p .binds) (paramsAt ws at) ≡ values (take n vs)
+  pub beside : Beside vs n
 
 -- what the model's step does, before blanking
 abbrev pub stepped : List ℕ → Machine → (place : ℕ) → Outcome

@@ -6,3 +6,7 @@ use Rattle.acts.specs.declared.site.Said.the-variants as saids
 abbrev pub saidOf : Said → code.Said
 saidOf (gives v) = saids.Gives v
 saidOf silent = saids.Silent
+
+abbrev pub modelSaid : code.Said → Said
+modelSaid (saids.Gives v) = gives v
+modelSaid saids.Silent = silent

@@ -2,11 +2,15 @@
 ghost use mathlib.Core.Path.{_≡_};
 ghost use mathlib.Core.List.{[]};
 ghost use Prim.Native.Nat.{_+_, _<_};
-ghost use lib.ListN.{getD};
-ghost use Rattle.model.specs.Machine.Reply.{refuses};
+ghost use lib.ListN.{getD, take};
+ghost use lib.Dec.{ltb};
+ghost use Rattle.model.specs.Machine.Reply.{refuses, unless};
 ghost use Rattle.model.specs.Machine.Step.{valueOf};
-ghost use Rattle.acts.specs.Unfinished.{effectOutcome};
-ghost use Rattle.acts.specs.Acting.{Acting, TokenPlace, CellPlace, stepped};
+ghost use Rattle.model.specs.Machine.Step as Step;
+ghost use Rattle.model.specs.declared.reply.Refusal.the-variants as refusals;
+ghost use Rattle.acts.specs.Said.{modelSaid};
+ghost use Rattle.acts.specs.Unfinished.{effectOutcome, taken, Taking};
+ghost use Rattle.acts.specs.Acting.{Rules, Acting, TokenPlace, CellPlace, Beside, Known, stepped};
 use crate::change::being;
 use crate::change::binding;
 use crate::change::holding;
@@ -18,8 +22,13 @@ use crate::effect::entered;
 use crate::effect::forked;
 use crate::effect::goes_on;
 use crate::effect::split;
+use crate::effect::called_out;
+use crate::effect::waited;
+use crate::look::look_up;
 use crate::pass::formals;
 use crate::pass::word;
+use crate::site::builtin;
+use crate::site::Said;
 use model::cell::Cell;
 use model::record::Machine;
 use model::reply::Outcome;
@@ -193,5 +202,88 @@ pub fn choke(machine: Machine, dag: &[u32; 12331], place: usize, p: usize, at: u
     match home {
         Place::Nowhere => refused(machine, Refusal::Rule),
         Place::At(c) => chokes(machine, place, c as usize, held),
+    }
+}
+
+// "A built-in replies and the token goes on, or it is silent and the token ends."
+pub fn replied(machine: Machine, place: usize, p: usize, token: Token, next: u16, said: Said) -> Outcome
+    requires { ⌜ Taking machine place p ⌝ }
+    ensures { λ r. ⌜ r ≡ effectOutcome machine (Step.replied (taken machine place) p token next (modelSaid said)) ⌝ }
+{
+    match said {
+        Said::Gives(v) => goes_on(machine, place, p, to(holding(token, Held::Value(v)), next)),
+        Said::Silent => ended(machine, place, p, Reply::Done),
+    }
+}
+
+// "13: outside call, all values there, after 1,000,000 such calls."
+pub fn outside(machine: Machine, place: usize, p: usize, token: Token, next: u16, site: u16, values: [i32; 4], count: u8) -> Outcome
+    requires { ⌜ Taking machine place p × Beside values count ⌝ }
+    ensures { λ r. ⌜ r ≡ effectOutcome machine (unless (ltb (machine .calls) 1000000) refusals.CallLimit (Step.calledOut (taken machine place) p token site (take count values) next)) ⌝ }
+{
+    let handle = machine.calls;
+    if handle < 1000000 {
+        let called = to(being(token, State::Called(handle)), next);
+        return called_out(machine, place, p, called, site, values, count);
+    }
+    refused(machine, Refusal::CallLimit)
+}
+
+// A site call whose values are all there.
+pub fn known(machine: Machine, dag: &[u32; 12331], place: usize, p: usize, at: usize, values: [i32; 4], count: u8) -> Outcome
+    requires { ⌜ Acting (now dag) machine place p at × (getD (now dag) at 0 ≡ 1) × Known (now dag) machine p at values count ⌝ }
+    ensures { λ r. ⌜ r ≡ stepped (now (dag .entry)) machine place ⌝ }
+{
+    let token = machine.tokens[p];
+    let next = node(dag, at + 2);
+    let site = word(dag, at + 1);
+    if site < 7 {
+        let a = values[0];
+        let b = values[1];
+        let said = builtin(site, a, b);
+        return replied(machine, place, p, token, next, said);
+    }
+    outside(machine, place, p, token, next, site as u16, values, count)
+}
+
+// Site call: "parameters in order: the first unset cell makes the token wait there".
+pub fn site(machine: Machine, dag: &[u32; 12331], place: usize, p: usize, at: usize) -> Outcome
+    requires { ⌜ Acting (now dag) machine place p at × (getD (now dag) at 0 ≡ 1) ⌝ }
+    ensures { λ r. ⌜ r ≡ stepped (now (dag .entry)) machine place ⌝ }
+{
+    let token = machine.tokens[p];
+    let binds = token.binds;
+    let given = formals(dag, at, binds);
+    let cells = machine.cells;
+    let count = word(dag, at + 3) as usize;
+    let looked = look_up(cells, given, count);
+    let unset = looked.unset;
+    let values = looked.values;
+    let n = looked.count;
+    match unset {
+        Place::At(c) => waited(machine, place, p, being(token, State::Waiting(c))),
+        Place::Nowhere => known(machine, dag, place, p, at, values, n),
+    }
+}
+
+// One step of the token at a place of the queue, before what is not in use is made blank.
+pub fn act(machine: Machine, dag: &[u32; 12331], place: usize, new: usize, room: bool, below: usize, cell_room: bool) -> Outcome
+    requires { ⌜ Rules (now dag) machine place × TokenPlace (now dag) machine new room × CellPlace (now dag) machine below «cell_room» ⌝ }
+    ensures { λ r. ⌜ r ≡ stepped (now (dag .entry)) machine place ⌝ }
+{
+    let p = machine.queue[place] as usize;
+    let token = machine.tokens[p];
+    let at = 67 + 12 * (token.node as usize);
+    match word(dag, at) {
+        0 => stop(machine, dag, place, p, at),
+        1 => site(machine, dag, place, p, at),
+        2 => call(machine, dag, place, p, at, new, room),
+        3 => fork(machine, dag, place, p, at, new, room),
+        4 => assign(machine, dag, place, p, at),
+        5 => remove(machine, dag, place, p, at),
+        6 => prune(machine, dag, place, p, at, new, room, below, cell_room),
+        7 => choke(machine, dag, place, p, at),
+        8 => give_back(machine, dag, place, p, at),
+        _ => publish(machine, dag, place, p, at),
     }
 }

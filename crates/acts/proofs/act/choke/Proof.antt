@@ -1,3 +1,7 @@
+use Rattle.acts.proofs.Instructions.{choke-kept, choke-refused, choke-is}
+use Rattle.acts.proofs.Acts.{p-inside, acting-taking, row-inside}
+use native.Mathlib.Omega.{arith}
+use mathlib.Core.Path.{_≡_, refl, sym, ap, subst, _∙_}
 use borrow.Author.Needs.{needs}
 use Rattle.acts.proofs.act.choke.Statement.{statement}
 use Rattle.acts.proofs.act.choke.Tie as tie
@@ -6,41 +10,32 @@ use Rattle.acts.proofs.act.choke.Lts as lts
 use Rattle.acts.proofs.act.refused.Reads as refused-reads
 use Rattle.acts.proofs.effect.chokes.Reads as chokes-reads
 
--- src/act.rt:190:17
 mul-token : tie.Need-mul-token
-mul-token c = ?
+mul-token c = let l = p-inside _ _ _ _ _ (c .pre .0) in omega arith
 
--- src/act.rt:190:17
 element-copy-out-token : tie.Need-element-copy-out-token
-element-copy-out-token c = ?
+element-copy-out-token c = p-inside _ _ _ _ _ (c .pre .0)
 
--- src/act.rt:194:35
 enum-told : tie.Need-enum-told
 enum-told c = search needs
 
--- src/act.rt:194:27
 refused-requires : tie.Need-refused-requires
 refused-requires c κs = search needs
 
--- src/act.rt:195:19
 enum-known-home : tie.Need-enum-known-home
 enum-known-home c = search needs
 
--- src/act.rt:195:48
 cast-chokes : tie.Need-cast-chokes
 cast-chokes c = search needs
 
--- src/act.rt:195:25
 chokes-requires : tie.Need-chokes-requires
-chokes-requires c κs = ?
+chokes-requires c κs = choke-kept _ _ _ _ _ (c .before .before .before .before .pre .0) _ _ (c .before .home .given .1)
 
--- src/act.rt:186:1
 returns : tie.Need-returns
-returns c = ?
+returns c = let s = c .before .before .before .before in c .refused .ensures ∙ choke-refused _ _ _ _ _ (s .pre .0) _ (s .pre .1) (c .before .enum-told .given .1)
 
--- src/act.rt:186:1
 returns-2 : tie.Need-returns-2
-returns-2 c = ?
+returns-2 c = let s = c .before .before .before .before .before in c .chokes .ensures ∙ choke-is _ _ _ _ _ (s .pre .0) _ _ (s .pre .1) (c .before .before .home .given .1)
 
 pub choke-spec : {M : Type 1} → statement M
 choke-spec =

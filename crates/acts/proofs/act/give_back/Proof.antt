@@ -1,3 +1,7 @@
+use Rattle.acts.proofs.Instructions.{frame-inside, return-refused, return-is}
+use Rattle.acts.proofs.Acts.{p-inside, acting-taking, row-inside}
+use native.Mathlib.Omega.{arith}
+use mathlib.Core.Path.{_≡_, refl, sym, ap, subst, _∙_}
 use borrow.Author.Needs.{needs}
 use Rattle.acts.proofs.act.give_back.Statement.{statement}
 use Rattle.acts.proofs.act.give_back.Tie as tie
@@ -8,57 +12,47 @@ use Rattle.acts.proofs.change.being.Reads as being-reads
 use Rattle.acts.proofs.change.holding.Reads as holding-reads
 use Rattle.acts.proofs.effect.goes_on.Reads as goes-on-reads
 
--- src/act.rt:173:17
 mul-token : tie.Need-mul-token
-mul-token c = ?
+mul-token c = let l = p-inside _ _ _ _ _ (c .pre .0) in omega arith
 
--- src/act.rt:173:17
 element-copy-out-token : tie.Need-element-copy-out-token
-element-copy-out-token c = ?
+element-copy-out-token c = p-inside _ _ _ _ _ (c .pre .0)
 
--- src/act.rt:177:35
 enum-told : tie.Need-enum-told
 enum-told c = search needs
 
--- src/act.rt:177:27
 refused-requires : tie.Need-refused-requires
 refused-requires c κs = search needs
 
--- src/act.rt:178:19
 enum-known-caller : tie.Need-enum-known-caller
 enum-known-caller c = search needs
 
--- src/act.rt:179:40
 cast-frame : tie.Need-cast-frame
 cast-frame c = search needs
 
--- src/act.rt:179:25
 mul-frame : tie.Need-mul-frame
 mul-frame c = search needs
 
--- src/act.rt:179:25
 element-copy-out-frame : tie.Need-element-copy-out-frame
-element-copy-out-frame c = ?
+element-copy-out-frame c = frame-inside _ _ _ _ _ (c .before .before .before .before .pre .0) _ _ (c .before .caller .given .1)
 
--- src/act.rt:180:46
 holding-requires : tie.Need-holding-requires
 holding-requires c κs = search needs
 
--- src/act.rt:180:40
 being-requires : tie.Need-being-requires
 being-requires c κs = search needs
 
--- src/act.rt:180:13
 goes-on-requires : tie.Need-goes-on-requires
-goes-on-requires c κs = ?
+goes-on-requires c κs = acting-taking _ _ _ _ _ (c .before .before .before .before .before .before .before .pre .0)
 
--- src/act.rt:169:1
 returns : tie.Need-returns
-returns c = ?
+returns c = let s = c .before .before .before .before in c .refused .ensures ∙ return-refused _ _ _ _ _ (s .pre .0) _ (s .pre .1) (c .before .enum-told .given .1)
 
--- src/act.rt:169:1
 returns-2 : tie.Need-returns-2
-returns-2 c = ?
+returns-2 c = 
+    let s = c .before .before .before .before .before .before .before .before in
+    c .goes-on .ensures
+    ∙ return-is _ _ _ _ _ (s .pre .0) _ _ _ _ _ (s .pre .1) (c .before .before .before .before .before .caller .given .1) (c .before .before .holding .ensures) (c .before .being .ensures)
 
 pub give-back-spec : {M : Type 1} → statement M
 give-back-spec =
