@@ -1,0 +1,14 @@
+use Rattle.acts.proofs.Shapes.{no-values}
+use Rattle.acts.specs.Unfinished.{effectOutcome}
+use mathlib.Core.Path.{refl}
+use Rattle.acts.proofs.act.refused.Statement.{statement}
+use Rattle.acts.proofs.act.refused.Tie as tie
+use Rattle.acts.proofs.act.refused.Reads as reads
+use Rattle.acts.proofs.act.refused.Lts as lts
+
+returns : tie.Need-returns
+unfolding effectOutcome
+returns c = no-values _ refl
+
+pub refused-spec : {M : Type 1} → statement M
+refused-spec = tie.close (tie.spec returns)

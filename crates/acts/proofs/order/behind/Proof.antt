@@ -1,0 +1,23 @@
+use Rattle.acts.specs.Choking.{behindIf}
+use borrow.Author.Needs.{needs}
+use Rattle.acts.proofs.order.behind.Statement.{statement}
+use Rattle.acts.proofs.order.behind.Tie as tie
+use Rattle.acts.proofs.order.behind.Reads as reads
+use Rattle.acts.proofs.order.behind.Lts as lts
+
+element-write-order : tie.Need-element-write-order
+element-write-order c = search needs
+
+add-order : tie.Need-add-order
+add-order c = search needs
+
+returns : tie.Need-returns
+unfolding behindIf
+returns c = rw (c .if1 .taken)
+
+returns-2 : tie.Need-returns-2
+unfolding behindIf
+returns-2 c = rw (c .if1 .left)
+
+pub behind-spec : {M : Type 1} → statement M
+behind-spec = tie.close (tie.spec element-write-order add-order returns returns-2)

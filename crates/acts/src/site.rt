@@ -1,0 +1,77 @@
+// What a built-in site says to a call.
+ghost use mathlib.Core.Path.{_≡_};
+ghost use mathlib.Core.List.{[], _∷_};
+ghost use Prim.Native.Nat.{_<_};
+ghost use lib.IntN.{pos};
+ghost use lib.Signed.{ltZ};
+ghost use Rattle.model.specs.Number.{equalZ};
+ghost use Rattle.model.specs.Site as Site;
+ghost use Rattle.model.specs.Site.{gives};
+ghost use Rattle.acts.specs.Said.{saidOf};
+
+pub enum Said {
+    Gives(i32),
+    Silent,
+}
+
+// "gives 0 if .., else silent"
+fn zero_if(test: bool) -> Said
+    ensures { λ r. ⌜ r ≡ saidOf (Site.zeroIf test) ⌝ }
+{
+    if test {
+        return Said::Gives(0);
+    }
+    Said::Silent
+}
+
+// "1 or 0"
+fn truth(test: bool) -> Said
+    ensures { λ r. ⌜ r ≡ saidOf (gives (Site.truth test)) ⌝ }
+{
+    if test {
+        return Said::Gives(1);
+    }
+    Said::Gives(0)
+}
+
+fn less(a: i32, b: i32) -> bool
+    ensures { λ r. ⌜ r ≡ ltZ a b ⌝ }
+{
+    a < b
+}
+
+fn equal(a: i32, b: i32) -> bool
+    ensures { λ r. ⌜ r ≡ equalZ a b ⌝ }
+{
+    a == b
+}
+
+// "the sum, or is silent if it leaves signed 32 bits"
+fn sum(a: i32, b: i32) -> Said
+    ensures { λ r. ⌜ r ≡ saidOf (Site.sum a b) ⌝ }
+{
+    let s = (a as i64) + (b as i64);
+    if s < -2147483648 {
+        return Said::Silent;
+    }
+    if 2147483647 < s {
+        return Said::Silent;
+    }
+    Said::Gives(s as i32)
+}
+
+// "0 let (1), 1 ift (1), 2 iff (1), 3 signal (0), 4 add (2), 5 less (2), 6 equal (2)". No site has more than two parameters.
+pub fn builtin(site: u32, a: i32, b: i32) -> Said
+    requires { ⌜ site < 7 ⌝ }
+    ensures { λ r. ⌜ r ≡ saidOf (Site.builtin site (a ∷ b ∷ [])) ⌝ }
+{
+    match site {
+        0 => Said::Gives(a),
+        1 => zero_if(!equal(a, 0)),
+        2 => zero_if(equal(a, 0)),
+        3 => Said::Gives(0),
+        4 => sum(a, b),
+        5 => truth(less(a, b)),
+        _ => truth(equal(a, b)),
+    }
+}
