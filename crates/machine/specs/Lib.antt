@@ -1,0 +1,2 @@
+-- How a call ends.
+pub mod Finished
