@@ -1,6 +1,12 @@
 use Rattle.acts.proofs.Calls.{looked-known, looked-waits}
 use Rattle.acts.proofs.Facts.{waits-room}
-use Rattle.acts.specs.Looking.{lookedOf}
+use mathlib.Core.Bool.{true}
+use lib.ListN.{take}
+use Rattle.model.specs.Test.{all}
+use Rattle.model.specs.Machine.Blank.{tokenAt}
+use Rattle.model.specs.Machine.Step.{look}
+use Rattle.acts.specs.Row.{paramsAt}
+use Rattle.acts.specs.Looking.{bindInRange, lookBinds, lookedOf}
 use Rattle.acts.proofs.Instructions.{site-params, site-looks, site-waits}
 use Rattle.acts.proofs.Acts.{p-inside, acting-taking, row-inside}
 use native.Mathlib.Omega.{arith}
@@ -36,7 +42,12 @@ cast-count : tie.Need-cast-count
 cast-count c = search needs
 
 -- what the code looks up is what the model looks up
-looks : (c : tie.After-word) → _
+looks :
+    (c : tie.After-word)
+    → let s = c .before .before .before .before .before in
+      let xs = take (c .word .result) (c .before .before .formals .result) in
+      (look (s .args .t1 .cells) (tokenAt (s .args .t1 .tokens) (s .args .p) .binds) (paramsAt (s .args .dag .now) (s .args .at)) ≡ lookBinds (s .args .t1 .cells) xs)
+      × (all (bindInRange 32) xs ≡ true)
 looks c =
     let s = c .before .before .before .before .before in
     site-looks _ _ _ _ _ (s .pre .0) _ (c .before .before .formals .result) (c .word .result) (s .pre .1) (c .before .before .formals .ensures) (c .word .ensures)
@@ -54,7 +65,10 @@ enum-known-unset c = search needs
 being-requires : tie.Need-being-requires
 being-requires c κs = search needs
 
-found : (c : tie.After-look-up) → _
+found :
+    (c : tie.After-look-up)
+    → let s = c .before .before .before .before .before .before in
+      c .look-up .result ≡ lookedOf (look (s .args .t1 .cells) (tokenAt (s .args .t1 .tokens) (s .args .p) .binds) (paramsAt (s .args .dag .now) (s .args .at)))
 found c = c .look-up .ensures ∙ ap lookedOf (sym (looks (c .before) .0))
 
 waited-requires : tie.Need-waited-requires
