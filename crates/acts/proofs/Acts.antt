@@ -61,9 +61,9 @@ module _ (ws : List ℕ) (m : Machine) (place p at : ℕ) (o : Acting ws m place
 
   after-slots :
       (heldInRange (token .value)
-        and placeInRange 64 (token .caller)
-        and placeInRange 32 (token .cell)
-        and stateInRange 32 (m .calls) (token .state))
+      and placeInRange 64 (token .caller)
+      and placeInRange 32 (token .cell)
+      and stateInRange 32 (m .calls) (token .state))
       ≡ true
   unfolding tokenInRange
   after-slots =

@@ -87,15 +87,15 @@ module _ (d : Dag) (m : Machine) (k : rulesKept paper d m ≡ true) (h p : ℕ) 
       → u ≡ holding (helds.Value x) (getD (m .tokens) p o)
       → v ≡ being states.Ready u
       → literal
-        (set (m .tokens) p v)
-        (m .cells)
-        (set (m .queue) (m .queued) p)
-        (m .queued + 1)
-        (m .waits)
-        (m .waiting)
-        (m .calls)
-        (m .newtoken)
-        (m .newcell)
+      (set (m .tokens) p v)
+      (m .cells)
+      (set (m .queue) (m .queued) p)
+      (m .queued + 1)
+      (m .waits)
+      (m .waiting)
+      (m .calls)
+      (m .newtoken)
+      (m .newcell)
       ≡ enqueue p (put p (being states.Ready (holding (helds.Value x) (tokenAt (m .tokens) p))) m)
   unfolding enqueue put Step.withTables queueOf waitsOf tokenAt
   answered-is o u v x f g =
@@ -108,11 +108,11 @@ module _ (d : Dag) (m : Machine) (k : rulesKept paper d m ≡ true) (h p : ℕ) 
       let z : suc (length q) ≡ length (q ++ (p ∷ [])) = count-behind q p in
       let new = being states.Ready (holding (helds.Value x) (getD (m .tokens) p blankToken)) in
       let same : v ≡ new =
-          g ∙ ap (being states.Ready) (f ∙ ap (holding (helds.Value x)) (getD-any (m .tokens) p o blankToken (omega arith))) in
+      g ∙ ap (being states.Ready) (f ∙ ap (holding (helds.Value x)) (getD-any (m .tokens) p o blankToken (omega arith))) in
       let put-in = literal (set (m .tokens) p new) (m .cells) (m .queue) (m .queued) (m .waits) (m .waiting) (m .calls) (m .newtoken) (m .newcell) in
       ap
       (λ t.
-        literal (set (m .tokens) p t) (m .cells) (set (m .queue) (m .queued) p) (m .queued + 1) (m .waits) (m .waiting) (m .calls) (m .newtoken) (m .newcell))
+      literal (set (m .tokens) p t) (m .cells) (set (m .queue) (m .queued) p) (m .queued + 1) (m .waits) (m .waiting) (m .calls) (m .newtoken) (m .newcell))
       same
       ∙ literal-shaped (q ++ (p ∷ [])) w (array-behind q p (order-array (r .queue)) c open-room) (omega arith) (order-array (r .waits)) (order-count (r .waits))
       ∙ sym (orders-shaped (q ++ (p ∷ [])) w put-in (length-set (m .tokens) p new ∙ n))
@@ -127,7 +127,7 @@ module _ (m : Machine) (h : ℕ) (x : ℤ) where
       (p : ℕ)
       → holder h 0 (m .tokens) ≡ places.At p
       → effectOutcome m (moves (enqueue p (put p (being states.Ready (holding (helds.Value x) (tokenAt (m .tokens) p))) m)))
-        ≡ effectOutcome m (answered m x (holder h 0 (m .tokens)))
+      ≡ effectOutcome m (answered m x (holder h 0 (m .tokens)))
   unfolding answered
   answer-does p e = sym (ap (λ q. effectOutcome m (answered m x q)) e)
 

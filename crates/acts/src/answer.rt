@@ -64,5 +64,9 @@ pub fn answered(mut machine: Machine, dag: &[u32; 12331], handle: u32, value: i3
     machine.tokens[p] = being(holding(token, Held::Value(value)), State::Ready);
     machine.queue[last] = c;
     machine.queued = last + 1;
-    Outcome { reply: Reply::Done, values: [0; 4], machine }
+    Outcome {
+        reply: Reply::Done,
+        values: [0; 4],
+        machine,
+    }
 }

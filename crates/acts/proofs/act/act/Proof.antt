@@ -21,7 +21,7 @@ use Rattle.acts.proofs.act.stop.Reads as stop-reads
 use Rattle.acts.proofs.pass.word.Reads as word-reads
 
 element-copy-out-p : tie.Need-element-copy-out-p
-element-copy-out-p c = 
+element-copy-out-p c =
     let f = orders-kept _ _ (c .pre .0 .kept) .queue .fits in
     omega (arith, c .pre .0 .queued)
 
@@ -74,7 +74,7 @@ give-back-requires : tie.Need-give-back-requires
 give-back-requires c κs = let s = c .before .before .before .before .before in (acting-of _ _ _ _ (s .pre .0), sym (c .before .word .ensures) ∙ c .match .keys9)
 
 publish-requires : tie.Need-publish-requires
-publish-requires c κs = 
+publish-requires c κs =
     let s = c .before .before .before .before .before in
     let o = acting-of _ _ _ _ (s .pre .0) in
     let few = kind-below _ _ _ _ _ _ (node-kept _ _ _ _ _ o _ refl) in

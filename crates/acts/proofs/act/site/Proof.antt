@@ -45,15 +45,15 @@ cast-count c = search needs
 looks :
     (c : tie.After-word)
     → let s = c .before .before .before .before .before in
-      let xs = take (c .word .result) (c .before .before .formals .result) in
-      (look (s .args .t1 .cells) (tokenAt (s .args .t1 .tokens) (s .args .p) .binds) (paramsAt (s .args .dag .now) (s .args .at)) ≡ lookBinds (s .args .t1 .cells) xs)
-      × (all (bindInRange 32) xs ≡ true)
+    let xs = take (c .word .result) (c .before .before .formals .result) in
+    (look (s .args .t1 .cells) (tokenAt (s .args .t1 .tokens) (s .args .p) .binds) (paramsAt (s .args .dag .now) (s .args .at)) ≡ lookBinds (s .args .t1 .cells) xs)
+    × (all (bindInRange 32) xs ≡ true)
 looks c =
     let s = c .before .before .before .before .before in
     site-looks _ _ _ _ _ (s .pre .0) _ (c .before .before .formals .result) (c .word .result) (s .pre .1) (c .before .before .formals .ensures) (c .word .ensures)
 
 look-up-requires : tie.Need-look-up-requires
-look-up-requires c κs = 
+look-up-requires c κs =
     let s = c .before .before .before .before .before in
     let k = site-params _ _ _ _ _ (s .pre .0) (s .pre .1) in
     let few = k .few in
@@ -68,11 +68,11 @@ being-requires c κs = search needs
 found :
     (c : tie.After-look-up)
     → let s = c .before .before .before .before .before .before in
-      c .look-up .result ≡ lookedOf (look (s .args .t1 .cells) (tokenAt (s .args .t1 .tokens) (s .args .p) .binds) (paramsAt (s .args .dag .now) (s .args .at)))
+    c .look-up .result ≡ lookedOf (look (s .args .t1 .cells) (tokenAt (s .args .t1 .tokens) (s .args .p) .binds) (paramsAt (s .args .dag .now) (s .args .at)))
 found c = c .look-up .ensures ∙ ap lookedOf (sym (looks (c .before) .0))
 
 waited-requires : tie.Need-waited-requires
-waited-requires c κs = 
+waited-requires c κs =
     let s = c .before .before .before .before .before .before .before .before .before .before .before in
     (acting-taking _ _ _ _ _ (s .pre .0), waits-room _ _ (s .pre .0 .rules .kept) _ (s .pre .0 .rules .queued))
 
@@ -80,13 +80,13 @@ enum-told : tie.Need-enum-told
 enum-told c = search needs
 
 known-requires : tie.Need-known-requires
-known-requires c κs = 
+known-requires c κs =
     let s = c .before .before .before .before .before .before .before .before .before in
     let k = looked-known _ _ (found (c .before .before .before)) (c .enum-told .given .1) in
     (s .pre .0, s .pre .1, record { found = k .0; beside = k .1 })
 
 returns : tie.Need-returns
-returns c = 
+returns c =
     let s = c .before .before .before .before .before .before .before .before .before .before .before .before in
     c .waited .ensures
     ∙ site-waits _ _ _ _ _ (s .pre .0) _ _ _ (s .pre .1) (looked-waits _ _ _ (found (c .before .before .before .before .before .before)) (c .before .before .before .unset .given .1)) (c .before .being .ensures)

@@ -34,7 +34,7 @@ cast-t13 : tie.Need-cast-t13 Inv-loop μ-loop
 cast-t13 c = search needs
 
 returns : tie.Need-returns Inv-loop μ-loop
-returns c = 
+returns c =
     let s = c .before .before .before .before .before in
     let len : length (s .args .t1) ≡ 64 = search (needs, mapped) in
     holder-found _ _ _ _ (omega (arith, c .before .before .before .loop-test .taken)) (c .before .before .before .before .loop .inv .1) (sym (c .before .is-open .ensures) ∙ c .if1 .taken)
@@ -46,14 +46,15 @@ loop-less : tie.Need-loop-less Inv-loop μ-loop
 loop-less c = search needs
 
 loop-again : tie.Need-loop-again Inv-loop μ-loop
-loop-again c = 
+loop-again c =
     let s = c .before .before .before .before .before in
-    let len : length (s .args .t1) ≡ 64 = search (needs, mapped) in
-    (search needs,
-      holder-on _ _ _ _ (omega (arith, c .before .before .before .loop-test .taken)) (c .before .before .before .before .loop .inv .1) (sym (c .before .is-open .ensures) ∙ c .if1 .left))
+    let len : length (s .args .t1) ≡ 64 = search (needs, mapped) in (
+      search needs,
+      holder-on _ _ _ _ (omega (arith, c .before .before .before .loop-test .taken)) (c .before .before .before .before .loop .inv .1) (sym (c .before .is-open .ensures) ∙ c .if1 .left),
+    )
 
 returns-2 : tie.Need-returns-2 Inv-loop μ-loop
-returns-2 c = 
+returns-2 c =
     let len : length (c .before .before .args .t1) ≡ 64 = search (needs, mapped) in
     holder-none _ _ _ (omega (arith, c .loop-test .left)) (c .before .loop .inv .1)
 
