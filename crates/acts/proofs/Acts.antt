@@ -4,10 +4,12 @@ use mathlib.Core.Path.{_≡_, refl, sym, ap, ap₂, subst, _∙_}
 use mathlib.Core.Bool.{Bool, true, false}
 use mathlib.Core.List.{List, [], _∷_}
 use Prim.Native.Nat.{ℕ, _+_, _*_, _<_, _≤_}
+use native.Mathlib.Decide.{decLt}
 use native.Mathlib.Omega.{arith}
-use lib.ListN.{length, getD}
+use lib.ListN.{length, getD, List·getD-eq-default}
 use lib.Dec.{ltb, leb, eqb}
 use Rattle.model.specs.Test.{_and_, all, without}
+use Rattle.model.specs.Job.Syntax.{Param}
 use Rattle.model.specs.Job.Node.{Node, Dag, nodeAt, nodeKept, isNode, dagKept}
 use Rattle.model.specs.Job.Words.{dagOf, nodeWords, nodeBy}
 use Rattle.model.specs.Machine.Limits.{paper}
@@ -18,14 +20,14 @@ use Rattle.model.specs.Machine.Step.{act, takes, withOrders, queueOf, waitsOf}
 use Rattle.model.specs.declared.token.Bind.{Bind}
 use Rattle.model.specs.declared.token.Token.{Token}
 use Rattle.model.specs.declared.record.Machine.{Machine}
-use Rattle.model.proofs.Test.{and-left, and-right, ltb-lt}
+use Rattle.model.proofs.Test.{clash, and-left, and-right, ltb-lt}
 use Rattle.model.proofs.Machine.Rules.{rules-kept}
 use Rattle.model.proofs.Job.Rules.{dag-rules}
 use Rattle.acts.specs.Row.{rowOf, rowAt}
 use Rattle.acts.specs.Unfinished.{effectOutcome, taken, Taking}
-use Rattle.acts.specs.Acting.{Acting, stepped}
+use Rattle.acts.specs.Acting.{Rules, Acting, stepped}
 use Rattle.acts.proofs.Tables.{getD-any}
-use Rattle.acts.proofs.Nodes.{nodeIn, node-of-kind, node-inside, node-read, node-rule, node-words}
+use Rattle.acts.proofs.Nodes.{nodeIn, nodeOfKind, node-of-kind, node-inside, node-read, node-rule, node-words}
 use Rattle.acts.proofs.Params.{row-word}
 use Rattle.acts.proofs.Facts.{tokens-size, queue-inside, token-range, orders-kept}
 
@@ -59,9 +61,9 @@ module _ (ws : List ℕ) (m : Machine) (place p at : ℕ) (o : Acting ws m place
 
   after-slots :
       (heldInRange (token .value)
-        and placeInRange 64 (token .caller)
-        and placeInRange 32 (token .cell)
-        and stateInRange 32 (m .calls) (token .state))
+      and placeInRange 64 (token .caller)
+      and placeInRange 32 (token .cell)
+      and stateInRange 32 (m .calls) (token .state))
       ≡ true
   unfolding tokenInRange
   after-slots =
@@ -84,6 +86,9 @@ module _ (ws : List ℕ) (m : Machine) (place p at : ℕ) (o : Acting ws m place
 
   pub row-inside : at + 12 ≤ 12331
   row-inside = let e : at ≡ rowOf (token .node) = o .row in let l = node-few in omega arith
+
+  pub row-start : at < 12331
+  row-start = let l = row-inside in omega arith
 
   module _ (kind : ℕ) (e : getD ws at 0 ≡ kind) where
     row-is : nodeBy (rowAt ws (rowOf (token .node))) ≡ nodeIn ws at kind
@@ -116,3 +121,60 @@ module _ (ws : List ℕ) (m : Machine) (place p at : ℕ) (o : Acting ws m place
       let f : length (dagOf ws .nodes) ≤ 1022 = dag-rules (dagOf ws) dag-kept .nodes-few in
       let l : k < length (dagOf ws .nodes) = ltb-lt k (length (dagOf ws .nodes)) e in
       omega arith
+
+-- a node's kind is one of ten
+pub kind-below : (d : Dag) (a b c : ℕ) (ps : List Param) (kind : ℕ) → nodeKept d (nodeOfKind a b c ps kind) ≡ true → kind < 10
+unfolding nodeKept
+kind-below d a b c ps kind e = go (decLt kind 10)
+  where
+    nodes : List Node
+    nodes =
+        Node.stop
+        ∷ Node.site a ps b
+        ∷ Node.call a ps b
+        ∷ Node.fork a b
+        ∷ Node.assign a b
+        ∷ Node.remove a b
+        ∷ Node.where' c a b
+        ∷ Node.choke
+        ∷ Node.return
+        ∷ Node.publish
+        ∷ []
+
+    go : Dec (kind < 10) → kind < 10
+    go (yes l) = l
+    go (no f) = clash (subst (λ n. nodeKept d n ≡ true) (List·getD-eq-default nodes Node.unknown {n = kind} (omega arith)) e) refl
+
+-- the kind that is left is the last one
+low-kinds : (k : ℕ) → (k ≡ 0 → ⊥) → (k ≡ 1 → ⊥) → (k ≡ 2 → ⊥) → (k ≡ 3 → ⊥) → (k ≡ 4 → ⊥) → 5 ≤ k
+low-kinds k a b c d e = omega arith
+
+from-five : (k : ℕ) → k < 10 → 5 ≤ k → (k ≡ 5 → ⊥) → (k ≡ 6 → ⊥) → (k ≡ 7 → ⊥) → (k ≡ 8 → ⊥) → k ≡ 9
+from-five k l low f g h i = omega arith
+
+pub last-kind :
+    (k : ℕ)
+    → k < 10
+    → (k ≡ 0 → ⊥)
+    → (k ≡ 1 → ⊥)
+    → (k ≡ 2 → ⊥)
+    → (k ≡ 3 → ⊥)
+    → (k ≡ 4 → ⊥)
+    → (k ≡ 5 → ⊥)
+    → (k ≡ 6 → ⊥)
+    → (k ≡ 7 → ⊥)
+    → (k ≡ 8 → ⊥)
+    → k ≡ 9
+last-kind k l a b c d e f g h i =
+    from-five k l (low-kinds k a b c d e) f g h i
+
+-- the code's reading of the queue and of the token
+pub acting-of :
+    (ws : List ℕ) (m : Machine) (place : ℕ) (d : Token)
+    → Rules ws m place
+    → Acting ws m place (getD (m .queue) place 0) (67 + 12 * getD (m .tokens) (getD (m .queue) place 0) d .node)
+unfolding tokenAt
+acting-of ws m place d r =
+    let t : length (m .tokens) ≡ 64 = tokens-size (dagOf ws) m (r .kept) in
+    let l : getD (m .queue) place 0 < 64 = queue-inside (dagOf ws) m (r .kept) place (r .queued) in
+    record { rules = r; token = refl; row = ap (λ (u : Token). rowOf (u .node)) (getD-any (m .tokens) (getD (m .queue) place 0) d blankToken (omega arith)) }

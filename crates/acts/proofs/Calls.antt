@@ -50,11 +50,11 @@ after-held c (helds.Value v) l = refl
 after-slot :
     (cs : List Cell) (s : Slot) (l : Looked)
     → elim s as (λ s. Looked) [
-        | slots.Empty ↦ values []
-        | slots.Value v ↦ andThen v l
-        | slots.Cell c ↦ elim (cellAt cs c .value) [ helds.Nothing ↦ unset c | helds.Value v ↦ andThen v l ]
-      ]
-      ≡ after (foundOf cs s) l
+      | slots.Empty ↦ values []
+      | slots.Value v ↦ andThen v l
+      | slots.Cell c ↦ elim (cellAt cs c .value) [ helds.Nothing ↦ unset c | helds.Value v ↦ andThen v l ]
+    ]
+    ≡ after (foundOf cs s) l
 unfolding after foundOf
 after-slot cs slots.Empty l = refl
 after-slot cs (slots.Value v) l = refl
@@ -159,29 +159,29 @@ module _ (m : Machine) (place p : ℕ) (t : Token) (s : ℕ) (vs : List ℤ) (n 
       → b ≡ being (states.Called (m .calls)) t
       → u ≡ to k b
       → record {
-          reply = replies.Called (m .calls) s n;
-          values = vs;
-          machine = withCounts (suc (m .calls)) (m .newtoken) (m .newcell) (put p u (taken m place));
-        }
-        ≡ effectOutcome m (unless (ltb (m .calls) 1000000) refusals.CallLimit effect)
+        reply = replies.Called (m .calls) s n;
+        values = vs;
+        machine = withCounts (suc (m .calls)) (m .newtoken) (m .newcell) (put p u (taken m place));
+      }
+      ≡ effectOutcome m (unless (ltb (m .calls) 1000000) refusals.CallLimit effect)
   unfolding unless effectOutcome unfinished Step.calledOut Step.withOrders
   outside-is b u o l e f =
       ap₂
       (λ i xs.
-        record {
-          reply = replies.Called (m .calls) s i;
-          values = xs;
-          machine = withCounts (suc (m .calls)) (m .newtoken) (m .newcell) (put p u (taken m place));
-        })
+      record {
+        reply = replies.Called (m .calls) s i;
+        values = xs;
+        machine = withCounts (suc (m .calls)) (m .newtoken) (m .newcell) (put p u (taken m place));
+      })
       (sym (o .size)) (sym (o .zeros))
       ∙ ap
-        (λ x.
-          record {
-            reply = replies.Called (m .calls) s (length (take n vs));
-            values = valuesBeside (take n vs);
-            machine = withCounts (suc (m .calls)) (m .newtoken) (m .newcell) (put p x (taken m place));
-          })
-        (f ∙ ap (to k) e)
+      (λ x.
+      record {
+        reply = replies.Called (m .calls) s (length (take n vs));
+        values = valuesBeside (take n vs);
+        machine = withCounts (suc (m .calls)) (m .newtoken) (m .newcell) (put p x (taken m place));
+      })
+      (f ∙ ap (to k) e)
       ∙ sym (ap (λ b. effectOutcome m (unless b refusals.CallLimit effect)) (lt-ltb (m .calls) 1000000 l))
 
 -- what a built-in said, there and back

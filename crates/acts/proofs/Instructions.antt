@@ -165,10 +165,11 @@ module _ (ws : List ℕ) (m : Machine) (place p at : ℕ) (o : Acting ws m place
   unfolding nodeKept
   where-numbers e =
       let k = node-kept ws m place p at o 6 e in
-      let j = and-right (ltb (word 3) 8) _ k in
-      (node-number ws m place p at o (word 1) (and-left _ _ j),
+      let j = and-right (ltb (word 3) 8) _ k in (
+        node-number ws m place p at o (word 1) (and-left _ _ j),
         node-number ws m place p at o (word 2) (and-right (isNode (dagOf ws) (word 1)) _ j),
-        ltb-lt (word 3) 8 (and-left _ _ k))
+        ltb-lt (word 3) 8 (and-left _ _ k),
+      )
 
   pub where-full : (new : ℕ) → Kind 6 → TokenPlace ws m new false → effectOutcome m (refuses refusals.TokenLimit) ≡ stepped ws m place
   unfolding act
@@ -199,31 +200,31 @@ module _ (ws : List ℕ) (m : Machine) (place p at : ℕ) (o : Acting ws m place
       → a ≡ word 1
       → b ≡ word 2
       → effectOutcome m
-        (moves
-        (enqueue new
-        (enqueue p
-        (newCell below (record { parent = getD (m .tokens) p d .cell; value = helds.Nothing }) (newToken new r (put p l (taken m place)))))))
+      (moves
+      (enqueue new
+      (enqueue p
+      (newCell below (record { parent = getD (m .tokens) p d .cell; value = helds.Nothing }) (newToken new r (put p l (taken m place)))))))
       ≡ stepped ws m place
   unfolding act Step.split
   where-is new below d u l v r x a b e n c f g h i y z w =
       let left : l ≡ to (word 1) (binding (word 3) (slots.Cell below) t) =
-          g ∙ ap₂ to z (f ∙ ap₂ (λ k s. binding k (slots.Cell below) s) y (token-read ws m place p at o d)) in
+      g ∙ ap₂ to z (f ∙ ap₂ (λ k s. binding k (slots.Cell below) s) y (token-read ws m place p at o d)) in
       let right : r ≡ inCell below (to (word 2) t) = i ∙ ap (inCell below) (read-to d v b (word 2) h w) in
       ap (effectOutcome m)
       (ap₂
-        (λ k n. moves (enqueue new (enqueue p (newCell below (record { parent = k .cell; value = helds.Nothing }) (newToken new n (put p l (taken m place)))))))
-        (token-read ws m place p at o d) right
+      (λ k n. moves (enqueue new (enqueue p (newCell below (record { parent = k .cell; value = helds.Nothing }) (newToken new n (put p l (taken m place)))))))
+      (token-read ws m place p at o d) right
       ∙ ap
-        (λ k.
-          moves
-          (enqueue new
-          (enqueue p
-          (newCell below (record { parent = t .cell; value = helds.Nothing }) (newToken new (inCell below (to (word 2) t)) (put p k (taken m place)))))))
-        left
+      (λ k.
+      moves
+      (enqueue new
+      (enqueue p
+      (newCell below (record { parent = t .cell; value = helds.Nothing }) (newToken new (inCell below (to (word 2) t)) (put p k (taken m place)))))))
+      left
       ∙ ap₂ (λ q k. Step.split (taken m place) p t q k (word 3) (word 1) (word 2)) (n .next) (c .next))
       ∙ sym
-        (stepped-is ws m place p at o 6 e
-        ∙ ap (effectOutcome m) (unless-true _ _ _ (sym (n .has)) ∙ unless-true _ _ _ (sym (c .has))))
+      (stepped-is ws m place p at o 6 e
+      ∙ ap (effectOutcome m) (unless-true _ _ _ (sym (n .has)) ∙ unless-true _ _ _ (sym (c .has))))
 
   -- return
   pub frame-inside : (d : Token) (f : ℕ) → getD (m .tokens) p d .caller ≡ places.At f → f < 64
@@ -250,7 +251,7 @@ module _ (ws : List ℕ) (m : Machine) (place p at : ℕ) (o : Acting ws m place
       let l : f < 64 = frame-inside d f q in
       let frame : getD (m .tokens) f k ≡ getD (m .tokens) f blankToken = getD-any (m .tokens) f k blankToken (omega arith) in
       let same : v ≡ being states.Ready (holding (t .value) (getD (m .tokens) f blankToken)) =
-          h ∙ ap (being states.Ready) (g ∙ ap₂ (λ (x y : Token). holding (x .value) y) (token-read ws m place p at o d) frame) in
+      h ∙ ap (being states.Ready) (g ∙ ap₂ (λ (x y : Token). holding (x .value) y) (token-read ws m place p at o d) frame) in
       ap (λ x. effectOutcome m (moves (enqueue p (put p x (taken m place))))) same
       ∙ sym (stepped-is ws m place p at o 8 e ∙ ap (λ q. effectOutcome m (Step.returned (taken m place) p t q)) (caller-is d _ q))
 
@@ -331,11 +332,11 @@ module _ (ws : List ℕ) (m : Machine) (place p at : ℕ) (o : Acting ws m place
       → f ≡ to k u
       → k ≡ word 2
       → effectOutcome m
-        (moves
-        (enqueue new
-        (newToken new
-        (record { node = root; binds = bs; value = helds.Nothing; caller = places.At p; cell = getD (m .tokens) p d .cell; state = states.Ready })
-        (put p f (taken m place)))))
+      (moves
+      (enqueue new
+      (newToken new
+      (record { node = root; binds = bs; value = helds.Nothing; caller = places.At p; cell = getD (m .tokens) p d .cell; state = states.Ready })
+      (put p f (taken m place)))))
       ≡ stepped ws m place
   unfolding act Step.entered
   call-is new d u f bs root k e n b r g h i =
@@ -345,28 +346,28 @@ module _ (ws : List ℕ) (m : Machine) (place p at : ℕ) (o : Acting ws m place
       let binds : bs ≡ formalsBound (t .binds) (paramsAt ws at) = b ∙ ap (λ (x : Token). formalsBound (x .binds) (paramsAt ws at)) whose in
       ap (effectOutcome m)
       (ap₂
-        (λ x y.
-          moves
-          (enqueue new
-          (newToken new
-          (record { node = x; binds = y; value = helds.Nothing; caller = places.At p; cell = getD (m .tokens) p d .cell; state = states.Ready })
-          (put p f (taken m place)))))
-        start binds
+      (λ x y.
+      moves
+      (enqueue new
+      (newToken new
+      (record { node = x; binds = y; value = helds.Nothing; caller = places.At p; cell = getD (m .tokens) p d .cell; state = states.Ready })
+      (put p f (taken m place)))))
+      start binds
       ∙ ap₂
-        (λ (x y : Token).
-          moves
-          (enqueue new
-          (newToken new
-          (record {
-            node = bodyAt (dagOf ws) (word 1) .root;
-            binds = formalsBound (t .binds) (paramsAt ws at);
-            value = helds.Nothing;
-            caller = places.At p;
-            cell = x .cell;
-            state = states.Ready;
-          })
-          (put p y (taken m place)))))
-        whose frame
+      (λ (x y : Token).
+      moves
+      (enqueue new
+      (newToken new
+      (record {
+        node = bodyAt (dagOf ws) (word 1) .root;
+        binds = formalsBound (t .binds) (paramsAt ws at);
+        value = helds.Nothing;
+        caller = places.At p;
+        cell = x .cell;
+        state = states.Ready;
+      })
+      (put p y (taken m place)))))
+      whose frame
       ∙ ap (λ q. Step.entered (taken m place) p t q (bodyAt (dagOf ws) (word 1) .root) (paramsAt ws at) (word 2)) (n .next))
       ∙ sym (stepped-is ws m place p at o 2 e ∙ ap (effectOutcome m) (unless-true _ _ _ (sym (n .has))))
 
@@ -407,9 +408,10 @@ module _ (ws : List ℕ) (m : Machine) (place p at : ℕ) (o : Acting ws m place
       let ps = paramsAt ws at in
       let size : length ps ≡ word 3 = params-count ws at (k .size) (k .inside) (k .few) in
       let front : take n given ≡ map (passed (t .binds)) ps =
-          ap₂ take (c ∙ sym size) (g ∙ ap (λ (u : Token). formalsBound (u .binds) ps) (token-read ws m place p at o d)) ∙ formals-front (t .binds) ps in
-      (look-passed (m .cells) (t .binds) ps ∙ ap (lookBinds (m .cells)) (sym front),
-        subst (λ bs. all (bindInRange 32) bs ≡ true) (sym front) (passed-known (t .binds) ps (token-slots ws m place p at o) (k .kept)))
+      ap₂ take (c ∙ sym size) (g ∙ ap (λ (u : Token). formalsBound (u .binds) ps) (token-read ws m place p at o d)) ∙ formals-front (t .binds) ps in (
+        look-passed (m .cells) (t .binds) ps ∙ ap (lookBinds (m .cells)) (sym front),
+        subst (λ bs. all (bindInRange 32) bs ≡ true) (sym front) (passed-known (t .binds) ps (token-slots ws m place p at o) (k .kept)),
+      )
 
   pub site-waits :
       (d u : Token) (c : ℕ)
@@ -457,5 +459,5 @@ module _ (ws : List ℕ) (m : Machine) (place p at : ℕ) (o : Acting ws m place
       by-kind :
           isBuiltin (word 1) ≡ false
           → callSite paper (dagOf ws) (taken m place) p t (word 1) (word 2) (values (take n vs))
-            ≡ unless (ltb (m .calls) 1000000) refusals.CallLimit (Step.calledOut (taken m place) p t (word 1) (take n vs) (word 2))
+          ≡ unless (ltb (m .calls) 1000000) refusals.CallLimit (Step.calledOut (taken m place) p t (word 1) (take n vs) (word 2))
       by-kind b = rw (b, callSite)

@@ -16,3 +16,4 @@ pub mod Acts
 pub mod Places
 pub mod Instructions
 pub mod Calls
+pub mod Holders

@@ -128,5 +128,5 @@ module _ (ws : List ℕ) (i : ℕ) (k : dagKept (dagOf ws) ≡ true) (l : i < le
   root-few =
       let f : length (dagOf ws .nodes) ≤ 1022 = dag-rules (dagOf ws) k .nodes-few in
       let e : getD ws (3 + 2 * i) 0 < length (dagOf ws .nodes) =
-          subst (λ r. r < length (dagOf ws .nodes)) root-read (ltb-lt _ _ (and-left _ _ (body-rules (dagOf ws) i k l))) in
+      subst (λ r. r < length (dagOf ws .nodes)) root-read (ltb-lt _ _ (and-left _ _ (body-rules (dagOf ws) i k l))) in
       omega arith

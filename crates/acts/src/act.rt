@@ -16,19 +16,19 @@ use crate::change::binding;
 use crate::change::holding;
 use crate::change::in_cell;
 use crate::change::to;
+use crate::effect::called_out;
 use crate::effect::chokes;
 use crate::effect::ended;
 use crate::effect::entered;
 use crate::effect::forked;
 use crate::effect::goes_on;
 use crate::effect::split;
-use crate::effect::called_out;
 use crate::effect::waited;
 use crate::look::look_up;
 use crate::pass::formals;
 use crate::pass::word;
-use crate::site::builtin;
 use crate::site::Said;
+use crate::site::builtin;
 use model::cell::Cell;
 use model::record::Machine;
 use model::reply::Outcome;
@@ -128,7 +128,17 @@ pub fn remove(machine: Machine, dag: &[u32; 12331], place: usize, p: usize, at: 
 }
 
 // Where: "left binds x to the new cell; right is new and belongs to it".
-pub fn prune(machine: Machine, dag: &[u32; 12331], place: usize, p: usize, at: usize, new: usize, room: bool, below: usize, cell_room: bool) -> Outcome
+pub fn prune(
+    machine: Machine,
+    dag: &[u32; 12331],
+    place: usize,
+    p: usize,
+    at: usize,
+    new: usize,
+    room: bool,
+    below: usize,
+    cell_room: bool,
+) -> Outcome
     requires { ⌜ Acting (now dag) machine place p at × (getD (now dag) at 0 ≡ 6) × TokenPlace (now dag) machine new room × CellPlace (now dag) machine below «cell_room» ⌝ }
     ensures { λ r. ⌜ r ≡ stepped (now (dag .entry)) machine place ⌝ }
 {
@@ -144,12 +154,23 @@ pub fn prune(machine: Machine, dag: &[u32; 12331], place: usize, p: usize, at: u
     let left = to(bound, node(dag, at + 1));
     let right = in_cell(to(token, node(dag, at + 2)), below as u8);
     let parent = token.cell;
-    let cell = Cell { parent, value: Held::Nothing };
+    let cell = Cell {
+        parent,
+        value: Held::Nothing,
+    };
     split(machine, place, p, left, new, right, below, cell)
 }
 
 // Definition call: "the token becomes a frame at next, the callee is new, in the token's cell, with no value and only its formals bound".
-pub fn call(machine: Machine, dag: &[u32; 12331], place: usize, p: usize, at: usize, new: usize, room: bool) -> Outcome
+pub fn call(
+    machine: Machine,
+    dag: &[u32; 12331],
+    place: usize,
+    p: usize,
+    at: usize,
+    new: usize,
+    room: bool,
+) -> Outcome
     requires { ⌜ Acting (now dag) machine place p at × (getD (now dag) at 0 ≡ 2) × TokenPlace (now dag) machine new room ⌝ }
     ensures { λ r. ⌜ r ≡ stepped (now (dag .entry)) machine place ⌝ }
 {
@@ -181,12 +202,17 @@ pub fn give_back(machine: Machine, dag: &[u32; 12331], place: usize, p: usize, a
 {
     let token = machine.tokens[p];
     let caller = token.caller;
-    let held = token.value;
+    let value = token.value;
     match caller {
         Place::Nowhere => refused(machine, Refusal::Rule),
         Place::At(f) => {
             let frame = machine.tokens[f as usize];
-            goes_on(machine, place, p, being(holding(frame, held), State::Ready))
+            goes_on(
+                machine,
+                place,
+                p,
+                being(holding(frame, value), State::Ready),
+            )
         }
     }
 }
@@ -206,7 +232,14 @@ pub fn choke(machine: Machine, dag: &[u32; 12331], place: usize, p: usize, at: u
 }
 
 // "A built-in replies and the token goes on, or it is silent and the token ends."
-pub fn replied(machine: Machine, place: usize, p: usize, token: Token, next: u16, said: Said) -> Outcome
+pub fn replied(
+    machine: Machine,
+    place: usize,
+    p: usize,
+    token: Token,
+    next: u16,
+    said: Said,
+) -> Outcome
     requires { ⌜ Taking machine place p ⌝ }
     ensures { λ r. ⌜ r ≡ effectOutcome machine (Step.replied (taken machine place) p token next (modelSaid said)) ⌝ }
 {
@@ -217,7 +250,16 @@ pub fn replied(machine: Machine, place: usize, p: usize, token: Token, next: u16
 }
 
 // "13: outside call, all values there, after 1,000,000 such calls."
-pub fn outside(machine: Machine, place: usize, p: usize, token: Token, next: u16, site: u16, values: [i32; 4], count: u8) -> Outcome
+pub fn outside(
+    machine: Machine,
+    place: usize,
+    p: usize,
+    token: Token,
+    next: u16,
+    site: u16,
+    values: [i32; 4],
+    count: u8,
+) -> Outcome
     requires { ⌜ Taking machine place p × Beside values count ⌝ }
     ensures { λ r. ⌜ r ≡ effectOutcome machine (unless (ltb (machine .calls) 1000000) refusals.CallLimit (Step.calledOut (taken machine place) p token site (take count values) next)) ⌝ }
 {
@@ -230,7 +272,15 @@ pub fn outside(machine: Machine, place: usize, p: usize, token: Token, next: u16
 }
 
 // A site call whose values are all there.
-pub fn known(machine: Machine, dag: &[u32; 12331], place: usize, p: usize, at: usize, values: [i32; 4], count: u8) -> Outcome
+pub fn known(
+    machine: Machine,
+    dag: &[u32; 12331],
+    place: usize,
+    p: usize,
+    at: usize,
+    values: [i32; 4],
+    count: u8,
+) -> Outcome
     requires { ⌜ Acting (now dag) machine place p at × (getD (now dag) at 0 ≡ 1) × Known (now dag) machine p at values count ⌝ }
     ensures { λ r. ⌜ r ≡ stepped (now (dag .entry)) machine place ⌝ }
 {
@@ -267,7 +317,15 @@ pub fn site(machine: Machine, dag: &[u32; 12331], place: usize, p: usize, at: us
 }
 
 // One step of the token at a place of the queue, before what is not in use is made blank.
-pub fn act(machine: Machine, dag: &[u32; 12331], place: usize, new: usize, room: bool, below: usize, cell_room: bool) -> Outcome
+pub fn act(
+    machine: Machine,
+    dag: &[u32; 12331],
+    place: usize,
+    new: usize,
+    room: bool,
+    below: usize,
+    cell_room: bool,
+) -> Outcome
     requires { ⌜ Rules (now dag) machine place × TokenPlace (now dag) machine new room × CellPlace (now dag) machine below «cell_room» ⌝ }
     ensures { λ r. ⌜ r ≡ stepped (now (dag .entry)) machine place ⌝ }
 {

@@ -1,5 +1,6 @@
 // What a step's instruction and an answer do to the machine, before what is not in use is made blank.
 pub mod act;
+pub mod answer;
 pub mod change;
 pub mod choke;
 pub mod effect;

@@ -25,7 +25,7 @@ refused-requires : tie.Need-refused-requires
 refused-requires c κs = search needs
 
 returns : tie.Need-returns
-returns c = 
+returns c =
     let s = c .before .before in
     let n = subst (λ b. TokenPlace (s .args .dag .now) (s .args .t1) (s .args .new) b) (not-true _ (c .before .if1 .taken)) (s .pre .2) in
     c .refused .ensures ∙ call-full _ _ _ _ _ (s .pre .0) _ (s .pre .1) n
@@ -59,7 +59,7 @@ add-node : tie.Need-add-node
 add-node c = search needs
 
 node-requires : tie.Need-node-requires
-node-requires c κs = 
+node-requires c κs =
     let s = c .before .before .before .before .before in
     let r = call-root _ _ _ _ _ (s .pre .0) _ (s .pre .1) (c .word .ensures) in
     (omega (arith, r .0), r .1)
@@ -71,7 +71,7 @@ add-node-2 : tie.Need-add-node-2
 add-node-2 c = search needs
 
 node-requires-2 : tie.Need-node-requires-2
-node-requires-2 c κs = 
+node-requires-2 c κs =
     let s = c .before .before .before .before .before .before .before in
     let l = row-inside _ _ _ _ _ (s .pre .0) in
     (omega arith, call-next _ _ _ _ _ (s .pre .0) (s .pre .1))
@@ -83,16 +83,16 @@ cast-t29 : tie.Need-cast-t29
 cast-t29 c = let l = p-inside _ _ _ _ _ (c .before .before .before .before .before .before .before .before .before .pre .0) in omega arith
 
 entered-requires : tie.Need-entered-requires
-entered-requires c κs = 
+entered-requires c κs =
     let s = c .before .before .before .before .before .before .before .before .before in
     (acting-taking _ _ _ _ _ (s .pre .0), token-place-inside _ _ (s .pre .0 .rules .kept) _ (new (c .before .before .before .before .before .before .before .before)))
 
 returns-2 : tie.Need-returns-2
-returns-2 c = 
+returns-2 c =
     let s = c .before .before .before .before .before .before .before .before .before .before in
     c .entered .ensures
     ∙ call-is _ _ _ _ _ (s .pre .0) _ _ _ _ _ _ _ (s .pre .1) (new (c .before .before .before .before .before .before .before .before .before)) (c .before .before .before .before .before .before .formals .ensures) (c .before .before .before .before .node .ensures ∙ ap (λ i. getD (s .args .dag .now) (3 + 2 * i) 0) (c .before .before .before .before .before .word .ensures))
-      (c .before .before .before .being .ensures) (c .before .to .ensures) (c .before .before .node2 .ensures)
+    (c .before .before .before .being .ensures) (c .before .to .ensures) (c .before .before .node2 .ensures)
 
 pub call-spec : {M : Type 1} → statement M
 call-spec =

@@ -49,7 +49,7 @@ returns : tie.Need-returns
 returns c = let s = c .before .before .before .before in c .refused .ensures ∙ return-refused _ _ _ _ _ (s .pre .0) _ (s .pre .1) (c .before .enum-told .given .1)
 
 returns-2 : tie.Need-returns-2
-returns-2 c = 
+returns-2 c =
     let s = c .before .before .before .before .before .before .before .before in
     c .goes-on .ensures
     ∙ return-is _ _ _ _ _ (s .pre .0) _ _ _ _ _ (s .pre .1) (c .before .before .before .before .before .caller .given .1) (c .before .before .holding .ensures) (c .before .being .ensures)

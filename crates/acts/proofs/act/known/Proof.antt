@@ -29,7 +29,7 @@ add-node : tie.Need-add-node
 add-node c = search needs
 
 node-requires : tie.Need-node-requires
-node-requires c κs = 
+node-requires c κs =
     let s = c .before in
     let l = row-inside _ _ _ _ _ (s .pre .0) in
     (omega arith, site-next _ _ _ _ _ (s .pre .0) (s .pre .1))
@@ -53,7 +53,7 @@ replied-requires : tie.Need-replied-requires
 replied-requires c κs = acting-taking _ _ _ _ _ (c .before .before .before .before .before .before .before .pre .0)
 
 returns : tie.Need-returns
-returns c = 
+returns c =
     let s = c .before .before .before .before .before .before .before .before in
     let vs = s .args .t6 in
     let f : SFits w32 (getD vs 0 (pos 0)) = search needs in
@@ -63,7 +63,7 @@ returns c =
     ∙ site-builtin _ _ _ _ _ (s .pre .0) _ _ _ _ _ _ (s .pre .1) (s .pre .2) (c .before .before .before .before .before .word .ensures) (c .before .before .before .before .if1 .taken) said (c .before .before .before .before .before .before .node .ensures)
 
 cast-outside : tie.Need-cast-outside
-cast-outside c = 
+cast-outside c =
     let s = c .before .before .before .before in
     let l = site-number _ _ _ _ _ (s .pre .0) (s .pre .1) in
     omega (arith, c .before .word .ensures)
@@ -72,7 +72,7 @@ outside-requires : tie.Need-outside-requires
 outside-requires c κs = let s = c .before .before .before .before in (acting-taking _ _ _ _ _ (s .pre .0), s .pre .2 .beside)
 
 returns-2 : tie.Need-returns-2
-returns-2 c = 
+returns-2 c =
     let s = c .before .before .before .before .before in
     c .outside .ensures
     ∙ site-outside _ _ _ _ _ (s .pre .0) _ _ _ _ _ (s .pre .1) (s .pre .2) (c .before .before .word .ensures) (c .before .if1 .left) (c .before .before .before .node .ensures)

@@ -20,7 +20,7 @@ called-out-requires : tie.Need-called-out-requires
 called-out-requires c κs = search needs
 
 returns : tie.Need-returns
-returns c = 
+returns c =
     let s = c .before .before .before .before in
     c .called-out .ensures ∙ outside-is _ _ _ _ _ _ _ _ _ _ (s .pre .1) (c .before .before .before .if1 .taken) (c .before .before .being .ensures) (c .before .to .ensures)
 
@@ -28,7 +28,7 @@ refused-requires : tie.Need-refused-requires
 refused-requires c κs = search needs
 
 returns-2 : tie.Need-returns-2
-returns-2 c = 
+returns-2 c =
     let a = c .before .before .args in
     c .refused .ensures ∙ outside-refused (a .machine) (a .place) (a .p) (a .token) (a .site) (a .values) (a .count) (a .next) (c .before .if1 .left)
 

@@ -24,7 +24,7 @@ refused-requires : tie.Need-refused-requires
 refused-requires c κs = search needs
 
 returns : tie.Need-returns
-returns c = 
+returns c =
     let s = c .before .before in
     let n = subst (λ b. TokenPlace (s .args .dag .now) (s .args .t1) (s .args .new) b) (not-true _ (c .before .if1 .taken)) (s .pre .2) in
     c .refused .ensures ∙ where-full _ _ _ _ _ (s .pre .0) _ (s .pre .1) n
@@ -33,7 +33,7 @@ refused-requires-2 : tie.Need-refused-requires-2
 refused-requires-2 c κs = search needs
 
 returns-2 : tie.Need-returns-2
-returns-2 c = 
+returns-2 c =
     let s = c .before .before .before in
     let n = subst (λ b. TokenPlace (s .args .dag .now) (s .args .t1) (s .args .new) b) (not-false _ (c .before .before .if1 .left)) (s .pre .2) in
     let k = subst (λ b. CellPlace (s .args .dag .now) (s .args .t1) (s .args .below) b) (not-true _ (c .before .if2 .taken)) (s .pre .3) in
@@ -68,7 +68,7 @@ cast-in-cell : tie.Need-cast-in-cell
 cast-in-cell c = let l = below (c .before .before) in omega arith
 
 binding-requires : tie.Need-binding-requires
-binding-requires c κs = 
+binding-requires c κs =
     let s = c .before .before .before .before in
     let l = where-numbers _ _ _ _ _ (s .pre .0) (s .pre .1) .2 in
     omega (arith, c .word .ensures)
@@ -77,7 +77,7 @@ add-node : tie.Need-add-node
 add-node c = search needs
 
 node-requires : tie.Need-node-requires
-node-requires c κs = 
+node-requires c κs =
     let s = c .before .before .before .before .before in
     let l = row-inside _ _ _ _ _ (s .pre .0) in
     (omega arith, where-numbers _ _ _ _ _ (s .pre .0) (s .pre .1) .0)
@@ -89,7 +89,7 @@ add-node-2 : tie.Need-add-node-2
 add-node-2 c = search needs
 
 node-requires-2 : tie.Need-node-requires-2
-node-requires-2 c κs = 
+node-requires-2 c κs =
     let s = c .before .before .before .before .before .before .before in
     let l = row-inside _ _ _ _ _ (s .pre .0) in
     (omega arith, where-numbers _ _ _ _ _ (s .pre .0) (s .pre .1) .1)
@@ -104,19 +104,19 @@ in-cell-requires : tie.Need-in-cell-requires
 in-cell-requires c κs = search needs
 
 split-requires : tie.Need-split-requires
-split-requires c κs = 
+split-requires c κs =
     let s = c .before .before .before .before .before .before .before .before .before .before in
     let n = new (c .before .before .before .before .before .before .before .before) in
     let k = s .pre .0 .rules .kept in
     (acting-taking _ _ _ _ _ (s .pre .0), token-place-room _ _ k _ n, token-place-inside _ _ k _ n, below (c .before .before .before .before .before .before .before .before))
 
 returns-3 : tie.Need-returns-3
-returns-3 c = 
+returns-3 c =
     let s = c .before .before .before .before .before .before .before .before .before .before .before in
     c .split .ensures
     ∙ where-is _ _ _ _ _ (s .pre .0) _ _ _ _ _ _ _ _ _ _ (s .pre .1) (new (c .before .before .before .before .before .before .before .before .before)) (room (c .before .before .before .before .before .before .before .before .before))
-      (c .before .before .before .before .before .before .binding .ensures) (c .before .before .before .before .to .ensures) (c .before .before .to2 .ensures) (c .before .in-cell .ensures)
-      (c .before .before .before .before .before .before .before .word .ensures) (c .before .before .before .before .before .node .ensures) (c .before .before .before .node2 .ensures)
+    (c .before .before .before .before .before .before .binding .ensures) (c .before .before .before .before .to .ensures) (c .before .before .to2 .ensures) (c .before .in-cell .ensures)
+    (c .before .before .before .before .before .before .before .word .ensures) (c .before .before .before .before .before .node .ensures) (c .before .before .before .node2 .ensures)
 
 pub prune-spec : {M : Type 1} → statement M
 prune-spec =

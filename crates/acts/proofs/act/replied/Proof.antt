@@ -37,19 +37,19 @@ ended-requires c κs = search needs
 
 returns : tie.Need-returns
 unfolding Step.replied Step.goesOn
-returns c = 
+returns c =
     let s = c .before .before .before .before .before .before in
     let v = c .before .before .before .before .said .given in
     let f : SFits w32 (v .0 .0) = search needs in
     let u : c .before .to .result ≡ Step.to (s .args .next) (Step.holding (helds.Value (v .0 .0)) (s .args .token)) =
-        c .before .to .ensures ∙ ap (Step.to (s .args .next)) (c .before .before .holding .ensures ∙ rw (toZ-ofZ f)) in
+    c .before .to .ensures ∙ ap (Step.to (s .args .next)) (c .before .before .holding .ensures ∙ rw (toZ-ofZ f)) in
     c .goes-on .ensures
     ∙ ap (λ x. effectOutcome (s .args .machine) (moves (Step.enqueue (s .args .p) (Step.put (s .args .p) x (taken (s .args .machine) (s .args .place)))))) u
     ∙ ap (λ x. effectOutcome (s .args .machine) (Step.replied (taken (s .args .machine) (s .args .place)) (s .args .p) (s .args .token) (s .args .next) (modelSaid x))) (sym (v .1))
 
 returns-2 : tie.Need-returns-2
 unfolding Step.replied Step.ended effectOutcome
-returns-2 c = 
+returns-2 c =
     let s = c .before .before .before in
     c .ended .ensures
     ∙ ap (λ x. effectOutcome (s .args .machine) (Step.replied (taken (s .args .machine) (s .args .place)) (s .args .p) (s .args .token) (s .args .next) (modelSaid x))) (sym (c .before .enum-told .given .1))
