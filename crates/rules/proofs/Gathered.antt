@@ -15,8 +15,7 @@ use Rattle.model.specs.declared.token.State.the-variants as states
 use Rattle.model.specs.declared.token.Token.{Token}
 use Rattle.model.proofs.Test.{clash}
 use Rattle.rules.specs.Marks.{stateNumber, handleNumber}
-use Rattle.rules.proofs.Both.{both}
-use Rattle.rules.proofs.Loop.{and-true, and-assoc}
+use Rattle.rules.proofs.Both.{both, and-true, and-assoc}
 
 handles-more : (ts : List Token) (i : ℕ) (d : Token) → i < length ts
     → openHandles (take (suc i) ts) ≡ openHandles (take i ts) ++ handleOf (getD ts i d .state)

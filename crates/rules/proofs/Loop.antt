@@ -8,20 +8,11 @@ use native.Mathlib.Omega.{arith}
 use lib.ListN.{length, getD, take, length-map}
 use lib.Seq.{take-all}
 use Rattle.model.specs.Test.{_and_, all}
-use Rattle.rules.proofs.Both.{both}
-
-pub and-true : (a : Bool) → (a and true) ≡ a
-unfolding _and_
-and-true true = refl
-and-true false = refl
-
-pub and-assoc : (a b c : Bool) → ((a and b) and c) ≡ (a and b and c)
-unfolding _and_
-and-assoc true b c = refl
-and-assoc false b c = refl
+use Rattle.rules.proofs.Both.{both, and-true, and-assoc}
 
 -- after the last turn a test of the first elements is one of all
-pub done : {A : Type 0} (test : List A → Bool) (xs : List A) (i : ℕ) {ok : Bool} → length xs ≤ i → ok ≡ test (take i xs) → ok ≡ test xs
+pub done : {A : Type 0} (test : List A → Bool) (xs : List A) (i : ℕ) {ok : Bool}
+    → length xs ≤ i → ok ≡ test (take i xs) → ok ≡ test xs
 done test xs i l e = e ∙ ap test (take-all i xs l)
 
 -- the same test of each element

@@ -23,8 +23,8 @@ use Rattle.model.proofs.Test.{clash, lt-ltb, le-not-ltb, and-left, leb-le, eq-e
 use Rattle.rules.specs.Marks.{stateNumber, marked}
 use Rattle.rules.specs.Words.{pairBound}
 use Rattle.rules.proofs.Array.{kept-node, nodes-length}
+use Rattle.rules.proofs.Both.{and-true}
 use Rattle.rules.proofs.Chains.{getD-any}
-use Rattle.rules.proofs.Loop.{and-true}
 use Rattle.rules.proofs.States.{blank-is}
 use Rattle.rules.proofs.Words.{table, listed}
 

@@ -16,8 +16,8 @@ use Rattle.model.specs.declared.token.State.{State}
 use Rattle.model.specs.declared.token.Token.{Token}
 use Rattle.model.proofs.Test.{all-at, ltb-lt, eq-eqb, ne-eqb, le-leb, lt-not-leb}
 use Rattle.rules.specs.Marks.{marked}
-use Rattle.rules.proofs.Both.{both}
-use Rattle.rules.proofs.Loop.{all-turn, and-true, and-assoc}
+use Rattle.rules.proofs.Both.{both, and-true, and-assoc}
+use Rattle.rules.proofs.Loop.{all-turn}
 
 -- counts
 pub count-most : (p : ℕ) (xs : List ℕ) → count p xs ≤ length xs

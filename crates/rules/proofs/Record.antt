@@ -11,7 +11,8 @@ use Rattle.model.specs.Job.Node.{Dag, isNode, dagKept}
 use Rattle.model.specs.Machine.Limits.{paper}
 use Rattle.model.specs.Machine.Blank.{blankToken, tokenAt, tokenIsBlank, cellIsBlank}
 use Rattle.model.specs.Machine.InUse.{tokensUsed, usedCells}
-use Rattle.model.specs.Machine.Rules.{isReady, isWaiting, sizesInRange, tokenInRange, cellInRange, namesOnce, chainsEnd, notUnderSet, openHandles, waitsAtUnset, atNode, restIsBlank, machineKept, rulesKept}
+use Rattle.model.specs.Machine.Rules.{isReady, isWaiting, sizesInRange, tokenInRange, cellInRange, machineKept, rulesKept}
+use Rattle.model.specs.Machine.Rules.{namesOnce, chainsEnd, notUnderSet, openHandles, waitsAtUnset, atNode, restIsBlank}
 use Rattle.model.specs.declared.token.Token.{Token}
 use Rattle.model.specs.declared.record.Machine.{Machine}
 use Rattle.model.proofs.Test.{and-left, and-right, all-at, ltb-lt}

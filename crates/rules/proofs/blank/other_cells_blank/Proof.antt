@@ -23,19 +23,21 @@ loop-holds c = search needs
 
 loop-again : tie.Need-loop-again Inv-loop μ-loop
 loop-again c =
-    let start = c .before .before .before .before in
+    let place3 = c .before .before .before in
+    let start = place3 .before in
     let cells = start .args .t1 .cells in
     let long : length cells ≡ 32 = search (needs, mapped) in
     let marks : length (start .args .t2) ≡ 32 = search needs in (
       search needs,
-      blank-turn cellIsBlank (start .args .t2) cells (c .before .before .before .loop .i) _ (omega arith) (omega arith) (c .before .before .before .loop .inv .1) (c .cell-is-blank .ensures),
+      blank-turn cellIsBlank (start .args .t2) cells (place3 .loop .i) _ (omega arith) (omega arith) (place3 .loop .inv .1) (c .cell-is-blank .ensures),
     )
 
 returns : tie.Need-returns Inv-loop μ-loop
 returns c =
-    let cells = c .before .before .args .t1 .cells in
+    let place2 = c .before .before in
+    let cells = place2 .args .t1 .cells in
     let long : length cells ≡ 32 = search (needs, mapped) in
-    done (restIsBlank cellIsBlank (c .before .before .args .t2)) cells (c .before .loop .i) (omega arith) (c .before .loop .inv .1)
+    done (restIsBlank cellIsBlank (place2 .args .t2)) cells (c .before .loop .i) (omega arith) (c .before .loop .inv .1)
 
 pub other-cells-blank-spec : {M : Type 1} → statement M
 other-cells-blank-spec =

@@ -23,16 +23,19 @@ loop-holds c = search needs
 
 loop-again : tie.Need-loop-again Inv-loop μ-loop
 loop-again c =
-    let cells = c .before .before .before .before .before .args .machine .cells in
+    let place3 = c .before .before .before in
+    let place5 = place3 .before .before in
+    let cells = place5 .args .machine .cells in
     let long : length cells ≡ 32 = search (needs, mapped) in (
       search needs,
-      all-turn (λ (k : Cell). chainEnds cells 32 (k .parent)) cells (c .before .before .before .loop .i) _ (omega arith) (c .before .before .before .loop .inv .1) (c .chain-ends .ensures),
+      all-turn (λ (k : Cell). chainEnds cells 32 (k .parent)) cells (place3 .loop .i) _ (omega arith) (place3 .loop .inv .1) (c .chain-ends .ensures),
     )
 
 returns : tie.Need-returns Inv-loop μ-loop
 unfolding chainsEnd
 returns c =
-    let cells = c .before .before .before .args .machine .cells in
+    let place3 = c .before .before .before in
+    let cells = place3 .args .machine .cells in
     let long : length cells ≡ 32 = search (needs, mapped) in
     rw long (done (all (λ (k : Cell). chainEnds cells 32 (k .parent))) cells (c .before .loop .i) (omega arith) (c .before .loop .inv .1))
 

@@ -21,9 +21,11 @@ loop-holds c = search needs
 
 loop-again : tie.Need-loop-again Inv-loop μ-loop
 loop-again c =
-    let list = c .before .before .before .args .list in
+    let place2 = c .before .before in
+    let place3 = place2 .before in
+    let list = place3 .args .list in
     let long : length list ≡ 64 = search needs in
-    (search needs, differ-turn list (c .before .before .loop .i) (omega arith) (c .before .before .loop .inv .1) (c .is-new .ensures))
+    (search needs, differ-turn list (place2 .loop .i) (omega arith) (place2 .loop .inv .1) (c .is-new .ensures))
 
 returns : tie.Need-returns Inv-loop μ-loop
 returns c =

@@ -34,7 +34,8 @@ loop-again c =
 
 returns : tie.Need-returns Inv-loop μ-loop
 returns c =
-    let args = c .before .before .args in
+    let place2 = c .before .before in
+    let args = place2 .args in
     let long : length (args .t2) ≡ 64 = search needs in
     done (allFrom (λ p (w : Bool). eqb (getD (args .t1) p 0) (once w)) 0) (args .t2) (c .before .loop .i) (omega arith) (c .before .loop .inv .1)
 

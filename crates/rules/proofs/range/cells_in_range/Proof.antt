@@ -24,10 +24,12 @@ loop-holds c = (search needs, λ d. refl)
 
 loop-again : tie.Need-loop-again Inv-loop μ-loop
 loop-again c =
-    let cells = c .before .before .before .before .args .t1 .cells in
+    let place3 = c .before .before .before in
+    let place4 = place3 .before in
+    let cells = place4 .args .t1 .cells in
     let long : length cells ≡ 32 = search (needs, mapped) in (
       search needs,
-      λ d. all-turn (cellInRange paper d) cells (c .before .before .before .loop .i) _ (omega arith) (c .before .before .before .loop .inv .1 d) (c .cell-in-range .ensures d),
+      λ d. all-turn (cellInRange paper d) cells (place3 .loop .i) _ (omega arith) (place3 .loop .inv .1 d) (c .cell-in-range .ensures d),
     )
 
 returns : tie.Need-returns Inv-loop μ-loop
