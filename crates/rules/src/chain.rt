@@ -78,10 +78,9 @@ pub fn chain_ends(cells: [Cell; Machine::CELLS], place: Place) -> bool
     }
 }
 
-pub fn chains_end(machine: Machine) -> bool
-    ensures { λ r. ⌜ r ≡ chainsEnd (machine .cells) ⌝ }
+pub fn chains_end(cells: [Cell; Machine::CELLS]) -> bool
+    ensures { λ r. ⌜ r ≡ chainsEnd cells ⌝ }
 {
-    let cells = machine.cells;
     let mut ok = true;
     let mut i = 0;
     while i < Machine::CELLS {

@@ -27,17 +27,17 @@ returns c =
 
 all-at-nodes-requires : tie.Need-all-at-nodes-requires
 all-at-nodes-requires c κs =
-    let place5 = c .before .before .before .before .before in
-    let place6 = place5 .before in
+    let place6 = c .before .before .before .before .before .before in
     let place7 = place6 .before in
-    let start = place7 .before .before .before in
+    let place8 = place7 .before in
+    let start = place8 .before .before .before in
     let dag = start .args .dag .now in
     let machine = start .args .machine in
-    let ranged = sym (place7 .in-range .ensures (dagOf dag) (nodes-length dag)) ∙ not-false _ (place6 .if1 .left) in (
+    let ranged = sym (place8 .in-range .ensures (dagOf dag) (nodes-length dag)) ∙ not-false _ (place7 .if1 .left) in (
       start .pre .0,
       (
         λ i l. subst (λ n. tokenAt (machine .tokens) i .node < n) (nodes-length dag) (node-below (dagOf dag) machine (sixty-four start) ranged i l),
-        ap (λ (m : Marks). m .frame) (place5 .read .ensures),
+        ap (λ (m : Marks). m .frame) (place6 .read .ensures),
       ),
     )
 
@@ -50,14 +50,14 @@ returns-2 c =
     let place6 = place5 .before in
     let place7 = place6 .before in
     let place8 = place7 .before in
-    let place14 = place8 .before .before .before .before .before .before in
-    let place15 = place14 .before in
+    let place15 = place8 .before .before .before .before .before .before .before in
     let place16 = place15 .before in
-    let start = place16 .before .before .before in
+    let place17 = place16 .before in
+    let start = place17 .before .before .before in
     let dag = start .args .dag .now in
     let machine = start .args .machine in
-    let ranged = sym (place16 .in-range .ensures (dagOf dag) (nodes-length dag)) ∙ not-false _ (place15 .if1 .left) in
-    let marks = place14 .read .ensures in
+    let ranged = sym (place17 .in-range .ensures (dagOf dag) (nodes-length dag)) ∙ not-false _ (place16 .if1 .left) in
+    let marks = place15 .read .ensures in
     let used = start .pre .1 .0 in
     four (place2 .names-once2 .ensures isReady (machine .tokens) (sixty-four start) (ap (λ (m : Marks). m .ready) marks))
     (c .before .chains-end .ensures)
