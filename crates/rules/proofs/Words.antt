@@ -1,6 +1,6 @@
 -- The index rules of a node are those of its words: a row is compared with the words of the node that it would be, and both tests go
 -- word by word. Assumes nothing.
-use mathlib.Core.Path.{_≡_, refl, sym, _∙_, ap, ap₂}
+use mathlib.Core.Path.{_≡_, refl, sym, _∙_, ap}
 use mathlib.Core.Bool.{Bool, true, false}
 use mathlib.Core.List.{List, [], _∷_}
 use Prim.Native.Nat.{ℕ, zero, suc, _+_, _-_, _<_, _≤_, _^_}
@@ -8,13 +8,13 @@ use native.Mathlib.Decide.{decLt}
 use native.Mathlib.Omega.{arith}
 use lib.ListN.{length, getD, drop, List·getD-eq-default}
 use lib.Dec.{ltb, leb, eqb}
-use Rattle.model.specs.Test.{_and_, _or_, all, same, once}
-use Rattle.model.specs.Number.{signed, unsigned, fits}
+use Rattle.model.specs.Test.{_and_, _or_, all, same}
+use Rattle.model.specs.Number.{signed}
 use Rattle.model.specs.Site.{siteTakes}
 use Rattle.model.specs.Job.Syntax.{Param, variable, constant}
-use Rattle.model.specs.Job.Node.{Node, Dag, paramKept, paramsKept, isNode, nodeKept}
+use Rattle.model.specs.Job.Node.{Dag, paramKept, paramsKept, isNode, nodeKept}
 use Rattle.model.specs.Job.Words.{paramWords, nodeWords, paramOf, paramsFrom, nodeBy, nodeOf}
-use Rattle.model.proofs.Test.{clash, eqb-eq, eqb-same, ne-eqb, lt-ltb, le-not-ltb, le-leb, lt-not-leb, holds-or-fails}
+use Rattle.model.proofs.Test.{clash, eqb-eq, eqb-same, ne-eqb, lt-ltb, le-not-ltb, le-leb, lt-not-leb}
 use Rattle.model.proofs.Job.WellFormed.{site-takes, site-few}
 use Rattle.model.proofs.Number.{unsigned-signed, signed-fits}
 use Rattle.rules.proofs.Both.{and-true, and-false, or-false}

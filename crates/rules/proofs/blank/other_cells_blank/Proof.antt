@@ -1,5 +1,5 @@
 -- `blank::other_cells_blank` meets its contract: after i turns the flag says whether the first i cells not in use are blank. Assumes nothing.
-use mathlib.Core.Path.{_≡_, refl}
+use mathlib.Core.Path.{_≡_}
 use Prim.Native.Nat.{_-_, _≤_}
 use native.Mathlib.Omega.{arith}
 use lib.ListN.{length, take}

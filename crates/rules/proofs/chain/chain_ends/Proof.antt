@@ -2,7 +2,6 @@
 use mathlib.Core.Path.{_≡_, sym, _∙_, ap}
 use mathlib.Core.Bool.{not}
 use Prim.Native.Nat.{_-_, _≤_}
-use lib.ListN.{length}
 use Rattle.model.specs.Machine.Blank.{isPlace}
 use Rattle.model.specs.Machine.Rules.{chainEnds}
 use Rattle.rules.proofs.Chains.{ends-stop, ends-past, ends-on, ends-last}

@@ -1,5 +1,5 @@
 -- `chain::chains_end` meets its contract: after i turns the flag says whether the chains of the first i cells end. Assumes nothing.
-use mathlib.Core.Path.{_≡_, refl, ap, _∙_}
+use mathlib.Core.Path.{_≡_}
 use Prim.Native.Nat.{_-_, _≤_}
 use native.Mathlib.Omega.{arith}
 use lib.ListN.{length, take}

@@ -1,5 +1,5 @@
 -- `chain::none_under_set` meets its contract: after i turns the flag says whether none of the first i tokens is under a set cell. Assumes nothing.
-use mathlib.Core.Path.{_≡_, refl}
+use mathlib.Core.Path.{_≡_}
 use Prim.Native.Nat.{_-_, _≤_}
 use native.Mathlib.Omega.{arith}
 use lib.ListN.{length, take}

@@ -1,6 +1,6 @@
 -- `chain::not_under_set` meets its contract: only a live token is looked at. Assumes nothing.
-use mathlib.Core.Path.{_≡_, refl, ap, sym, _∙_}
-use mathlib.Core.Bool.{Bool, not, _&&_}
+use mathlib.Core.Path.{ap, sym, _∙_}
+use mathlib.Core.Bool.{not, _&&_}
 use lib.Dec.{ltb}
 use Rattle.rules.proofs.Chains.{live-under, other-under}
 use Rattle.rules.proofs.States.{live-is}

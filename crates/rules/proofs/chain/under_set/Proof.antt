@@ -1,7 +1,6 @@
 -- `chain::under_set` meets its contract: the chain from the place goes on with the links that are left. Assumes nothing.
 use mathlib.Core.Path.{_≡_, sym, _∙_}
 use Prim.Native.Nat.{_-_, _≤_}
-use lib.ListN.{length}
 use Rattle.model.specs.Machine.Active.{underSet}
 use Rattle.rules.proofs.Chains.{setAbove, under-begin, under-stop, under-past, under-found, under-on, under-end}
 use borrow.Author.Needs.{needs}

@@ -1,5 +1,5 @@
 -- `chain::waits_at_unset` meets its contract, state by state. Assumes nothing.
-use mathlib.Core.Path.{_≡_, ap, _∙_}
+use mathlib.Core.Path.{ap, _∙_}
 use mathlib.Core.Bool.{not}
 use Rattle.model.specs.Machine.Rules.{waitsAtUnset}
 use Rattle.rules.proofs.Chains.{waits-past, waits-read}

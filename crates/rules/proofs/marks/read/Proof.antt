@@ -1,7 +1,6 @@
 -- `marks::read` meets its contract: after i turns the marks of the first i tokens are written. Assumes nothing.
 use mathlib.Core.Path.{_≡_, refl, _∙_, ap}
 use Prim.Native.Nat.{_-_, _≤_}
-use native.Mathlib.Omega.{arith}
 use lib.ListN.{length}
 use lib.Dec.{eqb}
 use Rattle.model.specs.Machine.Rules.{isReady, isWaiting, isFrame}

@@ -1,5 +1,5 @@
 -- `node::all_at_nodes` meets its contract: after i turns the flag says whether the first i tokens keep their nodes' rules. Assumes nothing.
-use mathlib.Core.Path.{_≡_, refl, subst}
+use mathlib.Core.Path.{_≡_, subst}
 use Prim.Native.Nat.{_-_, _≤_, _<_}
 use native.Mathlib.Omega.{arith}
 use lib.ListN.{length, getD, take}

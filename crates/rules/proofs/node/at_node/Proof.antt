@@ -1,5 +1,5 @@
 -- `node::at_node` meets its contract: the token's row is that of its node. Assumes nothing.
-use mathlib.Core.Path.{_≡_, _∙_, ap, sym}
+use mathlib.Core.Path.{_∙_, ap}
 use native.Mathlib.Omega.{arith}
 use Prim.Native.Nat.{_+_, _*_}
 use Rattle.model.specs.Job.Words.{nodeBy}

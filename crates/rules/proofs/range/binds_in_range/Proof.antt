@@ -1,7 +1,6 @@
 -- `range::binds_in_range` meets its contract: after i turns the flag says whether the first i bindings are in range. Assumes nothing.
 use mathlib.Core.Path.{_≡_}
 use Prim.Native.Nat.{_-_, _≤_}
-use native.Mathlib.Omega.{arith}
 use lib.ListN.{take}
 use Rattle.model.specs.Test.{all}
 use Rattle.model.specs.Machine.Rules.{slotInRange}

@@ -1,6 +1,6 @@
 -- `range::cells_in_range` meets its contract: after i turns the flag says whether the first i cells are in range. Assumes nothing.
 use mathlib.Core.Path.{_≡_, refl}
-use Prim.Native.Nat.{_-_, _≤_, _<_}
+use Prim.Native.Nat.{_-_, _≤_}
 use native.Mathlib.Omega.{arith}
 use lib.ListN.{length, take}
 use Rattle.model.specs.Test.{all}
