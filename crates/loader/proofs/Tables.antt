@@ -27,10 +27,18 @@ abbrev Loads : Read Program → Loaded → (d d1 : List ℕ) → Type 0
 Loads p r d d1 = (r ≡ loaded (answerOf p)) × (d1 ≡ loadedWords (answerOf p) d)
 
 module _ (ks os : List ℕ) (n : ℕ) (q : Checked) (eq : q ≡ checkedProgram (readEntries n (entries ks os))) where
-  pub parts-refused : (k e : ℕ) (d : List ℕ) → q ≡ checked.Refused k e → Loads (readEntries n (entries ks os)) (Refused k e) d d
-  unfolding answerOf loaded loadedWords
-  parts-refused k e d h =
-      let r = checked-refused (λ p. length (construct p .nodes)) (readEntries n (entries ks os)) k e (sym eq ∙ h) in (rw r, rw r)
+  module _ (k e : ℕ) (h : q ≡ checked.Refused k e) where
+    declined : readEntries n (entries ks os) ≡ refused k e
+    declined = checked-refused (λ p. length (construct p .nodes)) (readEntries n (entries ks os)) k e (sym eq ∙ h)
+
+    pub refused-answer : Refused k e ≡ loaded (answerOf (readEntries n (entries ks os)))
+    unfolding answerOf loaded
+    refused-answer = rw declined
+
+    -- "A refusal leaves machine and dag as before the call"
+    pub refused-words : (d : List ℕ) → d ≡ loadedWords (answerOf (readEntries n (entries ks os))) d
+    unfolding answerOf loadedWords
+    refused-words d = rw declined
 
   module _ (m k : ℕ) (h : q ≡ checked.Next m k) where
     read : (p : Got Program) × (readEntries n (entries ks os) ≡ got p) × (p .next ≡ m) × (length (construct (p .value) .nodes) ≡ k)

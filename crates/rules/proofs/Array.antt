@@ -1,15 +1,15 @@
 -- What the array's words say of its nodes and bodies, one by one: the row of node i begins at word 67 + 12 * i, and the words of
 -- body i at 3 + 2 * i, since each node or body takes the words behind the one before it. Assumes nothing.
 use mathlib.Core.Path.{_≡_, refl, sym, _∙_, ap, ap₂}
-use mathlib.Core.Bool.{Bool, true, false}
-use mathlib.Core.List.{List, [], _∷_}
+use mathlib.Core.Bool.{true, false}
+use mathlib.Core.List.{List}
 use Prim.Native.Nat.{ℕ, zero, suc, _+_, _-_, _*_, _<_, _≤_}
 use native.Mathlib.Omega.{arith}
 use lib.ListN.{length, getD, take, drop, length-drop}
 use lib.Seq.{drop-drop, getD-drop, length-take-le}
 use lib.Dec.{ltb, leb}
 use Rattle.model.specs.Test.{_and_, all}
-use Rattle.model.specs.Job.Node.{Node, Body, Dag, nodeAt, nodeKept, bodyKept, isNode, dagKept}
+use Rattle.model.specs.Job.Node.{Node, Body, nodeAt, nodeKept, bodyKept, isNode, dagKept}
 use Rattle.model.specs.Job.Words.{nodeBy, nodeOf, nodesFrom, bodiesFrom, dagOf}
 use Rattle.model.proofs.Test.{le-leb, lt-not-leb, and-right, all-at}
 use Rattle.rules.specs.Words.{rowKept}

@@ -1,9 +1,30 @@
--- The code's `&` and `|` are the definitions' `and` and `or`: they have the same tables. Assumes nothing.
+-- The code's `&` and `|` are the definitions' `and` and `or`, since they have the same tables; and what else of `and` and `or` the laws
+-- need. Assumes nothing.
 use mathlib.Core.Path.{_≡_, refl}
 use mathlib.Core.Bool.{Bool, true, false, _&&_, _||_}
 use Prim.Native.Nat.{ℕ, zero, suc, _≤_}
 use native.Mathlib.Omega.{arith}
 use Rattle.model.specs.Test.{_and_, _or_}
+
+pub and-true : (a : Bool) → (a and true) ≡ a
+unfolding _and_
+and-true true = refl
+and-true false = refl
+
+pub and-false : (a : Bool) → (a and false) ≡ false
+unfolding _and_
+and-false true = refl
+and-false false = refl
+
+pub and-assoc : (a b c : Bool) → ((a and b) and c) ≡ (a and b and c)
+unfolding _and_
+and-assoc true b c = refl
+and-assoc false b c = refl
+
+pub or-false : (a : Bool) → (a or false) ≡ a
+unfolding _or_
+or-false true = refl
+or-false false = refl
 
 pub both-is : (a b : Bool) → (a && b) ≡ (a and b)
 unfolding _and_
@@ -34,7 +55,8 @@ both p q = rw (p, q) (both-is _ _)
 pub three : {a b c a′ b′ c′ : Bool} → a ≡ a′ → b ≡ b′ → c ≡ c′ → (a && b && c) ≡ (a′ and b′ and c′)
 three p q r = rw (p, q, r) (three-are _ _ _)
 
-pub four : {a b c d a′ b′ c′ d′ : Bool} → a ≡ a′ → b ≡ b′ → c ≡ c′ → d ≡ d′ → (a && b && c && d) ≡ (a′ and b′ and c′ and d′)
+pub four : {a b c d a′ b′ c′ d′ : Bool} → a ≡ a′ → b ≡ b′ → c ≡ c′ → d ≡ d′
+    → (a && b && c && d) ≡ (a′ and b′ and c′ and d′)
 four p q r s = rw (p, q, r, s) (four-are _ _ _ _)
 
 -- a number that is none of the first n, as a `match` on it tells

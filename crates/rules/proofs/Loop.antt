@@ -1,6 +1,6 @@
 -- Loops that test each element of a list: what the flag says before, during and after them. Assumes nothing.
-use mathlib.Core.Path.{_≡_, refl, sym, _∙_, ap}
-use mathlib.Core.Bool.{Bool, true, false, _&&_}
+use mathlib.Core.Path.{_≡_, sym, _∙_, ap}
+use mathlib.Core.Bool.{Bool, _&&_}
 use mathlib.Core.List.{List, [], _∷_, map}
 use Prim.Native.Nat.{ℕ, zero, suc, _+_, _<_, _≤_}
 use native.Mathlib.Numerals.{add-one}
@@ -8,20 +8,11 @@ use native.Mathlib.Omega.{arith}
 use lib.ListN.{length, getD, take, length-map}
 use lib.Seq.{take-all}
 use Rattle.model.specs.Test.{_and_, all}
-use Rattle.rules.proofs.Both.{both}
-
-pub and-true : (a : Bool) → (a and true) ≡ a
-unfolding _and_
-and-true true = refl
-and-true false = refl
-
-pub and-assoc : (a b c : Bool) → ((a and b) and c) ≡ (a and b and c)
-unfolding _and_
-and-assoc true b c = refl
-and-assoc false b c = refl
+use Rattle.rules.proofs.Both.{both, and-true, and-assoc}
 
 -- after the last turn a test of the first elements is one of all
-pub done : {A : Type 0} (test : List A → Bool) (xs : List A) (i : ℕ) {ok : Bool} → length xs ≤ i → ok ≡ test (take i xs) → ok ≡ test xs
+pub done : {A : Type 0} (test : List A → Bool) (xs : List A) (i : ℕ) {ok : Bool}
+    → length xs ≤ i → ok ≡ test (take i xs) → ok ≡ test xs
 done test xs i l e = e ∙ ap test (take-all i xs l)
 
 -- the same test of each element

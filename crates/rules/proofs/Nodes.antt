@@ -1,21 +1,18 @@
 -- The rules of a token at its node, from the words of the node's row. Assumes nothing.
-use mathlib.Core.Path.{_≡_, refl, sym, _∙_, ap, ap₂}
-use mathlib.Core.Bool.{Bool, true, false, not, _&&_, _||_}
-use mathlib.Core.List.{List, [], _∷_, map}
+use mathlib.Core.Path.{_≡_, refl, sym, _∙_, ap}
+use mathlib.Core.Bool.{Bool, true, false, _&&_}
+use mathlib.Core.List.{List, [], _∷_}
 use Prim.Native.Nat.{ℕ, zero, suc, _+_, _-_, _*_, _<_, _≤_}
 use native.Mathlib.Decide.{decLt}
 use native.Mathlib.Omega.{arith}
 use lib.ListN.{length, getD, take, drop, List·getD-eq-default, List·getD-map}
 use lib.Dec.{ltb, leb, eqb}
-use Rattle.model.specs.Test.{_and_, _or_, all, once}
-use Rattle.model.specs.Job.Syntax.{Param, variable, constant}
-use Rattle.model.specs.Job.Node.{Node, Dag, nodeAt, dagKept}
+use Rattle.model.specs.Test.{_and_, all}
+use Rattle.model.specs.Job.Node.{dagKept}
 use Rattle.model.specs.Job.Words.{nodeBy, paramOf, paramsFrom, dagOf}
-use Rattle.model.specs.Number.{signed}
-use Rattle.model.specs.Machine.Blank.{empty, blankToken, slotAt, tokenAt, isBound, isBlankState}
+use Rattle.model.specs.Machine.Blank.{empty, blankToken, slotAt, tokenAt, isBound}
 use Rattle.model.specs.Machine.Rules.{isFrame, namesFrame, notEmpty, nodeRule, atNode}
 use Rattle.model.specs.declared.token.Bind.{Bind}
-use Rattle.model.specs.declared.token.State.{State}
 use Rattle.model.specs.declared.token.Place.{Place}
 use Rattle.model.specs.declared.token.Place.the-variants as places
 use Rattle.model.specs.declared.token.Token.{Token}
@@ -23,8 +20,8 @@ use Rattle.model.proofs.Test.{clash, lt-ltb, le-not-ltb, and-left, leb-le, eq-e
 use Rattle.rules.specs.Marks.{stateNumber, marked}
 use Rattle.rules.specs.Words.{pairBound}
 use Rattle.rules.proofs.Array.{kept-node, nodes-length}
+use Rattle.rules.proofs.Both.{and-true}
 use Rattle.rules.proofs.Chains.{getD-any}
-use Rattle.rules.proofs.Loop.{and-true}
 use Rattle.rules.proofs.States.{blank-is}
 use Rattle.rules.proofs.Words.{table, listed}
 

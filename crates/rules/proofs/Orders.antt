@@ -1,23 +1,23 @@
 -- An order's rules from counts: how often each place stands in it, counted in one pass. Assumes nothing.
 use mathlib.Core.Path.{_≡_, refl, sym, _∙_, ap, ap₂, subst}
 use mathlib.Core.Bool.{Bool, true, false, _&&_}
-use mathlib.Core.List.{List, [], _∷_, map}
+use mathlib.Core.List.{List, [], _∷_}
 use Prim.Native.Nat.{ℕ, zero, suc, _+_, _-_, _<_, _≤_}
 use native.Mathlib.Decide.{ℕ-discrete}
-use native.Mathlib.Nat.{add-assoc, add-zero, zero-add}
+use native.Mathlib.Nat.{add-zero, zero-add}
 use native.Mathlib.Numerals.{add-one}
 use native.Mathlib.Omega.{arith}
 use lib.ListN.{length, getD, take, drop, set, length-drop}
 use lib.Seq.{getD-set-same, getD-set-other, getD-drop, length-take-le, getD-take}
-use lib.Dec.{ltb, leb, eqb}
+use lib.Dec.{ltb, eqb}
 use Rattle.model.specs.Test.{_and_, all, allFrom, count, once}
 use Rattle.model.specs.Machine.Rules.{namesOnce}
 use Rattle.model.specs.declared.token.State.{State}
 use Rattle.model.specs.declared.token.Token.{Token}
 use Rattle.model.proofs.Test.{all-at, ltb-lt, eq-eqb, ne-eqb, le-leb, lt-not-leb}
 use Rattle.rules.specs.Marks.{marked}
-use Rattle.rules.proofs.Both.{both}
-use Rattle.rules.proofs.Loop.{all-turn, and-true, and-assoc}
+use Rattle.rules.proofs.Both.{both, and-true, and-assoc}
+use Rattle.rules.proofs.Loop.{all-turn}
 
 -- counts
 pub count-most : (p : ℕ) (xs : List ℕ) → count p xs ≤ length xs

@@ -1,5 +1,5 @@
 -- The ranges, without what the types say: a token has eight bindings, and the tables have their sizes. Assumes nothing.
-use mathlib.Core.Path.{_≡_, refl}
+use mathlib.Core.Path.{_≡_}
 use Prim.Native.Nat.{ℕ}
 use lib.ListN.{length}
 use lib.Dec.{ltb, leb}

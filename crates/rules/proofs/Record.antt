@@ -1,17 +1,16 @@
 -- The rules of a record, once its ranges are known: the others in the order of the sentence. Assumes nothing.
-use mathlib.Core.Path.{_≡_, refl, sym, _∙_, ap, subst}
+use mathlib.Core.Path.{_≡_, refl, sym, _∙_, ap}
 use mathlib.Core.Bool.{Bool, true, false}
-use mathlib.Core.List.{List}
 use Prim.Native.Nat.{ℕ, _<_}
 use native.Mathlib.Omega.{arith}
-use lib.ListN.{length, getD}
-use lib.Dec.{ltb}
+use lib.ListN.{length}
 use Rattle.model.specs.Test.{_and_, all, differ}
 use Rattle.model.specs.Job.Node.{Dag, isNode, dagKept}
 use Rattle.model.specs.Machine.Limits.{paper}
 use Rattle.model.specs.Machine.Blank.{blankToken, tokenAt, tokenIsBlank, cellIsBlank}
 use Rattle.model.specs.Machine.InUse.{tokensUsed, usedCells}
-use Rattle.model.specs.Machine.Rules.{isReady, isWaiting, sizesInRange, tokenInRange, cellInRange, namesOnce, chainsEnd, notUnderSet, openHandles, waitsAtUnset, atNode, restIsBlank, machineKept, rulesKept}
+use Rattle.model.specs.Machine.Rules.{isReady, isWaiting, sizesInRange, tokenInRange, machineKept, rulesKept}
+use Rattle.model.specs.Machine.Rules.{namesOnce, chainsEnd, notUnderSet, openHandles, waitsAtUnset, atNode, restIsBlank}
 use Rattle.model.specs.declared.token.Token.{Token}
 use Rattle.model.specs.declared.record.Machine.{Machine}
 use Rattle.model.proofs.Test.{and-left, and-right, all-at, ltb-lt}

@@ -8,8 +8,7 @@ use native.Mathlib.Omega.{arith}
 use lib.ListN.{length, getD, take}
 use Rattle.model.specs.Test.{_and_}
 use Rattle.model.specs.Machine.Rules.{restIsBlank}
-use Rattle.rules.proofs.Both.{both}
-use Rattle.rules.proofs.Loop.{and-true, and-assoc}
+use Rattle.rules.proofs.Both.{both, and-true, and-assoc}
 
 module _ {A : Type 0} (blank : A → Bool) where
   rest-more : (marks : List Bool) (xs : List A) (i : ℕ) (d : A) → i < length marks → i < length xs

@@ -1,6 +1,6 @@
 -- The index rules of a node are those of its words: a row is compared with the words of the node that it would be, and both tests go
 -- word by word. Assumes nothing.
-use mathlib.Core.Path.{_≡_, refl, sym, _∙_, ap, ap₂}
+use mathlib.Core.Path.{_≡_, refl, sym, _∙_, ap}
 use mathlib.Core.Bool.{Bool, true, false}
 use mathlib.Core.List.{List, [], _∷_}
 use Prim.Native.Nat.{ℕ, zero, suc, _+_, _-_, _<_, _≤_, _^_}
@@ -8,28 +8,17 @@ use native.Mathlib.Decide.{decLt}
 use native.Mathlib.Omega.{arith}
 use lib.ListN.{length, getD, drop, List·getD-eq-default}
 use lib.Dec.{ltb, leb, eqb}
-use Rattle.model.specs.Test.{_and_, _or_, all, same, once}
-use Rattle.model.specs.Number.{signed, unsigned, fits}
+use Rattle.model.specs.Test.{_and_, _or_, all, same}
+use Rattle.model.specs.Number.{signed}
 use Rattle.model.specs.Site.{siteTakes}
 use Rattle.model.specs.Job.Syntax.{Param, variable, constant}
-use Rattle.model.specs.Job.Node.{Node, Dag, paramKept, paramsKept, isNode, nodeKept}
+use Rattle.model.specs.Job.Node.{Dag, paramKept, paramsKept, isNode, nodeKept}
 use Rattle.model.specs.Job.Words.{paramWords, nodeWords, paramOf, paramsFrom, nodeBy, nodeOf}
-use Rattle.model.proofs.Test.{clash, eqb-eq, eqb-same, ne-eqb, lt-ltb, le-not-ltb, le-leb, lt-not-leb, holds-or-fails}
+use Rattle.model.proofs.Test.{clash, eqb-eq, eqb-same, ne-eqb, lt-ltb, le-not-ltb, le-leb, lt-not-leb}
 use Rattle.model.proofs.Job.WellFormed.{site-takes, site-few}
 use Rattle.model.proofs.Number.{unsigned-signed, signed-fits}
+use Rattle.rules.proofs.Both.{and-true, and-false, or-false}
 use Rattle.rules.specs.Words.{paramWordsKept, pairKept, countOf, headKept, rowKept}
-
--- the Boolean algebra of the laws below
-
-and-true : (a : Bool) → (a and true) ≡ a
-unfolding _and_
-and-true true = refl
-and-true false = refl
-
-or-false : (a : Bool) → (a or false) ≡ a
-unfolding _or_
-or-false true = refl
-or-false false = refl
 
 -- the words' tests in front, the parameters' behind: pair by pair
 pairwise : (p q s k a : Bool) → ((p and q and s) and k and a) ≡ ((p and q and true) and k and true) and s and a
@@ -80,7 +69,9 @@ pair-named k w l = go (eqb k 7) refl
     go true e =
         let n : eqb k 8 ≡ false = ne-eqb k 8 (λ f. let z = eqb-eq k 7 e in omega arith) in
         pair-by k w (variable w) (rw (e, paramOf)) ∙ rw (e, eqb-same w, n) (sym (or-false (ltb w 8)))
-    go false e = pair-by k w (constant (signed w)) (rw (e, paramOf)) ∙ rw (unsigned-signed w l, eqb-same w, signed-fits w) (and-true _ ∙ and-true _)
+    go false e =
+        pair-by k w (constant (signed w)) (rw (e, paramOf))
+        ∙ rw (unsigned-signed w l, eqb-same w, signed-fits w) (and-true _ ∙ and-true _)
 
 pub pair-unnamed : (k w : ℕ) → pairKept false k w ≡ eqb k 0 and eqb w 0
 unfolding paramWordsKept paramWords paramsFrom all same
@@ -157,39 +148,30 @@ count-first true false k false = refl
 count-first false true k n = refl
 count-first false false k n = refl
 
-and-false : (a : Bool) → (a and false) ≡ false
-unfolding _and_
-and-false true = refl
-and-false false = refl
+-- what the row says of its parameters: `takes` tests the count and the first number, `next` the second
+abbrev Calls : (ℕ → Bool) → Bool → ℕ → List ℕ → Type 0
+Calls takes next c rest =
+    ((eqb c (length (paramsFrom c rest)) and same rest (paramWords 4 (paramsFrom c rest)))
+    and takes (length (paramsFrom c rest)) and paramsKept (paramsFrom c rest) and next)
+    ≡ ((takes c and leb c 4 and next) and paramWordsKept 4 c rest)
 
--- `takes` tests the count and the first number, `next` the second
 module _ (takes : ℕ → Bool) (next : Bool) (c : ℕ) (rest : List ℕ) (len : length rest ≡ 8) where
-  calls-few : c ≤ 4
-      → ((eqb c (length (paramsFrom c rest)) and same rest (paramWords 4 (paramsFrom c rest)))
-      and takes (length (paramsFrom c rest)) and paramsKept (paramsFrom c rest) and next)
-      ≡ ((takes c and leb c 4 and next) and paramWordsKept 4 c rest)
+  calls-few : c ≤ 4 → Calls takes next c rest
   unfolding paramsKept paramWordsKept _and_
   calls-few l =
-      rw (length-params 4 c rest len l, eqb-same c, le-leb c 4 l) (count-first (takes c) (same rest (paramWords 4 (paramsFrom c rest))) _ next)
+      rw (length-params 4 c rest len l, eqb-same c, le-leb c 4 l)
+      (count-first (takes c) (same rest (paramWords 4 (paramsFrom c rest))) _ next)
 
-  calls-many : 4 < c
-      → ((eqb c (length (paramsFrom c rest)) and same rest (paramWords 4 (paramsFrom c rest)))
-      and takes (length (paramsFrom c rest)) and paramsKept (paramsFrom c rest) and next)
-      ≡ ((takes c and leb c 4 and next) and paramWordsKept 4 c rest)
+  calls-many : 4 < c → Calls takes next c rest
   unfolding _and_
   calls-many l =
       let m : length (paramsFrom c rest) ≤ 4 = most-params 4 c rest len in
       rw (ne-eqb c (length (paramsFrom c rest)) (omega arith), lt-not-leb c 4 l, and-false (takes c))
 
-  calls : ((eqb c (length (paramsFrom c rest)) and same rest (paramWords 4 (paramsFrom c rest)))
-      and takes (length (paramsFrom c rest)) and paramsKept (paramsFrom c rest) and next)
-      ≡ ((takes c and leb c 4 and next) and paramWordsKept 4 c rest)
+  calls : Calls takes next c rest
   calls = go (decLt 4 c)
     where
-      go : Dec (4 < c)
-          → ((eqb c (length (paramsFrom c rest)) and same rest (paramWords 4 (paramsFrom c rest)))
-          and takes (length (paramsFrom c rest)) and paramsKept (paramsFrom c rest) and next)
-          ≡ ((takes c and leb c 4 and next) and paramWordsKept 4 c rest)
+      go : Dec (4 < c) → Calls takes next c rest
       go (yes l) = calls-many l
       go (no f) = calls-few (omega arith)
 
@@ -211,13 +193,18 @@ row-by d (suc zero) a b c rest len =
     rw (eqb-same a, eqb-same b) (calls (siteTakes a) (isNode d b) c rest len ∙ ap (λ x. x and paramWordsKept 4 c rest) (takes-few a c (isNode d b)))
 row-by d (suc (suc zero)) a b c rest len =
     rw (eqb-same a, eqb-same b) (calls (λ n. ltb a (length (d .bodies))) (isNode d b) c rest len)
-row-by d (suc (suc (suc zero))) a b c rest len = rw (eqb-same a, eqb-same b) (words-last (isNode d a) (isNode d b) (eqb c 0) (same rest (paramWords 4 [])))
-row-by d (suc (suc (suc (suc zero)))) a b c rest len = rw (eqb-same a, eqb-same b) (words-last (ltb a 8) (isNode d b) (eqb c 0) (same rest (paramWords 4 [])))
-row-by d (suc (suc (suc (suc (suc zero))))) a b c rest len = rw (eqb-same a, eqb-same b) (words-last (ltb a 8) (isNode d b) (eqb c 0) (same rest (paramWords 4 [])))
-row-by d (suc (suc (suc (suc (suc (suc zero)))))) a b c rest len = rw (eqb-same a, eqb-same b, eqb-same c) (both-ways (same rest (paramWords 4 [])) _)
+row-by d (suc (suc (suc zero))) a b c rest len =
+    rw (eqb-same a, eqb-same b) (words-last (isNode d a) (isNode d b) (eqb c 0) (same rest (paramWords 4 [])))
+row-by d (suc (suc (suc (suc zero)))) a b c rest len =
+    rw (eqb-same a, eqb-same b) (words-last (ltb a 8) (isNode d b) (eqb c 0) (same rest (paramWords 4 [])))
+row-by d (suc (suc (suc (suc (suc zero))))) a b c rest len =
+    rw (eqb-same a, eqb-same b) (words-last (ltb a 8) (isNode d b) (eqb c 0) (same rest (paramWords 4 [])))
+row-by d (suc (suc (suc (suc (suc (suc zero)))))) a b c rest len =
+    rw (eqb-same a, eqb-same b, eqb-same c) (both-ways (same rest (paramWords 4 [])) _)
 row-by d (suc (suc (suc (suc (suc (suc (suc zero))))))) a b c rest len = rest-last (eqb a 0) (eqb b 0) (eqb c 0) (same rest (paramWords 4 []))
 row-by d (suc (suc (suc (suc (suc (suc (suc (suc zero)))))))) a b c rest len = rest-last (eqb a 0) (eqb b 0) (eqb c 0) (same rest (paramWords 4 []))
-row-by d (suc (suc (suc (suc (suc (suc (suc (suc (suc zero))))))))) a b c rest len = rest-last (eqb a 0) (eqb b 0) (eqb c 0) (same rest (paramWords 4 []))
+row-by d (suc (suc (suc (suc (suc (suc (suc (suc (suc zero))))))))) a b c rest len =
+    rest-last (eqb a 0) (eqb b 0) (eqb c 0) (same rest (paramWords 4 []))
 row-by d (suc (suc (suc (suc (suc (suc (suc (suc (suc (suc k)))))))))) a b c rest len = refl
 
 pub row-is : (d : Dag) (k a b c : ℕ) (rest : List ℕ) → length rest ≡ 8

@@ -1,6 +1,6 @@
 -- The index rules of a node, said of its twelve words. (proofs/Words.antt: these are the rules of the node that has the words.)
 -- Assumes nothing: these are definitions.
-use mathlib.Core.Bool.{Bool, true, false}
+use mathlib.Core.Bool.{Bool, false}
 use mathlib.Core.List.{List, [], _∷_}
 use Prim.Native.Nat.{ℕ}
 use lib.ListN.{getD, drop}

@@ -82,13 +82,13 @@ pub fn other_tokens_blank(machine: Machine, used: [bool; Machine::TOKENS]) -> bo
     ok
 }
 
-pub fn other_cells_blank(machine: Machine, used: [bool; Machine::CELLS]) -> bool
-    ensures { λ r. ⌜ r ≡ restIsBlank cellIsBlank used (machine .cells) ⌝ }
+pub fn other_cells_blank(cells: [Cell; Machine::CELLS], used: [bool; Machine::CELLS]) -> bool
+    ensures { λ r. ⌜ r ≡ restIsBlank cellIsBlank used cells ⌝ }
 {
     let mut ok = true;
     let mut i = 0;
     while i < Machine::CELLS {
-        let cell = machine.cells[i];
+        let cell = cells[i];
         ok = ok & (used[i] | cell_is_blank(cell));
         i += 1;
     }

@@ -1,9 +1,8 @@
 // Chains of cells: "each parent chain ends"; "no ready, waiting or called-out token is under a set cell"; waits at an unset cell.
 ghost use mathlib.Core.Path.{_≡_};
-ghost use lib.ListN.{length};
 ghost use Rattle.model.specs.Test.{all};
-ghost use Rattle.model.specs.Machine.Blank.{cellAt, hasValue};
-ghost use Rattle.model.specs.Machine.Active.{isSet, underSet};
+ghost use Rattle.model.specs.Machine.Blank.{hasValue};
+ghost use Rattle.model.specs.Machine.Active.{underSet};
 ghost use Rattle.model.specs.Machine.Rules.{chainEnds, chainsEnd, notUnderSet, waitsAtUnset};
 ghost use Rattle.model.specs.declared.token.Token.{Token};
 use crate::marks::BLANK;
@@ -78,10 +77,9 @@ pub fn chain_ends(cells: [Cell; Machine::CELLS], place: Place) -> bool
     }
 }
 
-pub fn chains_end(machine: Machine) -> bool
-    ensures { λ r. ⌜ r ≡ chainsEnd (machine .cells) ⌝ }
+pub fn chains_end(cells: [Cell; Machine::CELLS]) -> bool
+    ensures { λ r. ⌜ r ≡ chainsEnd cells ⌝ }
 {
-    let cells = machine.cells;
     let mut ok = true;
     let mut i = 0;
     while i < Machine::CELLS {

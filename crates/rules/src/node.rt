@@ -1,7 +1,7 @@
 // "A token at return names a frame, at choke a cell, at a call no empty variable; a ready token at assign, remove, return, choke or
 // publish has a value."
 ghost use mathlib.Core.Path.{_≡_};
-ghost use mathlib.Core.Bool.{Bool, true};
+ghost use mathlib.Core.Bool.{true};
 ghost use mathlib.Core.List.{List};
 ghost use Prim.Native.Nat.{ℕ, _<_};
 ghost use lib.ListN.{length, getD, drop};

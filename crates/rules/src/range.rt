@@ -103,7 +103,7 @@ pub fn token_in_range(token: Token, nodes: u32, calls: u32) -> bool
     ((node as u32) < nodes) & binds_in_range(binds) & held_in_range(value) & named
 }
 
-// A dag with so many nodes is not needed itself.
+// Of the dag only the number of its nodes is needed.
 pub fn tokens_in_range(machine: Machine, nodes: u32) -> bool
     ensures { λ r. ⌜ ((d : Dag) → length (d .nodes) ≡ nodes → r ≡ all (tokenInRange paper d (machine .calls)) (machine .tokens)) ⌝ }
 {
@@ -118,13 +118,13 @@ pub fn tokens_in_range(machine: Machine, nodes: u32) -> bool
     ok
 }
 
-pub fn cells_in_range(machine: Machine) -> bool
-    ensures { λ r. ⌜ ((d : Dag) → r ≡ all (cellInRange paper d) (machine .cells)) ⌝ }
+pub fn cells_in_range(cells: [Cell; Machine::CELLS]) -> bool
+    ensures { λ r. ⌜ ((d : Dag) → r ≡ all (cellInRange paper d) cells) ⌝ }
 {
     let mut ok = true;
     let mut i = 0;
     while i < Machine::CELLS {
-        let cell = machine.cells[i];
+        let cell = cells[i];
         ok = ok & cell_in_range(cell);
         i += 1;
     }
@@ -144,5 +144,6 @@ pub fn sizes_in_range(machine: Machine) -> bool
 pub fn in_range(machine: Machine, nodes: u32) -> bool
     ensures { λ r. ⌜ ((d : Dag) → length (d .nodes) ≡ nodes → r ≡ inRange d machine) ⌝ }
 {
-    sizes_in_range(machine) & tokens_in_range(machine, nodes) & cells_in_range(machine)
+    let cells = machine.cells;
+    sizes_in_range(machine) & tokens_in_range(machine, nodes) & cells_in_range(cells)
 }

@@ -40,17 +40,15 @@ pub fn machine_kept(
     let frame = marks.frame;
     let queue = machine.queue;
     let waits = machine.waits;
+    let table = machine.cells;
     let blank = all_at_nodes(machine, frame, dag)
         & other_tokens_blank(machine, used)
-        & other_cells_blank(machine, cells);
+        & other_cells_blank(table, cells);
     let waited = handles_differ(machine)
         & names_once(waiting, waits, machine.waiting)
         & all_wait_at_unset(machine)
         & blank;
-    names_once(ready, queue, machine.queued)
-        & chains_end(machine)
-        & none_under_set(machine)
-        & waited
+    names_once(ready, queue, machine.queued) & chains_end(table) & none_under_set(machine) & waited
 }
 
 // "14: dag or machine record breaks an index rule."

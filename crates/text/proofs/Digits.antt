@@ -1,7 +1,6 @@
--- The digits of a number, most of them first: a number below ten is one digit, any other has those of its tenth before the last;
+-- The digits of a number, the front ones first: a number below ten is one digit, any other has those of its tenth before the last;
 -- a number below 10 ^ k has at most k. Assumes nothing.
-use mathlib.Core.Path.{_≡_, refl, sym, ap, _∙_, subst}
-use mathlib.Core.Bool.{Bool, true, false}
+use mathlib.Core.Path.{_≡_, refl, sym}
 use mathlib.Core.List.{List, [], _∷_, _++_}
 use Prim.Native.Nat.{ℕ, zero, suc, _+_, _-_, _*_, _/_, _%_, _^_, _<_, _≤_}
 use native.Mathlib.Nat.{pow-suc}

@@ -2,7 +2,7 @@
 -- A definition puts the space behind a word and the code before it, which is the same by associativity. Assumes nothing.
 use mathlib.Core.Path.{_≡_, refl, sym, ap, _∙_}
 use mathlib.Core.List.{List, [], _∷_, _++_, map, append-assoc, append-nil}
-use Prim.Native.Nat.{ℕ, _+_, _*_, _<_, _≤_}
+use Prim.Native.Nat.{ℕ, _+_, _*_, _<_}
 use native.Mathlib.Numerals.{add-one}
 use native.Mathlib.Omega.{arith}
 use lib.IntN.{ℤ}
@@ -17,7 +17,8 @@ values-more : (vs : List ℤ) (v : ℤ) → allSpaced (map decimalZ vs) ++ space
 unfolding allSpaced
 values-more [] v = sym (append-nil (spaced (decimalZ v)))
 values-more (u ∷ vs) v =
-    append-assoc (spaced (decimalZ u)) (allSpaced (map decimalZ vs)) (spaced (decimalZ v)) ∙ ap (λ (l : List ℕ). spaced (decimalZ u) ++ l) (values-more vs v)
+    append-assoc (spaced (decimalZ u)) (allSpaced (map decimalZ vs)) (spaced (decimalZ v))
+    ∙ ap (λ (l : List ℕ). spaced (decimalZ u) ++ l) (values-more vs v)
 
 pub values-written : (values : List ℤ) (d : ℤ) (before middle after : List ℕ) (at to next i : ℕ) → i < length values
     → Written (12 * i) before at (allSpaced (map decimalZ (take i values))) middle to

@@ -6,6 +6,7 @@ ghost use lib.ListN.{length, take};
 ghost use Rattle.model.specs.Lines.Line.{textOf, lineOf, decimal, call, publish, refused, table, end, limit, short, long};
 ghost use Rattle.text.specs.Written.{Written};
 
+// No line is longer: `few` of each contract.
 pub const LONGEST: usize = 80;
 
 // (the first `count` of the values)

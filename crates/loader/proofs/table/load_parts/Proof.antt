@@ -1,6 +1,6 @@
 -- `table::load_parts` meets its contract: what the check accepts is compiled, and what it refuses writes nothing. Assumes nothing.
 use borrow.Author.Needs.{needs}
-use Rattle.loader.proofs.Tables.{parts-refused, parts-accepted, parts-done}
+use Rattle.loader.proofs.Tables.{refused-answer, refused-words, parts-accepted, parts-done}
 use Rattle.loader.proofs.table.load_parts.Statement.{statement}
 use Rattle.loader.proofs.table.load_parts.Tie as tie
 
@@ -21,8 +21,7 @@ compile-program-requires c κs =
     (pre .0, (pre .1, parts-accepted _ _ _ _ (check .check-program .ensures) _ _ (answer .answer2 .given .1)))
 
 returns : tie.Need-returns
-returns c =
-    let answer = c .before in parts-refused _ _ _ _ (answer .before .before .check-program .ensures) _ _ _ (answer .answer .given .1)
+returns c = (search refused-answer, search refused-words)
 
 returns-2 : tie.Need-returns-2
 returns-2 c =

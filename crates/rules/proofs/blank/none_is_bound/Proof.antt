@@ -22,14 +22,18 @@ unfolding all
 loop-holds c = search needs
 
 loop-again : tie.Need-loop-again Inv-loop μ-loop
-loop-again c = (
-  search needs,
-  all-turn (λ (b : Bind). not (isBound (b .slot))) (c .before .before .before .before .args .t1) (c .before .before .before .loop .i) _ (search needs) (c .before .before .before .loop .inv .1)
-      (ap not (c .is-bound .ensures)),
-)
+loop-again c =
+    let place3 = c .before .before .before in
+    let place4 = place3 .before in (
+      search needs,
+      all-turn (λ (b : Bind). not (isBound (b .slot))) (place4 .args .t1) (place3 .loop .i) _ (search needs) (place3 .loop .inv .1)
+          (ap not (c .is-bound .ensures)),
+    )
 
 returns : tie.Need-returns Inv-loop μ-loop
-returns c = done (all (λ (b : Bind). not (isBound (b .slot)))) (c .before .before .args .t1) (c .before .loop .i) (search needs) (c .before .loop .inv .1)
+returns c =
+    let place2 = c .before .before in
+    done (all (λ (b : Bind). not (isBound (b .slot)))) (place2 .args .t1) (c .before .loop .i) (search needs) (c .before .loop .inv .1)
 
 pub none-is-bound-spec : {M : Type 1} → statement M
 none-is-bound-spec =

@@ -1,5 +1,5 @@
 -- `blank::other_tokens_blank` meets its contract: after i turns the flag says whether the first i tokens not in use are blank. Assumes nothing.
-use mathlib.Core.Path.{_≡_, refl}
+use mathlib.Core.Path.{_≡_}
 use Prim.Native.Nat.{_-_, _≤_}
 use native.Mathlib.Omega.{arith}
 use lib.ListN.{length, take}
@@ -23,19 +23,21 @@ loop-holds c = search needs
 
 loop-again : tie.Need-loop-again Inv-loop μ-loop
 loop-again c =
-    let start = c .before .before .before .before in
+    let place3 = c .before .before .before in
+    let start = place3 .before in
     let tokens = start .args .t1 .tokens in
     let long : length tokens ≡ 64 = search (needs, mapped) in
     let marks : length (start .args .t2) ≡ 64 = search needs in (
       search needs,
-      blank-turn tokenIsBlank (start .args .t2) tokens (c .before .before .before .loop .i) _ (omega arith) (omega arith) (c .before .before .before .loop .inv .1) (c .token-is-blank .ensures),
+      blank-turn tokenIsBlank (start .args .t2) tokens (place3 .loop .i) _ (omega arith) (omega arith) (place3 .loop .inv .1) (c .token-is-blank .ensures),
     )
 
 returns : tie.Need-returns Inv-loop μ-loop
 returns c =
-    let tokens = c .before .before .args .t1 .tokens in
+    let place2 = c .before .before in
+    let tokens = place2 .args .t1 .tokens in
     let long : length tokens ≡ 64 = search (needs, mapped) in
-    done (restIsBlank tokenIsBlank (c .before .before .args .t2)) tokens (c .before .loop .i) (omega arith) (c .before .loop .inv .1)
+    done (restIsBlank tokenIsBlank (place2 .args .t2)) tokens (c .before .loop .i) (omega arith) (c .before .loop .inv .1)
 
 pub other-tokens-blank-spec : {M : Type 1} → statement M
 other-tokens-blank-spec =

@@ -12,8 +12,12 @@ use Rattle.rules.proofs.blank.token_is_blank.Tie as tie
 returns : tie.Need-returns
 unfolding tokenIsBlank
 returns c =
-    four (ap (λ n. eqb n 0) (c .before .before .before .before .before .state-number .ensures) ∙ blank-is _) refl (c .none-is-bound .ensures)
-    (three (ap not (c .before .before .before .before .has-value .ensures)) (ap not (c .before .before .before .is-place .ensures)) (ap not (c .before .before .is-place2 .ensures)))
+    let place2 = c .before .before in
+    let place3 = place2 .before in
+    let place4 = place3 .before in
+    let place5 = place4 .before in
+    four (ap (λ n. eqb n 0) (place5 .state-number .ensures) ∙ blank-is _) refl (c .none-is-bound .ensures)
+    (three (ap not (place4 .has-value .ensures)) (ap not (place3 .is-place .ensures)) (ap not (place2 .is-place2 .ensures)))
 
 pub token-is-blank-spec : {M : Type 1} → statement M
 token-is-blank-spec =

@@ -1,5 +1,5 @@
 -- `chain::all_wait_at_unset` meets its contract: after i turns the flag says whether none of the first i tokens waits at a set cell. Assumes nothing.
-use mathlib.Core.Path.{_≡_, refl}
+use mathlib.Core.Path.{_≡_}
 use Prim.Native.Nat.{_-_, _≤_}
 use native.Mathlib.Omega.{arith}
 use lib.ListN.{length, take}
@@ -23,16 +23,19 @@ loop-holds c = search needs
 
 loop-again : tie.Need-loop-again Inv-loop μ-loop
 loop-again c =
-    let machine = c .before .before .before .before .before .args .t1 in
+    let place3 = c .before .before .before in
+    let place5 = place3 .before .before in
+    let machine = place5 .args .t1 in
     let long : length (machine .tokens) ≡ 64 = search (needs, mapped) in (
       search needs,
-      all-turn (λ (t : Token). waitsAtUnset (machine .cells) (t .state)) (machine .tokens) (c .before .before .before .loop .i) _ (omega arith) (c .before .before .before .loop .inv .1)
+      all-turn (λ (t : Token). waitsAtUnset (machine .cells) (t .state)) (machine .tokens) (place3 .loop .i) _ (omega arith) (place3 .loop .inv .1)
           (c .waits-at-unset .ensures),
     )
 
 returns : tie.Need-returns Inv-loop μ-loop
 returns c =
-    let machine = c .before .before .before .args .t1 in
+    let place3 = c .before .before .before in
+    let machine = place3 .args .t1 in
     let long : length (machine .tokens) ≡ 64 = search (needs, mapped) in
     done (all (λ (t : Token). waitsAtUnset (machine .cells) (t .state))) (machine .tokens) (c .before .loop .i) (omega arith) (c .before .loop .inv .1)
 

@@ -2,7 +2,6 @@
 use mathlib.Core.Path.{_≡_, sym, _∙_, ap}
 use mathlib.Core.Bool.{not}
 use Prim.Native.Nat.{_-_, _≤_}
-use lib.ListN.{length}
 use Rattle.model.specs.Machine.Blank.{isPlace}
 use Rattle.model.specs.Machine.Rules.{chainEnds}
 use Rattle.rules.proofs.Chains.{ends-stop, ends-past, ends-on, ends-last}
@@ -18,33 +17,45 @@ abbrev μ-loop : tie.MeasureT-loop
 
 returns : tie.Need-returns Inv-loop μ-loop
 returns c =
-    let now = c .before .before .before .loop in
-    ends-stop (c .before .before .before .before .args .t1) (now .here) (now .i) (search needs) (c .enum-told .given .1) ∙ sym (now .inv .1)
+    let place3 = c .before .before .before in
+    let place4 = place3 .before in
+    let now = place3 .loop in
+    ends-stop (place4 .args .t1) (now .here) (now .i) (search needs) (c .enum-told .given .1) ∙ sym (now .inv .1)
 
 returns-2 : tie.Need-returns-2 Inv-loop μ-loop
 returns-2 c =
-    let now = c .before .before .before .before .before .loop in
-    ends-past (c .before .before .before .before .before .before .args .t1) (now .here) (now .i) (search needs) _ (c .before .before .here .given .1) (search needs) (c .if1 .taken) ∙ sym (now .inv .1)
+    let place2 = c .before .before in
+    let place5 = place2 .before .before .before in
+    let place6 = place5 .before in
+    let now = place5 .loop in
+    ends-past (place6 .args .t1) (now .here) (now .i) (search needs) _ (place2 .here .given .1) (search needs) (c .if1 .taken) ∙ sym (now .inv .1)
 
 loop-again : tie.Need-loop-again Inv-loop μ-loop
 loop-again c =
-    let now = c .before .before .before .before .before .before .loop in (
+    let place3 = c .before .before .before in
+    let place6 = place3 .before .before .before in
+    let place7 = place6 .before in
+    let now = place6 .loop in (
       search needs,
-      now .inv .1 ∙ ends-on (c .before .before .before .before .before .before .before .args .t1) (now .here) (now .i) (search needs) _ (c .before .before .before .here .given .1) (search needs) _ (search needs),
+      now .inv .1 ∙ ends-on (place7 .args .t1) (now .here) (now .i) (search needs) _ (place3 .here .given .1) (search needs) _ (search needs),
     )
 
 returns-3 : tie.Need-returns-3 Inv-loop μ-loop
 unfolding isPlace
 returns-3 c =
-    let last = c .before .before .before .loop in
-    sym (ap (λ q. not (isPlace q)) (c .enum-told2 .given .1)) ∙ ends-last (c .before .before .before .before .args .t1) (last .here) (last .i) (search needs) (search needs)
+    let place3 = c .before .before .before in
+    let place4 = place3 .before in
+    let last = place3 .loop in
+    sym (ap (λ q. not (isPlace q)) (c .enum-told2 .given .1)) ∙ ends-last (place4 .args .t1) (last .here) (last .i) (search needs) (search needs)
     ∙ sym (last .inv .1)
 
 returns-4 : tie.Need-returns-4 Inv-loop μ-loop
 unfolding isPlace
 returns-4 c =
-    let last = c .before .before .before .loop in
-    sym (ap (λ q. not (isPlace q)) (c .enum-told3 .given .1)) ∙ ends-last (c .before .before .before .before .args .t1) (last .here) (last .i) (search needs) (search needs)
+    let place3 = c .before .before .before in
+    let place4 = place3 .before in
+    let last = place3 .loop in
+    sym (ap (λ q. not (isPlace q)) (c .enum-told3 .given .1)) ∙ ends-last (place4 .args .t1) (last .here) (last .i) (search needs) (search needs)
     ∙ sym (last .inv .1)
 
 pub chain-ends-spec : {M : Type 1} → statement M

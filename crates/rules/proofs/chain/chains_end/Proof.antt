@@ -1,12 +1,12 @@
 -- `chain::chains_end` meets its contract: after i turns the flag says whether the chains of the first i cells end. Assumes nothing.
-use mathlib.Core.Path.{_≡_, refl, ap, _∙_}
+use mathlib.Core.Path.{_≡_}
 use Prim.Native.Nat.{_-_, _≤_}
 use native.Mathlib.Omega.{arith}
 use lib.ListN.{length, take}
 use Rattle.model.specs.Test.{all}
 use Rattle.model.specs.Machine.Rules.{chainEnds, chainsEnd}
 use Rattle.model.specs.declared.cell.Cell.{Cell}
-use Rattle.rules.proofs.Loop.{all-turn, done, mapped}
+use Rattle.rules.proofs.Loop.{all-turn, done}
 use borrow.Author.Needs.{needs}
 use Rattle.rules.proofs.chain.chains_end.Statement.{statement}
 use Rattle.rules.proofs.chain.chains_end.Tie as tie
@@ -23,17 +23,20 @@ loop-holds c = search needs
 
 loop-again : tie.Need-loop-again Inv-loop μ-loop
 loop-again c =
-    let cells = c .before .before .before .before .before .args .machine .cells in
-    let long : length cells ≡ 32 = search (needs, mapped) in (
+    let place3 = c .before .before .before in
+    let place4 = place3 .before in
+    let cells = place4 .args .t1 in
+    let long : length cells ≡ 32 = search needs in (
       search needs,
-      all-turn (λ (k : Cell). chainEnds cells 32 (k .parent)) cells (c .before .before .before .loop .i) _ (omega arith) (c .before .before .before .loop .inv .1) (c .chain-ends .ensures),
+      all-turn (λ (k : Cell). chainEnds cells 32 (k .parent)) cells (place3 .loop .i) _ (omega arith) (place3 .loop .inv .1) (c .chain-ends .ensures),
     )
 
 returns : tie.Need-returns Inv-loop μ-loop
 unfolding chainsEnd
 returns c =
-    let cells = c .before .before .before .args .machine .cells in
-    let long : length cells ≡ 32 = search (needs, mapped) in
+    let place2 = c .before .before in
+    let cells = place2 .args .t1 in
+    let long : length cells ≡ 32 = search needs in
     rw long (done (all (λ (k : Cell). chainEnds cells 32 (k .parent))) cells (c .before .loop .i) (omega arith) (c .before .loop .inv .1))
 
 pub chains-end-spec : {M : Type 1} → statement M

@@ -1,6 +1,6 @@
 -- `chain::not_under_set` meets its contract: only a live token is looked at. Assumes nothing.
-use mathlib.Core.Path.{_≡_, refl, ap, sym, _∙_}
-use mathlib.Core.Bool.{Bool, not, _&&_}
+use mathlib.Core.Path.{ap, sym, _∙_}
+use mathlib.Core.Bool.{not, _&&_}
 use lib.Dec.{ltb}
 use Rattle.rules.proofs.Chains.{live-under, other-under}
 use Rattle.rules.proofs.States.{live-is}
@@ -10,11 +10,15 @@ use Rattle.rules.proofs.chain.not_under_set.Tie as tie
 
 returns : tie.Need-returns
 returns c =
+    let place2 = c .before .before in
+    let place3 = place2 .before in
     ap not (c .under-set .ensures)
-    ∙ live-under _ (c .before .before .before .args .token) (sym (ap (λ n. ltb 0 n && ltb n 4) (c .before .before .state-number .ensures) ∙ live-is _) ∙ c .before .if1 .taken)
+    ∙ live-under _ (place3 .args .token) (sym (ap (λ n. ltb 0 n && ltb n 4) (place2 .state-number .ensures) ∙ live-is _) ∙ c .before .if1 .taken)
 
 returns-2 : tie.Need-returns-2
-returns-2 c = other-under _ (c .before .before .args .token) (sym (ap (λ n. ltb 0 n && ltb n 4) (c .before .state-number .ensures) ∙ live-is _) ∙ c .if1 .left)
+returns-2 c =
+    let place2 = c .before .before in
+    other-under _ (place2 .args .token) (sym (ap (λ n. ltb 0 n && ltb n 4) (c .before .state-number .ensures) ∙ live-is _) ∙ c .if1 .left)
 
 pub not-under-set-spec : {M : Type 1} → statement M
 not-under-set-spec =

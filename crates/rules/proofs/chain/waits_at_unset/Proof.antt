@@ -1,5 +1,5 @@
 -- `chain::waits_at_unset` meets its contract, state by state. Assumes nothing.
-use mathlib.Core.Path.{_≡_, ap, _∙_}
+use mathlib.Core.Path.{ap, _∙_}
 use mathlib.Core.Bool.{not}
 use Rattle.model.specs.Machine.Rules.{waitsAtUnset}
 use Rattle.rules.proofs.Chains.{waits-past, waits-read}
@@ -8,7 +8,10 @@ use Rattle.rules.proofs.chain.waits_at_unset.Statement.{statement}
 use Rattle.rules.proofs.chain.waits_at_unset.Tie as tie
 
 returns : tie.Need-returns
-returns c = waits-past (c .before .before .before .before .args .t1) (c .before .before .before .before .args .state) _ (c .before .before .state .given .1) (search needs) (c .if1 .taken)
+returns c =
+    let place2 = c .before .before in
+    let place4 = place2 .before .before in
+    waits-past (place4 .args .t1) (place4 .args .state) _ (place2 .state .given .1) (search needs) (c .if1 .taken)
 
 returns-2 : tie.Need-returns-2
 unfolding waitsAtUnset
@@ -20,8 +23,10 @@ returns-3 c = search needs
 
 returns-4 : tie.Need-returns-4
 returns-4 c =
+    let place4 = c .before .before .before .before in
+    let place6 = place4 .before .before in
     ap not (c .has-value .ensures)
-    ∙ waits-read (c .before .before .before .before .before .before .args .t1) (c .before .before .before .before .before .before .args .state) _ (c .before .before .before .before .state .given .1) (search needs) _ (search needs)
+    ∙ waits-read (place6 .args .t1) (place6 .args .state) _ (place4 .state .given .1) (search needs) _ (search needs)
 
 returns-5 : tie.Need-returns-5
 unfolding waitsAtUnset

@@ -25,18 +25,21 @@ loop-holds c = search needs
 
 loop-again : tie.Need-loop-again Inv-loop μ-loop
 loop-again c =
-    let dag = c .before .before .before .before .before .before .args .dag .now in
-    let i = c .before .before .before .loop .i in
+    let place3 = c .before .before .before in
+    let place6 = place3 .before .before .before in
+    let dag = place6 .args .dag .now in
+    let i = place3 .loop .i in
     let inside : i < getD dag 1 0 = search needs in
     let none : Body = record { root = 0; formals = 0 } in (
       search needs,
-      all-turn (bodyKept (dagOf dag)) (dagOf dag .bodies) i none (omega (arith, bodies-length dag)) (c .before .before .before .loop .inv .1)
+      all-turn (bodyKept (dagOf dag)) (dagOf dag .bodies) i none (omega (arith, bodies-length dag)) (place3 .loop .inv .1)
           (both-is _ _ ∙ sym (body-kept-at dag i none inside)),
     )
 
 returns : tie.Need-returns Inv-loop μ-loop
 returns c =
-    let dag = c .before .before .before .before .args .dag .now in
+    let place4 = c .before .before .before .before in
+    let dag = place4 .args .dag .now in
     done (all (bodyKept (dagOf dag))) (dagOf dag .bodies) (c .before .loop .i) (omega (arith, bodies-length dag)) (c .before .loop .inv .1)
 
 pub bodies-kept-spec : {M : Type 1} → statement M

@@ -25,12 +25,13 @@ loop-holds c = search needs
 
 loop-again : tie.Need-loop-again Inv-loop μ-loop
 loop-again c =
-    let start = c .before .before .before .before .before .before .before in
+    let place3 = c .before .before .before in
+    let start = place3 .before .before .before .before in
     let dag = start .args .dag .now in
-    let i = c .before .before .before .loop .i in
+    let i = place3 .loop .i in
     let inside : i < getD dag 0 0 = search needs in (
       search needs,
-      all-turn (nodeKept (dagOf dag)) (dagOf dag .nodes) i Node.unknown (omega (arith, nodes-length dag)) (c .before .before .before .loop .inv .1)
+      all-turn (nodeKept (dagOf dag)) (dagOf dag .nodes) i Node.unknown (omega (arith, nodes-length dag)) (place3 .loop .inv .1)
           (c .row-kept .ensures
           ∙ ap (rowKept (getD dag 0 0) (getD dag 1 0)) (row-part (67 + 12 * i) dag)
           ∙ sym (node-kept-at dag (start .pre .0) (start .pre .1) i inside)),
@@ -38,7 +39,8 @@ loop-again c =
 
 returns : tie.Need-returns Inv-loop μ-loop
 returns c =
-    let dag = c .before .before .before .before .before .args .dag .now in
+    let place5 = c .before .before .before .before .before in
+    let dag = place5 .args .dag .now in
     done (all (nodeKept (dagOf dag))) (dagOf dag .nodes) (c .before .loop .i) (omega (arith, nodes-length dag)) (c .before .loop .inv .1)
 
 pub nodes-kept-spec : {M : Type 1} → statement M

@@ -13,7 +13,8 @@ returns-2 : tie.Need-returns-2
 returns-2 c = search (needs, many-bodies)
 
 returns-3 : tie.Need-returns-3
-returns-3 c = three refl (c .before .bodies-kept .ensures) (c .nodes-kept .ensures) ∙ sym (kept-by-parts _ (search needs) (search needs))
+returns-3 c =
+    three refl (c .before .bodies-kept .ensures) (c .nodes-kept .ensures) ∙ sym (kept-by-parts _ (search needs) (search needs))
 
 pub words-kept-spec : {M : Type 1} → statement M
 words-kept-spec =

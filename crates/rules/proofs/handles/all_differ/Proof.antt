@@ -1,5 +1,5 @@
 -- `handles::all_differ` meets its contract: after i turns the flag says whether the first i numbers differ. Assumes nothing.
-use mathlib.Core.Path.{_≡_, refl, _∙_, ap}
+use mathlib.Core.Path.{_≡_, _∙_, ap}
 use Prim.Native.Nat.{ℕ, _-_, _≤_}
 use native.Mathlib.Omega.{arith}
 use lib.ListN.{length, take}
@@ -21,9 +21,11 @@ loop-holds c = search needs
 
 loop-again : tie.Need-loop-again Inv-loop μ-loop
 loop-again c =
-    let list = c .before .before .before .args .list in
+    let place2 = c .before .before in
+    let place3 = place2 .before in
+    let list = place3 .args .list in
     let long : length list ≡ 64 = search needs in
-    (search needs, differ-turn list (c .before .before .loop .i) (omega arith) (c .before .before .loop .inv .1) (c .is-new .ensures))
+    (search needs, differ-turn list (place2 .loop .i) (omega arith) (place2 .loop .inv .1) (c .is-new .ensures))
 
 returns : tie.Need-returns Inv-loop μ-loop
 returns c =

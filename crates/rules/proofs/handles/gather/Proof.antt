@@ -1,7 +1,7 @@
 -- `handles::gather` meets its contract: after i turns the list has the open handles of the first i tokens. Assumes nothing.
-use mathlib.Core.Path.{_≡_, refl, sym, _∙_, ap}
+use mathlib.Core.Path.{_≡_, refl, _∙_, ap}
 use mathlib.Core.Logic.{⊎-elim}
-use Prim.Native.Nat.{ℕ, _-_, _≤_, _<_}
+use Prim.Native.Nat.{_-_, _≤_, _<_}
 use native.Mathlib.Omega.{arith}
 use lib.ListN.{length, take, length-set}
 use lib.Seq.{take-all}
@@ -24,18 +24,21 @@ loop-holds c = (search needs, search needs, refl, refl)
 
 loop-again : tie.Need-loop-again Inv-loop μ-loop
 loop-again c =
-    let tokens = c .before .before .before .before .before .before .args .t1 .tokens in
+    let place2 = c .before .before in
+    let place5 = place2 .before .before .before in
+    let place6 = place5 .before in
+    let tokens = place6 .args .t1 .tokens in
     let long : length tokens ≡ 64 = search (needs, mapped) in
-    let now = c .before .before .before .before .before .loop in
+    let now = place5 .loop in
     let room : now .count < length (now .list) = omega arith in
     let inside : now .i < length tokens = omega arith in (
       search needs,
       ⊎-elim (λ w. omega arith) (λ w. omega arith) (c .if1 .came),
       length-set (now .list) _ _ ∙ now .inv .2,
       ⊎-elim
-          (λ w. one-more tokens (now .list) (now .count) (now .i) _ inside room (now .inv .3) (c .before .handle-number .ensures) (c .before .before .state-number .ensures)
+          (λ w. one-more tokens (now .list) (now .count) (now .i) _ inside room (now .inv .3) (c .before .handle-number .ensures) (place2 .state-number .ensures)
           (c .if1 .count) (w .0 .taken) (w .1))
-          (λ w. no-more tokens (now .list) (now .count) (now .i) _ inside room (now .inv .3) (c .before .handle-number .ensures) (c .before .before .state-number .ensures)
+          (λ w. no-more tokens (now .list) (now .count) (now .i) _ inside room (now .inv .3) (c .before .handle-number .ensures) (place2 .state-number .ensures)
           (c .if1 .count) (w .0 .left) (w .1))
           (c .if1 .came),
     )

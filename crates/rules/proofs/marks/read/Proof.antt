@@ -1,7 +1,6 @@
 -- `marks::read` meets its contract: after i turns the marks of the first i tokens are written. Assumes nothing.
 use mathlib.Core.Path.{_≡_, refl, _∙_, ap}
 use Prim.Native.Nat.{_-_, _≤_}
-use native.Mathlib.Omega.{arith}
 use lib.ListN.{length}
 use lib.Dec.{eqb}
 use Rattle.model.specs.Machine.Rules.{isReady, isWaiting, isFrame}
@@ -12,7 +11,8 @@ use Rattle.rules.proofs.marks.read.Statement.{statement}
 use Rattle.rules.proofs.marks.read.Tie as tie
 
 abbrev Inv-loop : tie.InvT-loop
-Inv-loop machine ready₀ waiting₀ frame₀ i₀ ready waiting frame i = (i ≤ 64) × Filled isReady (machine .tokens) ready i × Filled isWaiting (machine .tokens) waiting i × Filled isFrame (machine .tokens) frame i
+Inv-loop machine ready₀ waiting₀ frame₀ i₀ ready waiting frame i =
+    (i ≤ 64) × Filled isReady (machine .tokens) ready i × Filled isWaiting (machine .tokens) waiting i × Filled isFrame (machine .tokens) frame i
 
 abbrev μ-loop : tie.MeasureT-loop
 μ-loop machine ready₀ waiting₀ frame₀ i₀ ready waiting frame i = 64 - i
@@ -22,9 +22,11 @@ loop-holds c = (search needs, (refl, refl), (refl, refl), (refl, refl))
 
 loop-again : tie.Need-loop-again Inv-loop μ-loop
 loop-again c =
-    let tokens = c .before .before .before .before .args .t1 .tokens in
+    let place3 = c .before .before .before in
+    let place4 = place3 .before in
+    let tokens = place4 .args .t1 .tokens in
     let long : length tokens ≡ 64 = search (needs, mapped) in
-    let now = c .before .before .before .loop in
+    let now = place3 .loop in
     let number = c .state-number .ensures in (
       search needs,
       marks-turn isReady tokens (now .ready) (now .i) long (now .inv .1) _ (search needs) (ap (λ n. eqb n 1) number ∙ ready-is _),

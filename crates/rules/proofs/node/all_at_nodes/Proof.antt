@@ -1,5 +1,5 @@
 -- `node::all_at_nodes` meets its contract: after i turns the flag says whether the first i tokens keep their nodes' rules. Assumes nothing.
-use mathlib.Core.Path.{_≡_, refl, subst}
+use mathlib.Core.Path.{_≡_, subst}
 use Prim.Native.Nat.{_-_, _≤_, _<_}
 use native.Mathlib.Omega.{arith}
 use lib.ListN.{length, getD, take}
@@ -25,9 +25,10 @@ loop-holds c = search needs
 
 at-node-requires : tie.Need-at-node-requires Inv-loop μ-loop
 at-node-requires c κs =
-    let start = c .before .before .before .before in
+    let place2 = c .before .before in
+    let start = place2 .before .before in
     let tokens = start .args .t1 .tokens in
-    let i = c .before .before .loop .i in
+    let i = place2 .loop .i in
     let long : length tokens ≡ 64 = search (needs, mapped) in (
       start .pre .0 .0,
       start .pre .0 .1,
@@ -36,12 +37,13 @@ at-node-requires c κs =
 
 loop-again : tie.Need-loop-again Inv-loop μ-loop
 loop-again c =
-    let start = c .before .before .before .before .before in
+    let place3 = c .before .before .before in
+    let start = place3 .before .before in
     let dag = start .args .dag .now in
     let tokens = start .args .t1 .tokens in
     let long : length tokens ≡ 64 = search (needs, mapped) in (
       search needs,
-      all-turn (atNode (dagOf dag) tokens) tokens (c .before .before .before .loop .i) _ (omega arith) (c .before .before .before .loop .inv .1)
+      all-turn (atNode (dagOf dag) tokens) tokens (place3 .loop .i) _ (omega arith) (place3 .loop .inv .1)
           (c .at-node .ensures tokens long (start .pre .1 .1)),
     )
 

@@ -1,5 +1,5 @@
 -- `node::at_node` meets its contract: the token's row is that of its node. Assumes nothing.
-use mathlib.Core.Path.{_≡_, _∙_, ap, sym}
+use mathlib.Core.Path.{_∙_, ap}
 use native.Mathlib.Omega.{arith}
 use Prim.Native.Nat.{_+_, _*_}
 use Rattle.model.specs.Job.Words.{nodeBy}
@@ -11,21 +11,28 @@ use Rattle.rules.proofs.node.at_node.Statement.{statement}
 use Rattle.rules.proofs.node.at_node.Tie as tie
 
 returns : tie.Need-returns
-returns c = λ ts e f.
+returns c =
     let start = c .before .before .before in
+    λ ts e f.
     at-none (start .args .dag .now) (start .pre .0) (start .pre .1) ts (start .args .token) (c .before .state-number .ensures) (c .if1 .taken)
 
 part-node-rule-end : tie.Need-part-node-rule-end
-part-node-rule-end c = let start = c .before .before .before .before .before in omega (arith, nodes-few (start .args .dag .now) (start .pre .0) (start .pre .1))
+part-node-rule-end c =
+    let start = c .before .before .before .before .before in
+    let start = start in omega (arith, nodes-few (start .args .dag .now) (start .pre .0) (start .pre .1))
 
 returns-2 : tie.Need-returns-2
-returns-2 c = λ ts e f.
-    let start = c .before .before .before .before .before .before .before in
+returns-2 c =
+    let place2 = c .before .before in
+    let place4 = place2 .before .before in
+    let place5 = place4 .before in
+    let start = place5 .before .before in
+    λ ts e f.
     let dag = start .args .dag .now in
     let token = start .args .token in
-    c .node-rule .ensures ts (c .before .before .names-frame .ensures ts e f)
+    c .node-rule .ensures ts (place2 .names-frame .ensures ts e f)
     ∙ ap (λ xs. nodeRule ts token (nodeBy xs)) (row-part (67 + 12 * token .node) dag)
-    ∙ at-row dag (start .pre .0) (start .pre .1) ts token (c .before .before .before .before .before .state-number .ensures) (c .before .before .before .before .if1 .left) (start .pre .2)
+    ∙ at-row dag (start .pre .0) (start .pre .1) ts token (place5 .state-number .ensures) (place4 .if1 .left) (start .pre .2)
 
 pub at-node-spec : {M : Type 1} → statement M
 at-node-spec =

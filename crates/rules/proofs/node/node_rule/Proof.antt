@@ -1,5 +1,4 @@
 -- `node::node_rule` meets its contract, kind by kind. Assumes nothing.
-use mathlib.Core.Path.{_∙_, sym}
 use Rattle.model.specs.Job.Words.{nodeBy}
 use Rattle.model.specs.Machine.Rules.{nodeRule}
 use Rattle.rules.proofs.Both.{both, NoneBelow, none-below}

@@ -8,8 +8,11 @@ use Rattle.rules.proofs.node.params_are_bound.Tie as tie
 
 returns : tie.Need-returns
 returns c =
-    let start = c .before .before .before .before .before .before .before .before .before .before .before .before .before in
-    four (c .before .before .before .before .before .before .before .before .before .pair-is-bound .ensures) (c .before .before .before .before .before .before .pair-is-bound2 .ensures) (c .before .before .before .pair-is-bound3 .ensures) (c .pair-is-bound4 .ensures)
+    let place3 = c .before .before .before in
+    let place6 = place3 .before .before .before in
+    let place9 = place6 .before .before .before in
+    let start = place9 .before .before .before .before in
+    four (place9 .pair-is-bound .ensures) (place6 .pair-is-bound2 .ensures) (place3 .pair-is-bound3 .ensures) (c .pair-is-bound4 .ensures)
     ∙ sym (params-bound (start .args .binds) (start .args .row .now) (start .pre) (start .args .count))
 
 pub params-are-bound-spec : {M : Type 1} → statement M

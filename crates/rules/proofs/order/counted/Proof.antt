@@ -20,7 +20,9 @@ unfolding count
 loop-holds c = (search needs, refl, λ p l. getD-replicate 64 p 0 0 l)
 
 array-read-c : tie.Need-array-read-c Inv-loop μ-loop
-array-read-c c = named-below (c .before .before .args .t1) (c .before .before .args .n) (c .before .loop .i) (search needs) (search needs) (search needs) (c .before .before .pre .1)
+array-read-c c =
+    let place2 = c .before .before in
+    named-below (place2 .args .t1) (place2 .args .n) (c .before .loop .i) (search needs) (search needs) (search needs) (place2 .pre .1)
 
 add-counts : tie.Need-add-counts Inv-loop μ-loop
 add-counts c =
@@ -32,7 +34,9 @@ add-counts c =
     omega (arith, count-small array (now .counts) (now .i) (now .inv .1) (omega arith) (now .inv .2) (getD array (now .i) 0) b)
 
 array-write-counts : tie.Need-array-write-counts Inv-loop μ-loop
-array-write-counts c = named-below (c .before .before .args .t1) (c .before .before .args .n) (c .before .loop .i) (search needs) (search needs) (search needs) (c .before .before .pre .1)
+array-write-counts c =
+    let place2 = c .before .before in
+    named-below (place2 .args .t1) (place2 .args .n) (c .before .loop .i) (search needs) (search needs) (search needs) (place2 .pre .1)
 
 loop-again : tie.Need-loop-again Inv-loop μ-loop
 loop-again c =

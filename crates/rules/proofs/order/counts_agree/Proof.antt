@@ -1,7 +1,7 @@
 -- `order::counts_agree` meets its contract: after i turns the flag says whether the first i counts agree. Assumes nothing.
-use mathlib.Core.Path.{_≡_, refl, ap}
-use mathlib.Core.Bool.{Bool, false}
-use Prim.Native.Nat.{ℕ, _-_, _≤_}
+use mathlib.Core.Path.{_≡_, ap}
+use mathlib.Core.Bool.{Bool}
+use Prim.Native.Nat.{_-_, _≤_}
 use native.Mathlib.Omega.{arith}
 use lib.ListN.{length, getD, take}
 use lib.Dec.{eqb}
@@ -34,7 +34,8 @@ loop-again c =
 
 returns : tie.Need-returns Inv-loop μ-loop
 returns c =
-    let args = c .before .before .args in
+    let place2 = c .before .before in
+    let args = place2 .args in
     let long : length (args .t2) ≡ 64 = search needs in
     done (allFrom (λ p (w : Bool). eqb (getD (args .t1) p 0) (once w)) 0) (args .t2) (c .before .loop .i) (omega arith) (c .before .loop .inv .1)
 

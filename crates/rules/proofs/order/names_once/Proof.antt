@@ -1,5 +1,5 @@
 -- `order::names_once` meets its contract: each answer is that of the rule which decides. Assumes nothing.
-use mathlib.Core.Path.{_≡_, sym, _∙_, ap}
+use mathlib.Core.Path.{sym, _∙_, ap}
 use mathlib.Core.Bool.{Bool}
 use lib.ListN.{getD}
 use lib.Dec.{eqb}
@@ -15,17 +15,23 @@ returns : tie.Need-returns
 returns c = λ of ts e f. order-long of ts _ _ e (search needs) (search needs)
 
 returns-2 : tie.Need-returns-2
-returns-2 c = λ of ts e f. order-wild of ts _ _ e (search needs) (search needs) (sym (c .before .order-in-range .ensures) ∙ not-true _ (c .if2 .taken))
+returns-2 c =
+    λ of ts e f. order-wild of ts _ _ e (search needs) (search needs) (sym (c .before .order-in-range .ensures) ∙ not-true _ (c .if2 .taken))
 
 counted-requires : tie.Need-counted-requires
 counted-requires c κs = (search needs, sym (c .before .order-in-range .ensures) ∙ not-false _ (c .if2 .left))
 
 returns-3 : tie.Need-returns-3
-returns-3 c = λ of ts e f.
-    let counts = c .before .before .counted .result in
+returns-3 c =
+    let place2 = c .before .before in
+    let place3 = place2 .before in
+    let place4 = place3 .before in
+    let place6 = place4 .before .before in
+    λ of ts e f.
+    let counts = place2 .counted .result in
     both (c .before .counts-agree .ensures ∙ ap (allFrom (λ p (w : Bool). eqb (getD counts p 0) (once w)) 0) f) (c .rest-is-zero .ensures)
-    ∙ order-counted of ts (c .before .before .before .before .before .before .args .array) (c .before .before .before .before .before .before .args .n) e (search needs) counts (search needs)
-    (sym (c .before .before .before .before .order-in-range .ensures) ∙ not-false _ (c .before .before .before .if2 .left)) (c .before .before .counted .ensures)
+    ∙ order-counted of ts (place6 .args .array) (place6 .args .n) e (search needs) counts (search needs)
+    (sym (place4 .order-in-range .ensures) ∙ not-false _ (place3 .if2 .left)) (place2 .counted .ensures)
 
 pub names-once-spec : {M : Type 1} → statement M
 names-once-spec =

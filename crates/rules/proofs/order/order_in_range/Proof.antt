@@ -22,7 +22,8 @@ loop-holds c = search needs
 
 loop-again : tie.Need-loop-again Inv-loop μ-loop
 loop-again c =
-    let array = c .before .before .args .t1 in
+    let place2 = c .before .before in
+    let array = place2 .args .t1 in
     let long : length array ≡ 64 = search needs in
     (search needs, all-turn (λ (p : ℕ). ltb p 64) array (c .before .loop .i) 0 (omega arith) (c .before .loop .inv .1) refl)
 

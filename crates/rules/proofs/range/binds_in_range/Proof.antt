@@ -1,7 +1,6 @@
 -- `range::binds_in_range` meets its contract: after i turns the flag says whether the first i bindings are in range. Assumes nothing.
 use mathlib.Core.Path.{_≡_}
 use Prim.Native.Nat.{_-_, _≤_}
-use native.Mathlib.Omega.{arith}
 use lib.ListN.{take}
 use Rattle.model.specs.Test.{all}
 use Rattle.model.specs.Machine.Rules.{slotInRange}
@@ -22,14 +21,18 @@ unfolding all
 loop-holds c = search needs
 
 loop-again : tie.Need-loop-again Inv-loop μ-loop
-loop-again c = (
-  search needs,
-  all-turn (λ (b : Bind). slotInRange 32 (b .slot)) (c .before .before .before .before .args .t1) (c .before .before .before .loop .i) _ (search needs) (c .before .before .before .loop .inv .1)
-      (c .slot-in-range .ensures),
-)
+loop-again c =
+    let place3 = c .before .before .before in
+    let place4 = place3 .before in (
+      search needs,
+      all-turn (λ (b : Bind). slotInRange 32 (b .slot)) (place4 .args .t1) (place3 .loop .i) _ (search needs) (place3 .loop .inv .1)
+          (c .slot-in-range .ensures),
+    )
 
 returns : tie.Need-returns Inv-loop μ-loop
-returns c = done (all (λ (b : Bind). slotInRange 32 (b .slot))) (c .before .before .args .t1) (c .before .loop .i) (search needs) (c .before .loop .inv .1)
+returns c =
+    let place2 = c .before .before in
+    done (all (λ (b : Bind). slotInRange 32 (b .slot))) (place2 .args .t1) (c .before .loop .i) (search needs) (c .before .loop .inv .1)
 
 pub binds-in-range-spec : {M : Type 1} → statement M
 binds-in-range-spec =

@@ -14,7 +14,8 @@ returns c = search needs
 returns-2 : tie.Need-returns-2
 unfolding heldInRange
 returns-2 c =
-    rw (c .before .before .held .given .1) (c .value-in-range .ensures ∙ ap fits (toZ-ofZ (record { sfits = c .before .known-told .given .0 .1 })))
+    let place2 = c .before .before in
+    rw (place2 .held .given .1) (c .value-in-range .ensures ∙ ap fits (toZ-ofZ (record { sfits = c .before .known-told .given .0 .1 })))
 
 pub held-in-range-spec : {M : Type 1} → statement M
 held-in-range-spec =

@@ -7,7 +7,9 @@ use Rattle.rules.proofs.range.in_range.Tie as tie
 
 returns : tie.Need-returns
 unfolding inRange
-returns c = λ d e. three (c .before .before .sizes-in-range .ensures d) (c .before .tokens-in-range .ensures d e) (c .cells-in-range .ensures d)
+returns c =
+    let place2 = c .before .before in
+    λ d e. three (place2 .sizes-in-range .ensures d) (c .before .tokens-in-range .ensures d e) (c .cells-in-range .ensures d)
 
 pub in-range-spec : {M : Type 1} → statement M
 in-range-spec =

@@ -14,7 +14,8 @@ returns c = search needs
 returns-2 : tie.Need-returns-2
 unfolding slotInRange
 returns-2 c =
-    rw (c .before .before .slot .given .1) (c .value-in-range .ensures ∙ ap fits (toZ-ofZ (record { sfits = c .before .known-told .given .0 .1 })))
+    let place2 = c .before .before in
+    rw (place2 .slot .given .1) (c .value-in-range .ensures ∙ ap fits (toZ-ofZ (record { sfits = c .before .known-told .given .0 .1 })))
 
 returns-3 : tie.Need-returns-3
 unfolding slotInRange

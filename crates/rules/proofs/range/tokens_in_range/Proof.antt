@@ -1,6 +1,6 @@
 -- `range::tokens_in_range` meets its contract: after i turns the flag says whether the first i tokens are in range. Assumes nothing.
 use mathlib.Core.Path.{_≡_, refl}
-use Prim.Native.Nat.{_-_, _≤_, _<_}
+use Prim.Native.Nat.{_-_, _≤_}
 use native.Mathlib.Omega.{arith}
 use lib.ListN.{length, take}
 use Rattle.model.specs.Test.{all}
@@ -13,7 +13,8 @@ use Rattle.rules.proofs.range.tokens_in_range.Statement.{statement}
 use Rattle.rules.proofs.range.tokens_in_range.Tie as tie
 
 abbrev Inv-loop : tie.InvT-loop
-Inv-loop nodes machine calls ok₀ i₀ ok i = (i ≤ 64) × ((d : Dag) → length (d .nodes) ≡ nodes → ok ≡ all (tokenInRange paper d (machine .calls)) (take i (machine .tokens)))
+Inv-loop nodes machine calls ok₀ i₀ ok i =
+    (i ≤ 64) × ((d : Dag) → length (d .nodes) ≡ nodes → ok ≡ all (tokenInRange paper d (machine .calls)) (take i (machine .tokens)))
 
 abbrev μ-loop : tie.MeasureT-loop
 μ-loop nodes machine calls ok₀ i₀ ok i = 64 - i
@@ -24,15 +25,18 @@ loop-holds c = (search needs, λ d e. refl)
 
 loop-again : tie.Need-loop-again Inv-loop μ-loop
 loop-again c =
-    let machine = c .before .before .before .before .args .t1 in
+    let place3 = c .before .before .before in
+    let place4 = place3 .before in
+    let machine = place4 .args .t1 in
     let long : length (machine .tokens) ≡ 64 = search (needs, mapped) in (
       search needs,
-      λ d e. all-turn (tokenInRange paper d (machine .calls)) (machine .tokens) (c .before .before .before .loop .i) _ (omega arith) (c .before .before .before .loop .inv .1 d e) (c .token-in-range .ensures d e),
+      λ d e. all-turn (tokenInRange paper d (machine .calls)) (machine .tokens) (place3 .loop .i) _ (omega arith) (place3 .loop .inv .1 d e) (c .token-in-range .ensures d e),
     )
 
 returns : tie.Need-returns Inv-loop μ-loop
 returns c =
-    let machine = c .before .before .args .t1 in
+    let place2 = c .before .before in
+    let machine = place2 .args .t1 in
     let long : length (machine .tokens) ≡ 64 = search (needs, mapped) in
     λ d e. done (all (tokenInRange paper d (machine .calls))) (machine .tokens) (c .before .loop .i) (omega arith) (c .before .loop .inv .1 d e)
 

@@ -8,8 +8,11 @@ use Rattle.rules.proofs.row.params_kept.Tie as tie
 
 returns : tie.Need-returns
 returns c =
-    let start = c .before .before .before .before .before .before .before .before .before .before .before .before .before in
-    four (c .before .before .before .before .before .before .before .before .before .pair-kept .ensures) (c .before .before .before .before .before .before .pair-kept2 .ensures) (c .before .before .before .pair-kept3 .ensures) (c .pair-kept4 .ensures)
+    let place3 = c .before .before .before in
+    let place6 = place3 .before .before .before in
+    let place9 = place6 .before .before .before in
+    let start = place9 .before .before .before .before in
+    four (place9 .pair-kept .ensures) (place6 .pair-kept2 .ensures) (place3 .pair-kept3 .ensures) (c .pair-kept4 .ensures)
     ∙ sym (params-are (start .args .row .now) (start .pre) (start .args .count))
 
 pub params-kept-spec : {M : Type 1} → statement M

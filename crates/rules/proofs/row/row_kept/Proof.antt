@@ -10,8 +10,10 @@ use Rattle.rules.proofs.row.row_kept.Tie as tie
 returns : tie.Need-returns
 unfolding rowKept
 returns c =
-    both (c .before .before .head-kept .ensures)
-    (c .params-kept .ensures ∙ ap (λ n. paramWordsKept 4 n (drop 4 (c .before .before .before .before .before .before .before .before .args .row .now))) (c .before .count-of .ensures))
+    let place2 = c .before .before in
+    let place8 = place2 .before .before .before .before .before .before in
+    both (place2 .head-kept .ensures)
+    (c .params-kept .ensures ∙ ap (λ n. paramWordsKept 4 n (drop 4 (place8 .args .row .now))) (c .before .count-of .ensures))
 
 pub row-kept-spec : {M : Type 1} → statement M
 row-kept-spec =

@@ -16,44 +16,60 @@ use borrow.Author.Needs.{needs}
 use Rattle.rules.proofs.rules.machine_kept.Statement.{statement}
 use Rattle.rules.proofs.rules.machine_kept.Tie as tie
 
+sixty-four : (c : tie.Start) → length (c .args .machine .tokens) ≡ 64
+sixty-four c = search (needs, mapped)
+
 returns : tie.Need-returns
 returns c =
     let dag = c .before .before .before .before .args .dag .now in
-    out-of-range (dagOf dag) (c .before .before .before .before .args .machine) (sym (c .before .in-range .ensures (dagOf dag) (nodes-length dag)) ∙ not-true _ (c .if1 .taken))
+    out-of-range (dagOf dag) (c .before .before .before .before .args .machine)
+    (sym (c .before .in-range .ensures (dagOf dag) (nodes-length dag)) ∙ not-true _ (c .if1 .taken))
 
 all-at-nodes-requires : tie.Need-all-at-nodes-requires
 all-at-nodes-requires c κs =
-    let start = c .before .before .before .before .before .before .before .before .before .before in
+    let place6 = c .before .before .before .before .before .before in
+    let place7 = place6 .before in
+    let place8 = place7 .before in
+    let start = place8 .before .before .before in
     let dag = start .args .dag .now in
     let machine = start .args .machine in
-    let long : length (machine .tokens) ≡ 64 = search (needs, mapped) in
-    let ranged = sym (c .before .before .before .before .before .before .before .in-range .ensures (dagOf dag) (nodes-length dag)) ∙ not-false _ (c .before .before .before .before .before .before .if1 .left) in (
+    let ranged = sym (place8 .in-range .ensures (dagOf dag) (nodes-length dag)) ∙ not-false _ (place7 .if1 .left) in (
       start .pre .0,
       (
-        λ i l. subst (λ n. tokenAt (machine .tokens) i .node < n) (nodes-length dag) (node-below (dagOf dag) machine long ranged i l),
-        ap (λ (m : Marks). m .frame) (c .before .before .before .before .before .read .ensures),
+        λ i l. subst (λ n. tokenAt (machine .tokens) i .node < n) (nodes-length dag) (node-below (dagOf dag) machine (sixty-four start) ranged i l),
+        ap (λ (m : Marks). m .frame) (place6 .read .ensures),
       ),
     )
 
 returns-2 : tie.Need-returns-2
 returns-2 c =
-    let start = c .before .before .before .before .before .before .before .before .before .before .before .before .before .before .before .before .before .before .before in
+    let place2 = c .before .before in
+    let place3 = place2 .before in
+    let place4 = place3 .before in
+    let place5 = place4 .before in
+    let place6 = place5 .before in
+    let place7 = place6 .before in
+    let place8 = place7 .before in
+    let place15 = place8 .before .before .before .before .before .before .before in
+    let place16 = place15 .before in
+    let place17 = place16 .before in
+    let start = place17 .before .before .before in
     let dag = start .args .dag .now in
     let machine = start .args .machine in
-    let long : length (machine .tokens) ≡ 64 = search (needs, mapped) in
-    let ranged = sym (c .before .before .before .before .before .before .before .before .before .before .before .before .before .before .before .before .in-range .ensures (dagOf dag) (nodes-length dag)) ∙ not-false _ (c .before .before .before .before .before .before .before .before .before .before .before .before .before .before .before .if1 .left) in
-    let marks = c .before .before .before .before .before .before .before .before .before .before .before .before .before .before .read .ensures in
+    let ranged = sym (place17 .in-range .ensures (dagOf dag) (nodes-length dag)) ∙ not-false _ (place16 .if1 .left) in
+    let marks = place15 .read .ensures in
     let used = start .pre .1 .0 in
-    four (c .before .before .names-once2 .ensures isReady (machine .tokens) long (ap (λ (m : Marks). m .ready) marks))
+    four (place2 .names-once2 .ensures isReady (machine .tokens) (sixty-four start) (ap (λ (m : Marks). m .ready) marks))
     (c .before .chains-end .ensures)
     (c .none-under-set .ensures)
-    (four (c .before .before .before .before .before .handles-differ .ensures)
-    (c .before .before .before .before .names-once .ensures isWaiting (machine .tokens) long (ap (λ (m : Marks). m .waiting) marks))
-    (c .before .before .before .all-wait-at-unset .ensures)
-    (three (c .before .before .before .before .before .before .before .before .all-at-nodes .ensures)
-    (c .before .before .before .before .before .before .before .other-tokens-blank .ensures ∙ ap (λ us. restIsBlank tokenIsBlank us (machine .tokens)) used)
-    (c .before .before .before .before .before .before .other-cells-blank .ensures
-    ∙ ap (λ us. restIsBlank cellIsBlank us (machine .cells)) (start .pre .1 .1 ∙ ap (λ us. usedCells us (machine .tokens) (machine .cells)) used))))
+    (four (place5 .handles-differ .ensures)
+    (place4 .names-once .ensures isWaiting (machine .tokens) (sixty-four start) (ap (λ (m : Marks). m .waiting) marks))
+    (place3 .all-wait-at-unset .ensures)
+    (three (place8 .all-at-nodes .ensures)
+    (place7 .other-tokens-blank .ensures ∙ ap (λ us. restIsBlank tokenIsBlank us (machine .tokens)) used)
+    (place6 .other-cells-blank .ensures
+    ∙ ap (λ us. restIsBlank cellIsBlank us (machine .cells))
+    (start .pre .1 .1 ∙ ap (λ us. usedCells us (machine .tokens) (machine .cells)) used))))
     ∙ within-range (dagOf dag) machine ranged
 
 pub machine-kept-spec : {M : Type 1} → statement M

@@ -6,10 +6,16 @@ use Rattle.rules.proofs.rules.rules_kept.Statement.{statement}
 use Rattle.rules.proofs.rules.rules_kept.Tie as tie
 
 machine-kept-requires : tie.Need-machine-kept-requires
-machine-kept-requires c κs = ((search needs, sym (c .before .before .words-kept .ensures) ∙ c .before .if1 .taken), c .before .before .before .before .pre)
+machine-kept-requires c κs =
+    let place2 = c .before .before in
+    let place4 = place2 .before .before in
+    ((search needs, sym (place2 .words-kept .ensures) ∙ c .before .if1 .taken), place4 .pre)
 
 returns : tie.Need-returns
-returns c = c .machine-kept .ensures ∙ dag-keeps _ _ (sym (c .before .before .before .words-kept .ensures) ∙ c .before .before .if1 .taken)
+returns c =
+    let place2 = c .before .before in
+    let place3 = place2 .before in
+    c .machine-kept .ensures ∙ dag-keeps _ _ (sym (place3 .words-kept .ensures) ∙ place2 .if1 .taken)
 
 returns-2 : tie.Need-returns-2
 returns-2 c = dag-breaks _ _ (sym (c .before .words-kept .ensures) ∙ c .if1 .left)

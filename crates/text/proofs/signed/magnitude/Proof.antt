@@ -24,7 +24,8 @@ returns : tie.Need-returns
 returns c =
     let v = c .before .fits .v in
     let k = rw (toZ-ofZ v) at (c .if1 .taken) in
-    simp (toZ-ofZ v, toZ-ofZ (sfits-widen {w′ = w64} tt v), toZ-ofZ (negative-fits (c .before .args .v) v k)) (negative-magnitude (c .before .args .v) k)
+    simp (toZ-ofZ v, toZ-ofZ (sfits-widen {w′ = w64} tt v), toZ-ofZ (negative-fits (c .before .args .v) v k))
+    (negative-magnitude (c .before .args .v) k)
 
 cast-result-3 : tie.Need-cast-result-3
 cast-result-3 c =

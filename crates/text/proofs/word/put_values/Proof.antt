@@ -17,7 +17,8 @@ use Rattle.text.proofs.word.put_values.Statement.{statement}
 use Rattle.text.proofs.word.put_values.Tie as tie
 
 abbrev Inv-loop : tie.InvT-loop
-Inv-loop buffer₀ at count values to₀ i₀ buffer to i = (i ≤ count) × Written (12 * i) buffer₀ at (allSpaced (map decimalZ (take i values))) buffer to
+Inv-loop buffer₀ at count values to₀ i₀ buffer to i =
+    (i ≤ count) × Written (12 * i) buffer₀ at (allSpaced (map decimalZ (take i values))) buffer to
 
 abbrev μ-loop : tie.MeasureT-loop
 μ-loop buffer₀ at count values to₀ i₀ buffer to i = count - i
