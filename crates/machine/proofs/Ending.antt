@@ -43,14 +43,6 @@ module _ (ws : List ℕ) (m : Machine) where
   abbrev d : Dag
   d = dagOf ws
 
-  pub both-kept : true ≡ dagKept d → (b : Bool) → b ≡ machineKept paper d m → b ≡ rulesKept paper d m
-  unfolding rulesKept _and_
-  both-kept e b q = rw (← e) q
-
-  pub dag-broken : false ≡ dagKept d → false ≡ rulesKept paper d m
-  unfolding rulesKept _and_
-  dag-broken e = rw (← e) refl
-
   pub step-taken : (place : ℕ) (o : Outcome) → rulesKept paper d m ≡ true → place < m .queued → o ≡ finishedOutcome (stepped ws m place)
       → o ≡ Step.step paper d m place
   unfolding Step.step unless

@@ -6,7 +6,7 @@ ghost use Rattle.model.specs.Machine.Limits.{paper};
 use acts::act::refused;
 use acts::answer::answered;
 use crate::finished::finished;
-use crate::kept::rules_kept;
+use rules::rules::rules_kept;
 use model::record::Machine;
 use model::reply::Outcome;
 use model::reply::Refusal;

@@ -10,7 +10,7 @@ ghost use Rattle.acts.specs.Acting.{stepped};
 use acts::act::act;
 use acts::act::refused;
 use crate::finished::finished;
-use crate::kept::rules_kept;
+use rules::rules::rules_kept;
 use model::record::Machine;
 use model::reply::Outcome;
 use model::reply::Refusal;
