@@ -7,6 +7,6 @@ use Rattle.model.specs.declared.reply.Outcome.{Outcome}
 unfoldable pub finishedOutcome : Outcome → Outcome
 finishedOutcome o =
     elim (isRefused (o .reply)) [
-      true ↦ o
-    | false ↦ record { reply = o .reply; values = o .values; machine = finish (o .machine) }
+      | true ↦ o
+      | false ↦ record { reply = o .reply; values = o .values; machine = finish (o .machine) }
     ]

@@ -3,15 +3,15 @@ ghost use mathlib.Core.Path.{_≡_};
 ghost use Rattle.model.specs.Job.Words.{dagOf};
 ghost use Rattle.model.specs.Machine.Answer as Answer;
 ghost use Rattle.model.specs.Machine.Limits.{paper};
+use crate::finished::finished;
 use acts::act::refused;
 use acts::answer::answered;
-use crate::finished::finished;
-use rules::rules::rules_kept;
 use model::record::Machine;
 use model::reply::Outcome;
 use model::reply::Refusal;
 use reach::used::used_cells;
 use reach::used::used_tokens;
+use rules::rules::rules_kept;
 
 // "An answer tests 14, 12."
 pub fn answer(machine: Machine, dag: &[u32; 12331], handle: u32, value: i32) -> Outcome

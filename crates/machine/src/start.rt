@@ -16,8 +16,16 @@ pub fn start(dag: &[u32; 12331]) -> Outcome
     if dag_kept(dag) {
         let goal = dag[2];
         let machine = Machine::start(goal as u16);
-        return Outcome { reply: Reply::Done, values: [0; 4], machine };
+        return Outcome {
+            reply: Reply::Done,
+            values: [0; 4],
+            machine,
+        };
     }
     let machine = Machine::blank();
-    Outcome { reply: Reply::Refused(Refusal::Rule), values: [0; 4], machine }
+    Outcome {
+        reply: Reply::Refused(Refusal::Rule),
+        values: [0; 4],
+        machine,
+    }
 }
