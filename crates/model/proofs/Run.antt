@@ -12,5 +12,6 @@ pub mod Last
 pub mod Meaning
 pub mod First
 pub mod Middle
+pub mod Loaded
 pub mod Worked
 pub mod Broken
