@@ -1,5 +1,5 @@
 // From a job table to a dag.
-pub mod body;
-pub mod head;
-pub mod program;
+mod body;
+mod head;
+mod program;
 pub mod table;
