@@ -56,7 +56,7 @@ module _ (ks os : List ℕ) (n : ℕ) (q : Checked) (eq : q ≡ checkedProgram (
         )
 
 -- two bytes at an index
-half-at : (s : List ℕ) (i : ℕ) → i + 2 ≤ length s → number (take 2 (drop i s)) ≡ getD s i 0 + 256 * getD s (i + 1) 0
+pub half-at : (s : List ℕ) (i : ℕ) → i + 2 ≤ length s → number (take 2 (drop i s)) ≡ getD s i 0 + 256 * getD s (i + 1) 0
 unfolding number
 half-at s i l = rw (add-one, drop-cons s i 0 (omega arith), drop-cons s (suc i) 0 (omega arith)) (omega arith)
 

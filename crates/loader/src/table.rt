@@ -16,7 +16,7 @@ pub enum Loaded {
 }
 
 // Two bytes, the lower first.
-fn half(low: u8, high: u8) -> usize
+pub fn half(low: u8, high: u8) -> usize
     ensures { λ r. ⌜ (r ≡ low + 256 * high) × (r < 65536) ⌝ }
 {
     low as usize + 256 * high as usize

@@ -1,5 +1,5 @@
 -- The start's two answers. Assumes nothing.
-use mathlib.Core.Path.{_≡_, refl, ap}
+use mathlib.Core.Path.{_≡_, refl, sym, ap}
 use mathlib.Core.Bool.{true, false}
 use mathlib.Core.List.{List, []}
 use Prim.Native.Nat.{ℕ, _<_, _^_}
@@ -36,3 +36,7 @@ pub goal-small : (ws : List ℕ) → true ≡ dagKept (dagOf ws) → getD ws 2 0
 unfolding dagOf
 goal-small ws e =
     let r = dag-rules (dagOf ws) (rw (← e) refl) in let a = r .goal in let b = r .nodes-few in omega arith
+
+pub start-machine : (ws : List ℕ) (m : Machine) → dagKept (dagOf ws) ≡ true → m ≡ startMachine paper (getD ws 2 0)
+    → m ≡ start paper (dagOf ws) .machine
+start-machine ws m e q = ap (λ (o : Outcome). o .machine) (start-begins ws m (sym e) q)

@@ -6,7 +6,7 @@ use model::reply::Outcome;
 use model::reply::Reply;
 use reach::finish::finish;
 
-fn is_refused(reply: Reply) -> bool
+pub fn is_refused(reply: Reply) -> bool
     ensures { λ r. ⌜ r ≡ isRefused reply ⌝ }
 {
     match reply {

@@ -1,5 +1,6 @@
 // The machine's public calls: start, step, answer. Each is for any record and any dag words, and equals its definition in crate `model`.
 pub mod answer;
 pub mod finished;
+pub mod kept;
 pub mod start;
 pub mod step;

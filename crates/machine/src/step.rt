@@ -26,7 +26,7 @@ fn whole(dag: &[u32])
 {}
 
 // The token's instruction, before blanking, with the places that new records would take.
-fn instruction(
+pub fn instruction(
     machine: Machine,
     dag: &[u32; 12331],
     place: usize,

@@ -14,18 +14,20 @@ fn word(a: u8, b: u8, c: u8, d: u8) -> u32
     a as u32 + 256 * (b as u32 + 256 * (c as u32 + 256 * d as u32))
 }
 
+// The number that the four bytes from an index on are.
+pub fn word_at(bytes: &[u8], i: usize) -> u32
+    requires { ⌜ i + 4 ≤ length (now bytes) ⌝ }
+    ensures { λ r. ⌜ r ≡ number (take 4 (drop i (now (bytes .entry)))) ⌝ }
+{
+    word(bytes[i], bytes[i + 1], bytes[i + 2], bytes[i + 3])
+}
+
 // The operand of entry `at`.
 pub fn operand(operands: &[u8], at: usize) -> u32
     requires { ⌜ (at < 512) × (4 * at + 4 ≤ length (now operands)) ⌝ }
     ensures { λ r. ⌜ r ≡ number (take 4 (drop (4 * at) (now (operands .entry)))) ⌝ }
 {
-    let i = 4 * at;
-    word(
-        operands[i],
-        operands[i + 1],
-        operands[i + 2],
-        operands[i + 3],
-    )
+    word_at(operands, 4 * at)
 }
 
 // Does the operand of an expression's entry keep to its row of the table?

@@ -69,15 +69,15 @@ digits-more-written most n at last before middle h l w =
 
 -- the room that the code has
 
-pub room-one : (most n at : ℕ) → (most ≡ 0 → ⊥) → n < 10 → at + length (digits most n) ≤ 4096 → at < 4096
+pub room-one : (most n at : ℕ) → (most ≡ 0 → ⊥) → n < 10 → at + length (digits most n) ≤ 80 → at < 80
 room-one most n at h l r = omega (arith, length-one most n h l)
 
-pub room-front : (most n at : ℕ) → (most ≡ 0 → ⊥) → 10 ≤ n → at + length (digits most n) ≤ 4096
-    → at + length (digits (most - 1) (n / 10)) ≤ 4096
+pub room-front : (most n at : ℕ) → (most ≡ 0 → ⊥) → 10 ≤ n → at + length (digits most n) ≤ 80
+    → at + length (digits (most - 1) (n / 10)) ≤ 80
 room-front most n at h l r = omega (arith, length-more most n h l)
 
-pub room-last : (most n at last : ℕ) (before middle : List ℕ) → (most ≡ 0 → ⊥) → 10 ≤ n → at + length (digits most n) ≤ 4096
-    → Written (most - 1) before at (digits (most - 1) (n / 10)) middle last → last < 4096
+pub room-last : (most n at last : ℕ) (before middle : List ℕ) → (most ≡ 0 → ⊥) → 10 ≤ n → at + length (digits most n) ≤ 80
+    → Written (most - 1) before at (digits (most - 1) (n / 10)) middle last → last < 80
 room-last most n at last before middle h l r w = let b = w .behind in omega (arith, length-more most n h l)
 
 -- a number of 32 bits has at most ten digits
@@ -86,7 +86,7 @@ decimal-few : (n : ℕ) → Fits w32 n → length (decimal n) ≤ 10
 unfolding decimal
 decimal-few n f = digits-few 20 n 9 (omega (arith, f .fits))
 
-pub decimal-room : (n at : ℕ) → Fits w32 n → at + 10 ≤ 4096 → at + length (digits 20 n) ≤ 4096
+pub decimal-room : (n at : ℕ) → Fits w32 n → at + 10 ≤ 80 → at + length (digits 20 n) ≤ 80
 unfolding decimal
 decimal-room n at f r = omega (arith, decimal-few n f)
 

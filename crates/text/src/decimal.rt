@@ -5,8 +5,8 @@ ghost use Rattle.model.specs.Lines.Line.{digits, decimal};
 ghost use Rattle.text.specs.Written.{Written};
 
 // So many digits at most: the front ones first, then the last.
-fn put_digits(buffer: &mut [u8; 4096], at: usize, most: usize, n: u32) -> usize
-    requires { ⌜ at + length (digits most n) ≤ 4096 ⌝ }
+fn put_digits(buffer: &mut [u8; 80], at: usize, most: usize, n: u32) -> usize
+    requires { ⌜ at + length (digits most n) ≤ 80 ⌝ }
     ensures { λ r. ⌜ Written most (now (buffer .entry)) at (digits most n) (now (buffer .exit)) r ⌝ }
 {
     if most == 0 {
@@ -21,8 +21,8 @@ fn put_digits(buffer: &mut [u8; 4096], at: usize, most: usize, n: u32) -> usize
     last + 1
 }
 
-pub fn put_decimal(buffer: &mut [u8; 4096], at: usize, n: u32) -> usize
-    requires { ⌜ at + 10 ≤ 4096 ⌝ }
+pub fn put_decimal(buffer: &mut [u8; 80], at: usize, n: u32) -> usize
+    requires { ⌜ at + 10 ≤ 80 ⌝ }
     ensures { λ r. ⌜ Written 10 (now (buffer .entry)) at (decimal n) (now (buffer .exit)) r ⌝ }
 {
     put_digits(buffer, at, 20, n)

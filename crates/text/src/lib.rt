@@ -1,4 +1,4 @@
-// The lines that a run prints, as bytes in a lent buffer of 4096 bytes, from a position on; each answers the position behind them.
+// The lines that a run prints, as bytes in a lent buffer that holds the longest, from a position on; each answers the position behind them.
 pub mod decimal;
 pub mod line;
 pub mod signed;

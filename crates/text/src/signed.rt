@@ -16,8 +16,8 @@ fn magnitude(v: i32) -> u32
     v as u32
 }
 
-pub fn put_signed(buffer: &mut [u8; 4096], at: usize, v: i32) -> usize
-    requires { ⌜ at + 11 ≤ 4096 ⌝ }
+pub fn put_signed(buffer: &mut [u8; 80], at: usize, v: i32) -> usize
+    requires { ⌜ at + 11 ≤ 80 ⌝ }
     ensures { λ r. ⌜ Written 11 (now (buffer .entry)) at (decimalZ v) (now (buffer .exit)) r ⌝ }
 {
     if v < 0 {

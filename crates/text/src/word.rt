@@ -7,8 +7,8 @@ ghost use lib.ListN.{length, take};
 ghost use Rattle.model.specs.Lines.Line.{decimal, decimalZ};
 ghost use Rattle.text.specs.Written.{Written, spaced, allSpaced, feed};
 
-pub fn put_word(buffer: &mut [u8; 4096], at: usize, word: &[u8]) -> usize
-    requires { ⌜ at + length (now word) ≤ 4096 ⌝ }
+pub fn put_word(buffer: &mut [u8; 80], at: usize, word: &[u8]) -> usize
+    requires { ⌜ at + length (now word) ≤ 80 ⌝ }
     ensures { λ r. ⌜ Written (length (now (word .entry))) (now (buffer .entry)) at (now (word .entry)) (now (buffer .exit)) r ⌝ }
 {
     let mut to = at;
@@ -21,24 +21,24 @@ pub fn put_word(buffer: &mut [u8; 4096], at: usize, word: &[u8]) -> usize
     to
 }
 
-pub fn put_number(buffer: &mut [u8; 4096], at: usize, n: u32) -> usize
-    requires { ⌜ at + 11 ≤ 4096 ⌝ }
+pub fn put_number(buffer: &mut [u8; 80], at: usize, n: u32) -> usize
+    requires { ⌜ at + 11 ≤ 80 ⌝ }
     ensures { λ r. ⌜ Written 11 (now (buffer .entry)) at (spaced (decimal n)) (now (buffer .exit)) r ⌝ }
 {
     buffer[at] = b' ';
     decimal::put_decimal(buffer, at + 1, n)
 }
 
-pub fn put_value(buffer: &mut [u8; 4096], at: usize, v: i32) -> usize
-    requires { ⌜ at + 12 ≤ 4096 ⌝ }
+pub fn put_value(buffer: &mut [u8; 80], at: usize, v: i32) -> usize
+    requires { ⌜ at + 12 ≤ 80 ⌝ }
     ensures { λ r. ⌜ Written 12 (now (buffer .entry)) at (spaced (decimalZ v)) (now (buffer .exit)) r ⌝ }
 {
     buffer[at] = b' ';
     signed::put_signed(buffer, at + 1, v)
 }
 
-pub fn put_values(buffer: &mut [u8; 4096], at: usize, values: [i32; 4], count: usize) -> usize
-    requires { ⌜ (at + 48 ≤ 4096) × (count ≤ 4) ⌝ }
+pub fn put_values(buffer: &mut [u8; 80], at: usize, values: [i32; 4], count: usize) -> usize
+    requires { ⌜ (at + 48 ≤ 80) × (count ≤ 4) ⌝ }
     ensures { λ r. ⌜ Written 48 (now (buffer .entry)) at (allSpaced (map decimalZ (take count values))) (now (buffer .exit)) r ⌝ }
 {
     let mut to = at;
@@ -50,8 +50,8 @@ pub fn put_values(buffer: &mut [u8; 4096], at: usize, values: [i32; 4], count: u
     to
 }
 
-pub fn put_feed(buffer: &mut [u8; 4096], at: usize) -> usize
-    requires { ⌜ at + 1 ≤ 4096 ⌝ }
+pub fn put_feed(buffer: &mut [u8; 80], at: usize) -> usize
+    requires { ⌜ at + 1 ≤ 80 ⌝ }
     ensures { λ r. ⌜ Written 1 (now (buffer .entry)) at feed (now (buffer .exit)) r ⌝ }
 {
     buffer[at] = b'\n';

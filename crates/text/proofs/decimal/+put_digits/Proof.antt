@@ -37,7 +37,7 @@ module _ (t : ℕ) where
   element-write-buffer c = search room-one
 
   add-result : lts.Need-add-result (claims t) (starts t) reads.Post
-  add-result c = let r : c .before .before .args .at < 4096 = search room-one in search needs
+  add-result c = let r : c .before .before .args .at < 80 = search room-one in search needs
 
   returns-2 : lts.Need-returns-2 (claims t) (starts t) reads.Post
   returns-2 c = search digits-one-written
@@ -58,7 +58,7 @@ module _ (t : ℕ) where
   element-write-buffer-2 c = search room-last
 
   add-result-2 : lts.Need-add-result-2 (claims t) (starts t) reads.Post
-  add-result-2 c = let r : c .put-digits .result < 4096 = search room-last in search needs
+  add-result-2 c = let r : c .put-digits .result < 80 = search room-last in search needs
 
   returns-3 : lts.Need-returns-3 (claims t) (starts t) reads.Post
   returns-3 c = search digits-more-written

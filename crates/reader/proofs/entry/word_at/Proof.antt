@@ -1,11 +1,8 @@
--- `entry::operand` meets its contract: its four bytes lie within the operands, and their number is the lowest byte first. Assumes nothing.
+-- `entry::word_at` meets its contract: its four bytes lie within the bytes, and their number is the lowest byte first. Assumes nothing.
 use borrow.Author.Needs.{needs}
 use Rattle.reader.proofs.Word.{number-at}
-use Rattle.reader.proofs.entry.operand.Statement.{statement}
-use Rattle.reader.proofs.entry.operand.Tie as tie
-
-mul-i : tie.Need-mul-i
-mul-i c = search needs
+use Rattle.reader.proofs.entry.word_at.Statement.{statement}
+use Rattle.reader.proofs.entry.word_at.Tie as tie
 
 shared-slice-read-word : tie.Need-shared-slice-read-word
 shared-slice-read-word c = search needs
@@ -34,11 +31,10 @@ word-requires c κs = search needs
 returns : tie.Need-returns
 returns c = search number-at
 
-pub operand-spec : {M : Type 1} → statement M
-operand-spec =
+pub word-at-spec : {M : Type 1} → statement M
+word-at-spec =
     tie.close
     (tie.spec
-    mul-i
     shared-slice-read-word
     add-word
     shared-slice-read-word-2
