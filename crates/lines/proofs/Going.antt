@@ -1,0 +1,152 @@
+-- A run that is under way: what was printed and what the turns left will print are the run's lines. Assumes nothing.
+use mathlib.Core.Path.{_≡_, refl, sym, _∙_, ap, subst}
+use mathlib.Core.Bool.{Bool, true, false}
+use mathlib.Core.List.{List, [], _∷_, _++_, append-assoc}
+use Prim.Native.Nat.{ℕ, zero, suc, _+_, _-_, _*_, _<_, _≤_}
+use native.Mathlib.Omega.{arith}
+use lib.ListN.{length, take, drop}
+use Rattle.model.specs.Number.{number, signed}
+use Rattle.model.specs.Job.Words.{dagOf}
+use Rattle.model.specs.Lines.Line.{Line, textOfAll, end, limit}
+use Rattle.model.specs.Lines.Orcrun.{Standing, Turn, on, over, turn, turns, runLines}
+use Rattle.model.specs.Machine.Limits.{paper}
+use Rattle.model.specs.Machine.Reply.{isRefused}
+use Rattle.model.specs.Machine.Rules.{rulesKept}
+use Rattle.model.specs.Machine.Start as Start
+use Rattle.model.specs.Machine.Step as Step
+use Rattle.model.specs.Machine.Answer as Answer
+use Rattle.model.specs.declared.record.Machine.{Machine}
+use Rattle.model.specs.declared.reply.Outcome.{Outcome}
+use Rattle.lines.specs.Input.{Accepted, lastLines}
+use Rattle.lines.specs.Shown.{Shows}
+use Rattle.lines.proofs.Showing.{shows-none, shows-then, shows-as}
+use Rattle.lines.proofs.Telling.{text-append}
+use Rattle.lines.proofs.Reached.{Reached, reached-start, reached-rules, reached-by-step, reached-by-answer}
+use Rattle.lines.proofs.Turns.{standing, linesFrom, turn-last, turn-deliver, turn-limit, turn-refused, turn-step}
+
+module _ (words rest before : List ℕ) (from : ℕ) where
+  pub record Going (m : Machine) (steps at total : ℕ) (output : List ℕ) : Type 0 where
+    pub accepted : Accepted words
+    pub reached : Reached words accepted m
+    pub printed : List ℕ
+    pub left : ℕ
+    pub whole :
+        textOfAll (runLines paper 100000 (dagOf words) rest)
+        ≡ printed ++ textOfAll (turns paper 100000 (dagOf words) left (standing rest m steps at))
+    pub enough : (100000 - steps) + (length rest - at) < left
+    pub few : steps ≤ 100000
+    pub inside : at ≤ length rest
+    pub shows : Shows before from 0 printed output total
+    pub room : total + 80 * left ≤ 13242960
+
+  pub going-begins : Accepted words → (m : Machine) → length rest ≤ 65536 → m ≡ Start.start paper (dagOf words) .machine → Going m 0 0 0 before
+  unfolding runLines
+  going-begins A m l e =
+      record {
+        accepted = A;
+        reached = subst (Reached words A) (sym e) (reached-start words A);
+        printed = [];
+        left = 100000 + length rest + 1;
+        whole = ap (λ (u : Machine). textOfAll (turns paper 100000 (dagOf words) (100000 + length rest + 1) (standing rest u 0 0))) (sym e);
+        enough = omega arith;
+        few = omega arith;
+        inside = omega arith;
+        shows = shows-none before from 0;
+        room = omega arith;
+      }
+
+  -- the run goes on
+  turns-on : (n : ℕ) (s t : Standing) (ls : List Line) → turn paper 100000 (dagOf words) s ≡ on ls t
+      → textOfAll (turns paper 100000 (dagOf words) (suc n) s) ≡ textOfAll ls ++ textOfAll (turns paper 100000 (dagOf words) n t)
+  unfolding turns
+  turns-on n s t ls e = rw (e, turns) (text-append ls (turns paper 100000 (dagOf words) n t))
+
+  turns-over : (n : ℕ) (s : Standing) (ls : List Line) → turn paper 100000 (dagOf words) s ≡ over ls
+      → textOfAll (turns paper 100000 (dagOf words) (suc n) s) ≡ textOfAll ls
+  unfolding turns
+  turns-over n s ls e = rw (e, turns) refl
+
+  going-on : {m n : Machine} {steps at total steps′ at′ total′ : ℕ} {output output′ : List ℕ} (ls : List Line)
+      → (G : Going m steps at total output) → Reached words (G .accepted) n
+      → turn paper 100000 (dagOf words) (standing rest m steps at) ≡ on ls (standing rest n steps′ at′)
+      → (100000 - steps′) + (length rest - at′) < (100000 - steps) + (length rest - at)
+      → steps′ ≤ 100000 → at′ ≤ length rest
+      → Shows output from total (textOfAll ls) output′ total′ → total′ ≤ total + 80 → Going n steps′ at′ total′ output′
+  going-on {m} {n} {steps} {at} {total} {steps′} {at′} {total′} {output} {output′} ls G r e less few inside s small = go (G .left) refl
+    where
+      go : (k : ℕ) → G .left ≡ k → Going n steps′ at′ total′ output′
+      go zero z = let en = G .enough in absurd (omega arith)
+      go (suc k) z =
+          let en = G .enough in
+          let ro = G .room in
+          record {
+            accepted = G .accepted;
+            reached = r;
+            printed = G .printed ++ textOfAll ls;
+            left = k;
+            whole =
+                G .whole
+                ∙ ap (λ (j : ℕ). G .printed ++ textOfAll (turns paper 100000 (dagOf words) j (standing rest m steps at))) z
+                ∙ ap (λ (u : List ℕ). G .printed ++ u) (turns-on k (standing rest m steps at) (standing rest n steps′ at′) ls e)
+                ∙ sym (append-assoc (G .printed) (textOfAll ls) (textOfAll (turns paper 100000 (dagOf words) k (standing rest n steps′ at′))));
+            enough = omega arith;
+            few = few;
+            inside = inside;
+            shows = shows-then (G .shows) s;
+            room = omega arith;
+          }
+
+  -- the run is over
+  going-over : {m : Machine} {steps at total n : ℕ} {output after : List ℕ} (ls : List Line) → Going m steps at total output
+      → turn paper 100000 (dagOf words) (standing rest m steps at) ≡ over ls
+      → Shows output from total (textOfAll ls) after n → Shows before from 0 (textOfAll (runLines paper 100000 (dagOf words) rest)) after n
+  going-over {m} {steps} {at} ls G e s = shows-as (sym (go (G .left) refl)) (shows-then (G .shows) s)
+    where
+      go : (k : ℕ) → G .left ≡ k → textOfAll (runLines paper 100000 (dagOf words) rest) ≡ G .printed ++ textOfAll ls
+      go zero z = let en = G .enough in absurd (omega arith)
+      go (suc k) z =
+          G .whole
+          ∙ ap (λ (j : ℕ). G .printed ++ textOfAll (turns paper 100000 (dagOf words) j (standing rest m steps at))) z
+          ∙ ap (λ (u : List ℕ). G .printed ++ u) (turns-over k (standing rest m steps at) ls e)
+
+  -- each turn, by the tests that lead to it
+  module _ {m : Machine} {steps at total : ℕ} {output : List ℕ} (G : Going m steps at total output) where
+    pub going-rules : rulesKept paper (dagOf words) m ≡ true
+    going-rules = reached-rules words (G .accepted) (G .reached)
+
+    pub going-last : {after : List ℕ} {n : ℕ} → m .queued ≡ 0 → length rest - at < 8
+        → Shows output from total (textOfAll (lastLines (length rest - at) steps)) after n
+        → Shows before from 0 (textOfAll (runLines paper 100000 (dagOf words) rest)) after n
+    going-last e l s = going-over _ G (turn-last (dagOf words) rest m steps at e l) s
+
+    pub going-limit : {after : List ℕ} {n : ℕ} → (m .queued ≡ 0 → ⊥) → steps ≡ 100000
+        → Shows output from total (textOfAll (limit ∷ end steps ∷ [])) after n
+        → Shows before from 0 (textOfAll (runLines paper 100000 (dagOf words) rest)) after n
+    going-limit q e s = going-over _ G (turn-limit (dagOf words) rest m steps at q e) s
+
+    pub going-delivers : (o : Outcome) {output′ : List ℕ} {total′ : ℕ} → m .queued ≡ 0 → 8 ≤ length rest - at
+        → o ≡ Answer.answer paper (dagOf words) m (number (take 4 (drop at rest))) (signed (number (take 4 (drop (at + 4) rest))))
+        → Shows output from total (textOfAll (linesFrom o)) output′ total′ → total′ ≤ total + 80
+        → Going (o .machine) steps (at + 8) total′ output′
+    going-delivers o e l q s small =
+        let inside = G .inside in
+        going-on (linesFrom o) G (reached-by-answer words (G .accepted) m o _ _ (G .reached) q) (turn-deliver (dagOf words) rest m steps at o e l q)
+        (omega arith) (G .few) (omega arith) s small
+
+    module _ (o : Outcome) (q : m .queued ≡ 0 → ⊥) (l : steps ≡ 100000 → ⊥) (e : o ≡ Step.step paper (dagOf words) m 0) (b : Bool)
+        (r : b ≡ isRefused (o .reply)) where
+      pub going-refused : {output′ after : List ℕ} {total′ n : ℕ} → b ≡ true → Shows output from total (textOfAll (linesFrom o)) output′ total′
+          → Shows output′ from total′ (textOfAll (end steps ∷ [])) after n
+          → Shows before from 0 (textOfAll (runLines paper 100000 (dagOf words) rest)) after n
+      going-refused h s t =
+          going-over _ G (turn-refused (dagOf words) rest m steps at o q (G .few) l e (sym r ∙ h))
+          (shows-as (sym (text-append (linesFrom o) (end steps ∷ []))) (shows-then s t))
+
+      pub going-steps : {output′ : List ℕ} {total′ : ℕ} → b ≡ false → Shows output from total (textOfAll (linesFrom o)) output′ total′
+          → total′ ≤ total + 80 → Going (o .machine) (steps + 1) at total′ output′
+      going-steps {output′} {total′} h s small =
+          let few = G .few in
+          let one : suc steps ≡ steps + 1 = omega arith in
+          subst (λ (k : ℕ). Going (o .machine) k at total′ output′) one
+          (going-on (linesFrom o) G (reached-by-step words (G .accepted) m o (G .reached) e)
+          (turn-step (dagOf words) rest m steps at o q few l e (sym r ∙ h)) (omega arith) (omega arith) (G .inside) s small)

@@ -1,0 +1,10 @@
+-- Laws of a run's lines: what an output shows of them, the line of a reply, a run's records and its turns, and the parts of an input.
+pub mod Showing
+pub mod Telling
+pub mod Reached
+pub mod Turns
+pub mod Going
+pub mod TableEnd
+pub mod DeclinedAt
+pub mod Whole
+pub mod Pieces

@@ -1,0 +1,39 @@
+-- `house::deliver` meets its contract: the numbers handed on are those of the record. Assumes nothing.
+use borrow.Author.Needs.{needs}
+use mir.Facts.{toZ-ofZ}
+use mir.Val.{SFits}
+use mir.Syntax.{w32}
+use Rattle.lines.proofs.Reached.{delivered}
+use Rattle.lines.proofs.house.deliver.Statement.{statement}
+use Rattle.lines.proofs.house.deliver.Tie as tie
+
+word-at-requires : tie.Need-word-at-requires
+word-at-requires c κs = search needs
+
+add-word-at : tie.Need-add-word-at
+add-word-at c = search needs
+
+word-at-requires-2 : tie.Need-word-at-requires-2
+word-at-requires-2 c κs = search needs
+
+signed-requires : tie.Need-signed-requires
+signed-requires c κs = search needs
+
+answer-kept-requires : tie.Need-answer-kept-requires
+answer-kept-requires c κs = search needs
+
+returns : tie.Need-returns
+returns c =
+    let fits : SFits w32 (c .before .signed .result) = search needs in
+    delivered _ _ _ _ _ _ _ _ (rw (toZ-ofZ fits) at (c .answer-kept .ensures)) (c .before .before .before .word-at .ensures) (c .before .signed .ensures) (c .before .before .word-at2 .ensures)
+
+pub deliver-spec : {M : Type 1} → statement M
+deliver-spec =
+    tie.close
+    (tie.spec
+    word-at-requires
+    add-word-at
+    word-at-requires-2
+    signed-requires
+    answer-kept-requires
+    returns)
