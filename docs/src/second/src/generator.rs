@@ -4,24 +4,18 @@
 //! that most of them meet an open handle. A damaged case is a valid one with one or two faults.
 
 use crate::dag;
-use crate::lines::{MOST_INPUT, MOST_STEPS};
+use crate::lines::MOST_STEPS;
 use crate::machine::{Machine, Reply};
 use crate::random::Random;
 use crate::record::Record;
 use crate::sites::BUILT_IN_COUNTS;
-use crate::syntax::{append_record, encode, fork, give, prune, sequence, signal};
+use crate::syntax::{append_record, encode, fork, prune, sequence};
 use crate::syntax::{Expr, Param, Program, Row};
 use crate::table::{self, MOST_DEFINITIONS, MOST_DEPTH, MOST_ENTRIES, MOST_IN_SCOPE};
 
-/// The first cases are the special ones, the rest are made by chance.
 pub fn cases(seed: u64, count: usize) -> Vec<Vec<u8>> {
     let mut random = Random::new(seed);
-    let mut cases = special_cases();
-    cases.truncate(count);
-    while cases.len() < count {
-        cases.push(any_case(&mut random));
-    }
-    cases
+    (0..count).map(|_| any_case(&mut random)).collect()
 }
 
 pub fn any_case(random: &mut Random) -> Vec<u8> {
@@ -547,161 +541,4 @@ fn random_bytes(random: &mut Random) -> Vec<u8> {
             encode(random.below(34) as u16, &rows)
         }
     }
-}
-
-// Special cases.
-
-/// The edges of the paper's numbers, the same for every seed.
-pub fn special_cases() -> Vec<Vec<u8>> {
-    let mut cases: Vec<Vec<u8>> = vec![vec![], vec![0], vec![0, 0], vec![0, 0, 1], vec![0; 4]];
-    cases.extend(long_inputs());
-    cases.extend(edges_of_tables());
-    cases.extend(step_limits());
-    cases.push(many_answers());
-    cases
-}
-
-fn outside_call() -> Expr {
-    Expr::Site(16, vec![])
-}
-
-/// Just allowed and just too long, with a good table and with a bad one.
-fn long_inputs() -> Vec<Vec<u8>> {
-    let good = Program::new(outside_call()).bytes();
-    let with_length = |bytes: &[u8], length| {
-        let mut bytes = bytes.to_vec();
-        bytes.resize(length, 0);
-        bytes
-    };
-    vec![
-        with_length(&good, MOST_INPUT),
-        with_length(&good, MOST_INPUT + 1),
-        with_length(&[33, 0, 0xff, 0xff], MOST_INPUT),
-        // 13,106 entries are all there, but too many.
-        with_length(&[0, 0, 0x32, 0x33], MOST_INPUT),
-        with_length(&[], MOST_INPUT + 1),
-    ]
-}
-
-fn edges_of_tables() -> Vec<Vec<u8>> {
-    let mut cases = Vec::new();
-    for depth in [24, 25] {
-        let deep = (1..depth).fold(signal(), |inner, _| fork(signal(), inner));
-        cases.push(Program::new(deep).bytes());
-    }
-    for binders in [8, 9] {
-        let inner = give(Param::Var(binders - 1));
-        let bound = (0..binders).fold(inner.clone(), |inner, _| sequence(signal(), inner));
-        cases.push(Program::new(bound).bytes());
-        let bound = (0..binders).fold(inner, |inner, _| prune(inner, signal()));
-        cases.push(Program::new(bound).bytes());
-    }
-    cases.push(Program::new(full_prunes(8)).bytes());
-    // 32 definitions of 14 rows, and a goal that fills the table or overfills it by one.
-    for goal in [64, 65] {
-        let body = (0..6).fold(signal(), |inner, _| fork(signal(), inner));
-        let mut rows = Vec::new();
-        for _ in 0..MOST_DEFINITIONS {
-            rows.push((6, 0));
-            rows.extend(Program::new(body.clone()).rows());
-        }
-        rows.extend(Program::new(stops_and_one_call(goal)).rows());
-        cases.push(encode(MOST_DEFINITIONS as u16, &rows));
-    }
-    cases
-}
-
-/// Prunes in both sides of prunes. Eight levels make 511 rows and 1,022 nodes, the most there are.
-pub fn full_prunes(levels: usize) -> Expr {
-    match levels {
-        0 => signal(),
-        _ => prune(full_prunes(levels - 1), full_prunes(levels - 1)),
-    }
-}
-
-/// Stops side by side and, where the number of rows asks for it, a call with one parameter.
-fn stops_and_one_call(rows: usize) -> Expr {
-    match rows {
-        1 => Expr::Stop,
-        2 => Expr::Site(16, vec![Param::Const(7)]),
-        _ => {
-            // Halves keep it flat; the left side always has an odd number of rows.
-            let left = (rows / 2) | 1;
-            let left = if left + 1 < rows { left } else { 1 };
-            fork(stops_and_one_call(left), stops_and_one_call(rows - 1 - left))
-        }
-    }
-}
-
-/// F0() = signal(), Fk() = F(k-1)() >x> F(k-1)(). One token runs, with k frames at most, and a
-/// call of Fk takes 7 * 2^k - 4 steps: so a run may be long without growth.
-fn doubling(first: Expr, levels: u16) -> Vec<(u32, Expr)> {
-    let call = |level| Expr::Call(level, vec![]);
-    let mut definitions = vec![(0, first)];
-    definitions.extend((0..levels).map(|level| (0, sequence(call(level), call(level)))));
-    definitions
-}
-
-const LEVELS: u16 = 14;
-
-/// A program that makes exactly so many steps (2, or 4 and more) and publishes once. Behind a first
-/// signal() and its publish, the parts are `>x> Fk()`, `>x> signal()` and `stop |`.
-pub fn exact_steps(steps: u32) -> Program {
-    let mut goal = signal();
-    let mut left = steps - 2;
-    while left > 0 {
-        let fits = |cost: u32| cost <= left && left - cost != 1;
-        let level = (0..=LEVELS).rev().find(|level| fits((7 << level) - 2));
-        if let Some(level) = level {
-            goal = sequence(goal, Expr::Call(level, vec![]));
-            left -= (7 << level) - 2;
-        } else if fits(3) {
-            goal = sequence(goal, signal());
-            left -= 3;
-        } else {
-            goal = fork(Expr::Stop, goal);
-            left -= 2;
-        }
-    }
-    Program { definitions: doubling(signal(), LEVELS), goal }
-}
-
-/// Runs that end before, at and beyond the most steps; at the most steps also with records, with
-/// a short piece and with an open call.
-fn step_limits() -> Vec<Vec<u8>> {
-    let mut cases = Vec::new();
-    for steps in [MOST_STEPS - 1, MOST_STEPS, MOST_STEPS + 1] {
-        cases.push(exact_steps(steps).bytes());
-    }
-    let mut with_piece = exact_steps(MOST_STEPS).bytes();
-    append_record(&mut with_piece, 0, 0);
-    with_piece.push(1);
-    cases.push(with_piece);
-    // The fork and the outside call take 2 steps more.
-    for steps in [MOST_STEPS - 1, MOST_STEPS] {
-        let mut program = exact_steps(steps - 2);
-        program.goal = fork(outside_call(), program.goal);
-        let mut bytes = program.bytes();
-        append_record(&mut bytes, 1, 5);
-        append_record(&mut bytes, 0, 6);
-        bytes.extend([0; 3]);
-        cases.push(bytes);
-    }
-    // At the limit a token waits, or a second one is ready.
-    let call = |level| Expr::Call(level, vec![]);
-    for goal in [prune(give(Param::Var(0)), call(LEVELS)), fork(call(13), call(13))] {
-        cases.push(Program { definitions: doubling(signal(), LEVELS), goal }.bytes());
-    }
-    cases
-}
-
-/// One outside call after the other, as many as there is room for answers.
-fn many_answers() -> Vec<u8> {
-    let program =
-        Program { definitions: doubling(outside_call(), 12), goal: Expr::Call(12, vec![]) };
-    let mut bytes = program.bytes();
-    for handle in 0..5000 {
-        append_record(&mut bytes, handle, handle as i32 - 2500);
-    }
-    bytes
 }

@@ -1,0 +1,279 @@
+//! Runs at the edges: the paper's marked ones, values, answers, pieces, order, full tables.
+
+use super::{call, endless_calls, endless_cells, forks, goal, known, site, unknown};
+use super::{with_answers, with_piece, Edge};
+use crate::syntax::Param::{Const, Var};
+use crate::syntax::{encode, fork, give, prune, sequence, signal, Expr, Param, Program};
+
+const MIN: i32 = i32::MIN;
+const MAX: i32 = i32::MAX;
+
+fn add(a: i32, b: i32) -> Expr {
+    site(4, &[Const(a), Const(b)])
+}
+
+/// The twelve marked runs, in the paper's order.
+pub fn marked() -> Vec<Edge> {
+    let run =
+        |name: &str, expr, lines: &str| known(format!("marked: {name}"), goal(expr, &[]), lines);
+    let one_or_two = || fork(give(Const(1)), give(Const(2)));
+    let example = prune(give(Var(0)), fork(site(16, &[Const(5)]), site(17, &[])));
+    vec![
+        known(
+            "marked: example",
+            goal(example, &[(1, 42), (0, 7)]),
+            "call 0 16 5\ncall 1 17\npublish 42\nrefused 12\nend 9\n",
+        ),
+        run("stop", Expr::Stop, "end 1\n"),
+        known("marked: N = 0", vec![0; 4], "table 2 0\n"),
+        run("signal()", signal(), "publish 0\nend 2\n"),
+        run("stop >x> let(x)", sequence(Expr::Stop, give(Var(0))), "end 1\n"),
+        run("let(x) <x< stop", prune(give(Var(0)), Expr::Stop), "end 3\n"),
+        run("add(2147483647, 1)", add(MAX, 1), "end 1\n"),
+        run("add(2147483646, 1)", add(MAX - 1, 1), "publish 2147483647\nend 2\n"),
+        run(
+            "(let(1) | let(2)) >x> let(x)",
+            sequence(one_or_two(), give(Var(0))),
+            "publish 1\npublish 2\nend 11\n",
+        ),
+        run(
+            "let(x) <x< (let(1) | let(2))",
+            prune(give(Var(0)), one_or_two()),
+            "publish 1\nend 9\n",
+        ),
+        known("marked: E() = E()", endless_calls().bytes(), "refused 10\nend 63\n"),
+        known("marked: W() = stop <x< W()", endless_cells().bytes(), "refused 11\nend 97\n"),
+    ]
+}
+
+/// A built-in's value is published in two steps; a silent one ends in the first.
+fn gives(name: &str, expr: Expr, value: Option<i32>) -> Edge {
+    let lines = match value {
+        Some(value) => format!("publish {value}\nend 2\n"),
+        None => "end 1\n".to_string(),
+    };
+    known(format!("value: {name}"), goal(expr, &[]), lines)
+}
+
+/// The ends of signed 32 bits, negative values, and four parameters in their order.
+pub fn values() -> Vec<Edge> {
+    let two = |number, a, b| site(number, &[Const(a), Const(b)]);
+    let one = |number, a| site(number, &[Const(a)]);
+    let mut edges = vec![
+        gives("let, least", give(Const(MIN)), Some(MIN)),
+        gives("let, most", give(Const(MAX)), Some(MAX)),
+        gives("let, -1", give(Const(-1)), Some(-1)),
+        gives("add, below the least", add(MIN, -1), None),
+        gives("add, the least", add(MIN + 1, -1), Some(MIN)),
+        gives("add, twice the least", add(MIN, MIN), None),
+        gives("add, twice the most", add(MAX, MAX), None),
+        gives("add, both ends", add(MIN, MAX), Some(-1)),
+        gives("add, -5 and 3", add(-5, 3), Some(-2)),
+        gives("less, both ends", two(5, MIN, MAX), Some(1)),
+        gives("less, both ends turned", two(5, MAX, MIN), Some(0)),
+        gives("less, -1 and 0", two(5, -1, 0), Some(1)),
+        gives("less, 0 and -1", two(5, 0, -1), Some(0)),
+        gives("less, equal values", two(5, MIN, MIN), Some(0)),
+        gives("equal, least", two(6, MIN, MIN), Some(1)),
+        gives("equal, both ends", two(6, MIN, MAX), Some(0)),
+        gives("equal, -1 and 1", two(6, -1, 1), Some(0)),
+        gives("ift, -1", one(1, -1), Some(0)),
+        gives("ift, least", one(1, MIN), Some(0)),
+        gives("ift, 0", one(1, 0), None),
+        gives("iff, 0", one(2, 0), Some(0)),
+        gives("iff, -1", one(2, -1), None),
+        gives("iff, least", one(2, MIN), None),
+    ];
+    edges.extend(parameters());
+    edges
+}
+
+fn parameters() -> Vec<Edge> {
+    let ends = [MIN, MAX, -1, 0].map(Const);
+    let count = |count: usize| {
+        let values: String = (1..=count).map(|value| format!(" -{value}")).collect();
+        let params: Vec<Param> = (1..=count).map(|value| Const(-(value as i32))).collect();
+        let lines = format!("call 0 16{values}\nend 1\n");
+        known(format!("value: call with {count}"), goal(site(16, &params), &[]), lines)
+    };
+    // D(a, b, c, d) calls out with its formals in another order.
+    let turned = site(1023, &[Var(3), Var(0), Var(2), Var(1)]);
+    let passed = Program { definitions: vec![(4, turned)], goal: call(0, &ends) };
+    let mut edges: Vec<Edge> = (0..=4).map(count).collect();
+    edges.push(known(
+        "value: call of site 1023 with both ends",
+        goal(site(1023, &ends), &[(0, MIN)]),
+        "call 0 1023 -2147483648 2147483647 -1 0\npublish -2147483648\nend 2\n",
+    ));
+    // The definition call and the outside call; then return and publish.
+    edges.push(known(
+        "value: four formals",
+        with_answers(passed, &[(0, MAX)]),
+        "call 0 1023 0 -2147483648 -1 2147483647\npublish 2147483647\nend 4\n",
+    ));
+    edges
+}
+
+/// Answers in any order, to handles that are open and to others.
+pub fn answers() -> Vec<Edge> {
+    let three = || forks(&[16, 17, 18].map(|number| site(number, &[])));
+    let calls = "call 0 16\ncall 1 17\ncall 2 18\n";
+    let one = |answers: &[(u32, i32)]| goal(site(16, &[]), answers);
+    let high = [1 << 8, 1 << 16, 1 << 24, 1 << 31, u32::MAX].map(|handle| (handle, 1));
+    vec![
+        // Two forks, three calls, three publishes.
+        known(
+            "answers: the last call first",
+            goal(three(), &[(2, -3), (1, -2), (0, -1)]),
+            format!("{calls}publish -3\npublish -2\npublish -1\nend 8\n"),
+        ),
+        known(
+            "answers: one twice",
+            goal(three(), &[(1, 5), (1, 6), (0, 7)]),
+            format!("{calls}publish 5\nrefused 12\npublish 7\nend 7\n"),
+        ),
+        known("answers: least", one(&[(0, MIN)]), "call 0 16\npublish -2147483648\nend 2\n"),
+        known("answers: most", one(&[(0, MAX)]), "call 0 16\npublish 2147483647\nend 2\n"),
+        known(
+            "answers: not called yet",
+            one(&[(1, 5), (0, -9)]),
+            "call 0 16\nrefused 12\npublish -9\nend 2\n",
+        ),
+        known(
+            "answers: high bits of a handle",
+            one(&[&high[..], &[(0, 1)]].concat()),
+            format!("call 0 16\n{}publish 1\nend 2\n", "refused 12\n".repeat(5)),
+        ),
+        known(
+            "answers: no call at all",
+            goal(Expr::Stop, &[(0, 0)]),
+            "end 1\n".replace("end", "refused 12\nend"),
+        ),
+        known(
+            "answers: after a refused step",
+            with_answers(endless_calls(), &[(0, 0)]),
+            "refused 10\nend 63\n",
+        ),
+        known(
+            "answers: after table",
+            {
+                let mut bytes = encode(0, &[(9, 0)]);
+                bytes.extend([0; 16]);
+                bytes
+            },
+            "table 3 0\n",
+        ),
+        // The second call is made only after the first answer.
+        known(
+            "answers: one for a call that the one before makes",
+            goal(sequence(site(16, &[]), site(17, &[Var(0)])), &[(0, -8), (1, 9)]),
+            "call 0 16\ncall 1 17 -8\npublish 9\nend 5\n",
+        ),
+    ]
+}
+
+/// A piece of 1 to 7 bytes, where its turn comes and where it does not.
+pub fn pieces() -> Vec<Edge> {
+    let mut edges: Vec<Edge> = (1..=7)
+        .map(|length| {
+            let input = with_piece(goal(site(16, &[]), &[]), length);
+            known(format!("piece: {length} bytes"), input, "call 0 16\nshort\nend 1\n")
+        })
+        .collect();
+    let answered = goal(site(16, &[]), &[(0, -1)]);
+    let kinds = encode(0, &[(9, 0)]);
+    let sizes = encode(33, &[(0, 0)]);
+    edges.extend([
+        known(
+            "piece: behind an answer",
+            with_piece(answered, 4),
+            "call 0 16\npublish -1\nshort\nend 2\n",
+        ),
+        known(
+            "piece: after a refused answer",
+            with_piece(goal(signal(), &[(0, 0)]), 2),
+            "publish 0\nrefused 12\nshort\nend 2\n",
+        ),
+        known(
+            "piece: after a refused step, 10",
+            with_piece(endless_calls().bytes(), 3),
+            "refused 10\nend 63\n",
+        ),
+        known(
+            "piece: after a refused step, 11",
+            with_piece(endless_cells().bytes(), 3),
+            "refused 11\nend 97\n",
+        ),
+        known(
+            "piece: after a refused step, behind a record",
+            with_piece(with_answers(endless_cells(), &[(0, 1)]), 6),
+            "refused 11\nend 97\n",
+        ),
+        known("piece: after table 2", with_piece(sizes, 3), "table 2 0\n"),
+        known("piece: after table 3", with_piece(kinds, 5), "table 3 0\n"),
+        known("piece: after table 1", with_piece(vec![0, 0, 9, 0], 7), "table 1 0\n"),
+    ]);
+    edges
+}
+
+/// What the paper says of misreadings, waits and chokes.
+pub fn order() -> Vec<Edge> {
+    let unset =
+        Program { definitions: vec![(1, signal())], goal: prune(call(0, &[Var(0)]), Expr::Stop) };
+    // After the first of two answers both places are taken again.
+    let race = fork(site(16, &[]), site(17, &[]));
+    let after = sequence(give(Var(0)), fork(site(18, &[]), site(19, &[])));
+    // The left one waits last: it has a signal in front.
+    let late = sequence(signal(), site(20, &[Var(0)]));
+    let waiting = fork(late, fork(site(21, &[Var(0)]), site(22, &[Var(0)])));
+    // When the choke wakes the left one, others are ready.
+    let woken = prune(site(20, &[Var(0)]), signal());
+    let ready = sequence(signal(), sequence(signal(), site(21, &[])));
+    // Waits at y, then at x.
+    let both = prune(prune(site(20, &[Var(1), Var(0)]), site(16, &[])), site(17, &[]));
+    // The inner prune ends with the outer one: its called-out and its waiting token.
+    let inner = prune(site(20, &[Var(0)]), site(16, &[]));
+    let nested = prune(give(Var(0)), fork(inner, site(17, &[])));
+    vec![
+        // where, call, stop, signal, return, remove, publish.
+        known("order: a call does not wait", unset.bytes(), "publish 0\nend 7\n"),
+        unknown(
+            "order: a pruned call's answer",
+            goal(prune(after, race), &[(1, 5), (0, 6), (2, 7)]),
+        ),
+        unknown("order: longest wait first", goal(prune(waiting, site(16, &[])), &[(0, 4)])),
+        unknown("order: woken to the back", goal(forks(&[woken, ready.clone(), ready]), &[(1, 1)])),
+        unknown("order: waits twice", goal(both, &[(0, 1), (1, 2), (2, 3)])),
+        unknown("order: a choke ends a prune", goal(nested, &[(1, 6), (0, 7)])),
+    ]
+}
+
+/// As many tokens and cells as there are places, and one more.
+pub fn full() -> Vec<Edge> {
+    let calls = |count| forks(&vec![site(16, &[]); count]);
+    let cells = |count| forks(&vec![prune(give(Var(0)), site(17, &[])); count]);
+    let turned: Vec<(u32, i32)> = (0..64).map(|handle| (63 - handle, handle as i32)).collect();
+    let closed: Vec<(u32, i32)> =
+        (0..32).map(|handle| ((handle * 13) % 32, -(handle as i32))).collect();
+    // Places are given again: each answer makes a prune whose cell takes the next place.
+    let again = sequence(forks(&vec![site(16, &[]); 40]), prune(site(18, &[Var(1)]), signal()));
+    let odd: Vec<(u32, i32)> = (0..40).map(|handle| ((handle * 7) % 40, handle as i32)).collect();
+    let frames = |count: i32| {
+        // F(n) = ift(n) >x> add(n, -1) >m> F(m), goal F(count).
+        let again = sequence(site(4, &[Var(0), Const(-1)]), call(0, &[Var(2)]));
+        let body = sequence(site(1, &[Var(0)]), again);
+        Program { definitions: vec![(1, body)], goal: call(0, &[Const(count)]) }.bytes()
+    };
+    // For each level a call, ift, assign, add and assign; at last a call and a silent ift.
+    let frames_end = |count: i32| format!("end {}\n", 5 * count + 2);
+    vec![
+        unknown("tokens: 64 called out", goal(calls(64), &turned)),
+        unknown("tokens: a fork at 64", goal(calls(65), &turned)),
+        known("tokens: 63 frames", frames(62), frames_end(62)),
+        // Each of 63 levels but the last has its five steps; the call at level 63 is refused.
+        known("tokens: a call at 64", frames(63), format!("refused 10\nend {}\n", 5 * 63)),
+        unknown("cells: 32 side by side", goal(cells(32), &closed)),
+        unknown("cells: a prune with both tables full", goal(fork(cells(32), cells(1)), &closed)),
+        unknown("places: given again", goal(again, &odd)),
+    ]
+}
