@@ -36,11 +36,15 @@ fn valid_case(random: &mut Random) -> Vec<u8> {
     bytes
 }
 
+/// Most tables have no more entries than this, so that thousands of inputs can be stored.
+const MANY_ENTRIES: usize = 60;
+
 /// A program whose table is accepted.
 pub fn program(random: &mut Random) -> Program {
     loop {
         let program = Writer::new(random).program();
-        if program.rows().len() <= MOST_ENTRIES {
+        let entries = program.rows().len();
+        if entries <= MANY_ENTRIES || entries <= MOST_ENTRIES && random.percent(20) {
             return program;
         }
     }
@@ -55,9 +59,10 @@ struct Writer<'a> {
 
 impl Writer<'_> {
     fn new(random: &mut Random) -> Writer<'_> {
-        let count = match random.below(20) {
-            0..=4 => 0,
-            5..=17 => random.between(1, 4),
+        let count = match random.below(40) {
+            0..=9 => 0,
+            10..=24 => 1,
+            25..=38 => random.between(2, 4),
             _ => random.between(5, MOST_DEFINITIONS),
         };
         let formals = (0..count).map(|_| random.below(5) as u32).collect();
@@ -81,16 +86,16 @@ impl Writer<'_> {
 
     fn budget(&mut self) -> usize {
         match self.random.below(10) {
-            0..=2 => self.random.between(1, 6),
-            3..=7 => self.random.between(6, 25),
-            _ => self.random.between(25, 120),
+            0..=3 => self.random.between(1, 4),
+            4..=8 => self.random.between(4, 9),
+            _ => self.random.between(9, 30),
         }
     }
 
     fn goal(&mut self, budget: usize) -> Expr {
-        match self.random.below(12) {
+        match self.random.below(24) {
             0 => self.spine(1, 0),
-            1 => self.cells(1, 0, budget),
+            1..=2 => self.cells(1, 0, budget),
             _ => self.expr(1, 0, budget),
         }
     }
@@ -280,7 +285,11 @@ fn append_answers(random: &mut Random, bytes: &mut Vec<u8>) {
         let value = value(random);
         append_record(bytes, handle, value);
         // A wrong handle is refused and changes nothing; the run goes on.
-        let _ = machine.answer(&mut record, handle, value);
+        let accepted = machine.answer(&mut record, handle, value).is_ok();
+        // Where no call is open, more of them would all be refused.
+        if !accepted && record.open_handles().is_empty() && random.percent(60) {
+            return;
+        }
     }
 }
 
@@ -297,17 +306,18 @@ fn run_until_empty(machine: &Machine, record: &mut Record, steps: &mut u32) {
 /// Mostly an open handle, in any order; else one that is not open, or may not be.
 fn choose_handle(random: &mut Random, record: &Record) -> u32 {
     let open = record.open_handles();
-    if !open.is_empty() && random.percent(88) {
+    if !open.is_empty() && random.percent(85) {
         return *random.pick(&open);
     }
     // An open handle with a high bit added must not pass for the handle.
-    if !open.is_empty() && random.percent(40) {
+    if !open.is_empty() && random.percent(30) {
         return random.pick(&open) | 1 << random.between(8, 31);
     }
-    match random.below(4) {
+    match random.below(8) {
         0 => record.calls,
         1 => record.calls + random.below(3) as u32,
         2 => random.draw() as u32,
+        // Mostly one that was answered, or whose call a choke ended.
         _ => random.below(record.calls as usize + 1) as u32,
     }
 }
@@ -409,10 +419,11 @@ impl Damaged {
     }
 
     fn damage_sizes(&mut self, random: &mut Random) {
-        match random.below(4) {
-            0 => self.rows.clear(),
-            1 => self.rows.resize(random.between(MOST_ENTRIES + 1, 600), (0, 0)),
-            2 => self.definitions = MOST_DEFINITIONS as u16 + 1,
+        match random.below(16) {
+            0..=3 => self.rows.clear(),
+            // Few, since these are large.
+            4 => self.rows.resize(random.between(MOST_ENTRIES + 1, 600), (0, 0)),
+            5..=9 => self.definitions = MOST_DEFINITIONS as u16 + 1,
             _ => self.definitions = random.between(MOST_DEFINITIONS + 1, 0xffff) as u16,
         }
     }
@@ -461,7 +472,7 @@ impl Damaged {
         let Some(at) = self.any_of(random, &[0, 1, 2, 3, 4, 5]) else {
             return;
         };
-        let levels = random.between(18, 26);
+        let levels = random.between(21, 24);
         self.insert_pairs(at, 3, levels);
     }
 
