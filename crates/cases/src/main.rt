@@ -3,13 +3,10 @@
 use libc::STDIN_FILENO;
 use libc::STDOUT_FILENO;
 use lines::orcrun::orcrun;
-ghost use Prim.Native.Nat.{_≤_};
+ghost use Prim.Native.Nat.{_≤_, _<_};
+ghost use lib.ListN.{length};
 
-// One byte more than `orcrun` reads of a longer input.
-const LONGEST: usize = 65537;
-// Prints a piece of at most so many bytes at a time.
-const PIECE: usize = 65536;
-// No more than so many inputs, so that the program ends on any standard input.
+// No more inputs than this, so that the program ends on any standard input.
 const MOST: u64 = 100000;
 
 // Four bytes, the lowest first.
@@ -18,7 +15,6 @@ fn four_bytes(a: u8, b: u8, c: u8, d: u8) -> usize {
 }
 
 fn least(a: usize, b: usize) -> usize
-    ensures { λ r. ⌜ r ≤ a ⌝ }
     ensures { λ r. ⌜ r ≤ b ⌝ }
 {
     if a < b { a } else { b }
@@ -30,25 +26,31 @@ fn head(number: u64) {
     io::write_all(STDOUT_FILENO, b"\n");
 }
 
-// What the run prints, a piece at a time.
-fn show(input: &[u8], output: &mut [u8; 65536]) {
-    let total = orcrun(input, 0, output);
-    io::write_all(STDOUT_FILENO, &output[0..least(total, PIECE)]);
-    let mut from = PIECE;
-    while from < total {
+// Prints what the run prints, in pieces as long as `output`.
+fn show(input: &[u8], output: &mut [u8])
+    requires { ⌜ 0 < length (now output) ⌝ }
+{
+    let room = output.len();
+    let mut from = 0;
+    let mut left = orcrun(input, 0, output);
+    while room < left {
+        io::write_all(STDOUT_FILENO, output);
+        left -= room;
+        from += room;
         orcrun(input, from, output);
-        io::write_all(STDOUT_FILENO, &output[0..least(total - from, PIECE)]);
-        from += PIECE;
     }
+    io::write_all(STDOUT_FILENO, &output[0..left]);
 }
 
-// Reads the next input and shows its run. Answers false where none is left.
-fn next(number: u64, input: &mut [u8; 65537], output: &mut [u8; 65536]) -> bool {
+// Reads an input and shows its run. Answers false where none is left.
+fn next(number: u64, input: &mut [u8], output: &mut [u8]) -> bool
+    requires { ⌜ 0 < length (now output) ⌝ }
+{
     let mut size = [0u8; 4];
     if io::read_full(STDIN_FILENO, &mut size) < 4 {
         return false;
     }
-    let n = least(four_bytes(size[0], size[1], size[2], size[3]), LONGEST);
+    let n = least(four_bytes(size[0], size[1], size[2], size[3]), input.len());
     if io::read_full(STDIN_FILENO, &mut input[0..n]) < n {
         return false;
     }
@@ -58,6 +60,7 @@ fn next(number: u64, input: &mut [u8; 65537], output: &mut [u8; 65536]) -> bool 
 }
 
 fn main() {
+    // One byte more than a run may have.
     let mut input = [0u8; 65537];
     let mut output = [0u8; 65536];
     let mut number = 0;
