@@ -7,7 +7,7 @@ use crate::{edges, generator, lines};
 
 /// What is stored under `crates/cases`.
 pub const SEED: u64 = 1;
-pub const COUNT: usize = 5200;
+pub const COUNT: usize = 5000;
 
 pub struct Case {
     pub name: String,

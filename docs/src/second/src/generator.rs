@@ -20,9 +20,9 @@ pub fn cases(seed: u64, count: usize) -> Vec<Vec<u8>> {
 
 pub fn any_case(random: &mut Random) -> Vec<u8> {
     match random.below(100) {
-        0..=60 => valid_case(random),
-        61..=91 => damaged_case(random),
-        92..=94 => clash_case(random),
+        0..=68 => valid_case(random),
+        69..=94 => damaged_case(random),
+        95..=96 => clash_case(random),
         _ => random_bytes(random),
     }
 }
@@ -44,7 +44,7 @@ pub fn program(random: &mut Random) -> Program {
     loop {
         let program = Writer::new(random).program();
         let entries = program.rows().len();
-        if entries <= MANY_ENTRIES || entries <= MOST_ENTRIES && random.percent(20) {
+        if entries <= MANY_ENTRIES || entries <= MOST_ENTRIES && random.percent(10) {
             return program;
         }
     }
@@ -86,9 +86,9 @@ impl Writer<'_> {
 
     fn budget(&mut self) -> usize {
         match self.random.below(10) {
-            0..=3 => self.random.between(1, 4),
-            4..=8 => self.random.between(4, 9),
-            _ => self.random.between(9, 30),
+            0 => self.random.between(1, 4),
+            1..=7 => self.random.between(4, 10),
+            _ => self.random.between(10, 30),
         }
     }
 
@@ -336,10 +336,12 @@ fn damaged_case(random: &mut Random) -> Vec<u8> {
     let program = program(random);
     let mut damaged =
         Damaged { definitions: program.definitions.len() as u16, rows: program.rows() };
-    let mut target = random.between(1, 8);
+    // 1 and 2 have no entry, so they need fewer.
+    let targets = [1, 2, 3, 3, 4, 4, 5, 5, 6, 6, 7, 7, 8, 8];
+    let mut target = *random.pick(&targets);
     damaged.damage(random, target);
     if random.percent(30) {
-        target = random.between(1, 8);
+        target = *random.pick(&targets);
         damaged.damage(random, target);
     }
     let mut bytes = encode(damaged.definitions, &damaged.rows);

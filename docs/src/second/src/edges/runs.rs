@@ -1,5 +1,6 @@
 //! Runs at the edges: the paper's marked ones, values, answers, pieces, order, full tables.
 
+use super::steps::doubling;
 use super::{call, endless_calls, endless_cells, forks, goal, known, site, unknown};
 use super::{with_answers, with_piece, Edge};
 use crate::syntax::Param::{Const, Var};
@@ -144,11 +145,7 @@ pub fn answers() -> Vec<Edge> {
             one(&[&high[..], &[(0, 1)]].concat()),
             format!("call 0 16\n{}publish 1\nend 2\n", "refused 12\n".repeat(5)),
         ),
-        known(
-            "answers: no call at all",
-            goal(Expr::Stop, &[(0, 0)]),
-            "end 1\n".replace("end", "refused 12\nend"),
-        ),
+        known("answers: no call at all", goal(Expr::Stop, &[(0, 0)]), "refused 12\nend 1\n"),
         known(
             "answers: after a refused step",
             with_answers(endless_calls(), &[(0, 0)]),
@@ -220,15 +217,11 @@ pub fn pieces() -> Vec<Edge> {
 pub fn order() -> Vec<Edge> {
     let unset =
         Program { definitions: vec![(1, signal())], goal: prune(call(0, &[Var(0)]), Expr::Stop) };
-    // After the first of two answers both places are taken again.
-    let race = fork(site(16, &[]), site(17, &[]));
-    let after = sequence(give(Var(0)), fork(site(18, &[]), site(19, &[])));
+    // When the choke wakes the left one, the right one stands at its call.
+    let woken = fork(prune(site(20, &[Var(0)]), signal()), sequence(signal(), site(21, &[])));
     // The left one waits last: it has a signal in front.
     let late = sequence(signal(), site(20, &[Var(0)]));
     let waiting = fork(late, fork(site(21, &[Var(0)]), site(22, &[Var(0)])));
-    // When the choke wakes the left one, others are ready.
-    let woken = prune(site(20, &[Var(0)]), signal());
-    let ready = sequence(signal(), sequence(signal(), site(21, &[])));
     // Waits at y, then at x.
     let both = prune(prune(site(20, &[Var(1), Var(0)]), site(16, &[])), site(17, &[]));
     // The inner prune ends with the outer one: its called-out and its waiting token.
@@ -237,15 +230,30 @@ pub fn order() -> Vec<Edge> {
     vec![
         // where, call, stop, signal, return, remove, publish.
         known("order: a call does not wait", unset.bytes(), "publish 0\nend 7\n"),
-        unknown(
-            "order: a pruned call's answer",
-            goal(prune(after, race), &[(1, 5), (0, 6), (2, 7)]),
-        ),
+        // fork, where, signal, wait, signal, assign, choke, and the two calls.
+        known("order: woken to the back", goal(woken, &[]), "call 0 21\ncall 1 20 0\nend 9\n"),
         unknown("order: longest wait first", goal(prune(waiting, site(16, &[])), &[(0, 4)])),
-        unknown("order: woken to the back", goal(forks(&[woken, ready.clone(), ready]), &[(1, 1)])),
         unknown("order: waits twice", goal(both, &[(0, 1), (1, 2), (2, 3)])),
-        unknown("order: a choke ends a prune", goal(nested, &[(1, 6), (0, 7)])),
+        unknown("order: a choke ends a prune", goal(nested.clone(), &[(0, 6), (1, 7)])),
+        unknown("order: the inner prune first", goal(nested, &[(1, 6), (0, 7)])),
+        late_answers(),
     ]
+}
+
+/// F0() = let(x) <x< (site16() | site17()), 32 of them one after the other, so that token and cell
+/// places are given again. Of each the second call is answered, and then the first one, too late.
+fn late_answers() -> Edge {
+    let race = prune(give(Var(0)), fork(site(16, &[]), site(17, &[])));
+    let program = Program { definitions: doubling(race, 5), goal: call(5, &[]) };
+    let answers: Vec<(u32, i32)> =
+        (0..32).flat_map(|turn| [(2 * turn + 1, turn as i32), (2 * turn, -1)]).collect();
+    let mut lines = "call 0 16\ncall 1 17\n".to_string();
+    for turn in 1..32 {
+        lines += &format!("call {} 16\ncall {} 17\nrefused 12\n", 2 * turn, 2 * turn + 1);
+    }
+    // F0 takes 10 steps with its call, Fk twice as many as F(k-1) and 4.
+    lines += &format!("publish 31\nrefused 12\nend {}\n", (10 + 4) * 32 - 4 + 1);
+    known("order: late answers, places given again", with_answers(program, &answers), lines)
 }
 
 /// As many tokens and cells as there are places, and one more.
@@ -255,25 +263,71 @@ pub fn full() -> Vec<Edge> {
     let turned: Vec<(u32, i32)> = (0..64).map(|handle| (63 - handle, handle as i32)).collect();
     let closed: Vec<(u32, i32)> =
         (0..32).map(|handle| ((handle * 13) % 32, -(handle as i32))).collect();
-    // Places are given again: each answer makes a prune whose cell takes the next place.
-    let again = sequence(forks(&vec![site(16, &[]); 40]), prune(site(18, &[Var(1)]), signal()));
+    // Each answer makes a prune whose cell stays bound in a token that is called out.
+    let bound = sequence(calls(40), prune(site(18, &[Var(1)]), signal()));
     let odd: Vec<(u32, i32)> = (0..40).map(|handle| ((handle * 7) % 40, handle as i32)).collect();
-    let frames = |count: i32| {
-        // F(n) = ift(n) >x> add(n, -1) >m> F(m), goal F(count).
+    let mut edges = vec![
+        unknown("tokens: 64 called out", goal(calls(64), &turned)),
+        unknown("tokens: a fork for the 65th", goal(calls(65), &turned)),
+        unknown("cells: 32 side by side", goal(cells(32), &closed)),
+        unknown("cells: set and still bound", goal(bound, &odd)),
+    ];
+    edges.extend(frames());
+    edges.extend(tables_full());
+    edges
+}
+
+/// F(n) = ift(n) >x> add(n, -1) >m> F(m). Each level has five steps: its call, ift, assign, add,
+/// assign; the last a call and a silent ift.
+fn frames() -> Vec<Edge> {
+    let run = |count: i32| {
         let again = sequence(site(4, &[Var(0), Const(-1)]), call(0, &[Var(2)]));
         let body = sequence(site(1, &[Var(0)]), again);
         Program { definitions: vec![(1, body)], goal: call(0, &[Const(count)]) }.bytes()
     };
-    // For each level a call, ift, assign, add and assign; at last a call and a silent ift.
-    let frames_end = |count: i32| format!("end {}\n", 5 * count + 2);
     vec![
-        unknown("tokens: 64 called out", goal(calls(64), &turned)),
-        unknown("tokens: a fork at 64", goal(calls(65), &turned)),
-        known("tokens: 63 frames", frames(62), frames_end(62)),
-        // Each of 63 levels but the last has its five steps; the call at level 63 is refused.
-        known("tokens: a call at 64", frames(63), format!("refused 10\nend {}\n", 5 * 63)),
-        unknown("cells: 32 side by side", goal(cells(32), &closed)),
-        unknown("cells: a prune with both tables full", goal(fork(cells(32), cells(1)), &closed)),
-        unknown("places: given again", goal(again, &odd)),
+        known("tokens: 63 frames", run(62), format!("end {}\n", 5 * 62 + 2)),
+        known("tokens: a call for the 65th", run(63), format!("refused 10\nend {}\n", 5 * 63)),
     ]
+}
+
+/// Where all else is called out or waits, an answer lets one token go on: to a fork, a prune or a
+/// definition call.
+fn tables_full() -> Vec<Edge> {
+    let ways = [
+        ("a fork", fork(Expr::Stop, Expr::Stop)),
+        ("a prune", prune(Expr::Stop, Expr::Stop)),
+        ("a definition call", call(0, &[])),
+    ];
+    let mut edges = Vec::new();
+    for (name, next) in ways {
+        let program = |others: usize| {
+            let mut all = vec![sequence(site(18, &[]), next.clone())];
+            all.extend(vec![site(16, &[]); others]);
+            Program { definitions: vec![(0, Expr::Stop)], goal: forks(&all) }
+        };
+        let calls: String = (1..64).map(|handle| format!("call {handle} 16\n")).collect();
+        // 63 forks, 64 calls and the assign.
+        edges.push(known(
+            format!("tokens: {name} with 64 in use"),
+            with_answers(program(63), &[(0, 5)]),
+            format!("call 0 18\n{calls}refused 10\nend 128\n"),
+        ));
+        edges.push(unknown(
+            format!("tokens: {name} with 63 in use"),
+            with_answers(program(62), &[(0, 5), (1, 5)]),
+        ));
+    }
+    // The first of 32 prunes has another one in it.
+    let first = sequence(site(18, &[]), prune(give(Var(0)), Expr::Stop));
+    let mut all = vec![prune(first, site(17, &[]))];
+    all.extend(vec![prune(give(Var(0)), site(17, &[])); 31]);
+    let calls: String = (1..33).map(|handle| format!("call {handle} 17\n")).collect();
+    // 31 forks, 32 wheres, a call and 31 waits, 32 calls, and the assign.
+    edges.push(known(
+        "cells: a prune with 64 tokens and 32 cells in use",
+        goal(forks(&all), &[(0, 5)]),
+        format!("call 0 18\n{calls}refused 10\nend 128\n"),
+    ));
+    edges
 }
