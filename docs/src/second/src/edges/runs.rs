@@ -227,15 +227,26 @@ pub fn order() -> Vec<Edge> {
     // The inner prune ends with the outer one: its called-out and its waiting token.
     let inner = prune(site(20, &[Var(0)]), site(16, &[]));
     let nested = prune(give(Var(0)), fork(inner, site(17, &[])));
+    // D() = site16(): its token and its frame end when the right one gives its value.
+    let race = fork(call(0, &[]), sequence(signal(), give(Const(3))));
+    let framed = Program { definitions: vec![(0, site(16, &[]))], goal: prune(give(Var(0)), race) };
+    // D(a) = add(a, a) is called when x has its value.
+    let passes_set = Program {
+        definitions: vec![(1, site(4, &[Var(0), Var(0)]))],
+        goal: prune(sequence(give(Var(0)), call(0, &[Var(0)])), give(Const(-4))),
+    };
     vec![
         // where, call, stop, signal, return, remove, publish.
         known("order: a call does not wait", unset.bytes(), "publish 0\nend 7\n"),
         // fork, where, signal, wait, signal, assign, choke, and the two calls.
         known("order: woken to the back", goal(woken, &[]), "call 0 21\ncall 1 20 0\nend 9\n"),
         unknown("order: longest wait first", goal(prune(waiting, site(16, &[])), &[(0, 4)])),
-        unknown("order: waits twice", goal(both, &[(0, 1), (1, 2), (2, 3)])),
+        unknown("order: waits once", goal(both.clone(), &[(0, 1), (1, 2), (2, 3)])),
+        unknown("order: waits twice", goal(both, &[(1, 2), (0, 1), (2, 3)])),
         unknown("order: a choke ends a prune", goal(nested.clone(), &[(0, 6), (1, 7)])),
         unknown("order: the inner prune first", goal(nested, &[(1, 6), (0, 7)])),
+        unknown("order: a choke ends a frame", with_answers(framed, &[(0, 8)])),
+        unknown("order: a call passes a set cell", passes_set.bytes()),
         late_answers(),
     ]
 }

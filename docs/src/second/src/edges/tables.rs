@@ -175,8 +175,9 @@ fn fault(number: u8, name: &'static str, rows: &[Row], at: usize) -> Fault {
 /// Each fault behind so many definitions of two entries, and behind so many times `stop |`.
 pub fn refusals() -> Vec<Edge> {
     let mut edges = whole_tables();
+    edges.extend(too_deep());
     for fault in kinds().iter().chain(&operands()).chain(&lengths()).chain(&scopes()) {
-        for (definitions, levels) in [(0, 0), (0, 1), (1, 0), (2, 7), (32, 21)] {
+        for (definitions, levels) in [(0, 0), (0, 1), (1, 0), (5, 3), (2, 7), (32, 21)] {
             let mut rows: Vec<Row> = [(6, 0), (0, 0)].repeat(definitions);
             rows.extend([(3, 0), (0, 0)].repeat(levels));
             let entry = rows.len() + fault.at;
@@ -228,6 +229,7 @@ fn operands() -> Vec<Fault> {
         fault(4, "outside site with 65,535", &[(1, 0xffff_0010)], 0),
         fault(4, "definition call with five", &[(2, 0x0005_0000)], 0),
         fault(4, "missing definition, with five", &[(2, 0x0005_ffff)], 0),
+        fault(4, "on the left side", &[(3, 0), (1, 8), (0, 0)], 1),
         fault(4, "on the right side", &[(3, 0), (0, 0), (1, 8)], 2),
     ]
 }
@@ -259,14 +261,30 @@ fn scopes() -> Vec<Fault> {
     ]
 }
 
+/// Depth 25 in the goal, behind so many definitions of two entries.
+fn too_deep() -> Vec<Edge> {
+    let left: Vec<Row> = [vec![(3, 0); 24], vec![(0, 0); 25]].concat();
+    let right: Vec<Row> = [[(3, 0), (0, 0)].repeat(24), vec![(0, 0)]].concat();
+    let mut edges = Vec::new();
+    for definitions in [0, 1, 2, 5, 32] {
+        let bodies: Vec<Row> = [(6, 0), (0, 0)].repeat(definitions);
+        for (name, goal, at) in [("left sides", &left, 24), ("right sides", &right, 47)] {
+            let entry = bodies.len() + at;
+            edges.push(known(
+                format!("table 6 at {entry}, D = {definitions}: {name}"),
+                encode(definitions as u16, &[&bodies[..], goal].concat()),
+                format!("table 6 {entry}\n"),
+            ));
+        }
+    }
+    edges
+}
+
 /// Faults that are no expression.
 fn whole_tables() -> Vec<Edge> {
     let table = |name: &str, d: u16, rows: &[Row], lines: &str| {
         known(format!("{}: {name}", lines.trim_end()), encode(d, rows), lines)
     };
-    let forks = |count: usize| [(3, 0)].repeat(count);
-    let deep: Vec<Row> = [forks(24), vec![(0, 0); 25]].concat();
-    let behind = |front: &[Row]| [front, &deep].concat();
     let nine = |kind: u8| -> Vec<Row> {
         let mut rows: Vec<Row> = [(4, 0), (0, 0)].repeat(8);
         rows.extend([(kind, 0), (0, 0), (0, 0)]);
@@ -279,9 +297,6 @@ fn whole_tables() -> Vec<Edge> {
         table("formals 65,536", 2, &[(6, 0), (0, 0), (6, 0x1_0000), (0, 0), (0, 0)], "table 4 2\n"),
         table("no goal", 1, &[(6, 0), (0, 0)], "table 5 2\n"),
         table("no body", 1, &[(6, 0)], "table 5 1\n"),
-        table("depth 25", 0, &deep, "table 6 24\n"),
-        table("depth 25", 0, &behind(&[(3, 0), (0, 0)])[..], "table 6 25\n"),
-        table("depth 25, behind a body", 1, &behind(&[(6, 0), (0, 0)]), "table 6 26\n"),
         table("a ninth binder, sequence", 0, &nine(4), "table 7 16\n"),
         table("a ninth binder, prune", 0, &nine(5), "table 7 16\n"),
         table("formals of the body before", 1, &[(6, 2), (0, 0), (1, LET), (7, 0)], "table 7 3\n"),
