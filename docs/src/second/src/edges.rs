@@ -14,8 +14,8 @@ pub use tables::full_prunes;
 pub struct Edge {
     pub name: String,
     pub input: Vec<u8>,
-    /// What it prints, where the paper says it or where it was worked out by hand.
-    pub known: Option<String>,
+    /// What it prints, as the paper says or as worked out by hand.
+    pub lines: String,
 }
 
 /// All edge cases.
@@ -34,12 +34,8 @@ pub fn edges() -> Vec<Edge> {
     edges
 }
 
-fn known(name: impl Into<String>, input: Vec<u8>, lines: impl Into<String>) -> Edge {
-    Edge { name: name.into(), input, known: Some(lines.into()) }
-}
-
-fn unknown(name: impl Into<String>, input: Vec<u8>) -> Edge {
-    Edge { name: name.into(), input, known: None }
+fn edge(name: impl Into<String>, input: Vec<u8>, lines: impl Into<String>) -> Edge {
+    Edge { name: name.into(), input, lines: lines.into() }
 }
 
 /// A goal without definitions, and answers.

@@ -1,10 +1,11 @@
 //! Runs at the edges: the paper's marked ones, values, answers, pieces, order, full tables.
 
 use super::steps::doubling;
-use super::{call, endless_calls, endless_cells, forks, goal, known, site, unknown};
+use super::{call, edge, endless_calls, endless_cells, forks, goal, site};
 use super::{with_answers, with_piece, Edge};
 use crate::syntax::Param::{Const, Var};
 use crate::syntax::{encode, fork, give, prune, sequence, signal, Expr, Param, Program};
+use std::ops::Range;
 
 const MIN: i32 = i32::MIN;
 const MAX: i32 = i32::MAX;
@@ -16,17 +17,17 @@ fn add(a: i32, b: i32) -> Expr {
 /// The twelve marked runs, in the paper's order.
 pub fn marked() -> Vec<Edge> {
     let run =
-        |name: &str, expr, lines: &str| known(format!("marked: {name}"), goal(expr, &[]), lines);
+        |name: &str, expr, lines: &str| edge(format!("marked: {name}"), goal(expr, &[]), lines);
     let one_or_two = || fork(give(Const(1)), give(Const(2)));
     let example = prune(give(Var(0)), fork(site(16, &[Const(5)]), site(17, &[])));
     vec![
-        known(
+        edge(
             "marked: example",
             goal(example, &[(1, 42), (0, 7)]),
             "call 0 16 5\ncall 1 17\npublish 42\nrefused 12\nend 9\n",
         ),
         run("stop", Expr::Stop, "end 1\n"),
-        known("marked: N = 0", vec![0; 4], "table 2 0\n"),
+        edge("marked: N = 0", vec![0; 4], "table 2 0\n"),
         run("signal()", signal(), "publish 0\nend 2\n"),
         run("stop >x> let(x)", sequence(Expr::Stop, give(Var(0))), "end 1\n"),
         run("let(x) <x< stop", prune(give(Var(0)), Expr::Stop), "end 3\n"),
@@ -42,8 +43,8 @@ pub fn marked() -> Vec<Edge> {
             prune(give(Var(0)), one_or_two()),
             "publish 1\nend 9\n",
         ),
-        known("marked: E() = E()", endless_calls().bytes(), "refused 10\nend 63\n"),
-        known("marked: W() = stop <x< W()", endless_cells().bytes(), "refused 11\nend 97\n"),
+        edge("marked: E() = E()", endless_calls().bytes(), "refused 10\nend 63\n"),
+        edge("marked: W() = stop <x< W()", endless_cells().bytes(), "refused 11\nend 97\n"),
     ]
 }
 
@@ -53,7 +54,7 @@ fn gives(name: &str, expr: Expr, value: Option<i32>) -> Edge {
         Some(value) => format!("publish {value}\nend 2\n"),
         None => "end 1\n".to_string(),
     };
-    known(format!("value: {name}"), goal(expr, &[]), lines)
+    edge(format!("value: {name}"), goal(expr, &[]), lines)
 }
 
 /// The ends of signed 32 bits, negative values, and four parameters in their order.
@@ -95,19 +96,19 @@ fn parameters() -> Vec<Edge> {
         let values: String = (1..=count).map(|value| format!(" -{value}")).collect();
         let params: Vec<Param> = (1..=count).map(|value| Const(-(value as i32))).collect();
         let lines = format!("call 0 16{values}\nend 1\n");
-        known(format!("value: call with {count}"), goal(site(16, &params), &[]), lines)
+        edge(format!("value: call with {count}"), goal(site(16, &params), &[]), lines)
     };
     // D(a, b, c, d) calls out with its formals in another order.
     let turned = site(1023, &[Var(3), Var(0), Var(2), Var(1)]);
     let passed = Program { definitions: vec![(4, turned)], goal: call(0, &ends) };
     let mut edges: Vec<Edge> = (0..=4).map(count).collect();
-    edges.push(known(
+    edges.push(edge(
         "value: call of site 1023 with both ends",
         goal(site(1023, &ends), &[(0, MIN)]),
         "call 0 1023 -2147483648 2147483647 -1 0\npublish -2147483648\nend 2\n",
     ));
     // The definition call and the outside call; then return and publish.
-    edges.push(known(
+    edges.push(edge(
         "value: four formals",
         with_answers(passed, &[(0, MAX)]),
         "call 0 1023 0 -2147483648 -1 2147483647\npublish 2147483647\nend 4\n",
@@ -123,46 +124,38 @@ pub fn answers() -> Vec<Edge> {
     let high = [1 << 8, 1 << 16, 1 << 24, 1 << 31, u32::MAX].map(|handle| (handle, 1));
     vec![
         // Two forks, three calls, three publishes.
-        known(
+        edge(
             "answers: the last call first",
             goal(three(), &[(2, -3), (1, -2), (0, -1)]),
             format!("{calls}publish -3\npublish -2\npublish -1\nend 8\n"),
         ),
-        known(
+        edge(
             "answers: one twice",
             goal(three(), &[(1, 5), (1, 6), (0, 7)]),
             format!("{calls}publish 5\nrefused 12\npublish 7\nend 7\n"),
         ),
-        known("answers: least", one(&[(0, MIN)]), "call 0 16\npublish -2147483648\nend 2\n"),
-        known("answers: most", one(&[(0, MAX)]), "call 0 16\npublish 2147483647\nend 2\n"),
-        known(
+        edge("answers: least", one(&[(0, MIN)]), "call 0 16\npublish -2147483648\nend 2\n"),
+        edge("answers: most", one(&[(0, MAX)]), "call 0 16\npublish 2147483647\nend 2\n"),
+        edge(
             "answers: not called yet",
             one(&[(1, 5), (0, -9)]),
             "call 0 16\nrefused 12\npublish -9\nend 2\n",
         ),
-        known(
+        edge(
             "answers: high bits of a handle",
             one(&[&high[..], &[(0, 1)]].concat()),
             format!("call 0 16\n{}publish 1\nend 2\n", "refused 12\n".repeat(5)),
         ),
-        known("answers: no call at all", goal(Expr::Stop, &[(0, 0)]), "refused 12\nend 1\n"),
-        known(
+        edge("answers: no call at all", goal(Expr::Stop, &[(0, 0)]), "refused 12\nend 1\n"),
+        edge(
             "answers: after a refused step",
             with_answers(endless_calls(), &[(0, 0)]),
             "refused 10\nend 63\n",
         ),
-        known(
-            "answers: after table",
-            {
-                let mut bytes = encode(0, &[(9, 0)]);
-                bytes.extend([0; 16]);
-                bytes
-            },
-            "table 3 0\n",
-        ),
+        edge("answers: after table", with_piece(encode(0, &[(9, 0)]), 16), "table 3 0\n"),
         // The second call is made only after the first answer.
-        known(
-            "answers: one for a call that the one before makes",
+        edge(
+            "answers: to a call that an answer made",
             goal(sequence(site(16, &[]), site(17, &[Var(0)])), &[(0, -8), (1, 9)]),
             "call 0 16\ncall 1 17 -8\npublish 9\nend 5\n",
         ),
@@ -174,41 +167,41 @@ pub fn pieces() -> Vec<Edge> {
     let mut edges: Vec<Edge> = (1..=7)
         .map(|length| {
             let input = with_piece(goal(site(16, &[]), &[]), length);
-            known(format!("piece: {length} bytes"), input, "call 0 16\nshort\nend 1\n")
+            edge(format!("piece: {length} bytes"), input, "call 0 16\nshort\nend 1\n")
         })
         .collect();
     let answered = goal(site(16, &[]), &[(0, -1)]);
     let kinds = encode(0, &[(9, 0)]);
     let sizes = encode(33, &[(0, 0)]);
     edges.extend([
-        known(
+        edge(
             "piece: behind an answer",
             with_piece(answered, 4),
             "call 0 16\npublish -1\nshort\nend 2\n",
         ),
-        known(
+        edge(
             "piece: after a refused answer",
             with_piece(goal(signal(), &[(0, 0)]), 2),
             "publish 0\nrefused 12\nshort\nend 2\n",
         ),
-        known(
+        edge(
             "piece: after a refused step, 10",
             with_piece(endless_calls().bytes(), 3),
             "refused 10\nend 63\n",
         ),
-        known(
+        edge(
             "piece: after a refused step, 11",
             with_piece(endless_cells().bytes(), 3),
             "refused 11\nend 97\n",
         ),
-        known(
+        edge(
             "piece: after a refused step, behind a record",
             with_piece(with_answers(endless_cells(), &[(0, 1)]), 6),
             "refused 11\nend 97\n",
         ),
-        known("piece: after table 2", with_piece(sizes, 3), "table 2 0\n"),
-        known("piece: after table 3", with_piece(kinds, 5), "table 3 0\n"),
-        known("piece: after table 1", with_piece(vec![0, 0, 9, 0], 7), "table 1 0\n"),
+        edge("piece: after table 2", with_piece(sizes, 3), "table 2 0\n"),
+        edge("piece: after table 3", with_piece(kinds, 5), "table 3 0\n"),
+        edge("piece: after table 1", with_piece(vec![0, 0, 9, 0], 7), "table 1 0\n"),
     ]);
     edges
 }
@@ -237,16 +230,47 @@ pub fn order() -> Vec<Edge> {
     };
     vec![
         // where, call, stop, signal, return, remove, publish.
-        known("order: a call does not wait", unset.bytes(), "publish 0\nend 7\n"),
+        edge("order: a call does not wait", unset.bytes(), "publish 0\nend 7\n"),
         // fork, where, signal, wait, signal, assign, choke, and the two calls.
-        known("order: woken to the back", goal(woken, &[]), "call 0 21\ncall 1 20 0\nend 9\n"),
-        unknown("order: longest wait first", goal(prune(waiting, site(16, &[])), &[(0, 4)])),
-        unknown("order: waits once", goal(both.clone(), &[(0, 1), (1, 2), (2, 3)])),
-        unknown("order: waits twice", goal(both, &[(1, 2), (0, 1), (2, 3)])),
-        unknown("order: a choke ends a prune", goal(nested.clone(), &[(0, 6), (1, 7)])),
-        unknown("order: the inner prune first", goal(nested, &[(1, 6), (0, 7)])),
-        unknown("order: a choke ends a frame", with_answers(framed, &[(0, 8)])),
-        unknown("order: a call passes a set cell", passes_set.bytes()),
+        edge("order: woken to the back", goal(woken, &[]), "call 0 21\ncall 1 20 0\nend 9\n"),
+        // where, fork, the call, signal, fork, assign, three waits; choke, three calls.
+        edge(
+            "order: longest wait first",
+            goal(prune(waiting, site(16, &[])), &[(0, 4)]),
+            "call 0 16\ncall 1 21 4\ncall 2 22 4\ncall 3 20 4\nend 13\n",
+        ),
+        // Two wheres, two calls, a wait, two chokes, the call, two removes, publish.
+        edge(
+            "order: waits once",
+            goal(both.clone(), &[(0, 1), (1, 2), (2, 3)]),
+            "call 0 17\ncall 1 16\ncall 2 20 2 1\npublish 3\nend 11\n",
+        ),
+        edge(
+            "order: waits twice",
+            goal(both, &[(1, 2), (0, 1), (2, 3)]),
+            "call 0 17\ncall 1 16\ncall 2 20 2 1\npublish 3\nend 12\n",
+        ),
+        // where, wait, fork, where, call, wait, call; choke, let, remove, publish.
+        edge(
+            "order: a choke ends a prune",
+            goal(nested.clone(), &[(0, 6), (1, 7)]),
+            "call 0 17\ncall 1 16\npublish 6\nrefused 12\nend 11\n",
+        ),
+        // The inner choke and the call of site 20 come on top.
+        edge(
+            "order: the inner prune first",
+            goal(nested, &[(1, 6), (0, 7)]),
+            "call 0 17\ncall 1 16\ncall 2 20 6\npublish 7\nend 13\n",
+        ),
+        // where, wait, fork, call, signal, outside call, assign, let, remove; choke, let, remove,
+        // publish.
+        edge(
+            "order: a choke ends a frame",
+            with_answers(framed, &[(0, 8)]),
+            "call 0 16\npublish 3\nrefused 12\nend 13\n",
+        ),
+        // where, wait, let, choke, let, assign, call, add, return, two removes, publish.
+        edge("order: a call passes a set cell", passes_set.bytes(), "publish -8\nend 12\n"),
         late_answers(),
     ]
 }
@@ -264,7 +288,16 @@ fn late_answers() -> Edge {
     }
     // F0 takes 10 steps with its call, Fk twice as many as F(k-1) and 4.
     lines += &format!("publish 31\nrefused 12\nend {}\n", (10 + 4) * 32 - 4 + 1);
-    known("order: late answers, places given again", with_answers(program, &answers), lines)
+    edge("order: late answers, places given again", with_answers(program, &answers), lines)
+}
+
+/// Lines of calls under these handles, all with the same rest.
+fn called(handles: Range<u32>, rest: &str) -> String {
+    handles.map(|handle| format!("call {handle} {rest}\n")).collect()
+}
+
+fn published(values: impl Iterator<Item = i32>) -> String {
+    values.map(|value| format!("publish {value}\n")).collect()
 }
 
 /// As many tokens and cells as there are places, and one more.
@@ -278,10 +311,31 @@ pub fn full() -> Vec<Edge> {
     let bound = sequence(calls(40), prune(site(18, &[Var(1)]), signal()));
     let odd: Vec<(u32, i32)> = (0..40).map(|handle| ((handle * 7) % 40, handle as i32)).collect();
     let mut edges = vec![
-        unknown("tokens: 64 called out", goal(calls(64), &turned)),
-        unknown("tokens: a fork for the 65th", goal(calls(65), &turned)),
-        unknown("cells: 32 side by side", goal(cells(32), &closed)),
-        unknown("cells: set and still bound", goal(bound, &odd)),
+        // 63 forks, 64 calls, 64 publishes.
+        edge(
+            "tokens: 64 called out",
+            goal(calls(64), &turned),
+            format!("{}{}end 191\n", called(0..64, "16"), published(0..64)),
+        ),
+        // 63 forks and 63 calls; the last place has a fork.
+        edge(
+            "tokens: a fork for the 65th",
+            goal(calls(65), &turned),
+            format!("{}refused 10\nend 126\n", called(0..63, "16")),
+        ),
+        // 31 forks, 32 wheres, waits and calls; for each answer choke, let, remove, publish.
+        edge(
+            "cells: 32 side by side",
+            goal(cells(32), &closed),
+            format!("{}{}end 255\n", called(0..32, "17"), published((-31..=0).rev())),
+        ),
+        // 39 forks, 40 calls; for each of 32 answers assign, where, wait, signal, choke, call; then
+        // an assign.
+        edge(
+            "cells: set and still bound",
+            goal(bound, &odd),
+            format!("{}{}refused 11\nend 272\n", called(0..40, "16"), called(40..72, "18 0")),
+        ),
     ];
     edges.extend(frames());
     edges.extend(tables_full());
@@ -297,48 +351,49 @@ fn frames() -> Vec<Edge> {
         Program { definitions: vec![(1, body)], goal: call(0, &[Const(count)]) }.bytes()
     };
     vec![
-        known("tokens: 63 frames", run(62), format!("end {}\n", 5 * 62 + 2)),
-        known("tokens: a call for the 65th", run(63), format!("refused 10\nend {}\n", 5 * 63)),
+        edge("tokens: 63 frames", run(62), format!("end {}\n", 5 * 62 + 2)),
+        edge("tokens: a call for the 65th", run(63), format!("refused 10\nend {}\n", 5 * 63)),
     ]
 }
 
 /// Where all else is called out or waits, an answer lets one token go on: to a fork, a prune or a
 /// definition call.
 fn tables_full() -> Vec<Edge> {
+    // How it goes on, and in how many steps it ends.
     let ways = [
-        ("a fork", fork(Expr::Stop, Expr::Stop)),
-        ("a prune", prune(Expr::Stop, Expr::Stop)),
-        ("a definition call", call(0, &[])),
+        ("a fork", fork(Expr::Stop, Expr::Stop), 3),
+        ("a prune", prune(Expr::Stop, Expr::Stop), 3),
+        ("a definition call", call(0, &[]), 2),
     ];
     let mut edges = Vec::new();
-    for (name, next) in ways {
+    for (name, next, steps) in ways {
         let program = |others: usize| {
             let mut all = vec![sequence(site(18, &[]), next.clone())];
             all.extend(vec![site(16, &[]); others]);
             Program { definitions: vec![(0, Expr::Stop)], goal: forks(&all) }
         };
-        let calls: String = (1..64).map(|handle| format!("call {handle} 16\n")).collect();
         // 63 forks, 64 calls and the assign.
-        edges.push(known(
+        edges.push(edge(
             format!("tokens: {name} with 64 in use"),
             with_answers(program(63), &[(0, 5)]),
-            format!("call 0 18\n{calls}refused 10\nend 128\n"),
+            format!("call 0 18\n{}refused 10\nend 128\n", called(1..64, "16")),
         ));
-        edges.push(unknown(
+        // 62 forks, 63 calls and the assign; then a publish.
+        edges.push(edge(
             format!("tokens: {name} with 63 in use"),
             with_answers(program(62), &[(0, 5), (1, 5)]),
+            format!("call 0 18\n{}publish 5\nend {}\n", called(1..63, "16"), 127 + steps),
         ));
     }
     // The first of 32 prunes has another one in it.
     let first = sequence(site(18, &[]), prune(give(Var(0)), Expr::Stop));
     let mut all = vec![prune(first, site(17, &[]))];
     all.extend(vec![prune(give(Var(0)), site(17, &[])); 31]);
-    let calls: String = (1..33).map(|handle| format!("call {handle} 17\n")).collect();
     // 31 forks, 32 wheres, a call and 31 waits, 32 calls, and the assign.
-    edges.push(known(
+    edges.push(edge(
         "cells: a prune with 64 tokens and 32 cells in use",
         goal(forks(&all), &[(0, 5)]),
-        format!("call 0 18\n{calls}refused 10\nend 128\n"),
+        format!("call 0 18\n{}refused 10\nend 128\n", called(1..33, "17")),
     ));
     edges
 }

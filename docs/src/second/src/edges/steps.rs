@@ -1,6 +1,6 @@
 //! Runs of 100,000 steps, and one more or less.
 
-use super::{call, known, with_answers, with_piece, Edge};
+use super::{call, edge, with_answers, with_piece, Edge};
 use crate::lines::MOST_STEPS;
 use crate::syntax::{fork, give, prune, sequence, signal, Expr, Param, Program};
 
@@ -49,10 +49,10 @@ pub fn limits() -> Vec<Edge> {
 fn ends_by_itself() -> Vec<Edge> {
     let run = |steps| exact_steps(steps).bytes();
     vec![
-        known("steps: 99,999", run(MOST_STEPS - 1), "publish 0\nend 99999\n"),
-        known("steps: 100,000", run(MOST_STEPS), "publish 0\nend 100000\n"),
+        edge("steps: 99,999", run(MOST_STEPS - 1), "publish 0\nend 99999\n"),
+        edge("steps: 100,000", run(MOST_STEPS), "publish 0\nend 100000\n"),
         // The publish would be the step too many.
-        known("steps: 100,001", run(MOST_STEPS + 1), "limit\nend 100000\n"),
+        edge("steps: 100,001", run(MOST_STEPS + 1), "limit\nend 100000\n"),
     ]
 }
 
@@ -61,18 +61,18 @@ fn pieces() -> Vec<Edge> {
     let run = |steps| exact_steps(steps);
     let all = MOST_STEPS;
     vec![
-        known("piece: after limit", with_piece(run(all + 1).bytes(), 3), "limit\nend 100000\n"),
-        known(
+        edge("piece: after limit", with_piece(run(all + 1).bytes(), 3), "limit\nend 100000\n"),
+        edge(
             "piece: after limit, behind a record",
             with_piece(with_answers(run(all + 1), &[(0, 0)]), 7),
             "limit\nend 100000\n",
         ),
-        known(
+        edge(
             "piece: empty queue at 100,000 steps",
             with_piece(run(all).bytes(), 5),
             "publish 0\nshort\nend 100000\n",
         ),
-        known(
+        edge(
             "piece: empty queue at 100,000 steps, after a refused answer",
             with_piece(with_answers(run(all), &[(0, 0)]), 1),
             "publish 0\nrefused 12\nshort\nend 100000\n",
@@ -90,16 +90,12 @@ fn answered() -> Vec<Edge> {
     };
     let first = "call 0 16\npublish 0\nrefused 12\n";
     vec![
-        known(
+        edge(
             "steps: an answer at 99,999",
             run(MOST_STEPS - 1),
             format!("{first}publish 6\nshort\nend 100000\n"),
         ),
-        known(
-            "steps: an answer at 100,000",
-            run(MOST_STEPS),
-            format!("{first}limit\nend 100000\n"),
-        ),
+        edge("steps: an answer at 100,000", run(MOST_STEPS), format!("{first}limit\nend 100000\n")),
     ]
 }
 
@@ -115,8 +111,8 @@ fn refused_at() -> Vec<Edge> {
         program.bytes()
     };
     vec![
-        known("steps: 99,999, then refused", run(MOST_STEPS - 1), "refused 10\nend 99999\n"),
-        known("steps: 100,000, not refused", run(MOST_STEPS), "limit\nend 100000\n"),
+        edge("steps: 99,999, then refused", run(MOST_STEPS - 1), "refused 10\nend 99999\n"),
+        edge("steps: 100,000, not refused", run(MOST_STEPS), "limit\nend 100000\n"),
     ]
 }
 
@@ -127,9 +123,9 @@ fn others_there() -> Vec<Edge> {
     let waits = prune(give(Param::Var(0)), deep(LEVELS));
     let called = fork(Expr::Site(16, vec![]), deep(LEVELS));
     vec![
-        known("limit: a token waits", run(waits).bytes(), "limit\nend 100000\n"),
-        known("limit: two are ready", run(fork(deep(13), deep(13))).bytes(), "limit\nend 100000\n"),
-        known(
+        edge("limit: a token waits", run(waits).bytes(), "limit\nend 100000\n"),
+        edge("limit: two are ready", run(fork(deep(13), deep(13))).bytes(), "limit\nend 100000\n"),
+        edge(
             "limit: one is called out",
             with_answers(run(called), &[(0, 1)]),
             "call 0 16\nlimit\nend 100000\n",

@@ -1,8 +1,8 @@
 //! Tables at the edges: sizes, depth, scope, and each refusal at several entries.
 
 use super::steps::doubling;
-use super::{call, forks, goal, known, site, unknown, with_answers, Edge};
-use crate::lines::{MOST_INPUT, RECORD};
+use super::{call, edge, forks, goal, site, with_answers, Edge};
+use crate::lines::MOST_INPUT;
 use crate::syntax::{encode, fork, give, prune, sequence, signal, Expr, Param, Program, Row};
 use crate::table::{MOST_DEFINITIONS, MOST_ENTRIES};
 
@@ -27,20 +27,22 @@ fn depth() -> Vec<Edge> {
     let second = |depth: usize| around(depth - 1, signal(), |g| prune(signal(), g));
     let body = |depth| Program { definitions: vec![(0, left(depth))], goal: call(0, &[]) }.bytes();
     vec![
-        known("depth 24, right sides", goal(right(24, Expr::Stop), &[]), "end 47\n"),
+        edge("depth 24, right sides", goal(right(24, Expr::Stop), &[]), "end 47\n"),
         // The two deepest of 49 entries have depth 25.
-        known("depth 25, right sides", goal(right(25, Expr::Stop), &[]), "table 6 47\n"),
-        known("depth 24, left sides", goal(left(24), &[]), "end 47\n"),
-        known("depth 25, left sides", goal(left(25), &[]), "table 6 24\n"),
+        edge("depth 25, right sides", goal(right(25, Expr::Stop), &[]), "table 6 47\n"),
+        edge("depth 24, left sides", goal(left(24), &[]), "end 47\n"),
+        edge("depth 25, left sides", goal(left(25), &[]), "table 6 24\n"),
         // signal and publish; for each sequence assign, let and remove.
-        known("depth 24, sequences", goal(first(24), &[]), "publish 2\nend 71\n"),
-        known("depth 25, sequences", goal(first(25), &[]), "table 6 24\n"),
-        unknown("depth 24, prunes", goal(second(24), &[])),
-        known("depth 25, prunes", goal(second(25), &[]), "table 6 47\n"),
+        edge("depth 24, sequences", goal(first(24), &[]), "publish 2\nend 71\n"),
+        edge("depth 25, sequences", goal(first(25), &[]), "table 6 24\n"),
+        // where, signal, where, remove, signal, where, publish, remove, signal, where; then the
+        // choke at the second level ends all that is left.
+        edge("depth 24, prunes", goal(second(24), &[]), "publish 0\nend 11\n"),
+        edge("depth 25, prunes", goal(second(25), &[]), "table 6 47\n"),
         // The call, 23 forks and 24 stops.
-        known("depth 24, in a body", body(24), "end 48\n"),
-        known("depth 25, in a body", body(25), "table 6 25\n"),
-        known(
+        edge("depth 24, in a body", body(24), "end 48\n"),
+        edge("depth 25, in a body", body(25), "table 6 25\n"),
+        edge(
             "depth 24, a parameter adds none",
             goal(right(24, give(Param::Const(9))), &[]),
             "publish 9\nend 48\n",
@@ -62,12 +64,14 @@ fn variables() -> Vec<Edge> {
     };
     vec![
         // let, assign and remove for each; then the inner let and publish.
-        known("variables 8, sequences", goal(sequences(8), &[]), "publish 3\nend 26\n"),
-        known("variables 9, sequences", goal(sequences(9), &[]), "table 7 24\n"),
-        unknown("variables 8, prunes", goal(prunes(8), &[])),
-        known("variables 9, prunes", goal(prunes(9), &[]), "table 7 8\n"),
-        unknown("variables 8, four of them formals", body(4)),
-        known("variables 9, four of them formals", body(5), "table 7 5\n"),
+        edge("variables 8, sequences", goal(sequences(8), &[]), "publish 3\nend 26\n"),
+        edge("variables 9, sequences", goal(sequences(9), &[]), "table 7 24\n"),
+        // where, let, choke and remove for each; a wait, the inner let and publish.
+        edge("variables 8, prunes", goal(prunes(8), &[]), "publish 3\nend 35\n"),
+        edge("variables 9, prunes", goal(prunes(9), &[]), "table 7 8\n"),
+        // The call and the return come on top.
+        edge("variables 8, four of them formals", body(4), "publish 0\nend 21\n"),
+        edge("variables 9, four of them formals", body(5), "table 7 5\n"),
     ]
 }
 
@@ -92,11 +96,18 @@ fn entries() -> Vec<Edge> {
         // By rounds of the queue: 1, 2 and 4 tokens act (7 steps, 7 tokens); 6 fork and one
         // publishes (14 steps, 12 tokens); 12 fork, 24 fork (50 steps, 48 tokens); 16 more fork,
         // and all places are taken.
-        known("entries 512", goal(full, &[]), "publish 1\nrefused 10\nend 66\n"),
-        known("entries 513", goal(fork(stops(128), stops(129)), &[]), "table 2 0\n"),
-        unknown("entries 512, 32 definitions", with_answers(with(fills), &[(0, -7)])),
-        known("entries 513, 32 definitions", with(overfills).bytes(), "table 2 0\n"),
-        unknown("nodes 1,022", goal(full_prunes(8), &[])),
+        edge("entries 512", goal(full, &[]), "publish 1\nrefused 10\nend 66\n"),
+        edge("entries 513", goal(fork(stops(128), stops(129)), &[]), "table 2 0\n"),
+        // 30 forks, 30 stops and the call; then assign and call, 6 forks, and for each of 7 signals
+        // return, remove and publish.
+        edge(
+            "entries 512, 32 definitions",
+            with_answers(with(fills), &[(0, -7)]),
+            format!("call 0 16 7\n{}end 97\n", "publish 0\n".repeat(7)),
+        ),
+        edge("entries 513, 32 definitions", with(overfills).bytes(), "table 2 0\n"),
+        // All tokens stand at a where: 32 of them are accepted.
+        edge("nodes 1,022", goal(full_prunes(8), &[]), "refused 11\nend 32\n"),
     ]
 }
 
@@ -120,41 +131,48 @@ pub fn sizes() -> Vec<Edge> {
     let mut too_long = most_answers();
     too_long.push(0);
     vec![
-        known("bytes 0", vec![], "table 1 0\n"),
-        known("bytes 1", vec![0], "table 1 0\n"),
-        known("bytes 2", vec![33, 0], "table 1 0\n"),
-        known("bytes 3", vec![0, 0, 1], "table 1 0\n"),
-        known("bytes 4, N = 1", vec![0, 0, 1, 0], "table 1 0\n"),
-        known("bytes 8, N = 1", filled(&[0, 0, 1], 8), "table 1 0\n"),
-        known("bytes 9, N = 1", filled(&[0, 0, 1], 9), "end 1\n"),
-        unknown("bytes 65,536, with an answer for each of many calls", most_answers()),
-        known("bytes 65,537", too_long, "long\n"),
-        known("bytes 65,537, all 0", vec![0; MOST_INPUT + 1], "long\n"),
-        known("N = 65,535, nothing else", vec![0, 0, 255, 255], "table 1 0\n"),
-        known("N = 65,535, 65,536 bytes", filled(&[33, 0, 255, 255], MOST_INPUT), "table 1 0\n"),
+        edge("bytes 0", vec![], "table 1 0\n"),
+        edge("bytes 1", vec![0], "table 1 0\n"),
+        edge("bytes 2", vec![33, 0], "table 1 0\n"),
+        edge("bytes 3", vec![0, 0, 1], "table 1 0\n"),
+        edge("bytes 4, N = 1", vec![0, 0, 1, 0], "table 1 0\n"),
+        edge("bytes 8, N = 1", filled(&[0, 0, 1], 8), "table 1 0\n"),
+        edge("bytes 9, N = 1", filled(&[0, 0, 1], 9), "end 1\n"),
+        edge("bytes 65,536", most_answers(), most_answers_lines()),
+        edge("bytes 65,537", too_long, "long\n"),
+        edge("bytes 65,537, all 0", vec![0; MOST_INPUT + 1], "long\n"),
+        edge("N = 65,535, nothing else", vec![0, 0, 255, 255], "table 1 0\n"),
+        edge("N = 65,535, 65,536 bytes", filled(&[33, 0, 255, 255], MOST_INPUT), "table 1 0\n"),
         // All these entries are there, and two bytes are left.
-        known("N = 13,106, 65,536 bytes", filled(&[0, 0, 0x32, 0x33], MOST_INPUT), "table 2 0\n"),
-        known("N = 0, with a record", vec![0; 12], "table 2 0\n"),
-        known("D = 33", stop(33), "table 2 0\n"),
-        known("D = 65,535", stop(65_535), "table 2 0\n"),
+        edge("N = 13,106, 65,536 bytes", filled(&[0, 0, 0x32, 0x33], MOST_INPUT), "table 2 0\n"),
+        edge("N = 0, with a record", vec![0; 12], "table 2 0\n"),
+        edge("D = 33", stop(33), "table 2 0\n"),
+        edge("D = 65,535", stop(65_535), "table 2 0\n"),
         // Its low byte is 0.
-        known("D = 256", stop(256), "table 2 0\n"),
-        known("D = 33, cut short", stop(33)[..8].to_vec(), "table 1 0\n"),
-        known("D = 32, no definition", stop(32), "table 3 0\n"),
+        edge("D = 256", stop(256), "table 2 0\n"),
+        edge("D = 33, cut short", stop(33)[..8].to_vec(), "table 1 0\n"),
+        edge("D = 32, no definition", stop(32), "table 3 0\n"),
     ]
 }
 
-/// One outside call after the other, with as many answers as there is room for: the table, whole
-/// records and a piece make 65,536 bytes.
+/// F0() = site16(), goal F13(): 8,192 outside calls, one after the other. The table has 55 entries,
+/// so there is room for 8,157 answers, and one byte is left.
 fn most_answers() -> Vec<u8> {
-    let calls = doubling(site(16, &[]), 13);
-    let program = Program { definitions: calls, goal: call(13, &[]) };
-    let room = (MOST_INPUT - program.bytes().len()) / RECORD;
-    let answers: Vec<(u32, i32)> =
-        (0..room as u32).map(|handle| (handle, handle as i32 - 4000)).collect();
+    let program = Program { definitions: doubling(site(16, &[]), 13), goal: call(13, &[]) };
+    let answers: Vec<(u32, i32)> = (0..8157).map(|handle| (handle, handle as i32 - 4000)).collect();
     let mut bytes = with_answers(program, &answers);
-    bytes.resize(MOST_INPUT, 255);
+    bytes.push(255);
+    assert_eq!(bytes.len(), MOST_INPUT);
     bytes
+}
+
+/// F13 takes 7 * 2^13 - 4 steps. Behind call 8157 there are left: its return; remove and return at
+/// each of 13 levels; and, since 8157 = 8191 - 32 - 2, an assign and a call of F5 and of F1.
+fn most_answers_lines() -> String {
+    let calls: String = (0..=8157).map(|handle| format!("call {handle} 16\n")).collect();
+    let cost = |level: u32| (7 << level) - 4;
+    let left = 1 + 2 * 13 + (1 + cost(5)) + (1 + cost(1));
+    format!("{calls}short\nend {}\n", cost(13) - left)
 }
 
 // Each refusal at several entries.
@@ -185,7 +203,7 @@ pub fn refusals() -> Vec<Edge> {
             let name =
                 format!("table {} at {entry}, D = {definitions}: {}", fault.number, fault.name);
             let lines = format!("table {} {entry}\n", fault.number);
-            edges.push(known(name, encode(definitions as u16, &rows), lines));
+            edges.push(edge(name, encode(definitions as u16, &rows), lines));
         }
     }
     edges
@@ -270,7 +288,7 @@ fn too_deep() -> Vec<Edge> {
         let bodies: Vec<Row> = [(6, 0), (0, 0)].repeat(definitions);
         for (name, goal, at) in [("left sides", &left, 24), ("right sides", &right, 47)] {
             let entry = bodies.len() + at;
-            edges.push(known(
+            edges.push(edge(
                 format!("table 6 at {entry}, D = {definitions}: {name}"),
                 encode(definitions as u16, &[&bodies[..], goal].concat()),
                 format!("table 6 {entry}\n"),
@@ -283,7 +301,7 @@ fn too_deep() -> Vec<Edge> {
 /// Faults that are no expression.
 fn whole_tables() -> Vec<Edge> {
     let table = |name: &str, d: u16, rows: &[Row], lines: &str| {
-        known(format!("{}: {name}", lines.trim_end()), encode(d, rows), lines)
+        edge(format!("{}: {name}", lines.trim_end()), encode(d, rows), lines)
     };
     let nine = |kind: u8| -> Vec<Row> {
         let mut rows: Vec<Row> = [(4, 0), (0, 0)].repeat(8);
@@ -314,14 +332,14 @@ pub fn clashes() -> Vec<Edge> {
     let bound: Vec<Row> = [[(4, 0), (0, 0)].repeat(8), vec![(3, 0); 16]].concat();
     let rows = |front: &[Row], behind: &[Row]| encode(0, &[front, behind].concat());
     vec![
-        known("order: 5 before 6", rows(&plain, &[]), "table 5 24\n"),
-        known("order: 3 before 6", rows(&plain, &[(9, 0)]), "table 3 24\n"),
-        known("order: 3 before 4", rows(&[], &[(6, 9)]), "table 3 0\n"),
-        known("order: 4 before 6", rows(&plain, &[(0, 1)]), "table 4 24\n"),
-        known("order: 4 before 7", rows(&bound[..16], &[(4, 1), (0, 0), (0, 0)]), "table 4 16\n"),
-        known("order: 6 before 7", rows(&bound, &[(5, 0), (0, 0), (0, 0)]), "table 6 32\n"),
-        known("order: 6 before 8", rows(&plain, &[(2, 0)]), "table 6 24\n"),
-        known("order: 7 before a leftover", rows(&[], &[(1, LET), (7, 0), (0, 0)]), "table 7 1\n"),
-        known("order: a leftover before 8", rows(&[], &[(2, 0), (0, 0)]), "table 5 1\n"),
+        edge("tests: 5 before 6", rows(&plain, &[]), "table 5 24\n"),
+        edge("tests: 3 before 6", rows(&plain, &[(9, 0)]), "table 3 24\n"),
+        edge("tests: 3 before 4", rows(&[], &[(6, 9)]), "table 3 0\n"),
+        edge("tests: 4 before 6", rows(&plain, &[(0, 1)]), "table 4 24\n"),
+        edge("tests: 4 before 7", rows(&bound[..16], &[(4, 1), (0, 0), (0, 0)]), "table 4 16\n"),
+        edge("tests: 6 before 7", rows(&bound, &[(5, 0), (0, 0), (0, 0)]), "table 6 32\n"),
+        edge("tests: 6 before 8", rows(&plain, &[(2, 0)]), "table 6 24\n"),
+        edge("tests: 7 before a leftover", rows(&[], &[(1, LET), (7, 0), (0, 0)]), "table 7 1\n"),
+        edge("tests: a leftover before 8", rows(&[], &[(2, 0), (0, 0)]), "table 5 1\n"),
     ]
 }
