@@ -7,7 +7,7 @@ use crate::machine::{Machine, Reply};
 use crate::record::{Binding, Record, State};
 use crate::sites;
 use crate::table;
-use std::collections::BTreeMap;
+use std::collections::{BTreeMap, BTreeSet};
 
 /// Happenings that a good set of cases has, each with how often it was seen.
 #[derive(Default)]
@@ -15,8 +15,14 @@ pub struct Coverage {
     pub counts: BTreeMap<&'static str, usize>,
 }
 
-pub const HAPPENINGS: [&str; 27] = [
+pub const HAPPENINGS: [&str; 40] = [
+    "all 32 cells in use",
+    "all 64 tokens in use",
     "answer accepted",
+    "answer accepted after one to a later call",
+    "answer refused, answered before",
+    "answer refused, call ended by a choke",
+    "answer refused, not called yet",
     "assign",
     "cell place given again from 0",
     "choke",
@@ -29,8 +35,14 @@ pub const HAPPENINGS: [&str; 27] = [
     "definition call",
     "definition call passes a set cell",
     "definition call passes an unset cell",
+    "definition call under 8 frames or more",
     "fork",
     "outside call",
+    "outside call with four values",
+    "piece after a refused step",
+    "piece after limit",
+    "piece after table",
+    "piece with an empty queue",
     "publish",
     "remove",
     "return",
@@ -42,18 +54,28 @@ pub const HAPPENINGS: [&str; 27] = [
     "token place given again from 0",
     "value from a built-in",
     "wait",
+    "wait behind a parameter that is set",
     "where",
 ];
 
 impl Coverage {
+    pub fn count(&self, happening: &str) -> usize {
+        self.counts.get(happening).copied().unwrap_or(0)
+    }
+
     /// Runs one case as orcrun does and notes what happens.
     pub fn add(&mut self, input: &[u8]) {
         let (bytes, records) = input.split_at(table::length_in(input));
         if input.len() > MOST_INPUT {
             return;
         }
-        if let Ok(table) = table::read(bytes) {
-            self.run(&dag::build(&table), records);
+        let piece = records.len() % RECORD != 0;
+        match table::read(bytes) {
+            Ok(table) => {
+                let end = self.run(&dag::build(&table), records);
+                self.note_if(piece, end);
+            }
+            Err(_) => self.note_if(piece, "piece after table"),
         }
     }
 
@@ -67,30 +89,51 @@ impl Coverage {
         }
     }
 
-    fn run(&mut self, dag: &Dag, records: &[u8]) {
+    /// It tells what a piece behind the records meets.
+    fn run(&mut self, dag: &Dag, records: &[u8]) -> &'static str {
         let machine = Machine::new(dag);
-        let Ok(mut record) = machine.start() else {
-            return;
-        };
+        let mut record = machine.start().expect("a table's dag keeps the rules");
         let mut records = records.chunks_exact(RECORD);
+        let mut answered = BTreeSet::new();
         let mut steps = 0;
         loop {
             while !record.queue.is_empty() {
+                if steps == MOST_STEPS {
+                    return "piece after limit";
+                }
                 let before = record.clone();
                 let Ok(reply) = machine.step(&mut record, 0) else {
-                    return;
+                    return "piece after a refused step";
                 };
                 self.note_step(dag, &before, &reply, &record);
                 steps += 1;
-                if steps == MOST_STEPS {
-                    return;
-                }
             }
-            let Some(next) = records.next() else { return };
+            let Some(next) = records.next() else { return "piece with an empty queue" };
             let word = |at: usize| [next[at], next[at + 1], next[at + 2], next[at + 3]];
             let (handle, value) = (u32::from_le_bytes(word(0)), i32::from_le_bytes(word(4)));
             let accepted = machine.answer(&mut record, handle, value).is_ok();
-            self.note_if(accepted, "answer accepted");
+            self.note_answer(&record, &mut answered, handle, accepted);
+        }
+    }
+
+    fn note_answer(
+        &mut self,
+        record: &Record,
+        answered: &mut BTreeSet<u32>,
+        handle: u32,
+        accepted: bool,
+    ) {
+        if accepted {
+            let later = answered.last().is_some_and(|last| handle < *last);
+            self.note("answer accepted");
+            self.note_if(later, "answer accepted after one to a later call");
+            answered.insert(handle);
+        } else if handle >= record.calls {
+            self.note("answer refused, not called yet");
+        } else if answered.contains(&handle) {
+            self.note("answer refused, answered before");
+        } else {
+            self.note("answer refused, call ended by a choke");
         }
     }
 
@@ -110,23 +153,37 @@ impl Coverage {
             Node::Return => self.note_return(before, after),
             Node::Publish => self.note("publish"),
         }
+        let used = after.in_use();
+        self.note_if(used.tokens.iter().all(|used| *used), "all 64 tokens in use");
+        self.note_if(used.cells.iter().all(|used| *used), "all 32 cells in use");
         self.note_if(after.last_token < before.last_token, "token place given again from 0");
         self.note_if(after.last_cell < before.last_cell, "cell place given again from 0");
     }
 
     fn note_site_call(&mut self, before: &Record, node: &Node, site: u32, reply: &Reply) {
+        let reads = cells_read(before, node).any(|set| set);
         match reply {
-            Reply::Waits => return self.note("wait"),
+            Reply::Waits => {
+                self.note("wait");
+                let first = cells_read(before, node).next();
+                return self.note_if(first == Some(true), "wait behind a parameter that is set");
+            }
             Reply::Ends => self.note("silent built-in"),
+            Reply::CallsOut { values, .. } if values.len() == 4 => {
+                self.note("outside call");
+                self.note("outside call with four values");
+            }
             _ if sites::is_outside(site) => self.note("outside call"),
             _ => self.note("value from a built-in"),
         }
-        let reads = cells_read(before, node).any(|set| set);
         self.note_if(reads, "site call reads a set cell");
     }
 
     fn note_definition_call(&mut self, before: &Record, node: &Node) {
         self.note("definition call");
+        let token = &before.tokens[before.queue[0]];
+        let frames = std::iter::successors(token.caller, |at| before.tokens[*at].caller).count();
+        self.note_if(frames >= 8, "definition call under 8 frames or more");
         let cells: Vec<bool> = cells_read(before, node).collect();
         self.note_if(cells.contains(&true), "definition call passes a set cell");
         self.note_if(cells.contains(&false), "definition call passes an unset cell");

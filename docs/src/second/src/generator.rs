@@ -4,31 +4,25 @@
 //! that most of them meet an open handle. A damaged case is a valid one with one or two faults.
 
 use crate::dag;
-use crate::lines::{MOST_INPUT, MOST_STEPS};
+use crate::lines::MOST_STEPS;
 use crate::machine::{Machine, Reply};
 use crate::random::Random;
 use crate::record::Record;
 use crate::sites::BUILT_IN_COUNTS;
-use crate::syntax::{append_record, encode, fork, give, prune, sequence, signal};
+use crate::syntax::{append_record, encode, fork, prune, sequence};
 use crate::syntax::{Expr, Param, Program, Row};
 use crate::table::{self, MOST_DEFINITIONS, MOST_DEPTH, MOST_ENTRIES, MOST_IN_SCOPE};
 
-/// The first cases are the special ones, the rest are made by chance.
 pub fn cases(seed: u64, count: usize) -> Vec<Vec<u8>> {
     let mut random = Random::new(seed);
-    let mut cases = special_cases();
-    cases.truncate(count);
-    while cases.len() < count {
-        cases.push(any_case(&mut random));
-    }
-    cases
+    (0..count).map(|_| any_case(&mut random)).collect()
 }
 
 pub fn any_case(random: &mut Random) -> Vec<u8> {
     match random.below(100) {
-        0..=60 => valid_case(random),
-        61..=91 => damaged_case(random),
-        92..=94 => clash_case(random),
+        0..=68 => valid_case(random),
+        69..=94 => damaged_case(random),
+        95..=96 => clash_case(random),
         _ => random_bytes(random),
     }
 }
@@ -42,11 +36,15 @@ fn valid_case(random: &mut Random) -> Vec<u8> {
     bytes
 }
 
+/// Most tables have no more entries than this, so that thousands of inputs can be stored.
+const MANY_ENTRIES: usize = 60;
+
 /// A program whose table is accepted.
 pub fn program(random: &mut Random) -> Program {
     loop {
         let program = Writer::new(random).program();
-        if program.rows().len() <= MOST_ENTRIES {
+        let entries = program.rows().len();
+        if entries <= MANY_ENTRIES || entries <= MOST_ENTRIES && random.percent(10) {
             return program;
         }
     }
@@ -61,9 +59,10 @@ struct Writer<'a> {
 
 impl Writer<'_> {
     fn new(random: &mut Random) -> Writer<'_> {
-        let count = match random.below(20) {
-            0..=4 => 0,
-            5..=17 => random.between(1, 4),
+        let count = match random.below(40) {
+            0..=9 => 0,
+            10..=24 => 1,
+            25..=38 => random.between(2, 4),
             _ => random.between(5, MOST_DEFINITIONS),
         };
         let formals = (0..count).map(|_| random.below(5) as u32).collect();
@@ -87,16 +86,16 @@ impl Writer<'_> {
 
     fn budget(&mut self) -> usize {
         match self.random.below(10) {
-            0..=2 => self.random.between(1, 6),
-            3..=7 => self.random.between(6, 25),
-            _ => self.random.between(25, 120),
+            0 => self.random.between(1, 4),
+            1..=7 => self.random.between(4, 10),
+            _ => self.random.between(10, 30),
         }
     }
 
     fn goal(&mut self, budget: usize) -> Expr {
-        match self.random.below(12) {
+        match self.random.below(24) {
             0 => self.spine(1, 0),
-            1 => self.cells(1, 0, budget),
+            1..=2 => self.cells(1, 0, budget),
             _ => self.expr(1, 0, budget),
         }
     }
@@ -286,7 +285,11 @@ fn append_answers(random: &mut Random, bytes: &mut Vec<u8>) {
         let value = value(random);
         append_record(bytes, handle, value);
         // A wrong handle is refused and changes nothing; the run goes on.
-        let _ = machine.answer(&mut record, handle, value);
+        let accepted = machine.answer(&mut record, handle, value).is_ok();
+        // Where no call is open, more of them would all be refused.
+        if !accepted && record.open_handles().is_empty() && random.percent(60) {
+            return;
+        }
     }
 }
 
@@ -303,17 +306,18 @@ fn run_until_empty(machine: &Machine, record: &mut Record, steps: &mut u32) {
 /// Mostly an open handle, in any order; else one that is not open, or may not be.
 fn choose_handle(random: &mut Random, record: &Record) -> u32 {
     let open = record.open_handles();
-    if !open.is_empty() && random.percent(88) {
+    if !open.is_empty() && random.percent(85) {
         return *random.pick(&open);
     }
     // An open handle with a high bit added must not pass for the handle.
-    if !open.is_empty() && random.percent(40) {
+    if !open.is_empty() && random.percent(30) {
         return random.pick(&open) | 1 << random.between(8, 31);
     }
-    match random.below(4) {
+    match random.below(8) {
         0 => record.calls,
         1 => record.calls + random.below(3) as u32,
         2 => random.draw() as u32,
+        // Mostly one that was answered, or whose call a choke ended.
         _ => random.below(record.calls as usize + 1) as u32,
     }
 }
@@ -332,10 +336,12 @@ fn damaged_case(random: &mut Random) -> Vec<u8> {
     let program = program(random);
     let mut damaged =
         Damaged { definitions: program.definitions.len() as u16, rows: program.rows() };
-    let mut target = random.between(1, 8);
+    // 1 and 2 have no entry, so they need fewer.
+    let targets = [1, 2, 3, 3, 4, 4, 5, 5, 6, 6, 7, 7, 8, 8];
+    let mut target = *random.pick(&targets);
     damaged.damage(random, target);
     if random.percent(30) {
-        target = random.between(1, 8);
+        target = *random.pick(&targets);
         damaged.damage(random, target);
     }
     let mut bytes = encode(damaged.definitions, &damaged.rows);
@@ -415,10 +421,11 @@ impl Damaged {
     }
 
     fn damage_sizes(&mut self, random: &mut Random) {
-        match random.below(4) {
-            0 => self.rows.clear(),
-            1 => self.rows.resize(random.between(MOST_ENTRIES + 1, 600), (0, 0)),
-            2 => self.definitions = MOST_DEFINITIONS as u16 + 1,
+        match random.below(16) {
+            0..=3 => self.rows.clear(),
+            // Few, since these are large.
+            4 => self.rows.resize(random.between(MOST_ENTRIES + 1, 600), (0, 0)),
+            5..=9 => self.definitions = MOST_DEFINITIONS as u16 + 1,
             _ => self.definitions = random.between(MOST_DEFINITIONS + 1, 0xffff) as u16,
         }
     }
@@ -467,7 +474,7 @@ impl Damaged {
         let Some(at) = self.any_of(random, &[0, 1, 2, 3, 4, 5]) else {
             return;
         };
-        let levels = random.between(18, 26);
+        let levels = random.between(21, 24);
         self.insert_pairs(at, 3, levels);
     }
 
@@ -547,161 +554,4 @@ fn random_bytes(random: &mut Random) -> Vec<u8> {
             encode(random.below(34) as u16, &rows)
         }
     }
-}
-
-// Special cases.
-
-/// The edges of the paper's numbers, the same for every seed.
-pub fn special_cases() -> Vec<Vec<u8>> {
-    let mut cases: Vec<Vec<u8>> = vec![vec![], vec![0], vec![0, 0], vec![0, 0, 1], vec![0; 4]];
-    cases.extend(long_inputs());
-    cases.extend(edges_of_tables());
-    cases.extend(step_limits());
-    cases.push(many_answers());
-    cases
-}
-
-fn outside_call() -> Expr {
-    Expr::Site(16, vec![])
-}
-
-/// Just allowed and just too long, with a good table and with a bad one.
-fn long_inputs() -> Vec<Vec<u8>> {
-    let good = Program::new(outside_call()).bytes();
-    let with_length = |bytes: &[u8], length| {
-        let mut bytes = bytes.to_vec();
-        bytes.resize(length, 0);
-        bytes
-    };
-    vec![
-        with_length(&good, MOST_INPUT),
-        with_length(&good, MOST_INPUT + 1),
-        with_length(&[33, 0, 0xff, 0xff], MOST_INPUT),
-        // 13,106 entries are all there, but too many.
-        with_length(&[0, 0, 0x32, 0x33], MOST_INPUT),
-        with_length(&[], MOST_INPUT + 1),
-    ]
-}
-
-fn edges_of_tables() -> Vec<Vec<u8>> {
-    let mut cases = Vec::new();
-    for depth in [24, 25] {
-        let deep = (1..depth).fold(signal(), |inner, _| fork(signal(), inner));
-        cases.push(Program::new(deep).bytes());
-    }
-    for binders in [8, 9] {
-        let inner = give(Param::Var(binders - 1));
-        let bound = (0..binders).fold(inner.clone(), |inner, _| sequence(signal(), inner));
-        cases.push(Program::new(bound).bytes());
-        let bound = (0..binders).fold(inner, |inner, _| prune(inner, signal()));
-        cases.push(Program::new(bound).bytes());
-    }
-    cases.push(Program::new(full_prunes(8)).bytes());
-    // 32 definitions of 14 rows, and a goal that fills the table or overfills it by one.
-    for goal in [64, 65] {
-        let body = (0..6).fold(signal(), |inner, _| fork(signal(), inner));
-        let mut rows = Vec::new();
-        for _ in 0..MOST_DEFINITIONS {
-            rows.push((6, 0));
-            rows.extend(Program::new(body.clone()).rows());
-        }
-        rows.extend(Program::new(stops_and_one_call(goal)).rows());
-        cases.push(encode(MOST_DEFINITIONS as u16, &rows));
-    }
-    cases
-}
-
-/// Prunes in both sides of prunes. Eight levels make 511 rows and 1,022 nodes, the most there are.
-pub fn full_prunes(levels: usize) -> Expr {
-    match levels {
-        0 => signal(),
-        _ => prune(full_prunes(levels - 1), full_prunes(levels - 1)),
-    }
-}
-
-/// Stops side by side and, where the number of rows asks for it, a call with one parameter.
-fn stops_and_one_call(rows: usize) -> Expr {
-    match rows {
-        1 => Expr::Stop,
-        2 => Expr::Site(16, vec![Param::Const(7)]),
-        _ => {
-            // Halves keep it flat; the left side always has an odd number of rows.
-            let left = (rows / 2) | 1;
-            let left = if left + 1 < rows { left } else { 1 };
-            fork(stops_and_one_call(left), stops_and_one_call(rows - 1 - left))
-        }
-    }
-}
-
-/// F0() = signal(), Fk() = F(k-1)() >x> F(k-1)(). One token runs, with k frames at most, and a
-/// call of Fk takes 7 * 2^k - 4 steps: so a run may be long without growth.
-fn doubling(first: Expr, levels: u16) -> Vec<(u32, Expr)> {
-    let call = |level| Expr::Call(level, vec![]);
-    let mut definitions = vec![(0, first)];
-    definitions.extend((0..levels).map(|level| (0, sequence(call(level), call(level)))));
-    definitions
-}
-
-const LEVELS: u16 = 14;
-
-/// A program that makes exactly so many steps (2, or 4 and more) and publishes once. Behind a first
-/// signal() and its publish, the parts are `>x> Fk()`, `>x> signal()` and `stop |`.
-pub fn exact_steps(steps: u32) -> Program {
-    let mut goal = signal();
-    let mut left = steps - 2;
-    while left > 0 {
-        let fits = |cost: u32| cost <= left && left - cost != 1;
-        let level = (0..=LEVELS).rev().find(|level| fits((7 << level) - 2));
-        if let Some(level) = level {
-            goal = sequence(goal, Expr::Call(level, vec![]));
-            left -= (7 << level) - 2;
-        } else if fits(3) {
-            goal = sequence(goal, signal());
-            left -= 3;
-        } else {
-            goal = fork(Expr::Stop, goal);
-            left -= 2;
-        }
-    }
-    Program { definitions: doubling(signal(), LEVELS), goal }
-}
-
-/// Runs that end before, at and beyond the most steps; at the most steps also with records, with
-/// a short piece and with an open call.
-fn step_limits() -> Vec<Vec<u8>> {
-    let mut cases = Vec::new();
-    for steps in [MOST_STEPS - 1, MOST_STEPS, MOST_STEPS + 1] {
-        cases.push(exact_steps(steps).bytes());
-    }
-    let mut with_piece = exact_steps(MOST_STEPS).bytes();
-    append_record(&mut with_piece, 0, 0);
-    with_piece.push(1);
-    cases.push(with_piece);
-    // The fork and the outside call take 2 steps more.
-    for steps in [MOST_STEPS - 1, MOST_STEPS] {
-        let mut program = exact_steps(steps - 2);
-        program.goal = fork(outside_call(), program.goal);
-        let mut bytes = program.bytes();
-        append_record(&mut bytes, 1, 5);
-        append_record(&mut bytes, 0, 6);
-        bytes.extend([0; 3]);
-        cases.push(bytes);
-    }
-    // At the limit a token waits, or a second one is ready.
-    let call = |level| Expr::Call(level, vec![]);
-    for goal in [prune(give(Param::Var(0)), call(LEVELS)), fork(call(13), call(13))] {
-        cases.push(Program { definitions: doubling(signal(), LEVELS), goal }.bytes());
-    }
-    cases
-}
-
-/// One outside call after the other, as many as there is room for answers.
-fn many_answers() -> Vec<u8> {
-    let program =
-        Program { definitions: doubling(outside_call(), 12), goal: Expr::Call(12, vec![]) };
-    let mut bytes = program.bytes();
-    for handle in 0..5000 {
-        append_record(&mut bytes, handle, handle as i32 - 2500);
-    }
-    bytes
 }

@@ -1,18 +1,20 @@
 //! A second print runner for Orc, written from the paper alone, to compare with.
 //!
 //! `table` reads a job table, `dag` builds the nodes, `record` and `rules` hold the machine's
-//! record and its index rules, `machine` runs it, `lines` is orcrun. `syntax`, `random`,
-//! `generator` and `cases` make inputs and keep many of them in one file; `coverage` tells what
-//! their runs reach.
+//! record and its index rules, `machine` runs it, `lines` is orcrun. `edges` has inputs with names,
+//! `syntax`, `random` and `generator` make others by chance, `cases` keeps all of them in one file;
+//! `coverage` and `report` tell what they reach.
 
 pub mod cases;
 pub mod coverage;
 pub mod dag;
+pub mod edges;
 pub mod generator;
 pub mod lines;
 pub mod machine;
 pub mod random;
 pub mod record;
+pub mod report;
 pub mod rules;
 pub mod sites;
 pub mod syntax;

@@ -1,6 +1,7 @@
 //! The machine's calls one by one: refusals, the rules' clauses, and runs in any order.
 
 use second::dag::{self, Dag, Node, Parameter};
+use second::edges;
 use second::generator;
 use second::machine::{Machine, Reply};
 use second::random::Random;
@@ -43,7 +44,7 @@ fn numbering() {
 
 #[test]
 fn most_nodes() {
-    let program = Program::new(generator::full_prunes(8));
+    let program = Program::new(edges::full_prunes(8));
     assert_eq!(program.rows().len(), 511);
     let dag = dag_of(&program);
     assert_eq!(dag.nodes.len(), 1022);

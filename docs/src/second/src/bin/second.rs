@@ -1,10 +1,8 @@
 //! `second`: standard input to orcrun's lines.
 //! `second --cases FILE`: the lines of each case of a file, after a line `case` and its number.
-//! `second --split FILE DIRECTORY`: writes each case to a file of its own, named by its number.
 
 use second::{cases, lines};
 use std::io::{self, Read, Write};
-use std::path::Path;
 use std::process::ExitCode;
 
 fn main() -> ExitCode {
@@ -13,8 +11,7 @@ fn main() -> ExitCode {
     let done = match words[..] {
         [] => run_standard_input(),
         ["--cases", file] => run_cases(file),
-        ["--split", file, directory] => split_cases(file, directory),
-        _ => Err(io::Error::other("usage: second [--cases FILE | --split FILE DIRECTORY]")),
+        _ => Err(io::Error::other("usage: second [--cases FILE]")),
     };
     match done {
         Ok(()) => ExitCode::SUCCESS,
@@ -38,14 +35,6 @@ fn run_cases(file: &str) -> io::Result<()> {
         write!(out, "case {number}\n{}", lines::orcrun(case))?;
     }
     out.flush()
-}
-
-fn split_cases(file: &str, directory: &str) -> io::Result<()> {
-    std::fs::create_dir_all(directory)?;
-    for (number, case) in split(&std::fs::read(file)?)?.iter().enumerate() {
-        std::fs::write(Path::new(directory).join(number.to_string()), case)?;
-    }
-    Ok(())
 }
 
 fn split(file: &[u8]) -> io::Result<Vec<&[u8]>> {

@@ -1,0 +1,74 @@
+// Runs each stored input as `orcrun` runs its own, and prints a line `case` with its number and then what the run prints. On standard input an
+// input stands behind its length, 4 bytes, the lowest first.
+use libc::STDIN_FILENO;
+use libc::STDOUT_FILENO;
+use lines::orcrun::orcrun;
+ghost use Prim.Native.Nat.{_≤_, _<_};
+ghost use lib.ListN.{length};
+
+// No more inputs than this, so that the program ends on any standard input.
+const MOST: u64 = 100000;
+
+// Four bytes, the lowest first.
+fn four_bytes(a: u8, b: u8, c: u8, d: u8) -> usize {
+    a as usize + 256 * (b as usize + 256 * (c as usize + 256 * d as usize))
+}
+
+fn least(a: usize, b: usize) -> usize
+    ensures { λ r. ⌜ r ≤ b ⌝ }
+{
+    if a < b { a } else { b }
+}
+
+fn head(number: u64) {
+    io::write_all(STDOUT_FILENO, b"case ");
+    io::print_decimal(STDOUT_FILENO, number);
+    io::write_all(STDOUT_FILENO, b"\n");
+}
+
+// Prints what the run prints, in pieces as long as `output`.
+fn show(input: &[u8], output: &mut [u8])
+    requires { ⌜ 0 < length (now output) ⌝ }
+{
+    let room = output.len();
+    let mut from = 0;
+    let mut left = orcrun(input, 0, output);
+    while room < left {
+        io::write_all(STDOUT_FILENO, output);
+        left -= room;
+        from += room;
+        orcrun(input, from, output);
+    }
+    io::write_all(STDOUT_FILENO, &output[0..left]);
+}
+
+// Reads an input and shows its run. Answers false where none is left.
+fn next(number: u64, input: &mut [u8], output: &mut [u8]) -> bool
+    requires { ⌜ 0 < length (now output) ⌝ }
+{
+    let mut size = [0u8; 4];
+    if io::read_full(STDIN_FILENO, &mut size) < 4 {
+        return false;
+    }
+    let n = least(four_bytes(size[0], size[1], size[2], size[3]), input.len());
+    if io::read_full(STDIN_FILENO, &mut input[0..n]) < n {
+        return false;
+    }
+    head(number);
+    show(&input[0..n], output);
+    true
+}
+
+fn main() {
+    // One byte more than a run may have.
+    let mut input = [0u8; 65537];
+    let mut output = [0u8; 65536];
+    let mut number = 0;
+    while number < MOST {
+        if next(number, &mut input, &mut output) {
+            number += 1;
+        } else {
+            return;
+        }
+    }
+}
