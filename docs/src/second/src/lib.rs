@@ -3,12 +3,14 @@
 //! `table` reads a job table, `dag` builds the nodes, `record` and `rules` hold the machine's
 //! record and its index rules, `machine` runs it, `lines` is orcrun. `syntax`, `random`,
 //! `generator` and `cases` make inputs and keep many of them in one file; `coverage` tells what
-//! their runs reach.
+//! their runs reach. `words` and `given` take dags and records as bytes, `trials` is a list of
+//! lawful and broken ones, `told` what the calls on them print.
 
 pub mod cases;
 pub mod coverage;
 pub mod dag;
 pub mod generator;
+pub mod given;
 pub mod lines;
 pub mod machine;
 pub mod random;
@@ -17,3 +19,6 @@ pub mod rules;
 pub mod sites;
 pub mod syntax;
 pub mod table;
+pub mod told;
+pub mod trials;
+pub mod words;
