@@ -20,7 +20,7 @@ use machine::step::step;
 use model::record::Machine;
 use model::reply::Outcome;
 
-// A run of this program ends, so it has a last case.
+// `main` is shown to end, so it reads no more cases than this.
 const MOST_CASES: usize = 65536;
 
 fn put_word(dag: &mut [u32; 12331], index: usize, word: u32) {

@@ -23,6 +23,7 @@ pub fn number(n: u64) {
     io::print_decimal(STDOUT_FILENO, n);
 }
 
+// The first bytes of a buffer. (Lent as an array first: its length is then known, whatever was written there.)
 fn put_first(digits: &[u8], n: usize) {
     if n <= digits.len() {
         put(&digits[0..n]);
