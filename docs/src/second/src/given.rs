@@ -5,6 +5,7 @@
 
 use crate::machine::{Machine, Refused, Reply};
 use crate::record::{Binding, Record, State, PAPER};
+use crate::rules;
 use crate::words;
 
 /// An order as it lies in the record: an array of places, and how many of them count.
@@ -92,6 +93,15 @@ impl Given {
                 self.hold(record);
                 Ok(Reply::GoesOn)
             }
+        }
+    }
+
+    /// The clauses of the index rules that are broken.
+    pub fn broken(&self) -> Vec<&'static str> {
+        let dag = words::read(&self.words).ok_or(BROKEN_COUNT);
+        match dag.and_then(|dag| Ok((dag, self.taken()?))) {
+            Ok((dag, record)) => rules::all_broken(&dag, &record, &PAPER),
+            Err(refused) => vec![refused.why],
         }
     }
 

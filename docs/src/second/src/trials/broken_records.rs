@@ -151,7 +151,10 @@ fn parents() -> Vec<Trial> {
         broken("all cells in one circle", |g| {
             (0..32).for_each(|cell| g.parent(cell, (cell + 1) % 32))
         }),
-        broken("a circle that nothing leads to", |g| g.parent(20, 20)),
+        broken("a circle that only a binding leads to", |g| {
+            g.parent(20, 20);
+            g.bind(3, 7, Cell(20));
+        }),
         near("all cells in one chain", |g| (0..31).for_each(|cell| g.parent(cell, cell + 1))),
         near("all cells in one chain, last to first", |g| {
             (1..32).for_each(|cell| g.parent(cell, cell - 1));
@@ -169,46 +172,45 @@ fn five_is_set(g: &mut Given) {
     }
 }
 
+/// The token belongs to the cell, cell 5 being set. Another token has it as its caller, so that it
+/// is in use either way.
+fn belongs(g: &mut Given, token: usize, cell: usize) {
+    five_is_set(g);
+    g.token(token).cell = Some(cell);
+    g.token(token).caller = Some(0);
+    let other = if token == 3 { 2 } else { 3 };
+    g.token(other).caller = Some(token);
+}
+
 fn set_cells() -> Vec<Trial> {
     vec![
         near("a cell that is set and bound", five_is_set),
-        broken("a ready token under a set cell", |g| {
-            five_is_set(g);
-            g.token(3).cell = Some(5);
-        }),
-        near("a ready token under a cell beside a set one", |g| {
-            five_is_set(g);
-            g.token(3).cell = Some(6);
-        }),
-        broken("a waiting token under a set cell", |g| {
-            five_is_set(g);
-            g.token(2).cell = Some(5);
-        }),
-        near("a waiting token under a cell beside a set one", |g| {
-            five_is_set(g);
-            g.token(2).cell = Some(6);
-        }),
-        broken("a called-out token under a set cell", |g| {
-            five_is_set(g);
-            g.token(1).cell = Some(5);
-        }),
-        near("a called-out token under a cell beside a set one", |g| {
-            five_is_set(g);
-            g.token(1).cell = Some(6);
-        }),
+        broken("a ready token under a set cell", |g| belongs(g, 3, 5)),
+        near("a ready token under a cell beside a set one", |g| belongs(g, 3, 6)),
+        broken("a waiting token under a set cell", |g| belongs(g, 2, 5)),
+        near("a waiting token under a cell beside a set one", |g| belongs(g, 2, 6)),
+        broken("a called-out token under a set cell", |g| belongs(g, 1, 5)),
+        near("a called-out token under a cell beside a set one", |g| belongs(g, 1, 6)),
         broken("a ready token whose cell has a set parent", |g| {
-            five_is_set(g);
+            belongs(g, 3, 6);
             g.parent(6, 5);
-            g.token(3).cell = Some(6);
         }),
         near("a ready token whose cell has a set child", |g| {
-            five_is_set(g);
+            belongs(g, 3, 6);
             g.parent(5, 6);
-            g.token(3).cell = Some(6);
         }),
         broken("a called-out token at the bottom of 32 cells, the top one set", |g| {
+            belongs(g, 1, 0);
             (0..31).for_each(|cell| g.parent(cell, cell + 1));
+            g.record.cells[5].value = None;
             g.set_cell(31, 0);
+        }),
+        near("a called-out token at the bottom of 31 cells, one beside them set", |g| {
+            belongs(g, 1, 0);
+            (0..30).for_each(|cell| g.parent(cell, cell + 1));
+            g.record.cells[5].value = None;
+            g.set_cell(31, 0);
+            g.bind(3, 7, Cell(31));
         }),
         near("a frame under a set cell", |g| {
             five_is_set(g);
@@ -432,10 +434,6 @@ fn blanks() -> Vec<Trial> {
         near("a cell with a parent that the ready token names", |g| {
             g.parent(9, 0);
             g.bind(3, 7, Cell(9));
-        }),
-        broken("a cell with a value at which a token waits and that nothing names", |g| {
-            g.set_cell(9, 0);
-            g.token(2).state = State::Waiting(9);
         }),
     ]
 }
