@@ -3,13 +3,15 @@
 //! `table` reads a job table, `dag` builds the nodes, `record` and `rules` hold the machine's
 //! record and its index rules, `machine` runs it, `lines` is orcrun. `edges` has inputs with names,
 //! `syntax`, `random` and `generator` make others by chance, `cases` keeps all of them in one file;
-//! `coverage` and `report` tell what they reach.
+//! `coverage` and `report` tell what they reach. `words` and `given` take dags and records as bytes,
+//! `trials` is a list of lawful and broken ones, `told` what the calls on them print.
 
 pub mod cases;
 pub mod coverage;
 pub mod dag;
 pub mod edges;
 pub mod generator;
+pub mod given;
 pub mod lines;
 pub mod machine;
 pub mod random;
@@ -19,3 +21,6 @@ pub mod rules;
 pub mod sites;
 pub mod syntax;
 pub mod table;
+pub mod told;
+pub mod trials;
+pub mod words;

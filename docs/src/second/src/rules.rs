@@ -39,6 +39,9 @@ const RECORD_RULES: [RecordRule; 14] = [
     ("what is not in use is blank", unused_blank),
 ];
 
+/// So many of them say that what the record names is there.
+const RANGES: usize = 5;
+
 /// The first clause that the dag breaks.
 pub fn broken_in_dag(dag: &Dag) -> Option<&'static str> {
     DAG_RULES.iter().find(|(_, holds)| !holds(dag)).map(|(name, _)| *name)
@@ -49,6 +52,18 @@ pub fn broken(dag: &Dag, record: &Record, limits: &Limits) -> Option<&'static st
     broken_in_dag(dag).or_else(|| {
         RECORD_RULES.iter().find(|(_, holds)| !holds(dag, record, limits)).map(|(name, _)| *name)
     })
+}
+
+/// All clauses that are broken; those that rely on others only where the others hold.
+pub fn all_broken(dag: &Dag, record: &Record, limits: &Limits) -> Vec<&'static str> {
+    let fails = |(name, holds): &RecordRule| (!holds(dag, record, limits)).then_some(*name);
+    let (ranges, rest) = RECORD_RULES.split_at(RANGES);
+    let of_dag = DAG_RULES.iter().filter(|(_, holds)| !holds(dag)).map(|(name, _)| *name);
+    let mut names: Vec<&'static str> = of_dag.chain(ranges.iter().filter_map(fails)).collect();
+    if names.is_empty() {
+        names.extend(rest.iter().filter_map(fails));
+    }
+    names
 }
 
 // The dag.
