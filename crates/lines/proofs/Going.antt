@@ -1,5 +1,6 @@
 -- A run that is under way: what was printed and what the turns left will print are the run's lines. Assumes nothing.
 use mathlib.Core.Path.{_≡_, refl, sym, _∙_, ap, subst}
+use mathlib.Core.Logic.{_⊎_, inl, inr}
 use mathlib.Core.Bool.{Bool, true, false}
 use mathlib.Core.List.{List, [], _∷_, _++_, append-assoc}
 use Prim.Native.Nat.{ℕ, zero, suc, _+_, _-_, _*_, _<_, _≤_}
@@ -10,8 +11,6 @@ use Rattle.model.specs.Job.Words.{dagOf}
 use Rattle.model.specs.Lines.Line.{Line, textOfAll, end, limit}
 use Rattle.model.specs.Lines.Orcrun.{Standing, Turn, on, over, turn, turns, runLines}
 use Rattle.model.specs.Machine.Limits.{paper}
-use Rattle.model.specs.Machine.Reply.{isRefused}
-use Rattle.model.specs.Machine.Rules.{rulesKept}
 use Rattle.model.specs.Machine.Start as Start
 use Rattle.model.specs.Machine.Step as Step
 use Rattle.model.specs.Machine.Answer as Answer
@@ -19,10 +18,13 @@ use Rattle.model.specs.declared.record.Machine.{Machine}
 use Rattle.model.specs.declared.reply.Outcome.{Outcome}
 use Rattle.lines.specs.Input.{Accepted, lastLines}
 use Rattle.lines.specs.Shown.{Shows}
+use Rattle.lines.specs.Turn.{isLast, isLimit, isOver, turnOutcome, nextAt, nextSteps, Turning}
 use Rattle.lines.proofs.Showing.{shows-none, shows-then, shows-as}
 use Rattle.lines.proofs.Telling.{text-append}
 use Rattle.lines.proofs.Reached.{Reached, reached-start, reached-rules, reached-by-step, reached-by-answer}
-use Rattle.lines.proofs.Turns.{standing, linesFrom, turn-last, turn-deliver, turn-limit, turn-refused, turn-step}
+use Rattle.lines.proofs.TurnCases.{empty-or-ready, last-is, not-last, limit-is, not-limit, over-is, not-over, turn-empty, turn-ready}
+use Rattle.lines.proofs.TurnCases.{at-empty, at-ready, steps-empty, steps-ready}
+use Rattle.lines.proofs.HouseTurns.{standing, linesFrom, turn-last, turn-deliver, turn-limit, turn-refused, turn-step}
 
 module _ (words rest before : List ℕ) (from : ℕ) where
   pub record Going (m : Machine) (steps at total : ℕ) (output : List ℕ) : Type 0 where
@@ -111,42 +113,94 @@ module _ (words rest before : List ℕ) (from : ℕ) where
 
   -- each turn, by the tests that lead to it
   module _ {m : Machine} {steps at total : ℕ} {output : List ℕ} (G : Going m steps at total output) where
-    pub going-rules : rulesKept paper (dagOf words) m ≡ true
-    going-rules = reached-rules words (G .accepted) (G .reached)
-
-    pub going-last : {after : List ℕ} {n : ℕ} → m .queued ≡ 0 → length rest - at < 8
+    pub going-last : {after : List ℕ} {n : ℕ} (b : Bool) → b ≡ isLast (m .queued) (length rest - at) → b ≡ true
         → Shows output from total (textOfAll (lastLines (length rest - at) steps)) after n
         → Shows before from 0 (textOfAll (runLines paper 100000 (dagOf words) rest)) after n
-    going-last e l s = going-over _ G (turn-last (dagOf words) rest m steps at e l) s
+    going-last b e t s =
+        let is = last-is (m .queued) (length rest - at) (sym e ∙ t) in
+        going-over _ G (turn-last (dagOf words) rest m steps at (is .0) (is .1)) s
 
-    pub going-limit : {after : List ℕ} {n : ℕ} → (m .queued ≡ 0 → ⊥) → steps ≡ 100000
-        → Shows output from total (textOfAll (limit ∷ end steps ∷ [])) after n
-        → Shows before from 0 (textOfAll (runLines paper 100000 (dagOf words) rest)) after n
-    going-limit q e s = going-over _ G (turn-limit (dagOf words) rest m steps at q e) s
+    module _ (l : Bool) (last : l ≡ isLast (m .queued) (length rest - at)) (more : l ≡ false) where
+      there : m .queued ≡ 0 → 8 ≤ length rest - at
+      there e = not-last (m .queued) (length rest - at) (sym last ∙ more) e
 
-    pub going-delivers : (o : Outcome) {output′ : List ℕ} {total′ : ℕ} → m .queued ≡ 0 → 8 ≤ length rest - at
-        → o ≡ Answer.answer paper (dagOf words) m (number (take 4 (drop at rest))) (signed (number (take 4 (drop (at + 4) rest))))
-        → Shows output from total (textOfAll (linesFrom o)) output′ total′ → total′ ≤ total + 80
-        → Going (o .machine) steps (at + 8) total′ output′
-    going-delivers o e l q s small =
-        let inside = G .inside in
-        going-on (linesFrom o) G (reached-by-answer words (G .accepted) m o _ _ (G .reached) q) (turn-deliver (dagOf words) rest m steps at o e l q)
-        (omega arith) (G .few) (omega arith) s small
-
-    module _ (o : Outcome) (q : m .queued ≡ 0 → ⊥) (l : steps ≡ 100000 → ⊥) (e : o ≡ Step.step paper (dagOf words) m 0) (b : Bool)
-        (r : b ≡ isRefused (o .reply)) where
-      pub going-refused : {output′ after : List ℕ} {total′ n : ℕ} → b ≡ true → Shows output from total (textOfAll (linesFrom o)) output′ total′
-          → Shows output′ from total′ (textOfAll (end steps ∷ [])) after n
+      pub going-limit : {after : List ℕ} {n : ℕ} (b : Bool) → b ≡ isLimit (m .queued) steps → b ≡ true
+          → Shows output from total (textOfAll (limit ∷ end steps ∷ [])) after n
           → Shows before from 0 (textOfAll (runLines paper 100000 (dagOf words) rest)) after n
-      going-refused h s t =
-          going-over _ G (turn-refused (dagOf words) rest m steps at o q (G .few) l e (sym r ∙ h))
-          (shows-as (sym (text-append (linesFrom o) (end steps ∷ []))) (shows-then s t))
+      going-limit b e t s =
+          let is = limit-is (m .queued) steps (sym e ∙ t) in
+          going-over _ G (turn-limit (dagOf words) rest m steps at (is .0) (is .1)) s
 
-      pub going-steps : {output′ : List ℕ} {total′ : ℕ} → b ≡ false → Shows output from total (textOfAll (linesFrom o)) output′ total′
-          → total′ ≤ total + 80 → Going (o .machine) (steps + 1) at total′ output′
-      going-steps {output′} {total′} h s small =
-          let few = G .few in
-          let one : suc steps ≡ steps + 1 = omega arith in
-          subst (λ (k : ℕ). Going (o .machine) k at total′ output′) one
-          (going-on (linesFrom o) G (reached-by-step words (G .accepted) m o (G .reached) e)
-          (turn-step (dagOf words) rest m steps at o q few l e (sym r ∙ h)) (omega arith) (omega arith) (G .inside) s small)
+      -- what the turn asks
+      pub going-turning : Turning words m rest at
+      going-turning =
+          record {
+            kept = reached-rules words (G .accepted) (G .reached);
+            there = λ e. (let left = there e in let inside = G .inside in omega arith);
+          }
+
+      module _ (k : Bool) (limited : k ≡ isLimit (m .queued) steps) (free : k ≡ false) (o : Outcome)
+          (turned : o ≡ turnOutcome (dagOf words) m rest at) (b : Bool) (over-if : b ≡ isOver (m .queued) (o .reply)) where
+        under : (m .queued ≡ 0 → ⊥) → steps ≡ 100000 → ⊥
+        under f = not-limit (m .queued) steps (sym limited ∙ free) f
+
+        stepped : (m .queued ≡ 0 → ⊥) → o ≡ Step.step paper (dagOf words) m 0
+        stepped f = turned ∙ sym (turn-ready (dagOf words) m rest at _ f refl)
+
+        answered : m .queued ≡ 0
+            → o ≡ Answer.answer paper (dagOf words) m (number (take 4 (drop at rest))) (signed (number (take 4 (drop (at + 4) rest))))
+        answered e = turned ∙ sym (turn-empty (dagOf words) m rest at _ e refl)
+
+        -- "a refused step ends the run"
+        pub going-ends : {output′ after : List ℕ} {total′ n : ℕ} → b ≡ true → Shows output from total (textOfAll (linesFrom o)) output′ total′
+            → Shows output′ from total′ (textOfAll (end steps ∷ [])) after n
+            → Shows before from 0 (textOfAll (runLines paper 100000 (dagOf words) rest)) after n
+        going-ends t s u =
+            let is = over-is (m .queued) (o .reply) (sym over-if ∙ t) in
+            going-over _ G (turn-refused (dagOf words) rest m steps at o (is .0) (G .few) (under (is .0)) (stepped (is .0)) (is .1))
+            (shows-as (sym (text-append (linesFrom o) (end steps ∷ []))) (shows-then s u))
+
+        -- and else it goes on
+        module _ (on-if : b ≡ false) (steps′ at′ : ℕ) (to : steps′ ≡ nextSteps (m .queued) steps) (behind : at′ ≡ nextAt (m .queued) at) where
+          pub going-less : (100000 - steps′) + (length rest - at′) < (100000 - steps) + (length rest - at)
+          going-less = go (empty-or-ready (m .queued))
+            where
+              go : (m .queued ≡ 0) ⊎ (m .queued ≡ 0 → ⊥) → (100000 - steps′) + (length rest - at′) < (100000 - steps) + (length rest - at)
+              go (inl e) =
+                  let a = behind ∙ sym (at-empty (m .queued) e at) in
+                  let b = to ∙ sym (steps-empty (m .queued) e steps) in
+                  let left = there e in
+                  omega arith
+              go (inr f) =
+                  let a = behind ∙ sym (at-ready (m .queued) f at) in
+                  let b = to ∙ sym (steps-ready (m .queued) f steps) in
+                  let few = G .few in
+                  let some = under f in
+                  omega arith
+
+          pub going-turns : {output′ : List ℕ} {total′ : ℕ} → Shows output from total (textOfAll (linesFrom o)) output′ total′
+              → total′ ≤ total + 80 → Going (o .machine) steps′ at′ total′ output′
+          going-turns {output′} {total′} s small = go (empty-or-ready (m .queued))
+            where
+              go : (m .queued ≡ 0) ⊎ (m .queued ≡ 0 → ⊥) → Going (o .machine) steps′ at′ total′ output′
+              go (inl e) =
+                  let a = behind ∙ sym (at-empty (m .queued) e at) in
+                  let b = to ∙ sym (steps-empty (m .queued) e steps) in
+                  let left = there e in
+                  let few = G .few in
+                  going-on (linesFrom o) G (reached-by-answer words (G .accepted) m o _ _ (G .reached) (answered e))
+                  (subst (λ (k : ℕ). turn paper 100000 (dagOf words) (standing rest m steps at) ≡ on (linesFrom o) (standing rest (o .machine) k at′)) (sym b)
+                  (subst (λ (k : ℕ). turn paper 100000 (dagOf words) (standing rest m steps at) ≡ on (linesFrom o) (standing rest (o .machine) steps k)) (sym a)
+                  (turn-deliver (dagOf words) rest m steps at o e left (answered e))))
+                  going-less (omega arith) (omega arith) s small
+              go (inr f) =
+                  let a = behind ∙ sym (at-ready (m .queued) f at) in
+                  let b : steps′ ≡ suc steps = (let z = to ∙ sym (steps-ready (m .queued) f steps) in omega arith) in
+                  let few = G .few in
+                  let some = under f in
+                  let inside = G .inside in
+                  going-on (linesFrom o) G (reached-by-step words (G .accepted) m o (G .reached) (stepped f))
+                  (subst (λ (k : ℕ). turn paper 100000 (dagOf words) (standing rest m steps at) ≡ on (linesFrom o) (standing rest (o .machine) k at′)) (sym b)
+                  (subst (λ (k : ℕ). turn paper 100000 (dagOf words) (standing rest m steps at) ≡ on (linesFrom o) (standing rest (o .machine) (suc steps) k)) (sym a)
+                  (turn-step (dagOf words) rest m steps at o f few some (stepped f) (not-over (m .queued) (o .reply) (sym over-if ∙ on-if) f))))
+                  going-less (omega arith) (omega arith) s small

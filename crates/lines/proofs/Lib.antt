@@ -2,7 +2,8 @@
 pub mod Showing
 pub mod Telling
 pub mod Reached
-pub mod Turns
+pub mod HouseTurns
+pub mod TurnCases
 pub mod Going
 pub mod TableEnd
 pub mod DeclinedAt

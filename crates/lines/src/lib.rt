@@ -5,3 +5,4 @@ mod input;
 pub mod orcrun;
 mod shown;
 mod told;
+mod turn;

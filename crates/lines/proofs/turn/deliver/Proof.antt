@@ -1,11 +1,11 @@
--- `house::deliver` meets its contract: the numbers handed on are those of the record. Assumes nothing.
+-- `turn::deliver` meets its contract: the numbers handed on are those of the record. Assumes nothing.
 use borrow.Author.Needs.{needs}
 use mir.Facts.{toZ-ofZ}
 use mir.Val.{SFits}
 use mir.Syntax.{w32}
 use Rattle.lines.proofs.Reached.{delivered}
-use Rattle.lines.proofs.house.deliver.Statement.{statement}
-use Rattle.lines.proofs.house.deliver.Tie as tie
+use Rattle.lines.proofs.turn.deliver.Statement.{statement}
+use Rattle.lines.proofs.turn.deliver.Tie as tie
 
 word-at-requires : tie.Need-word-at-requires
 word-at-requires c κs = search needs
