@@ -1,15 +1,9 @@
 //! `copies`: how many copies of the record a public call of the example makes. A record has 6,168 bytes, 5,632 of them in its
 //! tokens; every copy of at least 63 tokens is counted. This program has a `memcpy` and a `memmove` of its own, which count.
 
-#[path = "../jobs.rs"]
-#[allow(dead_code)]
-mod jobs;
-#[path = "../proved.rs"]
-#[allow(dead_code)]
-mod proved;
-
 use std::arch::asm;
 use std::sync::atomic::{AtomicUsize, Ordering::Relaxed};
+use timing::{jobs, proved, twins};
 use twin::lines::table_of;
 
 const LARGE: usize = 63 * 88;
@@ -60,10 +54,19 @@ fn main() {
     let prefixes: Vec<(usize, usize)> =
         (0..=calls).map(|most| made(|| proved::calls(table, &handles, most, 1))).collect();
     println!("copies of the record by the public calls of the example, proved library");
-    println!("start: {}", prefixes[0].0);
+    let dag = twins::loaded(&job);
+    let mut steps = (0, 0, 0);
     for (k, two) in prefixes.windows(2).enumerate() {
-        println!("call {}: {} copies, {} bytes", k + 1, two[1].0 - two[0].0, two[1].1 - two[0].1);
+        let (copies, bytes) = (two[1].0 - two[0].0, two[1].1 - two[0].1);
+        if twins::is_answer(&dag, &handles, k) {
+            println!("answer: {copies} copies, {bytes} bytes");
+        } else {
+            println!("step:   {copies} copies, {bytes} bytes");
+            steps = (steps.0 + 1, steps.1 + copies, steps.2 + bytes);
+        }
     }
+    let mean = |sum: usize| sum as f64 / steps.0 as f64;
+    println!("mean of {} steps: {:.1} copies, {:.0} bytes", steps.0, mean(steps.1), mean(steps.2));
     whole(&job);
 }
 

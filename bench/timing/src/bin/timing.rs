@@ -1,14 +1,10 @@
 //! `timing [REPEATS]`: times the proved library and the twin in turn, and prints medians and ratios.
 
-mod jobs;
-mod proved;
-
 use std::hint::black_box;
 use std::time::Instant;
+use timing::{jobs, proved, twins};
 use twin::lines::table_of;
-use twin::machine::{answer, start, step, Reply};
-use twin::record::Machine;
-use twin::table::{load, Dag, WORDS};
+use twin::table::Dag;
 
 fn main() {
     let repeats = std::env::args().nth(1).map_or(11, |word| word.parse().expect("a number of repeats"));
@@ -17,6 +13,7 @@ fn main() {
     growth(repeats);
 }
 
+#[cfg(feature = "whole")]
 /// Nanoseconds of one call of each of two functions that make so many in a row: medians over the repeats, the two in turn.
 fn medians(repeats: usize, rounds: u32, mut first: impl FnMut(u32), mut second: impl FnMut(u32)) -> (f64, f64) {
     let mut times = (Vec::new(), Vec::new());
@@ -46,28 +43,6 @@ fn head(title: &str) {
     println!("{title:<58} {:>10} {:>10} {:>6}", "proved", "twin", "ratio");
 }
 
-/// The twin's run by public calls, as the proved library's `calls`.
-fn twin_calls(dag: &Dag, handles: &[u32], most: u32) -> u32 {
-    let mut machine = Machine::BLANK;
-    start(&mut machine, dag);
-    let mut handles = handles.iter();
-    for n in 0..most {
-        if machine.queued > 0 {
-            black_box(step(&mut machine, dag, 0));
-        } else {
-            let Some(&handle) = handles.next() else { return n };
-            black_box(answer(&mut machine, dag, handle, 7));
-        }
-    }
-    most
-}
-
-fn loaded(job: &[u8]) -> Box<Dag> {
-    let mut dag = Box::new([0; WORDS]);
-    load(table_of(job), &mut dag).expect("a lawful table");
-    dag
-}
-
 /// Times the start and so many public calls, once.
 fn prefix(rounds: u32, job: &[u8], dag: &Dag, handles: &[u32], most: u32) -> (f64, f64) {
     let table = table_of(job);
@@ -76,7 +51,7 @@ fn prefix(rounds: u32, job: &[u8], dag: &Dag, handles: &[u32], most: u32) -> (f6
     });
     let twin = nanoseconds(rounds, &mut |rounds| {
         for _ in 0..rounds {
-            black_box(twin_calls(black_box(dag), handles, most));
+            black_box(twins::calls(black_box(dag), handles, most));
         }
     });
     (proved, twin)
@@ -86,12 +61,12 @@ fn prefix(rounds: u32, job: &[u8], dag: &Dag, handles: &[u32], most: u32) -> (f6
 fn public_step(repeats: usize) {
     head("public calls of the example, index rules tested, ns");
     let job = jobs::example();
-    let dag = loaded(&job);
+    let dag = twins::loaded(&job);
     let handles = [1, 0];
     let calls = 9 + handles.len();
     assert_eq!(proved::calls(table_of(&job), &handles, 99, 1), calls as u32);
-    assert_eq!(twin_calls(&dag, &handles, 99), calls as u32);
-    let (answers, steps): (Vec<usize>, Vec<usize>) = (0..calls).partition(|&k| is_answer(&dag, &handles, k));
+    assert_eq!(twins::calls(&dag, &handles, 99), calls as u32);
+    let (answers, steps): (Vec<usize>, Vec<usize>) = (0..calls).partition(|&k| twins::is_answer(&dag, &handles, k));
     let mut found = [const { (Vec::new(), Vec::new()) }; 3];
     // many short turns, since each figure is a difference of two
     for _ in 0..10 * repeats {
@@ -112,21 +87,6 @@ fn public_step(repeats: usize) {
         row(name, median(proved), median(twin));
     }
     println!();
-}
-
-/// Is the call with this number an answer? With the queue empty it is.
-fn is_answer(dag: &Dag, handles: &[u32], number: usize) -> bool {
-    let mut machine = Machine::BLANK;
-    start(&mut machine, dag);
-    let mut handles = handles.iter();
-    for _ in 0..number {
-        if machine.queued > 0 {
-            step(&mut machine, dag, 0);
-        } else if let Some(&handle) = handles.next() {
-            answer(&mut machine, dag, handle, 7);
-        }
-    }
-    machine.queued == 0
 }
 
 #[cfg(feature = "whole")]
@@ -164,19 +124,6 @@ fn whole_example(repeats: usize) {
 #[cfg(not(feature = "whole"))]
 fn whole_example(_: usize) {}
 
-/// Tokens in use, as a mean over the first steps.
-fn tokens_in_use(dag: &Dag, steps: usize) -> f64 {
-    let mut machine = Machine::BLANK;
-    start(&mut machine, dag);
-    let mut sum = 0;
-    for _ in 0..steps {
-        let reply = step(&mut machine, dag, 0);
-        assert!(!matches!(reply, Reply::Refused(_)), "{reply:?}");
-        sum += machine.used().tokens.iter().filter(|&&used| used).count();
-    }
-    sum as f64 / steps as f64
-}
-
 fn growth(repeats: usize) {
     const STEPS: u32 = 2_000;
     let sizes = [(0, 0), (14, 0), (28, 0), (42, 0), (0, 3), (0, 6), (0, 9), (42, 4)];
@@ -185,15 +132,15 @@ fn growth(repeats: usize) {
         .iter()
         .map(|&(open, unused)| {
             let job = jobs::long(open, unused);
-            let dag = loaded(&job);
-            let used = tokens_in_use(&dag, STEPS as usize);
+            let dag = twins::loaded(&job);
+            let used = twins::tokens_in_use(&dag, STEPS as usize);
             (format!("{used:.0} tokens in use, {} nodes", dag[0]), job)
         })
         .collect();
     println!("steps a second, in thousands");
     head("public step, index rules tested");
     for (name, job) in &jobs {
-        let dag = loaded(job);
+        let dag = twins::loaded(job);
         let mut found = (Vec::new(), Vec::new());
         for _ in 0..repeats {
             let base = prefix(3, job, &dag, &[], 0);
