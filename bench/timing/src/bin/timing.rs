@@ -1,7 +1,7 @@
 //! `timing [REPEATS]`: times the proved library and the twin in turn, and prints medians and ratios.
 
 use std::hint::black_box;
-use std::time::Instant;
+use timing::clock::processor_time;
 use timing::{jobs, proved, twins};
 use twin::lines::table_of;
 use twin::table::Dag;
@@ -25,9 +25,9 @@ fn medians(repeats: usize, rounds: u32, mut first: impl FnMut(u32), mut second: 
 }
 
 fn nanoseconds(rounds: u32, calls: &mut impl FnMut(u32)) -> f64 {
-    let before = Instant::now();
+    let before = processor_time();
     calls(rounds);
-    before.elapsed().as_nanos() as f64 / rounds as f64
+    (processor_time() - before) as f64 / rounds as f64
 }
 
 fn median(mut times: Vec<f64>) -> f64 {
