@@ -191,5 +191,8 @@ impl Machine {
 pub fn next_place(marks: &[bool], last: u8) -> Option<u8> {
     let after = last as usize + 1;
     let free = |place: &usize| !marks[*place];
-    (after..marks.len()).find(free).or_else(|| (0..after.min(marks.len())).find(free)).map(|p| p as u8)
+    (after..marks.len())
+        .find(free)
+        .or_else(|| (0..after.min(marks.len())).find(free))
+        .map(|p| p as u8)
 }

@@ -66,14 +66,23 @@ fn in_range(machine: &Machine, nodes: u32) -> bool {
 }
 
 /// The order names each token that it must name once, and nothing else; behind it all is 0.
-fn names_once(machine: &Machine, order: &[u8; TOKENS], count: usize, wanted: fn(State) -> bool) -> bool {
+fn names_once(
+    machine: &Machine,
+    order: &[u8; TOKENS],
+    count: usize,
+    wanted: fn(State) -> bool,
+) -> bool {
     let mut counts = [0u8; TOKENS];
     for &name in &order[..count] {
         let Some(count) = counts.get_mut(name as usize) else { return false };
         *count += 1;
     }
     order[count..].iter().all(|&name| name == 0)
-        && machine.tokens.iter().zip(counts).all(|(token, count)| count == wanted(token.state) as u8)
+        && machine
+            .tokens
+            .iter()
+            .zip(counts)
+            .all(|(token, count)| count == wanted(token.state) as u8)
 }
 
 fn chain_ends(machine: &Machine, start: Option<u8>) -> bool {
@@ -144,6 +153,10 @@ pub fn kept(machine: &Machine, dag: &Dag, used: &Used) -> bool {
         && machine.tokens.iter().all(|token| cells_unset(machine, token))
         && handles_differ(machine)
         && machine.tokens.iter().all(|token| node_kept(machine, dag, token))
-        && machine.tokens.iter().zip(used.tokens).all(|(token, used)| used || *token == Token::BLANK)
+        && machine
+            .tokens
+            .iter()
+            .zip(used.tokens)
+            .all(|(token, used)| used || *token == Token::BLANK)
         && machine.cells.iter().zip(used.cells).all(|(cell, used)| used || *cell == Cell::BLANK)
 }

@@ -84,7 +84,14 @@ impl Entries<'_> {
     }
 
     /// Compiles the expression at an entry toward a next node: its first node, the entry behind it, the next free node.
-    fn compile(&self, dag: &mut Dag, scope: usize, at: usize, node: usize, next: usize) -> (usize, usize, usize) {
+    fn compile(
+        &self,
+        dag: &mut Dag,
+        scope: usize,
+        at: usize,
+        node: usize,
+        next: usize,
+    ) -> (usize, usize, usize) {
         let kind = self.kinds[at];
         let after = next as u32;
         match kind {
@@ -145,7 +152,7 @@ pub fn load(table: &[u8], dag: &mut Dag) -> Result<usize, Refused> {
     if table.len() != 4 + 5 * n {
         return Err((1, 0));
     }
-    if definitions > 32 || n < 1 || n > 512 {
+    if definitions > 32 || !(1..=512).contains(&n) {
         return Err((2, 0));
     }
     let entries = Entries { kinds: &table[4..4 + n], operands: &table[4 + n..] };

@@ -35,7 +35,8 @@ pub unsafe extern "C" fn memmove(to: *mut u8, from: *const u8, n: usize) -> *mut
         return memcpy(to, from, n);
     }
     count(n);
-    let (last_to, last_from) = (to.wrapping_add(n).wrapping_sub(1), from.wrapping_add(n).wrapping_sub(1));
+    let (last_to, last_from) =
+        (to.wrapping_add(n).wrapping_sub(1), from.wrapping_add(n).wrapping_sub(1));
     asm!("std", "rep movsb", "cld", inout("rdi") last_to => _, inout("rsi") last_from => _, inout("rcx") n => _);
     to
 }

@@ -7,7 +7,8 @@ use twin::lines::table_of;
 use twin::table::Dag;
 
 fn main() {
-    let repeats = std::env::args().nth(1).map_or(11, |word| word.parse().expect("a number of repeats"));
+    let repeats =
+        std::env::args().nth(1).map_or(11, |word| word.parse().expect("a number of repeats"));
     whole_example(repeats);
     public_step(repeats);
     growth(repeats);
@@ -15,7 +16,12 @@ fn main() {
 
 #[cfg(feature = "whole")]
 /// Nanoseconds of one call of each of two functions that make so many in a row: medians over the repeats, the two in turn.
-fn medians(repeats: usize, rounds: u32, mut first: impl FnMut(u32), mut second: impl FnMut(u32)) -> (f64, f64) {
+fn medians(
+    repeats: usize,
+    rounds: u32,
+    mut first: impl FnMut(u32),
+    mut second: impl FnMut(u32),
+) -> (f64, f64) {
     let mut times = (Vec::new(), Vec::new());
     for _ in 0..repeats {
         times.0.push(nanoseconds(rounds, &mut first));
@@ -66,14 +72,16 @@ fn public_step(repeats: usize) {
     let calls = 9 + handles.len();
     assert_eq!(proved::calls(table_of(&job), &handles, 99, 1), calls as u32);
     assert_eq!(twins::calls(&dag, &handles, 99), calls as u32);
-    let (answers, steps): (Vec<usize>, Vec<usize>) = (0..calls).partition(|&k| twins::is_answer(&dag, &handles, k));
+    let (answers, steps): (Vec<usize>, Vec<usize>) =
+        (0..calls).partition(|&k| twins::is_answer(&dag, &handles, k));
     let mut found = [const { (Vec::new(), Vec::new()) }; 3];
     // many short turns, since each figure is a difference of two
     for _ in 0..10 * repeats {
         let times: Vec<(f64, f64)> =
             (0..=calls).map(|most| prefix(100, &job, &dag, &handles, most as u32)).collect();
         let mean = |which: &[usize], side: fn(&(f64, f64)) -> f64| {
-            which.iter().map(|&k| side(&times[k + 1]) - side(&times[k])).sum::<f64>() / which.len() as f64
+            which.iter().map(|&k| side(&times[k + 1]) - side(&times[k])).sum::<f64>()
+                / which.len() as f64
         };
         found[0].0.push(times[0].0);
         found[0].1.push(times[0].1);
@@ -167,5 +175,10 @@ fn house(_: usize, _: &[(String, Vec<u8>)]) {}
 /// Steps a second of both, in thousands; the ratio is that of the times.
 fn speed(name: &str, (proved, twin): (f64, f64), steps: u32) {
     let thousands = |time: f64| 1e6 * steps as f64 / time;
-    println!("{name:<58} {:>10.0} {:>10.0} {:>6.2}", thousands(proved), thousands(twin), proved / twin);
+    println!(
+        "{name:<58} {:>10.0} {:>10.0} {:>6.2}",
+        thousands(proved),
+        thousands(twin),
+        proved / twin
+    );
 }
