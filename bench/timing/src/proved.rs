@@ -14,7 +14,6 @@ mod linked {
             most: u32,
             rounds: u32,
         ) -> u32;
-        #[cfg(feature = "whole")]
         pub fn bench_orcrun(
             input: *const c_void,
             input_length: usize,
@@ -42,7 +41,6 @@ pub fn calls(table: &[u8], handles: &[u32], most: u32, rounds: u32) -> u32 {
 }
 
 /// The whole function from input bytes to output bytes; the number of bytes that it prints.
-#[cfg(feature = "whole")]
 pub fn orcrun(input: &[u8], output: &mut [u8]) -> usize {
     // Safety: the function reads one slice and writes within the other.
     unsafe {

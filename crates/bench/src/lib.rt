@@ -1,4 +1,5 @@
-// Calls that `bench/` times from Rust: a run in house order by the public calls of `loader` and `machine`.
+// Calls that `bench/` times from Rust: a run in house order by the public calls of `loader` and `machine`, and a whole run.
+use lines::orcrun::orcrun;
 use loader::table::load;
 use machine::answer::answer;
 use machine::start::start;
@@ -50,4 +51,10 @@ pub extern "C" fn bench_calls(table: &[u8], handles: &[u32], most: u32, rounds: 
         i += 1;
     }
     made
+}
+
+// A whole run, from the bytes of an input to the bytes of its lines.
+#[no_mangle]
+pub extern "C" fn bench_orcrun(input: &[u8], from: usize, output: &mut [u8]) -> usize {
+    orcrun(input, from, output)
 }

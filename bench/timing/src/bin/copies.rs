@@ -71,12 +71,8 @@ fn main() {
     whole(&job);
 }
 
-#[cfg(feature = "whole")]
 fn whole(job: &[u8]) {
     let mut output = vec![0; 1 << 16];
     let (copies, bytes) = made(|| proved::orcrun(job, &mut output));
     println!("whole run of the example, 9 steps and 2 answers: {copies} copies, {bytes} bytes");
 }
-
-#[cfg(not(feature = "whole"))]
-fn whole(_: &[u8]) {}

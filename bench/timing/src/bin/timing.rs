@@ -14,7 +14,6 @@ fn main() {
     growth(repeats);
 }
 
-#[cfg(feature = "whole")]
 /// Nanoseconds of one call of each of two functions that make so many in a row: medians over the repeats, the two in turn.
 fn medians(
     repeats: usize,
@@ -97,7 +96,6 @@ fn public_step(repeats: usize) {
     println!();
 }
 
-#[cfg(feature = "whole")]
 fn whole(repeats: usize, rounds: u32, job: &[u8]) -> (f64, f64) {
     let mut output = vec![0; 1 << 16];
     let mut lines = Vec::with_capacity(1 << 16);
@@ -121,16 +119,12 @@ fn whole(repeats: usize, rounds: u32, job: &[u8]) -> (f64, f64) {
     )
 }
 
-#[cfg(feature = "whole")]
 fn whole_example(repeats: usize) {
     head("10,000 runs of the example, input bytes to lines, ns a run");
     let (proved, twin) = whole(repeats, 10_000, &jobs::example());
     row("load, start, 9 steps, 2 answers, 5 lines", proved, twin);
     println!();
 }
-
-#[cfg(not(feature = "whole"))]
-fn whole_example(_: usize) {}
 
 fn growth(repeats: usize) {
     const STEPS: u32 = 2_000;
@@ -161,16 +155,12 @@ fn growth(repeats: usize) {
     house(repeats, &jobs);
 }
 
-#[cfg(feature = "whole")]
 fn house(repeats: usize, jobs: &[(String, Vec<u8>)]) {
     head("house run of 100,000 steps, index rules not tested again");
     for (name, job) in jobs {
         speed(name, whole(repeats, 1, job), 100_000);
     }
 }
-
-#[cfg(not(feature = "whole"))]
-fn house(_: usize, _: &[(String, Vec<u8>)]) {}
 
 /// Steps a second of both, in thousands; the ratio is that of the times.
 fn speed(name: &str, (proved, twin): (f64, f64), steps: u32) {
