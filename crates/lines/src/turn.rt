@@ -45,10 +45,10 @@ pub fn is_limit(queued: usize, steps: u32) -> bool
 pub fn is_over(queued: usize, reply: Reply) -> bool
     ensures { λ r. ⌜ r ≡ isOver queued reply ⌝ }
 {
-    if queued == 0 {
-        return false;
+    if is_refused(reply) {
+        return 0 < queued;
     }
-    is_refused(reply)
+    false
 }
 
 // Delivers the record at an index: "handle and signed value, each little-endian".

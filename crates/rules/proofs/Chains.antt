@@ -1,6 +1,6 @@
 -- A chain of cells, followed link by link with as many links left as are left of the loop. Assumes nothing.
 use mathlib.Core.Path.{_≡_, refl, sym, _∙_, ap}
-use mathlib.Core.Bool.{Bool, true, false, not}
+use mathlib.Core.Bool.{Bool, true, false, not, true≢false}
 use mathlib.Core.List.{List, [], _∷_}
 use Prim.Native.Nat.{ℕ, zero, suc, _+_, _-_, _<_, _≤_}
 use native.Mathlib.Omega.{arith}
@@ -14,6 +14,7 @@ use Rattle.model.specs.declared.token.State.{State}
 use Rattle.model.specs.declared.token.State.the-variants as states
 use Rattle.model.specs.declared.token.Token.{Token}
 use Rattle.model.specs.declared.cell.Cell.{Cell}
+use Rattle.rules.specs.Marks.{stateNumber}
 
 -- within a list the default is never read
 pub getD-any : {A : Type 0} (xs : List A) (i : ℕ) (d e : A) → i < length xs → getD xs i d ≡ getD xs i e
@@ -87,6 +88,12 @@ unfolding chainEnds isPlace
 ends-nowhere cs zero = refl
 ends-nowhere cs (suc n) = refl
 
+-- a cell without a parent is its chain's end
+pub ends-none : (cs : List Cell) (n : ℕ) (q : Place) → isPlace q ≡ false → true ≡ chainEnds cs n q
+unfolding isPlace
+ends-none cs n places.Nowhere e = sym (ends-nowhere cs n)
+ends-none cs n (places.At c) e = absurd (true≢false e)
+
 module _ (cs : List Cell) (q : Place) (i : ℕ) (long : length cs ≡ 32) where
   pub ends-stop : q ≡ places.Nowhere → true ≡ chainEnds cs (32 - i) q
   ends-stop e = sym (ap (chainEnds cs (32 - i)) e ∙ ends-nowhere cs (32 - i))
@@ -126,3 +133,12 @@ module _ (cs : List Cell) (s : State) (c : ℕ) (waits : s ≡ states.Waiting c)
   pub waits-read : (d : Cell) → c < 32 → not (hasValue (getD cs c d .value)) ≡ waitsAtUnset cs s
   unfolding waitsAtUnset isSet
   waits-read d l = rw (waits, cell-read cs c d (omega arith))
+
+-- a token that does not wait
+pub not-waiting : (cs : List Cell) (s : State) → (stateNumber s ≡ 2 → ⊥) → true ≡ waitsAtUnset cs s
+unfolding waitsAtUnset stateNumber
+not-waiting cs states.Blank differs = refl
+not-waiting cs states.Ready differs = refl
+not-waiting cs (states.Waiting c) differs = absurd (differs refl)
+not-waiting cs (states.Called h) differs = refl
+not-waiting cs states.Frame differs = refl

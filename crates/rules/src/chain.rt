@@ -2,11 +2,13 @@
 ghost use mathlib.Core.Path.{_≡_};
 ghost use Rattle.model.specs.Test.{all};
 ghost use Rattle.model.specs.Machine.Blank.{hasValue};
-ghost use Rattle.model.specs.Machine.Active.{underSet};
+ghost use Rattle.model.specs.Machine.Active.{isLive, underSet};
 ghost use Rattle.model.specs.Machine.Rules.{chainEnds, chainsEnd, notUnderSet, waitsAtUnset};
 ghost use Rattle.model.specs.declared.token.Token.{Token};
+use crate::blank::is_place;
 use crate::marks::BLANK;
 use crate::marks::FRAME;
+use crate::marks::WAITING;
 use crate::marks::state_number;
 use model::cell::Cell;
 use model::record::Machine;
@@ -85,19 +87,27 @@ pub fn chains_end(cells: [Cell; Machine::CELLS]) -> bool
     while i < Machine::CELLS {
         let cell = cells[i];
         let parent = cell.parent;
-        ok = ok & chain_ends(cells, parent);
         i += 1;
+        if is_place(parent) {
+            ok = ok & chain_ends(cells, parent);
+        }
     }
     ok
+}
+
+// "ready, waiting or called-out"
+pub fn is_live(state: State) -> bool
+    ensures { λ r. ⌜ r ≡ isLive state ⌝ }
+{
+    let number = state_number(state);
+    (BLANK < number) & (number < FRAME)
 }
 
 pub fn not_under_set(cells: [Cell; Machine::CELLS], token: Token) -> bool
     ensures { λ r. ⌜ r ≡ notUnderSet cells token ⌝ }
 {
     let state = token.state;
-    let number = state_number(state);
-    let live = (BLANK < number) & (number < FRAME);
-    if live {
+    if is_live(state) {
         let place = token.cell;
         return !under_set(cells, place);
     }
@@ -124,7 +134,7 @@ pub fn waits_at_unset(cells: [Cell; Machine::CELLS], state: State) -> bool
     }
 }
 
-// No live token is under a set cell.
+// No live token is under a set cell. (Only for a live one is the table of cells handed on: that copies it.)
 pub fn none_under_set(machine: Machine) -> bool
     ensures { λ r. ⌜ r ≡ all (notUnderSet (machine .cells)) (machine .tokens) ⌝ }
 {
@@ -133,8 +143,11 @@ pub fn none_under_set(machine: Machine) -> bool
     let mut i = 0;
     while i < Machine::TOKENS {
         let token = machine.tokens[i];
-        ok = ok & not_under_set(cells, token);
+        let state = token.state;
         i += 1;
+        if is_live(state) {
+            ok = ok & not_under_set(cells, token);
+        }
     }
     ok
 }
@@ -149,8 +162,10 @@ pub fn all_wait_at_unset(machine: Machine) -> bool
     while i < Machine::TOKENS {
         let token = machine.tokens[i];
         let state = token.state;
-        ok = ok & waits_at_unset(cells, state);
         i += 1;
+        if state_number(state) == WAITING {
+            ok = ok & waits_at_unset(cells, state);
+        }
     }
     ok
 }

@@ -1,11 +1,12 @@
 -- `chain::none_under_set` meets its contract: after i turns the flag says whether none of the first i tokens is under a set cell. Assumes nothing.
-use mathlib.Core.Path.{_≡_}
+use mathlib.Core.Path.{_≡_, sym, _∙_}
 use Prim.Native.Nat.{_-_, _≤_}
 use native.Mathlib.Omega.{arith}
 use lib.ListN.{length, take}
 use Rattle.model.specs.Test.{all}
 use Rattle.model.specs.Machine.Rules.{notUnderSet}
-use Rattle.rules.proofs.Loop.{all-turn, done, mapped}
+use Rattle.rules.proofs.Chains.{other-under}
+use Rattle.rules.proofs.Loop.{all-turn, all-pass, done, mapped}
 use borrow.Author.Needs.{needs}
 use Rattle.rules.proofs.chain.none_under_set.Statement.{statement}
 use Rattle.rules.proofs.chain.none_under_set.Tie as tie
@@ -22,12 +23,23 @@ loop-holds c = search needs
 
 loop-again : tie.Need-loop-again Inv-loop μ-loop
 loop-again c =
-    let place3 = c .before .before .before in
-    let place5 = place3 .before .before in
-    let machine = place5 .args .t1 in
+    let place5 = c .before .before .before .before .before in
+    let place7 = place5 .before .before in
+    let machine = place7 .args .t1 in
     let long : length (machine .tokens) ≡ 64 = search (needs, mapped) in (
       search needs,
-      all-turn (notUnderSet (machine .cells)) (machine .tokens) (place3 .loop .i) _ (omega arith) (place3 .loop .inv .1) (c .not-under-set .ensures),
+      all-turn (notUnderSet (machine .cells)) (machine .tokens) (place5 .loop .i) _ (omega arith) (place5 .loop .inv .1) (c .not-under-set .ensures),
+    )
+
+loop-again-2 : tie.Need-loop-again-2 Inv-loop μ-loop
+loop-again-2 c =
+    let place4 = c .before .before .before .before in
+    let place6 = place4 .before .before in
+    let machine = place6 .args .t1 in
+    let long : length (machine .tokens) ≡ 64 = search (needs, mapped) in (
+      search needs,
+      all-pass (notUnderSet (machine .cells)) (machine .tokens) (place4 .loop .i) _ (omega arith) (place4 .loop .inv .1)
+          (other-under (machine .cells) _ (sym (c .before .is-live .ensures) ∙ c .if1 .left)),
     )
 
 returns : tie.Need-returns Inv-loop μ-loop
@@ -46,8 +58,11 @@ none-under-set-spec =
     loop-holds
     (λ c. search needs)
     (λ c. search needs)
+    (λ c. search needs)
+    (λ c κs. search needs)
     (λ c κs. search needs)
     (λ c. search needs)
-    (λ c. search needs)
     loop-again
+    (λ c. search needs)
+    loop-again-2
     returns)

@@ -1,9 +1,7 @@
 -- `chain::not_under_set` meets its contract: only a live token is looked at. Assumes nothing.
 use mathlib.Core.Path.{ap, sym, _∙_}
-use mathlib.Core.Bool.{not, _&&_}
-use lib.Dec.{ltb}
+use mathlib.Core.Bool.{not}
 use Rattle.rules.proofs.Chains.{live-under, other-under}
-use Rattle.rules.proofs.States.{live-is}
 use borrow.Author.Needs.{needs}
 use Rattle.rules.proofs.chain.not_under_set.Statement.{statement}
 use Rattle.rules.proofs.chain.not_under_set.Tie as tie
@@ -12,13 +10,12 @@ returns : tie.Need-returns
 returns c =
     let place2 = c .before .before in
     let place3 = place2 .before in
-    ap not (c .under-set .ensures)
-    ∙ live-under _ (place3 .args .token) (sym (ap (λ n. ltb 0 n && ltb n 4) (place2 .state-number .ensures) ∙ live-is _) ∙ c .before .if1 .taken)
+    ap not (c .under-set .ensures) ∙ live-under _ (place3 .args .token) (sym (place2 .is-live .ensures) ∙ c .before .if1 .taken)
 
 returns-2 : tie.Need-returns-2
 returns-2 c =
     let place2 = c .before .before in
-    other-under _ (place2 .args .token) (sym (ap (λ n. ltb 0 n && ltb n 4) (c .before .state-number .ensures) ∙ live-is _) ∙ c .if1 .left)
+    other-under _ (place2 .args .token) (sym (c .before .is-live .ensures) ∙ c .if1 .left)
 
 pub not-under-set-spec : {M : Type 1} → statement M
 not-under-set-spec =
