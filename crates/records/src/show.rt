@@ -30,13 +30,13 @@ fn put_first(digits: &[u8], n: usize) {
     }
 }
 
-fn put_digits(digits: &[u8; 4096], n: usize) {
+fn put_digits(digits: &[u8; 80], n: usize) {
     put_first(digits, n);
 }
 
 pub fn value(v: i32) {
     put(b" ");
-    let mut digits = io::buffer();
+    let mut digits = [0u8; 80];
     let n = put_signed(&mut digits, 0, v);
     put_digits(&digits, n);
 }
