@@ -14,7 +14,7 @@ use Rattle.model.specs.Job.Syntax.{Param, Join, par, seq, prune, Exp, stop, sit
 use Rattle.model.specs.Job.Read.{Got, Read, got, refused, _>>=_, gives, need, entryAt, readParams, readCall, readJoin, readExp}
 use Rattle.model.proofs.Test.{ltb-lt}
 use Rattle.model.proofs.Job.Position.{operandAt, entries-at, entries-end, bind-got, refused-got}
-use Rattle.compiler.specs.Join.{joinBy, joinOf}
+use Rattle.reader.specs.Join.{either, joinOf}
 use Rattle.compiler.proofs.Reread.{reread}
 
 -- at most eight variables are in scope in either side
@@ -62,7 +62,7 @@ module _ (left : ℕ) (scope : List ℕ) (o e : ℕ) (l : List Entry) (g : Got E
   module _ (few : length scope ≤ 8) where
     by-shape : (k : ℕ) → (not (isBinder (kindOf k)) or ltb (length scope) 8) ≡ true → shape (readExp left) (kindOf k) o scope e l ≡ got g
         → Head (readExp left) scope o (suc e) l g k
-    unfolding kindOf isBinder shape _or_ joinOf joinBy scopeLeft scopeRight
+    unfolding kindOf isBinder shape _or_ joinOf either scopeLeft scopeRight
     by-shape zero b r = halts r
     by-shape (suc zero) b r = names r
     by-shape (suc (suc zero)) b r = calls r

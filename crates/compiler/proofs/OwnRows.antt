@@ -8,9 +8,9 @@ use lib.Seq.{sets}
 use Rattle.model.specs.Job.Node.{Node}
 use Rattle.model.specs.Job.Construct.{ownNodes}
 use Rattle.model.specs.Job.Words.{headWords, paramWords, nodeWords, rowsOf}
-use Rattle.compiler.specs.Join.{joinOf}
+use Rattle.reader.specs.Join.{joinOf}
 use Rattle.compiler.proofs.Stores.{sets-append}
-use Rattle.compiler.proofs.Plans.{join-par, join-seq, join-prune}
+use Rattle.reader.proofs.JoinSides.{join-par, join-seq, join-prune}
 
 -- the row of one node, and of one node before others
 row-last : (d d' : List ℕ) (n : ℕ) (x : Node) → d' ≡ sets d (headWords + 12 * n) (nodeWords x)
@@ -38,7 +38,7 @@ module _ (kind x n l r k : ℕ) (d : List ℕ) where
   pub own-seq : (c d' : List ℕ) → (kind ≡ 3 → ⊥) → kind ≡ 4 → c ≡ sets d (headWords + 12 * n) (words 4 x r 0)
       → d' ≡ sets c (headWords + 12 * (n + 1)) (words 5 x k 0) → d' ≡ sets d (headWords + 12 * n) (rowsOf (ownNodes (joinOf kind x) l r k))
   unfolding ownNodes nodeWords paramWords
-  own-seq c d' g h e f = rw (join-seq kind x g h) (row-then d c d' n (Node.assign x r) _ refl e (row-last c d' (n + 1) (Node.remove x k) f))
+  own-seq c d' g h e f = rw (join-seq kind x h) (row-then d c d' n (Node.assign x r) _ refl e (row-last c d' (n + 1) (Node.remove x k) f))
 
   pub own-prune : (b c d' : List ℕ) → (kind ≡ 3 → ⊥) → (kind ≡ 4 → ⊥) → b ≡ sets d (headWords + 12 * n) (words 6 l r x)
       → c ≡ sets b (headWords + 12 * (n + 1)) (words 5 x k 0) → d' ≡ sets c (headWords + 12 * (n + 2)) (words 7 0 0 0)

@@ -3,23 +3,11 @@ use Prim.Native.Nat.{ℕ, _+_}
 use mathlib.Core.Path.{_≡_, refl}
 use mathlib.Core.List.{_∷_}
 use native.Mathlib.Numerals.{add-one}
-use Rattle.model.specs.Job.Syntax.{par, seq, prune, levels, scopeLeft, scopeRight}
+use Rattle.model.specs.Job.Syntax.{levels, scopeLeft, scopeRight}
 use Rattle.model.specs.Job.Construct.{own, nextLeft, nextRight}
-use Rattle.model.proofs.Test.{eq-eqb, ne-eqb}
-use Rattle.compiler.specs.Join.{joinBy, joinOf, IsLeft, IsRight, joinRoot}
-
-module _ (kind x : ℕ) where
-  pub join-par : kind ≡ 3 → joinOf kind x ≡ par
-  unfolding joinOf joinBy
-  join-par e = rw (eq-eqb kind 3 e) refl
-
-  pub join-seq : (kind ≡ 3 → ⊥) → kind ≡ 4 → joinOf kind x ≡ seq x
-  unfolding joinOf joinBy
-  join-seq f e = rw (ne-eqb kind 3 f, eq-eqb kind 4 e) refl
-
-  pub join-prune : (kind ≡ 3 → ⊥) → (kind ≡ 4 → ⊥) → joinOf kind x ≡ prune x
-  unfolding joinOf joinBy
-  join-prune f g = rw (ne-eqb kind 3 f, ne-eqb kind 4 g) refl
+use Rattle.reader.specs.Join.{joinOf}
+use Rattle.reader.proofs.JoinSides.{join-par, join-seq, join-prune}
+use Rattle.compiler.specs.Join.{IsLeft, IsRight, joinRoot}
 
 -- one more variable
 levels-more : (n : ℕ) → levels (n + 1) ≡ n ∷ levels n
@@ -33,7 +21,7 @@ module _ (kind s n k : ℕ) where
 
   pub left-seq : (kind ≡ 3 → ⊥) → kind ≡ 4 → IsLeft (joinOf kind s) s n k (record { scope = s; first = n + 2; next = n })
   unfolding scopeLeft own nextLeft
-  left-seq f e = rw (join-seq kind s f e) (record { scoped = refl; begins = refl; goes = refl })
+  left-seq f e = rw (join-seq kind s e) (record { scoped = refl; begins = refl; goes = refl })
 
   pub left-prune : (kind ≡ 3 → ⊥) → (kind ≡ 4 → ⊥) → IsLeft (joinOf kind s) s n k (record { scope = s + 1; first = n + 3; next = n + 1 })
   unfolding scopeLeft own nextLeft
@@ -46,7 +34,7 @@ module _ (kind s n k : ℕ) where
 
     pub right-seq : (kind ≡ 3 → ⊥) → kind ≡ 4 → IsRight (joinOf kind s) s n m k (record { scope = s + 1; first = m; next = n + 1 })
     unfolding scopeRight nextRight
-    right-seq f e = rw (join-seq kind s f e) (record { scoped = levels-more s; begins = refl; goes = refl })
+    right-seq f e = rw (join-seq kind s e) (record { scoped = levels-more s; begins = refl; goes = refl })
 
     pub right-prune : (kind ≡ 3 → ⊥) → (kind ≡ 4 → ⊥) → IsRight (joinOf kind s) s n m k (record { scope = s; first = m; next = n + 2 })
     unfolding scopeRight nextRight
@@ -58,7 +46,7 @@ module _ (kind s n k : ℕ) where
 
   pub root-seq : (kind ≡ 3 → ⊥) → kind ≡ 4 → k ≡ joinRoot (joinOf kind s) n k
   unfolding joinRoot
-  root-seq f e = rw (join-seq kind s f e) refl
+  root-seq f e = rw (join-seq kind s e) refl
 
   pub root-prune : (kind ≡ 3 → ⊥) → (kind ≡ 4 → ⊥) → n ≡ joinRoot (joinOf kind s) n k
   unfolding joinRoot

@@ -14,7 +14,8 @@ use Rattle.model.specs.Job.Words.{headWords, rowsOf}
 use Rattle.model.specs.Job.Read.{got, readExp}
 use Rattle.model.proofs.Job.Position.{exp-from}
 use Rattle.reader.proofs.Scope.{levels-length}
-use Rattle.compiler.specs.Join.{joinOf, IsLeft, IsRight, joinRoot}
+use Rattle.reader.specs.Join.{joinOf}
+use Rattle.compiler.specs.Join.{IsLeft, IsRight, joinRoot}
 use Rattle.compiler.specs.Compiled.{reading, Accepted, compiled, stored}
 use Rattle.compiler.specs.declared.plan.Plan.{Plan}
 use Rattle.compiler.specs.declared.expression.Compiled.{Compiled}

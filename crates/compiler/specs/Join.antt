@@ -1,21 +1,10 @@
--- A join by its kind byte, and what its two sides are compiled with. Assumes nothing: these are definitions.
+-- What the two sides of a join are compiled with. (`joinOf` of crate `reader` is the join of a kind byte.) Assumes nothing: these are definitions.
 use mathlib.Core.Path.{_≡_}
-use mathlib.Core.Bool.{Bool, true, false}
 use mathlib.Core.List.{List}
 use Prim.Native.Nat.{ℕ}
-use lib.Dec.{eqb}
 use Rattle.model.specs.Job.Syntax.{Join, par, seq, prune, levels, scopeLeft, scopeRight}
 use Rattle.model.specs.Job.Construct.{firstLeft, nextLeft, nextRight}
 use Rattle.compiler.specs.declared.plan.Plan.{Plan}
-
--- kind 3, 4 or 5, by the tests for 3 and for 4; a binder's variable is numbered by how many are in scope
-unfoldable pub joinBy : Bool → Bool → (level : ℕ) → Join
-joinBy true b x = par
-joinBy false true x = seq x
-joinBy false false x = prune x
-
-unfoldable pub joinOf : (kind level : ℕ) → Join
-joinOf k x = joinBy (eqb k 3) (eqb k 4) x
 
 -- an expression with these variables in scope, its nodes numbered from `first` toward `next`
 pub record IsPlan (r : Plan) (scope : List ℕ) (first next : ℕ) : Type 0 where

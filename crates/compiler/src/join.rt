@@ -4,7 +4,8 @@ ghost use Prim.Native.Nat.{_+_, _*_, _<_, _≤_};
 ghost use lib.Seq.{sets};
 ghost use Rattle.model.specs.Job.Construct.{ownNodes};
 ghost use Rattle.model.specs.Job.Words.{headWords, rowsOf};
-ghost use Rattle.compiler.specs.Join.{joinOf, joinRoot};
+ghost use Rattle.reader.specs.Join.{joinOf};
+ghost use Rattle.compiler.specs.Join.{joinRoot};
 use crate::plan::Plan;
 use crate::store::put;
 

@@ -1,6 +1,7 @@
 // How an expression is compiled, and how the two sides of a join are.
 ghost use Prim.Native.Nat.{_<_, _≤_};
-ghost use Rattle.compiler.specs.Join.{joinOf, IsLeft, IsRight};
+ghost use Rattle.reader.specs.Join.{joinOf};
+ghost use Rattle.compiler.specs.Join.{IsLeft, IsRight};
 
 // The number of variables in scope, the expression's first node, and the node toward which it goes.
 pub struct Plan {

@@ -6,6 +6,5 @@ pub mod HouseTurns
 pub mod TurnCases
 pub mod Going
 pub mod TableEnd
-pub mod DeclinedAt
 pub mod Whole
 pub mod Pieces

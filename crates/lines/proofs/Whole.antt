@@ -17,11 +17,11 @@ use Rattle.model.specs.Machine.Limits.{paper}
 use Rattle.model.proofs.Test.{leb-le, le-leb, not-leb-lt, lt-not-leb}
 use Rattle.model.proofs.Job.Accepted.{accepted-well-formed}
 use Rattle.model.proofs.Job.Begins.{words-construct}
+use Rattle.model.proofs.Job.DeclinedAt.{declined-at}
 use Rattle.loader.specs.Loaded.{loaded, loadedWords}
 use Rattle.loader.specs.declared.table.Loaded.{Loaded}
 use Rattle.loader.specs.declared.table.Loaded.the-variants.{Dag, Refused}
 use Rattle.lines.specs.Input.{tableEnd, Accepted}
-use Rattle.lines.proofs.DeclinedAt.{declined-at}
 
 -- what was loaded is the reader's answer
 declined-of : (a : Answer) (n e : ℕ) → Refused n e ≡ loaded a → a ≡ declined n e

@@ -17,3 +17,4 @@ pub mod Kept
 pub mod Laid
 pub mod Decode
 pub mod Begins
+pub mod DeclinedAt

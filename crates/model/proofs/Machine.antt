@@ -13,3 +13,4 @@ pub mod Acts
 pub mod Within
 pub mod Begin
 pub mod Larger
+pub mod Choke

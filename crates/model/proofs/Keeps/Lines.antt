@@ -24,7 +24,8 @@ use Rattle.model.proofs.Machine.Marks.{Free, marked-le-length, marked-s
 use Rattle.model.proofs.Machine.InUse.{token-outside}
 use Rattle.model.proofs.Machine.Rules.{NamesOnce, names-once, ready-state}
 use Rattle.model.proofs.Sees.Others.{count-append, token-same, token-other}
-use Rattle.model.proofs.Sees.Choke.{woken, choke-at, choke-ends, choke-spares}
+use Rattle.model.proofs.Machine.Choke.{choke-at, choke-ends}
+use Rattle.model.proofs.Sees.Choke.{woken, choke-spares}
 
 -- counting
 count-here : (r : ℕ) (l : List ℕ) → count r (r ∷ l) ≡ suc (count r l)

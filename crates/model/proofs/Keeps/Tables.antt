@@ -35,7 +35,7 @@ use Rattle.model.proofs.Machine.Writes.{Choked, ends, wakes, stays, cho
 use Rattle.model.proofs.Sees.Slots.{unbound-empty}
 use Rattle.model.proofs.Sees.Others.{token-same, token-other}
 use Rattle.model.proofs.Run.Chain.{cell-same, cell-other}
-use Rattle.model.proofs.Sees.Choke.{choke-at}
+use Rattle.model.proofs.Machine.Choke.{choke-at}
 
 -- the values that variables are bound to
 abbrev pub BindsFit : List Bind → Type 0

@@ -17,6 +17,7 @@ use Rattle.model.specs.declared.token.Token.{Token}
 use Rattle.model.specs.declared.cell.Cell.{Cell}
 use Rattle.model.specs.declared.record.Machine.{Machine}
 use Rattle.model.proofs.Test.{clash}
+use Rattle.model.proofs.Machine.Choke.{choke-ends}
 use Rattle.model.proofs.Run.Chain.{set-cell-clear}
 use Rattle.model.proofs.Run.Bystander.{Unharmed, Untouched, untouched-orders}
 
@@ -35,10 +36,6 @@ ready-awake c (states.Called h) e = refl
 ready-awake c states.Frame e = refl
 
 module _ (cs : List Cell) (c : ℕ) (t : Token) where
-  choke-ends : within cs c (t .cell) ≡ true → chokeToken cs c t ≡ blankToken
-  unfolding chokeToken
-  choke-ends e = rw (e, chokeToken)
-
   choke-spares : isReady (t .state) ≡ true → within cs c (t .cell) ≡ false → chokeToken cs c t ≡ t
   unfolding chokeToken
   choke-spares r e = rw (e, ready-awake c (t .state) r, chokeToken)
@@ -49,7 +46,7 @@ module _ (cs : List Cell) (c : ℕ) (t : Token) where
   choke-ready r = go (within cs c (t .cell)) refl
     where
       go : (b : Bool) → within cs c (t .cell) ≡ b → b ≡ not (isReady (chokeToken cs c t .state))
-      go true e = ap (λ (u : Token). not (isReady (u .state))) (sym (choke-ends e))
+      go true e = ap (λ (u : Token). not (isReady (u .state))) (sym (choke-ends cs c t e))
       go false e = ap not (sym (ap (λ (u : Token). isReady (u .state)) (choke-spares r e) ∙ r))
 
 module _ (c : ℕ) (m : Machine) where

@@ -26,6 +26,7 @@ use Rattle.model.specs.declared.token.Token.{Token}
 use Rattle.model.specs.declared.cell.Cell.{Cell}
 use Rattle.model.specs.declared.record.Machine.{Machine}
 use Rattle.model.proofs.Test.{clash, ne-eqb}
+use Rattle.model.proofs.Machine.Choke.{choke-at, choke-ends}
 use Rattle.model.proofs.Abstract.Machine as Abstract
 use Rattle.model.proofs.Abstract.Machine.{Binding, Frame, at, Store, withSet, isOutOf, outOf, actsAt}
 use Rattle.model.proofs.Abstract.Store.{_∈_, set-same, set-other}
@@ -37,23 +38,6 @@ use Rattle.model.proofs.Run.Chain.{cell-same, cell-other}
 use Rattle.model.proofs.Sees.Within.{not-any, any-first, any-rest, within-seen}
 use Rattle.model.proofs.Sees.Moving.{value-there, value-optional, place-as}
 use Rattle.model.proofs.Sees.Agrees.{Acting, Shows, Agrees}
-
--- a token at a place, choked
-choke-blank : (cs : List Cell) (c : ℕ) → chokeToken cs c blankToken ≡ blankToken
-unfolding chokeToken waitsAt
-choke-blank cs c = go (within cs c places.Nowhere) refl
-  where
-    go : (b : Bool) → within cs c places.Nowhere ≡ b → chokeToken cs c blankToken ≡ blankToken
-    go true e = rw (e, chokeToken) refl
-    go false e = rw (e, chokeToken) refl
-
-pub choke-at : (cs : List Cell) (c : ℕ) (ts : List Token) (r : ℕ) → tokenAt (map (chokeToken cs c) ts) r ≡ chokeToken cs c (tokenAt ts r)
-unfolding tokenAt
-choke-at cs c ts r = ap (getD (map (chokeToken cs c) ts) r) (sym (choke-blank cs c)) ∙ List·getD-map (chokeToken cs c) ts r blankToken
-
-pub choke-ends : (cs : List Cell) (c : ℕ) (t : Token) → within cs c (t .cell) ≡ true → chokeToken cs c t ≡ blankToken
-unfolding chokeToken
-choke-ends cs c t e = rw (e, chokeToken) refl
 
 unfoldable pub woken : Bool → Token → Token
 woken b t = elim b [ true ↦ being states.Ready t | false ↦ t ]
