@@ -1,6 +1,6 @@
 -- The code's `&` and `|` are the definitions' `and` and `or`, since they have the same tables; and what else of `and` and `or` the laws
 -- need. Assumes nothing.
-use mathlib.Core.Path.{_≡_, refl}
+use mathlib.Core.Path.{_≡_, refl, sym}
 use mathlib.Core.Bool.{Bool, true, false, _&&_, _||_}
 use Prim.Native.Nat.{ℕ, zero, suc, _≤_}
 use native.Mathlib.Omega.{arith}
@@ -20,6 +20,20 @@ pub and-assoc : (a b c : Bool) → ((a and b) and c) ≡ (a and b and c)
 unfolding _and_
 and-assoc true b c = refl
 and-assoc false b c = refl
+
+pub regroup : (a b c d : Bool) → ((a and b) and c and d) ≡ ((a and c) and b and d)
+unfolding _and_
+regroup true true true d = refl
+regroup true true false d = refl
+regroup true false true d = refl
+regroup true false false d = refl
+regroup false b c d = refl
+
+-- a test that says the same
+pub same-when : (a b : Bool) → (a ≡ true → b ≡ true) → (b ≡ true → a ≡ true) → a ≡ b
+same-when true b f g = sym (f refl)
+same-when false true f g = g refl
+same-when false false f g = refl
 
 pub or-false : (a : Bool) → (a or false) ≡ a
 unfolding _or_

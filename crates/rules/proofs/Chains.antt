@@ -14,7 +14,6 @@ use Rattle.model.specs.declared.token.State.{State}
 use Rattle.model.specs.declared.token.State.the-variants as states
 use Rattle.model.specs.declared.token.Token.{Token}
 use Rattle.model.specs.declared.cell.Cell.{Cell}
-use Rattle.rules.specs.Marks.{stateNumber}
 
 -- within a list the default is never read
 pub getD-any : {A : Type 0} (xs : List A) (i : ℕ) (d e : A) → i < length xs → getD xs i d ≡ getD xs i e
@@ -134,11 +133,11 @@ module _ (cs : List Cell) (s : State) (c : ℕ) (waits : s ≡ states.Waiting c)
   unfolding waitsAtUnset isSet
   waits-read d l = rw (waits, cell-read cs c d (omega arith))
 
--- a token that does not wait
-pub not-waiting : (cs : List Cell) (s : State) → (stateNumber s ≡ 2 → ⊥) → true ≡ waitsAtUnset cs s
-unfolding waitsAtUnset stateNumber
-not-waiting cs states.Blank differs = refl
-not-waiting cs states.Ready differs = refl
-not-waiting cs (states.Waiting c) differs = absurd (differs refl)
-not-waiting cs (states.Called h) differs = refl
-not-waiting cs states.Frame differs = refl
+-- a token that is not live does not wait
+pub other-waits : (cs : List Cell) (s : State) → isLive s ≡ false → true ≡ waitsAtUnset cs s
+unfolding waitsAtUnset isLive
+other-waits cs states.Blank e = refl
+other-waits cs states.Ready e = refl
+other-waits cs (states.Waiting c) e = absurd (true≢false e)
+other-waits cs (states.Called h) e = refl
+other-waits cs states.Frame e = refl

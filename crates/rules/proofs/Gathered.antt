@@ -5,16 +5,17 @@ use mathlib.Core.List.{List, [], _∷_, _++_, append-nil, append-assoc}
 use Prim.Native.Nat.{ℕ, zero, suc, _+_, _<_}
 use native.Mathlib.Numerals.{add-one}
 use native.Mathlib.Omega.{arith}
-use lib.ListN.{length, getD, take, set}
+use lib.ListN.{length, getD, take, set, List·getD-map}
 use lib.Seq.{take-suc, take-suc-set, take-set-le}
 use lib.Dec.{eqb}
 use Rattle.model.specs.Test.{_and_, _or_, all, any, differ}
+use Rattle.model.specs.Machine.Blank.{blankToken}
 use Rattle.model.specs.Machine.Rules.{handleOf, openHandles}
 use Rattle.model.specs.declared.token.State.{State}
 use Rattle.model.specs.declared.token.State.the-variants as states
 use Rattle.model.specs.declared.token.Token.{Token}
-use Rattle.rules.specs.Marks.{stateNumber, handleNumber}
-use Rattle.rules.proofs.Both.{both}
+use Rattle.rules.specs.Marks.{stateNumber, numbersOf, handleNumber, handlesOf}
+use Rattle.rules.proofs.Both.{both, regroup}
 
 handles-more : (ts : List Token) (i : ℕ) (d : Token) → i < length ts
     → openHandles (take (suc i) ts) ≡ openHandles (take i ts) ++ handleOf (getD ts i d .state)
@@ -40,6 +41,15 @@ no-handle states.Ready f = refl
 no-handle (states.Waiting c) f = refl
 no-handle (states.Called h) f = absurd (f refl)
 no-handle states.Frame f = refl
+
+-- what was written is read
+pub number-read : (ts : List Token) (numbers : List ℕ) (i : ℕ) → numbers ≡ numbersOf ts → getD numbers i 0 ≡ stateNumber (getD ts i blankToken .state)
+unfolding stateNumber
+number-read ts numbers i e = ap (λ xs. getD xs i 0) e ∙ List·getD-map (λ (t : Token). stateNumber (t .state)) ts i blankToken
+
+pub handle-read : (ts : List Token) (handles : List ℕ) (i : ℕ) → handles ≡ handlesOf ts → getD handles i 0 ≡ handleNumber (getD ts i blankToken .state)
+unfolding handleNumber
+handle-read ts handles i e = ap (λ xs. getD xs i 0) e ∙ List·getD-map (λ (t : Token). handleNumber (t .state)) ts i blankToken
 
 module _ (ts : List Token) (list : List ℕ) (n i : ℕ) (d : Token) (l : i < length ts) (room : n < length list)
     (so-far : take n list ≡ openHandles (take i ts)) {h k : ℕ}
@@ -74,14 +84,6 @@ any-last p (x ∷ xs) y = go (p x) (any-last p xs y)
         → not (b or any p (xs ++ (y ∷ []))) ≡ (not (b or any p xs) and not (p y))
     go true e = refl
     go false e = e
-
-regroup : (a b c d : Bool) → ((a and b) and c and d) ≡ ((a and c) and b and d)
-unfolding _and_
-regroup true true true d = refl
-regroup true true false d = refl
-regroup true false true d = refl
-regroup true false false d = refl
-regroup false b c d = refl
 
 differ-last : (xs : List ℕ) (y : ℕ) → differ (xs ++ (y ∷ [])) ≡ (differ xs and all (λ (x : ℕ). not (eqb x y)) xs)
 unfolding differ any all _and_

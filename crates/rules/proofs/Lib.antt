@@ -10,4 +10,5 @@ pub mod Ranges
 pub mod Record
 pub mod Rest
 pub mod States
+pub mod Tokens
 pub mod Words

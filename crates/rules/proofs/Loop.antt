@@ -21,7 +21,7 @@ and-nothing false = refl
 
 -- the same test of each element
 module _ {A : Type 0} (p : A → Bool) where
-  all-more : (xs : List A) (i : ℕ) (d : A) → i < length xs → all p (take (suc i) xs) ≡ (all p (take i xs) and p (getD xs i d))
+  pub all-more : (xs : List A) (i : ℕ) (d : A) → i < length xs → all p (take (suc i) xs) ≡ (all p (take i xs) and p (getD xs i d))
   unfolding all _and_
   all-more [] i d l = absurd (omega arith)
   all-more (x ∷ xs) zero d l = and-true (p x)

@@ -5,24 +5,26 @@ use mathlib.Core.List.{List, [], _∷_}
 use Prim.Native.Nat.{ℕ, zero, suc, _+_, _-_, _*_, _<_, _≤_}
 use native.Mathlib.Decide.{decLt}
 use native.Mathlib.Omega.{arith}
-use lib.ListN.{length, getD, take, drop, List·getD-eq-default, List·getD-map}
+use lib.ListN.{length, getD, take, drop, List·getD-eq-default}
 use lib.Dec.{ltb, leb, eqb}
 use Rattle.model.specs.Test.{_and_, all}
 use Rattle.model.specs.Job.Node.{dagKept}
 use Rattle.model.specs.Job.Words.{nodeBy, paramOf, paramsFrom, dagOf}
-use Rattle.model.specs.Machine.Blank.{empty, blankToken, slotAt, tokenAt, isBound}
+use Rattle.model.specs.Machine.Blank.{empty, blankToken, slotAt, tokenAt, isBound, isPlace}
 use Rattle.model.specs.Machine.Rules.{isFrame, namesFrame, notEmpty, nodeRule, atNode}
 use Rattle.model.specs.declared.token.Bind.{Bind}
 use Rattle.model.specs.declared.token.Place.{Place}
 use Rattle.model.specs.declared.token.Place.the-variants as places
+use Rattle.model.specs.declared.token.State.{State}
 use Rattle.model.specs.declared.token.Token.{Token}
 use Rattle.model.proofs.Test.{clash, lt-ltb, le-not-ltb, and-left, leb-le, eq-eqb, ne-eqb}
-use Rattle.rules.specs.Marks.{stateNumber, marked}
+use Rattle.rules.specs.Marks.{stateNumber}
+use Rattle.rules.specs.Tokens.{StateThere}
 use Rattle.rules.specs.Words.{pairBound}
 use Rattle.rules.proofs.Array.{kept-node, nodes-length}
 use Rattle.rules.proofs.Both.{and-true}
 use Rattle.rules.proofs.Chains.{getD-any}
-use Rattle.rules.proofs.States.{blank-is}
+use Rattle.rules.proofs.States.{blank-is, frame-is}
 use Rattle.rules.proofs.Words.{table, listed}
 
 -- a variable's slot
@@ -88,8 +90,20 @@ module _ (bs : List Bind) where
   unfolding table
   params-bound ws len c = ap (λ xs. all (notEmpty bs) (paramsFrom c (drop 4 xs))) (listed 0 12 ws len) ∙ four-bound c _ _ _ _ _ _ _ _
 
+-- a place is that of one token
+pub same-place : {q : Place} {a p : ℕ} → q ≡ places.At a → q ≡ places.At p → a ≡ p
+same-place {q} {a} {p} e f = ap number (sym e ∙ f)
+  where
+    number : Place → ℕ
+    number places.Nowhere = 0
+    number (places.At n) = n
+
+pub no-place : {A : Type 0} {q : Place} {p : ℕ} → q ≡ places.Nowhere → q ≡ places.At p → A
+unfolding isPlace
+no-place e f = clash (ap isPlace f) (ap isPlace e)
+
 -- the frame that a token names
-module _ (ts : List Token) (frames : List Bool) (long : length ts ≡ 64) (marks : frames ≡ marked isFrame ts) (caller : Place) where
+module _ (ts : List Token) (s : State) (long : length ts ≡ 64) (caller : Place) (there : StateThere ts caller s) where
   pub no-caller : caller ≡ places.Nowhere → false ≡ namesFrame ts caller
   unfolding namesFrame
   no-caller e = rw e
@@ -102,14 +116,14 @@ module _ (ts : List Token) (frames : List Bool) (long : length ts ≡ 64) (marks
         let e : getD ts p blankToken ≡ blankToken = List·getD-eq-default ts blankToken m in
         rw (at, e)
 
-    pub caller-read : getD frames p false ≡ namesFrame ts caller
-    unfolding namesFrame tokenAt isFrame
-    caller-read = ap (λ (bs : List Bool). getD bs p false) marks ∙ rw at (List·getD-map (λ (t : Token). isFrame (t .state)) ts p blankToken)
+    pub caller-read : p < 64 → {n : ℕ} → n ≡ stateNumber s → eqb n 4 ≡ namesFrame ts caller
+    unfolding namesFrame
+    caller-read l e = ap (λ n. eqb n 4) e ∙ frame-is s ∙ rw at (ap isFrame (there p l at))
 
 -- a token that was read
-pub token-read : (ts : List Token) (i : ℕ) (d : Token) → i < length ts → tokenAt ts i ≡ getD ts i d
+pub token-read : (ts : List Token) (i : ℕ) (d : Token) → i < length ts → getD ts i d ≡ tokenAt ts i
 unfolding tokenAt
-token-read ts i d l = getD-any ts i blankToken d l
+token-read ts i d l = getD-any ts i d blankToken l
 
 -- a row of a kind past the last has no rule
 pub rule-past : (ts : List Token) (t : Token) (ws : List ℕ) → 10 ≤ getD ws 0 0 → true ≡ nodeRule ts t (nodeBy ws)

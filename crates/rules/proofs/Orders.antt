@@ -15,7 +15,7 @@ use Rattle.model.specs.Machine.Rules.{namesOnce}
 use Rattle.model.specs.declared.token.State.{State}
 use Rattle.model.specs.declared.token.Token.{Token}
 use Rattle.model.proofs.Test.{all-at, ltb-lt, eq-eqb, ne-eqb, le-leb, lt-not-leb}
-use Rattle.rules.specs.Marks.{marked}
+use Rattle.rules.specs.Marks.{stateNumber, numbersOf}
 use Rattle.rules.proofs.Both.{both, and-true, and-assoc}
 use Rattle.rules.proofs.Loop.{all-turn}
 
@@ -109,19 +109,21 @@ module _ (of : State → Bool) (ts : List Token) (array : List ℕ) (n : ℕ) (t
   unfolding namesOnce _and_
   order-wild l e = rw (tokens, long, le-leb n 64 l, e)
 
-  agree : (counts : ℕ → ℕ) (j : ℕ) (us : List Token) → ((p : ℕ) → j ≤ p → p < j + length us → counts p ≡ count p (take n array))
-      → allFrom (λ p (w : Bool). eqb (counts p) (once w)) j (marked of us)
+  agree : (number : ℕ) → ((s : State) → eqb (stateNumber s) number ≡ of s)
+      → (counts : ℕ → ℕ) (j : ℕ) (us : List Token) → ((p : ℕ) → j ≤ p → p < j + length us → counts p ≡ count p (take n array))
+      → allFrom (λ p (k : ℕ). eqb (counts p) (once (eqb k number))) j (numbersOf us)
       ≡ allFrom (λ p (t : Token). eqb (count p (take n array)) (once (of (t .state)))) j us
   unfolding allFrom
-  agree counts j [] h = refl
-  agree counts j (t ∷ us) h =
-      ap₂ (λ k b. eqb k (once (of (t .state))) and b) (h j (omega arith) (omega arith))
-      (agree counts (suc j) us (λ p l m. h p (omega arith) (omega arith)))
+  agree number g counts j [] h = refl
+  agree number g counts j (t ∷ us) h =
+      ap₂ _and_ (ap₂ (λ k (b : Bool). eqb k (once b)) (h j (omega arith) (omega arith)) (g (t .state)))
+      (agree number g counts (suc j) us (λ p l m. h p (omega arith) (omega arith)))
 
-  pub order-counted : (counts : List ℕ) → n ≤ 64 → all (λ (p : ℕ). ltb p 64) (take n array) ≡ true
+  pub order-counted : (number : ℕ) → ((s : State) → eqb (stateNumber s) number ≡ of s)
+      → (counts : List ℕ) → n ≤ 64 → all (λ (p : ℕ). ltb p 64) (take n array) ≡ true
       → ((p : ℕ) → p < 64 → getD counts p 0 ≡ count p (take n array))
-      → (allFrom (λ p (w : Bool). eqb (getD counts p 0) (once w)) 0 (marked of ts) and all (eqb 0) (drop n array)) ≡ namesOnce of ts array n
+      → (allFrom (λ p (k : ℕ). eqb (getD counts p 0) (once (eqb k number))) 0 (numbersOf ts) and all (eqb 0) (drop n array)) ≡ namesOnce of ts array n
   unfolding namesOnce _and_
-  order-counted counts l e h =
+  order-counted number g counts l e h =
       rw (tokens, long, le-leb n 64 l, e)
-      (ap (λ b. b and all (eqb 0) (drop n array)) (agree (λ p. getD counts p 0) 0 ts (λ p z m. h p (omega arith))))
+      (ap (λ b. b and all (eqb 0) (drop n array)) (agree number g (λ p. getD counts p 0) 0 ts (λ p z m. h p (omega arith))))

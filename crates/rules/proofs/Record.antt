@@ -1,76 +1,74 @@
--- The rules of a record, once its ranges are known: the others in the order of the sentence. Assumes nothing.
-use mathlib.Core.Path.{_≡_, refl, sym, _∙_, ap}
-use mathlib.Core.Bool.{Bool, true, false}
-use Prim.Native.Nat.{ℕ, _<_}
+-- The rules of a dag and a record, regrouped: the tokens' first, then the others, one table after the other. Assumes nothing.
+use mathlib.Core.Path.{_≡_, sym, _∙_, ap, ap₂}
+use mathlib.Core.Bool.{Bool, true, false, _&&_}
+use mathlib.Core.List.{List}
+use Prim.Native.Nat.{ℕ, _≤_}
 use native.Mathlib.Omega.{arith}
 use lib.ListN.{length}
+use lib.Seq.{take-all}
+use lib.Dec.{ltb, leb}
 use Rattle.model.specs.Test.{_and_, all, differ}
-use Rattle.model.specs.Job.Node.{Dag, isNode, dagKept}
+use Rattle.model.specs.Job.Node.{Dag, dagKept}
 use Rattle.model.specs.Machine.Limits.{paper}
-use Rattle.model.specs.Machine.Blank.{blankToken, tokenAt, tokenIsBlank, cellIsBlank}
+use Rattle.model.specs.Machine.Blank.{tokenIsBlank, cellIsBlank}
 use Rattle.model.specs.Machine.InUse.{tokensUsed, usedCells}
-use Rattle.model.specs.Machine.Rules.{isReady, isWaiting, sizesInRange, tokenInRange, machineKept, rulesKept}
+use Rattle.model.specs.Machine.Rules.{isReady, isWaiting, tokenInRange, cellInRange, machineKept, rulesKept}
 use Rattle.model.specs.Machine.Rules.{namesOnce, chainsEnd, notUnderSet, openHandles, waitsAtUnset, atNode, restIsBlank}
 use Rattle.model.specs.declared.token.Token.{Token}
 use Rattle.model.specs.declared.record.Machine.{Machine}
-use Rattle.model.proofs.Test.{and-left, and-right, all-at, ltb-lt}
-use Rattle.rules.specs.Ranges.{inRange}
+use Rattle.model.proofs.Test.{and-left, and-right, and-both}
+use Rattle.rules.proofs.Both.{same-when, three, four}
+use Rattle.rules.proofs.Ranges.{sizes-parts}
+use Rattle.rules.proofs.Tokens.{firstKept}
+
+-- twelve tests, in the code's order and in the sentence's
+regrouped : (s r cr q ce tu h w tw ta tb cb : Bool)
+    → ((((r and tb and ta) and tu and tw) and s and (cr and ce and cb) and q) and w and h)
+    ≡ (s and r and cr and q and ce and tu and h and w and tw and ta and tb and cb)
+regrouped s r cr q ce tu h w tw ta tb cb =
+    same-when _ _ (λ e. search (and-left, and-right, and-both) depth 14) (λ e. search (and-left, and-right, and-both) depth 14)
 
 module _ (d : Dag) (m : Machine) where
-  ranges-first : (s t c rest : Bool) → (s and t and c and rest) ≡ ((s and t and c) and rest)
-  unfolding _and_
-  ranges-first true true c rest = refl
-  ranges-first true false c rest = refl
-  ranges-first false t c rest = refl
-
-  -- the rules behind the ranges
-  others : Bool
-  others =
-      namesOnce isReady (m .tokens) (m .queue) (m .queued)
-      and chainsEnd (m .cells)
-      and all (notUnderSet (m .cells)) (m .tokens)
-      and differ (openHandles (m .tokens))
-      and namesOnce isWaiting (m .tokens) (m .waits) (m .waiting)
-      and all (λ (t : Token). waitsAtUnset (m .cells) (t .state)) (m .tokens)
-      and all (atNode d (m .tokens)) (m .tokens)
-      and restIsBlank tokenIsBlank (tokensUsed m) (m .tokens)
-      and restIsBlank cellIsBlank (usedCells (tokensUsed m) (m .tokens) (m .cells)) (m .cells)
-
-  by-ranges : machineKept paper d m ≡ (inRange d m and others)
-  unfolding machineKept inRange others
-  by-ranges = ranges-first _ _ _ _
-
-  pub out-of-range : inRange d m ≡ false → false ≡ machineKept paper d m
-  unfolding _and_
-  out-of-range e = sym (by-ranges ∙ ap (λ b. b and others) e)
-
-  pub within-range : inRange d m ≡ true
-      → (namesOnce isReady (m .tokens) (m .queue) (m .queued)
-      and chainsEnd (m .cells)
-      and all (notUnderSet (m .cells)) (m .tokens)
-      and differ (openHandles (m .tokens))
-      and namesOnce isWaiting (m .tokens) (m .waits) (m .waiting)
-      and all (λ (t : Token). waitsAtUnset (m .cells) (t .state)) (m .tokens)
-      and all (atNode d (m .tokens)) (m .tokens)
-      and restIsBlank tokenIsBlank (tokensUsed m) (m .tokens)
-      and restIsBlank cellIsBlank (usedCells (tokensUsed m) (m .tokens) (m .cells)) (m .cells))
-      ≡ machineKept paper d m
-  unfolding _and_ others
-  within-range e = sym (by-ranges ∙ ap (λ b. b and others) e)
-
-  -- a token in range is at a node of the dag
-  pub node-below : length (m .tokens) ≡ 64 → inRange d m ≡ true → (i : ℕ) → i < 64 → tokenAt (m .tokens) i .node < length (d .nodes)
-  unfolding inRange tokenInRange isNode tokenAt
-  node-below long e i l =
-      let tokens = and-left (all (tokenInRange paper d (m .calls)) (m .tokens)) _ (and-right (sizesInRange paper d m) _ e) in
-      let here = all-at (tokenInRange paper d (m .calls)) (m .tokens) i blankToken tokens (omega arith) in
-      ltb-lt _ _ (and-left (isNode d (tokenAt (m .tokens) i .node)) _ here)
-
   -- the dag's rules first
   pub dag-breaks : dagKept d ≡ false → false ≡ rulesKept paper d m
   unfolding rulesKept _and_
   dag-breaks e = rw e
 
-  pub dag-keeps : dagKept d ≡ true → machineKept paper d m ≡ rulesKept paper d m
+  dag-keeps : dagKept d ≡ true → machineKept paper d m ≡ rulesKept paper d m
   unfolding rulesKept _and_
   dag-keeps e = rw e
+
+  module _ (tokens : length (m .tokens) ≡ 64) (cells : length (m .cells) ≡ 32) {used : List Bool} (marks : used ≡ tokensUsed m) where
+    -- after the last turn
+    whole : (i : ℕ) → 64 ≤ i
+        → firstKept d m used i
+        ≡ ((all (tokenInRange paper d (m .calls)) (m .tokens)
+        and restIsBlank tokenIsBlank (tokensUsed m) (m .tokens)
+        and all (atNode d (m .tokens)) (m .tokens))
+        and all (notUnderSet (m .cells)) (m .tokens)
+        and all (λ (t : Token). waitsAtUnset (m .cells) (t .state)) (m .tokens))
+    whole i l =
+        ap₂ (λ us ts.
+        (all (tokenInRange paper d (m .calls)) ts and restIsBlank tokenIsBlank us ts and all (atNode d (m .tokens)) ts)
+        and all (notUnderSet (m .cells)) ts and all (λ (t : Token). waitsAtUnset (m .cells) (t .state)) ts)
+        marks (take-all i (m .tokens) (omega arith))
+
+    -- all results together
+    pub rules-are : dagKept d ≡ true → (i : ℕ) → 64 ≤ i → {ok sizes ranged ended blank queued waited differing : Bool} → ok ≡ firstKept d m used i
+        → sizes ≡ (leb (m .calls) 1000000 and ltb (m .newtoken) 64 and ltb (m .newcell) 32)
+        → ranged ≡ all (cellInRange paper d) (m .cells)
+        → ended ≡ chainsEnd (m .cells)
+        → blank ≡ restIsBlank cellIsBlank (usedCells used (m .tokens) (m .cells)) (m .cells)
+        → queued ≡ namesOnce isReady (m .tokens) (m .queue) (m .queued)
+        → waited ≡ namesOnce isWaiting (m .tokens) (m .waits) (m .waiting)
+        → differing ≡ differ (openHandles (m .tokens))
+        → (ok && sizes && (ranged && ended && blank) && queued && waited && differing) ≡ rulesKept paper d m
+    unfolding machineKept
+    rules-are kept i l first sized ranges ends blanks queues waits differs =
+        three
+        (four (first ∙ whole i l) (sized ∙ sym (sizes-parts d m tokens cells))
+        (three ranges ends (blanks ∙ ap (λ us. restIsBlank cellIsBlank (usedCells us (m .tokens) (m .cells)) (m .cells)) marks))
+        queues)
+        waits differs
+        ∙ regrouped _ _ _ _ _ _ _ _ _ _ _ _
+        ∙ dag-keeps kept

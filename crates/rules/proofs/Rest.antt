@@ -11,7 +11,7 @@ use Rattle.model.specs.Machine.Rules.{restIsBlank}
 use Rattle.rules.proofs.Both.{both, and-true, and-assoc}
 
 module _ {A : Type 0} (blank : A → Bool) where
-  rest-more : (marks : List Bool) (xs : List A) (i : ℕ) (d : A) → i < length marks → i < length xs
+  pub rest-more : (marks : List Bool) (xs : List A) (i : ℕ) (d : A) → i < length marks → i < length xs
       → restIsBlank blank marks (take (suc i) xs) ≡ (restIsBlank blank marks (take i xs) and (getD marks i false || blank (getD xs i d)))
   unfolding restIsBlank _and_
   rest-more [] xs i d m l = absurd (omega arith)

@@ -1,6 +1,6 @@
--- What a state's number says of the state, and loops that fill an array with marks. Assumes nothing.
+-- What a state's number says of the state, and loops that fill an array with numbers. Assumes nothing.
 use mathlib.Core.Path.{_≡_, refl, sym, _∙_, ap, ap₂}
-use mathlib.Core.Bool.{Bool, _&&_}
+use mathlib.Core.Bool.{_&&_}
 use mathlib.Core.List.{List, [], _∷_, _++_, map}
 use Prim.Native.Nat.{ℕ, zero, suc, _+_, _<_, _≤_}
 use native.Mathlib.Numerals.{add-one}
@@ -14,8 +14,7 @@ use Rattle.model.specs.Machine.Rules.{isReady, isWaiting, isFrame}
 use Rattle.model.specs.declared.token.State.{State}
 use Rattle.model.specs.declared.token.State.the-variants as states
 use Rattle.model.specs.declared.token.Token.{Token}
-use Rattle.rules.specs.Marks.{stateNumber, marked, marksOf}
-use Rattle.rules.specs.declared.marks.Marks.{Marks}
+use Rattle.rules.specs.Marks.{stateNumber}
 
 pub blank-is : (s : State) → eqb (stateNumber s) 0 ≡ isBlankState s
 unfolding stateNumber isBlankState
@@ -73,21 +72,16 @@ module _ {A B : Type 0} (f : A → B) where
   pub fill-done : (xs : List A) (ys : List B) (i : ℕ) → length xs ≤ i → length ys ≤ i → take i ys ≡ map f (take i xs) → ys ≡ map f xs
   fill-done xs ys i l m e = sym (take-all i ys m) ∙ e ∙ ap (map f) (take-all i xs l)
 
--- the marks of the first i tokens are written
-abbrev pub Filled : (State → Bool) → List Token → List Bool → ℕ → Type 0
-Filled of ts ys i = (length ys ≡ 64) × (take i ys ≡ marked of (take i ts))
+-- the numbers of the first i tokens are written
+abbrev pub Filled : (State → ℕ) → List Token → List ℕ → ℕ → Type 0
+Filled of ts ys i = (length ys ≡ 64) × (take i ys ≡ map (λ (t : Token). of (t .state)) (take i ts))
 
-module _ (of : State → Bool) (ts : List Token) (ys : List Bool) (i : ℕ) (long : length ts ≡ 64) (so-far : Filled of ts ys i) where
-  pub marks-turn : (d : Token) {v : Bool} → i < 64 → v ≡ of (getD ts i d .state) → Filled of ts (set ys i v) (i + 1)
-  marks-turn d l e = (
+module _ (of : State → ℕ) (ts : List Token) (ys : List ℕ) (i : ℕ) (long : length ts ≡ 64) (so-far : Filled of ts ys i) where
+  pub filled-turn : (d : Token) {v : ℕ} → i < 64 → v ≡ of (getD ts i d .state) → Filled of ts (set ys i v) (i + 1)
+  filled-turn d l e = (
     length-set ys i _ ∙ so-far .0,
     fill-turn (λ (t : Token). of (t .state)) ts ys i d (omega arith) (omega (arith, so-far .0)) (so-far .1) e,
   )
 
-  pub marks-done : 64 ≤ i → ys ≡ marked of ts
-  marks-done l = fill-done (λ (t : Token). of (t .state)) ts ys i (omega arith) (omega (arith, so-far .0)) (so-far .1)
-
-pub marks-are : (ts : List Token) {ready waiting frame : List Bool}
-    → ready ≡ marked isReady ts → waiting ≡ marked isWaiting ts → frame ≡ marked isFrame ts
-    → _≡_ {A = Marks} (record { ready = ready; waiting = waiting; frame = frame }) (marksOf ts)
-marks-are ts p q r = λ i. record { ready = p i; waiting = q i; frame = r i }
+  pub filled-done : 64 ≤ i → ys ≡ map (λ (t : Token). of (t .state)) ts
+  filled-done l = fill-done (λ (t : Token). of (t .state)) ts ys i (omega arith) (omega (arith, so-far .0)) (so-far .1)

@@ -1,4 +1,4 @@
 -- What the contracts of this crate's parts cite. Its exported contracts cite crate `model` alone.
 pub mod Marks
-pub mod Ranges
+pub mod Tokens
 pub mod Words

@@ -69,19 +69,6 @@ pub fn cell_is_blank(cell: Cell) -> bool
     !is_place(parent) & !has_value(value)
 }
 
-pub fn other_tokens_blank(machine: Machine, used: [bool; Machine::TOKENS]) -> bool
-    ensures { λ r. ⌜ r ≡ restIsBlank tokenIsBlank used (machine .tokens) ⌝ }
-{
-    let mut ok = true;
-    let mut i = 0;
-    while i < Machine::TOKENS {
-        let token = machine.tokens[i];
-        ok = ok & (used[i] | token_is_blank(token));
-        i += 1;
-    }
-    ok
-}
-
 pub fn other_cells_blank(cells: [Cell; Machine::CELLS], used: [bool; Machine::CELLS]) -> bool
     ensures { λ r. ⌜ r ≡ restIsBlank cellIsBlank used cells ⌝ }
 {

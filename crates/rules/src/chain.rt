@@ -1,14 +1,13 @@
 // Chains of cells: "each parent chain ends"; "no ready, waiting or called-out token is under a set cell"; waits at an unset cell.
 ghost use mathlib.Core.Path.{_≡_};
-ghost use Rattle.model.specs.Test.{all};
+ghost use mathlib.Core.Bool.{true};
+ghost use Rattle.model.specs.Test.{_and_};
 ghost use Rattle.model.specs.Machine.Blank.{hasValue};
 ghost use Rattle.model.specs.Machine.Active.{isLive, underSet};
 ghost use Rattle.model.specs.Machine.Rules.{chainEnds, chainsEnd, notUnderSet, waitsAtUnset};
-ghost use Rattle.model.specs.declared.token.Token.{Token};
 use crate::blank::is_place;
 use crate::marks::BLANK;
 use crate::marks::FRAME;
-use crate::marks::WAITING;
 use crate::marks::state_number;
 use model::cell::Cell;
 use model::record::Machine;
@@ -103,17 +102,6 @@ pub fn is_live(state: State) -> bool
     (BLANK < number) & (number < FRAME)
 }
 
-pub fn not_under_set(cells: [Cell; Machine::CELLS], token: Token) -> bool
-    ensures { λ r. ⌜ r ≡ notUnderSet cells token ⌝ }
-{
-    let state = token.state;
-    if is_live(state) {
-        let place = token.cell;
-        return !under_set(cells, place);
-    }
-    true
-}
-
 pub fn waits_at_unset(cells: [Cell; Machine::CELLS], state: State) -> bool
     ensures { λ r. ⌜ r ≡ waitsAtUnset cells state ⌝ }
 {
@@ -134,38 +122,11 @@ pub fn waits_at_unset(cells: [Cell; Machine::CELLS], state: State) -> bool
     }
 }
 
-// No live token is under a set cell. (Only for a live one is the table of cells handed on: that copies it.)
-pub fn none_under_set(machine: Machine) -> bool
-    ensures { λ r. ⌜ r ≡ all (notUnderSet (machine .cells)) (machine .tokens) ⌝ }
+// A live token: under no set cell, and if it waits, at an unset one.
+pub fn is_free(cells: [Cell; Machine::CELLS], token: Token) -> bool
+    ensures { λ r. ⌜ (isLive (token .state) ≡ true → r ≡ (notUnderSet cells token and waitsAtUnset cells (token .state))) ⌝ }
 {
-    let cells = machine.cells;
-    let mut ok = true;
-    let mut i = 0;
-    while i < Machine::TOKENS {
-        let token = machine.tokens[i];
-        let state = token.state;
-        i += 1;
-        if is_live(state) {
-            ok = ok & not_under_set(cells, token);
-        }
-    }
-    ok
-}
-
-// Waiting tokens wait at unset cells.
-pub fn all_wait_at_unset(machine: Machine) -> bool
-    ensures { λ r. ⌜ r ≡ all (λ (t : Token). waitsAtUnset (machine .cells) (t .state)) (machine .tokens) ⌝ }
-{
-    let cells = machine.cells;
-    let mut ok = true;
-    let mut i = 0;
-    while i < Machine::TOKENS {
-        let token = machine.tokens[i];
-        let state = token.state;
-        i += 1;
-        if state_number(state) == WAITING {
-            ok = ok & waits_at_unset(cells, state);
-        }
-    }
-    ok
+    let place = token.cell;
+    let state = token.state;
+    !under_set(cells, place) & waits_at_unset(cells, state)
 }

@@ -1,14 +1,15 @@
 // "Open handles differ."
 ghost use mathlib.Core.Path.{_≡_};
 ghost use mathlib.Core.Bool.{not};
+ghost use mathlib.Core.List.{List};
 ghost use Prim.Native.Nat.{ℕ, _≤_, _<_};
 ghost use lib.ListN.{getD, take};
 ghost use lib.Dec.{eqb};
 ghost use Rattle.model.specs.Test.{all, differ};
 ghost use Rattle.model.specs.Machine.Rules.{openHandles};
-ghost use Rattle.rules.specs.Marks.{handleNumber, Gathered};
+ghost use Rattle.model.specs.declared.token.Token.{Token};
+ghost use Rattle.rules.specs.Marks.{numbersOf, handleNumber, handlesOf};
 use crate::marks::CALLED;
-use crate::marks::state_number;
 use model::record::Machine;
 use model::token::State;
 
@@ -31,17 +32,16 @@ pub fn handle_number(state: State) -> u32
     }
 }
 
-pub fn gather(machine: Machine) -> Handles
-    ensures { λ r. ⌜ Gathered (machine .tokens) r ⌝ }
+// `numbers` and `handles` are those of the tokens' states.
+pub fn gather(numbers: [u8; Machine::TOKENS], handles: [u32; Machine::TOKENS]) -> Handles
+    ensures { λ r. ⌜ (r .count ≤ 64) × ((ts : List Token) → numbers ≡ numbersOf ts → handles ≡ handlesOf ts → take (r .count) (r .list) ≡ openHandles ts) ⌝ }
 {
     let mut list = [0u32; Machine::TOKENS];
     let mut count: usize = 0;
     let mut i = 0;
     while i < Machine::TOKENS {
-        let token = machine.tokens[i];
-        let state = token.state;
-        let number = state_number(state);
-        list[count] = handle_number(state);
+        let number = numbers[i];
+        list[count] = handles[i];
         if number == CALLED {
             count += 1;
         }
@@ -78,10 +78,10 @@ pub fn all_differ(list: [u32; Machine::TOKENS], count: usize) -> bool
     ok
 }
 
-pub fn handles_differ(machine: Machine) -> bool
-    ensures { λ r. ⌜ r ≡ differ (openHandles (machine .tokens)) ⌝ }
+pub fn handles_differ(numbers: [u8; Machine::TOKENS], handles: [u32; Machine::TOKENS]) -> bool
+    ensures { λ r. ⌜ ((ts : List Token) → numbers ≡ numbersOf ts → handles ≡ handlesOf ts → r ≡ differ (openHandles ts)) ⌝ }
 {
-    let handles = gather(machine);
-    let list = handles.list;
-    all_differ(list, handles.count)
+    let open = gather(numbers, handles);
+    let list = open.list;
+    all_differ(list, open.count)
 }

@@ -8,20 +8,23 @@ ghost use lib.ListN.{length, getD, drop};
 ghost use Rattle.model.specs.Test.{all};
 ghost use Rattle.model.specs.Job.Node.{dagKept};
 ghost use Rattle.model.specs.Job.Words.{dagOf, nodeBy, paramsFrom};
-ghost use Rattle.model.specs.Machine.Blank.{isBound, slotAt, tokenAt};
-ghost use Rattle.model.specs.Machine.Rules.{isFrame, namesFrame, notEmpty, valueIfReady, nodeRule, atNode};
+ghost use Rattle.model.specs.Machine.Blank.{isBound, slotAt};
+ghost use Rattle.model.specs.Machine.Rules.{namesFrame, notEmpty, valueIfReady, nodeRule, atNode};
+ghost use Rattle.model.specs.declared.token.Place.the-variants as places;
 ghost use Rattle.model.specs.declared.token.Token.{Token};
-ghost use Rattle.rules.specs.Marks.{marked};
+ghost use Rattle.rules.specs.Tokens.{StateThere};
 ghost use Rattle.rules.specs.Words.{pairBound};
 use crate::blank::is_bound;
 use crate::blank::is_place;
 use crate::chain::has_value;
 use crate::marks::BLANK;
+use crate::marks::FRAME;
 use crate::marks::READY;
 use crate::marks::state_number;
 use model::record::Machine;
 use model::token::Bind;
 use model::token::Place;
+use model::token::State;
 use model::token::Token;
 
 pub fn slot_is_bound(binds: [Bind; 8], x: u32) -> bool
@@ -66,18 +69,34 @@ pub fn value_if_ready(token: Token) -> bool
     !(number == READY) | has_value(value)
 }
 
-// `frames` marks the frames among all tokens.
-pub fn names_frame(frames: [bool; Machine::TOKENS], caller: Place) -> bool
-    ensures { λ r. ⌜ ((ts : List Token) → length ts ≡ 64 → frames ≡ marked isFrame ts → r ≡ namesFrame ts caller) ⌝ }
+// The place of a token's caller, or 0 if it names none of the tokens.
+pub fn caller_place(token: Token) -> usize
+    ensures { λ r. ⌜ (r < 64) × ((p : ℕ) → p < 64 → token .caller ≡ places.At p → r ≡ p) ⌝ }
+{
+    let caller = token.caller;
+    match caller {
+        Place::Nowhere => 0,
+        Place::At(p) => {
+            let at = p as usize;
+            if Machine::TOKENS <= at {
+                return 0;
+            }
+            at
+        }
+    }
+}
+
+// `there` is the state of the token that the caller names, if it names one.
+pub fn names_frame(caller: Place, there: State) -> bool
+    ensures { λ r. ⌜ ((ts : List Token) → length ts ≡ 64 → StateThere ts caller there → r ≡ namesFrame ts caller) ⌝ }
 {
     match caller {
         Place::Nowhere => false,
         Place::At(p) => {
-            let at = p as usize;
-            if Machine::TOKENS <= at {
+            if Machine::TOKENS <= p as usize {
                 return false;
             }
-            frames[at]
+            state_number(there) == FRAME
         }
     }
 }
@@ -107,9 +126,9 @@ pub fn node_rule(token: Token, frame: bool, row: &[u32]) -> bool
 }
 
 // A blank token is at no node.
-pub fn at_node(token: Token, frames: [bool; Machine::TOKENS], dag: &[u32]) -> bool
+pub fn at_node(token: Token, there: State, dag: &[u32]) -> bool
     requires { ⌜ (length (now dag) ≡ 12331) × (dagKept (dagOf (now dag)) ≡ true) × (token .node < getD (now dag) 0 0) ⌝ }
-    ensures { λ r. ⌜ ((ts : List Token) → length ts ≡ 64 → frames ≡ marked isFrame ts → r ≡ atNode (dagOf (now (dag .entry))) ts token) ⌝ }
+    ensures { λ r. ⌜ ((ts : List Token) → length ts ≡ 64 → StateThere ts (token .caller) there → r ≡ atNode (dagOf (now (dag .entry))) ts token) ⌝ }
 {
     let state = token.state;
     let caller = token.caller;
@@ -120,21 +139,5 @@ pub fn at_node(token: Token, frames: [bool; Machine::TOKENS], dag: &[u32]) -> bo
     let node = token.node as usize;
     let at = 67 + 12 * node;
     let end = at + 12;
-    node_rule(token, names_frame(frames, caller), &dag[at..end])
-}
-
-pub fn all_at_nodes(machine: Machine, frames: [bool; Machine::TOKENS], dag: &[u32]) -> bool
-    requires { ⌜ (length (now dag) ≡ 12331) × (dagKept (dagOf (now dag)) ≡ true) ⌝ }
-    requires { ⌜ ((i : ℕ) → i < 64 → tokenAt (machine .tokens) i .node < getD (now dag) 0 0) ⌝ }
-    requires { ⌜ frames ≡ marked isFrame (machine .tokens) ⌝ }
-    ensures { λ r. ⌜ r ≡ all (atNode (dagOf (now (dag .entry))) (machine .tokens)) (machine .tokens) ⌝ }
-{
-    let mut ok = true;
-    let mut i = 0;
-    while i < Machine::TOKENS {
-        let token = machine.tokens[i];
-        ok = ok & at_node(token, frames, dag);
-        i += 1;
-    }
-    ok
+    node_rule(token, names_frame(caller, there), &dag[at..end])
 }

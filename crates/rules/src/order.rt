@@ -9,7 +9,7 @@ ghost use Rattle.model.specs.Test.{all, allFrom, count, once};
 ghost use Rattle.model.specs.Machine.Rules.{namesOnce};
 ghost use Rattle.model.specs.declared.token.State.{State};
 ghost use Rattle.model.specs.declared.token.Token.{Token};
-ghost use Rattle.rules.specs.Marks.{marked};
+ghost use Rattle.rules.specs.Marks.{stateNumber, numbersOf};
 use model::record::Machine;
 
 // Does the order name places of tokens only?
@@ -62,22 +62,31 @@ pub fn one_if(b: bool) -> u8
     if b { 1 } else { 0 }
 }
 
-// Does each marked place stand there once, and no other?
-pub fn counts_agree(counts: [u8; Machine::TOKENS], wanted: [bool; Machine::TOKENS]) -> bool
-    ensures { λ r. ⌜ r ≡ allFrom (λ p (w : Bool). eqb (getD counts p 0) (once w)) 0 wanted ⌝ }
+// Does each place of the tokens with that number stand there once, and no other?
+pub fn counts_agree(
+    counts: [u8; Machine::TOKENS],
+    numbers: [u8; Machine::TOKENS],
+    number: u8,
+) -> bool
+    ensures { λ r. ⌜ r ≡ allFrom (λ p (k : ℕ). eqb (getD counts p 0) (once (eqb k number))) 0 numbers ⌝ }
 {
     let mut ok = true;
     let mut i = 0;
     while i < Machine::TOKENS {
-        ok = ok & (counts[i] == one_if(wanted[i]));
+        ok = ok & (counts[i] == one_if(numbers[i] == number));
         i += 1;
     }
     ok
 }
 
-// The order is the first n numbers of its array; `wanted` marks the tokens that it must name.
-pub fn names_once(wanted: [bool; Machine::TOKENS], array: [u8; Machine::TOKENS], n: usize) -> bool
-    ensures { λ r. ⌜ ((of : State → Bool) (ts : List Token) → length ts ≡ 64 → wanted ≡ marked of ts → r ≡ namesOnce of ts array n) ⌝ }
+// The order is the first n numbers of its array; it must name the tokens whose states have that number among `numbers`.
+pub fn names_once(
+    numbers: [u8; Machine::TOKENS],
+    number: u8,
+    array: [u8; Machine::TOKENS],
+    n: usize,
+) -> bool
+    ensures { λ r. ⌜ ((of : State → Bool) (ts : List Token) → length ts ≡ 64 → numbers ≡ numbersOf ts → ((s : State) → eqb (stateNumber s) number ≡ of s) → r ≡ namesOnce of ts array n) ⌝ }
 {
     if Machine::TOKENS < n {
         return false;
@@ -86,5 +95,5 @@ pub fn names_once(wanted: [bool; Machine::TOKENS], array: [u8; Machine::TOKENS],
         return false;
     }
     let counts = counted(array, n);
-    counts_agree(counts, wanted) & rest_is_zero(array, n)
+    counts_agree(counts, numbers, number) & rest_is_zero(array, n)
 }

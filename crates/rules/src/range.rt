@@ -1,13 +1,13 @@
 // "Nodes, slots, tokens and cells named lie in their ranges"; "every value is signed 32-bit".
 ghost use mathlib.Core.Path.{_≡_};
 ghost use lib.ListN.{length};
-ghost use Rattle.model.specs.Test.{all};
+ghost use lib.Dec.{leb, ltb};
+ghost use Rattle.model.specs.Test.{_and_, all};
 ghost use Rattle.model.specs.Number.{fits};
 ghost use Rattle.model.specs.Job.Node.{Dag};
 ghost use Rattle.model.specs.Machine.Limits.{paper};
-ghost use Rattle.model.specs.Machine.Rules.{heldInRange, placeInRange, slotInRange, stateInRange, tokenInRange, cellInRange, sizesInRange};
+ghost use Rattle.model.specs.Machine.Rules.{heldInRange, placeInRange, slotInRange, stateInRange, tokenInRange, cellInRange};
 ghost use Rattle.model.specs.declared.token.Bind.{Bind};
-ghost use Rattle.rules.specs.Ranges.{inRange};
 use model::cell::Cell;
 use model::record::Machine;
 use model::token::Bind;
@@ -103,21 +103,6 @@ pub fn token_in_range(token: Token, nodes: u32, calls: u32) -> bool
     ((node as u32) < nodes) & binds_in_range(binds) & held_in_range(value) & named
 }
 
-// Of the dag only the number of its nodes is needed.
-pub fn tokens_in_range(machine: Machine, nodes: u32) -> bool
-    ensures { λ r. ⌜ ((d : Dag) → length (d .nodes) ≡ nodes → r ≡ all (tokenInRange paper d (machine .calls)) (machine .tokens)) ⌝ }
-{
-    let calls = machine.calls;
-    let mut ok = true;
-    let mut i = 0;
-    while i < Machine::TOKENS {
-        let token = machine.tokens[i];
-        ok = ok & token_in_range(token, nodes, calls);
-        i += 1;
-    }
-    ok
-}
-
 pub fn cells_in_range(cells: [Cell; Machine::CELLS]) -> bool
     ensures { λ r. ⌜ ((d : Dag) → r ≡ all (cellInRange paper d) cells) ⌝ }
 {
@@ -132,18 +117,10 @@ pub fn cells_in_range(cells: [Cell; Machine::CELLS]) -> bool
 }
 
 // The numbers beside the tables.
-pub fn sizes_in_range(machine: Machine) -> bool
-    ensures { λ r. ⌜ ((d : Dag) → r ≡ sizesInRange paper d machine) ⌝ }
+pub fn sizes_in_range(calls: u32, newtoken: u8, newcell: u8) -> bool
+    ensures { λ r. ⌜ r ≡ (leb calls 1000000 and ltb newtoken 64 and ltb newcell 32) ⌝ }
 {
-    let newtoken = machine.newtoken as usize;
-    let newcell = machine.newcell as usize;
-    (machine.calls <= 1000000) & (newtoken < Machine::TOKENS) & (newcell < Machine::CELLS)
-}
-
-// All of these; the rules that follow may rely on them.
-pub fn in_range(machine: Machine, nodes: u32) -> bool
-    ensures { λ r. ⌜ ((d : Dag) → length (d .nodes) ≡ nodes → r ≡ inRange d machine) ⌝ }
-{
-    let cells = machine.cells;
-    sizes_in_range(machine) & tokens_in_range(machine, nodes) & cells_in_range(cells)
+    let tokens = (newtoken as usize) < Machine::TOKENS;
+    let cells = (newcell as usize) < Machine::CELLS;
+    (calls <= 1000000) & tokens & cells
 }

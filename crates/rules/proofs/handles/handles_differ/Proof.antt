@@ -6,7 +6,7 @@ use Rattle.rules.proofs.handles.handles_differ.Statement.{statement}
 use Rattle.rules.proofs.handles.handles_differ.Tie as tie
 
 returns : tie.Need-returns
-returns c = c .all-differ .ensures ∙ ap differ (c .before .before .gather .ensures .same)
+returns c = λ ts e f. c .all-differ .ensures ∙ ap differ (c .before .before .gather .ensures .1 ts e f)
 
 pub handles-differ-spec : {M : Type 1} → statement M
 handles-differ-spec =

@@ -1,7 +1,6 @@
 -- `order::counts_agree` meets its contract: after i turns the flag says whether the first i counts agree. Assumes nothing.
 use mathlib.Core.Path.{_≡_, ap}
-use mathlib.Core.Bool.{Bool}
-use Prim.Native.Nat.{_-_, _≤_}
+use Prim.Native.Nat.{ℕ, _-_, _≤_}
 use native.Mathlib.Omega.{arith}
 use lib.ListN.{length, getD, take}
 use lib.Dec.{eqb}
@@ -13,10 +12,10 @@ use Rattle.rules.proofs.order.counts_agree.Statement.{statement}
 use Rattle.rules.proofs.order.counts_agree.Tie as tie
 
 abbrev Inv-loop : tie.InvT-loop
-Inv-loop counts wanted ok₀ i₀ ok i = (i ≤ 64) × (ok ≡ allFrom (λ p (w : Bool). eqb (getD counts p 0) (once w)) 0 (take i wanted))
+Inv-loop number counts numbers ok₀ i₀ ok i = (i ≤ 64) × (ok ≡ allFrom (λ p (k : ℕ). eqb (getD counts p 0) (once (eqb k number))) 0 (take i numbers))
 
 abbrev μ-loop : tie.MeasureT-loop
-μ-loop counts wanted ok₀ i₀ ok i = 64 - i
+μ-loop number counts numbers ok₀ i₀ ok i = 64 - i
 
 loop-holds : tie.Need-loop-holds Inv-loop μ-loop
 unfolding allFrom
@@ -28,7 +27,7 @@ loop-again c =
     let long : length (args .t2) ≡ 64 = search needs in
     let now = c .before .before .loop in (
       search needs,
-      from-turn (λ p (w : Bool). eqb (getD (args .t1) p 0) (once w)) (args .t2) (now .i) _ (omega arith) (now .inv .1)
+      from-turn (λ p (k : ℕ). eqb (getD (args .t1) p 0) (once (eqb k (args .number)))) (args .t2) (now .i) _ (omega arith) (now .inv .1)
           (ap (eqb (getD (args .t1) (now .i) 0)) (c .one-if .ensures)),
     )
 
@@ -37,7 +36,7 @@ returns c =
     let place2 = c .before .before in
     let args = place2 .args in
     let long : length (args .t2) ≡ 64 = search needs in
-    done (allFrom (λ p (w : Bool). eqb (getD (args .t1) p 0) (once w)) 0) (args .t2) (c .before .loop .i) (omega arith) (c .before .loop .inv .1)
+    done (allFrom (λ p (k : ℕ). eqb (getD (args .t1) p 0) (once (eqb k (args .number)))) 0) (args .t2) (c .before .loop .i) (omega arith) (c .before .loop .inv .1)
 
 pub counts-agree-spec : {M : Type 1} → statement M
 counts-agree-spec =

@@ -1,6 +1,6 @@
 -- `order::names_once` meets its contract: each answer is that of the rule which decides. Assumes nothing.
 use mathlib.Core.Path.{sym, _∙_, ap}
-use mathlib.Core.Bool.{Bool}
+use Prim.Native.Nat.{ℕ}
 use lib.ListN.{getD}
 use lib.Dec.{eqb}
 use borrow.Author.Tests.{not-true, not-false}
@@ -12,11 +12,11 @@ use Rattle.rules.proofs.order.names_once.Statement.{statement}
 use Rattle.rules.proofs.order.names_once.Tie as tie
 
 returns : tie.Need-returns
-returns c = λ of ts e f. order-long of ts _ _ e (search needs) (search needs)
+returns c = λ of ts e f g. order-long of ts _ _ e (search needs) (search needs)
 
 returns-2 : tie.Need-returns-2
 returns-2 c =
-    λ of ts e f. order-wild of ts _ _ e (search needs) (search needs) (sym (c .before .order-in-range .ensures) ∙ not-true _ (c .if2 .taken))
+    λ of ts e f g. order-wild of ts _ _ e (search needs) (search needs) (sym (c .before .order-in-range .ensures) ∙ not-true _ (c .if2 .taken))
 
 counted-requires : tie.Need-counted-requires
 counted-requires c κs = (search needs, sym (c .before .order-in-range .ensures) ∙ not-false _ (c .if2 .left))
@@ -27,10 +27,10 @@ returns-3 c =
     let place3 = place2 .before in
     let place4 = place3 .before in
     let place6 = place4 .before .before in
-    λ of ts e f.
+    λ of ts e f g.
     let counts = place2 .counted .result in
-    both (c .before .counts-agree .ensures ∙ ap (allFrom (λ p (w : Bool). eqb (getD counts p 0) (once w)) 0) f) (c .rest-is-zero .ensures)
-    ∙ order-counted of ts (place6 .args .array) (place6 .args .n) e (search needs) counts (search needs)
+    both (c .before .counts-agree .ensures ∙ ap (allFrom (λ p (k : ℕ). eqb (getD counts p 0) (once (eqb k (place6 .args .number)))) 0) f) (c .rest-is-zero .ensures)
+    ∙ order-counted of ts (place6 .args .array) (place6 .args .n) e (search needs) (place6 .args .number) g counts (search needs)
     (sym (place4 .order-in-range .ensures) ∙ not-false _ (place3 .if2 .left)) (place2 .counted .ensures)
 
 pub names-once-spec : {M : Type 1} → statement M
