@@ -5,9 +5,10 @@ use mathlib.Core.List.{List, [], _∷_}
 use Prim.Native.Nat.{ℕ, zero, suc, _+_, _-_, _<_, _≤_}
 use native.Mathlib.Omega.{arith}
 use lib.ListN.{length, getD, List·getD-eq-default}
+use Rattle.model.specs.Test.{_and_, _or_}
 use Rattle.model.specs.Machine.Blank.{cellAt, blankCell, hasValue, isPlace}
 use Rattle.model.specs.Machine.Active.{isSet, upward, underSet, isLive}
-use Rattle.model.specs.Machine.Rules.{chainEnds, notUnderSet, waitsAtUnset}
+use Rattle.model.specs.Machine.Rules.{isWaiting, chainEnds, notUnderSet, waitsAtUnset}
 use Rattle.model.specs.declared.token.Place.{Place}
 use Rattle.model.specs.declared.token.Place.the-variants as places
 use Rattle.model.specs.declared.token.State.{State}
@@ -119,7 +120,7 @@ module _ (cs : List Cell) (t : Token) where
   unfolding notUnderSet
   live-under e = rw (e, notUnderSet)
 
-  pub other-under : isLive (t .state) ≡ false → true ≡ notUnderSet cs t
+  other-under : isLive (t .state) ≡ false → true ≡ notUnderSet cs t
   unfolding notUnderSet
   other-under e = rw (e, notUnderSet)
 
@@ -133,11 +134,47 @@ module _ (cs : List Cell) (s : State) (c : ℕ) (waits : s ≡ states.Waiting c)
   unfolding waitsAtUnset isSet
   waits-read d l = rw (waits, cell-read cs c d (omega arith))
 
--- a token that is not live does not wait
-pub other-waits : (cs : List Cell) (s : State) → isLive s ≡ false → true ≡ waitsAtUnset cs s
-unfolding waitsAtUnset isLive
-other-waits cs states.Blank e = refl
-other-waits cs states.Ready e = refl
-other-waits cs (states.Waiting c) e = absurd (true≢false e)
-other-waits cs (states.Called h) e = refl
-other-waits cs states.Frame e = refl
+-- a token that does not wait, and one that names no cell
+not-waiting : (cs : List Cell) (s : State) → isWaiting s ≡ false → true ≡ waitsAtUnset cs s
+unfolding waitsAtUnset isWaiting
+not-waiting cs states.Blank e = refl
+not-waiting cs states.Ready e = refl
+not-waiting cs (states.Waiting c) e = absurd (true≢false e)
+not-waiting cs (states.Called h) e = refl
+not-waiting cs states.Frame e = refl
+
+other-waits : (s : State) → isLive s ≡ false → isWaiting s ≡ false
+unfolding isLive isWaiting
+other-waits states.Blank e = refl
+other-waits states.Ready e = refl
+other-waits (states.Waiting c) e = absurd (true≢false e)
+other-waits (states.Called h) e = refl
+other-waits states.Frame e = refl
+
+under-none : (cs : List Cell) (q : Place) → isPlace q ≡ false → underSet cs q ≡ false
+unfolding underSet isPlace
+under-none cs places.Nowhere e = above-nowhere cs (length cs)
+under-none cs (places.At c) e = absurd (true≢false e)
+
+or-left : (a b : Bool) → (a or b) ≡ false → a ≡ false
+unfolding _or_
+or-left true b e = e
+or-left false b e = refl
+
+or-right : (a b : Bool) → (a or b) ≡ false → b ≡ false
+unfolding _or_
+or-right true b e = absurd (true≢false e)
+or-right false b e = e
+
+pub no-cell : (cs : List Cell) (t : Token) → (isLive (t .state) and (isPlace (t .cell) or isWaiting (t .state))) ≡ false
+    → (true ≡ notUnderSet cs t) × (true ≡ waitsAtUnset cs (t .state))
+unfolding _and_
+no-cell cs t = go (isLive (t .state)) refl
+  where
+    go : (b : Bool) → isLive (t .state) ≡ b → (b and (isPlace (t .cell) or isWaiting (t .state))) ≡ false
+        → (true ≡ notUnderSet cs t) × (true ≡ waitsAtUnset cs (t .state))
+    go true e f = (
+      sym (ap not (under-none cs (t .cell) (or-left (isPlace (t .cell)) _ f))) ∙ live-under cs t e,
+      not-waiting cs (t .state) (or-right (isPlace (t .cell)) _ f),
+    )
+    go false e f = (other-under cs t e, not-waiting cs (t .state) (other-waits (t .state) e))

@@ -7,20 +7,20 @@ use Prim.Native.Nat.{ℕ, suc, _+_, _<_}
 use native.Mathlib.Numerals.{add-one}
 use native.Mathlib.Omega.{arith}
 use lib.ListN.{length, getD, take}
-use Rattle.model.specs.Test.{_and_, all}
+use Rattle.model.specs.Test.{_and_, _or_, all}
 use Rattle.model.specs.Job.Node.{Dag, isNode}
 use Rattle.model.specs.Job.Words.{dagOf}
 use Rattle.model.specs.Machine.Limits.{paper}
-use Rattle.model.specs.Machine.Blank.{tokenIsBlank}
+use Rattle.model.specs.Machine.Blank.{isPlace, tokenIsBlank}
 use Rattle.model.specs.Machine.Active.{isLive}
-use Rattle.model.specs.Machine.Rules.{tokenInRange, notUnderSet, waitsAtUnset, atNode, restIsBlank}
+use Rattle.model.specs.Machine.Rules.{isWaiting, tokenInRange, notUnderSet, waitsAtUnset, atNode, restIsBlank}
 use Rattle.model.specs.declared.token.Token.{Token}
 use Rattle.model.specs.declared.record.Machine.{Machine}
 use Rattle.model.proofs.Test.{and-left, ltb-lt}
 use Rattle.rules.specs.Tokens.{tokenKept}
 use Rattle.rules.proofs.Array.{nodes-length}
 use Rattle.rules.proofs.Both.{both, three, and-true, regroup}
-use Rattle.rules.proofs.Chains.{other-under, other-waits}
+use Rattle.rules.proofs.Chains.{no-cell}
 use Rattle.rules.proofs.Loop.{all-more}
 use Rattle.rules.proofs.Rest.{rest-more}
 
@@ -74,10 +74,9 @@ module _ (d : Dag) (m : Machine) (used : List Bool) where
           → (ok && kept && free) ≡ firstKept (i + 1)
       live-turn e = three so-far here e ∙ rw add-one (sym one-more)
 
-      pub other-turn : isLive (getD (m .tokens) i t .state) ≡ false → (ok && kept) ≡ firstKept (i + 1)
+      pub other-turn : (isLive (getD (m .tokens) i t .state) and (isPlace (getD (m .tokens) i t .cell) or isWaiting (getD (m .tokens) i t .state))) ≡ false
+          → (ok && kept) ≡ firstKept (i + 1)
       unfolding _and_
       other-turn e =
-          both so-far here
-          ∙ rw add-one (sym (one-more
-          ∙ rw (sym (other-under (m .cells) (getD (m .tokens) i t) e), sym (other-waits (m .cells) (getD (m .tokens) i t .state) e))
-          (ap (_and_ (firstKept i)) (and-true _))))
+          let passes = no-cell (m .cells) (getD (m .tokens) i t) e in
+          both so-far here ∙ rw add-one (sym (one-more ∙ rw (sym (passes .0), sym (passes .1)) (ap (_and_ (firstKept i)) (and-true _))))

@@ -1,13 +1,14 @@
 // Chains of cells: "each parent chain ends"; "no ready, waiting or called-out token is under a set cell"; waits at an unset cell.
 ghost use mathlib.Core.Path.{_≡_};
 ghost use mathlib.Core.Bool.{true};
-ghost use Rattle.model.specs.Test.{_and_};
-ghost use Rattle.model.specs.Machine.Blank.{hasValue};
+ghost use Rattle.model.specs.Test.{_and_, _or_};
+ghost use Rattle.model.specs.Machine.Blank.{hasValue, isPlace};
 ghost use Rattle.model.specs.Machine.Active.{isLive, underSet};
-ghost use Rattle.model.specs.Machine.Rules.{chainEnds, chainsEnd, notUnderSet, waitsAtUnset};
+ghost use Rattle.model.specs.Machine.Rules.{isWaiting, chainEnds, chainsEnd, notUnderSet, waitsAtUnset};
 use crate::blank::is_place;
 use crate::marks::BLANK;
 use crate::marks::FRAME;
+use crate::marks::WAITING;
 use crate::marks::state_number;
 use model::cell::Cell;
 use model::record::Machine;
@@ -120,6 +121,16 @@ pub fn waits_at_unset(cells: [Cell; Machine::CELLS], state: State) -> bool
         State::Called(_) => true,
         State::Frame => true,
     }
+}
+
+// Does a live token name a cell? (Only then is the table of cells handed on: that copies it.)
+pub fn names_cell(token: Token) -> bool
+    ensures { λ r. ⌜ r ≡ (isLive (token .state) and (isPlace (token .cell) or isWaiting (token .state))) ⌝ }
+{
+    let state = token.state;
+    let cell = token.cell;
+    let waits = state_number(state) == WAITING;
+    is_live(state) & (is_place(cell) | waits)
 }
 
 // A live token: under no set cell, and if it waits, at an unset one.

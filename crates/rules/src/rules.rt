@@ -14,7 +14,7 @@ use crate::blank::other_cells_blank;
 use crate::blank::token_is_blank;
 use crate::chain::chains_end;
 use crate::chain::is_free;
-use crate::chain::is_live;
+use crate::chain::names_cell;
 use crate::dag::words_kept;
 use crate::handles::handle_number;
 use crate::handles::handles_differ;
@@ -70,7 +70,7 @@ pub fn rules_kept(
         handles[i] = handle_number(state);
         ok = ok & token_kept(token, there, used[i], machine.calls, dag);
         i += 1;
-        if is_live(state) {
+        if names_cell(token) {
             ok = ok & is_free(table, token);
         }
     }

@@ -13,6 +13,7 @@ use Rattle.model.specs.Machine.Rules.{isReady, isWaiting, restIsBlank}
 use Rattle.model.specs.declared.token.Place.{Place}
 use Rattle.model.specs.declared.token.Place.the-variants as places
 use Rattle.model.specs.declared.token.Token.{Token}
+use Rattle.model.proofs.Test.{and-left}
 use Rattle.rules.specs.Marks.{stateNumber, handleNumber}
 use Rattle.rules.specs.Tokens.{StateThere}
 use Rattle.rules.proofs.Loop.{mapped}
@@ -80,8 +81,8 @@ written c =
 
 loop-again : tie.Need-loop-again Inv-loop μ-loop
 loop-again c =
-    let live = c .before .before in
-    let kept = live .before in
+    let named = c .before .before in
+    let kept = named .before in
     let handle = kept .before .before in
     let caller = handle .before .before .before in
     let loop = caller .before .before .before in
@@ -95,13 +96,13 @@ loop-again c =
       written handle .1,
       live-turn (dagOf (start .args .dag .now)) machine (start .args .t3) (now .i) _ (omega arith) (omega arith) (now .inv .3)
           (kept .token-kept .ensures (machine .tokens) long (there caller (machine .tokens) long _ (caller .caller-place .ensures .1)))
-          (c .is-free .ensures (sym (live .is-live .ensures) ∙ c .before .if2 .taken)),
+          (c .is-free .ensures (and-left _ _ (sym (named .names-cell .ensures) ∙ c .before .if2 .taken))),
     )
 
 loop-again-2 : tie.Need-loop-again-2 Inv-loop μ-loop
 loop-again-2 c =
-    let live = c .before in
-    let kept = live .before in
+    let named = c .before in
+    let kept = named .before in
     let handle = kept .before .before in
     let caller = handle .before .before .before in
     let loop = caller .before .before .before in
@@ -115,7 +116,7 @@ loop-again-2 c =
       written handle .1,
       other-turn (dagOf (start .args .dag .now)) machine (start .args .t3) (now .i) _ (omega arith) (omega arith) (now .inv .3)
           (kept .token-kept .ensures (machine .tokens) long (there caller (machine .tokens) long _ (caller .caller-place .ensures .1)))
-          (sym (live .is-live .ensures) ∙ c .if2 .left),
+          (sym (named .names-cell .ensures) ∙ c .if2 .left),
     )
 
 all-turns : (c : tie.After-loop Inv-loop μ-loop) → 64 ≤ c .before .loop .i
