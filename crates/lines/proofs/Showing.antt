@@ -9,7 +9,7 @@ use native.Mathlib.Decide.{decLt}
 use native.Mathlib.Omega.{arith}
 use lib.ListN.{length, getD, take, drop, set, length-append, length-drop, length-set, replicate, length-replicate, drop-of-length-le}
 use lib.Dec.{leb}
-use lib.Seq.{sets, sets-eq, length-sets, take-all, take-at, take-nil, drop-nil, take-suc, take-append-le, drop-append-le, set-out}
+use lib.Seq.{sets, sets-eq, length-sets, length-take-le, take-all, take-at, take-nil, drop-nil, take-suc, take-append-le, drop-append-le, set-out}
 use Rattle.model.proofs.Test.{le-leb, lt-not-leb}
 use Rattle.text.specs.Written.{Written}
 use Rattle.text.proofs.Writing.{sets-append}
@@ -68,17 +68,12 @@ shows-then {o} {m} {r} {from} {total} {middle} {next} {xs} {ys} f s =
 pub shows-as : {o r : List ℕ} {from total next : ℕ} {xs ys : List ℕ} → xs ≡ ys → Shows o from total xs r next → Shows o from total ys r next
 shows-as {o} {r} {from} {total} {next} e s = subst (λ (bytes : List ℕ). Shows o from total bytes r next) e s
 
-length-front : (l : List ℕ) (i : ℕ) → i ≤ length l → length (take i l) ≡ i
-length-front l zero h = refl
-length-front [] (suc i) h = absurd (omega arith)
-length-front (x ∷ l) (suc i) h = ap suc (length-front l i (omega arith))
-
 -- a loop's turn: one more byte of a line
 pub line-more : (line o m r : List ℕ) (from total i : ℕ) → i < length line → m ≡ showing o from total (take i line)
     → r ≡ placed m from (total + i) (getD line i 0) → r ≡ showing o from total (take (i + 1) line)
 unfolding showing
 line-more line o m r from total i l f s =
-    let n : length (take i line) ≡ i = length-front line i (omega arith) in
+    let n : length (take i line) ≡ i = length-take-le i line (omega arith) in
     s
     ∙ ap (λ (u : List ℕ). placed u from (total + i) (getD line i 0)) f
     ∙ ap (λ (k : ℕ). placed (showing o from total (take i line)) from (total + k) (getD line i 0)) (sym n)

@@ -37,9 +37,11 @@ turnOutcome d m rest at =
       | false ↦ Step.step paper d m 0
     ]
 
+-- "8-byte records": the one that was delivered is behind
 unfoldable pub nextAt : (queued at : ℕ) → ℕ
 nextAt queued at = elim (eqb queued 0) [ true ↦ at + 8 | false ↦ at ]
 
+-- "accepted steps": a turn that goes on is one, unless it delivered a record
 unfoldable pub nextSteps : (queued steps : ℕ) → ℕ
 nextSteps queued steps = elim (eqb queued 0) [ true ↦ steps | false ↦ suc steps ]
 
