@@ -7,6 +7,8 @@ pub mod Tables
 pub mod Facts
 pub mod Acts
 pub mod Clean
+pub mod Unblanked
+pub mod Instructions
 pub mod Rules
 pub mod Reached
 pub mod Runs

@@ -2,6 +2,7 @@
 pub mod Test
 pub mod All
 pub mod Number
+pub mod Stores
 pub mod Site
 pub mod Job
 pub mod Machine

@@ -51,10 +51,10 @@ unfolding cellIsBlank hasValue isPlace _and_
 blank-cell = refl
 
 module _ (m : Machine) where
-  tokensOf : TokensUsed (m .tokens) (m .cells) (tokensUsed m)
+  pub tokensOf : TokensUsed (m .tokens) (m .cells) (tokensUsed m)
   tokensOf = tokens-used (m .tokens) (m .cells)
 
-  cellsOf : CellsUsed (tokensUsed m) (m .tokens) (m .cells) (cellsUsed m)
+  pub cellsOf : CellsUsed (tokensUsed m) (m .tokens) (m .cells) (cellsUsed m)
   cellsOf = cells-used (tokensUsed m) (m .tokens) (m .cells) (tokens-used (m .tokens) (m .cells) .size)
 
   pub clean-tokens : Clean m → restIsBlank tokenIsBlank (tokensUsed m) (m .tokens) ≡ true

@@ -1,5 +1,5 @@
 -- Blanking keeps what is marked and makes the rest blank, place by place, by induction over the table. Assumes nothing.
-use mathlib.Core.Path.{_≡_, refl, ap}
+use mathlib.Core.Path.{_≡_, refl, sym, ap, ap₂}
 use mathlib.Core.Logic.{_⊎_, inl, inr}
 use mathlib.Core.Bool.{Bool, true, false}
 use mathlib.Core.List.{List, [], _∷_}
@@ -52,3 +52,16 @@ module _ {A : Type 0} (blank : A) where
   kept-cases (true ∷ marks) (x ∷ xs) (suc i) = kept-cases marks xs i
   kept-cases (false ∷ marks) (x ∷ xs) zero = inr refl
   kept-cases (false ∷ marks) (x ∷ xs) (suc i) = kept-cases marks xs i
+
+  -- where all that is not marked is blank, nothing changes
+  pub kept-whole :
+      (marks : List Bool) (xs : List A)
+      → length marks ≡ length xs
+      → ((i : ℕ) → Free marks i → getD xs i blank ≡ blank)
+      → kept blank marks xs ≡ xs
+  unfolding kept
+  kept-whole marks [] l h = refl
+  kept-whole [] (x ∷ xs) l h = absurd (omega arith)
+  kept-whole (true ∷ marks) (x ∷ xs) l h = ap (λ ys. x ∷ ys) (kept-whole marks xs (omega arith) (λ i e. h (suc i) e))
+  kept-whole (false ∷ marks) (x ∷ xs) l h =
+      ap₂ (λ y ys. y ∷ ys) (sym (h 0 refl)) (kept-whole marks xs (omega arith) (λ i e. h (suc i) e))

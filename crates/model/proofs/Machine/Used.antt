@@ -98,13 +98,15 @@ module _ (m : Machine) where
 
 -- a record that keeps the rules: its live tokens are active, so in use
 module _ (lim : Limits) (d : Dag) (m : Machine) (rules : RulesKept lim d m) where
-  pub live-used : (i : ℕ) → isLive (tokenAt (m .tokens) i .state) ≡ true → Used m i
+  pub lives-active : (i : ℕ) → isLive (tokenAt (m .tokens) i .state) ≡ true → isActive (m .cells) (tokenAt (m .tokens) i) ≡ true
   unfolding tokenAt
-  live-used i e =
-      tokens-used (m .tokens) (m .cells) .active i
-      (live-active (m .cells) (tokenAt (m .tokens) i)
+  lives-active i e =
+      live-active (m .cells) (tokenAt (m .tokens) i)
       (all-at (notUnderSet (m .cells)) (m .tokens) i blankToken (rules .under) (live-inside (m .tokens) i e))
-      e)
+      e
+
+  pub live-used : (i : ℕ) → isLive (tokenAt (m .tokens) i .state) ≡ true → Used m i
+  live-used i e = tokens-used (m .tokens) (m .cells) .active i (lives-active i e)
 
   pub inside-old : InsideUsed m (Used m) (UsedCell m) (m .tokens) (m .cells)
   inside-old =

@@ -79,6 +79,15 @@ unset-cell : (q : Place) → isSet (unsetCell q) ≡ false
 unfolding isSet hasValue
 unset-cell q = refl
 
+-- a blank cell is under none
+pub blank-cell-clear : (cs : List Cell) (c : ℕ) → cellAt cs c ≡ blankCell → underSet cs (places.At c) ≡ false
+unfolding underSet
+blank-cell-clear cs c e = go (length cs)
+  where
+    go : (n : ℕ) → upward setTest cs n (places.At c) ≡ false
+    go zero = up-none setTest cs (places.At c)
+    go (suc n) = up-at setTest cs n c blankCell e (unset-cell places.Nowhere) (up-nowhere setTest cs n)
+
 -- an unset cell below a cell that is under none puts nothing under a set cell
 module _ (cs : List Cell) (c : ℕ) (above : Place) (inside : c < length cs) where
   new-cell-up :
