@@ -5,11 +5,15 @@ use mathlib.Core.Bool.{Bool, true, false, not}
 use mathlib.Core.List.{List}
 use Prim.Native.Nat.{ℕ, _+_, _≤_, _<_}
 use lib.ListN.{length, getD, set}
+use lib.IntN.{ℤ}
 use Rattle.model.specs.Machine.Blank.{blankToken, blankCell}
-use Rattle.model.specs.Machine.InUse.{tokensUsed, usedCells, kept, finish}
+use Rattle.model.specs.Machine.InUse.{tokensUsed, cellsUsed, kept, finish}
 use Rattle.model.specs.declared.token.Token.{Token}
 use Rattle.model.specs.declared.cell.Cell.{Cell}
 use Rattle.model.specs.declared.record.Machine.{Machine}
+use Rattle.model.specs.declared.reply.Reply.{Reply}
+use Rattle.model.specs.declared.reply.Outcome.{Outcome}
+use Rattle.reach.specs.declared.used.Used.{Used}
 use Rattle.reach.proofs.Keep.{partly, partly-over, keeps, blanks}
 
 abbrev pub withTokens : Machine → List Token → Machine
@@ -80,21 +84,19 @@ module _ {A : Type 0} (f : Table A) where
     pub table-over : size ≤ i → m ≡ f .put o (kept (f .blank) marks (f .got o))
     table-over h = done ∙ ap (f .put o) (partly-over (f .blank) marks (f .got o) size i long h)
 
+-- the outcome of an accepted call, once both tables are made blank
 pub finished :
-    (m n o : Machine) (used reached : List Bool)
-    → used ≡ tokensUsed o
-    → reached ≡ usedCells used (o .tokens) (o .cells)
-    → n ≡ withTokens o (kept blankToken used (o .tokens))
-    → m ≡ withCells n (kept blankCell reached (n .cells))
-    → m ≡ finish o
+    (m n o : Machine) (r : Reply) (vs : List ℤ) (used : Used)
+    → used ≡ record { tokens = tokensUsed o; cells = cellsUsed o }
+    → n ≡ withTokens o (kept blankToken (used .tokens) (o .tokens))
+    → m ≡ withCells n (kept blankCell (used .cells) (n .cells))
+    → _≡_ {A = Outcome} (record { reply = r; values = vs; machine = m }) (record { reply = r; values = vs; machine = finish o })
 unfolding finish
-finished m n o used reached a b p q =
-    q
-    ∙ ap (λ (x : Machine). withCells x (kept blankCell reached (x .cells))) p
+finished m n o r vs used e p q =
+    ap
+    (λ (x : Machine). record { reply = r; values = vs; machine = x })
+    (q
+    ∙ ap (λ (x : Machine). withCells x (kept blankCell (used .cells) (x .cells))) p
     ∙ ap
-    (λ (rs : List Bool). withCells (withTokens o (kept blankToken used (o .tokens))) (kept blankCell rs (o .cells)))
-    b
-    ∙ ap
-    (λ (us : List Bool).
-    withCells (withTokens o (kept blankToken us (o .tokens))) (kept blankCell (usedCells us (o .tokens) (o .cells)) (o .cells)))
-    a
+    (λ (u : Used). withCells (withTokens o (kept blankToken (u .tokens) (o .tokens))) (kept blankCell (u .cells) (o .cells)))
+    e)

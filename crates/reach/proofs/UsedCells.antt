@@ -7,12 +7,14 @@ use Prim.Native.Nat.{ℕ, _+_, _≤_, _<_}
 use native.Mathlib.Omega.{arith}
 use lib.ListN.{length, getD, drop, replicate, drop-of-length-le, length-replicate}
 use Rattle.model.specs.Machine.Blank.{blankToken, blankCell}
-use Rattle.model.specs.Machine.InUse.{markChain, markChains, reached, boundCell, cellsOf, cellsOfMarked, usedCells}
+use Rattle.model.specs.Machine.InUse.{markChain, markChains, reached, boundCell, cellsOf, cellsOfMarked, usedCells, tokensUsed, cellsUsed}
 use Rattle.model.specs.declared.token.Bind.{Bind}
 use Rattle.model.specs.declared.token.Place.{Place}
 use Rattle.model.specs.declared.token.Token.{Token}
 use Rattle.model.specs.declared.cell.Cell.{Cell}
+use Rattle.model.specs.declared.record.Machine.{Machine}
 use Rattle.reach.specs.Link.{number, at, renamed, parentNumber}
+use Rattle.reach.specs.declared.used.Used.{Used}
 use Rattle.reach.proofs.Fill.{drop-next}
 use Rattle.reach.proofs.Renumber.{chains-numbers, chains-append}
 
@@ -138,3 +140,15 @@ cells-marked used ts cs parents marks size l s e g =
     ∙ ap
     (λ (n : ℕ). markChains (λ (c : Cell). c .parent) blankCell cs (cellsOfMarked used ts) (replicate n false))
     (sym l)
+
+-- the marks of both tables
+pub used-is :
+    (m : Machine) (used marks : List Bool)
+    → used ≡ tokensUsed m
+    → marks ≡ usedCells used (m .tokens) (m .cells)
+    → _≡_ {A = Used} (record { tokens = used; cells = marks }) (record { tokens = tokensUsed m; cells = cellsUsed m })
+used-is m used marks e f =
+    ap₂
+    (λ (us rs : List Bool). record { tokens = us; cells = rs })
+    e
+    (f ∙ ap (λ (us : List Bool). usedCells us (m .tokens) (m .cells)) e)

@@ -2,10 +2,11 @@
 ghost use mathlib.Core.Path.{_≡_};
 ghost use Rattle.model.specs.Machine.Blank.{blankToken, blankCell};
 ghost use Rattle.model.specs.Machine.InUse.{finish};
-use crate::used::used_cells;
-use crate::used::used_tokens;
+use crate::used::in_use;
 use model::cell::Cell;
 use model::record::Machine;
+use model::reply::Outcome;
+use model::reply::Reply;
 use model::token::Bind;
 use model::token::Held;
 use model::token::Place;
@@ -38,18 +39,19 @@ pub fn blank_cell() -> Cell
     }
 }
 
-// The record with all that is not in use made blank.
-pub fn finish(mut m: Machine) -> Machine
-    ensures { λ r. ⌜ r ≡ finish m ⌝ }
+// The end of an accepted call: its reply and values, and the record with all that is not in use made blank.
+pub fn finished(mut m: Machine, reply: Reply, values: [i32; 4]) -> Outcome
+    ensures { λ r. ⌜ r ≡ record { reply = reply; values = values; machine = finish m } ⌝ }
 {
-    let used = used_tokens(m);
-    let cells = used_cells(m, used);
+    let used = in_use(m);
+    let tokens = used.tokens;
+    let cells = used.cells;
     let token = blank_token();
     let mut i: usize = 0;
     while i < Machine::TOKENS {
         let p = i;
         i += 1;
-        if !used[p] {
+        if !tokens[p] {
             m.tokens[p] = token;
         }
     }
@@ -62,5 +64,9 @@ pub fn finish(mut m: Machine) -> Machine
             m.cells[p] = cell;
         }
     }
-    m
+    Outcome {
+        reply,
+        values,
+        machine: m,
+    }
 }

@@ -1,5 +1,4 @@
 // What of a machine record is in use, what is made blank, and where a new record goes.
-pub mod active;
 pub mod cells;
 mod chain;
 mod climb;

@@ -2,7 +2,7 @@
 ghost use mathlib.Core.Path.{_≡_};
 ghost use mathlib.Core.List.{map};
 ghost use lib.ListN.{length};
-ghost use Rattle.model.specs.Machine.InUse.{tokensUsed, usedCells, boundCell, cellsOf, markChains};
+ghost use Rattle.model.specs.Machine.InUse.{tokensUsed, cellsUsed, boundCell, cellsOf, markChains};
 ghost use Rattle.reach.specs.Link.{number, at, renamed};
 use crate::chain::mark_chosen;
 use crate::chain::mark32;
@@ -15,26 +15,6 @@ use model::record::Machine;
 use model::token::Bind;
 use model::token::Slot;
 use model::token::Token;
-
-// The tokens in use: the active ones, and what they reach by their callers.
-pub fn used_tokens(m: Machine) -> [bool; Machine::TOKENS]
-    ensures { λ r. ⌜ r ≡ tokensUsed m ⌝ }
-{
-    let cells = m.cells;
-    let set = set_cells(cells);
-    let above = parents(cells);
-    let mut callers = [0u8; Machine::TOKENS];
-    let mut active = [false; Machine::TOKENS];
-    let mut i: usize = 0;
-    while i < Machine::TOKENS {
-        let t = m.tokens[i];
-        let q = t.caller;
-        callers[i] = number(q);
-        active[i] = active_in(&set, &above, t);
-        i += 1;
-    }
-    mark_chosen(&callers, &active)
-}
 
 // The number of the cell that a binding names.
 fn bound_number(b: Bind) -> u8
@@ -64,21 +44,39 @@ fn mark_named(above: &[u8; Machine::CELLS], t: Token, marks: &mut [bool; Machine
     }
 }
 
-// The cells that the tokens in use reach.
-pub fn used_cells(m: Machine, used: [bool; Machine::TOKENS]) -> [bool; Machine::CELLS]
-    ensures { λ r. ⌜ r ≡ usedCells used (m .tokens) (m .cells) ⌝ }
+// Which tokens and cells are in use.
+pub struct Used {
+    pub tokens: [bool; Machine::TOKENS],
+    pub cells: [bool; Machine::CELLS],
+}
+
+// The tokens: the active ones, and what they reach by their callers. Then the cells that these tokens reach.
+pub fn in_use(m: Machine) -> Used
+    ensures { λ r. ⌜ r ≡ record { tokens = tokensUsed m; cells = cellsUsed m } ⌝ }
 {
-    let cells = m.cells;
-    let above = parents(cells);
-    let mut marks = [false; Machine::CELLS];
+    let rows = m.cells;
+    let set = set_cells(rows);
+    let above = parents(rows);
+    let mut callers = [0u8; Machine::TOKENS];
+    let mut active = [false; Machine::TOKENS];
     let mut i: usize = 0;
     while i < Machine::TOKENS {
-        let p = i;
+        let t = m.tokens[i];
+        let q = t.caller;
+        callers[i] = number(q);
+        active[i] = active_in(&set, &above, t);
         i += 1;
-        if used[p] {
+    }
+    let tokens = mark_chosen(&callers, &active);
+    let mut cells = [false; Machine::CELLS];
+    let mut j: usize = 0;
+    while j < Machine::TOKENS {
+        let p = j;
+        j += 1;
+        if tokens[p] {
             let t = m.tokens[p];
-            mark_named(&above, t, &mut marks);
+            mark_named(&above, t, &mut cells);
         }
     }
-    marks
+    Used { tokens, cells }
 }

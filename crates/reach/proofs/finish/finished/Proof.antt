@@ -1,4 +1,4 @@
--- `finish::finish` meets its contract. The loops' invariants: the record is as it was, but for the table of tokens, and then of cells, which is
+-- `finish::finished` meets its contract. The loops' invariants: the record is as it was, but for the table of tokens, and then of cells, which is
 -- made blank up to a place. Assumes nothing.
 use mathlib.Core.Path.{_≡_, refl, _∙_, ap}
 use Prim.Native.Nat.{_-_, _≤_}
@@ -8,26 +8,23 @@ use Rattle.model.specs.declared.record.Machine.{Machine}
 use Rattle.reach.proofs.Fill.{mapped-length}
 use Rattle.reach.proofs.Blanking.{upTo, table-keeps, table-blanks, table-over, finished}
 use Rattle.reach.proofs.Blanking.{tokens as by-tokens, cells as by-cells}
-use Rattle.reach.proofs.finish.finish.Statement.{statement}
-use Rattle.reach.proofs.finish.finish.Tie as tie
+use Rattle.reach.proofs.finish.finished.Statement.{statement}
+use Rattle.reach.proofs.finish.finished.Tie as tie
 
 abbrev Inv-loop : tie.InvT-loop
-Inv-loop m₀ used cells token i₀ m i = (i ≤ 64) × (length (m₀ .tokens) ≡ 64) × (length (m .tokens) ≡ 64) × (m ≡ upTo by-tokens m₀ used i)
+Inv-loop reply values m₀ tokens cells token i₀ m i = (i ≤ 64) × (length (m₀ .tokens) ≡ 64) × (length (m .tokens) ≡ 64) × (m ≡ upTo by-tokens m₀ tokens i)
 
 abbrev μ-loop : tie.MeasureT-loop
-μ-loop m₀ used cells token i₀ m i = 64 - i
+μ-loop reply values m₀ tokens cells token i₀ m i = 64 - i
 
 abbrev Inv-loop2 : tie.InvT-loop2
-Inv-loop2 m₀ cells i cell j₀ m j = (j ≤ 32) × (length (m₀ .cells) ≡ 32) × (length (m .cells) ≡ 32) × (m ≡ upTo by-cells m₀ cells j)
+Inv-loop2 reply values m₀ cells i cell j₀ m j = (j ≤ 32) × (length (m₀ .cells) ≡ 32) × (length (m .cells) ≡ 32) × (m ≡ upTo by-cells m₀ cells j)
 
 abbrev μ-loop2 : tie.MeasureT-loop2
-μ-loop2 m₀ cells i cell j₀ m j = 32 - j
+μ-loop2 reply values m₀ cells i cell j₀ m j = 32 - j
 
-used-tokens-requires : tie.Need-used-tokens-requires Inv-loop μ-loop Inv-loop2 μ-loop2
-used-tokens-requires c κs = search needs
-
-used-cells-requires : tie.Need-used-cells-requires Inv-loop μ-loop Inv-loop2 μ-loop2
-used-cells-requires c κs = search needs
+in-use-requires : tie.Need-in-use-requires Inv-loop μ-loop Inv-loop2 μ-loop2
+in-use-requires c κs = search needs
 
 blank-token-requires : tie.Need-blank-token-requires Inv-loop μ-loop Inv-loop2 μ-loop2
 blank-token-requires c κs = search needs
@@ -74,7 +71,7 @@ blank-cell-requires c κs = search needs
 loop2-holds : tie.Need-loop2-holds Inv-loop μ-loop Inv-loop2 μ-loop2
 loop2-holds c =
     let l = c .before .before .loop in
-    let old : length (c .before .before .before .before .before .before .args .t1 .cells) ≡ 32 = search (needs, mapped-length) in
+    let old : length (c .before .before .before .before .before .before .before .args .t1 .cells) ≡ 32 = search (needs, mapped-length) in
     let long = ap (λ (x : Machine). length (x .cells)) (l .inv .3) ∙ old in
     (search needs, long, long, refl)
 
@@ -116,21 +113,19 @@ returns c =
     let k = c .before .loop2 in
     let begun = c .before .before .before .before in
     let l = begun .loop in
-    let cells = begun .before .before in
-    finished (k .m) (l .m) _ _ _ (cells .before .used-tokens .ensures) (cells .used-cells .ensures)
+    finished (k .m) (l .m) _ _ _ _ (begun .before .before .before .before .in-use .ensures)
     (table-over by-tokens (l .m) _ _ 64 (l .i) (l .inv .1) (l .inv .3) (search needs))
     (table-over by-cells (k .m) _ _ 32 (k .j) (k .inv .1) (k .inv .3) (search needs))
 
-pub finish-spec : {M : Type 1} → statement M
-finish-spec =
+pub finished-spec : {M : Type 1} → statement M
+finished-spec =
     tie.close
     (tie.spec
     Inv-loop
     μ-loop
     Inv-loop2
     μ-loop2
-    used-tokens-requires
-    used-cells-requires
+    in-use-requires
     blank-token-requires
     loop-holds
     add-i
