@@ -143,47 +143,6 @@ site-below s n e = go (or-cases _ _ e)
     go (inl a) = let l = ltb-lt s 7 (and-left _ _ a) in omega arith
     go (inr a) = let l = leb-le s 1023 (and-right (leb 16 s) _ (and-left _ _ a)) in omega arith
 
--- an outside call
-module _ (m : Machine) (place p : ℕ) (t : Token) (s : ℕ) (vs : List ℤ) (n k : ℕ) where
-  abbrev effect : Effect
-  effect = Step.calledOut (taken m place) p t s (take n vs) k
-
-  pub outside-refused : 1000000 ≤ m .calls → effectOutcome m (refuses refusals.CallLimit) ≡ effectOutcome m (unless (ltb (m .calls) 1000000) refusals.CallLimit effect)
-  unfolding unless
-  outside-refused l = sym (ap (λ b. effectOutcome m (unless b refusals.CallLimit effect)) (le-not-ltb (m .calls) 1000000 l))
-
-  pub outside-is :
-      (b u : Token)
-      → Beside vs n
-      → m .calls < 1000000
-      → b ≡ being (states.Called (m .calls)) t
-      → u ≡ to k b
-      → record {
-        reply = replies.Called (m .calls) s n;
-        values = vs;
-        machine = withCounts (suc (m .calls)) (m .newtoken) (m .newcell) (put p u (taken m place));
-      }
-      ≡ effectOutcome m (unless (ltb (m .calls) 1000000) refusals.CallLimit effect)
-  unfolding unless effectOutcome unfinished Step.calledOut Step.withOrders
-  outside-is b u o l e f =
-      ap₂
-      (λ i xs.
-      record {
-        reply = replies.Called (m .calls) s i;
-        values = xs;
-        machine = withCounts (suc (m .calls)) (m .newtoken) (m .newcell) (put p u (taken m place));
-      })
-      (sym (o .size)) (sym (o .zeros))
-      ∙ ap
-      (λ x.
-      record {
-        reply = replies.Called (m .calls) s (length (take n vs));
-        values = valuesBeside (take n vs);
-        machine = withCounts (suc (m .calls)) (m .newtoken) (m .newcell) (put p x (taken m place));
-      })
-      (f ∙ ap (to k) e)
-      ∙ sym (ap (λ b. effectOutcome m (unless b refusals.CallLimit effect)) (lt-ltb (m .calls) 1000000 l))
-
 -- what a built-in said, there and back
 pub said-back : (x : said.Said) (y : Said) → x ≡ saidOf y → modelSaid x ≡ y
 said-back x (gives v) e = ap modelSaid e

@@ -20,11 +20,13 @@ use Rattle.model.specs.declared.token.Token.{Token}
 use Rattle.model.specs.declared.cell.Cell.{Cell}
 use Rattle.model.specs.declared.record.Machine.{Machine}
 use Rattle.model.proofs.Test.{all-nil, all-cons, all-head, all-tail}
-use Rattle.acts.specs.Unfinished.{taken, OrderKept, Taking}
-use Rattle.acts.specs.Choking.{homeInRange, Below, markedAt, chokeMarked, readyAfter, waitingAfter, orderOf, gathering, ChokingKept}
+use Rattle.acts.specs.Unfinished.{taken, OrderKept}
+use Rattle.acts.specs.Choking.{homeInRange, Below, markedAt, chokeMarked, readyAfter, waitingAfter, orderOf, gathering, Reordering, reorderedOf, ChokingKept}
 use Rattle.acts.specs.declared.order.Order.{Order}
+use Rattle.acts.specs.declared.order.Orders.{Orders}
 use Rattle.acts.proofs.Chokes.{place-inside}
-use Rattle.acts.proofs.Shapes.{literal, shaped, orders-shaped, names-back, taken-count}
+use Rattle.acts.proofs.Orders.{length-without}
+use Rattle.acts.proofs.Shapes.{literal, shaped, orders-shaped, names-back, order-count}
 use Rattle.acts.proofs.Gathers.{filter-append, gathering-count}
 use Rattle.acts.proofs.Tables.{getD-any}
 
@@ -125,25 +127,60 @@ gathered-some marks names n o e l few =
     let size : o .count ≡ length found = ap (λ (o : Order). o .count) e in
     (made-kept o found e (omega arith), omega arith)
 
+-- the two orders of a choke, with the name at an index of the queue left out
+module _ {queue : List ℕ} {count index : ℕ} {waits : List ℕ} {n : ℕ} (k : Reordering queue count index waits n) where
+  abbrev behind : List ℕ
+  behind = without index (take count queue)
+
+  behind-length : count - 1 ≡ length behind
+  behind-length =
+      let inside : index < count = k .inside in
+      let size : count ≡ length (take count queue) = order-count (k .order) in
+      let less : suc (length behind) ≡ length (take count queue) = length-without index (take count queue) (omega arith) in
+      omega arith
+
+  behind-names : (names : List ℕ) → names ≡ padded 0 64 behind → take (count - 1) names ≡ behind
+  behind-names names e = ap₂ take behind-length e ∙ names-back behind
+
+  pub behind-below : (names : List ℕ) → names ≡ padded 0 64 behind → all (λ (p : ℕ). ltb p 64) (take (count - 1) names) ≡ true
+  behind-below names e =
+      subst
+      (λ (xs : List ℕ). all (λ (p : ℕ). ltb p 64) xs ≡ true)
+      (sym (behind-names names e))
+      (all-without (λ (p : ℕ). ltb p 64) index (take count queue) (k .ready))
+
+  pub reordered-is :
+      (ready waiting : List Bool) (names : List ℕ) (none first second : Order)
+      → names ≡ padded 0 64 behind
+      → first ≡ gathering [] ready (take (count - 1) names ++ take n waits)
+      → none ≡ orderOf []
+      → second ≡ gathering (take (none .count) (none .names)) waiting (take n waits)
+      → _≡_ {A = Orders} (record { queue = first; waits = second }) (reorderedOf behind (take n waits) ready waiting)
+  reordered-is ready waiting names none first second e f z g =
+      ap₂
+      (λ (x y : Order). record { queue = x; waits = y })
+      (f ∙ ap (λ (xs : List ℕ). gathering [] ready (xs ++ take n waits)) (behind-names names e))
+      (gathered-behind none second [] waiting (take n waits) z g)
+
+-- the record with other rows
+abbrev pub withRows : Machine → List Token → Machine
+withRows m ts = literal ts (m .cells) (m .queue) (m .queued) (m .waits) (m .waiting) (m .calls) (m .newtoken) (m .newcell)
+
+pub reordering : (m n : Machine) (place c : ℕ) (ts : List Token) → ChokingKept m place c → n ≡ withRows m ts
+    → Reordering (n .queue) (n .queued) place (n .waits) (n .waiting)
+reordering m n place c ts k e =
+    subst
+    (λ (x : Machine). Reordering (x .queue) (x .queued) place (x .waits) (x .waiting))
+    (sym e)
+    (record { order = k .orders .queue; inside = k .queued; room = k .room; ready = k .ready; waiting = k .waiting })
+
 -- the record
 module _ (m : Machine) (place c : ℕ) (k : ChokingKept m place c) where
-  abbrev taking : Taking m place 0
-  taking = record { orders = k .orders; queued = k .queued; inside = omega arith }
-
   abbrev pub rest : List ℕ
   rest = without place (take (m .queued) (m .queue))
 
   abbrev pub left : List ℕ
   left = take (m .waiting) (m .waits)
-
-  pub rest-length : m .queued - 1 ≡ length rest
-  rest-length = taken-count m place 0 taking (padded 0 64 rest) refl
-
-  pub rest-below : all (λ (p : ℕ). ltb p 64) rest ≡ true
-  rest-below = all-without (λ (p : ℕ). ltb p 64) place (take (m .queued) (m .queue)) (k .ready)
-
-  pub rest-names : (names : List ℕ) → names ≡ padded 0 64 rest → take (m .queued - 1) names ≡ rest
-  rest-names names e = ap₂ take rest-length e ∙ names-back rest
 
   module _ (marks : List Bool) (b : Below (m .cells) c marks) where
     abbrev after : List Token
@@ -200,28 +237,42 @@ module _ (m : Machine) (place c : ℕ) (k : ChokingKept m place c) where
         ∙ orders-shaped (filter isReadyAfter (rest ++ left)) (filter isWaitingAfter left) (Step.withTables after cs was)
         (length-map (m .tokens) (chokeToken (m .cells) c) ∙ len))
 
-    -- the same of what the code computes on the way
+    -- the same of what the code computes on the way: the record after the loop, and the orders
     pub chokes-by :
-        (v : Held) (d : Cell) (Q W : Order) (ts : List Token) (ready waiting : List Bool) (names : List ℕ)
-        → ts ≡ map (chokeMarked marks c) (m .tokens)
+        (v : Held) (d : Cell) (n : Machine) (ready waiting : List Bool) (o : Orders)
+        → n ≡ withRows m (map (chokeMarked marks c) (m .tokens))
         → ready ≡ map (readyAfter marks c) (m .tokens)
         → waiting ≡ map (waitingAfter marks c) (m .tokens)
-        → names ≡ padded 0 64 rest
-        → Q ≡ gathering [] ready (take (m .queued - 1) names ++ left)
-        → W ≡ gathering [] waiting left
+        → o ≡ reorderedOf (without place (take (n .queued) (n .queue))) (take (n .waiting) (n .waits)) ready waiting
         → literal
-        ts
-        (set (m .cells) c (record { parent = getD (m .cells) c d .parent; value = v }))
-        (Q .names)
-        (Q .count)
-        (W .names)
-        (W .count)
-        (m .calls)
-        (m .newtoken)
-        (m .newcell)
+        (n .tokens)
+        (set (n .cells) c (record { parent = getD (n .cells) c d .parent; value = v }))
+        (o .queue .names)
+        (o .queue .count)
+        (o .waits .names)
+        (o .waits .count)
+        (n .calls)
+        (n .newtoken)
+        (n .newcell)
         ≡ choked c v (taken m place)
-    chokes-by v d Q W ts ready waiting names e r w n q l =
-        let below = set (m .cells) c (record { parent = getD (m .cells) c d .parent; value = v }) in
-        ap (λ rows. literal rows below (Q .names) (Q .count) (W .names) (W .count) (m .calls) (m .newtoken) (m .newcell)) e
-        ∙ chokes-is v d Q W
-        (q ∙ ap₂ (λ bs xs. gathering [] bs (xs ++ left)) r (rest-names names n)) (l ∙ ap (λ bs. gathering [] bs left) w)
+    chokes-by v d n ready waiting o e f g h =
+        let same : o ≡ reorderedOf rest left (map (readyAfter marks c) (m .tokens)) (map (waitingAfter marks c) (m .tokens)) =
+        h
+        ∙ ap
+        (λ (x : Machine). reorderedOf (without place (take (x .queued) (x .queue))) (take (x .waiting) (x .waits)) ready waiting)
+        e
+        ∙ ap₂ (reorderedOf rest left) f g in
+        ap
+        (λ (x : Machine).
+        literal
+        (x .tokens)
+        (set (x .cells) c (record { parent = getD (x .cells) c d .parent; value = v }))
+        (o .queue .names)
+        (o .queue .count)
+        (o .waits .names)
+        (o .waits .count)
+        (x .calls)
+        (x .newtoken)
+        (x .newcell))
+        e
+        ∙ chokes-is v d (o .queue) (o .waits) (ap (λ (x : Orders). x .queue) same) (ap (λ (x : Orders). x .waits) same)

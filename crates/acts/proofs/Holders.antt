@@ -68,7 +68,7 @@ module _ (d : Dag) (m : Machine) (k : rulesKept paper d m ≡ true) (h p : ℕ) 
       let same : i ≡ p = omega arith in
       subst (λ q. any (eqb h) (handleOf (tokenAt (m .tokens) q .state)) ≡ true) same b
 
-  pub open-inside : p < 64
+  open-inside : p < 64
   unfolding tokenAt any handleOf
   open-inside = go (decLt p (length (m .tokens)))
     where
@@ -117,19 +117,24 @@ module _ (d : Dag) (m : Machine) (k : rulesKept paper d m ≡ true) (h p : ℕ) 
       ∙ literal-shaped (q ++ (p ∷ [])) w (array-behind q p (order-array (r .queue)) c open-room) (omega arith) (order-array (r .waits)) (order-count (r .waits))
       ∙ sym (orders-shaped (q ++ (p ∷ [])) w put-in (length-set (m .tokens) p new ∙ n))
 
--- the effect, by the place found
-module _ (m : Machine) (h : ℕ) (x : ℤ) where
-  pub answer-refused : holder h 0 (m .tokens) ≡ places.Nowhere → effectOutcome m (refuses refusals.NotOpen) ≡ effectOutcome m (answered m x (holder h 0 (m .tokens)))
+-- the effect, by the place found, on the record as it was
+module _ (m was : Machine) (same : m ≡ was) (h : ℕ) (x : ℤ) where
+  effect-same : effectOutcome m (answered m x (holder h 0 (m .tokens))) ≡ effectOutcome was (answered was x (holder h 0 (was .tokens)))
+  effect-same = ap (λ o. effectOutcome o (answered o x (holder h 0 (o .tokens)))) same
+
+  pub answer-refused :
+      holder h 0 (m .tokens) ≡ places.Nowhere
+      → effectOutcome m (refuses refusals.NotOpen) ≡ effectOutcome was (answered was x (holder h 0 (was .tokens)))
   unfolding answered
-  answer-refused e = sym (ap (λ q. effectOutcome m (answered m x q)) e)
+  answer-refused e = sym (ap (λ q. effectOutcome m (answered m x q)) e) ∙ effect-same
 
   pub answer-does :
       (p : ℕ)
       → holder h 0 (m .tokens) ≡ places.At p
       → effectOutcome m (moves (enqueue p (put p (being states.Ready (holding (helds.Value x) (tokenAt (m .tokens) p))) m)))
-      ≡ effectOutcome m (answered m x (holder h 0 (m .tokens)))
+      ≡ effectOutcome was (answered was x (holder h 0 (was .tokens)))
   unfolding answered
-  answer-does p e = sym (ap (λ q. effectOutcome m (answered m x q)) e)
+  answer-does p e = sym (ap (λ q. effectOutcome m (answered m x q)) e) ∙ effect-same
 
 pub or-nothing : (b : Bool) → b ≡ (b or false)
 unfolding _or_

@@ -12,8 +12,12 @@ pub mod Choked
 pub mod Params
 pub mod LookUps
 pub mod Facts
-pub mod Acts
-pub mod Places
-pub mod Instructions
 pub mod Calls
+pub mod Rows
+pub mod Written
+pub mod Instructions
+pub mod Clauses
+pub mod Places
 pub mod Holders
+pub mod Unblanked
+pub mod Queued

@@ -13,7 +13,7 @@ use Rattle.model.specs.Job.Node.{Node, Body, Dag, nodeAt, bodyAt, nodeKept, bod
 use Rattle.model.specs.Job.Words.{headWords, paramsFrom, nodeWords, nodeBy, nodeOf, nodesFrom, bodiesFrom, dagOf}
 use Rattle.model.proofs.Test.{clash, and-left, ltb-lt, same-eq}
 use Rattle.model.proofs.Job.Rules.{dag-rules, node-rules, body-rules}
-use Rattle.acts.specs.Row.{rowOf, rowAt, paramsAt}
+use Rattle.acts.specs.Row.{rowOf, rowAt, paramsAt, nodeOfKind, nodeIn}
 use Rattle.acts.proofs.Params.{row-word}
 
 pub nodes-count : (n : ℕ) (ws : List ℕ) → length (nodesFrom n ws) ≡ n
@@ -69,26 +69,6 @@ module _ (ws : List ℕ) (i : ℕ) (k : dagKept (dagOf ws) ≡ true) (l : i < le
 
   pub node-rule : nodeKept (dagOf ws) (nodeBy (rowAt ws (rowOf i))) ≡ true
   node-rule = subst (λ n. nodeKept (dagOf ws) n ≡ true) node-read (node-rules (dagOf ws) i k l)
-
--- a node by its kind and numbers
-abbrev pub nodeOfKind : (a b c : ℕ) → List Param → (kind : ℕ) → Node
-nodeOfKind a b c ps kind =
-    getD
-    (Node.stop
-    ∷ Node.site a ps b
-    ∷ Node.call a ps b
-    ∷ Node.fork a b
-    ∷ Node.assign a b
-    ∷ Node.remove a b
-    ∷ Node.where' c a b
-    ∷ Node.choke
-    ∷ Node.return
-    ∷ Node.publish
-    ∷ [])
-    kind Node.unknown
-
-abbrev pub nodeIn : List ℕ → (at : ℕ) → (kind : ℕ) → Node
-nodeIn ws at kind = nodeOfKind (getD ws (at + 1) 0) (getD ws (at + 2) 0) (getD ws (at + 3) 0) (paramsAt ws at) kind
 
 pub node-of-kind : (ws : List ℕ) (at kind : ℕ) → getD ws at 0 ≡ kind → nodeBy (rowAt ws at) ≡ nodeIn ws at kind
 unfolding nodeBy paramsAt

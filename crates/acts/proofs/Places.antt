@@ -15,7 +15,7 @@ use Rattle.model.specs.Machine.Active.{isLive}
 use Rattle.model.specs.Machine.InUse.{tokensUsed, cellsUsed, marked}
 use Rattle.model.specs.Machine.Places.{nextPlace}
 use Rattle.model.specs.Machine.Rules.{isReady, rulesKept, sizesInRange}
-use Rattle.model.specs.Machine.Step.{hasTokenPlace, hasCellPlace}
+use Rattle.model.specs.Machine.Step.{hasTokenPlace, hasCellPlace, tokenPlace, cellPlace}
 use Rattle.model.specs.declared.token.State.{State}
 use Rattle.model.specs.declared.token.State.the-variants as states
 use Rattle.model.specs.declared.record.Machine.{Machine}
@@ -25,7 +25,6 @@ use Rattle.model.proofs.Machine.Marks.{free-inside}
 use Rattle.model.proofs.Machine.InUse.{tokens-used, cells-used}
 use Rattle.model.proofs.Machine.Places.{next-place-free}
 use Rattle.model.proofs.Machine.Used.{live-used}
-use Rattle.acts.specs.Acting.{TokenPlace, CellPlace}
 use Rattle.acts.proofs.Facts.{tokens-size, cells-size, queue-room}
 
 ready-live : (s : State) → isReady s ≡ true → isLive s ≡ true
@@ -60,30 +59,30 @@ module _ (ws : List ℕ) (m : Machine) (kept : rulesKept paper (dagOf ws) m ≡ 
   cells-marked : length (cellsUsed m) ≡ 32
   cells-marked = cells-used (tokensUsed m) (m .tokens) (m .cells) (tokens-used (m .tokens) (m .cells) .size) .size ∙ cells-size (dagOf ws) m kept
 
-  module _ (new : ℕ) (o : TokenPlace ws m new true) where
-    free : getD (tokensUsed m) new true ≡ false
+  module _ (has : hasTokenPlace paper (dagOf ws) m ≡ true) where
+    abbrev new : ℕ
+    new = tokenPlace paper (dagOf ws) m
+
+    pub token-place-free : getD (tokensUsed m) new true ≡ false
     unfolding hasTokenPlace
-    free =
+    token-place-free =
         let n : length (tokensUsed m) ≡ 64 = tokens-marked in
         let l : m .newtoken < 64 = last-token in
-        let h : marked (tokensUsed m) < 64 = ltb-lt (marked (tokensUsed m)) 64 (sym (o .has)) in
-        ap (λ i. getD (tokensUsed m) i true) (o .next) ∙ next-place-free (tokensUsed m) (m .newtoken) (omega arith) (omega arith)
+        let h : marked (tokensUsed m) < 64 = ltb-lt (marked (tokensUsed m)) 64 has in
+        next-place-free (tokensUsed m) (m .newtoken) (omega arith) (omega arith)
 
     pub token-place-inside : new < 64
-    token-place-inside = let n : length (tokensUsed m) ≡ 64 = tokens-marked in let l = free-inside (tokensUsed m) new free in omega arith
+    token-place-inside = let n : length (tokensUsed m) ≡ 64 = tokens-marked in let l = free-inside (tokensUsed m) new token-place-free in omega arith
 
     pub token-place-room : m .queued < 64
     token-place-room =
         queue-room (dagOf ws) m kept new token-place-inside
-        (false-of _ (λ e. clash (live-used paper (dagOf ws) m (rules-kept paper (dagOf ws) m kept) new (ready-live _ e)) free))
+        (false-of _ (λ e. clash (live-used paper (dagOf ws) m (rules-kept paper (dagOf ws) m kept) new (ready-live _ e)) token-place-free))
 
-  pub cell-place-inside : (new : ℕ) → CellPlace ws m new true → new < 32
+  pub cell-place-free : hasCellPlace paper (dagOf ws) m ≡ true → getD (cellsUsed m) (cellPlace paper (dagOf ws) m) true ≡ false
   unfolding hasCellPlace
-  cell-place-inside new o =
+  cell-place-free has =
       let n : length (cellsUsed m) ≡ 32 = cells-marked in
       let l : m .newcell < 32 = last-cell in
-      let h : marked (cellsUsed m) < 32 = ltb-lt (marked (cellsUsed m)) 32 (sym (o .has)) in
-      let f : getD (cellsUsed m) new true ≡ false =
-      ap (λ i. getD (cellsUsed m) i true) (o .next) ∙ next-place-free (cellsUsed m) (m .newcell) (omega arith) (omega arith) in
-      let i = free-inside (cellsUsed m) new f in
-      omega arith
+      let h : marked (cellsUsed m) < 32 = ltb-lt (marked (cellsUsed m)) 32 has in
+      next-place-free (cellsUsed m) (m .newcell) (omega arith) (omega arith)

@@ -4,7 +4,7 @@ use mathlib.Core.List.{List, [], _∷_, _++_, map, append-nil}
 use Prim.Native.Nat.{ℕ, zero, suc, _+_, _-_, _<_, _≤_}
 use native.Mathlib.Numerals.{add-one}
 use native.Mathlib.Omega.{arith}
-use lib.ListN.{length, getD, set, take, drop, length-map, length-append, length-drop, drop-of-length-le}
+use lib.ListN.{length, getD, set, take, drop, length-map, drop-of-length-le}
 use lib.Seq.{take-suc, drop-cons, set-at, getD-at, append-snoc, length-take-le, take-all}
 
 pub getD-any : {A : Type 0} (l : List A) (i : ℕ) (d e : A) → i < length l → getD l i d ≡ getD l i e
@@ -31,14 +31,6 @@ module _ {A B : Type 0} (f : A → B) (xs : List A) (old : List B) where
 
   pub mapping-none : length old ≡ length xs → Mapping f xs old 0 old
   mapping-none s = record { so-far = refl; size = s }
-
-  pub mapping-long : (i : ℕ) (out : List B) → Mapping f xs old i out → i ≤ length xs → length out ≡ length xs
-  mapping-long i out o l =
-      let s : length old ≡ length xs = o .size in
-      let e : length out ≡ length (map f (take i xs)) + length (drop i old) = ap length (o .so-far) ∙ length-append (map f (take i xs)) (drop i old) in
-      let a : length (map f (take i xs)) ≡ i = front-long i l in
-      let b : length (drop i old) ≡ length old - i = length-drop i old in
-      omega arith
 
   pub mapping-more :
       (i : ℕ) (out : List B) (v : B) (d : A)

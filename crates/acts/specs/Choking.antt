@@ -17,8 +17,9 @@ use Rattle.model.specs.declared.token.State.the-variants as states
 use Rattle.model.specs.declared.token.Token.{Token}
 use Rattle.model.specs.declared.cell.Cell.{Cell}
 use Rattle.model.specs.declared.record.Machine.{Machine}
-use Rattle.acts.specs.Unfinished.{OrdersKept}
+use Rattle.acts.specs.Unfinished.{OrderKept, OrdersKept}
 use Rattle.acts.specs.declared.order.Order.{Order}
+use Rattle.acts.specs.declared.order.Orders.{Orders}
 
 unfoldable pub parentInRange : ℕ → Cell → Bool
 parentInRange cells c = placeInRange cells (c .parent)
@@ -60,6 +61,19 @@ behindIf false p o = o
 -- an order with those of some names behind it that are marked
 abbrev pub gathering : List ℕ → List Bool → List ℕ → Order
 gathering xs marks names = orderOf (xs ++ filter (λ (p : ℕ). getD marks p false) names)
+
+-- the queue and the wait order after a choke: the ready names of both, the queue's first; the names that wait
+abbrev pub reorderedOf : (queue waits : List ℕ) (ready waiting : List Bool) → Orders
+reorderedOf queue waits ready waiting =
+    record { queue = gathering [] ready (queue ++ waits); waits = gathering [] waiting waits }
+
+-- what the index rules say of the two orders, and that the queue has a name at the index
+pub record Reordering (queue : List ℕ) (count index : ℕ) (waits : List ℕ) (n : ℕ) : Type 0 where
+  pub order : OrderKept queue count
+  pub inside : index < count
+  pub room : count + n ≤ 64
+  pub ready : all (λ (p : ℕ). ltb p 64) (take count queue) ≡ true
+  pub waiting : all (λ (p : ℕ). ltb p 64) (take n waits) ≡ true
 
 -- what the index rules say of the record at a choke of the cell c
 pub record ChokingKept (m : Machine) (place c : ℕ) : Type 0 where

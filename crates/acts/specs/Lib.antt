@@ -5,3 +5,5 @@ pub mod Looking
 pub mod Unfinished
 pub mod Choking
 pub mod Acting
+pub mod Effects
+pub mod Writing

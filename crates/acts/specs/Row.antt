@@ -1,11 +1,11 @@
 -- A node's row in the dag's array: the twelve words from an index on. Assumes nothing: these are definitions.
 use mathlib.Core.Path.{_≡_}
 use mathlib.Core.Bool.{true}
-use mathlib.Core.List.{List}
+use mathlib.Core.List.{List, [], _∷_}
 use Prim.Native.Nat.{ℕ, _+_, _*_, _≤_}
 use lib.ListN.{length, getD, take, drop}
 use Rattle.model.specs.Test.{all}
-use Rattle.model.specs.Job.Node.{paramKept}
+use Rattle.model.specs.Job.Node.{Node, paramKept}
 use Rattle.model.specs.Job.Syntax.{Param}
 use Rattle.model.specs.Job.Words.{headWords, paramsFrom}
 
@@ -25,3 +25,24 @@ pub record ParamsKept (ws : List ℕ) (at : ℕ) : Type 0 where
   pub inside : at + 12 ≤ 12331
   pub few : getD ws (at + 3) 0 ≤ 4
   pub kept : all paramKept (paramsAt ws at) ≡ true
+
+-- a node by its kind and numbers
+abbrev pub nodeOfKind : (a b c : ℕ) → List Param → (kind : ℕ) → Node
+nodeOfKind a b c ps kind =
+    getD
+    (Node.stop
+    ∷ Node.site a ps b
+    ∷ Node.call a ps b
+    ∷ Node.fork a b
+    ∷ Node.assign a b
+    ∷ Node.remove a b
+    ∷ Node.where' c a b
+    ∷ Node.choke
+    ∷ Node.return
+    ∷ Node.publish
+    ∷ [])
+    kind Node.unknown
+
+-- the node whose row begins at a word, by its kind
+abbrev pub nodeIn : List ℕ → (at : ℕ) → (kind : ℕ) → Node
+nodeIn ws at kind = nodeOfKind (getD ws (at + 1) 0) (getD ws (at + 2) 0) (getD ws (at + 3) 0) (paramsAt ws at) kind

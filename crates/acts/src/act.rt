@@ -1,37 +1,38 @@
-// The ten instructions: the token at a place of the queue acts. `p` is its place in the table, `at` the first word of its node's row.
+// The ten instructions, on what a step reads of the record. `at` is the first word of the node's row.
 ghost use mathlib.Core.Path.{_≡_};
-ghost use mathlib.Core.List.{[]};
 ghost use Prim.Native.Nat.{_+_, _<_};
 ghost use lib.ListN.{getD, take};
-ghost use lib.Dec.{ltb};
-ghost use Rattle.model.specs.Machine.Reply.{refuses, unless};
+ghost use Rattle.model.specs.Job.Node.{nodeAt};
+ghost use Rattle.model.specs.Job.Words.{dagOf};
 ghost use Rattle.model.specs.Machine.Step.{valueOf};
-ghost use Rattle.model.specs.Machine.Step as Step;
 ghost use Rattle.model.specs.declared.reply.Refusal.the-variants as refusals;
+ghost use Rattle.model.specs.declared.reply.Reply.the-variants as replies;
 ghost use Rattle.acts.specs.Said.{modelSaid};
-ghost use Rattle.acts.specs.Unfinished.{effectOutcome, taken, Taking};
-ghost use Rattle.acts.specs.Acting.{Rules, Acting, TokenPlace, CellPlace, Beside, Known, stepped};
+ghost use Rattle.acts.specs.Acting.{Beside, NodeRow, ViewKept, Known, Acts};
+ghost use Rattle.acts.specs.Effects as Effects;
+ghost use Rattle.acts.specs.Effects.{instruction};
+ghost use Rattle.acts.specs.Row.{nodeIn};
+ghost use lib.Dec.{ltb};
 use crate::change::being;
 use crate::change::binding;
 use crate::change::holding;
 use crate::change::in_cell;
 use crate::change::to;
-use crate::effect::called_out;
+use crate::effect::Effect;
+use crate::effect::beside;
 use crate::effect::chokes;
-use crate::effect::ended;
-use crate::effect::entered;
-use crate::effect::forked;
+use crate::effect::ends;
 use crate::effect::goes_on;
-use crate::effect::split;
-use crate::effect::waited;
+use crate::effect::one;
+use crate::effect::refuses;
+use crate::effect::two;
 use crate::look::look_up;
 use crate::pass::formals;
 use crate::pass::word;
 use crate::site::Said;
 use crate::site::builtin;
+use crate::view::View;
 use model::cell::Cell;
-use model::record::Machine;
-use model::reply::Outcome;
 use model::reply::Refusal;
 use model::reply::Reply;
 use model::token::Held;
@@ -40,39 +41,12 @@ use model::token::Slot;
 use model::token::State;
 use model::token::Token;
 
-// "A refusal leaves machine and dag as before the call."
-pub fn refused(machine: Machine, refusal: Refusal) -> Outcome
-    ensures { λ r. ⌜ r ≡ effectOutcome machine (refuses refusal) ⌝ }
-{
-    Outcome {
-        reply: Reply::Refused(refusal),
-        values: [0; 4],
-        machine,
-    }
-}
-
 // A word of the dag that is the number of a node.
 pub fn node(dag: &[u32; 12331], index: usize) -> u16
     requires { ⌜ (index < 12331) × (getD (now dag) index 0 < 65536) ⌝ }
     ensures { λ r. ⌜ r ≡ getD (now (dag .entry)) index 0 ⌝ }
 {
     word(dag, index) as u16
-}
-
-pub fn stop(machine: Machine, dag: &[u32; 12331], place: usize, p: usize, at: usize) -> Outcome
-    requires { ⌜ Acting (now dag) machine place p at × (getD (now dag) at 0 ≡ 0) ⌝ }
-    ensures { λ r. ⌜ r ≡ stepped (now (dag .entry)) machine place ⌝ }
-{
-    ended(machine, place, p, Reply::Done)
-}
-
-pub fn publish(machine: Machine, dag: &[u32; 12331], place: usize, p: usize, at: usize) -> Outcome
-    requires { ⌜ Acting (now dag) machine place p at × (getD (now dag) at 0 ≡ 9) ⌝ }
-    ensures { λ r. ⌜ r ≡ stepped (now (dag .entry)) machine place ⌝ }
-{
-    let token = machine.tokens[p];
-    let held = token.value;
-    ended(machine, place, p, Reply::Published(value_of(held)))
 }
 
 // The value that a token has. "A ready token at .. has a value."
@@ -85,99 +59,88 @@ pub fn value_of(held: Held) -> i32
     }
 }
 
-pub fn fork(
-    machine: Machine,
-    dag: &[u32; 12331],
-    place: usize,
-    p: usize,
-    at: usize,
-    new: usize,
-    room: bool,
-) -> Outcome
-    requires { ⌜ Acting (now dag) machine place p at × (getD (now dag) at 0 ≡ 3) × TokenPlace (now dag) machine new room ⌝ }
-    ensures { λ r. ⌜ r ≡ stepped (now (dag .entry)) machine place ⌝ }
+fn publish(view: View) -> Effect
+    ensures { λ r. ⌜ r ≡ Effects.ends view (replies.Published (valueOf (view .token .value))) ⌝ }
 {
-    if !room {
-        return refused(machine, Refusal::TokenLimit);
-    }
-    let token = machine.tokens[p];
-    let left = to(token, node(dag, at + 1));
-    let right = to(token, node(dag, at + 2));
-    forked(machine, place, p, left, new, right)
+    let token = view.token;
+    let held = token.value;
+    ends(view, Reply::Published(value_of(held)))
 }
 
-pub fn assign(machine: Machine, dag: &[u32; 12331], place: usize, p: usize, at: usize) -> Outcome
-    requires { ⌜ Acting (now dag) machine place p at × (getD (now dag) at 0 ≡ 4) ⌝ }
-    ensures { λ r. ⌜ r ≡ stepped (now (dag .entry)) machine place ⌝ }
+fn fork(view: View, dag: &[u32; 12331], at: usize) -> Effect
+    requires { ⌜ NodeRow (now dag) at 3 ⌝ }
+    ensures { λ r. ⌜ r ≡ instruction view (dagOf (now (dag .entry))) (nodeIn (now (dag .entry)) at 3) ⌝ }
 {
-    let token = machine.tokens[p];
+    let room = view.room;
+    if !room {
+        return refuses(view, Refusal::TokenLimit);
+    }
+    let token = view.token;
+    let calls = view.calls;
+    let left = to(token, node(dag, at + 1));
+    let right = to(token, node(dag, at + 2));
+    beside(calls, left, true, right)
+}
+
+fn assign(view: View, dag: &[u32; 12331], at: usize) -> Effect
+    requires { ⌜ NodeRow (now dag) at 4 ⌝ }
+    ensures { λ r. ⌜ r ≡ instruction view (dagOf (now (dag .entry))) (nodeIn (now (dag .entry)) at 4) ⌝ }
+{
+    let token = view.token;
     let held = token.value;
     let x = word(dag, at + 1) as usize;
     let bound = binding(token, Slot::Value(value_of(held)), x);
-    goes_on(machine, place, p, to(bound, node(dag, at + 2)))
+    goes_on(view, false, to(bound, node(dag, at + 2)))
 }
 
-pub fn remove(machine: Machine, dag: &[u32; 12331], place: usize, p: usize, at: usize) -> Outcome
-    requires { ⌜ Acting (now dag) machine place p at × (getD (now dag) at 0 ≡ 5) ⌝ }
-    ensures { λ r. ⌜ r ≡ stepped (now (dag .entry)) machine place ⌝ }
+fn remove(view: View, dag: &[u32; 12331], at: usize) -> Effect
+    requires { ⌜ NodeRow (now dag) at 5 ⌝ }
+    ensures { λ r. ⌜ r ≡ instruction view (dagOf (now (dag .entry))) (nodeIn (now (dag .entry)) at 5) ⌝ }
 {
-    let token = machine.tokens[p];
+    let token = view.token;
     let x = word(dag, at + 1) as usize;
     let bound = binding(token, Slot::Empty, x);
-    goes_on(machine, place, p, to(bound, node(dag, at + 2)))
+    goes_on(view, false, to(bound, node(dag, at + 2)))
 }
 
 // Where: "left binds x to the new cell; right is new and belongs to it".
-pub fn prune(
-    machine: Machine,
-    dag: &[u32; 12331],
-    place: usize,
-    p: usize,
-    at: usize,
-    new: usize,
-    room: bool,
-    below: usize,
-    cell_room: bool,
-) -> Outcome
-    requires { ⌜ Acting (now dag) machine place p at × (getD (now dag) at 0 ≡ 6) × TokenPlace (now dag) machine new room × CellPlace (now dag) machine below «cell_room» ⌝ }
-    ensures { λ r. ⌜ r ≡ stepped (now (dag .entry)) machine place ⌝ }
+fn prune(view: View, dag: &[u32; 12331], at: usize) -> Effect
+    requires { ⌜ NodeRow (now dag) at 6 × ViewKept view ⌝ }
+    ensures { λ r. ⌜ r ≡ instruction view (dagOf (now (dag .entry))) (nodeIn (now (dag .entry)) at 6) ⌝ }
 {
+    let room = view.room;
     if !room {
-        return refused(machine, Refusal::TokenLimit);
+        return refuses(view, Refusal::TokenLimit);
     }
+    let cell_room = view.cellroom;
     if !cell_room {
-        return refused(machine, Refusal::CellLimit);
+        return refuses(view, Refusal::CellLimit);
     }
-    let token = machine.tokens[p];
+    let token = view.token;
+    let calls = view.calls;
+    let below = view.below as u8;
     let x = word(dag, at + 3) as usize;
-    let bound = binding(token, Slot::Cell(below as u8), x);
+    let bound = binding(token, Slot::Cell(below), x);
     let left = to(bound, node(dag, at + 1));
-    let right = in_cell(to(token, node(dag, at + 2)), below as u8);
+    let right = in_cell(to(token, node(dag, at + 2)), below);
     let parent = token.cell;
-    let cell = Cell {
-        parent,
-        value: Held::Nothing,
-    };
-    split(machine, place, p, left, new, right, below, cell)
+    let value = Held::Nothing;
+    let cell = Cell { parent, value };
+    two(calls, left, true, right, true, cell)
 }
 
 // Definition call: "the token becomes a frame at next, the callee is new, in the token's cell, with no value and only its formals bound".
-pub fn call(
-    machine: Machine,
-    dag: &[u32; 12331],
-    place: usize,
-    p: usize,
-    at: usize,
-    new: usize,
-    room: bool,
-) -> Outcome
-    requires { ⌜ Acting (now dag) machine place p at × (getD (now dag) at 0 ≡ 2) × TokenPlace (now dag) machine new room ⌝ }
-    ensures { λ r. ⌜ r ≡ stepped (now (dag .entry)) machine place ⌝ }
+fn call(view: View, dag: &[u32; 12331], at: usize) -> Effect
+    requires { ⌜ NodeRow (now dag) at 2 × ViewKept view ⌝ }
+    ensures { λ r. ⌜ r ≡ instruction view (dagOf (now (dag .entry))) (nodeIn (now (dag .entry)) at 2) ⌝ }
 {
+    let room = view.room;
     if !room {
-        return refused(machine, Refusal::TokenLimit);
+        return refuses(view, Refusal::TokenLimit);
     }
-    let token = machine.tokens[p];
+    let token = view.token;
+    let calls = view.calls;
+    let p = view.p as u8;
     let binds = token.binds;
     let given = formals(dag, at, binds);
     let body = word(dag, at + 1) as usize;
@@ -188,160 +151,129 @@ pub fn call(
         node: root,
         binds: given,
         value: Held::Nothing,
-        caller: Place::At(p as u8),
+        caller: Place::At(p),
         cell,
         state: State::Ready,
     };
-    entered(machine, place, p, frame, new, callee)
+    beside(calls, frame, false, callee)
 }
 
 // Return: "the place takes a copy of the frame with the value". "A token at return names a frame."
-pub fn give_back(machine: Machine, dag: &[u32; 12331], place: usize, p: usize, at: usize) -> Outcome
-    requires { ⌜ Acting (now dag) machine place p at × (getD (now dag) at 0 ≡ 8) ⌝ }
-    ensures { λ r. ⌜ r ≡ stepped (now (dag .entry)) machine place ⌝ }
+fn give_back(view: View) -> Effect
+    ensures { λ r. ⌜ r ≡ Effects.returned view (view .token .caller) ⌝ }
 {
-    let token = machine.tokens[p];
+    let token = view.token;
+    let frame = view.frame;
     let caller = token.caller;
     let value = token.value;
     match caller {
-        Place::Nowhere => refused(machine, Refusal::Rule),
-        Place::At(f) => {
-            let frame = machine.tokens[f as usize];
-            goes_on(
-                machine,
-                place,
-                p,
-                being(holding(frame, value), State::Ready),
-            )
-        }
+        Place::Nowhere => refuses(view, Refusal::Rule),
+        Place::At(_) => goes_on(view, false, being(holding(frame, value), State::Ready)),
     }
 }
 
 // "A token at choke names a cell."
-pub fn choke(machine: Machine, dag: &[u32; 12331], place: usize, p: usize, at: usize) -> Outcome
-    requires { ⌜ Acting (now dag) machine place p at × (getD (now dag) at 0 ≡ 7) ⌝ }
-    ensures { λ r. ⌜ r ≡ stepped (now (dag .entry)) machine place ⌝ }
+fn choke(view: View) -> Effect
+    ensures { λ r. ⌜ r ≡ Effects.choking view (view .token .cell) ⌝ }
 {
-    let token = machine.tokens[p];
+    let token = view.token;
     let home = token.cell;
-    let held = token.value;
     match home {
-        Place::Nowhere => refused(machine, Refusal::Rule),
-        Place::At(c) => chokes(machine, place, c as usize, held),
+        Place::Nowhere => refuses(view, Refusal::Rule),
+        Place::At(c) => chokes(view, c),
     }
 }
 
 // "A built-in replies and the token goes on, or it is silent and the token ends."
-pub fn replied(
-    machine: Machine,
-    place: usize,
-    p: usize,
-    token: Token,
-    next: u16,
-    said: Said,
-) -> Outcome
-    requires { ⌜ Taking machine place p ⌝ }
-    ensures { λ r. ⌜ r ≡ effectOutcome machine (Step.replied (taken machine place) p token next (modelSaid said)) ⌝ }
+fn replied(view: View, next: u16, said: Said) -> Effect
+    ensures { λ r. ⌜ r ≡ Effects.replied view next (modelSaid said) ⌝ }
 {
+    let token = view.token;
     match said {
-        Said::Gives(v) => goes_on(machine, place, p, to(holding(token, Held::Value(v)), next)),
-        Said::Silent => ended(machine, place, p, Reply::Done),
+        Said::Gives(v) => goes_on(view, true, to(holding(token, Held::Value(v)), next)),
+        Said::Silent => ends(view, Reply::Done),
     }
 }
 
 // "13: outside call, all values there, after 1,000,000 such calls."
-pub fn outside(
-    machine: Machine,
-    place: usize,
-    p: usize,
-    token: Token,
-    next: u16,
-    site: u16,
-    values: [i32; 4],
-    count: u8,
-) -> Outcome
-    requires { ⌜ Taking machine place p × Beside values count ⌝ }
-    ensures { λ r. ⌜ r ≡ effectOutcome machine (unless (ltb (machine .calls) 1000000) refusals.CallLimit (Step.calledOut (taken machine place) p token site (take count values) next)) ⌝ }
+fn outside(view: View, next: u16, site: u16, values: [i32; 4], count: u8) -> Effect
+    requires { ⌜ Beside values count ⌝ }
+    ensures { λ r. ⌜ r ≡ Effects.unless view (ltb (view .calls) 1000000) refusals.CallLimit (Effects.calledOut view site (take count values) next) ⌝ }
 {
-    let handle = machine.calls;
+    let token = view.token;
+    let handle = view.calls;
     if handle < 1000000 {
         let called = to(being(token, State::Called(handle)), next);
-        return called_out(machine, place, p, called, site, values, count);
+        return one(
+            Reply::Called(handle, site, count),
+            values,
+            called,
+            false,
+            false,
+            handle + 1,
+            true,
+        );
     }
-    refused(machine, Refusal::CallLimit)
+    refuses(view, Refusal::CallLimit)
 }
 
 // A site call whose values are all there.
-pub fn known(
-    machine: Machine,
-    dag: &[u32; 12331],
-    place: usize,
-    p: usize,
-    at: usize,
-    values: [i32; 4],
-    count: u8,
-) -> Outcome
-    requires { ⌜ Acting (now dag) machine place p at × (getD (now dag) at 0 ≡ 1) × Known (now dag) machine p at values count ⌝ }
-    ensures { λ r. ⌜ r ≡ stepped (now (dag .entry)) machine place ⌝ }
+fn known(view: View, dag: &[u32; 12331], at: usize, values: [i32; 4], count: u8) -> Effect
+    requires { ⌜ NodeRow (now dag) at 1 × Known (now dag) view at values count ⌝ }
+    ensures { λ r. ⌜ r ≡ instruction view (dagOf (now (dag .entry))) (nodeIn (now (dag .entry)) at 1) ⌝ }
 {
-    let token = machine.tokens[p];
     let next = node(dag, at + 2);
     let site = word(dag, at + 1);
     if site < 7 {
         let a = values[0];
         let b = values[1];
         let said = builtin(site, a, b);
-        return replied(machine, place, p, token, next, said);
+        return replied(view, next, said);
     }
-    outside(machine, place, p, token, next, site as u16, values, count)
+    outside(view, next, site as u16, values, count)
 }
 
 // Site call: "parameters in order: the first unset cell makes the token wait there".
-pub fn site(machine: Machine, dag: &[u32; 12331], place: usize, p: usize, at: usize) -> Outcome
-    requires { ⌜ Acting (now dag) machine place p at × (getD (now dag) at 0 ≡ 1) ⌝ }
-    ensures { λ r. ⌜ r ≡ stepped (now (dag .entry)) machine place ⌝ }
+fn site(view: View, dag: &[u32; 12331], at: usize) -> Effect
+    requires { ⌜ NodeRow (now dag) at 1 × ViewKept view ⌝ }
+    ensures { λ r. ⌜ r ≡ instruction view (dagOf (now (dag .entry))) (nodeIn (now (dag .entry)) at 1) ⌝ }
 {
-    let token = machine.tokens[p];
+    let token = view.token;
     let binds = token.binds;
     let given = formals(dag, at, binds);
-    let cells = machine.cells;
+    let cells = view.cells;
+    let calls = view.calls;
     let count = word(dag, at + 3) as usize;
     let looked = look_up(cells, given, count);
     let unset = looked.unset;
     let values = looked.values;
     let n = looked.count;
     match unset {
-        Place::At(c) => waited(machine, place, p, being(token, State::Waiting(c))),
-        Place::Nowhere => known(machine, dag, place, p, at, values, n),
+        Place::At(c) => {
+            let waiting = being(token, State::Waiting(c));
+            one(Reply::Waits, [0; 4], waiting, false, true, calls, true)
+        }
+        Place::Nowhere => known(view, dag, at, values, n),
     }
 }
 
-// One step of the token at a place of the queue, before what is not in use is made blank.
-pub fn act(
-    machine: Machine,
-    dag: &[u32; 12331],
-    place: usize,
-    new: usize,
-    room: bool,
-    below: usize,
-    cell_room: bool,
-) -> Outcome
-    requires { ⌜ Rules (now dag) machine place × TokenPlace (now dag) machine new room × CellPlace (now dag) machine below «cell_room» ⌝ }
-    ensures { λ r. ⌜ r ≡ stepped (now (dag .entry)) machine place ⌝ }
+// What the token of a view does at its node.
+pub fn act(view: View, dag: &[u32; 12331]) -> Effect
+    requires { ⌜ Acts (now dag) view ⌝ }
+    ensures { λ r. ⌜ r ≡ instruction view (dagOf (now (dag .entry))) (nodeAt (dagOf (now (dag .entry))) (view .token .node)) ⌝ }
 {
-    let p = machine.queue[place] as usize;
-    let token = machine.tokens[p];
+    let token = view.token;
     let at = 67 + 12 * (token.node as usize);
     match word(dag, at) {
-        0 => stop(machine, dag, place, p, at),
-        1 => site(machine, dag, place, p, at),
-        2 => call(machine, dag, place, p, at, new, room),
-        3 => fork(machine, dag, place, p, at, new, room),
-        4 => assign(machine, dag, place, p, at),
-        5 => remove(machine, dag, place, p, at),
-        6 => prune(machine, dag, place, p, at, new, room, below, cell_room),
-        7 => choke(machine, dag, place, p, at),
-        8 => give_back(machine, dag, place, p, at),
-        _ => publish(machine, dag, place, p, at),
+        0 => ends(view, Reply::Done),
+        1 => site(view, dag, at),
+        2 => call(view, dag, at),
+        3 => fork(view, dag, at),
+        4 => assign(view, dag, at),
+        5 => remove(view, dag, at),
+        6 => prune(view, dag, at),
+        7 => choke(view),
+        8 => give_back(view),
+        _ => publish(view),
     }
 }

@@ -8,17 +8,15 @@ ghost use Rattle.model.specs.Test.{any};
 ghost use Rattle.model.specs.Machine.Rules.{handleOf, rulesKept};
 ghost use Rattle.model.specs.Job.Words.{dagOf};
 ghost use Rattle.acts.specs.Unfinished.{effectOutcome};
-use crate::act::refused;
 use crate::change::being;
 use crate::change::holding;
+use crate::refuse::refused;
 use model::record::Machine;
 use model::reply::Outcome;
 use model::reply::Refusal;
 use model::reply::Reply;
 use model::token::Held;
-use model::token::Place;
 use model::token::State;
-use model::token::Token;
 
 // Is a token called out under the handle?
 pub fn is_open(state: State, handle: u32) -> bool
@@ -33,39 +31,30 @@ pub fn is_open(state: State, handle: u32) -> bool
     }
 }
 
-// The place of the token called out under a handle.
-pub fn holder(tokens: [Token; Machine::TOKENS], handle: u32) -> Place
-    ensures { λ r. ⌜ r ≡ Answer.holder handle 0 tokens ⌝ }
-{
-    let mut i: usize = 0;
-    while i < Machine::TOKENS {
-        let token = tokens[i];
-        let state = token.state;
-        if is_open(state, handle) {
-            return Place::At(i as u8);
-        }
-        i += 1;
-    }
-    Place::Nowhere
-}
-
-// "12: answer to a handle that is not open." The rules are kept.
+// "12: answer to a handle that is not open." The rules are kept. The search is here, so that the table is not copied for it.
 pub fn answered(mut machine: Machine, dag: &[u32; 12331], handle: u32, value: i32) -> Outcome
     requires { ⌜ rulesKept paper (dagOf (now dag)) machine ≡ true ⌝ }
     ensures { λ r. ⌜ r ≡ effectOutcome machine (Answer.answered machine value (Answer.holder handle 0 (machine .tokens))) ⌝ }
 {
-    let tokens = machine.tokens;
-    let Place::At(c) = holder(tokens, handle) else {
-        return refused(machine, Refusal::NotOpen);
-    };
-    let p = c as usize;
-    let token = machine.tokens[p];
-    let last = machine.queued;
-    machine.tokens[p] = being(holding(token, Held::Value(value)), State::Ready);
-    machine.queue[last] = c;
-    machine.queued = last + 1;
+    let mut p: usize = 0;
+    while p < Machine::TOKENS {
+        let token = machine.tokens[p];
+        let state = token.state;
+        if is_open(state, handle) {
+            let last = machine.queued;
+            machine.tokens[p] = being(holding(token, Held::Value(value)), State::Ready);
+            machine.queue[last] = p as u8;
+            machine.queued = last + 1;
+            return Outcome {
+                reply: Reply::Done,
+                values: [0; 4],
+                machine,
+            };
+        }
+        p += 1;
+    }
     Outcome {
-        reply: Reply::Done,
+        reply: Reply::Refused(Refusal::NotOpen),
         values: [0; 4],
         machine,
     }

@@ -1,16 +1,18 @@
 // Choke: "set the cell; all tokens of it and of its descendants end; waiters become ready".
 ghost use mathlib.Core.Path.{_≡_};
 ghost use mathlib.Core.Bool.{true};
-ghost use mathlib.Core.List.{map};
 ghost use Rattle.model.specs.Test.{all};
 ghost use Rattle.model.specs.Machine.Active as Active;
 ghost use Rattle.model.specs.Machine.Rules.{placeInRange, isReady, isWaiting};
-ghost use Rattle.model.specs.Machine.Step.{waitsAt};
-ghost use Rattle.acts.specs.Choking.{parentInRange, homeInRange, Below, markedAt, chokeMarked, readyAfter, waitingAfter};
+ghost use Rattle.model.specs.Machine.Step as Step;
+ghost use Rattle.acts.specs.Choking.{parentInRange, homeInRange, Below, markedAt, chokeMarked, ChokingKept};
+ghost use Rattle.acts.specs.Unfinished.{taken};
 use crate::change::being;
 use crate::change::blank;
+use crate::order::reordered;
 use model::cell::Cell;
 use model::record::Machine;
+use model::token::Held;
 use model::token::Place;
 use model::token::State;
 use model::token::Token;
@@ -61,7 +63,7 @@ pub fn is_marked(marks: [bool; Machine::CELLS], place: Place) -> bool
 }
 
 pub fn waits_at(state: State, cell: u8) -> bool
-    ensures { λ r. ⌜ r ≡ waitsAt cell state ⌝ }
+    ensures { λ r. ⌜ r ≡ Step.waitsAt cell state ⌝ }
 {
     match state {
         State::Waiting(c) => cell == c,
@@ -112,36 +114,42 @@ pub fn choked(token: Token, marks: [bool; Machine::CELLS], cell: u8) -> Token
     token
 }
 
-// All tokens after a choke, and which of them are ready or waiting.
-pub struct Chokes {
-    pub tokens: [Token; Machine::TOKENS],
-    pub ready: [bool; Machine::TOKENS],
-    pub waiting: [bool; Machine::TOKENS],
-}
-
-pub fn choke_all(
-    mut tokens: [Token; Machine::TOKENS],
-    marks: [bool; Machine::CELLS],
-    cell: u8,
-) -> Chokes
-    requires { ⌜ all (homeInRange 32) tokens ≡ true ⌝ }
-    ensures { λ r. ⌜ (r .tokens ≡ map (chokeMarked marks cell) tokens) × (r .ready ≡ map (readyAfter marks cell) tokens) × (r .waiting ≡ map (waitingAfter marks cell) tokens) ⌝ }
+// "Set the cell; all tokens of it and of its descendants end; waiters become ready, longest wait first." The rows are
+// changed in place: the record is handed to no other function.
+pub fn chokes(mut machine: Machine, place: usize, cell: usize, value: Held) -> Machine
+    requires { ⌜ ChokingKept machine place cell ⌝ }
+    ensures { λ r. ⌜ r ≡ Step.choked cell value (taken machine place) ⌝ }
 {
+    let cells = machine.cells;
+    let marks = below(cells, cell as u8);
     let mut ready = [false; Machine::TOKENS];
     let mut waiting = [false; Machine::TOKENS];
     let mut i: usize = 0;
     while i < Machine::TOKENS {
-        let before = tokens[i];
-        let token = choked(before, marks, cell);
+        let before = machine.tokens[i];
+        let token = choked(before, marks, cell as u8);
         let state = token.state;
-        tokens[i] = token;
+        machine.tokens[i] = token;
         ready[i] = is_ready(state);
         waiting[i] = is_waiting(state);
         i += 1;
     }
-    Chokes {
-        tokens,
-        ready,
-        waiting,
-    }
+    let queue = machine.queue;
+    let n = machine.queued;
+    let waits = machine.waits;
+    let k = machine.waiting;
+    let after = reordered(queue, n, place, waits, k, ready, waiting);
+    let first = after.queue;
+    let names = first.names;
+    machine.queue = names;
+    machine.queued = first.count;
+    let second = after.waits;
+    let left = second.names;
+    machine.waits = left;
+    machine.waiting = second.count;
+    let old = machine.cells[cell];
+    let parent = old.parent;
+    let row = Cell { parent, value };
+    machine.cells[cell] = row;
+    machine
 }

@@ -7,4 +7,7 @@ pub mod effect;
 pub mod look;
 pub mod order;
 pub mod pass;
+pub mod refuse;
 pub mod site;
+pub mod view;
+pub mod write;

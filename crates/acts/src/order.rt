@@ -9,7 +9,8 @@ ghost use Prim.Native.Nat.{ℕ, _+_};
 ghost use lib.Dec.{ltb};
 ghost use Rattle.model.specs.Test.{all};
 ghost use Rattle.acts.specs.Unfinished.{OrderKept};
-ghost use Rattle.acts.specs.Choking.{orderOf, behindIf, gathering};
+ghost use Rattle.acts.specs.Writing.{RoomIf};
+ghost use Rattle.acts.specs.Choking.{orderOf, behindIf, gathering, Reordering, reorderedOf};
 use model::record::Machine;
 
 // The names of an order, and how many they are.
@@ -49,7 +50,7 @@ pub fn none() -> Order
 
 // The order with a name behind it, if it is to be kept.
 pub fn behind(mut order: Order, name: u8, keep: bool) -> Order
-    requires { ⌜ order .count < 64 ⌝ }
+    requires { ⌜ RoomIf keep (order .count) ⌝ }
     ensures { λ r. ⌜ r ≡ behindIf keep name order ⌝ }
 {
     if keep {
@@ -95,4 +96,33 @@ pub fn gathered_both(
 {
     let some = gathered(none(), first, n, marks);
     gathered(some, second, k, marks)
+}
+
+// The queue and the wait order after a choke.
+pub struct Orders {
+    pub queue: Order,
+    pub waits: Order,
+}
+
+// The token at an index of the queue is taken out. The ready names of both orders go into the queue, the queue's first; those that
+// wait still stay in the wait order.
+pub fn reordered(
+    queue: [u8; Machine::TOKENS],
+    count: usize,
+    index: usize,
+    waits: [u8; Machine::TOKENS],
+    n: usize,
+    ready: [bool; Machine::TOKENS],
+    waiting: [bool; Machine::TOKENS],
+) -> Orders
+    requires { ⌜ Reordering queue count index waits n ⌝ }
+    ensures { λ r. ⌜ r ≡ reorderedOf (without index (take count queue)) (take n waits) ready waiting ⌝ }
+{
+    let rest = left_out(queue, count, index);
+    let first = gathered_both(rest, count - 1, waits, n, ready);
+    let second = gathered(none(), waits, n, waiting);
+    Orders {
+        queue: first,
+        waits: second,
+    }
 }

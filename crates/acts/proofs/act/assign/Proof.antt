@@ -1,10 +1,10 @@
-use mir.Facts.{toZ-ofZ}
-use mir.Val.{SFits}
 use mir.Syntax.{w32}
-use Rattle.acts.proofs.Instructions.{assign-is, assign-numbers}
-use Rattle.acts.proofs.Acts.{p-inside, acting-taking, row-inside}
+use mir.Val.{SFits}
+use mir.Facts.{toZ-ofZ}
+use mathlib.Core.Path.{_∙_}
 use native.Mathlib.Omega.{arith}
-use mathlib.Core.Path.{_≡_, refl, sym, ap, subst, _∙_}
+use Rattle.acts.proofs.Rows.{row-inside, assign-numbers}
+use Rattle.acts.proofs.Clauses.{assign-is}
 use borrow.Author.Needs.{needs}
 use Rattle.acts.proofs.act.assign.Statement.{statement}
 use Rattle.acts.proofs.act.assign.Tie as tie
@@ -17,17 +17,11 @@ use Rattle.acts.proofs.change.to.Reads as to-reads
 use Rattle.acts.proofs.effect.goes_on.Reads as goes-on-reads
 use Rattle.acts.proofs.pass.word.Reads as word-reads
 
-mul-token : tie.Need-mul-token
-mul-token c = let l = p-inside _ _ _ _ _ (c .pre .0) in omega arith
-
-element-copy-out-token : tie.Need-element-copy-out-token
-element-copy-out-token c = p-inside _ _ _ _ _ (c .pre .0)
-
 add-word : tie.Need-add-word
 add-word c = search needs
 
 word-requires : tie.Need-word-requires
-word-requires c κs = let l = row-inside _ _ _ _ _ (c .before .pre .0) in omega arith
+word-requires c κs = let l = row-inside _ _ _ (c .before .pre) in omega arith
 
 cast-x : tie.Need-cast-x
 cast-x c = search needs
@@ -36,40 +30,29 @@ value-of-requires : tie.Need-value-of-requires
 value-of-requires c κs = search needs
 
 binding-requires : tie.Need-binding-requires
-binding-requires c κs =
-    let s = c .before .before .before in
-    let l = assign-numbers _ _ _ _ _ (s .pre .0) (s .pre .1) .0 in
-    omega (arith, c .before .word .ensures)
+binding-requires c κs = let l = assign-numbers _ _ (c .before .before .before .pre) .0 in omega (arith, c .before .word .ensures)
 
 add-node : tie.Need-add-node
 add-node c = search needs
 
 node-requires : tie.Need-node-requires
-node-requires c κs =
-    let s = c .before .before .before .before in
-    let l = row-inside _ _ _ _ _ (s .pre .0) in
-    (omega arith, assign-numbers _ _ _ _ _ (s .pre .0) (s .pre .1) .1)
+node-requires c κs = let l = row-inside _ _ _ (c .before .before .before .before .pre) in (omega arith, assign-numbers _ _ (c .before .before .before .before .pre) .1)
 
 to-requires : tie.Need-to-requires
 to-requires c κs = search needs
 
 goes-on-requires : tie.Need-goes-on-requires
-goes-on-requires c κs = acting-taking _ _ _ _ _ (c .before .before .before .before .before .before .pre .0)
+goes-on-requires c κs = search needs
 
 returns : tie.Need-returns
 returns c =
-    let s = c .before .before .before .before .before .before .before in
     let f : SFits w32 (c .before .before .before .before .value-of .result) = search needs in
-    c .goes-on .ensures
-    ∙ assign-is _ _ _ _ _ (s .pre .0) _ _ _ _ _ _ (s .pre .1) (c .before .before .before .before .value-of .ensures)
-    (c .before .before .before .binding .ensures ∙ rw (toZ-ofZ f)) (c .before .to .ensures) (c .before .before .before .before .before .word .ensures) (c .before .before .node .ensures)
+    c .goes-on .ensures ∙ assign-is _ _ (c .before .before .before .binding .ensures ∙ rw (toZ-ofZ f)) (c .before .before .before .before .before .word .ensures) (c .before .before .before .before .value-of .ensures) (c .before .to .ensures) (c .before .before .node .ensures)
 
 pub assign-spec : {M : Type 1} → statement M
 assign-spec =
     tie.close
     (tie.spec
-    mul-token
-    element-copy-out-token
     add-word
     word-requires
     cast-x

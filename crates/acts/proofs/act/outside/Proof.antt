@@ -1,14 +1,15 @@
-use Rattle.acts.proofs.Calls.{outside-is, outside-refused}
 use mathlib.Core.Path.{_∙_}
+use Rattle.model.proofs.Test.{le-not-ltb}
+use Rattle.acts.proofs.Clauses.{called-is, refused-is}
 use borrow.Author.Needs.{needs}
 use Rattle.acts.proofs.act.outside.Statement.{statement}
 use Rattle.acts.proofs.act.outside.Tie as tie
 use Rattle.acts.proofs.act.outside.Reads as reads
 use Rattle.acts.proofs.act.outside.Lts as lts
-use Rattle.acts.proofs.act.refused.Reads as refused-reads
 use Rattle.acts.proofs.change.being.Reads as being-reads
 use Rattle.acts.proofs.change.to.Reads as to-reads
-use Rattle.acts.proofs.effect.called_out.Reads as called-out-reads
+use Rattle.acts.proofs.effect.one.Reads as one-reads
+use Rattle.acts.proofs.effect.refuses.Reads as refuses-reads
 
 being-requires : tie.Need-being-requires
 being-requires c κs = search needs
@@ -16,23 +17,22 @@ being-requires c κs = search needs
 to-requires : tie.Need-to-requires
 to-requires c κs = search needs
 
-called-out-requires : tie.Need-called-out-requires
-called-out-requires c κs = search needs
+add-one : tie.Need-add-one
+add-one c = search needs
+
+one-requires : tie.Need-one-requires
+one-requires c κs = search needs
 
 returns : tie.Need-returns
-returns c =
-    let s = c .before .before .before .before in
-    c .called-out .ensures ∙ outside-is _ _ _ _ _ _ _ _ _ _ (s .pre .1) (c .before .before .before .if1 .taken) (c .before .before .being .ensures) (c .before .to .ensures)
+returns c = c .one .ensures ∙ called-is _ _ _ _ _ (c .before .before .before .before .before .pre) (c .before .before .before .if1 .taken) (c .before .before .being .ensures) (c .before .to .ensures)
 
-refused-requires : tie.Need-refused-requires
-refused-requires c κs = search needs
+refuses-requires : tie.Need-refuses-requires
+refuses-requires c κs = search needs
 
 returns-2 : tie.Need-returns-2
-returns-2 c =
-    let a = c .before .before .args in
-    c .refused .ensures ∙ outside-refused (a .machine) (a .place) (a .p) (a .token) (a .site) (a .values) (a .count) (a .next) (c .before .if1 .left)
+returns-2 c = c .refuses .ensures ∙ refused-is _ _ _ _ (le-not-ltb _ _ (c .before .if1 .left))
 
 pub outside-spec : {M : Type 1} → statement M
 outside-spec =
     tie.close
-    (tie.spec being-requires to-requires called-out-requires returns refused-requires returns-2)
+    (tie.spec being-requires to-requires add-one one-requires returns refuses-requires returns-2)

@@ -1,7 +1,7 @@
-use Rattle.acts.proofs.Instructions.{remove-is, remove-numbers}
-use Rattle.acts.proofs.Acts.{p-inside, acting-taking, row-inside}
+use mathlib.Core.Path.{_∙_}
 use native.Mathlib.Omega.{arith}
-use mathlib.Core.Path.{_≡_, refl, sym, ap, subst, _∙_}
+use Rattle.acts.proofs.Rows.{row-inside, remove-numbers}
+use Rattle.acts.proofs.Clauses.{remove-is}
 use borrow.Author.Needs.{needs}
 use Rattle.acts.proofs.act.remove.Statement.{statement}
 use Rattle.acts.proofs.act.remove.Tie as tie
@@ -13,54 +13,37 @@ use Rattle.acts.proofs.change.to.Reads as to-reads
 use Rattle.acts.proofs.effect.goes_on.Reads as goes-on-reads
 use Rattle.acts.proofs.pass.word.Reads as word-reads
 
-mul-token : tie.Need-mul-token
-mul-token c = let l = p-inside _ _ _ _ _ (c .pre .0) in omega arith
-
-element-copy-out-token : tie.Need-element-copy-out-token
-element-copy-out-token c = p-inside _ _ _ _ _ (c .pre .0)
-
 add-word : tie.Need-add-word
 add-word c = search needs
 
 word-requires : tie.Need-word-requires
-word-requires c κs = let l = row-inside _ _ _ _ _ (c .before .pre .0) in omega arith
+word-requires c κs = let l = row-inside _ _ _ (c .before .pre) in omega arith
 
 cast-x : tie.Need-cast-x
 cast-x c = search needs
 
 binding-requires : tie.Need-binding-requires
-binding-requires c κs =
-    let s = c .before .before in
-    let l = remove-numbers _ _ _ _ _ (s .pre .0) (s .pre .1) .0 in
-    omega (arith, c .word .ensures)
+binding-requires c κs = let l = remove-numbers _ _ (c .before .before .pre) .0 in omega (arith, c .word .ensures)
 
 add-node : tie.Need-add-node
 add-node c = search needs
 
 node-requires : tie.Need-node-requires
-node-requires c κs =
-    let s = c .before .before .before in
-    let l = row-inside _ _ _ _ _ (s .pre .0) in
-    (omega arith, remove-numbers _ _ _ _ _ (s .pre .0) (s .pre .1) .1)
+node-requires c κs = let l = row-inside _ _ _ (c .before .before .before .pre) in (omega arith, remove-numbers _ _ (c .before .before .before .pre) .1)
 
 to-requires : tie.Need-to-requires
 to-requires c κs = search needs
 
 goes-on-requires : tie.Need-goes-on-requires
-goes-on-requires c κs = acting-taking _ _ _ _ _ (c .before .before .before .before .before .pre .0)
+goes-on-requires c κs = search needs
 
 returns : tie.Need-returns
-returns c =
-    let s = c .before .before .before .before .before .before in
-    c .goes-on .ensures
-    ∙ remove-is _ _ _ _ _ (s .pre .0) _ _ _ _ _ (s .pre .1) (c .before .before .before .binding .ensures) (c .before .to .ensures) (c .before .before .before .before .word .ensures) (c .before .before .node .ensures)
+returns c = c .goes-on .ensures ∙ remove-is _ _ (c .before .before .before .binding .ensures) (c .before .before .before .before .word .ensures) (c .before .to .ensures) (c .before .before .node .ensures)
 
 pub remove-spec : {M : Type 1} → statement M
 remove-spec =
     tie.close
     (tie.spec
-    mul-token
-    element-copy-out-token
     add-word
     word-requires
     cast-x

@@ -1,12 +1,11 @@
-use mir.Facts.{toZ-ofZ}
-use mir.Val.{SFits}
-use mir.Syntax.{w32}
-use Rattle.acts.specs.Unfinished.{effectOutcome, taken}
-use Rattle.acts.specs.Said.{modelSaid}
-use Rattle.model.specs.declared.token.Held.the-variants as helds
-use Rattle.model.specs.Machine.Step as Step
-use Rattle.model.specs.Machine.Reply.{moves}
 use mathlib.Core.Path.{_≡_, sym, ap, _∙_}
+use Rattle.model.specs.Machine.Step as Step
+use Rattle.model.specs.declared.token.Held.the-variants as helds
+use Rattle.acts.specs.Effects as Effects
+use Rattle.acts.specs.Said.{modelSaid}
+use mir.Syntax.{w32}
+use mir.Val.{SFits}
+use mir.Facts.{toZ-ofZ}
 use borrow.Author.Needs.{needs}
 use Rattle.acts.proofs.act.replied.Statement.{statement}
 use Rattle.acts.proofs.act.replied.Tie as tie
@@ -14,7 +13,7 @@ use Rattle.acts.proofs.act.replied.Reads as reads
 use Rattle.acts.proofs.act.replied.Lts as lts
 use Rattle.acts.proofs.change.holding.Reads as holding-reads
 use Rattle.acts.proofs.change.to.Reads as to-reads
-use Rattle.acts.proofs.effect.ended.Reads as ended-reads
+use Rattle.acts.proofs.effect.ends.Reads as ends-reads
 use Rattle.acts.proofs.effect.goes_on.Reads as goes-on-reads
 
 enum-known-said : tie.Need-enum-known-said
@@ -32,27 +31,24 @@ goes-on-requires c κs = search needs
 enum-told : tie.Need-enum-told
 enum-told c = search needs
 
-ended-requires : tie.Need-ended-requires
-ended-requires c κs = search needs
+ends-requires : tie.Need-ends-requires
+ends-requires c κs = search needs
 
 returns : tie.Need-returns
-unfolding Step.replied Step.goesOn
+unfolding Effects.replied
 returns c =
-    let s = c .before .before .before .before .before .before in
+    let s = c .before .before .before .before .before .before .before in
     let v = c .before .before .before .before .said .given in
     let f : SFits w32 (v .0 .0) = search needs in
-    let u : c .before .to .result ≡ Step.to (s .args .next) (Step.holding (helds.Value (v .0 .0)) (s .args .token)) =
+    let u : c .before .to .result ≡ Step.to (s .args .next) (Step.holding (helds.Value (v .0 .0)) (s .args .view .token)) =
     c .before .to .ensures ∙ ap (Step.to (s .args .next)) (c .before .before .holding .ensures ∙ rw (toZ-ofZ f)) in
-    c .goes-on .ensures
-    ∙ ap (λ x. effectOutcome (s .args .machine) (moves (Step.enqueue (s .args .p) (Step.put (s .args .p) x (taken (s .args .machine) (s .args .place)))))) u
-    ∙ ap (λ x. effectOutcome (s .args .machine) (Step.replied (taken (s .args .machine) (s .args .place)) (s .args .p) (s .args .token) (s .args .next) (modelSaid x))) (sym (v .1))
+    c .goes-on .ensures ∙ ap (Effects.goesOn (s .args .view) _) u ∙ ap (λ x. Effects.replied (s .args .view) (s .args .next) (modelSaid x)) (sym (v .1))
 
 returns-2 : tie.Need-returns-2
-unfolding Step.replied Step.ended effectOutcome
+unfolding Effects.replied
 returns-2 c =
-    let s = c .before .before .before in
-    c .ended .ensures
-    ∙ ap (λ x. effectOutcome (s .args .machine) (Step.replied (taken (s .args .machine) (s .args .place)) (s .args .p) (s .args .token) (s .args .next) (modelSaid x))) (sym (c .before .enum-told .given .1))
+    let s = c .before .before .before .before in
+    c .ends .ensures ∙ ap (λ x. Effects.replied (s .args .view) (s .args .next) (modelSaid x)) (sym (c .before .enum-told .given .1))
 
 pub replied-spec : {M : Type 1} → statement M
 replied-spec =
@@ -63,6 +59,6 @@ replied-spec =
     to-requires
     goes-on-requires
     enum-told
-    ended-requires
+    ends-requires
     returns
     returns-2)

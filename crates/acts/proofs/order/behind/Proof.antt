@@ -1,3 +1,4 @@
+use native.Mathlib.Omega.{arith}
 use Rattle.acts.specs.Choking.{behindIf}
 use borrow.Author.Needs.{needs}
 use Rattle.acts.proofs.order.behind.Statement.{statement}
@@ -6,10 +7,10 @@ use Rattle.acts.proofs.order.behind.Reads as reads
 use Rattle.acts.proofs.order.behind.Lts as lts
 
 element-write-order : tie.Need-element-write-order
-element-write-order c = search needs
+element-write-order c = let l = c .before .pre (c .if1 .taken) in omega arith
 
 add-order : tie.Need-add-order
-add-order c = search needs
+add-order c = let l = c .before .pre (c .if1 .taken) in search (needs, l)
 
 returns : tie.Need-returns
 unfolding behindIf

@@ -1,10 +1,10 @@
 use Rattle.acts.proofs.Shapes.{no-values}
 use Rattle.acts.specs.Unfinished.{effectOutcome}
 use mathlib.Core.Path.{refl}
-use Rattle.acts.proofs.act.refused.Statement.{statement}
-use Rattle.acts.proofs.act.refused.Tie as tie
-use Rattle.acts.proofs.act.refused.Reads as reads
-use Rattle.acts.proofs.act.refused.Lts as lts
+use Rattle.acts.proofs.refuse.refused.Statement.{statement}
+use Rattle.acts.proofs.refuse.refused.Tie as tie
+use Rattle.acts.proofs.refuse.refused.Reads as reads
+use Rattle.acts.proofs.refuse.refused.Lts as lts
 
 returns : tie.Need-returns
 unfolding effectOutcome

@@ -1,0 +1,218 @@
+-- What the rules of a kept dag say of a node's row: the node that its words are, by its kind, and the numbers in them. Assumes nothing.
+use mathlib.Core.Path.{_≡_, refl, sym, ap, ap₂, subst, _∙_}
+use mathlib.Core.Bool.{Bool, true, false}
+use mathlib.Core.List.{List, [], _∷_, map}
+use Prim.Native.Nat.{ℕ, _+_, _*_, _<_, _≤_}
+use native.Mathlib.Decide.{decLt}
+use native.Mathlib.Omega.{arith}
+use lib.ListN.{length, getD, take, List·getD-eq-default}
+use lib.Dec.{ltb, leb}
+use Rattle.model.specs.Test.{_and_, all}
+use Rattle.model.specs.Site.{siteTakes}
+use Rattle.model.specs.Job.Syntax.{Param}
+use Rattle.model.specs.Job.Node.{Node, Dag, nodeAt, bodyAt, nodeKept, paramsKept, isNode}
+use Rattle.model.specs.Job.Words.{dagOf, nodeWords, nodeBy}
+use Rattle.model.specs.Machine.Step.{look, passed, formalsBound}
+use Rattle.model.specs.declared.token.Bind.{Bind}
+use Rattle.model.specs.declared.cell.Cell.{Cell}
+use Rattle.model.proofs.Test.{clash, and-left, and-right, ltb-lt, leb-le}
+use Rattle.model.proofs.Job.Rules.{dag-rules}
+use Rattle.acts.specs.Row.{rowOf, rowAt, paramsAt, ParamsKept, nodeIn, nodeOfKind}
+use Rattle.acts.specs.Acting.{NodeRow, Acts}
+use Rattle.acts.specs.Looking.{bindInRange, lookBinds}
+use Rattle.acts.specs.declared.view.View.{View}
+use Rattle.acts.proofs.Nodes.{node-of-kind, node-inside, node-read, node-rule, node-words, root-read, root-few, body-few}
+use Rattle.acts.proofs.Params.{row-word, params-count}
+use Rattle.acts.proofs.Calls.{look-passed, formals-front, passed-known, site-below}
+
+module _ (ws : List ℕ) (at kind : ℕ) (o : NodeRow ws at kind) where
+  pub row-inside : at + 12 ≤ 12331
+  row-inside = let e : at ≡ rowOf (o .node) = o .row in let l = node-inside ws (o .node) (o .dag) (o .inside) in omega arith
+
+  row-is : nodeBy (rowAt ws (rowOf (o .node))) ≡ nodeIn ws at kind
+  row-is = ap (λ i. nodeBy (rowAt ws i)) (sym (o .row)) ∙ node-of-kind ws at kind (o .kind)
+
+  pub node-is : nodeAt (dagOf ws) (o .node) ≡ nodeIn ws at kind
+  node-is = node-read ws (o .node) (o .dag) (o .inside) ∙ row-is
+
+  pub node-kept : nodeKept (dagOf ws) (nodeIn ws at kind) ≡ true
+  node-kept = subst (λ n. nodeKept (dagOf ws) n ≡ true) row-is (node-rule ws (o .node) (o .dag) (o .inside))
+
+  -- the word of the row that counts its parameters
+  count-word : getD ws (at + 3) 0 ≡ getD (nodeWords (nodeIn ws at kind)) 3 0
+  count-word =
+      sym (row-word ws at 3 (omega arith))
+      ∙ ap (λ i. getD (rowAt ws i) 3 0) (o .row)
+      ∙ ap (λ row. getD row 3 0) (node-words ws (o .node) (o .dag) (o .inside))
+      ∙ ap (λ n. getD (nodeWords n) 3 0) row-is
+
+  -- a number that is a node's
+  node-number : (k : ℕ) → isNode (dagOf ws) k ≡ true → k < 65536
+  unfolding isNode
+  node-number k e =
+      let f : length (dagOf ws .nodes) ≤ 1022 = dag-rules (dagOf ws) (o .dag) .nodes-few in
+      let l : k < length (dagOf ws .nodes) = ltb-lt k (length (dagOf ws .nodes)) e in
+      omega arith
+
+  -- the parameters of a call
+  params-kept : getD (nodeWords (nodeIn ws at kind)) 3 0 ≡ length (paramsAt ws at) → paramsKept (paramsAt ws at) ≡ true → ParamsKept ws at
+  unfolding paramsKept
+  params-kept n k =
+      let c : getD ws (at + 3) 0 ≡ getD (nodeWords (nodeIn ws at kind)) 3 0 = count-word in
+      let l : length (paramsAt ws at) ≤ 4 = leb-le (length (paramsAt ws at)) 4 (and-left _ _ k) in
+      record { size = o .size; inside = row-inside; few = omega arith; kept = and-right (leb (length (paramsAt ws at)) 4) _ k }
+
+-- the numbers of each kind of node
+module _ (ws : List ℕ) (at : ℕ) where
+  abbrev word : ℕ → ℕ
+  word i = getD ws (at + i) 0
+
+  pub fork-numbers : NodeRow ws at 3 → (word 1 < 65536) × (word 2 < 65536)
+  unfolding nodeKept
+  fork-numbers o =
+      let k = node-kept ws at 3 o in
+      (node-number ws at 3 o (word 1) (and-left _ _ k), node-number ws at 3 o (word 2) (and-right (isNode (dagOf ws) (word 1)) _ k))
+
+  bind-numbers : (kind : ℕ) → NodeRow ws at kind → nodeKept (dagOf ws) (Node.assign (word 1) (word 2)) ≡ true → (word 1 < 8) × (word 2 < 65536)
+  unfolding nodeKept
+  bind-numbers kind o e = (ltb-lt (word 1) 8 (and-left _ _ e), node-number ws at kind o (word 2) (and-right (ltb (word 1) 8) _ e))
+
+  pub assign-numbers : NodeRow ws at 4 → (word 1 < 8) × (word 2 < 65536)
+  assign-numbers o = bind-numbers 4 o (node-kept ws at 4 o)
+
+  pub remove-numbers : NodeRow ws at 5 → (word 1 < 8) × (word 2 < 65536)
+  unfolding nodeKept
+  remove-numbers o = bind-numbers 5 o (node-kept ws at 5 o)
+
+  pub where-numbers : NodeRow ws at 6 → (word 1 < 65536) × (word 2 < 65536) × (word 3 < 8)
+  unfolding nodeKept
+  where-numbers o =
+      let k = node-kept ws at 6 o in
+      let j = and-right (ltb (word 3) 8) _ k in (
+        node-number ws at 6 o (word 1) (and-left _ _ j),
+        node-number ws at 6 o (word 2) (and-right (isNode (dagOf ws) (word 1)) _ j),
+        ltb-lt (word 3) 8 (and-left _ _ k),
+      )
+
+  -- definition call
+  call-rule : NodeRow ws at 2 → (ltb (word 1) (length (dagOf ws .bodies)) and paramsKept (paramsAt ws at) and isNode (dagOf ws) (word 2)) ≡ true
+  unfolding nodeKept
+  call-rule o = node-kept ws at 2 o
+
+  pub call-params : NodeRow ws at 2 → ParamsKept ws at
+  unfolding nodeWords
+  call-params o = params-kept ws at 2 o refl (and-left _ _ (and-right (ltb (word 1) (length (dagOf ws .bodies))) _ (call-rule o)))
+
+  call-body : NodeRow ws at 2 → word 1 < length (dagOf ws .bodies)
+  call-body o = ltb-lt (word 1) (length (dagOf ws .bodies)) (and-left _ _ (call-rule o))
+
+  pub call-root : (k : ℕ) → NodeRow ws at 2 → k ≡ word 1 → (k < 32) × (getD ws (3 + 2 * k) 0 < 65536) × (getD ws (3 + 2 * k) 0 ≡ bodyAt (dagOf ws) (word 1) .root)
+  call-root k o same =
+      let b = body-few ws (word 1) (o .dag) (call-body o) in
+      let r = root-few ws (word 1) (o .dag) (call-body o) in (
+        subst (λ i. i < 32) (sym same) b,
+        subst (λ i. getD ws (3 + 2 * i) 0 < 65536) (sym same) (let z : getD ws (3 + 2 * word 1) 0 < 65536 = omega arith in z),
+        ap (λ i. getD ws (3 + 2 * i) 0) same ∙ sym (root-read ws (word 1) (o .dag) (call-body o)),
+      )
+
+  pub call-next : NodeRow ws at 2 → word 2 < 65536
+  call-next o =
+      node-number ws at 2 o (word 2) (and-right (paramsKept (paramsAt ws at)) _ (and-right (ltb (word 1) (length (dagOf ws .bodies))) _ (call-rule o)))
+
+  -- site call
+  site-rule : NodeRow ws at 1 → (siteTakes (word 1) (length (paramsAt ws at)) and paramsKept (paramsAt ws at) and isNode (dagOf ws) (word 2)) ≡ true
+  unfolding nodeKept
+  site-rule o = node-kept ws at 1 o
+
+  pub site-params : NodeRow ws at 1 → ParamsKept ws at
+  unfolding nodeWords
+  site-params o = params-kept ws at 1 o refl (and-left _ _ (and-right (siteTakes (word 1) (length (paramsAt ws at))) _ (site-rule o)))
+
+  pub site-number : NodeRow ws at 1 → word 1 < 1024
+  site-number o = site-below (word 1) (length (paramsAt ws at)) (and-left _ _ (site-rule o))
+
+  pub site-next : NodeRow ws at 1 → word 2 < 65536
+  site-next o =
+      node-number ws at 1 o (word 2) (and-right (paramsKept (paramsAt ws at)) _ (and-right (siteTakes (word 1) (length (paramsAt ws at))) _ (site-rule o)))
+
+  -- what the code looks up is what the definitions look up
+  pub site-looks :
+      (cs : List Cell) (bs given : List Bind) (n : ℕ)
+      → NodeRow ws at 1
+      → all (bindInRange 32) bs ≡ true
+      → given ≡ formalsBound bs (paramsAt ws at)
+      → n ≡ word 3
+      → (look cs bs (paramsAt ws at) ≡ lookBinds cs (take n given)) × (all (bindInRange 32) (take n given) ≡ true)
+  unfolding bindInRange
+  site-looks cs bs given n o r g c =
+      let k = site-params o in
+      let ps = paramsAt ws at in
+      let size : length ps ≡ word 3 = params-count ws at (k .size) (k .inside) (k .few) in
+      let front : take n given ≡ map (passed bs) ps = ap₂ take (c ∙ sym size) g ∙ formals-front bs ps in (
+        look-passed cs bs ps ∙ ap (lookBinds cs) (sym front),
+        subst (λ bs. all (bindInRange 32) bs ≡ true) (sym front) (passed-known bs ps r (k .kept)),
+      )
+
+-- a node's kind is one of ten
+pub kind-below : (d : Dag) (a b c : ℕ) (ps : List Param) (kind : ℕ) → nodeKept d (nodeOfKind a b c ps kind) ≡ true → kind < 10
+unfolding nodeKept
+kind-below d a b c ps kind e = go (decLt kind 10)
+  where
+    nodes : List Node
+    nodes =
+        Node.stop
+        ∷ Node.site a ps b
+        ∷ Node.call a ps b
+        ∷ Node.fork a b
+        ∷ Node.assign a b
+        ∷ Node.remove a b
+        ∷ Node.where' c a b
+        ∷ Node.choke
+        ∷ Node.return
+        ∷ Node.publish
+        ∷ []
+
+    go : Dec (kind < 10) → kind < 10
+    go (yes l) = l
+    go (no f) = clash (subst (λ n. nodeKept d n ≡ true) (List·getD-eq-default nodes Node.unknown {n = kind} (omega arith)) e) refl
+
+-- the kind that is left is the last one
+low-kinds : (k : ℕ) → (k ≡ 0 → ⊥) → (k ≡ 1 → ⊥) → (k ≡ 2 → ⊥) → (k ≡ 3 → ⊥) → (k ≡ 4 → ⊥) → 5 ≤ k
+low-kinds k a b c d e = omega arith
+
+from-five : (k : ℕ) → k < 10 → 5 ≤ k → (k ≡ 5 → ⊥) → (k ≡ 6 → ⊥) → (k ≡ 7 → ⊥) → (k ≡ 8 → ⊥) → k ≡ 9
+from-five k l low f g h i = omega arith
+
+pub last-kind :
+    (k : ℕ)
+    → k < 10
+    → (k ≡ 0 → ⊥)
+    → (k ≡ 1 → ⊥)
+    → (k ≡ 2 → ⊥)
+    → (k ≡ 3 → ⊥)
+    → (k ≡ 4 → ⊥)
+    → (k ≡ 5 → ⊥)
+    → (k ≡ 6 → ⊥)
+    → (k ≡ 7 → ⊥)
+    → (k ≡ 8 → ⊥)
+    → k ≡ 9
+last-kind k l a b c d e f g h i =
+    from-five k l (low-kinds k a b c d e) f g h i
+
+-- the code's reading of the token's node
+module _ (ws : List ℕ) (v : View) (a : Acts ws v) where
+  abbrev start : ℕ
+  start = rowOf (v .token .node)
+
+  pub row-of : (k : ℕ) → getD ws start 0 ≡ k → NodeRow ws start k
+  row-of k e = record { size = a .size; dag = a .dag; node = v .token .node; inside = a .node; row = refl; kind = e }
+
+  pub start-inside : start < 12331
+  start-inside = let l = row-inside ws start _ (row-of _ refl) in omega arith
+
+  pub kind-ten : getD ws start 0 < 10
+  kind-ten = kind-below (dagOf ws) (getD ws (start + 1) 0) (getD ws (start + 2) 0) (getD ws (start + 3) 0) (paramsAt ws start) (getD ws start 0) (node-kept ws start _ (row-of _ refl))
+
+  pub at-node : (k : ℕ) → getD ws start 0 ≡ k → nodeIn ws start k ≡ nodeAt (dagOf ws) (v .token .node)
+  unfolding row-of
+  at-node k e = sym (node-is ws start k (row-of k e))
