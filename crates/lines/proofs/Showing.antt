@@ -12,7 +12,7 @@ use lib.Dec.{leb}
 use lib.Seq.{sets, sets-eq, length-sets, length-take-le, take-all, take-at, take-nil, drop-nil, take-suc, take-append-le, drop-append-le, set-out}
 use Rattle.model.proofs.Test.{le-leb, lt-not-leb}
 use Rattle.text.specs.Written.{Written}
-use Rattle.text.proofs.Writing.{sets-append}
+use Rattle.model.proofs.Stores.{sets-append}
 use Rattle.lines.specs.Shown.{shown, placed, showing, Shows}
 
 -- one byte: before the part that is shown, in it, behind it

@@ -1,5 +1,5 @@
 -- The answers of a step and of an answer, by the tests that lead to them. Assumes nothing.
-use mathlib.Core.Path.{_≡_, refl, sym, _∙_, ap}
+use mathlib.Core.Path.{_≡_, refl, sym, _∙_, ap, ap₂, subst}
 use mathlib.Core.Bool.{Bool, true, false}
 use mathlib.Core.List.{List, []}
 use Prim.Native.Nat.{ℕ, _<_, _≤_}
@@ -11,7 +11,8 @@ use Rattle.model.specs.Machine.Limits.{paper}
 use Rattle.model.specs.Machine.InUse.{finish, marked, tokensUsed, usedCells, cellsUsed}
 use Rattle.model.specs.Machine.Places.{nextPlace}
 use Rattle.model.specs.Machine.Rules.{machineKept, rulesKept}
-use Rattle.model.specs.Machine.Reply.{Effect, moves, waits, publishes, calls, refuses, accepted, outcome, unless, isRefused}
+use Rattle.model.specs.Machine.Reply as Reply
+use Rattle.model.specs.Machine.Reply.{moves, waits, publishes, calls, refuses, accepted, outcome, unless, isRefused}
 use Rattle.model.specs.Machine.Step as Step
 use Rattle.model.specs.Machine.Step.{takes}
 use Rattle.model.specs.Machine.Answer as Answer
@@ -24,11 +25,26 @@ use Rattle.model.specs.declared.reply.Reply.the-variants as replies
 use Rattle.model.specs.declared.reply.Outcome.{Outcome}
 use Rattle.model.proofs.Test.{lt-ltb, le-not-ltb}
 use Rattle.acts.specs.Unfinished.{effectOutcome, unfinished}
-use Rattle.acts.specs.Acting.{TokenPlace, CellPlace, stepped}
+use Rattle.acts.specs.Acting.{Rules, stepped}
 use Rattle.machine.specs.Finished.{finishedOutcome}
+use Rattle.model.specs.Job.Node.{nodeAt}
+use Rattle.model.specs.Machine.Step.{choked}
+use Rattle.model.specs.declared.token.Place.{Place}
+use Rattle.model.specs.declared.token.Place.the-variants as places
+use Rattle.model.proofs.Keeps.Instructions.{answered-whole}
+use Rattle.acts.specs.Acting.{ViewKept}
+use Rattle.acts.specs.Choking.{ChokingKept}
+use Rattle.acts.specs.Effects.{instruction, viewOf, applied, changed, written}
+use Rattle.acts.specs.Unfinished.{Taking, taken}
+use Rattle.acts.specs.Writing.{Fitting}
+use Rattle.acts.specs.declared.effect.Effect.{Effect}
+use Rattle.acts.specs.declared.view.View.{View}
+use Rattle.acts.proofs.Instructions.{stepped-is}
+use Rattle.acts.proofs.Queued.{taking}
+use Rattle.acts.proofs.Unblanked.{keeps-whole, makes-room, waits-has-room, choke-cell}
 
 -- an effect's outcome, finished, is the model's
-pub ends : (m : Machine) (e : Effect) → finishedOutcome (effectOutcome m e) ≡ outcome m e
+pub ends : (m : Machine) (e : Reply.Effect) → finishedOutcome (effectOutcome m e) ≡ outcome m e
 unfolding finishedOutcome effectOutcome unfinished outcome accepted isRefused
 ends m (moves o) = refl
 ends m (waits o) = refl
@@ -59,43 +75,108 @@ module _ (ws : List ℕ) (m : Machine) where
   step-rule place o e q = rw e (q ∙ refuses-same m refusals.Rule)
 
   -- (w is v as the code hands it on)
-  pub answer-taken : (h : ℕ) (v w : ℤ) (o : Outcome) → rulesKept paper d m ≡ true
+  answer-taken : (h : ℕ) (v w : ℤ) (o : Outcome) → rulesKept paper d m ≡ true
       → o ≡ finishedOutcome (effectOutcome m (Answer.answered m w (Answer.holder h 0 (m .tokens)))) → w ≡ v → o ≡ Answer.answer paper d m h v
   unfolding Answer.answer unless
   answer-taken h v w o e q same =
       rw e (q ∙ (ends m (Answer.answered m w (Answer.holder h 0 (m .tokens)))
       ∙ ap (λ z. outcome m (Answer.answered m z (Answer.holder h 0 (m .tokens)))) same))
 
+  -- an answer leaves nothing to make blank
+  answer-whole : (h : ℕ) (v : ℤ) → rulesKept paper d m ≡ true
+      → let o = effectOutcome m (Answer.answered m v (Answer.holder h 0 (m .tokens))) in o ≡ finishedOutcome o
+  unfolding Answer.answered effectOutcome unfinished finishedOutcome isRefused
+  answer-whole h v e = go (Answer.holder h 0 (m .tokens)) refl
+    where
+      go : (q : Place) → Answer.holder h 0 (m .tokens) ≡ q
+          → let o = effectOutcome m (Answer.answered m v q) in o ≡ finishedOutcome o
+      go places.Nowhere f = refl
+      go (places.At p) f = ap (unfinished replies.Done []) (sym (answered-whole paper d m e h v p f))
+
+  pub answer-kept : (h : ℕ) (v w : ℤ) (o : Outcome) → rulesKept paper d m ≡ true
+      → o ≡ effectOutcome m (Answer.answered m w (Answer.holder h 0 (m .tokens))) → w ≡ v → o ≡ Answer.answer paper d m h v
+  answer-kept h v w o e q same = answer-taken h v w o e (q ∙ answer-whole h w e) same
+
+  pub answer-at : (h : ℕ) (v w : ℤ) (o : Outcome) → o ≡ Answer.answer paper d m h w → w ≡ v → o ≡ Answer.answer paper d m h v
+  answer-at h v w o e same = e ∙ ap (Answer.answer paper d m h) same
+
   pub answer-rule : (h : ℕ) (v : ℤ) (o : Outcome) → rulesKept paper d m ≡ false → o ≡ effectOutcome m (refuses refusals.Rule)
       → o ≡ Answer.answer paper d m h v
   unfolding Answer.answer unless
   answer-rule h v o e q = rw e (q ∙ refuses-same m refusals.Rule)
 
--- a refused outcome stays, an accepted one is blanked
-pub stays : (o : Outcome) (b : Bool) → b ≡ isRefused (o .reply) → b ≡ true → o ≡ finishedOutcome o
-unfolding finishedOutcome
-stays o b e t = rw (sym e ∙ t, finishedOutcome)
+-- the step of a record that keeps the rules, from the view that was read and the effect of it
+module _ (ws : List ℕ) (m : Machine) (place : ℕ) (r : Rules ws m place) (v : View) (e : Effect)
+    (f : v ≡ viewOf (dagOf ws) m place) (g : e ≡ instruction v (dagOf ws) (nodeAt (dagOf ws) (v .token .node))) where
+  abbrev own : View
+  own = viewOf (dagOf ws) m place
 
-pub blanks : (o : Outcome) (b : Bool) (m : Machine) → b ≡ isRefused (o .reply) → b ≡ false → m ≡ finish (o .machine)
-    → _≡_ {A = Outcome} (record { reply = o .reply; values = o .values; machine = m }) (finishedOutcome o)
-unfolding finishedOutcome
-blanks o b m e f q =
-    rw (sym e ∙ f, finishedOutcome) (ap (λ (x : Machine). record { reply = o .reply; values = o .values; machine = x }) q)
+  same : e ≡ instruction own (dagOf ws) (nodeAt (dagOf ws) (own .token .node))
+  same = g ∙ ap (λ (v : View). instruction v (dagOf ws) (nodeAt (dagOf ws) (v .token .node))) f
 
--- what was finished is what an instruction left
-pub after-finish : {o p q : Outcome} → o ≡ q → p ≡ finishedOutcome o → p ≡ finishedOutcome q
-after-finish e f = f ∙ ap finishedOutcome e
+  steps : finishedOutcome (applied m place v e) ≡ Step.step paper (dagOf ws) m place
+  steps =
+      step-taken ws m place _ (r .kept) (r .queued)
+      (ap₂ (λ v e. finishedOutcome (applied m place v e)) f same ∙ ap finishedOutcome (stepped-is ws m place))
 
--- the places of new records, and the room for them
-module _ (ws : List ℕ) (m : Machine) (used : List Bool) (e : used ≡ tokensUsed m) where
-  pub token-place : (new n : ℕ) → new ≡ nextPlace used (m .newtoken) → n ≡ marked used → TokenPlace ws m new (ltb n 64)
-  unfolding Step.hasTokenPlace
-  token-place new n p q =
-      record { next = p ∙ ap (λ u. nextPlace u (m .newtoken)) e; has = ap (λ k. ltb k 64) (q ∙ ap marked e) }
+  pub fitting : ViewKept v → Fitting m place v e
+  fitting k =
+      record {
+        taking = subst (Taking m place) (sym (ap (λ (v : View). v .p) f)) (taking ws m place r);
+        new = k .new;
+        below = k .below;
+        queue = λ h. makes-room ws m place (r .kept) (r .queued) (sym (ap (λ (e : Effect). e .makes) same) ∙ h);
+        waits = λ h. waits-has-room ws m place (r .kept) (r .queued) (sym (ap (λ (e : Effect). e .waits) same) ∙ h);
+      }
 
-  pub cell-place : (cells : List Bool) → cells ≡ usedCells used (m .tokens) (m .cells) → (new n : ℕ) → new ≡ nextPlace cells (m .newcell)
-      → n ≡ marked cells → CellPlace ws m new (ltb n 32)
-  unfolding Step.hasCellPlace
-  cell-place cells f new n p q =
-      let g : cells ≡ cellsUsed m = f ∙ ap (λ u. usedCells u (m .tokens) (m .cells)) e in
-      record { next = p ∙ ap (λ u. nextPlace u (m .newcell)) g; has = ap (λ k. ltb k 32) (q ∙ ap marked g) }
+  pub choking : (c : ℕ) → e .chokes ≡ places.At c → ChokingKept m place c
+  choking c h = choke-cell ws m place (r .kept) (r .queued) c (sym (ap (λ (e : Effect). e .chokes) same) ∙ h)
+
+  -- how it ends
+  abbrev with : Machine → Outcome
+  with o = record { reply = e .reply; values = e .values; machine = o }
+
+  by-reply : (b : Bool) → b ≡ isRefused (e .reply)
+      → _≡_ {A = Outcome} (elim b as (λ _. Outcome) [ true ↦ with m | false ↦ with (finish (changed m place v e)) ]) (finishedOutcome (applied m place v e))
+  unfolding finishedOutcome applied
+  by-reply b h = ap (λ b. elim b as (λ _. Outcome) [ true ↦ with m | false ↦ with (finish (changed m place v e)) ]) h ∙ go (isRefused (e .reply))
+    where
+      machine : Bool → Machine
+      machine b = elim b [ true ↦ m | false ↦ changed m place v e ]
+
+      go : (b : Bool)
+          → _≡_ {A = Outcome} (elim b as (λ _. Outcome) [ true ↦ with m | false ↦ with (finish (changed m place v e)) ])
+          (elim b as (λ _. Outcome) [ true ↦ with (machine b) | false ↦ with (finish (machine b)) ])
+      go true = refl
+      go false = refl
+
+  pub ends-refused : (b : Bool) → b ≡ isRefused (e .reply) → b ≡ true → with m ≡ Step.step paper (dagOf ws) m place
+  ends-refused b h i = by-reply true (sym i ∙ h) ∙ steps
+
+  ends-accepted : (b : Bool) → b ≡ isRefused (e .reply) → b ≡ false → with (finish (changed m place v e)) ≡ Step.step paper (dagOf ws) m place
+  ends-accepted b h i = by-reply false (sym i ∙ h) ∙ steps
+
+  by-cell : (q : Place) → e .chokes ≡ q
+      → changed m place v e ≡ elim q as (λ _. Machine) [ places.Nowhere ↦ written m place v e | places.At c ↦ choked c (e .token .value) (taken m place) ]
+  unfolding changed
+  by-cell q h = ap (λ q. elim q as (λ _. Machine) [ places.Nowhere ↦ written m place v e | places.At c ↦ choked c (e .token .value) (taken m place) ]) h
+
+  pub ends-choking : (b : Bool) (o : Machine) (c : ℕ) → b ≡ isRefused (e .reply) → b ≡ false → e .chokes ≡ places.At c
+      → o ≡ choked c (e .token .value) (taken m place) → with (finish o) ≡ Step.step paper (dagOf ws) m place
+  ends-choking b o c h i k q = ap (λ x. with (finish x)) (q ∙ sym (by-cell _ k)) ∙ ends-accepted b h i
+
+  pub ends-blanked : (b : Bool) (o : Machine) → b ≡ isRefused (e .reply) → b ≡ false → e .chokes ≡ places.Nowhere → o ≡ written m place v e
+      → with (finish o) ≡ Step.step paper (dagOf ws) m place
+  ends-blanked b o h i k q = ap (λ x. with (finish x)) (q ∙ sym (by-cell _ k)) ∙ ends-accepted b h i
+
+  -- where the effect keeps all in use, blanking would change nothing
+  whole : (b : Bool) → b ≡ isRefused (e .reply) → b ≡ false → e .keeps ≡ true → finish (changed m place v e) ≡ changed m place v e
+  whole b h i j =
+      subst (λ v. finish (changed m place v e) ≡ changed m place v e) (sym f)
+      (subst (λ e. finish (changed m place own e) ≡ changed m place own e) (sym same)
+      (keeps-whole ws m place (r .kept) (r .queued) (sym (ap (λ (e : Effect). e .keeps) same) ∙ j)
+      (sym (ap (λ (e : Effect). isRefused (e .reply)) same) ∙ sym h ∙ i)))
+
+  pub ends-kept : (b : Bool) (o : Machine) → b ≡ isRefused (e .reply) → b ≡ false → e .keeps ≡ true → e .chokes ≡ places.Nowhere
+      → o ≡ written m place v e → with o ≡ Step.step paper (dagOf ws) m place
+  ends-kept b o h i j k q = ap with (q ∙ sym (by-cell _ k) ∙ sym (whole b h i j)) ∙ ends-accepted b h i

@@ -1,2 +1,3 @@
--- How a call ends.
+-- How a call ends, and which kinds of node make a token.
 pub mod Finished
+pub mod Kind

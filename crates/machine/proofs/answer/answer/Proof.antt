@@ -1,29 +1,28 @@
--- `answer::answer` meets its contract. Assumes nothing.
-use mathlib.Core.Path.{sym, _∙_}
+use Rattle.machine.proofs.Ending.{answer-rule, answer-at}
+use mathlib.Core.Path.{sym, ap, _∙_}
+use Rattle.machine.proofs.Viewed.{marks-of}
+use Rattle.machine.proofs.Ending.{answer-rule}
 use borrow.Author.Needs.{needs}
-use Rattle.machine.proofs.Ending.{answer-taken, answer-rule, after-finish}
 use Rattle.machine.proofs.answer.answer.Statement.{statement}
 use Rattle.machine.proofs.answer.answer.Tie as tie
+use Rattle.machine.proofs.answer.answer.Reads as reads
+use Rattle.machine.proofs.answer.answer.Lts as lts
+use Rattle.acts.proofs.refuse.refused.Reads as refused-reads
+use Rattle.machine.proofs.kept.answer_kept.Reads as answer-kept-reads
+use Rattle.reach.proofs.used.in_use.Reads as in-use-reads
+use Rattle.rules.proofs.rules.rules_kept.Reads as rules-kept-reads
 
-used-tokens-requires : tie.Need-used-tokens-requires
-used-tokens-requires c κs = search needs
-
-used-cells-requires : tie.Need-used-cells-requires
-used-cells-requires c κs = search needs
+in-use-requires : tie.Need-in-use-requires
+in-use-requires c κs = search needs
 
 rules-kept-requires : tie.Need-rules-kept-requires
-rules-kept-requires c κs = search needs
+rules-kept-requires c κs = let u = marks-of (c .before .before .before .args .machine) _ (c .before .before .in-use .ensures) in (u .0, u .1)
 
-answered-requires : tie.Need-answered-requires
-answered-requires c κs = sym (c .before .rules-kept .ensures) ∙ c .if1 .taken
-
-finished-requires : tie.Need-finished-requires
-finished-requires c κs = search needs
+answer-kept-requires : tie.Need-answer-kept-requires
+answer-kept-requires c κs = sym (c .before .rules-kept .ensures) ∙ c .if1 .taken
 
 returns : tie.Need-returns
-returns c =
-    answer-taken _ _ _ _ _ _ (sym (c .before .before .before .rules-kept .ensures) ∙ c .before .before .if1 .taken)
-    (after-finish (c .before .answered .ensures) (c .finished .ensures)) (search needs)
+returns c = answer-at _ _ _ _ _ _ (c .answer-kept .ensures) (search needs)
 
 refused-requires : tie.Need-refused-requires
 refused-requires c κs = search needs
@@ -35,11 +34,9 @@ pub answer-spec : {M : Type 1} → statement M
 answer-spec =
     tie.close
     (tie.spec
-    used-tokens-requires
-    used-cells-requires
+    in-use-requires
     rules-kept-requires
-    answered-requires
-    finished-requires
+    answer-kept-requires
     returns
     refused-requires
     returns-2)

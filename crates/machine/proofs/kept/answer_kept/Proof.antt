@@ -1,17 +1,16 @@
--- `kept::answer_kept` meets its contract. Assumes nothing.
+use Rattle.machine.proofs.Ending.{answer-kept}
 use borrow.Author.Needs.{needs}
-use Rattle.machine.proofs.Ending.{answer-taken, after-finish}
 use Rattle.machine.proofs.kept.answer_kept.Statement.{statement}
 use Rattle.machine.proofs.kept.answer_kept.Tie as tie
+use Rattle.machine.proofs.kept.answer_kept.Reads as reads
+use Rattle.machine.proofs.kept.answer_kept.Lts as lts
+use Rattle.acts.proofs.answer.answered.Reads as answered-reads
 
 answered-requires : tie.Need-answered-requires
 answered-requires c κs = search needs
 
-finished-requires : tie.Need-finished-requires
-finished-requires c κs = search needs
-
 returns : tie.Need-returns
-returns c = answer-taken _ _ _ _ _ _ (c .before .before .pre) (after-finish (c .before .answered .ensures) (c .finished .ensures)) (search needs)
+returns c = answer-kept _ _ _ _ _ _ (c .before .pre) (c .answered .ensures) (search needs)
 
 pub answer-kept-spec : {M : Type 1} → statement M
-answer-kept-spec = tie.close (tie.spec answered-requires finished-requires returns)
+answer-kept-spec = tie.close (tie.spec answered-requires returns)

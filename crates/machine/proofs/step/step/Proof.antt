@@ -1,39 +1,33 @@
--- `step::step` meets its contract. Assumes nothing.
-use mathlib.Core.Path.{sym, _∙_}
+use mathlib.Core.Path.{sym, ap, _∙_}
+use Rattle.machine.proofs.Viewed.{marks-of}
+use Rattle.machine.proofs.Ending.{step-no-token, step-rule}
 use borrow.Author.Needs.{needs}
-use Rattle.machine.proofs.Ending.{step-taken, step-no-token, step-rule, after-finish}
 use Rattle.machine.proofs.step.step.Statement.{statement}
 use Rattle.machine.proofs.step.step.Tie as tie
+use Rattle.machine.proofs.step.step.Reads as reads
+use Rattle.machine.proofs.step.step.Lts as lts
+use Rattle.acts.proofs.refuse.refused.Reads as refused-reads
+use Rattle.machine.proofs.kept.step_kept.Reads as step-kept-reads
+use Rattle.reach.proofs.used.in_use.Reads as in-use-reads
+use Rattle.rules.proofs.rules.rules_kept.Reads as rules-kept-reads
 
-used-tokens-requires : tie.Need-used-tokens-requires
-used-tokens-requires c κs = search needs
-
-used-cells-requires : tie.Need-used-cells-requires
-used-cells-requires c κs = search needs
+in-use-requires : tie.Need-in-use-requires
+in-use-requires c κs = search needs
 
 rules-kept-requires : tie.Need-rules-kept-requires
-rules-kept-requires c κs = search needs
+rules-kept-requires c κs = let u = marks-of (c .before .before .before .args .machine) _ (c .before .before .in-use .ensures) in (u .0, u .1)
 
-instruction-requires : tie.Need-instruction-requires
-instruction-requires c κs = (
-  (c .before .before .before .before .used-tokens .ensures, c .before .before .before .used-cells .ensures),
-  (sym (c .before .before .rules-kept .ensures) ∙ c .before .if1 .taken, c .if2 .taken),
-)
-
-finished-requires : tie.Need-finished-requires
-finished-requires c κs = search needs
+step-kept-requires : tie.Need-step-kept-requires
+step-kept-requires c κs = (sym (c .before .before .before .rules-kept .ensures) ∙ c .before .before .if1 .taken, c .if2 .taken)
 
 returns : tie.Need-returns
-returns c =
-    step-taken _ _ _ _ (sym (c .before .before .before .before .rules-kept .ensures) ∙ c .before .before .before .if1 .taken)
-    (c .before .before .if2 .taken) (after-finish (c .before .instruction .ensures) (c .finished .ensures))
+returns c = c .step-kept .ensures
 
 refused-requires : tie.Need-refused-requires
 refused-requires c κs = search needs
 
 returns-2 : tie.Need-returns-2
-returns-2 c =
-    step-no-token _ _ _ _ (sym (c .before .before .before .rules-kept .ensures) ∙ c .before .before .if1 .taken) (c .before .if2 .left) (c .refused .ensures)
+returns-2 c = step-no-token _ _ _ _ (sym (c .before .before .before .before .rules-kept .ensures) ∙ c .before .before .before .if1 .taken) (c .before .if2 .left) (c .refused .ensures)
 
 refused-requires-2 : tie.Need-refused-requires-2
 refused-requires-2 c κs = search needs
@@ -45,11 +39,9 @@ pub step-spec : {M : Type 1} → statement M
 step-spec =
     tie.close
     (tie.spec
-    used-tokens-requires
-    used-cells-requires
+    in-use-requires
     rules-kept-requires
-    instruction-requires
-    finished-requires
+    step-kept-requires
     returns
     refused-requires
     returns-2

@@ -1,8 +1,8 @@
--- `finished::is_refused` meets its contract: case by case. Assumes nothing.
+-- `refused::is_refused` meets its contract: case by case. Assumes nothing.
 use borrow.Author.Needs.{needs}
 use Rattle.model.specs.Machine.Reply.{isRefused}
-use Rattle.machine.proofs.finished.is_refused.Statement.{statement}
-use Rattle.machine.proofs.finished.is_refused.Tie as tie
+use Rattle.machine.proofs.refused.is_refused.Statement.{statement}
+use Rattle.machine.proofs.refused.is_refused.Tie as tie
 
 enum-told : tie.Need-enum-told
 enum-told c = search needs
