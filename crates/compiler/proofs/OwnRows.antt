@@ -9,7 +9,7 @@ use Rattle.model.specs.Job.Node.{Node}
 use Rattle.model.specs.Job.Construct.{ownNodes}
 use Rattle.model.specs.Job.Words.{headWords, paramWords, nodeWords, rowsOf}
 use Rattle.reader.specs.Join.{joinOf}
-use Rattle.compiler.proofs.Stores.{sets-append}
+use Rattle.model.proofs.Stores.{sets-append}
 use Rattle.reader.proofs.JoinSides.{join-par, join-seq, join-prune}
 
 -- the row of one node, and of one node before others

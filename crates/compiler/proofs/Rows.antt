@@ -11,7 +11,8 @@ use Rattle.model.specs.Job.Node.{Node}
 use Rattle.model.specs.Job.Construct.{own, size, root, firstLeft, firstRight, nextLeft, nextRight, ownNodes, nodesOf}
 use Rattle.model.specs.Job.Words.{headWords, paramWords, nodeWords, rowsOf}
 use Rattle.compiler.specs.Join.{joinRoot}
-use Rattle.compiler.proofs.Stores.{sets-append, sets-swap}
+use Rattle.model.proofs.Stores.{sets-append}
+use Rattle.compiler.proofs.Stores.{sets-swap}
 
 pub own-some : (j : Join) → 1 ≤ own j
 unfolding own

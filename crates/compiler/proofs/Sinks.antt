@@ -14,7 +14,7 @@ use Rattle.model.specs.Job.Read.{Got, Read, got}
 use Rattle.compiler.specs.Compiled.{reading, Accepted, compiled, stored}
 use Rattle.compiler.specs.Body.{sinkOf, Sunk, sunk, BodyAccepted, compiledBody, storedBody}
 use Rattle.compiler.specs.declared.expression.Compiled.{Compiled}
-use Rattle.compiler.proofs.Stores.{sets-append}
+use Rattle.model.proofs.Stores.{sets-append}
 use Rattle.compiler.proofs.Rows.{rows-append, rows-length}
 use Rattle.compiler.proofs.OwnRows.{words}
 use Rattle.compiler.proofs.Taking.{accept, same}

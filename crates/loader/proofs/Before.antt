@@ -14,7 +14,8 @@ use Rattle.model.specs.Job.Construct.{size, root, nodesOf, constructFrom}
 use Rattle.model.specs.Job.Words.{headWords, paramWords, nodeWords, rowsOf, bodyWords, written}
 use Rattle.reader.specs.Definitions.{definitionNodes, definitionsNodes}
 use Rattle.compiler.specs.Body.{sinkOf}
-use Rattle.compiler.proofs.Stores.{sets-append, sets-swap}
+use Rattle.model.proofs.Stores.{sets-append}
+use Rattle.compiler.proofs.Stores.{sets-swap}
 use Rattle.compiler.proofs.Rows.{rows-append, rows-length}
 use Rattle.loader.specs.Stored.{nodesBefore, bodiesBefore, wordsBefore}
 

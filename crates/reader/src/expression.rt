@@ -54,8 +54,7 @@ pub fn check_expression(
     scope: usize,
     at: usize,
 ) -> Checked
-    requires { ⌜ Parts (now kinds) (now operands) ⌝ }
-    requires { ⌜ scope ≤ 8 ⌝ }
+    requires { ⌜ Parts (now kinds) (now operands) × (scope ≤ 8) ⌝ }
     ensures { λ r. ⌜ r ≡ checkedExp (readExp left (levels scope) at (entriesFrom (now (kinds .entry)) (now (operands .entry)) at)) ⌝ }
 {
     if kinds.len() <= at {

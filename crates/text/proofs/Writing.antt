@@ -3,18 +3,12 @@
 use mathlib.Core.Path.{_≡_, refl, sym, _∙_, subst}
 use mathlib.Core.List.{List, [], _∷_, _++_}
 use Prim.Native.Nat.{ℕ, suc, _+_, _<_, _≤_}
-use native.Mathlib.Nat.{add-zero}
 use native.Mathlib.Numerals.{add-one}
 use native.Mathlib.Omega.{arith}
 use lib.ListN.{length, getD, take, set, length-append}
 use lib.Seq.{sets, take-suc, take-all}
+use Rattle.model.proofs.Stores.{sets-append}
 use Rattle.text.specs.Written.{Written}
-
-pub sets-append : (l : List ℕ) (i : ℕ) (a b : List ℕ) → sets l i (a ++ b) ≡ sets (sets l i a) (i + length a) b
-sets-append l i [] b = rw add-zero
-sets-append l i (x ∷ a) b =
-    let e : suc i + length a ≡ i + suc (length a) = omega arith in
-    sets-append (set l i x) (suc i) a b ∙ rw e
 
 -- nothing is written
 pub none-written : (before : List ℕ) (at : ℕ) → Written 0 before at [] before at
