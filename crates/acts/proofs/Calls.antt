@@ -1,42 +1,34 @@
 -- Site calls: looking up parameters is looking up the bindings that they pass; the first of four values stand for all of them. Assumes nothing.
-use mathlib.Core.Path.{_≡_, refl, sym, ap, ap₂, subst, _∙_}
+use mathlib.Core.Path.{_≡_, refl, sym, ap, ap₂, _∙_}
 use mathlib.Core.Logic.{_⊎_, inl, inr}
-use mathlib.Core.Bool.{Bool, true, false}
+use mathlib.Core.Bool.{true}
 use mathlib.Core.List.{List, [], _∷_, _++_, map}
-use Prim.Native.Nat.{ℕ, zero, suc, _+_, _-_, _<_, _≤_}
+use Prim.Native.Nat.{ℕ, zero, suc, _+_, _-_, _<_}
 use native.Mathlib.Decide.{decLt}
 use native.Mathlib.Omega.{arith}
 use lib.ListN.{length, getD, take, drop, replicate, length-map, List·getD-eq-default}
 use lib.Seq.{take-append-seam}
-use lib.Dec.{ltb, leb, eqb}
+use lib.Dec.{leb, eqb}
 use lib.IntN.{ℤ, pos}
 use Rattle.model.specs.Test.{_and_, _or_, all, padded}
-use Rattle.model.specs.Number.{fits}
 use Rattle.model.specs.Site.{Said, gives, silent, at, counts, builtin, isBuiltin, isOutside, siteTakes}
 use Rattle.model.specs.Job.Syntax.{Param, variable, constant}
 use Rattle.model.specs.Job.Node.{paramKept}
 use Rattle.model.specs.Machine.Blank.{empty, unbound, slotAt, cellAt}
 use Rattle.model.specs.Machine.Rules.{slotInRange}
-use Rattle.model.specs.Machine.Reply.{Effect, refuses, unless, valuesBeside}
-use Rattle.model.specs.Machine.Step as Step
-use Rattle.model.specs.Machine.Step.{Looked, values, unset, andThen, look, passed, formalsBound, to, being, put, withCounts}
+use Rattle.model.specs.Machine.Reply.{valuesBeside}
+use Rattle.model.specs.Machine.Step.{Looked, values, unset, andThen, look, passed, formalsBound, to}
 use Rattle.model.specs.declared.token.Slot.{Slot}
 use Rattle.model.specs.declared.token.Slot.the-variants as slots
 use Rattle.model.specs.declared.token.Held.{Held}
 use Rattle.model.specs.declared.token.Held.the-variants as helds
 use Rattle.model.specs.declared.token.Bind.{Bind}
 use Rattle.model.specs.declared.token.Place.the-variants as places
-use Rattle.model.specs.declared.token.State.the-variants as states
-use Rattle.model.specs.declared.token.Token.{Token}
 use Rattle.model.specs.declared.cell.Cell.{Cell}
-use Rattle.model.specs.declared.record.Machine.{Machine}
-use Rattle.model.specs.declared.reply.Refusal.the-variants as refusals
-use Rattle.model.specs.declared.reply.Reply.the-variants as replies
-use Rattle.model.proofs.Test.{clash, all-at, all-cons, all-nil, all-head, all-tail, or-cases, and-left, and-right, ltb-lt, lt-ltb, le-not-ltb, leb-le}
+use Rattle.model.proofs.Test.{all-at, all-cons, all-nil, all-head, all-tail, or-cases, and-left, and-right, ltb-lt, leb-le}
 use Rattle.acts.specs.declared.look.Looked as code
 use Rattle.acts.specs.declared.site.Said as said
 use Rattle.acts.specs.Said.{saidOf, modelSaid}
-use Rattle.acts.specs.Unfinished.{unfinished, effectOutcome, taken}
 use Rattle.acts.specs.Looking.{bindInRange, foundOf, heldFound, after, lookBinds, lookedOf}
 use Rattle.acts.specs.Acting.{Beside}
 use Rattle.acts.proofs.Sites.{says-to-two}

@@ -4,7 +4,7 @@ use mathlib.Core.Bool.{Bool, true, false}
 use mathlib.Core.List.{List, [], _∷_, _++_, map}
 use Prim.Native.Nat.{ℕ, zero, suc, _+_, _-_, _<_, _≤_}
 use native.Mathlib.Omega.{arith}
-use lib.ListN.{length, getD, set, take, drop, replicate, length-append, length-map, length-replicate, List·getD-map}
+use lib.ListN.{length, getD, set, take, replicate, length-append, length-map, length-replicate, List·getD-map}
 use lib.Seq.{drop-append-seam}
 use lib.Dec.{ltb}
 use Rattle.model.specs.Test.{all, filter, padded, without}
@@ -19,7 +19,7 @@ use Rattle.model.specs.declared.token.Place.the-variants as places
 use Rattle.model.specs.declared.token.Token.{Token}
 use Rattle.model.specs.declared.cell.Cell.{Cell}
 use Rattle.model.specs.declared.record.Machine.{Machine}
-use Rattle.model.proofs.Test.{all-nil, all-cons, all-head, all-tail}
+use Rattle.model.proofs.Test.{all-cons, all-head, all-tail}
 use Rattle.acts.specs.Unfinished.{taken, OrderKept}
 use Rattle.acts.specs.Choking.{homeInRange, Below, markedAt, chokeMarked, readyAfter, waitingAfter, orderOf, gathering, Reordering, reorderedOf, ChokingKept}
 use Rattle.acts.specs.declared.order.Order.{Order}

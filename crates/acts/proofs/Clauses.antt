@@ -2,7 +2,7 @@
 use mathlib.Core.Path.{_≡_, refl, sym, ap, ap₂, _∙_}
 use mathlib.Core.Bool.{Bool, true, false}
 use mathlib.Core.List.{List, []}
-use Prim.Native.Nat.{ℕ, suc, _+_, _<_, _≤_}
+use Prim.Native.Nat.{ℕ, _+_, _<_, _≤_}
 use native.Mathlib.Numerals.{add-one}
 use lib.ListN.{length, take}
 use lib.Dec.{ltb}
@@ -12,12 +12,11 @@ use Rattle.model.specs.Job.Syntax.{Param}
 use Rattle.model.specs.Job.Node.{Node, Dag, bodyAt}
 use Rattle.model.specs.Machine.Blank.{blankCell}
 use Rattle.model.specs.Machine.Reply.{valuesBeside}
-use Rattle.model.specs.Machine.Step.{to, binding, holding, inCell, being, valueOf, formalsBound, Looked, values, unset, look}
+use Rattle.model.specs.Machine.Step.{to, binding, holding, inCell, being, valueOf, formalsBound, values, unset, look}
 use Rattle.model.specs.declared.token.Slot.{Slot}
 use Rattle.model.specs.declared.token.Slot.the-variants as slots
 use Rattle.model.specs.declared.token.Bind.{Bind}
 use Rattle.model.specs.declared.token.Held.the-variants as helds
-use Rattle.model.specs.declared.token.Place.{Place}
 use Rattle.model.specs.declared.token.Place.the-variants as places
 use Rattle.model.specs.declared.token.State.the-variants as states
 use Rattle.model.specs.declared.token.Token.{Token}

@@ -3,26 +3,24 @@
 use mathlib.Core.Path.{_≡_, refl, sym, ap, subst, _∙_}
 use mathlib.Core.Bool.{Bool, true, false}
 use mathlib.Core.List.{List, [], _∷_, _++_}
-use Prim.Native.Nat.{ℕ, zero, suc, _+_, _-_, _<_, _≤_}
+use Prim.Native.Nat.{ℕ, _+_, _-_, _<_, _≤_}
 use native.Mathlib.Omega.{arith}
 use lib.ListN.{length, getD, take, drop, replicate, length-drop, length-append}
 use lib.Seq.{length-take-le}
-use lib.Dec.{ltb, leb, eqb}
+use lib.Dec.{ltb, eqb}
 use Rattle.model.specs.Test.{_and_, all, count, once}
-use Rattle.model.specs.Job.Node.{Dag, dagKept, isNode}
-use Rattle.model.specs.Job.Words.{dagOf}
+use Rattle.model.specs.Job.Node.{Dag, isNode}
 use Rattle.model.specs.Machine.Limits.{paper}
-use Rattle.model.specs.Machine.Blank.{blankToken, blankCell, tokenAt}
+use Rattle.model.specs.Machine.Blank.{blankToken, tokenAt}
 use Rattle.model.specs.Machine.Rules as rules
 use Rattle.model.specs.Machine.Rules.{isReady, isWaiting, rulesKept, tokenInRange, cellInRange, sizesInRange}
 use Rattle.model.specs.declared.token.State.{State}
 use Rattle.model.specs.declared.token.State.the-variants as states
 use Rattle.model.specs.declared.token.Bind.{Bind}
 use Rattle.model.specs.declared.token.Token.{Token}
-use Rattle.model.specs.declared.cell.Cell.{Cell}
 use Rattle.model.specs.declared.record.Machine.{Machine}
-use Rattle.model.proofs.Test.{and-left, and-right, eqb-eq, ltb-lt, all-at, all-head, all-tail, all-nil, all-cons, all-append}
-use Rattle.model.proofs.Machine.Rules.{RulesKept, rules-kept, NamesOnce, names-once, order-inside, order-names}
+use Rattle.model.proofs.Test.{and-left, and-right, eqb-eq, all-at, all-head, all-tail, all-nil, all-cons, all-append}
+use Rattle.model.proofs.Machine.Rules.{RulesKept, rules-kept, NamesOnce, names-once, order-inside}
 use Rattle.acts.specs.Unfinished.{OrderKept, OrdersKept, Taking}
 use Rattle.acts.specs.Choking.{homeInRange, parentInRange, ChokingKept}
 use Rattle.acts.proofs.Counting.{names-few, names-fewer, count-append}
@@ -143,9 +141,6 @@ module _ (d : Dag) (m : Machine) (k : rulesKept paper d m ≡ true) where
   module _ (place : ℕ) (l : place < m .queued) where
     pub queue-inside : getD (m .queue) place 0 < 64
     queue-inside = subst (λ n. getD (m .queue) place 0 < n) tokens-size (order-inside isReady (m .tokens) (m .queue) (m .queued) queue place l)
-
-    pub queue-ready : isReady (tokenAt (m .tokens) (getD (m .queue) place 0) .state) ≡ true
-    queue-ready = order-names isReady (m .tokens) (m .queue) (m .queued) queue place l
 
     pub taking : Taking m place (getD (m .queue) place 0)
     taking = record { orders = orders-kept; queued = l; inside = queue-inside }

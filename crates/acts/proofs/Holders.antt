@@ -1,6 +1,6 @@
 -- The search for the token under a handle, place by place, and the record after its answer: the token was called out, so it was not ready, and
 -- the queue has room for it. Assumes nothing.
-use mathlib.Core.Path.{_≡_, refl, sym, ap, ap₂, subst, _∙_}
+use mathlib.Core.Path.{_≡_, refl, sym, ap, subst, _∙_}
 use mathlib.Core.Bool.{Bool, true, false}
 use mathlib.Core.List.{List, [], _∷_, _++_}
 use Prim.Native.Nat.{ℕ, suc, _+_, _<_, _≤_}
@@ -18,10 +18,9 @@ use Rattle.model.specs.Machine.Blank.{blankToken, tokenAt}
 use Rattle.model.specs.Machine.Rules.{isReady, handleOf, rulesKept}
 use Rattle.model.specs.Machine.Reply.{refuses, moves}
 use Rattle.model.specs.Machine.Step as Step
-use Rattle.model.specs.Machine.Step.{holding, being, put, enqueue, withOrders, queueOf, waitsOf}
+use Rattle.model.specs.Machine.Step.{holding, being, put, enqueue, queueOf, waitsOf}
 use Rattle.model.specs.Machine.Answer.{holder, answered}
 use Rattle.model.specs.declared.token.Held.the-variants as helds
-use Rattle.model.specs.declared.token.Place.{Place}
 use Rattle.model.specs.declared.token.Place.the-variants as places
 use Rattle.model.specs.declared.token.State.{State}
 use Rattle.model.specs.declared.token.State.the-variants as states

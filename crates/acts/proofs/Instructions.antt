@@ -1,18 +1,18 @@
 -- The instruction table on few values, put into the record, is the instruction table of the definitions: clause by clause. Assumes nothing.
-use mathlib.Core.Path.{_≡_, refl, sym, ap, _∙_}
+use mathlib.Core.Path.{_≡_, refl, ap}
 use mathlib.Core.Bool.{Bool, true, false}
 use mathlib.Core.List.{List, []}
-use Prim.Native.Nat.{ℕ, suc}
-use lib.ListN.{length, getD}
+use Prim.Native.Nat.{ℕ}
+use lib.ListN.{getD}
 use lib.Dec.{ltb}
 use lib.IntN.{ℤ}
 use Rattle.model.specs.Site.{Said, gives, silent, isBuiltin, builtin}
 use Rattle.model.specs.Job.Node.{Node, Dag, nodeAt}
 use Rattle.model.specs.Job.Words.{dagOf}
 use Rattle.model.specs.Machine.Limits.{paper}
-use Rattle.model.specs.Machine.Blank.{blankToken, tokenAt}
+use Rattle.model.specs.Machine.Blank.{tokenAt}
 use Rattle.model.specs.Machine.Reply as Reply
-use Rattle.model.specs.Machine.Reply.{moves, isRefused}
+use Rattle.model.specs.Machine.Reply.{isRefused}
 use Rattle.model.specs.Machine.Step as Step
 use Rattle.model.specs.Machine.Step.{put, withCounts, Looked, values, unset, look}
 use Rattle.model.specs.declared.token.Place.{Place}

@@ -1,14 +1,13 @@
 -- Reading a node: for a kept dag the node at an index is the one that its row's words are by their kind, because a row of other words would be
 -- no node, which the rules refuse. Assumes nothing.
-use mathlib.Core.Path.{_≡_, refl, sym, ap, ap₂, subst, _∙_}
+use mathlib.Core.Path.{_≡_, refl, ap, ap₂, subst, _∙_}
 use mathlib.Core.Bool.{Bool, true, false}
-use mathlib.Core.List.{List, [], _∷_}
+use mathlib.Core.List.{List}
 use Prim.Native.Nat.{ℕ, zero, suc, _+_, _*_, _<_, _≤_}
 use native.Mathlib.Omega.{arith}
 use lib.ListN.{length, getD, take, drop}
 use lib.Seq.{drop-drop, getD-drop}
 use Rattle.model.specs.Test.{same}
-use Rattle.model.specs.Job.Syntax.{Param}
 use Rattle.model.specs.Job.Node.{Node, Body, Dag, nodeAt, bodyAt, nodeKept, bodyKept, isNode, dagKept}
 use Rattle.model.specs.Job.Words.{headWords, paramsFrom, nodeWords, nodeBy, nodeOf, nodesFrom, bodiesFrom, dagOf}
 use Rattle.model.proofs.Test.{clash, and-left, ltb-lt, same-eq}

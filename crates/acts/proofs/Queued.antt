@@ -1,18 +1,18 @@
 -- What the index rules say of the token at a place of the queue: it stands in the table, at a node of the dag, and names places of the tables.
 -- Assumes nothing.
-use mathlib.Core.Path.{_≡_, refl, sym, ap, ap₂, subst, _∙_}
-use mathlib.Core.Bool.{Bool, true, false}
+use mathlib.Core.Path.{_≡_, refl, sym, ap, subst, _∙_}
+use mathlib.Core.Bool.{true}
 use mathlib.Core.List.{List}
-use Prim.Native.Nat.{ℕ, _<_, _≤_}
+use Prim.Native.Nat.{ℕ, _<_}
 use native.Mathlib.Omega.{arith}
 use lib.ListN.{length, getD}
-use lib.Dec.{ltb, eqb}
+use lib.Dec.{eqb}
 use Rattle.model.specs.Test.{_and_, all}
 use Rattle.model.specs.Job.Node.{isNode, dagKept, nodeAt}
 use Rattle.model.specs.Job.Words.{dagOf}
 use Rattle.model.specs.Machine.Limits.{paper}
 use Rattle.model.specs.Machine.Blank.{blankToken, tokenAt}
-use Rattle.model.specs.Machine.Rules.{tokenInRange, slotInRange, heldInRange, placeInRange, stateInRange}
+use Rattle.model.specs.Machine.Rules.{tokenInRange, slotInRange, heldInRange, placeInRange}
 use Rattle.model.specs.declared.token.Bind.{Bind}
 use Rattle.model.specs.declared.token.Place.{Place}
 use Rattle.model.specs.declared.token.Place.the-variants as places
@@ -24,7 +24,6 @@ use Rattle.acts.specs.Acting.{Rules, NodeRow, ViewKept, Acts}
 use Rattle.acts.specs.Effects.{placeNamed, viewOf}
 use Rattle.acts.specs.Looking.{bindInRange}
 use Rattle.acts.specs.Row.{rowOf, nodeIn}
-use Rattle.acts.specs.Unfinished.{Taking}
 use Rattle.acts.specs.declared.view.View.{View}
 use Rattle.acts.proofs.Tables.{getD-any}
 use Rattle.acts.proofs.Facts.{tokens-size, queue-inside, token-range, orders-kept}
@@ -50,9 +49,6 @@ module _ (ws : List ℕ) (m : Machine) (place : ℕ) (r : Rules ws m place) wher
 
   pub place-inside : place < 64
   place-inside = let f = orders-kept (dagOf ws) m (r .kept) .queue .fits in let q = r .queued in omega arith
-
-  pub taking : Taking m place p
-  taking = record { orders = orders-kept (dagOf ws) m (r .kept); queued = r .queued; inside = p-inside }
 
   -- a row that the code reads
   pub row-read : (i : ℕ) (d : Token) → i < 64 → getD (m .tokens) i d ≡ tokenAt (m .tokens) i

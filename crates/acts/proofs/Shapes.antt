@@ -1,22 +1,19 @@
 -- The record after an effect, field by field: the model's writes and the code's come to the same record, because an order in its array is its
 -- names and then zeros. Assumes nothing.
-use mathlib.Core.Path.{_≡_, refl, sym, ap, ap₂, subst, _∙_}
+use mathlib.Core.Path.{_≡_, sym, ap, ap₂, subst, _∙_}
 use mathlib.Core.List.{List, [], _∷_, _++_}
-use Prim.Native.Nat.{ℕ, suc, _+_, _-_, _<_, _≤_}
-use native.Mathlib.Numerals.{add-one}
+use Prim.Native.Nat.{ℕ, suc, _+_, _-_, _<_}
 use native.Mathlib.Omega.{arith}
-use lib.ListN.{length, set, take, drop, length-set, length-append}
+use lib.ListN.{length, set, take, length-append}
 use lib.Seq.{take-append-seam, length-take-le}
 use lib.IntN.{pos}
 use Rattle.model.specs.Test.{padded, without}
-use Rattle.model.specs.Machine.Step as Step
-use Rattle.model.specs.Machine.Step.{withOrders, queueOf, waitsOf, put, enqueue, newToken, newCell, withCounts}
+use Rattle.model.specs.Machine.Step.{withOrders, queueOf, waitsOf, put, enqueue}
 use Rattle.model.specs.declared.token.Token.{Token}
 use Rattle.model.specs.declared.cell.Cell.{Cell}
 use Rattle.model.specs.declared.record.Machine.{Machine}
 use Rattle.model.specs.declared.reply.Reply.{Reply}
-use Rattle.model.specs.declared.reply.Outcome.{Outcome}
-use Rattle.acts.specs.Unfinished.{unfinished, taken, waitingAt, OrderKept, OrdersKept, Taking}
+use Rattle.acts.specs.Unfinished.{unfinished, taken, waitingAt, OrderKept, Taking}
 use Rattle.acts.proofs.Orders.{put-behind, padded-front, length-without}
 
 abbrev pub literal : List Token → List Cell → (queue : List ℕ) (queued : ℕ) (waits : List ℕ) (waiting calls newtoken newcell : ℕ) → Machine

@@ -39,7 +39,6 @@ use Rattle.acts.proofs.Places.{token-place-room}
 -- what an effect says of itself is so, for the token of a view
 record Holds (m : Machine) (place : ℕ) (v : View) (e : Effect) : Type 0 where
   whole : e .keeps ≡ true → isRefused (e .reply) ≡ false → finish (changed m place v e) ≡ changed m place v e
-  nowhere : e .keeps ≡ true → e .chokes ≡ places.Nowhere
   room : RoomIf (e .makes) (m .queued)
   cell : (c : ℕ) → e .chokes ≡ places.At c → v .token .cell ≡ places.At c
 
@@ -52,7 +51,7 @@ module _ (m : Machine) (place : ℕ) (v : View) where
       → (e .keeps ≡ true → isRefused (e .reply) ≡ false → finish (changed m place v e) ≡ changed m place v e)
       → Holds m place v e
   sets-none e q r w =
-      record { whole = w; nowhere = λ f. q; room = r; cell = λ c f. let z : _≡_ {A = ℕ} 0 1 = cc in absurd (omega arith) }
+      record { whole = w; room = r; cell = λ c f. let z : _≡_ {A = ℕ} 0 1 = cc in absurd (omega arith) }
 
   -- the token ends, or changes its links
   loses : (e : Effect) → e .keeps ≡ false → e .makes ≡ false → e .chokes ≡ places.Nowhere → Holds m place v e
@@ -121,7 +120,7 @@ module _ (ws : List ℕ) (m : Machine) (place : ℕ) (kept : rulesKept paper (da
     choking : (q : Place) → t .cell ≡ q → Holds m place at (Effects.choking at q)
     unfolding Effects.choking
     choking places.Nowhere e = refused m place at _
-    choking (places.At c) e = record { whole = λ f g. clash f refl; nowhere = λ f. clash f refl; room = λ f. clash f refl; cell = λ b f. cc }
+    choking (places.At c) e = record { whole = λ f g. clash f refl; room = λ f. clash f refl; cell = λ b f. cc }
 
   holds : (n : Node) → Holds m place (at n) (instruction (at n) d n)
   unfolding instruction changed written newRows joinsIf waitsIf withCounts put withTables withOrders newToken newCell makesToken numberIf truthIf
@@ -163,9 +162,6 @@ module _ (ws : List ℕ) (m : Machine) (place : ℕ) (kept : rulesKept paper (da
 
   pub keeps-whole : e .keeps ≡ true → isRefused (e .reply) ≡ false → finish (changed m place v e) ≡ changed m place v e
   keeps-whole = so .whole
-
-  pub chokes-nowhere : e .keeps ≡ true → e .chokes ≡ places.Nowhere
-  chokes-nowhere = so .nowhere
 
   pub makes-room : e .makes ≡ true → m .queued < 64
   makes-room = so .room

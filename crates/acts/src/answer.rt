@@ -10,7 +10,6 @@ ghost use Rattle.model.specs.Job.Words.{dagOf};
 ghost use Rattle.acts.specs.Unfinished.{effectOutcome};
 use crate::change::being;
 use crate::change::holding;
-use crate::refuse::refused;
 use model::record::Machine;
 use model::reply::Outcome;
 use model::reply::Refusal;

@@ -1,8 +1,6 @@
 // What an instruction does to the record, as few values. Nothing here takes the record: `write` puts the values into it, once for a step.
 ghost use mathlib.Core.Path.{_≡_};
 ghost use Rattle.acts.specs.Effects as Effects;
-ghost use Rattle.model.specs.Machine.Reply.{valuesBeside};
-ghost use mathlib.Core.List.{[]};
 use crate::change::blank;
 use crate::view::View;
 use model::cell::Cell;

@@ -3,14 +3,12 @@ use mathlib.Core.Path.{_≡_, refl, sym, _∙_, ap, ap₂, subst}
 use mathlib.Core.Bool.{Bool, true, false}
 use mathlib.Core.List.{List, []}
 use Prim.Native.Nat.{ℕ, _<_, _≤_}
-use lib.Dec.{ltb}
 use lib.IntN.{ℤ}
-use Rattle.model.specs.Job.Node.{Dag, dagKept}
+use Rattle.model.specs.Job.Node.{Dag}
 use Rattle.model.specs.Job.Words.{dagOf}
 use Rattle.model.specs.Machine.Limits.{paper}
-use Rattle.model.specs.Machine.InUse.{finish, marked, tokensUsed, usedCells, cellsUsed}
-use Rattle.model.specs.Machine.Places.{nextPlace}
-use Rattle.model.specs.Machine.Rules.{machineKept, rulesKept}
+use Rattle.model.specs.Machine.InUse.{finish}
+use Rattle.model.specs.Machine.Rules.{rulesKept}
 use Rattle.model.specs.Machine.Reply as Reply
 use Rattle.model.specs.Machine.Reply.{moves, waits, publishes, calls, refuses, accepted, outcome, unless, isRefused}
 use Rattle.model.specs.Machine.Step as Step
@@ -40,7 +38,7 @@ use Rattle.acts.specs.Writing.{Fitting}
 use Rattle.acts.specs.declared.effect.Effect.{Effect}
 use Rattle.acts.specs.declared.view.View.{View}
 use Rattle.acts.proofs.Instructions.{stepped-is}
-use Rattle.acts.proofs.Queued.{taking}
+use Rattle.acts.proofs.Facts.{taking}
 use Rattle.acts.proofs.Unblanked.{keeps-whole, makes-room, waits-has-room, choke-cell}
 
 -- an effect's outcome, finished, is the model's
@@ -122,7 +120,7 @@ module _ (ws : List ℕ) (m : Machine) (place : ℕ) (r : Rules ws m place) (v :
   pub fitting : ViewKept v → Fitting m place v e
   fitting k =
       record {
-        taking = subst (Taking m place) (sym (ap (λ (v : View). v .p) f)) (taking ws m place r);
+        taking = subst (Taking m place) (sym (ap (λ (v : View). v .p) f)) (taking (dagOf ws) m (r .kept) place (r .queued));
         new = k .new;
         below = k .below;
         queue = λ h. makes-room ws m place (r .kept) (r .queued) (sym (ap (λ (e : Effect). e .makes) same) ∙ h);

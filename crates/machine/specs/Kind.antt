@@ -1,6 +1,6 @@
 -- Which kinds of node make a token, by their numbers in the dag's words: definition call, fork, where. Assumes nothing: these are definitions.
 use mathlib.Core.Bool.{Bool, true, false}
-use mathlib.Core.List.{List, [], _∷_}
+use mathlib.Core.List.{[], _∷_}
 use Prim.Native.Nat.{ℕ}
 use lib.ListN.{getD}
 

@@ -1,23 +1,10 @@
-use mathlib.Core.Path.{_≡_, sym, ap, subst, _∙_}
+use mathlib.Core.Path.{sym, ap, subst, _∙_}
 use Prim.Native.Nat.{_<_}
 use Rattle.acts.specs.Effects.{instruction}
 use Rattle.acts.proofs.Rows.{row-of, start-inside, kind-ten, at-node, last-kind}
 use borrow.Author.Needs.{needs}
 use Rattle.acts.proofs.act.act.Statement.{statement}
 use Rattle.acts.proofs.act.act.Tie as tie
-use Rattle.acts.proofs.act.act.Reads as reads
-use Rattle.acts.proofs.act.act.Lts as lts
-use Rattle.acts.proofs.act.assign.Reads as assign-reads
-use Rattle.acts.proofs.act.call.Reads as call-reads
-use Rattle.acts.proofs.act.choke.Reads as choke-reads
-use Rattle.acts.proofs.act.fork.Reads as fork-reads
-use Rattle.acts.proofs.act.give_back.Reads as give-back-reads
-use Rattle.acts.proofs.act.prune.Reads as prune-reads
-use Rattle.acts.proofs.act.publish.Reads as publish-reads
-use Rattle.acts.proofs.act.remove.Reads as remove-reads
-use Rattle.acts.proofs.act.site.Reads as site-reads
-use Rattle.acts.proofs.effect.ends.Reads as ends-reads
-use Rattle.acts.proofs.pass.word.Reads as word-reads
 
 cast-at : tie.Need-cast-at
 cast-at c = search needs

@@ -8,14 +8,6 @@ use Rattle.acts.proofs.Clauses.{assign-is}
 use borrow.Author.Needs.{needs}
 use Rattle.acts.proofs.act.assign.Statement.{statement}
 use Rattle.acts.proofs.act.assign.Tie as tie
-use Rattle.acts.proofs.act.assign.Reads as reads
-use Rattle.acts.proofs.act.assign.Lts as lts
-use Rattle.acts.proofs.act.node.Reads as node-reads
-use Rattle.acts.proofs.act.value_of.Reads as value-of-reads
-use Rattle.acts.proofs.change.binding.Reads as binding-reads
-use Rattle.acts.proofs.change.to.Reads as to-reads
-use Rattle.acts.proofs.effect.goes_on.Reads as goes-on-reads
-use Rattle.acts.proofs.pass.word.Reads as word-reads
 
 add-word : tie.Need-add-word
 add-word c = search needs

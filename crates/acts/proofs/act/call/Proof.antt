@@ -7,15 +7,6 @@ use Rattle.acts.proofs.Clauses.{refused-is, call-is}
 use borrow.Author.Needs.{needs}
 use Rattle.acts.proofs.act.call.Statement.{statement}
 use Rattle.acts.proofs.act.call.Tie as tie
-use Rattle.acts.proofs.act.call.Reads as reads
-use Rattle.acts.proofs.act.call.Lts as lts
-use Rattle.acts.proofs.act.node.Reads as node-reads
-use Rattle.acts.proofs.change.being.Reads as being-reads
-use Rattle.acts.proofs.change.to.Reads as to-reads
-use Rattle.acts.proofs.effect.beside.Reads as beside-reads
-use Rattle.acts.proofs.effect.refuses.Reads as refuses-reads
-use Rattle.acts.proofs.pass.formals.Reads as formals-reads
-use Rattle.acts.proofs.pass.word.Reads as word-reads
 
 refuses-requires : tie.Need-refuses-requires
 refuses-requires c κs = search needs

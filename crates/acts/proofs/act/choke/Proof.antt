@@ -3,10 +3,6 @@ use mathlib.Core.Path.{_∙_}
 use borrow.Author.Needs.{needs}
 use Rattle.acts.proofs.act.choke.Statement.{statement}
 use Rattle.acts.proofs.act.choke.Tie as tie
-use Rattle.acts.proofs.act.choke.Reads as reads
-use Rattle.acts.proofs.act.choke.Lts as lts
-use Rattle.acts.proofs.effect.chokes.Reads as chokes-reads
-use Rattle.acts.proofs.effect.refuses.Reads as refuses-reads
 
 enum-told : tie.Need-enum-told
 enum-told c = search needs

@@ -7,12 +7,6 @@ use Rattle.acts.proofs.Clauses.{refused-is, fork-is}
 use borrow.Author.Needs.{needs}
 use Rattle.acts.proofs.act.fork.Statement.{statement}
 use Rattle.acts.proofs.act.fork.Tie as tie
-use Rattle.acts.proofs.act.fork.Reads as reads
-use Rattle.acts.proofs.act.fork.Lts as lts
-use Rattle.acts.proofs.act.node.Reads as node-reads
-use Rattle.acts.proofs.change.to.Reads as to-reads
-use Rattle.acts.proofs.effect.beside.Reads as beside-reads
-use Rattle.acts.proofs.effect.refuses.Reads as refuses-reads
 
 refuses-requires : tie.Need-refuses-requires
 refuses-requires c κs = search needs

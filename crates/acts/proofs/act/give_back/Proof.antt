@@ -3,12 +3,6 @@ use mathlib.Core.Path.{_∙_}
 use borrow.Author.Needs.{needs}
 use Rattle.acts.proofs.act.give_back.Statement.{statement}
 use Rattle.acts.proofs.act.give_back.Tie as tie
-use Rattle.acts.proofs.act.give_back.Reads as reads
-use Rattle.acts.proofs.act.give_back.Lts as lts
-use Rattle.acts.proofs.change.being.Reads as being-reads
-use Rattle.acts.proofs.change.holding.Reads as holding-reads
-use Rattle.acts.proofs.effect.goes_on.Reads as goes-on-reads
-use Rattle.acts.proofs.effect.refuses.Reads as refuses-reads
 
 enum-told : tie.Need-enum-told
 enum-told c = search needs

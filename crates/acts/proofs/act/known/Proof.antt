@@ -11,13 +11,6 @@ use Rattle.acts.proofs.Clauses.{builtin-is, outside-is}
 use borrow.Author.Needs.{needs}
 use Rattle.acts.proofs.act.known.Statement.{statement}
 use Rattle.acts.proofs.act.known.Tie as tie
-use Rattle.acts.proofs.act.known.Reads as reads
-use Rattle.acts.proofs.act.known.Lts as lts
-use Rattle.acts.proofs.act.node.Reads as node-reads
-use Rattle.acts.proofs.act.outside.Reads as outside-reads
-use Rattle.acts.proofs.act.replied.Reads as replied-reads
-use Rattle.acts.proofs.pass.word.Reads as word-reads
-use Rattle.acts.proofs.site.builtin.Reads as builtin-reads
 
 add-node : tie.Need-add-node
 add-node c = search needs

@@ -4,12 +4,6 @@ use Rattle.acts.proofs.Clauses.{called-is, refused-is}
 use borrow.Author.Needs.{needs}
 use Rattle.acts.proofs.act.outside.Statement.{statement}
 use Rattle.acts.proofs.act.outside.Tie as tie
-use Rattle.acts.proofs.act.outside.Reads as reads
-use Rattle.acts.proofs.act.outside.Lts as lts
-use Rattle.acts.proofs.change.being.Reads as being-reads
-use Rattle.acts.proofs.change.to.Reads as to-reads
-use Rattle.acts.proofs.effect.one.Reads as one-reads
-use Rattle.acts.proofs.effect.refuses.Reads as refuses-reads
 
 being-requires : tie.Need-being-requires
 being-requires c κs = search needs

@@ -8,15 +8,6 @@ use Rattle.acts.proofs.Clauses.{refused-is, where-is}
 use borrow.Author.Needs.{needs}
 use Rattle.acts.proofs.act.prune.Statement.{statement}
 use Rattle.acts.proofs.act.prune.Tie as tie
-use Rattle.acts.proofs.act.prune.Reads as reads
-use Rattle.acts.proofs.act.prune.Lts as lts
-use Rattle.acts.proofs.act.node.Reads as node-reads
-use Rattle.acts.proofs.change.binding.Reads as binding-reads
-use Rattle.acts.proofs.change.in_cell.Reads as in-cell-reads
-use Rattle.acts.proofs.change.to.Reads as to-reads
-use Rattle.acts.proofs.effect.refuses.Reads as refuses-reads
-use Rattle.acts.proofs.effect.two.Reads as two-reads
-use Rattle.acts.proofs.pass.word.Reads as word-reads
 
 refuses-requires : tie.Need-refuses-requires
 refuses-requires c κs = search needs

@@ -1,14 +1,10 @@
-use mathlib.Core.Path.{_≡_, sym, ap, _∙_}
+use mathlib.Core.Path.{_∙_}
 use mir.Syntax.{w32}
 use mir.Val.{SFits}
 use mir.Facts.{toZ-ofZ}
 use borrow.Author.Needs.{needs}
 use Rattle.acts.proofs.act.publish.Statement.{statement}
 use Rattle.acts.proofs.act.publish.Tie as tie
-use Rattle.acts.proofs.act.publish.Reads as reads
-use Rattle.acts.proofs.act.publish.Lts as lts
-use Rattle.acts.proofs.act.value_of.Reads as value-of-reads
-use Rattle.acts.proofs.effect.ends.Reads as ends-reads
 
 value-of-requires : tie.Need-value-of-requires
 value-of-requires c κs = search needs

@@ -5,13 +5,6 @@ use Rattle.acts.proofs.Clauses.{remove-is}
 use borrow.Author.Needs.{needs}
 use Rattle.acts.proofs.act.remove.Statement.{statement}
 use Rattle.acts.proofs.act.remove.Tie as tie
-use Rattle.acts.proofs.act.remove.Reads as reads
-use Rattle.acts.proofs.act.remove.Lts as lts
-use Rattle.acts.proofs.act.node.Reads as node-reads
-use Rattle.acts.proofs.change.binding.Reads as binding-reads
-use Rattle.acts.proofs.change.to.Reads as to-reads
-use Rattle.acts.proofs.effect.goes_on.Reads as goes-on-reads
-use Rattle.acts.proofs.pass.word.Reads as word-reads
 
 add-word : tie.Need-add-word
 add-word c = search needs

@@ -9,12 +9,6 @@ use mir.Facts.{toZ-ofZ}
 use borrow.Author.Needs.{needs}
 use Rattle.acts.proofs.act.replied.Statement.{statement}
 use Rattle.acts.proofs.act.replied.Tie as tie
-use Rattle.acts.proofs.act.replied.Reads as reads
-use Rattle.acts.proofs.act.replied.Lts as lts
-use Rattle.acts.proofs.change.holding.Reads as holding-reads
-use Rattle.acts.proofs.change.to.Reads as to-reads
-use Rattle.acts.proofs.effect.ends.Reads as ends-reads
-use Rattle.acts.proofs.effect.goes_on.Reads as goes-on-reads
 
 enum-known-said : tie.Need-enum-known-said
 enum-known-said c = search needs

@@ -13,14 +13,6 @@ use Rattle.acts.proofs.Clauses.{waits-is}
 use borrow.Author.Needs.{needs}
 use Rattle.acts.proofs.act.site.Statement.{statement}
 use Rattle.acts.proofs.act.site.Tie as tie
-use Rattle.acts.proofs.act.site.Reads as reads
-use Rattle.acts.proofs.act.site.Lts as lts
-use Rattle.acts.proofs.act.known.Reads as known-reads
-use Rattle.acts.proofs.change.being.Reads as being-reads
-use Rattle.acts.proofs.effect.one.Reads as one-reads
-use Rattle.acts.proofs.look.look_up.Reads as look-up-reads
-use Rattle.acts.proofs.pass.formals.Reads as formals-reads
-use Rattle.acts.proofs.pass.word.Reads as word-reads
 
 formals-requires : tie.Need-formals-requires
 formals-requires c κs = site-params _ _ (c .before .before .pre .0)

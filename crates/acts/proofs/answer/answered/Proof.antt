@@ -16,16 +16,11 @@ use native.Mathlib.Omega.{arith}
 use lib.ListN.{length, drop}
 use mathlib.Core.Bool.{true}
 use mathlib.Core.List.{List}
-use mathlib.Core.Path.{_≡_, refl, sym, ap, _∙_}
+use mathlib.Core.Path.{_≡_, refl, sym, _∙_}
 use Prim.Native.Nat.{ℕ, _-_, _≤_}
 use borrow.Author.Needs.{needs}
 use Rattle.acts.proofs.answer.answered.Statement.{statement}
 use Rattle.acts.proofs.answer.answered.Tie as tie
-use Rattle.acts.proofs.answer.answered.Reads as reads
-use Rattle.acts.proofs.answer.answered.Lts as lts
-use Rattle.acts.proofs.answer.is_open.Reads as is-open-reads
-use Rattle.acts.proofs.change.being.Reads as being-reads
-use Rattle.acts.proofs.change.holding.Reads as holding-reads
 
 -- the record is as it was, and the token under the handle is not below p
 record Searched (ws : List ℕ) (h : ℕ) (was m : Machine) (p : ℕ) : Type 0 where

@@ -2,10 +2,6 @@ use mathlib.Core.Path.{_∙_}
 use borrow.Author.Needs.{needs}
 use Rattle.acts.proofs.effect.beside.Statement.{statement}
 use Rattle.acts.proofs.effect.beside.Tie as tie
-use Rattle.acts.proofs.effect.beside.Reads as reads
-use Rattle.acts.proofs.effect.beside.Lts as lts
-use Rattle.acts.proofs.effect.no_cell.Reads as no-cell-reads
-use Rattle.acts.proofs.effect.two.Reads as two-reads
 
 no-cell-requires : tie.Need-no-cell-requires
 no-cell-requires c κs = search needs

@@ -2,9 +2,6 @@ use Rattle.model.specs.Test.{padded}
 use borrow.Author.Needs.{needs}
 use Rattle.acts.proofs.effect.chokes.Statement.{statement}
 use Rattle.acts.proofs.effect.chokes.Tie as tie
-use Rattle.acts.proofs.effect.chokes.Reads as reads
-use Rattle.acts.proofs.effect.chokes.Lts as lts
-use Rattle.acts.proofs.effect.no_cell.Reads as no-cell-reads
 
 no-cell-requires : tie.Need-no-cell-requires
 no-cell-requires c κs = search needs

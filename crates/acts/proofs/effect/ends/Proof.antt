@@ -3,10 +3,6 @@ use Rattle.model.specs.Test.{padded}
 use borrow.Author.Needs.{needs}
 use Rattle.acts.proofs.effect.ends.Statement.{statement}
 use Rattle.acts.proofs.effect.ends.Tie as tie
-use Rattle.acts.proofs.effect.ends.Reads as reads
-use Rattle.acts.proofs.effect.ends.Lts as lts
-use Rattle.acts.proofs.change.blank.Reads as blank-reads
-use Rattle.acts.proofs.effect.one.Reads as one-reads
 
 blank-requires : tie.Need-blank-requires
 blank-requires c κs = search needs

@@ -2,9 +2,6 @@ use Rattle.model.specs.Test.{padded}
 use borrow.Author.Needs.{needs}
 use Rattle.acts.proofs.effect.goes_on.Statement.{statement}
 use Rattle.acts.proofs.effect.goes_on.Tie as tie
-use Rattle.acts.proofs.effect.goes_on.Reads as reads
-use Rattle.acts.proofs.effect.goes_on.Lts as lts
-use Rattle.acts.proofs.effect.one.Reads as one-reads
 
 one-requires : tie.Need-one-requires
 one-requires c κs = search needs

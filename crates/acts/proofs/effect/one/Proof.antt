@@ -1,9 +1,6 @@
 use borrow.Author.Needs.{needs}
 use Rattle.acts.proofs.effect.one.Statement.{statement}
 use Rattle.acts.proofs.effect.one.Tie as tie
-use Rattle.acts.proofs.effect.one.Reads as reads
-use Rattle.acts.proofs.effect.one.Lts as lts
-use Rattle.acts.proofs.effect.no_cell.Reads as no-cell-reads
 
 no-cell-requires : tie.Need-no-cell-requires
 no-cell-requires c κs = search needs

@@ -2,8 +2,6 @@ use borrow.Author.Needs.{needs}
 use Rattle.model.specs.Test.{padded}
 use Rattle.acts.proofs.effect.two.Statement.{statement}
 use Rattle.acts.proofs.effect.two.Tie as tie
-use Rattle.acts.proofs.effect.two.Reads as reads
-use Rattle.acts.proofs.effect.two.Lts as lts
 
 returns : tie.Need-returns
 unfolding padded

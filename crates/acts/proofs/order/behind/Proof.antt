@@ -3,8 +3,6 @@ use Rattle.acts.specs.Choking.{behindIf}
 use borrow.Author.Needs.{needs}
 use Rattle.acts.proofs.order.behind.Statement.{statement}
 use Rattle.acts.proofs.order.behind.Tie as tie
-use Rattle.acts.proofs.order.behind.Reads as reads
-use Rattle.acts.proofs.order.behind.Lts as lts
 
 element-write-order : tie.Need-element-write-order
 element-write-order c = let l = c .before .pre (c .if1 .taken) in omega arith

@@ -3,8 +3,6 @@ use Rattle.acts.specs.Unfinished.{effectOutcome}
 use mathlib.Core.Path.{refl}
 use Rattle.acts.proofs.refuse.refused.Statement.{statement}
 use Rattle.acts.proofs.refuse.refused.Tie as tie
-use Rattle.acts.proofs.refuse.refused.Reads as reads
-use Rattle.acts.proofs.refuse.refused.Lts as lts
 
 returns : tie.Need-returns
 unfolding effectOutcome

@@ -2,10 +2,6 @@ use Rattle.acts.proofs.Written.{joined-room, no-row, token-row, cell-ro
 use borrow.Author.Needs.{needs}
 use Rattle.acts.proofs.write.written.Statement.{statement}
 use Rattle.acts.proofs.write.written.Tie as tie
-use Rattle.acts.proofs.write.written.Reads as reads
-use Rattle.acts.proofs.write.written.Lts as lts
-use Rattle.acts.proofs.order.behind.Reads as behind-reads
-use Rattle.acts.proofs.order.left_out.Reads as left-out-reads
 
 left-out-requires : tie.Need-left-out-requires
 left-out-requires c κs = search needs

@@ -1,16 +1,11 @@
+-- `answer::answer` meets its contract. Assumes nothing.
 use Rattle.machine.proofs.Ending.{answer-rule, answer-at}
-use mathlib.Core.Path.{sym, ap, _∙_}
+use mathlib.Core.Path.{sym, _∙_}
 use Rattle.machine.proofs.Viewed.{marks-of}
 use Rattle.machine.proofs.Ending.{answer-rule}
 use borrow.Author.Needs.{needs}
 use Rattle.machine.proofs.answer.answer.Statement.{statement}
 use Rattle.machine.proofs.answer.answer.Tie as tie
-use Rattle.machine.proofs.answer.answer.Reads as reads
-use Rattle.machine.proofs.answer.answer.Lts as lts
-use Rattle.acts.proofs.refuse.refused.Reads as refused-reads
-use Rattle.machine.proofs.kept.answer_kept.Reads as answer-kept-reads
-use Rattle.reach.proofs.used.in_use.Reads as in-use-reads
-use Rattle.rules.proofs.rules.rules_kept.Reads as rules-kept-reads
 
 in-use-requires : tie.Need-in-use-requires
 in-use-requires c κs = search needs

@@ -1,10 +1,8 @@
+-- `kept::answer_kept` meets its contract. Assumes nothing.
 use Rattle.machine.proofs.Ending.{answer-kept}
 use borrow.Author.Needs.{needs}
 use Rattle.machine.proofs.kept.answer_kept.Statement.{statement}
 use Rattle.machine.proofs.kept.answer_kept.Tie as tie
-use Rattle.machine.proofs.kept.answer_kept.Reads as reads
-use Rattle.machine.proofs.kept.answer_kept.Lts as lts
-use Rattle.acts.proofs.answer.answered.Reads as answered-reads
 
 answered-requires : tie.Need-answered-requires
 answered-requires c κs = search needs

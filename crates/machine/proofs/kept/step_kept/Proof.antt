@@ -1,19 +1,11 @@
-use mathlib.Core.Path.{_≡_, refl, sym, ap, _∙_}
+-- `kept::step_kept` meets its contract: by how the effect of the view that was read ends. Assumes nothing.
+use mathlib.Core.Path.{_∙_}
 use Rattle.machine.proofs.Ending.{fitting, choking, ends-refused, ends-choking, ends-blanked, ends-kept}
 use Rattle.acts.proofs.Queued.{acts}
 use Rattle.acts.specs.Acting.{Rules}
 use borrow.Author.Needs.{needs}
 use Rattle.machine.proofs.kept.step_kept.Statement.{statement}
 use Rattle.machine.proofs.kept.step_kept.Tie as tie
-use Rattle.machine.proofs.kept.step_kept.Reads as reads
-use Rattle.machine.proofs.kept.step_kept.Lts as lts
-use Rattle.acts.proofs.act.act.Reads as act-reads
-use Rattle.acts.proofs.choke.chokes.Reads as chokes-reads
-use Rattle.acts.proofs.write.written.Reads as written-reads
-use Rattle.machine.proofs.kept.whole.Reads as whole-reads
-use Rattle.machine.proofs.refused.is_refused.Reads as is-refused-reads
-use Rattle.machine.proofs.view.viewed.Reads as viewed-reads
-use Rattle.reach.proofs.finish.finished.Reads as finished-reads
 
 whole-requires : tie.Need-whole-requires
 whole-requires c κs = search needs

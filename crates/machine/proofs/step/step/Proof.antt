@@ -1,15 +1,10 @@
-use mathlib.Core.Path.{sym, ap, _∙_}
+-- `step::step` meets its contract. Assumes nothing.
+use mathlib.Core.Path.{sym, _∙_}
 use Rattle.machine.proofs.Viewed.{marks-of}
 use Rattle.machine.proofs.Ending.{step-no-token, step-rule}
 use borrow.Author.Needs.{needs}
 use Rattle.machine.proofs.step.step.Statement.{statement}
 use Rattle.machine.proofs.step.step.Tie as tie
-use Rattle.machine.proofs.step.step.Reads as reads
-use Rattle.machine.proofs.step.step.Lts as lts
-use Rattle.acts.proofs.refuse.refused.Reads as refused-reads
-use Rattle.machine.proofs.kept.step_kept.Reads as step-kept-reads
-use Rattle.reach.proofs.used.in_use.Reads as in-use-reads
-use Rattle.rules.proofs.rules.rules_kept.Reads as rules-kept-reads
 
 in-use-requires : tie.Need-in-use-requires
 in-use-requires c κs = search needs

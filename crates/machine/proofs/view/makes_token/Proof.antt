@@ -1,10 +1,9 @@
+-- `view::makes_token` meets its contract: kind by kind. Assumes nothing.
 use mathlib.Core.Path.{sym, ap}
 use Rattle.machine.proofs.Viewed.{makes-others}
 use Rattle.machine.specs.Kind.{makesOfKind}
 use Rattle.machine.proofs.view.makes_token.Statement.{statement}
 use Rattle.machine.proofs.view.makes_token.Tie as tie
-use Rattle.machine.proofs.view.makes_token.Reads as reads
-use Rattle.machine.proofs.view.makes_token.Lts as lts
 
 returns : tie.Need-returns
 unfolding makesOfKind

@@ -1,10 +1,9 @@
+-- `view::place_named` meets its contract. Assumes nothing.
 use mathlib.Core.Path.{sym, ap}
 use Rattle.acts.specs.Effects.{placeNamed}
 use borrow.Author.Needs.{needs}
 use Rattle.machine.proofs.view.place_named.Statement.{statement}
 use Rattle.machine.proofs.view.place_named.Tie as tie
-use Rattle.machine.proofs.view.place_named.Reads as reads
-use Rattle.machine.proofs.view.place_named.Lts as lts
 
 enum-told : tie.Need-enum-told
 enum-told c = search needs

@@ -1,19 +1,10 @@
-use mathlib.Core.Path.{_≡_, refl, sym, ap, _∙_}
+-- `view::viewed` meets its contract: it reads the view of the definitions, with places or without. Assumes nothing.
 use native.Mathlib.Omega.{arith}
 use Rattle.machine.proofs.Viewed.{token-read, frame-inside, frame-read, kind-inside, view-plain, view-making, marks-of}
 use Rattle.acts.proofs.Queued.{place-inside, p-inside, view-kept}
 use borrow.Author.Needs.{needs}
 use Rattle.machine.proofs.view.viewed.Statement.{statement}
 use Rattle.machine.proofs.view.viewed.Tie as tie
-use Rattle.machine.proofs.view.viewed.Reads as reads
-use Rattle.machine.proofs.view.viewed.Lts as lts
-use Rattle.machine.proofs.view.makes_token.Reads as makes-token-reads
-use Rattle.machine.proofs.view.place_named.Reads as place-named-reads
-use Rattle.reach.proofs.cells.marked.Reads as cells-marked-reads
-use Rattle.reach.proofs.cells.next_place.Reads as cells-next-place-reads
-use Rattle.reach.proofs.tokens.marked.Reads as tokens-marked-reads
-use Rattle.reach.proofs.tokens.next_place.Reads as tokens-next-place-reads
-use Rattle.reach.proofs.used.in_use.Reads as in-use-reads
 
 element-copy-out-p : tie.Need-element-copy-out-p
 element-copy-out-p c = place-inside _ _ _ (c .pre)
