@@ -30,13 +30,6 @@ use Rattle.acts.specs.Unfinished.{taken, waitingAt}
 use Rattle.acts.specs.declared.effect.Effect.{Effect}
 use Rattle.acts.specs.declared.view.View.{View}
 
--- where no cell is new, and for the code's contracts: none is
-abbrev pub noCell : Cell
-noCell = blankCell
-
-abbrev pub noOpening : Bool
-noOpening = false
-
 -- one token changes; n outside calls were made by then
 abbrev pub one : Reply → List ℤ → Token → (joins waits : Bool) → (n : ℕ) → (keeps : Bool) → Effect
 one r vs t j w n k =

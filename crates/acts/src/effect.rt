@@ -1,5 +1,7 @@
 // What an instruction does to the record, as few values. Nothing here takes the record: `write` puts the values into it, once for a step.
 ghost use mathlib.Core.Path.{_≡_};
+ghost use mathlib.Core.Bool.{false};
+ghost use Rattle.model.specs.Machine.Blank.{blankCell};
 ghost use Rattle.acts.specs.Effects as Effects;
 use crate::change::blank;
 use crate::view::View;
@@ -30,8 +32,9 @@ pub struct Effect {
     pub keeps: bool,
 }
 
+// The cell of an effect that opens none.
 fn no_cell() -> Cell
-    ensures { λ r. ⌜ r ≡ Effects.noCell ⌝ }
+    ensures { λ r. ⌜ r ≡ blankCell ⌝ }
 {
     let nothing = Held::Nothing;
     Cell {
@@ -90,7 +93,7 @@ pub fn two(calls: u32, token: Token, joins: bool, other: Token, opens: bool, cel
 
 // A token is new and no cell.
 pub fn beside(calls: u32, token: Token, joins: bool, other: Token) -> Effect
-    ensures { λ r. ⌜ r ≡ Effects.two calls token joins other Effects.noOpening Effects.noCell ⌝ }
+    ensures { λ r. ⌜ r ≡ Effects.two calls token joins other false blankCell ⌝ }
 {
     two(calls, token, joins, other, false, no_cell())
 }
