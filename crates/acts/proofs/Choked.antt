@@ -25,8 +25,7 @@ use Rattle.acts.specs.Choking.{homeInRange, Below, markedAt, chokeMarked
 use Rattle.acts.specs.declared.order.Order.{Order}
 use Rattle.acts.specs.declared.order.Orders.{Orders}
 use Rattle.acts.proofs.Chokes.{place-inside}
-use Rattle.acts.proofs.Orders.{length-without}
-use Rattle.acts.proofs.Shapes.{literal, shaped, orders-shaped, names-back, order-count}
+use Rattle.acts.proofs.Shapes.{literal, shaped, orders-shaped, names-back, left-count}
 use Rattle.acts.proofs.Gathers.{filter-append, gathering-count}
 use Rattle.acts.proofs.Tables.{getD-any}
 
@@ -132,15 +131,8 @@ module _ {queue : List ℕ} {count index : ℕ} {waits : List ℕ} {n : ℕ} (k 
   abbrev behind : List ℕ
   behind = without index (take count queue)
 
-  behind-length : count - 1 ≡ length behind
-  behind-length =
-      let inside : index < count = k .inside in
-      let size : count ≡ length (take count queue) = order-count (k .order) in
-      let less : suc (length behind) ≡ length (take count queue) = length-without index (take count queue) (omega arith) in
-      omega arith
-
   behind-names : (names : List ℕ) → names ≡ padded 0 64 behind → take (count - 1) names ≡ behind
-  behind-names names e = ap₂ take behind-length e ∙ names-back behind
+  behind-names names e = ap₂ take (left-count (k .order) (k .inside)) e ∙ names-back behind
 
   pub behind-below : (names : List ℕ) → names ≡ padded 0 64 behind → all (λ (p : ℕ). ltb p 64) (take (count - 1) names) ≡ true
   behind-below names e =

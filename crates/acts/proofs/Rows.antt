@@ -1,7 +1,7 @@
 -- What the rules of a kept dag say of a node's row: the node that its words are, by its kind, and the numbers in them. Assumes nothing.
 use mathlib.Core.Path.{_≡_, refl, sym, ap, ap₂, subst, _∙_}
 use mathlib.Core.Bool.{true}
-use mathlib.Core.List.{List, [], _∷_, map}
+use mathlib.Core.List.{List, map}
 use Prim.Native.Nat.{ℕ, _+_, _*_, _<_, _≤_}
 use native.Mathlib.Decide.{decLt}
 use native.Mathlib.Omega.{arith}
@@ -17,7 +17,7 @@ use Rattle.model.specs.declared.token.Bind.{Bind}
 use Rattle.model.specs.declared.cell.Cell.{Cell}
 use Rattle.model.proofs.Test.{clash, and-left, and-right, ltb-lt, leb-le}
 use Rattle.model.proofs.Job.Rules.{dag-rules}
-use Rattle.acts.specs.Row.{rowOf, rowAt, paramsAt, ParamsKept, nodeIn, nodeOfKind}
+use Rattle.acts.specs.Row.{rowOf, rowAt, paramsAt, ParamsKept, nodeIn, nodeOfKind, nodesByKind}
 use Rattle.acts.specs.Acting.{NodeRow, Acts}
 use Rattle.acts.specs.Looking.{bindInRange, lookBinds}
 use Rattle.acts.specs.declared.view.View.{View}
@@ -158,23 +158,9 @@ pub kind-below : (d : Dag) (a b c : ℕ) (ps : List Param) (kind : ℕ) → node
 unfolding nodeKept
 kind-below d a b c ps kind e = go (decLt kind 10)
   where
-    nodes : List Node
-    nodes =
-        Node.stop
-        ∷ Node.site a ps b
-        ∷ Node.call a ps b
-        ∷ Node.fork a b
-        ∷ Node.assign a b
-        ∷ Node.remove a b
-        ∷ Node.where' c a b
-        ∷ Node.choke
-        ∷ Node.return
-        ∷ Node.publish
-        ∷ []
-
     go : Dec (kind < 10) → kind < 10
     go (yes l) = l
-    go (no f) = clash (subst (λ n. nodeKept d n ≡ true) (List·getD-eq-default nodes Node.unknown {n = kind} (omega arith)) e) refl
+    go (no f) = clash (subst (λ n. nodeKept d n ≡ true) (List·getD-eq-default (nodesByKind a b c ps) Node.unknown {n = kind} (omega arith)) e) refl
 
 -- the kind that is left is the last one
 low-kinds : (k : ℕ) → (k ≡ 0 → ⊥) → (k ≡ 1 → ⊥) → (k ≡ 2 → ⊥) → (k ≡ 3 → ⊥) → (k ≡ 4 → ⊥) → 5 ≤ k

@@ -82,6 +82,13 @@ order-array {Q} {n} o = sym (padded-front 0 Q n 64 (o .size) (o .fits) (o .rest)
 pub order-count : {Q : List ℕ} {n : ℕ} → OrderKept Q n → n ≡ length (take n Q)
 order-count {Q} {n} o = let s = o .size in let f = o .fits in sym (length-take-le n Q (omega arith))
 
+-- an order with one name left out has one fewer
+pub left-count : {Q : List ℕ} {n i : ℕ} → OrderKept Q n → i < n → n - 1 ≡ length (without i (take n Q))
+left-count {Q} {n} {i} o l =
+    let size : n ≡ length (take n Q) = order-count o in
+    let less : suc (length (without i (take n Q))) ≡ length (take n Q) = length-without i (take n Q) (omega arith) in
+    omega arith
+
 -- the reply without values
 pub no-values :
     (r : Reply) {M N : Machine}
@@ -101,11 +108,3 @@ module _ (m : Machine) (place at : ℕ) (o : Taking m place at) where
   pub taken-shaped : taken m place ≡ shaped (m .tokens) (m .cells) rest left (m .calls) (m .newtoken) (m .newcell)
   unfolding queueOf waitsOf
   taken-shaped = orders-shaped rest left m (o .orders .tokens)
-
-  pub taken-count : m .queued - 1 ≡ length rest
-  taken-count =
-      let n : m .queued ≡ length (take (m .queued) (m .queue)) = order-count (o .orders .queue) in
-      let l : place < m .queued = o .queued in
-      let z : suc (length (without place (take (m .queued) (m .queue)))) ≡ length (take (m .queued) (m .queue)) =
-      length-without place (take (m .queued) (m .queue)) (omega arith) in
-      omega arith

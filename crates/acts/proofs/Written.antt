@@ -20,7 +20,7 @@ use Rattle.acts.specs.Effects.{joinsIf, waitsIf, newRows}
 use Rattle.acts.specs.declared.order.Order.{Order}
 use Rattle.acts.specs.declared.effect.Effect.{Effect}
 use Rattle.acts.specs.declared.view.View.{View}
-use Rattle.acts.proofs.Shapes.{literal, shaped, enqueue-shaped, waiting-shaped, array-behind, count-behind, order-array, order-count, taken-shaped, taken-count}
+use Rattle.acts.proofs.Shapes.{literal, shaped, enqueue-shaped, waiting-shaped, array-behind, count-behind, order-array, order-count, left-count, taken-shaped}
 
 -- a name behind an order, or not
 addIf : Bool → ℕ → List ℕ → List ℕ
@@ -73,7 +73,7 @@ module _ (m : Machine) (place : ℕ) (v : View) (e : Effect) (fit : Fitting m pl
   joined-is : joined ≡ orderOf (addIf (e .joins) (v .p) rest)
   joined-is =
       behind-order (e .joins) (v .p) rest first
-      (ap₂ (λ (a : List ℕ) (n : ℕ). record { names = a; count = n }) out (taken-count m place (v .p) (fit .taking))) (λ _. few)
+      (ap₂ (λ (a : List ℕ) (n : ℕ). record { names = a; count = n }) out (left-count (fit .taking .orders .queue) (fit .taking .queued))) (λ _. few)
 
   pub joined-room : (q : Order) → q ≡ joined → RoomIf (e .makes) (q .count)
   unfolding behindIf

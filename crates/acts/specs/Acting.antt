@@ -25,7 +25,7 @@ pub record Rules (ws : List ℕ) (m : Machine) (place : ℕ) : Type 0 where
   pub kept : rulesKept paper (dagOf ws) m ≡ true
   pub queued : place < m .queued
 
--- the row of a node of a kept dag begins at the word `at`
+-- the row of a node of a kept dag begins at the word `at`, and the node's kind is k
 pub record NodeRow (ws : List ℕ) (at k : ℕ) : Type 0 where
   pub size : length ws ≡ 12331
   pub dag : dagKept (dagOf ws) ≡ true

@@ -68,16 +68,19 @@ two n t j u o c =
 
 -- what an instruction does, for the token of a view
 module _ (v : View) where
+  -- the call is refused: nothing of this is written
   abbrev pub refuses : Refusal → Effect
   refuses r = one (replies.Refused r) (valuesBeside []) (v .token) false false (v .calls) true
 
+  -- "the token ends"
   abbrev pub ends : Reply → Effect
   ends r = one r (valuesBeside []) blankToken false false (v .calls) false
 
+  -- the token goes on as u; "a ready token goes to the back of the queue"
   abbrev pub goesOn : (keeps : Bool) → Token → Effect
   goesOn k u = one replies.Done (valuesBeside []) u true false (v .calls) k
 
-  -- the cell c is set to the token's value
+  -- "set the cell": the cell c, to the token's value. What ends and who wakes is read of the whole record, by `changed`
   abbrev pub chokes : (c : ℕ) → Effect
   chokes c =
       record {
@@ -95,18 +98,22 @@ module _ (v : View) where
         keeps = false;
       }
 
+  -- the test holds, or the call is refused
   unfoldable pub unless : Bool → Refusal → Effect → Effect
   unless true r e = e
   unless false r e = refuses r
 
+  -- "a built-in replies and the token goes on, or it is silent and the token ends"
   unfoldable pub replied : (next : ℕ) → Said → Effect
   replied k (gives x) = goesOn true (to k (holding (helds.Value x) (v .token)))
   replied k silent = ends replies.Done
 
+  -- "an outside call takes the next handle (from 0), and the token is called out at the next node"
   unfoldable pub calledOut : (site : ℕ) → List ℤ → (next : ℕ) → Effect
   calledOut s vs k =
       one (replies.Called (v .calls) s (length vs)) (valuesBeside vs) (to k (being (states.Called (v .calls)) (v .token))) false false (suc (v .calls)) true
 
+  -- "the first unset cell makes the token wait there"; "13: outside call, all values there, after 1,000,000 such calls"
   unfoldable pub callSite : (site next : ℕ) → Looked → Effect
   callSite s k (unset c) = one replies.Waits (valuesBeside []) (being (states.Waiting c) (v .token)) false true (v .calls) true
   callSite s k (values vs) =
@@ -115,15 +122,18 @@ module _ (v : View) where
         | false ↦ unless (ltb (v .calls) 1000000) refusals.CallLimit (calledOut s vs k)
       ]
 
+  -- "the place takes a copy of the frame with the value". (The test for 14 leaves no token without a frame.)
   unfoldable pub returned : Place → Effect
   returned places.Nowhere = refuses refusals.Rule
   returned (places.At f) = goesOn false (being states.Ready (holding (v .token .value) (v .frame)))
 
+  -- (The test for 14 leaves no token at a choke without a cell.)
   unfoldable pub choking : Place → Effect
   choking places.Nowhere = refuses refusals.Rule
   choking (places.At c) = chokes c
 
-  -- the instruction table
+  -- the instruction table. Of its lines only assign, remove, return, choke and those that end the token can leave something out of reach:
+  -- the others say `keeps`
   unfoldable pub instruction : Dag → Node → Effect
   instruction d Node.stop = ends replies.Done
   instruction d Node.publish = ends (replies.Published (valueOf (v .token .value)))
@@ -153,7 +163,7 @@ module _ (v : View) where
   -- the test for 14 leaves no such node
   instruction d Node.unknown = refuses refusals.Rule
 
--- does a node make a token
+-- "fork, where or definition call": does a node make a token
 unfoldable pub makesToken : Node → Bool
 makesToken Node.stop = false
 makesToken Node.publish = false
@@ -167,11 +177,12 @@ makesToken Node.return = false
 makesToken Node.choke = false
 makesToken Node.unknown = false
 
--- the place that a place names
+-- the place that a place names; 0, which nothing reads, for nowhere
 unfoldable pub placeNamed : Place → ℕ
 placeNamed places.Nowhere = 0
 placeNamed (places.At i) = i
 
+-- a number, or a truth, where there is one to be read
 unfoldable pub numberIf : Bool → ℕ → ℕ
 numberIf true n = n
 numberIf false n = 0
@@ -195,11 +206,11 @@ viewAt d m p n =
       cellroom = truthIf (makesToken n) (hasCellPlace paper d m);
     }
 
+-- the view of a step: the token that the queue has at a place, at its node
 abbrev pub viewOf : Dag → Machine → (place : ℕ) → View
 viewOf d m place = viewAt d m (getD (m .queue) place 0) (nodeAt d (tokenAt (m .tokens) (getD (m .queue) place 0) .node))
 
--- The record after an effect
-
+-- The record after an effect. "A ready token goes to the back of the queue, left before right": the token joins before the new one
 unfoldable pub joinsIf : Bool → ℕ → Machine → Machine
 joinsIf true p m = enqueue p m
 joinsIf false p m = m
@@ -220,6 +231,7 @@ newRows v e m =
       | false ↦ m
     ]
 
+-- the token is taken from its place of the queue and its row written; then what is new; then who joins which order
 unfoldable pub written : Machine → (place : ℕ) → View → Effect → Machine
 written m place v e =
     waitsIf (e .waits) (v .p)
@@ -228,6 +240,7 @@ written m place v e =
     (newRows v e
     (withCounts (e .calls) (m .newtoken) (m .newcell) (put (v .p) (e .token) (taken m place))))))
 
+-- a choke is the definitions' own
 unfoldable pub changed : Machine → (place : ℕ) → View → Effect → Machine
 changed m place v e = elim (e .chokes) [ places.Nowhere ↦ written m place v e | places.At c ↦ choked c (e .token .value) (taken m place) ]
 

@@ -26,11 +26,10 @@ pub record ParamsKept (ws : List ℕ) (at : ℕ) : Type 0 where
   pub few : getD ws (at + 3) 0 ≤ 4
   pub kept : all paramKept (paramsAt ws at) ≡ true
 
--- a node by its kind and numbers
-abbrev pub nodeOfKind : (a b c : ℕ) → List Param → (kind : ℕ) → Node
-nodeOfKind a b c ps kind =
-    getD
-    (Node.stop
+-- the nodes that have some numbers, by kind
+abbrev pub nodesByKind : (a b c : ℕ) → List Param → List Node
+nodesByKind a b c ps =
+    Node.stop
     ∷ Node.site a ps b
     ∷ Node.call a ps b
     ∷ Node.fork a b
@@ -40,8 +39,11 @@ nodeOfKind a b c ps kind =
     ∷ Node.choke
     ∷ Node.return
     ∷ Node.publish
-    ∷ [])
-    kind Node.unknown
+    ∷ []
+
+-- a node by its kind and numbers
+abbrev pub nodeOfKind : (a b c : ℕ) → List Param → (kind : ℕ) → Node
+nodeOfKind a b c ps kind = getD (nodesByKind a b c ps) kind Node.unknown
 
 -- the node whose row begins at a word, by its kind
 abbrev pub nodeIn : List ℕ → (at : ℕ) → (kind : ℕ) → Node

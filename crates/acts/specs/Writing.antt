@@ -11,6 +11,7 @@ use Rattle.acts.specs.declared.view.View.{View}
 abbrev pub RoomIf : Bool → (n : ℕ) → Type 0
 RoomIf b n = b ≡ true → n < 64
 
+-- the queue has the token, new rows lie in the tables, and the orders have room
 pub record Fitting (m : Machine) (place : ℕ) (v : View) (e : Effect) : Type 0 where
   pub taking : Taking m place (v .p)
   pub new : v .new < 64

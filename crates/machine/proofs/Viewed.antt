@@ -1,7 +1,7 @@
 -- What the code reads of a record is the view of the definitions. Assumes nothing.
 use mathlib.Core.Path.{_≡_, refl, sym, ap, ap₂, subst, _∙_}
 use mathlib.Core.Bool.{Bool, true, false}
-use mathlib.Core.List.{List, [], _∷_}
+use mathlib.Core.List.{List}
 use Prim.Native.Nat.{ℕ, zero, suc, _+_, _<_}
 use lib.ListN.{getD, List·getD-map}
 use lib.Dec.{ltb}
@@ -16,7 +16,7 @@ use Rattle.model.specs.declared.token.Token.{Token}
 use Rattle.model.specs.declared.record.Machine.{Machine}
 use Rattle.acts.specs.Acting.{Rules}
 use Rattle.acts.specs.Effects.{makesToken, numberIf, truthIf, placeNamed, viewOf}
-use Rattle.acts.specs.Row.{rowOf, nodeIn, paramsAt}
+use Rattle.acts.specs.Row.{rowOf, nodeIn, nodesByKind, paramsAt}
 use Rattle.acts.specs.declared.view.View.{View}
 use Rattle.acts.proofs.Queued.{node-of, row-read, p-inside, caller-inside, row-start}
 use Rattle.reach.specs.declared.used.Used.{Used}
@@ -26,22 +26,7 @@ use Rattle.machine.specs.Kind.{makesOfKind}
 kind-makes : (ws : List ℕ) (at kind : ℕ) → makesOfKind kind ≡ makesToken (nodeIn ws at kind)
 unfolding makesOfKind makesToken
 kind-makes ws at kind =
-    let a = getD ws (at + 1) 0 in
-    let b = getD ws (at + 2) 0 in
-    let ps = paramsAt ws at in
-    List·getD-map makesToken
-    (Node.stop
-    ∷ Node.site a ps b
-    ∷ Node.call a ps b
-    ∷ Node.fork a b
-    ∷ Node.assign a b
-    ∷ Node.remove a b
-    ∷ Node.where' (getD ws (at + 3) 0) a b
-    ∷ Node.choke
-    ∷ Node.return
-    ∷ Node.publish
-    ∷ [])
-    kind Node.unknown
+    List·getD-map makesToken (nodesByKind (getD ws (at + 1) 0) (getD ws (at + 2) 0) (getD ws (at + 3) 0) (paramsAt ws at)) kind Node.unknown
 
 pub makes-others : (k : ℕ) → (k ≡ 2 → ⊥) → (k ≡ 3 → ⊥) → (k ≡ 6 → ⊥) → makesOfKind k ≡ false
 unfolding makesOfKind
