@@ -36,7 +36,7 @@ use Rattle.model.proofs.Machine.Reach.{Names}
 use Rattle.model.proofs.Machine.InUse.{CellsIn}
 use Rattle.model.proofs.Machine.Kept.{kept-whole}
 use Rattle.model.proofs.Machine.Rules.{RulesKept, rules-kept}
-use Rattle.model.proofs.Machine.Inside.{Fits, active-live}
+use Rattle.model.proofs.Machine.Inside.{Fits, live-active, active-live}
 use Rattle.model.proofs.Machine.Writes.{fits-same}
 use Rattle.model.proofs.Machine.Used.{Used, UsedCell, used-fits, used-parent, lives-active, live-used}
 use Rattle.model.proofs.Run.Chain.{unsetCell, blank-cell-clear, new-cell-clear}
@@ -140,11 +140,7 @@ rules-clean lim d m kept = record { tokens = tokens; cells = cells }
         let l : c < length (m .cells) = omega (arith, free-inside (cellsUsed m) c e, cellsOf m .size) in
         cell-blank _ (blank-rest cellIsBlank (cellsUsed m) (m .cells) blankCell c (rules .blankCells) l e)
 
--- active: live, and under no set cell
-clear-active : (cs : List Cell) (t : Token) → isLive (t .state) ≡ true → underSet cs (t .cell) ≡ false → isActive cs t ≡ true
-unfolding isActive
-clear-active cs t e f = rw (e, f, isActive) refl
-
+-- an active token is under no set cell
 active-clear : (cs : List Cell) (t : Token) → isActive cs t ≡ true → underSet cs (t .cell) ≡ false
 unfolding isActive
 active-clear cs t e = go (isLive (t .state)) e (underSet cs (t .cell)) refl
@@ -157,7 +153,7 @@ active-clear cs t e = go (isLive (t .state)) e (underSet cs (t .cell)) refl
 
 clear-used : (o : Machine) (i : ℕ) (u : Token) → tokenAt (o .tokens) i ≡ u → isLive (u .state) ≡ true
     → underSet (o .cells) (u .cell) ≡ false → Used o i
-clear-used o i u e live clear = tokensOf o .active i (ap (isActive (o .cells)) e ∙ clear-active (o .cells) u live clear)
+clear-used o i u e live clear = tokensOf o .active i (ap (isActive (o .cells)) e ∙ live-active (o .cells) u live clear)
 
 -- what stands at i is as it was, or i was free and is in use
 pub data AsBefore {A : Type 0} (new old : A) (were are : List Bool) (i : ℕ) : Type 0 where

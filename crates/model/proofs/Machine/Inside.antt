@@ -41,7 +41,11 @@ pub record Inside (n k : ℕ) (Q R : ℕ → Type 0) (ts : List Token) (cs : Lis
   pub fits : (i : ℕ) → i < n → Q i → Fits Q R (tokenAt ts i)
   pub parent : (c : ℕ) → c < k → R c → Names R (cellAt cs c .parent)
 
--- an active token is live
+-- a live token under no set cell is active, and an active token is live
+pub live-active : (cs : List Cell) (t : Token) → isLive (t .state) ≡ true → underSet cs (t .cell) ≡ false → isActive cs t ≡ true
+unfolding isActive
+live-active cs t e f = rw (e, f, isActive) refl
+
 pub active-live : (cs : List Cell) (t : Token) → isActive cs t ≡ true → isLive (t .state) ≡ true
 unfolding isActive
 active-live cs t e = go (isLive (t .state)) e

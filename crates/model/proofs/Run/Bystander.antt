@@ -1,6 +1,6 @@
 -- A ready token that does not act: what a step writes at other places leaves it as it is, at its position and active, so that
 -- blanking keeps it. One lemma for each change of a machine. Assumes nothing.
-use mathlib.Core.Path.{_≡_, refl, sym, _∙_, ap, subst}
+use mathlib.Core.Path.{_≡_, refl, sym, _∙_, subst}
 use mathlib.Core.Bool.{true, false, not}
 use mathlib.Core.List.{List, [], _∷_, _++_}
 use Prim.Native.Nat.{ℕ, _<_}
@@ -16,8 +16,8 @@ use Rattle.model.specs.Machine.Step.{withTables, withOrders, withCounts,
 use Rattle.model.specs.Run.Follow.{Stands, queuedToken}
 use Rattle.model.specs.declared.token.Place.{Place}
 use Rattle.model.specs.declared.token.Token.{Token}
-use Rattle.model.specs.declared.cell.Cell.{Cell}
 use Rattle.model.specs.declared.record.Machine.{Machine}
+use Rattle.model.proofs.Machine.Inside.{live-active}
 use Rattle.model.proofs.Machine.Rules.{ready-live}
 use Rattle.model.proofs.Machine.Marks.{Marked}
 use Rattle.model.proofs.Machine.InUse.{tokens-used}
@@ -110,15 +110,11 @@ module _ {u : Token} {p k : ℕ} where
       record { queued = h .queued; place = h .place; unharmed = unharmed-cell c above m e (h .unharmed) }
 
 -- a ready token under no set cell is active, so it is in use, and blanking keeps it
-pub ready-active : (cs : List Cell) (t : Token) → isReady (t .state) ≡ true → underSet cs (t .cell) ≡ false → isActive cs t ≡ true
-unfolding isActive
-ready-active cs t r e = rw (ready-live (t .state) r, isActive) (ap not e)
-
 module _ {u : Token} {p : ℕ} (ready : isReady (u .state) ≡ true) where
   pub unharmed-marked : (m : Machine) → Unharmed u p m → Marked (tokensUsed m) p
   unharmed-marked m h =
       tokens-used (m .tokens) (m .cells) .active p
-      (subst (λ (t : Token). isActive (m .cells) t ≡ true) (sym (h .token)) (ready-active (m .cells) u ready (h .clear)))
+      (subst (λ (t : Token). isActive (m .cells) t ≡ true) (sym (h .token)) (live-active (m .cells) u (ready-live (u .state) ready) (h .clear)))
 
   pub unharmed-finish : (m : Machine) → Unharmed u p m → tokenAt (finish m .tokens) p ≡ u
   unfolding finish tokenAt
