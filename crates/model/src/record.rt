@@ -30,6 +30,8 @@ impl Machine {
     pub const TOKENS: usize = 64;
     // "Cells in use: at most 32."
     pub const CELLS: usize = 32;
+    // The words of a record: crate `record` says which stands where.
+    pub const WORDS: usize = 1797;
 
     // The record in which nothing is in use.
     pub fn blank() -> Machine

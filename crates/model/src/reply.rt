@@ -20,6 +20,12 @@ pub enum Reply {
     Refused(Refusal),
 }
 
+// What a call on a lent record hands back: the reply, and the values of an outside call (the others are 0).
+pub struct Report {
+    pub reply: Reply,
+    pub values: [i32; 4],
+}
+
 // The reply, the values of an outside call (the others are 0), and the machine after the call.
 pub struct Outcome {
     pub reply: Reply,

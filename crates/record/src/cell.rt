@@ -1,0 +1,55 @@
+// A cell's row: readers and writers of its fields.
+ghost use mathlib.Core.Path.{_≡_};
+ghost use Prim.Native.Nat.{_<_};
+ghost use lib.ListN.{set};
+ghost use Rattle.model.specs.Machine.Blank.{cellAt};
+ghost use Rattle.model.specs.Machine.Step.{withTables};
+ghost use Rattle.model.specs.declared.record.Machine.{Machine};
+ghost use Rattle.model.specs.declared.token.Held.{Held};
+ghost use Rattle.model.specs.declared.token.Place.{Place};
+ghost use Rattle.record.specs.Fields.{putCell, unsetCell, setCell};
+ghost use Rattle.record.specs.Holds.{Codes, Holds};
+ghost use Rattle.record.specs.Words.{placeNumber, heldKind, heldNumber};
+use crate::layout::CELL;
+use crate::layout::CELLS;
+use model::record::Machine;
+
+pub fn parent(w: &[u32; Machine::WORDS], c: usize) -> u32
+    requires { ⌜ c < 32 ⌝ }
+    ensures { λ r. ⌜ ((m : Machine) → Codes (now (w .entry)) m → r ≡ placeNumber (cellAt (m .cells) c .parent)) ⌝ }
+{
+    w[CELLS + CELL * c]
+}
+
+pub fn valued(w: &[u32; Machine::WORDS], c: usize) -> u32
+    requires { ⌜ c < 32 ⌝ }
+    ensures { λ r. ⌜ ((m : Machine) → Codes (now (w .entry)) m → r ≡ heldKind (cellAt (m .cells) c .value)) ⌝ }
+{
+    w[CELLS + CELL * c + 1]
+}
+
+pub fn value(w: &[u32; Machine::WORDS], c: usize) -> u32
+    requires { ⌜ c < 32 ⌝ }
+    ensures { λ r. ⌜ ((m : Machine) → Codes (now (w .entry)) m → r ≡ heldNumber (cellAt (m .cells) c .value)) ⌝ }
+{
+    w[CELLS + CELL * c + 2]
+}
+
+// A cell without a value, below the parent that has this number. With 0, for nowhere, it is a blank cell.
+pub fn put_unset(w: &mut [u32; Machine::WORDS], c: usize, parent: u32)
+    requires { ⌜ c < 32 ⌝ }
+    ensures { λ _. ⌜ ((m : Machine) (q : Place) → Holds (now (w .entry)) m → placeNumber q ≡ parent → Holds (now (w .exit)) (putCell c (unsetCell q) m)) ⌝ }
+{
+    w[CELLS + CELL * c] = parent;
+    w[CELLS + CELL * c + 1] = 0;
+    w[CELLS + CELL * c + 2] = 0;
+}
+
+// "Set the cell", to the value whose words these are.
+pub fn set_value(w: &mut [u32; Machine::WORDS], c: usize, valued: u32, value: u32)
+    requires { ⌜ c < 32 ⌝ }
+    ensures { λ _. ⌜ ((m : Machine) (v : Held) → Holds (now (w .entry)) m → heldKind v ≡ valued → heldNumber v ≡ value → Holds (now (w .exit)) (putCell c (setCell v (cellAt (m .cells) c)) m)) ⌝ }
+{
+    w[CELLS + CELL * c + 1] = valued;
+    w[CELLS + CELL * c + 2] = value;
+}

@@ -1,0 +1,41 @@
+// Where the words of a record stand: tokens, cells, queue, wait order, counts. specs/Words.antt has the same table.
+
+// The words of a token: state, its number, node, caller, cell, whether it has a value, the value, 0, and kind and number of each binding.
+pub const TOKEN: usize = 24;
+
+// The words of a cell: parent, whether it has a value, the value, 0.
+pub const CELL: usize = 4;
+
+pub const CELLS: usize = 1536;
+
+pub const QUEUE: usize = 1664;
+
+pub const WAITS: usize = 1728;
+
+pub const QUEUED: usize = 1792;
+
+pub const WAITING: usize = 1793;
+
+pub const CALLS: usize = 1794;
+
+pub const LASTTOKEN: usize = 1795;
+
+pub const LASTCELL: usize = 1796;
+
+// A token's state.
+pub const BLANK_STATE: u32 = 0;
+
+pub const READY_STATE: u32 = 1;
+
+pub const WAITING_STATE: u32 = 2;
+
+pub const CALLED_STATE: u32 = 3;
+
+pub const FRAME_STATE: u32 = 4;
+
+// What a variable is bound to.
+pub const EMPTY_SLOT: u32 = 0;
+
+pub const VALUE_SLOT: u32 = 1;
+
+pub const CELL_SLOT: u32 = 2;
