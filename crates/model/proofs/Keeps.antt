@@ -12,6 +12,8 @@ pub mod Instructions
 pub mod Rules
 pub mod Reached
 pub mod Runs
+pub mod Framed
+pub mod Carried
 pub mod Blocked
 pub mod NotRule
 pub mod Never

@@ -9,6 +9,7 @@ pub mod Rules
 pub mod Inside
 pub mod Writes
 pub mod Used
+pub mod Acting
 pub mod Acts
 pub mod Within
 pub mod Begin

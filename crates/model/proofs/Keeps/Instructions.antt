@@ -16,7 +16,7 @@ use Rattle.model.specs.Machine.InUse.{tokensUsed, cellsUsed}
 use Rattle.model.specs.Machine.Places.{nextPlace}
 use Rattle.model.specs.Machine.Rules.{rulesKept}
 use Rattle.model.specs.Machine.Step.{to, binding, holding, inCell, being, withTables, withOrders, withCounts, queueOf, waitsOf}
-use Rattle.model.specs.Machine.Step.{put, enqueue, newToken, newCell, formalsBound, hasTokenPlace, hasCellPlace}
+use Rattle.model.specs.Machine.Step.{put, enqueue, newToken, newCell, hasTokenPlace, hasCellPlace}
 use Rattle.model.specs.Machine.Answer.{holder}
 use Rattle.model.specs.declared.token.Slot.the-variants as slots
 use Rattle.model.specs.declared.token.Held.the-variants as helds
@@ -26,6 +26,7 @@ use Rattle.model.specs.declared.token.Token.{Token}
 use Rattle.model.specs.declared.record.Machine.{Machine}
 use Rattle.model.proofs.Machine.Marks.{Free}
 use Rattle.model.proofs.Machine.Rules.{ready-live}
+pub use Rattle.model.proofs.Machine.Acting.{callee}
 use Rattle.model.proofs.Run.Queue.{queue-kept}
 use Rattle.model.proofs.Sees.Answering.{holder-called}
 use Rattle.model.proofs.Sees.Lockstep.{Fitting, free-token, free-cell}
@@ -35,62 +36,54 @@ use Rattle.model.proofs.Keeps.Unblanked.{Whole, same-links, fork-links,
 abbrev pub taken : Machine → (place : ℕ) → Machine
 taken m place = withOrders (without place (queueOf m)) (waitsOf m) m
 
--- the callee of a definition call
-abbrev pub callee : (p : ℕ) → Token → (root : ℕ) → List Param → Token
-callee p t root ps =
-    record {
-      node = root;
-      binds = formalsBound (t .binds) ps;
-      value = helds.Nothing;
-      caller = places.At p;
-      cell = t .cell;
-      state = states.Ready;
-    }
-
 module _ (lim : Limits) (d : Dag) (m : Machine) (kept : rulesKept lim d m ≡ true) where
   -- the token t at p, which the queue has at a place, acts
   module _ (place : ℕ) (queued : place < m .queued) (p : ℕ) (token : p ≡ getD (m .queue) place 0) where
     abbrev t : Token
     t = tokenAt (m .tokens) p
 
-    live : isLive (t .state) ≡ true
-    live =
+    pub acting-live : isLive (t .state) ≡ true
+    acting-live =
         subst (λ i. isLive (tokenAt (m .tokens) i .state) ≡ true) (sym token) (ready-live _ (queue-kept lim d m kept .ready place queued))
 
     -- "the first unset cell makes the token wait there"; the orders may be any
     pub waited-whole : (c : ℕ) (queue waits : List ℕ) → Whole (withOrders queue waits (put p (being (states.Waiting c) t) (taken m place)))
     unfolding withOrders put withTables being isLive
-    waited-whole c queue waits = same-links lim d m kept p live _ (being (states.Waiting c) t) refl refl refl refl refl refl
+    waited-whole c queue waits = same-links lim d m kept p acting-live _ (being (states.Waiting c) t) refl refl refl refl refl refl
 
     -- "the token is called out at the next node"; the handle and the counts may be any
     pub called-whole : (h next calls newtoken newcell : ℕ)
         → Whole (withCounts calls newtoken newcell (put p (to next (being (states.Called h) t)) (taken m place)))
     unfolding withOrders withCounts put withTables to being isLive
     called-whole h next calls newtoken newcell =
-        same-links lim d m kept p live _ (to next (being (states.Called h) t)) refl refl refl refl refl refl
+        same-links lim d m kept p acting-live _ (to next (being (states.Called h) t)) refl refl refl refl refl refl
 
     -- "a built-in replies and the token goes on"
     pub replied-whole : (next : ℕ) (v : ℤ) → Whole (enqueue p (put p (to next (holding (helds.Value v) t)) (taken m place)))
     unfolding withOrders put withTables enqueue to holding
-    replied-whole next v = same-links lim d m kept p live _ (to next (holding (helds.Value v) t)) refl refl live refl refl refl
+    replied-whole next v = same-links lim d m kept p acting-live _ (to next (holding (helds.Value v) t)) refl refl acting-live refl refl refl
 
     -- with room for a token, at the place q
     module _ (fits : Fitting lim) (room : hasTokenPlace lim d m ≡ true) (q : ℕ) (new : q ≡ nextPlace (tokensUsed m) (m .newtoken)) where
-      free : Free (tokensUsed m) q
-      free = subst (Free (tokensUsed m)) (sym new) (free-token lim d m kept fits room)
+      pub place-free : Free (tokensUsed m) q
+      place-free = subst (Free (tokensUsed m)) (sym new) (free-token lim d m kept fits room)
+
+      pub cell-free : hasCellPlace lim d m ≡ true → (c : ℕ) → c ≡ nextPlace (cellsUsed m) (m .newcell) → Free (cellsUsed m) c
+      cell-free below c cell = subst (Free (cellsUsed m)) (sym cell) (free-cell lim d m kept fits below)
 
       -- "left keeps the place, right is new"
       pub forked-whole : (left right : ℕ) → Whole (enqueue q (enqueue p (newToken q (to right t) (put p (to left t) (taken m place)))))
       unfolding withOrders withCounts put withTables enqueue newToken to
       forked-whole left right =
-          fork-links lim d m kept p live _ q (to left t) (to right t) refl free refl live refl live refl refl refl
+          fork-links lim d m kept p acting-live _ q (to left t) (to right t) refl place-free refl acting-live refl acting-live refl refl refl
 
       -- "the token becomes a frame at next, the callee is new"
       pub entered-whole : (root : ℕ) (ps : List Param) (next : ℕ)
           → Whole (enqueue q (newToken q (callee p t root ps) (put p (to next (being states.Frame t)) (taken m place))))
       unfolding withOrders withCounts put withTables enqueue newToken to being isLive
       entered-whole root ps next =
-          call-links lim d m kept p live _ q (to next (being states.Frame t)) (callee p t root ps) refl free refl refl refl refl refl refl refl
+          call-links lim d m kept p acting-live _ q (to next (being states.Frame t)) (callee p t root ps) refl place-free
+          refl refl refl refl refl refl refl
 
       -- "left binds x to the new cell; right is new and belongs to it"
       pub split-whole : hasCellPlace lim d m ≡ true → (c : ℕ) → c ≡ nextPlace (cellsUsed m) (m .newcell) → (x left right : ℕ)
@@ -101,11 +94,8 @@ module _ (lim : Limits) (d : Dag) (m : Machine) (kept : rulesKept lim d m ≡ tr
           (newToken q (inCell c (to right t)) (put p (to left (binding x (slots.Cell c) t)) (taken m place))))))
       unfolding withOrders withCounts put withTables enqueue newToken newCell to inCell binding isSet hasValue
       split-whole below c cell x left right =
-          split-links lim d m kept p live _ q (to left (binding x (slots.Cell c) t)) (inCell c (to right t)) refl free c
-          (record { parent = t .cell; value = helds.Nothing }) refl vacant refl refl live refl live refl refl refl
-        where
-          vacant : Free (cellsUsed m) c
-          vacant = subst (Free (cellsUsed m)) (sym cell) (free-cell lim d m kept fits below)
+          split-links lim d m kept p acting-live _ q (to left (binding x (slots.Cell c) t)) (inCell c (to right t)) refl place-free c
+          (record { parent = t .cell; value = helds.Nothing }) refl (cell-free below c cell) refl refl acting-live refl acting-live refl refl refl
 
   -- "An answer gives its token the value and makes it ready"
   pub answered-whole : (handle : ℕ) (v : ℤ) (p : ℕ) → holder handle 0 (m .tokens) ≡ places.At p

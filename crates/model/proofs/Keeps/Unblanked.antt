@@ -32,12 +32,11 @@ use Rattle.model.specs.declared.cell.Cell.{Cell}
 use Rattle.model.specs.declared.record.Machine.{Machine}
 use Rattle.model.proofs.Test.{clash, false-of, eqb-eq, and-left, and-right, all-at, all-head, all-tail}
 use Rattle.model.proofs.Machine.Marks.{Marked, Free, free-inside}
-use Rattle.model.proofs.Machine.Reach.{Names}
+use Rattle.model.proofs.Machine.Reach.{Names, names-nowhere}
 use Rattle.model.proofs.Machine.InUse.{CellsIn}
 use Rattle.model.proofs.Machine.Kept.{kept-whole}
 use Rattle.model.proofs.Machine.Rules.{RulesKept, rules-kept}
 use Rattle.model.proofs.Machine.Inside.{Fits, live-active, active-live}
-use Rattle.model.proofs.Machine.Writes.{fits-same}
 use Rattle.model.proofs.Machine.Used.{Used, UsedCell, used-fits, used-parent, lives-active, live-used}
 use Rattle.model.proofs.Run.Chain.{unsetCell, blank-cell-clear, new-cell-clear}
 use Rattle.model.proofs.Sees.Sees.{live-inside}
@@ -185,42 +184,36 @@ pub record Adds (m o : Machine) (p : ℕ) : Type 0 where
   pub cell : (c : ℕ) → AsBefore (cellAt (o .cells) c) (cellAt (m .cells) c) (cellsUsed m) (cellsUsed o) c
   -- no chain of cells comes under a set cell
   pub clear : (q : Place) → underSet (m .cells) q ≡ false → underSet (o .cells) q ≡ false
-  -- p is in use, and so is what its token named
-  pub acting : Used o p
+  -- the row of p is blank or in use, and what its token named is in use
+  pub acting : Free (tokensUsed o) p → tokenAt (o .tokens) p ≡ blankToken
   pub names : Fits (Used o) (UsedCell o) (tokenAt (m .tokens) p)
 
 module _ {m o : Machine} {p : ℕ} (a : Adds m o p) where
   row-stays : (i : ℕ) → Used m i → (i ≡ p → ⊥) → tokenAt (o .tokens) i ≡ tokenAt (m .tokens) i
   row-stays i u n = used-same (a .row i n) u
 
-  active-used : (i : ℕ) → isActive (m .cells) (tokenAt (m .tokens) i) ≡ true → Used o i
-  active-used i e = go (ℕ-discrete i p)
-    where
-      t : Token
-      t = tokenAt (m .tokens) i
-
-      go : Dec (i ≡ p) → Used o i
-      go (yes f) = subst (Used o) (sym f) (a .acting)
-      go (no n) =
-          clear-used o i t (row-stays i (tokensOf m .active i e) n) (active-live (m .cells) t e) (a .clear (t .cell) (active-clear (m .cells) t e))
+  active-used : (i : ℕ) → isActive (m .cells) (tokenAt (m .tokens) i) ≡ true → (i ≡ p → ⊥) → Used o i
+  active-used i e n =
+      let t = tokenAt (m .tokens) i in
+      clear-used o i t (row-stays i (tokensOf m .active i e) n) (active-live (m .cells) t e) (a .clear (t .cell) (active-clear (m .cells) t e))
 
   -- what a token in use named
-  names-used : (i : ℕ) → Used m i → Used o i → Fits (Used o) (UsedCell o) (tokenAt (m .tokens) i)
+  names-used : (i : ℕ) → Used m i → ((i ≡ p → ⊥) → Used o i) → Fits (Used o) (UsedCell o) (tokenAt (m .tokens) i)
   names-used i u w = go (ℕ-discrete i p)
     where
       go : Dec (i ≡ p) → Fits (Used o) (UsedCell o) (tokenAt (m .tokens) i)
       go (yes f) = subst (λ j. Fits (Used o) (UsedCell o) (tokenAt (m .tokens) j)) (sym f) (a .names)
-      go (no n) = subst (Fits (Used o) (UsedCell o)) (row-stays i u n) (used-fits o i w)
+      go (no n) = subst (Fits (Used o) (UsedCell o)) (row-stays i u n) (used-fits o i (w n))
 
   Both : ℕ → Type 0
-  Both i = Used m i × Used o i
+  Both i = Used m i × ((i ≡ p → ⊥) → Used o i)
 
   tokens-stay : (i : ℕ) → i < length (m .tokens) → Used m i → Both i
   unfolding Both
   tokens-stay =
       tokensOf m .least Both
       (λ i e. (tokensOf m .active i e, active-used i e))
-      (λ i l b j e. (tokensOf m .caller i (b .0) j e, names-used i (b .0) (b .1) .caller j e))
+      (λ i l b j e. (tokensOf m .caller i (b .0) j e, λ n. names-used i (b .0) (b .1) .caller j e))
 
   BothCells : ℕ → Type 0
   BothCells c = UsedCell m c × UsedCell o c
@@ -239,19 +232,26 @@ module _ {m o : Machine} {p : ℕ} (a : Adds m o p) where
       parents c l b j e =
           (used-parent m c (b .0) j e, used-parent o c (b .1) j (ap (λ (k : Cell). k .parent) (used-same (a .cell c) (b .0)) ∙ e))
 
-  was-free : (i : ℕ) → Free (tokensUsed o) i → Free (tokensUsed m) i
+  -- what was in use stays in use
+  pub token-stays : (i : ℕ) → i < length (m .tokens) → Used m i → (i ≡ p → ⊥) → Used o i
   unfolding Both
-  was-free i e =
+  token-stays i l u = tokens-stay i l u .1
+
+  pub cell-stays : (c : ℕ) → c < length (m .cells) → UsedCell m c → UsedCell o c
+  unfolding BothCells
+  cell-stays c l u = cells-stay c l u .1
+
+  was-free : (i : ℕ) → (i ≡ p → ⊥) → Free (tokensUsed o) i → Free (tokensUsed m) i
+  was-free i n e =
       let z = a .tokens in
       let l : i < length (m .tokens) = omega (arith, free-inside (tokensUsed o) i e, tokensOf o .size) in
-      false-of _ (λ u. clash (tokens-stay i l u .1) e)
+      false-of _ (λ u. clash (token-stays i l u n) e)
 
   was-vacant : (c : ℕ) → Free (cellsUsed o) c → Free (cellsUsed m) c
-  unfolding BothCells
   was-vacant c e =
       let z = a .cells in
       let l : c < length (m .cells) = omega (arith, free-inside (cellsUsed o) c e, cellsOf o .size) in
-      false-of _ (λ u. clash (cells-stay c l u .1) e)
+      false-of _ (λ u. clash (cell-stays c l u) e)
 
   pub adds-clean : Clean m → Clean o
   adds-clean was =
@@ -261,8 +261,8 @@ module _ {m o : Machine} {p : ℕ} (a : Adds m o p) where
       }
     where
       token : (i : ℕ) → Free (tokensUsed o) i → Dec (i ≡ p) → tokenAt (o .tokens) i ≡ blankToken
-      token i e (yes f) = clash (subst (Used o) (sym f) (a .acting)) e
-      token i e (no n) = free-same (a .row i n) e ∙ was .tokens i (was-free i e)
+      token i e (yes f) = ap (tokenAt (o .tokens)) f ∙ a .acting (subst (Free (tokensUsed o)) f e)
+      token i e (no n) = free-same (a .row i n) e ∙ was .tokens i (was-free i n e)
 
 -- The writes. The record m keeps the rules, and the token t at p is live
 module _ (lim : Limits) (d : Dag) (m : Machine) (kept : rulesKept lim d m ≡ true) (p : ℕ) (live : isLive (tokenAt (m .tokens) p .state) ≡ true) where
@@ -284,10 +284,15 @@ module _ (lim : Limits) (d : Dag) (m : Machine) (kept : rulesKept lim d m ≡ tr
   whole : (o : Machine) → Adds m o p → Whole o
   whole o a = clean-whole o (adds-clean a (rules-clean lim d m kept))
 
-  -- a token with t's links
-  links : (o : Machine) (u : Token) → tokenAt (o .tokens) p ≡ u → Used o p → u .caller ≡ t .caller → u .cell ≡ t .cell → u .binds ≡ t .binds
-      → Fits (Used o) (UsedCell o) t
-  links o u e used caller cell binds = fits-same (sym caller) (sym cell) (sym binds) (subst (Fits (Used o) (UsedCell o)) e (used-fits o p used))
+  -- a token that has t's links, and may have others
+  links : (o : Machine) (u : Token) → tokenAt (o .tokens) p ≡ u → Used o p → u .caller ≡ t .caller → u .cell ≡ t .cell
+      → ((x c : ℕ) → slotAt (t .binds) x ≡ slots.Cell c → slotAt (u .binds) x ≡ slots.Cell c) → Fits (Used o) (UsedCell o) t
+  links o u here used caller cell binds =
+      let named = subst (Fits (Used o) (UsedCell o)) here (used-fits o p used) in
+      record {
+        caller = λ i e. named .caller i (caller ∙ e);
+        cells = record { cell = λ c e. named .cells .cell c (cell ∙ e); binds = λ x c e. named .cells .binds x c (binds x c e) };
+      }
 
   -- the same cells
   module _ (o : Machine) (cells : o .cells ≡ m .cells) where
@@ -297,26 +302,48 @@ module _ (lim : Limits) (d : Dag) (m : Machine) (kept : rulesKept lim d m ≡ tr
     same-cell : (c : ℕ) → AsBefore (cellAt (o .cells) c) (cellAt (m .cells) c) (cellsUsed m) (cellsUsed o) c
     same-cell c = same (ap (λ cs. cellAt cs c) cells)
 
-  -- waiting, called out, a built-in's reply, an answer: the token keeps its links
-  pub same-links : (o : Machine) (u : Token) → o .tokens ≡ set (m .tokens) p u → o .cells ≡ m .cells
-      → isLive (u .state) ≡ true → u .caller ≡ t .caller → u .cell ≡ t .cell → u .binds ≡ t .binds → finish o ≡ o
-  same-links o u tokens cells alive caller cell binds =
-      whole o
-      (record {
-        tokens = ap length tokens ∙ length-set (m .tokens) p u;
-        cells = ap length cells;
-        row = λ i n. same (ap (λ ts. tokenAt ts i) tokens ∙ token-other (m .tokens) p i u n);
-        cell = same-cell o cells;
-        clear = same-clear o cells;
-        acting = used;
-        names = links o u here used caller cell binds;
-      })
-    where
-      here : tokenAt (o .tokens) p ≡ u
-      here = ap (λ ts. tokenAt ts p) tokens ∙ token-same (m .tokens) p u inside
+  -- only the row of the token is written
+  module _ (o : Machine) (u : Token) (tokens : o .tokens ≡ set (m .tokens) p u) (cells : o .cells ≡ m .cells) where
+    one-here : tokenAt (o .tokens) p ≡ u
+    one-here = ap (λ ts. tokenAt ts p) tokens ∙ token-same (m .tokens) p u inside
 
-      used : Used o p
-      used = clear-used o p u here alive (same-clear o cells (u .cell) (ap (underSet (m .cells)) cell ∙ under-none))
+    one-adds : (Free (tokensUsed o) p → tokenAt (o .tokens) p ≡ blankToken) → Fits (Used o) (UsedCell o) t → Adds m o p
+    one-adds acting names =
+        record {
+          tokens = ap length tokens ∙ length-set (m .tokens) p u;
+          cells = ap length cells;
+          row = λ i n. same (ap (λ ts. tokenAt ts i) tokens ∙ token-other (m .tokens) p i u n);
+          cell = same-cell o cells;
+          clear = same-clear o cells;
+          acting = acting;
+          names = names;
+        }
+
+    -- the token goes on, and names what it named
+    pub keep-adds : isLive (u .state) ≡ true → u .caller ≡ t .caller → u .cell ≡ t .cell
+        → ((x c : ℕ) → slotAt (t .binds) x ≡ slots.Cell c → slotAt (u .binds) x ≡ slots.Cell c) → Adds m o p × Used o p
+    keep-adds alive caller cell binds =
+        (one-adds (λ f. clash used f) (links o u one-here used caller cell binds), used)
+      where
+        used : Used o p
+        used = clear-used o p u one-here alive (same-clear o cells (u .cell) (ap (underSet (m .cells)) cell ∙ under-none))
+
+    -- waiting, called out, a built-in's reply, an answer: the token keeps its links
+    pub same-adds : isLive (u .state) ≡ true → u .caller ≡ t .caller → u .cell ≡ t .cell → u .binds ≡ t .binds → Adds m o p × Used o p
+    same-adds alive caller cell binds = keep-adds alive caller cell (λ x c e. ap (λ bs. slotAt bs x) binds ∙ e)
+
+    pub same-links : isLive (u .state) ≡ true → u .caller ≡ t .caller → u .cell ≡ t .cell → u .binds ≡ t .binds → finish o ≡ o
+    same-links alive caller cell binds = whole o (same-adds alive caller cell binds .0)
+
+    -- stop, publish: a token that named nothing is blank
+    pub end-adds : u ≡ blankToken → t .caller ≡ places.Nowhere → t .cell ≡ places.Nowhere
+        → ((x c : ℕ) → slotAt (t .binds) x ≡ slots.Cell c → ⊥) → Adds m o p
+    end-adds blank caller cell binds =
+        one-adds (λ f. one-here ∙ blank)
+        (record {
+          caller = rw caller (names-nowhere (Used o));
+          cells = record { cell = rw cell (names-nowhere (UsedCell o)); binds = λ x c e. absurd (binds x c e) };
+        })
 
   -- a new token v at a free place q
   module _ (o : Machine) (q : ℕ) (u v : Token) (tokens : o .tokens ≡ set (set (m .tokens) p u) q v) (free : Free (tokensUsed m) q) where
@@ -350,27 +377,35 @@ module _ (lim : Limits) (d : Dag) (m : Machine) (kept : rulesKept lim d m ≡ tr
       new-used : Used o q
       new-used = clear-used o q v second alive (clear-here v beside)
 
-      new-whole : Used o p → u .caller ≡ t .caller → u .cell ≡ t .cell → u .binds ≡ t .binds → Whole o
-      new-whole used caller cell binds =
-          whole o
+      new-adds : Used o p → u .caller ≡ t .caller → u .cell ≡ t .cell → u .binds ≡ t .binds → Adds m o p × (Used o p × Used o q)
+      new-adds used caller cell binds =
           (record {
             tokens = two-size;
             cells = ap length cells;
             row = two-row new-used;
             cell = same-cell o cells;
             clear = same-clear o cells;
-            acting = used;
-            names = links o u first used caller cell binds;
-          })
+            acting = λ f. clash used f;
+            names = links o u first used caller cell (λ x c e. ap (λ bs. slotAt bs x) binds ∙ e);
+          },
+          (used, new-used))
 
       -- fork: the token stays live
+      pub fork-adds : isLive (u .state) ≡ true → u .caller ≡ t .caller → u .cell ≡ t .cell → u .binds ≡ t .binds
+          → Adds m o p × (Used o p × Used o q)
+      fork-adds lives caller cell binds = new-adds (clear-used o p u first lives (clear-here u cell)) caller cell binds
+
       pub fork-links : isLive (u .state) ≡ true → u .caller ≡ t .caller → u .cell ≡ t .cell → u .binds ≡ t .binds → finish o ≡ o
-      fork-links lives caller cell binds = new-whole (clear-used o p u first lives (clear-here u cell)) caller cell binds
+      fork-links lives caller cell binds = whole o (fork-adds lives caller cell binds .0)
 
       -- definition call: the token, in any state, is the new one's caller
+      pub call-adds : v .caller ≡ places.At p → u .caller ≡ t .caller → u .cell ≡ t .cell → u .binds ≡ t .binds
+          → Adds m o p × (Used o p × Used o q)
+      call-adds calls caller cell binds =
+          new-adds (tokensOf o .caller q new-used p (ap (λ (w : Token). w .caller) second ∙ calls)) caller cell binds
+
       pub call-links : v .caller ≡ places.At p → u .caller ≡ t .caller → u .cell ≡ t .cell → u .binds ≡ t .binds → finish o ≡ o
-      call-links calls caller cell binds =
-          new-whole (tokensOf o .caller q new-used p (ap (λ (w : Token). w .caller) second ∙ calls)) caller cell binds
+      call-links calls caller cell binds = whole o (call-adds calls caller cell binds .0)
 
     -- where: v is in the new cell k at c, below t's; it has t's other links, and the token keeps t's cell
     module _
@@ -391,17 +426,17 @@ module _ (lim : Limits) (d : Dag) (m : Machine) (kept : rulesKept lim d m ≡ tr
             subst (λ cs. AsBefore (cellAt cs b) (cellAt (m .cells) b) (cellsUsed m) (cellsUsed o) b) (sym cells)
             (after-write (m .cells) c k blankCell vacant used b)
 
-        pub split-links : isLive (u .state) ≡ true → u .cell ≡ t .cell
-            → isLive (v .state) ≡ true → v .caller ≡ t .caller → v .cell ≡ places.At c → v .binds ≡ t .binds → finish o ≡ o
-        split-links lives cell alive caller under binds =
-            whole o
+        pub split-adds : isLive (u .state) ≡ true → u .cell ≡ t .cell
+            → isLive (v .state) ≡ true → v .caller ≡ t .caller → v .cell ≡ places.At c → v .binds ≡ t .binds
+            → Adds m o p × (Used o p × (Used o q × UsedCell o c))
+        split-adds lives cell alive caller under binds =
             (record {
               tokens = two-size;
               cells = ap length cells ∙ length-set (m .cells) c k;
               row = two-row right;
               cell = new-row (right-names .cells .cell c under);
               clear = clear-still;
-              acting = left;
+              acting = λ f. clash left f;
               names =
                   record {
                     caller = λ i e. right-names .caller i (caller ∙ e);
@@ -411,7 +446,8 @@ module _ (lim : Limits) (d : Dag) (m : Machine) (kept : rulesKept lim d m ≡ tr
                           binds = λ x i e. right-names .cells .binds x i (ap (λ bs. slotAt bs x) binds ∙ e);
                         };
                   };
-            })
+            },
+            (left, (right, right-names .cells .cell c under)))
           where
             left : Used o p
             left = clear-used o p u first lives (clear-still (u .cell) (ap (underSet (m .cells)) cell ∙ under-none))
@@ -427,3 +463,7 @@ module _ (lim : Limits) (d : Dag) (m : Machine) (kept : rulesKept lim d m ≡ tr
 
             right-names : Fits (Used o) (UsedCell o) v
             right-names = subst (Fits (Used o) (UsedCell o)) second (used-fits o q right)
+
+        pub split-links : isLive (u .state) ≡ true → u .cell ≡ t .cell
+            → isLive (v .state) ≡ true → v .caller ≡ t .caller → v .cell ≡ places.At c → v .binds ≡ t .binds → finish o ≡ o
+        split-links lives cell alive caller under binds = whole o (split-adds lives cell alive caller under binds .0)

@@ -1,11 +1,9 @@
 -- What each node does leaves the record within the limits: the token that acts is in use, so what it names is, and a call adds at most the
 -- places that it was tested for. Assumes nothing.
 use mathlib.Core.Path.{_≡_, refl}
-use mathlib.Core.Logic.{inl, inr}
 use mathlib.Core.Bool.{Bool, true, false}
 use mathlib.Core.List.{List}
 use Prim.Native.Nat.{ℕ}
-use lib.ListN.{set}
 use lib.Dec.{ltb}
 use lib.IntN.{ℤ}
 use Rattle.model.specs.Site.{Said, gives, silent, isBuiltin, builtin}
@@ -17,22 +15,20 @@ use Rattle.model.specs.Machine.InUse.{finish}
 use Rattle.model.specs.Machine.Reply.{Effect, unless}
 use Rattle.model.specs.Machine.Step as Step
 use Rattle.model.specs.Machine.Step.{Looked, values, unset, hasTokenPlace, hasCellPlace, withOrders, chokeToken, act}
-use Rattle.model.specs.declared.token.Slot.the-variants as slots
-use Rattle.model.specs.declared.token.Held.the-variants as helds
 use Rattle.model.specs.declared.token.Place.{Place}
 use Rattle.model.specs.declared.token.Place.the-variants as places
 use Rattle.model.specs.declared.token.State.the-variants as states
 use Rattle.model.specs.declared.token.Token.{Token}
 use Rattle.model.specs.declared.record.Machine.{Machine}
 use Rattle.model.specs.declared.reply.Refusal.the-variants as refusals
-use Rattle.model.proofs.Machine.Reach.{Names, names-at}
+use Rattle.model.proofs.Machine.Reach.{Names}
 use Rattle.model.proofs.Machine.Refused.{After, after-unless}
 use Rattle.model.proofs.Machine.Rules.{RulesKept}
-use Rattle.model.proofs.Machine.Inside.{Fits, fits-blank, fits-map, With, inside-token, inside-cell, inside-map, inside-put, inside-set}
-use Rattle.model.proofs.Machine.Writes.{fits-same, fits-binding, fits-value, fits-empty, formals-cell}
+use Rattle.model.proofs.Machine.Inside.{Fits, fits-blank, inside-map, inside-set}
+use Rattle.model.proofs.Machine.Writes.{fits-same, fits-value, fits-empty}
 use Rattle.model.proofs.Machine.Writes.{choked-cases, choked-blank, choked-live, choked-fits}
-use Rattle.model.proofs.Machine.Used.{Within, Used, UsedCell, InsideUsed, used-fits, used-parent, inside-old}
-use Rattle.model.proofs.Machine.Used.{none-new, token-new, both-new}
+use Rattle.model.proofs.Machine.Used.{Within, Used, UsedCell, used-fits, used-parent, inside-old, none-new, token-new, both-new}
+use Rattle.model.proofs.Machine.Acting.{write-inside, fork-inside, call-inside, split-inside}
 
 -- The token at a place p in use acts; only the tables matter, so the orders may be any
 module _
@@ -50,24 +46,18 @@ module _
     acts : Fits (Used m) (UsedCell m) acting
     acts = used-fits m p inUse
 
-    -- a token written where the acting one stands
-    writes : (u : Token) → Fits (Used m) (UsedCell m) u → InsideUsed m (Used m) (UsedCell m) (set (m .tokens) p u) (m .cells)
-    writes u f = inside-put (inside-old lim d m rules) p u inUse f
-
     goes-on : (u : Token) → Fits (Used m) (UsedCell m) u → Kept (Step.goesOn at p acting u)
     unfolding After Step.goesOn Step.enqueue Step.put Step.withTables withOrders
-    goes-on u f = none-new lim d m old _ (writes u f)
+    goes-on u f = none-new lim d m old _ (write-inside lim d m rules p inUse u f)
 
     ended : Within lim (finish (Step.ended at p acting))
     unfolding Step.ended Step.put Step.withTables withOrders
-    ended = none-new lim d m old _ (writes blankToken (fits-blank (Used m) (UsedCell m)))
+    ended = none-new lim d m old _ (write-inside lim d m rules p inUse blankToken (fits-blank (Used m) (UsedCell m)))
 
     forked : (r left right : ℕ) → hasTokenPlace lim d m ≡ true → Kept (Step.forked at p acting r left right)
     unfolding After Step.forked Step.enqueue Step.newToken Step.put Step.withTables withOrders Step.withCounts Step.to
     forked r left right t =
-        token-new lim d m old _ r t
-        (inside-token (writes (Step.to left acting) (fits-same refl refl refl acts)) r (Step.to right acting)
-        (fits-map (λ i x. inl x) (λ c x. x) (fits-same refl refl refl acts)))
+        token-new lim d m old _ r t (fork-inside lim d m rules p inUse r left right)
 
     split :
         (r c x left right : ℕ)
@@ -76,42 +66,17 @@ module _
         → Kept (Step.split at p acting r c x left right)
     unfolding
         After Step.split Step.enqueue Step.newToken Step.newCell Step.put Step.withTables withOrders Step.withCounts Step.to Step.inCell
-    split r c x left right t k = both-new lim d m old _ r c t k (inside-token (inside-put cell p _ inUse binds) r _ belongs)
-      where
-        cell :
-            InsideUsed m (Used m) (With (UsedCell m) c) (m .tokens) (set (m .cells) c (record { parent = acting .cell; value = helds.Nothing }))
-        cell = inside-cell (inside-old lim d m rules) c _ (λ b e. inl (acts .cells .cell b e))
-
-        acts-still : Fits (Used m) (With (UsedCell m) c) acting
-        acts-still = fits-map (λ i y. y) (λ b y. inl y) acts
-
-        binds : Fits (Used m) (With (UsedCell m) c) (Step.to left (Step.binding x (slots.Cell c) acting))
-        binds = fits-same refl refl refl (fits-binding x (slots.Cell c) (λ b e. inr (let z : b ≡ c = cc in z)) acts-still)
-
-        belongs : Fits (With (Used m) r) (With (UsedCell m) c) (Step.inCell c (Step.to right acting))
-        belongs =
-            record {
-              caller = λ i e. inl (acts .caller i e);
-              cells = record { cell = names-at (With (UsedCell m) c) c (inr refl); binds = acts-still .cells .binds };
-            }
+    split r c x left right t k = both-new lim d m old _ r c t k (split-inside lim d m rules p inUse r c x left right)
 
     entered : (r root : ℕ) (ps : List Param) (next : ℕ) → hasTokenPlace lim d m ≡ true → Kept (Step.entered at p acting r root ps next)
     unfolding After Step.entered Step.enqueue Step.newToken Step.put Step.withTables withOrders Step.withCounts Step.to Step.being
     entered r root ps next t =
-        token-new lim d m old _ r t
-        (inside-token (writes (Step.to next (Step.being states.Frame acting)) (fits-same refl refl refl acts)) r _
-        (record {
-          caller = names-at (With (Used m) r) p (inl inUse);
-          cells =
-              record {
-                cell = acts .cells .cell;
-                binds = λ y c e. let x = formals-cell (acting .binds) ps y c e in acts .cells .binds (x .0) c (x .1);
-              };
-        }))
+        token-new lim d m old _ r t (call-inside lim d m rules p inUse r root ps next)
 
     waited : (c : ℕ) → Kept (Step.waited at p acting c)
     unfolding After Step.waited Step.put Step.withTables withOrders Step.being
-    waited c = none-new lim d m old _ (writes (Step.being (states.Waiting c) acting) (fits-same refl refl refl acts))
+    waited c =
+        none-new lim d m old _ (write-inside lim d m rules p inUse (Step.being (states.Waiting c) acting) (fits-same refl refl refl acts))
 
     replied : (next : ℕ) (s : Said) → Kept (Step.replied at p acting next s)
     unfolding After Step.replied Step.to Step.holding
@@ -120,7 +85,7 @@ module _
 
     calledOut : (s : ℕ) (vs : List ℤ) (next : ℕ) → Kept (Step.calledOut at p acting s vs next)
     unfolding After Step.calledOut Step.put Step.withTables withOrders Step.withCounts Step.to Step.being
-    calledOut s vs next = none-new lim d m old _ (writes _ (fits-same refl refl refl acts))
+    calledOut s vs next = none-new lim d m old _ (write-inside lim d m rules p inUse _ (fits-same refl refl refl acts))
 
     callSite : (s next : ℕ) (l : Looked) → Kept (Step.callSite lim d at p acting s next l)
     unfolding Step.callSite

@@ -6,7 +6,7 @@ use mathlib.Core.Bool.{Bool, true, false, not}
 use mathlib.Core.List.{List}
 use Prim.Native.Nat.{ℕ, zero, suc, _<_, _≤_}
 use native.Mathlib.Omega.{arith}
-use lib.ListN.{length, getD, replicate, length-replicate}
+use lib.ListN.{length, getD, set, replicate, length-replicate, getD-replicate}
 use lib.Seq.{getD-set-same}
 use Rattle.model.specs.Job.Node.{Dag}
 use Rattle.model.specs.Machine.Limits.{Limits}
@@ -20,8 +20,9 @@ use Rattle.model.specs.declared.cell.Cell.{Cell}
 use Rattle.model.specs.declared.record.Machine.{Machine}
 use Rattle.model.specs.declared.reply.Outcome.{Outcome}
 use Rattle.model.proofs.Test.{clash}
-use Rattle.model.proofs.Machine.Marks.{Marked, marked-no-place, marked-inside-one, marked-some, marked-replicate}
-use Rattle.model.proofs.Machine.InUse.{tokens-used}
+use Rattle.model.proofs.Machine.Marks.{Marked, marked-none, marked-no-place, marked-inside-one, marked-set-free, marked-replicate}
+use Rattle.model.proofs.Machine.Marks.{marks-same, marks-added}
+use Rattle.model.proofs.Machine.InUse.{tokens-used, cells-used}
 use Rattle.model.proofs.Machine.Refused.{StartCases, start-cases}
 use Rattle.model.proofs.Machine.Inside.{Inside, With, fits-blank, tokens-inside, cells-inside, inside-token}
 use Rattle.model.proofs.Machine.Writes.{fits-same}
@@ -64,52 +65,65 @@ start-active : (cs : List Cell) (goal : ℕ) → isActive cs (startToken goal) �
 unfolding isActive isLive underSet
 start-active cs goal = ap not (upward-nowhere _ cs (length cs))
 
--- no cell, and one token at most
-pub start-no-cell : (lim : Limits) (goal : ℕ) → marked (cellsUsed (startMachine lim goal)) ≡ 0
-unfolding None
-start-no-cell lim goal = marked-no-place (cellsUsed (startMachine lim goal)) (cells-inside (start-inside lim goal))
+-- marks with nothing marked
+unmarked : (n i : ℕ) → i < length (replicate n false) → Marked (replicate n false) i → ⊥
+unmarked n i l m = let y = length-replicate n false in let z = marked-none n i m in omega arith
 
 module _ (lim : Limits) (goal : ℕ) where
   abbrev begins : Machine
   begins = startMachine lim goal
 
-  size : length (tokensUsed begins) ≡ lim .tokenPlaces
-  size = tokens-used (begins .tokens) (begins .cells) .size ∙ start-inside lim goal .tokens
+  abbrev none : List Bool
+  none = replicate (lim .tokenPlaces) false
+
+  -- no cell
+  pub start-cell-marks : cellsUsed begins ≡ replicate (lim .cellPlaces) false
+  unfolding None
+  start-cell-marks =
+      marks-same (cellsUsed begins) (replicate (lim .cellPlaces) false) sizes (λ c l m. absurd (cells-inside (start-inside lim goal) c l m))
+      (λ c l m. absurd (unmarked (lim .cellPlaces) c l m))
+    where
+      sizes : length (cellsUsed begins) ≡ length (replicate (lim .cellPlaces) false)
+      sizes =
+          cells-used (tokensUsed begins) (begins .tokens) (begins .cells) (tokens-used (begins .tokens) (begins .cells) .size) .size
+          ∙ start-inside lim goal .cells ∙ sym (length-replicate (lim .cellPlaces) false)
+
+  pub start-no-cell : marked (cellsUsed begins) ≡ 0
+  start-no-cell = ap marked start-cell-marks ∙ marked-replicate (lim .cellPlaces)
+
+  -- one token at most
+  sizes : length (tokensUsed begins) ≡ length none
+  sizes =
+      tokens-used (begins .tokens) (begins .cells) .size ∙ start-inside lim goal .tokens ∙ sym (length-replicate (lim .tokenPlaces) false)
+
+  only : (i : ℕ) → i < length (tokensUsed begins) → Marked (tokensUsed begins) i → Marked none i ⊎ (i ≡ 0)
+  unfolding None
+  only i l m = first (tokens-inside (start-inside lim goal) i l m)
+    where
+      first : With None 0 i → Marked none i ⊎ (i ≡ 0)
+      first (inl x) = absurd x
+      first (inr e) = inr e
 
   start-tokens : marked (tokensUsed begins) ≤ 1
-  unfolding None
   start-tokens = let y = marked-replicate (lim .tokenPlaces) in let z = marked-inside-one (tokensUsed begins) none 0 sizes only in omega arith
-    where
-      none : List Bool
-      none = replicate (lim .tokenPlaces) false
-
-      sizes : length (tokensUsed begins) ≡ length none
-      sizes = size ∙ sym (length-replicate (lim .tokenPlaces) false)
-
-      first : (i : ℕ) → With None 0 i → Marked none i ⊎ (i ≡ 0)
-      first i (inl x) = absurd x
-      first i (inr e) = inr e
-
-      only : (i : ℕ) → i < length (tokensUsed begins) → Marked (tokensUsed begins) i → Marked none i ⊎ (i ≡ 0)
-      only i l m = first i (tokens-inside (start-inside lim goal) i l m)
 
   -- exactly one token, where there is a place for it
-  pub start-one-token : 1 ≤ lim .tokenPlaces → marked (tokensUsed begins) ≡ 1
+  pub start-token-marks : 1 ≤ lim .tokenPlaces → tokensUsed begins ≡ set none 0 true
   unfolding tokenAt
-  start-one-token l =
-      let x = start-tokens in
-      let y = marked-some (tokensUsed begins) 0 (subst (λ n. 0 < n) (sym size) l) first in
-      omega arith
+  start-token-marks l =
+      marks-added (tokensUsed begins) none sizes 0 only (λ i k m. absurd (unmarked (lim .tokenPlaces) i k m))
+      (tokens-used (begins .tokens) (begins .cells) .active 0
+      (ap (isActive (begins .cells)) stands ∙ start-active (begins .cells) goal))
     where
       stands : getD (begins .tokens) 0 blankToken ≡ startToken goal
       stands =
           getD-set-same (replicate (lim .tokenPlaces) blankToken) 0 (startToken goal) blankToken
           (let z = length-replicate (lim .tokenPlaces) blankToken in omega arith)
 
-      first : Marked (tokensUsed begins) 0
-      first =
-          tokens-used (begins .tokens) (begins .cells) .active 0
-          (ap (isActive (begins .cells)) stands ∙ start-active (begins .cells) goal)
+  pub start-one-token : 1 ≤ lim .tokenPlaces → marked (tokensUsed begins) ≡ 1
+  start-one-token l =
+      ap marked (start-token-marks l)
+      ∙ marked-set-free none 0 (getD-replicate (lim .tokenPlaces) 0 false true (omega arith)) ∙ ap suc (marked-replicate (lim .tokenPlaces))
 
 blank-within : (lim : Limits) → Within lim (blankMachine lim)
 unfolding None

@@ -1,5 +1,6 @@
 -- Marks are a Bool for each place; a place out of range counts as marked. Marking a place marks it, keeps the others and adds one at most
--- to the count, so a list of marks inside another has no more of them. Each is an induction over the list. Assumes nothing.
+-- to the count, so a list of marks inside another has no more of them; marks that agree at each place are equal. Each is an induction over the
+-- list. Assumes nothing.
 use mathlib.Core.Path.{_≡_, refl, sym, _∙_, ap, subst}
 use mathlib.Core.Logic.{_⊎_, inl, inr}
 use mathlib.Core.Bool.{Bool, true, false}
@@ -8,9 +9,9 @@ use Prim.Native.Nat.{ℕ, zero, suc, _<_, _≤_}
 use native.Mathlib.Decide.{ℕ-discrete}
 use native.Mathlib.Omega.{arith}
 use lib.ListN.{length, getD, set, replicate, length-set, List·getD-eq-default}
-use lib.Seq.{getD-set-other}
+use lib.Seq.{getD-set-same, getD-set-other, ext-getD}
 use Rattle.model.specs.Machine.InUse.{marked}
-use Rattle.model.proofs.Test.{clash}
+use Rattle.model.proofs.Test.{clash, false-of}
 
 abbrev pub Marked : List Bool → ℕ → Type 0
 Marked marks i = getD marks i true ≡ true
@@ -120,7 +121,7 @@ marked-inside-one fewer more q l h =
     go i (inl m) = mark-mono more q i m
     go i (inr e) = subst (λ x. Marked (set more q true) x) (sym e) (mark-same more q)
 
--- none, and some
+-- none
 pub marked-replicate : (n : ℕ) → marked (replicate n false) ≡ 0
 unfolding marked
 marked-replicate zero = refl
@@ -132,9 +133,37 @@ marked-no-place [] h = refl
 marked-no-place (true ∷ marks) h = absurd (h 0 (omega arith) refl)
 marked-no-place (false ∷ marks) h = marked-no-place marks (λ i l m. h (suc i) (omega arith) m)
 
-pub marked-some : (marks : List Bool) (i : ℕ) → i < length marks → Marked marks i → 0 < marked marks
-unfolding marked
-marked-some [] i l m = absurd (omega arith)
-marked-some (true ∷ marks) i l m = omega arith
-marked-some (false ∷ marks) zero l m = clash m refl
-marked-some (false ∷ marks) (suc i) l m = marked-some marks i (omega arith) m
+-- marks are equal where each has the other's: as they are, with a place marked, with a place taken out
+same-test : (a b : Bool) → (a ≡ true → b ≡ true) → (b ≡ true → a ≡ true) → a ≡ b
+same-test true b f g = sym (f refl)
+same-test false true f g = g refl
+same-test false false f g = refl
+
+module _ (new old : List Bool) (size : length new ≡ length old) where
+  pub marks-same : ((i : ℕ) → i < length new → Marked new i → Marked old i) → ((i : ℕ) → i < length old → Marked old i → Marked new i) → new ≡ old
+  marks-same f g = ext-getD true new old size (λ i l. same-test _ _ (f i l) (g i (omega arith)))
+
+  pub marks-added : (q : ℕ) → ((i : ℕ) → i < length new → Marked new i → Marked old i ⊎ (i ≡ q))
+      → ((i : ℕ) → i < length old → Marked old i → Marked new i) → Marked new q → new ≡ set old q true
+  marks-added q f g here =
+      ext-getD true new (set old q true) (size ∙ sym (length-set old q true))
+      (λ i l. same-test _ _ (λ m. into i (f i l m)) (λ m. back i l (mark-inverse old q i m)))
+    where
+      into : (i : ℕ) → Marked old i ⊎ (i ≡ q) → Marked (set old q true) i
+      into i (inl m) = mark-mono old q i m
+      into i (inr e) = rw e (mark-same old q)
+
+      back : (i : ℕ) → i < length new → (i ≡ q) ⊎ Marked old i → Marked new i
+      back i l (inl e) = rw e here
+      back i l (inr m) = g i (omega arith) m
+
+  pub marks-removed : (p : ℕ) → ((i : ℕ) → i < length new → Marked new i → Marked old i × (i ≡ p → ⊥))
+      → ((i : ℕ) → i < length old → Marked old i → (i ≡ p → ⊥) → Marked new i) → new ≡ set old p false
+  marks-removed p f g = ext-getD true new (set old p false) (size ∙ sym (length-set old p false)) (λ i l. at i l (ℕ-discrete i p))
+    where
+      at : (i : ℕ) → i < length new → Dec (i ≡ p) → getD new i true ≡ getD (set old p false) i true
+      at i l (yes e) =
+          false-of _ (λ m. f i l m .1 e)
+          ∙ sym (ap (λ j. getD (set old p false) j true) e ∙ getD-set-same old p false true (let z : i ≡ p = e in omega arith))
+      at i l (no n) =
+          same-test _ _ (λ m. f i l m .0) (λ m. g i (omega arith) m n) ∙ sym (getD-set-other old p i false true n)

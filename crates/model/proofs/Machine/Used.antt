@@ -75,10 +75,10 @@ module _ (m : Machine) where
 
   -- what is inside that, or one place more, has no more in use, or one more
   module _ (o : Machine) where
-    tokens-size : length (o .tokens) ≡ length (m .tokens) → length (tokensUsed o) ≡ length (tokensUsed m)
+    pub tokens-size : length (o .tokens) ≡ length (m .tokens) → length (tokensUsed o) ≡ length (tokensUsed m)
     tokens-size e = tokens-used (o .tokens) (o .cells) .size ∙ e ∙ sym (tokens-used (m .tokens) (m .cells) .size)
 
-    cells-size : length (o .cells) ≡ length (m .cells) → length (cellsUsed o) ≡ length (cellsUsed m)
+    pub cells-size : length (o .cells) ≡ length (m .cells) → length (cellsUsed o) ≡ length (cellsUsed m)
     cells-size e =
         let before = cells-used (tokensUsed m) (m .tokens) (m .cells) (tokens-used (m .tokens) (m .cells) .size) .size in
         let after = cells-used (tokensUsed o) (o .tokens) (o .cells) (tokens-used (o .tokens) (o .cells) .size) .size in
