@@ -4,11 +4,23 @@
 pub fn example() -> Vec<u8> {
     let rows = [(5, 0), (1, 1 << 16), (7, 0), (3, 0), (1, 16 | 1 << 16), (8, 5), (1, 17)];
     let mut job = encode(0, &rows);
-    for (handle, value) in [(1u32, 42i32), (0, 7)] {
-        job.extend(handle.to_le_bytes());
-        job.extend(value.to_le_bytes());
-    }
+    job.extend(record(1, 42));
+    job.extend(record(0, 7));
     job
+}
+
+/// As many records as an input holds beside the table of `refused`.
+pub const RECORDS: usize = 8_190;
+
+/// site16(), and answers to a handle that is not open.
+pub fn refused() -> Vec<u8> {
+    let mut job = encode(0, &[(1, 16)]);
+    job.extend(record(1, 7).repeat(RECORDS));
+    job
+}
+
+fn record(handle: u32, value: i32) -> Vec<u8> {
+    [handle.to_le_bytes(), value.to_le_bytes()].concat()
 }
 
 fn encode(definitions: u16, rows: &[(u8, u32)]) -> Vec<u8> {

@@ -1,4 +1,4 @@
-//! What the timing and the counting program share: the clock, the jobs, the proved library's functions, and the twin's runs.
+//! What the timing and the counting program share: the clock, the jobs, the proved library's functions, and the twins' runs.
 
 pub mod clock;
 pub mod jobs;

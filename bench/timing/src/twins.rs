@@ -1,4 +1,4 @@
-//! Runs of the twin by its public calls.
+//! Runs of the two twins by their public calls.
 
 use std::hint::black_box;
 use twin::lines::table_of;
@@ -14,16 +14,16 @@ pub fn loaded(job: &[u8]) -> Box<Dag> {
 }
 
 /// The start and so many calls at most: the step at place 0 or, with the queue empty, an answer to the next handle.
-pub fn calls(dag: &Dag, handles: &[u32], most: u32) -> u32 {
+pub fn calls<const SPARING: bool>(dag: &Dag, handles: &[u32], most: u32) -> u32 {
     let mut machine = Machine::BLANK;
     start(&mut machine, dag);
     let mut handles = handles.iter();
     for n in 0..most {
         if machine.queued > 0 {
-            black_box(step(&mut machine, dag, 0));
+            black_box(step::<SPARING>(&mut machine, dag, 0));
         } else {
             let Some(&handle) = handles.next() else { return n };
-            black_box(answer(&mut machine, dag, handle, 7));
+            black_box(answer::<SPARING>(&mut machine, dag, handle, 7));
         }
     }
     most
@@ -36,9 +36,9 @@ pub fn is_answer(dag: &Dag, handles: &[u32], number: usize) -> bool {
     let mut handles = handles.iter();
     for _ in 0..number {
         if machine.queued > 0 {
-            step(&mut machine, dag, 0);
+            step::<false>(&mut machine, dag, 0);
         } else if let Some(&handle) = handles.next() {
-            answer(&mut machine, dag, handle, 7);
+            answer::<false>(&mut machine, dag, handle, 7);
         }
     }
     machine.queued == 0
@@ -50,7 +50,7 @@ pub fn tokens_in_use(dag: &Dag, steps: usize) -> f64 {
     start(&mut machine, dag);
     let mut sum = 0;
     for _ in 0..steps {
-        let reply = step(&mut machine, dag, 0);
+        let reply = step::<false>(&mut machine, dag, 0);
         assert!(!matches!(reply, Reply::Refused(_)), "{reply:?}");
         sum += machine.used().tokens.iter().filter(|&&used| used).count();
     }

@@ -1,7 +1,7 @@
 //! `orcrun`: from input bytes to output bytes.
 
 use crate::machine::{house_answer, house_step, Reply};
-use crate::record::Machine;
+use crate::record::{Machine, Used};
 use crate::table::{load, WORDS};
 
 fn put_number(out: &mut Vec<u8>, n: u32) {
@@ -51,7 +51,7 @@ pub fn table_of(input: &[u8]) -> &[u8] {
 }
 
 /// A whole run, in house order. `out` is cleared first.
-pub fn orcrun(input: &[u8], out: &mut Vec<u8>) {
+pub fn orcrun<const SPARING: bool>(input: &[u8], out: &mut Vec<u8>) {
     out.clear();
     if input.len() > 65_536 {
         return put_line(out, b"long", &[]);
@@ -63,6 +63,7 @@ pub fn orcrun(input: &[u8], out: &mut Vec<u8>) {
     }
     let mut machine = Machine::BLANK;
     machine.clear(dag[2] as u16);
+    let mut used = Used::at_start();
     let mut answers = &input[table.len()..];
     let mut steps = 0;
     loop {
@@ -71,7 +72,7 @@ pub fn orcrun(input: &[u8], out: &mut Vec<u8>) {
                 put_line(out, b"limit", &[]);
                 break;
             }
-            match house_step(&mut machine, &dag) {
+            match house_step::<SPARING>(&mut machine, &dag, &mut used) {
                 Reply::Done | Reply::Waits => {}
                 Reply::Published(value) => {
                     out.extend_from_slice(b"publish");
@@ -97,7 +98,8 @@ pub fn orcrun(input: &[u8], out: &mut Vec<u8>) {
             let [a, b, c, d, e, f, g, h] = *record;
             let handle = u32::from_le_bytes([a, b, c, d]);
             let value = i32::from_le_bytes([e, f, g, h]);
-            if let Reply::Refused(number) = house_answer(&mut machine, handle, value) {
+            let reply = house_answer::<SPARING>(&mut machine, handle, value);
+            if let Reply::Refused(number) = reply {
                 put_line(out, b"refused", &[number as u32]);
             }
             answers = rest;

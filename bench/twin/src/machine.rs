@@ -27,41 +27,85 @@ pub fn start(machine: &mut Machine, dag: &Dag) -> Reply {
 }
 
 /// The public step: tests all index rules on any record and any dag first.
-pub fn step(machine: &mut Machine, dag: &Dag, place: usize) -> Reply {
-    let used = machine.used();
+pub fn step<const SPARING: bool>(machine: &mut Machine, dag: &Dag, place: usize) -> Reply {
+    let mut used = machine.used();
     if !rules::kept(machine, dag, &used) {
         return Refused(14);
     }
     if place >= machine.queued {
         return Refused(9);
     }
+    if SPARING {
+        return act_sparing(machine, dag, place, &mut used);
+    }
     let reply = act(machine, dag, place, Some(&used));
     finished(machine, reply)
 }
 
 /// The public answer: tests all index rules first.
-pub fn answer(machine: &mut Machine, dag: &Dag, handle: u32, value: i32) -> Reply {
+pub fn answer<const SPARING: bool>(
+    machine: &mut Machine,
+    dag: &Dag,
+    handle: u32,
+    value: i32,
+) -> Reply {
     let used = machine.used();
     if !rules::kept(machine, dag, &used) {
         return Refused(14);
     }
-    house_answer(machine, handle, value)
+    house_answer::<SPARING>(machine, handle, value)
 }
 
-/// A step of a house run, at place 0, on a record that a run reached: the rules are not tested again.
-pub fn house_step(machine: &mut Machine, dag: &Dag) -> Reply {
+/// A step of a house run, at place 0, on a record that a run reached: the rules are not tested again. The marks are carried only by the
+/// sparing twin.
+pub fn house_step<const SPARING: bool>(machine: &mut Machine, dag: &Dag, used: &mut Used) -> Reply {
+    if SPARING {
+        return act_sparing(machine, dag, 0, used);
+    }
     let reply = act(machine, dag, 0, None);
     finished(machine, reply)
 }
 
-/// An answer in a house run.
-pub fn house_answer(machine: &mut Machine, handle: u32, value: i32) -> Reply {
+/// An answer in a house run. Nothing is out of reach after it, and the marks stay.
+pub fn house_answer<const SPARING: bool>(machine: &mut Machine, handle: u32, value: i32) -> Reply {
     let open = |token: &Token| token.state == State::Called(handle);
     let Some(p) = machine.tokens.iter().position(open) else { return Refused(12) };
     machine.tokens[p].value = Some(value);
     machine.tokens[p].state = State::Ready;
     machine.enqueue(p as u8);
+    if SPARING {
+        return Reply::Done;
+    }
     finished(machine, Reply::Done)
+}
+
+/// The token at a place of the queue acts. The marks say what is in use, before and after; a sweep follows only where something can be
+/// out of reach.
+fn act_sparing(machine: &mut Machine, dag: &Dag, place: usize, used: &mut Used) -> Reply {
+    let p = machine.queue[place] as usize;
+    let token = &machine.tokens[p];
+    let at = 67 + 12 * token.node as usize;
+    let kind = dag[at];
+    let linked = match kind {
+        0 | 1 | 9 => token.names_any(),
+        4 | 5 => matches!(token.binds[dag[at + 1] as usize], Slot::Cell(_)),
+        7 | 8 => true,
+        _ => false,
+    };
+    let reply = act(machine, dag, place, Some(used));
+    match kind {
+        _ if matches!(reply, Refused(_)) => {}
+        0 | 1 | 9 if machine.tokens[p].state != State::Blank => {}
+        _ if linked => machine.sweep(used),
+        0 | 1 | 9 => used.tokens[p] = false,
+        2 | 3 => used.tokens[machine.last_token as usize] = true,
+        6 => {
+            used.tokens[machine.last_token as usize] = true;
+            used.cells[machine.last_cell as usize] = true;
+        }
+        _ => {}
+    }
+    reply
 }
 
 fn finished(machine: &mut Machine, reply: Reply) -> Reply {

@@ -44,6 +44,13 @@ impl Token {
         cell: None,
         state: State::Blank,
     };
+
+    /// Does it name a caller, a cell or a bound cell?
+    pub fn names_any(&self) -> bool {
+        self.caller.is_some()
+            || self.cell.is_some()
+            || self.binds.iter().any(|slot| matches!(slot, Slot::Cell(_)))
+    }
 }
 
 #[derive(Clone, Copy, PartialEq, Eq)]
@@ -74,6 +81,15 @@ pub struct Machine {
 pub struct Used {
     pub tokens: [bool; TOKENS],
     pub cells: [bool; CELLS],
+}
+
+impl Used {
+    /// What is in use at a start: the first token.
+    pub fn at_start() -> Used {
+        let mut used = Used { tokens: [false; TOKENS], cells: [false; CELLS] };
+        used.tokens[0] = true;
+        used
+    }
 }
 
 impl Machine {
@@ -167,6 +183,21 @@ impl Machine {
         }
         for (cell, in_use) in self.cells.iter_mut().zip(used.cells) {
             if !in_use {
+                *cell = Cell::BLANK;
+            }
+        }
+    }
+
+    /// The same with the marks of what was in use: what was not is blank already. The marks become those of what is in use now.
+    pub fn sweep(&mut self, used: &mut Used) {
+        let before = std::mem::replace(used, self.used());
+        for (i, token) in self.tokens.iter_mut().enumerate() {
+            if before.tokens[i] && !used.tokens[i] {
+                *token = Token::BLANK;
+            }
+        }
+        for (i, cell) in self.cells.iter_mut().enumerate() {
+            if before.cells[i] && !used.cells[i] {
                 *cell = Cell::BLANK;
             }
         }

@@ -1,124 +1,216 @@
--- The instruction table on few values, put into the record, is the instruction table of the definitions: clause by clause. Assumes nothing.
-use mathlib.Core.Path.{_≡_, refl, ap}
+-- What a step does at each kind of node, by the words of the node's row. Assumes nothing.
+use mathlib.Core.Path.{_≡_, refl, sym, ap, ap₂, subst, _∙_}
 use mathlib.Core.Bool.{Bool, true, false}
-use mathlib.Core.List.{List, []}
-use Prim.Native.Nat.{ℕ}
-use lib.ListN.{getD}
+use mathlib.Core.List.{List, [], _∷_}
+use Prim.Native.Nat.{ℕ, zero, suc, _+_, _*_, _<_, _≤_}
+use native.Mathlib.Omega.{arith}
+use lib.ListN.{length, getD, set}
 use lib.Dec.{ltb}
-use lib.IntN.{ℤ}
-use Rattle.model.specs.Site.{Said, gives, silent, isBuiltin, builtin}
-use Rattle.model.specs.Job.Node.{Node, Dag, nodeAt}
+use Rattle.model.specs.Job.Node.{Node, Dag, bodyAt}
 use Rattle.model.specs.Job.Words.{dagOf}
+use Rattle.model.specs.Machine.Blank.{blankToken, tokenAt}
+use Rattle.model.specs.Machine.InUse.{tokensUsed, cellsUsed, marked}
 use Rattle.model.specs.Machine.Limits.{paper}
-use Rattle.model.specs.Machine.Blank.{tokenAt}
-use Rattle.model.specs.Machine.Reply as Reply
-use Rattle.model.specs.Machine.Reply.{isRefused}
+use Rattle.model.specs.Machine.Places.{nextPlace}
+use Rattle.model.specs.Machine.Reply.{accepted, outcome, unless, refuses}
 use Rattle.model.specs.Machine.Step as Step
-use Rattle.model.specs.Machine.Step.{put, withCounts, Looked, values, unset, look}
-use Rattle.model.specs.declared.token.Place.{Place}
-use Rattle.model.specs.declared.token.Place.the-variants as places
-use Rattle.model.specs.declared.token.State.the-variants as states
-use Rattle.model.specs.declared.token.Token.{Token}
+use Rattle.model.specs.Machine.Step.{act, withNode, withState, withValue, withBinding, inCell, put, enqueue, newToken, newCell, valueOf, withOrders, withTables}
+use Rattle.model.specs.Machine.Step.{hasTokenPlace, hasCellPlace, callSite, look}
 use Rattle.model.specs.declared.record.Machine.{Machine}
-use Rattle.model.specs.declared.reply.Refusal.{Refusal}
 use Rattle.model.specs.declared.reply.Refusal.the-variants as refusals
 use Rattle.model.specs.declared.reply.Reply.the-variants as replies
-use Rattle.acts.specs.Unfinished.{unfinished, effectOutcome, taken}
-use Rattle.acts.specs.Acting.{stepped}
-use Rattle.acts.specs.Effects as Effects
-use Rattle.acts.specs.Effects.{instruction, viewAt, viewOf, makesToken, placeNamed, numberIf, truthIf, applied, changed, written, newRows, joinsIf, waitsIf}
-use Rattle.acts.specs.declared.effect.Effect.{Effect}
-use Rattle.acts.specs.declared.view.View.{View}
+use Rattle.model.specs.declared.token.Place.the-variants as places
+use Rattle.model.specs.declared.token.Slot.the-variants as slots
+use Rattle.model.specs.declared.token.State.the-variants as states
+use Rattle.model.specs.declared.token.Token.{Token}
+use Rattle.model.proofs.Machine.Marks.{free-inside}
+use Rattle.model.proofs.Sees.Lockstep.{Fitting, free-token, free-cell}
+use Rattle.model.proofs.Keeps.Clean.{tokensOf, cellsOf}
+use Rattle.record.specs.Fields.{taken, unsetCell}
+use Rattle.reach.specs.Marks.{nextOr}
+use Rattle.acts.specs.Acting.{Acting, Taking, Lawful}
+use Rattle.sites.specs.Row.{callee, paramsAt, nodeIn}
+use Rattle.sites.proofs.Facts.{tokens-size, cells-size}
+use Rattle.acts.proofs.Outcomes.{step-is}
 
--- a test in front of an effect
-unless-both :
-    (m : Machine) (place : ℕ) (v : View) (b : Bool) (r : Refusal) (e : Effect) (f : Reply.Effect)
-    → applied m place v e ≡ effectOutcome m f
-    → applied m place v (Effects.unless v b r e) ≡ effectOutcome m (Reply.unless b r f)
-unfolding Effects.unless Reply.unless applied effectOutcome unfinished isRefused
-unless-both m place v true r e f same = same
-unless-both m place v false r e f same = refl
+-- the paper's limits are no larger than its tables
+pub fitting : Fitting paper
+fitting = record { tokens = omega arith; cells = omega arith }
 
-module _ (d : Dag) (m : Machine) (place p : ℕ) where
+-- the next place, where there is room, and where there is none
+pub next-room : {n new : ℕ} (marks : List Bool) (last : ℕ) → new ≡ nextOr n marks last → new < n → (ltb (marked marks) n ≡ true) × (new ≡ nextPlace marks last)
+unfolding nextOr
+next-room {n} {new} marks last e l = go (ltb (marked marks) n) e
+  where
+    go : (b : Bool) → new ≡ elim b as (λ _. ℕ) [ true ↦ nextPlace marks last | false ↦ n ] → (b ≡ true) × (new ≡ nextPlace marks last)
+    go true f = (refl, f)
+    go false f = absurd (omega arith)
+
+next-full : {n new : ℕ} (marks : List Bool) (last : ℕ) → new ≡ nextOr n marks last → n ≤ new
+    → (ltb (marked marks) n ≡ true → nextPlace marks last < n) → ltb (marked marks) n ≡ false
+unfolding nextOr
+next-full {n} {new} marks last e l inside = go (ltb (marked marks) n) e inside
+  where
+    go : (b : Bool) → new ≡ elim b as (λ _. ℕ) [ true ↦ nextPlace marks last | false ↦ n ] → (b ≡ true → nextPlace marks last < n) → b ≡ false
+    go true f g = let h = g refl in absurd (omega arith)
+    go false f g = refl
+
+module _ {ws dag : List ℕ} {used cells : List Bool} {m : Machine} (a : Lawful ws used cells dag m) where
+  abbrev d : Dag
+  d = dagOf dag
+
+  module _ {new last : ℕ} (next : new ≡ nextOr 64 used last) (given : last ≡ m .lasttoken) where
+    own : new ≡ nextOr 64 (tokensUsed m) (m .lasttoken)
+    own = next ∙ ap₂ (nextOr 64) (a .marks .tokens) given
+
+    pub token-room : new < 64 → (hasTokenPlace paper d m ≡ true) × (new ≡ nextPlace (tokensUsed m) (m .lasttoken))
+    unfolding hasTokenPlace
+    token-room l = next-room (tokensUsed m) (m .lasttoken) own l
+
+    pub token-full : 64 ≤ new → hasTokenPlace paper d m ≡ false
+    unfolding hasTokenPlace
+    token-full l =
+        next-full (tokensUsed m) (m .lasttoken) own l
+        (λ e.
+        let i = free-inside (tokensUsed m) _ (free-token paper d m (a .rules) fitting e) in
+        let s = tokensOf m .size in
+        let n = tokens-size d m (a .rules) in
+        omega arith)
+
+  module _ {new last : ℕ} (next : new ≡ nextOr 32 cells last) (given : last ≡ m .lastcell) where
+    own-cell : new ≡ nextOr 32 (cellsUsed m) (m .lastcell)
+    own-cell = next ∙ ap₂ (nextOr 32) (a .marks .cells) given
+
+    pub cell-room : new < 32 → (hasCellPlace paper d m ≡ true) × (new ≡ nextPlace (cellsUsed m) (m .lastcell))
+    unfolding hasCellPlace
+    cell-room l = next-room (cellsUsed m) (m .lastcell) own-cell l
+
+    pub cell-full : 32 ≤ new → hasCellPlace paper d m ≡ false
+    unfolding hasCellPlace
+    cell-full l =
+        next-full (cellsUsed m) (m .lastcell) own-cell l
+        (λ e.
+        let i = free-inside (cellsUsed m) _ (free-cell paper d m (a .rules) fitting e) in
+        let s = cellsOf m .size in
+        let n = cells-size d m (a .rules) in
+        omega arith)
+
+module _ (dag : List ℕ) (place p at : ℕ) (m : Machine) where
   abbrev t : Token
   t = tokenAt (m .tokens) p
 
-  module _ (n : Node) where
-    abbrev v : View
-    v = viewAt d m p n
+  abbrev word : ℕ → ℕ
+  word i = getD dag (at + i) 0
 
-    said-is : (k : ℕ) (s : Said) → applied m place v (Effects.replied v k s) ≡ effectOutcome m (Step.replied (taken m place) p t k s)
-    unfolding applied changed written newRows joinsIf waitsIf effectOutcome unfinished isRefused Effects.replied Step.replied Step.goesOn Step.ended withCounts put Step.withTables Step.withOrders
-    said-is k (gives x) = refl
-    said-is k silent = refl
+  pub stop-step : {ws : List ℕ} {used cells : List Bool} → Acting ws used cells dag place p at 0 m → Step.step paper (dagOf dag) m place ≡ accepted replies.Done [] (put p blankToken (taken m place))
+  unfolding act outcome Step.ended
+  stop-step a = step-is a
 
-    called-is :
-        (s : ℕ) (vs : List ℤ) (k : ℕ)
-        → applied m place v (Effects.calledOut v s vs k) ≡ effectOutcome m (Step.calledOut (taken m place) p t s vs k)
-    unfolding applied changed written newRows joinsIf waitsIf effectOutcome unfinished isRefused Effects.calledOut Step.calledOut withCounts put Step.withTables Step.withOrders
-    called-is s vs k = refl
+  pub publish-step : {ws : List ℕ} {used cells : List Bool} → Acting ws used cells dag place p at 9 m → Step.step paper (dagOf dag) m place ≡ accepted (replies.Published (valueOf (t .value))) [] (put p blankToken (taken m place))
+  unfolding act outcome Step.ended
+  publish-step a = step-is a
 
-    site-is :
-        (s k : ℕ) (l : Looked)
-        → applied m place v (Effects.callSite v s k l) ≡ effectOutcome m (Step.callSite paper d (taken m place) p t s k l)
-    unfolding Effects.callSite Step.callSite Step.waited applied changed written newRows joinsIf waitsIf effectOutcome unfinished isRefused withCounts put Step.withTables Step.withOrders Step.queueOf Step.waitsOf
-    site-is s k (unset c) = refl
-    site-is s k (values vs) = go (isBuiltin s)
-      where
-        go :
-            (b : Bool)
-            → applied m place v
-            (elim b as (λ b. Effect) [
-              | true ↦ Effects.replied v k (builtin s vs)
-              | false ↦ Effects.unless v (ltb (m .calls) 1000000) refusals.CallLimit (Effects.calledOut v s vs k)
-            ])
-            ≡ effectOutcome m
-            (elim b as (λ b. Reply.Effect) [
-              | true ↦ Step.replied (taken m place) p t k (builtin s vs)
-              | false ↦ Reply.unless (ltb (m .calls) 1000000) refusals.CallLimit (Step.calledOut (taken m place) p t s vs k)
-            ])
-        go true = said-is k (builtin s vs)
-        go false = unless-both m place v _ _ _ _ (called-is s vs k)
+  pub assign-step : {ws : List ℕ} {used cells : List Bool} → Acting ws used cells dag place p at 4 m → Step.step paper (dagOf dag) m place
+      ≡ accepted replies.Done [] (enqueue p (put p (withNode (word 2) (withBinding (word 1) (slots.Value (valueOf (t .value))) t)) (taken m place)))
+  unfolding act outcome Step.goesOn
+  assign-step a = step-is a
 
-    return-is :
-        (q : Place)
-        → t .caller ≡ q
-        → applied m place v (Effects.returned v q) ≡ effectOutcome m (Step.returned (taken m place) p t q)
-    unfolding Effects.returned Step.returned Step.goesOn applied changed written newRows joinsIf waitsIf effectOutcome unfinished isRefused withCounts put Step.withTables Step.withOrders placeNamed
-    return-is places.Nowhere e = refl
-    return-is (places.At f) e =
-        ap
-        (λ q.
-        unfinished replies.Done []
-        (Step.enqueue p
-        (put p (Step.being states.Ready (Step.holding (t .value) (tokenAt (m .tokens) (placeNamed q)))) (taken m place))))
-        e
+  pub remove-step : {ws : List ℕ} {used cells : List Bool} → Acting ws used cells dag place p at 5 m → Step.step paper (dagOf dag) m place
+      ≡ accepted replies.Done [] (enqueue p (put p (withNode (word 2) (withBinding (word 1) slots.Empty t)) (taken m place)))
+  unfolding act outcome Step.goesOn
+  remove-step a = step-is a
 
-    choke-is : (q : Place) → applied m place v (Effects.choking v q) ≡ effectOutcome m (Step.chokes (taken m place) p t q)
-    unfolding Effects.choking Step.chokes applied changed effectOutcome unfinished isRefused
-    choke-is places.Nowhere = refl
-    choke-is (places.At c) = refl
+  pub return-step : {ws : List ℕ} {used cells : List Bool} → (f : ℕ) → t .caller ≡ places.At f → Acting ws used cells dag place p at 8 m → Step.step paper (dagOf dag) m place
+      ≡ accepted replies.Done [] (enqueue p (put p (withState states.Ready (withValue (t .value) (tokenAt (m .tokens) f))) (taken m place)))
+  unfolding act outcome Step.goesOn Step.returned withOrders
+  return-step f e a = step-is a ∙ ap (λ q. outcome m (Step.returned (taken m place) p t q)) e
 
-  pub applied-is : (n : Node) → applied m place (v n) (instruction (v n) d n) ≡ effectOutcome m (Step.act paper d m (taken m place) p t n)
-  unfolding instruction Step.act applied changed written newRows joinsIf waitsIf effectOutcome unfinished isRefused Step.goesOn Step.ended Step.forked Step.split Step.entered withCounts put Step.newToken Step.newCell Step.withTables Step.withOrders makesToken numberIf truthIf
-  applied-is Node.stop = refl
-  applied-is Node.publish = refl
-  applied-is (Node.fork l r) = unless-both m place _ _ _ _ _ refl
-  applied-is (Node.assign x k) = refl
-  applied-is (Node.remove x k) = refl
-  applied-is (Node.where' x l r) = unless-both m place _ _ _ _ _ (unless-both m place _ _ _ _ _ refl)
-  applied-is (Node.site s ps k) = site-is (Node.site s ps k) s k (look (m .cells) (t .binds) ps)
-  applied-is (Node.call e ps k) = unless-both m place _ _ _ _ _ refl
-  applied-is Node.return = return-is Node.return (t .caller) refl
-  applied-is Node.choke = choke-is Node.choke (t .cell)
-  applied-is Node.unknown = refl
+  pub choke-step : {ws : List ℕ} {used cells : List Bool} → (c : ℕ) → t .cell ≡ places.At c → Acting ws used cells dag place p at 7 m → Step.step paper (dagOf dag) m place
+      ≡ accepted replies.Done [] (Step.choked c (t .value) (taken m place))
+  unfolding act outcome Step.chokes
+  choke-step c e a = step-is a ∙ ap (λ q. outcome m (Step.chokes (taken m place) p t q)) e
 
--- a step, before blanking
-pub stepped-is :
-    (ws : List ℕ) (m : Machine) (place : ℕ)
-    → applied m place (viewOf (dagOf ws) m place) (instruction (viewOf (dagOf ws) m place) (dagOf ws) (nodeAt (dagOf ws) (viewOf (dagOf ws) m place .token .node)))
-    ≡ stepped ws m place
-unfolding Step.takes
-stepped-is ws m place =
-    let p = getD (m .queue) place 0 in
-    applied-is (dagOf ws) m place p (nodeAt (dagOf ws) (tokenAt (m .tokens) p .node))
+  pub site-step : {ws : List ℕ} {used cells : List Bool} → Acting ws used cells dag place p at 1 m → Step.step paper (dagOf dag) m place
+      ≡ outcome m (callSite paper (dagOf dag) (taken m place) p t (word 1) (word 2) (look (m .cells) (t .binds) (paramsAt dag at)))
+  unfolding act withOrders
+  site-step a = step-is a
+
+  -- fork, where and definition call, with room and without
+  pub fork-step : {ws : List ℕ} {used cells : List Bool} → (new : ℕ) → hasTokenPlace paper (dagOf dag) m ≡ true → new ≡ nextPlace (tokensUsed m) (m .lasttoken) → Acting ws used cells dag place p at 3 m
+      → Step.step paper (dagOf dag) m place
+      ≡ accepted replies.Done [] (enqueue new (enqueue p (newToken new (withNode (word 2) t) (put p (withNode (word 1) t) (taken m place)))))
+  unfolding act outcome unless Step.forked
+  fork-step new room e a =
+      step-is a
+      ∙ ap (λ b. outcome m (unless b refusals.TokenLimit (Step.forked (taken m place) p t (nextPlace (tokensUsed m) (m .lasttoken)) (word 1) (word 2)))) room
+      ∙ ap (λ q. accepted replies.Done [] (enqueue q (enqueue p (newToken q (withNode (word 2) t) (put p (withNode (word 1) t) (taken m place)))))) (sym e)
+
+  pub fork-full : {ws : List ℕ} {used cells : List Bool} → hasTokenPlace paper (dagOf dag) m ≡ false → Acting ws used cells dag place p at 3 m → Step.step paper (dagOf dag) m place ≡ outcome m (refuses refusals.TokenLimit)
+  unfolding act outcome unless
+  fork-full full a =
+      step-is a
+      ∙ ap (λ b. outcome m (unless b refusals.TokenLimit (Step.forked (taken m place) p t (nextPlace (tokensUsed m) (m .lasttoken)) (word 1) (word 2)))) full
+
+  pub call-step : {ws : List ℕ} {used cells : List Bool} → (new : ℕ) → hasTokenPlace paper (dagOf dag) m ≡ true → new ≡ nextPlace (tokensUsed m) (m .lasttoken) → Acting ws used cells dag place p at 2 m
+      → Step.step paper (dagOf dag) m place
+      ≡ accepted replies.Done []
+      (enqueue new
+      (newToken new (callee p (t .cell) (t .binds) (bodyAt (dagOf dag) (word 1) .root) (paramsAt dag at))
+      (put p (withNode (word 2) (withState states.Frame t)) (taken m place))))
+  unfolding act outcome unless Step.entered
+  call-step new room e a =
+      let root = bodyAt (dagOf dag) (word 1) .root in
+      step-is a
+      ∙ ap (λ b. outcome m (unless b refusals.TokenLimit (Step.entered (taken m place) p t (nextPlace (tokensUsed m) (m .lasttoken)) root (paramsAt dag at) (word 2)))) room
+      ∙ ap
+      (λ q.
+      accepted replies.Done []
+      (enqueue q (newToken q (callee p (t .cell) (t .binds) root (paramsAt dag at)) (put p (withNode (word 2) (withState states.Frame t)) (taken m place))))) (sym e)
+
+  pub call-full : {ws : List ℕ} {used cells : List Bool} → hasTokenPlace paper (dagOf dag) m ≡ false → Acting ws used cells dag place p at 2 m → Step.step paper (dagOf dag) m place ≡ outcome m (refuses refusals.TokenLimit)
+  unfolding act outcome unless
+  call-full full a =
+      let root = bodyAt (dagOf dag) (word 1) .root in
+      step-is a
+      ∙ ap (λ b. outcome m (unless b refusals.TokenLimit (Step.entered (taken m place) p t (nextPlace (tokensUsed m) (m .lasttoken)) root (paramsAt dag at) (word 2)))) full
+
+  abbrev splitting : (new c : ℕ) → Machine
+  splitting new c =
+      enqueue new
+      (enqueue p
+      (newCell c (unsetCell (t .cell))
+      (newToken new (inCell c (withNode (word 2) t)) (put p (withNode (word 1) (withBinding (word 3) (slots.Cell c) t)) (taken m place)))))
+
+  pub where-step : {ws : List ℕ} {used cells : List Bool} → (new c : ℕ) → hasTokenPlace paper (dagOf dag) m ≡ true → new ≡ nextPlace (tokensUsed m) (m .lasttoken)
+      → hasCellPlace paper (dagOf dag) m ≡ true → c ≡ nextPlace (cellsUsed m) (m .lastcell) → Acting ws used cells dag place p at 6 m
+      → Step.step paper (dagOf dag) m place ≡ accepted replies.Done [] (splitting new c)
+  unfolding act outcome unless Step.split
+  where-step new c room e below f a =
+      let q = nextPlace (tokensUsed m) (m .lasttoken) in
+      let k = nextPlace (cellsUsed m) (m .lastcell) in
+      step-is a
+      ∙ ap₂
+      (λ b g. outcome m (unless b refusals.TokenLimit (unless g refusals.CellLimit (Step.split (taken m place) p t q k (word 3) (word 1) (word 2))))) room below
+      ∙ ap₂ (λ q k. accepted replies.Done [] (splitting q k)) (sym e) (sym f)
+
+  pub where-full : {ws : List ℕ} {used cells : List Bool} → hasTokenPlace paper (dagOf dag) m ≡ false → Acting ws used cells dag place p at 6 m → Step.step paper (dagOf dag) m place ≡ outcome m (refuses refusals.TokenLimit)
+  unfolding act outcome unless
+  where-full full a =
+      let q = nextPlace (tokensUsed m) (m .lasttoken) in
+      let k = nextPlace (cellsUsed m) (m .lastcell) in
+      step-is a
+      ∙ ap
+      (λ b.
+      outcome m
+      (unless b refusals.TokenLimit
+      (unless (hasCellPlace paper (dagOf dag) m) refusals.CellLimit (Step.split (taken m place) p t q k (word 3) (word 1) (word 2))))) full
+
+  pub where-cells-full : {ws : List ℕ} {used cells : List Bool} → hasTokenPlace paper (dagOf dag) m ≡ true → hasCellPlace paper (dagOf dag) m ≡ false → Acting ws used cells dag place p at 6 m
+      → Step.step paper (dagOf dag) m place ≡ outcome m (refuses refusals.CellLimit)
+  unfolding act outcome unless
+  where-cells-full room full a =
+      let q = nextPlace (tokensUsed m) (m .lasttoken) in
+      let k = nextPlace (cellsUsed m) (m .lastcell) in
+      step-is a
+      ∙ ap₂
+      (λ b g. outcome m (unless b refusals.TokenLimit (unless g refusals.CellLimit (Step.split (taken m place) p t q k (word 3) (word 1) (word 2))))) room full

@@ -1,23 +1,7 @@
--- Laws that the proofs of the functions cite.
-pub mod Signed
-pub mod Sites
-pub mod Tables
-pub mod Orders
-pub mod Nodes
-pub mod Counting
-pub mod Shapes
-pub mod Chokes
-pub mod Gathers
-pub mod Choked
-pub mod Params
-pub mod LookUps
-pub mod Facts
-pub mod Calls
-pub mod Rows
-pub mod Written
+-- Laws of the instructions.
+pub mod Outcomes
+pub mod Vacancy
 pub mod Instructions
-pub mod Clauses
-pub mod Places
-pub mod Holders
-pub mod Unblanked
-pub mod Queued
+pub mod Making
+pub mod Ending
+pub mod Calling

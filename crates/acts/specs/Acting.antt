@@ -1,63 +1,70 @@
--- What a caller has shown before a token acts. Assumes nothing: these are definitions.
+-- What is known where a token acts, and what its act leaves. Assumes nothing: these are definitions.
 use mathlib.Core.Path.{_≡_}
-use mathlib.Core.Bool.{true}
-use mathlib.Core.List.{List}
+use mathlib.Core.Bool.{Bool, true}
+use mathlib.Core.List.{List, []}
 use Prim.Native.Nat.{ℕ, _<_}
-use lib.ListN.{length, getD, take}
-use lib.IntN.{ℤ}
-use Rattle.model.specs.Test.{all}
-use Rattle.model.specs.Job.Node.{dagKept}
+use lib.ListN.{length, getD}
 use Rattle.model.specs.Job.Words.{dagOf}
+use Rattle.model.specs.Machine.Blank.{tokenAt}
+use Rattle.model.specs.Machine.InUse.{tokensUsed, cellsUsed}
 use Rattle.model.specs.Machine.Limits.{paper}
-use Rattle.model.specs.Machine.Rules.{rulesKept}
 use Rattle.model.specs.Machine.Reply.{valuesBeside}
-use Rattle.model.specs.Machine.Step.{values, look, takes}
+use Rattle.model.specs.Machine.Rules.{rulesHold}
 use Rattle.model.specs.declared.record.Machine.{Machine}
 use Rattle.model.specs.declared.reply.Outcome.{Outcome}
-use Rattle.acts.specs.Row.{rowOf, paramsAt}
-use Rattle.acts.specs.Looking.{bindInRange}
-use Rattle.acts.specs.Unfinished.{effectOutcome}
-use Rattle.acts.specs.declared.view.View.{View}
+use Rattle.model.specs.declared.reply.Reply.{Reply}
+use Rattle.model.specs.declared.reply.Report.{Report}
+use Rattle.model.specs.declared.token.Place.the-variants as places
+use Rattle.model.specs.declared.token.State.the-variants as states
+use Rattle.record.specs.Holds.{Holds}
+use Rattle.sites.specs.Row.{rowOf}
 
--- the index rules are kept, and the queue has a token at the place
-pub record Rules (ws : List ℕ) (m : Machine) (place : ℕ) : Type 0 where
-  pub size : length ws ≡ 12331
-  pub kept : rulesKept paper (dagOf ws) m ≡ true
+-- there is such a record
+pub record Some (P : Machine → Type 0) : Type 0 where
+  pub machine : Machine
+  pub is : P machine
+
+-- the marks are those of what is in use
+pub record Marks (used usedCells : List Bool) (m : Machine) : Type 0 where
+  pub tokens : used ≡ tokensUsed m
+  pub cells : usedCells ≡ cellsUsed m
+
+-- the words hold the record m, whose index rules hold, and the marks are its own
+pub record Lawful (ws : List ℕ) (used usedCells : List Bool) (dag : List ℕ) (m : Machine) : Type 0 where
+  pub holds : Holds ws m
+  pub rules : rulesHold paper (dagOf dag) m ≡ true
+  pub marks : Marks used usedCells m
+  pub size : length dag ≡ 12331
+
+-- .. and the queue has a token at `place`
+pub record Ready (ws : List ℕ) (used usedCells : List Bool) (dag : List ℕ) (place : ℕ) (m : Machine) : Type 0 where
+  pub lawful : Lawful ws used usedCells dag m
   pub queued : place < m .queued
 
--- the row of a node of a kept dag begins at the word `at`, and the node's kind is k
-pub record NodeRow (ws : List ℕ) (at k : ℕ) : Type 0 where
-  pub size : length ws ≡ 12331
-  pub dag : dagKept (dagOf ws) ≡ true
-  pub node : ℕ
-  pub inside : node < length (dagOf ws .nodes)
-  pub row : at ≡ rowOf node
-  pub kind : getD ws at 0 ≡ k
+-- .. the token p
+pub record Taking (ws : List ℕ) (used usedCells : List Bool) (dag : List ℕ) (place p : ℕ) (m : Machine) : Type 0 where
+  pub lawful : Lawful ws used usedCells dag m
+  pub queued : place < m .queued
+  pub token : p ≡ getD (m .queue) place 0
 
--- the places of a view are places of the tables, and its token binds cells of the table
-pub record ViewKept (v : View) : Type 0 where
-  pub place : v .p < 64
-  pub new : v .new < 64
-  pub below : v .below < 32
-  pub slots : all (bindInRange 32) (v .token .binds) ≡ true
+-- .. whose node's row begins at the word `at` and is of this kind
+pub record Acting (ws : List ℕ) (used usedCells : List Bool) (dag : List ℕ) (place p at k : ℕ) (m : Machine) : Type 0 where
+  pub taking : Taking ws used usedCells dag place p m
+  pub row : at ≡ rowOf (tokenAt (m .tokens) p .node)
+  pub kind : getD dag at 0 ≡ k
 
--- the token is at a node of a kept dag
-pub record Acts (ws : List ℕ) (v : View) : Type 0 where
-  pub size : length ws ≡ 12331
-  pub dag : dagKept (dagOf ws) ≡ true
-  pub node : v .token .node < length (dagOf ws .nodes)
-  pub view : ViewKept v
+-- every caller of a token in use is a frame: so it is in each record of a run
+abbrev pub Framed : Machine → Type 0
+Framed m =
+    (i j : ℕ) → getD (tokensUsed m) i true ≡ true → tokenAt (m .tokens) i .caller ≡ places.At j → tokenAt (m .tokens) j .state ≡ states.Frame
 
--- the first n of four values, with zeros behind them
-pub record Beside (vs : List ℤ) (n : ℕ) : Type 0 where
-  pub zeros : valuesBeside (take n vs) ≡ vs
-  pub size : length (take n vs) ≡ n
+-- a call's report and the words after it are those of an outcome; the marks too, where callers are frames
+pub record Gives (o : Outcome) (m : Machine) (ws : List ℕ) (used usedCells : List Bool) (r : Report) : Type 0 where
+  pub reply : r .reply ≡ o .reply
+  pub values : r .values ≡ o .values
+  pub holds : Holds ws (o .machine)
+  pub marks : Framed m → Marks used usedCells (o .machine)
 
--- the values of all parameters of the token's node
-pub record Known (ws : List ℕ) (v : View) (at : ℕ) (vs : List ℤ) (n : ℕ) : Type 0 where
-  pub found : look (v .cells) (v .token .binds) (paramsAt ws at) ≡ values (take n vs)
-  pub beside : Beside vs n
-
--- what the model's step does, before blanking
-abbrev pub stepped : List ℕ → Machine → (place : ℕ) → Outcome
-stepped ws m place = effectOutcome m (takes paper (dagOf ws) m place)
+-- a report without values
+abbrev pub plain : Reply → Report
+plain r = record { reply = r; values = valuesBeside [] }

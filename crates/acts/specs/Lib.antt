@@ -1,9 +1,4 @@
--- What the contracts of this crate cite, over the definitions of crate `model`.
-pub mod Said
-pub mod Row
-pub mod Looking
-pub mod Unfinished
-pub mod Choking
+-- What the contracts of this crate cite, over the definitions of crate `model` and the words of crate `record`.
 pub mod Acting
-pub mod Effects
-pub mod Writing
+pub mod Links
+pub mod Arguments

@@ -1,13 +1,10 @@
-// What a step's instruction and an answer do to the machine, before what is not in use is made blank.
-pub mod act;
-pub mod answer;
-pub mod change;
+// The instructions: the tests that may refuse one, what it writes, and the sweep where something may be out of reach.
 pub mod choke;
-pub mod effect;
-pub mod look;
-pub mod order;
-pub mod pass;
-pub mod refuse;
-pub mod site;
-pub mod view;
-pub mod write;
+pub mod definition_call;
+pub mod end;
+pub mod fork;
+pub mod rebind;
+pub mod report;
+pub mod return_value;
+pub mod site_call;
+pub mod where_split;

@@ -4,34 +4,23 @@ use loader::table::load;
 use machine::answer::answer;
 use machine::start::start;
 use machine::step::step;
+use model::dag::WORDS;
 use model::record::Machine;
+use record::order::queued;
 
-// The step at place 0.
-fn stepped(machine: Machine, dag: &[u32; 12331]) -> Machine {
-    let outcome = step(machine, dag, 0);
-    outcome.machine
-}
-
-// An answer with the value 7.
-fn answered(machine: Machine, dag: &[u32; 12331], handle: u32) -> Machine {
-    let outcome = answer(machine, dag, handle, 7);
-    outcome.machine
-}
-
-// The start on a dag, then so many calls at most: the step at place 0 or, with the queue empty, an answer to the next handle.
-fn calls(dag: &[u32; 12331], handles: &[u32], most: u32) -> u32 {
-    let first = start(dag);
-    let mut machine = first.machine;
+// The start on a dag, then so many calls at most: the step at place 0 or, with the queue empty, an answer of 7 to the next handle.
+fn calls(words: &mut [u32; Machine::WORDS], dag: &[u32; WORDS], handles: &[u32], most: u32) -> u32 {
+    start(words, dag);
     let mut at: usize = 0;
     let mut n = 0;
     while n < most {
-        if 0 < machine.queued {
-            machine = stepped(machine, dag);
+        if 0 < queued(words) {
+            step(words, dag, 0);
         } else {
             if handles.len() <= at {
                 return n;
             }
-            machine = answered(machine, dag, handles[at]);
+            answer(words, dag, handles[at], 7);
             at += 1;
         }
         n += 1;
@@ -42,12 +31,13 @@ fn calls(dag: &[u32; 12331], handles: &[u32], most: u32) -> u32 {
 // Loads a table, and makes its first calls so many times. Answers how many calls were made the last time.
 #[no_mangle]
 pub extern "C" fn bench_calls(table: &[u8], handles: &[u32], most: u32, rounds: u32) -> u32 {
-    let mut dag = [0u32; 12331];
+    let mut dag = [0u32; WORDS];
     load(table, &mut dag);
+    let mut words = [0u32; Machine::WORDS];
     let mut made = 0;
     let mut i = 0;
     while i < rounds {
-        made = calls(&dag, handles, most);
+        made = calls(&mut words, &dag, handles, most);
         i += 1;
     }
     made

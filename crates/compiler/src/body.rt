@@ -9,9 +9,10 @@ use crate::expression::Compiled;
 use crate::expression::compile_expression;
 use crate::plan::Plan;
 use crate::store::put;
+use model::dag::WORDS;
 
 // Stores the sink of the goal, or of a definition.
-fn put_sink(dag: &mut [u32; 12331], sink: usize, goal: bool)
+fn put_sink(dag: &mut [u32; WORDS], sink: usize, goal: bool)
     requires { ⌜ sink < 1022 ⌝ }
     ensures { λ _. ⌜ now (dag .exit) ≡ sets (now (dag .entry)) (headWords + 12 * sink) (nodeWords (sinkOf goal)) ⌝ }
 {
@@ -26,7 +27,7 @@ fn put_sink(dag: &mut [u32; 12331], sink: usize, goal: bool)
 pub fn compile_body(
     kinds: &[u8],
     operands: &[u8],
-    dag: &mut [u32; 12331],
+    dag: &mut [u32; WORDS],
     scope: usize,
     at: usize,
     node: usize,

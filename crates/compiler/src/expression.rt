@@ -9,6 +9,7 @@ use crate::plan::Plan;
 use crate::plan::left_plan;
 use crate::plan::right_plan;
 use crate::store::put;
+use model::dag::WORDS;
 use reader::entry::operand;
 
 // The entry and the node behind an expression, and the node at which a token enters it.
@@ -34,7 +35,7 @@ fn single(at: usize, node: usize) -> Compiled
 pub fn compile_expression(
     kinds: &[u8],
     operands: &[u8],
-    dag: &mut [u32; 12331],
+    dag: &mut [u32; WORDS],
     left: usize,
     at: usize,
     plan: Plan,

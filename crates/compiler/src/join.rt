@@ -8,6 +8,7 @@ ghost use Rattle.reader.specs.Join.{joinOf};
 ghost use Rattle.compiler.specs.Join.{joinRoot};
 use crate::plan::Plan;
 use crate::store::put;
+use model::dag::WORDS;
 
 // The join's root, where `left` is that of its f: a sequence is entered at its f.
 pub fn join_root(kind: u8, plan: Plan, left: u32) -> u32
@@ -25,7 +26,7 @@ pub fn join_root(kind: u8, plan: Plan, left: u32) -> u32
 }
 
 // Stores the join's own nodes: `left` and `right` are the roots of its sides.
-pub fn put_own(dag: &mut [u32; 12331], kind: u8, plan: Plan, left: u32, right: u32)
+pub fn put_own(dag: &mut [u32; WORDS], kind: u8, plan: Plan, left: u32, right: u32)
     requires { ⌜ (plan .scope ≤ 8) × (plan .first + 3 ≤ 1022) ⌝ }
     ensures { λ _. ⌜ now (dag .exit) ≡ sets (now (dag .entry)) (headWords + 12 * plan .first)
         (rowsOf (ownNodes (joinOf kind (plan .scope)) left right (plan .next))) ⌝ }

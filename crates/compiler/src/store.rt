@@ -3,9 +3,10 @@ ghost use mathlib.Core.Path.{_≡_};
 ghost use Prim.Native.Nat.{_+_, _*_, _<_};
 ghost use lib.Seq.{sets};
 ghost use Rattle.model.specs.Job.Words.{headWords};
+use model::dag::WORDS;
 
 // The nodes' rows begin behind the dag's head of 67 words.
-pub fn put(dag: &mut [u32; 12331], node: usize, words: [u32; 12])
+pub fn put(dag: &mut [u32; WORDS], node: usize, words: [u32; 12])
     requires { ⌜ node < 1022 ⌝ }
     ensures { λ _. ⌜ now (dag .exit) ≡ sets (now (dag .entry)) (headWords + 12 * node) words ⌝ }
 {

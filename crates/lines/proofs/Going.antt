@@ -18,10 +18,10 @@ use Rattle.model.specs.declared.record.Machine.{Machine}
 use Rattle.model.specs.declared.reply.Outcome.{Outcome}
 use Rattle.lines.specs.Input.{Accepted, lastLines}
 use Rattle.lines.specs.Shown.{Shows}
-use Rattle.lines.specs.Turn.{isLast, isLimit, isOver, turnOutcome, nextAt, nextSteps, Turning}
+use Rattle.lines.specs.Turn.{isLast, isLimit, isOver, turnOutcome, nextAt, nextSteps}
 use Rattle.lines.proofs.Showing.{shows-none, shows-then, shows-as}
 use Rattle.lines.proofs.Telling.{text-append}
-use Rattle.lines.proofs.Reached.{Reached, reached-start, reached-rules, reached-by-step, reached-by-answer}
+use Rattle.lines.proofs.Reached.{Reached, reached-start, reached-by-step, reached-by-answer}
 use Rattle.lines.proofs.TurnCases.{empty-or-ready, last-is, not-last, limit-is, not-limit, over-is, not-over, turn-empty, turn-ready}
 use Rattle.lines.proofs.TurnCases.{at-empty, at-ready, steps-empty, steps-ready}
 use Rattle.lines.proofs.HouseTurns.{standing, linesFrom, turn-last, turn-deliver, turn-limit, turn-refused, turn-step}
@@ -131,13 +131,9 @@ module _ (words rest before : List ℕ) (from : ℕ) where
           let is = limit-is (m .queued) steps (sym e ∙ t) in
           going-over _ G (turn-limit (dagOf words) rest m steps at (is .0) (is .1)) s
 
-      -- what the turn asks
-      pub going-turning : Turning words m rest at
-      going-turning =
-          record {
-            kept = reached-rules words (G .accepted) (G .reached);
-            there = λ e. (let left = there e in let inside = G .inside in omega arith);
-          }
+      -- a record is there where the turn delivers one
+      pub going-there : m .queued ≡ 0 → at + 8 ≤ length rest
+      going-there e = let left = there e in let inside = G .inside in omega arith
 
       module _ (k : Bool) (limited : k ≡ isLimit (m .queued) steps) (free : k ≡ false) (o : Outcome)
           (turned : o ≡ turnOutcome (dagOf words) m rest at) (b : Bool) (over-if : b ≡ isOver (m .queued) (o .reply)) where

@@ -4,7 +4,9 @@ pub mod Telling
 pub mod Reached
 pub mod HouseTurns
 pub mod TurnCases
+pub mod TurnGives
 pub mod Going
+pub mod Lent
 pub mod TableEnd
 pub mod Whole
 pub mod Pieces

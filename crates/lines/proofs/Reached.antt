@@ -1,16 +1,17 @@
 -- The records of a run on a loaded dag: they keep the index rules, and each call leads to such a record. Assumes nothing.
-use mathlib.Core.Path.{_≡_, sym, _∙_, ap, subst}
+use mathlib.Core.Path.{_≡_, refl, sym, _∙_, ap, subst}
 use mathlib.Core.Bool.{true}
 use mathlib.Core.List.{List}
 use Prim.Native.Nat.{ℕ}
-use lib.IntN.{ℤ}
+use lib.ListN.{getD}
 use Rattle.model.specs.Number.{signed}
-use Rattle.model.specs.Job.Node.{Dag, dagKept}
+use Rattle.model.specs.Job.Node.{Dag, dagHolds}
 use Rattle.model.specs.Job.WellFormed.{WellFormed}
 use Rattle.model.specs.Job.Words.{dagOf}
 use Rattle.model.specs.Machine.Limits.{paper}
-use Rattle.model.specs.Machine.Rules.{rulesKept}
+use Rattle.model.specs.Machine.Rules.{rulesHold}
 use Rattle.model.specs.Machine.Start as Start
+use Rattle.model.specs.Machine.Start.{startMachine, start}
 use Rattle.model.specs.Machine.Step as Step
 use Rattle.model.specs.Machine.Answer as Answer
 use Rattle.model.specs.Run.Meaning.{meaning}
@@ -25,6 +26,8 @@ use Rattle.model.proofs.Sees.Labelling.{labelsOf}
 use Rattle.model.proofs.Sees.Flowing.{construct-flows}
 use Rattle.model.proofs.Keeps.Reached.{paper-roomy}
 use Rattle.model.proofs.Keeps.Runs.{InRun, start-in-run, call-in-run, in-run-rules}
+use Rattle.model.proofs.Keeps.Framed.{in-run-framed}
+use Rattle.acts.specs.Acting.{Framed}
 use Rattle.lines.specs.Input.{Accepted}
 
 module _ (words : List ℕ) (A : Accepted words) where
@@ -34,8 +37,13 @@ module _ (words : List ℕ) (A : Accepted words) where
   good : WellFormed (A .program)
   good = accepted-well-formed (A .table) (A .program) (A .read)
 
-  pub dag-kept : dagKept (dagOf words) ≡ true
-  dag-kept = ap dagKept (A .holds) ∙ construct-kept (A .program) good
+  pub dag-kept : dagHolds (dagOf words) ≡ true
+  dag-kept = ap dagHolds (A .holds) ∙ construct-kept (A .program) good
+
+  -- the record that the code starts with
+  pub started : startMachine paper (getD words 2 0) ≡ Start.start paper (dagOf words) .machine
+  unfolding start dagOf
+  started = rw (dag-kept, start) refl
 
   flows : Flow (dagOf words) (labelsOf (A .program))
   flows = subst (λ e. Flow e (labelsOf (A .program))) (sym (A .holds)) (construct-flows (A .program) good)
@@ -56,16 +64,11 @@ module _ (words : List ℕ) (A : Accepted words) where
   reached-answer m h w r =
       call-in-run paper d (labelsOf (A .program)) paper-roomy flows dag-kept (meaning (A .program) .body) m (answer h (signed w) (signed-fits w)) r
 
-  pub reached-rules : {m : Machine} → Reached m → rulesKept paper (dagOf words) m ≡ true
-  reached-rules r = in-run-rules paper d (labelsOf (A .program)) paper-roomy flows dag-kept (meaning (A .program) .body) r
+  pub reached-framed : {m : Machine} → Reached m → Framed m
+  reached-framed r = in-run-framed r
 
--- the numbers of a record, as the code hands them on
-pub delivered : (d : Dag) (m : Machine) (h k w n : ℕ) (v : ℤ) (o : Outcome) → o ≡ Answer.answer paper d m h v → h ≡ k → v ≡ signed w → w ≡ n
-    → o ≡ Answer.answer paper d m k (signed n)
-delivered d m h k w n v o e same is word =
-    e
-    ∙ ap (λ (u : ℤ). Answer.answer paper d m h u) (is ∙ ap signed word)
-    ∙ ap (λ (i : ℕ). Answer.answer paper d m i (signed n)) same
+  pub reached-rules : {m : Machine} → Reached m → rulesHold paper (dagOf words) m ≡ true
+  reached-rules r = in-run-rules paper d (labelsOf (A .program)) paper-roomy flows dag-kept (meaning (A .program) .body) r
 
 module _ (words : List ℕ) (A : Accepted words) (m : Machine) (o : Outcome) where
   pub reached-by-step : Reached words A m → o ≡ Step.step paper (dagOf words) m 0 → Reached words A (o .machine)

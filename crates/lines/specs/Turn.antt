@@ -7,15 +7,14 @@ use lib.ListN.{length, take, drop}
 use lib.Dec.{eqb, ltb}
 use Rattle.model.specs.Number.{number, signed}
 use Rattle.model.specs.Job.Node.{Dag}
-use Rattle.model.specs.Job.Words.{dagOf}
 use Rattle.model.specs.Machine.Limits.{paper}
 use Rattle.model.specs.Machine.Reply.{isRefused}
-use Rattle.model.specs.Machine.Rules.{rulesKept}
 use Rattle.model.specs.Machine.Step as Step
 use Rattle.model.specs.Machine.Answer as Answer
 use Rattle.model.specs.declared.record.Machine.{Machine}
 use Rattle.model.specs.declared.reply.Reply.{Reply}
 use Rattle.model.specs.declared.reply.Outcome.{Outcome}
+use Rattle.acts.specs.Acting.{Lawful}
 
 -- no token is ready, and fewer bytes are left than a record has
 unfoldable pub isLast : (queued left : ℕ) → Bool
@@ -45,7 +44,7 @@ nextAt queued at = elim (eqb queued 0) [ true ↦ at + 8 | false ↦ at ]
 unfoldable pub nextSteps : (queued steps : ℕ) → ℕ
 nextSteps queued steps = elim (eqb queued 0) [ true ↦ steps | false ↦ suc steps ]
 
--- what a turn asks: the rules are kept, and a record is there where one is to be delivered
-pub record Turning (words : List ℕ) (m : Machine) (rest : List ℕ) (at : ℕ) : Type 0 where
-  pub kept : rulesKept paper (dagOf words) m ≡ true
+-- what a turn asks: the words hold m and the marks are m's, and a record is there where one is to be delivered
+pub record Turning (ws : List ℕ) (used usedCells : List Bool) (dag rest : List ℕ) (at : ℕ) (m : Machine) : Type 0 where
+  pub lawful : Lawful ws used usedCells dag m
   pub there : m .queued ≡ 0 → at + 8 ≤ length rest

@@ -3,6 +3,7 @@ mod ending;
 mod house;
 mod input;
 pub mod orcrun;
+mod refused;
 mod shown;
 mod told;
 mod turn;

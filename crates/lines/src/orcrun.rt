@@ -8,6 +8,7 @@ use crate::input::table_end;
 use crate::shown::show_front;
 use loader::table::Loaded;
 use loader::table::load;
+use model::dag::WORDS;
 use text::line;
 
 // Runs the job of an input and stores what it prints from byte `from` on, as many bytes as the output has room for. Answers how many bytes it prints in all.
@@ -21,7 +22,7 @@ pub fn orcrun(input: &[u8], from: usize, output: &mut [u8]) -> usize
         return show_front(buffer, n, output, from, 0);
     }
     let end = table_end(input);
-    let mut dag = [0u32; 12331];
+    let mut dag = [0u32; WORDS];
     let answer = load(&input[0..end], &mut dag);
     match answer {
         Loaded::Refused(number, entry) => {

@@ -1,23 +1,27 @@
 // One turn of a house run: a step of the token at place 0, or, with the queue empty, the delivery of a record. `queued` tokens are in the queue before it.
 ghost use mathlib.Core.Path.{_≡_};
-ghost use mathlib.Core.Bool.{true};
-ghost use Prim.Native.Nat.{_+_, _<_, _≤_};
+ghost use mathlib.Core.Bool.{Bool};
+ghost use mathlib.Core.List.{List};
+ghost use Prim.Native.Nat.{ℕ, _+_, _<_, _≤_};
 ghost use lib.ListN.{length, take, drop};
 ghost use Rattle.model.specs.Job.Words.{dagOf};
 ghost use Rattle.model.specs.Machine.Answer as Answer;
 ghost use Rattle.model.specs.Machine.Limits.{paper};
-ghost use Rattle.model.specs.Machine.Rules.{rulesKept};
 ghost use Rattle.model.specs.Number as Number;
 ghost use Rattle.model.specs.Number.{number};
+ghost use Rattle.model.specs.declared.record.Machine.{Machine};
+ghost use Rattle.acts.specs.Acting.{Some, Lawful, Gives};
 ghost use Rattle.lines.specs.Turn.{Turning, isLast, isLimit, isOver, turnOutcome, nextAt, nextSteps};
-use acts::pass::signed;
-use machine::kept::answer_kept;
-use machine::kept::step_kept;
-use machine::refused::is_refused;
+use crate::refused::is_refused;
+use machine::unchecked::answer;
+use machine::unchecked::step;
+use model::dag::WORDS;
 use model::record::Machine;
-use model::reply::Outcome;
 use model::reply::Reply;
+use model::reply::Report;
 use reader::entry::word_at;
+use record::order;
+use sites::number::signed;
 
 // "With 100,000 steps made and a token ready: `limit`."
 const STEPS: u32 = 100000;
@@ -52,25 +56,30 @@ pub fn is_over(queued: usize, reply: Reply) -> bool
 }
 
 // Delivers the record at an index: "handle and signed value, each little-endian".
-fn deliver(machine: Machine, dag: &[u32; 12331], rest: &[u8], at: usize) -> Outcome
-    requires { ⌜ (rulesKept paper (dagOf (now dag)) machine ≡ true) × (at + 8 ≤ length (now rest)) ⌝ }
-    ensures { λ r. ⌜ r ≡ Answer.answer paper (dagOf (now (dag .entry))) machine (number (take 4 (drop at (now (rest .entry)))))
-        (Number.signed (number (take 4 (drop (at + 4) (now (rest .entry)))))) ⌝ }
+fn deliver(w: &mut [u32; Machine::WORDS], rest: &[u8], at: usize) -> Report
+    requires { ⌜ at + 8 ≤ length (now rest) ⌝ }
+    ensures { λ r. ⌜ ((m : Machine) (dag : List ℕ) (used cells : List Bool) → Lawful (now (w .entry)) used cells dag m → Gives (Answer.answer paper (dagOf dag) m (number (take 4 (drop at (now (rest .entry))))) (Number.signed (number (take 4 (drop (at + 4) (now (rest .entry))))))) m (now (w .exit)) used cells r) ⌝ }
 {
     let handle = word_at(rest, at);
     let value = signed(word_at(rest, at + 4));
-    answer_kept(machine, dag, handle, value)
+    answer(w, handle, value)
 }
 
-pub fn turn(machine: Machine, dag: &[u32; 12331], rest: &[u8], at: usize) -> Outcome
-    requires { ⌜ Turning (now dag) machine (now rest) at ⌝ }
-    ensures { λ r. ⌜ r ≡ turnOutcome (dagOf (now (dag .entry))) machine (now (rest .entry)) at ⌝ }
+pub fn turn(
+    w: &mut [u32; Machine::WORDS],
+    tokens: &mut [bool; Machine::TOKENS],
+    cells: &mut [bool; Machine::CELLS],
+    dag: &[u32; WORDS],
+    rest: &[u8],
+    at: usize,
+) -> Report
+    requires { ⌜ Some (Turning (now w) (now tokens) (now cells) (now dag) (now rest) at) ⌝ }
+    ensures { λ r. ⌜ ((m : Machine) → Turning (now (w .entry)) (now (tokens .entry)) (now (cells .entry)) (now (dag .entry)) (now (rest .entry)) at m → Gives (turnOutcome (dagOf (now (dag .entry))) m (now (rest .entry)) at) m (now (w .exit)) (now (tokens .exit)) (now (cells .exit)) r) ⌝ }
 {
-    let queued = machine.queued;
-    if queued == 0 {
-        return deliver(machine, dag, rest, at);
+    if order::queued(w) == 0 {
+        return deliver(w, rest, at);
     }
-    step_kept(machine, dag, 0)
+    step(w, tokens, cells, dag, 0)
 }
 
 // The first record that is not delivered, after the turn.

@@ -2,6 +2,7 @@
 // checked with the whole table, counted here, compiled here.
 use compiler::body;
 use compiler::expression::Compiled;
+use model::dag::WORDS;
 use reader::checked::Checked;
 use reader::expression;
 ghost use mathlib.Core.Path.{_≡_};
@@ -13,7 +14,7 @@ ghost use Rattle.loader.specs.Stored.{BodyRead};
 pub fn compile_body(
     kinds: &[u8],
     operands: &[u8],
-    dag: &mut [u32; 12331],
+    dag: &mut [u32; WORDS],
     scope: usize,
     at: usize,
     node: usize,

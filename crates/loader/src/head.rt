@@ -3,9 +3,10 @@ ghost use mathlib.Core.Path.{_≡_};
 ghost use mathlib.Core.List.{[], _∷_};
 ghost use Prim.Native.Nat.{_+_, _*_, _<_};
 ghost use lib.Seq.{sets};
+use model::dag::WORDS;
 
 // Stores the two words of definition `i`.
-pub fn put_definition(dag: &mut [u32; 12331], i: usize, root: u32, formals: u32)
+pub fn put_definition(dag: &mut [u32; WORDS], i: usize, root: u32, formals: u32)
     requires { ⌜ i < 32 ⌝ }
     ensures { λ _. ⌜ now (dag .exit) ≡ sets (now (dag .entry)) (3 + 2 * i) (root ∷ formals ∷ []) ⌝ }
 {
@@ -15,7 +16,7 @@ pub fn put_definition(dag: &mut [u32; 12331], i: usize, root: u32, formals: u32)
 }
 
 // Stores the first three words.
-pub fn put_sizes(dag: &mut [u32; 12331], nodes: u32, definitions: u32, goal: u32)
+pub fn put_sizes(dag: &mut [u32; WORDS], nodes: u32, definitions: u32, goal: u32)
     ensures { λ _. ⌜ now (dag .exit) ≡ sets (now (dag .entry)) 0 (nodes ∷ definitions ∷ goal ∷ []) ⌝ }
 {
     dag[0] = nodes;

@@ -1,6 +1,7 @@
 // An accepted program: the bodies of its definitions, its goal, and the dag's head.
 use crate::body;
 use crate::head;
+use model::dag::WORDS;
 use reader::entry;
 ghost use mathlib.Core.Path.{_≡_};
 ghost use Prim.Native.Nat.{_≤_};
@@ -17,7 +18,7 @@ pub struct Place {
 }
 
 // Stores the bodies of so many definitions, and their words of the head.
-fn compile_definitions(kinds: &[u8], operands: &[u8], dag: &mut [u32; 12331], count: usize) -> Place
+fn compile_definitions(kinds: &[u8], operands: &[u8], dag: &mut [u32; WORDS], count: usize) -> Place
     requires { ⌜ Parts (now kinds) (now operands) ⌝ }
     requires { ⌜ count ≤ 32 ⌝ }
     requires { ⌜ DefinitionsRead (readDefinitions count 0 (entries (now kinds) (now operands))) ⌝ }
@@ -48,7 +49,7 @@ fn compile_definitions(kinds: &[u8], operands: &[u8], dag: &mut [u32; 12331], co
 }
 
 // Stores the dag of a program with so many definitions.
-pub fn compile_program(kinds: &[u8], operands: &[u8], dag: &mut [u32; 12331], count: usize)
+pub fn compile_program(kinds: &[u8], operands: &[u8], dag: &mut [u32; WORDS], count: usize)
     requires { ⌜ Parts (now kinds) (now operands) ⌝ }
     requires { ⌜ count ≤ 32 ⌝ }
     requires { ⌜ Accepts (readEntries count (entries (now kinds) (now operands))) ⌝ }

@@ -1,5 +1,6 @@
 // The whole table: its sizes, then its two parts.
 use crate::program;
+use model::dag::WORDS;
 use reader::checked::Checked;
 use reader::program as entries;
 ghost use mathlib.Core.Path.{_≡_};
@@ -23,7 +24,7 @@ pub fn half(low: u8, high: u8) -> usize
 }
 
 // Loads the entries of a table with so many definitions. Nothing is written before the last of them is checked.
-fn load_parts(kinds: &[u8], operands: &[u8], dag: &mut [u32; 12331], definitions: usize) -> Loaded
+fn load_parts(kinds: &[u8], operands: &[u8], dag: &mut [u32; WORDS], definitions: usize) -> Loaded
     requires { ⌜ Parts (now kinds) (now operands) ⌝ }
     requires { ⌜ definitions ≤ 32 ⌝ }
     ensures { λ r. ⌜ r ≡ loaded (answerOf (readEntries definitions (entries (now (kinds .entry)) (now (operands .entry))))) ⌝ }
@@ -41,7 +42,7 @@ fn load_parts(kinds: &[u8], operands: &[u8], dag: &mut [u32; 12331], definitions
 }
 
 // Loads a job table: its dag is written, and words past the last definition and the last node stay; or it is refused, and every word stays.
-pub fn load(table: &[u8], dag: &mut [u32; 12331]) -> Loaded
+pub fn load(table: &[u8], dag: &mut [u32; WORDS]) -> Loaded
     ensures { λ r. ⌜ r ≡ loaded (readTable (now (table .entry))) ⌝ }
     ensures { λ _. ⌜ now (dag .exit) ≡ loadedWords (readTable (now (table .entry))) (now (dag .entry)) ⌝ }
 {

@@ -1,3 +1,2 @@
--- How a call ends, and which kinds of node make a token.
-pub mod Finished
-pub mod Kind
+-- What the public calls promise.
+pub mod Calls

@@ -1,25 +1,22 @@
 // An answer to an outside call.
-ghost use mathlib.Core.Path.{_≡_};
-ghost use Rattle.model.specs.Job.Words.{dagOf};
-ghost use Rattle.model.specs.Machine.Answer as Answer;
-ghost use Rattle.model.specs.Machine.Limits.{paper};
-use crate::kept::answer_kept;
-use acts::refuse::refused;
+ghost use Rattle.machine.specs.Calls.{Gave, answerOn};
+use crate::lawful::is_lawful;
+use crate::unchecked;
+use acts::report::plain;
+use model::dag::WORDS;
 use model::record::Machine;
-use model::reply::Outcome;
 use model::reply::Refusal;
-use reach::used::in_use;
-use rules::rules::rules_kept;
+use model::reply::Reply;
+use model::reply::Report;
 
-// "An answer tests 14, 12."
-pub fn answer(machine: Machine, dag: &[u32; 12331], handle: u32, value: i32) -> Outcome
-    ensures { λ r. ⌜ r ≡ Answer.answer paper (dagOf (now (dag .entry))) machine handle value ⌝ }
+// "An answer tests 14, 12." A refused one leaves every word.
+pub fn answer(w: &mut [u32; Machine::WORDS], dag: &[u32; WORDS], handle: u32, value: i32) -> Report
+    ensures { λ r. ⌜ Gave (answerOn (now (dag .entry)) (now (w .entry)) handle value) r (now (w .exit)) ⌝ }
 {
-    let used = in_use(machine);
-    let tokens = used.tokens;
-    let cells = used.cells;
-    if rules_kept(machine, dag, tokens, cells) {
-        return answer_kept(machine, dag, handle, value);
+    let mut tokens = [false; Machine::TOKENS];
+    let mut cells = [false; Machine::CELLS];
+    if !is_lawful(w, dag, &mut tokens, &mut cells) {
+        return plain(Reply::Refused(Refusal::Rule));
     }
-    refused(machine, Refusal::Rule)
+    unchecked::answer(w, handle, value)
 }

@@ -1,7 +1,6 @@
-// The machine's public calls: start, step, answer. Each is for any record and any dag words, and equals its definition in crate `model`.
+// The machine's public calls: start, step, answer. Each is for any words of a record and of a dag, and gives what specs/Calls.antt says.
 pub mod answer;
-pub mod kept;
-pub mod refused;
+mod lawful;
 pub mod start;
 pub mod step;
-mod view;
+pub mod unchecked;

@@ -1,31 +1,20 @@
 // The start.
-ghost use mathlib.Core.Path.{_≡_};
-ghost use Rattle.model.specs.Job.Words.{dagOf};
-ghost use Rattle.model.specs.Machine.Limits.{paper};
-ghost use Rattle.model.specs.Machine.Start.{start};
+ghost use Rattle.machine.specs.Calls.{Gave, startOn};
+use acts::report::plain;
+use coded::dag::dag_holds;
+use model::dag::WORDS;
 use model::record::Machine;
-use model::reply::Outcome;
 use model::reply::Refusal;
 use model::reply::Reply;
-use rules::dag::dag_kept;
+use model::reply::Report;
 
-// A machine with one ready token at the goal; refused (14) where the dag breaks an index rule, with the blank record.
-pub fn start(dag: &[u32; 12331]) -> Outcome
-    ensures { λ r. ⌜ r ≡ start paper (dagOf (now (dag .entry))) ⌝ }
+// One ready token at the goal, whatever the words were; refused (14) where the dag breaks an index rule, and then every word stays.
+pub fn start(w: &mut [u32; Machine::WORDS], dag: &[u32; WORDS]) -> Report
+    ensures { λ r. ⌜ Gave (startOn (now (dag .entry)) (now (w .entry))) r (now (w .exit)) ⌝ }
 {
-    if dag_kept(dag) {
-        let goal = dag[2];
-        let machine = Machine::start(goal as u16);
-        return Outcome {
-            reply: Reply::Done,
-            values: [0; 4],
-            machine,
-        };
+    if dag_holds(dag) {
+        record::start::start(w, dag[2]);
+        return plain(Reply::Done);
     }
-    let machine = Machine::blank();
-    Outcome {
-        reply: Reply::Refused(Refusal::Rule),
-        values: [0; 4],
-        machine,
-    }
+    plain(Reply::Refused(Refusal::Rule))
 }

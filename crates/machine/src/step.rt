@@ -1,28 +1,27 @@
 // One step of the token that the queue has at a place.
-ghost use mathlib.Core.Path.{_≡_};
-ghost use Rattle.model.specs.Job.Words.{dagOf};
-ghost use Rattle.model.specs.Machine.Limits.{paper};
-ghost use Rattle.model.specs.Machine.Step as Step;
-use crate::kept::step_kept;
-use acts::refuse::refused;
+ghost use Rattle.machine.specs.Calls.{Gave, stepOn};
+use crate::lawful::is_lawful;
+use crate::unchecked;
+use acts::report::plain;
+use model::dag::WORDS;
 use model::record::Machine;
-use model::reply::Outcome;
 use model::reply::Refusal;
-use reach::used::in_use;
-use rules::rules::rules_kept;
+use model::reply::Reply;
+use model::reply::Report;
+use record::order::queued;
+use sites::number::wide;
 
-// "A step tests 14, 9, then 10, 11 or 13."
-pub fn step(machine: Machine, dag: &[u32; 12331], place: usize) -> Outcome
-    ensures { λ r. ⌜ r ≡ Step.step paper (dagOf (now (dag .entry))) machine place ⌝ }
+// "A step tests 14, 9, then 10, 11 or 13." A refused one leaves every word.
+pub fn step(w: &mut [u32; Machine::WORDS], dag: &[u32; WORDS], place: usize) -> Report
+    ensures { λ r. ⌜ Gave (stepOn (now (dag .entry)) (now (w .entry)) place) r (now (w .exit)) ⌝ }
 {
-    let used = in_use(machine);
-    let tokens = used.tokens;
-    let cells = used.cells;
-    if rules_kept(machine, dag, tokens, cells) {
-        if place < machine.queued {
-            return step_kept(machine, dag, place);
-        }
-        return refused(machine, Refusal::NoToken);
+    let mut tokens = [false; Machine::TOKENS];
+    let mut cells = [false; Machine::CELLS];
+    if !is_lawful(w, dag, &mut tokens, &mut cells) {
+        return plain(Reply::Refused(Refusal::Rule));
     }
-    refused(machine, Refusal::Rule)
+    if wide(queued(w)) <= place {
+        return plain(Reply::Refused(Refusal::NoToken));
+    }
+    unchecked::step(w, &mut tokens, &mut cells, dag, place)
 }

@@ -11,7 +11,7 @@ use crate::token::Slot;
 use crate::token::State;
 use crate::token::Token;
 
-// `queue` and `waits` are in use up to `queued` and `waiting`; `newtoken` and `newcell` are the
+// `queue` and `waits` are in use up to `queued` and `waiting`; `lasttoken` and `lastcell` are the
 // last places given.
 pub struct Machine {
     pub tokens: [Token; Machine::TOKENS],
@@ -21,8 +21,8 @@ pub struct Machine {
     pub waits: [u8; Machine::TOKENS],
     pub waiting: usize,
     pub calls: u32,
-    pub newtoken: u8,
-    pub newcell: u8,
+    pub lasttoken: u8,
+    pub lastcell: u8,
 }
 
 impl Machine {
@@ -57,8 +57,8 @@ impl Machine {
             waits: [0; Machine::TOKENS],
             waiting: 0,
             calls: 0,
-            newtoken: 0,
-            newcell: 0,
+            lasttoken: 0,
+            lastcell: 0,
         }
     }
 
@@ -76,7 +76,7 @@ impl Machine {
             state: State::Ready,
         };
         machine.queued = 1;
-        machine.newcell = (Machine::CELLS - 1) as u8;
+        machine.lastcell = (Machine::CELLS - 1) as u8;
         machine
     }
 }

@@ -1,11 +1,8 @@
-pub mod Fill
-pub mod Walk
-pub mod Ancestors
-pub mod Count
-pub mod Place
-pub mod Renumber
-pub mod Known
-pub mod UsedTokens
-pub mod UsedCells
-pub mod Keep
-pub mod Blanking
+-- Laws of the loops that mark, make blank and look for a place.
+pub mod Lists
+pub mod Links
+pub mod Chains
+pub mod Climbing
+pub mod Marking
+pub mod Keeping
+pub mod Placing

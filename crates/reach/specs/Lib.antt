@@ -1,1 +1,2 @@
-pub mod Link
+-- Marks of what is in use, and the next free place.
+pub mod Marks

@@ -29,11 +29,11 @@ module _ {ws : List ℕ} {m : Machine} (h : Codes ws m) where
   unfolding counts
   calls-word = count-word 2
 
-  pub last-token-word : getD ws 1795 0 ≡ m .newtoken
+  pub last-token-word : getD ws 1795 0 ≡ m .lasttoken
   unfolding counts
   last-token-word = count-word 3
 
-  pub last-cell-word : getD ws 1796 0 ≡ m .newcell
+  pub last-cell-word : getD ws 1796 0 ≡ m .lastcell
   unfolding counts
   last-cell-word = count-word 4
 
@@ -52,14 +52,14 @@ module _ {ws : List ℕ} {m : Machine} (h : Holds ws m) where
       ap (λ r. set r (1792 + i) v) (h .codes .words)
       ∙ parts-laws.counts-set _ _ _ _ _ (shaped h .tokens) (shaped h .cells) (shaped h .queue) (shaped h .waits) i v
 
-  pub calls-put : (n : ℕ) → Holds (set ws 1794 n) (withCounts n (m .newtoken) (m .newcell) m)
+  pub calls-put : (n : ℕ) → Holds (set ws 1794 n) (withCounts n (m .lasttoken) (m .lastcell) m)
   unfolding counts
-  calls-put n = counts-hold h n (m .newtoken) (m .newcell) (count-put 2 n)
+  calls-put n = counts-hold h n (m .lasttoken) (m .lastcell) (count-put 2 n)
 
-  pub last-token-put : (p : ℕ) → Holds (set ws 1795 p) (withCounts (m .calls) p (m .newcell) m)
+  pub last-token-put : (p : ℕ) → Holds (set ws 1795 p) (withCounts (m .calls) p (m .lastcell) m)
   unfolding counts
-  last-token-put p = counts-hold h (m .calls) p (m .newcell) (count-put 3 p)
+  last-token-put p = counts-hold h (m .calls) p (m .lastcell) (count-put 3 p)
 
-  pub last-cell-put : (c : ℕ) → Holds (set ws 1796 c) (withCounts (m .calls) (m .newtoken) c m)
+  pub last-cell-put : (c : ℕ) → Holds (set ws 1796 c) (withCounts (m .calls) (m .lasttoken) c m)
   unfolding counts
-  last-cell-put c = counts-hold h (m .calls) (m .newtoken) c (count-put 4 c)
+  last-cell-put c = counts-hold h (m .calls) (m .lasttoken) c (count-put 4 c)

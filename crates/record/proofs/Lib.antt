@@ -6,6 +6,8 @@ pub mod Shape
 pub mod TokenRow
 pub mod CellRow
 pub mod Counts
+pub mod Retaining
 pub mod Queue
 pub mod Copying
 pub mod Starting
+pub mod Ruled

@@ -1,7 +1,8 @@
 -- The queue and the wait order: what their words say, and what a name that joins or leaves makes of them. Assumes nothing.
-use mathlib.Core.Path.{_≡_, refl, sym, ap, ap₂, subst, _∙_}
+use mathlib.Core.Path.{_≡_, sym, ap, ap₂, _∙_}
+use mathlib.Core.Bool.{Bool, false}
 use mathlib.Core.List.{List, [], _∷_, _++_}
-use Prim.Native.Nat.{ℕ, zero, suc, _+_, _-_, _*_, _<_, _≤_}
+use Prim.Native.Nat.{ℕ, _+_, _-_, _<_, _≤_}
 use native.Mathlib.Omega.{arith}
 use lib.ListN.{length, getD, set, take, drop, replicate, length-append}
 use lib.Seq.{drop-append-seam}
@@ -11,6 +12,8 @@ use Rattle.model.specs.declared.record.Machine.{Machine}
 use Rattle.record.specs.Fields.{taken, delayed}
 use Rattle.record.specs.Words.{wordsOf, counts, parts}
 use Rattle.record.specs.Holds.{Codes, Holds}
+use Rattle.record.specs.Retaining.{markedOf, Retained}
+use Rattle.record.proofs.Retaining.{filter-short}
 use Rattle.record.proofs.Names.{put-behind, length-without}
 use Rattle.record.proofs.Parts as parts-laws
 use Rattle.record.proofs.Shape.{shaped, orders-hold, queue-fits, waits-fit, padded-long}
@@ -39,11 +42,11 @@ module _ {ws : List ℕ} {m : Machine} (h : Holds ws m) where
   -- orders and their counts are written
   pub orders-put : (q w a b : List ℕ) (i j : ℕ) {xs : List ℕ} → length q ≤ 64 → length w ≤ 64
       → a ≡ padded 0 64 q → b ≡ padded 0 64 w → i ≡ length q → j ≡ length w
-      → xs ≡ parts (m .tokens) (m .cells) a b (i ∷ j ∷ m .calls ∷ m .newtoken ∷ m .newcell ∷ []) → Holds xs (withOrders q w m)
+      → xs ≡ parts (m .tokens) (m .cells) a b (i ∷ j ∷ m .calls ∷ m .lasttoken ∷ m .lastcell ∷ []) → Holds xs (withOrders q w m)
   orders-put q w a b i j l k ea eb ei ej e = orders-hold h q w l k (e ∙ rw (ea, eb, ei, ej))
 
   abbrev counting : (i j : ℕ) → List ℕ
-  counting i j = i ∷ j ∷ m .calls ∷ m .newtoken ∷ m .newcell ∷ []
+  counting i j = i ∷ j ∷ m .calls ∷ m .lasttoken ∷ m .lastcell ∷ []
 
   -- other names in the queue, and their number
   pub queue-put : (q x : List ℕ) (n : ℕ) {xs : List ℕ} → length q ≤ 64 → x ≡ padded 0 64 q → n ≡ length q
@@ -128,3 +131,26 @@ module _ {ws : List ℕ} {m : Machine} (h : Holds ws m) where
       let zeros = ap (drop n) queue-part ∙ rest-zero (m .queue) (queueOf m) n queue-is long in
       queue-put (without index (queueOf m)) x (n - 1) (omega arith)
       (f zeros ∙ ap₂ (λ k r. padded 0 64 (without index (take k r))) e queue-part) (omega arith) (queue-lent x)
+
+  -- the names that are marked stay
+  kept-few : (marks : List Bool) (xs : List ℕ) → length xs ≤ 64 → length (markedOf marks xs) ≤ 64
+  kept-few marks xs l = let a = filter-short (λ (p : ℕ). getD marks p false) xs in omega arith
+
+  module _ (n count : ℕ) (x : List ℕ) (marks : List Bool) where
+    pub retain-queue-put : count ≡ m .queued → Retained (take 64 (drop 1664 ws)) count marks x n
+        → Holds (set (take 1664 ws ++ (x ++ drop 64 (drop 1664 ws))) 1792 n) (withOrders (markedOf marks (queueOf m)) (waitsOf m) m)
+    unfolding queueOf
+    retain-queue-put e r =
+        let names : take count (take 64 (drop 1664 ws)) ≡ queueOf m = ap₂ take e queue-part in
+        let zeros = ap (drop count) queue-part ∙ rest-zero (m .queue) (queueOf m) count queue-is (e ∙ h .ordered .queued) in
+        queue-put (markedOf marks (queueOf m)) x n (kept-few marks (queueOf m) (queue-fits h))
+        (r .array zeros ∙ ap (λ xs. padded 0 64 (markedOf marks xs)) names) (r .number ∙ ap (λ xs. length (markedOf marks xs)) names) (queue-lent x)
+
+    pub retain-waits-put : count ≡ m .waiting → Retained (take 64 (drop 1728 ws)) count marks x n
+        → Holds (set (take 1728 ws ++ (x ++ drop 64 (drop 1728 ws))) 1793 n) (withOrders (queueOf m) (markedOf marks (waitsOf m)) m)
+    unfolding waitsOf
+    retain-waits-put e r =
+        let names : take count (take 64 (drop 1728 ws)) ≡ waitsOf m = ap₂ take e waits-part in
+        let zeros = ap (drop count) waits-part ∙ rest-zero (m .waits) (waitsOf m) count waits-are (e ∙ h .ordered .waiting) in
+        waits-put (markedOf marks (waitsOf m)) x n (kept-few marks (waitsOf m) (waits-fit h))
+        (r .array zeros ∙ ap (λ xs. padded 0 64 (markedOf marks xs)) names) (r .number ∙ ap (λ xs. length (markedOf marks xs)) names) (waits-lent x)

@@ -92,7 +92,7 @@ module _ {ws : List ℕ} {m : Machine} (h : Holds ws m) where
 
   -- other orders
   pub orders-hold : (q w : List ℕ) {xs : List ℕ} → length q ≤ 64 → length w ≤ 64
-      → xs ≡ parts (m .tokens) (m .cells) (padded 0 64 q) (padded 0 64 w) (length q ∷ length w ∷ m .calls ∷ m .newtoken ∷ m .newcell ∷ [])
+      → xs ≡ parts (m .tokens) (m .cells) (padded 0 64 q) (padded 0 64 w) (length q ∷ length w ∷ m .calls ∷ m .lasttoken ∷ m .lastcell ∷ [])
       → Holds xs (withOrders q w m)
   unfolding withOrders wordsOf counts
   orders-hold q w {xs} a b e =
@@ -103,7 +103,7 @@ module _ {ws : List ℕ} {m : Machine} (h : Holds ws m) where
               words =
                   e
                   ∙ ap₂
-                  (λ x y. parts (m .tokens) (m .cells) x y (length q ∷ length w ∷ m .calls ∷ m .newtoken ∷ m .newcell ∷ []))
+                  (λ x y. parts (m .tokens) (m .cells) x y (length q ∷ length w ∷ m .calls ∷ m .lasttoken ∷ m .lastcell ∷ []))
                   (ap (λ k. padded 0 k q) n) (ap (λ k. padded 0 k w) n);
               shaped =
                   record {

@@ -6,7 +6,7 @@ use native.Mathlib.Omega.{arith}
 use lib.ListN.{length, getD, set, length-set}
 use lib.Seq.{paste, getD-set-same, set-set, set-getD}
 use Rattle.model.specs.Machine.Blank.{blankToken, tokenAt, slotAt}
-use Rattle.model.specs.Machine.Step.{put, to, being, holding, binding, withTables}
+use Rattle.model.specs.Machine.Step.{put, withNode, withState, withValue, withBinding, withTables}
 use Rattle.model.specs.declared.token.Slot.{Slot}
 use Rattle.model.specs.declared.token.Bind.{Bind}
 use Rattle.model.specs.declared.token.Held.{Held}
@@ -71,8 +71,8 @@ bound-in t (a ∷ b ∷ c ∷ d ∷ e ∷ f ∷ g ∷ []) x s i l = absurd (omeg
 bound-in t (a ∷ b ∷ c ∷ d ∷ e ∷ f ∷ g ∷ h ∷ y ∷ bs) x s i l = absurd (omega arith)
 
 bound : (t : Token) (x k n : ℕ) (s : Slot) → x < 8 → length (t .binds) ≡ 8 → slotKind s ≡ k → slotNumber s ≡ n
-    → set (set (rowOf t) (8 + 2 * x) k) (9 + 2 * x) n ≡ rowOf (binding x s t)
-unfolding binding
+    → set (set (rowOf t) (8 + 2 * x) k) (9 + 2 * x) n ≡ rowOf (withBinding x s t)
+unfolding withBinding
 bound t x k n s i l e f = ap₂ (λ a b. set (set (rowOf t) (8 + 2 * x) a) (9 + 2 * x) b) (sym e) (sym f) ∙ bound-in t (t .binds) x s i l
 
 -- reading
@@ -180,9 +180,9 @@ module _ {ws : List ℕ} (m : Machine) (t : Token) (p : ℕ) (h : Holds ws (put 
       ∙ parts-laws.tokens-set2 _ _ _ _ _ (shaped h .tokens) (shaped h .cells) (shaped h .queue) (shaped h .waits) p j k v n u l s z
       (ap (λ x. set (set (rowOf x) j v) k n) here ∙ e))
 
-  pub node-put : (k : ℕ) → Holds (set ws (24 * p + 2) k) (put p (to k t) m)
-  unfolding rowOf to
-  node-put k = word-put 2 k (to k t) (omega arith) own-binds refl
+  pub node-put : (k : ℕ) → Holds (set ws (24 * p + 2) k) (put p (withNode k t) m)
+  unfolding rowOf withNode
+  node-put k = word-put 2 k (withNode k t) (omega arith) own-binds refl
 
   pub caller-put : (n : ℕ) (q : Place) → placeNumber q ≡ n → Holds (set ws (24 * p + 3) n) (put p (withCaller q t) m)
   unfolding rowOf
@@ -193,24 +193,24 @@ module _ {ws : List ℕ} (m : Machine) (t : Token) (p : ℕ) (h : Holds ws (put 
   cell-put n q e = word-put 4 n (withCell q t) (omega arith) own-binds (rw (← e))
 
   pub state-put : (k n : ℕ) (s : State) → stateKind s ≡ k → stateNumber s ≡ n
-      → Holds (set (set ws (24 * p) k) (24 * p + 1) n) (put p (being s t) m)
-  unfolding rowOf being
+      → Holds (set (set ws (24 * p) k) (24 * p + 1) n) (put p (withState s t) m)
+  unfolding rowOf withState
   state-put k n s e f =
       let z : 24 * p ≡ 24 * p + 0 = omega arith in
-      subst (λ i. Holds (set (set ws i k) (24 * p + 1) n) (put p (being s t) m)) (sym z)
-      (words-put 0 1 k n (being s t) (omega arith) (omega arith) own-binds (rw (← e, ← f)))
+      subst (λ i. Holds (set (set ws i k) (24 * p + 1) n) (put p (withState s t) m)) (sym z)
+      (words-put 0 1 k n (withState s t) (omega arith) (omega arith) own-binds (rw (← e, ← f)))
 
   pub value-put : (k n : ℕ) (v : Held) → heldKind v ≡ k → heldNumber v ≡ n
-      → Holds (set (set ws (24 * p + 5) k) (24 * p + 6) n) (put p (holding v t) m)
-  unfolding rowOf holding
-  value-put k n v e f = words-put 5 6 k n (holding v t) (omega arith) (omega arith) own-binds (rw (← e, ← f))
+      → Holds (set (set ws (24 * p + 5) k) (24 * p + 6) n) (put p (withValue v t) m)
+  unfolding rowOf withValue
+  value-put k n v e f = words-put 5 6 k n (withValue v t) (omega arith) (omega arith) own-binds (rw (← e, ← f))
 
   pub bind-put : (x k n : ℕ) (s : Slot) → x < 8 → slotKind s ≡ k → slotNumber s ≡ n
-      → Holds (set (set ws (24 * p + 8 + 2 * x) k) (24 * p + 9 + 2 * x) n) (put p (binding x s t) m)
-  unfolding binding
+      → Holds (set (set ws (24 * p + 8 + 2 * x) k) (24 * p + 9 + 2 * x) n) (put p (withBinding x s t) m)
+  unfolding withBinding
   bind-put x k n s i e f =
       let a : 24 * p + 8 + 2 * x ≡ 24 * p + (8 + 2 * x) = omega arith in
       let b : 24 * p + 9 + 2 * x ≡ 24 * p + (9 + 2 * x) = omega arith in
       rw (a, b)
-      (words-put (8 + 2 * x) (9 + 2 * x) k n (binding x s t) (omega arith) (omega arith) (length-set (t .binds) x (record { slot = s }) ∙ own-binds)
+      (words-put (8 + 2 * x) (9 + 2 * x) k n (withBinding x s t) (omega arith) (omega arith) (length-set (t .binds) x (record { slot = s }) ∙ own-binds)
       (bound t x k n s i own-binds e f))

@@ -4,6 +4,7 @@ use Prim.Native.Nat.{ℕ}
 use lib.ListN.{set}
 use Rattle.model.specs.Test.{without}
 use Rattle.model.specs.Machine.Step.{withTables, withOrders, queueOf, waitsOf}
+use Rattle.model.specs.declared.token.Bind.{Bind}
 use Rattle.model.specs.declared.token.Held.{Held}
 use Rattle.model.specs.declared.token.Held.the-variants as helds
 use Rattle.model.specs.declared.token.Place.{Place}
@@ -16,6 +17,9 @@ withCaller q t = record { node = t .node; binds = t .binds; value = t .value; ca
 
 abbrev pub withCell : Place → Token → Token
 withCell q t = record { node = t .node; binds = t .binds; value = t .value; caller = t .caller; cell = q; state = t .state }
+
+abbrev pub withBinds : List Bind → Token → Token
+withBinds bs t = record { node = t .node; binds = bs; value = t .value; caller = t .caller; cell = t .cell; state = t .state }
 
 -- a cell at a place
 abbrev pub putCell : ℕ → Cell → Machine → Machine

@@ -119,7 +119,7 @@ rows f (x ∷ xs) = f x ++ rows f xs
 
 -- how many names the orders have, and the counts
 unfoldable pub counts : Machine → List ℕ
-counts m = m .queued ∷ m .waiting ∷ m .calls ∷ m .newtoken ∷ m .newcell ∷ []
+counts m = m .queued ∷ m .waiting ∷ m .calls ∷ m .lasttoken ∷ m .lastcell ∷ []
 
 -- the five parts in a row
 unfoldable pub parts : List Token → List Cell → (queue waits counts : List ℕ) → List ℕ

@@ -15,31 +15,31 @@ pub fn calls(w: &[u32; Machine::WORDS]) -> u32
 }
 
 pub fn last_token(w: &[u32; Machine::WORDS]) -> u32
-    ensures { λ r. ⌜ ((m : Machine) → Codes (now (w .entry)) m → r ≡ m .newtoken) ⌝ }
+    ensures { λ r. ⌜ ((m : Machine) → Codes (now (w .entry)) m → r ≡ m .lasttoken) ⌝ }
 {
     w[LASTTOKEN]
 }
 
 pub fn last_cell(w: &[u32; Machine::WORDS]) -> u32
-    ensures { λ r. ⌜ ((m : Machine) → Codes (now (w .entry)) m → r ≡ m .newcell) ⌝ }
+    ensures { λ r. ⌜ ((m : Machine) → Codes (now (w .entry)) m → r ≡ m .lastcell) ⌝ }
 {
     w[LASTCELL]
 }
 
 pub fn set_calls(w: &mut [u32; Machine::WORDS], n: u32)
-    ensures { λ _. ⌜ ((m : Machine) → Holds (now (w .entry)) m → Holds (now (w .exit)) (withCounts n (m .newtoken) (m .newcell) m)) ⌝ }
+    ensures { λ _. ⌜ ((m : Machine) → Holds (now (w .entry)) m → Holds (now (w .exit)) (withCounts n (m .lasttoken) (m .lastcell) m)) ⌝ }
 {
     w[CALLS] = n;
 }
 
 pub fn set_last_token(w: &mut [u32; Machine::WORDS], p: u32)
-    ensures { λ _. ⌜ ((m : Machine) → Holds (now (w .entry)) m → Holds (now (w .exit)) (withCounts (m .calls) p (m .newcell) m)) ⌝ }
+    ensures { λ _. ⌜ ((m : Machine) → Holds (now (w .entry)) m → Holds (now (w .exit)) (withCounts (m .calls) p (m .lastcell) m)) ⌝ }
 {
     w[LASTTOKEN] = p;
 }
 
 pub fn set_last_cell(w: &mut [u32; Machine::WORDS], c: u32)
-    ensures { λ _. ⌜ ((m : Machine) → Holds (now (w .entry)) m → Holds (now (w .exit)) (withCounts (m .calls) (m .newtoken) c m)) ⌝ }
+    ensures { λ _. ⌜ ((m : Machine) → Holds (now (w .entry)) m → Holds (now (w .exit)) (withCounts (m .calls) (m .lasttoken) c m)) ⌝ }
 {
     w[LASTCELL] = c;
 }

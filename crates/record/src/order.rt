@@ -1,7 +1,6 @@
 // The queue and the wait order: the first names of 64 words each, and how many they are. What stands behind them is 0.
 ghost use mathlib.Core.Path.{_≡_};
 ghost use mathlib.Core.Bool.{false};
-ghost use mathlib.Core.List.{_++_, _∷_, []};
 ghost use Prim.Native.Nat.{ℕ, _<_, _≤_, _-_};
 ghost use lib.ListN.{length, getD, take, drop, replicate};
 ghost use Rattle.model.specs.Test.{padded, without, filter};
@@ -9,6 +8,7 @@ ghost use Rattle.model.specs.Machine.Step.{enqueue, withOrders, queueOf, waitsO
 ghost use Rattle.model.specs.declared.record.Machine.{Machine};
 ghost use Rattle.record.specs.Holds.{Codes, Holds};
 ghost use Rattle.record.specs.Fields.{taken, delayed};
+ghost use Rattle.record.specs.Retaining.{Retained};
 use crate::layout::QUEUE;
 use crate::layout::QUEUED;
 use crate::layout::WAITING;
@@ -106,4 +106,70 @@ pub fn leave(w: &mut [u32; Machine::WORDS], index: usize)
     ensures { λ _. ⌜ ((m : Machine) → Holds (now (w .entry)) m → index < m .queued → Holds (now (w .exit)) (taken m index)) ⌝ }
 {
     leave_slice(w, index);
+}
+
+// Is a name's place marked?
+pub fn is_marked(marks: &[bool], name: u32) -> bool
+    ensures { λ r. ⌜ r ≡ getD (now (marks .entry)) name false ⌝ }
+{
+    let p = wide(name);
+    if p < marks.len() {
+        return marks[p];
+    }
+    false
+}
+
+// Those of an order's names that are marked, and how many they are.
+fn retained(names: &mut [u32], count: usize, keep: &[bool]) -> usize
+    requires { ⌜ (count ≤ 64) × (length (now names) ≡ 64) ⌝ }
+    ensures { λ r. ⌜ Retained (now (names .entry)) count (now (keep .entry)) (now (names .exit)) r ⌝ }
+{
+    let mut n: usize = 0;
+    let mut i: usize = 0;
+    while i < count {
+        let name = names[i];
+        names[i] = 0;
+        if is_marked(keep, name) {
+            names[n] = name;
+            n += 1;
+        }
+        i += 1;
+    }
+    n
+}
+
+fn retain_queue_slice(w: &mut [u32], keep: &[bool])
+    requires { ⌜ length (now w) ≡ 1797 ⌝ }
+    ensures { λ _. ⌜ ((m : Machine) → Holds (now (w .entry)) m → Holds (now (w .exit)) (withOrders (filter (λ (p : ℕ). getD (now (keep .entry)) p false) (queueOf m)) (waitsOf m) m)) ⌝ }
+{
+    let count = wide(w[QUEUED]);
+    if count <= Machine::TOKENS {
+        let n = retained(&mut w[QUEUE..WAITS], count, keep);
+        w[QUEUED] = n as u32;
+    }
+}
+
+// The queue keeps the names that are marked.
+pub fn retain_queue(w: &mut [u32; Machine::WORDS], keep: &[bool; Machine::TOKENS])
+    ensures { λ _. ⌜ ((m : Machine) → Holds (now (w .entry)) m → Holds (now (w .exit)) (withOrders (filter (λ (p : ℕ). getD (now (keep .entry)) p false) (queueOf m)) (waitsOf m) m)) ⌝ }
+{
+    retain_queue_slice(w, keep);
+}
+
+fn retain_waits_slice(w: &mut [u32], keep: &[bool])
+    requires { ⌜ length (now w) ≡ 1797 ⌝ }
+    ensures { λ _. ⌜ ((m : Machine) → Holds (now (w .entry)) m → Holds (now (w .exit)) (withOrders (queueOf m) (filter (λ (p : ℕ). getD (now (keep .entry)) p false) (waitsOf m)) m)) ⌝ }
+{
+    let count = wide(w[WAITING]);
+    if count <= Machine::TOKENS {
+        let n = retained(&mut w[WAITS..QUEUED], count, keep);
+        w[WAITING] = n as u32;
+    }
+}
+
+// The wait order keeps the names that are marked.
+pub fn retain_waits(w: &mut [u32; Machine::WORDS], keep: &[bool; Machine::TOKENS])
+    ensures { λ _. ⌜ ((m : Machine) → Holds (now (w .entry)) m → Holds (now (w .exit)) (withOrders (queueOf m) (filter (λ (p : ℕ). getD (now (keep .entry)) p false) (waitsOf m)) m)) ⌝ }
+{
+    retain_waits_slice(w, keep);
 }

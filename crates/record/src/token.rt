@@ -3,7 +3,7 @@ ghost use mathlib.Core.Path.{_≡_};
 ghost use Prim.Native.Nat.{_<_};
 ghost use lib.ListN.{length};
 ghost use Rattle.model.specs.Machine.Blank.{blankToken, tokenAt, slotAt};
-ghost use Rattle.model.specs.Machine.Step.{put, to, being, holding, binding};
+ghost use Rattle.model.specs.Machine.Step.{put, withNode, withState, withValue, withBinding};
 ghost use Rattle.model.specs.declared.record.Machine.{Machine};
 ghost use Rattle.model.specs.declared.token.Held.{Held};
 ghost use Rattle.model.specs.declared.token.Place.{Place};
@@ -82,7 +82,7 @@ pub fn bind_number(w: &[u32; Machine::WORDS], p: usize, x: usize) -> u32
 
 pub fn set_node(w: &mut [u32; Machine::WORDS], p: usize, node: u32)
     requires { ⌜ p < 64 ⌝ }
-    ensures { λ _. ⌜ ((m : Machine) (t : Token) → Holds (now (w .entry)) (put p t m) → Holds (now (w .exit)) (put p (to node t) m)) ⌝ }
+    ensures { λ _. ⌜ ((m : Machine) (t : Token) → Holds (now (w .entry)) (put p t m) → Holds (now (w .exit)) (put p (withNode node t) m)) ⌝ }
 {
     w[TOKEN * p + 2] = node;
 }
@@ -104,7 +104,7 @@ pub fn set_cell(w: &mut [u32; Machine::WORDS], p: usize, number: u32)
 // The state whose words these are.
 pub fn set_state(w: &mut [u32; Machine::WORDS], p: usize, kind: u32, number: u32)
     requires { ⌜ p < 64 ⌝ }
-    ensures { λ _. ⌜ ((m : Machine) (t : Token) (s : State) → Holds (now (w .entry)) (put p t m) → stateKind s ≡ kind → stateNumber s ≡ number → Holds (now (w .exit)) (put p (being s t) m)) ⌝ }
+    ensures { λ _. ⌜ ((m : Machine) (t : Token) (s : State) → Holds (now (w .entry)) (put p t m) → stateKind s ≡ kind → stateNumber s ≡ number → Holds (now (w .exit)) (put p (withState s t) m)) ⌝ }
 {
     w[TOKEN * p] = kind;
     w[TOKEN * p + 1] = number;
@@ -113,7 +113,7 @@ pub fn set_state(w: &mut [u32; Machine::WORDS], p: usize, kind: u32, number: u32
 // The value whose words these are.
 pub fn set_value(w: &mut [u32; Machine::WORDS], p: usize, valued: u32, value: u32)
     requires { ⌜ p < 64 ⌝ }
-    ensures { λ _. ⌜ ((m : Machine) (t : Token) (v : Held) → Holds (now (w .entry)) (put p t m) → heldKind v ≡ valued → heldNumber v ≡ value → Holds (now (w .exit)) (put p (holding v t) m)) ⌝ }
+    ensures { λ _. ⌜ ((m : Machine) (t : Token) (v : Held) → Holds (now (w .entry)) (put p t m) → heldKind v ≡ valued → heldNumber v ≡ value → Holds (now (w .exit)) (put p (withValue v t) m)) ⌝ }
 {
     w[TOKEN * p + 5] = valued;
     w[TOKEN * p + 6] = value;
@@ -122,7 +122,7 @@ pub fn set_value(w: &mut [u32; Machine::WORDS], p: usize, valued: u32, value: u3
 // The slot whose words these are, bound to a variable.
 pub fn set_bind(w: &mut [u32; Machine::WORDS], p: usize, x: usize, kind: u32, number: u32)
     requires { ⌜ (p < 64) × (x < 8) ⌝ }
-    ensures { λ _. ⌜ ((m : Machine) (t : Token) (s : Slot) → Holds (now (w .entry)) (put p t m) → slotKind s ≡ kind → slotNumber s ≡ number → Holds (now (w .exit)) (put p (binding x s t) m)) ⌝ }
+    ensures { λ _. ⌜ ((m : Machine) (t : Token) (s : Slot) → Holds (now (w .entry)) (put p t m) → slotKind s ≡ kind → slotNumber s ≡ number → Holds (now (w .exit)) (put p (withBinding x s t) m)) ⌝ }
 {
     w[TOKEN * p + 8 + 2 * x] = kind;
     w[TOKEN * p + 9 + 2 * x] = number;

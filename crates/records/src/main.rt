@@ -1,52 +1,58 @@
-// Hands the records and dags of standard input to start, step and answer, and prints each reply and the record after it. A case stands
-// behind its length, 4 bytes, the lowest first; it is a name behind its length, 1 byte, and rows. Calls are made in the order of the rows.
+// Hands the words of standard input, a dag's and a record's, to start, step and answer, and prints each reply and the record after it. A
+// case stands behind its length, 4 bytes, the lowest first; it is a name behind its length, 1 byte, and rows, done in their order.
 ghost use Prim.Native.Nat.{_≤_};
 
 mod row;
-mod set;
 mod show;
+mod words;
 
 use crate::row::Row;
 use crate::row::four_bytes;
 use crate::row::read_row;
-use crate::set::set;
+use crate::row::signed;
 use crate::show::number;
 use crate::show::put;
-use acts::pass::signed;
 use libc::STDIN_FILENO;
 use machine::answer::answer;
 use machine::start::start;
 use machine::step::step;
+use model::dag::WORDS;
 use model::record::Machine;
-use model::reply::Outcome;
+use model::reply::Report;
 
 // `main` is shown to end, so it reads no more cases than this.
 const MOST_CASES: usize = 65536;
 
-fn put_word(dag: &mut [u32; 12331], index: usize, word: u32) {
-    if index < 12331 {
+fn put_dag(dag: &mut [u32; WORDS], index: usize, word: u32) {
+    if index < WORDS {
         dag[index] = word;
     }
 }
 
-fn started(dag: &[u32; 12331]) -> Outcome {
-    put(b"start: ");
-    start(dag)
+fn put_record(w: &mut [u32; Machine::WORDS], index: usize, word: u32) {
+    if index < Machine::WORDS {
+        w[index] = word;
+    }
 }
 
-fn stepped(machine: Machine, dag: &[u32; 12331], place: u32) -> Outcome {
+fn started(w: &mut [u32; Machine::WORDS], dag: &[u32; WORDS]) -> Report {
+    put(b"start: ");
+    start(w, dag)
+}
+
+fn stepped(w: &mut [u32; Machine::WORDS], dag: &[u32; WORDS], place: u32) -> Report {
     put(b"step");
     number(place as u64);
     put(b": ");
-    step(machine, dag, place as usize)
+    step(w, dag, place as usize)
 }
 
-fn answered(machine: Machine, dag: &[u32; 12331], handle: u32, value: i32) -> Outcome {
+fn answered(w: &mut [u32; Machine::WORDS], dag: &[u32; WORDS], handle: u32, value: i32) -> Report {
     put(b"answer");
     number(handle as u64);
     show::value(value);
     put(b": ");
-    answer(machine, dag, handle, value)
+    answer(w, dag, handle, value)
 }
 
 // A handle has three bytes, the highest at the row's place.
@@ -54,31 +60,24 @@ fn handle_of(high: usize, low: usize) -> u32 {
     ((high % 256) * 65536 + low % 65536) as u32
 }
 
-fn outcome(machine: Machine, dag: &[u32; 12331], row: Row) -> Outcome {
+fn reported(w: &mut [u32; Machine::WORDS], dag: &[u32; WORDS], row: Row) -> Report {
     let what = row.what;
     match what {
-        16 => started(dag),
-        17 => stepped(machine, dag, row.number),
-        _ => answered(
-            machine,
-            dag,
-            handle_of(row.place, row.which),
-            signed(row.number),
-        ),
+        16 => started(w, dag),
+        17 => stepped(w, dag, row.number),
+        _ => answered(w, dag, handle_of(row.place, row.which), signed(row.number)),
     }
 }
 
-// Makes the row's call and hands back the record after it.
-fn called(name: &[u8], machine: Machine, dag: &[u32; 12331], row: Row) -> Machine {
+// Makes the row's call.
+fn called(name: &[u8], w: &mut [u32; Machine::WORDS], dag: &[u32; WORDS], row: Row) {
     put(name);
     put(b", ");
-    let o = outcome(machine, dag, row);
-    let reply = o.reply;
-    let values = o.values;
-    let after = o.machine;
+    let report = reported(w, dag, row);
+    let reply = report.reply;
+    let values = report.values;
     show::reply(reply, values);
-    show::record(after);
-    after
+    show::record(w);
 }
 
 // Where the rows begin.
@@ -96,17 +95,17 @@ fn run(case: &[u8]) {
     if case.len() < from {
         return;
     }
-    let mut dag = [0u32; 12331];
-    let mut machine = Machine::blank();
+    let mut dag = [0u32; WORDS];
+    let mut w = [0u32; Machine::WORDS];
     let mut at = from;
     while 8 <= case.len() - at {
         let row = read_row(case, at);
         if row.what == 0 {
-            put_word(&mut dag, row.which, row.number);
-        } else if row.what < 16 {
-            machine = set(machine, row);
+            put_dag(&mut dag, row.which, row.number);
+        } else if row.what == 1 {
+            put_record(&mut w, row.which, row.number);
         } else {
-            machine = called(&case[1..from], machine, &dag, row);
+            called(&case[1..from], &mut w, &dag, row);
         }
         at += 8;
     }

@@ -1,8 +1,8 @@
-// A case's rows: eight bytes that set one thing, or make one call (docs/src/README.md, "Records as bytes").
+// A case's rows: eight bytes that set one word, or make one call (docs/src/README.md, "Records as bytes").
 ghost use Prim.Native.Nat.{_+_, _≤_};
 ghost use lib.ListN.{length};
 
-// What it sets, at which place, which one of it, and the number that is put there.
+// What it does, the place, which word is set, and the number that is put there.
 pub struct Row {
     pub what: u8,
     pub place: usize,
@@ -17,6 +17,14 @@ fn two_bytes(a: u8, b: u8) -> usize {
 // Four bytes, the lowest first.
 pub fn four_bytes(a: u8, b: u8, c: u8, d: u8) -> u32 {
     a as u32 + 256 * (b as u32 + 256 * (c as u32 + 256 * (d as u32)))
+}
+
+// "signed 32-bit": the value of a word.
+pub fn signed(word: u32) -> i32 {
+    if word < 2147483648 {
+        return word as i32;
+    }
+    !((4294967295 - word) as i32)
 }
 
 fn small(b: u8) -> usize {

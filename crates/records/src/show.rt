@@ -1,17 +1,24 @@
-// Replies and records as lines. Of a record every field is shown that is not blank.
+// Replies and records as lines. Of a record every field is shown that is not blank; of words that are no record's every one that is not 0.
+ghost use Prim.Native.Nat.{_<_};
+use crate::row::signed;
+use crate::words::is_record;
 use libc::STDOUT_FILENO;
-use model::cell::Cell;
 use model::record::Machine;
 use model::reply::Refusal;
 use model::reply::Reply;
-use model::token::Bind;
-use model::token::Held;
-use model::token::Place;
-use model::token::Slot;
-use model::token::State;
-use model::token::Token;
-use rules::blank::cell_is_blank;
-use rules::blank::token_is_blank;
+use record::cell;
+use record::count;
+use record::layout::BLANK_STATE;
+use record::layout::CALLED_STATE;
+use record::layout::CELL;
+use record::layout::CELLS;
+use record::layout::EMPTY_SLOT;
+use record::layout::READY_STATE;
+use record::layout::TOKEN;
+use record::layout::VALUE_SLOT;
+use record::layout::WAITING_STATE;
+use record::order;
+use record::token;
 use text::signed::put_signed;
 
 pub fn put(s: &[u8]) {
@@ -88,120 +95,131 @@ pub fn reply(r: Reply, values: [i32; 4]) {
     put(b"\n");
 }
 
-fn state(s: State) {
-    match s {
-        State::Blank => put(b" blank"),
-        State::Ready => put(b" ready"),
-        State::Waiting(cell) => {
+fn state(kind: u32, at: u32) {
+    match kind {
+        BLANK_STATE => put(b" blank"),
+        READY_STATE => put(b" ready"),
+        WAITING_STATE => {
             put(b" waiting");
-            number(cell as u64);
+            number(at as u64);
         }
-        State::Called(handle) => {
+        CALLED_STATE => {
             put(b" called");
-            number(handle as u64);
+            number(at as u64);
         }
-        State::Frame => put(b" frame"),
+        _ => put(b" frame"),
     }
 }
 
-fn held(h: Held) {
-    match h {
-        Held::Nothing => {}
-        Held::Value(v) => {
-            put(b" value");
-            value(v);
-        }
+fn held(valued: u32, word: u32) {
+    if valued != 0 {
+        put(b" value");
+        value(signed(word));
     }
 }
 
 // A place behind what it is, unless it is nowhere.
-fn place(name: &[u8], p: Place) {
-    match p {
-        Place::Nowhere => {}
-        Place::At(c) => {
-            put(name);
-            number(c as u64);
-        }
+fn place(name: &[u8], word: u32) {
+    if word != 0 {
+        put(name);
+        number(word as u64 - 1);
     }
 }
 
-fn variable(i: usize) {
+fn variable(x: usize) {
     put(b" x");
-    io::print_decimal(STDOUT_FILENO, i as u64);
+    io::print_decimal(STDOUT_FILENO, x as u64);
 }
 
-fn slot(s: Slot, i: usize) {
-    match s {
-        Slot::Empty => {}
-        Slot::Value(v) => {
-            variable(i);
-            value(v);
+fn slot(kind: u32, word: u32, x: usize) {
+    match kind {
+        EMPTY_SLOT => {}
+        VALUE_SLOT => {
+            variable(x);
+            value(signed(word));
         }
-        Slot::Cell(c) => {
-            variable(i);
+        _ => {
+            variable(x);
             put(b" cell");
-            number(c as u64);
+            number(word as u64);
         }
     }
 }
 
-fn binds(b: [Bind; 8]) {
-    for i in 0..8 {
-        let bind = b[i];
-        let bound = bind.slot;
-        slot(bound, i);
+fn bindings(w: &[u32; Machine::WORDS], p: usize)
+    requires { ⌜ p < 64 ⌝ }
+{
+    for x in 0..8 {
+        slot(token::bind_kind(w, p, x), token::bind_number(w, p, x), x);
     }
 }
 
-fn token(t: Token, i: usize) {
-    let doing = t.state;
-    let value = t.value;
-    let caller = t.caller;
-    let cell = t.cell;
-    let bound = t.binds;
+fn one_token(w: &[u32; Machine::WORDS], p: usize)
+    requires { ⌜ p < 64 ⌝ }
+{
     put(b"  token");
-    number(i as u64);
-    state(doing);
+    number(p as u64);
+    state(token::state(w, p), token::state_number(w, p));
     put(b" node");
-    number(t.node as u64);
-    held(value);
-    place(b" caller", caller);
-    place(b" cell", cell);
-    binds(bound);
+    number(token::node(w, p) as u64);
+    held(token::valued(w, p), token::value(w, p));
+    place(b" caller", token::caller(w, p));
+    place(b" cell", token::cell(w, p));
+    bindings(w, p);
     put(b"\n");
 }
 
-fn tokens(rows: [Token; Machine::TOKENS]) {
-    for i in 0..Machine::TOKENS {
-        let t = rows[i];
-        if !token_is_blank(t) {
-            token(t, i);
+fn is_blank_token(w: &[u32; Machine::WORDS], p: usize) -> bool
+    requires { ⌜ p < 64 ⌝ }
+{
+    for i in 0..TOKEN {
+        if w[TOKEN * p + i] != 0 {
+            return false;
+        }
+    }
+    true
+}
+
+fn tokens(w: &[u32; Machine::WORDS]) {
+    for p in 0..Machine::TOKENS {
+        if !is_blank_token(w, p) {
+            one_token(w, p);
         }
     }
 }
 
-fn cell(c: Cell, i: usize) {
-    let parent = c.parent;
-    let value = c.value;
+fn one_cell(w: &[u32; Machine::WORDS], c: usize)
+    requires { ⌜ c < 32 ⌝ }
+{
     put(b"  cell");
-    number(i as u64);
-    place(b" parent", parent);
-    held(value);
+    number(c as u64);
+    place(b" parent", cell::parent(w, c));
+    held(cell::valued(w, c), cell::value(w, c));
     put(b"\n");
 }
 
-fn cells(rows: [Cell; Machine::CELLS]) {
-    for i in 0..Machine::CELLS {
-        let c = rows[i];
-        if !cell_is_blank(c) {
-            cell(c, i);
+fn is_blank_cell(w: &[u32; Machine::WORDS], c: usize) -> bool
+    requires { ⌜ c < 32 ⌝ }
+{
+    for i in 0..CELL {
+        if w[CELLS + CELL * c + i] != 0 {
+            return false;
+        }
+    }
+    true
+}
+
+fn cells(w: &[u32; Machine::WORDS]) {
+    for c in 0..Machine::CELLS {
+        if !is_blank_cell(w, c) {
+            one_cell(w, c);
         }
     }
 }
 
 // A word that counts, or with its index one behind those that is not 0.
-fn name(word: u8, i: usize, count: usize) {
-    if i < count {
+fn name(word: u32, i: usize, count: u32) {
+    if (i as u64) < (count as u64) {
         number(word as u64);
     } else {
         if word != 0 {
@@ -212,31 +230,63 @@ fn name(word: u8, i: usize, count: usize) {
     }
 }
 
-fn order(names: [u8; Machine::TOKENS], count: usize) {
+fn queue(w: &[u32; Machine::WORDS]) {
+    let count = order::queued(w);
+    put(b"  queue");
     number(count as u64);
     put(b":");
     for i in 0..Machine::TOKENS {
-        name(names[i], i, count);
+        name(order::queue_name(w, i), i, count);
     }
     put(b"\n");
 }
 
-pub fn record(machine: Machine) {
-    let rows = machine.tokens;
-    let parents = machine.cells;
-    let queue = machine.queue;
-    let waits = machine.waits;
-    tokens(rows);
-    cells(parents);
-    put(b"  queue");
-    order(queue, machine.queued);
+fn waits(w: &[u32; Machine::WORDS]) {
+    let count = order::waiting(w);
     put(b"  waits");
-    order(waits, machine.waiting);
-    put(b"  calls");
-    number(machine.calls as u64);
-    put(b" newtoken");
-    number(machine.newtoken as u64);
-    put(b" newcell");
-    number(machine.newcell as u64);
+    number(count as u64);
+    put(b":");
+    for i in 0..Machine::TOKENS {
+        name(order::wait_name(w, i), i, count);
+    }
     put(b"\n");
+}
+
+fn counts(w: &[u32; Machine::WORDS]) {
+    put(b"  calls");
+    number(count::calls(w) as u64);
+    put(b" newtoken");
+    number(count::last_token(w) as u64);
+    put(b" newcell");
+    number(count::last_cell(w) as u64);
+    put(b"\n");
+}
+
+// A word behind its index, unless it is 0.
+fn word(i: usize, word: u32) {
+    if word != 0 {
+        number(i as u64);
+        put(b":");
+        io::print_decimal(STDOUT_FILENO, word as u64);
+    }
+}
+
+fn words(w: &[u32; Machine::WORDS]) {
+    put(b"  words");
+    for i in 0..Machine::WORDS {
+        word(i, w[i]);
+    }
+    put(b"\n");
+}
+
+pub fn record(w: &[u32; Machine::WORDS]) {
+    if !is_record(w) {
+        words(w);
+        return;
+    }
+    tokens(w);
+    cells(w);
+    queue(w);
+    waits(w);
+    counts(w);
 }

@@ -5,17 +5,16 @@ use mathlib.Core.List.{List, [], _∷_, _++_, append-nil, append-assoc}
 use Prim.Native.Nat.{ℕ, zero, suc, _+_, _<_}
 use native.Mathlib.Numerals.{add-one}
 use native.Mathlib.Omega.{arith}
-use lib.ListN.{length, getD, take, set, List·getD-map}
+use lib.ListN.{length, getD, take, set}
 use lib.Seq.{take-suc, take-suc-set, take-set-le}
 use lib.Dec.{eqb}
+use Rattle.model.specs.declared.token.State.the-variants as states
 use Rattle.model.specs.Test.{_and_, _or_, all, any, differ}
-use Rattle.model.specs.Machine.Blank.{blankToken}
 use Rattle.model.specs.Machine.Rules.{handleOf, openHandles}
 use Rattle.model.specs.declared.token.State.{State}
-use Rattle.model.specs.declared.token.State.the-variants as states
 use Rattle.model.specs.declared.token.Token.{Token}
-use Rattle.rules.specs.Marks.{stateNumber, numbersOf, handleNumber, handlesOf}
-use Rattle.rules.proofs.Both.{both, regroup}
+use Rattle.record.specs.Words.{stateKind, stateNumber}
+use Rattle.coded.proofs.Both.{both, regroup}
 
 handles-more : (ts : List Token) (i : ℕ) (d : Token) → i < length ts
     → openHandles (take (suc i) ts) ≡ openHandles (take i ts) ++ handleOf (getD ts i d .state)
@@ -26,39 +25,31 @@ handles-more (t ∷ ts) (suc i) d l =
     ap (_++_ (handleOf (t .state))) (handles-more ts i d (omega arith)) ∙ sym (append-assoc (handleOf (t .state)) _ _)
 
 -- the handle of a token, or none
-called-handle : (s : State) → stateNumber s ≡ 3 → handleOf s ≡ handleNumber s ∷ []
-unfolding stateNumber handleOf handleNumber
+called-handle : (s : State) → stateKind s ≡ 3 → handleOf s ≡ stateNumber s ∷ []
+unfolding handleOf
 called-handle states.Blank e = absurd (omega arith)
 called-handle states.Ready e = absurd (omega arith)
 called-handle (states.Waiting c) e = absurd (omega arith)
 called-handle (states.Called h) e = refl
 called-handle states.Frame e = absurd (omega arith)
 
-no-handle : (s : State) → (stateNumber s ≡ 3 → ⊥) → handleOf s ≡ []
-unfolding stateNumber handleOf
+no-handle : (s : State) → (stateKind s ≡ 3 → ⊥) → handleOf s ≡ []
+unfolding handleOf
 no-handle states.Blank f = refl
 no-handle states.Ready f = refl
 no-handle (states.Waiting c) f = refl
 no-handle (states.Called h) f = absurd (f refl)
 no-handle states.Frame f = refl
 
--- what was written is read
-pub number-read : (ts : List Token) (numbers : List ℕ) (i : ℕ) → numbers ≡ numbersOf ts → getD numbers i 0 ≡ stateNumber (getD ts i blankToken .state)
-unfolding stateNumber
-number-read ts numbers i e = ap (λ xs. getD xs i 0) e ∙ List·getD-map (λ (t : Token). stateNumber (t .state)) ts i blankToken
-
-pub handle-read : (ts : List Token) (handles : List ℕ) (i : ℕ) → handles ≡ handlesOf ts → getD handles i 0 ≡ handleNumber (getD ts i blankToken .state)
-unfolding handleNumber
-handle-read ts handles i e = ap (λ xs. getD xs i 0) e ∙ List·getD-map (λ (t : Token). handleNumber (t .state)) ts i blankToken
-
 module _ (ts : List Token) (list : List ℕ) (n i : ℕ) (d : Token) (l : i < length ts) (room : n < length list)
     (so-far : take n list ≡ openHandles (take i ts)) {h k : ℕ}
-    (handle : h ≡ handleNumber (getD ts i d .state)) (number : k ≡ stateNumber (getD ts i d .state)) where
+    (handle : h ≡ stateNumber (getD ts i d .state)) (number : k ≡ stateKind (getD ts i d .state)) where
   pub one-more : (n′ : ℕ) → k ≡ 3 → n′ ≡ n + 1 → take n′ (set list n h) ≡ openHandles (take (i + 1) ts)
   one-more n′ e m =
       rw (m, add-one n, add-one i)
       (take-suc-set list n h room
-      ∙ ap₂ (λ (xs ys : List ℕ). xs ++ ys) so-far (ap (λ (x : ℕ). x ∷ []) handle ∙ sym (called-handle (getD ts i d .state) (sym number ∙ e)))
+      ∙ ap₂ (λ (xs ys : List ℕ). xs ++ ys) so-far
+      (ap (λ (x : ℕ). x ∷ []) handle ∙ sym (called-handle (getD ts i d .state) (sym number ∙ e)))
       ∙ sym (handles-more ts i d l))
 
   pub no-more : (n′ : ℕ) → (k ≡ 3 → ⊥) → n′ ≡ n → take n′ (set list n h) ≡ openHandles (take (i + 1) ts)

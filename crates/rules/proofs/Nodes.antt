@@ -7,37 +7,29 @@ use native.Mathlib.Decide.{decLt}
 use native.Mathlib.Omega.{arith}
 use lib.ListN.{length, getD, take, drop, List·getD-eq-default}
 use lib.Dec.{ltb, leb, eqb}
+use Rattle.model.specs.declared.token.Place.the-variants as places
 use Rattle.model.specs.Test.{_and_, all}
-use Rattle.model.specs.Job.Node.{dagKept}
+use Rattle.model.specs.Job.Node.{dagHolds, nodeAt}
 use Rattle.model.specs.Job.Words.{nodeBy, paramOf, paramsFrom, dagOf}
-use Rattle.model.specs.Machine.Blank.{empty, blankToken, slotAt, tokenAt, isBound, isPlace}
+use Rattle.model.specs.Machine.Blank.{empty, blankToken, slotAt, tokenAt, isBound}
 use Rattle.model.specs.Machine.Rules.{isFrame, namesFrame, notEmpty, nodeRule, atNode}
 use Rattle.model.specs.declared.token.Bind.{Bind}
 use Rattle.model.specs.declared.token.Place.{Place}
-use Rattle.model.specs.declared.token.Place.the-variants as places
-use Rattle.model.specs.declared.token.State.{State}
 use Rattle.model.specs.declared.token.Token.{Token}
 use Rattle.model.proofs.Test.{clash, lt-ltb, le-not-ltb, and-left, leb-le, eq-eqb, ne-eqb}
-use Rattle.rules.specs.Marks.{stateNumber}
-use Rattle.rules.specs.Tokens.{StateThere}
-use Rattle.rules.specs.Words.{pairBound}
-use Rattle.rules.proofs.Array.{kept-node, nodes-length}
-use Rattle.rules.proofs.Both.{and-true}
-use Rattle.rules.proofs.Chains.{getD-any}
-use Rattle.rules.proofs.States.{blank-is, frame-is}
-use Rattle.rules.proofs.Words.{table, listed}
+use Rattle.record.specs.Words.{placeNumber, stateKind}
+use Rattle.coded.proofs.Lists.{table, listed}
+use Rattle.coded.proofs.Array.{kept-node, nodes-length}
+use Rattle.coded.proofs.Both.{and-true}
+use Rattle.rules.specs.Rules.{pairBound}
+use Rattle.rules.proofs.Fields.{blank-is, frame-is}
 
--- a variable's slot
-module _ (bs : List Bind) (x : ℕ) (long : length bs ≡ 8) where
-  pub slot-past : 8 ≤ x → false ≡ isBound (slotAt bs x)
-  unfolding slotAt isBound
-  slot-past l =
-      let m : length bs ≤ x = omega arith in
-      sym (ap (λ (b : Bind). isBound (b .slot)) (List·getD-eq-default bs empty m))
-
-  pub slot-read : (d : Bind) → x < 8 → isBound (getD bs x d .slot) ≡ isBound (slotAt bs x)
-  unfolding slotAt
-  slot-read d l = ap (λ (b : Bind). isBound (b .slot)) (getD-any bs x d empty (omega arith))
+-- past the eight slots nothing is bound
+pub slot-past : (bs : List Bind) (x : ℕ) → length bs ≡ 8 → 8 ≤ x → false ≡ isBound (slotAt bs x)
+unfolding slotAt isBound
+slot-past bs x long l =
+    let m : length bs ≤ x = omega arith in
+    sym (ap (λ (b : Bind). isBound (b .slot)) (List·getD-eq-default bs empty m))
 
 -- a parameter's two words
 module _ (bs : List Bind) (k w : ℕ) where
@@ -62,7 +54,8 @@ module _ (bs : List Bind) where
           ≡ pairBound bs (ltb j c) k w and all (notEmpty bs) (paramsFrom (c - (j + 1)) ws)
       go (yes l) =
           let e : c - j ≡ suc (c - (j + 1)) = omega arith in
-          rw (e, lt-ltb j c l) (ap (λ b. b and all (notEmpty bs) (paramsFrom (c - (j + 1)) ws)) (sym (and-true (notEmpty bs (paramOf k w)))))
+          rw (e, lt-ltb j c l)
+          (ap (λ b. b and all (notEmpty bs) (paramsFrom (c - (j + 1)) ws)) (sym (and-true (notEmpty bs (paramOf k w)))))
       go (no f) =
           let e : c - j ≡ 0 = omega arith in
           let g : c - (j + 1) ≡ 0 = omega arith in
@@ -90,40 +83,35 @@ module _ (bs : List Bind) where
   unfolding table
   params-bound ws len c = ap (λ xs. all (notEmpty bs) (paramsFrom c (drop 4 xs))) (listed 0 12 ws len) ∙ four-bound c _ _ _ _ _ _ _ _
 
--- a place is that of one token
-pub same-place : {q : Place} {a p : ℕ} → q ≡ places.At a → q ≡ places.At p → a ≡ p
-same-place {q} {a} {p} e f = ap number (sym e ∙ f)
-  where
-    number : Place → ℕ
-    number places.Nowhere = 0
-    number (places.At n) = n
-
-pub no-place : {A : Type 0} {q : Place} {p : ℕ} → q ≡ places.Nowhere → q ≡ places.At p → A
-unfolding isPlace
-no-place e f = clash (ap isPlace f) (ap isPlace e)
-
 -- the frame that a token names
-module _ (ts : List Token) (s : State) (long : length ts ≡ 64) (caller : Place) (there : StateThere ts caller s) where
-  pub no-caller : caller ≡ places.Nowhere → false ≡ namesFrame ts caller
+module _ (ts : List Token) (long : length ts ≡ 64) (q : Place) {n : ℕ} (number : n ≡ placeNumber q) where
+  pub no-caller : n ≡ 0 → false ≡ namesFrame ts q
   unfolding namesFrame
-  no-caller e = rw e
+  no-caller e = go q number
+    where
+      go : (q : Place) → n ≡ placeNumber q → false ≡ namesFrame ts q
+      go places.Nowhere f = refl
+      go (places.At p) f = absurd (omega arith)
 
-  module _ (p : ℕ) (at : caller ≡ places.At p) where
-    pub caller-past : 64 ≤ p → false ≡ namesFrame ts caller
-    unfolding namesFrame tokenAt isFrame
-    caller-past l =
-        let m : length ts ≤ p = omega arith in
-        let e : getD ts p blankToken ≡ blankToken = List·getD-eq-default ts blankToken m in
-        rw (at, e)
+  pub caller-past : 64 < n → false ≡ namesFrame ts q
+  unfolding namesFrame tokenAt isFrame
+  caller-past l = go q number
+    where
+      go : (q : Place) → n ≡ placeNumber q → false ≡ namesFrame ts q
+      go places.Nowhere f = refl
+      go (places.At p) f =
+          let m : length ts ≤ p = omega arith in
+          sym (ap (λ (t : Token). isFrame (t .state)) (List·getD-eq-default ts blankToken m))
 
-    pub caller-read : p < 64 → {n : ℕ} → n ≡ stateNumber s → eqb n 4 ≡ namesFrame ts caller
-    unfolding namesFrame
-    caller-read l e = ap (λ n. eqb n 4) e ∙ frame-is s ∙ rw at (ap isFrame (there p l at))
-
--- a token that was read
-pub token-read : (ts : List Token) (i : ℕ) (d : Token) → i < length ts → getD ts i d ≡ tokenAt ts i
-unfolding tokenAt
-token-read ts i d l = getD-any ts i d blankToken l
+  pub caller-read : (n ≡ 0 → ⊥) → {k : ℕ} → k ≡ stateKind (tokenAt ts (n - 1) .state) → eqb k 4 ≡ namesFrame ts q
+  unfolding namesFrame
+  caller-read f {k} e = go q number
+    where
+      go : (q : Place) → n ≡ placeNumber q → eqb k 4 ≡ namesFrame ts q
+      go places.Nowhere g = absurd (f g)
+      go (places.At p) g =
+          let same : n - 1 ≡ p = omega arith in
+          ap (λ i. eqb i 4) e ∙ frame-is _ ∙ ap (λ i. isFrame (tokenAt ts i .state)) same
 
 -- a row of a kind past the last has no rule
 pub rule-past : (ts : List Token) (t : Token) (ws : List ℕ) → 10 ≤ getD ws 0 0 → true ≡ nodeRule ts t (nodeBy ws)
@@ -131,21 +119,21 @@ unfolding nodeBy nodeRule
 rule-past ts t ws l = rw List·getD-eq-default
 
 -- the node's row
-module _ (ws : List ℕ) (long : length ws ≡ 12331) (kept : dagKept (dagOf ws) ≡ true) where
+module _ (ws : List ℕ) (long : length ws ≡ 12331) (kept : dagHolds (dagOf ws) ≡ true) where
   pub nodes-few : getD ws 0 0 ≤ 1022
-  unfolding dagKept
+  unfolding dagHolds
   nodes-few =
       let e = leb-le (length (dagOf ws .nodes)) 1022 (and-left (leb (length (dagOf ws .nodes)) 1022) _ kept) in
       omega (arith, nodes-length ws)
 
   module _ (ts : List Token) (t : Token) where
-    pub at-none : {n : ℕ} → n ≡ stateNumber (t .state) → n ≡ 0 → true ≡ atNode (dagOf ws) ts t
+    pub at-none : {n : ℕ} → n ≡ stateKind (t .state) → n ≡ 0 → true ≡ atNode (dagOf ws) ts t
     unfolding atNode
-    at-none e z = rw (sym (blank-is (t .state)) ∙ eq-eqb (stateNumber (t .state)) 0 (sym e ∙ z), atNode)
+    at-none e z = rw (sym (blank-is (t .state)) ∙ eq-eqb (stateKind (t .state)) 0 (sym e ∙ z), atNode)
 
-    pub at-row : {n : ℕ} → n ≡ stateNumber (t .state) → (n ≡ 0 → ⊥) → t .node < getD ws 0 0
-        → nodeRule ts t (nodeBy (take 12 (drop (67 + 12 * t .node) ws))) ≡ atNode (dagOf ws) ts t
+    pub at-row : {node : ℕ} → node ≡ t .node → {n : ℕ} → n ≡ stateKind (t .state) → (n ≡ 0 → ⊥) → node < getD ws 0 0
+        → nodeRule ts t (nodeBy (take 12 (drop (67 + 12 * node) ws))) ≡ atNode (dagOf ws) ts t
     unfolding atNode
-    at-row e z l =
-        rw (sym (blank-is (t .state)) ∙ ne-eqb (stateNumber (t .state)) 0 (λ y. z (e ∙ y)), atNode)
-        (ap (nodeRule ts t) (sym (kept-node ws kept (t .node) l)))
+    at-row {node} same e z l =
+        rw (sym (blank-is (t .state)) ∙ ne-eqb (stateKind (t .state)) 0 (λ y. z (e ∙ y)), atNode)
+        (ap (nodeRule ts t) (sym (kept-node ws kept node l) ∙ ap (nodeAt (dagOf ws)) same))

@@ -1,23 +1,24 @@
 -- An order's rules from counts: how often each place stands in it, counted in one pass. Assumes nothing.
-use mathlib.Core.Path.{_≡_, refl, sym, _∙_, ap, ap₂, subst}
+use mathlib.Core.Path.{_≡_, refl, sym, _∙_, ap, ap₂}
 use mathlib.Core.Bool.{Bool, true, false, _&&_}
 use mathlib.Core.List.{List, [], _∷_}
 use Prim.Native.Nat.{ℕ, zero, suc, _+_, _-_, _<_, _≤_}
-use native.Mathlib.Decide.{ℕ-discrete}
+use native.Mathlib.Decide.{ℕ-discrete, decLt}
 use native.Mathlib.Nat.{add-zero, zero-add}
 use native.Mathlib.Numerals.{add-one}
 use native.Mathlib.Omega.{arith}
-use lib.ListN.{length, getD, take, drop, set, length-drop}
+use lib.ListN.{length, getD, take, drop, set, replicate, length-drop, length-replicate, getD-replicate, List·getD-eq-default}
 use lib.Seq.{getD-set-same, getD-set-other, getD-drop, length-take-le, getD-take}
 use lib.Dec.{ltb, eqb}
 use Rattle.model.specs.Test.{_and_, all, allFrom, count, once}
 use Rattle.model.specs.Machine.Rules.{namesOnce}
 use Rattle.model.specs.declared.token.State.{State}
 use Rattle.model.specs.declared.token.Token.{Token}
-use Rattle.model.proofs.Test.{all-at, ltb-lt, eq-eqb, ne-eqb, le-leb, lt-not-leb}
-use Rattle.rules.specs.Marks.{stateNumber, numbersOf}
-use Rattle.rules.proofs.Both.{both, and-true, and-assoc}
-use Rattle.rules.proofs.Loop.{all-turn}
+use Rattle.model.proofs.Test.{all-at, all-from, false-of, ltb-lt, lt-ltb, eq-eqb, ne-eqb, le-leb, lt-not-leb}
+use Rattle.record.specs.Words.{stateKind}
+use Rattle.coded.proofs.Both.{both, and-true, and-assoc}
+use Rattle.coded.proofs.Loop.{all-turn}
+use Rattle.rules.specs.Rules.{NamesAt}
 
 -- counts
 pub count-most : (p : ℕ) (xs : List ℕ) → count p xs ≤ length xs
@@ -35,23 +36,25 @@ count-more p [] i l = absurd (omega arith)
 count-more p (x ∷ xs) zero l = omega arith
 count-more p (x ∷ xs) (suc i) l = let e = count-more p xs i (omega arith) in omega arith
 
--- an order in range names places below 64
-pub named-below : (array : List ℕ) (n i : ℕ) → length array ≡ 64 → n ≤ 64 → i < n
-    → all (λ (p : ℕ). ltb p 64) (take n array) ≡ true → getD array i 0 < 64
-named-below array n i e m l h =
-    let long : length (take n array) ≡ n = length-take-le n array (omega arith) in
-    subst (λ (p : ℕ). p < 64) (getD-take n array i 0 l)
-    (ltb-lt (getD (take n array) i 0) 64 (all-at (λ (p : ℕ). ltb p 64) (take n array) i 0 h (omega arith)))
+-- the names among the words
+module _ {ws array : List ℕ} {at : ℕ} (h : NamesAt ws at array) (n i : ℕ) (m : n ≤ 64) (l : i < n) where
+  pub wild : 64 ≤ getD ws (at + i) 0 → false ≡ all (λ (p : ℕ). ltb p 64) (take n array)
+  wild w =
+      let long : length (take n array) ≡ n = length-take-le n array (omega (arith, h .long)) in
+      sym (false-of _ (λ e.
+      let b = ltb-lt (getD (take n array) i 0) 64 (all-at (λ (p : ℕ). ltb p 64) (take n array) i 0 e (omega arith)) in
+      omega (arith, h .words i (omega arith), getD-take n array i 0 l)))
+
+pub tame : {ws array : List ℕ} {at : ℕ} → NamesAt ws at array → (n : ℕ) → n ≤ 64 → ((i : ℕ) → i < n → getD ws (at + i) 0 < 64)
+    → true ≡ all (λ (p : ℕ). ltb p 64) (take n array)
+tame {ws} {array} {at} h n m f =
+    let long : length (take n array) ≡ n = length-take-le n array (omega (arith, h .long)) in
+    sym (all-from (λ (p : ℕ). ltb p 64) (take n array) 0 (λ i l.
+    let b = f i (omega arith) in
+    lt-ltb (getD (take n array) i 0) 64 (omega (arith, h .words i (omega arith), getD-take n array i 0 (omega arith)))))
 
 module _ (array counts : List ℕ) (i : ℕ) (long : length counts ≡ 64) (l : i < length array)
     (so-far : (p : ℕ) → p < 64 → getD counts p 0 ≡ count p (take i array)) where
-  pub count-small : (p : ℕ) → p < 64 → getD counts p 0 ≤ i
-  count-small p b =
-      let e = so-far p b in
-      let m = count-most p (take i array) in
-      let t : length (take i array) ≡ i = length-take-le i array (omega arith) in
-      omega arith
-
   pub count-turn : (q : ℕ) → q < 64 → getD array i 0 ≡ q → (p : ℕ) → p < 64
       → getD (set counts q (getD counts q 0 + 1)) p 0 ≡ count p (take (i + 1) array)
   count-turn q b e p m = go (ℕ-discrete p q)
@@ -70,6 +73,22 @@ module _ (array counts : List ℕ) (i : ℕ) (long : length counts ≡ 64) (l : 
           getD-set-other counts q p _ 0 f ∙ so-far p m
           ∙ sym (more ∙ rw (ne-eqb p q f) (add-zero _))
 
+-- no count is larger than the turns made
+pub none-counted : (p : ℕ) → getD (replicate 64 0) p 0 ≤ 0
+none-counted p = go (decLt p 64)
+  where
+    go : Dec (p < 64) → getD (replicate 64 0) p 0 ≤ 0
+    go (yes l) = omega (arith, getD-replicate {A = ℕ} 64 p 0 0 l)
+    go (no f) = omega (arith, List·getD-eq-default {A = ℕ} (replicate 64 0) 0 {n = p} (omega (arith, length-replicate {A = ℕ} 64 0)))
+
+pub count-few : (counts : List ℕ) (i q : ℕ) → length counts ≡ 64 → q < 64 → ((p : ℕ) → getD counts p 0 ≤ i)
+    → (p : ℕ) → getD (set counts q (getD counts q 0 + 1)) p 0 ≤ i + 1
+count-few counts i q long b f p = go (ℕ-discrete p q)
+  where
+    go : Dec (p ≡ q) → getD (set counts q (getD counts q 0 + 1)) p 0 ≤ i + 1
+    go (yes e) = let g = getD-set-same counts q (getD counts q 0 + 1) 0 (omega arith) in let l = f q in rw e (omega arith)
+    go (no n) = let g = getD-set-other counts q p (getD counts q 0 + 1) 0 n in let l = f p in omega arith
+
 -- a test of each element with its index
 module _ {A : Type 0} (t : ℕ → A → Bool) where
   from-more : (j : ℕ) (xs : List A) (i : ℕ) (d : A) → i < length xs
@@ -84,7 +103,8 @@ module _ {A : Type 0} (t : ℕ → A → Bool) where
 
   pub from-turn : (xs : List A) (i : ℕ) (d : A) {ok b : Bool}
       → i < length xs → ok ≡ allFrom t 0 (take i xs) → b ≡ t i (getD xs i d) → (ok && b) ≡ allFrom t 0 (take (i + 1) xs)
-  from-turn xs i d l e f = both e f ∙ rw add-one (sym (from-more 0 xs i d l ∙ ap (λ k. allFrom t 0 (take i xs) and t k (getD xs i d)) (zero-add i)))
+  from-turn xs i d l e f =
+      both e f ∙ rw add-one (sym (from-more 0 xs i d l ∙ ap (λ k. allFrom t 0 (take i xs) and t k (getD xs i d)) (zero-add i)))
 
 -- the rest behind the order
 pub rest-none : (array : List ℕ) (n : ℕ) → true ≡ all (eqb 0) (take (n - n) (drop n array))
@@ -92,7 +112,8 @@ unfolding all
 rest-none array n = let e : n - n ≡ 0 = omega arith in rw e
 
 pub rest-turn : (array : List ℕ) (n i : ℕ) {ok b : Bool} → n ≤ i → i < length array
-    → ok ≡ all (eqb 0) (take (i - n) (drop n array)) → b ≡ eqb 0 (getD array i 0) → (ok && b) ≡ all (eqb 0) (take (i + 1 - n) (drop n array))
+    → ok ≡ all (eqb 0) (take (i - n) (drop n array)) → b ≡ eqb 0 (getD array i 0)
+    → (ok && b) ≡ all (eqb 0) (take (i + 1 - n) (drop n array))
 rest-turn array n i m l e f =
     let g : n + (i - n) ≡ i = omega arith in
     let h : i + 1 - n ≡ i - n + 1 = omega arith in
@@ -109,21 +130,22 @@ module _ (of : State → Bool) (ts : List Token) (array : List ℕ) (n : ℕ) (t
   unfolding namesOnce _and_
   order-wild l e = rw (tokens, long, le-leb n 64 l, e)
 
-  agree : (number : ℕ) → ((s : State) → eqb (stateNumber s) number ≡ of s)
+  agree : (kind : ℕ) → ((s : State) → eqb (stateKind s) kind ≡ of s)
       → (counts : ℕ → ℕ) (j : ℕ) (us : List Token) → ((p : ℕ) → j ≤ p → p < j + length us → counts p ≡ count p (take n array))
-      → allFrom (λ p (k : ℕ). eqb (counts p) (once (eqb k number))) j (numbersOf us)
+      → allFrom (λ p (t : Token). eqb (counts p) (once (eqb (stateKind (t .state)) kind))) j us
       ≡ allFrom (λ p (t : Token). eqb (count p (take n array)) (once (of (t .state)))) j us
   unfolding allFrom
-  agree number g counts j [] h = refl
-  agree number g counts j (t ∷ us) h =
+  agree kind g counts j [] h = refl
+  agree kind g counts j (t ∷ us) h =
       ap₂ _and_ (ap₂ (λ k (b : Bool). eqb k (once b)) (h j (omega arith) (omega arith)) (g (t .state)))
-      (agree number g counts (suc j) us (λ p l m. h p (omega arith) (omega arith)))
+      (agree kind g counts (suc j) us (λ p l m. h p (omega arith) (omega arith)))
 
-  pub order-counted : (number : ℕ) → ((s : State) → eqb (stateNumber s) number ≡ of s)
+  pub order-counted : (kind : ℕ) → ((s : State) → eqb (stateKind s) kind ≡ of s)
       → (counts : List ℕ) → n ≤ 64 → all (λ (p : ℕ). ltb p 64) (take n array) ≡ true
       → ((p : ℕ) → p < 64 → getD counts p 0 ≡ count p (take n array))
-      → (allFrom (λ p (k : ℕ). eqb (getD counts p 0) (once (eqb k number))) 0 (numbersOf ts) and all (eqb 0) (drop n array)) ≡ namesOnce of ts array n
+      → (allFrom (λ p (t : Token). eqb (getD counts p 0) (once (eqb (stateKind (t .state)) kind))) 0 ts and all (eqb 0) (drop n array))
+      ≡ namesOnce of ts array n
   unfolding namesOnce _and_
-  order-counted number g counts l e h =
+  order-counted kind g counts l e h =
       rw (tokens, long, le-leb n 64 l, e)
-      (ap (λ b. b and all (eqb 0) (drop n array)) (agree number g (λ p. getD counts p 0) 0 ts (λ p z m. h p (omega arith))))
+      (ap (λ b. b and all (eqb 0) (drop n array)) (agree kind g (λ p. getD counts p 0) 0 ts (λ p z m. h p (omega arith))))

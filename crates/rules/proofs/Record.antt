@@ -1,74 +1,89 @@
--- The rules of a dag and a record, regrouped: the tokens' first, then the others, one table after the other. Assumes nothing.
+-- The rules of a dag and a record, regrouped: the tables' first, then the others. Assumes nothing.
 use mathlib.Core.Path.{_≡_, sym, _∙_, ap, ap₂}
 use mathlib.Core.Bool.{Bool, true, false, _&&_}
 use mathlib.Core.List.{List}
-use Prim.Native.Nat.{ℕ, _≤_}
-use native.Mathlib.Omega.{arith}
 use lib.ListN.{length}
-use lib.Seq.{take-all}
 use lib.Dec.{ltb, leb}
 use Rattle.model.specs.Test.{_and_, all, differ}
-use Rattle.model.specs.Job.Node.{Dag, dagKept}
+use Rattle.model.specs.Job.Node.{Dag, dagHolds}
 use Rattle.model.specs.Machine.Limits.{paper}
 use Rattle.model.specs.Machine.Blank.{tokenIsBlank, cellIsBlank}
-use Rattle.model.specs.Machine.InUse.{tokensUsed, usedCells}
-use Rattle.model.specs.Machine.Rules.{isReady, isWaiting, tokenInRange, cellInRange, machineKept, rulesKept}
-use Rattle.model.specs.Machine.Rules.{namesOnce, chainsEnd, notUnderSet, openHandles, waitsAtUnset, atNode, restIsBlank}
+use Rattle.model.specs.Machine.InUse.{tokensUsed, cellsUsed}
+use Rattle.model.specs.Machine.Rules.{isReady, isWaiting, sizesInRange, tokenInRange, cellInRange, machineHolds, rulesHold}
+use Rattle.model.specs.Machine.Rules.{namesOnce, chainEnds, chainsEnd, notUnderSet, openHandles, waitsAtUnset, atNode, restIsBlank}
 use Rattle.model.specs.declared.token.Token.{Token}
+use Rattle.model.specs.declared.cell.Cell.{Cell}
 use Rattle.model.specs.declared.record.Machine.{Machine}
 use Rattle.model.proofs.Test.{and-left, and-right, and-both}
-use Rattle.rules.proofs.Both.{same-when, three, four}
-use Rattle.rules.proofs.Ranges.{sizes-parts}
-use Rattle.rules.proofs.Tokens.{firstKept}
+use Rattle.model.proofs.Machine.InUse.{tokens-used, cells-used}
+use Rattle.coded.proofs.Lists.{same-when}
+use Rattle.coded.proofs.Both.{both, three}
+use Rattle.rules.specs.Rules.{tokenRule, cellRule}
+use Rattle.rules.proofs.Rest.{all-both}
 
 -- twelve tests, in the code's order and in the sentence's
 regrouped : (s r cr q ce tu h w tw ta tb cb : Bool)
-    → ((((r and tb and ta) and tu and tw) and s and (cr and ce and cb) and q) and w and h)
+    → ((((((r and ta and tu and tw) and tb) and (cr and ce) and cb) and s and q) and w and h))
     ≡ (s and r and cr and q and ce and tu and h and w and tw and ta and tb and cb)
 regrouped s r cr q ce tu h w tw ta tb cb =
     same-when _ _ (λ e. search (and-left, and-right, and-both) depth 14) (λ e. search (and-left, and-right, and-both) depth 14)
 
 module _ (d : Dag) (m : Machine) where
   -- the dag's rules first
-  pub dag-breaks : dagKept d ≡ false → false ≡ rulesKept paper d m
-  unfolding rulesKept _and_
+  pub dag-breaks : dagHolds d ≡ false → false ≡ rulesHold paper d m
+  unfolding rulesHold _and_
   dag-breaks e = rw e
 
-  dag-keeps : dagKept d ≡ true → machineKept paper d m ≡ rulesKept paper d m
-  unfolding rulesKept _and_
+  dag-keeps : dagHolds d ≡ true → machineHolds paper d m ≡ rulesHold paper d m
+  unfolding rulesHold _and_
   dag-keeps e = rw e
 
-  module _ (tokens : length (m .tokens) ≡ 64) (cells : length (m .cells) ≡ 32) {used : List Bool} (marks : used ≡ tokensUsed m) where
-    -- after the last turn
-    whole : (i : ℕ) → 64 ≤ i
-        → firstKept d m used i
-        ≡ ((all (tokenInRange paper d (m .calls)) (m .tokens)
-        and restIsBlank tokenIsBlank (tokensUsed m) (m .tokens)
-        and all (atNode d (m .tokens)) (m .tokens))
-        and all (notUnderSet (m .cells)) (m .tokens)
-        and all (λ (t : Token). waitsAtUnset (m .cells) (t .state)) (m .tokens))
-    whole i l =
-        ap₂ (λ us ts.
-        (all (tokenInRange paper d (m .calls)) ts and restIsBlank tokenIsBlank us ts and all (atNode d (m .tokens)) ts)
-        and all (notUnderSet (m .cells)) ts and all (λ (t : Token). waitsAtUnset (m .cells) (t .state)) ts)
-        marks (take-all i (m .tokens) (omega arith))
+  -- rule by rule
+  token-rules : all (tokenRule d m) (m .tokens)
+      ≡ (all (tokenInRange paper d (m .calls)) (m .tokens) and all (atNode d (m .tokens)) (m .tokens)
+      and all (notUnderSet (m .cells)) (m .tokens) and all (λ (t : Token). waitsAtUnset (m .cells) (t .state)) (m .tokens))
+  token-rules =
+      all-both (tokenInRange paper d (m .calls)) _ (m .tokens)
+      ∙ ap (_and_ (all (tokenInRange paper d (m .calls)) (m .tokens)))
+      (all-both (atNode d (m .tokens)) _ (m .tokens)
+      ∙ ap (_and_ (all (atNode d (m .tokens)) (m .tokens)))
+      (all-both (notUnderSet (m .cells)) (λ (t : Token). waitsAtUnset (m .cells) (t .state)) (m .tokens)))
+
+  module _ (tokens : length (m .tokens) ≡ 64) (cells : length (m .cells) ≡ 32) where
+    cell-rules : all (cellRule d (m .cells)) (m .cells) ≡ (all (cellInRange paper d) (m .cells) and chainsEnd (m .cells))
+    unfolding chainsEnd
+    cell-rules =
+        all-both (cellInRange paper d) (λ (c : Cell). chainEnds (m .cells) 32 (c .parent)) (m .cells)
+        ∙ ap (λ n. all (cellInRange paper d) (m .cells) and all (λ (c : Cell). chainEnds (m .cells) n (c .parent)) (m .cells)) (sym cells)
+
+    sizes-parts : sizesInRange paper d m ≡ (leb (m .calls) 1000000 and ltb (m .lasttoken) 64 and ltb (m .lastcell) 32)
+    unfolding sizesInRange _and_
+    sizes-parts = rw (tokens, cells)
+
+    -- how many marks there are
+    pub tokens-marked : {used : List Bool} → used ≡ tokensUsed m → length used ≡ 64
+    tokens-marked e = ap length e ∙ tokens-used (m .tokens) (m .cells) .size ∙ tokens
+
+    pub cells-marked : {used : List Bool} → used ≡ cellsUsed m → length used ≡ 32
+    cells-marked e = ap length e ∙ cells-used (tokensUsed m) (m .tokens) (m .cells) (tokens-used (m .tokens) (m .cells) .size) .size ∙ cells
 
     -- all results together
-    pub rules-are : dagKept d ≡ true → (i : ℕ) → 64 ≤ i → {ok sizes ranged ended blank queued waited differing : Bool} → ok ≡ firstKept d m used i
-        → sizes ≡ (leb (m .calls) 1000000 and ltb (m .newtoken) 64 and ltb (m .newcell) 32)
-        → ranged ≡ all (cellInRange paper d) (m .cells)
-        → ended ≡ chainsEnd (m .cells)
-        → blank ≡ restIsBlank cellIsBlank (usedCells used (m .tokens) (m .cells)) (m .cells)
+    pub rules-are : dagHolds d ≡ true → {used marks : List Bool} → used ≡ tokensUsed m → marks ≡ cellsUsed m
+        → {first second sizes queued waited differing : Bool}
+        → first ≡ (all (tokenRule d m) (m .tokens) and restIsBlank tokenIsBlank used (m .tokens))
+        → second ≡ (all (cellRule d (m .cells)) (m .cells) and restIsBlank cellIsBlank marks (m .cells))
+        → sizes ≡ (leb (m .calls) 1000000 and ltb (m .lasttoken) 64 and ltb (m .lastcell) 32)
         → queued ≡ namesOnce isReady (m .tokens) (m .queue) (m .queued)
         → waited ≡ namesOnce isWaiting (m .tokens) (m .waits) (m .waiting)
         → differing ≡ differ (openHandles (m .tokens))
-        → (ok && sizes && (ranged && ended && blank) && queued && waited && differing) ≡ rulesKept paper d m
-    unfolding machineKept
-    rules-are kept i l first sized ranges ends blanks queues waits differs =
+        → (first && second && sizes && queued && waited && differing) ≡ rulesHold paper d m
+    unfolding machineHolds
+    rules-are kept e f firsts seconds sized queues waits differs =
         three
-        (four (first ∙ whole i l) (sized ∙ sym (sizes-parts d m tokens cells))
-        (three ranges ends (blanks ∙ ap (λ us. restIsBlank cellIsBlank (usedCells us (m .tokens) (m .cells)) (m .cells)) marks))
-        queues)
+        (three
+        (both (firsts ∙ ap₂ _and_ token-rules (ap (λ us. restIsBlank tokenIsBlank us (m .tokens)) e))
+        (seconds ∙ ap₂ _and_ cell-rules (ap (λ us. restIsBlank cellIsBlank us (m .cells)) f)))
+        (sized ∙ sym sizes-parts) queues)
         waits differs
         ∙ regrouped _ _ _ _ _ _ _ _ _ _ _ _
         ∙ dag-keeps kept

@@ -1,82 +1,121 @@
--- The rules that each token keeps by itself, tested in one pass: those of the first tokens together are those of one more token, and so
--- on to the last. Assumes nothing.
-use mathlib.Core.Path.{_≡_, sym, _∙_, ap, ap₂}
-use mathlib.Core.Bool.{Bool, true, false, _&&_, _||_}
-use mathlib.Core.List.{List}
-use Prim.Native.Nat.{ℕ, suc, _+_, _<_}
-use native.Mathlib.Numerals.{add-one}
+-- The rules of one token and of one cell: a blank one keeps them all, since a dag has a node and nothing else is named. Assumes nothing.
+use mathlib.Core.Path.{_≡_, refl, sym, _∙_, ap}
+use mathlib.Core.Bool.{Bool, true, false, not}
+use mathlib.Core.List.{List, [], _∷_}
+use Prim.Native.Nat.{ℕ, _<_, _≤_}
 use native.Mathlib.Omega.{arith}
-use lib.ListN.{length, getD, take}
-use Rattle.model.specs.Test.{_and_, _or_, all}
-use Rattle.model.specs.Job.Node.{Dag, isNode}
-use Rattle.model.specs.Job.Words.{dagOf}
+use lib.Dec.{ltb, leb, eqb}
+use lib.ListN.{length}
+use Rattle.model.specs.declared.token.Slot.the-variants as slots
+use Rattle.model.specs.declared.token.Held.the-variants as helds
+use Rattle.model.specs.declared.token.Place.the-variants as places
+use Rattle.model.specs.declared.token.State.the-variants as states
+use Rattle.model.specs.Test.{_and_, all}
+use Rattle.model.specs.Job.Node.{Dag, isNode, dagHolds}
 use Rattle.model.specs.Machine.Limits.{paper}
-use Rattle.model.specs.Machine.Blank.{isPlace, tokenIsBlank}
+use Rattle.model.specs.Machine.Blank.{isBound, hasValue, isPlace, isBlankState, tokenIsBlank, cellIsBlank}
 use Rattle.model.specs.Machine.Active.{isLive}
-use Rattle.model.specs.Machine.Rules.{isWaiting, tokenInRange, notUnderSet, waitsAtUnset, atNode, restIsBlank}
+use Rattle.model.specs.Machine.Rules.{heldInRange, placeInRange, slotInRange, stateInRange, tokenInRange}
+use Rattle.model.specs.Machine.Rules.{cellInRange, atNode, notUnderSet, waitsAtUnset, chainEnds}
+use Rattle.model.specs.declared.token.Slot.{Slot}
+use Rattle.model.specs.declared.token.Bind.{Bind}
+use Rattle.model.specs.declared.token.Held.{Held}
+use Rattle.model.specs.declared.token.Place.{Place}
+use Rattle.model.specs.declared.token.State.{State}
 use Rattle.model.specs.declared.token.Token.{Token}
+use Rattle.model.specs.declared.cell.Cell.{Cell}
 use Rattle.model.specs.declared.record.Machine.{Machine}
-use Rattle.model.proofs.Test.{and-left, ltb-lt}
-use Rattle.rules.specs.Tokens.{tokenKept}
-use Rattle.rules.proofs.Array.{nodes-length}
-use Rattle.rules.proofs.Both.{both, three, and-true, regroup}
-use Rattle.rules.proofs.Chains.{no-cell}
-use Rattle.rules.proofs.Loop.{all-more}
-use Rattle.rules.proofs.Rest.{rest-more}
+use Rattle.model.proofs.Test.{clash, and-left, and-right, and-both, eqb-eq, ltb-lt, lt-ltb, le-not-ltb}
+use Rattle.coded.proofs.Both.{and-true}
+use Rattle.rules.specs.Rules.{tokenRule, cellRule}
+use Rattle.rules.proofs.Chains.{ends-nowhere}
 
--- one token: its ranges first
-module _ (d : Dag) (calls : ℕ) (ts : List Token) (used : Bool) (t : Token) where
-  pub out-of-range : tokenInRange paper d calls t ≡ false → false ≡ tokenKept d calls ts used t
-  unfolding _and_
-  out-of-range e = rw e
+-- fields that hold nothing are in range
+slot-blank : (s : Slot) → not (isBound s) ≡ true → slotInRange 32 s ≡ true
+unfolding isBound slotInRange
+slot-blank slots.Empty e = refl
+slot-blank (slots.Value v) e = clash e refl
+slot-blank (slots.Cell c) e = clash e refl
 
-  pub within-range : tokenInRange paper d calls t ≡ true → ((used || tokenIsBlank t) and atNode d ts t) ≡ tokenKept d calls ts used t
-  unfolding _and_
-  within-range e = rw e
+slots-blank : (bs : List Bind) → all (λ (b : Bind). not (isBound (b .slot))) bs ≡ true
+    → all (λ (b : Bind). slotInRange 32 (b .slot)) bs ≡ true
+unfolding all
+slots-blank [] e = refl
+slots-blank (b ∷ bs) e = and-both (slot-blank (b .slot) (and-left _ _ e)) (slots-blank bs (and-right _ _ e))
 
--- a token in range is at a node of the dag
-pub node-below : (ws : List ℕ) (calls : ℕ) (t : Token) → tokenInRange paper (dagOf ws) calls t ≡ true → t .node < getD ws 0 0
-unfolding tokenInRange isNode
-node-below ws calls t e =
-    let l : t .node < length (dagOf ws .nodes) = ltb-lt _ _ (and-left (isNode (dagOf ws) (t .node)) _ e) in
-    omega (arith, nodes-length ws)
+held-blank : (v : Held) → not (hasValue v) ≡ true → heldInRange v ≡ true
+unfolding hasValue heldInRange
+held-blank helds.Nothing e = refl
+held-blank (helds.Value v) e = clash e refl
 
--- the rules of the first i tokens, with those of the cells that they name
-module _ (d : Dag) (m : Machine) (used : List Bool) where
-  abbrev pub firstKept : ℕ → Bool
-  firstKept i =
-      (all (tokenInRange paper d (m .calls)) (take i (m .tokens))
-      and restIsBlank tokenIsBlank used (take i (m .tokens))
-      and all (atNode d (m .tokens)) (take i (m .tokens)))
-      and all (notUnderSet (m .cells)) (take i (m .tokens))
-      and all (λ (t : Token). waitsAtUnset (m .cells) (t .state)) (take i (m .tokens))
+place-blank : (n : ℕ) (q : Place) → not (isPlace q) ≡ true → placeInRange n q ≡ true
+unfolding isPlace placeInRange
+place-blank n places.Nowhere e = refl
+place-blank n (places.At p) e = clash e refl
 
-  module _ (i : ℕ) (t : Token) (many : i < length (m .tokens)) (marks : i < length used) where
-    one-more : firstKept (suc i)
-        ≡ (firstKept i
-        and tokenKept d (m .calls) (m .tokens) (getD used i false) (getD (m .tokens) i t)
-        and notUnderSet (m .cells) (getD (m .tokens) i t)
-        and waitsAtUnset (m .cells) (getD (m .tokens) i t .state))
-    one-more =
-        let ts = m .tokens in
-        ap₂ _and_
-        (ap₂ _and_ (all-more (tokenInRange paper d (m .calls)) ts i t many)
-        (ap₂ _and_ (rest-more tokenIsBlank used ts i t marks many) (all-more (atNode d ts) ts i t many) ∙ sym (regroup _ _ _ _))
-        ∙ sym (regroup _ _ _ _))
-        (ap₂ _and_ (all-more (notUnderSet (m .cells)) ts i t many)
-        (all-more (λ (u : Token). waitsAtUnset (m .cells) (u .state)) ts i t many)
-        ∙ sym (regroup _ _ _ _))
-        ∙ sym (regroup _ _ _ _)
+state-blank : (s : State) → isBlankState s ≡ true → s ≡ states.Blank
+unfolding isBlankState
+state-blank states.Blank e = refl
+state-blank states.Ready e = clash e refl
+state-blank (states.Waiting c) e = clash e refl
+state-blank (states.Called h) e = clash e refl
+state-blank states.Frame e = clash e refl
 
-    module _ {ok kept : Bool} (so-far : ok ≡ firstKept i) (here : kept ≡ tokenKept d (m .calls) (m .tokens) (getD used i false) (getD (m .tokens) i t)) where
-      pub live-turn : {free : Bool}
-          → free ≡ (notUnderSet (m .cells) (getD (m .tokens) i t) and waitsAtUnset (m .cells) (getD (m .tokens) i t .state))
-          → (ok && kept && free) ≡ firstKept (i + 1)
-      live-turn e = three so-far here e ∙ rw add-one (sym one-more)
+ends-none : (cs : List Cell) (n : ℕ) (q : Place) → not (isPlace q) ≡ true → chainEnds cs n q ≡ true
+unfolding isPlace
+ends-none cs n places.Nowhere e = ends-nowhere cs n
+ends-none cs n (places.At p) e = clash e refl
 
-      pub other-turn : (isLive (getD (m .tokens) i t .state) and (isPlace (getD (m .tokens) i t .cell) or isWaiting (getD (m .tokens) i t .state))) ≡ false
-          → (ok && kept) ≡ firstKept (i + 1)
-      unfolding _and_
-      other-turn e =
-          let passes = no-cell (m .cells) (getD (m .tokens) i t) e in
-          both so-far here ∙ rw add-one (sym (one-more ∙ rw (sym (passes .0), sym (passes .1)) (ap (_and_ (firstKept i)) (and-true _))))
+-- a dag that keeps its rules has a node
+pub some-node : (d : Dag) → dagHolds d ≡ true → 0 < length (d .nodes)
+unfolding dagHolds isNode
+some-node d e =
+    let first = and-right (leb (length (d .nodes)) 1022) _ e in
+    let second = and-right (leb (length (d .bodies)) 32) _ first in
+    let l = ltb-lt (d .goal) (length (d .nodes)) (and-left (ltb (d .goal) (length (d .nodes))) _ second) in
+    omega arith
+
+module _ (d : Dag) (m : Machine) (t : Token) (eight : length (t .binds) ≡ 8) where
+  pub token-blank : dagHolds d ≡ true → tokenIsBlank t ≡ true → tokenRule d m t ≡ true
+  unfolding tokenIsBlank tokenInRange isNode atNode notUnderSet waitsAtUnset stateInRange isLive isBlankState
+  token-blank kept e =
+      let rest1 = and-right (isBlankState (t .state)) _ e in
+      let rest2 = and-right (eqb (t .node) 0) _ rest1 in
+      let rest3 = and-right (all (λ (b : Bind). not (isBound (b .slot))) (t .binds)) _ rest2 in
+      let rest4 = and-right (not (hasValue (t .value))) _ rest3 in
+      let state = state-blank (t .state) (and-left (isBlankState (t .state)) _ e) in
+      let node : t .node ≡ 0 = eqb-eq (t .node) 0 (and-left (eqb (t .node) 0) _ rest1) in
+      let some = some-node d kept in
+      and-both
+      (and-both (lt-ltb (t .node) (length (d .nodes)) (omega arith))
+      (and-both (ap (λ n. eqb n 8) eight)
+      (and-both (slots-blank (t .binds) (and-left _ _ rest2))
+      (and-both (held-blank (t .value) (and-left _ _ rest3))
+      (and-both (place-blank 64 (t .caller) (and-left _ _ rest4))
+      (and-both (place-blank 32 (t .cell) (and-right _ _ rest4))
+      (ap (stateInRange 32 (m .calls)) state)))))))
+      (and-both (rw (state, atNode)) (and-both (rw (state, notUnderSet)) (ap (waitsAtUnset (m .cells)) state)))
+
+  pub node-past : (used : Bool) {n : ℕ} → n ≡ t .node → length (d .nodes) ≤ n → false ≡ (tokenRule d m t and used)
+  unfolding tokenInRange isNode _and_
+  node-past used e l = rw (le-not-ltb (t .node) (length (d .nodes)) (omega arith))
+
+  pub node-in : {n : ℕ} → n ≡ t .node → n < length (d .nodes) → heldInRange (t .value) ≡ true
+      → tokenInRange paper d (m .calls) t
+      ≡ (all (λ (b : Bind). slotInRange 32 (b .slot)) (t .binds)
+      and placeInRange 64 (t .caller) and placeInRange 32 (t .cell) and stateInRange 32 (m .calls) (t .state))
+  unfolding tokenInRange isNode _and_
+  node-in e l f = rw (lt-ltb (t .node) (length (d .nodes)) (omega arith), eight, f)
+
+module _ (d : Dag) (cs : List Cell) (c : Cell) where
+  pub cell-blank : cellIsBlank c ≡ true → cellRule d cs c ≡ true
+  unfolding cellIsBlank cellInRange
+  cell-blank e =
+      let none = and-left (not (isPlace (c .parent))) _ e in
+      and-both
+      (and-both (place-blank 32 (c .parent) none) (held-blank (c .value) (and-right (not (isPlace (c .parent))) _ e)))
+      (ends-none cs 32 (c .parent) none)
+
+  pub cell-in : heldInRange (c .value) ≡ true → placeInRange 32 (c .parent) ≡ cellInRange paper d c
+  unfolding cellInRange
+  cell-in e = sym (ap (_and_ (placeInRange 32 (c .parent))) e ∙ and-true _)

@@ -1,4 +1,3 @@
--- What the contracts of this crate's parts cite. Its exported contracts cite crate `model` alone.
-pub mod Marks
-pub mod Tokens
-pub mod Words
+-- What the contracts of this crate's parts cite. Its exported contracts cite crates `model` and `record` alone.
+pub mod Decoded
+pub mod Rules

@@ -1,143 +1,91 @@
 // Chains of cells: "each parent chain ends"; "no ready, waiting or called-out token is under a set cell"; waits at an unset cell.
 ghost use mathlib.Core.Path.{_≡_};
-ghost use mathlib.Core.Bool.{true};
-ghost use Rattle.model.specs.Test.{_and_, _or_};
-ghost use Rattle.model.specs.Machine.Blank.{hasValue, isPlace};
-ghost use Rattle.model.specs.Machine.Active.{isLive, underSet};
-ghost use Rattle.model.specs.Machine.Rules.{isWaiting, chainEnds, chainsEnd, notUnderSet, waitsAtUnset};
-use crate::blank::is_place;
-use crate::marks::BLANK;
-use crate::marks::FRAME;
-use crate::marks::WAITING;
-use crate::marks::state_number;
-use model::cell::Cell;
+ghost use Prim.Native.Nat.{_<_};
+ghost use Rattle.model.specs.Test.{_and_};
+ghost use Rattle.model.specs.Machine.Blank.{tokenAt};
+ghost use Rattle.model.specs.Machine.Active.{underSet};
+ghost use Rattle.model.specs.Machine.Rules.{chainEnds, notUnderSet, waitsAtUnset};
+ghost use Rattle.model.specs.declared.record.Machine.{Machine};
+ghost use Rattle.model.specs.declared.token.State.{State};
+ghost use Rattle.record.specs.Decode.{placeFrom};
+ghost use Rattle.record.specs.Holds.{Codes};
+ghost use Rattle.record.specs.Words.{stateKind, stateNumber};
+use crate::wide::wide;
 use model::record::Machine;
-use model::token::Held;
-use model::token::Place;
-use model::token::State;
-use model::token::Token;
-
-pub fn has_value(held: Held) -> bool
-    ensures { λ r. ⌜ r ≡ hasValue held ⌝ }
-{
-    match held {
-        Held::Nothing => false,
-        Held::Value(_) => true,
-    }
-}
+use record::cell::parent;
+use record::cell::valued;
+use record::layout::BLANK_STATE;
+use record::layout::FRAME_STATE;
+use record::layout::WAITING_STATE;
+use record::token::cell;
+use record::token::state;
+use record::token::state_number;
 
 // Is the cell at a place set, or one of its ancestors?
-pub fn under_set(cells: [Cell; Machine::CELLS], place: Place) -> bool
-    ensures { λ r. ⌜ r ≡ underSet cells place ⌝ }
+pub fn under_set(w: &[u32; Machine::WORDS], place: u32) -> bool
+    ensures { λ r. ⌜ ((m : Machine) → Codes (now (w .entry)) m → r ≡ underSet (m .cells) (placeFrom place)) ⌝ }
 {
     let mut here = place;
-    let mut i = 0;
+    let mut i: usize = 0;
     while i < Machine::CELLS {
-        let at = match here {
-            Place::Nowhere => {
-                return false;
-            }
-            Place::At(c) => c as usize,
-        };
-        if Machine::CELLS <= at {
+        if here == 0 {
             return false;
         }
-        let cell = cells[at];
-        let value = cell.value;
-        if has_value(value) {
+        if 32 < here {
+            return false;
+        }
+        let at = wide(here) - 1;
+        if 0 < valued(w, at) {
             return true;
         }
-        here = cell.parent;
+        here = parent(w, at);
         i += 1;
     }
     false
 }
 
 // Does the chain from a place end, within as many links as there are cells?
-pub fn chain_ends(cells: [Cell; Machine::CELLS], place: Place) -> bool
-    ensures { λ r. ⌜ r ≡ chainEnds cells 32 place ⌝ }
+pub fn chain_ends(w: &[u32; Machine::WORDS], place: u32) -> bool
+    ensures { λ r. ⌜ ((m : Machine) → Codes (now (w .entry)) m → r ≡ chainEnds (m .cells) 32 (placeFrom place)) ⌝ }
 {
     let mut here = place;
-    let mut i = 0;
+    let mut i: usize = 0;
     while i < Machine::CELLS {
-        let at = match here {
-            Place::Nowhere => {
-                return true;
-            }
-            Place::At(c) => c as usize,
-        };
+        if here == 0 {
+            return true;
+        }
+        if 32 < here {
+            return true;
+        }
+        let at = wide(here) - 1;
+        here = parent(w, at);
+        i += 1;
+    }
+    here == 0
+}
+
+// A token in the state that has these words: if it waits, then at an unset cell.
+pub fn waits_at_unset(w: &[u32; Machine::WORDS], kind: u32, number: u32) -> bool
+    ensures { λ r. ⌜ ((m : Machine) (s : State) → Codes (now (w .entry)) m → kind ≡ stateKind s → number ≡ stateNumber s → r ≡ waitsAtUnset (m .cells) s) ⌝ }
+{
+    if kind == WAITING_STATE {
+        let at = wide(number);
         if Machine::CELLS <= at {
             return true;
         }
-        let cell = cells[at];
-        here = cell.parent;
-        i += 1;
+        return valued(w, at) == 0;
     }
-    match here {
-        Place::Nowhere => true,
-        Place::At(_) => false,
+    true
+}
+
+// A token that is blank or a frame passes; any other must be under no set cell.
+pub fn is_free(w: &[u32; Machine::WORDS], p: usize) -> bool
+    requires { ⌜ p < 64 ⌝ }
+    ensures { λ r. ⌜ ((m : Machine) → Codes (now (w .entry)) m → r ≡ (notUnderSet (m .cells) (tokenAt (m .tokens) p) and waitsAtUnset (m .cells) (tokenAt (m .tokens) p .state))) ⌝ }
+{
+    let kind = state(w, p);
+    if (kind == BLANK_STATE) | (kind == FRAME_STATE) {
+        return true;
     }
-}
-
-pub fn chains_end(cells: [Cell; Machine::CELLS]) -> bool
-    ensures { λ r. ⌜ r ≡ chainsEnd cells ⌝ }
-{
-    let mut ok = true;
-    let mut i = 0;
-    while i < Machine::CELLS {
-        let cell = cells[i];
-        let parent = cell.parent;
-        i += 1;
-        if is_place(parent) {
-            ok = ok & chain_ends(cells, parent);
-        }
-    }
-    ok
-}
-
-// "ready, waiting or called-out"
-pub fn is_live(state: State) -> bool
-    ensures { λ r. ⌜ r ≡ isLive state ⌝ }
-{
-    let number = state_number(state);
-    (BLANK < number) & (number < FRAME)
-}
-
-pub fn waits_at_unset(cells: [Cell; Machine::CELLS], state: State) -> bool
-    ensures { λ r. ⌜ r ≡ waitsAtUnset cells state ⌝ }
-{
-    match state {
-        State::Blank => true,
-        State::Ready => true,
-        State::Waiting(c) => {
-            let at = c as usize;
-            if Machine::CELLS <= at {
-                return true;
-            }
-            let cell = cells[at];
-            let value = cell.value;
-            !has_value(value)
-        }
-        State::Called(_) => true,
-        State::Frame => true,
-    }
-}
-
-// Does a live token name a cell? (Only then is the table of cells handed on: that copies it.)
-pub fn names_cell(token: Token) -> bool
-    ensures { λ r. ⌜ r ≡ (isLive (token .state) and (isPlace (token .cell) or isWaiting (token .state))) ⌝ }
-{
-    let state = token.state;
-    let cell = token.cell;
-    let waits = state_number(state) == WAITING;
-    is_live(state) & (is_place(cell) | waits)
-}
-
-// A live token: under no set cell, and if it waits, at an unset one.
-pub fn is_free(cells: [Cell; Machine::CELLS], token: Token) -> bool
-    ensures { λ r. ⌜ (isLive (token .state) ≡ true → r ≡ (notUnderSet cells token and waitsAtUnset cells (token .state))) ⌝ }
-{
-    let place = token.cell;
-    let state = token.state;
-    !under_set(cells, place) & waits_at_unset(cells, state)
+    !under_set(w, cell(w, p)) & waits_at_unset(w, kind, state_number(w, p))
 }

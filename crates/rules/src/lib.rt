@@ -1,11 +1,10 @@
-// The index rules, tested on any record and any dag words. What they say is in crate `model`.
-pub mod blank;
-pub mod chain;
-pub mod dag;
-pub mod handles;
-pub mod marks;
-pub mod node;
-pub mod order;
-pub mod range;
-pub mod row;
+// The index rules, tested on any words and any dag words. What they say is in crate `model`, which word stands where in crate `record`;
+// crate `coded` tests the dag's.
+mod blank;
+mod chain;
+mod handles;
+mod node;
+mod order;
+mod range;
 pub mod rules;
+mod wide;

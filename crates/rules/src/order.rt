@@ -2,53 +2,65 @@
 ghost use mathlib.Core.Path.{_≡_};
 ghost use mathlib.Core.Bool.{Bool, true};
 ghost use mathlib.Core.List.{List};
-ghost use Prim.Native.Nat.{ℕ, _≤_, _<_};
-ghost use lib.ListN.{length, getD, take, drop};
+ghost use Prim.Native.Nat.{ℕ, _≤_, _<_, _+_};
+ghost use lib.ListN.{getD, take, drop};
 ghost use lib.Dec.{ltb, eqb};
 ghost use Rattle.model.specs.Test.{all, allFrom, count, once};
-ghost use Rattle.model.specs.Machine.Rules.{namesOnce};
+ghost use Rattle.model.specs.Machine.Rules.{isReady, isWaiting, namesOnce};
+ghost use Rattle.model.specs.declared.record.Machine.{Machine};
 ghost use Rattle.model.specs.declared.token.State.{State};
 ghost use Rattle.model.specs.declared.token.Token.{Token};
-ghost use Rattle.rules.specs.Marks.{stateNumber, numbersOf};
+ghost use Rattle.record.specs.Holds.{Codes};
+ghost use Rattle.record.specs.Words.{stateKind};
+ghost use Rattle.rules.specs.Rules.{NamesAt};
+use crate::wide::wide;
 use model::record::Machine;
+use record::layout::QUEUE;
+use record::layout::READY_STATE;
+use record::layout::WAITING_STATE;
+use record::layout::WAITS;
+use record::order::queued;
+use record::order::waiting;
+use record::token::state;
 
-// Does the order name places of tokens only?
-pub fn order_in_range(array: [u8; Machine::TOKENS], n: usize) -> bool
-    requires { ⌜ n ≤ 64 ⌝ }
-    ensures { λ r. ⌜ r ≡ all (λ (p : ℕ). ltb p 64) (take n array) ⌝ }
+// Does the order name places of tokens only? Its names are the first n of the 64 words from `at` on.
+fn order_in_range(w: &[u32; Machine::WORDS], at: usize, n: usize) -> bool
+    requires { ⌜ (n ≤ 64) × (at ≤ 1728) ⌝ }
+    ensures { λ r. ⌜ (r ≡ true → (i : ℕ) → i < n → getD (now (w .entry)) (at + i) 0 < 64) × ((names : List ℕ) → NamesAt (now (w .entry)) at names → r ≡ all (λ (p : ℕ). ltb p 64) (take n names)) ⌝ }
 {
-    let mut ok = true;
-    let mut i = 0;
+    let mut i: usize = 0;
     while i < n {
-        ok = ok & ((array[i] as usize) < Machine::TOKENS);
+        if 64 <= w[at + i] {
+            return false;
+        }
         i += 1;
     }
-    ok
+    true
 }
 
 // Is what stands behind the order 0?
-pub fn rest_is_zero(array: [u8; Machine::TOKENS], n: usize) -> bool
-    requires { ⌜ n ≤ 64 ⌝ }
-    ensures { λ r. ⌜ r ≡ all (eqb 0) (drop n array) ⌝ }
+fn rest_is_zero(w: &[u32; Machine::WORDS], at: usize, n: usize) -> bool
+    requires { ⌜ (n ≤ 64) × (at ≤ 1728) ⌝ }
+    ensures { λ r. ⌜ ((names : List ℕ) → NamesAt (now (w .entry)) at names → r ≡ all (eqb 0) (drop n names)) ⌝ }
 {
     let mut ok = true;
     let mut i = n;
     while i < Machine::TOKENS {
-        ok = ok & (0 == array[i]);
+        ok = ok & (0 == w[at + i]);
         i += 1;
     }
     ok
 }
 
 // How often each place stands in the order.
-pub fn counted(array: [u8; Machine::TOKENS], n: usize) -> [u8; Machine::TOKENS]
-    requires { ⌜ (n ≤ 64) × (all (λ (p : ℕ). ltb p 64) (take n array) ≡ true) ⌝ }
-    ensures { λ r. ⌜ ((p : ℕ) → p < 64 → getD r p 0 ≡ count p (take n array)) ⌝ }
+fn counted(w: &[u32; Machine::WORDS], at: usize, n: usize) -> [u8; Machine::TOKENS]
+    requires { ⌜ (n ≤ 64) × (at ≤ 1728) × ((i : ℕ) → i < n → getD (now w) (at + i) 0 < 64) ⌝ }
+    ensures { λ r. ⌜ ((names : List ℕ) → NamesAt (now (w .entry)) at names → (p : ℕ) → p < 64 → getD r p 0 ≡ count p (take n names)) ⌝ }
 {
     let mut counts = [0u8; Machine::TOKENS];
-    let mut i = 0;
+    let mut i: usize = 0;
     while i < n {
-        let p = array[i] as usize;
+        let p = wide(w[at + i]);
         let c = counts[p];
         counts[p] = c + 1;
         i += 1;
@@ -56,44 +68,49 @@ pub fn counted(array: [u8; Machine::TOKENS], n: usize) -> [u8; Machine::TOKENS]
     counts
 }
 
-pub fn one_if(b: bool) -> u8
+fn one_if(b: bool) -> u8
     ensures { λ r. ⌜ r ≡ once b ⌝ }
 {
     if b { 1 } else { 0 }
 }
 
-// Does each place of the tokens with that number stand there once, and no other?
-pub fn counts_agree(
-    counts: [u8; Machine::TOKENS],
-    numbers: [u8; Machine::TOKENS],
-    number: u8,
-) -> bool
-    ensures { λ r. ⌜ r ≡ allFrom (λ p (k : ℕ). eqb (getD counts p 0) (once (eqb k number))) 0 numbers ⌝ }
+// Does each place of the tokens in that state stand there once, and no other?
+fn counts_agree(w: &[u32; Machine::WORDS], counts: [u8; Machine::TOKENS], kind: u32) -> bool
+    ensures { λ r. ⌜ ((m : Machine) → Codes (now (w .entry)) m → r ≡ allFrom (λ p (t : Token). eqb (getD counts p 0) (once (eqb (stateKind (t .state)) kind))) 0 (m .tokens)) ⌝ }
 {
     let mut ok = true;
-    let mut i = 0;
+    let mut i: usize = 0;
     while i < Machine::TOKENS {
-        ok = ok & (counts[i] == one_if(numbers[i] == number));
+        ok = ok & (counts[i] == one_if(state(w, i) == kind));
         i += 1;
     }
     ok
 }
 
-// The order is the first n numbers of its array; it must name the tokens whose states have that number among `numbers`.
-pub fn names_once(
-    numbers: [u8; Machine::TOKENS],
-    number: u8,
-    array: [u8; Machine::TOKENS],
-    n: usize,
-) -> bool
-    ensures { λ r. ⌜ ((of : State → Bool) (ts : List Token) → length ts ≡ 64 → numbers ≡ numbersOf ts → ((s : State) → eqb (stateNumber s) number ≡ of s) → r ≡ namesOnce of ts array n) ⌝ }
+// It must name the tokens whose states are of that kind.
+fn names_once(w: &[u32; Machine::WORDS], at: usize, names: u32, kind: u32) -> bool
+    requires { ⌜ at ≤ 1728 ⌝ }
+    ensures { λ r. ⌜ ((of : State → Bool) (m : Machine) (array : List ℕ) → Codes (now (w .entry)) m → NamesAt (now (w .entry)) at array → ((s : State) → eqb (stateKind s) kind ≡ of s) → r ≡ namesOnce of (m .tokens) array names) ⌝ }
 {
+    let n = wide(names);
     if Machine::TOKENS < n {
         return false;
     }
-    if !order_in_range(array, n) {
+    if !order_in_range(w, at, n) {
         return false;
     }
-    let counts = counted(array, n);
-    counts_agree(counts, numbers, number) & rest_is_zero(array, n)
+    let counts = counted(w, at, n);
+    counts_agree(w, counts, kind) & rest_is_zero(w, at, n)
+}
+
+pub fn queue_holds(w: &[u32; Machine::WORDS]) -> bool
+    ensures { λ r. ⌜ ((m : Machine) → Codes (now (w .entry)) m → r ≡ namesOnce isReady (m .tokens) (m .queue) (m .queued)) ⌝ }
+{
+    names_once(w, QUEUE, queued(w), READY_STATE)
+}
+
+pub fn waits_hold(w: &[u32; Machine::WORDS]) -> bool
+    ensures { λ r. ⌜ ((m : Machine) → Codes (now (w .entry)) m → r ≡ namesOnce isWaiting (m .tokens) (m .waits) (m .waiting)) ⌝ }
+{
+    names_once(w, WAITS, waiting(w), WAITING_STATE)
 }

@@ -1,84 +1,102 @@
-// The index rules of a dag and a record, all together.
+// The index rules of a dag and a record, all together: each row is looked at once, and what is not in use only for being blank.
 ghost use mathlib.Core.Path.{_≡_};
-ghost use mathlib.Core.Bool.{true};
-ghost use mathlib.Core.List.{List};
+ghost use mathlib.Core.Bool.{true, false, _||_};
+ghost use Prim.Native.Nat.{_<_};
 ghost use lib.ListN.{length};
-ghost use Rattle.model.specs.Job.Node.{dagKept};
+ghost use Rattle.model.specs.Test.{_and_, all};
+ghost use Rattle.model.specs.Job.Node.{Dag, dagHolds};
 ghost use Rattle.model.specs.Job.Words.{dagOf};
 ghost use Rattle.model.specs.Machine.Limits.{paper};
-ghost use Rattle.model.specs.Machine.InUse.{tokensUsed, usedCells};
-ghost use Rattle.model.specs.Machine.Rules.{rulesKept};
-ghost use Rattle.model.specs.declared.token.Token.{Token};
-ghost use Rattle.rules.specs.Tokens.{StateThere, tokenKept};
-use crate::blank::other_cells_blank;
+ghost use Rattle.model.specs.Machine.Blank.{tokenAt, cellAt, tokenIsBlank, cellIsBlank};
+ghost use Rattle.model.specs.Machine.InUse.{tokensUsed, cellsUsed};
+ghost use Rattle.model.specs.Machine.Rules.{restIsBlank, rulesHold};
+ghost use Rattle.model.specs.declared.record.Machine.{Machine};
+ghost use Rattle.record.specs.Decode.{machineOf};
+ghost use Rattle.record.specs.Holds.{Codes};
+ghost use Rattle.rules.specs.Decoded.{Decoded};
+ghost use Rattle.rules.specs.Rules.{tokenRule, cellRule};
+use crate::blank::cell_is_blank;
 use crate::blank::token_is_blank;
-use crate::chain::chains_end;
+use crate::chain::chain_ends;
 use crate::chain::is_free;
-use crate::chain::names_cell;
-use crate::dag::words_kept;
-use crate::handles::handle_number;
 use crate::handles::handles_differ;
-use crate::marks::READY;
-use crate::marks::WAITING;
-use crate::marks::state_number;
 use crate::node::at_node;
-use crate::node::caller_place;
-use crate::order::names_once;
-use crate::range::cells_in_range;
+use crate::order::queue_holds;
+use crate::order::waits_hold;
 use crate::range::sizes_in_range;
 use crate::range::token_in_range;
+use crate::wide::wide;
+use coded::dag::dag_holds;
+use model::dag::WORDS;
 use model::record::Machine;
-use model::token::State;
-use model::token::Token;
+use record::cell::parent;
+use record::token::node;
 
-// The rules of one token that need neither the cells nor an order. `there` is the state of the token that its caller names.
-pub fn token_kept(token: Token, there: State, used: bool, calls: u32, dag: &[u32]) -> bool
-    requires { ⌜ (length (now dag) ≡ 12331) × (dagKept (dagOf (now dag)) ≡ true) ⌝ }
-    ensures { λ r. ⌜ ((ts : List Token) → length ts ≡ 64 → StateThere ts (token .caller) there → r ≡ tokenKept (dagOf (now (dag .entry))) calls ts used token) ⌝ }
+// The rules of one token. A blank one keeps them all.
+fn token_holds(w: &[u32; Machine::WORDS], p: usize, used: bool, dag: &[u32]) -> bool
+    requires { ⌜ (p < 64) × (length (now dag) ≡ 12331) × (dagHolds (dagOf (now dag)) ≡ true) ⌝ }
+    ensures { λ r. ⌜ ((m : Machine) → Decoded (now (w .entry)) m → r ≡ (tokenRule (dagOf (now (dag .entry))) m (tokenAt (m .tokens) p) and (used || tokenIsBlank (tokenAt (m .tokens) p)))) ⌝ }
 {
-    if !token_in_range(token, dag[0], calls) {
+    if !used {
+        return token_is_blank(w, p);
+    }
+    let at = node(w, p);
+    if dag[0] <= at {
         return false;
     }
-    (used | token_is_blank(token)) & at_node(token, there, dag)
+    token_in_range(w, p) & at_node(w, p, wide(at), dag) & is_free(w, p)
 }
 
-// "14: dag or machine record breaks an index rule." All tokens are tested in one pass, here: to hand the record on would copy it.
-pub fn rules_kept(
-    machine: Machine,
-    dag: &[u32; 12331],
-    used: [bool; Machine::TOKENS],
-    cells: [bool; Machine::CELLS],
-) -> bool
-    requires { ⌜ (used ≡ tokensUsed machine) × (cells ≡ usedCells used (machine .tokens) (machine .cells)) ⌝ }
-    ensures { λ r. ⌜ r ≡ rulesKept paper (dagOf (now (dag .entry))) machine ⌝ }
+fn tokens_hold(w: &[u32; Machine::WORDS], used: &[bool; Machine::TOKENS], dag: &[u32]) -> bool
+    requires { ⌜ (length (now dag) ≡ 12331) × (dagHolds (dagOf (now dag)) ≡ true) ⌝ }
+    ensures { λ r. ⌜ ((m : Machine) → Decoded (now (w .entry)) m → length (now (used .entry)) ≡ 64 → r ≡ (all (tokenRule (dagOf (now (dag .entry))) m) (m .tokens) and restIsBlank tokenIsBlank (now (used .entry)) (m .tokens))) ⌝ }
 {
-    if !words_kept(dag) {
+    let mut ok = true;
+    let mut i: usize = 0;
+    while i < Machine::TOKENS {
+        ok = ok & token_holds(w, i, used[i], dag);
+        i += 1;
+    }
+    ok
+}
+
+// The rules of one cell. A blank one keeps them all.
+fn cell_holds(w: &[u32; Machine::WORDS], c: usize, used: bool) -> bool
+    requires { ⌜ c < 32 ⌝ }
+    ensures { λ r. ⌜ ((d : Dag) (m : Machine) → Decoded (now (w .entry)) m → r ≡ (cellRule d (m .cells) (cellAt (m .cells) c) and (used || cellIsBlank (cellAt (m .cells) c)))) ⌝ }
+{
+    if !used {
+        return cell_is_blank(w, c);
+    }
+    let above = parent(w, c);
+    (above <= 32) & chain_ends(w, above)
+}
+
+fn cells_hold(w: &[u32; Machine::WORDS], used: &[bool; Machine::CELLS]) -> bool
+    ensures { λ r. ⌜ ((d : Dag) (m : Machine) → Decoded (now (w .entry)) m → length (now (used .entry)) ≡ 32 → r ≡ (all (cellRule d (m .cells)) (m .cells) and restIsBlank cellIsBlank (now (used .entry)) (m .cells))) ⌝ }
+{
+    let mut ok = true;
+    let mut i: usize = 0;
+    while i < Machine::CELLS {
+        ok = ok & cell_holds(w, i, used[i]);
+        i += 1;
+    }
+    ok
+}
+
+// "14: dag or machine record breaks an index rule." The marks say which tokens and cells are in use; of words that are no record's nothing
+// is said.
+pub fn rules_hold(
+    w: &[u32; Machine::WORDS],
+    dag: &[u32; WORDS],
+    tokens: &[bool; Machine::TOKENS],
+    cells: &[bool; Machine::CELLS],
+) -> bool
+    ensures { λ r. ⌜ (Codes (now (w .entry)) (machineOf (now (w .entry))) → now (tokens .entry) ≡ tokensUsed (machineOf (now (w .entry))) → now (cells .entry) ≡ cellsUsed (machineOf (now (w .entry))) → r ≡ rulesHold paper (dagOf (now (dag .entry))) (machineOf (now (w .entry)))) ⌝ }
+{
+    if !dag_holds(dag) {
         return false;
     }
-    let table = machine.cells;
-    let mut numbers = [0u8; Machine::TOKENS];
-    let mut handles = [0u32; Machine::TOKENS];
-    let mut ok = true;
-    let mut i = 0;
-    while i < Machine::TOKENS {
-        let token = machine.tokens[i];
-        let state = token.state;
-        let at = caller_place(token);
-        let named = machine.tokens[at];
-        let there = named.state;
-        numbers[i] = state_number(state);
-        handles[i] = handle_number(state);
-        ok = ok & token_kept(token, there, used[i], machine.calls, dag);
-        i += 1;
-        if names_cell(token) {
-            ok = ok & is_free(table, token);
-        }
-    }
-    let queue = machine.queue;
-    let waits = machine.waits;
-    let sizes = sizes_in_range(machine.calls, machine.newtoken, machine.newcell);
-    let tables = cells_in_range(table) & chains_end(table) & other_cells_blank(table, cells);
-    let queued = names_once(numbers, READY, queue, machine.queued);
-    let waited = names_once(numbers, WAITING, waits, machine.waiting);
-    ok & sizes & tables & queued & waited & handles_differ(numbers, handles)
+    let tables = tokens_hold(w, tokens, dag) & cells_hold(w, cells);
+    tables & sizes_in_range(w) & queue_holds(w) & waits_hold(w) & handles_differ(w)
 }

@@ -4,6 +4,7 @@ use libc::STDIN_FILENO;
 use libc::STDOUT_FILENO;
 use loader::table;
 use loader::table::Loaded;
+use model::dag::WORDS;
 ghost use Prim.Native.Nat.{_+_, _≤_};
 ghost use lib.ListN.{length};
 
@@ -25,7 +26,7 @@ fn wide(w: u32) -> usize {
 }
 
 // The words from one index to another, on a line.
-fn words(dag: &[u32; 12331], from: usize, to: usize)
+fn words(dag: &[u32; WORDS], from: usize, to: usize)
     requires { ⌜ to ≤ 12331 ⌝ }
 {
     let mut i = from;
@@ -37,7 +38,7 @@ fn words(dag: &[u32; 12331], from: usize, to: usize)
 }
 
 // The words of the head: three, and two for each definition.
-fn head(dag: &[u32; 12331]) {
+fn head(dag: &[u32; WORDS]) {
     let definitions = wide(dag[1]);
     if definitions <= 32 {
         text(b"head");
@@ -46,7 +47,7 @@ fn head(dag: &[u32; 12331]) {
 }
 
 // The words of so many nodes.
-fn rows(dag: &[u32; 12331], nodes: usize)
+fn rows(dag: &[u32; WORDS], nodes: usize)
     requires { ⌜ nodes ≤ 8 ⌝ }
 {
     let mut i = 0;
@@ -57,7 +58,7 @@ fn rows(dag: &[u32; 12331], nodes: usize)
     }
 }
 
-fn show(table: &[u8], dag: &mut [u32; 12331], whole: bool) {
+fn show(table: &[u8], dag: &mut [u32; WORDS], whole: bool) {
     let answer = table::load(table, dag);
     match answer {
         Loaded::Refused(n, e) => {
@@ -89,7 +90,7 @@ fn show_all(input: &[u8], n: usize)
     requires { ⌜ n ≤ length (now input) ⌝ }
     requires { ⌜ n ≤ 65536 ⌝ }
 {
-    let mut dag = [0u32; 12331];
+    let mut dag = [0u32; WORDS];
     let mut at = 0;
     let mut i: usize = 0;
     while at + 4 <= n {

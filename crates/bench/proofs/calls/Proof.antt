@@ -3,12 +3,18 @@ use Prim.Native.Nat.{_-_, _≤_}
 use borrow.Author.Needs.{needs}
 use Rattle.bench.proofs.calls.Statement.{statement}
 use Rattle.bench.proofs.calls.Tie as tie
+use Rattle.bench.proofs.calls.Reads as reads
+use Rattle.bench.proofs.calls.Lts as lts
+use Rattle.machine.proofs.answer.answer.Reads as answer-reads
+use Rattle.machine.proofs.start.start.Reads as start-reads
+use Rattle.machine.proofs.step.step.Reads as step-reads
+use Rattle.record.proofs.order.queued.Reads as queued-reads
 
 abbrev Inv-loop : tie.InvT-loop
-Inv-loop dag handles most machine₀ at₀ n₀ machine at n = n ≤ most
+Inv-loop words₀ dag handles most at₀ n₀ words at n = n ≤ most
 
 abbrev μ-loop : tie.MeasureT-loop
-μ-loop dag handles most machine₀ at₀ n₀ machine at n = most - n
+μ-loop words₀ dag handles most at₀ n₀ words at n = most - n
 
 start-requires : tie.Need-start-requires Inv-loop μ-loop
 start-requires c κs = search needs
@@ -16,20 +22,23 @@ start-requires c κs = search needs
 loop-holds : tie.Need-loop-holds Inv-loop μ-loop
 loop-holds c = search needs
 
-stepped-requires : tie.Need-stepped-requires Inv-loop μ-loop
-stepped-requires c κs = search needs
+queued-requires : tie.Need-queued-requires Inv-loop μ-loop
+queued-requires c κs = search needs
+
+step-requires : tie.Need-step-requires Inv-loop μ-loop
+step-requires c κs = search needs
 
 returns : tie.Need-returns Inv-loop μ-loop
 returns c = search needs
 
-mul-answered : tie.Need-mul-answered Inv-loop μ-loop
-mul-answered c = search needs
+mul-answer : tie.Need-mul-answer Inv-loop μ-loop
+mul-answer c = search needs
 
-shared-slice-read-answered : tie.Need-shared-slice-read-answered Inv-loop μ-loop
-shared-slice-read-answered c = search needs
+shared-slice-read-answer : tie.Need-shared-slice-read-answer Inv-loop μ-loop
+shared-slice-read-answer c = search needs
 
-answered-requires : tie.Need-answered-requires Inv-loop μ-loop
-answered-requires c κs = search needs
+answer-requires : tie.Need-answer-requires Inv-loop μ-loop
+answer-requires c κs = search needs
 
 add-at : tie.Need-add-at Inv-loop μ-loop
 add-at c = search needs
@@ -54,11 +63,12 @@ calls-spec =
     μ-loop
     start-requires
     loop-holds
-    stepped-requires
+    queued-requires
+    step-requires
     returns
-    mul-answered
-    shared-slice-read-answered
-    answered-requires
+    mul-answer
+    shared-slice-read-answer
+    answer-requires
     add-at
     add-n
     loop-less

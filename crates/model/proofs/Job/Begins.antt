@@ -7,7 +7,7 @@ use Prim.Native.Nat.{ℕ}
 use lib.ListN.{length}
 use Rattle.model.specs.Job.Syntax.{Program}
 use Rattle.model.specs.Job.WellFormed.{WellFormed}
-use Rattle.model.specs.Job.Node.{Dag, dagKept}
+use Rattle.model.specs.Job.Node.{Dag, dagHolds}
 use Rattle.model.specs.Job.Construct.{construct}
 use Rattle.model.specs.Job.Words.{arrayWords, dagOf, written}
 use Rattle.model.specs.Machine.Limits.{Limits}
@@ -21,7 +21,7 @@ use Rattle.model.proofs.Job.Decode.{decode-written}
 abbrev pub begun : Limits → ℕ → Outcome
 begun lim goal = record { reply = replies.Done; values = valuesBeside []; machine = startMachine lim goal }
 
-pub start-kept : (lim : Limits) (d : Dag) → dagKept d ≡ true → start lim d ≡ begun lim (d .goal)
+pub start-kept : (lim : Limits) (d : Dag) → dagHolds d ≡ true → start lim d ≡ begun lim (d .goal)
 unfolding start
 start-kept lim d e = rw (e, start)
 

@@ -14,7 +14,7 @@ use Rattle.model.specs.Test.{_and_, all, same}
 use Rattle.model.specs.Number.{Signed32, fits, signed, unsigned}
 use Rattle.model.specs.Site.{siteTakes}
 use Rattle.model.specs.Job.Syntax.{Param, variable, constant}
-use Rattle.model.specs.Job.Node.{Node, Body, Dag, paramKept, paramsKept, isNode, nodeKept, dagKept}
+use Rattle.model.specs.Job.Node.{Node, Body, Dag, paramHolds, paramsHold, isNode, nodeHolds, dagHolds}
 use Rattle.model.specs.Job.Words.{paramWords, nodeWords, paramOf, paramsFrom, nodeBy, nodeOf, nodesFrom, bodiesFrom, headWords, arrayWords, dagOf, rowsOf, bodyWords, written}
 use Rattle.model.proofs.Job.Laid.{Laid, laid, getD-sets-before, getD-sets-after}
 use Rattle.model.proofs.Job.Rules.{DagRules, dag-rules}
@@ -29,24 +29,24 @@ param-words-length (suc n) [] = omega (arith, param-words-length n [])
 param-words-length (suc n) (variable x ∷ ps) = omega (arith, param-words-length n ps)
 param-words-length (suc n) (constant v ∷ ps) = omega (arith, param-words-length n ps)
 
-params-back : (n : ℕ) (ps : List Param) → length ps ≤ n → all paramKept ps ≡ true → paramsFrom (length ps) (paramWords n ps) ≡ ps
-unfolding paramWords paramsFrom paramOf paramKept
+params-back : (n : ℕ) (ps : List Param) → length ps ≤ n → all paramHolds ps ≡ true → paramsFrom (length ps) (paramWords n ps) ≡ ps
+unfolding paramWords paramsFrom paramOf paramHolds
 params-back n [] l e = refl
 params-back zero (p ∷ ps) l e = absurd (omega arith)
-params-back (suc n) (variable x ∷ ps) l e = ap (λ qs. variable x ∷ qs) (params-back n ps (omega arith) (all-tail paramKept _ ps e))
+params-back (suc n) (variable x ∷ ps) l e = ap (λ qs. variable x ∷ qs) (params-back n ps (omega arith) (all-tail paramHolds _ ps e))
 params-back (suc n) (constant v ∷ ps) l e =
     ap₂ (λ w qs. constant w ∷ qs)
-    (signed-unsigned v (all-head paramKept (constant v) ps e))
-    (params-back n ps (omega arith) (all-tail paramKept (constant v) ps e))
+    (signed-unsigned v (all-head paramHolds (constant v) ps e))
+    (params-back n ps (omega arith) (all-tail paramHolds (constant v) ps e))
 
-kept-back : (ps : List Param) → paramsKept ps ≡ true → paramsFrom (length ps) (paramWords 4 ps) ≡ ps
-unfolding paramsKept
+kept-back : (ps : List Param) → paramsHold ps ≡ true → paramsFrom (length ps) (paramWords 4 ps) ≡ ps
+unfolding paramsHold
 kept-back ps e =
-    params-back 4 ps (leb-le (length ps) 4 (and-left _ (all paramKept ps) e)) (and-right (leb (length ps) 4) _ e)
+    params-back 4 ps (leb-le (length ps) 4 (and-left _ (all paramHolds ps) e)) (and-right (leb (length ps) 4) _ e)
 
 -- nodes
-pub node-words-length : (d : Dag) (n : Node) → nodeKept d n ≡ true → length (nodeWords n) ≡ 12
-unfolding nodeWords paramWords nodeKept
+pub node-words-length : (d : Dag) (n : Node) → nodeHolds d n ≡ true → length (nodeWords n) ≡ 12
+unfolding nodeWords paramWords nodeHolds
 node-words-length d Node.stop e = refl
 node-words-length d (Node.site s ps k) e = omega (arith, param-words-length 4 ps)
 node-words-length d (Node.call x ps k) e = omega (arith, param-words-length 4 ps)
@@ -59,15 +59,15 @@ node-words-length d Node.return e = refl
 node-words-length d Node.publish e = refl
 node-words-length d Node.unknown e = clash e refl
 
-node-by-words : (d : Dag) (n : Node) → nodeKept d n ≡ true → nodeBy (nodeWords n) ≡ n
-unfolding nodeWords nodeBy nodeKept
+node-by-words : (d : Dag) (n : Node) → nodeHolds d n ≡ true → nodeBy (nodeWords n) ≡ n
+unfolding nodeWords nodeBy nodeHolds
 node-by-words d Node.stop e = refl
 node-by-words d (Node.site s ps k) e =
     ap (λ qs. Node.site s qs k)
-    (kept-back ps (and-left (paramsKept ps) (isNode d k) (and-right (siteTakes s (length ps)) (paramsKept ps and isNode d k) e)))
+    (kept-back ps (and-left (paramsHold ps) (isNode d k) (and-right (siteTakes s (length ps)) (paramsHold ps and isNode d k) e)))
 node-by-words d (Node.call x ps k) e =
     ap (λ qs. Node.call x qs k)
-    (kept-back ps (and-left (paramsKept ps) (isNode d k) (and-right (ltb x (length (d .bodies))) (paramsKept ps and isNode d k) e)))
+    (kept-back ps (and-left (paramsHold ps) (isNode d k) (and-right (ltb x (length (d .bodies))) (paramsHold ps and isNode d k) e)))
 node-by-words d (Node.fork l r) e = refl
 node-by-words d (Node.assign x k) e = refl
 node-by-words d (Node.remove x k) e = refl
@@ -77,30 +77,30 @@ node-by-words d Node.return e = refl
 node-by-words d Node.publish e = refl
 node-by-words d Node.unknown e = clash e refl
 
-pub node-back : (d : Dag) (n : Node) → nodeKept d n ≡ true → nodeOf (nodeWords n) ≡ n
+pub node-back : (d : Dag) (n : Node) → nodeHolds d n ≡ true → nodeOf (nodeWords n) ≡ n
 unfolding nodeOf
 node-back d n e =
     let by : nodeBy (nodeWords n) ≡ n = node-by-words d n e in
     let words : same (nodeWords n) (nodeWords (nodeBy (nodeWords n))) ≡ true = rw by (same-refl (nodeWords n)) in
     rw (words, nodeOf) by
 
-pub rows-length : (d : Dag) (ns : List Node) → all (nodeKept d) ns ≡ true → length (rowsOf ns) ≡ 12 * length ns
+pub rows-length : (d : Dag) (ns : List Node) → all (nodeHolds d) ns ≡ true → length (rowsOf ns) ≡ 12 * length ns
 unfolding rowsOf
 rows-length d [] e = refl
 rows-length d (n ∷ ns) e =
-    let row = node-words-length d n (all-head (nodeKept d) n ns e) in
-    let rest = rows-length d ns (all-tail (nodeKept d) n ns e) in
+    let row = node-words-length d n (all-head (nodeHolds d) n ns e) in
+    let rest = rows-length d ns (all-tail (nodeHolds d) n ns e) in
     simp length-append (omega arith)
 
-pub rows-back : (d : Dag) (ns : List Node) (rest : List ℕ) → all (nodeKept d) ns ≡ true → nodesFrom (length ns) (rowsOf ns ++ rest) ≡ ns
+pub rows-back : (d : Dag) (ns : List Node) (rest : List ℕ) → all (nodeHolds d) ns ≡ true → nodesFrom (length ns) (rowsOf ns ++ rest) ≡ ns
 unfolding rowsOf nodesFrom
 rows-back d [] rest e = refl
 rows-back d (n ∷ ns) rest e =
-    let kept = all-head (nodeKept d) n ns e in
+    let kept = all-head (nodeHolds d) n ns e in
     let row = node-words-length d n kept in
     let others = rowsOf ns ++ rest in
     rw (append-assoc (nodeWords n) (rowsOf ns) rest, take-at (nodeWords n) others 12 row, drop-at (nodeWords n) others 12 row)
-    (ap₂ (λ m ms. m ∷ ms) (node-back d n kept) (rows-back d ns rest (all-tail (nodeKept d) n ns e)))
+    (ap₂ (λ m ms. m ∷ ms) (node-back d n kept) (rows-back d ns rest (all-tail (nodeHolds d) n ns e)))
 
 -- bodies
 pub body-words-length : (bs : List Body) → length (bodyWords bs) ≡ 2 * length bs
@@ -122,7 +122,7 @@ unfolding headOf
 head-length d = omega (arith, body-words-length (d .bodies))
 
 -- the dag that words laid out so hold
-laid-back : (d : Dag) {ws : List ℕ} → all (nodeKept d) (d .nodes) ≡ true → Laid (headOf d) (rowsOf (d .nodes)) ws headWords → dagOf ws ≡ d
+laid-back : (d : Dag) {ws : List ℕ} → all (nodeHolds d) (d .nodes) ≡ true → Laid (headOf d) (rowsOf (d .nodes)) ws headWords → dagOf ws ≡ d
 unfolding dagOf headOf
 laid-back d {ws} e r =
     let rest = rowsOf (d .nodes) ++ r .after in
@@ -139,7 +139,7 @@ unfolding written headOf
 written-length d ws = length-sets (sets ws 0 (headOf d)) headWords (rowsOf (d .nodes)) ∙ length-sets ws 0 (headOf d)
 
 -- decoding gives back what was written
-pub decode-written : (d : Dag) (ws : List ℕ) → dagKept d ≡ true → length ws ≡ arrayWords → dagOf (written d ws) ≡ d
+pub decode-written : (d : Dag) (ws : List ℕ) → dagHolds d ≡ true → length ws ≡ arrayWords → dagOf (written d ws) ≡ d
 unfolding written headOf
 decode-written d ws e l =
     let rules = dag-rules d e in
@@ -151,7 +151,7 @@ decode-written d ws e l =
 abbrev pub Outside : Dag → ℕ → Type 0
 Outside d i = ((3 + 2 * length (d .bodies) ≤ i) × (i < headWords)) ⊎ (headWords + 12 * length (d .nodes) ≤ i)
 
-pub written-outside : (d : Dag) (ws : List ℕ) (i : ℕ) → dagKept d ≡ true → Outside d i → getD (written d ws) i 0 ≡ getD ws i 0
+pub written-outside : (d : Dag) (ws : List ℕ) (i : ℕ) → dagHolds d ≡ true → Outside d i → getD (written d ws) i 0 ≡ getD ws i 0
 unfolding written headOf
 written-outside d ws i e h = rows h ∙ getD-sets-after (headOf d) ws 0 i 0 (head h)
   where

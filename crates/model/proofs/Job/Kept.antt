@@ -12,7 +12,7 @@ use Rattle.model.specs.Test.{_and_, all, All, none, more}
 use Rattle.model.specs.Site.{counts, builtins, isBuiltin, isOutside, siteTakes}
 use Rattle.model.specs.Job.Syntax.{Param, Join, Exp, Definition, Program, formalsOf, levels, scopeLeft, scopeRight}
 use Rattle.model.specs.Job.WellFormed.{GoodParam, SiteTakes, Binds, Good, GoodDefinition, WellFormed}
-use Rattle.model.specs.Job.Node.{Node, Dag, paramKept, paramsKept, isNode, nodeKept, bodyKept, dagKept}
+use Rattle.model.specs.Job.Node.{Node, Dag, paramHolds, paramsHold, isNode, nodeHolds, bodyHolds, dagHolds}
 use Rattle.model.specs.Job.Construct.{own, size, root, ownNodes, nodesOf, nextLeft, nextRight, constructFrom, construct}
 use Rattle.model.proofs.Test.{eq-eqb, lt-ltb, le-leb, leb-le, and-both, or-left, or-right, all-nil, all-cons, all-append, all-at, All-all, All-map}
 use Rattle.model.proofs.All.{All-member, All-at}
@@ -41,14 +41,14 @@ root-below (Exp.join (Join.seq x) f g) n = omega (arith, root-below f (n + 2))
 root-below (Exp.join (Join.prune x) f g) n = omega arith
 
 -- parameters
-param-kept : {scope : List ℕ} → Slots scope → (q : Param) → GoodParam scope q → paramKept q ≡ true
-unfolding paramKept
+param-kept : {scope : List ℕ} → Slots scope → (q : Param) → GoodParam scope q → paramHolds q ≡ true
+unfolding paramHolds
 param-kept s (Param.variable x) (GoodParam.variable m) = lt-ltb x 8 (All-member s m)
 param-kept s (Param.constant v) (GoodParam.constant f) = f
 
-params-kept : {scope : List ℕ} → Slots scope → (ps : List Param) → length ps ≤ 4 → All (GoodParam scope) ps → paramsKept ps ≡ true
-unfolding paramsKept
-params-kept s ps l a = and-both (le-leb (length ps) 4 l) (All-all paramKept ps (All-map (param-kept s) a))
+params-kept : {scope : List ℕ} → Slots scope → (ps : List Param) → length ps ≤ 4 → All (GoodParam scope) ps → paramsHold ps ≡ true
+unfolding paramsHold
+params-kept s ps l a = and-both (le-leb (length ps) 4 l) (All-all paramHolds ps (All-map (param-kept s) a))
 
 -- the nodes that the operands of a join go toward
 next-left : (j : Join) (n k m : ℕ) → n + own j ≤ m → k < m → nextLeft j n k < m
@@ -68,26 +68,26 @@ module _ (d : Dag) (formals : List ℕ) (counted : length formals ≡ length (d 
   unfolding isNode
   is-node k l = lt-ltb k (length (d .nodes)) l
 
-  only-kept : (x : Node) → nodeKept d x ≡ true → all (nodeKept d) (x ∷ []) ≡ true
-  only-kept x e = all-cons (nodeKept d) x [] e (all-nil (nodeKept d))
+  only-kept : (x : Node) → nodeHolds d x ≡ true → all (nodeHolds d) (x ∷ []) ≡ true
+  only-kept x e = all-cons (nodeHolds d) x [] e (all-nil (nodeHolds d))
 
   -- the nodes that a join makes itself
   own-kept : {scope : List ℕ} {j : Join} → Binds scope j → (l r k : ℕ)
-      → l < length (d .nodes) → r < length (d .nodes) → k < length (d .nodes) → all (nodeKept d) (ownNodes j l r k) ≡ true
-  unfolding ownNodes nodeKept
+      → l < length (d .nodes) → r < length (d .nodes) → k < length (d .nodes) → all (nodeHolds d) (ownNodes j l r k) ≡ true
+  unfolding ownNodes nodeHolds
   own-kept Binds.par l r k hl hr hk = only-kept _ (and-both (is-node l hl) (is-node r hr))
   own-kept {scope} (Binds.seq b) l r k hl hr hk =
       let slot = lt-ltb (length scope) 8 b in
-      all-cons (nodeKept d) _ _ (and-both slot (is-node r hr)) (only-kept _ (and-both slot (is-node k hk)))
+      all-cons (nodeHolds d) _ _ (and-both slot (is-node r hr)) (only-kept _ (and-both slot (is-node k hk)))
   own-kept {scope} (Binds.prune b) l r k hl hr hk =
       let slot = lt-ltb (length scope) 8 b in
-      all-cons (nodeKept d) _ _ (and-both slot (and-both (is-node l hl) (is-node r hr)))
-      (all-cons (nodeKept d) _ _ (and-both slot (is-node k hk)) (only-kept _ refl))
+      all-cons (nodeHolds d) _ _ (and-both slot (and-both (is-node l hl) (is-node r hr)))
+      (all-cons (nodeHolds d) _ _ (and-both slot (is-node k hk)) (only-kept _ refl))
 
   -- the nodes of an expression, numbered from n, toward k
   nodes-kept : {left : ℕ} {scope : List ℕ} {e : Exp} → Good formals left scope e → Slots scope → (n k : ℕ)
-      → k < length (d .nodes) → n + size e ≤ length (d .nodes) → all (nodeKept d) (nodesOf e n k) ≡ true
-  unfolding nodesOf nodeKept size
+      → k < length (d .nodes) → n + size e ≤ length (d .nodes) → all (nodeHolds d) (nodesOf e n k) ≡ true
+  unfolding nodesOf nodeHolds size
   nodes-kept Good.stop s n k hk fit = only-kept _ refl
   nodes-kept (Good.site {s = x} {ps = ps} t a) s n k hk fit =
       only-kept _ (and-both (takes-site t) (and-both (params-kept s ps (site-few t) a) (is-node k hk)))
@@ -102,33 +102,33 @@ module _ (d : Dag) (formals : List ℕ) (counted : length formals ≡ length (d 
       let o = own-kept b (root f first) (root g second) k (omega (arith, root-below f first)) (omega (arith, root-below g second)) hk in
       let l = nodes-kept gf (left-slots b s) first (nextLeft j n k) (next-left j n k m (omega arith) hk) (omega arith) in
       let r = nodes-kept gg (right-slots b s) second (nextRight j n k) (next-right j n k m (omega arith) hk) (omega arith) in
-      all-append (nodeKept d) _ _ (all-append (nodeKept d) _ _ o l) r
+      all-append (nodeHolds d) _ _ (all-append (nodeHolds d) _ _ o l) r
 
   -- the nodes of definitions and a goal, numbered from n
   program-kept : {ds : List Definition} {g : Exp} → All (GoodDefinition formals) ds → Good formals 24 [] g → (n : ℕ)
-      → n + length (constructFrom n ds g .nodes) ≤ length (d .nodes) → all (nodeKept d) (constructFrom n ds g .nodes) ≡ true
-  unfolding constructFrom nodeKept
+      → n + length (constructFrom n ds g .nodes) ≤ length (d .nodes) → all (nodeHolds d) (constructFrom n ds g .nodes) ≡ true
+  unfolding constructFrom nodeHolds
   program-kept {g = g} none gg n fit =
       let sink = n + size g in
       let whole = nodes-append-length g n sink (Node.publish ∷ []) in
-      all-append (nodeKept d) _ _ (nodes-kept gg none n sink (omega arith) (omega arith)) (only-kept _ refl)
+      all-append (nodeHolds d) _ _ (nodes-kept gg none n sink (omega arith) (omega arith)) (only-kept _ refl)
   program-kept {g = g} (more {x = x} {xs = xs} h hs) gg n fit =
       let sink = n + size (x .body) in
       let rest = constructFrom (suc sink) xs g .nodes in
       let whole = nodes-append-length (x .body) n sink (Node.return ∷ rest) in
       let slots = levels-slots (x .formals) (omega (arith, h .count)) in
-      all-append (nodeKept d) _ _ (nodes-kept (h .body) slots n sink (omega arith) (omega arith))
-      (all-cons (nodeKept d) _ _ refl (program-kept hs gg (suc sink) (omega arith)))
+      all-append (nodeHolds d) _ _ (nodes-kept (h .body) slots n sink (omega arith) (omega arith))
+      (all-cons (nodeHolds d) _ _ refl (program-kept hs gg (suc sink) (omega arith)))
 
   bodies-kept : {ds : List Definition} (g : Exp) → All (GoodDefinition formals) ds → (n : ℕ)
-      → n + length (constructFrom n ds g .nodes) ≤ length (d .nodes) → all (bodyKept d) (constructFrom n ds g .bodies) ≡ true
-  unfolding constructFrom bodyKept
-  bodies-kept g none n fit = all-nil (bodyKept d)
+      → n + length (constructFrom n ds g .nodes) ≤ length (d .nodes) → all (bodyHolds d) (constructFrom n ds g .bodies) ≡ true
+  unfolding constructFrom bodyHolds
+  bodies-kept g none n fit = all-nil (bodyHolds d)
   bodies-kept g (more {x = x} {xs = xs} h hs) n fit =
       let sink = n + size (x .body) in
       let rest = constructFrom (suc sink) xs g .nodes in
       let whole = nodes-append-length (x .body) n sink (Node.return ∷ rest) in
-      all-cons (bodyKept d) _ _
+      all-cons (bodyHolds d) _ _
       (and-both (is-node (root (x .body) n) (omega (arith, root-below (x .body) n))) (le-leb (x .formals) 4 (h .count)))
       (bodies-kept g hs (suc sink) (omega arith))
 
@@ -167,5 +167,5 @@ construct-rules p w =
       nodes = program-kept d formals counted few (w .bodies) (w .goal) 0 (omega arith);
     }
 
-pub construct-kept : (p : Program) → WellFormed p → dagKept (construct p) ≡ true
+pub construct-kept : (p : Program) → WellFormed p → dagHolds (construct p) ≡ true
 construct-kept p w = rules-dag (construct p) (construct-rules p w)

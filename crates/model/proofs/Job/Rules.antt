@@ -5,24 +5,24 @@ use Prim.Native.Nat.{ℕ, _≤_, _<_}
 use lib.ListN.{length}
 use lib.Dec.{leb}
 use Rattle.model.specs.Test.{_and_, all}
-use Rattle.model.specs.Job.Node.{Node, Dag, nodeAt, bodyAt, isNode, nodeKept, bodyKept, dagKept}
+use Rattle.model.specs.Job.Node.{Node, Dag, nodeAt, bodyAt, isNode, nodeHolds, bodyHolds, dagHolds}
 use Rattle.model.proofs.Test.{lt-ltb, ltb-lt, le-leb, leb-le, and-left, and-right, and-both, all-at}
 
 pub record DagRules (d : Dag) : Type 0 where
   pub nodes-few : length (d .nodes) ≤ 1022
   pub bodies-few : length (d .bodies) ≤ 32
   pub goal : d .goal < length (d .nodes)
-  pub bodies : all (bodyKept d) (d .bodies) ≡ true
-  pub nodes : all (nodeKept d) (d .nodes) ≡ true
+  pub bodies : all (bodyHolds d) (d .bodies) ≡ true
+  pub nodes : all (nodeHolds d) (d .nodes) ≡ true
 
-pub dag-rules : (d : Dag) → dagKept d ≡ true → DagRules d
-unfolding dagKept isNode
+pub dag-rules : (d : Dag) → dagHolds d ≡ true → DagRules d
+unfolding dagHolds isNode
 dag-rules d e =
     let ns = leb (length (d .nodes)) 1022 in
     let bs = leb (length (d .bodies)) 32 in
     let g = isNode d (d .goal) in
-    let bodies = all (bodyKept d) (d .bodies) in
-    let nodes = all (nodeKept d) (d .nodes) in
+    let bodies = all (bodyHolds d) (d .bodies) in
+    let nodes = all (nodeHolds d) (d .nodes) in
     let e₁ = and-right ns (bs and g and bodies and nodes) e in
     let e₂ = and-right bs (g and bodies and nodes) e₁ in
     let e₃ = and-right g (bodies and nodes) e₂ in
@@ -34,17 +34,17 @@ dag-rules d e =
       nodes = and-right bodies nodes e₃;
     }
 
-pub rules-dag : (d : Dag) → DagRules d → dagKept d ≡ true
-unfolding dagKept isNode
+pub rules-dag : (d : Dag) → DagRules d → dagHolds d ≡ true
+unfolding dagHolds isNode
 rules-dag d r =
     and-both (le-leb (length (d .nodes)) 1022 (r .nodes-few))
     (and-both (le-leb (length (d .bodies)) 32 (r .bodies-few))
     (and-both (lt-ltb (d .goal) (length (d .nodes)) (r .goal)) (and-both (r .bodies) (r .nodes))))
 
-pub node-rules : (d : Dag) (i : ℕ) → dagKept d ≡ true → i < length (d .nodes) → nodeKept d (nodeAt d i) ≡ true
+pub node-rules : (d : Dag) (i : ℕ) → dagHolds d ≡ true → i < length (d .nodes) → nodeHolds d (nodeAt d i) ≡ true
 unfolding nodeAt
-node-rules d i e l = all-at (nodeKept d) (d .nodes) i Node.unknown (dag-rules d e .nodes) l
+node-rules d i e l = all-at (nodeHolds d) (d .nodes) i Node.unknown (dag-rules d e .nodes) l
 
-pub body-rules : (d : Dag) (i : ℕ) → dagKept d ≡ true → i < length (d .bodies) → bodyKept d (bodyAt d i) ≡ true
+pub body-rules : (d : Dag) (i : ℕ) → dagHolds d ≡ true → i < length (d .bodies) → bodyHolds d (bodyAt d i) ≡ true
 unfolding bodyAt
-body-rules d i e l = all-at (bodyKept d) (d .bodies) i (record { root = 0; formals = 0 }) (dag-rules d e .bodies) l
+body-rules d i e l = all-at (bodyHolds d) (d .bodies) i (record { root = 0; formals = 0 }) (dag-rules d e .bodies) l

@@ -12,7 +12,7 @@ use Rattle.model.specs.Test.{all, All, filter}
 use Rattle.model.specs.Number.{Signed32}
 use Rattle.model.specs.Site.{Said, isBuiltin, builtin}
 use Rattle.model.specs.Job.Syntax.{Param}
-use Rattle.model.specs.Job.Node.{Node, Dag, nodeAt, bodyAt, paramKept, paramsKept, isNode, nodeKept, bodyKept, dagKept}
+use Rattle.model.specs.Job.Node.{Node, Dag, nodeAt, bodyAt, paramHolds, paramsHold, isNode, nodeHolds, bodyHolds, dagHolds}
 use Rattle.model.specs.Machine.Limits.{Limits}
 use Rattle.model.specs.Machine.Blank.{blankToken, tokenAt, cellAt, slotAt}
 use Rattle.model.specs.Machine.Active.{upward, within, isLive}
@@ -112,8 +112,8 @@ module _ (lim : Limits) (d : Dag) (m : Machine) (F : Facts lim d m) (some : 0 < 
         tokenPlaces = length-set (m .tokens) p u ∙ F .tokenPlaces;
         cellPlaces = F .cellPlaces;
         calls = F .calls;
-        newtoken = F .newtoken;
-        newcell = F .newcell;
+        lasttoken = F .lasttoken;
+        lastcell = F .lastcell;
         queue = queue ++ (p ∷ []);
         waits = waits;
         orders = orders-enqueue (orders-put begun p u) p;
@@ -133,8 +133,8 @@ module _ (lim : Limits) (d : Dag) (m : Machine) (F : Facts lim d m) (some : 0 < 
         tokenPlaces = length-set (m .tokens) p blankToken ∙ F .tokenPlaces;
         cellPlaces = F .cellPlaces;
         calls = F .calls;
-        newtoken = F .newtoken;
-        newcell = F .newcell;
+        lasttoken = F .lasttoken;
+        lastcell = F .lastcell;
         queue = queue;
         waits = waits;
         orders = orders-put begun p blankToken;
@@ -171,34 +171,34 @@ module _ (lim : Limits) (d : Dag) (m : Machine) (F : Facts lim d m) (some : 0 < 
     two {u} {w} a i b j = tables-write (tables-write (F .tables) p u inside a i) q w (beside u) b j
 
     forked : (l r : ℕ) → l < length (d .nodes) → r < length (d .nodes) → Keeps (Step.forked at p acting q l r)
-    unfolding After Step.forked Step.enqueue Step.newToken Step.put Step.withTables withOrders Step.withCounts Step.to
+    unfolding After Step.forked Step.enqueue Step.newToken Step.put Step.withTables withOrders Step.withCounts Step.withNode
     forked l r il ir =
         let s = ready-idle (taken-ready T) in
         record {
           tokenPlaces = sizes _ _;
           cellPlaces = F .cellPlaces;
           calls = F .calls;
-          newtoken = given;
-          newcell = F .newcell;
+          lasttoken = given;
+          lastcell = F .lastcell;
           queue = (queue ++ (p ∷ [])) ++ (q ∷ []);
           waits = waits;
-          orders = orders-enqueue (orders-enqueue (orders-token (orders-put begun p (Step.to l acting)) q (Step.to r acting)) p) q;
-          lines = second (Step.to l acting) (Step.to r acting) (taken-ready T) (lines-back T (Step.to l acting) (taken-ready T));
+          orders = orders-enqueue (orders-enqueue (orders-token (orders-put begun p (Step.withNode l acting)) q (Step.withNode r acting)) p) q;
+          lines = second (Step.withNode l acting) (Step.withNode r acting) (taken-ready T) (lines-back T (Step.withNode l acting) (taken-ready T));
           tables = two (ahead l il refl refl refl s) s (ahead r ir refl refl refl s) s;
         }
 
-    entered : (root : ℕ) (ps : List Param) (k : ℕ) → root < length (d .nodes) → all paramKept ps ≡ true → k < length (d .nodes)
+    entered : (root : ℕ) (ps : List Param) (k : ℕ) → root < length (d .nodes) → all paramHolds ps ≡ true → k < length (d .nodes)
         → Keeps (Step.entered at p acting q root ps k)
     unfolding
-        After Step.entered Step.enqueue Step.newToken Step.put Step.withTables withOrders Step.withCounts Step.to Step.being
+        After Step.entered Step.enqueue Step.newToken Step.put Step.withTables withOrders Step.withCounts Step.withNode Step.withState
         isReady isWaiting heldInRange
     entered root ps k ir kept ik =
         record {
           tokenPlaces = sizes _ _;
           cellPlaces = F .cellPlaces;
           calls = F .calls;
-          newtoken = given;
-          newcell = F .newcell;
+          lasttoken = given;
+          lastcell = F .lastcell;
           queue = queue ++ (q ∷ []);
           waits = waits;
           orders = orders-enqueue (orders-token (orders-put begun p frame) q callee) q;
@@ -209,7 +209,7 @@ module _ (lim : Limits) (d : Dag) (m : Machine) (F : Facts lim d m) (some : 0 < 
         }
       where
         frame : Token
-        frame = Step.to k (Step.being states.Frame acting)
+        frame = Step.withNode k (Step.withState states.Frame acting)
 
         callee : Token
         callee =
@@ -224,15 +224,15 @@ module _ (lim : Limits) (d : Dag) (m : Machine) (F : Facts lim d m) (some : 0 < 
 
     split : (c x l r : ℕ) → c < length (m .cells) → l < length (d .nodes) → r < length (d .nodes) → Keeps (Step.split at p acting q c x l r)
     unfolding
-        After Step.split Step.enqueue Step.newToken Step.newCell Step.put Step.withTables withOrders Step.withCounts Step.to Step.inCell Step.binding
+        After Step.split Step.enqueue Step.newToken Step.newCell Step.put Step.withTables withOrders Step.withCounts Step.withNode Step.inCell Step.withBinding
     split c x l r ic il ir =
         let s = ready-idle (taken-ready T) in
         record {
           tokenPlaces = sizes _ _;
           cellPlaces = length-set (m .cells) c own ∙ F .cellPlaces;
           calls = F .calls;
-          newtoken = given;
-          newcell = let z = F .cellPlaces in omega arith;
+          lasttoken = given;
+          lastcell = let z = F .cellPlaces in omega arith;
           queue = (queue ++ (p ∷ [])) ++ (q ∷ []);
           waits = waits;
           orders = orders-enqueue (orders-enqueue (orders-cell (orders-token (orders-put begun p left) q right) c own) p) q;
@@ -247,24 +247,24 @@ module _ (lim : Limits) (d : Dag) (m : Machine) (F : Facts lim d m) (some : 0 < 
         }
       where
         left : Token
-        left = Step.to l (Step.binding x (slots.Cell c) acting)
+        left = Step.withNode l (Step.withBinding x (slots.Cell c) acting)
 
         right : Token
-        right = Step.inCell c (Step.to r acting)
+        right = Step.inCell c (Step.withNode r acting)
 
         own : Cell
         own = record { parent = acting .cell; value = helds.Nothing }
 
   -- site calls
   waited : (c : ℕ) → Awaits d (m .cells) acting c → Keeps (Step.waited at p acting c)
-  unfolding After Step.waited Step.put Step.withTables withOrders Step.being
+  unfolding After Step.waited Step.put Step.withTables withOrders Step.withState
   waited c b =
       record {
         tokenPlaces = length-set (m .tokens) p u ∙ F .tokenPlaces;
         cellPlaces = F .cellPlaces;
         calls = F .calls;
-        newtoken = F .newtoken;
-        newcell = F .newcell;
+        lasttoken = F .lasttoken;
+        lastcell = F .lastcell;
         queue = queueOf at;
         waits = waitsOf at ++ (p ∷ []);
         orders = orders-with (queueOf at) (waitsOf at ++ (p ∷ [])) (Step.put p u at);
@@ -283,22 +283,22 @@ module _ (lim : Limits) (d : Dag) (m : Machine) (F : Facts lim d m) (some : 0 < 
       }
     where
       u : Token
-      u = Step.being (states.Waiting c) acting
+      u = Step.withState (states.Waiting c) acting
 
   replied : (k : ℕ) → k < length (d .nodes) → {s : Said} → SaidFits s → Keeps (Step.replied at p acting k s)
-  unfolding After Step.replied Step.to Step.holding heldInRange
+  unfolding After Step.replied Step.withNode Step.withValue heldInRange
   replied k l (said e) = goes-on _ (going l e (was .binds) (ready-idle (taken-ready T))) (taken-ready T)
   replied k l nothing = ended
 
   calledOut : (s : ℕ) (vs : List ℤ) (k : ℕ) → m .calls < lim .calls → k < length (d .nodes) → Keeps (Step.calledOut at p acting s vs k)
-  unfolding After Step.calledOut Step.put Step.withTables withOrders Step.withCounts Step.to Step.being isReady isWaiting
+  unfolding After Step.calledOut Step.put Step.withTables withOrders Step.withCounts Step.withNode Step.withState isReady isWaiting
   calledOut s vs k few l =
       record {
         tokenPlaces = length-set (m .tokens) p u ∙ F .tokenPlaces;
         cellPlaces = F .cellPlaces;
         calls = omega arith;
-        newtoken = F .newtoken;
-        newcell = F .newcell;
+        lasttoken = F .lasttoken;
+        lastcell = F .lastcell;
         queue = queue;
         waits = waits;
         orders = orders-counts (orders-put begun p u) _ _ _;
@@ -315,12 +315,12 @@ module _ (lim : Limits) (d : Dag) (m : Machine) (F : Facts lim d m) (some : 0 < 
       }
     where
       u : Token
-      u = Step.to k (Step.being (states.Called (m .calls)) acting)
+      u = Step.withNode k (Step.withState (states.Called (m .calls)) acting)
 
   -- "the first unset cell makes the token wait there"
   module _ (named : (x c : ℕ) → slotAt (acting .binds) x ≡ slots.Cell c → c < length (m .cells))
       (s : ℕ) (ps : List Param) (k : ℕ) (node : nodeAt d (acting .node) ≡ Node.site s ps k)
-      (kept : all paramKept ps ≡ true) (next : k < length (d .nodes)) where
+      (kept : all paramHolds ps ≡ true) (next : k < length (d .nodes)) where
     called : (vs : List ℤ) → All Signed32 vs → (b : Bool)
         → Keeps
         (elim b [
@@ -353,7 +353,7 @@ module _ (lim : Limits) (d : Dag) (m : Machine) (F : Facts lim d m) (some : 0 < 
     looked = callSite _ refl (look-fits (m .cells) (acting .binds) (was .binds) (F .tables .cells) ps kept)
 
   returned : (f : Place) → Keeps (Step.returned at p acting f)
-  unfolding After Step.returned withOrders Step.being Step.holding
+  unfolding After Step.returned withOrders Step.withState Step.withValue
   returned places.Nowhere = tt
   returned (places.At f) =
       let fr = F .tables .tokens f in goes-on _ (going (fr .node) (was .value) (fr .binds) Idle.ready) refl
@@ -366,8 +366,8 @@ module _ (lim : Limits) (d : Dag) (m : Machine) (F : Facts lim d m) (some : 0 < 
         tokenPlaces = length-map (m .tokens) (chokeToken (m .cells) c) ∙ F .tokenPlaces;
         cellPlaces = length-set (m .cells) c k ∙ F .cellPlaces;
         calls = F .calls;
-        newtoken = F .newtoken;
-        newcell = F .newcell;
+        lasttoken = F .lasttoken;
+        lastcell = F .lastcell;
         queue = readyOf (queueOf at ++ waitsOf at);
         waits = waitingOf (waitsOf at);
         orders = orders-with _ _ (Step.withTables ts (set (m .cells) c k) at);
@@ -391,7 +391,7 @@ module _ (lim : Limits) (d : Dag) (m : Machine) (F : Facts lim d m) (some : 0 < 
       k = record { parent = cellAt (m .cells) c .parent; value = acting .value }
 
   -- what the node at which the token stands does
-  module _ (dag : dagKept d ≡ true)
+  module _ (dag : dagHolds d ≡ true)
       (named : (x c : ℕ) → slotAt (acting .binds) x ≡ slots.Cell c → c < length (m .cells))
       (own : (c : ℕ) → acting .cell ≡ places.At c → c < length (m .cells))
       (token : hasTokenPlace lim d m ≡ true → Vacant m (tokenPlace lim d m))
@@ -400,16 +400,16 @@ module _ (lim : Limits) (d : Dag) (m : Machine) (F : Facts lim d m) (some : 0 < 
     unfolding isNode
     node-inside k e = ltb-lt k (length (d .nodes)) e
 
-    params : (ps : List Param) → paramsKept ps ≡ true → all paramKept ps ≡ true
-    unfolding paramsKept
+    params : (ps : List Param) → paramsHold ps ≡ true → all paramHolds ps ≡ true
+    unfolding paramsHold
     params ps e = and-right _ _ e
 
     body : (e : ℕ) → ltb e (length (d .bodies)) ≡ true → bodyAt d e .root < length (d .nodes)
-    unfolding bodyKept
+    unfolding bodyHolds
     body e l = node-inside (bodyAt d e .root) (and-left _ _ (body-rules d e dag (ltb-lt e (length (d .bodies)) l)))
 
-    pub acted : (N : Node) → nodeAt d (acting .node) ≡ N → nodeKept d N ≡ true → Keeps (act lim d m at p acting N)
-    unfolding After act nodeKept Step.to Step.binding withOrders
+    pub acted : (N : Node) → nodeAt d (acting .node) ≡ N → nodeHolds d N ≡ true → Keeps (act lim d m at p acting N)
+    unfolding After act nodeHolds Step.withNode Step.withBinding withOrders
     acted Node.stop e k = ended
     acted Node.publish e k = ended
     acted (Node.fork l r) e k =

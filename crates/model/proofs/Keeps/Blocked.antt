@@ -4,7 +4,7 @@ use mathlib.Core.Path.{_≡_, ap, subst}
 use mathlib.Core.Bool.{true, false}
 use Prim.Native.Nat.{ℕ, suc, _<_}
 use lib.ListN.{length}
-use Rattle.model.specs.Job.Node.{Dag, nodeAt, dagKept}
+use Rattle.model.specs.Job.Node.{Dag, nodeAt, dagHolds}
 use Rattle.model.specs.Machine.Limits.{Limits}
 use Rattle.model.specs.Machine.Blank.{blankToken, tokenAt, isBlankState}
 use Rattle.model.specs.Machine.Active.{isLive}
@@ -30,7 +30,7 @@ use Rattle.model.proofs.Keeps.Reached.{Reached, Roomy, reached-rules}
 use Rattle.model.proofs.Keeps.NotRule.{at-rule}
 use Rattle.model.proofs.Keeps.Runs.{InRun, seenWith, call-in-run}
 
-module _ (lim : Limits) (d : Dag) (M : Labels) (room : Roomy lim) (flow : Flow d M) (dag : dagKept d ≡ true) where
+module _ (lim : Limits) (d : Dag) (M : Labels) (room : Roomy lim) (flow : Flow d M) (dag : dagHolds d ≡ true) where
   pub waiting-blocked : {m : Machine} {s : Abstract.State} → Reached lim d M m s → (p c : ℕ) → tokenAt (m .tokens) p .state ≡ states.Waiting c
       → Blocked d m p
   unfolding isLive isBlankState tokenAt nodeRule

@@ -15,10 +15,10 @@ use Rattle.model.specs.Job.Node.{Dag}
 use Rattle.model.specs.Machine.Limits.{Limits}
 use Rattle.model.specs.Machine.Blank.{empty, blankToken, tokenAt, slotAt, hasValue}
 use Rattle.model.specs.Machine.Active.{isSet, isLive}
-use Rattle.model.specs.Machine.InUse.{tokensUsed, cellsUsed, finish}
+use Rattle.model.specs.Machine.InUse.{tokensUsed, cellsUsed, sweep}
 use Rattle.model.specs.Machine.Places.{nextPlace}
-use Rattle.model.specs.Machine.Rules.{rulesKept}
-use Rattle.model.specs.Machine.Step.{to, binding, holding, inCell, being, withTables, withOrders, withCounts}
+use Rattle.model.specs.Machine.Rules.{rulesHold}
+use Rattle.model.specs.Machine.Step.{withNode, withBinding, withValue, inCell, withState, withTables, withOrders, withCounts}
 use Rattle.model.specs.Machine.Step.{put, enqueue, newToken, newCell, hasTokenPlace, hasCellPlace}
 use Rattle.model.specs.Machine.Answer.{holder}
 use Rattle.model.specs.declared.token.Slot.{Slot}
@@ -48,7 +48,7 @@ use Rattle.model.proofs.Keeps.Framed.{Framed}
 
 -- blanking changes nothing, and these tokens and cells are in use
 pub record Carried (o : Machine) (used usedCells : List Bool) : Type 0 where
-  pub whole : finish o ≡ o
+  pub whole : sweep o ≡ o
   pub tokens : tokensUsed o ≡ used
   pub cells : cellsUsed o ≡ usedCells
 
@@ -118,7 +118,7 @@ module _ {m o : Machine} {p : ℕ} (clean : Clean m) where
         cells = cells-added (a .0) c h (a .1 .1 .1);
       }
 
-module _ (lim : Limits) (d : Dag) (m : Machine) (kept : rulesKept lim d m ≡ true) where
+module _ (lim : Limits) (d : Dag) (m : Machine) (kept : rulesHold lim d m ≡ true) where
   rules : RulesKept lim d m
   rules = rules-kept lim d m kept
 
@@ -155,33 +155,33 @@ module _ (lim : Limits) (d : Dag) (m : Machine) (kept : rulesKept lim d m ≡ tr
     used = inUse p live
 
     pub waited-carried : (c : ℕ) (queue waits : List ℕ)
-        → Carried (withOrders queue waits (put p (being (states.Waiting c) t) (taken m place))) (tokensUsed m) (cellsUsed m)
-    unfolding withOrders put withTables being isLive
-    waited-carried c queue waits = links-carried p live _ (being (states.Waiting c) t) refl refl refl refl refl refl
+        → Carried (withOrders queue waits (put p (withState (states.Waiting c) t) (taken m place))) (tokensUsed m) (cellsUsed m)
+    unfolding withOrders put withTables withState isLive
+    waited-carried c queue waits = links-carried p live _ (withState (states.Waiting c) t) refl refl refl refl refl refl
 
-    pub called-carried : (h next calls newtoken newcell : ℕ)
-        → Carried (withCounts calls newtoken newcell (put p (to next (being (states.Called h) t)) (taken m place))) (tokensUsed m) (cellsUsed m)
-    unfolding withOrders withCounts put withTables to being isLive
-    called-carried h next calls newtoken newcell = links-carried p live _ (to next (being (states.Called h) t)) refl refl refl refl refl refl
+    pub called-carried : (h next calls lasttoken lastcell : ℕ)
+        → Carried (withCounts calls lasttoken lastcell (put p (withNode next (withState (states.Called h) t)) (taken m place))) (tokensUsed m) (cellsUsed m)
+    unfolding withOrders withCounts put withTables withNode withState isLive
+    called-carried h next calls lasttoken lastcell = links-carried p live _ (withNode next (withState (states.Called h) t)) refl refl refl refl refl refl
 
     pub replied-carried : (next : ℕ) (v : ℤ)
-        → Carried (enqueue p (put p (to next (holding (helds.Value v) t)) (taken m place))) (tokensUsed m) (cellsUsed m)
-    unfolding withOrders put withTables enqueue to holding
-    replied-carried next v = links-carried p live _ (to next (holding (helds.Value v) t)) refl refl live refl refl refl
+        → Carried (enqueue p (put p (withNode next (withValue (helds.Value v) t)) (taken m place))) (tokensUsed m) (cellsUsed m)
+    unfolding withOrders put withTables enqueue withNode withValue
+    replied-carried next v = links-carried p live _ (withNode next (withValue (helds.Value v) t)) refl refl live refl refl refl
 
     -- assign, remove: neither what x was bound to nor what it is bound to is a cell
     pub rebound-carried : (x : ℕ) (s : Slot) (next : ℕ)
         → ((c : ℕ) → slotAt (t .binds) x ≡ slots.Cell c → ⊥)
         → ((c : ℕ) → s ≡ slots.Cell c → ⊥)
-        → Carried (enqueue p (put p (to next (binding x s t)) (taken m place))) (tokensUsed m) (cellsUsed m)
-    unfolding withOrders put withTables enqueue to binding slotAt
+        → Carried (enqueue p (put p (withNode next (withBinding x s t)) (taken m place))) (tokensUsed m) (cellsUsed m)
+    unfolding withOrders put withTables enqueue withNode withBinding slotAt
     rebound-carried x s next old is =
         same-carried clean
         (writes p live u (fits-same refl refl refl (fits-binding x s (λ c e. absurd (is c e)) (used-fits m p used))))
         (keep-adds lim d m kept p live _ u refl refl live refl refl still)
       where
         u : Token
-        u = to next (binding x s t)
+        u = withNode next (withBinding x s t)
 
         still : (y c : ℕ) → slotAt (t .binds) y ≡ slots.Cell c → slotAt (set (t .binds) x (record { slot = s })) y ≡ slots.Cell c
         still y c e = go (ℕ-discrete y x)
@@ -191,37 +191,37 @@ module _ (lim : Limits) (d : Dag) (m : Machine) (kept : rulesKept lim d m ≡ tr
             go (no n) = ap (λ (b : Bind). b .slot) (getD-set-other (t .binds) x y (record { slot = s }) empty n) ∙ e
 
     -- with room for a token, at the place q
-    module _ (fits : Fitting lim) (room : hasTokenPlace lim d m ≡ true) (q : ℕ) (new : q ≡ nextPlace (tokensUsed m) (m .newtoken)) where
+    module _ (fits : Fitting lim) (room : hasTokenPlace lim d m ≡ true) (q : ℕ) (new : q ≡ nextPlace (tokensUsed m) (m .lasttoken)) where
       free : Free (tokensUsed m) q
       free = place-free lim d m kept place queued p token fits room q new
 
       pub forked-carried : (left right : ℕ)
-          → Carried (enqueue q (enqueue p (newToken q (to right t) (put p (to left t) (taken m place)))))
+          → Carried (enqueue q (enqueue p (newToken q (withNode right t) (put p (withNode left t) (taken m place)))))
           (set (tokensUsed m) q true) (cellsUsed m)
-      unfolding withOrders withCounts put withTables enqueue newToken to
+      unfolding withOrders withCounts put withTables enqueue newToken withNode
       forked-carried left right =
           new-carried clean q (fork-inside lim d m rules p used q left right)
-          (fork-adds lim d m kept p live _ q (to left t) (to right t) refl free refl live refl live refl refl refl)
+          (fork-adds lim d m kept p live _ q (withNode left t) (withNode right t) refl free refl live refl live refl refl refl)
 
       pub entered-carried : (root : ℕ) (ps : List Param) (next : ℕ)
-          → Carried (enqueue q (newToken q (callee p t root ps) (put p (to next (being states.Frame t)) (taken m place))))
+          → Carried (enqueue q (newToken q (callee p t root ps) (put p (withNode next (withState states.Frame t)) (taken m place))))
           (set (tokensUsed m) q true) (cellsUsed m)
-      unfolding withOrders withCounts put withTables enqueue newToken to being isLive
+      unfolding withOrders withCounts put withTables enqueue newToken withNode withState isLive
       entered-carried root ps next =
           new-carried clean q (call-inside lim d m rules p used q root ps next)
-          (call-adds lim d m kept p live _ q (to next (being states.Frame t)) (callee p t root ps) refl free refl refl refl refl refl refl refl)
+          (call-adds lim d m kept p live _ q (withNode next (withState states.Frame t)) (callee p t root ps) refl free refl refl refl refl refl refl refl)
 
-      pub split-carried : hasCellPlace lim d m ≡ true → (c : ℕ) → c ≡ nextPlace (cellsUsed m) (m .newcell) → (x left right : ℕ)
+      pub split-carried : hasCellPlace lim d m ≡ true → (c : ℕ) → c ≡ nextPlace (cellsUsed m) (m .lastcell) → (x left right : ℕ)
           → Carried
           (enqueue q
           (enqueue p
           (newCell c (record { parent = t .cell; value = helds.Nothing })
-          (newToken q (inCell c (to right t)) (put p (to left (binding x (slots.Cell c) t)) (taken m place))))))
+          (newToken q (inCell c (withNode right t)) (put p (withNode left (withBinding x (slots.Cell c) t)) (taken m place))))))
           (set (tokensUsed m) q true) (set (cellsUsed m) c true)
-      unfolding withOrders withCounts put withTables enqueue newToken newCell to inCell binding isSet hasValue
+      unfolding withOrders withCounts put withTables enqueue newToken newCell withNode inCell withBinding isSet hasValue
       split-carried below c cell x left right =
           both-carried clean q c (split-inside lim d m rules p used q c x left right)
-          (split-adds lim d m kept p live _ q (to left (binding x (slots.Cell c) t)) (inCell c (to right t)) refl free c
+          (split-adds lim d m kept p live _ q (withNode left (withBinding x (slots.Cell c) t)) (inCell c (withNode right t)) refl free c
           (record { parent = t .cell; value = helds.Nothing }) refl vacant refl refl live refl live refl refl refl)
         where
           vacant : Free (cellsUsed m) c
@@ -233,7 +233,7 @@ module _ (lim : Limits) (d : Dag) (m : Machine) (kept : rulesKept lim d m ≡ tr
       unfolding withOrders put withTables
       ends = end-adds lim d m kept p live _ blankToken refl refl refl caller cell binds
 
-      pub ended-whole : finish (stopped m place p) ≡ stopped m place p
+      pub ended-whole : sweep (stopped m place p) ≡ stopped m place p
       ended-whole = clean-whole (stopped m place p) (adds-clean ends clean)
 
       pub ended-cells : cellsUsed (stopped m place p) ≡ cellsUsed m
@@ -250,9 +250,10 @@ module _ (lim : Limits) (d : Dag) (m : Machine) (kept : rulesKept lim d m ≡ tr
         named i u =
             record {
               caller =
-                  λ j e.
-                  (used-fits m i u .caller j e,
-                  λ f. clash live (ap isLive (subst (λ k. tokenAt (m .tokens) k .state ≡ states.Frame) f (framed i j u e))));
+                  λ j e. (
+                    used-fits m i u .caller j e,
+                    λ f. clash live (ap isLive (subst (λ k. tokenAt (m .tokens) k .state ≡ states.Frame) f (framed i j u e))),
+                  );
               cells = used-fits m i u .cells;
             }
 
@@ -280,8 +281,8 @@ module _ (lim : Limits) (d : Dag) (m : Machine) (kept : rulesKept lim d m ≡ tr
         ended-carried = record { whole = ended-whole; tokens = tokens-removed ends within; cells = ended-cells }
 
   pub answered-carried : (handle : ℕ) (v : ℤ) (p : ℕ) → holder handle 0 (m .tokens) ≡ places.At p
-      → Carried (enqueue p (put p (being states.Ready (holding (helds.Value v) (tokenAt (m .tokens) p))) m)) (tokensUsed m) (cellsUsed m)
-  unfolding withOrders put withTables enqueue being holding isLive
+      → Carried (enqueue p (put p (withState states.Ready (withValue (helds.Value v) (tokenAt (m .tokens) p))) m)) (tokensUsed m) (cellsUsed m)
+  unfolding withOrders put withTables enqueue withState withValue isLive
   answered-carried handle v p found =
       links-carried p (ap isLive (holder-called handle (m .tokens) p found)) _
-      (being states.Ready (holding (helds.Value v) (tokenAt (m .tokens) p))) refl refl refl refl refl refl
+      (withState states.Ready (withValue (helds.Value v) (tokenAt (m .tokens) p))) refl refl refl refl refl refl

@@ -12,7 +12,7 @@ use Rattle.model.specs.Machine.Limits.{Limits}
 use Rattle.model.specs.Machine.Blank.{blankToken, blankCell, tokenAt, cellAt, slotAt, isBound}
 use Rattle.model.specs.Machine.Blank.{hasValue, isPlace, isBlankState, tokenIsBlank, cellIsBlank}
 use Rattle.model.specs.Machine.Active.{isSet, upward, underSet, isLive, isActive}
-use Rattle.model.specs.Machine.InUse.{tokensUsed, cellsUsed, finish}
+use Rattle.model.specs.Machine.InUse.{tokensUsed, cellsUsed, sweep}
 use Rattle.model.specs.Machine.Rules.{restIsBlank}
 use Rattle.model.specs.Machine.Start.{startToken, startMachine}
 use Rattle.model.specs.declared.token.Place.{Place}
@@ -21,9 +21,9 @@ use Rattle.model.specs.declared.token.Token.{Token}
 use Rattle.model.specs.declared.cell.Cell.{Cell}
 use Rattle.model.specs.declared.record.Machine.{Machine}
 use Rattle.model.proofs.Test.{clash, false-of, and-both}
-use Rattle.model.proofs.Machine.Marks.{Marked, Free, free-inside}
+use Rattle.model.proofs.Machine.Marks.{Marked, Free, free-inside, marks-same}
 use Rattle.model.proofs.Machine.Reach.{Names}
-use Rattle.model.proofs.Machine.InUse.{CellsIn, TokensUsed, CellsUsed, tokens-used, cells-used}
+use Rattle.model.proofs.Machine.InUse.{CellsIn, TokensUsed, CellsUsed, tokens-used, cells-used, blank-inactive}
 use Rattle.model.proofs.Machine.Kept.{length-kept, kept-marked, kept-free}
 use Rattle.model.proofs.Machine.Used.{Used, UsedCell, used-fits, used-parent}
 use Rattle.model.proofs.Sees.Others.{token-other}
@@ -68,16 +68,20 @@ module _ (m : Machine) where
       rest-blank cellIsBlank (cellsUsed m) (m .cells) blankCell (cellsOf .size)
       (λ i e. ap cellIsBlank (c .cells i e) ∙ blank-cell)
 
+true-of-not : (b : Bool) → (b ≡ false → b ≡ true) → b ≡ true
+true-of-not true f = refl
+true-of-not false f = f refl
+
 module _ (m : Machine) where
   abbrev then : Machine
-  then = finish m
+  then = sweep m
 
   token-stays : (i : ℕ) → Used m i → tokenAt (then .tokens) i ≡ tokenAt (m .tokens) i
-  unfolding finish tokenAt
+  unfolding sweep tokenAt
   token-stays i u = kept-marked blankToken (tokensUsed m) (m .tokens) i (tokensOf m .size) u
 
   cell-stays : (c : ℕ) → UsedCell m c → cellAt (then .cells) c ≡ cellAt (m .cells) c
-  unfolding finish cellAt
+  unfolding sweep cellAt
   cell-stays c u = kept-marked blankCell (cellsUsed m) (m .cells) c (cellsOf m .size) u
 
   -- what is above a place in use
@@ -93,7 +97,7 @@ module _ (m : Machine) where
       looks k b = elim (test c k) [ true ↦ true | false ↦ b ]
 
   under-stays : (q : Place) → Names (UsedCell m) q → underSet (then .cells) q ≡ underSet (m .cells) q
-  unfolding finish underSet
+  unfolding sweep underSet
   under-stays q h =
       ap (λ n. upward (λ c k. isSet k) (then .cells) n q) (length-kept blankCell (cellsUsed m) (m .cells))
       ∙ upward-stays (λ c k. isSet k) (length (m .cells)) q h
@@ -105,7 +109,7 @@ module _ (m : Machine) where
       same t h = unfold isActive in ap (λ b. elim (isLive (t .state)) [ true ↦ not b | false ↦ false ]) (under-stays (t .cell) h)
 
   Both : ℕ → Type 0
-  Both i = Used m i × Used (finish m) i
+  Both i = Used m i × Used (sweep m) i
 
   tokens-stay : (i : ℕ) → i < length (m .tokens) → Used m i → Both i
   unfolding Both
@@ -115,7 +119,7 @@ module _ (m : Machine) where
       (λ i l b j e. (tokensOf m .caller i (b .0) j e, tokensOf then .caller i (b .1) j (ap (λ (t : Token). t .caller) (token-stays i (b .0)) ∙ e)))
 
   BothCells : ℕ → Type 0
-  BothCells c = UsedCell m c × UsedCell (finish m) c
+  BothCells c = UsedCell m c × UsedCell (sweep m) c
 
   cells-stay : (c : ℕ) → c < length (m .cells) → UsedCell m c → BothCells c
   unfolding Both BothCells
@@ -135,8 +139,8 @@ module _ (m : Machine) where
       parents c l b a e = (cellsOf m .parent c (b .0) a e, cellsOf then .parent c (b .1) a (ap (λ (k : Cell). k .parent) (cell-stays c (b .0)) ∙ e))
 
   -- "The rest is blank after each accepted call"
-  pub finish-clean : Clean (finish m)
-  unfolding finish tokenAt cellAt Both BothCells
+  pub finish-clean : Clean (sweep m)
+  unfolding sweep tokenAt cellAt Both BothCells
   finish-clean =
       record {
         tokens =
@@ -152,6 +156,41 @@ module _ (m : Machine) where
             let k = length-kept blankCell (cellsUsed m) (m .cells) in
             kept-free blankCell (cellsUsed m) (m .cells) c (false-of _ (λ u. clash (cells-stay c (omega arith) u .1) e));
       }
+
+  -- what is in use afterwards was in use before, as what is active afterwards was not made blank
+  active-was : (i : ℕ) → isActive (then .cells) (tokenAt (then .tokens) i) ≡ true → Used m i
+  unfolding sweep tokenAt
+  active-was i e =
+      true-of-not _
+      (λ f. clash e (ap (isActive (then .cells)) (kept-free blankToken (tokensUsed m) (m .tokens) i f) ∙ blank-inactive (then .cells)))
+
+  tokens-were : (i : ℕ) → i < length (then .tokens) → Used (sweep m) i → Used m i
+  tokens-were =
+      tokensOf then .least (Used m) active-was
+      (λ i l u. subst (λ (t : Token). Names (Used m) (t .caller)) (sym (token-stays i u)) (tokensOf m .caller i u))
+
+  cells-were : (c : ℕ) → c < length (then .cells) → UsedCell (sweep m) c → UsedCell m c
+  cells-were =
+      cellsOf then .least (UsedCell m)
+      (λ i l u. let v = tokens-were i l u in subst (CellsIn (UsedCell m)) (sym (token-stays i v)) (cellsOf m .named i v))
+      (λ c l u. subst (λ (k : Cell). Names (UsedCell m) (k .parent)) (sym (cell-stays c u)) (cellsOf m .parent c u))
+
+  -- blanking changes nothing of what is in use
+  pub finish-tokens : tokensUsed (sweep m) ≡ tokensUsed m
+  unfolding sweep Both
+  finish-tokens =
+      let k = length-kept blankToken (tokensUsed m) (m .tokens) in
+      let a = tokensOf then .size in
+      let b = tokensOf m .size in
+      marks-same (tokensUsed then) (tokensUsed m) (omega arith) (λ i l u. tokens-were i (omega arith) u) (λ i l u. tokens-stay i (omega arith) u .1)
+
+  pub finish-cells : cellsUsed (sweep m) ≡ cellsUsed m
+  unfolding sweep BothCells
+  finish-cells =
+      let k = length-kept blankCell (cellsUsed m) (m .cells) in
+      let a = cellsOf then .size in
+      let b = cellsOf m .size in
+      marks-same (cellsUsed then) (cellsUsed m) (omega arith) (λ c l u. cells-were c (omega arith) u) (λ c l u. cells-stay c (omega arith) u .1)
 
 -- the start, whose token is in use
 pub start-clean : (lim : Limits) (goal : ℕ) → Marked (tokensUsed (startMachine lim goal)) 0 → Clean (startMachine lim goal)

@@ -14,7 +14,7 @@ use Rattle.model.specs.Job.Node.{Dag}
 use Rattle.model.specs.Machine.Limits.{Limits}
 use Rattle.model.specs.Machine.Blank.{blankToken, blankCell, tokenAt, cellAt}
 use Rattle.model.specs.Machine.Active.{isLive}
-use Rattle.model.specs.Machine.InUse.{tokensUsed, cellsUsed, kept, finish}
+use Rattle.model.specs.Machine.InUse.{tokensUsed, cellsUsed, restBlanked, sweep}
 use Rattle.model.specs.Machine.Rules.{isReady, isWaiting, heldInRange}
 use Rattle.model.specs.Machine.Start.{startToken, startMachine}
 use Rattle.model.specs.declared.token.State.{State}
@@ -36,8 +36,8 @@ pub record Facts (lim : Limits) (d : Dag) (m : Machine) : Type 0 where
   pub tokenPlaces : length (m .tokens) ≡ lim .tokenPlaces
   pub cellPlaces : length (m .cells) ≡ lim .cellPlaces
   pub calls : m .calls ≤ lim .calls
-  pub newtoken : m .newtoken < lim .tokenPlaces
-  pub newcell : m .newcell < lim .cellPlaces
+  pub lasttoken : m .lasttoken < lim .tokenPlaces
+  pub lastcell : m .lastcell < lim .cellPlaces
   pub queue : List ℕ
   pub waits : List ℕ
   pub orders : Orders m queue waits
@@ -121,8 +121,8 @@ module _ (lim : Limits) (d : Dag) (some : 0 < lim .tokenPlaces) (cell : 0 < lim 
         tokenPlaces = sized;
         cellPlaces = length-replicate (lim .cellPlaces) blankCell;
         calls = omega arith;
-        newtoken = some;
-        newcell = omega arith;
+        lasttoken = some;
+        lastcell = omega arith;
         queue = 0 ∷ [];
         waits = [];
         orders = start-orders;
@@ -149,12 +149,12 @@ module _ {lim : Limits} {d : Dag} {m : Machine} (F : Facts lim d m) (live : Live
 
   -- a line of live tokens stays
   line-stays : (of : State → Bool) → of states.Blank ≡ false → ((s : State) → of s ≡ true → isLive s ≡ true) → (l : List ℕ)
-      → Names of (m .tokens) l → Names of (kept blankToken used (m .tokens)) l
+      → Names of (m .tokens) l → Names of (restBlanked blankToken used (m .tokens)) l
   unfolding tokenAt
   line-stays of none lives l h r = go (of (tokenAt (m .tokens) r .state)) refl (kept-cases blankToken used (m .tokens) r)
     where
       now : Token
-      now = getD (kept blankToken used (m .tokens)) r blankToken
+      now = getD (restBlanked blankToken used (m .tokens)) r blankToken
 
       at : Token → ℕ
       at t = once (of (t .state))
@@ -166,8 +166,8 @@ module _ {lim : Limits} {d : Dag} {m : Machine} (F : Facts lim d m) (live : Live
       go false e (inl x) = h r ∙ ap at (sym x)
       go false e (inr x) = h r ∙ (ap once (e ∙ sym none) ∙ ap at (sym x))
 
-  pub finish-facts : 0 < length (d .nodes) → Facts lim d (finish m)
-  unfolding finish isReady isWaiting
+  pub finish-facts : 0 < length (d .nodes) → Facts lim d (sweep m)
+  unfolding sweep isReady isWaiting
   finish-facts some =
       let lt = length-kept blankToken used (m .tokens) in
       let lc = length-kept blankCell (cellsUsed m) (m .cells) in
@@ -175,8 +175,8 @@ module _ {lim : Limits} {d : Dag} {m : Machine} (F : Facts lim d m) (live : Live
         tokenPlaces = lt ∙ F .tokenPlaces;
         cellPlaces = lc ∙ F .cellPlaces;
         calls = F .calls;
-        newtoken = F .newtoken;
-        newcell = F .newcell;
+        lasttoken = F .lasttoken;
+        lastcell = F .lastcell;
         queue = F .queue;
         waits = F .waits;
         orders =

@@ -14,8 +14,8 @@ use Rattle.model.specs.Machine.Blank.{tokenAt, hasValue}
 use Rattle.model.specs.Machine.Active.{isSet, isLive}
 use Rattle.model.specs.Machine.InUse.{tokensUsed, cellsUsed}
 use Rattle.model.specs.Machine.Places.{nextPlace}
-use Rattle.model.specs.Machine.Rules.{rulesKept}
-use Rattle.model.specs.Machine.Step.{to, binding, holding, inCell, being, withTables, withOrders, withCounts, queueOf, waitsOf}
+use Rattle.model.specs.Machine.Rules.{rulesHold}
+use Rattle.model.specs.Machine.Step.{withNode, withBinding, withValue, inCell, withState, withTables, withOrders, withCounts, queueOf, waitsOf}
 use Rattle.model.specs.Machine.Step.{put, enqueue, newToken, newCell, hasTokenPlace, hasCellPlace}
 use Rattle.model.specs.Machine.Answer.{holder}
 use Rattle.model.specs.declared.token.Slot.the-variants as slots
@@ -36,7 +36,7 @@ use Rattle.model.proofs.Keeps.Unblanked.{Whole, same-links, fork-links,
 abbrev pub taken : Machine → (place : ℕ) → Machine
 taken m place = withOrders (without place (queueOf m)) (waitsOf m) m
 
-module _ (lim : Limits) (d : Dag) (m : Machine) (kept : rulesKept lim d m ≡ true) where
+module _ (lim : Limits) (d : Dag) (m : Machine) (kept : rulesHold lim d m ≡ true) where
   -- the token t at p, which the queue has at a place, acts
   module _ (place : ℕ) (queued : place < m .queued) (p : ℕ) (token : p ≡ getD (m .queue) place 0) where
     abbrev t : Token
@@ -47,60 +47,60 @@ module _ (lim : Limits) (d : Dag) (m : Machine) (kept : rulesKept lim d m ≡ tr
         subst (λ i. isLive (tokenAt (m .tokens) i .state) ≡ true) (sym token) (ready-live _ (queue-kept lim d m kept .ready place queued))
 
     -- "the first unset cell makes the token wait there"; the orders may be any
-    pub waited-whole : (c : ℕ) (queue waits : List ℕ) → Whole (withOrders queue waits (put p (being (states.Waiting c) t) (taken m place)))
-    unfolding withOrders put withTables being isLive
-    waited-whole c queue waits = same-links lim d m kept p acting-live _ (being (states.Waiting c) t) refl refl refl refl refl refl
+    pub waited-whole : (c : ℕ) (queue waits : List ℕ) → Whole (withOrders queue waits (put p (withState (states.Waiting c) t) (taken m place)))
+    unfolding withOrders put withTables withState isLive
+    waited-whole c queue waits = same-links lim d m kept p acting-live _ (withState (states.Waiting c) t) refl refl refl refl refl refl
 
     -- "the token is called out at the next node"; the handle and the counts may be any
-    pub called-whole : (h next calls newtoken newcell : ℕ)
-        → Whole (withCounts calls newtoken newcell (put p (to next (being (states.Called h) t)) (taken m place)))
-    unfolding withOrders withCounts put withTables to being isLive
-    called-whole h next calls newtoken newcell =
-        same-links lim d m kept p acting-live _ (to next (being (states.Called h) t)) refl refl refl refl refl refl
+    pub called-whole : (h next calls lasttoken lastcell : ℕ)
+        → Whole (withCounts calls lasttoken lastcell (put p (withNode next (withState (states.Called h) t)) (taken m place)))
+    unfolding withOrders withCounts put withTables withNode withState isLive
+    called-whole h next calls lasttoken lastcell =
+        same-links lim d m kept p acting-live _ (withNode next (withState (states.Called h) t)) refl refl refl refl refl refl
 
     -- "a built-in replies and the token goes on"
-    pub replied-whole : (next : ℕ) (v : ℤ) → Whole (enqueue p (put p (to next (holding (helds.Value v) t)) (taken m place)))
-    unfolding withOrders put withTables enqueue to holding
-    replied-whole next v = same-links lim d m kept p acting-live _ (to next (holding (helds.Value v) t)) refl refl acting-live refl refl refl
+    pub replied-whole : (next : ℕ) (v : ℤ) → Whole (enqueue p (put p (withNode next (withValue (helds.Value v) t)) (taken m place)))
+    unfolding withOrders put withTables enqueue withNode withValue
+    replied-whole next v = same-links lim d m kept p acting-live _ (withNode next (withValue (helds.Value v) t)) refl refl acting-live refl refl refl
 
     -- with room for a token, at the place q
-    module _ (fits : Fitting lim) (room : hasTokenPlace lim d m ≡ true) (q : ℕ) (new : q ≡ nextPlace (tokensUsed m) (m .newtoken)) where
+    module _ (fits : Fitting lim) (room : hasTokenPlace lim d m ≡ true) (q : ℕ) (new : q ≡ nextPlace (tokensUsed m) (m .lasttoken)) where
       pub place-free : Free (tokensUsed m) q
       place-free = subst (Free (tokensUsed m)) (sym new) (free-token lim d m kept fits room)
 
-      pub cell-free : hasCellPlace lim d m ≡ true → (c : ℕ) → c ≡ nextPlace (cellsUsed m) (m .newcell) → Free (cellsUsed m) c
+      pub cell-free : hasCellPlace lim d m ≡ true → (c : ℕ) → c ≡ nextPlace (cellsUsed m) (m .lastcell) → Free (cellsUsed m) c
       cell-free below c cell = subst (Free (cellsUsed m)) (sym cell) (free-cell lim d m kept fits below)
 
       -- "left keeps the place, right is new"
-      pub forked-whole : (left right : ℕ) → Whole (enqueue q (enqueue p (newToken q (to right t) (put p (to left t) (taken m place)))))
-      unfolding withOrders withCounts put withTables enqueue newToken to
+      pub forked-whole : (left right : ℕ) → Whole (enqueue q (enqueue p (newToken q (withNode right t) (put p (withNode left t) (taken m place)))))
+      unfolding withOrders withCounts put withTables enqueue newToken withNode
       forked-whole left right =
-          fork-links lim d m kept p acting-live _ q (to left t) (to right t) refl place-free refl acting-live refl acting-live refl refl refl
+          fork-links lim d m kept p acting-live _ q (withNode left t) (withNode right t) refl place-free refl acting-live refl acting-live refl refl refl
 
       -- "the token becomes a frame at next, the callee is new"
       pub entered-whole : (root : ℕ) (ps : List Param) (next : ℕ)
-          → Whole (enqueue q (newToken q (callee p t root ps) (put p (to next (being states.Frame t)) (taken m place))))
-      unfolding withOrders withCounts put withTables enqueue newToken to being isLive
+          → Whole (enqueue q (newToken q (callee p t root ps) (put p (withNode next (withState states.Frame t)) (taken m place))))
+      unfolding withOrders withCounts put withTables enqueue newToken withNode withState isLive
       entered-whole root ps next =
-          call-links lim d m kept p acting-live _ q (to next (being states.Frame t)) (callee p t root ps) refl place-free
+          call-links lim d m kept p acting-live _ q (withNode next (withState states.Frame t)) (callee p t root ps) refl place-free
           refl refl refl refl refl refl refl
 
       -- "left binds x to the new cell; right is new and belongs to it"
-      pub split-whole : hasCellPlace lim d m ≡ true → (c : ℕ) → c ≡ nextPlace (cellsUsed m) (m .newcell) → (x left right : ℕ)
+      pub split-whole : hasCellPlace lim d m ≡ true → (c : ℕ) → c ≡ nextPlace (cellsUsed m) (m .lastcell) → (x left right : ℕ)
           → Whole
           (enqueue q
           (enqueue p
           (newCell c (record { parent = t .cell; value = helds.Nothing })
-          (newToken q (inCell c (to right t)) (put p (to left (binding x (slots.Cell c) t)) (taken m place))))))
-      unfolding withOrders withCounts put withTables enqueue newToken newCell to inCell binding isSet hasValue
+          (newToken q (inCell c (withNode right t)) (put p (withNode left (withBinding x (slots.Cell c) t)) (taken m place))))))
+      unfolding withOrders withCounts put withTables enqueue newToken newCell withNode inCell withBinding isSet hasValue
       split-whole below c cell x left right =
-          split-links lim d m kept p acting-live _ q (to left (binding x (slots.Cell c) t)) (inCell c (to right t)) refl place-free c
+          split-links lim d m kept p acting-live _ q (withNode left (withBinding x (slots.Cell c) t)) (inCell c (withNode right t)) refl place-free c
           (record { parent = t .cell; value = helds.Nothing }) refl (cell-free below c cell) refl refl acting-live refl acting-live refl refl refl
 
   -- "An answer gives its token the value and makes it ready"
   pub answered-whole : (handle : ℕ) (v : ℤ) (p : ℕ) → holder handle 0 (m .tokens) ≡ places.At p
-      → Whole (enqueue p (put p (being states.Ready (holding (helds.Value v) (tokenAt (m .tokens) p))) m))
-  unfolding withOrders put withTables enqueue being holding isLive
+      → Whole (enqueue p (put p (withState states.Ready (withValue (helds.Value v) (tokenAt (m .tokens) p))) m))
+  unfolding withOrders put withTables enqueue withState withValue isLive
   answered-whole handle v p found =
       same-links lim d m kept p (ap isLive (holder-called handle (m .tokens) p found)) _
-      (being states.Ready (holding (helds.Value v) (tokenAt (m .tokens) p))) refl refl refl refl refl refl
+      (withState states.Ready (withValue (helds.Value v) (tokenAt (m .tokens) p))) refl refl refl refl refl refl

@@ -14,7 +14,7 @@ use Rattle.model.specs.Machine.Blank.{blankToken, tokenAt}
 use Rattle.model.specs.Machine.Active.{within}
 use Rattle.model.specs.Machine.InUse.{marked}
 use Rattle.model.specs.Machine.Rules.{isReady, isWaiting, namesOnce}
-use Rattle.model.specs.Machine.Step.{being, waitsAt, chokeToken}
+use Rattle.model.specs.Machine.Step.{withState, waitsAt, chokeToken}
 use Rattle.model.specs.declared.token.State.{State}
 use Rattle.model.specs.declared.token.State.the-variants as states
 use Rattle.model.specs.declared.token.Token.{Token}
@@ -312,7 +312,7 @@ count-filter test r l h = go (test r) refl
 -- a choke: who is ready then was ready or waiting, who waits then waited
 woken-ready : (c : ℕ) (s : State) (t : Token) → t .state ≡ s → isReady (woken (waitsAt c s) t .state) ≡ true
     → once (isReady s) + once (isWaiting s) ≡ 1
-unfolding woken waitsAt isReady isWaiting being
+unfolding woken waitsAt isReady isWaiting withState
 woken-ready c states.Blank t e h = clash h (ap isReady e)
 woken-ready c states.Ready t e h = refl
 woken-ready c (states.Waiting b) t e h = refl
@@ -320,7 +320,7 @@ woken-ready c (states.Called g) t e h = clash h (ap isReady e)
 woken-ready c states.Frame t e h = clash h (ap isReady e)
 
 woken-waiting : (b : Bool) (t : Token) → isWaiting (woken b t .state) ≡ true → isWaiting (t .state) ≡ true
-unfolding woken isWaiting being
+unfolding woken isWaiting withState
 woken-waiting true t h = clash h refl
 woken-waiting false t h = h
 

@@ -11,7 +11,7 @@ use Rattle.model.specs.Job.WellFormed.{WellFormed}
 use Rattle.model.specs.Job.Node.{Dag}
 use Rattle.model.specs.Job.Construct.{construct}
 use Rattle.model.specs.Machine.Limits.{Limits}
-use Rattle.model.specs.Machine.Rules.{rulesKept}
+use Rattle.model.specs.Machine.Rules.{rulesHold}
 use Rattle.model.specs.Machine.Start.{start}
 use Rattle.model.specs.Run.Meaning.{meaning}
 use Rattle.model.specs.Run.Call.{Call, runner, outcomeOf, machineAfter, started}
@@ -41,7 +41,7 @@ module _ (lim : Limits) (room : Roomy lim) (table : List ℕ) (p : Program) (rea
 
   -- the index rules hold of every record of a run
   pub run-rules : (calls : List Call)
-      → rulesKept lim (construct p) (machineAfter runner lim (construct p) (started runner lim (construct p)) calls) ≡ true
+      → rulesHold lim (construct p) (machineAfter runner lim (construct p) (started runner lim (construct p)) calls) ≡ true
   run-rules calls = in-run-rules lim d (labelsOf p) room (construct-flows p good) (construct-kept p good) (meaning p .body) (run-reached calls)
 
   -- no call of a run is refused with 14

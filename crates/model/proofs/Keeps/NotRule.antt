@@ -9,10 +9,10 @@ use lib.ListN.{getD}
 use lib.Dec.{ltb}
 use lib.IntN.{ℤ}
 use Rattle.model.specs.Site.{Said, gives, silent, isBuiltin, builtin}
-use Rattle.model.specs.Job.Node.{Node, Dag, nodeAt, nodeKept}
+use Rattle.model.specs.Job.Node.{Node, Dag, nodeAt, nodeHolds}
 use Rattle.model.specs.Machine.Limits.{Limits}
 use Rattle.model.specs.Machine.Blank.{blankToken, tokenAt, isPlace, isBlankState}
-use Rattle.model.specs.Machine.Rules.{isReady, namesFrame, nodeRule, atNode, rulesKept}
+use Rattle.model.specs.Machine.Rules.{isReady, namesFrame, nodeRule, atNode, rulesHold}
 use Rattle.model.specs.Machine.Reply.{Effect, moves, waits, publishes, calls, refuses, unless, accepted, outcome}
 use Rattle.model.specs.Machine.Step as Step
 use Rattle.model.specs.Machine.Step.{Looked, values, unset, act, takes}
@@ -101,8 +101,8 @@ module _ (lim : Limits) (d : Dag) (before m : Machine) (p : ℕ) (t : Token) whe
   choke-not places.Nowhere e = clash e refl
   choke-not (places.At c) e = tt
 
-  act-not : (ts : List Token) (N : Node) → nodeKept d N ≡ true → nodeRule ts t N ≡ true → NotRule (act lim d before m p t N)
-  unfolding NotRule act nodeKept nodeRule Step.goesOn Step.forked Step.split Step.entered
+  act-not : (ts : List Token) (N : Node) → nodeHolds d N ≡ true → nodeRule ts t N ≡ true → NotRule (act lim d before m p t N)
+  unfolding NotRule act nodeHolds nodeRule Step.goesOn Step.forked Step.split Step.entered
   act-not ts Node.stop k r = tt
   act-not ts Node.publish k r = tt
   act-not ts (Node.fork a b) k r = unless-not _ _ _ token-limit (λ e. tt)
@@ -121,7 +121,7 @@ pub at-rule : (d : Dag) (ts : List Token) (t : Token) → isBlankState (t .state
 unfolding atNode
 at-rule d ts t b e = rw (b, atNode) at e
 
-ready-not-blank : (s : State) → isReady s ≡ true → isBlankState s ≡ false
+pub ready-not-blank : (s : State) → isReady s ≡ true → isBlankState s ≡ false
 unfolding isReady isBlankState
 ready-not-blank states.Blank e = clash e refl
 ready-not-blank states.Ready e = refl
@@ -129,7 +129,7 @@ ready-not-blank (states.Waiting c) e = refl
 ready-not-blank (states.Called h) e = refl
 ready-not-blank states.Frame e = refl
 
-module _ (lim : Limits) (d : Dag) (m : Machine) (kept : rulesKept lim d m ≡ true) where
+module _ (lim : Limits) (d : Dag) (m : Machine) (kept : rulesHold lim d m ≡ true) where
   takes-not : (k : ℕ) → k < m .queued → NotRule (takes lim d m k)
   unfolding takes tokenAt
   takes-not k l =
@@ -150,7 +150,7 @@ module _ (lim : Limits) (d : Dag) (m : Machine) (kept : rulesKept lim d m ≡ tr
       t : Token
       t = tokenAt (m .tokens) p
 
-  tested : (e : Effect) → NotRule e → NotRule (unless (rulesKept lim d m) refusals.Rule e)
+  tested : (e : Effect) → NotRule e → NotRule (unless (rulesHold lim d m) refusals.Rule e)
   unfolding unless
   tested e n = rw (kept, unless) n
 

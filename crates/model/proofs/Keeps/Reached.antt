@@ -11,17 +11,17 @@ use lib.Seq.{getD-take}
 use lib.IntN.{ℤ}
 use Rattle.model.specs.Test.{without}
 use Rattle.model.specs.Number.{Signed32}
-use Rattle.model.specs.Job.Node.{Dag, nodeAt, dagKept}
+use Rattle.model.specs.Job.Node.{Dag, nodeAt, dagHolds}
 use Rattle.model.specs.Machine.Limits.{Limits, limits, paper}
 use Rattle.model.specs.Machine.Blank.{blankToken, tokenAt}
 use Rattle.model.specs.Machine.Active.{isLive}
-use Rattle.model.specs.Machine.InUse.{tokensUsed, cellsUsed, finish}
-use Rattle.model.specs.Machine.Rules.{isReady, isWaiting, heldInRange, placeInRange, rulesKept}
+use Rattle.model.specs.Machine.InUse.{tokensUsed, cellsUsed, sweep}
+use Rattle.model.specs.Machine.Rules.{isReady, isWaiting, heldInRange, placeInRange, rulesHold}
 use Rattle.model.specs.Machine.Reply.{Effect, moves, waits, publishes, calls, refuses, isRefused}
 use Rattle.model.specs.Machine.Start.{startToken, startMachine}
 use Rattle.model.specs.Machine.Step as Step
-use Rattle.model.specs.Machine.Step.{withOrders, queueOf, waitsOf, put, enqueue, being}
-use Rattle.model.specs.Machine.Step.{holding, hasTokenPlace, hasCellPlace, tokenPlace, cellPlace, takes}
+use Rattle.model.specs.Machine.Step.{withOrders, queueOf, waitsOf, put, enqueue, withState}
+use Rattle.model.specs.Machine.Step.{withValue, hasTokenPlace, hasCellPlace, tokenPlace, cellPlace, takes}
 use Rattle.model.specs.Machine.Answer as Answer
 use Rattle.model.specs.Machine.Answer.{holder, answered}
 use Rattle.model.specs.Calculus.Event.{Event, Label}
@@ -117,15 +117,15 @@ cell-inside : {W : World} {q : Place} {U : List ℕ} → CellsSeen W q U → (c 
 unfolding placeInRange
 cell-inside {W} v c e = ltb-lt _ _ (ap (placeInRange (length (W .cells))) (sym e) ∙ cells-range v)
 
-module _ (lim : Limits) (d : Dag) (M : Labels) (room : Roomy lim) (flow : Flow d M) (dag : dagKept d ≡ true) where
+module _ (lim : Limits) (d : Dag) (M : Labels) (room : Roomy lim) (flow : Flow d M) (dag : dagHolds d ≡ true) where
   some : 0 < length (d .nodes)
   some = let z = dag-rules d dag .goal in omega arith
 
   -- the index rules
-  pub reached-rules : {m : Machine} {s : Abstract.State} → Reached lim d M m s → rulesKept lim d m ≡ true
+  pub reached-rules : {m : Machine} {s : Abstract.State} → Reached lim d M m s → rulesHold lim d m ≡ true
   reached-rules {m} {s} r = go (r .view)
     where
-      go : {s : Abstract.State} → Sees M m s → rulesKept lim d m ≡ true
+      go : {s : Abstract.State} → Sees M m s → rulesHold lim d m ≡ true
       go (seenAs name place A K) = rules-hold lim d M flow dag some m (r .facts) (r .clean) K
 
   -- the start
@@ -159,7 +159,7 @@ module _ (lim : Limits) (d : Dag) (M : Labels) (room : Roomy lim) (flow : Flow d
   abbrev Left : Machine → Type 0
   Left m = Facts lim d m × Clean m
 
-  finished : (o : Machine) → Facts lim d o × LiveUsed o → Left (finish o)
+  finished : (o : Machine) → Facts lim d o × LiveUsed o → Left (sweep o)
   finished o x = (finish-facts (x .0) (x .1) some, finish-clean o)
 
   module _ (bodies : ℕ → Exp) where
@@ -178,7 +178,7 @@ module _ (lim : Limits) (d : Dag) (M : Labels) (room : Roomy lim) (flow : Flow d
         T : Taken (m .tokens) p (without k (queueOf m)) (waitsOf m)
         T = facts-taken m F k l
 
-        rules : rulesKept lim d m ≡ true
+        rules : rulesHold lim d m ≡ true
         rules = reached-rules r
 
         live : LiveUsed m
@@ -212,15 +212,15 @@ module _ (lim : Limits) (d : Dag) (M : Labels) (room : Roomy lim) (flow : Flow d
 
     -- what an answer leaves, before blanking
     answered-facts : (m : Machine) → Facts lim d m → (v : ℤ) → Signed32 v → (p h : ℕ) → tokenAt (m .tokens) p .state ≡ states.Called h
-        → Facts lim d (enqueue p (put p (being states.Ready (holding (helds.Value v) (tokenAt (m .tokens) p))) m))
-    unfolding enqueue put Step.withTables withOrders being holding isLive isReady isWaiting heldInRange
+        → Facts lim d (enqueue p (put p (withState states.Ready (withValue (helds.Value v) (tokenAt (m .tokens) p))) m))
+    unfolding enqueue put Step.withTables withOrders withState withValue isLive isReady isWaiting heldInRange
     answered-facts m F v fits p h e =
         record {
           tokenPlaces = length-set (m .tokens) p u ∙ F .tokenPlaces;
           cellPlaces = F .cellPlaces;
           calls = F .calls;
-          newtoken = F .newtoken;
-          newcell = F .newcell;
+          lasttoken = F .lasttoken;
+          lastcell = F .lastcell;
           queue = F .queue ++ (p ∷ []);
           waits = F .waits;
           orders = orders-enqueue (orders-put (F .orders) p u) p;
@@ -230,7 +230,7 @@ module _ (lim : Limits) (d : Dag) (M : Labels) (room : Roomy lim) (flow : Flow d
         }
       where
         u : Token
-        u = being states.Ready (holding (helds.Value v) (tokenAt (m .tokens) p))
+        u = withState states.Ready (withValue (helds.Value v) (tokenAt (m .tokens) p))
 
         inside : p < length (m .tokens)
         inside = live-inside (m .tokens) p (ap isLive e)

@@ -13,7 +13,7 @@ use lib.IntN.{ℤ}
 use Rattle.model.specs.Test.{_and_, _or_, all, any, All, none, more, differ}
 use Rattle.model.specs.Number.{fits}
 use Rattle.model.specs.Job.Syntax.{Param}
-use Rattle.model.specs.Job.Node.{Node, Dag, nodeAt, isNode, dagKept}
+use Rattle.model.specs.Job.Node.{Node, Dag, nodeAt, isNode, dagHolds}
 use Rattle.model.specs.Job.WellFormed.{GoodParam}
 use Rattle.model.specs.Machine.Limits.{Limits}
 use Rattle.model.specs.Machine.Blank.{empty, blankToken, blankCell, tokenAt, cellAt, slotAt, isBound, hasValue, isPlace, isBlankState}
@@ -21,7 +21,7 @@ use Rattle.model.specs.Machine.Active.{isSet, underSet, isLive}
 use Rattle.model.specs.Machine.InUse.{tokensUsed, cellsUsed}
 use Rattle.model.specs.Machine.Rules.{heldInRange, placeInRange, slotInRange, stateInRange, tokenInRange, cellInRange, sizesInRange, isReady}
 use Rattle.model.specs.Machine.Rules.{isFrame, chainEnds, chainsEnd, notUnderSet, handleOf, openHandles, waitsAtUnset, namesFrame}
-use Rattle.model.specs.Machine.Rules.{notEmpty, valueIfReady, nodeRule, atNode, machineKept, rulesKept}
+use Rattle.model.specs.Machine.Rules.{notEmpty, valueIfReady, nodeRule, atNode, machineHolds, rulesHold}
 use Rattle.model.specs.declared.token.Slot.{Slot}
 use Rattle.model.specs.declared.token.Slot.the-variants as slots
 use Rattle.model.specs.declared.token.Bind.{Bind}
@@ -209,7 +209,7 @@ unset-if : (k : Cell) → k .value ≡ helds.Nothing → isSet k ≡ false
 unfolding isSet hasValue
 unset-if k e = ap hasValue e
 
-module _ (lim : Limits) (d : Dag) (M : Labels) (flow : Flow d M) (dag : dagKept d ≡ true) (some : 0 < length (d .nodes))
+module _ (lim : Limits) (d : Dag) (M : Labels) (flow : Flow d M) (dag : dagHolds d ≡ true) (some : 0 < length (d .nodes))
     (m : Machine) (X : Facts lim d m) (clean : Clean m) {name place : ℕ → ℕ} {σ : Store} {new : ℕ} {A : List ℕ} {S : List Abstract.Token}
     (K : Core M (world (m .tokens) (m .cells) name place σ new) A S) where
   abbrev W : World
@@ -278,7 +278,7 @@ module _ (lim : Limits) (d : Dag) (M : Labels) (flow : Flow d M) (dag : dagKept 
   unfolding sizesInRange
   sizes =
       and-both (eq-eqb _ _ (X .tokenPlaces))
-      (and-both (eq-eqb _ _ (X .cellPlaces)) (and-both (le-leb _ _ (X .calls)) (and-both (lt-ltb _ _ (X .newtoken)) (lt-ltb _ _ (X .newcell)))))
+      (and-both (eq-eqb _ _ (X .cellPlaces)) (and-both (le-leb _ _ (X .calls)) (and-both (lt-ltb _ _ (X .lasttoken)) (lt-ltb _ _ (X .lastcell)))))
 
   chain : (c : ℕ) → Named M W c → chainEnds (m .cells) (length (m .cells)) (cellAt (m .cells) c .parent) ≡ true
   chain c (named (below s v)) = chain-ends (length (m .cells)) v (chain-short v)
@@ -344,8 +344,8 @@ module _ (lim : Limits) (d : Dag) (M : Labels) (flow : Flow d M) (dag : dagKept 
   unfolding atNode isBlankState
   blank-node = refl
 
-  pub rules-hold : rulesKept lim d m ≡ true
-  unfolding rulesKept machineKept chainsEnd tokenAt
+  pub rules-hold : rulesHold lim d m ≡ true
+  unfolding rulesHold machineHolds chainsEnd tokenAt
   rules-hold =
       and-both dag
       (and-both sizes

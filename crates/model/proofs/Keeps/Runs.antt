@@ -5,9 +5,9 @@ use mathlib.Core.Logic.{_⊎_, inl, inr}
 use mathlib.Core.Bool.{true, false}
 use mathlib.Core.List.{List, [], _∷_}
 use Prim.Native.Nat.{ℕ}
-use Rattle.model.specs.Job.Node.{Dag, dagKept}
+use Rattle.model.specs.Job.Node.{Dag, dagHolds}
 use Rattle.model.specs.Machine.Limits.{Limits}
-use Rattle.model.specs.Machine.Rules.{rulesKept}
+use Rattle.model.specs.Machine.Rules.{rulesHold}
 use Rattle.model.specs.Machine.Reply.{isRefused}
 use Rattle.model.specs.Machine.Start.{start, startMachine}
 use Rattle.model.specs.Machine.Step as Step
@@ -27,7 +27,7 @@ use Rattle.model.proofs.Keeps.Reached.{Reached, Roomy, reached-rules, s
 pub data InRun (lim : Limits) (d : Dag) (M : Labels) (m : Machine) : Type 0 where
   seenWith : (s : Abstract.State) → Reached lim d M m s → InRun lim d M m
 
-module _ (lim : Limits) (d : Dag) (M : Labels) (room : Roomy lim) (flow : Flow d M) (dag : dagKept d ≡ true) (bodies : ℕ → Exp) where
+module _ (lim : Limits) (d : Dag) (M : Labels) (room : Roomy lim) (flow : Flow d M) (dag : dagHolds d ≡ true) (bodies : ℕ → Exp) where
   -- one call, accepted or refused
   pub call-in-run : (m : Machine) (c : Call) → InRun lim d M m → InRun lim d M (outcomeOf runner lim d m c .machine)
   call-in-run m c (seenWith s r) = go (holds-or-fails (isRefused (outcomeOf runner lim d m c .reply)))
@@ -48,7 +48,7 @@ module _ (lim : Limits) (d : Dag) (M : Labels) (room : Roomy lim) (flow : Flow d
   calls-in-run [] m r = r
   calls-in-run (c ∷ cs) m r = calls-in-run cs (outcomeOf runner lim d m c .machine) (call-in-run m c r)
 
-  pub in-run-rules : {m : Machine} → InRun lim d M m → rulesKept lim d m ≡ true
+  pub in-run-rules : {m : Machine} → InRun lim d M m → rulesHold lim d m ≡ true
   in-run-rules (seenWith s r) = reached-rules lim d M room flow dag r
 
   start-is : start lim d .machine ≡ startMachine lim (d .goal)

@@ -14,12 +14,12 @@ use lib.IntN.{ℤ}
 use Rattle.model.specs.Test.{all}
 use Rattle.model.specs.Number.{Signed32}
 use Rattle.model.specs.Job.Syntax.{Param, variable, constant}
-use Rattle.model.specs.Job.Node.{Node, Dag, nodeAt, paramKept}
+use Rattle.model.specs.Job.Node.{Node, Dag, nodeAt, paramHolds}
 use Rattle.model.specs.Machine.Blank.{empty, unbound, blankToken, blankCell, tokenAt, cellAt, slotAt}
 use Rattle.model.specs.Machine.Active.{within}
-use Rattle.model.specs.Machine.InUse.{kept}
+use Rattle.model.specs.Machine.InUse.{restBlanked}
 use Rattle.model.specs.Machine.Rules.{heldInRange}
-use Rattle.model.specs.Machine.Step.{being, passed, formalsBound, waitsAt, chokeToken}
+use Rattle.model.specs.Machine.Step.{withState, passed, formalsBound, waitsAt, chokeToken}
 use Rattle.model.specs.declared.token.Slot.{Slot}
 use Rattle.model.specs.declared.token.Slot.the-variants as slots
 use Rattle.model.specs.declared.token.Bind.{Bind}
@@ -57,20 +57,20 @@ binds-written bs x s g f y v = go (written bs x (record { slot = s }) empty y)
     go (inl w) e = g v (ap (λ (b : Bind). b .slot) (sym (w .1)) ∙ e)
     go (inr w) e = f y v (ap (λ (b : Bind). b .slot) (sym w) ∙ e)
 
-passed-fits : (bs : List Bind) → BindsFit bs → (p : Param) → paramKept p ≡ true → (v : ℤ) → passed bs p .slot ≡ slots.Value v → Signed32 v
-unfolding passed paramKept
+passed-fits : (bs : List Bind) → BindsFit bs → (p : Param) → paramHolds p ≡ true → (v : ℤ) → passed bs p .slot ≡ slots.Value v → Signed32 v
+unfolding passed paramHolds
 passed-fits bs f (variable x) k v e = f x v e
 passed-fits bs f (constant w) k v e = subst Signed32 (let z : w ≡ v = cc in z) k
 
-pub formals-fit : (bs : List Bind) (ps : List Param) → all paramKept ps ≡ true → BindsFit bs → BindsFit (formalsBound bs ps)
+pub formals-fit : (bs : List Bind) (ps : List Param) → all paramHolds ps ≡ true → BindsFit bs → BindsFit (formalsBound bs ps)
 unfolding formalsBound slotAt
 formals-fit bs ps k f y v e = go (length ps) ps k y e
   where
-    go : (n : ℕ) (ps : List Param) → all paramKept ps ≡ true → (y : ℕ)
+    go : (n : ℕ) (ps : List Param) → all paramHolds ps ≡ true → (y : ℕ)
         → getD (map (passed bs) ps ++ drop n unbound) y empty .slot ≡ slots.Value v → Signed32 v
     go n [] k y e = unbound-fit (n + y) v (ap (λ (b : Bind). b .slot) (sym (getD-drop n unbound y empty)) ∙ e)
-    go n (p ∷ ps) k zero e = passed-fits bs f p (all-head paramKept p ps k) v e
-    go n (p ∷ ps) k (suc y) e = go n ps (all-tail paramKept p ps k) y e
+    go n (p ∷ ps) k zero e = passed-fits bs f p (all-head paramHolds p ps k) v e
+    go n (p ∷ ps) k (suc y) e = go n ps (all-tail paramHolds p ps k) y e
 
 -- a token that waits at the cell c
 pub record Awaits (d : Dag) (cs : List Cell) (t : Token) (c : ℕ) : Type 0 where
@@ -233,7 +233,7 @@ module _ {d : Dag} {ts : List Token} {cs : List Cell} {calls : ℕ} (T : Tables 
           go (no n) = subst P (sym (cell-other cs c b k n)) y
 
   -- blanking
-  pub tables-kept : 0 < length (d .nodes) → (used cells : List Bool) → Tables d (kept blankToken used ts) (kept blankCell cells cs) calls
+  pub tables-kept : 0 < length (d .nodes) → (used cells : List Bool) → Tables d (restBlanked blankToken used ts) (restBlanked blankCell cells cs) calls
   unfolding heldInRange
   tables-kept some used cells =
       record {
@@ -247,10 +247,10 @@ module _ {d : Dag} {ts : List Token} {cs : List Cell} {calls : ℕ} (T : Tables 
       }
     where
       ts′ : List Token
-      ts′ = kept blankToken used ts
+      ts′ = restBlanked blankToken used ts
 
       cs′ : List Cell
-      cs′ = kept blankCell cells cs
+      cs′ = restBlanked blankCell cells cs
 
       token-now : (P : Token → Type 0) (p : ℕ) → P (tokenAt ts p) → P blankToken → P (tokenAt ts′ p)
       token-now P p a b = unfold tokenAt in go (kept-cases blankToken used ts p)
@@ -280,7 +280,7 @@ module _ {d : Dag} {ts : List Token} {cs : List Cell} {calls : ℕ} (T : Tables 
     waits-elsewhere b s e f x = eqb-ne c b (ap (waitsAt c) (sym e) ∙ f) (sym x)
 
     choked-kept : {t u : Token} → Choked c t u → (waitsAt c (u .state) ≡ false) → TokenKept d cs calls t → TokenKept d then calls u
-    unfolding being
+    unfolding withState
     choked-kept ends w t = blank-kept some
     choked-kept (wakes x) w t = idle-kept (t .node) (t .value) (t .binds) ready
     choked-kept {t = s} stays w t =
@@ -289,18 +289,18 @@ module _ {d : Dag} {ts : List Token} {cs : List Cell} {calls : ℕ} (T : Tables 
 
     -- nobody waits at the cell any more
     none-wait : (t : Token) → waitsAt c (chokeToken cs c t .state) ≡ false
-    unfolding chokeToken being waitsAt
+    unfolding chokeToken withState waitsAt
     none-wait t = go (within cs c (t .cell)) (waitsAt c (t .state)) refl
       where
         go : (a b : Bool) → waitsAt c (t .state) ≡ b
             → waitsAt c
-            ((elim a as (λ a. Token) [ true ↦ blankToken | false ↦ elim b as (λ b. Token) [ true ↦ being states.Ready t | false ↦ t ] ]) .state) ≡ false
+            ((elim a as (λ a. Token) [ true ↦ blankToken | false ↦ elim b as (λ b. Token) [ true ↦ withState states.Ready t | false ↦ t ] ]) .state) ≡ false
         go true b e = refl
         go false true e = refl
         go false false e = e
 
     choked-called : {t u : Token} {h : ℕ} → Choked c t u → u .state ≡ states.Called h → t .state ≡ states.Called h
-    unfolding being
+    unfolding withState
     choked-called ends e = not-called blank e
     choked-called (wakes x) e = not-called ready e
     choked-called stays e = e

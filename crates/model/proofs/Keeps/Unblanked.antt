@@ -15,8 +15,8 @@ use Rattle.model.specs.Machine.Limits.{Limits}
 use Rattle.model.specs.Machine.Blank.{empty, blankToken, blankCell, tokenAt, cellAt, slotAt, isBound, hasValue, isPlace, isBlankState}
 use Rattle.model.specs.Machine.Blank.{tokenIsBlank, cellIsBlank}
 use Rattle.model.specs.Machine.Active.{isSet, underSet, isLive, isActive}
-use Rattle.model.specs.Machine.InUse.{tokensUsed, cellsUsed, finish}
-use Rattle.model.specs.Machine.Rules.{tokenInRange, restIsBlank, rulesKept}
+use Rattle.model.specs.Machine.InUse.{tokensUsed, cellsUsed, sweep}
+use Rattle.model.specs.Machine.Rules.{tokenInRange, restIsBlank, rulesHold}
 use Rattle.model.specs.Machine.Step.{withTables}
 use Rattle.model.specs.declared.token.Slot.{Slot}
 use Rattle.model.specs.declared.token.Slot.the-variants as slots
@@ -45,10 +45,10 @@ use Rattle.model.proofs.Keeps.Clean.{Clean, tokensOf, cellsOf}
 
 -- blanking changes nothing
 abbrev pub Whole : Machine → Type 0
-Whole o = finish o ≡ o
+Whole o = sweep o ≡ o
 
-pub clean-whole : (o : Machine) → Clean o → finish o ≡ o
-unfolding finish withTables tokenAt cellAt
+pub clean-whole : (o : Machine) → Clean o → sweep o ≡ o
+unfolding sweep withTables tokenAt cellAt
 clean-whole o c =
     ap₂ (λ ts cs. withTables ts cs o)
     (kept-whole blankToken (tokensUsed o) (o .tokens) (tokensOf o .size) (c .tokens))
@@ -117,7 +117,7 @@ blank-rest test (true ∷ marks) (x ∷ xs) b (suc i) e l f = blank-rest test ma
 blank-rest test (false ∷ marks) (x ∷ xs) b (suc i) e l f = blank-rest test marks xs b i (and-right _ _ e) (omega arith) f
 
 -- "what is not in use is blank"
-pub rules-clean : (lim : Limits) (d : Dag) (m : Machine) → rulesKept lim d m ≡ true → Clean m
+pub rules-clean : (lim : Limits) (d : Dag) (m : Machine) → rulesHold lim d m ≡ true → Clean m
 unfolding tokenAt cellAt
 rules-clean lim d m kept = record { tokens = tokens; cells = cells }
   where
@@ -265,7 +265,7 @@ module _ {m o : Machine} {p : ℕ} (a : Adds m o p) where
       token i e (no n) = free-same (a .row i n) e ∙ was .tokens i (was-free i n e)
 
 -- The writes. The record m keeps the rules, and the token t at p is live
-module _ (lim : Limits) (d : Dag) (m : Machine) (kept : rulesKept lim d m ≡ true) (p : ℕ) (live : isLive (tokenAt (m .tokens) p .state) ≡ true) where
+module _ (lim : Limits) (d : Dag) (m : Machine) (kept : rulesHold lim d m ≡ true) (p : ℕ) (live : isLive (tokenAt (m .tokens) p .state) ≡ true) where
   abbrev t : Token
   t = tokenAt (m .tokens) p
 
@@ -332,7 +332,7 @@ module _ (lim : Limits) (d : Dag) (m : Machine) (kept : rulesKept lim d m ≡ tr
     pub same-adds : isLive (u .state) ≡ true → u .caller ≡ t .caller → u .cell ≡ t .cell → u .binds ≡ t .binds → Adds m o p × Used o p
     same-adds alive caller cell binds = keep-adds alive caller cell (λ x c e. ap (λ bs. slotAt bs x) binds ∙ e)
 
-    pub same-links : isLive (u .state) ≡ true → u .caller ≡ t .caller → u .cell ≡ t .cell → u .binds ≡ t .binds → finish o ≡ o
+    pub same-links : isLive (u .state) ≡ true → u .caller ≡ t .caller → u .cell ≡ t .cell → u .binds ≡ t .binds → sweep o ≡ o
     same-links alive caller cell binds = whole o (same-adds alive caller cell binds .0)
 
     -- stop, publish: a token that named nothing is blank
@@ -378,24 +378,25 @@ module _ (lim : Limits) (d : Dag) (m : Machine) (kept : rulesKept lim d m ≡ tr
       new-used = clear-used o q v second alive (clear-here v beside)
 
       new-adds : Used o p → u .caller ≡ t .caller → u .cell ≡ t .cell → u .binds ≡ t .binds → Adds m o p × (Used o p × Used o q)
-      new-adds used caller cell binds =
-          (record {
-            tokens = two-size;
-            cells = ap length cells;
-            row = two-row new-used;
-            cell = same-cell o cells;
-            clear = same-clear o cells;
-            acting = λ f. clash used f;
-            names = links o u first used caller cell (λ x c e. ap (λ bs. slotAt bs x) binds ∙ e);
-          },
-          (used, new-used))
+      new-adds used caller cell binds = (
+        record {
+          tokens = two-size;
+          cells = ap length cells;
+          row = two-row new-used;
+          cell = same-cell o cells;
+          clear = same-clear o cells;
+          acting = λ f. clash used f;
+          names = links o u first used caller cell (λ x c e. ap (λ bs. slotAt bs x) binds ∙ e);
+        },
+        (used, new-used),
+      )
 
       -- fork: the token stays live
       pub fork-adds : isLive (u .state) ≡ true → u .caller ≡ t .caller → u .cell ≡ t .cell → u .binds ≡ t .binds
           → Adds m o p × (Used o p × Used o q)
       fork-adds lives caller cell binds = new-adds (clear-used o p u first lives (clear-here u cell)) caller cell binds
 
-      pub fork-links : isLive (u .state) ≡ true → u .caller ≡ t .caller → u .cell ≡ t .cell → u .binds ≡ t .binds → finish o ≡ o
+      pub fork-links : isLive (u .state) ≡ true → u .caller ≡ t .caller → u .cell ≡ t .cell → u .binds ≡ t .binds → sweep o ≡ o
       fork-links lives caller cell binds = whole o (fork-adds lives caller cell binds .0)
 
       -- definition call: the token, in any state, is the new one's caller
@@ -404,7 +405,7 @@ module _ (lim : Limits) (d : Dag) (m : Machine) (kept : rulesKept lim d m ≡ tr
       call-adds calls caller cell binds =
           new-adds (tokensOf o .caller q new-used p (ap (λ (w : Token). w .caller) second ∙ calls)) caller cell binds
 
-      pub call-links : v .caller ≡ places.At p → u .caller ≡ t .caller → u .cell ≡ t .cell → u .binds ≡ t .binds → finish o ≡ o
+      pub call-links : v .caller ≡ places.At p → u .caller ≡ t .caller → u .cell ≡ t .cell → u .binds ≡ t .binds → sweep o ≡ o
       call-links calls caller cell binds = whole o (call-adds calls caller cell binds .0)
 
     -- where: v is in the new cell k at c, below t's; it has t's other links, and the token keeps t's cell
@@ -429,25 +430,26 @@ module _ (lim : Limits) (d : Dag) (m : Machine) (kept : rulesKept lim d m ≡ tr
         pub split-adds : isLive (u .state) ≡ true → u .cell ≡ t .cell
             → isLive (v .state) ≡ true → v .caller ≡ t .caller → v .cell ≡ places.At c → v .binds ≡ t .binds
             → Adds m o p × (Used o p × (Used o q × UsedCell o c))
-        split-adds lives cell alive caller under binds =
-            (record {
-              tokens = two-size;
-              cells = ap length cells ∙ length-set (m .cells) c k;
-              row = two-row right;
-              cell = new-row (right-names .cells .cell c under);
-              clear = clear-still;
-              acting = λ f. clash left f;
-              names =
-                  record {
-                    caller = λ i e. right-names .caller i (caller ∙ e);
-                    cells =
-                        record {
-                          cell = λ i e. left-names .cells .cell i (cell ∙ e);
-                          binds = λ x i e. right-names .cells .binds x i (ap (λ bs. slotAt bs x) binds ∙ e);
-                        };
-                  };
-            },
-            (left, (right, right-names .cells .cell c under)))
+        split-adds lives cell alive caller under binds = (
+          record {
+            tokens = two-size;
+            cells = ap length cells ∙ length-set (m .cells) c k;
+            row = two-row right;
+            cell = new-row (right-names .cells .cell c under);
+            clear = clear-still;
+            acting = λ f. clash left f;
+            names =
+                record {
+                  caller = λ i e. right-names .caller i (caller ∙ e);
+                  cells =
+                      record {
+                        cell = λ i e. left-names .cells .cell i (cell ∙ e);
+                        binds = λ x i e. right-names .cells .binds x i (ap (λ bs. slotAt bs x) binds ∙ e);
+                      };
+                };
+          },
+          (left, (right, right-names .cells .cell c under)),
+        )
           where
             left : Used o p
             left = clear-used o p u first lives (clear-still (u .cell) (ap (underSet (m .cells)) cell ∙ under-none))
@@ -465,5 +467,5 @@ module _ (lim : Limits) (d : Dag) (m : Machine) (kept : rulesKept lim d m ≡ tr
             right-names = subst (Fits (Used o) (UsedCell o)) second (used-fits o q right)
 
         pub split-links : isLive (u .state) ≡ true → u .cell ≡ t .cell
-            → isLive (v .state) ≡ true → v .caller ≡ t .caller → v .cell ≡ places.At c → v .binds ≡ t .binds → finish o ≡ o
+            → isLive (v .state) ≡ true → v .caller ≡ t .caller → v .cell ≡ places.At c → v .binds ≡ t .binds → sweep o ≡ o
         split-links lives cell alive caller under binds = whole o (split-adds lives cell alive caller under binds .0)

@@ -9,7 +9,7 @@ use Rattle.model.specs.Test.{all, All, none, more}
 use Rattle.model.specs.Number.{fits, Signed32}
 use Rattle.model.specs.Site.{Said, gives, silent, at, zeroIf, truth, sum, builtin}
 use Rattle.model.specs.Job.Syntax.{Param, variable, constant}
-use Rattle.model.specs.Job.Node.{paramKept}
+use Rattle.model.specs.Job.Node.{paramHolds}
 use Rattle.model.specs.Machine.Blank.{cellAt, slotAt}
 use Rattle.model.specs.Machine.Rules.{heldInRange}
 use Rattle.model.specs.Machine.Step.{Looked, values, unset, andThen, look, valueOf}
@@ -60,11 +60,11 @@ module _ (cs : List Cell) (bs : List Bind)
   slot-fits x (slots.Value v) e l f = then-fits v (bound x v e) f
   slot-fits x (slots.Cell c) e l f = cell-fits c (cellAt cs c .value) refl l f
 
-  pub look-fits : (ps : List Param) → all paramKept ps ≡ true → LookedFits (look cs bs ps)
-  unfolding look paramKept
+  pub look-fits : (ps : List Param) → all paramHolds ps ≡ true → LookedFits (look cs bs ps)
+  unfolding look paramHolds
   look-fits [] e = found none
-  look-fits (constant v ∷ ps) e = then-fits v (all-head paramKept _ ps e) (look-fits ps (all-tail paramKept _ ps e))
-  look-fits (variable x ∷ ps) e = slot-fits x (slotAt bs x) refl (look cs bs ps) (look-fits ps (all-tail paramKept _ ps e))
+  look-fits (constant v ∷ ps) e = then-fits v (all-head paramHolds _ ps e) (look-fits ps (all-tail paramHolds _ ps e))
+  look-fits (variable x ∷ ps) e = slot-fits x (slotAt bs x) refl (look cs bs ps) (look-fits ps (all-tail paramHolds _ ps e))
 
 -- what a built-in replies
 pub data SaidFits : Said → Type 0 where

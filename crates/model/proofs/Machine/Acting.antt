@@ -9,7 +9,7 @@ use Rattle.model.specs.Job.Syntax.{Param}
 use Rattle.model.specs.Job.Node.{Dag}
 use Rattle.model.specs.Machine.Limits.{Limits}
 use Rattle.model.specs.Machine.Blank.{tokenAt}
-use Rattle.model.specs.Machine.Step.{to, binding, inCell, being, formalsBound}
+use Rattle.model.specs.Machine.Step.{withNode, withBinding, inCell, withState, formalsBound}
 use Rattle.model.specs.declared.token.Slot.the-variants as slots
 use Rattle.model.specs.declared.token.Held.the-variants as helds
 use Rattle.model.specs.declared.token.Place.the-variants as places
@@ -47,17 +47,17 @@ module _ (lim : Limits) (d : Dag) (m : Machine) (rules : RulesKept lim d m) (p :
   write-inside u f = inside-put (inside-old lim d m rules) p u inUse f
 
   pub fork-inside : (q left right : ℕ)
-      → InsideUsed m (With (Used m) q) (UsedCell m) (set (set (m .tokens) p (to left t)) q (to right t)) (m .cells)
-  unfolding to
+      → InsideUsed m (With (Used m) q) (UsedCell m) (set (set (m .tokens) p (withNode left t)) q (withNode right t)) (m .cells)
+  unfolding withNode
   fork-inside q left right =
-      inside-token (write-inside (to left t) (fits-same refl refl refl acts)) q (to right t)
+      inside-token (write-inside (withNode left t) (fits-same refl refl refl acts)) q (withNode right t)
       (fits-map (λ i x. inl x) (λ c x. x) (fits-same refl refl refl acts))
 
   pub call-inside : (q root : ℕ) (ps : List Param) (next : ℕ)
-      → InsideUsed m (With (Used m) q) (UsedCell m) (set (set (m .tokens) p (to next (being states.Frame t))) q (callee p t root ps)) (m .cells)
-  unfolding to being
+      → InsideUsed m (With (Used m) q) (UsedCell m) (set (set (m .tokens) p (withNode next (withState states.Frame t))) q (callee p t root ps)) (m .cells)
+  unfolding withNode withState
   call-inside q root ps next =
-      inside-token (write-inside (to next (being states.Frame t)) (fits-same refl refl refl acts)) q (callee p t root ps)
+      inside-token (write-inside (withNode next (withState states.Frame t)) (fits-same refl refl refl acts)) q (callee p t root ps)
       (record {
         caller = names-at (With (Used m) q) p (inl inUse);
         cells =
@@ -69,9 +69,9 @@ module _ (lim : Limits) (d : Dag) (m : Machine) (rules : RulesKept lim d m) (p :
 
   pub split-inside : (q c x left right : ℕ)
       → InsideUsed m (With (Used m) q) (With (UsedCell m) c)
-      (set (set (m .tokens) p (to left (binding x (slots.Cell c) t))) q (inCell c (to right t)))
+      (set (set (m .tokens) p (withNode left (withBinding x (slots.Cell c) t))) q (inCell c (withNode right t)))
       (set (m .cells) c (record { parent = t .cell; value = helds.Nothing }))
-  unfolding to inCell
+  unfolding withNode inCell
   split-inside q c x left right = inside-token (inside-put cell p _ inUse binds) q _ belongs
     where
       cell : InsideUsed m (Used m) (With (UsedCell m) c) (m .tokens) (set (m .cells) c (record { parent = t .cell; value = helds.Nothing }))
@@ -80,10 +80,10 @@ module _ (lim : Limits) (d : Dag) (m : Machine) (rules : RulesKept lim d m) (p :
       acts-still : Fits (Used m) (With (UsedCell m) c) t
       acts-still = fits-map (λ i y. y) (λ b y. inl y) acts
 
-      binds : Fits (Used m) (With (UsedCell m) c) (to left (binding x (slots.Cell c) t))
+      binds : Fits (Used m) (With (UsedCell m) c) (withNode left (withBinding x (slots.Cell c) t))
       binds = fits-same refl refl refl (fits-binding x (slots.Cell c) (λ b e. inr (let z : b ≡ c = cc in z)) acts-still)
 
-      belongs : Fits (With (Used m) q) (With (UsedCell m) c) (inCell c (to right t))
+      belongs : Fits (With (Used m) q) (With (UsedCell m) c) (inCell c (withNode right t))
       belongs =
           record {
             caller = λ i e. inl (acts .caller i e);

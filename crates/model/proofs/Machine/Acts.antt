@@ -11,7 +11,7 @@ use Rattle.model.specs.Job.Syntax.{Param}
 use Rattle.model.specs.Job.Node.{Node, Dag}
 use Rattle.model.specs.Machine.Limits.{Limits}
 use Rattle.model.specs.Machine.Blank.{blankToken, tokenAt}
-use Rattle.model.specs.Machine.InUse.{finish}
+use Rattle.model.specs.Machine.InUse.{sweep}
 use Rattle.model.specs.Machine.Reply.{Effect, unless}
 use Rattle.model.specs.Machine.Step as Step
 use Rattle.model.specs.Machine.Step.{Looked, values, unset, hasTokenPlace, hasCellPlace, withOrders, chokeToken, act}
@@ -41,7 +41,7 @@ module _
     at = withOrders q w m
 
     abbrev pub Kept : Effect → Type 0
-    Kept = After (λ o. Within lim (finish o))
+    Kept = After (λ o. Within lim (sweep o))
 
     acts : Fits (Used m) (UsedCell m) acting
     acts = used-fits m p inUse
@@ -50,12 +50,12 @@ module _
     unfolding After Step.goesOn Step.enqueue Step.put Step.withTables withOrders
     goes-on u f = none-new lim d m old _ (write-inside lim d m rules p inUse u f)
 
-    ended : Within lim (finish (Step.ended at p acting))
+    ended : Within lim (sweep (Step.ended at p acting))
     unfolding Step.ended Step.put Step.withTables withOrders
     ended = none-new lim d m old _ (write-inside lim d m rules p inUse blankToken (fits-blank (Used m) (UsedCell m)))
 
     forked : (r left right : ℕ) → hasTokenPlace lim d m ≡ true → Kept (Step.forked at p acting r left right)
-    unfolding After Step.forked Step.enqueue Step.newToken Step.put Step.withTables withOrders Step.withCounts Step.to
+    unfolding After Step.forked Step.enqueue Step.newToken Step.put Step.withTables withOrders Step.withCounts Step.withNode
     forked r left right t =
         token-new lim d m old _ r t (fork-inside lim d m rules p inUse r left right)
 
@@ -65,26 +65,26 @@ module _
         → hasCellPlace lim d m ≡ true
         → Kept (Step.split at p acting r c x left right)
     unfolding
-        After Step.split Step.enqueue Step.newToken Step.newCell Step.put Step.withTables withOrders Step.withCounts Step.to Step.inCell
+        After Step.split Step.enqueue Step.newToken Step.newCell Step.put Step.withTables withOrders Step.withCounts Step.withNode Step.inCell
     split r c x left right t k = both-new lim d m old _ r c t k (split-inside lim d m rules p inUse r c x left right)
 
     entered : (r root : ℕ) (ps : List Param) (next : ℕ) → hasTokenPlace lim d m ≡ true → Kept (Step.entered at p acting r root ps next)
-    unfolding After Step.entered Step.enqueue Step.newToken Step.put Step.withTables withOrders Step.withCounts Step.to Step.being
+    unfolding After Step.entered Step.enqueue Step.newToken Step.put Step.withTables withOrders Step.withCounts Step.withNode Step.withState
     entered r root ps next t =
         token-new lim d m old _ r t (call-inside lim d m rules p inUse r root ps next)
 
     waited : (c : ℕ) → Kept (Step.waited at p acting c)
-    unfolding After Step.waited Step.put Step.withTables withOrders Step.being
+    unfolding After Step.waited Step.put Step.withTables withOrders Step.withState
     waited c =
-        none-new lim d m old _ (write-inside lim d m rules p inUse (Step.being (states.Waiting c) acting) (fits-same refl refl refl acts))
+        none-new lim d m old _ (write-inside lim d m rules p inUse (Step.withState (states.Waiting c) acting) (fits-same refl refl refl acts))
 
     replied : (next : ℕ) (s : Said) → Kept (Step.replied at p acting next s)
-    unfolding After Step.replied Step.to Step.holding
+    unfolding After Step.replied Step.withNode Step.withValue
     replied next (gives v) = goes-on _ (fits-same refl refl refl acts)
     replied next silent = ended
 
     calledOut : (s : ℕ) (vs : List ℤ) (next : ℕ) → Kept (Step.calledOut at p acting s vs next)
-    unfolding After Step.calledOut Step.put Step.withTables withOrders Step.withCounts Step.to Step.being
+    unfolding After Step.calledOut Step.put Step.withTables withOrders Step.withCounts Step.withNode Step.withState
     calledOut s vs next = none-new lim d m old _ (write-inside lim d m rules p inUse _ (fits-same refl refl refl acts))
 
     callSite : (s next : ℕ) (l : Looked) → Kept (Step.callSite lim d at p acting s next l)
@@ -103,7 +103,7 @@ module _
         go false = after-unless _ _ _ _ (λ e. calledOut s vs next)
 
     returned : (f : Place) → Names (Used m) f → Kept (Step.returned at p acting f)
-    unfolding After Step.returned withOrders Step.being Step.holding
+    unfolding After Step.returned withOrders Step.withState Step.withValue
     returned places.Nowhere n = tt
     returned (places.At f) n = goes-on _ (fits-same refl refl refl (used-fits m f (n f refl)))
 
@@ -119,7 +119,7 @@ module _
         c _ (n c refl) (used-parent m c (n c refl)))
 
     pub acted : (n : Node) → Kept (act lim d m at p acting n)
-    unfolding After act Step.to Step.binding
+    unfolding After act Step.withNode Step.withBinding
     acted Node.stop = ended
     acted Node.publish = ended
     acted (Node.fork l r) = after-unless _ _ _ _ (λ t. forked _ l r t)

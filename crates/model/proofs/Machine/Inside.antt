@@ -12,7 +12,7 @@ use lib.ListN.{length, getD, set, length-set, length-map, List·getD-map}
 use lib.Seq.{getD-set-same, getD-set-other, set-out}
 use Rattle.model.specs.Machine.Blank.{blankToken, blankCell, tokenAt, cellAt}
 use Rattle.model.specs.Machine.Active.{isLive, isActive, underSet}
-use Rattle.model.specs.Machine.InUse.{usedTokens, usedCells, tokensUsed, cellsUsed, kept, finish}
+use Rattle.model.specs.Machine.InUse.{usedTokens, usedCells, tokensUsed, cellsUsed, restBlanked, sweep}
 use Rattle.model.specs.declared.token.Token.{Token}
 use Rattle.model.specs.declared.cell.Cell.{Cell}
 use Rattle.model.specs.declared.record.Machine.{Machine}
@@ -115,10 +115,10 @@ inside-less {n} {k} {Q} {R} {ts} {cs} us ds a b f g h =
 pub inside-finish :
     {n k : ℕ} {Q R : ℕ → Type 0} (m : Machine)
     → Inside n k Q R (m .tokens) (m .cells)
-    → Inside n k Q R (finish m .tokens) (finish m .cells)
-unfolding finish tokenAt cellAt
+    → Inside n k Q R (sweep m .tokens) (sweep m .cells)
+unfolding sweep tokenAt cellAt
 inside-finish m h =
-    inside-less (kept blankToken (tokensUsed m) (m .tokens)) (kept blankCell (cellsUsed m) (m .cells))
+    inside-less (restBlanked blankToken (tokensUsed m) (m .tokens)) (restBlanked blankCell (cellsUsed m) (m .cells))
     (length-kept blankToken (tokensUsed m) (m .tokens))
     (length-kept blankCell (cellsUsed m) (m .cells))
     (kept-cases blankToken (tokensUsed m) (m .tokens))

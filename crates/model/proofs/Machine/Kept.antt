@@ -6,13 +6,13 @@ use mathlib.Core.List.{List, [], _∷_}
 use Prim.Native.Nat.{ℕ, zero, suc}
 use native.Mathlib.Omega.{arith}
 use lib.ListN.{length, getD}
-use Rattle.model.specs.Machine.InUse.{kept}
+use Rattle.model.specs.Machine.InUse.{restBlanked}
 use Rattle.model.proofs.Test.{clash}
 use Rattle.model.proofs.Machine.Marks.{Marked, Free}
 
 module _ {A : Type 0} (blank : A) where
-  pub length-kept : (marks : List Bool) (xs : List A) → length (kept blank marks xs) ≡ length xs
-  unfolding kept
+  pub length-kept : (marks : List Bool) (xs : List A) → length (restBlanked blank marks xs) ≡ length xs
+  unfolding restBlanked
   length-kept marks [] = refl
   length-kept [] (x ∷ xs) = ap suc (length-kept [] xs)
   length-kept (true ∷ marks) (x ∷ xs) = ap suc (length-kept marks xs)
@@ -22,8 +22,8 @@ module _ {A : Type 0} (blank : A) where
       (marks : List Bool) (xs : List A) (i : ℕ)
       → length marks ≡ length xs
       → Marked marks i
-      → getD (kept blank marks xs) i blank ≡ getD xs i blank
-  unfolding kept
+      → getD (restBlanked blank marks xs) i blank ≡ getD xs i blank
+  unfolding restBlanked
   kept-marked marks [] i l m = refl
   kept-marked [] (x ∷ xs) i l m = absurd (omega arith)
   kept-marked (true ∷ marks) (x ∷ xs) zero l m = refl
@@ -31,8 +31,8 @@ module _ {A : Type 0} (blank : A) where
   kept-marked (false ∷ marks) (x ∷ xs) zero l m = clash m refl
   kept-marked (false ∷ marks) (x ∷ xs) (suc i) l m = kept-marked marks xs i (omega arith) m
 
-  pub kept-free : (marks : List Bool) (xs : List A) (i : ℕ) → Free marks i → getD (kept blank marks xs) i blank ≡ blank
-  unfolding kept
+  pub kept-free : (marks : List Bool) (xs : List A) (i : ℕ) → Free marks i → getD (restBlanked blank marks xs) i blank ≡ blank
+  unfolding restBlanked
   kept-free marks [] i e = refl
   kept-free [] (x ∷ xs) i e = clash refl e
   kept-free (true ∷ marks) (x ∷ xs) zero e = clash refl e
@@ -43,8 +43,8 @@ module _ {A : Type 0} (blank : A) where
   -- what stands at a place afterwards stood there before, or is blank
   pub kept-cases :
       (marks : List Bool) (xs : List A) (i : ℕ)
-      → (getD (kept blank marks xs) i blank ≡ getD xs i blank) ⊎ (getD (kept blank marks xs) i blank ≡ blank)
-  unfolding kept
+      → (getD (restBlanked blank marks xs) i blank ≡ getD xs i blank) ⊎ (getD (restBlanked blank marks xs) i blank ≡ blank)
+  unfolding restBlanked
   kept-cases marks [] i = inr refl
   kept-cases [] (x ∷ xs) zero = inr refl
   kept-cases [] (x ∷ xs) (suc i) = kept-cases [] xs i
@@ -58,8 +58,8 @@ module _ {A : Type 0} (blank : A) where
       (marks : List Bool) (xs : List A)
       → length marks ≡ length xs
       → ((i : ℕ) → Free marks i → getD xs i blank ≡ blank)
-      → kept blank marks xs ≡ xs
-  unfolding kept
+      → restBlanked blank marks xs ≡ xs
+  unfolding restBlanked
   kept-whole marks [] l h = refl
   kept-whole [] (x ∷ xs) l h = absurd (omega arith)
   kept-whole (true ∷ marks) (x ∷ xs) l h = ap (λ ys. x ∷ ys) (kept-whole marks xs (omega arith) (λ i e. h (suc i) e))

@@ -13,7 +13,7 @@ use Rattle.model.specs.Job.Node.{Node, Dag, nodeAt}
 use Rattle.model.specs.Machine.Limits.{Limits}
 use Rattle.model.specs.Machine.Blank.{tokenAt}
 use Rattle.model.specs.Machine.InUse.{marked, tokensUsed, cellsUsed}
-use Rattle.model.specs.Machine.Rules.{tokenInRange, cellInRange, sizesInRange, machineKept, rulesKept}
+use Rattle.model.specs.Machine.Rules.{tokenInRange, cellInRange, sizesInRange, machineHolds, rulesHold}
 use Rattle.model.specs.Machine.Reply.{Effect, refuses, unless, outcome, isRefused}
 use Rattle.model.specs.Machine.Step.{Looked, values, unset, withOrders, queueOf, waitsOf, callSite, hasTokenPlace, hasCellPlace, act, takes, step}
 use Rattle.model.specs.Machine.Answer.{holder, answered, answer}
@@ -33,8 +33,8 @@ allowing lim t c =
     record { tokenPlaces = lim .tokenPlaces; cellPlaces = lim .cellPlaces; tokens = t; cells = c; calls = lim .calls }
 
 -- the rules do not speak of these limits, and an answer does not test them
-same-rules : (lim : Limits) (t c : ℕ) (d : Dag) (m : Machine) → rulesKept (allowing lim t c) d m ≡ rulesKept lim d m
-unfolding rulesKept machineKept tokenInRange cellInRange sizesInRange
+same-rules : (lim : Limits) (t c : ℕ) (d : Dag) (m : Machine) → rulesHold (allowing lim t c) d m ≡ rulesHold lim d m
+unfolding rulesHold machineHolds tokenInRange cellInRange sizesInRange
 same-rules lim t c d m = refl
 
 same-answer : (lim : Limits) (t c : ℕ) (d : Dag) (m : Machine) (h : ℕ) (v : ℤ) → answer (allowing lim t c) d m h v ≡ answer lim d m h v

@@ -8,11 +8,11 @@ use Prim.Native.Nat.{ℕ, _<_}
 use native.Mathlib.Omega.{arith}
 use lib.Dec.{ltb}
 use lib.IntN.{ℤ}
-use Rattle.model.specs.Job.Node.{Dag, dagKept}
+use Rattle.model.specs.Job.Node.{Dag, dagHolds}
 use Rattle.model.specs.Machine.Limits.{Limits}
 use Rattle.model.specs.Machine.Blank.{blankMachine}
-use Rattle.model.specs.Machine.InUse.{finish}
-use Rattle.model.specs.Machine.Rules.{rulesKept}
+use Rattle.model.specs.Machine.InUse.{sweep}
+use Rattle.model.specs.Machine.Rules.{rulesHold}
 use Rattle.model.specs.Machine.Reply.{Effect, moves, waits, publishes, calls, refuses, accepted, outcome, unless, valuesBeside, isRefused}
 use Rattle.model.specs.Machine.Start.{start, startMachine}
 use Rattle.model.specs.Machine.Step.{step, takes}
@@ -64,7 +64,7 @@ after-unless P false r e h = tt
 
 pub after-outcome :
     (P Q : Machine → Type 0)
-    → ((o : Machine) → P o → Q (finish o))
+    → ((o : Machine) → P o → Q (sweep o))
     → (m : Machine) (e : Effect)
     → After P e
     → isRefused (outcome m e .reply) ≡ false
@@ -99,13 +99,13 @@ abbrev pub notBegun : Limits → Outcome
 notBegun lim = record { reply = replies.Refused refusals.Rule; values = valuesBeside []; machine = blankMachine lim }
 
 abbrev pub StartCases : Limits → Dag → Outcome → Type 0
-StartCases lim d o = ((dagKept d ≡ true) × (o ≡ begun lim d)) ⊎ ((dagKept d ≡ false) × (o ≡ notBegun lim))
+StartCases lim d o = ((dagHolds d ≡ true) × (o ≡ begun lim d)) ⊎ ((dagHolds d ≡ false) × (o ≡ notBegun lim))
 
 pub start-cases : (lim : Limits) (d : Dag) → StartCases lim d (start lim d)
 unfolding start
-start-cases lim d = go (dagKept d) refl
+start-cases lim d = go (dagHolds d) refl
   where
-    go : (b : Bool) → dagKept d ≡ b → StartCases lim d (elim b [ true ↦ begun lim d | false ↦ notBegun lim ])
+    go : (b : Bool) → dagHolds d ≡ b → StartCases lim d (elim b [ true ↦ begun lim d | false ↦ notBegun lim ])
     go true e = inl (e, refl)
     go false e = inr (e, refl)
 
@@ -127,17 +127,17 @@ start-refused lim d r e = go (start-cases lim d)
 pub start-accepted :
     (lim : Limits) (d : Dag)
     → isRefused (start lim d .reply) ≡ false
-    → (dagKept d ≡ true) × (start lim d ≡ begun lim d)
+    → (dagHolds d ≡ true) × (start lim d ≡ begun lim d)
 unfolding isRefused
 start-accepted lim d e = go (start-cases lim d)
   where
-    go : StartCases lim d (start lim d) → (dagKept d ≡ true) × (start lim d ≡ begun lim d)
+    go : StartCases lim d (start lim d) → (dagHolds d ≡ true) × (start lim d ≡ begun lim d)
     go (inl x) = x
     go (inr x) = clash (ap (λ (o : Outcome). isRefused (o .reply)) (x .1)) e
 
 -- "A step tests 14, 9": an accepted step kept the rules, took a queued token and did what its node does
 pub record StepAccepted (lim : Limits) (d : Dag) (m : Machine) (place : ℕ) : Type 0 where
-  pub kept : rulesKept lim d m ≡ true
+  pub kept : rulesHold lim d m ≡ true
   pub queued : place < m .queued
   pub does : step lim d m place ≡ outcome m (takes lim d m place)
 
@@ -151,11 +151,11 @@ step-accepted lim d m place a = record { kept = k; queued = ltb-lt place (m .que
     inner : Effect
     inner = unless (ltb place (m .queued)) refusals.NoToken (takes lim d m place)
 
-    k : rulesKept lim d m ≡ true
-    k = unless-accepted m (rulesKept lim d m) refusals.Rule inner a
+    k : rulesHold lim d m ≡ true
+    k = unless-accepted m (rulesHold lim d m) refusals.Rule inner a
 
-    tested : unless (rulesKept lim d m) refusals.Rule inner ≡ inner
-    tested = unless-true (rulesKept lim d m) refusals.Rule inner k
+    tested : unless (rulesHold lim d m) refusals.Rule inner ≡ inner
+    tested = unless-true (rulesHold lim d m) refusals.Rule inner k
 
     q : ltb place (m .queued) ≡ true
     q =
@@ -167,7 +167,7 @@ step-accepted lim d m place a = record { kept = k; queued = ltb-lt place (m .que
 
 -- "An answer tests 14, 12"
 pub record AnswerAccepted (lim : Limits) (d : Dag) (m : Machine) (handle : ℕ) (value : ℤ) : Type 0 where
-  pub kept : rulesKept lim d m ≡ true
+  pub kept : rulesHold lim d m ≡ true
   pub does : answer lim d m handle value ≡ outcome m (answered m value (holder handle 0 (m .tokens)))
 
 pub answer-accepted :
@@ -175,10 +175,10 @@ pub answer-accepted :
     → isRefused (answer lim d m handle value .reply) ≡ false
     → AnswerAccepted lim d m handle value
 unfolding answer
-answer-accepted lim d m h v a = record { kept = k; does = ap (outcome m) (unless-true (rulesKept lim d m) refusals.Rule inner k) }
+answer-accepted lim d m h v a = record { kept = k; does = ap (outcome m) (unless-true (rulesHold lim d m) refusals.Rule inner k) }
   where
     inner : Effect
     inner = answered m v (holder h 0 (m .tokens))
 
-    k : rulesKept lim d m ≡ true
-    k = unless-accepted m (rulesKept lim d m) refusals.Rule inner a
+    k : rulesHold lim d m ≡ true
+    k = unless-accepted m (rulesHold lim d m) refusals.Rule inner a

@@ -9,13 +9,13 @@ use lib.ListN.{length, getD, take, drop}
 use lib.Seq.{getD-take, length-take-le}
 use lib.Dec.{ltb, eqb}
 use Rattle.model.specs.Test.{_and_, all, allFrom, count, once, differ}
-use Rattle.model.specs.Job.Node.{Dag, dagKept}
+use Rattle.model.specs.Job.Node.{Dag, dagHolds}
 use Rattle.model.specs.Machine.Limits.{Limits}
 use Rattle.model.specs.Machine.Blank.{blankToken, tokenAt, tokenIsBlank, cellIsBlank}
 use Rattle.model.specs.Machine.Active.{isLive}
 use Rattle.model.specs.Machine.InUse.{tokensUsed, cellsUsed}
 use Rattle.model.specs.Machine.Rules as rules
-use Rattle.model.specs.Machine.Rules.{isReady, isWaiting, namesOnce, restIsBlank, machineKept, rulesKept}
+use Rattle.model.specs.Machine.Rules.{isReady, isWaiting, namesOnce, restIsBlank, machineHolds, rulesHold}
 use Rattle.model.specs.declared.token.State.{State}
 use Rattle.model.specs.declared.token.State.the-variants as states
 use Rattle.model.specs.declared.token.Token.{Token}
@@ -27,7 +27,7 @@ both a b e = (and-left a b e, and-right a b e)
 
 -- the rules, in their order
 pub record RulesKept (lim : Limits) (d : Dag) (m : Machine) : Type 0 where
-  pub dag : dagKept d ≡ true
+  pub dag : dagHolds d ≡ true
   pub sizes : rules.sizesInRange lim d m ≡ true
   pub tokens : all (rules.tokenInRange lim d (m .calls)) (m .tokens) ≡ true
   pub cells : all (rules.cellInRange lim d) (m .cells) ≡ true
@@ -41,8 +41,8 @@ pub record RulesKept (lim : Limits) (d : Dag) (m : Machine) : Type 0 where
   pub blankTokens : restIsBlank tokenIsBlank (tokensUsed m) (m .tokens) ≡ true
   pub blankCells : restIsBlank cellIsBlank (cellsUsed m) (m .cells) ≡ true
 
-pub rules-kept : (lim : Limits) (d : Dag) (m : Machine) → rulesKept lim d m ≡ true → RulesKept lim d m
-unfolding rulesKept machineKept
+pub rules-kept : (lim : Limits) (d : Dag) (m : Machine) → rulesHold lim d m ≡ true → RulesKept lim d m
+unfolding rulesHold machineHolds
 rules-kept lim d m e =
     let dag = both _ _ e in
     let sizes = both _ _ (dag .1) in

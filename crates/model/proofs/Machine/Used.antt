@@ -11,7 +11,7 @@ use Rattle.model.specs.Job.Node.{Dag}
 use Rattle.model.specs.Machine.Limits.{Limits}
 use Rattle.model.specs.Machine.Blank.{blankToken, tokenAt, cellAt}
 use Rattle.model.specs.Machine.Active.{isLive, isActive, underSet}
-use Rattle.model.specs.Machine.InUse.{tokensUsed, cellsUsed, marked, finish}
+use Rattle.model.specs.Machine.InUse.{tokensUsed, cellsUsed, marked, sweep}
 use Rattle.model.specs.Machine.Rules.{notUnderSet}
 use Rattle.model.specs.Machine.Step.{hasTokenPlace, hasCellPlace}
 use Rattle.model.specs.declared.token.Token.{Token}
@@ -114,11 +114,11 @@ module _ (lim : Limits) (d : Dag) (m : Machine) (rules : RulesKept lim d m) wher
 
 -- a record within the limits: nothing new; a new token; a new token and a new cell
 module _ (lim : Limits) (d : Dag) (m : Machine) (old : Within lim m) where
-  pub none-new : (o : Machine) → InsideUsed m (Used m) (UsedCell m) (o .tokens) (o .cells) → Within lim (finish o)
+  pub none-new : (o : Machine) → InsideUsed m (Used m) (UsedCell m) (o .tokens) (o .cells) → Within lim (sweep o)
   none-new o h =
       let f = inside-finish o h in
-      let x = tokens-same m (finish o) f in
-      let y = cells-same m (finish o) f in
+      let x = tokens-same m (sweep o) f in
+      let y = cells-same m (sweep o) f in
       let z = old .0 in
       let w = old .1 in
       (omega arith, omega arith)
@@ -127,12 +127,12 @@ module _ (lim : Limits) (d : Dag) (m : Machine) (old : Within lim m) where
       (o : Machine) (q : ℕ)
       → hasTokenPlace lim d m ≡ true
       → InsideUsed m (With (Used m) q) (UsedCell m) (o .tokens) (o .cells)
-      → Within lim (finish o)
+      → Within lim (sweep o)
   unfolding hasTokenPlace
   token-new o q t h =
       let f = inside-finish o h in
-      let x = tokens-one m (finish o) q f in
-      let y = cells-same m (finish o) f in
+      let x = tokens-one m (sweep o) q f in
+      let y = cells-same m (sweep o) f in
       let z = ltb-lt (marked (tokensUsed m)) (lim .tokens) t in
       let w = old .1 in
       (omega arith, omega arith)
@@ -142,12 +142,12 @@ module _ (lim : Limits) (d : Dag) (m : Machine) (old : Within lim m) where
       → hasTokenPlace lim d m ≡ true
       → hasCellPlace lim d m ≡ true
       → InsideUsed m (With (Used m) q) (With (UsedCell m) c) (o .tokens) (o .cells)
-      → Within lim (finish o)
+      → Within lim (sweep o)
   unfolding hasTokenPlace hasCellPlace
   both-new o q c t k h =
       let f = inside-finish o h in
-      let x = tokens-one m (finish o) q f in
-      let y = cells-one m (finish o) c f in
+      let x = tokens-one m (sweep o) q f in
+      let y = cells-one m (sweep o) c f in
       let z = ltb-lt (marked (tokensUsed m)) (lim .tokens) t in
       let w = ltb-lt (marked (cellsUsed m)) (lim .cells) k in
       (omega arith, omega arith)

@@ -13,7 +13,7 @@ use Rattle.model.specs.Job.Node.{Dag, nodeAt}
 use Rattle.model.specs.Machine.Limits.{Limits}
 use Rattle.model.specs.Machine.Blank.{tokenAt}
 use Rattle.model.specs.Machine.Active.{isLive}
-use Rattle.model.specs.Machine.InUse.{finish}
+use Rattle.model.specs.Machine.InUse.{sweep}
 use Rattle.model.specs.Machine.Rules.{isReady, handleOf}
 use Rattle.model.specs.Machine.Reply.{isRefused}
 use Rattle.model.specs.Machine.Step as Step
@@ -71,7 +71,7 @@ module _ (lim : Limits) (d : Dag) (m : Machine) where
   unfolding takes
   step-within place old e =
       subst (λ (o : Outcome). Within lim (o .machine)) (sym (a .does))
-      (after-outcome (λ o. Within lim (finish o)) (Within lim) (λ o x. x) m (takes lim d m place)
+      (after-outcome (λ o. Within lim (sweep o)) (Within lim) (λ o x. x) m (takes lim d m place)
       (acted lim d m rules old p inUse (without place (queueOf m)) (waitsOf m) (nodeAt d (tokenAt (m .tokens) p .node)))
       (subst (λ (o : Outcome). isRefused (o .reply) ≡ false) (a .does) e))
     where
@@ -96,8 +96,8 @@ module _ (lim : Limits) (d : Dag) (m : Machine) where
       → holder handle 0 (m .tokens) ≡ h
       → RulesKept lim d m
       → Within lim m
-      → After (λ o. Within lim (finish o)) (answered m value h)
-  unfolding After answered Step.enqueue Step.put Step.withTables Step.withOrders Step.being Step.holding
+      → After (λ o. Within lim (sweep o)) (answered m value h)
+  unfolding After answered Step.enqueue Step.put Step.withTables Step.withOrders Step.withState Step.withValue
   answered-within v handle places.Nowhere e rules old = tt
   answered-within v handle (places.At p) e rules old =
       none-new lim d m old _ (inside-put (inside-old lim d m rules) p _ inUse (fits-same refl refl refl (used-fits m p inUse)))
@@ -118,7 +118,7 @@ module _ (lim : Limits) (d : Dag) (m : Machine) where
       → Within lim (answer lim d m handle value .machine)
   answer-within handle value old e =
       subst (λ (o : Outcome). Within lim (o .machine)) (sym (a .does))
-      (after-outcome (λ o. Within lim (finish o)) (Within lim) (λ o x. x) m (answered m value (holder handle 0 (m .tokens)))
+      (after-outcome (λ o. Within lim (sweep o)) (Within lim) (λ o x. x) m (answered m value (holder handle 0 (m .tokens)))
       (answered-within value handle (holder handle 0 (m .tokens)) refl (rules-kept lim d m (a .kept)) old)
       (subst (λ (o : Outcome). isRefused (o .reply) ≡ false) (a .does) e))
     where

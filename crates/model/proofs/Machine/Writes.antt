@@ -12,7 +12,7 @@ use lib.IntN.{ℤ}
 use Rattle.model.specs.Job.Syntax.{Param, variable, constant}
 use Rattle.model.specs.Machine.Blank.{empty, unbound, blankToken, slotAt}
 use Rattle.model.specs.Machine.Active.{isLive, within}
-use Rattle.model.specs.Machine.Step.{binding, being, passed, formalsBound, waitsAt, chokeToken}
+use Rattle.model.specs.Machine.Step.{withBinding, withState, passed, formalsBound, waitsAt, chokeToken}
 use Rattle.model.specs.declared.token.Slot.{Slot}
 use Rattle.model.specs.declared.token.Slot.the-variants as slots
 use Rattle.model.specs.declared.token.Bind.{Bind}
@@ -46,8 +46,8 @@ pub fits-binding :
     {Q R : ℕ → Type 0} {t : Token} (x : ℕ) (s : Slot)
     → ((c : ℕ) → s ≡ slots.Cell c → R c)
     → Fits Q R t
-    → Fits Q R (binding x s t)
-unfolding binding slotAt
+    → Fits Q R (withBinding x s t)
+unfolding withBinding slotAt
 fits-binding {Q} {R} {t} x s g f =
     record {
       caller = f .caller;
@@ -65,10 +65,10 @@ fits-binding {Q} {R} {t} x s g f =
     bound y c (inl w) e = g c (ap (λ (b : Bind). b .slot) (sym (w .1)) ∙ e)
     bound y c (inr w) e = f .cells .binds y c (ap (λ (b : Bind). b .slot) (sym w) ∙ e)
 
-pub fits-value : {Q R : ℕ → Type 0} {t : Token} (x : ℕ) (v : ℤ) → Fits Q R t → Fits Q R (binding x (slots.Value v) t)
+pub fits-value : {Q R : ℕ → Type 0} {t : Token} (x : ℕ) (v : ℤ) → Fits Q R t → Fits Q R (withBinding x (slots.Value v) t)
 fits-value x v f = fits-binding x (slots.Value v) (λ c e. let z : _≡_ {A = ℕ} 0 1 = cc in absurd (omega arith)) f
 
-pub fits-empty : {Q R : ℕ → Type 0} {t : Token} (x : ℕ) → Fits Q R t → Fits Q R (binding x slots.Empty t)
+pub fits-empty : {Q R : ℕ → Type 0} {t : Token} (x : ℕ) → Fits Q R t → Fits Q R (withBinding x slots.Empty t)
 fits-empty x f = fits-binding x slots.Empty (λ c e. let z : _≡_ {A = ℕ} 0 1 = cc in absurd (omega arith)) f
 
 -- a formal is bound to a value, or as a variable was
@@ -95,7 +95,7 @@ formals-cell bs ps y c e = go (length ps) ps y e
 -- a choked token is blank, woken, or as it was
 pub data Choked (c : ℕ) (t : Token) : Token → Type 0 where
   ends : Choked c t blankToken
-  wakes : waitsAt c (t .state) ≡ true → Choked c t (being states.Ready t)
+  wakes : waitsAt c (t .state) ≡ true → Choked c t (withState states.Ready t)
   stays : Choked c t t
 
 pub choked-cases : (cs : List Cell) (c : ℕ) (t : Token) → Choked c t (chokeToken cs c t)
@@ -105,7 +105,7 @@ choked-cases cs c t = go (within cs c (t .cell)) (waitsAt c (t .state)) refl
     go :
         (a b : Bool)
         → waitsAt c (t .state) ≡ b
-        → Choked c t (elim a [ true ↦ blankToken | false ↦ elim b [ true ↦ being states.Ready t | false ↦ t ] ])
+        → Choked c t (elim a [ true ↦ blankToken | false ↦ elim b [ true ↦ withState states.Ready t | false ↦ t ] ])
     go true b e = ends
     go false true e = wakes e
     go false false e = stays
@@ -134,7 +134,7 @@ choked-live {c} {t} (wakes w) e = waiting-live c (t .state) w
 choked-live stays e = e
 
 pub choked-fits : {Q R : ℕ → Type 0} {c : ℕ} {t u : Token} → Choked c t u → Fits Q R t → Fits Q R u
-unfolding being
+unfolding withState
 choked-fits {Q} {R} ends f = fits-blank Q R
 choked-fits (wakes w) f = fits-same refl refl refl f
 choked-fits stays f = f

@@ -10,7 +10,7 @@ use lib.Seq.{getD-set-other, getD-take, take-append-seam}
 use Rattle.model.specs.Test.{padded}
 use Rattle.model.specs.Machine.Blank.{blankToken, tokenAt}
 use Rattle.model.specs.Machine.Active.{underSet, isActive}
-use Rattle.model.specs.Machine.InUse.{tokensUsed, finish}
+use Rattle.model.specs.Machine.InUse.{tokensUsed, sweep}
 use Rattle.model.specs.Machine.Rules.{isReady}
 use Rattle.model.specs.Machine.Step.{withTables, withOrders, withCounts, queueOf, waitsOf, put, enqueue, newToken, newCell}
 use Rattle.model.specs.Run.Follow.{Stands, queuedToken}
@@ -100,7 +100,7 @@ module _ {u : Token} {p k : ℕ} where
 
   pub untouched-token : (q : ℕ) (t : Token) (m : Machine) → (p ≡ q → ⊥) → Untouched u p k m → Untouched u p k (newToken q t m)
   unfolding newToken
-  untouched-token q t m n h = untouched-counts (m .calls) q (m .newcell) (put q t m) (untouched-put q t m n h)
+  untouched-token q t m n h = untouched-counts (m .calls) q (m .lastcell) (put q t m) (untouched-put q t m n h)
 
   pub untouched-cell :
       (c : ℕ) (above : Place) (m : Machine) → underSet (m .cells) above ≡ false
@@ -116,8 +116,8 @@ module _ {u : Token} {p : ℕ} (ready : isReady (u .state) ≡ true) where
       tokens-used (m .tokens) (m .cells) .active p
       (subst (λ (t : Token). isActive (m .cells) t ≡ true) (sym (h .token)) (live-active (m .cells) u (ready-live (u .state) ready) (h .clear)))
 
-  pub unharmed-finish : (m : Machine) → Unharmed u p m → tokenAt (finish m .tokens) p ≡ u
-  unfolding finish tokenAt
+  pub unharmed-finish : (m : Machine) → Unharmed u p m → tokenAt (sweep m .tokens) p ≡ u
+  unfolding sweep tokenAt
   unharmed-finish m h =
       kept-marked blankToken (tokensUsed m) (m .tokens) p (tokens-used (m .tokens) (m .cells) .size) (unharmed-marked m h) ∙ h .token
 
@@ -129,13 +129,13 @@ pub untouched-stands :
     (m : Machine) (k : ℕ) (after : Machine) (k′ : ℕ)
     → isReady (queuedToken m k .state) ≡ true
     → Untouched (queuedToken m k) (getD (m .queue) k 0) k′ after
-    → Stands m k (finish after) k′
-unfolding finish queueOf
+    → Stands m k (sweep after) k′
+unfolding sweep queueOf
 untouched-stands m k after k′ r h =
     record {
       queued = inside;
       place = named;
-      token = subst (λ p. tokenAt (finish after .tokens) p ≡ queuedToken m k) (sym named) (unharmed-finish r after (h .unharmed));
+      token = subst (λ p. tokenAt (sweep after .tokens) p ≡ queuedToken m k) (sym named) (unharmed-finish r after (h .unharmed));
     }
   where
     inside : k′ < after .queued

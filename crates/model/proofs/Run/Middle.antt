@@ -9,7 +9,7 @@ use native.Mathlib.Omega.{arith}
 use lib.ListN.{length}
 use Rattle.model.specs.Job.Syntax.{Program}
 use Rattle.model.specs.Job.WellFormed.{WellFormed}
-use Rattle.model.specs.Job.Node.{Dag, dagKept}
+use Rattle.model.specs.Job.Node.{Dag, dagHolds}
 use Rattle.model.specs.Job.Construct.{construct}
 use Rattle.model.specs.Machine.Limits.{Limits, limits}
 use Rattle.model.specs.Machine.InUse.{marked, tokensUsed, cellsUsed}
@@ -72,7 +72,7 @@ unfolding outcomeOf
 call-adds lim d m (step k) ok = step-adds lim d m k ok
 call-adds lim d m (answer h v signed) ok = let x = answer-adds lim d m h v ok in (let z = x .0 in omega arith, (let z = x .1 in omega arith))
 
-module _ (lim : Limits) (d : Dag) (M : Labels) (bodies : ℕ → Exp) (room : Roomy lim) (flow : Flow d M) (dag : dagKept d ≡ true) where
+module _ (lim : Limits) (d : Dag) (M : Labels) (bodies : ℕ → Exp) (room : Roomy lim) (flow : Flow d M) (dag : dagHolds d ≡ true) where
   -- a record of a run with room for n more steps
   record Spare (n : ℕ) (m : Machine) : Type 0 where
     state : Abstract.State
@@ -147,7 +147,7 @@ module _ (p : Program) (w : WellFormed p) {events : List Event} {s : Abstract.St
       flow : Flow d M
       flow = construct-flows p w
 
-      dag : dagKept d ≡ true
+      dag : dagHolds d ≡ true
       dag = construct-kept p w
 
       begun : Reached lim d M m (startAt (d .goal))

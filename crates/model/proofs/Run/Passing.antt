@@ -19,9 +19,9 @@ use Rattle.model.specs.Machine.Blank.{blankToken}
 use Rattle.model.specs.Machine.Active.{underSet, within}
 use Rattle.model.specs.Machine.InUse.{tokensUsed, marked}
 use Rattle.model.specs.Machine.Places.{nextPlace}
-use Rattle.model.specs.Machine.Rules.{rulesKept}
+use Rattle.model.specs.Machine.Rules.{rulesHold}
 use Rattle.model.specs.Machine.Reply.{Effect, calls, unless, isRefused}
-use Rattle.model.specs.Machine.Step.{to, binding, inCell, withTables, withOrders, withCounts, queueOf, waitsOf, put, newToken, Looked, values, unset, ended, goesOn, forked, split, entered, waited, replied, calledOut, returned, chokes, callSite, hasTokenPlace, act, takes, step}
+use Rattle.model.specs.Machine.Step.{withNode, withBinding, inCell, withTables, withOrders, withCounts, queueOf, waitsOf, put, newToken, Looked, values, unset, ended, goesOn, forked, split, entered, waited, replied, calledOut, returned, chokes, callSite, hasTokenPlace, act, takes, step}
 use Rattle.model.specs.Run.Follow.{queuedToken, cellSet, endsToken, frontEnds, survivors, stays, fate, Stands}
 use Rattle.model.specs.declared.token.Slot.the-variants as slots
 use Rattle.model.specs.declared.token.Place.{Place}
@@ -35,7 +35,7 @@ use Rattle.model.proofs.Test.{clash, ltb-lt}
 use Rattle.model.proofs.Machine.InUse.{tokens-used}
 use Rattle.model.proofs.Machine.Places.{next-place-free}
 use Rattle.model.proofs.Machine.Refused.{After, after-unless, after-outcome, StepAccepted, step-accepted}
-use Rattle.model.proofs.Run.Queue.{QueueKept, queue-kept, tokens-sized, newtoken-inside}
+use Rattle.model.proofs.Run.Queue.{QueueKept, queue-kept, tokens-sized, lasttoken-inside}
 use Rattle.model.proofs.Run.Survivors.{among, Behind, filter-finds, survivors-all, survivors-pass, fate-stays}
 use Rattle.model.proofs.Run.Choking.{readyThen, queueThen, within-ready, untouched-choked}
 use Rattle.model.proofs.Run.Bystander.{Unharmed, Untouched, queue-orders, untouched-orders, untouched-waits, untouched-enqueue, untouched-put, untouched-counts, untouched-token, untouched-cell, unharmed-marked, kept-unharmed, untouched-stands}
@@ -131,10 +131,10 @@ module _ (lim : Limits) (d : Dag) (m : Machine) (h : QueueKept m) (k : ℕ) (l :
       (untouched-cell c (actor .cell) made made-clear (untouched-token q right′ _ n (untouched-put front left′ taken apart base))))
     where
       left′ : Token
-      left′ = to left (binding x (slots.Cell c) actor)
+      left′ = withNode left (withBinding x (slots.Cell c) actor)
 
       right′ : Token
-      right′ = inCell c (to right actor)
+      right′ = inCell c (withNode right actor)
 
       made : Machine
       made = newToken q right′ (put front left′ taken)
@@ -185,18 +185,18 @@ module _ (lim : Limits) (d : Dag) (m : Machine) (h : QueueKept m) (k : ℕ) (l :
   used-length : length (tokensUsed m) ≡ length (m .tokens)
   used-length = tokens-used (m .tokens) (m .cells) .size
 
-  module _ (fits : lim .tokens ≤ lim .tokenPlaces) (kept : rulesKept lim d m ≡ true) where
-    fresh : hasTokenPlace lim d m ≡ true → place ≡ nextPlace (tokensUsed m) (m .newtoken) → ⊥
+  module _ (fits : lim .tokens ≤ lim .tokenPlaces) (kept : rulesHold lim d m ≡ true) where
+    fresh : hasTokenPlace lim d m ≡ true → place ≡ nextPlace (tokensUsed m) (m .lasttoken) → ⊥
     unfolding hasTokenPlace
     fresh e p =
         clash (unharmed-marked (h .ready (suc k) l) m unharmed)
-        (ap (λ i. getD (tokensUsed m) i true) p ∙ next-place-free (tokensUsed m) (m .newtoken) inside room)
+        (ap (λ i. getD (tokensUsed m) i true) p ∙ next-place-free (tokensUsed m) (m .lasttoken) inside room)
       where
         sized : length (m .tokens) ≡ lim .tokenPlaces
         sized = tokens-sized lim d m kept
 
-        inside : m .newtoken < length (tokensUsed m)
-        inside = let z = newtoken-inside lim d m kept in let s = sized in let u = used-length in omega arith
+        inside : m .lasttoken < length (tokensUsed m)
+        inside = let z = lasttoken-inside lim d m kept in let s = sized in let u = used-length in omega arith
 
         room : marked (tokensUsed m) < length (tokensUsed m)
         room = let z = ltb-lt (marked (tokensUsed m)) (lim .tokens) e in let s = sized in let u = used-length in omega arith
@@ -268,7 +268,7 @@ module _ (lim : Limits) (d : Dag) (m : Machine) (h : QueueKept m) (k : ℕ) (l :
         found = filter-finds (readyThen c taken) both k both-long (not-false _ (sym (told-both k (omega arith)) ∙ f))
 
   -- any instruction: at choke by its own law, else no cell is set and the token watched moves up by one
-  module _ (fits : lim .tokens ≤ lim .tokenPlaces) (kept : rulesKept lim d m ≡ true) where
+  module _ (fits : lim .tokens ≤ lim .tokenPlaces) (kept : rulesHold lim d m ≡ true) where
     acts-leaves :
         (k′ : ℕ) → fate d m (suc k) ≡ stays k′
         → After (Untouched watched place k′) (act lim d m taken front actor (nodeAt d (actor .node)))

@@ -12,7 +12,7 @@ use Rattle.model.specs.Job.Node.{Dag}
 use Rattle.model.specs.Machine.Limits.{Limits}
 use Rattle.model.specs.Machine.Blank.{blankToken, tokenAt}
 use Rattle.model.specs.Machine.Active.{underSet, isLive}
-use Rattle.model.specs.Machine.Rules.{isReady, notUnderSet, sizesInRange, rulesKept}
+use Rattle.model.specs.Machine.Rules.{isReady, notUnderSet, sizesInRange, rulesHold}
 use Rattle.model.specs.Run.Follow.{queuedToken}
 use Rattle.model.specs.declared.token.State.{State}
 use Rattle.model.specs.declared.token.State.the-variants as states
@@ -76,7 +76,7 @@ not-under : (cs : List Cell) (t : Token) → isReady (t .state) ≡ true → not
 unfolding notUnderSet
 not-under cs t r e = not-true _ (rw (ready-live (t .state) r, notUnderSet) at e)
 
-module _ (lim : Limits) (d : Dag) (m : Machine) (kept : rulesKept lim d m ≡ true) where
+module _ (lim : Limits) (d : Dag) (m : Machine) (kept : rulesHold lim d m ≡ true) where
   rules : RulesKept lim d m
   rules = rules-kept lim d m kept
 
@@ -108,6 +108,6 @@ module _ (lim : Limits) (d : Dag) (m : Machine) (kept : rulesKept lim d m ≡ tr
   unfolding sizesInRange
   tokens-sized = eqb-eq _ _ (and-left _ _ (rules .sizes))
 
-  pub newtoken-inside : m .newtoken < lim .tokenPlaces
+  pub lasttoken-inside : m .lasttoken < lim .tokenPlaces
   unfolding sizesInRange
-  newtoken-inside = ltb-lt _ _ (and-left _ _ (and-right _ _ (and-right _ _ (and-right _ _ (rules .sizes)))))
+  lasttoken-inside = ltb-lt _ _ (and-left _ _ (and-right _ _ (and-right _ _ (and-right _ _ (rules .sizes)))))

@@ -64,8 +64,8 @@ module _ (lim : Limits) (d : Dag) (M : Labels) (bodies : ℕ → Exp) (before : 
     {name place : ℕ → ℕ} {σ : Store} {new p : ℕ}
     {L R : List Abstract.Token} {n : ℕ} {B : List Binding} {F : List Frame} {U : List ℕ} {v : ℤ}
     (A : Acting M (world (before .tokens) (before .cells) name place σ new) p L R n B F U v)
-    (token : hasTokenPlace lim d before ≡ true → Free (tokensUsed before) (nextPlace (tokensUsed before) (before .newtoken)))
-    (cell : hasCellPlace lim d before ≡ true → Free (cellsUsed before) (nextPlace (cellsUsed before) (before .newcell))) where
+    (token : hasTokenPlace lim d before ≡ true → Free (tokensUsed before) (nextPlace (tokensUsed before) (before .lasttoken)))
+    (cell : hasCellPlace lim d before ≡ true → Free (cellsUsed before) (nextPlace (cellsUsed before) (before .lastcell))) where
   abbrev W : World
   W = world (before .tokens) (before .cells) name place σ new
 
@@ -76,10 +76,10 @@ module _ (lim : Limits) (d : Dag) (M : Labels) (bodies : ℕ → Exp) (before : 
   m = withOrders queue waits before
 
   abbrev q : ℕ
-  q = nextPlace (tokensUsed before) (before .newtoken)
+  q = nextPlace (tokensUsed before) (before .lasttoken)
 
   abbrev c : ℕ
-  c = nextPlace (cellsUsed before) (before .newcell)
+  c = nextPlace (cellsUsed before) (before .lastcell)
 
   pub act-agrees : {N : Node} → FlowAt d M n N
       → Agrees M W L R (before .calls) (act lim d before m p t N)

@@ -12,7 +12,7 @@ use Rattle.model.specs.Test.{any}
 use Rattle.model.specs.Machine.Blank.{blankToken, tokenAt}
 use Rattle.model.specs.Machine.Active.{isLive}
 use Rattle.model.specs.Machine.Rules.{handleOf}
-use Rattle.model.specs.Machine.Step.{holding, being, withTables, withOrders, put, enqueue}
+use Rattle.model.specs.Machine.Step.{withValue, withState, withTables, withOrders, put, enqueue}
 use Rattle.model.specs.Machine.Answer.{holder}
 use Rattle.model.specs.Calculus.Event.{Event, showing}
 use Rattle.model.specs.Calculus.Allowed.{nextHandle}
@@ -108,8 +108,8 @@ pub answered-becomes : {M : Labels} (m : Machine) {name place : ℕ → ℕ} {σ
     → TokenSeen (world (m .tokens) (m .cells) name place σ new) M (tokenAt (m .tokens) p) (Abstract.calledOut h (at n B F U))
     → Becomes M (world (m .tokens) (m .cells) name place σ new) L R (m .calls)
     (makes (showing (Event.answer h v)) (running (at n B F U) v ∷ [])) (showing (Event.answer h v))
-    (enqueue p (put p (being states.Ready (holding (helds.Value v) (tokenAt (m .tokens) p))) m))
-unfolding enqueue put withTables withOrders being holding nextHandle
+    (enqueue p (put p (withState states.Ready (withValue (helds.Value v) (tokenAt (m .tokens) p))) m))
+unfolding enqueue put withTables withOrders withState withValue nextHandle
 answered-becomes m {name} {place} {σ} {new} {p} h v o z un seen =
     goes-becomes m o _ (showing (Event.answer h v)) _ refl refl refl
     (fits-as {t = tokenAt (m .tokens) p} refl refl refl (used-fits W p (token-used W p seen)))

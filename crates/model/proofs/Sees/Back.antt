@@ -15,7 +15,7 @@ use Rattle.model.specs.Job.Syntax.{Param}
 use Rattle.model.specs.Job.Node.{Node, Dag, nodeAt}
 use Rattle.model.specs.Machine.Limits.{Limits}
 use Rattle.model.specs.Machine.Blank.{tokenAt}
-use Rattle.model.specs.Machine.Rules.{rulesKept}
+use Rattle.model.specs.Machine.Rules.{rulesHold}
 use Rattle.model.specs.Machine.Reply.{accepted, outcome, unless, told, isRefused}
 use Rattle.model.specs.Machine.Step as Step
 use Rattle.model.specs.Machine.Step.{withOrders, queueOf, waitsOf, unset, look, takes}
@@ -57,7 +57,7 @@ pub record Blocked (d : Dag) (m : Machine) (p : ℕ) : Type 0 where
 
 -- what a record needs so that it can follow
 pub record Ready (lim : Limits) (d : Dag) (m : Machine) : Type 0 where
-  pub kept : rulesKept lim d m ≡ true
+  pub kept : rulesHold lim d m ≡ true
   pub room : Room lim d m
   pub blocked : (p c : ℕ) → tokenAt (m .tokens) p .state ≡ states.Waiting c → Blocked d m p
 

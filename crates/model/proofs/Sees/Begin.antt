@@ -9,7 +9,7 @@ use lib.ListN.{replicate, length-replicate}
 use lib.Dec.{eqb}
 use lib.IntN.{pos}
 use Rattle.model.specs.Test.{count, once}
-use Rattle.model.specs.Job.Node.{Dag, dagKept}
+use Rattle.model.specs.Job.Node.{Dag, dagHolds}
 use Rattle.model.specs.Machine.Limits.{Limits}
 use Rattle.model.specs.Machine.Blank.{unbound, blankToken, tokenAt}
 use Rattle.model.specs.Machine.Active.{isLive}
@@ -87,6 +87,6 @@ module _ (lim : Limits) (d : Dag) (M : Labels) (flow : Flow d M) (some : 0 < lim
       })
 
   -- "The start tests 14"
-  pub start-sees : dagKept d ≡ true → Sees M (start lim d .machine) (startAt (d .goal))
+  pub start-sees : dagHolds d ≡ true → Sees M (start lim d .machine) (startAt (d .goal))
   unfolding start
   start-sees e = rw (e, start) start-machine-sees

@@ -14,7 +14,7 @@ use Rattle.model.specs.Test.{count, once, any, filter}
 use Rattle.model.specs.Job.Node.{Node, Dag}
 use Rattle.model.specs.Machine.Blank.{blankToken, tokenAt, cellAt}
 use Rattle.model.specs.Machine.Active.{within, isLive}
-use Rattle.model.specs.Machine.Step.{being, withTables, withOrders, waitsAt, chokeToken, choked, chokes}
+use Rattle.model.specs.Machine.Step.{withState, withTables, withOrders, waitsAt, chokeToken, choked, chokes}
 use Rattle.model.specs.Calculus.Expression.{Exp}
 use Rattle.model.specs.declared.token.Held.{Held}
 use Rattle.model.specs.declared.token.Held.the-variants as helds
@@ -40,7 +40,7 @@ use Rattle.model.proofs.Sees.Moving.{value-there, value-optional, place
 use Rattle.model.proofs.Sees.Agrees.{Acting, Shows, Agrees}
 
 unfoldable pub woken : Bool → Token → Token
-woken b t = elim b [ true ↦ being states.Ready t | false ↦ t ]
+woken b t = elim b [ true ↦ withState states.Ready t | false ↦ t ]
 
 pub choke-spares : (cs : List Cell) (c : ℕ) (t : Token) → within cs c (t .cell) ≡ false → chokeToken cs c t ≡ woken (waitsAt c (t .state)) t
 unfolding chokeToken woken
@@ -55,7 +55,7 @@ waits-live c (states.Called h) e = refl
 waits-live c states.Frame e = e
 
 woken-live : (c : ℕ) (t : Token) → isLive (woken (waitsAt c (t .state)) t .state) ≡ isLive (t .state)
-unfolding woken being isLive
+unfolding woken withState isLive
 woken-live c t = go (waitsAt c (t .state)) refl
   where
     go : (b : Bool) → waitsAt c (t .state) ≡ b → isLive (woken b t .state) ≡ isLive (t .state)
@@ -179,7 +179,7 @@ module _ (M : Labels) (W : World) (c i : ℕ) (s : CellSeen W c i) (w : Held) (v
   token-woken : (b : Bool) {t : Token} {n : ℕ} {B : List Binding} {F : List Frame} {U : List ℕ} {x : Abstract.Token}
       → waitsAt c (t .state) ≡ b → PlaceSeen chokedWorld M t n B F U → Unset (withSet (W .store) i v) U
       → StateSeen M n (at n B F U) (t .state) (t .value) x → TokenSeen chokedWorld M (woken b t) x
-  unfolding woken being
+  unfolding woken withState
   token-woken true {t} f z un st = sees (place-as {t = t} refl refl refl refl z) un (woken-state c st f)
   token-woken false f z un st = sees z un st
 

@@ -16,7 +16,7 @@ use Rattle.model.specs.Machine.Limits.{Limits}
 use Rattle.model.specs.Machine.Blank.{blankToken, tokenAt}
 use Rattle.model.specs.Machine.Active.{isLive}
 use Rattle.model.specs.Machine.Reply.{moves, publishes, unless}
-use Rattle.model.specs.Machine.Step.{to, binding, holding, being, withTables, withOrders, withCounts, put, enqueue, Looked, values, unset, look, valueOf, ended, goesOn, waited, replied, calledOut, returned, callSite}
+use Rattle.model.specs.Machine.Step.{withNode, withBinding, withValue, withState, withTables, withOrders, withCounts, put, enqueue, Looked, values, unset, look, valueOf, ended, goesOn, waited, replied, calledOut, returned, callSite}
 use Rattle.model.specs.Calculus.Event.{Event, silently, showing}
 use Rattle.model.specs.Calculus.Expression.{Exp}
 use Rattle.model.specs.Calculus.Allowed.{nextHandle}
@@ -63,14 +63,14 @@ module _ (d : Dag) (M : Labels) (bodies : ℕ → Exp) (m : Machine) {name place
       (ends-becomes m (A .others) (ended m p t) (showing (Event.publish v)) blankToken refl refl refl refl)
 
   pub assign-agrees : {x k : ℕ} → M .value n ≡ true → x < 8 → Fresh x (M .scope n) → Follows d M n k (x ∷ M .scope n) (M .nest n)
-      → Agrees M W L R (m .calls) (goesOn m p t (to k (binding x (slots.Value (valueOf (t .value))) t))) (does (Node.assign x k))
+      → Agrees M W L R (m .calls) (goesOn m p t (withNode k (withBinding x (slots.Value (valueOf (t .value))) t))) (does (Node.assign x k))
   unfolding Shows goesOn enqueue put withTables withOrders nodeMeant nextHandle
   assign-agrees {x} {k} e l g f =
       goes-becomes m (A .others) _ silently u refl refl refl
       (fits-bind x k _ (let z : length (t .binds) ≡ 8 = A .place .binds .size in omega arith) (λ c q. no-cell q) (acting-fits A)) view
     where
       u : Token
-      u = to k (binding x (slots.Value (valueOf (t .value))) t)
+      u = withNode k (withBinding x (slots.Value (valueOf (t .value))) t)
 
       no-cell : {v : ℤ} {c : ℕ} → slots.Value v ≡ slots.Cell c → ⊥
       no-cell q = let z : _≡_ {A = ℕ} 0 1 = cc in omega arith
@@ -79,17 +79,17 @@ module _ (d : Dag) (M : Labels) (bodies : ℕ → Exp) (m : Machine) {name place
       here = value-there e (A .value)
 
       view : TokenSeen W M u (running (at k (Binding.value v ∷ B) F U) v)
-      view = unfold to binding valueOf in
+      view = unfold withNode withBinding valueOf in
           sees
           (place-bind l g f (subst (λ w. BindingSeen W (slots.Value (valueOf w)) (Binding.value v)) (sym here) valued) (A .place))
           (A .clear) (ready-seen (A .state) (value-held here))
 
   pub remove-agrees : {x k : ℕ} {scope : List ℕ}
       → M .value n ≡ true → x < 8 → M .scope n ≡ x ∷ scope → Fresh x scope → Follows d M n k scope (M .nest n)
-      → Agrees M W L R (m .calls) (goesOn m p t (to k (binding x slots.Empty t))) (does (Node.remove x k))
-  unfolding Shows goesOn enqueue put withTables withOrders nodeMeant nextHandle to binding
+      → Agrees M W L R (m .calls) (goesOn m p t (withNode k (withBinding x slots.Empty t))) (does (Node.remove x k))
+  unfolding Shows goesOn enqueue put withTables withOrders nodeMeant nextHandle withNode withBinding
   remove-agrees {x} {k} e l q g f =
-      goes-becomes m (A .others) _ silently (to k (binding x slots.Empty t)) refl refl refl
+      goes-becomes m (A .others) _ silently (withNode k (withBinding x slots.Empty t)) refl refl refl
       (fits-bind x k slots.Empty (let z : length (t .binds) ≡ 8 = A .place .binds .size in omega arith) no-cell (acting-fits A))
       (sees (place-drop l q g f (A .place)) (A .clear) (ready-seen (A .state) (value-held (value-there e (A .value)))))
     where
@@ -98,8 +98,8 @@ module _ (d : Dag) (M : Labels) (bodies : ℕ → Exp) (m : Machine) {name place
 
   -- the frame is under the same cells as the token that returns to it
   return-to : {G : List Frame} → M .value n ≡ true → U ≡ cellsOfCaller G → (f : ℕ) → t .caller ≡ places.At f → FrameSeen W M f G
-      → Agrees M W L R (m .calls) (goesOn m p t (being states.Ready (holding (t .value) (tokenAt (m .tokens) f)))) (Abstract.returns G v)
-  unfolding Shows goesOn enqueue put withTables withOrders nextHandle being holding
+      → Agrees M W L R (m .calls) (goesOn m p t (withState states.Ready (withValue (t .value) (tokenAt (m .tokens) f)))) (Abstract.returns G v)
+  unfolding Shows goesOn enqueue put withTables withOrders nextHandle withState withValue
   return-to e z f c (frameAt l s b) =
       goes-becomes m (A .others) _ silently _ refl refl refl
       (fits-as {t = tokenAt (m .tokens) f} refl refl refl (used-fits W f (tokens-of W .caller p (acting-used A) f c)))
@@ -118,22 +118,22 @@ module _ (d : Dag) (M : Labels) (bodies : ℕ → Exp) (m : Machine) {name place
   -- site calls
   module _ (lim : Limits) (s : ℕ) {k : ℕ} (f : Follows d M n k (M .scope n) (M .nest n)) where
     replied-agrees : (r : Said) → Agrees M W L R (m .calls) (replied m p t k r) (Abstract.replies r (at k B F U))
-    unfolding Shows replied goesOn ended enqueue put withTables withOrders nextHandle isLive to holding
+    unfolding Shows replied goesOn ended enqueue put withTables withOrders nextHandle isLive withNode withValue
     replied-agrees silent = ends-becomes m (A .others) _ silently blankToken refl refl refl refl
     replied-agrees (gives w) =
         goes-becomes m (A .others) _ silently _ refl refl refl (fits-as {t = t} refl refl refl (acting-fits A))
-        (sees (place-as {t = to k t} refl refl refl refl (place-to f (A .place))) (A .clear) (ready-seen (A .state) present))
+        (sees (place-as {t = withNode k t} refl refl refl refl (place-to f (A .place))) (A .clear) (ready-seen (A .state) present))
 
     called-agrees : (vs : List ℤ)
         → Agrees M W L R (m .calls) (calledOut m p t s vs k) (Abstract.callsSite (m .calls) s vs false (at k B F U))
-    unfolding Shows calledOut put withTables withCounts nextHandle to being
+    unfolding Shows calledOut put withTables withCounts nextHandle withNode withState
     called-agrees vs =
         goes-becomes m (A .others) _ (showing (Event.call (m .calls) s vs)) _ refl refl refl (fits-as {t = t} refl refl refl (acting-fits A))
-        (sees (place-as {t = to k t} refl refl refl refl (place-to f (A .place))) (A .clear) called)
+        (sees (place-as {t = withNode k t} refl refl refl refl (place-to f (A .place))) (A .clear) called)
 
     looked-agrees : M .value n ≡ false → (l : Looked)
         → Agrees M W L R (m .calls) (callSite lim d m p t s k l) (Abstract.asksSite (m .calls) s (running (at n B F U) v) (found l) (at k B F U))
-    unfolding Shows callSite waited put withTables withOrders nextHandle being
+    unfolding Shows callSite waited put withTables withOrders nextHandle withState
     looked-agrees e (unset c) =
         goes-becomes m (A .others) _ silently _ refl refl refl (fits-as {t = t} refl refl refl (acting-fits A))
         (sees (place-as {t = t} refl refl refl refl (A .place)) (A .clear) (waiting e (value-optional refl (A .value))))

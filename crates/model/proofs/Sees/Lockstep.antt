@@ -12,12 +12,12 @@ use lib.Seq.{take-append-seam}
 use lib.IntN.{ℤ}
 use Rattle.model.specs.Test.{padded, without}
 use Rattle.model.specs.Number.{Signed32}
-use Rattle.model.specs.Job.Node.{Dag, nodeAt, isNode, dagKept}
+use Rattle.model.specs.Job.Node.{Dag, nodeAt, isNode, dagHolds}
 use Rattle.model.specs.Machine.Limits.{Limits, limits}
 use Rattle.model.specs.Machine.Blank.{blankToken, tokenAt}
 use Rattle.model.specs.Machine.InUse.{tokensUsed, cellsUsed, marked}
 use Rattle.model.specs.Machine.Places.{nextPlace}
-use Rattle.model.specs.Machine.Rules.{isReady, tokenInRange, sizesInRange, rulesKept}
+use Rattle.model.specs.Machine.Rules.{isReady, tokenInRange, sizesInRange, rulesHold}
 use Rattle.model.specs.Machine.Reply.{Effect, moves, waits, publishes, calls, refuses, accepted, outcome, told, isRefused}
 use Rattle.model.specs.Machine.Step as Step
 use Rattle.model.specs.Machine.Step.{withOrders, queueOf, waitsOf, hasTokenPlace, hasCellPlace, takes}
@@ -41,7 +41,7 @@ use Rattle.model.proofs.Machine.InUse.{tokens-used, cells-used}
 use Rattle.model.proofs.Machine.Places.{next-place-free}
 use Rattle.model.proofs.Machine.Rules.{RulesKept, rules-kept, ready-state}
 use Rattle.model.proofs.Machine.Refused.{outcome-refused, StepAccepted, step-accepted, AnswerAccepted, answer-accepted}
-use Rattle.model.proofs.Run.Queue.{queue-kept, tokens-sized, newtoken-inside}
+use Rattle.model.proofs.Run.Queue.{queue-kept, tokens-sized, lasttoken-inside}
 use Rattle.model.proofs.Abstract.Machine as Abstract
 use Rattle.model.proofs.Abstract.Machine.{Binding, Frame, at, Store, state, labelOf, after, Move, startAt}
 use Rattle.model.proofs.Sees.Labels.{Labels, programOf, Flow}
@@ -61,7 +61,7 @@ pub fitting : (t c k : ℕ) → Fitting (limits t c k)
 fitting t c k = record { tokens = omega arith; cells = omega arith }
 
 -- what the rules of an accepted step give: new places are free, and the token that acts is ready and at a node
-module _ (lim : Limits) (d : Dag) (m : Machine) (kept : rulesKept lim d m ≡ true) where
+module _ (lim : Limits) (d : Dag) (m : Machine) (kept : rulesHold lim d m ≡ true) where
   rules : RulesKept lim d m
   rules = rules-kept lim d m kept
 
@@ -69,29 +69,29 @@ module _ (lim : Limits) (d : Dag) (m : Machine) (kept : rulesKept lim d m ≡ tr
   unfolding sizesInRange
   cells-sized = eqb-eq _ _ (and-left _ _ (and-right _ _ (rules .sizes)))
 
-  newcell-inside : m .newcell < lim .cellPlaces
+  lastcell-inside : m .lastcell < lim .cellPlaces
   unfolding sizesInRange
-  newcell-inside = ltb-lt _ _ (and-right _ _ (and-right _ _ (and-right _ _ (and-right _ _ (rules .sizes)))))
+  lastcell-inside = ltb-lt _ _ (and-right _ _ (and-right _ _ (and-right _ _ (and-right _ _ (rules .sizes)))))
 
-  pub free-token : Fitting lim → hasTokenPlace lim d m ≡ true → Free (tokensUsed m) (nextPlace (tokensUsed m) (m .newtoken))
+  pub free-token : Fitting lim → hasTokenPlace lim d m ≡ true → Free (tokensUsed m) (nextPlace (tokensUsed m) (m .lasttoken))
   unfolding hasTokenPlace
   free-token fits e =
       let few = ltb-lt (marked (tokensUsed m)) (lim .tokens) e in
       let size = tokens-used (m .tokens) (m .cells) .size in
       let places = tokens-sized lim d m kept in
-      let last = newtoken-inside lim d m kept in
+      let last = lasttoken-inside lim d m kept in
       let room : lim .tokens ≤ lim .tokenPlaces = fits .tokens in
-      next-place-free (tokensUsed m) (m .newtoken) (omega arith) (omega arith)
+      next-place-free (tokensUsed m) (m .lasttoken) (omega arith) (omega arith)
 
-  pub free-cell : Fitting lim → hasCellPlace lim d m ≡ true → Free (cellsUsed m) (nextPlace (cellsUsed m) (m .newcell))
+  pub free-cell : Fitting lim → hasCellPlace lim d m ≡ true → Free (cellsUsed m) (nextPlace (cellsUsed m) (m .lastcell))
   unfolding hasCellPlace
   free-cell fits e =
       let few = ltb-lt (marked (cellsUsed m)) (lim .cells) e in
       let size = cells-used (tokensUsed m) (m .tokens) (m .cells) (tokens-used (m .tokens) (m .cells) .size) .size in
       let places = cells-sized in
-      let last = newcell-inside in
+      let last = lastcell-inside in
       let room : lim .cells ≤ lim .cellPlaces = fits .cells in
-      next-place-free (cellsUsed m) (m .newcell) (omega arith) (omega arith)
+      next-place-free (cellsUsed m) (m .lastcell) (omega arith) (omega arith)
 
   pub at-node : (p : ℕ) → p < length (m .tokens) → tokenAt (m .tokens) p .node < length (d .nodes)
   unfolding tokenAt tokenInRange isNode
@@ -125,7 +125,7 @@ module _ (M : Labels) (W : World) (L R : List Abstract.Token) (h : ℕ) (x : Abs
 
 module _ (lim : Limits) (d : Dag) (M : Labels) (bodies : ℕ → Exp) (fits : Fitting lim) (flow : Flow d M) where
   -- what a step that takes a queued token does, whether or not it is refused
-  pub takes-agrees : (m : Machine) (k : ℕ) → rulesKept lim d m ≡ true → k < m .queued → {name place : ℕ → ℕ} {σ : Store} {new : ℕ}
+  pub takes-agrees : (m : Machine) (k : ℕ) → rulesHold lim d m ≡ true → k < m .queued → {name place : ℕ → ℕ} {σ : Store} {new : ℕ}
       {L R : List Abstract.Token} {n : ℕ} {B : List Binding} {F : List Frame} {U : List ℕ} {v : ℤ}
       → Acting M (world (m .tokens) (m .cells) name place σ new) (getD (m .queue) k 0) L R n B F U v
       → Agrees M (world (m .tokens) (m .cells) name place σ new) L R (m .calls) (takes lim d m k)
@@ -219,7 +219,7 @@ refused-leaves lim d m (step place) e = outcome-refused m _ e
 refused-leaves lim d m (answer h v signed) e = outcome-refused m _ e
 
 -- "14: dag .. breaks an index rule": nothing is accepted on such a dag
-accepted-dag : (lim : Limits) (d : Dag) (m : Machine) (c : Call) → isRefused (outcomeOf runner lim d m c .reply) ≡ false → dagKept d ≡ true
+accepted-dag : (lim : Limits) (d : Dag) (m : Machine) (c : Call) → isRefused (outcomeOf runner lim d m c .reply) ≡ false → dagHolds d ≡ true
 unfolding outcomeOf
 accepted-dag lim d m (step place) ok = rules-kept lim d m (step-accepted lim d m place ok .kept) .dag
 accepted-dag lim d m (answer h v signed) ok = rules-kept lim d m (answer-accepted lim d m h v ok .kept) .dag
@@ -275,7 +275,7 @@ module _ (lim : Limits) (d : Dag) (M : Labels) (bodies : ℕ → Exp) (fits : Fi
       go (inr ok) f = locked (call-locks m sn c ok) f
 
   -- on a dag that breaks a rule every call is refused
-  no-events : dagKept d ≡ false → (cs : List Call) (m : Machine) → eventsFrom runner lim d m cs ≡ []
+  no-events : dagHolds d ≡ false → (cs : List Call) (m : Machine) → eventsFrom runner lim d m cs ≡ []
   unfolding eventsFrom
   no-events e [] m = refl
   no-events e (c ∷ cs) m =
@@ -294,11 +294,11 @@ module _ (lim : Limits) (d : Dag) (M : Labels) (bodies : ℕ → Exp) (fits : Fi
     shows : {s : Abstract.State} → Abstract.Run (programOf d M bodies) (startAt (d .goal)) es s → Shown es
 
   pub run-shown : 0 < lim .tokenPlaces → (cs : List Call) → Shown (eventsFrom runner lim d (started runner lim d) cs)
-  run-shown some cs = go (holds-or-fails (dagKept d))
+  run-shown some cs = go (holds-or-fails (dagHolds d))
     where
       from : {es : List Event} {m : Machine} → Runs (startAt (d .goal)) es m → Shown es
       from (runs r sn) = shows r
 
-      go : (dagKept d ≡ true) ⊎ (dagKept d ≡ false) → Shown (eventsFrom runner lim d (started runner lim d) cs)
+      go : (dagHolds d ≡ true) ⊎ (dagHolds d ≡ false) → Shown (eventsFrom runner lim d (started runner lim d) cs)
       go (inl kept) = from (calls-lock cs (started runner lim d) (startAt (d .goal)) (start-sees lim d M flow some kept))
       go (inr broken) = subst Shown (sym (no-events broken cs (started runner lim d))) (shows Abstract.rests)

@@ -16,7 +16,7 @@ use Rattle.model.specs.Job.Node.{Node, Dag, bodyAt}
 use Rattle.model.specs.Machine.Blank.{blankCell, tokenAt, cellAt}
 use Rattle.model.specs.Machine.Active.{isLive}
 use Rattle.model.specs.Machine.InUse.{tokensUsed, cellsUsed}
-use Rattle.model.specs.Machine.Step.{to, binding, inCell, being, withTables, withOrders, withCounts, put, enqueue, newToken, newCell, formalsBound, forked, split, entered}
+use Rattle.model.specs.Machine.Step.{withNode, withBinding, inCell, withState, withTables, withOrders, withCounts, put, enqueue, newToken, newCell, formalsBound, forked, split, entered}
 use Rattle.model.specs.Calculus.Expression.{Exp}
 use Rattle.model.specs.Calculus.Allowed.{nextHandle}
 use Rattle.model.specs.Run.Meaning.{paramMeant}
@@ -85,21 +85,21 @@ module _ (d : Dag) (M : Labels) (bodies : ℕ → Exp) (m : Machine) {name place
         label = refl;
         machine =
             sees-tables name place (A .others .before ++ ((p ∷ q ∷ []) ++ A .others .behind)) refl refl refl
-            (both-core (A .others) (acting-used A) q free (to l t) (to r t) (m .cells) name place
-            (newer (to l t) (to r t)) (λ c i. refl) (side l a f) (side r b g));
+            (both-core (A .others) (acting-used A) q free (withNode l t) (withNode r t) (m .cells) name place
+            (newer (withNode l t) (withNode r t)) (λ c i. refl) (side l a f) (side r b g));
       }
     where
       side : (k : ℕ) → M .value k ≡ false → Follows d M n k (M .scope n) (M .nest n)
-          → TokenSeen (made (to l t) (to r t)) M (to k t) (running (at k B F U) v)
-      side k e h = unfold to in
-          sees (place-to h (place-keep (made-kept (to l t) (to r t)) (used-closed W) (acting-fits A) (A .place)))
+          → TokenSeen (made (withNode l t) (withNode r t)) M (withNode k t) (running (at k B F U) v)
+      side k e h = unfold withNode in
+          sees (place-to h (place-keep (made-kept (withNode l t) (withNode r t)) (used-closed W) (acting-fits A) (A .place)))
           (A .clear) (ready-seen (A .state) (value-optional e (A .value)))
 
   -- the caller's frame, and the callee
   pub call-agrees : {e k : ℕ} {ps : List Param}
       → All (GoodParam (M .scope n)) ps → Follows d M n k (M .scope n) (M .nest n) → Enters d M e ps
       → Agrees M W L R (m .calls) (entered m p t q (bodyAt d e .root) ps k) (does (Node.call e ps k))
-  unfolding Shows entered newToken put enqueue withTables withOrders withCounts nodeMeant nextHandle isLive to being
+  unfolding Shows entered newToken put enqueue withTables withOrders withCounts nodeMeant nextHandle isLive withNode withState
   call-agrees {e} {k} {ps} good f enters =
       record {
         label = refl;
@@ -109,7 +109,7 @@ module _ (d : Dag) (M : Labels) (bodies : ℕ → Exp) (m : Machine) {name place
       }
     where
       u : Token
-      u = to k (being states.Frame t)
+      u = withNode k (withState states.Frame t)
 
       w : Token
       w =
@@ -126,14 +126,14 @@ module _ (d : Dag) (M : Labels) (bodies : ℕ → Exp) (m : Machine) {name place
       still = place-keep (made-kept u w) (used-closed W) (acting-fits A) (A .place)
 
       caller : PlaceSeen (made u w) M u k B F U
-      caller = unfold to being in place-as {t = to k t} {u = u} refl refl refl refl (place-to f still)
+      caller = unfold withNode withState in place-as {t = withNode k t} {u = u} refl refl refl refl (place-to f still)
 
       inside : p < length (made u w .tokens)
       inside = let z : length (made u w .tokens) ≡ length (m .tokens) = made-kept u w .size in let y = acting-inside (A .others) in omega arith
 
       callee : TokenSeen (made u w) M w
           (running (at (bodyAt d e .root) (map (named B) (reverse (map (paramMeant (M .scope n)) ps))) (frame k B U ∷ F) U) v)
-      callee = unfold to being in
+      callee = unfold withNode withState in
           sees
           (record {
             node = refl;
@@ -162,10 +162,10 @@ module _ (d : Dag) (M : Labels) (bodies : ℕ → Exp) (m : Machine) {name place
         }
       where
         u : Token
-        u = to l (binding x (slots.Cell c) t)
+        u = withNode l (withBinding x (slots.Cell c) t)
 
         w : Token
-        w = inCell c (to r t)
+        w = inCell c (withNode r t)
 
         fresh-cell : Cell
         fresh-cell = record { parent = t .cell; value = helds.Nothing }
@@ -224,7 +224,7 @@ module _ (d : Dag) (M : Labels) (bodies : ℕ → Exp) (m : Machine) {name place
             (subst (λ y. CellsSeen W′ y U) (ap (λ (k : Cell). k .parent) (sym (cell-same (m .cells) c fresh-cell inside))) (still .cell))
 
         left : TokenSeen W′ M u (running (at l (Binding.cell new ∷ B) F U) v)
-        left = unfold to binding in
+        left = unfold withNode withBinding in
             sees (place-bind small fresh f (celled cell-view) still) (A .clear) (ready-seen (A .state) (value-optional a (A .value)))
 
         clear : Unset σ (new ∷ U)
@@ -232,7 +232,7 @@ module _ (d : Dag) (M : Labels) (bodies : ℕ → Exp) (m : Machine) {name place
         clear i (List·Memᴰ·tail k) = A .clear i k
 
         right : TokenSeen W′ M w (running (at r B F (new ∷ U)) v)
-        right = unfold inCell to in
+        right = unfold inCell withNode in
             sees
             (record {
               node = refl;

@@ -9,7 +9,7 @@ use lib.ListN.{length}
 use lib.IntN.{ℤ}
 use Rattle.model.specs.Job.Node.{Dag}
 use Rattle.model.specs.Machine.Blank.{slotAt}
-use Rattle.model.specs.Machine.Step.{to, binding}
+use Rattle.model.specs.Machine.Step.{withNode, withBinding}
 use Rattle.model.specs.declared.token.Slot.{Slot}
 use Rattle.model.specs.declared.token.Slot.the-variants as slots
 use Rattle.model.specs.declared.token.Bind.{Bind}
@@ -60,15 +60,15 @@ slots-at {W} {bs} {B = B} e z = subst (λ s. SlotsSeen W bs s B) e z
 
 module _ {d : Dag} {M : Labels} {W : World} where
   pub place-to : {t : Token} {n k : ℕ} {B : List Binding} {F : List Frame} {U : List ℕ}
-      → Follows d M n k (M .scope n) (M .nest n) → PlaceSeen W M t n B F U → PlaceSeen W M (to k t) k B F U
-  unfolding to
+      → Follows d M n k (M .scope n) (M .nest n) → PlaceSeen W M t n B F U → PlaceSeen W M (withNode k t) k B F U
+  unfolding withNode
   place-to f v =
       record { node = refl; binds = slots-at (sym (f .scope)) (v .binds); caller = v .caller; cell = v .cell; nested = nested-next f (v .nested) }
 
   pub place-bind : {t : Token} {n k x : ℕ} {B : List Binding} {F : List Frame} {U : List ℕ} {s : Slot} {b : Binding}
       → x < 8 → Fresh x (M .scope n) → Follows d M n k (x ∷ M .scope n) (M .nest n) → BindingSeen W s b
-      → PlaceSeen W M t n B F U → PlaceSeen W M (to k (binding x s t)) k (b ∷ B) F U
-  unfolding to binding
+      → PlaceSeen W M t n B F U → PlaceSeen W M (withNode k (withBinding x s t)) k (b ∷ B) F U
+  unfolding withNode withBinding
   place-bind l g f b v =
       record {
         node = refl;
@@ -80,8 +80,8 @@ module _ {d : Dag} {M : Labels} {W : World} where
 
   pub place-drop : {t : Token} {n k x : ℕ} {scope : List ℕ} {B : List Binding} {F : List Frame} {U : List ℕ}
       → x < 8 → M .scope n ≡ x ∷ scope → Fresh x scope → Follows d M n k scope (M .nest n)
-      → PlaceSeen W M t n B F U → PlaceSeen W M (to k (binding x slots.Empty t)) k (tail B) F U
-  unfolding to binding
+      → PlaceSeen W M t n B F U → PlaceSeen W M (withNode k (withBinding x slots.Empty t)) k (tail B) F U
+  unfolding withNode withBinding
   place-drop l e g f v =
       record {
         node = refl;
@@ -113,8 +113,8 @@ module _ {Q R : ℕ → Type 0} where
 
   -- a slot that names no cell is written
   pub fits-bind : {t : Token} (x k : ℕ) (s : Slot) → x < length (t .binds) → ((c : ℕ) → s ≡ slots.Cell c → ⊥)
-      → Fits Q R t → Fits Q R (to k (binding x s t))
-  unfolding to binding
+      → Fits Q R t → Fits Q R (withNode k (withBinding x s t))
+  unfolding withNode withBinding
   fits-bind {t} x k s l h f =
       record { caller = f .caller; cells = record { cell = f .cells .cell; binds = λ y c e. go y c e (ℕ-discrete y x) } }
     where

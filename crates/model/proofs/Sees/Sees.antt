@@ -13,7 +13,7 @@ use lib.Dec.{eqb}
 use Rattle.model.specs.Test.{count, once}
 use Rattle.model.specs.Machine.Blank.{blankToken, blankCell, tokenAt, cellAt, hasValue}
 use Rattle.model.specs.Machine.Active.{isSet, upward, underSet, isLive, isActive}
-use Rattle.model.specs.Machine.InUse.{usedTokens, usedCells, kept, finish}
+use Rattle.model.specs.Machine.InUse.{usedTokens, usedCells, restBlanked, sweep}
 use Rattle.model.specs.declared.token.Held.{Held}
 use Rattle.model.specs.declared.token.Held.the-variants as helds
 use Rattle.model.specs.declared.token.Place.{Place}
@@ -154,8 +154,8 @@ live-listed {W = W} p K e = let z = K .each p in let y : once (isLive (tokenAt (
 abbrev pub swept : World → World
 swept W =
     record {
-      tokens = kept blankToken (tokenMarks W) (W .tokens);
-      cells = kept blankCell (cellMarks W) (W .cells);
+      tokens = restBlanked blankToken (tokenMarks W) (W .tokens);
+      cells = restBlanked blankCell (cellMarks W) (W .cells);
       name = W .name;
       place = W .place;
       store = W .store;
@@ -222,6 +222,6 @@ module _ (W : World) where
           clean = K .clean;
         }
 
-pub finish-sees : {M : Labels} (m : Machine) {s : Abstract.State} → Sees M m s → Sees M (finish m) s
-unfolding finish
+pub finish-sees : {M : Labels} (m : Machine) {s : Abstract.State} → Sees M m s → Sees M (sweep m) s
+unfolding sweep
 finish-sees m (seenAs name place A K) = seenAs name place A (swept-core _ K)

@@ -13,7 +13,7 @@ use Rattle.model.specs.Test.{_or_, any, count, once, differ}
 use Rattle.model.specs.Job.Node.{Dag}
 use Rattle.model.specs.Machine.Limits.{Limits}
 use Rattle.model.specs.Machine.Blank.{tokenAt}
-use Rattle.model.specs.Machine.Rules.{isReady, handleOf, openHandles, rulesKept}
+use Rattle.model.specs.Machine.Rules.{isReady, handleOf, openHandles, rulesHold}
 use Rattle.model.specs.Machine.Answer.{holder}
 use Rattle.model.specs.declared.token.Held.{Held}
 use Rattle.model.specs.declared.token.Place.{Place}
@@ -89,7 +89,7 @@ order-index of ts array n p o l e =
     let k : r .0 < n = (let y = r .1 in let z = length-take n array in omega arith) in
     (r .0, k, sym (getD-take n array (r .0) 0 k) ∙ r .2)
 
-pub queue-index : (lim : Limits) (d : Dag) (m : Machine) → rulesKept lim d m ≡ true → (p : ℕ) → p < length (m .tokens)
+pub queue-index : (lim : Limits) (d : Dag) (m : Machine) → rulesHold lim d m ≡ true → (p : ℕ) → p < length (m .tokens)
     → tokenAt (m .tokens) p .state ≡ states.Ready → (k : ℕ) × (k < m .queued) × (getD (m .queue) k 0 ≡ p)
 unfolding isReady
 queue-index lim d m kept p l e =
@@ -154,7 +154,7 @@ holder-finds h i (t ∷ ts) (suc p) u e =
         (handle-open h ts p e))
     go false x r = r
 
-pub open-holder : (lim : Limits) (d : Dag) (m : Machine) → rulesKept lim d m ≡ true → (h p : ℕ)
+pub open-holder : (lim : Limits) (d : Dag) (m : Machine) → rulesHold lim d m ≡ true → (h p : ℕ)
     → tokenAt (m .tokens) p .state ≡ states.Called h → holder h 0 (m .tokens) ≡ places.At p
 open-holder lim d m kept h p e =
     holder-finds h 0 (m .tokens) p (rules-kept lim d m kept .handles) e ∙ ap places.At (let z : 0 + p ≡ p = omega arith in z)

@@ -40,38 +40,38 @@ unfoldable pub bodyAt : Dag → ℕ → Body
 bodyAt d i = getD (d .bodies) i (record { root = 0; formals = 0 })
 
 -- Index rules of a dag: "kinds, sites, counts, nodes, slots .. named lie in their ranges, a built-in with its own count"
-unfoldable pub paramKept : Param → Bool
-paramKept (variable x) = ltb x 8
-paramKept (constant v) = fits v
+unfoldable pub paramHolds : Param → Bool
+paramHolds (variable x) = ltb x 8
+paramHolds (constant v) = fits v
 
-unfoldable pub paramsKept : List Param → Bool
-paramsKept ps = leb (length ps) 4 and all paramKept ps
+unfoldable pub paramsHold : List Param → Bool
+paramsHold ps = leb (length ps) 4 and all paramHolds ps
 
 module _ (d : Dag) where
   unfoldable pub isNode : ℕ → Bool
   isNode k = ltb k (length (d .nodes))
 
-  unfoldable pub nodeKept : Node → Bool
-  nodeKept Node.stop = true
-  nodeKept (Node.site s ps k) = siteTakes s (length ps) and paramsKept ps and isNode k
-  nodeKept (Node.call e ps k) = ltb e (length (d .bodies)) and paramsKept ps and isNode k
-  nodeKept (Node.fork l r) = isNode l and isNode r
-  nodeKept (Node.assign x k) = ltb x 8 and isNode k
-  nodeKept (Node.remove x k) = ltb x 8 and isNode k
-  nodeKept (Node.where' x l r) = ltb x 8 and isNode l and isNode r
-  nodeKept Node.choke = true
-  nodeKept Node.return = true
-  nodeKept Node.publish = true
-  nodeKept Node.unknown = false
+  unfoldable pub nodeHolds : Node → Bool
+  nodeHolds Node.stop = true
+  nodeHolds (Node.site s ps k) = siteTakes s (length ps) and paramsHold ps and isNode k
+  nodeHolds (Node.call e ps k) = ltb e (length (d .bodies)) and paramsHold ps and isNode k
+  nodeHolds (Node.fork l r) = isNode l and isNode r
+  nodeHolds (Node.assign x k) = ltb x 8 and isNode k
+  nodeHolds (Node.remove x k) = ltb x 8 and isNode k
+  nodeHolds (Node.where' x l r) = ltb x 8 and isNode l and isNode r
+  nodeHolds Node.choke = true
+  nodeHolds Node.return = true
+  nodeHolds Node.publish = true
+  nodeHolds Node.unknown = false
 
-  unfoldable pub bodyKept : Body → Bool
-  bodyKept b = isNode (b .root) and leb (b .formals) 4
+  unfoldable pub bodyHolds : Body → Bool
+  bodyHolds b = isNode (b .root) and leb (b .formals) 4
 
 -- "at most 1,022 nodes"; "D is 0 to 32"
-unfoldable pub dagKept : Dag → Bool
-dagKept d =
+unfoldable pub dagHolds : Dag → Bool
+dagHolds d =
     leb (length (d .nodes)) 1022
     and leb (length (d .bodies)) 32
     and isNode d (d .goal)
-    and all (bodyKept d) (d .bodies)
-    and all (nodeKept d) (d .nodes)
+    and all (bodyHolds d) (d .bodies)
+    and all (nodeHolds d) (d .nodes)

@@ -8,9 +8,9 @@ use Rattle.model.specs.Test.{any}
 use Rattle.model.specs.Job.Node.{Dag}
 use Rattle.model.specs.Machine.Limits.{Limits}
 use Rattle.model.specs.Machine.Blank.{tokenAt}
-use Rattle.model.specs.Machine.Rules.{handleOf, rulesKept}
+use Rattle.model.specs.Machine.Rules.{handleOf, rulesHold}
 use Rattle.model.specs.Machine.Reply.{Effect, moves, refuses, unless, outcome}
-use Rattle.model.specs.Machine.Step.{holding, being, put, enqueue}
+use Rattle.model.specs.Machine.Step.{withValue, withState, put, enqueue}
 use Rattle.model.specs.declared.token.Held.the-variants as helds
 use Rattle.model.specs.declared.token.Place.{Place}
 use Rattle.model.specs.declared.token.Place.the-variants as places
@@ -29,8 +29,8 @@ holder h i (t ∷ ts) = elim (any (eqb h) (handleOf (t .state))) [ true ↦ plac
 unfoldable pub answered : Machine → ℤ → Place → Effect
 answered m v places.Nowhere = refuses refusals.NotOpen
 answered m v (places.At p) =
-    moves (enqueue p (put p (being states.Ready (holding (helds.Value v) (tokenAt (m .tokens) p))) m))
+    moves (enqueue p (put p (withState states.Ready (withValue (helds.Value v) (tokenAt (m .tokens) p))) m))
 
 -- "An answer tests 14, 12"
 unfoldable pub answer : Limits → Dag → Machine → (handle : ℕ) → (value : ℤ) → Outcome
-answer lim d m h v = outcome m (unless (rulesKept lim d m) refusals.Rule (answered m v (holder h 0 (m .tokens))))
+answer lim d m h v = outcome m (unless (rulesHold lim d m) refusals.Rule (answered m v (holder h 0 (m .tokens))))

@@ -51,8 +51,8 @@ blankMachine lim =
       waits = replicate (lim .tokenPlaces) 0;
       waiting = 0;
       calls = 0;
-      newtoken = 0;
-      newcell = 0;
+      lasttoken = 0;
+      lastcell = 0;
     }
 
 -- what stands at a place of a table

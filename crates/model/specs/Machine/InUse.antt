@@ -76,24 +76,24 @@ marked (true ∷ marks) = suc (marked marks)
 marked (false ∷ marks) = marked marks
 
 -- the table with what is not marked made blank
-unfoldable pub kept : {A : Type 0} → A → List Bool → List A → List A
-kept blank marks [] = []
-kept blank [] (x ∷ xs) = blank ∷ kept blank [] xs
-kept blank (true ∷ marks) (x ∷ xs) = x ∷ kept blank marks xs
-kept blank (false ∷ marks) (x ∷ xs) = blank ∷ kept blank marks xs
+unfoldable pub restBlanked : {A : Type 0} → A → List Bool → List A → List A
+restBlanked blank marks [] = []
+restBlanked blank [] (x ∷ xs) = blank ∷ restBlanked blank [] xs
+restBlanked blank (true ∷ marks) (x ∷ xs) = x ∷ restBlanked blank marks xs
+restBlanked blank (false ∷ marks) (x ∷ xs) = blank ∷ restBlanked blank marks xs
 
 -- "The rest is blank after each accepted call"
-unfoldable pub finish : Machine → Machine
-finish m =
+unfoldable pub sweep : Machine → Machine
+sweep m =
     let used = tokensUsed m in
     record {
-      tokens = kept blankToken used (m .tokens);
-      cells = kept blankCell (usedCells used (m .tokens) (m .cells)) (m .cells);
+      tokens = restBlanked blankToken used (m .tokens);
+      cells = restBlanked blankCell (usedCells used (m .tokens) (m .cells)) (m .cells);
       queue = m .queue;
       queued = m .queued;
       waits = m .waits;
       waiting = m .waiting;
       calls = m .calls;
-      newtoken = m .newtoken;
-      newcell = m .newcell;
+      lasttoken = m .lasttoken;
+      lastcell = m .lastcell;
     }

@@ -5,7 +5,7 @@ use Prim.Native.Nat.{ℕ}
 use lib.ListN.{length, take}
 use lib.IntN.{ℤ, pos}
 use Rattle.model.specs.Test.{padded}
-use Rattle.model.specs.Machine.InUse.{finish}
+use Rattle.model.specs.Machine.InUse.{sweep}
 use Rattle.model.specs.declared.record.Machine.{Machine}
 use Rattle.model.specs.declared.reply.Refusal.{Refusal}
 use Rattle.model.specs.declared.reply.Refusal.the-variants as refusals
@@ -26,7 +26,7 @@ abbrev pub valuesBeside : List ℤ → List ℤ
 valuesBeside vs = padded (pos 0) 4 vs
 
 unfoldable pub accepted : Reply → List ℤ → Machine → Outcome
-accepted r vs m = record { reply = r; values = valuesBeside vs; machine = finish m }
+accepted r vs m = record { reply = r; values = valuesBeside vs; machine = sweep m }
 
 -- the outcome of a call on the machine `before`: an accepted one ends in `finish`; "a refusal leaves machine and dag as before the call"
 unfoldable pub outcome : (before : Machine) → Effect → Outcome

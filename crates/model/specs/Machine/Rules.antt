@@ -7,7 +7,7 @@ use lib.Dec.{ltb, leb, eqb}
 use Rattle.model.specs.Test.{_and_, _or_, all, allFrom, count, once, differ}
 use Rattle.model.specs.Number.{fits}
 use Rattle.model.specs.Job.Syntax.{Param, variable, constant}
-use Rattle.model.specs.Job.Node.{Node, Dag, nodeAt, isNode, dagKept}
+use Rattle.model.specs.Job.Node.{Node, Dag, nodeAt, isNode, dagHolds}
 use Rattle.model.specs.Machine.Limits.{Limits}
 use Rattle.model.specs.Machine.Blank.{tokenAt, cellAt, slotAt, isBound, hasValue, isPlace, isBlankState, tokenIsBlank, cellIsBlank}
 use Rattle.model.specs.Machine.Active.{isSet, underSet, isLive}
@@ -67,8 +67,8 @@ module _ (lim : Limits) (d : Dag) where
       eqb (length (m .tokens)) (lim .tokenPlaces)
       and eqb (length (m .cells)) (lim .cellPlaces)
       and leb (m .calls) (lim .calls)
-      and ltb (m .newtoken) (lim .tokenPlaces)
-      and ltb (m .newcell) (lim .cellPlaces)
+      and ltb (m .lasttoken) (lim .tokenPlaces)
+      and ltb (m .lastcell) (lim .cellPlaces)
 
 unfoldable pub isReady : State → Bool
 isReady states.Blank = false
@@ -171,8 +171,8 @@ restIsBlank isBlank [] (x ∷ xs) = isBlank x and restIsBlank isBlank [] xs
 restIsBlank isBlank (true ∷ marks) (x ∷ xs) = restIsBlank isBlank marks xs
 restIsBlank isBlank (false ∷ marks) (x ∷ xs) = isBlank x and restIsBlank isBlank marks xs
 
-unfoldable pub machineKept : Limits → Dag → Machine → Bool
-machineKept lim d m =
+unfoldable pub machineHolds : Limits → Dag → Machine → Bool
+machineHolds lim d m =
     let used = tokensUsed m in
     -- "kinds, sites, counts, nodes, slots, tokens and cells named lie in their ranges"
     sizesInRange lim d m
@@ -196,5 +196,5 @@ machineKept lim d m =
     and restIsBlank cellIsBlank (usedCells used (m .tokens) (m .cells)) (m .cells)
 
 -- "14: dag or machine record breaks an index rule"
-unfoldable pub rulesKept : Limits → Dag → Machine → Bool
-rulesKept lim d m = dagKept d and machineKept lim d m
+unfoldable pub rulesHold : Limits → Dag → Machine → Bool
+rulesHold lim d m = dagHolds d and machineHolds lim d m

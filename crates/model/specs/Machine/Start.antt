@@ -3,7 +3,7 @@ use mathlib.Core.Bool.{Bool, true, false}
 use mathlib.Core.List.{List, [], _∷_}
 use Prim.Native.Nat.{ℕ, _-_}
 use lib.ListN.{set, replicate}
-use Rattle.model.specs.Job.Node.{Dag, dagKept}
+use Rattle.model.specs.Job.Node.{Dag, dagHolds}
 use Rattle.model.specs.Machine.Limits.{Limits}
 use Rattle.model.specs.Machine.Blank.{unbound, blankToken, blankCell, blankMachine}
 use Rattle.model.specs.Machine.Reply.{valuesBeside}
@@ -39,14 +39,14 @@ startMachine lim goal =
       waits = replicate (lim .tokenPlaces) 0;
       waiting = 0;
       calls = 0;
-      newtoken = 0;
-      newcell = lim .cellPlaces - 1;
+      lasttoken = 0;
+      lastcell = lim .cellPlaces - 1;
     }
 
 -- "The start tests 14": the dag's rules. A refused start hands back the blank record (docs/DECISIONS.md, "The start", "A refused start")
 unfoldable pub start : Limits → Dag → Outcome
 start lim d =
-    elim (dagKept d) [
+    elim (dagHolds d) [
       | true ↦ record { reply = replies.Done; values = valuesBeside []; machine = startMachine lim (d .goal) }
       | false ↦ record { reply = replies.Refused refusals.Rule; values = valuesBeside []; machine = blankMachine lim }
     ]

@@ -15,7 +15,7 @@ use Rattle.model.specs.Machine.Blank.{empty, unbound, blankToken, tokenA
 use Rattle.model.specs.Machine.Active.{within}
 use Rattle.model.specs.Machine.InUse.{tokensUsed, cellsUsed, marked}
 use Rattle.model.specs.Machine.Places.{nextPlace}
-use Rattle.model.specs.Machine.Rules.{isReady, isWaiting, rulesKept}
+use Rattle.model.specs.Machine.Rules.{isReady, isWaiting, rulesHold}
 use Rattle.model.specs.Machine.Reply.{Effect, moves, waits, publishes, calls, refuses, unless, outcome}
 use Rattle.model.specs.declared.token.Slot.{Slot}
 use Rattle.model.specs.declared.token.Slot.the-variants as slots
@@ -33,11 +33,11 @@ use Rattle.model.specs.declared.reply.Refusal.the-variants as refusals
 use Rattle.model.specs.declared.reply.Outcome.{Outcome}
 
 -- Tokens. "What a line does not name is copied from the token acted on"
-unfoldable pub to : ℕ → Token → Token
-to k t = record { node = k; binds = t .binds; value = t .value; caller = t .caller; cell = t .cell; state = t .state }
+unfoldable pub withNode : ℕ → Token → Token
+withNode k t = record { node = k; binds = t .binds; value = t .value; caller = t .caller; cell = t .cell; state = t .state }
 
-unfoldable pub binding : ℕ → Slot → Token → Token
-binding x s t =
+unfoldable pub withBinding : ℕ → Slot → Token → Token
+withBinding x s t =
     record {
       node = t .node;
       binds = set (t .binds) x (record { slot = s });
@@ -47,15 +47,15 @@ binding x s t =
       state = t .state;
     }
 
-unfoldable pub holding : Held → Token → Token
-holding v t = record { node = t .node; binds = t .binds; value = v; caller = t .caller; cell = t .cell; state = t .state }
+unfoldable pub withValue : Held → Token → Token
+withValue v t = record { node = t .node; binds = t .binds; value = v; caller = t .caller; cell = t .cell; state = t .state }
 
 unfoldable pub inCell : ℕ → Token → Token
 inCell c t =
     record { node = t .node; binds = t .binds; value = t .value; caller = t .caller; cell = places.At c; state = t .state }
 
-unfoldable pub being : State → Token → Token
-being s t = record { node = t .node; binds = t .binds; value = t .value; caller = t .caller; cell = t .cell; state = s }
+unfoldable pub withState : State → Token → Token
+withState s t = record { node = t .node; binds = t .binds; value = t .value; caller = t .caller; cell = t .cell; state = s }
 
 -- Machines, a field or two at a time
 unfoldable pub withTables : List Token → List Cell → Machine → Machine
@@ -68,8 +68,8 @@ withTables ts cs m =
       waits = m .waits;
       waiting = m .waiting;
       calls = m .calls;
-      newtoken = m .newtoken;
-      newcell = m .newcell;
+      lasttoken = m .lasttoken;
+      lastcell = m .lastcell;
     }
 
 unfoldable pub withOrders : (queue waits : List ℕ) → Machine → Machine
@@ -82,11 +82,11 @@ withOrders q w m =
       waits = padded 0 (length (m .tokens)) w;
       waiting = length w;
       calls = m .calls;
-      newtoken = m .newtoken;
-      newcell = m .newcell;
+      lasttoken = m .lasttoken;
+      lastcell = m .lastcell;
     }
 
-unfoldable pub withCounts : (calls newtoken newcell : ℕ) → Machine → Machine
+unfoldable pub withCounts : (calls lasttoken lastcell : ℕ) → Machine → Machine
 withCounts n p c m =
     record {
       tokens = m .tokens;
@@ -96,8 +96,8 @@ withCounts n p c m =
       waits = m .waits;
       waiting = m .waiting;
       calls = n;
-      newtoken = p;
-      newcell = c;
+      lasttoken = p;
+      lastcell = c;
     }
 
 -- the queue, and the wait order, longest wait first
@@ -116,10 +116,10 @@ enqueue p m = withOrders (queueOf m ++ (p ∷ [])) (waitsOf m) m
 
 -- a new token, a new cell: the place is the last one given
 unfoldable pub newToken : ℕ → Token → Machine → Machine
-newToken p t m = withCounts (m .calls) p (m .newcell) (put p t m)
+newToken p t m = withCounts (m .calls) p (m .lastcell) (put p t m)
 
 unfoldable pub newCell : ℕ → Cell → Machine → Machine
-newCell c k m = withCounts (m .calls) (m .newtoken) c (withTables (m .tokens) (set (m .cells) c k) m)
+newCell c k m = withCounts (m .calls) (m .lasttoken) c (withTables (m .tokens) (set (m .cells) c k) m)
 
 -- "parameters in order": all their values, or the first unset cell
 pub data Looked : Type 0 where
@@ -169,7 +169,7 @@ unfoldable pub chokeToken : List Cell → ℕ → Token → Token
 chokeToken cs c t =
     elim (within cs c (t .cell)) [
       | true ↦ blankToken
-      | false ↦ elim (waitsAt c (t .state)) [ true ↦ being states.Ready t | false ↦ t ]
+      | false ↦ elim (waitsAt c (t .state)) [ true ↦ withState states.Ready t | false ↦ t ]
     ]
 
 -- the machine after a choke: the queue has those that are still ready, then the woken ones, "longest wait first"
@@ -194,7 +194,7 @@ module _ (m : Machine) (p : ℕ) (t : Token) where
 
   -- "left keeps the place, right is new", at place q
   unfoldable pub forked : (q left right : ℕ) → Effect
-  forked q l r = moves (enqueue q (enqueue p (newToken q (to r t) (put p (to l t) m))))
+  forked q l r = moves (enqueue q (enqueue p (newToken q (withNode r t) (put p (withNode l t) m))))
 
   -- "left binds x to the new cell; right is new and belongs to it"; the cell is at place c
   unfoldable pub split : (q c x left right : ℕ) → Effect
@@ -203,7 +203,7 @@ module _ (m : Machine) (p : ℕ) (t : Token) where
       (enqueue q
       (enqueue p
       (newCell c (record { parent = t .cell; value = helds.Nothing })
-      (newToken q (inCell c (to r t)) (put p (to l (binding x (slots.Cell c) t)) m)))))
+      (newToken q (inCell c (withNode r t)) (put p (withNode l (withBinding x (slots.Cell c) t)) m)))))
 
   -- "the token becomes a frame at next, the callee is new, in the token's cell, with no value and only its formals bound"
   unfoldable pub entered : (q root : ℕ) → List Param → (next : ℕ) → Effect
@@ -219,27 +219,27 @@ module _ (m : Machine) (p : ℕ) (t : Token) where
         cell = t .cell;
         state = states.Ready;
       })
-      (put p (to k (being states.Frame t)) m)))
+      (put p (withNode k (withState states.Frame t)) m)))
 
   -- "the first unset cell makes the token wait there"
   unfoldable pub waited : ℕ → Effect
-  waited c = waits (withOrders (queueOf m) (waitsOf m ++ (p ∷ [])) (put p (being (states.Waiting c) t) m))
+  waited c = waits (withOrders (queueOf m) (waitsOf m ++ (p ∷ [])) (put p (withState (states.Waiting c) t) m))
 
   -- "a built-in replies and the token goes on, or it is silent and the token ends"
   unfoldable pub replied : (next : ℕ) → Said → Effect
-  replied k (gives v) = goesOn (to k (holding (helds.Value v) t))
+  replied k (gives v) = goesOn (withNode k (withValue (helds.Value v) t))
   replied k silent = moves ended
 
   -- "an outside call takes the next handle (from 0), and the token is called out at the next node"
   unfoldable pub calledOut : (site : ℕ) → List ℤ → (next : ℕ) → Effect
   calledOut s vs k =
       calls (m .calls) s vs
-      (withCounts (suc (m .calls)) (m .newtoken) (m .newcell) (put p (to k (being (states.Called (m .calls)) t)) m))
+      (withCounts (suc (m .calls)) (m .lasttoken) (m .lastcell) (put p (withNode k (withState (states.Called (m .calls)) t)) m))
 
   -- "return: the place takes a copy of the frame with the value". (The test for 14 leaves no token without a frame.)
   unfoldable pub returned : Place → Effect
   returned places.Nowhere = refuses refusals.Rule
-  returned (places.At f) = goesOn (being states.Ready (holding (t .value) (tokenAt (m .tokens) f)))
+  returned (places.At f) = goesOn (withState states.Ready (withValue (t .value) (tokenAt (m .tokens) f)))
 
   -- "choke: set the cell; .." (The test for 14 leaves no token without a cell.)
   unfoldable pub chokes : Place → Effect
@@ -264,10 +264,10 @@ module _ (lim : Limits) (d : Dag) where
   hasCellPlace before = ltb (marked (cellsUsed before)) (lim .cells)
 
   abbrev pub tokenPlace : Machine → ℕ
-  tokenPlace before = nextPlace (tokensUsed before) (before .newtoken)
+  tokenPlace before = nextPlace (tokensUsed before) (before .lasttoken)
 
   abbrev pub cellPlace : Machine → ℕ
-  cellPlace before = nextPlace (cellsUsed before) (before .newcell)
+  cellPlace before = nextPlace (cellsUsed before) (before .lastcell)
 
   -- the instruction table
   unfoldable pub act : (before m : Machine) → ℕ → Token → Node → Effect
@@ -275,8 +275,8 @@ module _ (lim : Limits) (d : Dag) where
   act before m p t Node.publish = publishes (valueOf (t .value)) (ended m p t)
   act before m p t (Node.fork l r) =
       unless (hasTokenPlace before) refusals.TokenLimit (forked m p t (tokenPlace before) l r)
-  act before m p t (Node.assign x k) = goesOn m p t (to k (binding x (slots.Value (valueOf (t .value))) t))
-  act before m p t (Node.remove x k) = goesOn m p t (to k (binding x slots.Empty t))
+  act before m p t (Node.assign x k) = goesOn m p t (withNode k (withBinding x (slots.Value (valueOf (t .value))) t))
+  act before m p t (Node.remove x k) = goesOn m p t (withNode k (withBinding x slots.Empty t))
   act before m p t (Node.where' x l r) =
       unless (hasTokenPlace before) refusals.TokenLimit
       (unless (hasCellPlace before) refusals.CellLimit (split m p t (tokenPlace before) (cellPlace before) x l r))
@@ -299,4 +299,4 @@ module _ (lim : Limits) (d : Dag) where
   unfoldable pub step : Machine → (place : ℕ) → Outcome
   step m place =
       let effect = takes m place in
-      outcome m (unless (rulesKept lim d m) refusals.Rule (unless (ltb place (m .queued)) refusals.NoToken effect))
+      outcome m (unless (rulesHold lim d m) refusals.Rule (unless (ltb place (m .queued)) refusals.NoToken effect))

@@ -6,10 +6,10 @@ use Rattle.records.proofs.run.Statement.{statement}
 use Rattle.records.proofs.run.Tie as tie
 
 abbrev Inv-loop : tie.InvT-loop
-Inv-loop case from dag₀ machine₀ at₀ dag machine at = (1 ≤ from) × (from ≤ at) × (at ≤ length case)
+Inv-loop case from dag₀ w₀ at₀ dag w at = (1 ≤ from) × (from ≤ at) × (at ≤ length case)
 
 abbrev μ-loop : tie.MeasureT-loop
-μ-loop case from dag₀ machine₀ at₀ dag machine at = length case - at
+μ-loop case from dag₀ w₀ at₀ dag w at = length case - at
 
 returns : tie.Need-returns Inv-loop μ-loop
 returns c = search needs
@@ -23,9 +23,6 @@ behind-name-requires c κs = search needs
 returns-2 : tie.Need-returns-2 Inv-loop μ-loop
 returns-2 c = search needs
 
-blank-requires : tie.Need-blank-requires Inv-loop μ-loop
-blank-requires c κs = search needs
-
 loop-holds : tie.Need-loop-holds Inv-loop μ-loop
 loop-holds c = search needs
 
@@ -35,11 +32,11 @@ sub-loop c = search needs
 read-row-requires : tie.Need-read-row-requires Inv-loop μ-loop
 read-row-requires c κs = search needs
 
-put-word-requires : tie.Need-put-word-requires Inv-loop μ-loop
-put-word-requires c κs = search needs
+put-dag-requires : tie.Need-put-dag-requires Inv-loop μ-loop
+put-dag-requires c κs = search needs
 
-set-requires : tie.Need-set-requires Inv-loop μ-loop
-set-requires c κs = search needs
+put-record-requires : tie.Need-put-record-requires Inv-loop μ-loop
+put-record-requires c κs = search needs
 
 sub-called : tie.Need-sub-called Inv-loop μ-loop
 sub-called c = search needs
@@ -75,12 +72,11 @@ run-spec =
     shared-slice-read-behind-name
     behind-name-requires
     returns-2
-    blank-requires
     loop-holds
     sub-loop
     read-row-requires
-    put-word-requires
-    set-requires
+    put-dag-requires
+    put-record-requires
     sub-called
     part-called-start
     part-called-end

@@ -3,8 +3,9 @@
 //! `table` reads a job table, `dag` builds the nodes, `record` and `rules` hold the machine's
 //! record and its index rules, `machine` runs it, `lines` is orcrun. `edges` has inputs with names,
 //! `syntax`, `random` and `generator` make others by chance, `cases` keeps all of them in one file;
-//! `coverage` and `report` tell what they reach. `words` and `given` take dags and records as bytes,
-//! `trials` is a list of lawful and broken ones, `told` what the calls on them print.
+//! `coverage` and `report` tell what they reach. `words` and `layout` have dags and records as
+//! words, `given` as bytes, with the calls on them; `trials` is a list of lawful and broken ones,
+//! `told` what the calls on them print.
 
 pub mod cases;
 pub mod coverage;
@@ -12,6 +13,7 @@ pub mod dag;
 pub mod edges;
 pub mod generator;
 pub mod given;
+pub mod layout;
 pub mod lines;
 pub mod machine;
 pub mod random;

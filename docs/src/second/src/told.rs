@@ -1,20 +1,24 @@
-//! What a call on given bytes tells, as lines: the reply, then the record field by field.
+//! What a call on given words tells, as lines: the reply, then the record field by field, or word by
+//! word where the words are no record's.
 
-use crate::given::{Call, Case, Given, Order};
+use crate::given::{Call, Case, Given, Row};
+use crate::layout::{self, Laid, Order};
 use crate::machine::{Refused, Reply};
 use crate::record::{Binding, Cell, State, Token};
 use std::fmt::Write;
 
 /// The lines of all calls of a case, and the number of each reply that is a refusal.
 pub fn lines(case: &Case) -> (String, Vec<Option<u8>>) {
-    let mut given = case.given.clone();
+    let mut given = Given::blank();
     let mut text = String::new();
     let mut numbers = Vec::new();
-    for call in &case.calls {
-        let reply = given.call(*call);
-        numbers.push(reply.as_ref().err().map(|refused| refused.number));
-        let line = format!("{}, {}: {}", case.name, called(*call), replied(&reply));
-        text += &format!("{line}\n{}", record(&given));
+    for row in &case.rows {
+        let reply = given.act(*row);
+        if let (Row::Call(call), Some(reply)) = (row, reply) {
+            numbers.push(reply.as_ref().err().map(|refused| refused.number));
+            let line = format!("{}, {}: {}", case.name, called(*call), replied(&reply));
+            text += &format!("{line}\n{}", words(&given.record));
+        }
     }
     (text, numbers)
 }
@@ -46,23 +50,34 @@ fn replied(reply: &Result<Reply, Refused>) -> String {
     }
 }
 
+/// The record that the words are, or with its index each word that is not 0.
+fn words(words: &[u32]) -> String {
+    if layout::is_record(words) {
+        return record(&layout::read(words));
+    }
+    let mut text = "  words".to_string();
+    for (index, word) in words.iter().enumerate().filter(|(_, word)| **word != 0) {
+        write!(text, " {index}:{word}").expect("a string");
+    }
+    text + "\n"
+}
+
 /// Every field that is not blank.
-fn record(given: &Given) -> String {
+fn record(Laid { record, queue, waits }: &Laid) -> String {
     let mut text = String::new();
-    for (place, token) in given.record.tokens.iter().enumerate() {
+    for (place, token) in record.tokens.iter().enumerate() {
         if *token != Token::BLANK {
             text += &format!("  token {place}{}\n", token_fields(token));
         }
     }
-    for (place, cell) in given.record.cells.iter().enumerate() {
+    for (place, cell) in record.cells.iter().enumerate() {
         if *cell != Cell::BLANK {
             let parent = named(" parent", cell.parent);
             text += &format!("  cell {place}{parent}{}\n", named(" value", cell.value));
         }
     }
-    let record = &given.record;
-    text += &order("queue", &given.queue);
-    text += &order("waits", &given.waits);
+    text += &order("queue", queue);
+    text += &order("waits", waits);
     let places = format!("newtoken {} newcell {}", record.last_token, record.last_cell);
     text + &format!("  calls {} {places}\n", record.calls)
 }

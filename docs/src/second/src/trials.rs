@@ -1,13 +1,16 @@
 //! The list of cases on given records and dags: for each clause of the index rules one that breaks
-//! it alone and one that comes as near without breaking it, and lawful calls of every kind.
+//! it alone and one that comes as near without breaking it, and lawful calls of every kind; then
+//! words that are no record's, and others that come near.
 
 mod broken_dags;
 mod broken_records;
 mod lawful;
+mod odd_words;
 
 use crate::dag::{Dag, Definition, Node, Parameter};
-use crate::given::{Call, Case, Given, Order};
-use crate::record::{Binding, State, Token};
+use crate::given::{Call, Case, Given, Row};
+use crate::layout::{self, Laid, Order};
+use crate::record::{Binding, Record, State, Token};
 use crate::words;
 
 /// What the list says of a case.
@@ -19,6 +22,10 @@ pub enum Expected {
     Near,
     /// The last call is refused with 14, and no other.
     AtLast,
+    /// Every call but the last is refused with 14, and the last is not.
+    ButLast,
+    /// Every call is refused, all but so many with 14.
+    Refused(usize),
 }
 
 pub struct Trial {
@@ -29,31 +36,53 @@ pub struct Trial {
 impl Trial {
     /// Whether the replies are such as the list says of the case.
     pub fn agrees(&self, refusals: &[Option<u8>]) -> bool {
+        let last = refusals.len().checked_sub(1);
+        let others = refusals.iter().filter(|number| **number != Some(14)).count();
         match self.expected {
-            Expected::Broken => refusals.iter().all(|number| *number == Some(14)),
-            Expected::Near => refusals.iter().all(|number| *number != Some(14)),
-            Expected::AtLast => {
-                refusals.iter().position(|number| *number == Some(14))
-                    == refusals.len().checked_sub(1)
+            Expected::Broken => others == 0,
+            Expected::Near => others == refusals.len(),
+            Expected::AtLast => refusals.iter().position(|number| *number == Some(14)) == last,
+            Expected::ButLast => refusals.iter().position(|number| *number != Some(14)) == last,
+            Expected::Refused(count) => {
+                others == count && refusals.iter().all(|number| number.is_some())
             }
         }
     }
 }
 
 pub fn all() -> Vec<Trial> {
-    let lists = [broken_dags::list(), broken_records::list(), lawful::list()];
+    let lists = [broken_dags::list(), broken_records::list(), lawful::list(), odd_words::list()];
     lists.into_iter().flatten().collect()
 }
 
-type Edit = fn(&mut Given);
-
-fn trial(expected: Expected, name: &str, given: Given, calls: &[Call]) -> Trial {
-    Trial { expected, case: Case { name: name.to_string(), given, calls: calls.to_vec() } }
+/// A dag's words, and a record field by field, in the making.
+#[derive(Clone)]
+struct Draft {
+    words: Vec<u32>,
+    record: Record,
+    queue: Order,
+    waits: Order,
 }
 
-fn edited(mut given: Given, edit: Edit) -> Given {
-    edit(&mut given);
-    given
+type Edit = fn(&mut Draft);
+
+fn trial(expected: Expected, name: &str, draft: Draft, calls: &[Call]) -> Trial {
+    let calls = calls.iter().map(|call| Row::Call(*call));
+    rows(expected, name, draft.set().into_iter().chain(calls))
+}
+
+fn rows(expected: Expected, name: &str, rows: impl IntoIterator<Item = Row>) -> Trial {
+    let (name, rows) = (name.to_string(), rows.into_iter().collect());
+    Trial { expected, case: Case { name, rows } }
+}
+
+fn edited(mut draft: Draft, edit: Edit) -> Draft {
+    edit(&mut draft);
+    draft
+}
+
+fn is_set((_, word): &(usize, &u32)) -> bool {
+    **word != 0
 }
 
 // The dag and the record that most cases change in one place.
@@ -98,23 +127,50 @@ fn base_dag() -> Dag {
 }
 
 /// In the middle of a run: token 0 is a frame, 1 called out under cell 0, 2 waits there, 3 is ready.
-fn middle() -> Given {
-    let mut given = Given { words: words::write(&base_dag()), ..Given::blank() };
+fn middle() -> Draft {
+    let mut draft = Draft { words: words::write(&base_dag()), ..Draft::blank() };
     let mut bound = Token { caller: Some(0), ..Token::BLANK };
     bound.bindings[0] = Binding::Cell(0);
-    let record = &mut given.record;
+    let record = &mut draft.record;
     record.tokens[0] = Token { node: REMOVE, caller: None, state: State::Frame, ..bound };
     record.tokens[1] =
         Token { node: CHOKE, cell: Some(0), state: State::CalledOut(0), ..Token::BLANK };
     record.tokens[2] = Token { node: LET, state: State::Waiting(0), ..bound };
     record.tokens[3] = Token { node: OUTSIDE, state: State::Ready, ..bound };
     (record.calls, record.last_token, record.last_cell) = (1, 3, 0);
-    given.queue = Order::of(&[3]);
-    given.waits = Order::of(&[2]);
-    given
+    draft.queue = Order::of([3]);
+    draft.waits = Order::of([2]);
+    draft
 }
 
-impl Given {
+impl Draft {
+    fn blank() -> Draft {
+        let Laid { record, queue, waits } = Laid::blank();
+        Draft { words: Given::blank().dag, record, queue, waits }
+    }
+
+    fn record_words(&self) -> Vec<u32> {
+        let Draft { record, queue, waits, .. } = self.clone();
+        layout::write(&Laid { record, queue, waits })
+    }
+
+    /// The rows that set the words, all being 0 before.
+    fn set(&self) -> Vec<Row> {
+        let dag = self.words.iter().enumerate().filter(is_set);
+        let record = self.record_words();
+        let record = record.iter().enumerate().filter(is_set);
+        dag.map(|(index, word)| Row::Dag(index, *word))
+            .chain(record.map(|(index, word)| Row::Record(index, *word)))
+            .collect()
+    }
+
+    /// The rows that set the record's words to 0 again.
+    fn clear(&self) -> Vec<Row> {
+        let record = self.record_words();
+        let record = record.iter().enumerate().filter(is_set);
+        record.map(|(index, _)| Row::Record(index, 0)).collect()
+    }
+
     fn token(&mut self, place: usize) -> &mut Token {
         &mut self.record.tokens[place]
     }
@@ -132,11 +188,11 @@ impl Given {
     }
 
     fn queue_is(&mut self, places: &[u8]) {
-        self.queue = Order::of(places);
+        self.queue = Order::of(places.iter().map(|place| *place as usize));
     }
 
     fn waits_are(&mut self, places: &[u8]) {
-        self.waits = Order::of(places);
+        self.waits = Order::of(places.iter().map(|place| *place as usize));
     }
 
     /// The ready token 3 stands at this node, with or without a value.
@@ -147,7 +203,7 @@ impl Given {
     /// Another ready token like 3, at this place and behind in the queue.
     fn ready_too(&mut self, place: u8) {
         *self.token(place as usize) = self.record.tokens[3];
-        self.queue.names[self.queue.count as usize] = place;
+        self.queue.names[self.queue.count as usize] = place as u32;
         self.queue.count += 1;
     }
 

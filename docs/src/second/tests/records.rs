@@ -1,8 +1,8 @@
 //! The list of cases on given records and dags: what it says of each holds, and it misses no clause.
 
-use second::given::Case;
-use second::told;
+use second::given::{Case, Given, Row, NO_RECORD};
 use second::trials::{self, Expected};
+use second::{layout, told};
 use std::collections::BTreeSet;
 
 #[test]
@@ -26,29 +26,41 @@ fn names_differ() {
     assert_eq!(names.len(), trials::all().len());
 }
 
-/// A refused call leaves the record, but for a start, which leaves a blank one.
 #[test]
-fn refusals_leave_what_was_given() {
-    for trial in trials::all().into_iter().filter(|trial| trial.expected == Expected::Broken) {
-        let mut given = trial.case.given.clone();
-        for call in trial.case.calls.iter().filter(|call| **call != second::given::Call::Start) {
-            assert!(given.call(*call).is_err());
-            assert_eq!(given, trial.case.given);
+fn refusals_leave_every_word() {
+    for trial in trials::all() {
+        let mut given = Given::blank();
+        for row in trial.case.rows {
+            let before = given.clone();
+            if let Some(Err(_)) = given.act(row) {
+                assert_eq!(given, before, "{}", trial.case.name);
+            }
         }
     }
 }
 
-/// Each broken case breaks one clause alone. (Where there are no nodes, no token can name one.)
+/// What the first call of a case gets.
+fn handed_over(case: &Case) -> Given {
+    let mut given = Given::blank();
+    let is_set = |row: &&Row| !matches!(row, Row::Call(_));
+    case.rows.iter().take_while(is_set).for_each(|row| assert_eq!(given.act(*row), None));
+    given
+}
+
+/// Each broken case breaks one clause alone. (Where there are no nodes, no token can name one; and a
+/// start does not look at the record.)
 #[test]
 fn every_clause_is_broken_alone_by_some_case() {
+    let exceptions = ["no nodes", "a refused start leaves words that are no record's"];
     let mut broken = BTreeSet::new();
     for trial in trials::all().into_iter().filter(|trial| trial.expected == Expected::Broken) {
-        let clauses = trial.case.given.broken();
-        let alone = clauses.len() == 1 || trial.case.name == "no nodes";
+        let clauses = handed_over(&trial.case).broken();
+        let alone = clauses.len() == 1 || exceptions.contains(&trial.case.name.as_str());
         assert!(alone, "{}: {clauses:?}", trial.case.name);
         broken.extend(clauses);
     }
     let clauses = BTreeSet::from([
+        NO_RECORD.why,
         "kinds",
         "sites",
         "counts of the dag",
@@ -72,4 +84,53 @@ fn every_clause_is_broken_alone_by_some_case() {
         "what is not in use is blank",
     ]);
     assert_eq!(broken, clauses);
+}
+
+/// The field of a token's or a cell's word, by its place in the row; the others are fields themselves.
+fn field(index: usize) -> (&'static str, usize) {
+    match index {
+        0..layout::CELLS => ("token", index % layout::TOKEN),
+        layout::CELLS..layout::QUEUE => ("cell", (index - layout::CELLS) % layout::CELL),
+        _ => ("record", index),
+    }
+}
+
+fn is_written_otherwise(words: &[u32], index: usize) -> bool {
+    layout::write(&layout::read(words))[index] != words[index]
+}
+
+/// Of the fields that have words which no record is written as, none is missed.
+#[test]
+fn every_field_has_a_case_of_words_that_are_no_record() {
+    let mut found = BTreeSet::new();
+    for word in [1, 2, 3, 5, u32::MAX] {
+        for index in 0..layout::WORDS {
+            let mut words = vec![0; layout::WORDS];
+            words[index] = word;
+            found.extend(is_written_otherwise(&words, index).then(|| field(index)));
+        }
+    }
+    let token = [0, 1, 5, 6, 7].into_iter().chain(8..layout::TOKEN).map(|word| ("token", word));
+    let cell = [1, 2, 3].map(|word| ("cell", word));
+    let fields: BTreeSet<_> = token.chain(cell).collect();
+    assert_eq!(found, fields);
+    let mut tried = BTreeSet::new();
+    for trial in trials::all().into_iter().filter(|trial| trial.expected == Expected::Broken) {
+        let given = handed_over(&trial.case);
+        if given.broken() == [NO_RECORD.why] {
+            let odd =
+                (0..layout::WORDS).filter(|index| is_written_otherwise(&given.record, *index));
+            tried.extend(odd.map(field));
+        }
+    }
+    assert_eq!(tried, fields);
+}
+
+/// What is written is read back.
+#[test]
+fn records_are_read_as_written() {
+    for trial in trials::all() {
+        let laid = layout::read(&handed_over(&trial.case).record);
+        assert_eq!(layout::read(&layout::write(&laid)), laid);
+    }
 }

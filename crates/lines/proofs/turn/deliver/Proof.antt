@@ -3,7 +3,7 @@ use borrow.Author.Needs.{needs}
 use mir.Facts.{toZ-ofZ}
 use mir.Val.{SFits}
 use mir.Syntax.{w32}
-use Rattle.lines.proofs.Reached.{delivered}
+use Rattle.lines.proofs.TurnGives.{delivered}
 use Rattle.lines.proofs.turn.deliver.Statement.{statement}
 use Rattle.lines.proofs.turn.deliver.Tie as tie
 
@@ -19,13 +19,13 @@ word-at-requires-2 c κs = search needs
 signed-requires : tie.Need-signed-requires
 signed-requires c κs = search needs
 
-answer-kept-requires : tie.Need-answer-kept-requires
-answer-kept-requires c κs = search needs
+answer-requires : tie.Need-answer-requires
+answer-requires c κs = search needs
 
 returns : tie.Need-returns
 returns c =
-    let fits : SFits w32 (c .before .signed .result) = search needs in
-    delivered _ _ _ _ _ _ _ _ (rw (toZ-ofZ fits) at (c .answer-kept .ensures)) (c .before .before .before .word-at .ensures) (c .before .signed .ensures) (c .before .before .word-at2 .ensures)
+    let fits : SFits w32 (c .before .before .signed .result) = search needs in
+    delivered _ _ _ _ _ _ _ _ _ (c .answer .ensures) (toZ-ofZ fits) (c .before .before .before .before .word-at .ensures) (c .before .before .signed .ensures) (c .before .before .before .word-at2 .ensures)
 
 pub deliver-spec : {M : Type 1} → statement M
 deliver-spec =
@@ -35,5 +35,5 @@ deliver-spec =
     add-word-at
     word-at-requires-2
     signed-requires
-    answer-kept-requires
+    answer-requires
     returns)

@@ -1,44 +1,66 @@
--- `step::step` meets its contract. Assumes nothing.
-use mathlib.Core.Path.{sym, _∙_}
-use Rattle.machine.proofs.Viewed.{marks-of}
-use Rattle.machine.proofs.Ending.{step-no-token, step-rule}
+use Rattle.machine.proofs.Giving.{denied, granted, step-rule, step-gives, step-no-token}
+use native.Mathlib.Omega.{arith}
+use mathlib.Core.Path.{_≡_, refl, sym, _∙_}
 use borrow.Author.Needs.{needs}
 use Rattle.machine.proofs.step.step.Statement.{statement}
 use Rattle.machine.proofs.step.step.Tie as tie
+use Rattle.machine.proofs.step.step.Reads as reads
+use Rattle.machine.proofs.step.step.Lts as lts
+use Rattle.acts.proofs.report.plain.Reads as plain-reads
+use Rattle.machine.proofs.unchecked.step.Reads as step-reads
+use Rattle.machine.proofs.lawful.is_lawful.Reads as is-lawful-reads
+use Rattle.record.proofs.order.queued.Reads as queued-reads
+use Rattle.sites.proofs.number.wide.Reads as wide-reads
 
-in-use-requires : tie.Need-in-use-requires
-in-use-requires c κs = search needs
+-- src/step.rt:20:9
+is-lawful-requires : tie.Need-is-lawful-requires
+is-lawful-requires c κs = search needs
 
-rules-kept-requires : tie.Need-rules-kept-requires
-rules-kept-requires c κs = let u = marks-of (c .before .before .before .args .machine) _ (c .before .before .in-use .ensures) in (u .0, u .1)
+-- src/step.rt:21:9
+plain-requires : tie.Need-plain-requires
+plain-requires c κs = search needs
 
-step-kept-requires : tie.Need-step-kept-requires
-step-kept-requires c κs = (sym (c .before .before .before .rules-kept .ensures) ∙ c .before .before .if1 .taken, c .if2 .taken)
-
+-- src/step.rt:21:9
 returns : tie.Need-returns
-returns c = c .step-kept .ensures
+returns c = step-rule _ _ _ _ _ (c .before .before .is-lawful .ensures .0) (denied _ (c .before .if1 .taken)) (c .plain .ensures)
 
-refused-requires : tie.Need-refused-requires
-refused-requires c κs = search needs
+-- src/step.rt:23:13
+queued-requires : tie.Need-queued-requires
+queued-requires c κs = search needs
 
+-- src/step.rt:23:8
+wide-requires : tie.Need-wide-requires
+wide-requires c κs = search needs
+
+-- src/step.rt:24:9
+plain-requires-2 : tie.Need-plain-requires-2
+plain-requires-2 c κs = search needs
+
+-- src/step.rt:24:9
 returns-2 : tie.Need-returns-2
-returns-2 c = step-no-token _ _ _ _ (sym (c .before .before .before .before .rules-kept .ensures) ∙ c .before .before .before .if1 .taken) (c .before .if2 .left) (c .refused .ensures)
+returns-2 c = let a = c .before .before .before .before .before .before .is-lawful .ensures .1 (granted _ (c .before .before .before .before .before .if1 .left)) in
+    step-no-token _ _ a _ _ (let e = c .before .before .before .queued .ensures _ (a .holds .codes) in let f = c .before .before .wide .ensures in omega arith) (c .plain2 .ensures)
 
-refused-requires-2 : tie.Need-refused-requires-2
-refused-requires-2 c κs = search needs
+-- src/step.rt:26:5
+step-requires : tie.Need-step-requires
+step-requires c κs = let a = c .before .before .before .before .before .before .before .before .is-lawful .ensures .1 (granted _ (c .before .before .before .before .before .before .before .if1 .left)) in
+    record { machine = _; is = record { lawful = a; queued = (let e = c .before .before .before .before .before .queued .ensures _ (a .holds .codes) in let f = c .before .before .before .before .wide .ensures in omega arith) } }
 
+-- src/step.rt:15:1
 returns-3 : tie.Need-returns-3
-returns-3 c = step-rule _ _ _ _ (sym (c .before .before .rules-kept .ensures) ∙ c .before .if1 .left) (c .refused2 .ensures)
+returns-3 c = let a = c .before .before .before .before .before .before .before .before .before .is-lawful .ensures .1 (granted _ (c .before .before .before .before .before .before .before .before .if1 .left)) in
+    step-gives _ _ a _ _ (c .step .ensures _ (record { lawful = a; queued = (let e = c .before .before .before .before .before .before .queued .ensures _ (a .holds .codes) in let f = c .before .before .before .before .before .wide .ensures in omega arith) }))
 
 pub step-spec : {M : Type 1} → statement M
 step-spec =
     tie.close
     (tie.spec
-    in-use-requires
-    rules-kept-requires
-    step-kept-requires
+    is-lawful-requires
+    plain-requires
     returns
-    refused-requires
+    queued-requires
+    wide-requires
+    plain-requires-2
     returns-2
-    refused-requires-2
+    step-requires
     returns-3)

@@ -13,7 +13,7 @@ use Rattle.model.specs.Job.Node.{Dag}
 use Rattle.model.specs.Job.Construct.{construct}
 use Rattle.model.specs.Machine.Limits.{Limits, limits}
 use Rattle.model.specs.Machine.Blank.{blankToken}
-use Rattle.model.specs.Machine.Rules.{rulesKept}
+use Rattle.model.specs.Machine.Rules.{rulesHold}
 use Rattle.model.specs.Machine.Reply.{valuesBeside, refuses, unless, outcome, told}
 use Rattle.model.specs.Machine.Start as Start
 use Rattle.model.specs.Machine.Start.{startToken}
@@ -64,7 +64,7 @@ module _ (lim : Limits) (d : Dag) (m : Machine) (closed : (h : ℕ) → holder h
   answer-refused : (h : ℕ) (v : ℤ) → (q : Refusal) × (Answer.answer lim d m h v ≡ outcome m (refuses q))
   unfolding Answer.answer answered
   answer-refused h v =
-      let r = refuses-either-way (rulesKept lim d m) refusals.Rule refusals.NotOpen in (r .0, rw (closed h) (ap (outcome m) (r .1)))
+      let r = refuses-either-way (rulesHold lim d m) refusals.Rule refusals.NotOpen in (r .0, rw (closed h) (ap (outcome m) (r .1)))
 
   -- so the machine stays, and no call shows anything
   shows-nothing : (calls : List Call) → eventsFrom idle lim d m calls ≡ []

@@ -5,28 +5,22 @@ use Rattle.records.proofs.show.cells.Statement.{statement}
 use Rattle.records.proofs.show.cells.Tie as tie
 
 abbrev Inv-loop : tie.InvT-loop
-Inv-loop rows i₀ i = i ≤ 32
+Inv-loop w c₀ c = c ≤ 32
 
 abbrev μ-loop : tie.MeasureT-loop
-μ-loop rows i₀ i = 32 - i
+μ-loop w c₀ c = 32 - c
 
 loop-holds : tie.Need-loop-holds Inv-loop μ-loop
 loop-holds c = search needs
 
-mul-c : tie.Need-mul-c Inv-loop μ-loop
-mul-c c = search needs
+is-blank-cell-requires : tie.Need-is-blank-cell-requires Inv-loop μ-loop
+is-blank-cell-requires c κs = search needs
 
-array-copy-out-c : tie.Need-array-copy-out-c Inv-loop μ-loop
-array-copy-out-c c = search needs
+one-cell-requires : tie.Need-one-cell-requires Inv-loop μ-loop
+one-cell-requires c κs = search needs
 
-cell-is-blank-requires : tie.Need-cell-is-blank-requires Inv-loop μ-loop
-cell-is-blank-requires c κs = search needs
-
-cell-requires : tie.Need-cell-requires Inv-loop μ-loop
-cell-requires c κs = search needs
-
-add-i : tie.Need-add-i Inv-loop μ-loop
-add-i c = search needs
+add-c : tie.Need-add-c Inv-loop μ-loop
+add-c c = search needs
 
 loop-less : tie.Need-loop-less Inv-loop μ-loop
 loop-less c = search needs
@@ -44,11 +38,9 @@ cells-spec =
     Inv-loop
     μ-loop
     loop-holds
-    mul-c
-    array-copy-out-c
-    cell-is-blank-requires
-    cell-requires
-    add-i
+    is-blank-cell-requires
+    one-cell-requires
+    add-c
     loop-less
     loop-again
     returns)

@@ -5,28 +5,22 @@ use Rattle.records.proofs.show.tokens.Statement.{statement}
 use Rattle.records.proofs.show.tokens.Tie as tie
 
 abbrev Inv-loop : tie.InvT-loop
-Inv-loop rows i₀ i = i ≤ 64
+Inv-loop w p₀ p = p ≤ 64
 
 abbrev μ-loop : tie.MeasureT-loop
-μ-loop rows i₀ i = 64 - i
+μ-loop w p₀ p = 64 - p
 
 loop-holds : tie.Need-loop-holds Inv-loop μ-loop
 loop-holds c = search needs
 
-mul-t : tie.Need-mul-t Inv-loop μ-loop
-mul-t c = search needs
+is-blank-token-requires : tie.Need-is-blank-token-requires Inv-loop μ-loop
+is-blank-token-requires c κs = search needs
 
-array-copy-out-t : tie.Need-array-copy-out-t Inv-loop μ-loop
-array-copy-out-t c = search needs
+one-token-requires : tie.Need-one-token-requires Inv-loop μ-loop
+one-token-requires c κs = search needs
 
-token-is-blank-requires : tie.Need-token-is-blank-requires Inv-loop μ-loop
-token-is-blank-requires c κs = search needs
-
-token-requires : tie.Need-token-requires Inv-loop μ-loop
-token-requires c κs = search needs
-
-add-i : tie.Need-add-i Inv-loop μ-loop
-add-i c = search needs
+add-p : tie.Need-add-p Inv-loop μ-loop
+add-p c = search needs
 
 loop-less : tie.Need-loop-less Inv-loop μ-loop
 loop-less c = search needs
@@ -44,11 +38,9 @@ tokens-spec =
     Inv-loop
     μ-loop
     loop-holds
-    mul-t
-    array-copy-out-t
-    token-is-blank-requires
-    token-requires
-    add-i
+    is-blank-token-requires
+    one-token-requires
+    add-p
     loop-less
     loop-again
     returns)

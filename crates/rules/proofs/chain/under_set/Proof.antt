@@ -1,62 +1,70 @@
 -- `chain::under_set` meets its contract: the chain from the place goes on with the links that are left. Assumes nothing.
-use mathlib.Core.Path.{_≡_, sym, _∙_}
-use Prim.Native.Nat.{_-_, _≤_}
+use mathlib.Core.Path.{_≡_, sym, _∙_, ap}
+use Prim.Native.Nat.{_+_, _-_, _≤_}
+use Rattle.model.specs.declared.record.Machine.{Machine}
 use Rattle.model.specs.Machine.Active.{underSet}
+use Rattle.record.specs.Holds.{Codes}
+use Rattle.record.specs.Decode.{placeFrom}
+use Rattle.rules.proofs.Fields.{placed, no-place, at-place, held-some, held-nothing}
 use Rattle.rules.proofs.Chains.{setAbove, under-begin, under-stop, under-past, under-found, under-on, under-end}
 use borrow.Author.Needs.{needs}
 use Rattle.rules.proofs.chain.under_set.Statement.{statement}
 use Rattle.rules.proofs.chain.under_set.Tie as tie
 
 abbrev Inv-loop : tie.InvT-loop
-Inv-loop cells here₀ i₀ here i = (i ≤ 32) × (underSet cells here₀ ≡ setAbove cells (32 - i) here)
+Inv-loop w place here₀ i₀ here i =
+    (i ≤ 32) × ((m : Machine) → Codes w m → underSet (m .cells) (placeFrom here₀) ≡ setAbove (m .cells) (32 - i) (placeFrom here))
 
 abbrev μ-loop : tie.MeasureT-loop
-μ-loop cells here₀ i₀ here i = 32 - i
+μ-loop w place here₀ i₀ here i = 32 - i
 
 loop-holds : tie.Need-loop-holds Inv-loop μ-loop
-loop-holds c = (search needs, under-begin (c .args .t1) _ 0 (search needs))
+loop-holds c = (search needs, λ m h. under-begin (m .cells) _ 0 (h .shaped .cells))
 
 returns : tie.Need-returns Inv-loop μ-loop
 returns c =
-    let place3 = c .before .before .before in
-    let place4 = place3 .before in
-    let now = place3 .loop in
-    under-stop (place4 .args .t1) (now .here) (now .i) (search needs) (c .enum-told .given .1) ∙ sym (now .inv .1)
+    let now = c .before .before .loop in
+    λ m h. under-stop (m .cells) _ (now .i) (h .shaped .cells) (no-place (c .if1 .taken)) ∙ sym (now .inv .1 m h)
 
 returns-2 : tie.Need-returns-2 Inv-loop μ-loop
 returns-2 c =
-    let place2 = c .before .before in
-    let place5 = place2 .before .before .before in
-    let place6 = place5 .before in
-    let now = place5 .loop in
-    under-past (place6 .args .t1) (now .here) (now .i) (search needs) _ (place2 .here .given .1) (search needs) (c .if1 .taken) ∙ sym (now .inv .1)
+    let place3 = c .before .before .before in
+    let now = place3 .loop in
+    λ m h.
+    under-past (m .cells) _ (now .i) (h .shaped .cells) (now .here - 1) (at-place (now .here) _ (c .before .if1 .left) (search needs))
+    (search needs) (search needs)
+    ∙ sym (now .inv .1 m h)
 
 returns-3 : tie.Need-returns-3 Inv-loop μ-loop
 returns-3 c =
-    let place5 = c .before .before .before .before .before in
-    let place8 = place5 .before .before .before in
-    let place9 = place8 .before in
-    let now = place8 .loop in
-    under-found (place9 .args .t1) (now .here) (now .i) (search needs) _ (place5 .here .given .1) (search needs) _ (search needs)
-    (sym (c .before .has-value .ensures) ∙ c .if2 .taken)
-    ∙ sym (now .inv .1)
+    let place2 = c .before .before in
+    let place4 = place2 .before .before in
+    let place6 = place4 .before .before in
+    let now = place6 .loop in
+    λ m h.
+    under-found (m .cells) _ (now .i) (h .shaped .cells) _
+    (at-place (now .here) _ (place4 .if1 .left) (ap (λ n. n - 1) (place2 .wide .ensures))) (search needs)
+    (held-some _ (c .before .valued .ensures m h) (c .if3 .taken))
+    ∙ sym (now .inv .1 m h)
 
 loop-again : tie.Need-loop-again Inv-loop μ-loop
 loop-again c =
-    let place5 = c .before .before .before .before .before in
-    let place8 = place5 .before .before .before in
-    let place9 = place8 .before in
-    let now = place8 .loop in (
+    let place2 = c .before .before in
+    let place3 = place2 .before in
+    let place5 = place3 .before .before in
+    let place7 = place5 .before .before in
+    let now = place7 .loop in (
       search needs,
-      now .inv .1
-          ∙ under-on (place9 .args .t1) (now .here) (now .i) (search needs) _ (place5 .here .given .1) (search needs) _ (search needs)
-          (sym (c .before .has-value .ensures) ∙ c .if2 .left),
+      λ m h.
+          now .inv .1 m h
+          ∙ under-on (m .cells) _ (now .i) (h .shaped .cells) _
+          (at-place (now .here) _ (place5 .if1 .left) (ap (λ n. n - 1) (place3 .wide .ensures))) (search needs)
+          (held-nothing _ (place2 .valued .ensures m h) (search needs))
+          ∙ ap (setAbove (m .cells) (32 - (now .i + 1))) (sym (ap placeFrom (c .parent .ensures m h) ∙ placed _)),
     )
 
 returns-4 : tie.Need-returns-4 Inv-loop μ-loop
-returns-4 c =
-    let place2 = c .before .before in
-    under-end (place2 .args .t1) (c .before .loop .here) (c .before .loop .i) (search needs) (search needs) ∙ sym (c .before .loop .inv .1)
+returns-4 c = λ m h. under-end (m .cells) _ (c .before .loop .i) (h .shaped .cells) (search needs) ∙ sym (c .before .loop .inv .1 m h)
 
 pub under-set-spec : {M : Type 1} → statement M
 under-set-spec =
@@ -65,15 +73,13 @@ under-set-spec =
     Inv-loop
     μ-loop
     loop-holds
-    (λ c. search needs)
     returns
-    (λ c. search needs)
-    (λ c. search needs)
     returns-2
-    (λ c. search needs)
+    (λ c κs. search needs)
     (λ c. search needs)
     (λ c κs. search needs)
     returns-3
+    (λ c κs. search needs)
     (λ c. search needs)
     (λ c. search needs)
     loop-again

@@ -2,7 +2,7 @@
 use mathlib.Core.Path.{_≡_, _∙_, ap}
 use Prim.Native.Nat.{ℕ, _-_, _≤_}
 use native.Mathlib.Omega.{arith}
-use lib.ListN.{length, take}
+use lib.ListN.{take}
 use Rattle.model.specs.Test.{differ}
 use Rattle.rules.proofs.Gathered.{differ-turn}
 use borrow.Author.Needs.{needs}
@@ -22,26 +22,18 @@ loop-holds c = search needs
 loop-again : tie.Need-loop-again Inv-loop μ-loop
 loop-again c =
     let place2 = c .before .before in
-    let place3 = place2 .before in
-    let list = place3 .args .list in
-    let long : length list ≡ 64 = search needs in
-    (search needs, differ-turn list (place2 .loop .i) (omega arith) (place2 .loop .inv .1) (c .is-new .ensures))
+    let place4 = place2 .before .before in
+    let now = place2 .loop in
+    (search needs, differ-turn (place4 .args .list .now) (now .i) (omega (arith, place4 .pre .1)) (now .inv .1) (c .is-new .ensures))
 
 returns : tie.Need-returns Inv-loop μ-loop
 returns c =
-    let start = c .before .before in
-    let end : c .before .loop .i ≡ start .args .count = omega arith in
-    c .before .loop .inv .1 ∙ ap (λ (k : ℕ). differ (take k (start .args .list))) end
+    let place3 = c .before .before .before in
+    let start = place3 .args in
+    let end : c .before .loop .i ≡ start .count = omega arith in
+    c .before .loop .inv .1 ∙ ap (λ (k : ℕ). differ (take k (start .list .now))) end
 
 pub all-differ-spec : {M : Type 1} → statement M
 all-differ-spec =
     tie.close
-    (tie.spec
-    Inv-loop
-    μ-loop
-    loop-holds
-    (λ c κs. search needs)
-    (λ c. search needs)
-    (λ c. search needs)
-    loop-again
-    returns)
+    (tie.spec Inv-loop μ-loop loop-holds (λ c κs. search needs) (λ c. search needs) (λ c. search needs) loop-again returns)

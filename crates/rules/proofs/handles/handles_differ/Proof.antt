@@ -6,12 +6,10 @@ use Rattle.rules.proofs.handles.handles_differ.Statement.{statement}
 use Rattle.rules.proofs.handles.handles_differ.Tie as tie
 
 returns : tie.Need-returns
-returns c = λ ts e f. c .all-differ .ensures ∙ ap differ (c .before .before .gather .ensures .1 ts e f)
+returns c =
+    let place3 = c .before .before .before in
+    λ m h. c .all-differ .ensures ∙ ap differ (place3 .gather .ensures .1 m h)
 
 pub handles-differ-spec : {M : Type 1} → statement M
 handles-differ-spec =
-    tie.close
-    (tie.spec
-    (λ c κs. search needs)
-    (λ c κs. search needs)
-    returns)
+    tie.close (tie.spec (λ c κs. search needs) (λ c. search needs) (λ c κs. search needs) returns)

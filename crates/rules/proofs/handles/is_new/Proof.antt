@@ -1,21 +1,21 @@
 -- `handles::is_new` meets its contract: the flag says whether the number is none of the first j. Assumes nothing.
-use mathlib.Core.Path.{_≡_, refl, _∙_, ap}
 use mathlib.Core.Bool.{not}
+use mathlib.Core.Path.{_≡_, refl, _∙_, ap}
 use Prim.Native.Nat.{ℕ, _-_, _≤_}
 use native.Mathlib.Omega.{arith}
-use lib.ListN.{length, getD, take}
 use lib.Dec.{eqb}
+use lib.ListN.{getD, take}
 use Rattle.model.specs.Test.{all}
-use Rattle.rules.proofs.Loop.{all-turn}
+use Rattle.coded.proofs.Loop.{all-turn}
 use borrow.Author.Needs.{needs}
 use Rattle.rules.proofs.handles.is_new.Statement.{statement}
 use Rattle.rules.proofs.handles.is_new.Tie as tie
 
 abbrev Inv-loop : tie.InvT-loop
-Inv-loop i list handle ok₀ j₀ ok j = (j ≤ i) × (ok ≡ all (λ (h : ℕ). not (eqb h (getD list i 0))) (take j list))
+Inv-loop list i handle ok₀ j₀ ok j = (j ≤ i) × (ok ≡ all (λ (h : ℕ). not (eqb h (getD list i 0))) (take j list))
 
 abbrev μ-loop : tie.MeasureT-loop
-μ-loop i list handle ok₀ j₀ ok j = i - j
+μ-loop list i handle ok₀ j₀ ok j = i - j
 
 loop-holds : tie.Need-loop-holds Inv-loop μ-loop
 unfolding all
@@ -23,19 +23,20 @@ loop-holds c = search needs
 
 loop-again : tie.Need-loop-again Inv-loop μ-loop
 loop-again c =
-    let start = c .before .before in
-    let list = start .args .t1 in
-    let long : length list ≡ 64 = search needs in (
-      search needs,
-      all-turn (λ (h : ℕ). not (eqb h (getD list (start .args .i) 0))) list (c .before .loop .j) 0 (omega arith) (c .before .loop .inv .1) refl,
-    )
+    let place2 = c .before .before in
+    let place4 = place2 .before .before in
+    let start = place4 .args in
+    let list = start .list .now in
+    let now = place2 .loop in
+    (search needs, all-turn (λ (h : ℕ). not (eqb h (getD list (start .i) 0))) list (now .j) 0 (omega (arith, place4 .pre .1)) (now .inv .1) refl)
 
 returns : tie.Need-returns Inv-loop μ-loop
 returns c =
-    let start = c .before .before in
-    let list = start .args .t1 in
-    let end : c .before .loop .j ≡ start .args .i = omega arith in
-    c .before .loop .inv .1 ∙ ap (λ (k : ℕ). all (λ (h : ℕ). not (eqb h (getD list (start .args .i) 0))) (take k list)) end
+    let place3 = c .before .before .before in
+    let start = place3 .args in
+    let end : c .before .loop .j ≡ start .i = omega arith in
+    c .before .loop .inv .1
+    ∙ ap (λ (k : ℕ). all (λ (h : ℕ). not (eqb h (getD (start .list .now) (start .i) 0))) (take k (start .list .now))) end
 
 pub is-new-spec : {M : Type 1} → statement M
 is-new-spec =

@@ -1,38 +1,59 @@
--- `node::at_node` meets its contract: the token's row is that of its node. Assumes nothing.
+-- `node::at_node` meets its contract: the row is that of the token's node. Assumes nothing.
 use mathlib.Core.Path.{_∙_, ap}
-use native.Mathlib.Omega.{arith}
 use Prim.Native.Nat.{_+_, _*_}
-use Rattle.model.specs.Job.Words.{nodeBy}
+use native.Mathlib.Omega.{arith}
 use Rattle.model.specs.Machine.Rules.{nodeRule}
-use Rattle.rules.proofs.Array.{row-part}
+use Rattle.model.specs.Machine.Blank.{tokenAt}
+use Rattle.model.specs.Job.Words.{nodeBy}
 use Rattle.rules.proofs.Nodes.{nodes-few, at-none, at-row}
+use Rattle.coded.proofs.Array.{row-part}
 use borrow.Author.Needs.{needs}
 use Rattle.rules.proofs.node.at_node.Statement.{statement}
 use Rattle.rules.proofs.node.at_node.Tie as tie
 
 returns : tie.Need-returns
 returns c =
-    let start = c .before .before .before in
-    λ ts e f.
-    at-none (start .args .dag .now) (start .pre .0) (start .pre .1) ts (start .args .token) (c .before .state-number .ensures) (c .if1 .taken)
+    let place3 = c .before .before .before in
+    λ m h e.
+    at-none (place3 .args .dag .now) (place3 .pre .1) (place3 .pre .2) (m .tokens) _ (c .before .state .ensures m h) (c .if1 .taken)
+
+mul-at : tie.Need-mul-at
+mul-at c =
+    let place3 = c .before .before .before in
+    omega (arith, nodes-few (place3 .args .dag .now) (place3 .pre .1) (place3 .pre .2))
+
+add-at : tie.Need-add-at
+add-at c =
+    let place3 = c .before .before .before in
+    omega (arith, nodes-few (place3 .args .dag .now) (place3 .pre .1) (place3 .pre .2))
+
+add-end : tie.Need-add-end
+add-end c =
+    let place3 = c .before .before .before in
+    omega (arith, nodes-few (place3 .args .dag .now) (place3 .pre .1) (place3 .pre .2))
+
+mul-node-rule : tie.Need-mul-node-rule
+mul-node-rule c =
+    let place3 = c .before .before .before in
+    omega (arith, nodes-few (place3 .args .dag .now) (place3 .pre .1) (place3 .pre .2))
 
 part-node-rule-end : tie.Need-part-node-rule-end
 part-node-rule-end c =
-    let start = c .before .before .before .before .before in
-    let start = start in omega (arith, nodes-few (start .args .dag .now) (start .pre .0) (start .pre .1))
+    let place3 = c .before .before .before in
+    omega (arith, nodes-few (place3 .args .dag .now) (place3 .pre .1) (place3 .pre .2))
 
 returns-2 : tie.Need-returns-2
 returns-2 c =
     let place2 = c .before .before in
-    let place4 = place2 .before .before in
-    let place5 = place4 .before in
-    let start = place5 .before .before in
-    λ ts e f.
-    let dag = start .args .dag .now in
-    let token = start .args .token in
-    c .node-rule .ensures ts (place2 .names-frame .ensures ts e f)
-    ∙ ap (λ xs. nodeRule ts token (nodeBy xs)) (row-part (67 + 12 * token .node) dag)
-    ∙ at-row dag (start .pre .0) (start .pre .1) ts token (place5 .state-number .ensures) (place4 .if1 .left) (start .pre .2)
+    let place3 = place2 .before in
+    let place5 = place3 .before .before in
+    let start = place5 .args in
+    let dag = start .dag .now in
+    λ m h e.
+    c .node-rule .ensures m h
+    ∙ ap (λ xs. nodeRule (m .tokens) (tokenAt (m .tokens) (start .p)) (nodeBy xs)) (row-part (67 + 12 * start .node) dag)
+    ∙ at-row dag (place5 .pre .1) (place5 .pre .2) (m .tokens) (tokenAt (m .tokens) (start .p)) e (place3 .state .ensures m h)
+    (place2 .if1 .left) (place5 .pre .3)
 
 pub at-node-spec : {M : Type 1} → statement M
 at-node-spec =
@@ -40,12 +61,10 @@ at-node-spec =
     (tie.spec
     (λ c κs. search needs)
     returns
-    (λ c. search needs)
-    (λ c. search needs)
-    (λ c. search needs)
-    (λ c. search needs)
-    (λ c κs. search needs)
-    (λ c. search needs)
+    mul-at
+    add-at
+    add-end
+    mul-node-rule
     (λ c. search needs)
     (λ c. search needs)
     part-node-rule-end

@@ -1,61 +1,64 @@
--- `order::counted` meets its contract: after i turns each place is counted in the first i numbers. Assumes nothing.
-use mathlib.Core.Path.{_≡_, refl, _∙_, ap}
+-- `order::counted` meets its contract: after i turns each place is counted in the first i names. Assumes nothing.
+use mathlib.Core.List.{List}
+use mathlib.Core.Path.{_≡_, refl, sym, _∙_, ap}
 use Prim.Native.Nat.{ℕ, _-_, _≤_, _<_}
 use native.Mathlib.Omega.{arith}
 use lib.ListN.{length, getD, take, length-set, getD-replicate}
 use Rattle.model.specs.Test.{count}
-use Rattle.rules.proofs.Orders.{named-below, count-small, count-turn}
+use Rattle.rules.proofs.Orders.{count-few, none-counted, count-turn}
+use Rattle.rules.specs.Rules.{NamesAt}
 use borrow.Author.Needs.{needs}
 use Rattle.rules.proofs.order.counted.Statement.{statement}
 use Rattle.rules.proofs.order.counted.Tie as tie
 
 abbrev Inv-loop : tie.InvT-loop
-Inv-loop n array counts₀ i₀ counts i = (i ≤ n) × (length counts ≡ 64) × ((p : ℕ) → p < 64 → getD counts p 0 ≡ count p (take i array))
+Inv-loop w at n counts₀ i₀ counts i = (i ≤ n) × (length counts ≡ 64) × ((p : ℕ) → getD counts p 0 ≤ i)
+    × ((names : List ℕ) → NamesAt w at names → (p : ℕ) → p < 64 → getD counts p 0 ≡ count p (take i names))
 
 abbrev μ-loop : tie.MeasureT-loop
-μ-loop n array counts₀ i₀ counts i = n - i
+μ-loop w at n counts₀ i₀ counts i = n - i
 
 loop-holds : tie.Need-loop-holds Inv-loop μ-loop
 unfolding count
-loop-holds c = (search needs, refl, λ p l. getD-replicate 64 p 0 0 l)
+loop-holds c = (search needs, refl, none-counted, λ names h p l. getD-replicate 64 p 0 0 l)
 
 array-read-c : tie.Need-array-read-c Inv-loop μ-loop
 array-read-c c =
-    let place2 = c .before .before in
-    named-below (place2 .args .t1) (place2 .args .n) (c .before .loop .i) (search needs) (search needs) (search needs) (place2 .pre .1)
+    let place3 = c .before .before .before in
+    let place4 = place3 .before in
+    omega (arith, place4 .pre .2 (place3 .loop .i) (search needs), c .wide .ensures)
 
 add-counts : tie.Need-add-counts Inv-loop μ-loop
 add-counts c =
-    let start = c .before .before in
-    let array = start .args .t1 in
-    let long : length array ≡ 64 = search needs in
-    let now = c .before .loop in
-    let b = named-below array (start .args .n) (now .i) long (search needs) (search needs) (start .pre .1) in
-    omega (arith, count-small array (now .counts) (now .i) (now .inv .1) (omega arith) (now .inv .2) (getD array (now .i) 0) b)
+    let place3 = c .before .before .before in
+    omega (arith, place3 .loop .inv .2 (c .wide .result))
 
 array-write-counts : tie.Need-array-write-counts Inv-loop μ-loop
 array-write-counts c =
-    let place2 = c .before .before in
-    named-below (place2 .args .t1) (place2 .args .n) (c .before .loop .i) (search needs) (search needs) (search needs) (place2 .pre .1)
+    let place3 = c .before .before .before in
+    let place4 = place3 .before in
+    omega (arith, place4 .pre .2 (place3 .loop .i) (search needs), c .wide .ensures)
 
 loop-again : tie.Need-loop-again Inv-loop μ-loop
 loop-again c =
-    let start = c .before .before in
-    let array = start .args .t1 in
-    let long : length array ≡ 64 = search needs in
-    let now = c .before .loop in
-    let b = named-below array (start .args .n) (now .i) long (search needs) (search needs) (start .pre .1) in (
+    let place3 = c .before .before .before in
+    let place4 = place3 .before in
+    let now = place3 .loop in
+    let start = place4 .args in
+    let below : c .wide .result < 64 = omega (arith, place4 .pre .2 (now .i) (search needs), c .wide .ensures) in (
       search needs,
       length-set (now .counts) _ _ ∙ now .inv .1,
-      count-turn array (now .counts) (now .i) (now .inv .1) (omega arith) (now .inv .2) (getD array (now .i) 0) b refl,
+      count-few (now .counts) (now .i) (c .wide .result) (now .inv .1) below (now .inv .2),
+      λ names h.
+          count-turn names (now .counts) (now .i) (now .inv .1) (omega (arith, h .long)) (now .inv .3 names h) (c .wide .result) below
+          (sym (c .wide .ensures ∙ h .words (now .i) (search needs))),
     )
 
 returns : tie.Need-returns Inv-loop μ-loop
 returns c =
-    let start = c .before .before in
     let last = c .before .loop in
-    let end : last .i ≡ start .args .n = omega arith in
-    λ p l. last .inv .2 p l ∙ ap (λ (k : ℕ). count p (take k (start .args .t1))) end
+    let end : last .i ≡ c .before .before .args .n = omega arith in
+    λ names h p l. last .inv .3 names h p l ∙ ap (λ (k : ℕ). count p (take k names)) end
 
 pub counted-spec : {M : Type 1} → statement M
 counted-spec =
@@ -66,6 +69,8 @@ counted-spec =
     loop-holds
     (λ c. search needs)
     (λ c. search needs)
+    (λ c. search needs)
+    (λ c κs. search needs)
     array-read-c
     add-counts
     array-write-counts

@@ -1,37 +1,38 @@
--- `order::order_in_range` meets its contract: after i turns the flag says whether the first i numbers are in range. Assumes nothing.
-use mathlib.Core.Path.{_≡_, refl, ap, _∙_}
-use Prim.Native.Nat.{ℕ, _-_, _≤_}
+-- `order::order_in_range` meets its contract: each of the first i names is below 64. Assumes nothing.
+use mathlib.Core.Path.{refl}
+use Prim.Native.Nat.{ℕ, _+_, _-_, _≤_, _<_}
 use native.Mathlib.Omega.{arith}
-use lib.ListN.{length, take}
-use lib.Dec.{ltb}
-use Rattle.model.specs.Test.{all}
-use Rattle.rules.proofs.Loop.{all-turn}
+use lib.ListN.{getD}
+use borrow.Author.Count.{below-more}
+use Rattle.model.proofs.Test.{clash}
+use Rattle.rules.proofs.Orders.{wild, tame}
 use borrow.Author.Needs.{needs}
 use Rattle.rules.proofs.order.order_in_range.Statement.{statement}
 use Rattle.rules.proofs.order.order_in_range.Tie as tie
 
 abbrev Inv-loop : tie.InvT-loop
-Inv-loop n array ok₀ i₀ ok i = (i ≤ n) × (ok ≡ all (λ (p : ℕ). ltb p 64) (take i array))
+Inv-loop w at n i₀ i = (i ≤ n) × ((k : ℕ) → k < i → getD w (at + k) 0 < 64)
 
 abbrev μ-loop : tie.MeasureT-loop
-μ-loop n array ok₀ i₀ ok i = n - i
-
-loop-holds : tie.Need-loop-holds Inv-loop μ-loop
-unfolding all
-loop-holds c = search needs
-
-loop-again : tie.Need-loop-again Inv-loop μ-loop
-loop-again c =
-    let place2 = c .before .before in
-    let array = place2 .args .t1 in
-    let long : length array ≡ 64 = search needs in
-    (search needs, all-turn (λ (p : ℕ). ltb p 64) array (c .before .loop .i) 0 (omega arith) (c .before .loop .inv .1) refl)
+μ-loop w at n i₀ i = n - i
 
 returns : tie.Need-returns Inv-loop μ-loop
 returns c =
-    let start = c .before .before in
-    let end : c .before .loop .i ≡ start .args .n = omega arith in
-    c .before .loop .inv .1 ∙ ap (λ (k : ℕ). all (λ (p : ℕ). ltb p 64) (take k (start .args .t1))) end
+    let place3 = c .before .before .before in
+    let place4 = place3 .before in
+    (λ e. clash e refl, λ names h. wild h (place4 .args .n) (place3 .loop .i) (search needs) (search needs) (c .if1 .taken))
+
+loop-again : tie.Need-loop-again Inv-loop μ-loop
+loop-again c =
+    let place3 = c .before .before .before in
+    (search needs, below-more _ _ (place3 .loop .inv .1) (search needs))
+
+returns-2 : tie.Need-returns-2 Inv-loop μ-loop
+returns-2 c =
+    let start = c .before .before .args in
+    let last = c .before .loop in
+    let all : (k : ℕ) → k < start .n → getD (start .w .now) (start .at + k) 0 < 64 = λ k l. last .inv .1 k (omega arith) in
+    (λ e. all, λ names h. tame h (start .n) (search needs) all)
 
 pub order-in-range-spec : {M : Type 1} → statement M
 order-in-range-spec =
@@ -39,10 +40,12 @@ order-in-range-spec =
     (tie.spec
     Inv-loop
     μ-loop
-    loop-holds
     (λ c. search needs)
     (λ c. search needs)
+    (λ c. search needs)
+    (λ c. search needs)
+    returns
     (λ c. search needs)
     (λ c. search needs)
     loop-again
-    returns)
+    returns-2)

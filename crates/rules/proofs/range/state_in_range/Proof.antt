@@ -1,41 +1,17 @@
--- `range::state_in_range` meets its contract: a cell is below 32, a handle below the call count. Assumes nothing.
-use Rattle.model.specs.Machine.Rules.{stateInRange}
+-- `range::state_in_range` meets its contract: kind by kind. Assumes nothing.
+use Rattle.rules.proofs.Fields.{waits-in, called-in, other-in}
 use borrow.Author.Needs.{needs}
 use Rattle.rules.proofs.range.state_in_range.Statement.{statement}
 use Rattle.rules.proofs.range.state_in_range.Tie as tie
 
 returns : tie.Need-returns
-unfolding stateInRange
-returns c = search needs
+returns c = λ s e f. waits-in _ _ _ s e f (c .match .keys1)
 
 returns-2 : tie.Need-returns-2
-unfolding stateInRange
-returns-2 c = search needs
+returns-2 c = λ s e f. called-in _ _ _ s e f (c .match .keys2)
 
 returns-3 : tie.Need-returns-3
-unfolding stateInRange
-returns-3 c = rw (c .before .state .given .1)
-
-returns-4 : tie.Need-returns-4
-unfolding stateInRange
-returns-4 c = rw (c .before .state2 .given .1)
-
-returns-5 : tie.Need-returns-5
-unfolding stateInRange
-returns-5 c = search needs
+returns-3 c = λ s e f. other-in _ _ _ s e f (search needs) (search needs)
 
 pub state-in-range-spec : {M : Type 1} → statement M
-state-in-range-spec =
-    tie.close
-    (tie.spec
-    (λ c. search needs)
-    (λ c. search needs)
-    (λ c. search needs)
-    (λ c. search needs)
-    (λ c. search needs)
-    (λ c. search needs)
-    returns
-    returns-2
-    returns-3
-    returns-4
-    returns-5)
+state-in-range-spec = tie.close (tie.spec returns returns-2 returns-3)

@@ -6,11 +6,23 @@ use super::*;
 const CALLS: [Call; 3] = [Call::Step(0), Call::Answer(0, 7), Call::Start];
 
 fn broken(name: &str, edit: Edit) -> Trial {
-    trial(Expected::Broken, name, edited(middle(), edit), &CALLS)
+    of(Expected::Broken, name, edited(middle(), edit))
 }
 
 fn near(name: &str, edit: Edit) -> Trial {
-    trial(Expected::Near, name, edited(middle(), edit), &CALLS)
+    of(Expected::Near, name, edited(middle(), edit))
+}
+
+/// A start that is to be refused gets a blank record, and leaves it.
+fn of(expected: Expected, name: &str, draft: Draft) -> Trial {
+    let [before @ .., start] = CALLS.map(Row::Call);
+    let mut made = draft.set();
+    made.extend(before);
+    if expected == Expected::Broken {
+        made.extend(draft.clear());
+    }
+    made.push(start);
+    rows(expected, name, made)
 }
 
 pub fn list() -> Vec<Trial> {
@@ -94,15 +106,15 @@ fn counts() -> Vec<Trial> {
         broken("an outside call with one parameter fewer than it has", |g| g.word(CALL_OUT, 3, 0)),
     ];
     for (count, name) in [(0, "no parameter"), (4, "4 parameters")] {
-        let mut given = middle();
-        given.node(CALL, call(count));
+        let mut draft = middle();
+        draft.node(CALL, call(count));
         let name = format!("a definition call with {name}, the definition having one formal");
-        list.push(trial(Expected::Near, &name, given, &CALLS));
+        list.push(of(Expected::Near, &name, draft));
     }
-    let mut given = middle();
-    given.node(CALL, call(4));
-    given.word(CALL, 3, 5);
-    list.push(trial(Expected::Broken, "a definition call with 5 parameters", given, &CALLS));
+    let mut draft = middle();
+    draft.node(CALL, call(4));
+    draft.word(CALL, 3, 5);
+    list.push(of(Expected::Broken, "a definition call with 5 parameters", draft));
     list
 }
 
@@ -112,10 +124,10 @@ fn built_ins() -> Vec<Trial> {
     let mut list = Vec::new();
     for (number, (name, own)) in own.into_iter().chain([("equal", 2)]).enumerate() {
         for count in own.max(1) - 1..=own + 1 {
-            let mut given = middle();
-            given.node(CALL_OUT, site(number as u32, &vec![constant(3); count], CHOKE));
+            let mut draft = middle();
+            draft.node(CALL_OUT, site(number as u32, &vec![constant(3); count], CHOKE));
             let expected = if count == own { Expected::Near } else { Expected::Broken };
-            list.push(trial(expected, &format!("{name} with {count}"), given, &CALLS));
+            list.push(of(expected, &format!("{name} with {count}"), draft));
         }
     }
     list

@@ -86,7 +86,7 @@ fn places_and_counts() -> Vec<Trial> {
 }
 
 /// Every token is ready, at stop, and the queue is full.
-fn all_ready(g: &mut Given) {
+fn all_ready(g: &mut Draft) {
     let ready = Token { node: STOP, state: State::Ready, ..Token::BLANK };
     g.record.tokens.fill(ready);
     g.waits_are(&[]);
@@ -94,7 +94,7 @@ fn all_ready(g: &mut Given) {
 }
 
 /// Every token waits at cell 0.
-fn all_waiting(g: &mut Given) {
+fn all_waiting(g: &mut Draft) {
     let waits = g.record.tokens[2];
     g.record.tokens.fill(waits);
     g.queue_is(&[]);
@@ -164,7 +164,7 @@ fn parents() -> Vec<Trial> {
 }
 
 /// Cell 5 is set and in use; cell 6 is in use too.
-fn five_is_set(g: &mut Given) {
+fn five_is_set(g: &mut Draft) {
     g.set_cell(5, 8);
     for token in 2..4 {
         g.bind(token, 6, Cell(5));
@@ -174,7 +174,7 @@ fn five_is_set(g: &mut Given) {
 
 /// The token belongs to the cell, cell 5 being set. Another token has it as its caller, so that it
 /// is in use either way.
-fn belongs(g: &mut Given, token: usize, cell: usize) {
+fn belongs(g: &mut Draft, token: usize, cell: usize) {
     five_is_set(g);
     g.token(token).cell = Some(cell);
     g.token(token).caller = Some(0);
@@ -246,7 +246,7 @@ fn handles() -> Vec<Trial> {
 }
 
 /// Token 4 waits like token 2.
-fn two_wait(g: &mut Given) {
+fn two_wait(g: &mut Draft) {
     *g.token(4) = g.record.tokens[2];
     g.waits_are(&[2, 4]);
 }

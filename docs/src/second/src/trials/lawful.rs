@@ -22,10 +22,10 @@ fn on_middle(name: &str, calls: &[Call], edit: Edit) -> Trial {
 fn alone(name: &str, calls: &[Call], nodes: &[Node], edit: Edit) -> Trial {
     let definitions = vec![Definition { first: nodes.len() - 1, formals: 1 }];
     let dag = Dag { nodes: nodes.to_vec(), definitions, goal: 0 };
-    let mut given = Given { words: words::write(&dag), ..Given::blank() };
-    *given.token(0) = Token { value: Some(9), state: State::Ready, ..Token::BLANK };
-    given.queue_is(&[0]);
-    trial(Expected::Near, name, edited(given, edit), calls)
+    let mut draft = Draft { words: words::write(&dag), ..Draft::blank() };
+    *draft.token(0) = Token { value: Some(9), state: State::Ready, ..Token::BLANK };
+    draft.queue_is(&[0]);
+    trial(Expected::Near, name, edited(draft, edit), calls)
 }
 
 fn moving() -> Vec<Trial> {
@@ -201,7 +201,7 @@ fn definitions() -> Vec<Trial> {
 }
 
 /// Token 3 chokes cell 0, in which token 1 is called out; token 2 and others wait.
-fn choking(g: &mut Given) {
+fn choking(g: &mut Draft) {
     g.stands_at(CHOKE, Some(6));
     g.token(3).cell = Some(0);
 }
@@ -256,7 +256,7 @@ fn chokes() -> Vec<Trial> {
 }
 
 /// Every place from 0 on holds a ready token at the node, as many as said.
-fn crowd(g: &mut Given, count: u8, node: usize) {
+fn crowd(g: &mut Draft, count: u8, node: usize) {
     let one = Token { node, value: Some(1), state: State::Ready, ..Token::BLANK };
     g.record.tokens[..count as usize].fill(one);
     g.waits_are(&[]);
@@ -264,7 +264,7 @@ fn crowd(g: &mut Given, count: u8, node: usize) {
 }
 
 /// The first so many cells are in use, by one chain from the token of the case.
-fn chain(g: &mut Given, count: usize) {
+fn chain(g: &mut Draft, count: usize) {
     g.token(3).cell = Some(0);
     (1..count).for_each(|cell| g.parent(cell - 1, cell));
 }
@@ -309,7 +309,7 @@ fn places() -> Vec<Trial> {
 }
 
 fn answers() -> Vec<Trial> {
-    let two = |g: &mut Given| {
+    let two = |g: &mut Draft| {
         *g.token(5) = Token { node: PUBLISH, state: State::CalledOut(1), ..Token::BLANK };
         g.record.calls = 2;
     };
@@ -374,10 +374,10 @@ fn refusals() -> Vec<Trial> {
         }),
     ];
     for (name, count) in [("10: call with 64 in use", 64), ("not 10: call with 63 in use", 63)] {
-        let mut given = middle();
-        given.node(CALL, call.clone());
-        crowd(&mut given, count, CALL);
-        list.push(trial(Expected::Near, name, given, &[Step(7)]));
+        let mut draft = middle();
+        draft.node(CALL, call.clone());
+        crowd(&mut draft, count, CALL);
+        list.push(trial(Expected::Near, name, draft, &[Step(7)]));
     }
     list
 }
@@ -404,9 +404,9 @@ fn odd_records() -> Vec<Trial> {
 /// A run: the start on a table's dag, then these calls.
 fn run(name: &str, program: Program, calls: &[Call]) -> Trial {
     let table = table::read(&program.bytes()).expect("a table");
-    let given = Given { words: words::write(&dag::build(&table)), ..Given::blank() };
+    let draft = Draft { words: words::write(&dag::build(&table)), ..Draft::blank() };
     let calls: Vec<Call> = std::iter::once(Start).chain(calls.iter().copied()).collect();
-    trial(Expected::Near, name, given, &calls)
+    trial(Expected::Near, name, draft, &calls)
 }
 
 fn runs() -> Vec<Trial> {

@@ -18,8 +18,8 @@ begun goal m =
       waits = m .waits;
       waiting = m .waiting;
       calls = m .calls;
-      newtoken = m .newtoken;
-      newcell = 31;
+      lasttoken = m .lasttoken;
+      lastcell = 31;
     }
 
 blank-requires : tie.Need-blank-requires

@@ -1,0 +1,51 @@
+-- What was not in use before an instruction is blank after it: an instruction writes to the row of the token that acts, which is in use, and to rows
+-- that it gives out. So sweeping need only look at rows that were in use. Assumes nothing.
+use mathlib.Core.Path.{_≡_, refl, sym, ap, subst, _∙_}
+use mathlib.Core.Bool.{Bool, true, false}
+use mathlib.Core.List.{List}
+use Prim.Native.Nat.{ℕ, _<_}
+use native.Mathlib.Decide.{ℕ-discrete}
+use lib.ListN.{getD, set}
+use Rattle.model.specs.Job.Words.{dagOf}
+use Rattle.model.specs.Machine.Blank.{blankToken, blankCell, tokenAt, cellAt}
+use Rattle.model.specs.Machine.InUse.{tokensUsed, cellsUsed}
+use Rattle.model.specs.Machine.Limits.{paper}
+use Rattle.model.specs.Machine.Rules.{isReady}
+use Rattle.model.specs.declared.record.Machine.{Machine}
+use Rattle.model.specs.declared.token.Token.{Token}
+use Rattle.model.specs.declared.cell.Cell.{Cell}
+use Rattle.model.proofs.Test.{clash}
+use Rattle.model.proofs.Machine.Rules.{ready-live, rules-kept}
+use Rattle.model.proofs.Machine.Used.{Used, live-used}
+use Rattle.model.proofs.Sees.Others.{token-other}
+use Rattle.model.proofs.Keeps.Clean.{Clean}
+use Rattle.model.proofs.Keeps.Unblanked.{rules-clean}
+use Rattle.reach.specs.Marks.{Vacant}
+use Rattle.acts.specs.Acting.{Lawful, Taking}
+use Rattle.acts.proofs.Outcomes.{token-ready}
+
+module _ {ws dag : List ℕ} {used cells : List Bool} {m : Machine} (a : Lawful ws used cells dag m) where
+  pub clean : Clean m
+  clean = rules-clean paper (dagOf dag) m (a .rules)
+
+  -- a row that is not marked
+  pub free-token : (i : ℕ) → getD used i true ≡ false → tokenAt (m .tokens) i ≡ blankToken
+  free-token i e = clean .tokens i (ap (λ u. getD u i true) (sym (a .marks .tokens)) ∙ e)
+
+  pub free-cell : (c : ℕ) → getD cells c true ≡ false → cellAt (m .cells) c ≡ blankCell
+  free-cell c e = clean .cells c (ap (λ u. getD u c true) (sym (a .marks .cells)) ∙ e)
+
+module _ {ws dag : List ℕ} {used cells : List Bool} {place p : ℕ} {m : Machine} (a : Taking ws used cells dag place p m) where
+  pub token-used : Used m p
+  token-used = live-used paper (dagOf dag) m (rules-kept paper (dagOf dag) m (a .lawful .rules)) p (ready-live _ (token-ready a))
+
+  other-row : (i : ℕ) → getD used i true ≡ false → i ≡ p → ⊥
+  other-row i e f = clash (ap (λ u. getD u p true) (a .lawful .marks .tokens) ∙ token-used) (ap (λ j. getD used j true) (sym f) ∙ e)
+
+  -- an instruction that writes to its token's row alone
+  pub vacant-row : (o : Machine) (u : Token) → o .tokens ≡ set (m .tokens) p u → o .cells ≡ m .cells → Vacant o used cells
+  vacant-row o u tokens same =
+      record {
+        tokens = λ i l e. ap (λ ts. tokenAt ts i) tokens ∙ (token-other (m .tokens) p i u (other-row i e) ∙ free-token (a .lawful) i e);
+        cells = λ c l e. ap (λ cs. cellAt cs c) same ∙ free-cell (a .lawful) c e;
+      }

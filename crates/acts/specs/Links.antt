@@ -1,0 +1,19 @@
+-- What a token names. Assumes nothing: these are definitions.
+use mathlib.Core.Path.{_≡_}
+use mathlib.Core.List.{List}
+use Prim.Native.Nat.{ℕ}
+use Rattle.model.specs.Machine.Blank.{slotAt}
+use Rattle.model.specs.declared.token.Slot.the-variants as slots
+use Rattle.model.specs.declared.token.Bind.{Bind}
+use Rattle.model.specs.declared.token.Place.the-variants as places
+use Rattle.model.specs.declared.token.Token.{Token}
+
+-- no variable is bound to a cell
+abbrev pub BindsNoCell : List Bind → Type 0
+BindsNoCell bs = (x c : ℕ) → slotAt bs x ≡ slots.Cell c → ⊥
+
+-- a token that names no caller, no cell and no bound cell
+pub record NoLinks (t : Token) : Type 0 where
+  pub caller : t .caller ≡ places.Nowhere
+  pub cell : t .cell ≡ places.Nowhere
+  pub binds : BindsNoCell (t .binds)

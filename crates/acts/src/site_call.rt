@@ -1,0 +1,105 @@
+// Site call: "parameters in order; the first unset cell makes the token wait there. Otherwise a built-in replies and the token goes on, or it is silent
+// and the token ends; an outside call takes the next handle (from 0), and the token is called out at the next node".
+ghost use Prim.Native.Nat.{_<_, _≤_, _+_};
+ghost use lib.ListN.{getD};
+ghost use Rattle.model.specs.declared.record.Machine.{Machine};
+ghost use Rattle.model.specs.Job.Words.{dagOf};
+ghost use Rattle.model.specs.Machine.Limits.{paper};
+ghost use Rattle.model.specs.Machine.Step as Step;
+ghost use Rattle.acts.specs.Acting.{Some, Acting, Gives};
+ghost use Rattle.acts.specs.Arguments.{Arguments};
+use crate::end::end;
+use crate::report::plain;
+use model::dag::CALLS;
+use model::dag::WORDS;
+use model::record::Machine;
+use model::reply::Refusal;
+use model::reply::Reply;
+use model::reply::Report;
+use model::sites::BUILTINS;
+use record::count::calls;
+use sites::look::look_up;
+use sites::number::bits;
+use sites::site::SiteReply;
+use sites::site::builtin;
+use writes::dag::word;
+use writes::site_call::call_out;
+use writes::site_call::reply;
+use writes::site_call::wait;
+
+// "13: outside call, all values there, after 1,000,000 such calls."
+fn outside(
+    w: &mut [u32; Machine::WORDS],
+    tokens: &[bool; Machine::TOKENS],
+    cells: &[bool; Machine::CELLS],
+    dag: &[u32; WORDS],
+    place: usize,
+    p: usize,
+    at: usize,
+    values: [i32; 4],
+) -> Report
+    requires { ⌜ Some (Arguments (now w) (now tokens) (now cells) (now dag) place p at values) ⌝ }
+    ensures { λ r. ⌜ ((m : Machine) → Arguments (now (w .entry)) (now (tokens .entry)) (now (cells .entry)) (now (dag .entry)) place p at values m → 7 ≤ getD (now (dag .entry)) (at + 1) 0 → Gives (Step.step paper (dagOf (now (dag .entry))) m place) m (now (w .exit)) (now (tokens .entry)) (now (cells .entry)) r) ⌝ }
+{
+    let handle = calls(w);
+    if CALLS <= handle {
+        return plain(Reply::Refused(Refusal::CallLimit));
+    }
+    call_out(w, place, p, handle, word(dag, at + 2));
+    let site = word(dag, at + 1) as u16;
+    let count = word(dag, at + 3) as u8;
+    Report {
+        reply: Reply::Called(handle, site, count),
+        values,
+    }
+}
+
+// "A built-in replies and the token goes on, or it is silent and the token ends."
+fn built_in(
+    w: &mut [u32; Machine::WORDS],
+    tokens: &mut [bool; Machine::TOKENS],
+    cells: &mut [bool; Machine::CELLS],
+    dag: &[u32; WORDS],
+    place: usize,
+    p: usize,
+    at: usize,
+    values: [i32; 4],
+) -> Report
+    requires { ⌜ Some (Arguments (now w) (now tokens) (now cells) (now dag) place p at values) × (getD (now dag) (at + 1) 0 < 7) ⌝ }
+    ensures { λ r. ⌜ ((m : Machine) → Arguments (now (w .entry)) (now (tokens .entry)) (now (cells .entry)) (now (dag .entry)) place p at values m → Gives (Step.step paper (dagOf (now (dag .entry))) m place) m (now (w .exit)) (now (tokens .exit)) (now (cells .exit)) r) ⌝ }
+{
+    let a = values[0];
+    let b = values[1];
+    match builtin(word(dag, at + 1), a, b) {
+        SiteReply::Gives(v) => {
+            reply(w, place, p, bits(v), word(dag, at + 2));
+            plain(Reply::Done)
+        }
+        SiteReply::Silent => end(w, tokens, cells, place, p, Reply::Done),
+    }
+}
+
+pub fn site_call(
+    w: &mut [u32; Machine::WORDS],
+    tokens: &mut [bool; Machine::TOKENS],
+    cells: &mut [bool; Machine::CELLS],
+    dag: &[u32; WORDS],
+    place: usize,
+    p: usize,
+    at: usize,
+) -> Report
+    requires { ⌜ Some (Acting (now w) (now tokens) (now cells) (now dag) place p at 1) ⌝ }
+    ensures { λ r. ⌜ ((m : Machine) → Acting (now (w .entry)) (now (tokens .entry)) (now (cells .entry)) (now (dag .entry)) place p at 1 m → Gives (Step.step paper (dagOf (now (dag .entry))) m place) m (now (w .exit)) (now (tokens .exit)) (now (cells .exit)) r) ⌝ }
+{
+    let found = look_up(w, dag, p, at);
+    let unset = found.unset;
+    if unset < 32 {
+        wait(w, place, p, unset);
+        return plain(Reply::Waits);
+    }
+    let values = found.values;
+    if word(dag, at + 1) < BUILTINS {
+        return built_in(w, tokens, cells, dag, place, p, at, values);
+    }
+    outside(w, tokens, cells, dag, place, p, at, values)
+}

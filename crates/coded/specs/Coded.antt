@@ -1,0 +1,45 @@
+-- Are words those of a record? Tests of a row's words, and of all. Assumes nothing: these are definitions.
+use mathlib.Core.Bool.{Bool, true, false}
+use mathlib.Core.List.{List, [], _∷_}
+use Prim.Native.Nat.{ℕ, zero, suc}
+use lib.ListN.{getD, take, drop}
+use lib.Dec.{eqb}
+use Rattle.model.specs.Test.{_and_}
+use Rattle.record.specs.Words.{cellsAt}
+
+abbrev pub stateCoded : (kind number : ℕ) → Bool
+stateCoded zero n = eqb n 0
+stateCoded (suc zero) n = eqb n 0
+stateCoded (suc (suc zero)) n = true
+stateCoded (suc (suc (suc zero))) n = true
+stateCoded (suc (suc (suc (suc zero)))) n = eqb n 0
+stateCoded (suc (suc (suc (suc (suc k))))) n = false
+
+abbrev pub heldCoded : (kind number : ℕ) → Bool
+heldCoded zero n = eqb n 0
+heldCoded (suc zero) n = true
+heldCoded (suc (suc k)) n = false
+
+abbrev pub slotCoded : (kind number : ℕ) → Bool
+slotCoded zero n = eqb n 0
+slotCoded (suc zero) n = true
+slotCoded (suc (suc zero)) n = true
+slotCoded (suc (suc (suc k))) n = false
+
+unfoldable pub slotsCoded : ℕ → List ℕ → Bool
+slotsCoded zero ws = true
+slotsCoded (suc n) ws = slotCoded (getD ws 0 0) (getD ws 1 0) and slotsCoded n (drop 2 ws)
+
+unfoldable pub rowCoded : List ℕ → Bool
+rowCoded r =
+    stateCoded (getD r 0 0) (getD r 1 0) and (heldCoded (getD r 5 0) (getD r 6 0) and (eqb (getD r 7 0) 0 and slotsCoded 8 (drop 8 r)))
+
+unfoldable pub cellCoded : List ℕ → Bool
+cellCoded r = heldCoded (getD r 1 0) (getD r 2 0) and eqb (getD r 3 0) 0
+
+unfoldable pub tableCoded : (List ℕ → Bool) → (w n : ℕ) → List ℕ → Bool
+tableCoded ok w zero ws = true
+tableCoded ok w (suc n) ws = ok (take w ws) and tableCoded ok w n (drop w ws)
+
+unfoldable pub coded : List ℕ → Bool
+coded ws = tableCoded rowCoded 24 64 ws and tableCoded cellCoded 4 32 (drop cellsAt ws)

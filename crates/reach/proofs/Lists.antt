@@ -1,0 +1,33 @@
+-- Loops that go through a list from the front: what is read at a turn, and what a list that is written holds. By induction over the list.
+-- Assumes nothing.
+use mathlib.Core.Path.{_≡_, refl, sym, _∙_, ap₂}
+use mathlib.Core.List.{List, [], _∷_, _++_}
+use Prim.Native.Nat.{ℕ, zero, suc, _+_, _≤_, _<_}
+use native.Mathlib.Numerals.{add-one}
+use native.Mathlib.Omega.{arith}
+use lib.ListN.{length, getD, set, take, drop}
+use lib.Seq.{drop-cons, take-suc, take-suc-set, take-all}
+
+-- within a list the default is never read
+pub any-default : {A : Type 0} (l : List A) (i : ℕ) (d e : A) → i < length l → getD l i d ≡ getD l i e
+any-default [] i d e h = absurd (omega arith)
+any-default (x ∷ l) zero d e h = refl
+any-default (x ∷ l) (suc i) d e h = any-default l i d e (omega arith)
+
+-- a loop that reads a list comes to an element
+pub drop-next : {A : Type 0} (l : List A) (i : ℕ) (d : A) → i < length l → drop i l ≡ getD l i d ∷ drop (i + 1) l
+drop-next l i d h = rw (add-one) (drop-cons l i d h)
+
+-- the first i elements of out are those of xs
+module _ {A : Type 0} (xs out : List A) (n i : ℕ) (long : length xs ≡ n) (wide : length out ≡ n) (done : take i out ≡ take i xs) where
+  pub fill-more : (d v : A) → i < n → v ≡ getD xs i d → take (i + 1) (set out i v) ≡ take (i + 1) xs
+  fill-more d v h e =
+      let x : i < length xs = omega arith in
+      let y : i < length out = omega arith in
+      rw (add-one, take-suc-set out i v y, take-suc xs i d x) (ap₂ (λ (w : List A) (u : A). w ++ (u ∷ [])) done e)
+
+  pub fill-all : n ≤ i → out ≡ xs
+  fill-all h =
+      let y : length out ≤ i = omega arith in
+      let z : length xs ≤ i = omega arith in
+      sym (take-all i out y) ∙ done ∙ take-all i xs z

@@ -1,0 +1,68 @@
+-- Marks of what is in use, as they are made, kept and looked through. Assumes nothing: these are definitions.
+use mathlib.Core.Path.{_≡_}
+use mathlib.Core.Bool.{Bool, true, false}
+use mathlib.Core.List.{List}
+use Prim.Native.Nat.{ℕ, _<_}
+use lib.ListN.{getD}
+use lib.Dec.{ltb}
+use Rattle.model.specs.Machine.Active.{isActive}
+use Rattle.model.specs.Machine.Blank.{blankToken, blankCell, tokenAt, cellAt}
+use Rattle.model.specs.Machine.InUse.{markChain, markChains, cellsOf, tokensUsed, usedCells, marked, restBlanked}
+use Rattle.model.specs.Machine.Places.{nextPlace}
+use Rattle.model.specs.Machine.Step.{put, withTables}
+use Rattle.model.specs.declared.cell.Cell.{Cell}
+use Rattle.model.specs.declared.record.Machine.{Machine}
+use Rattle.model.specs.declared.token.Place.{Place}
+use Rattle.model.specs.declared.token.Place.the-variants as places
+use Rattle.model.specs.declared.token.Token.{Token}
+use Rattle.record.specs.Fields.{putCell}
+
+-- the chain of callers from a place, and the chains of parents from one place and from some
+abbrev pub callersMarked : Machine → Place → List Bool → List Bool
+callersMarked m q marks = markChain (λ (t : Token). t .caller) blankToken (m .tokens) 64 q marks
+
+abbrev pub parentsMarked : Machine → Place → List Bool → List Bool
+parentsMarked m q marks = markChain (λ (c : Cell). c .parent) blankCell (m .cells) 32 q marks
+
+abbrev pub cellsMarked : Machine → List Place → List Bool → List Bool
+cellsMarked m qs marks = markChains (λ (c : Cell). c .parent) blankCell (m .cells) qs marks
+
+-- what a token adds to the marks: if it is active, its place and its callers; if it is in use, the cells that it names
+unfoldable pub activeMarked : Machine → ℕ → List Bool → List Bool
+activeMarked m p marks =
+    elim (isActive (m .cells) (tokenAt (m .tokens) p)) [ true ↦ callersMarked m (places.At p) marks | false ↦ marks ]
+
+unfoldable pub heldMarked : Machine → ℕ → Bool → List Bool → List Bool
+heldMarked m p true marks = cellsMarked m (cellsOf (tokenAt (m .tokens) p)) marks
+heldMarked m p false marks = marks
+
+-- a row that is not in use is made blank
+unfoldable pub keptToken : ℕ → Bool → Machine → Machine
+keptToken p true m = m
+keptToken p false m = put p blankToken m
+
+unfoldable pub keptCell : ℕ → Bool → Machine → Machine
+keptCell c true m = m
+keptCell c false m = putCell c blankCell m
+
+-- the tokens that are in use, and the cells that given tokens reach; the rest of the table is made blank
+abbrev pub tokensSwept : Machine → Machine
+tokensSwept m = withTables (restBlanked blankToken (tokensUsed m) (m .tokens)) (m .cells) m
+
+abbrev pub cellsSwept : List Bool → Machine → Machine
+cellsSwept tokens m = withTables (m .tokens) (restBlanked blankCell (usedCells tokens (m .tokens) (m .cells)) (m .cells)) m
+
+-- what is not marked is blank
+abbrev pub FreeTokens : Machine → List Bool → Type 0
+FreeTokens m marks = (i : ℕ) → i < 64 → getD marks i true ≡ false → tokenAt (m .tokens) i ≡ blankToken
+
+abbrev pub FreeCells : Machine → List Bool → Type 0
+FreeCells m marks = (c : ℕ) → c < 32 → getD marks c true ≡ false → cellAt (m .cells) c ≡ blankCell
+
+pub record Vacant (m : Machine) (tokenMarks cellMarks : List Bool) : Type 0 where
+  pub tokens : FreeTokens m tokenMarks
+  pub cells : FreeCells m cellMarks
+
+-- "the next place not in use .., after the last one given, round from the end to 0", of n places, or n where every place is in use
+unfoldable pub nextOr : (n : ℕ) → List Bool → (last : ℕ) → ℕ
+nextOr n marks last = elim (ltb (marked marks) n) [ true ↦ nextPlace marks last | false ↦ n ]

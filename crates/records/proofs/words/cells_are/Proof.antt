@@ -1,0 +1,46 @@
+-- `cells_are` is safe and ends: it reads each of the 32 cells. Assumes nothing.
+use Prim.Native.Nat.{_-_, _≤_}
+use borrow.Author.Needs.{needs}
+use Rattle.records.proofs.words.cells_are.Statement.{statement}
+use Rattle.records.proofs.words.cells_are.Tie as tie
+
+abbrev Inv-loop : tie.InvT-loop
+Inv-loop w c₀ c = c ≤ 32
+
+abbrev μ-loop : tie.MeasureT-loop
+μ-loop w c₀ c = 32 - c
+
+loop-holds : tie.Need-loop-holds Inv-loop μ-loop
+loop-holds c = search needs
+
+is-cell-requires : tie.Need-is-cell-requires Inv-loop μ-loop
+is-cell-requires c κs = search needs
+
+returns : tie.Need-returns Inv-loop μ-loop
+returns c = search needs
+
+add-c : tie.Need-add-c Inv-loop μ-loop
+add-c c = search needs
+
+loop-less : tie.Need-loop-less Inv-loop μ-loop
+loop-less c = search needs
+
+loop-again : tie.Need-loop-again Inv-loop μ-loop
+loop-again c = search needs
+
+returns-2 : tie.Need-returns-2 Inv-loop μ-loop
+returns-2 c = search needs
+
+pub cells-are-spec : {M : Type 1} → statement M
+cells-are-spec =
+    tie.close
+    (tie.spec
+    Inv-loop
+    μ-loop
+    loop-holds
+    is-cell-requires
+    returns
+    add-c
+    loop-less
+    loop-again
+    returns-2)

@@ -1,0 +1,46 @@
+-- `tokens_are` is safe and ends: it reads each of the 64 tokens. Assumes nothing.
+use Prim.Native.Nat.{_-_, _≤_}
+use borrow.Author.Needs.{needs}
+use Rattle.records.proofs.words.tokens_are.Statement.{statement}
+use Rattle.records.proofs.words.tokens_are.Tie as tie
+
+abbrev Inv-loop : tie.InvT-loop
+Inv-loop w p₀ p = p ≤ 64
+
+abbrev μ-loop : tie.MeasureT-loop
+μ-loop w p₀ p = 64 - p
+
+loop-holds : tie.Need-loop-holds Inv-loop μ-loop
+loop-holds c = search needs
+
+is-token-requires : tie.Need-is-token-requires Inv-loop μ-loop
+is-token-requires c κs = search needs
+
+returns : tie.Need-returns Inv-loop μ-loop
+returns c = search needs
+
+add-p : tie.Need-add-p Inv-loop μ-loop
+add-p c = search needs
+
+loop-less : tie.Need-loop-less Inv-loop μ-loop
+loop-less c = search needs
+
+loop-again : tie.Need-loop-again Inv-loop μ-loop
+loop-again c = search needs
+
+returns-2 : tie.Need-returns-2 Inv-loop μ-loop
+returns-2 c = search needs
+
+pub tokens-are-spec : {M : Type 1} → statement M
+tokens-are-spec =
+    tie.close
+    (tie.spec
+    Inv-loop
+    μ-loop
+    loop-holds
+    is-token-requires
+    returns
+    add-p
+    loop-less
+    loop-again
+    returns-2)

@@ -1,0 +1,16 @@
+-- `order::queue_holds` meets its contract: the words are the queue's names. Assumes nothing.
+use mathlib.Core.Path.{_∙_, ap}
+use Rattle.model.specs.Machine.Rules.{isReady, namesOnce}
+use Rattle.record.proofs.Queue.{queue-word}
+use Rattle.rules.proofs.Fields.{ready-is}
+use borrow.Author.Needs.{needs}
+use Rattle.rules.proofs.order.queue_holds.Statement.{statement}
+use Rattle.rules.proofs.order.queue_holds.Tie as tie
+
+returns : tie.Need-returns
+returns c = λ m h.
+    c .names-once .ensures isReady m (m .queue) h (record { long = h .shaped .queue; words = queue-word h }) ready-is
+    ∙ ap (namesOnce isReady (m .tokens) (m .queue)) (c .before .queued .ensures m h)
+
+pub queue-holds-spec : {M : Type 1} → statement M
+queue-holds-spec = tie.close (tie.spec (λ c κs. search needs) (λ c κs. search needs) returns)

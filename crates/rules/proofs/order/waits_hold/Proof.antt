@@ -1,0 +1,16 @@
+-- `order::waits_hold` meets its contract: the words are the wait order's names. Assumes nothing.
+use mathlib.Core.Path.{_∙_, ap}
+use Rattle.model.specs.Machine.Rules.{isWaiting, namesOnce}
+use Rattle.record.proofs.Queue.{wait-word}
+use Rattle.rules.proofs.Fields.{waiting-is}
+use borrow.Author.Needs.{needs}
+use Rattle.rules.proofs.order.waits_hold.Statement.{statement}
+use Rattle.rules.proofs.order.waits_hold.Tie as tie
+
+returns : tie.Need-returns
+returns c = λ m h.
+    c .names-once .ensures isWaiting m (m .waits) h (record { long = h .shaped .waits; words = wait-word h }) waiting-is
+    ∙ ap (namesOnce isWaiting (m .tokens) (m .waits)) (c .before .waiting .ensures m h)
+
+pub waits-hold-spec : {M : Type 1} → statement M
+waits-hold-spec = tie.close (tie.spec (λ c κs. search needs) (λ c κs. search needs) returns)

@@ -1,0 +1,69 @@
+-- `rules::token_holds` meets its contract: a token in use is tested for its rules, any other for being blank, and a blank one keeps them
+-- all. Assumes nothing.
+use mathlib.Core.Path.{sym, _∙_}
+use native.Mathlib.Omega.{arith}
+use borrow.Author.Tests.{not-true, not-false}
+use Rattle.model.specs.Machine.Blank.{tokenAt, tokenIsBlank}
+use Rattle.model.specs.Job.Words.{dagOf}
+use Rattle.rules.proofs.Tokens.{token-blank, node-past, node-in}
+use Rattle.rules.proofs.Rest.{marked-one, other-one}
+use Rattle.coded.proofs.Both.{three}
+use Rattle.coded.proofs.Array.{nodes-length}
+use Rattle.rules.specs.Rules.{tokenRule}
+use borrow.Author.Needs.{needs}
+use Rattle.rules.proofs.rules.token_holds.Statement.{statement}
+use Rattle.rules.proofs.rules.token_holds.Tie as tie
+
+returns : tie.Need-returns
+returns c =
+    let place3 = c .before .before .before in
+    λ m h.
+    let t = tokenAt (m .tokens) (place3 .args .p) in
+    let d = dagOf (place3 .args .dag .now) in
+    c .token-is-blank .ensures m (h .codes)
+    ∙ other-one {used = place3 .args .used} (tokenRule d m t) (tokenIsBlank t) (not-true _ (c .before .if1 .taken))
+    (token-blank d m t (h .codes .shaped .binds _) (place3 .pre .2))
+
+returns-2 : tie.Need-returns-2
+returns-2 c =
+    let place2 = c .before .before in
+    let place5 = place2 .before .before .before in
+    λ m h.
+    let t = tokenAt (m .tokens) (place5 .args .p) in
+    let d = dagOf (place5 .args .dag .now) in
+    node-past d m t (h .codes .shaped .binds _) _ (place2 .node .ensures m (h .codes))
+    (omega (arith, nodes-length (place5 .args .dag .now)))
+
+returns-3 : tie.Need-returns-3
+returns-3 c =
+    let place2 = c .before .before in
+    let place3 = place2 .before in
+    let place6 = place3 .before .before .before in
+    let place7 = place6 .before in
+    let place9 = place7 .before .before in
+    λ m h.
+    let start = place9 .args in
+    let t = tokenAt (m .tokens) (start .p) in
+    let d = dagOf (start .dag .now) in
+    let node = place6 .node .ensures m (h .codes) in
+    three
+    (place3 .token-in-range .ensures m h
+    ∙ sym (node-in d m t (h .codes .shaped .binds _) node (omega (arith, nodes-length (start .dag .now))) (h .values (start .p))))
+    (c .before .at-node .ensures m (h .codes) (place2 .wide .ensures ∙ node))
+    (c .is-free .ensures m (h .codes))
+    ∙ marked-one {used = place9 .args .used} (tokenRule d m t) (tokenIsBlank t) (not-false _ (place7 .if1 .left))
+
+pub token-holds-spec : {M : Type 1} → statement M
+token-holds-spec =
+    tie.close
+    (tie.spec
+    (λ c κs. search needs)
+    returns
+    (λ c κs. search needs)
+    (λ c. search needs)
+    returns-2
+    (λ c κs. search needs)
+    (λ c κs. search needs)
+    (λ c κs. search needs)
+    (λ c κs. search needs)
+    returns-3)

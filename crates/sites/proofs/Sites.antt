@@ -1,0 +1,71 @@
+-- What each built-in site says, site by site; no site reads more than two values. Assumes nothing.
+use mathlib.Core.Path.{_≡_, refl, ap, _∙_}
+use mathlib.Core.Bool.{Bool, true, false, not}
+use mathlib.Core.List.{List, [], _∷_}
+use Prim.Native.Nat.{ℕ, zero, suc, _<_}
+use native.Mathlib.Omega.{arith}
+use lib.IntN.{ℤ, pos, _+ℤ_}
+use lib.Signed.{ltZ}
+use Rattle.model.specs.Number.{fits, equalZ}
+use Rattle.model.specs.Site as Site
+use Rattle.model.specs.Site.{Said, gives, silent, at, builtin, zeroIf, notZero, truth}
+
+pub sum-gives : (a b : ℤ) → fits (a +ℤ b) ≡ true → Site.sum a b ≡ gives (a +ℤ b)
+unfolding Site.sum
+sum-gives a b e = rw (e, Site.sum)
+
+pub sum-silent : (a b : ℤ) → fits (a +ℤ b) ≡ false → Site.sum a b ≡ silent
+unfolding Site.sum
+sum-silent a b e = rw (e, Site.sum)
+
+not-zero : (v : ℤ) → not (equalZ v (pos 0)) ≡ notZero v
+unfolding notZero
+not-zero v = go (equalZ v (pos 0))
+  where
+    go : (b : Bool) → not b ≡ elim b as (λ b. Bool) [ true ↦ false | false ↦ true ]
+    go true = refl
+    go false = refl
+
+module _ (s : ℕ) (a b : ℤ) where
+  abbrev says : Said
+  says = builtin s (a ∷ b ∷ [])
+
+  pub says-let : s ≡ 0 → gives a ≡ says
+  unfolding builtin
+  says-let e = rw e
+
+  pub says-ift : (t : Bool) → s ≡ 1 → t ≡ equalZ a (pos 0) → zeroIf (not t) ≡ says
+  unfolding builtin
+  says-ift t e f = rw e (ap zeroIf (ap not f ∙ not-zero a))
+
+  pub says-iff : (t : Bool) → s ≡ 2 → t ≡ equalZ a (pos 0) → zeroIf t ≡ says
+  unfolding builtin
+  says-iff t e f = rw e (ap zeroIf f)
+
+  pub says-signal : s ≡ 3 → gives (pos 0) ≡ says
+  unfolding builtin
+  says-signal e = rw e
+
+  pub says-add : s ≡ 4 → Site.sum a b ≡ says
+  unfolding builtin
+  says-add e = rw e
+
+  pub says-less : (t : Bool) → s ≡ 5 → t ≡ ltZ a b → gives (truth t) ≡ says
+  unfolding builtin
+  says-less t e f = rw e (ap (λ x. gives (truth x)) f)
+
+  pub says-equal : (t : Bool) → s ≡ 6 → t ≡ equalZ a b → gives (truth t) ≡ says
+  unfolding builtin
+  says-equal t e f = rw e (ap (λ x. gives (truth x)) f)
+
+-- a site says the same to its values and to the first two of them, with 0 where there is none
+pub says-to-two : (s : ℕ) (vs : List ℤ) → s < 7 → builtin s (at vs 0 ∷ at vs 1 ∷ []) ≡ builtin s vs
+unfolding builtin
+says-to-two zero vs l = refl
+says-to-two (suc zero) vs l = refl
+says-to-two (suc (suc zero)) vs l = refl
+says-to-two (suc (suc (suc zero))) vs l = refl
+says-to-two (suc (suc (suc (suc zero)))) vs l = refl
+says-to-two (suc (suc (suc (suc (suc zero))))) vs l = refl
+says-to-two (suc (suc (suc (suc (suc (suc zero)))))) vs l = refl
+says-to-two (suc (suc (suc (suc (suc (suc (suc n))))))) vs l = absurd (omega arith)

@@ -1,0 +1,67 @@
+-- The token found gets the value, is ready and joins the queue, which has room since it was not ready. Assumes nothing.
+use mathlib.Core.Path.{ap, _∙_, refl, sym, subst}
+use borrow.Author.Needs.{needs}
+use native.Mathlib.Omega.{arith}
+use mir.Facts.{toZ-ofZ}
+use Rattle.model.specs.Number.{unsigned}
+use Rattle.model.specs.Machine.Step.{put, withTables, withValue}
+use Rattle.model.specs.declared.token.State.the-variants as states
+use Rattle.model.specs.declared.token.Held.the-variants as helds
+use Rattle.model.specs.Machine.Blank.{tokenAt}
+use Rattle.record.proofs.TokenRow.{put-self}
+use Rattle.record.specs.Holds.{Holds}
+use Rattle.sites.proofs.Holders.{not-answered, is-answered}
+use Rattle.sites.proofs.answer.answer.Statement.{statement}
+use Rattle.sites.proofs.answer.answer.Tie as tie
+use Rattle.sites.proofs.answer.answer.Reads as reads
+use Rattle.sites.proofs.answer.answer.Lts as lts
+use Rattle.sites.proofs.answer.find_open.Reads as find-open-reads
+use Rattle.sites.proofs.number.bits.Reads as bits-reads
+use Rattle.record.proofs.order.join.Reads as join-reads
+use Rattle.record.proofs.token.set_state.Reads as set-state-reads
+use Rattle.record.proofs.token.set_value.Reads as set-value-reads
+
+find-open-requires : tie.Need-find-open-requires
+find-open-requires c κs = search needs
+
+returns : tie.Need-returns
+returns c = not-answered _ (c .before .find-open .result) _ _ _ (c .before .find-open .ensures .1) (c .if1 .taken) refl
+
+bits-requires : tie.Need-bits-requires
+bits-requires c κs = search needs
+
+set-value-requires : tie.Need-set-value-requires
+set-value-requires c κs = search needs
+
+set-state-requires : tie.Need-set-state-requires
+set-state-requires c κs = search needs
+
+cast-join : tie.Need-cast-join
+cast-join c = search needs
+
+join-requires : tie.Need-join-requires
+join-requires c κs = search needs
+
+returns-2 : tie.Need-returns-2
+unfolding put withTables
+returns-2 c = is-answered _ (c .before .before .before .before .before .before .before .before .find-open .result) _ _ _ (c .before .before .before .before .before .before .before .before .find-open .ensures .1) (omega arith) (λ m h l.
+    let p = c .before .before .before .before .before .before .before .before .find-open .result in
+    let t = tokenAt (m .tokens) p in
+    let v = helds.Value (c .before .before .before .before .before .before .before .before .before .before .args .value) in
+    let word = sym (c .before .before .before .before .before .bits .ensures ∙ ap unsigned (toZ-ofZ (c .before .before .before .before .before .before .before .before .before .before .fits .value))) in
+    let one = c .before .before .before .before .set-value .ensures m t v (subst (Holds _) (sym (put-self m p)) h) refl word in
+    let two = c .before .before .set-state .ensures m (withValue v t) states.Ready one refl refl in
+    c .join .ensures _ two l)
+
+pub answer-spec : {M : Type 1} → statement M
+answer-spec =
+    tie.close
+    (tie.spec
+    find-open-requires
+    returns
+    bits-requires
+    set-value-requires
+    set-state-requires
+    cast-join
+    join-requires
+    returns-2)

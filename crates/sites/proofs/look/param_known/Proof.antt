@@ -1,0 +1,64 @@
+-- A parameter is a variable or a constant by its kind. Assumes nothing.
+use mathlib.Core.Path.{sym, ap, subst, _∙_}
+use borrow.Author.Needs.{needs}
+use Prim.Native.Nat.{_<_}
+use mir.Syntax.{w32}
+use mir.Val.{SFits}
+use mir.Facts.{toZ-ofZ}
+use Rattle.sites.proofs.LookUps.{found-variable, found-constant}
+use Rattle.sites.proofs.Params.{param-variable, variable-below}
+use Rattle.sites.specs.declared.look.Known.the-variants as knowns
+use Rattle.sites.proofs.look.param_known.Statement.{statement}
+use Rattle.sites.proofs.look.param_known.Tie as tie
+use Rattle.sites.proofs.look.param_known.Reads as reads
+use Rattle.sites.proofs.look.param_known.Lts as lts
+use Rattle.sites.proofs.look.variable_known.Reads as variable-known-reads
+use Rattle.sites.proofs.number.signed.Reads as signed-reads
+use Rattle.sites.proofs.number.wide.Reads as wide-reads
+
+add-word : tie.Need-add-word
+add-word c = search needs
+
+mul-word : tie.Need-mul-word
+mul-word c = search needs
+
+element-copy-out-word : tie.Need-element-copy-out-word
+element-copy-out-word c = search needs
+
+mul-if1 : tie.Need-mul-if1
+mul-if1 c = search needs
+
+element-copy-out-if1 : tie.Need-element-copy-out-if1
+element-copy-out-if1 c = search needs
+
+wide-requires : tie.Need-wide-requires
+wide-requires c κs = search needs
+
+variable-known-requires : tie.Need-variable-known-requires
+variable-known-requires c κs = (search needs, subst (λ x. x < 8) (sym (c .wide .ensures)) (variable-below _ _ (c .before .before .before .before .pre .2) (param-variable _ _ (c .before .if1 .taken))))
+
+returns : tie.Need-returns
+returns c = λ m h o. found-variable (m .cells) _ _ _ _ _ (c .before .before .if1 .taken) (c .before .wide .ensures) (c .variable-known .ensures m h o)
+
+signed-requires : tie.Need-signed-requires
+signed-requires c κs = search needs
+
+returns-2 : tie.Need-returns-2
+returns-2 c = λ m h o.
+    let f : SFits w32 (c .signed .result) = search needs in
+    rw (toZ-ofZ f) (ap knowns.Value (c .signed .ensures) ∙ found-constant (m .cells) _ _ _ (c .before .if1 .left))
+
+pub param-known-spec : {M : Type 1} → statement M
+param-known-spec =
+    tie.close
+    (tie.spec
+    add-word
+    mul-word
+    element-copy-out-word
+    mul-if1
+    element-copy-out-if1
+    wide-requires
+    variable-known-requires
+    returns
+    signed-requires
+    returns-2)

@@ -1,0 +1,16 @@
+use Rattle.model.specs.Site as Site
+use Rattle.sites.proofs.site.zero_if.Statement.{statement}
+use Rattle.sites.proofs.site.zero_if.Tie as tie
+use Rattle.sites.proofs.site.zero_if.Reads as reads
+use Rattle.sites.proofs.site.zero_if.Lts as lts
+
+returns : tie.Need-returns
+unfolding Site.zeroIf
+returns c = rw (c .if1 .taken)
+
+returns-2 : tie.Need-returns-2
+unfolding Site.zeroIf
+returns-2 c = rw (c .if1 .left)
+
+pub zero-if-spec : {M : Type 1} → statement M
+zero-if-spec = tie.close (tie.spec returns returns-2)

@@ -1,0 +1,5 @@
+-- What the contracts of this crate cite, over the definitions of crate `model` and the words of crate `record`.
+pub mod Row
+pub mod Looking
+pub mod Answering
+pub mod SiteReplies

@@ -1,0 +1,50 @@
+-- Looking up parameters one by one, and the result as the code has it. Assumes nothing: these are definitions.
+use mathlib.Core.Path.{_≡_}
+use mathlib.Core.Bool.{true}
+use mathlib.Core.List.{List, []}
+use Prim.Native.Nat.{ℕ}
+use Rattle.model.specs.Test.{all}
+use Rattle.model.specs.Job.Syntax.{Param, variable, constant}
+use Rattle.model.specs.Machine.Blank.{tokenAt, cellAt, slotAt}
+use Rattle.model.specs.Machine.Rules.{slotInRange, heldInRange}
+use Rattle.model.specs.Machine.Reply.{valuesBeside}
+use Rattle.model.specs.Machine.Step.{Looked, values, unset, andThen}
+use Rattle.model.specs.declared.token.Slot.{Slot}
+use Rattle.model.specs.declared.token.Slot.the-variants as slots
+use Rattle.model.specs.declared.token.Bind.{Bind}
+use Rattle.model.specs.declared.token.Held.{Held}
+use Rattle.model.specs.declared.token.Held.the-variants as helds
+use Rattle.model.specs.declared.cell.Cell.{Cell}
+use Rattle.model.specs.declared.record.Machine.{Machine}
+use Rattle.sites.specs.declared.look.Known.{Known}
+use Rattle.sites.specs.declared.look.Known.the-variants as knowns
+use Rattle.sites.specs.declared.look.LookUp.{LookUp}
+
+unfoldable pub heldFound : ℕ → Held → Known
+heldFound c helds.Nothing = knowns.Unset c
+heldFound c (helds.Value v) = knowns.Value v
+
+unfoldable pub foundOf : List Cell → Slot → Known
+foundOf cs slots.Empty = knowns.Nothing
+foundOf cs (slots.Value v) = knowns.Value v
+foundOf cs (slots.Cell c) = heldFound c (cellAt cs c .value)
+
+unfoldable pub paramFound : List Cell → List Bind → Param → Known
+paramFound cs bs (variable x) = foundOf cs (slotAt bs x)
+paramFound cs bs (constant v) = knowns.Value v
+
+-- what is found first, then the rest
+unfoldable pub after : Known → Looked → Looked
+after (knowns.Value v) l = andThen v l
+after (knowns.Unset c) l = unset c
+after knowns.Nothing l = values []
+
+-- a look-up's result: a place beyond the cells where all values are there
+unfoldable pub lookUpOf : Looked → LookUp
+lookUpOf (values vs) = record { unset = 32; values = valuesBeside vs }
+lookUpOf (unset c) = record { unset = c; values = valuesBeside [] }
+
+-- the token's variables and the cells have values and places in range
+pub record LookFacts (m : Machine) (p : ℕ) : Type 0 where
+  pub slots : all (λ (b : Bind). slotInRange 32 (b .slot)) (tokenAt (m .tokens) p .binds) ≡ true
+  pub cells : all (λ (c : Cell). heldInRange (c .value)) (m .cells) ≡ true

@@ -1,0 +1,5 @@
+// Site calls: parameters looked up in the words of a record, what built-in sites say, and answers to outside calls.
+pub mod answer;
+pub mod look;
+pub mod number;
+pub mod site;

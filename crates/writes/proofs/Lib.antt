@@ -1,0 +1,3 @@
+-- Laws of a few writes, one behind the other.
+pub mod Writes
+pub mod Chokes

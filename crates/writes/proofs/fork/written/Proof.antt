@@ -1,0 +1,89 @@
+use mathlib.Core.Path.{refl, subst}
+use native.Mathlib.Omega.{arith}
+use Rattle.record.specs.Holds.{Holds}
+use Rattle.record.specs.Fields.{taken}
+use Rattle.model.specs.Machine.Blank.{tokenAt}
+use Rattle.model.specs.Machine.Step.{put, withNode, withTables, withCounts, withOrders, newToken}
+use Rattle.writes.proofs.Writes.{begins, carry, put-same, queued-taken, queued-joined}
+use borrow.Author.Needs.{needs}
+use Rattle.writes.proofs.fork.written.Statement.{statement}
+use Rattle.writes.proofs.fork.written.Tie as tie
+use Rattle.writes.proofs.fork.written.Reads as reads
+use Rattle.writes.proofs.fork.written.Lts as lts
+use Rattle.record.proofs.count.set_last_token.Reads as set-last-token-reads
+use Rattle.record.proofs.order.join.Reads as join-reads
+use Rattle.record.proofs.order.leave.Reads as leave-reads
+use Rattle.record.proofs.token.copy.Reads as copy-reads
+use Rattle.record.proofs.token.set_node.Reads as set-node-reads
+
+-- src/fork.rt:21:5
+leave-requires : tie.Need-leave-requires
+leave-requires c κs = search needs
+
+-- src/fork.rt:22:5
+set-node-requires : tie.Need-set-node-requires
+set-node-requires c κs = search needs
+
+-- src/fork.rt:23:5
+copy-requires : tie.Need-copy-requires
+copy-requires c κs = search needs
+
+-- src/fork.rt:24:5
+set-node-requires-2 : tie.Need-set-node-requires-2
+set-node-requires-2 c κs = search needs
+
+-- src/fork.rt:25:23
+cast-set-last-token : tie.Need-cast-set-last-token
+cast-set-last-token c = search needs
+
+-- src/fork.rt:25:5
+set-last-token-requires : tie.Need-set-last-token-requires
+set-last-token-requires c κs = search needs
+
+-- src/fork.rt:26:13
+cast-join : tie.Need-cast-join
+cast-join c = search needs
+
+-- src/fork.rt:26:5
+join-requires : tie.Need-join-requires
+join-requires c κs = search needs
+
+-- src/fork.rt:27:13
+cast-join-2 : tie.Need-cast-join-2
+cast-join-2 c = search needs
+
+-- src/fork.rt:27:5
+join-requires-2 : tie.Need-join-requires-2
+join-requires-2 c κs = search needs
+
+-- src/fork.rt:17:1
+returns : tie.Need-returns
+unfolding put withNode withTables withCounts withOrders newToken
+returns c = λ m h q room.
+    let a = c .before .before .before .before .before .before .before .before .before .before .before .before .before .before .args in
+    let t = tokenAt (m .tokens) (a .p) in
+    let rest = taken m (a .place) in
+    let gone = queued-taken (a .place) h q in
+    let left = c .before .before .before .before .before .before .before .before .before .before .set-node .ensures rest t (begins rest (a .p) t refl (c .before .before .before .before .before .before .before .before .before .before .before .before .leave .ensures m h q)) in
+    let copied = carry (λ u. put (a .new) u (put (a .p) (withNode (a .left) t) rest))
+    (put-same rest (a .p) (withNode (a .left) t) left (c .before .before .before .before .before .before .before .before .before .before .before .before .before .before .pre .0)) (c .before .before .before .before .before .before .before .before .copy .ensures _ left) in
+    let right = c .before .before .before .before .before .before .set-node2 .ensures (put (a .p) (withNode (a .left) t) rest) (withNode (a .left) t) copied in
+    let counted = c .before .before .before .before .set-last-token .ensures _ right in
+    let joined = c .before .before .join .ensures _ counted (omega arith) in
+    c .join2 .ensures _ joined (omega (arith, queued-joined (a .p) counted))
+
+pub written-spec : {M : Type 1} → statement M
+written-spec =
+    tie.close
+    (tie.spec
+    leave-requires
+    set-node-requires
+    copy-requires
+    set-node-requires-2
+    cast-set-last-token
+    set-last-token-requires
+    cast-join
+    join-requires
+    cast-join-2
+    join-requires-2
+    returns)

@@ -1,0 +1,79 @@
+use Rattle.record.proofs.Shape.{queue-fits}
+use mathlib.Core.Path.{refl, sym}
+use native.Mathlib.Omega.{arith}
+use Rattle.record.specs.Fields.{taken}
+use Rattle.model.specs.declared.token.State.the-variants as states
+use Rattle.model.specs.Machine.Blank.{tokenAt}
+use Rattle.model.specs.Machine.Step.{put, withTables, withOrders}
+use Rattle.writes.proofs.Writes.{queued-taken}
+use borrow.Author.Needs.{needs}
+use Rattle.writes.proofs.return_value.written.Statement.{statement}
+use Rattle.writes.proofs.return_value.written.Tie as tie
+use Rattle.writes.proofs.return_value.written.Reads as reads
+use Rattle.writes.proofs.return_value.written.Lts as lts
+use Rattle.record.proofs.order.join.Reads as join-reads
+use Rattle.record.proofs.order.leave.Reads as leave-reads
+use Rattle.record.proofs.token.copy.Reads as copy-reads
+use Rattle.record.proofs.token.set_state.Reads as set-state-reads
+use Rattle.record.proofs.token.set_value.Reads as set-value-reads
+use Rattle.record.proofs.token.value.Reads as value-reads
+use Rattle.record.proofs.token.valued.Reads as valued-reads
+
+-- src/return_value.rt:25:9
+valued-requires : tie.Need-valued-requires
+valued-requires c κs = search needs
+
+-- src/return_value.rt:26:9
+value-requires : tie.Need-value-requires
+value-requires c κs = search needs
+
+-- src/return_value.rt:27:5
+leave-requires : tie.Need-leave-requires
+leave-requires c κs = search needs
+
+-- src/return_value.rt:28:5
+copy-requires : tie.Need-copy-requires
+copy-requires c κs = search needs
+
+-- src/return_value.rt:29:5
+set-value-requires : tie.Need-set-value-requires
+set-value-requires c κs = search needs
+
+-- src/return_value.rt:30:5
+set-state-requires : tie.Need-set-state-requires
+set-state-requires c κs = search needs
+
+-- src/return_value.rt:31:13
+cast-join : tie.Need-cast-join
+cast-join c = search needs
+
+-- src/return_value.rt:31:5
+join-requires : tie.Need-join-requires
+join-requires c κs = search needs
+
+-- src/return_value.rt:21:1
+returns : tie.Need-returns
+unfolding put withTables withOrders
+returns c = λ m h q.
+    let a = c .before .before .before .before .before .before .before .before .before .before .before .before .before .before .args in
+    let gone = queued-taken (a .place) h q in
+    let rest = taken m (a .place) in
+    let f = tokenAt (m .tokens) (a .f) in
+    let v = tokenAt (m .tokens) (a .p) .value in
+    let copied = c .before .before .before .before .before .before .copy .ensures rest (c .before .before .before .before .before .before .before .before .leave .ensures m h q) in
+    let valued = c .before .before .before .before .set-value .ensures rest f v copied (sym (c .before .before .before .before .before .before .before .before .before .before .before .before .valued .ensures m (h .codes))) (sym (c .before .before .before .before .before .before .before .before .before .before .value .ensures m (h .codes))) in
+    c .join .ensures _ (c .before .before .set-state .ensures rest _ states.Ready valued refl refl) (omega (arith, queue-fits h, h .ordered .queued))
+
+pub written-spec : {M : Type 1} → statement M
+written-spec =
+    tie.close
+    (tie.spec
+    valued-requires
+    value-requires
+    leave-requires
+    copy-requires
+    set-value-requires
+    set-state-requires
+    cast-join
+    join-requires
+    returns)

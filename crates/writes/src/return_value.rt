@@ -1,0 +1,32 @@
+// Return: "the place takes a copy of the frame with the value".
+ghost use Prim.Native.Nat.{_<_};
+ghost use Rattle.model.specs.Machine.Blank.{tokenAt};
+ghost use Rattle.model.specs.declared.record.Machine.{Machine};
+ghost use Rattle.record.specs.Fields.{taken};
+ghost use Rattle.record.specs.Holds.{Holds};
+ghost use Rattle.model.specs.Machine.Step.{withState, withValue, put, enqueue};
+ghost use Rattle.model.specs.declared.token.State.the-variants as states;
+use model::dag::WORDS;
+use model::record::Machine;
+use record::layout::READY_STATE;
+use record::order::join;
+use record::order::leave;
+use record::token::copy;
+use record::token::set_state;
+use record::token::set_value;
+use record::token::value;
+use record::token::valued;
+
+// The token at p becomes the frame at f, with its own value.
+pub fn written(w: &mut [u32; Machine::WORDS], place: usize, p: usize, f: usize)
+    requires { ⌜ (p < 64) × (f < 64) ⌝ }
+    ensures { λ _. ⌜ ((m : Machine) → Holds (now (w .entry)) m → place < m .queued → Holds (now (w .exit)) (enqueue p (put p (withState states.Ready (withValue (tokenAt (m .tokens) p .value) (tokenAt (m .tokens) f))) (taken m place)))) ⌝ }
+{
+    let has = valued(w, p);
+    let number = value(w, p);
+    leave(w, place);
+    copy(w, f, p);
+    set_value(w, p, has, number);
+    set_state(w, p, READY_STATE, 0);
+    join(w, p as u32);
+}
