@@ -2,13 +2,13 @@
 -- nothing is, and otherwise the record is swept. Assumes nothing.
 use mathlib.Core.Path.{_≡_, refl, sym, ap, ap₂, subst, _∙_}
 use mathlib.Core.Bool.{Bool, true, false}
-use mathlib.Core.List.{List, [], _∷_}
-use Prim.Native.Nat.{ℕ, zero, suc, _+_, _-_, _<_, _≤_}
+use mathlib.Core.List.{List, []}
+use Prim.Native.Nat.{ℕ, _+_, _-_, _<_, _≤_}
 use native.Mathlib.Decide.{ℕ-discrete, decLt}
 use native.Mathlib.Omega.{arith}
-use lib.ListN.{length, getD, set, List·getD-eq-default}
+use lib.ListN.{length, set, List·getD-eq-default}
 use lib.Dec.{eqb}
-use lib.IntN.{ℤ, pos}
+use lib.IntN.{ℤ}
 use Rattle.model.specs.Number.{unsigned, signed}
 use Rattle.model.specs.Test.{_and_, all}
 use Rattle.model.specs.Job.Node.{isNode}
@@ -18,7 +18,6 @@ use Rattle.model.specs.Machine.InUse.{tokensUsed, cellsUsed, sweep}
 use Rattle.model.specs.Machine.Limits.{paper}
 use Rattle.model.specs.Machine.Reply.{accepted}
 use Rattle.model.specs.Machine.Rules.{nodeRule, namesFrame, heldInRange, placeInRange, slotInRange, stateInRange, tokenInRange}
-use Rattle.model.specs.Machine.Step as Step
 use Rattle.model.specs.Machine.Step.{withNode, withState, withValue, withBinding, put, enqueue, valueOf, withTables, withOrders}
 use Rattle.model.specs.declared.record.Machine.{Machine}
 use Rattle.model.specs.declared.reply.Outcome.{Outcome}
@@ -36,14 +35,14 @@ use Rattle.model.specs.declared.token.State.the-variants as states
 use Rattle.model.specs.declared.token.Token.{Token}
 use Rattle.model.proofs.Test.{clash, and-left, and-right, ltb-lt}
 use Rattle.model.proofs.Number.{signed-unsigned}
-use Rattle.model.proofs.Keeps.Carried.{Carried, rebound-carried, ended-whole, ended-carried}
+use Rattle.model.proofs.Keeps.Carried.{rebound-carried, ended-whole, ended-carried}
 use Rattle.record.specs.Fields.{taken}
 use Rattle.record.specs.Holds.{Holds}
-use Rattle.record.specs.Words.{slotKind, slotNumber, heldNumber, placeNumber}
+use Rattle.record.specs.Words.{slotKind, heldNumber, placeNumber}
 use Rattle.reach.specs.Marks.{Vacant}
-use Rattle.acts.specs.Acting.{Acting, Taking, Lawful, Framed, Gives, plain}
+use Rattle.acts.specs.Acting.{Acting, Taking, Gives, plain}
 use Rattle.acts.specs.Links.{NoLinks, BindsNoCell}
-use Rattle.acts.proofs.Outcomes.{gives-whole, gives-swept, token-inside, node-rule}
+use Rattle.acts.proofs.Outcomes.{gives-whole, token-inside, node-rule}
 use Rattle.sites.proofs.Facts.{token-range}
 use Rattle.acts.proofs.Vacancy.{vacant-row}
 

@@ -1,12 +1,12 @@
 -- What a step does at each kind of node, by the words of the node's row. Assumes nothing.
-use mathlib.Core.Path.{_≡_, refl, sym, ap, ap₂, subst, _∙_}
+use mathlib.Core.Path.{_≡_, refl, sym, ap, ap₂, _∙_}
 use mathlib.Core.Bool.{Bool, true, false}
-use mathlib.Core.List.{List, [], _∷_}
-use Prim.Native.Nat.{ℕ, zero, suc, _+_, _*_, _<_, _≤_}
+use mathlib.Core.List.{List, []}
+use Prim.Native.Nat.{ℕ, _+_, _<_, _≤_}
 use native.Mathlib.Omega.{arith}
-use lib.ListN.{length, getD, set}
+use lib.ListN.{getD}
 use lib.Dec.{ltb}
-use Rattle.model.specs.Job.Node.{Node, Dag, bodyAt}
+use Rattle.model.specs.Job.Node.{Dag, bodyAt}
 use Rattle.model.specs.Job.Words.{dagOf}
 use Rattle.model.specs.Machine.Blank.{blankToken, tokenAt}
 use Rattle.model.specs.Machine.InUse.{tokensUsed, cellsUsed, marked}
@@ -14,7 +14,7 @@ use Rattle.model.specs.Machine.Limits.{paper}
 use Rattle.model.specs.Machine.Places.{nextPlace}
 use Rattle.model.specs.Machine.Reply.{accepted, outcome, unless, refuses}
 use Rattle.model.specs.Machine.Step as Step
-use Rattle.model.specs.Machine.Step.{act, withNode, withState, withValue, withBinding, inCell, put, enqueue, newToken, newCell, valueOf, withOrders, withTables}
+use Rattle.model.specs.Machine.Step.{act, withNode, withState, withValue, withBinding, inCell, put, enqueue, newToken, newCell, valueOf, withOrders}
 use Rattle.model.specs.Machine.Step.{hasTokenPlace, hasCellPlace, callSite, look}
 use Rattle.model.specs.declared.record.Machine.{Machine}
 use Rattle.model.specs.declared.reply.Refusal.the-variants as refusals
@@ -28,8 +28,8 @@ use Rattle.model.proofs.Sees.Lockstep.{Fitting, free-token, free-cell}
 use Rattle.model.proofs.Keeps.Clean.{tokensOf, cellsOf}
 use Rattle.record.specs.Fields.{taken, unsetCell}
 use Rattle.reach.specs.Marks.{nextOr}
-use Rattle.acts.specs.Acting.{Acting, Taking, Lawful}
-use Rattle.sites.specs.Row.{callee, paramsAt, nodeIn}
+use Rattle.acts.specs.Acting.{Acting, Lawful}
+use Rattle.sites.specs.Row.{callee, paramsAt}
 use Rattle.sites.proofs.Facts.{tokens-size, cells-size}
 use Rattle.acts.proofs.Outcomes.{step-is}
 
@@ -127,8 +127,8 @@ module _ (dag : List ℕ) (place p at : ℕ) (m : Machine) where
 
   pub choke-step : {ws : List ℕ} {used cells : List Bool} → (c : ℕ) → t .cell ≡ places.At c → Acting ws used cells dag place p at 7 m → Step.step paper (dagOf dag) m place
       ≡ accepted replies.Done [] (Step.choked c (t .value) (taken m place))
-  unfolding act outcome Step.chokes
-  choke-step c e a = step-is a ∙ ap (λ q. outcome m (Step.chokes (taken m place) p t q)) e
+  unfolding act outcome Step.chokeAt
+  choke-step c e a = step-is a ∙ ap (λ q. outcome m (Step.chokeAt (taken m place) p t q)) e
 
   pub site-step : {ws : List ℕ} {used cells : List Bool} → Acting ws used cells dag place p at 1 m → Step.step paper (dagOf dag) m place
       ≡ outcome m (callSite paper (dagOf dag) (taken m place) p t (word 1) (word 2) (look (m .cells) (t .binds) (paramsAt dag at)))

@@ -4,4 +4,3 @@ pub mod Vacancy
 pub mod Instructions
 pub mod Making
 pub mod Ending
-pub mod Calling

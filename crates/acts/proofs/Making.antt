@@ -1,15 +1,14 @@
 -- Fork, where and definition call: the new places are free, so they are blank and apart from the token that acts, and there is room in the queue; what
 -- is in use afterwards is what was, and what is new. Assumes nothing.
-use mathlib.Core.Path.{_≡_, refl, sym, ap, ap₂, subst, subst₂, _∙_}
+use mathlib.Core.Path.{_≡_, refl, sym, ap, subst, subst₂, _∙_}
 use mathlib.Core.Bool.{Bool, true, false}
-use mathlib.Core.List.{List, [], _∷_}
+use mathlib.Core.List.{List, []}
 use Prim.Native.Nat.{ℕ, _+_, _<_, _≤_}
-use native.Mathlib.Omega.{arith}
 use lib.ListN.{getD, set}
 use Rattle.model.specs.Job.Node.{bodyAt}
 use Rattle.model.specs.Job.Words.{dagOf}
 use Rattle.model.specs.Machine.Blank.{blankToken, tokenAt}
-use Rattle.model.specs.Machine.InUse.{tokensUsed, cellsUsed}
+use Rattle.model.specs.Machine.InUse.{tokensUsed}
 use Rattle.model.specs.Machine.Limits.{paper}
 use Rattle.model.specs.Machine.Places.{nextPlace}
 use Rattle.model.specs.Machine.Reply.{accepted}
@@ -22,7 +21,6 @@ use Rattle.model.specs.declared.reply.Report.{Report}
 use Rattle.model.specs.declared.reply.Reply.the-variants as replies
 use Rattle.model.specs.declared.reply.Refusal.the-variants as refusals
 use Rattle.model.specs.declared.token.Slot.the-variants as slots
-use Rattle.model.specs.declared.token.State.{State}
 use Rattle.model.specs.declared.token.State.the-variants as states
 use Rattle.model.specs.declared.token.Token.{Token}
 use Rattle.model.proofs.Test.{clash}
@@ -32,7 +30,7 @@ use Rattle.model.proofs.Keeps.Carried.{Carried, forked-carried, entered-carried
 use Rattle.record.specs.Fields.{taken, unsetCell}
 use Rattle.record.specs.Holds.{Holds}
 use Rattle.reach.specs.Marks.{nextOr}
-use Rattle.acts.specs.Acting.{Acting, Taking, Lawful, Gives, plain}
+use Rattle.acts.specs.Acting.{Acting, Taking, Gives, plain}
 use Rattle.sites.specs.Row.{callee, paramsAt}
 use Rattle.sites.proofs.Facts.{queue-room}
 use Rattle.acts.proofs.Outcomes.{gives-whole, gives-refused, token-ready}

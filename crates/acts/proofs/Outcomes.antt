@@ -1,26 +1,24 @@
 -- How a step ends: its outcome is that of the instruction at the token's node; where nothing is out of reach the words that were written are all there
 -- is to it, and otherwise sweeping them. Assumes nothing.
-use mathlib.Core.Path.{_≡_, refl, sym, ap, ap₂, subst, _∙_}
-use mathlib.Core.Bool.{Bool, true, false}
+use mathlib.Core.Path.{_≡_, sym, ap, subst, _∙_}
+use mathlib.Core.Bool.{Bool, true}
 use mathlib.Core.List.{List, []}
-use Prim.Native.Nat.{ℕ, zero, suc, _+_, _<_, _≤_}
+use Prim.Native.Nat.{ℕ, _+_, _<_, _≤_}
 use native.Mathlib.Omega.{arith}
-use lib.ListN.{length, getD, set}
-use lib.Dec.{ltb}
+use lib.ListN.{length}
 use lib.IntN.{ℤ}
-use Rattle.model.specs.Job.Node.{Node, Dag, nodeAt}
+use Rattle.model.specs.Job.Node.{Dag, nodeAt}
 use Rattle.model.specs.Job.Words.{dagOf}
-use Rattle.model.specs.Machine.Blank.{blankToken, blankCell, tokenAt, cellAt}
+use Rattle.model.specs.Machine.Blank.{blankToken, tokenAt}
 use Rattle.model.specs.Machine.InUse.{tokensUsed, cellsUsed, sweep}
 use Rattle.model.specs.Machine.Limits.{paper}
-use Rattle.model.specs.Machine.Reply.{Effect, valuesBeside, accepted, outcome, unless, refuses}
-use Rattle.model.specs.Machine.Rules.{isReady, nodeRule, atNode, rulesHold}
+use Rattle.model.specs.Machine.Reply.{reportValues, accepted, outcome, unless, refuses}
+use Rattle.model.specs.Machine.Rules.{isReady, nodeRule, atNode}
 use Rattle.model.specs.Machine.Step as Step
-use Rattle.model.specs.Machine.Step.{act, takes, withOrders}
+use Rattle.model.specs.Machine.Step.{act, takes}
 use Rattle.model.specs.declared.record.Machine.{Machine}
 use Rattle.model.specs.declared.reply.Outcome.{Outcome}
 use Rattle.model.specs.declared.reply.Refusal.{Refusal}
-use Rattle.model.specs.declared.reply.Refusal.the-variants as refusals
 use Rattle.model.specs.declared.reply.Reply.{Reply}
 use Rattle.model.specs.declared.reply.Reply.the-variants as replies
 use Rattle.model.specs.declared.reply.Report.{Report}
@@ -33,14 +31,14 @@ use Rattle.model.proofs.Keeps.Carried.{Carried}
 use Rattle.model.proofs.Keeps.NotRule.{at-rule, ready-not-blank}
 use Rattle.record.specs.Fields.{taken}
 use Rattle.record.specs.Holds.{Holds}
-use Rattle.acts.specs.Acting.{Lawful, Taking, Acting, Marks, Framed, Gives, plain}
-use Rattle.sites.specs.Row.{NodeRow, rowOf, nodeIn}
+use Rattle.acts.specs.Acting.{Lawful, Taking, Acting, Framed, Gives, plain}
+use Rattle.sites.specs.Row.{NodeRow, nodeIn}
 use Rattle.sites.proofs.Facts.{tokens-size}
 use Rattle.sites.proofs.Rows.{node-is, row-inside}
 
 -- an accepted call after which blanking changes nothing
 pub gives-whole : {x : Outcome} {m : Machine} (o : Machine) (reply : Reply) (vs : List ℤ) {ws : List ℕ} {used cells : List Bool} (r : Report)
-    → x ≡ accepted reply vs o → r .reply ≡ reply → r .values ≡ valuesBeside vs → Holds ws o → sweep o ≡ o → (Framed m → Carried o used cells)
+    → x ≡ accepted reply vs o → r .reply ≡ reply → r .values ≡ reportValues vs → Holds ws o → sweep o ≡ o → (Framed m → Carried o used cells)
     → Gives x m ws used cells r
 unfolding accepted
 gives-whole {x} {m} o reply vs {ws} {used} {cells} r e f g h w k =

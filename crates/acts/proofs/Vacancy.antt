@@ -1,24 +1,28 @@
 -- What was not in use before an instruction is blank after it: an instruction writes to the row of the token that acts, which is in use, and to rows
 -- that it gives out. So sweeping need only look at rows that were in use. Assumes nothing.
-use mathlib.Core.Path.{_≡_, refl, sym, ap, subst, _∙_}
+use mathlib.Core.Path.{_≡_, sym, ap, _∙_}
 use mathlib.Core.Bool.{Bool, true, false}
 use mathlib.Core.List.{List}
-use Prim.Native.Nat.{ℕ, _<_}
-use native.Mathlib.Decide.{ℕ-discrete}
+use Prim.Native.Nat.{ℕ}
 use lib.ListN.{getD, set}
+use lib.Seq.{getD-set-other}
 use Rattle.model.specs.Job.Words.{dagOf}
 use Rattle.model.specs.Machine.Blank.{blankToken, blankCell, tokenAt, cellAt}
-use Rattle.model.specs.Machine.InUse.{tokensUsed, cellsUsed}
 use Rattle.model.specs.Machine.Limits.{paper}
-use Rattle.model.specs.Machine.Rules.{isReady}
 use Rattle.model.specs.declared.record.Machine.{Machine}
 use Rattle.model.specs.declared.token.Token.{Token}
-use Rattle.model.specs.declared.cell.Cell.{Cell}
+use Rattle.model.specs.Machine.Step as Step
+use Rattle.model.specs.Machine.Step.{choked, withTables, withOrders}
+use Rattle.model.specs.declared.token.Held.{Held}
+use Rattle.model.specs.declared.token.Place.the-variants as places
+use Rattle.record.specs.Fields.{taken}
+use Rattle.model.proofs.Machine.Writes.{choked-blank}
+use Rattle.model.proofs.Machine.Choke.{choke-at}
 use Rattle.model.proofs.Test.{clash}
 use Rattle.model.proofs.Machine.Rules.{ready-live, rules-kept}
 use Rattle.model.proofs.Machine.Used.{Used, live-used}
 use Rattle.model.proofs.Sees.Others.{token-other}
-use Rattle.model.proofs.Keeps.Clean.{Clean}
+use Rattle.model.proofs.Keeps.Clean.{Clean, cellsOf}
 use Rattle.model.proofs.Keeps.Unblanked.{rules-clean}
 use Rattle.reach.specs.Marks.{Vacant}
 use Rattle.acts.specs.Acting.{Lawful, Taking}
@@ -49,3 +53,17 @@ module _ {ws dag : List ℕ} {used cells : List Bool} {place p : ℕ} {m : Machi
         tokens = λ i l e. ap (λ ts. tokenAt ts i) tokens ∙ (token-other (m .tokens) p i u (other-row i e) ∙ free-token (a .lawful) i e);
         cells = λ c l e. ap (λ cs. cellAt cs c) same ∙ free-cell (a .lawful) c e;
       }
+
+-- a choke writes to rows of tokens in use and to the cell of the token that acts, which is in use
+pub choke-vacant : {ws dag : List ℕ} {used cells : List Bool} {place p : ℕ} {m : Machine} → Taking ws used cells dag place p m → (c : ℕ) (v : Held)
+    → tokenAt (m .tokens) p .cell ≡ places.At c → Vacant (choked c v (taken m place)) used cells
+unfolding choked withTables withOrders cellAt
+choke-vacant {ws} {dag} {used} {cells} {place} {p} {m} a c v e =
+    record {
+      tokens = λ i l f. choke-at (m .cells) c (m .tokens) i ∙ ap (Step.chokeToken (m .cells) c) (free-token (a .lawful) i f) ∙ choked-blank (m .cells) c;
+      cells = λ k l f. getD-set-other (m .cells) c k _ blankCell (λ g. apart k f g) ∙ free-cell (a .lawful) k f;
+    }
+  where
+    apart : (k : ℕ) → getD cells k true ≡ false → k ≡ c → ⊥
+    apart k f g =
+        clash (ap (λ u. getD u c true) (a .lawful .marks .cells) ∙ cellsOf m .named p (token-used a) .cell c e) (ap (λ j. getD cells j true) (sym g) ∙ f)

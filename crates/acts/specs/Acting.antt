@@ -8,7 +8,7 @@ use Rattle.model.specs.Job.Words.{dagOf}
 use Rattle.model.specs.Machine.Blank.{tokenAt}
 use Rattle.model.specs.Machine.InUse.{tokensUsed, cellsUsed}
 use Rattle.model.specs.Machine.Limits.{paper}
-use Rattle.model.specs.Machine.Reply.{valuesBeside}
+use Rattle.model.specs.Machine.Reply.{reportValues}
 use Rattle.model.specs.Machine.Rules.{rulesHold}
 use Rattle.model.specs.declared.record.Machine.{Machine}
 use Rattle.model.specs.declared.reply.Outcome.{Outcome}
@@ -67,4 +67,4 @@ pub record Gives (o : Outcome) (m : Machine) (ws : List ℕ) (used usedCells : L
 
 -- a report without values
 abbrev pub plain : Reply → Report
-plain r = record { reply = r; values = valuesBeside [] }
+plain r = record { reply = r; values = reportValues [] }

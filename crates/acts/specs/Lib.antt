@@ -1,4 +1,3 @@
 -- What the contracts of this crate cite, over the definitions of crate `model` and the words of crate `record`.
 pub mod Acting
 pub mod Links
-pub mod Arguments

@@ -6,5 +6,4 @@ pub mod fork;
 pub mod rebind;
 pub mod report;
 pub mod return_value;
-pub mod site_call;
 pub mod where_split;

@@ -9,7 +9,7 @@ use lib.ListN.{length, take, drop}
 use Rattle.model.specs.Number.{number, signed}
 use Rattle.model.specs.Job.Words.{dagOf}
 use Rattle.model.specs.Lines.Line.{Line, textOfAll, end, limit}
-use Rattle.model.specs.Lines.Orcrun.{Standing, Turn, on, over, turn, turns, runLines}
+use Rattle.model.specs.Lines.Orcrun.{Standing, on, over, turn, turns, runLines}
 use Rattle.model.specs.Machine.Limits.{paper}
 use Rattle.model.specs.Machine.Start as Start
 use Rattle.model.specs.Machine.Step as Step

@@ -1,5 +1,5 @@
 -- The turns of a run: what each is, by the tests that lead to it. Assumes nothing.
-use mathlib.Core.Path.{_≡_, refl, sym, _∙_, ap, subst}
+use mathlib.Core.Path.{_≡_, refl, sym, _∙_, ap}
 use mathlib.Core.Bool.{Bool, true, false}
 use mathlib.Core.List.{List, [], _∷_, _++_}
 use Prim.Native.Nat.{ℕ, suc, _+_, _-_, _<_, _≤_}
@@ -12,7 +12,7 @@ use Rattle.model.specs.Job.Node.{Dag}
 use Rattle.model.specs.Lines.Line.{Line, end, limit, short}
 use Rattle.model.specs.Lines.Orcrun.{Standing, Turn, on, over, linesOf, stepTurn, deliverTurn, lastTurn, turn}
 use Rattle.model.specs.Machine.Limits.{paper}
-use Rattle.model.specs.Machine.Reply.{told, isRefused}
+use Rattle.model.specs.Machine.Reply.{reported, isRefused}
 use Rattle.model.specs.Machine.Step as Step
 use Rattle.model.specs.Machine.Answer as Answer
 use Rattle.model.specs.declared.record.Machine.{Machine}
@@ -26,7 +26,7 @@ standing rest m steps at = record { machine = m; steps = steps; rest = drop at r
 
 -- the lines of an outcome
 abbrev pub linesFrom : Outcome → List Line
-linesFrom o = linesOf (told (o .reply) (o .values))
+linesFrom o = linesOf (reported (o .reply) (o .values))
 
 module _ (d : Dag) (rest : List ℕ) (m : Machine) (steps at : ℕ) where
   abbrev s : Standing

@@ -10,7 +10,7 @@ use Rattle.model.specs.Job.Words.{dagOf}
 use Rattle.model.specs.Lines.Line.{textOfAll, end, limit}
 use Rattle.model.specs.Lines.Orcrun.{runLines, linesOf}
 use Rattle.model.specs.Machine.Limits.{paper}
-use Rattle.model.specs.Machine.Reply.{told}
+use Rattle.model.specs.Machine.Reply.{reported}
 use Rattle.model.specs.Machine.Start as Start
 use Rattle.model.specs.Machine.Start.{startMachine}
 use Rattle.model.specs.declared.record.Machine.{Machine}
@@ -99,15 +99,15 @@ module _ (dag rest before : List ℕ) (from : ℕ) where
           over-of : b ≡ isOver (L .machine .queued) (turned .reply)
           over-of = over-if ∙ ap₂ isOver queued-is (given .reply)
 
-          lines-of : {output′ : List ℕ} {total′ : ℕ} → Shows output from total (textOfAll (linesOf (told (r .reply) (r .values)))) output′ total′
+          lines-of : {output′ : List ℕ} {total′ : ℕ} → Shows output from total (textOfAll (linesOf (reported (r .reply) (r .values)))) output′ total′
               → Shows output from total (textOfAll (linesFrom turned)) output′ total′
           lines-of {output′} {total′} s =
-              subst (λ (vs : List ℤ). Shows output from total (textOfAll (linesOf (told (turned .reply) vs))) output′ total′)
+              subst (λ (vs : List ℤ). Shows output from total (textOfAll (linesOf (reported (turned .reply) vs))) output′ total′)
               (given .values)
-              (subst (λ (p : Reply). Shows output from total (textOfAll (linesOf (told p (r .values)))) output′ total′) (given .reply) s)
+              (subst (λ (p : Reply). Shows output from total (textOfAll (linesOf (reported p (r .values)))) output′ total′) (given .reply) s)
 
           pub lent-ends : {output′ after : List ℕ} {total′ n : ℕ} → b ≡ true
-              → Shows output from total (textOfAll (linesOf (told (r .reply) (r .values)))) output′ total′
+              → Shows output from total (textOfAll (linesOf (reported (r .reply) (r .values)))) output′ total′
               → Shows output′ from total′ (textOfAll (end steps ∷ [])) after n → Whole after n
           lent-ends t s u =
               going-ends dag rest before from (L .going) l last-of more k limit-of free turned refl b over-of t (lines-of s) u
@@ -124,7 +124,7 @@ module _ (dag rest before : List ℕ) (from : ℕ) where
                 going-less dag rest before from (L .going) l last-of more k limit-of free turned refl b over-of on-if steps′ at′ to-of behind-of
 
             pub lent-turns : {output′ : List ℕ} {total′ : ℕ}
-                → Shows output from total (textOfAll (linesOf (told (r .reply) (r .values)))) output′ total′ → total′ ≤ total + 80
+                → Shows output from total (textOfAll (linesOf (reported (r .reply) (r .values)))) output′ total′ → total′ ≤ total + 80
                 → Lent ws′ used′ cells′ steps′ at′ total′ output′
             lent-turns s small =
                 let next =

@@ -1,13 +1,10 @@
 -- Where an input's table ends. Assumes nothing.
-use mathlib.Core.Path.{_≡_, refl, sym, _∙_, ap}
-use mathlib.Core.Bool.{true, false}
+use mathlib.Core.Path.{_≡_, refl, sym}
 use mathlib.Core.List.{List}
 use Prim.Native.Nat.{ℕ, _+_, _*_, _<_, _≤_}
 use native.Mathlib.Omega.{arith}
-use lib.ListN.{length, getD, take, drop}
-use lib.Seq.{take-all}
-use Rattle.model.specs.Number.{number}
-use Rattle.model.specs.Job.Read.{tableLength, sizeN}
+use lib.ListN.{length, getD}
+use Rattle.model.specs.Job.Read.{tableLength}
 use Rattle.model.proofs.Test.{le-leb, lt-not-leb}
 use Rattle.loader.proofs.Tables.{half-at}
 use Rattle.lines.specs.Input.{tableEnd}

@@ -1,7 +1,7 @@
 -- The lines of a reply, and the bytes of lines one behind the other. Assumes nothing.
-use mathlib.Core.Path.{_≡_, refl, sym, _∙_, ap, subst}
+use mathlib.Core.Path.{_≡_, refl, sym, _∙_, ap}
 use mathlib.Core.List.{List, [], _∷_, _++_, append-assoc, append-nil}
-use Prim.Native.Nat.{ℕ, _<_, _≤_, min}
+use Prim.Native.Nat.{ℕ, _<_, min}
 use native.Mathlib.Decide.{decLt}
 use native.Mathlib.Omega.{arith}
 use lib.IntN.{ℤ}
@@ -9,7 +9,7 @@ use lib.ListN.{length, take}
 use lib.Seq.{take-all}
 use Rattle.model.specs.Lines.Line.{Line, textOf, textOfAll, call, publish, refused, end, short}
 use Rattle.model.specs.Lines.Orcrun.{linesOf}
-use Rattle.model.specs.Machine.Reply.{told, numberOf}
+use Rattle.model.specs.Machine.Reply.{reported, numberOf}
 use Rattle.model.specs.declared.reply.Refusal.{Refusal}
 use Rattle.model.specs.declared.reply.Reply.{Reply}
 use Rattle.model.specs.declared.reply.Reply.the-variants as replies
@@ -34,22 +34,22 @@ text-first l ls = refl
 
 module _ (reply : Reply) (values : List ℤ) (before after : List ℕ) where
   abbrev Tells : ℕ → Type 0
-  Tells n = Written 80 before 0 (textOfAll (linesOf (told reply values))) after n
+  Tells n = Written 80 before 0 (textOfAll (linesOf (reported reply values))) after n
 
-  one-line : (n : ℕ) (l : Line) → linesOf (told reply values) ≡ l ∷ [] → Written 80 before 0 (textOf l) after n → Tells n
+  one-line : (n : ℕ) (l : Line) → linesOf (reported reply values) ≡ l ∷ [] → Written 80 before 0 (textOf l) after n → Tells n
   one-line n l e w = written-as w (text-one l ∙ ap textOfAll (sym e)) (omega arith)
 
   pub tells-publish : (n : ℕ) (v : ℤ) → reply ≡ replies.Published v → Written 80 before 0 (textOf (publish v)) after n → Tells n
-  unfolding linesOf told
-  tells-publish n v e w = one-line n (publish v) (ap (λ (r : Reply). linesOf (told r values)) e) w
+  unfolding linesOf reported
+  tells-publish n v e w = one-line n (publish v) (ap (λ (r : Reply). linesOf (reported r values)) e) w
 
   -- (there are four values, so as many as four of them are all)
   pub tells-call : (n h s k j : ℕ) → length values ≡ 4 → reply ≡ replies.Called h s k → j ≡ min k 4
       → Written 80 before 0 (textOf (call h s (take j values))) after n → Tells n
-  unfolding linesOf told
+  unfolding linesOf reported
   tells-call n h s k j four e m w =
       one-line n (call h s (take j values))
-      (ap (λ (r : Reply). linesOf (told r values)) e ∙ ap (λ (vs : List ℤ). call h s vs ∷ []) front) w
+      (ap (λ (r : Reply). linesOf (reported r values)) e ∙ ap (λ (vs : List ℤ). call h s vs ∷ []) front) w
     where
       front : take k values ≡ take j values
       front = go (decLt k 5)
@@ -59,22 +59,22 @@ module _ (reply : Reply) (values : List ℤ) (before after : List ℕ) where
           go (no l) = take-all k values (omega arith) ∙ sym (take-all j values (omega arith))
 
   pub tells-refusal : (n k : ℕ) (r : Refusal) → reply ≡ replies.Refused r → k ≡ numberOf r → Written 80 before 0 (textOf (refused k)) after n → Tells n
-  unfolding linesOf told
+  unfolding linesOf reported
   tells-refusal n k r e m w =
-      one-line n (refused k) (ap (λ (r : Reply). linesOf (told r values)) e ∙ ap (λ (i : ℕ). refused i ∷ []) (sym m)) w
+      one-line n (refused k) (ap (λ (r : Reply). linesOf (reported r values)) e ∙ ap (λ (i : ℕ). refused i ∷ []) (sym m)) w
 
 module _ (reply : Reply) (values : List ℤ) (before : List ℕ) where
-  quiet : linesOf (told reply values) ≡ [] → Written 80 before 0 (textOfAll (linesOf (told reply values))) before 0
+  quiet : linesOf (reported reply values) ≡ [] → Written 80 before 0 (textOfAll (linesOf (reported reply values))) before 0
   unfolding textOfAll
   quiet e = written-as (none-written before 0) (ap textOfAll (sym e)) (omega arith)
 
-  pub tells-done : reply ≡ replies.Done → Written 80 before 0 (textOfAll (linesOf (told reply values))) before 0
-  unfolding linesOf told
-  tells-done e = quiet (ap (λ (r : Reply). linesOf (told r values)) e)
+  pub tells-done : reply ≡ replies.Done → Written 80 before 0 (textOfAll (linesOf (reported reply values))) before 0
+  unfolding linesOf reported
+  tells-done e = quiet (ap (λ (r : Reply). linesOf (reported r values)) e)
 
-  pub tells-waits : reply ≡ replies.Waits → Written 80 before 0 (textOfAll (linesOf (told reply values))) before 0
-  unfolding linesOf told
-  tells-waits e = quiet (ap (λ (r : Reply). linesOf (told r values)) e)
+  pub tells-waits : reply ≡ replies.Waits → Written 80 before 0 (textOfAll (linesOf (reported reply values))) before 0
+  unfolding linesOf reported
+  tells-waits e = quiet (ap (λ (r : Reply). linesOf (reported r values)) e)
 
 -- the last lines
 pub last-none : (left k : ℕ) → left ≡ 0 → end k ∷ [] ≡ lastLines left k

@@ -1,5 +1,5 @@
 -- The whole output, by the tests that lead to it: `long`, a declined table, or the run of an accepted one. Assumes nothing.
-use mathlib.Core.Path.{_≡_, refl, sym, _∙_, ap, subst}
+use mathlib.Core.Path.{_≡_, refl, sym, _∙_, ap}
 use mathlib.Core.Bool.{Bool, true, false}
 use mathlib.Core.List.{List, [], _∷_}
 use Prim.Native.Nat.{ℕ, _-_, _<_, _≤_}
@@ -19,7 +19,6 @@ use Rattle.model.proofs.Job.Accepted.{accepted-well-formed}
 use Rattle.model.proofs.Job.Begins.{words-construct}
 use Rattle.model.proofs.Job.DeclinedAt.{declined-at}
 use Rattle.loader.specs.Loaded.{loaded, loadedWords}
-use Rattle.loader.specs.declared.table.Loaded.{Loaded}
 use Rattle.loader.specs.declared.table.Loaded.the-variants.{Dag, Refused}
 use Rattle.lines.specs.Input.{tableEnd, Accepted}
 

@@ -14,7 +14,7 @@ ghost use Rattle.lines.specs.Input.{Accepted};
 use crate::ending::tell_end;
 use crate::ending::tell_last;
 use crate::ending::tell_limit;
-use crate::told::tell;
+use crate::report::tell;
 use crate::turn::is_last;
 use crate::turn::is_limit;
 use crate::turn::is_over;

@@ -4,6 +4,6 @@ mod house;
 mod input;
 pub mod orcrun;
 mod refused;
+mod report;
 mod shown;
-mod told;
 mod turn;

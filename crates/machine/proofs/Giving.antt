@@ -2,9 +2,8 @@
 use mathlib.Core.Path.{_≡_, refl, sym, ap, subst, _∙_}
 use mathlib.Core.Bool.{Bool, true, false, not}
 use mathlib.Core.List.{List, []}
-use Prim.Native.Nat.{ℕ, _<_, _≤_}
+use Prim.Native.Nat.{ℕ, _≤_}
 use lib.ListN.{getD}
-use lib.Dec.{ltb}
 use lib.IntN.{ℤ}
 use Rattle.model.specs.Test.{_and_, same}
 use Rattle.model.specs.Job.Node.{Dag, dagHolds}
@@ -12,7 +11,7 @@ use Rattle.model.specs.Machine.Blank.{blankMachine}
 use Rattle.model.specs.Job.Words.{dagOf}
 use Rattle.model.specs.Machine.Answer as Answer
 use Rattle.model.specs.Machine.Limits.{paper}
-use Rattle.model.specs.Machine.Reply.{Effect, outcome, unless, refuses, isRefused, valuesBeside}
+use Rattle.model.specs.Machine.Reply.{Effect, outcome, unless, refuses, isRefused, reportValues}
 use Rattle.model.specs.Machine.Rules.{rulesHold}
 use Rattle.model.specs.Machine.Start as Start
 use Rattle.model.specs.Machine.Start.{startMachine}
@@ -26,13 +25,11 @@ use Rattle.model.specs.declared.reply.Report.{Report}
 use Rattle.model.proofs.Test.{clash, same-refl, le-not-ltb}
 use Rattle.model.proofs.Machine.Refused.{outcome-refused}
 use Rattle.record.specs.Decode.{machineOf}
-use Rattle.record.specs.Holds.{Codes, Holds}
 use Rattle.record.specs.Words.{wordsOf}
-use Rattle.record.proofs.Ruled.{rules-hold-words}
 use Rattle.coded.specs.Record.{isRecord}
 use Rattle.acts.specs.Acting.{Lawful, Gives, plain}
 use Rattle.acts.proofs.Outcomes.{gives-refused}
-use Rattle.machine.specs.Calls.{Given, Gave, after, ofRecord, startOn, stepOn, answerOn}
+use Rattle.machine.specs.Calls.{Gave, after, ofRecord, startOn, stepOn, answerOn}
 
 -- a test that is denied
 pub denied : (b : Bool) → not b ≡ true → b ≡ false
@@ -130,26 +127,26 @@ module _ (dag ws : List ℕ) where
 
 -- the start
 begun : (d : Dag) → true ≡ dagHolds d
-    → Start.start paper d ≡ record { reply = replies.Done; values = valuesBeside []; machine = startMachine paper (d .goal) }
+    → Start.start paper d ≡ record { reply = replies.Done; values = reportValues []; machine = startMachine paper (d .goal) }
 unfolding Start.start
 begun d e =
     ap
     (λ b.
     elim b as (λ _. Outcome) [
-      | true ↦ record { reply = replies.Done; values = valuesBeside []; machine = startMachine paper (d .goal) }
-      | false ↦ record { reply = replies.Refused refusals.Rule; values = valuesBeside []; machine = blankMachine paper }
+      | true ↦ record { reply = replies.Done; values = reportValues []; machine = startMachine paper (d .goal) }
+      | false ↦ record { reply = replies.Refused refusals.Rule; values = reportValues []; machine = blankMachine paper }
     ])
     (sym e)
 
 not-begun : (d : Dag) → false ≡ dagHolds d
-    → Start.start paper d ≡ record { reply = replies.Refused refusals.Rule; values = valuesBeside []; machine = blankMachine paper }
+    → Start.start paper d ≡ record { reply = replies.Refused refusals.Rule; values = reportValues []; machine = blankMachine paper }
 unfolding Start.start
 not-begun d e =
     ap
     (λ b.
     elim b as (λ _. Outcome) [
-      | true ↦ record { reply = replies.Done; values = valuesBeside []; machine = startMachine paper (d .goal) }
-      | false ↦ record { reply = replies.Refused refusals.Rule; values = valuesBeside []; machine = blankMachine paper }
+      | true ↦ record { reply = replies.Done; values = reportValues []; machine = startMachine paper (d .goal) }
+      | false ↦ record { reply = replies.Refused refusals.Rule; values = reportValues []; machine = blankMachine paper }
     ])
     (sym e)
 

@@ -1,10 +1,10 @@
 -- A whole call: the token that a step takes and the node at which it acts; how an answer ends; the words of a start. Assumes nothing.
-use mathlib.Core.Path.{_≡_, refl, sym, ap, ap₂, subst, _∙_}
+use mathlib.Core.Path.{_≡_, refl, sym, ap, subst, _∙_}
 use mathlib.Core.Bool.{Bool, true, false}
-use mathlib.Core.List.{List, [], _∷_}
-use Prim.Native.Nat.{ℕ, zero, suc, _+_, _*_, _<_, _≤_}
+use mathlib.Core.List.{List, []}
+use Prim.Native.Nat.{ℕ, _<_}
 use native.Mathlib.Omega.{arith}
-use lib.ListN.{length, getD, set, replicate}
+use lib.ListN.{length, getD, replicate}
 use lib.IntN.{ℤ}
 use Rattle.model.specs.Test.{padded}
 use Rattle.model.specs.Job.Words.{dagOf}
@@ -13,7 +13,7 @@ use Rattle.model.specs.Machine.Answer.{holder}
 use Rattle.model.specs.Machine.Blank.{blankToken, isPlace, tokenAt}
 use Rattle.model.specs.Machine.InUse.{tokensUsed, cellsUsed}
 use Rattle.model.specs.Machine.Limits.{paper}
-use Rattle.model.specs.Machine.Reply.{Effect, moves, accepted, outcome, unless, refuses}
+use Rattle.model.specs.Machine.Reply.{outcome, unless}
 use Rattle.model.specs.Machine.Start.{startToken, startMachine}
 use Rattle.model.specs.Machine.Step.{queueOf, waitsOf}
 use Rattle.model.specs.declared.record.Machine.{Machine}
@@ -27,12 +27,12 @@ use Rattle.model.proofs.Test.{clash}
 use Rattle.model.proofs.Keeps.Facts.{blank-at}
 use Rattle.model.proofs.Keeps.Carried.{Carried, answered-carried}
 use Rattle.record.specs.Words.{wordsOf}
-use Rattle.record.specs.Holds.{Codes, Holds}
+use Rattle.record.specs.Holds.{Holds}
 use Rattle.record.proofs.Shape.{binds-after, queue-fits}
 use Rattle.sites.specs.Answering.{answeredBy, Answered}
 use Rattle.sites.specs.Row.{rowOf}
 use Rattle.sites.proofs.Holders.{answered-moves, answered-refuses}
-use Rattle.acts.specs.Acting.{Lawful, Ready, Taking, Acting, Gives, Framed, plain}
+use Rattle.acts.specs.Acting.{Lawful, Ready, Taking, Acting, Gives, plain}
 use Rattle.acts.proofs.Outcomes.{gives-whole, gives-refused}
 
 -- the token that acts

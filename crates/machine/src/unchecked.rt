@@ -1,8 +1,7 @@
 // The calls on a record whose index rules hold: they are not tested again. The marks say what is in use, before a call and after it.
-ghost use mathlib.Core.Path.{_≡_};
 ghost use mathlib.Core.Bool.{Bool};
 ghost use mathlib.Core.List.{List};
-ghost use Prim.Native.Nat.{ℕ, _<_};
+ghost use Prim.Native.Nat.{ℕ};
 ghost use lib.ListN.{getD};
 ghost use Rattle.model.specs.Job.Words.{dagOf};
 ghost use Rattle.model.specs.Machine.Answer as Answer;
@@ -21,8 +20,8 @@ use acts::rebind::assign;
 use acts::rebind::remove;
 use acts::report::plain;
 use acts::return_value::return_value;
-use acts::site_call::site_call;
 use acts::where_split::where_split;
+use calls::site_call::site_call;
 use model::dag::ASSIGN;
 use model::dag::CALL;
 use model::dag::CHOKE;

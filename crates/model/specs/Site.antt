@@ -10,20 +10,20 @@ use Rattle.model.specs.Test.{_and_, _or_}
 use Rattle.model.specs.Number.{fits, equalZ}
 
 -- what a built-in site does with a call: it gives a value, or it is silent
-pub data Said : Type 0 where
-  gives : ℤ → Said
-  silent : Said
+pub data BuiltinReply : Type 0 where
+  gives : ℤ → BuiltinReply
+  silent : BuiltinReply
 
 pub record Builtin : Type 0 where
   pub count : ℕ
-  pub reply : List ℤ → Said
+  pub reply : List ℤ → BuiltinReply
 
 -- the parameter's value at an index
 abbrev pub at : List ℤ → ℕ → ℤ
 at vs i = getD vs i (pos 0)
 
 -- "gives 0 if .., else silent"
-unfoldable pub zeroIf : Bool → Said
+unfoldable pub zeroIf : Bool → BuiltinReply
 zeroIf true = gives (pos 0)
 zeroIf false = silent
 
@@ -36,7 +36,7 @@ truth true = pos 1
 truth false = pos 0
 
 -- "the sum, or is silent if it leaves signed 32 bits"
-unfoldable pub sum : ℤ → ℤ → Said
+unfoldable pub sum : ℤ → ℤ → BuiltinReply
 sum a b = let s = a +ℤ b in elim (fits s) [ true ↦ gives s | false ↦ silent ]
 
 -- "0 let (1), 1 ift (1), 2 iff (1), 3 signal (0), 4 add (2), 5 less (2), 6 equal (2)"
@@ -67,5 +67,5 @@ unfoldable pub siteTakes : ℕ → ℕ → Bool
 siteTakes s n = (isBuiltin s and eqb n (getD counts s 0)) or (isOutside s and leb n 4)
 
 -- what a built-in says to its parameters' values. (No other site is asked: `isBuiltin` is tested first.)
-unfoldable pub builtin : ℕ → List ℤ → Said
+unfoldable pub builtin : ℕ → List ℤ → BuiltinReply
 builtin s vs = getD builtins s (record { count = 0; reply = λ vs. silent }) .reply vs

@@ -1,7 +1,7 @@
 -- A cell's row: what its words say of the cell, and what writing them makes of it. Assumes nothing.
 use mathlib.Core.Path.{_≡_, refl, sym, ap, ap₂, subst, _∙_}
-use mathlib.Core.List.{List, [], _∷_, _++_}
-use Prim.Native.Nat.{ℕ, zero, suc, _+_, _-_, _*_, _<_, _≤_}
+use mathlib.Core.List.{List}
+use Prim.Native.Nat.{ℕ, _+_, _-_, _*_, _<_}
 use native.Mathlib.Omega.{arith}
 use lib.ListN.{length, getD, set, length-set}
 use lib.Seq.{getD-set-same, set-set, set-getD}
@@ -13,7 +13,7 @@ use Rattle.model.specs.declared.token.Place.{Place}
 use Rattle.model.specs.declared.cell.Cell.{Cell}
 use Rattle.model.specs.declared.record.Machine.{Machine}
 use Rattle.record.specs.Fields.{putCell, unsetCell, setCell}
-use Rattle.record.specs.Words.{rowOf, cellRow, rows, wordsOf, counts, parts, placeNumber, heldKind, heldNumber}
+use Rattle.record.specs.Words.{cellRow, wordsOf, counts, parts, placeNumber, heldKind, heldNumber}
 use Rattle.record.specs.Holds.{Codes, Holds}
 use Rattle.record.proofs.Parts as parts-laws
 use Rattle.record.proofs.Shape.{shaped, tables-hold}

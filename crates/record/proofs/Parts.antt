@@ -1,10 +1,10 @@
 -- The five parts of the words: what is read and written in one of them. Assumes nothing.
-use mathlib.Core.Path.{_≡_, refl, sym, ap, ap₂, subst, _∙_}
-use mathlib.Core.List.{List, [], _∷_, _++_, append-assoc}
-use Prim.Native.Nat.{ℕ, zero, suc, _+_, _-_, _*_, _<_, _≤_}
+use mathlib.Core.Path.{_≡_, refl, sym, ap, ap₂, _∙_}
+use mathlib.Core.List.{List, _++_, append-assoc}
+use Prim.Native.Nat.{ℕ, _+_, _-_, _*_, _<_}
 use native.Mathlib.Omega.{arith}
 use lib.ListN.{length, getD, set, take, drop, length-append, length-set, List·getD-append}
-use lib.Seq.{set-append-left, take-at, drop-at, take-append-seam, drop-append-seam, paste, take-append-le, drop-append-le}
+use lib.Seq.{set-append-left, take-at, drop-at, paste, take-append-le, drop-append-le}
 use Rattle.model.specs.Machine.Blank.{blankToken, blankCell}
 use Rattle.model.specs.declared.token.Token.{Token}
 use Rattle.model.specs.declared.cell.Cell.{Cell}

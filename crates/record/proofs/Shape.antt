@@ -1,20 +1,20 @@
 -- What makes words hold a record after a change: the words are those of the changed record, and its lengths and orders are as before. Assumes nothing.
-use mathlib.Core.Path.{_≡_, refl, sym, ap, ap₂, subst, _∙_}
-use mathlib.Core.List.{List, [], _∷_, _++_}
-use Prim.Native.Nat.{ℕ, zero, suc, _+_, _-_, _*_, _<_, _≤_}
+use mathlib.Core.Path.{_≡_, sym, ap, ap₂, _∙_}
+use mathlib.Core.List.{List, [], _∷_}
+use Prim.Native.Nat.{ℕ, _-_, _<_, _≤_}
 use native.Mathlib.Decide.{ℕ-discrete}
 use native.Mathlib.Omega.{arith}
-use lib.ListN.{length, getD, set, take, drop, replicate, length-append, length-set, length-replicate}
+use lib.ListN.{length, getD, set, replicate, length-append, length-replicate}
 use lib.Seq.{getD-set-same, getD-set-other}
 use Rattle.model.specs.Test.{padded}
 use Rattle.model.specs.Machine.Blank.{blankToken, tokenAt}
-use Rattle.model.specs.Machine.Step.{withTables, withCounts, withOrders, queueOf, waitsOf, put}
+use Rattle.model.specs.Machine.Step.{withTables, withCounts, withOrders, queueOf, waitsOf}
 use Rattle.model.specs.declared.token.Token.{Token}
 use Rattle.model.specs.declared.cell.Cell.{Cell}
 use Rattle.model.specs.declared.record.Machine.{Machine}
 use Rattle.model.proofs.Keeps.Orders.{Orders, queue-is, waits-are, orders-with, orders-tables, orders-counts}
 use Rattle.record.specs.Words.{counts, parts, wordsOf}
-use Rattle.record.specs.Holds.{Shaped, Codes, Ordered, Holds}
+use Rattle.record.specs.Holds.{Shaped, Ordered, Holds}
 
 pub padded-long : (xs : List ℕ) (n : ℕ) → length xs ≤ n → length (padded 0 n xs) ≡ n
 unfolding padded

@@ -1,7 +1,7 @@
 -- A token's row: what its words say of the token, and what writing one word or two of them makes of it. Assumes nothing.
 use mathlib.Core.Path.{_≡_, refl, sym, ap, ap₂, subst, _∙_}
-use mathlib.Core.List.{List, [], _∷_, _++_}
-use Prim.Native.Nat.{ℕ, zero, suc, _+_, _-_, _*_, _<_, _≤_}
+use mathlib.Core.List.{List, [], _∷_}
+use Prim.Native.Nat.{ℕ, zero, suc, _+_, _-_, _*_, _<_}
 use native.Mathlib.Omega.{arith}
 use lib.ListN.{length, getD, set, length-set}
 use lib.Seq.{paste, getD-set-same, set-set, set-getD}
@@ -15,7 +15,7 @@ use Rattle.model.specs.declared.token.State.{State}
 use Rattle.model.specs.declared.token.Token.{Token}
 use Rattle.model.specs.declared.record.Machine.{Machine}
 use Rattle.record.specs.Fields.{withCaller, withCell}
-use Rattle.record.specs.Words.{rowOf, cellRow, wordsOf, counts, parts, slotKind, slotNumber, stateKind, stateNumber, placeNumber, heldKind, heldNumber}
+use Rattle.record.specs.Words.{rowOf, wordsOf, counts, parts, slotKind, slotNumber, stateKind, stateNumber, placeNumber, heldKind, heldNumber}
 use Rattle.record.specs.Holds.{Codes, Holds}
 use Rattle.record.proofs.Parts as parts-laws
 use Rattle.record.proofs.Shape.{shaped, tables-hold, binds-after}

@@ -1,9 +1,7 @@
 // A cell's row: readers and writers of its fields.
 ghost use mathlib.Core.Path.{_≡_};
 ghost use Prim.Native.Nat.{_<_};
-ghost use lib.ListN.{set};
 ghost use Rattle.model.specs.Machine.Blank.{cellAt};
-ghost use Rattle.model.specs.Machine.Step.{withTables};
 ghost use Rattle.model.specs.declared.record.Machine.{Machine};
 ghost use Rattle.model.specs.declared.token.Held.{Held};
 ghost use Rattle.model.specs.declared.token.Place.{Place};

@@ -1,22 +1,14 @@
 -- Site calls: a built-in says the same to the first two of four values as to all of them, and what it said is read back. Assumes nothing.
-use mathlib.Core.Path.{_≡_, refl, sym, ap, ap₂, _∙_}
+use mathlib.Core.Path.{_≡_, refl, ap, ap₂, _∙_}
 use mathlib.Core.List.{List, [], _∷_, _++_}
 use Prim.Native.Nat.{ℕ, zero, suc, _-_, _<_}
-use native.Mathlib.Omega.{arith}
 use lib.ListN.{length, getD, replicate}
 use lib.IntN.{ℤ, pos}
 use Rattle.model.specs.Test.{padded}
-use Rattle.model.specs.Site.{Said, gives, silent, at, builtin}
-use Rattle.model.specs.Machine.Reply.{valuesBeside, waits, moves, calls}
-use Rattle.model.specs.Machine.Step.{withOrders, queueOf, waited, replied, goesOn, calledOut}
-use Rattle.model.specs.declared.token.Token.{Token}
-use Rattle.model.specs.declared.record.Machine.{Machine}
-use Rattle.record.specs.Fields.{taken}
-use Rattle.record.specs.Holds.{Holds}
-use Rattle.record.proofs.Names.{length-without}
-use Rattle.record.proofs.Shape.{queue-fits}
+use Rattle.model.specs.Site.{BuiltinReply, gives, silent, at, builtin}
+use Rattle.model.specs.Machine.Reply.{reportValues, calls}
 use Rattle.sites.specs.declared.site.SiteReply.{SiteReply}
-use Rattle.sites.specs.SiteReplies.{siteReplyOf, modelSaid}
+use Rattle.sites.specs.SiteReplies.{siteReplyOf, builtinReplyOf}
 use Rattle.sites.proofs.Sites.{says-to-two}
 
 -- what a built-in says to the first two of four values
@@ -30,7 +22,7 @@ at-append [] n i = at-replicate n i
 at-append (v ∷ vs) n zero = refl
 at-append (v ∷ vs) n (suc i) = at-append vs n i
 
-pub says-to-front : (s : ℕ) (vs xs : List ℤ) → s < 7 → xs ≡ valuesBeside vs → builtin s (at xs 0 ∷ at xs 1 ∷ []) ≡ builtin s vs
+pub says-to-front : (s : ℕ) (vs xs : List ℤ) → s < 7 → xs ≡ reportValues vs → builtin s (at xs 0 ∷ at xs 1 ∷ []) ≡ builtin s vs
 unfolding padded
 says-to-front s vs xs l e = ap₂ (λ x y. builtin s (x ∷ y ∷ [])) (same 0) (same 1) ∙ says-to-two s vs l
   where
@@ -38,6 +30,6 @@ says-to-front s vs xs l e = ap₂ (λ x y. builtin s (x ∷ y ∷ [])) (same 0) 
     same i = ap (λ ys. at ys i) e ∙ at-append vs (4 - length vs) i
 
 -- what a built-in said, there and back
-pub said-back : (x : SiteReply) (y : Said) → x ≡ siteReplyOf y → modelSaid x ≡ y
-said-back x (gives v) e = ap modelSaid e
-said-back x silent e = ap modelSaid e
+pub said-back : (x : SiteReply) (y : BuiltinReply) → x ≡ siteReplyOf y → builtinReplyOf x ≡ y
+said-back x (gives v) e = ap builtinReplyOf e
+said-back x silent e = ap builtinReplyOf e

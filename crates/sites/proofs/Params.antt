@@ -7,8 +7,6 @@ use native.Mathlib.Numerals.{add-one}
 use native.Mathlib.Omega.{arith}
 use lib.ListN.{length, getD, set, take, drop, length-drop, length-map}
 use lib.Seq.{take-suc, drop-cons, set-at, append-snoc, length-take-le, getD-take, getD-drop, take-all}
-use lib.Dec.{eqb, ltb}
-use lib.IntN.{ℤ}
 use Rattle.model.specs.Number as Number
 use Rattle.model.specs.Job.Syntax.{Param, variable, constant}
 use Rattle.model.specs.Job.Node.{paramHolds}

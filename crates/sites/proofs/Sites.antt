@@ -8,7 +8,7 @@ use lib.IntN.{ℤ, pos, _+ℤ_}
 use lib.Signed.{ltZ}
 use Rattle.model.specs.Number.{fits, equalZ}
 use Rattle.model.specs.Site as Site
-use Rattle.model.specs.Site.{Said, gives, silent, at, builtin, zeroIf, notZero, truth}
+use Rattle.model.specs.Site.{BuiltinReply, gives, silent, at, builtin, zeroIf, notZero, truth}
 
 pub sum-gives : (a b : ℤ) → fits (a +ℤ b) ≡ true → Site.sum a b ≡ gives (a +ℤ b)
 unfolding Site.sum
@@ -27,7 +27,7 @@ not-zero v = go (equalZ v (pos 0))
     go false = refl
 
 module _ (s : ℕ) (a b : ℤ) where
-  abbrev says : Said
+  abbrev says : BuiltinReply
   says = builtin s (a ∷ b ∷ [])
 
   pub says-let : s ≡ 0 → gives a ≡ says

@@ -7,8 +7,8 @@ use Rattle.model.specs.Test.{all}
 use Rattle.model.specs.Job.Syntax.{Param, variable, constant}
 use Rattle.model.specs.Machine.Blank.{tokenAt, cellAt, slotAt}
 use Rattle.model.specs.Machine.Rules.{slotInRange, heldInRange}
-use Rattle.model.specs.Machine.Reply.{valuesBeside}
-use Rattle.model.specs.Machine.Step.{Looked, values, unset, andThen}
+use Rattle.model.specs.Machine.Reply.{reportValues}
+use Rattle.model.specs.Machine.Step.{LookedUp, values, unset, andThen}
 use Rattle.model.specs.declared.token.Slot.{Slot}
 use Rattle.model.specs.declared.token.Slot.the-variants as slots
 use Rattle.model.specs.declared.token.Bind.{Bind}
@@ -34,15 +34,15 @@ paramFound cs bs (variable x) = foundOf cs (slotAt bs x)
 paramFound cs bs (constant v) = knowns.Value v
 
 -- what is found first, then the rest
-unfoldable pub after : Known → Looked → Looked
+unfoldable pub after : Known → LookedUp → LookedUp
 after (knowns.Value v) l = andThen v l
 after (knowns.Unset c) l = unset c
 after knowns.Nothing l = values []
 
 -- a look-up's result: a place beyond the cells where all values are there
-unfoldable pub lookUpOf : Looked → LookUp
-lookUpOf (values vs) = record { unset = 32; values = valuesBeside vs }
-lookUpOf (unset c) = record { unset = c; values = valuesBeside [] }
+unfoldable pub lookUpOf : LookedUp → LookUp
+lookUpOf (values vs) = record { unset = 32; values = reportValues vs }
+lookUpOf (unset c) = record { unset = c; values = reportValues [] }
 
 -- the token's variables and the cells have values and places in range
 pub record LookFacts (m : Machine) (p : ℕ) : Type 0 where

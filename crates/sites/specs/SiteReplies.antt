@@ -1,12 +1,12 @@
 -- What a built-in site says, as the code has it. Assumes nothing: these are definitions.
-use Rattle.model.specs.Site.{Said, gives, silent}
+use Rattle.model.specs.Site.{BuiltinReply, gives, silent}
 use Rattle.sites.specs.declared.site.SiteReply.{SiteReply}
 use Rattle.sites.specs.declared.site.SiteReply.the-variants as replies
 
-abbrev pub siteReplyOf : Said → SiteReply
+abbrev pub siteReplyOf : BuiltinReply → SiteReply
 siteReplyOf (gives v) = replies.Gives v
 siteReplyOf silent = replies.Silent
 
-abbrev pub modelSaid : SiteReply → Said
-modelSaid (replies.Gives v) = gives v
-modelSaid replies.Silent = silent
+abbrev pub builtinReplyOf : SiteReply → BuiltinReply
+builtinReplyOf (replies.Gives v) = gives v
+builtinReplyOf replies.Silent = silent

@@ -1,14 +1,13 @@
 -- What a few writes, one behind the other, make of a record: the tokens that they name, and the length of the queue. Assumes nothing.
-use mathlib.Core.Path.{_≡_, refl, sym, ap, ap₂, subst, _∙_}
-use mathlib.Core.List.{List, [], _∷_, _++_}
-use Prim.Native.Nat.{ℕ, zero, suc, _+_, _-_, _*_, _<_, _≤_}
+use mathlib.Core.Path.{_≡_, sym, ap, subst, _∙_}
+use mathlib.Core.List.{List, [], _∷_}
+use Prim.Native.Nat.{ℕ, suc, _+_, _-_, _<_}
 use native.Mathlib.Numerals.{add-one}
 use native.Mathlib.Omega.{arith}
-use lib.ListN.{length, getD, set, take, length-append, length-set}
+use lib.ListN.{length, length-append, length-set}
 use lib.Seq.{set-comm}
-use Rattle.model.specs.Test.{without}
-use Rattle.model.specs.Machine.Blank.{blankToken, tokenAt}
-use Rattle.model.specs.Machine.Step.{put, withNode, withBinding, withTables, withCounts, withOrders, queueOf, waitsOf, enqueue, newToken}
+use Rattle.model.specs.Machine.Blank.{tokenAt}
+use Rattle.model.specs.Machine.Step.{put, withBinding, withTables, withCounts, withOrders, queueOf, enqueue}
 use Rattle.model.specs.declared.token.Token.{Token}
 use Rattle.model.specs.declared.record.Machine.{Machine}
 use Rattle.model.proofs.Sees.Others.{token-same, token-other}

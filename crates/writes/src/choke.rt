@@ -16,7 +16,6 @@ ghost use Rattle.record.specs.Holds.{Codes, Holds};
 ghost use Rattle.record.specs.Retaining.{markedOf};
 ghost use Rattle.record.specs.Words.{stateKind, placeNumber, heldKind, heldNumber};
 ghost use Rattle.writes.specs.Choking.{rowsChoked, reordered, ChokeFacts};
-use model::dag::WORDS;
 use model::record::Machine;
 use record::cell;
 use record::layout::READY_STATE;

@@ -5,7 +5,6 @@ ghost use Rattle.record.specs.Fields.{taken};
 ghost use Rattle.record.specs.Holds.{Holds};
 ghost use Rattle.model.specs.Machine.Blank.{blankToken};
 ghost use Rattle.model.specs.Machine.Step.{put};
-use model::dag::WORDS;
 use model::record::Machine;
 use record::order::leave;
 use record::token::blank;

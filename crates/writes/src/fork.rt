@@ -5,7 +5,6 @@ ghost use Rattle.model.specs.declared.record.Machine.{Machine};
 ghost use Rattle.record.specs.Fields.{taken};
 ghost use Rattle.record.specs.Holds.{Holds};
 ghost use Rattle.model.specs.Machine.Step.{withNode, put, enqueue, newToken};
-use model::dag::WORDS;
 use model::record::Machine;
 use record::count::set_last_token;
 use record::order::join;

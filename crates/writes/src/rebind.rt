@@ -8,7 +8,6 @@ ghost use Rattle.record.specs.Holds.{Holds};
 ghost use Rattle.model.specs.Machine.Step.{withNode, withBinding, put, enqueue};
 ghost use Rattle.model.specs.declared.token.Slot.{Slot};
 ghost use Rattle.record.specs.Words.{slotKind, slotNumber};
-use model::dag::WORDS;
 use model::record::Machine;
 use record::order::join;
 use record::order::leave;

@@ -6,7 +6,6 @@ ghost use Rattle.record.specs.Fields.{taken};
 ghost use Rattle.record.specs.Holds.{Holds};
 ghost use Rattle.model.specs.Machine.Step.{withState, withValue, put, enqueue};
 ghost use Rattle.model.specs.declared.token.State.the-variants as states;
-use model::dag::WORDS;
 use model::record::Machine;
 use record::layout::READY_STATE;
 use record::order::join;

@@ -10,7 +10,6 @@ ghost use Rattle.model.specs.declared.token.State.the-variants as states;
 ghost use Rattle.record.specs.Fields.{taken, delayed};
 ghost use Rattle.record.specs.Holds.{Holds};
 ghost use Rattle.record.specs.Words.{heldKind, heldNumber};
-use model::dag::WORDS;
 use model::record::Machine;
 use record::count::set_calls;
 use record::layout::CALLED_STATE;

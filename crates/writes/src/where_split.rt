@@ -8,7 +8,6 @@ ghost use Rattle.record.specs.Holds.{Holds};
 ghost use Rattle.model.specs.Machine.Step.{withNode, withBinding, inCell, put, enqueue, newToken, newCell};
 ghost use Rattle.model.specs.declared.token.Slot.the-variants as slots;
 ghost use Rattle.record.specs.Fields.{unsetCell};
-use model::dag::WORDS;
 use model::record::Machine;
 use record::cell::put_unset;
 use record::count::set_last_cell;

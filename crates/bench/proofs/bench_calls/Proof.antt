@@ -3,10 +3,6 @@ use Prim.Native.Nat.{_-_, _≤_}
 use borrow.Author.Needs.{needs}
 use Rattle.bench.proofs.bench_calls.Statement.{statement}
 use Rattle.bench.proofs.bench_calls.Tie as tie
-use Rattle.bench.proofs.bench_calls.Reads as reads
-use Rattle.bench.proofs.bench_calls.Lts as lts
-use Rattle.bench.proofs.calls.Reads as calls-reads
-use Rattle.loader.proofs.table.load.Reads as load-reads
 
 abbrev Inv-loop : tie.InvT-loop
 Inv-loop table handles most rounds dag words₀ made₀ i₀ words made i = i ≤ rounds

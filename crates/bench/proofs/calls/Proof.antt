@@ -3,12 +3,6 @@ use Prim.Native.Nat.{_-_, _≤_}
 use borrow.Author.Needs.{needs}
 use Rattle.bench.proofs.calls.Statement.{statement}
 use Rattle.bench.proofs.calls.Tie as tie
-use Rattle.bench.proofs.calls.Reads as reads
-use Rattle.bench.proofs.calls.Lts as lts
-use Rattle.machine.proofs.answer.answer.Reads as answer-reads
-use Rattle.machine.proofs.start.start.Reads as start-reads
-use Rattle.machine.proofs.step.step.Reads as step-reads
-use Rattle.record.proofs.order.queued.Reads as queued-reads
 
 abbrev Inv-loop : tie.InvT-loop
 Inv-loop words₀ dag handles most at₀ n₀ words at n = n ≤ most

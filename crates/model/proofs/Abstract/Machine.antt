@@ -10,7 +10,7 @@ use lib.Dec.{eqb}
 use lib.IntN.{ℤ, pos}
 use Rattle.model.specs.Test.{any, filter}
 use Rattle.model.specs.Number.{Signed32}
-use Rattle.model.specs.Site.{Said, gives, silent, isBuiltin, builtin}
+use Rattle.model.specs.Site.{BuiltinReply, gives, silent, isBuiltin, builtin}
 use Rattle.model.specs.Calculus.Event.{Event, Label, silently, showing}
 use Rattle.model.specs.Calculus.Expression.{Param, Exp}
 use Rattle.model.specs.Calculus.Allowed.{nextHandle, shown}
@@ -119,7 +119,7 @@ abbrev pub returns : List Frame → ℤ → Effect
 returns [] v = ends
 returns (frame k B U ∷ F) v = goesOn (at k B F U) v
 
-abbrev pub replies : Said → Place → Effect
+abbrev pub replies : BuiltinReply → Place → Effect
 replies (gives v) K = goesOn K v
 replies silent K = ends
 

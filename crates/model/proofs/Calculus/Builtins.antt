@@ -4,15 +4,15 @@ use mathlib.Core.List.{List, [], _∷_}
 use Prim.Native.Nat.{ℕ}
 use lib.IntN.{ℤ, pos, negsuc}
 use Rattle.model.specs.Test.{All, none, more}
-use Rattle.model.specs.Site.{Said, gives, silent, builtin}
+use Rattle.model.specs.Site.{BuiltinReply, gives, silent, builtin}
 use Rattle.model.proofs.Calculus.Computing.{rewritten}
 
 pub record Row : Type 0 where
   pub site : ℕ
   pub values : List ℤ
-  pub says : Said
+  pub says : BuiltinReply
 
-abbrev pub row : ℕ → List ℤ → Said → Row
+abbrev pub row : ℕ → List ℤ → BuiltinReply → Row
 row s vs r = record { site = s; values = vs; says = r }
 
 -- `negsuc n` is -1 - n

@@ -9,7 +9,7 @@ use Prim.Native.Nat.{ℕ}
 use lib.IntN.{ℤ}
 use Rattle.model.specs.Test.{_and_}
 use Rattle.model.specs.Number.{fits}
-use Rattle.model.specs.Site.{Said, gives, silent, isBuiltin, isOutside, builtin}
+use Rattle.model.specs.Site.{BuiltinReply, gives, silent, isBuiltin, isOutside, builtin}
 use Rattle.model.specs.Calculus.Event.{Event, publish, answer, Label, silently, showing}
 use Rattle.model.specs.Calculus.Expression.{Param, Exp, stop, site, call, par, seq, prune, pending, hand, subst, one, formals}
 use Rattle.model.specs.Calculus.Rewriting.{Passes, silence, calling, answering, valuesOf, Rewrites}
@@ -44,7 +44,7 @@ abbrev pub Tests : Type 0
 Tests = Label → Exp → Bool
 
 -- the two ways a built-in call goes on
-unfoldable pub afterSaid : Said → (Exp → Bool) → Bool
+unfoldable pub afterSaid : BuiltinReply → (Exp → Bool) → Bool
 afterSaid (gives v) p = p (hand v)
 afterSaid silent p = p stop
 
@@ -86,7 +86,7 @@ module _ (body : ℕ → Exp) (h : ℕ) where
   every w (pending k) p = fits w implies p (showing (answer k w)) (hand w)
   every w (hand v) p = p (showing (publish v)) stop
 
-  site-builtin : (s : ℕ) (vs : List ℤ) (p : Tests) (r : Said)
+  site-builtin : (s : ℕ) (vs : List ℤ) (p : Tests) (r : BuiltinReply)
       → isBuiltin s ≡ true → builtin s vs ≡ r → everyOfSite s (some vs) p ≡ true → afterSaid r (p silently) ≡ true
   unfolding everyOfSite
   site-builtin s vs p r b e t = along (λ x. afterSaid x (p silently) ≡ true) e (under _ _ b (and-left _ _ t))
@@ -123,7 +123,7 @@ module _ (body : ℕ → Exp) (h : ℕ) where
     pub fails : p label left ≡ false
 
   -- a built-in call that fails a test
-  said-failing : (s : ℕ) (ps : List Param) (vs : List ℤ) (p : Tests) (r : Said)
+  said-failing : (s : ℕ) (ps : List Param) (vs : List ℤ) (p : Tests) (r : BuiltinReply)
       → valuesOf ps ≡ some vs → isBuiltin s ≡ true → builtin s vs ≡ r → afterSaid r (p silently) ≡ false → Failing (site s ps) p
   unfolding afterSaid
   said-failing s ps vs p (gives v) e b q t = record { label = silently; left = hand v; move = builtin-gives e b q; fails = t }

@@ -11,7 +11,7 @@ use Rattle.model.specs.Job.Node.{Dag, dagHolds}
 use Rattle.model.specs.Job.Construct.{construct}
 use Rattle.model.specs.Job.Words.{arrayWords, dagOf, written}
 use Rattle.model.specs.Machine.Limits.{Limits}
-use Rattle.model.specs.Machine.Reply.{valuesBeside}
+use Rattle.model.specs.Machine.Reply.{reportValues}
 use Rattle.model.specs.Machine.Start.{start, startMachine}
 use Rattle.model.specs.declared.reply.Outcome.{Outcome}
 use Rattle.model.specs.declared.reply.Reply.the-variants as replies
@@ -19,7 +19,7 @@ use Rattle.model.proofs.Job.Kept.{construct-kept}
 use Rattle.model.proofs.Job.Decode.{decode-written}
 
 abbrev pub begun : Limits → ℕ → Outcome
-begun lim goal = record { reply = replies.Done; values = valuesBeside []; machine = startMachine lim goal }
+begun lim goal = record { reply = replies.Done; values = reportValues []; machine = startMachine lim goal }
 
 pub start-kept : (lim : Limits) (d : Dag) → dagHolds d ≡ true → start lim d ≡ begun lim (d .goal)
 unfolding start

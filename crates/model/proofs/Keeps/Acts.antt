@@ -10,7 +10,7 @@ use lib.Dec.{ltb, eqb}
 use lib.IntN.{ℤ}
 use Rattle.model.specs.Test.{all, All, filter}
 use Rattle.model.specs.Number.{Signed32}
-use Rattle.model.specs.Site.{Said, isBuiltin, builtin}
+use Rattle.model.specs.Site.{BuiltinReply, isBuiltin, builtin}
 use Rattle.model.specs.Job.Syntax.{Param}
 use Rattle.model.specs.Job.Node.{Node, Dag, nodeAt, bodyAt, paramHolds, paramsHold, isNode, nodeHolds, bodyHolds, dagHolds}
 use Rattle.model.specs.Machine.Limits.{Limits}
@@ -19,7 +19,7 @@ use Rattle.model.specs.Machine.Active.{upward, within, isLive}
 use Rattle.model.specs.Machine.Rules.{isReady, isWaiting, heldInRange}
 use Rattle.model.specs.Machine.Reply.{Effect, unless}
 use Rattle.model.specs.Machine.Step as Step
-use Rattle.model.specs.Machine.Step.{Looked, values, unset, look, hasTokenPlace, hasCellPlace, tokenPlace}
+use Rattle.model.specs.Machine.Step.{LookedUp, values, unset, look, hasTokenPlace, hasCellPlace, tokenPlace}
 use Rattle.model.specs.Machine.Step.{cellPlace, withOrders, queueOf, waitsOf, chokeToken, act}
 use Rattle.model.specs.declared.token.Slot.the-variants as slots
 use Rattle.model.specs.declared.token.Held.the-variants as helds
@@ -285,7 +285,7 @@ module _ (lim : Limits) (d : Dag) (m : Machine) (F : Facts lim d m) (some : 0 < 
       u : Token
       u = Step.withState (states.Waiting c) acting
 
-  replied : (k : ℕ) → k < length (d .nodes) → {s : Said} → SaidFits s → Keeps (Step.replied at p acting k s)
+  replied : (k : ℕ) → k < length (d .nodes) → {s : BuiltinReply} → SaidFits s → Keeps (Step.replied at p acting k s)
   unfolding After Step.replied Step.withNode Step.withValue heldInRange
   replied k l (said e) = goes-on _ (going l e (was .binds) (ready-idle (taken-ready T))) (taken-ready T)
   replied k l nothing = ended
@@ -331,7 +331,7 @@ module _ (lim : Limits) (d : Dag) (m : Machine) (F : Facts lim d m) (some : 0 < 
     called vs a true = replied k next (builtin-fits s a)
     called vs a false = after-unless (Facts lim d) _ _ _ (λ e. calledOut s vs k (ltb-lt _ _ e) next)
 
-    callSite : (l : Looked) → look (m .cells) (acting .binds) ps ≡ l → LookedFits l → Keeps (Step.callSite lim d at p acting s k l)
+    callSite : (l : LookedUp) → look (m .cells) (acting .binds) ps ≡ l → LookedFits l → Keeps (Step.callSite lim d at p acting s k l)
     unfolding Step.callSite
     callSite (unset c) e f =
         let x = look-unset (m .cells) (acting .binds) ps c e in
@@ -358,8 +358,8 @@ module _ (lim : Limits) (d : Dag) (m : Machine) (F : Facts lim d m) (some : 0 < 
   returned (places.At f) =
       let fr = F .tables .tokens f in goes-on _ (going (fr .node) (was .value) (fr .binds) Idle.ready) refl
 
-  chokes : (c : Place) → acting .cell ≡ c → ((b : ℕ) → c ≡ places.At b → b < length (m .cells)) → Keeps (Step.chokes at p acting c)
-  unfolding After Step.chokes Step.choked Step.withTables withOrders
+  chokes : (c : Place) → acting .cell ≡ c → ((b : ℕ) → c ≡ places.At b → b < length (m .cells)) → Keeps (Step.chokeAt at p acting c)
+  unfolding After Step.chokeAt Step.choked Step.withTables withOrders
   chokes places.Nowhere e i = tt
   chokes (places.At c) e i =
       record {

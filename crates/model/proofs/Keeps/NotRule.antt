@@ -8,14 +8,14 @@ use native.Mathlib.Omega.{arith}
 use lib.ListN.{getD}
 use lib.Dec.{ltb}
 use lib.IntN.{ℤ}
-use Rattle.model.specs.Site.{Said, gives, silent, isBuiltin, builtin}
+use Rattle.model.specs.Site.{BuiltinReply, gives, silent, isBuiltin, builtin}
 use Rattle.model.specs.Job.Node.{Node, Dag, nodeAt, nodeHolds}
 use Rattle.model.specs.Machine.Limits.{Limits}
 use Rattle.model.specs.Machine.Blank.{blankToken, tokenAt, isPlace, isBlankState}
 use Rattle.model.specs.Machine.Rules.{isReady, namesFrame, nodeRule, atNode, rulesHold}
 use Rattle.model.specs.Machine.Reply.{Effect, moves, waits, publishes, calls, refuses, unless, accepted, outcome}
 use Rattle.model.specs.Machine.Step as Step
-use Rattle.model.specs.Machine.Step.{Looked, values, unset, act, takes}
+use Rattle.model.specs.Machine.Step.{LookedUp, values, unset, act, takes}
 use Rattle.model.specs.Machine.Answer as Answer
 use Rattle.model.specs.Machine.Answer.{holder, answered}
 use Rattle.model.specs.Run.Call.{Call, step, answer, runner, outcomeOf}
@@ -72,12 +72,12 @@ not-open e = let z : _≡_ {A = ℕ} 0 1 = cc in omega arith
 
 -- instructions
 module _ (lim : Limits) (d : Dag) (before m : Machine) (p : ℕ) (t : Token) where
-  replied-not : (k : ℕ) (s : Said) → NotRule (Step.replied m p t k s)
+  replied-not : (k : ℕ) (s : BuiltinReply) → NotRule (Step.replied m p t k s)
   unfolding NotRule Step.replied Step.goesOn
   replied-not k (gives v) = tt
   replied-not k silent = tt
 
-  site-not : (s k : ℕ) (l : Looked) → NotRule (Step.callSite lim d m p t s k l)
+  site-not : (s k : ℕ) (l : LookedUp) → NotRule (Step.callSite lim d m p t s k l)
   unfolding NotRule Step.callSite Step.waited Step.calledOut
   site-not s k (unset c) = tt
   site-not s k (values vs) = go (isBuiltin s)
@@ -96,8 +96,8 @@ module _ (lim : Limits) (d : Dag) (before m : Machine) (p : ℕ) (t : Token) whe
   return-not ts places.Nowhere e = clash e refl
   return-not ts (places.At f) e = tt
 
-  choke-not : (c : Place) → isPlace c ≡ true → NotRule (Step.chokes m p t c)
-  unfolding NotRule isPlace Step.chokes
+  choke-not : (c : Place) → isPlace c ≡ true → NotRule (Step.chokeAt m p t c)
+  unfolding NotRule isPlace Step.chokeAt
   choke-not places.Nowhere e = clash e refl
   choke-not (places.At c) e = tt
 

@@ -7,12 +7,12 @@ use Prim.Native.Nat.{ℕ, zero, suc}
 use lib.IntN.{ℤ, pos, _+ℤ_}
 use Rattle.model.specs.Test.{all, All, none, more}
 use Rattle.model.specs.Number.{fits, Signed32}
-use Rattle.model.specs.Site.{Said, gives, silent, at, zeroIf, truth, sum, builtin}
+use Rattle.model.specs.Site.{BuiltinReply, gives, silent, at, zeroIf, truth, sum, builtin}
 use Rattle.model.specs.Job.Syntax.{Param, variable, constant}
 use Rattle.model.specs.Job.Node.{paramHolds}
 use Rattle.model.specs.Machine.Blank.{cellAt, slotAt}
 use Rattle.model.specs.Machine.Rules.{heldInRange}
-use Rattle.model.specs.Machine.Step.{Looked, values, unset, andThen, look, valueOf}
+use Rattle.model.specs.Machine.Step.{LookedUp, values, unset, andThen, look, valueOf}
 use Rattle.model.specs.declared.token.Slot.{Slot}
 use Rattle.model.specs.declared.token.Slot.the-variants as slots
 use Rattle.model.specs.declared.token.Bind.{Bind}
@@ -31,11 +31,11 @@ held-fits helds.Nothing e = zero-fits
 held-fits (helds.Value v) e = e
 
 -- what is looked up
-pub data LookedFits : Looked → Type 0 where
+pub data LookedFits : LookedUp → Type 0 where
   found : {vs : List ℤ} → All Signed32 vs → LookedFits (values vs)
   waiting : {c : ℕ} → LookedFits (unset c)
 
-then-fits : (v : ℤ) {l : Looked} → Signed32 v → LookedFits l → LookedFits (andThen v l)
+then-fits : (v : ℤ) {l : LookedUp} → Signed32 v → LookedFits l → LookedFits (andThen v l)
 unfolding andThen
 then-fits v e (found a) = found (more e a)
 then-fits v e waiting = waiting
@@ -43,13 +43,13 @@ then-fits v e waiting = waiting
 module _ (cs : List Cell) (bs : List Bind)
     (bound : (x : ℕ) (v : ℤ) → slotAt bs x ≡ slots.Value v → Signed32 v)
     (cells : (c : ℕ) → heldInRange (cellAt cs c .value) ≡ true) where
-  cell-fits : (c : ℕ) (w : Held) → cellAt cs c .value ≡ w → (l : Looked) → LookedFits l
+  cell-fits : (c : ℕ) (w : Held) → cellAt cs c .value ≡ w → (l : LookedUp) → LookedFits l
       → LookedFits (elim w [ helds.Nothing ↦ unset c | helds.Value v ↦ andThen v l ])
   unfolding heldInRange
   cell-fits c helds.Nothing e l f = waiting
   cell-fits c (helds.Value v) e l f = then-fits v (ap heldInRange (sym e) ∙ cells c) f
 
-  slot-fits : (x : ℕ) (s : Slot) → slotAt bs x ≡ s → (l : Looked) → LookedFits l
+  slot-fits : (x : ℕ) (s : Slot) → slotAt bs x ≡ s → (l : LookedUp) → LookedFits l
       → LookedFits
       (elim s [
         | slots.Empty ↦ values []
@@ -67,7 +67,7 @@ module _ (cs : List Cell) (bs : List Bind)
   look-fits (variable x ∷ ps) e = slot-fits x (slotAt bs x) refl (look cs bs ps) (look-fits ps (all-tail paramHolds _ ps e))
 
 -- what a built-in replies
-pub data SaidFits : Said → Type 0 where
+pub data SaidFits : BuiltinReply → Type 0 where
   said : {v : ℤ} → Signed32 v → SaidFits (gives v)
   nothing : SaidFits silent
 

@@ -6,7 +6,7 @@ use mathlib.Core.List.{List}
 use Prim.Native.Nat.{ℕ}
 use lib.Dec.{ltb}
 use lib.IntN.{ℤ}
-use Rattle.model.specs.Site.{Said, gives, silent, isBuiltin, builtin}
+use Rattle.model.specs.Site.{BuiltinReply, gives, silent, isBuiltin, builtin}
 use Rattle.model.specs.Job.Syntax.{Param}
 use Rattle.model.specs.Job.Node.{Node, Dag}
 use Rattle.model.specs.Machine.Limits.{Limits}
@@ -14,7 +14,7 @@ use Rattle.model.specs.Machine.Blank.{blankToken, tokenAt}
 use Rattle.model.specs.Machine.InUse.{sweep}
 use Rattle.model.specs.Machine.Reply.{Effect, unless}
 use Rattle.model.specs.Machine.Step as Step
-use Rattle.model.specs.Machine.Step.{Looked, values, unset, hasTokenPlace, hasCellPlace, withOrders, chokeToken, act}
+use Rattle.model.specs.Machine.Step.{LookedUp, values, unset, hasTokenPlace, hasCellPlace, withOrders, chokeToken, act}
 use Rattle.model.specs.declared.token.Place.{Place}
 use Rattle.model.specs.declared.token.Place.the-variants as places
 use Rattle.model.specs.declared.token.State.the-variants as states
@@ -78,7 +78,7 @@ module _
     waited c =
         none-new lim d m old _ (write-inside lim d m rules p inUse (Step.withState (states.Waiting c) acting) (fits-same refl refl refl acts))
 
-    replied : (next : ℕ) (s : Said) → Kept (Step.replied at p acting next s)
+    replied : (next : ℕ) (s : BuiltinReply) → Kept (Step.replied at p acting next s)
     unfolding After Step.replied Step.withNode Step.withValue
     replied next (gives v) = goes-on _ (fits-same refl refl refl acts)
     replied next silent = ended
@@ -87,7 +87,7 @@ module _
     unfolding After Step.calledOut Step.put Step.withTables withOrders Step.withCounts Step.withNode Step.withState
     calledOut s vs next = none-new lim d m old _ (write-inside lim d m rules p inUse _ (fits-same refl refl refl acts))
 
-    callSite : (s next : ℕ) (l : Looked) → Kept (Step.callSite lim d at p acting s next l)
+    callSite : (s next : ℕ) (l : LookedUp) → Kept (Step.callSite lim d at p acting s next l)
     unfolding Step.callSite
     callSite s next (unset c) = waited c
     callSite s next (values vs) = go (isBuiltin s)
@@ -107,8 +107,8 @@ module _
     returned places.Nowhere n = tt
     returned (places.At f) n = goes-on _ (fits-same refl refl refl (used-fits m f (n f refl)))
 
-    chokes : (c : Place) → Names (UsedCell m) c → Kept (Step.chokes at p acting c)
-    unfolding After Step.chokes Step.choked Step.withTables withOrders
+    chokes : (c : Place) → Names (UsedCell m) c → Kept (Step.chokeAt at p acting c)
+    unfolding After Step.chokeAt Step.choked Step.withTables withOrders
     chokes places.Nowhere n = tt
     chokes (places.At c) n =
         none-new lim d m old _

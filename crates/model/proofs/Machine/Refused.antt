@@ -13,7 +13,7 @@ use Rattle.model.specs.Machine.Limits.{Limits}
 use Rattle.model.specs.Machine.Blank.{blankMachine}
 use Rattle.model.specs.Machine.InUse.{sweep}
 use Rattle.model.specs.Machine.Rules.{rulesHold}
-use Rattle.model.specs.Machine.Reply.{Effect, moves, waits, publishes, calls, refuses, accepted, outcome, unless, valuesBeside, isRefused}
+use Rattle.model.specs.Machine.Reply.{Effect, moves, waits, publishes, calls, refuses, accepted, outcome, unless, reportValues, isRefused}
 use Rattle.model.specs.Machine.Start.{start, startMachine}
 use Rattle.model.specs.Machine.Step.{step, takes}
 use Rattle.model.specs.Machine.Answer.{answer, answered, holder}
@@ -93,10 +93,10 @@ answer-refused lim d m h v r e = outcome-refused m _ (refused-is _ r e)
 
 -- the two outcomes of a start
 abbrev pub begun : Limits → Dag → Outcome
-begun lim d = record { reply = replies.Done; values = valuesBeside []; machine = startMachine lim (d .goal) }
+begun lim d = record { reply = replies.Done; values = reportValues []; machine = startMachine lim (d .goal) }
 
 abbrev pub notBegun : Limits → Outcome
-notBegun lim = record { reply = replies.Refused refusals.Rule; values = valuesBeside []; machine = blankMachine lim }
+notBegun lim = record { reply = replies.Refused refusals.Rule; values = reportValues []; machine = blankMachine lim }
 
 abbrev pub StartCases : Limits → Dag → Outcome → Type 0
 StartCases lim d o = ((dagHolds d ≡ true) × (o ≡ begun lim d)) ⊎ ((dagHolds d ≡ false) × (o ≡ notBegun lim))

@@ -7,7 +7,7 @@ use mathlib.Core.List.{List, [], map, List·Memᴰ·head, List·Memᴰ·not-nil}
 use mathlib.Core.Option.{Option, some, none}
 use Prim.Native.Nat.{ℕ}
 use lib.IntN.{ℤ}
-use Rattle.model.specs.Site.{Said, gives, silent, isBuiltin, isOutside, builtin}
+use Rattle.model.specs.Site.{BuiltinReply, gives, silent, isBuiltin, isOutside, builtin}
 use Rattle.model.specs.Calculus.Expression.{Param, Exp, Substitution, lift, substParam, subst}
 use Rattle.model.specs.Calculus.Rewriting.{valuesOf, silence, answering, Rewrites}
 use Rattle.model.proofs.Abstract.Shuffle.{Split, first, later, pair, split-none, gap-alone, found, either-side}
@@ -30,7 +30,7 @@ module _ (G : Program) (σ : Store) (new h : ℕ) where
       Goal : Type 0
       Goal = Moves G σ new h Γ (subst ρ (Exp.site s ps)) K [] [] C (running (at n B F U) w) acts
 
-      ask : (vs : List ℤ) (x : Said) → valuesOf (map (substParam ρ) ps) ≡ some vs → isBuiltin s ≡ true → builtin s vs ≡ x → Goal
+      ask : (vs : List ℤ) (x : BuiltinReply) → valuesOf (map (substParam ρ) ps) ≡ some vs → isBuiltin s ≡ true → builtin s vs ≡ x → Goal
       ask vs (gives v) p b q = moves (site-outcome G σ new h w env l u e (Rewrites.builtin-gives p b q))
       ask vs silent p b q = moves (site-outcome G σ new h w env l u e (Rewrites.builtin-silent p b q))
 

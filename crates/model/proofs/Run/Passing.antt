@@ -11,7 +11,7 @@ use lib.Seq.{getD-take}
 use lib.Dec.{ltb}
 use lib.IntN.{ℤ}
 use Rattle.model.specs.Test.{filter, without}
-use Rattle.model.specs.Site.{Said, gives, silent, isBuiltin, builtin}
+use Rattle.model.specs.Site.{BuiltinReply, gives, silent, isBuiltin, builtin}
 use Rattle.model.specs.Job.Syntax.{Param}
 use Rattle.model.specs.Job.Node.{Node, Dag, nodeAt}
 use Rattle.model.specs.Machine.Limits.{Limits}
@@ -21,7 +21,7 @@ use Rattle.model.specs.Machine.InUse.{tokensUsed, marked}
 use Rattle.model.specs.Machine.Places.{nextPlace}
 use Rattle.model.specs.Machine.Rules.{rulesHold}
 use Rattle.model.specs.Machine.Reply.{Effect, calls, unless, isRefused}
-use Rattle.model.specs.Machine.Step.{withNode, withBinding, inCell, withTables, withOrders, withCounts, queueOf, waitsOf, put, newToken, Looked, values, unset, ended, goesOn, forked, split, entered, waited, replied, calledOut, returned, chokes, callSite, hasTokenPlace, act, takes, step}
+use Rattle.model.specs.Machine.Step.{withNode, withBinding, inCell, withTables, withOrders, withCounts, queueOf, waitsOf, put, newToken, LookedUp, values, unset, ended, goesOn, forked, split, entered, waited, replied, calledOut, returned, chokeAt, callSite, hasTokenPlace, act, takes, step}
 use Rattle.model.specs.Run.Follow.{queuedToken, cellSet, endsToken, frontEnds, survivors, stays, fate, Stands}
 use Rattle.model.specs.declared.token.Slot.the-variants as slots
 use Rattle.model.specs.declared.token.Place.{Place}
@@ -150,7 +150,7 @@ module _ (lim : Limits) (d : Dag) (m : Machine) (h : QueueKept m) (k : ℕ) (l :
   unfolding waited queueOf put withTables After
   after-waited c = untouched-waits (waitsOf taken ++ (front ∷ [])) _ (untouched-put front _ taken apart base)
 
-  after-replied : (next : ℕ) (s : Said) → Leaves (replied taken front actor next s)
+  after-replied : (next : ℕ) (s : BuiltinReply) → Leaves (replied taken front actor next s)
   unfolding replied After
   after-replied next (gives v) = after-going _
   after-replied next silent = after-ended
@@ -159,7 +159,7 @@ module _ (lim : Limits) (d : Dag) (m : Machine) (h : QueueKept m) (k : ℕ) (l :
   unfolding calledOut After
   after-called s vs next = untouched-counts _ _ _ _ (untouched-put front _ taken apart base)
 
-  after-site : (s next : ℕ) (v : Looked) → Leaves (callSite lim d taken front actor s next v)
+  after-site : (s next : ℕ) (v : LookedUp) → Leaves (callSite lim d taken front actor s next v)
   unfolding callSite After
   after-site s next (unset c) = after-waited c
   after-site s next (values vs) = go (isBuiltin s)
@@ -254,8 +254,8 @@ module _ (lim : Limits) (d : Dag) (m : Machine) (h : QueueKept m) (k : ℕ) (l :
 
     chokes-leaves :
         (k′ : ℕ) → frontEnds d m (suc k) ≡ false → survivors d m 1 k ≡ k′
-        → After (Untouched watched place k′) (chokes taken front actor (places.At c))
-    unfolding chokes After withOrders
+        → After (Untouched watched place k′) (chokeAt taken front actor (places.At c))
+    unfolding chokeAt After withOrders
     chokes-leaves k′ f s =
         untouched-choked c taken (actor .value) (h .named (suc k) l) (h .ready (suc k) l) (sym (ends (suc k)) ∙ f) (base .unharmed)
         (subst (λ n. n < length (queueThen c taken)) here (found .inside))
@@ -284,8 +284,8 @@ module _ (lim : Limits) (d : Dag) (m : Machine) (h : QueueKept m) (k : ℕ) (l :
         position-after : survivors d m 1 k ≡ k′
         position-after = fate-stays d m k k′ e .1
 
-        choking : N ≡ Node.choke → (q : Place) → actor .cell ≡ q → After (Untouched watched place k′) (chokes taken front actor q)
-        choking n places.Nowhere i = unfold chokes After in tt
+        choking : N ≡ Node.choke → (q : Place) → actor .cell ≡ q → After (Untouched watched place k′) (chokeAt taken front actor q)
+        choking n places.Nowhere i = unfold chokeAt After in tt
         choking n (places.At c) i = chokes-leaves c n i k′ spared position-after
 
         go :

@@ -8,7 +8,7 @@ use lib.ListN.{length}
 use lib.Dec.{ltb}
 use lib.IntN.{ℤ}
 use Rattle.model.specs.Test.{All}
-use Rattle.model.specs.Site.{Said, gives, silent, isBuiltin, builtin}
+use Rattle.model.specs.Site.{BuiltinReply, gives, silent, isBuiltin, builtin}
 use Rattle.model.specs.Job.Syntax.{Param}
 use Rattle.model.specs.Job.WellFormed.{GoodParam}
 use Rattle.model.specs.Job.Node.{Node, Dag}
@@ -16,7 +16,7 @@ use Rattle.model.specs.Machine.Limits.{Limits}
 use Rattle.model.specs.Machine.Blank.{blankToken, tokenAt}
 use Rattle.model.specs.Machine.Active.{isLive}
 use Rattle.model.specs.Machine.Reply.{moves, publishes, unless}
-use Rattle.model.specs.Machine.Step.{withNode, withBinding, withValue, withState, withTables, withOrders, withCounts, put, enqueue, Looked, values, unset, look, valueOf, ended, goesOn, waited, replied, calledOut, returned, callSite}
+use Rattle.model.specs.Machine.Step.{withNode, withBinding, withValue, withState, withTables, withOrders, withCounts, put, enqueue, LookedUp, values, unset, look, valueOf, ended, goesOn, waited, replied, calledOut, returned, callSite}
 use Rattle.model.specs.Calculus.Event.{Event, silently, showing}
 use Rattle.model.specs.Calculus.Expression.{Exp}
 use Rattle.model.specs.Calculus.Allowed.{nextHandle}
@@ -117,7 +117,7 @@ module _ (d : Dag) (M : Labels) (bodies : ℕ → Exp) (m : Machine) {name place
 
   -- site calls
   module _ (lim : Limits) (s : ℕ) {k : ℕ} (f : Follows d M n k (M .scope n) (M .nest n)) where
-    replied-agrees : (r : Said) → Agrees M W L R (m .calls) (replied m p t k r) (Abstract.replies r (at k B F U))
+    replied-agrees : (r : BuiltinReply) → Agrees M W L R (m .calls) (replied m p t k r) (Abstract.replies r (at k B F U))
     unfolding Shows replied goesOn ended enqueue put withTables withOrders nextHandle isLive withNode withValue
     replied-agrees silent = ends-becomes m (A .others) _ silently blankToken refl refl refl refl
     replied-agrees (gives w) =
@@ -131,7 +131,7 @@ module _ (d : Dag) (M : Labels) (bodies : ℕ → Exp) (m : Machine) {name place
         goes-becomes m (A .others) _ (showing (Event.call (m .calls) s vs)) _ refl refl refl (fits-as {t = t} refl refl refl (acting-fits A))
         (sees (place-as {t = withNode k t} refl refl refl refl (place-to f (A .place))) (A .clear) called)
 
-    looked-agrees : M .value n ≡ false → (l : Looked)
+    looked-agrees : M .value n ≡ false → (l : LookedUp)
         → Agrees M W L R (m .calls) (callSite lim d m p t s k l) (Abstract.asksSite (m .calls) s (running (at n B F U) v) (found l) (at k B F U))
     unfolding Shows callSite waited put withTables withOrders nextHandle withState
     looked-agrees e (unset c) =

@@ -18,7 +18,7 @@ use Rattle.model.specs.Machine.Blank.{blankToken, tokenAt}
 use Rattle.model.specs.Machine.InUse.{tokensUsed, cellsUsed, marked}
 use Rattle.model.specs.Machine.Places.{nextPlace}
 use Rattle.model.specs.Machine.Rules.{isReady, tokenInRange, sizesInRange, rulesHold}
-use Rattle.model.specs.Machine.Reply.{Effect, moves, waits, publishes, calls, refuses, accepted, outcome, told, isRefused}
+use Rattle.model.specs.Machine.Reply.{Effect, moves, waits, publishes, calls, refuses, accepted, outcome, reported, isRefused}
 use Rattle.model.specs.Machine.Step as Step
 use Rattle.model.specs.Machine.Step.{withOrders, queueOf, waitsOf, hasTokenPlace, hasCellPlace, takes}
 use Rattle.model.specs.Machine.Answer as Answer
@@ -104,11 +104,11 @@ module _ (d : Dag) (M : Labels) (bodies : ℕ → Exp) where
 
 -- what a call and its outcome show
 abbrev pub eventsBy : Call → Outcome → List Event
-eventsBy c o = eventsOf c (told (o .reply) (o .values))
+eventsBy c o = eventsOf c (reported (o .reply) (o .values))
 
 called-shows : (place h s : ℕ) (vs : List ℤ) (m : Machine)
     → eventsBy (step place) (accepted (replies.Called h s (length vs)) vs m) ≡ Event.call h s vs ∷ []
-unfolding eventsOf told accepted padded
+unfolding eventsOf reported accepted padded
 called-shows place h s vs m = ap (λ ws. Event.call h s ws ∷ []) (take-append-seam vs _)
 
 -- an outcome shows what its effect does, and its machine is the effect's, blanked
@@ -116,7 +116,7 @@ module _ (M : Labels) (W : World) (L R : List Abstract.Token) (h : ℕ) (x : Abs
   pub shown-by : (e : Effect) → Agrees M W L R h e x → isRefused (outcome before e .reply) ≡ false
       → (eventsBy (step place) (outcome before e) ≡ shown (labelOf x) [])
       × Sees M (outcome before e .machine) (after L R (W .store) (W .new) h x)
-  unfolding Shows outcome accepted told eventsOf isRefused shown
+  unfolding Shows outcome accepted reported eventsOf isRefused shown
   shown-by (moves m) b ok = (ap (λ a. shown a []) (sym (b .label)), finish-sees m (b .machine))
   shown-by (waits m) b ok = (ap (λ a. shown a []) (sym (b .label)), finish-sees m (b .machine))
   shown-by (publishes v m) b ok = (ap (λ a. shown a []) (sym (b .label)), finish-sees m (b .machine))
@@ -195,7 +195,7 @@ module _ (lim : Limits) (d : Dag) (M : Labels) (bodies : ℕ → Exp) (fits : Fi
       W = world (m .tokens) (m .cells) name place σ new
 
       found : (p : ℕ) → Pending M W p h S → Locked (outcome m (answered m v (places.At p)))
-      found p (pending split others view clear seen) = unfold answered outcome accepted eventsOf told shown in
+      found p (pending split others view clear seen) = unfold answered outcome accepted eventsOf reported shown in
           steps (Abstract.step (Move.answered v signed) split) refl (finish-sees _ (answered-becomes m h v others view clear seen .machine))
 
       go : (q : Place) → holder h 0 (m .tokens) ≡ q → isRefused (outcome m (answered m v q) .reply) ≡ false → Locked (outcome m (answered m v q))
@@ -203,8 +203,8 @@ module _ (lim : Limits) (d : Dag) (M : Labels) (bodies : ℕ → Exp) (fits : Fi
       go (places.At p) e r = found p (find-pending p h K (holder-called h (m .tokens) p e))
 
 -- a refused call shows nothing and leaves the machine
-refused-shows : (c : Call) (r : Reply) (vs : List ℤ) → isRefused r ≡ true → eventsOf c (told r vs) ≡ []
-unfolding isRefused told eventsOf
+refused-shows : (c : Call) (r : Reply) (vs : List ℤ) → isRefused r ≡ true → eventsOf c (reported r vs) ≡ []
+unfolding isRefused reported eventsOf
 refused-shows c replies.Done vs e = clash e refl
 refused-shows c replies.Waits vs e = clash e refl
 refused-shows c (replies.Published v) vs e = clash e refl

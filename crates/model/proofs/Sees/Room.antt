@@ -8,12 +8,12 @@ use native.Mathlib.Omega.{arith}
 use lib.ListN.{length}
 use lib.Dec.{ltb}
 use lib.IntN.{ℤ}
-use Rattle.model.specs.Site.{Said, gives, silent, isBuiltin, builtin}
+use Rattle.model.specs.Site.{BuiltinReply, gives, silent, isBuiltin, builtin}
 use Rattle.model.specs.Job.Node.{Node, Dag}
 use Rattle.model.specs.Machine.Limits.{Limits}
 use Rattle.model.specs.Machine.Blank.{tokenAt}
 use Rattle.model.specs.Machine.Reply.{Effect, accepted, outcome, unless, isRefused}
-use Rattle.model.specs.Machine.Step.{Looked, values, unset, goesOn, forked, split, entered, waited, replied, calledOut, returned, chokes, look, callSite, hasTokenPlace, hasCellPlace, act}
+use Rattle.model.specs.Machine.Step.{LookedUp, values, unset, goesOn, forked, split, entered, waited, replied, calledOut, returned, chokeAt, look, callSite, hasTokenPlace, hasCellPlace, act}
 use Rattle.model.specs.declared.token.Place.{Place}
 use Rattle.model.specs.declared.token.Place.the-variants as places
 use Rattle.model.specs.declared.token.Token.{Token}
@@ -58,12 +58,12 @@ under-cell {M} {n} {F = F} l o =
     subst (λ U. 1 ≤ length U) (sym (o .parts)) (longer (o .own) (cellsOfCaller F) (let z : length (o .own) ≡ M .nest n = o .size in omega arith))
 
 module _ (lim : Limits) (d : Dag) (before m : Machine) (room : Room lim d before) (same : m .calls ≡ before .calls) (p : ℕ) (t : Token) where
-  replied-accepted : (k : ℕ) (r : Said) → Accepted before (replied m p t k r)
+  replied-accepted : (k : ℕ) (r : BuiltinReply) → Accepted before (replied m p t k r)
   unfolding replied goesOn outcome accepted isRefused
   replied-accepted k (gives v) = refl
   replied-accepted k silent = refl
 
-  site-accepted : (s k : ℕ) (l : Looked) → Accepted before (callSite lim d m p t s k l)
+  site-accepted : (s k : ℕ) (l : LookedUp) → Accepted before (callSite lim d m p t s k l)
   unfolding callSite waited calledOut outcome accepted isRefused
   site-accepted s k (unset c) = refl
   site-accepted s k (values vs) = go (isBuiltin s)
@@ -78,8 +78,8 @@ module _ (lim : Limits) (d : Dag) (before m : Machine) (room : Room lim d before
           accepted-unless before (ltb (m .calls) (lim .calls)) refusals.CallLimit (calledOut m p t s vs k)
           (lt-ltb (m .calls) (lim .calls) (let z : before .calls < lim .calls = room .calls in omega arith)) refl
 
-  chokes-accepted : (q : Place) → (c : ℕ) × (q ≡ places.At c) → Accepted before (chokes m p t q)
-  unfolding chokes outcome accepted isRefused
+  chokes-accepted : (q : Place) → (c : ℕ) × (q ≡ places.At c) → Accepted before (chokeAt m p t q)
+  unfolding chokeAt outcome accepted isRefused
   chokes-accepted places.Nowhere x = let e = x .1 in let z : _≡_ {A = ℕ} 0 1 = cc in absurd (omega arith)
   chokes-accepted (places.At c) x = refl
 

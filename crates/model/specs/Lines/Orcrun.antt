@@ -9,7 +9,7 @@ use Rattle.model.specs.Job.Node.{Dag}
 use Rattle.model.specs.Job.Read.{tableLength, Answer, accepted, declined, readTable}
 use Rattle.model.specs.Job.Construct.{construct}
 use Rattle.model.specs.Machine.Limits.{Limits, paper}
-use Rattle.model.specs.Machine.Reply.{Told, told, isRefused}
+use Rattle.model.specs.Machine.Reply.{Reported, reported, isRefused}
 use Rattle.model.specs.Machine.Start.{start}
 use Rattle.model.specs.Machine.Step.{step}
 use Rattle.model.specs.Machine.Answer.{answer}
@@ -18,11 +18,11 @@ use Rattle.model.specs.declared.record.Machine.{Machine}
 use Rattle.model.specs.declared.reply.Outcome.{Outcome}
 
 -- the lines of what a call told
-unfoldable pub linesOf : Told → List Line
-linesOf Told.nothing = []
-linesOf (Told.published v) = publish v ∷ []
-linesOf (Told.called h s vs) = call h s vs ∷ []
-linesOf (Told.refused n) = refused n ∷ []
+unfoldable pub linesOf : Reported → List Line
+linesOf Reported.nothing = []
+linesOf (Reported.published v) = publish v ∷ []
+linesOf (Reported.called h s vs) = call h s vs ∷ []
+linesOf (Reported.refused n) = refused n ∷ []
 
 -- where a run stands: the machine, the accepted steps, and the bytes not yet delivered
 pub record Standing : Type 0 where
@@ -43,7 +43,7 @@ module _ (lim : Limits) (most : ℕ) (d : Dag) where
         | false ↦ over (limit ∷ end (s .steps) ∷ [])
         | true ↦
             (let o = step lim d (s .machine) 0 in
-            let ls = linesOf (told (o .reply) (o .values)) in
+            let ls = linesOf (reported (o .reply) (o .values)) in
             elim (isRefused (o .reply)) [
               | true ↦ over (ls ++ (end (s .steps) ∷ []))
               | false ↦ on ls (record { machine = o .machine; steps = suc (s .steps); rest = s .rest })
@@ -54,7 +54,7 @@ module _ (lim : Limits) (most : ℕ) (d : Dag) where
   unfoldable pub deliverTurn : Standing → Turn
   deliverTurn s =
       let o = answer lim d (s .machine) (number (take 4 (s .rest))) (signed (number (take 4 (drop 4 (s .rest))))) in
-      on (linesOf (told (o .reply) (o .values))) (record { machine = o .machine; steps = s .steps; rest = drop 8 (s .rest) })
+      on (linesOf (reported (o .reply) (o .values))) (record { machine = o .machine; steps = s .steps; rest = drop 8 (s .rest) })
 
   -- (docs/DECISIONS.md, "`short`") "A trailing piece prints `short`"; "last .. `end` and accepted steps"
   unfoldable pub lastTurn : Standing → Turn

@@ -22,11 +22,11 @@ pub data Effect : Type 0 where
   refuses : Refusal → Effect
 
 -- the values beside a reply: the call's in order, then zeros (docs/DECISIONS.md, "The values beside a reply")
-abbrev pub valuesBeside : List ℤ → List ℤ
-valuesBeside vs = padded (pos 0) 4 vs
+abbrev pub reportValues : List ℤ → List ℤ
+reportValues vs = padded (pos 0) 4 vs
 
 unfoldable pub accepted : Reply → List ℤ → Machine → Outcome
-accepted r vs m = record { reply = r; values = valuesBeside vs; machine = sweep m }
+accepted r vs m = record { reply = r; values = reportValues vs; machine = sweep m }
 
 -- the outcome of a call on the machine `before`: an accepted one ends in `finish`; "a refusal leaves machine and dag as before the call"
 unfoldable pub outcome : (before : Machine) → Effect → Outcome
@@ -34,7 +34,7 @@ outcome before (moves m) = accepted replies.Done [] m
 outcome before (waits m) = accepted replies.Waits [] m
 outcome before (publishes v m) = accepted (replies.Published v) [] m
 outcome before (calls h s vs m) = accepted (replies.Called h s (length vs)) vs m
-outcome before (refuses r) = record { reply = replies.Refused r; values = valuesBeside []; machine = before }
+outcome before (refuses r) = record { reply = replies.Refused r; values = reportValues []; machine = before }
 
 -- the test holds, or the call is refused
 unfoldable pub unless : Bool → Refusal → Effect → Effect
@@ -51,18 +51,18 @@ numberOf refusals.CallLimit = 13
 numberOf refusals.Rule = 14
 
 -- what a reply tells, with the values beside it, in document 01's words
-pub data Told : Type 0 where
-  nothing : Told
-  published : ℤ → Told
-  called : (handle site : ℕ) → List ℤ → Told
-  refused : (number : ℕ) → Told
+pub data Reported : Type 0 where
+  nothing : Reported
+  published : ℤ → Reported
+  called : (handle site : ℕ) → List ℤ → Reported
+  refused : (number : ℕ) → Reported
 
-unfoldable pub told : Reply → List ℤ → Told
-told replies.Done vs = nothing
-told replies.Waits vs = nothing
-told (replies.Published v) vs = published v
-told (replies.Called h s n) vs = called h s (take n vs)
-told (replies.Refused r) vs = refused (numberOf r)
+unfoldable pub reported : Reply → List ℤ → Reported
+reported replies.Done vs = nothing
+reported replies.Waits vs = nothing
+reported (replies.Published v) vs = published v
+reported (replies.Called h s n) vs = called h s (take n vs)
+reported (replies.Refused r) vs = refused (numberOf r)
 
 unfoldable pub isRefused : Reply → Bool
 isRefused replies.Done = false

@@ -6,7 +6,7 @@ use lib.ListN.{set, replicate}
 use Rattle.model.specs.Job.Node.{Dag, dagHolds}
 use Rattle.model.specs.Machine.Limits.{Limits}
 use Rattle.model.specs.Machine.Blank.{unbound, blankToken, blankCell, blankMachine}
-use Rattle.model.specs.Machine.Reply.{valuesBeside}
+use Rattle.model.specs.Machine.Reply.{reportValues}
 use Rattle.model.specs.declared.token.Held.the-variants as helds
 use Rattle.model.specs.declared.token.Place.the-variants as places
 use Rattle.model.specs.declared.token.State.the-variants as states
@@ -47,6 +47,6 @@ startMachine lim goal =
 unfoldable pub start : Limits → Dag → Outcome
 start lim d =
     elim (dagHolds d) [
-      | true ↦ record { reply = replies.Done; values = valuesBeside []; machine = startMachine lim (d .goal) }
-      | false ↦ record { reply = replies.Refused refusals.Rule; values = valuesBeside []; machine = blankMachine lim }
+      | true ↦ record { reply = replies.Done; values = reportValues []; machine = startMachine lim (d .goal) }
+      | false ↦ record { reply = replies.Refused refusals.Rule; values = reportValues []; machine = blankMachine lim }
     ]

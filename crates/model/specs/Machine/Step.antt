@@ -7,7 +7,7 @@ use lib.ListN.{length, getD, set, take, drop}
 use lib.Dec.{ltb, eqb}
 use lib.IntN.{ℤ, pos}
 use Rattle.model.specs.Test.{filter, padded, without}
-use Rattle.model.specs.Site.{Said, gives, silent, isBuiltin, builtin}
+use Rattle.model.specs.Site.{BuiltinReply, gives, silent, isBuiltin, builtin}
 use Rattle.model.specs.Job.Syntax.{Param, variable, constant}
 use Rattle.model.specs.Job.Node.{Node, Dag, nodeAt, bodyAt}
 use Rattle.model.specs.Machine.Limits.{Limits}
@@ -122,16 +122,16 @@ unfoldable pub newCell : ℕ → Cell → Machine → Machine
 newCell c k m = withCounts (m .calls) (m .lasttoken) c (withTables (m .tokens) (set (m .cells) c k) m)
 
 -- "parameters in order": all their values, or the first unset cell
-pub data Looked : Type 0 where
-  values : List ℤ → Looked
-  unset : (cell : ℕ) → Looked
+pub data LookedUp : Type 0 where
+  values : List ℤ → LookedUp
+  unset : (cell : ℕ) → LookedUp
 
-unfoldable pub andThen : ℤ → Looked → Looked
+unfoldable pub andThen : ℤ → LookedUp → LookedUp
 andThen v (values vs) = values (v ∷ vs)
 andThen v (unset c) = unset c
 
 module _ (cs : List Cell) (bs : List Bind) where
-  unfoldable pub look : List Param → Looked
+  unfoldable pub look : List Param → LookedUp
   look [] = values []
   look (constant v ∷ ps) = andThen v (look ps)
   look (variable x ∷ ps) =
@@ -226,7 +226,7 @@ module _ (m : Machine) (p : ℕ) (t : Token) where
   waited c = waits (withOrders (queueOf m) (waitsOf m ++ (p ∷ [])) (put p (withState (states.Waiting c) t) m))
 
   -- "a built-in replies and the token goes on, or it is silent and the token ends"
-  unfoldable pub replied : (next : ℕ) → Said → Effect
+  unfoldable pub replied : (next : ℕ) → BuiltinReply → Effect
   replied k (gives v) = goesOn (withNode k (withValue (helds.Value v) t))
   replied k silent = moves ended
 
@@ -242,13 +242,13 @@ module _ (m : Machine) (p : ℕ) (t : Token) where
   returned (places.At f) = goesOn (withState states.Ready (withValue (t .value) (tokenAt (m .tokens) f)))
 
   -- "choke: set the cell; .." (The test for 14 leaves no token without a cell.)
-  unfoldable pub chokes : Place → Effect
-  chokes places.Nowhere = refuses refusals.Rule
-  chokes (places.At c) = moves (choked c (t .value) m)
+  unfoldable pub chokeAt : Place → Effect
+  chokeAt places.Nowhere = refuses refusals.Rule
+  chokeAt (places.At c) = moves (choked c (t .value) m)
 
 module _ (lim : Limits) (d : Dag) where
   -- "13: outside call, all values there, after 1,000,000 such calls"
-  unfoldable pub callSite : Machine → ℕ → Token → (site next : ℕ) → Looked → Effect
+  unfoldable pub callSite : Machine → ℕ → Token → (site next : ℕ) → LookedUp → Effect
   callSite m p t s k (unset c) = waited m p t c
   callSite m p t s k (values vs) =
       elim (isBuiltin s) [
@@ -284,7 +284,7 @@ module _ (lim : Limits) (d : Dag) where
   act before m p t (Node.call e ps k) =
       unless (hasTokenPlace before) refusals.TokenLimit (entered m p t (tokenPlace before) (bodyAt d e .root) ps k)
   act before m p t Node.return = returned m p t (t .caller)
-  act before m p t Node.choke = chokes m p t (t .cell)
+  act before m p t Node.choke = chokeAt m p t (t .cell)
   -- the test for 14 leaves no such node
   act before m p t Node.unknown = refuses refusals.Rule
 

@@ -7,7 +7,7 @@ use lib.IntN.{ℤ}
 use Rattle.model.specs.Number.{Signed32}
 use Rattle.model.specs.Job.Node.{Dag}
 use Rattle.model.specs.Machine.Limits.{Limits}
-use Rattle.model.specs.Machine.Reply.{Told, told, isRefused}
+use Rattle.model.specs.Machine.Reply.{Reported, reported, isRefused}
 use Rattle.model.specs.Machine.Start as Start
 use Rattle.model.specs.Machine.Step as Step
 use Rattle.model.specs.Machine.Answer as Answer
@@ -32,16 +32,16 @@ runner = record { start = Start.start; step = Step.step; answer = Answer.answer 
 
 -- what a call and its reply give: "an outside call gives handle, site and parameter values, a publish step its value,
 -- an accepted answer its handle and value; other accepted steps and all refused calls give nothing"
-unfoldable pub eventsOf : Call → Told → List Event
-eventsOf (step place) Told.nothing = []
-eventsOf (step place) (Told.published v) = Event.publish v ∷ []
-eventsOf (step place) (Told.called h s vs) = Event.call h s vs ∷ []
-eventsOf (step place) (Told.refused n) = []
-eventsOf (answer h v fits) Told.nothing = Event.answer h v ∷ []
-eventsOf (answer h v fits) (Told.refused n) = []
+unfoldable pub eventsOf : Call → Reported → List Event
+eventsOf (step place) Reported.nothing = []
+eventsOf (step place) (Reported.published v) = Event.publish v ∷ []
+eventsOf (step place) (Reported.called h s vs) = Event.call h s vs ∷ []
+eventsOf (step place) (Reported.refused n) = []
+eventsOf (answer h v fits) Reported.nothing = Event.answer h v ∷ []
+eventsOf (answer h v fits) (Reported.refused n) = []
 -- an answer's reply is none of these
-eventsOf (answer h v fits) (Told.published w) = []
-eventsOf (answer h v fits) (Told.called k s vs) = []
+eventsOf (answer h v fits) (Reported.published w) = []
+eventsOf (answer h v fits) (Reported.called k s vs) = []
 
 module _ (R : Runner) (lim : Limits) (d : Dag) where
   unfoldable pub outcomeOf : Machine → Call → Outcome
@@ -56,7 +56,7 @@ module _ (R : Runner) (lim : Limits) (d : Dag) where
   unfoldable pub eventsFrom : Machine → List Call → List Event
   eventsFrom m [] = []
   eventsFrom m (c ∷ cs) =
-      let o = outcomeOf m c in eventsOf c (told (o .reply) (o .values)) ++ eventsFrom (o .machine) cs
+      let o = outcomeOf m c in eventsOf c (reported (o .reply) (o .values)) ++ eventsFrom (o .machine) cs
 
   unfoldable pub noneRefused : Machine → List Call → Bool
   noneRefused m [] = true

@@ -1,4 +1,5 @@
-use Rattle.acts.proofs.Calling.{choke-vacant}
+-- `choke::choke_cell` meets its contract: each way out is how the definition's step ends there. Assumes nothing.
+use Rattle.acts.proofs.Vacancy.{choke-vacant}
 use Rattle.acts.proofs.Ending.{choke-cell}
 use Rattle.acts.proofs.Instructions.{choke-step}
 use Rattle.acts.proofs.Outcomes.{token-inside, gives-swept}
@@ -10,49 +11,31 @@ use native.Mathlib.Omega.{arith}
 use borrow.Author.Needs.{needs}
 use Rattle.acts.proofs.choke.choke_cell.Statement.{statement}
 use Rattle.acts.proofs.choke.choke_cell.Tie as tie
-use Rattle.acts.proofs.choke.choke_cell.Reads as reads
-use Rattle.acts.proofs.choke.choke_cell.Lts as lts
-use Rattle.writes.proofs.choke.choke.Reads as choke-reads
-use Rattle.acts.proofs.report.plain.Reads as plain-reads
-use Rattle.reach.proofs.sweep.sweep.Reads as sweep-reads
-use Rattle.record.proofs.token.cell.Reads as cell-reads
-use Rattle.record.proofs.token.value.Reads as value-reads
-use Rattle.record.proofs.token.valued.Reads as valued-reads
-use Rattle.sites.proofs.number.wide.Reads as wide-reads
 
--- src/choke.rt:151:18
 cell-requires : tie.Need-cell-requires
 cell-requires c κs = token-inside (c .before .pre .is .taking)
 
--- src/choke.rt:151:9
 wide-requires : tie.Need-wide-requires
 wide-requires c κs = search needs
 
--- src/choke.rt:152:9
 valued-requires : tie.Need-valued-requires
 valued-requires c κs = token-inside (c .before .before .before .before .pre .is .taking)
 
--- src/choke.rt:153:9
 value-requires : tie.Need-value-requires
 value-requires c κs = token-inside (c .before .before .before .before .before .before .pre .is .taking)
 
--- src/choke.rt:154:21
 sub-choke : tie.Need-sub-choke
 sub-choke c = let k = choke-cell _ _ _ _ _ (c .before .before .before .before .before .before .before .before .pre .is) (c .before .before .before .before .before .wide .ensures ∙ c .before .before .before .before .before .before .cell .ensures _ (c .before .before .before .before .before .before .before .before .pre .is .taking .lawful .holds .codes)) in omega (arith, k .0)
 
--- src/choke.rt:154:5
 choke-requires : tie.Need-choke-requires
 choke-requires c κs = choke-cell _ _ _ _ _ (c .before .before .before .before .before .before .before .before .pre .is) (c .before .before .before .before .before .wide .ensures ∙ c .before .before .before .before .before .before .cell .ensures _ (c .before .before .before .before .before .before .before .before .pre .is .taking .lawful .holds .codes)) .1
 
--- src/choke.rt:155:5
 sweep-requires : tie.Need-sweep-requires
 sweep-requires c κs = search needs
 
--- src/choke.rt:156:5
 plain-requires : tie.Need-plain-requires
 plain-requires c κs = search needs
 
--- src/choke.rt:147:1
 returns : tie.Need-returns
 returns c = λ m a.
     let codes = a .taking .lawful .holds .codes in

@@ -1,81 +1,58 @@
+-- `definition_call::definition_call` meets its contract: each way out is how the definition's step ends there. Assumes nothing.
 use Rattle.acts.proofs.Making.{call-gives, call-refused, new-apart, new-blank}
 use Rattle.sites.proofs.Rows.{call-root, call-params}
 use Rattle.acts.proofs.Outcomes.{row, row-fits, token-inside}
-use mathlib.Core.Path.{_≡_, refl, subst, sym, _∙_}
+use mathlib.Core.Path.{_∙_}
 use native.Mathlib.Omega.{arith}
 use borrow.Author.Needs.{needs}
 use Rattle.acts.proofs.definition_call.definition_call.Statement.{statement}
 use Rattle.acts.proofs.definition_call.definition_call.Tie as tie
-use Rattle.acts.proofs.definition_call.definition_call.Reads as reads
-use Rattle.acts.proofs.definition_call.definition_call.Lts as lts
-use Rattle.writes.proofs.dag.wide.Reads as wide-reads
-use Rattle.writes.proofs.dag.word.Reads as word-reads
-use Rattle.writes.proofs.definition_call.written.Reads as written-reads
-use Rattle.acts.proofs.report.plain.Reads as plain-reads
-use Rattle.reach.proofs.place.next_token.Reads as next-token-reads
-use Rattle.record.proofs.count.last_token.Reads as last-token-reads
 
--- src/definition_call.rt:107:34
 last-token-requires : tie.Need-last-token-requires
 last-token-requires c κs = search needs
 
--- src/definition_call.rt:107:9
 next-token-requires : tie.Need-next-token-requires
 next-token-requires c κs = search needs
 
--- src/definition_call.rt:109:9
 plain-requires : tie.Need-plain-requires
 plain-requires c κs = search needs
 
--- src/definition_call.rt:109:9
 returns : tie.Need-returns
 returns c = λ m a. call-refused _ _ _ _ m a (c .before .before .next-token .ensures) (c .before .before .before .last-token .ensures m (a .taking .lawful .holds .codes)) _ (search needs) (c .plain .ensures)
 
--- src/definition_call.rt:111:31
 add-word : tie.Need-add-word
 add-word c = search needs
 
--- src/definition_call.rt:111:21
 word-requires : tie.Need-word-requires
 word-requires c κs = let l = row-fits (c .before .before .before .before .before .pre .is) in omega arith
 
--- src/definition_call.rt:111:9
 wide-requires : tie.Need-wide-requires
 wide-requires c κs = search needs
 
--- src/definition_call.rt:112:30
 mul-word : tie.Need-mul-word
 mul-word c = let b = call-root _ _ _ (row (c .before .before .before .before .before .before .before .pre .is)) (c .wide .ensures ∙ c .before .word .ensures) .0 in omega arith
 
--- src/definition_call.rt:112:26
 add-word-2 : tie.Need-add-word-2
 add-word-2 c = let b = call-root _ _ _ (row (c .before .before .before .before .before .before .before .pre .is)) (c .wide .ensures ∙ c .before .word .ensures) .0 in omega arith
 
--- src/definition_call.rt:112:9
 word-requires-2 : tie.Need-word-requires-2
 word-requires-2 c κs = let b = call-root _ _ _ (row (c .before .before .before .before .before .before .before .pre .is)) (c .wide .ensures ∙ c .before .word .ensures) .0 in omega arith
 
--- src/definition_call.rt:113:56
 add-word-3 : tie.Need-add-word-3
 add-word-3 c = search needs
 
--- src/definition_call.rt:113:46
 word-requires-3 : tie.Need-word-requires-3
 word-requires-3 c κs = let l = row-fits (c .before .before .before .before .before .before .before .before .before .pre .is) in omega arith
 
--- src/definition_call.rt:113:5
 written-requires : tie.Need-written-requires
 written-requires c κs = (token-inside (c .before .before .before .before .before .before .before .before .before .before .pre .is .taking), search needs, call-params _ _ (row (c .before .before .before .before .before .before .before .before .before .before .pre .is)))
 
--- src/definition_call.rt:114:5
 element-write-tokens : tie.Need-element-write-tokens
 element-write-tokens c = search needs
 
--- src/definition_call.rt:115:5
 plain-requires-2 : tie.Need-plain-requires-2
 plain-requires-2 c κs = search needs
 
--- src/definition_call.rt:103:1
 returns-2 : tie.Need-returns-2
 returns-2 c = λ m a.
     let next = c .before .before .before .before .before .before .before .before .next-token .ensures in

@@ -1,18 +1,15 @@
+-- `end::binds_cell` meets its contract: each way out is how the definition's step ends there. Assumes nothing.
 use Rattle.acts.proofs.Ending.{NoCellBelow, no-cell-more, no-cell-all, no-cell}
 use Rattle.record.specs.Holds.{Codes}
 use Rattle.model.proofs.Test.{clash}
 use Rattle.model.specs.declared.record.Machine.{Machine}
 use Rattle.model.specs.Machine.Blank.{tokenAt}
-use Prim.Native.Nat.{ℕ, _≤_, _-_}
-use mathlib.Core.Bool.{true, false}
-use mathlib.Core.Path.{_≡_, refl, sym, ap, _∙_}
+use Prim.Native.Nat.{_≤_, _-_}
+use mathlib.Core.Path.{refl}
 use borrow.Author.Needs.{needs}
 use native.Mathlib.Omega.{arith}
 use Rattle.acts.proofs.end.binds_cell.Statement.{statement}
 use Rattle.acts.proofs.end.binds_cell.Tie as tie
-use Rattle.acts.proofs.end.binds_cell.Reads as reads
-use Rattle.acts.proofs.end.binds_cell.Lts as lts
-use Rattle.record.proofs.token.bind_kind.Reads as bind-kind-reads
 
 abbrev Inv-loop : tie.InvT-loop
 Inv-loop w p x₀ x = (x ≤ 8) × ((m : Machine) → Codes w m → NoCellBelow (tokenAt (m .tokens) p .binds) x)
@@ -20,31 +17,24 @@ Inv-loop w p x₀ x = (x ≤ 8) × ((m : Machine) → Codes w m → NoCellBelow 
 abbrev μ-loop : tie.MeasureT-loop
 μ-loop w p x₀ x = 8 - x
 
--- src/end.rt:52:5
 loop-holds : tie.Need-loop-holds Inv-loop μ-loop
 loop-holds c = (search needs, λ m h y k l e. absurd (omega arith))
 
--- src/end.rt:53:12
 bind-kind-requires : tie.Need-bind-kind-requires Inv-loop μ-loop
 bind-kind-requires c κs = search needs
 
--- src/end.rt:54:13
 returns : tie.Need-returns Inv-loop μ-loop
 returns c = λ m h e. clash refl e
 
--- src/end.rt:56:9
 add-x : tie.Need-add-x Inv-loop μ-loop
 add-x c = search needs
 
--- src/end.rt:52:5
 loop-less : tie.Need-loop-less Inv-loop μ-loop
 loop-less c = search needs
 
--- src/end.rt:52:5
 loop-again : tie.Need-loop-again Inv-loop μ-loop
 loop-again c = (search needs, λ m h. no-cell-more (tokenAt (m .tokens) (c .before .before .before .before .args .p) .binds) (c .before .before .before .loop .x) (c .before .before .before .loop .inv .1 m h) (no-cell _ _ (c .before .bind-kind .ensures m h) (c .if1 .left)))
 
--- src/end.rt:47:1
 returns-2 : tie.Need-returns-2 Inv-loop μ-loop
 returns-2 c = λ m h e. no-cell-all (tokenAt (m .tokens) (c .before .before .args .p) .binds) (c .before .loop .x) (h .shaped .binds _) (omega arith) (c .before .loop .inv .1 m h)
 

@@ -1,45 +1,32 @@
+-- `end::end` meets its contract: each way out is how the definition's step ends there. Assumes nothing.
 use Rattle.acts.proofs.Ending.{end-vacant, end-gives}
 use Rattle.acts.proofs.Outcomes.{gives-swept}
 use mathlib.Core.Path.{refl}
 use borrow.Author.Needs.{needs}
 use Rattle.acts.proofs.end.end.Statement.{statement}
 use Rattle.acts.proofs.end.end.Tie as tie
-use Rattle.acts.proofs.end.end.Reads as reads
-use Rattle.acts.proofs.end.end.Lts as lts
-use Rattle.acts.proofs.end.names.Reads as names-reads
-use Rattle.writes.proofs.end.written.Reads as written-reads
-use Rattle.acts.proofs.report.plain.Reads as plain-reads
-use Rattle.reach.proofs.sweep.sweep.Reads as sweep-reads
 
--- src/end.rt:79:9
 names-requires : tie.Need-names-requires
 names-requires c κs = search needs
 
--- src/end.rt:80:5
 written-requires : tie.Need-written-requires
 written-requires c κs = search needs
 
--- src/end.rt:82:9
 sweep-requires : tie.Need-sweep-requires
 sweep-requires c κs = search needs
 
--- src/end.rt:83:9
 plain-requires : tie.Need-plain-requires
 plain-requires c κs = search needs
 
--- src/end.rt:83:9
 returns : tie.Need-returns
 returns c = λ m dag a. gives-swept _ _ _ refl (c .plain .ensures) (c .before .sweep .ensures _ (c .before .before .before .before .before .before .written .ensures m (a .lawful .holds) (a .queued)) (end-vacant a))
 
--- src/end.rt:85:5
 element-write-tokens : tie.Need-element-write-tokens
 element-write-tokens c = search needs
 
--- src/end.rt:86:5
 plain-requires-2 : tie.Need-plain-requires-2
 plain-requires-2 c κs = search needs
 
--- src/end.rt:75:1
 returns-2 : tie.Need-returns-2
 returns-2 c = λ m dag a. end-gives a _ _ (c .plain2 .ensures) (c .before .before .before .before .names .ensures m (a .lawful .holds .codes) (c .before .if1 .left)) (c .before .before .written .ensures m (a .lawful .holds) (a .queued))
 

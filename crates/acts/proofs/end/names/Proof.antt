@@ -1,36 +1,26 @@
+-- `end::names` meets its contract: each way out is how the definition's step ends there. Assumes nothing.
 use Rattle.acts.proofs.Ending.{no-place}
 use Rattle.model.proofs.Test.{clash}
 use mathlib.Core.Path.{refl}
 use borrow.Author.Needs.{needs}
 use Rattle.acts.proofs.end.names.Statement.{statement}
 use Rattle.acts.proofs.end.names.Tie as tie
-use Rattle.acts.proofs.end.names.Reads as reads
-use Rattle.acts.proofs.end.names.Lts as lts
-use Rattle.acts.proofs.end.binds_cell.Reads as binds-cell-reads
-use Rattle.record.proofs.token.caller.Reads as caller-reads
-use Rattle.record.proofs.token.cell.Reads as cell-reads
 
--- src/end.rt:66:8
 caller-requires : tie.Need-caller-requires
 caller-requires c κs = search needs
 
--- src/end.rt:67:12
 cell-requires : tie.Need-cell-requires
 cell-requires c κs = search needs
 
--- src/end.rt:68:13
 binds-cell-requires : tie.Need-binds-cell-requires
 binds-cell-requires c κs = search needs
 
--- src/end.rt:68:13
 returns : tie.Need-returns
 returns c = λ m h e. record { caller = no-place _ _ (c .before .before .before .before .caller .ensures m h) (c .before .before .before .if1 .taken); cell = no-place _ _ (c .before .before .cell .ensures m h) (c .before .if2 .taken); binds = c .binds-cell .ensures m h e }
 
--- src/end.rt:62:1
 returns-2 : tie.Need-returns-2
 returns-2 c = λ m h e. clash refl e
 
--- src/end.rt:62:1
 returns-3 : tie.Need-returns-3
 returns-3 c = λ m h e. clash refl e
 

@@ -1,36 +1,24 @@
+-- `end::publish` meets its contract: each way out is how the definition's step ends there. Assumes nothing.
 use Rattle.acts.proofs.Ending.{publish-reply, reply-as}
-use mathlib.Core.List.{[]}
 use mir.Syntax.{w32}
 use mir.Val.{SFits}
 use mir.Facts.{toZ-ofZ}
-use Rattle.acts.proofs.Ending.{gives-as, value-read, value-range}
+use Rattle.acts.proofs.Ending.{gives-as, value-range}
 use Rattle.acts.proofs.Instructions.{publish-step}
 use Rattle.acts.proofs.Outcomes.{token-inside}
-use Rattle.model.specs.Machine.Reply.{accepted}
-use Rattle.model.specs.declared.reply.Reply.the-variants as replies
-use mathlib.Core.Path.{sym, ap, _∙_}
 use borrow.Author.Needs.{needs}
 use Rattle.acts.proofs.end.publish.Statement.{statement}
 use Rattle.acts.proofs.end.publish.Tie as tie
-use Rattle.acts.proofs.end.publish.Reads as reads
-use Rattle.acts.proofs.end.publish.Lts as lts
-use Rattle.acts.proofs.end.end.Reads as end-reads
-use Rattle.sites.proofs.number.signed.Reads as signed-reads
-use Rattle.record.proofs.token.value.Reads as value-reads
 
--- src/end.rt:102:20
 value-requires : tie.Need-value-requires
 value-requires c κs = token-inside (c .before .pre .is .taking)
 
--- src/end.rt:102:9
 signed-requires : tie.Need-signed-requires
 signed-requires c κs = search needs
 
--- src/end.rt:103:5
 end-requires : tie.Need-end-requires
 end-requires c κs = token-inside (c .before .before .before .before .before .before .pre .is .taking)
 
--- src/end.rt:98:1
 returns : tie.Need-returns
 returns c = λ m a.
     let fits : SFits w32 (c .before .before .before .before .signed .result) = search needs in

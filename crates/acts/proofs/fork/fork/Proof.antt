@@ -1,63 +1,44 @@
+-- `fork::fork` meets its contract: each way out is how the definition's step ends there. Assumes nothing.
 use native.Mathlib.Omega.{arith}
 use Rattle.acts.proofs.Making.{fork-gives, fork-refused, queue-open}
 use Rattle.acts.proofs.Outcomes.{row-fits, token-inside}
-use mathlib.Core.Path.{refl, _∙_}
 use borrow.Author.Needs.{needs}
 use Rattle.acts.proofs.fork.fork.Statement.{statement}
 use Rattle.acts.proofs.fork.fork.Tie as tie
-use Rattle.acts.proofs.fork.fork.Reads as reads
-use Rattle.acts.proofs.fork.fork.Lts as lts
-use Rattle.writes.proofs.dag.word.Reads as word-reads
-use Rattle.writes.proofs.fork.written.Reads as written-reads
-use Rattle.acts.proofs.report.plain.Reads as plain-reads
-use Rattle.reach.proofs.place.next_token.Reads as next-token-reads
-use Rattle.record.proofs.count.last_token.Reads as last-token-reads
 
--- src/fork.rt:47:34
 last-token-requires : tie.Need-last-token-requires
 last-token-requires c κs = search needs
 
--- src/fork.rt:47:9
 next-token-requires : tie.Need-next-token-requires
 next-token-requires c κs = search needs
 
--- src/fork.rt:49:9
 plain-requires : tie.Need-plain-requires
 plain-requires c κs = search needs
 
--- src/fork.rt:49:9
 returns : tie.Need-returns
 returns c = λ m a. fork-refused _ _ _ _ m a (c .before .before .next-token .ensures) (c .before .before .before .last-token .ensures m (a .taking .lawful .holds .codes)) _ (search needs) (c .plain .ensures)
 
--- src/fork.rt:51:41
 add-word : tie.Need-add-word
 add-word c = search needs
 
--- src/fork.rt:51:31
 word-requires : tie.Need-word-requires
 word-requires c κs = let l = row-fits (c .before .before .before .before .before .before .pre .is) in omega arith
 
--- src/fork.rt:51:60
 add-word-2 : tie.Need-add-word-2
 add-word-2 c = search needs
 
--- src/fork.rt:51:50
 word-requires-2 : tie.Need-word-requires-2
 word-requires-2 c κs = let l = row-fits (c .before .before .before .before .before .before .before .pre .is) in omega arith
 
--- src/fork.rt:51:5
 written-requires : tie.Need-written-requires
 written-requires c κs = (token-inside (c .before .before .before .before .before .before .before .before .pre .is .taking), search needs)
 
--- src/fork.rt:52:5
 element-write-tokens : tie.Need-element-write-tokens
 element-write-tokens c = search needs
 
--- src/fork.rt:53:5
 plain-requires-2 : tie.Need-plain-requires-2
 plain-requires-2 c κs = search needs
 
--- src/fork.rt:43:1
 returns-2 : tie.Need-returns-2
 returns-2 c = λ m a.
     let next = c .before .before .before .before .before .before .next-token .ensures in

@@ -1,3 +1,4 @@
+-- `rebind::assign` meets its contract: each way out is how the definition's step ends there. Assumes nothing.
 use Rattle.acts.proofs.Ending.{gives-as, rebound-as, value-bits, value-no-cell}
 use Rattle.acts.proofs.Instructions.{assign-step}
 use Rattle.sites.proofs.Rows.{assign-numbers}
@@ -5,47 +6,33 @@ use Rattle.acts.proofs.Outcomes.{row, row-fits, token-inside}
 use Rattle.model.specs.Machine.Blank.{tokenAt}
 use Rattle.model.specs.Machine.Step.{valueOf}
 use Rattle.model.specs.declared.token.Slot.the-variants as slots
-use mathlib.Core.Path.{refl, sym, ap, ap₂, _∙_}
+use mathlib.Core.Path.{refl, sym, _∙_}
 use native.Mathlib.Omega.{arith}
 use borrow.Author.Needs.{needs}
 use Rattle.acts.proofs.rebind.assign.Statement.{statement}
 use Rattle.acts.proofs.rebind.assign.Tie as tie
-use Rattle.acts.proofs.rebind.assign.Reads as reads
-use Rattle.acts.proofs.rebind.assign.Lts as lts
-use Rattle.writes.proofs.dag.wide.Reads as wide-reads
-use Rattle.writes.proofs.dag.word.Reads as word-reads
-use Rattle.acts.proofs.rebind.rebind.Reads as rebind-reads
-use Rattle.record.proofs.token.value.Reads as value-reads
 
--- src/rebind.rt:69:28
 add-word : tie.Need-add-word
 add-word c = search needs
 
--- src/rebind.rt:69:18
 word-requires : tie.Need-word-requires
 word-requires c κs = let l = row-fits (c .pre .is) in omega arith
 
--- src/rebind.rt:69:9
 wide-requires : tie.Need-wide-requires
 wide-requires c κs = search needs
 
--- src/rebind.rt:70:9
 value-requires : tie.Need-value-requires
 value-requires c κs = token-inside (c .before .before .before .pre .is .taking)
 
--- src/rebind.rt:71:73
 add-word-2 : tie.Need-add-word-2
 add-word-2 c = search needs
 
--- src/rebind.rt:71:63
 word-requires-2 : tie.Need-word-requires-2
 word-requires-2 c κs = let l = row-fits (c .before .before .before .before .before .before .before .pre .is) in omega arith
 
--- src/rebind.rt:71:5
 rebind-requires : tie.Need-rebind-requires
 rebind-requires c κs = let l = assign-numbers _ _ (row (c .before .before .before .before .before .before .before .before .pre .is)) .0 in (token-inside (c .before .before .before .before .before .before .before .before .pre .is .taking), (let e = c .before .before .before .before .before .before .wide .ensures in let f = c .before .before .before .before .before .before .before .word .ensures in omega arith))
 
--- src/rebind.rt:65:1
 returns : tie.Need-returns
 returns c = λ m a.
     let s = slots.Value (valueOf (tokenAt (m .tokens) (c .before .before .before .before .before .before .before .before .before .args .p) .value)) in

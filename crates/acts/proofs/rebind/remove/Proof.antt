@@ -1,44 +1,33 @@
+-- `rebind::remove` meets its contract: each way out is how the definition's step ends there. Assumes nothing.
 use Rattle.acts.proofs.Ending.{gives-as, rebound-as, empty-no-cell}
 use Rattle.acts.proofs.Instructions.{remove-step}
 use Rattle.sites.proofs.Rows.{remove-numbers}
 use Rattle.acts.proofs.Outcomes.{row, row-fits, token-inside}
 use Rattle.model.specs.declared.token.Slot.the-variants as slots
-use mathlib.Core.Path.{refl, sym, ap, ap₂, _∙_}
+use mathlib.Core.Path.{refl, sym, _∙_}
 use native.Mathlib.Omega.{arith}
 use borrow.Author.Needs.{needs}
 use Rattle.acts.proofs.rebind.remove.Statement.{statement}
 use Rattle.acts.proofs.rebind.remove.Tie as tie
-use Rattle.acts.proofs.rebind.remove.Reads as reads
-use Rattle.acts.proofs.rebind.remove.Lts as lts
-use Rattle.writes.proofs.dag.wide.Reads as wide-reads
-use Rattle.writes.proofs.dag.word.Reads as word-reads
-use Rattle.acts.proofs.rebind.rebind.Reads as rebind-reads
 
--- src/rebind.rt:79:28
 add-word : tie.Need-add-word
 add-word c = search needs
 
--- src/rebind.rt:79:18
 word-requires : tie.Need-word-requires
 word-requires c κs = let l = row-fits (c .pre .is) in omega arith
 
--- src/rebind.rt:79:9
 wide-requires : tie.Need-wide-requires
 wide-requires c κs = search needs
 
--- src/rebind.rt:80:68
 add-word-2 : tie.Need-add-word-2
 add-word-2 c = search needs
 
--- src/rebind.rt:80:58
 word-requires-2 : tie.Need-word-requires-2
 word-requires-2 c κs = let l = row-fits (c .before .before .before .before .before .pre .is) in omega arith
 
--- src/rebind.rt:80:5
 rebind-requires : tie.Need-rebind-requires
 rebind-requires c κs = let l = remove-numbers _ _ (row (c .before .before .before .before .before .before .pre .is)) .0 in (token-inside (c .before .before .before .before .before .before .pre .is .taking), (let e = c .before .before .before .before .wide .ensures in let f = c .before .before .before .before .before .word .ensures in omega arith))
 
--- src/rebind.rt:75:1
 returns : tie.Need-returns
 returns c = λ m a.
     gives-as (remove-step _ _ _ _ m a ∙ rebound-as m _ _ slots.Empty (sym (c .before .before .before .before .before .wide .ensures ∙ c .before .before .before .before .before .before .word .ensures)) (sym (c .before .word2 .ensures)))

@@ -1,3 +1,4 @@
+-- `return_value::return_value` meets its contract: each way out is how the definition's step ends there. Assumes nothing.
 use Rattle.acts.proofs.Ending.{return-caller, return-vacant}
 use Rattle.acts.proofs.Instructions.{return-step}
 use Rattle.acts.proofs.Outcomes.{token-inside, gives-swept}
@@ -7,39 +8,25 @@ use native.Mathlib.Omega.{arith}
 use borrow.Author.Needs.{needs}
 use Rattle.acts.proofs.return_value.return_value.Statement.{statement}
 use Rattle.acts.proofs.return_value.return_value.Tie as tie
-use Rattle.acts.proofs.return_value.return_value.Reads as reads
-use Rattle.acts.proofs.return_value.return_value.Lts as lts
-use Rattle.writes.proofs.dag.wide.Reads as wide-reads
-use Rattle.acts.proofs.report.plain.Reads as plain-reads
-use Rattle.writes.proofs.return_value.written.Reads as written-reads
-use Rattle.reach.proofs.sweep.sweep.Reads as sweep-reads
-use Rattle.record.proofs.token.caller.Reads as caller-reads
 
--- src/return_value.rt:51:18
 caller-requires : tie.Need-caller-requires
 caller-requires c κs = token-inside (c .before .pre .is .taking)
 
--- src/return_value.rt:51:9
 wide-requires : tie.Need-wide-requires
 wide-requires c κs = search needs
 
--- src/return_value.rt:52:26
 sub-written : tie.Need-sub-written
 sub-written c = let k = return-caller _ _ _ _ _ (c .before .before .before .before .pre .is) (c .before .wide .ensures ∙ c .before .before .caller .ensures _ (c .before .before .before .before .pre .is .taking .lawful .holds .codes)) in omega (arith, k .0)
 
--- src/return_value.rt:52:5
 written-requires : tie.Need-written-requires
 written-requires c κs = let k = return-caller _ _ _ _ _ (c .before .before .before .before .pre .is) (c .before .wide .ensures ∙ c .before .before .caller .ensures _ (c .before .before .before .before .pre .is .taking .lawful .holds .codes)) in (token-inside (c .before .before .before .before .pre .is .taking), k .1)
 
--- src/return_value.rt:53:5
 sweep-requires : tie.Need-sweep-requires
 sweep-requires c κs = search needs
 
--- src/return_value.rt:54:5
 plain-requires : tie.Need-plain-requires
 plain-requires c κs = search needs
 
--- src/return_value.rt:47:1
 returns : tie.Need-returns
 returns c = λ m a.
     let k = return-caller _ _ _ _ m a (c .before .before .before .before .before .before .before .wide .ensures ∙ c .before .before .before .before .before .before .before .before .caller .ensures m (a .taking .lawful .holds .codes)) in

@@ -1,100 +1,71 @@
+-- `where_split::where_split` meets its contract: each way out is how the definition's step ends there. Assumes nothing.
 use Rattle.acts.proofs.Making.{where-gives, where-refused, where-refused-cell, queue-open, new-apart}
 use Rattle.sites.proofs.Rows.{where-numbers}
 use Rattle.acts.proofs.Outcomes.{row, row-fits, token-inside}
-use mathlib.Core.Path.{_≡_, refl, subst, sym, _∙_}
+use mathlib.Core.Path.{_∙_}
 use native.Mathlib.Omega.{arith}
 use borrow.Author.Needs.{needs}
 use Rattle.acts.proofs.where_split.where_split.Statement.{statement}
 use Rattle.acts.proofs.where_split.where_split.Tie as tie
-use Rattle.acts.proofs.where_split.where_split.Reads as reads
-use Rattle.acts.proofs.where_split.where_split.Lts as lts
-use Rattle.writes.proofs.dag.wide.Reads as wide-reads
-use Rattle.writes.proofs.dag.word.Reads as word-reads
-use Rattle.acts.proofs.report.plain.Reads as plain-reads
-use Rattle.writes.proofs.where_split.written.Reads as written-reads
-use Rattle.reach.proofs.place.next_cell.Reads as next-cell-reads
-use Rattle.reach.proofs.place.next_token.Reads as next-token-reads
-use Rattle.record.proofs.count.last_cell.Reads as last-cell-reads
-use Rattle.record.proofs.count.last_token.Reads as last-token-reads
 
--- src/where_split.rt:71:34
 last-token-requires : tie.Need-last-token-requires
 last-token-requires c κs = search needs
 
--- src/where_split.rt:71:9
 next-token-requires : tie.Need-next-token-requires
 next-token-requires c κs = search needs
 
--- src/where_split.rt:73:9
 plain-requires : tie.Need-plain-requires
 plain-requires c κs = search needs
 
--- src/where_split.rt:73:9
 returns : tie.Need-returns
 returns c = λ m a. where-refused _ _ _ _ m a (c .before .before .next-token .ensures) (c .before .before .before .last-token .ensures m (a .taking .lawful .holds .codes)) _ (search needs) (c .plain .ensures)
 
--- src/where_split.rt:75:30
 last-cell-requires : tie.Need-last-cell-requires
 last-cell-requires c κs = search needs
 
--- src/where_split.rt:75:9
 next-cell-requires : tie.Need-next-cell-requires
 next-cell-requires c κs = search needs
 
--- src/where_split.rt:77:9
 plain-requires-2 : tie.Need-plain-requires-2
 plain-requires-2 c κs = search needs
 
--- src/where_split.rt:77:9
 returns-2 : tie.Need-returns-2
 returns-2 c = λ m a. where-refused-cell _ _ _ _ m a (c .before .before .before .before .before .before .before .next-token .ensures) (c .before .before .before .before .before .before .before .before .last-token .ensures m (a .taking .lawful .holds .codes))
     (c .before .before .next-cell .ensures) (c .before .before .before .last-cell .ensures m (a .taking .lawful .holds .codes)) _ (search needs) (search needs) (c .plain2 .ensures)
 
--- src/where_split.rt:79:49
 add-word : tie.Need-add-word
 add-word c = search needs
 
--- src/where_split.rt:79:39
 word-requires : tie.Need-word-requires
 word-requires c κs = let l = row-fits (c .before .before .before .before .before .before .before .before .before .before .before .pre .is) in omega arith
 
--- src/where_split.rt:79:34
 wide-requires : tie.Need-wide-requires
 wide-requires c κs = search needs
 
--- src/where_split.rt:79:69
 add-word-2 : tie.Need-add-word-2
 add-word-2 c = search needs
 
--- src/where_split.rt:79:59
 word-requires-2 : tie.Need-word-requires-2
 word-requires-2 c κs = let l = row-fits (c .before .before .before .before .before .before .before .before .before .before .before .before .before .pre .is) in omega arith
 
--- src/where_split.rt:79:88
 add-word-3 : tie.Need-add-word-3
 add-word-3 c = search needs
 
--- src/where_split.rt:79:78
 word-requires-3 : tie.Need-word-requires-3
 word-requires-3 c κs = let l = row-fits (c .before .before .before .before .before .before .before .before .before .before .before .before .before .before .pre .is) in omega arith
 
--- src/where_split.rt:79:5
 written-requires : tie.Need-written-requires
 written-requires c κs = let l = where-numbers _ _ (row (c .before .before .before .before .before .before .before .before .before .before .before .before .before .before .before .pre .is)) .2 in (token-inside (c .before .before .before .before .before .before .before .before .before .before .before .before .before .before .before .pre .is .taking), search needs, search needs, (let e = c .before .before .wide .ensures in let f = c .before .before .before .word .ensures in omega arith))
 
--- src/where_split.rt:80:5
 element-write-tokens : tie.Need-element-write-tokens
 element-write-tokens c = search needs
 
--- src/where_split.rt:81:5
 element-write-cells : tie.Need-element-write-cells
 element-write-cells c = search needs
 
--- src/where_split.rt:82:5
 plain-requires-3 : tie.Need-plain-requires-3
 plain-requires-3 c κs = search needs
 
--- src/where_split.rt:67:1
 returns-3 : tie.Need-returns-3
 returns-3 c = λ m a.
     let next = c .before .before .before .before .before .before .before .before .before .before .before .before .before .next-token .ensures in

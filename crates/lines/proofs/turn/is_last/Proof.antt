@@ -1,5 +1,4 @@
 -- `turn::is_last` meets its contract. Assumes nothing.
-use borrow.Author.Needs.{needs}
 use Rattle.lines.proofs.TurnCases.{last-empty, last-ready}
 use Rattle.lines.proofs.turn.is_last.Statement.{statement}
 use Rattle.lines.proofs.turn.is_last.Tie as tie

@@ -1,5 +1,4 @@
 -- `turn::is_limit` meets its contract. Assumes nothing.
-use borrow.Author.Needs.{needs}
 use Rattle.lines.proofs.TurnCases.{limit-empty, limit-ready}
 use Rattle.lines.proofs.turn.is_limit.Statement.{statement}
 use Rattle.lines.proofs.turn.is_limit.Tie as tie

@@ -1,52 +1,36 @@
+-- `step::step` meets its contract: each way out is how the definition's call ends there. Assumes nothing.
 use Rattle.machine.proofs.Giving.{denied, granted, step-rule, step-gives, step-no-token}
 use native.Mathlib.Omega.{arith}
-use mathlib.Core.Path.{_≡_, refl, sym, _∙_}
 use borrow.Author.Needs.{needs}
 use Rattle.machine.proofs.step.step.Statement.{statement}
 use Rattle.machine.proofs.step.step.Tie as tie
-use Rattle.machine.proofs.step.step.Reads as reads
-use Rattle.machine.proofs.step.step.Lts as lts
-use Rattle.acts.proofs.report.plain.Reads as plain-reads
-use Rattle.machine.proofs.unchecked.step.Reads as step-reads
-use Rattle.machine.proofs.lawful.is_lawful.Reads as is-lawful-reads
-use Rattle.record.proofs.order.queued.Reads as queued-reads
-use Rattle.sites.proofs.number.wide.Reads as wide-reads
 
--- src/step.rt:20:9
 is-lawful-requires : tie.Need-is-lawful-requires
 is-lawful-requires c κs = search needs
 
--- src/step.rt:21:9
 plain-requires : tie.Need-plain-requires
 plain-requires c κs = search needs
 
--- src/step.rt:21:9
 returns : tie.Need-returns
 returns c = step-rule _ _ _ _ _ (c .before .before .is-lawful .ensures .0) (denied _ (c .before .if1 .taken)) (c .plain .ensures)
 
--- src/step.rt:23:13
 queued-requires : tie.Need-queued-requires
 queued-requires c κs = search needs
 
--- src/step.rt:23:8
 wide-requires : tie.Need-wide-requires
 wide-requires c κs = search needs
 
--- src/step.rt:24:9
 plain-requires-2 : tie.Need-plain-requires-2
 plain-requires-2 c κs = search needs
 
--- src/step.rt:24:9
 returns-2 : tie.Need-returns-2
 returns-2 c = let a = c .before .before .before .before .before .before .is-lawful .ensures .1 (granted _ (c .before .before .before .before .before .if1 .left)) in
     step-no-token _ _ a _ _ (let e = c .before .before .before .queued .ensures _ (a .holds .codes) in let f = c .before .before .wide .ensures in omega arith) (c .plain2 .ensures)
 
--- src/step.rt:26:5
 step-requires : tie.Need-step-requires
 step-requires c κs = let a = c .before .before .before .before .before .before .before .before .is-lawful .ensures .1 (granted _ (c .before .before .before .before .before .before .before .if1 .left)) in
     record { machine = _; is = record { lawful = a; queued = (let e = c .before .before .before .before .before .queued .ensures _ (a .holds .codes) in let f = c .before .before .before .before .wide .ensures in omega arith) } }
 
--- src/step.rt:15:1
 returns-3 : tie.Need-returns-3
 returns-3 c = let a = c .before .before .before .before .before .before .before .before .before .is-lawful .ensures .1 (granted _ (c .before .before .before .before .before .before .before .before .if1 .left)) in
     step-gives _ _ a _ _ (c .step .ensures _ (record { lawful = a; queued = (let e = c .before .before .before .before .before .before .queued .ensures _ (a .holds .codes) in let f = c .before .before .before .before .before .wide .ensures in omega arith) }))

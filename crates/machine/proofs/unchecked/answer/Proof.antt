@@ -1,3 +1,4 @@
+-- `unchecked::answer` meets its contract: each way out is how the definition's call ends there. Assumes nothing.
 use Rattle.machine.proofs.Whole.{answer-gives, answer-refused}
 use mir.Syntax.{w32}
 use mir.Val.{SFits}
@@ -5,28 +6,19 @@ use mir.Facts.{toZ-ofZ}
 use borrow.Author.Needs.{needs}
 use Rattle.machine.proofs.unchecked.answer.Statement.{statement}
 use Rattle.machine.proofs.unchecked.answer.Tie as tie
-use Rattle.machine.proofs.unchecked.answer.Reads as reads
-use Rattle.machine.proofs.unchecked.answer.Lts as lts
-use Rattle.acts.proofs.report.plain.Reads as plain-reads
-use Rattle.sites.proofs.answer.answer.Reads as answer-reads
 
--- src/unchecked.rt:80:8
 answer-requires : tie.Need-answer-requires
 answer-requires c κs = search needs
 
--- src/unchecked.rt:81:9
 plain-requires : tie.Need-plain-requires
 plain-requires c κs = search needs
 
--- src/unchecked.rt:81:9
 returns : tie.Need-returns
 returns c = λ m dag used cells a. let s = c .before .before .before .before in let f : SFits w32 (s .args .value) = search needs in answer-gives a _ _ _ (rw (toZ-ofZ f) at (c .before .before .answer .ensures)) _ (c .before .if1 .taken) (c .plain .ensures)
 
--- src/unchecked.rt:83:5
 plain-requires-2 : tie.Need-plain-requires-2
 plain-requires-2 c κs = search needs
 
--- src/unchecked.rt:77:1
 returns-2 : tie.Need-returns-2
 returns-2 c = λ m dag used cells a. let s = c .before .before .before .before in let f : SFits w32 (s .args .value) = search needs in answer-refused a _ _ _ (rw (toZ-ofZ f) at (c .before .before .answer .ensures)) _ (c .before .if1 .left) (c .plain2 .ensures)
 

@@ -1,47 +1,33 @@
+-- `unchecked::step` meets its contract: each way out is how the definition's call ends there. Assumes nothing.
 use Prim.Native.Nat.{_+_, _*_}
 use Rattle.machine.proofs.Whole.{place-inside, taking-of, acting-of}
 use Rattle.acts.proofs.Outcomes.{token-inside}
-use mathlib.Core.Path.{refl, sym, ap, _∙_}
-use native.Mathlib.Omega.{arith}
+use mathlib.Core.Path.{ap, _∙_}
 use borrow.Author.Needs.{needs}
 use Rattle.machine.proofs.unchecked.step.Statement.{statement}
 use Rattle.machine.proofs.unchecked.step.Tie as tie
-use Rattle.machine.proofs.unchecked.step.Reads as reads
-use Rattle.machine.proofs.unchecked.step.Lts as lts
-use Rattle.writes.proofs.dag.wide.Reads as wide-reads
-use Rattle.machine.proofs.unchecked.act.Reads as act-reads
-use Rattle.record.proofs.order.queue_name.Reads as queue-name-reads
-use Rattle.record.proofs.token.node.Reads as node-reads
 
--- src/unchecked.rt:71:18
 queue-name-requires : tie.Need-queue-name-requires
 queue-name-requires c κs = place-inside (c .before .pre .is)
 
--- src/unchecked.rt:71:9
 wide-requires : tie.Need-wide-requires
 wide-requires c κs = search needs
 
--- src/unchecked.rt:72:32
 node-requires : tie.Need-node-requires
 node-requires c κs = let r = c .before .before .before .before .pre .is in token-inside (taking-of r (c .before .wide .ensures ∙ c .before .before .queue-name .ensures _ (r .lawful .holds .codes)))
 
--- src/unchecked.rt:72:27
 wide-requires-2 : tie.Need-wide-requires-2
 wide-requires-2 c κs = search needs
 
--- src/unchecked.rt:72:21
 mul-at : tie.Need-mul-at
 mul-at c = search needs
 
--- src/unchecked.rt:72:14
 add-at : tie.Need-add-at
 add-at c = search needs
 
--- src/unchecked.rt:73:5
 act-requires : tie.Need-act-requires
 act-requires c κs = let r = c .before .before .before .before .before .before .before .before .before .pre .is in let codes = r .lawful .holds .codes in record { machine = c .before .before .before .before .before .before .before .before .before .pre .machine; is = acting-of r (c .before .before .before .before .before .before .wide .ensures ∙ c .before .before .before .before .before .before .before .queue-name .ensures _ codes) (ap (λ n. 67 + 12 * n) (c .before .before .before .wide2 .ensures ∙ c .before .before .before .before .node .ensures _ codes)) }
 
--- src/unchecked.rt:67:1
 returns : tie.Need-returns
 returns c = λ m r. let codes = r .lawful .holds .codes in c .act .ensures m (acting-of r (c .before .before .before .before .before .before .before .wide .ensures ∙ c .before .before .before .before .before .before .before .before .queue-name .ensures m codes) (ap (λ n. 67 + 12 * n) (c .before .before .before .before .wide2 .ensures ∙ c .before .before .before .before .before .node .ensures m codes)))
 

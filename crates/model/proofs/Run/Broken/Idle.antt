@@ -14,7 +14,7 @@ use Rattle.model.specs.Job.Construct.{construct}
 use Rattle.model.specs.Machine.Limits.{Limits, limits}
 use Rattle.model.specs.Machine.Blank.{blankToken}
 use Rattle.model.specs.Machine.Rules.{rulesHold}
-use Rattle.model.specs.Machine.Reply.{valuesBeside, refuses, unless, outcome, told}
+use Rattle.model.specs.Machine.Reply.{reportValues, refuses, unless, outcome, reported}
 use Rattle.model.specs.Machine.Start as Start
 use Rattle.model.specs.Machine.Start.{startToken}
 use Rattle.model.specs.Machine.Answer as Answer
@@ -37,7 +37,7 @@ use Rattle.model.proofs.Run.Computing.{computing}
 
 -- every step is accepted, and leaves the machine as it was
 unfoldable pub idleStep : Limits → Dag → Machine → (place : ℕ) → Outcome
-idleStep lim d m place = record { reply = replies.Done; values = valuesBeside []; machine = m }
+idleStep lim d m place = record { reply = replies.Done; values = reportValues []; machine = m }
 
 abbrev pub idle : Runner
 idle = record { start = Start.start; step = idleStep; answer = Answer.answer }
@@ -68,7 +68,7 @@ module _ (lim : Limits) (d : Dag) (m : Machine) (closed : (h : ℕ) → holder h
 
   -- so the machine stays, and no call shows anything
   shows-nothing : (calls : List Call) → eventsFrom idle lim d m calls ≡ []
-  unfolding eventsFrom eventsOf outcomeOf idleStep outcome told
+  unfolding eventsFrom eventsOf outcomeOf idleStep outcome reported
   shows-nothing [] = refl
   shows-nothing (Call.step place ∷ calls) = shows-nothing calls
   shows-nothing (Call.answer h v fits ∷ calls) = rw (answer-refused h v .1) (shows-nothing calls)

@@ -12,7 +12,7 @@ use Rattle.model.specs.Test.{_and_}
 use Rattle.model.specs.Job.Encode.{encode}
 use Rattle.model.specs.Job.Node.{Dag}
 use Rattle.model.specs.Machine.Limits.{Limits}
-use Rattle.model.specs.Machine.Reply.{valuesBeside}
+use Rattle.model.specs.Machine.Reply.{reportValues}
 use Rattle.model.specs.Machine.Start as Start
 use Rattle.model.specs.Machine.Step as Step
 use Rattle.model.specs.Machine.Answer as Answer
@@ -51,7 +51,7 @@ unfoldable pub lateAnswer : Limits → Dag → Machine → (handle : ℕ) → (v
 lateAnswer lim d m h v =
     let o = Answer.answer lim d m h v in
     elim (saysNotOpen (o .reply) and ltb h (m .calls)) [
-      | true ↦ record { reply = replies.Done; values = valuesBeside []; machine = m }
+      | true ↦ record { reply = replies.Done; values = reportValues []; machine = m }
       | false ↦ o
     ]
 

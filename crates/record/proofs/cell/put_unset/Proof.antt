@@ -1,67 +1,51 @@
+-- `cell::put_unset` meets its contract: the row with these words is that of the cell so changed. Assumes nothing.
 use borrow.Author.Needs.{needs}
 use Rattle.record.proofs.CellRow.{unset-put}
 use Rattle.record.proofs.cell.put_unset.Statement.{statement}
 use Rattle.record.proofs.cell.put_unset.Tie as tie
-use Rattle.record.proofs.cell.put_unset.Reads as reads
-use Rattle.record.proofs.cell.put_unset.Lts as lts
 
--- src/cell.rt:43:15
 mul-w : tie.Need-mul-w
 mul-w c = search needs
 
--- src/cell.rt:43:7
 add-w : tie.Need-add-w
 add-w c = search needs
 
--- src/cell.rt:43:5
 mul-w-2 : tie.Need-mul-w-2
 mul-w-2 c = search needs
 
--- src/cell.rt:43:5
 element-write-w : tie.Need-element-write-w
 element-write-w c = search needs
 
--- src/cell.rt:44:15
 mul-w-3 : tie.Need-mul-w-3
 mul-w-3 c = search needs
 
--- src/cell.rt:44:7
 add-w-2 : tie.Need-add-w-2
 add-w-2 c = search needs
 
--- src/cell.rt:44:7
 add-w-3 : tie.Need-add-w-3
 add-w-3 c = search needs
 
--- src/cell.rt:44:5
 mul-w-4 : tie.Need-mul-w-4
 mul-w-4 c = search needs
 
--- src/cell.rt:44:5
 element-write-w-2 : tie.Need-element-write-w-2
 element-write-w-2 c = search needs
 
--- src/cell.rt:45:15
 mul-w-5 : tie.Need-mul-w-5
 mul-w-5 c = search needs
 
--- src/cell.rt:45:7
 add-w-4 : tie.Need-add-w-4
 add-w-4 c = search needs
 
--- src/cell.rt:45:7
 add-w-5 : tie.Need-add-w-5
 add-w-5 c = search needs
 
--- src/cell.rt:45:5
 mul-w-6 : tie.Need-mul-w-6
 mul-w-6 c = search needs
 
--- src/cell.rt:45:5
 element-write-w-3 : tie.Need-element-write-w-3
 element-write-w-3 c = search needs
 
--- src/cell.rt:39:1
 returns : tie.Need-returns
 returns c = λ m q h e. unset-put h _ (search needs) _ q e
 

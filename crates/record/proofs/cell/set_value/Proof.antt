@@ -1,51 +1,39 @@
+-- `cell::set_value` meets its contract: the row with these words is that of the cell so changed. Assumes nothing.
 use borrow.Author.Needs.{needs}
 use Rattle.record.proofs.CellRow.{set-put}
 use Rattle.record.proofs.cell.set_value.Statement.{statement}
 use Rattle.record.proofs.cell.set_value.Tie as tie
-use Rattle.record.proofs.cell.set_value.Reads as reads
-use Rattle.record.proofs.cell.set_value.Lts as lts
 
--- src/cell.rt:53:15
 mul-w : tie.Need-mul-w
 mul-w c = search needs
 
--- src/cell.rt:53:7
 add-w : tie.Need-add-w
 add-w c = search needs
 
--- src/cell.rt:53:7
 add-w-2 : tie.Need-add-w-2
 add-w-2 c = search needs
 
--- src/cell.rt:53:5
 mul-w-2 : tie.Need-mul-w-2
 mul-w-2 c = search needs
 
--- src/cell.rt:53:5
 element-write-w : tie.Need-element-write-w
 element-write-w c = search needs
 
--- src/cell.rt:54:15
 mul-w-3 : tie.Need-mul-w-3
 mul-w-3 c = search needs
 
--- src/cell.rt:54:7
 add-w-3 : tie.Need-add-w-3
 add-w-3 c = search needs
 
--- src/cell.rt:54:7
 add-w-4 : tie.Need-add-w-4
 add-w-4 c = search needs
 
--- src/cell.rt:54:5
 mul-w-4 : tie.Need-mul-w-4
 mul-w-4 c = search needs
 
--- src/cell.rt:54:5
 element-write-w-2 : tie.Need-element-write-w-2
 element-write-w-2 c = search needs
 
--- src/cell.rt:49:1
 returns : tie.Need-returns
 returns c = λ m v h e f. set-put h _ (search needs) _ _ v e f
 

@@ -1,31 +1,24 @@
+-- `cell::value` meets its contract: the word that it reads is the field's. Assumes nothing.
 use borrow.Author.Needs.{needs}
 use Rattle.record.proofs.CellRow.{value-word}
 use Rattle.record.proofs.cell.value.Statement.{statement}
 use Rattle.record.proofs.cell.value.Tie as tie
-use Rattle.record.proofs.cell.value.Reads as reads
-use Rattle.record.proofs.cell.value.Lts as lts
 
--- src/cell.rt:35:15
 mul-result : tie.Need-mul-result
 mul-result c = search needs
 
--- src/cell.rt:35:7
 add-result : tie.Need-add-result
 add-result c = search needs
 
--- src/cell.rt:35:7
 add-result-2 : tie.Need-add-result-2
 add-result-2 c = search needs
 
--- src/cell.rt:35:5
 mul-result-2 : tie.Need-mul-result-2
 mul-result-2 c = search needs
 
--- src/cell.rt:35:5
 element-copy-out-result : tie.Need-element-copy-out-result
 element-copy-out-result c = search needs
 
--- src/cell.rt:31:1
 returns : tie.Need-returns
 returns c = λ m h. value-word h _ (search needs)
 

@@ -1,31 +1,24 @@
+-- `cell::valued` meets its contract: the word that it reads is the field's. Assumes nothing.
 use borrow.Author.Needs.{needs}
 use Rattle.record.proofs.CellRow.{valued-word}
 use Rattle.record.proofs.cell.valued.Statement.{statement}
 use Rattle.record.proofs.cell.valued.Tie as tie
-use Rattle.record.proofs.cell.valued.Reads as reads
-use Rattle.record.proofs.cell.valued.Lts as lts
 
--- src/cell.rt:28:15
 mul-result : tie.Need-mul-result
 mul-result c = search needs
 
--- src/cell.rt:28:7
 add-result : tie.Need-add-result
 add-result c = search needs
 
--- src/cell.rt:28:7
 add-result-2 : tie.Need-add-result-2
 add-result-2 c = search needs
 
--- src/cell.rt:28:5
 mul-result-2 : tie.Need-mul-result-2
 mul-result-2 c = search needs
 
--- src/cell.rt:28:5
 element-copy-out-result : tie.Need-element-copy-out-result
 element-copy-out-result c = search needs
 
--- src/cell.rt:24:1
 returns : tie.Need-returns
 returns c = λ m h. valued-word h _ (search needs)
 

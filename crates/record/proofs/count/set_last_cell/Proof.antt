@@ -1,15 +1,12 @@
+-- `count::set_last_cell` meets its contract: the counts with this word are those of the record so changed. Assumes nothing.
 use borrow.Author.Needs.{needs}
 use Rattle.record.proofs.Counts.{last-cell-put}
 use Rattle.record.proofs.count.set_last_cell.Statement.{statement}
 use Rattle.record.proofs.count.set_last_cell.Tie as tie
-use Rattle.record.proofs.count.set_last_cell.Reads as reads
-use Rattle.record.proofs.count.set_last_cell.Lts as lts
 
--- src/count.rt:44:5
 element-write-w : tie.Need-element-write-w
 element-write-w c = search needs
 
--- src/count.rt:41:1
 returns : tie.Need-returns
 returns c = λ m h. last-cell-put h _
 

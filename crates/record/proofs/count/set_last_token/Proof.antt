@@ -1,15 +1,12 @@
+-- `count::set_last_token` meets its contract: the counts with this word are those of the record so changed. Assumes nothing.
 use borrow.Author.Needs.{needs}
 use Rattle.record.proofs.Counts.{last-token-put}
 use Rattle.record.proofs.count.set_last_token.Statement.{statement}
 use Rattle.record.proofs.count.set_last_token.Tie as tie
-use Rattle.record.proofs.count.set_last_token.Reads as reads
-use Rattle.record.proofs.count.set_last_token.Lts as lts
 
--- src/count.rt:38:5
 element-write-w : tie.Need-element-write-w
 element-write-w c = search needs
 
--- src/count.rt:35:1
 returns : tie.Need-returns
 returns c = λ m h. last-token-put h _
 

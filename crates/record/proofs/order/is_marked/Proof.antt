@@ -6,9 +6,6 @@ use native.Mathlib.Omega.{arith}
 use lib.ListN.{getD, List·getD-eq-default}
 use Rattle.record.proofs.order.is_marked.Statement.{statement}
 use Rattle.record.proofs.order.is_marked.Tie as tie
-use Rattle.record.proofs.order.is_marked.Reads as reads
-use Rattle.record.proofs.order.is_marked.Lts as lts
-use Rattle.record.proofs.order.wide.Reads as wide-reads
 
 wide-requires : tie.Need-wide-requires
 wide-requires c κs = search needs

@@ -1,3 +1,4 @@
+-- `order::leave_slice` meets its contract: the array is the order's names and zeros, before and after. Assumes nothing.
 use borrow.Author.Needs.{needs}
 use mathlib.Core.Path.{_∙_}
 use native.Mathlib.Omega.{arith}
@@ -6,60 +7,43 @@ use Rattle.record.proofs.Shape.{queue-fits}
 use Rattle.record.proofs.Queue.{leave-put}
 use Rattle.record.proofs.order.leave_slice.Statement.{statement}
 use Rattle.record.proofs.order.leave_slice.Tie as tie
-use Rattle.record.proofs.order.leave_slice.Reads as reads
-use Rattle.record.proofs.order.leave_slice.Lts as lts
-use Rattle.record.proofs.order.left_out.Reads as left-out-reads
-use Rattle.record.proofs.order.wide.Reads as wide-reads
 
--- src/order.rt:95:22
 slice-read-wide : tie.Need-slice-read-wide
 slice-read-wide c = search needs
 
--- src/order.rt:95:9
 wide-requires : tie.Need-wide-requires
 wide-requires c κs = search needs
 
--- src/order.rt:98:22
 sub-left-out : tie.Need-sub-left-out
 sub-left-out c = search needs
 
--- src/order.rt:98:22
 part-left-out-start : tie.Need-part-left-out-start
 part-left-out-start c = search needs
 
--- src/order.rt:98:22
 part-left-out-end : tie.Need-part-left-out-end
 part-left-out-end c = search needs
 
--- src/order.rt:98:13
 left-out-requires : tie.Need-left-out-requires
 left-out-requires c κs = search needs
 
--- src/order.rt:99:25
 cast-w : tie.Need-cast-w
 cast-w c = search needs
 
--- src/order.rt:99:25
 sub-w : tie.Need-sub-w
 sub-w c = search needs
 
--- src/order.rt:99:13
 slice-write-w : tie.Need-slice-write-w
 slice-write-w c = search needs
 
--- src/order.rt:91:1
 same-length : tie.Need-same-length
 same-length c = search needs
 
--- src/order.rt:91:1
 returns : tie.Need-returns
 returns c = λ m h l. leave-put h _ _ _ (c .before .before .before .before .before .before .wide .ensures ∙ queued-word (h .codes)) (search needs) (c .before .before .left-out .ensures)
 
--- src/order.rt:91:1
 returns-2 : tie.Need-returns-2
 returns-2 c = λ m h l. absurd (omega (arith, queued-word (h .codes), c .before .before .wide .ensures))
 
--- src/order.rt:91:1
 returns-3 : tie.Need-returns-3
 returns-3 c = λ m h l. absurd (omega (arith, queued-word (h .codes), queue-fits h, h .ordered .queued, c .before .wide .ensures))
 

@@ -1,8 +1,8 @@
-use mathlib.Core.Path.{_≡_, refl, sym, ap, _∙_}
-use mathlib.Core.List.{List}
-use Prim.Native.Nat.{ℕ, suc, _+_, _-_, _*_, _<_, _≤_}
+-- `order::left_out` meets its contract: the array is the order's names and zeros, before and after. Assumes nothing.
+use mathlib.Core.Path.{_≡_, ap, _∙_}
+use Prim.Native.Nat.{suc, _+_, _-_, _≤_}
 use native.Mathlib.Omega.{arith}
-use lib.ListN.{length, getD, set, take, drop}
+use lib.ListN.{length, getD, take, drop}
 use lib.Seq.{drop-set-lt}
 use lib.ListN.{length-set}
 use Rattle.model.specs.Test.{padded, without}
@@ -10,8 +10,6 @@ use Rattle.record.proofs.Names.{moved-up, last-gone}
 use borrow.Author.Needs.{needs}
 use Rattle.record.proofs.order.left_out.Statement.{statement}
 use Rattle.record.proofs.order.left_out.Tie as tie
-use Rattle.record.proofs.order.left_out.Reads as reads
-use Rattle.record.proofs.order.left_out.Lts as lts
 
 abbrev Inv-loop : tie.InvT-loop
 Inv-loop names₀ count index last i₀ names i =

@@ -1,23 +1,18 @@
+-- `order::queue_name` meets its contract: the word that it reads is the name. Assumes nothing.
 use borrow.Author.Needs.{needs}
 use Rattle.record.proofs.Queue.{queue-word}
 use Rattle.record.proofs.order.queue_name.Statement.{statement}
 use Rattle.record.proofs.order.queue_name.Tie as tie
-use Rattle.record.proofs.order.queue_name.Reads as reads
-use Rattle.record.proofs.order.queue_name.Lts as lts
 
--- src/order.rt:42:7
 add-result : tie.Need-add-result
 add-result c = search needs
 
--- src/order.rt:42:5
 mul-result : tie.Need-mul-result
 mul-result c = search needs
 
--- src/order.rt:42:5
 element-copy-out-result : tie.Need-element-copy-out-result
 element-copy-out-result c = search needs
 
--- src/order.rt:38:1
 returns : tie.Need-returns
 returns c = λ m h. queue-word h _ (search needs)
 

@@ -1,15 +1,12 @@
+-- `order::queued` meets its contract: the word that it reads is the count. Assumes nothing.
 use borrow.Author.Needs.{needs}
 use Rattle.record.proofs.Counts.{queued-word}
 use Rattle.record.proofs.order.queued.Statement.{statement}
 use Rattle.record.proofs.order.queued.Tie as tie
-use Rattle.record.proofs.order.queued.Reads as reads
-use Rattle.record.proofs.order.queued.Lts as lts
 
--- src/order.rt:28:5
 element-copy-out-result : tie.Need-element-copy-out-result
 element-copy-out-result c = search needs
 
--- src/order.rt:25:1
 returns : tie.Need-returns
 returns c = λ m h. queued-word h
 

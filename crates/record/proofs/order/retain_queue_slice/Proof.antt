@@ -7,10 +7,6 @@ use Rattle.record.proofs.Shape.{queue-fits}
 use Rattle.record.proofs.Counts.{queued-word}
 use Rattle.record.proofs.order.retain_queue_slice.Statement.{statement}
 use Rattle.record.proofs.order.retain_queue_slice.Tie as tie
-use Rattle.record.proofs.order.retain_queue_slice.Reads as reads
-use Rattle.record.proofs.order.retain_queue_slice.Lts as lts
-use Rattle.record.proofs.order.retained.Reads as retained-reads
-use Rattle.record.proofs.order.wide.Reads as wide-reads
 
 slice-read-wide : tie.Need-slice-read-wide
 slice-read-wide c = search needs

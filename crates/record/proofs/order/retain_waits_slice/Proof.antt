@@ -7,10 +7,6 @@ use Rattle.record.proofs.Shape.{waits-fit}
 use Rattle.record.proofs.Counts.{waiting-word}
 use Rattle.record.proofs.order.retain_waits_slice.Statement.{statement}
 use Rattle.record.proofs.order.retain_waits_slice.Tie as tie
-use Rattle.record.proofs.order.retain_waits_slice.Reads as reads
-use Rattle.record.proofs.order.retain_waits_slice.Lts as lts
-use Rattle.record.proofs.order.retained.Reads as retained-reads
-use Rattle.record.proofs.order.wide.Reads as wide-reads
 
 slice-read-wide : tie.Need-slice-read-wide
 slice-read-wide c = search needs

@@ -7,9 +7,6 @@ use lib.ListN.{length-set}
 use Rattle.record.proofs.Retaining.{Turned, turned-first, turned-drops, turned-keeps, retained-all}
 use Rattle.record.proofs.order.retained.Statement.{statement}
 use Rattle.record.proofs.order.retained.Tie as tie
-use Rattle.record.proofs.order.retained.Reads as reads
-use Rattle.record.proofs.order.retained.Lts as lts
-use Rattle.record.proofs.order.is_marked.Reads as is-marked-reads
 
 abbrev Inv-loop : tie.InvT-loop
 Inv-loop names₀ count keep n₀ i₀ names n i = Turned names₀ count keep i names n

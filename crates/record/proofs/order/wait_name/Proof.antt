@@ -1,23 +1,18 @@
+-- `order::wait_name` meets its contract: the word that it reads is the name. Assumes nothing.
 use borrow.Author.Needs.{needs}
 use Rattle.record.proofs.Queue.{wait-word}
 use Rattle.record.proofs.order.wait_name.Statement.{statement}
 use Rattle.record.proofs.order.wait_name.Tie as tie
-use Rattle.record.proofs.order.wait_name.Reads as reads
-use Rattle.record.proofs.order.wait_name.Lts as lts
 
--- src/order.rt:50:7
 add-result : tie.Need-add-result
 add-result c = search needs
 
--- src/order.rt:50:5
 mul-result : tie.Need-mul-result
 mul-result c = search needs
 
--- src/order.rt:50:5
 element-copy-out-result : tie.Need-element-copy-out-result
 element-copy-out-result c = search needs
 
--- src/order.rt:46:1
 returns : tie.Need-returns
 returns c = λ m h. wait-word h _ (search needs)
 

@@ -1,15 +1,12 @@
+-- `order::waiting` meets its contract: the word that it reads is the count. Assumes nothing.
 use borrow.Author.Needs.{needs}
 use Rattle.record.proofs.Counts.{waiting-word}
 use Rattle.record.proofs.order.waiting.Statement.{statement}
 use Rattle.record.proofs.order.waiting.Tie as tie
-use Rattle.record.proofs.order.waiting.Reads as reads
-use Rattle.record.proofs.order.waiting.Lts as lts
 
--- src/order.rt:34:5
 element-copy-out-result : tie.Need-element-copy-out-result
 element-copy-out-result c = search needs
 
--- src/order.rt:31:1
 returns : tie.Need-returns
 returns c = λ m h. waiting-word h
 

@@ -1,3 +1,4 @@
+-- `start::clear` meets its contract: all words are 0, and four are written. Assumes nothing.
 use Prim.Native.Nat.{_≤_, _-_}
 use mathlib.Core.Path.{_≡_, refl}
 use lib.ListN.{length, take, replicate, length-set}
@@ -6,8 +7,6 @@ use borrow.Author.Needs.{needs}
 use Rattle.record.proofs.Starting.{cleared-on, cleared}
 use Rattle.record.proofs.start.clear.Statement.{statement}
 use Rattle.record.proofs.start.clear.Tie as tie
-use Rattle.record.proofs.start.clear.Reads as reads
-use Rattle.record.proofs.start.clear.Lts as lts
 
 abbrev Inv-loop : tie.InvT-loop
 Inv-loop w₀ i₀ w i = (i ≤ 1797) × (length w ≡ 1797) × (take i w ≡ replicate i 0)
@@ -15,35 +14,27 @@ Inv-loop w₀ i₀ w i = (i ≤ 1797) × (length w ≡ 1797) × (take i w ≡ re
 abbrev μ-loop : tie.MeasureT-loop
 μ-loop w₀ i₀ w i = 1797 - i
 
--- src/start.rt:18:5
 loop-holds : tie.Need-loop-holds Inv-loop μ-loop
 loop-holds c = (search needs, search needs, refl)
 
--- src/start.rt:19:9
 mul-w : tie.Need-mul-w Inv-loop μ-loop
 mul-w c = search needs
 
--- src/start.rt:19:9
 slice-write-w : tie.Need-slice-write-w Inv-loop μ-loop
 slice-write-w c = search needs
 
--- src/start.rt:20:9
 add-i : tie.Need-add-i Inv-loop μ-loop
 add-i c = search needs
 
--- src/start.rt:18:5
 loop-less : tie.Need-loop-less Inv-loop μ-loop
 loop-less c = search needs
 
--- src/start.rt:18:5
 loop-again : tie.Need-loop-again Inv-loop μ-loop
 loop-again c = let l = c .before .loop in (search needs, simp length-set (search needs), cleared-on (l .w) (l .i) (omega arith) (l .inv .2))
 
--- src/start.rt:13:1
 same-length : tie.Need-same-length Inv-loop μ-loop
 same-length c = search needs
 
--- src/start.rt:13:1
 returns : tie.Need-returns Inv-loop μ-loop
 returns c = let l = c .before .loop in cleared (l .w) (l .i) (l .inv .1) (omega arith) (l .inv .2)
 

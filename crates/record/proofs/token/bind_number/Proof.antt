@@ -1,35 +1,27 @@
+-- `token::bind_number` meets its contract: the word that it reads is the field's. Assumes nothing.
 use borrow.Author.Needs.{needs}
 use Rattle.record.proofs.TokenRow.{bind-number-word}
 use Rattle.record.proofs.token.bind_number.Statement.{statement}
 use Rattle.record.proofs.token.bind_number.Tie as tie
-use Rattle.record.proofs.token.bind_number.Reads as reads
-use Rattle.record.proofs.token.bind_number.Lts as lts
 
--- src/token.rt:80:7
 mul-result : tie.Need-mul-result
 mul-result c = search needs
 
--- src/token.rt:80:7
 add-result : tie.Need-add-result
 add-result c = search needs
 
--- src/token.rt:80:23
 mul-result-2 : tie.Need-mul-result-2
 mul-result-2 c = search needs
 
--- src/token.rt:80:7
 add-result-2 : tie.Need-add-result-2
 add-result-2 c = search needs
 
--- src/token.rt:80:5
 mul-result-3 : tie.Need-mul-result-3
 mul-result-3 c = search needs
 
--- src/token.rt:80:5
 element-copy-out-result : tie.Need-element-copy-out-result
 element-copy-out-result c = search needs
 
--- src/token.rt:76:1
 returns : tie.Need-returns
 returns c = λ m h. bind-number-word h _ (search needs) _ (search needs)
 

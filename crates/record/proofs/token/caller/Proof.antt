@@ -1,27 +1,21 @@
+-- `token::caller` meets its contract: the word that it reads is the field's. Assumes nothing.
 use borrow.Author.Needs.{needs}
 use Rattle.record.proofs.TokenRow.{caller-word}
 use Rattle.record.proofs.token.caller.Statement.{statement}
 use Rattle.record.proofs.token.caller.Tie as tie
-use Rattle.record.proofs.token.caller.Reads as reads
-use Rattle.record.proofs.token.caller.Lts as lts
 
--- src/token.rt:45:7
 mul-result : tie.Need-mul-result
 mul-result c = search needs
 
--- src/token.rt:45:7
 add-result : tie.Need-add-result
 add-result c = search needs
 
--- src/token.rt:45:5
 mul-result-2 : tie.Need-mul-result-2
 mul-result-2 c = search needs
 
--- src/token.rt:45:5
 element-copy-out-result : tie.Need-element-copy-out-result
 element-copy-out-result c = search needs
 
--- src/token.rt:41:1
 returns : tie.Need-returns
 returns c = λ m h. caller-word h _ (search needs)
 

@@ -1,8 +1,7 @@
-use mathlib.Core.Path.{_≡_, refl, sym, ap, _∙_}
-use mathlib.Core.List.{List}
-use Prim.Native.Nat.{ℕ, suc, _+_, _-_, _*_, _<_, _≤_}
+-- `token::copy` meets its contract: a paste of the other row, one word more with each turn. Assumes nothing.
+use mathlib.Core.Path.{_≡_}
+use Prim.Native.Nat.{_-_, _*_, _≤_}
 use native.Mathlib.Omega.{arith}
-use lib.ListN.{length, getD, set, take, drop}
 use lib.Seq.{paste, paste-zero}
 use Rattle.model.specs.Machine.Blank.{tokenAt}
 use Rattle.model.specs.declared.record.Machine.{Machine}
@@ -12,8 +11,6 @@ use Rattle.record.proofs.Copying.{copy-on, row-done}
 use borrow.Author.Needs.{needs}
 use Rattle.record.proofs.token.copy.Statement.{statement}
 use Rattle.record.proofs.token.copy.Tie as tie
-use Rattle.record.proofs.token.copy.Reads as reads
-use Rattle.record.proofs.token.copy.Lts as lts
 
 abbrev Inv-loop : tie.InvT-loop
 Inv-loop w₀ from place a b i₀ w i =

@@ -1,27 +1,21 @@
+-- `token::set_cell` meets its contract: the row with the field's words is that of the token so changed. Assumes nothing.
 use borrow.Author.Needs.{needs}
 use Rattle.record.proofs.TokenRow.{cell-put}
 use Rattle.record.proofs.token.set_cell.Statement.{statement}
 use Rattle.record.proofs.token.set_cell.Tie as tie
-use Rattle.record.proofs.token.set_cell.Reads as reads
-use Rattle.record.proofs.token.set_cell.Lts as lts
 
--- src/token.rt:101:7
 mul-w : tie.Need-mul-w
 mul-w c = search needs
 
--- src/token.rt:101:7
 add-w : tie.Need-add-w
 add-w c = search needs
 
--- src/token.rt:101:5
 mul-w-2 : tie.Need-mul-w-2
 mul-w-2 c = search needs
 
--- src/token.rt:101:5
 element-write-w : tie.Need-element-write-w
 element-write-w c = search needs
 
--- src/token.rt:97:1
 returns : tie.Need-returns
 returns c = λ m t q h e. cell-put m t _ h (search needs) _ q e
 

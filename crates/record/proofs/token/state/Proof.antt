@@ -1,23 +1,18 @@
+-- `token::state` meets its contract: the word that it reads is the field's. Assumes nothing.
 use borrow.Author.Needs.{needs}
 use Rattle.record.proofs.TokenRow.{state-word}
 use Rattle.record.proofs.token.state.Statement.{statement}
 use Rattle.record.proofs.token.state.Tie as tie
-use Rattle.record.proofs.token.state.Reads as reads
-use Rattle.record.proofs.token.state.Lts as lts
 
--- src/token.rt:23:7
 mul-result : tie.Need-mul-result
 mul-result c = search needs
 
--- src/token.rt:23:5
 mul-result-2 : tie.Need-mul-result-2
 mul-result-2 c = search needs
 
--- src/token.rt:23:5
 element-copy-out-result : tie.Need-element-copy-out-result
 element-copy-out-result c = search needs
 
--- src/token.rt:19:1
 returns : tie.Need-returns
 returns c = λ m h. state-word h _ (search needs)
 

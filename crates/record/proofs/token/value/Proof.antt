@@ -1,27 +1,21 @@
+-- `token::value` meets its contract: the word that it reads is the field's. Assumes nothing.
 use borrow.Author.Needs.{needs}
 use Rattle.record.proofs.TokenRow.{value-word}
 use Rattle.record.proofs.token.value.Statement.{statement}
 use Rattle.record.proofs.token.value.Tie as tie
-use Rattle.record.proofs.token.value.Reads as reads
-use Rattle.record.proofs.token.value.Lts as lts
 
--- src/token.rt:66:7
 mul-result : tie.Need-mul-result
 mul-result c = search needs
 
--- src/token.rt:66:7
 add-result : tie.Need-add-result
 add-result c = search needs
 
--- src/token.rt:66:5
 mul-result-2 : tie.Need-mul-result-2
 mul-result-2 c = search needs
 
--- src/token.rt:66:5
 element-copy-out-result : tie.Need-element-copy-out-result
 element-copy-out-result c = search needs
 
--- src/token.rt:62:1
 returns : tie.Need-returns
 returns c = λ m h. value-word h _ (search needs)
 

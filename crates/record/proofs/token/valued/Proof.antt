@@ -1,27 +1,21 @@
+-- `token::valued` meets its contract: the word that it reads is the field's. Assumes nothing.
 use borrow.Author.Needs.{needs}
 use Rattle.record.proofs.TokenRow.{valued-word}
 use Rattle.record.proofs.token.valued.Statement.{statement}
 use Rattle.record.proofs.token.valued.Tie as tie
-use Rattle.record.proofs.token.valued.Reads as reads
-use Rattle.record.proofs.token.valued.Lts as lts
 
--- src/token.rt:59:7
 mul-result : tie.Need-mul-result
 mul-result c = search needs
 
--- src/token.rt:59:7
 add-result : tie.Need-add-result
 add-result c = search needs
 
--- src/token.rt:59:5
 mul-result-2 : tie.Need-mul-result-2
 mul-result-2 c = search needs
 
--- src/token.rt:59:5
 element-copy-out-result : tie.Need-element-copy-out-result
 element-copy-out-result c = search needs
 
--- src/token.rt:55:1
 returns : tie.Need-returns
 returns c = λ m h. valued-word h _ (search needs)
 

@@ -1,8 +1,8 @@
-use mathlib.Core.Path.{_≡_, refl, sym, ap, _∙_}
-use mathlib.Core.List.{List}
-use Prim.Native.Nat.{ℕ, suc, _+_, _-_, _*_, _<_, _≤_}
+-- `token::write` meets its contract: a paste of the row, one word more with each turn. Assumes nothing.
+use mathlib.Core.Path.{_≡_, ap, _∙_}
+use Prim.Native.Nat.{_-_, _*_, _≤_}
 use native.Mathlib.Omega.{arith}
-use lib.ListN.{length, getD, set, take, drop}
+use lib.ListN.{length}
 use lib.Seq.{paste, paste-zero}
 use Rattle.record.proofs.Copying.{row-on, row-done}
 use Rattle.record.proofs.Parts.{row-wide}
@@ -12,8 +12,6 @@ use Rattle.record.specs.Holds.{Codes}
 use borrow.Author.Needs.{needs}
 use Rattle.record.proofs.token.write.Statement.{statement}
 use Rattle.record.proofs.token.write.Tie as tie
-use Rattle.record.proofs.token.write.Reads as reads
-use Rattle.record.proofs.token.write.Lts as lts
 
 abbrev Inv-loop : tie.InvT-loop
 Inv-loop w₀ p row at i₀ w i =

@@ -1,8 +1,8 @@
 -- `range::token_in_range` meets its contract: field by field. Assumes nothing.
+use Rattle.model.specs.Test.{_and_}
 use mathlib.Core.Path.{_∙_, ap}
 use lib.Dec.{leb}
 use Rattle.model.specs.Machine.Blank.{tokenAt}
-use Rattle.model.specs.Test.{_and_}
 use Rattle.model.specs.Machine.Rules.{stateInRange}
 use Rattle.rules.proofs.Fields.{place-in}
 use Rattle.coded.proofs.Both.{both, three, and-assoc}

@@ -13,13 +13,6 @@ use Rattle.record.specs.Holds.{Holds}
 use Rattle.sites.proofs.Holders.{not-answered, is-answered}
 use Rattle.sites.proofs.answer.answer.Statement.{statement}
 use Rattle.sites.proofs.answer.answer.Tie as tie
-use Rattle.sites.proofs.answer.answer.Reads as reads
-use Rattle.sites.proofs.answer.answer.Lts as lts
-use Rattle.sites.proofs.answer.find_open.Reads as find-open-reads
-use Rattle.sites.proofs.number.bits.Reads as bits-reads
-use Rattle.record.proofs.order.join.Reads as join-reads
-use Rattle.record.proofs.token.set_state.Reads as set-state-reads
-use Rattle.record.proofs.token.set_value.Reads as set-value-reads
 
 find-open-requires : tie.Need-find-open-requires
 find-open-requires c κs = search needs

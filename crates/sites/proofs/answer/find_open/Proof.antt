@@ -11,9 +11,6 @@ use Rattle.record.specs.Holds.{Codes}
 use Rattle.sites.proofs.Holders.{holder-found, holder-on, holder-none, place-there, place-none}
 use Rattle.sites.proofs.answer.find_open.Statement.{statement}
 use Rattle.sites.proofs.answer.find_open.Tie as tie
-use Rattle.sites.proofs.answer.find_open.Reads as reads
-use Rattle.sites.proofs.answer.find_open.Lts as lts
-use Rattle.sites.proofs.answer.is_open.Reads as is-open-reads
 
 abbrev Inv-loop : tie.InvT-loop
 Inv-loop w handle p₀ p = (p ≤ 64) × ((m : Machine) → Codes w m → holder handle 0 (m .tokens) ≡ holder handle p (drop p (m .tokens)))

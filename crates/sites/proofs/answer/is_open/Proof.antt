@@ -4,10 +4,6 @@ use borrow.Author.Needs.{needs}
 use Rattle.sites.proofs.Holders.{open-called, open-not-called}
 use Rattle.sites.proofs.answer.is_open.Statement.{statement}
 use Rattle.sites.proofs.answer.is_open.Tie as tie
-use Rattle.sites.proofs.answer.is_open.Reads as reads
-use Rattle.sites.proofs.answer.is_open.Lts as lts
-use Rattle.record.proofs.token.state.Reads as state-reads
-use Rattle.record.proofs.token.state_number.Reads as state-number-reads
 
 state-requires : tie.Need-state-requires
 state-requires c κs = search needs

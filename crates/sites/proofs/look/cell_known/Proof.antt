@@ -11,12 +11,6 @@ use Rattle.sites.proofs.LookUps.{cell-unset, cell-set}
 use Rattle.sites.specs.declared.look.Known.the-variants as knowns
 use Rattle.sites.proofs.look.cell_known.Statement.{statement}
 use Rattle.sites.proofs.look.cell_known.Tie as tie
-use Rattle.sites.proofs.look.cell_known.Reads as reads
-use Rattle.sites.proofs.look.cell_known.Lts as lts
-use Rattle.sites.proofs.number.signed.Reads as signed-reads
-use Rattle.sites.proofs.number.wide.Reads as wide-reads
-use Rattle.record.proofs.cell.value.Reads as value-reads
-use Rattle.record.proofs.cell.valued.Reads as valued-reads
 
 wide-requires : tie.Need-wide-requires
 wide-requires c κs = search needs

@@ -17,10 +17,6 @@ use Rattle.sites.specs.Looking.{paramFound, LookFacts}
 use Rattle.sites.specs.Row.{paramsAt}
 use Rattle.sites.proofs.look.look_up.Statement.{statement}
 use Rattle.sites.proofs.look.look_up.Tie as tie
-use Rattle.sites.proofs.look.look_up.Reads as reads
-use Rattle.sites.proofs.look.look_up.Lts as lts
-use Rattle.sites.proofs.look.param_known.Reads as param-known-reads
-use Rattle.sites.proofs.number.wide.Reads as wide-reads
 
 abbrev Inv-loop : tie.InvT-loop
 Inv-loop w dag p at count values₀ i₀ values i = (i ≤ count) × Filled i values × ((m : Machine) → Codes w m → LookFacts m p → Looking (m .cells) (tokenAt (m .tokens) p .binds) (paramsAt dag at) i values)

@@ -10,11 +10,6 @@ use Rattle.sites.proofs.Params.{param-variable, variable-below}
 use Rattle.sites.specs.declared.look.Known.the-variants as knowns
 use Rattle.sites.proofs.look.param_known.Statement.{statement}
 use Rattle.sites.proofs.look.param_known.Tie as tie
-use Rattle.sites.proofs.look.param_known.Reads as reads
-use Rattle.sites.proofs.look.param_known.Lts as lts
-use Rattle.sites.proofs.look.variable_known.Reads as variable-known-reads
-use Rattle.sites.proofs.number.signed.Reads as signed-reads
-use Rattle.sites.proofs.number.wide.Reads as wide-reads
 
 add-word : tie.Need-add-word
 add-word c = search needs

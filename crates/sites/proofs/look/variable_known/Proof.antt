@@ -8,12 +8,6 @@ use Rattle.sites.proofs.LookUps.{variable-empty, variable-value, variab
 use Rattle.sites.specs.declared.look.Known.the-variants as knowns
 use Rattle.sites.proofs.look.variable_known.Statement.{statement}
 use Rattle.sites.proofs.look.variable_known.Tie as tie
-use Rattle.sites.proofs.look.variable_known.Reads as reads
-use Rattle.sites.proofs.look.variable_known.Lts as lts
-use Rattle.sites.proofs.look.cell_known.Reads as cell-known-reads
-use Rattle.sites.proofs.number.signed.Reads as signed-reads
-use Rattle.record.proofs.token.bind_kind.Reads as bind-kind-reads
-use Rattle.record.proofs.token.bind_number.Reads as bind-number-reads
 
 bind-kind-requires : tie.Need-bind-kind-requires
 bind-kind-requires c κs = search needs

@@ -5,8 +5,6 @@ use mir.Syntax.{w64}
 use Rattle.sites.proofs.Bits.{negative-fits, negative-cast, negative-some, negative-bits, positive-cast, positive-bits}
 use Rattle.sites.proofs.number.bits.Statement.{statement}
 use Rattle.sites.proofs.number.bits.Tie as tie
-use Rattle.sites.proofs.number.bits.Reads as reads
-use Rattle.sites.proofs.number.bits.Lts as lts
 
 cast-under : tie.Need-cast-under
 cast-under c = rw (toZ-ofZ (c .before .fits .v)) (sfits-widen tt (c .before .fits .v))

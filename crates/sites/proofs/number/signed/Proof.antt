@@ -7,8 +7,6 @@ use mir.Syntax.{w32}
 use Rattle.sites.proofs.Signed.{under, under-fits, signed-lower, signed-upper}
 use Rattle.sites.proofs.number.signed.Statement.{statement}
 use Rattle.sites.proofs.number.signed.Tie as tie
-use Rattle.sites.proofs.number.signed.Reads as reads
-use Rattle.sites.proofs.number.signed.Lts as lts
 
 low : (c : tie.Else1) → 4294967295 - c .before .args .word < 2 ^ 31
 low c = omega arith

@@ -1,3 +1,4 @@
+-- `site::builtin` meets its contract: by the laws that it cites. Assumes nothing.
 use mathlib.Core.Path.{_≡_, ap, _∙_}
 use borrow.Author.Needs.{needs}
 use native.Mathlib.Omega.{arith}
@@ -6,13 +7,6 @@ use Rattle.sites.proofs.Sites.{says-let, says-ift, says-iff, says-signa
 use Rattle.sites.specs.SiteReplies.{siteReplyOf}
 use Rattle.sites.proofs.site.builtin.Statement.{statement}
 use Rattle.sites.proofs.site.builtin.Tie as tie
-use Rattle.sites.proofs.site.builtin.Reads as reads
-use Rattle.sites.proofs.site.builtin.Lts as lts
-use Rattle.sites.proofs.site.equal.Reads as equal-reads
-use Rattle.sites.proofs.site.less.Reads as less-reads
-use Rattle.sites.proofs.site.sum.Reads as sum-reads
-use Rattle.sites.proofs.site.truth.Reads as truth-reads
-use Rattle.sites.proofs.site.zero_if.Reads as zero-if-reads
 
 equal-requires : tie.Need-equal-requires
 equal-requires c κs = search needs

@@ -1,8 +1,7 @@
+-- `site::equal` meets its contract: by the laws that it cites. Assumes nothing.
 use Rattle.sites.proofs.Signed.{equal-bits}
 use Rattle.sites.proofs.site.equal.Statement.{statement}
 use Rattle.sites.proofs.site.equal.Tie as tie
-use Rattle.sites.proofs.site.equal.Reads as reads
-use Rattle.sites.proofs.site.equal.Lts as lts
 
 returns : tie.Need-returns
 returns c = equal-bits _ _ (c .fits .a) (c .fits .b)

@@ -1,8 +1,7 @@
+-- `site::truth` meets its contract: by the laws that it cites. Assumes nothing.
 use Rattle.model.specs.Site as Site
 use Rattle.sites.proofs.site.truth.Statement.{statement}
 use Rattle.sites.proofs.site.truth.Tie as tie
-use Rattle.sites.proofs.site.truth.Reads as reads
-use Rattle.sites.proofs.site.truth.Lts as lts
 
 returns : tie.Need-returns
 unfolding Site.truth

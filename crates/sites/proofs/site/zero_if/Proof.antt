@@ -1,8 +1,7 @@
+-- `site::zero_if` meets its contract: by the laws that it cites. Assumes nothing.
 use Rattle.model.specs.Site as Site
 use Rattle.sites.proofs.site.zero_if.Statement.{statement}
 use Rattle.sites.proofs.site.zero_if.Tie as tie
-use Rattle.sites.proofs.site.zero_if.Reads as reads
-use Rattle.sites.proofs.site.zero_if.Lts as lts
 
 returns : tie.Need-returns
 unfolding Site.zeroIf

@@ -8,12 +8,6 @@ use Rattle.writes.proofs.Chokes.{taken-room, choke-is}
 use Rattle.writes.specs.Choking.{rowsChoked}
 use Rattle.writes.proofs.choke.choke.Statement.{statement}
 use Rattle.writes.proofs.choke.choke.Tie as tie
-use Rattle.writes.proofs.choke.choke.Reads as reads
-use Rattle.writes.proofs.choke.choke.Lts as lts
-use Rattle.writes.proofs.choke.choke_rows.Reads as choke-rows-reads
-use Rattle.writes.proofs.choke.reorder.Reads as reorder-reads
-use Rattle.record.proofs.cell.set_value.Reads as set-value-reads
-use Rattle.record.proofs.order.leave.Reads as leave-reads
 
 leave-requires : tie.Need-leave-requires
 leave-requires c κs = search needs

@@ -8,15 +8,6 @@ use Rattle.record.specs.Holds.{Holds}
 use Rattle.writes.proofs.Chokes.{row-ends, row-wakes, row-passes}
 use Rattle.writes.proofs.choke.choke_row.Statement.{statement}
 use Rattle.writes.proofs.choke.choke_row.Tie as tie
-use Rattle.writes.proofs.choke.choke_row.Reads as reads
-use Rattle.writes.proofs.choke.choke_row.Lts as lts
-use Rattle.writes.proofs.choke.is_within.Reads as is-within-reads
-use Rattle.sites.proofs.number.wide.Reads as wide-reads
-use Rattle.record.proofs.token.blank.Reads as blank-reads
-use Rattle.record.proofs.token.cell.Reads as cell-reads
-use Rattle.record.proofs.token.set_state.Reads as set-state-reads
-use Rattle.record.proofs.token.state.Reads as state-reads
-use Rattle.record.proofs.token.state_number.Reads as state-number-reads
 
 cell-requires : tie.Need-cell-requires
 cell-requires c κs = search needs

@@ -9,9 +9,6 @@ use Rattle.writes.proofs.Chokes.{rows-none, rows-more}
 use Rattle.writes.specs.Choking.{rowsChoked}
 use Rattle.writes.proofs.choke.choke_rows.Statement.{statement}
 use Rattle.writes.proofs.choke.choke_rows.Tie as tie
-use Rattle.writes.proofs.choke.choke_rows.Reads as reads
-use Rattle.writes.proofs.choke.choke_rows.Lts as lts
-use Rattle.writes.proofs.choke.choke_row.Reads as choke-row-reads
 
 abbrev Inv-loop : tie.InvT-loop
 Inv-loop w₀ c p₀ w p = (p ≤ 64) × ((m : Machine) → Holds w₀ m → Holds w (rowsChoked c p m))

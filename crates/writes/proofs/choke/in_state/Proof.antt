@@ -14,9 +14,6 @@ use Rattle.record.specs.Holds.{Codes}
 use Rattle.sites.proofs.Tables.{Mapping, mapping-none, mapping-more, mapping-end}
 use Rattle.writes.proofs.choke.in_state.Statement.{statement}
 use Rattle.writes.proofs.choke.in_state.Tie as tie
-use Rattle.writes.proofs.choke.in_state.Reads as reads
-use Rattle.writes.proofs.choke.in_state.Lts as lts
-use Rattle.record.proofs.token.state.Reads as state-reads
 
 abbrev Inv-loop : tie.InvT-loop
 Inv-loop w kind marks₀ p₀ marks p = (p ≤ 64) × ((m : Machine) → Codes w m → Mapping (λ (t : Token). eqb (stateKind (t .state)) kind) (m .tokens) (replicate 64 false) p marks)

@@ -8,10 +8,6 @@ use Rattle.record.specs.Holds.{Codes}
 use Rattle.writes.proofs.Chokes.{walk, walk-starts, walk-out, walk-root, walk-found, walk-on, walk-outside}
 use Rattle.writes.proofs.choke.is_within.Statement.{statement}
 use Rattle.writes.proofs.choke.is_within.Tie as tie
-use Rattle.writes.proofs.choke.is_within.Reads as reads
-use Rattle.writes.proofs.choke.is_within.Lts as lts
-use Rattle.sites.proofs.number.wide.Reads as wide-reads
-use Rattle.record.proofs.cell.parent.Reads as parent-reads
 
 abbrev Inv-loop : tie.InvT-loop
 Inv-loop w c start number₀ left₀ number left = (left ≤ 32) × ((m : Machine) → Codes w m → walk (m .cells) c 32 number₀ ≡ walk (m .cells) c left number)

@@ -3,10 +3,6 @@ use borrow.Author.Needs.{needs}
 use Rattle.writes.proofs.Chokes.{joins, stays-out}
 use Rattle.writes.proofs.choke.join_marked.Statement.{statement}
 use Rattle.writes.proofs.choke.join_marked.Tie as tie
-use Rattle.writes.proofs.choke.join_marked.Reads as reads
-use Rattle.writes.proofs.choke.join_marked.Lts as lts
-use Rattle.record.proofs.order.is_marked.Reads as is-marked-reads
-use Rattle.record.proofs.order.join.Reads as join-reads
 
 is-marked-requires : tie.Need-is-marked-requires
 is-marked-requires c κs = search needs

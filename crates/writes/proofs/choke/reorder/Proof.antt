@@ -5,12 +5,6 @@ use Rattle.record.specs.Holds.{Holds}
 use Rattle.writes.proofs.Chokes.{first, second, first-room, reorder-is}
 use Rattle.writes.proofs.choke.reorder.Statement.{statement}
 use Rattle.writes.proofs.choke.reorder.Tie as tie
-use Rattle.writes.proofs.choke.reorder.Reads as reads
-use Rattle.writes.proofs.choke.reorder.Lts as lts
-use Rattle.writes.proofs.choke.in_state.Reads as in-state-reads
-use Rattle.writes.proofs.choke.wake.Reads as wake-reads
-use Rattle.record.proofs.order.retain_queue.Reads as retain-queue-reads
-use Rattle.record.proofs.order.retain_waits.Reads as retain-waits-reads
 
 in-state-requires : tie.Need-in-state-requires
 in-state-requires c κs = search needs

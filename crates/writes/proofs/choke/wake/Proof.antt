@@ -13,12 +13,6 @@ use Rattle.record.specs.Holds.{Holds}
 use Rattle.writes.proofs.Chokes.{woken, woken-none, woken-all, woken-room, woken-more}
 use Rattle.writes.proofs.choke.wake.Statement.{statement}
 use Rattle.writes.proofs.choke.wake.Tie as tie
-use Rattle.writes.proofs.choke.wake.Reads as reads
-use Rattle.writes.proofs.choke.wake.Lts as lts
-use Rattle.writes.proofs.choke.join_marked.Reads as join-marked-reads
-use Rattle.sites.proofs.number.wide.Reads as wide-reads
-use Rattle.record.proofs.order.wait_name.Reads as wait-name-reads
-use Rattle.record.proofs.order.waiting.Reads as waiting-reads
 
 abbrev Inv-loop : tie.InvT-loop
 Inv-loop w₀ ready count i₀ w i = (i ≤ count) × ((m : Machine) → Holds w₀ m → m .queued + m .waiting ≤ 64 → Holds w (withOrders (queueOf m ++ markedOf ready (take i (waitsOf m))) (waitsOf m) m))

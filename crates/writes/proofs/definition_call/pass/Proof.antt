@@ -1,6 +1,7 @@
+-- `definition_call::pass` meets its contract: each writer's contract, one behind the other, leads to the record of the definition. Assumes nothing.
 use Rattle.sites.proofs.Params.{below, slot-variable, slot-constant}
 use Rattle.writes.proofs.Writes.{put-other, carry-slot}
-use Rattle.sites.proofs.Params.{param-variable, variable-below, slot-variable, slot-constant}
+use Rattle.sites.proofs.Params.{slot-variable, slot-constant}
 use Rattle.record.specs.Words.{slotKind, slotNumber}
 use Rattle.model.proofs.Number.{unsigned-signed}
 use Rattle.model.specs.declared.token.Token.{Token}
@@ -8,35 +9,23 @@ use Rattle.model.specs.declared.token.Slot.the-variants as slots
 use Rattle.model.specs.Number.{signed}
 use Rattle.model.specs.Machine.Step.{put}
 use Rattle.model.specs.Machine.Blank.{tokenAt, slotAt}
-use native.Mathlib.Omega.{arith}
-use mathlib.Core.Path.{_≡_, refl, sym, ap, subst, _∙_}
+use mathlib.Core.Path.{refl, sym, ap, _∙_}
 use borrow.Author.Needs.{needs}
 use Rattle.writes.proofs.definition_call.pass.Statement.{statement}
 use Rattle.writes.proofs.definition_call.pass.Tie as tie
-use Rattle.writes.proofs.definition_call.pass.Reads as reads
-use Rattle.writes.proofs.definition_call.pass.Lts as lts
-use Rattle.writes.proofs.dag.wide.Reads as wide-reads
-use Rattle.record.proofs.token.bind_kind.Reads as bind-kind-reads
-use Rattle.record.proofs.token.bind_number.Reads as bind-number-reads
-use Rattle.record.proofs.token.set_bind.Reads as set-bind-reads
 
--- src/definition_call.rt:43:13
 wide-requires : tie.Need-wide-requires
 wide-requires c κs = search needs
 
--- src/definition_call.rt:44:13
 bind-kind-requires : tie.Need-bind-kind-requires
 bind-kind-requires c κs = (search needs, below (c .before .before .before .args .kind) (c .before .before .before .args .number) (c .before .before .before .pre .3) (c .before .before .if1 .taken) (c .before .wide .ensures))
 
--- src/definition_call.rt:45:13
 bind-number-requires : tie.Need-bind-number-requires
 bind-number-requires c κs = (search needs, below (c .before .before .before .before .before .args .kind) (c .before .before .before .before .before .args .number) (c .before .before .before .before .before .pre .3) (c .before .before .before .before .if1 .taken) (c .before .before .before .wide .ensures))
 
--- src/definition_call.rt:46:9
 set-bind-requires : tie.Need-set-bind-requires
 set-bind-requires c κs = search needs
 
--- src/definition_call.rt:47:9
 returns : tie.Need-returns
 returns c = λ m t h n.
     let a = c .before .before .before .before .before .before .before .before .args in
@@ -48,11 +37,9 @@ returns c = λ m t h n.
     carry-slot m (a .new) (a .i) t (slot-variable bs (a .kind) (a .number) (c .before .before .before .before .before .before .before .if1 .taken))
     (c .set-bind .ensures m t (slotAt bs (a .number)) h (sym kind) (sym number))
 
--- src/definition_call.rt:49:5
 set-bind-requires-2 : tie.Need-set-bind-requires-2
 set-bind-requires-2 c κs = search needs
 
--- src/definition_call.rt:38:1
 returns-2 : tie.Need-returns-2
 returns-2 c = λ m t h n.
     let a = c .before .before .before .args in

@@ -1,49 +1,35 @@
+-- `definition_call::put_callee` meets its contract: each writer's contract, one behind the other, leads to the record of the definition. Assumes nothing.
 use Rattle.writes.proofs.Writes.{begins}
 use Rattle.model.specs.declared.token.State.the-variants as states
 use Rattle.model.specs.declared.token.Place.the-variants as places
-use Rattle.model.specs.Machine.Step.{put, withNode, withState}
-use Rattle.model.specs.Machine.Blank.{blankToken, tokenAt}
-use mathlib.Core.Path.{_≡_, refl, sym, ap, subst, _∙_}
+use Rattle.model.specs.Machine.Step.{withNode, withState}
+use Rattle.model.specs.Machine.Blank.{blankToken}
+use mathlib.Core.Path.{refl}
 use borrow.Author.Needs.{needs}
 use Rattle.writes.proofs.definition_call.put_callee.Statement.{statement}
 use Rattle.writes.proofs.definition_call.put_callee.Tie as tie
-use Rattle.writes.proofs.definition_call.put_callee.Reads as reads
-use Rattle.writes.proofs.definition_call.put_callee.Lts as lts
-use Rattle.writes.proofs.definition_call.pass_all.Reads as pass-all-reads
-use Rattle.record.proofs.token.set_caller.Reads as set-caller-reads
-use Rattle.record.proofs.token.set_cell.Reads as set-cell-reads
-use Rattle.record.proofs.token.set_node.Reads as set-node-reads
-use Rattle.record.proofs.token.set_state.Reads as set-state-reads
 
--- src/definition_call.rt:72:5
 pass-all-requires : tie.Need-pass-all-requires
 pass-all-requires c κs = search needs
 
--- src/definition_call.rt:73:5
 set-state-requires : tie.Need-set-state-requires
 set-state-requires c κs = search needs
 
--- src/definition_call.rt:74:5
 set-node-requires : tie.Need-set-node-requires
 set-node-requires c κs = search needs
 
--- src/definition_call.rt:75:24
 cast-set-caller : tie.Need-cast-set-caller
 cast-set-caller c = search needs
 
--- src/definition_call.rt:75:24
 add-set-caller : tie.Need-add-set-caller
 add-set-caller c = search needs
 
--- src/definition_call.rt:75:5
 set-caller-requires : tie.Need-set-caller-requires
 set-caller-requires c κs = search needs
 
--- src/definition_call.rt:76:5
 set-cell-requires : tie.Need-set-cell-requires
 set-cell-requires c κs = search needs
 
--- src/definition_call.rt:68:1
 returns : tie.Need-returns
 unfolding withNode withState
 returns c = λ m q h n blank e.

@@ -1,64 +1,45 @@
+-- `definition_call::written` meets its contract: each writer's contract, one behind the other, leads to the record of the definition. Assumes nothing.
 use Rattle.writes.proofs.Writes.{begins, carry-binding, put-same, put-other, queued-taken}
 use Rattle.sites.specs.Row.{callee, paramsAt}
-use Rattle.record.specs.Holds.{Holds}
 use Rattle.record.specs.Fields.{taken}
 use Rattle.record.proofs.Shape.{queue-fits}
 use Rattle.model.specs.declared.token.Token.{Token}
 use Rattle.model.specs.declared.token.State.the-variants as states
 use Rattle.model.specs.Machine.Step.{put, withNode, withState, newToken, withTables, withOrders, withCounts}
-use Rattle.model.specs.Machine.Blank.{blankToken, tokenAt}
+use Rattle.model.specs.Machine.Blank.{tokenAt}
 use native.Mathlib.Omega.{arith}
-use mathlib.Core.Path.{_≡_, refl, sym, ap, subst, _∙_}
+use mathlib.Core.Path.{refl, sym, ap, _∙_}
 use borrow.Author.Needs.{needs}
 use Rattle.writes.proofs.definition_call.written.Statement.{statement}
 use Rattle.writes.proofs.definition_call.written.Tie as tie
-use Rattle.writes.proofs.definition_call.written.Reads as reads
-use Rattle.writes.proofs.definition_call.written.Lts as lts
-use Rattle.writes.proofs.definition_call.put_callee.Reads as put-callee-reads
-use Rattle.record.proofs.count.set_last_token.Reads as set-last-token-reads
-use Rattle.record.proofs.order.join.Reads as join-reads
-use Rattle.record.proofs.order.leave.Reads as leave-reads
-use Rattle.record.proofs.token.cell.Reads as cell-reads
-use Rattle.record.proofs.token.set_node.Reads as set-node-reads
-use Rattle.record.proofs.token.set_state.Reads as set-state-reads
 
--- src/definition_call.rt:84:9
 cell-requires : tie.Need-cell-requires
 cell-requires c κs = search needs
 
--- src/definition_call.rt:85:5
 leave-requires : tie.Need-leave-requires
 leave-requires c κs = search needs
 
--- src/definition_call.rt:86:5
 set-state-requires : tie.Need-set-state-requires
 set-state-requires c κs = search needs
 
--- src/definition_call.rt:87:5
 set-node-requires : tie.Need-set-node-requires
 set-node-requires c κs = search needs
 
--- src/definition_call.rt:88:5
 put-callee-requires : tie.Need-put-callee-requires
 put-callee-requires c κs = search needs
 
--- src/definition_call.rt:89:23
 cast-set-last-token : tie.Need-cast-set-last-token
 cast-set-last-token c = search needs
 
--- src/definition_call.rt:89:5
 set-last-token-requires : tie.Need-set-last-token-requires
 set-last-token-requires c κs = search needs
 
--- src/definition_call.rt:90:13
 cast-join : tie.Need-cast-join
 cast-join c = search needs
 
--- src/definition_call.rt:90:5
 join-requires : tie.Need-join-requires
 join-requires c κs = search needs
 
--- src/definition_call.rt:80:1
 returns : tie.Need-returns
 unfolding withNode withState newToken put withTables withOrders withCounts
 returns c = λ m h q n blank.

@@ -1,6 +1,6 @@
-use mathlib.Core.Path.{refl, subst}
+-- `fork::written` meets its contract: each writer's contract, one behind the other, leads to the record of the definition. Assumes nothing.
+use mathlib.Core.Path.{refl}
 use native.Mathlib.Omega.{arith}
-use Rattle.record.specs.Holds.{Holds}
 use Rattle.record.specs.Fields.{taken}
 use Rattle.model.specs.Machine.Blank.{tokenAt}
 use Rattle.model.specs.Machine.Step.{put, withNode, withTables, withCounts, withOrders, newToken}
@@ -8,55 +8,37 @@ use Rattle.writes.proofs.Writes.{begins, carry, put-same, queued-taken,
 use borrow.Author.Needs.{needs}
 use Rattle.writes.proofs.fork.written.Statement.{statement}
 use Rattle.writes.proofs.fork.written.Tie as tie
-use Rattle.writes.proofs.fork.written.Reads as reads
-use Rattle.writes.proofs.fork.written.Lts as lts
-use Rattle.record.proofs.count.set_last_token.Reads as set-last-token-reads
-use Rattle.record.proofs.order.join.Reads as join-reads
-use Rattle.record.proofs.order.leave.Reads as leave-reads
-use Rattle.record.proofs.token.copy.Reads as copy-reads
-use Rattle.record.proofs.token.set_node.Reads as set-node-reads
 
--- src/fork.rt:21:5
 leave-requires : tie.Need-leave-requires
 leave-requires c κs = search needs
 
--- src/fork.rt:22:5
 set-node-requires : tie.Need-set-node-requires
 set-node-requires c κs = search needs
 
--- src/fork.rt:23:5
 copy-requires : tie.Need-copy-requires
 copy-requires c κs = search needs
 
--- src/fork.rt:24:5
 set-node-requires-2 : tie.Need-set-node-requires-2
 set-node-requires-2 c κs = search needs
 
--- src/fork.rt:25:23
 cast-set-last-token : tie.Need-cast-set-last-token
 cast-set-last-token c = search needs
 
--- src/fork.rt:25:5
 set-last-token-requires : tie.Need-set-last-token-requires
 set-last-token-requires c κs = search needs
 
--- src/fork.rt:26:13
 cast-join : tie.Need-cast-join
 cast-join c = search needs
 
--- src/fork.rt:26:5
 join-requires : tie.Need-join-requires
 join-requires c κs = search needs
 
--- src/fork.rt:27:13
 cast-join-2 : tie.Need-cast-join-2
 cast-join-2 c = search needs
 
--- src/fork.rt:27:5
 join-requires-2 : tie.Need-join-requires-2
 join-requires-2 c κs = search needs
 
--- src/fork.rt:17:1
 returns : tie.Need-returns
 unfolding put withNode withTables withCounts withOrders newToken
 returns c = λ m h q room.

@@ -1,3 +1,4 @@
+-- `rebind::written` meets its contract: each writer's contract, one behind the other, leads to the record of the definition. Assumes nothing.
 use Rattle.record.proofs.Shape.{queue-fits}
 use mathlib.Core.Path.{refl}
 use native.Mathlib.Omega.{arith}
@@ -8,34 +9,22 @@ use Rattle.writes.proofs.Writes.{begins, queued-taken}
 use borrow.Author.Needs.{needs}
 use Rattle.writes.proofs.rebind.written.Statement.{statement}
 use Rattle.writes.proofs.rebind.written.Tie as tie
-use Rattle.writes.proofs.rebind.written.Reads as reads
-use Rattle.writes.proofs.rebind.written.Lts as lts
-use Rattle.record.proofs.order.join.Reads as join-reads
-use Rattle.record.proofs.order.leave.Reads as leave-reads
-use Rattle.record.proofs.token.set_bind.Reads as set-bind-reads
-use Rattle.record.proofs.token.set_node.Reads as set-node-reads
 
--- src/rebind.rt:22:5
 leave-requires : tie.Need-leave-requires
 leave-requires c κs = search needs
 
--- src/rebind.rt:23:5
 set-bind-requires : tie.Need-set-bind-requires
 set-bind-requires c κs = search needs
 
--- src/rebind.rt:24:5
 set-node-requires : tie.Need-set-node-requires
 set-node-requires c κs = search needs
 
--- src/rebind.rt:25:13
 cast-join : tie.Need-cast-join
 cast-join c = search needs
 
--- src/rebind.rt:25:5
 join-requires : tie.Need-join-requires
 join-requires c κs = search needs
 
--- src/rebind.rt:18:1
 returns : tie.Need-returns
 unfolding put withTables withOrders
 returns c = λ m s h q e f.

@@ -1,3 +1,4 @@
+-- `return_value::written` meets its contract: each writer's contract, one behind the other, leads to the record of the definition. Assumes nothing.
 use Rattle.record.proofs.Shape.{queue-fits}
 use mathlib.Core.Path.{refl, sym}
 use native.Mathlib.Omega.{arith}
@@ -9,49 +10,31 @@ use Rattle.writes.proofs.Writes.{queued-taken}
 use borrow.Author.Needs.{needs}
 use Rattle.writes.proofs.return_value.written.Statement.{statement}
 use Rattle.writes.proofs.return_value.written.Tie as tie
-use Rattle.writes.proofs.return_value.written.Reads as reads
-use Rattle.writes.proofs.return_value.written.Lts as lts
-use Rattle.record.proofs.order.join.Reads as join-reads
-use Rattle.record.proofs.order.leave.Reads as leave-reads
-use Rattle.record.proofs.token.copy.Reads as copy-reads
-use Rattle.record.proofs.token.set_state.Reads as set-state-reads
-use Rattle.record.proofs.token.set_value.Reads as set-value-reads
-use Rattle.record.proofs.token.value.Reads as value-reads
-use Rattle.record.proofs.token.valued.Reads as valued-reads
 
--- src/return_value.rt:25:9
 valued-requires : tie.Need-valued-requires
 valued-requires c κs = search needs
 
--- src/return_value.rt:26:9
 value-requires : tie.Need-value-requires
 value-requires c κs = search needs
 
--- src/return_value.rt:27:5
 leave-requires : tie.Need-leave-requires
 leave-requires c κs = search needs
 
--- src/return_value.rt:28:5
 copy-requires : tie.Need-copy-requires
 copy-requires c κs = search needs
 
--- src/return_value.rt:29:5
 set-value-requires : tie.Need-set-value-requires
 set-value-requires c κs = search needs
 
--- src/return_value.rt:30:5
 set-state-requires : tie.Need-set-state-requires
 set-state-requires c κs = search needs
 
--- src/return_value.rt:31:13
 cast-join : tie.Need-cast-join
 cast-join c = search needs
 
--- src/return_value.rt:31:5
 join-requires : tie.Need-join-requires
 join-requires c κs = search needs
 
--- src/return_value.rt:21:1
 returns : tie.Need-returns
 unfolding put withTables withOrders
 returns c = λ m h q.

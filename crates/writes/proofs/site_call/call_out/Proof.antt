@@ -1,40 +1,29 @@
+-- `site_call::call_out` meets its contract: each writer's contract, one behind the other, leads to the record of the definition. Assumes nothing.
 use Rattle.writes.proofs.Writes.{begins, counted}
 use Rattle.record.specs.Fields.{taken}
 use Rattle.model.specs.declared.token.State.the-variants as states
 use Rattle.model.specs.Machine.Step.{put, withTables, withOrders}
 use Rattle.model.specs.Machine.Blank.{tokenAt}
-use mathlib.Core.Path.{_≡_, refl}
+use mathlib.Core.Path.{refl}
 use borrow.Author.Needs.{needs}
 use Rattle.writes.proofs.site_call.call_out.Statement.{statement}
 use Rattle.writes.proofs.site_call.call_out.Tie as tie
-use Rattle.writes.proofs.site_call.call_out.Reads as reads
-use Rattle.writes.proofs.site_call.call_out.Lts as lts
-use Rattle.record.proofs.count.set_calls.Reads as set-calls-reads
-use Rattle.record.proofs.order.leave.Reads as leave-reads
-use Rattle.record.proofs.token.set_node.Reads as set-node-reads
-use Rattle.record.proofs.token.set_state.Reads as set-state-reads
 
--- src/site_call.rt:50:5
 leave-requires : tie.Need-leave-requires
 leave-requires c κs = search needs
 
--- src/site_call.rt:51:5
 set-state-requires : tie.Need-set-state-requires
 set-state-requires c κs = search needs
 
--- src/site_call.rt:52:5
 set-node-requires : tie.Need-set-node-requires
 set-node-requires c κs = search needs
 
--- src/site_call.rt:53:18
 add-set-calls : tie.Need-add-set-calls
 add-set-calls c = search needs
 
--- src/site_call.rt:53:5
 set-calls-requires : tie.Need-set-calls-requires
 set-calls-requires c κs = search needs
 
--- src/site_call.rt:46:1
 returns : tie.Need-returns
 unfolding put withTables withOrders
 returns c = λ m h q.

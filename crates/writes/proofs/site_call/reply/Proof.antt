@@ -1,41 +1,30 @@
+-- `site_call::reply` meets its contract: each writer's contract, one behind the other, leads to the record of the definition. Assumes nothing.
 use native.Mathlib.Omega.{arith}
 use Rattle.writes.proofs.Writes.{begins, queued-taken}
 use Rattle.record.proofs.Shape.{queue-fits}
 use Rattle.record.specs.Fields.{taken}
 use Rattle.model.specs.Machine.Step.{put, withTables, withOrders}
 use Rattle.model.specs.Machine.Blank.{tokenAt}
-use mathlib.Core.Path.{_≡_, refl}
+use mathlib.Core.Path.{refl}
 use borrow.Author.Needs.{needs}
 use Rattle.writes.proofs.site_call.reply.Statement.{statement}
 use Rattle.writes.proofs.site_call.reply.Tie as tie
-use Rattle.writes.proofs.site_call.reply.Reads as reads
-use Rattle.writes.proofs.site_call.reply.Lts as lts
-use Rattle.record.proofs.order.join.Reads as join-reads
-use Rattle.record.proofs.order.leave.Reads as leave-reads
-use Rattle.record.proofs.token.set_node.Reads as set-node-reads
-use Rattle.record.proofs.token.set_value.Reads as set-value-reads
 
--- src/site_call.rt:39:5
 leave-requires : tie.Need-leave-requires
 leave-requires c κs = search needs
 
--- src/site_call.rt:40:5
 set-value-requires : tie.Need-set-value-requires
 set-value-requires c κs = search needs
 
--- src/site_call.rt:41:5
 set-node-requires : tie.Need-set-node-requires
 set-node-requires c κs = search needs
 
--- src/site_call.rt:42:13
 cast-join : tie.Need-cast-join
 cast-join c = search needs
 
--- src/site_call.rt:42:5
 join-requires : tie.Need-join-requires
 join-requires c κs = search needs
 
--- src/site_call.rt:35:1
 returns : tie.Need-returns
 unfolding put withTables withOrders
 returns c = λ m v h q e f.

@@ -1,54 +1,39 @@
-use mathlib.Core.Path.{refl, subst, sym}
-use native.Mathlib.Omega.{arith}
+-- `where_split::split_tokens` meets its contract: each writer's contract, one behind the other, leads to the record of the definition. Assumes nothing.
+use mathlib.Core.Path.{refl, subst}
 use Rattle.record.specs.Holds.{Holds}
 use Rattle.model.specs.declared.token.Place.the-variants as places
 use Rattle.model.specs.declared.token.Slot.the-variants as slots
 use Rattle.model.specs.Machine.Blank.{tokenAt}
-use Rattle.model.specs.Machine.Step.{put, withNode, inCell, withBinding, withTables}
-use Rattle.writes.proofs.Writes.{begins, put-same, put-other, put-comm}
+use Rattle.model.specs.Machine.Step.{put, withNode, inCell, withBinding}
+use Rattle.writes.proofs.Writes.{begins, put-other, put-comm}
 use borrow.Author.Needs.{needs}
 use Rattle.writes.proofs.where_split.split_tokens.Statement.{statement}
 use Rattle.writes.proofs.where_split.split_tokens.Tie as tie
-use Rattle.writes.proofs.where_split.split_tokens.Reads as reads
-use Rattle.writes.proofs.where_split.split_tokens.Lts as lts
-use Rattle.record.proofs.token.copy.Reads as copy-reads
-use Rattle.record.proofs.token.set_bind.Reads as set-bind-reads
-use Rattle.record.proofs.token.set_cell.Reads as set-cell-reads
-use Rattle.record.proofs.token.set_node.Reads as set-node-reads
 
--- src/where_split.rt:29:5
 copy-requires : tie.Need-copy-requires
 copy-requires c κs = search needs
 
--- src/where_split.rt:30:5
 set-node-requires : tie.Need-set-node-requires
 set-node-requires c κs = search needs
 
--- src/where_split.rt:31:22
 cast-set-cell : tie.Need-cast-set-cell
 cast-set-cell c = search needs
 
--- src/where_split.rt:31:22
 add-set-cell : tie.Need-add-set-cell
 add-set-cell c = search needs
 
--- src/where_split.rt:31:5
 set-cell-requires : tie.Need-set-cell-requires
 set-cell-requires c κs = search needs
 
--- src/where_split.rt:32:34
 cast-set-bind : tie.Need-cast-set-bind
 cast-set-bind c = search needs
 
--- src/where_split.rt:32:5
 set-bind-requires : tie.Need-set-bind-requires
 set-bind-requires c κs = search needs
 
--- src/where_split.rt:33:5
 set-node-requires-2 : tie.Need-set-node-requires-2
 set-node-requires-2 c κs = search needs
 
--- src/where_split.rt:25:1
 returns : tie.Need-returns
 unfolding withNode inCell
 returns c = λ m h n.

@@ -1,71 +1,49 @@
-use mathlib.Core.Path.{refl, sym}
+-- `where_split::written` meets its contract: each writer's contract, one behind the other, leads to the record of the definition. Assumes nothing.
+use mathlib.Core.Path.{sym}
 use native.Mathlib.Omega.{arith}
-use Rattle.record.specs.Fields.{taken}
 use Rattle.model.specs.Machine.Blank.{tokenAt}
 use Rattle.model.specs.Machine.Step.{put, withTables, withCounts, withOrders, newToken, newCell}
 use Rattle.writes.proofs.Writes.{queued-taken, queued-joined}
 use borrow.Author.Needs.{needs}
 use Rattle.writes.proofs.where_split.written.Statement.{statement}
 use Rattle.writes.proofs.where_split.written.Tie as tie
-use Rattle.writes.proofs.where_split.written.Reads as reads
-use Rattle.writes.proofs.where_split.written.Lts as lts
-use Rattle.writes.proofs.where_split.split_tokens.Reads as split-tokens-reads
-use Rattle.record.proofs.cell.put_unset.Reads as put-unset-reads
-use Rattle.record.proofs.count.set_last_cell.Reads as set-last-cell-reads
-use Rattle.record.proofs.count.set_last_token.Reads as set-last-token-reads
-use Rattle.record.proofs.order.join.Reads as join-reads
-use Rattle.record.proofs.order.leave.Reads as leave-reads
-use Rattle.record.proofs.token.cell.Reads as cell-reads
 
--- src/where_split.rt:41:9
 cell-requires : tie.Need-cell-requires
 cell-requires c κs = search needs
 
--- src/where_split.rt:42:5
 leave-requires : tie.Need-leave-requires
 leave-requires c κs = search needs
 
--- src/where_split.rt:43:5
 split-tokens-requires : tie.Need-split-tokens-requires
 split-tokens-requires c κs = search needs
 
--- src/where_split.rt:44:23
 cast-set-last-token : tie.Need-cast-set-last-token
 cast-set-last-token c = search needs
 
--- src/where_split.rt:44:5
 set-last-token-requires : tie.Need-set-last-token-requires
 set-last-token-requires c κs = search needs
 
--- src/where_split.rt:45:5
 put-unset-requires : tie.Need-put-unset-requires
 put-unset-requires c κs = search needs
 
--- src/where_split.rt:46:22
 cast-set-last-cell : tie.Need-cast-set-last-cell
 cast-set-last-cell c = search needs
 
--- src/where_split.rt:46:5
 set-last-cell-requires : tie.Need-set-last-cell-requires
 set-last-cell-requires c κs = search needs
 
--- src/where_split.rt:47:13
 cast-join : tie.Need-cast-join
 cast-join c = search needs
 
--- src/where_split.rt:47:5
 join-requires : tie.Need-join-requires
 join-requires c κs = search needs
 
--- src/where_split.rt:48:13
 cast-join-2 : tie.Need-cast-join-2
 cast-join-2 c = search needs
 
--- src/where_split.rt:48:5
 join-requires-2 : tie.Need-join-requires-2
 join-requires-2 c κs = search needs
 
--- src/where_split.rt:37:1
 returns : tie.Need-returns
 unfolding put withTables withCounts withOrders newToken newCell
 returns c = λ m h q room n.

@@ -2,43 +2,36 @@
 use mathlib.Core.Path.{_≡_, refl, sym, ap, ap₂, subst, subst₂, _∙_}
 use mathlib.Core.Bool.{Bool, true, false}
 use mathlib.Core.List.{List, [], _∷_}
-use Prim.Native.Nat.{ℕ, zero, suc, _+_, _<_, _≤_}
-use native.Mathlib.Decide.{ℕ-discrete}
+use Prim.Native.Nat.{ℕ, suc, _+_, _<_, _≤_}
 use native.Mathlib.Omega.{arith}
-use lib.ListN.{length, getD, set}
-use lib.Seq.{getD-set-other}
+use lib.ListN.{length, getD}
 use lib.Dec.{ltb}
 use lib.IntN.{ℤ}
-use Rattle.model.specs.Site.{Said, gives, silent, at, isBuiltin, builtin}
+use Rattle.model.specs.Site.{BuiltinReply, gives, silent, at, isBuiltin, builtin}
 use Rattle.sites.specs.declared.site.SiteReply.{SiteReply}
-use Rattle.sites.specs.SiteReplies.{modelSaid}
+use Rattle.sites.specs.SiteReplies.{builtinReplyOf}
 use Rattle.sites.proofs.Calls.{says-to-front}
 use Rattle.model.specs.Job.Words.{dagOf}
-use Rattle.model.specs.Machine.Blank.{blankToken, blankCell, tokenAt, cellAt}
+use Rattle.model.specs.Machine.Blank.{blankToken, tokenAt}
 use Rattle.model.specs.Machine.InUse.{tokensUsed, cellsUsed}
 use Rattle.model.specs.Machine.Limits.{paper}
-use Rattle.model.specs.Machine.Reply.{accepted, outcome, unless, refuses, valuesBeside}
+use Rattle.model.specs.Machine.Reply.{accepted, outcome, unless, refuses, reportValues}
 use Rattle.model.specs.Machine.Step as Step
-use Rattle.model.specs.Machine.Step.{withNode, withState, withValue, put, enqueue, look, callSite, choked, withTables, withOrders, withCounts}
+use Rattle.model.specs.Machine.Step.{withNode, withState, withValue, put, enqueue, look, callSite, withTables, withOrders, withCounts}
 use Rattle.model.specs.declared.record.Machine.{Machine}
 use Rattle.model.specs.declared.reply.Outcome.{Outcome}
 use Rattle.model.specs.declared.reply.Reply.{Reply}
 use Rattle.model.specs.declared.reply.Report.{Report}
 use Rattle.model.specs.declared.reply.Reply.the-variants as replies
 use Rattle.model.specs.declared.reply.Refusal.the-variants as refusals
-use Rattle.model.specs.declared.token.Held.{Held}
 use Rattle.model.specs.declared.token.Held.the-variants as helds
 use Rattle.model.specs.declared.token.Place.the-variants as places
 use Rattle.model.specs.declared.token.State.the-variants as states
 use Rattle.model.specs.declared.token.Token.{Token}
-use Rattle.model.proofs.Test.{clash, lt-ltb, le-not-ltb}
-use Rattle.model.proofs.Machine.Writes.{choked-blank}
-use Rattle.model.proofs.Machine.Choke.{choke-at}
-use Rattle.model.proofs.Keeps.Clean.{cellsOf}
+use Rattle.model.proofs.Test.{lt-ltb, le-not-ltb}
 use Rattle.model.proofs.Keeps.Carried.{Carried, waited-carried, called-carried, replied-carried}
 use Rattle.record.specs.Fields.{taken, delayed}
 use Rattle.record.specs.Holds.{Holds}
-use Rattle.reach.specs.Marks.{Vacant}
 use Rattle.sites.specs.Row.{paramsAt}
 use Rattle.sites.specs.Looking.{lookUpOf}
 use Rattle.sites.specs.declared.look.LookUp.{LookUp}
@@ -47,11 +40,10 @@ use Rattle.sites.proofs.Facts.{look-facts}
 use Rattle.sites.proofs.Params.{params-count}
 use Rattle.sites.proofs.Rows.{site-params}
 use Rattle.model.specs.Machine.Rules.{nodeRule}
 use Rattle.acts.specs.Acting.{Acting, Taking, Gives, plain}
-use Rattle.acts.specs.Arguments.{Arguments}
+use Rattle.calls.specs.Arguments.{Arguments}
 use Rattle.acts.proofs.Outcomes.{gives-whole, token-inside, row, node-rule}
 use Rattle.acts.proofs.Instructions.{site-step}
-use Rattle.acts.proofs.Vacancy.{token-used, free-token, free-cell}
 
 module _ {ws dag : List ℕ} {used cells : List Bool} {place p : ℕ} {m : Machine} (a : Taking ws used cells dag place p m) where
   abbrev t : Token
@@ -59,7 +51,7 @@ module _ {ws dag : List ℕ} {used cells : List Bool} {place p : ℕ} {m : Machi
 
   -- an instruction that left the marks
   marked : {x : Outcome} (o : Machine) (reply : Reply) (vs : List ℤ) {after : List ℕ} (r : Report) → x ≡ accepted reply vs o → r .reply ≡ reply
-      → r .values ≡ valuesBeside vs → Holds after o → Carried o (tokensUsed m) (cellsUsed m)
+      → r .values ≡ reportValues vs → Holds after o → Carried o (tokensUsed m) (cellsUsed m)
       → Gives x m after used cells r
   marked o reply vs r e f g h c =
       let k = a .lawful .marks in
@@ -83,7 +75,7 @@ module _ {ws dag : List ℕ} {used cells : List Bool} {place p : ℕ} {m : Machi
 
   pub call-gives : {x : Outcome} (s i n k j h : ℕ) (vs : List ℤ) {after : List ℕ} (r : Report)
       → x ≡ outcome m (Step.calledOut (taken m place) p t s vs k) → h ≡ m .calls → i ≡ s → j ≡ k → n ≡ length vs
-      → r .reply ≡ replies.Called h i n → r .values ≡ valuesBeside vs
+      → r .reply ≡ replies.Called h i n → r .values ≡ reportValues vs
       → Holds after (withCounts (suc h) (m .lasttoken) (m .lastcell) (put p (withNode j (withState (states.Called h) t)) (taken m place)))
       → Gives x m after used cells r
   unfolding outcome Step.calledOut withOrders
@@ -123,7 +115,7 @@ module _ (dag : List ℕ) (place p from : ℕ) (m : Machine) where
         site-step dag place p from m (k .acting)
         ∙ ap (λ l. outcome m (callSite paper (dagOf dag) (taken m place) p mine (word 1) (word 2) l)) (k .found)
 
-    pub says : (said : Said) → word 1 < 7 → builtin (word 1) (k .values) ≡ said
+    pub says : (said : BuiltinReply) → word 1 < 7 → builtin (word 1) (k .values) ≡ said
         → Step.step paper (dagOf dag) m place ≡ outcome m (Step.replied (taken m place) p mine (word 2) said)
     unfolding by-site isBuiltin
     says said l e =
@@ -168,22 +160,8 @@ pub silent-ends : (m : Machine) (place p k : ℕ) → outcome m (Step.replied (t
 unfolding outcome Step.replied Step.ended
 silent-ends m place p k = refl
 
--- a choke writes to rows of tokens in use and to the cell of the token that acts, which is in use
-pub choke-vacant : {ws dag : List ℕ} {used cells : List Bool} {place p : ℕ} {m : Machine} → Taking ws used cells dag place p m → (c : ℕ) (v : Held)
-    → tokenAt (m .tokens) p .cell ≡ places.At c → Vacant (choked c v (taken m place)) used cells
-unfolding choked withTables withOrders cellAt
-choke-vacant {ws} {dag} {used} {cells} {place} {p} {m} a c v e =
-    record {
-      tokens = λ i l f. choke-at (m .cells) c (m .tokens) i ∙ ap (Step.chokeToken (m .cells) c) (free-token (a .lawful) i f) ∙ choked-blank (m .cells) c;
-      cells = λ k l f. getD-set-other (m .cells) c k _ blankCell (λ g. apart k f g) ∙ free-cell (a .lawful) k f;
-    }
-  where
-    apart : (k : ℕ) → getD cells k true ≡ false → k ≡ c → ⊥
-    apart k f g =
-        clash (ap (λ u. getD u c true) (a .lawful .marks .cells) ∙ cellsOf m .named p (token-used a) .cell c e) (ap (λ j. getD cells j true) (sym g) ∙ f)
-
 -- what the code was told is what the site says to all values
-pub said-by : {s i : ℕ} (vs xs : List ℤ) {x y : SiteReply} → i < 7 → xs ≡ valuesBeside vs → s ≡ i → modelSaid x ≡ builtin s (at xs 0 ∷ at xs 1 ∷ []) → x ≡ y
-    → builtin i vs ≡ modelSaid y
+pub said-by : {s i : ℕ} (vs xs : List ℤ) {x y : SiteReply} → i < 7 → xs ≡ reportValues vs → s ≡ i → builtinReplyOf x ≡ builtin s (at xs 0 ∷ at xs 1 ∷ []) → x ≡ y
+    → builtin i vs ≡ builtinReplyOf y
 said-by {s} {i} vs xs l e same told f =
-    sym (says-to-front i vs xs l e) ∙ ap (λ j. builtin j (at xs 0 ∷ at xs 1 ∷ [])) (sym same) ∙ sym told ∙ ap modelSaid f
+    sym (says-to-front i vs xs l e) ∙ ap (λ j. builtin j (at xs 0 ∷ at xs 1 ∷ [])) (sym same) ∙ sym told ∙ ap builtinReplyOf f

@@ -3,7 +3,7 @@ ghost use mathlib.Core.Path.{_≡_};
 ghost use Prim.Native.Nat.{_+_, _≤_, min};
 ghost use Rattle.model.specs.Lines.Line.{textOfAll};
 ghost use Rattle.model.specs.Lines.Orcrun.{linesOf};
-ghost use Rattle.model.specs.Machine.Reply.{numberOf, told};
+ghost use Rattle.model.specs.Machine.Reply.{numberOf, reported};
 ghost use Rattle.text.specs.Written.{Written};
 ghost use Rattle.lines.specs.Shown.{Shows};
 use crate::shown::show_front;
@@ -35,8 +35,8 @@ fn at_most_four(count: u8) -> usize
 }
 
 // Writes the line of a reply to the front of a buffer, and answers its length.
-pub fn put_told(buffer: &mut [u8; 80], reply: Reply, values: [i32; 4]) -> usize
-    ensures { λ r. ⌜ Written 80 (now (buffer .entry)) 0 (textOfAll (linesOf (told reply values))) (now (buffer .exit)) r ⌝ }
+pub fn put_report(buffer: &mut [u8; 80], reply: Reply, values: [i32; 4]) -> usize
+    ensures { λ r. ⌜ Written 80 (now (buffer .entry)) 0 (textOfAll (linesOf (reported reply values))) (now (buffer .exit)) r ⌝ }
 {
     match reply {
         Reply::Done => 0,
@@ -56,10 +56,10 @@ pub fn put_told(buffer: &mut [u8; 80], reply: Reply, values: [i32; 4]) -> usize
 // Shows the line of a reply behind the first `total` bytes. Answers how many there are then.
 pub fn tell(reply: Reply, values: [i32; 4], output: &mut [u8], from: usize, total: usize) -> usize
     requires { ⌜ total + 80 ≤ 1000000000 ⌝ }
-    ensures { λ r. ⌜ Shows (now (output .entry)) from total (textOfAll (linesOf (told reply values))) (now (output .exit)) r ⌝ }
+    ensures { λ r. ⌜ Shows (now (output .entry)) from total (textOfAll (linesOf (reported reply values))) (now (output .exit)) r ⌝ }
     ensures { λ r. ⌜ r ≤ total + 80 ⌝ }
 {
     let mut line = [0u8; 80];
-    let n = put_told(&mut line, reply, values);
+    let n = put_report(&mut line, reply, values);
     show_front(line, n, output, from, total)
 }

@@ -1,11 +1,11 @@
--- `told::put_told` meets its contract: case by case. Assumes nothing.
+-- `report::put_report` meets its contract: case by case. Assumes nothing.
 use borrow.Author.Needs.{needs}
 use mir.Facts.{toZ-ofZ}
 use mir.Val.{SFits}
 use mir.Syntax.{w32}
 use Rattle.lines.proofs.Telling.{tells-done, tells-waits, tells-publish, tells-call, tells-refusal}
-use Rattle.lines.proofs.told.put_told.Statement.{statement}
-use Rattle.lines.proofs.told.put_told.Tie as tie
+use Rattle.lines.proofs.report.put_report.Statement.{statement}
+use Rattle.lines.proofs.report.put_report.Tie as tie
 
 enum-told : tie.Need-enum-told
 enum-told c = search needs
@@ -54,8 +54,8 @@ returns-4 c = tells-call _ _ _ _ _ _ _ _ _ (search needs) (c .before .before .be
 returns-5 : tie.Need-returns-5
 returns-5 c = tells-refusal _ _ _ _ _ _ _ (c .before .before .before .before .reply3 .given .1) (c .before .before .number-of .ensures) (c .put-refused .ensures)
 
-pub put-told-spec : {M : Type 1} → statement M
-put-told-spec =
+pub put-report-spec : {M : Type 1} → statement M
+put-report-spec =
     tie.close
     (tie.spec
     enum-told

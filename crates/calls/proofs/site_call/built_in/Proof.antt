@@ -1,84 +1,61 @@
-use Rattle.acts.proofs.Calling.{said-by}
+-- `site_call::built_in` meets its contract: each way out is how the definition's step ends there. Assumes nothing.
+use Rattle.calls.proofs.Calling.{said-by}
 use Rattle.acts.proofs.Ending.{gives-as}
-use Rattle.acts.proofs.Calling.{reply-gives, says, silent-ends}
+use Rattle.calls.proofs.Calling.{reply-gives, says, silent-ends}
 use Rattle.acts.proofs.Outcomes.{row-fits, token-inside}
-use Rattle.sites.proofs.Calls.{said-back, says-to-front}
-use Rattle.sites.specs.SiteReplies.{modelSaid}
+use Rattle.sites.proofs.Calls.{said-back}
 use Rattle.model.specs.declared.token.Held.the-variants as helds
 use Rattle.model.specs.Site.{gives, silent}
-use Rattle.model.specs.Number.{unsigned}
 use mir.Syntax.{w32}
 use mir.Val.{SFits}
 use mir.Facts.{toZ-ofZ}
 use lib.IntN.{pos}
 use lib.ListN.{getD}
-use mathlib.Core.Path.{_≡_, refl, sym, ap, subst, _∙_}
+use mathlib.Core.Path.{refl, sym, _∙_}
 use native.Mathlib.Omega.{arith}
 use borrow.Author.Needs.{needs}
-use Rattle.acts.proofs.site_call.built_in.Statement.{statement}
-use Rattle.acts.proofs.site_call.built_in.Tie as tie
-use Rattle.acts.proofs.site_call.built_in.Reads as reads
-use Rattle.acts.proofs.site_call.built_in.Lts as lts
-use Rattle.writes.proofs.dag.word.Reads as word-reads
-use Rattle.acts.proofs.end.end.Reads as end-reads
-use Rattle.acts.proofs.report.plain.Reads as plain-reads
-use Rattle.writes.proofs.site_call.reply.Reads as reply-reads
-use Rattle.sites.proofs.number.bits.Reads as bits-reads
-use Rattle.sites.proofs.site.builtin.Reads as builtin-reads
+use Rattle.calls.proofs.site_call.built_in.Statement.{statement}
+use Rattle.calls.proofs.site_call.built_in.Tie as tie
 
--- src/site_call.rt:99:13
 array-copy-out-a : tie.Need-array-copy-out-a
 array-copy-out-a c = search needs
 
--- src/site_call.rt:100:13
 array-copy-out-b : tie.Need-array-copy-out-b
 array-copy-out-b c = search needs
 
--- src/site_call.rt:101:29
 add-word : tie.Need-add-word
 add-word c = search needs
 
--- src/site_call.rt:101:19
 word-requires : tie.Need-word-requires
 word-requires c κs = let l = row-fits (c .before .before .pre .0 .is .acting) in omega arith
 
--- src/site_call.rt:101:11
 builtin-requires : tie.Need-builtin-requires
 builtin-requires c κs = search needs
 
--- src/site_call.rt:102:26
 enum-known-v : tie.Need-enum-known-v
 enum-known-v c = search needs
 
--- src/site_call.rt:103:32
 bits-requires : tie.Need-bits-requires
 bits-requires c κs = search needs
 
--- src/site_call.rt:103:51
 add-word-2 : tie.Need-add-word-2
 add-word-2 c = search needs
 
--- src/site_call.rt:103:41
 word-requires-2 : tie.Need-word-requires-2
 word-requires-2 c κs = let l = row-fits (c .before .before .before .before .before .before .before .before .before .pre .0 .is .acting) in omega arith
 
--- src/site_call.rt:103:13
 reply-requires : tie.Need-reply-requires
 reply-requires c κs = token-inside (c .before .before .before .before .before .before .before .before .before .before .pre .0 .is .acting .taking)
 
--- src/site_call.rt:104:13
 plain-requires : tie.Need-plain-requires
 plain-requires c κs = search needs
 
--- src/site_call.rt:106:34
 enum-told : tie.Need-enum-told
 enum-told c = search needs
 
--- src/site_call.rt:106:30
 end-requires : tie.Need-end-requires
 end-requires c κs = token-inside (c .before .before .before .before .before .before .before .before .before .pre .0 .is .acting .taking)
 
--- src/site_call.rt:95:1
 returns : tie.Need-returns
 returns c = λ m k.
     let s = c .before .before .before .before .before .before .before .before .before .before .before .before in
@@ -92,7 +69,6 @@ returns c = λ m k.
     reply-gives (k .acting .taking) (v .0 .0) _ _ _ (says _ _ _ _ m k (gives (v .0 .0)) (s .pre .1) said) (c .before .before .word2 .ensures) (c .plain .ensures)
     (c .before .reply .ensures m (helds.Value (v .0 .0)) (k .acting .taking .lawful .holds) (k .acting .taking .queued) refl (sym (rw (toZ-ofZ h) at (c .before .before .before .bits .ensures))))
 
--- src/site_call.rt:95:1
 returns-2 : tie.Need-returns-2
 returns-2 c = λ m k.
     let s = c .before .before .before .before .before .before .before .before .before .before in

@@ -1,0 +1,2 @@
+-- Laws of the site call.
+pub mod Calling
