@@ -29,9 +29,9 @@ pub fn choke_cell(
     ensures { λ r. ⌜ ((m : Machine) → Acting (now (w .entry)) (now (tokens .entry)) (now (cells .entry)) (now (dag .entry)) place p at 7 m → Gives (Step.step paper (dagOf (now (dag .entry))) m place) m (now (w .exit)) (now (tokens .exit)) (now (cells .exit)) r) ⌝ }
 {
     let c = wide(token::cell(w, p));
-    let valued = token::valued(w, p);
+    let kind = token::value_kind(w, p);
     let value = token::value(w, p);
-    choke(w, place, c - 1, valued, value);
+    choke(w, place, c - 1, kind, value);
     sweep(w, tokens, cells);
     plain(Reply::Done)
 }

@@ -35,7 +35,7 @@ use Rattle.record.specs.Holds.{Holds}
 use Rattle.sites.specs.Row.{paramsAt}
 use Rattle.sites.specs.Looking.{lookUpOf}
 use Rattle.sites.specs.declared.look.LookUp.{LookUp}
-use Rattle.sites.proofs.LookUps.{look-known, look-below, look-count}
+use Rattle.sites.proofs.LookUps.{look-values, look-below, look-count}
 use Rattle.sites.proofs.Facts.{look-facts}
 use Rattle.sites.proofs.Params.{params-count}
 use Rattle.sites.proofs.Rows.{site-params}
@@ -137,19 +137,19 @@ module _ (dag : List ℕ) (place p from : ℕ) (m : Machine) where
         ∙ ap (λ b. outcome m (unless b refusals.CallLimit (Step.calledOut (taken m place) p mine (word 1) (k .values) (word 2)))) (le-not-ltb (m .calls) 1000000 f)
 
 -- all values were found
-pub known-of : {ws dag : List ℕ} {used cells : List Bool} {place p from : ℕ} {m : Machine} (r : LookUp) → Acting ws used cells dag place p from 1 m
+pub values-of : {ws dag : List ℕ} {used cells : List Bool} {place p from : ℕ} {m : Machine} (r : LookUp) → Acting ws used cells dag place p from 1 m
     → r ≡ lookUpOf (look (m .cells) (tokenAt (m .tokens) p .binds) (paramsAt dag from)) → 32 ≤ r .unset
     → Arguments ws used cells dag place p from (r .values) m
-known-of {ws} {dag} {used} {cells} {place} {p} {from} {m} r a e n =
+values-of {ws} {dag} {used} {cells} {place} {p} {from} {m} r a e n =
     let facts = look-facts (dagOf dag) m (a .taking .lawful .rules) p (token-inside (a .taking)) in
-    let k = look-known _ r e (λ l. omega arith) (look-below (m .cells) (tokenAt (m .tokens) p .binds) (facts .slots) (paramsAt dag from)) in
-    record { acting = a; values = k .0; found = k .1; beside = k .2 }
+    let k = look-values _ r e (λ l. omega arith) (look-below (m .cells) (tokenAt (m .tokens) p .binds) (facts .slots) (paramsAt dag from)) in
+    record { acting = a; values = k .0; found = k .1; padded = k .2 }
 
 -- as many values as parameters: "at a call no empty variable"
-pub known-count : {ws dag : List ℕ} {used cells : List Bool} {place p from : ℕ} {vs : List ℤ} {m : Machine}
+pub values-count : {ws dag : List ℕ} {used cells : List Bool} {place p from : ℕ} {vs : List ℤ} {m : Machine}
     → (k : Arguments ws used cells dag place p from vs m) → getD dag (from + 3) 0 ≡ length (k .values)
 unfolding nodeRule
-known-count {ws} {dag} {used} {cells} {place} {p} {from} {vs} {m} k =
+values-count {ws} {dag} {used} {cells} {place} {p} {from} {vs} {m} k =
     let o = site-params dag from (row (k .acting)) in
     sym (look-count (m .cells) (tokenAt (m .tokens) p .binds) (paramsAt dag from) (k .values) (node-rule (k .acting)) (k .found)
     ∙ params-count dag from (o .size) (o .inside) (o .few))

@@ -17,4 +17,4 @@ pub record Arguments (ws : List ℕ) (used usedCells : List Bool) (dag : List �
   pub acting : Acting ws used usedCells dag place p at 1 m
   pub values : List ℤ
   pub found : look (m .cells) (tokenAt (m .tokens) p .binds) (paramsAt dag at) ≡ Step.values values
-  pub beside : vs ≡ reportValues values
+  pub padded : vs ≡ reportValues values

@@ -10,7 +10,7 @@ ghost use Rattle.acts.specs.Acting.{Some, Acting, Gives};
 ghost use Rattle.calls.specs.Arguments.{Arguments};
 use acts::end::end;
 use acts::report::plain;
-use model::dag::CALLS;
+use model::dag::CALL_LIMIT;
 use model::dag::WORDS;
 use model::record::Machine;
 use model::reply::Refusal;
@@ -18,6 +18,7 @@ use model::reply::Reply;
 use model::reply::Report;
 use model::sites::BUILTINS;
 use record::count::calls;
+use record::layout::CELL_PLACES;
 use sites::look::look_up;
 use sites::number::bits;
 use sites::site::SiteReply;
@@ -42,7 +43,7 @@ fn outside(
     ensures { λ r. ⌜ ((m : Machine) → Arguments (now (w .entry)) (now (tokens .entry)) (now (cells .entry)) (now (dag .entry)) place p at values m → 7 ≤ getD (now (dag .entry)) (at + 1) 0 → Gives (Step.step paper (dagOf (now (dag .entry))) m place) m (now (w .exit)) (now (tokens .entry)) (now (cells .entry)) r) ⌝ }
 {
     let handle = calls(w);
-    if CALLS <= handle {
+    if CALL_LIMIT <= handle {
         return plain(Reply::Refused(Refusal::CallLimit));
     }
     call_out(w, place, p, handle, word(dag, at + 2));
@@ -93,7 +94,7 @@ pub fn site_call(
 {
     let found = look_up(w, dag, p, at);
     let unset = found.unset;
-    if unset < 32 {
+    if unset < CELL_PLACES {
         wait(w, place, p, unset);
         return plain(Reply::Waits);
     }

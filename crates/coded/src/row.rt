@@ -2,6 +2,8 @@
 ghost use mathlib.Core.Path.{_≡_};
 ghost use lib.ListN.{length, drop};
 ghost use Rattle.coded.specs.Rows.{pairHolds, paramWordsHold, headHolds, countOf, rowHolds};
+use model::dag::CONSTANT;
+use model::dag::VARIABLE;
 use model::sites::takes;
 
 // Two words at a parameter's place: those of a parameter if the node has one there, else 0.
@@ -9,7 +11,7 @@ fn pair_holds(named: bool, kind: u32, word: u32) -> bool
     ensures { λ r. ⌜ r ≡ pairHolds named kind word ⌝ }
 {
     if named {
-        return ((kind == 7) & (word < 8)) | (kind == 8);
+        return ((kind == VARIABLE) & (word < 8)) | (kind == CONSTANT);
     }
     (kind == 0) & (word == 0)
 }

@@ -9,7 +9,7 @@ use native.Mathlib.Omega.{arith}
 use lib.ListN.{length, getD, drop}
 use lib.Dec.{ltb}
 use Rattle.model.specs.Test.{_or_}
-use Rattle.model.specs.Job.Entry.{Entry, entry, entries, low, high, Kind, kindOf, isExpression, rowKept, isBinder}
+use Rattle.model.specs.Job.Entry.{Entry, entry, entries, low, high, Kind, kindOf, isExpression, rowHolds, isBinder}
 use Rattle.model.specs.Job.Syntax.{Param, Join, par, seq, prune, Exp, stop, site, call, join, scopeLeft, scopeRight}
 use Rattle.model.specs.Job.Read.{Got, Read, got, refused, _>>=_, gives, need, entryAt, readParams, readCall, readJoin, readExp}
 use Rattle.model.proofs.Test.{ltb-lt}
@@ -53,7 +53,7 @@ shape side k o scope e l =
 
 module _ (left : ℕ) (scope : List ℕ) (o e : ℕ) (l : List Entry) (g : Got Exp) where
   tested : (k : ℕ) → readExp (suc left) scope e (entry k o ∷ l) ≡ got g
-      → (need (isExpression (kindOf k)) 3 e >>= (λ _. need (rowKept (kindOf k) o) 4 e
+      → (need (isExpression (kindOf k)) 3 e >>= (λ _. need (rowHolds (kindOf k) o) 4 e
       >>= (λ _. need (not (isBinder (kindOf k)) or ltb (length scope) 8) 7 e >>= (λ _. shape (readExp left) (kindOf k) o scope e l))))
       ≡ got g
   unfolding readExp entryAt _>>=_ shape
@@ -77,7 +77,7 @@ module _ (left : ℕ) (scope : List ℕ) (o e : ℕ) (l : List Entry) (g : Got E
     by-kind : (k : ℕ) → readExp (suc left) scope e (entry k o ∷ l) ≡ got g → Head (readExp left) scope o (suc e) l g k
     by-kind k r =
         let a = bind-got (need (isExpression (kindOf k)) 3 e) _ g (tested k r) in
-        let b = bind-got (need (rowKept (kindOf k) o) 4 e) _ g (a .2) in
+        let b = bind-got (need (rowHolds (kindOf k) o) 4 e) _ g (a .2) in
         let c = bind-got (need (not (isBinder (kindOf k)) or ltb (length scope) 8) 7 e) _ g (b .2) in
         by-shape k (test-kept _ 7 e (c .0) (c .1)) (c .2)
 

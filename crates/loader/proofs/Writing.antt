@@ -10,7 +10,7 @@ use native.Mathlib.Omega.{arith}
 use lib.ListN.{length, getD, drop, length-append}
 use lib.Seq.{sets}
 use Rattle.model.specs.Job.Syntax.{Exp, Definition, levels}
-use Rattle.model.specs.Job.Entry.{entries, Kind, kindOf, rowKept}
+use Rattle.model.specs.Job.Entry.{entries, Kind, kindOf, rowHolds}
 use Rattle.model.specs.Job.Construct.{size, root}
 use Rattle.model.specs.Job.Words.{rowsOf, bodyWords}
 use Rattle.model.specs.Job.Read.{Got, Read, got, _>>=_, gives, need, entryAt, readExp, isDefinition, readDefinition}
@@ -38,10 +38,10 @@ record BodyOf (ks os : List ℕ) (at : ℕ) (g : Got Definition) : Type 0 where
   small : operandAt os at ≤ 4
 
 body-of : (ks os : List ℕ) (at : ℕ) (g : Got Definition) → at < length ks → readDefinition at (entriesFrom ks os at) ≡ got g → BodyOf ks os at g
-unfolding readDefinition entryAt _>>=_ rowKept
+unfolding readDefinition entryAt _>>=_ rowHolds
 body-of ks os at g l r =
     let a = bind-got (need (isDefinition (kindOf (getD ks at 0))) 3 at) _ g (ap (readDefinition at) (sym (entries-at ks os at l)) ∙ r) in
-    let b = bind-got (need (rowKept Kind.definition (operandAt os at)) 4 at) _ g (a .2) in
+    let b = bind-got (need (rowHolds Kind.definition (operandAt os at)) 4 at) _ g (a .2) in
     let c = bind-got (readExp 24 (levels (operandAt os at)) (suc at) (drop (suc at) (entries ks os))) _ g (b .2) in
     same-got (BodyOf ks os at) _ g (c .2)
     (record { body = c .0; read = c .1; value = refl; next = refl; small = leb-le (operandAt os at) 4 (test-kept _ 4 at (b .0) (b .1)) })

@@ -29,8 +29,10 @@ pub const RETURN: u32 = 8;
 
 pub const PUBLISH: u32 = 9;
 
-// The kind of a parameter that is a variable.
+// The kinds of parameters.
 pub const VARIABLE: u32 = 7;
 
+pub const CONSTANT: u32 = 8;
+
 // "after 1,000,000 such calls"
-pub const CALLS: u32 = 1000000;
+pub const CALL_LIMIT: u32 = 1000000;

@@ -19,7 +19,7 @@ use Rattle.model.proofs.Machine.Kept.{length-kept, kept-marked, kept-free}
 use Rattle.record.proofs.TokenRow.{put-self}
 use Rattle.record.proofs.CellRow.{put-self as put-cell-self}
 use Rattle.record.specs.Fields.{putCell}
-use Rattle.reach.specs.Marks.{Vacant, keptToken, keptCell, tokensSwept, cellsSwept}
+use Rattle.reach.specs.Marks.{Vacant, sweptToken, sweptCell, tokensSwept, cellsSwept}
 use Rattle.reach.proofs.Lists.{any-default}
 
 module _ {A : Type 0} (blank : A) (marks : List Bool) (xs : List A) where
@@ -78,26 +78,26 @@ cellsKept marks m i = withTables (m .tokens) (partly blankCell marks (m .cells) 
 
 -- a row's turn: it is in use, it is made blank, or it was blank before
 module _ (m : Machine) (p : ℕ) (used : Bool) where
-  pub token-used : used ≡ true → m ≡ keptToken p used m
-  unfolding keptToken
+  pub token-used : used ≡ true → m ≡ sweptToken p used m
+  unfolding sweptToken
   token-used e = rw e
 
-  pub token-blanked : used ≡ false → put p blankToken m ≡ keptToken p used m
-  unfolding keptToken
+  pub token-blanked : used ≡ false → put p blankToken m ≡ sweptToken p used m
+  unfolding sweptToken
   token-blanked e = rw e
 
-  pub token-vacant : used ≡ false → tokenAt (m .tokens) p ≡ blankToken → m ≡ keptToken p used m
+  pub token-vacant : used ≡ false → tokenAt (m .tokens) p ≡ blankToken → m ≡ sweptToken p used m
   token-vacant e f = sym (put-self m p) ∙ ap (λ t. put p t m) f ∙ token-blanked e
 
-  pub cell-used : used ≡ true → m ≡ keptCell p used m
-  unfolding keptCell
+  pub cell-used : used ≡ true → m ≡ sweptCell p used m
+  unfolding sweptCell
   cell-used e = rw e
 
-  pub cell-blanked : used ≡ false → putCell p blankCell m ≡ keptCell p used m
-  unfolding keptCell
+  pub cell-blanked : used ≡ false → putCell p blankCell m ≡ sweptCell p used m
+  unfolding sweptCell
   cell-blanked e = rw e
 
-  pub cell-vacant : used ≡ false → cellAt (m .cells) p ≡ blankCell → m ≡ keptCell p used m
+  pub cell-vacant : used ≡ false → cellAt (m .cells) p ≡ blankCell → m ≡ sweptCell p used m
   cell-vacant e f = sym (put-cell-self m p) ∙ ap (λ k. putCell p k m) f ∙ cell-blanked e
 
 module _ (marks : List Bool) (m : Machine) where
@@ -110,8 +110,8 @@ module _ (marks : List Bool) (m : Machine) where
     unfolding withTables tokenAt
     token-there h = partly-at blankToken marks (m .tokens) 64 i wide long h
 
-    pub tokens-next : (x : Bool) → i < 64 → getD marks i false ≡ x → keptToken i x (tokensKept marks m i) ≡ tokensKept marks m (i + 1)
-    unfolding keptToken put withTables
+    pub tokens-next : (x : Bool) → i < 64 → getD marks i false ≡ x → sweptToken i x (tokensKept marks m i) ≡ tokensKept marks m (i + 1)
+    unfolding sweptToken put withTables
     tokens-next true h e = ap (λ ts. withTables ts (m .cells) m) (keeps blankToken marks (m .tokens) 64 i wide long h e)
     tokens-next false h e = ap (λ ts. withTables ts (m .cells) m) (blanks blankToken marks (m .tokens) 64 i wide long h e)
 
@@ -127,8 +127,8 @@ module _ (marks : List Bool) (m : Machine) where
     unfolding withTables cellAt
     cell-there h = partly-at blankCell marks (m .cells) 32 i wide long h
 
-    pub cells-next : (x : Bool) → i < 32 → getD marks i false ≡ x → keptCell i x (cellsKept marks m i) ≡ cellsKept marks m (i + 1)
-    unfolding keptCell withTables
+    pub cells-next : (x : Bool) → i < 32 → getD marks i false ≡ x → sweptCell i x (cellsKept marks m i) ≡ cellsKept marks m (i + 1)
+    unfolding sweptCell withTables
     cells-next true h e = ap (λ cs. withTables (m .tokens) cs m) (keeps blankCell marks (m .cells) 32 i wide long h e)
     cells-next false h e = ap (λ cs. withTables (m .tokens) cs m) (blanks blankCell marks (m .cells) 32 i wide long h e)
 

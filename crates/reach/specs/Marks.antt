@@ -37,13 +37,13 @@ heldMarked m p true marks = cellsMarked m (cellsOf (tokenAt (m .tokens) p)) mark
 heldMarked m p false marks = marks
 
 -- a row that is not in use is made blank
-unfoldable pub keptToken : ℕ → Bool → Machine → Machine
-keptToken p true m = m
-keptToken p false m = put p blankToken m
+unfoldable pub sweptToken : ℕ → Bool → Machine → Machine
+sweptToken p true m = m
+sweptToken p false m = put p blankToken m
 
-unfoldable pub keptCell : ℕ → Bool → Machine → Machine
-keptCell c true m = m
-keptCell c false m = putCell c blankCell m
+unfoldable pub sweptCell : ℕ → Bool → Machine → Machine
+sweptCell c true m = m
+sweptCell c false m = putCell c blankCell m
 
 -- the tokens that are in use, and the cells that given tokens reach; the rest of the table is made blank
 abbrev pub tokensSwept : Machine → Machine

@@ -13,7 +13,7 @@ ghost use Rattle.record.specs.Words.{placeNumber};
 ghost use Rattle.reach.specs.Marks.{callersMarked, parentsMarked, cellsMarked, activeMarked, heldMarked};
 use model::record::Machine;
 use record::cell::parent;
-use record::cell::valued;
+use record::cell::value_kind;
 use record::layout::BLANK_STATE;
 use record::layout::CELL_SLOT;
 use record::layout::FRAME_STATE;
@@ -92,7 +92,7 @@ fn under_set(w: &[u32; Machine::WORDS], start: usize) -> bool
         if Machine::CELLS <= c {
             return false;
         }
-        if valued(w, c) != 0 {
+        if value_kind(w, c) != 0 {
             return true;
         }
         q = wide(parent(w, c));

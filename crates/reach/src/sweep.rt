@@ -8,7 +8,7 @@ ghost use Rattle.model.specs.Machine.InUse.{tokensUsed, cellsUsed, usedCells, r
 ghost use Rattle.model.specs.Machine.Step.{withTables};
 ghost use Rattle.model.specs.declared.record.Machine.{Machine};
 ghost use Rattle.record.specs.Holds.{Holds};
-ghost use Rattle.reach.specs.Marks.{Vacant, FreeTokens, FreeCells, keptToken, keptCell, tokensSwept, cellsSwept};
+ghost use Rattle.reach.specs.Marks.{Vacant, FreeTokens, FreeCells, sweptToken, sweptCell, tokensSwept, cellsSwept};
 use crate::tables::mark_cells;
 use crate::tables::mark_tokens;
 use model::record::Machine;
@@ -18,7 +18,7 @@ use record::token::blank;
 // A token's row that was in use and is no more.
 fn keep_token(w: &mut [u32; Machine::WORDS], p: usize, was: bool, used: bool)
     requires { ⌜ p < 64 ⌝ }
-    ensures { λ _. ⌜ ((m : Machine) → Holds (now (w .entry)) m → (was ≡ false → tokenAt (m .tokens) p ≡ blankToken) → Holds (now (w .exit)) (keptToken p used m)) ⌝ }
+    ensures { λ _. ⌜ ((m : Machine) → Holds (now (w .entry)) m → (was ≡ false → tokenAt (m .tokens) p ≡ blankToken) → Holds (now (w .exit)) (sweptToken p used m)) ⌝ }
 {
     if used {
         return;
@@ -31,7 +31,7 @@ fn keep_token(w: &mut [u32; Machine::WORDS], p: usize, was: bool, used: bool)
 // The same of a cell's.
 fn keep_cell(w: &mut [u32; Machine::WORDS], c: usize, was: bool, used: bool)
     requires { ⌜ c < 32 ⌝ }
-    ensures { λ _. ⌜ ((m : Machine) → Holds (now (w .entry)) m → (was ≡ false → cellAt (m .cells) c ≡ blankCell) → Holds (now (w .exit)) (keptCell c used m)) ⌝ }
+    ensures { λ _. ⌜ ((m : Machine) → Holds (now (w .entry)) m → (was ≡ false → cellAt (m .cells) c ≡ blankCell) → Holds (now (w .exit)) (sweptCell c used m)) ⌝ }
 {
     if used {
         return;

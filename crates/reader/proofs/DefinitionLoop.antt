@@ -13,7 +13,7 @@ use Rattle.model.specs.Job.Entry.{entries, kindOf}
 use Rattle.model.specs.Job.Read.{Got, Read, got, refused, _>>=_, gives, need, entryAt, readExp, isDefinition, readDefinition}
 use Rattle.model.proofs.Job.Position.{entries-end, entries-at, entries-length, bind-got, refused-got, exp-from}
 use Rattle.reader.specs.Checked.{entriesFrom, checked}
-use Rattle.reader.specs.Definitions.{readDefinitions, definitionNodes, definitionsNodes, checkedDefinition, formalsRead, DefinitionsKept}
+use Rattle.reader.specs.Definitions.{readDefinitions, definitionNodes, definitionsNodes, checkedDefinition, formalsRead, DefinitionsHold}
 use Rattle.reader.specs.declared.checked.Checked.{Checked}
 use Rattle.reader.specs.declared.checked.Checked.the-variants.{Next, Refused}
 use Rattle.reader.proofs.Onward.{checked-refused, checked-next}
@@ -114,7 +114,7 @@ tail n d = readDefinitions n (d .next) (d .rest) >>= (λ ds. gives (d .value ∷
 
 module _ (count : ℕ) (ks os fs : List ℕ) (at nodes i : ℕ) (g : Reading count ks os fs at nodes i) where
   pub reading-end : count ≤ i
-      → DefinitionsKept (readDefinitions count 0 (entries ks os)) (record { answer = Next at nodes; formals = fs })
+      → DefinitionsHold (readDefinitions count 0 (entries ks os)) (record { answer = Next at nodes; formals = fs })
   unfolding readDefinitions prefixed _>>=_ checked formalsRead
   reading-end l =
       let z : count - i ≡ 0 = omega (arith, g .most) in
@@ -135,7 +135,7 @@ module _ (count : ℕ) (ks os fs : List ℕ) (at nodes i : ℕ) (g : Reading cou
         g .rest ∙ ap (λ k. prefixed (g .done) (readDefinitions k at (entriesFrom ks os at))) z
 
     pub reading-refused : (n e : ℕ) → q ≡ Refused n e
-        → DefinitionsKept (readDefinitions count 0 (entries ks os)) (record { answer = Refused n e; formals = fs })
+        → DefinitionsHold (readDefinitions count 0 (entries ks os)) (record { answer = Refused n e; formals = fs })
     unfolding prefixed _>>=_ checked formalsRead
     reading-refused n e h =
         let r = checked-refused definitionNodes (readDefinition at (entriesFrom ks os at)) n e (sym eq ∙ h) in

@@ -8,7 +8,7 @@ use lib.ListN.{length, getD, take, drop}
 use lib.Dec.{leb}
 use Rattle.model.specs.Number.{number}
 use Rattle.model.specs.Job.Syntax.{Exp, Definition, levels}
-use Rattle.model.specs.Job.Entry.{kindOf, rowKept}
+use Rattle.model.specs.Job.Entry.{kindOf, rowHolds}
 use Rattle.model.specs.Job.Read.{Got, Read, got, refused, _>>=_, gives, need, entryAt, readExp, isDefinition, readDefinition}
 use Rattle.model.proofs.Test.{le-leb, lt-not-leb}
 use Rattle.model.proofs.Job.Position.{entries-end, entries-at}
@@ -51,7 +51,7 @@ module _ (ks os : List ℕ) (at : ℕ) where
     module _ (k : getD ks at 0 ≡ 6) (o : ℕ) (eo : o ≡ number (take 4 (drop (4 * at) os))) where
       opened : readDefinition at (entriesFrom ks os at)
           ≡ (need (leb o 4) 4 at >>= (λ _. readExp 24 (levels o) (at + 1) (entriesFrom ks os (at + 1)) >>= define o))
-      unfolding readDefinition entryAt need isDefinition kindOf rowKept define _>>=_
+      unfolding readDefinition entryAt need isDefinition kindOf rowHolds define _>>=_
       opened = rw (add-one, entries-at ks os at l, k, ← eo)
 
       pub definition-row : 4 < o → Answers (Refused 4 at)

@@ -5,7 +5,7 @@ use Prim.Native.Nat.{ℕ, zero, suc, _<_, _≤_}
 use native.Mathlib.Omega.{arith}
 use lib.Dec.{ltb}
 use Rattle.model.specs.Test.{_or_}
-use Rattle.model.specs.Job.Entry.{kindOf, rowKept, isBinder}
+use Rattle.model.specs.Job.Entry.{kindOf, rowHolds, isBinder}
 use borrow.Author.Tests.{not-true, not-false}
 use Rattle.model.proofs.Test.{lt-ltb, le-not-ltb}
 use Rattle.reader.specs.Fault.{unless, expressionFault}
@@ -20,12 +20,12 @@ module _ (k o left s : ℕ) where
       go zero = rw (no-expression k l)
       go (suc left) = rw (no-expression k l)
 
-  module _ (r : Bool) (row : r ≡ rowKept (kindOf k) o) (l : k ≤ 5) where
+  module _ (r : Bool) (row : r ≡ rowHolds (kindOf k) o) (l : k ≤ 5) where
     pub fault-4 : not r ≡ true → 4 ≡ expressionFault left s (kindOf k) o
     unfolding expressionFault unless
     fault-4 e = go left (sym row ∙ not-true r e)
       where
-        go : (left : ℕ) → rowKept (kindOf k) o ≡ false → 4 ≡ expressionFault left s (kindOf k) o
+        go : (left : ℕ) → rowHolds (kindOf k) o ≡ false → 4 ≡ expressionFault left s (kindOf k) o
         go zero e = rw (is-expression k l, e)
         go (suc left) e = rw (is-expression k l, e)
 

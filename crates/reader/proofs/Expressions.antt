@@ -14,7 +14,7 @@ use Rattle.model.specs.Job.Construct.{own, size}
 use Rattle.model.proofs.Job.Position.{entries-end, entries-at, exp-from}
 use Rattle.reader.specs.Checked.{entriesFrom, checked, checkedParams, checkedExp, more}
 use Rattle.reader.specs.Fault.{expressionFault}
-use Rattle.reader.specs.Join.{either, joinOf, JoinKept}
+use Rattle.reader.specs.Join.{either, joinOf, JoinHolds}
 use Rattle.reader.specs.declared.checked.Checked.{Checked}
 use Rattle.reader.specs.declared.checked.Checked.the-variants.{Next, Refused}
 use Rattle.reader.specs.declared.expression.Sides.{Sides}
@@ -138,21 +138,21 @@ module _ (ks os : List ℕ) (left s at : ℕ) where
             ∙ ap (more 1) (eq ∙ ap (λ i. checkedParams (readParams (o / 65536) (levels s) i (entriesFrom ks os i))) (add-one at))
             ∙ sym (ap checkedExp by-kind ∙ call-kind (readExp (left - 1)) (levels s) at (suc at) behind (getD ks at 0) o f k)
 
-        module _ (k3 : 3 ≤ getD ks at 0) (sd : Sides) (kept : JoinKept (getD ks at 0) s sd) where
+        module _ (k3 : 3 ≤ getD ks at 0) (sd : Sides) (sides : JoinHolds (getD ks at 0) s sd) where
           pub left-fits : s ≤ 8 → sd .left ≤ 8
           unfolding scopeLeft
           left-fits m =
               let x = sound left s (getD ks at 0) o (sym en ∙ z) in
-              side-fits (getD ks at 0) s (sd .left) scopeLeft (left-most s) refl m k3 (x .room) (kept .left)
+              side-fits (getD ks at 0) s (sd .left) scopeLeft (left-most s) refl m k3 (x .room) (sides .left)
 
           pub right-fits : s ≤ 8 → sd .right ≤ 8
           unfolding scopeRight
           right-fits m =
               let x = sound left s (getD ks at 0) o (sym en ∙ z) in
-              side-fits (getD ks at 0) s (sd .right) scopeRight (right-most s) refl m k3 (x .room) (kept .right)
+              side-fits (getD ks at 0) s (sd .right) scopeRight (right-most s) refl m k3 (x .room) (sides .right)
 
           pub own-fits : sd .nodes ≤ 3
-          own-fits = let x = kept .nodes in omega (arith, own-few (joinOf (getD ks at 0) s))
+          own-fits = let x = sides .nodes in omega (arith, own-few (joinOf (getD ks at 0) s))
 
           by-join : readExp left (levels s) at (entriesFrom ks os at)
               ≡ (readExp (left - 1) (levels (sd .left)) (at + 1) (entriesFrom ks os (at + 1))
@@ -164,7 +164,7 @@ module _ (ks os : List ℕ) (left s at : ℕ) where
               let x = sound left s (getD ks at 0) o (sym en ∙ z) in
               by-kind
               ∙ join-kind side s at (suc at) behind (getD ks at 0) o (x .kind) k3
-              ∙ ap₂ (λ a b. side a (suc at) behind >>= second side j b) (sym (kept .left)) (sym (kept .right))
+              ∙ ap₂ (λ a b. side a (suc at) behind >>= second side j b) (sym (sides .left)) (sym (sides .right))
               ∙ ap (λ i. side (levels (sd .left)) i (entriesFrom ks os i) >>= second side j (levels (sd .right))) (sym (add-one at))
 
           module _ (q : Checked) (eq : q ≡ checkedExp (readExp (left - 1) (levels (sd .left)) (at + 1) (entriesFrom ks os (at + 1)))) where
@@ -180,7 +180,7 @@ module _ (ks os : List ℕ) (left s at : ℕ) where
                 let es = entries ks os in
                 let a = checked-next size (side (levels (sd .left)) (at + 1) (entriesFrom ks os (at + 1))) m d (sym eq ∙ h) in
                 let f = exp-from es (left - 1) (levels (sd .left)) (at + 1) (entriesFrom ks os (at + 1)) (a .0) refl (a .1) in
-                let x : own j + size (a .0 .value) ≡ sd .nodes + d = ap₂ (λ i k. i + k) (sym (kept .nodes)) (a .3) in
+                let x : own j + size (a .0 .value) ≡ sd .nodes + d = ap₂ (λ i k. i + k) (sym (sides .nodes)) (a .3) in
                 er
                 ∙ ap (more (sd .nodes + d)) ez
                 ∙ sym (ap checkedExp (by-join ∙ ap (λ r. r >>= second side j (levels (sd .right))) (a .1))

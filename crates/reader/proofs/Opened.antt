@@ -10,7 +10,7 @@ use lib.ListN.{length}
 use lib.Dec.{ltb}
 use Rattle.model.specs.Test.{_or_}
 use Rattle.model.specs.Job.Syntax.{par, seq, prune, Exp, stop, site, call, levels}
-use Rattle.model.specs.Job.Entry.{Entry, entry, low, high, Kind, kindOf, isExpression, rowKept, isBinder}
+use Rattle.model.specs.Job.Entry.{Entry, entry, low, high, Kind, kindOf, isExpression, rowHolds, isBinder}
 use Rattle.model.specs.Job.Read.{Read, refused, _>>=_, gives, need, entryAt, readCall, readJoin, readExp}
 use Rattle.model.proofs.Test.{clash, ltb-lt}
 use Rattle.reader.specs.Fault.{unless, expressionFault}
@@ -60,7 +60,7 @@ module _ (left : ℕ) (scope : List ℕ) (e : ℕ) (x : Entry) (es : List Entry)
   abbrev pub tests : Kind → ℕ → Read Exp → Read Exp
   tests k o r =
       need (isExpression k) 3 e
-      >>= (λ _. need (rowKept k o) 4 e >>= (λ _. need (not (isBinder k) or ltb (length scope) 8) 7 e >>= (λ _. r)))
+      >>= (λ _. need (rowHolds k o) 4 e >>= (λ _. need (not (isBinder k) or ltb (length scope) 8) 7 e >>= (λ _. r)))
 
   pub exp-opened : readExp (suc left) scope e (x ∷ es)
       ≡ tests (kindOf (x .kind)) (x .operand) (readKind (readExp left) scope e (suc e) es (kindOf (x .kind)) (x .operand))
@@ -70,13 +70,13 @@ module _ (left : ℕ) (scope : List ℕ) (e : ℕ) (x : Entry) (es : List Entry)
 module _ (s e k o : ℕ) (es : List Entry) where
   scoped : (left : ℕ) → readExp (suc left) (levels s) e (entry k o ∷ es)
       ≡ (need (isExpression (kindOf k)) 3 e
-      >>= (λ _. need (rowKept (kindOf k) o) 4 e
+      >>= (λ _. need (rowHolds (kindOf k) o) 4 e
       >>= (λ _. need (not (isBinder (kindOf k)) or ltb s 8) 7 e
       >>= (λ _. readKind (readExp left) (levels s) e (suc e) es (kindOf k) o))))
   scoped left =
       exp-opened left (levels s) e (entry k o) es
       ∙ ap (λ n. need (isExpression (kindOf k)) 3 e
-      >>= (λ _. need (rowKept (kindOf k) o) 4 e
+      >>= (λ _. need (rowHolds (kindOf k) o) 4 e
       >>= (λ _. need (not (isBinder (kindOf k)) or ltb n 8) 7 e
       >>= (λ _. readKind (readExp left) (levels s) e (suc e) es (kindOf k) o)))) (levels-length s)
 
@@ -84,14 +84,14 @@ module _ (s e k o : ℕ) (es : List Entry) where
   pub exp-refused : (left n : ℕ) → n ≡ expressionFault left s (kindOf k) o → (n ≡ 0 → ⊥)
       → readExp left (levels s) e (entry k o ∷ es) ≡ refused n e
   unfolding readExp entryAt need _>>=_ expressionFault unless
-  exp-refused zero n q f = go (isExpression (kindOf k)) (rowKept (kindOf k) o) q
+  exp-refused zero n q f = go (isExpression (kindOf k)) (rowHolds (kindOf k) o) q
     where
       go : (a b : Bool) → n ≡ unless a 3 (unless b 4 6) → _≡_ {A = Read Exp} (need a 3 e >>= (λ _. need b 4 e >>= (λ _. refused 6 e))) (refused n e)
       go true true q = ap (λ n. refused n e) (sym q)
       go true false q = ap (λ n. refused n e) (sym q)
       go false b q = ap (λ n. refused n e) (sym q)
   exp-refused (suc left) n q f =
-      scoped left ∙ go (isExpression (kindOf k)) (rowKept (kindOf k) o) (not (isBinder (kindOf k)) or ltb s 8) q
+      scoped left ∙ go (isExpression (kindOf k)) (rowHolds (kindOf k) o) (not (isBinder (kindOf k)) or ltb s 8) q
     where
       go : (a b c : Bool) → n ≡ unless a 3 (unless b 4 (unless c 7 0))
           → (need a 3 e
@@ -105,7 +105,7 @@ module _ (s e k o : ℕ) (es : List Entry) where
   pub exp-kind : (left : ℕ) → expressionFault left s (kindOf k) o ≡ 0
       → readExp left (levels s) e (entry k o ∷ es) ≡ readKind (readExp (left - 1)) (levels s) e (suc e) es (kindOf k) o
   unfolding need _>>=_ expressionFault unless
-  exp-kind zero q = absurd (go (isExpression (kindOf k)) (rowKept (kindOf k) o) q)
+  exp-kind zero q = absurd (go (isExpression (kindOf k)) (rowHolds (kindOf k) o) q)
     where
       go : (a b : Bool) → unless a 3 (unless b 4 6) ≡ 0 → ⊥
       go true true q = omega arith
@@ -113,7 +113,7 @@ module _ (s e k o : ℕ) (es : List Entry) where
       go false b q = omega arith
   exp-kind (suc left) q =
       scoped left
-      ∙ go (isExpression (kindOf k)) (rowKept (kindOf k) o) (not (isBinder (kindOf k)) or ltb s 8) q
+      ∙ go (isExpression (kindOf k)) (rowHolds (kindOf k) o) (not (isBinder (kindOf k)) or ltb s 8) q
       ∙ ap (λ l. readKind (readExp l) (levels s) e (suc e) es (kindOf k) o) (let z : left ≡ suc left - 1 = omega arith in z)
     where
       go : (a b c : Bool) → unless a 3 (unless b 4 (unless c 7 0)) ≡ 0
@@ -133,13 +133,13 @@ pub record Sound (left s k : ℕ) : Type 0 where
 
 pub sound : (left s k o : ℕ) → expressionFault left s (kindOf k) o ≡ 0 → Sound left s k
 unfolding expressionFault unless _or_
-sound zero s k o q = absurd (go (isExpression (kindOf k)) (rowKept (kindOf k) o) q)
+sound zero s k o q = absurd (go (isExpression (kindOf k)) (rowHolds (kindOf k) o) q)
   where
     go : (a b : Bool) → unless a 3 (unless b 4 6) ≡ 0 → ⊥
     go true true q = omega arith
     go true false q = omega arith
     go false b q = omega arith
-sound (suc left) s k o q = go (isExpression (kindOf k)) (rowKept (kindOf k) o) (not (isBinder (kindOf k)) or ltb s 8) refl refl q
+sound (suc left) s k o q = go (isExpression (kindOf k)) (rowHolds (kindOf k) o) (not (isBinder (kindOf k)) or ltb s 8) refl refl q
   where
     small : isExpression (kindOf k) ≡ true → Dec (5 < k) → k ≤ 5
     small e (yes l) = clash e (no-expression k l)

@@ -7,7 +7,7 @@ use native.Mathlib.Omega.{arith}
 use lib.ListN.{length}
 use Rattle.model.specs.Job.Syntax.{Exp, Definition, Program, formalsOf}
 use Rattle.model.specs.Job.Entry.{Entry}
-use Rattle.model.specs.Job.Read.{Got, Read, got, refused, _>>=_, gives, readExp, readDefinition, readProgram, leftovers, definitionsKept, readEntries}
+use Rattle.model.specs.Job.Read.{Got, Read, got, refused, _>>=_, gives, readExp, readDefinition, readProgram, leftovers, definitionsHold, readEntries}
 use Rattle.model.proofs.Job.Position.{bind-got}
 use Rattle.reader.specs.Checked.{entriesFrom}
 use Rattle.reader.specs.Definitions.{readDefinitions, definitionsNodes}
@@ -78,7 +78,7 @@ all-defined ks os (suc n) e l q g r =
 
 -- the tests behind a program that was read
 unfoldable pub tests : List Entry → Got Program → Read Program
-tests es p = leftovers (p .next) (p .rest) >>= (λ _. definitionsKept (formalsOf (p .value .definitions)) 0 es >>= (λ _. got p))
+tests es p = leftovers (p .next) (p .rest) >>= (λ _. definitionsHold (formalsOf (p .value .definitions)) 0 es >>= (λ _. got p))
 
 pub entries-opened : (n : ℕ) (es : List Entry) → readEntries n es ≡ (readDefinitions n 0 es >>= goalRead >>= tests es)
 unfolding readEntries tests
@@ -97,7 +97,7 @@ unfolding goalRead whole tests
 parted n es p r =
     let b = bind-got (readDefinitions n 0 es >>= goalRead) (tests es) p (sym (entries-opened n es) ∙ r) in
     let c = bind-got (leftovers (b .0 .next) (b .0 .rest)) _ p (b .2) in
-    let d = bind-got (definitionsKept _ 0 es) _ p (c .2) in
+    let d = bind-got (definitionsHold _ 0 es) _ p (c .2) in
     let e = bind-got (readDefinitions n 0 es) goalRead (b .0) (b .1) in
     let f = bind-got (readExp 24 [] (e .0 .next) (e .0 .rest)) (whole (e .0 .value)) (b .0) (e .2) in
     same-got (λ q. Parted n es (q .value)) (b .0) p (d .2)

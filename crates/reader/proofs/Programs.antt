@@ -6,11 +6,11 @@ use native.Mathlib.Omega.{arith}
 use lib.ListN.{length, take}
 use Rattle.model.specs.Job.Syntax.{Definition, Program, formalsOf, levels}
 use Rattle.model.specs.Job.Entry.{Entry, entries}
-use Rattle.model.specs.Job.Read.{Got, Read, got, refused, _>>=_, need, readExp, leftovers, definitionsKept, readEntries}
+use Rattle.model.specs.Job.Read.{Got, Read, got, refused, _>>=_, need, readExp, leftovers, definitionsHold, readEntries}
 use Rattle.model.specs.Job.Construct.{size, construct}
 use Rattle.model.proofs.Job.Position.{entries-end, entries-at, exp-from}
 use Rattle.reader.specs.Checked.{entriesFrom, checked, checkedTest, checkedExp, checkedProgram, afterwards}
-use Rattle.reader.specs.Definitions.{readDefinitions, definitionsNodes, formalsRead, DefinitionsKept}
+use Rattle.reader.specs.Definitions.{readDefinitions, definitionsNodes, formalsRead, DefinitionsHold}
 use Rattle.reader.specs.declared.checked.Checked.{Checked}
 use Rattle.reader.specs.declared.checked.Checked.the-variants.{Next, Refused}
 use Rattle.reader.specs.declared.definition.Definitions.{Definitions}
@@ -37,18 +37,18 @@ tests-answer f (refused n e) s = refl
 -- the answer for them: leftovers, then calls, then the program's end and nodes
 tests-all : (es : List Entry) (p : Got Program) → checkedProgram (tests es p)
     ≡ afterwards (checkedTest (leftovers (p .next) (p .rest)))
-    (afterwards (checkedTest (definitionsKept (formalsOf (p .value .definitions)) 0 es))
+    (afterwards (checkedTest (definitionsHold (formalsOf (p .value .definitions)) 0 es))
     (Next (p .next) (definitionsNodes (p .value .definitions) + (size (p .value .goal) + 1))))
 unfolding tests checked
 tests-all es p =
     let nodes : Program → ℕ = λ p. length (construct p .nodes) in
-    let calls = definitionsKept (formalsOf (p .value .definitions)) 0 es in
+    let calls = definitionsHold (formalsOf (p .value .definitions)) 0 es in
     tests-answer nodes (leftovers (p .next) (p .rest)) (calls >>= (λ _. got p))
     ∙ ap (afterwards (checkedTest (leftovers (p .next) (p .rest))))
     (tests-answer nodes calls (got p)
     ∙ ap (λ m. afterwards (checkedTest calls) (Next (p .next) m)) (construct-length (p .value)))
 
-module _ (ks os : List ℕ) (n : ℕ) (d : Definitions) (kept : DefinitionsKept (readDefinitions n 0 (entries ks os)) d) where
+module _ (ks os : List ℕ) (n : ℕ) (d : Definitions) (found : DefinitionsHold (readDefinitions n 0 (entries ks os)) d) where
   -- the code's answer
   abbrev Answers : Checked → Type 0
   Answers r = r ≡ checkedProgram (readEntries n (entries ks os))
@@ -56,12 +56,12 @@ module _ (ks os : List ℕ) (n : ℕ) (d : Definitions) (kept : DefinitionsKept 
   pub program-refused : (k e : ℕ) → d .answer ≡ Refused k e → Answers (Refused k e)
   unfolding _>>=_ checked
   program-refused k e h =
-      let r = checked-refused definitionsNodes (readDefinitions n 0 (entries ks os)) k e (sym (kept .answer) ∙ h) in
+      let r = checked-refused definitionsNodes (readDefinitions n 0 (entries ks os)) k e (sym (found .answer) ∙ h) in
       sym (ap checkedProgram (entries-opened n (entries ks os) ∙ ap (λ r. r >>= goalRead >>= tests (entries ks os)) r))
 
   module _ (at before : ℕ) (h : d .answer ≡ Next at before) where
     first : (a : Got (List Definition)) × (readDefinitions n 0 (entries ks os) ≡ got a) × (a .next ≡ at) × (definitionsNodes (a .value) ≡ before)
-    first = checked-next definitionsNodes (readDefinitions n 0 (entries ks os)) at before (sym (kept .answer) ∙ h)
+    first = checked-next definitionsNodes (readDefinitions n 0 (entries ks os)) at before (sym (found .answer) ∙ h)
 
     facts : AllDefined ks os n 0 (first .0)
     facts = all-defined ks os n 0 (entries ks os) refl (first .0) (first .1)
@@ -95,7 +95,7 @@ module _ (ks os : List ℕ) (n : ℕ) (d : Definitions) (kept : DefinitionsKept 
     unfolding formalsRead
     counts =
         let many = ap (λ r. length (formalsRead r)) (first .1) ∙ formals-length (first .0 .value) ∙ facts .many in
-        ap (λ i. take i (d .formals)) (sym many) ∙ kept .formals ∙ ap formalsRead (first .1)
+        ap (λ i. take i (d .formals)) (sym many) ∙ found .formals ∙ ap formalsRead (first .1)
 
     module _ (q : Checked) (eq : q ≡ checkedExp (readExp 24 (levels 0) at (entriesFrom ks os at))) where
       pub goal-refused : (k e : ℕ) → q ≡ Refused k e → Answers (Refused k e)
@@ -106,7 +106,7 @@ module _ (ks os : List ℕ) (n : ℕ) (d : Definitions) (kept : DefinitionsKept 
 
       pub program-done : (end nodes : ℕ) (u v x r : Checked) → q ≡ Next end nodes
           → u ≡ checkedTest (leftovers end (entriesFrom ks os end))
-          → v ≡ checkedTest (definitionsKept (take n (d .formals)) 0 (entries ks os)) → x ≡ afterwards v (Next end (before + nodes + 1))
+          → v ≡ checkedTest (definitionsHold (take n (d .formals)) 0 (entries ks os)) → x ≡ afterwards v (Next end (before + nodes + 1))
           → r ≡ afterwards u x → Answers r
       unfolding whole _>>=_
       program-done end nodes u v x r w eu ev ex er =
@@ -122,4 +122,4 @@ module _ (ks os : List ℕ) (n : ℕ) (d : Definitions) (kept : DefinitionsKept 
           ∙ tests-all (entries ks os) (record { value = record { definitions = ds; goal = a .0 .value }; next = a .0 .next; rest = a .0 .rest })
           ∙ ap₂ afterwards
           (ap₂ (λ i l. checkedTest (leftovers i l)) (a .2) (f .rest ∙ ap (λ i. entriesFrom ks os i) (a .2)))
-          (ap₂ afterwards (ap (λ fs. checkedTest (definitionsKept fs 0 (entries ks os))) (sym counts)) (ap₂ (λ i k. Next i k) (a .2) sum)))
+          (ap₂ afterwards (ap (λ fs. checkedTest (definitionsHold fs 0 (entries ks os))) (sym counts)) (ap₂ (λ i k. Next i k) (a .2) sum)))

@@ -6,7 +6,7 @@ use Prim.Native.Nat.{ℕ, zero, suc, _<_, _≤_}
 use native.Mathlib.Omega.{arith}
 use lib.Dec.{eqb, leb}
 use Rattle.model.specs.Site.{siteTakes}
-use Rattle.model.specs.Job.Entry.{low, high, kindOf, isExpression, rowKept, isBinder}
+use Rattle.model.specs.Job.Entry.{low, high, kindOf, isExpression, rowHolds, isBinder}
 
 -- what holds of 0 to 8, the known kinds, and of every number from 9 on holds of every number
 pub by-kind : (P : ℕ → Type 0) → P 0 → P 1 → P 2 → P 3 → P 4 → P 5 → P 6 → P 7 → P 8
@@ -51,16 +51,16 @@ no-binder k m =
     (λ l. absurd (omega arith)) (λ l. absurd (omega arith)) k (omega arith) m
 
 module _ (k o : ℕ) where
-  pub row-site : k ≡ 1 → rowKept (kindOf k) o ≡ siteTakes (low o) (high o)
-  unfolding kindOf rowKept
+  pub row-site : k ≡ 1 → rowHolds (kindOf k) o ≡ siteTakes (low o) (high o)
+  unfolding kindOf rowHolds
   row-site e = rw e
 
-  pub row-call : k ≡ 2 → rowKept (kindOf k) o ≡ leb (high o) 4
-  unfolding kindOf rowKept
+  pub row-call : k ≡ 2 → rowHolds (kindOf k) o ≡ leb (high o) 4
+  unfolding kindOf rowHolds
   row-call e = rw e
 
-  pub row-zero : k ≤ 5 → (k ≡ 1 → ⊥) → (k ≡ 2 → ⊥) → rowKept (kindOf k) o ≡ eqb o 0
-  unfolding kindOf rowKept
+  pub row-zero : k ≤ 5 → (k ≡ 1 → ⊥) → (k ≡ 2 → ⊥) → rowHolds (kindOf k) o ≡ eqb o 0
+  unfolding kindOf rowHolds
   row-zero =
-      up-to-five (λ k. (k ≡ 1 → ⊥) → (k ≡ 2 → ⊥) → rowKept (kindOf k) o ≡ eqb o 0)
+      up-to-five (λ k. (k ≡ 1 → ⊥) → (k ≡ 2 → ⊥) → rowHolds (kindOf k) o ≡ eqb o 0)
       (λ a b. refl) (λ a b. absurd (a refl)) (λ a b. absurd (b refl)) (λ a b. refl) (λ a b. refl) (λ a b. refl) k

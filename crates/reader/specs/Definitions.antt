@@ -39,6 +39,6 @@ formalsRead (got g) = formalsOf (g .value)
 formalsRead (refused n e) = []
 
 -- the answer, and the counts of formals at the front of the array
-pub record DefinitionsKept (r : Read (List Definition)) (d : Definitions) : Type 0 where
+pub record DefinitionsHold (r : Read (List Definition)) (d : Definitions) : Type 0 where
   pub answer : d .answer ≡ checkedDefinitions r
   pub formals : take (length (formalsRead r)) (d .formals) ≡ formalsRead r

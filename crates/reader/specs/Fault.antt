@@ -3,7 +3,7 @@ use mathlib.Core.Bool.{Bool, true, false, not}
 use Prim.Native.Nat.{ℕ, zero, suc}
 use lib.Dec.{ltb}
 use Rattle.model.specs.Test.{_or_}
-use Rattle.model.specs.Job.Entry.{Kind, isExpression, rowKept, isBinder}
+use Rattle.model.specs.Job.Entry.{Kind, isExpression, rowHolds, isBinder}
 
 -- this number, unless the test holds
 unfoldable pub unless : Bool → ℕ → ℕ → ℕ
@@ -12,6 +12,6 @@ unless false n m = n
 
 -- 0 where no test fails; so many levels of depth are left, so many variables in scope
 unfoldable pub expressionFault : ℕ → ℕ → Kind → ℕ → ℕ
-expressionFault zero scope k o = unless (isExpression k) 3 (unless (rowKept k o) 4 6)
+expressionFault zero scope k o = unless (isExpression k) 3 (unless (rowHolds k o) 4 6)
 expressionFault (suc left) scope k o =
-    unless (isExpression k) 3 (unless (rowKept k o) 4 (unless (not (isBinder k) or ltb scope 8) 7 0))
+    unless (isExpression k) 3 (unless (rowHolds k o) 4 (unless (not (isBinder k) or ltb scope 8) 7 0))

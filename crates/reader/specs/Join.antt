@@ -16,7 +16,7 @@ unfoldable pub joinOf : ℕ → ℕ → Join
 joinOf kind x = either (eqb kind 3) par (either (eqb kind 4) (seq x) (prune x))
 
 -- a scope is kept by its number of variables
-pub record JoinKept (kind scope : ℕ) (s : Sides) : Type 0 where
+pub record JoinHolds (kind scope : ℕ) (s : Sides) : Type 0 where
   pub left : levels (s .left) ≡ scopeLeft (joinOf kind scope) (levels scope)
   pub right : levels (s .right) ≡ scopeRight (joinOf kind scope) (levels scope)
   pub nodes : s .nodes ≡ own (joinOf kind scope)

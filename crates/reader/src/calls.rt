@@ -5,13 +5,13 @@ ghost use mathlib.Core.Path.{_≡_};
 ghost use Prim.Native.Nat.{_≤_};
 ghost use lib.ListN.{take};
 ghost use Rattle.model.specs.Job.Entry.{entry, entries};
-ghost use Rattle.model.specs.Job.Read.{callKept, definitionsKept};
+ghost use Rattle.model.specs.Job.Read.{callHolds, definitionsHold};
 ghost use Rattle.reader.specs.Checked.{Parts, checkedTest};
 
 // May an entry of this kind and operand stand beside `count` definitions with these counts of formals?
-fn call_kept(kind: u8, operand: u32, formals: [u32; 32], count: usize) -> bool
+fn call_holds(kind: u8, operand: u32, formals: [u32; 32], count: usize) -> bool
     requires { ⌜ count ≤ 32 ⌝ }
-    ensures { λ r. ⌜ r ≡ callKept (take count formals) (entry kind operand) ⌝ }
+    ensures { λ r. ⌜ r ≡ callHolds (take count formals) (entry kind operand) ⌝ }
 {
     if kind != 2 {
         return true;
@@ -27,12 +27,12 @@ fn call_kept(kind: u8, operand: u32, formals: [u32; 32], count: usize) -> bool
 pub fn check_calls(kinds: &[u8], operands: &[u8], formals: [u32; 32], count: usize) -> Checked
     requires { ⌜ Parts (now kinds) (now operands) ⌝ }
     requires { ⌜ count ≤ 32 ⌝ }
-    ensures { λ r. ⌜ r ≡ checkedTest (definitionsKept (take count formals) 0 (entries (now (kinds .entry)) (now (operands .entry)))) ⌝ }
+    ensures { λ r. ⌜ r ≡ checkedTest (definitionsHold (take count formals) 0 (entries (now (kinds .entry)) (now (operands .entry)))) ⌝ }
 {
     let mut i = 0;
     while i < kinds.len() {
-        let kept = call_kept(kinds[i], entry::operand(operands, i), formals, count);
-        if !kept {
+        let holds = call_holds(kinds[i], entry::operand(operands, i), formals, count);
+        if !holds {
             return Checked::Refused(8, i);
         }
         i += 1;

@@ -8,7 +8,7 @@ ghost use Prim.Native.Nat.{_≤_};
 ghost use Rattle.model.specs.Job.Entry.{entries};
 ghost use Rattle.model.specs.Job.Read.{readDefinition};
 ghost use Rattle.reader.specs.Checked.{Parts, entriesFrom};
-ghost use Rattle.reader.specs.Definitions.{checkedDefinition, readDefinitions, DefinitionsKept};
+ghost use Rattle.reader.specs.Definitions.{checkedDefinition, readDefinitions, DefinitionsHold};
 
 // The answer for some definitions, and the count of formals of each.
 pub struct Definitions {
@@ -41,7 +41,7 @@ fn check_definition(kinds: &[u8], operands: &[u8], at: usize) -> Checked
 pub fn check_definitions(kinds: &[u8], operands: &[u8], count: usize) -> Definitions
     requires { ⌜ Parts (now kinds) (now operands) ⌝ }
     requires { ⌜ count ≤ 32 ⌝ }
-    ensures { λ r. ⌜ DefinitionsKept (readDefinitions count 0 (entries (now (kinds .entry)) (now (operands .entry)))) r ⌝ }
+    ensures { λ r. ⌜ DefinitionsHold (readDefinitions count 0 (entries (now (kinds .entry)) (now (operands .entry)))) r ⌝ }
 {
     let mut formals = [0u32; 32];
     let mut at = 0;

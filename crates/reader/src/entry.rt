@@ -4,7 +4,7 @@ ghost use mathlib.Core.Path.{_≡_};
 ghost use Prim.Native.Nat.{_+_, _*_, _<_, _≤_};
 ghost use lib.ListN.{length, take, drop};
 ghost use Rattle.model.specs.Number.{number};
-ghost use Rattle.model.specs.Job.Entry.{kindOf, rowKept};
+ghost use Rattle.model.specs.Job.Entry.{kindOf, rowHolds};
 ghost use Rattle.reader.specs.Fault.{expressionFault};
 
 // Four bytes, the lowest first.
@@ -31,9 +31,9 @@ pub fn operand(operands: &[u8], at: usize) -> u32
 }
 
 // Does the operand of an expression's entry keep to its row of the table?
-pub fn row_kept(kind: u8, operand: u32) -> bool
+pub fn row_holds(kind: u8, operand: u32) -> bool
     requires { ⌜ kind < 6 ⌝ }
-    ensures { λ r. ⌜ r ≡ rowKept (kindOf kind) operand ⌝ }
+    ensures { λ r. ⌜ r ≡ rowHolds (kindOf kind) operand ⌝ }
 {
     if kind == 1 {
         return sites::takes(operand % 65536, operand / 65536);
@@ -51,7 +51,7 @@ pub fn fault(kind: u8, operand: u32, left: usize, scope: usize) -> u8
     if 5 < kind {
         return 3;
     }
-    if !row_kept(kind, operand) {
+    if !row_holds(kind, operand) {
         return 4;
     }
     if left == 0 {

@@ -8,7 +8,7 @@ ghost use Prim.Native.Nat.{_≤_};
 ghost use Rattle.model.specs.Job.Syntax.{levels};
 ghost use Rattle.model.specs.Job.Read.{readExp};
 ghost use Rattle.reader.specs.Checked.{Parts, entriesFrom, checkedExp};
-ghost use Rattle.reader.specs.Join.{JoinKept};
+ghost use Rattle.reader.specs.Join.{JoinHolds};
 
 // "Depth ends at 24".
 pub const DEPTH: usize = 24;
@@ -23,7 +23,7 @@ pub struct Sides {
 // The sides of a join of this kind (3, 4 or 5), where so many variables are in scope.
 pub fn sides_of(kind: u8, scope: usize) -> Sides
     requires { ⌜ scope ≤ 8 ⌝ }
-    ensures { λ r. ⌜ JoinKept kind scope r ⌝ }
+    ensures { λ r. ⌜ JoinHolds kind scope r ⌝ }
 {
     if kind == 3 {
         return Sides {

@@ -32,9 +32,9 @@ module _ {ws : List ℕ} {m : Machine} (h : Codes ws m) (c : ℕ) (l : c < 32) w
   unfolding cellRow
   parent-word = let z : 1536 + 4 * c ≡ 1536 + 4 * c + 0 = omega arith in ap (λ i. getD ws i 0) z ∙ cell-word 0 (omega arith)
 
-  pub valued-word : getD ws (1536 + 4 * c + 1) 0 ≡ heldKind (k .value)
+  pub value-kind-word : getD ws (1536 + 4 * c + 1) 0 ≡ heldKind (k .value)
   unfolding cellRow
-  valued-word = cell-word 1 (omega arith)
+  value-kind-word = cell-word 1 (omega arith)
 
   pub value-word : getD ws (1536 + 4 * c + 2) 0 ≡ heldNumber (k .value)
   unfolding cellRow

@@ -107,9 +107,9 @@ module _ {ws : List ℕ} {m : Machine} (h : Codes ws m) (p : ℕ) (l : p < 64) w
   unfolding rowOf
   cell-word = token-word 4 (omega arith)
 
-  pub valued-word : getD ws (24 * p + 5) 0 ≡ heldKind (t .value)
+  pub value-kind-word : getD ws (24 * p + 5) 0 ≡ heldKind (t .value)
   unfolding rowOf
-  valued-word = token-word 5 (omega arith)
+  value-kind-word = token-word 5 (omega arith)
 
   pub value-word : getD ws (24 * p + 6) 0 ≡ heldNumber (t .value)
   unfolding rowOf

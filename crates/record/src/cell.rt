@@ -19,7 +19,7 @@ pub fn parent(w: &[u32; Machine::WORDS], c: usize) -> u32
     w[CELLS + CELL * c]
 }
 
-pub fn valued(w: &[u32; Machine::WORDS], c: usize) -> u32
+pub fn value_kind(w: &[u32; Machine::WORDS], c: usize) -> u32
     requires { ⌜ c < 32 ⌝ }
     ensures { λ r. ⌜ ((m : Machine) → Codes (now (w .entry)) m → r ≡ heldKind (cellAt (m .cells) c .value)) ⌝ }
 {
@@ -44,10 +44,10 @@ pub fn put_unset(w: &mut [u32; Machine::WORDS], c: usize, parent: u32)
 }
 
 // "Set the cell", to the value whose words these are.
-pub fn set_value(w: &mut [u32; Machine::WORDS], c: usize, valued: u32, value: u32)
+pub fn set_value(w: &mut [u32; Machine::WORDS], c: usize, kind: u32, number: u32)
     requires { ⌜ c < 32 ⌝ }
-    ensures { λ _. ⌜ ((m : Machine) (v : Held) → Holds (now (w .entry)) m → heldKind v ≡ valued → heldNumber v ≡ value → Holds (now (w .exit)) (putCell c (setCell v (cellAt (m .cells) c)) m)) ⌝ }
+    ensures { λ _. ⌜ ((m : Machine) (v : Held) → Holds (now (w .entry)) m → heldKind v ≡ kind → heldNumber v ≡ number → Holds (now (w .exit)) (putCell c (setCell v (cellAt (m .cells) c)) m)) ⌝ }
 {
-    w[CELLS + CELL * c + 1] = valued;
-    w[CELLS + CELL * c + 2] = value;
+    w[CELLS + CELL * c + 1] = kind;
+    w[CELLS + CELL * c + 2] = number;
 }

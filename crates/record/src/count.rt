@@ -3,7 +3,7 @@ ghost use mathlib.Core.Path.{_≡_};
 ghost use Rattle.model.specs.Machine.Step.{withCounts};
 ghost use Rattle.model.specs.declared.record.Machine.{Machine};
 ghost use Rattle.record.specs.Holds.{Codes, Holds};
-use crate::layout::CALLS;
+use crate::layout::CALL_COUNT;
 use crate::layout::LASTCELL;
 use crate::layout::LASTTOKEN;
 use model::record::Machine;
@@ -11,7 +11,7 @@ use model::record::Machine;
 pub fn calls(w: &[u32; Machine::WORDS]) -> u32
     ensures { λ r. ⌜ ((m : Machine) → Codes (now (w .entry)) m → r ≡ m .calls) ⌝ }
 {
-    w[CALLS]
+    w[CALL_COUNT]
 }
 
 pub fn last_token(w: &[u32; Machine::WORDS]) -> u32
@@ -29,7 +29,7 @@ pub fn last_cell(w: &[u32; Machine::WORDS]) -> u32
 pub fn set_calls(w: &mut [u32; Machine::WORDS], n: u32)
     ensures { λ _. ⌜ ((m : Machine) → Holds (now (w .entry)) m → Holds (now (w .exit)) (withCounts n (m .lasttoken) (m .lastcell) m)) ⌝ }
 {
-    w[CALLS] = n;
+    w[CALL_COUNT] = n;
 }
 
 pub fn set_last_token(w: &mut [u32; Machine::WORDS], p: u32)

@@ -1,5 +1,10 @@
 // Where the words of a record stand: tokens, cells, queue, wait order, counts. specs/Words.antt has the same table.
 
+// How many places there are, as a word of a record is held to them: a place is named by a smaller number.
+pub const TOKEN_PLACES: u32 = 64;
+
+pub const CELL_PLACES: u32 = 32;
+
 // The words of a token: state, its number, node, caller, cell, whether it has a value, the value, 0, and kind and number of each binding.
 pub const TOKEN: usize = 24;
 
@@ -16,7 +21,7 @@ pub const QUEUED: usize = 1792;
 
 pub const WAITING: usize = 1793;
 
-pub const CALLS: usize = 1794;
+pub const CALL_COUNT: usize = 1794;
 
 pub const LASTTOKEN: usize = 1795;
 

@@ -52,7 +52,7 @@ pub fn cell(w: &[u32; Machine::WORDS], p: usize) -> u32
     w[TOKEN * p + 4]
 }
 
-pub fn valued(w: &[u32; Machine::WORDS], p: usize) -> u32
+pub fn value_kind(w: &[u32; Machine::WORDS], p: usize) -> u32
     requires { ⌜ p < 64 ⌝ }
     ensures { λ r. ⌜ ((m : Machine) → Codes (now (w .entry)) m → r ≡ heldKind (tokenAt (m .tokens) p .value)) ⌝ }
 {
@@ -111,12 +111,12 @@ pub fn set_state(w: &mut [u32; Machine::WORDS], p: usize, kind: u32, number: u32
 }
 
 // The value whose words these are.
-pub fn set_value(w: &mut [u32; Machine::WORDS], p: usize, valued: u32, value: u32)
+pub fn set_value(w: &mut [u32; Machine::WORDS], p: usize, kind: u32, number: u32)
     requires { ⌜ p < 64 ⌝ }
-    ensures { λ _. ⌜ ((m : Machine) (t : Token) (v : Held) → Holds (now (w .entry)) (put p t m) → heldKind v ≡ valued → heldNumber v ≡ value → Holds (now (w .exit)) (put p (withValue v t) m)) ⌝ }
+    ensures { λ _. ⌜ ((m : Machine) (t : Token) (v : Held) → Holds (now (w .entry)) (put p t m) → heldKind v ≡ kind → heldNumber v ≡ number → Holds (now (w .exit)) (put p (withValue v t) m)) ⌝ }
 {
-    w[TOKEN * p + 5] = valued;
-    w[TOKEN * p + 6] = value;
+    w[TOKEN * p + 5] = kind;
+    w[TOKEN * p + 6] = number;
 }
 
 // The slot whose words these are, bound to a variable.

@@ -61,7 +61,7 @@ fn refusal(r: Refusal) {
 }
 
 // The values beside a reply, where not all are 0.
-fn beside(values: [i32; 4]) {
+fn reply_values(values: [i32; 4]) {
     let a = values[0];
     let b = values[1];
     let c = values[2];
@@ -91,7 +91,7 @@ pub fn reply(r: Reply, values: [i32; 4]) {
         }
         Reply::Refused(why) => refusal(why),
     }
-    beside(values);
+    reply_values(values);
     put(b"\n");
 }
 
@@ -111,8 +111,8 @@ fn state(kind: u32, at: u32) {
     }
 }
 
-fn held(valued: u32, word: u32) {
-    if valued != 0 {
+fn held(kind: u32, word: u32) {
+    if kind != 0 {
         put(b" value");
         value(signed(word));
     }
@@ -154,7 +154,7 @@ fn bindings(w: &[u32; Machine::WORDS], p: usize)
     }
 }
 
-fn one_token(w: &[u32; Machine::WORDS], p: usize)
+fn show_token(w: &[u32; Machine::WORDS], p: usize)
     requires { ⌜ p < 64 ⌝ }
 {
     put(b"  token");
@@ -162,7 +162,7 @@ fn one_token(w: &[u32; Machine::WORDS], p: usize)
     state(token::state(w, p), token::state_number(w, p));
     put(b" node");
     number(token::node(w, p) as u64);
-    held(token::valued(w, p), token::value(w, p));
+    held(token::value_kind(w, p), token::value(w, p));
     place(b" caller", token::caller(w, p));
     place(b" cell", token::cell(w, p));
     bindings(w, p);
@@ -183,18 +183,18 @@ fn is_blank_token(w: &[u32; Machine::WORDS], p: usize) -> bool
 fn tokens(w: &[u32; Machine::WORDS]) {
     for p in 0..Machine::TOKENS {
         if !is_blank_token(w, p) {
-            one_token(w, p);
+            show_token(w, p);
         }
     }
 }
 
-fn one_cell(w: &[u32; Machine::WORDS], c: usize)
+fn show_cell(w: &[u32; Machine::WORDS], c: usize)
     requires { ⌜ c < 32 ⌝ }
 {
     put(b"  cell");
     number(c as u64);
     place(b" parent", cell::parent(w, c));
-    held(cell::valued(w, c), cell::value(w, c));
+    held(cell::value_kind(w, c), cell::value(w, c));
     put(b"\n");
 }
 
@@ -212,7 +212,7 @@ fn is_blank_cell(w: &[u32; Machine::WORDS], c: usize) -> bool
 fn cells(w: &[u32; Machine::WORDS]) {
     for c in 0..Machine::CELLS {
         if !is_blank_cell(w, c) {
-            one_cell(w, c);
+            show_cell(w, c);
         }
     }
 }

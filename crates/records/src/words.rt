@@ -51,7 +51,7 @@ fn is_token(w: &[u32; Machine::WORDS], p: usize) -> bool
     if !is_state(token::state(w, p), token::state_number(w, p)) {
         return false;
     }
-    if !is_value(token::valued(w, p), token::value(w, p)) {
+    if !is_value(token::value_kind(w, p), token::value(w, p)) {
         return false;
     }
     if w[TOKEN * p + 7] != 0 {
@@ -64,7 +64,7 @@ fn is_token(w: &[u32; Machine::WORDS], p: usize) -> bool
 fn is_cell(w: &[u32; Machine::WORDS], c: usize) -> bool
     requires { ⌜ c < 32 ⌝ }
 {
-    if !is_value(cell::valued(w, c), cell::value(w, c)) {
+    if !is_value(cell::value_kind(w, c), cell::value(w, c)) {
         return false;
     }
     w[CELLS + CELL * c + 3] == 0

@@ -6,7 +6,7 @@ ghost use Rattle.model.specs.declared.record.Machine.{Machine};
 ghost use Rattle.record.specs.Holds.{Codes};
 use model::record::Machine;
 use record::cell::parent;
-use record::cell::valued;
+use record::cell::value_kind;
 use record::layout::TOKEN;
 
 pub fn token_is_blank(w: &[u32; Machine::WORDS], p: usize) -> bool
@@ -27,5 +27,5 @@ pub fn cell_is_blank(w: &[u32; Machine::WORDS], c: usize) -> bool
     requires { ⌜ c < 32 ⌝ }
     ensures { λ r. ⌜ ((m : Machine) → Codes (now (w .entry)) m → r ≡ cellIsBlank (cellAt (m .cells) c)) ⌝ }
 {
-    (parent(w, c) == 0) & (valued(w, c) == 0)
+    (parent(w, c) == 0) & (value_kind(w, c) == 0)
 }

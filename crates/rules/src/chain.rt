@@ -13,8 +13,9 @@ ghost use Rattle.record.specs.Words.{stateKind, stateNumber};
 use crate::wide::wide;
 use model::record::Machine;
 use record::cell::parent;
-use record::cell::valued;
+use record::cell::value_kind;
 use record::layout::BLANK_STATE;
+use record::layout::CELL_PLACES;
 use record::layout::FRAME_STATE;
 use record::layout::WAITING_STATE;
 use record::token::cell;
@@ -31,11 +32,11 @@ pub fn under_set(w: &[u32; Machine::WORDS], place: u32) -> bool
         if here == 0 {
             return false;
         }
-        if 32 < here {
+        if CELL_PLACES < here {
             return false;
         }
         let at = wide(here) - 1;
-        if 0 < valued(w, at) {
+        if 0 < value_kind(w, at) {
             return true;
         }
         here = parent(w, at);
@@ -54,7 +55,7 @@ pub fn chain_ends(w: &[u32; Machine::WORDS], place: u32) -> bool
         if here == 0 {
             return true;
         }
-        if 32 < here {
+        if CELL_PLACES < here {
             return true;
         }
         let at = wide(here) - 1;
@@ -73,7 +74,7 @@ pub fn waits_at_unset(w: &[u32; Machine::WORDS], kind: u32, number: u32) -> bool
         if Machine::CELLS <= at {
             return true;
         }
-        return valued(w, at) == 0;
+        return value_kind(w, at) == 0;
     }
     true
 }

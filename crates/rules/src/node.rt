@@ -24,7 +24,7 @@ use record::token::bind_kind;
 use record::token::caller;
 use record::token::cell;
 use record::token::state;
-use record::token::valued;
+use record::token::value_kind;
 
 fn slot_is_bound(w: &[u32; Machine::WORDS], p: usize, x: u32) -> bool
     requires { ⌜ p < 64 ⌝ }
@@ -64,7 +64,7 @@ fn value_if_ready(w: &[u32; Machine::WORDS], p: usize) -> bool
     requires { ⌜ p < 64 ⌝ }
     ensures { λ r. ⌜ ((m : Machine) → Codes (now (w .entry)) m → r ≡ valueIfReady (tokenAt (m .tokens) p)) ⌝ }
 {
-    !(state(w, p) == READY_STATE) | (0 < valued(w, p))
+    !(state(w, p) == READY_STATE) | (0 < value_kind(w, p))
 }
 
 fn names_frame(w: &[u32; Machine::WORDS], p: usize) -> bool

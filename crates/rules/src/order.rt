@@ -17,6 +17,7 @@ use crate::wide::wide;
 use model::record::Machine;
 use record::layout::QUEUE;
 use record::layout::READY_STATE;
+use record::layout::TOKEN_PLACES;
 use record::layout::WAITING_STATE;
 use record::layout::WAITS;
 use record::order::queued;
@@ -30,7 +31,7 @@ fn order_in_range(w: &[u32; Machine::WORDS], at: usize, n: usize) -> bool
 {
     let mut i: usize = 0;
     while i < n {
-        if 64 <= w[at + i] {
+        if TOKEN_PLACES <= w[at + i] {
             return false;
         }
         i += 1;

@@ -30,6 +30,7 @@ use coded::dag::dag_holds;
 use model::dag::WORDS;
 use model::record::Machine;
 use record::cell::parent;
+use record::layout::CELL_PLACES;
 use record::token::node;
 
 // The rules of one token. A blank one keeps them all.
@@ -69,7 +70,7 @@ fn cell_holds(w: &[u32; Machine::WORDS], c: usize, used: bool) -> bool
         return cell_is_blank(w, c);
     }
     let above = parent(w, c);
-    (above <= 32) & chain_ends(w, above)
+    (above <= CELL_PLACES) & chain_ends(w, above)
 }
 
 fn cells_hold(w: &[u32; Machine::WORDS], used: &[bool; Machine::CELLS]) -> bool

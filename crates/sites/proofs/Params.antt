@@ -16,7 +16,7 @@ use Rattle.model.specs.Machine.Step.{passed, formalsBound}
 use Rattle.model.specs.declared.token.Slot.the-variants as slots
 use Rattle.model.specs.declared.token.Bind.{Bind}
 use Rattle.model.proofs.Test.{ne-eqb, ltb-lt, all-at}
-use Rattle.sites.specs.Row.{rowAt, paramsAt, ParamsKept}
+use Rattle.sites.specs.Row.{rowAt, paramsAt, ParamsHold}
 
 map-append : {A B : Type 0} (f : A → B) (xs ys : List A) → map f (xs ++ ys) ≡ map f xs ++ map f ys
 map-append f [] ys = refl
@@ -130,14 +130,14 @@ unfolding passed
 slot-constant bs k w n = sym (ap (λ p. passed bs p .slot) (param-constant k w n))
 
 -- a turn of the loop that binds the formals: k and w are the words of the parameter at i
-module _ (ws : List ℕ) (at i k w : ℕ) (o : ParamsKept ws at) (l : i < getD ws (at + 3) 0) where
+module _ (ws : List ℕ) (at i k w : ℕ) (o : ParamsHold ws at) (l : i < getD ws (at + 3) 0) where
   the-param : k ≡ getD ws (at + 4 + 2 * i) 0 → w ≡ getD ws (at + 5 + 2 * i) 0 → getD (paramsAt ws at) i (variable 0) ≡ paramOf k w
   the-param e f = params-at ws at (o .size) (o .inside) (o .few) i (variable 0) l ∙ sym (ap₂ paramOf e f)
 
   pub param-kept : k ≡ getD ws (at + 4 + 2 * i) 0 → w ≡ getD ws (at + 5 + 2 * i) 0 → paramHolds (paramOf k w) ≡ true
   param-kept e f =
       let n = params-count ws at (o .size) (o .inside) (o .few) in
-      subst (λ p. paramHolds p ≡ true) (the-param e f) (all-at paramHolds (paramsAt ws at) i (variable 0) (o .kept) (omega arith))
+      subst (λ p. paramHolds p ≡ true) (the-param e f) (all-at paramHolds (paramsAt ws at) i (variable 0) (o .hold) (omega arith))
 
   pub param-bound :
       (bs : List Bind) (b : Bind)
@@ -151,7 +151,7 @@ module _ (ws : List ℕ) (at i k w : ℕ) (o : ParamsKept ws at) (l : i < getD w
       ap (set (formalsBound bs (take i (paramsAt ws at))) i) (g ∙ ap (passed bs) (sym (the-param e f)))
       ∙ bound-more bs (paramsAt ws at) i (variable 0) (omega arith) (omega arith)
 
-pub params-bound : (ws : List ℕ) (at i : ℕ) (bs : List Bind) → ParamsKept ws at → getD ws (at + 3) 0 ≤ i → formalsBound bs (take i (paramsAt ws at)) ≡ formalsBound bs (paramsAt ws at)
+pub params-bound : (ws : List ℕ) (at i : ℕ) (bs : List Bind) → ParamsHold ws at → getD ws (at + 3) 0 ≤ i → formalsBound bs (take i (paramsAt ws at)) ≡ formalsBound bs (paramsAt ws at)
 params-bound ws at i bs o l = let n = params-count ws at (o .size) (o .inside) (o .few) in bound-all bs (paramsAt ws at) i (omega arith)
 
 pub none-bound : (bs : List Bind) (ps : List Param) → unbound ≡ formalsBound bs (take 0 ps)

@@ -15,7 +15,7 @@ use Rattle.model.specs.Job.Node.{Node, Dag, nodeAt, bodyAt, nodeHolds, paramsHo
 use Rattle.model.specs.Job.Words.{dagOf, nodeWords, nodeBy}
 use Rattle.model.proofs.Test.{clash, or-cases, and-left, and-right, ltb-lt, leb-le}
 use Rattle.model.proofs.Job.Rules.{dag-rules}
-use Rattle.sites.specs.Row.{rowOf, rowAt, paramsAt, ParamsKept, nodeIn, nodeOfKind, nodesByKind}
+use Rattle.sites.specs.Row.{rowOf, rowAt, paramsAt, ParamsHold, nodeIn, nodeOfKind, nodesByKind}
 use Rattle.sites.specs.Row.{NodeRow}
 use Rattle.sites.proofs.Nodes.{node-of-kind, node-inside, node-read, node-rule, node-words, root-read, root-few, body-few}
 use Rattle.sites.proofs.Params.{row-word}
@@ -59,12 +59,12 @@ module _ (ws : List ℕ) (at kind : ℕ) (o : NodeRow ws at kind) where
       omega arith
 
   -- the parameters of a call
-  params-kept : getD (nodeWords (nodeIn ws at kind)) 3 0 ≡ length (paramsAt ws at) → paramsHold (paramsAt ws at) ≡ true → ParamsKept ws at
+  params-kept : getD (nodeWords (nodeIn ws at kind)) 3 0 ≡ length (paramsAt ws at) → paramsHold (paramsAt ws at) ≡ true → ParamsHold ws at
   unfolding paramsHold
   params-kept n k =
       let c : getD ws (at + 3) 0 ≡ getD (nodeWords (nodeIn ws at kind)) 3 0 = count-word in
       let l : length (paramsAt ws at) ≤ 4 = leb-le (length (paramsAt ws at)) 4 (and-left _ _ k) in
-      record { size = o .size; inside = row-inside; few = omega arith; kept = and-right (leb (length (paramsAt ws at)) 4) _ k }
+      record { size = o .size; inside = row-inside; few = omega arith; hold = and-right (leb (length (paramsAt ws at)) 4) _ k }
 
 -- the numbers of each kind of node
 module _ (ws : List ℕ) (at : ℕ) where
@@ -103,7 +103,7 @@ module _ (ws : List ℕ) (at : ℕ) where
   unfolding nodeHolds
   call-rule o = node-kept ws at 2 o
 
-  pub call-params : NodeRow ws at 2 → ParamsKept ws at
+  pub call-params : NodeRow ws at 2 → ParamsHold ws at
   unfolding nodeWords
   call-params o = params-kept ws at 2 o refl (and-left _ _ (and-right (ltb (word 1) (length (dagOf ws .bodies))) _ (call-rule o)))
 
@@ -128,7 +128,7 @@ module _ (ws : List ℕ) (at : ℕ) where
   unfolding nodeHolds
   site-rule o = node-kept ws at 1 o
 
-  pub site-params : NodeRow ws at 1 → ParamsKept ws at
+  pub site-params : NodeRow ws at 1 → ParamsHold ws at
   unfolding nodeWords
   site-params o = params-kept ws at 1 o refl (and-left _ _ (and-right (siteTakes (word 1) (length (paramsAt ws at))) _ (site-rule o)))
 

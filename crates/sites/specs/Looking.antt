@@ -16,28 +16,28 @@ use Rattle.model.specs.declared.token.Held.{Held}
 use Rattle.model.specs.declared.token.Held.the-variants as helds
 use Rattle.model.specs.declared.cell.Cell.{Cell}
 use Rattle.model.specs.declared.record.Machine.{Machine}
-use Rattle.sites.specs.declared.look.Known.{Known}
-use Rattle.sites.specs.declared.look.Known.the-variants as knowns
+use Rattle.sites.specs.declared.look.Argument.{Argument}
+use Rattle.sites.specs.declared.look.Argument.the-variants as arguments
 use Rattle.sites.specs.declared.look.LookUp.{LookUp}
 
-unfoldable pub heldFound : ℕ → Held → Known
-heldFound c helds.Nothing = knowns.Unset c
-heldFound c (helds.Value v) = knowns.Value v
+unfoldable pub heldFound : ℕ → Held → Argument
+heldFound c helds.Nothing = arguments.Unset c
+heldFound c (helds.Value v) = arguments.Value v
 
-unfoldable pub foundOf : List Cell → Slot → Known
-foundOf cs slots.Empty = knowns.Nothing
-foundOf cs (slots.Value v) = knowns.Value v
+unfoldable pub foundOf : List Cell → Slot → Argument
+foundOf cs slots.Empty = arguments.Nothing
+foundOf cs (slots.Value v) = arguments.Value v
 foundOf cs (slots.Cell c) = heldFound c (cellAt cs c .value)
 
-unfoldable pub paramFound : List Cell → List Bind → Param → Known
+unfoldable pub paramFound : List Cell → List Bind → Param → Argument
 paramFound cs bs (variable x) = foundOf cs (slotAt bs x)
-paramFound cs bs (constant v) = knowns.Value v
+paramFound cs bs (constant v) = arguments.Value v
 
 -- what is found first, then the rest
-unfoldable pub after : Known → LookedUp → LookedUp
-after (knowns.Value v) l = andThen v l
-after (knowns.Unset c) l = unset c
-after knowns.Nothing l = values []
+unfoldable pub after : Argument → LookedUp → LookedUp
+after (arguments.Value v) l = andThen v l
+after (arguments.Unset c) l = unset c
+after arguments.Nothing l = values []
 
 -- a look-up's result: a place beyond the cells where all values are there
 unfoldable pub lookUpOf : LookedUp → LookUp

@@ -26,7 +26,7 @@ rowAt ws at = take 12 (drop at ws)
 unfoldable pub paramsAt : List ℕ → (at : ℕ) → List Param
 paramsAt ws at = paramsFrom (getD ws (at + 3) 0) (drop 4 (rowAt ws at))
 
--- the row of a node of a kept dag begins at the word `at`, and the node's kind is k
+-- the row of a node of a dag that keeps the rules begins at the word `at`, and the node's kind is k
 pub record NodeRow (ws : List ℕ) (at k : ℕ) : Type 0 where
   pub size : length ws ≡ 12331
   pub dag : dagHolds (dagOf ws) ≡ true
@@ -36,11 +36,11 @@ pub record NodeRow (ws : List ℕ) (at k : ℕ) : Type 0 where
   pub kind : getD ws at 0 ≡ k
 
 -- the row lies within the array, and its parameters keep the index rules
-pub record ParamsKept (ws : List ℕ) (at : ℕ) : Type 0 where
+pub record ParamsHold (ws : List ℕ) (at : ℕ) : Type 0 where
   pub size : length ws ≡ 12331
   pub inside : at + 12 ≤ 12331
   pub few : getD ws (at + 3) 0 ≤ 4
-  pub kept : all paramHolds (paramsAt ws at) ≡ true
+  pub hold : all paramHolds (paramsAt ws at) ≡ true
 
 -- the nodes that have some numbers, by kind
 abbrev pub nodesByKind : (a b c : ℕ) → List Param → List Node

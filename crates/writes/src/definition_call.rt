@@ -13,7 +13,7 @@ ghost use Rattle.model.specs.declared.token.Token.{Token};
 ghost use Rattle.record.specs.Fields.{taken, withBinds};
 ghost use Rattle.record.specs.Holds.{Holds};
 ghost use Rattle.record.specs.Words.{placeNumber};
-ghost use Rattle.sites.specs.Row.{ParamsKept, paramsAt, callee};
+ghost use Rattle.sites.specs.Row.{ParamsHold, paramsAt, callee};
 use crate::dag::wide;
 use crate::dag::word;
 use model::dag::VARIABLE;
@@ -51,7 +51,7 @@ fn pass(w: &mut [u32; Machine::WORDS], p: usize, new: usize, i: usize, kind: u32
 
 // "only its formals bound"
 fn pass_all(w: &mut [u32; Machine::WORDS], dag: &[u32; WORDS], at: usize, p: usize, new: usize)
-    requires { ⌜ (p < 64) × (new < 64) × ParamsKept (now dag) at ⌝ }
+    requires { ⌜ (p < 64) × (new < 64) × ParamsHold (now dag) at ⌝ }
     ensures { λ _. ⌜ ((m : Machine) → Holds (now (w .entry)) (put new blankToken m) → (p ≡ new → ⊥) → Holds (now (w .exit)) (put new (withBinds (formalsBound (tokenAt (m .tokens) p .binds) (paramsAt (now (dag .entry)) at)) blankToken) m)) ⌝ }
 {
     let count = wide(word(dag, at + 3));
@@ -74,7 +74,7 @@ fn put_callee(
     root: u32,
     home: u32,
 )
-    requires { ⌜ (p < 64) × (new < 64) × ParamsKept (now dag) at ⌝ }
+    requires { ⌜ (p < 64) × (new < 64) × ParamsHold (now dag) at ⌝ }
     ensures { λ _. ⌜ ((m : Machine) (q : Place) → Holds (now (w .entry)) m → (p ≡ new → ⊥) → tokenAt (m .tokens) new ≡ blankToken → placeNumber q ≡ home → Holds (now (w .exit)) (put new (callee p q (tokenAt (m .tokens) p .binds) root (paramsAt (now (dag .entry)) at)) m)) ⌝ }
 {
     pass_all(w, dag, at, p, new);
@@ -95,7 +95,7 @@ pub fn written(
     root: u32,
     next: u32,
 )
-    requires { ⌜ (p < 64) × (new < 64) × ParamsKept (now dag) at ⌝ }
+    requires { ⌜ (p < 64) × (new < 64) × ParamsHold (now dag) at ⌝ }
     ensures { λ _. ⌜ ((m : Machine) → Holds (now (w .entry)) m → place < m .queued → (p ≡ new → ⊥) → tokenAt (m .tokens) new ≡ blankToken → Holds (now (w .exit)) (enqueue new (newToken new (callee p (tokenAt (m .tokens) p .cell) (tokenAt (m .tokens) p .binds) root (paramsAt (now (dag .entry)) at)) (put p (withNode next (withState states.Frame (tokenAt (m .tokens) p))) (taken m place))))) ⌝ }
 {
     let home = cell(w, p);

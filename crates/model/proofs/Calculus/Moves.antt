@@ -11,7 +11,7 @@ use Rattle.model.specs.Test.{_and_}
 use Rattle.model.specs.Number.{fits}
 use Rattle.model.specs.Site.{BuiltinReply, gives, silent, isBuiltin, isOutside, builtin}
 use Rattle.model.specs.Calculus.Event.{Event, publish, answer, Label, silently, showing}
-use Rattle.model.specs.Calculus.Expression.{Param, Exp, stop, site, call, par, seq, prune, pending, hand, subst, one, formals}
+use Rattle.model.specs.Calculus.Expression.{Param, Exp, stop, site, call, par, seq, prune, pending, hand, subst, innermost, formals}
 use Rattle.model.specs.Calculus.Rewriting.{Passes, silence, calling, answering, valuesOf, Rewrites}
 use Rattle.model.specs.Calculus.Rewriting.{builtin-gives, builtin-silent, outside-call, answered, published, entered}
 use Rattle.model.specs.Calculus.Rewriting.{par-left, par-right, seq-acts, seq-publishes, prune-left, prune-right, prune-publishes}
@@ -80,9 +80,9 @@ module _ (body : ℕ → Exp) (h : ℕ) where
   every w (site s ps) p = everyOfSite s (valuesOf ps) p
   every w (call d ps) p = p silently (subst (formals ps) (body d))
   every w (par f g) p = every w f (λ a f′. p a (par f′ g)) and every w g (λ a g′. p a (par f g′))
-  every w (seq f g) p = every w f (sorted (λ v f′. p silently (par (seq f′ g) (subst (one v) g))) (λ a f′. p a (seq f′ g)))
+  every w (seq f g) p = every w f (sorted (λ v f′. p silently (par (seq f′ g) (subst (innermost v) g))) (λ a f′. p a (seq f′ g)))
   every w (prune f g) p =
-      every w f (λ a f′. p a (prune f′ g)) and every w g (sorted (λ v g′. p silently (subst (one v) f)) (λ a g′. p a (prune f g′)))
+      every w f (λ a f′. p a (prune f′ g)) and every w g (sorted (λ v g′. p silently (subst (innermost v) f)) (λ a g′. p a (prune f g′)))
   every w (pending k) p = fits w implies p (showing (answer k w)) (hand w)
   every w (hand v) p = p (showing (publish v)) stop
 
@@ -169,7 +169,7 @@ module _ (body : ℕ → Exp) (h : ℕ) where
       _
       _
       (λ a f′ r y t. record { label = a; left = seq f′ g; move = seq-acts r y; fails = t })
-      (λ v f′ r t. record { label = silently; left = par (seq f′ g) (subst (one v) g); move = seq-publishes r; fails = t })
+      (λ v f′ r t. record { label = silently; left = par (seq f′ g) (subst (innermost v) g); move = seq-publishes r; fails = t })
       (x .label)
       (x .left)
       (x .move)
@@ -183,7 +183,7 @@ module _ (body : ℕ → Exp) (h : ℕ) where
             _
             _
             (λ a g′ r y t. record { label = a; left = prune f g′; move = prune-right r y; fails = t })
-            (λ v g′ r t. record { label = silently; left = subst (one v) f; move = prune-publishes r; fails = t })
+            (λ v g′ r t. record { label = silently; left = subst (innermost v) f; move = prune-publishes r; fails = t })
             (x .label)
             (x .left)
             (x .move)

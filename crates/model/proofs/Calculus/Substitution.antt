@@ -6,7 +6,7 @@ use mathlib.Core.List.{List, [], _∷_, map}
 use Prim.Native.Nat.{ℕ, zero, suc, _<_}
 use native.Mathlib.Omega.{arith}
 use lib.IntN.{ℤ}
-use Rattle.model.specs.Calculus.Expression.{Param, value, variable, Exp, stop, site, call, par, seq, prune, pending, hand, Substitution, raise, lift, substParam, subst, one}
+use Rattle.model.specs.Calculus.Expression.{Param, value, variable, Exp, stop, site, call, par, seq, prune, pending, hand, Substitution, raise, lift, substParam, subst, innermost}
 
 infixr 40 _after_
 -- first ρ, then θ
@@ -82,18 +82,18 @@ abbrev pub bound : ℤ → Substitution → Substitution
 bound v ρ zero = value v
 bound v ρ (suc i) = ρ i
 
-one-raise : (v : ℤ) (p : Param) → substParam (one v) (raise p) ≡ p
-unfolding substParam one raise
-one-raise v (value w) = refl
-one-raise v (variable i) = refl
+innermost-raise : (v : ℤ) (p : Param) → substParam (innermost v) (raise p) ≡ p
+unfolding substParam innermost raise
+innermost-raise v (value w) = refl
+innermost-raise v (variable i) = refl
 
-pub one-lift : (v : ℤ) (ρ : Substitution) (e : Exp) → subst (one v) (subst (lift ρ) e) ≡ subst (bound v ρ) e
-unfolding lift one substParam
-one-lift v ρ e = subst-after (one v) (lift ρ) e ∙ ap (λ τ. subst τ e) (fun-ext go)
+pub innermost-lift : (v : ℤ) (ρ : Substitution) (e : Exp) → subst (innermost v) (subst (lift ρ) e) ≡ subst (bound v ρ) e
+unfolding lift innermost substParam
+innermost-lift v ρ e = subst-after (innermost v) (lift ρ) e ∙ ap (λ τ. subst τ e) (fun-ext go)
   where
-    go : (i : ℕ) → (one v after lift ρ) i ≡ bound v ρ i
+    go : (i : ℕ) → (innermost v after lift ρ) i ≡ bound v ρ i
     go zero = refl
-    go (suc i) = one-raise v (ρ i)
+    go (suc i) = innermost-raise v (ρ i)
 
 -- a substitution that leaves the n innermost variables alone
 abbrev pub Spares : ℕ → Substitution → Type 0

@@ -11,7 +11,7 @@ use Rattle.model.specs.Number.{signed}
 use Rattle.model.specs.Job.Syntax.{Param, variable, constant, Join, par, seq, prune, Exp, stop, site, call, Definition, Program, formalsOf, levels, scopeLeft, scopeRight}
 use Rattle.model.specs.Job.Entry.{Entry, entries, low, high, Kind, kindOf}
 use Rattle.model.specs.Job.Read.{Got, Read, got, refused, _>>=_, gives, need, entryAt, readParam, readParams, readCall, readJoin, readExp, isDefinition}
-use Rattle.model.specs.Job.Read.{readDefinition, readProgram, leftovers, callKept, definitionsKept, readEntries, sizeD, sizeN, tableLength, readBytes}
+use Rattle.model.specs.Job.Read.{readDefinition, readProgram, leftovers, callHolds, definitionsHold, readEntries, sizeD, sizeN, tableLength, readBytes}
 use Rattle.model.specs.Job.Read.{Answer, accepted, declined, answerOf, readTable}
 use Rattle.model.proofs.Test.{and-right, leb-le}
 use Rattle.model.proofs.Job.Entry.{length-entries}
@@ -155,17 +155,17 @@ module _ (m : ℕ) where
   leftovers-within e [] l = needs true 5 e (omega arith)
   leftovers-within e (x ∷ es) l = stops 5 e (omega arith)
 
-  calls-within : (formals : List ℕ) (e : ℕ) (es : List Entry) → e + length es ≤ m → Within m (definitionsKept formals e es)
-  unfolding definitionsKept
+  calls-within : (formals : List ℕ) (e : ℕ) (es : List Entry) → e + length es ≤ m → Within m (definitionsHold formals e es)
+  unfolding definitionsHold
   calls-within formals e [] l = needs true 8 e (omega arith)
-  calls-within formals e (x ∷ es) l = after (callKept formals x) 8 e _ (omega arith) (λ _. calls-within formals (suc e) es (omega arith))
+  calls-within formals e (x ∷ es) l = after (callHolds formals x) 8 e _ (omega arith) (λ _. calls-within formals (suc e) es (omega arith))
 
   entries-within : (D : ℕ) (es : List Entry) → length es ≤ m → Within m (readEntries D es)
   unfolding readEntries
   entries-within D es l =
       bind (readProgram D 0 es) _ (program-within D 0 es (omega arith))
       (λ p k. bind (leftovers (p .next) (p .rest)) _ (leftovers-within (p .next) (p .rest) k)
-      (λ _ _. bind (definitionsKept (formalsOf (p .value .definitions)) 0 es) _ (calls-within (formalsOf (p .value .definitions)) 0 es (omega arith))
+      (λ _ _. bind (definitionsHold (formalsOf (p .value .definitions)) 0 es) _ (calls-within (formalsOf (p .value .definitions)) 0 es (omega arith))
       (λ _ _. reads k)))
 
 bytes-within : (b : List ℕ) → Within 512 (readBytes b)

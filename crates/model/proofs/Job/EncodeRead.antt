@@ -11,10 +11,10 @@ use lib.Dec.{leb}
 use Rattle.model.specs.Test.{All, none, more}
 use Rattle.model.specs.Number.{bytes}
 use Rattle.model.specs.Job.Syntax.{Definition, Program, formalsOf, levels}
-use Rattle.model.specs.Job.Entry.{Entry, entry, entries, Kind, kindOf, rowKept}
+use Rattle.model.specs.Job.Entry.{Entry, entry, entries, Kind, kindOf, rowHolds}
 use Rattle.model.specs.Job.Encode.{encodeExp, encodeDefinitions, encodeEntries, operandBytes, encode}
 use Rattle.model.specs.Job.WellFormed.{Good, GoodDefinition, WellFormed}
-use Rattle.model.specs.Job.Read.{Got, _>>=_, entryAt, need, isDefinition, readDefinition, readProgram, leftovers, callKept, definitionsKept}
+use Rattle.model.specs.Job.Read.{Got, _>>=_, entryAt, need, isDefinition, readDefinition, readProgram, leftovers, callHolds, definitionsHold}
 use Rattle.model.specs.Job.Read.{readEntries, sizeD, sizeN, tableLength, readBytes}
 use Rattle.model.proofs.All.{All-drop}
 use Rattle.model.proofs.Test.{eqb-eq, leb-le, and-left, and-right, clash}
@@ -51,7 +51,7 @@ definition-kind n t = go (kindOf n) refl t
 
 definition-found : (formals : List ℕ) (e : ℕ) (es : List Entry) → All (Kept formals) es
     → Yields (FoundDefinition formals es) (readDefinition e es)
-unfolding readDefinition _>>=_ entryAt rowKept
+unfolding readDefinition _>>=_ entryAt rowHolds
 definition-found formals e [] kept = nothing
 definition-found formals e (x ∷ rest) (more _ kept) =
     yields-need _ 3 e _ λ k.
@@ -91,11 +91,11 @@ unfolding leftovers need
 leftovers-found e [] = something refl
 leftovers-found e (x ∷ es) = nothing
 
-kept-found : (formals : List ℕ) (e : ℕ) (es : List Entry) → Yields (λ _. All (Kept formals) es) (definitionsKept formals e es)
-unfolding definitionsKept need
+kept-found : (formals : List ℕ) (e : ℕ) (es : List Entry) → Yields (λ _. All (Kept formals) es) (definitionsHold formals e es)
+unfolding definitionsHold need
 kept-found formals e [] = something none
 kept-found formals e (x ∷ es) =
-    yields-need (callKept formals x) 8 e _ λ t.
+    yields-need (callHolds formals x) 8 e _ λ t.
     yields-map (λ _ ts. more t ts) (kept-found formals (suc e) es)
 
 record FoundEntries (n : ℕ) (es : List Entry) (g : Got Program) : Type 0 where

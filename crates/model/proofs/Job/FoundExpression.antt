@@ -10,7 +10,7 @@ use Rattle.model.specs.Test.{_or_, any, All, none, more}
 use Rattle.model.specs.Number.{signed, unsigned}
 use Rattle.model.specs.Site.{siteTakes}
 use Rattle.model.specs.Job.Syntax.{Param, Join, Exp, scopeLeft, scopeRight}
-use Rattle.model.specs.Job.Entry.{Entry, entry, low, high, Kind, kindOf, isExpression, rowKept, isBinder}
+use Rattle.model.specs.Job.Entry.{Entry, entry, low, high, Kind, kindOf, isExpression, rowHolds, isBinder}
 use Rattle.model.specs.Job.Encode.{encodeParam, encodeJoin, encodeExp}
 use Rattle.model.specs.Job.WellFormed.{GoodParam, SiteTakes, Binds, Good}
 use Rattle.model.specs.Job.Read.{Got, _>>=_, entryAt, need, readParam, readParams, readCall, readJoin, readExp}
@@ -127,7 +127,7 @@ module _ (formals : List ℕ) (left : ℕ) (scope : List ℕ) (e : ℕ) (x : Ent
 
     exp-at : (k : Kind) → kindOf (x .kind) ≡ k → All (Kept formals) (x ∷ rest)
         → Yields (FoundExp formals (suc left) scope (x ∷ rest)) (readExp (suc left) scope e (x ∷ rest))
-    unfolding readExp _>>=_ entryAt need kindOf isExpression rowKept isBinder _or_ encodeJoin
+    unfolding readExp _>>=_ entryAt need kindOf isExpression rowHolds isBinder _or_ encodeJoin
     exp-at Kind.stop q kept = rw (q, readExp) (yields-need _ 4 e _ λ t. something (stop-found (kind-number _ _ q) t))
     exp-at Kind.site q kept = rw (q, readExp) (yields-need _ 4 e _ λ t. site-found (kind-number _ _ q) t)
     exp-at Kind.call q (more t kept) =

@@ -9,11 +9,11 @@ use lib.ListN.{length, length-append, length-map}
 use lib.Dec.{leb}
 use Rattle.model.specs.Test.{_or_, All, none, more}
 use Rattle.model.specs.Job.Syntax.{Param, Join, Exp, Definition, Program, scopeLeft, scopeRight}
-use Rattle.model.specs.Job.Entry.{Entry, entry, entries, kindOf, isExpression, rowKept, isBinder}
+use Rattle.model.specs.Job.Entry.{Entry, entry, entries, kindOf, isExpression, rowHolds, isBinder}
 use Rattle.model.specs.Job.Encode.{encodeParam, encodeJoin, encodeExp, encodeDefinitions, encodeEntries, operandBytes, encode}
 use Rattle.model.specs.Job.WellFormed.{GoodParam, Binds, Good, GoodDefinition, WellFormed}
 use Rattle.model.specs.Job.Read.{Read, _>>=_, entryAt, need, readParam, readParams, readCall, readJoin, readExp}
-use Rattle.model.specs.Job.Read.{isDefinition, readDefinition, readProgram, leftovers, definitionsKept, readEntries}
+use Rattle.model.specs.Job.Read.{isDefinition, readDefinition, readProgram, leftovers, definitionsHold, readEntries}
 use Rattle.model.specs.Job.Read.{sizeD, sizeN, tableLength, readBytes}
 use Rattle.model.proofs.Test.{eq-eqb, lt-ltb, le-leb, and-both, All-map}
 use Rattle.model.proofs.Number.{signed-unsigned}
@@ -60,7 +60,7 @@ join-read side j scope f g e rest hf hg =
 module _ {formals : List ℕ} (few : Few formals) where
   exp-read : {left : ℕ} {scope : List ℕ} {x : Exp} → Good formals left scope x → (e : ℕ) (rest : List Entry)
       → Gives x rest (readExp left scope e (encodeExp x ++ rest))
-  unfolding readExp encodeExp encodeJoin entryAt _>>=_ need kindOf isExpression rowKept isBinder _or_
+  unfolding readExp encodeExp encodeJoin entryAt _>>=_ need kindOf isExpression rowHolds isBinder _or_
   exp-read Good.stop e rest = given
   exp-read (Good.site {s = s} {ps = ps} t good) e rest =
       let l : s < 65536 = site-small t in
@@ -80,7 +80,7 @@ module _ {formals : List ℕ} (few : Few formals) where
 
   definition-read : {d : Definition} → GoodDefinition formals d → (e : ℕ) (rest : List Entry)
       → Gives d rest (readDefinition e (entry 6 (d .formals) ∷ encodeExp (d .body) ++ rest))
-  unfolding readDefinition entryAt _>>=_ need kindOf isDefinition rowKept
+  unfolding readDefinition entryAt _>>=_ need kindOf isDefinition rowHolds
   definition-read {d} good e rest =
       gives-need _ 4 e (le-leb (d .formals) 4 (good .count)) (gives-bind _ (exp-read (good .body) (suc e) rest) λ n. given)
 
@@ -99,8 +99,8 @@ module _ {formals : List ℕ} (few : Few formals) where
 
 -- the entries of a program
 
-kept-read : {formals : List ℕ} {es : List Entry} → All (Fine formals) es → (e : ℕ) → Gives tt [] (definitionsKept formals e es)
-unfolding definitionsKept need
+kept-read : {formals : List ℕ} {es : List Entry} → All (Fine formals) es → (e : ℕ) → Gives tt [] (definitionsHold formals e es)
+unfolding definitionsHold need
 kept-read none e = given
 kept-read (more h hs) e = gives-need _ 8 e (h .kept) (kept-read hs (suc e))
 

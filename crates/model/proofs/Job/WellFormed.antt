@@ -12,7 +12,7 @@ use Rattle.model.specs.Test.{_and_, _or_, all, any}
 use Rattle.model.specs.Site.{counts, siteTakes, isBuiltin, isOutside}
 use Rattle.model.specs.Job.WellFormed.{SiteTakes, builtin, outside}
 use Rattle.model.specs.Job.Entry.{Entry, low, high}
-use Rattle.model.specs.Job.Read.{callKept}
+use Rattle.model.specs.Job.Read.{callHolds}
 use Rattle.model.proofs.Test.{eqb-eq, eq-eqb, ltb-lt, lt-ltb, leb-le, le-leb}
 use Rattle.model.proofs.Test.{all-at, and-left, and-right, and-both, or-left, or-right, or-cases, clash}
 
@@ -63,14 +63,14 @@ site-few (outside l u f) = f
 
 -- entry x, if it is a call, names a definition with as many formals
 abbrev pub Kept : List ℕ → Entry → Type 0
-Kept formals x = callKept formals x ≡ true
+Kept formals x = callHolds formals x ≡ true
 
 pub record Names (formals : List ℕ) (d n : ℕ) : Type 0 where
   pub defined : d < length formals
   pub count : n ≡ getD formals d 0
 
 pub kept-call : (formals : List ℕ) (x : Entry) → x .kind ≡ 2 → Kept formals x → Names formals (low (x .operand)) (high (x .operand))
-unfolding callKept _or_
+unfolding callHolds _or_
 kept-call formals x k e =
     let d = low (x .operand) in
     let n = high (x .operand) in
@@ -78,10 +78,10 @@ kept-call formals x k e =
     record { defined = ltb-lt d (length formals) (and-left _ _ h); count = eqb-eq n (getD formals d 0) (and-right _ _ h) }
 
 pub call-kept : (formals : List ℕ) (x : Entry) → Names formals (low (x .operand)) (high (x .operand)) → Kept formals x
-unfolding callKept
+unfolding callHolds
 call-kept formals x h =
     or-right (not (eqb (x .kind) 2)) (and-both (lt-ltb _ (length formals) (h .defined)) (eq-eqb (high (x .operand)) _ (h .count)))
 
 pub other-kept : (formals : List ℕ) (x : Entry) → not (eqb (x .kind) 2) ≡ true → Kept formals x
-unfolding callKept
+unfolding callHolds
 other-kept formals x e = or-left _ e

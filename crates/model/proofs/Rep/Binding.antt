@@ -6,7 +6,7 @@ use mathlib.Core.Option.{Option, some, none}
 use Prim.Native.Nat.{ℕ, zero, suc}
 use lib.ListN.{getD}
 use lib.IntN.{ℤ, pos}
-use Rattle.model.specs.Calculus.Expression.{Param, Substitution, raise, lift, substParam, one, formals}
+use Rattle.model.specs.Calculus.Expression.{Param, Substitution, raise, lift, substParam, innermost, formals}
 use Rattle.model.specs.Calculus.Rewriting.{valuesOf}
 use Rattle.model.proofs.Calculus.Substitution.{_after_, itself, bound}
 use Rattle.model.proofs.Abstract.Machine.{Binding, Store, withSet, bindingAt, named, valueIn, inFront, valuesIn}
@@ -66,11 +66,11 @@ change-set σ {Γ} c v n = record { changed = go }
     go (is-cell a) = is-cell a
 
 -- .. but its own variable, which is the value now
-pub change-one : (σ : Store) {Γ : List ℕ} (c : ℕ) (v : ℤ) → σ c ≡ none → Change (one v) σ (c ∷ Γ) (withSet σ c v) Γ
-unfolding substParam one
-change-one σ {Γ} c v n = record { changed = go }
+pub change-innermost : (σ : Store) {Γ : List ℕ} (c : ℕ) (v : ℤ) → σ c ≡ none → Change (innermost v) σ (c ∷ Γ) (withSet σ c v) Γ
+unfolding substParam innermost
+change-innermost σ {Γ} c v n = record { changed = go }
   where
-    go : {p : Param} {b : Binding} → Bind σ (c ∷ Γ) p b → Bind (withSet σ c v) Γ (substParam (one v) p) b
+    go : {p : Param} {b : Binding} → Bind σ (c ∷ Γ) p b → Bind (withSet σ c v) Γ (substParam (innermost v) p) b
     go value = value
     go (was-set e) = was-set (set-keeps σ c _ v n e)
     go (is-cell here) = was-set (set-same σ c v)

@@ -9,7 +9,7 @@ use Prim.Native.Nat.{ℕ}
 use lib.IntN.{ℤ}
 use Rattle.model.specs.Test.{filter}
 use Rattle.model.specs.Calculus.Event.{Event, Label, silently, showing}
-use Rattle.model.specs.Calculus.Expression.{Exp, Substitution, lift, subst, one}
+use Rattle.model.specs.Calculus.Expression.{Exp, Substitution, lift, subst, innermost}
 use Rattle.model.specs.Calculus.Rewriting.{Passes, Rewrites}
 use Rattle.model.proofs.Abstract.Shuffle.{Mix, mix-swap, mix-unit}
 use Rattle.model.proofs.Abstract.Machine.{Program, Place, above, Token, Store, withSet, outOf}
@@ -39,12 +39,12 @@ module _ (G : Program) where
     par-right : {f : Exp} {Z : List Token} {D : List ℕ} → Rep G σ Γ f K Z D → Hole σ Γ K free Γ K Z D (λ g. Exp.par f g)
     seq : {ρ : Substitution} {g : Exp} {L : Place} → Then G σ Γ ρ g K L
         → Hole σ Γ K
-        (catching (λ v f. Exp.par (Exp.seq f (subst (lift ρ) g)) (subst (one v) (subst (lift ρ) g))))
+        (catching (λ v f. Exp.par (Exp.seq f (subst (lift ρ) g)) (subst (innermost v) (subst (lift ρ) g))))
         Γ L [] [] (λ f. Exp.seq f (subst (lift ρ) g))
     prune-left : {c : ℕ} {g : Exp} {L : Place} {Z : List Token} {D : List ℕ} → c ∉ D → Chokes G c (above K) L → Rep G σ Γ g L Z D
         → Hole σ Γ K free (c ∷ Γ) K Z (c ∷ D) (λ f. Exp.prune f g)
     prune-right : {c : ℕ} {f : Exp} {L : Place} {Z : List Token} {D : List ℕ} → c ∉ D → Chokes G c (above K) L → Rep G σ (c ∷ Γ) f K Z D
-        → Hole σ Γ K (catching (λ v g. subst (one v) f)) Γ L Z (c ∷ D) (λ g. Exp.prune f g)
+        → Hole σ Γ K (catching (λ v g. subst (innermost v) f)) Γ L Z (c ∷ D) (λ g. Exp.prune f g)
 
   pub fill : {σ : Store} {Γ Δ C D E : List ℕ} {K L : Place} {gate : Gate} {plug : Exp → Exp} {f : Exp} {S Z Q : List Token}
       → Hole σ Γ K gate Δ L Z D plug → Parts C D E → Mix S Z Q → Rep G σ Δ f L S C → Rep G σ Γ (plug f) K Q E

@@ -6,14 +6,14 @@ use mathlib.Core.List.{List, [], _∷_, _++_, List·Memᴰ·head, List·Memᴰ·
 use Prim.Native.Nat.{ℕ, suc}
 use lib.IntN.{ℤ}
 use Rattle.model.specs.Calculus.Event.{Event, Label, silently, showing}
-use Rattle.model.specs.Calculus.Expression.{Exp, Substitution, lift, subst, one}
+use Rattle.model.specs.Calculus.Expression.{Exp, Substitution, lift, subst, innermost}
 use Rattle.model.specs.Calculus.Rewriting.{Passes, silence, Rewrites}
-use Rattle.model.proofs.Calculus.Substitution.{bound, one-lift}
+use Rattle.model.proofs.Calculus.Substitution.{bound, innermost-lift}
 use Rattle.model.proofs.Abstract.Shuffle.{Mix, mix-filter, mix-unit, mix-middle, mix-swap, Gap}
 use Rattle.model.proofs.Abstract.Machine.{Node, Program, Binding, Frame, Place, at, above, Token, running, Store, withSet, isOutOf, outOf, Effect, Move, acts, actsAt, act, effect}
 use Rattle.model.proofs.Abstract.Store.{_∈_, _∉_}
 use Rattle.model.proofs.Rep.Cells.{Parts, parts-alone, Grows, grows-within, grows-from, grown, whole-grows, not-in-append, Tidy}
-use Rattle.model.proofs.Rep.Binding.{change-one, env-value}
+use Rattle.model.proofs.Rep.Binding.{change-innermost, env-value}
 use Rattle.model.proofs.Rep.Relation.{Then, then, Chokes, chokes, removes, Rep, rep-changed, rep-ends, rep-stays}
 use Rattle.model.proofs.Rep.Hole.{Gate, free, catching, Lets, through, passing, Lifts, acting, caught, Hole, fill, hole-set, hole-stays, hole-place, hole-acts}
 
@@ -54,22 +54,22 @@ module _ (G : Program) (σ : Store) (new h : ℕ) where
   -- where f publishes into f >x> g, a token begins g with the value bound
   sequel : {Γ C E : List ℕ} {K L T : Place} {X Y X₁ Y₁ : List Token} {ρ : Substitution} {e f g : Exp} (w : ℤ)
       → T ≡ L → Grows new (suc new) E C → Gap X₁ Y₁ [] X Y → Then G σ Γ ρ g K L → Rep G σ Γ f L (X₁ ++ Y₁) C
-      → Rewrites (G .body) h e silently (Exp.par (Exp.seq f (subst (lift ρ) g)) (subst (one w) (subst (lift ρ) g)))
-      → Outcome Γ e K X Y E (running T w) acts silently (Exp.par (Exp.seq f (subst (lift ρ) g)) (subst (one w) (subst (lift ρ) g)))
+      → Rewrites (G .body) h e silently (Exp.par (Exp.seq f (subst (lift ρ) g)) (subst (innermost w) (subst (lift ρ) g)))
+      → Outcome Γ e K X Y E (running T w) acts silently (Exp.par (Exp.seq f (subst (lift ρ) g)) (subst (innermost w) (subst (lift ρ) g)))
   sequel {Γ} {C} {K = K} {X = X} {Y} {X₁} {Y₁} {ρ} {f = f} {g} w q i gap (then {b = b} {B = B} {F = F} {U = U} a d r env l) rf s =
       let began : List Token = running (at b (Binding.value w ∷ B) F U) w ∷ [] in
       makes (act-at w q a) silence (once s)
-      (along (λ Q. Rep G σ Γ (Exp.par (Exp.seq f (subst (lift ρ) g)) (subst (one w) (subst (lift ρ) g))) K Q C)
+      (along (λ Q. Rep G σ Γ (Exp.par (Exp.seq f (subst (lift ρ) g)) (subst (innermost w) (subst (lift ρ) g))) K Q C)
       (mix-unit (gap .filled began))
       (Rep.par parts-alone (mix-middle X₁ began Y₁) (Rep.seq ρ (then a d r env l) rf)
-      (rw (one-lift w ρ g) (Rep.code (bound w ρ) d (env-value env w) (removes r l)))))
+      (rw (innermost-lift w ρ g) (Rep.code (bound w ρ) d (env-value env w) (removes r l)))))
       i
 
   -- where g publishes into f <x< g, the cell is set, all tokens of g end, and those of f stay
   pruned : {Γ C C₁ D E : List ℕ} {c : ℕ} {K L T : Place} {X Y X₁ Y₁ Z : List Token} {e f g : Exp} (w : ℤ)
       → T ≡ L → Parts C (c ∷ D) E → Tidy σ new Γ (above K) E → Gap X₁ Y₁ Z X Y → c ∉ D → Chokes G c (above K) L
-      → Rep G σ (c ∷ Γ) f K Z D → Rep G σ Γ g L (X₁ ++ Y₁) C₁ → Rewrites (G .body) h e silently (subst (one w) f)
-      → Outcome Γ e K X Y E (running T w) acts silently (subst (one w) f)
+      → Rep G σ (c ∷ Γ) f K Z D → Rep G σ Γ g L (X₁ ++ Y₁) C₁ → Rewrites (G .body) h e silently (subst (innermost w) f)
+      → Outcome Γ e K X Y E (running T w) acts silently (subst (innermost w) f)
   pruned {Γ} {D = D} {c = c} {K = K} {X = X} {Y} {X₁} {Y₁} {Z} {f = f} w q p t gap n (chokes ec) rf rg s =
       let own = p .in-right c (List·Memᴰ·head refl) in
       let stay : outOf c Z ≡ Z = rep-stays G c n (t .not-over c own) rf in
@@ -77,7 +77,7 @@ module _ (G : Program) (σ : Store) (new h : ℕ) where
       let mixed : Mix (outOf c Z) (outOf c (X₁ ++ Y₁)) (outOf c (X ++ Y)) = mix-filter (isOutOf c) (mix-swap (gap .filled [])) in
       let left : Z ≡ outOf c (X ++ Y) = sym stay ∙ mix-unit (along (λ x. Mix (outOf c Z) x (outOf c (X ++ Y))) gone mixed) in
       sets (act-at w q ec) own n (once s)
-      (along (λ x. Rep G (withSet σ c w) Γ (subst (one w) f) K x D) left (rep-changed G (change-one σ c w (t .own c own .unset)) rf))
+      (along (λ x. Rep G (withSet σ c w) Γ (subst (innermost w) f) K x D) left (rep-changed G (change-innermost σ c w (t .own c own .unset)) rf))
       (grows-within (λ b m. p .in-right b (List·Memᴰ·tail m)))
 
   -- where an own cell of the filling is set, the other side of the hole stays

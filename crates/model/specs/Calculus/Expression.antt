@@ -51,9 +51,9 @@ subst σ (pending h) = pending h
 subst σ (hand v) = hand v
 
 -- v for the innermost variable; the others are one binder nearer
-unfoldable pub one : ℤ → Substitution
-one v zero = value v
-one v (suc i) = variable i
+unfoldable pub innermost : ℤ → Substitution
+innermost v zero = value v
+innermost v (suc i) = variable i
 
 -- P for the formals: the last formal is the innermost variable
 unfoldable pub formals : List Param → Substitution

@@ -8,7 +8,7 @@ use lib.IntN.{ℤ}
 use Rattle.model.specs.Number.{Signed32}
 use Rattle.model.specs.Site.{gives, silent, isBuiltin, isOutside, builtin}
 use Rattle.model.specs.Calculus.Event.{Event, Label, silently, showing}
-use Rattle.model.specs.Calculus.Expression.{Param, value, variable, Exp, stop, site, call, par, seq, prune, pending, hand, subst, one, formals}
+use Rattle.model.specs.Calculus.Expression.{Param, value, variable, Exp, stop, site, call, par, seq, prune, pending, hand, subst, innermost, formals}
 
 -- every label but publishing
 pub data Passes : Label → Type 0 where
@@ -46,9 +46,9 @@ module _ (body : ℕ → Exp) (h : ℕ) where
     -- "f >x> g acts as f, but where f publishes v it silently becomes (f' >x> g) | g with v for x."
     seq-acts : {f f′ g : Exp} {a : Label} → Rewrites f a f′ → Passes a → Rewrites (seq f g) a (seq f′ g)
     seq-publishes : {f f′ g : Exp} {v : ℤ}
-        → Rewrites f (showing (Event.publish v)) f′ → Rewrites (seq f g) silently (par (seq f′ g) (subst (one v) g))
+        → Rewrites f (showing (Event.publish v)) f′ → Rewrites (seq f g) silently (par (seq f′ g) (subst (innermost v) g))
     -- "f <x< g acts as f or as g, but where g publishes v it silently becomes f with v for x."
     prune-left : {f f′ g : Exp} {a : Label} → Rewrites f a f′ → Rewrites (prune f g) a (prune f′ g)
     prune-right : {f g g′ : Exp} {a : Label} → Rewrites g a g′ → Passes a → Rewrites (prune f g) a (prune f g′)
     prune-publishes : {f g g′ : Exp} {v : ℤ}
-        → Rewrites g (showing (Event.publish v)) g′ → Rewrites (prune f g) silently (subst (one v) f)
+        → Rewrites g (showing (Event.publish v)) g′ → Rewrites (prune f g) silently (subst (innermost v) f)

@@ -51,17 +51,17 @@ isExpression constant = false
 isExpression unknown = false
 
 -- (docs/DECISIONS.md, "What breaks a row") the operand keeps to its row of the table, "site unknown, or built-in count wrong" included
-unfoldable pub rowKept : Kind → ℕ → Bool
-rowKept stop o = eqb o 0
-rowKept site o = siteTakes (low o) (high o)
-rowKept call o = leb (high o) 4
-rowKept par o = eqb o 0
-rowKept seq o = eqb o 0
-rowKept prune o = eqb o 0
-rowKept definition o = leb o 4
-rowKept variable o = true
-rowKept constant o = true
-rowKept unknown o = false
+unfoldable pub rowHolds : Kind → ℕ → Bool
+rowHolds stop o = eqb o 0
+rowHolds site o = siteTakes (low o) (high o)
+rowHolds call o = leb (high o) 4
+rowHolds par o = eqb o 0
+rowHolds seq o = eqb o 0
+rowHolds prune o = eqb o 0
+rowHolds definition o = leb o 4
+rowHolds variable o = true
+rowHolds constant o = true
+rowHolds unknown o = false
 
 -- the kinds that bind a variable
 unfoldable pub isBinder : Kind → Bool

@@ -7,7 +7,7 @@ use lib.Dec.{ltb, leb, eqb}
 use Rattle.model.specs.Test.{_and_, _or_, any}
 use Rattle.model.specs.Number.{number, signed}
 use Rattle.model.specs.Job.Syntax.{Param, variable, constant, Join, par, seq, prune, Exp, stop, site, call, join, Definition, Program, formalsOf, levels, scopeLeft, scopeRight}
-use Rattle.model.specs.Job.Entry.{Entry, entries, low, high, Kind, kindOf, isExpression, rowKept, isBinder}
+use Rattle.model.specs.Job.Entry.{Entry, entries, low, high, Kind, kindOf, isExpression, rowHolds, isBinder}
 
 -- what was read, the number of the first entry that was not, and the entries from there on
 pub record Got (A : Type 0) : Type 0 where
@@ -81,7 +81,7 @@ unfoldable pub readExp : ℕ → List ℕ → ℕ → List Entry → Read Exp
 readExp zero scope e es = do
   x ← entryAt e es
   _ ← need (isExpression (kindOf (x .value .kind))) 3 e
-  _ ← need (rowKept (kindOf (x .value .kind)) (x .value .operand)) 4 e
+  _ ← need (rowHolds (kindOf (x .value .kind)) (x .value .operand)) 4 e
   refused 6 e
 readExp (suc left) scope e es = do
   x ← entryAt e es
@@ -89,7 +89,7 @@ readExp (suc left) scope e es = do
   let o = x .value .operand
   let level = length scope
   _ ← need (isExpression k) 3 e
-  _ ← need (rowKept k o) 4 e
+  _ ← need (rowHolds k o) 4 e
   _ ← need (not (isBinder k) or ltb level 8) 7 e
   elim k as (λ k. Read Exp) [
     | Kind.stop ↦ gives stop (x .next) (x .rest)
@@ -121,7 +121,7 @@ unfoldable pub readDefinition : ℕ → List Entry → Read Definition
 readDefinition e es = do
   x ← entryAt e es
   _ ← need (isDefinition (kindOf (x .value .kind))) 3 e
-  _ ← need (rowKept Kind.definition (x .value .operand)) 4 e
+  _ ← need (rowHolds Kind.definition (x .value .operand)) 4 e
   b ← readExp 24 (levels (x .value .operand)) (x .next) (x .rest)
   gives (record { formals = x .value .operand; body = b .value }) (b .next) (b .rest)
 
@@ -141,21 +141,21 @@ leftovers e [] = need true 5 e
 leftovers e (x ∷ es) = refused 5 e
 
 -- "8: definition missing, or its count of formals differs"
-unfoldable pub callKept : List ℕ → Entry → Bool
-callKept formals x =
+unfoldable pub callHolds : List ℕ → Entry → Bool
+callHolds formals x =
     not (eqb (x .kind) 2)
     or (ltb (low (x .operand)) (length formals) and eqb (high (x .operand)) (getD formals (low (x .operand)) 0))
 
 -- "then 8 at its first entry"
-unfoldable pub definitionsKept : List ℕ → ℕ → List Entry → Read (Unit {0})
-definitionsKept formals e [] = need true 8 e
-definitionsKept formals e (x ∷ es) = need (callKept formals x) 8 e >>= (λ _. definitionsKept formals (suc e) es)
+unfoldable pub definitionsHold : List ℕ → ℕ → List Entry → Read (Unit {0})
+definitionsHold formals e [] = need true 8 e
+definitionsHold formals e (x ∷ es) = need (callHolds formals x) 8 e >>= (λ _. definitionsHold formals (suc e) es)
 
 unfoldable pub readEntries : ℕ → List Entry → Read Program
 readEntries D es = do
   p ← readProgram D 0 es
   _ ← leftovers (p .next) (p .rest)
-  _ ← definitionsKept (formalsOf (p .value .definitions)) 0 es
+  _ ← definitionsHold (formalsOf (p .value .definitions)) 0 es
   got p
 
 -- "Bytes 0-1: D, the number of definitions. Bytes 2-3: N, the number of entries"

@@ -18,8 +18,8 @@ cell-requires c κs = token-inside (c .before .pre .is .taking)
 wide-requires : tie.Need-wide-requires
 wide-requires c κs = search needs
 
-valued-requires : tie.Need-valued-requires
-valued-requires c κs = token-inside (c .before .before .before .before .pre .is .taking)
+value-kind-requires : tie.Need-value-kind-requires
+value-kind-requires c κs = token-inside (c .before .before .before .before .pre .is .taking)
 
 value-requires : tie.Need-value-requires
 value-requires c κs = token-inside (c .before .before .before .before .before .before .pre .is .taking)
@@ -44,7 +44,7 @@ returns c = λ m a.
     gives-swept _ replies.Done _ (choke-step _ _ _ _ m _ (k .2) a) (c .plain .ensures)
     (c .before .sweep .ensures _
     (c .before .before .before .before .before .choke .ensures m v (a .taking .lawful .holds) (record { queued = a .taking .queued; room = room _ m (a .taking .lawful .rules) })
-    (sym (c .before .before .before .before .before .before .before .before .before .valued .ensures m codes)) (sym (c .before .before .before .before .before .before .before .value .ensures m codes))) (choke-vacant (a .taking) _ v (k .2)))
+    (sym (c .before .before .before .before .before .before .before .before .before .value-kind .ensures m codes)) (sym (c .before .before .before .before .before .before .before .value .ensures m codes))) (choke-vacant (a .taking) _ v (k .2)))
 
 pub choke-cell-spec : {M : Type 1} → statement M
 choke-cell-spec =
@@ -52,7 +52,7 @@ choke-cell-spec =
     (tie.spec
     cell-requires
     wide-requires
-    valued-requires
+    value-kind-requires
     value-requires
     sub-choke
     choke-requires

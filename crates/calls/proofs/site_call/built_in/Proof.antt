@@ -65,7 +65,7 @@ returns c = λ m k.
     let v = c .before .before .before .before .before .before .v .given in
     let h : SFits w32 (v .0 .0) = search needs in
     let told = said-back _ _ (rw (toZ-ofZ f, toZ-ofZ g) at (c .before .before .before .before .before .before .before .before .builtin .ensures)) in
-    let said = said-by (k .values) vs (s .pre .1) (k .beside) (c .before .before .before .before .before .before .before .before .before .word .ensures) told (v .1) in
+    let said = said-by (k .values) vs (s .pre .1) (k .padded) (c .before .before .before .before .before .before .before .before .before .word .ensures) told (v .1) in
     reply-gives (k .acting .taking) (v .0 .0) _ _ _ (says _ _ _ _ m k (gives (v .0 .0)) (s .pre .1) said) (c .before .before .word2 .ensures) (c .plain .ensures)
     (c .before .reply .ensures m (helds.Value (v .0 .0)) (k .acting .taking .lawful .holds) (k .acting .taking .queued) refl (sym (rw (toZ-ofZ h) at (c .before .before .before .bits .ensures))))
 
@@ -76,7 +76,7 @@ returns-2 c = λ m k.
     let f : SFits w32 (getD vs 0 (pos 0)) = search needs in
     let g : SFits w32 (getD vs 1 (pos 0)) = search needs in
     let told = said-back _ _ (rw (toZ-ofZ f, toZ-ofZ g) at (c .before .before .before .before .before .before .builtin .ensures)) in
-    let said = said-by (k .values) vs (s .pre .1) (k .beside) (c .before .before .before .before .before .before .before .word .ensures) told (c .before .before .before .before .enum-told .given .1) in
+    let said = said-by (k .values) vs (s .pre .1) (k .padded) (c .before .before .before .before .before .before .before .word .ensures) told (c .before .before .before .before .enum-told .given .1) in
     gives-as (says _ _ _ _ m k silent (s .pre .1) said ∙ silent-ends m _ _ _) (c .end .ensures m _ (k .acting .taking))
 
 pub built-in-spec : {M : Type 1} → statement M

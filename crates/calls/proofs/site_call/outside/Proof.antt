@@ -1,5 +1,5 @@
 -- `site_call::outside` meets its contract: each way out is how the definition's step ends there. Assumes nothing.
-use Rattle.calls.proofs.Calling.{call-gives, calls-out, calls-no-more, known-count}
+use Rattle.calls.proofs.Calling.{call-gives, calls-out, calls-no-more, values-count}
 use Rattle.acts.proofs.Outcomes.{row, row-fits, token-inside, gives-refused}
 use Rattle.sites.proofs.Rows.{site-number, site-params}
 use Rattle.model.specs.declared.reply.Refusal.the-variants as refusals
@@ -50,7 +50,7 @@ cast-count c = let l = site-params _ _ (row (c .before .before .before .before .
 returns-2 : tie.Need-returns-2
 returns-2 c = λ m k l.
     let e = c .before .before .before .before .before .before .calls .ensures m (k .acting .taking .lawful .holds .codes) in
-    call-gives (k .acting .taking) _ _ _ _ _ _ (k .values) _ (calls-out _ _ _ _ m k l (omega arith)) e (c .before .word2 .ensures) (c .before .before .before .word .ensures) (c .word3 .ensures ∙ known-count k) refl (k .beside)
+    call-gives (k .acting .taking) _ _ _ _ _ _ (k .values) _ (calls-out _ _ _ _ m k l (omega arith)) e (c .before .word2 .ensures) (c .before .before .before .word .ensures) (c .word3 .ensures ∙ values-count k) refl (k .padded)
     (c .before .before .call-out .ensures m (k .acting .taking .lawful .holds) (k .acting .taking .queued))
 
 pub outside-spec : {M : Type 1} → statement M

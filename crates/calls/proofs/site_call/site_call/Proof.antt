@@ -1,5 +1,5 @@
 -- `site_call::site_call` meets its contract: each way out is how the definition's step ends there. Assumes nothing.
-use Rattle.calls.proofs.Calling.{wait-gives, waits-at, known-of}
+use Rattle.calls.proofs.Calling.{wait-gives, waits-at, values-of}
 use Rattle.acts.proofs.Outcomes.{row, row-fits, token-inside}
 use Rattle.sites.proofs.LookUps.{look-waits}
 use Rattle.sites.proofs.Facts.{look-facts, waits-room}
@@ -34,22 +34,22 @@ word-requires c κs = let l = row-fits (c .before .before .before .before .pre .
 built-in-requires : tie.Need-built-in-requires
 built-in-requires c κs = let a = c .before .before .before .before .before .before .before .before .before .pre .is in
     let facts = look-facts _ _ (a .taking .lawful .rules) _ (token-inside (a .taking)) in
-    (record { machine = c .before .before .before .before .before .before .before .before .before .pre .machine; is = known-of _ a (c .before .before .before .before .before .before .before .look-up .ensures _ (a .taking .lawful .holds .codes) facts) (c .before .before .before .before .before .before .if1 .left) }, (let e = c .before .before .before .before .word .ensures in let l = c .before .before .before .if2 .taken in omega arith))
+    (record { machine = c .before .before .before .before .before .before .before .before .before .pre .machine; is = values-of _ a (c .before .before .before .before .before .before .before .look-up .ensures _ (a .taking .lawful .holds .codes) facts) (c .before .before .before .before .before .before .if1 .left) }, (let e = c .before .before .before .before .word .ensures in let l = c .before .before .before .if2 .taken in omega arith))
 
 returns-2 : tie.Need-returns-2
 returns-2 c = λ m a.
     let facts = look-facts _ m (a .taking .lawful .rules) _ (token-inside (a .taking)) in
-    c .built-in .ensures m (known-of _ a (c .before .before .before .before .before .before .before .before .look-up .ensures m (a .taking .lawful .holds .codes) facts) (c .before .before .before .before .before .before .before .if1 .left))
+    c .built-in .ensures m (values-of _ a (c .before .before .before .before .before .before .before .before .look-up .ensures m (a .taking .lawful .holds .codes) facts) (c .before .before .before .before .before .before .before .if1 .left))
 
 outside-requires : tie.Need-outside-requires
 outside-requires c κs = let a = c .before .before .before .before .before .before .before .before .before .pre .is in
     let facts = look-facts _ _ (a .taking .lawful .rules) _ (token-inside (a .taking)) in
-    record { machine = c .before .before .before .before .before .before .before .before .before .pre .machine; is = known-of _ a (c .before .before .before .before .before .before .before .look-up .ensures _ (a .taking .lawful .holds .codes) facts) (c .before .before .before .before .before .before .if1 .left) }
+    record { machine = c .before .before .before .before .before .before .before .before .before .pre .machine; is = values-of _ a (c .before .before .before .before .before .before .before .look-up .ensures _ (a .taking .lawful .holds .codes) facts) (c .before .before .before .before .before .before .if1 .left) }
 
 returns-3 : tie.Need-returns-3
 returns-3 c = λ m a.
     let facts = look-facts _ m (a .taking .lawful .rules) _ (token-inside (a .taking)) in
-    c .outside .ensures m (known-of _ a (c .before .before .before .before .before .before .before .before .look-up .ensures m (a .taking .lawful .holds .codes) facts) (c .before .before .before .before .before .before .before .if1 .left)) (let e = c .before .before .before .before .before .word .ensures in let l = c .before .before .before .before .if2 .left in omega arith)
+    c .outside .ensures m (values-of _ a (c .before .before .before .before .before .before .before .before .look-up .ensures m (a .taking .lawful .holds .codes) facts) (c .before .before .before .before .before .before .before .if1 .left)) (let e = c .before .before .before .before .before .word .ensures in let l = c .before .before .before .before .if2 .left in omega arith)
 
 pub site-call-spec : {M : Type 1} → statement M
 site-call-spec =

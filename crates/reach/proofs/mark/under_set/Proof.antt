@@ -34,15 +34,15 @@ returns-2 c =
     let l = c .before .before .before .loop in
     climb-outside (m .cells) 32 (l .n) (l .q) _ (h .shaped .cells) (l .inv .1 m h) (search needs) (search needs)
 
-valued-requires : tie.Need-valued-requires Inv-loop μ-loop
-valued-requires c κs = search needs
+value-kind-requires : tie.Need-value-kind-requires Inv-loop μ-loop
+value-kind-requires c κs = search needs
 
 returns-3 : tie.Need-returns-3 Inv-loop μ-loop
 returns-3 c =
     λ m h.
     let l = c .before .before .before .before .before .loop in
     climb-found (m .cells) 32 (l .n) (l .q) _ (h .shaped .cells) (l .inv .1 m h) _ (search needs) (search needs)
-    (c .before .valued .ensures m h) (search needs)
+    (c .before .value-kind .ensures m h) (search needs)
 
 parent-requires : tie.Need-parent-requires Inv-loop μ-loop
 parent-requires c κs = search needs
@@ -62,7 +62,7 @@ loop-again c =
       search needs,
       λ m h.
           climb-on (m .cells) 32 (l .n) (l .q) _ (h .shaped .cells) (l .inv .1 m h) _ (search needs) (search needs)
-          (c .before .before .before .valued .ensures m h) _ (search needs)
+          (c .before .before .before .value-kind .ensures m h) _ (search needs)
           (c .wide .ensures ∙ c .before .parent .ensures m h),
     )
 
@@ -79,7 +79,7 @@ under-set-spec =
     returns
     sub-c
     returns-2
-    valued-requires
+    value-kind-requires
     returns-3
     parent-requires
     wide-requires

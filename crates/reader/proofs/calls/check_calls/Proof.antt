@@ -15,14 +15,14 @@ abbrev μ-loop : tie.MeasureT-loop
 loop-holds : tie.Need-loop-holds Inv-loop μ-loop
 loop-holds c = (search needs, scan-start _ _ _)
 
-shared-slice-read-call-kept : tie.Need-shared-slice-read-call-kept Inv-loop μ-loop
-shared-slice-read-call-kept c = search needs
+shared-slice-read-call-holds : tie.Need-shared-slice-read-call-holds Inv-loop μ-loop
+shared-slice-read-call-holds c = search needs
 
 operand-requires : tie.Need-operand-requires Inv-loop μ-loop
 operand-requires c κs = search needs
 
-call-kept-requires : tie.Need-call-kept-requires Inv-loop μ-loop
-call-kept-requires c κs = search needs
+call-holds-requires : tie.Need-call-holds-requires Inv-loop μ-loop
+call-holds-requires c κs = search needs
 
 returns : tie.Need-returns Inv-loop μ-loop
 returns c = search scan-refused
@@ -46,9 +46,9 @@ check-calls-spec =
     Inv-loop
     μ-loop
     loop-holds
-    shared-slice-read-call-kept
+    shared-slice-read-call-holds
     operand-requires
-    call-kept-requires
+    call-holds-requires
     returns
     add-i
     loop-less

@@ -7,8 +7,8 @@ use Rattle.reader.proofs.entry.fault.Tie as tie
 returns : tie.Need-returns
 returns c = search fault-3
 
-row-kept-requires : tie.Need-row-kept-requires
-row-kept-requires c κs = search needs
+row-holds-requires : tie.Need-row-holds-requires
+row-holds-requires c κs = search needs
 
 returns-2 : tie.Need-returns-2
 returns-2 c = search fault-4
@@ -28,4 +28,4 @@ returns-6 c = search fault-room
 pub fault-spec : {M : Type 1} → statement M
 fault-spec =
     tie.close
-    (tie.spec returns row-kept-requires returns-2 returns-3 returns-4 returns-5 returns-6)
+    (tie.spec returns row-holds-requires returns-2 returns-3 returns-4 returns-5 returns-6)

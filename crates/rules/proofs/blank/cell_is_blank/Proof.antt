@@ -11,7 +11,7 @@ use Rattle.rules.proofs.blank.cell_is_blank.Tie as tie
 returns : tie.Need-returns
 unfolding cellIsBlank
 returns c = λ m h.
-    both (ap (λ n. eqb n 0) (c .before .parent .ensures m h) ∙ place-none _) (ap (λ n. eqb n 0) (c .valued .ensures m h) ∙ held-none _)
+    both (ap (λ n. eqb n 0) (c .before .parent .ensures m h) ∙ place-none _) (ap (λ n. eqb n 0) (c .value-kind .ensures m h) ∙ held-none _)
 
 pub cell-is-blank-spec : {M : Type 1} → statement M
 cell-is-blank-spec = tie.close (tie.spec (λ c κs. search needs) (λ c κs. search needs) returns)

@@ -44,7 +44,7 @@ returns-3 c =
     λ m h.
     under-found (m .cells) _ (now .i) (h .shaped .cells) _
     (at-place (now .here) _ (place4 .if1 .left) (ap (λ n. n - 1) (place2 .wide .ensures))) (search needs)
-    (held-some _ (c .before .valued .ensures m h) (c .if3 .taken))
+    (held-some _ (c .before .value-kind .ensures m h) (c .if3 .taken))
     ∙ sym (now .inv .1 m h)
 
 loop-again : tie.Need-loop-again Inv-loop μ-loop
@@ -59,7 +59,7 @@ loop-again c =
           now .inv .1 m h
           ∙ under-on (m .cells) _ (now .i) (h .shaped .cells) _
           (at-place (now .here) _ (place5 .if1 .left) (ap (λ n. n - 1) (place3 .wide .ensures))) (search needs)
-          (held-nothing _ (place2 .valued .ensures m h) (search needs))
+          (held-nothing _ (place2 .value-kind .ensures m h) (search needs))
           ∙ ap (setAbove (m .cells) (32 - (now .i + 1))) (sym (ap placeFrom (c .parent .ensures m h) ∙ placed _)),
     )
 

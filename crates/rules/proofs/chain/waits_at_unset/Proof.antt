@@ -16,7 +16,7 @@ returns-2 c =
     let place3 = place2 .before in
     λ m s h e f.
     waits-read (m .cells) (h .shaped .cells) _ _ s e f (place3 .if1 .taken)
-    (c .valued .ensures m h ∙ ap (λ n. heldKind (cellAt (m .cells) n .value)) (place2 .wide .ensures))
+    (c .value-kind .ensures m h ∙ ap (λ n. heldKind (cellAt (m .cells) n .value)) (place2 .wide .ensures))
 
 returns-3 : tie.Need-returns-3
 returns-3 c = λ m s h e f. waits-not (m .cells) (h .shaped .cells) _ _ s e f (c .if1 .left)

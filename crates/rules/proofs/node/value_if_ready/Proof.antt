@@ -13,7 +13,7 @@ returns : tie.Need-returns
 unfolding valueIfReady
 returns c = λ m h.
     ap₂ (λ a b. not a || b) (ap (λ n. eqb n 1) (c .before .state .ensures m h) ∙ ready-is _)
-    (ap (ltb 0) (c .valued .ensures m h) ∙ held-is _) ∙ either-is _ _
+    (ap (ltb 0) (c .value-kind .ensures m h) ∙ held-is _) ∙ either-is _ _
 
 pub value-if-ready-spec : {M : Type 1} → statement M
 value-if-ready-spec = tie.close (tie.spec (λ c κs. search needs) (λ c κs. search needs) returns)

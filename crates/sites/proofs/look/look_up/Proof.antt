@@ -39,17 +39,17 @@ wide-requires c κs = search needs
 loop-holds : tie.Need-loop-holds Inv-loop μ-loop
 loop-holds c = (search needs, record { size = refl; zeros = refl }, λ m h o. behind-none _)
 
-add-param-known : tie.Need-add-param-known Inv-loop μ-loop
-add-param-known c = search needs
+add-param-argument : tie.Need-add-param-argument Inv-loop μ-loop
+add-param-argument c = search needs
 
-mul-param-known : tie.Need-mul-param-known Inv-loop μ-loop
-mul-param-known c = search needs
+mul-param-argument : tie.Need-mul-param-argument Inv-loop μ-loop
+mul-param-argument c = search needs
 
-add-param-known-2 : tie.Need-add-param-known-2 Inv-loop μ-loop
-add-param-known-2 c = search needs
+add-param-argument-2 : tie.Need-add-param-argument-2 Inv-loop μ-loop
+add-param-argument-2 c = search needs
 
-param-known-requires : tie.Need-param-known-requires Inv-loop μ-loop
-param-known-requires c κs =
+param-argument-requires : tie.Need-param-argument-requires Inv-loop μ-loop
+param-argument-requires c κs =
     let a = c .before .before .before .before .args in
     let o = c .before .before .before .before .pre .1 in
     let i = c .before .loop .i in
@@ -76,7 +76,7 @@ returns c = λ m h f.
     let l : i < getD (a .dag .now) (a .at + 3) 0 = omega (arith, c .before .before .before .before .before .before .wide .ensures) in
     let bs = tokenAt (m .tokens) (a .p) .binds in
     looked-unset (m .cells) bs (paramsAt (a .dag .now) (a .at)) i _ (c .before .before .before .before .before .loop .inv .2 m h f) (c .before .before .before .before .before .loop .inv .1) (variable 0) _ (param-there (a .dag .now) (a .at) i o l)
-    (ap (paramFound (m .cells) bs) (sym (param-here (a .dag .now) (a .at) i o l)) ∙ sym (c .before .before .before .param-known .ensures m h f) ∙ c .before .c .given .1)
+    (ap (paramFound (m .cells) bs) (sym (param-here (a .dag .now) (a .at) i o l)) ∙ sym (c .before .before .before .param-argument .ensures m h f) ∙ c .before .c .given .1)
 
 enum-told : tie.Need-enum-told Inv-loop μ-loop
 enum-told c = search needs
@@ -90,7 +90,7 @@ returns-2 c = λ m h f.
     let bs = tokenAt (m .tokens) (a .p) .binds in
     looked-nothing (m .cells) bs (paramsAt (a .dag .now) (a .at)) i _ (c .before .before .before .before .loop .inv .2 m h f) (c .before .before .before .before .loop .inv .1) (variable 0) (param-there (a .dag .now) (a .at) i o l)
     (omega (arith, param-small (a .dag .now) (a .at) i o l))
-    (ap (paramFound (m .cells) bs) (sym (param-here (a .dag .now) (a .at) i o l)) ∙ sym (c .before .before .param-known .ensures m h f) ∙ c .enum-told .given .1)
+    (ap (paramFound (m .cells) bs) (sym (param-here (a .dag .now) (a .at) i o l)) ∙ sym (c .before .before .param-argument .ensures m h f) ∙ c .enum-told .given .1)
 
 add-i : tie.Need-add-i Inv-loop μ-loop
 add-i c = search needs
@@ -112,7 +112,7 @@ loop-again c =
           let bs = tokenAt (m .tokens) (a .p) .binds in
           looking-on (m .cells) bs (paramsAt (a .dag .now) (a .at)) i _ (c .before .before .before .before .before .loop .inv .2 m h f) (c .before .before .before .before .before .loop .inv .1) (variable 0) _ (param-there (a .dag .now) (a .at) i o l)
           (param-small (a .dag .now) (a .at) i o l)
-          (ap (paramFound (m .cells) bs) (sym (param-here (a .dag .now) (a .at) i o l)) ∙ sym (c .before .before .before .param-known .ensures m h f) ∙ c .before .v .given .1),
+          (ap (paramFound (m .cells) bs) (sym (param-here (a .dag .now) (a .at) i o l)) ∙ sym (c .before .before .before .param-argument .ensures m h f) ∙ c .before .v .given .1),
     )
 
 returns-3 : tie.Need-returns-3 Inv-loop μ-loop
@@ -135,10 +135,10 @@ look-up-spec =
     element-copy-out-wide
     wide-requires
     loop-holds
-    add-param-known
-    mul-param-known
-    add-param-known-2
-    param-known-requires
+    add-param-argument
+    mul-param-argument
+    add-param-argument-2
+    param-argument-requires
     enum-known-v
     mul-values
     array-set-from-values

@@ -11,8 +11,8 @@ use borrow.Author.Needs.{needs}
 use Rattle.writes.proofs.return_value.written.Statement.{statement}
 use Rattle.writes.proofs.return_value.written.Tie as tie
 
-valued-requires : tie.Need-valued-requires
-valued-requires c κs = search needs
+value-kind-requires : tie.Need-value-kind-requires
+value-kind-requires c κs = search needs
 
 value-requires : tie.Need-value-requires
 value-requires c κs = search needs
@@ -44,14 +44,14 @@ returns c = λ m h q.
     let f = tokenAt (m .tokens) (a .f) in
     let v = tokenAt (m .tokens) (a .p) .value in
     let copied = c .before .before .before .before .before .before .copy .ensures rest (c .before .before .before .before .before .before .before .before .leave .ensures m h q) in
-    let valued = c .before .before .before .before .set-value .ensures rest f v copied (sym (c .before .before .before .before .before .before .before .before .before .before .before .before .valued .ensures m (h .codes))) (sym (c .before .before .before .before .before .before .before .before .before .before .value .ensures m (h .codes))) in
+    let valued = c .before .before .before .before .set-value .ensures rest f v copied (sym (c .before .before .before .before .before .before .before .before .before .before .before .before .value-kind .ensures m (h .codes))) (sym (c .before .before .before .before .before .before .before .before .before .before .value .ensures m (h .codes))) in
     c .join .ensures _ (c .before .before .set-state .ensures rest _ states.Ready valued refl refl) (omega (arith, queue-fits h, h .ordered .queued))
 
 pub written-spec : {M : Type 1} → statement M
 written-spec =
     tie.close
     (tie.spec
-    valued-requires
+    value-kind-requires
     value-requires
     leave-requires
     copy-requires

@@ -7,9 +7,9 @@ use mir.Val.{SFits}
 use mir.Facts.{toZ-ofZ}
 use Rattle.sites.proofs.LookUps.{found-variable, found-constant}
 use Rattle.sites.proofs.Params.{param-variable, variable-below}
-use Rattle.sites.specs.declared.look.Known.the-variants as knowns
-use Rattle.sites.proofs.look.param_known.Statement.{statement}
-use Rattle.sites.proofs.look.param_known.Tie as tie
+use Rattle.sites.specs.declared.look.Argument.the-variants as arguments
+use Rattle.sites.proofs.look.param_argument.Statement.{statement}
+use Rattle.sites.proofs.look.param_argument.Tie as tie
 
 add-word : tie.Need-add-word
 add-word c = search needs
@@ -29,11 +29,11 @@ element-copy-out-if1 c = search needs
 wide-requires : tie.Need-wide-requires
 wide-requires c κs = search needs
 
-variable-known-requires : tie.Need-variable-known-requires
-variable-known-requires c κs = (search needs, subst (λ x. x < 8) (sym (c .wide .ensures)) (variable-below _ _ (c .before .before .before .before .pre .2) (param-variable _ _ (c .before .if1 .taken))))
+variable-argument-requires : tie.Need-variable-argument-requires
+variable-argument-requires c κs = (search needs, subst (λ x. x < 8) (sym (c .wide .ensures)) (variable-below _ _ (c .before .before .before .before .pre .2) (param-variable _ _ (c .before .if1 .taken))))
 
 returns : tie.Need-returns
-returns c = λ m h o. found-variable (m .cells) _ _ _ _ _ (c .before .before .if1 .taken) (c .before .wide .ensures) (c .variable-known .ensures m h o)
+returns c = λ m h o. found-variable (m .cells) _ _ _ _ _ (c .before .before .if1 .taken) (c .before .wide .ensures) (c .variable-argument .ensures m h o)
 
 signed-requires : tie.Need-signed-requires
 signed-requires c κs = search needs
@@ -41,10 +41,10 @@ signed-requires c κs = search needs
 returns-2 : tie.Need-returns-2
 returns-2 c = λ m h o.
     let f : SFits w32 (c .signed .result) = search needs in
-    rw (toZ-ofZ f) (ap knowns.Value (c .signed .ensures) ∙ found-constant (m .cells) _ _ _ (c .before .if1 .left))
+    rw (toZ-ofZ f) (ap arguments.Value (c .signed .ensures) ∙ found-constant (m .cells) _ _ _ (c .before .if1 .left))
 
-pub param-known-spec : {M : Type 1} → statement M
-param-known-spec =
+pub param-argument-spec : {M : Type 1} → statement M
+param-argument-spec =
     tie.close
     (tie.spec
     add-word
@@ -53,7 +53,7 @@ param-known-spec =
     mul-if1
     element-copy-out-if1
     wide-requires
-    variable-known-requires
+    variable-argument-requires
     returns
     signed-requires
     returns-2)

@@ -5,9 +5,9 @@ use mir.Syntax.{w32}
 use mir.Val.{SFits}
 use mir.Facts.{toZ-ofZ}
 use Rattle.sites.proofs.LookUps.{variable-empty, variable-value, variable-cell}
-use Rattle.sites.specs.declared.look.Known.the-variants as knowns
-use Rattle.sites.proofs.look.variable_known.Statement.{statement}
-use Rattle.sites.proofs.look.variable_known.Tie as tie
+use Rattle.sites.specs.declared.look.Argument.the-variants as arguments
+use Rattle.sites.proofs.look.variable_argument.Statement.{statement}
+use Rattle.sites.proofs.look.variable_argument.Tie as tie
 
 bind-kind-requires : tie.Need-bind-kind-requires
 bind-kind-requires c κs = search needs
@@ -24,16 +24,16 @@ signed-requires c κs = search needs
 returns-2 : tie.Need-returns-2
 returns-2 c = λ m h o.
     let f : SFits w32 (c .signed .result) = search needs in
-    rw (toZ-ofZ f) (ap knowns.Value (c .signed .ensures) ∙ variable-value m _ _ _ _ o (c .before .before .before .before .bind-kind .ensures m h) (c .before .before .before .bind-number .ensures m h) (c .before .if2 .taken))
+    rw (toZ-ofZ f) (ap arguments.Value (c .signed .ensures) ∙ variable-value m _ _ _ _ o (c .before .before .before .before .bind-kind .ensures m h) (c .before .before .before .bind-number .ensures m h) (c .before .if2 .taken))
 
-cell-known-requires : tie.Need-cell-known-requires
-cell-known-requires c κs = search needs
+cell-argument-requires : tie.Need-cell-argument-requires
+cell-argument-requires c κs = search needs
 
 returns-3 : tie.Need-returns-3
-returns-3 c = λ m h o. variable-cell m _ _ _ _ o (c .before .before .before .before .bind-kind .ensures m h) (c .before .before .before .bind-number .ensures m h) _ (c .before .before .if1 .left) (c .before .if2 .left) (c .cell-known .ensures m h)
+returns-3 c = λ m h o. variable-cell m _ _ _ _ o (c .before .before .before .before .bind-kind .ensures m h) (c .before .before .before .bind-number .ensures m h) _ (c .before .before .if1 .left) (c .before .if2 .left) (c .cell-argument .ensures m h)
 
-pub variable-known-spec : {M : Type 1} → statement M
-variable-known-spec =
+pub variable-argument-spec : {M : Type 1} → statement M
+variable-argument-spec =
     tie.close
     (tie.spec
     bind-kind-requires
@@ -41,5 +41,5 @@ variable-known-spec =
     returns
     signed-requires
     returns-2
-    cell-known-requires
+    cell-argument-requires
     returns-3)

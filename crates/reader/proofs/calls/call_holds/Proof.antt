@@ -1,8 +1,8 @@
--- `calls::call_kept` meets its contract: there is a law for each way out of the tests. Assumes nothing.
+-- `calls::call_holds` meets its contract: there is a law for each way out of the tests. Assumes nothing.
 use borrow.Author.Needs.{needs}
 use Rattle.reader.proofs.Calling.{call-none, call-missing, call-counted}
-use Rattle.reader.proofs.calls.call_kept.Statement.{statement}
-use Rattle.reader.proofs.calls.call_kept.Tie as tie
+use Rattle.reader.proofs.calls.call_holds.Statement.{statement}
+use Rattle.reader.proofs.calls.call_holds.Tie as tie
 
 returns : tie.Need-returns
 returns c = search call-none
@@ -22,6 +22,6 @@ array-read-result c = search needs
 returns-3 : tie.Need-returns-3
 returns-3 c = search call-counted
 
-pub call-kept-spec : {M : Type 1} → statement M
-call-kept-spec =
+pub call-holds-spec : {M : Type 1} → statement M
+call-holds-spec =
     tie.close (tie.spec returns cast-d returns-2 mul-result array-read-result returns-3)
