@@ -9,10 +9,10 @@ use native.Mathlib.Omega.{arith}
 use lib.ListN.{length, set, List·getD-eq-default}
 use lib.Dec.{eqb}
 use lib.IntN.{ℤ}
-use Rattle.model.specs.Number.{unsigned, signed}
-use Rattle.model.specs.Test.{_and_, all}
-use Rattle.model.specs.Job.Node.{isNode}
-use Rattle.model.specs.Job.Words.{dagOf}
+use Rattle.job.specs.Number.{unsigned, signed}
+use Rattle.job.specs.Test.{_and_, all}
+use Rattle.job.specs.Node.{isNode}
+use Rattle.job.specs.Words.{dagOf}
 use Rattle.model.specs.Machine.Blank.{blankToken, empty, isPlace, tokenAt, slotAt}
 use Rattle.model.specs.Machine.InUse.{tokensUsed, cellsUsed, sweep}
 use Rattle.model.specs.Machine.Limits.{paper}
@@ -33,8 +33,8 @@ use Rattle.model.specs.declared.token.Slot.{Slot}
 use Rattle.model.specs.declared.token.Slot.the-variants as slots
 use Rattle.model.specs.declared.token.State.the-variants as states
 use Rattle.model.specs.declared.token.Token.{Token}
-use Rattle.model.proofs.Test.{clash, and-left, and-right, ltb-lt}
-use Rattle.model.proofs.Number.{signed-unsigned}
+use Rattle.job.proofs.Test.{clash, and-left, and-right, ltb-lt}
+use Rattle.job.proofs.Number.{signed-unsigned}
 use Rattle.model.proofs.Keeps.Carried.{rebound-carried, ended-whole, ended-carried}
 use Rattle.record.specs.Fields.{taken}
 use Rattle.record.specs.Holds.{Holds}

@@ -6,8 +6,8 @@ use Prim.Native.Nat.{ℕ, _+_, _<_, _≤_}
 use native.Mathlib.Omega.{arith}
 use lib.ListN.{getD}
 use lib.Dec.{ltb}
-use Rattle.model.specs.Job.Node.{Dag, bodyAt}
-use Rattle.model.specs.Job.Words.{dagOf}
+use Rattle.job.specs.Node.{Dag, bodyAt}
+use Rattle.job.specs.Words.{dagOf}
 use Rattle.model.specs.Machine.Blank.{blankToken, tokenAt}
 use Rattle.model.specs.Machine.InUse.{tokensUsed, cellsUsed, marked}
 use Rattle.model.specs.Machine.Limits.{paper}

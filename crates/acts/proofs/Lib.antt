@@ -2,5 +2,4 @@
 pub mod Outcomes
 pub mod Vacancy
 pub mod Instructions
-pub mod Making
 pub mod Ending

@@ -7,8 +7,8 @@ use Prim.Native.Nat.{ℕ, _+_, _<_, _≤_}
 use native.Mathlib.Omega.{arith}
 use lib.ListN.{length}
 use lib.IntN.{ℤ}
-use Rattle.model.specs.Job.Node.{Dag, nodeAt}
-use Rattle.model.specs.Job.Words.{dagOf}
+use Rattle.job.specs.Node.{Dag, nodeAt}
+use Rattle.job.specs.Words.{dagOf}
 use Rattle.model.specs.Machine.Blank.{blankToken, tokenAt}
 use Rattle.model.specs.Machine.InUse.{tokensUsed, cellsUsed, sweep}
 use Rattle.model.specs.Machine.Limits.{paper}
@@ -23,7 +23,7 @@ use Rattle.model.specs.declared.reply.Reply.{Reply}
 use Rattle.model.specs.declared.reply.Reply.the-variants as replies
 use Rattle.model.specs.declared.reply.Report.{Report}
 use Rattle.model.specs.declared.token.Token.{Token}
-use Rattle.model.proofs.Test.{lt-ltb, all-at}
+use Rattle.job.proofs.Test.{lt-ltb, all-at}
 use Rattle.model.proofs.Machine.Rules.{RulesKept, rules-kept}
 use Rattle.model.proofs.Sees.Lockstep.{at-node}
 use Rattle.model.proofs.Run.Queue.{queue-kept}

@@ -6,7 +6,7 @@ use mathlib.Core.List.{List}
 use Prim.Native.Nat.{ℕ}
 use lib.ListN.{getD, set}
 use lib.Seq.{getD-set-other}
-use Rattle.model.specs.Job.Words.{dagOf}
+use Rattle.job.specs.Words.{dagOf}
 use Rattle.model.specs.Machine.Blank.{blankToken, blankCell, tokenAt, cellAt}
 use Rattle.model.specs.Machine.Limits.{paper}
 use Rattle.model.specs.declared.record.Machine.{Machine}
@@ -18,7 +18,7 @@ use Rattle.model.specs.declared.token.Place.the-variants as places
 use Rattle.record.specs.Fields.{taken}
 use Rattle.model.proofs.Machine.Writes.{choked-blank}
 use Rattle.model.proofs.Machine.Choke.{choke-at}
-use Rattle.model.proofs.Test.{clash}
+use Rattle.job.proofs.Test.{clash}
 use Rattle.model.proofs.Machine.Rules.{ready-live, rules-kept}
 use Rattle.model.proofs.Machine.Used.{Used, live-used}
 use Rattle.model.proofs.Sees.Others.{token-other}

@@ -1,19 +1,19 @@
 // Choke: "set the cell; all tokens of it and of its descendants end; waiters become ready".
 ghost use Rattle.model.specs.declared.record.Machine.{Machine};
-ghost use Rattle.model.specs.Job.Words.{dagOf};
+ghost use Rattle.job.specs.Words.{dagOf};
 ghost use Rattle.model.specs.Machine.Limits.{paper};
 ghost use Rattle.model.specs.Machine.Step as Step;
 ghost use Rattle.acts.specs.Acting.{Some, Acting, Gives};
 use crate::report::plain;
-use model::dag::WORDS;
+use job::dag::WORDS;
+use job::wide::wide;
 use model::record::Machine;
 use model::reply::Reply;
 use model::reply::Report;
-use reach::sweep::sweep;
+use pruning::choke::choke;
 use record::cell;
 use record::token;
-use sites::number::wide;
-use writes::choke::choke;
+use sweep::sweep::sweep;
 
 // "A token at choke names a cell."
 pub fn choke_cell(

@@ -7,7 +7,7 @@ ghost use Rattle.record.specs.Fields.{taken};
 ghost use Rattle.record.specs.Holds.{Codes};
 ghost use Rattle.model.specs.Machine.Blank.{blankToken};
 ghost use Rattle.model.specs.Machine.Step.{put};
-ghost use Rattle.model.specs.Job.Words.{dagOf};
+ghost use Rattle.job.specs.Words.{dagOf};
 ghost use Rattle.model.specs.Machine.Limits.{paper};
 ghost use Rattle.model.specs.Machine.Step as Step;
 ghost use Rattle.acts.specs.Acting.{Some, Acting, Gives};
@@ -18,17 +18,17 @@ ghost use Rattle.model.specs.Machine.Reply.{accepted};
 ghost use Rattle.acts.specs.Acting.{Taking};
 ghost use Rattle.acts.specs.Links.{NoLinks, BindsNoCell};
 use crate::report::plain;
-use model::dag::WORDS;
+use job::dag::WORDS;
 use model::record::Machine;
 use model::reply::Reply;
 use model::reply::Report;
-use reach::sweep::sweep;
 use record::layout::CELL_SLOT;
 use record::token::bind_kind;
 use record::token::caller;
 use record::token::cell;
 use record::token::value;
 use sites::number::signed;
+use sweep::sweep::sweep;
 use writes::end::written;
 
 // Does the token at p bind a cell?

@@ -1,17 +1,17 @@
 // Return: "the place takes a copy of the frame with the value".
 ghost use Rattle.model.specs.declared.record.Machine.{Machine};
-ghost use Rattle.model.specs.Job.Words.{dagOf};
+ghost use Rattle.job.specs.Words.{dagOf};
 ghost use Rattle.model.specs.Machine.Limits.{paper};
 ghost use Rattle.model.specs.Machine.Step as Step;
 ghost use Rattle.acts.specs.Acting.{Some, Acting, Gives};
 use crate::report::plain;
-use model::dag::WORDS;
+use job::dag::WORDS;
+use job::wide::wide;
 use model::record::Machine;
 use model::reply::Reply;
 use model::reply::Report;
-use reach::sweep::sweep;
 use record::token::caller;
-use writes::dag::wide;
+use sweep::sweep::sweep;
 use writes::return_value::written;
 
 // "A token at return names a frame."

@@ -1,12 +1,12 @@
 // Calls that `bench/` times from Rust: a run in house order by the public calls of `loader` and `machine`, and a whole run.
-use lines::orcrun::orcrun;
+use job::dag::WORDS;
 use loader::table::load;
 use machine::answer::answer;
 use machine::start::start;
 use machine::step::step;
-use model::dag::WORDS;
 use model::record::Machine;
 use record::order::queued;
+use run::orcrun::orcrun;
 
 // The start on a dag, then so many calls at most: the step at place 0 or, with the queue empty, an answer of 7 to the next handle.
 fn calls(words: &mut [u32; Machine::WORDS], dag: &[u32; WORDS], handles: &[u32], most: u32) -> u32 {

@@ -7,11 +7,11 @@ use native.Mathlib.Omega.{arith}
 use lib.ListN.{length, getD}
 use lib.Dec.{ltb}
 use lib.IntN.{ℤ}
-use Rattle.model.specs.Site.{BuiltinReply, gives, silent, at, isBuiltin, builtin}
+use Rattle.job.specs.Site.{BuiltinReply, gives, silent, at, isBuiltin, builtin}
 use Rattle.sites.specs.declared.site.SiteReply.{SiteReply}
 use Rattle.sites.specs.SiteReplies.{builtinReplyOf}
 use Rattle.sites.proofs.Calls.{says-to-front}
-use Rattle.model.specs.Job.Words.{dagOf}
+use Rattle.job.specs.Words.{dagOf}
 use Rattle.model.specs.Machine.Blank.{blankToken, tokenAt}
 use Rattle.model.specs.Machine.InUse.{tokensUsed, cellsUsed}
 use Rattle.model.specs.Machine.Limits.{paper}
@@ -28,7 +28,7 @@ use Rattle.model.specs.declared.token.Held.the-variants as helds
 use Rattle.model.specs.declared.token.Place.the-variants as places
 use Rattle.model.specs.declared.token.State.the-variants as states
 use Rattle.model.specs.declared.token.Token.{Token}
-use Rattle.model.proofs.Test.{lt-ltb, le-not-ltb}
+use Rattle.job.proofs.Test.{lt-ltb, le-not-ltb}
 use Rattle.model.proofs.Keeps.Carried.{Carried, waited-carried, called-carried, replied-carried}
 use Rattle.record.specs.Fields.{taken, delayed}
 use Rattle.record.specs.Holds.{Holds}

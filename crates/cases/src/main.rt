@@ -2,7 +2,7 @@
 // input stands behind its length, 4 bytes, the lowest first.
 use libc::STDIN_FILENO;
 use libc::STDOUT_FILENO;
-use lines::orcrun::orcrun;
+use run::orcrun::orcrun;
 ghost use Prim.Native.Nat.{_≤_, _<_};
 ghost use lib.ListN.{length};
 

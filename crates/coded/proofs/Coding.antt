@@ -13,7 +13,7 @@ use lib.Seq.{getD-drop, drop-drop, drop-cons, take-add, length-take-le, take-at,
 use Rattle.model.specs.declared.token.Slot.the-variants as slots
 use Rattle.model.specs.declared.token.Held.the-variants as helds
 use Rattle.model.specs.declared.token.State.the-variants as states
-use Rattle.model.specs.Test.{_and_, same}
+use Rattle.job.specs.Test.{_and_, same}
 use Rattle.model.specs.Machine.Blank.{blankToken, tokenAt, slotAt}
 use Rattle.model.specs.declared.token.Slot.{Slot}
 use Rattle.model.specs.declared.token.Held.{Held}
@@ -21,8 +21,8 @@ use Rattle.model.specs.declared.token.State.{State}
 use Rattle.model.specs.declared.token.Token.{Token}
 use Rattle.model.specs.declared.cell.Cell.{Cell}
 use Rattle.model.specs.declared.record.Machine.{Machine}
-use Rattle.model.proofs.Test.{clash, eqb-eq, and-left, and-right, and-both, same-eq, same-refl}
-use Rattle.model.proofs.Number.{unsigned-signed}
+use Rattle.job.proofs.Test.{clash, eqb-eq, and-left, and-right, and-both, same-eq, same-refl}
+use Rattle.job.proofs.Number.{unsigned-signed}
 use Rattle.record.specs.Words.{rowOf, cellRow, rows, wordsOf, parts, counts}
 use Rattle.record.specs.Words.{slotKind, slotNumber, stateKind, stateNumber, placeNumber, heldKind, heldNumber}
 use Rattle.record.specs.Decode.{machineOf, tableFrom, tokenFrom, cellFrom, bindsFrom, placeFrom, heldFrom, slotFrom, stateFrom}
@@ -31,7 +31,7 @@ use Rattle.record.proofs.Parts.{row-wide, cell-wide}
 use Rattle.record.proofs.Table.{rows-length}
 use Rattle.coded.specs.Coded.{stateCoded, heldCoded, slotCoded, slotsCoded, rowCoded, cellCoded, tableCoded, coded}
 use Rattle.coded.specs.Record.{isRecord}
-use Rattle.coded.proofs.Lists.{table, listed, same-when}
+use Rattle.job.proofs.Lists.{table, listed, same-when}
 
 abbrev Small : List ℕ → Type 0
 Small ws = (i : ℕ) → getD ws i 0 < 2 ^ 32

@@ -7,8 +7,8 @@ use native.Mathlib.Omega.{arith}
 use lib.Dec.{eqb, ltb}
 use lib.ListN.{getD, take, drop, replicate, getD-replicate}
 use lib.Seq.{getD-drop, getD-take, drop-drop}
-use Rattle.model.specs.Test.{_and_}
-use Rattle.model.proofs.Test.{clash, eqb-eq, lt-ltb, le-not-ltb, eq-eqb, ne-eqb}
+use Rattle.job.specs.Test.{_and_}
+use Rattle.job.proofs.Test.{clash, eqb-eq, lt-ltb, le-not-ltb, eq-eqb, ne-eqb}
 use Rattle.coded.specs.Coded.{slotCoded, heldCoded, stateCoded, slotsCoded, rowCoded, cellCoded, tableCoded, coded}
 
 -- by numbers

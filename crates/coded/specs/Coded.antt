@@ -4,7 +4,7 @@ use mathlib.Core.List.{List, [], _∷_}
 use Prim.Native.Nat.{ℕ, zero, suc}
 use lib.ListN.{getD, take, drop}
 use lib.Dec.{eqb}
-use Rattle.model.specs.Test.{_and_}
+use Rattle.job.specs.Test.{_and_}
 use Rattle.record.specs.Words.{cellsAt}
 
 abbrev pub stateCoded : (kind number : ℕ) → Bool

@@ -1,4 +1,3 @@
--- When words are a record's or a dag's, and the tests that tell.
+-- When words are a record's, and the tests that tell.
 pub mod Record
 pub mod Coded
-pub mod Rows

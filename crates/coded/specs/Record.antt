@@ -2,7 +2,7 @@
 use mathlib.Core.Bool.{Bool}
 use mathlib.Core.List.{List}
 use Prim.Native.Nat.{ℕ}
-use Rattle.model.specs.Test.{same}
+use Rattle.job.specs.Test.{same}
 use Rattle.record.specs.Decode.{machineOf}
 use Rattle.record.specs.Words.{wordsOf}
 

@@ -10,14 +10,14 @@ use native.Mathlib.Omega.{arith}
 use lib.ListN.{length, getD, drop}
 use lib.Dec.{ltb}
 use lib.IntN.{pos, negsuc}
-use Rattle.model.specs.Number.{signed, unsigned}
-use Rattle.model.specs.Job.Entry.{Entry, entry, entries, low, high, kindOf}
-use Rattle.model.specs.Job.Syntax.{Param, variable, constant}
-use Rattle.model.specs.Job.Node.{Node}
-use Rattle.model.specs.Job.Words.{paramWords, nodeWords}
-use Rattle.model.specs.Job.Read.{Got, got, _>>=_, gives, need, entryAt, readParam, readParams}
-use Rattle.model.proofs.Test.{not-ltb-le, ltb-lt}
-use Rattle.model.proofs.Job.Position.{operandAt, entries-at, entries-end, bind-got, refused-got}
+use Rattle.job.specs.Number.{signed, unsigned}
+use Rattle.job.specs.Entry.{Entry, entry, entries, low, high, kindOf}
+use Rattle.job.specs.Syntax.{Param, variable, constant}
+use Rattle.job.specs.Node.{Node}
+use Rattle.job.specs.Words.{paramWords, nodeWords}
+use Rattle.job.specs.Read.{Got, got, _>>=_, gives, need, entryAt, readParam, readParams}
+use Rattle.job.proofs.Test.{not-ltb-le, ltb-lt}
+use Rattle.job.proofs.Position.{operandAt, entries-at, entries-end, bind-got, refused-got}
 use Rattle.compiler.specs.Call.{wordIf, placeWords, callWords}
 use Rattle.compiler.proofs.Reread.{reread}
 

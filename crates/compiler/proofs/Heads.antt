@@ -8,12 +8,12 @@ use native.Mathlib.Decide.{decLt}
 use native.Mathlib.Omega.{arith}
 use lib.ListN.{length, getD, drop}
 use lib.Dec.{ltb}
-use Rattle.model.specs.Test.{_or_}
-use Rattle.model.specs.Job.Entry.{Entry, entry, entries, low, high, Kind, kindOf, isExpression, rowHolds, isBinder}
-use Rattle.model.specs.Job.Syntax.{Param, Join, par, seq, prune, Exp, stop, site, call, join, scopeLeft, scopeRight}
-use Rattle.model.specs.Job.Read.{Got, Read, got, refused, _>>=_, gives, need, entryAt, readParams, readCall, readJoin, readExp}
-use Rattle.model.proofs.Test.{ltb-lt}
-use Rattle.model.proofs.Job.Position.{operandAt, entries-at, entries-end, bind-got, refused-got}
+use Rattle.job.specs.Test.{_or_}
+use Rattle.job.specs.Entry.{Entry, entry, entries, low, high, Kind, kindOf, isExpression, rowHolds, isBinder}
+use Rattle.job.specs.Syntax.{Param, Join, par, seq, prune, Exp, stop, site, call, join, scopeLeft, scopeRight}
+use Rattle.job.specs.Read.{Got, Read, got, refused, _>>=_, gives, need, entryAt, readParams, readCall, readJoin, readExp}
+use Rattle.job.proofs.Test.{ltb-lt}
+use Rattle.job.proofs.Position.{operandAt, entries-at, entries-end, bind-got, refused-got}
 use Rattle.reader.specs.Join.{either, joinOf}
 use Rattle.compiler.proofs.Reread.{reread}
 

@@ -7,12 +7,12 @@ use native.Mathlib.Numerals.{add-one}
 use native.Mathlib.Omega.{arith}
 use lib.ListN.{length, getD, drop}
 use lib.Seq.{sets}
-use Rattle.model.specs.Job.Entry.{entries, low, high}
-use Rattle.model.specs.Job.Syntax.{Param, Exp, stop, site, call, levels}
-use Rattle.model.specs.Job.Node.{Node}
-use Rattle.model.specs.Job.Construct.{size, root, nodesOf}
-use Rattle.model.specs.Job.Words.{headWords, paramWords, nodeWords, rowsOf}
-use Rattle.model.proofs.Job.Position.{operandAt}
+use Rattle.job.specs.Entry.{entries, low, high}
+use Rattle.job.specs.Syntax.{Param, Exp, stop, site, call, levels}
+use Rattle.job.specs.Node.{Node}
+use Rattle.job.specs.Construct.{size, root, nodesOf}
+use Rattle.job.specs.Words.{headWords, paramWords, nodeWords, rowsOf}
+use Rattle.job.proofs.Position.{operandAt}
 use Rattle.compiler.specs.Call.{callWords}
 use Rattle.compiler.specs.declared.expression.Compiled.{Compiled}
 use Rattle.compiler.proofs.Operand.{operand-small}

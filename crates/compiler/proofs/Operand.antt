@@ -6,8 +6,8 @@ use native.Mathlib.Nat.{add-zero}
 use native.Mathlib.Omega.{arith}
 use lib.ListN.{getD, take, drop}
 use lib.Seq.{getD-drop}
-use Rattle.model.specs.Number.{number}
-use Rattle.model.proofs.Job.Position.{operandAt}
+use Rattle.job.specs.Number.{number}
+use Rattle.job.proofs.Position.{operandAt}
 
 four-bytes : (l : List ℕ) → number (take 4 l) ≡ getD l 0 0 + getD l 1 0 * 256 + getD l 2 0 * 65536 + getD l 3 0 * 16777216
 unfolding number

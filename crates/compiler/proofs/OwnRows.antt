@@ -5,11 +5,11 @@ use mathlib.Core.List.{List, [], _∷_}
 use native.Mathlib.Omega.{arith}
 use lib.ListN.{length}
 use lib.Seq.{sets}
-use Rattle.model.specs.Job.Node.{Node}
-use Rattle.model.specs.Job.Construct.{ownNodes}
-use Rattle.model.specs.Job.Words.{headWords, paramWords, nodeWords, rowsOf}
+use Rattle.job.specs.Node.{Node}
+use Rattle.job.specs.Construct.{ownNodes}
+use Rattle.job.specs.Words.{headWords, paramWords, nodeWords, rowsOf}
 use Rattle.reader.specs.Join.{joinOf}
-use Rattle.model.proofs.Stores.{sets-append}
+use Rattle.job.proofs.Stores.{sets-append}
 use Rattle.reader.proofs.JoinSides.{join-par, join-seq, join-prune}
 
 -- the row of one node, and of one node before others

@@ -4,9 +4,9 @@ use mathlib.Core.Path.{_≡_}
 use mathlib.Core.List.{List, [], _∷_}
 use lib.ListN.{getD}
 use lib.Dec.{ltb}
-use Rattle.model.specs.Job.Entry.{low, high}
-use Rattle.model.proofs.Test.{lt-ltb, le-not-ltb}
-use Rattle.model.proofs.Job.Position.{operandAt}
+use Rattle.job.specs.Entry.{low, high}
+use Rattle.job.proofs.Test.{lt-ltb, le-not-ltb}
+use Rattle.job.proofs.Position.{operandAt}
 use Rattle.compiler.specs.Call.{wordIf, placeWords, callWords}
 
 -- a word of a place

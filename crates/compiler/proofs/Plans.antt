@@ -3,8 +3,8 @@ use Prim.Native.Nat.{ℕ, _+_}
 use mathlib.Core.Path.{_≡_, refl}
 use mathlib.Core.List.{_∷_}
 use native.Mathlib.Numerals.{add-one}
-use Rattle.model.specs.Job.Syntax.{levels, scopeLeft, scopeRight}
-use Rattle.model.specs.Job.Construct.{own, nextLeft, nextRight}
+use Rattle.job.specs.Syntax.{levels, scopeLeft, scopeRight}
+use Rattle.job.specs.Construct.{own, nextLeft, nextRight}
 use Rattle.reader.specs.Join.{joinOf}
 use Rattle.reader.proofs.JoinSides.{join-par, join-seq, join-prune}
 use Rattle.compiler.specs.Join.{IsLeft, IsRight, joinRoot}

@@ -6,12 +6,12 @@ use mathlib.Core.List.{List, [], _∷_, _++_, append-assoc}
 use native.Mathlib.Omega.{arith}
 use lib.ListN.{length, length-append}
 use lib.Seq.{sets}
-use Rattle.model.specs.Job.Syntax.{Param, variable, constant, Join, par, seq, prune, Exp, stop, site, call, join}
-use Rattle.model.specs.Job.Node.{Node}
-use Rattle.model.specs.Job.Construct.{own, size, root, firstLeft, firstRight, nextLeft, nextRight, ownNodes, nodesOf}
-use Rattle.model.specs.Job.Words.{headWords, paramWords, nodeWords, rowsOf}
+use Rattle.job.specs.Syntax.{Param, variable, constant, Join, par, seq, prune, Exp, stop, site, call, join}
+use Rattle.job.specs.Node.{Node}
+use Rattle.job.specs.Construct.{own, size, root, firstLeft, firstRight, nextLeft, nextRight, ownNodes, nodesOf}
+use Rattle.job.specs.Words.{headWords, paramWords, nodeWords, rowsOf}
 use Rattle.compiler.specs.Join.{joinRoot}
-use Rattle.model.proofs.Stores.{sets-append}
+use Rattle.job.proofs.Stores.{sets-append}
 use Rattle.compiler.proofs.Stores.{sets-swap}
 
 pub own-some : (j : Join) → 1 ≤ own j

@@ -7,14 +7,14 @@ use native.Mathlib.Numerals.{add-one}
 use native.Mathlib.Omega.{arith}
 use lib.ListN.{length}
 use lib.Seq.{sets}
-use Rattle.model.specs.Job.Syntax.{Exp}
-use Rattle.model.specs.Job.Construct.{size, root, nodesOf}
-use Rattle.model.specs.Job.Words.{headWords, paramWords, nodeWords, rowsOf}
-use Rattle.model.specs.Job.Read.{Got, Read, got}
+use Rattle.job.specs.Syntax.{Exp}
+use Rattle.job.specs.Construct.{size, root, nodesOf}
+use Rattle.job.specs.Words.{headWords, paramWords, nodeWords, rowsOf}
+use Rattle.job.specs.Read.{Got, Read, got}
 use Rattle.compiler.specs.Compiled.{reading, Accepted, compiled, stored}
 use Rattle.compiler.specs.Body.{sinkOf, Sunk, sunk, BodyAccepted, compiledBody, storedBody}
 use Rattle.compiler.specs.declared.expression.Compiled.{Compiled}
-use Rattle.model.proofs.Stores.{sets-append}
+use Rattle.job.proofs.Stores.{sets-append}
 use Rattle.compiler.proofs.Rows.{rows-append, rows-length}
 use Rattle.compiler.proofs.OwnRows.{words}
 use Rattle.compiler.proofs.Taking.{accept, same}

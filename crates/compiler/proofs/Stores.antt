@@ -7,7 +7,7 @@ use native.Mathlib.Numerals.{add-one}
 use native.Mathlib.Omega.{arith}
 use lib.ListN.{length, getD, take, set}
 use lib.Seq.{sets, take-suc, length-take-le, set-comm, take-all}
-use Rattle.model.proofs.Stores.{sets-append}
+use Rattle.job.proofs.Stores.{sets-append}
 
 -- one store below a run of stores
 set-sets : (l : List ℕ) (i j x : ℕ) (b : List ℕ) → i < j → set (sets l j b) i x ≡ sets (set l i x) j b

@@ -4,11 +4,11 @@ use mathlib.Core.Path.{_≡_, refl, sym, ap, subst, _∙_}
 use mathlib.Core.List.{List}
 use native.Mathlib.Omega.{arith}
 use lib.ListN.{length, getD, drop}
-use Rattle.model.specs.Job.Entry.{entries}
-use Rattle.model.specs.Job.Syntax.{Exp, levels}
-use Rattle.model.specs.Job.Construct.{size}
-use Rattle.model.specs.Job.Read.{Got, Read, got, readExp}
-use Rattle.model.proofs.Job.Position.{operandAt}
+use Rattle.job.specs.Entry.{entries}
+use Rattle.job.specs.Syntax.{Exp, levels}
+use Rattle.job.specs.Construct.{size}
+use Rattle.job.specs.Read.{Got, Read, got, readExp}
+use Rattle.job.proofs.Position.{operandAt}
 use Rattle.reader.specs.Checked.{Parts}
 use Rattle.reader.proofs.Scope.{levels-length}
 use Rattle.compiler.specs.Compiled.{reading, Room, room, Accepted, compiled, stored}

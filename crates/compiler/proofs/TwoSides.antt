@@ -7,12 +7,12 @@ use native.Mathlib.Numerals.{add-one}
 use native.Mathlib.Omega.{arith}
 use lib.ListN.{length, getD, drop}
 use lib.Seq.{sets}
-use Rattle.model.specs.Job.Entry.{entries}
-use Rattle.model.specs.Job.Syntax.{Join, levels}
-use Rattle.model.specs.Job.Construct.{own, size, root, firstLeft, firstRight, nextLeft, nextRight, ownNodes, nodesOf}
-use Rattle.model.specs.Job.Words.{headWords, rowsOf}
-use Rattle.model.specs.Job.Read.{got, readExp}
-use Rattle.model.proofs.Job.Position.{exp-from}
+use Rattle.job.specs.Entry.{entries}
+use Rattle.job.specs.Syntax.{Join, levels}
+use Rattle.job.specs.Construct.{own, size, root, firstLeft, firstRight, nextLeft, nextRight, ownNodes, nodesOf}
+use Rattle.job.specs.Words.{headWords, rowsOf}
+use Rattle.job.specs.Read.{got, readExp}
+use Rattle.job.proofs.Position.{exp-from}
 use Rattle.reader.proofs.Scope.{levels-length}
 use Rattle.reader.specs.Join.{joinOf}
 use Rattle.compiler.specs.Join.{IsLeft, IsRight, joinRoot}

@@ -5,11 +5,11 @@ use mathlib.Core.Bool.{Bool, true, false}
 use mathlib.Core.List.{List, [], _∷_, _++_}
 use Prim.Native.Nat.{ℕ, suc, _+_, _*_, _<_, _≤_}
 use lib.Seq.{sets}
-use Rattle.model.specs.Job.Syntax.{Exp}
-use Rattle.model.specs.Job.Node.{Node}
-use Rattle.model.specs.Job.Construct.{size, root, nodesOf}
-use Rattle.model.specs.Job.Words.{headWords, rowsOf}
-use Rattle.model.specs.Job.Read.{Got, Read, got, refused}
+use Rattle.job.specs.Syntax.{Exp}
+use Rattle.job.specs.Node.{Node}
+use Rattle.job.specs.Construct.{size, root, nodesOf}
+use Rattle.job.specs.Words.{headWords, rowsOf}
+use Rattle.job.specs.Read.{Got, Read, got, refused}
 use Rattle.reader.specs.Checked.{Parts}
 use Rattle.compiler.specs.Compiled.{reading}
 use Rattle.compiler.specs.declared.expression.Compiled.{Compiled}

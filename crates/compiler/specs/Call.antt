@@ -4,8 +4,8 @@ use mathlib.Core.List.{List, [], _∷_}
 use Prim.Native.Nat.{ℕ, zero, suc, _+_}
 use lib.ListN.{getD}
 use lib.Dec.{ltb}
-use Rattle.model.specs.Job.Entry.{low, high}
-use Rattle.model.proofs.Job.Position.{operandAt}
+use Rattle.job.specs.Entry.{low, high}
+use Rattle.job.proofs.Position.{operandAt}
 
 -- the word of a parameter that is there, else 0
 unfoldable pub wordIf : Bool → ℕ → ℕ

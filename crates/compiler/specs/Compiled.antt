@@ -3,11 +3,11 @@ use mathlib.Core.List.{List}
 use Prim.Native.Nat.{ℕ, _+_, _*_, _<_, _≤_}
 use lib.ListN.{length, drop}
 use lib.Seq.{sets}
-use Rattle.model.specs.Job.Entry.{entries}
-use Rattle.model.specs.Job.Syntax.{Exp, levels}
-use Rattle.model.specs.Job.Construct.{size, root, nodesOf}
-use Rattle.model.specs.Job.Words.{headWords, rowsOf}
-use Rattle.model.specs.Job.Read.{Got, Read, got, refused, readExp}
+use Rattle.job.specs.Entry.{entries}
+use Rattle.job.specs.Syntax.{Exp, levels}
+use Rattle.job.specs.Construct.{size, root, nodesOf}
+use Rattle.job.specs.Words.{headWords, rowsOf}
+use Rattle.job.specs.Read.{Got, Read, got, refused, readExp}
 use Rattle.reader.specs.Checked.{Parts}
 use Rattle.compiler.specs.declared.expression.Compiled.{Compiled}
 

@@ -2,8 +2,8 @@
 use mathlib.Core.Path.{_≡_}
 use mathlib.Core.List.{List}
 use Prim.Native.Nat.{ℕ}
-use Rattle.model.specs.Job.Syntax.{Join, par, seq, prune, levels, scopeLeft, scopeRight}
-use Rattle.model.specs.Job.Construct.{firstLeft, nextLeft, nextRight}
+use Rattle.job.specs.Syntax.{Join, par, seq, prune, levels, scopeLeft, scopeRight}
+use Rattle.job.specs.Construct.{firstLeft, nextLeft, nextRight}
 use Rattle.compiler.specs.declared.plan.Plan.{Plan}
 
 -- an expression with these variables in scope, its nodes numbered from `first` toward `next`

@@ -2,14 +2,14 @@
 ghost use mathlib.Core.Path.{_≡_};
 ghost use Prim.Native.Nat.{_+_, _*_, _<_};
 ghost use lib.Seq.{sets};
-ghost use Rattle.model.specs.Job.Words.{headWords, nodeWords};
+ghost use Rattle.job.specs.Words.{headWords, nodeWords};
 ghost use Rattle.compiler.specs.Compiled.{reading};
 ghost use Rattle.compiler.specs.Body.{sinkOf, BodyAccepted, compiledBody, storedBody};
 use crate::expression::Compiled;
 use crate::expression::compile_expression;
 use crate::plan::Plan;
 use crate::store::put;
-use model::dag::WORDS;
+use job::dag::WORDS;
 
 // Stores the sink of the goal, or of a definition.
 fn put_sink(dag: &mut [u32; WORDS], sink: usize, goal: bool)

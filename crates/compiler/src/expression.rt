@@ -9,7 +9,7 @@ use crate::plan::Plan;
 use crate::plan::left_plan;
 use crate::plan::right_plan;
 use crate::store::put;
-use model::dag::WORDS;
+use job::dag::WORDS;
 use reader::entry::operand;
 
 // The entry and the node behind an expression, and the node at which a token enters it.

@@ -2,13 +2,13 @@
 ghost use mathlib.Core.Path.{_≡_};
 ghost use Prim.Native.Nat.{_+_, _*_, _<_, _≤_};
 ghost use lib.Seq.{sets};
-ghost use Rattle.model.specs.Job.Construct.{ownNodes};
-ghost use Rattle.model.specs.Job.Words.{headWords, rowsOf};
+ghost use Rattle.job.specs.Construct.{ownNodes};
+ghost use Rattle.job.specs.Words.{headWords, rowsOf};
 ghost use Rattle.reader.specs.Join.{joinOf};
 ghost use Rattle.compiler.specs.Join.{joinRoot};
 use crate::plan::Plan;
 use crate::store::put;
-use model::dag::WORDS;
+use job::dag::WORDS;
 
 // The join's root, where `left` is that of its f: a sequence is entered at its f.
 pub fn join_root(kind: u8, plan: Plan, left: u32) -> u32

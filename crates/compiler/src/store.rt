@@ -2,8 +2,8 @@
 ghost use mathlib.Core.Path.{_≡_};
 ghost use Prim.Native.Nat.{_+_, _*_, _<_};
 ghost use lib.Seq.{sets};
-ghost use Rattle.model.specs.Job.Words.{headWords};
-use model::dag::WORDS;
+ghost use Rattle.job.specs.Words.{headWords};
+use job::dag::WORDS;
 
 // The nodes' rows begin behind the dag's head of 67 words.
 pub fn put(dag: &mut [u32; WORDS], node: usize, words: [u32; 12])

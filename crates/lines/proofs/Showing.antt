@@ -10,9 +10,9 @@ use native.Mathlib.Omega.{arith}
 use lib.ListN.{length, getD, take, drop, set, length-append, length-drop, length-set, replicate, length-replicate, drop-of-length-le}
 use lib.Dec.{leb}
 use lib.Seq.{sets, sets-eq, length-sets, length-take-le, take-all, take-at, take-nil, drop-nil, take-suc, take-append-le, drop-append-le, set-out}
-use Rattle.model.proofs.Test.{le-leb, lt-not-leb}
+use Rattle.job.proofs.Test.{le-leb, lt-not-leb}
 use Rattle.text.specs.Written.{Written}
-use Rattle.model.proofs.Stores.{sets-append}
+use Rattle.job.proofs.Stores.{sets-append}
 use Rattle.lines.specs.Shown.{shown, placed, showing, Shows}
 
 -- one byte: before the part that is shown, in it, behind it

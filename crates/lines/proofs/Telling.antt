@@ -13,10 +13,10 @@ use Rattle.model.specs.Machine.Reply.{reported, numberOf}
 use Rattle.model.specs.declared.reply.Refusal.{Refusal}
 use Rattle.model.specs.declared.reply.Reply.{Reply}
 use Rattle.model.specs.declared.reply.Reply.the-variants as replies
-use Rattle.model.proofs.Test.{eq-eqb, ne-eqb}
+use Rattle.job.proofs.Test.{eq-eqb, ne-eqb}
 use Rattle.text.specs.Written.{Written}
 use Rattle.text.proofs.Writing.{none-written, written-as}
-use Rattle.lines.specs.Input.{lastLines}
+use Rattle.lines.specs.Ending.{lastLines}
 
 pub text-append : (ls ms : List Line) → textOfAll (ls ++ ms) ≡ textOfAll ls ++ textOfAll ms
 unfolding textOfAll

@@ -1,4 +1,3 @@
--- What a run is asked, and what it leaves in a caller's output.
-pub mod Input
+-- What a caller's output shows, and the lines at the end.
 pub mod Shown
-pub mod Turn
+pub mod Ending

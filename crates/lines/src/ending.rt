@@ -2,7 +2,7 @@
 ghost use mathlib.Core.List.{[], _∷_};
 ghost use Prim.Native.Nat.{_+_, _≤_};
 ghost use Rattle.model.specs.Lines.Line.{textOfAll, end, limit};
-ghost use Rattle.lines.specs.Input.{lastLines};
+ghost use Rattle.lines.specs.Ending.{lastLines};
 ghost use Rattle.lines.specs.Shown.{Shows};
 use crate::shown::show_front;
 use text::line;

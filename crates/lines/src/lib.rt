@@ -1,9 +1,4 @@
-// One run of a job, from the bytes of the input to the bytes that `orcrun` prints. Programs call `orcrun::orcrun`; the rest is private to it.
-mod ending;
-mod house;
-mod input;
-pub mod orcrun;
-mod refused;
-mod report;
-mod shown;
-mod turn;
+// The lines of a run, written into a caller's output: the line of a reply, and those at the end.
+pub mod ending;
+pub mod report;
+pub mod shown;

@@ -8,13 +8,13 @@ use native.Mathlib.Nat.{add-zero}
 use native.Mathlib.Omega.{arith}
 use lib.ListN.{length, length-append}
 use lib.Seq.{sets}
-use Rattle.model.specs.Job.Syntax.{Exp, Definition}
-use Rattle.model.specs.Job.Node.{Node, Body, Dag}
-use Rattle.model.specs.Job.Construct.{size, root, nodesOf, constructFrom}
-use Rattle.model.specs.Job.Words.{headWords, paramWords, nodeWords, rowsOf, bodyWords, written}
+use Rattle.job.specs.Syntax.{Exp, Definition}
+use Rattle.job.specs.Node.{Node, Body, Dag}
+use Rattle.job.specs.Construct.{size, root, nodesOf, constructFrom}
+use Rattle.job.specs.Words.{headWords, paramWords, nodeWords, rowsOf, bodyWords, written}
 use Rattle.reader.specs.Definitions.{definitionNodes, definitionsNodes}
 use Rattle.compiler.specs.Body.{sinkOf}
-use Rattle.model.proofs.Stores.{sets-append}
+use Rattle.job.proofs.Stores.{sets-append}
 use Rattle.compiler.proofs.Stores.{sets-swap}
 use Rattle.compiler.proofs.Rows.{rows-append, rows-length}
 use Rattle.loader.specs.Stored.{nodesBefore, bodiesBefore, wordsBefore}

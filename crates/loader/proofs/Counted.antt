@@ -4,9 +4,9 @@ use mathlib.Core.Path.{_≡_, refl, sym, ap, subst, _∙_}
 use mathlib.Core.Bool.{Bool}
 use mathlib.Core.List.{List}
 use native.Mathlib.Omega.{arith}
-use Rattle.model.specs.Job.Syntax.{Exp}
-use Rattle.model.specs.Job.Construct.{size}
-use Rattle.model.specs.Job.Read.{Got, Read, got}
+use Rattle.job.specs.Syntax.{Exp}
+use Rattle.job.specs.Construct.{size}
+use Rattle.job.specs.Read.{Got, Read, got}
 use Rattle.reader.specs.Checked.{checked, checkedExp}
 use Rattle.reader.specs.declared.checked.Checked.{Checked}
 use Rattle.reader.specs.declared.checked.Checked.the-variants.{Next, Refused}

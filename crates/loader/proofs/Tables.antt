@@ -6,13 +6,13 @@ use native.Mathlib.Numerals.{add-one}
 use native.Mathlib.Omega.{arith}
 use lib.ListN.{length, getD, take, drop, length-drop}
 use lib.Seq.{drop-cons, take-all}
-use Rattle.model.specs.Test.{_and_}
-use Rattle.model.specs.Number.{number}
-use Rattle.model.specs.Job.Syntax.{Program}
-use Rattle.model.specs.Job.Entry.{entries}
-use Rattle.model.specs.Job.Construct.{construct}
-use Rattle.model.specs.Job.Read.{Got, Read, got, refused, _>>=_, need, readEntries, sizeD, sizeN, readBytes, answerOf, readTable}
-use Rattle.model.proofs.Test.{eq-eqb, ne-eqb, le-leb, lt-not-leb}
+use Rattle.job.specs.Test.{_and_}
+use Rattle.job.specs.Number.{number}
+use Rattle.job.specs.Syntax.{Program}
+use Rattle.job.specs.Entry.{entries}
+use Rattle.job.specs.Construct.{construct}
+use Rattle.job.specs.Read.{Got, Read, got, refused, _>>=_, need, readEntries, sizeD, sizeN, readBytes, answerOf, readTable}
+use Rattle.job.proofs.Test.{eq-eqb, ne-eqb, le-leb, lt-not-leb}
 use Rattle.reader.specs.Checked.{checkedProgram}
 use Rattle.reader.specs.declared.checked.Checked.{Checked}
 use Rattle.reader.specs.declared.checked.Checked.the-variants as checked

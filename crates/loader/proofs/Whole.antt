@@ -7,11 +7,11 @@ use mathlib.Core.List.{List, [], _∷_}
 use native.Mathlib.Omega.{arith}
 use lib.ListN.{length}
 use lib.Seq.{sets}
-use Rattle.model.specs.Job.Syntax.{Exp, Definition, Program, levels}
-use Rattle.model.specs.Job.Entry.{entries}
-use Rattle.model.specs.Job.Construct.{size, root, construct}
-use Rattle.model.specs.Job.Words.{written}
-use Rattle.model.specs.Job.Read.{Got, Read, got, readExp, readEntries}
+use Rattle.job.specs.Syntax.{Exp, Definition, Program, levels}
+use Rattle.job.specs.Entry.{entries}
+use Rattle.job.specs.Construct.{size, root, construct}
+use Rattle.job.specs.Words.{written}
+use Rattle.job.specs.Read.{Got, Read, got, readExp, readEntries}
 use Rattle.reader.specs.Checked.{Parts, entriesFrom}
 use Rattle.reader.specs.Definitions.{readDefinitions, definitionsNodes}
 use Rattle.reader.proofs.NodeCount.{construct-length}

@@ -9,13 +9,13 @@ use native.Mathlib.Nat.{sub-zero}
 use native.Mathlib.Omega.{arith}
 use lib.ListN.{length, getD, drop, length-append}
 use lib.Seq.{sets}
-use Rattle.model.specs.Job.Syntax.{Exp, Definition, levels}
-use Rattle.model.specs.Job.Entry.{entries, Kind, kindOf, rowHolds}
-use Rattle.model.specs.Job.Construct.{size, root}
-use Rattle.model.specs.Job.Words.{rowsOf, bodyWords}
-use Rattle.model.specs.Job.Read.{Got, Read, got, _>>=_, gives, need, entryAt, readExp, isDefinition, readDefinition}
-use Rattle.model.proofs.Test.{leb-le}
-use Rattle.model.proofs.Job.Position.{operandAt, entries-at, bind-got}
+use Rattle.job.specs.Syntax.{Exp, Definition, levels}
+use Rattle.job.specs.Entry.{entries, Kind, kindOf, rowHolds}
+use Rattle.job.specs.Construct.{size, root}
+use Rattle.job.specs.Words.{rowsOf, bodyWords}
+use Rattle.job.specs.Read.{Got, Read, got, _>>=_, gives, need, entryAt, readExp, isDefinition, readDefinition}
+use Rattle.job.proofs.Test.{leb-le}
+use Rattle.job.proofs.Position.{operandAt, entries-at, bind-got}
 use Rattle.reader.specs.Checked.{Parts, entriesFrom}
 use Rattle.reader.specs.Definitions.{readDefinitions, definitionNodes, definitionsNodes}
 use Rattle.reader.proofs.DefinitionLoop.{Defined, defined}

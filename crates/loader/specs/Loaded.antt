@@ -3,9 +3,9 @@
 use mathlib.Core.List.{List}
 use Prim.Native.Nat.{ℕ}
 use lib.ListN.{length}
-use Rattle.model.specs.Job.Read.{Answer, accepted, declined}
-use Rattle.model.specs.Job.Construct.{construct}
-use Rattle.model.specs.Job.Words.{written}
+use Rattle.job.specs.Read.{Answer, accepted, declined}
+use Rattle.job.specs.Construct.{construct}
+use Rattle.job.specs.Words.{written}
 use Rattle.loader.specs.declared.table.Loaded.{Loaded}
 use Rattle.loader.specs.declared.table.Loaded.the-variants.{Dag, Refused}
 

@@ -4,11 +4,11 @@ use mathlib.Core.Bool.{true, false}
 use mathlib.Core.List.{List, [], _∷_, _++_}
 use Prim.Native.Nat.{ℕ, _+_, _<_, _≤_}
 use lib.Seq.{sets}
-use Rattle.model.specs.Job.Syntax.{Exp, Definition, Program}
-use Rattle.model.specs.Job.Node.{Node, Body}
-use Rattle.model.specs.Job.Construct.{size, root, nodesOf, construct}
-use Rattle.model.specs.Job.Words.{headWords, rowsOf, bodyWords, written}
-use Rattle.model.specs.Job.Read.{Got, Read, got, refused}
+use Rattle.job.specs.Syntax.{Exp, Definition, Program}
+use Rattle.job.specs.Node.{Node, Body}
+use Rattle.job.specs.Construct.{size, root, nodesOf, construct}
+use Rattle.job.specs.Words.{headWords, rowsOf, bodyWords, written}
+use Rattle.job.specs.Read.{Got, Read, got, refused}
 use Rattle.reader.specs.Checked.{Parts}
 use Rattle.reader.specs.Definitions.{definitionNodes, definitionsNodes}
 use Rattle.compiler.specs.Compiled.{reading}

@@ -2,7 +2,7 @@
 // checked with the whole table, counted here, compiled here.
 use compiler::body;
 use compiler::expression::Compiled;
-use model::dag::WORDS;
+use job::dag::WORDS;
 use reader::checked::Checked;
 use reader::expression;
 ghost use mathlib.Core.Path.{_≡_};

@@ -3,7 +3,7 @@ ghost use mathlib.Core.Path.{_≡_};
 ghost use mathlib.Core.List.{[], _∷_};
 ghost use Prim.Native.Nat.{_+_, _*_, _<_};
 ghost use lib.Seq.{sets};
-use model::dag::WORDS;
+use job::dag::WORDS;
 
 // Stores the two words of definition `i`.
 pub fn put_definition(dag: &mut [u32; WORDS], i: usize, root: u32, formals: u32)

@@ -1,12 +1,12 @@
 // An accepted program: the bodies of its definitions, its goal, and the dag's head.
 use crate::body;
 use crate::head;
-use model::dag::WORDS;
+use job::dag::WORDS;
 use reader::entry;
 ghost use mathlib.Core.Path.{_≡_};
 ghost use Prim.Native.Nat.{_≤_};
-ghost use Rattle.model.specs.Job.Entry.{entries};
-ghost use Rattle.model.specs.Job.Read.{readEntries};
+ghost use Rattle.job.specs.Entry.{entries};
+ghost use Rattle.job.specs.Read.{readEntries};
 ghost use Rattle.reader.specs.Checked.{Parts};
 ghost use Rattle.reader.specs.Definitions.{readDefinitions};
 ghost use Rattle.loader.specs.Stored.{DefinitionsRead, Accepts, placed, storedDefinitions, storedProgram};

@@ -1,12 +1,12 @@
 // The whole table: its sizes, then its two parts.
 use crate::program;
-use model::dag::WORDS;
+use job::dag::WORDS;
 use reader::checked::Checked;
 use reader::program as entries;
 ghost use mathlib.Core.Path.{_≡_};
 ghost use Prim.Native.Nat.{_+_, _*_, _<_, _≤_};
-ghost use Rattle.model.specs.Job.Entry.{entries};
-ghost use Rattle.model.specs.Job.Read.{answerOf, readEntries, readTable};
+ghost use Rattle.job.specs.Entry.{entries};
+ghost use Rattle.job.specs.Read.{answerOf, readEntries, readTable};
 ghost use Rattle.reader.specs.Checked.{Parts};
 ghost use Rattle.loader.specs.Loaded.{loaded, loadedWords};
 

@@ -5,10 +5,10 @@ use mathlib.Core.List.{List, []}
 use Prim.Native.Nat.{ℕ, _≤_}
 use lib.ListN.{getD}
 use lib.IntN.{ℤ}
-use Rattle.model.specs.Test.{_and_, same}
-use Rattle.model.specs.Job.Node.{Dag, dagHolds}
+use Rattle.job.specs.Test.{_and_, same}
+use Rattle.job.specs.Node.{Dag, dagHolds}
 use Rattle.model.specs.Machine.Blank.{blankMachine}
-use Rattle.model.specs.Job.Words.{dagOf}
+use Rattle.job.specs.Words.{dagOf}
 use Rattle.model.specs.Machine.Answer as Answer
 use Rattle.model.specs.Machine.Limits.{paper}
 use Rattle.model.specs.Machine.Reply.{Effect, outcome, unless, refuses, isRefused, reportValues}
@@ -22,7 +22,7 @@ use Rattle.model.specs.declared.reply.Refusal.{Refusal}
 use Rattle.model.specs.declared.reply.Refusal.the-variants as refusals
 use Rattle.model.specs.declared.reply.Reply.the-variants as replies
 use Rattle.model.specs.declared.reply.Report.{Report}
-use Rattle.model.proofs.Test.{clash, same-refl, le-not-ltb}
+use Rattle.job.proofs.Test.{clash, same-refl, le-not-ltb}
 use Rattle.model.proofs.Machine.Refused.{outcome-refused}
 use Rattle.record.specs.Decode.{machineOf}
 use Rattle.record.specs.Words.{wordsOf}

@@ -1,3 +1,2 @@
 -- Laws of the public calls.
 pub mod Giving
-pub mod Whole

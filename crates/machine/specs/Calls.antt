@@ -4,7 +4,7 @@ use mathlib.Core.Bool.{true, false}
 use mathlib.Core.List.{List}
 use Prim.Native.Nat.{ℕ}
 use lib.IntN.{ℤ}
-use Rattle.model.specs.Job.Words.{dagOf}
+use Rattle.job.specs.Words.{dagOf}
 use Rattle.model.specs.Machine.Answer as Answer
 use Rattle.model.specs.Machine.Limits.{paper}
 use Rattle.model.specs.Machine.Reply.{outcome, refuses, isRefused}

@@ -1,9 +1,8 @@
 // An answer to an outside call.
 ghost use Rattle.machine.specs.Calls.{Gave, answerOn};
 use crate::lawful::is_lawful;
-use crate::unchecked;
 use acts::report::plain;
-use model::dag::WORDS;
+use job::dag::WORDS;
 use model::record::Machine;
 use model::reply::Refusal;
 use model::reply::Reply;
@@ -18,5 +17,5 @@ pub fn answer(w: &mut [u32; Machine::WORDS], dag: &[u32; WORDS], handle: u32, va
     if !is_lawful(w, dag, &mut tokens, &mut cells) {
         return plain(Reply::Refused(Refusal::Rule));
     }
-    unchecked::answer(w, handle, value)
+    unchecked::answer::answer(w, handle, value)
 }

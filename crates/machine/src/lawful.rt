@@ -1,16 +1,16 @@
 // Index rules of words, once for both calls.
 ghost use mathlib.Core.Path.{_≡_};
 ghost use mathlib.Core.Bool.{true};
-ghost use Rattle.model.specs.Job.Words.{dagOf};
+ghost use Rattle.job.specs.Words.{dagOf};
 ghost use Rattle.model.specs.Machine.Limits.{paper};
 ghost use Rattle.model.specs.Machine.Rules.{rulesHold};
-ghost use Rattle.model.specs.Test.{_and_};
+ghost use Rattle.job.specs.Test.{_and_};
 ghost use lib.ListN.{length};
 ghost use Rattle.record.specs.Decode.{machineOf};
 ghost use Rattle.coded.specs.Record.{isRecord};
 ghost use Rattle.acts.specs.Acting.{Lawful};
 use coded::words::is_record;
-use model::dag::WORDS;
+use job::dag::WORDS;
 use model::record::Machine;
 use reach::used::in_use;
 use rules::rules::rules_hold;

@@ -3,4 +3,3 @@ pub mod answer;
 mod lawful;
 pub mod start;
 pub mod step;
-pub mod unchecked;

@@ -1,8 +1,8 @@
 // The start.
 ghost use Rattle.machine.specs.Calls.{Gave, startOn};
 use acts::report::plain;
-use coded::dag::dag_holds;
-use model::dag::WORDS;
+use dag_rules::dag::dag_holds;
+use job::dag::WORDS;
 use model::record::Machine;
 use model::reply::Refusal;
 use model::reply::Reply;

@@ -1,15 +1,14 @@
 // One step of the token that the queue has at a place.
 ghost use Rattle.machine.specs.Calls.{Gave, stepOn};
 use crate::lawful::is_lawful;
-use crate::unchecked;
 use acts::report::plain;
-use model::dag::WORDS;
+use job::dag::WORDS;
+use job::wide::wide;
 use model::record::Machine;
 use model::reply::Refusal;
 use model::reply::Reply;
 use model::reply::Report;
 use record::order::queued;
-use sites::number::wide;
 
 // "A step tests 14, 9, then 10, 11 or 13." A refused one leaves every word.
 pub fn step(w: &mut [u32; Machine::WORDS], dag: &[u32; WORDS], place: usize) -> Report
@@ -23,5 +22,5 @@ pub fn step(w: &mut [u32; Machine::WORDS], dag: &[u32; WORDS], place: usize) -> 
     if wide(queued(w)) <= place {
         return plain(Reply::Refused(Refusal::NoToken));
     }
-    unchecked::step(w, &mut tokens, &mut cells, dag, place)
+    unchecked::step::step(w, &mut tokens, &mut cells, dag, place)
 }

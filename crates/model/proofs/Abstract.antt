@@ -1,6 +1,3 @@
--- The abstract machine: tokens that carry all they need, cells that are never used again, no limits.
-pub mod Shuffle
-pub mod Machine
-pub mod Store
+-- What a program's dag is to the abstract machine of crate `simulation`, and that both show the same lists.
 pub mod Sound
 pub mod Complete

@@ -15,3 +15,4 @@ pub mod Within
 pub mod Begin
 pub mod Larger
 pub mod Choke
+pub mod Started

@@ -9,9 +9,9 @@ pub mod Choking
 pub mod Passing
 pub mod Answering
 pub mod Last
-pub mod Meaning
 pub mod First
 pub mod Middle
 pub mod Loaded
 pub mod Worked
 pub mod Broken
+pub mod Tables

@@ -1,5 +1,4 @@
 -- "Runs and their lists", and the statement of demand 3.
-pub mod Meaning
 pub mod Call
 pub mod Follow
 pub mod Demand3

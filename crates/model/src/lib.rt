@@ -1,7 +1,5 @@
 // The machine's types. What they mean is in specs/, in the order of document 01.
 pub mod cell;
-pub mod dag;
 pub mod record;
 pub mod reply;
-pub mod sites;
 pub mod token;

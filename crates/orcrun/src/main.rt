@@ -1,7 +1,7 @@
 // `orcrun`: a job's table and the answers to its calls on standard input, the lines of its run on standard output.
 use libc::STDIN_FILENO;
 use libc::STDOUT_FILENO;
-use lines::orcrun::orcrun;
+use run::orcrun::orcrun;
 ghost use mathlib.Core.Path.{_≡_};
 ghost use Prim.Native.Nat.{_<_};
 ghost use lib.ListN.{length, take, drop};

@@ -1,6 +1,4 @@
-// What of a machine record is in use, what is made blank, and where a new record goes.
+// What of a machine record is in use, as marks.
 mod mark;
-pub mod place;
-pub mod sweep;
-mod tables;
+pub mod tables;
 pub mod used;

@@ -11,6 +11,7 @@ ghost use Rattle.record.specs.Decode.{placeFrom};
 ghost use Rattle.record.specs.Holds.{Codes};
 ghost use Rattle.record.specs.Words.{placeNumber};
 ghost use Rattle.reach.specs.Marks.{callersMarked, parentsMarked, cellsMarked, activeMarked, heldMarked};
+use job::wide::wide;
 use model::record::Machine;
 use record::cell::parent;
 use record::cell::value_kind;
@@ -22,13 +23,6 @@ use record::token::bind_number;
 use record::token::caller;
 use record::token::cell;
 use record::token::state;
-
-// A word as an index.
-pub fn wide(word: u32) -> usize
-    ensures { λ r. ⌜ r ≡ word ⌝ }
-{
-    word as usize
-}
 
 // Marks the chain of callers from a place, until it ends or comes to a marked place.
 fn mark_callers(w: &[u32; Machine::WORDS], start: usize, marks: &mut [bool])

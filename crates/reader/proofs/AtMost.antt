@@ -5,11 +5,11 @@ use mathlib.Core.List.{List, []}
 use Prim.Native.Nat.{ℕ, zero, suc, _+_, _*_, _≤_}
 use native.Mathlib.Omega.{arith}
 use lib.ListN.{length}
-use Rattle.model.specs.Job.Syntax.{Exp, Definition, Program}
-use Rattle.model.specs.Job.Entry.{entries}
-use Rattle.model.specs.Job.Read.{Got, got, readExp, readEntries}
-use Rattle.model.specs.Job.Construct.{size, construct}
-use Rattle.model.proofs.Job.Position.{entries-length, exp-from}
+use Rattle.job.specs.Syntax.{Exp, Definition, Program}
+use Rattle.job.specs.Entry.{entries}
+use Rattle.job.specs.Read.{Got, got, readExp, readEntries}
+use Rattle.job.specs.Construct.{size, construct}
+use Rattle.job.proofs.Position.{entries-length, exp-from}
 use Rattle.reader.specs.Checked.{entriesFrom}
 use Rattle.reader.specs.Definitions.{readDefinitions, definitionsNodes}
 use Rattle.reader.proofs.Few.{read-few}

@@ -9,12 +9,12 @@ use lib.ListN.{length, getD, take, drop}
 use lib.Seq.{length-take-le, getD-take}
 use lib.Dec.{eqb}
 use borrow.Author.Tests.{not-true, not-false}
-use Rattle.model.specs.Test.{_and_, _or_}
-use Rattle.model.specs.Number.{number}
-use Rattle.model.specs.Job.Entry.{entry, entries}
-use Rattle.model.specs.Job.Read.{_>>=_, need, callHolds, definitionsHold}
-use Rattle.model.proofs.Test.{eq-eqb, ne-eqb, lt-ltb, le-not-ltb}
-use Rattle.model.proofs.Job.Position.{entries-end, entries-at}
+use Rattle.job.specs.Test.{_and_, _or_}
+use Rattle.job.specs.Number.{number}
+use Rattle.job.specs.Entry.{entry, entries}
+use Rattle.job.specs.Read.{_>>=_, need, callHolds, definitionsHold}
+use Rattle.job.proofs.Test.{eq-eqb, ne-eqb, lt-ltb, le-not-ltb}
+use Rattle.job.proofs.Position.{entries-end, entries-at}
 use Rattle.reader.specs.Checked.{entriesFrom, checked, checkedTest}
 use Rattle.reader.specs.declared.checked.Checked.the-variants.{Next, Refused}
 

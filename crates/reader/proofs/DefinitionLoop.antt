@@ -7,11 +7,11 @@ use native.Mathlib.Decide.{decLt}
 use native.Mathlib.Numerals.{add-one}
 use lib.ListN.{length, getD, take, drop, set, length-append, length-set}
 use lib.Seq.{take-suc-set}
-use Rattle.model.specs.Number.{number}
-use Rattle.model.specs.Job.Syntax.{Exp, Definition, levels, formalsOf}
-use Rattle.model.specs.Job.Entry.{entries, kindOf}
-use Rattle.model.specs.Job.Read.{Got, Read, got, refused, _>>=_, gives, need, entryAt, readExp, isDefinition, readDefinition}
-use Rattle.model.proofs.Job.Position.{entries-end, entries-at, entries-length, bind-got, refused-got, exp-from}
+use Rattle.job.specs.Number.{number}
+use Rattle.job.specs.Syntax.{Exp, Definition, levels, formalsOf}
+use Rattle.job.specs.Entry.{entries, kindOf}
+use Rattle.job.specs.Read.{Got, Read, got, refused, _>>=_, gives, need, entryAt, readExp, isDefinition, readDefinition}
+use Rattle.job.proofs.Position.{entries-end, entries-at, entries-length, bind-got, refused-got, exp-from}
 use Rattle.reader.specs.Checked.{entriesFrom, checked}
 use Rattle.reader.specs.Definitions.{readDefinitions, definitionNodes, definitionsNodes, checkedDefinition, formalsRead, DefinitionsHold}
 use Rattle.reader.specs.declared.checked.Checked.{Checked}

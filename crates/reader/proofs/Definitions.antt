@@ -6,12 +6,12 @@ use Prim.Native.Nat.{ℕ, _+_, _*_, _<_, _≤_}
 use native.Mathlib.Numerals.{add-one}
 use lib.ListN.{length, getD, take, drop}
 use lib.Dec.{leb}
-use Rattle.model.specs.Number.{number}
-use Rattle.model.specs.Job.Syntax.{Exp, Definition, levels}
-use Rattle.model.specs.Job.Entry.{kindOf, rowHolds}
-use Rattle.model.specs.Job.Read.{Got, Read, got, refused, _>>=_, gives, need, entryAt, readExp, isDefinition, readDefinition}
-use Rattle.model.proofs.Test.{le-leb, lt-not-leb}
-use Rattle.model.proofs.Job.Position.{entries-end, entries-at}
+use Rattle.job.specs.Number.{number}
+use Rattle.job.specs.Syntax.{Exp, Definition, levels}
+use Rattle.job.specs.Entry.{kindOf, rowHolds}
+use Rattle.job.specs.Read.{Got, Read, got, refused, _>>=_, gives, need, entryAt, readExp, isDefinition, readDefinition}
+use Rattle.job.proofs.Test.{le-leb, lt-not-leb}
+use Rattle.job.proofs.Position.{entries-end, entries-at}
 use Rattle.reader.specs.Checked.{entriesFrom, checked, checkedExp, more}
 use Rattle.reader.specs.Definitions.{checkedDefinition}
 use Rattle.reader.specs.declared.checked.Checked.{Checked}

@@ -4,10 +4,10 @@ use mathlib.Core.Bool.{Bool, true, false, not}
 use Prim.Native.Nat.{ℕ, zero, suc, _<_, _≤_}
 use native.Mathlib.Omega.{arith}
 use lib.Dec.{ltb}
-use Rattle.model.specs.Test.{_or_}
-use Rattle.model.specs.Job.Entry.{kindOf, rowHolds, isBinder}
+use Rattle.job.specs.Test.{_or_}
+use Rattle.job.specs.Entry.{kindOf, rowHolds, isBinder}
 use borrow.Author.Tests.{not-true, not-false}
-use Rattle.model.proofs.Test.{lt-ltb, le-not-ltb}
+use Rattle.job.proofs.Test.{lt-ltb, le-not-ltb}
 use Rattle.reader.specs.Fault.{unless, expressionFault}
 use Rattle.reader.proofs.Row.{is-expression, no-expression, is-binder, no-binder}
 

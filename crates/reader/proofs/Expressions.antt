@@ -6,12 +6,12 @@ use native.Mathlib.Omega.{arith}
 use native.Mathlib.Decide.{decLt}
 use native.Mathlib.Numerals.{add-one}
 use lib.ListN.{length, getD, take, drop}
-use Rattle.model.specs.Number.{number}
-use Rattle.model.specs.Job.Syntax.{Param, Join, par, seq, prune, Exp, site, call, join, levels, scopeLeft, scopeRight}
-use Rattle.model.specs.Job.Entry.{Entry, entry, entries, low, high, kindOf}
-use Rattle.model.specs.Job.Read.{Got, Read, got, refused, _>>=_, gives, entryAt, readParams, readCall, readJoin, readExp}
-use Rattle.model.specs.Job.Construct.{own, size}
-use Rattle.model.proofs.Job.Position.{entries-end, entries-at, exp-from}
+use Rattle.job.specs.Number.{number}
+use Rattle.job.specs.Syntax.{Param, Join, par, seq, prune, Exp, site, call, join, levels, scopeLeft, scopeRight}
+use Rattle.job.specs.Entry.{Entry, entry, entries, low, high, kindOf}
+use Rattle.job.specs.Read.{Got, Read, got, refused, _>>=_, gives, entryAt, readParams, readCall, readJoin, readExp}
+use Rattle.job.specs.Construct.{own, size}
+use Rattle.job.proofs.Position.{entries-end, entries-at, exp-from}
 use Rattle.reader.specs.Checked.{entriesFrom, checked, checkedParams, checkedExp, more}
 use Rattle.reader.specs.Fault.{expressionFault}
 use Rattle.reader.specs.Join.{either, joinOf, JoinHolds}

@@ -5,11 +5,11 @@ use mathlib.Core.List.{List, [], _∷_}
 use Prim.Native.Nat.{ℕ, zero, suc, _+_, _*_, _-_, _<_, _≤_}
 use native.Mathlib.Omega.{arith}
 use lib.ListN.{length, drop}
-use Rattle.model.specs.Job.Syntax.{Param, Join, par, seq, prune, Exp, stop, site, call, scopeLeft, scopeRight}
-use Rattle.model.specs.Job.Entry.{Entry, entries, low, high, Kind, kindOf}
-use Rattle.model.specs.Job.Read.{Got, Read, got, refused, _>>=_, need, entryAt, readParams, readCall, readJoin, readExp}
-use Rattle.model.specs.Job.Construct.{own, size}
-use Rattle.model.proofs.Job.Position.{entries-length, entry-from, params-from, exp-from}
+use Rattle.job.specs.Syntax.{Param, Join, par, seq, prune, Exp, stop, site, call, scopeLeft, scopeRight}
+use Rattle.job.specs.Entry.{Entry, entries, low, high, Kind, kindOf}
+use Rattle.job.specs.Read.{Got, Read, got, refused, _>>=_, need, entryAt, readParams, readCall, readJoin, readExp}
+use Rattle.job.specs.Construct.{own, size}
+use Rattle.job.proofs.Position.{entries-length, entry-from, params-from, exp-from}
 use Rattle.reader.specs.Checked.{entriesFrom, checkedExp, nodesOf}
 use Rattle.reader.specs.declared.checked.Checked.{Checked}
 use Rattle.reader.specs.declared.checked.Checked.the-variants.{Next, Refused}

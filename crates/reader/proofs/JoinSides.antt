@@ -3,9 +3,9 @@ use mathlib.Core.Path.{_≡_}
 use Prim.Native.Nat.{ℕ, _+_}
 use native.Mathlib.Omega.{arith}
 use native.Mathlib.Numerals.{add-one}
-use Rattle.model.specs.Job.Syntax.{par, seq, prune, levels, scopeLeft, scopeRight}
-use Rattle.model.specs.Job.Construct.{own}
-use Rattle.model.proofs.Test.{eq-eqb, ne-eqb}
+use Rattle.job.specs.Syntax.{par, seq, prune, levels, scopeLeft, scopeRight}
+use Rattle.job.specs.Construct.{own}
+use Rattle.job.proofs.Test.{eq-eqb, ne-eqb}
 use Rattle.reader.specs.Join.{either, joinOf, JoinHolds}
 
 module _ (k s : ℕ) where

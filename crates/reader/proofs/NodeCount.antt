@@ -4,8 +4,8 @@ use mathlib.Core.List.{List, [], _∷_}
 use Prim.Native.Nat.{ℕ, suc, _+_}
 use native.Mathlib.Omega.{arith}
 use lib.ListN.{length, length-append}
-use Rattle.model.specs.Job.Syntax.{Join, par, seq, prune, Exp, stop, site, call, join, Definition, Program}
-use Rattle.model.specs.Job.Construct.{own, size, firstLeft, firstRight, root, ownNodes, nextLeft, nextRight, nodesOf, constructFrom, construct}
+use Rattle.job.specs.Syntax.{Join, par, seq, prune, Exp, stop, site, call, join, Definition, Program}
+use Rattle.job.specs.Construct.{own, size, firstLeft, firstRight, root, ownNodes, nextLeft, nextRight, nodesOf, constructFrom, construct}
 use Rattle.reader.specs.Definitions.{definitionsNodes}
 
 own-length : (j : Join) (l r k : ℕ) → length (ownNodes j l r k) ≡ own j

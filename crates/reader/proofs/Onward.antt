@@ -2,7 +2,7 @@
 -- begins behind it. Assumes nothing.
 use mathlib.Core.Path.{_≡_, refl, sym}
 use Prim.Native.Nat.{ℕ}
-use Rattle.model.specs.Job.Read.{Got, Read, got, refused, _>>=_, gives}
+use Rattle.job.specs.Read.{Got, Read, got, refused, _>>=_, gives}
 use Rattle.reader.specs.Checked.{checked}
 use Rattle.reader.specs.declared.checked.Checked.the-variants.{Next, Refused}
 use Rattle.reader.proofs.Answer.{clash}

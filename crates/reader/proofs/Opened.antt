@@ -8,11 +8,11 @@ use native.Mathlib.Omega.{arith}
 use native.Mathlib.Decide.{decLt}
 use lib.ListN.{length}
 use lib.Dec.{ltb}
-use Rattle.model.specs.Test.{_or_}
-use Rattle.model.specs.Job.Syntax.{par, seq, prune, Exp, stop, site, call, levels}
-use Rattle.model.specs.Job.Entry.{Entry, entry, low, high, Kind, kindOf, isExpression, rowHolds, isBinder}
-use Rattle.model.specs.Job.Read.{Read, refused, _>>=_, gives, need, entryAt, readCall, readJoin, readExp}
-use Rattle.model.proofs.Test.{clash, ltb-lt}
+use Rattle.job.specs.Test.{_or_}
+use Rattle.job.specs.Syntax.{par, seq, prune, Exp, stop, site, call, levels}
+use Rattle.job.specs.Entry.{Entry, entry, low, high, Kind, kindOf, isExpression, rowHolds, isBinder}
+use Rattle.job.specs.Read.{Read, refused, _>>=_, gives, need, entryAt, readCall, readJoin, readExp}
+use Rattle.job.proofs.Test.{clash, ltb-lt}
 use Rattle.reader.specs.Fault.{unless, expressionFault}
 use Rattle.reader.proofs.Scope.{levels-length}
 use Rattle.reader.proofs.Row.{no-expression, is-binder}

@@ -5,11 +5,11 @@ use Prim.Native.Nat.{ℕ, suc, _+_, _*_, _-_, _<_, _≤_}
 use native.Mathlib.Omega.{arith}
 use native.Mathlib.Numerals.{add-one}
 use lib.ListN.{length, getD, take, drop}
-use Rattle.model.specs.Number.{number}
-use Rattle.model.specs.Job.Syntax.{Param, levels}
-use Rattle.model.specs.Job.Entry.{Entry, entry, entries, kindOf}
-use Rattle.model.specs.Job.Read.{Got, Read, got, refused, _>>=_, gives, need, entryAt, readParam, readParams}
-use Rattle.model.proofs.Job.Position.{entries-end, entries-at, param-from}
+use Rattle.job.specs.Number.{number}
+use Rattle.job.specs.Syntax.{Param, levels}
+use Rattle.job.specs.Entry.{Entry, entry, entries, kindOf}
+use Rattle.job.specs.Read.{Got, Read, got, refused, _>>=_, gives, need, entryAt, readParam, readParams}
+use Rattle.job.proofs.Position.{entries-end, entries-at, param-from}
 use Rattle.reader.specs.Checked.{entriesFrom, checked, checkedParam, checkedParams, nodesOf}
 use Rattle.reader.specs.declared.checked.Checked.{Checked}
 use Rattle.reader.specs.declared.checked.Checked.the-variants.{Next, Refused}

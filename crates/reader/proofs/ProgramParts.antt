@@ -5,10 +5,10 @@ use mathlib.Core.List.{List, [], _∷_}
 use Prim.Native.Nat.{ℕ, zero, suc, _+_, _*_, _≤_}
 use native.Mathlib.Omega.{arith}
 use lib.ListN.{length}
-use Rattle.model.specs.Job.Syntax.{Exp, Definition, Program, formalsOf}
-use Rattle.model.specs.Job.Entry.{Entry}
-use Rattle.model.specs.Job.Read.{Got, Read, got, refused, _>>=_, gives, readExp, readDefinition, readProgram, leftovers, definitionsHold, readEntries}
-use Rattle.model.proofs.Job.Position.{bind-got}
+use Rattle.job.specs.Syntax.{Exp, Definition, Program, formalsOf}
+use Rattle.job.specs.Entry.{Entry}
+use Rattle.job.specs.Read.{Got, Read, got, refused, _>>=_, gives, readExp, readDefinition, readProgram, leftovers, definitionsHold, readEntries}
+use Rattle.job.proofs.Position.{bind-got}
 use Rattle.reader.specs.Checked.{entriesFrom}
 use Rattle.reader.specs.Definitions.{readDefinitions, definitionsNodes}
 use Rattle.reader.proofs.DefinitionLoop.{Defined, defined}

@@ -4,11 +4,11 @@ use mathlib.Core.List.{List, []}
 use Prim.Native.Nat.{ℕ, _+_, _<_, _≤_}
 use native.Mathlib.Omega.{arith}
 use lib.ListN.{length, take}
-use Rattle.model.specs.Job.Syntax.{Definition, Program, formalsOf, levels}
-use Rattle.model.specs.Job.Entry.{Entry, entries}
-use Rattle.model.specs.Job.Read.{Got, Read, got, refused, _>>=_, need, readExp, leftovers, definitionsHold, readEntries}
-use Rattle.model.specs.Job.Construct.{size, construct}
-use Rattle.model.proofs.Job.Position.{entries-end, entries-at, exp-from}
+use Rattle.job.specs.Syntax.{Definition, Program, formalsOf, levels}
+use Rattle.job.specs.Entry.{Entry, entries}
+use Rattle.job.specs.Read.{Got, Read, got, refused, _>>=_, need, readExp, leftovers, definitionsHold, readEntries}
+use Rattle.job.specs.Construct.{size, construct}
+use Rattle.job.proofs.Position.{entries-end, entries-at, exp-from}
 use Rattle.reader.specs.Checked.{entriesFrom, checked, checkedTest, checkedExp, checkedProgram, afterwards}
 use Rattle.reader.specs.Definitions.{readDefinitions, definitionsNodes, formalsRead, DefinitionsHold}
 use Rattle.reader.specs.declared.checked.Checked.{Checked}

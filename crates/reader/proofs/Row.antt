@@ -5,8 +5,8 @@ use mathlib.Core.Bool.{true, false}
 use Prim.Native.Nat.{ℕ, zero, suc, _<_, _≤_}
 use native.Mathlib.Omega.{arith}
 use lib.Dec.{eqb, leb}
-use Rattle.model.specs.Site.{siteTakes}
-use Rattle.model.specs.Job.Entry.{low, high, kindOf, isExpression, rowHolds, isBinder}
+use Rattle.job.specs.Site.{siteTakes}
+use Rattle.job.specs.Entry.{low, high, kindOf, isExpression, rowHolds, isBinder}
 
 -- what holds of 0 to 8, the known kinds, and of every number from 9 on holds of every number
 pub by-kind : (P : ℕ → Type 0) → P 0 → P 1 → P 2 → P 3 → P 4 → P 5 → P 6 → P 7 → P 8

@@ -6,9 +6,9 @@ use native.Mathlib.Omega.{arith}
 use native.Mathlib.Decide.{decLt}
 use lib.ListN.{length}
 use lib.Dec.{eqb}
-use Rattle.model.specs.Test.{_or_, any}
-use Rattle.model.specs.Job.Syntax.{levels}
-use Rattle.model.proofs.Test.{eq-eqb, ne-eqb, or-left, or-right}
+use Rattle.job.specs.Test.{_or_, any}
+use Rattle.job.specs.Syntax.{levels}
+use Rattle.job.proofs.Test.{eq-eqb, ne-eqb, or-left, or-right}
 
 pub levels-length : (n : ℕ) → length (levels n) ≡ n
 unfolding levels

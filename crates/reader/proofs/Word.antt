@@ -6,7 +6,7 @@ use native.Mathlib.Omega.{arith}
 use native.Mathlib.Numerals.{add-one, add-two, add-three}
 use lib.ListN.{length, getD, take, drop}
 use lib.Seq.{drop-cons}
-use Rattle.model.specs.Number.{number}
+use Rattle.job.specs.Number.{number}
 
 pub number-at : (s : List ℕ) (i r : ℕ) → i + 4 ≤ length s
     → r ≡ getD s i 0 + 256 * (getD s (i + 1) 0 + 256 * (getD s (i + 2) 0 + 256 * getD s (i + 3) 0)) → r ≡ number (take 4 (drop i s))

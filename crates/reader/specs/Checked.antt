@@ -3,10 +3,10 @@ use mathlib.Core.Path.{_≡_}
 use mathlib.Core.List.{List}
 use Prim.Native.Nat.{ℕ, _+_, _*_, _≤_}
 use lib.ListN.{length, drop}
-use Rattle.model.specs.Job.Syntax.{Param, Exp, Program}
-use Rattle.model.specs.Job.Entry.{Entry, entries}
-use Rattle.model.specs.Job.Read.{Read, got, refused}
-use Rattle.model.specs.Job.Construct.{size, construct}
+use Rattle.job.specs.Syntax.{Param, Exp, Program}
+use Rattle.job.specs.Entry.{Entry, entries}
+use Rattle.job.specs.Read.{Read, got, refused}
+use Rattle.job.specs.Construct.{size, construct}
 use Rattle.reader.specs.declared.checked.Checked.{Checked}
 use Rattle.reader.specs.declared.checked.Checked.the-variants.{Next, Refused}
 

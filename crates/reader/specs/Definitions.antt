@@ -3,10 +3,10 @@ use mathlib.Core.Path.{_≡_}
 use mathlib.Core.List.{List, [], _∷_}
 use Prim.Native.Nat.{ℕ, zero, suc, _+_}
 use lib.ListN.{length, take}
-use Rattle.model.specs.Job.Syntax.{Definition, formalsOf}
-use Rattle.model.specs.Job.Entry.{Entry}
-use Rattle.model.specs.Job.Read.{Read, got, refused, _>>=_, gives, readDefinition}
-use Rattle.model.specs.Job.Construct.{size}
+use Rattle.job.specs.Syntax.{Definition, formalsOf}
+use Rattle.job.specs.Entry.{Entry}
+use Rattle.job.specs.Read.{Read, got, refused, _>>=_, gives, readDefinition}
+use Rattle.job.specs.Construct.{size}
 use Rattle.reader.specs.Checked.{checked}
 use Rattle.reader.specs.declared.checked.Checked.{Checked}
 use Rattle.reader.specs.declared.definition.Definitions.{Definitions}

@@ -2,8 +2,8 @@
 use mathlib.Core.Bool.{Bool, true, false, not}
 use Prim.Native.Nat.{ℕ, zero, suc}
 use lib.Dec.{ltb}
-use Rattle.model.specs.Test.{_or_}
-use Rattle.model.specs.Job.Entry.{Kind, isExpression, rowHolds, isBinder}
+use Rattle.job.specs.Test.{_or_}
+use Rattle.job.specs.Entry.{Kind, isExpression, rowHolds, isBinder}
 
 -- this number, unless the test holds
 unfoldable pub unless : Bool → ℕ → ℕ → ℕ

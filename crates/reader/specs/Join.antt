@@ -3,8 +3,8 @@ use mathlib.Core.Path.{_≡_}
 use mathlib.Core.Bool.{Bool, true, false}
 use Prim.Native.Nat.{ℕ}
 use lib.Dec.{eqb}
-use Rattle.model.specs.Job.Syntax.{Join, par, seq, prune, levels, scopeLeft, scopeRight}
-use Rattle.model.specs.Job.Construct.{own}
+use Rattle.job.specs.Syntax.{Join, par, seq, prune, levels, scopeLeft, scopeRight}
+use Rattle.job.specs.Construct.{own}
 use Rattle.reader.specs.declared.expression.Sides.{Sides}
 
 unfoldable pub either : {A : Type 0} → Bool → A → A → A

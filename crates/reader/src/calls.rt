@@ -4,8 +4,8 @@ use crate::entry;
 ghost use mathlib.Core.Path.{_≡_};
 ghost use Prim.Native.Nat.{_≤_};
 ghost use lib.ListN.{take};
-ghost use Rattle.model.specs.Job.Entry.{entry, entries};
-ghost use Rattle.model.specs.Job.Read.{callHolds, definitionsHold};
+ghost use Rattle.job.specs.Entry.{entry, entries};
+ghost use Rattle.job.specs.Read.{callHolds, definitionsHold};
 ghost use Rattle.reader.specs.Checked.{Parts, checkedTest};
 
 // May an entry of this kind and operand stand beside `count` definitions with these counts of formals?

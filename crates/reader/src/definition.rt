@@ -5,8 +5,8 @@ use crate::entry;
 use crate::expression;
 ghost use mathlib.Core.Path.{_≡_};
 ghost use Prim.Native.Nat.{_≤_};
-ghost use Rattle.model.specs.Job.Entry.{entries};
-ghost use Rattle.model.specs.Job.Read.{readDefinition};
+ghost use Rattle.job.specs.Entry.{entries};
+ghost use Rattle.job.specs.Read.{readDefinition};
 ghost use Rattle.reader.specs.Checked.{Parts, entriesFrom};
 ghost use Rattle.reader.specs.Definitions.{checkedDefinition, readDefinitions, DefinitionsHold};
 

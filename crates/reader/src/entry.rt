@@ -1,10 +1,10 @@
 // One entry: its operand, its row, and what refuses it where an expression is read.
-use model::sites;
+use job::sites;
 ghost use mathlib.Core.Path.{_≡_};
 ghost use Prim.Native.Nat.{_+_, _*_, _<_, _≤_};
 ghost use lib.ListN.{length, take, drop};
-ghost use Rattle.model.specs.Number.{number};
-ghost use Rattle.model.specs.Job.Entry.{kindOf, rowHolds};
+ghost use Rattle.job.specs.Number.{number};
+ghost use Rattle.job.specs.Entry.{kindOf, rowHolds};
 ghost use Rattle.reader.specs.Fault.{expressionFault};
 
 // Four bytes, the lowest first.

@@ -5,8 +5,8 @@ use crate::entry;
 use crate::parameter;
 ghost use mathlib.Core.Path.{_≡_};
 ghost use Prim.Native.Nat.{_≤_};
-ghost use Rattle.model.specs.Job.Syntax.{levels};
-ghost use Rattle.model.specs.Job.Read.{readExp};
+ghost use Rattle.job.specs.Syntax.{levels};
+ghost use Rattle.job.specs.Read.{readExp};
 ghost use Rattle.reader.specs.Checked.{Parts, entriesFrom, checkedExp};
 ghost use Rattle.reader.specs.Join.{JoinHolds};
 

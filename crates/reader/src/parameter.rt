@@ -2,8 +2,8 @@
 use crate::checked::Checked;
 use crate::entry;
 ghost use mathlib.Core.Path.{_≡_};
-ghost use Rattle.model.specs.Job.Syntax.{levels};
-ghost use Rattle.model.specs.Job.Read.{readParam, readParams};
+ghost use Rattle.job.specs.Syntax.{levels};
+ghost use Rattle.job.specs.Read.{readParam, readParams};
 ghost use Rattle.reader.specs.Checked.{Parts, entriesFrom, checkedParam, checkedParams};
 
 // The parameter at entry `at`, where so many variables are in scope.

@@ -6,8 +6,8 @@ use crate::definition;
 use crate::expression;
 ghost use mathlib.Core.Path.{_≡_};
 ghost use Prim.Native.Nat.{_≤_};
-ghost use Rattle.model.specs.Job.Entry.{entries};
-ghost use Rattle.model.specs.Job.Read.{leftovers, readEntries};
+ghost use Rattle.job.specs.Entry.{entries};
+ghost use Rattle.job.specs.Read.{leftovers, readEntries};
 ghost use Rattle.reader.specs.Checked.{Parts, entriesFrom, checkedTest, checkedProgram};
 
 // Does the table end at entry `at`?

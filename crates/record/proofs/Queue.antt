@@ -6,7 +6,7 @@ use Prim.Native.Nat.{ℕ, _+_, _-_, _<_, _≤_}
 use native.Mathlib.Omega.{arith}
 use lib.ListN.{length, getD, set, take, drop, replicate, length-append}
 use lib.Seq.{drop-append-seam}
-use Rattle.model.specs.Test.{padded, without}
+use Rattle.job.specs.Test.{padded, without}
 use Rattle.model.specs.Machine.Step.{withOrders, queueOf, waitsOf, enqueue}
 use Rattle.model.specs.declared.record.Machine.{Machine}
 use Rattle.record.specs.Fields.{taken, delayed}

@@ -8,7 +8,7 @@ use native.Mathlib.Numerals.{add-one}
 use native.Mathlib.Omega.{arith}
 use lib.ListN.{length, getD, set, take, drop, replicate, length-append, length-set}
 use lib.Seq.{take-suc, drop-cons, length-take-le, getD-at, set-at, set-append-left}
-use Rattle.model.specs.Test.{filter, padded}
+use Rattle.job.specs.Test.{filter, padded}
 use Rattle.record.specs.Retaining.{markedOf, Retained}
 use Rattle.record.proofs.Names.{put-behind}
 use Rattle.record.proofs.Shape.{padded-long}

@@ -8,15 +8,15 @@ use native.Mathlib.Omega.{arith}
 use lib.Dec.{eqb}
 use lib.ListN.{length, take, drop, replicate, length-drop}
 use lib.Seq.{length-take-le}
-use Rattle.model.specs.Test.{_and_, all, padded}
-use Rattle.model.specs.Job.Node.{Dag}
+use Rattle.job.specs.Test.{_and_, all, padded}
+use Rattle.job.specs.Node.{Dag}
 use Rattle.model.specs.Machine.Limits.{Limits}
 use Rattle.model.specs.Machine.Rules.{isReady, isWaiting, namesOnce, rulesHold}
 use Rattle.model.specs.Machine.Step.{queueOf, waitsOf}
 use Rattle.model.specs.declared.token.State.{State}
 use Rattle.model.specs.declared.token.Token.{Token}
 use Rattle.model.specs.declared.record.Machine.{Machine}
-use Rattle.model.proofs.Test.{and-left, and-right, eqb-eq}
+use Rattle.job.proofs.Test.{and-left, and-right, eqb-eq}
 use Rattle.model.proofs.Machine.Rules.{rules-kept, NamesOnce, names-once}
 use Rattle.record.specs.Holds.{Codes, Ordered, Holds}
 use Rattle.record.proofs.Names.{padded-front}

@@ -2,7 +2,7 @@
 use mathlib.Core.List.{List, [], _∷_, _++_}
 use Prim.Native.Nat.{ℕ}
 use lib.ListN.{set}
-use Rattle.model.specs.Test.{without}
+use Rattle.job.specs.Test.{without}
 use Rattle.model.specs.Machine.Step.{withTables, withOrders, queueOf, waitsOf}
 use Rattle.model.specs.declared.token.Bind.{Bind}
 use Rattle.model.specs.declared.token.Held.{Held}

@@ -3,7 +3,7 @@ use mathlib.Core.Path.{_≡_}
 use mathlib.Core.List.{List}
 use Prim.Native.Nat.{ℕ}
 use lib.ListN.{length}
-use Rattle.model.specs.Test.{padded}
+use Rattle.job.specs.Test.{padded}
 use Rattle.model.specs.Machine.Blank.{tokenAt}
 use Rattle.model.specs.Machine.Step.{queueOf, waitsOf}
 use Rattle.model.specs.declared.record.Machine.{Machine}

@@ -4,7 +4,7 @@ use mathlib.Core.Bool.{Bool, false}
 use mathlib.Core.List.{List}
 use Prim.Native.Nat.{ℕ, _-_, _≤_}
 use lib.ListN.{length, getD, take, drop, replicate}
-use Rattle.model.specs.Test.{padded, filter}
+use Rattle.job.specs.Test.{padded, filter}
 
 -- those of some names whose place is marked
 abbrev pub markedOf : List Bool → List ℕ → List ℕ

@@ -15,7 +15,7 @@
 -- 2 cell) and the value or the cell's place. A cell: parent (place + 1, 0 for none); 1 if it is set, else 0; its value; 0. A value is its 32 bits.
 use mathlib.Core.List.{List, [], _∷_, _++_}
 use Prim.Native.Nat.{ℕ, _+_, _*_}
-use Rattle.model.specs.Number.{unsigned}
+use Rattle.job.specs.Number.{unsigned}
 use Rattle.model.specs.Machine.Blank.{slotAt}
 use Rattle.model.specs.declared.token.Slot.{Slot}
 use Rattle.model.specs.declared.token.Slot.the-variants as slots

@@ -3,7 +3,7 @@ ghost use mathlib.Core.Path.{_≡_};
 ghost use mathlib.Core.Bool.{false};
 ghost use Prim.Native.Nat.{ℕ, _<_, _≤_, _-_};
 ghost use lib.ListN.{length, getD, take, drop, replicate};
-ghost use Rattle.model.specs.Test.{padded, without, filter};
+ghost use Rattle.job.specs.Test.{padded, without, filter};
 ghost use Rattle.model.specs.Machine.Step.{enqueue, withOrders, queueOf, waitsOf};
 ghost use Rattle.model.specs.declared.record.Machine.{Machine};
 ghost use Rattle.record.specs.Holds.{Codes, Holds};
@@ -13,14 +13,8 @@ use crate::layout::QUEUE;
 use crate::layout::QUEUED;
 use crate::layout::WAITING;
 use crate::layout::WAITS;
+use job::wide::wide;
 use model::record::Machine;
-
-// A word as an index.
-fn wide(word: u32) -> usize
-    ensures { λ r. ⌜ r ≡ word ⌝ }
-{
-    word as usize
-}
 
 pub fn queued(w: &[u32; Machine::WORDS]) -> u32
     ensures { λ r. ⌜ ((m : Machine) → Codes (now (w .entry)) m → r ≡ m .queued) ⌝ }

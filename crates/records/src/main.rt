@@ -12,11 +12,11 @@ use crate::row::read_row;
 use crate::row::signed;
 use crate::show::number;
 use crate::show::put;
+use job::dag::WORDS;
 use libc::STDIN_FILENO;
 use machine::answer::answer;
 use machine::start::start;
 use machine::step::step;
-use model::dag::WORDS;
 use model::record::Machine;
 use model::reply::Report;
 

@@ -7,17 +7,17 @@ use native.Mathlib.Omega.{arith}
 use lib.IntN.{ℤ}
 use lib.ListN.{getD, drop}
 use Rattle.model.specs.declared.token.Slot.the-variants as slots
-use Rattle.model.specs.Number.{signed, fits}
+use Rattle.job.specs.Number.{signed, fits}
 use Rattle.model.specs.Machine.Blank.{empty, blankToken, blankCell, tokenAt, cellAt, slotAt}
 use Rattle.model.specs.Machine.Rules.{heldInRange}
 use Rattle.model.specs.declared.token.Slot.{Slot}
 use Rattle.model.specs.declared.token.Token.{Token}
 use Rattle.model.specs.declared.cell.Cell.{Cell}
-use Rattle.model.proofs.Number.{signed-fits}
+use Rattle.job.proofs.Number.{signed-fits}
 use Rattle.record.specs.Decode.{machineOf, tokenFrom, cellFrom, bindsFrom, heldFrom, slotFrom}
 use Rattle.record.specs.Holds.{Codes}
 use Rattle.coded.proofs.Coding.{table-all}
-use Rattle.rules.specs.Decoded.{Decoded}
+use Rattle.row_rules.specs.Decoded.{Decoded}
 
 held-fits : (k n : ℕ) → heldInRange (heldFrom k n) ≡ true
 unfolding heldInRange heldFrom

@@ -9,12 +9,12 @@ use lib.ListN.{length, getD, take, set}
 use lib.Seq.{take-suc, take-suc-set, take-set-le}
 use lib.Dec.{eqb}
 use Rattle.model.specs.declared.token.State.the-variants as states
-use Rattle.model.specs.Test.{_and_, _or_, all, any, differ}
+use Rattle.job.specs.Test.{_and_, _or_, all, any, differ}
 use Rattle.model.specs.Machine.Rules.{handleOf, openHandles}
 use Rattle.model.specs.declared.token.State.{State}
 use Rattle.model.specs.declared.token.Token.{Token}
 use Rattle.record.specs.Words.{stateKind, stateNumber}
-use Rattle.coded.proofs.Both.{both, regroup}
+use Rattle.job.proofs.Both.{both, regroup}
 
 handles-more : (ts : List Token) (i : ℕ) (d : Token) → i < length ts
     → openHandles (take (suc i) ts) ≡ openHandles (take i ts) ++ handleOf (getD ts i d .state)

@@ -1,9 +1,5 @@
--- The laws of this crate; beside them stand the proofs of its functions.
-pub mod Fields
-pub mod Blanks
-pub mod Chains
+-- Laws of the tests of a whole record; beside them stand the proofs of its functions.
 pub mod Gathered
-pub mod Nodes
 pub mod Orders
 pub mod Rest
 pub mod Tokens

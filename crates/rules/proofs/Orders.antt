@@ -10,15 +10,15 @@ use native.Mathlib.Omega.{arith}
 use lib.ListN.{length, getD, take, drop, set, replicate, length-drop, length-replicate, getD-replicate, List·getD-eq-default}
 use lib.Seq.{getD-set-same, getD-set-other, getD-drop, length-take-le, getD-take}
 use lib.Dec.{ltb, eqb}
-use Rattle.model.specs.Test.{_and_, all, allFrom, count, once}
+use Rattle.job.specs.Test.{_and_, all, allFrom, count, once}
 use Rattle.model.specs.Machine.Rules.{namesOnce}
 use Rattle.model.specs.declared.token.State.{State}
 use Rattle.model.specs.declared.token.Token.{Token}
-use Rattle.model.proofs.Test.{all-at, all-from, false-of, ltb-lt, lt-ltb, eq-eqb, ne-eqb, le-leb, lt-not-leb}
+use Rattle.job.proofs.Test.{all-at, all-from, false-of, ltb-lt, lt-ltb, eq-eqb, ne-eqb, le-leb, lt-not-leb}
 use Rattle.record.specs.Words.{stateKind}
-use Rattle.coded.proofs.Both.{both, and-true, and-assoc}
-use Rattle.coded.proofs.Loop.{all-turn}
-use Rattle.rules.specs.Rules.{NamesAt}
+use Rattle.job.proofs.Both.{both, and-true, and-assoc}
+use Rattle.job.proofs.Loop.{all-turn}
+use Rattle.row_rules.specs.Rules.{NamesAt}
 
 -- counts
 pub count-most : (p : ℕ) (xs : List ℕ) → count p xs ≤ length xs

@@ -4,8 +4,8 @@ use mathlib.Core.Bool.{Bool, true, false, _&&_}
 use mathlib.Core.List.{List}
 use lib.ListN.{length}
 use lib.Dec.{ltb, leb}
-use Rattle.model.specs.Test.{_and_, all, differ}
-use Rattle.model.specs.Job.Node.{Dag, dagHolds}
+use Rattle.job.specs.Test.{_and_, all, differ}
+use Rattle.job.specs.Node.{Dag, dagHolds}
 use Rattle.model.specs.Machine.Limits.{paper}
 use Rattle.model.specs.Machine.Blank.{tokenIsBlank, cellIsBlank}
 use Rattle.model.specs.Machine.InUse.{tokensUsed, cellsUsed}
@@ -14,11 +14,11 @@ use Rattle.model.specs.Machine.Rules.{namesOnce, chainEnds, chainsEnd, notUnder
 use Rattle.model.specs.declared.token.Token.{Token}
 use Rattle.model.specs.declared.cell.Cell.{Cell}
 use Rattle.model.specs.declared.record.Machine.{Machine}
-use Rattle.model.proofs.Test.{and-left, and-right, and-both}
+use Rattle.job.proofs.Test.{and-left, and-right, and-both}
 use Rattle.model.proofs.Machine.InUse.{tokens-used, cells-used}
-use Rattle.coded.proofs.Lists.{same-when}
-use Rattle.coded.proofs.Both.{both, three}
-use Rattle.rules.specs.Rules.{tokenRule, cellRule}
+use Rattle.job.proofs.Lists.{same-when}
+use Rattle.job.proofs.Both.{both, three}
+use Rattle.row_rules.specs.Rules.{tokenRule, cellRule}
 use Rattle.rules.proofs.Rest.{all-both}
 
 -- twelve tests, in the code's order and in the sentence's

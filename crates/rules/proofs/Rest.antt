@@ -7,10 +7,10 @@ use native.Mathlib.Numerals.{add-one}
 use native.Mathlib.Omega.{arith}
 use lib.ListN.{length, getD, take}
 use lib.Seq.{take-all}
-use Rattle.model.specs.Test.{_and_, all}
+use Rattle.job.specs.Test.{_and_, all}
 use Rattle.model.specs.Machine.Rules.{restIsBlank}
-use Rattle.coded.proofs.Both.{both, and-true, and-false, and-assoc, regroup}
-use Rattle.coded.proofs.Loop.{all-more}
+use Rattle.job.proofs.Both.{both, and-true, and-false, and-assoc, regroup}
+use Rattle.job.proofs.Loop.{all-more}
 
 rest-more : {A : Type 0} (blank : A → Bool) (marks : List Bool) (xs : List A) (i : ℕ) (d : A) → i < length marks → i < length xs
     → restIsBlank blank marks (take (suc i) xs) ≡ (restIsBlank blank marks (take i xs) and (getD marks i false || blank (getD xs i d)))

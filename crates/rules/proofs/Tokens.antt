@@ -10,8 +10,8 @@ use Rattle.model.specs.declared.token.Slot.the-variants as slots
 use Rattle.model.specs.declared.token.Held.the-variants as helds
 use Rattle.model.specs.declared.token.Place.the-variants as places
 use Rattle.model.specs.declared.token.State.the-variants as states
-use Rattle.model.specs.Test.{_and_, all}
-use Rattle.model.specs.Job.Node.{Dag, isNode, dagHolds}
+use Rattle.job.specs.Test.{_and_, all}
+use Rattle.job.specs.Node.{Dag, isNode, dagHolds}
 use Rattle.model.specs.Machine.Limits.{paper}
 use Rattle.model.specs.Machine.Blank.{isBound, hasValue, isPlace, isBlankState, tokenIsBlank, cellIsBlank}
 use Rattle.model.specs.Machine.Active.{isLive}
@@ -25,10 +25,10 @@ use Rattle.model.specs.declared.token.State.{State}
 use Rattle.model.specs.declared.token.Token.{Token}
 use Rattle.model.specs.declared.cell.Cell.{Cell}
 use Rattle.model.specs.declared.record.Machine.{Machine}
-use Rattle.model.proofs.Test.{clash, and-left, and-right, and-both, eqb-eq, ltb-lt, lt-ltb, le-not-ltb}
-use Rattle.coded.proofs.Both.{and-true}
-use Rattle.rules.specs.Rules.{tokenRule, cellRule}
-use Rattle.rules.proofs.Chains.{ends-nowhere}
+use Rattle.job.proofs.Test.{clash, and-left, and-right, and-both, eqb-eq, ltb-lt, lt-ltb, le-not-ltb}
+use Rattle.job.proofs.Both.{and-true}
+use Rattle.row_rules.specs.Rules.{tokenRule, cellRule}
+use Rattle.row_rules.proofs.Chains.{ends-nowhere}
 
 -- fields that hold nothing are in range
 slot-blank : (s : Slot) → not (isBound s) ≡ true → slotInRange 32 s ≡ true

@@ -1,10 +1,5 @@
-// The index rules, tested on any words and any dag words. What they say is in crate `model`, which word stands where in crate `record`;
-// crate `coded` tests the dag's.
-mod blank;
-mod chain;
+// The index rules of a whole record, tested on any words and any dag words. What they say is in crate `model`, which word stands where in
+// crate `record`; crate `row_rules` tests each token and each cell, crate `dag_rules` the dag.
 mod handles;
-mod node;
 mod order;
-mod range;
 pub mod rules;
-mod wide;

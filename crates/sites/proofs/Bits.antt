@@ -9,7 +9,7 @@ use lib.Signed.{ltZ, nonNeg}
 use mir.Syntax.{w32, w64}
 use mir.Val.{SFits, Fits}
 use borrow.Author.Tests.{ltb-true}
-use Rattle.model.specs.Number.{unsigned}
+use Rattle.job.specs.Number.{unsigned}
 
 pub negative-fits : (v : ℤ) → SFits w32 v → ltZ v (pos 0) ≡ true → SFits w64 (pos 0 -ℤ v)
 negative-fits (pos n) f e = absurd (omega (arith, ltb-true n 0 e))

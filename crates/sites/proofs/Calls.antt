@@ -4,8 +4,8 @@ use mathlib.Core.List.{List, [], _∷_, _++_}
 use Prim.Native.Nat.{ℕ, zero, suc, _-_, _<_}
 use lib.ListN.{length, getD, replicate}
 use lib.IntN.{ℤ, pos}
-use Rattle.model.specs.Test.{padded}
-use Rattle.model.specs.Site.{BuiltinReply, gives, silent, at, builtin}
+use Rattle.job.specs.Test.{padded}
+use Rattle.job.specs.Site.{BuiltinReply, gives, silent, at, builtin}
 use Rattle.model.specs.Machine.Reply.{reportValues, calls}
 use Rattle.sites.specs.declared.site.SiteReply.{SiteReply}
 use Rattle.sites.specs.SiteReplies.{siteReplyOf, builtinReplyOf}

@@ -8,8 +8,8 @@ use native.Mathlib.Decide.{ℕ-discrete, decLt}
 use native.Mathlib.Omega.{arith}
 use lib.ListN.{length}
 use lib.Dec.{ltb, eqb}
-use Rattle.model.specs.Test.{all, count, once}
-use Rattle.model.proofs.Test.{all-head, all-tail, eq-eqb, ne-eqb, lt-ltb, le-not-ltb}
+use Rattle.job.specs.Test.{all, count, once}
+use Rattle.job.proofs.Test.{all-head, all-tail, eq-eqb, ne-eqb, lt-ltb, le-not-ltb}
 
 -- how often the numbers below n stand in a list, all together
 total : ℕ → List ℕ → ℕ

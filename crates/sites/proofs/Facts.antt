@@ -8,8 +8,8 @@ use native.Mathlib.Omega.{arith}
 use lib.ListN.{length, getD, take, length-append}
 use lib.Seq.{length-take-le}
 use lib.Dec.{ltb, eqb}
-use Rattle.model.specs.Test.{all, count, once}
-use Rattle.model.specs.Job.Node.{Dag, isNode}
+use Rattle.job.specs.Test.{all, count, once}
+use Rattle.job.specs.Node.{Dag, isNode}
 use Rattle.model.specs.Machine.Limits.{paper}
 use Rattle.model.specs.Machine.Blank.{blankToken, tokenAt}
 use Rattle.model.specs.Machine.Rules as rules
@@ -18,7 +18,7 @@ use Rattle.model.specs.declared.token.State.{State}
 use Rattle.model.specs.declared.token.State.the-variants as states
 use Rattle.model.specs.declared.cell.Cell.{Cell}
 use Rattle.model.specs.declared.record.Machine.{Machine}
-use Rattle.model.proofs.Test.{and-left, and-right, eqb-eq, all-at, all-head, all-tail, all-nil, all-cons, all-append}
+use Rattle.job.proofs.Test.{and-left, and-right, eqb-eq, all-at, all-head, all-tail, all-nil, all-cons, all-append}
 use Rattle.model.proofs.Machine.Rules.{RulesKept, rules-kept, NamesOnce, names-once, order-inside}
 use Rattle.sites.specs.Looking.{LookFacts}
 use Rattle.sites.proofs.Counting.{names-few, names-fewer, count-append}

@@ -11,8 +11,8 @@ use lib.ListN.{length, getD, drop, drop-of-length-le, List·getD-eq-default}
 use lib.Seq.{drop-cons}
 use lib.Dec.{eqb}
 use lib.IntN.{ℤ}
-use Rattle.model.specs.Test.{any, _or_}
-use Rattle.model.specs.Job.Node.{Dag}
+use Rattle.job.specs.Test.{any, _or_}
+use Rattle.job.specs.Node.{Dag}
 use Rattle.model.specs.Machine.Limits.{paper}
 use Rattle.model.specs.Machine.Blank.{blankToken, tokenAt, isPlace}
 use Rattle.model.specs.Machine.Rules.{isReady, handleOf, rulesHold}
@@ -27,7 +27,7 @@ use Rattle.model.specs.declared.token.State.the-variants as states
 use Rattle.model.specs.declared.token.Token.{Token}
 use Rattle.model.specs.declared.record.Machine.{Machine}
 use Rattle.model.specs.declared.reply.Refusal.the-variants as refusals
-use Rattle.model.proofs.Test.{clash, lt-ltb, le-not-ltb}
+use Rattle.job.proofs.Test.{clash, lt-ltb, le-not-ltb}
 use Rattle.model.proofs.Machine.Within.{holder-holds}
 use Rattle.record.specs.Holds.{Codes, Holds}
 use Rattle.record.specs.Words.{stateKind, stateNumber}

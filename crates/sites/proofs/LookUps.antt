@@ -9,11 +9,11 @@ use native.Mathlib.Omega.{arith}
 use lib.ListN.{length, getD, set, take, drop, replicate, drop-of-length-le, List·getD-eq-default}
 use lib.Seq.{take-suc-set, drop-cons, drop-set-lt}
 use lib.IntN.{ℤ, pos}
-use Rattle.model.specs.Test.{all, padded}
-use Rattle.model.specs.Number.{signed}
-use Rattle.model.specs.Job.Syntax.{Param, variable, constant}
-use Rattle.model.specs.Job.Node.{paramHolds}
-use Rattle.model.specs.Job.Words.{paramOf}
+use Rattle.job.specs.Test.{all, padded}
+use Rattle.job.specs.Number.{signed}
+use Rattle.job.specs.Syntax.{Param, variable, constant}
+use Rattle.job.specs.Node.{paramHolds}
+use Rattle.job.specs.Words.{paramOf}
 use Rattle.model.specs.Machine.Blank.{empty, isBound, blankCell, tokenAt, cellAt, slotAt}
 use Rattle.model.specs.Machine.Rules.{slotInRange, heldInRange, notEmpty}
 use Rattle.model.specs.Machine.Reply.{reportValues}
@@ -25,8 +25,8 @@ use Rattle.model.specs.declared.token.Held.the-variants as helds
 use Rattle.model.specs.declared.token.Bind.{Bind}
 use Rattle.model.specs.declared.cell.Cell.{Cell}
 use Rattle.model.specs.declared.record.Machine.{Machine}
-use Rattle.model.proofs.Number.{signed-unsigned}
-use Rattle.model.proofs.Test.{clash, ltb-lt, all-at, all-head, all-tail}
+use Rattle.job.proofs.Number.{signed-unsigned}
+use Rattle.job.proofs.Test.{clash, ltb-lt, all-at, all-head, all-tail}
 use Rattle.record.specs.Words.{slotKind, slotNumber, heldKind, heldNumber}
 use Rattle.record.proofs.Names.{padded-front, zeros-less}
 use Rattle.sites.specs.declared.look.Argument.{Argument}

@@ -7,11 +7,11 @@ use Prim.Native.Nat.{ℕ, zero, suc, _+_, _*_, _<_, _≤_}
 use native.Mathlib.Omega.{arith}
 use lib.ListN.{length, getD, take, drop}
 use lib.Seq.{drop-drop, getD-drop}
-use Rattle.model.specs.Test.{same}
-use Rattle.model.specs.Job.Node.{Node, Body, Dag, nodeAt, bodyAt, nodeHolds, bodyHolds, isNode, dagHolds}
-use Rattle.model.specs.Job.Words.{headWords, paramsFrom, nodeWords, nodeBy, nodeOf, nodesFrom, bodiesFrom, dagOf}
-use Rattle.model.proofs.Test.{clash, and-left, ltb-lt, same-eq}
-use Rattle.model.proofs.Job.Rules.{dag-rules, node-rules, body-rules}
+use Rattle.job.specs.Test.{same}
+use Rattle.job.specs.Node.{Node, Body, Dag, nodeAt, bodyAt, nodeHolds, bodyHolds, isNode, dagHolds}
+use Rattle.job.specs.Words.{headWords, paramsFrom, nodeWords, nodeBy, nodeOf, nodesFrom, bodiesFrom, dagOf}
+use Rattle.job.proofs.Test.{clash, and-left, ltb-lt, same-eq}
+use Rattle.job.proofs.Rules.{dag-rules, node-rules, body-rules}
 use Rattle.sites.specs.Row.{rowOf, rowAt, paramsAt, nodeOfKind, nodeIn}
 use Rattle.sites.proofs.Params.{row-word}
 

@@ -7,15 +7,15 @@ use native.Mathlib.Numerals.{add-one}
 use native.Mathlib.Omega.{arith}
 use lib.ListN.{length, getD, set, take, drop, length-drop, length-map}
 use lib.Seq.{take-suc, drop-cons, set-at, append-snoc, length-take-le, getD-take, getD-drop, take-all}
-use Rattle.model.specs.Number as Number
-use Rattle.model.specs.Job.Syntax.{Param, variable, constant}
-use Rattle.model.specs.Job.Node.{paramHolds}
-use Rattle.model.specs.Job.Words.{paramOf, paramsFrom}
+use Rattle.job.specs.Number as Number
+use Rattle.job.specs.Syntax.{Param, variable, constant}
+use Rattle.job.specs.Node.{paramHolds}
+use Rattle.job.specs.Words.{paramOf, paramsFrom}
 use Rattle.model.specs.Machine.Blank.{empty, unbound, slotAt}
 use Rattle.model.specs.Machine.Step.{passed, formalsBound}
 use Rattle.model.specs.declared.token.Slot.the-variants as slots
 use Rattle.model.specs.declared.token.Bind.{Bind}
-use Rattle.model.proofs.Test.{ne-eqb, ltb-lt, all-at}
+use Rattle.job.proofs.Test.{ne-eqb, ltb-lt, all-at}
 use Rattle.sites.specs.Row.{rowAt, paramsAt, ParamsHold}
 
 map-append : {A B : Type 0} (f : A → B) (xs ys : List A) → map f (xs ++ ys) ≡ map f xs ++ map f ys

@@ -8,13 +8,13 @@ use native.Mathlib.Decide.{decLt}
 use native.Mathlib.Omega.{arith}
 use lib.ListN.{length, getD, List·getD-eq-default}
 use lib.Dec.{ltb, leb, eqb}
-use Rattle.model.specs.Test.{_and_}
-use Rattle.model.specs.Site.{counts, isBuiltin, isOutside, siteTakes}
-use Rattle.model.specs.Job.Syntax.{Param}
-use Rattle.model.specs.Job.Node.{Node, Dag, nodeAt, bodyAt, nodeHolds, paramsHold, isNode}
-use Rattle.model.specs.Job.Words.{dagOf, nodeWords, nodeBy}
-use Rattle.model.proofs.Test.{clash, or-cases, and-left, and-right, ltb-lt, leb-le}
-use Rattle.model.proofs.Job.Rules.{dag-rules}
+use Rattle.job.specs.Test.{_and_}
+use Rattle.job.specs.Site.{counts, isBuiltin, isOutside, siteTakes}
+use Rattle.job.specs.Syntax.{Param}
+use Rattle.job.specs.Node.{Node, Dag, nodeAt, bodyAt, nodeHolds, paramsHold, isNode}
+use Rattle.job.specs.Words.{dagOf, nodeWords, nodeBy}
+use Rattle.job.proofs.Test.{clash, or-cases, and-left, and-right, ltb-lt, leb-le}
+use Rattle.job.proofs.Rules.{dag-rules}
 use Rattle.sites.specs.Row.{rowOf, rowAt, paramsAt, ParamsHold, nodeIn, nodeOfKind, nodesByKind}
 use Rattle.sites.specs.Row.{NodeRow}
 use Rattle.sites.proofs.Nodes.{node-of-kind, node-inside, node-read, node-rule, node-words, root-read, root-few, body-few}

@@ -11,8 +11,8 @@ use lib.Signed.{mag, ltZ}
 use mir.Syntax.{w32, w64}
 use mir.Val.{SFits, toZ, ofZ}
 use mir.Facts.{toZ-ofZ, sfits-widen}
-use Rattle.model.specs.Number.{fits, equalZ, signed}
-use Rattle.model.proofs.Test.{clash, eqb-same, eqb-eq, ne-eqb, lt-ltb, ltb-lt, le-not-ltb, not-ltb-le}
+use Rattle.job.specs.Number.{fits, equalZ, signed}
+use Rattle.job.proofs.Test.{clash, eqb-same, eqb-eq, ne-eqb, lt-ltb, ltb-lt, le-not-ltb, not-ltb-le}
 
 -- sums
 

@@ -6,9 +6,9 @@ use Prim.Native.Nat.{ℕ, zero, suc, _<_}
 use native.Mathlib.Omega.{arith}
 use lib.IntN.{ℤ, pos, _+ℤ_}
 use lib.Signed.{ltZ}
-use Rattle.model.specs.Number.{fits, equalZ}
-use Rattle.model.specs.Site as Site
-use Rattle.model.specs.Site.{BuiltinReply, gives, silent, at, builtin, zeroIf, notZero, truth}
+use Rattle.job.specs.Number.{fits, equalZ}
+use Rattle.job.specs.Site as Site
+use Rattle.job.specs.Site.{BuiltinReply, gives, silent, at, builtin, zeroIf, notZero, truth}
 
 pub sum-gives : (a b : ℤ) → fits (a +ℤ b) ≡ true → Site.sum a b ≡ gives (a +ℤ b)
 unfolding Site.sum

@@ -5,7 +5,7 @@ use mathlib.Core.List.{List}
 use Prim.Native.Nat.{ℕ}
 use lib.Dec.{ltb}
 use lib.IntN.{ℤ}
-use Rattle.model.specs.Job.Node.{Dag}
+use Rattle.job.specs.Node.{Dag}
 use Rattle.model.specs.Machine.Answer.{holder}
 use Rattle.model.specs.Machine.Blank.{isPlace, tokenAt}
 use Rattle.model.specs.Machine.Limits.{paper}

@@ -3,8 +3,8 @@ use mathlib.Core.Path.{_≡_}
 use mathlib.Core.Bool.{true}
 use mathlib.Core.List.{List, []}
 use Prim.Native.Nat.{ℕ}
-use Rattle.model.specs.Test.{all}
-use Rattle.model.specs.Job.Syntax.{Param, variable, constant}
+use Rattle.job.specs.Test.{all}
+use Rattle.job.specs.Syntax.{Param, variable, constant}
 use Rattle.model.specs.Machine.Blank.{tokenAt, cellAt, slotAt}
 use Rattle.model.specs.Machine.Rules.{slotInRange, heldInRange}
 use Rattle.model.specs.Machine.Reply.{reportValues}

@@ -4,9 +4,9 @@ use mathlib.Core.Bool.{true}
 use mathlib.Core.List.{List, [], _∷_}
 use Prim.Native.Nat.{ℕ, _+_, _*_, _<_, _≤_}
 use lib.ListN.{length, getD, take, drop}
-use Rattle.model.specs.Test.{all}
-use Rattle.model.specs.Job.Node.{Node, dagHolds, paramHolds}
-use Rattle.model.specs.Job.Syntax.{Param}
+use Rattle.job.specs.Test.{all}
+use Rattle.job.specs.Node.{Node, dagHolds, paramHolds}
+use Rattle.job.specs.Syntax.{Param}
 use Rattle.model.specs.Machine.Step.{formalsBound}
 use Rattle.model.specs.declared.token.Bind.{Bind}
 use Rattle.model.specs.declared.token.Held.the-variants as helds
@@ -14,7 +14,7 @@ use Rattle.model.specs.declared.token.Place.{Place}
 use Rattle.model.specs.declared.token.Place.the-variants as places
 use Rattle.model.specs.declared.token.State.the-variants as states
 use Rattle.model.specs.declared.token.Token.{Token}
-use Rattle.model.specs.Job.Words.{dagOf, headWords, paramsFrom}
+use Rattle.job.specs.Words.{dagOf, headWords, paramsFrom}
 
 -- where the row of a node begins
 abbrev pub rowOf : (node : ℕ) → ℕ

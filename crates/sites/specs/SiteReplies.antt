@@ -1,5 +1,5 @@
 -- What a built-in site says, as the code has it. Assumes nothing: these are definitions.
-use Rattle.model.specs.Site.{BuiltinReply, gives, silent}
+use Rattle.job.specs.Site.{BuiltinReply, gives, silent}
 use Rattle.sites.specs.declared.site.SiteReply.{SiteReply}
 use Rattle.sites.specs.declared.site.SiteReply.the-variants as replies
 

@@ -2,7 +2,7 @@
 ghost use mathlib.Core.Path.{_≡_};
 ghost use Prim.Native.Nat.{_≤_, _<_};
 ghost use lib.Dec.{eqb};
-ghost use Rattle.model.specs.Test.{any};
+ghost use Rattle.job.specs.Test.{any};
 ghost use Rattle.model.specs.Machine.Answer.{holder};
 ghost use Rattle.model.specs.Machine.Blank.{tokenAt};
 ghost use Rattle.model.specs.Machine.Rules.{handleOf};

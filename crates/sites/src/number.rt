@@ -1,12 +1,6 @@
-// A word as an index, a word as a signed number, and back.
+// A word as a signed number, and back.
 ghost use mathlib.Core.Path.{_≡_};
-ghost use Rattle.model.specs.Number as Number;
-
-pub fn wide(word: u32) -> usize
-    ensures { λ r. ⌜ r ≡ word ⌝ }
-{
-    word as usize
-}
+ghost use Rattle.job.specs.Number as Number;
 
 // "signed 32-bit"
 pub fn signed(word: u32) -> i32

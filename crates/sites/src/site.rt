@@ -3,9 +3,9 @@ ghost use mathlib.Core.Path.{_≡_};
 ghost use mathlib.Core.List.{[], _∷_};
 ghost use Prim.Native.Nat.{_<_};
 ghost use lib.Signed.{ltZ};
-ghost use Rattle.model.specs.Number.{equalZ};
-ghost use Rattle.model.specs.Site as Site;
-ghost use Rattle.model.specs.Site.{gives};
+ghost use Rattle.job.specs.Number.{equalZ};
+ghost use Rattle.job.specs.Site as Site;
+ghost use Rattle.job.specs.Site.{gives};
 ghost use Rattle.sites.specs.SiteReplies.{siteReplyOf};
 
 pub enum SiteReply {

@@ -1,10 +1,10 @@
 // Loads each table of standard input and prints what came back; of the first three also the words of the dag. A table stands behind its
 // length, 4 bytes, the lowest first; there are at most 65,536 bytes in all.
+use job::dag::WORDS;
 use libc::STDIN_FILENO;
 use libc::STDOUT_FILENO;
 use loader::table;
 use loader::table::Loaded;
-use model::dag::WORDS;
 ghost use Prim.Native.Nat.{_+_, _≤_};
 ghost use lib.ListN.{length};
 

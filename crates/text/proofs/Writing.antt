@@ -7,7 +7,7 @@ use native.Mathlib.Numerals.{add-one}
 use native.Mathlib.Omega.{arith}
 use lib.ListN.{length, getD, take, set, length-append}
 use lib.Seq.{sets, take-suc, take-all}
-use Rattle.model.proofs.Stores.{sets-append}
+use Rattle.job.proofs.Stores.{sets-append}
 use Rattle.text.specs.Written.{Written}
 
 -- nothing is written

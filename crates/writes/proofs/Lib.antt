@@ -1,3 +1,2 @@
 -- Laws of a few writes, one behind the other.
 pub mod Writes
-pub mod Chokes

@@ -2,18 +2,11 @@
 ghost use mathlib.Core.Path.{_≡_};
 ghost use Prim.Native.Nat.{_<_};
 ghost use lib.ListN.{getD};
-use model::dag::WORDS;
+use job::dag::WORDS;
 
 pub fn word(dag: &[u32; WORDS], index: usize) -> u32
     requires { ⌜ index < 12331 ⌝ }
     ensures { λ r. ⌜ r ≡ getD (now (dag .entry)) index 0 ⌝ }
 {
     dag[index]
-}
-
-// A word that is an index.
-pub fn wide(word: u32) -> usize
-    ensures { λ r. ⌜ r ≡ word ⌝ }
-{
-    word as usize
 }

@@ -1,5 +1,5 @@
-// What each instruction writes: a few fields in the order of its clause. The tests before it and the sweep behind it are in crate `acts`.
-pub mod choke;
+// What each instruction but a choke writes: a few fields in the order of its clause. The tests before it and the sweep behind it are in
+// crates `spawns`, `acts` and `calls`; what a choke writes is in crate `pruning`.
 pub mod dag;
 pub mod definition_call;
 pub mod end;

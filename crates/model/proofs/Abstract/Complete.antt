@@ -2,16 +2,16 @@
 -- and each rewriting is made by finitely many steps. Assumes nothing.
 use mathlib.Core.Path.{refl}
 use mathlib.Core.List.{List}
-use Rattle.model.specs.Job.Syntax.{Program}
-use Rattle.model.specs.Job.WellFormed.{WellFormed}
-use Rattle.model.specs.Job.Construct.{construct}
-use Rattle.model.specs.Calculus.Event.{Event}
-use Rattle.model.specs.Calculus.Allowed.{Allowed}
-use Rattle.model.specs.Run.Meaning.{meaning}
-use Rattle.model.proofs.Abstract.Machine.{State, Run, startAt}
+use Rattle.job.specs.Syntax.{Program}
+use Rattle.job.specs.WellFormed.{WellFormed}
+use Rattle.job.specs.Construct.{construct}
+use Rattle.calculus.specs.Event.{Event}
+use Rattle.calculus.specs.Allowed.{Allowed}
+use Rattle.calculus.specs.Meaning.{meaning}
+use Rattle.simulation.proofs.Machine.{State, Run, startAt}
 use Rattle.model.proofs.Abstract.Sound.{first-stands}
 use Rattle.model.proofs.Sees.Coded.{abstractOf, goal-coded, bodies-coded}
-use Rattle.model.proofs.Rep.Complete.{run-complete}
+use Rattle.simulation.proofs.Complete.{run-complete}
 
 module _ (p : Program) (wf : WellFormed p) where
   pub complete : {es : List Event} → Allowed (meaning p) es → (s : State) × Run (abstractOf p) (startAt (construct p .goal)) es s

@@ -8,11 +8,11 @@ use native.Mathlib.Omega.{arith}
 use lib.ListN.{length, set, length-set, length-map}
 use lib.Dec.{ltb, eqb}
 use lib.IntN.{ℤ}
-use Rattle.model.specs.Test.{all, All, filter}
-use Rattle.model.specs.Number.{Signed32}
-use Rattle.model.specs.Site.{BuiltinReply, isBuiltin, builtin}
-use Rattle.model.specs.Job.Syntax.{Param}
-use Rattle.model.specs.Job.Node.{Node, Dag, nodeAt, bodyAt, paramHolds, paramsHold, isNode, nodeHolds, bodyHolds, dagHolds}
+use Rattle.job.specs.Test.{all, All, filter}
+use Rattle.job.specs.Number.{Signed32}
+use Rattle.job.specs.Site.{BuiltinReply, isBuiltin, builtin}
+use Rattle.job.specs.Syntax.{Param}
+use Rattle.job.specs.Node.{Node, Dag, nodeAt, bodyAt, paramHolds, paramsHold, isNode, nodeHolds, bodyHolds, dagHolds}
 use Rattle.model.specs.Machine.Limits.{Limits}
 use Rattle.model.specs.Machine.Blank.{blankToken, tokenAt, cellAt, slotAt}
 use Rattle.model.specs.Machine.Active.{upward, within, isLive}
@@ -31,8 +31,8 @@ use Rattle.model.specs.declared.token.Token.{Token}
 use Rattle.model.specs.declared.cell.Cell.{Cell}
 use Rattle.model.specs.declared.record.Machine.{Machine}
 use Rattle.model.specs.declared.reply.Refusal.the-variants as refusals
-use Rattle.model.proofs.Test.{clash, eqb-same, ltb-lt, and-left, and-right}
-use Rattle.model.proofs.Job.Rules.{body-rules}
+use Rattle.job.proofs.Test.{clash, eqb-same, ltb-lt, and-left, and-right}
+use Rattle.job.proofs.Rules.{body-rules}
 use Rattle.model.proofs.Machine.Refused.{After, after-unless}
 use Rattle.model.proofs.Sees.Others.{token-other}
 use Rattle.model.proofs.Keeps.Lines.{Lines, Taken, taken-ready, taken-inside, lines-gone, lines-back, lines-wait, lines-new, lines-choke}

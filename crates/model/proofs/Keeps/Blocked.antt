@@ -4,21 +4,21 @@ use mathlib.Core.Path.{_≡_, ap, subst}
 use mathlib.Core.Bool.{true, false}
 use Prim.Native.Nat.{ℕ, suc, _<_}
 use lib.ListN.{length}
-use Rattle.model.specs.Job.Node.{Dag, nodeAt, dagHolds}
+use Rattle.job.specs.Node.{Dag, nodeAt, dagHolds}
 use Rattle.model.specs.Machine.Limits.{Limits}
 use Rattle.model.specs.Machine.Blank.{blankToken, tokenAt, isBlankState}
 use Rattle.model.specs.Machine.Active.{isLive}
 use Rattle.model.specs.Machine.Rules.{nodeRule, atNode}
 use Rattle.model.specs.Machine.Step.{unset, look}
 use Rattle.model.specs.Machine.Reply.{isRefused}
-use Rattle.model.specs.Calculus.Expression.{Exp}
+use Rattle.calculus.specs.Expression.{Exp}
 use Rattle.model.specs.Run.Call.{Call, runner, outcomeOf}
 use Rattle.model.specs.declared.token.State.the-variants as states
 use Rattle.model.specs.declared.token.Token.{Token}
 use Rattle.model.specs.declared.record.Machine.{Machine}
-use Rattle.model.proofs.Test.{all-at}
+use Rattle.job.proofs.Test.{all-at}
 use Rattle.model.proofs.Machine.Rules.{rules-kept}
-use Rattle.model.proofs.Abstract.Machine as Abstract
+use Rattle.simulation.proofs.Machine as Abstract
 use Rattle.model.proofs.Sees.Labels.{Labels, Flow}
 use Rattle.model.proofs.Sees.Sees.{live-inside}
 use Rattle.model.proofs.Sees.Room.{Room}

@@ -7,7 +7,7 @@ use Prim.Native.Nat.{ℕ, zero, suc, _<_}
 use native.Mathlib.Decide.{ℕ-discrete}
 use native.Mathlib.Omega.{arith}
 use lib.ListN.{length, getD, replicate}
-use Rattle.model.specs.Test.{_and_, all}
+use Rattle.job.specs.Test.{_and_, all}
 use Rattle.model.specs.Machine.Limits.{Limits}
 use Rattle.model.specs.Machine.Blank.{blankToken, blankCell, tokenAt, cellAt, slotAt, isBound}
 use Rattle.model.specs.Machine.Blank.{hasValue, isPlace, isBlankState, tokenIsBlank, cellIsBlank}
@@ -20,7 +20,7 @@ use Rattle.model.specs.declared.token.Place.the-variants as places
 use Rattle.model.specs.declared.token.Token.{Token}
 use Rattle.model.specs.declared.cell.Cell.{Cell}
 use Rattle.model.specs.declared.record.Machine.{Machine}
-use Rattle.model.proofs.Test.{clash, false-of, and-both}
+use Rattle.job.proofs.Test.{clash, false-of, and-both}
 use Rattle.model.proofs.Machine.Marks.{Marked, Free, free-inside, marks-same}
 use Rattle.model.proofs.Machine.Reach.{Names}
 use Rattle.model.proofs.Machine.InUse.{CellsIn, TokensUsed, CellsUsed, tokens-used, cells-used, blank-inactive}

@@ -9,8 +9,8 @@ use Prim.Native.Nat.{ℕ, zero, suc, _-_, _<_, _≤_}
 use native.Mathlib.Omega.{arith}
 use lib.ListN.{length, getD, replicate, length-set, length-replicate}
 use lib.Dec.{eqb}
-use Rattle.model.specs.Test.{padded, count, once}
-use Rattle.model.specs.Job.Node.{Dag}
+use Rattle.job.specs.Test.{padded, count, once}
+use Rattle.job.specs.Node.{Dag}
 use Rattle.model.specs.Machine.Limits.{Limits}
 use Rattle.model.specs.Machine.Blank.{blankToken, blankCell, tokenAt, cellAt}
 use Rattle.model.specs.Machine.Active.{isLive}
@@ -23,7 +23,7 @@ use Rattle.model.specs.declared.token.Token.{Token}
 use Rattle.model.specs.declared.cell.Cell.{Cell}
 use Rattle.model.specs.declared.record.Machine.{Machine}
 use Rattle.model.proofs.Machine.Rules.{ready-live}
-use Rattle.model.proofs.Test.{eqb-same, ne-eqb}
+use Rattle.job.proofs.Test.{eqb-same, ne-eqb}
 use Rattle.model.proofs.Machine.Marks.{Marked}
 use Rattle.model.proofs.Machine.InUse.{tokens-used}
 use Rattle.model.proofs.Machine.Kept.{length-kept, kept-marked, kept-cases}

@@ -7,7 +7,7 @@ use Prim.Native.Nat.{ℕ, _<_}
 use native.Mathlib.Decide.{decLt}
 use native.Mathlib.Omega.{arith}
 use lib.ListN.{length}
-use Rattle.model.specs.Job.Node.{Dag}
+use Rattle.job.specs.Node.{Dag}
 use Rattle.model.specs.Machine.Limits.{Limits}
 use Rattle.model.specs.Machine.Blank.{tokenAt}
 use Rattle.model.specs.Machine.Active.{isActive}
@@ -19,8 +19,8 @@ use Rattle.model.proofs.Machine.Reach.{Names, names-nowhere}
 use Rattle.model.proofs.Machine.InUse.{token-outside}
 use Rattle.model.proofs.Machine.Inside.{active-live}
 use Rattle.model.proofs.Machine.Used.{Used}
-use Rattle.model.proofs.Abstract.Machine as Abstract
-use Rattle.model.proofs.Abstract.Machine.{Frame}
+use Rattle.simulation.proofs.Machine as Abstract
+use Rattle.simulation.proofs.Machine.{Frame}
 use Rattle.model.proofs.Sees.Labels.{Labels}
 use Rattle.model.proofs.Sees.View.{World, FramesSeen, TokenSeen, sees, FrameSeen, frameAt, frame-seen}
 use Rattle.model.proofs.Sees.Sees.{Core, Sees, seenAs, UsedToken, tokens-of, token-at, live-listed}

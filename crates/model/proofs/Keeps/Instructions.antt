@@ -6,9 +6,9 @@ use mathlib.Core.List.{List}
 use Prim.Native.Nat.{ℕ, _<_}
 use lib.ListN.{getD}
 use lib.IntN.{ℤ}
-use Rattle.model.specs.Test.{without}
-use Rattle.model.specs.Job.Syntax.{Param}
-use Rattle.model.specs.Job.Node.{Dag}
+use Rattle.job.specs.Test.{without}
+use Rattle.job.specs.Syntax.{Param}
+use Rattle.job.specs.Node.{Dag}
 use Rattle.model.specs.Machine.Limits.{Limits}
 use Rattle.model.specs.Machine.Blank.{tokenAt, hasValue}
 use Rattle.model.specs.Machine.Active.{isSet, isLive}

@@ -6,8 +6,8 @@ use mathlib.Core.List.{List, [], _∷_, List·Memᴰ, List·Memᴰ·head, List·
 use Prim.Native.Nat.{ℕ}
 use native.Mathlib.Omega.{arith}
 use lib.IntN.{ℤ}
-use Rattle.model.specs.Test.{all}
-use Rattle.model.specs.Job.Syntax.{Param, variable, constant}
+use Rattle.job.specs.Test.{all}
+use Rattle.job.specs.Syntax.{Param, variable, constant}
 use Rattle.model.specs.Machine.Blank.{cellAt, slotAt, isBound}
 use Rattle.model.specs.Machine.Rules.{notEmpty}
 use Rattle.model.specs.Machine.Step.{LookedUp, values, unset, andThen, look}
@@ -17,7 +17,7 @@ use Rattle.model.specs.declared.token.Bind.{Bind}
 use Rattle.model.specs.declared.token.Held.{Held}
 use Rattle.model.specs.declared.token.Held.the-variants as helds
 use Rattle.model.specs.declared.cell.Cell.{Cell}
-use Rattle.model.proofs.Test.{clash, all-head, all-tail}
+use Rattle.job.proofs.Test.{clash, all-head, all-tail}
 
 -- the first unset cell is that of a parameter
 unset-then : (v : ℤ) (l : LookedUp) (c : ℕ) → andThen v l ≡ unset c → l ≡ unset c

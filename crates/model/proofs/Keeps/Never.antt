@@ -5,20 +5,20 @@ use mathlib.Core.Path.{_≡_, refl}
 use mathlib.Core.Bool.{true}
 use mathlib.Core.List.{List}
 use Prim.Native.Nat.{ℕ}
-use Rattle.model.specs.Job.Syntax.{Program}
-use Rattle.model.specs.Job.Read.{readTable, accepted}
-use Rattle.model.specs.Job.WellFormed.{WellFormed}
-use Rattle.model.specs.Job.Node.{Dag}
-use Rattle.model.specs.Job.Construct.{construct}
+use Rattle.job.specs.Syntax.{Program}
+use Rattle.job.specs.Read.{readTable, accepted}
+use Rattle.job.specs.WellFormed.{WellFormed}
+use Rattle.job.specs.Node.{Dag}
+use Rattle.job.specs.Construct.{construct}
 use Rattle.model.specs.Machine.Limits.{Limits}
 use Rattle.model.specs.Machine.Rules.{rulesHold}
 use Rattle.model.specs.Machine.Start.{start}
-use Rattle.model.specs.Run.Meaning.{meaning}
+use Rattle.calculus.specs.Meaning.{meaning}
 use Rattle.model.specs.Run.Call.{Call, runner, outcomeOf, machineAfter, started}
 use Rattle.model.specs.declared.reply.Refusal.the-variants as refusals
 use Rattle.model.specs.declared.reply.Reply.the-variants as replies
-use Rattle.model.proofs.Job.Kept.{construct-kept}
-use Rattle.model.proofs.Job.Accepted.{accepted-well-formed}
+use Rattle.job.proofs.Kept.{construct-kept}
+use Rattle.job.proofs.Accepted.{accepted-well-formed}
 use Rattle.model.proofs.Sees.Labelling.{labelsOf}
 use Rattle.model.proofs.Sees.Flowing.{construct-flows}
 use Rattle.model.proofs.Keeps.Reached.{Roomy}

@@ -8,8 +8,8 @@ use native.Mathlib.Omega.{arith}
 use lib.ListN.{getD}
 use lib.Dec.{ltb}
 use lib.IntN.{ℤ}
-use Rattle.model.specs.Site.{BuiltinReply, gives, silent, isBuiltin, builtin}
-use Rattle.model.specs.Job.Node.{Node, Dag, nodeAt, nodeHolds}
+use Rattle.job.specs.Site.{BuiltinReply, gives, silent, isBuiltin, builtin}
+use Rattle.job.specs.Node.{Node, Dag, nodeAt, nodeHolds}
 use Rattle.model.specs.Machine.Limits.{Limits}
 use Rattle.model.specs.Machine.Blank.{blankToken, tokenAt, isPlace, isBlankState}
 use Rattle.model.specs.Machine.Rules.{isReady, namesFrame, nodeRule, atNode, rulesHold}
@@ -28,8 +28,8 @@ use Rattle.model.specs.declared.record.Machine.{Machine}
 use Rattle.model.specs.declared.reply.Refusal.{Refusal}
 use Rattle.model.specs.declared.reply.Refusal.the-variants as refusals
 use Rattle.model.specs.declared.reply.Reply.the-variants as replies
-use Rattle.model.proofs.Test.{clash, ltb-lt, and-left, all-at}
-use Rattle.model.proofs.Job.Rules.{node-rules}
+use Rattle.job.proofs.Test.{clash, ltb-lt, and-left, all-at}
+use Rattle.job.proofs.Rules.{node-rules}
 use Rattle.model.proofs.Machine.Rules.{RulesKept, rules-kept}
 use Rattle.model.proofs.Run.Queue.{QueueKept, queue-kept}
 use Rattle.model.proofs.Sees.Lockstep.{at-node}

@@ -6,7 +6,7 @@ use mathlib.Core.List.{List, [], _∷_, _++_}
 use Prim.Native.Nat.{ℕ}
 use lib.ListN.{length, take, length-set}
 use lib.Seq.{take-append-seam}
-use Rattle.model.specs.Test.{padded}
+use Rattle.job.specs.Test.{padded}
 use Rattle.model.specs.Machine.Rules.{isReady, isWaiting, namesOnce}
 use Rattle.model.specs.Machine.Step.{withTables, withOrders, withCounts, queueOf, waitsOf, put, enqueue, newToken, newCell}
 use Rattle.model.specs.declared.token.Token.{Token}

@@ -9,9 +9,9 @@ use native.Mathlib.Omega.{arith}
 use lib.ListN.{length, getD, replicate, length-set, length-replicate}
 use lib.Seq.{getD-take}
 use lib.IntN.{ℤ}
-use Rattle.model.specs.Test.{without}
-use Rattle.model.specs.Number.{Signed32}
-use Rattle.model.specs.Job.Node.{Dag, nodeAt, dagHolds}
+use Rattle.job.specs.Test.{without}
+use Rattle.job.specs.Number.{Signed32}
+use Rattle.job.specs.Node.{Dag, nodeAt, dagHolds}
 use Rattle.model.specs.Machine.Limits.{Limits, limits, paper}
 use Rattle.model.specs.Machine.Blank.{blankToken, tokenAt}
 use Rattle.model.specs.Machine.Active.{isLive}
@@ -24,9 +24,9 @@ use Rattle.model.specs.Machine.Step.{withOrders, queueOf, waitsOf, put, 
 use Rattle.model.specs.Machine.Step.{withValue, hasTokenPlace, hasCellPlace, tokenPlace, cellPlace, takes}
 use Rattle.model.specs.Machine.Answer as Answer
 use Rattle.model.specs.Machine.Answer.{holder, answered}
-use Rattle.model.specs.Calculus.Event.{Event, Label}
-use Rattle.model.specs.Calculus.Expression.{Exp}
-use Rattle.model.specs.Calculus.Allowed.{shown}
+use Rattle.calculus.specs.Event.{Event, Label}
+use Rattle.calculus.specs.Expression.{Exp}
+use Rattle.calculus.specs.Allowed.{shown}
 use Rattle.model.specs.Run.Call.{Call, step, answer, runner, outcomeOf}
 use Rattle.model.specs.declared.token.Held.the-variants as helds
 use Rattle.model.specs.declared.token.Place.{Place}
@@ -36,13 +36,13 @@ use Rattle.model.specs.declared.token.State.the-variants as states
 use Rattle.model.specs.declared.token.Token.{Token}
 use Rattle.model.specs.declared.record.Machine.{Machine}
 use Rattle.model.specs.declared.reply.Outcome.{Outcome}
-use Rattle.model.proofs.Test.{clash, false-of, ltb-lt}
-use Rattle.model.proofs.Job.Rules.{dag-rules, node-rules}
+use Rattle.job.proofs.Test.{clash, false-of, ltb-lt}
+use Rattle.job.proofs.Rules.{dag-rules, node-rules}
 use Rattle.model.proofs.Machine.Marks.{Marked, free-inside}
 use Rattle.model.proofs.Machine.InUse.{tokens-used, cells-used}
 use Rattle.model.proofs.Machine.Refused.{After, after-outcome, step-accepted, AnswerAccepted, answer-accepted}
-use Rattle.model.proofs.Abstract.Machine as Abstract
-use Rattle.model.proofs.Abstract.Machine.{Store, startAt}
+use Rattle.simulation.proofs.Machine as Abstract
+use Rattle.simulation.proofs.Machine.{Store, startAt}
 use Rattle.model.proofs.Sees.Labels.{Labels, programOf, Flow}
 use Rattle.model.proofs.Sees.View.{World, CellsSeen}
 use Rattle.model.proofs.Sees.Sees.{world, Sees, seenAs, live-inside, token-at, token-used, live-listed}

@@ -10,11 +10,11 @@ use native.Mathlib.Omega.{arith}
 use lib.ListN.{length, getD, length-append}
 use lib.Dec.{eqb}
 use lib.IntN.{ℤ}
-use Rattle.model.specs.Test.{_and_, _or_, all, any, All, none, more, differ}
-use Rattle.model.specs.Number.{fits}
-use Rattle.model.specs.Job.Syntax.{Param}
-use Rattle.model.specs.Job.Node.{Node, Dag, nodeAt, isNode, dagHolds}
-use Rattle.model.specs.Job.WellFormed.{GoodParam}
+use Rattle.job.specs.Test.{_and_, _or_, all, any, All, none, more, differ}
+use Rattle.job.specs.Number.{fits}
+use Rattle.job.specs.Syntax.{Param}
+use Rattle.job.specs.Node.{Node, Dag, nodeAt, isNode, dagHolds}
+use Rattle.job.specs.WellFormed.{GoodParam}
 use Rattle.model.specs.Machine.Limits.{Limits}
 use Rattle.model.specs.Machine.Blank.{empty, blankToken, blankCell, tokenAt, cellAt, slotAt, isBound, hasValue, isPlace, isBlankState}
 use Rattle.model.specs.Machine.Active.{isSet, underSet, isLive}
@@ -35,10 +35,10 @@ use Rattle.model.specs.declared.token.Token.{Token}
 use Rattle.model.specs.declared.cell.Cell.{Cell}
 use Rattle.model.specs.declared.record.Machine.{Machine}
 use Rattle.model.proofs.Machine.Rules.{ready-live}
-use Rattle.model.proofs.Test.{clash, false-of, eqb-eq, eq-eqb, lt-ltb, le-leb, and-both, all-from}
-use Rattle.model.proofs.Abstract.Machine as Abstract
-use Rattle.model.proofs.Abstract.Machine.{Binding, Frame, Store}
-use Rattle.model.proofs.Abstract.Store.{_∉_}
+use Rattle.job.proofs.Test.{clash, false-of, eqb-eq, eq-eqb, lt-ltb, le-leb, and-both, all-from}
+use Rattle.simulation.proofs.Machine as Abstract
+use Rattle.simulation.proofs.Machine.{Binding, Frame, Store}
+use Rattle.simulation.proofs.Store.{_∉_}
 use Rattle.model.proofs.Sees.Labels.{Labels, Flow, FlowAt}
 use Rattle.model.proofs.Sees.View.{World, cellsOfCaller, hasCaller, Nested, absent, present, StateSeen, ready, waiting}
 use Rattle.model.proofs.Sees.View.{called, CellsSeen, root, below, BindingSeen, valued, celled, BindingsSeen, binds}

@@ -11,10 +11,10 @@ use native.Mathlib.Omega.{arith}
 use lib.ListN.{length, getD, set, drop, length-set}
 use lib.Seq.{getD-drop}
 use lib.IntN.{ℤ}
-use Rattle.model.specs.Test.{all}
-use Rattle.model.specs.Number.{Signed32}
-use Rattle.model.specs.Job.Syntax.{Param, variable, constant}
-use Rattle.model.specs.Job.Node.{Node, Dag, nodeAt, paramHolds}
+use Rattle.job.specs.Test.{all}
+use Rattle.job.specs.Number.{Signed32}
+use Rattle.job.specs.Syntax.{Param, variable, constant}
+use Rattle.job.specs.Node.{Node, Dag, nodeAt, paramHolds}
 use Rattle.model.specs.Machine.Blank.{empty, unbound, blankToken, blankCell, tokenAt, cellAt, slotAt}
 use Rattle.model.specs.Machine.Active.{within}
 use Rattle.model.specs.Machine.InUse.{restBlanked}
@@ -28,7 +28,7 @@ use Rattle.model.specs.declared.token.State.{State}
 use Rattle.model.specs.declared.token.State.the-variants as states
 use Rattle.model.specs.declared.token.Token.{Token}
 use Rattle.model.specs.declared.cell.Cell.{Cell}
-use Rattle.model.proofs.Test.{eqb-ne, all-head, all-tail}
+use Rattle.job.proofs.Test.{eqb-ne, all-head, all-tail}
 use Rattle.model.proofs.Machine.Kept.{length-kept, kept-cases}
 use Rattle.model.proofs.Machine.Inside.{written}
 use Rattle.model.proofs.Machine.Writes.{Choked, ends, wakes, stays, choked-cases}

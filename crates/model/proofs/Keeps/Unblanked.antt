@@ -9,8 +9,8 @@ use native.Mathlib.Decide.{ℕ-discrete}
 use native.Mathlib.Omega.{arith}
 use lib.ListN.{length, getD, set, replicate, length-set}
 use lib.Seq.{getD-set-other}
-use Rattle.model.specs.Test.{all}
-use Rattle.model.specs.Job.Node.{Dag}
+use Rattle.job.specs.Test.{all}
+use Rattle.job.specs.Node.{Dag}
 use Rattle.model.specs.Machine.Limits.{Limits}
 use Rattle.model.specs.Machine.Blank.{empty, blankToken, blankCell, tokenAt, cellAt, slotAt, isBound, hasValue, isPlace, isBlankState}
 use Rattle.model.specs.Machine.Blank.{tokenIsBlank, cellIsBlank}
@@ -30,7 +30,7 @@ use Rattle.model.specs.declared.token.State.the-variants as states
 use Rattle.model.specs.declared.token.Token.{Token}
 use Rattle.model.specs.declared.cell.Cell.{Cell}
 use Rattle.model.specs.declared.record.Machine.{Machine}
-use Rattle.model.proofs.Test.{clash, false-of, eqb-eq, and-left, and-right, all-at, all-head, all-tail}
+use Rattle.job.proofs.Test.{clash, false-of, eqb-eq, and-left, and-right, all-at, all-head, all-tail}
 use Rattle.model.proofs.Machine.Marks.{Marked, Free, free-inside}
 use Rattle.model.proofs.Machine.Reach.{Names, names-nowhere}
 use Rattle.model.proofs.Machine.InUse.{CellsIn}

@@ -5,11 +5,11 @@ use mathlib.Core.Bool.{Bool, true, false}
 use mathlib.Core.List.{List, [], _∷_}
 use Prim.Native.Nat.{ℕ, zero, suc}
 use lib.IntN.{ℤ, pos, _+ℤ_}
-use Rattle.model.specs.Test.{all, All, none, more}
-use Rattle.model.specs.Number.{fits, Signed32}
-use Rattle.model.specs.Site.{BuiltinReply, gives, silent, at, zeroIf, truth, sum, builtin}
-use Rattle.model.specs.Job.Syntax.{Param, variable, constant}
-use Rattle.model.specs.Job.Node.{paramHolds}
+use Rattle.job.specs.Test.{all, All, none, more}
+use Rattle.job.specs.Number.{fits, Signed32}
+use Rattle.job.specs.Site.{BuiltinReply, gives, silent, at, zeroIf, truth, sum, builtin}
+use Rattle.job.specs.Syntax.{Param, variable, constant}
+use Rattle.job.specs.Node.{paramHolds}
 use Rattle.model.specs.Machine.Blank.{cellAt, slotAt}
 use Rattle.model.specs.Machine.Rules.{heldInRange}
 use Rattle.model.specs.Machine.Step.{LookedUp, values, unset, andThen, look, valueOf}
@@ -19,7 +19,7 @@ use Rattle.model.specs.declared.token.Bind.{Bind}
 use Rattle.model.specs.declared.token.Held.{Held}
 use Rattle.model.specs.declared.token.Held.the-variants as helds
 use Rattle.model.specs.declared.cell.Cell.{Cell}
-use Rattle.model.proofs.Test.{all-head, all-tail}
+use Rattle.job.proofs.Test.{all-head, all-tail}
 
 pub zero-fits : Signed32 (pos 0)
 unfolding fits

@@ -8,7 +8,7 @@ use Prim.Native.Nat.{ℕ, zero, suc, _<_, _≤_}
 use native.Mathlib.Omega.{arith}
 use lib.ListN.{length, getD, set, replicate, length-replicate, getD-replicate}
 use lib.Seq.{getD-set-same}
-use Rattle.model.specs.Job.Node.{Dag}
+use Rattle.job.specs.Node.{Dag}
 use Rattle.model.specs.Machine.Limits.{Limits}
 use Rattle.model.specs.Machine.Blank.{blankToken, blankCell, blankMachine, tokenAt}
 use Rattle.model.specs.Machine.Active.{isLive, isActive, underSet, upward}
@@ -19,7 +19,7 @@ use Rattle.model.specs.declared.token.Token.{Token}
 use Rattle.model.specs.declared.cell.Cell.{Cell}
 use Rattle.model.specs.declared.record.Machine.{Machine}
 use Rattle.model.specs.declared.reply.Outcome.{Outcome}
-use Rattle.model.proofs.Test.{clash}
+use Rattle.job.proofs.Test.{clash}
 use Rattle.model.proofs.Machine.Marks.{Marked, marked-none, marked-no-place, marked-inside-one, marked-set-free, marked-replicate}
 use Rattle.model.proofs.Machine.Marks.{marks-same, marks-added}
 use Rattle.model.proofs.Machine.InUse.{tokens-used, cells-used}

@@ -16,7 +16,7 @@ use Rattle.model.specs.Machine.InUse.{usedTokens, usedCells, tokensUsed,
 use Rattle.model.specs.declared.token.Token.{Token}
 use Rattle.model.specs.declared.cell.Cell.{Cell}
 use Rattle.model.specs.declared.record.Machine.{Machine}
-use Rattle.model.proofs.Test.{clash}
+use Rattle.job.proofs.Test.{clash}
 use Rattle.model.proofs.Machine.Marks.{Marked}
 use Rattle.model.proofs.Machine.Reach.{Names, names-nowhere}
 use Rattle.model.proofs.Machine.InUse.{CellsIn, cells-in-blank, cells-in-map, tokens-used, cells-used}

@@ -8,8 +8,8 @@ use native.Mathlib.Omega.{arith}
 use lib.ListN.{getD}
 use lib.Dec.{ltb}
 use lib.IntN.{ℤ}
-use Rattle.model.specs.Test.{without}
-use Rattle.model.specs.Job.Node.{Node, Dag, nodeAt}
+use Rattle.job.specs.Test.{without}
+use Rattle.job.specs.Node.{Node, Dag, nodeAt}
 use Rattle.model.specs.Machine.Limits.{Limits}
 use Rattle.model.specs.Machine.Blank.{tokenAt}
 use Rattle.model.specs.Machine.InUse.{marked, tokensUsed, cellsUsed}
@@ -22,7 +22,7 @@ use Rattle.model.specs.declared.record.Machine.{Machine}
 use Rattle.model.specs.declared.reply.Refusal.{Refusal}
 use Rattle.model.specs.declared.reply.Refusal.the-variants as refusals
 use Rattle.model.specs.declared.reply.Outcome.{Outcome}
-use Rattle.model.proofs.Test.{clash, ltb-lt, lt-ltb}
+use Rattle.job.proofs.Test.{clash, ltb-lt, lt-ltb}
 use Rattle.model.proofs.Machine.Refused.{StepAccepted, step-accepted}
 use Rattle.model.proofs.Machine.Used.{Within}
 use Rattle.model.proofs.Machine.Within.{step-within, answer-within}

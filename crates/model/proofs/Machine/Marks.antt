@@ -11,7 +11,7 @@ use native.Mathlib.Omega.{arith}
 use lib.ListN.{length, getD, set, replicate, length-set, List·getD-eq-default}
 use lib.Seq.{getD-set-same, getD-set-other, ext-getD}
 use Rattle.model.specs.Machine.InUse.{marked}
-use Rattle.model.proofs.Test.{clash, false-of}
+use Rattle.job.proofs.Test.{clash, false-of}
 
 abbrev pub Marked : List Bool → ℕ → Type 0
 Marked marks i = getD marks i true ≡ true

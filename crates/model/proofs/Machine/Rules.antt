@@ -8,8 +8,8 @@ use native.Mathlib.Omega.{arith}
 use lib.ListN.{length, getD, take, drop}
 use lib.Seq.{getD-take, length-take-le}
 use lib.Dec.{ltb, eqb}
-use Rattle.model.specs.Test.{_and_, all, allFrom, count, once, differ}
-use Rattle.model.specs.Job.Node.{Dag, dagHolds}
+use Rattle.job.specs.Test.{_and_, all, allFrom, count, once, differ}
+use Rattle.job.specs.Node.{Dag, dagHolds}
 use Rattle.model.specs.Machine.Limits.{Limits}
 use Rattle.model.specs.Machine.Blank.{blankToken, tokenAt, tokenIsBlank, cellIsBlank}
 use Rattle.model.specs.Machine.Active.{isLive}
@@ -20,7 +20,7 @@ use Rattle.model.specs.declared.token.State.{State}
 use Rattle.model.specs.declared.token.State.the-variants as states
 use Rattle.model.specs.declared.token.Token.{Token}
 use Rattle.model.specs.declared.record.Machine.{Machine}
-use Rattle.model.proofs.Test.{clash, and-left, and-right, all-at, eqb-eq, eqb-same, leb-le, ltb-lt}
+use Rattle.job.proofs.Test.{clash, and-left, and-right, all-at, eqb-eq, eqb-same, leb-le, ltb-lt}
 
 both : (a b : Bool) → (a and b) ≡ true → (a ≡ true) × (b ≡ true)
 both a b e = (and-left a b e, and-right a b e)

@@ -7,7 +7,7 @@ use Prim.Native.Nat.{ℕ, suc, _<_, _≤_}
 use native.Mathlib.Decide.{decLt}
 use native.Mathlib.Omega.{arith}
 use lib.ListN.{length}
-use Rattle.model.specs.Job.Node.{Dag}
+use Rattle.job.specs.Node.{Dag}
 use Rattle.model.specs.Machine.Limits.{Limits}
 use Rattle.model.specs.Machine.Blank.{blankToken, tokenAt, cellAt}
 use Rattle.model.specs.Machine.Active.{isLive, isActive, underSet}
@@ -17,7 +17,7 @@ use Rattle.model.specs.Machine.Step.{hasTokenPlace, hasCellPlace}
 use Rattle.model.specs.declared.token.Token.{Token}
 use Rattle.model.specs.declared.cell.Cell.{Cell}
 use Rattle.model.specs.declared.record.Machine.{Machine}
-use Rattle.model.proofs.Test.{clash, all-at, ltb-lt}
+use Rattle.job.proofs.Test.{clash, all-at, ltb-lt}
 use Rattle.model.proofs.Machine.Marks.{Marked, marked-inside, marked-inside-one}
 use Rattle.model.proofs.Machine.Reach.{Names}
 use Rattle.model.proofs.Machine.InUse.{token-outside, tokens-used, cells-used}

@@ -8,8 +8,8 @@ use native.Mathlib.Omega.{arith}
 use lib.ListN.{getD}
 use lib.Dec.{eqb}
 use lib.IntN.{ℤ}
-use Rattle.model.specs.Test.{any, without}
-use Rattle.model.specs.Job.Node.{Dag, nodeAt}
+use Rattle.job.specs.Test.{any, without}
+use Rattle.job.specs.Node.{Dag, nodeAt}
 use Rattle.model.specs.Machine.Limits.{Limits}
 use Rattle.model.specs.Machine.Blank.{tokenAt}
 use Rattle.model.specs.Machine.Active.{isLive}

@@ -9,7 +9,7 @@ use native.Mathlib.Omega.{arith}
 use lib.ListN.{length, getD, set, drop}
 use lib.Seq.{getD-drop}
 use lib.IntN.{ℤ}
-use Rattle.model.specs.Job.Syntax.{Param, variable, constant}
+use Rattle.job.specs.Syntax.{Param, variable, constant}
 use Rattle.model.specs.Machine.Blank.{empty, unbound, blankToken, slotAt}
 use Rattle.model.specs.Machine.Active.{isLive, within}
 use Rattle.model.specs.Machine.Step.{withBinding, withState, passed, formalsBound, waitsAt, chokeToken}
@@ -20,7 +20,7 @@ use Rattle.model.specs.declared.token.State.{State}
 use Rattle.model.specs.declared.token.State.the-variants as states
 use Rattle.model.specs.declared.token.Token.{Token}
 use Rattle.model.specs.declared.cell.Cell.{Cell}
-use Rattle.model.proofs.Test.{clash}
+use Rattle.job.proofs.Test.{clash}
 use Rattle.model.proofs.Machine.InUse.{slot-unbound}
 use Rattle.model.proofs.Machine.Inside.{Fits, fits-blank, written}
 

@@ -10,8 +10,8 @@ use lib.ListN.{getD, length-take}
 use lib.Seq.{getD-take}
 use lib.Dec.{eqb}
 use lib.IntN.{ℤ}
-use Rattle.model.specs.Test.{any}
-use Rattle.model.specs.Job.Node.{Dag}
+use Rattle.job.specs.Test.{any}
+use Rattle.job.specs.Node.{Dag}
 use Rattle.model.specs.Machine.Limits.{Limits}
 use Rattle.model.specs.Machine.Blank.{blankToken, tokenAt}
 use Rattle.model.specs.Machine.Rules.{handleOf, isReady}
@@ -26,7 +26,7 @@ use Rattle.model.specs.declared.token.State.the-variants as states
 use Rattle.model.specs.declared.token.Token.{Token}
 use Rattle.model.specs.declared.record.Machine.{Machine}
 use Rattle.model.specs.declared.reply.Outcome.{Outcome}
-use Rattle.model.proofs.Test.{clash, holds-or-fails}
+use Rattle.job.proofs.Test.{clash, holds-or-fails}
 use Rattle.model.proofs.Machine.Refused.{After, after-outcome, outcome-refused, AnswerAccepted, answer-accepted}
 use Rattle.model.proofs.Run.Queue.{QueueKept, queue-kept}
 use Rattle.model.proofs.Run.Bystander.{Untouched, untouched-enqueue, untouched-put, kept-unharmed, untouched-stands}

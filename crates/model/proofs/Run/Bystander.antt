@@ -7,7 +7,7 @@ use Prim.Native.Nat.{ℕ, _<_}
 use native.Mathlib.Omega.{arith}
 use lib.ListN.{length, getD, set, length-append, length-take, List·getD-append}
 use lib.Seq.{getD-set-other, getD-take, take-append-seam}
-use Rattle.model.specs.Test.{padded}
+use Rattle.job.specs.Test.{padded}
 use Rattle.model.specs.Machine.Blank.{blankToken, tokenAt}
 use Rattle.model.specs.Machine.Active.{underSet, isActive}
 use Rattle.model.specs.Machine.InUse.{tokensUsed, sweep}

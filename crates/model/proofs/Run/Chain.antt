@@ -15,7 +15,7 @@ use Rattle.model.specs.declared.token.Held.the-variants as helds
 use Rattle.model.specs.declared.token.Place.{Place}
 use Rattle.model.specs.declared.token.Place.the-variants as places
 use Rattle.model.specs.declared.cell.Cell.{Cell}
-use Rattle.model.proofs.Test.{clash, eqb-ne}
+use Rattle.job.proofs.Test.{clash, eqb-ne}
 
 -- a test that fails all the way up a chain fails at each cell of it, and back
 module _ (test : ℕ → Cell → Bool) (cs : List Cell) where

@@ -5,7 +5,7 @@ use mathlib.Core.List.{List, [], _∷_, _++_, map}
 use Prim.Native.Nat.{ℕ, zero, suc, _<_}
 use native.Mathlib.Omega.{arith}
 use lib.ListN.{length, getD, set}
-use Rattle.model.specs.Test.{filter}
+use Rattle.job.specs.Test.{filter}
 use Rattle.model.specs.Machine.Blank.{blankToken, tokenAt, cellAt}
 use Rattle.model.specs.Machine.Active.{within}
 use Rattle.model.specs.Machine.Rules.{isReady}
@@ -16,7 +16,7 @@ use Rattle.model.specs.declared.token.State.the-variants as states
 use Rattle.model.specs.declared.token.Token.{Token}
 use Rattle.model.specs.declared.cell.Cell.{Cell}
 use Rattle.model.specs.declared.record.Machine.{Machine}
-use Rattle.model.proofs.Test.{clash}
+use Rattle.job.proofs.Test.{clash}
 use Rattle.model.proofs.Machine.Choke.{choke-ends}
 use Rattle.model.proofs.Run.Chain.{set-cell-clear}
 use Rattle.model.proofs.Run.Bystander.{Unharmed, Untouched, untouched-orders}

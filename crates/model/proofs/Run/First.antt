@@ -2,16 +2,16 @@
 -- shows is allowed. Assumes nothing.
 use mathlib.Core.List.{List}
 use native.Mathlib.Omega.{arith}
-use Rattle.model.specs.Job.Syntax.{Program}
-use Rattle.model.specs.Job.Construct.{construct}
+use Rattle.job.specs.Syntax.{Program}
+use Rattle.job.specs.Construct.{construct}
 use Rattle.model.specs.Machine.Limits.{paper}
-use Rattle.model.specs.Calculus.Event.{Event}
-use Rattle.model.specs.Calculus.Allowed.{Allowed}
-use Rattle.model.specs.Run.Meaning.{meaning}
+use Rattle.calculus.specs.Event.{Event}
+use Rattle.calculus.specs.Allowed.{Allowed}
+use Rattle.calculus.specs.Meaning.{meaning}
 use Rattle.model.specs.Run.Call.{runner}
 use Rattle.model.specs.Run.Demand3.{First}
-use Rattle.model.specs.Job.WellFormed.{WellFormed}
-use Rattle.model.proofs.Job.Accepted.{accepted-well-formed}
+use Rattle.job.specs.WellFormed.{WellFormed}
+use Rattle.job.proofs.Accepted.{accepted-well-formed}
 use Rattle.model.proofs.Abstract.Sound.{sound}
 use Rattle.model.proofs.Sees.Labelling.{labelsOf}
 use Rattle.model.proofs.Sees.Flowing.{construct-flows}

@@ -7,8 +7,8 @@ use mathlib.Core.Bool.{true, false}
 use mathlib.Core.List.{List, _∷_}
 use Prim.Native.Nat.{ℕ, zero, suc, _≤_, _<_}
 use native.Mathlib.Omega.{arith}
-use Rattle.model.specs.Job.Node.{Dag}
-use Rattle.model.specs.Job.Construct.{construct}
+use Rattle.job.specs.Node.{Dag}
+use Rattle.job.specs.Construct.{construct}
 use Rattle.model.specs.Machine.Limits.{Limits, paper}
 use Rattle.model.specs.Machine.Reply.{isRefused}
 use Rattle.model.specs.Machine.Step as Step
@@ -16,7 +16,7 @@ use Rattle.model.specs.Run.Call.{Call, runner, outcomeOf, started, machi
 use Rattle.model.specs.Run.Follow.{Fate, acts, falls, stays, fate, House, Followed}
 use Rattle.model.specs.Run.Demand3.{Last}
 use Rattle.model.specs.declared.record.Machine.{Machine}
-use Rattle.model.proofs.Test.{holds-or-fails}
+use Rattle.job.proofs.Test.{holds-or-fails}
 use Rattle.model.proofs.Run.Survivors.{survivors-bound, fate-stays}
 use Rattle.model.proofs.Run.Passing.{step-stands}
 use Rattle.model.proofs.Run.Answering.{answer-stands}

@@ -4,19 +4,19 @@ use mathlib.Core.Path.{_≡_, sym, ap}
 use mathlib.Core.List.{List}
 use Prim.Native.Nat.{ℕ}
 use lib.ListN.{length}
-use Rattle.model.specs.Job.Syntax.{Program}
-use Rattle.model.specs.Job.Read.{readTable, accepted}
-use Rattle.model.specs.Job.Node.{Dag}
-use Rattle.model.specs.Job.Construct.{construct}
-use Rattle.model.specs.Job.Words.{arrayWords, dagOf, written}
+use Rattle.job.specs.Syntax.{Program}
+use Rattle.job.specs.Read.{readTable, accepted}
+use Rattle.job.specs.Node.{Dag}
+use Rattle.job.specs.Construct.{construct}
+use Rattle.job.specs.Words.{arrayWords, dagOf, written}
 use Rattle.model.specs.Machine.Limits.{paper}
 use Rattle.model.specs.Machine.Start.{start}
 use Rattle.model.specs.Run.Call.{Call, runner, outcomeOf, machineAfter, eventsFrom, started}
 use Rattle.model.specs.declared.record.Machine.{Machine}
 use Rattle.model.specs.declared.reply.Reply.the-variants as replies
 use Rattle.model.specs.declared.reply.Outcome.{Outcome}
-use Rattle.model.proofs.Job.Accepted.{accepted-well-formed}
-use Rattle.model.proofs.Job.Begins.{start-accepts, words-construct}
+use Rattle.job.proofs.Accepted.{accepted-well-formed}
+use Rattle.model.proofs.Machine.Started.{start-accepts, words-construct}
 
 module _ (table : List ℕ) (p : Program) (read : readTable table ≡ accepted p) (words : List ℕ) (sized : length words ≡ arrayWords) where
   -- the array after the table was loaded into it

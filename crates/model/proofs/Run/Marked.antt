@@ -1,6 +1,6 @@
 -- "Twelve marked runs": `orcrun` prints what document 01 says, by computation. Assumes nothing.
 use mathlib.Core.Path.{_≡_, refl}
-use Rattle.model.specs.Test.{All, none, more}
+use Rattle.job.specs.Test.{All, none, more}
 use Rattle.model.specs.Lines.Orcrun.{orcrun}
 use Rattle.model.specs.Run.Marked.{Case, markedRuns}
 use Rattle.model.proofs.Run.Computing.{computing}

@@ -7,31 +7,31 @@ use mathlib.Core.List.{List}
 use Prim.Native.Nat.{ℕ, zero, suc, _+_, _<_, _≤_}
 use native.Mathlib.Omega.{arith}
 use lib.ListN.{length}
-use Rattle.model.specs.Job.Syntax.{Program}
-use Rattle.model.specs.Job.WellFormed.{WellFormed}
-use Rattle.model.specs.Job.Node.{Dag, dagHolds}
-use Rattle.model.specs.Job.Construct.{construct}
+use Rattle.job.specs.Syntax.{Program}
+use Rattle.job.specs.WellFormed.{WellFormed}
+use Rattle.job.specs.Node.{Dag, dagHolds}
+use Rattle.job.specs.Construct.{construct}
 use Rattle.model.specs.Machine.Limits.{Limits, limits}
 use Rattle.model.specs.Machine.InUse.{marked, tokensUsed, cellsUsed}
 use Rattle.model.specs.Machine.Reply.{isRefused}
 use Rattle.model.specs.Machine.Start.{startMachine}
 use Rattle.model.specs.Machine.Step.{hasTokenPlace, hasCellPlace}
-use Rattle.model.specs.Calculus.Event.{Event, Label, silently, showing}
-use Rattle.model.specs.Calculus.Expression.{Exp}
-use Rattle.model.specs.Calculus.Allowed.{Allowed, nextHandle}
-use Rattle.model.specs.Run.Meaning.{meaning}
+use Rattle.calculus.specs.Event.{Event, Label, silently, showing}
+use Rattle.calculus.specs.Expression.{Exp}
+use Rattle.calculus.specs.Allowed.{Allowed, nextHandle}
+use Rattle.calculus.specs.Meaning.{meaning}
 use Rattle.model.specs.Run.Call.{Call, step, answer, runner, outcomeOf, noneRefused, eventsFrom}
 use Rattle.model.specs.Run.Demand3.{Shown, Middle}
 use Rattle.model.specs.declared.record.Machine.{Machine}
 use Rattle.model.specs.declared.reply.Outcome.{Outcome}
-use Rattle.model.proofs.Test.{lt-ltb}
-use Rattle.model.proofs.Job.Accepted.{accepted-well-formed}
-use Rattle.model.proofs.Job.Kept.{construct-kept}
-use Rattle.model.proofs.Job.Begins.{start-machine}
+use Rattle.job.proofs.Test.{lt-ltb}
+use Rattle.job.proofs.Accepted.{accepted-well-formed}
+use Rattle.job.proofs.Kept.{construct-kept}
+use Rattle.model.proofs.Machine.Started.{start-machine}
 use Rattle.model.proofs.Machine.Begin.{start-one-token, start-no-cell}
 use Rattle.model.proofs.Machine.Larger.{UsedAtMost, step-adds, answer-adds}
-use Rattle.model.proofs.Abstract.Machine as Abstract
-use Rattle.model.proofs.Abstract.Machine.{startAt, handleOf}
+use Rattle.simulation.proofs.Machine as Abstract
+use Rattle.simulation.proofs.Machine.{startAt, handleOf}
 use Rattle.model.proofs.Abstract.Complete.{complete}
 use Rattle.model.proofs.Sees.Labels.{Labels, programOf, Flow}
 use Rattle.model.proofs.Sees.Labelling.{labelsOf}

@@ -10,10 +10,10 @@ use lib.ListN.{length, getD, take, length-append, length-take, List·getD-append
 use lib.Seq.{getD-take}
 use lib.Dec.{ltb}
 use lib.IntN.{ℤ}
-use Rattle.model.specs.Test.{filter, without}
-use Rattle.model.specs.Site.{BuiltinReply, gives, silent, isBuiltin, builtin}
-use Rattle.model.specs.Job.Syntax.{Param}
-use Rattle.model.specs.Job.Node.{Node, Dag, nodeAt}
+use Rattle.job.specs.Test.{filter, without}
+use Rattle.job.specs.Site.{BuiltinReply, gives, silent, isBuiltin, builtin}
+use Rattle.job.specs.Syntax.{Param}
+use Rattle.job.specs.Node.{Node, Dag, nodeAt}
 use Rattle.model.specs.Machine.Limits.{Limits}
 use Rattle.model.specs.Machine.Blank.{blankToken}
 use Rattle.model.specs.Machine.Active.{underSet, within}
@@ -31,7 +31,7 @@ use Rattle.model.specs.declared.cell.Cell.{Cell}
 use Rattle.model.specs.declared.record.Machine.{Machine}
 use Rattle.model.specs.declared.reply.Refusal.the-variants as refusals
 use Rattle.model.specs.declared.reply.Outcome.{Outcome}
-use Rattle.model.proofs.Test.{clash, ltb-lt}
+use Rattle.job.proofs.Test.{clash, ltb-lt}
 use Rattle.model.proofs.Machine.InUse.{tokens-used}
 use Rattle.model.proofs.Machine.Places.{next-place-free}
 use Rattle.model.proofs.Machine.Refused.{After, after-unless, after-outcome, StepAccepted, step-accepted}

@@ -7,8 +7,8 @@ use Prim.Native.Nat.{ℕ, zero, suc, _≤_, _<_}
 use native.Mathlib.Omega.{arith}
 use lib.ListN.{length, getD, take}
 use lib.Seq.{getD-take, length-take-le}
-use Rattle.model.specs.Test.{count, once}
-use Rattle.model.specs.Job.Node.{Dag}
+use Rattle.job.specs.Test.{count, once}
+use Rattle.job.specs.Node.{Dag}
 use Rattle.model.specs.Machine.Limits.{Limits}
 use Rattle.model.specs.Machine.Blank.{blankToken, tokenAt}
 use Rattle.model.specs.Machine.Active.{underSet, isLive}
@@ -20,7 +20,7 @@ use Rattle.model.specs.declared.token.Token.{Token}
 use Rattle.model.specs.declared.cell.Cell.{Cell}
 use Rattle.model.specs.declared.record.Machine.{Machine}
 use Rattle.model.proofs.Machine.Rules.{RulesKept, rules-kept, NamesOnce, names-once, order-inside, order-names, count-at, ready-live}
-use Rattle.model.proofs.Test.{clash, eqb-eq, eqb-same, ltb-lt, and-left, and-right, all-at}
+use Rattle.job.proofs.Test.{clash, eqb-eq, eqb-same, ltb-lt, and-left, and-right, all-at}
 
 -- what stands in a list is counted
 count-head : (n : ℕ) (q : List ℕ) → count n (n ∷ q) ≡ suc (count n q)

@@ -7,11 +7,11 @@ use mathlib.Core.List.{List, [], _∷_}
 use Prim.Native.Nat.{ℕ, zero, suc, _+_, _≤_, _<_}
 use native.Mathlib.Omega.{arith}
 use lib.ListN.{length, getD, take}
-use Rattle.model.specs.Test.{filter}
-use Rattle.model.specs.Job.Node.{Dag}
+use Rattle.job.specs.Test.{filter}
+use Rattle.job.specs.Node.{Dag}
 use Rattle.model.specs.Run.Follow.{frontEnds, survivors, Fate, falls, stays, fate}
 use Rattle.model.specs.declared.record.Machine.{Machine}
-use Rattle.model.proofs.Test.{holds-or-fails}
+use Rattle.job.proofs.Test.{holds-or-fails}
 
 -- what a filter leaves of a list, and where
 filter-yes : {A : Type 0} (f : A → Bool) (x : A) (xs : List A) → f x ≡ true → filter f (x ∷ xs) ≡ x ∷ filter f xs

@@ -6,18 +6,18 @@ use Prim.Native.Nat.{ℕ, _<_}
 use native.Mathlib.Omega.{arith}
 use lib.ListN.{replicate}
 use lib.IntN.{pos}
-use Rattle.model.specs.Number.{Signed32, fits}
-use Rattle.model.specs.Job.Syntax.{Program}
-use Rattle.model.specs.Job.Construct.{construct}
+use Rattle.job.specs.Number.{Signed32, fits}
+use Rattle.job.specs.Syntax.{Program}
+use Rattle.job.specs.Construct.{construct}
 use Rattle.model.specs.Machine.Limits.{paper}
 use Rattle.model.specs.Machine.Blank.{empty}
-use Rattle.model.specs.Calculus.Event.{Event}
+use Rattle.calculus.specs.Event.{Event}
 use Rattle.model.specs.Run.Call.{Call, Runner, runner, outcomeOf, eventsOf, eventsFrom, machineAfter, started}
 use Rattle.model.specs.Run.Follow.{queuedToken}
 use Rattle.model.specs.declared.token.Slot.the-variants as slots
 use Rattle.model.specs.declared.record.Machine.{Machine}
-use Rattle.model.proofs.Test.{lt-ltb}
-use Rattle.model.proofs.Calculus.Programs.{mail-once, not-strict, same-number}
+use Rattle.job.proofs.Test.{lt-ltb}
+use Rattle.calculus.proofs.Programs.{mail-once, not-strict, same-number}
 use Rattle.model.proofs.Run.Computing.{computing}
 
 -- so many steps in house order

@@ -6,7 +6,7 @@ use mathlib.Core.List.{List}
 use Prim.Native.Nat.{ℕ}
 use native.Mathlib.Omega.{arith}
 use lib.IntN.{ℤ}
-use Rattle.model.specs.Job.Node.{Node, Dag, bodyAt}
+use Rattle.job.specs.Node.{Node, Dag, bodyAt}
 use Rattle.model.specs.Machine.Limits.{Limits}
 use Rattle.model.specs.Machine.Blank.{tokenAt}
 use Rattle.model.specs.Machine.Active.{isLive}
@@ -14,7 +14,7 @@ use Rattle.model.specs.Machine.InUse.{tokensUsed, cellsUsed}
 use Rattle.model.specs.Machine.Places.{nextPlace}
 use Rattle.model.specs.Machine.Reply.{unless}
 use Rattle.model.specs.Machine.Step.{withOrders, forked, split, entered, hasTokenPlace, hasCellPlace, act}
-use Rattle.model.specs.Calculus.Expression.{Exp}
+use Rattle.calculus.specs.Expression.{Exp}
 use Rattle.model.specs.declared.token.Held.{Held}
 use Rattle.model.specs.declared.token.State.{State}
 use Rattle.model.specs.declared.token.State.the-variants as states
@@ -22,9 +22,9 @@ use Rattle.model.specs.declared.token.Token.{Token}
 use Rattle.model.specs.declared.record.Machine.{Machine}
 use Rattle.model.specs.declared.reply.Refusal.the-variants as refusals
 use Rattle.model.proofs.Machine.Marks.{Free}
-use Rattle.model.proofs.Abstract.Machine as Abstract
-use Rattle.model.proofs.Abstract.Machine.{Binding, Frame, at, running, Store, actsAt}
-use Rattle.model.proofs.Abstract.Shuffle.{Split}
+use Rattle.simulation.proofs.Machine as Abstract
+use Rattle.simulation.proofs.Machine.{Binding, Frame, at, running, Store, actsAt}
+use Rattle.simulation.proofs.Shuffle.{Split}
 use Rattle.model.proofs.Sees.Labels.{Labels, nodeMeant, programOf, FlowAt}
 use Rattle.model.proofs.Sees.View.{World, HeldSeen, StateSeen, ready, waiting, called, TokenSeen, sees}
 use Rattle.model.proofs.Sees.Sees.{Core, world, live-listed}

@@ -9,15 +9,15 @@ use lib.IntN.{ℤ}
 use Rattle.model.specs.Machine.Blank.{tokenAt}
 use Rattle.model.specs.Machine.Active.{isLive}
 use Rattle.model.specs.Machine.Reply.{Effect, moves, waits, publishes, calls, refuses, unless}
-use Rattle.model.specs.Calculus.Event.{Event, Label, silently, showing}
-use Rattle.model.specs.Calculus.Allowed.{nextHandle}
+use Rattle.calculus.specs.Event.{Event, Label, silently, showing}
+use Rattle.calculus.specs.Allowed.{nextHandle}
 use Rattle.model.specs.declared.token.State.the-variants as states
 use Rattle.model.specs.declared.token.Token.{Token}
 use Rattle.model.specs.declared.record.Machine.{Machine}
 use Rattle.model.specs.declared.reply.Refusal.{Refusal}
 use Rattle.model.proofs.Machine.Inside.{Fits}
-use Rattle.model.proofs.Abstract.Machine as Abstract
-use Rattle.model.proofs.Abstract.Machine.{Binding, Frame, at, running, Store, makes}
+use Rattle.simulation.proofs.Machine as Abstract
+use Rattle.simulation.proofs.Machine.{Binding, Frame, at, running, Store, makes}
 use Rattle.model.proofs.Sees.Labels.{Labels}
 use Rattle.model.proofs.Sees.View.{World, HeldSeen, Unset, PlaceSeen, TokenSeen, sees}
 use Rattle.model.proofs.Sees.Sees.{world, Sees, sees-tables, UsedToken, UsedCell, used-fits, token-used}

@@ -8,14 +8,14 @@ use native.Mathlib.Omega.{arith}
 use lib.ListN.{getD}
 use lib.Dec.{eqb}
 use lib.IntN.{ℤ}
-use Rattle.model.specs.Test.{any}
+use Rattle.job.specs.Test.{any}
 use Rattle.model.specs.Machine.Blank.{blankToken, tokenAt}
 use Rattle.model.specs.Machine.Active.{isLive}
 use Rattle.model.specs.Machine.Rules.{handleOf}
 use Rattle.model.specs.Machine.Step.{withValue, withState, withTables, withOrders, put, enqueue}
 use Rattle.model.specs.Machine.Answer.{holder}
-use Rattle.model.specs.Calculus.Event.{Event, showing}
-use Rattle.model.specs.Calculus.Allowed.{nextHandle}
+use Rattle.calculus.specs.Event.{Event, showing}
+use Rattle.calculus.specs.Allowed.{nextHandle}
 use Rattle.model.specs.declared.token.Held.{Held}
 use Rattle.model.specs.declared.token.Held.the-variants as helds
 use Rattle.model.specs.declared.token.Place.{Place}
@@ -24,10 +24,10 @@ use Rattle.model.specs.declared.token.State.{State}
 use Rattle.model.specs.declared.token.State.the-variants as states
 use Rattle.model.specs.declared.token.Token.{Token}
 use Rattle.model.specs.declared.record.Machine.{Machine}
-use Rattle.model.proofs.Test.{clash, eqb-eq, or-cases}
-use Rattle.model.proofs.Abstract.Machine as Abstract
-use Rattle.model.proofs.Abstract.Machine.{Binding, Frame, at, running, Store, makes}
-use Rattle.model.proofs.Abstract.Shuffle.{Split}
+use Rattle.job.proofs.Test.{clash, eqb-eq, or-cases}
+use Rattle.simulation.proofs.Machine as Abstract
+use Rattle.simulation.proofs.Machine.{Binding, Frame, at, running, Store, makes}
+use Rattle.simulation.proofs.Shuffle.{Split}
 use Rattle.model.proofs.Sees.Labels.{Labels}
 use Rattle.model.proofs.Sees.View.{World, present, StateSeen, ready, waiting, called, PlaceSeen, Unset, TokenSeen, sees}
 use Rattle.model.proofs.Sees.Sees.{Core, world, used-fits, token-used, live-listed}

@@ -9,10 +9,10 @@ use Prim.Native.Nat.{ℕ, suc, _<_}
 use native.Mathlib.Omega.{arith}
 use lib.ListN.{length, getD}
 use lib.IntN.{ℤ}
-use Rattle.model.specs.Number.{Signed32}
-use Rattle.model.specs.Test.{without}
-use Rattle.model.specs.Job.Syntax.{Param}
-use Rattle.model.specs.Job.Node.{Node, Dag, nodeAt}
+use Rattle.job.specs.Number.{Signed32}
+use Rattle.job.specs.Test.{without}
+use Rattle.job.specs.Syntax.{Param}
+use Rattle.job.specs.Node.{Node, Dag, nodeAt}
 use Rattle.model.specs.Machine.Limits.{Limits}
 use Rattle.model.specs.Machine.Blank.{tokenAt}
 use Rattle.model.specs.Machine.Rules.{rulesHold}
@@ -21,9 +21,9 @@ use Rattle.model.specs.Machine.Step as Step
 use Rattle.model.specs.Machine.Step.{withOrders, queueOf, waitsOf, unset, look, takes}
 use Rattle.model.specs.Machine.Answer as Answer
 use Rattle.model.specs.Machine.Answer.{answered}
-use Rattle.model.specs.Calculus.Event.{Event, Label, silently, showing}
-use Rattle.model.specs.Calculus.Expression.{Exp}
-use Rattle.model.specs.Calculus.Allowed.{shown, nextHandle}
+use Rattle.calculus.specs.Event.{Event, Label, silently, showing}
+use Rattle.calculus.specs.Expression.{Exp}
+use Rattle.calculus.specs.Allowed.{shown, nextHandle}
 use Rattle.model.specs.Run.Call.{Call, step, answer, runner, eventsOf, outcomeOf}
 use Rattle.model.specs.declared.token.Place.the-variants as places
 use Rattle.model.specs.declared.token.State.the-variants as states
@@ -31,10 +31,10 @@ use Rattle.model.specs.declared.token.Token.{Token}
 use Rattle.model.specs.declared.cell.Cell.{Cell}
 use Rattle.model.specs.declared.record.Machine.{Machine}
 use Rattle.model.specs.declared.reply.Outcome.{Outcome}
-use Rattle.model.proofs.Test.{lt-ltb}
-use Rattle.model.proofs.Abstract.Machine as Abstract
-use Rattle.model.proofs.Abstract.Machine.{Binding, Frame, at, running, Store, state, labelOf, after, effect, Move}
-use Rattle.model.proofs.Abstract.Shuffle.{Split, first, later}
+use Rattle.job.proofs.Test.{lt-ltb}
+use Rattle.simulation.proofs.Machine as Abstract
+use Rattle.simulation.proofs.Machine.{Binding, Frame, at, running, Store, state, labelOf, after, effect, Move}
+use Rattle.simulation.proofs.Shuffle.{Split, first, later}
 use Rattle.model.proofs.Sees.Labels.{Labels, nodeMeant, programOf, FlowAt, Flow}
 use Rattle.model.proofs.Sees.View.{World, Unset, PlaceSeen, TokenSeen, Kept, token-keep, tokens-map}
 use Rattle.model.proofs.Sees.Sees.{Core, world, Sees, seenAs, finish-sees, UsedToken, UsedCell, used-closed, used-fits, token-used}

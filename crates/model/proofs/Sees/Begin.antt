@@ -8,16 +8,16 @@ use native.Mathlib.Omega.{arith}
 use lib.ListN.{replicate, length-replicate}
 use lib.Dec.{eqb}
 use lib.IntN.{pos}
-use Rattle.model.specs.Test.{count, once}
-use Rattle.model.specs.Job.Node.{Dag, dagHolds}
+use Rattle.job.specs.Test.{count, once}
+use Rattle.job.specs.Node.{Dag, dagHolds}
 use Rattle.model.specs.Machine.Limits.{Limits}
 use Rattle.model.specs.Machine.Blank.{unbound, blankToken, tokenAt}
 use Rattle.model.specs.Machine.Active.{isLive}
 use Rattle.model.specs.Machine.Start.{startToken, startMachine, start}
 use Rattle.model.specs.declared.token.Token.{Token}
 use Rattle.model.specs.declared.record.Machine.{Machine}
-use Rattle.model.proofs.Test.{eqb-same, ne-eqb}
-use Rattle.model.proofs.Abstract.Machine.{at, running, startAt}
+use Rattle.job.proofs.Test.{eqb-same, ne-eqb}
+use Rattle.simulation.proofs.Machine.{at, running, startAt}
 use Rattle.model.proofs.Sees.Labels.{Labels, Flow}
 use Rattle.model.proofs.Sees.View.{World, absent, ready, root, nothing, outermost, BindingsSeen, PlaceSeen, TokenSeen, sees, nobody, also}
 use Rattle.model.proofs.Sees.Sees.{world, Sees, seenAs}

@@ -10,12 +10,12 @@ use native.Mathlib.Omega.{arith}
 use lib.ListN.{length, getD, set, length-set, length-map, List·getD-map}
 use lib.Dec.{eqb}
 use lib.IntN.{ℤ}
-use Rattle.model.specs.Test.{count, once, any, filter}
-use Rattle.model.specs.Job.Node.{Node, Dag}
+use Rattle.job.specs.Test.{count, once, any, filter}
+use Rattle.job.specs.Node.{Node, Dag}
 use Rattle.model.specs.Machine.Blank.{blankToken, tokenAt, cellAt}
 use Rattle.model.specs.Machine.Active.{within, isLive}
 use Rattle.model.specs.Machine.Step.{withState, withTables, withOrders, waitsAt, chokeToken, choked, chokeAt}
-use Rattle.model.specs.Calculus.Expression.{Exp}
+use Rattle.calculus.specs.Expression.{Exp}
 use Rattle.model.specs.declared.token.Held.{Held}
 use Rattle.model.specs.declared.token.Held.the-variants as helds
 use Rattle.model.specs.declared.token.Place.{Place}
@@ -25,11 +25,11 @@ use Rattle.model.specs.declared.token.State.the-variants as states
 use Rattle.model.specs.declared.token.Token.{Token}
 use Rattle.model.specs.declared.cell.Cell.{Cell}
 use Rattle.model.specs.declared.record.Machine.{Machine}
-use Rattle.model.proofs.Test.{clash, ne-eqb}
+use Rattle.job.proofs.Test.{clash, ne-eqb}
 use Rattle.model.proofs.Machine.Choke.{choke-at, choke-ends}
-use Rattle.model.proofs.Abstract.Machine as Abstract
-use Rattle.model.proofs.Abstract.Machine.{Binding, Frame, at, Store, withSet, isOutOf, outOf, actsAt}
-use Rattle.model.proofs.Abstract.Store.{_∈_, set-same, set-other}
+use Rattle.simulation.proofs.Machine as Abstract
+use Rattle.simulation.proofs.Machine.{Binding, Frame, at, Store, withSet, isOutOf, outOf, actsAt}
+use Rattle.simulation.proofs.Store.{_∈_, set-same, set-other}
 use Rattle.model.proofs.Sees.Labels.{Labels, nodeMeant, programOf}
 use Rattle.model.proofs.Sees.View.{held, World, Nested, StateSeen, ready, waiting, called, Unset, CellSeen, CellsSeen, root, below, PlaceSeen, TokenSeen, sees, TokensSeen, nobody, also, FrameSeen, frameAt, frame-seen, Kept, Closed, place-keep, tokens-append}
 use Rattle.model.proofs.Sees.Sees.{Core, world, sees-tables}

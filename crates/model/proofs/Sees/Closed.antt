@@ -8,14 +8,14 @@ use Prim.Native.Nat.{ℕ, suc, _<_}
 use native.Mathlib.Omega.{arith}
 use lib.ListN.{length}
 use lib.Dec.{eqb}
-use Rattle.model.specs.Test.{All, none, more}
-use Rattle.model.specs.Job.Syntax.{Param, Exp, Program, scopeLeft, scopeRight}
-use Rattle.model.specs.Job.WellFormed.{GoodParam, Binds, Good, WellFormed}
-use Rattle.model.specs.Run.Meaning.{position, paramMeant, joinMeant, expMeant, meaning}
-use Rattle.model.specs.Calculus.Expression as Calculus
-use Rattle.model.specs.Calculus.Expression.{Substitution, lift, substParam}
-use Rattle.model.proofs.Test.{eq-eqb, clash}
-use Rattle.model.proofs.Calculus.Substitution.{Spares, spares-lift}
+use Rattle.job.specs.Test.{All, none, more}
+use Rattle.job.specs.Syntax.{Param, Exp, Program, scopeLeft, scopeRight}
+use Rattle.job.specs.WellFormed.{GoodParam, Binds, Good, WellFormed}
+use Rattle.calculus.specs.Meaning.{position, paramMeant, joinMeant, expMeant, meaning}
+use Rattle.calculus.specs.Expression as Calculus
+use Rattle.calculus.specs.Expression.{Substitution, lift, substParam}
+use Rattle.job.proofs.Test.{eq-eqb, clash}
+use Rattle.calculus.proofs.Substitution.{Spares, spares-lift}
 
 position-below : {x : ℕ} (scope : List ℕ) → List·Memᴰ x scope → position x scope < length scope
 unfolding position

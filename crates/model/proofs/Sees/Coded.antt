@@ -7,20 +7,20 @@ use mathlib.Core.List.{List, [], _∷_, _++_}
 use Prim.Native.Nat.{ℕ, zero, suc, _+_, _<_}
 use native.Mathlib.Omega.{arith}
 use lib.ListN.{length, getD, length-map}
-use Rattle.model.specs.Test.{All, none, more}
-use Rattle.model.specs.Site.{builtins, isBuiltin, isOutside}
-use Rattle.model.specs.Job.Syntax.{Join, Exp, Definition, Program, formalsOf, levels}
-use Rattle.model.specs.Job.WellFormed.{SiteTakes, Good, GoodDefinition, WellFormed}
-use Rattle.model.specs.Job.Node.{Node, Dag, nodeAt, bodyAt}
-use Rattle.model.specs.Job.Construct.{own, size, root, ownNodes, nodesOf, nextLeft, nextRight, constructFrom, construct}
-use Rattle.model.specs.Run.Meaning.{joinMeant, expMeant, bodyMeant, meaning}
-use Rattle.model.specs.Calculus.Expression as Calculus
-use Rattle.model.proofs.Test.{lt-ltb, le-leb, and-both}
-use Rattle.model.proofs.Job.Size.{own-length, nodes-length}
-use Rattle.model.proofs.Job.Kept.{bodies-length}
-use Rattle.model.proofs.Abstract.Machine as Abstract
-use Rattle.model.proofs.Rep.Relation.{Code}
-use Rattle.model.proofs.Rep.Code.{Bodies}
+use Rattle.job.specs.Test.{All, none, more}
+use Rattle.job.specs.Site.{builtins, isBuiltin, isOutside}
+use Rattle.job.specs.Syntax.{Join, Exp, Definition, Program, formalsOf, levels}
+use Rattle.job.specs.WellFormed.{SiteTakes, Good, GoodDefinition, WellFormed}
+use Rattle.job.specs.Node.{Node, Dag, nodeAt, bodyAt}
+use Rattle.job.specs.Construct.{own, size, root, ownNodes, nodesOf, nextLeft, nextRight, constructFrom, construct}
+use Rattle.calculus.specs.Meaning.{joinMeant, expMeant, bodyMeant, meaning}
+use Rattle.calculus.specs.Expression as Calculus
+use Rattle.job.proofs.Test.{lt-ltb, le-leb, and-both}
+use Rattle.job.proofs.Size.{own-length, nodes-length}
+use Rattle.job.proofs.Kept.{bodies-length}
+use Rattle.simulation.proofs.Machine as Abstract
+use Rattle.simulation.proofs.Relation.{Code}
+use Rattle.simulation.proofs.Coded.{Bodies}
 use Rattle.model.proofs.Sees.Labels.{Labels, nodeMeant, programOf}
 use Rattle.model.proofs.Sees.Each.{Each, each-head, each-tail, each-left, each-right, each-three, each-own}
 use Rattle.model.proofs.Sees.Labelling.{Label, nestRight, ownLabels, expLabels, programLabels, labelsOf}

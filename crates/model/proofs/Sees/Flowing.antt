@@ -6,15 +6,15 @@ use mathlib.Core.List.{List, [], _∷_}
 use Prim.Native.Nat.{ℕ, zero, suc, _+_, _≤_, _<_}
 use native.Mathlib.Omega.{arith}
 use lib.ListN.{length, getD, length-map}
-use Rattle.model.specs.Test.{All, none, more}
-use Rattle.model.specs.Job.Syntax.{Param, Join, Exp, Definition, Program, formalsOf, levels, scopeLeft, scopeRight}
-use Rattle.model.specs.Job.WellFormed.{GoodParam, Binds, Good, GoodDefinition, WellFormed}
-use Rattle.model.specs.Job.Node.{Node, Dag, nodeAt, bodyAt}
-use Rattle.model.specs.Job.Construct.{own, size, root, ownNodes, nodesOf, nextLeft, nextRight, constructFrom, construct}
-use Rattle.model.proofs.Test.{All-map}
-use Rattle.model.proofs.Job.Size.{own-length, nodes-length}
-use Rattle.model.proofs.All.{All-member, All-at}
-use Rattle.model.proofs.Job.Kept.{bodies-length, formals-few}
+use Rattle.job.specs.Test.{All, none, more}
+use Rattle.job.specs.Syntax.{Param, Join, Exp, Definition, Program, formalsOf, levels, scopeLeft, scopeRight}
+use Rattle.job.specs.WellFormed.{GoodParam, Binds, Good, GoodDefinition, WellFormed}
+use Rattle.job.specs.Node.{Node, Dag, nodeAt, bodyAt}
+use Rattle.job.specs.Construct.{own, size, root, ownNodes, nodesOf, nextLeft, nextRight, constructFrom, construct}
+use Rattle.job.proofs.Test.{All-map}
+use Rattle.job.proofs.Size.{own-length, nodes-length}
+use Rattle.job.proofs.All.{All-member, All-at}
+use Rattle.job.proofs.Kept.{bodies-length, formals-few}
 use Rattle.model.proofs.Sees.Labels.{Labels, Fresh, Follows, Enters, FlowAt, Flow}
 use Rattle.model.proofs.Sees.Each.{Each, each-head, each-tail, each-from, each-append, three-each, each-at}
 use Rattle.model.proofs.Sees.Labelling.{Label, plain, nestRight, ownLabels, expLabels, programLabels, labelsOf}

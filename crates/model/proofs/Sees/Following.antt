@@ -4,15 +4,15 @@ use mathlib.Core.Path.{_≡_, refl, sym, _∙_, ap, subst}
 use mathlib.Core.Bool.{true, false}
 use mathlib.Core.List.{List, [], _∷_, _++_}
 use Prim.Native.Nat.{ℕ, suc}
-use Rattle.model.specs.Job.Node.{Dag}
+use Rattle.job.specs.Node.{Dag}
 use Rattle.model.specs.Machine.Limits.{Limits}
 use Rattle.model.specs.Machine.Reply.{isRefused}
-use Rattle.model.specs.Calculus.Event.{Event, Label, silently}
-use Rattle.model.specs.Calculus.Expression.{Exp}
-use Rattle.model.specs.Calculus.Allowed.{shown}
+use Rattle.calculus.specs.Event.{Event, Label, silently}
+use Rattle.calculus.specs.Expression.{Exp}
+use Rattle.calculus.specs.Allowed.{shown}
 use Rattle.model.specs.Run.Call.{Call, runner, outcomeOf, eventsFrom, noneRefused}
 use Rattle.model.specs.declared.record.Machine.{Machine}
-use Rattle.model.proofs.Abstract.Machine as Abstract
+use Rattle.simulation.proofs.Machine as Abstract
 use Rattle.model.proofs.Sees.Labels.{Labels, programOf, Flow}
 use Rattle.model.proofs.Sees.Sees.{Sees}
 use Rattle.model.proofs.Sees.Lockstep.{Fitting, eventsBy, shown-append}

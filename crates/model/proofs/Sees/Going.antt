@@ -7,19 +7,19 @@ use native.Mathlib.Omega.{arith}
 use lib.ListN.{length}
 use lib.Dec.{ltb}
 use lib.IntN.{ℤ}
-use Rattle.model.specs.Test.{All}
-use Rattle.model.specs.Site.{BuiltinReply, gives, silent, isBuiltin, builtin}
-use Rattle.model.specs.Job.Syntax.{Param}
-use Rattle.model.specs.Job.WellFormed.{GoodParam}
-use Rattle.model.specs.Job.Node.{Node, Dag}
+use Rattle.job.specs.Test.{All}
+use Rattle.job.specs.Site.{BuiltinReply, gives, silent, isBuiltin, builtin}
+use Rattle.job.specs.Syntax.{Param}
+use Rattle.job.specs.WellFormed.{GoodParam}
+use Rattle.job.specs.Node.{Node, Dag}
 use Rattle.model.specs.Machine.Limits.{Limits}
 use Rattle.model.specs.Machine.Blank.{blankToken, tokenAt}
 use Rattle.model.specs.Machine.Active.{isLive}
 use Rattle.model.specs.Machine.Reply.{moves, publishes, unless}
 use Rattle.model.specs.Machine.Step.{withNode, withBinding, withValue, withState, withTables, withOrders, withCounts, put, enqueue, LookedUp, values, unset, look, valueOf, ended, goesOn, waited, replied, calledOut, returned, callSite}
-use Rattle.model.specs.Calculus.Event.{Event, silently, showing}
-use Rattle.model.specs.Calculus.Expression.{Exp}
-use Rattle.model.specs.Calculus.Allowed.{nextHandle}
+use Rattle.calculus.specs.Event.{Event, silently, showing}
+use Rattle.calculus.specs.Expression.{Exp}
+use Rattle.calculus.specs.Allowed.{nextHandle}
 use Rattle.model.specs.declared.token.Slot.the-variants as slots
 use Rattle.model.specs.declared.token.Held.the-variants as helds
 use Rattle.model.specs.declared.token.Place.{Place}
@@ -28,9 +28,9 @@ use Rattle.model.specs.declared.token.State.the-variants as states
 use Rattle.model.specs.declared.token.Token.{Token}
 use Rattle.model.specs.declared.record.Machine.{Machine}
 use Rattle.model.specs.declared.reply.Refusal.the-variants as refusals
-use Rattle.model.proofs.Abstract.Machine as Abstract
-use Rattle.model.proofs.Abstract.Machine.{Binding, Frame, at, running, Store, actsAt}
-use Rattle.model.proofs.Abstract.Store.{_∈_}
+use Rattle.simulation.proofs.Machine as Abstract
+use Rattle.simulation.proofs.Machine.{Binding, Frame, at, running, Store, actsAt}
+use Rattle.simulation.proofs.Store.{_∈_}
 use Rattle.model.proofs.Sees.Labels.{Labels, nodeMeant, programOf, Fresh, Follows}
 use Rattle.model.proofs.Sees.View.{World, cellsOfCaller, present, waiting, called, valued, BindingSeen, FrameSeen, frameAt, frame-seen, TokenSeen, sees}
 use Rattle.model.proofs.Sees.Sees.{world, tokens-of, used-fits}

@@ -5,8 +5,8 @@ use mathlib.Core.Bool.{Bool, true, false}
 use mathlib.Core.List.{List, [], _∷_, _++_}
 use Prim.Native.Nat.{ℕ, suc, _+_}
 use lib.ListN.{length, getD, length-append}
-use Rattle.model.specs.Job.Syntax.{Join, par, seq, prune, Exp, stop, site, call, join, Definition, Program, levels, scopeLeft, scopeRight}
-use Rattle.model.specs.Job.Construct.{own, size}
+use Rattle.job.specs.Syntax.{Join, par, seq, prune, Exp, stop, site, call, join, Definition, Program, levels, scopeLeft, scopeRight}
+use Rattle.job.specs.Construct.{own, size}
 use Rattle.model.proofs.Sees.Labels.{Labels}
 use Rattle.model.proofs.Sees.Each.{Each, Three, each-map, each-left, each-right, each-three, each-own}
 

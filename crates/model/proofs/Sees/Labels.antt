@@ -6,14 +6,14 @@ use mathlib.Core.List.{List, [], _∷_, map, List·Memᴰ}
 use Prim.Native.Nat.{ℕ, suc, _<_, _≤_}
 use lib.ListN.{length}
 use lib.IntN.{ℤ}
-use Rattle.model.specs.Test.{All}
-use Rattle.model.specs.Number.{Signed32}
-use Rattle.model.specs.Job.Syntax.{Param, levels}
-use Rattle.model.specs.Job.Node.{Node, Dag, nodeAt, bodyAt}
-use Rattle.model.specs.Job.WellFormed.{GoodParam}
-use Rattle.model.specs.Run.Meaning.{paramMeant}
-use Rattle.model.specs.Calculus.Expression.{Exp}
-use Rattle.model.proofs.Abstract.Machine as Abstract
+use Rattle.job.specs.Test.{All}
+use Rattle.job.specs.Number.{Signed32}
+use Rattle.job.specs.Syntax.{Param, levels}
+use Rattle.job.specs.Node.{Node, Dag, nodeAt, bodyAt}
+use Rattle.job.specs.WellFormed.{GoodParam}
+use Rattle.calculus.specs.Meaning.{paramMeant}
+use Rattle.calculus.specs.Expression.{Exp}
+use Rattle.simulation.proofs.Machine as Abstract
 
 -- the variables in scope, the innermost binder's first; in how many right sides of prunes of its own body a node stands;
 -- whether a token there has a value; whether it is a definition's

@@ -10,9 +10,9 @@ use native.Mathlib.Omega.{arith}
 use lib.ListN.{length, getD}
 use lib.Seq.{take-append-seam}
 use lib.IntN.{ℤ}
-use Rattle.model.specs.Test.{padded, without}
-use Rattle.model.specs.Number.{Signed32}
-use Rattle.model.specs.Job.Node.{Dag, nodeAt, isNode, dagHolds}
+use Rattle.job.specs.Test.{padded, without}
+use Rattle.job.specs.Number.{Signed32}
+use Rattle.job.specs.Node.{Dag, nodeAt, isNode, dagHolds}
 use Rattle.model.specs.Machine.Limits.{Limits, limits}
 use Rattle.model.specs.Machine.Blank.{blankToken, tokenAt}
 use Rattle.model.specs.Machine.InUse.{tokensUsed, cellsUsed, marked}
@@ -23,9 +23,9 @@ use Rattle.model.specs.Machine.Step as Step
 use Rattle.model.specs.Machine.Step.{withOrders, queueOf, waitsOf, hasTokenPlace, hasCellPlace, takes}
 use Rattle.model.specs.Machine.Answer as Answer
 use Rattle.model.specs.Machine.Answer.{holder, answered}
-use Rattle.model.specs.Calculus.Event.{Event, Label, silently, showing}
-use Rattle.model.specs.Calculus.Expression.{Exp}
-use Rattle.model.specs.Calculus.Allowed.{shown}
+use Rattle.calculus.specs.Event.{Event, Label, silently, showing}
+use Rattle.calculus.specs.Expression.{Exp}
+use Rattle.calculus.specs.Allowed.{shown}
 use Rattle.model.specs.Run.Call.{Call, step, answer, runner, eventsOf, outcomeOf, eventsFrom, machineAfter, started}
 use Rattle.model.specs.declared.token.Place.{Place}
 use Rattle.model.specs.declared.token.Place.the-variants as places
@@ -35,15 +35,15 @@ use Rattle.model.specs.declared.record.Machine.{Machine}
 use Rattle.model.specs.declared.reply.Reply.{Reply}
 use Rattle.model.specs.declared.reply.Reply.the-variants as replies
 use Rattle.model.specs.declared.reply.Outcome.{Outcome}
-use Rattle.model.proofs.Test.{clash, holds-or-fails, and-left, and-right, all-at, ltb-lt, eqb-eq}
+use Rattle.job.proofs.Test.{clash, holds-or-fails, and-left, and-right, all-at, ltb-lt, eqb-eq}
 use Rattle.model.proofs.Machine.Marks.{Free}
 use Rattle.model.proofs.Machine.InUse.{tokens-used, cells-used}
 use Rattle.model.proofs.Machine.Places.{next-place-free}
 use Rattle.model.proofs.Machine.Rules.{RulesKept, rules-kept, ready-state}
 use Rattle.model.proofs.Machine.Refused.{outcome-refused, StepAccepted, step-accepted, AnswerAccepted, answer-accepted}
 use Rattle.model.proofs.Run.Queue.{queue-kept, tokens-sized, lasttoken-inside}
-use Rattle.model.proofs.Abstract.Machine as Abstract
-use Rattle.model.proofs.Abstract.Machine.{Binding, Frame, at, Store, state, labelOf, after, Move, startAt}
+use Rattle.simulation.proofs.Machine as Abstract
+use Rattle.simulation.proofs.Machine.{Binding, Frame, at, Store, state, labelOf, after, Move, startAt}
 use Rattle.model.proofs.Sees.Labels.{Labels, programOf, Flow}
 use Rattle.model.proofs.Sees.View.{World}
 use Rattle.model.proofs.Sees.Sees.{world, Sees, seenAs, finish-sees}

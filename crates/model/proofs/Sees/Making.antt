@@ -9,17 +9,17 @@ use lib.ListN.{length, set, length-set}
 use lib.Seq.{getD-set-same, getD-set-other}
 use lib.Dec.{eqb}
 use lib.IntN.{ℤ}
-use Rattle.model.specs.Test.{All}
-use Rattle.model.specs.Job.Syntax.{Param}
-use Rattle.model.specs.Job.WellFormed.{GoodParam}
-use Rattle.model.specs.Job.Node.{Node, Dag, bodyAt}
+use Rattle.job.specs.Test.{All}
+use Rattle.job.specs.Syntax.{Param}
+use Rattle.job.specs.WellFormed.{GoodParam}
+use Rattle.job.specs.Node.{Node, Dag, bodyAt}
 use Rattle.model.specs.Machine.Blank.{blankCell, tokenAt, cellAt}
 use Rattle.model.specs.Machine.Active.{isLive}
 use Rattle.model.specs.Machine.InUse.{tokensUsed, cellsUsed}
 use Rattle.model.specs.Machine.Step.{withNode, withBinding, inCell, withState, withTables, withOrders, withCounts, put, enqueue, newToken, newCell, formalsBound, forked, split, entered}
-use Rattle.model.specs.Calculus.Expression.{Exp}
-use Rattle.model.specs.Calculus.Allowed.{nextHandle}
-use Rattle.model.specs.Run.Meaning.{paramMeant}
+use Rattle.calculus.specs.Expression.{Exp}
+use Rattle.calculus.specs.Allowed.{nextHandle}
+use Rattle.calculus.specs.Meaning.{paramMeant}
 use Rattle.model.specs.declared.token.Slot.the-variants as slots
 use Rattle.model.specs.declared.token.Held.the-variants as helds
 use Rattle.model.specs.declared.token.Place.the-variants as places
@@ -28,10 +28,10 @@ use Rattle.model.specs.declared.token.Token.{Token}
 use Rattle.model.specs.declared.cell.Cell.{Cell}
 use Rattle.model.specs.declared.record.Machine.{Machine}
 use Rattle.model.proofs.Run.Chain.{cell-same, cell-other}
-use Rattle.model.proofs.Test.{clash, eqb-same, ne-eqb}
+use Rattle.job.proofs.Test.{clash, eqb-same, ne-eqb}
 use Rattle.model.proofs.Machine.Marks.{Free, free-inside}
-use Rattle.model.proofs.Abstract.Machine as Abstract
-use Rattle.model.proofs.Abstract.Machine.{Binding, Frame, frame, at, running, Store, named, actsAt}
+use Rattle.simulation.proofs.Machine as Abstract
+use Rattle.simulation.proofs.Machine.{Binding, Frame, frame, at, running, Store, named, actsAt}
 use Rattle.model.proofs.Sees.Labels.{Labels, nodeMeant, programOf, Fresh, Follows, Enters}
 use Rattle.model.proofs.Sees.View.{held, World, Unset, absent, ready, CellSeen, CellsSeen, below, celled, calledBy, PlaceSeen, TokenSeen, sees, Kept, place-keep}
 use Rattle.model.proofs.Sees.Sees.{world, sees-tables, UsedToken, UsedCell, cells-of, used-closed}

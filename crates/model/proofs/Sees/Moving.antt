@@ -7,7 +7,7 @@ use native.Mathlib.Decide.{ℕ-discrete}
 use native.Mathlib.Omega.{arith}
 use lib.ListN.{length}
 use lib.IntN.{ℤ}
-use Rattle.model.specs.Job.Node.{Dag}
+use Rattle.job.specs.Node.{Dag}
 use Rattle.model.specs.Machine.Blank.{slotAt}
 use Rattle.model.specs.Machine.Step.{withNode, withBinding}
 use Rattle.model.specs.declared.token.Slot.{Slot}
@@ -18,10 +18,10 @@ use Rattle.model.specs.declared.token.Held.the-variants as helds
 use Rattle.model.specs.declared.token.State.{State}
 use Rattle.model.specs.declared.token.State.the-variants as states
 use Rattle.model.specs.declared.token.Token.{Token}
-use Rattle.model.proofs.Test.{clash}
+use Rattle.job.proofs.Test.{clash}
 use Rattle.model.proofs.Machine.Inside.{Fits}
-use Rattle.model.proofs.Abstract.Machine as Abstract
-use Rattle.model.proofs.Abstract.Machine.{Binding, Frame, running}
+use Rattle.simulation.proofs.Machine as Abstract
+use Rattle.simulation.proofs.Machine.{Binding, Frame, running}
 use Rattle.model.proofs.Sees.Labels.{Labels, Fresh, Follows}
 use Rattle.model.proofs.Sees.View.{World, Nested, cellsOfCaller, HeldSeen, absent, present, StateSeen, ready, CellsSeen, BindingSeen, SlotsSeen, FramesSeen, PlaceSeen}
 use Rattle.model.proofs.Sees.Slots.{withSlot, slot-same, slot-other, slots-bind, slots-drop}

@@ -10,18 +10,18 @@ use native.Mathlib.Omega.{arith}
 use lib.ListN.{length, set, length-set}
 use lib.Seq.{getD-set-same, getD-set-other}
 use lib.Dec.{eqb}
-use Rattle.model.specs.Test.{count, once}
+use Rattle.job.specs.Test.{count, once}
 use Rattle.model.specs.Machine.Blank.{blankToken, tokenAt, cellAt}
 use Rattle.model.specs.Machine.Active.{isLive}
 use Rattle.model.specs.Machine.InUse.{usedTokens}
 use Rattle.model.specs.declared.token.State.the-variants as states
 use Rattle.model.specs.declared.token.Token.{Token}
 use Rattle.model.specs.declared.cell.Cell.{Cell}
-use Rattle.model.proofs.Test.{clash, false-of, eqb-eq, eqb-same, ne-eqb}
+use Rattle.job.proofs.Test.{clash, false-of, eqb-eq, eqb-same, ne-eqb}
 use Rattle.model.proofs.Machine.Marks.{Free, free-inside}
 use Rattle.model.proofs.Machine.Inside.{Fits}
-use Rattle.model.proofs.Abstract.Machine as Abstract
-use Rattle.model.proofs.Abstract.Shuffle.{Split, first, later}
+use Rattle.simulation.proofs.Machine as Abstract
+use Rattle.simulation.proofs.Shuffle.{Split, first, later}
 use Rattle.model.proofs.Sees.Labels.{Labels}
 use Rattle.model.proofs.Sees.View.{World, CellSeen, TokenSeen, TokensSeen, nobody, also, Kept, token-keep, tokens-map, tokens-append}
 use Rattle.model.proofs.Sees.Sees.{Core, token-live, live-inside, UsedToken, UsedCell, tokens-of, used-fits, used-closed, token-used, token-at}

@@ -8,8 +8,8 @@ use native.Mathlib.Omega.{arith}
 use lib.ListN.{length}
 use lib.Dec.{ltb}
 use lib.IntN.{ℤ}
-use Rattle.model.specs.Site.{BuiltinReply, gives, silent, isBuiltin, builtin}
-use Rattle.model.specs.Job.Node.{Node, Dag}
+use Rattle.job.specs.Site.{BuiltinReply, gives, silent, isBuiltin, builtin}
+use Rattle.job.specs.Node.{Node, Dag}
 use Rattle.model.specs.Machine.Limits.{Limits}
 use Rattle.model.specs.Machine.Blank.{tokenAt}
 use Rattle.model.specs.Machine.Reply.{Effect, accepted, outcome, unless, isRefused}
@@ -20,9 +20,9 @@ use Rattle.model.specs.declared.token.Token.{Token}
 use Rattle.model.specs.declared.record.Machine.{Machine}
 use Rattle.model.specs.declared.reply.Refusal.{Refusal}
 use Rattle.model.specs.declared.reply.Refusal.the-variants as refusals
-use Rattle.model.proofs.Test.{clash, lt-ltb}
-use Rattle.model.proofs.Abstract.Machine as Abstract
-use Rattle.model.proofs.Abstract.Machine.{Binding, Frame}
+use Rattle.job.proofs.Test.{clash, lt-ltb}
+use Rattle.simulation.proofs.Machine as Abstract
+use Rattle.simulation.proofs.Machine.{Binding, Frame}
 use Rattle.model.proofs.Sees.Labels.{Labels, FlowAt}
 use Rattle.model.proofs.Sees.View.{World, Nested, hasCaller, cellsOfCaller, CellsSeen, root, below, FramesSeen, outermost, calledBy}
 use Rattle.model.proofs.Sees.Agrees.{Acting}

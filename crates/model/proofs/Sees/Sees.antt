@@ -10,7 +10,7 @@ use native.Mathlib.Decide.{decLt}
 use native.Mathlib.Omega.{arith}
 use lib.ListN.{length, getD}
 use lib.Dec.{eqb}
-use Rattle.model.specs.Test.{count, once}
+use Rattle.job.specs.Test.{count, once}
 use Rattle.model.specs.Machine.Blank.{blankToken, blankCell, tokenAt, cellAt, hasValue}
 use Rattle.model.specs.Machine.Active.{isSet, upward, underSet, isLive, isActive}
 use Rattle.model.specs.Machine.InUse.{usedTokens, usedCells, restBlanked, sweep}
@@ -21,14 +21,14 @@ use Rattle.model.specs.declared.token.State.{State}
 use Rattle.model.specs.declared.token.Token.{Token}
 use Rattle.model.specs.declared.cell.Cell.{Cell}
 use Rattle.model.specs.declared.record.Machine.{Machine}
-use Rattle.model.proofs.Test.{clash, eqb-eq}
+use Rattle.job.proofs.Test.{clash, eqb-eq}
 use Rattle.model.proofs.Machine.Marks.{Marked}
 use Rattle.model.proofs.Machine.InUse.{TokensUsed, tokens-used, CellsUsed, cells-used, token-outside}
 use Rattle.model.proofs.Machine.Inside.{Fits}
 use Rattle.model.proofs.Machine.Kept.{length-kept, kept-marked, kept-cases}
-use Rattle.model.proofs.Abstract.Machine as Abstract
-use Rattle.model.proofs.Abstract.Machine.{Store, state}
-use Rattle.model.proofs.Abstract.Store.{_∈_}
+use Rattle.simulation.proofs.Machine as Abstract
+use Rattle.simulation.proofs.Machine.{Store, state}
+use Rattle.simulation.proofs.Store.{_∈_}
 use Rattle.model.proofs.Sees.Labels.{Labels}
 use Rattle.model.proofs.Sees.View.{held, World, CellSeen, CellsSeen, root, below, StateSeen, ready, waiting, called, Unset, TokenSeen, sees, TokensSeen, nobody, also, Kept, Closed, token-keep, tokens-map}
 

@@ -11,22 +11,22 @@ use lib.ListN.{length, set, drop, replicate, length-set, length-append, length-d
 use lib.Seq.{getD-set-same, getD-set-other, getD-append-add, getD-drop}
 use lib.Dec.{eqb}
 use lib.IntN.{ℤ}
-use Rattle.model.specs.Test.{All, more}
-use Rattle.model.specs.Job.Syntax as Job
-use Rattle.model.specs.Job.Syntax.{levels}
-use Rattle.model.specs.Job.WellFormed.{GoodParam}
+use Rattle.job.specs.Test.{All, more}
+use Rattle.job.specs.Syntax as Job
+use Rattle.job.specs.Syntax.{levels}
+use Rattle.job.specs.WellFormed.{GoodParam}
 use Rattle.model.specs.Machine.Blank.{empty, unbound, cellAt, slotAt}
 use Rattle.model.specs.Machine.Step.{LookedUp, values, unset, andThen, look, passed, formalsBound}
-use Rattle.model.specs.Run.Meaning.{position, paramMeant}
+use Rattle.calculus.specs.Meaning.{position, paramMeant}
 use Rattle.model.specs.declared.token.Slot.{Slot}
 use Rattle.model.specs.declared.token.Slot.the-variants as slots
 use Rattle.model.specs.declared.token.Bind.{Bind}
 use Rattle.model.specs.declared.token.Held.{Held}
 use Rattle.model.specs.declared.token.Held.the-variants as helds
-use Rattle.model.proofs.Test.{eqb-eq, eqb-ne}
-use Rattle.model.proofs.Abstract.Machine.{Binding, bindingAt, named, valueIn, inFront, valuesIn}
-use Rattle.model.proofs.Abstract.Store.{_∈_}
-use Rattle.model.specs.Calculus.Expression as Calculus
+use Rattle.job.proofs.Test.{eqb-eq, eqb-ne}
+use Rattle.simulation.proofs.Machine.{Binding, bindingAt, named, valueIn, inFront, valuesIn}
+use Rattle.simulation.proofs.Store.{_∈_}
+use Rattle.calculus.specs.Expression as Calculus
 use Rattle.model.proofs.Sees.Labels.{Fresh}
 use Rattle.model.proofs.Sees.View.{held, World, below, BindingSeen, valued, celled, BindingsSeen, nothing, binds, SlotsSeen}
 

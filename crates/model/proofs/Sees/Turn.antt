@@ -9,8 +9,8 @@ use lib.ListN.{length, getD, take, length-take}
 use lib.Seq.{getD-take}
 use lib.Dec.{eqb}
 use lib.IntN.{ℤ}
-use Rattle.model.specs.Test.{_or_, any, count, once, differ}
-use Rattle.model.specs.Job.Node.{Dag}
+use Rattle.job.specs.Test.{_or_, any, count, once, differ}
+use Rattle.job.specs.Node.{Dag}
 use Rattle.model.specs.Machine.Limits.{Limits}
 use Rattle.model.specs.Machine.Blank.{tokenAt}
 use Rattle.model.specs.Machine.Rules.{isReady, handleOf, openHandles, rulesHold}
@@ -22,11 +22,11 @@ use Rattle.model.specs.declared.token.State.{State}
 use Rattle.model.specs.declared.token.State.the-variants as states
 use Rattle.model.specs.declared.token.Token.{Token}
 use Rattle.model.specs.declared.record.Machine.{Machine}
-use Rattle.model.proofs.Test.{clash, eqb-eq, eqb-same, or-left, or-right, and-left, and-right}
+use Rattle.job.proofs.Test.{clash, eqb-eq, eqb-same, or-left, or-right, and-left, and-right}
 use Rattle.model.proofs.Machine.Rules.{rules-kept, NamesOnce, names-once}
-use Rattle.model.proofs.Abstract.Machine as Abstract
-use Rattle.model.proofs.Abstract.Machine.{Binding, Frame, at, running, state}
-use Rattle.model.proofs.Abstract.Shuffle.{Split}
+use Rattle.simulation.proofs.Machine as Abstract
+use Rattle.simulation.proofs.Machine.{Binding, Frame, at, running, state}
+use Rattle.simulation.proofs.Shuffle.{Split}
 use Rattle.model.proofs.Sees.Labels.{Labels}
 use Rattle.model.proofs.Sees.View.{World, HeldSeen, Unset, StateSeen, ready, waiting, called, PlaceSeen, TokenSeen, sees}
 use Rattle.model.proofs.Sees.Sees.{Core}

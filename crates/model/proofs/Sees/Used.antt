@@ -17,13 +17,13 @@ use Rattle.model.specs.declared.token.Place.{Place}
 use Rattle.model.specs.declared.token.Place.the-variants as places
 use Rattle.model.specs.declared.token.State.{State}
 use Rattle.model.specs.declared.token.State.the-variants as states
-use Rattle.model.proofs.Test.{clash}
+use Rattle.job.proofs.Test.{clash}
 use Rattle.model.proofs.Machine.Reach.{Names}
 use Rattle.model.proofs.Machine.InUse.{CellsIn, active-inside}
 use Rattle.model.proofs.Machine.Inside.{active-live}
-use Rattle.model.proofs.Abstract.Machine as Abstract
-use Rattle.model.proofs.Abstract.Machine.{Binding, Frame}
-use Rattle.model.proofs.Abstract.Store.{_∈_, _∉_}
+use Rattle.simulation.proofs.Machine as Abstract
+use Rattle.simulation.proofs.Machine.{Binding, Frame}
+use Rattle.simulation.proofs.Store.{_∈_, _∉_}
 use Rattle.model.proofs.Sees.Labels.{Labels}
 use Rattle.model.proofs.Sees.View.{World, CellsSeen, root, below, BindingSeen, valued, celled, SlotsSeen, PlaceSeen, TokenSeen, sees, FrameSeen, frameAt, frame-seen}
 use Rattle.model.proofs.Sees.Sees.{Core, state-live, UsedToken, UsedCell, tokens-of, cells-of, token-at, live-listed}

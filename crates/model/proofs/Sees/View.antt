@@ -8,7 +8,7 @@ use Prim.Native.Nat.{ℕ, _<_}
 use native.Mathlib.Omega.{arith}
 use lib.ListN.{length}
 use lib.IntN.{ℤ}
-use Rattle.model.specs.Test.{count}
+use Rattle.job.specs.Test.{count}
 use Rattle.model.specs.Machine.Blank.{tokenAt, cellAt, slotAt}
 use Rattle.model.specs.declared.token.Slot.{Slot}
 use Rattle.model.specs.declared.token.Slot.the-variants as slots
@@ -21,12 +21,12 @@ use Rattle.model.specs.declared.token.State.{State}
 use Rattle.model.specs.declared.token.State.the-variants as states
 use Rattle.model.specs.declared.token.Token.{Token}
 use Rattle.model.specs.declared.cell.Cell.{Cell}
-use Rattle.model.proofs.Test.{eqb-same}
+use Rattle.job.proofs.Test.{eqb-same}
 use Rattle.model.proofs.Machine.Reach.{Names}
 use Rattle.model.proofs.Machine.Inside.{Fits}
-use Rattle.model.proofs.Abstract.Machine as Abstract
-use Rattle.model.proofs.Abstract.Machine.{Binding, Frame, frame, at, running, Store}
-use Rattle.model.proofs.Abstract.Store.{_∈_}
+use Rattle.simulation.proofs.Machine as Abstract
+use Rattle.simulation.proofs.Machine.{Binding, Frame, frame, at, running, Store}
+use Rattle.simulation.proofs.Store.{_∈_}
 use Rattle.model.proofs.Sees.Labels.{Labels, Fresh}
 
 abbrev pub held : Held → Option ℤ

@@ -9,16 +9,16 @@ use native.Mathlib.Omega.{arith}
 use lib.ListN.{length, set, replicate, length-set, length-replicate}
 use lib.Seq.{getD-set-other}
 use lib.Dec.{eqb}
-use Rattle.model.specs.Test.{_or_, any}
+use Rattle.job.specs.Test.{_or_, any}
 use Rattle.model.specs.Machine.Blank.{cellAt}
 use Rattle.model.specs.Machine.Active.{upward, within}
 use Rattle.model.specs.Machine.InUse.{marked}
 use Rattle.model.specs.declared.token.Place.{Place}
 use Rattle.model.specs.declared.token.Place.the-variants as places
-use Rattle.model.proofs.Job.WellFormed.{member-any}
-use Rattle.model.proofs.Test.{clash, eq-eqb, ne-eqb, or-left, or-right}
+use Rattle.job.proofs.WellFormed.{member-any}
+use Rattle.job.proofs.Test.{clash, eq-eqb, ne-eqb, or-left, or-right}
 use Rattle.model.proofs.Machine.Marks.{Free, marked-le-length, marked-set-free}
-use Rattle.model.proofs.Abstract.Store.{_∈_, _∉_}
+use Rattle.simulation.proofs.Store.{_∈_, _∉_}
 use Rattle.model.proofs.Sees.View.{World, CellSeen, CellsSeen, root, below}
 
 -- names in a list

@@ -4,10 +4,10 @@ use mathlib.Core.List.{List, [], _∷_, _++_}
 use Prim.Native.Nat.{ℕ, zero, suc, _+_}
 use lib.ListN.{length, take, drop}
 use lib.Dec.{ltb, leb, eqb}
-use Rattle.model.specs.Number.{number, signed}
-use Rattle.model.specs.Job.Node.{Dag}
-use Rattle.model.specs.Job.Read.{tableLength, Answer, accepted, declined, readTable}
-use Rattle.model.specs.Job.Construct.{construct}
+use Rattle.job.specs.Number.{number, signed}
+use Rattle.job.specs.Node.{Dag}
+use Rattle.job.specs.Read.{tableLength, Answer, accepted, declined, readTable}
+use Rattle.job.specs.Construct.{construct}
 use Rattle.model.specs.Machine.Limits.{Limits, paper}
 use Rattle.model.specs.Machine.Reply.{Reported, reported, isRefused}
 use Rattle.model.specs.Machine.Start.{start}

@@ -4,7 +4,7 @@ use mathlib.Core.List.{List, [], _∷_}
 use Prim.Native.Nat.{ℕ}
 use lib.ListN.{getD, replicate}
 use lib.Dec.{eqb}
-use Rattle.model.specs.Test.{_and_, all}
+use Rattle.job.specs.Test.{_and_, all}
 use Rattle.model.specs.Machine.Limits.{Limits}
 use Rattle.model.specs.declared.token.Slot.{Slot}
 use Rattle.model.specs.declared.token.Slot.the-variants as slots

@@ -4,7 +4,7 @@ use mathlib.Core.List.{List, [], _∷_}
 use Prim.Native.Nat.{ℕ}
 use lib.ListN.{length, take}
 use lib.IntN.{ℤ, pos}
-use Rattle.model.specs.Test.{padded}
+use Rattle.job.specs.Test.{padded}
 use Rattle.model.specs.Machine.InUse.{sweep}
 use Rattle.model.specs.declared.record.Machine.{Machine}
 use Rattle.model.specs.declared.reply.Refusal.{Refusal}

@@ -4,10 +4,10 @@ use mathlib.Core.List.{List, [], _∷_, _++_}
 use Prim.Native.Nat.{ℕ, zero, suc}
 use lib.ListN.{length, take, drop}
 use lib.Dec.{ltb, leb, eqb}
-use Rattle.model.specs.Test.{_and_, _or_, all, allFrom, count, once, differ}
-use Rattle.model.specs.Number.{fits}
-use Rattle.model.specs.Job.Syntax.{Param, variable, constant}
-use Rattle.model.specs.Job.Node.{Node, Dag, nodeAt, isNode, dagHolds}
+use Rattle.job.specs.Test.{_and_, _or_, all, allFrom, count, once, differ}
+use Rattle.job.specs.Number.{fits}
+use Rattle.job.specs.Syntax.{Param, variable, constant}
+use Rattle.job.specs.Node.{Node, Dag, nodeAt, isNode, dagHolds}
 use Rattle.model.specs.Machine.Limits.{Limits}
 use Rattle.model.specs.Machine.Blank.{tokenAt, cellAt, slotAt, isBound, hasValue, isPlace, isBlankState, tokenIsBlank, cellIsBlank}
 use Rattle.model.specs.Machine.Active.{isSet, underSet, isLive}

@@ -3,7 +3,7 @@ use mathlib.Core.Bool.{Bool, true, false}
 use mathlib.Core.List.{List, [], _∷_}
 use Prim.Native.Nat.{ℕ, _-_}
 use lib.ListN.{set, replicate}
-use Rattle.model.specs.Job.Node.{Dag, dagHolds}
+use Rattle.job.specs.Node.{Dag, dagHolds}
 use Rattle.model.specs.Machine.Limits.{Limits}
 use Rattle.model.specs.Machine.Blank.{unbound, blankToken, blankCell, blankMachine}
 use Rattle.model.specs.Machine.Reply.{reportValues}

@@ -6,10 +6,10 @@ use Prim.Native.Nat.{ℕ, suc}
 use lib.ListN.{length, getD, set, take, drop}
 use lib.Dec.{ltb, eqb}
 use lib.IntN.{ℤ, pos}
-use Rattle.model.specs.Test.{filter, padded, without}
-use Rattle.model.specs.Site.{BuiltinReply, gives, silent, isBuiltin, builtin}
-use Rattle.model.specs.Job.Syntax.{Param, variable, constant}
-use Rattle.model.specs.Job.Node.{Node, Dag, nodeAt, bodyAt}
+use Rattle.job.specs.Test.{filter, padded, without}
+use Rattle.job.specs.Site.{BuiltinReply, gives, silent, isBuiltin, builtin}
+use Rattle.job.specs.Syntax.{Param, variable, constant}
+use Rattle.job.specs.Node.{Node, Dag, nodeAt, bodyAt}
 use Rattle.model.specs.Machine.Limits.{Limits}
 use Rattle.model.specs.Machine.Blank.{empty, unbound, blankToken, tokenAt, cellAt, slotAt}
 use Rattle.model.specs.Machine.Active.{within}

@@ -3,13 +3,13 @@ use mathlib.Core.Path.{_≡_}
 use mathlib.Core.Bool.{true}
 use mathlib.Core.List.{List}
 use Prim.Native.Nat.{ℕ, _≤_, _<_}
-use Rattle.model.specs.Job.Syntax.{Program}
-use Rattle.model.specs.Job.Read.{readTable, accepted}
-use Rattle.model.specs.Job.Construct.{construct}
+use Rattle.job.specs.Syntax.{Program}
+use Rattle.job.specs.Read.{readTable, accepted}
+use Rattle.job.specs.Construct.{construct}
 use Rattle.model.specs.Machine.Limits.{limits, paper}
-use Rattle.model.specs.Calculus.Event.{Event}
-use Rattle.model.specs.Calculus.Allowed.{Allowed}
-use Rattle.model.specs.Run.Meaning.{meaning}
+use Rattle.calculus.specs.Event.{Event}
+use Rattle.calculus.specs.Allowed.{Allowed}
+use Rattle.calculus.specs.Meaning.{meaning}
 use Rattle.model.specs.Run.Call.{Call, Runner, runner, started, machineAfter, eventsFrom, noneRefused}
 use Rattle.model.specs.Run.Follow.{House, Followed}
 use Rattle.model.specs.declared.record.Machine.{Machine}

@@ -5,8 +5,8 @@ use mathlib.Core.List.{List, [], _∷_}
 use Prim.Native.Nat.{ℕ, zero, suc, _<_}
 use lib.ListN.{getD}
 use lib.IntN.{ℤ}
-use Rattle.model.specs.Number.{Signed32}
-use Rattle.model.specs.Job.Node.{Node, Dag, nodeAt}
+use Rattle.job.specs.Number.{Signed32}
+use Rattle.job.specs.Node.{Node, Dag, nodeAt}
 use Rattle.model.specs.Machine.Limits.{Limits}
 use Rattle.model.specs.Machine.Blank.{tokenAt}
 use Rattle.model.specs.Machine.Active.{within}

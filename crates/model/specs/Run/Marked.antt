@@ -3,45 +3,11 @@ use mathlib.Core.List.{List, [], _∷_, _++_}
 use Prim.Native.Nat.{ℕ}
 use Prim.Native.String.{String}
 use lib.IntN.{ℤ, pos}
-use Rattle.model.specs.Number.{bytes, unsigned}
-use Rattle.model.specs.Job.Syntax.{Param, variable, constant, Join, par, seq, prune, Exp, stop, site, call, join, Definition, Program}
-use Rattle.model.specs.Job.Encode.{encode}
+use Rattle.job.specs.Number.{bytes, unsigned}
+use Rattle.job.specs.Syntax.{Param, variable, constant, Join, par, seq, prune, Exp, stop, site, call, join, Definition, Program}
+use Rattle.job.specs.Encode.{encode}
+use Rattle.job.specs.Notation.{_∣_, _>[_]>_, _<[_]<_, v, #, let′, signal, add, goal, calling}
 use Rattle.model.specs.Lines.Line.{ascii}
-
--- A notation close to document 01's: f ∣ g, f >[ x ]> g, f <[ x ]< g, where x is the variable's number
-infixr 20 _∣_
-infixr 22 _>[_]>_
-infixl 21 _<[_]<_
-abbrev pub _∣_ : Exp → Exp → Exp
-f ∣ g = join par f g
-
-abbrev pub _>[_]>_ : Exp → ℕ → Exp → Exp
-f >[ x ]> g = join (seq x) f g
-
-abbrev pub _<[_]<_ : Exp → ℕ → Exp → Exp
-f <[ x ]< g = join (prune x) f g
-
-abbrev pub v : ℕ → Param
-v x = variable x
-
-abbrev pub # : ℕ → Param
-# n = constant (pos n)
-
-abbrev pub let′ : Param → Exp
-let′ a = site 0 (a ∷ [])
-
-abbrev pub signal : Exp
-signal = site 3 []
-
-abbrev pub add : Param → Param → Exp
-add a b = site 4 (a ∷ b ∷ [])
-
-abbrev pub goal : Exp → Program
-goal g = record { definitions = []; goal = g }
-
--- E() = body, with the goal E()
-abbrev pub calling : Exp → Program
-calling b = record { definitions = record { formals = 0; body = b } ∷ []; goal = call 0 [] }
 
 -- an answer's 8 bytes
 abbrev pub answering : ℕ → ℤ → List ℕ

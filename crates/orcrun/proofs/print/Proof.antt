@@ -6,7 +6,7 @@ use Prim.Native.Nat.{_<_}
 use lib.ListN.{length}
 use Rattle.model.specs.Lines.Orcrun.{orcrun}
 use Rattle.lines.specs.Shown.{Piece}
-use Rattle.lines.proofs.Pieces.{piece-shown, piece-full, piece-last}
+use Rattle.run.proofs.Pieces.{piece-shown, piece-full, piece-last}
 use Rattle.orcrun.proofs.print.Statement.{statement}
 use Rattle.orcrun.proofs.print.Tie as tie
 

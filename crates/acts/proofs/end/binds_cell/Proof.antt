@@ -1,7 +1,7 @@
 -- `end::binds_cell` meets its contract: each way out is how the definition's step ends there. Assumes nothing.
 use Rattle.acts.proofs.Ending.{NoCellBelow, no-cell-more, no-cell-all, no-cell}
 use Rattle.record.specs.Holds.{Codes}
-use Rattle.model.proofs.Test.{clash}
+use Rattle.job.proofs.Test.{clash}
 use Rattle.model.specs.declared.record.Machine.{Machine}
 use Rattle.model.specs.Machine.Blank.{tokenAt}
 use Prim.Native.Nat.{_≤_, _-_}

@@ -1,5 +1,5 @@
 -- `report::plain` meets its contract: each way out is how the definition's step ends there. Assumes nothing.
-use Rattle.model.specs.Test.{padded}
+use Rattle.job.specs.Test.{padded}
 use mathlib.Core.Path.{refl}
 use Rattle.acts.proofs.report.plain.Statement.{statement}
 use Rattle.acts.proofs.report.plain.Tie as tie

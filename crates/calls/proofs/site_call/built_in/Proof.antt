@@ -5,7 +5,7 @@ use Rattle.calls.proofs.Calling.{reply-gives, says, silent-ends}
 use Rattle.acts.proofs.Outcomes.{row-fits, token-inside}
 use Rattle.sites.proofs.Calls.{said-back}
 use Rattle.model.specs.declared.token.Held.the-variants as helds
-use Rattle.model.specs.Site.{gives, silent}
+use Rattle.job.specs.Site.{gives, silent}
 use mir.Syntax.{w32}
 use mir.Val.{SFits}
 use mir.Facts.{toZ-ofZ}

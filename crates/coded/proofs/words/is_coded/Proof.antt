@@ -2,7 +2,7 @@
 -- Assumes nothing.
 use mathlib.Core.Path.{refl, sym, _∙_}
 use native.Mathlib.Omega.{arith}
-use Rattle.model.proofs.Test.{clash}
+use Rattle.job.proofs.Test.{clash}
 use Rattle.coded.proofs.Coding.{coded-record, record-codes}
 use Rattle.coded.proofs.Testing.{all-coded, not-coded}
 use borrow.Author.Needs.{needs}

@@ -1,7 +1,7 @@
 -- `lawful::is_lawful` meets its contract: each way out is how the definition's call ends there. Assumes nothing.
 use Rattle.machine.proofs.Giving.{denied, granted, no-record, ruled}
 use Rattle.record.proofs.Ruled.{rules-hold-words}
-use Rattle.model.proofs.Test.{clash}
+use Rattle.job.proofs.Test.{clash}
 use Rattle.model.specs.Machine.Limits.{paper}
 use mathlib.Core.Path.{refl, sym, _∙_}
 use borrow.Author.Needs.{needs}

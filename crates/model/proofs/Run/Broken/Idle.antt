@@ -8,9 +8,9 @@ use Prim.Native.Nat.{ℕ, zero, suc}
 use native.Mathlib.Omega.{arith}
 use lib.ListN.{set, replicate}
 use lib.IntN.{ℤ, pos}
-use Rattle.model.specs.Job.Encode.{encode}
-use Rattle.model.specs.Job.Node.{Dag}
-use Rattle.model.specs.Job.Construct.{construct}
+use Rattle.job.specs.Encode.{encode}
+use Rattle.job.specs.Node.{Dag}
+use Rattle.job.specs.Construct.{construct}
 use Rattle.model.specs.Machine.Limits.{Limits, limits}
 use Rattle.model.specs.Machine.Blank.{blankToken}
 use Rattle.model.specs.Machine.Rules.{rulesHold}
@@ -19,9 +19,9 @@ use Rattle.model.specs.Machine.Start as Start
 use Rattle.model.specs.Machine.Start.{startToken}
 use Rattle.model.specs.Machine.Answer as Answer
 use Rattle.model.specs.Machine.Answer.{holder, answered}
-use Rattle.model.specs.Calculus.Event.{Event}
-use Rattle.model.specs.Calculus.Allowed.{Allowed}
-use Rattle.model.specs.Run.Meaning.{meaning}
+use Rattle.calculus.specs.Event.{Event}
+use Rattle.calculus.specs.Allowed.{Allowed}
+use Rattle.calculus.specs.Meaning.{meaning}
 use Rattle.model.specs.Run.Call.{Call, Runner, outcomeOf, eventsOf, eventsFrom, started}
 use Rattle.model.specs.Run.Demand3.{Middle}
 use Rattle.model.specs.declared.token.Place.the-variants as places
@@ -30,9 +30,9 @@ use Rattle.model.specs.declared.reply.Refusal.{Refusal}
 use Rattle.model.specs.declared.reply.Refusal.the-variants as refusals
 use Rattle.model.specs.declared.reply.Reply.the-variants as replies
 use Rattle.model.specs.declared.reply.Outcome.{Outcome}
-use Rattle.model.proofs.Calculus.Computing.{meant, rewritten}
-use Rattle.model.proofs.Calculus.Search.{searching, allowed}
-use Rattle.model.proofs.Calculus.Programs.{one-signal}
+use Rattle.calculus.proofs.Computing.{meant, rewritten}
+use Rattle.calculus.proofs.Search.{searching, allowed}
+use Rattle.calculus.proofs.Programs.{one-signal}
 use Rattle.model.proofs.Run.Computing.{computing}
 
 -- every step is accepted, and leaves the machine as it was

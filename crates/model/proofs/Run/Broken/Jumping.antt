@@ -6,11 +6,11 @@ use mathlib.Core.Bool.{Bool, false, not}
 use mathlib.Core.List.{List, [], _∷_, _++_}
 use Prim.Native.Nat.{ℕ}
 use native.Mathlib.Omega.{arith}
-use Rattle.model.specs.Test.{filter}
-use Rattle.model.specs.Job.Syntax.{Program}
-use Rattle.model.specs.Job.Encode.{encode}
-use Rattle.model.specs.Job.Node.{Dag}
-use Rattle.model.specs.Job.Construct.{construct}
+use Rattle.job.specs.Test.{filter}
+use Rattle.job.specs.Syntax.{Program}
+use Rattle.job.specs.Encode.{encode}
+use Rattle.job.specs.Node.{Dag}
+use Rattle.job.specs.Construct.{construct}
 use Rattle.model.specs.Machine.Limits.{Limits, paper}
 use Rattle.model.specs.Machine.Blank.{tokenAt}
 use Rattle.model.specs.Machine.Rules.{isWaiting}
@@ -19,13 +19,13 @@ use Rattle.model.specs.Machine.Start as Start
 use Rattle.model.specs.Machine.Step as Step
 use Rattle.model.specs.Machine.Step.{queueOf, waitsOf, withOrders}
 use Rattle.model.specs.Machine.Answer as Answer
-use Rattle.model.specs.Run.Marked.{_∣_, _<[_]<_, v, #, let′, goal}
+use Rattle.job.specs.Notation.{_∣_, _<[_]<_, v, #, let′, goal}
 use Rattle.model.specs.Run.Call.{Call, Runner, outcomeOf, machineAfter}
 use Rattle.model.specs.Run.Follow.{fate, stays, survivors, frontEnds, endsToken, cellSet, Stands, House, Followed}
 use Rattle.model.specs.Run.Demand3.{Last}
 use Rattle.model.specs.declared.record.Machine.{Machine}
 use Rattle.model.specs.declared.reply.Outcome.{Outcome}
-use Rattle.model.proofs.Test.{clash}
+use Rattle.job.proofs.Test.{clash}
 use Rattle.model.proofs.Run.Computing.{computing}
 use Rattle.model.proofs.Run.Worked.{house, after}
 

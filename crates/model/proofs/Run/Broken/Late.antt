@@ -8,15 +8,15 @@ use Prim.Native.Nat.{ℕ}
 use native.Mathlib.Omega.{arith}
 use lib.Dec.{ltb}
 use lib.IntN.{ℤ, pos}
-use Rattle.model.specs.Test.{_and_}
-use Rattle.model.specs.Job.Encode.{encode}
-use Rattle.model.specs.Job.Node.{Dag}
+use Rattle.job.specs.Test.{_and_}
+use Rattle.job.specs.Encode.{encode}
+use Rattle.job.specs.Node.{Dag}
 use Rattle.model.specs.Machine.Limits.{Limits}
 use Rattle.model.specs.Machine.Reply.{reportValues}
 use Rattle.model.specs.Machine.Start as Start
 use Rattle.model.specs.Machine.Step as Step
 use Rattle.model.specs.Machine.Answer as Answer
-use Rattle.model.specs.Calculus.Event.{Event}
+use Rattle.calculus.specs.Event.{Event}
 use Rattle.model.specs.Run.Call.{Call, Runner, outcomeOf, eventsOf, eventsFrom}
 use Rattle.model.specs.Run.Demand3.{First}
 use Rattle.model.specs.declared.record.Machine.{Machine}
@@ -25,8 +25,8 @@ use Rattle.model.specs.declared.reply.Refusal.the-variants as refusals
 use Rattle.model.specs.declared.reply.Reply.{Reply}
 use Rattle.model.specs.declared.reply.Reply.the-variants as replies
 use Rattle.model.specs.declared.reply.Outcome.{Outcome}
-use Rattle.model.proofs.Calculus.Programs.{first-answer}
-use Rattle.model.proofs.Calculus.NotAllowed.{no-answer-to-pruned-call}
+use Rattle.calculus.proofs.Programs.{first-answer}
+use Rattle.calculus.proofs.NotAllowed.{no-answer-to-pruned-call}
 use Rattle.model.proofs.Run.Computing.{computing}
 use Rattle.model.proofs.Run.Worked.{house, answering, events}
 

@@ -5,7 +5,7 @@ use native.Mathlib.Omega.{arith}
 use lib.ListN.{length, getD, take, drop}
 use lib.Seq.{drop-set-lt}
 use lib.ListN.{length-set}
-use Rattle.model.specs.Test.{padded, without}
+use Rattle.job.specs.Test.{padded, without}
 use Rattle.record.proofs.Names.{moved-up, last-gone}
 use borrow.Author.Needs.{needs}
 use Rattle.record.proofs.order.left_out.Statement.{statement}

@@ -16,8 +16,8 @@ loop-holds c = search needs
 is-blank-cell-requires : tie.Need-is-blank-cell-requires Inv-loop μ-loop
 is-blank-cell-requires c κs = search needs
 
-one-cell-requires : tie.Need-one-cell-requires Inv-loop μ-loop
-one-cell-requires c κs = search needs
+show-cell-requires : tie.Need-show-cell-requires Inv-loop μ-loop
+show-cell-requires c κs = search needs
 
 add-c : tie.Need-add-c Inv-loop μ-loop
 add-c c = search needs
@@ -39,7 +39,7 @@ cells-spec =
     μ-loop
     loop-holds
     is-blank-cell-requires
-    one-cell-requires
+    show-cell-requires
     add-c
     loop-less
     loop-again

@@ -16,8 +16,8 @@ loop-holds c = search needs
 is-blank-token-requires : tie.Need-is-blank-token-requires Inv-loop μ-loop
 is-blank-token-requires c κs = search needs
 
-one-token-requires : tie.Need-one-token-requires Inv-loop μ-loop
-one-token-requires c κs = search needs
+show-token-requires : tie.Need-show-token-requires Inv-loop μ-loop
+show-token-requires c κs = search needs
 
 add-p : tie.Need-add-p Inv-loop μ-loop
 add-p c = search needs
@@ -39,7 +39,7 @@ tokens-spec =
     μ-loop
     loop-holds
     is-blank-token-requires
-    one-token-requires
+    show-token-requires
     add-p
     loop-less
     loop-again

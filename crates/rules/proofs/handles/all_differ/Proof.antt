@@ -3,7 +3,7 @@ use mathlib.Core.Path.{_≡_, _∙_, ap}
 use Prim.Native.Nat.{ℕ, _-_, _≤_}
 use native.Mathlib.Omega.{arith}
 use lib.ListN.{take}
-use Rattle.model.specs.Test.{differ}
+use Rattle.job.specs.Test.{differ}
 use Rattle.rules.proofs.Gathered.{differ-turn}
 use borrow.Author.Needs.{needs}
 use Rattle.rules.proofs.handles.all_differ.Statement.{statement}

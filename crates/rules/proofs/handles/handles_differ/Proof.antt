@@ -1,6 +1,6 @@
 -- `handles::handles_differ` meets its contract: the handles are gathered, then compared. Assumes nothing.
 use mathlib.Core.Path.{_∙_, ap}
-use Rattle.model.specs.Test.{differ}
+use Rattle.job.specs.Test.{differ}
 use borrow.Author.Needs.{needs}
 use Rattle.rules.proofs.handles.handles_differ.Statement.{statement}
 use Rattle.rules.proofs.handles.handles_differ.Tie as tie

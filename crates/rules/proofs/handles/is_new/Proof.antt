@@ -5,8 +5,8 @@ use Prim.Native.Nat.{ℕ, _-_, _≤_}
 use native.Mathlib.Omega.{arith}
 use lib.Dec.{eqb}
 use lib.ListN.{getD, take}
-use Rattle.model.specs.Test.{all}
-use Rattle.coded.proofs.Loop.{all-turn}
+use Rattle.job.specs.Test.{all}
+use Rattle.job.proofs.Loop.{all-turn}
 use borrow.Author.Needs.{needs}
 use Rattle.rules.proofs.handles.is_new.Statement.{statement}
 use Rattle.rules.proofs.handles.is_new.Tie as tie

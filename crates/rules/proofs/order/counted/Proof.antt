@@ -4,9 +4,9 @@ use mathlib.Core.Path.{_≡_, refl, sym, _∙_, ap}
 use Prim.Native.Nat.{ℕ, _-_, _≤_, _<_}
 use native.Mathlib.Omega.{arith}
 use lib.ListN.{length, getD, take, length-set, getD-replicate}
-use Rattle.model.specs.Test.{count}
+use Rattle.job.specs.Test.{count}
 use Rattle.rules.proofs.Orders.{count-few, none-counted, count-turn}
-use Rattle.rules.specs.Rules.{NamesAt}
+use Rattle.row_rules.specs.Rules.{NamesAt}
 use borrow.Author.Needs.{needs}
 use Rattle.rules.proofs.order.counted.Statement.{statement}
 use Rattle.rules.proofs.order.counted.Tie as tie

@@ -7,11 +7,11 @@ use lib.ListN.{getD, take}
 use Rattle.model.specs.declared.token.Token.{Token}
 use Rattle.model.specs.declared.record.Machine.{Machine}
 use Rattle.model.specs.Machine.Blank.{blankToken, tokenAt}
-use Rattle.model.specs.Test.{allFrom, once}
+use Rattle.job.specs.Test.{allFrom, once}
 use Rattle.record.specs.Words.{stateKind}
 use Rattle.record.specs.Holds.{Codes}
 use Rattle.rules.proofs.Orders.{from-turn}
-use Rattle.coded.proofs.Loop.{done}
+use Rattle.job.proofs.Loop.{done}
 use borrow.Author.Needs.{needs}
 use Rattle.rules.proofs.order.counts_agree.Statement.{statement}
 use Rattle.rules.proofs.order.counts_agree.Tie as tie

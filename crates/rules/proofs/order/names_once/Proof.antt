@@ -4,7 +4,7 @@ use native.Mathlib.Omega.{arith}
 use borrow.Author.Tests.{not-true, not-false}
 use Rattle.model.specs.Machine.Rules.{namesOnce}
 use Rattle.rules.proofs.Orders.{order-long, order-wild, order-counted}
-use Rattle.coded.proofs.Both.{both}
+use Rattle.job.proofs.Both.{both}
 use borrow.Author.Needs.{needs}
 use Rattle.rules.proofs.order.names_once.Statement.{statement}
 use Rattle.rules.proofs.order.names_once.Tie as tie

@@ -4,7 +4,7 @@ use Prim.Native.Nat.{ℕ, _+_, _-_, _≤_, _<_}
 use native.Mathlib.Omega.{arith}
 use lib.ListN.{getD}
 use borrow.Author.Count.{below-more}
-use Rattle.model.proofs.Test.{clash}
+use Rattle.job.proofs.Test.{clash}
 use Rattle.rules.proofs.Orders.{wild, tame}
 use borrow.Author.Needs.{needs}
 use Rattle.rules.proofs.order.order_in_range.Statement.{statement}

@@ -2,7 +2,7 @@
 use mathlib.Core.Path.{_∙_, ap}
 use Rattle.model.specs.Machine.Rules.{isReady, namesOnce}
 use Rattle.record.proofs.Queue.{queue-word}
-use Rattle.rules.proofs.Fields.{ready-is}
+use Rattle.row_rules.proofs.Fields.{ready-is}
 use borrow.Author.Needs.{needs}
 use Rattle.rules.proofs.order.queue_holds.Statement.{statement}
 use Rattle.rules.proofs.order.queue_holds.Tie as tie

@@ -5,10 +5,10 @@ use Prim.Native.Nat.{ℕ, _-_, _≤_}
 use native.Mathlib.Omega.{arith}
 use lib.Dec.{eqb}
 use lib.ListN.{take, drop, length-drop}
-use Rattle.model.specs.Test.{all}
+use Rattle.job.specs.Test.{all}
 use Rattle.rules.proofs.Orders.{rest-none, rest-turn}
-use Rattle.coded.proofs.Loop.{done}
-use Rattle.rules.specs.Rules.{NamesAt}
+use Rattle.job.proofs.Loop.{done}
+use Rattle.row_rules.specs.Rules.{NamesAt}
 use borrow.Author.Needs.{needs}
 use Rattle.rules.proofs.order.rest_is_zero.Statement.{statement}
 use Rattle.rules.proofs.order.rest_is_zero.Tie as tie

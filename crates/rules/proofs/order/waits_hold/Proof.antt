@@ -2,7 +2,7 @@
 use mathlib.Core.Path.{_∙_, ap}
 use Rattle.model.specs.Machine.Rules.{isWaiting, namesOnce}
 use Rattle.record.proofs.Queue.{wait-word}
-use Rattle.rules.proofs.Fields.{waiting-is}
+use Rattle.row_rules.proofs.Fields.{waiting-is}
 use borrow.Author.Needs.{needs}
 use Rattle.rules.proofs.order.waits_hold.Statement.{statement}
 use Rattle.rules.proofs.order.waits_hold.Tie as tie

@@ -8,9 +8,9 @@ use Rattle.model.specs.Machine.Blank.{cellAt, cellIsBlank}
 use Rattle.record.specs.Decode.{placeFrom}
 use Rattle.rules.proofs.Tokens.{cell-blank, cell-in}
 use Rattle.rules.proofs.Rest.{marked-one, other-one}
-use Rattle.rules.proofs.Fields.{place-in, placed}
-use Rattle.coded.proofs.Both.{both}
-use Rattle.rules.specs.Rules.{cellRule}
+use Rattle.row_rules.proofs.Fields.{place-in, placed}
+use Rattle.job.proofs.Both.{both}
+use Rattle.row_rules.specs.Rules.{cellRule}
 use borrow.Author.Needs.{needs}
 use Rattle.rules.proofs.rules.cell_holds.Statement.{statement}
 use Rattle.rules.proofs.rules.cell_holds.Tie as tie

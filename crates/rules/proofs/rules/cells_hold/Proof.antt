@@ -5,10 +5,10 @@ use native.Mathlib.Omega.{arith}
 use lib.ListN.{length}
 use Rattle.model.specs.declared.record.Machine.{Machine}
 use Rattle.model.specs.Machine.Blank.{blankCell, cellAt, cellIsBlank}
-use Rattle.model.specs.Job.Node.{Dag}
+use Rattle.job.specs.Node.{Dag}
 use Rattle.rules.proofs.Rest.{passed, pass-turn, pass-done}
-use Rattle.rules.specs.Rules.{cellRule}
-use Rattle.rules.specs.Decoded.{Decoded}
+use Rattle.row_rules.specs.Rules.{cellRule}
+use Rattle.row_rules.specs.Decoded.{Decoded}
 use borrow.Author.Needs.{needs}
 use Rattle.rules.proofs.rules.cells_hold.Statement.{statement}
 use Rattle.rules.proofs.rules.cells_hold.Tie as tie
@@ -22,7 +22,7 @@ abbrev μ-loop : tie.MeasureT-loop
 μ-loop w used ok₀ i₀ ok i = 32 - i
 
 loop-holds : tie.Need-loop-holds Inv-loop μ-loop
-unfolding Rattle.model.specs.Test.all Rattle.model.specs.Machine.Rules.restIsBlank Rattle.model.specs.Test._and_
+unfolding Rattle.job.specs.Test.all Rattle.model.specs.Machine.Rules.restIsBlank Rattle.job.specs.Test._and_
 loop-holds c = search needs
 
 loop-again : tie.Need-loop-again Inv-loop μ-loop

@@ -1,7 +1,7 @@
 -- `rules::rules_hold` meets its contract: the dag's rules first, then all the record's together. Assumes nothing.
 use mathlib.Core.Path.{sym, _∙_}
 use borrow.Author.Tests.{not-true, not-false}
-use Rattle.model.specs.Job.Words.{dagOf}
+use Rattle.job.specs.Words.{dagOf}
 use Rattle.record.specs.Decode.{machineOf}
 use Rattle.rules.proofs.Record.{dag-breaks, tokens-marked, cells-marked, rules-are}
 use Rattle.rules.proofs.Decoding.{decoded}

@@ -4,12 +4,12 @@ use mathlib.Core.Path.{sym, _∙_}
 use native.Mathlib.Omega.{arith}
 use borrow.Author.Tests.{not-true, not-false}
 use Rattle.model.specs.Machine.Blank.{tokenAt, tokenIsBlank}
-use Rattle.model.specs.Job.Words.{dagOf}
+use Rattle.job.specs.Words.{dagOf}
 use Rattle.rules.proofs.Tokens.{token-blank, node-past, node-in}
 use Rattle.rules.proofs.Rest.{marked-one, other-one}
-use Rattle.coded.proofs.Both.{three}
-use Rattle.coded.proofs.Array.{nodes-length}
-use Rattle.rules.specs.Rules.{tokenRule}
+use Rattle.job.proofs.Both.{three}
+use Rattle.dag_rules.proofs.Array.{nodes-length}
+use Rattle.row_rules.specs.Rules.{tokenRule}
 use borrow.Author.Needs.{needs}
 use Rattle.rules.proofs.rules.token_holds.Statement.{statement}
 use Rattle.rules.proofs.rules.token_holds.Tie as tie

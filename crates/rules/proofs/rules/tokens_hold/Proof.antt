@@ -5,10 +5,10 @@ use native.Mathlib.Omega.{arith}
 use lib.ListN.{length}
 use Rattle.model.specs.declared.record.Machine.{Machine}
 use Rattle.model.specs.Machine.Blank.{blankToken, tokenAt, tokenIsBlank}
-use Rattle.model.specs.Job.Words.{dagOf}
+use Rattle.job.specs.Words.{dagOf}
 use Rattle.rules.proofs.Rest.{passed, pass-turn, pass-done}
-use Rattle.rules.specs.Rules.{tokenRule}
-use Rattle.rules.specs.Decoded.{Decoded}
+use Rattle.row_rules.specs.Rules.{tokenRule}
+use Rattle.row_rules.specs.Decoded.{Decoded}
 use borrow.Author.Needs.{needs}
 use Rattle.rules.proofs.rules.tokens_hold.Statement.{statement}
 use Rattle.rules.proofs.rules.tokens_hold.Tie as tie
@@ -21,7 +21,7 @@ abbrev μ-loop : tie.MeasureT-loop
 μ-loop w used dag ok₀ i₀ ok i = 64 - i
 
 loop-holds : tie.Need-loop-holds Inv-loop μ-loop
-unfolding Rattle.model.specs.Test.all Rattle.model.specs.Machine.Rules.restIsBlank Rattle.model.specs.Test._and_
+unfolding Rattle.job.specs.Test.all Rattle.model.specs.Machine.Rules.restIsBlank Rattle.job.specs.Test._and_
 loop-holds c = search needs
 
 loop-again : tie.Need-loop-again Inv-loop μ-loop

@@ -3,7 +3,7 @@ use mathlib.Core.Path.{ap, _∙_, refl, sym, subst}
 use borrow.Author.Needs.{needs}
 use native.Mathlib.Omega.{arith}
 use mir.Facts.{toZ-ofZ}
-use Rattle.model.specs.Number.{unsigned}
+use Rattle.job.specs.Number.{unsigned}
 use Rattle.model.specs.Machine.Step.{put, withTables, withValue}
 use Rattle.model.specs.declared.token.State.the-variants as states
 use Rattle.model.specs.declared.token.Held.the-variants as helds

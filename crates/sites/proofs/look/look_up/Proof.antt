@@ -7,7 +7,7 @@ use mir.Syntax.{w32}
 use mir.Val.{SFits}
 use mir.Facts.{toZ-ofZ}
 use lib.ListN.{getD}
-use Rattle.model.specs.Job.Syntax.{variable}
+use Rattle.job.specs.Syntax.{variable}
 use Rattle.model.specs.declared.record.Machine.{Machine}
 use Rattle.model.specs.Machine.Blank.{tokenAt}
 use Rattle.record.specs.Holds.{Codes}

@@ -6,7 +6,7 @@ use lib.IntN.{_+ℤ_}
 use mir.Syntax.{w32, w64}
 use mir.Val.{toZ, ofZ}
 use mir.Facts.{toZ-ofZ, sfits-widen}
-use Rattle.model.specs.Number.{fits}
+use Rattle.job.specs.Number.{fits}
 use Rattle.sites.specs.SiteReplies.{siteReplyOf}
 use Rattle.sites.proofs.Signed.{back-from-64, sum-fits-64, too-low, too-high, between, fits-32}
 use Rattle.sites.proofs.Sites.{sum-gives, sum-silent}

@@ -1,5 +1,5 @@
 -- `site::zero_if` meets its contract: by the laws that it cites. Assumes nothing.
-use Rattle.model.specs.Site as Site
+use Rattle.job.specs.Site as Site
 use Rattle.sites.proofs.site.zero_if.Statement.{statement}
 use Rattle.sites.proofs.site.zero_if.Tie as tie
 

@@ -3,10 +3,10 @@ use Rattle.sites.proofs.Params.{below, slot-variable, slot-constant}
 use Rattle.writes.proofs.Writes.{put-other, carry-slot}
 use Rattle.sites.proofs.Params.{slot-variable, slot-constant}
 use Rattle.record.specs.Words.{slotKind, slotNumber}
-use Rattle.model.proofs.Number.{unsigned-signed}
+use Rattle.job.proofs.Number.{unsigned-signed}
 use Rattle.model.specs.declared.token.Token.{Token}
 use Rattle.model.specs.declared.token.Slot.the-variants as slots
-use Rattle.model.specs.Number.{signed}
+use Rattle.job.specs.Number.{signed}
 use Rattle.model.specs.Machine.Step.{put}
 use Rattle.model.specs.Machine.Blank.{tokenAt, slotAt}
 use mathlib.Core.Path.{refl, sym, ap, _∙_}

@@ -1,0 +1,199 @@
+-- All moves of an expression, by computation. `every` asks a test of each move: where it says true, the test holds of every rewriting, and
+-- where it says false, it fails of some rewriting. True because `every` has the same cases as `Rewrites`. Assumes nothing.
+use mathlib.Core.Path.{_≡_, refl, subst as along}
+use mathlib.Core.Logic.{_⊎_, inl, inr}
+use mathlib.Core.Bool.{Bool, true, false}
+use mathlib.Core.List.{List}
+use mathlib.Core.Option.{Option, some, none}
+use Prim.Native.Nat.{ℕ}
+use lib.IntN.{ℤ}
+use Rattle.job.specs.Test.{_and_}
+use Rattle.job.specs.Number.{fits}
+use Rattle.job.specs.Site.{BuiltinReply, gives, silent, isBuiltin, isOutside, builtin}
+use Rattle.calculus.specs.Event.{Event, publish, answer, Label, silently, showing}
+use Rattle.calculus.specs.Expression.{Param, Exp, stop, site, call, par, seq, prune, pending, hand, subst, innermost, formals}
+use Rattle.calculus.specs.Rewriting.{Passes, silence, calling, answering, valuesOf, Rewrites}
+use Rattle.calculus.specs.Rewriting.{builtin-gives, builtin-silent, outside-call, answered, published, entered}
+use Rattle.calculus.specs.Rewriting.{par-left, par-right, seq-acts, seq-publishes, prune-left, prune-right, prune-publishes}
+use Rattle.job.proofs.Test.{clash, and-left, and-right}
+
+-- a test that is asked only under a condition
+infixr 20 _implies_
+unfoldable pub _implies_ : Bool → Bool → Bool
+true implies b = b
+false implies b = true
+
+pub under : (a b : Bool) → a ≡ true → (a implies b) ≡ true → b ≡ true
+unfolding _implies_
+under true b e t = t
+under false b e t = clash e refl
+
+-- where a test fails: which of two, and under which condition
+and-fails : (a b : Bool) → (a and b) ≡ false → (a ≡ false) ⊎ (b ≡ false)
+unfolding _and_
+and-fails true b t = inr t
+and-fails false b t = inl refl
+
+pub implies-fails : (a b : Bool) → (a implies b) ≡ false → (a ≡ true) × (b ≡ false)
+unfolding _implies_
+implies-fails true b t = (refl, t)
+implies-fails false b t = clash refl t
+
+-- a test of a move: what it shows, and what is left
+abbrev pub Tests : Type 0
+Tests = Label → Exp → Bool
+
+-- the two ways a built-in call goes on
+unfoldable pub afterSaid : BuiltinReply → (Exp → Bool) → Bool
+afterSaid (gives v) p = p (hand v)
+afterSaid silent p = p stop
+
+-- of the moves of f in f >x> g, or of g in f <x< g, publishing goes one way and all else the other
+unfoldable pub sorted : (ℤ → Exp → Bool) → Tests → Tests
+sorted q p silently f = p silently f
+sorted q p (showing (publish v)) f = q v f
+sorted q p (showing (Event.call k s vs)) f = p (showing (Event.call k s vs)) f
+sorted q p (showing (answer k v)) f = p (showing (answer k v)) f
+
+sorted-passes : {a : Label} (q : ℤ → Exp → Bool) (p : Tests) (f : Exp) → Passes a → sorted q p a f ≡ true → p a f ≡ true
+unfolding sorted
+sorted-passes q p f silence t = t
+sorted-passes q p f calling t = t
+sorted-passes q p f answering t = t
+
+-- every label, but of answers only those with the value w
+pub data Within (w : ℤ) : Label → Type 0 where
+  in-silence : Within w silently
+  in-publishing : {v : ℤ} → Within w (showing (publish v))
+  in-calling : {k s : ℕ} {vs : List ℤ} → Within w (showing (Event.call k s vs))
+  in-answering : {k : ℕ} → Within w (showing (answer k w))
+
+module _ (body : ℕ → Exp) (h : ℕ) where
+  unfoldable pub everyOfSite : ℕ → Option (List ℤ) → Tests → Bool
+  everyOfSite s none p = true
+  everyOfSite s (some vs) p =
+      (isBuiltin s implies afterSaid (builtin s vs) (p silently)) and (isOutside s implies p (showing (Event.call h s vs)) (pending h))
+
+  -- a test of every move of an expression, where answers have the value w
+  unfoldable pub every : ℤ → Exp → Tests → Bool
+  every w stop p = true
+  every w (site s ps) p = everyOfSite s (valuesOf ps) p
+  every w (call d ps) p = p silently (subst (formals ps) (body d))
+  every w (par f g) p = every w f (λ a f′. p a (par f′ g)) and every w g (λ a g′. p a (par f g′))
+  every w (seq f g) p = every w f (sorted (λ v f′. p silently (par (seq f′ g) (subst (innermost v) g))) (λ a f′. p a (seq f′ g)))
+  every w (prune f g) p =
+      every w f (λ a f′. p a (prune f′ g)) and every w g (sorted (λ v g′. p silently (subst (innermost v) f)) (λ a g′. p a (prune f g′)))
+  every w (pending k) p = fits w implies p (showing (answer k w)) (hand w)
+  every w (hand v) p = p (showing (publish v)) stop
+
+  site-builtin : (s : ℕ) (vs : List ℤ) (p : Tests) (r : BuiltinReply)
+      → isBuiltin s ≡ true → builtin s vs ≡ r → everyOfSite s (some vs) p ≡ true → afterSaid r (p silently) ≡ true
+  unfolding everyOfSite
+  site-builtin s vs p r b e t = along (λ x. afterSaid x (p silently) ≡ true) e (under _ _ b (and-left _ _ t))
+
+  site-outside : (s : ℕ) (vs : List ℤ) (p : Tests)
+      → isOutside s ≡ true → everyOfSite s (some vs) p ≡ true → p (showing (Event.call h s vs)) (pending h) ≡ true
+  unfolding everyOfSite
+  site-outside s vs p b t = under _ _ b (and-right _ _ t)
+
+  -- where `every` says true, the test holds of each rewriting
+  pub every-move : {f f′ : Exp} {a : Label} (w : ℤ) (p : Tests) → Rewrites body h f a f′ → Within w a → every w f p ≡ true → p a f′ ≡ true
+  unfolding every afterSaid sorted
+  every-move w p (builtin-gives {s = s} {vs = vs} {v = v} e b r) i t =
+      site-builtin s vs p (gives v) b r (along (λ x. everyOfSite s x p ≡ true) e t)
+  every-move w p (builtin-silent {s = s} {vs = vs} e b r) i t =
+      site-builtin s vs p silent b r (along (λ x. everyOfSite s x p ≡ true) e t)
+  every-move w p (outside-call {s = s} {vs = vs} e b) i t = site-outside s vs p b (along (λ x. everyOfSite s x p ≡ true) e t)
+  every-move w p (answered fit) in-answering t = under _ _ fit t
+  every-move w p published i t = t
+  every-move w p entered i t = t
+  every-move w p (par-left r) i t = every-move w _ r i (and-left _ _ t)
+  every-move w p (par-right r) i t = every-move w _ r i (and-right _ _ t)
+  every-move w p (seq-acts r passes) i t = sorted-passes _ _ _ passes (every-move w _ r i t)
+  every-move w p (seq-publishes r) i t = every-move w _ r in-publishing t
+  every-move w p (prune-left r) i t = every-move w _ r i (and-left _ _ t)
+  every-move w p (prune-right r passes) i t = sorted-passes _ _ _ passes (every-move w _ r i (and-right _ _ t))
+  every-move w p (prune-publishes r) i t = every-move w _ r in-publishing (and-right _ _ t)
+
+  -- a move of which a test fails
+  pub record Failing (f : Exp) (p : Tests) : Type 0 where
+    pub label : Label
+    pub left : Exp
+    pub move : Rewrites body h f label left
+    pub fails : p label left ≡ false
+
+  -- a built-in call that fails a test
+  said-failing : (s : ℕ) (ps : List Param) (vs : List ℤ) (p : Tests) (r : BuiltinReply)
+      → valuesOf ps ≡ some vs → isBuiltin s ≡ true → builtin s vs ≡ r → afterSaid r (p silently) ≡ false → Failing (site s ps) p
+  unfolding afterSaid
+  said-failing s ps vs p (gives v) e b q t = record { label = silently; left = hand v; move = builtin-gives e b q; fails = t }
+  said-failing s ps vs p silent e b q t = record { label = silently; left = stop; move = builtin-silent e b q; fails = t }
+
+  site-failing : (s : ℕ) (ps : List Param) (p : Tests) (o : Option (List ℤ))
+      → valuesOf ps ≡ o → everyOfSite s o p ≡ false → Failing (site s ps) p
+  unfolding everyOfSite
+  site-failing s ps p none e t = clash refl t
+  site-failing s ps p (some vs) e t = elim (and-fails _ _ t) [ inl l ↦ by-builtin (implies-fails _ _ l) | inr r ↦ by-call (implies-fails _ _ r) ]
+    where
+      by-builtin : (isBuiltin s ≡ true) × (afterSaid (builtin s vs) (p silently) ≡ false) → Failing (site s ps) p
+      by-builtin (b, l) = said-failing s ps vs p (builtin s vs) e b refl l
+
+      by-call : (isOutside s ≡ true) × (p (showing (Event.call h s vs)) (pending h) ≡ false) → Failing (site s ps) p
+      by-call (b, r) = record { label = showing (Event.call h s vs); left = pending h; move = outside-call e b; fails = r }
+
+  -- a failing move inside, sorted, makes one outside if each of the two ways does
+  sorted-failing : {f F : Exp} {p : Tests} (q : ℤ → Exp → Bool) (p′ : Tests)
+      → ((a : Label) (f′ : Exp) → Rewrites body h f a f′ → Passes a → p′ a f′ ≡ false → Failing F p)
+      → ((v : ℤ) (f′ : Exp) → Rewrites body h f (showing (publish v)) f′ → q v f′ ≡ false → Failing F p)
+      → (a : Label) (f′ : Exp) → Rewrites body h f a f′ → sorted q p′ a f′ ≡ false → Failing F p
+  unfolding sorted
+  sorted-failing q p′ passes publishes silently f′ r t = passes silently f′ r silence t
+  sorted-failing q p′ passes publishes (showing (publish v)) f′ r t = publishes v f′ r t
+  sorted-failing q p′ passes publishes (showing (Event.call k s vs)) f′ r t = passes (showing (Event.call k s vs)) f′ r calling t
+  sorted-failing q p′ passes publishes (showing (answer k v)) f′ r t = passes (showing (answer k v)) f′ r answering t
+
+  -- where `every` says false, the test fails of some move
+  pub some-move : (w : ℤ) (f : Exp) (p : Tests) → every w f p ≡ false → Failing f p
+  unfolding every
+  some-move w stop p t = clash refl t
+  some-move w (site s ps) p t = site-failing s ps p (valuesOf ps) refl t
+  some-move w (call d ps) p t = record { label = silently; left = subst (formals ps) (body d); move = entered; fails = t }
+  some-move w (par f g) p t =
+      elim (and-fails _ _ t) [
+        | inl l ↦ let x = some-move w f _ l in record { label = x .label; left = par (x .left) g; move = par-left (x .move); fails = x .fails }
+        | inr r ↦ let x = some-move w g _ r in record { label = x .label; left = par f (x .left); move = par-right (x .move); fails = x .fails }
+      ]
+  some-move w (seq f g) p t =
+      let x = some-move w f _ t in
+      sorted-failing
+      _
+      _
+      (λ a f′ r y t. record { label = a; left = seq f′ g; move = seq-acts r y; fails = t })
+      (λ v f′ r t. record { label = silently; left = par (seq f′ g) (subst (innermost v) g); move = seq-publishes r; fails = t })
+      (x .label)
+      (x .left)
+      (x .move)
+      (x .fails)
+  some-move w (prune f g) p t =
+      elim (and-fails _ _ t) [
+        | inl l ↦ let x = some-move w f _ l in record { label = x .label; left = prune (x .left) g; move = prune-left (x .move); fails = x .fails }
+        | inr r ↦
+            let x = some-move w g _ r in
+            sorted-failing
+            _
+            _
+            (λ a g′ r y t. record { label = a; left = prune f g′; move = prune-right r y; fails = t })
+            (λ v g′ r t. record { label = silently; left = subst (innermost v) f; move = prune-publishes r; fails = t })
+            (x .label)
+            (x .left)
+            (x .move)
+            (x .fails)
+      ]
+  some-move w (pending k) p t =
+      let y = implies-fails _ _ t in record { label = showing (answer k w); left = hand w; move = answered (y .0); fails = y .1 }
+  some-move w (hand v) p t = record { label = showing (publish v); left = stop; move = published; fails = t }
+
+-- a name for all that `every` computes with
+unfoldable pub moving : Unit {0}
+unfolding _implies_ afterSaid sorted everyOfSite every
+moving = tt

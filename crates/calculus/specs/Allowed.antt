@@ -1,0 +1,40 @@
+-- Which lists are allowed. Assumes nothing: these are definitions.
+use mathlib.Core.List.{List, [], _∷_}
+use Prim.Native.Nat.{ℕ, zero, suc}
+use Rattle.calculus.specs.Expression.{Exp}
+use Rattle.calculus.specs.Event.{Event, publish, call, answer, Label, silently, showing}
+use Rattle.calculus.specs.Rewriting.{Rewrites}
+
+-- a goal with definitions
+pub record Goal : Type 0 where
+  pub body : ℕ → Exp
+  pub goal : Exp
+
+-- where the rewritings stand: an expression, and the next handle
+pub record Configuration : Type 0 where
+  pub exp : Exp
+  pub handle : ℕ
+
+-- "handles count calls from 0"
+unfoldable pub nextHandle : Label → ℕ → ℕ
+nextHandle silently h = h
+nextHandle (showing (publish v)) h = h
+nextHandle (showing (call k s vs)) h = suc h
+nextHandle (showing (answer k v)) h = h
+
+-- the list with what a label shows in front
+unfoldable pub shown : Label → List Event → List Event
+shown silently es = es
+shown (showing e) es = e ∷ es
+
+-- "finitely many of these rewritings, one after another"; "they may end anywhere"
+pub data Shows (body : ℕ → Exp) : Configuration → List Event → Type 0 where
+  ends : {c : Configuration} → Shows body c []
+  then : {c : Configuration} {a : Label} {f : Exp} {es : List Event}
+      → Rewrites body (c .handle) (c .exp) a f
+      → Shows body (record { exp = f; handle = nextHandle a (c .handle) }) es
+      → Shows body c (shown a es)
+
+-- "A list is allowed exactly when finitely many of these rewritings .. from the table's goal, show it"
+abbrev pub Allowed : Goal → List Event → Type 0
+Allowed g es = Shows (g .body) (record { exp = g .goal; handle = zero }) es

@@ -1,0 +1,66 @@
+// The index rules of a dag.
+ghost use mathlib.Core.Path.{_≡_};
+ghost use Prim.Native.Nat.{_≤_};
+ghost use lib.ListN.{length, getD};
+ghost use Rattle.job.specs.Test.{all};
+ghost use Rattle.job.specs.Node.{nodeHolds, bodyHolds, dagHolds};
+ghost use Rattle.job.specs.Words.{dagOf};
+use crate::row::row_holds;
+use job::dag::WORDS;
+
+// Where each definition's body begins, and its count of formals.
+fn bodies_hold(dag: &[u32]) -> bool
+    requires { ⌜ (length (now dag) ≡ 12331) × (getD (now dag) 1 0 ≤ 32) ⌝ }
+    ensures { λ r. ⌜ r ≡ all (bodyHolds (dagOf (now (dag .entry)))) (dagOf (now (dag .entry)) .bodies) ⌝ }
+{
+    let nodes = dag[0];
+    let bodies = dag[1] as usize;
+    let mut ok = true;
+    let mut i = 0;
+    while i < bodies {
+        let at = 3 + 2 * i;
+        let holds = (dag[at] < nodes) & (dag[at + 1] <= 4);
+        ok = ok & holds;
+        i += 1;
+    }
+    ok
+}
+
+// The rows of the nodes.
+fn nodes_hold(dag: &[u32]) -> bool
+    requires { ⌜ (length (now dag) ≡ 12331) × (getD (now dag) 0 0 ≤ 1022) ⌝ }
+    ensures { λ r. ⌜ r ≡ all (nodeHolds (dagOf (now (dag .entry)))) (dagOf (now (dag .entry)) .nodes) ⌝ }
+{
+    let nodes = dag[0];
+    let bodies = dag[1];
+    let count = nodes as usize;
+    let mut ok = true;
+    let mut i = 0;
+    while i < count {
+        let at = 67 + 12 * i;
+        let end = at + 12;
+        ok = ok & row_holds(&dag[at..end], nodes, bodies);
+        i += 1;
+    }
+    ok
+}
+
+// The counts first: within them every row lies in the array.
+fn words_hold(dag: &[u32]) -> bool
+    requires { ⌜ length (now dag) ≡ 12331 ⌝ }
+    ensures { λ r. ⌜ r ≡ dagHolds (dagOf (now (dag .entry))) ⌝ }
+{
+    if 1022 < dag[0] {
+        return false;
+    }
+    if 32 < dag[1] {
+        return false;
+    }
+    (dag[2] < dag[0]) & bodies_hold(dag) & nodes_hold(dag)
+}
+
+pub fn dag_holds(dag: &[u32; WORDS]) -> bool
+    ensures { λ r. ⌜ r ≡ dagHolds (dagOf (now (dag .entry))) ⌝ }
+{
+    words_hold(dag)
+}

@@ -1,0 +1,167 @@
+-- A program that the reader reads is well-formed, and the bytes that it read are its encoding. For lists that are not bytes the
+-- first still holds: a list's numbers count only by the operands that they make. Assumes nothing.
+use mathlib.Core.Path.{_≡_, refl, sym, _∙_, ap, ap₂}
+use mathlib.Core.Bool.{true}
+use mathlib.Core.List.{List, [], _∷_, _++_, append-assoc, append-nil}
+use Prim.Native.Nat.{ℕ, zero, suc, _+_, _*_, _≤_}
+use native.Mathlib.Omega.{arith}
+use lib.ListN.{length, drop, length-drop}
+use lib.Seq.{length-take-le}
+use lib.Dec.{leb}
+use Rattle.job.specs.Test.{All, none, more}
+use Rattle.job.specs.Number.{bytes}
+use Rattle.job.specs.Syntax.{Definition, Program, formalsOf, levels}
+use Rattle.job.specs.Entry.{Entry, entry, entries, Kind, kindOf, rowHolds}
+use Rattle.job.specs.Encode.{encodeExp, encodeDefinitions, encodeEntries, operandBytes, encode}
+use Rattle.job.specs.WellFormed.{Good, GoodDefinition, WellFormed}
+use Rattle.job.specs.Read.{Got, _>>=_, entryAt, need, isDefinition, readDefinition, readProgram, leftovers, callHolds, definitionsHold}
+use Rattle.job.specs.Read.{readEntries, sizeD, sizeN, tableLength, readBytes}
+use Rattle.job.proofs.All.{All-drop}
+use Rattle.job.proofs.Test.{eqb-eq, leb-le, and-left, and-right, clash}
+use Rattle.job.proofs.Number.{Byte}
+use Rattle.job.proofs.Entry.{entry-of, kind-number, kindBytes}
+use Rattle.job.proofs.Entry.{length-entries, kind-bytes-entries, operand-bytes-entries, entries-short}
+use Rattle.job.proofs.Read.{Yields, something, nothing, yields-got, yields-need, yields-bind, yields-map, yields-itself}
+use Rattle.job.proofs.WellFormed.{Kept}
+use Rattle.job.proofs.Prefix.{Begins, next, begins-append, begins-rest, begins-length, begins-exact}
+use Rattle.job.proofs.Table.{kindPart, operandPart, table-parts}
+use Rattle.job.proofs.FoundExpression.{exp-found}
+
+-- definitions and programs
+
+record FoundDefinition (formals : List ℕ) (es : List Entry) (g : Got Definition) : Type 0 where
+  good : GoodDefinition formals (g .value)
+  begins : Begins (entry 6 (g .value .formals) ∷ encodeExp (g .value .body)) es (g .rest)
+
+definition-kind : (n : ℕ) → isDefinition (kindOf n) ≡ true → n ≡ 6
+unfolding isDefinition
+definition-kind n t = go (kindOf n) refl t
+  where
+    go : (k : Kind) → kindOf n ≡ k → isDefinition k ≡ true → n ≡ 6
+    go Kind.stop q t = clash t refl
+    go Kind.site q t = clash t refl
+    go Kind.call q t = clash t refl
+    go Kind.par q t = clash t refl
+    go Kind.seq q t = clash t refl
+    go Kind.prune q t = clash t refl
+    go Kind.definition q t = kind-number n Kind.definition q
+    go Kind.variable q t = clash t refl
+    go Kind.constant q t = clash t refl
+    go Kind.unknown q t = clash t refl
+
+definition-found : (formals : List ℕ) (e : ℕ) (es : List Entry) → All (Kept formals) es
+    → Yields (FoundDefinition formals es) (readDefinition e es)
+unfolding readDefinition _>>=_ entryAt rowHolds
+definition-found formals e [] kept = nothing
+definition-found formals e (x ∷ rest) (more _ kept) =
+    yields-need _ 3 e _ λ k.
+    yields-need (leb (x .operand) 4) 4 e _ λ l.
+    yields-bind _ (exp-found formals 24 (levels (x .operand)) (suc e) rest kept) λ b h.
+    something (record {
+      good = record { count = leb-le _ 4 l; body = h .good };
+      begins = next (λ s. entry-of x 6 _ (definition-kind _ k) refl) (h .begins);
+    })
+
+pub record FoundProgram (formals : List ℕ) (n : ℕ) (es : List Entry) (g : Got Program) : Type 0 where
+  pub count : length (g .value .definitions) ≡ n
+  pub bodies : All (GoodDefinition formals) (g .value .definitions)
+  pub goal : Good formals 24 [] (g .value .goal)
+  pub begins : Begins (encodeEntries (g .value)) es (g .rest)
+
+pub program-found : (formals : List ℕ) (n e : ℕ) (es : List Entry) → All (Kept formals) es
+    → Yields (FoundProgram formals n es) (readProgram n e es)
+unfolding readProgram encodeEntries encodeDefinitions
+program-found formals zero e es kept =
+    yields-bind _ (exp-found formals 24 [] e es kept) λ g h.
+    something (record { count = refl; bodies = none; goal = h .good; begins = h .begins })
+program-found formals (suc n) e es kept =
+    yields-bind _ (definition-found formals e es kept) λ d h.
+    yields-bind _ (program-found formals n (d .next) (d .rest) (begins-rest (h .begins) kept)) λ p hs.
+    something (record {
+      count = ap suc (hs .count);
+      bodies = more (h .good) (hs .bodies);
+      goal = hs .goal;
+      begins = rw append-assoc (begins-append (h .begins) (hs .begins));
+    })
+
+-- the entries and the bytes of a table
+
+leftovers-found : (e : ℕ) (es : List Entry) → Yields (λ _. es ≡ []) (leftovers e es)
+unfolding leftovers need
+leftovers-found e [] = something refl
+leftovers-found e (x ∷ es) = nothing
+
+kept-found : (formals : List ℕ) (e : ℕ) (es : List Entry) → Yields (λ _. All (Kept formals) es) (definitionsHold formals e es)
+unfolding definitionsHold need
+kept-found formals e [] = something none
+kept-found formals e (x ∷ es) =
+    yields-need (callHolds formals x) 8 e _ λ t.
+    yields-map (λ _ ts. more t ts) (kept-found formals (suc e) es)
+
+record FoundEntries (n : ℕ) (es : List Entry) (g : Got Program) : Type 0 where
+  program : FoundProgram (formalsOf (g .value .definitions)) n es g
+  ends : g .rest ≡ []
+
+entries-found : (n : ℕ) (es : List Entry) → Yields (FoundEntries n es) (readEntries n es)
+unfolding readEntries
+entries-found n es =
+    yields-bind _ (yields-itself (readProgram n 0 es)) λ p is.
+    yields-bind _ (leftovers-found (p .next) (p .rest)) λ _ ends.
+    yields-bind _ (kept-found (formalsOf (p .value .definitions)) 0 es) λ _ kept.
+    something (record { program = yields-got (program-found _ n 0 es kept) is; ends = ends })
+
+pub record FoundBytes (b : List ℕ) (g : Got Program) : Type 0 where
+  pub well-formed : WellFormed (g .value)
+  pub exact : All Byte b → b ≡ encode (g .value)
+
+module _ (b : List ℕ) (four : 4 ≤ length b) (total : length b ≡ tableLength b) where
+  length-kind-part : length (kindPart b) ≡ sizeN b
+  length-kind-part = length-take-le (sizeN b) (drop 4 b) (rw length-drop (omega arith))
+
+  length-operand-part : length (operandPart b) ≡ 4 * length (kindPart b)
+  length-operand-part = let z = length-kind-part in length-drop (4 + sizeN b) b ∙ omega arith
+
+  -- entries read from the parts of a table whose sizes are kept
+  module _ (g : Got Program) (found : FoundEntries (sizeD b) (entries (kindPart b) (operandPart b)) g) where
+    entry-count : length (encodeEntries (g .value)) ≡ sizeN b
+    entry-count =
+        let begun = begins-length (found .program .begins) in
+        let ended : length (g .rest) ≡ 0 = ap length (found .ends) in
+        let read = length-entries (kindPart b) (operandPart b) in
+        let kinds = length-kind-part in
+        omega arith
+
+    found-well-formed : sizeD b ≤ 32 → sizeN b ≤ 512 → WellFormed (g .value)
+    found-well-formed d n =
+        let D = found .program .count in
+        let N = entry-count in
+        record { definitions = omega arith; entries = omega arith; bodies = found .program .bodies; goal = found .program .goal }
+
+    found-exact : All Byte b → b ≡ encode (g .value)
+    unfolding encode
+    found-exact all =
+        let es = encodeEntries (g .value) in
+        let ks = kindPart b in
+        let os = operandPart b in
+        let operands = All-drop (4 + sizeN b) all in
+        let short = entries-short ks os operands length-operand-part in
+        let same = begins-exact (found .program .begins) short ∙ ap (_++_ es) (found .ends) ∙ append-nil es in
+        let D : sizeD b ≡ length (g .value .definitions) = sym (found .program .count) in
+        let N : sizeN b ≡ length es = sym entry-count in
+        let K : ks ≡ kindBytes es = sym (kind-bytes-entries ks os) ∙ ap kindBytes same in
+        let O : os ≡ operandBytes es = sym (operand-bytes-entries ks os operands length-operand-part) ∙ ap operandBytes same in
+        sym (table-parts b all four) ∙ ap₂ _++_ (ap₂ _++_ (ap₂ _++_ (ap (bytes 2) D) (ap (bytes 2) N)) K) O
+
+pub bytes-found : (b : List ℕ) → Yields (FoundBytes b) (readBytes b)
+unfolding readBytes
+bytes-found b =
+    yields-need _ 1 0 _ λ l.
+    yields-need _ 1 0 _ λ e.
+    yields-need _ 2 0 _ λ sizes.
+    let four = leb-le 4 (length b) l in
+    let total = eqb-eq (length b) (tableLength b) e in
+    let d = leb-le (sizeD b) 32 (and-left _ _ sizes) in
+    let n = leb-le (sizeN b) 512 (and-right (leb 1 (sizeN b)) _ (and-right (leb (sizeD b) 32) _ sizes)) in
+    yields-map
+    (λ g h. record { well-formed = found-well-formed b four total g h d n; exact = found-exact b four total g h })
+    (entries-found (sizeD b) (entries (kindPart b) (operandPart b)))

@@ -1,0 +1,27 @@
+-- Laws of jobs: the reader's answer, the construction of a dag, its index rules, its words; before them laws of tests, lists and numbers.
+pub mod Test
+pub mod All
+pub mod Number
+pub mod Stores
+pub mod Site
+pub mod Entry
+pub mod Position
+pub mod Read
+pub mod Scope
+pub mod WellFormed
+pub mod Prefix
+pub mod Encode
+pub mod Table
+pub mod ReadEncode
+pub mod FoundExpression
+pub mod EncodeRead
+pub mod Accepted
+pub mod Size
+pub mod Rules
+pub mod Kept
+pub mod Laid
+pub mod Decode
+pub mod DeclinedAt
+pub mod Lists
+pub mod Both
+pub mod Loop

@@ -1,0 +1,28 @@
+-- The variables in scope are below 8, since a binder's number is the length of the scope. Assumes nothing.
+use mathlib.Core.List.{List}
+use Prim.Native.Nat.{ℕ, zero, suc, _≤_, _<_}
+use native.Mathlib.Omega.{arith}
+use Rattle.job.specs.Test.{All, none, more}
+use Rattle.job.specs.Syntax.{Join, levels, scopeLeft, scopeRight}
+use Rattle.job.specs.WellFormed.{Binds}
+
+-- variables: "at most 8 are in scope"
+abbrev pub Slots : List ℕ → Type 0
+Slots scope = All (λ x. x < 8) scope
+
+pub levels-slots : (n : ℕ) → n ≤ 8 → Slots (levels n)
+unfolding levels
+levels-slots zero l = none
+levels-slots (suc n) l = more {x = n} (omega arith) (levels-slots n (omega arith))
+
+pub left-slots : {scope : List ℕ} {j : Join} → Binds scope j → Slots scope → Slots (scopeLeft j scope)
+unfolding scopeLeft
+left-slots Binds.par s = s
+left-slots (Binds.seq l) s = s
+left-slots (Binds.prune l) s = more l s
+
+pub right-slots : {scope : List ℕ} {j : Join} → Binds scope j → Slots scope → Slots (scopeRight j scope)
+unfolding scopeRight
+right-slots Binds.par s = s
+right-slots (Binds.seq l) s = more l s
+right-slots (Binds.prune l) s = s

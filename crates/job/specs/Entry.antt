@@ -1,0 +1,77 @@
+-- The entries of a table: "N kind bytes, then N operands of 4 bytes". Assumes nothing: these are definitions.
+use mathlib.Core.Bool.{Bool, true, false}
+use mathlib.Core.List.{List, [], _∷_}
+use Prim.Native.Nat.{ℕ, _/_, _%_}
+use lib.ListN.{getD, take, drop}
+use lib.Dec.{eqb, leb}
+use Rattle.job.specs.Test.{_and_}
+use Rattle.job.specs.Number.{number}
+use Rattle.job.specs.Site.{siteTakes}
+
+pub record Entry : Type 0 where
+  pub kind : ℕ
+  pub operand : ℕ
+
+abbrev pub entry : ℕ → ℕ → Entry
+entry k o = record { kind = k; operand = o }
+
+-- the entries of the kind part and the operand part
+unfoldable pub entries : List ℕ → List ℕ → List Entry
+entries [] os = []
+entries (k ∷ ks) os = entry k (number (take 4 os)) ∷ entries ks (drop 4 os)
+
+-- "low 16 bits site, high 16 bits parameter count"
+abbrev pub low : ℕ → ℕ
+low o = o % 65536
+
+abbrev pub high : ℕ → ℕ
+high o = o / 65536
+
+-- the table of kinds, by number
+pub data Kind : Type 0 where
+  stop site call par seq prune definition variable constant unknown : Kind
+
+abbrev pub kinds : List Kind
+kinds = stop ∷ site ∷ call ∷ par ∷ seq ∷ prune ∷ definition ∷ variable ∷ constant ∷ []
+
+unfoldable pub kindOf : ℕ → Kind
+kindOf k = getD kinds k unknown
+
+-- the kinds that may stand where an expression is read (docs/DECISIONS.md, "Positions")
+unfoldable pub isExpression : Kind → Bool
+isExpression stop = true
+isExpression site = true
+isExpression call = true
+isExpression par = true
+isExpression seq = true
+isExpression prune = true
+isExpression definition = false
+isExpression variable = false
+isExpression constant = false
+isExpression unknown = false
+
+-- (docs/DECISIONS.md, "What breaks a row") the operand keeps to its row of the table, "site unknown, or built-in count wrong" included
+unfoldable pub rowHolds : Kind → ℕ → Bool
+rowHolds stop o = eqb o 0
+rowHolds site o = siteTakes (low o) (high o)
+rowHolds call o = leb (high o) 4
+rowHolds par o = eqb o 0
+rowHolds seq o = eqb o 0
+rowHolds prune o = eqb o 0
+rowHolds definition o = leb o 4
+rowHolds variable o = true
+rowHolds constant o = true
+rowHolds unknown o = false
+
+-- the kinds that bind a variable
+unfoldable pub isBinder : Kind → Bool
+isBinder stop = false
+isBinder site = false
+isBinder call = false
+isBinder par = false
+isBinder seq = true
+isBinder prune = true
+isBinder definition = false
+isBinder variable = false
+isBinder constant = false
+isBinder unknown = false

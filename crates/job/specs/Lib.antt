@@ -1,0 +1,13 @@
+-- "The job table", "What the runner hands back when it declines" (1 to 8) and "From entries to dag". Read in this order.
+pub mod Test
+pub mod Number
+pub mod Site
+pub mod Syntax
+pub mod Notation
+pub mod Entry
+pub mod Encode
+pub mod WellFormed
+pub mod Read
+pub mod Node
+pub mod Construct
+pub mod Words

@@ -1,0 +1,2 @@
+-- Laws of the loop that looks for a place.
+pub mod Placing

@@ -1,0 +1,2 @@
+// Where a new token or cell goes.
+pub mod place;

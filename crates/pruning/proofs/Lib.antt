@@ -1,0 +1,2 @@
+-- Laws of a choke's loops.
+pub mod Chokes

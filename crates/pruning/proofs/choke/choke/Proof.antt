@@ -1,0 +1,37 @@
+-- The four changes one after the other are the definition's choke. Assumes nothing.
+use mathlib.Core.Path.{subst}
+use borrow.Author.Needs.{needs}
+use Rattle.model.specs.Machine.Step.{withTables}
+use Rattle.record.specs.Holds.{Holds}
+use Rattle.record.specs.Fields.{taken}
+use Rattle.pruning.proofs.Chokes.{taken-room, choke-is}
+use Rattle.pruning.specs.Choking.{rowsChoked}
+use Rattle.pruning.proofs.choke.choke.Statement.{statement}
+use Rattle.pruning.proofs.choke.choke.Tie as tie
+
+leave-requires : tie.Need-leave-requires
+leave-requires c κs = search needs
+
+choke-rows-requires : tie.Need-choke-rows-requires
+choke-rows-requires c κs = search needs
+
+set-value-requires : tie.Need-set-value-requires
+set-value-requires c κs = search needs
+
+reorder-requires : tie.Need-reorder-requires
+reorder-requires c κs = search needs
+
+returns : tie.Need-returns
+unfolding withTables
+returns c = λ m v h f ek en.
+    let place = c .before .before .before .before .before .before .before .before .args .place in
+    let cell = c .before .before .before .before .before .before .before .before .args .c in
+    let one = c .before .before .before .before .before .before .leave .ensures m h (f .queued) in
+    let two = c .before .before .before .before .choke-rows .ensures (taken m place) one in
+    let three = c .before .before .set-value .ensures (rowsChoked cell 64 (taken m place)) v two ek en in
+    subst (Holds _) (choke-is m h place cell f v) (c .reorder .ensures _ three (taken-room m h place cell f))
+
+pub choke-spec : {M : Type 1} → statement M
+choke-spec =
+    tie.close
+    (tie.spec leave-requires choke-rows-requires set-value-requires reorder-requires returns)

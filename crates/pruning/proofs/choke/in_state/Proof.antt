@@ -1,0 +1,58 @@
+-- After p turns the first p marks are the tests of the first p tokens. Assumes nothing.
+use mathlib.Core.Bool.{false}
+use mathlib.Core.Path.{sym, ap}
+use borrow.Author.Needs.{needs}
+use native.Mathlib.Omega.{arith}
+use Prim.Native.Nat.{_≤_, _-_}
+use lib.Dec.{eqb}
+use lib.ListN.{replicate}
+use Rattle.model.specs.Machine.Blank.{blankToken, tokenAt}
+use Rattle.model.specs.declared.record.Machine.{Machine}
+use Rattle.model.specs.declared.token.Token.{Token}
+use Rattle.record.specs.Words.{stateKind}
+use Rattle.record.specs.Holds.{Codes}
+use Rattle.sites.proofs.Tables.{Mapping, mapping-none, mapping-more, mapping-end}
+use Rattle.pruning.proofs.choke.in_state.Statement.{statement}
+use Rattle.pruning.proofs.choke.in_state.Tie as tie
+
+abbrev Inv-loop : tie.InvT-loop
+Inv-loop w kind marks₀ p₀ marks p = (p ≤ 64) × ((m : Machine) → Codes w m → Mapping (λ (t : Token). eqb (stateKind (t .state)) kind) (m .tokens) (replicate 64 false) p marks)
+
+abbrev μ-loop : tie.MeasureT-loop
+μ-loop w kind marks₀ p₀ marks p = 64 - p
+
+loop-holds : tie.Need-loop-holds Inv-loop μ-loop
+loop-holds c = (search needs, λ m h. mapping-none _ (m .tokens) _ (sym (h .shaped .tokens)))
+
+state-requires : tie.Need-state-requires Inv-loop μ-loop
+state-requires c κs = search needs
+
+array-write-marks : tie.Need-array-write-marks Inv-loop μ-loop
+array-write-marks c = search needs
+
+add-p : tie.Need-add-p Inv-loop μ-loop
+add-p c = search needs
+
+loop-less : tie.Need-loop-less Inv-loop μ-loop
+loop-less c = search needs
+
+loop-again : tie.Need-loop-again Inv-loop μ-loop
+unfolding tokenAt
+loop-again c = (search needs, λ m h. mapping-more _ (m .tokens) _ _ _ _ blankToken (c .before .before .loop .inv .1 m h) (omega (arith, h .shaped .tokens)) (ap (λ n. eqb n (c .before .before .before .args .kind)) (c .state .ensures m h)))
+
+returns : tie.Need-returns Inv-loop μ-loop
+returns c = λ m h. mapping-end _ (m .tokens) _ _ _ (c .before .loop .inv .1 m h) (omega (arith, h .shaped .tokens))
+
+pub in-state-spec : {M : Type 1} → statement M
+in-state-spec =
+    tie.close
+    (tie.spec
+    Inv-loop
+    μ-loop
+    loop-holds
+    state-requires
+    array-write-marks
+    add-p
+    loop-less
+    loop-again
+    returns)

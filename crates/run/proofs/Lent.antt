@@ -1,0 +1,144 @@
+-- A run that is under way on lent words: they hold one of the run's records, and the marks are that record's.
+-- So each turn's report is that of the definition's turn. Assumes nothing.
+use mathlib.Core.Path.{_≡_, refl, _∙_, ap, ap₂, subst}
+use mathlib.Core.Bool.{Bool, true, false}
+use mathlib.Core.List.{List, [], _∷_}
+use Prim.Native.Nat.{ℕ, _+_, _-_, _<_, _≤_}
+use lib.IntN.{ℤ}
+use lib.ListN.{length, getD}
+use Rattle.job.specs.Words.{dagOf}
+use Rattle.model.specs.Lines.Line.{textOfAll, end, limit}
+use Rattle.model.specs.Lines.Orcrun.{runLines, linesOf}
+use Rattle.model.specs.Machine.Limits.{paper}
+use Rattle.model.specs.Machine.Reply.{reported}
+use Rattle.model.specs.Machine.Start as Start
+use Rattle.model.specs.Machine.Start.{startMachine}
+use Rattle.model.specs.declared.record.Machine.{Machine}
+use Rattle.model.specs.declared.reply.Outcome.{Outcome}
+use Rattle.model.specs.declared.reply.Reply.{Reply}
+use Rattle.model.specs.declared.reply.Report.{Report}
+use Rattle.record.specs.Holds.{Codes, Holds}
+use Rattle.acts.specs.Acting.{Some, Lawful, Marks, Gives}
+use Rattle.run.specs.Input.{Accepted}
+use Rattle.lines.specs.Ending.{lastLines}
+use Rattle.lines.specs.Shown.{Shows}
+use Rattle.run.specs.Turn.{isLast, isLimit, isOver, turnOutcome, nextAt, nextSteps, Turning}
+use Rattle.run.proofs.Reached.{started, reached-start, reached-rules, reached-framed}
+use Rattle.run.proofs.HouseTurns.{linesFrom}
+use Rattle.run.proofs.Going.{Going, going-begins, going-last, going-limit, going-there, going-ends, going-less, going-turns}
+
+-- the words and marks of a start
+pub lawful-start : {ws : List ℕ} {used cells : List Bool} (dag : List ℕ) → Accepted dag → length dag ≡ 12331
+    → Holds ws (startMachine paper (getD dag 2 0)) × Marks used cells (startMachine paper (getD dag 2 0))
+    → Lawful ws used cells dag (Start.start paper (dagOf dag) .machine)
+lawful-start {ws} {used} {cells} dag A l s =
+    record {
+      holds = subst (λ (m : Machine). Holds ws m) (started dag A) (s .0);
+      rules = reached-rules dag A (reached-start dag A);
+      marks = subst (λ (m : Machine). Marks used cells m) (started dag A) (s .1);
+      size = l;
+    }
+
+module _ (dag rest before : List ℕ) (from : ℕ) where
+  pub record Lent (ws : List ℕ) (used cells : List Bool) (steps at total : ℕ) (output : List ℕ) : Type 0 where
+    pub machine : Machine
+    pub going : Going dag rest before from machine steps at total output
+    pub lawful : Lawful ws used cells dag machine
+
+  pub lent-begins : {ws : List ℕ} {used cells : List Bool}
+      → Accepted dag × (length rest ≤ 65536) × Lawful ws used cells dag (Start.start paper (dagOf dag) .machine)
+      → Lent ws used cells 0 0 0 before
+  lent-begins s =
+      record {
+        machine = Start.start paper (dagOf dag) .machine;
+        going = going-begins dag rest before from (s .0) _ (s .1) refl;
+        lawful = s .2;
+      }
+
+  abbrev Whole : List ℕ → ℕ → Type 0
+  Whole after n = Shows before from 0 (textOfAll (runLines paper 100000 (dagOf dag) rest)) after n
+
+  -- each turn, by the tests that lead to it: `queued` is the count that the code has read
+  module _ {ws : List ℕ} {used cells : List Bool} {steps at total : ℕ} {output : List ℕ} (L : Lent ws used cells steps at total output)
+      (word queued : ℕ) (reads : (m : Machine) → Codes ws m → word ≡ m .queued) (wide : queued ≡ word)
+      (l : Bool) (last : l ≡ isLast queued (length rest - at)) where
+    queued-is : queued ≡ L .machine .queued
+    queued-is = wide ∙ reads (L .machine) (L .lawful .holds .codes)
+
+    last-of : l ≡ isLast (L .machine .queued) (length rest - at)
+    last-of = last ∙ ap (λ (n : ℕ). isLast n (length rest - at)) queued-is
+
+    pub lent-last : {after : List ℕ} {n : ℕ} → l ≡ true → Shows output from total (textOfAll (lastLines (length rest - at) steps)) after n
+        → Whole after n
+    lent-last t s = going-last dag rest before from (L .going) l last-of t s
+
+    -- the outcome of the turn
+    abbrev turned : Outcome
+    turned = turnOutcome (dagOf dag) (L .machine) rest at
+
+    module _ (more : l ≡ false) where
+      turning : Turning ws used cells dag rest at (L .machine)
+      turning = record { lawful = L .lawful; there = going-there dag rest before from (L .going) l last-of more }
+
+      pub lent-turning : Some (Turning ws used cells dag rest at)
+      lent-turning = record { machine = L .machine; is = turning }
+
+      module _ (k : Bool) (limited : k ≡ isLimit queued steps) where
+        limit-of : k ≡ isLimit (L .machine .queued) steps
+        limit-of = limited ∙ ap (λ (n : ℕ). isLimit n steps) queued-is
+
+        pub lent-limit : {after : List ℕ} {n : ℕ} → k ≡ true → Shows output from total (textOfAll (limit ∷ end steps ∷ [])) after n
+            → Whole after n
+        lent-limit t s = going-limit dag rest before from (L .going) l last-of more k limit-of t s
+
+        module _ (free : k ≡ false) {ws′ : List ℕ} {used′ cells′ : List Bool} (r : Report)
+            (gives : (m : Machine) → Turning ws used cells dag rest at m → Gives (turnOutcome (dagOf dag) m rest at) m ws′ used′ cells′ r)
+            (b : Bool) (over-if : b ≡ isOver queued (r .reply)) where
+          given : Gives turned (L .machine) ws′ used′ cells′ r
+          given = gives (L .machine) turning
+
+          over-of : b ≡ isOver (L .machine .queued) (turned .reply)
+          over-of = over-if ∙ ap₂ isOver queued-is (given .reply)
+
+          lines-of : {output′ : List ℕ} {total′ : ℕ} → Shows output from total (textOfAll (linesOf (reported (r .reply) (r .values)))) output′ total′
+              → Shows output from total (textOfAll (linesFrom turned)) output′ total′
+          lines-of {output′} {total′} s =
+              subst (λ (vs : List ℤ). Shows output from total (textOfAll (linesOf (reported (turned .reply) vs))) output′ total′)
+              (given .values)
+              (subst (λ (p : Reply). Shows output from total (textOfAll (linesOf (reported p (r .values)))) output′ total′) (given .reply) s)
+
+          pub lent-ends : {output′ after : List ℕ} {total′ n : ℕ} → b ≡ true
+              → Shows output from total (textOfAll (linesOf (reported (r .reply) (r .values)))) output′ total′
+              → Shows output′ from total′ (textOfAll (end steps ∷ [])) after n → Whole after n
+          lent-ends t s u =
+              going-ends dag rest before from (L .going) l last-of more k limit-of free turned refl b over-of t (lines-of s) u
+
+          module _ (on-if : b ≡ false) (steps′ at′ : ℕ) (to : steps′ ≡ nextSteps queued steps) (behind : at′ ≡ nextAt queued at) where
+            to-of : steps′ ≡ nextSteps (L .machine .queued) steps
+            to-of = to ∙ ap (λ (n : ℕ). nextSteps n steps) queued-is
+
+            behind-of : at′ ≡ nextAt (L .machine .queued) at
+            behind-of = behind ∙ ap (λ (n : ℕ). nextAt n at) queued-is
+
+            pub lent-less : (100000 - steps′) + (length rest - at′) < (100000 - steps) + (length rest - at)
+            lent-less =
+                going-less dag rest before from (L .going) l last-of more k limit-of free turned refl b over-of on-if steps′ at′ to-of behind-of
+
+            pub lent-turns : {output′ : List ℕ} {total′ : ℕ}
+                → Shows output from total (textOfAll (linesOf (reported (r .reply) (r .values)))) output′ total′ → total′ ≤ total + 80
+                → Lent ws′ used′ cells′ steps′ at′ total′ output′
+            lent-turns s small =
+                let next =
+                going-turns dag rest before from (L .going) l last-of more k limit-of free turned refl b over-of on-if
+                steps′ at′ to-of behind-of (lines-of s) small in
+                record {
+                  machine = turned .machine;
+                  going = next;
+                  lawful =
+                      record {
+                        holds = given .holds;
+                        rules = reached-rules dag (next .accepted) (next .reached);
+                        marks = given .marks (reached-framed dag (L .going .accepted) (L .going .reached));
+                        size = L .lawful .size;
+                      };
+                }

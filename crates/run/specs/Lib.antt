@@ -1,0 +1,3 @@
+-- What a run is asked.
+pub mod Input
+pub mod Turn

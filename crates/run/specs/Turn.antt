@@ -1,0 +1,50 @@
+-- One turn of a house run, by how many tokens are in the queue before it. Assumes nothing: these are definitions.
+use mathlib.Core.Path.{_≡_}
+use mathlib.Core.Bool.{Bool, true, false}
+use mathlib.Core.List.{List}
+use Prim.Native.Nat.{ℕ, suc, _+_, _≤_}
+use lib.ListN.{length, take, drop}
+use lib.Dec.{eqb, ltb}
+use Rattle.job.specs.Number.{number, signed}
+use Rattle.job.specs.Node.{Dag}
+use Rattle.model.specs.Machine.Limits.{paper}
+use Rattle.model.specs.Machine.Reply.{isRefused}
+use Rattle.model.specs.Machine.Step as Step
+use Rattle.model.specs.Machine.Answer as Answer
+use Rattle.model.specs.declared.record.Machine.{Machine}
+use Rattle.model.specs.declared.reply.Reply.{Reply}
+use Rattle.model.specs.declared.reply.Outcome.{Outcome}
+use Rattle.acts.specs.Acting.{Lawful}
+
+-- no token is ready, and fewer bytes are left than a record has
+unfoldable pub isLast : (queued left : ℕ) → Bool
+isLast queued left = elim (eqb queued 0) [ true ↦ ltb left 8 | false ↦ false ]
+
+-- "with 100,000 steps made and a token ready"
+unfoldable pub isLimit : (queued steps : ℕ) → Bool
+isLimit queued steps = elim (eqb queued 0) [ true ↦ false | false ↦ eqb steps 100000 ]
+
+-- "a refused step ends the run, a refused answer doesn't"
+unfoldable pub isOver : (queued : ℕ) → Reply → Bool
+isOver queued r = elim (eqb queued 0) [ true ↦ false | false ↦ isRefused r ]
+
+-- "it runs house order; with the queue empty it delivers a record"
+unfoldable pub turnOutcome : Dag → Machine → (rest : List ℕ) (at : ℕ) → Outcome
+turnOutcome d m rest at =
+    elim (eqb (m .queued) 0) [
+      | true ↦ Answer.answer paper d m (number (take 4 (drop at rest))) (signed (number (take 4 (drop (at + 4) rest))))
+      | false ↦ Step.step paper d m 0
+    ]
+
+-- "8-byte records": the one that was delivered is behind
+unfoldable pub nextAt : (queued at : ℕ) → ℕ
+nextAt queued at = elim (eqb queued 0) [ true ↦ at + 8 | false ↦ at ]
+
+-- "accepted steps": a turn that goes on is one, unless it delivered a record
+unfoldable pub nextSteps : (queued steps : ℕ) → ℕ
+nextSteps queued steps = elim (eqb queued 0) [ true ↦ steps | false ↦ suc steps ]
+
+-- what a turn asks: the words hold m and the marks are m's, and a record is there where one is to be delivered
+pub record Turning (ws : List ℕ) (used usedCells : List Bool) (dag rest : List ℕ) (at : ℕ) (m : Machine) : Type 0 where
+  pub lawful : Lawful ws used usedCells dag m
+  pub there : m .queued ≡ 0 → at + 8 ≤ length rest

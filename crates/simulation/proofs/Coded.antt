@@ -1,0 +1,67 @@
+-- What a token does at a site call or a definition call, where the calculus rewrites that call: the same, with the same label.
+-- Both sides read the same values. Assumes nothing.
+use mathlib.Core.Path.{_≡_, refl, _∙_, ap}
+use mathlib.Core.Bool.{true, false}
+use mathlib.Core.List.{List, [], map}
+use mathlib.Core.Option.{some}
+use Prim.Native.Nat.{ℕ, _<_, _≤_}
+use native.Mathlib.Omega.{arith}
+use lib.Dec.{leb}
+use lib.IntN.{ℤ}
+use Rattle.job.specs.Site.{isBuiltin, isOutside}
+use Rattle.calculus.specs.Event.{Label, silently}
+use Rattle.calculus.specs.Expression.{Param, Exp, Substitution, substParam, subst, formals}
+use Rattle.calculus.specs.Rewriting.{valuesOf, silence, calling, Rewrites}
+use Rattle.job.proofs.Test.{and-left, leb-le, le-not-ltb}
+use Rattle.simulation.proofs.Machine.{Node, Program, Binding, Frame, Place, at, running, Store, acts, act, asksSite, callsSite, replies}
+use Rattle.simulation.proofs.Cells.{grows-all}
+use Rattle.simulation.proofs.Binding.{Env, Unset, env-formals, values-agree}
+use Rattle.simulation.proofs.Relation.{Code, Leads, returns, Rep}
+use Rattle.simulation.proofs.Outcome.{once, Outcome, makes, act-at}
+
+-- e is laid out from node n toward a node of its own
+pub record Laid (G : Program) (last : Node) (e : Exp) (n : ℕ) : Type 0 where
+  pub sink : ℕ
+  pub laid : Code G e n sink
+  pub at-sink : G .node sink ≡ last
+
+-- each definition's body is laid out toward return
+abbrev pub Bodies : Program → Type 0
+Bodies G = (d : ℕ) → d < G .count → Laid G Node.return (G .body d) (G .entry d)
+
+pub outside-not-builtin : (s : ℕ) → isOutside s ≡ true → isBuiltin s ≡ false
+unfolding isOutside isBuiltin
+outside-not-builtin s e =
+    let l : 16 ≤ s = leb-le 16 s (and-left (leb 16 s) (leb s 1023) e) in
+    le-not-ltb s 7 (omega arith)
+
+module _ (G : Program) (σ : Store) (new h : ℕ) where
+  module _ {Γ U : List ℕ} {K : Place} {n k : ℕ} {ps : List Param} {B : List Binding} {F : List Frame} {ρ : Substitution}
+      (w : ℤ) (env : Env σ Γ ρ B) (l : Leads G (at k B F U) K) where
+    site-effect : {s : ℕ} {vs : List ℤ} → Unset σ Γ → G .node n ≡ Node.site s ps k → valuesOf (map (substParam ρ) ps) ≡ some vs
+        → act G σ new h (at n B F U) w ≡ callsSite h s vs (isBuiltin s) (at k B F U)
+    site-effect {s} u e p =
+        act-at G σ new h w refl e ∙ ap (λ o. asksSite h s (running (at n B F U) w) o (at k B F U)) (values-agree u env ps ∙ p)
+
+    pub site-outcome : {C : List ℕ} {s : ℕ} {a : Label} {e′ : Exp} → Unset σ Γ → G .node n ≡ Node.site s ps k
+        → Rewrites (G .body) h (Exp.site s (map (substParam ρ) ps)) a e′
+        → Outcome G σ new h Γ (Exp.site s (map (substParam ρ) ps)) K [] [] C (running (at n B F U) w) acts a e′
+    site-outcome {s = s} u e (Rewrites.builtin-gives {vs = vs} p b q) =
+        makes
+        (site-effect u e p ∙ ap (λ x. callsSite h s vs x (at k B F U)) b ∙ ap (λ x. replies x (at k B F U)) q)
+        silence (once (Rewrites.builtin-gives p b q)) (Rep.hand l) grows-all
+    site-outcome {s = s} u e (Rewrites.builtin-silent {vs = vs} p b q) =
+        makes
+        (site-effect u e p ∙ ap (λ x. callsSite h s vs x (at k B F U)) b ∙ ap (λ x. replies x (at k B F U)) q)
+        silence (once (Rewrites.builtin-silent p b q)) Rep.stop grows-all
+    site-outcome {s = s} u e (Rewrites.outside-call {vs = vs} p o) =
+        makes
+        (site-effect u e p ∙ ap (λ x. callsSite h s vs x (at k B F U)) (outside-not-builtin s o))
+        calling (once (Rewrites.outside-call p o)) (Rep.pending l) grows-all
+
+    pub call-outcome : {C : List ℕ} {d : ℕ} → Laid G Node.return (G .body d) (G .entry d) → G .node n ≡ Node.call d ps k
+        → Outcome G σ new h Γ (Exp.call d (map (substParam ρ) ps)) K [] [] C (running (at n B F U) w) acts
+        silently (subst (formals (map (substParam ρ) ps)) (G .body d))
+    call-outcome b e =
+        makes (act-at G σ new h w refl e) silence (once Rewrites.entered)
+        (Rep.code (formals (map (substParam ρ) ps)) (b .laid) (env-formals env ps) (returns (b .at-sink) l)) grows-all

@@ -1,0 +1,190 @@
+-- The abstract machine. A token carries its bindings, its callers' frames and the cells that it is under; cells have names that are never
+-- used again; a call that finds an unset cell stays as it is. No places, no garbage, no limits, no queue.
+-- Assumes nothing: these are definitions.
+use mathlib.Core.Bool.{Bool, true, false, not}
+use mathlib.Core.List.{List, [], _∷_, _++_, map, reverse, tail}
+use mathlib.Core.Option.{Option, some, none}
+use Prim.Native.Nat.{ℕ, suc}
+use lib.ListN.{getD}
+use lib.Dec.{eqb}
+use lib.IntN.{ℤ, pos}
+use Rattle.job.specs.Test.{any, filter}
+use Rattle.job.specs.Number.{Signed32}
+use Rattle.job.specs.Site.{BuiltinReply, gives, silent, isBuiltin, builtin}
+use Rattle.calculus.specs.Event.{Event, Label, silently, showing}
+use Rattle.calculus.specs.Expression.{Param, Exp}
+use Rattle.calculus.specs.Allowed.{nextHandle, shown}
+use Rattle.simulation.proofs.Shuffle.{Split}
+
+-- the ten instructions; a parameter's variable is its position in the bindings
+pub data Node : Type 0 where
+  stop : Node
+  site : (s : ℕ) → List Param → (next : ℕ) → Node
+  call : (d : ℕ) → List Param → (next : ℕ) → Node
+  fork : (left right : ℕ) → Node
+  assign : (next : ℕ) → Node
+  remove : (next : ℕ) → Node
+  where' : (left right : ℕ) → Node
+  choke : Node
+  return : Node
+  publish : Node
+
+-- what runs: the nodes, where each definition's body begins, how many definitions there are, and what their bodies mean
+pub record Program : Type 0 where
+  pub node : ℕ → Node
+  pub entry : ℕ → ℕ
+  pub count : ℕ
+  pub body : ℕ → Exp
+
+pub data Binding : Type 0 where
+  value : ℤ → Binding
+  cell : ℕ → Binding
+
+-- where a call returns to
+pub data Frame : Type 0 where
+  frame : (node : ℕ) → List Binding → (above : List ℕ) → Frame
+
+-- where a token stands: its node, its bindings and callers, innermost first, and the cells that it is under, innermost first
+pub data Place : Type 0 where
+  at : (node : ℕ) → List Binding → List Frame → (above : List ℕ) → Place
+
+-- running, or called out with a handle
+pub data Token : Type 0 where
+  running : Place → ℤ → Token
+  calledOut : (handle : ℕ) → Place → Token
+
+abbrev pub above : Place → List ℕ
+above (at n B F U) = U
+
+abbrev pub cellsOf : Token → List ℕ
+cellsOf (running K v) = above K
+cellsOf (calledOut h K) = above K
+
+-- the values of the cells that are set
+abbrev pub Store : Type 0
+Store = ℕ → Option ℤ
+
+abbrev pub chosen : Bool → ℤ → Option ℤ → Option ℤ
+chosen true v o = some v
+chosen false v o = o
+
+abbrev pub withSet : Store → ℕ → ℤ → Store
+withSet σ c v b = chosen (eqb b c) v (σ b)
+
+-- the tokens that are not under the cell
+abbrev pub isOutOf : ℕ → Token → Bool
+isOutOf c t = not (any (eqb c) (cellsOf t))
+
+abbrev pub outOf : ℕ → List Token → List Token
+outOf c S = filter (isOutOf c) S
+
+-- the binding that a parameter names, and the values of parameters, where they have them
+abbrev pub bindingAt : List Binding → ℕ → Binding
+bindingAt B i = getD B i (value (pos 0))
+
+abbrev pub named : List Binding → Param → Binding
+named B (Param.value v) = value v
+named B (Param.variable i) = bindingAt B i
+
+abbrev pub valueIn : Store → Binding → Option ℤ
+valueIn σ (value v) = some v
+valueIn σ (cell c) = σ c
+
+abbrev pub inFront : Option ℤ → Option (List ℤ) → Option (List ℤ)
+inFront none vs = none
+inFront (some v) none = none
+inFront (some v) (some vs) = some (v ∷ vs)
+
+unfoldable pub valuesIn : Store → List Binding → List Param → Option (List ℤ)
+valuesIn σ B [] = some []
+valuesIn σ B (p ∷ ps) = inFront (valueIn σ (named B p)) (valuesIn σ B ps)
+
+-- what a token does: it becomes these tokens, or it sets a cell
+pub data Effect : Type 0 where
+  makes : Label → List Token → Effect
+  sets : (cell : ℕ) → ℤ → Effect
+
+abbrev pub ends : Effect
+ends = makes silently []
+
+abbrev pub goesOn : Place → ℤ → Effect
+goesOn K v = makes silently (running K v ∷ [])
+
+-- choke sets the innermost cell
+abbrev pub chokes : List ℕ → ℤ → Effect
+chokes [] v = ends
+chokes (c ∷ U) v = sets c v
+
+abbrev pub returns : List Frame → ℤ → Effect
+returns [] v = ends
+returns (frame k B U ∷ F) v = goesOn (at k B F U) v
+
+abbrev pub replies : BuiltinReply → Place → Effect
+replies (gives v) K = goesOn K v
+replies silent K = ends
+
+-- `h` is the next handle
+abbrev pub callsSite : (h s : ℕ) → List ℤ → Bool → Place → Effect
+callsSite h s vs true K = replies (builtin s vs) K
+callsSite h s vs false K = makes (showing (Event.call h s vs)) (calledOut h K ∷ [])
+
+-- without all values the token t stays
+abbrev pub asksSite : (h s : ℕ) → Token → Option (List ℤ) → Place → Effect
+asksSite h s t none K = makes silently (t ∷ [])
+asksSite h s t (some vs) K = callsSite h s vs (isBuiltin s) K
+
+-- what a token can do: act, or take an answer
+pub data Move : Token → Type 0 where
+  acts : {K : Place} {v : ℤ} → Move (running K v)
+  answered : {h : ℕ} {K : Place} (v : ℤ) → Signed32 v → Move (calledOut h K)
+
+-- `new` is the next cell's name
+module _ (G : Program) (σ : Store) (new h : ℕ) where
+  abbrev pub actsAt : Node → Place → ℤ → Effect
+  actsAt Node.stop K v = ends
+  actsAt (Node.site s ps k) (at n B F U) v = asksSite h s (running (at n B F U) v) (valuesIn σ B ps) (at k B F U)
+  actsAt (Node.call d ps k) (at n B F U) v = goesOn (at (G .entry d) (map (named B) (reverse ps)) (frame k B U ∷ F) U) v
+  actsAt (Node.fork l r) (at n B F U) v = makes silently (running (at l B F U) v ∷ running (at r B F U) v ∷ [])
+  actsAt (Node.assign k) (at n B F U) v = goesOn (at k (value v ∷ B) F U) v
+  actsAt (Node.remove k) (at n B F U) v = goesOn (at k (tail B) F U) v
+  actsAt (Node.where' l r) (at n B F U) v =
+      makes silently (running (at l (cell new ∷ B) F U) v ∷ running (at r B F (new ∷ U)) v ∷ [])
+  actsAt Node.choke (at n B F U) v = chokes U v
+  actsAt Node.return (at n B F U) v = returns F v
+  actsAt Node.publish K v = makes (showing (Event.publish v)) []
+
+  abbrev pub act : Place → ℤ → Effect
+  act (at n B F U) v = actsAt (G .node n) (at n B F U) v
+
+  abbrev pub effect : (t : Token) → Move t → Effect
+  effect (running K w) m = act K w
+  effect (calledOut k K) (answered v fits) = makes (showing (Event.answer k v)) (running K v ∷ [])
+
+-- tokens, cells, the next cell's name, the next handle
+pub data State : Type 0 where
+  state : List Token → Store → (new handle : ℕ) → State
+
+abbrev pub handleOf : State → ℕ
+handleOf (state S σ new h) = h
+
+-- the state after an effect of a token between L and R, and what the effect shows
+abbrev pub after : (L R : List Token) → Store → (new h : ℕ) → Effect → State
+after L R σ new h (makes a N) = state (L ++ (N ++ R)) σ (suc new) (nextHandle a h)
+after L R σ new h (sets c v) = state (outOf c (L ++ R)) (withSet σ c v) (suc new) h
+
+abbrev pub labelOf : Effect → Label
+labelOf (makes a N) = a
+labelOf (sets c v) = silently
+
+module _ (G : Program) where
+  pub data Step : State → Label → State → Type 0 where
+    step : {t : Token} {S L R : List Token} {σ : Store} {new h : ℕ} (m : Move t) → Split t S L R
+        → Step (state S σ new h) (labelOf (effect G σ new h t m)) (after L R σ new h (effect G σ new h t m))
+
+  pub data Run : State → List Event → State → Type 0 where
+    rests : {s : State} → Run s [] s
+    then : {s t u : State} {a : Label} {es : List Event} → Step s a t → Run t es u → Run s (shown a es) u
+
+-- a token alone at a node
+abbrev pub startAt : ℕ → State
+startAt n = state (running (at n [] [] []) (pos 0) ∷ []) (λ c. none) 0 0

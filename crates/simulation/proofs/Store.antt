@@ -1,0 +1,60 @@
+-- Laws of the abstract machine's cells: what a set cell holds, and which tokens its setting ends. By the tests that decide it. Assumes nothing.
+use mathlib.Core.Path.{_≡_, refl, _∙_, ap}
+use mathlib.Core.Bool.{Bool, true, false, not}
+use mathlib.Core.List.{List, [], _∷_, List·Memᴰ, List·Memᴰ·head, List·Memᴰ·tail, List·Memᴰ·not-nil}
+use mathlib.Core.Option.{Option, some, none}
+use Prim.Native.Nat.{ℕ}
+use native.Mathlib.Omega.{arith}
+use lib.Dec.{eqb}
+use lib.IntN.{ℤ}
+use Rattle.job.specs.Test.{_or_, any, filter, All, more}
+use Rattle.job.proofs.WellFormed.{member-any}
+use Rattle.job.proofs.Test.{eqb-same, eq-eqb, ne-eqb, or-left, or-right}
+use Rattle.simulation.proofs.Machine.{Token, Store, chosen, withSet, cellsOf, isOutOf, outOf}
+
+abbrev pub _∈_ : ℕ → List ℕ → Type 0
+c ∈ C = List·Memᴰ c C
+
+abbrev pub _∉_ : ℕ → List ℕ → Type 0
+c ∉ C = c ∈ C → ⊥
+
+infix 20 _∈_
+infix 20 _∉_
+pub set-same : (σ : Store) (c : ℕ) (v : ℤ) → withSet σ c v c ≡ some v
+set-same σ c v = ap (λ b. chosen b v (σ c)) (eqb-same c)
+
+pub set-other : (σ : Store) (c b : ℕ) (v : ℤ) → (b ≡ c → ⊥) → withSet σ c v b ≡ σ b
+set-other σ c b v n = ap (λ x. chosen x v (σ b)) (ne-eqb b c n)
+
+not-both : {o : Option ℤ} {v : ℤ} → o ≡ none → o ≡ some v → ⊥
+not-both p q = let z : _≡_ {A = ℕ} 0 1 = cc in omega arith
+
+-- a cell that was set keeps its value
+pub set-keeps : (σ : Store) (c b : ℕ) (v : ℤ) {w : ℤ} → σ c ≡ none → σ b ≡ some w → withSet σ c v b ≡ some w
+set-keeps σ c b v n s = set-other σ c b v (λ p. not-both (ap σ p ∙ n) s) ∙ s
+
+any-none : (c : ℕ) (l : List ℕ) → c ∉ l → any (eqb c) l ≡ false
+unfolding any _or_
+any-none c [] n = refl
+any-none c (b ∷ l) n = rw (ne-eqb c b (λ p. n (List·Memᴰ·head p))) (any-none c l (λ m. n (List·Memᴰ·tail m)))
+
+module _ {A : Type 0} (p : A → Bool) where
+  filter-yes : (x : A) (xs : List A) → p x ≡ true → filter p (x ∷ xs) ≡ x ∷ filter p xs
+  unfolding filter
+  filter-yes x xs e = rw (e, filter)
+
+  filter-no : (x : A) (xs : List A) → p x ≡ false → filter p (x ∷ xs) ≡ filter p xs
+  unfolding filter
+  filter-no x xs e = rw (e, filter)
+
+-- tokens that are not under the cell stay, those under it end
+pub all-stay : {c : ℕ} {S : List Token} → All (λ t. c ∉ cellsOf t) S → outOf c S ≡ S
+unfolding filter
+all-stay All.none = refl
+all-stay {c} (more {x = t} {xs = S} n a) =
+    filter-yes (isOutOf c) t S (ap not (any-none c (cellsOf t) n)) ∙ ap (_∷_ t) (all-stay a)
+
+pub all-end : {c : ℕ} {S : List Token} → All (λ t. c ∈ cellsOf t) S → outOf c S ≡ []
+unfolding filter
+all-end All.none = refl
+all-end {c} (more {x = t} {xs = S} m a) = filter-no (isOutOf c) t S (ap not (member-any m)) ∙ all-end a

@@ -1,0 +1,100 @@
+-- `where_split::where_split` meets its contract: each way out is how the definition's step ends there. Assumes nothing.
+use Rattle.spawns.proofs.Making.{where-gives, where-refused, where-refused-cell, queue-open, new-apart}
+use Rattle.sites.proofs.Rows.{where-numbers}
+use Rattle.acts.proofs.Outcomes.{row, row-fits, token-inside}
+use mathlib.Core.Path.{_∙_}
+use native.Mathlib.Omega.{arith}
+use borrow.Author.Needs.{needs}
+use Rattle.spawns.proofs.where_split.where_split.Statement.{statement}
+use Rattle.spawns.proofs.where_split.where_split.Tie as tie
+
+last-token-requires : tie.Need-last-token-requires
+last-token-requires c κs = search needs
+
+next-token-requires : tie.Need-next-token-requires
+next-token-requires c κs = search needs
+
+plain-requires : tie.Need-plain-requires
+plain-requires c κs = search needs
+
+returns : tie.Need-returns
+returns c = λ m a. where-refused _ _ _ _ m a (c .before .before .next-token .ensures) (c .before .before .before .last-token .ensures m (a .taking .lawful .holds .codes)) _ (search needs) (c .plain .ensures)
+
+last-cell-requires : tie.Need-last-cell-requires
+last-cell-requires c κs = search needs
+
+next-cell-requires : tie.Need-next-cell-requires
+next-cell-requires c κs = search needs
+
+plain-requires-2 : tie.Need-plain-requires-2
+plain-requires-2 c κs = search needs
+
+returns-2 : tie.Need-returns-2
+returns-2 c = λ m a. where-refused-cell _ _ _ _ m a (c .before .before .before .before .before .before .before .next-token .ensures) (c .before .before .before .before .before .before .before .before .last-token .ensures m (a .taking .lawful .holds .codes))
+    (c .before .before .next-cell .ensures) (c .before .before .before .last-cell .ensures m (a .taking .lawful .holds .codes)) _ (search needs) (search needs) (c .plain2 .ensures)
+
+add-word : tie.Need-add-word
+add-word c = search needs
+
+word-requires : tie.Need-word-requires
+word-requires c κs = let l = row-fits (c .before .before .before .before .before .before .before .before .before .before .before .pre .is) in omega arith
+
+wide-requires : tie.Need-wide-requires
+wide-requires c κs = search needs
+
+add-word-2 : tie.Need-add-word-2
+add-word-2 c = search needs
+
+word-requires-2 : tie.Need-word-requires-2
+word-requires-2 c κs = let l = row-fits (c .before .before .before .before .before .before .before .before .before .before .before .before .before .pre .is) in omega arith
+
+add-word-3 : tie.Need-add-word-3
+add-word-3 c = search needs
+
+word-requires-3 : tie.Need-word-requires-3
+word-requires-3 c κs = let l = row-fits (c .before .before .before .before .before .before .before .before .before .before .before .before .before .before .pre .is) in omega arith
+
+written-requires : tie.Need-written-requires
+written-requires c κs = let l = where-numbers _ _ (row (c .before .before .before .before .before .before .before .before .before .before .before .before .before .before .before .pre .is)) .2 in (token-inside (c .before .before .before .before .before .before .before .before .before .before .before .before .before .before .before .pre .is .taking), search needs, search needs, (let e = c .before .before .wide .ensures in let f = c .before .before .before .word .ensures in omega arith))
+
+element-write-tokens : tie.Need-element-write-tokens
+element-write-tokens c = search needs
+
+element-write-cells : tie.Need-element-write-cells
+element-write-cells c = search needs
+
+plain-requires-3 : tie.Need-plain-requires-3
+plain-requires-3 c κs = search needs
+
+returns-3 : tie.Need-returns-3
+returns-3 c = λ m a.
+    let next = c .before .before .before .before .before .before .before .before .before .before .before .before .before .next-token .ensures in
+    let last = c .before .before .before .before .before .before .before .before .before .before .before .before .before .before .last-token .ensures m (a .taking .lawful .holds .codes) in
+    where-gives _ _ _ _ m a next last (c .before .before .before .before .before .before .before .before .next-cell .ensures) (c .before .before .before .before .before .before .before .before .before .last-cell .ensures m (a .taking .lawful .holds .codes)) _ _ _ _
+    (c .before .before .before .before .wide .ensures ∙ c .before .before .before .before .before .word .ensures) (c .before .before .before .word2 .ensures) (c .before .before .word3 .ensures) (search needs) (search needs) (c .plain3 .ensures)
+    (c .before .written .ensures m (a .taking .lawful .holds) (a .taking .queued) (queue-open (a .taking) next last (search needs)) (new-apart (a .taking) next last (search needs)))
+
+pub where-split-spec : {M : Type 1} → statement M
+where-split-spec =
+    tie.close
+    (tie.spec
+    last-token-requires
+    next-token-requires
+    plain-requires
+    returns
+    last-cell-requires
+    next-cell-requires
+    plain-requires-2
+    returns-2
+    add-word
+    word-requires
+    wide-requires
+    add-word-2
+    word-requires-2
+    add-word-3
+    word-requires-3
+    written-requires
+    element-write-tokens
+    element-write-cells
+    plain-requires-3
+    returns-3)

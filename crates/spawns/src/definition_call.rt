@@ -1,0 +1,43 @@
+// Definition call: "the token becomes a frame at next, the callee is new, in the token's cell, with no value and only its formals bound".
+ghost use mathlib.Core.Bool.{true};
+ghost use Prim.Native.Nat.{_<_};
+ghost use Rattle.job.specs.Words.{dagOf};
+ghost use Rattle.model.specs.declared.record.Machine.{Machine};
+use acts::report::plain;
+use job::dag::WORDS;
+use job::wide::wide;
+use model::record::Machine;
+use model::reply::Refusal;
+use model::reply::Reply;
+use model::reply::Report;
+use places::place::next_token;
+use record::count::last_token;
+use writes::dag::word;
+use writes::definition_call::written;
+ghost use Rattle.model.specs.Machine.Limits.{paper};
+ghost use Rattle.model.specs.Machine.Step as Step;
+ghost use Rattle.acts.specs.Acting.{Some, Acting, Gives};
+
+// "10: .. definition call with 64 tokens in use."
+pub fn definition_call(
+    w: &mut [u32; Machine::WORDS],
+    tokens: &mut [bool; Machine::TOKENS],
+    cells: &[bool; Machine::CELLS],
+    dag: &[u32; WORDS],
+    place: usize,
+    p: usize,
+    at: usize,
+) -> Report
+    requires { ⌜ Some (Acting (now w) (now tokens) (now cells) (now dag) place p at 2) ⌝ }
+    ensures { λ r. ⌜ ((m : Machine) → Acting (now (w .entry)) (now (tokens .entry)) (now (cells .entry)) (now (dag .entry)) place p at 2 m → Gives (Step.step paper (dagOf (now (dag .entry))) m place) m (now (w .exit)) (now (tokens .exit)) (now (cells .entry)) r) ⌝ }
+{
+    let new = next_token(tokens, last_token(w));
+    if Machine::TOKENS <= new {
+        return plain(Reply::Refused(Refusal::TokenLimit));
+    }
+    let body = wide(word(dag, at + 1));
+    let root = word(dag, 3 + 2 * body);
+    written(w, dag, at, place, p, new, root, word(dag, at + 2));
+    tokens[new] = true;
+    plain(Reply::Done)
+}

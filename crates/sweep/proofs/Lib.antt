@@ -1,0 +1,2 @@
+-- Laws of the loops that make blank.
+pub mod Keeping

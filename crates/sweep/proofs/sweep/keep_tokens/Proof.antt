@@ -1,0 +1,80 @@
+-- `sweep::keep_tokens` meets its contract. The loop's invariant: the tokens before `p` are kept or blank. Assumes nothing.
+use mathlib.Core.Bool.{true, false}
+use mathlib.Core.Path.{refl, subst, _∙_}
+use Prim.Native.Nat.{_-_, _≤_}
+use borrow.Author.Needs.{needs}
+use Rattle.model.specs.declared.record.Machine.{Machine}
+use Rattle.record.specs.Holds.{Holds}
+use Rattle.reach.specs.Marks.{FreeTokens}
+use Rattle.sweep.proofs.Keeping.{tokensKept, tokens-first, token-there, tokens-next, tokens-last}
+use Rattle.reach.proofs.Lists.{any-default}
+use Rattle.sweep.proofs.sweep.keep_tokens.Statement.{statement}
+use Rattle.sweep.proofs.sweep.keep_tokens.Tie as tie
+
+abbrev Inv-loop : tie.InvT-loop
+Inv-loop w₀ marks used p₀ w p = (p ≤ 64) × ((m : Machine) → Holds w₀ m → FreeTokens m marks → Holds w (tokensKept used m p))
+
+abbrev μ-loop : tie.MeasureT-loop
+μ-loop w₀ marks used p₀ w p = 64 - p
+
+loop-holds : tie.Need-loop-holds Inv-loop μ-loop
+loop-holds c = (search needs, λ m h v. subst (Holds _) (tokens-first (c .before .before .args .used .now) m) h)
+
+slice-read-keep-token : tie.Need-slice-read-keep-token Inv-loop μ-loop
+slice-read-keep-token c = search needs
+
+shared-slice-read-keep-token : tie.Need-shared-slice-read-keep-token Inv-loop μ-loop
+shared-slice-read-keep-token c = search needs
+
+keep-token-requires : tie.Need-keep-token-requires Inv-loop μ-loop
+keep-token-requires c κs = search needs
+
+add-p : tie.Need-add-p Inv-loop μ-loop
+add-p c = search needs
+
+loop-less : tie.Need-loop-less Inv-loop μ-loop
+loop-less c = search needs
+
+loop-again : tie.Need-loop-again Inv-loop μ-loop
+loop-again c =
+    let l = c .before .before .before .before .before .loop in
+    let start = c .before .before .before .before .before .before .before .before in
+    let marks = start .args .marks .now in (
+      search needs,
+      λ m h v.
+          let long = h .codes .shaped .tokens in
+          subst (Holds _) (tokens-next _ m (l .p) (start .pre .1) long _ (search needs) refl)
+          (c .keep-token .ensures _ (l .inv .1 m h v)
+          (λ e. token-there _ m (l .p) (start .pre .1) long (search needs) ∙ v (l .p) (search needs) (any-default marks (l .p) true false (search needs) ∙ e))),
+    )
+
+renew-requires : tie.Need-renew-requires Inv-loop μ-loop
+renew-requires c κs = search needs
+
+same-length : tie.Need-same-length Inv-loop μ-loop
+same-length c = search needs
+
+returns : tie.Need-returns Inv-loop μ-loop
+returns c =
+    let l = c .before .before .before .before .before .loop in
+    let wide = c .before .before .before .before .before .before .before .before .pre .1 in (
+      c .before .before .renew .ensures,
+      λ m h v. subst (Holds _) (tokens-last _ m (l .p) wide (h .codes .shaped .tokens) (search needs)) (l .inv .1 m h v),
+    )
+
+pub keep-tokens-spec : {M : Type 1} → statement M
+keep-tokens-spec =
+    tie.close
+    (tie.spec
+    Inv-loop
+    μ-loop
+    loop-holds
+    slice-read-keep-token
+    shared-slice-read-keep-token
+    keep-token-requires
+    add-p
+    loop-less
+    loop-again
+    renew-requires
+    same-length
+    returns)

@@ -1,0 +1,2 @@
+-- Laws of the calls that do not test again.
+pub mod Whole

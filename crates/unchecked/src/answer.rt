@@ -1,0 +1,25 @@
+// The calls on a record whose index rules hold: they are not tested again. The marks say what is in use, before a call and after it.
+ghost use mathlib.Core.Bool.{Bool};
+ghost use mathlib.Core.List.{List};
+ghost use Prim.Native.Nat.{ℕ};
+ghost use Rattle.job.specs.Words.{dagOf};
+ghost use Rattle.model.specs.Machine.Answer as Answer;
+ghost use Rattle.model.specs.Machine.Limits.{paper};
+ghost use Rattle.model.specs.declared.record.Machine.{Machine};
+ghost use Rattle.acts.specs.Acting.{Lawful, Gives};
+use acts::report::plain;
+use job::dag::WORDS;
+use model::record::Machine;
+use model::reply::Refusal;
+use model::reply::Reply;
+use model::reply::Report;
+
+// An answer's token is in use before and after it, and names what it named: the marks stay.
+pub fn answer(w: &mut [u32; Machine::WORDS], handle: u32, value: i32) -> Report
+    ensures { λ r. ⌜ ((m : Machine) (dag : List ℕ) (used cells : List Bool) → Lawful (now (w .entry)) used cells dag m → Gives (Answer.answer paper (dagOf dag) m handle value) m (now (w .exit)) used cells r) ⌝ }
+{
+    if sites::answer::answer(w, handle, value) {
+        return plain(Reply::Done);
+    }
+    plain(Reply::Refused(Refusal::NotOpen))
+}
