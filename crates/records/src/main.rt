@@ -3,15 +3,10 @@
 ghost use Prim.Native.Nat.{_≤_};
 
 mod row;
-mod show;
-mod words;
 
 use crate::row::Row;
 use crate::row::four_bytes;
 use crate::row::read_row;
-use crate::row::signed;
-use crate::show::number;
-use crate::show::put;
 use job::dag::WORDS;
 use libc::STDIN_FILENO;
 use machine::answer::answer;
@@ -19,6 +14,10 @@ use machine::start::start;
 use machine::step::step;
 use model::record::Machine;
 use model::reply::Report;
+use show::fields::record;
+use show::print::number;
+use show::print::put;
+use sites::number::signed;
 
 // `main` is shown to end, so it reads no more cases than this.
 const MOST_CASES: usize = 65536;
@@ -50,7 +49,7 @@ fn stepped(w: &mut [u32; Machine::WORDS], dag: &[u32; WORDS], place: u32) -> Rep
 fn answered(w: &mut [u32; Machine::WORDS], dag: &[u32; WORDS], handle: u32, value: i32) -> Report {
     put(b"answer");
     number(handle as u64);
-    show::value(value);
+    show::print::value(value);
     put(b": ");
     answer(w, dag, handle, value)
 }
@@ -76,8 +75,8 @@ fn called(name: &[u8], w: &mut [u32; Machine::WORDS], dag: &[u32; WORDS], row: R
     let report = reported(w, dag, row);
     let reply = report.reply;
     let values = report.values;
-    show::reply(reply, values);
-    show::record(w);
+    show::replies::reply(reply, values);
+    record(w);
 }
 
 // Where the rows begin.

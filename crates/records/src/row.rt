@@ -19,14 +19,6 @@ pub fn four_bytes(a: u8, b: u8, c: u8, d: u8) -> u32 {
     a as u32 + 256 * (b as u32 + 256 * (c as u32 + 256 * (d as u32)))
 }
 
-// "signed 32-bit": the value of a word.
-pub fn signed(word: u32) -> i32 {
-    if word < 2147483648 {
-        return word as i32;
-    }
-    !((4294967295 - word) as i32)
-}
-
 fn small(b: u8) -> usize {
     b as usize
 }

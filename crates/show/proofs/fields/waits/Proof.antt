@@ -1,8 +1,8 @@
 -- `waits` is safe and ends: it reads each of the 64 names. Assumes nothing.
 use Prim.Native.Nat.{_-_, _≤_}
 use borrow.Author.Needs.{needs}
-use Rattle.records.proofs.show.waits.Statement.{statement}
-use Rattle.records.proofs.show.waits.Tie as tie
+use Rattle.show.proofs.fields.waits.Statement.{statement}
+use Rattle.show.proofs.fields.waits.Tie as tie
 
 abbrev Inv-loop : tie.InvT-loop
 Inv-loop w count i₀ t6 i = i ≤ 64

@@ -1,8 +1,8 @@
 -- `words` is safe and ends: it reads each of the 1,797 words. Assumes nothing.
 use Prim.Native.Nat.{_-_, _≤_}
 use borrow.Author.Needs.{needs}
-use Rattle.records.proofs.show.words.Statement.{statement}
-use Rattle.records.proofs.show.words.Tie as tie
+use Rattle.show.proofs.fields.words.Statement.{statement}
+use Rattle.show.proofs.fields.words.Tie as tie
 
 abbrev Inv-loop : tie.InvT-loop
 Inv-loop w i₀ t4 i = i ≤ 1797

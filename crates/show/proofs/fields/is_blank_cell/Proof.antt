@@ -1,8 +1,8 @@
 -- `is_blank_cell` is safe and ends: it reads each of a cell's 4 words. Assumes nothing.
 use Prim.Native.Nat.{_-_, _≤_}
 use borrow.Author.Needs.{needs}
-use Rattle.records.proofs.show.is_blank_cell.Statement.{statement}
-use Rattle.records.proofs.show.is_blank_cell.Tie as tie
+use Rattle.show.proofs.fields.is_blank_cell.Statement.{statement}
+use Rattle.show.proofs.fields.is_blank_cell.Tie as tie
 
 abbrev Inv-loop : tie.InvT-loop
 Inv-loop w c i₀ i = i ≤ 4

@@ -1,8 +1,8 @@
--- `bindings_are` is safe and ends: it reads each of the 8 bindings. Assumes nothing.
+-- `bindings` is safe and ends: it reads each of the 8 bindings. Assumes nothing.
 use Prim.Native.Nat.{_-_, _≤_}
 use borrow.Author.Needs.{needs}
-use Rattle.records.proofs.words.bindings_are.Statement.{statement}
-use Rattle.records.proofs.words.bindings_are.Tie as tie
+use Rattle.show.proofs.fields.bindings.Statement.{statement}
+use Rattle.show.proofs.fields.bindings.Tie as tie
 
 abbrev Inv-loop : tie.InvT-loop
 Inv-loop w p x₀ x = x ≤ 8
@@ -19,11 +19,8 @@ bind-kind-requires c κs = search needs
 bind-number-requires : tie.Need-bind-number-requires Inv-loop μ-loop
 bind-number-requires c κs = search needs
 
-is-binding-requires : tie.Need-is-binding-requires Inv-loop μ-loop
-is-binding-requires c κs = search needs
-
-returns : tie.Need-returns Inv-loop μ-loop
-returns c = search needs
+slot-requires : tie.Need-slot-requires Inv-loop μ-loop
+slot-requires c κs = search needs
 
 add-x : tie.Need-add-x Inv-loop μ-loop
 add-x c = search needs
@@ -34,11 +31,11 @@ loop-less c = search needs
 loop-again : tie.Need-loop-again Inv-loop μ-loop
 loop-again c = search needs
 
-returns-2 : tie.Need-returns-2 Inv-loop μ-loop
-returns-2 c = search needs
+returns : tie.Need-returns Inv-loop μ-loop
+returns c = search needs
 
-pub bindings-are-spec : {M : Type 1} → statement M
-bindings-are-spec =
+pub bindings-spec : {M : Type 1} → statement M
+bindings-spec =
     tie.close
     (tie.spec
     Inv-loop
@@ -46,9 +43,8 @@ bindings-are-spec =
     loop-holds
     bind-kind-requires
     bind-number-requires
-    is-binding-requires
-    returns
+    slot-requires
     add-x
     loop-less
     loop-again
-    returns-2)
+    returns)

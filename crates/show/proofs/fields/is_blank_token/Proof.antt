@@ -1,8 +1,8 @@
 -- `is_blank_token` is safe and ends: it reads each of a token's 24 words. Assumes nothing.
 use Prim.Native.Nat.{_-_, _≤_}
 use borrow.Author.Needs.{needs}
-use Rattle.records.proofs.show.is_blank_token.Statement.{statement}
-use Rattle.records.proofs.show.is_blank_token.Tie as tie
+use Rattle.show.proofs.fields.is_blank_token.Statement.{statement}
+use Rattle.show.proofs.fields.is_blank_token.Tie as tie
 
 abbrev Inv-loop : tie.InvT-loop
 Inv-loop w p i₀ i = i ≤ 24

@@ -1,11 +1,11 @@
-// Replies and records as lines. Of a record every field is shown that is not blank; of words that are no record's every one that is not 0.
+// A record as lines. Of a record every field is shown that is not blank; of words that are no record's every one that is not 0.
 ghost use Prim.Native.Nat.{_<_};
-use crate::row::signed;
-use crate::words::is_record;
+use crate::print::number;
+use crate::print::put;
+use crate::print::value;
+use coded::words::is_record;
 use libc::STDOUT_FILENO;
 use model::record::Machine;
-use model::reply::Refusal;
-use model::reply::Reply;
 use record::cell;
 use record::count;
 use record::layout::BLANK_STATE;
@@ -19,81 +19,7 @@ use record::layout::VALUE_SLOT;
 use record::layout::WAITING_STATE;
 use record::order;
 use record::token;
-use text::signed::put_signed;
-
-pub fn put(s: &[u8]) {
-    io::write_all(STDOUT_FILENO, s);
-}
-
-pub fn number(n: u64) {
-    put(b" ");
-    io::print_decimal(STDOUT_FILENO, n);
-}
-
-// The first bytes of a buffer. (Lent as an array first: its length is then known, whatever was written there.)
-fn put_first(digits: &[u8], n: usize) {
-    if n <= digits.len() {
-        put(&digits[0..n]);
-    }
-}
-
-fn put_digits(digits: &[u8; 80], n: usize) {
-    put_first(digits, n);
-}
-
-pub fn value(v: i32) {
-    put(b" ");
-    let mut digits = [0u8; 80];
-    let n = put_signed(&mut digits, 0, v);
-    put_digits(&digits, n);
-}
-
-fn refusal(r: Refusal) {
-    put(b"refused");
-    match r {
-        Refusal::NoToken => number(9),
-        Refusal::TokenLimit => number(10),
-        Refusal::CellLimit => number(11),
-        Refusal::NotOpen => number(12),
-        Refusal::CallLimit => number(13),
-        Refusal::Rule => number(14),
-    }
-}
-
-// The values beside a reply, where not all are 0.
-fn reply_values(values: [i32; 4]) {
-    let a = values[0];
-    let b = values[1];
-    let c = values[2];
-    let d = values[3];
-    if (a != 0) | (b != 0) | (c != 0) | (d != 0) {
-        put(b" values");
-        value(a);
-        value(b);
-        value(c);
-        value(d);
-    }
-}
-
-pub fn reply(r: Reply, values: [i32; 4]) {
-    match r {
-        Reply::Done => put(b"done"),
-        Reply::Waits => put(b"waits"),
-        Reply::Published(v) => {
-            put(b"publish");
-            value(v);
-        }
-        Reply::Called(handle, site, count) => {
-            put(b"call");
-            number(handle as u64);
-            number(site as u64);
-            number(count as u64);
-        }
-        Reply::Refused(why) => refusal(why),
-    }
-    reply_values(values);
-    put(b"\n");
-}
+use sites::number::signed;
 
 fn state(kind: u32, at: u32) {
     match kind {

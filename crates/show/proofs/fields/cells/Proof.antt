@@ -1,8 +1,8 @@
 -- `cells` is safe and ends: it reads each of the 32 cells. Assumes nothing.
 use Prim.Native.Nat.{_-_, _≤_}
 use borrow.Author.Needs.{needs}
-use Rattle.records.proofs.show.cells.Statement.{statement}
-use Rattle.records.proofs.show.cells.Tie as tie
+use Rattle.show.proofs.fields.cells.Statement.{statement}
+use Rattle.show.proofs.fields.cells.Tie as tie
 
 abbrev Inv-loop : tie.InvT-loop
 Inv-loop w c₀ c = c ≤ 32

@@ -1,8 +1,8 @@
 -- `tokens` is safe and ends: it reads each of the 64 tokens. Assumes nothing.
 use Prim.Native.Nat.{_-_, _≤_}
 use borrow.Author.Needs.{needs}
-use Rattle.records.proofs.show.tokens.Statement.{statement}
-use Rattle.records.proofs.show.tokens.Tie as tie
+use Rattle.show.proofs.fields.tokens.Statement.{statement}
+use Rattle.show.proofs.fields.tokens.Tie as tie
 
 abbrev Inv-loop : tie.InvT-loop
 Inv-loop w p₀ p = p ≤ 64
