@@ -35,7 +35,7 @@ use Rattle.model.specs.declared.token.State.the-variants as states
 use Rattle.model.specs.declared.token.Token.{Token}
 use Rattle.job.proofs.Test.{clash, and-left, and-right, ltb-lt}
 use Rattle.job.proofs.Number.{signed-unsigned}
-use Rattle.model.proofs.Keeps.Carried.{rebound-carried, ended-whole, ended-carried}
+use Rattle.demand3.proofs.Carried.{rebound-carried, ended-whole, ended-carried}
 use Rattle.record.specs.Fields.{taken}
 use Rattle.record.specs.Holds.{Holds}
 use Rattle.record.specs.Words.{slotKind, heldNumber, placeNumber}

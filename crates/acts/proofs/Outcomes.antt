@@ -27,8 +27,8 @@ use Rattle.job.proofs.Test.{lt-ltb, all-at}
 use Rattle.model.proofs.Machine.Rules.{RulesKept, rules-kept}
 use Rattle.model.proofs.Sees.Lockstep.{at-node}
 use Rattle.model.proofs.Run.Queue.{queue-kept}
-use Rattle.model.proofs.Keeps.Carried.{Carried}
-use Rattle.model.proofs.Keeps.NotRule.{at-rule, ready-not-blank}
+use Rattle.demand3.proofs.Carried.{Carried}
+use Rattle.demand3.proofs.NotRule.{at-rule, ready-not-blank}
 use Rattle.record.specs.Fields.{taken}
 use Rattle.record.specs.Holds.{Holds}
 use Rattle.acts.specs.Acting.{Lawful, Taking, Acting, Framed, Gives, plain}

@@ -23,7 +23,7 @@ use Rattle.model.proofs.Machine.Rules.{ready-live, rules-kept}
 use Rattle.model.proofs.Machine.Used.{Used, live-used}
 use Rattle.model.proofs.Sees.Others.{token-other}
 use Rattle.model.proofs.Keeps.Clean.{Clean, cellsOf}
-use Rattle.model.proofs.Keeps.Unblanked.{rules-clean}
+use Rattle.demand3.proofs.Unblanked.{rules-clean}
 use Rattle.reach.specs.Marks.{Vacant}
 use Rattle.acts.specs.Acting.{Lawful, Taking}
 use Rattle.acts.proofs.Outcomes.{token-ready}

@@ -29,7 +29,7 @@ use Rattle.model.specs.declared.token.Place.the-variants as places
 use Rattle.model.specs.declared.token.State.the-variants as states
 use Rattle.model.specs.declared.token.Token.{Token}
 use Rattle.job.proofs.Test.{lt-ltb, le-not-ltb}
-use Rattle.model.proofs.Keeps.Carried.{Carried, waited-carried, called-carried, replied-carried}
+use Rattle.demand3.proofs.Carried.{Carried, waited-carried, called-carried, replied-carried}
 use Rattle.record.specs.Fields.{taken, delayed}
 use Rattle.record.specs.Holds.{Holds}
 use Rattle.sites.specs.Row.{paramsAt}

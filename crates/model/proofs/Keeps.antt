@@ -1,19 +1,6 @@
--- The index rules hold of every record of a run.
+-- What a record of a run has beside its view: orders, tables, and blank places where nothing is in use.
 pub mod Lines
 pub mod Orders
-pub mod Values
-pub mod Looking
 pub mod Tables
 pub mod Facts
-pub mod Acts
 pub mod Clean
-pub mod Unblanked
-pub mod Instructions
-pub mod Rules
-pub mod Reached
-pub mod Runs
-pub mod Framed
-pub mod Carried
-pub mod Blocked
-pub mod NotRule
-pub mod Never

@@ -1,7 +1,5 @@
 -- Laws of the definitions, under the folder names of specs/.
 pub mod Machine
 pub mod Run
-pub mod Abstract
 pub mod Sees
 pub mod Keeps
-pub mod Demand3

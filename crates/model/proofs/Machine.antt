@@ -13,6 +13,5 @@ pub mod Acting
 pub mod Acts
 pub mod Within
 pub mod Begin
-pub mod Larger
 pub mod Choke
 pub mod Started

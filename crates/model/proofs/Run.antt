@@ -9,8 +9,8 @@ pub mod Choking
 pub mod Passing
 pub mod Answering
 pub mod Last
+pub mod Sound
 pub mod First
-pub mod Middle
 pub mod Loaded
 pub mod Worked
 pub mod Broken

@@ -8,7 +8,6 @@ pub mod Closed
 pub mod View
 pub mod Sees
 pub mod Slots
-pub mod Used
 pub mod Others
 pub mod Moving
 pub mod Agrees
@@ -20,7 +19,3 @@ pub mod Acts
 pub mod Answering
 pub mod Begin
 pub mod Lockstep
-pub mod Room
-pub mod Turn
-pub mod Back
-pub mod Following

@@ -24,9 +24,9 @@ use Rattle.job.proofs.Kept.{construct-kept}
 use Rattle.model.proofs.Sees.Labels.{Flow}
 use Rattle.model.proofs.Sees.Labelling.{labelsOf}
 use Rattle.model.proofs.Sees.Flowing.{construct-flows}
-use Rattle.model.proofs.Keeps.Reached.{paper-roomy}
-use Rattle.model.proofs.Keeps.Runs.{InRun, start-in-run, call-in-run, in-run-rules}
-use Rattle.model.proofs.Keeps.Framed.{in-run-framed}
+use Rattle.demand3.proofs.Reached.{paper-roomy}
+use Rattle.demand3.proofs.Runs.{InRun, start-in-run, call-in-run, in-run-rules}
+use Rattle.demand3.proofs.Framed.{in-run-framed}
 use Rattle.acts.specs.Acting.{Framed}
 use Rattle.run.specs.Input.{Accepted}
 

@@ -25,7 +25,7 @@ use Rattle.model.specs.declared.token.Place.the-variants as places
 use Rattle.model.specs.declared.token.Token.{Token}
 use Rattle.job.proofs.Test.{clash}
 use Rattle.model.proofs.Keeps.Facts.{blank-at}
-use Rattle.model.proofs.Keeps.Carried.{Carried, answered-carried}
+use Rattle.demand3.proofs.Carried.{Carried, answered-carried}
 use Rattle.record.specs.Words.{wordsOf}
 use Rattle.record.specs.Holds.{Holds}
 use Rattle.record.proofs.Shape.{binds-after, queue-fits}

@@ -12,7 +12,7 @@ use Rattle.model.specs.Run.Call.{runner}
 use Rattle.model.specs.Run.Demand3.{First}
 use Rattle.job.specs.WellFormed.{WellFormed}
 use Rattle.job.proofs.Accepted.{accepted-well-formed}
-use Rattle.model.proofs.Abstract.Sound.{sound}
+use Rattle.model.proofs.Run.Sound.{sound}
 use Rattle.model.proofs.Sees.Labelling.{labelsOf}
 use Rattle.model.proofs.Sees.Flowing.{construct-flows}
 use Rattle.model.proofs.Sees.Lockstep.{Fitting, Shown, shows, run-shown}

@@ -6,22 +6,22 @@ use mathlib.Core.Bool.{true, false}
 use mathlib.Core.List.{List, [], _∷_}
 use Prim.Native.Nat.{ℕ}
 use Rattle.job.specs.Node.{Dag, dagHolds}
 use Rattle.model.specs.Machine.Limits.{Limits}
 use Rattle.model.specs.Machine.Rules.{rulesHold}
 use Rattle.model.specs.Machine.Reply.{isRefused}
 use Rattle.model.specs.Machine.Start.{start, startMachine}
 use Rattle.model.specs.Machine.Step as Step
 use Rattle.model.specs.Machine.Answer as Answer
 use Rattle.calculus.specs.Event.{Event}
 use Rattle.calculus.specs.Expression.{Exp}
 use Rattle.model.specs.Run.Call.{Call, step, answer, runner, outcomeOf, machineAfter, started}
 use Rattle.model.specs.declared.record.Machine.{Machine}
 use Rattle.model.specs.declared.reply.Outcome.{Outcome}
 use Rattle.job.proofs.Test.{holds-or-fails}
 use Rattle.simulation.proofs.Machine as Abstract
 use Rattle.model.proofs.Sees.Labels.{Labels, Flow}
 use Rattle.model.proofs.Sees.Lockstep.{refused-leaves}
-use Rattle.model.proofs.Keeps.Reached.{Reached, Roomy, reached-rules, start-reached, Reaches, reaches, call-reached}
+use Rattle.demand3.proofs.Reached.{Reached, Roomy, reached-rules, start-reached, Reaches, reaches, call-reached}
 
 -- the machine is reached, with some state of the abstract machine
 pub data InRun (lim : Limits) (d : Dag) (M : Labels) (m : Machine) : Type 0 where

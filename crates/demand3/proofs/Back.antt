@@ -13,38 +13,38 @@ use Rattle.job.specs.Number.{Signed32}
 use Rattle.job.specs.Test.{without}
 use Rattle.job.specs.Syntax.{Param}
 use Rattle.job.specs.Node.{Node, Dag, nodeAt}
 use Rattle.model.specs.Machine.Limits.{Limits}
 use Rattle.model.specs.Machine.Blank.{tokenAt}
 use Rattle.model.specs.Machine.Rules.{rulesHold}
 use Rattle.model.specs.Machine.Reply.{accepted, outcome, unless, reported, isRefused}
 use Rattle.model.specs.Machine.Step as Step
 use Rattle.model.specs.Machine.Step.{withOrders, queueOf, waitsOf, unset, look, takes}
 use Rattle.model.specs.Machine.Answer as Answer
 use Rattle.model.specs.Machine.Answer.{answered}
 use Rattle.calculus.specs.Event.{Event, Label, silently, showing}
 use Rattle.calculus.specs.Expression.{Exp}
 use Rattle.calculus.specs.Allowed.{shown, nextHandle}
 use Rattle.model.specs.Run.Call.{Call, step, answer, runner, eventsOf, outcomeOf}
 use Rattle.model.specs.declared.token.Place.the-variants as places
 use Rattle.model.specs.declared.token.State.the-variants as states
 use Rattle.model.specs.declared.token.Token.{Token}
 use Rattle.model.specs.declared.cell.Cell.{Cell}
 use Rattle.model.specs.declared.record.Machine.{Machine}
 use Rattle.model.specs.declared.reply.Outcome.{Outcome}
 use Rattle.job.proofs.Test.{lt-ltb}
 use Rattle.simulation.proofs.Machine as Abstract
 use Rattle.simulation.proofs.Machine.{Binding, Frame, at, running, Store, state, labelOf, after, effect, Move}
 use Rattle.simulation.proofs.Shuffle.{Split, first, later}
 use Rattle.model.proofs.Sees.Labels.{Labels, nodeMeant, programOf, FlowAt, Flow}
 use Rattle.model.proofs.Sees.View.{World, Unset, PlaceSeen, TokenSeen, Kept, token-keep, tokens-map}
 use Rattle.model.proofs.Sees.Sees.{Core, world, Sees, seenAs, finish-sees, UsedToken, UsedCell, used-closed, used-fits, token-used}
 use Rattle.model.proofs.Sees.Slots.{found, values-seen}
 use Rattle.model.proofs.Sees.Others.{Others, acting-inside, cell-later}
 use Rattle.model.proofs.Sees.Agrees.{Acting}
-use Rattle.model.proofs.Sees.Room.{Room, Accepted, act-accepted}
+use Rattle.demand3.proofs.Room.{Room, Accepted, act-accepted}
 use Rattle.model.proofs.Sees.Answering.{answered-becomes}
-use Rattle.model.proofs.Sees.Turn.{Turn, is-ready, is-waiting, is-called, turn, queue-index, open-holder}
+use Rattle.demand3.proofs.Turn.{Turn, is-ready, is-waiting, is-called, turn, queue-index, open-holder}
 use Rattle.model.proofs.Sees.Lockstep.{Fitting, at-node, eventsBy, shown-by, takes-agrees}
 
 -- the token at p is at a site call that finds an unset cell
 pub record Blocked (d : Dag) (m : Machine) (p : ℕ) : Type 0 where

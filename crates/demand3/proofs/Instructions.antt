@@ -9,28 +9,28 @@ use lib.IntN.{ℤ}
 use Rattle.job.specs.Test.{without}
 use Rattle.job.specs.Syntax.{Param}
 use Rattle.job.specs.Node.{Dag}
 use Rattle.model.specs.Machine.Limits.{Limits}
 use Rattle.model.specs.Machine.Blank.{tokenAt, hasValue}
 use Rattle.model.specs.Machine.Active.{isSet, isLive}
 use Rattle.model.specs.Machine.InUse.{tokensUsed, cellsUsed}
 use Rattle.model.specs.Machine.Places.{nextPlace}
 use Rattle.model.specs.Machine.Rules.{rulesHold}
 use Rattle.model.specs.Machine.Step.{withNode, withBinding, withValue, inCell, withState, withTables, withOrders, withCounts, queueOf, waitsOf}
 use Rattle.model.specs.Machine.Step.{put, enqueue, newToken, newCell, hasTokenPlace, hasCellPlace}
 use Rattle.model.specs.Machine.Answer.{holder}
 use Rattle.model.specs.declared.token.Slot.the-variants as slots
 use Rattle.model.specs.declared.token.Held.the-variants as helds
 use Rattle.model.specs.declared.token.Place.the-variants as places
 use Rattle.model.specs.declared.token.State.the-variants as states
 use Rattle.model.specs.declared.token.Token.{Token}
 use Rattle.model.specs.declared.record.Machine.{Machine}
 use Rattle.model.proofs.Machine.Marks.{Free}
 use Rattle.model.proofs.Machine.Rules.{ready-live}
 pub use Rattle.model.proofs.Machine.Acting.{callee}
 use Rattle.model.proofs.Run.Queue.{queue-kept}
 use Rattle.model.proofs.Sees.Answering.{holder-called}
 use Rattle.model.proofs.Sees.Lockstep.{Fitting, free-token, free-cell}
-use Rattle.model.proofs.Keeps.Unblanked.{Whole, same-links, fork-links, call-links, split-links}
+use Rattle.demand3.proofs.Unblanked.{Whole, same-links, fork-links, call-links, split-links}
 
 -- the machine with the token at a place of the queue taken out of it
 abbrev pub taken : Machine → (place : ℕ) → Machine

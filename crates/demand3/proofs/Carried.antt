@@ -12,39 +12,39 @@ use lib.Seq.{getD-set-other}
 use lib.IntN.{ℤ}
 use Rattle.job.specs.Syntax.{Param}
 use Rattle.job.specs.Node.{Dag}
 use Rattle.model.specs.Machine.Limits.{Limits}
 use Rattle.model.specs.Machine.Blank.{empty, blankToken, tokenAt, slotAt, hasValue}
 use Rattle.model.specs.Machine.Active.{isSet, isLive}
 use Rattle.model.specs.Machine.InUse.{tokensUsed, cellsUsed, sweep}
 use Rattle.model.specs.Machine.Places.{nextPlace}
 use Rattle.model.specs.Machine.Rules.{rulesHold}
 use Rattle.model.specs.Machine.Step.{withNode, withBinding, withValue, inCell, withState, withTables, withOrders, withCounts}
 use Rattle.model.specs.Machine.Step.{put, enqueue, newToken, newCell, hasTokenPlace, hasCellPlace}
 use Rattle.model.specs.Machine.Answer.{holder}
 use Rattle.model.specs.declared.token.Slot.{Slot}
 use Rattle.model.specs.declared.token.Slot.the-variants as slots
 use Rattle.model.specs.declared.token.Bind.{Bind}
 use Rattle.model.specs.declared.token.Held.the-variants as helds
 use Rattle.model.specs.declared.token.Place.the-variants as places
 use Rattle.model.specs.declared.token.State.the-variants as states
 use Rattle.model.specs.declared.token.Token.{Token}
 use Rattle.model.specs.declared.record.Machine.{Machine}
 use Rattle.job.proofs.Test.{clash}
 use Rattle.model.proofs.Machine.Marks.{Free, marks-same, marks-added, marks-removed}
 use Rattle.model.proofs.Machine.Rules.{RulesKept, rules-kept}
 use Rattle.model.proofs.Machine.Inside.{Fits, fits-blank, With, tokens-inside, cells-inside}
 use Rattle.model.proofs.Machine.Writes.{fits-same, fits-binding}
 use Rattle.model.proofs.Machine.Used.{Used, UsedCell, InsideUsed, used-fits, used-parent, tokens-size, cells-size, live-used}
 use Rattle.model.proofs.Machine.Acting.{callee, write-inside, fork-inside, call-inside, split-inside}
 use Rattle.model.proofs.Sees.Sees.{live-inside}
 use Rattle.model.proofs.Sees.Answering.{holder-called}
 use Rattle.model.proofs.Sees.Lockstep.{Fitting}
 use Rattle.model.proofs.Sees.Others.{token-same, token-other}
 use Rattle.model.proofs.Keeps.Clean.{Clean, tokensOf, cellsOf}
-use Rattle.model.proofs.Keeps.Unblanked.{Adds, token-stays, cell-stays, adds-clean, clean-whole, rules-clean}
-use Rattle.model.proofs.Keeps.Unblanked.{keep-adds, same-adds, end-adds, fork-adds, call-adds, split-adds}
-use Rattle.model.proofs.Keeps.Instructions.{taken, acting-live, place-free, cell-free}
-use Rattle.model.proofs.Keeps.Framed.{Framed}
+use Rattle.demand3.proofs.Unblanked.{Adds, token-stays, cell-stays, adds-clean, clean-whole, rules-clean}
+use Rattle.demand3.proofs.Unblanked.{keep-adds, same-adds, end-adds, fork-adds, call-adds, split-adds}
+use Rattle.demand3.proofs.Instructions.{taken, acting-live, place-free, cell-free}
+use Rattle.demand3.proofs.Framed.{Framed}
 
 -- blanking changes nothing, and these tokens and cells are in use
 pub record Carried (o : Machine) (used usedCells : List Bool) : Type 0 where

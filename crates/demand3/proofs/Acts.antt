@@ -13,36 +13,36 @@ use Rattle.job.specs.Number.{Signed32}
 use Rattle.job.specs.Site.{BuiltinReply, isBuiltin, builtin}
 use Rattle.job.specs.Syntax.{Param}
 use Rattle.job.specs.Node.{Node, Dag, nodeAt, bodyAt, paramHolds, paramsHold, isNode, nodeHolds, bodyHolds, dagHolds}
 use Rattle.model.specs.Machine.Limits.{Limits}
 use Rattle.model.specs.Machine.Blank.{blankToken, tokenAt, cellAt, slotAt}
 use Rattle.model.specs.Machine.Active.{upward, within, isLive}
 use Rattle.model.specs.Machine.Rules.{isReady, isWaiting, heldInRange}
 use Rattle.model.specs.Machine.Reply.{Effect, unless}
 use Rattle.model.specs.Machine.Step as Step
 use Rattle.model.specs.Machine.Step.{LookedUp, values, unset, look, hasTokenPlace, hasCellPlace, tokenPlace}
 use Rattle.model.specs.Machine.Step.{cellPlace, withOrders, queueOf, waitsOf, chokeToken, act}
 use Rattle.model.specs.declared.token.Slot.the-variants as slots
 use Rattle.model.specs.declared.token.Held.the-variants as helds
 use Rattle.model.specs.declared.token.Place.{Place}
 use Rattle.model.specs.declared.token.Place.the-variants as places
 use Rattle.model.specs.declared.token.State.{State}
 use Rattle.model.specs.declared.token.State.the-variants as states
 use Rattle.model.specs.declared.token.Token.{Token}
 use Rattle.model.specs.declared.cell.Cell.{Cell}
 use Rattle.model.specs.declared.record.Machine.{Machine}
 use Rattle.model.specs.declared.reply.Refusal.the-variants as refusals
 use Rattle.job.proofs.Test.{clash, eqb-same, ltb-lt, and-left, and-right}
 use Rattle.job.proofs.Rules.{body-rules}
 use Rattle.model.proofs.Machine.Refused.{After, after-unless}
 use Rattle.model.proofs.Sees.Others.{token-other}
 use Rattle.model.proofs.Keeps.Lines.{Lines, Taken, taken-ready, taken-inside, lines-gone, lines-back, lines-wait, lines-new, lines-choke}
 use Rattle.model.proofs.Keeps.Orders.{Orders, queue-is, waits-are, orders-with, orders-counts}
 use Rattle.model.proofs.Keeps.Orders.{orders-put, orders-enqueue, orders-token, orders-cell}
-use Rattle.model.proofs.Keeps.Values.{held-fits, LookedFits, found, look-fits, SaidFits, said, nothing, builtin-fits}
-use Rattle.model.proofs.Keeps.Looking.{look-unset}
+use Rattle.demand3.proofs.Values.{held-fits, LookedFits, found, look-fits, SaidFits, said, nothing, builtin-fits}
+use Rattle.demand3.proofs.Looking.{look-unset}
 use Rattle.model.proofs.Keeps.Tables.{BindsFit, binds-written, formals-fit, Awaits, awaits-as, TokenKept, Tables, Idle}
 use Rattle.model.proofs.Keeps.Tables.{idle-kept, blank-kept, tables-write, tables-wait, tables-call, tables-cell, tables-choke}
 use Rattle.model.proofs.Keeps.Facts.{Facts}
 
 not-live-ready : (s : State) → isLive s ≡ false → isReady s ≡ false
 unfolding isLive isReady

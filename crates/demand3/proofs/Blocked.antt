@@ -5,30 +5,30 @@ use mathlib.Core.Bool.{true, false}
 use Prim.Native.Nat.{ℕ, suc, _<_}
 use lib.ListN.{length}
 use Rattle.job.specs.Node.{Dag, nodeAt, dagHolds}
 use Rattle.model.specs.Machine.Limits.{Limits}
 use Rattle.model.specs.Machine.Blank.{blankToken, tokenAt, isBlankState}
 use Rattle.model.specs.Machine.Active.{isLive}
 use Rattle.model.specs.Machine.Rules.{nodeRule, atNode}
 use Rattle.model.specs.Machine.Step.{unset, look}
 use Rattle.model.specs.Machine.Reply.{isRefused}
 use Rattle.calculus.specs.Expression.{Exp}
 use Rattle.model.specs.Run.Call.{Call, runner, outcomeOf}
 use Rattle.model.specs.declared.token.State.the-variants as states
 use Rattle.model.specs.declared.token.Token.{Token}
 use Rattle.model.specs.declared.record.Machine.{Machine}
 use Rattle.job.proofs.Test.{all-at}
 use Rattle.model.proofs.Machine.Rules.{rules-kept}
 use Rattle.simulation.proofs.Machine as Abstract
 use Rattle.model.proofs.Sees.Labels.{Labels, Flow}
 use Rattle.model.proofs.Sees.Sees.{live-inside}
-use Rattle.model.proofs.Sees.Room.{Room}
-use Rattle.model.proofs.Sees.Back.{Blocked, Ready}
-use Rattle.model.proofs.Sees.Following.{Keeps}
-use Rattle.model.proofs.Keeps.Looking.{look-blocked}
+use Rattle.demand3.proofs.Room.{Room}
+use Rattle.demand3.proofs.Back.{Blocked, Ready}
+use Rattle.demand3.proofs.Following.{Keeps}
+use Rattle.demand3.proofs.Looking.{look-blocked}
 use Rattle.model.proofs.Keeps.Tables.{Awaits}
-use Rattle.model.proofs.Keeps.Reached.{Reached, Roomy, reached-rules}
-use Rattle.model.proofs.Keeps.NotRule.{at-rule}
-use Rattle.model.proofs.Keeps.Runs.{InRun, seenWith, call-in-run}
+use Rattle.demand3.proofs.Reached.{Reached, Roomy, reached-rules}
+use Rattle.demand3.proofs.NotRule.{at-rule}
+use Rattle.demand3.proofs.Runs.{InRun, seenWith, call-in-run}
 
 module _ (lim : Limits) (d : Dag) (M : Labels) (room : Roomy lim) (flow : Flow d M) (dag : dagHolds d ≡ true) where
   pub waiting-blocked : {m : Machine} {s : Abstract.State} → Reached lim d M m s → (p c : ℕ) → tokenAt (m .tokens) p .state ≡ states.Waiting c

@@ -10,20 +10,20 @@ use Rattle.job.specs.Read.{readTable, accepted}
 use Rattle.job.specs.WellFormed.{WellFormed}
 use Rattle.job.specs.Node.{Dag}
 use Rattle.job.specs.Construct.{construct}
 use Rattle.model.specs.Machine.Limits.{Limits}
 use Rattle.model.specs.Machine.Rules.{rulesHold}
 use Rattle.model.specs.Machine.Start.{start}
 use Rattle.calculus.specs.Meaning.{meaning}
 use Rattle.model.specs.Run.Call.{Call, runner, outcomeOf, machineAfter, started}
 use Rattle.model.specs.declared.reply.Refusal.the-variants as refusals
 use Rattle.model.specs.declared.reply.Reply.the-variants as replies
 use Rattle.job.proofs.Kept.{construct-kept}
 use Rattle.job.proofs.Accepted.{accepted-well-formed}
 use Rattle.model.proofs.Sees.Labelling.{labelsOf}
 use Rattle.model.proofs.Sees.Flowing.{construct-flows}
-use Rattle.model.proofs.Keeps.Reached.{Roomy}
-use Rattle.model.proofs.Keeps.Runs.{InRun, start-in-run, calls-in-run, in-run-rules}
-use Rattle.model.proofs.Keeps.NotRule.{not-rule}
+use Rattle.demand3.proofs.Reached.{Roomy}
+use Rattle.demand3.proofs.Runs.{InRun, start-in-run, calls-in-run, in-run-rules}
+use Rattle.demand3.proofs.NotRule.{not-rule}
 
 -- a run on an accepted table
 module _ (lim : Limits) (room : Roomy lim) (table : List ℕ) (p : Program) (read : readTable table ≡ accepted p) where

@@ -8,23 +8,23 @@ use native.Mathlib.Decide.{decLt}
 use native.Mathlib.Omega.{arith}
 use lib.ListN.{length}
 use Rattle.job.specs.Node.{Dag}
 use Rattle.model.specs.Machine.Limits.{Limits}
 use Rattle.model.specs.Machine.Blank.{tokenAt}
 use Rattle.model.specs.Machine.Active.{isActive}
 use Rattle.model.specs.declared.token.Place.the-variants as places
 use Rattle.model.specs.declared.token.State.the-variants as states
 use Rattle.model.specs.declared.token.Token.{Token}
 use Rattle.model.specs.declared.record.Machine.{Machine}
 use Rattle.model.proofs.Machine.Reach.{Names, names-nowhere}
 use Rattle.model.proofs.Machine.InUse.{token-outside}
 use Rattle.model.proofs.Machine.Inside.{active-live}
 use Rattle.model.proofs.Machine.Used.{Used}
 use Rattle.simulation.proofs.Machine as Abstract
 use Rattle.simulation.proofs.Machine.{Frame}
 use Rattle.model.proofs.Sees.Labels.{Labels}
 use Rattle.model.proofs.Sees.View.{World, FramesSeen, TokenSeen, sees, FrameSeen, frameAt, frame-seen}
 use Rattle.model.proofs.Sees.Sees.{Core, Sees, seenAs, UsedToken, tokens-of, token-at, live-listed}
-use Rattle.model.proofs.Keeps.Runs.{InRun, seenWith}
+use Rattle.demand3.proofs.Runs.{InRun, seenWith}
 
 -- the caller of a token in use is a frame
 abbrev pub Framed : Machine → Type 0

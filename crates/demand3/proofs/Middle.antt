@@ -11,38 +11,38 @@ use Rattle.job.specs.Syntax.{Program}
 use Rattle.job.specs.WellFormed.{WellFormed}
 use Rattle.job.specs.Node.{Dag, dagHolds}
 use Rattle.job.specs.Construct.{construct}
 use Rattle.model.specs.Machine.Limits.{Limits, limits}
 use Rattle.model.specs.Machine.InUse.{marked, tokensUsed, cellsUsed}
 use Rattle.model.specs.Machine.Reply.{isRefused}
 use Rattle.model.specs.Machine.Start.{startMachine}
 use Rattle.model.specs.Machine.Step.{hasTokenPlace, hasCellPlace}
 use Rattle.calculus.specs.Event.{Event, Label, silently, showing}
 use Rattle.calculus.specs.Expression.{Exp}
 use Rattle.calculus.specs.Allowed.{Allowed, nextHandle}
 use Rattle.calculus.specs.Meaning.{meaning}
 use Rattle.model.specs.Run.Call.{Call, step, answer, runner, outcomeOf, noneRefused, eventsFrom}
 use Rattle.model.specs.Run.Demand3.{Shown, Middle}
 use Rattle.model.specs.declared.record.Machine.{Machine}
 use Rattle.model.specs.declared.reply.Outcome.{Outcome}
 use Rattle.job.proofs.Test.{lt-ltb}
 use Rattle.job.proofs.Accepted.{accepted-well-formed}
 use Rattle.job.proofs.Kept.{construct-kept}
 use Rattle.model.proofs.Machine.Started.{start-machine}
 use Rattle.model.proofs.Machine.Begin.{start-one-token, start-no-cell}
-use Rattle.model.proofs.Machine.Larger.{UsedAtMost, step-adds, answer-adds}
+use Rattle.demand3.proofs.Larger.{UsedAtMost, step-adds, answer-adds}
 use Rattle.simulation.proofs.Machine as Abstract
 use Rattle.simulation.proofs.Machine.{startAt, handleOf}
-use Rattle.model.proofs.Abstract.Complete.{complete}
+use Rattle.demand3.proofs.Complete.{complete}
 use Rattle.model.proofs.Sees.Labels.{Labels, programOf, Flow}
 use Rattle.model.proofs.Sees.Labelling.{labelsOf}
 use Rattle.model.proofs.Sees.Flowing.{construct-flows}
 use Rattle.model.proofs.Sees.Sees.{Sees, seenAs}
-use Rattle.model.proofs.Sees.Room.{Room}
-use Rattle.model.proofs.Sees.Back.{Ready}
-use Rattle.model.proofs.Sees.Following.{stepsOf, Keeps, Does, does, run-followed}
+use Rattle.demand3.proofs.Room.{Room}
+use Rattle.demand3.proofs.Back.{Ready}
+use Rattle.demand3.proofs.Following.{stepsOf, Keeps, Does, does, run-followed}
 use Rattle.model.proofs.Sees.Lockstep.{fitting}
-use Rattle.model.proofs.Keeps.Reached.{Reached, Roomy, limits-roomy, start-reached, Reaches, reaches, call-reached}
-use Rattle.model.proofs.Keeps.Blocked.{reached-ready}
+use Rattle.demand3.proofs.Reached.{Reached, Roomy, limits-roomy, start-reached, Reaches, reaches, call-reached}
+use Rattle.demand3.proofs.Blocked.{reached-ready}
 
 -- a step raises the next handle by one at most
 next-handle : (a : Label) (h : ℕ) → nextHandle a h ≤ suc h

@@ -5,18 +5,18 @@ use mathlib.Core.Bool.{true, false}
 use mathlib.Core.List.{List, [], _∷_, _++_}
 use Prim.Native.Nat.{ℕ, suc}
 use Rattle.job.specs.Node.{Dag}
 use Rattle.model.specs.Machine.Limits.{Limits}
 use Rattle.model.specs.Machine.Reply.{isRefused}
 use Rattle.calculus.specs.Event.{Event, Label, silently}
 use Rattle.calculus.specs.Expression.{Exp}
 use Rattle.calculus.specs.Allowed.{shown}
 use Rattle.model.specs.Run.Call.{Call, runner, outcomeOf, eventsFrom, noneRefused}
 use Rattle.model.specs.declared.record.Machine.{Machine}
 use Rattle.simulation.proofs.Machine as Abstract
 use Rattle.model.proofs.Sees.Labels.{Labels, programOf, Flow}
 use Rattle.model.proofs.Sees.Sees.{Sees}
 use Rattle.model.proofs.Sees.Lockstep.{Fitting, eventsBy, shown-append}
-use Rattle.model.proofs.Sees.Back.{Ready, Followed, stays, calls, step-followed}
+use Rattle.demand3.proofs.Back.{Ready, Followed, stays, calls, step-followed}
 
 -- the number of steps of a run
 abbrev pub stepsOf : {G : Abstract.Program} {s s′ : Abstract.State} {es : List Event} → Abstract.Run G s es s′ → ℕ

@@ -15,42 +15,42 @@ use Rattle.job.specs.Number.{fits}
 use Rattle.job.specs.Syntax.{Param}
 use Rattle.job.specs.Node.{Node, Dag, nodeAt, isNode, dagHolds}
 use Rattle.job.specs.WellFormed.{GoodParam}
 use Rattle.model.specs.Machine.Limits.{Limits}
 use Rattle.model.specs.Machine.Blank.{empty, blankToken, blankCell, tokenAt, cellAt, slotAt, isBound, hasValue, isPlace, isBlankState}
 use Rattle.model.specs.Machine.Active.{isSet, underSet, isLive}
 use Rattle.model.specs.Machine.InUse.{tokensUsed, cellsUsed}
 use Rattle.model.specs.Machine.Rules.{heldInRange, placeInRange, slotInRange, stateInRange, tokenInRange, cellInRange, sizesInRange, isReady}
 use Rattle.model.specs.Machine.Rules.{isFrame, chainEnds, chainsEnd, notUnderSet, handleOf, openHandles, waitsAtUnset, namesFrame}
 use Rattle.model.specs.Machine.Rules.{notEmpty, valueIfReady, nodeRule, atNode, machineHolds, rulesHold}
 use Rattle.model.specs.declared.token.Slot.{Slot}
 use Rattle.model.specs.declared.token.Slot.the-variants as slots
 use Rattle.model.specs.declared.token.Bind.{Bind}
 use Rattle.model.specs.declared.token.Held.{Held}
 use Rattle.model.specs.declared.token.Held.the-variants as helds
 use Rattle.model.specs.declared.token.Place.{Place}
 use Rattle.model.specs.declared.token.Place.the-variants as places
 use Rattle.model.specs.declared.token.State.{State}
 use Rattle.model.specs.declared.token.State.the-variants as states
 use Rattle.model.specs.declared.token.Token.{Token}
 use Rattle.model.specs.declared.cell.Cell.{Cell}
 use Rattle.model.specs.declared.record.Machine.{Machine}
 use Rattle.model.proofs.Machine.Rules.{ready-live}
 use Rattle.job.proofs.Test.{clash, false-of, eqb-eq, eq-eqb, lt-ltb, le-leb, and-both, all-from}
 use Rattle.simulation.proofs.Machine as Abstract
 use Rattle.simulation.proofs.Machine.{Binding, Frame, Store}
 use Rattle.simulation.proofs.Store.{_∉_}
 use Rattle.model.proofs.Sees.Labels.{Labels, Flow, FlowAt}
 use Rattle.model.proofs.Sees.View.{World, cellsOfCaller, hasCaller, Nested, absent, present, StateSeen, ready, waiting}
 use Rattle.model.proofs.Sees.View.{called, CellsSeen, root, below, BindingSeen, valued, celled, BindingsSeen, binds}
 use Rattle.model.proofs.Sees.View.{SlotsSeen, FramesSeen, outermost, calledBy, PlaceSeen, TokenSeen, sees}
 use Rattle.model.proofs.Sees.Sees.{Core, world, not-under-set, token-at, live-listed}
 use Rattle.model.proofs.Sees.Slots.{variable-seen}
-use Rattle.model.proofs.Sees.Used.{Standing, standing, Named, named, used-stands, used-named}
+use Rattle.demand3.proofs.Used.{Standing, standing, Named, named, used-stands, used-named}
 use Rattle.model.proofs.Sees.Within.{chain-short}
 use Rattle.model.proofs.Keeps.Orders.{queue-names, waits-name}
 use Rattle.model.proofs.Keeps.Tables.{BindsFit, TokenKept}
 use Rattle.model.proofs.Keeps.Facts.{Facts}
 use Rattle.model.proofs.Keeps.Clean.{Clean, clean-tokens, clean-cells}
 
 -- "open handles differ"
 handle-there : (h : ℕ) (ts : List Token) → any (eqb h) (openHandles ts) ≡ true → (q : ℕ) × (getD ts q blankToken .state ≡ states.Called h)

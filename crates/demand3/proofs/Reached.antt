@@ -12,55 +12,55 @@ use lib.IntN.{ℤ}
 use Rattle.job.specs.Test.{without}
 use Rattle.job.specs.Number.{Signed32}
 use Rattle.job.specs.Node.{Dag, nodeAt, dagHolds}
 use Rattle.model.specs.Machine.Limits.{Limits, limits, paper}
 use Rattle.model.specs.Machine.Blank.{blankToken, tokenAt}
 use Rattle.model.specs.Machine.Active.{isLive}
 use Rattle.model.specs.Machine.InUse.{tokensUsed, cellsUsed, sweep}
 use Rattle.model.specs.Machine.Rules.{isReady, isWaiting, heldInRange, placeInRange, rulesHold}
 use Rattle.model.specs.Machine.Reply.{Effect, moves, waits, publishes, calls, refuses, isRefused}
 use Rattle.model.specs.Machine.Start.{startToken, startMachine}
 use Rattle.model.specs.Machine.Step as Step
 use Rattle.model.specs.Machine.Step.{withOrders, queueOf, waitsOf, put, enqueue, withState}
 use Rattle.model.specs.Machine.Step.{withValue, hasTokenPlace, hasCellPlace, tokenPlace, cellPlace, takes}
 use Rattle.model.specs.Machine.Answer as Answer
 use Rattle.model.specs.Machine.Answer.{holder, answered}
 use Rattle.calculus.specs.Event.{Event, Label}
 use Rattle.calculus.specs.Expression.{Exp}
 use Rattle.calculus.specs.Allowed.{shown}
 use Rattle.model.specs.Run.Call.{Call, step, answer, runner, outcomeOf}
 use Rattle.model.specs.declared.token.Held.the-variants as helds
 use Rattle.model.specs.declared.token.Place.{Place}
 use Rattle.model.specs.declared.token.Place.the-variants as places
 use Rattle.model.specs.declared.token.State.{State}
 use Rattle.model.specs.declared.token.State.the-variants as states
 use Rattle.model.specs.declared.token.Token.{Token}
 use Rattle.model.specs.declared.record.Machine.{Machine}
 use Rattle.model.specs.declared.reply.Outcome.{Outcome}
 use Rattle.job.proofs.Test.{clash, false-of, ltb-lt}
 use Rattle.job.proofs.Rules.{dag-rules, node-rules}
 use Rattle.model.proofs.Machine.Marks.{Marked, free-inside}
 use Rattle.model.proofs.Machine.InUse.{tokens-used, cells-used}
 use Rattle.model.proofs.Machine.Refused.{After, after-outcome, step-accepted, AnswerAccepted, answer-accepted}
 use Rattle.simulation.proofs.Machine as Abstract
 use Rattle.simulation.proofs.Machine.{Store, startAt}
 use Rattle.model.proofs.Sees.Labels.{Labels, programOf, Flow}
 use Rattle.model.proofs.Sees.View.{World, CellsSeen}
 use Rattle.model.proofs.Sees.Sees.{world, Sees, seenAs, live-inside, token-at, token-used, live-listed}
 use Rattle.model.proofs.Sees.Others.{token-same}
 use Rattle.model.proofs.Sees.Agrees.{Shows}
 use Rattle.model.proofs.Sees.Acts.{taken, take-ready}
 use Rattle.model.proofs.Sees.Acts as Acts
 use Rattle.model.proofs.Sees.Answering.{holder-called, Pending, pending, find-pending, answered-becomes}
 use Rattle.model.proofs.Sees.Begin.{start-machine-sees}
 use Rattle.model.proofs.Sees.Lockstep as Lockstep
 use Rattle.model.proofs.Sees.Lockstep.{free-token, free-cell, takes-agrees, eventsBy, Steps, steps, call-locks}
 use Rattle.model.proofs.Keeps.Lines.{Lines, Taken, take-out, taken-ready, lines-new}
 use Rattle.model.proofs.Keeps.Orders.{queue-is, waits-are, orders-put, orders-enqueue}
 use Rattle.model.proofs.Keeps.Tables.{Idle, idle-kept, tables-write}
 use Rattle.model.proofs.Keeps.Facts.{Facts, start-facts, LiveUsed, finish-facts}
-use Rattle.model.proofs.Keeps.Acts.{Vacant, acted}
+use Rattle.demand3.proofs.Acts.{Vacant, acted}
 use Rattle.model.proofs.Keeps.Clean.{Clean, finish-clean, start-clean}
-use Rattle.model.proofs.Keeps.Rules.{slot-inside, cells-range, rules-hold}
+use Rattle.demand3.proofs.Rules.{slot-inside, cells-range, rules-hold}
 
 pub record Reached (lim : Limits) (d : Dag) (M : Labels) (m : Machine) (s : Abstract.State) : Type 0 where
   pub view : Sees M m s

@@ -1,0 +1,24 @@
+-- What every record of a run keeps, so that no call of a run is refused with 14; what is in use after each instruction; then the middle part of
+-- demand 3, and demand 3 whole.
+pub mod Looking
+pub mod Values
+pub mod Used
+pub mod Rules
+pub mod Acts
+pub mod NotRule
+pub mod Reached
+pub mod Runs
+pub mod Never
+pub mod Unblanked
+pub mod Instructions
+pub mod Framed
+pub mod Carried
+pub mod Room
+pub mod Turn
+pub mod Back
+pub mod Following
+pub mod Blocked
+pub mod Larger
+pub mod Complete
+pub mod Middle
+pub mod Demand3
