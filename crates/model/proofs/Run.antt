@@ -1,6 +1,5 @@
 -- Laws of runs.
 pub mod Computing
-pub mod Marked
 pub mod Queue
 pub mod Survivors
 pub mod Chain

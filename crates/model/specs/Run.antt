@@ -2,4 +2,3 @@
 pub mod Call
 pub mod Follow
 pub mod Demand3
-pub mod Marked

@@ -33,11 +33,11 @@ impl Machine {
     // The words of a record: crate `record` says which stands where.
     pub const WORDS: usize = 1797;
 
-    // The record in which nothing is in use.
-    pub fn blank() -> Machine
-        ensures { λ r. ⌜ r ≡ blankMachine paper ⌝ }
+    // The record of a start: one ready token, at place 0 and at the goal's first node.
+    pub fn start(goal: u16) -> Machine
+        ensures { λ r. ⌜ r ≡ startMachine paper goal ⌝ }
     {
-        let token = Token {
+        let blank = Token {
             node: 0,
             binds: [Bind { slot: Slot::Empty }; 8],
             value: Held::Nothing,
@@ -49,25 +49,8 @@ impl Machine {
             parent: Place::Nowhere,
             value: Held::Nothing,
         };
-        Machine {
-            tokens: [token; Machine::TOKENS],
-            cells: [cell; Machine::CELLS],
-            queue: [0; Machine::TOKENS],
-            queued: 0,
-            waits: [0; Machine::TOKENS],
-            waiting: 0,
-            calls: 0,
-            lasttoken: 0,
-            lastcell: 0,
-        }
-    }
-
-    // The record of a start: one ready token, at place 0 and at the goal's first node.
-    pub fn start(goal: u16) -> Machine
-        ensures { λ r. ⌜ r ≡ startMachine paper goal ⌝ }
-    {
-        let mut machine = Machine::blank();
-        machine.tokens[0] = Token {
+        let mut tokens = [blank; Machine::TOKENS];
+        tokens[0] = Token {
             node: goal,
             binds: [Bind { slot: Slot::Empty }; 8],
             value: Held::Nothing,
@@ -75,8 +58,16 @@ impl Machine {
             cell: Place::Nowhere,
             state: State::Ready,
         };
-        machine.queued = 1;
-        machine.lastcell = (Machine::CELLS - 1) as u8;
-        machine
+        Machine {
+            tokens,
+            cells: [cell; Machine::CELLS],
+            queue: [0; Machine::TOKENS],
+            queued: 1,
+            waits: [0; Machine::TOKENS],
+            waiting: 0,
+            calls: 0,
+            lasttoken: 0,
+            lastcell: (Machine::CELLS - 1) as u8,
+        }
     }
 }

@@ -26,11 +26,11 @@ use Rattle.model.proofs.Keeps.Orders.{queue-is, waits-are, orders-with}
 use Rattle.record.specs.Decode.{placeFrom}
 use Rattle.record.specs.Fields.{taken, putCell, setCell}
 use Rattle.record.specs.Holds.{Holds}
-use Rattle.record.specs.Retaining.{markedOf}
+use Rattle.orders.specs.Retaining.{markedOf}
 use Rattle.record.specs.Words.{stateKind, stateNumber, placeNumber}
-use Rattle.record.proofs.Names.{length-without}
+use Rattle.orders.proofs.Padded.{length-without}
 use Rattle.record.proofs.TokenRow.{put-self}
-use Rattle.record.proofs.Retaining.{filter-one, filter-append, filter-short, filter-same}
+use Rattle.orders.proofs.Retaining.{filter-one, filter-append, filter-short, filter-same}
 use Rattle.pruning.specs.Choking.{rowsChoked, reordered, ChokeFacts}
 use Rattle.sites.proofs.Tables.{Mapping, mapping-more, mapping-at, mapping-end}
 

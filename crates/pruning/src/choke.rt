@@ -13,11 +13,12 @@ ghost use Rattle.model.specs.declared.token.Place.{Place};
 ghost use Rattle.model.specs.declared.token.Token.{Token};
 ghost use Rattle.record.specs.Fields.{taken};
 ghost use Rattle.record.specs.Holds.{Codes, Holds};
-ghost use Rattle.record.specs.Retaining.{markedOf};
+ghost use Rattle.orders.specs.Retaining.{markedOf};
 ghost use Rattle.record.specs.Words.{stateKind, placeNumber, heldKind, heldNumber};
 ghost use Rattle.pruning.specs.Choking.{rowsChoked, reordered, ChokeFacts};
 use job::wide::wide;
 use model::record::Machine;
+use orders::names::is_marked;
 use record::cell;
 use record::layout::READY_STATE;
 use record::layout::WAITING_STATE;
@@ -91,7 +92,7 @@ fn in_state(w: &[u32; Machine::WORDS], kind: u32) -> [bool; Machine::TOKENS]
 fn join_marked(w: &mut [u32; Machine::WORDS], name: u32, marks: &[bool; Machine::TOKENS])
     ensures { λ _. ⌜ ((m : Machine) → Holds (now (w .entry)) m → m .queued < 64 → Holds (now (w .exit)) (withOrders (queueOf m ++ markedOf (now (marks .entry)) (name ∷ [])) (waitsOf m) m)) ⌝ }
 {
-    if order::is_marked(marks, name) {
+    if is_marked(marks, name) {
         order::join(w, name);
     }
 }

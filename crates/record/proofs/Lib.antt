@@ -1,12 +1,10 @@
 -- Laws of the record's words: what a word says of the record, and what writing one does to it.
 pub mod Table
-pub mod Names
 pub mod Parts
 pub mod Shape
 pub mod TokenRow
 pub mod CellRow
 pub mod Counts
-pub mod Retaining
 pub mod Queue
 pub mod Copying
 pub mod Starting

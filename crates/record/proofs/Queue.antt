@@ -12,11 +12,12 @@ use Rattle.model.specs.declared.record.Machine.{Machine}
 use Rattle.record.specs.Fields.{taken, delayed}
 use Rattle.record.specs.Words.{wordsOf, counts, parts}
 use Rattle.record.specs.Holds.{Codes, Holds}
-use Rattle.record.specs.Retaining.{markedOf, Retained}
-use Rattle.record.proofs.Retaining.{filter-short}
-use Rattle.record.proofs.Names.{put-behind, length-without}
+use Rattle.orders.specs.Retaining.{markedOf, Retained}
+use Rattle.orders.proofs.Retaining.{filter-short}
+use Rattle.orders.proofs.Padded.{put-behind, length-without}
 use Rattle.record.proofs.Parts as parts-laws
-use Rattle.record.proofs.Shape.{shaped, orders-hold, queue-fits, waits-fit, padded-long}
+use Rattle.record.proofs.Shape.{shaped, orders-hold, queue-fits, waits-fit}
+use Rattle.orders.proofs.Padded.{padded-long}
 
 module _ {ws : List ℕ} {m : Machine} (h : Codes ws m) where
   pub queue-word : (i : ℕ) → i < 64 → getD ws (1664 + i) 0 ≡ getD (m .queue) i 0

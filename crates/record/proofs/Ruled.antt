@@ -19,7 +19,7 @@ use Rattle.model.specs.declared.record.Machine.{Machine}
 use Rattle.job.proofs.Test.{and-left, and-right, eqb-eq}
 use Rattle.model.proofs.Machine.Rules.{rules-kept, NamesOnce, names-once}
 use Rattle.record.specs.Holds.{Codes, Ordered, Holds}
-use Rattle.record.proofs.Names.{padded-front}
+use Rattle.orders.proofs.Padded.{padded-front}
 
 zeros : (xs : List ℕ) → all (eqb 0) xs ≡ true → xs ≡ replicate (length xs) 0
 unfolding all

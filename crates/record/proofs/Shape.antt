@@ -15,13 +15,7 @@ use Rattle.model.specs.declared.record.Machine.{Machine}
 use Rattle.model.proofs.Keeps.Orders.{Orders, queue-is, waits-are, orders-with, orders-tables, orders-counts}
 use Rattle.record.specs.Words.{counts, parts, wordsOf}
 use Rattle.record.specs.Holds.{Shaped, Ordered, Holds}
-
-pub padded-long : (xs : List ℕ) (n : ℕ) → length xs ≤ n → length (padded 0 n xs) ≡ n
-unfolding padded
-padded-long xs n l =
-    let a = length-append xs (replicate (n - length xs) 0) in
-    let r = length-replicate {A = ℕ} (n - length xs) 0 in
-    omega (arith, a, r)
+use Rattle.orders.proofs.Padded.{padded-long}
 
 padded-short : (xs : List ℕ) (n : ℕ) → length (padded 0 n xs) ≡ n → length xs ≤ n
 unfolding padded

@@ -3,4 +3,3 @@ pub mod Words
 pub mod Decode
 pub mod Fields
 pub mod Holds
-pub mod Retaining

@@ -1,20 +1,21 @@
 // The queue and the wait order: the first names of 64 words each, and how many they are. What stands behind them is 0.
 ghost use mathlib.Core.Path.{_≡_};
 ghost use mathlib.Core.Bool.{false};
-ghost use Prim.Native.Nat.{ℕ, _<_, _≤_, _-_};
-ghost use lib.ListN.{length, getD, take, drop, replicate};
-ghost use Rattle.job.specs.Test.{padded, without, filter};
+ghost use Prim.Native.Nat.{ℕ, _<_, _-_};
+ghost use lib.ListN.{length, getD};
+ghost use Rattle.job.specs.Test.{filter};
 ghost use Rattle.model.specs.Machine.Step.{enqueue, withOrders, queueOf, waitsOf};
 ghost use Rattle.model.specs.declared.record.Machine.{Machine};
 ghost use Rattle.record.specs.Holds.{Codes, Holds};
 ghost use Rattle.record.specs.Fields.{taken, delayed};
-ghost use Rattle.record.specs.Retaining.{Retained};
 use crate::layout::QUEUE;
 use crate::layout::QUEUED;
 use crate::layout::WAITING;
 use crate::layout::WAITS;
 use job::wide::wide;
 use model::record::Machine;
+use orders::names::left_out;
+use orders::names::retained;
 
 pub fn queued(w: &[u32; Machine::WORDS]) -> u32
     ensures { λ r. ⌜ ((m : Machine) → Codes (now (w .entry)) m → r ≡ m .queued) ⌝ }
@@ -66,21 +67,6 @@ pub fn delay(w: &mut [u32; Machine::WORDS], p: u32)
     }
 }
 
-// An order with the name at an index left out.
-fn left_out(names: &mut [u32], count: usize, index: usize)
-    requires { ⌜ (index < count) × (count ≤ 64) × (length (now names) ≡ 64) ⌝ }
-    ensures { λ _. ⌜ (drop count (now (names .entry)) ≡ replicate (64 - count) 0 → now (names .exit) ≡ padded 0 64 (without index (take count (now (names .entry))))) ⌝ }
-{
-    let last = count - 1;
-    let mut i = index;
-    while i < last {
-        let next = names[i + 1];
-        names[i] = next;
-        i += 1;
-    }
-    names[last] = 0;
-}
-
 // A part can be lent of a slice, not of an array.
 fn leave_slice(w: &mut [u32], index: usize)
     requires { ⌜ length (now w) ≡ 1797 ⌝ }
@@ -100,36 +86,6 @@ pub fn leave(w: &mut [u32; Machine::WORDS], index: usize)
     ensures { λ _. ⌜ ((m : Machine) → Holds (now (w .entry)) m → index < m .queued → Holds (now (w .exit)) (taken m index)) ⌝ }
 {
     leave_slice(w, index);
-}
-
-// Is a name's place marked?
-pub fn is_marked(marks: &[bool], name: u32) -> bool
-    ensures { λ r. ⌜ r ≡ getD (now (marks .entry)) name false ⌝ }
-{
-    let p = wide(name);
-    if p < marks.len() {
-        return marks[p];
-    }
-    false
-}
-
-// Those of an order's names that are marked, and how many they are.
-fn retained(names: &mut [u32], count: usize, keep: &[bool]) -> usize
-    requires { ⌜ (count ≤ 64) × (length (now names) ≡ 64) ⌝ }
-    ensures { λ r. ⌜ Retained (now (names .entry)) count (now (keep .entry)) (now (names .exit)) r ⌝ }
-{
-    let mut n: usize = 0;
-    let mut i: usize = 0;
-    while i < count {
-        let name = names[i];
-        names[i] = 0;
-        if is_marked(keep, name) {
-            names[n] = name;
-            n += 1;
-        }
-        i += 1;
-    }
-    n
 }
 
 fn retain_queue_slice(w: &mut [u32], keep: &[bool])

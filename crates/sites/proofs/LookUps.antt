@@ -28,7 +28,7 @@ use Rattle.model.specs.declared.record.Machine.{Machine}
 use Rattle.job.proofs.Number.{signed-unsigned}
 use Rattle.job.proofs.Test.{clash, ltb-lt, all-at, all-head, all-tail}
 use Rattle.record.specs.Words.{slotKind, slotNumber, heldKind, heldNumber}
-use Rattle.record.proofs.Names.{padded-front, zeros-less}
+use Rattle.orders.proofs.Padded.{padded-front, zeros-less}
 use Rattle.sites.specs.declared.look.Argument.{Argument}
 use Rattle.sites.specs.declared.look.Argument.the-variants as arguments
 use Rattle.sites.specs.declared.look.LookUp.{LookUp}

@@ -15,7 +15,7 @@ use Rattle.model.specs.declared.token.Slot.{Slot}
 use Rattle.model.specs.declared.token.Bind.{Bind}
 use Rattle.record.specs.Fields.{taken, withBinds}
 use Rattle.record.specs.Holds.{Holds}
-use Rattle.record.proofs.Names.{length-without}
+use Rattle.orders.proofs.Padded.{length-without}
 use Rattle.record.proofs.Shape.{shaped}
 use Rattle.record.proofs.TokenRow.{put-self}
 

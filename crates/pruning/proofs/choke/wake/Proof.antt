@@ -8,7 +8,7 @@ use lib.ListN.{take}
 use Rattle.model.specs.declared.record.Machine.{Machine}
 use Rattle.model.specs.Machine.Step.{withOrders, queueOf, waitsOf}
 use Rattle.record.proofs.Shape.{waits-fit}
-use Rattle.record.specs.Retaining.{markedOf}
+use Rattle.orders.specs.Retaining.{markedOf}
 use Rattle.record.specs.Holds.{Holds}
 use Rattle.pruning.proofs.Chokes.{woken, woken-none, woken-all, woken-room, woken-more}
 use Rattle.pruning.proofs.choke.wake.Statement.{statement}

@@ -4,9 +4,9 @@ use borrow.Author.Needs.{needs}
 use native.Mathlib.Omega.{arith}
 use Prim.Native.Nat.{_-_}
 use lib.ListN.{length-set}
-use Rattle.record.proofs.Retaining.{Turned, turned-first, turned-drops, turned-keeps, retained-all}
-use Rattle.record.proofs.order.retained.Statement.{statement}
-use Rattle.record.proofs.order.retained.Tie as tie
+use Rattle.orders.proofs.Retaining.{Turned, turned-first, turned-drops, turned-keeps, retained-all}
+use Rattle.orders.proofs.names.retained.Statement.{statement}
+use Rattle.orders.proofs.names.retained.Tie as tie
 
 abbrev Inv-loop : tie.InvT-loop
 Inv-loop names₀ count keep n₀ i₀ names n i = Turned names₀ count keep i names n

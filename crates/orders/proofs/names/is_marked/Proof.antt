@@ -4,8 +4,8 @@ use mathlib.Core.Path.{sym, ap}
 use borrow.Author.Needs.{needs}
 use native.Mathlib.Omega.{arith}
 use lib.ListN.{getD, List·getD-eq-default}
-use Rattle.record.proofs.order.is_marked.Statement.{statement}
-use Rattle.record.proofs.order.is_marked.Tie as tie
+use Rattle.orders.proofs.names.is_marked.Statement.{statement}
+use Rattle.orders.proofs.names.is_marked.Tie as tie
 
 wide-requires : tie.Need-wide-requires
 wide-requires c κs = search needs

@@ -9,9 +9,9 @@ use native.Mathlib.Omega.{arith}
 use lib.ListN.{length, getD, set, take, drop, replicate, length-append, length-set}
 use lib.Seq.{take-suc, drop-cons, length-take-le, getD-at, set-at, set-append-left}
 use Rattle.job.specs.Test.{filter, padded}
-use Rattle.record.specs.Retaining.{markedOf, Retained}
-use Rattle.record.proofs.Names.{put-behind}
-use Rattle.record.proofs.Shape.{padded-long}
+use Rattle.orders.specs.Retaining.{markedOf, Retained}
+use Rattle.orders.proofs.Padded.{put-behind}
+use Rattle.orders.proofs.Padded.{padded-long}
 
 -- a filter takes the elements one by one
 module _ {A : Type 0} (f : A → Bool) where

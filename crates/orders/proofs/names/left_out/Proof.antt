@@ -1,4 +1,4 @@
--- `order::left_out` meets its contract: the array is the order's names and zeros, before and after. Assumes nothing.
+-- `names::left_out` meets its contract: the array is the order's names and zeros, before and after. Assumes nothing.
 use mathlib.Core.Path.{_≡_, ap, _∙_}
 use Prim.Native.Nat.{suc, _+_, _-_, _≤_}
 use native.Mathlib.Omega.{arith}
@@ -6,10 +6,10 @@ use lib.ListN.{length, getD, take, drop}
 use lib.Seq.{drop-set-lt}
 use lib.ListN.{length-set}
 use Rattle.job.specs.Test.{padded, without}
-use Rattle.record.proofs.Names.{moved-up, last-gone}
+use Rattle.orders.proofs.Padded.{moved-up, last-gone}
 use borrow.Author.Needs.{needs}
-use Rattle.record.proofs.order.left_out.Statement.{statement}
-use Rattle.record.proofs.order.left_out.Tie as tie
+use Rattle.orders.proofs.names.left_out.Statement.{statement}
+use Rattle.orders.proofs.names.left_out.Tie as tie
 
 abbrev Inv-loop : tie.InvT-loop
 Inv-loop names₀ count index last i₀ names i =

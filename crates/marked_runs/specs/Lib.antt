@@ -1,0 +1,2 @@
+-- "Twelve marked runs": inputs and outputs.
+pub mod Marked

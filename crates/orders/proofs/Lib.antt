@@ -1,0 +1,3 @@
+-- Laws of an order in an array.
+pub mod Padded
+pub mod Retaining

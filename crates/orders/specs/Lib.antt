@@ -1,0 +1,2 @@
+-- An order that keeps only the marked ones of its names.
+pub mod Retaining
