@@ -1,7 +1,6 @@
 // The machine record: its tables, orders and counts, its limits, and the record of a start.
 ghost use mathlib.Core.Path.{_≡_};
 ghost use Rattle.model.specs.Machine.Limits.{paper};
-ghost use Rattle.model.specs.Machine.Blank.{blankMachine};
 ghost use Rattle.model.specs.Machine.Start.{startMachine};
 use crate::cell::Cell;
 use crate::token::Bind;

@@ -7,6 +7,8 @@ mod row;
 use crate::row::Row;
 use crate::row::four_bytes;
 use crate::row::read_row;
+use console::print::number;
+use console::print::put;
 use job::dag::WORDS;
 use libc::STDIN_FILENO;
 use machine::answer::answer;
@@ -15,8 +17,6 @@ use machine::step::step;
 use model::record::Machine;
 use model::reply::Report;
 use show::fields::record;
-use show::print::number;
-use show::print::put;
 use sites::number::signed;
 
 // `main` is shown to end, so it reads no more cases than this.
@@ -49,7 +49,7 @@ fn stepped(w: &mut [u32; Machine::WORDS], dag: &[u32; WORDS], place: u32) -> Rep
 fn answered(w: &mut [u32; Machine::WORDS], dag: &[u32; WORDS], handle: u32, value: i32) -> Report {
     put(b"answer");
     number(handle as u64);
-    show::print::value(value);
+    console::print::value(value);
     put(b": ");
     answer(w, dag, handle, value)
 }
@@ -75,7 +75,7 @@ fn called(name: &[u8], w: &mut [u32; Machine::WORDS], dag: &[u32; WORDS], row: R
     let report = reported(w, dag, row);
     let reply = report.reply;
     let values = report.values;
-    show::replies::reply(reply, values);
+    console::replies::reply(reply, values);
     record(w);
 }
 

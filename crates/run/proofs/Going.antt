@@ -19,12 +19,12 @@ use Rattle.model.specs.declared.reply.Outcome.{Outcome}
 use Rattle.run.specs.Input.{Accepted}
 use Rattle.lines.specs.Ending.{lastLines}
 use Rattle.lines.specs.Shown.{Shows}
-use Rattle.run.specs.Turn.{isLast, isLimit, isOver, turnOutcome, nextAt, nextSteps}
+use Rattle.turns.specs.Turn.{isLast, isLimit, isOver, turnOutcome, nextAt, nextSteps}
 use Rattle.lines.proofs.Showing.{shows-none, shows-then, shows-as}
 use Rattle.lines.proofs.Telling.{text-append}
 use Rattle.run.proofs.Reached.{Reached, reached-start, reached-by-step, reached-by-answer}
-use Rattle.run.proofs.TurnCases.{empty-or-ready, last-is, not-last, limit-is, not-limit, over-is, not-over, turn-empty, turn-ready}
-use Rattle.run.proofs.TurnCases.{at-empty, at-ready, steps-empty, steps-ready}
+use Rattle.turns.proofs.TurnCases.{empty-or-ready, last-is, not-last, limit-is, not-limit, over-is, not-over, turn-empty, turn-ready}
+use Rattle.turns.proofs.TurnCases.{at-empty, at-ready, steps-empty, steps-ready}
 use Rattle.run.proofs.HouseTurns.{standing, linesFrom, turn-last, turn-deliver, turn-limit, turn-refused, turn-step}
 
 module _ (words rest before : List ℕ) (from : ℕ) where

@@ -22,7 +22,7 @@ use Rattle.acts.specs.Acting.{Some, Lawful, Marks, Gives}
 use Rattle.run.specs.Input.{Accepted}
 use Rattle.lines.specs.Ending.{lastLines}
 use Rattle.lines.specs.Shown.{Shows}
-use Rattle.run.specs.Turn.{isLast, isLimit, isOver, turnOutcome, nextAt, nextSteps, Turning}
+use Rattle.turns.specs.Turn.{isLast, isLimit, isOver, turnOutcome, nextAt, nextSteps, Turning}
 use Rattle.run.proofs.Reached.{started, reached-start, reached-rules, reached-framed}
 use Rattle.run.proofs.HouseTurns.{linesFrom}
 use Rattle.run.proofs.Going.{Going, going-begins, going-last, going-limit, going-there, going-ends, going-less, going-turns}

@@ -1,8 +1,6 @@
--- Laws of a run: its records and its turns, and the parts of an input.
+-- Laws of a run: its records and its turns one behind the other, and the parts of an input.
 pub mod Reached
 pub mod HouseTurns
-pub mod TurnCases
-pub mod TurnGives
 pub mod Going
 pub mod Lent
 pub mod TableEnd

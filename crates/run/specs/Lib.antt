@@ -1,3 +1,2 @@
--- What a run is asked.
+-- The parts of an input.
 pub mod Input
-pub mod Turn

@@ -11,12 +11,6 @@ ghost use Rattle.model.specs.Machine.Start as Start;
 ghost use Rattle.acts.specs.Acting.{Lawful};
 ghost use Rattle.lines.specs.Shown.{Shows};
 ghost use Rattle.run.specs.Input.{Accepted};
-use crate::turn::is_last;
-use crate::turn::is_limit;
-use crate::turn::is_over;
-use crate::turn::next_at;
-use crate::turn::next_steps;
-use crate::turn::turn;
 use job::dag::WORDS;
 use job::wide::wide;
 use lines::ending::tell_end;
@@ -25,6 +19,12 @@ use lines::ending::tell_limit;
 use lines::report::tell;
 use model::record::Machine;
 use record::order;
+use turns::turn::is_last;
+use turns::turn::is_limit;
+use turns::turn::is_over;
+use turns::turn::next_at;
+use turns::turn::next_steps;
+use turns::turn::turn;
 use unchecked::start::start;
 
 // Says to the proof how many words the array has.

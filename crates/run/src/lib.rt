@@ -2,5 +2,3 @@
 mod house;
 mod input;
 pub mod orcrun;
-mod refused;
-mod turn;

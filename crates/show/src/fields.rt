@@ -1,9 +1,9 @@
 // A record as lines. Of a record every field is shown that is not blank; of words that are no record's every one that is not 0.
 ghost use Prim.Native.Nat.{_<_};
-use crate::print::number;
-use crate::print::put;
-use crate::print::value;
 use coded::words::is_record;
+use console::print::number;
+use console::print::put;
+use console::print::value;
 use libc::STDOUT_FILENO;
 use model::record::Machine;
 use record::cell;

@@ -1,4 +1,2 @@
-// Replies and records as lines on standard output, for programs that try the public calls.
+// A record as lines on standard output, for programs that try the public calls.
 pub mod fields;
-pub mod print;
-pub mod replies;

@@ -13,8 +13,8 @@ use model::reply::Reply;
 use model::reply::Report;
 use places::place::next_token;
 use record::count::last_token;
+use spawn_writes::fork::written;
 use writes::dag::word;
-use writes::fork::written;
 
 // "10: fork .. with 64 tokens in use."
 pub fn fork(

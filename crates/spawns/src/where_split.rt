@@ -16,8 +16,8 @@ use places::place::next_cell;
 use places::place::next_token;
 use record::count::last_cell;
 use record::count::last_token;
+use spawn_writes::where_split::written;
 use writes::dag::word;
-use writes::where_split::written;
 
 // "10: .. where .. with 64 tokens in use"; "11: where with 32 cells in use."
 pub fn where_split(

@@ -1,2 +1,3 @@
 -- Laws of the calls that do not test again.
+pub mod Unknown
 pub mod Whole

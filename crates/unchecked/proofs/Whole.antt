@@ -2,7 +2,7 @@
 use mathlib.Core.Path.{_≡_, refl, sym, ap, subst, _∙_}
 use mathlib.Core.Bool.{Bool, true, false}
 use mathlib.Core.List.{List, []}
-use Prim.Native.Nat.{ℕ, _<_}
+use Prim.Native.Nat.{ℕ, _<_, _≤_}
 use native.Mathlib.Omega.{arith}
 use lib.ListN.{length, getD, replicate}
 use lib.IntN.{ℤ}
@@ -32,6 +32,7 @@ use Rattle.record.proofs.Shape.{binds-after, queue-fits}
 use Rattle.sites.specs.Answering.{answeredBy, Answered}
 use Rattle.sites.specs.Row.{rowOf}
 use Rattle.sites.proofs.Holders.{answered-moves, answered-refuses}
+use Rattle.unchecked.proofs.Unknown.{unknown-handle}
 use Rattle.acts.specs.Acting.{Lawful, Ready, Taking, Acting, Gives, plain}
 use Rattle.acts.proofs.Outcomes.{gives-whole, gives-refused}
 
@@ -54,13 +55,22 @@ pub of-kind : {ws dag : List ℕ} {used cells : List Bool} {place p at i : ℕ} 
     → Acting ws used cells dag place p at (getD dag at 0) m → Acting ws used cells dag place p at k m
 of-kind k e f a = record { taking = a .taking; row = a .row; kind = e ∙ f }
 
--- an answer
-module _ {ws after dag : List ℕ} {used cells : List Bool} {m : Machine} (a : Lawful ws used cells dag m) (handle : ℕ) (v : ℤ) (b : Bool)
-    (k : Answered handle v b ws after) (r : Report) where
+-- an answer to a handle that no call was given
+module _ {ws dag : List ℕ} {used cells : List Bool} {m : Machine} (a : Lawful ws used cells dag m) (handle : ℕ) (v : ℤ) where
   tested : Answer.answer paper (dagOf dag) m handle v ≡ outcome m (Answer.answered m v (holder handle 0 (m .tokens)))
   unfolding Answer.answer unless
   tested = rw (a .rules, unless)
 
+  pub answer-unknown : m .calls ≤ handle → (r : Report) → r ≡ plain (replies.Refused refusals.NotOpen)
+      → Gives (Answer.answer paper (dagOf dag) m handle v) m ws used cells r
+  unfolding isPlace
+  answer-unknown l r f =
+      let none = ap isPlace (unknown-handle (dagOf dag) m handle (a .rules) l) in
+      gives-refused refusals.NotOpen r a (tested ∙ ap (outcome m) (answered-refuses m v _ none)) f
+
+-- an answer
+module _ {ws after dag : List ℕ} {used cells : List Bool} {m : Machine} (a : Lawful ws used cells dag m) (handle : ℕ) (v : ℤ) (b : Bool)
+    (k : Answered handle v b ws after) (r : Report) where
   at-place : (q : Place) → holder handle 0 (m .tokens) ≡ q → isPlace q ≡ true → Carried (answeredBy m v q) (tokensUsed m) (cellsUsed m)
   unfolding isPlace answeredBy
   at-place places.Nowhere e f = clash f refl
@@ -71,7 +81,7 @@ module _ {ws after dag : List ℕ} {used cells : List Bool} {m : Machine} (a : L
   answer-gives e f =
       let here = sym (k .says m (a .holds)) ∙ e in
       let c = at-place (holder handle 0 (m .tokens)) refl here in
-      gives-whole (answeredBy m v (holder handle 0 (m .tokens))) replies.Done [] r (tested ∙ ap (outcome m) (answered-moves m v _ here))
+      gives-whole (answeredBy m v (holder handle 0 (m .tokens))) replies.Done [] r (tested a handle v ∙ ap (outcome m) (answered-moves m v _ here))
       (ap (λ (y : Report). y .reply) f) (ap (λ (y : Report). y .values) f) (k .does (dagOf dag) m (a .holds) (a .rules)) (c .whole)
       (λ framed. record { whole = c .whole; tokens = c .tokens ∙ sym (a .marks .tokens); cells = c .cells ∙ sym (a .marks .cells) })
 
@@ -79,7 +89,7 @@ module _ {ws after dag : List ℕ} {used cells : List Bool} {m : Machine} (a : L
   answer-refused e f =
       let none = sym (k .says m (a .holds)) ∙ e in
       subst (λ x. Gives (Answer.answer paper (dagOf dag) m handle v) m x used cells r) (sym (k .stays e))
-      (gives-refused refusals.NotOpen r a (tested ∙ ap (outcome m) (answered-refuses m v _ none)) f)
+      (gives-refused refusals.NotOpen r a (tested a handle v ∙ ap (outcome m) (answered-refuses m v _ none)) f)
 
 -- the words of a start
 pub start-holds : {ws : List ℕ} (goal : ℕ) → ws ≡ wordsOf (startMachine paper goal) → Holds ws (startMachine paper goal)

@@ -1,0 +1,2 @@
+-- What a turn is asked, and what it leaves.
+pub mod Turn
