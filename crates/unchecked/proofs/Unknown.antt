@@ -35,7 +35,7 @@ module _ (d : Dag) (calls h : ℕ) (l : calls ≤ h) where
   unfolding holder
   none-open i [] e = refl
   none-open i (t ∷ ts) e =
-      rw (not-open h calls (t .state) (state-range t (all-head (tokenInRange paper d calls) t ts e)) l)
+      rw (not-open h calls (t .state) (state-range t (all-head (tokenInRange paper d calls) t ts e)) l, holder)
       (none-open (suc i) ts (all-tail (tokenInRange paper d calls) t ts e))
 
 pub unknown-handle : (d : Dag) (m : Machine) (h : ℕ) → rulesHold paper d m ≡ true → m .calls ≤ h → holder h 0 (m .tokens) ≡ places.Nowhere
