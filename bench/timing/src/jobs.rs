@@ -9,13 +9,13 @@ pub fn example() -> Vec<u8> {
     job
 }
 
-/// As many records as an input holds beside the table of `refused`.
+/// As many records as an input holds beside the table of `answers`.
 pub const RECORDS: usize = 8_190;
 
-/// site16(), and answers to a handle that is not open.
-pub fn refused() -> Vec<u8> {
+/// site16(), whose handle is 0, and answers to a handle.
+pub fn answers(handle: u32) -> Vec<u8> {
     let mut job = encode(0, &[(1, 16)]);
-    job.extend(record(1, 7).repeat(RECORDS));
+    job.extend(record(handle, 7).repeat(RECORDS));
     job
 }
 

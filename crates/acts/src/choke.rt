@@ -10,7 +10,7 @@ use job::wide::wide;
 use model::record::Machine;
 use model::reply::Reply;
 use model::reply::Report;
-use pruning::choke::choke;
+use pruning::choke::written;
 use record::cell;
 use record::token;
 use sweep::sweep::sweep;
@@ -31,7 +31,7 @@ pub fn choke_cell(
     let c = wide(token::cell(w, p));
     let kind = token::value_kind(w, p);
     let value = token::value(w, p);
-    choke(w, place, c - 1, kind, value);
+    written(w, place, c - 1, kind, value);
     sweep(w, tokens, cells);
     plain(Reply::Done)
 }

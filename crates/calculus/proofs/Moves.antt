@@ -44,9 +44,9 @@ abbrev pub Tests : Type 0
 Tests = Label → Exp → Bool
 
 -- the two ways a built-in call goes on
-unfoldable pub afterSaid : BuiltinReply → (Exp → Bool) → Bool
-afterSaid (gives v) p = p (hand v)
-afterSaid silent p = p stop
+unfoldable pub afterReply : BuiltinReply → (Exp → Bool) → Bool
+afterReply (gives v) p = p (hand v)
+afterReply silent p = p stop
 
 -- of the moves of f in f >x> g, or of g in f <x< g, publishing goes one way and all else the other
 unfoldable pub sorted : (ℤ → Exp → Bool) → Tests → Tests
@@ -72,7 +72,7 @@ module _ (body : ℕ → Exp) (h : ℕ) where
   unfoldable pub everyOfSite : ℕ → Option (List ℤ) → Tests → Bool
   everyOfSite s none p = true
   everyOfSite s (some vs) p =
-      (isBuiltin s implies afterSaid (builtin s vs) (p silently)) and (isOutside s implies p (showing (Event.call h s vs)) (pending h))
+      (isBuiltin s implies afterReply (builtin s vs) (p silently)) and (isOutside s implies p (showing (Event.call h s vs)) (pending h))
 
   -- a test of every move of an expression, where answers have the value w
   unfoldable pub every : ℤ → Exp → Tests → Bool
@@ -87,9 +87,9 @@ module _ (body : ℕ → Exp) (h : ℕ) where
   every w (hand v) p = p (showing (publish v)) stop
 
   site-builtin : (s : ℕ) (vs : List ℤ) (p : Tests) (r : BuiltinReply)
-      → isBuiltin s ≡ true → builtin s vs ≡ r → everyOfSite s (some vs) p ≡ true → afterSaid r (p silently) ≡ true
+      → isBuiltin s ≡ true → builtin s vs ≡ r → everyOfSite s (some vs) p ≡ true → afterReply r (p silently) ≡ true
   unfolding everyOfSite
-  site-builtin s vs p r b e t = along (λ x. afterSaid x (p silently) ≡ true) e (under _ _ b (and-left _ _ t))
+  site-builtin s vs p r b e t = along (λ x. afterReply x (p silently) ≡ true) e (under _ _ b (and-left _ _ t))
 
   site-outside : (s : ℕ) (vs : List ℤ) (p : Tests)
       → isOutside s ≡ true → everyOfSite s (some vs) p ≡ true → p (showing (Event.call h s vs)) (pending h) ≡ true
@@ -98,7 +98,7 @@ module _ (body : ℕ → Exp) (h : ℕ) where
 
   -- where `every` says true, the test holds of each rewriting
   pub every-move : {f f′ : Exp} {a : Label} (w : ℤ) (p : Tests) → Rewrites body h f a f′ → Within w a → every w f p ≡ true → p a f′ ≡ true
-  unfolding every afterSaid sorted
+  unfolding every afterReply sorted
   every-move w p (builtin-gives {s = s} {vs = vs} {v = v} e b r) i t =
       site-builtin s vs p (gives v) b r (along (λ x. everyOfSite s x p ≡ true) e t)
   every-move w p (builtin-silent {s = s} {vs = vs} e b r) i t =
@@ -123,11 +123,11 @@ module _ (body : ℕ → Exp) (h : ℕ) where
     pub fails : p label left ≡ false
 
   -- a built-in call that fails a test
-  said-failing : (s : ℕ) (ps : List Param) (vs : List ℤ) (p : Tests) (r : BuiltinReply)
-      → valuesOf ps ≡ some vs → isBuiltin s ≡ true → builtin s vs ≡ r → afterSaid r (p silently) ≡ false → Failing (site s ps) p
-  unfolding afterSaid
-  said-failing s ps vs p (gives v) e b q t = record { label = silently; left = hand v; move = builtin-gives e b q; fails = t }
-  said-failing s ps vs p silent e b q t = record { label = silently; left = stop; move = builtin-silent e b q; fails = t }
+  reply-failing : (s : ℕ) (ps : List Param) (vs : List ℤ) (p : Tests) (r : BuiltinReply)
+      → valuesOf ps ≡ some vs → isBuiltin s ≡ true → builtin s vs ≡ r → afterReply r (p silently) ≡ false → Failing (site s ps) p
+  unfolding afterReply
+  reply-failing s ps vs p (gives v) e b q t = record { label = silently; left = hand v; move = builtin-gives e b q; fails = t }
+  reply-failing s ps vs p silent e b q t = record { label = silently; left = stop; move = builtin-silent e b q; fails = t }
 
   site-failing : (s : ℕ) (ps : List Param) (p : Tests) (o : Option (List ℤ))
       → valuesOf ps ≡ o → everyOfSite s o p ≡ false → Failing (site s ps) p
@@ -135,8 +135,8 @@ module _ (body : ℕ → Exp) (h : ℕ) where
   site-failing s ps p none e t = clash refl t
   site-failing s ps p (some vs) e t = elim (and-fails _ _ t) [ inl l ↦ by-builtin (implies-fails _ _ l) | inr r ↦ by-call (implies-fails _ _ r) ]
     where
-      by-builtin : (isBuiltin s ≡ true) × (afterSaid (builtin s vs) (p silently) ≡ false) → Failing (site s ps) p
-      by-builtin (b, l) = said-failing s ps vs p (builtin s vs) e b refl l
+      by-builtin : (isBuiltin s ≡ true) × (afterReply (builtin s vs) (p silently) ≡ false) → Failing (site s ps) p
+      by-builtin (b, l) = reply-failing s ps vs p (builtin s vs) e b refl l
 
       by-call : (isOutside s ≡ true) × (p (showing (Event.call h s vs)) (pending h) ≡ false) → Failing (site s ps) p
       by-call (b, r) = record { label = showing (Event.call h s vs); left = pending h; move = outside-call e b; fails = r }
@@ -195,5 +195,5 @@ module _ (body : ℕ → Exp) (h : ℕ) where
 
 -- a name for all that `every` computes with
 unfoldable pub moving : Unit {0}
-unfolding _implies_ afterSaid sorted everyOfSite every
+unfolding _implies_ afterReply sorted everyOfSite every
 moving = tt

@@ -41,7 +41,7 @@ use Rattle.sites.proofs.Params.{params-count}
 use Rattle.sites.proofs.Rows.{site-params}
 use Rattle.model.specs.Machine.Rules.{nodeRule}
 use Rattle.acts.specs.Acting.{Acting, Taking, Gives, plain}
-use Rattle.calls.specs.Arguments.{Arguments}
+use Rattle.calls.specs.Evaluated.{Evaluated}
 use Rattle.acts.proofs.Outcomes.{gives-whole, token-inside, row, node-rule}
 use Rattle.acts.proofs.Instructions.{site-step}
 
@@ -99,7 +99,7 @@ module _ (dag : List ℕ) (place p from : ℕ) (m : Machine) where
   waits-at a c e =
       site-step dag place p from m a ∙ ap (λ l. outcome m (callSite paper (dagOf dag) (taken m place) p mine (word 1) (word 2) l)) e
 
-  module _ {ws : List ℕ} {used cells : List Bool} {vs : List ℤ} (k : Arguments ws used cells dag place p from vs m) where
+  module _ {ws : List ℕ} {used cells : List Bool} {vs : List ℤ} (k : Evaluated ws used cells dag place p from vs m) where
     by-site : Bool → Outcome
     by-site b =
         outcome m
@@ -139,7 +139,7 @@ module _ (dag : List ℕ) (place p from : ℕ) (m : Machine) where
 -- all values were found
 pub values-of : {ws dag : List ℕ} {used cells : List Bool} {place p from : ℕ} {m : Machine} (r : LookUp) → Acting ws used cells dag place p from 1 m
     → r ≡ lookUpOf (look (m .cells) (tokenAt (m .tokens) p .binds) (paramsAt dag from)) → 32 ≤ r .unset
-    → Arguments ws used cells dag place p from (r .values) m
+    → Evaluated ws used cells dag place p from (r .values) m
 values-of {ws} {dag} {used} {cells} {place} {p} {from} {m} r a e n =
     let facts = look-facts (dagOf dag) m (a .taking .lawful .rules) p (token-inside (a .taking)) in
     let k = look-values _ r e (λ l. omega arith) (look-below (m .cells) (tokenAt (m .tokens) p .binds) (facts .slots) (paramsAt dag from)) in
@@ -147,7 +147,7 @@ values-of {ws} {dag} {used} {cells} {place} {p} {from} {m} r a e n =
 
 -- as many values as parameters: "at a call no empty variable"
 pub values-count : {ws dag : List ℕ} {used cells : List Bool} {place p from : ℕ} {vs : List ℤ} {m : Machine}
-    → (k : Arguments ws used cells dag place p from vs m) → getD dag (from + 3) 0 ≡ length (k .values)
+    → (k : Evaluated ws used cells dag place p from vs m) → getD dag (from + 3) 0 ≡ length (k .values)
 unfolding nodeRule
 values-count {ws} {dag} {used} {cells} {place} {p} {from} {vs} {m} k =
     let o = site-params dag from (row (k .acting)) in
@@ -161,7 +161,7 @@ unfolding outcome Step.replied Step.ended
 silent-ends m place p k = refl
 
 -- what the code was told is what the site says to all values
-pub said-by : {s i : ℕ} (vs xs : List ℤ) {x y : SiteReply} → i < 7 → xs ≡ reportValues vs → s ≡ i → builtinReplyOf x ≡ builtin s (at xs 0 ∷ at xs 1 ∷ []) → x ≡ y
+pub replied-by : {s i : ℕ} (vs xs : List ℤ) {x y : SiteReply} → i < 7 → xs ≡ reportValues vs → s ≡ i → builtinReplyOf x ≡ builtin s (at xs 0 ∷ at xs 1 ∷ []) → x ≡ y
     → builtin i vs ≡ builtinReplyOf y
-said-by {s} {i} vs xs l e same told f =
+replied-by {s} {i} vs xs l e same told f =
     sym (says-to-front i vs xs l e) ∙ ap (λ j. builtin j (at xs 0 ∷ at xs 1 ∷ [])) (sym same) ∙ sym told ∙ ap builtinReplyOf f

@@ -7,7 +7,7 @@ ghost use Rattle.job.specs.Words.{dagOf};
 ghost use Rattle.model.specs.Machine.Limits.{paper};
 ghost use Rattle.model.specs.Machine.Step as Step;
 ghost use Rattle.acts.specs.Acting.{Some, Acting, Gives};
-ghost use Rattle.calls.specs.Arguments.{Arguments};
+ghost use Rattle.calls.specs.Evaluated.{Evaluated};
 use acts::end::end;
 use acts::report::plain;
 use job::dag::CALL_LIMIT;
@@ -39,8 +39,8 @@ fn outside(
     at: usize,
     values: [i32; 4],
 ) -> Report
-    requires { ⌜ Some (Arguments (now w) (now tokens) (now cells) (now dag) place p at values) ⌝ }
-    ensures { λ r. ⌜ ((m : Machine) → Arguments (now (w .entry)) (now (tokens .entry)) (now (cells .entry)) (now (dag .entry)) place p at values m → 7 ≤ getD (now (dag .entry)) (at + 1) 0 → Gives (Step.step paper (dagOf (now (dag .entry))) m place) m (now (w .exit)) (now (tokens .entry)) (now (cells .entry)) r) ⌝ }
+    requires { ⌜ Some (Evaluated (now w) (now tokens) (now cells) (now dag) place p at values) ⌝ }
+    ensures { λ r. ⌜ ((m : Machine) → Evaluated (now (w .entry)) (now (tokens .entry)) (now (cells .entry)) (now (dag .entry)) place p at values m → 7 ≤ getD (now (dag .entry)) (at + 1) 0 → Gives (Step.step paper (dagOf (now (dag .entry))) m place) m (now (w .exit)) (now (tokens .entry)) (now (cells .entry)) r) ⌝ }
 {
     let handle = calls(w);
     if CALL_LIMIT <= handle {
@@ -66,8 +66,8 @@ fn built_in(
     at: usize,
     values: [i32; 4],
 ) -> Report
-    requires { ⌜ Some (Arguments (now w) (now tokens) (now cells) (now dag) place p at values) × (getD (now dag) (at + 1) 0 < 7) ⌝ }
-    ensures { λ r. ⌜ ((m : Machine) → Arguments (now (w .entry)) (now (tokens .entry)) (now (cells .entry)) (now (dag .entry)) place p at values m → Gives (Step.step paper (dagOf (now (dag .entry))) m place) m (now (w .exit)) (now (tokens .exit)) (now (cells .exit)) r) ⌝ }
+    requires { ⌜ Some (Evaluated (now w) (now tokens) (now cells) (now dag) place p at values) × (getD (now dag) (at + 1) 0 < 7) ⌝ }
+    ensures { λ r. ⌜ ((m : Machine) → Evaluated (now (w .entry)) (now (tokens .entry)) (now (cells .entry)) (now (dag .entry)) place p at values m → Gives (Step.step paper (dagOf (now (dag .entry))) m place) m (now (w .exit)) (now (tokens .exit)) (now (cells .exit)) r) ⌝ }
 {
     let a = values[0];
     let b = values[1];

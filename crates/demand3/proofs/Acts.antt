@@ -38,7 +38,7 @@ use Rattle.model.proofs.Sees.Others.{token-other}
 use Rattle.model.proofs.Keeps.Lines.{Lines, Taken, taken-ready, taken-inside, lines-gone, lines-back, lines-wait, lines-new, lines-choke}
 use Rattle.model.proofs.Keeps.Orders.{Orders, queue-is, waits-are, orders-with, orders-counts}
 use Rattle.model.proofs.Keeps.Orders.{orders-put, orders-enqueue, orders-token, orders-cell}
-use Rattle.demand3.proofs.Values.{held-fits, LookedFits, found, look-fits, SaidFits, said, nothing, builtin-fits}
+use Rattle.demand3.proofs.Values.{held-fits, LookUpFits, found, look-fits, ReplyFits, said, nothing, builtin-fits}
 use Rattle.demand3.proofs.Looking.{look-unset}
 use Rattle.model.proofs.Keeps.Tables.{BindsFit, binds-written, formals-fit, Awaits, awaits-as, TokenKept, Tables, Idle}
 use Rattle.model.proofs.Keeps.Tables.{idle-kept, blank-kept, tables-write, tables-wait, tables-call, tables-cell, tables-choke}
@@ -285,7 +285,7 @@ module _ (lim : Limits) (d : Dag) (m : Machine) (F : Facts lim d m) (some : 0 < 
       u : Token
       u = Step.withState (states.Waiting c) acting
 
-  replied : (k : ℕ) → k < length (d .nodes) → {s : BuiltinReply} → SaidFits s → Keeps (Step.replied at p acting k s)
+  replied : (k : ℕ) → k < length (d .nodes) → {s : BuiltinReply} → ReplyFits s → Keeps (Step.replied at p acting k s)
   unfolding After Step.replied Step.withNode Step.withValue heldInRange
   replied k l (said e) = goes-on _ (going l e (was .binds) (ready-idle (taken-ready T))) (taken-ready T)
   replied k l nothing = ended
@@ -331,7 +331,7 @@ module _ (lim : Limits) (d : Dag) (m : Machine) (F : Facts lim d m) (some : 0 < 
     called vs a true = replied k next (builtin-fits s a)
     called vs a false = after-unless (Facts lim d) _ _ _ (λ e. calledOut s vs k (ltb-lt _ _ e) next)
 
-    callSite : (l : LookedUp) → look (m .cells) (acting .binds) ps ≡ l → LookedFits l → Keeps (Step.callSite lim d at p acting s k l)
+    callSite : (l : LookedUp) → look (m .cells) (acting .binds) ps ≡ l → LookUpFits l → Keeps (Step.callSite lim d at p acting s k l)
     unfolding Step.callSite
     callSite (unset c) e f =
         let x = look-unset (m .cells) (acting .binds) ps c e in

@@ -13,6 +13,7 @@ pub mod Unblanked
 pub mod Instructions
 pub mod Framed
 pub mod Carried
+pub mod Returned
 pub mod Room
 pub mod Turn
 pub mod Back

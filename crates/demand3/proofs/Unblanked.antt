@@ -140,7 +140,7 @@ rules-clean lim d m kept = record { tokens = tokens; cells = cells }
         cell-blank _ (blank-rest cellIsBlank (cellsUsed m) (m .cells) blankCell c (rules .blankCells) l e)
 
 -- an active token is under no set cell
-active-clear : (cs : List Cell) (t : Token) → isActive cs t ≡ true → underSet cs (t .cell) ≡ false
+pub active-clear : (cs : List Cell) (t : Token) → isActive cs t ≡ true → underSet cs (t .cell) ≡ false
 unfolding isActive
 active-clear cs t e = go (isLive (t .state)) e (underSet cs (t .cell)) refl
   where
@@ -150,7 +150,7 @@ active-clear cs t e = go (isLive (t .state)) e (underSet cs (t .cell)) refl
     go false x true y = clash x refl
     go a x false y = refl
 
-clear-used : (o : Machine) (i : ℕ) (u : Token) → tokenAt (o .tokens) i ≡ u → isLive (u .state) ≡ true
+pub clear-used : (o : Machine) (i : ℕ) (u : Token) → tokenAt (o .tokens) i ≡ u → isLive (u .state) ≡ true
     → underSet (o .cells) (u .cell) ≡ false → Used o i
 clear-used o i u e live clear = tokensOf o .active i (ap (isActive (o .cells)) e ∙ live-active (o .cells) u live clear)
 

@@ -31,11 +31,11 @@ held-fits helds.Nothing e = zero-fits
 held-fits (helds.Value v) e = e
 
 -- what is looked up
-pub data LookedFits : LookedUp → Type 0 where
-  found : {vs : List ℤ} → All Signed32 vs → LookedFits (values vs)
-  waiting : {c : ℕ} → LookedFits (unset c)
+pub data LookUpFits : LookedUp → Type 0 where
+  found : {vs : List ℤ} → All Signed32 vs → LookUpFits (values vs)
+  waiting : {c : ℕ} → LookUpFits (unset c)
 
-then-fits : (v : ℤ) {l : LookedUp} → Signed32 v → LookedFits l → LookedFits (andThen v l)
+then-fits : (v : ℤ) {l : LookedUp} → Signed32 v → LookUpFits l → LookUpFits (andThen v l)
 unfolding andThen
 then-fits v e (found a) = found (more e a)
 then-fits v e waiting = waiting
@@ -43,14 +43,14 @@ then-fits v e waiting = waiting
 module _ (cs : List Cell) (bs : List Bind)
     (bound : (x : ℕ) (v : ℤ) → slotAt bs x ≡ slots.Value v → Signed32 v)
     (cells : (c : ℕ) → heldInRange (cellAt cs c .value) ≡ true) where
-  cell-fits : (c : ℕ) (w : Held) → cellAt cs c .value ≡ w → (l : LookedUp) → LookedFits l
-      → LookedFits (elim w [ helds.Nothing ↦ unset c | helds.Value v ↦ andThen v l ])
+  cell-fits : (c : ℕ) (w : Held) → cellAt cs c .value ≡ w → (l : LookedUp) → LookUpFits l
+      → LookUpFits (elim w [ helds.Nothing ↦ unset c | helds.Value v ↦ andThen v l ])
   unfolding heldInRange
   cell-fits c helds.Nothing e l f = waiting
   cell-fits c (helds.Value v) e l f = then-fits v (ap heldInRange (sym e) ∙ cells c) f
 
-  slot-fits : (x : ℕ) (s : Slot) → slotAt bs x ≡ s → (l : LookedUp) → LookedFits l
-      → LookedFits
+  slot-fits : (x : ℕ) (s : Slot) → slotAt bs x ≡ s → (l : LookedUp) → LookUpFits l
+      → LookUpFits
       (elim s [
         | slots.Empty ↦ values []
         | slots.Value v ↦ andThen v l
@@ -60,32 +60,32 @@ module _ (cs : List Cell) (bs : List Bind)
   slot-fits x (slots.Value v) e l f = then-fits v (bound x v e) f
   slot-fits x (slots.Cell c) e l f = cell-fits c (cellAt cs c .value) refl l f
 
-  pub look-fits : (ps : List Param) → all paramHolds ps ≡ true → LookedFits (look cs bs ps)
+  pub look-fits : (ps : List Param) → all paramHolds ps ≡ true → LookUpFits (look cs bs ps)
   unfolding look paramHolds
   look-fits [] e = found none
   look-fits (constant v ∷ ps) e = then-fits v (all-head paramHolds _ ps e) (look-fits ps (all-tail paramHolds _ ps e))
   look-fits (variable x ∷ ps) e = slot-fits x (slotAt bs x) refl (look cs bs ps) (look-fits ps (all-tail paramHolds _ ps e))
 
 -- what a built-in replies
-pub data SaidFits : BuiltinReply → Type 0 where
-  said : {v : ℤ} → Signed32 v → SaidFits (gives v)
-  nothing : SaidFits silent
+pub data ReplyFits : BuiltinReply → Type 0 where
+  said : {v : ℤ} → Signed32 v → ReplyFits (gives v)
+  nothing : ReplyFits silent
 
-zero-if-fits : (b : Bool) → SaidFits (zeroIf b)
+zero-if-fits : (b : Bool) → ReplyFits (zeroIf b)
 unfolding zeroIf
 zero-if-fits true = said zero-fits
 zero-if-fits false = nothing
 
-truth-fits : (b : Bool) → SaidFits (gives (truth b))
+truth-fits : (b : Bool) → ReplyFits (gives (truth b))
 unfolding truth fits
 truth-fits true = said refl
 truth-fits false = said refl
 
-sum-fits : (a b : ℤ) → SaidFits (sum a b)
+sum-fits : (a b : ℤ) → ReplyFits (sum a b)
 unfolding sum
 sum-fits a b = go (fits (a +ℤ b)) refl
   where
-    go : (t : Bool) → fits (a +ℤ b) ≡ t → SaidFits (elim t [ true ↦ gives (a +ℤ b) | false ↦ silent ])
+    go : (t : Bool) → fits (a +ℤ b) ≡ t → ReplyFits (elim t [ true ↦ gives (a +ℤ b) | false ↦ silent ])
     go true e = said e
     go false e = nothing
 
@@ -94,7 +94,7 @@ at-fits none i = zero-fits
 at-fits (more e a) zero = e
 at-fits (more e a) (suc i) = at-fits a i
 
-pub builtin-fits : (s : ℕ) {vs : List ℤ} → All Signed32 vs → SaidFits (builtin s vs)
+pub builtin-fits : (s : ℕ) {vs : List ℤ} → All Signed32 vs → ReplyFits (builtin s vs)
 unfolding builtin
 builtin-fits zero a = said (at-fits a 0)
 builtin-fits (suc zero) a = zero-if-fits _

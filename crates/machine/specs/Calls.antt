@@ -19,13 +19,13 @@ use Rattle.record.specs.Words.{wordsOf}
 use Rattle.coded.specs.Record.{isRecord}
 
 -- a reply, the values beside it, and the words of the record after the call
-pub record Given : Type 0 where
+pub record Result : Type 0 where
   pub reply : Reply
   pub values : List ℤ
   pub words : List ℕ
 
 -- "A refusal leaves machine and dag as before the call": every word stays
-unfoldable pub after : (before : List ℕ) → Outcome → Given
+unfoldable pub after : (before : List ℕ) → Outcome → Result
 after ws o =
     record { reply = o .reply; values = o .values; words = elim (isRefused (o .reply)) [ true ↦ ws | false ↦ wordsOf (o .machine) ] }
 
@@ -34,19 +34,19 @@ unfoldable pub ofRecord : List ℕ → Outcome → Outcome
 ofRecord ws o = elim (isRecord ws) [ true ↦ o | false ↦ outcome (machineOf ws) (refuses refusals.Rule) ]
 
 -- "The start tests 14"
-unfoldable pub startOn : (dag ws : List ℕ) → Given
+unfoldable pub startOn : (dag ws : List ℕ) → Result
 startOn dag ws = after ws (Start.start paper (dagOf dag))
 
 -- "A step tests 14, 9, then 10, 11 or 13"
-unfoldable pub stepOn : (dag ws : List ℕ) → (place : ℕ) → Given
+unfoldable pub stepOn : (dag ws : List ℕ) → (place : ℕ) → Result
 stepOn dag ws place = after ws (ofRecord ws (Step.step paper (dagOf dag) (machineOf ws) place))
 
 -- "An answer tests 14, 12"
-unfoldable pub answerOn : (dag ws : List ℕ) → (handle : ℕ) → (value : ℤ) → Given
+unfoldable pub answerOn : (dag ws : List ℕ) → (handle : ℕ) → (value : ℤ) → Result
 answerOn dag ws handle v = after ws (ofRecord ws (Answer.answer paper (dagOf dag) (machineOf ws) handle v))
 
 -- a call's report and the words after it are these
-pub record Gave (g : Given) (r : Report) (ws : List ℕ) : Type 0 where
+pub record Yields (g : Result) (r : Report) (ws : List ℕ) : Type 0 where
   pub reply : r .reply ≡ g .reply
   pub values : r .values ≡ g .values
   pub words : ws ≡ g .words

@@ -125,7 +125,7 @@ fn reorder(w: &mut [u32; Machine::WORDS])
 }
 
 // "Set the cell; all tokens of it and of its descendants end; waiters become ready, longest wait first."
-pub fn choke(w: &mut [u32; Machine::WORDS], place: usize, c: usize, kind: u32, number: u32)
+pub fn written(w: &mut [u32; Machine::WORDS], place: usize, c: usize, kind: u32, number: u32)
     requires { ⌜ c < 32 ⌝ }
     ensures { λ _. ⌜ ((m : Machine) (v : Held) → Holds (now (w .entry)) m → ChokeFacts m place → heldKind v ≡ kind → heldNumber v ≡ number → Holds (now (w .exit)) (choked c v (taken m place))) ⌝ }
 {

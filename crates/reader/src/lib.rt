@@ -1,8 +1,8 @@
 // The reader of a job table: it checks the entries, and finds what is read or the refusal's number and entry.
-pub mod calls;
+mod calls;
 pub mod checked;
-pub mod definition;
+mod definition;
 pub mod entry;
 pub mod expression;
-pub mod parameter;
+mod parameter;
 pub mod program;

@@ -30,6 +30,6 @@ says-to-front s vs xs l e = ap₂ (λ x y. builtin s (x ∷ y ∷ [])) (same 0) 
     same i = ap (λ ys. at ys i) e ∙ at-append vs (4 - length vs) i
 
 -- what a built-in said, there and back
-pub said-back : (x : SiteReply) (y : BuiltinReply) → x ≡ siteReplyOf y → builtinReplyOf x ≡ y
-said-back x (gives v) e = ap builtinReplyOf e
-said-back x silent e = ap builtinReplyOf e
+pub reply-back : (x : SiteReply) (y : BuiltinReply) → x ≡ siteReplyOf y → builtinReplyOf x ≡ y
+reply-back x (gives v) e = ap builtinReplyOf e
+reply-back x silent e = ap builtinReplyOf e

@@ -194,26 +194,26 @@ module _ (cs : List Cell) (bs : List Bind) (ps : List Param) (i : ℕ) (vs : Lis
         ∙ behind-more (take i vs) v (look cs bs (drop (suc i) ps))
         ∙ ap₂ (λ xs n. behind xs (look cs bs (drop n ps))) (sym (take-suc-set vs i v room) ∙ ap (λ n. take n (set vs i v)) (sym one)) (sym one)
 
-    pub looked-unset : (d : Param) (c : ℕ) → i < length ps → paramFound cs bs (getD ps i d) ≡ arguments.Unset c
+    pub look-up-unset : (d : Param) (c : ℕ) → i < length ps → paramFound cs bs (getD ps i d) ≡ arguments.Unset c
         → record { unset = c; values = replicate 4 (pos 0) } ≡ lookUpOf (look cs bs ps)
     unfolding after behind lookUpOf padded
-    looked-unset d c l e = sym (ap lookUpOf (step d (arguments.Unset c) l e))
+    look-up-unset d c l e = sym (ap lookUpOf (step d (arguments.Unset c) l e))
 
-    looked-front : i ≤ 4 → look cs bs ps ≡ values (take i vs) → record { unset = 32; values = vs } ≡ lookUpOf (look cs bs ps)
+    look-up-front : i ≤ 4 → look cs bs ps ≡ values (take i vs) → record { unset = 32; values = vs } ≡ lookUpOf (look cs bs ps)
     unfolding lookUpOf
-    looked-front few e =
+    look-up-front few e =
         sym (ap lookUpOf e ∙ ap (λ xs. record { unset = 32; values = xs }) (padded-front (pos 0) vs i 4 (full .size) few (full .zeros)))
 
-    pub looked-nothing : (d : Param) → i < length ps → i ≤ 4 → paramFound cs bs (getD ps i d) ≡ arguments.Nothing
+    pub look-up-nothing : (d : Param) → i < length ps → i ≤ 4 → paramFound cs bs (getD ps i d) ≡ arguments.Nothing
         → record { unset = 32; values = vs } ≡ lookUpOf (look cs bs ps)
     unfolding after behind
-    looked-nothing d l few e = looked-front few (step d arguments.Nothing l e ∙ ap values (append-nil (take i vs)))
+    look-up-nothing d l few e = look-up-front few (step d arguments.Nothing l e ∙ ap values (append-nil (take i vs)))
 
-    pub looked-all : length ps ≤ i → i ≤ 4 → record { unset = 32; values = vs } ≡ lookUpOf (look cs bs ps)
+    pub look-up-all : length ps ≤ i → i ≤ 4 → record { unset = 32; values = vs } ≡ lookUpOf (look cs bs ps)
     unfolding look behind
-    looked-all l few =
+    look-up-all l few =
         let none : drop i ps ≡ [] = drop-of-length-le ps {i = i} l in
-        looked-front few (o ∙ ap (λ xs. behind (take i vs) (look cs bs xs)) none ∙ ap values (append-nil (take i vs)))
+        look-up-front few (o ∙ ap (λ xs. behind (take i vs) (look cs bs xs)) none ∙ ap values (append-nil (take i vs)))
 
 -- the parameter at an index, by its two words of the dag
 module _ (ws : List ℕ) (at i : ℕ) (o : ParamsHold ws at) (l : i < getD ws (at + 3) 0) where

@@ -1,5 +1,5 @@
 // The lines that a run prints, as bytes in a lent buffer that holds the longest, from a position on; each answers the position behind them.
-pub mod decimal;
+mod decimal;
 pub mod line;
 pub mod signed;
-pub mod word;
+mod word;

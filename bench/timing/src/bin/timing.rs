@@ -153,8 +153,14 @@ fn whole_example(repeats: usize) {
 
 fn refused(repeats: usize) {
     head("refused answers, input bytes to lines, ns a record");
-    let times = whole(repeats, 20, &jobs::refused());
-    row("8,190 records, none of an open handle", times.map(|time| time / jobs::RECORDS as f64));
+    let names = [
+        "8,190 records of a handle that no call was given",
+        "8,190 records of one handle, all but the first late",
+    ];
+    for (name, handle) in names.iter().zip([1, 0]) {
+        let times = whole(repeats, 20, &jobs::answers(handle));
+        row(name, times.map(|time| time / jobs::RECORDS as f64));
+    }
     println!();
 }
 

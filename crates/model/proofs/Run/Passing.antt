@@ -227,9 +227,9 @@ module _ (lim : Limits) (d : Dag) (m : Machine) (h : QueueKept m) (k : ℕ) (l :
     unfolding frontEnds endsToken
     ends j = ap (λ q. endsToken m q (queuedToken m j)) sets
 
-    told : (j : ℕ) → j < m .queued → frontEnds d m j ≡ not (readyThen c taken (getD (m .queue) j 0))
+    front-ended : (j : ℕ) → j < m .queued → frontEnds d m j ≡ not (readyThen c taken (getD (m .queue) j 0))
     unfolding withOrders
-    told j i = ends j ∙ within-ready c m (getD (m .queue) j 0) (h .named j i) (h .ready j i)
+    front-ended j i = ends j ∙ within-ready c m (getD (m .queue) j 0) (h .named j i) (h .ready j i)
 
     -- the queue that the choke filters, and where the token watched comes to stand in it
     abbrev both : List ℕ
@@ -243,14 +243,14 @@ module _ (lim : Limits) (d : Dag) (m : Machine) (h : QueueKept m) (k : ℕ) (l :
     both-long : k < length both
     both-long = let z = base .queued in let a = length-append (queueOf taken) (waitsOf taken) in omega arith
 
-    told-both : (j : ℕ) → j ≤ k → frontEnds d m (suc j) ≡ not (readyThen c taken (getD both j 0))
-    told-both j i = told (suc j) (omega arith) ∙ ap (λ x. not (readyThen c taken x)) (sym (both-at j i))
+    both-ended : (j : ℕ) → j ≤ k → frontEnds d m (suc j) ≡ not (readyThen c taken (getD both j 0))
+    both-ended j i = front-ended (suc j) (omega arith) ∙ ap (λ x. not (readyThen c taken x)) (sym (both-at j i))
 
     position : survivors d m 1 k ≡ among (readyThen c taken) both k
     position =
         survivors-pass d m (readyThen c taken) 1 both k (let z = both-long in omega arith)
         (λ j i. subst (λ n. frontEnds d m n ≡ not (readyThen c taken (getD both j 0))) (let z : suc j ≡ 1 + j = omega arith in z)
-        (told-both j (omega arith)))
+        (both-ended j (omega arith)))
 
     chokes-leaves :
         (k′ : ℕ) → frontEnds d m (suc k) ≡ false → survivors d m 1 k ≡ k′
@@ -265,7 +265,7 @@ module _ (lim : Limits) (d : Dag) (m : Machine) (h : QueueKept m) (k : ℕ) (l :
         here = sym position ∙ s
 
         found : Behind (filter (readyThen c taken) (take k both)) (queueThen c taken) (getD both k 0)
-        found = filter-finds (readyThen c taken) both k both-long (not-false _ (sym (told-both k (omega arith)) ∙ f))
+        found = filter-finds (readyThen c taken) both k both-long (not-false _ (sym (both-ended k (omega arith)) ∙ f))
 
   -- any instruction: at choke by its own law, else no cell is set and the token watched moves up by one
   module _ (fits : lim .tokens ≤ lim .tokenPlaces) (kept : rulesHold lim d m ≡ true) where

@@ -131,13 +131,13 @@ module _ (d : Dag) (M : Labels) (bodies : ℕ → Exp) (m : Machine) {name place
         goes-becomes m (A .others) _ (showing (Event.call (m .calls) s vs)) _ refl refl refl (fits-as {t = t} refl refl refl (acting-fits A))
         (sees (place-as {t = withNode k t} refl refl refl refl (place-to f (A .place))) (A .clear) called)
 
-    looked-agrees : M .value n ≡ false → (l : LookedUp)
+    look-up-agrees : M .value n ≡ false → (l : LookedUp)
         → Agrees M W L R (m .calls) (callSite lim d m p t s k l) (Abstract.asksSite (m .calls) s (running (at n B F U) v) (found l) (at k B F U))
     unfolding Shows callSite waited put withTables withOrders nextHandle withState
-    looked-agrees e (unset c) =
+    look-up-agrees e (unset c) =
         goes-becomes m (A .others) _ silently _ refl refl refl (fits-as {t = t} refl refl refl (acting-fits A))
         (sees (place-as {t = t} refl refl refl refl (A .place)) (A .clear) (waiting e (value-optional refl (A .value))))
-    looked-agrees e (values vs) = go (isBuiltin s)
+    look-up-agrees e (values vs) = go (isBuiltin s)
       where
         go : (b : Bool) → Agrees M W L R (m .calls)
             (elim b [
@@ -156,4 +156,4 @@ module _ (d : Dag) (M : Labels) (bodies : ℕ → Exp) (m : Machine) {name place
         (λ o. Agrees M W L R (m .calls) (callSite lim d m p t s k (look (m .cells) (t .binds) ps))
         (Abstract.asksSite (m .calls) s (running (at n B F U) v) o (at k B F U)))
         (sym (values-seen (A .place .binds .views) good))
-        (looked-agrees e (look (m .cells) (t .binds) ps))
+        (look-up-agrees e (look (m .cells) (t .binds) ps))

@@ -4,18 +4,19 @@
 //! record and its index rules, `machine` runs it, `lines` is orcrun. `edges` has inputs with names,
 //! `syntax`, `random` and `generator` make others by chance, `cases` keeps all of them in one file;
 //! `coverage` and `report` tell what they reach. `words` and `layout` have dags and records as
-//! words, `given` as bytes, with the calls on them; `trials` is a list of lawful and broken ones,
-//! `told` what the calls on them print.
+//! words, `memory` as bytes, with the calls on them; `trials` is a list of lawful and broken ones,
+//! `outcome` what the calls on them print.
 
 pub mod cases;
 pub mod coverage;
 pub mod dag;
 pub mod edges;
 pub mod generator;
-pub mod given;
 pub mod layout;
 pub mod lines;
 pub mod machine;
+pub mod memory;
+pub mod outcome;
 pub mod random;
 pub mod record;
 pub mod report;
@@ -23,6 +24,5 @@ pub mod rules;
 pub mod sites;
 pub mod syntax;
 pub mod table;
-pub mod told;
 pub mod trials;
 pub mod words;

@@ -8,8 +8,8 @@ mod lawful;
 mod odd_words;
 
 use crate::dag::{Dag, Definition, Node, Parameter};
-use crate::given::{Call, Case, Given, Row};
 use crate::layout::{self, Laid, Order};
+use crate::memory::{Call, Case, Memory, Row};
 use crate::record::{Binding, Record, State, Token};
 use crate::words;
 
@@ -146,7 +146,7 @@ fn middle() -> Draft {
 impl Draft {
     fn blank() -> Draft {
         let Laid { record, queue, waits } = Laid::blank();
-        Draft { words: Given::blank().dag, record, queue, waits }
+        Draft { words: Memory::blank().dag, record, queue, waits }
     }
 
     fn record_words(&self) -> Vec<u32> {

@@ -31,7 +31,7 @@ fn example() {
 #[test]
 fn exact() {
     for steps in (4..200).chain([2, 99_999, 100_000]) {
-        let told = format!("publish 0\nend {steps}\n");
-        assert_eq!(orcrun(&exact_steps(steps).bytes()), told);
+        let expected = format!("publish 0\nend {steps}\n");
+        assert_eq!(orcrun(&exact_steps(steps).bytes()), expected);
     }
 }

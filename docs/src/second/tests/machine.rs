@@ -66,8 +66,8 @@ fn middle_is_as_told() {
     let dag = dag_of(&waiting_program());
     let record = middle(&dag);
     let states: Vec<State> = record.tokens[..4].iter().map(|token| token.state).collect();
-    let told = [State::Frame, State::CalledOut(0), State::Waiting(0), State::Ready];
-    assert_eq!(states, told);
+    let expected = [State::Frame, State::CalledOut(0), State::Waiting(0), State::Ready];
+    assert_eq!(states, expected);
     assert_eq!((record.queue, record.waits, record.calls), (vec![3], vec![2], 1));
     assert_eq!((record.last_token, record.last_cell), (3, 0));
 }

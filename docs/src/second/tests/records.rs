@@ -1,14 +1,14 @@
 //! The list of cases on given records and dags: what it says of each holds, and it misses no clause.
 
-use second::given::{Case, Given, Row, NO_RECORD};
+use second::memory::{Case, Memory, Row, NO_RECORD};
 use second::trials::{self, Expected};
-use second::{layout, told};
+use second::{layout, outcome};
 use std::collections::BTreeSet;
 
 #[test]
 fn replies_are_as_the_list_says() {
     for trial in trials::all() {
-        let (lines, refusals) = told::lines(&trial.case);
+        let (lines, refusals) = outcome::lines(&trial.case);
         assert!(trial.agrees(&refusals), "{lines}");
     }
 }
@@ -29,22 +29,22 @@ fn names_differ() {
 #[test]
 fn refusals_leave_every_word() {
     for trial in trials::all() {
-        let mut given = Given::blank();
+        let mut memory = Memory::blank();
         for row in trial.case.rows {
-            let before = given.clone();
-            if let Some(Err(_)) = given.act(row) {
-                assert_eq!(given, before, "{}", trial.case.name);
+            let before = memory.clone();
+            if let Some(Err(_)) = memory.act(row) {
+                assert_eq!(memory, before, "{}", trial.case.name);
             }
         }
     }
 }
 
 /// What the first call of a case gets.
-fn handed_over(case: &Case) -> Given {
-    let mut given = Given::blank();
+fn handed_over(case: &Case) -> Memory {
+    let mut memory = Memory::blank();
     let is_set = |row: &&Row| !matches!(row, Row::Call(_));
-    case.rows.iter().take_while(is_set).for_each(|row| assert_eq!(given.act(*row), None));
-    given
+    case.rows.iter().take_while(is_set).for_each(|row| assert_eq!(memory.act(*row), None));
+    memory
 }
 
 /// Each broken case breaks one clause alone. (Where there are no nodes, no token can name one; and a
@@ -116,10 +116,10 @@ fn every_field_has_a_case_of_words_that_are_no_record() {
     assert_eq!(found, fields);
     let mut tried = BTreeSet::new();
     for trial in trials::all().into_iter().filter(|trial| trial.expected == Expected::Broken) {
-        let given = handed_over(&trial.case);
-        if given.broken() == [NO_RECORD.why] {
+        let memory = handed_over(&trial.case);
+        if memory.broken() == [NO_RECORD.why] {
             let odd =
-                (0..layout::WORDS).filter(|index| is_written_otherwise(&given.record, *index));
+                (0..layout::WORDS).filter(|index| is_written_otherwise(&memory.record, *index));
             tried.extend(odd.map(field));
         }
     }

@@ -27,8 +27,8 @@ value-requires c κs = token-inside (c .before .before .before .before .before .
 sub-choke : tie.Need-sub-choke
 sub-choke c = let k = choke-cell _ _ _ _ _ (c .before .before .before .before .before .before .before .before .pre .is) (c .before .before .before .before .before .wide .ensures ∙ c .before .before .before .before .before .before .cell .ensures _ (c .before .before .before .before .before .before .before .before .pre .is .taking .lawful .holds .codes)) in omega (arith, k .0)
 
-choke-requires : tie.Need-choke-requires
-choke-requires c κs = choke-cell _ _ _ _ _ (c .before .before .before .before .before .before .before .before .pre .is) (c .before .before .before .before .before .wide .ensures ∙ c .before .before .before .before .before .before .cell .ensures _ (c .before .before .before .before .before .before .before .before .pre .is .taking .lawful .holds .codes)) .1
+written-requires : tie.Need-written-requires
+written-requires c κs = choke-cell _ _ _ _ _ (c .before .before .before .before .before .before .before .before .pre .is) (c .before .before .before .before .before .wide .ensures ∙ c .before .before .before .before .before .before .cell .ensures _ (c .before .before .before .before .before .before .before .before .pre .is .taking .lawful .holds .codes)) .1
 
 sweep-requires : tie.Need-sweep-requires
 sweep-requires c κs = search needs
@@ -43,7 +43,7 @@ returns c = λ m a.
     let v = tokenAt (m .tokens) (c .before .before .before .before .before .before .before .before .before .before .before .before .before .before .args .p) .value in
     gives-swept _ replies.Done _ (choke-step _ _ _ _ m _ (k .2) a) (c .plain .ensures)
     (c .before .sweep .ensures _
-    (c .before .before .before .before .before .choke .ensures m v (a .taking .lawful .holds) (record { queued = a .taking .queued; room = room _ m (a .taking .lawful .rules) })
+    (c .before .before .before .before .before .written .ensures m v (a .taking .lawful .holds) (record { queued = a .taking .queued; room = room _ m (a .taking .lawful .rules) })
     (sym (c .before .before .before .before .before .before .before .before .before .value-kind .ensures m codes)) (sym (c .before .before .before .before .before .before .before .value .ensures m codes))) (choke-vacant (a .taking) _ v (k .2)))
 
 pub choke-cell-spec : {M : Type 1} → statement M
@@ -55,7 +55,7 @@ choke-cell-spec =
     value-kind-requires
     value-requires
     sub-choke
-    choke-requires
+    written-requires
     sweep-requires
     plain-requires
     returns)

@@ -1,9 +1,9 @@
 -- `site_call::built_in` meets its contract: each way out is how the definition's step ends there. Assumes nothing.
-use Rattle.calls.proofs.Calling.{said-by}
+use Rattle.calls.proofs.Calling.{replied-by}
 use Rattle.acts.proofs.Ending.{gives-as}
 use Rattle.calls.proofs.Calling.{reply-gives, says, silent-ends}
 use Rattle.acts.proofs.Outcomes.{row-fits, token-inside}
-use Rattle.sites.proofs.Calls.{said-back}
+use Rattle.sites.proofs.Calls.{reply-back}
 use Rattle.model.specs.declared.token.Held.the-variants as helds
 use Rattle.job.specs.Site.{gives, silent}
 use mir.Syntax.{w32}
@@ -64,9 +64,9 @@ returns c = λ m k.
     let g : SFits w32 (getD vs 1 (pos 0)) = search needs in
     let v = c .before .before .before .before .before .before .v .given in
     let h : SFits w32 (v .0 .0) = search needs in
-    let told = said-back _ _ (rw (toZ-ofZ f, toZ-ofZ g) at (c .before .before .before .before .before .before .before .before .builtin .ensures)) in
-    let said = said-by (k .values) vs (s .pre .1) (k .padded) (c .before .before .before .before .before .before .before .before .before .word .ensures) told (v .1) in
-    reply-gives (k .acting .taking) (v .0 .0) _ _ _ (says _ _ _ _ m k (gives (v .0 .0)) (s .pre .1) said) (c .before .before .word2 .ensures) (c .plain .ensures)
+    let back = reply-back _ _ (rw (toZ-ofZ f, toZ-ofZ g) at (c .before .before .before .before .before .before .before .before .builtin .ensures)) in
+    let reply = replied-by (k .values) vs (s .pre .1) (k .padded) (c .before .before .before .before .before .before .before .before .before .word .ensures) back (v .1) in
+    reply-gives (k .acting .taking) (v .0 .0) _ _ _ (says _ _ _ _ m k (gives (v .0 .0)) (s .pre .1) reply) (c .before .before .word2 .ensures) (c .plain .ensures)
     (c .before .reply .ensures m (helds.Value (v .0 .0)) (k .acting .taking .lawful .holds) (k .acting .taking .queued) refl (sym (rw (toZ-ofZ h) at (c .before .before .before .bits .ensures))))
 
 returns-2 : tie.Need-returns-2
@@ -75,9 +75,9 @@ returns-2 c = λ m k.
     let vs = s .args .t8 in
     let f : SFits w32 (getD vs 0 (pos 0)) = search needs in
     let g : SFits w32 (getD vs 1 (pos 0)) = search needs in
-    let told = said-back _ _ (rw (toZ-ofZ f, toZ-ofZ g) at (c .before .before .before .before .before .before .builtin .ensures)) in
-    let said = said-by (k .values) vs (s .pre .1) (k .padded) (c .before .before .before .before .before .before .before .word .ensures) told (c .before .before .before .before .enum-told .given .1) in
-    gives-as (says _ _ _ _ m k silent (s .pre .1) said ∙ silent-ends m _ _ _) (c .end .ensures m _ (k .acting .taking))
+    let back = reply-back _ _ (rw (toZ-ofZ f, toZ-ofZ g) at (c .before .before .before .before .before .before .builtin .ensures)) in
+    let reply = replied-by (k .values) vs (s .pre .1) (k .padded) (c .before .before .before .before .before .before .before .word .ensures) back (c .before .before .before .before .enum-told .given .1) in
+    gives-as (says _ _ _ _ m k silent (s .pre .1) reply ∙ silent-ends m _ _ _) (c .end .ensures m _ (k .acting .taking))
 
 pub built-in-spec : {M : Type 1} → statement M
 built-in-spec =

@@ -12,7 +12,7 @@ use Rattle.model.specs.declared.record.Machine.{Machine}
 use Rattle.model.specs.Machine.Blank.{tokenAt}
 use Rattle.record.specs.Holds.{Codes}
 use Rattle.sites.proofs.Params.{params-count}
-use Rattle.sites.proofs.LookUps.{filled-more, looking-on, looked-unset, looked-nothing, looked-all, param-here, param-there, param-small, param-in-range, Filled, Looking, behind-none}
+use Rattle.sites.proofs.LookUps.{filled-more, looking-on, look-up-unset, look-up-nothing, look-up-all, param-here, param-there, param-small, param-in-range, Filled, Looking, behind-none}
 use Rattle.sites.specs.Looking.{paramFound, LookFacts}
 use Rattle.sites.specs.Row.{paramsAt}
 use Rattle.sites.proofs.look.look_up.Statement.{statement}
@@ -75,7 +75,7 @@ returns c = λ m h f.
     let i = c .before .before .before .before .before .loop .i in
     let l : i < getD (a .dag .now) (a .at + 3) 0 = omega (arith, c .before .before .before .before .before .before .wide .ensures) in
     let bs = tokenAt (m .tokens) (a .p) .binds in
-    looked-unset (m .cells) bs (paramsAt (a .dag .now) (a .at)) i _ (c .before .before .before .before .before .loop .inv .2 m h f) (c .before .before .before .before .before .loop .inv .1) (variable 0) _ (param-there (a .dag .now) (a .at) i o l)
+    look-up-unset (m .cells) bs (paramsAt (a .dag .now) (a .at)) i _ (c .before .before .before .before .before .loop .inv .2 m h f) (c .before .before .before .before .before .loop .inv .1) (variable 0) _ (param-there (a .dag .now) (a .at) i o l)
     (ap (paramFound (m .cells) bs) (sym (param-here (a .dag .now) (a .at) i o l)) ∙ sym (c .before .before .before .param-argument .ensures m h f) ∙ c .before .c .given .1)
 
 enum-told : tie.Need-enum-told Inv-loop μ-loop
@@ -88,7 +88,7 @@ returns-2 c = λ m h f.
     let i = c .before .before .before .before .loop .i in
     let l : i < getD (a .dag .now) (a .at + 3) 0 = omega (arith, c .before .before .before .before .before .wide .ensures) in
     let bs = tokenAt (m .tokens) (a .p) .binds in
-    looked-nothing (m .cells) bs (paramsAt (a .dag .now) (a .at)) i _ (c .before .before .before .before .loop .inv .2 m h f) (c .before .before .before .before .loop .inv .1) (variable 0) (param-there (a .dag .now) (a .at) i o l)
+    look-up-nothing (m .cells) bs (paramsAt (a .dag .now) (a .at)) i _ (c .before .before .before .before .loop .inv .2 m h f) (c .before .before .before .before .loop .inv .1) (variable 0) (param-there (a .dag .now) (a .at) i o l)
     (omega (arith, param-small (a .dag .now) (a .at) i o l))
     (ap (paramFound (m .cells) bs) (sym (param-here (a .dag .now) (a .at) i o l)) ∙ sym (c .before .before .param-argument .ensures m h f) ∙ c .enum-told .given .1)
 
@@ -121,7 +121,7 @@ returns-3 c = λ m h f.
     let o = c .before .before .before .before .pre .1 in
     let i = c .before .loop .i in
     let n = params-count (a .dag .now) (a .at) (o .size) (o .inside) (o .few) in
-    looked-all (m .cells) (tokenAt (m .tokens) (a .p) .binds) (paramsAt (a .dag .now) (a .at)) i _ (c .before .loop .inv .2 m h f) (c .before .loop .inv .1)
+    look-up-all (m .cells) (tokenAt (m .tokens) (a .p) .binds) (paramsAt (a .dag .now) (a .at)) i _ (c .before .loop .inv .2 m h f) (c .before .loop .inv .1)
     (omega (arith, c .before .before .wide .ensures)) (omega (arith, c .before .before .wide .ensures, o .few))
 
 pub look-up-spec : {M : Type 1} → statement M

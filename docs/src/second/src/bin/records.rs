@@ -2,9 +2,9 @@
 //! `records --lines FILE`: the lines of the cases of such a file.
 //! Both fail where a case that breaks a rule is not refused with 14, or a near one is.
 
-use second::given::Case;
+use second::memory::Case;
 use second::trials::{self, Trial};
-use second::{cases, told};
+use second::{cases, outcome};
 use std::io::{self, Write};
 use std::process::ExitCode;
 
@@ -48,14 +48,14 @@ fn lines(file: &str) -> io::Result<()> {
         if let Some(trial) = trials.next() {
             held(&trial, &case)?;
         }
-        out.write_all(told::lines(&case).0.as_bytes())?;
+        out.write_all(outcome::lines(&case).0.as_bytes())?;
     }
     out.flush()
 }
 
 /// Whether the case, as read, is refused as the list says.
 fn held(trial: &Trial, case: &Case) -> io::Result<()> {
-    if trial.agrees(&told::lines(case).1) {
+    if trial.agrees(&outcome::lines(case).1) {
         return Ok(());
     }
     Err(io::Error::other(format!("{}: expected {:?}", case.name, trial.expected)))

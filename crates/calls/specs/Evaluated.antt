@@ -13,7 +13,7 @@ use Rattle.sites.specs.Row.{paramsAt}
 use Rattle.acts.specs.Acting.{Acting}
 
 -- the token acts at a site call, and these are the values of its parameters, zeros behind them
-pub record Arguments (ws : List ℕ) (used usedCells : List Bool) (dag : List ℕ) (place p at : ℕ) (vs : List ℤ) (m : Machine) : Type 0 where
+pub record Evaluated (ws : List ℕ) (used usedCells : List Bool) (dag : List ℕ) (place p at : ℕ) (vs : List ℤ) (m : Machine) : Type 0 where
   pub acting : Acting ws used usedCells dag place p at 1 m
   pub values : List ℤ
   pub found : look (m .cells) (tokenAt (m .tokens) p .binds) (paramsAt dag at) ≡ Step.values values

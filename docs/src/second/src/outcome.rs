@@ -1,23 +1,23 @@
-//! What a call on given words tells, as lines: the reply, then the record field by field, or word by
+//! What a call on lent words does, as lines: the reply, then the record field by field, or word by
 //! word where the words are no record's.
 
-use crate::given::{Call, Case, Given, Row};
 use crate::layout::{self, Laid, Order};
 use crate::machine::{Refused, Reply};
+use crate::memory::{Call, Case, Memory, Row};
 use crate::record::{Binding, Cell, State, Token};
 use std::fmt::Write;
 
 /// The lines of all calls of a case, and the number of each reply that is a refusal.
 pub fn lines(case: &Case) -> (String, Vec<Option<u8>>) {
-    let mut given = Given::blank();
+    let mut memory = Memory::blank();
     let mut text = String::new();
     let mut numbers = Vec::new();
     for row in &case.rows {
-        let reply = given.act(*row);
+        let reply = memory.act(*row);
         if let (Row::Call(call), Some(reply)) = (row, reply) {
             numbers.push(reply.as_ref().err().map(|refused| refused.number));
             let line = format!("{}, {}: {}", case.name, called(*call), replied(&reply));
-            text += &format!("{line}\n{}", words(&given.record));
+            text += &format!("{line}\n{}", words(&memory.record));
         }
     }
     (text, numbers)

@@ -12,7 +12,7 @@ use crate::words;
 
 /// The words of the dag and those of the record.
 #[derive(Clone, Debug, PartialEq, Eq)]
-pub struct Given {
+pub struct Memory {
     pub dag: Vec<u32>,
     pub record: Vec<u32>,
 }
@@ -43,9 +43,9 @@ pub const NO_RECORD: Refused = Refused { number: 14, why: "words that no record 
 const BROKEN_ORDER: Refused = Refused { number: 14, why: "an order's count, or a word behind it" };
 const BROKEN_COUNT: Refused = Refused { number: 14, why: "counts of the dag" };
 
-impl Given {
-    pub fn blank() -> Given {
-        Given { dag: vec![0; words::WORDS], record: vec![0; layout::WORDS] }
+impl Memory {
+    pub fn blank() -> Memory {
+        Memory { dag: vec![0; words::WORDS], record: vec![0; layout::WORDS] }
     }
 
     /// Sets a word, or makes a call; `None` where a word is set.

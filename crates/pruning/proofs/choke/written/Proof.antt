@@ -6,8 +6,8 @@ use Rattle.record.specs.Holds.{Holds}
 use Rattle.record.specs.Fields.{taken}
 use Rattle.pruning.proofs.Chokes.{taken-room, choke-is}
 use Rattle.pruning.specs.Choking.{rowsChoked}
-use Rattle.pruning.proofs.choke.choke.Statement.{statement}
-use Rattle.pruning.proofs.choke.choke.Tie as tie
+use Rattle.pruning.proofs.choke.written.Statement.{statement}
+use Rattle.pruning.proofs.choke.written.Tie as tie
 
 leave-requires : tie.Need-leave-requires
 leave-requires c κs = search needs
@@ -31,7 +31,7 @@ returns c = λ m v h f ek en.
     let three = c .before .before .set-value .ensures (rowsChoked cell 64 (taken m place)) v two ek en in
     subst (Holds _) (choke-is m h place cell f v) (c .reorder .ensures _ three (taken-room m h place cell f))
 
-pub choke-spec : {M : Type 1} → statement M
-choke-spec =
+pub written-spec : {M : Type 1} → statement M
+written-spec =
     tie.close
     (tie.spec leave-requires choke-rows-requires set-value-requires reorder-requires returns)
