@@ -1,10 +1,7 @@
 // Stop, publish, a silent site: "the token ends".
-ghost use mathlib.Core.Path.{_≡_};
 ghost use Prim.Native.Nat.{_<_};
-ghost use Rattle.model.specs.Machine.Blank.{tokenAt};
 ghost use Rattle.model.specs.declared.record.Machine.{Machine};
 ghost use Rattle.record.specs.Fields.{taken};
-ghost use Rattle.record.specs.Holds.{Codes};
 ghost use Rattle.model.specs.Machine.Blank.{blankToken};
 ghost use Rattle.model.specs.Machine.Step.{put};
 ghost use Rattle.job.specs.Words.{dagOf};
@@ -12,52 +9,20 @@ ghost use Rattle.model.specs.Machine.Limits.{paper};
 ghost use Rattle.model.specs.Machine.Step as Step;
 ghost use Rattle.acts.specs.Acting.{Some, Acting, Gives};
 ghost use mathlib.Core.List.{List, []};
-ghost use mathlib.Core.Bool.{true, false};
+ghost use mathlib.Core.Bool.{false};
 ghost use Prim.Native.Nat.{ℕ};
 ghost use Rattle.model.specs.Machine.Reply.{accepted};
 ghost use Rattle.acts.specs.Acting.{Taking};
-ghost use Rattle.acts.specs.Links.{NoLinks, BindsNoCell};
+use crate::links::names;
 use crate::report::plain;
 use job::dag::WORDS;
 use model::record::Machine;
 use model::reply::Reply;
 use model::reply::Report;
-use record::layout::CELL_SLOT;
-use record::token::bind_kind;
-use record::token::caller;
-use record::token::cell;
 use record::token::value;
 use sites::number::signed;
 use sweep::sweep::sweep;
 use writes::end::written;
-
-// Does the token at p bind a cell?
-fn binds_cell(w: &[u32; Machine::WORDS], p: usize) -> bool
-    requires { ⌜ p < 64 ⌝ }
-    ensures { λ r. ⌜ ((m : Machine) → Codes (now (w .entry)) m → r ≡ false → BindsNoCell (tokenAt (m .tokens) p .binds)) ⌝ }
-{
-    let mut x: usize = 0;
-    while x < 8 {
-        if bind_kind(w, p, x) == CELL_SLOT {
-            return true;
-        }
-        x += 1;
-    }
-    false
-}
-
-// Does it name a caller, a cell or a bound cell?
-fn names(w: &[u32; Machine::WORDS], p: usize) -> bool
-    requires { ⌜ p < 64 ⌝ }
-    ensures { λ r. ⌜ ((m : Machine) → Codes (now (w .entry)) m → r ≡ false → NoLinks (tokenAt (m .tokens) p)) ⌝ }
-{
-    if caller(w, p) == 0 {
-        if cell(w, p) == 0 {
-            return binds_cell(w, p);
-        }
-    }
-    true
-}
 
 // Where it named nothing, nothing else can be out of reach.
 pub fn end(

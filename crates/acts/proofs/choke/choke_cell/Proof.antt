@@ -24,8 +24,8 @@ value-kind-requires c κs = token-inside (c .before .before .before .before .pre
 value-requires : tie.Need-value-requires
 value-requires c κs = token-inside (c .before .before .before .before .before .before .pre .is .taking)
 
-sub-choke : tie.Need-sub-choke
-sub-choke c = let k = choke-cell _ _ _ _ _ (c .before .before .before .before .before .before .before .before .pre .is) (c .before .before .before .before .before .wide .ensures ∙ c .before .before .before .before .before .before .cell .ensures _ (c .before .before .before .before .before .before .before .before .pre .is .taking .lawful .holds .codes)) in omega (arith, k .0)
+sub-written : tie.Need-sub-written
+sub-written c = let k = choke-cell _ _ _ _ _ (c .before .before .before .before .before .before .before .before .pre .is) (c .before .before .before .before .before .wide .ensures ∙ c .before .before .before .before .before .before .cell .ensures _ (c .before .before .before .before .before .before .before .before .pre .is .taking .lawful .holds .codes)) in omega (arith, k .0)
 
 written-requires : tie.Need-written-requires
 written-requires c κs = choke-cell _ _ _ _ _ (c .before .before .before .before .before .before .before .before .pre .is) (c .before .before .before .before .before .wide .ensures ∙ c .before .before .before .before .before .before .cell .ensures _ (c .before .before .before .before .before .before .before .before .pre .is .taking .lawful .holds .codes)) .1
@@ -54,7 +54,7 @@ choke-cell-spec =
     wide-requires
     value-kind-requires
     value-requires
-    sub-choke
+    sub-written
     written-requires
     sweep-requires
     plain-requires

@@ -1,4 +1,4 @@
--- `end::binds_cell` meets its contract: each way out is how the definition's step ends there. Assumes nothing.
+-- `links::binds_cell` meets its contract: each way out is how the definition's step ends there. Assumes nothing.
 use Rattle.acts.proofs.Ending.{NoCellBelow, no-cell-more, no-cell-all, no-cell}
 use Rattle.record.specs.Holds.{Codes}
 use Rattle.job.proofs.Test.{clash}
@@ -8,8 +8,8 @@ use Prim.Native.Nat.{_≤_, _-_}
 use mathlib.Core.Path.{refl}
 use borrow.Author.Needs.{needs}
 use native.Mathlib.Omega.{arith}
-use Rattle.acts.proofs.end.binds_cell.Statement.{statement}
-use Rattle.acts.proofs.end.binds_cell.Tie as tie
+use Rattle.acts.proofs.links.binds_cell.Statement.{statement}
+use Rattle.acts.proofs.links.binds_cell.Tie as tie
 
 abbrev Inv-loop : tie.InvT-loop
 Inv-loop w p x₀ x = (x ≤ 8) × ((m : Machine) → Codes w m → NoCellBelow (tokenAt (m .tokens) p .binds) x)

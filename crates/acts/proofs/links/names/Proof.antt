@@ -1,10 +1,10 @@
--- `end::names` meets its contract: each way out is how the definition's step ends there. Assumes nothing.
+-- `links::names` meets its contract: each way out is how the definition's step ends there. Assumes nothing.
 use Rattle.acts.proofs.Ending.{no-place}
 use Rattle.job.proofs.Test.{clash}
 use mathlib.Core.Path.{refl}
 use borrow.Author.Needs.{needs}
-use Rattle.acts.proofs.end.names.Statement.{statement}
-use Rattle.acts.proofs.end.names.Tie as tie
+use Rattle.acts.proofs.links.names.Statement.{statement}
+use Rattle.acts.proofs.links.names.Tie as tie
 
 caller-requires : tie.Need-caller-requires
 caller-requires c κs = search needs

@@ -1,0 +1,2 @@
+-- What is left of a frame.
+pub mod Frame
