@@ -32,24 +32,24 @@ pub text-first : (l : Line) (ls : List Line) → textOf l ++ textOfAll ls ≡ te
 unfolding textOfAll
 text-first l ls = refl
 
-module _ (reply : Reply) (values : List ℤ) (before after : List ℕ) where
-  abbrev Tells : ℕ → Type 0
-  Tells n = Written 80 before 0 (textOfAll (linesOf (reported reply values))) after n
+-- the text of a reply, by its case
+module _ (reply : Reply) (values : List ℤ) where
+  abbrev Text : List ℕ
+  Text = textOfAll (linesOf (reported reply values))
 
-  one-line : (n : ℕ) (l : Line) → linesOf (reported reply values) ≡ l ∷ [] → Written 80 before 0 (textOf l) after n → Tells n
-  one-line n l e w = written-as w (text-one l ∙ ap textOfAll (sym e)) (omega arith)
+  one-line : (l : Line) → linesOf (reported reply values) ≡ l ∷ [] → textOf l ≡ Text
+  one-line l e = text-one l ∙ ap textOfAll (sym e)
 
-  pub tells-publish : (n : ℕ) (v : ℤ) → reply ≡ replies.Published v → Written 80 before 0 (textOf (publish v)) after n → Tells n
+  pub tells-publish : (v : ℤ) → reply ≡ replies.Published v → textOf (publish v) ≡ Text
   unfolding linesOf reported
-  tells-publish n v e w = one-line n (publish v) (ap (λ (r : Reply). linesOf (reported r values)) e) w
+  tells-publish v e = one-line (publish v) (ap (λ (r : Reply). linesOf (reported r values)) e)
 
   -- (there are four values, so as many as four of them are all)
-  pub tells-call : (n h s k j : ℕ) → length values ≡ 4 → reply ≡ replies.Called h s k → j ≡ min k 4
-      → Written 80 before 0 (textOf (call h s (take j values))) after n → Tells n
+  pub tells-call : (h s k j : ℕ) → length values ≡ 4 → reply ≡ replies.Called h s k → j ≡ min k 4 → textOf (call h s (take j values)) ≡ Text
   unfolding linesOf reported
-  tells-call n h s k j four e m w =
-      one-line n (call h s (take j values))
-      (ap (λ (r : Reply). linesOf (reported r values)) e ∙ ap (λ (vs : List ℤ). call h s vs ∷ []) front) w
+  tells-call h s k j four e m =
+      one-line (call h s (take j values))
+      (ap (λ (r : Reply). linesOf (reported r values)) e ∙ ap (λ (vs : List ℤ). call h s vs ∷ []) front)
     where
       front : take k values ≡ take j values
       front = go (decLt k 5)
@@ -58,21 +58,19 @@ module _ (reply : Reply) (values : List ℤ) (before after : List ℕ) where
           go (yes l) = let same : k ≡ j = omega arith in ap (λ (i : ℕ). take i values) same
           go (no l) = take-all k values (omega arith) ∙ sym (take-all j values (omega arith))
 
-  pub tells-refusal : (n k : ℕ) (r : Refusal) → reply ≡ replies.Refused r → k ≡ numberOf r → Written 80 before 0 (textOf (refused k)) after n → Tells n
+  pub tells-refusal : (k : ℕ) (r : Refusal) → reply ≡ replies.Refused r → k ≡ numberOf r → textOf (refused k) ≡ Text
   unfolding linesOf reported
-  tells-refusal n k r e m w =
-      one-line n (refused k) (ap (λ (r : Reply). linesOf (reported r values)) e ∙ ap (λ (i : ℕ). refused i ∷ []) (sym m)) w
+  tells-refusal k r e m = one-line (refused k) (ap (λ (r : Reply). linesOf (reported r values)) e ∙ ap (λ (i : ℕ). refused i ∷ []) (sym m))
 
-module _ (reply : Reply) (values : List ℤ) (before : List ℕ) where
-  quiet : linesOf (reported reply values) ≡ [] → Written 80 before 0 (textOfAll (linesOf (reported reply values))) before 0
+  quiet : linesOf (reported reply values) ≡ [] → [] ≡ Text
   unfolding textOfAll
-  quiet e = written-as (none-written before 0) (ap textOfAll (sym e)) (omega arith)
+  quiet e = ap textOfAll (sym e)
 
-  pub tells-done : reply ≡ replies.Done → Written 80 before 0 (textOfAll (linesOf (reported reply values))) before 0
+  pub tells-done : reply ≡ replies.Done → [] ≡ Text
   unfolding linesOf reported
   tells-done e = quiet (ap (λ (r : Reply). linesOf (reported r values)) e)
 
-  pub tells-waits : reply ≡ replies.Waits → Written 80 before 0 (textOfAll (linesOf (reported reply values))) before 0
+  pub tells-waits : reply ≡ replies.Waits → [] ≡ Text
   unfolding linesOf reported
   tells-waits e = quiet (ap (λ (r : Reply). linesOf (reported r values)) e)
 

@@ -1,10 +1,10 @@
 // The line of a reply, where it has one.
 ghost use mathlib.Core.Path.{_≡_};
 ghost use Prim.Native.Nat.{_+_, _≤_, min};
-ghost use Rattle.model.specs.Lines.Line.{textOfAll};
+ghost use lib.ListN.{take};
+ghost use Rattle.model.specs.Lines.Line.{publish, call, refused, textOf, textOfAll};
 ghost use Rattle.model.specs.Lines.Orcrun.{linesOf};
 ghost use Rattle.model.specs.Machine.Reply.{numberOf, reported};
-ghost use Rattle.text.specs.Written.{Written};
 ghost use Rattle.lines.specs.Shown.{Shows};
 use crate::shown::show_front;
 use model::reply::Refusal;
@@ -34,23 +34,39 @@ fn at_most_four(count: u8) -> usize
     4
 }
 
-// Writes the line of a reply to the front of a buffer, and answers its length.
-pub fn put_report(buffer: &mut [u8; 80], reply: Reply, values: [i32; 4]) -> usize
-    ensures { λ r. ⌜ Written 80 (now (buffer .entry)) 0 (textOfAll (linesOf (reported reply values))) (now (buffer .exit)) r ⌝ }
+fn tell_publish(v: i32, output: &mut [u8], from: usize, total: usize) -> usize
+    requires { ⌜ total + 80 ≤ 1000000000 ⌝ }
+    ensures { λ r. ⌜ Shows (now (output .entry)) from total (textOf (publish v)) (now (output .exit)) r × (r ≤ total + 80) ⌝ }
 {
-    match reply {
-        Reply::Done => 0,
-        Reply::Waits => 0,
-        Reply::Published(v) => line::put_publish(buffer, 0, v),
-        Reply::Called(handle, site, count) => {
-            let n = at_most_four(count);
-            line::put_call(buffer, 0, handle, site, values, n)
-        }
-        Reply::Refused(refusal) => {
-            let number = number_of(refusal);
-            line::put_refused(buffer, 0, number)
-        }
-    }
+    let mut buffer = [0u8; 80];
+    let n = line::put_publish(&mut buffer, 0, v);
+    show_front(buffer, n, output, from, total)
+}
+
+fn tell_call(
+    handle: u32,
+    site: u16,
+    values: [i32; 4],
+    count: usize,
+    output: &mut [u8],
+    from: usize,
+    total: usize,
+) -> usize
+    requires { ⌜ (total + 80 ≤ 1000000000) × (count ≤ 4) ⌝ }
+    ensures { λ r. ⌜ Shows (now (output .entry)) from total (textOf (call handle site (take count values))) (now (output .exit)) r × (r ≤ total + 80) ⌝ }
+{
+    let mut buffer = [0u8; 80];
+    let n = line::put_call(&mut buffer, 0, handle, site, values, count);
+    show_front(buffer, n, output, from, total)
+}
+
+fn tell_refused(number: u8, output: &mut [u8], from: usize, total: usize) -> usize
+    requires { ⌜ total + 80 ≤ 1000000000 ⌝ }
+    ensures { λ r. ⌜ Shows (now (output .entry)) from total (textOf (refused number)) (now (output .exit)) r × (r ≤ total + 80) ⌝ }
+{
+    let mut buffer = [0u8; 80];
+    let n = line::put_refused(&mut buffer, 0, number);
+    show_front(buffer, n, output, from, total)
 }
 
 // Shows the line of a reply behind the first `total` bytes. Answers how many there are then.
@@ -59,7 +75,17 @@ pub fn tell(reply: Reply, values: [i32; 4], output: &mut [u8], from: usize, tota
     ensures { λ r. ⌜ Shows (now (output .entry)) from total (textOfAll (linesOf (reported reply values))) (now (output .exit)) r ⌝ }
     ensures { λ r. ⌜ r ≤ total + 80 ⌝ }
 {
-    let mut line = [0u8; 80];
-    let n = put_report(&mut line, reply, values);
-    show_front(line, n, output, from, total)
+    match reply {
+        Reply::Done => total,
+        Reply::Waits => total,
+        Reply::Published(v) => tell_publish(v, output, from, total),
+        Reply::Called(handle, site, count) => {
+            let n = at_most_four(count);
+            tell_call(handle, site, values, n, output, from, total)
+        }
+        Reply::Refused(refusal) => {
+            let number = number_of(refusal);
+            tell_refused(number, output, from, total)
+        }
+    }
 }

@@ -1,25 +1,95 @@
--- `report::tell` meets its contract. Assumes nothing.
+-- `report::tell` meets its contract: case by case. Assumes nothing.
+use mathlib.Core.List.{[]}
+use mir.Facts.{toZ-ofZ}
+use mir.Syntax.{w32}
+use mir.Val.{SFits}
 use borrow.Author.Needs.{needs}
 use native.Mathlib.Omega.{arith}
-use Rattle.lines.proofs.Showing.{shows-line, front-few, blank-line}
+use Rattle.lines.proofs.Showing.{shows-as, shows-none}
+use Rattle.lines.proofs.Telling.{tells-done, tells-waits, tells-publish, tells-call, tells-refusal}
 use Rattle.lines.proofs.report.tell.Statement.{statement}
 use Rattle.lines.proofs.report.tell.Tie as tie
 
-put-report-requires : tie.Need-put-report-requires
-put-report-requires c κs = search needs
+enum-told : tie.Need-enum-told
+enum-told c = search needs
 
-show-front-requires : tie.Need-show-front-requires
-show-front-requires c κs = (front-few (c .before .put-report .ensures), search needs)
+enum-told-2 : tie.Need-enum-told-2
+enum-told-2 c = search needs
+
+enum-known-reply : tie.Need-enum-known-reply
+enum-known-reply c = search needs
+
+tell-publish-requires : tie.Need-tell-publish-requires
+tell-publish-requires c κs = search needs
+
+enum-known-reply-2 : tie.Need-enum-known-reply-2
+enum-known-reply-2 c = search needs
+
+at-most-four-requires : tie.Need-at-most-four-requires
+at-most-four-requires c κs = search needs
+
+tell-call-requires : tie.Need-tell-call-requires
+tell-call-requires c κs = search needs
+
+enum-known-reply-3 : tie.Need-enum-known-reply-3
+enum-known-reply-3 c = search needs
+
+number-of-requires : tie.Need-number-of-requires
+number-of-requires c κs = search needs
+
+tell-refused-requires : tie.Need-tell-refused-requires
+tell-refused-requires c κs = search needs
+
+returns : tie.Need-returns
+returns c = (shows-as (tells-done _ _ (c .enum-told .given .1)) (shows-none _ _ _), omega arith)
+
+returns-2 : tie.Need-returns-2
+returns-2 c = (shows-as (tells-waits _ _ (c .enum-told2 .given .1)) (shows-none _ _ _), omega arith)
 
 same-length : tie.Need-same-length
 same-length c = search needs
 
-returns : tie.Need-returns
-returns c =
-    let line = shows-line (c .before .before .before .before .put-report .ensures) blank-line (c .before .before .show-front .ensures) in
-    let few = c .before .before .before .before .put-report .ensures .few in
-    let next = line .behind in
-    (line, omega arith)
+returns-3 : tie.Need-returns-3
+returns-3 c =
+    let fits : SFits w32 (c .before .before .before .before .before .reply .given .0 .0) = search needs in
+    let line = rw (toZ-ofZ fits) at (c .before .before .tell-publish .ensures) in
+    (shows-as (tells-publish _ _ _ (c .before .before .before .before .before .reply .given .1)) (line .0), line .1)
+
+same-length-2 : tie.Need-same-length-2
+same-length-2 c = search needs
+
+returns-4 : tie.Need-returns-4
+returns-4 c =
+    let line = c .before .before .tell-call .ensures in
+    (shows-as (tells-call _ _ _ _ _ _ (search needs) (c .before .before .before .before .before .before .reply2 .given .1) (c .before .before .before .before .at-most-four .ensures)) (line .0), line .1)
+
+same-length-3 : tie.Need-same-length-3
+same-length-3 c = search needs
+
+returns-5 : tie.Need-returns-5
+returns-5 c =
+    let line = c .before .before .tell-refused .ensures in
+    (shows-as (tells-refusal _ _ _ _ (c .before .before .before .before .before .before .reply3 .given .1) (c .before .before .before .before .number-of .ensures)) (line .0), line .1)
 
 pub tell-spec : {M : Type 1} → statement M
-tell-spec = tie.close (tie.spec put-report-requires show-front-requires same-length returns)
+tell-spec =
+    tie.close
+    (tie.spec
+    enum-told
+    enum-told-2
+    enum-known-reply
+    tell-publish-requires
+    enum-known-reply-2
+    at-most-four-requires
+    tell-call-requires
+    enum-known-reply-3
+    number-of-requires
+    tell-refused-requires
+    returns
+    returns-2
+    same-length
+    returns-3
+    same-length-2
+    returns-4
+    same-length-3
+    returns-5)
