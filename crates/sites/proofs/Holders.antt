@@ -35,20 +35,20 @@ use Rattle.sites.specs.Answering.{placeBelow, answeredBy, Answered}
 use Rattle.sites.proofs.Facts.{tokens-size, queue-room}
 
 -- a turn of the search
-module _ (h i : ℕ) (ts : List Token) (d : Token) (l : i < length ts) (so-far : holder h 0 ts ≡ holder h i (drop i ts)) where
-  turn : (b : Bool) → any (eqb h) (handleOf (getD ts i d .state)) ≡ b → holder h 0 ts ≡ elim b [ true ↦ places.At i | false ↦ holder h (suc i) (drop (suc i) ts) ]
+module _ (h i : ℕ) (ts : List Token) (d : Token) (l : i < length ts) {x : Place} (so-far : x ≡ holder h i (drop i ts)) where
+  turn : (b : Bool) → any (eqb h) (handleOf (getD ts i d .state)) ≡ b → x ≡ elim b [ true ↦ places.At i | false ↦ holder h (suc i) (drop (suc i) ts) ]
   unfolding holder
   turn b e = so-far ∙ ap (holder h i) (drop-cons ts i d l) ∙ rw (e, holder)
 
-  pub holder-found : any (eqb h) (handleOf (getD ts i d .state)) ≡ true → places.At i ≡ holder h 0 ts
-  holder-found e = sym (turn true e)
+  pub holder-found : any (eqb h) (handleOf (getD ts i d .state)) ≡ true → x ≡ places.At i
+  holder-found e = turn true e
 
-  pub holder-on : any (eqb h) (handleOf (getD ts i d .state)) ≡ false → holder h 0 ts ≡ holder h (i + 1) (drop (i + 1) ts)
+  pub holder-on : any (eqb h) (handleOf (getD ts i d .state)) ≡ false → x ≡ holder h (i + 1) (drop (i + 1) ts)
   holder-on e = turn false e ∙ ap (λ k. holder h k (drop k ts)) (sym (add-one i))
 
-pub holder-none : (h i : ℕ) (ts : List Token) → length ts ≤ i → holder h 0 ts ≡ holder h i (drop i ts) → places.Nowhere ≡ holder h 0 ts
+pub holder-none : (h i : ℕ) (ts : List Token) → length ts ≤ i → {x : Place} → x ≡ holder h i (drop i ts) → x ≡ places.Nowhere
 unfolding holder
-holder-none h i ts l e = sym (e ∙ ap (holder h i) (drop-of-length-le ts {i = i} l))
+holder-none h i ts l e = e ∙ ap (holder h i) (drop-of-length-le ts {i = i} l)
 
 -- the token under a handle is not ready
 open-waits : (h : ℕ) (s : State) → any (eqb h) (handleOf s) ≡ true → isReady s ≡ false

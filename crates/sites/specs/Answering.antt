@@ -2,7 +2,8 @@
 use mathlib.Core.Path.{_≡_}
 use mathlib.Core.Bool.{Bool, true, false}
 use mathlib.Core.List.{List}
-use Prim.Native.Nat.{ℕ}
+use Prim.Native.Nat.{ℕ, _<_}
+use lib.ListN.{drop}
 use lib.Dec.{ltb}
 use lib.IntN.{ℤ}
 use Rattle.job.specs.Node.{Dag}
@@ -17,10 +18,16 @@ use Rattle.model.specs.declared.token.Place.the-variants as places
 use Rattle.model.specs.declared.token.State.the-variants as states
 use Rattle.model.specs.declared.record.Machine.{Machine}
 use Rattle.record.specs.Holds.{Holds}
+use Rattle.record.specs.Words.{stateKind}
 
 -- a number as a place if it is below n
 unfoldable pub placeBelow : (n p : ℕ) → Place
 placeBelow n p = elim (ltb p n) [ true ↦ places.At p | false ↦ places.Nowhere ]
+
+-- no token from `from` on is called out before the place r, and the one there is, if r is a place
+pub record NextCalled (m : Machine) (from r : ℕ) : Type 0 where
+  pub passes : (h : ℕ) → holder h from (drop from (m .tokens)) ≡ holder h r (drop r (m .tokens))
+  pub called : r < 64 → stateKind (tokenAt (m .tokens) r .state) ≡ 3
 
 -- "An answer gives its token the value and makes it ready"; without a token the record stays as it is
 unfoldable pub answeredBy : Machine → ℤ → Place → Machine

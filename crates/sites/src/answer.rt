@@ -1,14 +1,10 @@
 // An answer to an outside call: "gives its token the value and makes it ready".
 ghost use mathlib.Core.Path.{_≡_};
 ghost use Prim.Native.Nat.{_≤_, _<_};
-ghost use lib.Dec.{eqb};
-ghost use Rattle.job.specs.Test.{any};
 ghost use Rattle.model.specs.Machine.Answer.{holder};
-ghost use Rattle.model.specs.Machine.Blank.{tokenAt};
-ghost use Rattle.model.specs.Machine.Rules.{handleOf};
 ghost use Rattle.model.specs.declared.record.Machine.{Machine};
 ghost use Rattle.record.specs.Holds.{Codes};
-ghost use Rattle.sites.specs.Answering.{placeBelow, Answered};
+ghost use Rattle.sites.specs.Answering.{placeBelow, NextCalled, Answered};
 use crate::number::bits;
 use model::record::Machine;
 use record::layout::CALLED_STATE;
@@ -16,27 +12,31 @@ use record::layout::READY_STATE;
 use record::order;
 use record::token;
 
-// Is the token at a place called out under the handle?
-fn is_open(w: &[u32; Machine::WORDS], p: usize, handle: u32) -> bool
-    requires { ⌜ p < 64 ⌝ }
-    ensures { λ r. ⌜ ((m : Machine) → Codes (now (w .entry)) m → r ≡ any (eqb handle) (handleOf (tokenAt (m .tokens) p .state))) ⌝ }
+// The first place from an index on whose token is called out, or 64.
+fn next_called(w: &[u32; Machine::WORDS], from: usize) -> usize
+    requires { ⌜ from ≤ 64 ⌝ }
+    ensures { λ r. ⌜ (from ≤ r) × (r ≤ 64) × ((m : Machine) → Codes (now (w .entry)) m → NextCalled m from r) ⌝ }
 {
-    if token::state(w, p) == CALLED_STATE {
-        return handle == token::state_number(w, p);
+    let mut p = from;
+    while p < Machine::TOKENS {
+        if token::state(w, p) == CALLED_STATE {
+            return p;
+        }
+        p += 1;
     }
-    false
+    p
 }
 
 // The place of the token that is called out under the handle, or 64.
 fn find_open(w: &[u32; Machine::WORDS], handle: u32) -> usize
     ensures { λ r. ⌜ (r ≤ 64) × ((m : Machine) → Codes (now (w .entry)) m → holder handle 0 (m .tokens) ≡ placeBelow 64 r) ⌝ }
 {
-    let mut p: usize = 0;
+    let mut p = next_called(w, 0);
     while p < Machine::TOKENS {
-        if is_open(w, p, handle) {
+        if handle == token::state_number(w, p) {
             return p;
         }
-        p += 1;
+        p = next_called(w, p + 1);
     }
     p
 }

@@ -1,60 +1,73 @@
--- The search passes only places that are not open, so the first open one is the holder's. Assumes nothing.
+-- `answer::find_open` meets its contract: the search passes only tokens that are not called out under the handle. Assumes nothing.
 use mathlib.Core.Path.{_≡_, refl, sym, _∙_}
-use borrow.Author.Needs.{needs}
+use Prim.Native.Nat.{_<_, _≤_, _-_}
 use native.Mathlib.Omega.{arith}
-use Prim.Native.Nat.{_≤_, _-_}
 use lib.ListN.{drop}
+use borrow.Author.Needs.{needs}
 use Rattle.model.specs.declared.record.Machine.{Machine}
-use Rattle.model.specs.Machine.Blank.{blankToken, tokenAt}
 use Rattle.model.specs.Machine.Answer.{holder}
+use Rattle.model.specs.Machine.Blank.{blankToken, tokenAt}
+use Rattle.job.proofs.Test.{eq-eqb, ne-eqb}
 use Rattle.record.specs.Holds.{Codes}
-use Rattle.sites.proofs.Holders.{holder-found, holder-on, holder-none, place-there, place-none}
+use Rattle.record.specs.Words.{stateKind}
+use Rattle.sites.proofs.Holders.{holder-found, holder-on, holder-none, open-called, place-there, place-none}
 use Rattle.sites.proofs.answer.find_open.Statement.{statement}
 use Rattle.sites.proofs.answer.find_open.Tie as tie
 
 abbrev Inv-loop : tie.InvT-loop
-Inv-loop w handle p₀ p = (p ≤ 64) × ((m : Machine) → Codes w m → holder handle 0 (m .tokens) ≡ holder handle p (drop p (m .tokens)))
+Inv-loop w handle p₀ p =
+    (p ≤ 64)
+    × ((m : Machine) → Codes w m
+    → (holder handle 0 (m .tokens) ≡ holder handle p (drop p (m .tokens))) × (p < 64 → stateKind (tokenAt (m .tokens) p .state) ≡ 3))
 
 abbrev μ-loop : tie.MeasureT-loop
 μ-loop w handle p₀ p = 64 - p
 
-loop-holds : tie.Need-loop-holds Inv-loop μ-loop
-loop-holds c = (search needs, λ m h. refl)
+next-called-requires : tie.Need-next-called-requires Inv-loop μ-loop
+next-called-requires c κs = search needs
 
-is-open-requires : tie.Need-is-open-requires Inv-loop μ-loop
-is-open-requires c κs = search needs
+loop-holds : tie.Need-loop-holds Inv-loop μ-loop
+loop-holds c = (c .next-called .ensures .1, λ m h. let n = c .next-called .ensures .2 m h in (n .passes _, n .called))
+
+state-number-requires : tie.Need-state-number-requires Inv-loop μ-loop
+state-number-requires c κs = search needs
 
 returns : tie.Need-returns Inv-loop μ-loop
 unfolding tokenAt
 returns c = (
   search needs,
   λ m h.
-      sym (holder-found (c .before .before .before .before .args .handle) (c .before .before .before .loop .p) (m .tokens) blankToken (omega (arith, h .shaped .tokens)) (c .before .before .before .loop .inv .1 m h)
-      (sym (c .before .is-open .ensures m h) ∙ c .if1 .taken))
+      holder-found _ (c .before .before .before .loop .p) (m .tokens) blankToken (omega (arith, h .shaped .tokens)) (c .before .before .before .loop .inv .1 m h .0)
+      (sym (open-called _ _ _ _ refl (c .before .state-number .ensures m h) (c .before .before .before .loop .inv .1 m h .1 (omega arith))) ∙ eq-eqb _ _ (c .if1 .taken))
       ∙ sym (place-there 64 (c .before .before .before .loop .p) (omega arith)),
 )
 
-add-p : tie.Need-add-p Inv-loop μ-loop
-add-p c = search needs
+add-next-called : tie.Need-add-next-called Inv-loop μ-loop
+add-next-called c = search needs
+
+next-called-requires-2 : tie.Need-next-called-requires-2 Inv-loop μ-loop
+next-called-requires-2 c κs = search needs
 
 loop-less : tie.Need-loop-less Inv-loop μ-loop
-loop-less c = search needs
+loop-less c = let l = c .next-called2 .ensures .0 in omega arith
 
 loop-again : tie.Need-loop-again Inv-loop μ-loop
 unfolding tokenAt
 loop-again c = (
-  search needs,
+  c .next-called2 .ensures .1,
   λ m h.
-      holder-on (c .before .before .before .before .args .handle) (c .before .before .before .loop .p) (m .tokens) blankToken (omega (arith, h .shaped .tokens)) (c .before .before .before .loop .inv .1 m h)
-      (sym (c .before .is-open .ensures m h) ∙ c .if1 .left),
+      let n = c .next-called2 .ensures .2 m h in
+      let on =
+      holder-on _ (c .before .before .before .before .loop .p) (m .tokens) blankToken (omega (arith, h .shaped .tokens)) (c .before .before .before .before .loop .inv .1 m h .0)
+      (sym (open-called _ _ _ _ refl (c .before .before .state-number .ensures m h) (c .before .before .before .before .loop .inv .1 m h .1 (omega arith))) ∙ ne-eqb _ _ (c .before .if1 .left)) in
+      (on ∙ n .passes _, n .called),
 )
 
 returns-2 : tie.Need-returns-2 Inv-loop μ-loop
 returns-2 c = (
   search needs,
   λ m h.
-      sym (holder-none (c .before .before .args .handle) (c .before .loop .p) (m .tokens) (omega (arith, h .shaped .tokens)) (c .before .loop .inv .1 m h))
-      ∙ sym (place-none 64 (c .before .loop .p) (omega arith)),
+      holder-none _ (c .before .loop .p) (m .tokens) (omega (arith, h .shaped .tokens)) (c .before .loop .inv .1 m h .0) ∙ sym (place-none 64 (c .before .loop .p) (omega arith)),
 )
 
 pub find-open-spec : {M : Type 1} → statement M
@@ -63,10 +76,12 @@ find-open-spec =
     (tie.spec
     Inv-loop
     μ-loop
+    next-called-requires
     loop-holds
-    is-open-requires
+    state-number-requires
     returns
-    add-p
+    add-next-called
+    next-called-requires-2
     loop-less
     loop-again
     returns-2)
