@@ -1,8 +1,4 @@
--- Laws of a run: its records and its turns one behind the other, and the parts of an input.
-pub mod Reached
-pub mod HouseTurns
-pub mod Going
-pub mod Lent
+-- Laws of a run: the parts of an input, and the pieces of an output.
 pub mod TableEnd
 pub mod Whole
 pub mod Pieces

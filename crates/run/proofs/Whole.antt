@@ -20,7 +20,8 @@ use Rattle.model.proofs.Machine.Started.{words-construct}
 use Rattle.job.proofs.DeclinedAt.{declined-at}
 use Rattle.loader.specs.Loaded.{loaded, loadedWords}
 use Rattle.loader.specs.declared.table.Loaded.the-variants.{Dag, Refused}
-use Rattle.run.specs.Input.{tableEnd, Accepted}
+use Rattle.run.specs.Input.{tableEnd}
+use Rattle.house.specs.Accepted.{Accepted}
 
 -- what was loaded is the reader's answer
 declined-of : (a : Answer) (n e : ℕ) → Refused n e ≡ loaded a → a ≡ declined n e

@@ -1,4 +1,3 @@
-// One run of a job, from the bytes of the input to the bytes that `orcrun` prints. Programs call `orcrun::orcrun`; the rest is private to it.
-mod house;
+// One run of a job, from the bytes of the input to the bytes that `orcrun` prints. Programs call `orcrun::orcrun`.
 mod input;
 pub mod orcrun;

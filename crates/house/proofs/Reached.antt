@@ -28,7 +28,7 @@ use Rattle.demand3.proofs.Reached.{paper-roomy}
 use Rattle.demand3.proofs.Runs.{InRun, start-in-run, call-in-run, in-run-rules}
 use Rattle.demand3.proofs.Framed.{in-run-framed}
 use Rattle.acts.specs.Acting.{Framed}
-use Rattle.run.specs.Input.{Accepted}
+use Rattle.house.specs.Accepted.{Accepted}
 
 module _ (words : List ℕ) (A : Accepted words) where
   abbrev d : Dag

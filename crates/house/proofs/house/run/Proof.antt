@@ -1,8 +1,8 @@
 -- `house::run` meets its contract: the words and marks that it lends are those of the start. Assumes nothing.
 use borrow.Author.Needs.{needs}
-use Rattle.run.proofs.Lent.{lawful-start}
-use Rattle.run.proofs.house.run.Statement.{statement}
-use Rattle.run.proofs.house.run.Tie as tie
+use Rattle.house.proofs.Lent.{lawful-start}
+use Rattle.house.proofs.house.run.Statement.{statement}
+use Rattle.house.proofs.house.run.Tie as tie
 
 whole-requires : tie.Need-whole-requires
 whole-requires c κs = search needs

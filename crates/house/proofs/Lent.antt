@@ -19,13 +19,13 @@ use Rattle.model.specs.declared.reply.Reply.{Reply}
 use Rattle.model.specs.declared.reply.Report.{Report}
 use Rattle.record.specs.Holds.{Codes, Holds}
 use Rattle.acts.specs.Acting.{Some, Lawful, Marks, Gives}
-use Rattle.run.specs.Input.{Accepted}
+use Rattle.house.specs.Accepted.{Accepted}
 use Rattle.lines.specs.Ending.{lastLines}
 use Rattle.lines.specs.Shown.{Shows}
 use Rattle.turns.specs.Turn.{isLast, isLimit, isOver, turnOutcome, nextAt, nextSteps, Turning}
-use Rattle.run.proofs.Reached.{started, reached-start, reached-rules, reached-framed}
-use Rattle.run.proofs.HouseTurns.{linesFrom}
-use Rattle.run.proofs.Going.{Going, going-begins, going-last, going-limit, going-there, going-ends, going-less, going-turns}
+use Rattle.house.proofs.Reached.{started, reached-start, reached-rules, reached-framed}
+use Rattle.house.proofs.HouseTurns.{linesFrom}
+use Rattle.house.proofs.Going.{Going, going-begins, going-last, going-limit, going-there, going-ends, going-less, going-turns}
 
 -- the words and marks of a start
 pub lawful-start : {ws : List ℕ} {used cells : List Bool} (dag : List ℕ) → Accepted dag → length dag ≡ 12331

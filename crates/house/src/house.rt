@@ -10,7 +10,7 @@ ghost use Rattle.model.specs.Machine.Limits.{paper};
 ghost use Rattle.model.specs.Machine.Start as Start;
 ghost use Rattle.acts.specs.Acting.{Lawful};
 ghost use Rattle.lines.specs.Shown.{Shows};
-ghost use Rattle.run.specs.Input.{Accepted};
+ghost use Rattle.house.specs.Accepted.{Accepted};
 use job::dag::WORDS;
 use job::wide::wide;
 use lines::ending::tell_end;

@@ -4,9 +4,9 @@ use native.Mathlib.Omega.{arith}
 use mathlib.Core.Path.{_≡_, refl}
 use Prim.Native.Nat.{_+_, _-_}
 use lib.ListN.{length}
-use Rattle.run.proofs.Lent.{Lent, lent-begins, lent-last, lent-limit, lent-turning, lent-ends, lent-less, lent-turns}
-use Rattle.run.proofs.house.run_turns.Statement.{statement}
-use Rattle.run.proofs.house.run_turns.Tie as tie
+use Rattle.house.proofs.Lent.{Lent, lent-begins, lent-last, lent-limit, lent-turning, lent-ends, lent-less, lent-turns}
+use Rattle.house.proofs.house.run_turns.Statement.{statement}
+use Rattle.house.proofs.house.run_turns.Tie as tie
 
 abbrev Inv-loop : tie.InvT-loop
 Inv-loop w₀ tokens₀ cells₀ rest dag output₀ from steps₀ at₀ total₀ w tokens cells output steps at total =

@@ -1,0 +1,2 @@
+-- What is known of a dag that was loaded.
+pub mod Accepted
