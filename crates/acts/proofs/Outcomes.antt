@@ -13,7 +13,8 @@ use Rattle.model.specs.Machine.Blank.{blankToken, tokenAt}
 use Rattle.model.specs.Machine.InUse.{tokensUsed, cellsUsed, sweep}
 use Rattle.model.specs.Machine.Limits.{paper}
 use Rattle.model.specs.Machine.Reply.{reportValues, accepted, outcome, unless, refuses}
-use Rattle.model.specs.Machine.Rules.{isReady, nodeRule, atNode}
+use Rattle.model.specs.Machine.Rules.{nodeRule, atNode}
+use Rattle.model.specs.Machine.State.{isReady}
 use Rattle.model.specs.Machine.Step as Step
 use Rattle.model.specs.Machine.Step.{act, takes}
 use Rattle.model.specs.declared.record.Machine.{Machine}

@@ -15,8 +15,9 @@ use Rattle.job.specs.Syntax.{Param}
 use Rattle.job.specs.Node.{Node, Dag, nodeAt, bodyAt, paramHolds, paramsHold, isNode, nodeHolds, bodyHolds, dagHolds}
 use Rattle.model.specs.Machine.Limits.{Limits}
 use Rattle.model.specs.Machine.Blank.{blankToken, tokenAt, cellAt, slotAt}
-use Rattle.model.specs.Machine.Active.{upward, within, isLive}
-use Rattle.model.specs.Machine.Rules.{isReady, isWaiting, heldInRange}
+use Rattle.model.specs.Machine.Active.{upward, within}
+use Rattle.model.specs.Machine.State.{isLive, isReady, isWaiting}
+use Rattle.model.specs.Machine.Rules.{heldInRange}
 use Rattle.model.specs.Machine.Reply.{Effect, unless}
 use Rattle.model.specs.Machine.Step as Step
 use Rattle.model.specs.Machine.Step.{LookedUp, values, unset, look, hasTokenPlace, hasCellPlace, tokenPlace}

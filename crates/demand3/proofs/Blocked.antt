@@ -6,8 +6,8 @@ use Prim.Native.Nat.{ℕ, suc, _<_}
 use lib.ListN.{length}
 use Rattle.job.specs.Node.{Dag, nodeAt, dagHolds}
 use Rattle.model.specs.Machine.Limits.{Limits}
-use Rattle.model.specs.Machine.Blank.{blankToken, tokenAt, isBlankState}
-use Rattle.model.specs.Machine.Active.{isLive}
+use Rattle.model.specs.Machine.Blank.{blankToken, tokenAt}
+use Rattle.model.specs.Machine.State.{isBlankState, isLive}
 use Rattle.model.specs.Machine.Rules.{nodeRule, atNode}
 use Rattle.model.specs.Machine.Step.{unset, look}
 use Rattle.model.specs.Machine.Reply.{isRefused}

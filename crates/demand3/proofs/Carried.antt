@@ -14,7 +14,8 @@ use Rattle.job.specs.Syntax.{Param}
 use Rattle.job.specs.Node.{Dag}
 use Rattle.model.specs.Machine.Limits.{Limits}
 use Rattle.model.specs.Machine.Blank.{empty, blankToken, tokenAt, slotAt, hasValue}
-use Rattle.model.specs.Machine.Active.{isSet, isLive}
+use Rattle.model.specs.Machine.Active.{isSet}
+use Rattle.model.specs.Machine.State.{isLive}
 use Rattle.model.specs.Machine.InUse.{tokensUsed, cellsUsed, sweep}
 use Rattle.model.specs.Machine.Places.{nextPlace}
 use Rattle.model.specs.Machine.Rules.{rulesHold}

@@ -11,8 +11,9 @@ use lib.IntN.{ℤ}
 use Rattle.job.specs.Site.{BuiltinReply, gives, silent, isBuiltin, builtin}
 use Rattle.job.specs.Node.{Node, Dag, nodeAt, nodeHolds}
 use Rattle.model.specs.Machine.Limits.{Limits}
-use Rattle.model.specs.Machine.Blank.{blankToken, tokenAt, isPlace, isBlankState}
-use Rattle.model.specs.Machine.Rules.{isReady, namesFrame, nodeRule, atNode, rulesHold}
+use Rattle.model.specs.Machine.Blank.{blankToken, tokenAt, isPlace}
+use Rattle.model.specs.Machine.State.{isBlankState, isReady}
+use Rattle.model.specs.Machine.Rules.{namesFrame, nodeRule, atNode, rulesHold}
 use Rattle.model.specs.Machine.Reply.{Effect, moves, waits, publishes, calls, refuses, unless, accepted, outcome}
 use Rattle.model.specs.Machine.Step as Step
 use Rattle.model.specs.Machine.Step.{LookedUp, values, unset, act, takes}

@@ -14,9 +14,9 @@ use Rattle.job.specs.Number.{Signed32}
 use Rattle.job.specs.Node.{Dag, nodeAt, dagHolds}
 use Rattle.model.specs.Machine.Limits.{Limits, limits, paper}
 use Rattle.model.specs.Machine.Blank.{blankToken, tokenAt}
-use Rattle.model.specs.Machine.Active.{isLive}
+use Rattle.model.specs.Machine.State.{isLive, isReady, isWaiting}
 use Rattle.model.specs.Machine.InUse.{tokensUsed, cellsUsed, sweep}
-use Rattle.model.specs.Machine.Rules.{isReady, isWaiting, heldInRange, placeInRange, rulesHold}
+use Rattle.model.specs.Machine.Rules.{heldInRange, placeInRange, rulesHold}
 use Rattle.model.specs.Machine.Reply.{Effect, moves, waits, publishes, calls, refuses, isRefused}
 use Rattle.model.specs.Machine.Start.{startToken, startMachine}
 use Rattle.model.specs.Machine.Step as Step

@@ -11,7 +11,8 @@ use lib.Seq.{getD-set-same, getD-set-other, ext-getD}
 use Rattle.job.specs.Node.{Dag}
 use Rattle.model.specs.Machine.Limits.{Limits}
 use Rattle.model.specs.Machine.Blank.{blankToken, blankCell, tokenAt, cellAt, slotAt}
-use Rattle.model.specs.Machine.Active.{underSet, isLive, isActive}
+use Rattle.model.specs.Machine.Active.{underSet, isActive}
+use Rattle.model.specs.Machine.State.{isLive}
 use Rattle.model.specs.Machine.InUse.{tokensUsed, cellsUsed, restBlanked, sweep}
 use Rattle.model.specs.Machine.Rules.{rulesHold}
 use Rattle.model.specs.Machine.Step.{put, withTables}

@@ -16,11 +16,12 @@ use Rattle.job.specs.Syntax.{Param}
 use Rattle.job.specs.Node.{Node, Dag, nodeAt, isNode, dagHolds}
 use Rattle.job.specs.WellFormed.{GoodParam}
 use Rattle.model.specs.Machine.Limits.{Limits}
-use Rattle.model.specs.Machine.Blank.{empty, blankToken, blankCell, tokenAt, cellAt, slotAt, isBound, hasValue, isPlace, isBlankState}
-use Rattle.model.specs.Machine.Active.{isSet, underSet, isLive}
+use Rattle.model.specs.Machine.Blank.{empty, blankToken, blankCell, tokenAt, cellAt, slotAt, isBound, hasValue, isPlace}
+use Rattle.model.specs.Machine.State.{isBlankState, isLive, isReady, isFrame, handleOf}
+use Rattle.model.specs.Machine.Active.{isSet, underSet}
 use Rattle.model.specs.Machine.InUse.{tokensUsed, cellsUsed}
-use Rattle.model.specs.Machine.Rules.{heldInRange, placeInRange, slotInRange, stateInRange, tokenInRange, cellInRange, sizesInRange, isReady}
-use Rattle.model.specs.Machine.Rules.{isFrame, chainEnds, chainsEnd, notUnderSet, handleOf, openHandles, waitsAtUnset, namesFrame}
+use Rattle.model.specs.Machine.Rules.{heldInRange, placeInRange, slotInRange, stateInRange, tokenInRange, cellInRange, sizesInRange}
+use Rattle.model.specs.Machine.Rules.{chainEnds, chainsEnd, notUnderSet, openHandles, waitsAtUnset, namesFrame}
 use Rattle.model.specs.Machine.Rules.{notEmpty, valueIfReady, nodeRule, atNode, machineHolds, rulesHold}
 use Rattle.model.specs.declared.token.Slot.{Slot}
 use Rattle.model.specs.declared.token.Slot.the-variants as slots

@@ -13,7 +13,8 @@ use Rattle.job.specs.Test.{_or_, any, count, once, differ}
 use Rattle.job.specs.Node.{Dag}
 use Rattle.model.specs.Machine.Limits.{Limits}
 use Rattle.model.specs.Machine.Blank.{tokenAt}
-use Rattle.model.specs.Machine.Rules.{isReady, handleOf, openHandles, rulesHold}
+use Rattle.model.specs.Machine.Rules.{openHandles, rulesHold}
+use Rattle.model.specs.Machine.State.{isReady, handleOf}
 use Rattle.model.specs.Machine.Answer.{holder}
 use Rattle.model.specs.declared.token.Held.{Held}
 use Rattle.model.specs.declared.token.Place.{Place}

@@ -12,9 +12,10 @@ use lib.Seq.{getD-set-other}
 use Rattle.job.specs.Test.{all}
 use Rattle.job.specs.Node.{Dag}
 use Rattle.model.specs.Machine.Limits.{Limits}
-use Rattle.model.specs.Machine.Blank.{empty, blankToken, blankCell, tokenAt, cellAt, slotAt, isBound, hasValue, isPlace, isBlankState}
+use Rattle.model.specs.Machine.Blank.{empty, blankToken, blankCell, tokenAt, cellAt, slotAt, isBound, hasValue, isPlace}
+use Rattle.model.specs.Machine.State.{isBlankState, isLive}
 use Rattle.model.specs.Machine.Blank.{tokenIsBlank, cellIsBlank}
-use Rattle.model.specs.Machine.Active.{isSet, underSet, isLive, isActive}
+use Rattle.model.specs.Machine.Active.{isSet, underSet, isActive}
 use Rattle.model.specs.Machine.InUse.{tokensUsed, cellsUsed, sweep}
 use Rattle.model.specs.Machine.Rules.{tokenInRange, restIsBlank, rulesHold}
 use Rattle.model.specs.Machine.Step.{withTables}

@@ -8,8 +8,9 @@ use Prim.Native.Nat.{ℕ, _<_}
 use native.Mathlib.Decide.{ℕ-discrete}
 use native.Mathlib.Omega.{arith}
 use lib.ListN.{length}
-use Rattle.model.specs.Machine.Blank.{tokenAt, cellAt, slotAt, isBlankState}
-use Rattle.model.specs.Machine.Active.{isLive, isActive}
+use Rattle.model.specs.Machine.Blank.{tokenAt, cellAt, slotAt}
+use Rattle.model.specs.Machine.State.{isBlankState, isLive}
+use Rattle.model.specs.Machine.Active.{isActive}
 use Rattle.model.specs.declared.token.Slot.{Slot}
 use Rattle.model.specs.declared.token.Slot.the-variants as slots
 use Rattle.model.specs.declared.token.Bind.{Bind}

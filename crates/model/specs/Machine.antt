@@ -1,5 +1,6 @@
 -- "One step", the index rules and the refusals 9 to 14.
 pub mod Limits
+pub mod State
 pub mod Blank
 pub mod Active
 pub mod InUse

@@ -11,8 +11,8 @@ use lib.Dec.{eqb}
 use Rattle.job.specs.Test.{filter, padded}
 use Rattle.model.specs.Machine.Blank.{blankToken, blankCell, tokenAt, cellAt}
 use Rattle.model.specs.Machine.Active.{upward, within}
-use Rattle.model.specs.Machine.Rules.{isReady, isWaiting}
-use Rattle.model.specs.Machine.Step.{withState, waitsAt, chokeToken, choked, withTables, withOrders, queueOf, waitsOf, put, enqueue}
+use Rattle.model.specs.Machine.State.{isReady, isWaiting, waitsAt}
+use Rattle.model.specs.Machine.Step.{withState, chokeToken, choked, withTables, withOrders, queueOf, waitsOf, put, enqueue}
 use Rattle.model.specs.declared.token.Held.{Held}
 use Rattle.model.specs.declared.token.Place.{Place}
 use Rattle.model.specs.declared.token.Place.the-variants as places

@@ -4,7 +4,7 @@ use Prim.Native.Nat.{ℕ, _+_, _<_, _≤_}
 use lib.ListN.{take, drop}
 use Rattle.job.specs.Test.{filter}
 use Rattle.model.specs.Machine.Blank.{tokenAt}
-use Rattle.model.specs.Machine.Rules.{isReady, isWaiting}
+use Rattle.model.specs.Machine.State.{isReady, isWaiting}
 use Rattle.model.specs.Machine.Step.{withTables, withOrders, queueOf, waitsOf, chokeToken}
 use Rattle.model.specs.declared.record.Machine.{Machine}
 

@@ -7,7 +7,8 @@ use mathlib.Core.List.{List}
 use Prim.Native.Nat.{ℕ, zero, suc, _+_, _-_, _≤_, _<_}
 use native.Mathlib.Omega.{arith}
 use lib.ListN.{length}
-use Rattle.model.specs.Machine.Active.{isSet, upward, underSet, isLive, isActive}
+use Rattle.model.specs.Machine.Active.{isSet, upward, underSet, isActive}
+use Rattle.model.specs.Machine.State.{isLive}
 use Rattle.model.specs.Machine.Blank.{cellAt, hasValue}
 use Rattle.model.specs.declared.cell.Cell.{Cell}
 use Rattle.model.specs.declared.token.Held.{Held}

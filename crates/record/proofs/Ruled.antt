@@ -11,7 +11,8 @@ use lib.Seq.{length-take-le}
 use Rattle.job.specs.Test.{_and_, all, padded}
 use Rattle.job.specs.Node.{Dag}
 use Rattle.model.specs.Machine.Limits.{Limits}
-use Rattle.model.specs.Machine.Rules.{isReady, isWaiting, namesOnce, rulesHold}
+use Rattle.model.specs.Machine.Rules.{namesOnce, rulesHold}
+use Rattle.model.specs.Machine.State.{isReady, isWaiting}
 use Rattle.model.specs.Machine.Step.{queueOf, waitsOf}
 use Rattle.model.specs.declared.token.State.{State}
 use Rattle.model.specs.declared.token.Token.{Token}

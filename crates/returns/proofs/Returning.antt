@@ -7,11 +7,11 @@ use Prim.Native.Nat.{ℕ, _<_}
 use native.Mathlib.Omega.{arith}
 use lib.ListN.{length, set}
 use Rattle.job.specs.Words.{dagOf}
-use Rattle.model.specs.Machine.Active.{isLive}
+use Rattle.model.specs.Machine.State.{isLive, isFrame}
 use Rattle.model.specs.Machine.Blank.{tokenAt}
 use Rattle.model.specs.Machine.InUse.{tokensUsed, cellsUsed, sweep}
 use Rattle.model.specs.Machine.Limits.{paper}
-use Rattle.model.specs.Machine.Rules.{isFrame, namesFrame, nodeRule}
+use Rattle.model.specs.Machine.Rules.{namesFrame, nodeRule}
 use Rattle.model.specs.Machine.Step.{withTables, withOrders, withValue, withState, put, enqueue}
 use Rattle.model.specs.declared.record.Machine.{Machine}
 use Rattle.model.specs.declared.token.Place.the-variants as places

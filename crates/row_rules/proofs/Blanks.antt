@@ -11,7 +11,8 @@ use Rattle.model.specs.declared.token.Held.the-variants as helds
 use Rattle.model.specs.declared.token.Place.the-variants as places
 use Rattle.model.specs.declared.token.State.the-variants as states
 use Rattle.job.specs.Test.{_and_, all}
-use Rattle.model.specs.Machine.Blank.{empty, slotAt, isBlankState, isBound, isPlace, hasValue, tokenIsBlank}
+use Rattle.model.specs.Machine.Blank.{empty, slotAt, isBound, isPlace, hasValue, tokenIsBlank}
+use Rattle.model.specs.Machine.State.{isBlankState}
 use Rattle.model.specs.declared.token.Slot.{Slot}
 use Rattle.model.specs.declared.token.Bind.{Bind}
 use Rattle.model.specs.declared.token.Held.{Held}

@@ -10,7 +10,8 @@ use Rattle.model.specs.declared.token.Place.the-variants as places
 use Rattle.model.specs.declared.token.State.the-variants as states
 use Rattle.job.specs.Test.{_and_}
 use Rattle.model.specs.Machine.Blank.{cellAt, blankCell, hasValue, isPlace}
-use Rattle.model.specs.Machine.Active.{isSet, upward, underSet, isLive}
+use Rattle.model.specs.Machine.Active.{isSet, upward, underSet}
+use Rattle.model.specs.Machine.State.{isLive}
 use Rattle.model.specs.Machine.Rules.{chainEnds, notUnderSet, waitsAtUnset}
 use Rattle.model.specs.declared.token.Place.{Place}
 use Rattle.model.specs.declared.token.State.{State}

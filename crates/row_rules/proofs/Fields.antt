@@ -12,8 +12,9 @@ use Rattle.model.specs.declared.token.Held.the-variants as helds
 use Rattle.model.specs.declared.token.Place.the-variants as places
 use Rattle.model.specs.declared.token.State.the-variants as states
 use Rattle.job.specs.Number.{fits}
-use Rattle.model.specs.Machine.Blank.{isBlankState, isBound, isPlace, hasValue}
-use Rattle.model.specs.Machine.Rules.{isReady, isWaiting, isFrame, placeInRange, slotInRange, stateInRange}
+use Rattle.model.specs.Machine.Blank.{isBound, isPlace, hasValue}
+use Rattle.model.specs.Machine.State.{isBlankState, isReady, isWaiting, isFrame}
+use Rattle.model.specs.Machine.Rules.{placeInRange, slotInRange, stateInRange}
 use Rattle.model.specs.declared.token.Slot.{Slot}
 use Rattle.model.specs.declared.token.Held.{Held}
 use Rattle.model.specs.declared.token.Place.{Place}

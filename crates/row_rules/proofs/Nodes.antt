@@ -12,7 +12,8 @@ use Rattle.job.specs.Test.{_and_, all}
 use Rattle.job.specs.Node.{dagHolds, nodeAt}
 use Rattle.job.specs.Words.{nodeBy, paramOf, paramsFrom, dagOf}
 use Rattle.model.specs.Machine.Blank.{empty, blankToken, slotAt, tokenAt, isBound}
-use Rattle.model.specs.Machine.Rules.{isFrame, namesFrame, notEmpty, nodeRule, atNode}
+use Rattle.model.specs.Machine.Rules.{namesFrame, notEmpty, nodeRule, atNode}
+use Rattle.model.specs.Machine.State.{isFrame}
 use Rattle.model.specs.declared.token.Bind.{Bind}
 use Rattle.model.specs.declared.token.Place.{Place}
 use Rattle.model.specs.declared.token.Token.{Token}

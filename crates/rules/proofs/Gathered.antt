@@ -10,7 +10,8 @@ use lib.Seq.{take-suc, take-suc-set, take-set-le}
 use lib.Dec.{eqb}
 use Rattle.model.specs.declared.token.State.the-variants as states
 use Rattle.job.specs.Test.{_and_, _or_, all, any, differ}
-use Rattle.model.specs.Machine.Rules.{handleOf, openHandles}
+use Rattle.model.specs.Machine.Rules.{openHandles}
+use Rattle.model.specs.Machine.State.{handleOf}
 use Rattle.model.specs.declared.token.State.{State}
 use Rattle.model.specs.declared.token.Token.{Token}
 use Rattle.record.specs.Words.{stateKind, stateNumber}

@@ -9,7 +9,8 @@ use Rattle.job.specs.Node.{Dag, dagHolds}
 use Rattle.model.specs.Machine.Limits.{paper}
 use Rattle.model.specs.Machine.Blank.{tokenIsBlank, cellIsBlank}
 use Rattle.model.specs.Machine.InUse.{tokensUsed, cellsUsed}
-use Rattle.model.specs.Machine.Rules.{isReady, isWaiting, sizesInRange, tokenInRange, cellInRange, machineHolds, rulesHold}
+use Rattle.model.specs.Machine.Rules.{sizesInRange, tokenInRange, cellInRange, machineHolds, rulesHold}
+use Rattle.model.specs.Machine.State.{isReady, isWaiting}
 use Rattle.model.specs.Machine.Rules.{namesOnce, chainEnds, chainsEnd, notUnderSet, openHandles, waitsAtUnset, atNode, restIsBlank}
 use Rattle.model.specs.declared.token.Token.{Token}
 use Rattle.model.specs.declared.cell.Cell.{Cell}

@@ -13,8 +13,8 @@ use Rattle.model.specs.declared.token.State.the-variants as states
 use Rattle.job.specs.Test.{_and_, all}
 use Rattle.job.specs.Node.{Dag, isNode, dagHolds}
 use Rattle.model.specs.Machine.Limits.{paper}
-use Rattle.model.specs.Machine.Blank.{isBound, hasValue, isPlace, isBlankState, tokenIsBlank, cellIsBlank}
-use Rattle.model.specs.Machine.Active.{isLive}
+use Rattle.model.specs.Machine.Blank.{isBound, hasValue, isPlace, tokenIsBlank, cellIsBlank}
+use Rattle.model.specs.Machine.State.{isBlankState, isLive}
 use Rattle.model.specs.Machine.Rules.{heldInRange, placeInRange, slotInRange, stateInRange, tokenInRange}
 use Rattle.model.specs.Machine.Rules.{cellInRange, atNode, notUnderSet, waitsAtUnset, chainEnds}
 use Rattle.model.specs.declared.token.Slot.{Slot}

@@ -13,7 +13,8 @@ use Rattle.job.specs.Node.{Dag, isNode}
 use Rattle.model.specs.Machine.Limits.{paper}
 use Rattle.model.specs.Machine.Blank.{blankToken, tokenAt}
 use Rattle.model.specs.Machine.Rules as rules
-use Rattle.model.specs.Machine.Rules.{isReady, isWaiting, rulesHold, tokenInRange, cellInRange, sizesInRange}
+use Rattle.model.specs.Machine.Rules.{rulesHold, tokenInRange, cellInRange, sizesInRange}
+use Rattle.model.specs.Machine.State.{isReady, isWaiting}
 use Rattle.model.specs.declared.token.State.{State}
 use Rattle.model.specs.declared.token.State.the-variants as states
 use Rattle.model.specs.declared.cell.Cell.{Cell}

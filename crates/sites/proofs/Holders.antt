@@ -15,7 +15,8 @@ use Rattle.job.specs.Test.{any, _or_}
 use Rattle.job.specs.Node.{Dag}
 use Rattle.model.specs.Machine.Limits.{paper}
 use Rattle.model.specs.Machine.Blank.{blankToken, tokenAt, isPlace}
-use Rattle.model.specs.Machine.Rules.{isReady, handleOf, rulesHold}
+use Rattle.model.specs.Machine.Rules.{rulesHold}
+use Rattle.model.specs.Machine.State.{isReady, handleOf}
 use Rattle.model.specs.Machine.Reply.{refuses, moves}
 use Rattle.model.specs.Machine.Step.{withValue, withState, put, enqueue}
 use Rattle.model.specs.Machine.Answer.{holder, answered}

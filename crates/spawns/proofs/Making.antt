@@ -12,7 +12,7 @@ use Rattle.model.specs.Machine.InUse.{tokensUsed}
 use Rattle.model.specs.Machine.Limits.{paper}
 use Rattle.model.specs.Machine.Places.{nextPlace}
 use Rattle.model.specs.Machine.Reply.{accepted}
-use Rattle.model.specs.Machine.Rules.{isReady}
+use Rattle.model.specs.Machine.State.{isReady}
 use Rattle.model.specs.Machine.Step as Step
 use Rattle.model.specs.Machine.Step.{withNode, withState, withBinding, inCell, put, enqueue, newToken, newCell, hasTokenPlace}
 use Rattle.model.specs.declared.record.Machine.{Machine}

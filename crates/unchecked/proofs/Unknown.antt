@@ -9,7 +9,8 @@ use Rattle.job.specs.Node.{Dag}
 use Rattle.job.specs.Test.{_or_, all, any}
 use Rattle.model.specs.Machine.Answer.{holder}
 use Rattle.model.specs.Machine.Limits.{paper}
-use Rattle.model.specs.Machine.Rules.{handleOf, stateInRange, tokenInRange, rulesHold}
+use Rattle.model.specs.Machine.Rules.{stateInRange, tokenInRange, rulesHold}
+use Rattle.model.specs.Machine.State.{handleOf}
 use Rattle.model.specs.declared.record.Machine.{Machine}
 use Rattle.model.specs.declared.token.Place.the-variants as places
 use Rattle.model.specs.declared.token.State.{State}

@@ -10,8 +10,9 @@ use lib.ListN.{length, getD, replicate}
 use Rattle.job.specs.Test.{_and_, all}
 use Rattle.model.specs.Machine.Limits.{Limits}
 use Rattle.model.specs.Machine.Blank.{blankToken, blankCell, tokenAt, cellAt, slotAt, isBound}
-use Rattle.model.specs.Machine.Blank.{hasValue, isPlace, isBlankState, tokenIsBlank, cellIsBlank}
-use Rattle.model.specs.Machine.Active.{isSet, upward, underSet, isLive, isActive}
+use Rattle.model.specs.Machine.Blank.{hasValue, isPlace, tokenIsBlank, cellIsBlank}
+use Rattle.model.specs.Machine.State.{isBlankState, isLive}
+use Rattle.model.specs.Machine.Active.{isSet, upward, underSet, isActive}
 use Rattle.model.specs.Machine.InUse.{tokensUsed, cellsUsed, sweep}
 use Rattle.model.specs.Machine.Rules.{restIsBlank}
 use Rattle.model.specs.Machine.Start.{startToken, startMachine}

@@ -13,9 +13,9 @@ use Rattle.job.specs.Test.{padded, count, once}
 use Rattle.job.specs.Node.{Dag}
 use Rattle.model.specs.Machine.Limits.{Limits}
 use Rattle.model.specs.Machine.Blank.{blankToken, blankCell, tokenAt, cellAt}
-use Rattle.model.specs.Machine.Active.{isLive}
+use Rattle.model.specs.Machine.State.{isLive, isReady, isWaiting}
 use Rattle.model.specs.Machine.InUse.{tokensUsed, cellsUsed, restBlanked, sweep}
-use Rattle.model.specs.Machine.Rules.{isReady, isWaiting, heldInRange}
+use Rattle.model.specs.Machine.Rules.{heldInRange}
 use Rattle.model.specs.Machine.Start.{startToken, startMachine}
 use Rattle.model.specs.declared.token.State.{State}
 use Rattle.model.specs.declared.token.State.the-variants as states

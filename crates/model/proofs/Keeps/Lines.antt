@@ -13,8 +13,9 @@ use Rattle.job.specs.Test.{all, allFrom, filter, padded, count, once, without}
 use Rattle.model.specs.Machine.Blank.{blankToken, tokenAt}
 use Rattle.model.specs.Machine.Active.{within}
 use Rattle.model.specs.Machine.InUse.{marked}
-use Rattle.model.specs.Machine.Rules.{isReady, isWaiting, namesOnce}
-use Rattle.model.specs.Machine.Step.{withState, waitsAt, chokeToken}
+use Rattle.model.specs.Machine.Rules.{namesOnce}
+use Rattle.model.specs.Machine.State.{isReady, isWaiting, waitsAt}
+use Rattle.model.specs.Machine.Step.{withState, chokeToken}
 use Rattle.model.specs.declared.token.State.{State}
 use Rattle.model.specs.declared.token.State.the-variants as states
 use Rattle.model.specs.declared.token.Token.{Token}

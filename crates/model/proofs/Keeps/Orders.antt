@@ -7,7 +7,8 @@ use Prim.Native.Nat.{ℕ}
 use lib.ListN.{length, take, length-set}
 use lib.Seq.{take-append-seam}
 use Rattle.job.specs.Test.{padded}
-use Rattle.model.specs.Machine.Rules.{isReady, isWaiting, namesOnce}
+use Rattle.model.specs.Machine.Rules.{namesOnce}
+use Rattle.model.specs.Machine.State.{isReady, isWaiting}
 use Rattle.model.specs.Machine.Step.{withTables, withOrders, withCounts, queueOf, waitsOf, put, enqueue, newToken, newCell}
 use Rattle.model.specs.declared.token.Token.{Token}
 use Rattle.model.specs.declared.cell.Cell.{Cell}

@@ -11,7 +11,8 @@ use lib.Seq.{getD-set-same}
 use Rattle.job.specs.Node.{Dag}
 use Rattle.model.specs.Machine.Limits.{Limits}
 use Rattle.model.specs.Machine.Blank.{blankToken, blankCell, blankMachine, tokenAt}
-use Rattle.model.specs.Machine.Active.{isLive, isActive, underSet, upward}
+use Rattle.model.specs.Machine.Active.{isActive, underSet, upward}
+use Rattle.model.specs.Machine.State.{isLive}
 use Rattle.model.specs.Machine.InUse.{tokensUsed, cellsUsed, marked}
 use Rattle.model.specs.Machine.Start.{start, startToken, startMachine}
 use Rattle.model.specs.declared.token.Place.the-variants as places

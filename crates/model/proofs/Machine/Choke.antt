@@ -6,7 +6,8 @@ use Prim.Native.Nat.{ℕ}
 use lib.ListN.{getD, List·getD-map}
 use Rattle.model.specs.Machine.Blank.{blankToken, tokenAt}
 use Rattle.model.specs.Machine.Active.{within}
-use Rattle.model.specs.Machine.Step.{waitsAt, chokeToken}
+use Rattle.model.specs.Machine.Step.{chokeToken}
+use Rattle.model.specs.Machine.State.{waitsAt}
 use Rattle.model.specs.declared.token.Place.the-variants as places
 use Rattle.model.specs.declared.token.Token.{Token}
 use Rattle.model.specs.declared.cell.Cell.{Cell}

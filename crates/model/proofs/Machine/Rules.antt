@@ -12,10 +12,10 @@ use Rattle.job.specs.Test.{_and_, all, allFrom, count, once, differ}
 use Rattle.job.specs.Node.{Dag, dagHolds}
 use Rattle.model.specs.Machine.Limits.{Limits}
 use Rattle.model.specs.Machine.Blank.{blankToken, tokenAt, tokenIsBlank, cellIsBlank}
-use Rattle.model.specs.Machine.Active.{isLive}
+use Rattle.model.specs.Machine.State.{isLive, isReady, isWaiting}
 use Rattle.model.specs.Machine.InUse.{tokensUsed, cellsUsed}
 use Rattle.model.specs.Machine.Rules as rules
-use Rattle.model.specs.Machine.Rules.{isReady, isWaiting, namesOnce, restIsBlank, machineHolds, rulesHold}
+use Rattle.model.specs.Machine.Rules.{namesOnce, restIsBlank, machineHolds, rulesHold}
 use Rattle.model.specs.declared.token.State.{State}
 use Rattle.model.specs.declared.token.State.the-variants as states
 use Rattle.model.specs.declared.token.Token.{Token}

@@ -10,7 +10,8 @@ use lib.ListN.{length}
 use Rattle.job.specs.Node.{Dag}
 use Rattle.model.specs.Machine.Limits.{Limits}
 use Rattle.model.specs.Machine.Blank.{blankToken, tokenAt, cellAt}
-use Rattle.model.specs.Machine.Active.{isLive, isActive, underSet}
+use Rattle.model.specs.Machine.Active.{isActive, underSet}
+use Rattle.model.specs.Machine.State.{isLive}
 use Rattle.model.specs.Machine.InUse.{tokensUsed, cellsUsed, marked, sweep}
 use Rattle.model.specs.Machine.Rules.{notUnderSet}
 use Rattle.model.specs.Machine.Step.{hasTokenPlace, hasCellPlace}

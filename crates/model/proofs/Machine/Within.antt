@@ -12,9 +12,8 @@ use Rattle.job.specs.Test.{any, without}
 use Rattle.job.specs.Node.{Dag, nodeAt}
 use Rattle.model.specs.Machine.Limits.{Limits}
 use Rattle.model.specs.Machine.Blank.{tokenAt}
-use Rattle.model.specs.Machine.Active.{isLive}
+use Rattle.model.specs.Machine.State.{isLive, isReady, handleOf}
 use Rattle.model.specs.Machine.InUse.{sweep}
-use Rattle.model.specs.Machine.Rules.{isReady, handleOf}
 use Rattle.model.specs.Machine.Reply.{isRefused}
 use Rattle.model.specs.Machine.Step as Step
 use Rattle.model.specs.Machine.Step.{queueOf, waitsOf, takes, step}

@@ -11,8 +11,9 @@ use lib.Seq.{getD-drop}
 use lib.IntN.{ℤ}
 use Rattle.job.specs.Syntax.{Param, variable, constant}
 use Rattle.model.specs.Machine.Blank.{empty, unbound, blankToken, slotAt}
-use Rattle.model.specs.Machine.Active.{isLive, within}
-use Rattle.model.specs.Machine.Step.{withBinding, withState, passed, formalsBound, waitsAt, chokeToken}
+use Rattle.model.specs.Machine.Active.{within}
+use Rattle.model.specs.Machine.State.{isLive, waitsAt}
+use Rattle.model.specs.Machine.Step.{withBinding, withState, passed, formalsBound, chokeToken}
 use Rattle.model.specs.declared.token.Slot.{Slot}
 use Rattle.model.specs.declared.token.Slot.the-variants as slots
 use Rattle.model.specs.declared.token.Bind.{Bind}

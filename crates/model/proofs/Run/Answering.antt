@@ -14,7 +14,7 @@ use Rattle.job.specs.Test.{any}
 use Rattle.job.specs.Node.{Dag}
 use Rattle.model.specs.Machine.Limits.{Limits}
 use Rattle.model.specs.Machine.Blank.{blankToken, tokenAt}
-use Rattle.model.specs.Machine.Rules.{handleOf, isReady}
+use Rattle.model.specs.Machine.State.{handleOf, isReady}
 use Rattle.model.specs.Machine.Reply.{Effect, isRefused}
 use Rattle.model.specs.Machine.Step.{queueOf}
 use Rattle.model.specs.Machine.Answer.{holder, answered, answer}

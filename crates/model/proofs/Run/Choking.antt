@@ -8,8 +8,8 @@ use lib.ListN.{length, getD, set}
 use Rattle.job.specs.Test.{filter}
 use Rattle.model.specs.Machine.Blank.{blankToken, tokenAt, cellAt}
 use Rattle.model.specs.Machine.Active.{within}
-use Rattle.model.specs.Machine.Rules.{isReady}
-use Rattle.model.specs.Machine.Step.{withTables, queueOf, waitsOf, waitsAt, chokeToken, choked}
+use Rattle.model.specs.Machine.State.{isReady, waitsAt}
+use Rattle.model.specs.Machine.Step.{withTables, queueOf, waitsOf, chokeToken, choked}
 use Rattle.model.specs.declared.token.Held.{Held}
 use Rattle.model.specs.declared.token.State.{State}
 use Rattle.model.specs.declared.token.State.the-variants as states

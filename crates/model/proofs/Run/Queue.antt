@@ -11,8 +11,9 @@ use Rattle.job.specs.Test.{count, once}
 use Rattle.job.specs.Node.{Dag}
 use Rattle.model.specs.Machine.Limits.{Limits}
 use Rattle.model.specs.Machine.Blank.{blankToken, tokenAt}
-use Rattle.model.specs.Machine.Active.{underSet, isLive}
-use Rattle.model.specs.Machine.Rules.{isReady, notUnderSet, sizesInRange, rulesHold}
+use Rattle.model.specs.Machine.Active.{underSet}
+use Rattle.model.specs.Machine.State.{isLive, isReady}
+use Rattle.model.specs.Machine.Rules.{notUnderSet, sizesInRange, rulesHold}
 use Rattle.model.specs.Run.Follow.{queuedToken}
 use Rattle.model.specs.declared.token.State.{State}
 use Rattle.model.specs.declared.token.State.the-variants as states

@@ -9,7 +9,7 @@ use lib.IntN.{ℤ}
 use Rattle.job.specs.Node.{Node, Dag, bodyAt}
 use Rattle.model.specs.Machine.Limits.{Limits}
 use Rattle.model.specs.Machine.Blank.{tokenAt}
-use Rattle.model.specs.Machine.Active.{isLive}
+use Rattle.model.specs.Machine.State.{isLive}
 use Rattle.model.specs.Machine.InUse.{tokensUsed, cellsUsed}
 use Rattle.model.specs.Machine.Places.{nextPlace}
 use Rattle.model.specs.Machine.Reply.{unless}

@@ -10,8 +10,7 @@ use lib.Dec.{eqb}
 use lib.IntN.{ℤ}
 use Rattle.job.specs.Test.{any}
 use Rattle.model.specs.Machine.Blank.{blankToken, tokenAt}
-use Rattle.model.specs.Machine.Active.{isLive}
-use Rattle.model.specs.Machine.Rules.{handleOf}
+use Rattle.model.specs.Machine.State.{isLive, handleOf}
 use Rattle.model.specs.Machine.Step.{withValue, withState, withTables, withOrders, put, enqueue}
 use Rattle.model.specs.Machine.Answer.{holder}
 use Rattle.calculus.specs.Event.{Event, showing}

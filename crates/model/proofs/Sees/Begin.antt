@@ -12,7 +12,7 @@ use Rattle.job.specs.Test.{count, once}
 use Rattle.job.specs.Node.{Dag, dagHolds}
 use Rattle.model.specs.Machine.Limits.{Limits}
 use Rattle.model.specs.Machine.Blank.{unbound, blankToken, tokenAt}
-use Rattle.model.specs.Machine.Active.{isLive}
+use Rattle.model.specs.Machine.State.{isLive}
 use Rattle.model.specs.Machine.Start.{startToken, startMachine, start}
 use Rattle.model.specs.declared.token.Token.{Token}
 use Rattle.model.specs.declared.record.Machine.{Machine}

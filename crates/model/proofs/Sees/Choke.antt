@@ -13,8 +13,9 @@ use lib.IntN.{ℤ}
 use Rattle.job.specs.Test.{count, once, any, filter}
 use Rattle.job.specs.Node.{Node, Dag}
 use Rattle.model.specs.Machine.Blank.{blankToken, tokenAt, cellAt}
-use Rattle.model.specs.Machine.Active.{within, isLive}
-use Rattle.model.specs.Machine.Step.{withState, withTables, withOrders, waitsAt, chokeToken, choked, chokeAt}
+use Rattle.model.specs.Machine.Active.{within}
+use Rattle.model.specs.Machine.State.{isLive, waitsAt}
+use Rattle.model.specs.Machine.Step.{withState, withTables, withOrders, chokeToken, choked, chokeAt}
 use Rattle.calculus.specs.Expression.{Exp}
 use Rattle.model.specs.declared.token.Held.{Held}
 use Rattle.model.specs.declared.token.Held.the-variants as helds

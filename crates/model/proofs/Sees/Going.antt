@@ -14,7 +14,7 @@ use Rattle.job.specs.WellFormed.{GoodParam}
 use Rattle.job.specs.Node.{Node, Dag}
 use Rattle.model.specs.Machine.Limits.{Limits}
 use Rattle.model.specs.Machine.Blank.{blankToken, tokenAt}
-use Rattle.model.specs.Machine.Active.{isLive}
+use Rattle.model.specs.Machine.State.{isLive}
 use Rattle.model.specs.Machine.Reply.{moves, publishes, unless}
 use Rattle.model.specs.Machine.Step.{withNode, withBinding, withValue, withState, withTables, withOrders, withCounts, put, enqueue, LookedUp, values, unset, look, valueOf, ended, goesOn, waited, replied, calledOut, returned, callSite}
 use Rattle.calculus.specs.Event.{Event, silently, showing}

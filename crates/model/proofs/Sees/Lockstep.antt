@@ -17,7 +17,8 @@ use Rattle.model.specs.Machine.Limits.{Limits, limits}
 use Rattle.model.specs.Machine.Blank.{blankToken, tokenAt}
 use Rattle.model.specs.Machine.InUse.{tokensUsed, cellsUsed, marked}
 use Rattle.model.specs.Machine.Places.{nextPlace}
-use Rattle.model.specs.Machine.Rules.{isReady, tokenInRange, sizesInRange, rulesHold}
+use Rattle.model.specs.Machine.Rules.{tokenInRange, sizesInRange, rulesHold}
+use Rattle.model.specs.Machine.State.{isReady}
 use Rattle.model.specs.Machine.Reply.{Effect, moves, waits, publishes, calls, refuses, accepted, outcome, reported, isRefused}
 use Rattle.model.specs.Machine.Step as Step
 use Rattle.model.specs.Machine.Step.{withOrders, queueOf, waitsOf, hasTokenPlace, hasCellPlace, takes}

@@ -14,7 +14,7 @@ use Rattle.job.specs.Syntax.{Param}
 use Rattle.job.specs.WellFormed.{GoodParam}
 use Rattle.job.specs.Node.{Node, Dag, bodyAt}
 use Rattle.model.specs.Machine.Blank.{blankCell, tokenAt, cellAt}
-use Rattle.model.specs.Machine.Active.{isLive}
+use Rattle.model.specs.Machine.State.{isLive}
 use Rattle.model.specs.Machine.InUse.{tokensUsed, cellsUsed}
 use Rattle.model.specs.Machine.Step.{withNode, withBinding, inCell, withState, withTables, withOrders, withCounts, put, enqueue, newToken, newCell, formalsBound, forked, split, entered}
 use Rattle.calculus.specs.Expression.{Exp}

@@ -12,7 +12,7 @@ use lib.Seq.{getD-set-same, getD-set-other}
 use lib.Dec.{eqb}
 use Rattle.job.specs.Test.{count, once}
 use Rattle.model.specs.Machine.Blank.{blankToken, tokenAt, cellAt}
-use Rattle.model.specs.Machine.Active.{isLive}
+use Rattle.model.specs.Machine.State.{isLive}
 use Rattle.model.specs.Machine.InUse.{usedTokens}
 use Rattle.model.specs.declared.token.State.the-variants as states
 use Rattle.model.specs.declared.token.Token.{Token}

@@ -12,7 +12,8 @@ use lib.ListN.{length, getD}
 use lib.Dec.{eqb}
 use Rattle.job.specs.Test.{count, once}
 use Rattle.model.specs.Machine.Blank.{blankToken, blankCell, tokenAt, cellAt, hasValue}
-use Rattle.model.specs.Machine.Active.{isSet, upward, underSet, isLive, isActive}
+use Rattle.model.specs.Machine.Active.{isSet, upward, underSet, isActive}
+use Rattle.model.specs.Machine.State.{isLive}
 use Rattle.model.specs.Machine.InUse.{usedTokens, usedCells, restBlanked, sweep}
 use Rattle.model.specs.declared.token.Held.{Held}
 use Rattle.model.specs.declared.token.Held.the-variants as helds

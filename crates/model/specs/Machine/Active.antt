@@ -1,14 +1,13 @@
 -- Document 01: active tokens. Assumes nothing: these are definitions.
 use mathlib.Core.Bool.{Bool, true, false, not}
-use mathlib.Core.List.{List, [], _∷_}
+use mathlib.Core.List.{List}
 use Prim.Native.Nat.{ℕ, zero, suc}
 use lib.ListN.{length}
 use lib.Dec.{eqb}
+use Rattle.model.specs.Machine.State.{isLive}
 use Rattle.model.specs.Machine.Blank.{cellAt, hasValue}
 use Rattle.model.specs.declared.token.Place.{Place}
 use Rattle.model.specs.declared.token.Place.the-variants as places
-use Rattle.model.specs.declared.token.State.{State}
-use Rattle.model.specs.declared.token.State.the-variants as states
 use Rattle.model.specs.declared.token.Token.{Token}
 use Rattle.model.specs.declared.cell.Cell.{Cell}
 
@@ -33,14 +32,6 @@ underSet cs q = upward (λ c k. isSet k) cs (length cs) q
 -- is a place the cell c or one of its descendants
 unfoldable pub within : List Cell → ℕ → Place → Bool
 within cs c q = upward (λ b k. eqb c b) cs (length cs) q
-
--- "ready, waiting or called-out"
-unfoldable pub isLive : State → Bool
-isLive states.Blank = false
-isLive states.Ready = true
-isLive (states.Waiting c) = true
-isLive (states.Called h) = true
-isLive states.Frame = false
 
 -- "Active tokens are ready, waiting or called-out, with no set cell among their cell and its ancestors"
 unfoldable pub isActive : List Cell → Token → Bool

@@ -8,7 +8,8 @@ use Rattle.job.specs.Test.{any}
 use Rattle.job.specs.Node.{Dag}
 use Rattle.model.specs.Machine.Limits.{Limits}
 use Rattle.model.specs.Machine.Blank.{tokenAt}
-use Rattle.model.specs.Machine.Rules.{handleOf, rulesHold}
+use Rattle.model.specs.Machine.Rules.{rulesHold}
+use Rattle.model.specs.Machine.State.{handleOf}
 use Rattle.model.specs.Machine.Reply.{Effect, moves, refuses, unless, outcome}
 use Rattle.model.specs.Machine.Step.{withValue, withState, put, enqueue}
 use Rattle.model.specs.declared.token.Held.the-variants as helds

@@ -1,10 +1,11 @@
 -- Document 01: blank. A blank token or cell holds nothing (docs/DECISIONS.md, "Blank"). Assumes nothing: these are definitions.
 use mathlib.Core.Bool.{Bool, true, false, not}
-use mathlib.Core.List.{List, [], _∷_}
+use mathlib.Core.List.{List}
 use Prim.Native.Nat.{ℕ}
 use lib.ListN.{getD, replicate}
 use lib.Dec.{eqb}
 use Rattle.job.specs.Test.{_and_, all}
+use Rattle.model.specs.Machine.State.{isBlankState}
 use Rattle.model.specs.Machine.Limits.{Limits}
 use Rattle.model.specs.declared.token.Slot.{Slot}
 use Rattle.model.specs.declared.token.Slot.the-variants as slots
@@ -13,7 +14,6 @@ use Rattle.model.specs.declared.token.Held.{Held}
 use Rattle.model.specs.declared.token.Held.the-variants as helds
 use Rattle.model.specs.declared.token.Place.{Place}
 use Rattle.model.specs.declared.token.Place.the-variants as places
-use Rattle.model.specs.declared.token.State.{State}
 use Rattle.model.specs.declared.token.State.the-variants as states
 use Rattle.model.specs.declared.token.Token.{Token}
 use Rattle.model.specs.declared.cell.Cell.{Cell}
@@ -77,13 +77,6 @@ hasValue (helds.Value v) = true
 unfoldable pub isPlace : Place → Bool
 isPlace places.Nowhere = false
 isPlace (places.At p) = true
-
-unfoldable pub isBlankState : State → Bool
-isBlankState states.Blank = true
-isBlankState states.Ready = false
-isBlankState (states.Waiting c) = false
-isBlankState (states.Called h) = false
-isBlankState states.Frame = false
 
 unfoldable pub tokenIsBlank : Token → Bool
 tokenIsBlank t =

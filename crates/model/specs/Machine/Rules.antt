@@ -9,8 +9,9 @@ use Rattle.job.specs.Number.{fits}
 use Rattle.job.specs.Syntax.{Param, variable, constant}
 use Rattle.job.specs.Node.{Node, Dag, nodeAt, isNode, dagHolds}
 use Rattle.model.specs.Machine.Limits.{Limits}
-use Rattle.model.specs.Machine.Blank.{tokenAt, cellAt, slotAt, isBound, hasValue, isPlace, isBlankState, tokenIsBlank, cellIsBlank}
-use Rattle.model.specs.Machine.Active.{isSet, underSet, isLive}
+use Rattle.model.specs.Machine.Blank.{tokenAt, cellAt, slotAt, isBound, hasValue, isPlace, tokenIsBlank, cellIsBlank}
+use Rattle.model.specs.Machine.State.{isBlankState, isReady, isWaiting, isFrame, isLive, handleOf}
+use Rattle.model.specs.Machine.Active.{isSet, underSet}
 use Rattle.model.specs.Machine.InUse.{tokensUsed, usedCells}
 use Rattle.model.specs.declared.token.Slot.{Slot}
 use Rattle.model.specs.declared.token.Slot.the-variants as slots
@@ -70,27 +71,6 @@ module _ (lim : Limits) (d : Dag) where
       and ltb (m .lasttoken) (lim .tokenPlaces)
       and ltb (m .lastcell) (lim .cellPlaces)
 
-unfoldable pub isReady : State → Bool
-isReady states.Blank = false
-isReady states.Ready = true
-isReady (states.Waiting c) = false
-isReady (states.Called h) = false
-isReady states.Frame = false
-
-unfoldable pub isWaiting : State → Bool
-isWaiting states.Blank = false
-isWaiting states.Ready = false
-isWaiting (states.Waiting c) = true
-isWaiting (states.Called h) = false
-isWaiting states.Frame = false
-
-unfoldable pub isFrame : State → Bool
-isFrame states.Blank = false
-isFrame states.Ready = false
-isFrame (states.Waiting c) = false
-isFrame (states.Called h) = false
-isFrame states.Frame = true
-
 -- "the queue names each ready token once and nothing else"; "the wait order names each waiting token once".
 -- An order is the first n numbers of its array; what stands behind them is 0
 unfoldable pub namesOnce : (State → Bool) → List Token → List ℕ → ℕ → Bool
@@ -113,14 +93,6 @@ chainsEnd cs = all (λ (c : Cell). chainEnds cs (length cs) (c .parent)) cs
 -- "no ready, waiting or called-out token is under a set cell"
 unfoldable pub notUnderSet : List Cell → Token → Bool
 notUnderSet cs t = elim (isLive (t .state)) [ true ↦ not (underSet cs (t .cell)) | false ↦ true ]
-
--- document 01: open handle. The handle of a token that is called out
-unfoldable pub handleOf : State → List ℕ
-handleOf states.Blank = []
-handleOf states.Ready = []
-handleOf (states.Waiting c) = []
-handleOf (states.Called h) = h ∷ []
-handleOf states.Frame = []
 
 unfoldable pub openHandles : List Token → List ℕ
 openHandles [] = []

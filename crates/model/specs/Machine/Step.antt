@@ -4,7 +4,7 @@ use mathlib.Core.Bool.{Bool, true, false}
 use mathlib.Core.List.{List, [], _∷_, _++_, map}
 use Prim.Native.Nat.{ℕ, suc}
 use lib.ListN.{length, getD, set, take, drop}
-use lib.Dec.{ltb, eqb}
+use lib.Dec.{ltb}
 use lib.IntN.{ℤ, pos}
 use Rattle.job.specs.Test.{filter, padded, without}
 use Rattle.job.specs.Site.{BuiltinReply, gives, silent, isBuiltin, builtin}
@@ -15,7 +15,8 @@ use Rattle.model.specs.Machine.Blank.{empty, unbound, blankToken, tokenA
 use Rattle.model.specs.Machine.Active.{within}
 use Rattle.model.specs.Machine.InUse.{tokensUsed, cellsUsed, marked}
 use Rattle.model.specs.Machine.Places.{nextPlace}
-use Rattle.model.specs.Machine.Rules.{isReady, isWaiting, rulesHold}
+use Rattle.model.specs.Machine.Rules.{rulesHold}
+use Rattle.model.specs.Machine.State.{isReady, isWaiting, waitsAt}
 use Rattle.model.specs.Machine.Reply.{Effect, moves, waits, publishes, calls, refuses, unless, outcome}
 use Rattle.model.specs.declared.token.Slot.{Slot}
 use Rattle.model.specs.declared.token.Slot.the-variants as slots
@@ -155,14 +156,6 @@ formalsBound bs ps = map (passed bs) ps ++ drop (length ps) unbound
 unfoldable pub valueOf : Held → ℤ
 valueOf helds.Nothing = pos 0
 valueOf (helds.Value v) = v
-
--- does a token wait at the cell c
-unfoldable pub waitsAt : ℕ → State → Bool
-waitsAt c states.Blank = false
-waitsAt c states.Ready = false
-waitsAt c (states.Waiting b) = eqb c b
-waitsAt c (states.Called h) = false
-waitsAt c states.Frame = false
 
 -- "all tokens of it and of its descendants end; waiters become ready" (docs/DECISIONS.md, "Choke ends every token", "Waiting")
 unfoldable pub chokeToken : List Cell → ℕ → Token → Token

@@ -13,7 +13,7 @@ use Rattle.job.specs.Node.{Dag}
 use Rattle.job.specs.Construct.{construct}
 use Rattle.model.specs.Machine.Limits.{Limits, paper}
 use Rattle.model.specs.Machine.Blank.{tokenAt}
-use Rattle.model.specs.Machine.Rules.{isWaiting}
+use Rattle.model.specs.Machine.State.{isWaiting}
 use Rattle.model.specs.Machine.Reply.{isRefused}
 use Rattle.model.specs.Machine.Start as Start
 use Rattle.model.specs.Machine.Step as Step

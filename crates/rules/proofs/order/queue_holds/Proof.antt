@@ -1,6 +1,7 @@
 -- `order::queue_holds` meets its contract: the words are the queue's names. Assumes nothing.
 use mathlib.Core.Path.{_∙_, ap}
-use Rattle.model.specs.Machine.Rules.{isReady, namesOnce}
+use Rattle.model.specs.Machine.Rules.{namesOnce}
+use Rattle.model.specs.Machine.State.{isReady}
 use Rattle.record.proofs.Queue.{queue-word}
 use Rattle.row_rules.proofs.Fields.{ready-is}
 use borrow.Author.Needs.{needs}

@@ -1,6 +1,7 @@
 -- `order::waits_hold` meets its contract: the words are the wait order's names. Assumes nothing.
 use mathlib.Core.Path.{_∙_, ap}
-use Rattle.model.specs.Machine.Rules.{isWaiting, namesOnce}
+use Rattle.model.specs.Machine.Rules.{namesOnce}
+use Rattle.model.specs.Machine.State.{isWaiting}
 use Rattle.record.proofs.Queue.{wait-word}
 use Rattle.row_rules.proofs.Fields.{waiting-is}
 use borrow.Author.Needs.{needs}
