@@ -57,6 +57,7 @@ impl Machine {
             cell: Place::Nowhere,
             state: State::Ready,
         };
+        let lastcell = (Machine::CELLS - 1) as u8;
         Machine {
             tokens,
             cells: [cell; Machine::CELLS],
@@ -66,7 +67,7 @@ impl Machine {
             waiting: 0,
             calls: 0,
             lasttoken: 0,
-            lastcell: (Machine::CELLS - 1) as u8,
+            lastcell,
         }
     }
 }
