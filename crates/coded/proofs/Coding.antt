@@ -33,7 +33,7 @@ use Rattle.coded.specs.Coded.{stateCoded, heldCoded, slotCoded, slotsCod
 use Rattle.coded.specs.Record.{isRecord}
 use Rattle.job.proofs.Lists.{table, listed, same-when}
 
-abbrev Small : List ℕ → Type 0
+abbrev pub Small : List ℕ → Type 0
 Small ws = (i : ℕ) → getD ws i 0 < 2 ^ 32
 
 small-drop : (n : ℕ) (ws : List ℕ) → Small ws → Small (drop n ws)
@@ -233,7 +233,7 @@ words-back ws l s e =
     ∙ take-append-drop 1536 ws
 
 -- the words of a record pass
-words-pass : (m : Machine) → length (m .tokens) ≡ 64 → length (m .cells) ≡ 32 → coded (wordsOf m) ≡ true
+pub words-pass : (m : Machine) → length (m .tokens) ≡ 64 → length (m .cells) ≡ 32 → coded (wordsOf m) ≡ true
 unfolding wordsOf parts coded
 words-pass m t c =
     let long : length (rows rowOf (m .tokens)) ≡ 1536 = rows-length rowOf 24 row-wide (m .tokens) ∙ ap (λ n. 24 * n) t in

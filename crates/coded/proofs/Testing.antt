@@ -4,22 +4,22 @@ use mathlib.Core.Bool.{Bool, true, false, _&&_}
 use mathlib.Core.List.{List}
 use Prim.Native.Nat.{ℕ, zero, suc, _+_, _-_, _*_, _<_, _≤_}
 use native.Mathlib.Omega.{arith}
-use lib.Dec.{eqb, ltb}
+use lib.Dec.{eqb, leb}
 use lib.ListN.{getD, take, drop, replicate, getD-replicate}
 use lib.Seq.{getD-drop, getD-take, drop-drop}
 use Rattle.job.specs.Test.{_and_}
-use Rattle.job.proofs.Test.{clash, eqb-eq, lt-ltb, le-not-ltb, eq-eqb, ne-eqb}
+use Rattle.job.proofs.Test.{lt-not-leb, eq-eqb, ne-eqb}
 use Rattle.coded.specs.Coded.{slotCoded, heldCoded, stateCoded, slotsCoded, rowCoded, cellCoded, tableCoded, coded}
 
 -- by numbers
 pub slot-none : (k n : ℕ) → k ≡ 0 → eqb n 0 ≡ slotCoded k n
 slot-none k n e = rw e
 
-pub slot-some : (k n : ℕ) → (k ≡ 0 → ⊥) → ltb k 3 ≡ slotCoded k n
+pub slot-some : (k n : ℕ) → (k ≡ 0 → ⊥) → leb k 2 ≡ slotCoded k n
 slot-some zero n f = absurd (f refl)
-slot-some (suc zero) n f = lt-ltb 1 3 (omega arith)
-slot-some (suc (suc zero)) n f = lt-ltb 2 3 (omega arith)
-slot-some (suc (suc (suc k))) n f = le-not-ltb (suc (suc (suc k))) 3 (omega arith)
+slot-some (suc zero) n f = refl
+slot-some (suc (suc zero)) n f = refl
+slot-some (suc (suc (suc k))) n f = lt-not-leb (suc (suc (suc k))) 2 (omega arith)
 
 pub held-none : (k n : ℕ) → k ≡ 0 → eqb n 0 ≡ heldCoded k n
 held-none k n e = rw e
@@ -29,7 +29,7 @@ held-some zero n f = absurd (f refl)
 held-some (suc zero) n f = eq-eqb 1 1 refl
 held-some (suc (suc k)) n f = ne-eqb (suc (suc k)) 1 (λ z. omega arith)
 
-pub state-plain : (k n : ℕ) → (k ≡ 2 → ⊥) → (k ≡ 3 → ⊥) → k < 5 → eqb n 0 ≡ stateCoded k n
+pub state-plain : (k n : ℕ) → (k ≡ 2 → ⊥) → (k ≡ 3 → ⊥) → k ≤ 4 → eqb n 0 ≡ stateCoded k n
 state-plain zero n f g l = refl
 state-plain (suc zero) n f g l = refl
 state-plain (suc (suc zero)) n f g l = absurd (f refl)
@@ -37,7 +37,7 @@ state-plain (suc (suc (suc zero))) n f g l = absurd (g refl)
 state-plain (suc (suc (suc (suc zero)))) n f g l = refl
 state-plain (suc (suc (suc (suc (suc k))))) n f g l = absurd (omega arith)
 
-pub state-never : (k n : ℕ) → 5 ≤ k → false ≡ stateCoded k n
+pub state-never : (k n : ℕ) → 4 < k → false ≡ stateCoded k n
 state-never zero n l = absurd (omega arith)
 state-never (suc zero) n l = absurd (omega arith)
 state-never (suc (suc zero)) n l = absurd (omega arith)
@@ -147,11 +147,6 @@ zero-row ws at f =
     (slots-same 8 (drop (at + 8) ws) (replicate 16 0)
     (λ i l. let z : at + 8 + i ≡ at + (8 + i) = omega arith in
     at-drop (at + 8) i ws ∙ ap (λ k. getD ws k 0) z ∙ f (8 + i) (omega arith) ∙ sym (getD-replicate {A = ℕ} 16 i 0 0 (omega arith))))
-
--- one word more is 0
-pub zero-more : {x : ℕ} (a : Bool) → (a && eqb 0 x) ≡ true → (a ≡ true) × (x ≡ 0)
-zero-more {x} true e = (refl, sym (eqb-eq 0 x e))
-zero-more false e = clash e refl
 
 -- a table
 module _ (ok : List ℕ → Bool) (w size : ℕ) (ws : List ℕ) (p : ℕ) (all : Bool) (left : all ≡ tableCoded ok w (size - p) (drop (w * p) ws)) where

@@ -1,7 +1,7 @@
 -- Are words those of a record? Tests of a row's words, and of all. Assumes nothing: these are definitions.
 use mathlib.Core.Bool.{Bool, true, false}
 use mathlib.Core.List.{List, [], _∷_}
-use Prim.Native.Nat.{ℕ, zero, suc}
+use Prim.Native.Nat.{ℕ, zero, suc, _+_, _*_}
 use lib.ListN.{getD, take, drop}
 use lib.Dec.{eqb}
 use Rattle.job.specs.Test.{_and_}
@@ -36,6 +36,13 @@ rowCoded r =
 
 unfoldable pub cellCoded : List ℕ → Bool
 cellCoded r = heldCoded (getD r 1 0) (getD r 2 0) and eqb (getD r 3 0) 0
+
+-- the words of the token at a place, and of the cell at a place
+abbrev pub tokenCoded : List ℕ → ℕ → Bool
+tokenCoded ws p = rowCoded (take 24 (drop (24 * p) ws))
+
+abbrev pub cellAtCoded : List ℕ → ℕ → Bool
+cellAtCoded ws c = cellCoded (take 4 (drop (cellsAt + 4 * c) ws))
 
 unfoldable pub tableCoded : (List ℕ → Bool) → (w n : ℕ) → List ℕ → Bool
 tableCoded ok w zero ws = true

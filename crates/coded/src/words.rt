@@ -1,16 +1,29 @@
 // Are words those of a record? "Words that are not those of their decoding are no record."
 ghost use mathlib.Core.Path.{_≡_};
 ghost use mathlib.Core.Bool.{true};
-ghost use Prim.Native.Nat.{_<_, _≤_, _+_};
+ghost use Prim.Native.Nat.{ℕ, _<_, _≤_, _+_};
 ghost use lib.ListN.{length, getD, take, drop};
 ghost use Rattle.record.specs.Decode.{machineOf};
 ghost use Rattle.record.specs.Holds.{Codes};
-ghost use Rattle.coded.specs.Coded.{slotCoded, heldCoded, stateCoded, slotsCoded, rowCoded, cellCoded, tableCoded};
+ghost use Rattle.coded.specs.Coded.{slotCoded, heldCoded, stateCoded, slotsCoded, rowCoded, cellCoded, tableCoded, tokenCoded, cellAtCoded};
 ghost use Rattle.coded.specs.Record.{isRecord};
 use model::record::Machine;
+use record::layout::CALLED_STATE;
 use record::layout::CELL;
+use record::layout::CELL_SLOT;
+use record::layout::CELL_UNUSED;
+use record::layout::CELL_VALUE;
+use record::layout::CELL_VALUE_KIND;
 use record::layout::CELLS;
+use record::layout::EMPTY_SLOT;
+use record::layout::FRAME_STATE;
 use record::layout::TOKEN;
+use record::layout::TOKEN_BIND_KIND;
+use record::layout::TOKEN_STATE_NUMBER;
+use record::layout::TOKEN_UNUSED;
+use record::layout::TOKEN_VALUE;
+use record::layout::TOKEN_VALUE_KIND;
+use record::layout::WAITING_STATE;
 
 fn word(w: &[u32], i: usize) -> u32
     requires { ⌜ i < length (now w) ⌝ }
@@ -22,10 +35,10 @@ fn word(w: &[u32], i: usize) -> u32
 fn slot_coded(kind: u32, number: u32) -> bool
     ensures { λ r. ⌜ r ≡ slotCoded kind number ⌝ }
 {
-    if kind == 0 {
+    if kind == EMPTY_SLOT {
         return number == 0;
     }
-    kind < 3
+    kind <= CELL_SLOT
 }
 
 fn held_coded(kind: u32, number: u32) -> bool
@@ -40,13 +53,13 @@ fn held_coded(kind: u32, number: u32) -> bool
 fn state_coded(kind: u32, number: u32) -> bool
     ensures { λ r. ⌜ r ≡ stateCoded kind number ⌝ }
 {
-    if kind == 2 {
+    if kind == WAITING_STATE {
         return true;
     }
-    if kind == 3 {
+    if kind == CALLED_STATE {
         return true;
     }
-    if kind < 5 {
+    if kind <= FRAME_STATE {
         return number == 0;
     }
     false
@@ -73,41 +86,24 @@ fn row_coded(w: &[u32], at: usize) -> bool
     requires { ⌜ at + 24 ≤ length (now w) ⌝ }
     ensures { λ r. ⌜ r ≡ rowCoded (take 24 (drop at (now (w .entry)))) ⌝ }
 {
-    let state = state_coded(word(w, at), word(w, at + 1));
+    let state = state_coded(word(w, at), word(w, at + TOKEN_STATE_NUMBER));
     if state {
-        let value = held_coded(word(w, at + 5), word(w, at + 6));
+        let value = held_coded(word(w, at + TOKEN_VALUE_KIND), word(w, at + TOKEN_VALUE));
         if value {
-            if word(w, at + 7) == 0 {
-                return slots_coded(w, at + 8);
+            if word(w, at + TOKEN_UNUSED) == 0 {
+                return slots_coded(w, at + TOKEN_BIND_KIND);
             }
         }
     }
     false
 }
 
-// Are the words of a row all 0? Then they are a blank token's.
-fn row_is_zero(w: &[u32], at: usize) -> bool
-    requires { ⌜ at + 24 ≤ length (now w) ⌝ }
-    ensures { λ r. ⌜ (r ≡ true → rowCoded (take 24 (drop at (now (w .entry)))) ≡ true) ⌝ }
+// The words of the token at a place.
+pub fn token_coded(w: &[u32; Machine::WORDS], p: usize) -> bool
+    requires { ⌜ p < 64 ⌝ }
+    ensures { λ r. ⌜ r ≡ tokenCoded (now (w .entry)) p ⌝ }
 {
-    let mut ok = true;
-    let mut i: usize = 0;
-    while i < TOKEN {
-        ok = ok & (0 == w[at + i]);
-        i += 1;
-    }
-    ok
-}
-
-// Most rows are blank, and blank ones are told quickly.
-fn row_passes(w: &[u32], at: usize) -> bool
-    requires { ⌜ at + 24 ≤ length (now w) ⌝ }
-    ensures { λ r. ⌜ r ≡ rowCoded (take 24 (drop at (now (w .entry)))) ⌝ }
-{
-    if row_is_zero(w, at) {
-        return true;
-    }
-    row_coded(w, at)
+    row_coded(w, TOKEN * p)
 }
 
 fn rows_coded(w: &[u32]) -> bool
@@ -116,7 +112,7 @@ fn rows_coded(w: &[u32]) -> bool
 {
     let mut p: usize = 0;
     while p < Machine::TOKENS {
-        let ok = row_passes(w, TOKEN * p);
+        let ok = row_coded(w, TOKEN * p);
         if ok {
             p += 1;
         } else {
@@ -126,15 +122,23 @@ fn rows_coded(w: &[u32]) -> bool
     true
 }
 
-fn cell_coded(w: &[u32], at: usize) -> bool
+fn cell_row_coded(w: &[u32], at: usize) -> bool
     requires { ⌜ at + 4 ≤ length (now w) ⌝ }
     ensures { λ r. ⌜ r ≡ cellCoded (take 4 (drop at (now (w .entry)))) ⌝ }
 {
-    let value = held_coded(word(w, at + 1), word(w, at + 2));
+    let value = held_coded(word(w, at + CELL_VALUE_KIND), word(w, at + CELL_VALUE));
     if value {
-        return word(w, at + 3) == 0;
+        return word(w, at + CELL_UNUSED) == 0;
     }
     false
+}
+
+// The words of the cell at a place.
+pub fn cell_coded(w: &[u32; Machine::WORDS], c: usize) -> bool
+    requires { ⌜ c < 32 ⌝ }
+    ensures { λ r. ⌜ r ≡ cellAtCoded (now (w .entry)) c ⌝ }
+{
+    cell_row_coded(w, CELLS + CELL * c)
 }
 
 fn cells_coded(w: &[u32]) -> bool
@@ -143,7 +147,7 @@ fn cells_coded(w: &[u32]) -> bool
 {
     let mut c: usize = 0;
     while c < Machine::CELLS {
-        let ok = cell_coded(w, CELLS + CELL * c);
+        let ok = cell_row_coded(w, CELLS + CELL * c);
         if ok {
             c += 1;
         } else {
@@ -169,4 +173,14 @@ pub fn is_record(w: &[u32; Machine::WORDS]) -> bool
     ensures { λ r. ⌜ (r ≡ isRecord (now (w .entry))) × (r ≡ true → Codes (now (w .entry)) (machineOf (now (w .entry)))) ⌝ }
 {
     is_coded(w)
+}
+
+fn look(w: &[u32]) {}
+
+// Says to the proof that there are 1,797 words of 32 bits, and what that tells of them.
+pub fn whole(w: &[u32])
+    requires { ⌜ length (now w) ≡ 1797 ⌝ }
+    ensures { λ _. ⌜ ((isRecord (now (w .entry)) ≡ true → Codes (now (w .entry)) (machineOf (now (w .entry)))) × (((p : ℕ) → p < 64 → tokenCoded (now (w .entry)) p ≡ true) → ((c : ℕ) → c < 32 → cellAtCoded (now (w .entry)) c ≡ true) → isRecord (now (w .entry)) ≡ true)) ⌝ }
+{
+    look(w);
 }

@@ -40,14 +40,12 @@ pub granted : (b : Bool) → not b ≡ false → b ≡ true
 granted true e = refl
 granted false e = clash refl e
 
--- the test of the words, and that of the rules
-pub no-record : (ws : List ℕ) (b x : Bool) → b ≡ isRecord ws → b ≡ false → false ≡ (isRecord ws and x)
+-- words that pass are a record's, and of a record's words the rules decide
+pub both-tested : (b recorded rules : Bool) → (b ≡ true → recorded ≡ true) → (recorded ≡ true → b ≡ rules) → b ≡ (recorded and rules)
 unfolding _and_
-no-record ws b x e f = rw (← e, f)
-
-pub ruled : (ws : List ℕ) (b x r : Bool) → b ≡ isRecord ws → b ≡ true → r ≡ x → r ≡ (isRecord ws and x)
-unfolding _and_
-ruled ws b x r e f g = rw (← e, f) g
+both-tested b true rules f g = g refl
+both-tested true false rules f g = clash (f refl) refl
+both-tested false false rules f g = refl
 
 -- a refused call leaves every word
 module _ (ws : List ℕ) (why : Refusal) (r : Report) (e : r ≡ plain (replies.Refused why)) where

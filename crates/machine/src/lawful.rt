@@ -9,7 +9,6 @@ ghost use lib.ListN.{length};
 ghost use Rattle.record.specs.Decode.{machineOf};
 ghost use Rattle.coded.specs.Record.{isRecord};
 ghost use Rattle.acts.specs.Acting.{Lawful};
-use coded::words::is_record;
 use job::dag::WORDS;
 use model::record::Machine;
 use reach::used::in_use;
@@ -32,9 +31,6 @@ pub fn is_lawful(
     ensures { λ r. ⌜ (r ≡ true → Lawful (now (w .entry)) (now (tokens .exit)) (now (cells .exit)) (now (dag .entry)) (machineOf (now (w .entry)))) ⌝ }
 {
     whole(dag);
-    if !is_record(w) {
-        return false;
-    }
     in_use(w, tokens, cells);
     rules_hold(w, dag, tokens, cells)
 }

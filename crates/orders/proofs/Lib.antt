@@ -1,3 +1,4 @@
 -- Laws of an order in an array.
 pub mod Padded
 pub mod Retaining
+pub mod Zeros

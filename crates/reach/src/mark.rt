@@ -3,7 +3,7 @@
 ghost use mathlib.Core.Path.{_≡_};
 ghost use Prim.Native.Nat.{_<_};
 ghost use lib.ListN.{length, getD};
-ghost use Rattle.model.specs.Machine.Active.{underSet, isActive};
+ghost use Rattle.model.specs.Machine.Active.{isActive};
 ghost use Rattle.model.specs.Machine.Blank.{empty, tokenAt};
 ghost use Rattle.model.specs.Machine.InUse.{boundCell, cellsOf};
 ghost use Rattle.model.specs.declared.record.Machine.{Machine};
@@ -11,10 +11,10 @@ ghost use Rattle.record.specs.Decode.{placeFrom};
 ghost use Rattle.record.specs.Holds.{Codes};
 ghost use Rattle.record.specs.Words.{placeNumber};
 ghost use Rattle.reach.specs.Marks.{callersMarked, parentsMarked, cellsMarked, activeMarked, heldMarked};
+use crate::under_set::under_set;
 use job::wide::wide;
 use model::record::Machine;
 use record::cell::parent;
-use record::cell::value_kind;
 use record::layout::BLANK_STATE;
 use record::layout::CELL_SLOT;
 use record::layout::FRAME_STATE;
@@ -70,29 +70,6 @@ fn mark_parents(w: &[u32; Machine::WORDS], start: usize, marks: &mut [bool])
         q = wide(parent(w, c));
         n += 1;
     }
-}
-
-// "[a] set cell among their cell and its ancestors"
-fn under_set(w: &[u32; Machine::WORDS], start: usize) -> bool
-    ensures { λ r. ⌜ ((m : Machine) → Codes (now (w .entry)) m → r ≡ underSet (m .cells) (placeFrom start)) ⌝ }
-{
-    let mut q = start;
-    let mut n: usize = 0;
-    while n < Machine::CELLS {
-        if q == 0 {
-            return false;
-        }
-        let c = q - 1;
-        if Machine::CELLS <= c {
-            return false;
-        }
-        if value_kind(w, c) != 0 {
-            return true;
-        }
-        q = wide(parent(w, c));
-        n += 1;
-    }
-    false
 }
 
 // "Active tokens are ready, waiting or called-out, with no set cell among their cell and its ancestors"

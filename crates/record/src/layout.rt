@@ -8,9 +8,34 @@ pub const CELL_PLACES: u32 = 32;
 // The words of a token: state, its number, node, caller, cell, whether it has a value, the value, 0, and kind and number of each binding.
 pub const TOKEN: usize = 24;
 
+pub const TOKEN_STATE_NUMBER: usize = 1;
+
+pub const TOKEN_NODE: usize = 2;
+
+pub const TOKEN_CALLER: usize = 3;
+
+pub const TOKEN_CELL: usize = 4;
+
+pub const TOKEN_VALUE_KIND: usize = 5;
+
+pub const TOKEN_VALUE: usize = 6;
+
+pub const TOKEN_UNUSED: usize = 7;
+
+pub const TOKEN_BIND_KIND: usize = 8;
+
+pub const TOKEN_BIND_NUMBER: usize = 9;
+
 // The words of a cell: parent, whether it has a value, the value, 0.
 pub const CELL: usize = 4;
 
+pub const CELL_VALUE_KIND: usize = 1;
+
+pub const CELL_VALUE: usize = 2;
+
+pub const CELL_UNUSED: usize = 3;
+
+// Where each part begins.
 pub const CELLS: usize = 1536;
 
 pub const QUEUE: usize = 1664;

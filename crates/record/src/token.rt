@@ -14,6 +14,14 @@ ghost use Rattle.record.specs.Holds.{Codes, Holds};
 ghost use Rattle.record.specs.Fields.{withCaller, withCell};
 ghost use Rattle.record.specs.Words.{rowOf, stateKind, stateNumber, placeNumber, heldKind, heldNumber, slotKind, slotNumber};
 use crate::layout::TOKEN;
+use crate::layout::TOKEN_BIND_KIND;
+use crate::layout::TOKEN_BIND_NUMBER;
+use crate::layout::TOKEN_CALLER;
+use crate::layout::TOKEN_CELL;
+use crate::layout::TOKEN_NODE;
+use crate::layout::TOKEN_STATE_NUMBER;
+use crate::layout::TOKEN_VALUE;
+use crate::layout::TOKEN_VALUE_KIND;
 use model::record::Machine;
 
 pub fn state(w: &[u32; Machine::WORDS], p: usize) -> u32
@@ -28,77 +36,77 @@ pub fn state_number(w: &[u32; Machine::WORDS], p: usize) -> u32
     requires { ⌜ p < 64 ⌝ }
     ensures { λ r. ⌜ ((m : Machine) → Codes (now (w .entry)) m → r ≡ stateNumber (tokenAt (m .tokens) p .state)) ⌝ }
 {
-    w[TOKEN * p + 1]
+    w[TOKEN * p + TOKEN_STATE_NUMBER]
 }
 
 pub fn node(w: &[u32; Machine::WORDS], p: usize) -> u32
     requires { ⌜ p < 64 ⌝ }
     ensures { λ r. ⌜ ((m : Machine) → Codes (now (w .entry)) m → r ≡ tokenAt (m .tokens) p .node) ⌝ }
 {
-    w[TOKEN * p + 2]
+    w[TOKEN * p + TOKEN_NODE]
 }
 
 pub fn caller(w: &[u32; Machine::WORDS], p: usize) -> u32
     requires { ⌜ p < 64 ⌝ }
     ensures { λ r. ⌜ ((m : Machine) → Codes (now (w .entry)) m → r ≡ placeNumber (tokenAt (m .tokens) p .caller)) ⌝ }
 {
-    w[TOKEN * p + 3]
+    w[TOKEN * p + TOKEN_CALLER]
 }
 
 pub fn cell(w: &[u32; Machine::WORDS], p: usize) -> u32
     requires { ⌜ p < 64 ⌝ }
     ensures { λ r. ⌜ ((m : Machine) → Codes (now (w .entry)) m → r ≡ placeNumber (tokenAt (m .tokens) p .cell)) ⌝ }
 {
-    w[TOKEN * p + 4]
+    w[TOKEN * p + TOKEN_CELL]
 }
 
 pub fn value_kind(w: &[u32; Machine::WORDS], p: usize) -> u32
     requires { ⌜ p < 64 ⌝ }
     ensures { λ r. ⌜ ((m : Machine) → Codes (now (w .entry)) m → r ≡ heldKind (tokenAt (m .tokens) p .value)) ⌝ }
 {
-    w[TOKEN * p + 5]
+    w[TOKEN * p + TOKEN_VALUE_KIND]
 }
 
 pub fn value(w: &[u32; Machine::WORDS], p: usize) -> u32
     requires { ⌜ p < 64 ⌝ }
     ensures { λ r. ⌜ ((m : Machine) → Codes (now (w .entry)) m → r ≡ heldNumber (tokenAt (m .tokens) p .value)) ⌝ }
 {
-    w[TOKEN * p + 6]
+    w[TOKEN * p + TOKEN_VALUE]
 }
 
 pub fn bind_kind(w: &[u32; Machine::WORDS], p: usize, x: usize) -> u32
     requires { ⌜ (p < 64) × (x < 8) ⌝ }
     ensures { λ r. ⌜ ((m : Machine) → Codes (now (w .entry)) m → r ≡ slotKind (slotAt (tokenAt (m .tokens) p .binds) x)) ⌝ }
 {
-    w[TOKEN * p + 8 + 2 * x]
+    w[TOKEN * p + TOKEN_BIND_KIND + 2 * x]
 }
 
 pub fn bind_number(w: &[u32; Machine::WORDS], p: usize, x: usize) -> u32
     requires { ⌜ (p < 64) × (x < 8) ⌝ }
     ensures { λ r. ⌜ ((m : Machine) → Codes (now (w .entry)) m → r ≡ slotNumber (slotAt (tokenAt (m .tokens) p .binds) x)) ⌝ }
 {
-    w[TOKEN * p + 9 + 2 * x]
+    w[TOKEN * p + TOKEN_BIND_NUMBER + 2 * x]
 }
 
 pub fn set_node(w: &mut [u32; Machine::WORDS], p: usize, node: u32)
     requires { ⌜ p < 64 ⌝ }
     ensures { λ _. ⌜ ((m : Machine) (t : Token) → Holds (now (w .entry)) (put p t m) → Holds (now (w .exit)) (put p (withNode node t) m)) ⌝ }
 {
-    w[TOKEN * p + 2] = node;
+    w[TOKEN * p + TOKEN_NODE] = node;
 }
 
 pub fn set_caller(w: &mut [u32; Machine::WORDS], p: usize, number: u32)
     requires { ⌜ p < 64 ⌝ }
     ensures { λ _. ⌜ ((m : Machine) (t : Token) (q : Place) → Holds (now (w .entry)) (put p t m) → placeNumber q ≡ number → Holds (now (w .exit)) (put p (withCaller q t) m)) ⌝ }
 {
-    w[TOKEN * p + 3] = number;
+    w[TOKEN * p + TOKEN_CALLER] = number;
 }
 
 pub fn set_cell(w: &mut [u32; Machine::WORDS], p: usize, number: u32)
     requires { ⌜ p < 64 ⌝ }
     ensures { λ _. ⌜ ((m : Machine) (t : Token) (q : Place) → Holds (now (w .entry)) (put p t m) → placeNumber q ≡ number → Holds (now (w .exit)) (put p (withCell q t) m)) ⌝ }
 {
-    w[TOKEN * p + 4] = number;
+    w[TOKEN * p + TOKEN_CELL] = number;
 }
 
 // The state whose words these are.
@@ -107,7 +115,7 @@ pub fn set_state(w: &mut [u32; Machine::WORDS], p: usize, kind: u32, number: u32
     ensures { λ _. ⌜ ((m : Machine) (t : Token) (s : State) → Holds (now (w .entry)) (put p t m) → stateKind s ≡ kind → stateNumber s ≡ number → Holds (now (w .exit)) (put p (withState s t) m)) ⌝ }
 {
     w[TOKEN * p] = kind;
-    w[TOKEN * p + 1] = number;
+    w[TOKEN * p + TOKEN_STATE_NUMBER] = number;
 }
 
 // The value whose words these are.
@@ -115,8 +123,8 @@ pub fn set_value(w: &mut [u32; Machine::WORDS], p: usize, kind: u32, number: u32
     requires { ⌜ p < 64 ⌝ }
     ensures { λ _. ⌜ ((m : Machine) (t : Token) (v : Held) → Holds (now (w .entry)) (put p t m) → heldKind v ≡ kind → heldNumber v ≡ number → Holds (now (w .exit)) (put p (withValue v t) m)) ⌝ }
 {
-    w[TOKEN * p + 5] = kind;
-    w[TOKEN * p + 6] = number;
+    w[TOKEN * p + TOKEN_VALUE_KIND] = kind;
+    w[TOKEN * p + TOKEN_VALUE] = number;
 }
 
 // The slot whose words these are, bound to a variable.
@@ -124,8 +132,8 @@ pub fn set_bind(w: &mut [u32; Machine::WORDS], p: usize, x: usize, kind: u32, nu
     requires { ⌜ (p < 64) × (x < 8) ⌝ }
     ensures { λ _. ⌜ ((m : Machine) (t : Token) (s : Slot) → Holds (now (w .entry)) (put p t m) → slotKind s ≡ kind → slotNumber s ≡ number → Holds (now (w .exit)) (put p (withBinding x s t) m)) ⌝ }
 {
-    w[TOKEN * p + 8 + 2 * x] = kind;
-    w[TOKEN * p + 9 + 2 * x] = number;
+    w[TOKEN * p + TOKEN_BIND_KIND + 2 * x] = kind;
+    w[TOKEN * p + TOKEN_BIND_NUMBER + 2 * x] = number;
 }
 
 // The token at one place becomes that at another.

@@ -2,10 +2,11 @@
 use mathlib.Core.Path.{_≡_, refl, sym, _∙_, ap, ap₂}
 use mathlib.Core.Bool.{Bool, true, not}
 use mathlib.Core.List.{List}
-use Prim.Native.Nat.{ℕ, zero, suc, _+_}
+use Prim.Native.Nat.{ℕ, zero, suc, _+_, _-_, _*_, _<_}
 use native.Mathlib.Omega.{arith}
 use lib.Dec.{eqb}
-use lib.ListN.{length}
+use lib.ListN.{length, getD, take, drop, length-drop}
+use lib.Seq.{ext-getD, getD-drop, getD-take, length-take-le}
 use Rattle.model.specs.declared.token.Slot.the-variants as slots
 use Rattle.model.specs.declared.token.Held.the-variants as helds
 use Rattle.model.specs.declared.token.Place.the-variants as places
@@ -19,9 +20,17 @@ use Rattle.model.specs.declared.token.Held.{Held}
 use Rattle.model.specs.declared.token.Place.{Place}
 use Rattle.model.specs.declared.token.State.{State}
 use Rattle.model.specs.declared.token.Token.{Token}
-use Rattle.job.proofs.Test.{ne-eqb, and-left, and-right, and-both}
+use Rattle.job.proofs.Test.{ne-eqb, eqb-eq, all-at, and-left, and-right, and-both}
 use Rattle.record.specs.Words.{rowOf, placeNumber, stateKind, stateNumber, heldKind, heldNumber, slotKind, slotNumber}
 use Rattle.job.proofs.Lists.{table, listed, same-when}
+use Rattle.model.specs.Machine.Blank.{tokenAt}
+use Rattle.model.specs.declared.record.Machine.{Machine}
+use Rattle.record.specs.Holds.{Codes}
+use Rattle.record.proofs.Counts.{words-long}
+use Rattle.record.proofs.Parts.{row-wide}
+use Rattle.record.proofs.TokenRow.{token-word}
+use Rattle.coded.specs.Coded.{tokenCoded}
+use Rattle.coded.proofs.Testing.{zero-row}
 
 state-zero : (s : State) (b : Bool) → (eqb 0 (stateKind s) and eqb 0 (stateNumber s) and b) ≡ (isBlankState s and b)
 unfolding isBlankState _and_
@@ -84,3 +93,28 @@ row-zero t l =
     (ap₂ _and_ (place-zero (t .cell))
     (held-zero (t .value) _ ∙ ap (_and_ (not (hasValue (t .value)))) (spare _ ∙ slots-zero (t .binds) l)))))
     ∙ reordered _ _ _ _ _ _
+
+-- the words of a place, from its first on
+module _ (ws : List ℕ) (p : ℕ) where
+  abbrev pub zeroRow : Bool
+  zeroRow = all (eqb 0) (take (24 * p + 24 - 24 * p) (drop (24 * p) ws))
+
+  as-row : zeroRow ≡ all (eqb 0) (take 24 (drop (24 * p) ws))
+  as-row = let e : 24 * p + 24 - 24 * p ≡ 24 = omega arith in ap (λ n. all (eqb 0) (take n (drop (24 * p) ws))) e
+
+  pub zero-coded : length ws ≡ 1797 → p < 64 → zeroRow ≡ true → tokenCoded ws p ≡ true
+  zero-coded long l e =
+      let size : length (take 24 (drop (24 * p) ws)) ≡ 24 = length-take-le 24 (drop (24 * p) ws) (omega (arith, length-drop (24 * p) ws)) in
+      zero-row ws (24 * p) (λ k b.
+      sym (getD-take 24 (drop (24 * p) ws) k 0 b ∙ getD-drop (24 * p) ws k 0)
+      ∙ sym (eqb-eq 0 _ (all-at (eqb 0) (take 24 (drop (24 * p) ws)) k 0 (sym as-row ∙ e) (omega arith))))
+
+  pub zero-blank : p < 64 → (m : Machine) → Codes ws m → zeroRow ≡ tokenIsBlank (tokenAt (m .tokens) p)
+  zero-blank l m h =
+      let t = tokenAt (m .tokens) p in
+      let size : length (take 24 (drop (24 * p) ws)) ≡ 24 = length-take-le 24 (drop (24 * p) ws)
+      (omega (arith, length-drop (24 * p) ws, words-long h)) in
+      as-row
+      ∙ ap (all (eqb 0)) (ext-getD 0 (take 24 (drop (24 * p) ws)) (rowOf t) (size ∙ sym (row-wide t))
+      (λ k b. getD-take 24 (drop (24 * p) ws) k 0 (omega arith) ∙ getD-drop (24 * p) ws k 0 ∙ token-word h p l k (omega arith)))
+      ∙ row-zero t (h .shaped .binds p)

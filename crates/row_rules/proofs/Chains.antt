@@ -26,51 +26,6 @@ cell-past : (cs : List Cell) (c : ℕ) → length cs ≤ c → cellAt cs c ≡ b
 unfolding cellAt
 cell-past cs c l = List·getD-eq-default cs blankCell l
 
--- "[a] set cell among their cell and its ancestors", of which so many are looked at
-abbrev pub setAbove : List Cell → ℕ → Place → Bool
-setAbove cs n q = upward (λ c k. isSet k) cs n q
-
-above-nowhere : (cs : List Cell) (n : ℕ) → setAbove cs n places.Nowhere ≡ false
-unfolding upward
-above-nowhere cs zero = refl
-above-nowhere cs (suc n) = refl
-
-above-cell : (cs : List Cell) (n c : ℕ) (b : Bool) → isSet (cellAt cs c) ≡ b
-    → setAbove cs (suc n) (places.At c) ≡ elim b [ true ↦ true | false ↦ setAbove cs n (cellAt cs c .parent) ]
-unfolding upward
-above-cell cs n c b e = rw (e, upward)
-
-module _ (cs : List Cell) (q : Place) (i : ℕ) (long : length cs ≡ 32) where
-  pub under-begin : underSet cs q ≡ setAbove cs (32 - 0) q
-  unfolding underSet
-  under-begin = ap (λ n. setAbove cs n q) long
-
-  pub under-stop : q ≡ places.Nowhere → false ≡ setAbove cs (32 - i) q
-  under-stop e = sym (ap (setAbove cs (32 - i)) e ∙ above-nowhere cs (32 - i))
-
-  pub under-end : 32 ≤ i → false ≡ setAbove cs (32 - i) q
-  unfolding upward
-  under-end l = let e : 32 - i ≡ 0 = omega arith in rw e
-
-  module _ (c : ℕ) (at : q ≡ places.At c) (more : i < 32) where
-    one-less : 32 - i ≡ suc (32 - (i + 1))
-    one-less = omega arith
-
-    pub under-past : 32 ≤ c → false ≡ setAbove cs (32 - i) q
-    unfolding isSet hasValue
-    under-past l =
-        let blank : cellAt cs c ≡ blankCell = cell-past cs c (omega arith) in
-        sym (rw (at, one-less) (above-cell cs (32 - (i + 1)) c false (ap isSet blank)
-        ∙ ap (λ (k : Cell). setAbove cs (32 - (i + 1)) (k .parent)) blank ∙ above-nowhere cs (32 - (i + 1))))
-
-    pub under-found : hasValue (cellAt cs c .value) ≡ true → true ≡ setAbove cs (32 - i) q
-    unfolding isSet
-    under-found e = sym (rw (at, one-less) (above-cell cs (32 - (i + 1)) c true e))
-
-    pub under-on : hasValue (cellAt cs c .value) ≡ false → setAbove cs (32 - i) q ≡ setAbove cs (32 - (i + 1)) (cellAt cs c .parent)
-    unfolding isSet
-    under-on e = rw (at, one-less) (above-cell cs (32 - (i + 1)) c false e)
-
 -- "each parent chain ends"
 pub ends-nowhere : (cs : List Cell) (n : ℕ) → chainEnds cs n places.Nowhere ≡ true
 unfolding chainEnds isPlace

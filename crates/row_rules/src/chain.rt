@@ -3,7 +3,6 @@ ghost use mathlib.Core.Path.{_≡_};
 ghost use Prim.Native.Nat.{_<_};
 ghost use Rattle.job.specs.Test.{_and_};
 ghost use Rattle.model.specs.Machine.Blank.{tokenAt};
-ghost use Rattle.model.specs.Machine.Active.{underSet};
 ghost use Rattle.model.specs.Machine.Rules.{chainEnds, notUnderSet, waitsAtUnset};
 ghost use Rattle.model.specs.declared.record.Machine.{Machine};
 ghost use Rattle.model.specs.declared.token.State.{State};
@@ -12,6 +11,7 @@ ghost use Rattle.record.specs.Holds.{Codes};
 ghost use Rattle.record.specs.Words.{stateKind, stateNumber};
 use job::wide::wide;
 use model::record::Machine;
+use reach::under_set::under_set;
 use record::cell::parent;
 use record::cell::value_kind;
 use record::layout::BLANK_STATE;
@@ -21,29 +21,6 @@ use record::layout::WAITING_STATE;
 use record::token::cell;
 use record::token::state;
 use record::token::state_number;
-
-// Is the cell at a place set, or one of its ancestors?
-pub fn under_set(w: &[u32; Machine::WORDS], place: u32) -> bool
-    ensures { λ r. ⌜ ((m : Machine) → Codes (now (w .entry)) m → r ≡ underSet (m .cells) (placeFrom place)) ⌝ }
-{
-    let mut here = place;
-    let mut i: usize = 0;
-    while i < Machine::CELLS {
-        if here == 0 {
-            return false;
-        }
-        if CELL_PLACES < here {
-            return false;
-        }
-        let at = wide(here) - 1;
-        if 0 < value_kind(w, at) {
-            return true;
-        }
-        here = parent(w, at);
-        i += 1;
-    }
-    false
-}
 
 // Does the chain from a place end, within as many links as there are cells?
 pub fn chain_ends(w: &[u32; Machine::WORDS], place: u32) -> bool
@@ -66,7 +43,7 @@ pub fn chain_ends(w: &[u32; Machine::WORDS], place: u32) -> bool
 }
 
 // A token in the state that has these words: if it waits, then at an unset cell.
-pub fn waits_at_unset(w: &[u32; Machine::WORDS], kind: u32, number: u32) -> bool
+fn waits_at_unset(w: &[u32; Machine::WORDS], kind: u32, number: u32) -> bool
     ensures { λ r. ⌜ ((m : Machine) (s : State) → Codes (now (w .entry)) m → kind ≡ stateKind s → number ≡ stateNumber s → r ≡ waitsAtUnset (m .cells) s) ⌝ }
 {
     if kind == WAITING_STATE {
@@ -88,5 +65,5 @@ pub fn is_free(w: &[u32; Machine::WORDS], p: usize) -> bool
     if (kind == BLANK_STATE) | (kind == FRAME_STATE) {
         return true;
     }
-    !under_set(w, cell(w, p)) & waits_at_unset(w, kind, state_number(w, p))
+    !under_set(w, wide(cell(w, p))) & waits_at_unset(w, kind, state_number(w, p))
 }

@@ -12,9 +12,19 @@ ghost use Rattle.model.specs.Machine.Rules.{namesFrame, notEmpty, valueIfReady,
 ghost use Rattle.model.specs.declared.record.Machine.{Machine};
 ghost use Rattle.record.specs.Holds.{Codes};
 ghost use Rattle.row_rules.specs.Rules.{pairBound};
+use job::dag::ASSIGN;
+use job::dag::CALL;
+use job::dag::CHOKE;
+use job::dag::FORK;
 use job::dag::HEAD;
+use job::dag::PUBLISH;
+use job::dag::REMOVE;
+use job::dag::RETURN;
 use job::dag::ROW;
+use job::dag::SITE;
+use job::dag::STOP;
 use job::dag::VARIABLE;
+use job::dag::WHERE;
 use job::wide::wide;
 use model::record::Machine;
 use record::layout::BLANK_STATE;
@@ -87,16 +97,16 @@ fn node_rule(w: &[u32; Machine::WORDS], p: usize, row: &[u32]) -> bool
     ensures { λ r. ⌜ ((m : Machine) → Codes (now (w .entry)) m → r ≡ nodeRule (m .tokens) (tokenAt (m .tokens) p) (nodeBy (now (row .entry)))) ⌝ }
 {
     match row[0] {
-        0 => true,
-        1 => params_are_bound(w, p, row),
-        2 => params_are_bound(w, p, row),
-        3 => true,
-        4 => value_if_ready(w, p),
-        5 => value_if_ready(w, p),
-        6 => true,
-        7 => (0 < cell(w, p)) & value_if_ready(w, p),
-        8 => names_frame(w, p) & value_if_ready(w, p),
-        9 => value_if_ready(w, p),
+        STOP => true,
+        SITE => params_are_bound(w, p, row),
+        CALL => params_are_bound(w, p, row),
+        FORK => true,
+        ASSIGN => value_if_ready(w, p),
+        REMOVE => value_if_ready(w, p),
+        WHERE => true,
+        CHOKE => (0 < cell(w, p)) & value_if_ready(w, p),
+        RETURN => names_frame(w, p) & value_if_ready(w, p),
+        PUBLISH => value_if_ready(w, p),
         _ => true,
     }
 }

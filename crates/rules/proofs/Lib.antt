@@ -2,6 +2,7 @@
 pub mod Gathered
 pub mod Orders
 pub mod Rest
-pub mod Tokens
+pub mod Rows
+pub mod OneRow
 pub mod Record
 pub mod Decoding

@@ -8,7 +8,7 @@ use native.Mathlib.Nat.{add-zero, zero-add}
 use native.Mathlib.Numerals.{add-one}
 use native.Mathlib.Omega.{arith}
 use lib.ListN.{length, getD, take, drop, set, replicate, length-drop, length-replicate, getD-replicate, List·getD-eq-default}
-use lib.Seq.{getD-set-same, getD-set-other, getD-drop, length-take-le, getD-take}
+use lib.Seq.{getD-set-same, getD-set-other, getD-drop, length-take-le, getD-take, ext-getD}
 use lib.Dec.{ltb, eqb}
 use Rattle.job.specs.Test.{_and_, all, allFrom, count, once}
 use Rattle.model.specs.Machine.Rules.{namesOnce}
@@ -17,8 +17,8 @@ use Rattle.model.specs.declared.token.Token.{Token}
 use Rattle.job.proofs.Test.{all-at, all-from, false-of, ltb-lt, lt-ltb, eq-eqb, ne-eqb, le-leb, lt-not-leb}
 use Rattle.record.specs.Words.{stateKind}
 use Rattle.job.proofs.Both.{both, and-true, and-assoc}
-use Rattle.job.proofs.Loop.{all-turn}
 use Rattle.row_rules.specs.Rules.{NamesAt}
+use Rattle.rules.specs.Named.{namedAs}
 
 -- counts
 pub count-most : (p : ℕ) (xs : List ℕ) → count p xs ≤ length xs
@@ -107,18 +107,20 @@ module _ {A : Type 0} (t : ℕ → A → Bool) where
       both e f ∙ rw add-one (sym (from-more 0 xs i d l ∙ ap (λ k. allFrom t 0 (take i xs) and t k (getD xs i d)) (zero-add i)))
 
 -- the rest behind the order
-pub rest-none : (array : List ℕ) (n : ℕ) → true ≡ all (eqb 0) (take (n - n) (drop n array))
-unfolding all
-rest-none array n = let e : n - n ≡ 0 = omega arith in rw e
-
-pub rest-turn : (array : List ℕ) (n i : ℕ) {ok b : Bool} → n ≤ i → i < length array
-    → ok ≡ all (eqb 0) (take (i - n) (drop n array)) → b ≡ eqb 0 (getD array i 0)
-    → (ok && b) ≡ all (eqb 0) (take (i + 1 - n) (drop n array))
-rest-turn array n i m l e f =
-    let g : n + (i - n) ≡ i = omega arith in
-    let h : i + 1 - n ≡ i - n + 1 = omega arith in
-    let k : i - n < length (drop n array) = simp length-drop (omega arith) in
-    rw h (all-turn (eqb 0) (drop n array) (i - n) 0 k e (f ∙ ap (eqb 0) (sym (getD-drop n array (i - n) 0 ∙ ap (λ j. getD array j 0) g))))
+pub rest-names : {ws array : List ℕ} {at : ℕ} → NamesAt ws at array → (n : ℕ) → n ≤ 64 → at + 64 ≤ length ws
+    → take (at + 64 - (at + n)) (drop (at + n) ws) ≡ drop n array
+rest-names {ws} {array} {at} h n l long =
+    let k : at + 64 - (at + n) ≡ 64 - n = omega arith in
+    let size : length (take (64 - n) (drop (at + n) ws)) ≡ 64 - n =
+    length-take-le (64 - n) (drop (at + n) ws) (omega (arith, length-drop (at + n) ws)) in
+    let rest : length (drop n array) ≡ 64 - n = omega (arith, length-drop n array, h .long) in
+    rw k (ext-getD 0 (take (64 - n) (drop (at + n) ws)) (drop n array) (size ∙ sym rest) (λ i b.
+    let j : at + n + i ≡ at + (n + i) = omega arith in
+    getD-take (64 - n) (drop (at + n) ws) i 0 (omega arith)
+    ∙ getD-drop (at + n) ws i 0
+    ∙ ap (λ q. getD ws q 0) j
+    ∙ h .words (n + i) (omega arith)
+    ∙ sym (getD-drop n array i 0)))
 
 -- the whole order: within its array, in range, and by its counts
 module _ (of : State → Bool) (ts : List Token) (array : List ℕ) (n : ℕ) (tokens : length ts ≡ 64) (long : length array ≡ 64) where
@@ -143,8 +145,7 @@ module _ (of : State → Bool) (ts : List Token) (array : List ℕ) (n : ℕ) (t
   pub order-counted : (kind : ℕ) → ((s : State) → eqb (stateKind s) kind ≡ of s)
       → (counts : List ℕ) → n ≤ 64 → all (λ (p : ℕ). ltb p 64) (take n array) ≡ true
       → ((p : ℕ) → p < 64 → getD counts p 0 ≡ count p (take n array))
-      → (allFrom (λ p (t : Token). eqb (getD counts p 0) (once (eqb (stateKind (t .state)) kind))) 0 ts and all (eqb 0) (drop n array))
-      ≡ namesOnce of ts array n
+      → (allFrom (namedAs kind counts) 0 ts and all (eqb 0) (drop n array)) ≡ namesOnce of ts array n
   unfolding namesOnce _and_
   order-counted kind g counts l e h =
       rw (tokens, long, le-leb n 64 l, e)

@@ -4,7 +4,8 @@ use mathlib.Core.Bool.{Bool, true, false, _&&_}
 use mathlib.Core.List.{List}
 use lib.ListN.{length}
 use lib.Dec.{ltb, leb}
-use Rattle.job.specs.Test.{_and_, all, differ}
+use Prim.Native.Nat.{ℕ}
+use Rattle.job.specs.Test.{_and_, all, allFrom, differ}
 use Rattle.job.specs.Node.{Dag, dagHolds}
 use Rattle.model.specs.Machine.Limits.{paper}
 use Rattle.model.specs.Machine.Blank.{tokenIsBlank, cellIsBlank}
@@ -18,16 +19,25 @@ use Rattle.model.specs.declared.record.Machine.{Machine}
 use Rattle.job.proofs.Test.{and-left, and-right, and-both}
 use Rattle.model.proofs.Machine.InUse.{tokens-used, cells-used}
 use Rattle.job.proofs.Lists.{same-when}
-use Rattle.job.proofs.Both.{both, three}
+use Rattle.job.proofs.Both.{both, both-is}
 use Rattle.row_rules.specs.Rules.{tokenRule, cellRule}
+use Rattle.rules.specs.Named.{namedAs, namedByBoth}
 use Rattle.rules.proofs.Rest.{all-both}
+use Rattle.rules.proofs.Rows.{from-both}
 
--- twelve tests, in the code's order and in the sentence's
-regrouped : (s r cr q ce tu h w tw ta tb cb : Bool)
-    → ((((((r and ta and tu and tw) and tb) and (cr and ce) and cb) and s and q) and w and h))
-    ≡ (s and r and cr and q and ce and tu and h and w and tw and ta and tb and cb)
-regrouped s r cr q ce tu h w tw ta tb cb =
-    same-when _ _ (λ e. search (and-left, and-right, and-both) depth 14) (λ e. search (and-left, and-right, and-both) depth 14)
+-- the tests in the code's order and in the sentence's; each order is tested in two parts
+regrouped : (s r cr ce tu h tw ta tb cb a b q w : Bool)
+    → ((((((((r and ta and tu and tw) and tb) and (a and b)) and h) and ((cr and ce) and cb)) and s) and (q and w)))
+    ≡ (s and r and cr and (a and q) and ce and tu and h and (b and w) and tw and ta and tb and cb)
+regrouped s r cr ce tu h tw ta tb cb a b q w =
+    same-when _ _ (λ e. search (and-left, and-right, and-both) depth 16) (λ e. search (and-left, and-right, and-both) depth 16)
+
+with-orders : (s r cr ce tu h tw ta tb cb a b q w queue waits : Bool) → (a and q) ≡ queue → (b and w) ≡ waits
+    → ((((((((r and ta and tu and tw) and tb) and (a and b)) and h) and ((cr and ce) and cb)) and s) and (q and w)))
+    ≡ (s and r and cr and queue and ce and tu and h and waits and tw and ta and tb and cb)
+with-orders s r cr ce tu h tw ta tb cb a b q w queue waits e f =
+    regrouped s r cr ce tu h tw ta tb cb a b q w
+    ∙ ap₂ (λ x y. s and r and cr and x and ce and tu and h and y and tw and ta and tb and cb) e f
 
 module _ (d : Dag) (m : Machine) where
   -- the dag's rules first
@@ -70,21 +80,26 @@ module _ (d : Dag) (m : Machine) where
 
     -- all results together
     pub rules-are : dagHolds d ≡ true → {used marks : List Bool} → used ≡ tokensUsed m → marks ≡ cellsUsed m
-        → {first second sizes queued waited differing : Bool}
-        → first ≡ (all (tokenRule d m) (m .tokens) and restIsBlank tokenIsBlank used (m .tokens))
+        → (queue waits : List ℕ) (queued waited : Bool) {first second sizes : Bool}
+        → first
+        ≡ (((all (tokenRule d m) (m .tokens) and restIsBlank tokenIsBlank used (m .tokens)) and allFrom (namedByBoth queue waits) 0 (m .tokens))
+        and differ (openHandles (m .tokens)))
         → second ≡ (all (cellRule d (m .cells)) (m .cells) and restIsBlank cellIsBlank marks (m .cells))
         → sizes ≡ (leb (m .calls) 1000000 and ltb (m .lasttoken) 64 and ltb (m .lastcell) 32)
-        → queued ≡ namesOnce isReady (m .tokens) (m .queue) (m .queued)
-        → waited ≡ namesOnce isWaiting (m .tokens) (m .waits) (m .waiting)
-        → differing ≡ differ (openHandles (m .tokens))
-        → (first && second && sizes && queued && waited && differing) ≡ rulesHold paper d m
+        → (allFrom (namedAs 1 queue) 0 (m .tokens) and queued) ≡ namesOnce isReady (m .tokens) (m .queue) (m .queued)
+        → (allFrom (namedAs 2 waits) 0 (m .tokens) and waited) ≡ namesOnce isWaiting (m .tokens) (m .waits) (m .waiting)
+        → (first && second && sizes && (queued && waited)) ≡ rulesHold paper d m
     unfolding machineHolds
-    rules-are kept e f firsts seconds sized queues waits differs =
-        three
-        (three
-        (both (firsts ∙ ap₂ _and_ token-rules (ap (λ us. restIsBlank tokenIsBlank us (m .tokens)) e))
+    rules-are holds e f queue waits queued waited firsts seconds sized queues delays =
+        both
+        (both
+        (both
+        (firsts
+        ∙ ap₂ (λ x y. (x and y) and differ (openHandles (m .tokens)))
+        (ap₂ _and_ token-rules (ap (λ us. restIsBlank tokenIsBlank us (m .tokens)) e))
+        (from-both (namedAs 1 queue) (namedAs 2 waits) 0 (m .tokens)))
         (seconds ∙ ap₂ _and_ cell-rules (ap (λ us. restIsBlank cellIsBlank us (m .cells)) f)))
-        (sized ∙ sym sizes-parts) queues)
-        waits differs
-        ∙ regrouped _ _ _ _ _ _ _ _ _ _ _ _
-        ∙ dag-keeps kept
+        (sized ∙ sym sizes-parts))
+        (both-is queued waited)
+        ∙ with-orders _ _ _ _ _ _ _ _ _ _ _ _ _ _ _ _ queues delays
+        ∙ dag-keeps holds

@@ -9,6 +9,7 @@ use lib.ListN.{length, getD, take}
 use lib.Seq.{take-all}
 use Rattle.job.specs.Test.{_and_, all}
 use Rattle.model.specs.Machine.Rules.{restIsBlank}
+use Rattle.job.proofs.Test.{clash}
 use Rattle.job.proofs.Both.{both, and-true, and-false, and-assoc, regroup}
 use Rattle.job.proofs.Loop.{all-more}
 
@@ -53,3 +54,12 @@ pub all-both : {A : Type 0} (p q : A → Bool) (xs : List A) → all (λ x. p x 
 unfolding all _and_
 all-both p q [] = refl
 all-both p q (x ∷ xs) = ap (_and_ (p x and q x)) (all-both p q xs) ∙ regroup (p x) (q x) (all p xs) (all q xs)
+
+-- a test that comes first: it holds where all hold, and where it holds the others decide
+pub first-true : (a b : Bool) → (a && b) ≡ true → a ≡ true
+first-true true b e = refl
+first-true false b e = e
+
+pub second-true : (a b : Bool) → (a && b) ≡ true → b ≡ true
+second-true true b e = e
+second-true false b e = clash e refl

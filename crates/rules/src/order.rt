@@ -1,21 +1,22 @@
-// "The queue names each ready token once and nothing else"; "the wait order names each waiting token once".
+// "The queue names each ready token once and nothing else"; "the wait order names each waiting token once": how often each place is named.
 ghost use mathlib.Core.Path.{_≡_};
-ghost use mathlib.Core.Bool.{Bool, true};
+ghost use mathlib.Core.Bool.{Bool, true, false};
 ghost use mathlib.Core.List.{List};
 ghost use Prim.Native.Nat.{ℕ, _≤_, _<_, _+_};
 ghost use lib.ListN.{getD, take, drop};
 ghost use lib.Dec.{ltb, eqb};
-ghost use Rattle.job.specs.Test.{all, allFrom, count, once};
+ghost use Rattle.job.specs.Test.{_and_, all, allFrom, count, once};
 ghost use Rattle.model.specs.Machine.Rules.{namesOnce};
 ghost use Rattle.model.specs.Machine.State.{isReady, isWaiting};
 ghost use Rattle.model.specs.declared.record.Machine.{Machine};
 ghost use Rattle.model.specs.declared.token.State.{State};
-ghost use Rattle.model.specs.declared.token.Token.{Token};
 ghost use Rattle.record.specs.Holds.{Codes};
 ghost use Rattle.record.specs.Words.{stateKind};
 ghost use Rattle.row_rules.specs.Rules.{NamesAt};
+ghost use Rattle.rules.specs.Named.{namedAs};
 use job::wide::wide;
 use model::record::Machine;
+use orders::zero::all_zero;
 use record::layout::QUEUE;
 use record::layout::READY_STATE;
 use record::layout::TOKEN_PLACES;
@@ -23,7 +24,6 @@ use record::layout::WAITING_STATE;
 use record::layout::WAITS;
 use record::order::queued;
 use record::order::waiting;
-use record::token::state;
 
 // Does the order name places of tokens only? Its names are the first n of the 64 words from `at` on.
 fn order_in_range(w: &[u32; Machine::WORDS], at: usize, n: usize) -> bool
@@ -45,13 +45,7 @@ fn rest_is_zero(w: &[u32; Machine::WORDS], at: usize, n: usize) -> bool
     requires { ⌜ (n ≤ 64) × (at ≤ 1728) ⌝ }
     ensures { λ r. ⌜ ((names : List ℕ) → NamesAt (now (w .entry)) at names → r ≡ all (eqb 0) (drop n names)) ⌝ }
 {
-    let mut ok = true;
-    let mut i = n;
-    while i < Machine::TOKENS {
-        ok = ok & (0 == w[at + i]);
-        i += 1;
-    }
-    ok
+    all_zero(w, at + n, at + Machine::TOKENS)
 }
 
 // How often each place stands in the order.
@@ -70,49 +64,61 @@ fn counted(w: &[u32; Machine::WORDS], at: usize, n: usize) -> [u8; Machine::TOKE
     counts
 }
 
+// An order: is it one of places, with 0 behind its last name, and how often does it name each place?
+pub struct Order {
+    pub ok: bool,
+    pub counts: [u8; Machine::TOKENS],
+}
+
+fn no_order() -> Order
+    ensures { λ r. ⌜ r .ok ≡ false ⌝ }
+{
+    Order {
+        ok: false,
+        counts: [0; Machine::TOKENS],
+    }
+}
+
+// The order of so many names from the word `at` on.
+fn read_order(w: &[u32; Machine::WORDS], at: usize, names: u32) -> Order
+    requires { ⌜ at ≤ 1728 ⌝ }
+    ensures { λ r. ⌜ ((of : State → Bool) (kind : ℕ) (m : Machine) (array : List ℕ) → Codes (now (w .entry)) m → NamesAt (now (w .entry)) at array → ((s : State) → eqb (stateKind s) kind ≡ of s) → (allFrom (namedAs kind (r .counts)) 0 (m .tokens) and r .ok) ≡ namesOnce of (m .tokens) array names) ⌝ }
+{
+    let n = wide(names);
+    if Machine::TOKENS < n {
+        return no_order();
+    }
+    if !order_in_range(w, at, n) {
+        return no_order();
+    }
+    let counts = counted(w, at, n);
+    let ok = rest_is_zero(w, at, n);
+    Order { ok, counts }
+}
+
+// The queue names the ready tokens.
+pub fn queue_order(w: &[u32; Machine::WORDS]) -> Order
+    ensures { λ r. ⌜ ((m : Machine) → Codes (now (w .entry)) m → (allFrom (namedAs 1 (r .counts)) 0 (m .tokens) and r .ok) ≡ namesOnce isReady (m .tokens) (m .queue) (m .queued)) ⌝ }
+{
+    read_order(w, QUEUE, queued(w))
+}
+
+// The wait order names the waiting ones.
+pub fn wait_order(w: &[u32; Machine::WORDS]) -> Order
+    ensures { λ r. ⌜ ((m : Machine) → Codes (now (w .entry)) m → (allFrom (namedAs 2 (r .counts)) 0 (m .tokens) and r .ok) ≡ namesOnce isWaiting (m .tokens) (m .waits) (m .waiting)) ⌝ }
+{
+    read_order(w, WAITS, waiting(w))
+}
+
 fn one_if(b: bool) -> u8
     ensures { λ r. ⌜ r ≡ once b ⌝ }
 {
     if b { 1 } else { 0 }
 }
 
-// Does each place of the tokens in that state stand there once, and no other?
-fn counts_agree(w: &[u32; Machine::WORDS], counts: [u8; Machine::TOKENS], kind: u32) -> bool
-    ensures { λ r. ⌜ ((m : Machine) → Codes (now (w .entry)) m → r ≡ allFrom (λ p (t : Token). eqb (getD counts p 0) (once (eqb (stateKind (t .state)) kind))) 0 (m .tokens)) ⌝ }
+// Is a place named so often by the queue and by the wait order as a token in that state asks?
+pub fn counts_agree(kind: u32, queue: u8, waits: u8) -> bool
+    ensures { λ r. ⌜ r ≡ (eqb queue (once (eqb kind 1)) and eqb waits (once (eqb kind 2))) ⌝ }
 {
-    let mut ok = true;
-    let mut i: usize = 0;
-    while i < Machine::TOKENS {
-        ok = ok & (counts[i] == one_if(state(w, i) == kind));
-        i += 1;
-    }
-    ok
-}
-
-// It must name the tokens whose states are of that kind.
-fn names_once(w: &[u32; Machine::WORDS], at: usize, names: u32, kind: u32) -> bool
-    requires { ⌜ at ≤ 1728 ⌝ }
-    ensures { λ r. ⌜ ((of : State → Bool) (m : Machine) (array : List ℕ) → Codes (now (w .entry)) m → NamesAt (now (w .entry)) at array → ((s : State) → eqb (stateKind s) kind ≡ of s) → r ≡ namesOnce of (m .tokens) array names) ⌝ }
-{
-    let n = wide(names);
-    if Machine::TOKENS < n {
-        return false;
-    }
-    if !order_in_range(w, at, n) {
-        return false;
-    }
-    let counts = counted(w, at, n);
-    counts_agree(w, counts, kind) & rest_is_zero(w, at, n)
-}
-
-pub fn queue_holds(w: &[u32; Machine::WORDS]) -> bool
-    ensures { λ r. ⌜ ((m : Machine) → Codes (now (w .entry)) m → r ≡ namesOnce isReady (m .tokens) (m .queue) (m .queued)) ⌝ }
-{
-    names_once(w, QUEUE, queued(w), READY_STATE)
-}
-
-pub fn waits_hold(w: &[u32; Machine::WORDS]) -> bool
-    ensures { λ r. ⌜ ((m : Machine) → Codes (now (w .entry)) m → r ≡ namesOnce isWaiting (m .tokens) (m .waits) (m .waiting)) ⌝ }
-{
-    names_once(w, WAITS, waiting(w), WAITING_STATE)
+    (queue == one_if(kind == READY_STATE)) & (waits == one_if(kind == WAITING_STATE))
 }

@@ -10,15 +10,14 @@ use record::cell;
 use record::count;
 use record::layout::BLANK_STATE;
 use record::layout::CALLED_STATE;
-use record::layout::CELL;
-use record::layout::CELLS;
 use record::layout::EMPTY_SLOT;
 use record::layout::READY_STATE;
-use record::layout::TOKEN;
 use record::layout::VALUE_SLOT;
 use record::layout::WAITING_STATE;
 use record::order;
 use record::token;
+use row_rules::blank::cell_is_blank;
+use row_rules::blank::token_is_blank;
 use sites::number::signed;
 
 fn state(kind: u32, at: u32) {
@@ -95,20 +94,9 @@ fn show_token(w: &[u32; Machine::WORDS], p: usize)
     put(b"\n");
 }
 
-fn is_blank_token(w: &[u32; Machine::WORDS], p: usize) -> bool
-    requires { ⌜ p < 64 ⌝ }
-{
-    for i in 0..TOKEN {
-        if w[TOKEN * p + i] != 0 {
-            return false;
-        }
-    }
-    true
-}
-
 fn tokens(w: &[u32; Machine::WORDS]) {
     for p in 0..Machine::TOKENS {
-        if !is_blank_token(w, p) {
+        if !token_is_blank(w, p) {
             show_token(w, p);
         }
     }
@@ -124,20 +112,9 @@ fn show_cell(w: &[u32; Machine::WORDS], c: usize)
     put(b"\n");
 }
 
-fn is_blank_cell(w: &[u32; Machine::WORDS], c: usize) -> bool
-    requires { ⌜ c < 32 ⌝ }
-{
-    for i in 0..CELL {
-        if w[CELLS + CELL * c + i] != 0 {
-            return false;
-        }
-    }
-    true
-}
-
 fn cells(w: &[u32; Machine::WORDS]) {
     for c in 0..Machine::CELLS {
-        if !is_blank_cell(w, c) {
+        if !cell_is_blank(w, c) {
             show_cell(w, c);
         }
     }

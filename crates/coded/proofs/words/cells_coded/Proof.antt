@@ -24,7 +24,7 @@ loop-again c =
     let l = place3 .loop in (
       search needs,
       table-on cellCoded 4 32 _ (l .c) _ (l .inv .1) (search needs) (omega arith)
-          (cell-at _ (l .c) ∙ sym (c .before .cell-coded .ensures) ∙ c .if1 .taken),
+          (cell-at _ (l .c) ∙ sym (c .before .cell-row-coded .ensures) ∙ c .if1 .taken),
     )
 
 returns : tie.Need-returns Inv-loop μ-loop
@@ -32,7 +32,7 @@ returns c =
     let place3 = c .before .before .before in
     let l = place3 .loop in
     table-fail cellCoded 4 32 _ (l .c) _ (l .inv .1) (search needs) (omega arith)
-    (cell-at _ (l .c) ∙ sym (c .before .cell-coded .ensures) ∙ c .if1 .left)
+    (cell-at _ (l .c) ∙ sym (c .before .cell-row-coded .ensures) ∙ c .if1 .left)
 
 returns-2 : tie.Need-returns-2 Inv-loop μ-loop
 returns-2 c = table-end cellCoded 4 32 _ (c .before .loop .c) _ (c .before .loop .inv .1) (search needs)

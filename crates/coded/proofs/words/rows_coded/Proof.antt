@@ -22,13 +22,13 @@ loop-again : tie.Need-loop-again Inv-loop μ-loop
 loop-again c =
     let place3 = c .before .before .before in
     let l = place3 .loop in
-    (search needs, table-on rowCoded 24 64 _ (l .p) _ (l .inv .1) (search needs) (omega arith) (sym (c .before .row-passes .ensures) ∙ c .if1 .taken))
+    (search needs, table-on rowCoded 24 64 _ (l .p) _ (l .inv .1) (search needs) (omega arith) (sym (c .before .row-coded .ensures) ∙ c .if1 .taken))
 
 returns : tie.Need-returns Inv-loop μ-loop
 returns c =
     let place3 = c .before .before .before in
     let l = place3 .loop in
-    table-fail rowCoded 24 64 _ (l .p) _ (l .inv .1) (search needs) (omega arith) (sym (c .before .row-passes .ensures) ∙ c .if1 .left)
+    table-fail rowCoded 24 64 _ (l .p) _ (l .inv .1) (search needs) (omega arith) (sym (c .before .row-coded .ensures) ∙ c .if1 .left)
 
 returns-2 : tie.Need-returns-2 Inv-loop μ-loop
 returns-2 c = table-end rowCoded 24 64 _ (c .before .loop .p) _ (c .before .loop .inv .1) (search needs)

@@ -21,12 +21,13 @@ returns-2 c =
     let place4 = place3 .before in
     let place5 = place4 .before in
     let place6 = place5 .before in
+    let place7 = place6 .before in
     λ m h.
-    let t = tokenAt (m .tokens) (place6 .args .p) in
+    let t = tokenAt (m .tokens) (place7 .args .p) in
     both
-    (ap not (place2 .under-set .ensures m h ∙ ap (underSet (m .cells)) (ap placeFrom (place3 .cell .ensures m h) ∙ placed (t .cell)))
-    ∙ busy (m .cells) t (place5 .state .ensures m h) (place4 .if1 .left))
-    (c .waits-at-unset .ensures m (t .state) h (place5 .state .ensures m h) (c .before .state-number .ensures m h))
+    (ap not (place2 .under-set .ensures m h ∙ ap (underSet (m .cells)) (ap placeFrom (place3 .wide .ensures ∙ place4 .cell .ensures m h) ∙ placed (t .cell)))
+    ∙ busy (m .cells) t (place6 .state .ensures m h) (place5 .if1 .left))
+    (c .waits-at-unset .ensures m (t .state) h (place6 .state .ensures m h) (c .before .state-number .ensures m h))
 
 pub is-free-spec : {M : Type 1} → statement M
 is-free-spec =
@@ -34,6 +35,7 @@ is-free-spec =
     (tie.spec
     (λ c κs. search needs)
     returns
+    (λ c κs. search needs)
     (λ c κs. search needs)
     (λ c κs. search needs)
     (λ c κs. search needs)

@@ -1,51 +1,75 @@
 -- `rules::rules_hold` meets its contract: the dag's rules first, then all the record's together. Assumes nothing.
-use mathlib.Core.Path.{sym, _∙_}
+use mathlib.Core.Bool.{_&&_}
+use mathlib.Core.Path.{refl, sym, _∙_}
 use borrow.Author.Tests.{not-true, not-false}
 use Rattle.job.specs.Words.{dagOf}
+use Rattle.job.proofs.Test.{clash}
 use Rattle.record.specs.Decode.{machineOf}
 use Rattle.rules.proofs.Record.{dag-breaks, tokens-marked, cells-marked, rules-are}
+use Rattle.rules.proofs.Rest.{first-true, second-true}
 use Rattle.rules.proofs.Decoding.{decoded}
 use borrow.Author.Needs.{needs}
 use Rattle.rules.proofs.rules.rules_hold.Statement.{statement}
 use Rattle.rules.proofs.rules.rules_hold.Tie as tie
 
 returns : tie.Need-returns
-returns c = λ h e f. dag-breaks _ _ (sym (c .before .dag-holds .ensures) ∙ not-true _ (c .if1 .taken))
+returns c =
+    record {
+      words = λ e. clash e refl;
+      codes = c .before .before .whole .ensures .0;
+      rules = λ h e f. dag-breaks _ _ (sym (c .before .dag-holds .ensures) ∙ not-true _ (c .if1 .taken));
+    }
 
 tokens-hold-requires : tie.Need-tokens-hold-requires
-tokens-hold-requires c κs = (search needs, sym (c .before .before .dag-holds .ensures) ∙ not-false _ (c .before .if1 .left))
+tokens-hold-requires c κs =
+    let place9 = c .before .before .before .before .before .before .before .before .before in
+    (search needs, sym (place9 .before .dag-holds .ensures) ∙ not-false _ (place9 .if1 .left))
 
 returns-2 : tie.Need-returns-2
 returns-2 c =
     let place2 = c .before .before in
-    let place3 = place2 .before in
-    let place4 = place3 .before in
-    let place5 = place4 .before in
-    let place7 = place5 .before .before in
-    let place8 = place7 .before in
-    let place9 = place8 .before in
-    λ k e f.
-    let d = dagOf (place9 .args .dag .now) in
-    let m = machineOf (place9 .args .w .now) in
-    let h = decoded k in
-    let tokens = k .shaped .tokens in
-    let cells = k .shaped .cells in
-    rules-are d m tokens cells (sym (place8 .dag-holds .ensures) ∙ not-false _ (place7 .if1 .left)) e f
-    (place5 .tokens-hold .ensures m h (tokens-marked d m tokens cells e))
-    (place4 .cells-hold .ensures d m h (cells-marked d m tokens cells f))
-    (place3 .sizes-in-range .ensures m k) (place2 .queue-holds .ensures m k) (c .before .waits-hold .ensures m k)
-    (c .handles-differ .ensures m k)
+    let place10 = place2 .before .before .before .before .before .before .before .before in
+    let place11 = place10 .before in
+    let place12 = place11 .before in
+    let place13 = place12 .before in
+    let place14 = place13 .before in
+    let args = place14 .before .before .args in
+    let tokens = place2 .tokens-hold .result in
+    let cells = c .before .cells-hold .result in
+    let sizes = c .sizes-in-range .result in
+    let queue = place11 .queue-order .result in
+    let waits = place10 .wait-order .result in
+    record {
+      words =
+          λ e.
+          let both = first-true (tokens && cells) sizes (first-true (tokens && cells && sizes) (queue .ok && waits .ok) e) in
+          place14 .whole .ensures .1 (place2 .tokens-hold .ensures .0 (first-true tokens cells both))
+          (c .before .cells-hold .ensures .0 (second-true tokens cells both));
+      codes = place14 .whole .ensures .0;
+      rules =
+          λ k e f.
+          let d = dagOf (args .dag .now) in
+          let m = machineOf (args .w .now) in
+          let h = decoded k in
+          let long = k .shaped .tokens in
+          let short = k .shaped .cells in
+          rules-are d m long short (sym (place13 .dag-holds .ensures) ∙ not-false _ (place12 .if1 .left)) e f (queue .counts) (waits .counts) (queue .ok)
+          (waits .ok)
+          (place2 .tokens-hold .ensures .1 m h (tokens-marked d m long short e))
+          (c .before .cells-hold .ensures .1 d m h (cells-marked d m long short f))
+          (c .sizes-in-range .ensures m k) (place11 .queue-order .ensures m k) (place10 .wait-order .ensures m k);
+    }
 
 pub rules-hold-spec : {M : Type 1} → statement M
 rules-hold-spec =
     tie.close
     (tie.spec
     (λ c κs. search needs)
+    (λ c κs. search needs)
     returns
+    (λ c κs. search needs)
+    (λ c κs. search needs)
     tokens-hold-requires
-    (λ c κs. search needs)
-    (λ c κs. search needs)
-    (λ c κs. search needs)
     (λ c κs. search needs)
     (λ c κs. search needs)
     returns-2)

@@ -13,8 +13,8 @@ abbrev μ-loop : tie.MeasureT-loop
 loop-holds : tie.Need-loop-holds Inv-loop μ-loop
 loop-holds c = search needs
 
-is-blank-cell-requires : tie.Need-is-blank-cell-requires Inv-loop μ-loop
-is-blank-cell-requires c κs = search needs
+cell-is-blank-requires : tie.Need-cell-is-blank-requires Inv-loop μ-loop
+cell-is-blank-requires c κs = search needs
 
 show-cell-requires : tie.Need-show-cell-requires Inv-loop μ-loop
 show-cell-requires c κs = search needs
@@ -38,7 +38,7 @@ cells-spec =
     Inv-loop
     μ-loop
     loop-holds
-    is-blank-cell-requires
+    cell-is-blank-requires
     show-cell-requires
     add-c
     loop-less

@@ -13,8 +13,8 @@ abbrev μ-loop : tie.MeasureT-loop
 loop-holds : tie.Need-loop-holds Inv-loop μ-loop
 loop-holds c = search needs
 
-is-blank-token-requires : tie.Need-is-blank-token-requires Inv-loop μ-loop
-is-blank-token-requires c κs = search needs
+token-is-blank-requires : tie.Need-token-is-blank-requires Inv-loop μ-loop
+token-is-blank-requires c κs = search needs
 
 show-token-requires : tie.Need-show-token-requires Inv-loop μ-loop
 show-token-requires c κs = search needs
@@ -38,7 +38,7 @@ tokens-spec =
     Inv-loop
     μ-loop
     loop-holds
-    is-blank-token-requires
+    token-is-blank-requires
     show-token-requires
     add-p
     loop-less

@@ -1,0 +1,17 @@
+-- What an order says of each token, from how often it names each place. Assumes nothing: these are definitions.
+use mathlib.Core.Bool.{Bool}
+use mathlib.Core.List.{List}
+use Prim.Native.Nat.{ℕ}
+use lib.ListN.{getD}
+use lib.Dec.{eqb}
+use Rattle.job.specs.Test.{_and_, once}
+use Rattle.model.specs.declared.token.Token.{Token}
+use Rattle.record.specs.Words.{stateKind}
+
+-- a token in the state of that kind is named once, any other never
+abbrev pub namedAs : (kind : ℕ) → (counts : List ℕ) → ℕ → Token → Bool
+namedAs kind counts p t = eqb (getD counts p 0) (once (eqb (stateKind (t .state)) kind))
+
+-- the queue names the ready ones, the wait order those that wait
+abbrev pub namedByBoth : (queue waits : List ℕ) → ℕ → Token → Bool
+namedByBoth queue waits p t = namedAs 1 queue p t and namedAs 2 waits p t

@@ -1,0 +1,43 @@
+// The rules of the cells: each row is looked at once, and one that is not in use only for being blank.
+ghost use mathlib.Core.Path.{_≡_};
+ghost use mathlib.Core.Bool.{true, _||_};
+ghost use Prim.Native.Nat.{ℕ, _<_};
+ghost use lib.ListN.{length};
+ghost use Rattle.job.specs.Test.{_and_, all};
+ghost use Rattle.job.specs.Node.{Dag};
+ghost use Rattle.model.specs.Machine.Blank.{cellAt, cellIsBlank};
+ghost use Rattle.model.specs.Machine.Rules.{restIsBlank};
+ghost use Rattle.model.specs.declared.record.Machine.{Machine};
+ghost use Rattle.coded.specs.Coded.{cellAtCoded};
+ghost use Rattle.row_rules.specs.Decoded.{Decoded};
+ghost use Rattle.row_rules.specs.Rules.{cellRule};
+use coded::words::cell_coded;
+use model::record::Machine;
+use record::cell::parent;
+use record::layout::CELL_PLACES;
+use row_rules::blank::cell_is_blank;
+use row_rules::chain::chain_ends;
+
+// The words and the rules of one cell. A blank one keeps them all.
+fn cell_holds(w: &[u32; Machine::WORDS], c: usize, used: bool) -> bool
+    requires { ⌜ c < 32 ⌝ }
+    ensures { λ r. ⌜ (r ≡ true → cellAtCoded (now (w .entry)) c ≡ true) × ((d : Dag) (m : Machine) → Decoded (now (w .entry)) m → r ≡ (cellRule d (m .cells) (cellAt (m .cells) c) and (used || cellIsBlank (cellAt (m .cells) c)))) ⌝ }
+{
+    if !used {
+        return cell_coded(w, c) & cell_is_blank(w, c);
+    }
+    let above = parent(w, c);
+    cell_coded(w, c) & (above <= CELL_PLACES) & chain_ends(w, above)
+}
+
+pub fn cells_hold(w: &[u32; Machine::WORDS], used: &[bool; Machine::CELLS]) -> bool
+    ensures { λ r. ⌜ (r ≡ true → (c : ℕ) → c < 32 → cellAtCoded (now (w .entry)) c ≡ true) × ((d : Dag) (m : Machine) → Decoded (now (w .entry)) m → length (now (used .entry)) ≡ 32 → r ≡ (all (cellRule d (m .cells)) (m .cells) and restIsBlank cellIsBlank (now (used .entry)) (m .cells))) ⌝ }
+{
+    let mut ok = true;
+    let mut i: usize = 0;
+    while i < Machine::CELLS {
+        ok = ok & cell_holds(w, i, used[i]);
+        i += 1;
+    }
+    ok
+}

@@ -1,0 +1,70 @@
+// The rules of the tokens, all together: each row is looked at once, and one that is not in use only for being blank.
+ghost use mathlib.Core.Path.{_≡_};
+ghost use mathlib.Core.Bool.{true, _||_};
+ghost use Prim.Native.Nat.{ℕ, _<_};
+ghost use lib.ListN.{length};
+ghost use Rattle.job.specs.Test.{_and_, all, allFrom, differ};
+ghost use Rattle.job.specs.Node.{dagHolds};
+ghost use Rattle.job.specs.Words.{dagOf};
+ghost use Rattle.model.specs.Machine.Blank.{tokenAt, tokenIsBlank};
+ghost use Rattle.model.specs.Machine.Rules.{restIsBlank, openHandles};
+ghost use Rattle.model.specs.declared.record.Machine.{Machine};
+ghost use Rattle.coded.specs.Coded.{tokenCoded};
+ghost use Rattle.row_rules.specs.Decoded.{Decoded};
+ghost use Rattle.row_rules.specs.Rules.{tokenRule};
+ghost use Rattle.rules.specs.Named.{namedByBoth};
+use crate::handles::all_differ;
+use crate::order::counts_agree;
+use coded::words::token_coded;
+use job::wide::wide;
+use model::record::Machine;
+use record::layout::CALLED_STATE;
+use record::token::node;
+use record::token::state;
+use record::token::state_number;
+use row_rules::blank::token_is_blank;
+use row_rules::chain::is_free;
+use row_rules::node::at_node;
+use row_rules::range::token_in_range;
+
+// The words and the rules of one token. A blank one keeps them all.
+fn token_holds(w: &[u32; Machine::WORDS], p: usize, used: bool, dag: &[u32]) -> bool
+    requires { ⌜ (p < 64) × (length (now dag) ≡ 12331) × (dagHolds (dagOf (now dag)) ≡ true) ⌝ }
+    ensures { λ r. ⌜ (r ≡ true → tokenCoded (now (w .entry)) p ≡ true) × ((m : Machine) → Decoded (now (w .entry)) m → r ≡ (tokenRule (dagOf (now (dag .entry))) m (tokenAt (m .tokens) p) and (used || tokenIsBlank (tokenAt (m .tokens) p)))) ⌝ }
+{
+    if !used {
+        return token_is_blank(w, p);
+    }
+    let at = node(w, p);
+    if dag[0] <= at {
+        return false;
+    }
+    token_coded(w, p) & token_in_range(w, p) & at_node(w, p, wide(at), dag) & is_free(w, p)
+}
+
+// The marks say which tokens are in use, the counts how often the orders name each place. Open handles are gathered on the way.
+pub fn tokens_hold(
+    w: &[u32; Machine::WORDS],
+    used: &[bool; Machine::TOKENS],
+    dag: &[u32],
+    queue: &[u8; Machine::TOKENS],
+    waits: &[u8; Machine::TOKENS],
+) -> bool
+    requires { ⌜ (length (now dag) ≡ 12331) × (dagHolds (dagOf (now dag)) ≡ true) ⌝ }
+    ensures { λ r. ⌜ (r ≡ true → (p : ℕ) → p < 64 → tokenCoded (now (w .entry)) p ≡ true) × ((m : Machine) → Decoded (now (w .entry)) m → length (now (used .entry)) ≡ 64 → r ≡ (((all (tokenRule (dagOf (now (dag .entry))) m) (m .tokens) and restIsBlank tokenIsBlank (now (used .entry)) (m .tokens)) and allFrom (namedByBoth (now (queue .entry)) (now (waits .entry))) 0 (m .tokens)) and differ (openHandles (m .tokens)))) ⌝ }
+{
+    let mut handles = [0u32; Machine::TOKENS];
+    let mut count: usize = 0;
+    let mut ok = true;
+    let mut i: usize = 0;
+    while i < Machine::TOKENS {
+        let kind = state(w, i);
+        ok = ok & token_holds(w, i, used[i], dag) & counts_agree(kind, queue[i], waits[i]);
+        handles[count] = state_number(w, i);
+        if kind == CALLED_STATE {
+            count += 1;
+        }
+        i += 1;
+    }
+    ok & all_differ(&handles, count)
+}
