@@ -18,6 +18,8 @@ ghost use Prim.Native.Nat.{ℕ};
 ghost use mathlib.Core.List.{List, []};
 ghost use Rattle.acts.specs.Acting.{Taking};
 use crate::report::plain;
+use job::dag::NAMED;
+use job::dag::NEXT;
 use job::dag::WORDS;
 use job::wide::wide;
 use model::record::Machine;
@@ -69,7 +71,7 @@ pub fn assign(
     requires { ⌜ Some (Acting (now w) (now tokens) (now cells) (now dag) place p at 4) ⌝ }
     ensures { λ r. ⌜ ((m : Machine) → Acting (now (w .entry)) (now (tokens .entry)) (now (cells .entry)) (now (dag .entry)) place p at 4 m → Gives (Step.step paper (dagOf (now (dag .entry))) m place) m (now (w .exit)) (now (tokens .exit)) (now (cells .exit)) r) ⌝ }
 {
-    let x = wide(word(dag, at + 1));
+    let x = wide(word(dag, at + NAMED));
     let number = value(w, p);
     rebind(
         w,
@@ -80,7 +82,7 @@ pub fn assign(
         x,
         VALUE_SLOT,
         number,
-        word(dag, at + 2),
+        word(dag, at + NEXT),
     )
 }
 
@@ -97,7 +99,7 @@ pub fn remove(
     requires { ⌜ Some (Acting (now w) (now tokens) (now cells) (now dag) place p at 5) ⌝ }
     ensures { λ r. ⌜ ((m : Machine) → Acting (now (w .entry)) (now (tokens .entry)) (now (cells .entry)) (now (dag .entry)) place p at 5 m → Gives (Step.step paper (dagOf (now (dag .entry))) m place) m (now (w .exit)) (now (tokens .exit)) (now (cells .exit)) r) ⌝ }
 {
-    let x = wide(word(dag, at + 1));
+    let x = wide(word(dag, at + NAMED));
     rebind(
         w,
         tokens,
@@ -107,6 +109,6 @@ pub fn remove(
         x,
         EMPTY_SLOT,
         0,
-        word(dag, at + 2),
+        word(dag, at + NEXT),
     )
 }

@@ -11,6 +11,9 @@ ghost use Rattle.calls.specs.Evaluated.{Evaluated};
 use acts::end::end;
 use acts::report::plain;
 use job::dag::CALL_LIMIT;
+use job::dag::NAMED;
+use job::dag::NEXT;
+use job::dag::PARAMETER_COUNT;
 use job::dag::WORDS;
 use job::sites::BUILTINS;
 use model::record::Machine;
@@ -46,9 +49,9 @@ fn outside(
     if CALL_LIMIT <= handle {
         return plain(Reply::Refused(Refusal::CallLimit));
     }
-    call_out(w, place, p, handle, word(dag, at + 2));
-    let site = word(dag, at + 1) as u16;
-    let count = word(dag, at + 3) as u8;
+    call_out(w, place, p, handle, word(dag, at + NEXT));
+    let site = word(dag, at + NAMED) as u16;
+    let count = word(dag, at + PARAMETER_COUNT) as u8;
     Report {
         reply: Reply::Called(handle, site, count),
         values,
@@ -71,9 +74,9 @@ fn built_in(
 {
     let a = values[0];
     let b = values[1];
-    match builtin(word(dag, at + 1), a, b) {
+    match builtin(word(dag, at + NAMED), a, b) {
         SiteReply::Gives(v) => {
-            reply(w, place, p, bits(v), word(dag, at + 2));
+            reply(w, place, p, bits(v), word(dag, at + NEXT));
             plain(Reply::Done)
         }
         SiteReply::Silent => end(w, tokens, cells, place, p, Reply::Done),
@@ -99,7 +102,7 @@ pub fn site_call(
         return plain(Reply::Waits);
     }
     let values = found.values;
-    if word(dag, at + 1) < BUILTINS {
+    if word(dag, at + NAMED) < BUILTINS {
         return built_in(w, tokens, cells, dag, place, p, at, values);
     }
     outside(w, tokens, cells, dag, place, p, at, values)

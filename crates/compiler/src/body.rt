@@ -9,6 +9,8 @@ use crate::expression::Compiled;
 use crate::expression::compile_expression;
 use crate::plan::Plan;
 use crate::store::put;
+use job::dag::PUBLISH;
+use job::dag::RETURN;
 use job::dag::WORDS;
 
 // Stores the sink of the goal, or of a definition.
@@ -17,10 +19,10 @@ fn put_sink(dag: &mut [u32; WORDS], sink: usize, goal: bool)
     ensures { λ _. ⌜ now (dag .exit) ≡ sets (now (dag .entry)) (headWords + 12 * sink) (nodeWords (sinkOf goal)) ⌝ }
 {
     if goal {
-        put(dag, sink, [9, 0, 0, 0, 0, 0, 0, 0, 0, 0, 0, 0]);
+        put(dag, sink, [PUBLISH, 0, 0, 0, 0, 0, 0, 0, 0, 0, 0, 0]);
         return;
     }
-    put(dag, sink, [8, 0, 0, 0, 0, 0, 0, 0, 0, 0, 0, 0]);
+    put(dag, sink, [RETURN, 0, 0, 0, 0, 0, 0, 0, 0, 0, 0, 0]);
 }
 
 // Stores the nodes of the body at entry `at`, numbered from `node`, and behind them its sink, whose number is known.

@@ -7,6 +7,7 @@ ghost use Rattle.job.specs.Entry.{high};
 ghost use Rattle.job.proofs.Position.{operandAt};
 ghost use Rattle.reader.specs.Checked.{Parts};
 ghost use Rattle.compiler.specs.Call.{wordIf, callWords};
+use job::dag::ROW;
 use reader::entry::operand;
 
 // The kind of parameter `i` of `count`, whose entries begin at `at`, or 0.
@@ -33,7 +34,7 @@ fn operand_word(operands: &[u8], at: usize, i: usize, count: usize) -> u32
 }
 
 // "low 16 bits site, high 16 bits parameter count", or the same of a definition: the words of the call at `at`.
-pub fn call_words(kinds: &[u8], operands: &[u8], at: usize, next: u32) -> [u32; 12]
+pub fn call_words(kinds: &[u8], operands: &[u8], at: usize, next: u32) -> [u32; ROW]
     requires { ⌜ Parts (now kinds) (now operands) ⌝ }
     requires { ⌜ at + 1 + high (operandAt (now operands) at) ≤ length (now kinds) ⌝ }
     ensures { λ r. ⌜ r ≡ callWords (now (kinds .entry)) (now (operands .entry)) at next ⌝ }

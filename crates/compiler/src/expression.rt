@@ -9,6 +9,7 @@ use crate::plan::Plan;
 use crate::plan::left_plan;
 use crate::plan::right_plan;
 use crate::store::put;
+use job::dag::STOP;
 use job::dag::WORDS;
 use reader::entry::operand;
 
@@ -47,7 +48,7 @@ pub fn compile_expression(
 {
     let kind = kinds[at];
     if kind == 0 {
-        put(dag, plan.first, [0, 0, 0, 0, 0, 0, 0, 0, 0, 0, 0, 0]);
+        put(dag, plan.first, [STOP, 0, 0, 0, 0, 0, 0, 0, 0, 0, 0, 0]);
         return single(at + 1, plan.first);
     }
     if kind < 3 {

@@ -8,6 +8,11 @@ ghost use Rattle.reader.specs.Join.{joinOf};
 ghost use Rattle.compiler.specs.Join.{joinRoot};
 use crate::plan::Plan;
 use crate::store::put;
+use job::dag::ASSIGN;
+use job::dag::CHOKE;
+use job::dag::FORK;
+use job::dag::REMOVE;
+use job::dag::WHERE;
 use job::dag::WORDS;
 
 // The join's root, where `left` is that of its f: a sequence is entered at its f.
@@ -35,15 +40,15 @@ pub fn put_own(dag: &mut [u32; WORDS], kind: u8, plan: Plan, left: u32, right: u
     let node = plan.first;
     let next = plan.next;
     if kind == 3 {
-        put(dag, node, [3, left, right, 0, 0, 0, 0, 0, 0, 0, 0, 0]);
+        put(dag, node, [FORK, left, right, 0, 0, 0, 0, 0, 0, 0, 0, 0]);
         return;
     }
     if kind == 4 {
-        put(dag, node, [4, x, right, 0, 0, 0, 0, 0, 0, 0, 0, 0]);
-        put(dag, node + 1, [5, x, next, 0, 0, 0, 0, 0, 0, 0, 0, 0]);
+        put(dag, node, [ASSIGN, x, right, 0, 0, 0, 0, 0, 0, 0, 0, 0]);
+        put(dag, node + 1, [REMOVE, x, next, 0, 0, 0, 0, 0, 0, 0, 0, 0]);
         return;
     }
-    put(dag, node, [6, left, right, x, 0, 0, 0, 0, 0, 0, 0, 0]);
-    put(dag, node + 1, [5, x, next, 0, 0, 0, 0, 0, 0, 0, 0, 0]);
-    put(dag, node + 2, [7, 0, 0, 0, 0, 0, 0, 0, 0, 0, 0, 0]);
+    put(dag, node, [WHERE, left, right, x, 0, 0, 0, 0, 0, 0, 0, 0]);
+    put(dag, node + 1, [REMOVE, x, next, 0, 0, 0, 0, 0, 0, 0, 0, 0]);
+    put(dag, node + 2, [CHOKE, 0, 0, 0, 0, 0, 0, 0, 0, 0, 0, 0]);
 }

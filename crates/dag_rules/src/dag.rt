@@ -6,6 +6,12 @@ ghost use Rattle.job.specs.Test.{all};
 ghost use Rattle.job.specs.Node.{nodeHolds, bodyHolds, dagHolds};
 ghost use Rattle.job.specs.Words.{dagOf};
 use crate::row::row_holds;
+use job::dag::DEFINITION_COUNT;
+use job::dag::DEFINITIONS;
+use job::dag::GOAL;
+use job::dag::HEAD;
+use job::dag::NODE_COUNT;
+use job::dag::ROW;
 use job::dag::WORDS;
 
 // Where each definition's body begins, and its count of formals.
@@ -13,12 +19,12 @@ fn bodies_hold(dag: &[u32]) -> bool
     requires { ⌜ (length (now dag) ≡ 12331) × (getD (now dag) 1 0 ≤ 32) ⌝ }
     ensures { λ r. ⌜ r ≡ all (bodyHolds (dagOf (now (dag .entry)))) (dagOf (now (dag .entry)) .bodies) ⌝ }
 {
-    let nodes = dag[0];
-    let bodies = dag[1] as usize;
+    let nodes = dag[NODE_COUNT];
+    let bodies = dag[DEFINITION_COUNT] as usize;
     let mut ok = true;
     let mut i = 0;
     while i < bodies {
-        let at = 3 + 2 * i;
+        let at = DEFINITIONS + 2 * i;
         let holds = (dag[at] < nodes) & (dag[at + 1] <= 4);
         ok = ok & holds;
         i += 1;
@@ -31,14 +37,14 @@ fn nodes_hold(dag: &[u32]) -> bool
     requires { ⌜ (length (now dag) ≡ 12331) × (getD (now dag) 0 0 ≤ 1022) ⌝ }
     ensures { λ r. ⌜ r ≡ all (nodeHolds (dagOf (now (dag .entry)))) (dagOf (now (dag .entry)) .nodes) ⌝ }
 {
-    let nodes = dag[0];
-    let bodies = dag[1];
+    let nodes = dag[NODE_COUNT];
+    let bodies = dag[DEFINITION_COUNT];
     let count = nodes as usize;
     let mut ok = true;
     let mut i = 0;
     while i < count {
-        let at = 67 + 12 * i;
-        let end = at + 12;
+        let at = HEAD + ROW * i;
+        let end = at + ROW;
         ok = ok & row_holds(&dag[at..end], nodes, bodies);
         i += 1;
     }
@@ -50,13 +56,13 @@ fn words_hold(dag: &[u32]) -> bool
     requires { ⌜ length (now dag) ≡ 12331 ⌝ }
     ensures { λ r. ⌜ r ≡ dagHolds (dagOf (now (dag .entry))) ⌝ }
 {
-    if 1022 < dag[0] {
+    if 1022 < dag[NODE_COUNT] {
         return false;
     }
-    if 32 < dag[1] {
+    if 32 < dag[DEFINITION_COUNT] {
         return false;
     }
-    (dag[2] < dag[0]) & bodies_hold(dag) & nodes_hold(dag)
+    (dag[GOAL] < dag[NODE_COUNT]) & bodies_hold(dag) & nodes_hold(dag)
 }
 
 pub fn dag_holds(dag: &[u32; WORDS]) -> bool

@@ -2,8 +2,21 @@
 ghost use mathlib.Core.Path.{_≡_};
 ghost use lib.ListN.{length, drop};
 ghost use Rattle.dag_rules.specs.Rows.{pairHolds, paramWordsHold, headHolds, countOf, rowHolds};
+use job::dag::ASSIGN;
+use job::dag::CALL;
+use job::dag::CHOKE;
 use job::dag::CONSTANT;
+use job::dag::FORK;
+use job::dag::NAMED;
+use job::dag::NEXT;
+use job::dag::PARAMETER_COUNT;
+use job::dag::PUBLISH;
+use job::dag::REMOVE;
+use job::dag::RETURN;
+use job::dag::SITE;
+use job::dag::STOP;
 use job::dag::VARIABLE;
+use job::dag::WHERE;
 use job::sites::takes;
 
 // Two words at a parameter's place: those of a parameter if the node has one there, else 0.
@@ -33,9 +46,9 @@ fn count_of(kind: u32, c: u32) -> u32
     ensures { λ r. ⌜ r ≡ countOf kind c ⌝ }
 {
     match kind {
-        0 => 0,
-        1 => c,
-        2 => c,
+        STOP => 0,
+        SITE => c,
+        CALL => c,
         _ => 0,
     }
 }
@@ -47,16 +60,16 @@ fn head_holds(nodes: u32, bodies: u32, kind: u32, a: u32, b: u32, c: u32) -> boo
     let unused = (a == 0) & (b == 0) & (c == 0);
     let slot = (a < 8) & (b < nodes) & (c == 0);
     match kind {
-        0 => unused,
-        1 => takes(a, c) & (b < nodes),
-        2 => (a < bodies) & (c <= 4) & (b < nodes),
-        3 => (a < nodes) & (b < nodes) & (c == 0),
-        4 => slot,
-        5 => slot,
-        6 => (c < 8) & (a < nodes) & (b < nodes),
-        7 => unused,
-        8 => unused,
-        9 => unused,
+        STOP => unused,
+        SITE => takes(a, c) & (b < nodes),
+        CALL => (a < bodies) & (c <= 4) & (b < nodes),
+        FORK => (a < nodes) & (b < nodes) & (c == 0),
+        ASSIGN => slot,
+        REMOVE => slot,
+        WHERE => (c < 8) & (a < nodes) & (b < nodes),
+        CHOKE => unused,
+        RETURN => unused,
+        PUBLISH => unused,
         _ => false,
     }
 }
@@ -67,7 +80,7 @@ pub fn row_holds(row: &[u32], nodes: u32, bodies: u32) -> bool
     ensures { λ r. ⌜ r ≡ rowHolds nodes bodies (now (row .entry)) ⌝ }
 {
     let kind = row[0];
-    let c = row[3];
-    let head = head_holds(nodes, bodies, kind, row[1], row[2], c);
+    let c = row[PARAMETER_COUNT];
+    let head = head_holds(nodes, bodies, kind, row[NAMED], row[NEXT], c);
     head & params_hold(row, count_of(kind, c))
 }

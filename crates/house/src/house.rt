@@ -11,6 +11,7 @@ ghost use Rattle.model.specs.Machine.Start as Start;
 ghost use Rattle.acts.specs.Acting.{Lawful};
 ghost use Rattle.lines.specs.Shown.{Shows};
 ghost use Rattle.house.specs.Accepted.{Accepted};
+use job::dag::GOAL;
 use job::dag::WORDS;
 use job::wide::wide;
 use lines::ending::tell_end;
@@ -78,6 +79,6 @@ pub fn run(rest: &[u8], dag: &[u32; WORDS], output: &mut [u8], from: usize) -> u
     let mut words = [0u32; Machine::WORDS];
     let mut tokens = [false; Machine::TOKENS];
     let mut cells = [false; Machine::CELLS];
-    start(&mut words, &mut tokens, &mut cells, dag[2]);
+    start(&mut words, &mut tokens, &mut cells, dag[GOAL]);
     run_turns(&mut words, &mut tokens, &mut cells, rest, dag, output, from)
 }

@@ -3,10 +3,38 @@
 
 pub const WORDS: usize = 12331;
 
+// The words of the head: how many nodes and definitions there are, the goal's first node, and where the definitions begin, each with its first
+// node and its count of formals.
+pub const NODE_COUNT: usize = 0;
+
+pub const DEFINITION_COUNT: usize = 1;
+
+pub const GOAL: usize = 2;
+
+pub const DEFINITIONS: usize = 3;
+
 // Where the nodes' rows begin, and how many words each has.
 pub const HEAD: usize = 67;
 
 pub const ROW: usize = 12;
+
+// The words of a row, behind the node's kind. First the site, definition or variable that the node names, or the left node; then the next node, or
+// the right node; then how many parameters there are, or the variable that where binds; then the parameters, each with its kind and its word.
+pub const NAMED: usize = 1;
+
+pub const LEFT: usize = 1;
+
+pub const NEXT: usize = 2;
+
+pub const RIGHT: usize = 2;
+
+pub const PARAMETER_COUNT: usize = 3;
+
+pub const BINDER: usize = 3;
+
+pub const PARAMETER_KIND: usize = 4;
+
+pub const PARAMETER_WORD: usize = 5;
 
 // The kinds of nodes, in the order of `nodeWords`.
 pub const STOP: u32 = 0;

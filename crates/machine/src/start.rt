@@ -2,6 +2,7 @@
 ghost use Rattle.machine.specs.Calls.{Yields, startOn};
 use acts::report::plain;
 use dag_rules::dag::dag_holds;
+use job::dag::GOAL;
 use job::dag::WORDS;
 use model::record::Machine;
 use model::reply::Refusal;
@@ -13,7 +14,7 @@ pub fn start(w: &mut [u32; Machine::WORDS], dag: &[u32; WORDS]) -> Report
     ensures { λ r. ⌜ Yields (startOn (now (dag .entry)) (now (w .entry))) r (now (w .exit)) ⌝ }
 {
     if dag_holds(dag) {
-        record::start::start(w, dag[2]);
+        record::start::start(w, dag[GOAL]);
         return plain(Reply::Done);
     }
     plain(Reply::Refused(Refusal::Rule))

@@ -17,6 +17,7 @@ use job::dag::CALL;
 use job::dag::CHOKE;
 use job::dag::FORK;
 use job::dag::HEAD;
+use job::dag::PARAMETER_COUNT;
 use job::dag::PUBLISH;
 use job::dag::REMOVE;
 use job::dag::RETURN;
@@ -62,7 +63,7 @@ fn params_are_bound(w: &[u32; Machine::WORDS], p: usize, row: &[u32]) -> bool
     requires { ⌜ (p < 64) × (length (now row) ≡ 12) ⌝ }
     ensures { λ r. ⌜ ((m : Machine) → Codes (now (w .entry)) m → r ≡ all (notEmpty (tokenAt (m .tokens) p .binds)) (paramsFrom (getD (now (row .entry)) 3 0) (drop 4 (now (row .entry))))) ⌝ }
 {
-    let count = row[3];
+    let count = row[PARAMETER_COUNT];
     let first = pair_is_bound(w, p, 0 < count, row[4], row[5]);
     let second = pair_is_bound(w, p, 1 < count, row[6], row[7]);
     let third = pair_is_bound(w, p, 2 < count, row[8], row[9]);

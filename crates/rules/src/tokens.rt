@@ -16,6 +16,7 @@ ghost use Rattle.rules.specs.Named.{namedByBoth};
 use crate::handles::all_differ;
 use crate::order::counts_agree;
 use coded::words::token_coded;
+use job::dag::NODE_COUNT;
 use job::wide::wide;
 use model::record::Machine;
 use record::layout::CALLED_STATE;
@@ -36,7 +37,7 @@ fn token_holds(w: &[u32; Machine::WORDS], p: usize, used: bool, dag: &[u32]) -> 
         return token_is_blank(w, p);
     }
     let at = node(w, p);
-    if dag[0] <= at {
+    if dag[NODE_COUNT] <= at {
         return false;
     }
     token_coded(w, p) & token_in_range(w, p) & at_node(w, p, wide(at), dag) & is_free(w, p)

@@ -13,6 +13,8 @@ ghost use Rattle.record.specs.Holds.{Codes};
 ghost use Rattle.sites.specs.Looking.{heldFound, foundOf, paramFound, lookUpOf, LookFacts};
 ghost use Rattle.sites.specs.Row.{paramsAt, ParamsHold};
 use crate::number::signed;
+use job::dag::PARAMETER_COUNT;
+use job::dag::PARAMETER_KIND;
 use job::dag::VARIABLE;
 use job::dag::WORDS;
 use job::wide::wide;
@@ -83,11 +85,11 @@ pub fn look_up(w: &[u32; Machine::WORDS], dag: &[u32; WORDS], p: usize, at: usiz
     requires { ⌜ (p < 64) × ParamsHold (now dag) at ⌝ }
     ensures { λ r. ⌜ ((m : Machine) → Codes (now (w .entry)) m → LookFacts m p → r ≡ lookUpOf (look (m .cells) (tokenAt (m .tokens) p .binds) (paramsAt (now (dag .entry)) at))) ⌝ }
 {
-    let count = wide(dag[at + 3]);
+    let count = wide(dag[at + PARAMETER_COUNT]);
     let mut values = [0i32; 4];
     let mut i: usize = 0;
     while i < count {
-        match param_argument(w, dag, p, at + 4 + 2 * i) {
+        match param_argument(w, dag, p, at + PARAMETER_KIND + 2 * i) {
             Argument::Value(v) => {
                 values[i] = v;
             }

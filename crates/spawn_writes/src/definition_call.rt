@@ -14,6 +14,9 @@ ghost use Rattle.record.specs.Fields.{taken, withBinds};
 ghost use Rattle.record.specs.Holds.{Holds};
 ghost use Rattle.record.specs.Words.{placeNumber};
 ghost use Rattle.sites.specs.Row.{ParamsHold, paramsAt, callee};
+use job::dag::PARAMETER_COUNT;
+use job::dag::PARAMETER_KIND;
+use job::dag::PARAMETER_WORD;
 use job::dag::VARIABLE;
 use job::dag::WORDS;
 use job::wide::wide;
@@ -54,11 +57,11 @@ fn pass_all(w: &mut [u32; Machine::WORDS], dag: &[u32; WORDS], at: usize, p: usi
     requires { ⌜ (p < 64) × (new < 64) × ParamsHold (now dag) at ⌝ }
     ensures { λ _. ⌜ ((m : Machine) → Holds (now (w .entry)) (put new blankToken m) → (p ≡ new → ⊥) → Holds (now (w .exit)) (put new (withBinds (formalsBound (tokenAt (m .tokens) p .binds) (paramsAt (now (dag .entry)) at)) blankToken) m)) ⌝ }
 {
-    let count = wide(word(dag, at + 3));
+    let count = wide(word(dag, at + PARAMETER_COUNT));
     let mut i: usize = 0;
     while i < count {
-        let kind = word(dag, at + 4 + 2 * i);
-        let number = word(dag, at + 5 + 2 * i);
+        let kind = word(dag, at + PARAMETER_KIND + 2 * i);
+        let number = word(dag, at + PARAMETER_WORD + 2 * i);
         pass(w, p, new, i, kind, number);
         i += 1;
     }

@@ -4,6 +4,9 @@ ghost use Prim.Native.Nat.{_<_};
 ghost use Rattle.job.specs.Words.{dagOf};
 ghost use Rattle.model.specs.declared.record.Machine.{Machine};
 use acts::report::plain;
+use job::dag::DEFINITIONS;
+use job::dag::NAMED;
+use job::dag::NEXT;
 use job::dag::WORDS;
 use job::wide::wide;
 use model::record::Machine;
@@ -35,9 +38,9 @@ pub fn definition_call(
     if Machine::TOKENS <= new {
         return plain(Reply::Refused(Refusal::TokenLimit));
     }
-    let body = wide(word(dag, at + 1));
-    let root = word(dag, 3 + 2 * body);
-    written(w, dag, at, place, p, new, root, word(dag, at + 2));
+    let body = wide(word(dag, at + NAMED));
+    let root = word(dag, DEFINITIONS + 2 * body);
+    written(w, dag, at, place, p, new, root, word(dag, at + NEXT));
     tokens[new] = true;
     plain(Reply::Done)
 }

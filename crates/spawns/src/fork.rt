@@ -6,6 +6,8 @@ ghost use Rattle.model.specs.Machine.Limits.{paper};
 ghost use Rattle.model.specs.Machine.Step as Step;
 ghost use Rattle.acts.specs.Acting.{Some, Acting, Gives};
 use acts::report::plain;
+use job::dag::LEFT;
+use job::dag::RIGHT;
 use job::dag::WORDS;
 use model::record::Machine;
 use model::reply::Refusal;
@@ -33,7 +35,14 @@ pub fn fork(
     if Machine::TOKENS <= new {
         return plain(Reply::Refused(Refusal::TokenLimit));
     }
-    written(w, place, p, new, word(dag, at + 1), word(dag, at + 2));
+    written(
+        w,
+        place,
+        p,
+        new,
+        word(dag, at + LEFT),
+        word(dag, at + RIGHT),
+    );
     tokens[new] = true;
     plain(Reply::Done)
 }

@@ -6,6 +6,9 @@ ghost use Rattle.model.specs.Machine.Limits.{paper};
 ghost use Rattle.model.specs.Machine.Step as Step;
 ghost use Rattle.acts.specs.Acting.{Some, Acting, Gives};
 use acts::report::plain;
+use job::dag::BINDER;
+use job::dag::LEFT;
+use job::dag::RIGHT;
 use job::dag::WORDS;
 use job::wide::wide;
 use model::record::Machine;
@@ -46,9 +49,9 @@ pub fn where_split(
         p,
         new,
         c,
-        wide(word(dag, at + 3)),
-        word(dag, at + 1),
-        word(dag, at + 2),
+        wide(word(dag, at + BINDER)),
+        word(dag, at + LEFT),
+        word(dag, at + RIGHT),
     );
     tokens[new] = true;
     cells[c] = true;

@@ -1,5 +1,9 @@
 // Loads each table of standard input and prints what came back; of the first three also the words of the dag. A table stands behind its
 // length, 4 bytes, the lowest first; there are at most 65,536 bytes in all.
+use job::dag::DEFINITION_COUNT;
+use job::dag::DEFINITIONS;
+use job::dag::HEAD;
+use job::dag::ROW;
 use job::dag::WORDS;
 use libc::STDIN_FILENO;
 use libc::STDOUT_FILENO;
@@ -39,10 +43,10 @@ fn words(dag: &[u32; WORDS], from: usize, to: usize)
 
 // The words of the head: three, and two for each definition.
 fn head(dag: &[u32; WORDS]) {
-    let definitions = wide(dag[1]);
+    let definitions = wide(dag[DEFINITION_COUNT]);
     if definitions <= 32 {
         text(b"head");
-        words(dag, 0, 3 + 2 * definitions);
+        words(dag, 0, DEFINITIONS + 2 * definitions);
     }
 }
 
@@ -53,7 +57,7 @@ fn rows(dag: &[u32; WORDS], nodes: usize)
     let mut i = 0;
     while i < nodes {
         text(b"node");
-        words(dag, 67 + 12 * i, 79 + 12 * i);
+        words(dag, HEAD + ROW * i, HEAD + ROW + ROW * i);
         i += 1;
     }
 }
