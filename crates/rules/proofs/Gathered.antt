@@ -2,20 +2,25 @@
 use mathlib.Core.Path.{_≡_, refl, sym, _∙_, ap, ap₂}
 use mathlib.Core.Bool.{Bool, true, false, not, _&&_}
 use mathlib.Core.List.{List, [], _∷_, _++_, append-nil, append-assoc}
-use Prim.Native.Nat.{ℕ, zero, suc, _+_, _<_}
+use Prim.Native.Nat.{ℕ, zero, suc, _+_, _<_, _≤_}
+use native.Mathlib.Decide.{ℕ-discrete}
+use native.Mathlib.Nat.{add-zero}
 use native.Mathlib.Numerals.{add-one}
 use native.Mathlib.Omega.{arith}
 use lib.ListN.{length, getD, take, set}
 use lib.Seq.{take-suc, take-suc-set, take-set-le}
 use lib.Dec.{eqb}
 use Rattle.model.specs.declared.token.State.the-variants as states
-use Rattle.job.specs.Test.{_and_, _or_, all, any, differ}
+use Rattle.job.specs.Test.{_and_, _or_, all, any, differ, once}
 use Rattle.model.specs.Machine.Rules.{openHandles}
-use Rattle.model.specs.Machine.State.{handleOf}
+use Rattle.model.specs.Machine.Blank.{tokenIsBlank}
+use Rattle.model.specs.Machine.State.{isBlankState, handleOf}
 use Rattle.model.specs.declared.token.State.{State}
 use Rattle.model.specs.declared.token.Token.{Token}
 use Rattle.record.specs.Words.{stateKind, stateNumber}
 use Rattle.job.proofs.Both.{both, regroup}
+use Rattle.job.proofs.Test.{and-left, eq-eqb, ne-eqb}
+use Rattle.rules.proofs.OneRow.{state-blank}
 
 handles-more : (ts : List Token) (i : ℕ) (d : Token) → i < length ts
     → openHandles (take (suc i) ts) ≡ openHandles (take i ts) ++ handleOf (getD ts i d .state)
@@ -45,7 +50,7 @@ no-handle states.Frame f = refl
 module _ (ts : List Token) (list : List ℕ) (n i : ℕ) (d : Token) (l : i < length ts) (room : n < length list)
     (so-far : take n list ≡ openHandles (take i ts)) {h k : ℕ}
     (handle : h ≡ stateNumber (getD ts i d .state)) (number : k ≡ stateKind (getD ts i d .state)) where
-  pub one-more : (n′ : ℕ) → k ≡ 3 → n′ ≡ n + 1 → take n′ (set list n h) ≡ openHandles (take (i + 1) ts)
+  one-more : (n′ : ℕ) → k ≡ 3 → n′ ≡ n + 1 → take n′ (set list n h) ≡ openHandles (take (i + 1) ts)
   one-more n′ e m =
       rw (m, add-one n, add-one i)
       (take-suc-set list n h room
@@ -53,7 +58,7 @@ module _ (ts : List Token) (list : List ℕ) (n i : ℕ) (d : Token) (l : i < le
       (ap (λ (x : ℕ). x ∷ []) handle ∙ sym (called-handle (getD ts i d .state) (sym number ∙ e)))
       ∙ sym (handles-more ts i d l))
 
-  pub no-more : (n′ : ℕ) → (k ≡ 3 → ⊥) → n′ ≡ n → take n′ (set list n h) ≡ openHandles (take (i + 1) ts)
+  no-more : (n′ : ℕ) → (k ≡ 3 → ⊥) → n′ ≡ n → take n′ (set list n h) ≡ openHandles (take (i + 1) ts)
   no-more n′ f m =
       rw (m, add-one i)
       (take-set-le n list n h (omega arith)
@@ -61,6 +66,27 @@ module _ (ts : List Token) (list : List ℕ) (n i : ℕ) (d : Token) (l : i < le
       ∙ sym (append-nil (openHandles (take i ts)))
       ∙ ap (_++_ (openHandles (take i ts))) (sym (no-handle (getD ts i d .state) (λ e. f (number ∙ e))))
       ∙ sym (handles-more ts i d l))
+
+  -- a token has one handle or none
+  pub handle-more : (n′ : ℕ) → n′ ≡ n + once (eqb k 3) → take n′ (set list n h) ≡ openHandles (take (i + 1) ts)
+  handle-more n′ e = go (ℕ-discrete k 3)
+    where
+      go : Dec (k ≡ 3) → take n′ (set list n h) ≡ openHandles (take (i + 1) ts)
+      go (yes f) = one-more n′ f (e ∙ ap (λ b. n + once b) (eq-eqb k 3 f))
+      go (no f) = no-more n′ f (e ∙ ap (λ b. n + once b) (ne-eqb k 3 f) ∙ add-zero n)
+
+pub once-most : (b : Bool) → once b ≤ 1
+once-most true = omega arith
+once-most false = omega arith
+
+-- a blank token has none
+pub blank-more : (ts : List Token) (i : ℕ) (d : Token) {xs : List ℕ} → i < length ts → tokenIsBlank (getD ts i d) ≡ true
+    → xs ≡ openHandles (take i ts) → xs ≡ openHandles (take (i + 1) ts)
+unfolding tokenIsBlank handleOf
+blank-more ts i d l e so-far =
+    let t = getD ts i d in
+    let none : handleOf (t .state) ≡ [] = ap handleOf (state-blank (t .state) (and-left (isBlankState (t .state)) _ e)) in
+    rw (add-one i) (so-far ∙ sym (handles-more ts i d l ∙ ap (_++_ (openHandles (take i ts))) none ∙ append-nil (openHandles (take i ts))))
 
 -- numbers differ when each is none of those before it
 any-last : (p : ℕ → Bool) (xs : List ℕ) (y : ℕ) → not (any p (xs ++ (y ∷ []))) ≡ (not (any p xs) and not (p y))

@@ -53,7 +53,7 @@ unfolding isPlace placeInRange
 place-blank n places.Nowhere e = refl
 place-blank n (places.At p) e = clash e refl
 
-state-blank : (s : State) → isBlankState s ≡ true → s ≡ states.Blank
+pub state-blank : (s : State) → isBlankState s ≡ true → s ≡ states.Blank
 unfolding isBlankState
 state-blank states.Blank e = refl
 state-blank states.Ready e = clash e refl
@@ -96,9 +96,9 @@ module _ (d : Dag) (m : Machine) (t : Token) (eight : length (t .binds) ≡ 8) w
       (ap (stateInRange 32 (m .calls)) state)))))))
       (and-both (rw (state, atNode)) (and-both (rw (state, notUnderSet)) (ap (waitsAtUnset (m .cells)) state)))
 
-  pub node-past : (used : Bool) {n : ℕ} → n ≡ t .node → length (d .nodes) ≤ n → false ≡ (tokenRule d m t and used)
+  pub node-past : {n : ℕ} → n ≡ t .node → length (d .nodes) ≤ n → false ≡ tokenRule d m t
   unfolding tokenInRange isNode _and_
-  node-past used e l = rw (le-not-ltb (t .node) (length (d .nodes)) (omega arith))
+  node-past e l = rw (le-not-ltb (t .node) (length (d .nodes)) (omega arith))
 
   pub node-in : {n : ℕ} → n ≡ t .node → n < length (d .nodes) → heldInRange (t .value) ≡ true
       → tokenInRange paper d (m .calls) t

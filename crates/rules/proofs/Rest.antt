@@ -63,3 +63,9 @@ first-true false b e = e
 pub second-true : (a b : Bool) → (a && b) ≡ true → b ≡ true
 second-true true b e = e
 second-true false b e = clash e refl
+
+-- a second test that matters only where the first holds
+pub where-true : (a b b′ : Bool) → (a ≡ true → b ≡ b′) → (a && b) ≡ (a and b′)
+unfolding _and_
+where-true true b b′ f = f refl
+where-true false b b′ f = refl

@@ -1,14 +1,16 @@
 // The rules of the tokens, all together: each row is looked at once, and one that is not in use only for being blank.
 ghost use mathlib.Core.Path.{_≡_};
-ghost use mathlib.Core.Bool.{true, _||_};
+ghost use mathlib.Core.Bool.{true};
 ghost use Prim.Native.Nat.{ℕ, _<_};
+ghost use lib.Dec.{eqb};
 ghost use lib.ListN.{length};
-ghost use Rattle.job.specs.Test.{_and_, all, allFrom, differ};
+ghost use Rattle.job.specs.Test.{_and_, all, allFrom, differ, once};
 ghost use Rattle.job.specs.Node.{dagHolds};
 ghost use Rattle.job.specs.Words.{dagOf};
 ghost use Rattle.model.specs.Machine.Blank.{tokenAt, tokenIsBlank};
 ghost use Rattle.model.specs.Machine.Rules.{restIsBlank, openHandles};
 ghost use Rattle.model.specs.declared.record.Machine.{Machine};
+ghost use Rattle.record.specs.Holds.{Codes};
 ghost use Rattle.coded.specs.Coded.{tokenCoded};
 ghost use Rattle.row_rules.specs.Decoded.{Decoded};
 ghost use Rattle.row_rules.specs.Rules.{tokenRule};
@@ -28,19 +30,31 @@ use row_rules::chain::is_free;
 use row_rules::node::at_node;
 use row_rules::range::token_in_range;
 
-// The words and the rules of one token. A blank one keeps them all.
-fn token_holds(w: &[u32; Machine::WORDS], p: usize, used: bool, dag: &[u32]) -> bool
+// The words and the rules of a token that is in use.
+fn token_holds(w: &[u32; Machine::WORDS], p: usize, dag: &[u32]) -> bool
     requires { ⌜ (p < 64) × (length (now dag) ≡ 12331) × (dagHolds (dagOf (now dag)) ≡ true) ⌝ }
-    ensures { λ r. ⌜ (r ≡ true → tokenCoded (now (w .entry)) p ≡ true) × ((m : Machine) → Decoded (now (w .entry)) m → r ≡ (tokenRule (dagOf (now (dag .entry))) m (tokenAt (m .tokens) p) and (used || tokenIsBlank (tokenAt (m .tokens) p)))) ⌝ }
+    ensures { λ r. ⌜ (r ≡ true → tokenCoded (now (w .entry)) p ≡ true) × ((m : Machine) → Decoded (now (w .entry)) m → r ≡ tokenRule (dagOf (now (dag .entry))) m (tokenAt (m .tokens) p)) ⌝ }
 {
-    if !used {
-        return token_is_blank(w, p);
-    }
     let at = node(w, p);
     if dag[NODE_COUNT] <= at {
         return false;
     }
     token_coded(w, p) & token_in_range(w, p) & at_node(w, p, wide(at), dag) & is_free(w, p)
+}
+
+// A place that is not in use: blank, and named by neither order.
+fn is_vacant(w: &[u32; Machine::WORDS], p: usize, queue: u8, waits: u8) -> bool
+    requires { ⌜ p < 64 ⌝ }
+    ensures { λ r. ⌜ (r ≡ true → tokenCoded (now (w .entry)) p ≡ true) × ((m : Machine) → Codes (now (w .entry)) m → r ≡ ((eqb queue 0 and eqb waits 0) and tokenIsBlank (tokenAt (m .tokens) p))) ⌝ }
+{
+    (queue == 0) & (waits == 0) & token_is_blank(w, p)
+}
+
+// How many handles a token in that state has.
+fn handles_of(kind: u32) -> usize
+    ensures { λ r. ⌜ r ≡ once (eqb kind 3) ⌝ }
+{
+    if kind == CALLED_STATE { 1 } else { 0 }
 }
 
 // The marks say which tokens are in use, the counts how often the orders name each place. Open handles are gathered on the way.
@@ -59,11 +73,13 @@ pub fn tokens_hold(
     let mut ok = true;
     let mut i: usize = 0;
     while i < Machine::TOKENS {
-        let kind = state(w, i);
-        ok = ok & token_holds(w, i, used[i], dag) & counts_agree(kind, queue[i], waits[i]);
-        handles[count] = state_number(w, i);
-        if kind == CALLED_STATE {
-            count += 1;
+        if used[i] {
+            let kind = state(w, i);
+            ok = ok & token_holds(w, i, dag) & counts_agree(kind, queue[i], waits[i]);
+            handles[count] = state_number(w, i);
+            count += handles_of(kind);
+        } else {
+            ok = ok & is_vacant(w, i, queue[i], waits[i]);
         }
         i += 1;
     }

@@ -57,7 +57,8 @@ fn rows(dag: &[u32; WORDS], nodes: usize)
     let mut i = 0;
     while i < nodes {
         text(b"node");
-        words(dag, HEAD + ROW * i, HEAD + ROW + ROW * i);
+        let at = HEAD + ROW * i;
+        words(dag, at, at + ROW);
         i += 1;
     }
 }

@@ -1,54 +1,38 @@
--- `tokens::token_holds` meets its contract: a token in use is tested for its rules, any other for being blank, and a blank one keeps them
--- all. Assumes nothing.
+-- `tokens::token_holds` meets its contract: the words are a token's, and then its rules are tested. Assumes nothing.
 use mathlib.Core.Bool.{Bool, _&&_}
 use mathlib.Core.Path.{refl, sym, _∙_, ap}
 use native.Mathlib.Omega.{arith}
-use borrow.Author.Tests.{not-true, not-false}
-use Rattle.model.specs.Machine.Blank.{tokenAt, tokenIsBlank}
+use Rattle.model.specs.Machine.Blank.{tokenAt}
 use Rattle.job.specs.Words.{dagOf}
-use Rattle.rules.proofs.OneRow.{token-blank, node-past, node-in}
-use Rattle.rules.proofs.Rest.{marked-one, other-one, first-true}
+use Rattle.rules.proofs.OneRow.{node-past, node-in}
+use Rattle.rules.proofs.Rest.{first-true}
 use Rattle.coded.proofs.Rows.{codes-token}
 use Rattle.job.proofs.Both.{three}
 use Rattle.job.proofs.Test.{clash}
 use Rattle.dag_rules.proofs.Array.{nodes-length}
-use Rattle.row_rules.specs.Rules.{tokenRule}
 use borrow.Author.Needs.{needs}
 use Rattle.rules.proofs.tokens.token_holds.Statement.{statement}
 use Rattle.rules.proofs.tokens.token_holds.Tie as tie
 
 returns : tie.Need-returns
 returns c =
-    let place3 = c .before .before .before in (
-      c .token-is-blank .ensures .0,
+    let place2 = c .before .before in
+    let place4 = place2 .before .before in (
+      λ e. clash e refl,
       λ m h.
-          let t = tokenAt (m .tokens) (place3 .args .p) in
-          let d = dagOf (place3 .args .dag .now) in
-          c .token-is-blank .ensures .1 m (h .codes)
-          ∙ other-one {used = place3 .args .used} (tokenRule d m t) (tokenIsBlank t) (not-true _ (c .before .if1 .taken))
-          (token-blank d m t (h .codes .shaped .binds _) (place3 .pre .2)),
+          let t = tokenAt (m .tokens) (place4 .args .p) in
+          let d = dagOf (place4 .args .dag .now) in
+          node-past d m t (h .codes .shaped .binds _) (place2 .node .ensures m (h .codes))
+          (omega (arith, nodes-length (place4 .args .dag .now))),
     )
 
 returns-2 : tie.Need-returns-2
 returns-2 c =
     let place2 = c .before .before in
-    let place5 = place2 .before .before .before in (
-      λ e. clash e refl,
-      λ m h.
-          let t = tokenAt (m .tokens) (place5 .args .p) in
-          let d = dagOf (place5 .args .dag .now) in
-          node-past d m t (h .codes .shaped .binds _) _ (place2 .node .ensures m (h .codes))
-          (omega (arith, nodes-length (place5 .args .dag .now))),
-    )
-
-returns-3 : tie.Need-returns-3
-returns-3 c =
-    let place2 = c .before .before in
     let place3 = place2 .before in
     let place4 = place3 .before in
     let place7 = place4 .before .before .before in
-    let place8 = place7 .before in
-    let start = place8 .before .before .args in
+    let start = place7 .before .before .args in
     let coded = place4 .token-coded .result in
     let ranged = place3 .token-in-range .result in
     let placed = c .before .at-node .result in
@@ -58,14 +42,12 @@ returns-3 c =
           let t = tokenAt (m .tokens) (start .p) in
           let d = dagOf (start .dag .now) in
           let node = place7 .node .ensures m (h .codes) in
-          ap (λ (b : Bool). b && ranged && placed && c .is-free .result)
-          (words ∙ codes-token (h .codes) (start .p) (search needs))
+          ap (λ (b : Bool). b && ranged && placed && c .is-free .result) (words ∙ codes-token (h .codes) (start .p) (search needs))
           ∙ three
           (place3 .token-in-range .ensures m h
           ∙ sym (node-in d m t (h .codes .shaped .binds _) node (omega (arith, nodes-length (start .dag .now))) (h .values (start .p))))
           (c .before .at-node .ensures m (h .codes) (place2 .wide .ensures ∙ node))
-          (c .is-free .ensures m (h .codes))
-          ∙ marked-one {used = start .used} (tokenRule d m t) (tokenIsBlank t) (not-false _ (place8 .if1 .left)),
+          (c .is-free .ensures m (h .codes)),
     )
 
 pub token-holds-spec : {M : Type 1} → statement M
@@ -73,13 +55,11 @@ token-holds-spec =
     tie.close
     (tie.spec
     (λ c κs. search needs)
+    (λ c. search needs)
     returns
     (λ c κs. search needs)
-    (λ c. search needs)
-    returns-2
     (λ c κs. search needs)
     (λ c κs. search needs)
     (λ c κs. search needs)
     (λ c κs. search needs)
-    (λ c κs. search needs)
-    returns-3)
+    returns-2)

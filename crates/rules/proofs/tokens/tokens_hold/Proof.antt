@@ -1,9 +1,9 @@
--- `tokens::tokens_hold` meets its contract: after i turns the flag says whether the first i tokens pass, and the list has their open
--- handles. Assumes nothing.
+-- `tokens::tokens_hold` meets its contract: after i turns the flag says whether the first i tokens pass, and where it stands the list has
+-- their open handles. Assumes nothing.
 use mathlib.Core.Bool.{true, _&&_}
 use mathlib.Core.Logic.{⊎-elim}
-use mathlib.Core.Path.{_≡_, refl, _∙_, ap}
-use Prim.Native.Nat.{ℕ, _-_, _≤_, _<_}
+use mathlib.Core.Path.{_≡_, refl, sym, _∙_, ap}
+use Prim.Native.Nat.{ℕ, _+_, _-_, _≤_, _<_}
 use native.Mathlib.Omega.{arith}
 use lib.Dec.{eqb}
 use lib.ListN.{length, getD, take, length-set}
@@ -13,14 +13,14 @@ use Rattle.model.specs.Machine.Blank.{blankToken, tokenAt, tokenIsBlank}
 use Rattle.model.specs.Machine.Rules.{openHandles}
 use Rattle.job.specs.Test.{_and_, once, differ}
 use Rattle.job.specs.Words.{dagOf}
-use Rattle.job.proofs.Both.{both}
-use Rattle.record.specs.Holds.{Codes}
+use Rattle.job.proofs.Test.{and-right}
 use Rattle.coded.specs.Coded.{tokenCoded}
 use Rattle.row_rules.specs.Rules.{tokenRule}
 use Rattle.row_rules.specs.Decoded.{Decoded}
-use Rattle.rules.proofs.Gathered.{one-more, no-more}
-use Rattle.rules.proofs.Rest.{first-true, second-true}
-use Rattle.rules.proofs.Rows.{seen, seen-none, seen-turn, seen-done}
+use Rattle.rules.proofs.Gathered.{handle-more, blank-more, once-most}
+use Rattle.rules.proofs.OneRow.{token-blank}
+use Rattle.rules.proofs.Rest.{first-true, second-true, where-true}
+use Rattle.rules.proofs.Rows.{seen, seen-none, used-turn, vacant-turn, seen-done}
 use borrow.Author.Count.{below-more}
 use borrow.Author.Needs.{needs}
 use Rattle.rules.proofs.tokens.tokens_hold.Statement.{statement}
@@ -33,56 +33,82 @@ Inv-loop w used dag queue waits handles₀ count₀ ok₀ i₀ handles count ok 
     × (length handles ≡ 64)
     × (ok ≡ true → (p : ℕ) → p < i → tokenCoded w p ≡ true)
     × ((m : Machine) → Decoded w m → length used ≡ 64 → ok ≡ seen (dagOf dag) m used queue waits i)
-    × ((m : Machine) → Codes w m → take count handles ≡ openHandles (take i (m .tokens)))
+    × ((m : Machine) → Decoded w m → ok ≡ true → take count handles ≡ openHandles (take i (m .tokens)))
 
 abbrev μ-loop : tie.MeasureT-loop
 μ-loop w used dag queue waits handles₀ count₀ ok₀ i₀ handles count ok i = 64 - i
 
 loop-holds : tie.Need-loop-holds Inv-loop μ-loop
 unfolding openHandles
-loop-holds c = (
-  search needs,
-  search needs,
-  refl,
-  λ e p l. absurd (omega arith),
-  λ m h l. seen-none (dagOf (c .before .args .dag .now)) m (c .before .args .used .now) (c .before .args .queue .now) (c .before .args .waits .now),
-  λ m h. refl,
-)
+loop-holds c =
+    let args = c .before .args in (
+      search needs,
+      search needs,
+      refl,
+      λ e p l. absurd (omega arith),
+      λ m h l. seen-none (dagOf (args .dag .now)) m (args .used .now) (args .queue .now) (args .waits .now),
+      λ m h e. refl,
+    )
+
+add-count : tie.Need-add-count Inv-loop μ-loop
+add-count c = omega (arith, c .handles-of .ensures, once-most (eqb (c .before .before .before .before .before .before .state .result) 3))
 
 loop-again : tie.Need-loop-again Inv-loop μ-loop
 unfolding tokenAt
 loop-again c =
-    let place2 = c .before .before in
-    let place5 = place2 .before .before .before in
-    let place7 = place5 .before .before in
-    let place9 = place7 .before .before in
-    let args = place9 .before .before .args in
-    let now = place9 .loop in
-    let here = place5 .token-holds .result in
+    let place3 = c .before .before .before in
+    let args = place3 .before .before .args in
+    let now = place3 .loop in
+    let queue = args .queue .now in
+    let waits = args .waits .now in
     let room : now .count < length (now .handles) = omega arith in (
       search needs,
-      ⊎-elim (λ w. omega arith) (λ w. omega arith) (c .if1 .came),
-      length-set (now .handles) _ _ ∙ now .inv .2,
+      ⊎-elim
+          (λ w. omega (arith, w .7 .ensures, w .9, once-most (eqb (w .1 .result) 3)))
+          (λ w. omega (arith, w .5)) (c .if1 .came),
+      ⊎-elim
+          (λ w. ap length (w .8) ∙ length-set (now .handles) _ _ ∙ now .inv .2)
+          (λ w. ap length (w .4) ∙ now .inv .2) (c .if1 .came),
       λ e.
-          let f = first-true (now .ok && here) (place2 .counts-agree .result) e in
-          below-more _ _ (now .inv .3 (first-true (now .ok) here f)) (place5 .token-holds .ensures .0 (second-true (now .ok) here f)),
-      λ m h l.
-          let queue = args .queue .now in
-          let waits = args .waits .now in
-          seen-turn (dagOf (args .dag .now)) m (args .used .now) queue waits (now .i) (omega arith) (omega (arith, h .codes .shaped .tokens))
-          (now .inv .4 m h l) (place5 .token-holds .ensures .1 m h)
-          (place2 .counts-agree .ensures
-          ∙ ap (λ k. eqb (getD queue (now .i) 0) (once (eqb k 1)) and eqb (getD waits (now .i) 0) (once (eqb k 2))) (place7 .state .ensures m (h .codes))),
-      λ m h.
-          let ts = m .tokens in
-          let inside : now .i < length ts = omega (arith, h .shaped .tokens) in
-          let handle = c .before .state-number .ensures m h in
-          let kind = place7 .state .ensures m h in
           ⊎-elim
-          (λ w. one-more ts (now .handles) (now .count) (now .i) blankToken inside room (now .inv .5 m h) handle kind (c .if1 .count)
-          (w .0 .taken) (w .1))
-          (λ w. no-more ts (now .handles) (now .count) (now .i) blankToken inside room (now .inv .5 m h) handle kind (c .if1 .count)
-          (w .0 .left) (w .1))
+          (λ w.
+          let f = first-true (now .ok && w .2 .result) (w .5 .result) (sym (w .10) ∙ e) in
+          below-more _ _ (now .inv .3 (first-true (now .ok) (w .2 .result) f)) (w .2 .ensures .0 (second-true (now .ok) (w .2 .result) f)))
+          (λ w.
+          let f = sym (w .6) ∙ e in
+          below-more _ _ (now .inv .3 (first-true (now .ok) (w .3 .result) f)) (w .3 .ensures .0 (second-true (now .ok) (w .3 .result) f)))
+          (c .if1 .came),
+      λ m h l.
+          let inside : now .i < length (m .tokens) = omega (arith, h .codes .shaped .tokens) in
+          ⊎-elim
+          (λ w.
+          w .10
+          ∙ used-turn (dagOf (args .dag .now)) m (args .used .now) queue waits (now .i) (omega arith) inside (now .inv .4 m h l) (w .0 .taken)
+          (w .2 .ensures .1 m h)
+          (w .5 .ensures
+          ∙ ap (λ k. eqb (getD queue (now .i) 0) (once (eqb k 1)) and eqb (getD waits (now .i) 0) (once (eqb k 2))) (w .1 .ensures m (h .codes))))
+          (λ w.
+          w .6
+          ∙ vacant-turn (dagOf (args .dag .now)) m (args .used .now) queue waits (now .i) (omega arith) inside (now .inv .4 m h l) (w .0 .left)
+          (token-blank (dagOf (args .dag .now)) m (tokenAt (m .tokens) (now .i)) (h .codes .shaped .binds (now .i)) (place3 .before .before .pre .1))
+          (w .3 .ensures .1 m (h .codes)))
+          (c .if1 .came),
+      λ m h e.
+          let inside : now .i < length (m .tokens) = omega (arith, h .codes .shaped .tokens) in
+          ⊎-elim
+          (λ w.
+          let f = first-true (now .ok && w .2 .result) (w .5 .result) (sym (w .10) ∙ e) in
+          ap (take (c .if1 .count)) (w .8)
+          ∙ handle-more (m .tokens) (now .handles) (now .count) (now .i) blankToken inside room
+          (now .inv .5 m h (first-true (now .ok) (w .2 .result) f)) (w .6 .ensures m (h .codes)) (w .1 .ensures m (h .codes)) (c .if1 .count)
+          (w .9 ∙ ap (λ k. now .count + k) (w .7 .ensures)))
+          (λ w.
+          let f = sym (w .6) ∙ e in
+          let blank = and-right (eqb (getD queue (now .i) 0) 0 and eqb (getD waits (now .i) 0) 0) _
+          (sym (w .3 .ensures .1 m (h .codes)) ∙ second-true (now .ok) (w .3 .result) f) in
+          ap (λ n. take n (c .if1 .handles)) (w .5)
+          ∙ ap (take (now .count)) (w .4)
+          ∙ blank-more (m .tokens) (now .i) blankToken inside blank (now .inv .5 m h (first-true (now .ok) (w .3 .result) f)))
           (c .if1 .came),
     )
 
@@ -94,9 +120,10 @@ returns c =
       λ e p l. last .inv .3 (first-true (last .ok) (c .all-differ .result) e) p (omega arith),
       λ m h l.
           let over : length (m .tokens) ≤ last .i = omega (arith, h .codes .shaped .tokens) in
-          both
-          (last .inv .4 m h l ∙ seen-done (dagOf (args .dag .now)) m (args .used .now) (args .queue .now) (args .waits .now) (last .i) over)
-          (c .all-differ .ensures ∙ ap differ (last .inv .5 m (h .codes) ∙ ap openHandles (take-all (last .i) (m .tokens) over))),
+          where-true (last .ok) (c .all-differ .result) (differ (openHandles (m .tokens)))
+          (λ e. c .all-differ .ensures ∙ ap differ (last .inv .5 m h e ∙ ap openHandles (take-all (last .i) (m .tokens) over)))
+          ∙ ap (λ b. b and differ (openHandles (m .tokens)))
+          (last .inv .4 m h l ∙ seen-done (dagOf (args .dag .now)) m (args .used .now) (args .queue .now) (args .waits .now) (last .i) over),
     )
 
 pub tokens-hold-spec : {M : Type 1} → statement M
@@ -106,16 +133,20 @@ tokens-hold-spec =
     Inv-loop
     μ-loop
     loop-holds
-    (λ c κs. search needs)
-    (λ c. search needs)
-    (λ c κs. search needs)
-    (λ c. search needs)
     (λ c. search needs)
     (λ c κs. search needs)
     (λ c κs. search needs)
     (λ c. search needs)
     (λ c. search needs)
+    (λ c κs. search needs)
+    (λ c κs. search needs)
     (λ c. search needs)
+    (λ c. search needs)
+    (λ c κs. search needs)
+    add-count
+    (λ c. search needs)
+    (λ c. search needs)
+    (λ c κs. search needs)
     (λ c. search needs)
     (λ c. search needs)
     loop-again
