@@ -36,7 +36,7 @@ use Rattle.model.specs.declared.token.Token.{Token}
 use Rattle.job.proofs.Test.{clash, and-left, and-right, ltb-lt}
 use Rattle.job.proofs.Number.{signed-unsigned}
 use Rattle.demand3.proofs.Carried.{rebound-carried, ended-whole, ended-carried}
-use Rattle.record.specs.Fields.{taken}
+use Rattle.record.specs.Fields.{dequeued}
 use Rattle.record.specs.Holds.{Holds}
 use Rattle.record.specs.Words.{slotKind, heldNumber, placeNumber}
 use Rattle.reach.specs.Marks.{Vacant}
@@ -61,12 +61,12 @@ module _ {ws dag : List ℕ} {used cells : List Bool} {place p : ℕ} {m : Machi
   t = tokenAt (m .tokens) p
 
   -- an end
-  pub end-vacant : Vacant (put p blankToken (taken m place)) used cells
+  pub end-vacant : Vacant (put p blankToken (dequeued m place)) used cells
   unfolding put withTables withOrders
   end-vacant = vacant-row a _ blankToken refl refl
 
-  pub end-gives : {after : List ℕ} (reply : Reply) (r : Report) → r ≡ plain reply → NoLinks t → Holds after (put p blankToken (taken m place))
-      → Gives (accepted reply [] (put p blankToken (taken m place))) m after (set used p false) cells r
+  pub end-gives : {after : List ℕ} (reply : Reply) (r : Report) → r ≡ plain reply → NoLinks t → Holds after (put p blankToken (dequeued m place))
+      → Gives (accepted reply [] (put p blankToken (dequeued m place))) m after (set used p false) cells r
   end-gives reply r e n h =
       let k = a .lawful .marks in
       gives-whole _ reply [] r refl (ap (λ (y : Report). y .reply) e) (ap (λ (y : Report). y .values) e) h
@@ -78,7 +78,7 @@ module _ {ws dag : List ℕ} {used cells : List Bool} {place p : ℕ} {m : Machi
   -- another binding
   module _ (x next : ℕ) (s : Slot) where
     abbrev rebound : Machine
-    rebound = enqueue p (put p (withNode next (withBinding x s t)) (taken m place))
+    rebound = enqueue p (put p (withNode next (withBinding x s t)) (dequeued m place))
 
     pub rebind-vacant : Vacant rebound used cells
     unfolding put withTables withOrders enqueue
@@ -93,7 +93,7 @@ module _ {ws dag : List ℕ} {used cells : List Bool} {place p : ℕ} {m : Machi
         (λ framed. record { whole = c .whole; tokens = c .tokens ∙ sym (marks .tokens); cells = c .cells ∙ sym (marks .cells) })
 
   -- a return
-  pub return-vacant : (f : ℕ) → Vacant (enqueue p (put p (withState states.Ready (withValue (t .value) (tokenAt (m .tokens) f))) (taken m place))) used cells
+  pub return-vacant : (f : ℕ) → Vacant (enqueue p (put p (withState states.Ready (withValue (t .value) (tokenAt (m .tokens) f))) (dequeued m place))) used cells
   unfolding put withTables withOrders enqueue
   return-vacant f = vacant-row a _ (withState states.Ready (withValue (t .value) (tokenAt (m .tokens) f))) refl refl
 
@@ -202,10 +202,10 @@ empty-no-cell c e = let z : _≡_ {A = ℕ} 0 1 = cc in omega arith
 
 -- the numbers of the node's row, as the code has them
 pub rebound-as : (m : Machine) (place p : ℕ) (s : Slot) {x i k j : ℕ} → x ≡ i → k ≡ j
-    → accepted replies.Done [] (enqueue p (put p (withNode k (withBinding x s (tokenAt (m .tokens) p))) (taken m place)))
-    ≡ accepted replies.Done [] (enqueue p (put p (withNode j (withBinding i s (tokenAt (m .tokens) p))) (taken m place)))
+    → accepted replies.Done [] (enqueue p (put p (withNode k (withBinding x s (tokenAt (m .tokens) p))) (dequeued m place)))
+    ≡ accepted replies.Done [] (enqueue p (put p (withNode j (withBinding i s (tokenAt (m .tokens) p))) (dequeued m place)))
 rebound-as m place p s e f =
-    ap₂ (λ x k. accepted replies.Done [] (enqueue p (put p (withNode k (withBinding x s (tokenAt (m .tokens) p))) (taken m place)))) e f
+    ap₂ (λ x k. accepted replies.Done [] (enqueue p (put p (withNode k (withBinding x s (tokenAt (m .tokens) p))) (dequeued m place)))) e f
 
 pub reply-as : {x : Outcome} (o : Machine) {q r : Reply} → x ≡ accepted q [] o → q ≡ r → x ≡ accepted r [] o
 reply-as {x} o e f = e ∙ ap (λ y. accepted y [] o) f

@@ -11,7 +11,7 @@ use Rattle.job.specs.Words.{dagOf}
 use Rattle.model.specs.Machine.Blank.{blankToken, tokenAt}
 use Rattle.model.specs.Machine.InUse.{tokensUsed, cellsUsed, marked}
 use Rattle.model.specs.Machine.Limits.{paper}
-use Rattle.model.specs.Machine.Places.{nextPlace}
+use Rattle.model.specs.Machine.FreePlace.{nextPlace}
 use Rattle.model.specs.Machine.Reply.{accepted, outcome, unless, refuses}
 use Rattle.model.specs.Machine.Step as Step
 use Rattle.model.specs.Machine.Step.{act, withNode, withState, withValue, withBinding, inCell, put, enqueue, newToken, newCell, valueOf, withOrders}
@@ -26,7 +26,7 @@ use Rattle.model.specs.declared.token.Token.{Token}
 use Rattle.model.proofs.Machine.Marks.{free-inside}
 use Rattle.model.proofs.Sees.Lockstep.{Fitting, free-token, free-cell}
 use Rattle.model.proofs.Keeps.Clean.{tokensOf, cellsOf}
-use Rattle.record.specs.Fields.{taken, unsetCell}
+use Rattle.record.specs.Fields.{dequeued, unsetCell}
 use Rattle.reach.specs.Marks.{nextOr}
 use Rattle.acts.specs.Acting.{Acting, Lawful}
 use Rattle.sites.specs.Row.{callee, paramsAt}
@@ -102,84 +102,84 @@ module _ (dag : List ℕ) (place p at : ℕ) (m : Machine) where
   abbrev word : ℕ → ℕ
   word i = getD dag (at + i) 0
 
-  pub stop-step : {ws : List ℕ} {used cells : List Bool} → Acting ws used cells dag place p at 0 m → Step.step paper (dagOf dag) m place ≡ accepted replies.Done [] (put p blankToken (taken m place))
+  pub stop-step : {ws : List ℕ} {used cells : List Bool} → Acting ws used cells dag place p at 0 m → Step.step paper (dagOf dag) m place ≡ accepted replies.Done [] (put p blankToken (dequeued m place))
   unfolding act outcome Step.ended
   stop-step a = step-is a
 
-  pub publish-step : {ws : List ℕ} {used cells : List Bool} → Acting ws used cells dag place p at 9 m → Step.step paper (dagOf dag) m place ≡ accepted (replies.Published (valueOf (t .value))) [] (put p blankToken (taken m place))
+  pub publish-step : {ws : List ℕ} {used cells : List Bool} → Acting ws used cells dag place p at 9 m → Step.step paper (dagOf dag) m place ≡ accepted (replies.Published (valueOf (t .value))) [] (put p blankToken (dequeued m place))
   unfolding act outcome Step.ended
   publish-step a = step-is a
 
   pub assign-step : {ws : List ℕ} {used cells : List Bool} → Acting ws used cells dag place p at 4 m → Step.step paper (dagOf dag) m place
-      ≡ accepted replies.Done [] (enqueue p (put p (withNode (word 2) (withBinding (word 1) (slots.Value (valueOf (t .value))) t)) (taken m place)))
+      ≡ accepted replies.Done [] (enqueue p (put p (withNode (word 2) (withBinding (word 1) (slots.Value (valueOf (t .value))) t)) (dequeued m place)))
   unfolding act outcome Step.goesOn
   assign-step a = step-is a
 
   pub remove-step : {ws : List ℕ} {used cells : List Bool} → Acting ws used cells dag place p at 5 m → Step.step paper (dagOf dag) m place
-      ≡ accepted replies.Done [] (enqueue p (put p (withNode (word 2) (withBinding (word 1) slots.Empty t)) (taken m place)))
+      ≡ accepted replies.Done [] (enqueue p (put p (withNode (word 2) (withBinding (word 1) slots.Empty t)) (dequeued m place)))
   unfolding act outcome Step.goesOn
   remove-step a = step-is a
 
   pub return-step : {ws : List ℕ} {used cells : List Bool} → (f : ℕ) → t .caller ≡ places.At f → Acting ws used cells dag place p at 8 m → Step.step paper (dagOf dag) m place
-      ≡ accepted replies.Done [] (enqueue p (put p (withState states.Ready (withValue (t .value) (tokenAt (m .tokens) f))) (taken m place)))
+      ≡ accepted replies.Done [] (enqueue p (put p (withState states.Ready (withValue (t .value) (tokenAt (m .tokens) f))) (dequeued m place)))
   unfolding act outcome Step.goesOn Step.returned withOrders
-  return-step f e a = step-is a ∙ ap (λ q. outcome m (Step.returned (taken m place) p t q)) e
+  return-step f e a = step-is a ∙ ap (λ q. outcome m (Step.returned (dequeued m place) p t q)) e
 
   pub choke-step : {ws : List ℕ} {used cells : List Bool} → (c : ℕ) → t .cell ≡ places.At c → Acting ws used cells dag place p at 7 m → Step.step paper (dagOf dag) m place
-      ≡ accepted replies.Done [] (Step.choked c (t .value) (taken m place))
+      ≡ accepted replies.Done [] (Step.afterChoke c (t .value) (dequeued m place))
   unfolding act outcome Step.chokeAt
-  choke-step c e a = step-is a ∙ ap (λ q. outcome m (Step.chokeAt (taken m place) p t q)) e
+  choke-step c e a = step-is a ∙ ap (λ q. outcome m (Step.chokeAt (dequeued m place) p t q)) e
 
   pub site-step : {ws : List ℕ} {used cells : List Bool} → Acting ws used cells dag place p at 1 m → Step.step paper (dagOf dag) m place
-      ≡ outcome m (callSite paper (dagOf dag) (taken m place) p t (word 1) (word 2) (look (m .cells) (t .binds) (paramsAt dag at)))
+      ≡ outcome m (callSite paper (dagOf dag) (dequeued m place) p t (word 1) (word 2) (look (m .cells) (t .binds) (paramsAt dag at)))
   unfolding act withOrders
   site-step a = step-is a
 
   -- fork, where and definition call, with room and without
   pub fork-step : {ws : List ℕ} {used cells : List Bool} → (new : ℕ) → hasTokenPlace paper (dagOf dag) m ≡ true → new ≡ nextPlace (tokensUsed m) (m .lasttoken) → Acting ws used cells dag place p at 3 m
       → Step.step paper (dagOf dag) m place
-      ≡ accepted replies.Done [] (enqueue new (enqueue p (newToken new (withNode (word 2) t) (put p (withNode (word 1) t) (taken m place)))))
+      ≡ accepted replies.Done [] (enqueue new (enqueue p (newToken new (withNode (word 2) t) (put p (withNode (word 1) t) (dequeued m place)))))
   unfolding act outcome unless Step.forked
   fork-step new room e a =
       step-is a
-      ∙ ap (λ b. outcome m (unless b refusals.TokenLimit (Step.forked (taken m place) p t (nextPlace (tokensUsed m) (m .lasttoken)) (word 1) (word 2)))) room
-      ∙ ap (λ q. accepted replies.Done [] (enqueue q (enqueue p (newToken q (withNode (word 2) t) (put p (withNode (word 1) t) (taken m place)))))) (sym e)
+      ∙ ap (λ b. outcome m (unless b refusals.TokenLimit (Step.forked (dequeued m place) p t (nextPlace (tokensUsed m) (m .lasttoken)) (word 1) (word 2)))) room
+      ∙ ap (λ q. accepted replies.Done [] (enqueue q (enqueue p (newToken q (withNode (word 2) t) (put p (withNode (word 1) t) (dequeued m place)))))) (sym e)
 
   pub fork-full : {ws : List ℕ} {used cells : List Bool} → hasTokenPlace paper (dagOf dag) m ≡ false → Acting ws used cells dag place p at 3 m → Step.step paper (dagOf dag) m place ≡ outcome m (refuses refusals.TokenLimit)
   unfolding act outcome unless
   fork-full full a =
       step-is a
-      ∙ ap (λ b. outcome m (unless b refusals.TokenLimit (Step.forked (taken m place) p t (nextPlace (tokensUsed m) (m .lasttoken)) (word 1) (word 2)))) full
+      ∙ ap (λ b. outcome m (unless b refusals.TokenLimit (Step.forked (dequeued m place) p t (nextPlace (tokensUsed m) (m .lasttoken)) (word 1) (word 2)))) full
 
   pub call-step : {ws : List ℕ} {used cells : List Bool} → (new : ℕ) → hasTokenPlace paper (dagOf dag) m ≡ true → new ≡ nextPlace (tokensUsed m) (m .lasttoken) → Acting ws used cells dag place p at 2 m
       → Step.step paper (dagOf dag) m place
       ≡ accepted replies.Done []
       (enqueue new
       (newToken new (callee p (t .cell) (t .binds) (bodyAt (dagOf dag) (word 1) .root) (paramsAt dag at))
-      (put p (withNode (word 2) (withState states.Frame t)) (taken m place))))
+      (put p (withNode (word 2) (withState states.Frame t)) (dequeued m place))))
   unfolding act outcome unless Step.entered
   call-step new room e a =
       let root = bodyAt (dagOf dag) (word 1) .root in
       step-is a
-      ∙ ap (λ b. outcome m (unless b refusals.TokenLimit (Step.entered (taken m place) p t (nextPlace (tokensUsed m) (m .lasttoken)) root (paramsAt dag at) (word 2)))) room
+      ∙ ap (λ b. outcome m (unless b refusals.TokenLimit (Step.entered (dequeued m place) p t (nextPlace (tokensUsed m) (m .lasttoken)) root (paramsAt dag at) (word 2)))) room
       ∙ ap
       (λ q.
       accepted replies.Done []
-      (enqueue q (newToken q (callee p (t .cell) (t .binds) root (paramsAt dag at)) (put p (withNode (word 2) (withState states.Frame t)) (taken m place))))) (sym e)
+      (enqueue q (newToken q (callee p (t .cell) (t .binds) root (paramsAt dag at)) (put p (withNode (word 2) (withState states.Frame t)) (dequeued m place))))) (sym e)
 
   pub call-full : {ws : List ℕ} {used cells : List Bool} → hasTokenPlace paper (dagOf dag) m ≡ false → Acting ws used cells dag place p at 2 m → Step.step paper (dagOf dag) m place ≡ outcome m (refuses refusals.TokenLimit)
   unfolding act outcome unless
   call-full full a =
       let root = bodyAt (dagOf dag) (word 1) .root in
       step-is a
-      ∙ ap (λ b. outcome m (unless b refusals.TokenLimit (Step.entered (taken m place) p t (nextPlace (tokensUsed m) (m .lasttoken)) root (paramsAt dag at) (word 2)))) full
+      ∙ ap (λ b. outcome m (unless b refusals.TokenLimit (Step.entered (dequeued m place) p t (nextPlace (tokensUsed m) (m .lasttoken)) root (paramsAt dag at) (word 2)))) full
 
   abbrev splitting : (new c : ℕ) → Machine
   splitting new c =
       enqueue new
       (enqueue p
       (newCell c (unsetCell (t .cell))
-      (newToken new (inCell c (withNode (word 2) t)) (put p (withNode (word 1) (withBinding (word 3) (slots.Cell c) t)) (taken m place)))))
+      (newToken new (inCell c (withNode (word 2) t)) (put p (withNode (word 1) (withBinding (word 3) (slots.Cell c) t)) (dequeued m place)))))
 
   pub where-step : {ws : List ℕ} {used cells : List Bool} → (new c : ℕ) → hasTokenPlace paper (dagOf dag) m ≡ true → new ≡ nextPlace (tokensUsed m) (m .lasttoken)
       → hasCellPlace paper (dagOf dag) m ≡ true → c ≡ nextPlace (cellsUsed m) (m .lastcell) → Acting ws used cells dag place p at 6 m
@@ -190,7 +190,7 @@ module _ (dag : List ℕ) (place p at : ℕ) (m : Machine) where
       let k = nextPlace (cellsUsed m) (m .lastcell) in
       step-is a
       ∙ ap₂
-      (λ b g. outcome m (unless b refusals.TokenLimit (unless g refusals.CellLimit (Step.split (taken m place) p t q k (word 3) (word 1) (word 2))))) room below
+      (λ b g. outcome m (unless b refusals.TokenLimit (unless g refusals.CellLimit (Step.split (dequeued m place) p t q k (word 3) (word 1) (word 2))))) room below
       ∙ ap₂ (λ q k. accepted replies.Done [] (splitting q k)) (sym e) (sym f)
 
   pub where-full : {ws : List ℕ} {used cells : List Bool} → hasTokenPlace paper (dagOf dag) m ≡ false → Acting ws used cells dag place p at 6 m → Step.step paper (dagOf dag) m place ≡ outcome m (refuses refusals.TokenLimit)
@@ -203,7 +203,7 @@ module _ (dag : List ℕ) (place p at : ℕ) (m : Machine) where
       (λ b.
       outcome m
       (unless b refusals.TokenLimit
-      (unless (hasCellPlace paper (dagOf dag) m) refusals.CellLimit (Step.split (taken m place) p t q k (word 3) (word 1) (word 2))))) full
+      (unless (hasCellPlace paper (dagOf dag) m) refusals.CellLimit (Step.split (dequeued m place) p t q k (word 3) (word 1) (word 2))))) full
 
   pub where-cells-full : {ws : List ℕ} {used cells : List Bool} → hasTokenPlace paper (dagOf dag) m ≡ true → hasCellPlace paper (dagOf dag) m ≡ false → Acting ws used cells dag place p at 6 m
       → Step.step paper (dagOf dag) m place ≡ outcome m (refuses refusals.CellLimit)
@@ -213,4 +213,4 @@ module _ (dag : List ℕ) (place p at : ℕ) (m : Machine) where
       let k = nextPlace (cellsUsed m) (m .lastcell) in
       step-is a
       ∙ ap₂
-      (λ b g. outcome m (unless b refusals.TokenLimit (unless g refusals.CellLimit (Step.split (taken m place) p t q k (word 3) (word 1) (word 2))))) room full
+      (λ b g. outcome m (unless b refusals.TokenLimit (unless g refusals.CellLimit (Step.split (dequeued m place) p t q k (word 3) (word 1) (word 2))))) room full

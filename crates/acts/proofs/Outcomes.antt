@@ -25,21 +25,21 @@ use Rattle.model.specs.declared.reply.Reply.the-variants as replies
 use Rattle.model.specs.declared.reply.Report.{Report}
 use Rattle.model.specs.declared.token.Token.{Token}
 use Rattle.job.proofs.Test.{lt-ltb, all-at}
-use Rattle.model.proofs.Machine.Rules.{RulesKept, rules-kept}
+use Rattle.model.proofs.Machine.Rules.{EachRuleHolds, each-rule-holds}
 use Rattle.model.proofs.Sees.Lockstep.{at-node}
-use Rattle.model.proofs.Run.Queue.{queue-kept}
+use Rattle.model.proofs.Run.Queue.{queue-rules-hold}
 use Rattle.demand3.proofs.Carried.{Carried}
 use Rattle.demand3.proofs.NotRule.{at-rule, ready-not-blank}
-use Rattle.record.specs.Fields.{taken}
+use Rattle.record.specs.Fields.{dequeued}
 use Rattle.record.specs.Holds.{Holds}
-use Rattle.acts.specs.Acting.{Lawful, Taking, Acting, Framed, Gives, plain}
+use Rattle.acts.specs.Acting.{Lawful, Taking, Acting, CallersAreFrames, Gives, plain}
 use Rattle.sites.specs.Row.{NodeRow, nodeIn}
 use Rattle.sites.proofs.Facts.{tokens-size}
 use Rattle.sites.proofs.Rows.{node-is, row-inside}
 
 -- an accepted call after which blanking changes nothing
 pub gives-whole : {x : Outcome} {m : Machine} (o : Machine) (reply : Reply) (vs : List ℤ) {ws : List ℕ} {used cells : List Bool} (r : Report)
-    → x ≡ accepted reply vs o → r .reply ≡ reply → r .values ≡ reportValues vs → Holds ws o → sweep o ≡ o → (Framed m → Carried o used cells)
+    → x ≡ accepted reply vs o → r .reply ≡ reply → r .values ≡ reportValues vs → Holds ws o → sweep o ≡ o → (CallersAreFrames m → Carried o used cells)
     → Gives x m ws used cells r
 unfolding accepted
 gives-whole {x} {m} o reply vs {ws} {used} {cells} r e f g h w k =
@@ -94,24 +94,24 @@ module _ {ws dag : List ℕ} {used cells : List Bool} {place p : ℕ} {m : Machi
   abbrev d : Dag
   d = dagOf dag
 
-  pub rules : RulesKept paper d m
-  rules = rules-kept paper d m (a .lawful .rules)
+  pub rules : EachRuleHolds paper d m
+  rules = each-rule-holds paper d m (a .lawful .rules)
 
   pub token-inside : p < 64
   token-inside =
-      let l = queue-kept paper d m (a .lawful .rules) .named place (a .queued) in
+      let l = queue-rules-hold paper d m (a .lawful .rules) .named place (a .queued) in
       let n = tokens-size d m (a .lawful .rules) in
       let e = a .token in
       omega arith
 
   pub token-ready : isReady (t .state) ≡ true
   token-ready =
-      subst (λ i. isReady (tokenAt (m .tokens) i .state) ≡ true) (sym (a .token)) (queue-kept paper d m (a .lawful .rules) .ready place (a .queued))
+      subst (λ i. isReady (tokenAt (m .tokens) i .state) ≡ true) (sym (a .token)) (queue-rules-hold paper d m (a .lawful .rules) .ready place (a .queued))
 
   pub node-named : t .node < length (d .nodes)
   node-named =
       subst (λ i. tokenAt (m .tokens) i .node < length (d .nodes)) (sym (a .token))
-      (at-node paper d m (a .lawful .rules) _ (queue-kept paper d m (a .lawful .rules) .named place (a .queued)))
+      (at-node paper d m (a .lawful .rules) _ (queue-rules-hold paper d m (a .lawful .rules) .named place (a .queued)))
 
   -- the rule at its node
   pub token-rule : nodeRule (m .tokens) t (nodeAt d (t .node)) ≡ true
@@ -122,12 +122,12 @@ module _ {ws dag : List ℕ} {used cells : List Bool} {place p : ℕ} {m : Machi
       (let n = tokens-size d m (a .lawful .rules) in let l = token-inside in omega arith))
 
   -- the step is what the instruction at its node does
-  pub step-at : Step.step paper d m place ≡ outcome m (act paper d m (taken m place) p t (nodeAt d (t .node)))
+  pub step-at : Step.step paper d m place ≡ outcome m (act paper d m (dequeued m place) p t (nodeAt d (t .node)))
   unfolding Step.step takes unless
   step-at =
       rw (a .lawful .rules, lt-ltb place (m .queued) (a .queued), unless)
       (ap
-      (λ i. outcome m (act paper d m (taken m place) i (tokenAt (m .tokens) i) (nodeAt d (tokenAt (m .tokens) i .node)))) (sym (a .token)))
+      (λ i. outcome m (act paper d m (dequeued m place) i (tokenAt (m .tokens) i) (nodeAt d (tokenAt (m .tokens) i .node)))) (sym (a .token)))
 
 -- .. and the words of its node's row
 module _ {ws dag : List ℕ} {used cells : List Bool} {place p at k : ℕ} {m : Machine} (a : Acting ws used cells dag place p at k m) where
@@ -150,8 +150,8 @@ module _ {ws dag : List ℕ} {used cells : List Bool} {place p at k : ℕ} {m : 
   node-of = node-is dag at k row
 
   pub step-is : Step.step paper (dagOf dag) m place
-      ≡ outcome m (act paper (dagOf dag) m (taken m place) p (tokenAt (m .tokens) p) (nodeIn dag at k))
-  step-is = step-at (a .taking) ∙ ap (λ n. outcome m (act paper (dagOf dag) m (taken m place) p (tokenAt (m .tokens) p) n)) node-of
+      ≡ outcome m (act paper (dagOf dag) m (dequeued m place) p (tokenAt (m .tokens) p) (nodeIn dag at k))
+  step-is = step-at (a .taking) ∙ ap (λ n. outcome m (act paper (dagOf dag) m (dequeued m place) p (tokenAt (m .tokens) p) n)) node-of
 
   pub node-rule : nodeRule (m .tokens) (tokenAt (m .tokens) p) (nodeIn dag at k) ≡ true
   node-rule = subst (λ n. nodeRule (m .tokens) (tokenAt (m .tokens) p) n ≡ true) node-of (token-rule (a .taking))

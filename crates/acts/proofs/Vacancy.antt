@@ -12,14 +12,14 @@ use Rattle.model.specs.Machine.Limits.{paper}
 use Rattle.model.specs.declared.record.Machine.{Machine}
 use Rattle.model.specs.declared.token.Token.{Token}
 use Rattle.model.specs.Machine.Step as Step
-use Rattle.model.specs.Machine.Step.{choked, withTables, withOrders}
+use Rattle.model.specs.Machine.Step.{afterChoke, withTables, withOrders}
 use Rattle.model.specs.declared.token.Held.{Held}
 use Rattle.model.specs.declared.token.Place.the-variants as places
-use Rattle.record.specs.Fields.{taken}
+use Rattle.record.specs.Fields.{dequeued}
 use Rattle.model.proofs.Machine.Writes.{choked-blank}
 use Rattle.model.proofs.Machine.Choke.{choke-at}
 use Rattle.job.proofs.Test.{clash}
-use Rattle.model.proofs.Machine.Rules.{ready-live, rules-kept}
+use Rattle.model.proofs.Machine.Rules.{ready-live, each-rule-holds}
 use Rattle.model.proofs.Machine.Used.{Used, live-used}
 use Rattle.model.proofs.Sees.Others.{token-other}
 use Rattle.model.proofs.Keeps.Clean.{Clean, cellsOf}
@@ -41,7 +41,7 @@ module _ {ws dag : List ℕ} {used cells : List Bool} {m : Machine} (a : Lawful 
 
 module _ {ws dag : List ℕ} {used cells : List Bool} {place p : ℕ} {m : Machine} (a : Taking ws used cells dag place p m) where
   pub token-used : Used m p
-  token-used = live-used paper (dagOf dag) m (rules-kept paper (dagOf dag) m (a .lawful .rules)) p (ready-live _ (token-ready a))
+  token-used = live-used paper (dagOf dag) m (each-rule-holds paper (dagOf dag) m (a .lawful .rules)) p (ready-live _ (token-ready a))
 
   other-row : (i : ℕ) → getD used i true ≡ false → i ≡ p → ⊥
   other-row i e f = clash (ap (λ u. getD u p true) (a .lawful .marks .tokens) ∙ token-used) (ap (λ j. getD used j true) (sym f) ∙ e)
@@ -56,8 +56,8 @@ module _ {ws dag : List ℕ} {used cells : List Bool} {place p : ℕ} {m : Machi
 
 -- a choke writes to rows of tokens in use and to the cell of the token that acts, which is in use
 pub choke-vacant : {ws dag : List ℕ} {used cells : List Bool} {place p : ℕ} {m : Machine} → Taking ws used cells dag place p m → (c : ℕ) (v : Held)
-    → tokenAt (m .tokens) p .cell ≡ places.At c → Vacant (choked c v (taken m place)) used cells
-unfolding choked withTables withOrders cellAt
+    → tokenAt (m .tokens) p .cell ≡ places.At c → Vacant (afterChoke c v (dequeued m place)) used cells
+unfolding afterChoke withTables withOrders cellAt
 choke-vacant {ws} {dag} {used} {cells} {place} {p} {m} a c v e =
     record {
       tokens = λ i l f. choke-at (m .cells) c (m .tokens) i ∙ ap (Step.chokeToken (m .cells) c) (free-token (a .lawful) i f) ∙ choked-blank (m .cells) c;

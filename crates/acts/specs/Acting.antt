@@ -20,7 +20,7 @@ use Rattle.record.specs.Holds.{Holds}
 use Rattle.sites.specs.Row.{rowOf}
 
 -- there is such a record
-pub record Some (P : Machine → Type 0) : Type 0 where
+pub record SomeMachine (P : Machine → Type 0) : Type 0 where
   pub machine : Machine
   pub is : P machine
 
@@ -37,7 +37,7 @@ pub record Lawful (ws : List ℕ) (used usedCells : List Bool) (dag : List ℕ) 
   pub size : length dag ≡ 12331
 
 -- .. and the queue has a token at `place`
-pub record Ready (ws : List ℕ) (used usedCells : List Bool) (dag : List ℕ) (place : ℕ) (m : Machine) : Type 0 where
+pub record QueueHasToken (ws : List ℕ) (used usedCells : List Bool) (dag : List ℕ) (place : ℕ) (m : Machine) : Type 0 where
   pub lawful : Lawful ws used usedCells dag m
   pub queued : place < m .queued
 
@@ -54,8 +54,8 @@ pub record Acting (ws : List ℕ) (used usedCells : List Bool) (dag : List ℕ) 
   pub kind : getD dag at 0 ≡ k
 
 -- every caller of a token in use is a frame: so it is in each record of a run
-abbrev pub Framed : Machine → Type 0
-Framed m =
+abbrev pub CallersAreFrames : Machine → Type 0
+CallersAreFrames m =
     (i j : ℕ) → getD (tokensUsed m) i true ≡ true → tokenAt (m .tokens) i .caller ≡ places.At j → tokenAt (m .tokens) j .state ≡ states.Frame
 
 -- a call's report and the words after it are those of an outcome; the marks too, where callers are frames
@@ -63,7 +63,7 @@ pub record Gives (o : Outcome) (m : Machine) (ws : List ℕ) (used usedCells : L
   pub reply : r .reply ≡ o .reply
   pub values : r .values ≡ o .values
   pub holds : Holds ws (o .machine)
-  pub marks : Framed m → Marks used usedCells (o .machine)
+  pub marks : CallersAreFrames m → Marks used usedCells (o .machine)
 
 -- a report without values
 abbrev pub plain : Reply → Report

@@ -1,13 +1,13 @@
 // Stop, publish, a silent site: "the token ends".
 ghost use Prim.Native.Nat.{_<_};
 ghost use Rattle.model.specs.declared.record.Machine.{Machine};
-ghost use Rattle.record.specs.Fields.{taken};
+ghost use Rattle.record.specs.Fields.{dequeued};
 ghost use Rattle.model.specs.Machine.Blank.{blankToken};
 ghost use Rattle.model.specs.Machine.Step.{put};
 ghost use Rattle.job.specs.Words.{dagOf};
 ghost use Rattle.model.specs.Machine.Limits.{paper};
 ghost use Rattle.model.specs.Machine.Step as Step;
-ghost use Rattle.acts.specs.Acting.{Some, Acting, Gives};
+ghost use Rattle.acts.specs.Acting.{SomeMachine, Acting, Gives};
 ghost use mathlib.Core.List.{List, []};
 ghost use mathlib.Core.Bool.{false};
 ghost use Prim.Native.Nat.{ℕ};
@@ -34,7 +34,7 @@ pub fn end(
     reply: Reply,
 ) -> Report
     requires { ⌜ p < 64 ⌝ }
-    ensures { λ r. ⌜ ((m : Machine) (dag : List ℕ) → Taking (now (w .entry)) (now (tokens .entry)) (now (cells .entry)) dag place p m → Gives (accepted reply [] (put p blankToken (taken m place))) m (now (w .exit)) (now (tokens .exit)) (now (cells .exit)) r) ⌝ }
+    ensures { λ r. ⌜ ((m : Machine) (dag : List ℕ) → Taking (now (w .entry)) (now (tokens .entry)) (now (cells .entry)) dag place p m → Gives (accepted reply [] (put p blankToken (dequeued m place))) m (now (w .exit)) (now (tokens .exit)) (now (cells .exit)) r) ⌝ }
 {
     let linked = names(w, p);
     written(w, place, p);
@@ -56,7 +56,7 @@ pub fn stop(
     p: usize,
     at: usize,
 ) -> Report
-    requires { ⌜ Some (Acting (now w) (now tokens) (now cells) (now dag) place p at 0) ⌝ }
+    requires { ⌜ SomeMachine (Acting (now w) (now tokens) (now cells) (now dag) place p at 0) ⌝ }
     ensures { λ r. ⌜ ((m : Machine) → Acting (now (w .entry)) (now (tokens .entry)) (now (cells .entry)) (now (dag .entry)) place p at 0 m → Gives (Step.step paper (dagOf (now (dag .entry))) m place) m (now (w .exit)) (now (tokens .exit)) (now (cells .exit)) r) ⌝ }
 {
     end(w, tokens, cells, place, p, Reply::Done)
@@ -72,7 +72,7 @@ pub fn publish(
     p: usize,
     at: usize,
 ) -> Report
-    requires { ⌜ Some (Acting (now w) (now tokens) (now cells) (now dag) place p at 9) ⌝ }
+    requires { ⌜ SomeMachine (Acting (now w) (now tokens) (now cells) (now dag) place p at 9) ⌝ }
     ensures { λ r. ⌜ ((m : Machine) → Acting (now (w .entry)) (now (tokens .entry)) (now (cells .entry)) (now (dag .entry)) place p at 9 m → Gives (Step.step paper (dagOf (now (dag .entry))) m place) m (now (w .exit)) (now (tokens .exit)) (now (cells .exit)) r) ⌝ }
 {
     let v = signed(value(w, p));

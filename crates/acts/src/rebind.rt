@@ -3,14 +3,14 @@ ghost use mathlib.Core.Path.{_≡_};
 ghost use Prim.Native.Nat.{_<_};
 ghost use Rattle.model.specs.Machine.Blank.{tokenAt};
 ghost use Rattle.model.specs.declared.record.Machine.{Machine};
-ghost use Rattle.record.specs.Fields.{taken};
+ghost use Rattle.record.specs.Fields.{dequeued};
 ghost use Rattle.model.specs.Machine.Step.{withNode, withBinding, put, enqueue};
 ghost use Rattle.model.specs.declared.token.Slot.{Slot};
 ghost use Rattle.record.specs.Words.{slotKind, slotNumber};
 ghost use Rattle.job.specs.Words.{dagOf};
 ghost use Rattle.model.specs.Machine.Limits.{paper};
 ghost use Rattle.model.specs.Machine.Step as Step;
-ghost use Rattle.acts.specs.Acting.{Some, Acting, Gives};
+ghost use Rattle.acts.specs.Acting.{SomeMachine, Acting, Gives};
 ghost use Rattle.model.specs.Machine.Reply.{accepted};
 ghost use Rattle.model.specs.declared.reply.Reply.the-variants as replies;
 ghost use Rattle.model.specs.declared.token.Slot.the-variants as slots;
@@ -18,8 +18,8 @@ ghost use Prim.Native.Nat.{ℕ};
 ghost use mathlib.Core.List.{List, []};
 ghost use Rattle.acts.specs.Acting.{Taking};
 use crate::report::plain;
-use job::dag::NAMED;
-use job::dag::NEXT;
+use job::dag::NAMED_NUMBER;
+use job::dag::NEXT_NODE;
 use job::dag::WORDS;
 use job::wide::wide;
 use model::record::Machine;
@@ -31,7 +31,7 @@ use record::layout::VALUE_SLOT;
 use record::token::bind_kind;
 use record::token::value;
 use sweep::sweep::sweep;
-use writes::dag::word;
+use writes::dag::dag_word;
 use writes::rebind::written;
 
 // What was bound before may have been the last to name a cell.
@@ -47,7 +47,7 @@ fn rebind(
     next: u32,
 ) -> Report
     requires { ⌜ (p < 64) × (x < 8) ⌝ }
-    ensures { λ r. ⌜ ((m : Machine) (dag : List ℕ) (s : Slot) → Taking (now (w .entry)) (now (tokens .entry)) (now (cells .entry)) dag place p m → ((c : ℕ) → s ≡ slots.Cell c → ⊥) → slotKind s ≡ kind → slotNumber s ≡ number → Gives (accepted replies.Done [] (enqueue p (put p (withNode next (withBinding x s (tokenAt (m .tokens) p))) (taken m place)))) m (now (w .exit)) (now (tokens .exit)) (now (cells .exit)) r) ⌝ }
+    ensures { λ r. ⌜ ((m : Machine) (dag : List ℕ) (s : Slot) → Taking (now (w .entry)) (now (tokens .entry)) (now (cells .entry)) dag place p m → ((c : ℕ) → s ≡ slots.Cell c → ⊥) → slotKind s ≡ kind → slotNumber s ≡ number → Gives (accepted replies.Done [] (enqueue p (put p (withNode next (withBinding x s (tokenAt (m .tokens) p))) (dequeued m place)))) m (now (w .exit)) (now (tokens .exit)) (now (cells .exit)) r) ⌝ }
 {
     let old = bind_kind(w, p, x);
     written(w, place, p, x, kind, number, next);
@@ -68,10 +68,10 @@ pub fn assign(
     p: usize,
     at: usize,
 ) -> Report
-    requires { ⌜ Some (Acting (now w) (now tokens) (now cells) (now dag) place p at 4) ⌝ }
+    requires { ⌜ SomeMachine (Acting (now w) (now tokens) (now cells) (now dag) place p at 4) ⌝ }
     ensures { λ r. ⌜ ((m : Machine) → Acting (now (w .entry)) (now (tokens .entry)) (now (cells .entry)) (now (dag .entry)) place p at 4 m → Gives (Step.step paper (dagOf (now (dag .entry))) m place) m (now (w .exit)) (now (tokens .exit)) (now (cells .exit)) r) ⌝ }
 {
-    let x = wide(word(dag, at + NAMED));
+    let x = wide(dag_word(dag, at + NAMED_NUMBER));
     let number = value(w, p);
     rebind(
         w,
@@ -82,7 +82,7 @@ pub fn assign(
         x,
         VALUE_SLOT,
         number,
-        word(dag, at + NEXT),
+        dag_word(dag, at + NEXT_NODE),
     )
 }
 
@@ -96,10 +96,10 @@ pub fn remove(
     p: usize,
     at: usize,
 ) -> Report
-    requires { ⌜ Some (Acting (now w) (now tokens) (now cells) (now dag) place p at 5) ⌝ }
+    requires { ⌜ SomeMachine (Acting (now w) (now tokens) (now cells) (now dag) place p at 5) ⌝ }
     ensures { λ r. ⌜ ((m : Machine) → Acting (now (w .entry)) (now (tokens .entry)) (now (cells .entry)) (now (dag .entry)) place p at 5 m → Gives (Step.step paper (dagOf (now (dag .entry))) m place) m (now (w .exit)) (now (tokens .exit)) (now (cells .exit)) r) ⌝ }
 {
-    let x = wide(word(dag, at + NAMED));
+    let x = wide(dag_word(dag, at + NAMED_NUMBER));
     rebind(
         w,
         tokens,
@@ -109,6 +109,6 @@ pub fn remove(
         x,
         EMPTY_SLOT,
         0,
-        word(dag, at + NEXT),
+        dag_word(dag, at + NEXT_NODE),
     )
 }

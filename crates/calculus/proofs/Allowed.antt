@@ -8,7 +8,7 @@ use Rattle.calculus.specs.Event.{Event, publish, call, answer, silently,
 use Rattle.calculus.specs.Expression.{Exp}
 use Rattle.calculus.specs.Rewriting.{silence, calling, answering, Rewrites, builtin-gives, outside-call, answered, published}
 use Rattle.calculus.specs.Rewriting.{par-left, par-right, seq-acts, seq-publishes, prune-right, prune-publishes}
-use Rattle.calculus.specs.Allowed.{Goal, nextHandle, shown, Shows, ends, then, Allowed}
+use Rattle.calculus.specs.Allowed.{Goal, nextHandle, shown, CanShow, ends, then, Allowed}
 use Rattle.calculus.specs.Meaning.{meaning}
 use Rattle.calculus.proofs.Computing.{meant, rewritten}
 use Rattle.calculus.proofs.Search.{searching, allowed}
@@ -17,14 +17,14 @@ use Rattle.calculus.proofs.Programs.{mail-once, fork-join, timeout, par
 
 -- a silent rewriting, or one that shows an event, in front of others
 quietly : {body : ℕ → Exp} {h : ℕ} {f f′ : Exp} {es : List Event}
-    → Rewrites body h f silently f′ → Shows body (record { exp = f′; handle = h }) es → Shows body (record { exp = f; handle = h }) es
+    → Rewrites body h f silently f′ → CanShow body (record { exp = f′; handle = h }) es → CanShow body (record { exp = f; handle = h }) es
 unfolding shown nextHandle
 quietly r s = then {a = silently} r s
 
 openly : {body : ℕ → Exp} {h : ℕ} {f f′ : Exp} {e : Event} {es : List Event}
     → Rewrites body h f (showing e) f′
-    → Shows body (record { exp = f′; handle = nextHandle (showing e) h }) es
-    → Shows body (record { exp = f; handle = h }) (e ∷ es)
+    → CanShow body (record { exp = f′; handle = nextHandle (showing e) h }) es
+    → CanShow body (record { exp = f; handle = h }) (e ∷ es)
 unfolding shown
 openly r s = then r s
 

@@ -12,7 +12,7 @@ use Rattle.job.specs.Number.{fits}
 use Rattle.job.specs.Site.{BuiltinReply, gives, silent, isBuiltin, isOutside, builtin}
 use Rattle.calculus.specs.Event.{Event, publish, answer, Label, silently, showing}
 use Rattle.calculus.specs.Expression.{Param, Exp, stop, site, call, par, seq, prune, pending, hand, subst, innermost, formals}
-use Rattle.calculus.specs.Rewriting.{Passes, silence, calling, answering, valuesOf, Rewrites}
+use Rattle.calculus.specs.Rewriting.{NotPublishing, silence, calling, answering, paramValues, Rewrites}
 use Rattle.calculus.specs.Rewriting.{builtin-gives, builtin-silent, outside-call, answered, published, entered}
 use Rattle.calculus.specs.Rewriting.{par-left, par-right, seq-acts, seq-publishes, prune-left, prune-right, prune-publishes}
 use Rattle.job.proofs.Test.{clash, and-left, and-right}
@@ -55,7 +55,7 @@ sorted q p (showing (publish v)) f = q v f
 sorted q p (showing (Event.call k s vs)) f = p (showing (Event.call k s vs)) f
 sorted q p (showing (answer k v)) f = p (showing (answer k v)) f
 
-sorted-passes : {a : Label} (q : ℤ → Exp → Bool) (p : Tests) (f : Exp) → Passes a → sorted q p a f ≡ true → p a f ≡ true
+sorted-passes : {a : Label} (q : ℤ → Exp → Bool) (p : Tests) (f : Exp) → NotPublishing a → sorted q p a f ≡ true → p a f ≡ true
 unfolding sorted
 sorted-passes q p f silence t = t
 sorted-passes q p f calling t = t
@@ -77,7 +77,7 @@ module _ (body : ℕ → Exp) (h : ℕ) where
   -- a test of every move of an expression, where answers have the value w
   unfoldable pub every : ℤ → Exp → Tests → Bool
   every w stop p = true
-  every w (site s ps) p = everyOfSite s (valuesOf ps) p
+  every w (site s ps) p = everyOfSite s (paramValues ps) p
   every w (call d ps) p = p silently (subst (formals ps) (body d))
   every w (par f g) p = every w f (λ a f′. p a (par f′ g)) and every w g (λ a g′. p a (par f g′))
   every w (seq f g) p = every w f (sorted (λ v f′. p silently (par (seq f′ g) (subst (innermost v) g))) (λ a f′. p a (seq f′ g)))
@@ -124,13 +124,13 @@ module _ (body : ℕ → Exp) (h : ℕ) where
 
   -- a built-in call that fails a test
   reply-failing : (s : ℕ) (ps : List Param) (vs : List ℤ) (p : Tests) (r : BuiltinReply)
-      → valuesOf ps ≡ some vs → isBuiltin s ≡ true → builtin s vs ≡ r → afterReply r (p silently) ≡ false → Failing (site s ps) p
+      → paramValues ps ≡ some vs → isBuiltin s ≡ true → builtin s vs ≡ r → afterReply r (p silently) ≡ false → Failing (site s ps) p
   unfolding afterReply
   reply-failing s ps vs p (gives v) e b q t = record { label = silently; left = hand v; move = builtin-gives e b q; fails = t }
   reply-failing s ps vs p silent e b q t = record { label = silently; left = stop; move = builtin-silent e b q; fails = t }
 
   site-failing : (s : ℕ) (ps : List Param) (p : Tests) (o : Option (List ℤ))
-      → valuesOf ps ≡ o → everyOfSite s o p ≡ false → Failing (site s ps) p
+      → paramValues ps ≡ o → everyOfSite s o p ≡ false → Failing (site s ps) p
   unfolding everyOfSite
   site-failing s ps p none e t = clash refl t
   site-failing s ps p (some vs) e t = elim (and-fails _ _ t) [ inl l ↦ by-builtin (implies-fails _ _ l) | inr r ↦ by-call (implies-fails _ _ r) ]
@@ -143,7 +143,7 @@ module _ (body : ℕ → Exp) (h : ℕ) where
 
   -- a failing move inside, sorted, makes one outside if each of the two ways does
   sorted-failing : {f F : Exp} {p : Tests} (q : ℤ → Exp → Bool) (p′ : Tests)
-      → ((a : Label) (f′ : Exp) → Rewrites body h f a f′ → Passes a → p′ a f′ ≡ false → Failing F p)
+      → ((a : Label) (f′ : Exp) → Rewrites body h f a f′ → NotPublishing a → p′ a f′ ≡ false → Failing F p)
       → ((v : ℤ) (f′ : Exp) → Rewrites body h f (showing (publish v)) f′ → q v f′ ≡ false → Failing F p)
       → (a : Label) (f′ : Exp) → Rewrites body h f a f′ → sorted q p′ a f′ ≡ false → Failing F p
   unfolding sorted
@@ -156,7 +156,7 @@ module _ (body : ℕ → Exp) (h : ℕ) where
   pub some-move : (w : ℤ) (f : Exp) (p : Tests) → every w f p ≡ false → Failing f p
   unfolding every
   some-move w stop p t = clash refl t
-  some-move w (site s ps) p t = site-failing s ps p (valuesOf ps) refl t
+  some-move w (site s ps) p t = site-failing s ps p (paramValues ps) refl t
   some-move w (call d ps) p t = record { label = silently; left = subst (formals ps) (body d); move = entered; fails = t }
   some-move w (par f g) p t =
       elim (and-fails _ _ t) [

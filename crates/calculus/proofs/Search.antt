@@ -11,7 +11,7 @@ use Rattle.job.specs.Number.{equalZ}
 use Rattle.calculus.specs.Event.{Event, publish, call, answer, Label, silently, showing}
 use Rattle.calculus.specs.Expression.{Exp}
 use Rattle.calculus.specs.Rewriting.{Rewrites}
-use Rattle.calculus.specs.Allowed.{Goal, Configuration, nextHandle, shown, Shows, ends, then, Allowed}
+use Rattle.calculus.specs.Allowed.{Goal, Configuration, nextHandle, shown, CanShow, ends, then, Allowed}
 use Rattle.job.proofs.Test.{clash, eqb-same, eqb-eq, and-left, and-right, and-both}
 use Rattle.calculus.proofs.Moves.{_implies_, under, implies-fails, Tests, Within, in-silence, in-publishing, in-calling, in-answering}
 use Rattle.calculus.proofs.Moves.{every, every-move, some-move, moving}
@@ -106,7 +106,7 @@ module _ (body : ℕ → Exp) where
   misses spent (suc n) h f [] = false
   misses spent (suc n) h f (e ∷ es) = every body h (answerIn e) f (after (misses spent n) h e es)
 
-  missed : (n : ℕ) {c : Configuration} {es : List Event} → misses false n (c .handle) (c .exp) es ≡ true → Shows body c es → ⊥
+  missed : (n : ℕ) {c : Configuration} {es : List Event} → misses false n (c .handle) (c .exp) es ≡ true → CanShow body c es → ⊥
   unfolding misses after shown nextHandle
   missed zero {es = []} t s = clash t refl
   missed zero {es = e ∷ es} t s = clash t refl
@@ -118,18 +118,18 @@ module _ (body : ℕ → Exp) where
 
   -- a move that does not miss the list, and the rewritings after it
   onward : {h : ℕ} {f : Exp} {e : Event} {es : List Event} (m : ℕ → Exp → List Event → Bool)
-      → ((k : ℕ) (g : Exp) (ds : List Event) → m k g ds ≡ false → Shows body (record { exp = g; handle = k }) ds)
-      → (a : Label) {f′ : Exp} → Rewrites body h f a f′ → after m h e es a f′ ≡ false → Shows body (record { exp = f; handle = h }) (e ∷ es)
+      → ((k : ℕ) (g : Exp) (ds : List Event) → m k g ds ≡ false → CanShow body (record { exp = g; handle = k }) ds)
+      → (a : Label) {f′ : Exp} → Rewrites body h f a f′ → after m h e es a f′ ≡ false → CanShow body (record { exp = f; handle = h }) (e ∷ es)
   unfolding after shown nextHandle
   onward {h = h} {e = e} {es = es} m rest silently {f′} r t = then {a = silently} r (rest h f′ (e ∷ es) t)
   onward {h = h} {f = f} {e = e} {es = es} m rest (showing e′) {f′} r t =
       let y = implies-fails _ _ t in
       along
-      (λ x. Shows body (record { exp = f; handle = h }) (x ∷ es))
+      (λ x. CanShow body (record { exp = f; handle = h }) (x ∷ es))
       (sym (sameEvent-eq e e′ (y .0)))
       (then {a = showing e′} r (rest _ f′ es (y .1)))
 
-  found : (n h : ℕ) (f : Exp) (es : List Event) → misses true n h f es ≡ false → Shows body (record { exp = f; handle = h }) es
+  found : (n h : ℕ) (f : Exp) (es : List Event) → misses true n h f es ≡ false → CanShow body (record { exp = f; handle = h }) es
   unfolding misses
   found zero h f [] t = ends
   found zero h f (e ∷ es) t = clash refl t

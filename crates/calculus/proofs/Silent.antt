@@ -7,7 +7,7 @@ use native.Mathlib.Omega.{arith}
 use Rattle.calculus.specs.Event.{Event, Label, silently, showing}
 use Rattle.calculus.specs.Expression.{Exp, stop, call, prune}
 use Rattle.calculus.specs.Rewriting.{Rewrites, entered, prune-right, prune-publishes}
-use Rattle.calculus.specs.Allowed.{Configuration, shown, Shows, ends, then, Allowed}
+use Rattle.calculus.specs.Allowed.{Configuration, shown, CanShow, ends, then, Allowed}
 use Rattle.calculus.specs.Meaning.{meaning}
 use Rattle.calculus.proofs.Computing.{meant, rewritten}
 use Rattle.calculus.proofs.Programs.{never-ends, ever-deeper}
@@ -15,7 +15,7 @@ use Rattle.calculus.proofs.Programs.{never-ends, ever-deeper}
 -- a rewriting that is silent, to an expression of the same form
 record Quiet (I : Exp → Type 0) (a : Label) (f : Exp) : Type 0 where
   is-silent : a ≡ silently
-  is-kept : I f
+  invariant-holds : I f
 
 not-silent : {A : Type 0} {e : Event} → showing e ≡ silently → A
 not-silent p = let z : _≡_ {A = ℕ} 0 1 = cc in absurd (omega arith)
@@ -23,11 +23,11 @@ not-silent p = let z : _≡_ {A = ℕ} 0 1 = cc in absurd (omega arith)
 -- a form that every rewriting keeps, silently, shows nothing
 shows-nothing : (body : ℕ → Exp) (I : Exp → Type 0)
     → ((h : ℕ) (f : Exp) (a : Label) (f′ : Exp) → I f → Rewrites body h f a f′ → Quiet I a f′)
-    → (c : Configuration) (es : List Event) → I (c .exp) → Shows body c es → es ≡ []
+    → (c : Configuration) (es : List Event) → I (c .exp) → CanShow body c es → es ≡ []
 unfolding shown
 shows-nothing body I keeps c es i ends = refl
 shows-nothing body I keeps c es i (then {a = silently} {f = f} {es = ds} r s) =
-    shows-nothing body I keeps _ ds (keeps _ _ _ _ i r .is-kept) s
+    shows-nothing body I keeps _ ds (keeps _ _ _ _ i r .invariant-holds) s
 shows-nothing body I keeps c es i (then {a = showing e} r s) = not-silent (keeps _ _ _ _ i r .is-silent)
 
 -- E() = E()
@@ -36,7 +36,7 @@ data Calling : Exp → Type 0 where
 
 never-ends-keeps : (h : ℕ) (f : Exp) (a : Label) (f′ : Exp) → Calling f → Rewrites (meaning never-ends .body) h f a f′ → Quiet Calling a f′
 unfolding meant rewritten
-never-ends-keeps h f a f′ itself entered = record { is-silent = refl; is-kept = itself }
+never-ends-keeps h f a f′ itself entered = record { is-silent = refl; invariant-holds = itself }
 
 pub never-ends-shows-nothing : (es : List Event) → Allowed (meaning never-ends) es → es ≡ []
 unfolding meant
@@ -49,9 +49,9 @@ data Deeper : Exp → Type 0 where
 
 ever-deeper-keeps : (h : ℕ) (f : Exp) (a : Label) (f′ : Exp) → Deeper f → Rewrites (meaning ever-deeper .body) h f a f′ → Quiet Deeper a f′
 unfolding meant rewritten
-ever-deeper-keeps h f a f′ bottom entered = record { is-silent = refl; is-kept = inside bottom }
+ever-deeper-keeps h f a f′ bottom entered = record { is-silent = refl; invariant-holds = inside bottom }
 ever-deeper-keeps h f a f′ (inside d) (prune-right r passes) =
-    let q = ever-deeper-keeps h _ _ _ d r in record { is-silent = q .is-silent; is-kept = inside (q .is-kept) }
+    let q = ever-deeper-keeps h _ _ _ d r in record { is-silent = q .is-silent; invariant-holds = inside (q .invariant-holds) }
 ever-deeper-keeps h f a f′ (inside d) (prune-publishes r) = not-silent (ever-deeper-keeps h _ _ _ d r .is-silent)
 
 pub ever-deeper-shows-nothing : (es : List Event) → Allowed (meaning ever-deeper) es → es ≡ []

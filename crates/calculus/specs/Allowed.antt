@@ -28,13 +28,13 @@ shown silently es = es
 shown (showing e) es = e ∷ es
 
 -- "finitely many of these rewritings, one after another"; "they may end anywhere"
-pub data Shows (body : ℕ → Exp) : Configuration → List Event → Type 0 where
-  ends : {c : Configuration} → Shows body c []
+pub data CanShow (body : ℕ → Exp) : Configuration → List Event → Type 0 where
+  ends : {c : Configuration} → CanShow body c []
   then : {c : Configuration} {a : Label} {f : Exp} {es : List Event}
       → Rewrites body (c .handle) (c .exp) a f
-      → Shows body (record { exp = f; handle = nextHandle a (c .handle) }) es
-      → Shows body c (shown a es)
+      → CanShow body (record { exp = f; handle = nextHandle a (c .handle) }) es
+      → CanShow body c (shown a es)
 
 -- "A list is allowed exactly when finitely many of these rewritings .. from the table's goal, show it"
 abbrev pub Allowed : Goal → List Event → Type 0
-Allowed g es = Shows (g .body) (record { exp = g .goal; handle = zero }) es
+Allowed g es = CanShow (g .body) (record { exp = g .goal; handle = zero }) es

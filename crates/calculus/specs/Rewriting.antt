@@ -11,29 +11,29 @@ use Rattle.calculus.specs.Event.{Event, Label, silently, showing}
 use Rattle.calculus.specs.Expression.{Param, value, variable, Exp, stop, site, call, par, seq, prune, pending, hand, subst, innermost, formals}
 
 -- every label but publishing
-pub data Passes : Label → Type 0 where
-  silence : Passes silently
-  calling : {h s : ℕ} {vs : List ℤ} → Passes (showing (Event.call h s vs))
-  answering : {h : ℕ} {v : ℤ} → Passes (showing (Event.answer h v))
+pub data NotPublishing : Label → Type 0 where
+  silence : NotPublishing silently
+  calling : {h s : ℕ} {vs : List ℤ} → NotPublishing (showing (Event.call h s vs))
+  answering : {h : ℕ} {v : ℤ} → NotPublishing (showing (Event.answer h v))
 
 -- all parameters' values, where they have them
-unfoldable pub valuesOf : List Param → Option (List ℤ)
-valuesOf [] = some []
-valuesOf (value v ∷ ps) = elim (valuesOf ps) [ none ↦ none | some vs ↦ some (v ∷ vs) ]
-valuesOf (variable i ∷ ps) = none
+unfoldable pub paramValues : List Param → Option (List ℤ)
+paramValues [] = some []
+paramValues (value v ∷ ps) = elim (paramValues ps) [ none ↦ none | some vs ↦ some (v ∷ vs) ]
+paramValues (variable i ∷ ps) = none
 
 -- f becomes f′ with this label; `body` has the definitions, and h is the next handle
 module _ (body : ℕ → Exp) (h : ℕ) where
   pub data Rewrites : Exp → Label → Exp → Type 0 where
     -- "A built-in call with all values silently becomes its value in hand, .."
     builtin-gives : {s : ℕ} {ps : List Param} {vs : List ℤ} {v : ℤ}
-        → valuesOf ps ≡ some vs → isBuiltin s ≡ true → builtin s vs ≡ gives v → Rewrites (site s ps) silently (hand v)
+        → paramValues ps ≡ some vs → isBuiltin s ≡ true → builtin s vs ≡ gives v → Rewrites (site s ps) silently (hand v)
     -- ".. or stop where it is silent."
     builtin-silent : {s : ℕ} {ps : List Param} {vs : List ℤ}
-        → valuesOf ps ≡ some vs → isBuiltin s ≡ true → builtin s vs ≡ silent → Rewrites (site s ps) silently stop
+        → paramValues ps ≡ some vs → isBuiltin s ≡ true → builtin s vs ≡ silent → Rewrites (site s ps) silently stop
     -- "An outside call with all values becomes an open call; .."
     outside-call : {s : ℕ} {ps : List Param} {vs : List ℤ}
-        → valuesOf ps ≡ some vs → isOutside s ≡ true → Rewrites (site s ps) (showing (Event.call h s vs)) (pending h)
+        → paramValues ps ≡ some vs → isOutside s ≡ true → Rewrites (site s ps) (showing (Event.call h s vs)) (pending h)
     -- ".. its answer makes a value in hand; .." (docs/DECISIONS.md, "Values and answers")
     answered : {k : ℕ} {v : ℤ} → Signed32 v → Rewrites (pending k) (showing (Event.answer k v)) (hand v)
     -- ".. that publishes once and becomes stop."
@@ -44,11 +44,11 @@ module _ (body : ℕ → Exp) (h : ℕ) where
     par-left : {f f′ g : Exp} {a : Label} → Rewrites f a f′ → Rewrites (par f g) a (par f′ g)
     par-right : {f g g′ : Exp} {a : Label} → Rewrites g a g′ → Rewrites (par f g) a (par f g′)
     -- "f >x> g acts as f, but where f publishes v it silently becomes (f' >x> g) | g with v for x."
-    seq-acts : {f f′ g : Exp} {a : Label} → Rewrites f a f′ → Passes a → Rewrites (seq f g) a (seq f′ g)
+    seq-acts : {f f′ g : Exp} {a : Label} → Rewrites f a f′ → NotPublishing a → Rewrites (seq f g) a (seq f′ g)
     seq-publishes : {f f′ g : Exp} {v : ℤ}
         → Rewrites f (showing (Event.publish v)) f′ → Rewrites (seq f g) silently (par (seq f′ g) (subst (innermost v) g))
     -- "f <x< g acts as f or as g, but where g publishes v it silently becomes f with v for x."
     prune-left : {f f′ g : Exp} {a : Label} → Rewrites f a f′ → Rewrites (prune f g) a (prune f′ g)
-    prune-right : {f g g′ : Exp} {a : Label} → Rewrites g a g′ → Passes a → Rewrites (prune f g) a (prune f g′)
+    prune-right : {f g g′ : Exp} {a : Label} → Rewrites g a g′ → NotPublishing a → Rewrites (prune f g) a (prune f g′)
     prune-publishes : {f g g′ : Exp} {v : ℤ}
         → Rewrites g (showing (Event.publish v)) g′ → Rewrites (prune f g) silently (subst (innermost v) f)

@@ -30,7 +30,7 @@ use Rattle.model.specs.declared.token.State.the-variants as states
 use Rattle.model.specs.declared.token.Token.{Token}
 use Rattle.job.proofs.Test.{lt-ltb, le-not-ltb}
 use Rattle.demand3.proofs.Carried.{Carried, waited-carried, called-carried, replied-carried}
-use Rattle.record.specs.Fields.{taken, delayed}
+use Rattle.record.specs.Fields.{dequeued, delayed}
 use Rattle.record.specs.Holds.{Holds}
 use Rattle.sites.specs.Row.{paramsAt}
 use Rattle.sites.specs.Looking.{lookUpOf}
@@ -58,30 +58,30 @@ module _ {ws dag : List ℕ} {used cells : List Bool} {place p : ℕ} {m : Machi
       gives-whole o reply vs r e f g h (c .whole)
       (λ framed. record { whole = c .whole; tokens = c .tokens ∙ sym (k .tokens); cells = c .cells ∙ sym (k .cells) })
 
-  pub wait-gives : {x : Outcome} (c : ℕ) {after : List ℕ} (r : Report) → x ≡ outcome m (Step.waited (taken m place) p t c) → r ≡ plain replies.Waits
-      → Holds after (delayed p (put p (withState (states.Waiting c) t) (taken m place))) → Gives x m after used cells r
+  pub wait-gives : {x : Outcome} (c : ℕ) {after : List ℕ} (r : Report) → x ≡ outcome m (Step.waited (dequeued m place) p t c) → r ≡ plain replies.Waits
+      → Holds after (delayed p (put p (withState (states.Waiting c) t) (dequeued m place))) → Gives x m after used cells r
   unfolding outcome Step.waited put withTables Step.queueOf Step.waitsOf
   wait-gives c r e f h =
       marked _ replies.Waits [] r e (ap (λ (y : Report). y .reply) f) (ap (λ (y : Report). y .values) f) h
       (waited-carried paper (dagOf dag) m (a .lawful .rules) place (a .queued) p (a .token) c _ _)
 
-  pub reply-gives : {x : Outcome} (v : ℤ) (k j : ℕ) {after : List ℕ} (r : Report) → x ≡ outcome m (Step.replied (taken m place) p t k (gives v)) → j ≡ k
-      → r ≡ plain replies.Done → Holds after (enqueue p (put p (withNode j (withValue (helds.Value v) t)) (taken m place))) → Gives x m after used cells r
+  pub reply-gives : {x : Outcome} (v : ℤ) (k j : ℕ) {after : List ℕ} (r : Report) → x ≡ outcome m (Step.replied (dequeued m place) p t k (gives v)) → j ≡ k
+      → r ≡ plain replies.Done → Holds after (enqueue p (put p (withNode j (withValue (helds.Value v) t)) (dequeued m place))) → Gives x m after used cells r
   unfolding outcome Step.replied Step.goesOn
   reply-gives v k j {after} r e g f h =
       marked _ replies.Done [] r e (ap (λ (y : Report). y .reply) f) (ap (λ (y : Report). y .values) f)
-      (subst (λ i. Holds after (enqueue p (put p (withNode i (withValue (helds.Value v) t)) (taken m place)))) g h)
+      (subst (λ i. Holds after (enqueue p (put p (withNode i (withValue (helds.Value v) t)) (dequeued m place)))) g h)
       (replied-carried paper (dagOf dag) m (a .lawful .rules) place (a .queued) p (a .token) k v)
 
   pub call-gives : {x : Outcome} (s i n k j h : ℕ) (vs : List ℤ) {after : List ℕ} (r : Report)
-      → x ≡ outcome m (Step.calledOut (taken m place) p t s vs k) → h ≡ m .calls → i ≡ s → j ≡ k → n ≡ length vs
+      → x ≡ outcome m (Step.calledOut (dequeued m place) p t s vs k) → h ≡ m .calls → i ≡ s → j ≡ k → n ≡ length vs
       → r .reply ≡ replies.Called h i n → r .values ≡ reportValues vs
-      → Holds after (withCounts (suc h) (m .lasttoken) (m .lastcell) (put p (withNode j (withState (states.Called h) t)) (taken m place)))
+      → Holds after (withCounts (suc h) (m .lasttoken) (m .lastcell) (put p (withNode j (withState (states.Called h) t)) (dequeued m place)))
       → Gives x m after used cells r
   unfolding outcome Step.calledOut withOrders
   call-gives s i n k j h vs {after} r e eh ei g l f v held =
       marked _ (replies.Called (m .calls) s (length vs)) vs r e (f ∙ ap₂ (λ x y. replies.Called x y n) eh ei ∙ ap (replies.Called (m .calls) s) l) v
-      (subst₂ (λ x y. Holds after (withCounts (suc x) (m .lasttoken) (m .lastcell) (put p (withNode y (withState (states.Called x) t)) (taken m place)))) eh g held)
+      (subst₂ (λ x y. Holds after (withCounts (suc x) (m .lasttoken) (m .lastcell) (put p (withNode y (withState (states.Called x) t)) (dequeued m place)))) eh g held)
       (called-carried paper (dagOf dag) m (a .lawful .rules) place (a .queued) p (a .token) (m .calls) k (suc (m .calls)) (m .lasttoken) (m .lastcell))
 
 -- what a site call does, by what was found
@@ -94,47 +94,47 @@ module _ (dag : List ℕ) (place p from : ℕ) (m : Machine) where
 
   pub waits-at : {ws : List ℕ} {used cells : List Bool} → Acting ws used cells dag place p from 1 m → (c : ℕ)
       → look (m .cells) (mine .binds) (paramsAt dag from) ≡ Step.unset c
-      → Step.step paper (dagOf dag) m place ≡ outcome m (Step.waited (taken m place) p mine c)
+      → Step.step paper (dagOf dag) m place ≡ outcome m (Step.waited (dequeued m place) p mine c)
   unfolding callSite
   waits-at a c e =
-      site-step dag place p from m a ∙ ap (λ l. outcome m (callSite paper (dagOf dag) (taken m place) p mine (word 1) (word 2) l)) e
+      site-step dag place p from m a ∙ ap (λ l. outcome m (callSite paper (dagOf dag) (dequeued m place) p mine (word 1) (word 2) l)) e
 
   module _ {ws : List ℕ} {used cells : List Bool} {vs : List ℤ} (k : Evaluated ws used cells dag place p from vs m) where
     by-site : Bool → Outcome
     by-site b =
         outcome m
         (elim b [
-          | true ↦ Step.replied (taken m place) p mine (word 2) (builtin (word 1) (k .values))
+          | true ↦ Step.replied (dequeued m place) p mine (word 2) (builtin (word 1) (k .values))
           | false ↦
-              unless (ltb (taken m place .calls) 1000000) refusals.CallLimit (Step.calledOut (taken m place) p mine (word 1) (k .values) (word 2))
+              unless (ltb (dequeued m place .calls) 1000000) refusals.CallLimit (Step.calledOut (dequeued m place) p mine (word 1) (k .values) (word 2))
         ])
 
     at-site : Step.step paper (dagOf dag) m place ≡ by-site (isBuiltin (word 1))
     unfolding callSite by-site
     at-site =
         site-step dag place p from m (k .acting)
-        ∙ ap (λ l. outcome m (callSite paper (dagOf dag) (taken m place) p mine (word 1) (word 2) l)) (k .found)
+        ∙ ap (λ l. outcome m (callSite paper (dagOf dag) (dequeued m place) p mine (word 1) (word 2) l)) (k .found)
 
     pub says : (said : BuiltinReply) → word 1 < 7 → builtin (word 1) (k .values) ≡ said
-        → Step.step paper (dagOf dag) m place ≡ outcome m (Step.replied (taken m place) p mine (word 2) said)
+        → Step.step paper (dagOf dag) m place ≡ outcome m (Step.replied (dequeued m place) p mine (word 2) said)
     unfolding by-site isBuiltin
     says said l e =
-        at-site ∙ ap by-site (lt-ltb (word 1) 7 l) ∙ ap (λ y. outcome m (Step.replied (taken m place) p mine (word 2) y)) e
+        at-site ∙ ap by-site (lt-ltb (word 1) 7 l) ∙ ap (λ y. outcome m (Step.replied (dequeued m place) p mine (word 2) y)) e
 
     pub calls-out : 7 ≤ word 1 → m .calls < 1000000
-        → Step.step paper (dagOf dag) m place ≡ outcome m (Step.calledOut (taken m place) p mine (word 1) (k .values) (word 2))
+        → Step.step paper (dagOf dag) m place ≡ outcome m (Step.calledOut (dequeued m place) p mine (word 1) (k .values) (word 2))
     unfolding by-site isBuiltin unless withOrders
     calls-out l f =
         at-site
         ∙ ap by-site (le-not-ltb (word 1) 7 l)
-        ∙ ap (λ b. outcome m (unless b refusals.CallLimit (Step.calledOut (taken m place) p mine (word 1) (k .values) (word 2)))) (lt-ltb (m .calls) 1000000 f)
+        ∙ ap (λ b. outcome m (unless b refusals.CallLimit (Step.calledOut (dequeued m place) p mine (word 1) (k .values) (word 2)))) (lt-ltb (m .calls) 1000000 f)
 
     pub calls-no-more : 7 ≤ word 1 → 1000000 ≤ m .calls → Step.step paper (dagOf dag) m place ≡ outcome m (refuses refusals.CallLimit)
     unfolding by-site isBuiltin unless withOrders
     calls-no-more l f =
         at-site
         ∙ ap by-site (le-not-ltb (word 1) 7 l)
-        ∙ ap (λ b. outcome m (unless b refusals.CallLimit (Step.calledOut (taken m place) p mine (word 1) (k .values) (word 2)))) (le-not-ltb (m .calls) 1000000 f)
+        ∙ ap (λ b. outcome m (unless b refusals.CallLimit (Step.calledOut (dequeued m place) p mine (word 1) (k .values) (word 2)))) (le-not-ltb (m .calls) 1000000 f)
 
 -- all values were found
 pub values-of : {ws dag : List ℕ} {used cells : List Bool} {place p from : ℕ} {m : Machine} (r : LookUp) → Acting ws used cells dag place p from 1 m
@@ -155,8 +155,8 @@ values-count {ws} {dag} {used} {cells} {place} {p} {from} {vs} {m} k =
     ∙ params-count dag from (o .size) (o .inside) (o .few))
 
 -- "it is silent and the token ends"
-pub silent-ends : (m : Machine) (place p k : ℕ) → outcome m (Step.replied (taken m place) p (tokenAt (m .tokens) p) k silent)
-    ≡ accepted replies.Done [] (put p blankToken (taken m place))
+pub silent-ends : (m : Machine) (place p k : ℕ) → outcome m (Step.replied (dequeued m place) p (tokenAt (m .tokens) p) k silent)
+    ≡ accepted replies.Done [] (put p blankToken (dequeued m place))
 unfolding outcome Step.replied Step.ended
 silent-ends m place p k = refl
 

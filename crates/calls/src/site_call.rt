@@ -6,27 +6,27 @@ ghost use Rattle.model.specs.declared.record.Machine.{Machine};
 ghost use Rattle.job.specs.Words.{dagOf};
 ghost use Rattle.model.specs.Machine.Limits.{paper};
 ghost use Rattle.model.specs.Machine.Step as Step;
-ghost use Rattle.acts.specs.Acting.{Some, Acting, Gives};
+ghost use Rattle.acts.specs.Acting.{SomeMachine, Acting, Gives};
 ghost use Rattle.calls.specs.Evaluated.{Evaluated};
 use acts::end::end;
 use acts::report::plain;
 use job::dag::CALL_LIMIT;
-use job::dag::NAMED;
-use job::dag::NEXT;
+use job::dag::NAMED_NUMBER;
+use job::dag::NEXT_NODE;
 use job::dag::PARAMETER_COUNT;
 use job::dag::WORDS;
-use job::sites::BUILTINS;
+use job::site_parameters::BUILTIN_LIMIT;
 use model::record::Machine;
 use model::reply::Refusal;
 use model::reply::Reply;
 use model::reply::Report;
-use record::count::calls;
-use record::layout::CELL_PLACES;
+use record::count::calls_made;
+use record::layout::CELL_PLACE_COUNT;
 use sites::look::look_up;
-use sites::number::bits;
+use sites::number::unsigned;
 use sites::site::SiteReply;
 use sites::site::builtin;
-use writes::dag::word;
+use writes::dag::dag_word;
 use writes::site_call::call_out;
 use writes::site_call::reply;
 use writes::site_call::wait;
@@ -42,16 +42,16 @@ fn outside(
     at: usize,
     values: [i32; 4],
 ) -> Report
-    requires { ⌜ Some (Evaluated (now w) (now tokens) (now cells) (now dag) place p at values) ⌝ }
+    requires { ⌜ SomeMachine (Evaluated (now w) (now tokens) (now cells) (now dag) place p at values) ⌝ }
     ensures { λ r. ⌜ ((m : Machine) → Evaluated (now (w .entry)) (now (tokens .entry)) (now (cells .entry)) (now (dag .entry)) place p at values m → 7 ≤ getD (now (dag .entry)) (at + 1) 0 → Gives (Step.step paper (dagOf (now (dag .entry))) m place) m (now (w .exit)) (now (tokens .entry)) (now (cells .entry)) r) ⌝ }
 {
-    let handle = calls(w);
+    let handle = calls_made(w);
     if CALL_LIMIT <= handle {
         return plain(Reply::Refused(Refusal::CallLimit));
     }
-    call_out(w, place, p, handle, word(dag, at + NEXT));
-    let site = word(dag, at + NAMED) as u16;
-    let count = word(dag, at + PARAMETER_COUNT) as u8;
+    call_out(w, place, p, handle, dag_word(dag, at + NEXT_NODE));
+    let site = dag_word(dag, at + NAMED_NUMBER) as u16;
+    let count = dag_word(dag, at + PARAMETER_COUNT) as u8;
     Report {
         reply: Reply::Called(handle, site, count),
         values,
@@ -69,14 +69,14 @@ fn built_in(
     at: usize,
     values: [i32; 4],
 ) -> Report
-    requires { ⌜ Some (Evaluated (now w) (now tokens) (now cells) (now dag) place p at values) × (getD (now dag) (at + 1) 0 < 7) ⌝ }
+    requires { ⌜ SomeMachine (Evaluated (now w) (now tokens) (now cells) (now dag) place p at values) × (getD (now dag) (at + 1) 0 < 7) ⌝ }
     ensures { λ r. ⌜ ((m : Machine) → Evaluated (now (w .entry)) (now (tokens .entry)) (now (cells .entry)) (now (dag .entry)) place p at values m → Gives (Step.step paper (dagOf (now (dag .entry))) m place) m (now (w .exit)) (now (tokens .exit)) (now (cells .exit)) r) ⌝ }
 {
     let a = values[0];
     let b = values[1];
-    match builtin(word(dag, at + NAMED), a, b) {
+    match builtin(dag_word(dag, at + NAMED_NUMBER), a, b) {
         SiteReply::Gives(v) => {
-            reply(w, place, p, bits(v), word(dag, at + NEXT));
+            reply(w, place, p, unsigned(v), dag_word(dag, at + NEXT_NODE));
             plain(Reply::Done)
         }
         SiteReply::Silent => end(w, tokens, cells, place, p, Reply::Done),
@@ -92,17 +92,17 @@ pub fn site_call(
     p: usize,
     at: usize,
 ) -> Report
-    requires { ⌜ Some (Acting (now w) (now tokens) (now cells) (now dag) place p at 1) ⌝ }
+    requires { ⌜ SomeMachine (Acting (now w) (now tokens) (now cells) (now dag) place p at 1) ⌝ }
     ensures { λ r. ⌜ ((m : Machine) → Acting (now (w .entry)) (now (tokens .entry)) (now (cells .entry)) (now (dag .entry)) place p at 1 m → Gives (Step.step paper (dagOf (now (dag .entry))) m place) m (now (w .exit)) (now (tokens .exit)) (now (cells .exit)) r) ⌝ }
 {
     let found = look_up(w, dag, p, at);
     let unset = found.unset;
-    if unset < CELL_PLACES {
+    if unset < CELL_PLACE_COUNT {
         wait(w, place, p, unset);
         return plain(Reply::Waits);
     }
     let values = found.values;
-    if word(dag, at + NAMED) < BUILTINS {
+    if dag_word(dag, at + NAMED_NUMBER) < BUILTIN_LIMIT {
         return built_in(w, tokens, cells, dag, place, p, at, values);
     }
     outside(w, tokens, cells, dag, place, p, at, values)

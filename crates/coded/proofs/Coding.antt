@@ -23,13 +23,13 @@ use Rattle.model.specs.declared.cell.Cell.{Cell}
 use Rattle.model.specs.declared.record.Machine.{Machine}
 use Rattle.job.proofs.Test.{clash, eqb-eq, and-left, and-right, and-both, same-eq, same-refl}
 use Rattle.job.proofs.Number.{unsigned-signed}
-use Rattle.record.specs.Words.{rowOf, cellRow, rows, wordsOf, parts, counts}
+use Rattle.record.specs.Words.{rowOf, cellRow, tableWords, wordsOf, parts, countWords}
 use Rattle.record.specs.Words.{slotKind, slotNumber, stateKind, stateNumber, placeNumber, heldKind, heldNumber}
 use Rattle.record.specs.Decode.{machineOf, tableFrom, tokenFrom, cellFrom, bindsFrom, placeFrom, heldFrom, slotFrom, stateFrom}
 use Rattle.record.specs.Holds.{Codes, Shaped}
 use Rattle.record.proofs.Parts.{row-wide, cell-wide}
 use Rattle.record.proofs.Table.{rows-length}
-use Rattle.coded.specs.Coded.{stateCoded, heldCoded, slotCoded, slotsCoded, rowCoded, cellCoded, tableCoded, coded}
+use Rattle.coded.specs.WordTests.{stateCoded, heldCoded, slotCoded, bindsCoded, rowCoded, cellCoded, tableCoded, recordCoded}
 use Rattle.coded.specs.Record.{isRecord}
 use Rattle.job.proofs.Lists.{table, listed, same-when}
 
@@ -103,8 +103,8 @@ module _ (r : List ℕ) (small : Small r) where
       (slotKind (slotFrom (at (8 + 2 * x)) (at (9 + 2 * x))) ≡ at (8 + 2 * x))
       × (slotNumber (slotFrom (at (8 + 2 * x)) (at (9 + 2 * x))) ≡ at (9 + 2 * x))
 
-  slots-passed : (n x : ℕ) → slotsCoded n (drop (8 + 2 * x) r) ≡ true → (i : ℕ) → i < n → Slots (x + i)
-  unfolding slotsCoded
+  slots-passed : (n x : ℕ) → bindsCoded n (drop (8 + 2 * x) r) ≡ true → (i : ℕ) → i < n → Slots (x + i)
+  unfolding bindsCoded
   slots-passed zero x e i l = absurd (omega arith)
   slots-passed (suc n) x e zero l =
       let z : x + 0 ≡ x = omega arith in
@@ -120,7 +120,7 @@ module _ (r : List ℕ) (small : Small r) where
       let y : 8 + 2 * x + 2 ≡ 8 + 2 * (x + 1) = omega arith in
       subst Slots z
       (slots-passed n (x + 1)
-      (ap (slotsCoded n) (sym (drop-drop 2 (8 + 2 * x) r ∙ ap (λ k. drop k r) y))
+      (ap (bindsCoded n) (sym (drop-drop 2 (8 + 2 * x) r ∙ ap (λ k. drop k r) y))
       ∙ and-right (slotCoded (getD (drop (8 + 2 * x) r) 0 0) (getD (drop (8 + 2 * x) r) 1 0)) _ e) i (omega arith))
 
 row-back : (r : List ℕ) → length r ≡ 24 → Small r → rowCoded r ≡ true → rowOf (tokenFrom r) ≡ r
@@ -132,7 +132,7 @@ row-back r l s z =
     let st = state-back (g 0) (g 1) (and-left (stateCoded (g 0) (g 1)) _ z) in
     let va = held-back (g 5) (g 6) (s 6) (and-left (heldCoded (g 5) (g 6)) _ rest) in
     let sp : g 7 ≡ 0 = eqb-eq (g 7) 0 (and-left (eqb (g 7) 0) _ rest2) in
-    let sl = slots-passed r s 8 0 (and-right (eqb (g 7) 0) (slotsCoded 8 (drop 8 r)) rest2) in
+    let sl = slots-passed r s 8 0 (and-right (eqb (g 7) 0) (bindsCoded 8 (drop 8 r)) rest2) in
     ap (λ x. rowOf (tokenFrom x)) (listed 0 24 r l)
     ∙ ap₂ _∷_ (st .0)
     (ap₂ _∷_ (st .1) (ap (_∷_ (g 2)) (ap₂ _∷_ (place-forth (g 3)) (ap₂ _∷_ (place-forth (g 4)) (ap₂ _∷_ (va .0) (ap₂ _∷_ (va .1)
@@ -152,7 +152,7 @@ cell-back r l s z =
     ∙ sym (listed 0 4 r l)
 
 row-passes : (t : Token) → rowCoded (rowOf t) ≡ true
-unfolding rowOf rowCoded slotsCoded
+unfolding rowOf rowCoded bindsCoded
 row-passes t =
     let s : (x : ℕ) → slotCoded (slotKind (slotAt (t .binds) x)) (slotNumber (slotAt (t .binds) x)) ≡ true = λ x. slot-passes
     (slotAt (t .binds) x) in
@@ -167,8 +167,8 @@ cell-passes c = and-both (held-passes (c .value)) refl
 module _ {A : Type 0} (f : A → List ℕ) (g : List ℕ → A) (ok : List ℕ → Bool) (w : ℕ)
     (back : (r : List ℕ) → length r ≡ w → Small r → ok r ≡ true → f (g r) ≡ r) where
   table-back : (n : ℕ) (ws : List ℕ) → w * n ≤ length ws → Small ws → tableCoded ok w n ws ≡ true
-      → rows f (tableFrom g w n ws) ≡ take (w * n) ws
-  unfolding rows tableFrom tableCoded
+      → tableWords f (tableFrom g w n ws) ≡ take (w * n) ws
+  unfolding tableWords tableFrom tableCoded
   table-back zero ws l s e = ap (λ k. take k ws) (sym (mul-zero w))
   table-back (suc n) ws l s e =
       let m : w * suc n ≡ w + w * n = omega (arith, mul-suc w n) in
@@ -181,15 +181,15 @@ module _ {A : Type 0} (f : A → List ℕ) (g : List ℕ → A) (ok : List ℕ �
       ∙ ap (λ k. take k ws) (sym m)
 
 module _ {A : Type 0} (f : A → List ℕ) (ok : List ℕ → Bool) (w : ℕ) (wide : (x : A) → length (f x) ≡ w) (passes : (x : A) → ok (f x) ≡ true) where
-  table-passes : (xs : List A) (n : ℕ) (rest : List ℕ) → length xs ≡ n → tableCoded ok w n (rows f xs ++ rest) ≡ true
-  unfolding rows tableCoded
+  table-passes : (xs : List A) (n : ℕ) (rest : List ℕ) → length xs ≡ n → tableCoded ok w n (tableWords f xs ++ rest) ≡ true
+  unfolding tableWords tableCoded
   table-passes [] zero rest e = refl
   table-passes [] (suc n) rest e = absurd (omega arith)
   table-passes (x ∷ xs) zero rest e = absurd (omega arith)
   table-passes (x ∷ xs) (suc n) rest e =
       rw mathlib.Core.List.append-assoc
-      (and-both (ap ok (take-at (f x) (rows f xs ++ rest) w (wide x)) ∙ passes x)
-      (ap (tableCoded ok w n) (drop-at (f x) (rows f xs ++ rest) w (wide x)) ∙ table-passes xs n rest (omega arith)))
+      (and-both (ap ok (take-at (f x) (tableWords f xs ++ rest) w (wide x)) ∙ passes x)
+      (ap (tableCoded ok w n) (drop-at (f x) (tableWords f xs ++ rest) w (wide x)) ∙ table-passes xs n rest (omega arith)))
 
 module _ {A : Type 0} (g : List ℕ → A) (w : ℕ) where
   pub table-length : (n : ℕ) (ws : List ℕ) → length (tableFrom g w n ws) ≡ n
@@ -219,8 +219,8 @@ five ws l =
 joined : (n k : ℕ) (ws : List ℕ) → take k (drop n ws) ++ drop (n + k) ws ≡ drop n ws
 joined n k ws = ap (λ r. take k (drop n ws) ++ r) (sym (drop-drop k n ws)) ∙ take-append-drop k (drop n ws)
 
-words-back : (ws : List ℕ) → length ws ≡ 1797 → Small ws → coded ws ≡ true → wordsOf (machineOf ws) ≡ ws
-unfolding wordsOf machineOf parts counts coded
+words-back : (ws : List ℕ) → length ws ≡ 1797 → Small ws → recordCoded ws ≡ true → wordsOf (machineOf ws) ≡ ws
+unfolding wordsOf machineOf parts countWords recordCoded
 words-back ws l s e =
     let a = table-back rowOf tokenFrom rowCoded 24 row-back 64 ws (omega arith) s (and-left (tableCoded rowCoded 24 64 ws) _ e) in
     let b = table-back cellRow cellFrom cellCoded 4 cell-back 32 (drop 1536 ws) (omega (arith, length-drop 1536 ws)) (small-drop 1536 ws s)
@@ -233,12 +233,12 @@ words-back ws l s e =
     ∙ take-append-drop 1536 ws
 
 -- the words of a record pass
-pub words-pass : (m : Machine) → length (m .tokens) ≡ 64 → length (m .cells) ≡ 32 → coded (wordsOf m) ≡ true
-unfolding wordsOf parts coded
+pub words-pass : (m : Machine) → length (m .tokens) ≡ 64 → length (m .cells) ≡ 32 → recordCoded (wordsOf m) ≡ true
+unfolding wordsOf parts recordCoded
 words-pass m t c =
-    let long : length (rows rowOf (m .tokens)) ≡ 1536 = rows-length rowOf 24 row-wide (m .tokens) ∙ ap (λ n. 24 * n) t in
+    let long : length (tableWords rowOf (m .tokens)) ≡ 1536 = rows-length rowOf 24 row-wide (m .tokens) ∙ ap (λ n. 24 * n) t in
     and-both (table-passes rowOf rowCoded 24 row-wide row-passes (m .tokens) 64 _ t)
-    (ap (tableCoded cellCoded 4 32) (drop-at (rows rowOf (m .tokens)) _ 1536 long)
+    (ap (tableCoded cellCoded 4 32) (drop-at (tableWords rowOf (m .tokens)) _ 1536 long)
     ∙ table-passes cellRow cellCoded 4 cell-wide cell-passes (m .cells) 32 _ c)
 
 module _ (ws : List ℕ) where
@@ -251,12 +251,12 @@ module _ (ws : List ℕ) where
   cells-32 = table-length cellFrom 4 32 (drop 1536 ws)
 
   module _ (long : length ws ≡ 1797) where
-    pub coded-record : Small ws → coded ws ≡ isRecord ws
+    pub coded-record : Small ws → recordCoded ws ≡ isRecord ws
     unfolding isRecord
     coded-record s =
-        same-when (coded ws) (isRecord ws)
+        same-when (recordCoded ws) (isRecord ws)
         (λ e. ap (same ws) (words-back ws long s e) ∙ same-refl ws)
-        (λ e. ap coded (same-eq ws (wordsOf (machineOf ws)) e) ∙ words-pass (machineOf ws) tokens-64 cells-32)
+        (λ e. ap recordCoded (same-eq ws (wordsOf (machineOf ws)) e) ∙ words-pass (machineOf ws) tokens-64 cells-32)
 
     shaped : Shaped (machineOf ws)
     unfolding machineOf tokenAt tokenFrom bindsFrom

@@ -10,7 +10,7 @@ use lib.Seq.{drop-drop}
 use Rattle.model.specs.declared.record.Machine.{Machine}
 use Rattle.job.proofs.Test.{and-left, and-right, and-both}
 use Rattle.record.specs.Holds.{Codes}
-use Rattle.coded.specs.Coded.{rowCoded, cellCoded, tableCoded, tokenCoded, cellAtCoded, coded}
+use Rattle.coded.specs.WordTests.{rowCoded, cellCoded, tableCoded, tokenCoded, cellAtCoded, recordCoded}
 use Rattle.coded.specs.Record.{isRecord}
 use Rattle.coded.proofs.Coding.{Small, words-pass, coded-record}
 
@@ -44,22 +44,22 @@ cell-row : (ws : List ℕ) (c : ℕ) → rowAt cellCoded 4 (drop 1536 ws) c ≡ 
 cell-row ws c = ap (take 4) (drop-drop (4 * c) 1536 ws)
 
 module _ {ws : List ℕ} {m : Machine} (h : Codes ws m) where
-  passes : coded ws ≡ true
-  passes = ap coded (h .words) ∙ words-pass m (h .shaped .tokens) (h .shaped .cells)
+  passes : recordCoded ws ≡ true
+  passes = ap recordCoded (h .words) ∙ words-pass m (h .shaped .tokens) (h .shaped .cells)
 
   pub codes-token : (p : ℕ) → p < 64 → tokenCoded ws p ≡ true
-  unfolding coded
+  unfolding recordCoded
   codes-token p l = table-each rowCoded 24 64 ws (and-left (tableCoded rowCoded 24 64 ws) _ passes) p l
 
   pub codes-cell : (c : ℕ) → c < 32 → cellAtCoded ws c ≡ true
-  unfolding coded
+  unfolding recordCoded
   codes-cell c l =
       ap cellCoded (sym (cell-row ws c))
       ∙ table-each cellCoded 4 32 (drop 1536 ws) (and-right (tableCoded rowCoded 24 64 ws) _ passes) c l
 
 pub all-coded-record : (ws : List ℕ) → length ws ≡ 1797 → Small ws → ((p : ℕ) → p < 64 → tokenCoded ws p ≡ true)
     → ((c : ℕ) → c < 32 → cellAtCoded ws c ≡ true) → isRecord ws ≡ true
-unfolding coded
+unfolding recordCoded
 all-coded-record ws long small f g =
     sym (coded-record ws long small)
     ∙ and-both (table-whole rowCoded 24 64 ws f)

@@ -1,6 +1,6 @@
 -- The tests of words, one after the other. Assumes nothing.
 use mathlib.Core.Path.{_≡_, refl, sym, ap, ap₂, _∙_}
-use mathlib.Core.Bool.{Bool, true, false, _&&_}
+use mathlib.Core.Bool.{Bool, true, false}
 use mathlib.Core.List.{List}
 use Prim.Native.Nat.{ℕ, zero, suc, _+_, _-_, _*_, _<_, _≤_}
 use native.Mathlib.Omega.{arith}
@@ -9,7 +9,7 @@ use lib.ListN.{getD, take, drop, replicate, getD-replicate}
 use lib.Seq.{getD-drop, getD-take, drop-drop}
 use Rattle.job.specs.Test.{_and_}
 use Rattle.job.proofs.Test.{lt-not-leb, eq-eqb, ne-eqb}
-use Rattle.coded.specs.Coded.{slotCoded, heldCoded, stateCoded, slotsCoded, rowCoded, cellCoded, tableCoded, coded}
+use Rattle.coded.specs.WordTests.{slotCoded, heldCoded, stateCoded, bindsCoded, rowCoded, cellCoded, tableCoded, recordCoded}
 
 -- by numbers
 pub slot-none : (k n : ℕ) → k ≡ 0 → eqb n 0 ≡ slotCoded k n
@@ -50,26 +50,26 @@ at-drop : (k j : ℕ) (ws : List ℕ) → getD (drop k ws) j 0 ≡ getD ws (k + 
 at-drop k j ws = getD-drop k ws j 0
 
 slots-step : (n k : ℕ) (ws : List ℕ)
-    → slotsCoded (suc n) (drop k ws) ≡ (slotCoded (getD ws k 0) (getD ws (k + 1) 0) and slotsCoded n (drop (k + 2) ws))
-unfolding slotsCoded
+    → bindsCoded (suc n) (drop k ws) ≡ (slotCoded (getD ws k 0) (getD ws (k + 1) 0) and bindsCoded n (drop (k + 2) ws))
+unfolding bindsCoded
 slots-step n k ws =
     let z : k + 0 ≡ k = omega arith in
-    ap₂ (λ a b. slotCoded a b and slotsCoded n (drop 2 (drop k ws))) (at-drop k 0 ws ∙ ap (λ i. getD ws i 0) z) (at-drop k 1 ws)
-    ∙ ap (λ r. slotCoded (getD ws k 0) (getD ws (k + 1) 0) and slotsCoded n r) (drop-drop 2 k ws)
+    ap₂ (λ a b. slotCoded a b and bindsCoded n (drop 2 (drop k ws))) (at-drop k 0 ws ∙ ap (λ i. getD ws i 0) z) (at-drop k 1 ws)
+    ∙ ap (λ r. slotCoded (getD ws k 0) (getD ws (k + 1) 0) and bindsCoded n r) (drop-drop 2 k ws)
 
-module _ (ws : List ℕ) (at x : ℕ) (all : Bool) (l : x < 8) (left : all ≡ slotsCoded (8 - x) (drop (at + 2 * x) ws)) where
-  slots-now : all ≡ (slotCoded (getD ws (at + 2 * x) 0) (getD ws (at + 2 * x + 1) 0) and slotsCoded (8 - (x + 1)) (drop (at + 2 * (x + 1)) ws))
+module _ (ws : List ℕ) (at x : ℕ) (all : Bool) (l : x < 8) (left : all ≡ bindsCoded (8 - x) (drop (at + 2 * x) ws)) where
+  slots-now : all ≡ (slotCoded (getD ws (at + 2 * x) 0) (getD ws (at + 2 * x + 1) 0) and bindsCoded (8 - (x + 1)) (drop (at + 2 * (x + 1)) ws))
   slots-now =
       let z : 8 - x ≡ suc (8 - (x + 1)) = omega arith in
       let y : at + 2 * x + 2 ≡ at + 2 * (x + 1) = omega arith in
-      left ∙ ap (λ n. slotsCoded n (drop (at + 2 * x) ws)) z ∙ slots-step (8 - (x + 1)) (at + 2 * x) ws
-      ∙ ap (λ i. slotCoded (getD ws (at + 2 * x) 0) (getD ws (at + 2 * x + 1) 0) and slotsCoded (8 - (x + 1)) (drop i ws)) y
+      left ∙ ap (λ n. bindsCoded n (drop (at + 2 * x) ws)) z ∙ slots-step (8 - (x + 1)) (at + 2 * x) ws
+      ∙ ap (λ i. slotCoded (getD ws (at + 2 * x) 0) (getD ws (at + 2 * x + 1) 0) and bindsCoded (8 - (x + 1)) (drop i ws)) y
 
   module _ (a b : ℕ) (ok : Bool) (ea : a ≡ getD ws (at + 2 * x) 0) (eb : b ≡ getD ws (at + 2 * x + 1) 0) (eo : ok ≡ slotCoded a b) where
     slot-is : slotCoded (getD ws (at + 2 * x) 0) (getD ws (at + 2 * x + 1) 0) ≡ ok
     slot-is = sym (eo ∙ ap₂ slotCoded ea eb)
 
-    pub slots-on : ok ≡ true → all ≡ slotsCoded (8 - (x + 1)) (drop (at + 2 * (x + 1)) ws)
+    pub slots-on : ok ≡ true → all ≡ bindsCoded (8 - (x + 1)) (drop (at + 2 * (x + 1)) ws)
     unfolding _and_
     slots-on e = slots-now ∙ rw (slot-is, e)
 
@@ -77,16 +77,16 @@ module _ (ws : List ℕ) (at x : ℕ) (all : Bool) (l : x < 8) (left : all ≡ s
     unfolding _and_
     slots-fail e = sym (slots-now ∙ rw (slot-is, e))
 
-pub slots-end : (ws : List ℕ) (at x : ℕ) (all : Bool) → 8 ≤ x → all ≡ slotsCoded (8 - x) (drop (at + 2 * x) ws) → true ≡ all
-unfolding slotsCoded
-slots-end ws at x all l e = let z : 8 - x ≡ 0 = omega arith in sym (e ∙ ap (λ n. slotsCoded n (drop (at + 2 * x) ws)) z)
+pub slots-end : (ws : List ℕ) (at x : ℕ) (all : Bool) → 8 ≤ x → all ≡ bindsCoded (8 - x) (drop (at + 2 * x) ws) → true ≡ all
+unfolding bindsCoded
+slots-end ws at x all l e = let z : 8 - x ≡ 0 = omega arith in sym (e ∙ ap (λ n. bindsCoded n (drop (at + 2 * x) ws)) z)
 
 -- a row
-slots-same : (n : ℕ) (a b : List ℕ) → ((i : ℕ) → i < 2 * n → getD a i 0 ≡ getD b i 0) → slotsCoded n a ≡ slotsCoded n b
-unfolding slotsCoded
+slots-same : (n : ℕ) (a b : List ℕ) → ((i : ℕ) → i < 2 * n → getD a i 0 ≡ getD b i 0) → bindsCoded n a ≡ bindsCoded n b
+unfolding bindsCoded
 slots-same zero a b f = refl
 slots-same (suc n) a b f =
-    ap₂ (λ x y. slotCoded x y and slotsCoded n (drop 2 a)) (f 0 (omega arith)) (f 1 (omega arith))
+    ap₂ (λ x y. slotCoded x y and bindsCoded n (drop 2 a)) (f 0 (omega arith)) (f 1 (omega arith))
     ∙ ap (λ r. slotCoded (getD b 0 0) (getD b 1 0) and r)
     (slots-same n (drop 2 a) (drop 2 b) (λ i l. at-drop 2 i a ∙ f (2 + i) (omega arith) ∙ sym (at-drop 2 i b)))
 
@@ -97,7 +97,7 @@ module _ (ws : List ℕ) (at : ℕ) where
   in-row : (j : ℕ) → j < 24 → getD row j 0 ≡ getD ws (at + j) 0
   in-row j l = getD-take 24 (drop at ws) j 0 l ∙ at-drop at j ws
 
-  row-slots : slotsCoded 8 (drop 8 row) ≡ slotsCoded 8 (drop (at + 8) ws)
+  row-slots : bindsCoded 8 (drop 8 row) ≡ bindsCoded 8 (drop (at + 8) ws)
   row-slots =
       slots-same 8 (drop 8 row) (drop (at + 8) ws)
       (λ i l.
@@ -106,7 +106,7 @@ module _ (ws : List ℕ) (at : ℕ) where
 
   row-is : rowCoded row
       ≡ (stateCoded (getD ws at 0) (getD ws (at + 1) 0)
-      and (heldCoded (getD ws (at + 5) 0) (getD ws (at + 6) 0) and (eqb (getD ws (at + 7) 0) 0 and slotsCoded 8 (drop (at + 8) ws))))
+      and (heldCoded (getD ws (at + 5) 0) (getD ws (at + 6) 0) and (eqb (getD ws (at + 7) 0) 0 and bindsCoded 8 (drop (at + 8) ws))))
   unfolding rowCoded
   row-is =
       let z : at + 0 ≡ at = omega arith in
@@ -133,13 +133,13 @@ module _ (ws : List ℕ) (at : ℕ) where
         unfolding _and_
         row-spare n = sym (row-is ∙ rw (state-is, one, held-is, two, ← eh, ne-eqb h 0 n))
 
-        pub row-rest : (r : Bool) → h ≡ 0 → r ≡ slotsCoded 8 (drop (at + 8) ws) → r ≡ rowCoded row
+        pub row-rest : (r : Bool) → h ≡ 0 → r ≡ bindsCoded 8 (drop (at + 8) ws) → r ≡ rowCoded row
         unfolding _and_
         row-rest r n e = e ∙ sym (row-is ∙ rw (state-is, one, held-is, two, ← eh, eq-eqb h 0 n))
 
 -- a row of zeros is a blank token's
 pub zero-row : (ws : List ℕ) (at : ℕ) → ((k : ℕ) → k < 24 → getD ws (at + k) 0 ≡ 0) → rowCoded (take 24 (drop at ws)) ≡ true
-unfolding slotsCoded _and_
+unfolding bindsCoded _and_
 zero-row ws at f =
     let first : getD ws at 0 ≡ 0 = ap (λ k. getD ws k 0) (let z : at ≡ at + 0 = omega arith in z) ∙ f 0 (omega arith) in
     row-is ws at
@@ -196,10 +196,10 @@ pub cell-at : (ws : List ℕ) (c : ℕ) → cellCoded (take 4 (drop (4 * c) (dro
 cell-at ws c = ap (λ r. cellCoded (take 4 r)) (drop-drop (4 * c) 1536 ws)
 
 pub all-coded : (ws : List ℕ) (a b : Bool) → a ≡ tableCoded rowCoded 24 64 ws → b ≡ tableCoded cellCoded 4 32 (drop 1536 ws)
-    → a ≡ true → b ≡ coded ws
-unfolding coded _and_
+    → a ≡ true → b ≡ recordCoded ws
+unfolding recordCoded _and_
 all-coded ws a b e f t = rw (← e, t) f
 
-pub not-coded : (ws : List ℕ) (a : Bool) → a ≡ tableCoded rowCoded 24 64 ws → a ≡ false → false ≡ coded ws
-unfolding coded _and_
+pub not-coded : (ws : List ℕ) (a : Bool) → a ≡ tableCoded rowCoded 24 64 ws → a ≡ false → false ≡ recordCoded ws
+unfolding recordCoded _and_
 not-coded ws a e t = rw (← e, t)

@@ -5,24 +5,24 @@ ghost use Prim.Native.Nat.{ℕ, _<_, _≤_, _+_};
 ghost use lib.ListN.{length, getD, take, drop};
 ghost use Rattle.record.specs.Decode.{machineOf};
 ghost use Rattle.record.specs.Holds.{Codes};
-ghost use Rattle.coded.specs.Coded.{slotCoded, heldCoded, stateCoded, slotsCoded, rowCoded, cellCoded, tableCoded, tokenCoded, cellAtCoded};
+ghost use Rattle.coded.specs.WordTests.{slotCoded, heldCoded, stateCoded, bindsCoded, rowCoded, cellCoded, tableCoded, tokenCoded, cellAtCoded};
 ghost use Rattle.coded.specs.Record.{isRecord};
 use model::record::Machine;
 use record::layout::CALLED_STATE;
-use record::layout::CELL;
 use record::layout::CELL_SLOT;
 use record::layout::CELL_UNUSED;
 use record::layout::CELL_VALUE;
 use record::layout::CELL_VALUE_KIND;
-use record::layout::CELLS;
+use record::layout::CELL_WORDS;
+use record::layout::CELLS_START;
 use record::layout::EMPTY_SLOT;
 use record::layout::FRAME_STATE;
-use record::layout::TOKEN;
 use record::layout::TOKEN_BIND_KIND;
 use record::layout::TOKEN_STATE_NUMBER;
 use record::layout::TOKEN_UNUSED;
 use record::layout::TOKEN_VALUE;
 use record::layout::TOKEN_VALUE_KIND;
+use record::layout::TOKEN_WORDS;
 use record::layout::WAITING_STATE;
 
 fn word(w: &[u32], i: usize) -> u32
@@ -65,9 +65,9 @@ fn state_coded(kind: u32, number: u32) -> bool
     false
 }
 
-fn slots_coded(w: &[u32], at: usize) -> bool
+fn binds_coded(w: &[u32], at: usize) -> bool
     requires { ⌜ at + 16 ≤ length (now w) ⌝ }
-    ensures { λ r. ⌜ r ≡ slotsCoded 8 (drop at (now (w .entry))) ⌝ }
+    ensures { λ r. ⌜ r ≡ bindsCoded 8 (drop at (now (w .entry))) ⌝ }
 {
     let mut x: usize = 0;
     while x < 8 {
@@ -91,7 +91,7 @@ fn row_coded(w: &[u32], at: usize) -> bool
         let value = held_coded(word(w, at + TOKEN_VALUE_KIND), word(w, at + TOKEN_VALUE));
         if value {
             if word(w, at + TOKEN_UNUSED) == 0 {
-                return slots_coded(w, at + TOKEN_BIND_KIND);
+                return binds_coded(w, at + TOKEN_BIND_KIND);
             }
         }
     }
@@ -103,7 +103,7 @@ pub fn token_coded(w: &[u32; Machine::WORDS], p: usize) -> bool
     requires { ⌜ p < 64 ⌝ }
     ensures { λ r. ⌜ r ≡ tokenCoded (now (w .entry)) p ⌝ }
 {
-    row_coded(w, TOKEN * p)
+    row_coded(w, TOKEN_WORDS * p)
 }
 
 fn rows_coded(w: &[u32]) -> bool
@@ -112,7 +112,7 @@ fn rows_coded(w: &[u32]) -> bool
 {
     let mut p: usize = 0;
     while p < Machine::TOKENS {
-        let ok = row_coded(w, TOKEN * p);
+        let ok = row_coded(w, TOKEN_WORDS * p);
         if ok {
             p += 1;
         } else {
@@ -138,7 +138,7 @@ pub fn cell_coded(w: &[u32; Machine::WORDS], c: usize) -> bool
     requires { ⌜ c < 32 ⌝ }
     ensures { λ r. ⌜ r ≡ cellAtCoded (now (w .entry)) c ⌝ }
 {
-    cell_row_coded(w, CELLS + CELL * c)
+    cell_row_coded(w, CELLS_START + CELL_WORDS * c)
 }
 
 fn cells_coded(w: &[u32]) -> bool
@@ -147,7 +147,7 @@ fn cells_coded(w: &[u32]) -> bool
 {
     let mut c: usize = 0;
     while c < Machine::CELLS {
-        let ok = cell_row_coded(w, CELLS + CELL * c);
+        let ok = cell_row_coded(w, CELLS_START + CELL_WORDS * c);
         if ok {
             c += 1;
         } else {

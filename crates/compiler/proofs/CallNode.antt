@@ -15,10 +15,10 @@ use Rattle.job.specs.Entry.{Entry, entry, entries, low, high, kindOf}
 use Rattle.job.specs.Syntax.{Param, variable, constant}
 use Rattle.job.specs.Node.{Node}
 use Rattle.job.specs.Words.{paramWords, nodeWords}
-use Rattle.job.specs.Read.{Got, got, _>>=_, gives, need, entryAt, readParam, readParams}
+use Rattle.job.specs.Read.{Got, got, _>>=_, gives, need, entryAt, readParam, readParamList}
 use Rattle.job.proofs.Test.{not-ltb-le, ltb-lt}
 use Rattle.job.proofs.Position.{operandAt, entries-at, entries-end, bind-got, refused-got}
-use Rattle.compiler.specs.Call.{wordIf, placeWords, callWords}
+use Rattle.compiler.specs.Call.{wordIf, placeWords, callNodeWords}
 use Rattle.compiler.proofs.Reread.{reread}
 
 signed-unsigned : (n : ℕ) → n < 2 ^ 32 → unsigned (signed n) ≡ n
@@ -73,11 +73,11 @@ module _ (ks os : List ℕ) (small : (at : ℕ) → operandAt os at < 2 ^ 32) (s
     others : Got (List Param)
     value : g .value ≡ param ∷ others .value
     next : g .next ≡ others .next
-    again : readParams n scope (suc e) (drop (suc e) (entries ks os)) ≡ got others
+    again : readParamList n scope (suc e) (drop (suc e) (entries ks os)) ≡ got others
     words : (w : ℕ) (ps : List Param) → paramWords (suc w) (param ∷ ps) ≡ getD ks e 0 ∷ operandAt os e ∷ paramWords w ps
 
-  first : (n e : ℕ) (g : Got (List Param)) → readParams (suc n) scope e (drop e (entries ks os)) ≡ got g → First n e g
-  unfolding readParams
+  first : (n e : ℕ) (g : Got (List Param)) → readParamList (suc n) scope e (drop e (entries ks os)) ≡ got g → First n e g
+  unfolding readParamList
   first n e g r = go (decLt e (length ks))
     where
       go : Dec (e < length ks) → First n e g
@@ -86,14 +86,14 @@ module _ (ks os : List ℕ) (small : (at : ℕ) → operandAt os at < 2 ^ 32) (s
           let p = bind-got (readParam scope e (drop e (entries ks os))) _ g r in
           let k : Taken (getD ks e 0) (operandAt os e) e t (p .0) =
           param-taken scope e (operandAt os e) t (p .0) (small e) (getD ks e 0) (reread readParam refl refl (entries-at ks os e l) (p .1)) in
-          let ps = bind-got (readParams n scope (p .0 .next) (p .0 .rest)) _ g (p .2) in
+          let ps = bind-got (readParamList n scope (p .0 .next) (p .0 .rest)) _ g (p .2) in
           record {
             here = l;
             param = p .0 .value;
             others = ps .0;
             value = cc;
             next = cc;
-            again = reread (readParams n) refl (k .next) (k .rest) (ps .1);
+            again = reread (readParamList n) refl (k .next) (k .rest) (ps .1);
             words = λ w qs. k .words w qs;
           }
       go (no f) =
@@ -106,8 +106,8 @@ module _ (ks os : List ℕ) (small : (at : ℕ) → operandAt os at < 2 ^ 32) (s
     pub count : length (g .value) ≡ n
     pub inside : e + n ≤ length ks
 
-  pub params-end : (n e : ℕ) (g : Got (List Param)) → e ≤ length ks → readParams n scope e (drop e (entries ks os)) ≡ got g → Ended n e g
-  unfolding readParams
+  pub params-end : (n e : ℕ) (g : Got (List Param)) → e ≤ length ks → readParamList n scope e (drop e (entries ks os)) ≡ got g → Ended n e g
+  unfolding readParamList
   params-end zero e g l r =
       let a : g .next ≡ e = cc in
       let b : g .value ≡ [] = cc in
@@ -122,13 +122,13 @@ module _ (ks os : List ℕ) (small : (at : ℕ) → operandAt os at < 2 ^ 32) (s
       record { next = omega arith; count = ap length (f .value) ∙ ap suc (i .count); inside = omega arith }
 
   -- the words of the places are the parameters' words
-  places : (w i n at : ℕ) (g : Got (List Param)) → readParams (n - i) scope (at + i) (drop (at + i) (entries ks os)) ≡ got g
+  places : (w i n at : ℕ) (g : Got (List Param)) → readParamList (n - i) scope (at + i) (drop (at + i) (entries ks os)) ≡ got g
       → paramWords w (g .value) ≡ placeWords w i n ks os at
-  unfolding paramWords placeWords readParams wordIf
+  unfolding paramWords placeWords readParamList wordIf
   places zero i n at g r = refl
   places (suc w) i n at g r = go (places w (suc i) n at) (ltb i n) refl
     where
-      go : ((h : Got (List Param)) → readParams (n - suc i) scope (at + suc i) (drop (at + suc i) (entries ks os)) ≡ got h
+      go : ((h : Got (List Param)) → readParamList (n - suc i) scope (at + suc i) (drop (at + suc i) (entries ks os)) ≡ got h
           → paramWords w (h .value) ≡ placeWords w (suc i) n ks os at)
           → (b : Bool) → ltb i n ≡ b
           → paramWords (suc w) (g .value) ≡ wordIf b (getD ks (at + i) 0) ∷ wordIf b (operandAt os (at + i)) ∷ placeWords w (suc i) n ks os at
@@ -136,21 +136,21 @@ module _ (ks os : List ℕ) (small : (at : ℕ) → operandAt os at < 2 ^ 32) (s
           let l : i < n = ltb-lt i n e in
           let a : n - i ≡ suc (n - suc i) = omega arith in
           let b : suc (at + i) ≡ at + suc i = omega arith in
-          let f = first (n - suc i) (at + i) g (subst (λ m. readParams m scope (at + i) (drop (at + i) (entries ks os)) ≡ got g) a r) in
-          let t = ih (f .others) (subst (λ m. readParams (n - suc i) scope m (drop m (entries ks os)) ≡ got (f .others)) b (f .again)) in
+          let f = first (n - suc i) (at + i) g (subst (λ m. readParamList m scope (at + i) (drop (at + i) (entries ks os)) ≡ got g) a r) in
+          let t = ih (f .others) (subst (λ m. readParamList (n - suc i) scope m (drop m (entries ks os)) ≡ got (f .others)) b (f .again)) in
           ap (λ ps. paramWords (suc w) ps) (f .value)
           ∙ (f .words w (f .others .value) ∙ ap (λ ws. getD ks (at + i) 0 ∷ operandAt os (at + i) ∷ ws) t)
       go ih false e =
           let l : n ≤ i = not-ltb-le i n e in
           let a : n - i ≡ 0 = omega arith in
           let b : n - suc i ≡ 0 = omega arith in
-          let none : readParams 0 scope (at + i) (drop (at + i) (entries ks os)) ≡ got g =
-          subst (λ m. readParams m scope (at + i) (drop (at + i) (entries ks os)) ≡ got g) a r in
+          let none : readParamList 0 scope (at + i) (drop (at + i) (entries ks os)) ≡ got g =
+          subst (λ m. readParamList m scope (at + i) (drop (at + i) (entries ks os)) ≡ got g) a r in
           let v : g .value ≡ [] = cc in
           let h : Got (List Param) = record { value = []; next = at + suc i; rest = drop (at + suc i) (entries ks os) } in
           ap (λ ps. paramWords (suc w) ps) v ∙ ap (λ ws. 0 ∷ 0 ∷ ws) (ih h (rw b refl))
 
-  module _ (at k : ℕ) (g : Got (List Param)) (r : readParams (high (operandAt os at)) scope (suc at) (drop (suc at) (entries ks os)) ≡ got g)
+  module _ (at k : ℕ) (g : Got (List Param)) (r : readParamList (high (operandAt os at)) scope (suc at) (drop (suc at) (entries ks os)) ≡ got g)
       (l : at < length ks) where
     four-places : paramWords 4 (g .value) ≡ placeWords 4 0 (high (operandAt os at)) ks os (at + 1)
     four-places =
@@ -158,16 +158,16 @@ module _ (ks os : List ℕ) (small : (at : ℕ) → operandAt os at < 2 ^ 32) (s
         let n = high (operandAt os at) in
         let z : n ≡ n - 0 = sym (sub-zero n) in
         places 4 0 n (at + 1) g
-        (subst (λ m. readParams m scope (at + 1 + 0) (drop (at + 1 + 0) (entries ks os)) ≡ got g) z
-        (subst (λ e. readParams n scope e (drop e (entries ks os)) ≡ got g) a r))
+        (subst (λ m. readParamList m scope (at + 1 + 0) (drop (at + 1 + 0) (entries ks os)) ≡ got g) z
+        (subst (λ e. readParamList n scope e (drop e (entries ks os)) ≡ got g) a r))
 
     counted : length (g .value) ≡ high (operandAt os at)
     counted = params-end (high (operandAt os at)) (suc at) g l r .count
 
-    pub site-words : getD ks at 0 ≡ 1 → nodeWords (Node.site (low (operandAt os at)) (g .value) k) ≡ callWords ks os at k
-    unfolding nodeWords callWords
+    pub site-words : getD ks at 0 ≡ 1 → nodeWords (Node.site (low (operandAt os at)) (g .value) k) ≡ callNodeWords ks os at k
+    unfolding nodeWords callNodeWords
     site-words e = rw (e, counted, four-places) refl
 
-    pub call-words : getD ks at 0 ≡ 2 → nodeWords (Node.call (low (operandAt os at)) (g .value) k) ≡ callWords ks os at k
-    unfolding nodeWords callWords
+    pub call-words : getD ks at 0 ≡ 2 → nodeWords (Node.call (low (operandAt os at)) (g .value) k) ≡ callNodeWords ks os at k
+    unfolding nodeWords callNodeWords
     call-words e = rw (e, counted, four-places) refl

@@ -9,9 +9,9 @@ use native.Mathlib.Omega.{arith}
 use lib.ListN.{length, getD, drop}
 use lib.Dec.{ltb}
 use Rattle.job.specs.Test.{_or_}
-use Rattle.job.specs.Entry.{Entry, entry, entries, low, high, Kind, kindOf, isExpression, rowHolds, isBinder}
+use Rattle.job.specs.Entry.{Entry, entry, entries, low, high, EntryKind, kindOf, isExpression, rowHolds, isBinder}
 use Rattle.job.specs.Syntax.{Param, Join, par, seq, prune, Exp, stop, site, call, join, scopeLeft, scopeRight}
-use Rattle.job.specs.Read.{Got, Read, got, refused, _>>=_, gives, need, entryAt, readParams, readCall, readJoin, readExp}
+use Rattle.job.specs.Read.{Got, Read, got, refused, _>>=_, gives, need, entryAt, readParamList, readCall, readJoin, readExp}
 use Rattle.job.proofs.Test.{ltb-lt}
 use Rattle.job.proofs.Position.{operandAt, entries-at, entries-end, bind-got, refused-got}
 use Rattle.reader.specs.Join.{either, joinOf}
@@ -30,25 +30,25 @@ module _ (side : List ℕ → ℕ → List Entry → Read Exp) (scope : List ℕ
     calls : readCall (call (low o)) (high o) scope e l ≡ got g → Head 2
     joins : {k : ℕ} → 3 ≤ k → Few (joinOf k (length scope)) scope → readJoin side (joinOf k (length scope)) scope e l ≡ got g → Head k
 
-pub test-kept : (b : Bool) (n e : ℕ) (x : Got (Unit {0})) → need b n e ≡ got x → b ≡ true
+pub test-holds : (b : Bool) (n e : ℕ) (x : Got (Unit {0})) → need b n e ≡ got x → b ≡ true
 unfolding need
-test-kept true n e x r = refl
-test-kept false n e x r = refused-got r
+test-holds true n e x r = refl
+test-holds false n e x r = refused-got r
 
 -- an expression whose first entry has this kind, once the tests of that entry hold
-unfoldable shape : (List ℕ → ℕ → List Entry → Read Exp) → Kind → (o : ℕ) → List ℕ → (e : ℕ) → List Entry → Read Exp
+unfoldable shape : (List ℕ → ℕ → List Entry → Read Exp) → EntryKind → (o : ℕ) → List ℕ → (e : ℕ) → List Entry → Read Exp
 shape side k o scope e l =
     elim k as (λ k. Read Exp) [
-      | Kind.stop ↦ gives stop (suc e) l
-      | Kind.site ↦ readCall (site (low o)) (high o) scope (suc e) l
-      | Kind.call ↦ readCall (call (low o)) (high o) scope (suc e) l
-      | Kind.par ↦ readJoin side par scope (suc e) l
-      | Kind.seq ↦ readJoin side (seq (length scope)) scope (suc e) l
-      | Kind.prune ↦ readJoin side (prune (length scope)) scope (suc e) l
-      | Kind.definition ↦ refused 3 e
-      | Kind.variable ↦ refused 3 e
-      | Kind.constant ↦ refused 3 e
-      | Kind.unknown ↦ refused 3 e
+      | EntryKind.stop ↦ gives stop (suc e) l
+      | EntryKind.site ↦ readCall (site (low o)) (high o) scope (suc e) l
+      | EntryKind.call ↦ readCall (call (low o)) (high o) scope (suc e) l
+      | EntryKind.par ↦ readJoin side par scope (suc e) l
+      | EntryKind.seq ↦ readJoin side (seq (length scope)) scope (suc e) l
+      | EntryKind.prune ↦ readJoin side (prune (length scope)) scope (suc e) l
+      | EntryKind.definition ↦ refused 3 e
+      | EntryKind.variable ↦ refused 3 e
+      | EntryKind.constant ↦ refused 3 e
+      | EntryKind.unknown ↦ refused 3 e
     ]
 
 module _ (left : ℕ) (scope : List ℕ) (o e : ℕ) (l : List Entry) (g : Got Exp) where
@@ -79,7 +79,7 @@ module _ (left : ℕ) (scope : List ℕ) (o e : ℕ) (l : List Entry) (g : Got E
         let a = bind-got (need (isExpression (kindOf k)) 3 e) _ g (tested k r) in
         let b = bind-got (need (rowHolds (kindOf k) o) 4 e) _ g (a .2) in
         let c = bind-got (need (not (isBinder (kindOf k)) or ltb (length scope) 8) 7 e) _ g (b .2) in
-        by-shape k (test-kept _ 7 e (c .0) (c .1)) (c .2)
+        by-shape k (test-holds _ 7 e (c .0) (c .1)) (c .2)
 
 none-here : {A : Type 0} (left : ℕ) (scope : List ℕ) (e : ℕ) (g : Got Exp) → readExp left scope e [] ≡ got g → A
 unfolding readExp entryAt _>>=_
@@ -126,7 +126,7 @@ module _ {side : List ℕ → ℕ → List Entry → Read Exp} {scope : List ℕ
 -- a call: its parameters
 pub record Called (scope : List ℕ) (o e : ℕ) (l : List Entry) (g : Got Exp) (k : ℕ) : Type 0 where
   pub params : Got (List Param)
-  pub read : readParams (high o) scope e l ≡ got params
+  pub read : readParamList (high o) scope e l ≡ got params
   pub next : g .next ≡ params .next
   pub which : ((k ≡ 1) × (g .value ≡ site (low o) (params .value))) ⊎ ((k ≡ 2) × (g .value ≡ call (low o) (params .value)))
 
@@ -146,10 +146,10 @@ module _ {side : List ℕ → ℕ → List Entry → Read Exp} {scope : List ℕ
   unfolding readCall
   called (halts r) f m = absurd (f refl)
   called (names r) f m =
-      let b = bind-got (readParams (high o) scope e l) _ g r in
+      let b = bind-got (readParamList (high o) scope e l) _ g r in
       record { params = b .0; read = b .1; next = cc; which = inl (refl, (cc)) }
   called (calls r) f m =
-      let b = bind-got (readParams (high o) scope e l) _ g r in
+      let b = bind-got (readParamList (high o) scope e l) _ g r in
       record { params = b .0; read = b .1; next = cc; which = inr (refl, (cc)) }
   called (joins n few r) f m = absurd (omega arith)
 

@@ -10,10 +10,10 @@ use lib.Seq.{sets}
 use Rattle.job.specs.Entry.{entries, low, high}
 use Rattle.job.specs.Syntax.{Param, Exp, stop, site, call, levels}
 use Rattle.job.specs.Node.{Node}
-use Rattle.job.specs.Construct.{size, root, nodesOf}
-use Rattle.job.specs.Words.{headWords, paramWords, nodeWords, rowsOf}
+use Rattle.job.specs.Construct.{nodeCount, root, nodesOf}
+use Rattle.job.specs.Words.{headWords, paramWords, nodeWords, rowsOfNodes}
 use Rattle.job.proofs.Position.{operandAt}
-use Rattle.compiler.specs.Call.{callWords}
+use Rattle.compiler.specs.Call.{callNodeWords}
 use Rattle.compiler.specs.declared.expression.Compiled.{Compiled}
 use Rattle.compiler.proofs.Operand.{operand-small}
 use Rattle.compiler.proofs.CallNode.{Ended, params-end, site-words, call-words}
@@ -23,26 +23,26 @@ use Rattle.compiler.proofs.Taking.{same, Taken, Done, done}
 
 -- an expression that is the one node x, toward k
 record Single (e : Exp) (n k : ℕ) (x : Node) : Type 0 where
-  size-one : size e ≡ 1
+  size-one : nodeCount e ≡ 1
   root-first : root e n ≡ n
   nodes-one : nodesOf e n k ≡ x ∷ []
 
 module _ {e : Exp} (n k : ℕ) where
   single-stop : e ≡ stop → Single e n k Node.stop
-  unfolding size root nodesOf
-  single-stop p = record { size-one = ap size p; root-first = ap (λ x. root x n) p; nodes-one = ap (λ x. nodesOf x n k) p }
+  unfolding nodeCount root nodesOf
+  single-stop p = record { size-one = ap nodeCount p; root-first = ap (λ x. root x n) p; nodes-one = ap (λ x. nodesOf x n k) p }
 
   single-site : {s : ℕ} {ps : List Param} → e ≡ site s ps → Single e n k (Node.site s ps k)
-  unfolding size root nodesOf
-  single-site p = record { size-one = ap size p; root-first = ap (λ x. root x n) p; nodes-one = ap (λ x. nodesOf x n k) p }
+  unfolding nodeCount root nodesOf
+  single-site p = record { size-one = ap nodeCount p; root-first = ap (λ x. root x n) p; nodes-one = ap (λ x. nodesOf x n k) p }
 
   single-call : {d : ℕ} {ps : List Param} → e ≡ call d ps → Single e n k (Node.call d ps k)
-  unfolding size root nodesOf
-  single-call p = record { size-one = ap size p; root-first = ap (λ x. root x n) p; nodes-one = ap (λ x. nodesOf x n k) p }
+  unfolding nodeCount root nodesOf
+  single-call p = record { size-one = ap nodeCount p; root-first = ap (λ x. root x n) p; nodes-one = ap (λ x. nodesOf x n k) p }
 
-row-alone : (e : Exp) (n k : ℕ) (x : Node) → nodesOf e n k ≡ x ∷ [] → nodeWords x ≡ rowsOf (nodesOf e n k)
-unfolding rowsOf
-row-alone e n k x p = sym (append-nil (nodeWords x)) ∙ ap rowsOf (sym p)
+row-alone : (e : Exp) (n k : ℕ) (x : Node) → nodesOf e n k ≡ x ∷ [] → nodeWords x ≡ rowsOfNodes (nodesOf e n k)
+unfolding rowsOfNodes
+row-alone e n k x p = sym (append-nil (nodeWords x)) ∙ ap rowsOfNodes (sym p)
 
 module _ {left : ℕ} {ks os : List ℕ} {s at n : ℕ} (t : Taken left ks os s at n) where
   single-done : {x : Node} (k a : ℕ) (c : Compiled) (w d d' : List ℕ) → Single (t .it .value) n k x → a ≡ t .it .next → w ≡ nodeWords x
@@ -68,7 +68,7 @@ module _ {left : ℕ} {ks os : List ℕ} {s at n : ℕ} (t : Taken left ks os s 
     pub call-room : at + 1 + high (operandAt os at) ≤ length ks
     call-room = let e = ended .inside in omega arith
 
-    pub call-done : (k o : ℕ) (c : Compiled) (w d d' : List ℕ) → o ≡ operandAt os at → w ≡ callWords ks os at k
+    pub call-done : (k o : ℕ) (c : Compiled) (w d d' : List ℕ) → o ≡ operandAt os at → w ≡ callNodeWords ks os at k
         → c ≡ record { at = at + 1 + high o; node = n + 1; root = n } → d' ≡ sets d (headWords + 12 * n) w → Done left ks os s at n k c d d'
     call-done k o c w d d' eo ew ec ed = go (its .which)
       where

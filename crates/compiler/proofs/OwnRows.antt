@@ -7,20 +7,20 @@ use lib.ListN.{length}
 use lib.Seq.{sets}
 use Rattle.job.specs.Node.{Node}
 use Rattle.job.specs.Construct.{ownNodes}
-use Rattle.job.specs.Words.{headWords, paramWords, nodeWords, rowsOf}
+use Rattle.job.specs.Words.{headWords, paramWords, nodeWords, rowsOfNodes}
 use Rattle.reader.specs.Join.{joinOf}
 use Rattle.job.proofs.Stores.{sets-append}
 use Rattle.reader.proofs.JoinSides.{join-par, join-seq, join-prune}
 
 -- the row of one node, and of one node before others
 row-last : (d d' : List ℕ) (n : ℕ) (x : Node) → d' ≡ sets d (headWords + 12 * n) (nodeWords x)
-    → d' ≡ sets d (headWords + 12 * n) (rowsOf (x ∷ []))
-unfolding rowsOf
+    → d' ≡ sets d (headWords + 12 * n) (rowsOfNodes (x ∷ []))
+unfolding rowsOfNodes
 row-last d d' n x e = e ∙ sym (sets-append d (headWords + 12 * n) (nodeWords x) [])
 
 row-then : (d c d' : List ℕ) (n : ℕ) (x : Node) (xs : List Node) → length (nodeWords x) ≡ 12 → c ≡ sets d (headWords + 12 * n) (nodeWords x)
-    → d' ≡ sets c (headWords + 12 * (n + 1)) (rowsOf xs) → d' ≡ sets d (headWords + 12 * n) (rowsOf (x ∷ xs))
-unfolding rowsOf
+    → d' ≡ sets c (headWords + 12 * (n + 1)) (rowsOfNodes xs) → d' ≡ sets d (headWords + 12 * n) (rowsOfNodes (x ∷ xs))
+unfolding rowsOfNodes
 row-then d c d' n x xs w e f =
     let b : headWords + 12 * (n + 1) ≡ headWords + 12 * n + length (nodeWords x) = omega arith in
     f ∙ rw (e, b, ← sets-append)
@@ -31,18 +31,18 @@ words a b c d = a ∷ b ∷ c ∷ d ∷ 0 ∷ 0 ∷ 0 ∷ 0 ∷ 0 ∷ 0 ∷ 0 �
 
 module _ (kind x n l r k : ℕ) (d : List ℕ) where
   pub own-par : (d' : List ℕ) → kind ≡ 3 → d' ≡ sets d (headWords + 12 * n) (words 3 l r 0)
-      → d' ≡ sets d (headWords + 12 * n) (rowsOf (ownNodes (joinOf kind x) l r k))
+      → d' ≡ sets d (headWords + 12 * n) (rowsOfNodes (ownNodes (joinOf kind x) l r k))
   unfolding ownNodes nodeWords paramWords
   own-par d' h e = rw (join-par kind x h) (row-last d d' n (Node.fork l r) e)
 
   pub own-seq : (c d' : List ℕ) → (kind ≡ 3 → ⊥) → kind ≡ 4 → c ≡ sets d (headWords + 12 * n) (words 4 x r 0)
-      → d' ≡ sets c (headWords + 12 * (n + 1)) (words 5 x k 0) → d' ≡ sets d (headWords + 12 * n) (rowsOf (ownNodes (joinOf kind x) l r k))
+      → d' ≡ sets c (headWords + 12 * (n + 1)) (words 5 x k 0) → d' ≡ sets d (headWords + 12 * n) (rowsOfNodes (ownNodes (joinOf kind x) l r k))
   unfolding ownNodes nodeWords paramWords
   own-seq c d' g h e f = rw (join-seq kind x h) (row-then d c d' n (Node.assign x r) _ refl e (row-last c d' (n + 1) (Node.remove x k) f))
 
   pub own-prune : (b c d' : List ℕ) → (kind ≡ 3 → ⊥) → (kind ≡ 4 → ⊥) → b ≡ sets d (headWords + 12 * n) (words 6 l r x)
       → c ≡ sets b (headWords + 12 * (n + 1)) (words 5 x k 0) → d' ≡ sets c (headWords + 12 * (n + 2)) (words 7 0 0 0)
-      → d' ≡ sets d (headWords + 12 * n) (rowsOf (ownNodes (joinOf kind x) l r k))
+      → d' ≡ sets d (headWords + 12 * n) (rowsOfNodes (ownNodes (joinOf kind x) l r k))
   unfolding ownNodes nodeWords paramWords
   own-prune b c d' g h e f i =
       let z : n + 2 ≡ n + 1 + 1 = omega arith in

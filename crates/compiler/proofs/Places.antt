@@ -7,7 +7,7 @@ use lib.Dec.{ltb}
 use Rattle.job.specs.Entry.{low, high}
 use Rattle.job.proofs.Test.{lt-ltb, le-not-ltb}
 use Rattle.job.proofs.Position.{operandAt}
-use Rattle.compiler.specs.Call.{wordIf, placeWords, callWords}
+use Rattle.compiler.specs.Call.{wordIf, placeWords, callNodeWords}
 
 -- a word of a place
 pub word-there : (i n w : ℕ) → i < n → w ≡ wordIf (ltb i n) w
@@ -23,6 +23,6 @@ pub words-assembled : (ks os : List ℕ) (at next o k0 v0 k1 v1 k2 v2 k3 v3 : �
     → k1 ≡ wordIf (ltb 1 (high o)) (getD ks (at + 1 + 1) 0) → v1 ≡ wordIf (ltb 1 (high o)) (operandAt os (at + 1 + 1))
     → k2 ≡ wordIf (ltb 2 (high o)) (getD ks (at + 1 + 2) 0) → v2 ≡ wordIf (ltb 2 (high o)) (operandAt os (at + 1 + 2))
     → k3 ≡ wordIf (ltb 3 (high o)) (getD ks (at + 1 + 3) 0) → v3 ≡ wordIf (ltb 3 (high o)) (operandAt os (at + 1 + 3))
-    → getD ks at 0 ∷ low o ∷ next ∷ high o ∷ k0 ∷ v0 ∷ k1 ∷ v1 ∷ k2 ∷ v2 ∷ k3 ∷ v3 ∷ [] ≡ callWords ks os at next
-unfolding callWords placeWords
+    → getD ks at 0 ∷ low o ∷ next ∷ high o ∷ k0 ∷ v0 ∷ k1 ∷ v1 ∷ k2 ∷ v2 ∷ k3 ∷ v3 ∷ [] ≡ callNodeWords ks os at next
+unfolding callNodeWords placeWords
 words-assembled ks os at next o k0 v0 k1 v1 k2 v2 k3 v3 e a b c d f g h i = rw (a, b, c, d, f, g, h, i, e)

@@ -8,11 +8,11 @@ use native.Mathlib.Omega.{arith}
 use lib.ListN.{length}
 use lib.Seq.{sets}
 use Rattle.job.specs.Syntax.{Exp}
-use Rattle.job.specs.Construct.{size, root, nodesOf}
-use Rattle.job.specs.Words.{headWords, paramWords, nodeWords, rowsOf}
+use Rattle.job.specs.Construct.{nodeCount, root, nodesOf}
+use Rattle.job.specs.Words.{headWords, paramWords, nodeWords, rowsOfNodes}
 use Rattle.job.specs.Read.{Got, Read, got}
 use Rattle.compiler.specs.Compiled.{reading, Accepted, compiled, stored}
-use Rattle.compiler.specs.Body.{sinkOf, Sunk, sunk, BodyAccepted, compiledBody, storedBody}
+use Rattle.compiler.specs.Body.{sinkOf, Sunk, sunk, BodyAccepted, compiledWithSink, storedBody}
 use Rattle.compiler.specs.declared.expression.Compiled.{Compiled}
 use Rattle.job.proofs.Stores.{sets-append}
 use Rattle.compiler.proofs.Rows.{rows-append, rows-length}
@@ -33,9 +33,9 @@ sink-definition goal a d d' g e = rw g e
 record Read-body (ks os : List ℕ) (s at n sink : ℕ) : Type 0 where
   it : Got Exp
   read : reading 24 ks os s at ≡ got it
-  ends : sink ≡ n + size (it .value)
+  ends : sink ≡ n + nodeCount (it .value)
 
-view : (p : Read Exp) (n sink : ℕ) → Sunk p n sink → (g : Got Exp) × (p ≡ got g) × (sink ≡ n + size (g .value))
+view : (p : Read Exp) (n sink : ℕ) → Sunk p n sink → (g : Got Exp) × (p ≡ got g) × (sink ≡ n + nodeCount (g .value))
 view (got g) n sink (sunk e) = (g, refl, e)
 
 module _ {ks os : List ℕ} {s at n sink : ℕ} (b : BodyAccepted ks os s at n sink) where
@@ -50,23 +50,23 @@ module _ {ks os : List ℕ} {s at n sink : ℕ} (b : BodyAccepted ks os s at n s
 
   pub body-done : (c : Compiled) (goal : Bool) (d d1 d2 : List ℕ) → c ≡ compiled (reading 24 ks os s at) n
       → d1 ≡ stored (reading 24 ks os s at) n sink d → d2 ≡ sets d1 (headWords + 12 * sink) (nodeWords (sinkOf goal))
-      → (_≡_ {A = Compiled} (record { at = c .at; node = sink + 1; root = c .root }) (compiledBody (reading 24 ks os s at) n))
+      → (_≡_ {A = Compiled} (record { at = c .at; node = sink + 1; root = c .root }) (compiledWithSink (reading 24 ks os s at) n))
       × (d2 ≡ storedBody (reading 24 ks os s at) goal n d)
-  unfolding rowsOf
+  unfolding rowsOfNodes
   body-done c goal d d1 d2 ec e1 e2 =
       let g = taken .it in
-      let rows : ℕ → List ℕ = λ k. rowsOf (nodesOf (g .value) n k) in
+      let rows : ℕ → List ℕ = λ k. rowsOfNodes (nodesOf (g .value) n k) in
       let a : c ≡ compiled (got g) n = ec ∙ ap (λ r. compiled r n) (taken .read) in
       let f : d1 ≡ sets d (headWords + 12 * n) (rows sink) = e1 ∙ ap (λ r. stored r n sink d) (taken .read) in
       let z : headWords + 12 * sink ≡ headWords + 12 * n + length (rows sink) =
       (let l = rows-length (g .value) n sink in let e = taken .ends in omega arith) in
       let h : d2 ≡ sets d (headWords + 12 * n) (rows sink ++ nodeWords (sinkOf goal)) =
       e2 ∙ rw (f, z) (sym (sets-append d (headWords + 12 * n) (rows sink) (nodeWords (sinkOf goal)))) in
-      let i : rowsOf (nodesOf (g .value) n sink ++ (sinkOf goal ∷ [])) ≡ rows sink ++ nodeWords (sinkOf goal) =
+      let i : rowsOfNodes (nodesOf (g .value) n sink ++ (sinkOf goal ∷ [])) ≡ rows sink ++ nodeWords (sinkOf goal) =
       rows-append (nodesOf (g .value) n sink) (sinkOf goal ∷ []) ∙ ap (λ w. rows sink ++ w) (append-nil (nodeWords (sinkOf goal))) in (
         same (ap (λ (y : Compiled). y .at) a) (add-one sink ∙ ap suc (taken .ends)) (ap (λ (y : Compiled). y .root) a)
-            ∙ ap (λ r. compiledBody r n) (sym (taken .read)),
+            ∙ ap (λ r. compiledWithSink r n) (sym (taken .read)),
         h ∙ ap (λ w. sets d (headWords + 12 * n) w) (sym i)
-            ∙ ap (λ k. sets d (headWords + 12 * n) (rowsOf (nodesOf (g .value) n k ++ (sinkOf goal ∷ [])))) (taken .ends)
+            ∙ ap (λ k. sets d (headWords + 12 * n) (rowsOfNodes (nodesOf (g .value) n k ++ (sinkOf goal ∷ [])))) (taken .ends)
             ∙ ap (λ r. storedBody r goal n d) (sym (taken .read)),
       )

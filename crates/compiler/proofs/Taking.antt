@@ -6,22 +6,22 @@ use native.Mathlib.Omega.{arith}
 use lib.ListN.{length, getD, drop}
 use Rattle.job.specs.Entry.{entries}
 use Rattle.job.specs.Syntax.{Exp, levels}
-use Rattle.job.specs.Construct.{size}
+use Rattle.job.specs.Construct.{nodeCount}
 use Rattle.job.specs.Read.{Got, Read, got, readExp}
 use Rattle.job.proofs.Position.{operandAt}
 use Rattle.reader.specs.Checked.{Parts}
 use Rattle.reader.proofs.Scope.{levels-length}
-use Rattle.compiler.specs.Compiled.{reading, Room, room, Accepted, compiled, stored}
+use Rattle.compiler.specs.Compiled.{reading, NodesFit, room, Accepted, compiled, stored}
 use Rattle.compiler.specs.declared.expression.Compiled.{Compiled}
 use Rattle.compiler.proofs.Rows.{size-some}
 use Rattle.compiler.proofs.Heads.{Head, headed}
 
-room-got : (p : Read Exp) (n : ℕ) → Room p n → (g : Got Exp) × (p ≡ got g) × (n + size (g .value) ≤ 1022)
+room-got : (p : Read Exp) (n : ℕ) → NodesFit p n → (g : Got Exp) × (p ≡ got g) × (n + nodeCount (g .value) ≤ 1022)
 room-got (got g) n (room h) = (g, refl, h)
 
 -- an expression that is read and has room may be compiled
 pub accept : (left : ℕ) (ks os : List ℕ) (s at n : ℕ) (g : Got Exp) → Parts ks os → s ≤ 8 → reading left ks os s at ≡ got g
-    → n + size (g .value) ≤ 1022 → Accepted left ks os s at n
+    → n + nodeCount (g .value) ≤ 1022 → Accepted left ks os s at n
 accept left ks os s at n g p few r h =
     let m = levels-length s in
     let t = headed left ks os (levels s) at g (omega arith) r in
@@ -32,7 +32,7 @@ accept left ks os s at n g p few r h =
       deep = t .deep;
       here = t .here;
       low = omega arith;
-      fits = subst (λ q. Room q n) (sym r) (room h);
+      fits = subst (λ q. NodesFit q n) (sym r) (room h);
     }
 
 -- a result by its parts
@@ -46,7 +46,7 @@ pub record Taken (left : ℕ) (ks os : List ℕ) (s at n : ℕ) : Type 0 where
   pub here : at < length ks
   pub it : Got Exp
   pub read : reading left ks os s at ≡ got it
-  pub fits : n + size (it .value) ≤ 1022
+  pub fits : n + nodeCount (it .value) ≤ 1022
   pub head : Head (readExp (left - 1)) (levels s) (operandAt os at) (suc at) (drop (suc at) (entries ks os)) it (getD ks at 0)
 
 pub taken : {left : ℕ} {ks os : List ℕ} {s at n : ℕ} → Accepted left ks os s at n → Taken left ks os s at n

@@ -9,15 +9,15 @@ use lib.ListN.{length, getD, drop}
 use lib.Seq.{sets}
 use Rattle.job.specs.Entry.{entries}
 use Rattle.job.specs.Syntax.{Join, levels}
-use Rattle.job.specs.Construct.{own, size, root, firstLeft, firstRight, nextLeft, nextRight, ownNodes, nodesOf}
-use Rattle.job.specs.Words.{headWords, rowsOf}
+use Rattle.job.specs.Construct.{own, nodeCount, root, firstLeft, firstRight, nextLeft, nextRight, ownNodes, nodesOf}
+use Rattle.job.specs.Words.{headWords, rowsOfNodes}
 use Rattle.job.specs.Read.{got, readExp}
 use Rattle.job.proofs.Position.{exp-from}
 use Rattle.reader.proofs.Scope.{levels-length}
 use Rattle.reader.specs.Join.{joinOf}
 use Rattle.compiler.specs.Join.{IsLeft, IsRight, joinRoot}
 use Rattle.compiler.specs.Compiled.{reading, Accepted, compiled, stored}
-use Rattle.compiler.specs.declared.plan.Plan.{Plan}
+use Rattle.compiler.specs.declared.plan.ExpressionPlan.{ExpressionPlan}
 use Rattle.compiler.specs.declared.expression.Compiled.{Compiled}
 use Rattle.compiler.proofs.Reread.{reread}
 use Rattle.compiler.proofs.Rows.{own-some, size-some, root-join, join-rows}
@@ -34,9 +34,9 @@ module _ {left : ℕ} {ks os : List ℕ} {s at n : ℕ} (t : Taken left ks os s 
       subst (λ m. Joined (readExp (left - 1)) (levels s) (suc at) (drop (suc at) (entries ks os)) (t .it) (joinOf (getD ks at 0) m))
       (levels-length s) (joined (t .head) k3)
 
-  whole : size (t .it .value) ≡ own the-join + size (sides .left .value) + size (sides .right .value)
-  unfolding size
-  whole = ap size (sides .value)
+  whole : nodeCount (t .it .value) ≡ own the-join + nodeCount (sides .left .value) + nodeCount (sides .right .value)
+  unfolding nodeCount
+  whole = ap nodeCount (sides .value)
 
   pub own-room : n + 3 ≤ 1022
   own-room =
@@ -47,7 +47,7 @@ module _ {left : ℕ} {ks os : List ℕ} {s at n : ℕ} (t : Taken left ks os s 
       let f = t .fits in
       omega arith
 
-  module _ (k : ℕ) {l : Plan} (el : IsLeft the-join s n k l) where
+  module _ (k : ℕ) {l : ExpressionPlan} (el : IsLeft the-join s n k l) where
     read-left : reading (left - 1) ks os (l .scope) (at + 1) ≡ got (sides .left)
     read-left =
         let e = sym (add-one at) in
@@ -72,7 +72,7 @@ module _ {left : ℕ} {ks os : List ℕ} {s at n : ℕ} (t : Taken left ks os s 
       root-left : c .root ≡ root (sides .left .value) (firstLeft the-join n)
       root-left = ap (λ (x : Compiled). x .root) given
 
-      module _ {r : Plan} (er : IsRight the-join s n (c .node) k r) where
+      module _ {r : ExpressionPlan} (er : IsRight the-join s n (c .node) k r) where
         read-right : reading (left - 1) ks os (r .scope) (c .at) ≡ got (sides .right)
         read-right =
             let rest = exp-from (entries ks os) (left - 1) _ (suc at) _ (sides .left) refl (sides .read-left) .rest in
@@ -96,7 +96,7 @@ module _ {left : ℕ} {ks os : List ℕ} {s at n : ℕ} (t : Taken left ks os s 
           result : (x : ℕ) → x ≡ joinRoot the-join n (c .root)
               → _≡_ {A = Compiled} (record { at = q .at; node = q .node; root = x }) (compiled (got (t .it)) n)
           result x e =
-              let a : q .node ≡ firstRight the-join (sides .left .value) n + size (sides .right .value) =
+              let a : q .node ≡ firstRight the-join (sides .left .value) n + nodeCount (sides .right .value) =
               ap (λ (y : Compiled). y .node) last in
               let w = whole in
               same (ap (λ (y : Compiled). y .at) last ∙ sym (sides .next)) (omega arith)
@@ -106,19 +106,19 @@ module _ {left : ℕ} {ks os : List ℕ} {s at n : ℕ} (t : Taken left ks os s 
           pub join-done : (x : ℕ) (d d1 d2 d3 : List ℕ) → x ≡ joinRoot the-join n (c .root)
               → d1 ≡ stored (reading (left - 1) ks os (l .scope) (at + 1)) (l .first) (l .next) d
               → d2 ≡ stored (reading (left - 1) ks os (r .scope) (c .at)) (r .first) (r .next) d1
-              → d3 ≡ sets d2 (headWords + 12 * n) (rowsOf (ownNodes the-join (c .root) (q .root) k))
+              → d3 ≡ sets d2 (headWords + 12 * n) (rowsOfNodes (ownNodes the-join (c .root) (q .root) k))
               → Done left ks os s at n k (record { at = q .at; node = q .node; root = x }) d d3
           join-done x d d1 d2 d3 ex e1 e2 e3 =
               let j = the-join in
               let f = sides .left .value in
               let g = sides .right .value in
-              let a : d1 ≡ sets d (headWords + 12 * firstLeft j n) (rowsOf (nodesOf f (firstLeft j n) (nextLeft j n k))) =
+              let a : d1 ≡ sets d (headWords + 12 * firstLeft j n) (rowsOfNodes (nodesOf f (firstLeft j n) (nextLeft j n k))) =
               e1 ∙ ap (λ r. stored r (l .first) (l .next) d) read-left
-              ∙ ap₂ (λ m i. sets d (headWords + 12 * m) (rowsOf (nodesOf f m i))) (el .begins) (el .goes) in
-              let b : d2 ≡ sets d1 (headWords + 12 * firstRight j f n) (rowsOf (nodesOf g (firstRight j f n) (nextRight j n k))) =
+              ∙ ap₂ (λ m i. sets d (headWords + 12 * m) (rowsOfNodes (nodesOf f m i))) (el .begins) (el .goes) in
+              let b : d2 ≡ sets d1 (headWords + 12 * firstRight j f n) (rowsOfNodes (nodesOf g (firstRight j f n) (nextRight j n k))) =
               e2 ∙ ap (λ r'. stored r' (r .first) (r .next) d1) read-right
-              ∙ ap₂ (λ m i. sets d1 (headWords + 12 * m) (rowsOf (nodesOf g m i))) (er .begins ∙ node-left) (er .goes) in
-              let c : d3 ≡ sets d2 (headWords + 12 * n) (rowsOf (ownNodes j (root f (firstLeft j n)) (root g (firstRight j f n)) k)) =
-              e3 ∙ ap₂ (λ m i. sets d2 (headWords + 12 * n) (rowsOf (ownNodes j m i k))) root-left (ap (λ (y : Compiled). y .root) last) in
+              ∙ ap₂ (λ m i. sets d1 (headWords + 12 * m) (rowsOfNodes (nodesOf g m i))) (er .begins ∙ node-left) (er .goes) in
+              let c : d3 ≡ sets d2 (headWords + 12 * n) (rowsOfNodes (ownNodes j (root f (firstLeft j n)) (root g (firstRight j f n)) k)) =
+              e3 ∙ ap₂ (λ m i. sets d2 (headWords + 12 * n) (rowsOfNodes (ownNodes j m i k))) root-left (ap (λ (y : Compiled). y .root) last) in
               done t k _ d d3 (result x ex)
-              (c ∙ rw (b, a) (join-rows j f g n k d) ∙ ap (λ y. sets d (headWords + 12 * n) (rowsOf (nodesOf y n k))) (sym (sides .value)))
+              (c ∙ rw (b, a) (join-rows j f g n k d) ∙ ap (λ y. sets d (headWords + 12 * n) (rowsOfNodes (nodesOf y n k))) (sym (sides .value)))

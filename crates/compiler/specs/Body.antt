@@ -7,8 +7,8 @@ use Prim.Native.Nat.{ℕ, suc, _+_, _*_, _<_, _≤_}
 use lib.Seq.{sets}
 use Rattle.job.specs.Syntax.{Exp}
 use Rattle.job.specs.Node.{Node}
-use Rattle.job.specs.Construct.{size, root, nodesOf}
-use Rattle.job.specs.Words.{headWords, rowsOf}
+use Rattle.job.specs.Construct.{nodeCount, root, nodesOf}
+use Rattle.job.specs.Words.{headWords, rowsOfNodes}
 use Rattle.job.specs.Read.{Got, Read, got, refused}
 use Rattle.reader.specs.Checked.{Parts}
 use Rattle.compiler.specs.Compiled.{reading}
@@ -21,7 +21,7 @@ sinkOf false = Node.return
 
 -- accepted, and its nodes from n on end where the sink is
 pub data Sunk : Read Exp → (n sink : ℕ) → Type 0 where
-  sunk : {g : Got Exp} {n sink : ℕ} → sink ≡ n + size (g .value) → Sunk (got g) n sink
+  sunk : {g : Got Exp} {n sink : ℕ} → sink ≡ n + nodeCount (g .value) → Sunk (got g) n sink
 
 -- what is asked of a body's entries: its sink's number is known
 pub record BodyAccepted (ks os : List ℕ) (scope at n sink : ℕ) : Type 0 where
@@ -31,12 +31,12 @@ pub record BodyAccepted (ks os : List ℕ) (scope at n sink : ℕ) : Type 0 wher
   pub sinks : Sunk (reading 24 ks os scope at) n sink
 
 -- the entry behind the body, the node behind its sink, and its root. (A refused reading is not asked about.)
-abbrev pub compiledBody : Read Exp → (n : ℕ) → Compiled
-compiledBody (got g) n = record { at = g .next; node = suc (n + size (g .value)); root = root (g .value) n }
-compiledBody (refused i e) n = record { at = e; node = n; root = n }
+abbrev pub compiledWithSink : Read Exp → (n : ℕ) → Compiled
+compiledWithSink (got g) n = record { at = g .next; node = suc (n + nodeCount (g .value)); root = root (g .value) n }
+compiledWithSink (refused i e) n = record { at = e; node = n; root = n }
 
 -- the dag's words with the rows of the body's nodes, numbered from n, and of its sink
 abbrev pub storedBody : Read Exp → (goal : Bool) (n : ℕ) → List ℕ → List ℕ
 storedBody (got g) goal n d =
-    sets d (headWords + 12 * n) (rowsOf (nodesOf (g .value) n (n + size (g .value)) ++ (sinkOf goal ∷ [])))
+    sets d (headWords + 12 * n) (rowsOfNodes (nodesOf (g .value) n (n + nodeCount (g .value)) ++ (sinkOf goal ∷ [])))
 storedBody (refused i e) goal n d = d

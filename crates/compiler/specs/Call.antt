@@ -19,7 +19,7 @@ placeWords (suc w) i n ks os at =
     wordIf (ltb i n) (getD ks (at + i) 0) ∷ wordIf (ltb i n) (operandAt os (at + i)) ∷ placeWords w (suc i) n ks os at
 
 -- kind, site or definition, next, count, four places
-unfoldable pub callWords : (ks os : List ℕ) → (at k : ℕ) → List ℕ
-callWords ks os at k =
+unfoldable pub callNodeWords : (ks os : List ℕ) → (at k : ℕ) → List ℕ
+callNodeWords ks os at k =
     let o = operandAt os at in
     getD ks at 0 ∷ low o ∷ k ∷ high o ∷ placeWords 4 0 (high o) ks os (at + 1)

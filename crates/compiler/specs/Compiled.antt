@@ -5,8 +5,8 @@ use lib.ListN.{length, drop}
 use lib.Seq.{sets}
 use Rattle.job.specs.Entry.{entries}
 use Rattle.job.specs.Syntax.{Exp, levels}
-use Rattle.job.specs.Construct.{size, root, nodesOf}
-use Rattle.job.specs.Words.{headWords, rowsOf}
+use Rattle.job.specs.Construct.{nodeCount, root, nodesOf}
+use Rattle.job.specs.Words.{headWords, rowsOfNodes}
 use Rattle.job.specs.Read.{Got, Read, got, refused, readExp}
 use Rattle.reader.specs.Checked.{Parts}
 use Rattle.compiler.specs.declared.expression.Compiled.{Compiled}
@@ -16,8 +16,8 @@ abbrev pub reading : (left : ℕ) → (ks os : List ℕ) → (scope at : ℕ) �
 reading left ks os scope at = readExp left (levels scope) at (drop at (entries ks os))
 
 -- accepted, and its nodes from n on fit the dag's 1,022 places
-pub data Room : Read Exp → ℕ → Type 0 where
-  room : {g : Got Exp} {n : ℕ} → n + size (g .value) ≤ 1022 → Room (got g) n
+pub data NodesFit : Read Exp → ℕ → Type 0 where
+  room : {g : Got Exp} {n : ℕ} → n + nodeCount (g .value) ≤ 1022 → NodesFit (got g) n
 
 -- what is asked of an expression's entries: `fits` implies the three before it
 pub record Accepted (left : ℕ) (ks os : List ℕ) (scope at n : ℕ) : Type 0 where
@@ -26,14 +26,14 @@ pub record Accepted (left : ℕ) (ks os : List ℕ) (scope at n : ℕ) : Type 0 
   pub deep : 0 < left
   pub here : at < length ks
   pub low : n < 1022
-  pub fits : Room (reading left ks os scope at) n
+  pub fits : NodesFit (reading left ks os scope at) n
 
 -- the entry and the node behind the expression, and its root. (A refused reading is not asked about.)
 abbrev pub compiled : Read Exp → (n : ℕ) → Compiled
-compiled (got g) n = record { at = g .next; node = n + size (g .value); root = root (g .value) n }
+compiled (got g) n = record { at = g .next; node = n + nodeCount (g .value); root = root (g .value) n }
 compiled (refused i e) n = record { at = e; node = n; root = n }
 
 -- the dag's words with the rows of the expression's nodes, numbered from n toward k
 abbrev pub stored : Read Exp → (n k : ℕ) → List ℕ → List ℕ
-stored (got g) n k d = sets d (headWords + 12 * n) (rowsOf (nodesOf (g .value) n k))
+stored (got g) n k d = sets d (headWords + 12 * n) (rowsOfNodes (nodesOf (g .value) n k))
 stored (refused i e) n k d = d

@@ -4,10 +4,10 @@ ghost use Prim.Native.Nat.{_+_, _*_, _<_};
 ghost use lib.Seq.{sets};
 ghost use Rattle.job.specs.Words.{headWords, nodeWords};
 ghost use Rattle.compiler.specs.Compiled.{reading};
-ghost use Rattle.compiler.specs.Body.{sinkOf, BodyAccepted, compiledBody, storedBody};
+ghost use Rattle.compiler.specs.Body.{sinkOf, BodyAccepted, compiledWithSink, storedBody};
 use crate::expression::Compiled;
 use crate::expression::compile_expression;
-use crate::plan::Plan;
+use crate::plan::ExpressionPlan;
 use crate::store::put;
 use job::dag::PUBLISH;
 use job::dag::RETURN;
@@ -37,11 +37,11 @@ pub fn compile_body(
     goal: bool,
 ) -> Compiled
     requires { ⌜ BodyAccepted (now kinds) (now operands) scope at node sink ⌝ }
-    ensures { λ r. ⌜ r ≡ compiledBody (reading 24 (now (kinds .entry)) (now (operands .entry)) scope at) node ⌝ }
+    ensures { λ r. ⌜ r ≡ compiledWithSink (reading 24 (now (kinds .entry)) (now (operands .entry)) scope at) node ⌝ }
     ensures { λ _. ⌜ now (dag .exit) ≡ storedBody (reading 24 (now (kinds .entry)) (now (operands .entry)) scope at)
         goal node (now (dag .entry)) ⌝ }
 {
-    let plan = Plan {
+    let plan = ExpressionPlan {
         scope: scope,
         first: node,
         next: sink as u32,

@@ -6,8 +6,8 @@ ghost use lib.Dec.{ltb};
 ghost use Rattle.job.specs.Entry.{high};
 ghost use Rattle.job.proofs.Position.{operandAt};
 ghost use Rattle.reader.specs.Checked.{Parts};
-ghost use Rattle.compiler.specs.Call.{wordIf, callWords};
-use job::dag::ROW;
+ghost use Rattle.compiler.specs.Call.{wordIf, callNodeWords};
+use job::dag::ROW_WORDS;
 use reader::entry::operand;
 
 // The kind of parameter `i` of `count`, whose entries begin at `at`, or 0.
@@ -34,10 +34,10 @@ fn operand_word(operands: &[u8], at: usize, i: usize, count: usize) -> u32
 }
 
 // "low 16 bits site, high 16 bits parameter count", or the same of a definition: the words of the call at `at`.
-pub fn call_words(kinds: &[u8], operands: &[u8], at: usize, next: u32) -> [u32; ROW]
+pub fn call_node_words(kinds: &[u8], operands: &[u8], at: usize, next: u32) -> [u32; ROW_WORDS]
     requires { ⌜ Parts (now kinds) (now operands) ⌝ }
     requires { ⌜ at + 1 + high (operandAt (now operands) at) ≤ length (now kinds) ⌝ }
-    ensures { λ r. ⌜ r ≡ callWords (now (kinds .entry)) (now (operands .entry)) at next ⌝ }
+    ensures { λ r. ⌜ r ≡ callNodeWords (now (kinds .entry)) (now (operands .entry)) at next ⌝ }
 {
     let head = operand(operands, at);
     let n = (head / 65536) as usize;

@@ -2,10 +2,10 @@
 ghost use mathlib.Core.Path.{_≡_};
 ghost use Prim.Native.Nat.{_+_, _<_};
 ghost use Rattle.compiler.specs.Compiled.{Accepted, reading, compiled, stored};
-use crate::call::call_words;
+use crate::call::call_node_words;
 use crate::join::join_root;
 use crate::join::put_own;
-use crate::plan::Plan;
+use crate::plan::ExpressionPlan;
 use crate::plan::left_plan;
 use crate::plan::right_plan;
 use crate::store::put;
@@ -39,7 +39,7 @@ pub fn compile_expression(
     dag: &mut [u32; WORDS],
     left: usize,
     at: usize,
-    plan: Plan,
+    plan: ExpressionPlan,
 ) -> Compiled
     requires { ⌜ Accepted left (now kinds) (now operands) (plan .scope) at (plan .first) ⌝ }
     ensures { λ r. ⌜ r ≡ compiled (reading left (now (kinds .entry)) (now (operands .entry)) (plan .scope) at) (plan .first) ⌝ }
@@ -53,7 +53,11 @@ pub fn compile_expression(
     }
     if kind < 3 {
         let count = (operand(operands, at) / 65536) as usize;
-        put(dag, plan.first, call_words(kinds, operands, at, plan.next));
+        put(
+            dag,
+            plan.first,
+            call_node_words(kinds, operands, at, plan.next),
+        );
         return single(at + 1 + count, plan.first);
     }
     let l = left_plan(kind, plan);

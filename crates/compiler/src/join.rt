@@ -3,10 +3,10 @@ ghost use mathlib.Core.Path.{_≡_};
 ghost use Prim.Native.Nat.{_+_, _*_, _<_, _≤_};
 ghost use lib.Seq.{sets};
 ghost use Rattle.job.specs.Construct.{ownNodes};
-ghost use Rattle.job.specs.Words.{headWords, rowsOf};
+ghost use Rattle.job.specs.Words.{headWords, rowsOfNodes};
 ghost use Rattle.reader.specs.Join.{joinOf};
 ghost use Rattle.compiler.specs.Join.{joinRoot};
-use crate::plan::Plan;
+use crate::plan::ExpressionPlan;
 use crate::store::put;
 use job::dag::ASSIGN;
 use job::dag::CHOKE;
@@ -16,7 +16,7 @@ use job::dag::WHERE;
 use job::dag::WORDS;
 
 // The join's root, where `left` is that of its f: a sequence is entered at its f.
-pub fn join_root(kind: u8, plan: Plan, left: u32) -> u32
+pub fn join_root(kind: u8, plan: ExpressionPlan, left: u32) -> u32
     requires { ⌜ plan .first < 1022 ⌝ }
     ensures { λ r. ⌜ r ≡ joinRoot (joinOf kind (plan .scope)) (plan .first) left ⌝ }
 {
@@ -31,10 +31,10 @@ pub fn join_root(kind: u8, plan: Plan, left: u32) -> u32
 }
 
 // Stores the join's own nodes: `left` and `right` are the roots of its sides.
-pub fn put_own(dag: &mut [u32; WORDS], kind: u8, plan: Plan, left: u32, right: u32)
+pub fn put_own(dag: &mut [u32; WORDS], kind: u8, plan: ExpressionPlan, left: u32, right: u32)
     requires { ⌜ (plan .scope ≤ 8) × (plan .first + 3 ≤ 1022) ⌝ }
     ensures { λ _. ⌜ now (dag .exit) ≡ sets (now (dag .entry)) (headWords + 12 * plan .first)
-        (rowsOf (ownNodes (joinOf kind (plan .scope)) left right (plan .next))) ⌝ }
+        (rowsOfNodes (ownNodes (joinOf kind (plan .scope)) left right (plan .next))) ⌝ }
 {
     let x = plan.scope as u32;
     let node = plan.first;

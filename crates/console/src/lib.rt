@@ -1,3 +1,3 @@
 // Bytes, numbers and replies on standard output, for programs that try the public calls.
 pub mod print;
-pub mod replies;
+pub mod reply_line;

@@ -10,9 +10,9 @@ use lib.Seq.{drop-drop, getD-drop, length-take-le}
 use lib.Dec.{ltb, leb}
 use Rattle.job.specs.Test.{_and_, all}
 use Rattle.job.specs.Node.{Node, Body, nodeAt, nodeHolds, bodyHolds, isNode, dagHolds}
-use Rattle.job.specs.Words.{nodeBy, nodeOf, nodesFrom, bodiesFrom, dagOf}
+use Rattle.job.specs.Words.{nodeBy, decodedNode, nodesFrom, bodiesFrom, dagOf}
 use Rattle.job.proofs.Test.{le-leb, lt-not-leb, and-right, all-at}
-use Rattle.dag_rules.specs.Rows.{rowHolds}
+use Rattle.dag_rules.specs.NodeWordRules.{rowHolds}
 use Rattle.dag_rules.proofs.Rows.{node-row, row-node}
 
 length-nodesFrom : (n : ℕ) (ws : List ℕ) → length (nodesFrom n ws) ≡ n
@@ -20,13 +20,13 @@ unfolding nodesFrom
 length-nodesFrom zero ws = refl
 length-nodesFrom (suc n) ws = ap suc (length-nodesFrom n (drop 12 ws))
 
-node-from : (n i : ℕ) (ws : List ℕ) → i < n → getD (nodesFrom n ws) i Node.unknown ≡ nodeOf (take 12 (drop (12 * i) ws))
+node-from : (n i : ℕ) (ws : List ℕ) → i < n → getD (nodesFrom n ws) i Node.unknown ≡ decodedNode (take 12 (drop (12 * i) ws))
 unfolding nodesFrom
 node-from zero i ws l = absurd (omega arith)
 node-from (suc n) zero ws l = refl
 node-from (suc n) (suc i) ws l =
     let e : 12 + 12 * i ≡ 12 * suc i = omega arith in
-    node-from n i (drop 12 ws) (omega arith) ∙ ap (λ xs. nodeOf (take 12 xs)) (drop-drop (12 * i) 12 ws ∙ ap (λ k. drop k ws) e)
+    node-from n i (drop 12 ws) (omega arith) ∙ ap (λ xs. decodedNode (take 12 xs)) (drop-drop (12 * i) 12 ws ∙ ap (λ k. drop k ws) e)
 
 length-bodiesFrom : (n : ℕ) (ws : List ℕ) → length (bodiesFrom n ws) ≡ n
 unfolding bodiesFrom
@@ -59,14 +59,14 @@ module _ (ws : List ℕ) where
   unfolding dagOf
   goal-is = refl
 
-  pub node-row-at : (i : ℕ) → i < getD ws 0 0 → getD (dagOf ws .nodes) i Node.unknown ≡ nodeOf (take 12 (drop (67 + 12 * i) ws))
+  pub node-row-at : (i : ℕ) → i < getD ws 0 0 → getD (dagOf ws .nodes) i Node.unknown ≡ decodedNode (take 12 (drop (67 + 12 * i) ws))
   unfolding dagOf
-  node-row-at i l = node-from (getD ws 0 0) i (drop 67 ws) l ∙ ap (λ xs. nodeOf (take 12 xs)) (drop-drop (12 * i) 67 ws)
+  node-row-at i l = node-from (getD ws 0 0) i (drop 67 ws) l ∙ ap (λ xs. decodedNode (take 12 xs)) (drop-drop (12 * i) 67 ws)
 
-  pub body-kept-at : (i : ℕ) (d : Body) → i < getD ws 1 0
+  pub body-holds-at : (i : ℕ) (d : Body) → i < getD ws 1 0
       → bodyHolds (dagOf ws) (getD (dagOf ws .bodies) i d) ≡ (ltb (getD ws (3 + 2 * i) 0) (getD ws 0 0) and leb (getD ws (3 + 2 * i + 1) 0) 4)
   unfolding bodyHolds isNode dagOf
-  body-kept-at i d l =
+  body-holds-at i d l =
       let e : 3 + (2 * i + 1) ≡ 3 + 2 * i + 1 = omega arith in
       rw (
         body-from (getD ws 1 0) i (drop 3 ws) d l,
@@ -77,9 +77,9 @@ module _ (ws : List ℕ) where
       )
 
   -- within the array
-  pub node-kept-at : length ws ≡ 12331 → getD ws 0 0 ≤ 1022 → (i : ℕ) → i < getD ws 0 0
+  pub node-holds-at : length ws ≡ 12331 → getD ws 0 0 ≤ 1022 → (i : ℕ) → i < getD ws 0 0
       → nodeHolds (dagOf ws) (getD (dagOf ws .nodes) i Node.unknown) ≡ rowHolds (getD ws 0 0) (getD ws 1 0) (take 12 (drop (67 + 12 * i) ws))
-  node-kept-at e f i l =
+  node-holds-at e f i l =
       let row = take 12 (drop (67 + 12 * i) ws) in
       let h : 12 ≤ length (drop (67 + 12 * i) ws) = simp length-drop (omega arith) in
       ap (nodeHolds (dagOf ws)) (node-row-at i l)
@@ -95,26 +95,26 @@ module _ (ws : List ℕ) where
   unfolding dagHolds _and_
   many-bodies m l = rw (nodes-length, bodies-length, le-leb (getD ws 0 0) 1022 m, lt-not-leb (getD ws 1 0) 32 l)
 
-  pub kept-by-parts : getD ws 0 0 ≤ 1022 → getD ws 1 0 ≤ 32
+  pub holds-by-parts : getD ws 0 0 ≤ 1022 → getD ws 1 0 ≤ 32
       → dagHolds (dagOf ws)
       ≡ (ltb (getD ws 2 0) (getD ws 0 0) and all (bodyHolds (dagOf ws)) (dagOf ws .bodies) and all (nodeHolds (dagOf ws)) (dagOf ws .nodes))
   unfolding dagHolds isNode _and_
-  kept-by-parts m l =
+  holds-by-parts m l =
       rw (nodes-length, bodies-length, le-leb (getD ws 0 0) 1022 m, le-leb (getD ws 1 0) 32 l)
       (ap (λ g. ltb g (getD ws 0 0) and all (bodyHolds (dagOf ws)) (dagOf ws .bodies) and all (nodeHolds (dagOf ws)) (dagOf ws .nodes)) goal-is)
 
-  -- in a kept dag the node is the one that the row would be by its kind
-  pub kept-node : dagHolds (dagOf ws) ≡ true → (i : ℕ) → i < getD ws 0 0 → nodeAt (dagOf ws) i ≡ nodeBy (take 12 (drop (67 + 12 * i) ws))
+  -- in a dag whose rules hold the node is the one that the row would be by its kind
+  pub node-by-kind : dagHolds (dagOf ws) ≡ true → (i : ℕ) → i < getD ws 0 0 → nodeAt (dagOf ws) i ≡ nodeBy (take 12 (drop (67 + 12 * i) ws))
   unfolding dagHolds nodeAt
-  kept-node e i l =
+  node-by-kind e i l =
       let row = take 12 (drop (67 + 12 * i) ws) in
       let d = dagOf ws in
       let first = and-right (leb (length (d .nodes)) 1022) _ e in
       let second = and-right (leb (length (d .bodies)) 32) _ first in
       let third = and-right (isNode d (d .goal)) _ second in
-      let kept : all (nodeHolds d) (d .nodes) ≡ true = and-right (all (bodyHolds d) (d .bodies)) _ third in
-      let here : nodeHolds d (nodeOf row) ≡ true =
-      ap (nodeHolds d) (sym (node-row-at i l)) ∙ all-at (nodeHolds d) (d .nodes) i Node.unknown kept (omega (arith, nodes-length)) in
+      let holds : all (nodeHolds d) (d .nodes) ≡ true = and-right (all (bodyHolds d) (d .bodies)) _ third in
+      let here : nodeHolds d (decodedNode row) ≡ true =
+      ap (nodeHolds d) (sym (node-row-at i l)) ∙ all-at (nodeHolds d) (d .nodes) i Node.unknown holds (omega (arith, nodes-length)) in
       node-row-at i l ∙ row-node d row here
 
 -- a part of twelve words

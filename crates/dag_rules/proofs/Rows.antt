@@ -13,13 +13,13 @@ use Rattle.job.specs.Number.{signed}
 use Rattle.job.specs.Site.{siteTakes}
 use Rattle.job.specs.Syntax.{Param, variable, constant}
 use Rattle.job.specs.Node.{Dag, paramHolds, paramsHold, isNode, nodeHolds}
-use Rattle.job.specs.Words.{paramWords, nodeWords, paramOf, paramsFrom, nodeBy, nodeOf}
+use Rattle.job.specs.Words.{paramWords, nodeWords, paramOf, paramsFrom, nodeBy, decodedNode}
 use Rattle.job.proofs.Test.{clash, eqb-eq, eqb-same, ne-eqb, lt-ltb, le-not-ltb, le-leb, lt-not-leb}
 use Rattle.job.proofs.WellFormed.{site-takes, site-few}
 use Rattle.job.proofs.Number.{unsigned-signed, signed-fits}
 use Rattle.job.proofs.Lists.{table, listed}
 use Rattle.job.proofs.Both.{and-true, and-false, or-false}
-use Rattle.dag_rules.specs.Rows.{paramWordsHold, pairHolds, countOf, headHolds, rowHolds}
+use Rattle.dag_rules.specs.NodeWordRules.{paramWordsHold, pairHolds, countOf, headHolds, rowHolds}
 
 -- the words' tests in front, the parameters' behind: pair by pair
 pairwise : (p q s k a : Bool) → ((p and q and s) and k and a) ≡ ((p and q and true) and k and true) and s and a
@@ -79,22 +79,22 @@ unfolding paramWordsHold paramWords paramsFrom all same
 pair-unnamed k w = and-true _ ∙ ap (λ b. eqb k 0 and b) (and-true (eqb w 0))
 
 -- the node that a row would be
-by-kind : (d : Dag) (ws : List ℕ) → nodeHolds d (nodeOf ws) ≡ same ws (nodeWords (nodeBy ws)) and nodeHolds d (nodeBy ws)
-unfolding nodeOf nodeHolds _and_
+by-kind : (d : Dag) (ws : List ℕ) → nodeHolds d (decodedNode ws) ≡ same ws (nodeWords (nodeBy ws)) and nodeHolds d (nodeBy ws)
+unfolding decodedNode nodeHolds _and_
 by-kind d ws = go (same ws (nodeWords (nodeBy ws))) refl
   where
-    go : (b : Bool) → same ws (nodeWords (nodeBy ws)) ≡ b → nodeHolds d (nodeOf ws) ≡ b and nodeHolds d (nodeBy ws)
-    go true e = rw (e, nodeOf)
-    go false e = rw (e, nodeOf)
+    go : (b : Bool) → same ws (nodeWords (nodeBy ws)) ≡ b → nodeHolds d (decodedNode ws) ≡ b and nodeHolds d (nodeBy ws)
+    go true e = rw (e, decodedNode)
+    go false e = rw (e, decodedNode)
 
--- a row that is kept is the one of that node
-pub row-node : (d : Dag) (ws : List ℕ) → nodeHolds d (nodeOf ws) ≡ true → nodeOf ws ≡ nodeBy ws
-unfolding nodeOf nodeHolds
+-- a row whose rules hold is the one of that node
+pub row-node : (d : Dag) (ws : List ℕ) → nodeHolds d (decodedNode ws) ≡ true → decodedNode ws ≡ nodeBy ws
+unfolding decodedNode nodeHolds
 row-node d ws h = go (same ws (nodeWords (nodeBy ws))) refl
   where
-    go : (b : Bool) → same ws (nodeWords (nodeBy ws)) ≡ b → nodeOf ws ≡ nodeBy ws
-    go true e = rw (e, nodeOf)
-    go false e = clash h (rw (e, nodeOf))
+    go : (b : Bool) → same ws (nodeWords (nodeBy ws)) ≡ b → decodedNode ws ≡ nodeBy ws
+    go true e = rw (e, decodedNode)
+    go false e = clash h (rw (e, decodedNode))
 
 -- rows without parameters
 rest-last : (p q r z : Bool) → ((p and q and r and z) and true) ≡ ((p and q and r) and z and true)
@@ -212,7 +212,7 @@ row-by d (suc (suc (suc (suc (suc (suc (suc (suc (suc zero))))))))) a b c rest l
 row-by d (suc (suc (suc (suc (suc (suc (suc (suc (suc (suc k)))))))))) a b c rest len = refl
 
 pub row-is : (d : Dag) (k a b c : ℕ) (rest : List ℕ) → length rest ≡ 8
-    → nodeHolds d (nodeOf (k ∷ a ∷ b ∷ c ∷ rest)) ≡ rowHolds (length (d .nodes)) (length (d .bodies)) (k ∷ a ∷ b ∷ c ∷ rest)
+    → nodeHolds d (decodedNode (k ∷ a ∷ b ∷ c ∷ rest)) ≡ rowHolds (length (d .nodes)) (length (d .bodies)) (k ∷ a ∷ b ∷ c ∷ rest)
 row-is d k a b c rest len = by-kind d (k ∷ a ∷ b ∷ c ∷ rest) ∙ row-by d k a b c rest len
 
 -- kinds past the last
@@ -247,9 +247,9 @@ module _ (ws : List ℕ) (len : length ws ≡ 12) where
   unfolding table
   params-are c = ap (λ xs. paramWordsHold 4 c (drop 4 xs)) (listed 0 12 ws len) ∙ four-pairs c _ _ _ _ _ _ _ _
 
-  -- a row of twelve words is that of a kept node exactly when the words are kept
-  pub node-row : (d : Dag) → nodeHolds d (nodeOf ws) ≡ rowHolds (length (d .nodes)) (length (d .bodies)) ws
+  -- a row of twelve words is that of a node whose rules hold exactly when those of the words do
+  pub node-row : (d : Dag) → nodeHolds d (decodedNode ws) ≡ rowHolds (length (d .nodes)) (length (d .bodies)) ws
   unfolding table
   node-row d =
       let e = listed 0 12 ws len in
-      ap (λ xs. nodeHolds d (nodeOf xs)) e ∙ row-is d _ _ _ _ _ refl ∙ ap (rowHolds (length (d .nodes)) (length (d .bodies))) (sym e)
+      ap (λ xs. nodeHolds d (decodedNode xs)) e ∙ row-is d _ _ _ _ _ refl ∙ ap (rowHolds (length (d .nodes)) (length (d .bodies))) (sym e)

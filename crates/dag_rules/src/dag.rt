@@ -7,11 +7,11 @@ ghost use Rattle.job.specs.Node.{nodeHolds, bodyHolds, dagHolds};
 ghost use Rattle.job.specs.Words.{dagOf};
 use crate::row::row_holds;
 use job::dag::DEFINITION_COUNT;
-use job::dag::DEFINITIONS;
+use job::dag::DEFINITIONS_START;
 use job::dag::GOAL;
-use job::dag::HEAD;
+use job::dag::HEAD_WORDS;
 use job::dag::NODE_COUNT;
-use job::dag::ROW;
+use job::dag::ROW_WORDS;
 use job::dag::WORDS;
 
 // Where each definition's body begins, and its count of formals.
@@ -24,7 +24,7 @@ fn bodies_hold(dag: &[u32]) -> bool
     let mut ok = true;
     let mut i = 0;
     while i < bodies {
-        let at = DEFINITIONS + 2 * i;
+        let at = DEFINITIONS_START + 2 * i;
         let holds = (dag[at] < nodes) & (dag[at + 1] <= 4);
         ok = ok & holds;
         i += 1;
@@ -43,8 +43,8 @@ fn nodes_hold(dag: &[u32]) -> bool
     let mut ok = true;
     let mut i = 0;
     while i < count {
-        let at = HEAD + ROW * i;
-        let end = at + ROW;
+        let at = HEAD_WORDS + ROW_WORDS * i;
+        let end = at + ROW_WORDS;
         ok = ok & row_holds(&dag[at..end], nodes, bodies);
         i += 1;
     }

@@ -1,14 +1,14 @@
 // The index rules of one node of a dag: of its row of twelve words.
 ghost use mathlib.Core.Path.{_≡_};
 ghost use lib.ListN.{length, drop};
-ghost use Rattle.dag_rules.specs.Rows.{pairHolds, paramWordsHold, headHolds, countOf, rowHolds};
+ghost use Rattle.dag_rules.specs.NodeWordRules.{pairHolds, paramWordsHold, headHolds, countOf, rowHolds};
 use job::dag::ASSIGN;
 use job::dag::CALL;
 use job::dag::CHOKE;
 use job::dag::CONSTANT;
 use job::dag::FORK;
-use job::dag::NAMED;
-use job::dag::NEXT;
+use job::dag::NAMED_NUMBER;
+use job::dag::NEXT_NODE;
 use job::dag::PARAMETER_COUNT;
 use job::dag::PUBLISH;
 use job::dag::REMOVE;
@@ -17,7 +17,7 @@ use job::dag::SITE;
 use job::dag::STOP;
 use job::dag::VARIABLE;
 use job::dag::WHERE;
-use job::sites::takes;
+use job::site_parameters::takes;
 
 // Two words at a parameter's place: those of a parameter if the node has one there, else 0.
 fn pair_holds(named: bool, kind: u32, word: u32) -> bool
@@ -81,6 +81,6 @@ pub fn row_holds(row: &[u32], nodes: u32, bodies: u32) -> bool
 {
     let kind = row[0];
     let c = row[PARAMETER_COUNT];
-    let head = head_holds(nodes, bodies, kind, row[NAMED], row[NEXT], c);
+    let head = head_holds(nodes, bodies, kind, row[NAMED_NUMBER], row[NEXT_NODE], c);
     head & params_hold(row, count_of(kind, c))
 }

@@ -41,8 +41,8 @@ use Rattle.model.proofs.Keeps.Orders.{Orders, queue-is, waits-are, orders-with,
 use Rattle.model.proofs.Keeps.Orders.{orders-put, orders-enqueue, orders-token, orders-cell}
 use Rattle.demand3.proofs.Values.{held-fits, LookUpFits, found, look-fits, ReplyFits, said, nothing, builtin-fits}
 use Rattle.demand3.proofs.Looking.{look-unset}
-use Rattle.model.proofs.Keeps.Tables.{BindsFit, binds-written, formals-fit, Awaits, awaits-as, TokenKept, Tables, Idle}
-use Rattle.model.proofs.Keeps.Tables.{idle-kept, blank-kept, tables-write, tables-wait, tables-call, tables-cell, tables-choke}
+use Rattle.model.proofs.Keeps.Tables.{BindsFit, binds-written, formals-fit, Awaits, awaits-as, TokenHolds, Tables, Idle}
+use Rattle.model.proofs.Keeps.Tables.{idle-holds, blank-holds, tables-write, tables-wait, tables-call, tables-cell, tables-choke}
 use Rattle.model.proofs.Keeps.Facts.{Facts}
 
 not-live-ready : (s : State) → isLive s ≡ false → isReady s ≡ false
@@ -88,7 +88,7 @@ module _ (lim : Limits) (d : Dag) (m : Machine) (F : Facts lim d m) (some : 0 < 
   Keeps = After (Facts lim d)
 
   abbrev Good : Token → Type 0
-  Good u = TokenKept d (m .cells) (m .calls) u
+  Good u = TokenHolds d (m .cells) (m .calls) u
 
   inside : p < length (m .tokens)
   inside = taken-inside T
@@ -101,7 +101,7 @@ module _ (lim : Limits) (d : Dag) (m : Machine) (F : Facts lim d m) (some : 0 < 
 
   -- the token, with a node, a value and bindings of another, ready or a frame
   going : {u : Token} → u .node < length (d .nodes) → heldInRange (u .value) ≡ true → BindsFit (u .binds) → Idle (u .state) → Good u
-  going n v b i = idle-kept n v b i
+  going n v b i = idle-holds n v b i
 
   ready-idle : {s : State} → s ≡ states.Ready → Idle s
   ready-idle e = subst Idle (sym e) Idle.ready
@@ -140,7 +140,7 @@ module _ (lim : Limits) (d : Dag) (m : Machine) (F : Facts lim d m) (some : 0 < 
         waits = waits;
         orders = orders-put begun p blankToken;
         lines = lines-gone T blankToken refl refl;
-        tables = tables-write (F .tables) p blankToken inside (blank-kept some) Idle.blank;
+        tables = tables-write (F .tables) p blankToken inside (blank-holds some) Idle.blank;
       }
 
   -- a second place
@@ -152,8 +152,8 @@ module _ (lim : Limits) (d : Dag) (m : Machine) (F : Facts lim d m) (some : 0 < 
     still : (u : Token) → tokenAt (set (m .tokens) p u) q ≡ tokenAt (m .tokens) q
     still u = token-other (m .tokens) p q u apart
 
-    beside : (u : Token) → q < length (set (m .tokens) p u)
-    beside u = let z = length-set (m .tokens) p u in let y = v .inside in omega arith
+    still-inside : (u : Token) → q < length (set (m .tokens) p u)
+    still-inside u = let z = length-set (m .tokens) p u in let y = v .inside in omega arith
 
     sizes : (u w : Token) → length (set (set (m .tokens) p u) q w) ≡ lim .tokenPlaces
     sizes u w = length-set (set (m .tokens) p u) q w ∙ (length-set (m .tokens) p u ∙ F .tokenPlaces)
@@ -164,12 +164,12 @@ module _ (lim : Limits) (d : Dag) (m : Machine) (F : Facts lim d m) (some : 0 < 
     second : (u : Token) {a b : List ℕ} (w : Token) → w .state ≡ states.Ready → Lines (set (m .tokens) p u) a b
         → Lines (set (set (m .tokens) p u) q w) (a ++ (q ∷ [])) b
     second u w s l =
-        lines-new q w (beside u)
+        lines-new q w (still-inside u)
         (ap (λ (t : Token). isReady (t .state)) (still u) ∙ not-live-ready _ (v .dead))
         (ap (λ (t : Token). isWaiting (t .state)) (still u) ∙ not-live-waiting _ (v .dead)) s l
 
     two : {u w : Token} → Good u → Idle (u .state) → Good w → Idle (w .state) → Tables d (set (set (m .tokens) p u) q w) (m .cells) (m .calls)
-    two {u} {w} a i b j = tables-write (tables-write (F .tables) p u inside a i) q w (beside u) b j
+    two {u} {w} a i b j = tables-write (tables-write (F .tables) p u inside a i) q w (still-inside u) b j
 
     forked : (l r : ℕ) → l < length (d .nodes) → r < length (d .nodes) → Keeps (Step.forked at p acting q l r)
     unfolding After Step.forked Step.enqueue Step.newToken Step.put Step.withTables withOrders Step.withCounts Step.withNode
@@ -193,7 +193,7 @@ module _ (lim : Limits) (d : Dag) (m : Machine) (F : Facts lim d m) (some : 0 < 
     unfolding
         After Step.entered Step.enqueue Step.newToken Step.put Step.withTables withOrders Step.withCounts Step.withNode Step.withState
         isReady isWaiting heldInRange
-    entered root ps k ir kept ik =
+    entered root ps k ir holds ik =
         record {
           tokenPlaces = sizes _ _;
           cellPlaces = F .cellPlaces;
@@ -206,7 +206,7 @@ module _ (lim : Limits) (d : Dag) (m : Machine) (F : Facts lim d m) (some : 0 < 
           lines = second frame callee refl (lines-gone T frame refl refl);
           tables =
               two (ahead k ik refl refl refl Idle.frame) Idle.frame
-              (going ir refl (formals-fit (acting .binds) ps kept (was .binds)) Idle.ready) Idle.ready;
+              (going ir refl (formals-fit (acting .binds) ps holds (was .binds)) Idle.ready) Idle.ready;
         }
       where
         frame : Token
@@ -321,7 +321,7 @@ module _ (lim : Limits) (d : Dag) (m : Machine) (F : Facts lim d m) (some : 0 < 
   -- "the first unset cell makes the token wait there"
   module _ (named : (x c : ℕ) → slotAt (acting .binds) x ≡ slots.Cell c → c < length (m .cells))
       (s : ℕ) (ps : List Param) (k : ℕ) (node : nodeAt d (acting .node) ≡ Node.site s ps k)
-      (kept : all paramHolds ps ≡ true) (next : k < length (d .nodes)) where
+      (holds : all paramHolds ps ≡ true) (next : k < length (d .nodes)) where
     called : (vs : List ℤ) → All Signed32 vs → (b : Bool)
         → Keeps
         (elim b [
@@ -351,7 +351,7 @@ module _ (lim : Limits) (d : Dag) (m : Machine) (F : Facts lim d m) (some : 0 < 
     callSite (values vs) e (found a) = called vs a (isBuiltin s)
 
     looked : Keeps (Step.callSite lim d at p acting s k (look (m .cells) (acting .binds) ps))
-    looked = callSite _ refl (look-fits (m .cells) (acting .binds) (was .binds) (F .tables .cells) ps kept)
+    looked = callSite _ refl (look-fits (m .cells) (acting .binds) (was .binds) (F .tables .cells) ps holds)
 
   returned : (f : Place) → Keeps (Step.returned at p acting f)
   unfolding After Step.returned withOrders Step.withState Step.withValue
@@ -360,7 +360,7 @@ module _ (lim : Limits) (d : Dag) (m : Machine) (F : Facts lim d m) (some : 0 < 
       let fr = F .tables .tokens f in goes-on _ (going (fr .node) (was .value) (fr .binds) Idle.ready) refl
 
   chokes : (c : Place) → acting .cell ≡ c → ((b : ℕ) → c ≡ places.At b → b < length (m .cells)) → Keeps (Step.chokeAt at p acting c)
-  unfolding After Step.chokeAt Step.choked Step.withTables withOrders
+  unfolding After Step.chokeAt Step.afterChoke Step.withTables withOrders
   chokes places.Nowhere e i = tt
   chokes (places.At c) e i =
       record {

@@ -57,7 +57,7 @@ pub record Blocked (d : Dag) (m : Machine) (p : ℕ) : Type 0 where
 
 -- what a record needs so that it can follow
 pub record Ready (lim : Limits) (d : Dag) (m : Machine) : Type 0 where
-  pub kept : rulesHold lim d m ≡ true
+  pub holds : rulesHold lim d m ≡ true
   pub room : Room lim d m
   pub blocked : (p c : ℕ) → tokenAt (m .tokens) p .state ≡ states.Waiting c → Blocked d m p
 
@@ -98,7 +98,7 @@ module _ (lim : Limits) (d : Dag) (M : Labels) (bodies : ℕ → Exp) (fits : Fi
 
   flow-at : {n : ℕ} {B : List Binding} {F : List Frame} {U : List ℕ} (p : ℕ) → p < length (m .tokens)
       → PlaceSeen W M (tokenAt (m .tokens) p) n B F U → FlowAt d M n (nodeAt d n)
-  flow-at {n} p l z = flow .at n (subst (λ i. i < length (d .nodes)) (z .node) (at-node lim d m (ok .kept) p l))
+  flow-at {n} p l z = flow .at n (subst (λ i. i < length (d .nodes)) (z .node) (at-node lim d m (ok .holds) p l))
 
   -- a waiting token stays
   idle : {n : ℕ} {B : List Binding} {F : List Frame} {U : List ℕ} {v : ℤ} (p : ℕ) → p < length (m .tokens) → Blocked d m p
@@ -132,7 +132,7 @@ module _ (lim : Limits) (d : Dag) (M : Labels) (bodies : ℕ → Exp) (fits : Fi
 
   step-does : (k : ℕ) → k < m .queued → Step.step lim d m k ≡ outcome m (takes lim d m k)
   unfolding Step.step unless
-  step-does k l = rw (ok .kept, lt-ltb k (m .queued) l, unless) refl
+  step-does k l = rw (ok .holds, lt-ltb k (m .queued) l, unless) refl
 
   module _ {L R : List Abstract.Token} {n : ℕ} {B : List Binding} {F : List Frame} {U : List ℕ} {v : ℤ} where
     takes-accepted : (k : ℕ) → k < m .queued → Acting M W (getD (m .queue) k 0) L R n B F U v → Accepted m (takes lim d m k)
@@ -150,19 +150,19 @@ module _ (lim : Limits) (d : Dag) (M : Labels) (bodies : ℕ → Exp) (fits : Fi
         let fine = takes-accepted k l acting in
         let both =
         shown-by M W L R (m .calls) (Abstract.act G σ new (m .calls) (at n B F U) v) k m (takes lim d m k)
-        (takes-agrees lim d M bodies fits flow m k (ok .kept) l acting) fine in
+        (takes-agrees lim d M bodies fits flow m k (ok .holds) l acting) fine in
         calls (step k) (ap (λ (o : Outcome). isRefused (o .reply)) o ∙ fine) (ap (eventsBy (step k)) o ∙ both .0)
         (subst (λ (o : Outcome). Sees M (o .machine) (after L R σ new (m .calls) (Abstract.act G σ new (m .calls) (at n B F U) v))) (sym o) (both .1))
 
     follow-ready : (p : ℕ) → Acting M W p L R n B F U v → FollowedBy L R (Abstract.act G σ new (m .calls) (at n B F U) v)
     follow-ready p acting =
-        let i = queue-index lim d m (ok .kept) p (acting-inside (acting .others)) (acting .state) in
+        let i = queue-index lim d m (ok .holds) p (acting-inside (acting .others)) (acting .state) in
         ready-at (i .0) (i .1) (subst (λ p. Acting M W p L R n B F U v) (sym (i .2)) acting)
 
   answer-does : (h p : ℕ) (w : ℤ) → tokenAt (m .tokens) p .state ≡ states.Called h
       → Answer.answer lim d m h w ≡ outcome m (answered m w (places.At p))
   unfolding Answer.answer unless
-  answer-does h p w e = rw (ok .kept, open-holder lim d m (ok .kept) h p e, unless) refl
+  answer-does h p w e = rw (ok .holds, open-holder lim d m (ok .holds) h p e, unless) refl
 
   follow-called : {L R : List Abstract.Token} {n : ℕ} {B : List Binding} {F : List Frame} {U : List ℕ}
       (p h : ℕ) (w : ℤ) (signed : Signed32 w) → tokenAt (m .tokens) p .state ≡ states.Called h

@@ -17,7 +17,7 @@ use Rattle.model.specs.declared.token.State.the-variants as states
 use Rattle.model.specs.declared.token.Token.{Token}
 use Rattle.model.specs.declared.record.Machine.{Machine}
 use Rattle.job.proofs.Test.{all-at}
-use Rattle.model.proofs.Machine.Rules.{rules-kept}
+use Rattle.model.proofs.Machine.Rules.{each-rule-holds}
 use Rattle.simulation.proofs.Machine as Abstract
 use Rattle.model.proofs.Sees.Labels.{Labels, Flow}
 use Rattle.model.proofs.Sees.Sees.{live-inside}
@@ -49,7 +49,7 @@ module _ (lim : Limits) (d : Dag) (M : Labels) (room : Roomy lim) (flow : Flow d
       rule : nodeRule (m .tokens) t (nodeAt d (t .node)) ≡ true
       rule =
           at-rule d (m .tokens) t (ap isBlankState e)
-          (all-at (atNode d (m .tokens)) (m .tokens) p blankToken (rules-kept lim d m (reached-rules lim d M room flow dag r) .nodes) inside)
+          (all-at (atNode d (m .tokens)) (m .tokens) p blankToken (each-rule-holds lim d m (reached-rules lim d M room flow dag r) .nodes) inside)
 
       found : (a : ℕ) × (look (m .cells) (t .binds) (b .params) ≡ unset a)
       found =
@@ -58,7 +58,7 @@ module _ (lim : Limits) (d : Dag) (M : Labels) (room : Roomy lim) (flow : Flow d
 
   -- a record of a run that has room can follow the abstract machine
   pub reached-ready : {m : Machine} {s : Abstract.State} → Reached lim d M m s → Room lim d m → Ready lim d m
-  reached-ready r space = record { kept = reached-rules lim d M room flow dag r; room = space; blocked = waiting-blocked r }
+  reached-ready r space = record { holds = reached-rules lim d M room flow dag r; room = space; blocked = waiting-blocked r }
 
   pub in-run-ready : {m : Machine} → InRun lim d M m → Room lim d m → Ready lim d m
   in-run-ready (seenWith s r) space = reached-ready r space

@@ -17,7 +17,7 @@ use Rattle.model.specs.Machine.Blank.{empty, blankToken, tokenAt, slotAt, hasVa
 use Rattle.model.specs.Machine.Active.{isSet}
 use Rattle.model.specs.Machine.State.{isLive}
 use Rattle.model.specs.Machine.InUse.{tokensUsed, cellsUsed, sweep}
-use Rattle.model.specs.Machine.Places.{nextPlace}
+use Rattle.model.specs.Machine.FreePlace.{nextPlace}
 use Rattle.model.specs.Machine.Rules.{rulesHold}
 use Rattle.model.specs.Machine.Step.{withNode, withBinding, withValue, inCell, withState, withTables, withOrders, withCounts}
 use Rattle.model.specs.Machine.Step.{put, enqueue, newToken, newCell, hasTokenPlace, hasCellPlace}
@@ -32,7 +32,7 @@ use Rattle.model.specs.declared.token.Token.{Token}
 use Rattle.model.specs.declared.record.Machine.{Machine}
 use Rattle.job.proofs.Test.{clash}
 use Rattle.model.proofs.Machine.Marks.{Free, marks-same, marks-added, marks-removed}
-use Rattle.model.proofs.Machine.Rules.{RulesKept, rules-kept}
+use Rattle.model.proofs.Machine.Rules.{EachRuleHolds, each-rule-holds}
 use Rattle.model.proofs.Machine.Inside.{Fits, fits-blank, With, tokens-inside, cells-inside}
 use Rattle.model.proofs.Machine.Writes.{fits-same, fits-binding}
 use Rattle.model.proofs.Machine.Used.{Used, UsedCell, InsideUsed, used-fits, used-parent, tokens-size, cells-size, live-used}
@@ -119,12 +119,12 @@ module _ {m o : Machine} {p : ℕ} (clean : Clean m) where
         cells = cells-added (a .0) c h (a .1 .1 .1);
       }
 
-module _ (lim : Limits) (d : Dag) (m : Machine) (kept : rulesHold lim d m ≡ true) where
-  rules : RulesKept lim d m
-  rules = rules-kept lim d m kept
+module _ (lim : Limits) (d : Dag) (m : Machine) (holds : rulesHold lim d m ≡ true) where
+  rules : EachRuleHolds lim d m
+  rules = each-rule-holds lim d m holds
 
   clean : Clean m
-  clean = rules-clean lim d m kept
+  clean = rules-clean lim d m holds
 
   -- a live token goes on as u, with the same links
   module _ (p : ℕ) (live : isLive (tokenAt (m .tokens) p .state) ≡ true) where
@@ -142,7 +142,7 @@ module _ (lim : Limits) (d : Dag) (m : Machine) (kept : rulesHold lim d m ≡ tr
     links-carried o u tokens cells alive caller cell binds =
         same-carried clean
         (subst₂ (InsideUsed m (Used m) (UsedCell m)) (sym tokens) (sym cells) (writes u (fits-same caller cell binds (used-fits m p inUse))))
-        (same-adds lim d m kept p live o u tokens cells alive caller cell binds)
+        (same-adds lim d m holds p live o u tokens cells alive caller cell binds)
 
   -- The instructions; the machines are those of Instructions
   module _ (place : ℕ) (queued : place < m .queued) (p : ℕ) (token : p ≡ getD (m .queue) place 0) where
@@ -150,7 +150,7 @@ module _ (lim : Limits) (d : Dag) (m : Machine) (kept : rulesHold lim d m ≡ tr
     t = tokenAt (m .tokens) p
 
     live : isLive (t .state) ≡ true
-    live = acting-live lim d m kept place queued p token
+    live = acting-live lim d m holds place queued p token
 
     used : Used m p
     used = inUse p live
@@ -179,7 +179,7 @@ module _ (lim : Limits) (d : Dag) (m : Machine) (kept : rulesHold lim d m ≡ tr
     rebound-carried x s next old is =
         same-carried clean
         (writes p live u (fits-same refl refl refl (fits-binding x s (λ c e. absurd (is c e)) (used-fits m p used))))
-        (keep-adds lim d m kept p live _ u refl refl live refl refl still)
+        (keep-adds lim d m holds p live _ u refl refl live refl refl still)
       where
         u : Token
         u = withNode next (withBinding x s t)
@@ -194,7 +194,7 @@ module _ (lim : Limits) (d : Dag) (m : Machine) (kept : rulesHold lim d m ≡ tr
     -- with room for a token, at the place q
     module _ (fits : Fitting lim) (room : hasTokenPlace lim d m ≡ true) (q : ℕ) (new : q ≡ nextPlace (tokensUsed m) (m .lasttoken)) where
       free : Free (tokensUsed m) q
-      free = place-free lim d m kept place queued p token fits room q new
+      free = place-free lim d m holds place queued p token fits room q new
 
       pub forked-carried : (left right : ℕ)
           → Carried (enqueue q (enqueue p (newToken q (withNode right t) (put p (withNode left t) (taken m place)))))
@@ -202,7 +202,7 @@ module _ (lim : Limits) (d : Dag) (m : Machine) (kept : rulesHold lim d m ≡ tr
       unfolding withOrders withCounts put withTables enqueue newToken withNode
       forked-carried left right =
           new-carried clean q (fork-inside lim d m rules p used q left right)
-          (fork-adds lim d m kept p live _ q (withNode left t) (withNode right t) refl free refl live refl live refl refl refl)
+          (fork-adds lim d m holds p live _ q (withNode left t) (withNode right t) refl free refl live refl live refl refl refl)
 
       pub entered-carried : (root : ℕ) (ps : List Param) (next : ℕ)
           → Carried (enqueue q (newToken q (callee p t root ps) (put p (withNode next (withState states.Frame t)) (taken m place))))
@@ -210,7 +210,7 @@ module _ (lim : Limits) (d : Dag) (m : Machine) (kept : rulesHold lim d m ≡ tr
       unfolding withOrders withCounts put withTables enqueue newToken withNode withState isLive
       entered-carried root ps next =
           new-carried clean q (call-inside lim d m rules p used q root ps next)
-          (call-adds lim d m kept p live _ q (withNode next (withState states.Frame t)) (callee p t root ps) refl free refl refl refl refl refl refl refl)
+          (call-adds lim d m holds p live _ q (withNode next (withState states.Frame t)) (callee p t root ps) refl free refl refl refl refl refl refl refl)
 
       pub split-carried : hasCellPlace lim d m ≡ true → (c : ℕ) → c ≡ nextPlace (cellsUsed m) (m .lastcell) → (x left right : ℕ)
           → Carried
@@ -222,17 +222,17 @@ module _ (lim : Limits) (d : Dag) (m : Machine) (kept : rulesHold lim d m ≡ tr
       unfolding withOrders withCounts put withTables enqueue newToken newCell withNode inCell withBinding isSet hasValue
       split-carried below c cell x left right =
           both-carried clean q c (split-inside lim d m rules p used q c x left right)
-          (split-adds lim d m kept p live _ q (withNode left (withBinding x (slots.Cell c) t)) (inCell c (withNode right t)) refl free c
+          (split-adds lim d m holds p live _ q (withNode left (withBinding x (slots.Cell c) t)) (inCell c (withNode right t)) refl free c
           (record { parent = t .cell; value = helds.Nothing }) refl vacant refl refl live refl live refl refl refl)
         where
           vacant : Free (cellsUsed m) c
-          vacant = cell-free lim d m kept place queued p token fits room q new below c cell
+          vacant = cell-free lim d m holds place queued p token fits room q new below c cell
 
     -- "the token ends": it names no caller and no cell
     module _ (caller : t .caller ≡ places.Nowhere) (cell : t .cell ≡ places.Nowhere) (binds : BindsNoCell t) where
       ends : Adds m (stopped m place p) p
       unfolding withOrders put withTables
-      ends = end-adds lim d m kept p live _ blankToken refl refl refl caller cell binds
+      ends = end-adds lim d m holds p live _ blankToken refl refl refl caller cell binds
 
       pub ended-whole : sweep (stopped m place p) ≡ stopped m place p
       ended-whole = clean-whole (stopped m place p) (adds-clean ends clean)

@@ -14,7 +14,7 @@ use Rattle.model.specs.Machine.Blank.{tokenAt, hasValue}
 use Rattle.model.specs.Machine.Active.{isSet}
 use Rattle.model.specs.Machine.State.{isLive}
 use Rattle.model.specs.Machine.InUse.{tokensUsed, cellsUsed}
-use Rattle.model.specs.Machine.Places.{nextPlace}
+use Rattle.model.specs.Machine.FreePlace.{nextPlace}
 use Rattle.model.specs.Machine.Rules.{rulesHold}
 use Rattle.model.specs.Machine.Step.{withNode, withBinding, withValue, inCell, withState, withTables, withOrders, withCounts, queueOf, waitsOf}
 use Rattle.model.specs.Machine.Step.{put, enqueue, newToken, newCell, hasTokenPlace, hasCellPlace}
@@ -28,7 +28,7 @@ use Rattle.model.specs.declared.record.Machine.{Machine}
 use Rattle.model.proofs.Machine.Marks.{Free}
 use Rattle.model.proofs.Machine.Rules.{ready-live}
 pub use Rattle.model.proofs.Machine.Acting.{callee}
-use Rattle.model.proofs.Run.Queue.{queue-kept}
+use Rattle.model.proofs.Run.Queue.{queue-rules-hold}
 use Rattle.model.proofs.Sees.Answering.{holder-called}
 use Rattle.model.proofs.Sees.Lockstep.{Fitting, free-token, free-cell}
 use Rattle.demand3.proofs.Unblanked.{Whole, same-links, fork-links, call-links, split-links}
@@ -37,7 +37,7 @@ use Rattle.demand3.proofs.Unblanked.{Whole, same-links, fork-links, cal
 abbrev pub taken : Machine → (place : ℕ) → Machine
 taken m place = withOrders (without place (queueOf m)) (waitsOf m) m
 
-module _ (lim : Limits) (d : Dag) (m : Machine) (kept : rulesHold lim d m ≡ true) where
+module _ (lim : Limits) (d : Dag) (m : Machine) (holds : rulesHold lim d m ≡ true) where
   -- the token t at p, which the queue has at a place, acts
   module _ (place : ℕ) (queued : place < m .queued) (p : ℕ) (token : p ≡ getD (m .queue) place 0) where
     abbrev t : Token
@@ -45,45 +45,45 @@ module _ (lim : Limits) (d : Dag) (m : Machine) (kept : rulesHold lim d m ≡ tr
 
     pub acting-live : isLive (t .state) ≡ true
     acting-live =
-        subst (λ i. isLive (tokenAt (m .tokens) i .state) ≡ true) (sym token) (ready-live _ (queue-kept lim d m kept .ready place queued))
+        subst (λ i. isLive (tokenAt (m .tokens) i .state) ≡ true) (sym token) (ready-live _ (queue-rules-hold lim d m holds .ready place queued))
 
     -- "the first unset cell makes the token wait there"; the orders may be any
     pub waited-whole : (c : ℕ) (queue waits : List ℕ) → Whole (withOrders queue waits (put p (withState (states.Waiting c) t) (taken m place)))
     unfolding withOrders put withTables withState isLive
-    waited-whole c queue waits = same-links lim d m kept p acting-live _ (withState (states.Waiting c) t) refl refl refl refl refl refl
+    waited-whole c queue waits = same-links lim d m holds p acting-live _ (withState (states.Waiting c) t) refl refl refl refl refl refl
 
     -- "the token is called out at the next node"; the handle and the counts may be any
     pub called-whole : (h next calls lasttoken lastcell : ℕ)
         → Whole (withCounts calls lasttoken lastcell (put p (withNode next (withState (states.Called h) t)) (taken m place)))
     unfolding withOrders withCounts put withTables withNode withState isLive
     called-whole h next calls lasttoken lastcell =
-        same-links lim d m kept p acting-live _ (withNode next (withState (states.Called h) t)) refl refl refl refl refl refl
+        same-links lim d m holds p acting-live _ (withNode next (withState (states.Called h) t)) refl refl refl refl refl refl
 
     -- "a built-in replies and the token goes on"
     pub replied-whole : (next : ℕ) (v : ℤ) → Whole (enqueue p (put p (withNode next (withValue (helds.Value v) t)) (taken m place)))
     unfolding withOrders put withTables enqueue withNode withValue
-    replied-whole next v = same-links lim d m kept p acting-live _ (withNode next (withValue (helds.Value v) t)) refl refl acting-live refl refl refl
+    replied-whole next v = same-links lim d m holds p acting-live _ (withNode next (withValue (helds.Value v) t)) refl refl acting-live refl refl refl
 
     -- with room for a token, at the place q
     module _ (fits : Fitting lim) (room : hasTokenPlace lim d m ≡ true) (q : ℕ) (new : q ≡ nextPlace (tokensUsed m) (m .lasttoken)) where
       pub place-free : Free (tokensUsed m) q
-      place-free = subst (Free (tokensUsed m)) (sym new) (free-token lim d m kept fits room)
+      place-free = subst (Free (tokensUsed m)) (sym new) (free-token lim d m holds fits room)
 
       pub cell-free : hasCellPlace lim d m ≡ true → (c : ℕ) → c ≡ nextPlace (cellsUsed m) (m .lastcell) → Free (cellsUsed m) c
-      cell-free below c cell = subst (Free (cellsUsed m)) (sym cell) (free-cell lim d m kept fits below)
+      cell-free below c cell = subst (Free (cellsUsed m)) (sym cell) (free-cell lim d m holds fits below)
 
       -- "left keeps the place, right is new"
       pub forked-whole : (left right : ℕ) → Whole (enqueue q (enqueue p (newToken q (withNode right t) (put p (withNode left t) (taken m place)))))
       unfolding withOrders withCounts put withTables enqueue newToken withNode
       forked-whole left right =
-          fork-links lim d m kept p acting-live _ q (withNode left t) (withNode right t) refl place-free refl acting-live refl acting-live refl refl refl
+          fork-links lim d m holds p acting-live _ q (withNode left t) (withNode right t) refl place-free refl acting-live refl acting-live refl refl refl
 
       -- "the token becomes a frame at next, the callee is new"
       pub entered-whole : (root : ℕ) (ps : List Param) (next : ℕ)
           → Whole (enqueue q (newToken q (callee p t root ps) (put p (withNode next (withState states.Frame t)) (taken m place))))
       unfolding withOrders withCounts put withTables enqueue newToken withNode withState isLive
       entered-whole root ps next =
-          call-links lim d m kept p acting-live _ q (withNode next (withState states.Frame t)) (callee p t root ps) refl place-free
+          call-links lim d m holds p acting-live _ q (withNode next (withState states.Frame t)) (callee p t root ps) refl place-free
           refl refl refl refl refl refl refl
 
       -- "left binds x to the new cell; right is new and belongs to it"
@@ -95,7 +95,7 @@ module _ (lim : Limits) (d : Dag) (m : Machine) (kept : rulesHold lim d m ≡ tr
           (newToken q (inCell c (withNode right t)) (put p (withNode left (withBinding x (slots.Cell c) t)) (taken m place))))))
       unfolding withOrders withCounts put withTables enqueue newToken newCell withNode inCell withBinding isSet hasValue
       split-whole below c cell x left right =
-          split-links lim d m kept p acting-live _ q (withNode left (withBinding x (slots.Cell c) t)) (inCell c (withNode right t)) refl place-free c
+          split-links lim d m holds p acting-live _ q (withNode left (withBinding x (slots.Cell c) t)) (inCell c (withNode right t)) refl place-free c
           (record { parent = t .cell; value = helds.Nothing }) refl (cell-free below c cell) refl refl acting-live refl acting-live refl refl refl
 
   -- "An answer gives its token the value and makes it ready"
@@ -103,5 +103,5 @@ module _ (lim : Limits) (d : Dag) (m : Machine) (kept : rulesHold lim d m ≡ tr
       → Whole (enqueue p (put p (withState states.Ready (withValue (helds.Value v) (tokenAt (m .tokens) p))) m))
   unfolding withOrders put withTables enqueue withState withValue isLive
   answered-whole handle v p found =
-      same-links lim d m kept p (ap isLive (holder-called handle (m .tokens) p found)) _
+      same-links lim d m holds p (ap isLive (holder-called handle (m .tokens) p found)) _
       (withState states.Ready (withValue (helds.Value v) (tokenAt (m .tokens) p))) refl refl refl refl refl refl

@@ -26,7 +26,7 @@ use Rattle.model.specs.declared.record.Machine.{Machine}
 use Rattle.model.specs.declared.reply.Outcome.{Outcome}
 use Rattle.job.proofs.Test.{lt-ltb}
 use Rattle.job.proofs.Accepted.{accepted-well-formed}
-use Rattle.job.proofs.Kept.{construct-kept}
+use Rattle.job.proofs.DagHolds.{construct-holds}
 use Rattle.model.proofs.Machine.Started.{start-machine}
 use Rattle.model.proofs.Machine.Begin.{start-one-token, start-no-cell}
 use Rattle.demand3.proofs.Larger.{UsedAtMost, step-adds, answer-adds}
@@ -148,7 +148,7 @@ module _ (p : Program) (w : WellFormed p) {events : List Event} {s : Abstract.St
       flow = construct-flows p w
 
       dag : dagHolds d ≡ true
-      dag = construct-kept p w
+      dag = construct-holds p w
 
       begun : Reached lim d M m (startAt (d .goal))
       begun = start-reached lim d M room flow dag

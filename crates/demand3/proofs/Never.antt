@@ -17,7 +17,7 @@ use Rattle.calculus.specs.Meaning.{meaning}
 use Rattle.model.specs.Run.Call.{Call, runner, outcomeOf, machineAfter, started}
 use Rattle.model.specs.declared.reply.Refusal.the-variants as refusals
 use Rattle.model.specs.declared.reply.Reply.the-variants as replies
-use Rattle.job.proofs.Kept.{construct-kept}
+use Rattle.job.proofs.DagHolds.{construct-holds}
 use Rattle.job.proofs.Accepted.{accepted-well-formed}
 use Rattle.model.proofs.Sees.Labelling.{labelsOf}
 use Rattle.model.proofs.Sees.Flowing.{construct-flows}
@@ -36,13 +36,13 @@ module _ (lim : Limits) (room : Roomy lim) (table : List ℕ) (p : Program) (rea
   pub run-reached : (calls : List Call)
       → InRun lim (construct p) (labelsOf p) (machineAfter runner lim (construct p) (started runner lim (construct p)) calls)
   run-reached calls =
-      calls-in-run lim d (labelsOf p) room (construct-flows p good) (construct-kept p good) (meaning p .body) calls _
-      (start-in-run lim d (labelsOf p) room (construct-flows p good) (construct-kept p good) (meaning p .body))
+      calls-in-run lim d (labelsOf p) room (construct-flows p good) (construct-holds p good) (meaning p .body) calls _
+      (start-in-run lim d (labelsOf p) room (construct-flows p good) (construct-holds p good) (meaning p .body))
 
   -- the index rules hold of every record of a run
   pub run-rules : (calls : List Call)
       → rulesHold lim (construct p) (machineAfter runner lim (construct p) (started runner lim (construct p)) calls) ≡ true
-  run-rules calls = in-run-rules lim d (labelsOf p) room (construct-flows p good) (construct-kept p good) (meaning p .body) (run-reached calls)
+  run-rules calls = in-run-rules lim d (labelsOf p) room (construct-flows p good) (construct-holds p good) (meaning p .body) (run-reached calls)
 
   -- no call of a run is refused with 14
   pub never-14 : (earlier : List Call) (c : Call)
@@ -54,4 +54,4 @@ module _ (lim : Limits) (room : Roomy lim) (table : List ℕ) (p : Program) (rea
   -- and the start is accepted
   pub start-done : start lim (construct p) .reply ≡ replies.Done
   unfolding start
-  start-done = rw (construct-kept p good, start) refl
+  start-done = rw (construct-holds p good, start) refl

@@ -31,8 +31,8 @@ use Rattle.model.specs.declared.reply.Refusal.the-variants as refusals
 use Rattle.model.specs.declared.reply.Reply.the-variants as replies
 use Rattle.job.proofs.Test.{clash, ltb-lt, and-left, all-at}
 use Rattle.job.proofs.Rules.{node-rules}
-use Rattle.model.proofs.Machine.Rules.{RulesKept, rules-kept}
-use Rattle.model.proofs.Run.Queue.{QueueKept, queue-kept}
+use Rattle.model.proofs.Machine.Rules.{EachRuleHolds, each-rule-holds}
+use Rattle.model.proofs.Run.Queue.{QueueRulesHold, queue-rules-hold}
 use Rattle.model.proofs.Sees.Lockstep.{at-node}
 
 -- an effect that is not a refusal with 14
@@ -130,20 +130,20 @@ ready-not-blank (states.Waiting c) e = refl
 ready-not-blank (states.Called h) e = refl
 ready-not-blank states.Frame e = refl
 
-module _ (lim : Limits) (d : Dag) (m : Machine) (kept : rulesHold lim d m ≡ true) where
+module _ (lim : Limits) (d : Dag) (m : Machine) (holds : rulesHold lim d m ≡ true) where
   takes-not : (k : ℕ) → k < m .queued → NotRule (takes lim d m k)
   unfolding takes tokenAt
   takes-not k l =
       act-not lim d m _ p t (m .tokens) (nodeAt d (t .node))
-      (node-rules d (t .node) (rules .dag) (at-node lim d m kept p (queue .named k l)))
+      (node-rules d (t .node) (rules .dag) (at-node lim d m holds p (queue .named k l)))
       (at-rule d (m .tokens) t (ready-not-blank _ (queue .ready k l))
       (all-at (atNode d (m .tokens)) (m .tokens) p blankToken (rules .nodes) (queue .named k l)))
     where
-      rules : RulesKept lim d m
-      rules = rules-kept lim d m kept
+      rules : EachRuleHolds lim d m
+      rules = each-rule-holds lim d m holds
 
-      queue : QueueKept m
-      queue = queue-kept lim d m kept
+      queue : QueueRulesHold m
+      queue = queue-rules-hold lim d m holds
 
       p : ℕ
       p = getD (m .queue) k 0
@@ -153,7 +153,7 @@ module _ (lim : Limits) (d : Dag) (m : Machine) (kept : rulesHold lim d m ≡ tr
 
   tested : (e : Effect) → NotRule e → NotRule (unless (rulesHold lim d m) refusals.Rule e)
   unfolding unless
-  tested e n = rw (kept, unless) n
+  tested e n = rw (holds, unless) n
 
   answered-not : (v : ℤ) (q : Place) → NotRule (answered m v q)
   unfolding NotRule answered

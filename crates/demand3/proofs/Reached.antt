@@ -56,7 +56,7 @@ use Rattle.model.proofs.Sees.Lockstep as Lockstep
 use Rattle.model.proofs.Sees.Lockstep.{free-token, free-cell, takes-agrees, eventsBy, Steps, steps, call-locks}
 use Rattle.model.proofs.Keeps.Lines.{Lines, Taken, take-out, taken-ready, lines-new}
 use Rattle.model.proofs.Keeps.Orders.{queue-is, waits-are, orders-put, orders-enqueue}
-use Rattle.model.proofs.Keeps.Tables.{Idle, idle-kept, tables-write}
+use Rattle.model.proofs.Keeps.Tables.{Idle, idle-holds, tables-write}
 use Rattle.model.proofs.Keeps.Facts.{Facts, start-facts, LiveUsed, finish-facts}
 use Rattle.demand3.proofs.Acts.{Vacant, acted}
 use Rattle.model.proofs.Keeps.Clean.{Clean, finish-clean, start-clean}
@@ -226,7 +226,7 @@ module _ (lim : Limits) (d : Dag) (M : Labels) (room : Roomy lim) (flow : Flow d
           orders = orders-enqueue (orders-put (F .orders) p u) p;
           lines = lines-new p u inside (ap isReady e) (ap isWaiting e) refl (F .lines);
           tables =
-              tables-write (F .tables) p u inside (idle-kept (F .tables .tokens p .node) fits (F .tables .tokens p .binds) Idle.ready) Idle.ready;
+              tables-write (F .tables) p u inside (idle-holds (F .tables .tokens p .node) fits (F .tables .tokens p .binds) Idle.ready) Idle.ready;
         }
       where
         u : Token

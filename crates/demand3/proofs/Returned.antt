@@ -27,7 +27,7 @@ use Rattle.model.proofs.Machine.Marks.{Marked, Free, free-inside, marks-same, m
 use Rattle.model.proofs.Machine.Reach.{Names}
 use Rattle.model.proofs.Machine.InUse.{CellsIn, token-outside}
 use Rattle.model.proofs.Machine.Kept.{length-kept, kept-marked, kept-free, kept-whole}
-use Rattle.model.proofs.Machine.Rules.{RulesKept, rules-kept}
+use Rattle.model.proofs.Machine.Rules.{EachRuleHolds, each-rule-holds}
 use Rattle.model.proofs.Machine.Inside.{Fits, active-live, tokens-inside, cells-inside}
 use Rattle.model.proofs.Machine.Writes.{fits-same}
 use Rattle.model.proofs.Machine.Used.{Used, UsedCell, InsideUsed, used-fits, used-parent, tokens-size, cells-size, lives-active, live-used}
@@ -51,7 +51,7 @@ pub record Returns (m o : Machine) (p f : ℕ) (u : Token) : Type 0 where
   pub sameCell : u .cell ≡ tokenAt (m .tokens) f .cell
   pub sameBinds : u .binds ≡ tokenAt (m .tokens) f .binds
 
-module _ (lim : Limits) (d : Dag) (m : Machine) (kept : rulesHold lim d m ≡ true) (o : Machine) (p f : ℕ) (u : Token) (r : Returns m o p f u)
+module _ (lim : Limits) (d : Dag) (m : Machine) (holds : rulesHold lim d m ≡ true) (o : Machine) (p f : ℕ) (u : Token) (r : Returns m o p f u)
     (cell : tokenAt (m .tokens) p .cell ≡ tokenAt (m .tokens) f .cell) (binds : BindsNoCell (tokenAt (m .tokens) p)) where
   abbrev t : Token
   t = tokenAt (m .tokens) p
@@ -59,11 +59,11 @@ module _ (lim : Limits) (d : Dag) (m : Machine) (kept : rulesHold lim d m ≡ tr
   abbrev g : Token
   g = tokenAt (m .tokens) f
 
-  rules : RulesKept lim d m
-  rules = rules-kept lim d m kept
+  rules : EachRuleHolds lim d m
+  rules = each-rule-holds lim d m holds
 
   clean : Clean m
-  clean = rules-clean lim d m kept
+  clean = rules-clean lim d m holds
 
   inUse : Used m p
   inUse = live-used lim d m rules p (r .live)

@@ -49,7 +49,7 @@ use Rattle.model.proofs.Sees.Slots.{variable-seen}
 use Rattle.demand3.proofs.Used.{Standing, standing, Named, named, used-stands, used-named}
 use Rattle.model.proofs.Sees.Within.{chain-short}
 use Rattle.model.proofs.Keeps.Orders.{queue-names, waits-name}
-use Rattle.model.proofs.Keeps.Tables.{BindsFit, TokenKept}
+use Rattle.model.proofs.Keeps.Tables.{BindsFit, TokenHolds}
 use Rattle.model.proofs.Keeps.Facts.{Facts}
 use Rattle.model.proofs.Keeps.Clean.{Clean, clean-tokens, clean-cells}
 
@@ -219,7 +219,7 @@ module _ (lim : Limits) (d : Dag) (M : Labels) (flow : Flow d M) (dag : dagHolds
   abbrev tok : ℕ → Token
   tok p = tokenAt (m .tokens) p
 
-  abbrev good : (p : ℕ) → TokenKept d (m .cells) (m .calls) (tok p)
+  abbrev good : (p : ℕ) → TokenHolds d (m .cells) (m .calls) (tok p)
   good p = X .tables .tokens p
 
   -- a test of each token: it is in use and so stands somewhere, or it is blank

@@ -24,7 +24,7 @@ use Rattle.model.specs.declared.token.State.the-variants as states
 use Rattle.model.specs.declared.token.Token.{Token}
 use Rattle.model.specs.declared.record.Machine.{Machine}
 use Rattle.job.proofs.Test.{clash, eqb-eq, eqb-same, or-left, or-right, and-left, and-right}
-use Rattle.model.proofs.Machine.Rules.{rules-kept, NamesOnce, names-once}
+use Rattle.model.proofs.Machine.Rules.{each-rule-holds, NamesOnce, names-once}
 use Rattle.simulation.proofs.Machine as Abstract
 use Rattle.simulation.proofs.Machine.{Binding, Frame, at, running, state}
 use Rattle.simulation.proofs.Shuffle.{Split}
@@ -93,9 +93,9 @@ order-index of ts array n p o l e =
 pub queue-index : (lim : Limits) (d : Dag) (m : Machine) → rulesHold lim d m ≡ true → (p : ℕ) → p < length (m .tokens)
     → tokenAt (m .tokens) p .state ≡ states.Ready → (k : ℕ) × (k < m .queued) × (getD (m .queue) k 0 ≡ p)
 unfolding isReady
-queue-index lim d m kept p l e =
+queue-index lim d m holds p l e =
     order-index isReady (m .tokens) (m .queue) (m .queued) p
-    (names-once isReady (m .tokens) (m .queue) (m .queued) (rules-kept lim d m kept .queue)) l (ap isReady e)
+    (names-once isReady (m .tokens) (m .queue) (m .queued) (each-rule-holds lim d m holds .queue)) l (ap isReady e)
 
 -- the holder of an open handle: no other token has it
 any-append-left : (test : ℕ → Bool) (xs ys : List ℕ) → any test xs ≡ true → any test (xs ++ ys) ≡ true
@@ -157,5 +157,5 @@ holder-finds h i (t ∷ ts) (suc p) u e =
 
 pub open-holder : (lim : Limits) (d : Dag) (m : Machine) → rulesHold lim d m ≡ true → (h p : ℕ)
     → tokenAt (m .tokens) p .state ≡ states.Called h → holder h 0 (m .tokens) ≡ places.At p
-open-holder lim d m kept h p e =
-    holder-finds h 0 (m .tokens) p (rules-kept lim d m kept .handles) e ∙ ap places.At (let z : 0 + p ≡ p = omega arith in z)
+open-holder lim d m holds h p e =
+    holder-finds h 0 (m .tokens) p (each-rule-holds lim d m holds .handles) e ∙ ap places.At (let z : 0 + p ≡ p = omega arith in z)

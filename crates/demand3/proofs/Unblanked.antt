@@ -36,7 +36,7 @@ use Rattle.model.proofs.Machine.Marks.{Marked, Free, free-inside}
 use Rattle.model.proofs.Machine.Reach.{Names, names-nowhere}
 use Rattle.model.proofs.Machine.InUse.{CellsIn}
 use Rattle.model.proofs.Machine.Kept.{kept-whole}
-use Rattle.model.proofs.Machine.Rules.{RulesKept, rules-kept}
+use Rattle.model.proofs.Machine.Rules.{EachRuleHolds, each-rule-holds}
 use Rattle.model.proofs.Machine.Inside.{Fits, live-active, active-live}
 use Rattle.model.proofs.Machine.Used.{Used, UsedCell, used-fits, used-parent, lives-active, live-used}
 use Rattle.model.proofs.Run.Chain.{unsetCell, blank-cell-clear, new-cell-clear}
@@ -120,10 +120,10 @@ blank-rest test (false ∷ marks) (x ∷ xs) b (suc i) e l f = blank-rest test m
 -- "what is not in use is blank"
 pub rules-clean : (lim : Limits) (d : Dag) (m : Machine) → rulesHold lim d m ≡ true → Clean m
 unfolding tokenAt cellAt
-rules-clean lim d m kept = record { tokens = tokens; cells = cells }
+rules-clean lim d m holds = record { tokens = tokens; cells = cells }
   where
-    rules : RulesKept lim d m
-    rules = rules-kept lim d m kept
+    rules : EachRuleHolds lim d m
+    rules = each-rule-holds lim d m holds
 
     eight : (p : ℕ) → p < length (m .tokens) → length (getD (m .tokens) p blankToken .binds) ≡ 8
     eight p l =
@@ -266,12 +266,12 @@ module _ {m o : Machine} {p : ℕ} (a : Adds m o p) where
       token i e (no n) = free-same (a .row i n) e ∙ was .tokens i (was-free i n e)
 
 -- The writes. The record m keeps the rules, and the token t at p is live
-module _ (lim : Limits) (d : Dag) (m : Machine) (kept : rulesHold lim d m ≡ true) (p : ℕ) (live : isLive (tokenAt (m .tokens) p .state) ≡ true) where
+module _ (lim : Limits) (d : Dag) (m : Machine) (holds : rulesHold lim d m ≡ true) (p : ℕ) (live : isLive (tokenAt (m .tokens) p .state) ≡ true) where
   abbrev t : Token
   t = tokenAt (m .tokens) p
 
-  rules : RulesKept lim d m
-  rules = rules-kept lim d m kept
+  rules : EachRuleHolds lim d m
+  rules = each-rule-holds lim d m holds
 
   inside : p < length (m .tokens)
   inside = live-inside (m .tokens) p live
@@ -283,7 +283,7 @@ module _ (lim : Limits) (d : Dag) (m : Machine) (kept : rulesHold lim d m ≡ tr
   under-none = active-clear (m .cells) t (lives-active lim d m rules p live)
 
   whole : (o : Machine) → Adds m o p → Whole o
-  whole o a = clean-whole o (adds-clean a (rules-clean lim d m kept))
+  whole o a = clean-whole o (adds-clean a (rules-clean lim d m holds))
 
   -- a token that has t's links, and may have others
   links : (o : Machine) (u : Token) → tokenAt (o .tokens) p ≡ u → Used o p → u .caller ≡ t .caller → u .cell ≡ t .cell
@@ -371,12 +371,12 @@ module _ (lim : Limits) (d : Dag) (m : Machine) (kept : rulesHold lim d m ≡ tr
         (after-write (set (m .tokens) p u) q v blankToken free used i)
 
     -- the cells are the same, and v is in t's cell
-    module _ (cells : o .cells ≡ m .cells) (alive : isLive (v .state) ≡ true) (beside : v .cell ≡ t .cell) where
+    module _ (cells : o .cells ≡ m .cells) (alive : isLive (v .state) ≡ true) (in-same-cell : v .cell ≡ t .cell) where
       clear-here : (w : Token) → w .cell ≡ t .cell → underSet (o .cells) (w .cell) ≡ false
       clear-here w e = same-clear o cells (w .cell) (ap (underSet (m .cells)) e ∙ under-none)
 
       new-used : Used o q
-      new-used = clear-used o q v second alive (clear-here v beside)
+      new-used = clear-used o q v second alive (clear-here v in-same-cell)
 
       new-adds : Used o p → u .caller ≡ t .caller → u .cell ≡ t .cell → u .binds ≡ t .binds → Adds m o p × (Used o p × Used o q)
       new-adds used caller cell binds = (
@@ -456,7 +456,7 @@ module _ (lim : Limits) (d : Dag) (m : Machine) (kept : rulesHold lim d m ≡ tr
             left = clear-used o p u first lives (clear-still (u .cell) (ap (underSet (m .cells)) cell ∙ under-none))
 
             was : underSet (m .cells) (places.At c) ≡ false
-            was = blank-cell-clear (m .cells) c (rules-clean lim d m kept .cells c vacant)
+            was = blank-cell-clear (m .cells) c (rules-clean lim d m holds .cells c vacant)
 
             right : Used o q
             right = clear-used o q v second alive (clear-still (v .cell) (ap (underSet (m .cells)) under ∙ was))

@@ -8,8 +8,8 @@ use native.Mathlib.Omega.{arith}
 use lib.ListN.{length, take, drop}
 use Rattle.job.specs.Number.{number, signed}
 use Rattle.job.specs.Words.{dagOf}
-use Rattle.model.specs.Lines.Line.{Line, textOfAll, end, limit}
-use Rattle.model.specs.Lines.Orcrun.{Standing, on, over, turn, turns, runLines}
+use Rattle.model.specs.Output.Line.{Line, textOfAll, end, limit}
+use Rattle.model.specs.Output.Orcrun.{Standing, on, over, turn, turnLines, runLines}
 use Rattle.model.specs.Machine.Limits.{paper}
 use Rattle.model.specs.Machine.Start as Start
 use Rattle.model.specs.Machine.Step as Step
@@ -18,7 +18,7 @@ use Rattle.model.specs.declared.record.Machine.{Machine}
 use Rattle.model.specs.declared.reply.Outcome.{Outcome}
 use Rattle.house.specs.Accepted.{Accepted}
 use Rattle.lines.specs.Ending.{lastLines}
-use Rattle.lines.specs.Shown.{Shows}
+use Rattle.lines.specs.Shown.{ShowsBytes}
 use Rattle.turns.specs.Turn.{isLast, isLimit, isOver, turnOutcome, nextAt, nextSteps}
 use Rattle.lines.proofs.Showing.{shows-none, shows-then, shows-as}
 use Rattle.lines.proofs.Telling.{text-append}
@@ -35,11 +35,11 @@ module _ (words rest before : List ℕ) (from : ℕ) where
     pub left : ℕ
     pub whole :
         textOfAll (runLines paper 100000 (dagOf words) rest)
-        ≡ printed ++ textOfAll (turns paper 100000 (dagOf words) left (standing rest m steps at))
+        ≡ printed ++ textOfAll (turnLines paper 100000 (dagOf words) left (standing rest m steps at))
     pub enough : (100000 - steps) + (length rest - at) < left
     pub few : steps ≤ 100000
     pub inside : at ≤ length rest
-    pub shows : Shows before from 0 printed output total
+    pub shows : ShowsBytes before from 0 printed output total
     pub room : total + 80 * left ≤ 13242960
 
   pub going-begins : Accepted words → (m : Machine) → length rest ≤ 65536 → m ≡ Start.start paper (dagOf words) .machine → Going m 0 0 0 before
@@ -50,7 +50,7 @@ module _ (words rest before : List ℕ) (from : ℕ) where
         reached = subst (Reached words A) (sym e) (reached-start words A);
         printed = [];
         left = 100000 + length rest + 1;
-        whole = ap (λ (u : Machine). textOfAll (turns paper 100000 (dagOf words) (100000 + length rest + 1) (standing rest u 0 0))) (sym e);
+        whole = ap (λ (u : Machine). textOfAll (turnLines paper 100000 (dagOf words) (100000 + length rest + 1) (standing rest u 0 0))) (sym e);
         enough = omega arith;
         few = omega arith;
         inside = omega arith;
@@ -60,21 +60,21 @@ module _ (words rest before : List ℕ) (from : ℕ) where
 
   -- the run goes on
   turns-on : (n : ℕ) (s t : Standing) (ls : List Line) → turn paper 100000 (dagOf words) s ≡ on ls t
-      → textOfAll (turns paper 100000 (dagOf words) (suc n) s) ≡ textOfAll ls ++ textOfAll (turns paper 100000 (dagOf words) n t)
-  unfolding turns
-  turns-on n s t ls e = rw (e, turns) (text-append ls (turns paper 100000 (dagOf words) n t))
+      → textOfAll (turnLines paper 100000 (dagOf words) (suc n) s) ≡ textOfAll ls ++ textOfAll (turnLines paper 100000 (dagOf words) n t)
+  unfolding turnLines
+  turns-on n s t ls e = rw (e, turnLines) (text-append ls (turnLines paper 100000 (dagOf words) n t))
 
   turns-over : (n : ℕ) (s : Standing) (ls : List Line) → turn paper 100000 (dagOf words) s ≡ over ls
-      → textOfAll (turns paper 100000 (dagOf words) (suc n) s) ≡ textOfAll ls
-  unfolding turns
-  turns-over n s ls e = rw (e, turns) refl
+      → textOfAll (turnLines paper 100000 (dagOf words) (suc n) s) ≡ textOfAll ls
+  unfolding turnLines
+  turns-over n s ls e = rw (e, turnLines) refl
 
   going-on : {m n : Machine} {steps at total steps′ at′ total′ : ℕ} {output output′ : List ℕ} (ls : List Line)
       → (G : Going m steps at total output) → Reached words (G .accepted) n
       → turn paper 100000 (dagOf words) (standing rest m steps at) ≡ on ls (standing rest n steps′ at′)
       → (100000 - steps′) + (length rest - at′) < (100000 - steps) + (length rest - at)
       → steps′ ≤ 100000 → at′ ≤ length rest
-      → Shows output from total (textOfAll ls) output′ total′ → total′ ≤ total + 80 → Going n steps′ at′ total′ output′
+      → ShowsBytes output from total (textOfAll ls) output′ total′ → total′ ≤ total + 80 → Going n steps′ at′ total′ output′
   going-on {m} {n} {steps} {at} {total} {steps′} {at′} {total′} {output} {output′} ls G r e less few inside s small = go (G .left) refl
     where
       go : (k : ℕ) → G .left ≡ k → Going n steps′ at′ total′ output′
@@ -89,9 +89,9 @@ module _ (words rest before : List ℕ) (from : ℕ) where
             left = k;
             whole =
                 G .whole
-                ∙ ap (λ (j : ℕ). G .printed ++ textOfAll (turns paper 100000 (dagOf words) j (standing rest m steps at))) z
+                ∙ ap (λ (j : ℕ). G .printed ++ textOfAll (turnLines paper 100000 (dagOf words) j (standing rest m steps at))) z
                 ∙ ap (λ (u : List ℕ). G .printed ++ u) (turns-on k (standing rest m steps at) (standing rest n steps′ at′) ls e)
-                ∙ sym (append-assoc (G .printed) (textOfAll ls) (textOfAll (turns paper 100000 (dagOf words) k (standing rest n steps′ at′))));
+                ∙ sym (append-assoc (G .printed) (textOfAll ls) (textOfAll (turnLines paper 100000 (dagOf words) k (standing rest n steps′ at′))));
             enough = omega arith;
             few = few;
             inside = inside;
@@ -102,21 +102,21 @@ module _ (words rest before : List ℕ) (from : ℕ) where
   -- the run is over
   going-over : {m : Machine} {steps at total n : ℕ} {output after : List ℕ} (ls : List Line) → Going m steps at total output
       → turn paper 100000 (dagOf words) (standing rest m steps at) ≡ over ls
-      → Shows output from total (textOfAll ls) after n → Shows before from 0 (textOfAll (runLines paper 100000 (dagOf words) rest)) after n
+      → ShowsBytes output from total (textOfAll ls) after n → ShowsBytes before from 0 (textOfAll (runLines paper 100000 (dagOf words) rest)) after n
   going-over {m} {steps} {at} ls G e s = shows-as (sym (go (G .left) refl)) (shows-then (G .shows) s)
     where
       go : (k : ℕ) → G .left ≡ k → textOfAll (runLines paper 100000 (dagOf words) rest) ≡ G .printed ++ textOfAll ls
       go zero z = let en = G .enough in absurd (omega arith)
       go (suc k) z =
           G .whole
-          ∙ ap (λ (j : ℕ). G .printed ++ textOfAll (turns paper 100000 (dagOf words) j (standing rest m steps at))) z
+          ∙ ap (λ (j : ℕ). G .printed ++ textOfAll (turnLines paper 100000 (dagOf words) j (standing rest m steps at))) z
           ∙ ap (λ (u : List ℕ). G .printed ++ u) (turns-over k (standing rest m steps at) ls e)
 
   -- each turn, by the tests that lead to it
   module _ {m : Machine} {steps at total : ℕ} {output : List ℕ} (G : Going m steps at total output) where
     pub going-last : {after : List ℕ} {n : ℕ} (b : Bool) → b ≡ isLast (m .queued) (length rest - at) → b ≡ true
-        → Shows output from total (textOfAll (lastLines (length rest - at) steps)) after n
-        → Shows before from 0 (textOfAll (runLines paper 100000 (dagOf words) rest)) after n
+        → ShowsBytes output from total (textOfAll (lastLines (length rest - at) steps)) after n
+        → ShowsBytes before from 0 (textOfAll (runLines paper 100000 (dagOf words) rest)) after n
     going-last b e t s =
         let is = last-is (m .queued) (length rest - at) (sym e ∙ t) in
         going-over _ G (turn-last (dagOf words) rest m steps at (is .0) (is .1)) s
@@ -126,8 +126,8 @@ module _ (words rest before : List ℕ) (from : ℕ) where
       there e = not-last (m .queued) (length rest - at) (sym last ∙ more) e
 
       pub going-limit : {after : List ℕ} {n : ℕ} (b : Bool) → b ≡ isLimit (m .queued) steps → b ≡ true
-          → Shows output from total (textOfAll (limit ∷ end steps ∷ [])) after n
-          → Shows before from 0 (textOfAll (runLines paper 100000 (dagOf words) rest)) after n
+          → ShowsBytes output from total (textOfAll (limit ∷ end steps ∷ [])) after n
+          → ShowsBytes before from 0 (textOfAll (runLines paper 100000 (dagOf words) rest)) after n
       going-limit b e t s =
           let is = limit-is (m .queued) steps (sym e ∙ t) in
           going-over _ G (turn-limit (dagOf words) rest m steps at (is .0) (is .1)) s
@@ -149,9 +149,9 @@ module _ (words rest before : List ℕ) (from : ℕ) where
         answered e = turned ∙ sym (turn-empty (dagOf words) m rest at _ e refl)
 
         -- "a refused step ends the run"
-        pub going-ends : {output′ after : List ℕ} {total′ n : ℕ} → b ≡ true → Shows output from total (textOfAll (linesFrom o)) output′ total′
-            → Shows output′ from total′ (textOfAll (end steps ∷ [])) after n
-            → Shows before from 0 (textOfAll (runLines paper 100000 (dagOf words) rest)) after n
+        pub going-ends : {output′ after : List ℕ} {total′ n : ℕ} → b ≡ true → ShowsBytes output from total (textOfAll (linesFrom o)) output′ total′
+            → ShowsBytes output′ from total′ (textOfAll (end steps ∷ [])) after n
+            → ShowsBytes before from 0 (textOfAll (runLines paper 100000 (dagOf words) rest)) after n
         going-ends t s u =
             let is = over-is (m .queued) (o .reply) (sym over-if ∙ t) in
             going-over _ G (turn-refused (dagOf words) rest m steps at o (is .0) (G .few) (under (is .0)) (stepped (is .0)) (is .1))
@@ -175,7 +175,7 @@ module _ (words rest before : List ℕ) (from : ℕ) where
                   let some = under f in
                   omega arith
 
-          pub going-turns : {output′ : List ℕ} {total′ : ℕ} → Shows output from total (textOfAll (linesFrom o)) output′ total′
+          pub going-turns : {output′ : List ℕ} {total′ : ℕ} → ShowsBytes output from total (textOfAll (linesFrom o)) output′ total′
               → total′ ≤ total + 80 → Going (o .machine) steps′ at′ total′ output′
           going-turns {output′} {total′} s small = go (empty-or-ready (m .queued))
             where

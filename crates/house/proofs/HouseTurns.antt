@@ -9,8 +9,8 @@ use lib.Seq.{drop-drop}
 use lib.Dec.{eqb}
 use Rattle.job.specs.Number.{number, signed}
 use Rattle.job.specs.Node.{Dag}
-use Rattle.model.specs.Lines.Line.{Line, end, limit, short}
-use Rattle.model.specs.Lines.Orcrun.{Standing, Turn, on, over, linesOf, stepTurn, deliverTurn, lastTurn, turn}
+use Rattle.model.specs.Output.Line.{Line, end, limit, short}
+use Rattle.model.specs.Output.Orcrun.{Standing, Turn, on, over, reportedLines, stepTurn, deliverTurn, lastTurn, turn}
 use Rattle.model.specs.Machine.Limits.{paper}
 use Rattle.model.specs.Machine.Reply.{reported, isRefused}
 use Rattle.model.specs.Machine.Step as Step
@@ -26,7 +26,7 @@ standing rest m steps at = record { machine = m; steps = steps; rest = drop at r
 
 -- the lines of an outcome
 abbrev pub linesFrom : Outcome → List Line
-linesFrom o = linesOf (reported (o .reply) (o .values))
+linesFrom o = reportedLines (reported (o .reply) (o .values))
 
 module _ (d : Dag) (rest : List ℕ) (m : Machine) (steps at : ℕ) where
   abbrev s : Standing

@@ -7,8 +7,8 @@ use Prim.Native.Nat.{ℕ, _+_, _-_, _<_, _≤_}
 use lib.IntN.{ℤ}
 use lib.ListN.{length, getD}
 use Rattle.job.specs.Words.{dagOf}
-use Rattle.model.specs.Lines.Line.{textOfAll, end, limit}
-use Rattle.model.specs.Lines.Orcrun.{runLines, linesOf}
+use Rattle.model.specs.Output.Line.{textOfAll, end, limit}
+use Rattle.model.specs.Output.Orcrun.{runLines, reportedLines}
 use Rattle.model.specs.Machine.Limits.{paper}
 use Rattle.model.specs.Machine.Reply.{reported}
 use Rattle.model.specs.Machine.Start as Start
@@ -18,10 +18,10 @@ use Rattle.model.specs.declared.reply.Outcome.{Outcome}
 use Rattle.model.specs.declared.reply.Reply.{Reply}
 use Rattle.model.specs.declared.reply.Report.{Report}
 use Rattle.record.specs.Holds.{Codes, Holds}
-use Rattle.acts.specs.Acting.{Some, Lawful, Marks, Gives}
+use Rattle.acts.specs.Acting.{SomeMachine, Lawful, Marks, Gives}
 use Rattle.house.specs.Accepted.{Accepted}
 use Rattle.lines.specs.Ending.{lastLines}
-use Rattle.lines.specs.Shown.{Shows}
+use Rattle.lines.specs.Shown.{ShowsBytes}
 use Rattle.turns.specs.Turn.{isLast, isLimit, isOver, turnOutcome, nextAt, nextSteps, Turning}
 use Rattle.house.proofs.Reached.{started, reached-start, reached-rules, reached-framed}
 use Rattle.house.proofs.HouseTurns.{linesFrom}
@@ -56,7 +56,7 @@ module _ (dag rest before : List ℕ) (from : ℕ) where
       }
 
   abbrev Whole : List ℕ → ℕ → Type 0
-  Whole after n = Shows before from 0 (textOfAll (runLines paper 100000 (dagOf dag) rest)) after n
+  Whole after n = ShowsBytes before from 0 (textOfAll (runLines paper 100000 (dagOf dag) rest)) after n
 
   -- each turn, by the tests that lead to it: `queued` is the count that the code has read
   module _ {ws : List ℕ} {used cells : List Bool} {steps at total : ℕ} {output : List ℕ} (L : Lent ws used cells steps at total output)
@@ -68,7 +68,7 @@ module _ (dag rest before : List ℕ) (from : ℕ) where
     last-of : l ≡ isLast (L .machine .queued) (length rest - at)
     last-of = last ∙ ap (λ (n : ℕ). isLast n (length rest - at)) queued-is
 
-    pub lent-last : {after : List ℕ} {n : ℕ} → l ≡ true → Shows output from total (textOfAll (lastLines (length rest - at) steps)) after n
+    pub lent-last : {after : List ℕ} {n : ℕ} → l ≡ true → ShowsBytes output from total (textOfAll (lastLines (length rest - at) steps)) after n
         → Whole after n
     lent-last t s = going-last dag rest before from (L .going) l last-of t s
 
@@ -80,14 +80,14 @@ module _ (dag rest before : List ℕ) (from : ℕ) where
       turning : Turning ws used cells dag rest at (L .machine)
       turning = record { lawful = L .lawful; there = going-there dag rest before from (L .going) l last-of more }
 
-      pub lent-turning : Some (Turning ws used cells dag rest at)
+      pub lent-turning : SomeMachine (Turning ws used cells dag rest at)
       lent-turning = record { machine = L .machine; is = turning }
 
       module _ (k : Bool) (limited : k ≡ isLimit queued steps) where
         limit-of : k ≡ isLimit (L .machine .queued) steps
         limit-of = limited ∙ ap (λ (n : ℕ). isLimit n steps) queued-is
 
-        pub lent-limit : {after : List ℕ} {n : ℕ} → k ≡ true → Shows output from total (textOfAll (limit ∷ end steps ∷ [])) after n
+        pub lent-limit : {after : List ℕ} {n : ℕ} → k ≡ true → ShowsBytes output from total (textOfAll (limit ∷ end steps ∷ [])) after n
             → Whole after n
         lent-limit t s = going-limit dag rest before from (L .going) l last-of more k limit-of t s
 
@@ -100,16 +100,16 @@ module _ (dag rest before : List ℕ) (from : ℕ) where
           over-of : b ≡ isOver (L .machine .queued) (turned .reply)
           over-of = over-if ∙ ap₂ isOver queued-is (given .reply)
 
-          lines-of : {output′ : List ℕ} {total′ : ℕ} → Shows output from total (textOfAll (linesOf (reported (r .reply) (r .values)))) output′ total′
-              → Shows output from total (textOfAll (linesFrom turned)) output′ total′
+          lines-of : {output′ : List ℕ} {total′ : ℕ} → ShowsBytes output from total (textOfAll (reportedLines (reported (r .reply) (r .values)))) output′ total′
+              → ShowsBytes output from total (textOfAll (linesFrom turned)) output′ total′
           lines-of {output′} {total′} s =
-              subst (λ (vs : List ℤ). Shows output from total (textOfAll (linesOf (reported (turned .reply) vs))) output′ total′)
+              subst (λ (vs : List ℤ). ShowsBytes output from total (textOfAll (reportedLines (reported (turned .reply) vs))) output′ total′)
               (given .values)
-              (subst (λ (p : Reply). Shows output from total (textOfAll (linesOf (reported p (r .values)))) output′ total′) (given .reply) s)
+              (subst (λ (p : Reply). ShowsBytes output from total (textOfAll (reportedLines (reported p (r .values)))) output′ total′) (given .reply) s)
 
           pub lent-ends : {output′ after : List ℕ} {total′ n : ℕ} → b ≡ true
-              → Shows output from total (textOfAll (linesOf (reported (r .reply) (r .values)))) output′ total′
-              → Shows output′ from total′ (textOfAll (end steps ∷ [])) after n → Whole after n
+              → ShowsBytes output from total (textOfAll (reportedLines (reported (r .reply) (r .values)))) output′ total′
+              → ShowsBytes output′ from total′ (textOfAll (end steps ∷ [])) after n → Whole after n
           lent-ends t s u =
               going-ends dag rest before from (L .going) l last-of more k limit-of free turned refl b over-of t (lines-of s) u
 
@@ -125,7 +125,7 @@ module _ (dag rest before : List ℕ) (from : ℕ) where
                 going-less dag rest before from (L .going) l last-of more k limit-of free turned refl b over-of on-if steps′ at′ to-of behind-of
 
             pub lent-turns : {output′ : List ℕ} {total′ : ℕ}
-                → Shows output from total (textOfAll (linesOf (reported (r .reply) (r .values)))) output′ total′ → total′ ≤ total + 80
+                → ShowsBytes output from total (textOfAll (reportedLines (reported (r .reply) (r .values)))) output′ total′ → total′ ≤ total + 80
                 → Lent ws′ used′ cells′ steps′ at′ total′ output′
             lent-turns s small =
                 let next =

@@ -20,14 +20,14 @@ use Rattle.model.specs.declared.record.Machine.{Machine}
 use Rattle.model.specs.declared.reply.Outcome.{Outcome}
 use Rattle.job.proofs.Number.{signed-fits}
 use Rattle.job.proofs.Accepted.{accepted-well-formed}
-use Rattle.job.proofs.Kept.{construct-kept}
+use Rattle.job.proofs.DagHolds.{construct-holds}
 use Rattle.model.proofs.Sees.Labels.{Flow}
 use Rattle.model.proofs.Sees.Labelling.{labelsOf}
 use Rattle.model.proofs.Sees.Flowing.{construct-flows}
 use Rattle.demand3.proofs.Reached.{paper-roomy}
 use Rattle.demand3.proofs.Runs.{InRun, start-in-run, call-in-run, in-run-rules}
 use Rattle.demand3.proofs.Framed.{in-run-framed}
-use Rattle.acts.specs.Acting.{Framed}
+use Rattle.acts.specs.Acting.{CallersAreFrames}
 use Rattle.house.specs.Accepted.{Accepted}
 
 module _ (words : List ℕ) (A : Accepted words) where
@@ -37,13 +37,13 @@ module _ (words : List ℕ) (A : Accepted words) where
   good : WellFormed (A .program)
   good = accepted-well-formed (A .table) (A .program) (A .read)
 
-  pub dag-kept : dagHolds (dagOf words) ≡ true
-  dag-kept = ap dagHolds (A .holds) ∙ construct-kept (A .program) good
+  pub dag-holds : dagHolds (dagOf words) ≡ true
+  dag-holds = ap dagHolds (A .holds) ∙ construct-holds (A .program) good
 
   -- the record that the code starts with
   pub started : startMachine paper (getD words 2 0) ≡ Start.start paper (dagOf words) .machine
   unfolding start dagOf
-  started = rw (dag-kept, start) refl
+  started = rw (dag-holds, start) refl
 
   flows : Flow (dagOf words) (labelsOf (A .program))
   flows = subst (λ e. Flow e (labelsOf (A .program))) (sym (A .holds)) (construct-flows (A .program) good)
@@ -53,22 +53,22 @@ module _ (words : List ℕ) (A : Accepted words) where
   Reached m = InRun paper (dagOf words) (labelsOf (A .program)) m
 
   pub reached-start : Reached (Start.start paper (dagOf words) .machine)
-  reached-start = start-in-run paper d (labelsOf (A .program)) paper-roomy flows dag-kept (meaning (A .program) .body)
+  reached-start = start-in-run paper d (labelsOf (A .program)) paper-roomy flows dag-holds (meaning (A .program) .body)
 
   pub reached-step : (m : Machine) (place : ℕ) → Reached m → Reached (Step.step paper (dagOf words) m place .machine)
   unfolding outcomeOf
-  reached-step m place r = call-in-run paper d (labelsOf (A .program)) paper-roomy flows dag-kept (meaning (A .program) .body) m (step place) r
+  reached-step m place r = call-in-run paper d (labelsOf (A .program)) paper-roomy flows dag-holds (meaning (A .program) .body) m (step place) r
 
   pub reached-answer : (m : Machine) (h w : ℕ) → Reached m → Reached (Answer.answer paper (dagOf words) m h (signed w) .machine)
   unfolding outcomeOf
   reached-answer m h w r =
-      call-in-run paper d (labelsOf (A .program)) paper-roomy flows dag-kept (meaning (A .program) .body) m (answer h (signed w) (signed-fits w)) r
+      call-in-run paper d (labelsOf (A .program)) paper-roomy flows dag-holds (meaning (A .program) .body) m (answer h (signed w) (signed-fits w)) r
 
-  pub reached-framed : {m : Machine} → Reached m → Framed m
+  pub reached-framed : {m : Machine} → Reached m → CallersAreFrames m
   reached-framed r = in-run-framed r
 
   pub reached-rules : {m : Machine} → Reached m → rulesHold paper (dagOf words) m ≡ true
-  reached-rules r = in-run-rules paper d (labelsOf (A .program)) paper-roomy flows dag-kept (meaning (A .program) .body) r
+  reached-rules r = in-run-rules paper d (labelsOf (A .program)) paper-roomy flows dag-holds (meaning (A .program) .body) r
 
 module _ (words : List ℕ) (A : Accepted words) (m : Machine) (o : Outcome) where
   pub reached-by-step : Reached words A m → o ≡ Step.step paper (dagOf words) m 0 → Reached words A (o .machine)

@@ -1,23 +1,23 @@
-// A house run: "it runs house order; with the queue empty it delivers a record". Its records are those of a run, so their index rules are kept and are
+// A house run: "it runs house order; with the queue empty it delivers a record". Its records are those of a run, so their index rules hold and are
 // not tested again at each step.
 ghost use mathlib.Core.Path.{_≡_};
 ghost use Prim.Native.Nat.{_≤_};
 ghost use lib.ListN.{length};
 ghost use Rattle.job.specs.Words.{dagOf};
-ghost use Rattle.model.specs.Lines.Line.{textOfAll};
-ghost use Rattle.model.specs.Lines.Orcrun.{runLines};
+ghost use Rattle.model.specs.Output.Line.{textOfAll};
+ghost use Rattle.model.specs.Output.Orcrun.{runLines};
 ghost use Rattle.model.specs.Machine.Limits.{paper};
 ghost use Rattle.model.specs.Machine.Start as Start;
 ghost use Rattle.acts.specs.Acting.{Lawful};
-ghost use Rattle.lines.specs.Shown.{Shows};
+ghost use Rattle.lines.specs.Shown.{ShowsBytes};
 ghost use Rattle.house.specs.Accepted.{Accepted};
 use job::dag::GOAL;
 use job::dag::WORDS;
 use job::wide::wide;
-use lines::ending::tell_end;
-use lines::ending::tell_last;
-use lines::ending::tell_limit;
-use lines::report::tell;
+use lines::ending::show_end;
+use lines::ending::show_last;
+use lines::ending::show_limit;
+use lines::report::show_reply;
 use model::record::Machine;
 use record::order;
 use turns::turn::is_last;
@@ -45,7 +45,7 @@ fn run_turns(
     from: usize,
 ) -> usize
     requires { ⌜ Accepted (now dag) × (length (now rest) ≤ 65536) × Lawful (now w) (now tokens) (now cells) (now dag) (Start.start paper (dagOf (now dag)) .machine) ⌝ }
-    ensures { λ r. ⌜ Shows (now (output .entry)) from 0 (textOfAll (runLines paper 100000 (dagOf (now (dag .entry))) (now (rest .entry)))) (now (output .exit)) r ⌝ }
+    ensures { λ r. ⌜ ShowsBytes (now (output .entry)) from 0 (textOfAll (runLines paper 100000 (dagOf (now (dag .entry))) (now (rest .entry)))) (now (output .exit)) r ⌝ }
 {
     let mut steps: u32 = 0;
     let mut at: usize = 0;
@@ -54,17 +54,17 @@ fn run_turns(
         let queued = wide(order::queued(w));
         let left = rest.len() - at;
         if is_last(queued, left) {
-            return tell_last(left, steps, output, from, total);
+            return show_last(left, steps, output, from, total);
         }
         if is_limit(queued, steps) {
-            return tell_limit(steps, output, from, total);
+            return show_limit(steps, output, from, total);
         }
         let report = turn(w, tokens, cells, dag, rest, at);
         let reply = report.reply;
         let values = report.values;
-        total = tell(reply, values, output, from, total);
+        total = show_reply(reply, values, output, from, total);
         if is_over(queued, reply) {
-            return tell_end(steps, output, from, total);
+            return show_end(steps, output, from, total);
         }
         at = next_at(queued, at);
         steps = next_steps(queued, steps);
@@ -73,7 +73,7 @@ fn run_turns(
 
 pub fn run(rest: &[u8], dag: &[u32; WORDS], output: &mut [u8], from: usize) -> usize
     requires { ⌜ Accepted (now dag) × (length (now rest) ≤ 65536) ⌝ }
-    ensures { λ r. ⌜ Shows (now (output .entry)) from 0 (textOfAll (runLines paper 100000 (dagOf (now (dag .entry))) (now (rest .entry)))) (now (output .exit)) r ⌝ }
+    ensures { λ r. ⌜ ShowsBytes (now (output .entry)) from 0 (textOfAll (runLines paper 100000 (dagOf (now (dag .entry))) (now (rest .entry)))) (now (output .exit)) r ⌝ }
 {
     whole(dag);
     let mut words = [0u32; Machine::WORDS];

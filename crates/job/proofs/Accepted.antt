@@ -9,7 +9,7 @@ use Rattle.job.specs.Test.{All}
 use Rattle.job.specs.Syntax.{Program}
 use Rattle.job.specs.Encode.{encode}
 use Rattle.job.specs.WellFormed.{WellFormed}
-use Rattle.job.specs.Read.{Read, got, refused, readBytes, Answer, accepted, declined, answerOf, readTable}
+use Rattle.job.specs.Read.{Read, got, refused, readBytes, Answer, accepted, declined, readerAnswer, readTable}
 use Rattle.job.proofs.Read.{Yields, something, Gives, given}
 use Rattle.job.proofs.EncodeRead.{FoundBytes, bytes-found}
 use Rattle.job.proofs.ReadEncode.{bytes-read}
@@ -20,10 +20,10 @@ pub record Accepted (b : List ℕ) (p : Program) : Type 0 where
   pub exact : All (λ x. x < 256) b → b ≡ encode p
 
 accepted-found : (b : List ℕ) (p : Program) → readTable b ≡ accepted p → Accepted b p
-unfolding readTable answerOf
+unfolding readTable readerAnswer
 accepted-found b p e = go (readBytes b) (bytes-found b) e
   where
-    go : (r : Read Program) → Yields (FoundBytes b) r → answerOf r ≡ accepted p → Accepted b p
+    go : (r : Read Program) → Yields (FoundBytes b) r → readerAnswer r ≡ accepted p → Accepted b p
     go (got g) (something f) e =
         let z : g .value ≡ p = cc in subst (Accepted b) z (record { well-formed = f .well-formed; exact = f .exact })
     go (refused m n) h e = let z : _≡_ {A = ℕ} 0 1 = cc in absurd (omega arith)
@@ -33,10 +33,10 @@ pub accepted-well-formed : (b : List ℕ) (p : Program) → readTable b ≡ acce
 accepted-well-formed b p e = accepted-found b p e .well-formed
 
 pub encode-accepted : (p : Program) → WellFormed p → readTable (encode p) ≡ accepted p
-unfolding readTable answerOf
+unfolding readTable readerAnswer
 encode-accepted p w = go (bytes-read w)
   where
-    go : {r : Read Program} → Gives p [] r → answerOf r ≡ accepted p
+    go : {r : Read Program} → Gives p [] r → readerAnswer r ≡ accepted p
     go given = refl
 
 pub accepted-exactly : (b : List ℕ) (p : Program) → All (λ x. x < 256) b → (readTable b ≡ accepted p) ↔ (WellFormed p × (b ≡ encode p))

@@ -9,10 +9,10 @@ use lib.Dec.{leb, eqb}
 use Rattle.job.specs.Test.{_and_, any}
 use Rattle.job.specs.Number.{signed}
 use Rattle.job.specs.Syntax.{Param, variable, constant, Join, par, seq, prune, Exp, stop, site, call, Definition, Program, formalsOf, levels, scopeLeft, scopeRight}
-use Rattle.job.specs.Entry.{Entry, entries, low, high, Kind, kindOf}
-use Rattle.job.specs.Read.{Got, Read, got, refused, _>>=_, gives, need, entryAt, readParam, readParams, readCall, readJoin, readExp, isDefinition}
+use Rattle.job.specs.Entry.{Entry, entries, low, high, EntryKind, kindOf}
+use Rattle.job.specs.Read.{Got, Read, got, refused, _>>=_, gives, need, entryAt, readParam, readParamList, readCall, readJoin, readExp, isDefinition}
 use Rattle.job.specs.Read.{readDefinition, readProgram, leftovers, callHolds, definitionsHold, readEntries, sizeD, sizeN, tableLength, readBytes}
-use Rattle.job.specs.Read.{Answer, accepted, declined, answerOf, readTable}
+use Rattle.job.specs.Read.{Answer, accepted, declined, readerAnswer, readTable}
 use Rattle.job.proofs.Test.{and-right, leb-le}
 use Rattle.job.proofs.Entry.{length-entries}
 
@@ -57,40 +57,40 @@ module _ (m : ℕ) where
       no : Within m {A = Param} (refused 3 e)
       no = stops 3 e (omega arith)
 
-      by-kind : (x : Got Entry) → x .next + length (x .rest) ≤ m → (k : Kind)
+      by-kind : (x : Got Entry) → x .next + length (x .rest) ≤ m → (k : EntryKind)
           → Within m {A = Param} (elim k as (λ k. Read Param) [
-            | Kind.stop ↦ refused 3 e
-            | Kind.site ↦ refused 3 e
-            | Kind.call ↦ refused 3 e
-            | Kind.par ↦ refused 3 e
-            | Kind.seq ↦ refused 3 e
-            | Kind.prune ↦ refused 3 e
-            | Kind.definition ↦ refused 3 e
-            | Kind.variable ↦ need (any (eqb (x .value .operand)) scope) 7 e >>= (λ _. gives (variable (x .value .operand)) (x .next) (x .rest))
-            | Kind.constant ↦ gives (constant (signed (x .value .operand))) (x .next) (x .rest)
-            | Kind.unknown ↦ refused 3 e
+            | EntryKind.stop ↦ refused 3 e
+            | EntryKind.site ↦ refused 3 e
+            | EntryKind.call ↦ refused 3 e
+            | EntryKind.par ↦ refused 3 e
+            | EntryKind.seq ↦ refused 3 e
+            | EntryKind.prune ↦ refused 3 e
+            | EntryKind.definition ↦ refused 3 e
+            | EntryKind.variable ↦ need (any (eqb (x .value .operand)) scope) 7 e >>= (λ _. gives (variable (x .value .operand)) (x .next) (x .rest))
+            | EntryKind.constant ↦ gives (constant (signed (x .value .operand))) (x .next) (x .rest)
+            | EntryKind.unknown ↦ refused 3 e
           ])
-      by-kind x k Kind.stop = no
-      by-kind x k Kind.site = no
-      by-kind x k Kind.call = no
-      by-kind x k Kind.par = no
-      by-kind x k Kind.seq = no
-      by-kind x k Kind.prune = no
-      by-kind x k Kind.definition = no
-      by-kind x k Kind.variable = after _ 7 e _ (omega arith) (λ _. reads k)
-      by-kind x k Kind.constant = reads k
-      by-kind x k Kind.unknown = no
+      by-kind x k EntryKind.stop = no
+      by-kind x k EntryKind.site = no
+      by-kind x k EntryKind.call = no
+      by-kind x k EntryKind.par = no
+      by-kind x k EntryKind.seq = no
+      by-kind x k EntryKind.prune = no
+      by-kind x k EntryKind.definition = no
+      by-kind x k EntryKind.variable = after _ 7 e _ (omega arith) (λ _. reads k)
+      by-kind x k EntryKind.constant = reads k
+      by-kind x k EntryKind.unknown = no
 
-  params-within : (n : ℕ) (scope : List ℕ) (e : ℕ) (es : List Entry) → e + length es ≤ m → Within m (readParams n scope e es)
-  unfolding readParams
+  params-within : (n : ℕ) (scope : List ℕ) (e : ℕ) (es : List Entry) → e + length es ≤ m → Within m (readParamList n scope e es)
+  unfolding readParamList
   params-within zero scope e es l = reads l
   params-within (suc n) scope e es l =
       bind (readParam scope e es) _ (param-within scope e es l)
-      (λ p k. bind (readParams n scope (p .next) (p .rest)) _ (params-within n scope (p .next) (p .rest) k) (λ ps j. reads j))
+      (λ p k. bind (readParamList n scope (p .next) (p .rest)) _ (params-within n scope (p .next) (p .rest) k) (λ ps j. reads j))
 
   call-within : (h : List Param → Exp) (n : ℕ) (scope : List ℕ) (e : ℕ) (es : List Entry) → e + length es ≤ m → Within m (readCall h n scope e es)
   unfolding readCall
-  call-within h n scope e es l = bind (readParams n scope e es) _ (params-within n scope e es l) (λ ps k. reads k)
+  call-within h n scope e es l = bind (readParamList n scope e es) _ (params-within n scope e es l) (λ ps k. reads k)
 
   join-within : (side : List ℕ → ℕ → List Entry → Read Exp)
       → ((scope : List ℕ) (e : ℕ) (es : List Entry) → e + length es ≤ m → Within m (side scope e es))
@@ -112,29 +112,29 @@ module _ (m : ℕ) where
       no : Within m {A = Exp} (refused 3 e)
       no = stops 3 e (omega arith)
 
-      by-kind : ((scope : List ℕ) (e : ℕ) (es : List Entry) → e + length es ≤ m → Within m (readExp left scope e es)) → (x : Got Entry) → x .next + length (x .rest) ≤ m → (k : Kind)
+      by-kind : ((scope : List ℕ) (e : ℕ) (es : List Entry) → e + length es ≤ m → Within m (readExp left scope e es)) → (x : Got Entry) → x .next + length (x .rest) ≤ m → (k : EntryKind)
           → Within m {A = Exp} (elim k as (λ k. Read Exp) [
-            | Kind.stop ↦ gives stop (x .next) (x .rest)
-            | Kind.site ↦ readCall (site (low (x .value .operand))) (high (x .value .operand)) scope (x .next) (x .rest)
-            | Kind.call ↦ readCall (call (low (x .value .operand))) (high (x .value .operand)) scope (x .next) (x .rest)
-            | Kind.par ↦ readJoin (readExp left) par scope (x .next) (x .rest)
-            | Kind.seq ↦ readJoin (readExp left) (seq (length scope)) scope (x .next) (x .rest)
-            | Kind.prune ↦ readJoin (readExp left) (prune (length scope)) scope (x .next) (x .rest)
-            | Kind.definition ↦ refused 3 e
-            | Kind.variable ↦ refused 3 e
-            | Kind.constant ↦ refused 3 e
-            | Kind.unknown ↦ refused 3 e
+            | EntryKind.stop ↦ gives stop (x .next) (x .rest)
+            | EntryKind.site ↦ readCall (site (low (x .value .operand))) (high (x .value .operand)) scope (x .next) (x .rest)
+            | EntryKind.call ↦ readCall (call (low (x .value .operand))) (high (x .value .operand)) scope (x .next) (x .rest)
+            | EntryKind.par ↦ readJoin (readExp left) par scope (x .next) (x .rest)
+            | EntryKind.seq ↦ readJoin (readExp left) (seq (length scope)) scope (x .next) (x .rest)
+            | EntryKind.prune ↦ readJoin (readExp left) (prune (length scope)) scope (x .next) (x .rest)
+            | EntryKind.definition ↦ refused 3 e
+            | EntryKind.variable ↦ refused 3 e
+            | EntryKind.constant ↦ refused 3 e
+            | EntryKind.unknown ↦ refused 3 e
           ])
-      by-kind side x k Kind.stop = reads k
-      by-kind side x k Kind.site = call-within _ _ scope (x .next) (x .rest) k
-      by-kind side x k Kind.call = call-within _ _ scope (x .next) (x .rest) k
-      by-kind side x k Kind.par = join-within (readExp left) side par scope (x .next) (x .rest) k
-      by-kind side x k Kind.seq = join-within (readExp left) side (seq (length scope)) scope (x .next) (x .rest) k
-      by-kind side x k Kind.prune = join-within (readExp left) side (prune (length scope)) scope (x .next) (x .rest) k
-      by-kind side x k Kind.definition = no
-      by-kind side x k Kind.variable = no
-      by-kind side x k Kind.constant = no
-      by-kind side x k Kind.unknown = no
+      by-kind side x k EntryKind.stop = reads k
+      by-kind side x k EntryKind.site = call-within _ _ scope (x .next) (x .rest) k
+      by-kind side x k EntryKind.call = call-within _ _ scope (x .next) (x .rest) k
+      by-kind side x k EntryKind.par = join-within (readExp left) side par scope (x .next) (x .rest) k
+      by-kind side x k EntryKind.seq = join-within (readExp left) side (seq (length scope)) scope (x .next) (x .rest) k
+      by-kind side x k EntryKind.prune = join-within (readExp left) side (prune (length scope)) scope (x .next) (x .rest) k
+      by-kind side x k EntryKind.definition = no
+      by-kind side x k EntryKind.variable = no
+      by-kind side x k EntryKind.constant = no
+      by-kind side x k EntryKind.unknown = no
 
   definition-within : (e : ℕ) (es : List Entry) → e + length es ≤ m → Within m (readDefinition e es)
   unfolding readDefinition
@@ -183,9 +183,9 @@ bytes-within b =
         omega arith
 
 pub declined-at : (b : List ℕ) (n e : ℕ) → readTable b ≡ declined n e → e ≤ 512
-unfolding readTable answerOf
+unfolding readTable readerAnswer
 declined-at b n e q = go (readBytes b) (bytes-within b) q
   where
-    go : (r : Read Program) → Within 512 r → answerOf r ≡ declined n e → e ≤ 512
+    go : (r : Read Program) → Within 512 r → readerAnswer r ≡ declined n e → e ≤ 512
     go (got p) w q = let z : _≡_ {A = ℕ} 0 1 = cc in absurd (omega arith)
     go (refused i j) (refuses l) q = let z : j ≡ e = cc in omega arith

@@ -15,7 +15,7 @@ use Rattle.job.specs.Number.{Signed32, fits, signed, unsigned}
 use Rattle.job.specs.Site.{siteTakes}
 use Rattle.job.specs.Syntax.{Param, variable, constant}
 use Rattle.job.specs.Node.{Node, Body, Dag, paramHolds, paramsHold, isNode, nodeHolds, dagHolds}
-use Rattle.job.specs.Words.{paramWords, nodeWords, paramOf, paramsFrom, nodeBy, nodeOf, nodesFrom, bodiesFrom, headWords, arrayWords, dagOf, rowsOf, bodyWords, written}
+use Rattle.job.specs.Words.{paramWords, nodeWords, paramOf, paramsFrom, nodeBy, decodedNode, nodesFrom, bodiesFrom, headWords, arrayWords, dagOf, rowsOfNodes, bodyWords, written}
 use Rattle.job.proofs.Laid.{Laid, laid, getD-sets-before, getD-sets-after}
 use Rattle.job.proofs.Rules.{DagRules, dag-rules}
 use Rattle.job.proofs.Number.{signed-unsigned}
@@ -39,9 +39,9 @@ params-back (suc n) (constant v ∷ ps) l e =
     (signed-unsigned v (all-head paramHolds (constant v) ps e))
     (params-back n ps (omega arith) (all-tail paramHolds (constant v) ps e))
 
-kept-back : (ps : List Param) → paramsHold ps ≡ true → paramsFrom (length ps) (paramWords 4 ps) ≡ ps
+params-read-back : (ps : List Param) → paramsHold ps ≡ true → paramsFrom (length ps) (paramWords 4 ps) ≡ ps
 unfolding paramsHold
-kept-back ps e =
+params-read-back ps e =
     params-back 4 ps (leb-le (length ps) 4 (and-left _ (all paramHolds ps) e)) (and-right (leb (length ps) 4) _ e)
 
 -- nodes
@@ -64,10 +64,10 @@ unfolding nodeWords nodeBy nodeHolds
 node-by-words d Node.stop e = refl
 node-by-words d (Node.site s ps k) e =
     ap (λ qs. Node.site s qs k)
-    (kept-back ps (and-left (paramsHold ps) (isNode d k) (and-right (siteTakes s (length ps)) (paramsHold ps and isNode d k) e)))
+    (params-read-back ps (and-left (paramsHold ps) (isNode d k) (and-right (siteTakes s (length ps)) (paramsHold ps and isNode d k) e)))
 node-by-words d (Node.call x ps k) e =
     ap (λ qs. Node.call x qs k)
-    (kept-back ps (and-left (paramsHold ps) (isNode d k) (and-right (ltb x (length (d .bodies))) (paramsHold ps and isNode d k) e)))
+    (params-read-back ps (and-left (paramsHold ps) (isNode d k) (and-right (ltb x (length (d .bodies))) (paramsHold ps and isNode d k) e)))
 node-by-words d (Node.fork l r) e = refl
 node-by-words d (Node.assign x k) e = refl
 node-by-words d (Node.remove x k) e = refl
@@ -77,30 +77,30 @@ node-by-words d Node.return e = refl
 node-by-words d Node.publish e = refl
 node-by-words d Node.unknown e = clash e refl
 
-pub node-back : (d : Dag) (n : Node) → nodeHolds d n ≡ true → nodeOf (nodeWords n) ≡ n
-unfolding nodeOf
+pub node-back : (d : Dag) (n : Node) → nodeHolds d n ≡ true → decodedNode (nodeWords n) ≡ n
+unfolding decodedNode
 node-back d n e =
     let by : nodeBy (nodeWords n) ≡ n = node-by-words d n e in
     let words : same (nodeWords n) (nodeWords (nodeBy (nodeWords n))) ≡ true = rw by (same-refl (nodeWords n)) in
-    rw (words, nodeOf) by
+    rw (words, decodedNode) by
 
-pub rows-length : (d : Dag) (ns : List Node) → all (nodeHolds d) ns ≡ true → length (rowsOf ns) ≡ 12 * length ns
-unfolding rowsOf
+pub rows-length : (d : Dag) (ns : List Node) → all (nodeHolds d) ns ≡ true → length (rowsOfNodes ns) ≡ 12 * length ns
+unfolding rowsOfNodes
 rows-length d [] e = refl
 rows-length d (n ∷ ns) e =
     let row = node-words-length d n (all-head (nodeHolds d) n ns e) in
     let rest = rows-length d ns (all-tail (nodeHolds d) n ns e) in
     simp length-append (omega arith)
 
-pub rows-back : (d : Dag) (ns : List Node) (rest : List ℕ) → all (nodeHolds d) ns ≡ true → nodesFrom (length ns) (rowsOf ns ++ rest) ≡ ns
-unfolding rowsOf nodesFrom
+pub rows-back : (d : Dag) (ns : List Node) (rest : List ℕ) → all (nodeHolds d) ns ≡ true → nodesFrom (length ns) (rowsOfNodes ns ++ rest) ≡ ns
+unfolding rowsOfNodes nodesFrom
 rows-back d [] rest e = refl
 rows-back d (n ∷ ns) rest e =
-    let kept = all-head (nodeHolds d) n ns e in
-    let row = node-words-length d n kept in
-    let others = rowsOf ns ++ rest in
-    rw (append-assoc (nodeWords n) (rowsOf ns) rest, take-at (nodeWords n) others 12 row, drop-at (nodeWords n) others 12 row)
-    (ap₂ (λ m ms. m ∷ ms) (node-back d n kept) (rows-back d ns rest (all-tail (nodeHolds d) n ns e)))
+    let holds = all-head (nodeHolds d) n ns e in
+    let row = node-words-length d n holds in
+    let others = rowsOfNodes ns ++ rest in
+    rw (append-assoc (nodeWords n) (rowsOfNodes ns) rest, take-at (nodeWords n) others 12 row, drop-at (nodeWords n) others 12 row)
+    (ap₂ (λ m ms. m ∷ ms) (node-back d n holds) (rows-back d ns rest (all-tail (nodeHolds d) n ns e)))
 
 -- bodies
 pub body-words-length : (bs : List Body) → length (bodyWords bs) ≡ 2 * length bs
@@ -122,10 +122,10 @@ unfolding headOf
 head-length d = omega (arith, body-words-length (d .bodies))
 
 -- the dag that words laid out so hold
-laid-back : (d : Dag) {ws : List ℕ} → all (nodeHolds d) (d .nodes) ≡ true → Laid (headOf d) (rowsOf (d .nodes)) ws headWords → dagOf ws ≡ d
+laid-back : (d : Dag) {ws : List ℕ} → all (nodeHolds d) (d .nodes) ≡ true → Laid (headOf d) (rowsOfNodes (d .nodes)) ws headWords → dagOf ws ≡ d
 unfolding dagOf headOf
 laid-back d {ws} e r =
-    let rest = rowsOf (d .nodes) ++ r .after in
+    let rest = rowsOfNodes (d .nodes) ++ r .after in
     let seam = drop-at (headOf d ++ r .between) rest headWords (r .seam) in
     let nodes = ap (nodesFrom (length (d .nodes))) seam ∙ rows-back d (d .nodes) (r .after) e in
     let assoc = append-assoc (bodyWords (d .bodies)) (r .between) rest in
@@ -136,7 +136,7 @@ laid-back d {ws} e r =
 -- writing keeps the number of words
 pub written-length : (d : Dag) (ws : List ℕ) → length (written d ws) ≡ length ws
 unfolding written headOf
-written-length d ws = length-sets (sets ws 0 (headOf d)) headWords (rowsOf (d .nodes)) ∙ length-sets ws 0 (headOf d)
+written-length d ws = length-sets (sets ws 0 (headOf d)) headWords (rowsOfNodes (d .nodes)) ∙ length-sets ws 0 (headOf d)
 
 -- decoding gives back what was written
 pub decode-written : (d : Dag) (ws : List ℕ) → dagHolds d ≡ true → length ws ≡ arrayWords → dagOf (written d ws) ≡ d
@@ -145,7 +145,7 @@ decode-written d ws e l =
     let rules = dag-rules d e in
     let nodes = rows-length d (d .nodes) (rules .nodes) in
     let head = head-length d in
-    laid-back d (rules .nodes) (laid (headOf d) (rowsOf (d .nodes)) ws headWords (omega arith) (omega arith))
+    laid-back d (rules .nodes) (laid (headOf d) (rowsOfNodes (d .nodes)) ws headWords (omega arith) (omega arith))
 
 -- the words that a dag leaves alone: between its head and the nodes, and past its last node
 abbrev pub Outside : Dag → ℕ → Type 0
@@ -158,12 +158,12 @@ written-outside d ws i e h = rows h ∙ getD-sets-after (headOf d) ws 0 i 0 (hea
     rules : DagRules d
     rules = dag-rules d e
 
-    size : length (rowsOf (d .nodes)) ≡ 12 * length (d .nodes)
+    size : length (rowsOfNodes (d .nodes)) ≡ 12 * length (d .nodes)
     size = rows-length d (d .nodes) (rules .nodes)
 
     rows : Outside d i → getD (written d ws) i 0 ≡ getD (sets ws 0 (headOf d)) i 0
-    rows (inl b) = getD-sets-before (rowsOf (d .nodes)) (sets ws 0 (headOf d)) headWords i 0 (b .1)
-    rows (inr b) = getD-sets-after (rowsOf (d .nodes)) (sets ws 0 (headOf d)) headWords i 0 (omega (arith, size))
+    rows (inl b) = getD-sets-before (rowsOfNodes (d .nodes)) (sets ws 0 (headOf d)) headWords i 0 (b .1)
+    rows (inr b) = getD-sets-after (rowsOfNodes (d .nodes)) (sets ws 0 (headOf d)) headWords i 0 (omega (arith, size))
 
     head : Outside d i → 0 + length (headOf d) ≤ i
     head (inl b) = omega (arith, head-length d, b .0)

@@ -8,17 +8,17 @@ use native.Mathlib.Omega.{arith}
 use lib.ListN.{length, getD, length-map}
 use lib.Dec.{eqb, leb}
 use Rattle.job.specs.Test.{_and_, all, All, none, more}
-use Rattle.job.specs.Site.{counts}
+use Rattle.job.specs.Site.{builtinCounts}
 use Rattle.job.specs.Syntax.{Param, Join, Exp, Definition, Program, formalsOf, levels, scopeLeft, scopeRight}
 use Rattle.job.specs.Entry.{Entry, entry}
 use Rattle.job.specs.Encode.{encodeParam, encodeJoin, encodeExp, encodeDefinitions, encodeEntries, operandBytes, encode}
-use Rattle.job.specs.WellFormed.{GoodParam, SiteTakes, Binds, Good, GoodDefinition, WellFormed}
+use Rattle.job.specs.WellFormed.{GoodParam, SiteTakes, GoodJoin, Good, GoodDefinition, WellFormed}
 use Rattle.job.proofs.Test.{leb-le, all-at, All-map}
 use Rattle.job.proofs.All.{All-append, All-member, All-at, All-image}
 use Rattle.job.proofs.Number.{Byte, bytes-are, unsigned-below}
 use Rattle.job.proofs.Entry.{Short, low-of, high-of}
 use Rattle.job.proofs.Scope.{Slots, levels-slots, left-slots, right-slots}
-use Rattle.job.proofs.WellFormed.{Kept, Names, site-few, call-kept, other-kept}
+use Rattle.job.proofs.WellFormed.{CallRuleHolds, Names, site-few, call-holds, other-holds}
 
 -- the definitions that a table may have
 pub record Few (formals : List ℕ) : Type 0 where
@@ -28,7 +28,7 @@ pub record Few (formals : List ℕ) : Type 0 where
 pub record Fine (formals : List ℕ) (x : Entry) : Type 0 where
   pub kind : Byte (x .kind)
   pub short : Short x
-  pub kept : Kept formals x
+  pub holds : CallRuleHolds formals x
 
 pub site-small : {s n : ℕ} → SiteTakes s n → s < 65536
 site-small (SiteTakes.builtin l e) = omega arith
@@ -45,7 +45,7 @@ call-count {formals} few d n l e = let z : getD formals d 0 ≤ 4 = All-at (few 
 
 module _ (formals : List ℕ) where
   other-fine : (k o : ℕ) → not (eqb k 2) ≡ true → k < 256 → o < 2 ^ 32 → Fine formals (entry k o)
-  other-fine k o t b l = record { kind = b; short = l; kept = other-kept formals _ t }
+  other-fine k o t b l = record { kind = b; short = l; holds = other-holds formals _ t }
 
   param-fine : {scope : List ℕ} {p : Param} → Slots scope → GoodParam scope p → Fine formals (encodeParam p)
   unfolding encodeParam
@@ -74,7 +74,7 @@ module _ (formals : List ℕ) where
         let b : d < 65536 = call-small few d l in
         let c : n ≤ 4 = call-count few d n l e in
         let names : Names formals d n = record { defined = l; count = e } in
-        record { kind = omega arith; short = omega arith; kept = call-kept formals _ (rw (low-of d n b, high-of d n b) names) }
+        record { kind = omega arith; short = omega arith; holds = call-holds formals _ (rw (low-of d n b, high-of d n b) names) }
 
     exp-fine : {left : ℕ} {scope : List ℕ} {x : Exp} → Slots scope → Good formals left scope x → All (Fine formals) (encodeExp x)
     unfolding encodeExp

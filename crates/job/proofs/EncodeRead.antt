@@ -11,7 +11,7 @@ use lib.Dec.{leb}
 use Rattle.job.specs.Test.{All, none, more}
 use Rattle.job.specs.Number.{bytes}
 use Rattle.job.specs.Syntax.{Definition, Program, formalsOf, levels}
-use Rattle.job.specs.Entry.{Entry, entry, entries, Kind, kindOf, rowHolds}
+use Rattle.job.specs.Entry.{Entry, entry, entries, EntryKind, kindOf, rowHolds}
 use Rattle.job.specs.Encode.{encodeExp, encodeDefinitions, encodeEntries, operandBytes, encode}
 use Rattle.job.specs.WellFormed.{Good, GoodDefinition, WellFormed}
 use Rattle.job.specs.Read.{Got, _>>=_, entryAt, need, isDefinition, readDefinition, readProgram, leftovers, callHolds, definitionsHold}
@@ -22,7 +22,7 @@ use Rattle.job.proofs.Number.{Byte}
 use Rattle.job.proofs.Entry.{entry-of, kind-number, kindBytes}
 use Rattle.job.proofs.Entry.{length-entries, kind-bytes-entries, operand-bytes-entries, entries-short}
 use Rattle.job.proofs.Read.{Yields, something, nothing, yields-got, yields-need, yields-bind, yields-map, yields-itself}
-use Rattle.job.proofs.WellFormed.{Kept}
+use Rattle.job.proofs.WellFormed.{CallRuleHolds}
 use Rattle.job.proofs.Prefix.{Begins, next, begins-append, begins-rest, begins-length, begins-exact}
 use Rattle.job.proofs.Table.{kindPart, operandPart, table-parts}
 use Rattle.job.proofs.FoundExpression.{exp-found}
@@ -37,26 +37,26 @@ definition-kind : (n : ℕ) → isDefinition (kindOf n) ≡ true → n ≡ 6
 unfolding isDefinition
 definition-kind n t = go (kindOf n) refl t
   where
-    go : (k : Kind) → kindOf n ≡ k → isDefinition k ≡ true → n ≡ 6
-    go Kind.stop q t = clash t refl
-    go Kind.site q t = clash t refl
-    go Kind.call q t = clash t refl
-    go Kind.par q t = clash t refl
-    go Kind.seq q t = clash t refl
-    go Kind.prune q t = clash t refl
-    go Kind.definition q t = kind-number n Kind.definition q
-    go Kind.variable q t = clash t refl
-    go Kind.constant q t = clash t refl
-    go Kind.unknown q t = clash t refl
+    go : (k : EntryKind) → kindOf n ≡ k → isDefinition k ≡ true → n ≡ 6
+    go EntryKind.stop q t = clash t refl
+    go EntryKind.site q t = clash t refl
+    go EntryKind.call q t = clash t refl
+    go EntryKind.par q t = clash t refl
+    go EntryKind.seq q t = clash t refl
+    go EntryKind.prune q t = clash t refl
+    go EntryKind.definition q t = kind-number n EntryKind.definition q
+    go EntryKind.variable q t = clash t refl
+    go EntryKind.constant q t = clash t refl
+    go EntryKind.unknown q t = clash t refl
 
-definition-found : (formals : List ℕ) (e : ℕ) (es : List Entry) → All (Kept formals) es
+definition-found : (formals : List ℕ) (e : ℕ) (es : List Entry) → All (CallRuleHolds formals) es
     → Yields (FoundDefinition formals es) (readDefinition e es)
 unfolding readDefinition _>>=_ entryAt rowHolds
-definition-found formals e [] kept = nothing
-definition-found formals e (x ∷ rest) (more _ kept) =
+definition-found formals e [] holds = nothing
+definition-found formals e (x ∷ rest) (more _ holds) =
     yields-need _ 3 e _ λ k.
     yields-need (leb (x .operand) 4) 4 e _ λ l.
-    yields-bind _ (exp-found formals 24 (levels (x .operand)) (suc e) rest kept) λ b h.
+    yields-bind _ (exp-found formals 24 (levels (x .operand)) (suc e) rest holds) λ b h.
     something (record {
       good = record { count = leb-le _ 4 l; body = h .good };
       begins = next (λ s. entry-of x 6 _ (definition-kind _ k) refl) (h .begins);
@@ -68,15 +68,15 @@ pub record FoundProgram (formals : List ℕ) (n : ℕ) (es : List Entry) (g : Go
   pub goal : Good formals 24 [] (g .value .goal)
   pub begins : Begins (encodeEntries (g .value)) es (g .rest)
 
-pub program-found : (formals : List ℕ) (n e : ℕ) (es : List Entry) → All (Kept formals) es
+pub program-found : (formals : List ℕ) (n e : ℕ) (es : List Entry) → All (CallRuleHolds formals) es
     → Yields (FoundProgram formals n es) (readProgram n e es)
 unfolding readProgram encodeEntries encodeDefinitions
-program-found formals zero e es kept =
-    yields-bind _ (exp-found formals 24 [] e es kept) λ g h.
+program-found formals zero e es holds =
+    yields-bind _ (exp-found formals 24 [] e es holds) λ g h.
     something (record { count = refl; bodies = none; goal = h .good; begins = h .begins })
-program-found formals (suc n) e es kept =
-    yields-bind _ (definition-found formals e es kept) λ d h.
-    yields-bind _ (program-found formals n (d .next) (d .rest) (begins-rest (h .begins) kept)) λ p hs.
+program-found formals (suc n) e es holds =
+    yields-bind _ (definition-found formals e es holds) λ d h.
+    yields-bind _ (program-found formals n (d .next) (d .rest) (begins-rest (h .begins) holds)) λ p hs.
     something (record {
       count = ap suc (hs .count);
       bodies = more (h .good) (hs .bodies);
@@ -91,12 +91,12 @@ unfolding leftovers need
 leftovers-found e [] = something refl
 leftovers-found e (x ∷ es) = nothing
 
-kept-found : (formals : List ℕ) (e : ℕ) (es : List Entry) → Yields (λ _. All (Kept formals) es) (definitionsHold formals e es)
+holds-found : (formals : List ℕ) (e : ℕ) (es : List Entry) → Yields (λ _. All (CallRuleHolds formals) es) (definitionsHold formals e es)
 unfolding definitionsHold need
-kept-found formals e [] = something none
-kept-found formals e (x ∷ es) =
+holds-found formals e [] = something none
+holds-found formals e (x ∷ es) =
     yields-need (callHolds formals x) 8 e _ λ t.
-    yields-map (λ _ ts. more t ts) (kept-found formals (suc e) es)
+    yields-map (λ _ ts. more t ts) (holds-found formals (suc e) es)
 
 record FoundEntries (n : ℕ) (es : List Entry) (g : Got Program) : Type 0 where
   program : FoundProgram (formalsOf (g .value .definitions)) n es g
@@ -107,8 +107,8 @@ unfolding readEntries
 entries-found n es =
     yields-bind _ (yields-itself (readProgram n 0 es)) λ p is.
     yields-bind _ (leftovers-found (p .next) (p .rest)) λ _ ends.
-    yields-bind _ (kept-found (formalsOf (p .value .definitions)) 0 es) λ _ kept.
-    something (record { program = yields-got (program-found _ n 0 es kept) is; ends = ends })
+    yields-bind _ (holds-found (formalsOf (p .value .definitions)) 0 es) λ _ holds.
+    something (record { program = yields-got (program-found _ n 0 es holds) is; ends = ends })
 
 pub record FoundBytes (b : List ℕ) (g : Got Program) : Type 0 where
   pub well-formed : WellFormed (g .value)
@@ -121,7 +121,7 @@ module _ (b : List ℕ) (four : 4 ≤ length b) (total : length b ≡ tableLengt
   length-operand-part : length (operandPart b) ≡ 4 * length (kindPart b)
   length-operand-part = let z = length-kind-part in length-drop (4 + sizeN b) b ∙ omega arith
 
-  -- entries read from the parts of a table whose sizes are kept
+  -- entries read from the parts of a table whose sizes are in range
   module _ (g : Got Program) (found : FoundEntries (sizeD b) (entries (kindPart b) (operandPart b)) g) where
     entry-count : length (encodeEntries (g .value)) ≡ sizeN b
     entry-count =

@@ -8,7 +8,7 @@ use lib.ListN.{length, drop, length-append, length-drop, take-append-drop}
 use lib.Seq.{take-at, drop-at}
 use Rattle.job.specs.Test.{All, none, more}
 use Rattle.job.specs.Number.{number, bytes}
-use Rattle.job.specs.Entry.{Entry, entry, entries, low, high, Kind, kindOf}
+use Rattle.job.specs.Entry.{Entry, entry, entries, low, high, EntryKind, kindOf}
 use Rattle.job.specs.Encode.{operandBytes}
 use Rattle.job.proofs.All.{All-drop}
 use Rattle.job.proofs.Number.{Byte, length-bytes, number-bytes, bytes-front, front-below}
@@ -20,17 +20,17 @@ entry-of x k o p q = ap₂ entry p q
 -- the kind of a number
 
 -- the number of a kind: an unknown one has any
-abbrev pub kindNumber : Kind → ℕ → ℕ
-kindNumber Kind.stop n = 0
-kindNumber Kind.site n = 1
-kindNumber Kind.call n = 2
-kindNumber Kind.par n = 3
-kindNumber Kind.seq n = 4
-kindNumber Kind.prune n = 5
-kindNumber Kind.definition n = 6
-kindNumber Kind.variable n = 7
-kindNumber Kind.constant n = 8
-kindNumber Kind.unknown n = n
+abbrev pub kindNumber : EntryKind → ℕ → ℕ
+kindNumber EntryKind.stop n = 0
+kindNumber EntryKind.site n = 1
+kindNumber EntryKind.call n = 2
+kindNumber EntryKind.par n = 3
+kindNumber EntryKind.seq n = 4
+kindNumber EntryKind.prune n = 5
+kindNumber EntryKind.definition n = 6
+kindNumber EntryKind.variable n = 7
+kindNumber EntryKind.constant n = 8
+kindNumber EntryKind.unknown n = n
 
 own-number : (n : ℕ) → n ≡ kindNumber (kindOf n) n
 unfolding kindOf
@@ -45,8 +45,8 @@ own-number (suc (suc (suc (suc (suc (suc (suc zero))))))) = refl
 own-number (suc (suc (suc (suc (suc (suc (suc (suc zero)))))))) = refl
 own-number (suc (suc (suc (suc (suc (suc (suc (suc (suc n))))))))) = refl
 
-pub kind-number : (n : ℕ) (k : Kind) → kindOf n ≡ k → n ≡ kindNumber k n
-kind-number n k e = own-number n ∙ ap (λ (k : Kind). kindNumber k n) e
+pub kind-number : (n : ℕ) (k : EntryKind) → kindOf n ≡ k → n ≡ kindNumber k n
+kind-number n k e = own-number n ∙ ap (λ (k : EntryKind). kindNumber k n) e
 
 -- the two halves of an operand
 

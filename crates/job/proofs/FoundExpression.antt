@@ -10,15 +10,15 @@ use Rattle.job.specs.Test.{_or_, any, All, none, more}
 use Rattle.job.specs.Number.{signed, unsigned}
 use Rattle.job.specs.Site.{siteTakes}
 use Rattle.job.specs.Syntax.{Param, Join, Exp, scopeLeft, scopeRight}
-use Rattle.job.specs.Entry.{Entry, entry, low, high, Kind, kindOf, isExpression, rowHolds, isBinder}
+use Rattle.job.specs.Entry.{Entry, entry, low, high, EntryKind, kindOf, isExpression, rowHolds, isBinder}
 use Rattle.job.specs.Encode.{encodeParam, encodeJoin, encodeExp}
-use Rattle.job.specs.WellFormed.{GoodParam, SiteTakes, Binds, Good}
-use Rattle.job.specs.Read.{Got, _>>=_, entryAt, need, readParam, readParams, readCall, readJoin, readExp}
+use Rattle.job.specs.WellFormed.{GoodParam, SiteTakes, GoodJoin, Good}
+use Rattle.job.specs.Read.{Got, _>>=_, entryAt, need, readParam, readParamList, readCall, readJoin, readExp}
 use Rattle.job.proofs.Test.{eqb-eq, ltb-lt}
 use Rattle.job.proofs.Number.{signed-fits, unsigned-signed}
 use Rattle.job.proofs.Entry.{entry-of, kind-number, halves, Short}
 use Rattle.job.proofs.Read.{Yields, something, nothing, yields-need, yields-bind}
-use Rattle.job.proofs.WellFormed.{any-member, site-takes, Kept, kept-call}
+use Rattle.job.proofs.WellFormed.{any-member, site-takes, CallRuleHolds, holds-names}
 use Rattle.job.proofs.Prefix.{Begins, done, next, begins-one, begins-append, begins-rest}
 
 -- parameters
@@ -44,18 +44,18 @@ module _ (scope : List ℕ) (e : ℕ) (x : Entry) (rest : List Entry) where
       let same : Short x → x ≡ entry 8 (unsigned (signed o)) = λ s. entry-of x 8 _ k (sym (unsigned-signed o s)) in
       record { good = GoodParam.constant (signed-fits o); begins = begins-one same }
 
-  param-at : (k : Kind) → kindOf (x .kind) ≡ k → Yields (FoundParam scope (x ∷ rest)) (readParam scope e (x ∷ rest))
+  param-at : (k : EntryKind) → kindOf (x .kind) ≡ k → Yields (FoundParam scope (x ∷ rest)) (readParam scope e (x ∷ rest))
   unfolding readParam _>>=_ entryAt kindOf
-  param-at Kind.stop q = rw (q, readParam) nothing
-  param-at Kind.site q = rw (q, readParam) nothing
-  param-at Kind.call q = rw (q, readParam) nothing
-  param-at Kind.par q = rw (q, readParam) nothing
-  param-at Kind.seq q = rw (q, readParam) nothing
-  param-at Kind.prune q = rw (q, readParam) nothing
-  param-at Kind.definition q = rw (q, readParam) nothing
-  param-at Kind.variable q = rw (q, readParam) (yields-need _ 7 e _ λ t. something (variable-found (kind-number _ _ q) t))
-  param-at Kind.constant q = rw (q, readParam) (something (constant-found (kind-number _ _ q)))
-  param-at Kind.unknown q = rw (q, readParam) nothing
+  param-at EntryKind.stop q = rw (q, readParam) nothing
+  param-at EntryKind.site q = rw (q, readParam) nothing
+  param-at EntryKind.call q = rw (q, readParam) nothing
+  param-at EntryKind.par q = rw (q, readParam) nothing
+  param-at EntryKind.seq q = rw (q, readParam) nothing
+  param-at EntryKind.prune q = rw (q, readParam) nothing
+  param-at EntryKind.definition q = rw (q, readParam) nothing
+  param-at EntryKind.variable q = rw (q, readParam) (yields-need _ 7 e _ λ t. something (variable-found (kind-number _ _ q) t))
+  param-at EntryKind.constant q = rw (q, readParam) (something (constant-found (kind-number _ _ q)))
+  param-at EntryKind.unknown q = rw (q, readParam) nothing
 
 param-found : (scope : List ℕ) (e : ℕ) (es : List Entry) → Yields (FoundParam scope es) (readParam scope e es)
 unfolding readParam _>>=_ entryAt
@@ -67,8 +67,8 @@ record FoundParams (n : ℕ) (scope : List ℕ) (es : List Entry) (g : Got (List
   count : length (g .value) ≡ n
   begins : Begins (map encodeParam (g .value)) es (g .rest)
 
-params-found : (n : ℕ) (scope : List ℕ) (e : ℕ) (es : List Entry) → Yields (FoundParams n scope es) (readParams n scope e es)
-unfolding readParams
+params-found : (n : ℕ) (scope : List ℕ) (e : ℕ) (es : List Entry) → Yields (FoundParams n scope es) (readParamList n scope e es)
+unfolding readParamList
 params-found zero scope e es = something (record { good = none; count = refl; begins = done })
 params-found (suc n) scope e es =
     yields-bind _ (param-found scope e es) λ p h.
@@ -84,7 +84,7 @@ pub record FoundExp (formals : List ℕ) (left : ℕ) (scope : List ℕ) (es : L
 -- all that is read with so many levels of depth left
 abbrev pub Sound : (formals : List ℕ) (left : ℕ) → Type 0
 Sound formals left =
-    (scope : List ℕ) (e : ℕ) (es : List Entry) → All (Kept formals) es → Yields (FoundExp formals left scope es) (readExp left scope e es)
+    (scope : List ℕ) (e : ℕ) (es : List Entry) → All (CallRuleHolds formals) es → Yields (FoundExp formals left scope es) (readExp left scope e es)
 
 module _ (formals : List ℕ) (left : ℕ) (scope : List ℕ) (e : ℕ) (x : Entry) (rest : List Entry) where
   bare-entry : {k : ℕ} → x .kind ≡ k → eqb (x .operand) 0 ≡ true → x ≡ entry k 0
@@ -105,11 +105,11 @@ module _ (formals : List ℕ) (left : ℕ) (scope : List ℕ) (e : ℕ) (x : Ent
         begins = next (λ s. entry-of x 1 _ k (halves (x .operand) _ (h .count))) (h .begins);
       })
 
-  call-found : x .kind ≡ 2 → Kept formals x
+  call-found : x .kind ≡ 2 → CallRuleHolds formals x
       → Yields (FoundExp formals (suc left) scope (x ∷ rest)) (readCall (Exp.call (low (x .operand))) (high (x .operand)) scope (suc e) rest)
   unfolding encodeExp readCall
   call-found k t =
-      let names = kept-call formals x k t in
+      let names = holds-names formals x k t in
       yields-bind _ (params-found (high (x .operand)) scope (suc e) rest) λ ps h.
       something (record {
         good = Good.call (names .defined) (h .count ∙ names .count) (h .good);
@@ -117,38 +117,38 @@ module _ (formals : List ℕ) (left : ℕ) (scope : List ℕ) (e : ℕ) (x : Ent
       })
 
   module _ (below : Sound formals left) where
-    join-found : (j : Join) → Binds scope j → x ≡ encodeJoin j → All (Kept formals) rest
+    join-found : (j : Join) → GoodJoin scope j → x ≡ encodeJoin j → All (CallRuleHolds formals) rest
         → Yields (FoundExp formals (suc left) scope (x ∷ rest)) (readJoin (readExp left) j scope (suc e) rest)
     unfolding encodeExp readJoin
-    join-found j b k kept =
-        yields-bind _ (below (scopeLeft j scope) (suc e) rest kept) λ f hf.
-        yields-bind _ (below (scopeRight j scope) (f .next) (f .rest) (begins-rest (hf .begins) kept)) λ g hg.
+    join-found j b k holds =
+        yields-bind _ (below (scopeLeft j scope) (suc e) rest holds) λ f hf.
+        yields-bind _ (below (scopeRight j scope) (f .next) (f .rest) (begins-rest (hf .begins) holds)) λ g hg.
         something (record { good = Good.join b (hf .good) (hg .good); begins = next (λ s. k) (begins-append (hf .begins) (hg .begins)) })
 
-    exp-at : (k : Kind) → kindOf (x .kind) ≡ k → All (Kept formals) (x ∷ rest)
+    exp-at : (k : EntryKind) → kindOf (x .kind) ≡ k → All (CallRuleHolds formals) (x ∷ rest)
         → Yields (FoundExp formals (suc left) scope (x ∷ rest)) (readExp (suc left) scope e (x ∷ rest))
     unfolding readExp _>>=_ entryAt need kindOf isExpression rowHolds isBinder _or_ encodeJoin
-    exp-at Kind.stop q kept = rw (q, readExp) (yields-need _ 4 e _ λ t. something (stop-found (kind-number _ _ q) t))
-    exp-at Kind.site q kept = rw (q, readExp) (yields-need _ 4 e _ λ t. site-found (kind-number _ _ q) t)
-    exp-at Kind.call q (more t kept) =
+    exp-at EntryKind.stop q holds = rw (q, readExp) (yields-need _ 4 e _ λ t. something (stop-found (kind-number _ _ q) t))
+    exp-at EntryKind.site q holds = rw (q, readExp) (yields-need _ 4 e _ λ t. site-found (kind-number _ _ q) t)
+    exp-at EntryKind.call q (more t holds) =
         rw (q, readExp) (yields-need (leb (high (x .operand)) 4) 4 e _ λ _. call-found (kind-number _ _ q) t)
-    exp-at Kind.par q (more _ kept) =
-        rw (q, readExp) (yields-need _ 4 e _ λ t. join-found Join.par Binds.par (bare-entry (kind-number _ _ q) t) kept)
-    exp-at Kind.seq q (more _ kept) =
+    exp-at EntryKind.par q (more _ holds) =
+        rw (q, readExp) (yields-need _ 4 e _ λ t. join-found Join.par GoodJoin.par (bare-entry (kind-number _ _ q) t) holds)
+    exp-at EntryKind.seq q (more _ holds) =
         rw (q, readExp) (yields-need _ 4 e _ λ t. yields-need _ 7 e _ λ l.
-        join-found (Join.seq _) (Binds.seq (ltb-lt _ 8 l)) (bare-entry (kind-number _ _ q) t) kept)
-    exp-at Kind.prune q (more _ kept) =
+        join-found (Join.seq _) (GoodJoin.seq (ltb-lt _ 8 l)) (bare-entry (kind-number _ _ q) t) holds)
+    exp-at EntryKind.prune q (more _ holds) =
         rw (q, readExp) (yields-need _ 4 e _ λ t. yields-need _ 7 e _ λ l.
-        join-found (Join.prune _) (Binds.prune (ltb-lt _ 8 l)) (bare-entry (kind-number _ _ q) t) kept)
-    exp-at Kind.definition q kept = rw (q, readExp) nothing
-    exp-at Kind.variable q kept = rw (q, readExp) nothing
-    exp-at Kind.constant q kept = rw (q, readExp) nothing
-    exp-at Kind.unknown q kept = rw (q, readExp) nothing
+        join-found (Join.prune _) (GoodJoin.prune (ltb-lt _ 8 l)) (bare-entry (kind-number _ _ q) t) holds)
+    exp-at EntryKind.definition q holds = rw (q, readExp) nothing
+    exp-at EntryKind.variable q holds = rw (q, readExp) nothing
+    exp-at EntryKind.constant q holds = rw (q, readExp) nothing
+    exp-at EntryKind.unknown q holds = rw (q, readExp) nothing
 
 pub exp-found : (formals : List ℕ) (left : ℕ) → Sound formals left
 unfolding readExp _>>=_ entryAt
-exp-found formals zero scope e [] kept = nothing
-exp-found formals zero scope e (x ∷ rest) kept = yields-need _ 3 e _ λ _. yields-need _ 4 e _ λ _. nothing
-exp-found formals (suc left) scope e [] kept = nothing
-exp-found formals (suc left) scope e (x ∷ rest) kept =
-    exp-at formals left scope e x rest (exp-found formals left) (kindOf (x .kind)) refl kept
+exp-found formals zero scope e [] holds = nothing
+exp-found formals zero scope e (x ∷ rest) holds = yields-need _ 3 e _ λ _. yields-need _ 4 e _ λ _. nothing
+exp-found formals (suc left) scope e [] holds = nothing
+exp-found formals (suc left) scope e (x ∷ rest) holds =
+    exp-at formals left scope e x rest (exp-found formals left) (kindOf (x .kind)) refl holds

@@ -18,7 +18,7 @@ pub mod EncodeRead
 pub mod Accepted
 pub mod Size
 pub mod Rules
-pub mod Kept
+pub mod DagHolds
 pub mod Laid
 pub mod Decode
 pub mod DeclinedAt

@@ -11,8 +11,8 @@ use lib.Dec.{eqb}
 use Rattle.job.specs.Test.{any}
 use Rattle.job.specs.Number.{number, signed}
 use Rattle.job.specs.Syntax.{Param, variable, constant, Join, par, seq, prune, Exp, stop, site, call, scopeLeft, scopeRight}
-use Rattle.job.specs.Entry.{Entry, entry, entries, low, high, Kind, kindOf}
-use Rattle.job.specs.Read.{Got, Read, got, refused, _>>=_, gives, need, entryAt, readParam, readParams, readCall, readJoin, readExp}
+use Rattle.job.specs.Entry.{Entry, entry, entries, low, high, EntryKind, kindOf}
+use Rattle.job.specs.Read.{Got, Read, got, refused, _>>=_, gives, need, entryAt, readParam, readParamList, readCall, readJoin, readExp}
 
 -- the operand at an index
 abbrev pub operandAt : List ℕ → ℕ → ℕ
@@ -92,48 +92,48 @@ module _ (es : List Entry) where
       kept : (x : Got Entry) → From es e x → (p : Param) → gives p (x .next) (x .rest) ≡ got g → From es e g
       kept x f p r = moved (cc) (cc) f
 
-      kind-from : (x : Got Entry) → From es e x → (k : Kind)
+      kind-from : (x : Got Entry) → From es e x → (k : EntryKind)
           → (elim k as (λ k. Read Param) [
-            | Kind.stop ↦ refused 3 e
-            | Kind.site ↦ refused 3 e
-            | Kind.call ↦ refused 3 e
-            | Kind.par ↦ refused 3 e
-            | Kind.seq ↦ refused 3 e
-            | Kind.prune ↦ refused 3 e
-            | Kind.definition ↦ refused 3 e
-            | Kind.variable ↦ need (any (eqb (x .value .operand)) scope) 7 e >>= (λ _. gives (variable (x .value .operand)) (x .next) (x .rest))
-            | Kind.constant ↦ gives (constant (signed (x .value .operand))) (x .next) (x .rest)
-            | Kind.unknown ↦ refused 3 e
+            | EntryKind.stop ↦ refused 3 e
+            | EntryKind.site ↦ refused 3 e
+            | EntryKind.call ↦ refused 3 e
+            | EntryKind.par ↦ refused 3 e
+            | EntryKind.seq ↦ refused 3 e
+            | EntryKind.prune ↦ refused 3 e
+            | EntryKind.definition ↦ refused 3 e
+            | EntryKind.variable ↦ need (any (eqb (x .value .operand)) scope) 7 e >>= (λ _. gives (variable (x .value .operand)) (x .next) (x .rest))
+            | EntryKind.constant ↦ gives (constant (signed (x .value .operand))) (x .next) (x .rest)
+            | EntryKind.unknown ↦ refused 3 e
           ]) ≡ got g → From es e g
-      kind-from x f Kind.stop r = refused-got r
-      kind-from x f Kind.site r = refused-got r
-      kind-from x f Kind.call r = refused-got r
-      kind-from x f Kind.par r = refused-got r
-      kind-from x f Kind.seq r = refused-got r
-      kind-from x f Kind.prune r = refused-got r
-      kind-from x f Kind.definition r = refused-got r
-      kind-from x f Kind.variable r = kept x f (variable (x .value .operand)) (bind-got (need _ 7 e) _ g r .2)
-      kind-from x f Kind.constant r = kept x f (constant (signed (x .value .operand))) r
-      kind-from x f Kind.unknown r = refused-got r
+      kind-from x f EntryKind.stop r = refused-got r
+      kind-from x f EntryKind.site r = refused-got r
+      kind-from x f EntryKind.call r = refused-got r
+      kind-from x f EntryKind.par r = refused-got r
+      kind-from x f EntryKind.seq r = refused-got r
+      kind-from x f EntryKind.prune r = refused-got r
+      kind-from x f EntryKind.definition r = refused-got r
+      kind-from x f EntryKind.variable r = kept x f (variable (x .value .operand)) (bind-got (need _ 7 e) _ g r .2)
+      kind-from x f EntryKind.constant r = kept x f (constant (signed (x .value .operand))) r
+      kind-from x f EntryKind.unknown r = refused-got r
 
   here : {A : Type 0} (a : A) (e : ℕ) (l : List Entry) → l ≡ drop e es → e ≤ length es → (g : Got A) → gives a e l ≡ got g → From es e g
   here a e l q m g r = record { rest = (let z : l ≡ g .rest = cc in let y : e ≡ g .next = cc in sym z ∙ (q ∙ ap (λ n. drop n es) y)); next = (let y : e ≡ g .next = cc in omega arith); last = (let y : e ≡ g .next = cc in omega arith) }
 
   pub params-from : (n : ℕ) (scope : List ℕ) (e : ℕ) (l : List Entry) (g : Got (List Param))
-      → l ≡ drop e es → e ≤ length es → readParams n scope e l ≡ got g → From es e g
-  unfolding readParams
+      → l ≡ drop e es → e ≤ length es → readParamList n scope e l ≡ got g → From es e g
+  unfolding readParamList
   params-from zero scope e l g q m r = here [] e l q m g r
   params-from (suc n) scope e l g q m r =
       let p = bind-got (readParam scope e l) _ g r in
       let f = param-from scope e l (p .0) q (p .1) in
-      let ps = bind-got (readParams n scope (p .0 .next) (p .0 .rest)) _ g (p .2) in
+      let ps = bind-got (readParamList n scope (p .0 .next) (p .0 .rest)) _ g (p .2) in
       onward f (moved (cc) (cc) (params-from n scope (p .0 .next) (p .0 .rest) (ps .0) (f .rest) (f .last) (ps .1)))
 
   call-from : (h : List Param → Exp) (n : ℕ) (scope : List ℕ) (e : ℕ) (l : List Entry) (g : Got Exp)
       → l ≡ drop e es → e ≤ length es → readCall h n scope e l ≡ got g → From es e g
   unfolding readCall
   call-from h n scope e l g q m r =
-      let ps = bind-got (readParams n scope e l) _ g r in
+      let ps = bind-got (readParamList n scope e l) _ g r in
       moved (cc) (cc) (params-from n scope e l (ps .0) q m (ps .1))
 
   -- a reader of sides that does so
@@ -163,26 +163,26 @@ module _ (es : List Entry) where
       let c = bind-got (need _ 7 e) _ g (b .2) in
       kind-from (x .0) (entered l (x .0) q (x .1)) (kindOf (x .0 .value .kind)) (exp-from left) (c .2)
     where
-      kind-from : (x : Got Entry) → From es e x → (k : Kind) → Reads (readExp left)
+      kind-from : (x : Got Entry) → From es e x → (k : EntryKind) → Reads (readExp left)
           → (elim k as (λ k. Read Exp) [
-            | Kind.stop ↦ gives stop (x .next) (x .rest)
-            | Kind.site ↦ readCall (site (low (x .value .operand))) (high (x .value .operand)) scope (x .next) (x .rest)
-            | Kind.call ↦ readCall (call (low (x .value .operand))) (high (x .value .operand)) scope (x .next) (x .rest)
-            | Kind.par ↦ readJoin (readExp left) par scope (x .next) (x .rest)
-            | Kind.seq ↦ readJoin (readExp left) (seq (length scope)) scope (x .next) (x .rest)
-            | Kind.prune ↦ readJoin (readExp left) (prune (length scope)) scope (x .next) (x .rest)
-            | Kind.definition ↦ refused 3 e
-            | Kind.variable ↦ refused 3 e
-            | Kind.constant ↦ refused 3 e
-            | Kind.unknown ↦ refused 3 e
+            | EntryKind.stop ↦ gives stop (x .next) (x .rest)
+            | EntryKind.site ↦ readCall (site (low (x .value .operand))) (high (x .value .operand)) scope (x .next) (x .rest)
+            | EntryKind.call ↦ readCall (call (low (x .value .operand))) (high (x .value .operand)) scope (x .next) (x .rest)
+            | EntryKind.par ↦ readJoin (readExp left) par scope (x .next) (x .rest)
+            | EntryKind.seq ↦ readJoin (readExp left) (seq (length scope)) scope (x .next) (x .rest)
+            | EntryKind.prune ↦ readJoin (readExp left) (prune (length scope)) scope (x .next) (x .rest)
+            | EntryKind.definition ↦ refused 3 e
+            | EntryKind.variable ↦ refused 3 e
+            | EntryKind.constant ↦ refused 3 e
+            | EntryKind.unknown ↦ refused 3 e
           ]) ≡ got g → From es e g
-      kind-from x f Kind.stop reads r = moved (cc) (cc) f
-      kind-from x f Kind.site reads r = onward f (call-from (λ ps. site (low (x .value .operand)) ps) (high (x .value .operand)) scope (x .next) (x .rest) g (f .rest) (f .last) r)
-      kind-from x f Kind.call reads r = onward f (call-from (λ ps. call (low (x .value .operand)) ps) (high (x .value .operand)) scope (x .next) (x .rest) g (f .rest) (f .last) r)
-      kind-from x f Kind.par reads r = onward f (join-from (readExp left) reads par scope (x .next) (x .rest) g (f .rest) r)
-      kind-from x f Kind.seq reads r = onward f (join-from (readExp left) reads (seq (length scope)) scope (x .next) (x .rest) g (f .rest) r)
-      kind-from x f Kind.prune reads r = onward f (join-from (readExp left) reads (prune (length scope)) scope (x .next) (x .rest) g (f .rest) r)
-      kind-from x f Kind.definition reads r = refused-got r
-      kind-from x f Kind.variable reads r = refused-got r
-      kind-from x f Kind.constant reads r = refused-got r
-      kind-from x f Kind.unknown reads r = refused-got r
+      kind-from x f EntryKind.stop reads r = moved (cc) (cc) f
+      kind-from x f EntryKind.site reads r = onward f (call-from (λ ps. site (low (x .value .operand)) ps) (high (x .value .operand)) scope (x .next) (x .rest) g (f .rest) (f .last) r)
+      kind-from x f EntryKind.call reads r = onward f (call-from (λ ps. call (low (x .value .operand)) ps) (high (x .value .operand)) scope (x .next) (x .rest) g (f .rest) (f .last) r)
+      kind-from x f EntryKind.par reads r = onward f (join-from (readExp left) reads par scope (x .next) (x .rest) g (f .rest) r)
+      kind-from x f EntryKind.seq reads r = onward f (join-from (readExp left) reads (seq (length scope)) scope (x .next) (x .rest) g (f .rest) r)
+      kind-from x f EntryKind.prune reads r = onward f (join-from (readExp left) reads (prune (length scope)) scope (x .next) (x .rest) g (f .rest) r)
+      kind-from x f EntryKind.definition reads r = refused-got r
+      kind-from x f EntryKind.variable reads r = refused-got r
+      kind-from x f EntryKind.constant reads r = refused-got r
+      kind-from x f EntryKind.unknown reads r = refused-got r

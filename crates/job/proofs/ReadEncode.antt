@@ -11,8 +11,8 @@ use Rattle.job.specs.Test.{_or_, All, none, more}
 use Rattle.job.specs.Syntax.{Param, Join, Exp, Definition, Program, scopeLeft, scopeRight}
 use Rattle.job.specs.Entry.{Entry, entry, entries, kindOf, isExpression, rowHolds, isBinder}
 use Rattle.job.specs.Encode.{encodeParam, encodeJoin, encodeExp, encodeDefinitions, encodeEntries, operandBytes, encode}
-use Rattle.job.specs.WellFormed.{GoodParam, Binds, Good, GoodDefinition, WellFormed}
-use Rattle.job.specs.Read.{Read, _>>=_, entryAt, need, readParam, readParams, readCall, readJoin, readExp}
+use Rattle.job.specs.WellFormed.{GoodParam, GoodJoin, Good, GoodDefinition, WellFormed}
+use Rattle.job.specs.Read.{Read, _>>=_, entryAt, need, readParam, readParamList, readCall, readJoin, readExp}
 use Rattle.job.specs.Read.{isDefinition, readDefinition, readProgram, leftovers, definitionsHold, readEntries}
 use Rattle.job.specs.Read.{sizeD, sizeN, tableLength, readBytes}
 use Rattle.job.proofs.Test.{eq-eqb, lt-ltb, le-leb, and-both, All-map}
@@ -32,8 +32,8 @@ param-read e rest (GoodParam.variable m) = gives-need _ 7 e (member-any m) given
 param-read e rest (GoodParam.constant {v = v} f) = rw (signed-unsigned v f) given
 
 params-read : {scope : List ℕ} {ps : List Param} (e : ℕ) (rest : List Entry) → All (GoodParam scope) ps
-    → Gives ps rest (readParams (length ps) scope e (map encodeParam ps ++ rest))
-unfolding readParams
+    → Gives ps rest (readParamList (length ps) scope e (map encodeParam ps ++ rest))
+unfolding readParamList
 params-read e rest none = given
 params-read e rest (more {xs = ps} g gs) =
     gives-bind _ (param-read e (map encodeParam ps ++ rest) g) λ n.
@@ -69,11 +69,11 @@ module _ {formals : List ℕ} (few : Few formals) where
       let b : d < 65536 = call-small few d l in
       let t : leb (length ps) 4 ≡ true = le-leb _ 4 (call-count few d (length ps) l c) in
       rw (low-of d (length ps) b, high-of d (length ps) b) (gives-need _ 4 e t (call-read (Exp.call d) (suc e) rest good))
-  exp-read (Good.join {f = f} {g = g} Binds.par hf hg) e rest =
+  exp-read (Good.join {f = f} {g = g} GoodJoin.par hf hg) e rest =
       join-read _ Join.par _ f g (suc e) rest (exp-read hf) (exp-read hg)
-  exp-read (Good.join {f = f} {g = g} (Binds.seq l) hf hg) e rest =
+  exp-read (Good.join {f = f} {g = g} (GoodJoin.seq l) hf hg) e rest =
       gives-need _ 7 e (lt-ltb _ 8 l) (join-read _ (Join.seq _) _ f g (suc e) rest (exp-read hf) (exp-read hg))
-  exp-read (Good.join {f = f} {g = g} (Binds.prune l) hf hg) e rest =
+  exp-read (Good.join {f = f} {g = g} (GoodJoin.prune l) hf hg) e rest =
       gives-need _ 7 e (lt-ltb _ 8 l) (join-read _ (Join.prune _) _ f g (suc e) rest (exp-read hf) (exp-read hg))
 
   -- definitions and programs
@@ -99,10 +99,10 @@ module _ {formals : List ℕ} (few : Few formals) where
 
 -- the entries of a program
 
-kept-read : {formals : List ℕ} {es : List Entry} → All (Fine formals) es → (e : ℕ) → Gives tt [] (definitionsHold formals e es)
+holds-read : {formals : List ℕ} {es : List Entry} → All (Fine formals) es → (e : ℕ) → Gives tt [] (definitionsHold formals e es)
 unfolding definitionsHold need
-kept-read none e = given
-kept-read (more h hs) e = gives-need _ 8 e (h .kept) (kept-read hs (suc e))
+holds-read none e = given
+holds-read (more h hs) e = gives-need _ 8 e (h .holds) (holds-read hs (suc e))
 
 pub entries-read : {p : Program} → WellFormed p → Gives p [] (readEntries (length (p .definitions)) (encodeEntries p))
 unfolding readEntries encodeEntries leftovers need
@@ -110,7 +110,7 @@ entries-read {p} w =
     let all = program-read (program-few w) (w .bodies) (w .goal) 0 [] in
     gives-bind _ (rw append-nil at all) λ n.
     gives-bind {b = tt} {mid = []} _ given λ m.
-    gives-bind _ (kept-read (program-fine w) 0) λ k.
+    gives-bind _ (holds-read (program-fine w) 0) λ k.
     given
 
 -- the bytes of a program
@@ -122,7 +122,7 @@ exp-some (Exp.site s ps) = omega arith
 exp-some (Exp.call d ps) = omega arith
 exp-some (Exp.join j f g) = omega arith
 
--- a table whose sizes are kept is read by its entries
+-- a table whose sizes are in range is read by its entries
 sizes-read : {p : Program} (b : List ℕ) → 4 ≤ length b → length b ≡ tableLength b → sizeD b ≤ 32 → 1 ≤ sizeN b → sizeN b ≤ 512
     → Gives p [] (readEntries (sizeD b) (entries (kindPart b) (operandPart b))) → Gives p [] (readBytes b)
 unfolding readBytes

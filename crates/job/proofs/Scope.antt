@@ -4,7 +4,7 @@ use Prim.Native.Nat.{ℕ, zero, suc, _≤_, _<_}
 use native.Mathlib.Omega.{arith}
 use Rattle.job.specs.Test.{All, none, more}
 use Rattle.job.specs.Syntax.{Join, levels, scopeLeft, scopeRight}
-use Rattle.job.specs.WellFormed.{Binds}
+use Rattle.job.specs.WellFormed.{GoodJoin}
 
 -- variables: "at most 8 are in scope"
 abbrev pub Slots : List ℕ → Type 0
@@ -15,14 +15,14 @@ unfolding levels
 levels-slots zero l = none
 levels-slots (suc n) l = more {x = n} (omega arith) (levels-slots n (omega arith))
 
-pub left-slots : {scope : List ℕ} {j : Join} → Binds scope j → Slots scope → Slots (scopeLeft j scope)
+pub left-slots : {scope : List ℕ} {j : Join} → GoodJoin scope j → Slots scope → Slots (scopeLeft j scope)
 unfolding scopeLeft
-left-slots Binds.par s = s
-left-slots (Binds.seq l) s = s
-left-slots (Binds.prune l) s = more l s
+left-slots GoodJoin.par s = s
+left-slots (GoodJoin.seq l) s = s
+left-slots (GoodJoin.prune l) s = more l s
 
-pub right-slots : {scope : List ℕ} {j : Join} → Binds scope j → Slots scope → Slots (scopeRight j scope)
+pub right-slots : {scope : List ℕ} {j : Join} → GoodJoin scope j → Slots scope → Slots (scopeRight j scope)
 unfolding scopeRight
-right-slots Binds.par s = s
-right-slots (Binds.seq l) s = more l s
-right-slots (Binds.prune l) s = s
+right-slots GoodJoin.par s = s
+right-slots (GoodJoin.seq l) s = more l s
+right-slots (GoodJoin.prune l) s = s

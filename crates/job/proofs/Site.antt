@@ -6,7 +6,7 @@ use native.Mathlib.Omega.{arith}
 use lib.ListN.{getD}
 use lib.Dec.{ltb, leb, eqb}
 use Rattle.job.specs.Test.{_and_, _or_}
-use Rattle.job.specs.Site.{counts, isBuiltin, isOutside, siteTakes}
+use Rattle.job.specs.Site.{builtinCounts, isBuiltin, isOutside, siteTakes}
 use Rattle.job.proofs.Test.{lt-ltb, le-not-ltb, le-leb, lt-not-leb}
 
 or-false : (b : Bool) → (b or false) ≡ b
@@ -15,7 +15,7 @@ or-false true = refl
 or-false false = refl
 
 module _ (s n : ℕ) where
-  pub takes-builtin : s < 7 → siteTakes s n ≡ eqb n (getD counts s 0)
+  pub takes-builtin : s < 7 → siteTakes s n ≡ eqb n (getD builtinCounts s 0)
   unfolding siteTakes isBuiltin isOutside _and_
   takes-builtin l = rw (lt-ltb s 7 l, lt-not-leb 16 s (omega arith)) (or-false _)
 

@@ -10,7 +10,7 @@ use Rattle.job.specs.Syntax.{Join, par, seq, prune, Exp, stop, site, cal
 use Rattle.job.specs.Encode.{encodeExp, encodeDefinitions, encodeEntries}
 use Rattle.job.specs.WellFormed.{WellFormed}
 use Rattle.job.specs.Node.{Node}
-use Rattle.job.specs.Construct.{own, size, root, ownNodes, nodesOf, nextLeft, nextRight, constructFrom, construct}
+use Rattle.job.specs.Construct.{own, nodeCount, root, ownNodes, nodesOf, nextLeft, nextRight, constructFrom, construct}
 
 pub own-length : (j : Join) (l r k : ℕ) → length (ownNodes j l r k) ≡ own j
 unfolding ownNodes own
@@ -18,20 +18,20 @@ own-length par l r k = refl
 own-length (seq x) l r k = refl
 own-length (prune x) l r k = refl
 
-pub nodes-length : (e : Exp) (n k : ℕ) → length (nodesOf e n k) ≡ size e
-unfolding nodesOf size
+pub nodes-length : (e : Exp) (n k : ℕ) → length (nodesOf e n k) ≡ nodeCount e
+unfolding nodesOf nodeCount
 nodes-length stop n k = refl
 nodes-length (site s ps) n k = refl
 nodes-length (call d ps) n k = refl
 nodes-length (join j f g) n k =
     let a = n + own j in
-    let b = n + own j + size f in
+    let b = n + own j + nodeCount f in
     let o = own-length j (root f a) (root g b) k in
     let l = nodes-length f a (nextLeft j n k) in
     let r = nodes-length g b (nextRight j n k) in
     simp (length-append, o, l, r)
 
-pub nodes-append-length : (e : Exp) (n k : ℕ) (ns : List Node) → length (nodesOf e n k ++ ns) ≡ size e + length ns
+pub nodes-append-length : (e : Exp) (n k : ℕ) (ns : List Node) → length (nodesOf e n k ++ ns) ≡ nodeCount e + length ns
 nodes-append-length e n k ns = simp (length-append, nodes-length)
 
 -- how many joins an expression has
@@ -47,8 +47,8 @@ own-few par = omega arith
 own-few (seq x) = omega arith
 own-few (prune x) = omega arith
 
-pub size-few : (e : Exp) → size e ≤ 4 * joins e + 1
-unfolding size joins
+pub size-few : (e : Exp) → nodeCount e ≤ 4 * joins e + 1
+unfolding nodeCount joins
 size-few stop = omega arith
 size-few (site s ps) = omega arith
 size-few (call d ps) = omega arith
@@ -71,7 +71,7 @@ pub nodes-by-joins : (n : ℕ) (ds : List Definition) (g : Exp)
 unfolding constructFrom joinsIn
 nodes-by-joins n [] g = simp nodes-append-length (omega (arith, size-few g))
 nodes-by-joins n (d ∷ ds) g =
-    let sink = n + size (d .body) in
+    let sink = n + nodeCount (d .body) in
     let rest = nodes-by-joins (suc sink) ds g in
     simp nodes-append-length (omega (arith, size-few (d .body), rest))
 

@@ -9,7 +9,7 @@ use native.Mathlib.Omega.{arith}
 use lib.ListN.{length, getD}
 use lib.Dec.{eqb, ltb, leb}
 use Rattle.job.specs.Test.{_and_, _or_, all, any}
-use Rattle.job.specs.Site.{counts, siteTakes, isBuiltin, isOutside}
+use Rattle.job.specs.Site.{builtinCounts, siteTakes, isBuiltin, isOutside}
 use Rattle.job.specs.WellFormed.{SiteTakes, builtin, outside}
 use Rattle.job.specs.Entry.{Entry, low, high}
 use Rattle.job.specs.Read.{callHolds}
@@ -38,8 +38,8 @@ pub site-takes : (s n : ℕ) → siteTakes s n ≡ true → SiteTakes s n
 unfolding siteTakes isBuiltin isOutside
 site-takes s n e = go (or-cases _ _ e)
   where
-    go : ((ltb s 7 and eqb n (getD counts s 0)) ≡ true) ⊎ (((leb 16 s and leb s 1023) and leb n 4) ≡ true) → SiteTakes s n
-    go (inl h) = builtin (ltb-lt s 7 (and-left (ltb s 7) _ h)) (eqb-eq n (getD counts s 0) (and-right (ltb s 7) _ h))
+    go : ((ltb s 7 and eqb n (getD builtinCounts s 0)) ≡ true) ⊎ (((leb 16 s and leb s 1023) and leb n 4) ≡ true) → SiteTakes s n
+    go (inl h) = builtin (ltb-lt s 7 (and-left (ltb s 7) _ h)) (eqb-eq n (getD builtinCounts s 0) (and-right (ltb s 7) _ h))
     go (inr h) =
         let range = and-left (leb 16 s and leb s 1023) (leb n 4) h in
         outside (leb-le 16 s (and-left (leb 16 s) (leb s 1023) range))
@@ -48,40 +48,40 @@ site-takes s n e = go (or-cases _ _ e)
 
 pub takes-site : {s n : ℕ} → SiteTakes s n → siteTakes s n ≡ true
 unfolding siteTakes isBuiltin isOutside
-takes-site {s} {n} (builtin l e) = or-left (isOutside s and leb n 4) (and-both (lt-ltb s 7 l) (eq-eqb n (getD counts s 0) e))
+takes-site {s} {n} (builtin l e) = or-left (isOutside s and leb n 4) (and-both (lt-ltb s 7 l) (eq-eqb n (getD builtinCounts s 0) e))
 takes-site {s} {n} (outside l m k) =
-    or-right (isBuiltin s and eqb n (getD counts s 0)) (and-both (and-both (le-leb 16 s l) (le-leb s 1023 m)) (le-leb n 4 k))
+    or-right (isBuiltin s and eqb n (getD builtinCounts s 0)) (and-both (and-both (le-leb 16 s l) (le-leb s 1023 m)) (le-leb n 4 k))
 
 -- a call has at most 4 parameters
 pub site-few : {s n : ℕ} → SiteTakes s n → n ≤ 4
 unfolding all _and_
 site-few {s} (builtin l e) =
-    let few : getD counts s 0 ≤ 4 = leb-le (getD counts s 0) 4 (all-at (λ c. leb c 4) counts s 0 refl l) in omega arith
+    let few : getD builtinCounts s 0 ≤ 4 = leb-le (getD builtinCounts s 0) 4 (all-at (λ c. leb c 4) builtinCounts s 0 refl l) in omega arith
 site-few (outside l u f) = f
 
 -- a call of a definition
 
 -- entry x, if it is a call, names a definition with as many formals
-abbrev pub Kept : List ℕ → Entry → Type 0
-Kept formals x = callHolds formals x ≡ true
+abbrev pub CallRuleHolds : List ℕ → Entry → Type 0
+CallRuleHolds formals x = callHolds formals x ≡ true
 
 pub record Names (formals : List ℕ) (d n : ℕ) : Type 0 where
   pub defined : d < length formals
   pub count : n ≡ getD formals d 0
 
-pub kept-call : (formals : List ℕ) (x : Entry) → x .kind ≡ 2 → Kept formals x → Names formals (low (x .operand)) (high (x .operand))
+pub holds-names : (formals : List ℕ) (x : Entry) → x .kind ≡ 2 → CallRuleHolds formals x → Names formals (low (x .operand)) (high (x .operand))
 unfolding callHolds _or_
-kept-call formals x k e =
+holds-names formals x k e =
     let d = low (x .operand) in
     let n = high (x .operand) in
     let h : (ltb d (length formals) and eqb n (getD formals d 0)) ≡ true = rw k at e in
     record { defined = ltb-lt d (length formals) (and-left _ _ h); count = eqb-eq n (getD formals d 0) (and-right _ _ h) }
 
-pub call-kept : (formals : List ℕ) (x : Entry) → Names formals (low (x .operand)) (high (x .operand)) → Kept formals x
+pub call-holds : (formals : List ℕ) (x : Entry) → Names formals (low (x .operand)) (high (x .operand)) → CallRuleHolds formals x
 unfolding callHolds
-call-kept formals x h =
+call-holds formals x h =
     or-right (not (eqb (x .kind) 2)) (and-both (lt-ltb _ (length formals) (h .defined)) (eq-eqb (high (x .operand)) _ (h .count)))
 
-pub other-kept : (formals : List ℕ) (x : Entry) → not (eqb (x .kind) 2) ≡ true → Kept formals x
+pub other-holds : (formals : List ℕ) (x : Entry) → not (eqb (x .kind) 2) ≡ true → CallRuleHolds formals x
 unfolding callHolds
-other-kept formals x e = or-left _ e
+other-holds formals x e = or-left _ e

@@ -11,18 +11,18 @@ own (seq x) = 2
 own (prune x) = 3
 
 -- the number of nodes of an expression
-unfoldable pub size : Exp → ℕ
-size stop = 1
-size (site s ps) = 1
-size (call d ps) = 1
-size (join j f g) = own j + size f + size g
+unfoldable pub nodeCount : Exp → ℕ
+nodeCount stop = 1
+nodeCount (site s ps) = 1
+nodeCount (call d ps) = 1
+nodeCount (join j f g) = own j + nodeCount f + nodeCount g
 
 -- "Nodes are numbered by entry": f's nodes follow a join's own, g's follow f's
 abbrev pub firstLeft : Join → ℕ → ℕ
 firstLeft j n = n + own j
 
 abbrev pub firstRight : Join → Exp → ℕ → ℕ
-firstRight j f n = n + own j + size f
+firstRight j f n = n + own j + nodeCount f
 
 -- where a token enters an expression whose nodes are numbered from n: a sequence is entered at its f (docs/DECISIONS.md, "Where a sequence begins")
 unfoldable pub root : Exp → ℕ → ℕ
@@ -64,9 +64,9 @@ nodesOf (join j f g) n k =
 -- "A definition's body goes toward return, the goal toward publish"; "a body's sink follows its last entry"
 unfoldable pub constructFrom : ℕ → List Definition → Exp → Dag
 constructFrom n [] g =
-    record { nodes = nodesOf g n (n + size g) ++ (Node.publish ∷ []); bodies = []; goal = root g n }
+    record { nodes = nodesOf g n (n + nodeCount g) ++ (Node.publish ∷ []); bodies = []; goal = root g n }
 constructFrom n (d ∷ ds) g =
-    let sink = n + size (d .body) in
+    let sink = n + nodeCount (d .body) in
     let rest = constructFrom (suc sink) ds g in
     record {
       nodes = nodesOf (d .body) n sink ++ (Node.return ∷ rest .nodes);

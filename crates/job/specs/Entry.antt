@@ -28,17 +28,17 @@ abbrev pub high : ℕ → ℕ
 high o = o / 65536
 
 -- the table of kinds, by number
-pub data Kind : Type 0 where
-  stop site call par seq prune definition variable constant unknown : Kind
+pub data EntryKind : Type 0 where
+  stop site call par seq prune definition variable constant unknown : EntryKind
 
-abbrev pub kinds : List Kind
-kinds = stop ∷ site ∷ call ∷ par ∷ seq ∷ prune ∷ definition ∷ variable ∷ constant ∷ []
+abbrev pub kindTable : List EntryKind
+kindTable = stop ∷ site ∷ call ∷ par ∷ seq ∷ prune ∷ definition ∷ variable ∷ constant ∷ []
 
-unfoldable pub kindOf : ℕ → Kind
-kindOf k = getD kinds k unknown
+unfoldable pub kindOf : ℕ → EntryKind
+kindOf k = getD kindTable k unknown
 
 -- the kinds that may stand where an expression is read (docs/DECISIONS.md, "Positions")
-unfoldable pub isExpression : Kind → Bool
+unfoldable pub isExpression : EntryKind → Bool
 isExpression stop = true
 isExpression site = true
 isExpression call = true
@@ -51,7 +51,7 @@ isExpression constant = false
 isExpression unknown = false
 
 -- (docs/DECISIONS.md, "What breaks a row") the operand keeps to its row of the table, "site unknown, or built-in count wrong" included
-unfoldable pub rowHolds : Kind → ℕ → Bool
+unfoldable pub rowHolds : EntryKind → ℕ → Bool
 rowHolds stop o = eqb o 0
 rowHolds site o = siteTakes (low o) (high o)
 rowHolds call o = leb (high o) 4
@@ -64,7 +64,7 @@ rowHolds constant o = true
 rowHolds unknown o = false
 
 -- the kinds that bind a variable
-unfoldable pub isBinder : Kind → Bool
+unfoldable pub isBinder : EntryKind → Bool
 isBinder stop = false
 isBinder site = false
 isBinder call = false

@@ -7,7 +7,7 @@ use lib.Dec.{ltb, leb, eqb}
 use Rattle.job.specs.Test.{_and_, _or_, any}
 use Rattle.job.specs.Number.{number, signed}
 use Rattle.job.specs.Syntax.{Param, variable, constant, Join, par, seq, prune, Exp, stop, site, call, join, Definition, Program, formalsOf, levels, scopeLeft, scopeRight}
-use Rattle.job.specs.Entry.{Entry, entries, low, high, Kind, kindOf, isExpression, rowHolds, isBinder}
+use Rattle.job.specs.Entry.{Entry, entries, low, high, EntryKind, kindOf, isExpression, rowHolds, isBinder}
 
 -- what was read, the number of the first entry that was not, and the entries from there on
 pub record Got (A : Type 0) : Type 0 where
@@ -43,30 +43,30 @@ readParam scope e es = do
   x ← entryAt e es
   let o = x .value .operand
   elim (kindOf (x .value .kind)) as (λ k. Read Param) [
-    | Kind.stop ↦ refused 3 e
-    | Kind.site ↦ refused 3 e
-    | Kind.call ↦ refused 3 e
-    | Kind.par ↦ refused 3 e
-    | Kind.seq ↦ refused 3 e
-    | Kind.prune ↦ refused 3 e
-    | Kind.definition ↦ refused 3 e
-    | Kind.variable ↦ need (any (eqb o) scope) 7 e >>= (λ _. gives (variable o) (x .next) (x .rest))
-    | Kind.constant ↦ gives (constant (signed o)) (x .next) (x .rest)
-    | Kind.unknown ↦ refused 3 e
+    | EntryKind.stop ↦ refused 3 e
+    | EntryKind.site ↦ refused 3 e
+    | EntryKind.call ↦ refused 3 e
+    | EntryKind.par ↦ refused 3 e
+    | EntryKind.seq ↦ refused 3 e
+    | EntryKind.prune ↦ refused 3 e
+    | EntryKind.definition ↦ refused 3 e
+    | EntryKind.variable ↦ need (any (eqb o) scope) 7 e >>= (λ _. gives (variable o) (x .next) (x .rest))
+    | EntryKind.constant ↦ gives (constant (signed o)) (x .next) (x .rest)
+    | EntryKind.unknown ↦ refused 3 e
   ]
 
 -- so many parameters, from entry e on
-unfoldable pub readParams : ℕ → List ℕ → ℕ → List Entry → Read (List Param)
-readParams zero scope e es = gives [] e es
-readParams (suc n) scope e es = do
+unfoldable pub readParamList : ℕ → List ℕ → ℕ → List Entry → Read (List Param)
+readParamList zero scope e es = gives [] e es
+readParamList (suc n) scope e es = do
   p ← readParam scope e es
-  ps ← readParams n scope (p .next) (p .rest)
+  ps ← readParamList n scope (p .next) (p .rest)
   gives (p .value ∷ ps .value) (ps .next) (ps .rest)
 
 -- a call with its parameters, a join with its two sides
 unfoldable pub readCall : (List Param → Exp) → ℕ → List ℕ → ℕ → List Entry → Read Exp
 readCall h n scope e es = do
-  ps ← readParams n scope e es
+  ps ← readParamList n scope e es
   gives (h (ps .value)) (ps .next) (ps .rest)
 
 unfoldable pub readJoin : (List ℕ → ℕ → List Entry → Read Exp) → Join → List ℕ → ℕ → List Entry → Read Exp
@@ -92,36 +92,36 @@ readExp (suc left) scope e es = do
   _ ← need (rowHolds k o) 4 e
   _ ← need (not (isBinder k) or ltb level 8) 7 e
   elim k as (λ k. Read Exp) [
-    | Kind.stop ↦ gives stop (x .next) (x .rest)
-    | Kind.site ↦ readCall (site (low o)) (high o) scope (x .next) (x .rest)
-    | Kind.call ↦ readCall (call (low o)) (high o) scope (x .next) (x .rest)
-    | Kind.par ↦ readJoin (readExp left) par scope (x .next) (x .rest)
-    | Kind.seq ↦ readJoin (readExp left) (seq level) scope (x .next) (x .rest)
-    | Kind.prune ↦ readJoin (readExp left) (prune level) scope (x .next) (x .rest)
+    | EntryKind.stop ↦ gives stop (x .next) (x .rest)
+    | EntryKind.site ↦ readCall (site (low o)) (high o) scope (x .next) (x .rest)
+    | EntryKind.call ↦ readCall (call (low o)) (high o) scope (x .next) (x .rest)
+    | EntryKind.par ↦ readJoin (readExp left) par scope (x .next) (x .rest)
+    | EntryKind.seq ↦ readJoin (readExp left) (seq level) scope (x .next) (x .rest)
+    | EntryKind.prune ↦ readJoin (readExp left) (prune level) scope (x .next) (x .rest)
     -- the test for 3 leaves none of these
-    | Kind.definition ↦ refused 3 e
-    | Kind.variable ↦ refused 3 e
-    | Kind.constant ↦ refused 3 e
-    | Kind.unknown ↦ refused 3 e
+    | EntryKind.definition ↦ refused 3 e
+    | EntryKind.variable ↦ refused 3 e
+    | EntryKind.constant ↦ refused 3 e
+    | EntryKind.unknown ↦ refused 3 e
   ]
 
-unfoldable pub isDefinition : Kind → Bool
-isDefinition Kind.stop = false
-isDefinition Kind.site = false
-isDefinition Kind.call = false
-isDefinition Kind.par = false
-isDefinition Kind.seq = false
-isDefinition Kind.prune = false
-isDefinition Kind.definition = true
-isDefinition Kind.variable = false
-isDefinition Kind.constant = false
-isDefinition Kind.unknown = false
+unfoldable pub isDefinition : EntryKind → Bool
+isDefinition EntryKind.stop = false
+isDefinition EntryKind.site = false
+isDefinition EntryKind.call = false
+isDefinition EntryKind.par = false
+isDefinition EntryKind.seq = false
+isDefinition EntryKind.prune = false
+isDefinition EntryKind.definition = true
+isDefinition EntryKind.variable = false
+isDefinition EntryKind.constant = false
+isDefinition EntryKind.unknown = false
 
 unfoldable pub readDefinition : ℕ → List Entry → Read Definition
 readDefinition e es = do
   x ← entryAt e es
   _ ← need (isDefinition (kindOf (x .value .kind))) 3 e
-  _ ← need (rowHolds Kind.definition (x .value .operand)) 4 e
+  _ ← need (rowHolds EntryKind.definition (x .value .operand)) 4 e
   b ← readExp 24 (levels (x .value .operand)) (x .next) (x .rest)
   gives (record { formals = x .value .operand; body = b .value }) (b .next) (b .rest)
 
@@ -182,9 +182,9 @@ pub data Answer : Type 0 where
   accepted : Program → Answer
   declined : (number entry : ℕ) → Answer
 
-unfoldable pub answerOf : Read Program → Answer
-answerOf (got p) = accepted (p .value)
-answerOf (refused n e) = declined n e
+unfoldable pub readerAnswer : Read Program → Answer
+readerAnswer (got p) = accepted (p .value)
+readerAnswer (refused n e) = declined n e
 
 unfoldable pub readTable : List ℕ → Answer
-readTable b = answerOf (readBytes b)
+readTable b = readerAnswer (readBytes b)

@@ -40,8 +40,8 @@ unfoldable pub sum : ℤ → ℤ → BuiltinReply
 sum a b = let s = a +ℤ b in elim (fits s) [ true ↦ gives s | false ↦ silent ]
 
 -- "0 let (1), 1 ift (1), 2 iff (1), 3 signal (0), 4 add (2), 5 less (2), 6 equal (2)"
-abbrev pub builtins : List Builtin
-builtins =
+abbrev pub builtinTable : List Builtin
+builtinTable =
     record { count = 1; reply = λ vs. gives (at vs 0) }
     ∷ record { count = 1; reply = λ vs. zeroIf (notZero (at vs 0)) }
     ∷ record { count = 1; reply = λ vs. zeroIf (equalZ (at vs 0) (pos 0)) }
@@ -52,11 +52,11 @@ builtins =
     ∷ []
 
 -- the parameter counts by site number
-abbrev pub counts : List ℕ
-counts = map (λ (b : Builtin). b .count) builtins
+abbrev pub builtinCounts : List ℕ
+builtinCounts = map (λ (b : Builtin). b .count) builtinTable
 
 unfoldable pub isBuiltin : ℕ → Bool
-isBuiltin s = ltb s (length builtins)
+isBuiltin s = ltb s (length builtinTable)
 
 -- "16 to 1023 are outside sites"
 unfoldable pub isOutside : ℕ → Bool
@@ -64,8 +64,8 @@ isOutside s = leb 16 s and leb s 1023
 
 -- a site that a call with n parameters may name: "sites 7 to 15 are unknown", "counts are at most 4"
 unfoldable pub siteTakes : ℕ → ℕ → Bool
-siteTakes s n = (isBuiltin s and eqb n (getD counts s 0)) or (isOutside s and leb n 4)
+siteTakes s n = (isBuiltin s and eqb n (getD builtinCounts s 0)) or (isOutside s and leb n 4)
 
 -- what a built-in says to its parameters' values. (No other site is asked: `isBuiltin` is tested first.)
 unfoldable pub builtin : ℕ → List ℤ → BuiltinReply
-builtin s vs = getD builtins s (record { count = 0; reply = λ vs. silent }) .reply vs
+builtin s vs = getD builtinTable s (record { count = 0; reply = λ vs. silent }) .reply vs

@@ -6,7 +6,7 @@ use lib.ListN.{length, getD}
 use lib.IntN.{ℤ}
 use Rattle.job.specs.Test.{All}
 use Rattle.job.specs.Number.{Signed32}
-use Rattle.job.specs.Site.{counts}
+use Rattle.job.specs.Site.{builtinCounts}
 use Rattle.job.specs.Syntax.{Param, Join, Exp, Definition, Program, formalsOf, levels, scopeLeft, scopeRight}
 use Rattle.job.specs.Encode.{encodeEntries}
 
@@ -17,14 +17,14 @@ pub data GoodParam (scope : List ℕ) : Param → Type 0 where
 
 -- a site that takes n parameters: a built-in its own count, an outside site at most 4
 pub data SiteTakes (s n : ℕ) : Type 0 where
-  builtin : s < length counts → n ≡ getD counts s 0 → SiteTakes s n
+  builtin : s < length builtinCounts → n ≡ getD builtinCounts s 0 → SiteTakes s n
   outside : 16 ≤ s → s ≤ 1023 → n ≤ 4 → SiteTakes s n
 
 -- "variables are numbered by level: .. each binder takes the next number"; "at most 8 are in scope"
-pub data Binds (scope : List ℕ) : Join → Type 0 where
-  par : Binds scope Join.par
-  seq : length scope < 8 → Binds scope (Join.seq (length scope))
-  prune : length scope < 8 → Binds scope (Join.prune (length scope))
+pub data GoodJoin (scope : List ℕ) : Join → Type 0 where
+  par : GoodJoin scope Join.par
+  seq : length scope < 8 → GoodJoin scope (Join.seq (length scope))
+  prune : length scope < 8 → GoodJoin scope (Join.prune (length scope))
 
 -- an expression with so many levels of depth left, where these variables are in scope; `formals` are those of the definitions
 pub data Good (formals : List ℕ) : (left : ℕ) → (scope : List ℕ) → Exp → Type 0 where
@@ -34,7 +34,7 @@ pub data Good (formals : List ℕ) : (left : ℕ) → (scope : List ℕ) → Exp
   call : {left : ℕ} {scope : List ℕ} {d : ℕ} {ps : List Param}
       → d < length formals → length ps ≡ getD formals d 0 → All (GoodParam scope) ps → Good formals (suc left) scope (Exp.call d ps)
   join : {left : ℕ} {scope : List ℕ} {j : Join} {f g : Exp}
-      → Binds scope j → Good formals left (scopeLeft j scope) f → Good formals left (scopeRight j scope) g
+      → GoodJoin scope j → Good formals left (scopeLeft j scope) f → Good formals left (scopeRight j scope) g
       → Good formals (suc left) scope (Exp.join j f g)
 
 -- "count of formals, 0 to 4"; "the root of a body or of the goal has depth 1; depth ends at 24"

@@ -64,12 +64,12 @@ nodeBy ws =
     (getD ws 0 0) Node.unknown
 
 -- the node whose words these are
-unfoldable pub nodeOf : List ℕ → Node
-nodeOf ws = let n = nodeBy ws in elim (same ws (nodeWords n)) [ true ↦ n | false ↦ Node.unknown ]
+unfoldable pub decodedNode : List ℕ → Node
+decodedNode ws = let n = nodeBy ws in elim (same ws (nodeWords n)) [ true ↦ n | false ↦ Node.unknown ]
 
 unfoldable pub nodesFrom : ℕ → List ℕ → List Node
 nodesFrom zero ws = []
-nodesFrom (suc n) ws = nodeOf (take 12 ws) ∷ nodesFrom n (drop 12 ws)
+nodesFrom (suc n) ws = decodedNode (take 12 ws) ∷ nodesFrom n (drop 12 ws)
 
 unfoldable pub bodiesFrom : ℕ → List ℕ → List Body
 bodiesFrom zero ws = []
@@ -91,9 +91,9 @@ dagOf ws =
       goal = getD ws 2 0;
     }
 
-unfoldable pub rowsOf : List Node → List ℕ
-rowsOf [] = []
-rowsOf (n ∷ ns) = nodeWords n ++ rowsOf ns
+unfoldable pub rowsOfNodes : List Node → List ℕ
+rowsOfNodes [] = []
+rowsOfNodes (n ∷ ns) = nodeWords n ++ rowsOfNodes ns
 
 unfoldable pub bodyWords : List Body → List ℕ
 bodyWords [] = []
@@ -102,4 +102,4 @@ bodyWords (b ∷ bs) = b .root ∷ b .formals ∷ bodyWords bs
 -- the array after the dag was written into it
 unfoldable pub written : Dag → List ℕ → List ℕ
 written d ws =
-    sets (sets ws 0 (length (d .nodes) ∷ length (d .bodies) ∷ d .goal ∷ bodyWords (d .bodies))) headWords (rowsOf (d .nodes))
+    sets (sets ws 0 (length (d .nodes) ∷ length (d .bodies) ∷ d .goal ∷ bodyWords (d .bodies))) headWords (rowsOfNodes (d .nodes))

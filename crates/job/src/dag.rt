@@ -11,22 +11,22 @@ pub const DEFINITION_COUNT: usize = 1;
 
 pub const GOAL: usize = 2;
 
-pub const DEFINITIONS: usize = 3;
+pub const DEFINITIONS_START: usize = 3;
 
 // Where the nodes' rows begin, and how many words each has.
-pub const HEAD: usize = 67;
+pub const HEAD_WORDS: usize = 67;
 
-pub const ROW: usize = 12;
+pub const ROW_WORDS: usize = 12;
 
 // The words of a row, behind the node's kind. First the site, definition or variable that the node names, or the left node; then the next node, or
 // the right node; then how many parameters there are, or the variable that where binds; then the parameters, each with its kind and its word.
-pub const NAMED: usize = 1;
+pub const NAMED_NUMBER: usize = 1;
 
-pub const LEFT: usize = 1;
+pub const LEFT_NODE: usize = 1;
 
-pub const NEXT: usize = 2;
+pub const NEXT_NODE: usize = 2;
 
-pub const RIGHT: usize = 2;
+pub const RIGHT_NODE: usize = 2;
 
 pub const PARAMETER_COUNT: usize = 3;
 

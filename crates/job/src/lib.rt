@@ -1,4 +1,4 @@
 // A job: its table, its dag, and the numbers that they name. Nothing of the machine is read here.
 pub mod dag;
-pub mod sites;
+pub mod site_parameters;
 pub mod wide;

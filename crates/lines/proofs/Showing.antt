@@ -13,18 +13,18 @@ use lib.Seq.{sets, sets-eq, length-sets, length-take-le, take-all, take-at, take
 use Rattle.job.proofs.Test.{le-leb, lt-not-leb}
 use Rattle.text.specs.Written.{Written}
 use Rattle.job.proofs.Stores.{sets-append}
-use Rattle.lines.specs.Shown.{shown, placed, showing, Shows}
+use Rattle.lines.specs.Shown.{shown, withByte, showing, ShowsBytes}
 
 -- one byte: before the part that is shown, in it, behind it
-pub placed-before : (o : List ℕ) (from total b : ℕ) → total < from → o ≡ placed o from total b
-unfolding placed
-placed-before o from total b l = rw (lt-not-leb from total l, placed) refl
+pub placed-before : (o : List ℕ) (from total b : ℕ) → total < from → o ≡ withByte o from total b
+unfolding withByte
+placed-before o from total b l = rw (lt-not-leb from total l, withByte) refl
 
-pub placed-inside : (o : List ℕ) (from total b : ℕ) → from ≤ total → set o (total - from) b ≡ placed o from total b
-unfolding placed
-placed-inside o from total b l = rw (le-leb from total l, placed) refl
+pub placed-inside : (o : List ℕ) (from total b : ℕ) → from ≤ total → set o (total - from) b ≡ withByte o from total b
+unfolding withByte
+placed-inside o from total b l = rw (le-leb from total l, withByte) refl
 
-pub placed-behind : (o : List ℕ) (from total b : ℕ) → from ≤ total → length o ≤ total - from → o ≡ placed o from total b
+pub placed-behind : (o : List ℕ) (from total b : ℕ) → from ≤ total → length o ≤ total - from → o ≡ withByte o from total b
 placed-behind o from total b l h = sym (set-out o (total - from) b h) ∙ placed-inside o from total b l
 
 -- one part behind another
@@ -34,24 +34,24 @@ unfolding showing
 showing-append o from total [] ys = rw (add-zero total) refl
 showing-append o from total (x ∷ xs) ys =
     let e : suc total + length xs ≡ total + suc (length xs) = omega arith in
-    showing-append (placed o from total x) from (suc total) xs ys
-    ∙ ap (λ (n : ℕ). showing (showing (placed o from total x) from (suc total) xs) from n ys) e
+    showing-append (withByte o from total x) from (suc total) xs ys
+    ∙ ap (λ (n : ℕ). showing (showing (withByte o from total x) from (suc total) xs) from n ys) e
 
 pub showing-length : (o : List ℕ) (from total : ℕ) (xs : List ℕ) → length (showing o from total xs) ≡ length o
-unfolding showing placed
+unfolding showing withByte
 showing-length o from total [] = refl
-showing-length o from total (x ∷ xs) = showing-length (placed o from total x) from (suc total) xs ∙ placed-length (leb from total)
+showing-length o from total (x ∷ xs) = showing-length (withByte o from total x) from (suc total) xs ∙ placed-length (leb from total)
   where
     placed-length : (b : Bool) → length {A = ℕ} (elim b [ true ↦ set o (total - from) x | false ↦ o ]) ≡ length o
     placed-length true = length-set o (total - from) x
     placed-length false = refl
 
-pub shows-none : (o : List ℕ) (from total : ℕ) → Shows o from total [] o total
+pub shows-none : (o : List ℕ) (from total : ℕ) → ShowsBytes o from total [] o total
 unfolding showing
 shows-none o from total = record { stored = refl; behind = omega arith }
 
-pub shows-then : {o m r : List ℕ} {from total middle next : ℕ} {xs ys : List ℕ} → Shows o from total xs m middle → Shows m from middle ys r next
-    → Shows o from total (xs ++ ys) r next
+pub shows-then : {o m r : List ℕ} {from total middle next : ℕ} {xs ys : List ℕ} → ShowsBytes o from total xs m middle → ShowsBytes m from middle ys r next
+    → ShowsBytes o from total (xs ++ ys) r next
 shows-then {o} {m} {r} {from} {total} {middle} {next} {xs} {ys} f s =
     let l = length-append xs ys in
     let a = f .behind in
@@ -65,28 +65,28 @@ shows-then {o} {m} {r} {from} {total} {middle} {next} {xs} {ys} f s =
       behind = omega arith;
     }
 
-pub shows-as : {o r : List ℕ} {from total next : ℕ} {xs ys : List ℕ} → xs ≡ ys → Shows o from total xs r next → Shows o from total ys r next
-shows-as {o} {r} {from} {total} {next} e s = subst (λ (bytes : List ℕ). Shows o from total bytes r next) e s
+pub shows-as : {o r : List ℕ} {from total next : ℕ} {xs ys : List ℕ} → xs ≡ ys → ShowsBytes o from total xs r next → ShowsBytes o from total ys r next
+shows-as {o} {r} {from} {total} {next} e s = subst (λ (bytes : List ℕ). ShowsBytes o from total bytes r next) e s
 
 -- a loop's turn: one more byte of a line
 pub line-more : (line o m r : List ℕ) (from total i : ℕ) → i < length line → m ≡ showing o from total (take i line)
-    → r ≡ placed m from (total + i) (getD line i 0) → r ≡ showing o from total (take (i + 1) line)
+    → r ≡ withByte m from (total + i) (getD line i 0) → r ≡ showing o from total (take (i + 1) line)
 unfolding showing
 line-more line o m r from total i l f s =
     let n : length (take i line) ≡ i = length-take-le i line (omega arith) in
     s
-    ∙ ap (λ (u : List ℕ). placed u from (total + i) (getD line i 0)) f
-    ∙ ap (λ (k : ℕ). placed (showing o from total (take i line)) from (total + k) (getD line i 0)) (sym n)
+    ∙ ap (λ (u : List ℕ). withByte u from (total + i) (getD line i 0)) f
+    ∙ ap (λ (k : ℕ). withByte (showing o from total (take i line)) from (total + k) (getD line i 0)) (sym n)
     ∙ sym (showing-append o from total (take i line) (getD line i 0 ∷ []))
     ∙ ap (showing o from total) (sym (take-suc line i 0 l) ∙ ap (λ (k : ℕ). take k line) (sym (add-one i)))
 
 -- and at its end
 pub line-shown : (line o r : List ℕ) (from total i : ℕ) → i ≤ length line → length line ≤ i → r ≡ showing o from total (take i line)
-    → Shows o from total line r (total + length line)
+    → ShowsBytes o from total line r (total + length line)
 line-shown line o r from total i a b e = record { stored = e ∙ ap (showing o from total) (take-all i line b); behind = refl }
 
 -- one more byte of the text
-shown-more : (o : List ℕ) (from : ℕ) (w : List ℕ) (b : ℕ) → placed (shown o from w) from (length w) b ≡ shown o from (w ++ (b ∷ []))
+shown-more : (o : List ℕ) (from : ℕ) (w : List ℕ) (b : ℕ) → withByte (shown o from w) from (length w) b ≡ shown o from (w ++ (b ∷ []))
 unfolding shown
 shown-more o from w b = go (decLt (length w) from)
   where
@@ -98,7 +98,7 @@ shown-more o from w b = go (decLt (length w) from)
         ap (λ (u : List ℕ). sets o 0 (take (length o) u))
         (drop-of-length-le w {i = from} (omega arith) ∙ sym (drop-of-length-le (w ++ (b ∷ [])) {i = from} (omega (arith, more))))
 
-    go : Dec (length w < from) → placed (shown o from w) from (length w) b ≡ shown o from (w ++ (b ∷ []))
+    go : Dec (length w < from) → withByte (shown o from w) from (length w) b ≡ shown o from (w ++ (b ∷ []))
     go (yes l) = sym (placed-before (shown o from w) from (length w) b l) ∙ early l
     go (no f) = later (decLt (length w - from) (length o))
       where
@@ -117,7 +117,7 @@ shown-more o from w b = go (decLt (length w) from)
         same : length (shown o from w) ≡ length o
         same = length-sets o 0 (take (length o) (drop from w))
 
-        later : Dec (length w - from < length o) → placed (shown o from w) from (length w) b ≡ shown o from (w ++ (b ∷ []))
+        later : Dec (length w - from < length o) → withByte (shown o from w) from (length w) b ≡ shown o from (w ++ (b ∷ []))
         later (no g) =
             sym (placed-behind (shown o from w) from (length w) b inside (omega (arith, same)))
             ∙ ap (sets o 0) (sym (take-append-le (length o) (drop from w) (b ∷ []) (omega (arith, size))) ∙ ap (take (length o)) (sym part))
@@ -139,7 +139,7 @@ shown-on o from w (b ∷ bs) =
     ∙ ap (shown o from) (append-assoc w (b ∷ []) bs)
 
 -- all bytes, from the first
-pub shown-all : {o r : List ℕ} {from n : ℕ} {bytes : List ℕ} → Shows o from 0 bytes r n → (n ≡ length bytes) × (r ≡ shown o from bytes)
+pub shown-all : {o r : List ℕ} {from n : ℕ} {bytes : List ℕ} → ShowsBytes o from 0 bytes r n → (n ≡ length bytes) × (r ≡ shown o from bytes)
 unfolding shown
 shown-all {o} {r} {from} {n} {bytes} s = (
   (let e = s .behind in omega arith),
@@ -157,7 +157,7 @@ written-front {n = n} {before = before} {bytes = bytes} w l =
 
 -- the front of a line's buffer, as the line that was written there
 pub shows-line : {n k : ℕ} {before after bytes o r : List ℕ} {from total : ℕ} → Written 80 before 0 bytes after n → length before ≡ 80
-    → Shows o from total (take n after) r k → Shows o from total bytes r k
+    → ShowsBytes o from total (take n after) r k → ShowsBytes o from total bytes r k
 shows-line w e s = let f = w .few in shows-as (written-front w (omega arith)) s
 
 pub front-few : {n : ℕ} {before after bytes : List ℕ} → Written 80 before 0 bytes after n → n ≤ 80

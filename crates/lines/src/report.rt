@@ -2,10 +2,10 @@
 ghost use mathlib.Core.Path.{_≡_};
 ghost use Prim.Native.Nat.{_+_, _≤_, min};
 ghost use lib.ListN.{take};
-ghost use Rattle.model.specs.Lines.Line.{publish, call, refused, textOf, textOfAll};
-ghost use Rattle.model.specs.Lines.Orcrun.{linesOf};
+ghost use Rattle.model.specs.Output.Line.{publish, call, refused, textOf, textOfAll};
+ghost use Rattle.model.specs.Output.Orcrun.{reportedLines};
 ghost use Rattle.model.specs.Machine.Reply.{numberOf, reported};
-ghost use Rattle.lines.specs.Shown.{Shows};
+ghost use Rattle.lines.specs.Shown.{ShowsBytes};
 use crate::shown::show_front;
 use model::reply::Refusal;
 use model::reply::Reply;
@@ -34,16 +34,16 @@ fn at_most_four(count: u8) -> usize
     4
 }
 
-fn tell_publish(v: i32, output: &mut [u8], from: usize, total: usize) -> usize
+fn show_publish(v: i32, output: &mut [u8], from: usize, total: usize) -> usize
     requires { ⌜ total + 80 ≤ 1000000000 ⌝ }
-    ensures { λ r. ⌜ Shows (now (output .entry)) from total (textOf (publish v)) (now (output .exit)) r × (r ≤ total + 80) ⌝ }
+    ensures { λ r. ⌜ ShowsBytes (now (output .entry)) from total (textOf (publish v)) (now (output .exit)) r × (r ≤ total + 80) ⌝ }
 {
     let mut buffer = [0u8; 80];
     let n = line::put_publish(&mut buffer, 0, v);
     show_front(buffer, n, output, from, total)
 }
 
-fn tell_call(
+fn show_call(
     handle: u32,
     site: u16,
     values: [i32; 4],
@@ -53,16 +53,16 @@ fn tell_call(
     total: usize,
 ) -> usize
     requires { ⌜ (total + 80 ≤ 1000000000) × (count ≤ 4) ⌝ }
-    ensures { λ r. ⌜ Shows (now (output .entry)) from total (textOf (call handle site (take count values))) (now (output .exit)) r × (r ≤ total + 80) ⌝ }
+    ensures { λ r. ⌜ ShowsBytes (now (output .entry)) from total (textOf (call handle site (take count values))) (now (output .exit)) r × (r ≤ total + 80) ⌝ }
 {
     let mut buffer = [0u8; 80];
     let n = line::put_call(&mut buffer, 0, handle, site, values, count);
     show_front(buffer, n, output, from, total)
 }
 
-fn tell_refused(number: u8, output: &mut [u8], from: usize, total: usize) -> usize
+fn show_refused(number: u8, output: &mut [u8], from: usize, total: usize) -> usize
     requires { ⌜ total + 80 ≤ 1000000000 ⌝ }
-    ensures { λ r. ⌜ Shows (now (output .entry)) from total (textOf (refused number)) (now (output .exit)) r × (r ≤ total + 80) ⌝ }
+    ensures { λ r. ⌜ ShowsBytes (now (output .entry)) from total (textOf (refused number)) (now (output .exit)) r × (r ≤ total + 80) ⌝ }
 {
     let mut buffer = [0u8; 80];
     let n = line::put_refused(&mut buffer, 0, number);
@@ -70,22 +70,28 @@ fn tell_refused(number: u8, output: &mut [u8], from: usize, total: usize) -> usi
 }
 
 // Shows the line of a reply behind the first `total` bytes. Answers how many there are then.
-pub fn tell(reply: Reply, values: [i32; 4], output: &mut [u8], from: usize, total: usize) -> usize
+pub fn show_reply(
+    reply: Reply,
+    values: [i32; 4],
+    output: &mut [u8],
+    from: usize,
+    total: usize,
+) -> usize
     requires { ⌜ total + 80 ≤ 1000000000 ⌝ }
-    ensures { λ r. ⌜ Shows (now (output .entry)) from total (textOfAll (linesOf (reported reply values))) (now (output .exit)) r ⌝ }
+    ensures { λ r. ⌜ ShowsBytes (now (output .entry)) from total (textOfAll (reportedLines (reported reply values))) (now (output .exit)) r ⌝ }
     ensures { λ r. ⌜ r ≤ total + 80 ⌝ }
 {
     match reply {
         Reply::Done => total,
         Reply::Waits => total,
-        Reply::Published(v) => tell_publish(v, output, from, total),
+        Reply::Published(v) => show_publish(v, output, from, total),
         Reply::Called(handle, site, count) => {
             let n = at_most_four(count);
-            tell_call(handle, site, values, n, output, from, total)
+            show_call(handle, site, values, n, output, from, total)
         }
         Reply::Refused(refusal) => {
             let number = number_of(refusal);
-            tell_refused(number, output, from, total)
+            show_refused(number, output, from, total)
         }
     }
 }

@@ -2,11 +2,11 @@
 ghost use mathlib.Core.Path.{_≡_};
 ghost use Prim.Native.Nat.{_+_, _≤_};
 ghost use lib.ListN.{length, take};
-ghost use Rattle.lines.specs.Shown.{Shows, placed};
+ghost use Rattle.lines.specs.Shown.{ShowsBytes, withByte};
 
 // The byte behind the first `total`.
 fn show_byte(output: &mut [u8], from: usize, total: usize, byte: u8)
-    ensures { λ _. ⌜ now (output .exit) ≡ placed (now (output .entry)) from total byte ⌝ }
+    ensures { λ _. ⌜ now (output .exit) ≡ withByte (now (output .entry)) from total byte ⌝ }
 {
     if total < from {
         return;
@@ -20,7 +20,7 @@ fn show_byte(output: &mut [u8], from: usize, total: usize, byte: u8)
 // The bytes of a line, behind the first `total`. Answers how many there are then.
 fn show(line: &[u8], output: &mut [u8], from: usize, total: usize) -> usize
     requires { ⌜ total + length (now line) ≤ 1000000000 ⌝ }
-    ensures { λ r. ⌜ Shows (now (output .entry)) from total (now (line .entry)) (now (output .exit)) r ⌝ }
+    ensures { λ r. ⌜ ShowsBytes (now (output .entry)) from total (now (line .entry)) (now (output .exit)) r ⌝ }
 {
     let mut i = 0;
     while i < line.len() {
@@ -33,7 +33,7 @@ fn show(line: &[u8], output: &mut [u8], from: usize, total: usize) -> usize
 // The first `n` bytes of a line's buffer.
 pub fn show_front(buffer: [u8; 80], n: usize, output: &mut [u8], from: usize, total: usize) -> usize
     requires { ⌜ (n ≤ 80) × (total + 80 ≤ 1000000000) ⌝ }
-    ensures { λ r. ⌜ Shows (now (output .entry)) from total (take n buffer) (now (output .exit)) r ⌝ }
+    ensures { λ r. ⌜ ShowsBytes (now (output .entry)) from total (take n buffer) (now (output .exit)) r ⌝ }
 {
     show(&buffer[0..n], output, from, total)
 }

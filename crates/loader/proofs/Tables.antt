@@ -11,7 +11,7 @@ use Rattle.job.specs.Number.{number}
 use Rattle.job.specs.Syntax.{Program}
 use Rattle.job.specs.Entry.{entries}
 use Rattle.job.specs.Construct.{construct}
-use Rattle.job.specs.Read.{Got, Read, got, refused, _>>=_, need, readEntries, sizeD, sizeN, readBytes, answerOf, readTable}
+use Rattle.job.specs.Read.{Got, Read, got, refused, _>>=_, need, readEntries, sizeD, sizeN, readBytes, readerAnswer, readTable}
 use Rattle.job.proofs.Test.{eq-eqb, ne-eqb, le-leb, lt-not-leb}
 use Rattle.reader.specs.Checked.{checkedProgram}
 use Rattle.reader.specs.declared.checked.Checked.{Checked}
@@ -24,20 +24,20 @@ use Rattle.loader.specs.declared.table.Loaded.the-variants.{Dag, Refused
 
 -- what was loaded, and the words behind it, are those of a reading
 abbrev Loads : Read Program → Loaded → (d d1 : List ℕ) → Type 0
-Loads p r d d1 = (r ≡ loaded (answerOf p)) × (d1 ≡ loadedWords (answerOf p) d)
+Loads p r d d1 = (r ≡ loaded (readerAnswer p)) × (d1 ≡ loadedWords (readerAnswer p) d)
 
 module _ (ks os : List ℕ) (n : ℕ) (q : Checked) (eq : q ≡ checkedProgram (readEntries n (entries ks os))) where
   module _ (k e : ℕ) (h : q ≡ checked.Refused k e) where
     declined : readEntries n (entries ks os) ≡ refused k e
     declined = checked-refused (λ p. length (construct p .nodes)) (readEntries n (entries ks os)) k e (sym eq ∙ h)
 
-    pub refused-answer : Refused k e ≡ loaded (answerOf (readEntries n (entries ks os)))
-    unfolding answerOf loaded
+    pub refused-answer : Refused k e ≡ loaded (readerAnswer (readEntries n (entries ks os)))
+    unfolding readerAnswer loaded
     refused-answer = rw declined
 
     -- "A refusal leaves machine and dag as before the call"
-    pub refused-words : (d : List ℕ) → d ≡ loadedWords (answerOf (readEntries n (entries ks os))) d
-    unfolding answerOf loadedWords
+    pub refused-words : (d : List ℕ) → d ≡ loadedWords (readerAnswer (readEntries n (entries ks os))) d
+    unfolding readerAnswer loadedWords
     refused-words d = rw declined
 
   module _ (m k : ℕ) (h : q ≡ checked.Next m k) where
@@ -48,11 +48,11 @@ module _ (ks os : List ℕ) (n : ℕ) (q : Checked) (eq : q ≡ checkedProgram (
     parts-accepted = subst Accepts (sym (read .1)) accepts
 
     pub parts-done : (d d1 : List ℕ) → d1 ≡ storedProgram (readEntries n (entries ks os)) d → Loads (readEntries n (entries ks os)) (Dag k) d d1
-    unfolding answerOf loaded loadedWords
+    unfolding readerAnswer loaded loadedWords
     parts-done d d1 e =
         let r = read .1 in (
-          sym (ap (λ p. loaded (answerOf p)) r ∙ ap Dag (read .3)),
-          e ∙ ap (λ p. storedProgram p d) r ∙ sym (ap (λ p. loadedWords (answerOf p) d) r),
+          sym (ap (λ p. loaded (readerAnswer p)) r ∙ ap Dag (read .3)),
+          e ∙ ap (λ p. storedProgram p d) r ∙ sym (ap (λ p. loadedWords (readerAnswer p) d) r),
         )
 
 -- two bytes at an index
@@ -66,7 +66,7 @@ module _ (t d : List ℕ) where
   Declined k = (Refused k 0 ≡ loaded (readTable t)) × (d ≡ loadedWords (readTable t) d)
 
   decline : (k : ℕ) → readBytes t ≡ refused k 0 → Declined k
-  unfolding readTable answerOf loaded loadedWords
+  unfolding readTable readerAnswer loaded loadedWords
   decline k h = (rw h, rw h)
 
   pub table-short : length t < 4 → Declined 1

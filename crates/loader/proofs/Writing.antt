@@ -10,22 +10,22 @@ use native.Mathlib.Omega.{arith}
 use lib.ListN.{length, getD, drop, length-append}
 use lib.Seq.{sets}
 use Rattle.job.specs.Syntax.{Exp, Definition, levels}
-use Rattle.job.specs.Entry.{entries, Kind, kindOf, rowHolds}
-use Rattle.job.specs.Construct.{size, root}
-use Rattle.job.specs.Words.{rowsOf, bodyWords}
+use Rattle.job.specs.Entry.{entries, EntryKind, kindOf, rowHolds}
+use Rattle.job.specs.Construct.{nodeCount, root}
+use Rattle.job.specs.Words.{rowsOfNodes, bodyWords}
 use Rattle.job.specs.Read.{Got, Read, got, _>>=_, gives, need, entryAt, readExp, isDefinition, readDefinition}
 use Rattle.job.proofs.Test.{leb-le}
 use Rattle.job.proofs.Position.{operandAt, entries-at, bind-got}
 use Rattle.reader.specs.Checked.{Parts, entriesFrom}
-use Rattle.reader.specs.Definitions.{readDefinitions, definitionNodes, definitionsNodes}
+use Rattle.reader.specs.DefinitionList.{readDefinitionList, definitionNodes, definitionListNodes}
 use Rattle.reader.proofs.DefinitionLoop.{Defined, defined}
 use Rattle.reader.proofs.ProgramParts.{same-got}
 use Rattle.compiler.specs.Compiled.{reading}
-use Rattle.compiler.specs.Body.{compiledBody, storedBody}
+use Rattle.compiler.specs.Body.{compiledWithSink, storedBody}
 use Rattle.compiler.specs.declared.expression.Compiled.{Compiled}
-use Rattle.compiler.proofs.Heads.{test-kept}
+use Rattle.compiler.proofs.Heads.{test-holds}
 use Rattle.compiler.proofs.Reread.{reread}
-use Rattle.loader.specs.Stored.{Fits, fits, BodyRead, DefinitionsRead, definitions, nodesBefore, bodiesBefore, placed, wordsBefore, storedDefinitions}
+use Rattle.loader.specs.Stored.{Fits, fits, BodyRead, DefinitionsRead, definitions, nodesBefore, bodiesBefore, placeBehind, wordsBefore, storedDefinitions}
 use Rattle.loader.specs.declared.program.Place.{Place}
 use Rattle.loader.proofs.Before.{count-append, one-more}
 
@@ -41,33 +41,33 @@ body-of : (ks os : List ℕ) (at : ℕ) (g : Got Definition) → at < length ks 
 unfolding readDefinition entryAt _>>=_ rowHolds
 body-of ks os at g l r =
     let a = bind-got (need (isDefinition (kindOf (getD ks at 0))) 3 at) _ g (ap (readDefinition at) (sym (entries-at ks os at l)) ∙ r) in
-    let b = bind-got (need (rowHolds Kind.definition (operandAt os at)) 4 at) _ g (a .2) in
+    let b = bind-got (need (rowHolds EntryKind.definition (operandAt os at)) 4 at) _ g (a .2) in
     let c = bind-got (readExp 24 (levels (operandAt os at)) (suc at) (drop (suc at) (entries ks os))) _ g (b .2) in
     same-got (BodyOf ks os at) _ g (c .2)
-    (record { body = c .0; read = c .1; value = refl; next = refl; small = leb-le (operandAt os at) 4 (test-kept _ 4 at (b .0) (b .1)) })
+    (record { body = c .0; read = c .1; value = refl; next = refl; small = leb-le (operandAt os at) 4 (test-holds _ 4 at (b .0) (b .1)) })
 
 -- the loop's invariant: `done` are stored, `left` is read from entry `at` on, and both are all
 pub record Writing (count : ℕ) (ks os ws l : List ℕ) (at node i : ℕ) : Type 0 where
   pub all : Got (List Definition)
-  pub read-all : readDefinitions count 0 (entries ks os) ≡ got all
-  pub fits : definitionsNodes (all .value) < 1022
+  pub read-all : readDefinitionList count 0 (entries ks os) ≡ got all
+  pub fits : definitionListNodes (all .value) < 1022
   pub done : List Definition
   pub left : Got (List Definition)
-  pub read-left : readDefinitions (count - i) at (entriesFrom ks os at) ≡ got left
+  pub read-left : readDefinitionList (count - i) at (entriesFrom ks os at) ≡ got left
   pub whole : done ++ left .value ≡ all .value
   pub ends : left .next ≡ all .next
   pub many : length done ≡ i
   pub most : i ≤ count
-  pub placed : node ≡ definitionsNodes done
+  pub placed : node ≡ definitionListNodes done
   pub words : l ≡ wordsBefore done ws
 
-view : (r : Read (List Definition)) → DefinitionsRead r → (g : Got (List Definition)) × (r ≡ got g) × (definitionsNodes (g .value) < 1022)
+view : (r : Read (List Definition)) → DefinitionsRead r → (g : Got (List Definition)) × (r ≡ got g) × (definitionListNodes (g .value) < 1022)
 view (got g) (definitions h) = (g, refl, h)
 
-pub writing-start : (count : ℕ) (ks os ws : List ℕ) → DefinitionsRead (readDefinitions count 0 (entries ks os)) → Writing count ks os ws ws 0 0 0
-unfolding definitionsNodes wordsBefore nodesBefore bodiesBefore rowsOf bodyWords
+pub writing-start : (count : ℕ) (ks os ws : List ℕ) → DefinitionsRead (readDefinitionList count 0 (entries ks os)) → Writing count ks os ws ws 0 0 0
+unfolding definitionListNodes wordsBefore nodesBefore bodiesBefore rowsOfNodes bodyWords
 writing-start count ks os ws d =
-    let v = view (readDefinitions count 0 (entries ks os)) d in
+    let v = view (readDefinitionList count 0 (entries ks os)) d in
     record {
       all = v .0;
       read-all = v .1;
@@ -85,13 +85,13 @@ writing-start count ks os ws d =
 
 module _ (count : ℕ) (ks os ws l : List ℕ) (at node i : ℕ) (g : Writing count ks os ws l at node i) where
   pub writing-end : count ≤ i
-      → (_≡_ {A = Place} (record { at = at; node = node }) (placed (readDefinitions count 0 (entries ks os))))
-      × (l ≡ storedDefinitions (readDefinitions count 0 (entries ks os)) ws)
-  unfolding readDefinitions
+      → (_≡_ {A = Place} (record { at = at; node = node }) (placeBehind (readDefinitionList count 0 (entries ks os))))
+      × (l ≡ storedDefinitions (readDefinitionList count 0 (entries ks os)) ws)
+  unfolding readDefinitionList
   writing-end h =
       let z : count - i ≡ 0 = omega (arith, g .most) in
       let e : gives [] at (entriesFrom ks os at) ≡ got (g .left) =
-      ap (λ n. readDefinitions n at (entriesFrom ks os at)) (sym z) ∙ g .read-left in
+      ap (λ n. readDefinitionList n at (entriesFrom ks os at)) (sym z) ∙ g .read-left in
       let none : g .left .value ≡ [] = cc in
       let here : g .left .next ≡ at = cc in
       let same : g .all .value ≡ g .done = sym (g .whole) ∙ ap (λ ds. g .done ++ ds) none ∙ append-nil (g .done) in
@@ -104,18 +104,18 @@ module _ (count : ℕ) (ks os ws l : List ℕ) (at node i : ℕ) (g : Writing co
       new : Got Definition
       others : Got (List Definition)
       read-new : readDefinition at (entriesFrom ks os at) ≡ got new
-      read-others : readDefinitions (count - (i + 1)) (new .next) (new .rest) ≡ got others
+      read-others : readDefinitionList (count - (i + 1)) (new .next) (new .rest) ≡ got others
       value : g .left .value ≡ new .value ∷ others .value
       next : g .left .next ≡ others .next
 
     turn : Turn
-    unfolding readDefinitions
+    unfolding readDefinitionList
     turn =
         let z : count - i ≡ suc (count - (i + 1)) = omega arith in
-        let r : readDefinitions (suc (count - (i + 1))) at (entriesFrom ks os at) ≡ got (g .left) =
-        ap (λ n. readDefinitions n at (entriesFrom ks os at)) (sym z) ∙ g .read-left in
+        let r : readDefinitionList (suc (count - (i + 1))) at (entriesFrom ks os at) ≡ got (g .left) =
+        ap (λ n. readDefinitionList n at (entriesFrom ks os at)) (sym z) ∙ g .read-left in
         let d = bind-got (readDefinition at (entriesFrom ks os at)) _ (g .left) r in
-        let ds = bind-got (readDefinitions (count - (i + 1)) (d .0 .next) (d .0 .rest)) _ (g .left) (d .2) in
+        let ds = bind-got (readDefinitionList (count - (i + 1)) (d .0 .next) (d .0 .rest)) _ (g .left) (d .2) in
         record { new = d .0; others = ds .0; read-new = d .1; read-others = ds .1; value = cc; next = cc }
 
     facts : Defined ks os at (turn .new)
@@ -139,13 +139,13 @@ module _ (count : ℕ) (ks os ws l : List ℕ) (at node i : ℕ) (g : Writing co
           let e = sym (add-one at) in
           reread (readExp 24) (ap levels (sym eo)) e (ap (λ m. drop m (entries ks os)) e) (its .read)
 
-      room : node + size (its .body .value) < 1022
-      unfolding definitionsNodes
+      room : node + nodeCount (its .body .value) < 1022
+      unfolding definitionListNodes
       room =
           let a = count-append (g .done) (g .left .value) in
-          let b = ap definitionsNodes (g .whole) in
-          let c = ap definitionsNodes (turn .value) in
-          let d = ap (λ (d : Definition). size (d .body)) (its .value) in
+          let b = ap definitionListNodes (g .whole) in
+          let c = ap definitionListNodes (turn .value) in
+          let d = ap (λ (d : Definition). nodeCount (d .body)) (its .value) in
           let p = g .placed in
           let f = g .fits in
           omega arith
@@ -155,17 +155,17 @@ module _ (count : ℕ) (ks os ws l : List ℕ) (at node i : ℕ) (g : Writing co
           let s = its .small in
           record { parts = p; scoped = omega arith; fits = subst (λ r. Fits r node) (sym read) (fits room) }
 
-      pub turn-more : count ≤ 32 → (c : Compiled) (l1 l2 : List ℕ) → c ≡ compiledBody (reading 24 ks os o (at + 1)) node
+      pub turn-more : count ≤ 32 → (c : Compiled) (l1 l2 : List ℕ) → c ≡ compiledWithSink (reading 24 ks os o (at + 1)) node
           → l1 ≡ storedBody (reading 24 ks os o (at + 1)) false node l → l2 ≡ sets l1 (3 + 2 * i) (c .root ∷ o ∷ [])
           → Writing count ks os ws l2 (c .at) (c .node) (i + 1)
-      unfolding definitionsNodes
+      unfolding definitionListNodes
       turn-more k c l1 l2 ec e1 e2 =
           let d : Definition = record { formals = o; body = its .body .value } in
           let b = its .body in
           let same : turn .new .value ≡ d = its .value ∙ ap (λ m. record { formals = m; body = b .value }) (sym eo) in
-          let given : c ≡ compiledBody (got b) node = ec ∙ ap (λ r. compiledBody r node) read in
+          let given : c ≡ compiledWithSink (got b) node = ec ∙ ap (λ r. compiledWithSink r node) read in
           let e : turn .new .next ≡ c .at = its .next ∙ sym (ap (λ (x : Compiled). x .at) given) in
-          let n : c .node ≡ suc (node + size (b .value)) = ap (λ (x : Compiled). x .node) given in
+          let n : c .node ≡ suc (node + nodeCount (b .value)) = ap (λ (x : Compiled). x .node) given in
           let p = g .placed in
           record {
             all = g .all;
@@ -173,7 +173,7 @@ module _ (count : ℕ) (ks os ws l : List ℕ) (at node i : ℕ) (g : Writing co
             fits = g .fits;
             done = g .done ++ (d ∷ []);
             left = turn .others;
-            read-left = ap₂ (λ m es. readDefinitions (count - (i + 1)) m es) (sym e)
+            read-left = ap₂ (λ m es. readDefinitionList (count - (i + 1)) m es) (sym e)
                 (sym (facts .rest ∙ ap (λ m. entriesFrom ks os m) e)) ∙ turn .read-others;
             whole = append-assoc (g .done) (d ∷ []) (turn .others .value)
                 ∙ ap (λ ds. g .done ++ ds) (ap (λ x. x ∷ turn .others .value) (sym same) ∙ sym (turn .value)) ∙ g .whole;

@@ -7,7 +7,7 @@ use reader::checked::Checked;
 use reader::expression;
 ghost use mathlib.Core.Path.{_≡_};
 ghost use Rattle.compiler.specs.Compiled.{reading};
-ghost use Rattle.compiler.specs.Body.{compiledBody, storedBody};
+ghost use Rattle.compiler.specs.Body.{compiledWithSink, storedBody};
 ghost use Rattle.loader.specs.Stored.{BodyRead};
 
 // Stores the nodes of the body at entry `at`, numbered from `node`, and its sink behind them.
@@ -21,7 +21,7 @@ pub fn compile_body(
     goal: bool,
 ) -> Compiled
     requires { ⌜ BodyRead (now kinds) (now operands) scope at node ⌝ }
-    ensures { λ r. ⌜ r ≡ compiledBody (reading 24 (now (kinds .entry)) (now (operands .entry)) scope at) node ⌝ }
+    ensures { λ r. ⌜ r ≡ compiledWithSink (reading 24 (now (kinds .entry)) (now (operands .entry)) scope at) node ⌝ }
     ensures { λ _. ⌜ now (dag .exit) ≡ storedBody (reading 24 (now (kinds .entry)) (now (operands .entry)) scope at)
         goal node (now (dag .entry)) ⌝ }
 {

@@ -4,7 +4,7 @@ ghost use mathlib.Core.List.{[], _∷_};
 ghost use Prim.Native.Nat.{_+_, _*_, _<_};
 ghost use lib.Seq.{sets};
 use job::dag::DEFINITION_COUNT;
-use job::dag::DEFINITIONS;
+use job::dag::DEFINITIONS_START;
 use job::dag::GOAL;
 use job::dag::NODE_COUNT;
 use job::dag::WORDS;
@@ -14,7 +14,7 @@ pub fn put_definition(dag: &mut [u32; WORDS], i: usize, root: u32, formals: u32)
     requires { ⌜ i < 32 ⌝ }
     ensures { λ _. ⌜ now (dag .exit) ≡ sets (now (dag .entry)) (3 + 2 * i) (root ∷ formals ∷ []) ⌝ }
 {
-    let at = DEFINITIONS + 2 * i;
+    let at = DEFINITIONS_START + 2 * i;
     dag[at] = root;
     dag[at + 1] = formals;
 }

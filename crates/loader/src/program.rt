@@ -8,8 +8,8 @@ ghost use Prim.Native.Nat.{_≤_};
 ghost use Rattle.job.specs.Entry.{entries};
 ghost use Rattle.job.specs.Read.{readEntries};
 ghost use Rattle.reader.specs.Checked.{Parts};
-ghost use Rattle.reader.specs.Definitions.{readDefinitions};
-ghost use Rattle.loader.specs.Stored.{DefinitionsRead, Accepts, placed, storedDefinitions, storedProgram};
+ghost use Rattle.reader.specs.DefinitionList.{readDefinitionList};
+ghost use Rattle.loader.specs.Stored.{DefinitionsRead, Accepts, placeBehind, storedDefinitions, storedProgram};
 
 // The first entry and the first node behind what is compiled.
 pub struct Place {
@@ -21,9 +21,9 @@ pub struct Place {
 fn compile_definitions(kinds: &[u8], operands: &[u8], dag: &mut [u32; WORDS], count: usize) -> Place
     requires { ⌜ Parts (now kinds) (now operands) ⌝ }
     requires { ⌜ count ≤ 32 ⌝ }
-    requires { ⌜ DefinitionsRead (readDefinitions count 0 (entries (now kinds) (now operands))) ⌝ }
-    ensures { λ r. ⌜ r ≡ placed (readDefinitions count 0 (entries (now (kinds .entry)) (now (operands .entry)))) ⌝ }
-    ensures { λ _. ⌜ now (dag .exit) ≡ storedDefinitions (readDefinitions count 0 (entries (now (kinds .entry)) (now (operands .entry))))
+    requires { ⌜ DefinitionsRead (readDefinitionList count 0 (entries (now kinds) (now operands))) ⌝ }
+    ensures { λ r. ⌜ r ≡ placeBehind (readDefinitionList count 0 (entries (now (kinds .entry)) (now (operands .entry)))) ⌝ }
+    ensures { λ _. ⌜ now (dag .exit) ≡ storedDefinitions (readDefinitionList count 0 (entries (now (kinds .entry)) (now (operands .entry))))
         (now (dag .entry)) ⌝ }
 {
     let mut at = 0;

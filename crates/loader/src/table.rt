@@ -6,7 +6,7 @@ use reader::program as entries;
 ghost use mathlib.Core.Path.{_≡_};
 ghost use Prim.Native.Nat.{_+_, _*_, _<_, _≤_};
 ghost use Rattle.job.specs.Entry.{entries};
-ghost use Rattle.job.specs.Read.{answerOf, readEntries, readTable};
+ghost use Rattle.job.specs.Read.{readerAnswer, readEntries, readTable};
 ghost use Rattle.reader.specs.Checked.{Parts};
 ghost use Rattle.loader.specs.Loaded.{loaded, loadedWords};
 
@@ -27,9 +27,9 @@ pub fn half(low: u8, high: u8) -> usize
 fn load_parts(kinds: &[u8], operands: &[u8], dag: &mut [u32; WORDS], definitions: usize) -> Loaded
     requires { ⌜ Parts (now kinds) (now operands) ⌝ }
     requires { ⌜ definitions ≤ 32 ⌝ }
-    ensures { λ r. ⌜ r ≡ loaded (answerOf (readEntries definitions (entries (now (kinds .entry)) (now (operands .entry))))) ⌝ }
+    ensures { λ r. ⌜ r ≡ loaded (readerAnswer (readEntries definitions (entries (now (kinds .entry)) (now (operands .entry))))) ⌝ }
     ensures { λ _. ⌜ now (dag .exit)
-        ≡ loadedWords (answerOf (readEntries definitions (entries (now (kinds .entry)) (now (operands .entry))))) (now (dag .entry)) ⌝ }
+        ≡ loadedWords (readerAnswer (readEntries definitions (entries (now (kinds .entry)) (now (operands .entry))))) (now (dag .entry)) ⌝ }
 {
     let answer = entries::check_program(kinds, operands, definitions);
     match answer {

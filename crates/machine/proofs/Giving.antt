@@ -29,7 +29,7 @@ use Rattle.record.specs.Words.{wordsOf}
 use Rattle.coded.specs.Record.{isRecord}
 use Rattle.acts.specs.Acting.{Lawful, Gives, plain}
 use Rattle.acts.proofs.Outcomes.{gives-refused}
-use Rattle.machine.specs.Calls.{Yields, after, ofRecord, startOn, stepOn, answerOn}
+use Rattle.machine.specs.PublicCalls.{HasResult, after, ofRecord, startOn, stepOn, answerOn}
 
 -- a test that is denied
 pub denied : (b : Bool) → not b ≡ true → b ≡ false
@@ -49,10 +49,10 @@ both-tested false false rules f g = refl
 
 -- a refused call leaves every word
 module _ (ws : List ℕ) (why : Refusal) (r : Report) (e : r ≡ plain (replies.Refused why)) where
-  pub gave-refused : (o : Outcome) (m : Machine) → o ≡ outcome m (refuses why) → Yields (after ws o) r ws
+  pub gave-refused : (o : Outcome) (m : Machine) → o ≡ outcome m (refuses why) → HasResult (after ws o) r ws
   unfolding after outcome isRefused
   gave-refused o m f =
-      subst (λ x. Yields (after ws x) r ws) (sym f)
+      subst (λ x. HasResult (after ws x) r ws) (sym f)
       (record { reply = ap (λ (y : Report). y .reply) e; values = ap (λ (y : Report). y .values) e; words = refl })
 
 -- 14, for words that are no record's or that break an index rule
@@ -68,7 +68,7 @@ module _ (dag ws : List ℕ) (effect : Effect) where
   broken false b e f g = rw (e, ofRecord)
 
   pub gave-rule : (b : Bool) (r : Report) → b ≡ (isRecord ws and rulesHold paper (dagOf dag) (machineOf ws)) → b ≡ false
-      → r ≡ plain (replies.Refused refusals.Rule) → Yields (after ws (ofRecord ws o)) r ws
+      → r ≡ plain (replies.Refused refusals.Rule) → HasResult (after ws (ofRecord ws o)) r ws
   gave-rule b r e f g = gave-refused ws refusals.Rule r g (ofRecord ws o) (machineOf ws) (broken _ _ refl refl (sym e ∙ f))
 
 -- a call on a lawful record
@@ -78,11 +78,11 @@ module _ {ws dag : List ℕ} {used cells : List Bool} (a : Lawful ws used cells 
   is-record = subst (λ xs. same ws xs ≡ true) (a .holds .codes .words) (same-refl ws)
 
   pub gave-gives : (effect : Effect) {xs : List ℕ} {now below : List Bool} (r : Report)
-      → Gives (outcome (machineOf ws) effect) (machineOf ws) xs now below r → Yields (after ws (ofRecord ws (outcome (machineOf ws) effect))) r xs
+      → Gives (outcome (machineOf ws) effect) (machineOf ws) xs now below r → HasResult (after ws (ofRecord ws (outcome (machineOf ws) effect))) r xs
   unfolding after ofRecord
   gave-gives effect {xs} r g =
       let x = outcome (machineOf ws) effect in
-      subst (λ b. Yields (after ws (elim b as (λ _. Outcome) [ true ↦ x | false ↦ outcome (machineOf ws) (refuses refusals.Rule) ])) r xs) (sym is-record)
+      subst (λ b. HasResult (after ws (elim b as (λ _. Outcome) [ true ↦ x | false ↦ outcome (machineOf ws) (refuses refusals.Rule) ])) r xs) (sym is-record)
       (record { reply = g .reply; values = g .values; words = g .holds .codes .words ∙ told (isRefused (x .reply)) refl })
     where
       told : (b : Bool) → isRefused (outcome (machineOf ws) effect .reply) ≡ b
@@ -95,29 +95,29 @@ module _ {ws dag : List ℕ} {used cells : List Bool} (a : Lawful ws used cells 
 -- the two calls, by their tests
 module _ (dag ws : List ℕ) where
   pub step-rule : (place : ℕ) (b : Bool) (r : Report) → b ≡ (isRecord ws and rulesHold paper (dagOf dag) (machineOf ws)) → b ≡ false
-      → r ≡ plain (replies.Refused refusals.Rule) → Yields (stepOn dag ws place) r ws
+      → r ≡ plain (replies.Refused refusals.Rule) → HasResult (stepOn dag ws place) r ws
   unfolding stepOn Step.step
   step-rule place b r e f g = gave-rule dag ws _ b r e f g
 
   pub answer-rule : (handle : ℕ) (v : ℤ) (b : Bool) (r : Report) → b ≡ (isRecord ws and rulesHold paper (dagOf dag) (machineOf ws)) → b ≡ false
-      → r ≡ plain (replies.Refused refusals.Rule) → Yields (answerOn dag ws handle v) r ws
+      → r ≡ plain (replies.Refused refusals.Rule) → HasResult (answerOn dag ws handle v) r ws
   unfolding answerOn Answer.answer
   answer-rule handle v b r e f g = gave-rule dag ws _ b r e f g
 
   module _ {used cells : List Bool} (a : Lawful ws used cells dag (machineOf ws)) where
     pub step-gives : (place : ℕ) {xs : List ℕ} {now below : List Bool} (r : Report)
-        → Gives (Step.step paper (dagOf dag) (machineOf ws) place) (machineOf ws) xs now below r → Yields (stepOn dag ws place) r xs
+        → Gives (Step.step paper (dagOf dag) (machineOf ws) place) (machineOf ws) xs now below r → HasResult (stepOn dag ws place) r xs
     unfolding stepOn Step.step
     step-gives place r g = gave-gives a _ r g
 
     pub answer-gives : (handle : ℕ) (v : ℤ) {xs : List ℕ} {now below : List Bool} (r : Report)
-        → Gives (Answer.answer paper (dagOf dag) (machineOf ws) handle v) (machineOf ws) xs now below r → Yields (answerOn dag ws handle v) r xs
+        → Gives (Answer.answer paper (dagOf dag) (machineOf ws) handle v) (machineOf ws) xs now below r → HasResult (answerOn dag ws handle v) r xs
     unfolding answerOn Answer.answer
     answer-gives handle v r g = gave-gives a _ r g
 
     -- 9
     pub step-no-token : (place : ℕ) (r : Report) → machineOf ws .queued ≤ place → r ≡ plain (replies.Refused refusals.NoToken)
-        → Yields (stepOn dag ws place) r ws
+        → HasResult (stepOn dag ws place) r ws
     unfolding stepOn Step.step unless
     step-no-token place r l e =
         step-gives place r
@@ -149,18 +149,18 @@ not-begun d e =
     (sym e)
 
 pub start-gave : (dag ws xs : List ℕ) (goal : ℕ) (r : Report) → true ≡ dagHolds (dagOf dag) → goal ≡ getD dag 2 0 → xs ≡ wordsOf (startMachine paper goal)
-    → r ≡ plain replies.Done → Yields (startOn dag ws) r xs
+    → r ≡ plain replies.Done → HasResult (startOn dag ws) r xs
 unfolding startOn after dagOf isRefused
 start-gave dag ws xs goal r e f g h =
-    subst (λ o. Yields (after ws o) r xs) (sym (begun (dagOf dag) e))
+    subst (λ o. HasResult (after ws o) r xs) (sym (begun (dagOf dag) e))
     (record {
       reply = ap (λ (y : Report). y .reply) h;
       values = ap (λ (y : Report). y .values) h;
       words = g ∙ ap (λ n. wordsOf (startMachine paper n)) f;
     })
 
-pub start-refused : (dag ws : List ℕ) (r : Report) → false ≡ dagHolds (dagOf dag) → r ≡ plain (replies.Refused refusals.Rule) → Yields (startOn dag ws) r ws
+pub start-refused : (dag ws : List ℕ) (r : Report) → false ≡ dagHolds (dagOf dag) → r ≡ plain (replies.Refused refusals.Rule) → HasResult (startOn dag ws) r ws
 unfolding startOn after isRefused
 start-refused dag ws r e h =
-    subst (λ o. Yields (after ws o) r ws) (sym (not-begun (dagOf dag) e))
+    subst (λ o. HasResult (after ws o) r ws) (sym (not-begun (dagOf dag) e))
     (record { reply = ap (λ (y : Report). y .reply) h; values = ap (λ (y : Report). y .values) h; words = refl })

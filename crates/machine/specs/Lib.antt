@@ -1,2 +1,2 @@
 -- What the public calls promise.
-pub mod Calls
+pub mod PublicCalls

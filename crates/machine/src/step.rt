@@ -1,5 +1,5 @@
 // One step of the token that the queue has at a place.
-ghost use Rattle.machine.specs.Calls.{Yields, stepOn};
+ghost use Rattle.machine.specs.PublicCalls.{HasResult, stepOn};
 use crate::lawful::is_lawful;
 use acts::report::plain;
 use job::dag::WORDS;
@@ -12,7 +12,7 @@ use record::order::queued;
 
 // "A step tests 14, 9, then 10, 11 or 13." A refused one leaves every word.
 pub fn step(w: &mut [u32; Machine::WORDS], dag: &[u32; WORDS], place: usize) -> Report
-    ensures { λ r. ⌜ Yields (stepOn (now (dag .entry)) (now (w .entry)) place) r (now (w .exit)) ⌝ }
+    ensures { λ r. ⌜ HasResult (stepOn (now (dag .entry)) (now (w .entry)) place) r (now (w .exit)) ⌝ }
 {
     let mut tokens = [false; Machine::TOKENS];
     let mut cells = [false; Machine::CELLS];

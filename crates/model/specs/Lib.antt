@@ -1,4 +1,4 @@
 -- Document 01 as definitions: what a reader must believe. Read in this order.
 pub mod Machine
-pub mod Lines
+pub mod Output
 pub mod Run

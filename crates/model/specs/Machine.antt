@@ -4,7 +4,7 @@ pub mod State
 pub mod Blank
 pub mod Active
 pub mod InUse
-pub mod Places
+pub mod FreePlace
 pub mod Rules
 pub mod Reply
 pub mod Start

@@ -1,5 +1,5 @@
 // The machine's types. What they mean is in specs/, in the order of document 01.
-pub mod cell;
+mod cell;
 pub mod record;
 pub mod reply;
-pub mod token;
+mod token;

@@ -5,7 +5,7 @@ use run::orcrun::orcrun;
 ghost use mathlib.Core.Path.{_≡_};
 ghost use Prim.Native.Nat.{_<_};
 ghost use lib.ListN.{length, take, drop};
-ghost use Rattle.model.specs.Lines.Orcrun.{orcrun};
+ghost use Rattle.model.specs.Output.Orcrun.{orcrun};
 
 // Writes a piece of what the run prints: its bytes from byte `from` on.
 fn write_piece(piece: &[u8], input: &[u8], from: usize)

@@ -1,18 +1,16 @@
 -- Words are all 0 exactly when their bits put together are 0. Assumes nothing.
-use mathlib.Core.Path.{_≡_, refl, sym, ap, _∙_}
-use mathlib.Core.Bool.{Bool, true, false}
+use mathlib.Core.Path.{_≡_, sym, ap, _∙_}
+use mathlib.Core.Bool.{Bool, true}
 use mathlib.Core.List.{List}
 use Prim.Native.Nat.{ℕ, suc, _+_, _-_, _<_, _≤_}
 use native.Mathlib.Decide.{ℕ-discrete}
-use native.Mathlib.Nat.{add-zero}
-use native.Mathlib.Numerals.{add-one}
 use native.Mathlib.Omega.{arith}
-use lib.Bits.{bitOr, or-zero-l, or-zero-r, or-add-and, and-le-l, and-le-r}
+use lib.Bits.{bitOr, or-zero-l, or-add-and, and-le-r}
 use lib.Dec.{eqb}
 use lib.ListN.{length, getD, take, drop, length-drop}
 use lib.Seq.{getD-drop}
 use Rattle.job.specs.Test.{_and_, all}
-use Rattle.job.proofs.Test.{eq-eqb, ne-eqb}
+use Rattle.job.proofs.Test.{ne-eqb}
 use Rattle.job.proofs.Loop.{all-more}
 
 or-none : (a b : ℕ) → eqb (bitOr a b) 0 ≡ (eqb a 0 and eqb 0 b)

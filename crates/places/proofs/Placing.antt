@@ -11,7 +11,7 @@ use borrow.Author.Tests.{lt-ltb, le-ltb, ltb-false, not-true, not-false}
 use lib.Dec.{ltb}
 use lib.ListN.{length, getD}
 use Rattle.model.specs.Machine.InUse.{marked}
-use Rattle.model.specs.Machine.Places.{around, freeFrom, nextPlace}
+use Rattle.model.specs.Machine.FreePlace.{around, freeFrom, nextPlace}
 use Rattle.job.proofs.Test.{clash, ltb-lt}
 use Rattle.model.proofs.Machine.Marks.{Marked, Free, free-inside, marked-all, some-free}
 use Rattle.reach.specs.Marks.{nextOr}

@@ -2,7 +2,7 @@
 ghost use mathlib.Core.Path.{_≡_};
 ghost use Prim.Native.Nat.{_<_};
 ghost use lib.ListN.{length};
-ghost use Rattle.model.specs.Machine.Places.{around};
+ghost use Rattle.model.specs.Machine.FreePlace.{around};
 ghost use Rattle.reach.specs.Marks.{nextOr};
 use job::wide::wide;
 use model::record::Machine;

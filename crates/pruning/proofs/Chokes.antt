@@ -12,7 +12,7 @@ use Rattle.job.specs.Test.{filter, padded}
 use Rattle.model.specs.Machine.Blank.{blankToken, blankCell, tokenAt, cellAt}
 use Rattle.model.specs.Machine.Active.{upward, within}
 use Rattle.model.specs.Machine.State.{isReady, isWaiting, waitsAt}
-use Rattle.model.specs.Machine.Step.{withState, chokeToken, choked, withTables, withOrders, queueOf, waitsOf, put, enqueue}
+use Rattle.model.specs.Machine.Step.{withState, chokeToken, afterChoke, withTables, withOrders, queueOf, waitsOf, put, enqueue}
 use Rattle.model.specs.declared.token.Held.{Held}
 use Rattle.model.specs.declared.token.Place.{Place}
 use Rattle.model.specs.declared.token.Place.the-variants as places
@@ -24,7 +24,7 @@ use Rattle.model.specs.declared.record.Machine.{Machine}
 use Rattle.job.proofs.Test.{eq-eqb, ne-eqb}
 use Rattle.model.proofs.Keeps.Orders.{queue-is, waits-are, orders-with}
 use Rattle.record.specs.Decode.{placeFrom}
-use Rattle.record.specs.Fields.{taken, putCell, setCell}
+use Rattle.record.specs.Fields.{dequeued, storeCell, setCell}
 use Rattle.record.specs.Holds.{Holds}
 use Rattle.orders.specs.Retaining.{markedOf}
 use Rattle.record.specs.Words.{stateKind, stateNumber, placeNumber}
@@ -295,7 +295,7 @@ first-room {ws} {m} h ready l =
 
 -- the whole of it
 module _ {ws : List ℕ} (m : Machine) (h : Holds ws m) (place c : ℕ) (f : ChokeFacts m place) where
-  pub taken-room : taken m place .queued + taken m place .waiting ≤ 64
+  pub taken-room : dequeued m place .queued + dequeued m place .waiting ≤ 64
   unfolding withOrders
   taken-room =
       let b = h .ordered .queued in
@@ -305,14 +305,14 @@ module _ {ws : List ℕ} (m : Machine) (h : Holds ws m) (place c : ℕ) (f : Cho
       let a = length-without place (queueOf m) (omega arith) in
       omega arith
 
-  tokens-there : length (taken m place .tokens) ≡ 64
+  tokens-there : length (dequeued m place .tokens) ≡ 64
   unfolding withOrders
   tokens-there = h .codes .shaped .tokens
 
-  pub choke-is : (v : Held) → reordered (putCell c (setCell v (cellAt (taken m place .cells) c)) (rowsChoked c 64 (taken m place))) ≡ choked c v (taken m place)
-  unfolding choked withTables queueOf waitsOf
+  pub choke-is : (v : Held) → reordered (storeCell c (setCell v (cellAt (dequeued m place .cells) c)) (rowsChoked c 64 (dequeued m place))) ≡ afterChoke c v (dequeued m place)
+  unfolding afterChoke withTables queueOf waitsOf
   choke-is v =
-      let t = taken m place in
+      let t = dequeued m place in
       let n = tokens-there in
       ap (λ ts. reordered (withTables ts (set (t .cells) c (setCell v (cellAt (t .cells) c))) t)) (rows-all c t 64 (omega arith))
 

@@ -6,12 +6,12 @@ ghost use Prim.Native.Nat.{_<_, _≤_, _+_};
 ghost use lib.Dec.{eqb};
 ghost use Rattle.model.specs.Machine.Active.{within};
 ghost use Rattle.model.specs.Machine.Blank.{tokenAt};
-ghost use Rattle.model.specs.Machine.Step.{put, withOrders, queueOf, waitsOf, chokeToken, choked};
+ghost use Rattle.model.specs.Machine.Step.{put, withOrders, queueOf, waitsOf, chokeToken, afterChoke};
 ghost use Rattle.model.specs.declared.record.Machine.{Machine};
 ghost use Rattle.model.specs.declared.token.Held.{Held};
 ghost use Rattle.model.specs.declared.token.Place.{Place};
 ghost use Rattle.model.specs.declared.token.Token.{Token};
-ghost use Rattle.record.specs.Fields.{taken};
+ghost use Rattle.record.specs.Fields.{dequeued};
 ghost use Rattle.record.specs.Holds.{Codes, Holds};
 ghost use Rattle.orders.specs.Retaining.{markedOf};
 ghost use Rattle.record.specs.Words.{stateKind, placeNumber, heldKind, heldNumber};
@@ -127,7 +127,7 @@ fn reorder(w: &mut [u32; Machine::WORDS])
 // "Set the cell; all tokens of it and of its descendants end; waiters become ready, longest wait first."
 pub fn written(w: &mut [u32; Machine::WORDS], place: usize, c: usize, kind: u32, number: u32)
     requires { ⌜ c < 32 ⌝ }
-    ensures { λ _. ⌜ ((m : Machine) (v : Held) → Holds (now (w .entry)) m → ChokeFacts m place → heldKind v ≡ kind → heldNumber v ≡ number → Holds (now (w .exit)) (choked c v (taken m place))) ⌝ }
+    ensures { λ _. ⌜ ((m : Machine) (v : Held) → Holds (now (w .entry)) m → ChokeFacts m place → heldKind v ≡ kind → heldNumber v ≡ number → Holds (now (w .exit)) (afterChoke c v (dequeued m place))) ⌝ }
 {
     order::leave(w, place);
     choke_rows(w, c);

@@ -7,7 +7,7 @@ use mathlib.Core.List.{List, [], _∷_, _++_}
 use Prim.Native.Nat.{ℕ, zero, suc, _+_, _-_, _≤_, _<_}
 use native.Mathlib.Omega.{arith}
 use lib.ListN.{length, getD, set}
-use Rattle.model.specs.Machine.InUse.{markChain, markChains}
+use Rattle.model.specs.Machine.InUse.{markChain, markFromEach}
 use Rattle.model.specs.declared.token.Place.{Place}
 use Rattle.model.specs.declared.token.Place.the-variants as places
 use Rattle.model.proofs.Machine.Marks.{Marked, Free, marked-outside}
@@ -69,7 +69,7 @@ module _ {A : Type 0} (link : A → Place) (blank : A) (xs : List A) where
 
   -- marking from one list of places and then from another
   pub chains-append : (qs rs : List Place) (marks : List Bool)
-      → markChains link blank xs (qs ++ rs) marks ≡ markChains link blank xs rs (markChains link blank xs qs marks)
-  unfolding markChains
+      → markFromEach link blank xs (qs ++ rs) marks ≡ markFromEach link blank xs rs (markFromEach link blank xs qs marks)
+  unfolding markFromEach
   chains-append [] rs marks = refl
   chains-append (q ∷ qs) rs marks = chains-append qs rs (walk (length xs) q marks)

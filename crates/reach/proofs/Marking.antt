@@ -10,7 +10,7 @@ use native.Mathlib.Omega.{arith}
 use lib.ListN.{length, getD, drop, replicate, drop-of-length-le}
 use Rattle.model.specs.Machine.Active.{isActive}
 use Rattle.model.specs.Machine.Blank.{empty, blankToken, blankCell, tokenAt, slotAt}
-use Rattle.model.specs.Machine.InUse.{markChain, markChains, reached, activePlaces, usedTokens, tokensUsed}
+use Rattle.model.specs.Machine.InUse.{markChain, markFromEach, reached, activePlaces, usedTokens, tokensUsed}
 use Rattle.model.specs.Machine.InUse.{boundCell, cellsOf, cellsOfMarked, usedCells}
 use Rattle.model.specs.declared.cell.Cell.{Cell}
 use Rattle.model.specs.declared.record.Machine.{Machine}
@@ -48,7 +48,7 @@ module _ (m : Machine) (p : ℕ) (marks : List Bool) (used : Bool) where
 
 -- the chains of callers from some places
 abbrev allMarked : Machine → List Place → List Bool → List Bool
-allMarked m qs marks = markChains (λ (t : Token). t .caller) blankToken (m .tokens) qs marks
+allMarked m qs marks = markFromEach (λ (t : Token). t .caller) blankToken (m .tokens) qs marks
 
 -- what is left of them when the tokens before p had their turn
 abbrev pub callersLeft : Machine → ℕ → List Bool → List Bool
@@ -60,7 +60,7 @@ callers-first m marks l e = ap (callersLeft m 0) (ap (λ n. replicate n false) l
 
 pub callers-next : (m : Machine) (p : ℕ) (marks : List Bool) → length (m .tokens) ≡ 64 → p < 64
     → callersLeft m p marks ≡ callersLeft m (p + 1) (activeMarked m p marks)
-unfolding activePlaces markChains activeMarked tokenAt
+unfolding activePlaces markFromEach activeMarked tokenAt
 callers-next m p marks l h =
     ap (λ ts. allMarked m (activePlaces (m .cells) p ts) marks) (drop-next (m .tokens) p blankToken (omega arith))
     ∙ go (isActive (m .cells) (getD (m .tokens) p blankToken))
@@ -77,7 +77,7 @@ callers-next m p marks l h =
     go false = refl
 
 pub callers-last : (m : Machine) (p : ℕ) (marks : List Bool) → length (m .tokens) ≡ 64 → 64 ≤ p → callersLeft m p marks ≡ marks
-unfolding activePlaces markChains
+unfolding activePlaces markFromEach
 callers-last m p marks l h =
     let z : length (m .tokens) ≤ p = omega arith in
     ap (λ ts. allMarked m (activePlaces (m .cells) p ts) marks) (drop-of-length-le (m .tokens) z)
@@ -108,7 +108,7 @@ module _ (bs : List Bind) (x k : ℕ) (e : k ≡ slotKind (slotAt bs x)) where
 module _ (m : Machine) (l : length (m .cells) ≡ 32) where
   chain-first : (n : ℕ) (q : Place) (qs : List Place) (marks more : List Bool) → n ≡ placeNumber q → more ≡ parentsMarked m (placeFrom n) marks
       → cellsMarked m (q ∷ qs) marks ≡ cellsMarked m qs more
-  unfolding markChains
+  unfolding markFromEach
   chain-first n q qs marks more e f =
       ap (cellsMarked m qs) (sym (f ∙ ap₂ (λ k r. markChain (λ (c : Cell). c .parent) blankCell (m .cells) k r marks) (sym l) (place-from n q e)))
 
@@ -127,7 +127,7 @@ module _ (m : Machine) (l : length (m .cells) ≡ 32) where
 
 pub named-last : (m : Machine) (bs : List Bind) (x : ℕ) (marks : List Bool) → length bs ≡ 8 → 8 ≤ x
     → cellsMarked m (map boundCell (drop x bs)) marks ≡ marks
-unfolding markChains
+unfolding markFromEach
 named-last m bs x marks s h =
     let z : length bs ≤ x = omega arith in ap (λ rest. cellsMarked m (map boundCell rest) marks) (drop-of-length-le bs z)
 
@@ -158,7 +158,7 @@ cells-next m used p marks s l h =
 
 pub cells-last : (m : Machine) (used : List Bool) (p : ℕ) (marks : List Bool) → length used ≡ 64 → length (m .tokens) ≡ 64 → 64 ≤ p
     → cellsLeft m used p marks ≡ marks
-unfolding cellsOfMarked markChains
+unfolding cellsOfMarked markFromEach
 cells-last m used p marks s l h =
     let z : length (m .tokens) ≤ p = omega arith in
     ap (λ ts. cellsMarked m (cellsOfMarked (drop p used) ts) marks) (drop-of-length-le (m .tokens) z)

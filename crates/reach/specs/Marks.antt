@@ -7,15 +7,15 @@ use lib.ListN.{getD}
 use lib.Dec.{ltb}
 use Rattle.model.specs.Machine.Active.{isActive}
 use Rattle.model.specs.Machine.Blank.{blankToken, blankCell, tokenAt, cellAt}
-use Rattle.model.specs.Machine.InUse.{markChain, markChains, cellsOf, tokensUsed, usedCells, marked, restBlanked}
-use Rattle.model.specs.Machine.Places.{nextPlace}
+use Rattle.model.specs.Machine.InUse.{markChain, markFromEach, cellsOf, tokensUsed, usedCells, marked, restBlanked}
+use Rattle.model.specs.Machine.FreePlace.{nextPlace}
 use Rattle.model.specs.Machine.Step.{put, withTables}
 use Rattle.model.specs.declared.cell.Cell.{Cell}
 use Rattle.model.specs.declared.record.Machine.{Machine}
 use Rattle.model.specs.declared.token.Place.{Place}
 use Rattle.model.specs.declared.token.Place.the-variants as places
 use Rattle.model.specs.declared.token.Token.{Token}
-use Rattle.record.specs.Fields.{putCell}
+use Rattle.record.specs.Fields.{storeCell}
 
 -- the chain of callers from a place, and the chains of parents from one place and from some
 abbrev pub callersMarked : Machine → Place → List Bool → List Bool
@@ -25,7 +25,7 @@ abbrev pub parentsMarked : Machine → Place → List Bool → List Bool
 parentsMarked m q marks = markChain (λ (c : Cell). c .parent) blankCell (m .cells) 32 q marks
 
 abbrev pub cellsMarked : Machine → List Place → List Bool → List Bool
-cellsMarked m qs marks = markChains (λ (c : Cell). c .parent) blankCell (m .cells) qs marks
+cellsMarked m qs marks = markFromEach (λ (c : Cell). c .parent) blankCell (m .cells) qs marks
 
 -- what a token adds to the marks: if it is active, its place and its callers; if it is in use, the cells that it names
 unfoldable pub activeMarked : Machine → ℕ → List Bool → List Bool
@@ -43,7 +43,7 @@ sweptToken p false m = put p blankToken m
 
 unfoldable pub sweptCell : ℕ → Bool → Machine → Machine
 sweptCell c true m = m
-sweptCell c false m = putCell c blankCell m
+sweptCell c false m = storeCell c blankCell m
 
 -- the tokens that are in use, and the cells that given tokens reach; the rest of the table is made blank
 abbrev pub tokensSwept : Machine → Machine

@@ -3,8 +3,8 @@ ghost use mathlib.Core.Path.{_≡_};
 ghost use Rattle.model.specs.Machine.InUse.{tokensUsed, cellsUsed};
 ghost use Rattle.model.specs.declared.record.Machine.{Machine};
 ghost use Rattle.record.specs.Holds.{Codes};
-use crate::tables::mark_cells;
-use crate::tables::mark_tokens;
+use crate::marks::mark_cells;
+use crate::marks::mark_tokens;
 use model::record::Machine;
 
 // Which tokens and cells are in use, whatever the marks were.

@@ -2,7 +2,7 @@
 use mathlib.Core.Path.{_≡_}
 use Prim.Native.Nat.{ℕ, _+_}
 use native.Mathlib.Omega.{arith}
-use Rattle.reader.specs.Checked.{nodesOf, more, afterwards}
+use Rattle.reader.specs.Checked.{checkedNodes, more, afterwards}
 use Rattle.reader.specs.declared.checked.Checked.{Checked}
 use Rattle.reader.specs.declared.checked.Checked.the-variants.{Next, Refused}
 
@@ -11,8 +11,8 @@ pub clash : {A : Type 0} {k e m n : ℕ} → Next m n ≡ Refused k e → A
 clash h = let z : _≡_ {A = ℕ} 0 1 = cc in absurd (omega arith)
 
 module _ (r : Checked) where
-  pub nodes-next : (e k : ℕ) → r ≡ Next e k → nodesOf r ≡ k
-  unfolding nodesOf
+  pub nodes-next : (e k : ℕ) → r ≡ Next e k → checkedNodes r ≡ k
+  unfolding checkedNodes
   nodes-next e k h = rw h
 
   module _ (n : ℕ) where

@@ -8,10 +8,10 @@ use lib.ListN.{length}
 use Rattle.job.specs.Syntax.{Exp, Definition, Program}
 use Rattle.job.specs.Entry.{entries}
 use Rattle.job.specs.Read.{Got, got, readExp, readEntries}
-use Rattle.job.specs.Construct.{size, construct}
+use Rattle.job.specs.Construct.{nodeCount, construct}
 use Rattle.job.proofs.Position.{entries-length, exp-from}
 use Rattle.reader.specs.Checked.{entriesFrom}
-use Rattle.reader.specs.Definitions.{readDefinitions, definitionsNodes}
+use Rattle.reader.specs.DefinitionList.{readDefinitionList, definitionListNodes}
 use Rattle.reader.proofs.Few.{read-few}
 use Rattle.reader.proofs.NodeCount.{construct-length}
 use Rattle.reader.proofs.ProgramParts.{all-defined, Parted, parted}
@@ -24,7 +24,7 @@ count zero at end nodes goal joins (suc params) z d e g l = omega arith
 count (suc n) at end nodes goal joins params z d e g l = omega arith
 
 module _ (ks os : List ℕ) (l : length ks ≤ 512) (n : ℕ) where
-  read-most : (ds : Got (List Definition)) (g : Got Exp) → readDefinitions n 0 (entries ks os) ≡ got ds
+  read-most : (ds : Got (List Definition)) (g : Got Exp) → readDefinitionList n 0 (entries ks os) ≡ got ds
       → readExp 24 [] (ds .next) (ds .rest) ≡ got g → length (construct (record { definitions = ds .value; goal = g .value }) .nodes) ≤ 1022
   read-most ds g rd rg =
       let f = all-defined ks os n 0 (entries ks os) refl ds rd in
@@ -32,7 +32,7 @@ module _ (ks os : List ℕ) (l : length ks ≤ 512) (n : ℕ) where
       let s = read-few ks os 24 [] (ds .next) g r in
       let last = exp-from (entries ks os) 24 [] (ds .next) (entriesFrom ks os (ds .next)) g refl r .last in
       rw (construct-length (record { definitions = ds .value; goal = g .value }))
-      (count n (ds .next) (g .next) (definitionsNodes (ds .value)) (size (g .value)) (s .joins) (s .params)
+      (count n (ds .next) (g .next) (definitionListNodes (ds .value)) (nodeCount (g .value)) (s .joins) (s .params)
       (f .none) (f .few) (s .ends) (s .few) (omega (arith, entries-length ks os)))
 
   pub nodes-at-most : (p : Got Program) → readEntries n (entries ks os) ≡ got p → length (construct (p .value) .nodes) ≤ 1022

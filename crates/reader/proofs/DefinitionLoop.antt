@@ -13,7 +13,7 @@ use Rattle.job.specs.Entry.{entries, kindOf}
 use Rattle.job.specs.Read.{Got, Read, got, refused, _>>=_, gives, need, entryAt, readExp, isDefinition, readDefinition}
 use Rattle.job.proofs.Position.{entries-end, entries-at, entries-length, bind-got, refused-got, exp-from}
 use Rattle.reader.specs.Checked.{entriesFrom, checked}
-use Rattle.reader.specs.Definitions.{readDefinitions, definitionNodes, definitionsNodes, checkedDefinition, formalsRead, DefinitionsHold}
+use Rattle.reader.specs.DefinitionList.{readDefinitionList, definitionNodes, definitionListNodes, checkedDefinition, formalsRead, DefinitionsHold}
 use Rattle.reader.specs.declared.checked.Checked.{Checked}
 use Rattle.reader.specs.declared.checked.Checked.the-variants.{Next, Refused}
 use Rattle.reader.proofs.Onward.{checked-refused, checked-next}
@@ -67,8 +67,8 @@ unfolding prefixed _>>=_
 prefixed-more ds d (got g) = rw append-assoc
 prefixed-more ds d (refused n e) = refl
 
-nodes-more : (ds : List Definition) (d : Definition) → definitionsNodes (ds ++ (d ∷ [])) ≡ definitionsNodes ds + definitionNodes d
-unfolding definitionsNodes
+nodes-more : (ds : List Definition) (d : Definition) → definitionListNodes (ds ++ (d ∷ [])) ≡ definitionListNodes ds + definitionNodes d
+unfolding definitionListNodes
 nodes-more [] d = omega arith
 nodes-more (x ∷ ds) d = omega (arith, nodes-more ds d)
 
@@ -85,22 +85,22 @@ pub record Reading (count : ℕ) (ks os fs : List ℕ) (at nodes i : ℕ) : Type
   pub done : List Definition
   pub many : length done ≡ i
   pub most : i ≤ count
-  pub rest : readDefinitions count 0 (entries ks os) ≡ prefixed done (readDefinitions (count - i) at (entriesFrom ks os at))
-  pub placed : nodes ≡ definitionsNodes done
+  pub rest : readDefinitionList count 0 (entries ks os) ≡ prefixed done (readDefinitionList (count - i) at (entriesFrom ks os at))
+  pub placed : nodes ≡ definitionListNodes done
   pub few : nodes ≤ 2 * at
   pub last : at ≤ length ks
   pub kept : take i fs ≡ formalsOf done
   pub long : length fs ≡ 32
 
 pub reading-start : (count : ℕ) (ks os fs : List ℕ) → length fs ≡ 32 → Reading count ks os fs 0 0 0
-unfolding definitionsNodes
+unfolding definitionListNodes
 reading-start count ks os fs l = record {
   done = [];
   many = refl;
   most = omega arith;
   rest =
-      prefixed-none (readDefinitions count 0 (entries ks os))
-      ∙ ap (λ n. prefixed [] (readDefinitions n 0 (entries ks os))) (let z : count ≡ count - 0 = omega arith in z);
+      prefixed-none (readDefinitionList count 0 (entries ks os))
+      ∙ ap (λ n. prefixed [] (readDefinitionList n 0 (entries ks os))) (let z : count ≡ count - 0 = omega arith in z);
   placed = refl;
   few = omega arith;
   last = omega arith;
@@ -110,17 +110,17 @@ reading-start count ks os fs l = record {
 
 -- the definitions behind the first
 tail : ℕ → Got Definition → Read (List Definition)
-tail n d = readDefinitions n (d .next) (d .rest) >>= (λ ds. gives (d .value ∷ ds .value) (ds .next) (ds .rest))
+tail n d = readDefinitionList n (d .next) (d .rest) >>= (λ ds. gives (d .value ∷ ds .value) (ds .next) (ds .rest))
 
 module _ (count : ℕ) (ks os fs : List ℕ) (at nodes i : ℕ) (g : Reading count ks os fs at nodes i) where
   pub reading-end : count ≤ i
-      → DefinitionsHold (readDefinitions count 0 (entries ks os)) (record { answer = Next at nodes; formals = fs })
-  unfolding readDefinitions prefixed _>>=_ checked formalsRead
+      → DefinitionsHold (readDefinitionList count 0 (entries ks os)) (record { answer = Next at nodes; formals = fs })
+  unfolding readDefinitionList prefixed _>>=_ checked formalsRead
   reading-end l =
       let z : count - i ≡ 0 = omega (arith, g .most) in
-      let e : readDefinitions count 0 (entries ks os) ≡ gives (g .done) at (entriesFrom ks os at) =
+      let e : readDefinitionList count 0 (entries ks os) ≡ gives (g .done) at (entriesFrom ks os at) =
       g .rest
-      ∙ ap (λ k. prefixed (g .done) (readDefinitions k at (entriesFrom ks os at))) z
+      ∙ ap (λ k. prefixed (g .done) (readDefinitionList k at (entriesFrom ks os at))) z
       ∙ ap (λ ds. gives ds at (entriesFrom ks os at)) (append-nil (g .done)) in
       record {
         answer = rw e (ap (λ n. Next at n) (g .placed));
@@ -128,14 +128,14 @@ module _ (count : ℕ) (ks os fs : List ℕ) (at nodes i : ℕ) (g : Reading cou
       }
 
   module _ (l : i < count) (q : Checked) (eq : q ≡ checkedDefinition (readDefinition at (entriesFrom ks os at))) where
-    opened : readDefinitions count 0 (entries ks os) ≡ prefixed (g .done) (readDefinition at (entriesFrom ks os at) >>= tail (count - (i + 1)))
-    unfolding readDefinitions tail
+    opened : readDefinitionList count 0 (entries ks os) ≡ prefixed (g .done) (readDefinition at (entriesFrom ks os at) >>= tail (count - (i + 1)))
+    unfolding readDefinitionList tail
     opened =
         let z : count - i ≡ suc (count - (i + 1)) = omega arith in
-        g .rest ∙ ap (λ k. prefixed (g .done) (readDefinitions k at (entriesFrom ks os at))) z
+        g .rest ∙ ap (λ k. prefixed (g .done) (readDefinitionList k at (entriesFrom ks os at))) z
 
     pub reading-refused : (n e : ℕ) → q ≡ Refused n e
-        → DefinitionsHold (readDefinitions count 0 (entries ks os)) (record { answer = Refused n e; formals = fs })
+        → DefinitionsHold (readDefinitionList count 0 (entries ks os)) (record { answer = Refused n e; formals = fs })
     unfolding prefixed _>>=_ checked formalsRead
     reading-refused n e h =
         let r = checked-refused definitionNodes (readDefinition at (entriesFrom ks os at)) n e (sym eq ∙ h) in
@@ -181,8 +181,8 @@ module _ (count : ℕ) (ks os fs : List ℕ) (at nodes i : ℕ) (g : Reading cou
             rest =
                 opened
                 ∙ ap (λ r. prefixed (g .done) (r >>= tail n)) (first .1)
-                ∙ prefixed-more (g .done) new (readDefinitions n (first .0 .next) (first .0 .rest))
-                ∙ ap₂ (λ k l. prefixed (g .done ++ (new ∷ [])) (readDefinitions n k l)) u (facts .rest ∙ ap (λ k. entriesFrom ks os k) u);
+                ∙ prefixed-more (g .done) new (readDefinitionList n (first .0 .next) (first .0 .rest))
+                ∙ ap₂ (λ k l. prefixed (g .done ++ (new ∷ [])) (readDefinitionList n k l)) u (facts .rest ∙ ap (λ k. entriesFrom ks os k) u);
             placed = omega (arith, nodes-more (g .done) new, g .placed);
             few = omega arith;
             last = omega arith;

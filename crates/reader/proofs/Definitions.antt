@@ -13,7 +13,7 @@ use Rattle.job.specs.Read.{Got, Read, got, refused, _>>=_, gives, need, entryAt
 use Rattle.job.proofs.Test.{le-leb, lt-not-leb}
 use Rattle.job.proofs.Position.{entries-end, entries-at}
 use Rattle.reader.specs.Checked.{entriesFrom, checked, checkedExp, more}
-use Rattle.reader.specs.Definitions.{checkedDefinition}
+use Rattle.reader.specs.DefinitionList.{checkedDefinition}
 use Rattle.reader.specs.declared.checked.Checked.{Checked}
 use Rattle.reader.specs.declared.checked.Checked.the-variants.{Refused}
 use Rattle.reader.proofs.Row.{by-kind}

@@ -9,10 +9,10 @@ use lib.ListN.{length, getD, take, drop}
 use Rattle.job.specs.Number.{number}
 use Rattle.job.specs.Syntax.{Param, Join, par, seq, prune, Exp, site, call, join, levels, scopeLeft, scopeRight}
 use Rattle.job.specs.Entry.{Entry, entry, entries, low, high, kindOf}
-use Rattle.job.specs.Read.{Got, Read, got, refused, _>>=_, gives, entryAt, readParams, readCall, readJoin, readExp}
-use Rattle.job.specs.Construct.{own, size}
+use Rattle.job.specs.Read.{Got, Read, got, refused, _>>=_, gives, entryAt, readParamList, readCall, readJoin, readExp}
+use Rattle.job.specs.Construct.{own, nodeCount}
 use Rattle.job.proofs.Position.{entries-end, entries-at, exp-from}
-use Rattle.reader.specs.Checked.{entriesFrom, checked, checkedParams, checkedExp, more}
+use Rattle.reader.specs.Checked.{entriesFrom, checked, checkedParamList, checkedExp, more}
 use Rattle.reader.specs.Fault.{expressionFault}
 use Rattle.reader.specs.Join.{either, joinOf, JoinHolds}
 use Rattle.reader.specs.declared.checked.Checked.{Checked}
@@ -26,19 +26,19 @@ use Rattle.reader.proofs.Onward.{bind-refused, checked-next}
 use Rattle.reader.proofs.JoinSides.{join-par}
 
 -- the answer for a call is that for its parameters, with one node
-call-answer : (h : List Param → Exp) → ((ps : List Param) → size (h ps) ≡ 1) → (n : ℕ) (scope : List ℕ) (e : ℕ) (es : List Entry)
-    → checkedExp (readCall h n scope e es) ≡ more 1 (checkedParams (readParams n scope e es))
+call-answer : (h : List Param → Exp) → ((ps : List Param) → nodeCount (h ps) ≡ 1) → (n : ℕ) (scope : List ℕ) (e : ℕ) (es : List Entry)
+    → checkedExp (readCall h n scope e es) ≡ more 1 (checkedParamList (readParamList n scope e es))
 unfolding readCall _>>=_ checked more
-call-answer h one n scope e es = go (readParams n scope e es)
+call-answer h one n scope e es = go (readParamList n scope e es)
   where
-    go : (r : Read (List Param)) → checkedExp (r >>= (λ ps. gives (h (ps .value)) (ps .next) (ps .rest))) ≡ more 1 (checkedParams r)
+    go : (r : Read (List Param)) → checkedExp (r >>= (λ ps. gives (h (ps .value)) (ps .next) (ps .rest))) ≡ more 1 (checkedParamList r)
     go (got g) = rw (one (g .value))
     go (refused n e) = refl
 
 -- kinds 1 and 2 are calls, kinds 3 to 5 are joins
 call-kind : (side : List ℕ → ℕ → List Entry → Read Exp) (scope : List ℕ) (e i : ℕ) (es : List Entry) (k o : ℕ)
-    → (k ≡ 0 → ⊥) → k < 3 → checkedExp (readKind side scope e i es (kindOf k) o) ≡ more 1 (checkedParams (readParams (high o) scope i es))
-unfolding readKind kindOf size
+    → (k ≡ 0 → ⊥) → k < 3 → checkedExp (readKind side scope e i es (kindOf k) o) ≡ more 1 (checkedParamList (readParamList (high o) scope i es))
+unfolding readKind kindOf nodeCount
 call-kind side scope e i es zero o f l = absurd (f refl)
 call-kind side scope e i es (suc zero) o f l = call-answer (λ ps. site (low o) ps) (λ ps. refl) (high o) scope i es
 call-kind side scope e i es (suc (suc zero)) o f l = call-answer (λ ps. call (low o) ps) (λ ps. refl) (high o) scope i es
@@ -84,12 +84,12 @@ second : (List ℕ → ℕ → List Entry → Read Exp) → Join → List ℕ �
 second side j scope f = side scope (f .next) (f .rest) >>= (λ g. gives (join j (f .value) (g .value)) (g .next) (g .rest))
 
 second-answer : (side : List ℕ → ℕ → List Entry → Read Exp) (j : Join) (scope : List ℕ) (f : Got Exp)
-    → checkedExp (second side j scope f) ≡ more (own j + size (f .value)) (checkedExp (side scope (f .next) (f .rest)))
-unfolding second _>>=_ checked more size
+    → checkedExp (second side j scope f) ≡ more (own j + nodeCount (f .value)) (checkedExp (side scope (f .next) (f .rest)))
+unfolding second _>>=_ checked more nodeCount
 second-answer side j scope f = go (side scope (f .next) (f .rest))
   where
     go : (r : Read Exp)
-        → checkedExp (r >>= (λ g. gives (join j (f .value) (g .value)) (g .next) (g .rest))) ≡ more (own j + size (f .value)) (checkedExp r)
+        → checkedExp (r >>= (λ g. gives (join j (f .value) (g .value)) (g .next) (g .rest))) ≡ more (own j + nodeCount (f .value)) (checkedExp r)
     go (got g) = refl
     go (refused n e) = refl
 
@@ -125,17 +125,17 @@ module _ (ks os : List ℕ) (left s at : ℕ) where
       by-kind = rw here (exp-kind s at (getD ks at 0) o behind left (sym en ∙ z))
 
       pub exp-stop : getD ks at 0 ≡ 0 → Answers (Next (at + 1) 1)
-      unfolding kindOf readKind checked size
+      unfolding kindOf readKind checked nodeCount
       exp-stop k = rw (by-kind, k, add-one)
 
       module _ (f : getD ks at 0 ≡ 0 → ⊥) where
         pub exp-call : (q r : Checked) → getD ks at 0 < 3
-            → q ≡ checkedParams (readParams (o / 65536) (levels s) (at + 1) (entriesFrom ks os (at + 1)))
+            → q ≡ checkedParamList (readParamList (o / 65536) (levels s) (at + 1) (entriesFrom ks os (at + 1)))
             → r ≡ more 1 q → Answers r
         unfolding behind
         exp-call q r k eq er =
             er
-            ∙ ap (more 1) (eq ∙ ap (λ i. checkedParams (readParams (o / 65536) (levels s) i (entriesFrom ks os i))) (add-one at))
+            ∙ ap (more 1) (eq ∙ ap (λ i. checkedParamList (readParamList (o / 65536) (levels s) i (entriesFrom ks os i))) (add-one at))
             ∙ sym (ap checkedExp by-kind ∙ call-kind (readExp (left - 1)) (levels s) at (suc at) behind (getD ks at 0) o f k)
 
         module _ (k3 : 3 ≤ getD ks at 0) (sd : Sides) (sides : JoinHolds (getD ks at 0) s sd) where
@@ -169,7 +169,7 @@ module _ (ks os : List ℕ) (left s at : ℕ) where
 
           module _ (q : Checked) (eq : q ≡ checkedExp (readExp (left - 1) (levels (sd .left)) (at + 1) (entriesFrom ks os (at + 1)))) where
             pub exp-left : (n e : ℕ) → q ≡ Refused n e → Answers (Refused n e)
-            exp-left n e h = rw by-join (bind-refused size _ size (second _ _ _) n e (sym eq ∙ h))
+            exp-left n e h = rw by-join (bind-refused nodeCount _ nodeCount (second _ _ _) n e (sym eq ∙ h))
 
             pub exp-join : (m d : ℕ) (z r : Checked) → q ≡ Next m d
                 → z ≡ checkedExp (readExp (left - 1) (levels (sd .right)) m (entriesFrom ks os m)) → r ≡ more (sd .nodes + d) z → Answers r
@@ -178,9 +178,9 @@ module _ (ks os : List ℕ) (left s at : ℕ) where
                 let j = joinOf (getD ks at 0) s in
                 let side = readExp (left - 1) in
                 let es = entries ks os in
-                let a = checked-next size (side (levels (sd .left)) (at + 1) (entriesFrom ks os (at + 1))) m d (sym eq ∙ h) in
+                let a = checked-next nodeCount (side (levels (sd .left)) (at + 1) (entriesFrom ks os (at + 1))) m d (sym eq ∙ h) in
                 let f = exp-from es (left - 1) (levels (sd .left)) (at + 1) (entriesFrom ks os (at + 1)) (a .0) refl (a .1) in
-                let x : own j + size (a .0 .value) ≡ sd .nodes + d = ap₂ (λ i k. i + k) (sym (sides .nodes)) (a .3) in
+                let x : own j + nodeCount (a .0 .value) ≡ sd .nodes + d = ap₂ (λ i k. i + k) (sym (sides .nodes)) (a .3) in
                 er
                 ∙ ap (more (sd .nodes + d)) ez
                 ∙ sym (ap checkedExp (by-join ∙ ap (λ r. r >>= second side j (levels (sd .right))) (a .1))

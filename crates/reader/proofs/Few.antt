@@ -6,11 +6,11 @@ use Prim.Native.Nat.{ℕ, zero, suc, _+_, _*_, _-_, _<_, _≤_}
 use native.Mathlib.Omega.{arith}
 use lib.ListN.{length, drop}
 use Rattle.job.specs.Syntax.{Param, Join, par, seq, prune, Exp, stop, site, call, scopeLeft, scopeRight}
-use Rattle.job.specs.Entry.{Entry, entries, low, high, Kind, kindOf}
-use Rattle.job.specs.Read.{Got, Read, got, refused, _>>=_, need, entryAt, readParams, readCall, readJoin, readExp}
-use Rattle.job.specs.Construct.{own, size}
+use Rattle.job.specs.Entry.{Entry, entries, low, high, EntryKind, kindOf}
+use Rattle.job.specs.Read.{Got, Read, got, refused, _>>=_, need, entryAt, readParamList, readCall, readJoin, readExp}
+use Rattle.job.specs.Construct.{own, nodeCount}
 use Rattle.job.proofs.Position.{entries-length, entry-from, params-from, exp-from}
-use Rattle.reader.specs.Checked.{entriesFrom, checkedExp, nodesOf}
+use Rattle.reader.specs.Checked.{entriesFrom, checkedExp, checkedNodes}
 use Rattle.reader.specs.declared.checked.Checked.{Checked}
 use Rattle.reader.specs.declared.checked.Checked.the-variants.{Next, Refused}
 use Rattle.reader.proofs.Opened.{readKind, exp-opened}
@@ -51,19 +51,19 @@ pub record Small (e : ℕ) (g : Got Exp) : Type 0 where
   pub joins : ℕ
   pub params : ℕ
   pub ends : g .next ≡ e + 1 + 2 * joins + params
-  pub few : size (g .value) + 1 + 2 * params + 2 * e ≤ 2 * g .next
+  pub few : nodeCount (g .value) + 1 + 2 * params + 2 * e ≤ 2 * g .next
 
 module _ (es : List Entry) where
   -- one that is read from entry e of these on, with what is left behind it
   abbrev Kept : ℕ → Got Exp → Type 0
   Kept e g = Small e g × (g .rest ≡ drop (g .next) es)
 
-  call-few : (h : List Param → Exp) → ((ps : List Param) → size (h ps) ≡ 1) → (n : ℕ) (scope : List ℕ) (e : ℕ) (l : List Entry)
+  call-few : (h : List Param → Exp) → ((ps : List Param) → nodeCount (h ps) ≡ 1) → (n : ℕ) (scope : List ℕ) (e : ℕ) (l : List Entry)
       → l ≡ drop (suc e) es → suc e ≤ length es → Each (Small e) (readCall h n scope (suc e) l)
   unfolding readCall
   call-few h one n scope e l q m =
-      each-bind (λ g. suc e ≤ g .next) (Small e) (readParams n scope (suc e) l) _
-      (each-of (readParams n scope (suc e) l) (λ g r. params-from es n scope (suc e) l g q m r .next))
+      each-bind (λ g. suc e ≤ g .next) (Small e) (readParamList n scope (suc e) l) _
+      (each-of (readParamList n scope (suc e) l) (λ g r. params-from es n scope (suc e) l g q m r .next))
       (λ g k. is (record {
         joins = 0;
         params = g .next - suc e;
@@ -76,7 +76,7 @@ module _ (es : List Entry) where
 
   join-few : (side : List ℕ → ℕ → List Entry → Read Exp) → Sides side → (j : Join) (scope : List ℕ) (e : ℕ) (l : List Entry)
       → l ≡ drop (suc e) es → Each (Small e) (readJoin side j scope (suc e) l)
-  unfolding readJoin size
+  unfolding readJoin nodeCount
   join-few side few j scope e l q =
       each-bind (Kept (suc e)) (Small e) (side (scopeLeft j scope) (suc e) l) _ (few (scopeLeft j scope) (suc e) l q)
       (λ f a. each-bind (Kept (f .next)) (Small e) (side (scopeRight j scope) (f .next) (f .rest)) _
@@ -89,19 +89,19 @@ module _ (es : List Entry) where
       })))
 
   kind-few : (side : List ℕ → ℕ → List Entry → Read Exp) → Sides side → (scope : List ℕ) (e : ℕ) (l : List Entry)
-      → l ≡ drop (suc e) es → suc e ≤ length es → (k : Kind) (o : ℕ) → Each (Small e) (readKind side scope e (suc e) l k o)
-  unfolding readKind size
-  kind-few side few scope e l q m Kind.stop o =
+      → l ≡ drop (suc e) es → suc e ≤ length es → (k : EntryKind) (o : ℕ) → Each (Small e) (readKind side scope e (suc e) l k o)
+  unfolding readKind nodeCount
+  kind-few side few scope e l q m EntryKind.stop o =
       is {g = record { value = stop; next = suc e; rest = l }} (record { joins = 0; params = 0; ends = omega arith; few = omega arith })
-  kind-few side few scope e l q m Kind.site o = call-few (λ ps. site (low o) ps) (λ ps. refl) (high o) scope e l q m
-  kind-few side few scope e l q m Kind.call o = call-few (λ ps. call (low o) ps) (λ ps. refl) (high o) scope e l q m
-  kind-few side few scope e l q m Kind.par o = join-few side few par scope e l q
-  kind-few side few scope e l q m Kind.seq o = join-few side few (seq (length scope)) scope e l q
-  kind-few side few scope e l q m Kind.prune o = join-few side few (prune (length scope)) scope e l q
-  kind-few side few scope e l q m Kind.definition o = none
-  kind-few side few scope e l q m Kind.variable o = none
-  kind-few side few scope e l q m Kind.constant o = none
-  kind-few side few scope e l q m Kind.unknown o = none
+  kind-few side few scope e l q m EntryKind.site o = call-few (λ ps. site (low o) ps) (λ ps. refl) (high o) scope e l q m
+  kind-few side few scope e l q m EntryKind.call o = call-few (λ ps. call (low o) ps) (λ ps. refl) (high o) scope e l q m
+  kind-few side few scope e l q m EntryKind.par o = join-few side few par scope e l q
+  kind-few side few scope e l q m EntryKind.seq o = join-few side few (seq (length scope)) scope e l q
+  kind-few side few scope e l q m EntryKind.prune o = join-few side few (prune (length scope)) scope e l q
+  kind-few side few scope e l q m EntryKind.definition o = none
+  kind-few side few scope e l q m EntryKind.variable o = none
+  kind-few side few scope e l q m EntryKind.constant o = none
+  kind-few side few scope e l q m EntryKind.unknown o = none
 
   with-rest : (left : ℕ) (scope : List ℕ) (e : ℕ) (l : List Entry) → l ≡ drop e es
       → Each (Small e) (readExp left scope e l) → Each (Kept e) (readExp left scope e l)
@@ -127,7 +127,7 @@ read-few ks os left scope e g r = each-got (exp-few (entries ks os) left scope e
 module _ (ks os : List ℕ) (left : ℕ) (scope : List ℕ) (e : ℕ) (q : Checked) (eq : q ≡ checkedExp (readExp left scope e (entriesFrom ks os e))) where
   pub next-few : (m d : ℕ) → q ≡ Next m d → (d + 1 + 2 * e ≤ 2 * m) × (m ≤ length ks)
   next-few m d h =
-      let a = checked-next size (readExp left scope e (entriesFrom ks os e)) m d (sym eq ∙ h) in
+      let a = checked-next nodeCount (readExp left scope e (entriesFrom ks os e)) m d (sym eq ∙ h) in
       let f = exp-from (entries ks os) left scope e (entriesFrom ks os e) (a .0) refl (a .1) in
       let small = read-few ks os left scope e (a .0) (a .1) .few in
       let x = a .2 in
@@ -139,10 +139,10 @@ module _ (ks os : List ℕ) (left : ℕ) (scope : List ℕ) (e : ℕ) (q : Check
     pub sum-few : (n m d : ℕ) → n ≤ 3 → q ≡ Next m d → n + d < 4096
     sum-few n m d k h = let f = next-few m d h in let x = f .0 in let y = f .1 in omega arith
 
-    pub nodes-few : nodesOf q < 4096
-    unfolding nodesOf
+    pub nodes-few : checkedNodes q < 4096
+    unfolding checkedNodes
     nodes-few = go q refl
       where
-        go : (r : Checked) → q ≡ r → nodesOf q < 4096
+        go : (r : Checked) → q ≡ r → checkedNodes q < 4096
         go (Next m d) h = let f = sum-few 0 m d (omega arith) h in rw h (omega arith)
         go (Refused n i) h = rw h (omega arith)

@@ -10,7 +10,7 @@ use lib.ListN.{length}
 use lib.Dec.{ltb}
 use Rattle.job.specs.Test.{_or_}
 use Rattle.job.specs.Syntax.{par, seq, prune, Exp, stop, site, call, levels}
-use Rattle.job.specs.Entry.{Entry, entry, low, high, Kind, kindOf, isExpression, rowHolds, isBinder}
+use Rattle.job.specs.Entry.{Entry, entry, low, high, EntryKind, kindOf, isExpression, rowHolds, isBinder}
 use Rattle.job.specs.Read.{Read, refused, _>>=_, gives, need, entryAt, readCall, readJoin, readExp}
 use Rattle.job.proofs.Test.{clash, ltb-lt}
 use Rattle.reader.specs.Fault.{unless, expressionFault}
@@ -18,46 +18,46 @@ use Rattle.reader.proofs.Scope.{levels-length}
 use Rattle.reader.proofs.Row.{no-expression, is-binder}
 
 -- what the kind of entry e asks for, where the entries from i on are left
-unfoldable pub readKind : (List ℕ → ℕ → List Entry → Read Exp) → List ℕ → ℕ → ℕ → List Entry → Kind → ℕ → Read Exp
-readKind side scope e i es Kind.stop o = gives stop i es
-readKind side scope e i es Kind.site o = readCall (site (low o)) (high o) scope i es
-readKind side scope e i es Kind.call o = readCall (call (low o)) (high o) scope i es
-readKind side scope e i es Kind.par o = readJoin side par scope i es
-readKind side scope e i es Kind.seq o = readJoin side (seq (length scope)) scope i es
-readKind side scope e i es Kind.prune o = readJoin side (prune (length scope)) scope i es
-readKind side scope e i es Kind.definition o = refused 3 e
-readKind side scope e i es Kind.variable o = refused 3 e
-readKind side scope e i es Kind.constant o = refused 3 e
-readKind side scope e i es Kind.unknown o = refused 3 e
+unfoldable pub readKind : (List ℕ → ℕ → List Entry → Read Exp) → List ℕ → ℕ → ℕ → List Entry → EntryKind → ℕ → Read Exp
+readKind side scope e i es EntryKind.stop o = gives stop i es
+readKind side scope e i es EntryKind.site o = readCall (site (low o)) (high o) scope i es
+readKind side scope e i es EntryKind.call o = readCall (call (low o)) (high o) scope i es
+readKind side scope e i es EntryKind.par o = readJoin side par scope i es
+readKind side scope e i es EntryKind.seq o = readJoin side (seq (length scope)) scope i es
+readKind side scope e i es EntryKind.prune o = readJoin side (prune (length scope)) scope i es
+readKind side scope e i es EntryKind.definition o = refused 3 e
+readKind side scope e i es EntryKind.variable o = refused 3 e
+readKind side scope e i es EntryKind.constant o = refused 3 e
+readKind side scope e i es EntryKind.unknown o = refused 3 e
 
 module _ (left : ℕ) (scope : List ℕ) (e : ℕ) (x : Entry) (es : List Entry) where
-  same-kind : (k : Kind)
+  same-kind : (k : EntryKind)
       → (elim k as (λ k. Read Exp) [
-        | Kind.stop ↦ gives stop (suc e) es
-        | Kind.site ↦ readCall (site (low (x .operand))) (high (x .operand)) scope (suc e) es
-        | Kind.call ↦ readCall (call (low (x .operand))) (high (x .operand)) scope (suc e) es
-        | Kind.par ↦ readJoin (readExp left) par scope (suc e) es
-        | Kind.seq ↦ readJoin (readExp left) (seq (length scope)) scope (suc e) es
-        | Kind.prune ↦ readJoin (readExp left) (prune (length scope)) scope (suc e) es
-        | Kind.definition ↦ refused 3 e
-        | Kind.variable ↦ refused 3 e
-        | Kind.constant ↦ refused 3 e
-        | Kind.unknown ↦ refused 3 e
+        | EntryKind.stop ↦ gives stop (suc e) es
+        | EntryKind.site ↦ readCall (site (low (x .operand))) (high (x .operand)) scope (suc e) es
+        | EntryKind.call ↦ readCall (call (low (x .operand))) (high (x .operand)) scope (suc e) es
+        | EntryKind.par ↦ readJoin (readExp left) par scope (suc e) es
+        | EntryKind.seq ↦ readJoin (readExp left) (seq (length scope)) scope (suc e) es
+        | EntryKind.prune ↦ readJoin (readExp left) (prune (length scope)) scope (suc e) es
+        | EntryKind.definition ↦ refused 3 e
+        | EntryKind.variable ↦ refused 3 e
+        | EntryKind.constant ↦ refused 3 e
+        | EntryKind.unknown ↦ refused 3 e
       ]) ≡ readKind (readExp left) scope e (suc e) es k (x .operand)
   unfolding readKind
-  same-kind Kind.stop = refl
-  same-kind Kind.site = refl
-  same-kind Kind.call = refl
-  same-kind Kind.par = refl
-  same-kind Kind.seq = refl
-  same-kind Kind.prune = refl
-  same-kind Kind.definition = refl
-  same-kind Kind.variable = refl
-  same-kind Kind.constant = refl
-  same-kind Kind.unknown = refl
+  same-kind EntryKind.stop = refl
+  same-kind EntryKind.site = refl
+  same-kind EntryKind.call = refl
+  same-kind EntryKind.par = refl
+  same-kind EntryKind.seq = refl
+  same-kind EntryKind.prune = refl
+  same-kind EntryKind.definition = refl
+  same-kind EntryKind.variable = refl
+  same-kind EntryKind.constant = refl
+  same-kind EntryKind.unknown = refl
 
   -- the three tests of an entry above the greatest depth, then its kind
-  abbrev pub tests : Kind → ℕ → Read Exp → Read Exp
+  abbrev pub tests : EntryKind → ℕ → Read Exp → Read Exp
   tests k o r =
       need (isExpression k) 3 e
       >>= (λ _. need (rowHolds k o) 4 e >>= (λ _. need (not (isBinder k) or ltb (length scope) 8) 7 e >>= (λ _. r)))

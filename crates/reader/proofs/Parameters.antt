@@ -8,9 +8,9 @@ use lib.ListN.{length, getD, take, drop}
 use Rattle.job.specs.Number.{number}
 use Rattle.job.specs.Syntax.{Param, levels}
 use Rattle.job.specs.Entry.{Entry, entry, entries, kindOf}
-use Rattle.job.specs.Read.{Got, Read, got, refused, _>>=_, gives, need, entryAt, readParam, readParams}
+use Rattle.job.specs.Read.{Got, Read, got, refused, _>>=_, gives, need, entryAt, readParam, readParamList}
 use Rattle.job.proofs.Position.{entries-end, entries-at, param-from}
-use Rattle.reader.specs.Checked.{entriesFrom, checked, checkedParam, checkedParams, nodesOf}
+use Rattle.reader.specs.Checked.{entriesFrom, checked, checkedParam, checkedParamList, checkedNodes}
 use Rattle.reader.specs.declared.checked.Checked.{Checked}
 use Rattle.reader.specs.declared.checked.Checked.the-variants.{Next, Refused}
 use Rattle.reader.proofs.Scope.{in-scope, out-of-scope}
@@ -54,38 +54,38 @@ module _ (ks os : List ℕ) (s at : ℕ) where
 
 -- the parameters behind the first
 rest : ℕ → List ℕ → Got Param → Read (List Param)
-rest n scope p = readParams n scope (p .next) (p .rest) >>= (λ ps. gives (p .value ∷ ps .value) (ps .next) (ps .rest))
+rest n scope p = readParamList n scope (p .next) (p .rest) >>= (λ ps. gives (p .value ∷ ps .value) (ps .next) (ps .rest))
 
 module _ (ks os : List ℕ) (n s at : ℕ) where
   abbrev Answered : Checked → Type 0
-  Answered r = r ≡ checkedParams (readParams n (levels s) at (entriesFrom ks os at))
+  Answered r = r ≡ checkedParamList (readParamList n (levels s) at (entriesFrom ks os at))
 
   pub params-none : n ≡ 0 → Answered (Next at 0)
-  unfolding readParams checked
+  unfolding readParamList checked
   params-none z = rw z
 
   module _ (f : n ≡ 0 → ⊥) (q : Checked) (eq : Answers ks os s at q) where
-    opened : readParams n (levels s) at (entriesFrom ks os at) ≡ (readParam (levels s) at (entriesFrom ks os at) >>= rest (n - 1) (levels s))
-    unfolding rest readParams
-    opened = let z : n ≡ suc (n - 1) = omega arith in ap (λ k. readParams k (levels s) at (entriesFrom ks os at)) z
+    opened : readParamList n (levels s) at (entriesFrom ks os at) ≡ (readParam (levels s) at (entriesFrom ks os at) >>= rest (n - 1) (levels s))
+    unfolding rest readParamList
+    opened = let z : n ≡ suc (n - 1) = omega arith in ap (λ k. readParamList k (levels s) at (entriesFrom ks os at)) z
 
     pub params-refused : (k e : ℕ) → q ≡ Refused k e → Answered (Refused k e)
     params-refused k e h = rw opened (bind-refused (λ p. 0) _ (λ ps. 0) (rest (n - 1) (levels s)) k e (sym eq ∙ h))
 
     pub params-more : (m d : ℕ) (z : Checked) → q ≡ Next m d
-        → z ≡ checkedParams (readParams (n - 1) (levels s) m (entriesFrom ks os m)) → Answered z
+        → z ≡ checkedParamList (readParamList (n - 1) (levels s) m (entriesFrom ks os m)) → Answered z
     unfolding rest _>>=_
     params-more m d z h ez =
         let a = checked-next (λ p. 0) (readParam (levels s) at (entriesFrom ks os at)) m d (sym eq ∙ h) in
         let b = param-from (entries ks os) (levels s) at (entriesFrom ks os at) (a .0) refl (a .1) in
-        let tail = readParams (n - 1) (levels s) (a .0 .next) (a .0 .rest) in
+        let tail = readParamList (n - 1) (levels s) (a .0 .next) (a .0 .rest) in
         ez
-        ∙ sym (ap checkedParams (opened ∙ ap (λ r. r >>= rest (n - 1) (levels s)) (a .1))
+        ∙ sym (ap checkedParamList (opened ∙ ap (λ r. r >>= rest (n - 1) (levels s)) (a .1))
         ∙ same-nodes (λ ps. 0) (λ ps. 0) (λ ps. a .0 .value ∷ ps) (λ ps. refl) tail
-        ∙ ap₂ (λ i l. checkedParams (readParams (n - 1) (levels s) i l)) (a .2) (b .rest ∙ ap (λ i. drop i (entries ks os)) (a .2)))
+        ∙ ap₂ (λ i l. checkedParamList (readParamList (n - 1) (levels s) i l)) (a .2) (b .rest ∙ ap (λ i. drop i (entries ks os)) (a .2)))
 
 -- parameters make no node
-pub params-nodes : (q : Checked) (r : Read (List Param)) → q ≡ checkedParams r → nodesOf q < 4096
-unfolding checked nodesOf
+pub params-nodes : (q : Checked) (r : Read (List Param)) → q ≡ checkedParamList r → checkedNodes q < 4096
+unfolding checked checkedNodes
 params-nodes q (got g) e = rw e (omega arith)
 params-nodes q (refused n i) e = rw e (omega arith)

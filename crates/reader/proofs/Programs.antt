@@ -7,13 +7,13 @@ use lib.ListN.{length, take}
 use Rattle.job.specs.Syntax.{Definition, Program, formalsOf, levels}
 use Rattle.job.specs.Entry.{Entry, entries}
 use Rattle.job.specs.Read.{Got, Read, got, refused, _>>=_, need, readExp, leftovers, definitionsHold, readEntries}
-use Rattle.job.specs.Construct.{size, construct}
+use Rattle.job.specs.Construct.{nodeCount, construct}
 use Rattle.job.proofs.Position.{entries-end, entries-at, exp-from}
 use Rattle.reader.specs.Checked.{entriesFrom, checked, checkedTest, checkedExp, checkedProgram, afterwards}
-use Rattle.reader.specs.Definitions.{readDefinitions, definitionsNodes, formalsRead, DefinitionsHold}
+use Rattle.reader.specs.DefinitionList.{readDefinitionList, definitionListNodes, formalsRead, DefinitionsHold}
 use Rattle.reader.specs.declared.checked.Checked.{Checked}
 use Rattle.reader.specs.declared.checked.Checked.the-variants.{Next, Refused}
-use Rattle.reader.specs.declared.definition.Definitions.{Definitions}
+use Rattle.reader.specs.declared.definition.DefinitionsAnswer.{DefinitionsAnswer}
 use Rattle.reader.proofs.Onward.{checked-refused, checked-next}
 use Rattle.reader.proofs.Few.{next-few}
 use Rattle.reader.proofs.DefinitionLoop.{formals-length}
@@ -38,7 +38,7 @@ tests-answer f (refused n e) s = refl
 tests-all : (es : List Entry) (p : Got Program) → checkedProgram (tests es p)
     ≡ afterwards (checkedTest (leftovers (p .next) (p .rest)))
     (afterwards (checkedTest (definitionsHold (formalsOf (p .value .definitions)) 0 es))
-    (Next (p .next) (definitionsNodes (p .value .definitions) + (size (p .value .goal) + 1))))
+    (Next (p .next) (definitionListNodes (p .value .definitions) + (nodeCount (p .value .goal) + 1))))
 unfolding tests checked
 tests-all es p =
     let nodes : Program → ℕ = λ p. length (construct p .nodes) in
@@ -48,7 +48,7 @@ tests-all es p =
     (tests-answer nodes calls (got p)
     ∙ ap (λ m. afterwards (checkedTest calls) (Next (p .next) m)) (construct-length (p .value)))
 
-module _ (ks os : List ℕ) (n : ℕ) (d : Definitions) (found : DefinitionsHold (readDefinitions n 0 (entries ks os)) d) where
+module _ (ks os : List ℕ) (n : ℕ) (d : DefinitionsAnswer) (found : DefinitionsHold (readDefinitionList n 0 (entries ks os)) d) where
   -- the code's answer
   abbrev Answers : Checked → Type 0
   Answers r = r ≡ checkedProgram (readEntries n (entries ks os))
@@ -56,12 +56,12 @@ module _ (ks os : List ℕ) (n : ℕ) (d : Definitions) (found : DefinitionsHold
   pub program-refused : (k e : ℕ) → d .answer ≡ Refused k e → Answers (Refused k e)
   unfolding _>>=_ checked
   program-refused k e h =
-      let r = checked-refused definitionsNodes (readDefinitions n 0 (entries ks os)) k e (sym (found .answer) ∙ h) in
+      let r = checked-refused definitionListNodes (readDefinitionList n 0 (entries ks os)) k e (sym (found .answer) ∙ h) in
       sym (ap checkedProgram (entries-opened n (entries ks os) ∙ ap (λ r. r >>= goalRead >>= tests (entries ks os)) r))
 
   module _ (at before : ℕ) (h : d .answer ≡ Next at before) where
-    first : (a : Got (List Definition)) × (readDefinitions n 0 (entries ks os) ≡ got a) × (a .next ≡ at) × (definitionsNodes (a .value) ≡ before)
-    first = checked-next definitionsNodes (readDefinitions n 0 (entries ks os)) at before (sym (found .answer) ∙ h)
+    first : (a : Got (List Definition)) × (readDefinitionList n 0 (entries ks os) ≡ got a) × (a .next ≡ at) × (definitionListNodes (a .value) ≡ before)
+    first = checked-next definitionListNodes (readDefinitionList n 0 (entries ks os)) at before (sym (found .answer) ∙ h)
 
     facts : AllDefined ks os n 0 (first .0)
     facts = all-defined ks os n 0 (entries ks os) refl (first .0) (first .1)
@@ -101,7 +101,7 @@ module _ (ks os : List ℕ) (n : ℕ) (d : Definitions) (found : DefinitionsHold
       pub goal-refused : (k e : ℕ) → q ≡ Refused k e → Answers (Refused k e)
       unfolding _>>=_ checked
       goal-refused k e w =
-          let r = checked-refused size (readExp 24 (levels 0) at (entriesFrom ks os at)) k e (sym eq ∙ w) in
+          let r = checked-refused nodeCount (readExp 24 (levels 0) at (entriesFrom ks os at)) k e (sym eq ∙ w) in
           sym (ap checkedProgram (goal ∙ ap (λ r. r >>= whole (first .0 .value) >>= tests (entries ks os)) r))
 
       pub program-done : (end nodes : ℕ) (u v x r : Checked) → q ≡ Next end nodes
@@ -111,11 +111,11 @@ module _ (ks os : List ℕ) (n : ℕ) (d : Definitions) (found : DefinitionsHold
       unfolding whole _>>=_
       program-done end nodes u v x r w eu ev ex er =
           let ds = first .0 .value in
-          let a = checked-next size (readExp 24 (levels 0) at (entriesFrom ks os at)) end nodes (sym eq ∙ w) in
+          let a = checked-next nodeCount (readExp 24 (levels 0) at (entriesFrom ks os at)) end nodes (sym eq ∙ w) in
           let f = exp-from (entries ks os) 24 (levels 0) at (entriesFrom ks os at) (a .0) refl (a .1) in
           let b = first .3 in
           let c = a .3 in
-          let sum : definitionsNodes ds + (size (a .0 .value) + 1) ≡ before + nodes + 1 = omega arith in
+          let sum : definitionListNodes ds + (nodeCount (a .0 .value) + 1) ≡ before + nodes + 1 = omega arith in
           er
           ∙ ap₂ afterwards eu (ex ∙ ap (λ v. afterwards v (Next end (before + nodes + 1))) ev)
           ∙ sym (ap checkedProgram (goal ∙ ap (λ r. r >>= whole ds >>= tests (entries ks os)) (a .1))

@@ -6,7 +6,7 @@ use lib.ListN.{length, drop}
 use Rattle.job.specs.Syntax.{Param, Exp, Program}
 use Rattle.job.specs.Entry.{Entry, entries}
 use Rattle.job.specs.Read.{Read, got, refused}
-use Rattle.job.specs.Construct.{size, construct}
+use Rattle.job.specs.Construct.{nodeCount, construct}
 use Rattle.reader.specs.declared.checked.Checked.{Checked}
 use Rattle.reader.specs.declared.checked.Checked.the-variants.{Next, Refused}
 
@@ -28,11 +28,11 @@ checked nodes (refused n e) = Refused n e
 abbrev pub checkedParam : Read Param → Checked
 checkedParam = checked (λ p. 0)
 
-abbrev pub checkedParams : Read (List Param) → Checked
-checkedParams = checked (λ ps. 0)
+abbrev pub checkedParamList : Read (List Param) → Checked
+checkedParamList = checked (λ ps. 0)
 
 abbrev pub checkedExp : Read Exp → Checked
-checkedExp = checked size
+checkedExp = checked nodeCount
 
 -- a test makes none either
 abbrev pub checkedTest : Read (Unit {0}) → Checked
@@ -43,9 +43,9 @@ abbrev pub checkedProgram : Read Program → Checked
 checkedProgram = checked (λ p. length (construct p .nodes))
 
 -- the number of nodes of an answer, and the answer with more of them
-unfoldable pub nodesOf : Checked → ℕ
-nodesOf (Next e n) = n
-nodesOf (Refused n e) = 0
+unfoldable pub checkedNodes : Checked → ℕ
+checkedNodes (Next e n) = n
+checkedNodes (Refused n e) = 0
 
 unfoldable pub more : ℕ → Checked → Checked
 more k (Next e n) = Next e (k + n)

@@ -3,7 +3,7 @@ use mathlib.Core.Bool.{Bool, true, false, not}
 use Prim.Native.Nat.{ℕ, zero, suc}
 use lib.Dec.{ltb}
 use Rattle.job.specs.Test.{_or_}
-use Rattle.job.specs.Entry.{Kind, isExpression, rowHolds, isBinder}
+use Rattle.job.specs.Entry.{EntryKind, isExpression, rowHolds, isBinder}
 
 -- this number, unless the test holds
 unfoldable pub unless : Bool → ℕ → ℕ → ℕ
@@ -11,7 +11,7 @@ unless true n m = m
 unless false n m = n
 
 -- 0 where no test fails; so many levels of depth are left, so many variables in scope
-unfoldable pub expressionFault : ℕ → ℕ → Kind → ℕ → ℕ
+unfoldable pub expressionFault : ℕ → ℕ → EntryKind → ℕ → ℕ
 expressionFault zero scope k o = unless (isExpression k) 3 (unless (rowHolds k o) 4 6)
 expressionFault (suc left) scope k o =
     unless (isExpression k) 3 (unless (rowHolds k o) 4 (unless (not (isBinder k) or ltb scope 8) 7 0))

@@ -2,4 +2,4 @@
 pub mod Checked
 pub mod Fault
 pub mod Join
-pub mod Definitions
+pub mod DefinitionList

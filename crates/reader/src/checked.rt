@@ -1,7 +1,7 @@
 // What the reader answers.
 ghost use mathlib.Core.Path.{_≡_};
 ghost use Prim.Native.Nat.{_<_};
-ghost use Rattle.reader.specs.Checked.{nodesOf, more, afterwards};
+ghost use Rattle.reader.specs.Checked.{checkedNodes, more, afterwards};
 
 // The first entry behind what was read, and its number of nodes; or a refusal's number and entry.
 pub enum Checked {
@@ -11,7 +11,7 @@ pub enum Checked {
 
 // The answer, with so many nodes more.
 pub fn add_nodes(answer: Checked, nodes: usize) -> Checked
-    requires { ⌜ (nodesOf answer < 4096) × (nodes < 4096) ⌝ }
+    requires { ⌜ (checkedNodes answer < 4096) × (nodes < 4096) ⌝ }
     ensures { λ r. ⌜ r ≡ more nodes answer ⌝ }
 {
     match answer {

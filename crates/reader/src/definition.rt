@@ -8,10 +8,10 @@ ghost use Prim.Native.Nat.{_≤_};
 ghost use Rattle.job.specs.Entry.{entries};
 ghost use Rattle.job.specs.Read.{readDefinition};
 ghost use Rattle.reader.specs.Checked.{Parts, entriesFrom};
-ghost use Rattle.reader.specs.Definitions.{checkedDefinition, readDefinitions, DefinitionsHold};
+ghost use Rattle.reader.specs.DefinitionList.{checkedDefinition, readDefinitionList, DefinitionsHold};
 
 // The answer for some definitions, and the count of formals of each.
-pub struct Definitions {
+pub struct DefinitionsAnswer {
     pub answer: Checked,
     pub formals: [u32; 32],
 }
@@ -38,10 +38,10 @@ fn check_definition(kinds: &[u8], operands: &[u8], at: usize) -> Checked
 }
 
 // So many definitions, from the first entry on.
-pub fn check_definitions(kinds: &[u8], operands: &[u8], count: usize) -> Definitions
+pub fn check_definitions(kinds: &[u8], operands: &[u8], count: usize) -> DefinitionsAnswer
     requires { ⌜ Parts (now kinds) (now operands) ⌝ }
     requires { ⌜ count ≤ 32 ⌝ }
-    ensures { λ r. ⌜ DefinitionsHold (readDefinitions count 0 (entries (now (kinds .entry)) (now (operands .entry)))) r ⌝ }
+    ensures { λ r. ⌜ DefinitionsHold (readDefinitionList count 0 (entries (now (kinds .entry)) (now (operands .entry)))) r ⌝ }
 {
     let mut formals = [0u32; 32];
     let mut at = 0;
@@ -51,7 +51,7 @@ pub fn check_definitions(kinds: &[u8], operands: &[u8], count: usize) -> Definit
         let definition = check_definition(kinds, operands, at);
         match definition {
             Checked::Refused(n, e) => {
-                return Definitions {
+                return DefinitionsAnswer {
                     answer: Checked::Refused(n, e),
                     formals,
                 };
@@ -64,7 +64,7 @@ pub fn check_definitions(kinds: &[u8], operands: &[u8], count: usize) -> Definit
         }
         i += 1;
     }
-    Definitions {
+    DefinitionsAnswer {
         answer: Checked::Next(at, nodes),
         formals,
     }

@@ -1,5 +1,5 @@
 // One entry: its operand, its row, and what refuses it where an expression is read.
-use job::sites;
+use job::site_parameters;
 ghost use mathlib.Core.Path.{_≡_};
 ghost use Prim.Native.Nat.{_+_, _*_, _<_, _≤_};
 ghost use lib.ListN.{length, take, drop};
@@ -36,7 +36,7 @@ pub fn row_holds(kind: u8, operand: u32) -> bool
     ensures { λ r. ⌜ r ≡ rowHolds (kindOf kind) operand ⌝ }
 {
     if kind == 1 {
-        return sites::takes(operand % 65536, operand / 65536);
+        return site_parameters::takes(operand % 65536, operand / 65536);
     }
     if kind == 2 {
         return operand / 65536 <= 4;

@@ -3,8 +3,8 @@ use crate::checked::Checked;
 use crate::entry;
 ghost use mathlib.Core.Path.{_≡_};
 ghost use Rattle.job.specs.Syntax.{levels};
-ghost use Rattle.job.specs.Read.{readParam, readParams};
-ghost use Rattle.reader.specs.Checked.{Parts, entriesFrom, checkedParam, checkedParams};
+ghost use Rattle.job.specs.Read.{readParam, readParamList};
+ghost use Rattle.reader.specs.Checked.{Parts, entriesFrom, checkedParam, checkedParamList};
 
 // The parameter at entry `at`, where so many variables are in scope.
 fn check_parameter(kinds: &[u8], operands: &[u8], scope: usize, at: usize) -> Checked
@@ -37,7 +37,7 @@ pub fn check_parameters(
     at: usize,
 ) -> Checked
     requires { ⌜ Parts (now kinds) (now operands) ⌝ }
-    ensures { λ r. ⌜ r ≡ checkedParams (readParams count (levels scope) at (entriesFrom (now (kinds .entry)) (now (operands .entry)) at)) ⌝ }
+    ensures { λ r. ⌜ r ≡ checkedParamList (readParamList count (levels scope) at (entriesFrom (now (kinds .entry)) (now (operands .entry)) at)) ⌝ }
 {
     if count == 0 {
         return Checked::Next(at, 0);

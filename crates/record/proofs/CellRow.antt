@@ -12,8 +12,8 @@ use Rattle.model.specs.declared.token.Held.the-variants as helds
 use Rattle.model.specs.declared.token.Place.{Place}
 use Rattle.model.specs.declared.cell.Cell.{Cell}
 use Rattle.model.specs.declared.record.Machine.{Machine}
-use Rattle.record.specs.Fields.{putCell, unsetCell, setCell}
-use Rattle.record.specs.Words.{cellRow, wordsOf, counts, parts, placeNumber, heldKind, heldNumber}
+use Rattle.record.specs.Fields.{storeCell, unsetCell, setCell}
+use Rattle.record.specs.Words.{cellRow, wordsOf, countWords, parts, placeNumber, heldKind, heldNumber}
 use Rattle.record.specs.Holds.{Codes, Holds}
 use Rattle.record.proofs.Parts as parts-laws
 use Rattle.record.proofs.Shape.{shaped, tables-hold}
@@ -41,12 +41,12 @@ module _ {ws : List ℕ} {m : Machine} (h : Codes ws m) (c : ℕ) (l : c < 32) w
   value-word = cell-word 2 (omega arith)
 
 -- a cell may stand for itself
-pub put-self : (m : Machine) (c : ℕ) → putCell c (cellAt (m .cells) c) m ≡ m
+pub put-self : (m : Machine) (c : ℕ) → storeCell c (cellAt (m .cells) c) m ≡ m
 unfolding withTables cellAt
 put-self m c = ap (λ cs. withTables (m .tokens) cs m) (set-getD (m .cells) c blankCell)
 
 -- writing: the cell k at c becomes another
-module _ {ws : List ℕ} (m : Machine) (k : Cell) (c : ℕ) (h : Holds ws (putCell c k m)) (l : c < 32) where
+module _ {ws : List ℕ} (m : Machine) (k : Cell) (c : ℕ) (h : Holds ws (storeCell c k m)) (l : c < 32) where
   cells-long : length (m .cells) ≡ 32
   unfolding withTables
   cells-long = sym (length-set (m .cells) c k) ∙ shaped h .cells
@@ -55,15 +55,15 @@ module _ {ws : List ℕ} (m : Machine) (k : Cell) (c : ℕ) (h : Holds ws (putCe
   here = getD-set-same (m .cells) c k blankCell (omega (arith, cells-long))
 
   becomes : (x : Cell) {xs : List ℕ}
-      → xs ≡ parts (m .tokens) (set (set (m .cells) c k) c x) (m .queue) (m .waits) (counts m) → Holds xs (putCell c x m)
-  unfolding withTables counts
+      → xs ≡ parts (m .tokens) (set (set (m .cells) c k) c x) (m .queue) (m .waits) (countWords m) → Holds xs (storeCell c x m)
+  unfolding withTables countWords
   becomes x {xs} e =
       subst (λ cs. Holds xs (withTables (m .tokens) cs m)) (set-set (m .cells) c k x)
       (tables-hold h (m .tokens) (set (set (m .cells) c k) c x) e (shaped h .tokens)
       (length-set (set (m .cells) c k) c x ∙ (length-set (m .cells) c k ∙ cells-long)) (shaped h .binds))
 
-  pub parent-put : (n : ℕ) (q : Place) → placeNumber q ≡ n → Holds (set ws (1536 + 4 * c) n) (putCell c (record { parent = q; value = k .value }) m)
-  unfolding withTables wordsOf counts cellRow
+  pub parent-put : (n : ℕ) (q : Place) → placeNumber q ≡ n → Holds (set ws (1536 + 4 * c) n) (storeCell c (record { parent = q; value = k .value }) m)
+  unfolding withTables wordsOf countWords cellRow
   parent-put n q e =
       let z : 1536 + 4 * c ≡ 1536 + 4 * c + 0 = omega arith in
       becomes (record { parent = q; value = k .value })
@@ -72,8 +72,8 @@ module _ {ws : List ℕ} (m : Machine) (k : Cell) (c : ℕ) (h : Holds ws (putCe
       (record { parent = q; value = k .value }) (ap (λ x. set (cellRow x) 0 n) here ∙ rw (← e)))
 
   pub value-put : (i n : ℕ) (v : Held) → heldKind v ≡ i → heldNumber v ≡ n
-      → Holds (set (set ws (1536 + 4 * c + 1) i) (1536 + 4 * c + 2) n) (putCell c (setCell v k) m)
-  unfolding withTables wordsOf counts cellRow
+      → Holds (set (set ws (1536 + 4 * c + 1) i) (1536 + 4 * c + 2) n) (storeCell c (setCell v k) m)
+  unfolding withTables wordsOf countWords cellRow
   value-put i n v e f =
       becomes (setCell v k)
       (ap (λ r. set (set r (1536 + 4 * c + 1) i) (1536 + 4 * c + 2) n) (h .codes .words)
@@ -84,13 +84,13 @@ module _ {ws : List ℕ} {m : Machine} (h : Holds ws m) (c : ℕ) (l : c < 32) w
   abbrev there : Cell
   there = cellAt (m .cells) c
 
-  stays : Holds ws (putCell c there m)
+  stays : Holds ws (storeCell c there m)
   stays = subst (Holds ws) (sym (put-self m c)) h
 
   pub set-put : (i n : ℕ) (v : Held) → heldKind v ≡ i → heldNumber v ≡ n
-      → Holds (set (set ws (1536 + 4 * c + 1) i) (1536 + 4 * c + 2) n) (putCell c (setCell v there) m)
+      → Holds (set (set ws (1536 + 4 * c + 1) i) (1536 + 4 * c + 2) n) (storeCell c (setCell v there) m)
   set-put i n v e f = value-put m there c stays l i n v e f
 
   pub unset-put : (n : ℕ) (q : Place) → placeNumber q ≡ n
-      → Holds (set (set (set ws (1536 + 4 * c) n) (1536 + 4 * c + 1) 0) (1536 + 4 * c + 2) 0) (putCell c (unsetCell q) m)
+      → Holds (set (set (set ws (1536 + 4 * c) n) (1536 + 4 * c + 1) 0) (1536 + 4 * c + 2) 0) (storeCell c (unsetCell q) m)
   unset-put n q e = value-put m (record { parent = q; value = there .value }) c (parent-put m there c stays l n q e) l 0 0 helds.Nothing refl refl

@@ -8,7 +8,7 @@ use lib.Seq.{set-append-left, take-at, drop-at, paste, take-append-le, drop-appe
 use Rattle.model.specs.Machine.Blank.{blankToken, blankCell}
 use Rattle.model.specs.declared.token.Token.{Token}
 use Rattle.model.specs.declared.cell.Cell.{Cell}
-use Rattle.record.specs.Words.{rowOf, cellRow, rows, parts}
+use Rattle.record.specs.Words.{rowOf, cellRow, tableWords, parts}
 use Rattle.record.proofs.Table.{rows-length, rows-get, rows-set, rows-set2, rows-paste, get-behind, set-behind}
 
 pub row-wide : (t : Token) → length (rowOf t) ≡ 24
@@ -20,22 +20,22 @@ unfolding cellRow
 cell-wide c = refl
 
 module _ (ts : List Token) (cs : List Cell) (q w k : List ℕ) (tl : length ts ≡ 64) (cl : length cs ≡ 32) (ql : length q ≡ 64) (wl : length w ≡ 64) where
-  tokens-long : length (rows rowOf ts) ≡ 1536
+  tokens-long : length (tableWords rowOf ts) ≡ 1536
   tokens-long = rows-length rowOf 24 row-wide ts ∙ ap (λ n. 24 * n) tl
 
-  cells-long : length (rows cellRow cs) ≡ 128
+  cells-long : length (tableWords cellRow cs) ≡ 128
   cells-long = rows-length cellRow 4 cell-wide cs ∙ ap (λ n. 4 * n) cl
 
   -- what stands before the queue and before the counts
   abbrev front : List ℕ
-  front = rows rowOf ts ++ rows cellRow cs
+  front = tableWords rowOf ts ++ tableWords cellRow cs
 
   pub front-long : length front ≡ 1664
-  front-long = length-append (rows rowOf ts) (rows cellRow cs) ∙ ap₂ (λ a b. a + b) tokens-long cells-long
+  front-long = length-append (tableWords rowOf ts) (tableWords cellRow cs) ∙ ap₂ (λ a b. a + b) tokens-long cells-long
 
   pub front-parts : parts ts cs q w k ≡ front ++ (q ++ (w ++ k))
   unfolding parts
-  front-parts = sym (append-assoc (rows rowOf ts) (rows cellRow cs) (q ++ (w ++ k)))
+  front-parts = sym (append-assoc (tableWords rowOf ts) (tableWords cellRow cs) (q ++ (w ++ k)))
 
   abbrev before : List ℕ
   before = (front ++ q) ++ w
@@ -56,25 +56,25 @@ module _ (ts : List Token) (cs : List Cell) (q w k : List ℕ) (tl : length ts �
     pub tokens-get : getD (parts ts cs q w k) (24 * p + j) 0 ≡ getD (rowOf (getD ts p blankToken)) j 0
     unfolding parts
     tokens-get =
-        List·getD-append (rows rowOf ts) _ 0 (24 * p + j) (omega (arith, tokens-long))
+        List·getD-append (tableWords rowOf ts) _ 0 (24 * p + j) (omega (arith, tokens-long))
         ∙ rows-get rowOf 24 row-wide blankToken ts p j token-there s
 
     pub tokens-set :
         (v : ℕ) (t : Token) → set (rowOf (getD ts p blankToken)) j v ≡ rowOf t → set (parts ts cs q w k) (24 * p + j) v ≡ parts (set ts p t) cs q w k
     unfolding parts
     tokens-set v t e =
-        set-append-left (rows rowOf ts) _ (24 * p + j) v (omega (arith, tokens-long))
-        ∙ ap (λ r. r ++ (rows cellRow cs ++ (q ++ (w ++ k)))) (rows-set rowOf 24 row-wide blankToken ts p j v t token-there s e)
+        set-append-left (tableWords rowOf ts) _ (24 * p + j) v (omega (arith, tokens-long))
+        ∙ ap (λ r. r ++ (tableWords cellRow cs ++ (q ++ (w ++ k)))) (rows-set rowOf 24 row-wide blankToken ts p j v t token-there s e)
 
   -- a whole row is written
   pub tokens-paste : (p : ℕ) (t : Token) → p < 64 → paste (parts ts cs q w k) (24 * p) (rowOf t) 24 ≡ parts (set ts p t) cs q w k
   unfolding parts
   tokens-paste p t l =
       ap₂ (λ a b. a ++ take 24 (rowOf t) ++ b)
-      (take-append-le (24 * p) (rows rowOf ts) _ (omega (arith, tokens-long)))
-      (drop-append-le (24 * p + 24) (rows rowOf ts) _ (omega (arith, tokens-long)))
-      ∙ sym (append-assoc (take (24 * p) (rows rowOf ts) ++ take 24 (rowOf t)) (drop (24 * p + 24) (rows rowOf ts)) _)
-      ∙ ap (λ r. r ++ (rows cellRow cs ++ (q ++ (w ++ k)))) (rows-paste rowOf 24 row-wide ts p t (omega (arith, tl)))
+      (take-append-le (24 * p) (tableWords rowOf ts) _ (omega (arith, tokens-long)))
+      (drop-append-le (24 * p + 24) (tableWords rowOf ts) _ (omega (arith, tokens-long)))
+      ∙ sym (append-assoc (take (24 * p) (tableWords rowOf ts) ++ take 24 (rowOf t)) (drop (24 * p + 24) (tableWords rowOf ts)) _)
+      ∙ ap (λ r. r ++ (tableWords cellRow cs ++ (q ++ (w ++ k)))) (rows-paste rowOf 24 row-wide ts p t (omega (arith, tl)))
 
   -- cells
   module _ (c j : ℕ) (l : c < 32) (s : j < 4) where
@@ -88,8 +88,8 @@ module _ (ts : List Token) (cs : List Cell) (q w k : List ℕ) (tl : length ts �
     unfolding parts
     cells-get =
         ap (λ i. getD (parts ts cs q w k) i 0) cell-index
-        ∙ get-behind (rows rowOf ts) _ 1536 tokens-long (4 * c + j) 0
-        ∙ List·getD-append (rows cellRow cs) _ 0 (4 * c + j) (omega (arith, cells-long))
+        ∙ get-behind (tableWords rowOf ts) _ 1536 tokens-long (4 * c + j) 0
+        ∙ List·getD-append (tableWords cellRow cs) _ 0 (4 * c + j) (omega (arith, cells-long))
         ∙ rows-get cellRow 4 cell-wide blankCell cs c j cell-there s
 
     pub cells-set :
@@ -97,9 +97,9 @@ module _ (ts : List Token) (cs : List Cell) (q w k : List ℕ) (tl : length ts �
     unfolding parts
     cells-set v x e =
         ap (λ i. set (parts ts cs q w k) i v) cell-index
-        ∙ set-behind (rows rowOf ts) _ 1536 tokens-long (4 * c + j) v
-        ∙ ap (λ r. rows rowOf ts ++ r)
-        (set-append-left (rows cellRow cs) _ (4 * c + j) v (omega (arith, cells-long))
+        ∙ set-behind (tableWords rowOf ts) _ 1536 tokens-long (4 * c + j) v
+        ∙ ap (λ r. tableWords rowOf ts ++ r)
+        (set-append-left (tableWords cellRow cs) _ (4 * c + j) v (omega (arith, cells-long))
         ∙ ap (λ r. r ++ (q ++ (w ++ k))) (rows-set cellRow 4 cell-wide blankCell cs c j v x cell-there s e))
 
   -- the queue
@@ -115,7 +115,7 @@ module _ (ts : List Token) (cs : List Cell) (q w k : List ℕ) (tl : length ts �
       ap (λ r. set r (1664 + i) v) front-parts
       ∙ set-behind front _ 1664 front-long i v
       ∙ ap (λ r. front ++ r) (set-append-left q _ i v (omega (arith, ql)))
-      ∙ append-assoc (rows rowOf ts) (rows cellRow cs) (set q i v ++ (w ++ k))
+      ∙ append-assoc (tableWords rowOf ts) (tableWords cellRow cs) (set q i v ++ (w ++ k))
 
   -- a part is lent and written
   pub queue-is : take 64 (drop 1664 (parts ts cs q w k)) ≡ q
@@ -130,7 +130,7 @@ module _ (ts : List Token) (cs : List Cell) (q w k : List ℕ) (tl : length ts �
       ap (λ r. take 1664 r ++ (x ++ drop 64 (drop 1664 r))) front-parts
       ∙ ap₂ (λ a b. a ++ (x ++ drop 64 b)) (take-at front (q ++ (w ++ k)) 1664 front-long) (drop-at front (q ++ (w ++ k)) 1664 front-long)
       ∙ ap (λ b. front ++ (x ++ b)) (drop-at q (w ++ k) 64 ql)
-      ∙ append-assoc (rows rowOf ts) (rows cellRow cs) (x ++ (w ++ k))
+      ∙ append-assoc (tableWords rowOf ts) (tableWords cellRow cs) (x ++ (w ++ k))
 
   -- the counts
   pub counts-get : (i : ℕ) → getD (parts ts cs q w k) (1792 + i) 0 ≡ getD k i 0
@@ -143,7 +143,7 @@ module _ (ts : List Token) (cs : List Cell) (q w k : List ℕ) (tl : length ts �
       ∙ set-behind before k 1792 before-long i v
       ∙ append-assoc (front ++ q) w (set k i v)
       ∙ append-assoc front q (w ++ set k i v)
-      ∙ append-assoc (rows rowOf ts) (rows cellRow cs) (q ++ (w ++ set k i v))
+      ∙ append-assoc (tableWords rowOf ts) (tableWords cellRow cs) (q ++ (w ++ set k i v))
 
   pub parts-long : length (parts ts cs q w k) ≡ 1792 + length k
   parts-long = ap length before-parts ∙ length-append before k ∙ ap (λ n. n + length k) before-long
@@ -157,9 +157,9 @@ module _ (ts : List Token) (cs : List Cell) (q w k : List ℕ) (tl : length ts �
       → set (set (parts ts cs q w k) (24 * p + j) u) (24 * p + i) v ≡ parts (set ts p t) cs q w k
   unfolding parts
   tokens-set2 p j i u v t l a b e =
-      ap (λ r. set r (24 * p + i) v) (set-append-left (rows rowOf ts) _ (24 * p + j) u (omega (arith, tokens-long)))
-      ∙ set-append-left (set (rows rowOf ts) (24 * p + j) u) _ (24 * p + i) v (omega (arith, tokens-long, length-set (rows rowOf ts) (24 * p + j) u))
-      ∙ ap (λ r. r ++ (rows cellRow cs ++ (q ++ (w ++ k)))) (rows-set2 rowOf 24 row-wide blankToken ts p j i u v t (omega (arith, tl)) a b e)
+      ap (λ r. set r (24 * p + i) v) (set-append-left (tableWords rowOf ts) _ (24 * p + j) u (omega (arith, tokens-long)))
+      ∙ set-append-left (set (tableWords rowOf ts) (24 * p + j) u) _ (24 * p + i) v (omega (arith, tokens-long, length-set (tableWords rowOf ts) (24 * p + j) u))
+      ∙ ap (λ r. r ++ (tableWords cellRow cs ++ (q ++ (w ++ k)))) (rows-set2 rowOf 24 row-wide blankToken ts p j i u v t (omega (arith, tl)) a b e)
 
   pub cells-set2 :
       (c j i u v : ℕ) (x : Cell)
@@ -171,13 +171,13 @@ module _ (ts : List Token) (cs : List Cell) (q w k : List ℕ) (tl : length ts �
   unfolding parts
   cells-set2 c j i u v x l a b e =
       ap (λ r. set r (1536 + 4 * c + i) v)
-      (ap (λ n. set (parts ts cs q w k) n u) (cell-index c j l a) ∙ set-behind (rows rowOf ts) _ 1536 tokens-long (4 * c + j) u)
-      ∙ ap (λ n. set (rows rowOf ts ++ set (rows cellRow cs ++ (q ++ (w ++ k))) (4 * c + j) u) n v) (cell-index c i l b)
-      ∙ set-behind (rows rowOf ts) _ 1536 tokens-long (4 * c + i) v
-      ∙ ap (λ r. rows rowOf ts ++ r)
-      (ap (λ r. set r (4 * c + i) v) (set-append-left (rows cellRow cs) _ (4 * c + j) u (omega (arith, cells-long)))
-      ∙ set-append-left (set (rows cellRow cs) (4 * c + j) u) _ (4 * c + i) v
-      (omega (arith, cells-long, length-set (rows cellRow cs) (4 * c + j) u))
+      (ap (λ n. set (parts ts cs q w k) n u) (cell-index c j l a) ∙ set-behind (tableWords rowOf ts) _ 1536 tokens-long (4 * c + j) u)
+      ∙ ap (λ n. set (tableWords rowOf ts ++ set (tableWords cellRow cs ++ (q ++ (w ++ k))) (4 * c + j) u) n v) (cell-index c i l b)
+      ∙ set-behind (tableWords rowOf ts) _ 1536 tokens-long (4 * c + i) v
+      ∙ ap (λ r. tableWords rowOf ts ++ r)
+      (ap (λ r. set r (4 * c + i) v) (set-append-left (tableWords cellRow cs) _ (4 * c + j) u (omega (arith, cells-long)))
+      ∙ set-append-left (set (tableWords cellRow cs) (4 * c + j) u) _ (4 * c + i) v
+      (omega (arith, cells-long, length-set (tableWords cellRow cs) (4 * c + j) u))
       ∙ ap (λ r. r ++ (q ++ (w ++ k))) (rows-set2 cellRow 4 cell-wide blankCell cs c j i u v x (omega (arith, cl)) a b e))
 
   -- the wait order
@@ -189,7 +189,7 @@ module _ (ts : List Token) (cs : List Cell) (q w k : List ℕ) (tl : length ts �
 
   behind-parts : (x : List ℕ) → (front ++ q) ++ (x ++ k) ≡ parts ts cs q x k
   unfolding parts
-  behind-parts x = append-assoc front q (x ++ k) ∙ append-assoc (rows rowOf ts) (rows cellRow cs) (q ++ (x ++ k))
+  behind-parts x = append-assoc front q (x ++ k) ∙ append-assoc (tableWords rowOf ts) (tableWords cellRow cs) (q ++ (x ++ k))
 
   pub waits-get : (i : ℕ) → i < 64 → getD (parts ts cs q w k) (1728 + i) 0 ≡ getD w i 0
   waits-get i l =

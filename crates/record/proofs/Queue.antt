@@ -9,8 +9,8 @@ use lib.Seq.{drop-append-seam}
 use Rattle.job.specs.Test.{padded, without}
 use Rattle.model.specs.Machine.Step.{withOrders, queueOf, waitsOf, enqueue}
 use Rattle.model.specs.declared.record.Machine.{Machine}
-use Rattle.record.specs.Fields.{taken, delayed}
-use Rattle.record.specs.Words.{wordsOf, counts, parts}
+use Rattle.record.specs.Fields.{dequeued, delayed}
+use Rattle.record.specs.Words.{wordsOf, countWords, parts}
 use Rattle.record.specs.Holds.{Codes, Holds}
 use Rattle.orders.specs.Retaining.{markedOf, Retained}
 use Rattle.orders.proofs.Retaining.{filter-short}
@@ -51,16 +51,16 @@ module _ {ws : List ℕ} {m : Machine} (h : Holds ws m) where
 
   -- other names in the queue, and their number
   pub queue-put : (q x : List ℕ) (n : ℕ) {xs : List ℕ} → length q ≤ 64 → x ≡ padded 0 64 q → n ≡ length q
-      → xs ≡ parts (m .tokens) (m .cells) x (m .waits) (counts m) → Holds (set xs 1792 n) (withOrders q (waitsOf m) m)
-  unfolding counts
+      → xs ≡ parts (m .tokens) (m .cells) x (m .waits) (countWords m) → Holds (set xs 1792 n) (withOrders q (waitsOf m) m)
+  unfolding countWords
   queue-put q x n l ex en e =
       orders-put q (waitsOf m) x (m .waits) n (m .waiting) l (waits-fit h) ex waits-are en (h .ordered .waiting)
       (ap (λ r. set r 1792 n) e
       ∙ parts-laws.counts-set _ _ x _ _ (shaped h .tokens) (shaped h .cells) (ap length ex ∙ padded-long q 64 l) (shaped h .waits) 0 n)
 
   pub waits-put : (w x : List ℕ) (n : ℕ) {xs : List ℕ} → length w ≤ 64 → x ≡ padded 0 64 w → n ≡ length w
-      → xs ≡ parts (m .tokens) (m .cells) (m .queue) x (counts m) → Holds (set xs 1793 n) (withOrders (queueOf m) w m)
-  unfolding counts
+      → xs ≡ parts (m .tokens) (m .cells) (m .queue) x (countWords m) → Holds (set xs 1793 n) (withOrders (queueOf m) w m)
+  unfolding countWords
   waits-put w x n l ex en e =
       orders-put (queueOf m) w (m .queue) x (m .queued) n (queue-fits h) l queue-is ex (h .ordered .queued) en
       (ap (λ r. set r 1793 n) e
@@ -98,7 +98,7 @@ module _ {ws : List ℕ} {m : Machine} (h : Holds ws m) where
       ap (λ r. take 64 (drop 1664 r)) (h .codes .words)
       ∙ parts-laws.queue-is _ _ _ _ _ (shaped h .tokens) (shaped h .cells) (shaped h .queue) (shaped h .waits)
 
-  pub queue-lent : (x : List ℕ) → take 1664 ws ++ (x ++ drop 64 (drop 1664 ws)) ≡ parts (m .tokens) (m .cells) x (m .waits) (counts m)
+  pub queue-lent : (x : List ℕ) → take 1664 ws ++ (x ++ drop 64 (drop 1664 ws)) ≡ parts (m .tokens) (m .cells) x (m .waits) (countWords m)
   unfolding wordsOf
   queue-lent x =
       ap (λ r. take 1664 r ++ (x ++ drop 64 (drop 1664 r))) (h .codes .words)
@@ -110,7 +110,7 @@ module _ {ws : List ℕ} {m : Machine} (h : Holds ws m) where
       ap (λ r. take 64 (drop 1728 r)) (h .codes .words)
       ∙ parts-laws.waits-is _ _ _ _ _ (shaped h .tokens) (shaped h .cells) (shaped h .queue) (shaped h .waits)
 
-  pub waits-lent : (x : List ℕ) → take 1728 ws ++ (x ++ drop 64 (drop 1728 ws)) ≡ parts (m .tokens) (m .cells) (m .queue) x (counts m)
+  pub waits-lent : (x : List ℕ) → take 1728 ws ++ (x ++ drop 64 (drop 1728 ws)) ≡ parts (m .tokens) (m .cells) (m .queue) x (countWords m)
   unfolding wordsOf
   waits-lent x =
       ap (λ r. take 1728 r ++ (x ++ drop 64 (drop 1728 r))) (h .codes .words)
@@ -123,7 +123,7 @@ module _ {ws : List ℕ} {m : Machine} (h : Holds ws m) where
 
   pub leave-put : (n index : ℕ) (x : List ℕ) → n ≡ m .queued → index < n
       → (drop n (take 64 (drop 1664 ws)) ≡ replicate (64 - n) 0 → x ≡ padded 0 64 (without index (take n (take 64 (drop 1664 ws)))))
-      → Holds (set (take 1664 ws ++ (x ++ drop 64 (drop 1664 ws))) 1792 (n - 1)) (taken m index)
+      → Holds (set (take 1664 ws ++ (x ++ drop 64 (drop 1664 ws))) 1792 (n - 1)) (dequeued m index)
   unfolding queueOf
   leave-put n index x e l f =
       let long : n ≡ length (queueOf m) = e ∙ h .ordered .queued in

@@ -18,7 +18,7 @@ use Rattle.model.specs.declared.token.State.{State}
 use Rattle.model.specs.declared.token.Token.{Token}
 use Rattle.model.specs.declared.record.Machine.{Machine}
 use Rattle.job.proofs.Test.{and-left, and-right, eqb-eq}
-use Rattle.model.proofs.Machine.Rules.{rules-kept, NamesOnce, names-once}
+use Rattle.model.proofs.Machine.Rules.{each-rule-holds, NamesOnce, names-once}
 use Rattle.record.specs.Holds.{Codes, Ordered, Holds}
 use Rattle.orders.proofs.Padded.{padded-front}
 
@@ -41,11 +41,11 @@ module _ (of : State → Bool) (ts : List Token) (array : List ℕ) (n : ℕ) (e
   count-is : n ≡ length (take n array)
   count-is = sym (length-take-le n array (once .fits))
 
-module _ (lim : Limits) (d : Dag) (m : Machine) (kept : rulesHold lim d m ≡ true) where
+module _ (lim : Limits) (d : Dag) (m : Machine) (holds : rulesHold lim d m ≡ true) where
   pub rules-ordered : Ordered m
   unfolding queueOf waitsOf
   rules-ordered =
-      let r = rules-kept lim d m kept in
+      let r = each-rule-holds lim d m holds in
       record {
         queue = padded-is isReady (m .tokens) (m .queue) (m .queued) (r .queue);
         queued = count-is isReady (m .tokens) (m .queue) (m .queued) (r .queue);

@@ -4,7 +4,7 @@ use mathlib.Core.List.{List, [], _∷_}
 use Prim.Native.Nat.{ℕ, _-_, _<_, _≤_}
 use native.Mathlib.Decide.{ℕ-discrete}
 use native.Mathlib.Omega.{arith}
-use lib.ListN.{length, getD, set, replicate, length-append, length-replicate}
+use lib.ListN.{length, getD, set, replicate, length-append}
 use lib.Seq.{getD-set-same, getD-set-other}
 use Rattle.job.specs.Test.{padded}
 use Rattle.model.specs.Machine.Blank.{blankToken, tokenAt}
@@ -13,7 +13,7 @@ use Rattle.model.specs.declared.token.Token.{Token}
 use Rattle.model.specs.declared.cell.Cell.{Cell}
 use Rattle.model.specs.declared.record.Machine.{Machine}
 use Rattle.model.proofs.Keeps.Orders.{Orders, queue-is, waits-are, orders-with, orders-tables, orders-counts}
-use Rattle.record.specs.Words.{counts, parts, wordsOf}
+use Rattle.record.specs.Words.{countWords, parts, wordsOf}
 use Rattle.record.specs.Holds.{Shaped, Ordered, Holds}
 use Rattle.orders.proofs.Padded.{padded-long}
 
@@ -50,9 +50,9 @@ module _ {ws : List ℕ} {m : Machine} (h : Holds ws m) where
 
   -- other tables
   pub tables-hold : (ts : List Token) (cs : List Cell) {xs : List ℕ}
-      → xs ≡ parts ts cs (m .queue) (m .waits) (counts m) → length ts ≡ 64 → length cs ≡ 32
+      → xs ≡ parts ts cs (m .queue) (m .waits) (countWords m) → length ts ≡ 64 → length cs ≡ 32
       → ((p : ℕ) → length (tokenAt ts p .binds) ≡ 8) → Holds xs (withTables ts cs m)
-  unfolding withTables wordsOf counts
+  unfolding withTables wordsOf countWords
   tables-hold ts cs e l k b =
       record {
         codes =
@@ -66,7 +66,7 @@ module _ {ws : List ℕ} {m : Machine} (h : Holds ws m) where
   -- other counts
   pub counts-hold : (n p c : ℕ) {xs : List ℕ}
       → xs ≡ parts (m .tokens) (m .cells) (m .queue) (m .waits) (m .queued ∷ m .waiting ∷ n ∷ p ∷ c ∷ []) → Holds xs (withCounts n p c m)
-  unfolding withCounts wordsOf counts
+  unfolding withCounts wordsOf countWords
   counts-hold n p c e =
       record {
         codes =
@@ -88,7 +88,7 @@ module _ {ws : List ℕ} {m : Machine} (h : Holds ws m) where
   pub orders-hold : (q w : List ℕ) {xs : List ℕ} → length q ≤ 64 → length w ≤ 64
       → xs ≡ parts (m .tokens) (m .cells) (padded 0 64 q) (padded 0 64 w) (length q ∷ length w ∷ m .calls ∷ m .lasttoken ∷ m .lastcell ∷ [])
       → Holds xs (withOrders q w m)
-  unfolding withOrders wordsOf counts
+  unfolding withOrders wordsOf countWords
   orders-hold q w {xs} a b e =
       let n = sym (shaped .tokens) in
       record {

@@ -9,7 +9,7 @@ use lib.Seq.{take-suc-set, take-all}
 use Rattle.model.specs.Machine.Blank.{slotAt}
 use Rattle.model.specs.Machine.Limits.{paper}
 use Rattle.model.specs.Machine.Start.{startMachine}
-use Rattle.record.specs.Words.{rowOf, cellRow, rows, counts, parts, wordsOf}
+use Rattle.record.specs.Words.{rowOf, cellRow, tableWords, countWords, parts, wordsOf}
 
 zeros-snoc : (n : ℕ) → _++_ {A = ℕ} (replicate n 0) (0 ∷ []) ≡ replicate (suc n) 0
 zeros-snoc zero = refl
@@ -23,5 +23,5 @@ cleared ws i l n e = sym (take-all 1797 ws (omega arith)) ∙ subst (λ k. take 
 
 pub started : (ws : List ℕ) (goal : ℕ) → ws ≡ replicate 1797 0
     → set (set (set (set ws 0 1) 2 goal) 1792 1) 1796 31 ≡ wordsOf (startMachine paper goal)
-unfolding wordsOf parts rows rowOf cellRow counts slotAt
+unfolding wordsOf parts tableWords rowOf cellRow countWords slotAt
 started ws goal e = ap (λ r. set (set (set (set r 0 1) 2 goal) 1792 1) 1796 31) e

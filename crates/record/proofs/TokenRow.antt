@@ -15,7 +15,7 @@ use Rattle.model.specs.declared.token.State.{State}
 use Rattle.model.specs.declared.token.Token.{Token}
 use Rattle.model.specs.declared.record.Machine.{Machine}
 use Rattle.record.specs.Fields.{withCaller, withCell}
-use Rattle.record.specs.Words.{rowOf, wordsOf, counts, parts, slotKind, slotNumber, stateKind, stateNumber, placeNumber, heldKind, heldNumber}
+use Rattle.record.specs.Words.{rowOf, wordsOf, countWords, parts, slotKind, slotNumber, stateKind, stateNumber, placeNumber, heldKind, heldNumber}
 use Rattle.record.specs.Holds.{Codes, Holds}
 use Rattle.record.proofs.Parts as parts-laws
 use Rattle.record.proofs.Shape.{shaped, tables-hold, binds-after}
@@ -154,8 +154,8 @@ module _ {ws : List ℕ} (m : Machine) (t : Token) (p : ℕ) (h : Holds ws (put 
   own-binds = ap (λ (u : Token). length (u .binds)) (sym here) ∙ shaped h .binds p
 
   becomes : (u : Token) {xs : List ℕ} → length (u .binds) ≡ 8
-      → xs ≡ parts (set (set (m .tokens) p t) p u) (m .cells) (m .queue) (m .waits) (counts m) → Holds xs (put p u m)
-  unfolding put withTables counts
+      → xs ≡ parts (set (set (m .tokens) p t) p u) (m .cells) (m .queue) (m .waits) (countWords m) → Holds xs (put p u m)
+  unfolding put withTables countWords
   becomes u {xs} b e =
       subst (λ ts. Holds xs (withTables ts (m .cells) m)) (set-set (m .tokens) p t u)
       (tables-hold h (set (set (m .tokens) p t) p u) (m .cells) e
@@ -164,7 +164,7 @@ module _ {ws : List ℕ} (m : Machine) (t : Token) (p : ℕ) (h : Holds ws (put 
 
   pub word-put : (j v : ℕ) (u : Token) → j < 24 → length (u .binds) ≡ 8 → set (rowOf t) j v ≡ rowOf u
       → Holds (set ws (24 * p + j) v) (put p u m)
-  unfolding put withTables wordsOf counts
+  unfolding put withTables wordsOf countWords
   word-put j v u s b e =
       becomes u b
       (ap (λ r. set r (24 * p + j) v) (h .codes .words)
@@ -173,7 +173,7 @@ module _ {ws : List ℕ} (m : Machine) (t : Token) (p : ℕ) (h : Holds ws (put 
 
   pub words-put : (j k v n : ℕ) (u : Token) → j < 24 → k < 24 → length (u .binds) ≡ 8 → set (set (rowOf t) j v) k n ≡ rowOf u
       → Holds (set (set ws (24 * p + j) v) (24 * p + k) n) (put p u m)
-  unfolding put withTables wordsOf counts
+  unfolding put withTables wordsOf countWords
   words-put j k v n u s z b e =
       becomes u b
       (ap (λ r. set (set r (24 * p + j) v) (24 * p + k) n) (h .codes .words)

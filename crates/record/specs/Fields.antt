@@ -22,8 +22,8 @@ abbrev pub withBinds : List Bind → Token → Token
 withBinds bs t = record { node = t .node; binds = bs; value = t .value; caller = t .caller; cell = t .cell; state = t .state }
 
 -- a cell at a place
-abbrev pub putCell : ℕ → Cell → Machine → Machine
-putCell c k m = withTables (m .tokens) (set (m .cells) c k) m
+abbrev pub storeCell : ℕ → Cell → Machine → Machine
+storeCell c k m = withTables (m .tokens) (set (m .cells) c k) m
 
 abbrev pub unsetCell : Place → Cell
 unsetCell q = record { parent = q; value = helds.Nothing }
@@ -32,8 +32,8 @@ abbrev pub setCell : Held → Cell → Cell
 setCell v k = record { parent = k .parent; value = v }
 
 -- the record with the name at a place of the queue taken out of it
-abbrev pub taken : Machine → (place : ℕ) → Machine
-taken m place = withOrders (without place (queueOf m)) (waitsOf m) m
+abbrev pub dequeued : Machine → (place : ℕ) → Machine
+dequeued m place = withOrders (without place (queueOf m)) (waitsOf m) m
 
 -- the record with a name at the back of the wait order
 abbrev pub delayed : ℕ → Machine → Machine

@@ -14,7 +14,7 @@
 -- and cell (place + 1, 0 for none); 1 if it has a value, else 0; the value; 0; and for each of eight variables what it is bound to (0 empty, 1 value,
 -- 2 cell) and the value or the cell's place. A cell: parent (place + 1, 0 for none); 1 if it is set, else 0; its value; 0. A value is its 32 bits.
 use mathlib.Core.List.{List, [], _∷_, _++_}
-use Prim.Native.Nat.{ℕ, _+_, _*_}
+use Prim.Native.Nat.{ℕ, _+_}
 use Rattle.job.specs.Number.{unsigned}
 use Rattle.model.specs.Machine.Blank.{slotAt}
 use Rattle.model.specs.declared.token.Slot.{Slot}
@@ -30,17 +30,17 @@ use Rattle.model.specs.declared.cell.Cell.{Cell}
 use Rattle.model.specs.declared.record.Machine.{Machine}
 
 -- where the parts begin
-abbrev pub cellsAt : ℕ
-cellsAt = 1536
+abbrev pub cellsStart : ℕ
+cellsStart = 1536
 
-abbrev pub queueAt : ℕ
-queueAt = 1664
+abbrev pub queueStart : ℕ
+queueStart = 1664
 
-abbrev pub waitsAt : ℕ
-waitsAt = 1728
+abbrev pub waitsStart : ℕ
+waitsStart = 1728
 
-abbrev pub countsAt : ℕ
-countsAt = 1792
+abbrev pub countsStart : ℕ
+countsStart = 1792
 
 -- each field as words
 abbrev pub stateKind : State → ℕ
@@ -113,17 +113,17 @@ unfoldable pub cellRow : Cell → List ℕ
 cellRow c = placeNumber (c .parent) ∷ heldKind (c .value) ∷ heldNumber (c .value) ∷ 0 ∷ []
 
 -- the rows of a table, one behind the other
-unfoldable pub rows : {A : Type 0} → (A → List ℕ) → List A → List ℕ
-rows f [] = []
-rows f (x ∷ xs) = f x ++ rows f xs
+unfoldable pub tableWords : {A : Type 0} → (A → List ℕ) → List A → List ℕ
+tableWords f [] = []
+tableWords f (x ∷ xs) = f x ++ tableWords f xs
 
 -- how many names the orders have, and the counts
-unfoldable pub counts : Machine → List ℕ
-counts m = m .queued ∷ m .waiting ∷ m .calls ∷ m .lasttoken ∷ m .lastcell ∷ []
+unfoldable pub countWords : Machine → List ℕ
+countWords m = m .queued ∷ m .waiting ∷ m .calls ∷ m .lasttoken ∷ m .lastcell ∷ []
 
 -- the five parts in a row
-unfoldable pub parts : List Token → List Cell → (queue waits counts : List ℕ) → List ℕ
-parts ts cs q w k = rows rowOf ts ++ (rows cellRow cs ++ (q ++ (w ++ k)))
+unfoldable pub parts : List Token → List Cell → (queue waits countWords : List ℕ) → List ℕ
+parts ts cs q w k = tableWords rowOf ts ++ (tableWords cellRow cs ++ (q ++ (w ++ k)))
 
 unfoldable pub wordsOf : Machine → List ℕ
-wordsOf m = parts (m .tokens) (m .cells) (m .queue) (m .waits) (counts m)
+wordsOf m = parts (m .tokens) (m .cells) (m .queue) (m .waits) (countWords m)

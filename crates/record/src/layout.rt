@@ -1,12 +1,12 @@
 // Where the words of a record stand: tokens, cells, queue, wait order, counts. specs/Words.antt has the same table.
 
 // How many places there are, as a word of a record is held to them: a place is named by a smaller number.
-pub const TOKEN_PLACES: u32 = 64;
+pub const TOKEN_PLACE_COUNT: u32 = 64;
 
-pub const CELL_PLACES: u32 = 32;
+pub const CELL_PLACE_COUNT: u32 = 32;
 
 // The words of a token: state, its number, node, caller, cell, whether it has a value, the value, 0, and kind and number of each binding.
-pub const TOKEN: usize = 24;
+pub const TOKEN_WORDS: usize = 24;
 
 pub const TOKEN_STATE_NUMBER: usize = 1;
 
@@ -27,7 +27,7 @@ pub const TOKEN_BIND_KIND: usize = 8;
 pub const TOKEN_BIND_NUMBER: usize = 9;
 
 // The words of a cell: parent, whether it has a value, the value, 0.
-pub const CELL: usize = 4;
+pub const CELL_WORDS: usize = 4;
 
 pub const CELL_VALUE_KIND: usize = 1;
 
@@ -36,21 +36,21 @@ pub const CELL_VALUE: usize = 2;
 pub const CELL_UNUSED: usize = 3;
 
 // Where each part begins.
-pub const CELLS: usize = 1536;
+pub const CELLS_START: usize = 1536;
 
-pub const QUEUE: usize = 1664;
+pub const QUEUE_START: usize = 1664;
 
-pub const WAITS: usize = 1728;
+pub const WAITS_START: usize = 1728;
 
-pub const QUEUED: usize = 1792;
+pub const QUEUE_LENGTH: usize = 1792;
 
-pub const WAITING: usize = 1793;
+pub const WAITS_LENGTH: usize = 1793;
 
 pub const CALL_COUNT: usize = 1794;
 
-pub const LASTTOKEN: usize = 1795;
+pub const LAST_TOKEN: usize = 1795;
 
-pub const LASTCELL: usize = 1796;
+pub const LAST_CELL: usize = 1796;
 
 // A token's state.
 pub const BLANK_STATE: u32 = 0;

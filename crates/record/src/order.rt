@@ -7,11 +7,11 @@ ghost use Rattle.job.specs.Test.{filter};
 ghost use Rattle.model.specs.Machine.Step.{enqueue, withOrders, queueOf, waitsOf};
 ghost use Rattle.model.specs.declared.record.Machine.{Machine};
 ghost use Rattle.record.specs.Holds.{Codes, Holds};
-ghost use Rattle.record.specs.Fields.{taken, delayed};
-use crate::layout::QUEUE;
-use crate::layout::QUEUED;
-use crate::layout::WAITING;
-use crate::layout::WAITS;
+ghost use Rattle.record.specs.Fields.{dequeued, delayed};
+use crate::layout::QUEUE_LENGTH;
+use crate::layout::QUEUE_START;
+use crate::layout::WAITS_LENGTH;
+use crate::layout::WAITS_START;
 use job::wide::wide;
 use model::record::Machine;
 use orders::names::left_out;
@@ -20,13 +20,13 @@ use orders::names::retained;
 pub fn queued(w: &[u32; Machine::WORDS]) -> u32
     ensures { λ r. ⌜ ((m : Machine) → Codes (now (w .entry)) m → r ≡ m .queued) ⌝ }
 {
-    w[QUEUED]
+    w[QUEUE_LENGTH]
 }
 
 pub fn waiting(w: &[u32; Machine::WORDS]) -> u32
     ensures { λ r. ⌜ ((m : Machine) → Codes (now (w .entry)) m → r ≡ m .waiting) ⌝ }
 {
-    w[WAITING]
+    w[WAITS_LENGTH]
 }
 
 // The place that the queue names at an index.
@@ -34,7 +34,7 @@ pub fn queue_name(w: &[u32; Machine::WORDS], i: usize) -> u32
     requires { ⌜ i < 64 ⌝ }
     ensures { λ r. ⌜ ((m : Machine) → Codes (now (w .entry)) m → r ≡ getD (m .queue) i 0) ⌝ }
 {
-    w[QUEUE + i]
+    w[QUEUE_START + i]
 }
 
 // The place that the wait order names at an index.
@@ -42,17 +42,17 @@ pub fn wait_name(w: &[u32; Machine::WORDS], i: usize) -> u32
     requires { ⌜ i < 64 ⌝ }
     ensures { λ r. ⌜ ((m : Machine) → Codes (now (w .entry)) m → r ≡ getD (m .waits) i 0) ⌝ }
 {
-    w[WAITS + i]
+    w[WAITS_START + i]
 }
 
 // "A ready token goes to the back of the queue." The queue names each ready token once, so there is room; a full one stays as it is.
 pub fn join(w: &mut [u32; Machine::WORDS], p: u32)
     ensures { λ _. ⌜ ((m : Machine) → Holds (now (w .entry)) m → m .queued < 64 → Holds (now (w .exit)) (enqueue p m)) ⌝ }
 {
-    let n = wide(w[QUEUED]);
+    let n = wide(w[QUEUE_LENGTH]);
     if n < Machine::TOKENS {
-        w[QUEUE + n] = p;
-        w[QUEUED] = n as u32 + 1;
+        w[QUEUE_START + n] = p;
+        w[QUEUE_LENGTH] = n as u32 + 1;
     }
 }
 
@@ -60,30 +60,30 @@ pub fn join(w: &mut [u32; Machine::WORDS], p: u32)
 pub fn delay(w: &mut [u32; Machine::WORDS], p: u32)
     ensures { λ _. ⌜ ((m : Machine) → Holds (now (w .entry)) m → m .waiting < 64 → Holds (now (w .exit)) (delayed p m)) ⌝ }
 {
-    let n = wide(w[WAITING]);
+    let n = wide(w[WAITS_LENGTH]);
     if n < Machine::TOKENS {
-        w[WAITS + n] = p;
-        w[WAITING] = n as u32 + 1;
+        w[WAITS_START + n] = p;
+        w[WAITS_LENGTH] = n as u32 + 1;
     }
 }
 
 // A part can be lent of a slice, not of an array.
 fn leave_slice(w: &mut [u32], index: usize)
     requires { ⌜ length (now w) ≡ 1797 ⌝ }
-    ensures { λ _. ⌜ ((m : Machine) → Holds (now (w .entry)) m → index < m .queued → Holds (now (w .exit)) (taken m index)) ⌝ }
+    ensures { λ _. ⌜ ((m : Machine) → Holds (now (w .entry)) m → index < m .queued → Holds (now (w .exit)) (dequeued m index)) ⌝ }
 {
-    let count = wide(w[QUEUED]);
+    let count = wide(w[QUEUE_LENGTH]);
     if count <= Machine::TOKENS {
         if index < count {
-            left_out(&mut w[QUEUE..WAITS], count, index);
-            w[QUEUED] = count as u32 - 1;
+            left_out(&mut w[QUEUE_START..WAITS_START], count, index);
+            w[QUEUE_LENGTH] = count as u32 - 1;
         }
     }
 }
 
 // The name at an index leaves the queue.
 pub fn leave(w: &mut [u32; Machine::WORDS], index: usize)
-    ensures { λ _. ⌜ ((m : Machine) → Holds (now (w .entry)) m → index < m .queued → Holds (now (w .exit)) (taken m index)) ⌝ }
+    ensures { λ _. ⌜ ((m : Machine) → Holds (now (w .entry)) m → index < m .queued → Holds (now (w .exit)) (dequeued m index)) ⌝ }
 {
     leave_slice(w, index);
 }
@@ -92,10 +92,10 @@ fn retain_queue_slice(w: &mut [u32], keep: &[bool])
     requires { ⌜ length (now w) ≡ 1797 ⌝ }
     ensures { λ _. ⌜ ((m : Machine) → Holds (now (w .entry)) m → Holds (now (w .exit)) (withOrders (filter (λ (p : ℕ). getD (now (keep .entry)) p false) (queueOf m)) (waitsOf m) m)) ⌝ }
 {
-    let count = wide(w[QUEUED]);
+    let count = wide(w[QUEUE_LENGTH]);
     if count <= Machine::TOKENS {
-        let n = retained(&mut w[QUEUE..WAITS], count, keep);
-        w[QUEUED] = n as u32;
+        let n = retained(&mut w[QUEUE_START..WAITS_START], count, keep);
+        w[QUEUE_LENGTH] = n as u32;
     }
 }
 
@@ -110,10 +110,10 @@ fn retain_waits_slice(w: &mut [u32], keep: &[bool])
     requires { ⌜ length (now w) ≡ 1797 ⌝ }
     ensures { λ _. ⌜ ((m : Machine) → Holds (now (w .entry)) m → Holds (now (w .exit)) (withOrders (queueOf m) (filter (λ (p : ℕ). getD (now (keep .entry)) p false) (waitsOf m)) m)) ⌝ }
 {
-    let count = wide(w[WAITING]);
+    let count = wide(w[WAITS_LENGTH]);
     if count <= Machine::TOKENS {
-        let n = retained(&mut w[WAITS..QUEUED], count, keep);
-        w[WAITING] = n as u32;
+        let n = retained(&mut w[WAITS_START..QUEUE_LENGTH], count, keep);
+        w[WAITS_LENGTH] = n as u32;
     }
 }
 

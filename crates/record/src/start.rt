@@ -4,8 +4,8 @@ ghost use lib.ListN.{length, replicate};
 ghost use Rattle.model.specs.Machine.Limits.{paper};
 ghost use Rattle.model.specs.Machine.Start.{startMachine};
 ghost use Rattle.record.specs.Words.{wordsOf};
-use crate::layout::LASTCELL;
-use crate::layout::QUEUED;
+use crate::layout::LAST_CELL;
+use crate::layout::QUEUE_LENGTH;
 use crate::layout::READY_STATE;
 use model::record::Machine;
 
@@ -28,6 +28,6 @@ pub fn start(w: &mut [u32; Machine::WORDS], goal: u32)
     clear(w);
     w[0] = READY_STATE;
     w[2] = goal;
-    w[QUEUED] = 1;
-    w[LASTCELL] = 31;
+    w[QUEUE_LENGTH] = 1;
+    w[LAST_CELL] = 31;
 }

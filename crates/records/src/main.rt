@@ -75,7 +75,7 @@ fn called(name: &[u8], w: &mut [u32; Machine::WORDS], dag: &[u32; WORDS], row: R
     let report = reported(w, dag, row);
     let reply = report.reply;
     let values = report.values;
-    console::replies::reply(reply, values);
+    console::reply_line::reply(reply, values);
     record(w);
 }
 

@@ -11,7 +11,7 @@ use Rattle.model.specs.declared.token.Place.the-variants as places
 use Rattle.model.specs.declared.token.Token.{Token}
 use Rattle.model.proofs.Machine.InUse.{token-outside}
 use Rattle.record.specs.Words.{placeNumber}
-use Rattle.returns.specs.Frame.{Calls}
+use Rattle.returns.specs.Frame.{NamesAsCaller}
 
 -- a place by its number
 pub place-of : (q : Place) (f n : ℕ) → n ≡ placeNumber q → n ≡ f + 1 → q ≡ places.At f
@@ -30,16 +30,16 @@ same-place (places.At j) (places.At k) e = ap places.At (omega arith)
 module _ (m : Machine) (f : ℕ) where
   -- no token below i
   abbrev pub NoneBelow : ℕ → Type 0
-  NoneBelow i = (j : ℕ) → j < i → Calls m f j → ⊥
+  NoneBelow i = (j : ℕ) → j < i → NamesAsCaller m f j → ⊥
 
-  pub none-more : (i : ℕ) → NoneBelow i → (Calls m f i → ⊥) → NoneBelow (i + 1)
+  pub none-more : (i : ℕ) → NoneBelow i → (NamesAsCaller m f i → ⊥) → NoneBelow (i + 1)
   none-more i none here j l e = go (ℕ-discrete j i)
     where
       go : Dec (j ≡ i) → ⊥
       go (yes q) = here (ap (λ k. tokenAt (m .tokens) k .caller) (sym q) ∙ e)
       go (no n) = none j (omega arith) e
 
-  pub none-all : (i : ℕ) → length (m .tokens) ≤ i → NoneBelow i → (j : ℕ) → Calls m f j → ⊥
+  pub none-all : (i : ℕ) → length (m .tokens) ≤ i → NoneBelow i → (j : ℕ) → NamesAsCaller m f j → ⊥
   none-all i l none j e = go (decLt j i)
     where
       outside : length (m .tokens) ≤ j → places.Nowhere ≡ places.At f

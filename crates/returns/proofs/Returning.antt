@@ -22,13 +22,13 @@ use Rattle.job.proofs.Test.{clash, and-left}
 use Rattle.model.proofs.Keeps.Clean.{finish-tokens, finish-cells}
 use Rattle.demand3.proofs.Instructions.{acting-live}
 use Rattle.demand3.proofs.Returned.{Returns, returned-cells, returned-shared, returned-tokens, returned-swept}
-use Rattle.record.specs.Fields.{taken}
+use Rattle.record.specs.Fields.{dequeued}
 use Rattle.record.specs.Holds.{Holds}
 use Rattle.sites.proofs.Facts.{tokens-size}
 use Rattle.acts.specs.Acting.{Acting}
 use Rattle.acts.proofs.Ending.{Swept}
 use Rattle.acts.proofs.Outcomes.{node-rule}
-use Rattle.returns.specs.Frame.{SameCells, Released, shared, alone}
+use Rattle.returns.specs.Frame.{SameCells, AfterRelease, shared, alone}
 
 frame-idle : (s : State) → isFrame s ≡ true → isLive s ≡ false
 unfolding isFrame isLive
@@ -47,7 +47,7 @@ module _ {ws dag : List ℕ} {used cells : List Bool} {place p at : ℕ} {m : Ma
   written = withState states.Ready (withValue (t .value) (tokenAt (m .tokens) f))
 
   abbrev after : Machine
-  after = enqueue p (put p written (taken m place))
+  after = enqueue p (put p written (dequeued m place))
 
   frame : isLive (tokenAt (m .tokens) f .state) ≡ false
   unfolding nodeRule namesFrame
@@ -69,7 +69,7 @@ module _ {ws dag : List ℕ} {used cells : List Bool} {place p at : ℕ} {m : Ma
         sameBinds = refl;
       }
 
-  pub released-swept : {now : List ℕ} {marks : List Bool} → SameCells m p f → Released after f now used marks → Swept after now marks cells
+  pub released-swept : {now : List ℕ} {marks : List Bool} → SameCells m p f → AfterRelease after f now used marks → Swept after now marks cells
   released-swept {now} {marks} s (shared i k h e) =
       let c = returned-shared paper (dagOf dag) m (a .taking .lawful .rules) after p f written returns (s .cell) (s .binds) i k in (
         subst (Holds now) (sym (c .whole)) h,

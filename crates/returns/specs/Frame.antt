@@ -12,13 +12,13 @@ use Rattle.record.specs.Holds.{Holds}
 use Rattle.acts.specs.Links.{BindsNoCell}
 
 -- the token at i names the one at f as its caller
-abbrev pub Calls : Machine → (f i : ℕ) → Type 0
-Calls m f i = tokenAt (m .tokens) i .caller ≡ places.At f
+abbrev pub NamesAsCaller : Machine → (f i : ℕ) → Type 0
+NamesAsCaller m f i = tokenAt (m .tokens) i .caller ≡ places.At f
 
 -- r says whether any token does
 pub record IsCaller (m : Machine) (f : ℕ) (r : Bool) : Type 0 where
-  pub some : r ≡ true → (i : ℕ) × Calls m f i
-  pub none : r ≡ false → (i : ℕ) → Calls m f i → ⊥
+  pub some : r ≡ true → (i : ℕ) × NamesAsCaller m f i
+  pub none : r ≡ false → (i : ℕ) → NamesAsCaller m f i → ⊥
 
 -- the token at p binds no cell, and is in the cell of the one at f
 pub record SameCells (m : Machine) (p f : ℕ) : Type 0 where
@@ -26,6 +26,6 @@ pub record SameCells (m : Machine) (p f : ℕ) : Type 0 where
   pub binds : BindsNoCell (tokenAt (m .tokens) p .binds)
 
 -- a frame that a token names stays, and so do the marks; another is blank, and not marked
-pub data Released (o : Machine) (f : ℕ) (ws : List ℕ) (used marks : List Bool) : Type 0 where
-  shared : (i : ℕ) → Calls o f i → Holds ws o → marks ≡ used → Released o f ws used marks
-  alone : ((i : ℕ) → Calls o f i → ⊥) → Holds ws (put f blankToken o) → marks ≡ set used f false → Released o f ws used marks
+pub data AfterRelease (o : Machine) (f : ℕ) (ws : List ℕ) (used marks : List Bool) : Type 0 where
+  shared : (i : ℕ) → NamesAsCaller o f i → Holds ws o → marks ≡ used → AfterRelease o f ws used marks
+  alone : ((i : ℕ) → NamesAsCaller o f i → ⊥) → Holds ws (put f blankToken o) → marks ≡ set used f false → AfterRelease o f ws used marks

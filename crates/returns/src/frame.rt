@@ -2,7 +2,7 @@
 ghost use Prim.Native.Nat.{_<_};
 ghost use Rattle.model.specs.declared.record.Machine.{Machine};
 ghost use Rattle.record.specs.Holds.{Codes, Holds};
-ghost use Rattle.returns.specs.Frame.{IsCaller, Released};
+ghost use Rattle.returns.specs.Frame.{IsCaller, AfterRelease};
 use model::record::Machine;
 use record::token::blank;
 use record::token::caller;
@@ -26,7 +26,7 @@ fn is_caller(w: &[u32; Machine::WORDS], f: usize) -> bool
 // The frame at f goes out of use, unless a token still names it.
 pub fn release(w: &mut [u32; Machine::WORDS], tokens: &mut [bool; Machine::TOKENS], f: usize)
     requires { ⌜ f < 64 ⌝ }
-    ensures { λ _. ⌜ ((o : Machine) → Holds (now (w .entry)) o → Released o f (now (w .exit)) (now (tokens .entry)) (now (tokens .exit))) ⌝ }
+    ensures { λ _. ⌜ ((o : Machine) → Holds (now (w .entry)) o → AfterRelease o f (now (w .exit)) (now (tokens .entry)) (now (tokens .exit))) ⌝ }
 {
     if is_caller(w, f) {
         return;

@@ -5,7 +5,7 @@ use mathlib.Core.List.{List}
 use Prim.Native.Nat.{ℕ, zero, suc, _+_, _-_, _*_, _<_}
 use native.Mathlib.Omega.{arith}
 use lib.Dec.{eqb}
-use lib.ListN.{length, getD, take, drop, length-drop}
+use lib.ListN.{length, take, drop, length-drop}
 use lib.Seq.{ext-getD, getD-drop, getD-take, length-take-le}
 use Rattle.model.specs.declared.token.Slot.the-variants as slots
 use Rattle.model.specs.declared.token.Held.the-variants as helds
@@ -29,7 +29,7 @@ use Rattle.record.specs.Holds.{Codes}
 use Rattle.record.proofs.Counts.{words-long}
 use Rattle.record.proofs.Parts.{row-wide}
 use Rattle.record.proofs.TokenRow.{token-word}
-use Rattle.coded.specs.Coded.{tokenCoded}
+use Rattle.coded.specs.WordTests.{tokenCoded}
 use Rattle.coded.proofs.Testing.{zero-row}
 
 state-zero : (s : State) (b : Bool) → (eqb 0 (stateKind s) and eqb 0 (stateNumber s) and b) ≡ (isBlankState s and b)

@@ -1,6 +1,6 @@
 -- A chain of cells, followed link by link with as many links left as are left of the loop. Assumes nothing.
 use mathlib.Core.Path.{_≡_, refl, sym, _∙_, ap}
-use mathlib.Core.Bool.{Bool, true, false, not, _||_}
+use mathlib.Core.Bool.{true, false, not, _||_}
 use mathlib.Core.List.{List}
 use Prim.Native.Nat.{ℕ, zero, suc, _+_, _-_, _<_, _≤_}
 use native.Mathlib.Omega.{arith}
@@ -10,7 +10,7 @@ use Rattle.model.specs.declared.token.Place.the-variants as places
 use Rattle.model.specs.declared.token.State.the-variants as states
 use Rattle.job.specs.Test.{_and_}
 use Rattle.model.specs.Machine.Blank.{cellAt, blankCell, hasValue, isPlace}
-use Rattle.model.specs.Machine.Active.{isSet, upward, underSet}
+use Rattle.model.specs.Machine.Active.{isSet, underSet}
 use Rattle.model.specs.Machine.State.{isLive}
 use Rattle.model.specs.Machine.Rules.{chainEnds, notUnderSet, waitsAtUnset}
 use Rattle.model.specs.declared.token.Place.{Place}

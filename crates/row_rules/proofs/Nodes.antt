@@ -20,7 +20,7 @@ use Rattle.model.specs.declared.token.Token.{Token}
 use Rattle.job.proofs.Test.{clash, lt-ltb, le-not-ltb, and-left, leb-le, eq-eqb, ne-eqb}
 use Rattle.record.specs.Words.{placeNumber, stateKind}
 use Rattle.job.proofs.Lists.{table, listed}
-use Rattle.dag_rules.proofs.Array.{kept-node, nodes-length}
+use Rattle.dag_rules.proofs.Array.{node-by-kind, nodes-length}
 use Rattle.job.proofs.Both.{and-true}
 use Rattle.row_rules.specs.Rules.{pairBound}
 use Rattle.row_rules.proofs.Fields.{blank-is, frame-is}
@@ -120,11 +120,11 @@ unfolding nodeBy nodeRule
 rule-past ts t ws l = rw List·getD-eq-default
 
 -- the node's row
-module _ (ws : List ℕ) (long : length ws ≡ 12331) (kept : dagHolds (dagOf ws) ≡ true) where
+module _ (ws : List ℕ) (long : length ws ≡ 12331) (holds : dagHolds (dagOf ws) ≡ true) where
   pub nodes-few : getD ws 0 0 ≤ 1022
   unfolding dagHolds
   nodes-few =
-      let e = leb-le (length (dagOf ws .nodes)) 1022 (and-left (leb (length (dagOf ws .nodes)) 1022) _ kept) in
+      let e = leb-le (length (dagOf ws .nodes)) 1022 (and-left (leb (length (dagOf ws .nodes)) 1022) _ holds) in
       omega (arith, nodes-length ws)
 
   module _ (ts : List Token) (t : Token) where
@@ -137,4 +137,4 @@ module _ (ws : List ℕ) (long : length ws ≡ 12331) (kept : dagHolds (dagOf ws
     unfolding atNode
     at-row {node} same e z l =
         rw (sym (blank-is (t .state)) ∙ ne-eqb (stateKind (t .state)) 0 (λ y. z (e ∙ y)), atNode)
-        (ap (nodeRule ts t) (sym (kept-node ws kept node l) ∙ ap (nodeAt (dagOf ws)) same))
+        (ap (nodeRule ts t) (sym (node-by-kind ws holds node l) ∙ ap (nodeAt (dagOf ws)) same))

@@ -15,7 +15,7 @@ use reach::under_set::under_set;
 use record::cell::parent;
 use record::cell::value_kind;
 use record::layout::BLANK_STATE;
-use record::layout::CELL_PLACES;
+use record::layout::CELL_PLACE_COUNT;
 use record::layout::FRAME_STATE;
 use record::layout::WAITING_STATE;
 use record::token::cell;
@@ -32,7 +32,7 @@ pub fn chain_ends(w: &[u32; Machine::WORDS], place: u32) -> bool
         if here == 0 {
             return true;
         }
-        if CELL_PLACES < here {
+        if CELL_PLACE_COUNT < here {
             return true;
         }
         let at = wide(here) - 1;

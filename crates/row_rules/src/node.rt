@@ -16,12 +16,12 @@ use job::dag::ASSIGN;
 use job::dag::CALL;
 use job::dag::CHOKE;
 use job::dag::FORK;
-use job::dag::HEAD;
+use job::dag::HEAD_WORDS;
 use job::dag::PARAMETER_COUNT;
 use job::dag::PUBLISH;
 use job::dag::REMOVE;
 use job::dag::RETURN;
-use job::dag::ROW;
+use job::dag::ROW_WORDS;
 use job::dag::SITE;
 use job::dag::STOP;
 use job::dag::VARIABLE;
@@ -120,7 +120,7 @@ pub fn at_node(w: &[u32; Machine::WORDS], p: usize, node: usize, dag: &[u32]) ->
     if state(w, p) == BLANK_STATE {
         return true;
     }
-    let at = HEAD + ROW * node;
-    let end = at + ROW;
+    let at = HEAD_WORDS + ROW_WORDS * node;
+    let end = at + ROW_WORDS;
     node_rule(w, p, &dag[at..end])
 }

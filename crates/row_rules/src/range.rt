@@ -10,16 +10,16 @@ ghost use Rattle.model.specs.declared.token.Bind.{Bind};
 ghost use Rattle.model.specs.declared.token.State.{State};
 ghost use Rattle.record.specs.Holds.{Codes};
 ghost use Rattle.record.specs.Words.{stateKind, stateNumber};
-ghost use Rattle.row_rules.specs.Decoded.{Decoded};
+ghost use Rattle.row_rules.specs.ValuesFit.{ValuesFit};
 use job::dag::CALL_LIMIT;
 use model::record::Machine;
-use record::count::calls;
+use record::count::calls_made;
 use record::count::last_cell;
 use record::count::last_token;
 use record::layout::CALLED_STATE;
-use record::layout::CELL_PLACES;
+use record::layout::CELL_PLACE_COUNT;
 use record::layout::CELL_SLOT;
-use record::layout::TOKEN_PLACES;
+use record::layout::TOKEN_PLACE_COUNT;
 use record::layout::WAITING_STATE;
 use record::token::bind_kind;
 use record::token::bind_number;
@@ -31,12 +31,12 @@ use record::token::state_number;
 // A token's bindings: cells below 32.
 fn binds_in_range(w: &[u32; Machine::WORDS], p: usize) -> bool
     requires { ⌜ p < 64 ⌝ }
-    ensures { λ r. ⌜ ((m : Machine) → Decoded (now (w .entry)) m → r ≡ all (λ (b : Bind). slotInRange 32 (b .slot)) (tokenAt (m .tokens) p .binds)) ⌝ }
+    ensures { λ r. ⌜ ((m : Machine) → ValuesFit (now (w .entry)) m → r ≡ all (λ (b : Bind). slotInRange 32 (b .slot)) (tokenAt (m .tokens) p .binds)) ⌝ }
 {
     let mut ok = true;
     let mut x: usize = 0;
     while x < 8 {
-        ok = ok & (!(bind_kind(w, p, x) == CELL_SLOT) | (bind_number(w, p, x) < CELL_PLACES));
+        ok = ok & (!(bind_kind(w, p, x) == CELL_SLOT) | (bind_number(w, p, x) < CELL_PLACE_COUNT));
         x += 1;
     }
     ok
@@ -47,7 +47,7 @@ fn state_in_range(kind: u32, number: u32, calls: u32) -> bool
     ensures { λ r. ⌜ ((s : State) → kind ≡ stateKind s → number ≡ stateNumber s → r ≡ stateInRange 32 calls s) ⌝ }
 {
     match kind {
-        WAITING_STATE => number < CELL_PLACES,
+        WAITING_STATE => number < CELL_PLACE_COUNT,
         CALLED_STATE => number < calls,
         _ => true,
     }
@@ -56,10 +56,10 @@ fn state_in_range(kind: u32, number: u32, calls: u32) -> bool
 // A token's fields but its node.
 pub fn token_in_range(w: &[u32; Machine::WORDS], p: usize) -> bool
     requires { ⌜ p < 64 ⌝ }
-    ensures { λ r. ⌜ ((m : Machine) → Decoded (now (w .entry)) m → r ≡ (all (λ (b : Bind). slotInRange 32 (b .slot)) (tokenAt (m .tokens) p .binds) and placeInRange 64 (tokenAt (m .tokens) p .caller) and placeInRange 32 (tokenAt (m .tokens) p .cell) and stateInRange 32 (m .calls) (tokenAt (m .tokens) p .state))) ⌝ }
+    ensures { λ r. ⌜ ((m : Machine) → ValuesFit (now (w .entry)) m → r ≡ (all (λ (b : Bind). slotInRange 32 (b .slot)) (tokenAt (m .tokens) p .binds) and placeInRange 64 (tokenAt (m .tokens) p .caller) and placeInRange 32 (tokenAt (m .tokens) p .cell) and stateInRange 32 (m .calls) (tokenAt (m .tokens) p .state))) ⌝ }
 {
-    let named = (caller(w, p) <= TOKEN_PLACES) & (cell(w, p) <= CELL_PLACES);
-    let open = state_in_range(state(w, p), state_number(w, p), calls(w));
+    let named = (caller(w, p) <= TOKEN_PLACE_COUNT) & (cell(w, p) <= CELL_PLACE_COUNT);
+    let open = state_in_range(state(w, p), state_number(w, p), calls_made(w));
     binds_in_range(w, p) & named & open
 }
 
@@ -67,5 +67,7 @@ pub fn token_in_range(w: &[u32; Machine::WORDS], p: usize) -> bool
 pub fn sizes_in_range(w: &[u32; Machine::WORDS]) -> bool
     ensures { λ r. ⌜ ((m : Machine) → Codes (now (w .entry)) m → r ≡ (leb (m .calls) 1000000 and ltb (m .lasttoken) 64 and ltb (m .lastcell) 32)) ⌝ }
 {
-    (calls(w) <= CALL_LIMIT) & (last_token(w) < TOKEN_PLACES) & (last_cell(w) < CELL_PLACES)
+    (calls_made(w) <= CALL_LIMIT)
+        & (last_token(w) < TOKEN_PLACE_COUNT)
+        & (last_cell(w) < CELL_PLACE_COUNT)
 }

@@ -17,7 +17,7 @@ use Rattle.job.proofs.Number.{signed-fits}
 use Rattle.record.specs.Decode.{machineOf, tokenFrom, cellFrom, bindsFrom, heldFrom, slotFrom}
 use Rattle.record.specs.Holds.{Codes}
 use Rattle.coded.proofs.Coding.{table-all}
-use Rattle.row_rules.specs.Decoded.{Decoded}
+use Rattle.row_rules.specs.ValuesFit.{ValuesFit}
 
 held-fits : (k n : ℕ) → heldInRange (heldFrom k n) ≡ true
 unfolding heldInRange heldFrom
@@ -45,7 +45,7 @@ none-fits zero x v e = absurd (let z : _≡_ {A = ℕ} 0 1 = cc in omega arith)
 none-fits (suc n) zero v e = absurd (let z : _≡_ {A = ℕ} 0 1 = cc in omega arith)
 none-fits (suc n) (suc x) v e = none-fits n x v e
 
-pub decoded : {ws : List ℕ} → Codes ws (machineOf ws) → Decoded ws (machineOf ws)
+pub decoded : {ws : List ℕ} → Codes ws (machineOf ws) → ValuesFit ws (machineOf ws)
 unfolding machineOf tokenAt cellAt slotAt tokenFrom cellFrom heldInRange
 decoded {ws} h =
     record {

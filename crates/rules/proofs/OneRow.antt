@@ -1,6 +1,6 @@
 -- The rules of one token and of one cell: a blank one keeps them all, since a dag has a node and nothing else is named. Assumes nothing.
 use mathlib.Core.Path.{_≡_, refl, sym, _∙_, ap}
-use mathlib.Core.Bool.{Bool, true, false, not}
+use mathlib.Core.Bool.{true, false, not}
 use mathlib.Core.List.{List, [], _∷_}
 use Prim.Native.Nat.{ℕ, _<_, _≤_}
 use native.Mathlib.Omega.{arith}
@@ -78,14 +78,14 @@ some-node d e =
 module _ (d : Dag) (m : Machine) (t : Token) (eight : length (t .binds) ≡ 8) where
   pub token-blank : dagHolds d ≡ true → tokenIsBlank t ≡ true → tokenRule d m t ≡ true
   unfolding tokenIsBlank tokenInRange isNode atNode notUnderSet waitsAtUnset stateInRange isLive isBlankState
-  token-blank kept e =
+  token-blank holds e =
       let rest1 = and-right (isBlankState (t .state)) _ e in
       let rest2 = and-right (eqb (t .node) 0) _ rest1 in
       let rest3 = and-right (all (λ (b : Bind). not (isBound (b .slot))) (t .binds)) _ rest2 in
       let rest4 = and-right (not (hasValue (t .value))) _ rest3 in
       let state = state-blank (t .state) (and-left (isBlankState (t .state)) _ e) in
       let node : t .node ≡ 0 = eqb-eq (t .node) 0 (and-left (eqb (t .node) 0) _ rest1) in
-      let some = some-node d kept in
+      let some = some-node d holds in
       and-both
       (and-both (lt-ltb (t .node) (length (d .nodes)) (omega arith))
       (and-both (ap (λ n. eqb n 8) eight)

@@ -18,7 +18,7 @@ use Rattle.job.proofs.Test.{all-at, all-from, false-of, ltb-lt, lt-ltb, eq-eqb,
 use Rattle.record.specs.Words.{stateKind}
 use Rattle.job.proofs.Both.{both, and-true, and-assoc}
 use Rattle.row_rules.specs.Rules.{NamesAt}
-use Rattle.rules.specs.Named.{namedAs}
+use Rattle.rules.specs.OrderCounts.{namedAs}
 
 -- counts
 pub count-most : (p : ℕ) (xs : List ℕ) → count p xs ≤ length xs

@@ -21,7 +21,7 @@ use Rattle.model.proofs.Machine.InUse.{tokens-used, cells-used}
 use Rattle.job.proofs.Lists.{same-when}
 use Rattle.job.proofs.Both.{both, both-is}
 use Rattle.row_rules.specs.Rules.{tokenRule, cellRule}
-use Rattle.rules.specs.Named.{namedAs, namedByBoth}
+use Rattle.rules.specs.OrderCounts.{namedAs, namedByBoth}
 use Rattle.rules.proofs.Rest.{all-both}
 use Rattle.rules.proofs.Rows.{from-both}
 

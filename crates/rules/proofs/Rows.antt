@@ -1,9 +1,8 @@
 -- One look at each row: its rules, whether it is in use or blank, and what the orders name, row after row. Assumes nothing.
-use mathlib.Core.Path.{_≡_, refl, sym, _∙_, ap, ap₂}
+use mathlib.Core.Path.{_≡_, refl, sym, _∙_, ap}
 use mathlib.Core.Bool.{Bool, true, false, _&&_, _||_}
 use mathlib.Core.List.{List, [], _∷_}
-use Prim.Native.Nat.{ℕ, zero, suc, _+_, _<_, _≤_}
-use native.Mathlib.Omega.{arith}
+use Prim.Native.Nat.{ℕ, suc, _+_, _<_, _≤_}
 use lib.Dec.{eqb}
 use lib.ListN.{length, getD, take}
 use lib.Seq.{take-all}
@@ -19,7 +18,7 @@ use Rattle.job.proofs.Both.{both, both-is, and-true, and-false, regroup}
 use Rattle.job.proofs.Test.{and-left}
 use Rattle.record.specs.Words.{stateKind}
 use Rattle.row_rules.specs.Rules.{tokenRule}
-use Rattle.rules.specs.Named.{namedAs, namedByBoth}
+use Rattle.rules.specs.OrderCounts.{namedByBoth}
 use Rattle.rules.proofs.Orders.{from-turn}
 use Rattle.rules.proofs.OneRow.{state-blank}
 use Rattle.rules.proofs.Rest.{passed, pass-turn, marked-one, other-one}

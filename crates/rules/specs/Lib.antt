@@ -1,3 +1,3 @@
 -- What the contracts of the tests of a whole record cite.
-pub mod Named
+pub mod OrderCounts
 pub mod Tested

@@ -8,30 +8,30 @@ ghost use Rattle.job.specs.Node.{Dag};
 ghost use Rattle.model.specs.Machine.Blank.{cellAt, cellIsBlank};
 ghost use Rattle.model.specs.Machine.Rules.{restIsBlank};
 ghost use Rattle.model.specs.declared.record.Machine.{Machine};
-ghost use Rattle.coded.specs.Coded.{cellAtCoded};
-ghost use Rattle.row_rules.specs.Decoded.{Decoded};
+ghost use Rattle.coded.specs.WordTests.{cellAtCoded};
+ghost use Rattle.row_rules.specs.ValuesFit.{ValuesFit};
 ghost use Rattle.row_rules.specs.Rules.{cellRule};
 use coded::words::cell_coded;
 use model::record::Machine;
 use record::cell::parent;
-use record::layout::CELL_PLACES;
+use record::layout::CELL_PLACE_COUNT;
 use row_rules::blank::cell_is_blank;
 use row_rules::chain::chain_ends;
 
 // The words and the rules of one cell. A blank one keeps them all.
 fn cell_holds(w: &[u32; Machine::WORDS], c: usize, used: bool) -> bool
     requires { ⌜ c < 32 ⌝ }
-    ensures { λ r. ⌜ (r ≡ true → cellAtCoded (now (w .entry)) c ≡ true) × ((d : Dag) (m : Machine) → Decoded (now (w .entry)) m → r ≡ (cellRule d (m .cells) (cellAt (m .cells) c) and (used || cellIsBlank (cellAt (m .cells) c)))) ⌝ }
+    ensures { λ r. ⌜ (r ≡ true → cellAtCoded (now (w .entry)) c ≡ true) × ((d : Dag) (m : Machine) → ValuesFit (now (w .entry)) m → r ≡ (cellRule d (m .cells) (cellAt (m .cells) c) and (used || cellIsBlank (cellAt (m .cells) c)))) ⌝ }
 {
     if !used {
         return cell_coded(w, c) & cell_is_blank(w, c);
     }
     let above = parent(w, c);
-    cell_coded(w, c) & (above <= CELL_PLACES) & chain_ends(w, above)
+    cell_coded(w, c) & (above <= CELL_PLACE_COUNT) & chain_ends(w, above)
 }
 
 pub fn cells_hold(w: &[u32; Machine::WORDS], used: &[bool; Machine::CELLS]) -> bool
-    ensures { λ r. ⌜ (r ≡ true → (c : ℕ) → c < 32 → cellAtCoded (now (w .entry)) c ≡ true) × ((d : Dag) (m : Machine) → Decoded (now (w .entry)) m → length (now (used .entry)) ≡ 32 → r ≡ (all (cellRule d (m .cells)) (m .cells) and restIsBlank cellIsBlank (now (used .entry)) (m .cells))) ⌝ }
+    ensures { λ r. ⌜ (r ≡ true → (c : ℕ) → c < 32 → cellAtCoded (now (w .entry)) c ≡ true) × ((d : Dag) (m : Machine) → ValuesFit (now (w .entry)) m → length (now (used .entry)) ≡ 32 → r ≡ (all (cellRule d (m .cells)) (m .cells) and restIsBlank cellIsBlank (now (used .entry)) (m .cells))) ⌝ }
 {
     let mut ok = true;
     let mut i: usize = 0;

@@ -13,15 +13,15 @@ ghost use Rattle.model.specs.declared.token.State.{State};
 ghost use Rattle.record.specs.Holds.{Codes};
 ghost use Rattle.record.specs.Words.{stateKind};
 ghost use Rattle.row_rules.specs.Rules.{NamesAt};
-ghost use Rattle.rules.specs.Named.{namedAs};
+ghost use Rattle.rules.specs.OrderCounts.{namedAs};
 use job::wide::wide;
 use model::record::Machine;
 use orders::zero::all_zero;
-use record::layout::QUEUE;
+use record::layout::QUEUE_START;
 use record::layout::READY_STATE;
-use record::layout::TOKEN_PLACES;
+use record::layout::TOKEN_PLACE_COUNT;
 use record::layout::WAITING_STATE;
-use record::layout::WAITS;
+use record::layout::WAITS_START;
 use record::order::queued;
 use record::order::waiting;
 
@@ -32,7 +32,7 @@ fn order_in_range(w: &[u32; Machine::WORDS], at: usize, n: usize) -> bool
 {
     let mut i: usize = 0;
     while i < n {
-        if TOKEN_PLACES <= w[at + i] {
+        if TOKEN_PLACE_COUNT <= w[at + i] {
             return false;
         }
         i += 1;
@@ -100,14 +100,14 @@ fn read_order(w: &[u32; Machine::WORDS], at: usize, names: u32) -> Order
 pub fn queue_order(w: &[u32; Machine::WORDS]) -> Order
     ensures { λ r. ⌜ ((m : Machine) → Codes (now (w .entry)) m → (allFrom (namedAs 1 (r .counts)) 0 (m .tokens) and r .ok) ≡ namesOnce isReady (m .tokens) (m .queue) (m .queued)) ⌝ }
 {
-    read_order(w, QUEUE, queued(w))
+    read_order(w, QUEUE_START, queued(w))
 }
 
 // The wait order names the waiting ones.
 pub fn wait_order(w: &[u32; Machine::WORDS]) -> Order
     ensures { λ r. ⌜ ((m : Machine) → Codes (now (w .entry)) m → (allFrom (namedAs 2 (r .counts)) 0 (m .tokens) and r .ok) ≡ namesOnce isWaiting (m .tokens) (m .waits) (m .waiting)) ⌝ }
 {
-    read_order(w, WAITS, waiting(w))
+    read_order(w, WAITS_START, waiting(w))
 }
 
 fn one_if(b: bool) -> u8

@@ -11,10 +11,10 @@ ghost use Rattle.model.specs.Machine.Blank.{tokenAt, tokenIsBlank};
 ghost use Rattle.model.specs.Machine.Rules.{restIsBlank, openHandles};
 ghost use Rattle.model.specs.declared.record.Machine.{Machine};
 ghost use Rattle.record.specs.Holds.{Codes};
-ghost use Rattle.coded.specs.Coded.{tokenCoded};
-ghost use Rattle.row_rules.specs.Decoded.{Decoded};
+ghost use Rattle.coded.specs.WordTests.{tokenCoded};
+ghost use Rattle.row_rules.specs.ValuesFit.{ValuesFit};
 ghost use Rattle.row_rules.specs.Rules.{tokenRule};
-ghost use Rattle.rules.specs.Named.{namedByBoth};
+ghost use Rattle.rules.specs.OrderCounts.{namedByBoth};
 use crate::handles::all_differ;
 use crate::order::counts_agree;
 use coded::words::token_coded;
@@ -33,7 +33,7 @@ use row_rules::range::token_in_range;
 // The words and the rules of a token that is in use.
 fn token_holds(w: &[u32; Machine::WORDS], p: usize, dag: &[u32]) -> bool
     requires { ⌜ (p < 64) × (length (now dag) ≡ 12331) × (dagHolds (dagOf (now dag)) ≡ true) ⌝ }
-    ensures { λ r. ⌜ (r ≡ true → tokenCoded (now (w .entry)) p ≡ true) × ((m : Machine) → Decoded (now (w .entry)) m → r ≡ tokenRule (dagOf (now (dag .entry))) m (tokenAt (m .tokens) p)) ⌝ }
+    ensures { λ r. ⌜ (r ≡ true → tokenCoded (now (w .entry)) p ≡ true) × ((m : Machine) → ValuesFit (now (w .entry)) m → r ≡ tokenRule (dagOf (now (dag .entry))) m (tokenAt (m .tokens) p)) ⌝ }
 {
     let at = node(w, p);
     if dag[NODE_COUNT] <= at {
@@ -66,7 +66,7 @@ pub fn tokens_hold(
     waits: &[u8; Machine::TOKENS],
 ) -> bool
     requires { ⌜ (length (now dag) ≡ 12331) × (dagHolds (dagOf (now dag)) ≡ true) ⌝ }
-    ensures { λ r. ⌜ (r ≡ true → (p : ℕ) → p < 64 → tokenCoded (now (w .entry)) p ≡ true) × ((m : Machine) → Decoded (now (w .entry)) m → length (now (used .entry)) ≡ 64 → r ≡ (((all (tokenRule (dagOf (now (dag .entry))) m) (m .tokens) and restIsBlank tokenIsBlank (now (used .entry)) (m .tokens)) and allFrom (namedByBoth (now (queue .entry)) (now (waits .entry))) 0 (m .tokens)) and differ (openHandles (m .tokens)))) ⌝ }
+    ensures { λ r. ⌜ (r ≡ true → (p : ℕ) → p < 64 → tokenCoded (now (w .entry)) p ≡ true) × ((m : Machine) → ValuesFit (now (w .entry)) m → length (now (used .entry)) ≡ 64 → r ≡ (((all (tokenRule (dagOf (now (dag .entry))) m) (m .tokens) and restIsBlank tokenIsBlank (now (used .entry)) (m .tokens)) and allFrom (namedByBoth (now (queue .entry)) (now (waits .entry))) 0 (m .tokens)) and differ (openHandles (m .tokens)))) ⌝ }
 {
     let mut handles = [0u32; Machine::TOKENS];
     let mut count: usize = 0;

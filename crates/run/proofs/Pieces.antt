@@ -5,7 +5,7 @@ use Prim.Native.Nat.{ℕ, zero, suc, _+_, _-_, _≤_}
 use native.Mathlib.Omega.{arith}
 use lib.ListN.{length, take, drop, length-take, length-drop, take-append-drop}
 use lib.Seq.{sets-eq, length-sets, take-all, take-at, drop-drop}
-use Rattle.lines.specs.Shown.{shown, pieces, Piece}
+use Rattle.lines.specs.Shown.{shown, inPieces, Piece}
 
 -- the front of an output that shows the text
 front-piece : (before : List ℕ) (from : ℕ) (text : List ℕ) (n : ℕ) → n ≡ length (take (length before) (drop from text))
@@ -50,8 +50,8 @@ piece-last {text} {output} {from} {left} p l =
     ∙ sym (take-all (length (take (left - 0) output)) (drop from text) (omega arith))
 
 -- "the bytes of the whole run, one piece after another"
-pub pieces-are : (n room from : ℕ) (text : List ℕ) → pieces n room from text ≡ drop from text
-unfolding pieces
+pub pieces-are : (n room from : ℕ) (text : List ℕ) → inPieces n room from text ≡ drop from text
+unfolding inPieces
 pieces-are zero room from text = refl
 pieces-are (suc n) room from text =
     ap (λ (u : List ℕ). take room (drop from text) ++ u) (pieces-are n room (from + room) text ∙ sym (drop-drop room from text))

@@ -11,8 +11,8 @@ use Rattle.job.specs.Syntax.{Program}
 use Rattle.job.specs.Read.{tableLength, Answer, accepted, declined, readTable}
 use Rattle.job.specs.Construct.{construct}
 use Rattle.job.specs.Words.{dagOf}
-use Rattle.model.specs.Lines.Line.{textOfAll, table, long}
-use Rattle.model.specs.Lines.Orcrun.{runLines, tableLines, inputLines, orcrun}
+use Rattle.model.specs.Output.Line.{textOfAll, table, long}
+use Rattle.model.specs.Output.Orcrun.{runLines, tableLines, inputLines, orcrun}
 use Rattle.model.specs.Machine.Limits.{paper}
 use Rattle.job.proofs.Test.{leb-le, le-leb, not-leb-lt, lt-not-leb}
 use Rattle.job.proofs.Accepted.{accepted-well-formed}

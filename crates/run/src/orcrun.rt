@@ -1,7 +1,7 @@
 // The program `orcrun` as one function from the bytes of its input to the bytes that it prints.
 ghost use mathlib.Core.Path.{_≡_};
 ghost use lib.ListN.{length};
-ghost use Rattle.model.specs.Lines.Orcrun.{orcrun};
+ghost use Rattle.model.specs.Output.Orcrun.{orcrun};
 ghost use Rattle.lines.specs.Shown.{shown};
 use crate::input::table_end;
 use house::house::run;

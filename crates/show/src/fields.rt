@@ -157,7 +157,7 @@ fn waits(w: &[u32; Machine::WORDS]) {
 
 fn counts(w: &[u32; Machine::WORDS]) {
     put(b"  calls");
-    number(count::calls(w) as u64);
+    number(count::calls_made(w) as u64);
     put(b" newtoken");
     number(count::last_token(w) as u64);
     put(b" newcell");

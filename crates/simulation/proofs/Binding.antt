@@ -7,7 +7,7 @@ use Prim.Native.Nat.{ℕ, zero, suc}
 use lib.ListN.{getD}
 use lib.IntN.{ℤ, pos}
 use Rattle.calculus.specs.Expression.{Param, Substitution, raise, lift, substParam, innermost, formals}
-use Rattle.calculus.specs.Rewriting.{valuesOf}
+use Rattle.calculus.specs.Rewriting.{paramValues}
 use Rattle.calculus.proofs.Substitution.{_after_, itself, bound}
 use Rattle.simulation.proofs.Machine.{Binding, Store, withSet, bindingAt, named, valueIn, inFront, valuesIn}
 use Rattle.simulation.proofs.Store.{_∈_, set-same, set-keeps}
@@ -126,9 +126,9 @@ abbrev valueOf : Param → Option ℤ
 valueOf (Param.value v) = some v
 valueOf (Param.variable i) = none
 
-valuesOf-cons : (p : Param) (ps : List Param) → valuesOf (p ∷ ps) ≡ inFront (valueOf p) (valuesOf ps)
-unfolding valuesOf
-valuesOf-cons (Param.value v) ps = go (valuesOf ps)
+valuesOf-cons : (p : Param) (ps : List Param) → paramValues (p ∷ ps) ≡ inFront (valueOf p) (paramValues ps)
+unfolding paramValues
+valuesOf-cons (Param.value v) ps = go (paramValues ps)
   where
     go : (o : Option (List ℤ)) → (elim o as (λ x. Option (List ℤ)) [ none ↦ none | some vs ↦ some (v ∷ vs) ]) ≡ inFront (some v) o
     go none = refl
@@ -148,8 +148,8 @@ value-agrees u (was-set e) = e
 value-agrees u (is-cell a) = u _ (at-member a)
 
 pub values-agree : {σ : Store} {Γ : List ℕ} {ρ : Substitution} {B : List Binding}
-    → Unset σ Γ → Env σ Γ ρ B → (ps : List Param) → valuesIn σ B ps ≡ valuesOf (map (substParam ρ) ps)
-unfolding valuesIn valuesOf
+    → Unset σ Γ → Env σ Γ ρ B → (ps : List Param) → valuesIn σ B ps ≡ paramValues (map (substParam ρ) ps)
+unfolding valuesIn paramValues
 values-agree u env [] = refl
 values-agree {ρ} u env (p ∷ ps) =
     ap₂ inFront (value-agrees u (named-bind env p)) (values-agree u env ps) ∙ sym (valuesOf-cons (substParam ρ p) (map (substParam ρ) ps))

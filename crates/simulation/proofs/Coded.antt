@@ -11,7 +11,7 @@ use lib.IntN.{ℤ}
 use Rattle.job.specs.Site.{isBuiltin, isOutside}
 use Rattle.calculus.specs.Event.{Label, silently}
 use Rattle.calculus.specs.Expression.{Param, Exp, Substitution, substParam, subst, formals}
-use Rattle.calculus.specs.Rewriting.{valuesOf, silence, calling, Rewrites}
+use Rattle.calculus.specs.Rewriting.{paramValues, silence, calling, Rewrites}
 use Rattle.job.proofs.Test.{and-left, leb-le, le-not-ltb}
 use Rattle.simulation.proofs.Machine.{Node, Program, Binding, Frame, Place, at, running, Store, acts, act, asksSite, callsSite, replies}
 use Rattle.simulation.proofs.Cells.{grows-all}
@@ -38,7 +38,7 @@ outside-not-builtin s e =
 module _ (G : Program) (σ : Store) (new h : ℕ) where
   module _ {Γ U : List ℕ} {K : Place} {n k : ℕ} {ps : List Param} {B : List Binding} {F : List Frame} {ρ : Substitution}
       (w : ℤ) (env : Env σ Γ ρ B) (l : Leads G (at k B F U) K) where
-    site-effect : {s : ℕ} {vs : List ℤ} → Unset σ Γ → G .node n ≡ Node.site s ps k → valuesOf (map (substParam ρ) ps) ≡ some vs
+    site-effect : {s : ℕ} {vs : List ℤ} → Unset σ Γ → G .node n ≡ Node.site s ps k → paramValues (map (substParam ρ) ps) ≡ some vs
         → act G σ new h (at n B F U) w ≡ callsSite h s vs (isBuiltin s) (at k B F U)
     site-effect {s} u e p =
         act-at G σ new h w refl e ∙ ap (λ o. asksSite h s (running (at n B F U) w) o (at k B F U)) (values-agree u env ps ∙ p)

@@ -7,7 +7,7 @@ use Prim.Native.Nat.{ℕ}
 use Rattle.calculus.specs.Event.{Event, Label}
 use Rattle.calculus.specs.Expression.{Exp}
 use Rattle.calculus.specs.Rewriting.{Rewrites}
-use Rattle.calculus.specs.Allowed.{Configuration, nextHandle, shown, Shows}
+use Rattle.calculus.specs.Allowed.{Configuration, nextHandle, shown, CanShow}
 use Rattle.simulation.proofs.Shuffle.{Split}
 use Rattle.simulation.proofs.Machine.{Node, Program, at, Token, Store, Effect, Move, effect, State, state, handleOf, after, labelOf, Step, step, Run, rests}
 use Rattle.simulation.proofs.Cells.{tidy-grown}
@@ -53,7 +53,7 @@ module _ (G : Program) (sink : ℕ) (bodies : Bodies G) (is-publish : G .node si
       let r = rest s′ (k ∙ ap (nextHandle a) q) t in (r .0, quiet-run G before (Run.then x (r .1)))
 
   pub run-complete : {c : Configuration} {es : List Event} {s : State}
-      → Stands G sink (c .exp) s → handleOf s ≡ c .handle → Shows (G .body) c es → (u : State) × Run G s es u
-  run-complete {s = s} t q Shows.ends = (s, rests)
-  run-complete {c} t q (Shows.then {a = a} {f = f} x r) =
+      → Stands G sink (c .exp) s → handleOf s ≡ c .handle → CanShow (G .body) c es → (u : State) × Run G s es u
+  run-complete {s = s} t q CanShow.ends = (s, rests)
+  run-complete {c} t q (CanShow.then {a = a} {f = f} x r) =
       link q (λ s′ k t′. run-complete t′ k r) (step-complete t (along (λ k. Rewrites (G .body) k (c .exp) a f) (sym q) x))

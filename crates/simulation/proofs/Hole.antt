@@ -10,7 +10,7 @@ use lib.IntN.{ℤ}
 use Rattle.job.specs.Test.{filter}
 use Rattle.calculus.specs.Event.{Event, Label, silently, showing}
 use Rattle.calculus.specs.Expression.{Exp, Substitution, lift, subst, innermost}
-use Rattle.calculus.specs.Rewriting.{Passes, Rewrites}
+use Rattle.calculus.specs.Rewriting.{NotPublishing, Rewrites}
 use Rattle.simulation.proofs.Shuffle.{Mix, mix-swap, mix-unit}
 use Rattle.simulation.proofs.Machine.{Program, Place, above, Token, Store, withSet, outOf}
 use Rattle.simulation.proofs.Store.{_∉_}
@@ -25,7 +25,7 @@ pub data Gate : Type 0 where
 
 pub data Lets : Gate → Label → Type 0 where
   through : {a : Label} → Lets free a
-  passing : {k : ℤ → Exp → Exp} {a : Label} → Passes a → Lets (catching k) a
+  passing : {k : ℤ → Exp → Exp} {a : Label} → NotPublishing a → Lets (catching k) a
 
 -- where the filling becomes f with the label a, the whole becomes e with the label b
 pub data Lifts : Gate → (Exp → Exp) → Label → Exp → Label → Exp → Type 0 where

@@ -9,7 +9,7 @@ use Prim.Native.Nat.{ℕ}
 use lib.IntN.{ℤ}
 use Rattle.job.specs.Site.{BuiltinReply, gives, silent, isBuiltin, isOutside, builtin}
 use Rattle.calculus.specs.Expression.{Param, Exp, Substitution, lift, substParam, subst}
-use Rattle.calculus.specs.Rewriting.{valuesOf, silence, answering, Rewrites}
+use Rattle.calculus.specs.Rewriting.{paramValues, silence, answering, Rewrites}
 use Rattle.simulation.proofs.Shuffle.{Split, first, later, pair, split-none, gap-alone, found, either-side}
 use Rattle.simulation.proofs.Machine.{Node, Program, Binding, Frame, Place, at, above, Token, running, Store, asksSite, Move, acts, answered}
 use Rattle.simulation.proofs.Cells.{parts-swap, parts-move, parts-alone, parts-own, parts-none, grows-all, grows-new, Tidy}
@@ -25,20 +25,20 @@ module _ (G : Program) (σ : Store) (new h : ℕ) where
       → Unset σ Γ → (isBuiltin s ≡ true) ⊎ (isOutside s ≡ true) → G .node n ≡ Node.site s ps k → Env σ Γ ρ B → Leads G (at k B F U) K
       → Moves G σ new h Γ (subst ρ (Exp.site s ps)) K [] [] C (running (at n B F U) w) acts
   unfolding subst
-  site-moves {Γ} {C} {U} {K} {n} {k} {s} {ps} {B} {F} w ρ u known e env l = go (valuesOf (map (substParam ρ) ps)) refl
+  site-moves {Γ} {C} {U} {K} {n} {k} {s} {ps} {B} {F} w ρ u known e env l = go (paramValues (map (substParam ρ) ps)) refl
     where
       Goal : Type 0
       Goal = Moves G σ new h Γ (subst ρ (Exp.site s ps)) K [] [] C (running (at n B F U) w) acts
 
-      ask : (vs : List ℤ) (x : BuiltinReply) → valuesOf (map (substParam ρ) ps) ≡ some vs → isBuiltin s ≡ true → builtin s vs ≡ x → Goal
+      ask : (vs : List ℤ) (x : BuiltinReply) → paramValues (map (substParam ρ) ps) ≡ some vs → isBuiltin s ≡ true → builtin s vs ≡ x → Goal
       ask vs (gives v) p b q = moves (site-outcome G σ new h w env l u e (Rewrites.builtin-gives p b q))
       ask vs silent p b q = moves (site-outcome G σ new h w env l u e (Rewrites.builtin-silent p b q))
 
-      known-site : (vs : List ℤ) → valuesOf (map (substParam ρ) ps) ≡ some vs → (isBuiltin s ≡ true) ⊎ (isOutside s ≡ true) → Goal
+      known-site : (vs : List ℤ) → paramValues (map (substParam ρ) ps) ≡ some vs → (isBuiltin s ≡ true) ⊎ (isOutside s ≡ true) → Goal
       known-site vs p (inl b) = ask vs (builtin s vs) p b refl
       known-site vs p (inr o) = moves (site-outcome G σ new h w env l u e (Rewrites.outside-call p o))
 
-      go : (o : Option (List ℤ)) → valuesOf (map (substParam ρ) ps) ≡ o → Goal
+      go : (o : Option (List ℤ)) → paramValues (map (substParam ρ) ps) ≡ o → Goal
       go none p =
           moves
           (makes

@@ -7,7 +7,7 @@ use Prim.Native.Nat.{ℕ, suc}
 use lib.IntN.{ℤ}
 use Rattle.calculus.specs.Event.{Event, Label, silently, showing}
 use Rattle.calculus.specs.Expression.{Exp, Substitution, lift, subst, innermost}
-use Rattle.calculus.specs.Rewriting.{Passes, silence, Rewrites}
+use Rattle.calculus.specs.Rewriting.{NotPublishing, silence, Rewrites}
 use Rattle.calculus.proofs.Substitution.{bound, innermost-lift}
 use Rattle.simulation.proofs.Shuffle.{Mix, mix-filter, mix-unit, mix-middle, mix-swap, Gap}
 use Rattle.simulation.proofs.Machine.{Node, Program, Binding, Frame, Place, at, above, Token, running, Store, withSet, isOutOf, outOf, Effect, Move, acts, actsAt, act, effect}
@@ -18,7 +18,7 @@ use Rattle.simulation.proofs.Relation.{Then, then, Chokes, chokes, remo
 use Rattle.simulation.proofs.Hole.{Gate, free, catching, Lets, through, passing, Lifts, acting, caught, Hole, fill, hole-set, hole-stays, hole-place, hole-acts}
 
 -- publishing passes no gate that catches
-publish-stays : {v : ℤ} {A : Type 0} → Passes (showing (Event.publish v)) → A
+publish-stays : {v : ℤ} {A : Type 0} → NotPublishing (showing (Event.publish v)) → A
 publish-stays p = elim p [ ]
 
 module _ (G : Program) where
@@ -34,7 +34,7 @@ module _ (G : Program) (σ : Store) (new h : ℕ) where
         → T ≡ K → Rewrites (G .body) h e (showing (Event.publish w)) e′ → Rep G σ Γ e′ K (X ++ Y) C₁ → Grows new (suc new) C C₁
         → Outcome Γ e K X Y C (running T w) acts (showing (Event.publish w)) e′
     makes : {t : Token} {m : Move t} {a : Label} {N : List Token} {e′ : Exp} {C₁ : List ℕ}
-        → effect G σ new h t m ≡ Effect.makes a N → Passes a → AtMost G h e a e′ → Rep G σ Γ e′ K (X ++ (N ++ Y)) C₁ → Grows new (suc new) C C₁
+        → effect G σ new h t m ≡ Effect.makes a N → NotPublishing a → AtMost G h e a e′ → Rep G σ Γ e′ K (X ++ (N ++ Y)) C₁ → Grows new (suc new) C C₁
         → Outcome Γ e K X Y C t m a e′
     sets : {t : Token} {m : Move t} {c : ℕ} {v : ℤ} {e′ : Exp} {C₁ : List ℕ}
         → effect G σ new h t m ≡ Effect.sets c v → c ∈ C → c ∉ C₁ → AtMost G h e silently e′

@@ -24,17 +24,17 @@ module _ (G : Program) (σ : Store) (h : ℕ) where
     quiet : {S X Y N S₁ : List Token} {new new₁ : ℕ} {t : Token} (m : Move t)
         → Split t S X Y → effect G σ new h t m ≡ Effect.makes silently N → Quiet (X ++ (N ++ Y)) (suc new) S₁ new₁ → Quiet S new S₁ new₁
 
-  data Beside (S₁ Z Q : List Token) (new new₁ : ℕ) : Type 0 where
-    beside : {Q₁ : List Token} → Quiet Q new Q₁ new₁ → Mix S₁ Z Q₁ → Beside S₁ Z Q new new₁
+  data QuietInMix (S₁ Z Q : List Token) (new new₁ : ℕ) : Type 0 where
+    in-mix : {Q₁ : List Token} → Quiet Q new Q₁ new₁ → Mix S₁ Z Q₁ → QuietInMix S₁ Z Q new new₁
 
-  quiet-beside : {S S₁ Z Q : List Token} {new new₁ : ℕ} → Quiet S new S₁ new₁ → Mix S Z Q → Beside S₁ Z Q new new₁
-  quiet-beside done mx = beside done mx
-  quiet-beside {S₁ = S₁} {Z} {Q} {new} {new₁} (quiet {X = X} {Y} {N} {t = t} m z e r) mx = go (keeps z mx) (λ q x. quiet-beside r x)
+  quiet-in-mix : {S S₁ Z Q : List Token} {new new₁ : ℕ} → Quiet S new S₁ new₁ → Mix S Z Q → QuietInMix S₁ Z Q new new₁
+  quiet-in-mix done mx = in-mix done mx
+  quiet-in-mix {S₁ = S₁} {Z} {Q} {new} {new₁} (quiet {X = X} {Y} {N} {t = t} m z e r) mx = go (keeps z mx) (λ q x. quiet-in-mix r x)
     where
-      next : {X′ Y′ : List Token} → Split t Q X′ Y′ → Beside S₁ Z (X′ ++ (N ++ Y′)) (suc new) new₁ → Beside S₁ Z Q new new₁
-      next s (beside r′ mx′) = beside (quiet m s e r′) mx′
+      next : {X′ Y′ : List Token} → Split t Q X′ Y′ → QuietInMix S₁ Z (X′ ++ (N ++ Y′)) (suc new) new₁ → QuietInMix S₁ Z Q new new₁
+      next s (in-mix r′ mx′) = in-mix (quiet m s e r′) mx′
 
-      go : Kept t X Y Z Q → ((q : List Token) → Mix (X ++ (N ++ Y)) Z q → Beside S₁ Z q (suc new) new₁) → Beside S₁ Z Q new new₁
+      go : Kept t X Y Z Q → ((q : List Token) → Mix (X ++ (N ++ Y)) Z q → QuietInMix S₁ Z q (suc new) new₁) → QuietInMix S₁ Z Q new new₁
       go (kept s gap) rec = next s (rec _ (gap .filled N))
 
   -- quiet moves, then one that is the rewriting of e to e′
@@ -56,7 +56,7 @@ module _ (G : Program) (σ : Store) (h : ℕ) where
       → Hole G σ Γ K gate Δ L Z D plug → Parts C D E → Tidy σ new Γ (above K) E → Mix S Z Q → Lifts gate plug a f′ b e
       → Ready Δ f L S C new a f′ → Ready Γ (plug f) K Q E new b e
   ready-inside {Γ} {Δ} {C} {D} {E} {K} {L} {gate} {plug} {S} {Z} {Q} {new} {a} {b} {f} {f′} {e} H p t mx l
-      (ready {S₁ = S₁} {X} {Y} {C₁} {new₁} {t = u} {m} r le g z o) = go (quiet-beside r mx)
+      (ready {S₁ = S₁} {X} {Y} {C₁} {new₁} {t = u} {m} r le g z o) = go (quiet-in-mix r mx)
     where
       go₁ : {Q₁ : List Token} → Quiet Q new Q₁ new₁ → Kept u X Y Z Q₁ → Ready Γ (plug f) K Q E new b e
       go₁ r′ (kept s gap) =
@@ -64,8 +64,8 @@ module _ (G : Program) (σ : Store) (h : ℕ) where
           (inside G σ new₁ h H
           (grown p t g) (tidy-grown t le (whole-grows p g)) gap l o)
 
-      go : Beside S₁ Z Q new new₁ → Ready Γ (plug f) K Q E new b e
-      go (beside r′ mx′) = go₁ r′ (keeps z mx′)
+      go : QuietInMix S₁ Z Q new new₁ → Ready Γ (plug f) K Q E new b e
+      go (in-mix r′ mx′) = go₁ r′ (keeps z mx′)
 
   no-stop : {a : Label} {e : Exp} {A : Type 0} → Rewrites (G .body) h Exp.stop a e → A
   no-stop s = elim s [ ]

@@ -9,7 +9,7 @@ use lib.IntN.{pos}
 use Rattle.calculus.specs.Event.{Event, Label}
 use Rattle.calculus.specs.Expression.{Exp, Substitution, subst}
 use Rattle.calculus.specs.Expression as Calculus
-use Rattle.calculus.specs.Allowed.{nextHandle, shown, Shows}
+use Rattle.calculus.specs.Allowed.{nextHandle, shown, CanShow}
 use Rattle.simulation.proofs.Machine.{Node, Program, at, Token, Store, Effect, Move, effect, State, state, handleOf, after, labelOf, Step, step, Run, rests, startAt}
 use Rattle.simulation.proofs.Cells.{apart-none, Tidy, tidy-grown, tidy-set}
 use Rattle.simulation.proofs.Binding as Binding
@@ -86,14 +86,14 @@ module _ (G : Program) (sink : ℕ) where
 
     -- in front of what a rewriting, or none, leaves to show
     in-front : {e f : Exp} {h k : ℕ} {a : Label} {es : List Event}
-        → AtMost G h e a f → k ≡ nextHandle a h → Shows (G .body) (record { exp = f; handle = k }) es
-        → Shows (G .body) (record { exp = e; handle = h }) (shown a es)
+        → AtMost G h e a f → k ≡ nextHandle a h → CanShow (G .body) (record { exp = f; handle = k }) es
+        → CanShow (G .body) (record { exp = e; handle = h }) (shown a es)
     unfolding shown nextHandle
-    in-front {f = f} {es = es} same q r = along (λ x. Shows (G .body) (record { exp = f; handle = x }) es) q r
+    in-front {f = f} {es = es} same q r = along (λ x. CanShow (G .body) (record { exp = f; handle = x }) es) q r
     in-front {f = f} {es = es} (once s) q r =
-        Shows.then s (along (λ x. Shows (G .body) (record { exp = f; handle = x }) es) q r)
+        CanShow.then s (along (λ x. CanShow (G .body) (record { exp = f; handle = x }) es) q r)
 
     pub run-sound : {e : Exp} {s s′ : State} {es : List Event}
-        → Stands e s → Run G s es s′ → Shows (G .body) (record { exp = e; handle = handleOf s }) es
-    run-sound t rests = Shows.ends
+        → Stands e s → Run G s es s′ → CanShow (G .body) (record { exp = e; handle = handleOf s }) es
+    run-sound t rests = CanShow.ends
     run-sound t (Run.then x r) = let o = step-sound t x in in-front (o .by) (o .handle) (run-sound (o .standing) r)

@@ -20,7 +20,7 @@ use Rattle.model.specs.declared.token.State.the-variants as states
 use Rattle.model.specs.declared.cell.Cell.{Cell}
 use Rattle.model.specs.declared.record.Machine.{Machine}
 use Rattle.job.proofs.Test.{and-left, and-right, eqb-eq, all-at, all-head, all-tail, all-nil, all-cons, all-append}
-use Rattle.model.proofs.Machine.Rules.{RulesKept, rules-kept, NamesOnce, names-once, order-inside}
+use Rattle.model.proofs.Machine.Rules.{EachRuleHolds, each-rule-holds, NamesOnce, names-once, order-inside}
 use Rattle.sites.specs.Looking.{LookFacts}
 use Rattle.sites.proofs.Counting.{names-few, names-fewer, count-append}
 
@@ -41,22 +41,22 @@ once-few true = omega arith
 once-few false = omega arith
 
 module _ (d : Dag) (m : Machine) (k : rulesHold paper d m ≡ true) where
-  kept : RulesKept paper d m
-  kept = rules-kept paper d m k
+  holds : EachRuleHolds paper d m
+  holds = each-rule-holds paper d m k
 
   pub tokens-size : length (m .tokens) ≡ 64
   unfolding sizesInRange
-  tokens-size = eqb-eq (length (m .tokens)) 64 (and-left _ _ (kept .sizes))
+  tokens-size = eqb-eq (length (m .tokens)) 64 (and-left _ _ (holds .sizes))
 
   pub cells-size : length (m .cells) ≡ 32
   unfolding sizesInRange
-  cells-size = eqb-eq (length (m .cells)) 32 (and-left _ _ (and-right (eqb (length (m .tokens)) 64) _ (kept .sizes)))
+  cells-size = eqb-eq (length (m .cells)) 32 (and-left _ _ (and-right (eqb (length (m .tokens)) 64) _ (holds .sizes)))
 
   queue : NamesOnce isReady (m .tokens) (m .queue) (m .queued)
-  queue = names-once isReady (m .tokens) (m .queue) (m .queued) (kept .queue)
+  queue = names-once isReady (m .tokens) (m .queue) (m .queued) (holds .queue)
 
   waits : NamesOnce isWaiting (m .tokens) (m .waits) (m .waiting)
-  waits = names-once isWaiting (m .tokens) (m .waits) (m .waiting) (kept .waits)
+  waits = names-once isWaiting (m .tokens) (m .waits) (m .waiting) (holds .waits)
 
   below : (of : State → Bool) (array : List ℕ) (n : ℕ) → NamesOnce of (m .tokens) array n → all (λ (p : ℕ). ltb p 64) (take n array) ≡ true
   below of array n o = subst (λ i. all (λ (p : ℕ). ltb p i) (take n array) ≡ true) tokens-size (o .inside)
@@ -123,7 +123,7 @@ module _ (d : Dag) (m : Machine) (k : rulesHold paper d m ≡ true) where
   pub token-range : (p : ℕ) → p < 64 → tokenInRange paper d (m .calls) (tokenAt (m .tokens) p) ≡ true
   unfolding tokenAt
   token-range p l =
-      let t : length (m .tokens) ≡ 64 = tokens-size in all-at (tokenInRange paper d (m .calls)) (m .tokens) p blankToken (kept .tokens) (omega arith)
+      let t : length (m .tokens) ≡ 64 = tokens-size in all-at (tokenInRange paper d (m .calls)) (m .tokens) p blankToken (holds .tokens) (omega arith)
 
   -- what a look-up needs of the record
   pub look-facts : (p : ℕ) → p < 64 → LookFacts m p
@@ -133,5 +133,5 @@ module _ (d : Dag) (m : Machine) (k : rulesHold paper d m ≡ true) where
       let a = and-right (eqb (length (t .binds)) 8) _ (and-right (isNode d (t .node)) _ (token-range p l)) in
       record {
         slots = and-left _ _ a;
-        cells = all-implied (cellInRange paper d) (λ (c : Cell). rules.heldInRange (c .value)) (λ c e. and-right (rules.placeInRange 32 (c .parent)) _ e) (m .cells) (kept .cells);
+        cells = all-implied (cellInRange paper d) (λ (c : Cell). rules.heldInRange (c .value)) (λ c e. and-right (rules.placeInRange 32 (c .parent)) _ e) (m .cells) (holds .cells);
       }

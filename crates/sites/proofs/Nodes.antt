@@ -1,4 +1,4 @@
--- Reading a node: for a kept dag the node at an index is the one that its row's words are by their kind, because a row of other words would be
+-- Reading a node: for a dag whose rules hold the node at an index is the one that its row's words are by their kind, because a row of other words would be
 -- no node, which the rules refuse. Assumes nothing.
 use mathlib.Core.Path.{_≡_, refl, ap, ap₂, subst, _∙_}
 use mathlib.Core.Bool.{Bool, true, false}
@@ -9,7 +9,7 @@ use lib.ListN.{length, getD, take, drop}
 use lib.Seq.{drop-drop, getD-drop}
 use Rattle.job.specs.Test.{same}
 use Rattle.job.specs.Node.{Node, Body, Dag, nodeAt, bodyAt, nodeHolds, bodyHolds, isNode, dagHolds}
-use Rattle.job.specs.Words.{headWords, paramsFrom, nodeWords, nodeBy, nodeOf, nodesFrom, bodiesFrom, dagOf}
+use Rattle.job.specs.Words.{headWords, paramsFrom, nodeWords, nodeBy, decodedNode, nodesFrom, bodiesFrom, dagOf}
 use Rattle.job.proofs.Test.{clash, and-left, ltb-lt, same-eq}
 use Rattle.job.proofs.Rules.{dag-rules, node-rules, body-rules}
 use Rattle.sites.specs.Row.{rowOf, rowAt, paramsAt, nodeOfKind, nodeIn}
@@ -20,17 +20,17 @@ unfolding nodesFrom
 nodes-count zero ws = refl
 nodes-count (suc n) ws = ap suc (nodes-count n (drop 12 ws))
 
-node-from : (n i : ℕ) (ws : List ℕ) → i < n → getD (nodesFrom n ws) i Node.unknown ≡ nodeOf (rowAt ws (12 * i))
+node-from : (n i : ℕ) (ws : List ℕ) → i < n → getD (nodesFrom n ws) i Node.unknown ≡ decodedNode (rowAt ws (12 * i))
 unfolding nodesFrom
 node-from zero i ws l = absurd (omega arith)
 node-from (suc n) zero ws l = refl
 node-from (suc n) (suc i) ws l =
     let next : 12 + 12 * i ≡ 12 * suc i = omega arith in
-    node-from n i (drop 12 ws) (omega arith) ∙ ap (λ xs. nodeOf (take 12 xs)) (drop-drop (12 * i) 12 ws ∙ ap (λ k. drop k ws) next)
+    node-from n i (drop 12 ws) (omega arith) ∙ ap (λ xs. decodedNode (take 12 xs)) (drop-drop (12 * i) 12 ws ∙ ap (λ k. drop k ws) next)
 
-kept-by : (d : Dag) (row : List ℕ) → nodeHolds d (nodeOf row) ≡ true → nodeOf row ≡ nodeBy row
-unfolding nodeOf nodeHolds
-kept-by d row e = go (same row (nodeWords (nodeBy row))) e
+holds-by-kind : (d : Dag) (row : List ℕ) → nodeHolds d (decodedNode row) ≡ true → decodedNode row ≡ nodeBy row
+unfolding decodedNode nodeHolds
+holds-by-kind d row e = go (same row (nodeWords (nodeBy row))) e
   where
     go :
         (b : Bool)
@@ -39,9 +39,9 @@ kept-by d row e = go (same row (nodeWords (nodeBy row))) e
     go true k = refl
     go false k = clash k refl
 
-kept-words : (d : Dag) (row : List ℕ) → nodeHolds d (nodeOf row) ≡ true → row ≡ nodeWords (nodeBy row)
-unfolding nodeOf nodeHolds
-kept-words d row e = go (same row (nodeWords (nodeBy row))) refl e
+holds-words : (d : Dag) (row : List ℕ) → nodeHolds d (decodedNode row) ≡ true → row ≡ nodeWords (nodeBy row)
+unfolding decodedNode nodeHolds
+holds-words d row e = go (same row (nodeWords (nodeBy row))) refl e
   where
     go : (b : Bool) → same row (nodeWords (nodeBy row)) ≡ b → nodeHolds d (elim b [ true ↦ nodeBy row | false ↦ Node.unknown ]) ≡ true → row ≡ nodeWords (nodeBy row)
     go true s k = same-eq row (nodeWords (nodeBy row)) s
@@ -51,20 +51,20 @@ module _ (ws : List ℕ) (i : ℕ) (k : dagHolds (dagOf ws) ≡ true) (l : i < l
   pub node-inside : i < 1022
   node-inside = let f : length (dagOf ws .nodes) ≤ 1022 = dag-rules (dagOf ws) k .nodes-few in omega arith
 
-  read-of : nodeAt (dagOf ws) i ≡ nodeOf (rowAt ws (rowOf i))
+  read-of : nodeAt (dagOf ws) i ≡ decodedNode (rowAt ws (rowOf i))
   unfolding nodeAt dagOf
   read-of =
       let n : length (nodesFrom (getD ws 0 0) (drop headWords ws)) ≡ getD ws 0 0 = nodes-count (getD ws 0 0) (drop headWords ws) in
-      node-from (getD ws 0 0) i (drop headWords ws) (omega arith) ∙ ap (λ xs. nodeOf (take 12 xs)) (drop-drop (12 * i) headWords ws)
+      node-from (getD ws 0 0) i (drop headWords ws) (omega arith) ∙ ap (λ xs. decodedNode (take 12 xs)) (drop-drop (12 * i) headWords ws)
 
-  of-kept : nodeHolds (dagOf ws) (nodeOf (rowAt ws (rowOf i))) ≡ true
-  of-kept = subst (λ n. nodeHolds (dagOf ws) n ≡ true) read-of (node-rules (dagOf ws) i k l)
+  decoded-holds : nodeHolds (dagOf ws) (decodedNode (rowAt ws (rowOf i))) ≡ true
+  decoded-holds = subst (λ n. nodeHolds (dagOf ws) n ≡ true) read-of (node-rules (dagOf ws) i k l)
 
   pub node-words : rowAt ws (rowOf i) ≡ nodeWords (nodeBy (rowAt ws (rowOf i)))
-  node-words = kept-words (dagOf ws) (rowAt ws (rowOf i)) of-kept
+  node-words = holds-words (dagOf ws) (rowAt ws (rowOf i)) decoded-holds
 
   pub node-read : nodeAt (dagOf ws) i ≡ nodeBy (rowAt ws (rowOf i))
-  node-read = read-of ∙ kept-by (dagOf ws) (rowAt ws (rowOf i)) of-kept
+  node-read = read-of ∙ holds-by-kind (dagOf ws) (rowAt ws (rowOf i)) decoded-holds
 
   pub node-rule : nodeHolds (dagOf ws) (nodeBy (rowAt ws (rowOf i))) ≡ true
   node-rule = subst (λ n. nodeHolds (dagOf ws) n ≡ true) node-read (node-rules (dagOf ws) i k l)

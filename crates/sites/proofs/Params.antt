@@ -134,8 +134,8 @@ module _ (ws : List ℕ) (at i k w : ℕ) (o : ParamsHold ws at) (l : i < getD w
   the-param : k ≡ getD ws (at + 4 + 2 * i) 0 → w ≡ getD ws (at + 5 + 2 * i) 0 → getD (paramsAt ws at) i (variable 0) ≡ paramOf k w
   the-param e f = params-at ws at (o .size) (o .inside) (o .few) i (variable 0) l ∙ sym (ap₂ paramOf e f)
 
-  pub param-kept : k ≡ getD ws (at + 4 + 2 * i) 0 → w ≡ getD ws (at + 5 + 2 * i) 0 → paramHolds (paramOf k w) ≡ true
-  param-kept e f =
+  pub param-holds : k ≡ getD ws (at + 4 + 2 * i) 0 → w ≡ getD ws (at + 5 + 2 * i) 0 → paramHolds (paramOf k w) ≡ true
+  param-holds e f =
       let n = params-count ws at (o .size) (o .inside) (o .few) in
       subst (λ p. paramHolds p ≡ true) (the-param e f) (all-at paramHolds (paramsAt ws at) i (variable 0) (o .hold) (omega arith))
 

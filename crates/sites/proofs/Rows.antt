@@ -1,4 +1,4 @@
--- What the rules of a kept dag say of a node's row: the node that its words are, by its kind, and the numbers in them. Assumes nothing.
+-- What the rules of a dag say, where they hold, of a node's row: the node that its words are, by its kind, and the numbers in them. Assumes nothing.
 use mathlib.Core.Path.{_≡_, refl, sym, ap, subst, _∙_}
 use mathlib.Core.Logic.{_⊎_, inl, inr}
 use mathlib.Core.Bool.{true}
@@ -9,7 +9,7 @@ use native.Mathlib.Omega.{arith}
 use lib.ListN.{length, getD, List·getD-eq-default}
 use lib.Dec.{ltb, leb, eqb}
 use Rattle.job.specs.Test.{_and_}
-use Rattle.job.specs.Site.{counts, isBuiltin, isOutside, siteTakes}
+use Rattle.job.specs.Site.{builtinCounts, isBuiltin, isOutside, siteTakes}
 use Rattle.job.specs.Syntax.{Param}
 use Rattle.job.specs.Node.{Node, Dag, nodeAt, bodyAt, nodeHolds, paramsHold, isNode}
 use Rattle.job.specs.Words.{dagOf, nodeWords, nodeBy}
@@ -25,7 +25,7 @@ site-below : (s n : ℕ) → siteTakes s n ≡ true → s < 1024
 unfolding siteTakes isBuiltin isOutside
 site-below s n e = go (or-cases _ _ e)
   where
-    go : ((isBuiltin s and eqb n (getD counts s 0)) ≡ true) ⊎ ((isOutside s and leb n 4) ≡ true) → s < 1024
+    go : ((isBuiltin s and eqb n (getD builtinCounts s 0)) ≡ true) ⊎ ((isOutside s and leb n 4) ≡ true) → s < 1024
     go (inl a) = let l = ltb-lt s 7 (and-left _ _ a) in omega arith
     go (inr a) = let l = leb-le s 1023 (and-right (leb 16 s) _ (and-left _ _ a)) in omega arith
 
@@ -39,8 +39,8 @@ module _ (ws : List ℕ) (at kind : ℕ) (o : NodeRow ws at kind) where
   pub node-is : nodeAt (dagOf ws) (o .node) ≡ nodeIn ws at kind
   node-is = node-read ws (o .node) (o .dag) (o .inside) ∙ row-is
 
-  pub node-kept : nodeHolds (dagOf ws) (nodeIn ws at kind) ≡ true
-  node-kept = subst (λ n. nodeHolds (dagOf ws) n ≡ true) row-is (node-rule ws (o .node) (o .dag) (o .inside))
+  pub node-holds : nodeHolds (dagOf ws) (nodeIn ws at kind) ≡ true
+  node-holds = subst (λ n. nodeHolds (dagOf ws) n ≡ true) row-is (node-rule ws (o .node) (o .dag) (o .inside))
 
   -- the word of the row that counts its parameters
   count-word : getD ws (at + 3) 0 ≡ getD (nodeWords (nodeIn ws at kind)) 3 0
@@ -59,9 +59,9 @@ module _ (ws : List ℕ) (at kind : ℕ) (o : NodeRow ws at kind) where
       omega arith
 
   -- the parameters of a call
-  params-kept : getD (nodeWords (nodeIn ws at kind)) 3 0 ≡ length (paramsAt ws at) → paramsHold (paramsAt ws at) ≡ true → ParamsHold ws at
+  params-hold : getD (nodeWords (nodeIn ws at kind)) 3 0 ≡ length (paramsAt ws at) → paramsHold (paramsAt ws at) ≡ true → ParamsHold ws at
   unfolding paramsHold
-  params-kept n k =
+  params-hold n k =
       let c : getD ws (at + 3) 0 ≡ getD (nodeWords (nodeIn ws at kind)) 3 0 = count-word in
       let l : length (paramsAt ws at) ≤ 4 = leb-le (length (paramsAt ws at)) 4 (and-left _ _ k) in
       record { size = o .size; inside = row-inside; few = omega arith; hold = and-right (leb (length (paramsAt ws at)) 4) _ k }
@@ -74,7 +74,7 @@ module _ (ws : List ℕ) (at : ℕ) where
   pub fork-numbers : NodeRow ws at 3 → (word 1 < 65536) × (word 2 < 65536)
   unfolding nodeHolds
   fork-numbers o =
-      let k = node-kept ws at 3 o in
+      let k = node-holds ws at 3 o in
       (node-number ws at 3 o (word 1) (and-left _ _ k), node-number ws at 3 o (word 2) (and-right (isNode (dagOf ws) (word 1)) _ k))
 
   bind-numbers : (kind : ℕ) → NodeRow ws at kind → nodeHolds (dagOf ws) (Node.assign (word 1) (word 2)) ≡ true → (word 1 < 8) × (word 2 < 65536)
@@ -82,16 +82,16 @@ module _ (ws : List ℕ) (at : ℕ) where
   bind-numbers kind o e = (ltb-lt (word 1) 8 (and-left _ _ e), node-number ws at kind o (word 2) (and-right (ltb (word 1) 8) _ e))
 
   pub assign-numbers : NodeRow ws at 4 → (word 1 < 8) × (word 2 < 65536)
-  assign-numbers o = bind-numbers 4 o (node-kept ws at 4 o)
+  assign-numbers o = bind-numbers 4 o (node-holds ws at 4 o)
 
   pub remove-numbers : NodeRow ws at 5 → (word 1 < 8) × (word 2 < 65536)
   unfolding nodeHolds
-  remove-numbers o = bind-numbers 5 o (node-kept ws at 5 o)
+  remove-numbers o = bind-numbers 5 o (node-holds ws at 5 o)
 
   pub where-numbers : NodeRow ws at 6 → (word 1 < 65536) × (word 2 < 65536) × (word 3 < 8)
   unfolding nodeHolds
   where-numbers o =
-      let k = node-kept ws at 6 o in
+      let k = node-holds ws at 6 o in
       let j = and-right (ltb (word 3) 8) _ k in (
         node-number ws at 6 o (word 1) (and-left _ _ j),
         node-number ws at 6 o (word 2) (and-right (isNode (dagOf ws) (word 1)) _ j),
@@ -101,11 +101,11 @@ module _ (ws : List ℕ) (at : ℕ) where
   -- definition call
   call-rule : NodeRow ws at 2 → (ltb (word 1) (length (dagOf ws .bodies)) and paramsHold (paramsAt ws at) and isNode (dagOf ws) (word 2)) ≡ true
   unfolding nodeHolds
-  call-rule o = node-kept ws at 2 o
+  call-rule o = node-holds ws at 2 o
 
   pub call-params : NodeRow ws at 2 → ParamsHold ws at
   unfolding nodeWords
-  call-params o = params-kept ws at 2 o refl (and-left _ _ (and-right (ltb (word 1) (length (dagOf ws .bodies))) _ (call-rule o)))
+  call-params o = params-hold ws at 2 o refl (and-left _ _ (and-right (ltb (word 1) (length (dagOf ws .bodies))) _ (call-rule o)))
 
   call-body : NodeRow ws at 2 → word 1 < length (dagOf ws .bodies)
   call-body o = ltb-lt (word 1) (length (dagOf ws .bodies)) (and-left _ _ (call-rule o))
@@ -126,11 +126,11 @@ module _ (ws : List ℕ) (at : ℕ) where
   -- site call
   site-rule : NodeRow ws at 1 → (siteTakes (word 1) (length (paramsAt ws at)) and paramsHold (paramsAt ws at) and isNode (dagOf ws) (word 2)) ≡ true
   unfolding nodeHolds
-  site-rule o = node-kept ws at 1 o
+  site-rule o = node-holds ws at 1 o
 
   pub site-params : NodeRow ws at 1 → ParamsHold ws at
   unfolding nodeWords
-  site-params o = params-kept ws at 1 o refl (and-left _ _ (and-right (siteTakes (word 1) (length (paramsAt ws at))) _ (site-rule o)))
+  site-params o = params-hold ws at 1 o refl (and-left _ _ (and-right (siteTakes (word 1) (length (paramsAt ws at))) _ (site-rule o)))
 
   pub site-number : NodeRow ws at 1 → word 1 < 1024
   site-number o = site-below (word 1) (length (paramsAt ws at)) (and-left _ _ (site-rule o))

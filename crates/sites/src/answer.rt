@@ -5,7 +5,7 @@ ghost use Rattle.model.specs.Machine.Answer.{holder};
 ghost use Rattle.model.specs.declared.record.Machine.{Machine};
 ghost use Rattle.record.specs.Holds.{Codes};
 ghost use Rattle.sites.specs.Answering.{placeBelow, NextCalled, Answered};
-use crate::number::bits;
+use crate::number::unsigned;
 use model::record::Machine;
 use record::layout::CALLED_STATE;
 use record::layout::READY_STATE;
@@ -49,7 +49,7 @@ pub fn answer(w: &mut [u32; Machine::WORDS], handle: u32, value: i32) -> bool
     if Machine::TOKENS <= p {
         return false;
     }
-    token::set_value(w, p, 1, bits(value));
+    token::set_value(w, p, 1, unsigned(value));
     token::set_state(w, p, READY_STATE, 0);
     order::join(w, p as u32);
     true

@@ -20,7 +20,7 @@ use job::dag::WORDS;
 use job::wide::wide;
 use model::record::Machine;
 use record::cell;
-use record::layout::CELL_PLACES;
+use record::layout::CELL_PLACE_COUNT;
 use record::layout::EMPTY_SLOT;
 use record::layout::VALUE_SLOT;
 use record::token;
@@ -101,7 +101,7 @@ pub fn look_up(w: &[u32; Machine::WORDS], dag: &[u32; WORDS], p: usize, at: usiz
             }
             Argument::Nothing => {
                 return LookUp {
-                    unset: CELL_PLACES,
+                    unset: CELL_PLACE_COUNT,
                     values,
                 };
             }
@@ -109,7 +109,7 @@ pub fn look_up(w: &[u32; Machine::WORDS], dag: &[u32; WORDS], p: usize, at: usiz
         i += 1;
     }
     LookUp {
-        unset: CELL_PLACES,
+        unset: CELL_PLACE_COUNT,
         values,
     }
 }

@@ -14,7 +14,7 @@ pub fn signed(word: u32) -> i32
 }
 
 // A signed number's 32 bits.
-pub fn bits(v: i32) -> u32
+pub fn unsigned(v: i32) -> u32
     ensures { λ r. ⌜ r ≡ Number.unsigned v ⌝ }
 {
     if v < 0 {

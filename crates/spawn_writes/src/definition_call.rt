@@ -10,7 +10,7 @@ ghost use Rattle.model.specs.declared.record.Machine.{Machine};
 ghost use Rattle.model.specs.declared.token.Place.{Place};
 ghost use Rattle.model.specs.declared.token.State.the-variants as states;
 ghost use Rattle.model.specs.declared.token.Token.{Token};
-ghost use Rattle.record.specs.Fields.{taken, withBinds};
+ghost use Rattle.record.specs.Fields.{dequeued, withBinds};
 ghost use Rattle.record.specs.Holds.{Holds};
 ghost use Rattle.record.specs.Words.{placeNumber};
 ghost use Rattle.sites.specs.Row.{ParamsHold, paramsAt, callee};
@@ -35,7 +35,7 @@ use record::token::set_caller;
 use record::token::set_cell;
 use record::token::set_node;
 use record::token::set_state;
-use writes::dag::word;
+use writes::dag::dag_word;
 
 // "A variable's binding is passed on as it is, its cell set or unset": one parameter, by its kind and word, to the formal i.
 fn pass(w: &mut [u32; Machine::WORDS], p: usize, new: usize, i: usize, kind: u32, number: u32)
@@ -57,11 +57,11 @@ fn pass_all(w: &mut [u32; Machine::WORDS], dag: &[u32; WORDS], at: usize, p: usi
     requires { ⌜ (p < 64) × (new < 64) × ParamsHold (now dag) at ⌝ }
     ensures { λ _. ⌜ ((m : Machine) → Holds (now (w .entry)) (put new blankToken m) → (p ≡ new → ⊥) → Holds (now (w .exit)) (put new (withBinds (formalsBound (tokenAt (m .tokens) p .binds) (paramsAt (now (dag .entry)) at)) blankToken) m)) ⌝ }
 {
-    let count = wide(word(dag, at + PARAMETER_COUNT));
+    let count = wide(dag_word(dag, at + PARAMETER_COUNT));
     let mut i: usize = 0;
     while i < count {
-        let kind = word(dag, at + PARAMETER_KIND + 2 * i);
-        let number = word(dag, at + PARAMETER_WORD + 2 * i);
+        let kind = dag_word(dag, at + PARAMETER_KIND + 2 * i);
+        let number = dag_word(dag, at + PARAMETER_WORD + 2 * i);
         pass(w, p, new, i, kind, number);
         i += 1;
     }
@@ -99,7 +99,7 @@ pub fn written(
     next: u32,
 )
     requires { ⌜ (p < 64) × (new < 64) × ParamsHold (now dag) at ⌝ }
-    ensures { λ _. ⌜ ((m : Machine) → Holds (now (w .entry)) m → place < m .queued → (p ≡ new → ⊥) → tokenAt (m .tokens) new ≡ blankToken → Holds (now (w .exit)) (enqueue new (newToken new (callee p (tokenAt (m .tokens) p .cell) (tokenAt (m .tokens) p .binds) root (paramsAt (now (dag .entry)) at)) (put p (withNode next (withState states.Frame (tokenAt (m .tokens) p))) (taken m place))))) ⌝ }
+    ensures { λ _. ⌜ ((m : Machine) → Holds (now (w .entry)) m → place < m .queued → (p ≡ new → ⊥) → tokenAt (m .tokens) new ≡ blankToken → Holds (now (w .exit)) (enqueue new (newToken new (callee p (tokenAt (m .tokens) p .cell) (tokenAt (m .tokens) p .binds) root (paramsAt (now (dag .entry)) at)) (put p (withNode next (withState states.Frame (tokenAt (m .tokens) p))) (dequeued m place))))) ⌝ }
 {
     let home = cell(w, p);
     leave(w, place);

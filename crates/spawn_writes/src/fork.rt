@@ -2,7 +2,7 @@
 ghost use Prim.Native.Nat.{_<_};
 ghost use Rattle.model.specs.Machine.Blank.{tokenAt};
 ghost use Rattle.model.specs.declared.record.Machine.{Machine};
-ghost use Rattle.record.specs.Fields.{taken};
+ghost use Rattle.record.specs.Fields.{dequeued};
 ghost use Rattle.record.specs.Holds.{Holds};
 ghost use Rattle.model.specs.Machine.Step.{withNode, put, enqueue, newToken};
 use model::record::Machine;
@@ -22,7 +22,7 @@ pub fn written(
     right: u32,
 )
     requires { ⌜ (p < 64) × (new < 64) ⌝ }
-    ensures { λ _. ⌜ ((m : Machine) → Holds (now (w .entry)) m → place < m .queued → m .queued < 64 → Holds (now (w .exit)) (enqueue new (enqueue p (newToken new (withNode right (tokenAt (m .tokens) p)) (put p (withNode left (tokenAt (m .tokens) p)) (taken m place)))))) ⌝ }
+    ensures { λ _. ⌜ ((m : Machine) → Holds (now (w .entry)) m → place < m .queued → m .queued < 64 → Holds (now (w .exit)) (enqueue new (enqueue p (newToken new (withNode right (tokenAt (m .tokens) p)) (put p (withNode left (tokenAt (m .tokens) p)) (dequeued m place)))))) ⌝ }
 {
     leave(w, place);
     set_node(w, p, left);

@@ -3,7 +3,7 @@ ghost use mathlib.Core.Path.{_≡_};
 ghost use Prim.Native.Nat.{_<_};
 ghost use Rattle.model.specs.Machine.Blank.{tokenAt};
 ghost use Rattle.model.specs.declared.record.Machine.{Machine};
-ghost use Rattle.record.specs.Fields.{taken};
+ghost use Rattle.record.specs.Fields.{dequeued};
 ghost use Rattle.record.specs.Holds.{Holds};
 ghost use Rattle.model.specs.Machine.Step.{withNode, withBinding, inCell, put, enqueue, newToken, newCell};
 ghost use Rattle.model.specs.declared.token.Slot.the-variants as slots;
@@ -53,7 +53,7 @@ pub fn written(
     right: u32,
 )
     requires { ⌜ (p < 64) × (new < 64) × (c < 32) × (x < 8) ⌝ }
-    ensures { λ _. ⌜ ((m : Machine) → Holds (now (w .entry)) m → place < m .queued → m .queued < 64 → (p ≡ new → ⊥) → Holds (now (w .exit)) (enqueue new (enqueue p (newCell c (unsetCell (tokenAt (m .tokens) p .cell)) (newToken new (inCell c (withNode right (tokenAt (m .tokens) p))) (put p (withNode left (withBinding x (slots.Cell c) (tokenAt (m .tokens) p))) (taken m place))))))) ⌝ }
+    ensures { λ _. ⌜ ((m : Machine) → Holds (now (w .entry)) m → place < m .queued → m .queued < 64 → (p ≡ new → ⊥) → Holds (now (w .exit)) (enqueue new (enqueue p (newCell c (unsetCell (tokenAt (m .tokens) p .cell)) (newToken new (inCell c (withNode right (tokenAt (m .tokens) p))) (put p (withNode left (withBinding x (slots.Cell c) (tokenAt (m .tokens) p))) (dequeued m place))))))) ⌝ }
 {
     let parent = cell(w, p);
     leave(w, place);

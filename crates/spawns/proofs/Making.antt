@@ -10,7 +10,7 @@ use Rattle.job.specs.Words.{dagOf}
 use Rattle.model.specs.Machine.Blank.{blankToken, tokenAt}
 use Rattle.model.specs.Machine.InUse.{tokensUsed}
 use Rattle.model.specs.Machine.Limits.{paper}
-use Rattle.model.specs.Machine.Places.{nextPlace}
+use Rattle.model.specs.Machine.FreePlace.{nextPlace}
 use Rattle.model.specs.Machine.Reply.{accepted}
 use Rattle.model.specs.Machine.State.{isReady}
 use Rattle.model.specs.Machine.Step as Step
@@ -27,7 +27,7 @@ use Rattle.job.proofs.Test.{clash}
 use Rattle.model.proofs.Machine.Marks.{Free}
 use Rattle.model.proofs.Sees.Lockstep.{free-token}
 use Rattle.demand3.proofs.Carried.{Carried, forked-carried, entered-carried, split-carried}
-use Rattle.record.specs.Fields.{taken, unsetCell}
+use Rattle.record.specs.Fields.{dequeued, unsetCell}
 use Rattle.record.specs.Holds.{Holds}
 use Rattle.reach.specs.Marks.{nextOr}
 use Rattle.acts.specs.Acting.{Acting, Taking, Gives, plain}
@@ -79,11 +79,11 @@ module _ (dag : List ℕ) (place p at : ℕ) (m : Machine) where
 
   module _ {ws : List ℕ} {used cells : List Bool} (a : Acting ws used cells dag place p at 3 m) {new last : ℕ} (next : new ≡ nextOr 64 used last) (given : last ≡ m .lasttoken) where
     pub fork-gives : {after : List ℕ} (r : Report) (left right : ℕ) → left ≡ word 1 → right ≡ word 2 → new < 64 → r ≡ plain replies.Done
-        → Holds after (enqueue new (enqueue p (newToken new (withNode right t) (put p (withNode left t) (taken m place)))))
+        → Holds after (enqueue new (enqueue p (newToken new (withNode right t) (put p (withNode left t) (dequeued m place)))))
         → Gives (Step.step paper (dagOf dag) m place) m after (set used new true) cells r
     fork-gives {after} r left right el er l e h₀ =
         let h =
-        subst₂ (λ i j. Holds after (enqueue new (enqueue p (newToken new (withNode j t) (put p (withNode i t) (taken m place)))))) el er h₀ in
+        subst₂ (λ i j. Holds after (enqueue new (enqueue p (newToken new (withNode j t) (put p (withNode i t) (dequeued m place)))))) el er h₀ in
         let y = token-room (a .taking .lawful) next given l in
         let k = a .taking .lawful .marks in
         gives-made _ r (fork-step dag place p at m new (y .0) (y .1) a) e h
@@ -101,7 +101,7 @@ module _ (dag : List ℕ) (place p at : ℕ) (m : Machine) where
     pub call-gives : {after : List ℕ} (r : Report) (root next : ℕ) → root ≡ bodyAt (dagOf dag) (word 1) .root → next ≡ word 2 → new < 64
         → r ≡ plain replies.Done
         → Holds after
-        (enqueue new (newToken new (callee p (t .cell) (t .binds) root (paramsAt dag at)) (put p (withNode next (withState states.Frame t)) (taken m place))))
+        (enqueue new (newToken new (callee p (t .cell) (t .binds) root (paramsAt dag at)) (put p (withNode next (withState states.Frame t)) (dequeued m place))))
         → Gives (Step.step paper (dagOf dag) m place) m after (set used new true) cells r
     call-gives {after} r root k₂ f g l e h =
         let y = token-room (a .taking .lawful) next given l in
@@ -110,7 +110,7 @@ module _ (dag : List ℕ) (place p at : ℕ) (m : Machine) where
         subst₂
         (λ x y.
         Holds after
-        (enqueue new (newToken new (callee p (t .cell) (t .binds) x (paramsAt dag at)) (put p (withNode y (withState states.Frame t)) (taken m place)))))
+        (enqueue new (newToken new (callee p (t .cell) (t .binds) x (paramsAt dag at)) (put p (withNode y (withState states.Frame t)) (dequeued m place)))))
         f g h in
         gives-made _ r (call-step dag place p at m new (y .0) (y .1) a) e own
         (carried-as
@@ -141,7 +141,7 @@ module _ (dag : List ℕ) (place p at : ℕ) (m : Machine) where
       splits x left right =
           enqueue new
           (enqueue p
-          (newCell c (unsetCell (t .cell)) (newToken new (inCell c (withNode right t)) (put p (withNode left (withBinding x (slots.Cell c) t)) (taken m place)))))
+          (newCell c (unsetCell (t .cell)) (newToken new (inCell c (withNode right t)) (put p (withNode left (withBinding x (slots.Cell c) t)) (dequeued m place)))))
 
       pub where-gives : {after : List ℕ} (r : Report) (x left right : ℕ) → x ≡ word 3 → left ≡ word 1 → right ≡ word 2 → new < 64 → c < 32
           → r ≡ plain replies.Done → Holds after (splits x left right)

@@ -4,9 +4,9 @@ ghost use Prim.Native.Nat.{_<_};
 ghost use Rattle.job.specs.Words.{dagOf};
 ghost use Rattle.model.specs.declared.record.Machine.{Machine};
 use acts::report::plain;
-use job::dag::DEFINITIONS;
-use job::dag::NAMED;
-use job::dag::NEXT;
+use job::dag::DEFINITIONS_START;
+use job::dag::NAMED_NUMBER;
+use job::dag::NEXT_NODE;
 use job::dag::WORDS;
 use job::wide::wide;
 use model::record::Machine;
@@ -16,10 +16,10 @@ use model::reply::Report;
 use places::place::next_token;
 use record::count::last_token;
 use spawn_writes::definition_call::written;
-use writes::dag::word;
+use writes::dag::dag_word;
 ghost use Rattle.model.specs.Machine.Limits.{paper};
 ghost use Rattle.model.specs.Machine.Step as Step;
-ghost use Rattle.acts.specs.Acting.{Some, Acting, Gives};
+ghost use Rattle.acts.specs.Acting.{SomeMachine, Acting, Gives};
 
 // "10: .. definition call with 64 tokens in use."
 pub fn definition_call(
@@ -31,16 +31,25 @@ pub fn definition_call(
     p: usize,
     at: usize,
 ) -> Report
-    requires { ⌜ Some (Acting (now w) (now tokens) (now cells) (now dag) place p at 2) ⌝ }
+    requires { ⌜ SomeMachine (Acting (now w) (now tokens) (now cells) (now dag) place p at 2) ⌝ }
     ensures { λ r. ⌜ ((m : Machine) → Acting (now (w .entry)) (now (tokens .entry)) (now (cells .entry)) (now (dag .entry)) place p at 2 m → Gives (Step.step paper (dagOf (now (dag .entry))) m place) m (now (w .exit)) (now (tokens .exit)) (now (cells .entry)) r) ⌝ }
 {
     let new = next_token(tokens, last_token(w));
     if Machine::TOKENS <= new {
         return plain(Reply::Refused(Refusal::TokenLimit));
     }
-    let body = wide(word(dag, at + NAMED));
-    let root = word(dag, DEFINITIONS + 2 * body);
-    written(w, dag, at, place, p, new, root, word(dag, at + NEXT));
+    let body = wide(dag_word(dag, at + NAMED_NUMBER));
+    let root = dag_word(dag, DEFINITIONS_START + 2 * body);
+    written(
+        w,
+        dag,
+        at,
+        place,
+        p,
+        new,
+        root,
+        dag_word(dag, at + NEXT_NODE),
+    );
     tokens[new] = true;
     plain(Reply::Done)
 }

@@ -4,11 +4,11 @@ ghost use Rattle.model.specs.declared.record.Machine.{Machine};
 ghost use Rattle.job.specs.Words.{dagOf};
 ghost use Rattle.model.specs.Machine.Limits.{paper};
 ghost use Rattle.model.specs.Machine.Step as Step;
-ghost use Rattle.acts.specs.Acting.{Some, Acting, Gives};
+ghost use Rattle.acts.specs.Acting.{SomeMachine, Acting, Gives};
 use acts::report::plain;
 use job::dag::BINDER;
-use job::dag::LEFT;
-use job::dag::RIGHT;
+use job::dag::LEFT_NODE;
+use job::dag::RIGHT_NODE;
 use job::dag::WORDS;
 use job::wide::wide;
 use model::record::Machine;
@@ -20,7 +20,7 @@ use places::place::next_token;
 use record::count::last_cell;
 use record::count::last_token;
 use spawn_writes::where_split::written;
-use writes::dag::word;
+use writes::dag::dag_word;
 
 // "10: .. where .. with 64 tokens in use"; "11: where with 32 cells in use."
 pub fn where_split(
@@ -32,7 +32,7 @@ pub fn where_split(
     p: usize,
     at: usize,
 ) -> Report
-    requires { ⌜ Some (Acting (now w) (now tokens) (now cells) (now dag) place p at 6) ⌝ }
+    requires { ⌜ SomeMachine (Acting (now w) (now tokens) (now cells) (now dag) place p at 6) ⌝ }
     ensures { λ r. ⌜ ((m : Machine) → Acting (now (w .entry)) (now (tokens .entry)) (now (cells .entry)) (now (dag .entry)) place p at 6 m → Gives (Step.step paper (dagOf (now (dag .entry))) m place) m (now (w .exit)) (now (tokens .exit)) (now (cells .exit)) r) ⌝ }
 {
     let new = next_token(tokens, last_token(w));
@@ -49,9 +49,9 @@ pub fn where_split(
         p,
         new,
         c,
-        wide(word(dag, at + BINDER)),
-        word(dag, at + LEFT),
-        word(dag, at + RIGHT),
+        wide(dag_word(dag, at + BINDER)),
+        dag_word(dag, at + LEFT_NODE),
+        dag_word(dag, at + RIGHT_NODE),
     );
     tokens[new] = true;
     cells[c] = true;

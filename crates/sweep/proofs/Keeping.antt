@@ -18,7 +18,7 @@ use Rattle.model.proofs.Keeps.Clean.{Clean, finish-clean}
 use Rattle.model.proofs.Machine.Kept.{length-kept, kept-marked, kept-free}
 use Rattle.record.proofs.TokenRow.{put-self}
 use Rattle.record.proofs.CellRow.{put-self as put-cell-self}
-use Rattle.record.specs.Fields.{putCell}
+use Rattle.record.specs.Fields.{storeCell}
 use Rattle.reach.specs.Marks.{Vacant, sweptToken, sweptCell, tokensSwept, cellsSwept}
 use Rattle.reach.proofs.Lists.{any-default}
 
@@ -93,12 +93,12 @@ module _ (m : Machine) (p : ℕ) (used : Bool) where
   unfolding sweptCell
   cell-used e = rw e
 
-  pub cell-blanked : used ≡ false → putCell p blankCell m ≡ sweptCell p used m
+  pub cell-blanked : used ≡ false → storeCell p blankCell m ≡ sweptCell p used m
   unfolding sweptCell
   cell-blanked e = rw e
 
   pub cell-vacant : used ≡ false → cellAt (m .cells) p ≡ blankCell → m ≡ sweptCell p used m
-  cell-vacant e f = sym (put-cell-self m p) ∙ ap (λ k. putCell p k m) f ∙ cell-blanked e
+  cell-vacant e f = sym (put-cell-self m p) ∙ ap (λ k. storeCell p k m) f ∙ cell-blanked e
 
 module _ (marks : List Bool) (m : Machine) where
   pub tokens-first : m ≡ tokensKept marks m 0

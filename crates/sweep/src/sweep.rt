@@ -10,8 +10,8 @@ ghost use Rattle.model.specs.declared.record.Machine.{Machine};
 ghost use Rattle.record.specs.Holds.{Holds};
 ghost use Rattle.reach.specs.Marks.{Vacant, FreeTokens, FreeCells, sweptToken, sweptCell, tokensSwept, cellsSwept};
 use model::record::Machine;
-use reach::tables::mark_cells;
-use reach::tables::mark_tokens;
+use reach::marks::mark_cells;
+use reach::marks::mark_tokens;
 use record::cell::put_unset;
 use record::token::blank;
 

@@ -1,9 +1,9 @@
 // Loads each table of standard input and prints what came back; of the first three also the words of the dag. A table stands behind its
 // length, 4 bytes, the lowest first; there are at most 65,536 bytes in all.
 use job::dag::DEFINITION_COUNT;
-use job::dag::DEFINITIONS;
-use job::dag::HEAD;
-use job::dag::ROW;
+use job::dag::DEFINITIONS_START;
+use job::dag::HEAD_WORDS;
+use job::dag::ROW_WORDS;
 use job::dag::WORDS;
 use libc::STDIN_FILENO;
 use libc::STDOUT_FILENO;
@@ -46,7 +46,7 @@ fn head(dag: &[u32; WORDS]) {
     let definitions = wide(dag[DEFINITION_COUNT]);
     if definitions <= 32 {
         text(b"head");
-        words(dag, 0, DEFINITIONS + 2 * definitions);
+        words(dag, 0, DEFINITIONS_START + 2 * definitions);
     }
 }
 
@@ -57,8 +57,8 @@ fn rows(dag: &[u32; WORDS], nodes: usize)
     let mut i = 0;
     while i < nodes {
         text(b"node");
-        let at = HEAD + ROW * i;
-        words(dag, at, at + ROW);
+        let at = HEAD_WORDS + ROW_WORDS * i;
+        words(dag, at, at + ROW_WORDS);
         i += 1;
     }
 }

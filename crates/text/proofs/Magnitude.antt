@@ -13,7 +13,7 @@ use lib.Signed.{ltZ, nonNeg}
 use mir.Syntax.{w32, w64}
 use mir.Val.{SFits, Fits}
 use borrow.Author.Tests.{ltb-true}
-use Rattle.model.specs.Lines.Line.{ascii, decimal, decimalZ}
+use Rattle.model.specs.Output.Line.{ascii, decimal, signedDecimal}
 use Rattle.text.specs.Written.{Written}
 use Rattle.text.proofs.Writing.{one-written, then-written, written-as}
 
@@ -36,17 +36,17 @@ positive-cast (negsuc n) f e = absurd (let z : _≡_ {A = ℕ} 0 1 = cc in omega
 -- its text
 
 pub negative-written : (v : ℤ) (m at next : ℕ) (before after : List ℕ) → ltZ v (pos 0) ≡ true → m ≡ natAbs v
-    → Written 10 (set before at 45) (at + 1) (decimal m) after next → Written 11 before at (decimalZ v) after next
-unfolding ascii decimalZ
+    → Written 10 (set before at 45) (at + 1) (decimal m) after next → Written 11 before at (signedDecimal v) after next
+unfolding ascii signedDecimal
 negative-written (pos n) m at next before after l e w = absurd (omega (arith, ltb-true n 0 l))
 negative-written (negsuc n) m at next before after l e w =
     written-as (then-written (one-written before at 45) w) (minus n m e) (omega arith)
   where
-    minus : (n m : ℕ) → m ≡ suc n → 45 ∷ decimal m ≡ decimalZ (negsuc n)
+    minus : (n m : ℕ) → m ≡ suc n → 45 ∷ decimal m ≡ signedDecimal (negsuc n)
     minus n m e = ap (λ (k : ℕ). 45 ∷ decimal k) e
 
 pub positive-written : (v : ℤ) (m at next : ℕ) (before after : List ℕ) → ltZ v (pos 0) ≡ false → m ≡ natAbs v
-    → Written 10 before at (decimal m) after next → Written 11 before at (decimalZ v) after next
-unfolding decimalZ
+    → Written 10 before at (decimal m) after next → Written 11 before at (signedDecimal v) after next
+unfolding signedDecimal
 positive-written (pos n) m at next before after l e w = written-as w (ap decimal e) (omega arith)
 positive-written (negsuc n) m at next before after l e w = absurd (let z : _≡_ {A = ℕ} 0 1 = cc in omega arith)

@@ -3,7 +3,7 @@ use crate::word;
 ghost use Prim.Native.Nat.{_+_, _≤_};
 ghost use mathlib.Core.List.{[], _∷_};
 ghost use lib.ListN.{length, take};
-ghost use Rattle.model.specs.Lines.Line.{textOf, lineOf, decimal, call, publish, refused, table, end, limit, short, long};
+ghost use Rattle.model.specs.Output.Line.{textOf, lineOf, decimal, call, publish, refused, table, end, limit, short, long};
 ghost use Rattle.text.specs.Written.{Written};
 
 // No line is longer: `few` of each contract.
@@ -24,7 +24,7 @@ pub fn put_call(
     let to = word::put_word(buffer, at, b"call");
     let to = word::put_number(buffer, to, handle);
     let to = word::put_number(buffer, to, site as u32);
-    let to = word::put_values(buffer, to, values, count);
+    let to = word::put_value_list(buffer, to, values, count);
     word::put_feed(buffer, to)
 }
 

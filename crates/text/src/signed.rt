@@ -3,7 +3,7 @@ use crate::decimal;
 ghost use mathlib.Core.Path.{_≡_};
 ghost use Prim.Native.Nat.{_+_, _≤_};
 ghost use lib.IntN.{natAbs};
-ghost use Rattle.model.specs.Lines.Line.{decimalZ};
+ghost use Rattle.model.specs.Output.Line.{signedDecimal};
 ghost use Rattle.text.specs.Written.{Written};
 
 // (the least number's magnitude is no i32)
@@ -18,7 +18,7 @@ fn magnitude(v: i32) -> u32
 
 pub fn put_signed(buffer: &mut [u8; 80], at: usize, v: i32) -> usize
     requires { ⌜ at + 11 ≤ 80 ⌝ }
-    ensures { λ r. ⌜ Written 11 (now (buffer .entry)) at (decimalZ v) (now (buffer .exit)) r ⌝ }
+    ensures { λ r. ⌜ Written 11 (now (buffer .entry)) at (signedDecimal v) (now (buffer .exit)) r ⌝ }
 {
     if v < 0 {
         buffer[at] = b'-';

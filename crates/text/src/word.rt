@@ -4,8 +4,8 @@ use crate::signed;
 ghost use Prim.Native.Nat.{_+_, _≤_};
 ghost use mathlib.Core.List.{map};
 ghost use lib.ListN.{length, take};
-ghost use Rattle.model.specs.Lines.Line.{decimal, decimalZ};
-ghost use Rattle.text.specs.Written.{Written, spaced, allSpaced, feed};
+ghost use Rattle.model.specs.Output.Line.{decimal, signedDecimal};
+ghost use Rattle.text.specs.Written.{Written, spaced, allSpaced, lineFeed};
 
 pub fn put_word(buffer: &mut [u8; 80], at: usize, word: &[u8]) -> usize
     requires { ⌜ at + length (now word) ≤ 80 ⌝ }
@@ -31,15 +31,15 @@ pub fn put_number(buffer: &mut [u8; 80], at: usize, n: u32) -> usize
 
 pub fn put_value(buffer: &mut [u8; 80], at: usize, v: i32) -> usize
     requires { ⌜ at + 12 ≤ 80 ⌝ }
-    ensures { λ r. ⌜ Written 12 (now (buffer .entry)) at (spaced (decimalZ v)) (now (buffer .exit)) r ⌝ }
+    ensures { λ r. ⌜ Written 12 (now (buffer .entry)) at (spaced (signedDecimal v)) (now (buffer .exit)) r ⌝ }
 {
     buffer[at] = b' ';
     signed::put_signed(buffer, at + 1, v)
 }
 
-pub fn put_values(buffer: &mut [u8; 80], at: usize, values: [i32; 4], count: usize) -> usize
+pub fn put_value_list(buffer: &mut [u8; 80], at: usize, values: [i32; 4], count: usize) -> usize
     requires { ⌜ (at + 48 ≤ 80) × (count ≤ 4) ⌝ }
-    ensures { λ r. ⌜ Written 48 (now (buffer .entry)) at (allSpaced (map decimalZ (take count values))) (now (buffer .exit)) r ⌝ }
+    ensures { λ r. ⌜ Written 48 (now (buffer .entry)) at (allSpaced (map signedDecimal (take count values))) (now (buffer .exit)) r ⌝ }
 {
     let mut to = at;
     let mut i = 0;
@@ -52,7 +52,7 @@ pub fn put_values(buffer: &mut [u8; 80], at: usize, values: [i32; 4], count: usi
 
 pub fn put_feed(buffer: &mut [u8; 80], at: usize) -> usize
     requires { ⌜ at + 1 ≤ 80 ⌝ }
-    ensures { λ r. ⌜ Written 1 (now (buffer .entry)) at feed (now (buffer .exit)) r ⌝ }
+    ensures { λ r. ⌜ Written 1 (now (buffer .entry)) at lineFeed (now (buffer .exit)) r ⌝ }
 {
     buffer[at] = b'\n';
     at + 1

@@ -15,7 +15,7 @@ use Rattle.model.specs.declared.record.Machine.{Machine}
 use Rattle.model.specs.declared.reply.Outcome.{Outcome}
 use Rattle.model.specs.declared.reply.Report.{Report}
 use Rattle.record.specs.Holds.{Codes}
-use Rattle.acts.specs.Acting.{Some, Lawful, Ready, Gives}
+use Rattle.acts.specs.Acting.{SomeMachine, Lawful, QueueHasToken, Gives}
 use Rattle.turns.specs.Turn.{turnOutcome, Turning}
 use Rattle.turns.proofs.TurnCases.{turn-empty, turn-ready}
 
@@ -39,7 +39,7 @@ module _ (ws dag rest : List ℕ) (at : ℕ) (used cells : List Bool) (q : ℕ) 
 
   -- with the queue empty a record is delivered
   module _ (e : q ≡ 0) where
-    pub turn-there : Some (Turning ws used cells dag rest at) → at + 8 ≤ length rest
+    pub turn-there : SomeMachine (Turning ws used cells dag rest at) → at + 8 ≤ length rest
     turn-there s = s .is .there (sym (queued-is (s .is)) ∙ e)
 
     pub turn-answers : (after : List ℕ) (r : Report)
@@ -51,14 +51,14 @@ module _ (ws dag rest : List ℕ) (at : ℕ) (used cells : List Bool) (q : ℕ) 
 
   -- and else the token at place 0 acts
   module _ (f : q ≡ 0 → ⊥) where
-    ready : {m : Machine} → Turning ws used cells dag rest at m → Ready ws used cells dag 0 m
+    ready : {m : Machine} → Turning ws used cells dag rest at m → QueueHasToken ws used cells dag 0 m
     ready t = record { lawful = t .lawful; queued = (let e = queued-is t in omega arith) }
 
-    pub turn-some : Some (Turning ws used cells dag rest at) → Some (Ready ws used cells dag 0)
+    pub turn-some : SomeMachine (Turning ws used cells dag rest at) → SomeMachine (QueueHasToken ws used cells dag 0)
     turn-some s = record { machine = s .machine; is = ready (s .is) }
 
     pub turn-steps : (after : List ℕ) (used′ cells′ : List Bool) (r : Report)
-        → ((m : Machine) → Ready ws used cells dag 0 m → Gives (Step.step paper (dagOf dag) m 0) m after used′ cells′ r)
+        → ((m : Machine) → QueueHasToken ws used cells dag 0 m → Gives (Step.step paper (dagOf dag) m 0) m after used′ cells′ r)
         → (m : Machine) → Turning ws used cells dag rest at m → Gives (turnOutcome (dagOf dag) m rest at) m after used′ cells′ r
     turn-steps after used′ cells′ r gives m t =
         subst (λ (o : Outcome). Gives o m after used′ cells′ r) (turn-ready (dagOf dag) m rest at _ (λ z. f (queued-is t ∙ z)) refl)

@@ -10,7 +10,7 @@ ghost use Rattle.model.specs.Machine.Limits.{paper};
 ghost use Rattle.job.specs.Number as Number;
 ghost use Rattle.job.specs.Number.{number};
 ghost use Rattle.model.specs.declared.record.Machine.{Machine};
-ghost use Rattle.acts.specs.Acting.{Some, Lawful, Gives};
+ghost use Rattle.acts.specs.Acting.{SomeMachine, Lawful, Gives};
 ghost use Rattle.turns.specs.Turn.{Turning, isLast, isLimit, isOver, turnOutcome, nextAt, nextSteps};
 use crate::refused::is_refused;
 use job::dag::WORDS;
@@ -73,7 +73,7 @@ pub fn turn(
     rest: &[u8],
     at: usize,
 ) -> Report
-    requires { ⌜ Some (Turning (now w) (now tokens) (now cells) (now dag) (now rest) at) ⌝ }
+    requires { ⌜ SomeMachine (Turning (now w) (now tokens) (now cells) (now dag) (now rest) at) ⌝ }
     ensures { λ r. ⌜ ((m : Machine) → Turning (now (w .entry)) (now (tokens .entry)) (now (cells .entry)) (now (dag .entry)) (now (rest .entry)) at m → Gives (turnOutcome (dagOf (now (dag .entry))) m (now (rest .entry)) at) m (now (w .exit)) (now (tokens .exit)) (now (cells .exit)) r) ⌝ }
 {
     if order::queued(w) == 0 {

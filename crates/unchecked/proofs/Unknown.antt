@@ -17,7 +17,7 @@ use Rattle.model.specs.declared.token.State.{State}
 use Rattle.model.specs.declared.token.State.the-variants as states
 use Rattle.model.specs.declared.token.Token.{Token}
 use Rattle.job.proofs.Test.{and-right, all-head, all-tail, ltb-lt, ne-eqb}
-use Rattle.model.proofs.Machine.Rules.{rules-kept}
+use Rattle.model.proofs.Machine.Rules.{each-rule-holds}
 
 not-open : (h calls : ℕ) (s : State) → stateInRange 32 calls s ≡ true → calls ≤ h → any (eqb h) (handleOf s) ≡ false
 unfolding any handleOf stateInRange _or_
@@ -40,4 +40,4 @@ module _ (d : Dag) (calls h : ℕ) (l : calls ≤ h) where
       (none-open (suc i) ts (all-tail (tokenInRange paper d calls) t ts e))
 
 pub unknown-handle : (d : Dag) (m : Machine) (h : ℕ) → rulesHold paper d m ≡ true → m .calls ≤ h → holder h 0 (m .tokens) ≡ places.Nowhere
-unknown-handle d m h rules l = none-open d (m .calls) h l 0 (m .tokens) (rules-kept paper d m rules .tokens)
+unknown-handle d m h rules l = none-open d (m .calls) h l 0 (m .tokens) (each-rule-holds paper d m rules .tokens)

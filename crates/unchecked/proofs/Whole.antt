@@ -33,11 +33,11 @@ use Rattle.sites.specs.Answering.{answeredBy, Answered}
 use Rattle.sites.specs.Row.{rowOf}
 use Rattle.sites.proofs.Holders.{answered-moves, answered-refuses}
 use Rattle.unchecked.proofs.Unknown.{unknown-handle}
-use Rattle.acts.specs.Acting.{Lawful, Ready, Taking, Acting, Gives, plain}
+use Rattle.acts.specs.Acting.{Lawful, QueueHasToken, Taking, Acting, Gives, plain}
 use Rattle.acts.proofs.Outcomes.{gives-whole, gives-refused}
 
 -- the token that acts
-module _ {ws dag : List ℕ} {used cells : List Bool} {place : ℕ} {m : Machine} (r : Ready ws used cells dag place m) where
+module _ {ws dag : List ℕ} {used cells : List Bool} {place : ℕ} {m : Machine} (r : QueueHasToken ws used cells dag place m) where
   pub place-inside : place < 64
   place-inside =
       let f = queue-fits (r .lawful .holds) in

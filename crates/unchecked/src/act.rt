@@ -4,7 +4,7 @@ ghost use Rattle.job.specs.Words.{dagOf};
 ghost use Rattle.model.specs.Machine.Limits.{paper};
 ghost use Rattle.model.specs.Machine.Step as Step;
 ghost use Rattle.model.specs.declared.record.Machine.{Machine};
-ghost use Rattle.acts.specs.Acting.{Some, Acting, Gives};
+ghost use Rattle.acts.specs.Acting.{SomeMachine, Acting, Gives};
 use acts::choke::choke_cell;
 use acts::end::publish;
 use acts::end::stop;
@@ -28,7 +28,7 @@ use returns::return_value::return_value;
 use spawns::definition_call::definition_call;
 use spawns::fork::fork;
 use spawns::where_split::where_split;
-use writes::dag::word;
+use writes::dag::dag_word;
 
 // The token at p acts at its node, whose row begins at the word `at`.
 pub fn act(
@@ -40,10 +40,10 @@ pub fn act(
     p: usize,
     at: usize,
 ) -> Report
-    requires { ⌜ Some (Acting (now w) (now tokens) (now cells) (now dag) place p at (getD (now dag) at 0)) ⌝ }
+    requires { ⌜ SomeMachine (Acting (now w) (now tokens) (now cells) (now dag) place p at (getD (now dag) at 0)) ⌝ }
     ensures { λ r. ⌜ ((m : Machine) → Acting (now (w .entry)) (now (tokens .entry)) (now (cells .entry)) (now (dag .entry)) place p at (getD (now (dag .entry)) at 0) m → Gives (Step.step paper (dagOf (now (dag .entry))) m place) m (now (w .exit)) (now (tokens .exit)) (now (cells .exit)) r) ⌝ }
 {
-    match word(dag, at) {
+    match dag_word(dag, at) {
         STOP => stop(w, tokens, cells, dag, place, p, at),
         SITE => site_call(w, tokens, cells, dag, place, p, at),
         CALL => definition_call(w, tokens, cells, dag, place, p, at),

@@ -13,13 +13,13 @@ use model::record::Machine;
 use model::reply::Refusal;
 use model::reply::Reply;
 use model::reply::Report;
-use record::count::calls;
+use record::count::calls_made;
 
 // An answer's token is in use before and after it, and names what it named: the marks stay. A handle that no call was given is not looked for.
 pub fn answer(w: &mut [u32; Machine::WORDS], handle: u32, value: i32) -> Report
     ensures { λ r. ⌜ ((m : Machine) (dag : List ℕ) (used cells : List Bool) → Lawful (now (w .entry)) used cells dag m → Gives (Answer.answer paper (dagOf dag) m handle value) m (now (w .exit)) used cells r) ⌝ }
 {
-    if calls(w) <= handle {
+    if calls_made(w) <= handle {
         return plain(Reply::Refused(Refusal::NotOpen));
     }
     if sites::answer::answer(w, handle, value) {

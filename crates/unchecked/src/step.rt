@@ -3,10 +3,10 @@ ghost use Rattle.job.specs.Words.{dagOf};
 ghost use Rattle.model.specs.Machine.Limits.{paper};
 ghost use Rattle.model.specs.Machine.Step as Step;
 ghost use Rattle.model.specs.declared.record.Machine.{Machine};
-ghost use Rattle.acts.specs.Acting.{Some, Ready, Gives};
+ghost use Rattle.acts.specs.Acting.{SomeMachine, QueueHasToken, Gives};
 use crate::act::act;
-use job::dag::HEAD;
-use job::dag::ROW;
+use job::dag::HEAD_WORDS;
+use job::dag::ROW_WORDS;
 use job::dag::WORDS;
 use job::wide::wide;
 use model::record::Machine;
@@ -22,10 +22,10 @@ pub fn step(
     dag: &[u32; WORDS],
     place: usize,
 ) -> Report
-    requires { ⌜ Some (Ready (now w) (now tokens) (now cells) (now dag) place) ⌝ }
-    ensures { λ r. ⌜ ((m : Machine) → Ready (now (w .entry)) (now (tokens .entry)) (now (cells .entry)) (now (dag .entry)) place m → Gives (Step.step paper (dagOf (now (dag .entry))) m place) m (now (w .exit)) (now (tokens .exit)) (now (cells .exit)) r) ⌝ }
+    requires { ⌜ SomeMachine (QueueHasToken (now w) (now tokens) (now cells) (now dag) place) ⌝ }
+    ensures { λ r. ⌜ ((m : Machine) → QueueHasToken (now (w .entry)) (now (tokens .entry)) (now (cells .entry)) (now (dag .entry)) place m → Gives (Step.step paper (dagOf (now (dag .entry))) m place) m (now (w .exit)) (now (tokens .exit)) (now (cells .exit)) r) ⌝ }
 {
     let p = wide(queue_name(w, place));
-    let at = HEAD + ROW * wide(node(w, p));
+    let at = HEAD_WORDS + ROW_WORDS * wide(node(w, p));
     act(w, tokens, cells, dag, place, p, at)
 }

@@ -13,14 +13,14 @@ use Rattle.model.specs.declared.record.Machine.{Machine}
 use Rattle.model.proofs.Sees.Others.{token-same, token-other}
 use Rattle.model.specs.declared.token.Slot.{Slot}
 use Rattle.model.specs.declared.token.Bind.{Bind}
-use Rattle.record.specs.Fields.{taken, withBinds}
+use Rattle.record.specs.Fields.{dequeued, withBinds}
 use Rattle.record.specs.Holds.{Holds}
 use Rattle.orders.proofs.Padded.{length-without}
 use Rattle.record.proofs.Shape.{shaped}
 use Rattle.record.proofs.TokenRow.{put-self}
 
 -- how long the queue is
-pub queued-taken : {ws : List ℕ} {m : Machine} (place : ℕ) → Holds ws m → place < m .queued → suc (taken m place .queued) ≡ m .queued
+pub queued-taken : {ws : List ℕ} {m : Machine} (place : ℕ) → Holds ws m → place < m .queued → suc (dequeued m place .queued) ≡ m .queued
 unfolding withOrders
 queued-taken {ws} {m} place h l = let e = h .ordered .queued in length-without place (queueOf m) (omega arith) ∙ sym e
 
@@ -28,7 +28,7 @@ pub queued-joined : {ws : List ℕ} {m : Machine} (p : ℕ) → Holds ws m → e
 unfolding enqueue withOrders
 queued-joined {ws} {m} p h = let e = h .ordered .queued in omega (arith, length-append (queueOf m) (p ∷ []))
 
-pub waiting-taken : {ws : List ℕ} {m : Machine} (place : ℕ) → Holds ws m → taken m place .waiting ≡ m .waiting
+pub waiting-taken : {ws : List ℕ} {m : Machine} (place : ℕ) → Holds ws m → dequeued m place .waiting ≡ m .waiting
 unfolding withOrders
 waiting-taken place h = sym (h .ordered .waiting)
 

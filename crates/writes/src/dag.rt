@@ -4,7 +4,7 @@ ghost use Prim.Native.Nat.{_<_};
 ghost use lib.ListN.{getD};
 use job::dag::WORDS;
 
-pub fn word(dag: &[u32; WORDS], index: usize) -> u32
+pub fn dag_word(dag: &[u32; WORDS], index: usize) -> u32
     requires { ⌜ index < 12331 ⌝ }
     ensures { λ r. ⌜ r ≡ getD (now (dag .entry)) index 0 ⌝ }
 {

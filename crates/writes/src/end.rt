@@ -1,7 +1,7 @@
 // Stop, publish, a silent site: "the token ends".
 ghost use Prim.Native.Nat.{_<_};
 ghost use Rattle.model.specs.declared.record.Machine.{Machine};
-ghost use Rattle.record.specs.Fields.{taken};
+ghost use Rattle.record.specs.Fields.{dequeued};
 ghost use Rattle.record.specs.Holds.{Holds};
 ghost use Rattle.model.specs.Machine.Blank.{blankToken};
 ghost use Rattle.model.specs.Machine.Step.{put};
@@ -11,7 +11,7 @@ use record::token::blank;
 
 pub fn written(w: &mut [u32; Machine::WORDS], place: usize, p: usize)
     requires { ⌜ p < 64 ⌝ }
-    ensures { λ _. ⌜ ((m : Machine) → Holds (now (w .entry)) m → place < m .queued → Holds (now (w .exit)) (put p blankToken (taken m place))) ⌝ }
+    ensures { λ _. ⌜ ((m : Machine) → Holds (now (w .entry)) m → place < m .queued → Holds (now (w .exit)) (put p blankToken (dequeued m place))) ⌝ }
 {
     leave(w, place);
     blank(w, p);

@@ -3,7 +3,7 @@ ghost use mathlib.Core.Path.{_≡_};
 ghost use Prim.Native.Nat.{_<_};
 ghost use Rattle.model.specs.Machine.Blank.{tokenAt};
 ghost use Rattle.model.specs.declared.record.Machine.{Machine};
-ghost use Rattle.record.specs.Fields.{taken};
+ghost use Rattle.record.specs.Fields.{dequeued};
 ghost use Rattle.record.specs.Holds.{Holds};
 ghost use Rattle.model.specs.Machine.Step.{withNode, withBinding, put, enqueue};
 ghost use Rattle.model.specs.declared.token.Slot.{Slot};
@@ -25,7 +25,7 @@ pub fn written(
     next: u32,
 )
     requires { ⌜ (p < 64) × (x < 8) ⌝ }
-    ensures { λ _. ⌜ ((m : Machine) (s : Slot) → Holds (now (w .entry)) m → place < m .queued → slotKind s ≡ kind → slotNumber s ≡ number → Holds (now (w .exit)) (enqueue p (put p (withNode next (withBinding x s (tokenAt (m .tokens) p))) (taken m place)))) ⌝ }
+    ensures { λ _. ⌜ ((m : Machine) (s : Slot) → Holds (now (w .entry)) m → place < m .queued → slotKind s ≡ kind → slotNumber s ≡ number → Holds (now (w .exit)) (enqueue p (put p (withNode next (withBinding x s (tokenAt (m .tokens) p))) (dequeued m place)))) ⌝ }
 {
     leave(w, place);
     set_bind(w, p, x, kind, number);

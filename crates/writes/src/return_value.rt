@@ -2,7 +2,7 @@
 ghost use Prim.Native.Nat.{_<_};
 ghost use Rattle.model.specs.Machine.Blank.{tokenAt};
 ghost use Rattle.model.specs.declared.record.Machine.{Machine};
-ghost use Rattle.record.specs.Fields.{taken};
+ghost use Rattle.record.specs.Fields.{dequeued};
 ghost use Rattle.record.specs.Holds.{Holds};
 ghost use Rattle.model.specs.Machine.Step.{withState, withValue, put, enqueue};
 ghost use Rattle.model.specs.declared.token.State.the-variants as states;
@@ -19,7 +19,7 @@ use record::token::value_kind;
 // The token at p becomes the frame at f, with its own value.
 pub fn written(w: &mut [u32; Machine::WORDS], place: usize, p: usize, f: usize)
     requires { ⌜ (p < 64) × (f < 64) ⌝ }
-    ensures { λ _. ⌜ ((m : Machine) → Holds (now (w .entry)) m → place < m .queued → Holds (now (w .exit)) (enqueue p (put p (withState states.Ready (withValue (tokenAt (m .tokens) p .value) (tokenAt (m .tokens) f))) (taken m place)))) ⌝ }
+    ensures { λ _. ⌜ ((m : Machine) → Holds (now (w .entry)) m → place < m .queued → Holds (now (w .exit)) (enqueue p (put p (withState states.Ready (withValue (tokenAt (m .tokens) p .value) (tokenAt (m .tokens) f))) (dequeued m place)))) ⌝ }
 {
     let has = value_kind(w, p);
     let number = value(w, p);

@@ -7,11 +7,11 @@ ghost use Rattle.model.specs.Machine.Step.{withNode, withState, withValue, put,
 ghost use Rattle.model.specs.declared.record.Machine.{Machine};
 ghost use Rattle.model.specs.declared.token.Held.{Held};
 ghost use Rattle.model.specs.declared.token.State.the-variants as states;
-ghost use Rattle.record.specs.Fields.{taken, delayed};
+ghost use Rattle.record.specs.Fields.{dequeued, delayed};
 ghost use Rattle.record.specs.Holds.{Holds};
 ghost use Rattle.record.specs.Words.{heldKind, heldNumber};
 use model::record::Machine;
-use record::count::set_calls;
+use record::count::set_calls_made;
 use record::layout::CALLED_STATE;
 use record::layout::WAITING_STATE;
 use record::order::delay;
@@ -20,12 +20,12 @@ use record::order::leave;
 use record::token::set_node;
 use record::token::set_state;
 use record::token::set_value;
-use sites::number::bits;
+use sites::number::unsigned;
 
 // "The token waits there": at the cell c.
 pub fn wait(w: &mut [u32; Machine::WORDS], place: usize, p: usize, c: u32)
     requires { ⌜ p < 64 ⌝ }
-    ensures { λ _. ⌜ ((m : Machine) → Holds (now (w .entry)) m → place < m .queued → m .waiting < 64 → Holds (now (w .exit)) (delayed p (put p (withState (states.Waiting c) (tokenAt (m .tokens) p)) (taken m place)))) ⌝ }
+    ensures { λ _. ⌜ ((m : Machine) → Holds (now (w .entry)) m → place < m .queued → m .waiting < 64 → Holds (now (w .exit)) (delayed p (put p (withState (states.Waiting c) (tokenAt (m .tokens) p)) (dequeued m place)))) ⌝ }
 {
     leave(w, place);
     set_state(w, p, WAITING_STATE, c);
@@ -35,7 +35,7 @@ pub fn wait(w: &mut [u32; Machine::WORDS], place: usize, p: usize, c: u32)
 // "A built-in replies and the token goes on", with the value that has these 32 bits.
 pub fn reply(w: &mut [u32; Machine::WORDS], place: usize, p: usize, bits: u32, next: u32)
     requires { ⌜ p < 64 ⌝ }
-    ensures { λ _. ⌜ ((m : Machine) (v : Held) → Holds (now (w .entry)) m → place < m .queued → heldKind v ≡ 1 → heldNumber v ≡ bits → Holds (now (w .exit)) (enqueue p (put p (withNode next (withValue v (tokenAt (m .tokens) p))) (taken m place)))) ⌝ }
+    ensures { λ _. ⌜ ((m : Machine) (v : Held) → Holds (now (w .entry)) m → place < m .queued → heldKind v ≡ 1 → heldNumber v ≡ bits → Holds (now (w .exit)) (enqueue p (put p (withNode next (withValue v (tokenAt (m .tokens) p))) (dequeued m place)))) ⌝ }
 {
     leave(w, place);
     set_value(w, p, 1, bits);
@@ -46,10 +46,10 @@ pub fn reply(w: &mut [u32; Machine::WORDS], place: usize, p: usize, bits: u32, n
 // "The token is called out at the next node", under a handle.
 pub fn call_out(w: &mut [u32; Machine::WORDS], place: usize, p: usize, handle: u32, next: u32)
     requires { ⌜ (p < 64) × (handle < 1000000) ⌝ }
-    ensures { λ _. ⌜ ((m : Machine) → Holds (now (w .entry)) m → place < m .queued → Holds (now (w .exit)) (withCounts (suc handle) (m .lasttoken) (m .lastcell) (put p (withNode next (withState (states.Called handle) (tokenAt (m .tokens) p))) (taken m place)))) ⌝ }
+    ensures { λ _. ⌜ ((m : Machine) → Holds (now (w .entry)) m → place < m .queued → Holds (now (w .exit)) (withCounts (suc handle) (m .lasttoken) (m .lastcell) (put p (withNode next (withState (states.Called handle) (tokenAt (m .tokens) p))) (dequeued m place)))) ⌝ }
 {
     leave(w, place);
     set_state(w, p, CALLED_STATE, handle);
     set_node(w, p, next);
-    set_calls(w, handle + 1);
+    set_calls_made(w, handle + 1);
 }

@@ -30,7 +30,7 @@ use Rattle.model.proofs.Machine.Kept.{length-kept, kept-marked, kept-ca
 use Rattle.model.proofs.Sees.Others.{token-same, token-other}
 use Rattle.model.proofs.Keeps.Lines.{Names, Lines}
 use Rattle.model.proofs.Keeps.Orders.{Orders}
-use Rattle.model.proofs.Keeps.Tables.{Tables, TokenKept, Idle, idle-kept, blank-kept, unbound-fit, tables-write, tables-kept}
+use Rattle.model.proofs.Keeps.Tables.{Tables, TokenHolds, Idle, idle-holds, blank-holds, unbound-fit, tables-write, tables-swept}
 
 pub record Facts (lim : Limits) (d : Dag) (m : Machine) : Type 0 where
   pub tokenPlaces : length (m .tokens) ≡ lim .tokenPlaces
@@ -105,7 +105,7 @@ module _ (lim : Limits) (d : Dag) (some : 0 < lim .tokenPlaces) (cell : 0 < lim 
   blank-tables =
       record {
         tokens =
-            λ p. subst (TokenKept d (begins .cells) 0) (sym (blank-at (lim .tokenPlaces) p blankToken)) (blank-kept (omega arith));
+            λ p. subst (TokenHolds d (begins .cells) 0) (sym (blank-at (lim .tokenPlaces) p blankToken)) (blank-holds (omega arith));
         cells = λ c. ap (λ (k : Cell). heldInRange (k .value)) (blank-at (lim .cellPlaces) c blankCell);
         apart =
             λ p q h e f.
@@ -128,7 +128,7 @@ module _ (lim : Limits) (d : Dag) (some : 0 < lim .tokenPlaces) (cell : 0 < lim 
         orders = start-orders;
         lines = start-lines;
         tables =
-            tables-write blank-tables 0 (startToken (d .goal)) (let z = size in omega arith) (idle-kept goal refl unbound-fit Idle.ready) Idle.ready;
+            tables-write blank-tables 0 (startToken (d .goal)) (let z = size in omega arith) (idle-holds goal refl unbound-fit Idle.ready) Idle.ready;
       }
 
 -- live tokens are in use
@@ -191,5 +191,5 @@ module _ {lim : Limits} {d : Dag} {m : Machine} (F : Facts lim d m) (live : Live
               ready = line-stays isReady refl ready-live (F .queue) (F .lines .ready);
               waiting = line-stays isWaiting refl waiting-live (F .waits) (F .lines .waiting);
             };
-        tables = tables-kept (F .tables) some used (cellsUsed m);
+        tables = tables-swept (F .tables) some used (cellsUsed m);
       }

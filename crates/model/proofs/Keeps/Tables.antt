@@ -85,7 +85,7 @@ pub record Awaits (d : Dag) (cs : List Cell) (t : Token) (c : ℕ) : Type 0 wher
   pub inside : c < length cs
   pub unset : cellAt cs c .value ≡ helds.Nothing
 
-pub record TokenKept (d : Dag) (cs : List Cell) (calls : ℕ) (t : Token) : Type 0 where
+pub record TokenHolds (d : Dag) (cs : List Cell) (calls : ℕ) (t : Token) : Type 0 where
   pub node : t .node < length (d .nodes)
   pub value : heldInRange (t .value) ≡ true
   pub binds : BindsFit (t .binds)
@@ -97,7 +97,7 @@ abbrev pub Apart : List Token → Type 0
 Apart ts = (p q h : ℕ) → tokenAt ts p .state ≡ states.Called h → tokenAt ts q .state ≡ states.Called h → p ≡ q
 
 pub record Tables (d : Dag) (ts : List Token) (cs : List Cell) (calls : ℕ) : Type 0 where
-  pub tokens : (p : ℕ) → TokenKept d cs calls (tokenAt ts p)
+  pub tokens : (p : ℕ) → TokenHolds d cs calls (tokenAt ts p)
   pub cells : (c : ℕ) → heldInRange (cellAt cs c .value) ≡ true
   pub apart : Apart ts
 
@@ -118,13 +118,13 @@ not-called ready e = let z : _≡_ {A = ℕ} 0 1 = cc in absurd (omega arith)
 not-called frame e = let z : _≡_ {A = ℕ} 0 1 = cc in absurd (omega arith)
 
 module _ {d : Dag} {cs : List Cell} {calls : ℕ} where
-  pub idle-kept : {t : Token} → t .node < length (d .nodes) → heldInRange (t .value) ≡ true → BindsFit (t .binds) → Idle (t .state)
-      → TokenKept d cs calls t
-  idle-kept n v b i = record { node = n; value = v; binds = b; waits = λ c e. not-waiting i e; called = λ h e. not-called i e }
+  pub idle-holds : {t : Token} → t .node < length (d .nodes) → heldInRange (t .value) ≡ true → BindsFit (t .binds) → Idle (t .state)
+      → TokenHolds d cs calls t
+  idle-holds n v b i = record { node = n; value = v; binds = b; waits = λ c e. not-waiting i e; called = λ h e. not-called i e }
 
-  pub blank-kept : 0 < length (d .nodes) → TokenKept d cs calls blankToken
+  pub blank-holds : 0 < length (d .nodes) → TokenHolds d cs calls blankToken
   unfolding heldInRange
-  blank-kept l = idle-kept l refl unbound-fit blank
+  blank-holds l = idle-holds l refl unbound-fit blank
 
 -- the token's own fields but its state, the length of the cells and the cell's value are what matters
 pub awaits-as : {d : Dag} {cs cs′ : List Cell} {t u : Token} {c : ℕ} → u .node ≡ t .node → u .binds ≡ t .binds → length cs′ ≡ length cs
@@ -145,7 +145,7 @@ awaits-as {d} n b l v k =
 -- cells whose unset ones stay unset
 pub token-cells : {d : Dag} {cs cs′ : List Cell} {calls calls′ : ℕ} {t : Token} → length cs′ ≡ length cs → calls ≤ calls′
     → ((c : ℕ) → t .state ≡ states.Waiting c → c < length cs → cellAt cs c .value ≡ helds.Nothing → cellAt cs′ c .value ≡ helds.Nothing)
-    → TokenKept d cs calls t → TokenKept d cs′ calls′ t
+    → TokenHolds d cs calls t → TokenHolds d cs′ calls′ t
 token-cells l k f t =
     record {
       node = t .node;
@@ -185,31 +185,31 @@ module _ {d : Dag} {ts : List Token} {cs : List Cell} {calls : ℕ} (T : Tables 
         go (no a) (yes b) x y = absurd (f h r (here q b y) a (there r a x))
         go (no a) (no b) x y = T .apart r q h (there r a x) (there q b y)
 
-    pub tables-write : TokenKept d cs calls u → Idle (u .state) → Tables d (set ts p u) cs calls
+    pub tables-write : TokenHolds d cs calls u → Idle (u .state) → Tables d (set ts p u) cs calls
     unfolding Alone
     tables-write k s =
         record {
-          tokens = λ r. at-written (TokenKept d cs calls) r k (λ n. T .tokens r);
+          tokens = λ r. at-written (TokenHolds d cs calls) r k (λ n. T .tokens r);
           cells = T .cells;
           apart = written-apart (λ h q e n f. not-called s e);
         }
 
-    pub tables-wait : (c : ℕ) → u .state ≡ states.Waiting c → TokenKept d cs calls u → Tables d (set ts p u) cs calls
+    pub tables-wait : (c : ℕ) → u .state ≡ states.Waiting c → TokenHolds d cs calls u → Tables d (set ts p u) cs calls
     unfolding Alone
     tables-wait c s k =
         record {
-          tokens = λ r. at-written (TokenKept d cs calls) r k (λ n. T .tokens r);
+          tokens = λ r. at-written (TokenHolds d cs calls) r k (λ n. T .tokens r);
           cells = T .cells;
           apart = written-apart (λ h q e n f. let z : _≡_ {A = ℕ} 0 1 = cc in absurd (omega arith));
         }
 
     -- "an outside call takes the next handle"
-    pub tables-call : u .state ≡ states.Called calls → TokenKept d cs (suc calls) u → Tables d (set ts p u) cs (suc calls)
+    pub tables-call : u .state ≡ states.Called calls → TokenHolds d cs (suc calls) u → Tables d (set ts p u) cs (suc calls)
     unfolding Alone
     tables-call s k =
         record {
           tokens =
-              λ r. at-written (TokenKept d cs (suc calls)) r k (λ n. token-cells refl (omega arith) (λ c e l v. v) (T .tokens r));
+              λ r. at-written (TokenHolds d cs (suc calls)) r k (λ n. token-cells refl (omega arith) (λ c e l v. v) (T .tokens r));
           cells = T .cells;
           apart =
               written-apart
@@ -234,15 +234,15 @@ module _ {d : Dag} {ts : List Token} {cs : List Cell} {calls : ℕ} (T : Tables 
           go (no n) = subst P (sym (cell-other cs c b k n)) y
 
   -- blanking
-  pub tables-kept : 0 < length (d .nodes) → (used cells : List Bool) → Tables d (restBlanked blankToken used ts) (restBlanked blankCell cells cs) calls
+  pub tables-swept : 0 < length (d .nodes) → (used cells : List Bool) → Tables d (restBlanked blankToken used ts) (restBlanked blankCell cells cs) calls
   unfolding heldInRange
-  tables-kept some used cells =
+  tables-swept some used cells =
       record {
         tokens =
             λ p.
-            token-now (λ t. TokenKept d cs′ calls t) p
+            token-now (λ t. TokenHolds d cs′ calls t) p
             (token-cells (length-kept blankCell cells cs) (omega arith) (λ c s l v. cell-now (λ x. x .value ≡ helds.Nothing) c v refl) (T .tokens p))
-            (blank-kept some);
+            (blank-holds some);
         cells = λ c. cell-now (λ x. heldInRange (x .value) ≡ true) c (T .cells c) refl;
         apart = λ p q h a b. T .apart p q h (called-before p h a) (called-before q h b);
       }
@@ -280,11 +280,11 @@ module _ {d : Dag} {ts : List Token} {cs : List Cell} {calls : ℕ} (T : Tables 
     unfolding waitsAt
     waits-elsewhere b s e f x = eqb-ne c b (ap (waitsAt c) (sym e) ∙ f) (sym x)
 
-    choked-kept : {t u : Token} → Choked c t u → (waitsAt c (u .state) ≡ false) → TokenKept d cs calls t → TokenKept d then calls u
+    choked-holds : {t u : Token} → Choked c t u → (waitsAt c (u .state) ≡ false) → TokenHolds d cs calls t → TokenHolds d then calls u
     unfolding withState
-    choked-kept ends w t = blank-kept some
-    choked-kept (wakes x) w t = idle-kept (t .node) (t .value) (t .binds) ready
-    choked-kept {t = s} stays w t =
+    choked-holds ends w t = blank-holds some
+    choked-holds (wakes x) w t = idle-holds (t .node) (t .value) (t .binds) ready
+    choked-holds {t = s} stays w t =
         token-cells (length-set cs c k) (omega arith)
         (λ b e l v. ap (λ (x : Cell). x .value) (cell-other cs c b k (waits-elsewhere b (s .state) e w)) ∙ v) t
 
@@ -311,8 +311,8 @@ module _ {d : Dag} {ts : List Token} {cs : List Cell} {calls : ℕ} (T : Tables 
         record {
           tokens =
               λ p.
-              subst (TokenKept d then calls) (sym (choke-at cs c ts p))
-              (choked-kept (choked-cases cs c (tokenAt ts p)) (none-wait (tokenAt ts p)) (T .tokens p));
+              subst (TokenHolds d then calls) (sym (choke-at cs c ts p))
+              (choked-holds (choked-cases cs c (tokenAt ts p)) (none-wait (tokenAt ts p)) (T .tokens p));
           cells = λ b. cell-now b (ℕ-discrete b c);
           apart = λ p q h a b. T .apart p q h (before p h a) (before q h b);
         }

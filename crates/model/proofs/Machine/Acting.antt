@@ -18,7 +18,7 @@ use Rattle.model.specs.declared.token.Token.{Token}
 use Rattle.model.specs.declared.cell.Cell.{Cell}
 use Rattle.model.specs.declared.record.Machine.{Machine}
 use Rattle.model.proofs.Machine.Reach.{names-at}
-use Rattle.model.proofs.Machine.Rules.{RulesKept}
+use Rattle.model.proofs.Machine.Rules.{EachRuleHolds}
 use Rattle.model.proofs.Machine.Inside.{Fits, fits-map, With, inside-token, inside-cell, inside-put}
 use Rattle.model.proofs.Machine.Writes.{fits-same, fits-binding, formals-cell}
 use Rattle.model.proofs.Machine.Used.{Used, UsedCell, InsideUsed, used-fits, inside-old}
@@ -35,7 +35,7 @@ callee p t root ps =
       state = states.Ready;
     }
 
-module _ (lim : Limits) (d : Dag) (m : Machine) (rules : RulesKept lim d m) (p : ℕ) (inUse : Used m p) where
+module _ (lim : Limits) (d : Dag) (m : Machine) (rules : EachRuleHolds lim d m) (p : ℕ) (inUse : Used m p) where
   abbrev t : Token
   t = tokenAt (m .tokens) p
 

@@ -23,7 +23,7 @@ use Rattle.model.specs.declared.record.Machine.{Machine}
 use Rattle.model.specs.declared.reply.Refusal.the-variants as refusals
 use Rattle.model.proofs.Machine.Reach.{Names}
 use Rattle.model.proofs.Machine.Refused.{After, after-unless}
-use Rattle.model.proofs.Machine.Rules.{RulesKept}
+use Rattle.model.proofs.Machine.Rules.{EachRuleHolds}
 use Rattle.model.proofs.Machine.Inside.{Fits, fits-blank, inside-map, inside-set}
 use Rattle.model.proofs.Machine.Writes.{fits-same, fits-value, fits-empty}
 use Rattle.model.proofs.Machine.Writes.{choked-cases, choked-blank, choked-live, choked-fits}
@@ -32,7 +32,7 @@ use Rattle.model.proofs.Machine.Acting.{write-inside, fork-inside, call
 
 -- The token at a place p in use acts; only the tables matter, so the orders may be any
 module _
-    (lim : Limits) (d : Dag) (m : Machine) (rules : RulesKept lim d m) (old : Within lim m) (p : ℕ) (inUse : Used m p) (q w : List ℕ)
+    (lim : Limits) (d : Dag) (m : Machine) (rules : EachRuleHolds lim d m) (old : Within lim m) (p : ℕ) (inUse : Used m p) (q w : List ℕ)
   where
     abbrev pub acting : Token
     acting = tokenAt (m .tokens) p
@@ -40,13 +40,13 @@ module _
     abbrev pub at : Machine
     at = withOrders q w m
 
-    abbrev pub Kept : Effect → Type 0
-    Kept = After (λ o. Within lim (sweep o))
+    abbrev pub WithinAfter : Effect → Type 0
+    WithinAfter = After (λ o. Within lim (sweep o))
 
     acts : Fits (Used m) (UsedCell m) acting
     acts = used-fits m p inUse
 
-    goes-on : (u : Token) → Fits (Used m) (UsedCell m) u → Kept (Step.goesOn at p acting u)
+    goes-on : (u : Token) → Fits (Used m) (UsedCell m) u → WithinAfter (Step.goesOn at p acting u)
     unfolding After Step.goesOn Step.enqueue Step.put Step.withTables withOrders
     goes-on u f = none-new lim d m old _ (write-inside lim d m rules p inUse u f)
 
@@ -54,7 +54,7 @@ module _
     unfolding Step.ended Step.put Step.withTables withOrders
     ended = none-new lim d m old _ (write-inside lim d m rules p inUse blankToken (fits-blank (Used m) (UsedCell m)))
 
-    forked : (r left right : ℕ) → hasTokenPlace lim d m ≡ true → Kept (Step.forked at p acting r left right)
+    forked : (r left right : ℕ) → hasTokenPlace lim d m ≡ true → WithinAfter (Step.forked at p acting r left right)
     unfolding After Step.forked Step.enqueue Step.newToken Step.put Step.withTables withOrders Step.withCounts Step.withNode
     forked r left right t =
         token-new lim d m old _ r t (fork-inside lim d m rules p inUse r left right)
@@ -63,38 +63,38 @@ module _
         (r c x left right : ℕ)
         → hasTokenPlace lim d m ≡ true
         → hasCellPlace lim d m ≡ true
-        → Kept (Step.split at p acting r c x left right)
+        → WithinAfter (Step.split at p acting r c x left right)
     unfolding
         After Step.split Step.enqueue Step.newToken Step.newCell Step.put Step.withTables withOrders Step.withCounts Step.withNode Step.inCell
     split r c x left right t k = both-new lim d m old _ r c t k (split-inside lim d m rules p inUse r c x left right)
 
-    entered : (r root : ℕ) (ps : List Param) (next : ℕ) → hasTokenPlace lim d m ≡ true → Kept (Step.entered at p acting r root ps next)
+    entered : (r root : ℕ) (ps : List Param) (next : ℕ) → hasTokenPlace lim d m ≡ true → WithinAfter (Step.entered at p acting r root ps next)
     unfolding After Step.entered Step.enqueue Step.newToken Step.put Step.withTables withOrders Step.withCounts Step.withNode Step.withState
     entered r root ps next t =
         token-new lim d m old _ r t (call-inside lim d m rules p inUse r root ps next)
 
-    waited : (c : ℕ) → Kept (Step.waited at p acting c)
+    waited : (c : ℕ) → WithinAfter (Step.waited at p acting c)
     unfolding After Step.waited Step.put Step.withTables withOrders Step.withState
     waited c =
         none-new lim d m old _ (write-inside lim d m rules p inUse (Step.withState (states.Waiting c) acting) (fits-same refl refl refl acts))
 
-    replied : (next : ℕ) (s : BuiltinReply) → Kept (Step.replied at p acting next s)
+    replied : (next : ℕ) (s : BuiltinReply) → WithinAfter (Step.replied at p acting next s)
     unfolding After Step.replied Step.withNode Step.withValue
     replied next (gives v) = goes-on _ (fits-same refl refl refl acts)
     replied next silent = ended
 
-    calledOut : (s : ℕ) (vs : List ℤ) (next : ℕ) → Kept (Step.calledOut at p acting s vs next)
+    calledOut : (s : ℕ) (vs : List ℤ) (next : ℕ) → WithinAfter (Step.calledOut at p acting s vs next)
     unfolding After Step.calledOut Step.put Step.withTables withOrders Step.withCounts Step.withNode Step.withState
     calledOut s vs next = none-new lim d m old _ (write-inside lim d m rules p inUse _ (fits-same refl refl refl acts))
 
-    callSite : (s next : ℕ) (l : LookedUp) → Kept (Step.callSite lim d at p acting s next l)
+    callSite : (s next : ℕ) (l : LookedUp) → WithinAfter (Step.callSite lim d at p acting s next l)
     unfolding Step.callSite
     callSite s next (unset c) = waited c
     callSite s next (values vs) = go (isBuiltin s)
       where
         go :
             (b : Bool)
-            → Kept
+            → WithinAfter
             (elim b [
               | true ↦ Step.replied at p acting next (builtin s vs)
               | false ↦ unless (ltb (at .calls) (lim .calls)) refusals.CallLimit (Step.calledOut at p acting s vs next)
@@ -102,13 +102,13 @@ module _
         go true = replied next (builtin s vs)
         go false = after-unless _ _ _ _ (λ e. calledOut s vs next)
 
-    returned : (f : Place) → Names (Used m) f → Kept (Step.returned at p acting f)
+    returned : (f : Place) → Names (Used m) f → WithinAfter (Step.returned at p acting f)
     unfolding After Step.returned withOrders Step.withState Step.withValue
     returned places.Nowhere n = tt
     returned (places.At f) n = goes-on _ (fits-same refl refl refl (used-fits m f (n f refl)))
 
-    chokes : (c : Place) → Names (UsedCell m) c → Kept (Step.chokeAt at p acting c)
-    unfolding After Step.chokeAt Step.choked Step.withTables withOrders
+    chokes : (c : Place) → Names (UsedCell m) c → WithinAfter (Step.chokeAt at p acting c)
+    unfolding After Step.chokeAt Step.afterChoke Step.withTables withOrders
     chokes places.Nowhere n = tt
     chokes (places.At c) n =
         none-new lim d m old _
@@ -118,7 +118,7 @@ module _
         (λ t. choked-fits (choked-cases (m .cells) c t)))
         c _ (n c refl) (used-parent m c (n c refl)))
 
-    pub acted : (n : Node) → Kept (act lim d m at p acting n)
+    pub acted : (n : Node) → WithinAfter (act lim d m at p acting n)
     unfolding After act Step.withNode Step.withBinding
     acted Node.stop = ended
     acted Node.publish = ended

@@ -8,7 +8,7 @@ use native.Mathlib.Decide.{decLt}
 use native.Mathlib.Omega.{arith}
 use lib.ListN.{length, getD}
 use Rattle.model.specs.Machine.InUse.{marked}
-use Rattle.model.specs.Machine.Places.{around, freeFrom, nextPlace}
+use Rattle.model.specs.Machine.FreePlace.{around, freeFrom, nextPlace}
 use Rattle.job.proofs.Test.{clash, lt-ltb, le-not-ltb}
 use Rattle.model.proofs.Machine.Marks.{Marked, Free, free-inside, some-free}
 

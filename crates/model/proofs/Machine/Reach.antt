@@ -7,7 +7,7 @@ use mathlib.Core.List.{List, [], _∷_, List·Memᴰ, List·Memᴰ·head, List·
 use Prim.Native.Nat.{ℕ, zero, suc, _+_, _<_, _≤_}
 use native.Mathlib.Omega.{arith}
 use lib.ListN.{length, getD, set, replicate, length-set, length-replicate}
-use Rattle.model.specs.Machine.InUse.{markChain, markChains, reached, marked}
+use Rattle.model.specs.Machine.InUse.{markChain, markFromEach, reached, marked}
 use Rattle.model.specs.declared.token.Place.{Place}
 use Rattle.model.specs.declared.token.Place.the-variants as places
 use Rattle.model.proofs.Machine.Marks.{Marked, marked-none, free-inside, mark-same, mark-mono, mark-inverse, marked-all, marked-set-free}
@@ -100,9 +100,9 @@ module _ {A : Type 0} (link : A → Place) (blank : A) (xs : List A) where
   chains-grow :
       (qs : List Place) (marks : List Bool)
       → length marks ≡ length xs
-      → Grows linkAt marks (markChains link blank xs qs marks)
-      × ((i : ℕ) → List·Memᴰ (places.At i) qs → Marked (markChains link blank xs qs marks) i)
-  unfolding markChains
+      → Grows linkAt marks (markFromEach link blank xs qs marks)
+      × ((i : ℕ) → List·Memᴰ (places.At i) qs → Marked (markFromEach link blank xs qs marks) i)
+  unfolding markFromEach
   chains-grow [] marks l = (grows-none, λ i m. absurd (List·Memᴰ·not-nil m))
   chains-grow (q ∷ qs) marks l =
       let f = chain-grows (length xs) q marks (omega arith) in
@@ -161,8 +161,8 @@ module _ {A : Type 0} (link : A → Place) (blank : A) (xs : List A) where
         (qs : List Place) (marks : List Bool)
         → length marks ≡ length xs
         → ((i : ℕ) → List·Memᴰ (places.At i) qs → Q i)
-        → Only marks (markChains link blank xs qs marks)
-    unfolding markChains
+        → Only marks (markFromEach link blank xs qs marks)
+    unfolding markFromEach
     chains-least [] marks l h i m = inl m
     chains-least (q ∷ qs) marks l h i m =
         go
@@ -200,7 +200,7 @@ module _ {A : Type 0} (link : A → Place) (blank : A) (xs : List A) where
       none = length-replicate (length xs) false
 
       r : List Bool
-      r = markChains link blank xs from (replicate (length xs) false)
+      r = markFromEach link blank xs from (replicate (length xs) false)
 
       g : Grows linkAt (replicate (length xs) false) r × ((i : ℕ) → List·Memᴰ (places.At i) from → Marked r i)
       g = chains-grow from (replicate (length xs) false) none

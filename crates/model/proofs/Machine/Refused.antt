@@ -135,9 +135,9 @@ start-accepted lim d e = go (start-cases lim d)
     go (inl x) = x
     go (inr x) = clash (ap (λ (o : Outcome). isRefused (o .reply)) (x .1)) e
 
--- "A step tests 14, 9": an accepted step kept the rules, took a queued token and did what its node does
+-- "A step tests 14, 9": where a step is accepted the rules held; it took a queued token and did what its node does
 pub record StepAccepted (lim : Limits) (d : Dag) (m : Machine) (place : ℕ) : Type 0 where
-  pub kept : rulesHold lim d m ≡ true
+  pub holds : rulesHold lim d m ≡ true
   pub queued : place < m .queued
   pub does : step lim d m place ≡ outcome m (takes lim d m place)
 
@@ -146,7 +146,7 @@ pub step-accepted :
     → isRefused (step lim d m place .reply) ≡ false
     → StepAccepted lim d m place
 unfolding step
-step-accepted lim d m place a = record { kept = k; queued = ltb-lt place (m .queued) q; does = ap (outcome m) (tested ∙ there) }
+step-accepted lim d m place a = record { holds = k; queued = ltb-lt place (m .queued) q; does = ap (outcome m) (tested ∙ there) }
   where
     inner : Effect
     inner = unless (ltb place (m .queued)) refusals.NoToken (takes lim d m place)
@@ -167,7 +167,7 @@ step-accepted lim d m place a = record { kept = k; queued = ltb-lt place (m .que
 
 -- "An answer tests 14, 12"
 pub record AnswerAccepted (lim : Limits) (d : Dag) (m : Machine) (handle : ℕ) (value : ℤ) : Type 0 where
-  pub kept : rulesHold lim d m ≡ true
+  pub holds : rulesHold lim d m ≡ true
   pub does : answer lim d m handle value ≡ outcome m (answered m value (holder handle 0 (m .tokens)))
 
 pub answer-accepted :
@@ -175,7 +175,7 @@ pub answer-accepted :
     → isRefused (answer lim d m handle value .reply) ≡ false
     → AnswerAccepted lim d m handle value
 unfolding answer
-answer-accepted lim d m h v a = record { kept = k; does = ap (outcome m) (unless-true (rulesHold lim d m) refusals.Rule inner k) }
+answer-accepted lim d m h v a = record { holds = k; does = ap (outcome m) (unless-true (rulesHold lim d m) refusals.Rule inner k) }
   where
     inner : Effect
     inner = answered m v (holder h 0 (m .tokens))

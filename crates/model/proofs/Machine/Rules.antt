@@ -26,7 +26,7 @@ both : (a b : Bool) → (a and b) ≡ true → (a ≡ true) × (b ≡ true)
 both a b e = (and-left a b e, and-right a b e)
 
 -- the rules, in their order
-pub record RulesKept (lim : Limits) (d : Dag) (m : Machine) : Type 0 where
+pub record EachRuleHolds (lim : Limits) (d : Dag) (m : Machine) : Type 0 where
   pub dag : dagHolds d ≡ true
   pub sizes : rules.sizesInRange lim d m ≡ true
   pub tokens : all (rules.tokenInRange lim d (m .calls)) (m .tokens) ≡ true
@@ -41,9 +41,9 @@ pub record RulesKept (lim : Limits) (d : Dag) (m : Machine) : Type 0 where
   pub blankTokens : restIsBlank tokenIsBlank (tokensUsed m) (m .tokens) ≡ true
   pub blankCells : restIsBlank cellIsBlank (cellsUsed m) (m .cells) ≡ true
 
-pub rules-kept : (lim : Limits) (d : Dag) (m : Machine) → rulesHold lim d m ≡ true → RulesKept lim d m
+pub each-rule-holds : (lim : Limits) (d : Dag) (m : Machine) → rulesHold lim d m ≡ true → EachRuleHolds lim d m
 unfolding rulesHold machineHolds
-rules-kept lim d m e =
+each-rule-holds lim d m e =
     let dag = both _ _ e in
     let sizes = both _ _ (dag .1) in
     let tokens = both _ _ (sizes .1) in

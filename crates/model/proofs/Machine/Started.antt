@@ -15,18 +15,18 @@ use Rattle.model.specs.Machine.Reply.{reportValues}
 use Rattle.model.specs.Machine.Start.{start, startMachine}
 use Rattle.model.specs.declared.reply.Outcome.{Outcome}
 use Rattle.model.specs.declared.reply.Reply.the-variants as replies
-use Rattle.job.proofs.Kept.{construct-kept}
+use Rattle.job.proofs.DagHolds.{construct-holds}
 use Rattle.job.proofs.Decode.{decode-written}
 
 abbrev pub begun : Limits → ℕ → Outcome
 begun lim goal = record { reply = replies.Done; values = reportValues []; machine = startMachine lim goal }
 
-pub start-kept : (lim : Limits) (d : Dag) → dagHolds d ≡ true → start lim d ≡ begun lim (d .goal)
+pub start-begun : (lim : Limits) (d : Dag) → dagHolds d ≡ true → start lim d ≡ begun lim (d .goal)
 unfolding start
-start-kept lim d e = rw (e, start)
+start-begun lim d e = rw (e, start)
 
 pub start-begins : (lim : Limits) (p : Program) → WellFormed p → start lim (construct p) ≡ begun lim (construct p .goal)
-start-begins lim p w = start-kept lim (construct p) (construct-kept p w)
+start-begins lim p w = start-begun lim (construct p) (construct-holds p w)
 
 pub start-accepts : (lim : Limits) (p : Program) → WellFormed p → start lim (construct p) .reply ≡ replies.Done
 start-accepts lim p w = ap (λ o. o .reply) (start-begins lim p w)
@@ -36,7 +36,7 @@ start-machine lim p w = ap (λ o. o .machine) (start-begins lim p w)
 
 -- an array that a program's dag was written into holds that dag, and the start accepts what it holds
 pub words-construct : (p : Program) (ws : List ℕ) → WellFormed p → length ws ≡ arrayWords → dagOf (written (construct p) ws) ≡ construct p
-words-construct p ws w l = decode-written (construct p) ws (construct-kept p w) l
+words-construct p ws w l = decode-written (construct p) ws (construct-holds p w) l
 
 pub start-from-words : (lim : Limits) (p : Program) (ws : List ℕ) → WellFormed p → length ws ≡ arrayWords
     → start lim (dagOf (written (construct p) ws)) ≡ begun lim (construct p .goal)

@@ -22,7 +22,7 @@ use Rattle.job.proofs.Test.{clash, all-at, ltb-lt}
 use Rattle.model.proofs.Machine.Marks.{Marked, marked-inside, marked-inside-one}
 use Rattle.model.proofs.Machine.Reach.{Names}
 use Rattle.model.proofs.Machine.InUse.{token-outside, tokens-used, cells-used}
-use Rattle.model.proofs.Machine.Rules.{RulesKept}
+use Rattle.model.proofs.Machine.Rules.{EachRuleHolds}
 use Rattle.model.proofs.Machine.Inside.{Fits, Inside, With, tokens-inside, cells-inside, inside-finish}
 
 -- in use: no more than the limits
@@ -98,7 +98,7 @@ module _ (m : Machine) where
     cells-one c h = marked-inside-one (cellsUsed o) (cellsUsed m) c (cells-size (h .cells)) (cells-inside h)
 
 -- a record that keeps the rules: its live tokens are active, so in use
-module _ (lim : Limits) (d : Dag) (m : Machine) (rules : RulesKept lim d m) where
+module _ (lim : Limits) (d : Dag) (m : Machine) (rules : EachRuleHolds lim d m) where
   pub lives-active : (i : ℕ) → isLive (tokenAt (m .tokens) i .state) ≡ true → isActive (m .cells) (tokenAt (m .tokens) i) ≡ true
   unfolding tokenAt
   lives-active i e =

@@ -26,7 +26,7 @@ use Rattle.model.specs.declared.token.Token.{Token}
 use Rattle.model.specs.declared.record.Machine.{Machine}
 use Rattle.model.specs.declared.reply.Outcome.{Outcome}
 use Rattle.model.proofs.Machine.Refused.{After, after-outcome, StepAccepted, step-accepted, AnswerAccepted, answer-accepted}
-use Rattle.model.proofs.Machine.Rules.{RulesKept, rules-kept, names-once, order-names, ready-live}
+use Rattle.model.proofs.Machine.Rules.{EachRuleHolds, each-rule-holds, names-once, order-names, ready-live}
 use Rattle.model.proofs.Machine.Inside.{inside-put}
 use Rattle.model.proofs.Machine.Writes.{fits-same}
 use Rattle.model.proofs.Machine.Used.{Within, Used, used-fits, live-used, inside-old, none-new}
@@ -77,8 +77,8 @@ module _ (lim : Limits) (d : Dag) (m : Machine) where
       a : StepAccepted lim d m place
       a = step-accepted lim d m place e
 
-      rules : RulesKept lim d m
-      rules = rules-kept lim d m (a .kept)
+      rules : EachRuleHolds lim d m
+      rules = each-rule-holds lim d m (a .holds)
 
       p : ℕ
       p = getD (m .queue) place 0
@@ -93,7 +93,7 @@ module _ (lim : Limits) (d : Dag) (m : Machine) where
   answered-within :
       (value : ℤ) (handle : ℕ) (h : Place)
       → holder handle 0 (m .tokens) ≡ h
-      → RulesKept lim d m
+      → EachRuleHolds lim d m
       → Within lim m
       → After (λ o. Within lim (sweep o)) (answered m value h)
   unfolding After answered Step.enqueue Step.put Step.withTables Step.withOrders Step.withState Step.withValue
@@ -118,7 +118,7 @@ module _ (lim : Limits) (d : Dag) (m : Machine) where
   answer-within handle value old e =
       subst (λ (o : Outcome). Within lim (o .machine)) (sym (a .does))
       (after-outcome (λ o. Within lim (sweep o)) (Within lim) (λ o x. x) m (answered m value (holder handle 0 (m .tokens)))
-      (answered-within value handle (holder handle 0 (m .tokens)) refl (rules-kept lim d m (a .kept)) old)
+      (answered-within value handle (holder handle 0 (m .tokens)) refl (each-rule-holds lim d m (a .holds)) old)
       (subst (λ (o : Outcome). isRefused (o .reply) ≡ false) (a .does) e))
     where
       a : AnswerAccepted lim d m handle value

@@ -28,8 +28,8 @@ use Rattle.model.specs.declared.record.Machine.{Machine}
 use Rattle.model.specs.declared.reply.Outcome.{Outcome}
 use Rattle.job.proofs.Test.{clash, holds-or-fails}
 use Rattle.model.proofs.Machine.Refused.{After, after-outcome, outcome-refused, AnswerAccepted, answer-accepted}
-use Rattle.model.proofs.Run.Queue.{QueueKept, queue-kept}
-use Rattle.model.proofs.Run.Bystander.{Untouched, untouched-enqueue, untouched-put, kept-unharmed, untouched-stands}
+use Rattle.model.proofs.Run.Queue.{QueueRulesHold, queue-rules-hold}
+use Rattle.model.proofs.Run.Bystander.{Untouched, untouched-enqueue, untouched-put, queued-unharmed, untouched-stands}
 
 -- a token with a handle is not ready
 handle-busy : (h : ℕ) (s : State) → any (eqb h) (handleOf s) ≡ true → isReady s ≡ false
@@ -62,7 +62,7 @@ holder-busy h i (t ∷ ts) q e = go (any (eqb h) (handleOf (t .state))) refl e (
     go true x y f = (0, (let z : i ≡ q = cc in omega arith), handle-busy h (t .state) x)
     go false x y f = later (f y)
 
-module _ (m : Machine) (h : QueueKept m) (k : ℕ) (l : k < m .queued) where
+module _ (m : Machine) (h : QueueRulesHold m) (k : ℕ) (l : k < m .queued) where
   abbrev Leaves : Effect → Type 0
   Leaves e = After (Untouched (queuedToken m k) (getD (m .queue) k 0) k) e
 
@@ -72,7 +72,7 @@ module _ (m : Machine) (h : QueueKept m) (k : ℕ) (l : k < m .queued) where
       record {
         queued = let z = length-take (m .queued) (m .queue) in let s = h .short in omega arith;
         place = getD-take (m .queued) (m .queue) k 0 l;
-        unharmed = kept-unharmed m h k l;
+        unharmed = queued-unharmed m h k l;
       }
 
   apart : (handle q : ℕ) → holder handle 0 (m .tokens) ≡ places.At q → getD (m .queue) k 0 ≡ q → ⊥
@@ -105,7 +105,7 @@ answer-stands lim d m handle v k l = go (holds-or-fails (isRefused (o .reply)))
 
     accepted : isRefused (o .reply) ≡ false → AnswerAccepted lim d m handle v → Stands m k (o .machine) k
     accepted ok a =
-        let h : QueueKept m = queue-kept lim d m (a .kept) in
+        let h : QueueRulesHold m = queue-rules-hold lim d m (a .holds) in
         subst (λ (o : Outcome). Stands m k (o .machine) k) (sym (a .does))
         (after-outcome (Untouched (queuedToken m k) (getD (m .queue) k 0) k) (λ o. Stands m k o k)
         (λ o u. untouched-stands m k o k (h .ready k l) u) m (answered m v (holder handle 0 (m .tokens)))

@@ -22,7 +22,7 @@ use Rattle.model.proofs.Machine.Rules.{ready-live}
 use Rattle.model.proofs.Machine.Marks.{Marked}
 use Rattle.model.proofs.Machine.InUse.{tokens-used}
 use Rattle.model.proofs.Machine.Kept.{kept-marked}
-use Rattle.model.proofs.Run.Queue.{QueueKept}
+use Rattle.model.proofs.Run.Queue.{QueueRulesHold}
 use Rattle.model.proofs.Run.Chain.{unsetCell, new-cell-clear}
 
 -- the token u is at place p and not under a set cell
@@ -122,8 +122,8 @@ module _ {u : Token} {p : ℕ} (ready : isReady (u .state) ≡ true) where
       kept-marked blankToken (tokensUsed m) (m .tokens) p (tokens-used (m .tokens) (m .cells) .size) (unharmed-marked m h) ∙ h .token
 
 -- the token at a position of the queue, unharmed by the rules; and standing, once it is untouched
-pub kept-unharmed : (m : Machine) → QueueKept m → (k : ℕ) → k < m .queued → Unharmed (queuedToken m k) (getD (m .queue) k 0) m
-kept-unharmed m h k l = record { token = refl; clear = h .clear k l }
+pub queued-unharmed : (m : Machine) → QueueRulesHold m → (k : ℕ) → k < m .queued → Unharmed (queuedToken m k) (getD (m .queue) k 0) m
+queued-unharmed m h k l = record { token = refl; clear = h .clear k l }
 
 pub untouched-stands :
     (m : Machine) (k : ℕ) (after : Machine) (k′ : ℕ)

@@ -9,7 +9,7 @@ use Rattle.job.specs.Test.{filter}
 use Rattle.model.specs.Machine.Blank.{blankToken, tokenAt, cellAt}
 use Rattle.model.specs.Machine.Active.{within}
 use Rattle.model.specs.Machine.State.{isReady, waitsAt}
-use Rattle.model.specs.Machine.Step.{withTables, queueOf, waitsOf, chokeToken, choked}
+use Rattle.model.specs.Machine.Step.{withTables, queueOf, waitsOf, chokeToken, afterChoke}
 use Rattle.model.specs.declared.token.Held.{Held}
 use Rattle.model.specs.declared.token.State.{State}
 use Rattle.model.specs.declared.token.State.the-variants as states
@@ -73,8 +73,8 @@ module _ (c : ℕ) (m : Machine) where
   -- a ready token that is not within the cell, where the queue then says
   pub untouched-choked :
       (v : Held) {u : Token} {p k : ℕ} → p < length (m .tokens) → isReady (u .state) ≡ true → within (m .cells) c (u .cell) ≡ false
-      → Unharmed u p m → k < length queueThen → getD queueThen k 0 ≡ p → Untouched u p k (choked c v m)
-  unfolding choked
+      → Unharmed u p m → k < length queueThen → getD queueThen k 0 ≡ p → Untouched u p k (afterChoke c v m)
+  unfolding afterChoke
   untouched-choked v {u} {p} {k} l r w h i e = untouched-orders queueThen _ _ i e unharmed
     where
       cells : List Cell

@@ -18,7 +18,7 @@ use Rattle.model.specs.Machine.Limits.{Limits}
 use Rattle.model.specs.Machine.Blank.{blankToken}
 use Rattle.model.specs.Machine.Active.{underSet, within}
 use Rattle.model.specs.Machine.InUse.{tokensUsed, marked}
-use Rattle.model.specs.Machine.Places.{nextPlace}
+use Rattle.model.specs.Machine.FreePlace.{nextPlace}
 use Rattle.model.specs.Machine.Rules.{rulesHold}
 use Rattle.model.specs.Machine.Reply.{Effect, calls, unless, isRefused}
 use Rattle.model.specs.Machine.Step.{withNode, withBinding, inCell, withTables, withOrders, withCounts, queueOf, waitsOf, put, newToken, LookedUp, values, unset, ended, goesOn, forked, split, entered, waited, replied, calledOut, returned, chokeAt, callSite, hasTokenPlace, act, takes, step}
@@ -35,10 +35,10 @@ use Rattle.job.proofs.Test.{clash, ltb-lt}
 use Rattle.model.proofs.Machine.InUse.{tokens-used}
 use Rattle.model.proofs.Machine.Places.{next-place-free}
 use Rattle.model.proofs.Machine.Refused.{After, after-unless, after-outcome, StepAccepted, step-accepted}
-use Rattle.model.proofs.Run.Queue.{QueueKept, queue-kept, tokens-sized, lasttoken-inside}
+use Rattle.model.proofs.Run.Queue.{QueueRulesHold, queue-rules-hold, tokens-sized, lasttoken-inside}
 use Rattle.model.proofs.Run.Survivors.{among, Behind, filter-finds, survivors-all, survivors-pass, fate-stays}
 use Rattle.model.proofs.Run.Choking.{readyThen, queueThen, within-ready, untouched-choked}
-use Rattle.model.proofs.Run.Bystander.{Unharmed, Untouched, queue-orders, untouched-orders, untouched-waits, untouched-enqueue, untouched-put, untouched-counts, untouched-token, untouched-cell, unharmed-marked, kept-unharmed, untouched-stands}
+use Rattle.model.proofs.Run.Bystander.{Unharmed, Untouched, queue-orders, untouched-orders, untouched-waits, untouched-enqueue, untouched-put, untouched-counts, untouched-token, untouched-cell, unharmed-marked, queued-unharmed, untouched-stands}
 
 -- if no cell is set no token is ended
 spares-all :
@@ -64,7 +64,7 @@ unfolding without
 length-without [] k l = absurd (omega arith)
 length-without (x ∷ xs) k l = omega arith
 
-module _ (lim : Limits) (d : Dag) (m : Machine) (h : QueueKept m) (k : ℕ) (l : suc k < m .queued) where
+module _ (lim : Limits) (d : Dag) (m : Machine) (h : QueueRulesHold m) (k : ℕ) (l : suc k < m .queued) where
   -- the token that acts, and its place; the token that is watched, and its place
   abbrev front : ℕ
   front = getD (m .queue) 0 0
@@ -97,7 +97,7 @@ module _ (lim : Limits) (d : Dag) (m : Machine) (h : QueueKept m) (k : ℕ) (l :
   apart e = h .apart k l (sym e)
 
   unharmed : Unharmed watched place m
-  unharmed = kept-unharmed m h (suc k) l
+  unharmed = queued-unharmed m h (suc k) l
 
   -- the token watched is one position nearer to the front, and else untouched
   abbrev Leaves : Effect → Type 0
@@ -185,7 +185,7 @@ module _ (lim : Limits) (d : Dag) (m : Machine) (h : QueueKept m) (k : ℕ) (l :
   used-length : length (tokensUsed m) ≡ length (m .tokens)
   used-length = tokens-used (m .tokens) (m .cells) .size
 
-  module _ (fits : lim .tokens ≤ lim .tokenPlaces) (kept : rulesHold lim d m ≡ true) where
+  module _ (fits : lim .tokens ≤ lim .tokenPlaces) (holds : rulesHold lim d m ≡ true) where
     fresh : hasTokenPlace lim d m ≡ true → place ≡ nextPlace (tokensUsed m) (m .lasttoken) → ⊥
     unfolding hasTokenPlace
     fresh e p =
@@ -193,10 +193,10 @@ module _ (lim : Limits) (d : Dag) (m : Machine) (h : QueueKept m) (k : ℕ) (l :
         (ap (λ i. getD (tokensUsed m) i true) p ∙ next-place-free (tokensUsed m) (m .lasttoken) inside room)
       where
         sized : length (m .tokens) ≡ lim .tokenPlaces
-        sized = tokens-sized lim d m kept
+        sized = tokens-sized lim d m holds
 
         inside : m .lasttoken < length (tokensUsed m)
-        inside = let z = lasttoken-inside lim d m kept in let s = sized in let u = used-length in omega arith
+        inside = let z = lasttoken-inside lim d m holds in let s = sized in let u = used-length in omega arith
 
         room : marked (tokensUsed m) < length (tokensUsed m)
         room = let z = ltb-lt (marked (tokensUsed m)) (lim .tokens) e in let s = sized in let u = used-length in omega arith
@@ -268,12 +268,12 @@ module _ (lim : Limits) (d : Dag) (m : Machine) (h : QueueKept m) (k : ℕ) (l :
         found = filter-finds (readyThen c taken) both k both-long (not-false _ (sym (both-ended k (omega arith)) ∙ f))
 
   -- any instruction: at choke by its own law, else no cell is set and the token watched moves up by one
-  module _ (fits : lim .tokens ≤ lim .tokenPlaces) (kept : rulesHold lim d m ≡ true) where
+  module _ (fits : lim .tokens ≤ lim .tokenPlaces) (holds : rulesHold lim d m ≡ true) where
     acts-leaves :
         (k′ : ℕ) → fate d m (suc k) ≡ stays k′
         → After (Untouched watched place k′) (act lim d m taken front actor (nodeAt d (actor .node)))
     unfolding act
-    acts-leaves k′ e = go (table fits kept (nodeAt d (actor .node)))
+    acts-leaves k′ e = go (table fits holds (nodeAt d (actor .node)))
       where
         N : Node
         N = nodeAt d (actor .node)
@@ -310,11 +310,11 @@ step-stands lim d m k k′ fits ok l e =
     subst (λ (o : Outcome). Stands m (suc k) (o .machine) k′) (sym (a .does))
     (after-outcome (Untouched (queuedToken m (suc k)) (getD (m .queue) (suc k) 0) k′) (λ o. Stands m (suc k) o k′)
     (λ o u. untouched-stands m (suc k) o k′ (h .ready (suc k) l) u) m (takes lim d m 0)
-    (acts-leaves lim d m h k l fits (a .kept) k′ e)
+    (acts-leaves lim d m h k l fits (a .holds) k′ e)
     (subst (λ (o : Outcome). isRefused (o .reply) ≡ false) (a .does) ok))
   where
     a : StepAccepted lim d m 0
     a = step-accepted lim d m 0 ok
 
-    h : QueueKept m
-    h = queue-kept lim d m (a .kept)
+    h : QueueRulesHold m
+    h = queue-rules-hold lim d m (a .holds)

@@ -20,7 +20,7 @@ use Rattle.model.specs.declared.token.State.the-variants as states
 use Rattle.model.specs.declared.token.Token.{Token}
 use Rattle.model.specs.declared.cell.Cell.{Cell}
 use Rattle.model.specs.declared.record.Machine.{Machine}
-use Rattle.model.proofs.Machine.Rules.{RulesKept, rules-kept, NamesOnce, names-once, order-inside, order-names, count-at, ready-live}
+use Rattle.model.proofs.Machine.Rules.{EachRuleHolds, each-rule-holds, NamesOnce, names-once, order-inside, order-names, count-at, ready-live}
 use Rattle.job.proofs.Test.{clash, eqb-eq, eqb-same, ltb-lt, and-left, and-right, all-at}
 
 -- what stands in a list is counted
@@ -66,7 +66,7 @@ not-true true e = clash e refl
 not-true false e = refl
 
 -- what the rules say of the queue
-pub record QueueKept (m : Machine) : Type 0 where
+pub record QueueRulesHold (m : Machine) : Type 0 where
   pub short : m .queued ≤ length (m .queue)
   pub named : (k : ℕ) → k < m .queued → getD (m .queue) k 0 < length (m .tokens)
   pub ready : (k : ℕ) → k < m .queued → isReady (queuedToken m k .state) ≡ true
@@ -77,16 +77,16 @@ not-under : (cs : List Cell) (t : Token) → isReady (t .state) ≡ true → not
 unfolding notUnderSet
 not-under cs t r e = not-true _ (rw (ready-live (t .state) r, notUnderSet) at e)
 
-module _ (lim : Limits) (d : Dag) (m : Machine) (kept : rulesHold lim d m ≡ true) where
-  rules : RulesKept lim d m
-  rules = rules-kept lim d m kept
+module _ (lim : Limits) (d : Dag) (m : Machine) (holds : rulesHold lim d m ≡ true) where
+  rules : EachRuleHolds lim d m
+  rules = each-rule-holds lim d m holds
 
   names : NamesOnce isReady (m .tokens) (m .queue) (m .queued)
   names = names-once isReady (m .tokens) (m .queue) (m .queued) (rules .queue)
 
-  pub queue-kept : QueueKept m
+  pub queue-rules-hold : QueueRulesHold m
   unfolding tokenAt
-  queue-kept =
+  queue-rules-hold =
       record {
         short = names .fits;
         named = named;

@@ -11,7 +11,7 @@ use Rattle.model.specs.Machine.Limits.{Limits}
 use Rattle.model.specs.Machine.Blank.{tokenAt}
 use Rattle.model.specs.Machine.State.{isLive}
 use Rattle.model.specs.Machine.InUse.{tokensUsed, cellsUsed}
-use Rattle.model.specs.Machine.Places.{nextPlace}
+use Rattle.model.specs.Machine.FreePlace.{nextPlace}
 use Rattle.model.specs.Machine.Reply.{unless}
 use Rattle.model.specs.Machine.Step.{withOrders, forked, split, entered, hasTokenPlace, hasCellPlace, act}
 use Rattle.calculus.specs.Expression.{Exp}

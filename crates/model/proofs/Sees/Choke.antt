@@ -15,7 +15,7 @@ use Rattle.job.specs.Node.{Node, Dag}
 use Rattle.model.specs.Machine.Blank.{blankToken, tokenAt, cellAt}
 use Rattle.model.specs.Machine.Active.{within}
 use Rattle.model.specs.Machine.State.{isLive, waitsAt}
-use Rattle.model.specs.Machine.Step.{withState, withTables, withOrders, chokeToken, choked, chokeAt}
+use Rattle.model.specs.Machine.Step.{withState, withTables, withOrders, chokeToken, afterChoke, chokeAt}
 use Rattle.calculus.specs.Expression.{Exp}
 use Rattle.model.specs.declared.token.Held.{Held}
 use Rattle.model.specs.declared.token.Held.the-variants as helds
@@ -269,7 +269,7 @@ module _ (d : Dag) (M : Labels) (bodies : ℕ → Exp) (m : Machine) {name place
 
   choke-from : {q : Place} {X : List ℕ} → M .value n ≡ true → t .cell ≡ q → CellsSeen W q X
       → Agrees M W L R (m .calls) (chokeAt m p t q) (Abstract.chokes X v)
-  unfolding Shows chokeAt choked withTables withOrders
+  unfolding Shows chokeAt afterChoke withTables withOrders
   choke-from e f root = tt
   choke-from e f (below {c = c} {n = i} {U = X} s z) =
       record {

@@ -10,7 +10,7 @@ use lib.ListN.{length}
 use lib.Dec.{eqb}
 use Rattle.job.specs.Test.{All, none, more}
 use Rattle.job.specs.Syntax.{Param, Exp, Program, scopeLeft, scopeRight}
-use Rattle.job.specs.WellFormed.{GoodParam, Binds, Good, WellFormed}
+use Rattle.job.specs.WellFormed.{GoodParam, GoodJoin, Good, WellFormed}
 use Rattle.calculus.specs.Meaning.{position, paramMeant, joinMeant, expMeant, meaning}
 use Rattle.calculus.specs.Expression as Calculus
 use Rattle.calculus.specs.Expression.{Substitution, lift, substParam}
@@ -46,9 +46,9 @@ unfolding Calculus.subst expMeant joinMeant scopeLeft scopeRight
 exp-fixed ρ s Good.stop = refl
 exp-fixed ρ s (Good.site {s = n} t ps) = ap (Calculus.site n) (params-fixed ρ s ps)
 exp-fixed ρ s (Good.call {d = n} l t ps) = ap (Calculus.call n) (params-fixed ρ s ps)
-exp-fixed ρ s (Good.join Binds.par f g) = ap₂ Calculus.par (exp-fixed ρ s f) (exp-fixed ρ s g)
-exp-fixed ρ s (Good.join (Binds.seq l) f g) = ap₂ Calculus.seq (exp-fixed ρ s f) (exp-fixed (lift ρ) (spares-lift ρ s) g)
-exp-fixed ρ s (Good.join (Binds.prune l) f g) = ap₂ Calculus.prune (exp-fixed (lift ρ) (spares-lift ρ s) f) (exp-fixed ρ s g)
+exp-fixed ρ s (Good.join GoodJoin.par f g) = ap₂ Calculus.par (exp-fixed ρ s f) (exp-fixed ρ s g)
+exp-fixed ρ s (Good.join (GoodJoin.seq l) f g) = ap₂ Calculus.seq (exp-fixed ρ s f) (exp-fixed (lift ρ) (spares-lift ρ s) g)
+exp-fixed ρ s (Good.join (GoodJoin.prune l) f g) = ap₂ Calculus.prune (exp-fixed (lift ρ) (spares-lift ρ s) f) (exp-fixed ρ s g)
 
 pub goal-closed : (p : Program) → WellFormed p → (ρ : Substitution) → Calculus.subst ρ (meaning p .goal) ≡ meaning p .goal
 unfolding meaning

@@ -8,16 +8,16 @@ use Prim.Native.Nat.{ℕ, zero, suc, _+_, _<_}
 use native.Mathlib.Omega.{arith}
 use lib.ListN.{length, getD, length-map}
 use Rattle.job.specs.Test.{All, none, more}
-use Rattle.job.specs.Site.{builtins, isBuiltin, isOutside}
+use Rattle.job.specs.Site.{builtinTable, isBuiltin, isOutside}
 use Rattle.job.specs.Syntax.{Join, Exp, Definition, Program, formalsOf, levels}
 use Rattle.job.specs.WellFormed.{SiteTakes, Good, GoodDefinition, WellFormed}
 use Rattle.job.specs.Node.{Node, Dag, nodeAt, bodyAt}
-use Rattle.job.specs.Construct.{own, size, root, ownNodes, nodesOf, nextLeft, nextRight, constructFrom, construct}
+use Rattle.job.specs.Construct.{own, nodeCount, root, ownNodes, nodesOf, nextLeft, nextRight, constructFrom, construct}
 use Rattle.calculus.specs.Meaning.{joinMeant, expMeant, bodyMeant, meaning}
 use Rattle.calculus.specs.Expression as Calculus
 use Rattle.job.proofs.Test.{lt-ltb, le-leb, and-both}
 use Rattle.job.proofs.Size.{own-length, nodes-length}
-use Rattle.job.proofs.Kept.{bodies-length}
+use Rattle.job.proofs.DagHolds.{bodies-length}
 use Rattle.simulation.proofs.Machine as Abstract
 use Rattle.simulation.proofs.Relation.{Code}
 use Rattle.simulation.proofs.Coded.{Bodies}
@@ -37,12 +37,12 @@ abbrev Laid : Dag → ℕ → List Node → Type 0
 Laid d n ns = Each (λ i x. nodeAt d i ≡ x) n ns
 
 -- the nodes that follow an expression's, its sink first
-then-laid : (d : Dag) (e : Exp) {n : ℕ} (ns : List Node) → Laid d n (nodesOf e n (n + size e) ++ ns) → Laid d (n + size e) ns
-then-laid d e {n} ns laid = let k = n + size e in each-right (nodesOf e n k) ns k (ap (λ m. n + m) (nodes-length e n k)) laid
+then-laid : (d : Dag) (e : Exp) {n : ℕ} (ns : List Node) → Laid d n (nodesOf e n (n + nodeCount e) ++ ns) → Laid d (n + nodeCount e) ns
+then-laid d e {n} ns laid = let k = n + nodeCount e in each-right (nodesOf e n k) ns k (ap (λ m. n + m) (nodes-length e n k)) laid
 
 site-known : {s n : ℕ} → SiteTakes s n → (isBuiltin s ≡ true) ⊎ (isOutside s ≡ true)
 unfolding isBuiltin isOutside
-site-known {s} (SiteTakes.builtin l e) = inl (lt-ltb s (length builtins) l)
+site-known {s} (SiteTakes.builtin l e) = inl (lt-ltb s (length builtinTable) l)
 site-known {s} (SiteTakes.outside l u f) = inr (and-both (le-leb 16 s l) (le-leb s 1023 u))
 
 module _ (d : Dag) (M : Labels) (bodies : ℕ → Calculus.Exp) where
@@ -54,9 +54,9 @@ module _ (d : Dag) (M : Labels) (bodies : ℕ → Calculus.Exp) where
 
   -- the code of a join, from its own nodes and the code of its sides
   join-coded : (j : Join) (f g : Exp) {n k : ℕ} {e e′ : Calculus.Exp} (scope : List ℕ) (nest : ℕ) (body : Bool)
-      → Laid d n (ownNodes j (root f (n + own j)) (root g (n + own j + size f)) k)
+      → Laid d n (ownNodes j (root f (n + own j)) (root g (n + own j + nodeCount f)) k)
       → Labelled M n (ownLabels j scope nest body)
-      → Code G e (root f (n + own j)) (nextLeft j n k) → Code G e′ (root g (n + own j + size f)) (nextRight j n k)
+      → Code G e (root f (n + own j)) (nextLeft j n k) → Code G e′ (root g (n + own j + nodeCount f)) (nextRight j n k)
       → Code G (joinMeant j e e′) (root (Exp.join j f g) n) k
   unfolding ownNodes ownLabels own root nextLeft nextRight joinMeant nodeMeant
   join-coded Join.par f g scope nest body (Each.more a ns) (Each.more h ls) c c′ = Code.par (node-meant h a) c c′
@@ -78,10 +78,10 @@ module _ (d : Dag) (M : Labels) (bodies : ℕ → Calculus.Exp) where
         let known : e < length (d .bodies) = omega arith in Code.call known (node-meant h a)
     exp-coded (Good.join {scope = scope} {j = j} {f = f} {g = g} b gf gg) {n} {k} nest body ns ls =
         let first = n + own j in
-        let second = n + own j + size f in
+        let second = n + own j + nodeCount f in
         let parts = join-labelled M j f g scope nest body ls in
         let nodes =
-        each-three (own j) (size f)
+        each-three (own j) (nodeCount f)
         (ownNodes j (root f first) (root g second) k) (nodesOf f first (nextLeft j n k)) (nodesOf g second (nextRight j n k))
         (own-length j (root f first) (root g second) k) (nodes-length f first (nextLeft j n k)) ns in
         join-coded j f g scope nest body (nodes .first) (parts .first)
@@ -91,10 +91,10 @@ module _ (d : Dag) (M : Labels) (bodies : ℕ → Calculus.Exp) where
     -- an expression with its sink, and what follows
     ends-coded : {left : ℕ} {scope : List ℕ} {e : Exp} → Good formals left scope e
         → {n : ℕ} (body : Bool) (last : Node) (ns : List Node) (ls : List Label)
-        → Laid d n (nodesOf e n (n + size e) ++ (last ∷ ns)) → Labelled M n (expLabels e scope 0 body ++ ls)
-        → Ends G (expMeant scope e) (root e n) (nodeMeant (M .scope (n + size e)) last)
+        → Laid d n (nodesOf e n (n + nodeCount e) ++ (last ∷ ns)) → Labelled M n (expLabels e scope 0 body ++ ls)
+        → Ends G (expMeant scope e) (root e n) (nodeMeant (M .scope (n + nodeCount e)) last)
     ends-coded {scope = scope} {e = e} ge {n} body last ns ls laid labelled =
-        let sink = n + size e in
+        let sink = n + nodeCount e in
         let nodes = nodesOf e n sink in
         record {
           sink = sink;
@@ -108,7 +108,7 @@ module _ (d : Dag) (M : Labels) (bodies : ℕ → Calculus.Exp) where
     unfolding constructFrom programLabels nodeMeant
     goal-ends none gg n laid ls = ends-coded gg false Node.publish [] _ laid ls
     goal-ends {g = g} (more {x = x} {xs = xs} h hs) gg n laid ls =
-        let after = suc (n + size (x .body)) in
+        let after = suc (n + nodeCount (x .body)) in
         goal-ends hs gg after
         (each-tail (then-laid d (x .body) (Node.return ∷ constructFrom after xs g .nodes) laid))
         (each-tail (then-labelled M (x .body) (levels (x .formals)) 0 true _ ls))
@@ -119,9 +119,9 @@ module _ (d : Dag) (M : Labels) (bodies : ℕ → Calculus.Exp) where
     unfolding constructFrom programLabels nodeMeant bodyMeant
     body-ends g none n laid ls e l = absurd (omega arith)
     body-ends g (more {x = x} {xs = xs} h hs) n laid ls zero l =
-        ends-coded (h .body) true Node.return (constructFrom (suc (n + size (x .body))) xs g .nodes) _ laid ls
+        ends-coded (h .body) true Node.return (constructFrom (suc (n + nodeCount (x .body))) xs g .nodes) _ laid ls
     body-ends g (more {x = x} {xs = xs} h hs) n laid ls (suc e) l =
-        let after = suc (n + size (x .body)) in
+        let after = suc (n + nodeCount (x .body)) in
         body-ends g hs after
         (each-tail (then-laid d (x .body) (Node.return ∷ constructFrom after xs g .nodes) laid))
         (each-tail (then-labelled M (x .body) (levels (x .formals)) 0 true _ ls)) e (omega arith)

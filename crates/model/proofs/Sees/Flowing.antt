@@ -8,13 +8,13 @@ use native.Mathlib.Omega.{arith}
 use lib.ListN.{length, getD, length-map}
 use Rattle.job.specs.Test.{All, none, more}
 use Rattle.job.specs.Syntax.{Param, Join, Exp, Definition, Program, formalsOf, levels, scopeLeft, scopeRight}
-use Rattle.job.specs.WellFormed.{GoodParam, Binds, Good, GoodDefinition, WellFormed}
+use Rattle.job.specs.WellFormed.{GoodParam, GoodJoin, Good, GoodDefinition, WellFormed}
 use Rattle.job.specs.Node.{Node, Dag, nodeAt, bodyAt}
-use Rattle.job.specs.Construct.{own, size, root, ownNodes, nodesOf, nextLeft, nextRight, constructFrom, construct}
+use Rattle.job.specs.Construct.{own, nodeCount, root, ownNodes, nodesOf, nextLeft, nextRight, constructFrom, construct}
 use Rattle.job.proofs.Test.{All-map}
 use Rattle.job.proofs.Size.{own-length, nodes-length}
 use Rattle.job.proofs.All.{All-member, All-at}
-use Rattle.job.proofs.Kept.{bodies-length, formals-few}
+use Rattle.job.proofs.DagHolds.{bodies-length, formals-few}
 use Rattle.model.proofs.Sees.Labels.{Labels, Fresh, Follows, Enters, FlowAt, Flow}
 use Rattle.model.proofs.Sees.Each.{Each, each-head, each-tail, each-from, each-append, three-each, each-at}
 use Rattle.model.proofs.Sees.Labelling.{Label, plain, nestRight, ownLabels, expLabels, programLabels, labelsOf}
@@ -40,17 +40,17 @@ levels-below (suc n) = subst (λ x. Below (x ∷ levels n)) (levels-length n) (b
 below-fresh : {scope : List ℕ} → Below scope → Fresh (length scope) scope
 below-fresh {scope} b m = let l : length scope < length scope = All-member b m in omega arith
 
-below-left : {scope : List ℕ} {j : Join} → Binds scope j → Below scope → Below (scopeLeft j scope)
+below-left : {scope : List ℕ} {j : Join} → GoodJoin scope j → Below scope → Below (scopeLeft j scope)
 unfolding scopeLeft
-below-left Binds.par b = b
-below-left (Binds.seq l) b = b
-below-left (Binds.prune l) b = below-more b
+below-left GoodJoin.par b = b
+below-left (GoodJoin.seq l) b = b
+below-left (GoodJoin.prune l) b = below-more b
 
-below-right : {scope : List ℕ} {j : Join} → Binds scope j → Below scope → Below (scopeRight j scope)
+below-right : {scope : List ℕ} {j : Join} → GoodJoin scope j → Below scope → Below (scopeRight j scope)
 unfolding scopeRight
-below-right Binds.par b = b
-below-right (Binds.seq l) b = below-more b
-below-right (Binds.prune l) b = b
+below-right GoodJoin.par b = b
+below-right (GoodJoin.seq l) b = below-more b
+below-right (GoodJoin.prune l) b = b
 
 -- a node that code of this scope, nest and body goes toward
 pub record Toward (M : Labels) (k : ℕ) (within : List ℕ) (under : ℕ) (inBody : Bool) : Type 0 where
@@ -96,23 +96,23 @@ module _ (d : Dag) (M : Labels) where
   follows h t e f = record { scope = t .scope ∙ e; nest = t .nest ∙ f; body = t .body ∙ sym (h .body) }
 
   -- the nodes that a join makes itself
-  own-flows : {n k l r : ℕ} {scope : List ℕ} {j : Join} {nest : ℕ} {body : Bool} → Binds scope j → Below scope
+  own-flows : {n k l r : ℕ} {scope : List ℕ} {j : Join} {nest : ℕ} {body : Bool} → GoodJoin scope j → Below scope
       → Labelled M n (ownLabels j scope nest body)
       → Has M l (plain (scopeLeft j scope) nest body) → Has M r (plain (scopeRight j scope) (nestRight j nest) body)
       → Toward M k scope nest body → Each (FlowAt d M) n (ownNodes j l r k)
   unfolding ownLabels ownNodes scopeLeft scopeRight nestRight
-  own-flows Binds.par b (Each.more h ls) hl hr t =
+  own-flows GoodJoin.par b (Each.more h ls) hl hr t =
       Each.more
       (FlowAt.fork (hl .value) (hr .value)
       (follows h (has-toward hl) (sym (h .scope)) (sym (h .nest)))
       (follows h (has-toward hr) (sym (h .scope)) (sym (h .nest))))
       Each.none
-  own-flows {scope = scope} (Binds.seq x) b (Each.more h (Each.more h′ ls)) hl hr t =
+  own-flows {scope = scope} (GoodJoin.seq x) b (Each.more h (Each.more h′ ls)) hl hr t =
       Each.more
       (FlowAt.assign (h .value) x (subst (Fresh (length scope)) (sym (h .scope)) (below-fresh b))
       (follows h (has-toward hr) (ap (λ s. length scope ∷ s) (sym (h .scope))) (sym (h .nest))))
       (Each.more (FlowAt.remove (h′ .value) x (h′ .scope) (below-fresh b) (follows h′ t refl (sym (h′ .nest)))) Each.none)
-  own-flows {scope = scope} (Binds.prune x) b (Each.more h (Each.more h′ (Each.more h″ ls))) hl hr t =
+  own-flows {scope = scope} (GoodJoin.prune x) b (Each.more h (Each.more h′ (Each.more h″ ls))) hl hr t =
       Each.more
       (FlowAt.where' (hl .value) (hr .value) x (subst (Fresh (length scope)) (sym (h .scope)) (below-fresh b))
       (follows h (has-toward hl) (ap (λ s. length scope ∷ s) (sym (h .scope))) (sym (h .nest)))
@@ -143,8 +143,8 @@ module _ (d : Dag) (M : Labels) where
         let hl = root-labelled M f (scopeLeft j scope) nest body (parts .second) in
         let hr = root-labelled M g (scopeRight j scope) (nestRight j nest) body (parts .third) in
         let left = n + own j in
-        let right = n + own j + size f in
-        three-each (own j) (size f) _ _ _ (own-length j (root f left) (root g right) k) (nodes-length f left (nextLeft j n k))
+        let right = n + own j + nodeCount f in
+        three-each (own j) (nodeCount f) _ _ _ (own-length j (root f left) (root g right) k) (nodes-length f left (nextLeft j n k))
         (record {
           first = own-flows bs b (parts .first) hl hr t;
           second = exp-flows gf (below-left bs b) nest body (parts .second) (left-toward M j (parts .first) t);
@@ -156,7 +156,7 @@ module _ (d : Dag) (M : Labels) where
     unfolding programLabels constructFrom
     program-flows {g = g} none gg n ls =
         let sink = each-head (then-labelled M g [] 0 false _ ls) in
-        each-append (n + size g) (ap (λ x. n + x) (nodes-length g n (n + size g)))
+        each-append (n + nodeCount g) (ap (λ x. n + x) (nodes-length g n (n + nodeCount g)))
         (exp-flows gg none 0 false (here-labelled M g [] 0 false _ ls) (has-toward sink))
         (Each.more (FlowAt.publish (sink .value)) Each.none)
     program-flows {g = g} (more {x = x} {xs = xs} h hs) gg n ls =
@@ -164,9 +164,9 @@ module _ (d : Dag) (M : Labels) where
         let scope = levels (x .formals) in
         let rest = then-labelled M e scope 0 true _ ls in
         let sink = each-head rest in
-        each-append (n + size e) (ap (λ m. n + m) (nodes-length e n (n + size e)))
+        each-append (n + nodeCount e) (ap (λ m. n + m) (nodes-length e n (n + nodeCount e)))
         (exp-flows (h .body) (levels-below (x .formals)) 0 true (here-labelled M e scope 0 true _ ls) (has-toward sink))
-        (Each.more (FlowAt.return (sink .value) (sink .nest) (sink .body)) (program-flows hs gg (suc (n + size e)) (each-tail rest)))
+        (Each.more (FlowAt.return (sink .value) (sink .nest) (sink .body)) (program-flows hs gg (suc (n + nodeCount e)) (each-tail rest)))
 
 module _ (M : Labels) where
   goal-labelled : (n : ℕ) (ds : List Definition) (g : Exp) → Labelled M n (programLabels ds g)
@@ -174,7 +174,7 @@ module _ (M : Labels) where
   unfolding programLabels constructFrom
   goal-labelled n [] g ls = root-labelled M g [] 0 false (here-labelled M g [] 0 false _ ls)
   goal-labelled n (d ∷ ds) g ls =
-      goal-labelled (suc (n + size (d .body))) ds g (each-tail (then-labelled M (d .body) (levels (d .formals)) 0 true _ ls))
+      goal-labelled (suc (n + nodeCount (d .body))) ds g (each-tail (then-labelled M (d .body) (levels (d .formals)) 0 true _ ls))
 
   body-labelled : (n : ℕ) (ds : List Definition) (g : Exp) → Labelled M n (programLabels ds g) → (e : ℕ) → e < length ds
       → Has M (getD (constructFrom n ds g .bodies) e (record { root = 0; formals = 0 }) .root) (plain (levels (getD (formalsOf ds) e 0)) 0 true)
@@ -184,7 +184,7 @@ module _ (M : Labels) where
       let scope = levels (d .formals) in root-labelled M (d .body) scope 0 true (here-labelled M (d .body) scope 0 true _ ls)
   body-labelled n (d ∷ ds) g ls (suc e) l =
       let rest = then-labelled M (d .body) (levels (d .formals)) 0 true _ ls in
-      body-labelled (suc (n + size (d .body))) ds g (each-tail rest) e (omega arith)
+      body-labelled (suc (n + nodeCount (d .body))) ds g (each-tail rest) e (omega arith)
 
 -- a definition call enters at a body's root, with the body's formals in scope
 construct-entered : (p : Program) → WellFormed p → Entered (construct p) (labelsOf p) (formalsOf (p .definitions))

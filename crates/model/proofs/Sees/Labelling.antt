@@ -6,7 +6,7 @@ use mathlib.Core.List.{List, [], _∷_, _++_}
 use Prim.Native.Nat.{ℕ, suc, _+_}
 use lib.ListN.{length, getD, length-append}
 use Rattle.job.specs.Syntax.{Join, par, seq, prune, Exp, stop, site, call, join, Definition, Program, levels, scopeLeft, scopeRight}
-use Rattle.job.specs.Construct.{own, size}
+use Rattle.job.specs.Construct.{own, nodeCount}
 use Rattle.model.proofs.Sees.Labels.{Labels}
 use Rattle.model.proofs.Sees.Each.{Each, Three, each-map, each-left, each-right, each-three, each-own}
 
@@ -74,8 +74,8 @@ own-labels-length par scope nest body = refl
 own-labels-length (seq x) scope nest body = refl
 own-labels-length (prune x) scope nest body = refl
 
-pub exp-labels-length : (e : Exp) (scope : List ℕ) (nest : ℕ) (body : Bool) → length (expLabels e scope nest body) ≡ size e
-unfolding expLabels size
+pub exp-labels-length : (e : Exp) (scope : List ℕ) (nest : ℕ) (body : Bool) → length (expLabels e scope nest body) ≡ nodeCount e
+unfolding expLabels nodeCount
 exp-labels-length stop scope nest body = refl
 exp-labels-length (site s ps) scope nest body = refl
 exp-labels-length (call d ps) scope nest body = refl
@@ -91,7 +91,7 @@ Labelled M n ls = Each (Has M) n ls
 
 abbrev pub JoinLabelled : Labels → ℕ → Join → (f g : Exp) → List ℕ → ℕ → Bool → Type 0
 JoinLabelled M n j f g scope nest body =
-    Three (Has M) n (own j) (size f)
+    Three (Has M) n (own j) (nodeCount f)
     (ownLabels j scope nest body)
     (expLabels f (scopeLeft j scope) nest body)
     (expLabels g (scopeRight j scope) (nestRight j nest) body)
@@ -101,15 +101,15 @@ module _ (M : Labels) where
       → Labelled M n (expLabels (join j f g) scope nest body) → JoinLabelled M n j f g scope nest body
   unfolding expLabels
   join-labelled j f g scope nest body ls =
-      each-three (own j) (size f) _ _ _ (own-labels-length j scope nest body) (exp-labels-length f (scopeLeft j scope) nest body) ls
+      each-three (own j) (nodeCount f) _ _ _ (own-labels-length j scope nest body) (exp-labels-length f (scopeLeft j scope) nest body) ls
 
   module _ {n : ℕ} (e : Exp) (scope : List ℕ) (nest : ℕ) (body : Bool) (ls : List Label)
       (labelled : Labelled M n (expLabels e scope nest body ++ ls)) where
     pub here-labelled : Labelled M n (expLabels e scope nest body)
     here-labelled = each-left _ ls labelled
 
-    pub then-labelled : Labelled M (n + size e) ls
-    then-labelled = each-right (expLabels e scope nest body) ls (n + size e) (ap (λ m. n + m) (exp-labels-length e scope nest body)) labelled
+    pub then-labelled : Labelled M (n + nodeCount e) ls
+    then-labelled = each-right (expLabels e scope nest body) ls (n + nodeCount e) (ap (λ m. n + m) (exp-labels-length e scope nest body)) labelled
 
 -- the labels of a program stand for its nodes
 pub labelled-whole : (p : Program) → Labelled (labelsOf p) 0 (programLabels (p .definitions) (p .goal))

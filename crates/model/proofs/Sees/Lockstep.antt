@@ -16,7 +16,7 @@ use Rattle.job.specs.Node.{Dag, nodeAt, isNode, dagHolds}
 use Rattle.model.specs.Machine.Limits.{Limits, limits}
 use Rattle.model.specs.Machine.Blank.{blankToken, tokenAt}
 use Rattle.model.specs.Machine.InUse.{tokensUsed, cellsUsed, marked}
-use Rattle.model.specs.Machine.Places.{nextPlace}
+use Rattle.model.specs.Machine.FreePlace.{nextPlace}
 use Rattle.model.specs.Machine.Rules.{tokenInRange, sizesInRange, rulesHold}
 use Rattle.model.specs.Machine.State.{isReady}
 use Rattle.model.specs.Machine.Reply.{Effect, moves, waits, publishes, calls, refuses, accepted, outcome, reported, isRefused}
@@ -40,9 +40,9 @@ use Rattle.job.proofs.Test.{clash, holds-or-fails, and-left, and-right, all-at,
 use Rattle.model.proofs.Machine.Marks.{Free}
 use Rattle.model.proofs.Machine.InUse.{tokens-used, cells-used}
 use Rattle.model.proofs.Machine.Places.{next-place-free}
-use Rattle.model.proofs.Machine.Rules.{RulesKept, rules-kept, ready-state}
+use Rattle.model.proofs.Machine.Rules.{EachRuleHolds, each-rule-holds, ready-state}
 use Rattle.model.proofs.Machine.Refused.{outcome-refused, StepAccepted, step-accepted, AnswerAccepted, answer-accepted}
-use Rattle.model.proofs.Run.Queue.{queue-kept, tokens-sized, lasttoken-inside}
+use Rattle.model.proofs.Run.Queue.{queue-rules-hold, tokens-sized, lasttoken-inside}
 use Rattle.simulation.proofs.Machine as Abstract
 use Rattle.simulation.proofs.Machine.{Binding, Frame, at, Store, state, labelOf, after, Move, startAt}
 use Rattle.model.proofs.Sees.Labels.{Labels, programOf, Flow}
@@ -62,9 +62,9 @@ pub fitting : (t c k : ℕ) → Fitting (limits t c k)
 fitting t c k = record { tokens = omega arith; cells = omega arith }
 
 -- what the rules of an accepted step give: new places are free, and the token that acts is ready and at a node
-module _ (lim : Limits) (d : Dag) (m : Machine) (kept : rulesHold lim d m ≡ true) where
-  rules : RulesKept lim d m
-  rules = rules-kept lim d m kept
+module _ (lim : Limits) (d : Dag) (m : Machine) (holds : rulesHold lim d m ≡ true) where
+  rules : EachRuleHolds lim d m
+  rules = each-rule-holds lim d m holds
 
   cells-sized : length (m .cells) ≡ lim .cellPlaces
   unfolding sizesInRange
@@ -79,8 +79,8 @@ module _ (lim : Limits) (d : Dag) (m : Machine) (kept : rulesHold lim d m ≡ tr
   free-token fits e =
       let few = ltb-lt (marked (tokensUsed m)) (lim .tokens) e in
       let size = tokens-used (m .tokens) (m .cells) .size in
-      let places = tokens-sized lim d m kept in
-      let last = lasttoken-inside lim d m kept in
+      let places = tokens-sized lim d m holds in
+      let last = lasttoken-inside lim d m holds in
       let room : lim .tokens ≤ lim .tokenPlaces = fits .tokens in
       next-place-free (tokensUsed m) (m .lasttoken) (omega arith) (omega arith)
 
@@ -132,12 +132,12 @@ module _ (lim : Limits) (d : Dag) (M : Labels) (bodies : ℕ → Exp) (fits : Fi
       → Agrees M (world (m .tokens) (m .cells) name place σ new) L R (m .calls) (takes lim d m k)
       (Abstract.act (programOf d M bodies) σ new (m .calls) (at n B F U) v)
   unfolding takes
-  takes-agrees m k kept l {name} {place} {σ} {new} {L} {R} {n} {B} {F} {U} {v} acting =
+  takes-agrees m k holds l {name} {place} {σ} {new} {L} {R} {n} {B} {F} {U} {v} acting =
       subst
       (λ i. Agrees M W L R (m .calls) (Step.act lim d m (withOrders (without k (queueOf m)) (waitsOf m) m) p (tokenAt (m .tokens) p) (nodeAt d i)) x)
       (sym (acting .place .node))
       (act-agrees lim d M bodies m (without k (queueOf m)) (waitsOf m) acting
-      (free-token lim d m kept fits) (free-cell lim d m kept fits) (flow .at n there))
+      (free-token lim d m holds fits) (free-cell lim d m holds fits) (flow .at n there))
     where
       W : World
       W = world (m .tokens) (m .cells) name place σ new
@@ -149,14 +149,14 @@ module _ (lim : Limits) (d : Dag) (M : Labels) (bodies : ℕ → Exp) (fits : Fi
       x = Abstract.act (programOf d M bodies) σ new (m .calls) (at n B F U) v
 
       there : n < length (d .nodes)
-      there = subst (λ i. i < length (d .nodes)) (acting .place .node) (at-node lim d m kept p (queue-kept lim d m kept .named k l))
+      there = subst (λ i. i < length (d .nodes)) (acting .place .node) (at-node lim d m holds p (queue-rules-hold lim d m holds .named k l))
 
   -- an accepted step
   pub step-locks : (m : Machine) {s : Abstract.State} → Sees M m s → (place : ℕ) → isRefused (Step.step lim d m place .reply) ≡ false
       → Steps d M bodies s (eventsBy (step place) (Step.step lim d m place)) (Step.step lim d m place .machine)
   step-locks m (seenAs {S = S} {σ = σ} {new = new} name place A K) k ok =
       subst (λ (o : Outcome). Steps d M bodies (state S σ new (m .calls)) (eventsBy (step k) o) (o .machine)) (sym (a .does))
-      (go (take-ready p K (ready-state _ (queue-kept lim d m (a .kept) .ready k (a .queued)))))
+      (go (take-ready p K (ready-state _ (queue-rules-hold lim d m (a .holds) .ready k (a .queued)))))
     where
       a : StepAccepted lim d m k
       a = step-accepted lim d m k ok
@@ -174,7 +174,7 @@ module _ (lim : Limits) (d : Dag) (M : Labels) (bodies : ℕ → Exp) (fits : Fi
       go (taken {L = L} {R = R} {n = n} {B = B} {F = F} {U = U} {v = v} split acting) =
           let both =
           shown-by M W L R (m .calls) (Abstract.act (programOf d M bodies) σ new (m .calls) (at n B F U) v) k m (takes lim d m k)
-          (takes-agrees m k (a .kept) (a .queued) acting)
+          (takes-agrees m k (a .holds) (a .queued) acting)
           (subst (λ (o : Outcome). isRefused (o .reply) ≡ false) (a .does) ok) in
           steps (Abstract.step Move.acts split) (both .0) (both .1)
 
@@ -222,8 +222,8 @@ refused-leaves lim d m (answer h v signed) e = outcome-refused m _ e
 -- "14: dag .. breaks an index rule": nothing is accepted on such a dag
 accepted-dag : (lim : Limits) (d : Dag) (m : Machine) (c : Call) → isRefused (outcomeOf runner lim d m c .reply) ≡ false → dagHolds d ≡ true
 unfolding outcomeOf
-accepted-dag lim d m (step place) ok = rules-kept lim d m (step-accepted lim d m place ok .kept) .dag
-accepted-dag lim d m (answer h v signed) ok = rules-kept lim d m (answer-accepted lim d m h v ok .kept) .dag
+accepted-dag lim d m (step place) ok = each-rule-holds lim d m (step-accepted lim d m place ok .holds) .dag
+accepted-dag lim d m (answer h v signed) ok = each-rule-holds lim d m (answer-accepted lim d m h v ok .holds) .dag
 
 pub shown-append : (a : Label) (es : List Event) → shown a [] ++ es ≡ shown a es
 unfolding shown
@@ -301,5 +301,5 @@ module _ (lim : Limits) (d : Dag) (M : Labels) (bodies : ℕ → Exp) (fits : Fi
       from (runs r sn) = shows r
 
       go : (dagHolds d ≡ true) ⊎ (dagHolds d ≡ false) → Shown (eventsFrom runner lim d (started runner lim d) cs)
-      go (inl kept) = from (calls-lock cs (started runner lim d) (startAt (d .goal)) (start-sees lim d M flow some kept))
+      go (inl holds) = from (calls-lock cs (started runner lim d) (startAt (d .goal)) (start-sees lim d M flow some holds))
       go (inr broken) = subst Shown (sym (no-events broken cs (started runner lim d))) (shows Abstract.rests)

@@ -28,13 +28,13 @@ markChain link blank xs (suc n) q marks =
           ]
     ]
 
-unfoldable pub markChains : {A : Type 0} → (A → Place) → A → List A → List Place → List Bool → List Bool
-markChains link blank xs [] marks = marks
-markChains link blank xs (q ∷ qs) marks = markChains link blank xs qs (markChain link blank xs (length xs) q marks)
+unfoldable pub markFromEach : {A : Type 0} → (A → Place) → A → List A → List Place → List Bool → List Bool
+markFromEach link blank xs [] marks = marks
+markFromEach link blank xs (q ∷ qs) marks = markFromEach link blank xs qs (markChain link blank xs (length xs) q marks)
 
 -- what is reached from some places
 unfoldable pub reached : {A : Type 0} → (A → Place) → A → List A → List Place → List Bool
-reached link blank xs from = markChains link blank xs from (replicate (length xs) false)
+reached link blank xs from = markFromEach link blank xs from (replicate (length xs) false)
 
 -- the places of the active tokens, counted from i
 unfoldable pub activePlaces : List Cell → ℕ → List Token → List Place

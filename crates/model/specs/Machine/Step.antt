@@ -14,7 +14,7 @@ use Rattle.model.specs.Machine.Limits.{Limits}
 use Rattle.model.specs.Machine.Blank.{empty, unbound, blankToken, tokenAt, cellAt, slotAt}
 use Rattle.model.specs.Machine.Active.{within}
 use Rattle.model.specs.Machine.InUse.{tokensUsed, cellsUsed, marked}
-use Rattle.model.specs.Machine.Places.{nextPlace}
+use Rattle.model.specs.Machine.FreePlace.{nextPlace}
 use Rattle.model.specs.Machine.Rules.{rulesHold}
 use Rattle.model.specs.Machine.State.{isReady, isWaiting, waitsAt}
 use Rattle.model.specs.Machine.Reply.{Effect, moves, waits, publishes, calls, refuses, unless, outcome}
@@ -166,8 +166,8 @@ chokeToken cs c t =
     ]
 
 -- the machine after a choke: the queue has those that are still ready, then the woken ones, "longest wait first"
-unfoldable pub choked : ℕ → Held → Machine → Machine
-choked c v m =
+unfoldable pub afterChoke : ℕ → Held → Machine → Machine
+afterChoke c v m =
     let ts = map (chokeToken (m .cells) c) (m .tokens) in
     let cs = set (m .cells) c (record { parent = cellAt (m .cells) c .parent; value = v }) in
     withOrders
@@ -237,7 +237,7 @@ module _ (m : Machine) (p : ℕ) (t : Token) where
   -- "choke: set the cell; .." (The test for 14 leaves no token without a cell.)
   unfoldable pub chokeAt : Place → Effect
   chokeAt places.Nowhere = refuses refusals.Rule
-  chokeAt (places.At c) = moves (choked c (t .value) m)
+  chokeAt (places.At c) = moves (afterChoke c (t .value) m)
 
 module _ (lim : Limits) (d : Dag) where
   -- "13: outside call, all values there, after 1,000,000 such calls"

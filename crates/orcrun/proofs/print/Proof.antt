@@ -4,7 +4,7 @@ use native.Mathlib.Omega.{arith}
 use mathlib.Core.Path.{_≡_}
 use Prim.Native.Nat.{_<_}
 use lib.ListN.{length}
-use Rattle.model.specs.Lines.Orcrun.{orcrun}
+use Rattle.model.specs.Output.Orcrun.{orcrun}
 use Rattle.lines.specs.Shown.{Piece}
 use Rattle.run.proofs.Pieces.{piece-shown, piece-full, piece-last}
 use Rattle.orcrun.proofs.print.Statement.{statement}

@@ -23,11 +23,11 @@ array-copy-out-a c = search needs
 array-copy-out-b : tie.Need-array-copy-out-b
 array-copy-out-b c = search needs
 
-add-word : tie.Need-add-word
-add-word c = search needs
+add-dag-word : tie.Need-add-dag-word
+add-dag-word c = search needs
 
-word-requires : tie.Need-word-requires
-word-requires c κs = let l = row-fits (c .before .before .pre .0 .is .acting) in omega arith
+dag-word-requires : tie.Need-dag-word-requires
+dag-word-requires c κs = let l = row-fits (c .before .before .pre .0 .is .acting) in omega arith
 
 builtin-requires : tie.Need-builtin-requires
 builtin-requires c κs = search needs
@@ -35,14 +35,14 @@ builtin-requires c κs = search needs
 enum-known-v : tie.Need-enum-known-v
 enum-known-v c = search needs
 
-bits-requires : tie.Need-bits-requires
-bits-requires c κs = search needs
+unsigned-requires : tie.Need-unsigned-requires
+unsigned-requires c κs = search needs
 
-add-word-2 : tie.Need-add-word-2
-add-word-2 c = search needs
+add-dag-word-2 : tie.Need-add-dag-word-2
+add-dag-word-2 c = search needs
 
-word-requires-2 : tie.Need-word-requires-2
-word-requires-2 c κs = let l = row-fits (c .before .before .before .before .before .before .before .before .before .pre .0 .is .acting) in omega arith
+dag-word-requires-2 : tie.Need-dag-word-requires-2
+dag-word-requires-2 c κs = let l = row-fits (c .before .before .before .before .before .before .before .before .before .pre .0 .is .acting) in omega arith
 
 reply-requires : tie.Need-reply-requires
 reply-requires c κs = token-inside (c .before .before .before .before .before .before .before .before .before .before .pre .0 .is .acting .taking)
@@ -65,9 +65,9 @@ returns c = λ m k.
     let v = c .before .before .before .before .before .before .v .given in
     let h : SFits w32 (v .0 .0) = search needs in
     let back = reply-back _ _ (rw (toZ-ofZ f, toZ-ofZ g) at (c .before .before .before .before .before .before .before .before .builtin .ensures)) in
-    let reply = replied-by (k .values) vs (s .pre .1) (k .padded) (c .before .before .before .before .before .before .before .before .before .word .ensures) back (v .1) in
-    reply-gives (k .acting .taking) (v .0 .0) _ _ _ (says _ _ _ _ m k (gives (v .0 .0)) (s .pre .1) reply) (c .before .before .word2 .ensures) (c .plain .ensures)
-    (c .before .reply .ensures m (helds.Value (v .0 .0)) (k .acting .taking .lawful .holds) (k .acting .taking .queued) refl (sym (rw (toZ-ofZ h) at (c .before .before .before .bits .ensures))))
+    let reply = replied-by (k .values) vs (s .pre .1) (k .padded) (c .before .before .before .before .before .before .before .before .before .dag-word .ensures) back (v .1) in
+    reply-gives (k .acting .taking) (v .0 .0) _ _ _ (says _ _ _ _ m k (gives (v .0 .0)) (s .pre .1) reply) (c .before .before .dag-word2 .ensures) (c .plain .ensures)
+    (c .before .reply .ensures m (helds.Value (v .0 .0)) (k .acting .taking .lawful .holds) (k .acting .taking .queued) refl (sym (rw (toZ-ofZ h) at (c .before .before .before .unsigned .ensures))))
 
 returns-2 : tie.Need-returns-2
 returns-2 c = λ m k.
@@ -76,7 +76,7 @@ returns-2 c = λ m k.
     let f : SFits w32 (getD vs 0 (pos 0)) = search needs in
     let g : SFits w32 (getD vs 1 (pos 0)) = search needs in
     let back = reply-back _ _ (rw (toZ-ofZ f, toZ-ofZ g) at (c .before .before .before .before .before .before .builtin .ensures)) in
-    let reply = replied-by (k .values) vs (s .pre .1) (k .padded) (c .before .before .before .before .before .before .before .word .ensures) back (c .before .before .before .before .enum-told .given .1) in
+    let reply = replied-by (k .values) vs (s .pre .1) (k .padded) (c .before .before .before .before .before .before .before .dag-word .ensures) back (c .before .before .before .before .enum-told .given .1) in
     gives-as (says _ _ _ _ m k silent (s .pre .1) reply ∙ silent-ends m _ _ _) (c .end .ensures m _ (k .acting .taking))
 
 pub built-in-spec : {M : Type 1} → statement M
@@ -85,13 +85,13 @@ built-in-spec =
     (tie.spec
     array-copy-out-a
     array-copy-out-b
-    add-word
-    word-requires
+    add-dag-word
+    dag-word-requires
     builtin-requires
     enum-known-v
-    bits-requires
-    add-word-2
-    word-requires-2
+    unsigned-requires
+    add-dag-word-2
+    dag-word-requires-2
     reply-requires
     plain-requires
     enum-told

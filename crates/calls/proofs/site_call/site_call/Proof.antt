@@ -25,16 +25,16 @@ returns c = λ m a.
     wait-gives (a .taking) _ _ (waits-at _ _ _ _ m a _ found) (c .plain .ensures)
     (c .before .wait .ensures m (a .taking .lawful .holds) (a .taking .queued) (waits-room _ m (a .taking .lawful .rules) _ (a .taking .queued)))
 
-add-word : tie.Need-add-word
-add-word c = search needs
+add-dag-word : tie.Need-add-dag-word
+add-dag-word c = search needs
 
-word-requires : tie.Need-word-requires
-word-requires c κs = let l = row-fits (c .before .before .before .before .pre .is) in omega arith
+dag-word-requires : tie.Need-dag-word-requires
+dag-word-requires c κs = let l = row-fits (c .before .before .before .before .pre .is) in omega arith
 
 built-in-requires : tie.Need-built-in-requires
 built-in-requires c κs = let a = c .before .before .before .before .before .before .before .before .before .pre .is in
     let facts = look-facts _ _ (a .taking .lawful .rules) _ (token-inside (a .taking)) in
-    (record { machine = c .before .before .before .before .before .before .before .before .before .pre .machine; is = values-of _ a (c .before .before .before .before .before .before .before .look-up .ensures _ (a .taking .lawful .holds .codes) facts) (c .before .before .before .before .before .before .if1 .left) }, (let e = c .before .before .before .before .word .ensures in let l = c .before .before .before .if2 .taken in omega arith))
+    (record { machine = c .before .before .before .before .before .before .before .before .before .pre .machine; is = values-of _ a (c .before .before .before .before .before .before .before .look-up .ensures _ (a .taking .lawful .holds .codes) facts) (c .before .before .before .before .before .before .if1 .left) }, (let e = c .before .before .before .before .dag-word .ensures in let l = c .before .before .before .if2 .taken in omega arith))
 
 returns-2 : tie.Need-returns-2
 returns-2 c = λ m a.
@@ -49,7 +49,7 @@ outside-requires c κs = let a = c .before .before .before .before .before .befo
 returns-3 : tie.Need-returns-3
 returns-3 c = λ m a.
     let facts = look-facts _ m (a .taking .lawful .rules) _ (token-inside (a .taking)) in
-    c .outside .ensures m (values-of _ a (c .before .before .before .before .before .before .before .before .look-up .ensures m (a .taking .lawful .holds .codes) facts) (c .before .before .before .before .before .before .before .if1 .left)) (let e = c .before .before .before .before .before .word .ensures in let l = c .before .before .before .before .if2 .left in omega arith)
+    c .outside .ensures m (values-of _ a (c .before .before .before .before .before .before .before .before .look-up .ensures m (a .taking .lawful .holds .codes) facts) (c .before .before .before .before .before .before .before .if1 .left)) (let e = c .before .before .before .before .before .dag-word .ensures in let l = c .before .before .before .before .if2 .left in omega arith)
 
 pub site-call-spec : {M : Type 1} → statement M
 site-call-spec =
@@ -59,8 +59,8 @@ site-call-spec =
     wait-requires
     plain-requires
     returns
-    add-word
-    word-requires
+    add-dag-word
+    dag-word-requires
     built-in-requires
     returns-2
     outside-requires

@@ -3,7 +3,7 @@ use mathlib.Core.Path.{_≡_, refl, sym, _∙_}
 use Prim.Native.Nat.{_*_, _-_, _≤_}
 use native.Mathlib.Omega.{arith}
 use lib.ListN.{drop}
-use Rattle.coded.specs.Coded.{tableCoded, rowCoded}
+use Rattle.coded.specs.WordTests.{tableCoded, rowCoded}
 use Rattle.coded.proofs.Testing.{table-on, table-fail, table-end}
 use borrow.Author.Needs.{needs}
 use Rattle.coded.proofs.words.rows_coded.Statement.{statement}

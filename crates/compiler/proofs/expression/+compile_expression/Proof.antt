@@ -11,7 +11,7 @@ use Rattle.compiler.proofs.TwoSides.{own-room, accept-left, accept-righ
 use Rattle.compiler.proofs.expression.compile_expression.Reads as reads
 use Rattle.compiler.proofs.expression.compile_expression.Kinds as kinds
 use Rattle.compiler.proofs.expression.+compile_expression.Lts-compile_expression as lts
-use Rattle.compiler.proofs.call.call_words.Reads as call-words-reads
+use Rattle.compiler.proofs.call.call_node_words.Reads as call-node-words-reads
 use Rattle.reader.proofs.entry.operand.Reads as operand-reads
 use Rattle.compiler.proofs.expression.single.Reads as single-reads
 use Rattle.compiler.proofs.join.join_root.Reads as join-root-reads
@@ -40,8 +40,8 @@ claims t = (
   single-reads.Learnt,
   operand-reads.Asked,
   operand-reads.Learnt,
-  call-words-reads.Asked,
-  call-words-reads.Learnt,
+  call-node-words-reads.Asked,
+  call-node-words-reads.Learnt,
   left-plan-reads.Asked,
   left-plan-reads.Learnt,
   Below t,
@@ -77,8 +77,8 @@ operand-requires t c κs = search needs
 cast-count : (t : ℕ) → lts.Need-cast-count (claims t) (At t) reads.Post
 cast-count t c = search needs
 
-call-words-requires : (t : ℕ) → lts.Need-call-words-requires (claims t) (At t) reads.Post
-call-words-requires t c κs =
+call-node-words-requires : (t : ℕ) → lts.Need-call-node-words-requires (claims t) (At t) reads.Post
+call-node-words-requires t c κs =
     let call = c .before .before in
     let known = call .before .before .before in
     let start = known .before .before in (
@@ -106,7 +106,7 @@ returns-2 t c =
     let known = call .before .before .before in
     let start = known .before .before in
     call-done (taken (start .pre .1)) (λ i. omega (arith, known .shared-slice-known2 .given i)) (call .before .if1 .left) (call .if2 .taken)
-    _ _ _ _ _ _ (head .operand .ensures) (words .call-words .ensures) (c .single2 .ensures) (c .before .put2 .ensures)
+    _ _ _ _ _ _ (head .operand .ensures) (words .call-node-words .ensures) (c .single2 .ensures) (c .before .put2 .ensures)
 
 left-plan-requires : (t : ℕ) → lts.Need-left-plan-requires (claims t) (At t) reads.Post
 left-plan-requires t c κs = search needs
@@ -174,7 +174,7 @@ pub +compile-expression-spec : {M : Type 1} → statement M
     (returns t)
     (operand-requires t)
     (cast-count t)
-    (call-words-requires t)
+    (call-node-words-requires t)
     (put-requires-2 t)
     (add-single-2 t)
     (add-single-3 t)

@@ -6,7 +6,7 @@ use lib.ListN.{take, getD}
 use Rattle.job.specs.Test.{all}
 use Rattle.job.specs.Node.{Body, bodyHolds}
 use Rattle.job.specs.Words.{dagOf}
-use Rattle.dag_rules.proofs.Array.{bodies-length, body-kept-at}
+use Rattle.dag_rules.proofs.Array.{bodies-length, body-holds-at}
 use Rattle.job.proofs.Both.{both-is}
 use Rattle.job.proofs.Loop.{all-turn, done}
 use borrow.Author.Needs.{needs}
@@ -33,7 +33,7 @@ loop-again c =
     let none : Body = record { root = 0; formals = 0 } in (
       search needs,
       all-turn (bodyHolds (dagOf dag)) (dagOf dag .bodies) i none (omega (arith, bodies-length dag)) (place3 .loop .inv .1)
-          (both-is _ _ ∙ sym (body-kept-at dag i none inside)),
+          (both-is _ _ ∙ sym (body-holds-at dag i none inside)),
     )
 
 returns : tie.Need-returns Inv-loop μ-loop

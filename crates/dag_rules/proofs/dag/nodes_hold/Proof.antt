@@ -6,8 +6,8 @@ use lib.ListN.{take, getD}
 use Rattle.job.specs.Test.{all}
 use Rattle.job.specs.Node.{Node, nodeHolds}
 use Rattle.job.specs.Words.{dagOf}
-use Rattle.dag_rules.specs.Rows.{rowHolds}
-use Rattle.dag_rules.proofs.Array.{nodes-length, node-kept-at, row-part}
+use Rattle.dag_rules.specs.NodeWordRules.{rowHolds}
+use Rattle.dag_rules.proofs.Array.{nodes-length, node-holds-at, row-part}
 use Rattle.job.proofs.Loop.{all-turn, done}
 use borrow.Author.Needs.{needs}
 use Rattle.dag_rules.proofs.dag.nodes_hold.Statement.{statement}
@@ -34,7 +34,7 @@ loop-again c =
       all-turn (nodeHolds (dagOf dag)) (dagOf dag .nodes) i Node.unknown (omega (arith, nodes-length dag)) (place3 .loop .inv .1)
           (c .row-holds .ensures
           ∙ ap (rowHolds (getD dag 0 0) (getD dag 1 0)) (row-part (67 + 12 * i) dag)
-          ∙ sym (node-kept-at dag (start .pre .0) (start .pre .1) i inside)),
+          ∙ sym (node-holds-at dag (start .pre .0) (start .pre .1) i inside)),
     )
 
 returns : tie.Need-returns Inv-loop μ-loop

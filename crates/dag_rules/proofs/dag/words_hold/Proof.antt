@@ -1,6 +1,6 @@
 -- `dag::words_hold` meets its contract: each answer is that of the rule which decides. Assumes nothing.
 use mathlib.Core.Path.{refl, sym, _∙_}
-use Rattle.dag_rules.proofs.Array.{many-nodes, many-bodies, kept-by-parts}
+use Rattle.dag_rules.proofs.Array.{many-nodes, many-bodies, holds-by-parts}
 use Rattle.job.proofs.Both.{three}
 use borrow.Author.Needs.{needs}
 use Rattle.dag_rules.proofs.dag.words_hold.Statement.{statement}
@@ -14,7 +14,7 @@ returns-2 c = search (needs, many-bodies)
 
 returns-3 : tie.Need-returns-3
 returns-3 c =
-    three refl (c .before .bodies-hold .ensures) (c .nodes-hold .ensures) ∙ sym (kept-by-parts _ (search needs) (search needs))
+    three refl (c .before .bodies-hold .ensures) (c .nodes-hold .ensures) ∙ sym (holds-by-parts _ (search needs) (search needs))
 
 pub words-hold-spec : {M : Type 1} → statement M
 words-hold-spec =

@@ -1,6 +1,6 @@
 -- `row::head_holds` meets its contract, kind by kind. Assumes nothing.
 use mathlib.Core.Path.{sym}
-use Rattle.dag_rules.specs.Rows.{headHolds}
+use Rattle.dag_rules.specs.NodeWordRules.{headHolds}
 use Rattle.job.proofs.Both.{both-is, three-are, NoneBelow, none-below}
 use Rattle.dag_rules.proofs.Rows.{head-past}
 use borrow.Author.Needs.{needs}

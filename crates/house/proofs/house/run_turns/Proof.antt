@@ -30,38 +30,38 @@ sub-left c = let inside = c .before .before .before .loop .inv .0 .going .inside
 is-last-requires : tie.Need-is-last-requires Inv-loop μ-loop
 is-last-requires c κs = search needs
 
-tell-last-requires : tie.Need-tell-last-requires Inv-loop μ-loop
-tell-last-requires c κs = let room = c .before .before .before .before .before .before .loop .inv .0 .going .room in omega arith
+show-last-requires : tie.Need-show-last-requires Inv-loop μ-loop
+show-last-requires c κs = let room = c .before .before .before .before .before .before .loop .inv .0 .going .room in omega arith
 
 same-length : tie.Need-same-length Inv-loop μ-loop
 same-length c = search needs
 
 returns : tie.Need-returns Inv-loop μ-loop
-returns c = lent-last _ _ _ _ (c .before .before .before .before .before .before .before .before .before .loop .inv .0) _ _ (c .before .before .before .before .before .before .before .queued .ensures) (c .before .before .before .before .before .before .wide .ensures) _ (c .before .before .before .before .before .is-last .ensures) (c .before .before .before .before .if1 .taken) (c .before .before .tell-last .ensures)
+returns c = lent-last _ _ _ _ (c .before .before .before .before .before .before .before .before .before .loop .inv .0) _ _ (c .before .before .before .before .before .before .before .queued .ensures) (c .before .before .before .before .before .before .wide .ensures) _ (c .before .before .before .before .before .is-last .ensures) (c .before .before .before .before .if1 .taken) (c .before .before .show-last .ensures)
 
 is-limit-requires : tie.Need-is-limit-requires Inv-loop μ-loop
 is-limit-requires c κs = search needs
 
-tell-limit-requires : tie.Need-tell-limit-requires Inv-loop μ-loop
-tell-limit-requires c κs = let room = c .before .before .before .before .before .before .before .before .loop .inv .0 .going .room in omega arith
+show-limit-requires : tie.Need-show-limit-requires Inv-loop μ-loop
+show-limit-requires c κs = let room = c .before .before .before .before .before .before .before .before .loop .inv .0 .going .room in omega arith
 
 same-length-2 : tie.Need-same-length-2 Inv-loop μ-loop
 same-length-2 c = search needs
 
 returns-2 : tie.Need-returns-2 Inv-loop μ-loop
-returns-2 c = lent-limit _ _ _ _ (c .before .before .before .before .before .before .before .before .before .before .before .loop .inv .0) _ _ (c .before .before .before .before .before .before .before .before .before .queued .ensures) (c .before .before .before .before .before .before .before .before .wide .ensures) _ (c .before .before .before .before .before .before .before .is-last .ensures) (c .before .before .before .before .before .before .if1 .left) _ (c .before .before .before .before .before .is-limit .ensures) (c .before .before .before .before .if2 .taken) (c .before .before .tell-limit .ensures)
+returns-2 c = lent-limit _ _ _ _ (c .before .before .before .before .before .before .before .before .before .before .before .loop .inv .0) _ _ (c .before .before .before .before .before .before .before .before .before .queued .ensures) (c .before .before .before .before .before .before .before .before .wide .ensures) _ (c .before .before .before .before .before .before .before .is-last .ensures) (c .before .before .before .before .before .before .if1 .left) _ (c .before .before .before .before .before .is-limit .ensures) (c .before .before .before .before .if2 .taken) (c .before .before .show-limit .ensures)
 
 turn-requires : tie.Need-turn-requires Inv-loop μ-loop
 turn-requires c κs = lent-turning _ _ _ _ (c .before .before .before .before .before .before .before .before .before .before .loop .inv .0) _ _ (c .before .before .before .before .before .before .before .before .queued .ensures) (c .before .before .before .before .before .before .before .wide .ensures) _ (c .before .before .before .before .before .before .is-last .ensures) (c .before .before .before .before .before .if1 .left)
 
-tell-requires : tie.Need-tell-requires Inv-loop μ-loop
-tell-requires c κs = let room = c .before .before .before .before .before .before .before .before .before .before .before .before .before .loop .inv .0 .going .room in omega arith
+show-reply-requires : tie.Need-show-reply-requires Inv-loop μ-loop
+show-reply-requires c κs = let room = c .before .before .before .before .before .before .before .before .before .before .before .before .before .loop .inv .0 .going .room in omega arith
 
 is-over-requires : tie.Need-is-over-requires Inv-loop μ-loop
 is-over-requires c κs = search needs
 
-tell-end-requires : tie.Need-tell-end-requires Inv-loop μ-loop
-tell-end-requires c κs = let room = c .before .before .before .before .before .before .before .before .before .before .before .before .before .before .before .before .before .before .before .loop .inv .0 .going .room in let small = c .before .before .before .before .before .tell .ensures .1 in omega arith
+show-end-requires : tie.Need-show-end-requires Inv-loop μ-loop
+show-end-requires c κs = let room = c .before .before .before .before .before .before .before .before .before .before .before .before .before .before .before .before .before .before .before .loop .inv .0 .going .room in let small = c .before .before .before .before .before .show-reply .ensures .1 in omega arith
 
 same-length-3 : tie.Need-same-length-3 Inv-loop μ-loop
 same-length-3 c = search needs
@@ -70,7 +70,7 @@ returns-3 : tie.Need-returns-3 Inv-loop μ-loop
 returns-3 c =
     lent-ends _ _ _ _ (c .before .before .before .before .before .before .before .before .before .before .before .before .before .before .before .before .before .before .before .before .before .before .loop .inv .0) _ _ (c .before .before .before .before .before .before .before .before .before .before .before .before .before .before .before .before .before .before .before .before .queued .ensures) (c .before .before .before .before .before .before .before .before .before .before .before .before .before .before .before .before .before .before .before .wide .ensures) _ (c .before .before .before .before .before .before .before .before .before .before .before .before .before .before .before .before .before .before .is-last .ensures) (c .before .before .before .before .before .before .before .before .before .before .before .before .before .before .before .before .before .if1 .left) _ (c .before .before .before .before .before .before .before .before .before .before .before .before .before .before .before .before .is-limit .ensures) (c .before .before .before .before .before .before .before .before .before .before .before .before .before .before .before .if2 .left)
     (c .before .before .before .before .before .before .before .before .before .before .before .turn .result) (c .before .before .before .before .before .before .before .before .before .before .before .turn .ensures) _ (c .before .before .before .before .before .is-over .ensures) (c .before .before .before .before .if3 .taken)
-    (c .before .before .before .before .before .before .before .before .tell .ensures .0) (c .before .before .tell-end .ensures)
+    (c .before .before .before .before .before .before .before .before .show-reply .ensures .0) (c .before .before .show-end .ensures)
 
 next-at-requires : tie.Need-next-at-requires Inv-loop μ-loop
 next-at-requires c κs = let inside = c .before .before .before .before .before .before .before .before .before .before .before .before .before .before .before .before .before .before .loop .inv .0 .going .inside in let few = c .before .before .before .before .before .before .before .before .before .before .before .before .before .before .before .before .before .before .before .before .before .pre .1 in omega arith
@@ -87,7 +87,7 @@ loop-again : tie.Need-loop-again Inv-loop μ-loop
 loop-again c = (
   lent-turns _ _ _ _ (c .before .before .before .before .before .before .before .before .before .before .before .before .before .before .before .before .before .before .before .before .loop .inv .0) _ _ (c .before .before .before .before .before .before .before .before .before .before .before .before .before .before .before .before .before .before .queued .ensures) (c .before .before .before .before .before .before .before .before .before .before .before .before .before .before .before .before .before .wide .ensures) _ (c .before .before .before .before .before .before .before .before .before .before .before .before .before .before .before .before .is-last .ensures) (c .before .before .before .before .before .before .before .before .before .before .before .before .before .before .before .if1 .left) _ (c .before .before .before .before .before .before .before .before .before .before .before .before .before .before .is-limit .ensures) (c .before .before .before .before .before .before .before .before .before .before .before .before .before .if2 .left)
       (c .before .before .before .before .before .before .before .before .before .turn .result) (c .before .before .before .before .before .before .before .before .before .turn .ensures) _ (c .before .before .before .is-over .ensures) (c .before .before .if3 .left) _ _ (c .next-steps .ensures) (c .before .next-at .ensures)
-      (c .before .before .before .before .before .before .tell .ensures .0) (c .before .before .before .before .before .before .tell .ensures .1),
+      (c .before .before .before .before .before .before .show-reply .ensures .0) (c .before .before .before .before .before .before .show-reply .ensures .1),
   search needs,
 )
 
@@ -102,17 +102,17 @@ run-turns-spec =
     wide-requires
     sub-left
     is-last-requires
-    tell-last-requires
+    show-last-requires
     same-length
     returns
     is-limit-requires
-    tell-limit-requires
+    show-limit-requires
     same-length-2
     returns-2
     turn-requires
-    tell-requires
+    show-reply-requires
     is-over-requires
-    tell-end-requires
+    show-end-requires
     same-length-3
     returns-3
     next-at-requires

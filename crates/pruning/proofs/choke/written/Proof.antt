@@ -3,7 +3,7 @@ use mathlib.Core.Path.{subst}
 use borrow.Author.Needs.{needs}
 use Rattle.model.specs.Machine.Step.{withTables}
 use Rattle.record.specs.Holds.{Holds}
-use Rattle.record.specs.Fields.{taken}
+use Rattle.record.specs.Fields.{dequeued}
 use Rattle.pruning.proofs.Chokes.{taken-room, choke-is}
 use Rattle.pruning.specs.Choking.{rowsChoked}
 use Rattle.pruning.proofs.choke.written.Statement.{statement}
@@ -27,8 +27,8 @@ returns c = λ m v h f ek en.
     let place = c .before .before .before .before .before .before .before .before .args .place in
     let cell = c .before .before .before .before .before .before .before .before .args .c in
     let one = c .before .before .before .before .before .before .leave .ensures m h (f .queued) in
-    let two = c .before .before .before .before .choke-rows .ensures (taken m place) one in
-    let three = c .before .before .set-value .ensures (rowsChoked cell 64 (taken m place)) v two ek en in
+    let two = c .before .before .before .before .choke-rows .ensures (dequeued m place) one in
+    let three = c .before .before .set-value .ensures (rowsChoked cell 64 (dequeued m place)) v two ek en in
     subst (Holds _) (choke-is m h place cell f v) (c .reorder .ensures _ three (taken-room m h place cell f))
 
 pub written-spec : {M : Type 1} → statement M

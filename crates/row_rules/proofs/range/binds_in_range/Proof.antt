@@ -12,14 +12,14 @@ use Rattle.model.specs.Machine.Blank.{empty, tokenAt, slotAt}
 use Rattle.job.specs.Test.{all}
 use Rattle.job.proofs.Loop.{all-turn, done}
 use Rattle.row_rules.proofs.Fields.{slot-in}
-use Rattle.row_rules.specs.Decoded.{Decoded}
+use Rattle.row_rules.specs.ValuesFit.{ValuesFit}
 use borrow.Author.Needs.{needs}
 use Rattle.row_rules.proofs.range.binds_in_range.Statement.{statement}
 use Rattle.row_rules.proofs.range.binds_in_range.Tie as tie
 
 abbrev Inv-loop : tie.InvT-loop
 Inv-loop w p ok₀ x₀ ok x =
-    (x ≤ 8) × ((m : Machine) → Decoded w m → ok ≡ all (λ (b : Bind). slotInRange 32 (b .slot)) (take x (tokenAt (m .tokens) p .binds)))
+    (x ≤ 8) × ((m : Machine) → ValuesFit w m → ok ≡ all (λ (b : Bind). slotInRange 32 (b .slot)) (take x (tokenAt (m .tokens) p .binds)))
 
 abbrev μ-loop : tie.MeasureT-loop
 μ-loop w p ok₀ x₀ ok x = 8 - x

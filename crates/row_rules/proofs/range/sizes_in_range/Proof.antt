@@ -8,7 +8,7 @@ use Rattle.row_rules.proofs.range.sizes_in_range.Tie as tie
 
 returns : tie.Need-returns
 returns c = λ m h.
-    three (ap (λ n. leb n 1000000) (c .before .before .calls .ensures m h)) (ap (λ n. ltb n 64) (c .before .last-token .ensures m h))
+    three (ap (λ n. leb n 1000000) (c .before .before .calls-made .ensures m h)) (ap (λ n. ltb n 64) (c .before .last-token .ensures m h))
     (ap (λ n. ltb n 32) (c .last-cell .ensures m h))
 
 pub sizes-in-range-spec : {M : Type 1} → statement M

@@ -25,7 +25,7 @@ returns c =
     (both (ap (λ n. leb n 64) (place6 .caller .ensures m k) ∙ place-in 64 (t .caller))
     (ap (λ n. leb n 32) (place5 .cell .ensures m k) ∙ place-in 32 (t .cell)))
     (c .before .state-in-range .ensures (t .state) (place4 .state .ensures m k) (place3 .state-number .ensures m k)
-    ∙ ap (λ n. stateInRange 32 n (t .state)) (place2 .calls .ensures m k))
+    ∙ ap (λ n. stateInRange 32 n (t .state)) (place2 .calls-made .ensures m k))
     ∙ ap (_and_ _) (and-assoc _ _ _)
 
 pub token-in-range-spec : {M : Type 1} → statement M

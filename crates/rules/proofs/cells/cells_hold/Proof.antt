@@ -9,8 +9,8 @@ use Rattle.model.specs.Machine.Blank.{blankCell, cellAt, cellIsBlank}
 use Rattle.job.specs.Node.{Dag}
 use Rattle.rules.proofs.Rest.{passed, pass-turn, pass-done, first-true, second-true}
 use Rattle.row_rules.specs.Rules.{cellRule}
-use Rattle.row_rules.specs.Decoded.{Decoded}
-use Rattle.coded.specs.Coded.{cellAtCoded}
+use Rattle.row_rules.specs.ValuesFit.{ValuesFit}
+use Rattle.coded.specs.WordTests.{cellAtCoded}
 use borrow.Author.Count.{below-more}
 use borrow.Author.Needs.{needs}
 use Rattle.rules.proofs.cells.cells_hold.Statement.{statement}
@@ -20,7 +20,7 @@ abbrev Inv-loop : tie.InvT-loop
 Inv-loop w used ok₀ i₀ ok i =
     (i ≤ 32)
     × (ok ≡ true → (c : ℕ) → c < i → cellAtCoded w c ≡ true)
-    × ((d : Dag) (m : Machine) → Decoded w m → length used ≡ 32 → ok ≡ passed (cellRule d (m .cells)) cellIsBlank used (m .cells) i)
+    × ((d : Dag) (m : Machine) → ValuesFit w m → length used ≡ 32 → ok ≡ passed (cellRule d (m .cells)) cellIsBlank used (m .cells) i)
 
 abbrev μ-loop : tie.MeasureT-loop
 μ-loop w used ok₀ i₀ ok i = 32 - i

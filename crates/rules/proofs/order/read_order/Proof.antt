@@ -5,7 +5,7 @@ use native.Mathlib.Omega.{arith}
 use borrow.Author.Tests.{not-true, not-false}
 use Rattle.job.specs.Test.{_and_, allFrom}
 use Rattle.model.specs.Machine.Rules.{namesOnce}
-use Rattle.rules.specs.Named.{namedAs}
+use Rattle.rules.specs.OrderCounts.{namedAs}
 use Rattle.rules.proofs.Orders.{order-long, order-wild, order-counted}
 use Rattle.job.proofs.Both.{and-false}
 use borrow.Author.Needs.{needs}

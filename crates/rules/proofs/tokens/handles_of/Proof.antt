@@ -2,7 +2,6 @@
 use mathlib.Core.Path.{sym, ap}
 use Rattle.job.specs.Test.{once}
 use Rattle.job.proofs.Test.{eq-eqb, ne-eqb}
-use borrow.Author.Needs.{needs}
 use Rattle.rules.proofs.tokens.handles_of.Statement.{statement}
 use Rattle.rules.proofs.tokens.handles_of.Tie as tie
 

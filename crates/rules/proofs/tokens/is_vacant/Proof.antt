@@ -1,6 +1,5 @@
 -- `tokens::is_vacant` meets its contract: no order names the place, and its words are all 0. Assumes nothing.
 use mathlib.Core.Bool.{_&&_}
-use mathlib.Core.Path.{refl}
 use lib.Dec.{eqb}
 use Rattle.job.proofs.Both.{both, both-is}
 use Rattle.rules.proofs.Rest.{second-true}

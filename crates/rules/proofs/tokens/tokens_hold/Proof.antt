@@ -9,14 +9,13 @@ use lib.Dec.{eqb}
 use lib.ListN.{length, getD, take, length-set}
 use lib.Seq.{take-all}
 use Rattle.model.specs.declared.record.Machine.{Machine}
-use Rattle.model.specs.Machine.Blank.{blankToken, tokenAt, tokenIsBlank}
+use Rattle.model.specs.Machine.Blank.{blankToken, tokenAt}
 use Rattle.model.specs.Machine.Rules.{openHandles}
 use Rattle.job.specs.Test.{_and_, once, differ}
 use Rattle.job.specs.Words.{dagOf}
 use Rattle.job.proofs.Test.{and-right}
-use Rattle.coded.specs.Coded.{tokenCoded}
-use Rattle.row_rules.specs.Rules.{tokenRule}
-use Rattle.row_rules.specs.Decoded.{Decoded}
+use Rattle.coded.specs.WordTests.{tokenCoded}
+use Rattle.row_rules.specs.ValuesFit.{ValuesFit}
 use Rattle.rules.proofs.Gathered.{handle-more, blank-more, once-most}
 use Rattle.rules.proofs.OneRow.{token-blank}
 use Rattle.rules.proofs.Rest.{first-true, second-true, where-true}
@@ -32,8 +31,8 @@ Inv-loop w used dag queue waits handles₀ count₀ ok₀ i₀ handles count ok 
     × (count ≤ i)
     × (length handles ≡ 64)
     × (ok ≡ true → (p : ℕ) → p < i → tokenCoded w p ≡ true)
-    × ((m : Machine) → Decoded w m → length used ≡ 64 → ok ≡ seen (dagOf dag) m used queue waits i)
-    × ((m : Machine) → Decoded w m → ok ≡ true → take count handles ≡ openHandles (take i (m .tokens)))
+    × ((m : Machine) → ValuesFit w m → length used ≡ 64 → ok ≡ seen (dagOf dag) m used queue waits i)
+    × ((m : Machine) → ValuesFit w m → ok ≡ true → take count handles ≡ openHandles (take i (m .tokens)))
 
 abbrev μ-loop : tie.MeasureT-loop
 μ-loop w used dag queue waits handles₀ count₀ ok₀ i₀ handles count ok i = 64 - i

@@ -1,7 +1,7 @@
 -- `orcrun::orcrun` meets its contract: each answer's bytes are those of the definition. Assumes nothing.
 use borrow.Author.Needs.{needs}
 use mathlib.Core.Path.{sym, _∙_}
-use Rattle.model.specs.Lines.Line.{long}
+use Rattle.model.specs.Output.Line.{long}
 use Rattle.lines.proofs.Showing.{shown-all, shows-as, shows-line, front-few, blank-line}
 use Rattle.lines.proofs.Telling.{text-one}
 use Rattle.run.proofs.Whole.{inside, entry-small, run-accepted, whole-long, whole-table, whole-run}

@@ -20,8 +20,8 @@ find-open-requires c κs = search needs
 returns : tie.Need-returns
 returns c = not-answered _ (c .before .find-open .result) _ _ _ (c .before .find-open .ensures .1) (c .if1 .taken) refl
 
-bits-requires : tie.Need-bits-requires
-bits-requires c κs = search needs
+unsigned-requires : tie.Need-unsigned-requires
+unsigned-requires c κs = search needs
 
 set-value-requires : tie.Need-set-value-requires
 set-value-requires c κs = search needs
@@ -41,7 +41,7 @@ returns-2 c = is-answered _ (c .before .before .before .before .before .before .
     let p = c .before .before .before .before .before .before .before .before .find-open .result in
     let t = tokenAt (m .tokens) p in
     let v = helds.Value (c .before .before .before .before .before .before .before .before .before .before .args .value) in
-    let word = sym (c .before .before .before .before .before .bits .ensures ∙ ap unsigned (toZ-ofZ (c .before .before .before .before .before .before .before .before .before .before .fits .value))) in
+    let word = sym (c .before .before .before .before .before .unsigned .ensures ∙ ap unsigned (toZ-ofZ (c .before .before .before .before .before .before .before .before .before .before .fits .value))) in
     let one = c .before .before .before .before .set-value .ensures m t v (subst (Holds _) (sym (put-self m p)) h) refl word in
     let two = c .before .before .set-state .ensures m (withValue v t) states.Ready one refl refl in
     c .join .ensures _ two l)
@@ -52,7 +52,7 @@ answer-spec =
     (tie.spec
     find-open-requires
     returns
-    bits-requires
+    unsigned-requires
     set-value-requires
     set-state-requires
     cast-join

@@ -1,7 +1,7 @@
 -- `definition_call::written` meets its contract: each writer's contract, one behind the other, leads to the record of the definition. Assumes nothing.
 use Rattle.writes.proofs.Writes.{begins, carry-binding, put-same, put-other, queued-taken}
 use Rattle.sites.specs.Row.{callee, paramsAt}
-use Rattle.record.specs.Fields.{taken}
+use Rattle.record.specs.Fields.{dequeued}
 use Rattle.record.proofs.Shape.{queue-fits}
 use Rattle.model.specs.declared.token.Token.{Token}
 use Rattle.model.specs.declared.token.State.the-variants as states
@@ -45,7 +45,7 @@ unfolding withNode withState newToken put withTables withOrders withCounts
 returns c = λ m h q n blank.
     let a = c .before .before .before .before .before .before .before .before .before .before .before .before .before .before .args in
     let t = tokenAt (m .tokens) (a .p) in
-    let rest = taken m (a .place) in
+    let rest = dequeued m (a .place) in
     let gone = queued-taken (a .place) h q in
     let u = withNode (a .next) (withState states.Frame t) in
     let framed = c .before .before .before .before .before .before .set-node .ensures rest _ (c .before .before .before .before .before .before .before .before .set-state .ensures rest t states.Frame (begins rest (a .p) t refl (c .before .before .before .before .before .before .before .before .before .before .leave .ensures m h q)) refl refl) in

@@ -1,7 +1,7 @@
 -- `fork::written` meets its contract: each writer's contract, one behind the other, leads to the record of the definition. Assumes nothing.
 use mathlib.Core.Path.{refl}
 use native.Mathlib.Omega.{arith}
-use Rattle.record.specs.Fields.{taken}
+use Rattle.record.specs.Fields.{dequeued}
 use Rattle.model.specs.Machine.Blank.{tokenAt}
 use Rattle.model.specs.Machine.Step.{put, withNode, withTables, withCounts, withOrders, newToken}
 use Rattle.writes.proofs.Writes.{begins, carry, put-same, queued-taken, queued-joined}
@@ -44,7 +44,7 @@ unfolding put withNode withTables withCounts withOrders newToken
 returns c = λ m h q room.
     let a = c .before .before .before .before .before .before .before .before .before .before .before .before .before .before .args in
     let t = tokenAt (m .tokens) (a .p) in
-    let rest = taken m (a .place) in
+    let rest = dequeued m (a .place) in
     let gone = queued-taken (a .place) h q in
     let left = c .before .before .before .before .before .before .before .before .before .before .set-node .ensures rest t (begins rest (a .p) t refl (c .before .before .before .before .before .before .before .before .before .before .before .before .leave .ensures m h q)) in
     let copied = carry (λ u. put (a .new) u (put (a .p) (withNode (a .left) t) rest))

@@ -18,17 +18,17 @@ plain-requires c κs = search needs
 returns : tie.Need-returns
 returns c = λ m a. fork-refused _ _ _ _ m a (c .before .before .next-token .ensures) (c .before .before .before .last-token .ensures m (a .taking .lawful .holds .codes)) _ (search needs) (c .plain .ensures)
 
-add-word : tie.Need-add-word
-add-word c = search needs
+add-dag-word : tie.Need-add-dag-word
+add-dag-word c = search needs
 
-word-requires : tie.Need-word-requires
-word-requires c κs = let l = row-fits (c .before .before .before .before .before .before .pre .is) in omega arith
+dag-word-requires : tie.Need-dag-word-requires
+dag-word-requires c κs = let l = row-fits (c .before .before .before .before .before .before .pre .is) in omega arith
 
-add-word-2 : tie.Need-add-word-2
-add-word-2 c = search needs
+add-dag-word-2 : tie.Need-add-dag-word-2
+add-dag-word-2 c = search needs
 
-word-requires-2 : tie.Need-word-requires-2
-word-requires-2 c κs = let l = row-fits (c .before .before .before .before .before .before .before .pre .is) in omega arith
+dag-word-requires-2 : tie.Need-dag-word-requires-2
+dag-word-requires-2 c κs = let l = row-fits (c .before .before .before .before .before .before .before .pre .is) in omega arith
 
 written-requires : tie.Need-written-requires
 written-requires c κs = (token-inside (c .before .before .before .before .before .before .before .before .pre .is .taking), search needs)
@@ -43,7 +43,7 @@ returns-2 : tie.Need-returns-2
 returns-2 c = λ m a.
     let next = c .before .before .before .before .before .before .next-token .ensures in
     let last = c .before .before .before .before .before .before .before .last-token .ensures m (a .taking .lawful .holds .codes) in
-    fork-gives _ _ _ _ m a next last _ _ _ (c .before .before .before .word .ensures) (c .before .before .word2 .ensures) (search needs) (c .plain2 .ensures)
+    fork-gives _ _ _ _ m a next last _ _ _ (c .before .before .before .dag-word .ensures) (c .before .before .dag-word2 .ensures) (search needs) (c .plain2 .ensures)
     (c .before .written .ensures m (a .taking .lawful .holds) (a .taking .queued) (queue-open (a .taking) next last (search needs)))
 
 pub fork-spec : {M : Type 1} → statement M
@@ -54,10 +54,10 @@ fork-spec =
     next-token-requires
     plain-requires
     returns
-    add-word
-    word-requires
-    add-word-2
-    word-requires-2
+    add-dag-word
+    dag-word-requires
+    add-dag-word-2
+    dag-word-requires-2
     written-requires
     element-write-tokens
     plain-requires-2

@@ -33,29 +33,29 @@ returns-2 : tie.Need-returns-2
 returns-2 c = λ m a. where-refused-cell _ _ _ _ m a (c .before .before .before .before .before .before .before .next-token .ensures) (c .before .before .before .before .before .before .before .before .last-token .ensures m (a .taking .lawful .holds .codes))
     (c .before .before .next-cell .ensures) (c .before .before .before .last-cell .ensures m (a .taking .lawful .holds .codes)) _ (search needs) (search needs) (c .plain2 .ensures)
 
-add-word : tie.Need-add-word
-add-word c = search needs
+add-dag-word : tie.Need-add-dag-word
+add-dag-word c = search needs
 
-word-requires : tie.Need-word-requires
-word-requires c κs = let l = row-fits (c .before .before .before .before .before .before .before .before .before .before .before .pre .is) in omega arith
+dag-word-requires : tie.Need-dag-word-requires
+dag-word-requires c κs = let l = row-fits (c .before .before .before .before .before .before .before .before .before .before .before .pre .is) in omega arith
 
 wide-requires : tie.Need-wide-requires
 wide-requires c κs = search needs
 
-add-word-2 : tie.Need-add-word-2
-add-word-2 c = search needs
+add-dag-word-2 : tie.Need-add-dag-word-2
+add-dag-word-2 c = search needs
 
-word-requires-2 : tie.Need-word-requires-2
-word-requires-2 c κs = let l = row-fits (c .before .before .before .before .before .before .before .before .before .before .before .before .before .pre .is) in omega arith
+dag-word-requires-2 : tie.Need-dag-word-requires-2
+dag-word-requires-2 c κs = let l = row-fits (c .before .before .before .before .before .before .before .before .before .before .before .before .before .pre .is) in omega arith
 
-add-word-3 : tie.Need-add-word-3
-add-word-3 c = search needs
+add-dag-word-3 : tie.Need-add-dag-word-3
+add-dag-word-3 c = search needs
 
-word-requires-3 : tie.Need-word-requires-3
-word-requires-3 c κs = let l = row-fits (c .before .before .before .before .before .before .before .before .before .before .before .before .before .before .pre .is) in omega arith
+dag-word-requires-3 : tie.Need-dag-word-requires-3
+dag-word-requires-3 c κs = let l = row-fits (c .before .before .before .before .before .before .before .before .before .before .before .before .before .before .pre .is) in omega arith
 
 written-requires : tie.Need-written-requires
-written-requires c κs = let l = where-numbers _ _ (row (c .before .before .before .before .before .before .before .before .before .before .before .before .before .before .before .pre .is)) .2 in (token-inside (c .before .before .before .before .before .before .before .before .before .before .before .before .before .before .before .pre .is .taking), search needs, search needs, (let e = c .before .before .wide .ensures in let f = c .before .before .before .word .ensures in omega arith))
+written-requires c κs = let l = where-numbers _ _ (row (c .before .before .before .before .before .before .before .before .before .before .before .before .before .before .before .pre .is)) .2 in (token-inside (c .before .before .before .before .before .before .before .before .before .before .before .before .before .before .before .pre .is .taking), search needs, search needs, (let e = c .before .before .wide .ensures in let f = c .before .before .before .dag-word .ensures in omega arith))
 
 element-write-tokens : tie.Need-element-write-tokens
 element-write-tokens c = search needs
@@ -71,7 +71,7 @@ returns-3 c = λ m a.
     let next = c .before .before .before .before .before .before .before .before .before .before .before .before .before .next-token .ensures in
     let last = c .before .before .before .before .before .before .before .before .before .before .before .before .before .before .last-token .ensures m (a .taking .lawful .holds .codes) in
     where-gives _ _ _ _ m a next last (c .before .before .before .before .before .before .before .before .next-cell .ensures) (c .before .before .before .before .before .before .before .before .before .last-cell .ensures m (a .taking .lawful .holds .codes)) _ _ _ _
-    (c .before .before .before .before .wide .ensures ∙ c .before .before .before .before .before .word .ensures) (c .before .before .before .word2 .ensures) (c .before .before .word3 .ensures) (search needs) (search needs) (c .plain3 .ensures)
+    (c .before .before .before .before .wide .ensures ∙ c .before .before .before .before .before .dag-word .ensures) (c .before .before .before .dag-word2 .ensures) (c .before .before .dag-word3 .ensures) (search needs) (search needs) (c .plain3 .ensures)
     (c .before .written .ensures m (a .taking .lawful .holds) (a .taking .queued) (queue-open (a .taking) next last (search needs)) (new-apart (a .taking) next last (search needs)))
 
 pub where-split-spec : {M : Type 1} → statement M
@@ -86,13 +86,13 @@ where-split-spec =
     next-cell-requires
     plain-requires-2
     returns-2
-    add-word
-    word-requires
+    add-dag-word
+    dag-word-requires
     wide-requires
-    add-word-2
-    word-requires-2
-    add-word-3
-    word-requires-3
+    add-dag-word-2
+    dag-word-requires-2
+    add-dag-word-3
+    dag-word-requires-3
     written-requires
     element-write-tokens
     element-write-cells

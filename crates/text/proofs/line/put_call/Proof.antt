@@ -2,7 +2,7 @@
 use borrow.Author.Needs.{needs}
 use native.Mathlib.Omega.{arith}
 use mathlib.Core.List.{map}
-use Rattle.model.specs.Lines.Line.{ascii, textOf}
+use Rattle.model.specs.Output.Line.{ascii, textOf}
 use Rattle.text.proofs.Writing.{then-written, written-as}
 use Rattle.text.proofs.Parts.{two-spaced}
 use Rattle.text.proofs.line.put_call.Statement.{statement}
@@ -20,8 +20,8 @@ put-number-requires c κs = search needs
 put-number-requires-2 : tie.Need-put-number-requires-2
 put-number-requires-2 c κs = search needs
 
-put-values-requires : tie.Need-put-values-requires
-put-values-requires c κs = search needs
+put-value-list-requires : tie.Need-put-value-list-requires
+put-value-list-requires c κs = search needs
 
 put-feed-requires : tie.Need-put-feed-requires
 put-feed-requires c κs = search needs
@@ -29,7 +29,7 @@ put-feed-requires c κs = search needs
 returns : tie.Need-returns
 unfolding ascii textOf
 returns c =
-    let values = then-written (c .before .before .put-values .ensures) (c .put-feed .ensures) in
+    let values = then-written (c .before .before .put-value-list .ensures) (c .put-feed .ensures) in
     let site = then-written (c .before .before .before .before .put-number2 .ensures) values in
     let handle = then-written (c .before .before .before .before .before .before .put-number .ensures) site in
     written-as
@@ -45,6 +45,6 @@ put-call-spec =
     put-word-requires
     put-number-requires
     put-number-requires-2
-    put-values-requires
+    put-value-list-requires
     put-feed-requires
     returns)

@@ -3,8 +3,8 @@ use borrow.Author.Needs.{needs}
 use native.Mathlib.Omega.{arith}
 use mathlib.Core.Path.{refl}
 use mir.Facts.{toZ-ofZ}
-use Rattle.model.specs.Lines.Line.{ascii, lineOf, textOf}
-use Rattle.text.specs.Written.{spaced, feed}
+use Rattle.model.specs.Output.Line.{ascii, lineOf, textOf}
+use Rattle.text.specs.Written.{spaced, lineFeed}
 use Rattle.text.proofs.Writing.{then-written, written-as}
 use Rattle.text.proofs.line.put_publish.Statement.{statement}
 use Rattle.text.proofs.line.put_publish.Tie as tie
@@ -22,7 +22,7 @@ put-feed-requires : tie.Need-put-feed-requires
 put-feed-requires c κs = search needs
 
 returns : tie.Need-returns
-unfolding ascii lineOf textOf spaced feed
+unfolding ascii lineOf textOf spaced lineFeed
 returns c =
     let value = rw (toZ-ofZ (c .before .before .before .before .before .before .before .fits .v)) at (c .before .before .put-value .ensures) in
     written-as (then-written (c .before .before .before .before .put-word .ensures) (then-written value (c .put-feed .ensures))) refl (omega arith)

@@ -1,7 +1,7 @@
 -- `word::put_feed` meets its contract: the line feed is one byte. Assumes nothing.
 use borrow.Author.Needs.{needs}
-use Rattle.model.specs.Lines.Line.{ascii}
-use Rattle.text.specs.Written.{feed}
+use Rattle.model.specs.Output.Line.{ascii}
+use Rattle.text.specs.Written.{lineFeed}
 use Rattle.text.proofs.Writing.{one-written}
 use Rattle.text.proofs.word.put_feed.Statement.{statement}
 use Rattle.text.proofs.word.put_feed.Tie as tie
@@ -13,7 +13,7 @@ add-result : tie.Need-add-result
 add-result c = search needs
 
 returns : tie.Need-returns
-unfolding ascii feed
+unfolding ascii lineFeed
 returns c = one-written _ _ 10
 
 pub put-feed-spec : {M : Type 1} → statement M

@@ -1,6 +1,6 @@
 -- `word::put_number` meets its contract: a space, and then the number. Assumes nothing.
 use borrow.Author.Needs.{needs}
-use Rattle.model.specs.Lines.Line.{ascii}
+use Rattle.model.specs.Output.Line.{ascii}
 use Rattle.text.specs.Written.{spaced}
 use Rattle.text.proofs.Writing.{one-written, then-written}
 use Rattle.text.proofs.word.put_number.Statement.{statement}

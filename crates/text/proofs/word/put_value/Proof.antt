@@ -1,7 +1,7 @@
 -- `word::put_value` meets its contract: a space, and then the value. Assumes nothing.
 use borrow.Author.Needs.{needs}
 use mir.Facts.{toZ-ofZ}
-use Rattle.model.specs.Lines.Line.{ascii}
+use Rattle.model.specs.Output.Line.{ascii}
 use Rattle.text.specs.Written.{spaced}
 use Rattle.text.proofs.Writing.{one-written, then-written}
 use Rattle.text.proofs.word.put_value.Statement.{statement}

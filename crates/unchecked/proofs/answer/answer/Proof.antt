@@ -8,14 +8,14 @@ use borrow.Author.Needs.{needs}
 use Rattle.unchecked.proofs.answer.answer.Statement.{statement}
 use Rattle.unchecked.proofs.answer.answer.Tie as tie
 
-calls-requires : tie.Need-calls-requires
-calls-requires c κs = search needs
+calls-made-requires : tie.Need-calls-made-requires
+calls-made-requires c κs = search needs
 
 plain-requires : tie.Need-plain-requires
 plain-requires c κs = search needs
 
 returns : tie.Need-returns
-returns c = λ m dag used cells a. let s = c .before .before .before .before in answer-unknown a (s .args .handle) (s .args .value) (let e = c .before .before .calls .ensures m (a .holds .codes) in let l = c .before .if1 .taken in omega arith) _ (c .plain .ensures)
+returns c = λ m dag used cells a. let s = c .before .before .before .before in answer-unknown a (s .args .handle) (s .args .value) (let e = c .before .before .calls-made .ensures m (a .holds .codes) in let l = c .before .if1 .taken in omega arith) _ (c .plain .ensures)
 
 answer-requires : tie.Need-answer-requires
 answer-requires c κs = search needs
@@ -34,4 +34,4 @@ returns-3 c = λ m dag used cells a. let s = c .before .before .before .before .
 
 pub answer-spec : {M : Type 1} → statement M
 answer-spec =
-    tie.close (tie.spec calls-requires plain-requires returns answer-requires plain-requires-2 returns-2 plain-requires-3 returns-3)
+    tie.close (tie.spec calls-made-requires plain-requires returns answer-requires plain-requires-2 returns-2 plain-requires-3 returns-3)

@@ -2,7 +2,7 @@
 use Rattle.record.proofs.Shape.{queue-fits}
 use mathlib.Core.Path.{refl}
 use native.Mathlib.Omega.{arith}
-use Rattle.record.specs.Fields.{taken}
+use Rattle.record.specs.Fields.{dequeued}
 use Rattle.model.specs.Machine.Blank.{tokenAt}
 use Rattle.model.specs.Machine.Step.{put, withTables, withOrders}
 use Rattle.writes.proofs.Writes.{begins, queued-taken}
@@ -32,8 +32,8 @@ returns c = λ m s h q e f.
     let gone = queued-taken (a .place) h q in
     let fits = h .codes in
     let t = tokenAt (m .tokens) (a .p) in
-    let first = begins (taken m (a .place)) (a .p) t refl (c .before .before .before .before .before .before .leave .ensures m h q) in
-    c .join .ensures _ (c .before .before .set-node .ensures (taken m (a .place)) _ (c .before .before .before .before .set-bind .ensures (taken m (a .place)) t s first e f)) (omega (arith, queue-fits h, h .ordered .queued))
+    let first = begins (dequeued m (a .place)) (a .p) t refl (c .before .before .before .before .before .before .leave .ensures m h q) in
+    c .join .ensures _ (c .before .before .set-node .ensures (dequeued m (a .place)) _ (c .before .before .before .before .set-bind .ensures (dequeued m (a .place)) t s first e f)) (omega (arith, queue-fits h, h .ordered .queued))
 
 pub written-spec : {M : Type 1} → statement M
 written-spec =

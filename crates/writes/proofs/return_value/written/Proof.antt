@@ -2,7 +2,7 @@
 use Rattle.record.proofs.Shape.{queue-fits}
 use mathlib.Core.Path.{refl, sym}
 use native.Mathlib.Omega.{arith}
-use Rattle.record.specs.Fields.{taken}
+use Rattle.record.specs.Fields.{dequeued}
 use Rattle.model.specs.declared.token.State.the-variants as states
 use Rattle.model.specs.Machine.Blank.{tokenAt}
 use Rattle.model.specs.Machine.Step.{put, withTables, withOrders}
@@ -40,7 +40,7 @@ unfolding put withTables withOrders
 returns c = λ m h q.
     let a = c .before .before .before .before .before .before .before .before .before .before .before .before .before .before .args in
     let gone = queued-taken (a .place) h q in
-    let rest = taken m (a .place) in
+    let rest = dequeued m (a .place) in
     let f = tokenAt (m .tokens) (a .f) in
     let v = tokenAt (m .tokens) (a .p) .value in
     let copied = c .before .before .before .before .before .before .copy .ensures rest (c .before .before .before .before .before .before .before .before .leave .ensures m h q) in

@@ -1,6 +1,6 @@
 -- `site_call::call_out` meets its contract: each writer's contract, one behind the other, leads to the record of the definition. Assumes nothing.
 use Rattle.writes.proofs.Writes.{begins, counted}
-use Rattle.record.specs.Fields.{taken}
+use Rattle.record.specs.Fields.{dequeued}
 use Rattle.model.specs.declared.token.State.the-variants as states
 use Rattle.model.specs.Machine.Step.{put, withTables, withOrders}
 use Rattle.model.specs.Machine.Blank.{tokenAt}
@@ -18,20 +18,20 @@ set-state-requires c κs = search needs
 set-node-requires : tie.Need-set-node-requires
 set-node-requires c κs = search needs
 
-add-set-calls : tie.Need-add-set-calls
-add-set-calls c = search needs
+add-set-calls-made : tie.Need-add-set-calls-made
+add-set-calls-made c = search needs
 
-set-calls-requires : tie.Need-set-calls-requires
-set-calls-requires c κs = search needs
+set-calls-made-requires : tie.Need-set-calls-made-requires
+set-calls-made-requires c κs = search needs
 
 returns : tie.Need-returns
 unfolding put withTables withOrders
 returns c = λ m h q.
     let a = c .before .before .before .before .before .before .before .before .args in
     let t = tokenAt (m .tokens) (a .p) in
-    let rest = taken m (a .place) in
+    let rest = dequeued m (a .place) in
     let out = c .before .before .before .before .set-state .ensures rest t (states.Called (a .handle)) (begins rest (a .p) t refl (c .before .before .before .before .before .before .leave .ensures m h q)) refl refl in
-    counted (a .handle) (m .lasttoken) (m .lastcell) _ (c .set-calls .ensures _ (c .before .before .set-node .ensures rest _ out))
+    counted (a .handle) (m .lasttoken) (m .lastcell) _ (c .set-calls-made .ensures _ (c .before .before .set-node .ensures rest _ out))
 
 pub call-out-spec : {M : Type 1} → statement M
 call-out-spec =
@@ -40,6 +40,6 @@ call-out-spec =
     leave-requires
     set-state-requires
     set-node-requires
-    add-set-calls
-    set-calls-requires
+    add-set-calls-made
+    set-calls-made-requires
     returns)

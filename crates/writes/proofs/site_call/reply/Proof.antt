@@ -2,7 +2,7 @@
 use native.Mathlib.Omega.{arith}
 use Rattle.writes.proofs.Writes.{begins, queued-taken}
 use Rattle.record.proofs.Shape.{queue-fits}
-use Rattle.record.specs.Fields.{taken}
+use Rattle.record.specs.Fields.{dequeued}
 use Rattle.model.specs.Machine.Step.{put, withTables, withOrders}
 use Rattle.model.specs.Machine.Blank.{tokenAt}
 use mathlib.Core.Path.{refl}
@@ -30,7 +30,7 @@ unfolding put withTables withOrders
 returns c = λ m v h q e f.
     let a = c .before .before .before .before .before .before .before .before .args in
     let t = tokenAt (m .tokens) (a .p) in
-    let rest = taken m (a .place) in
+    let rest = dequeued m (a .place) in
     let gone = queued-taken (a .place) h q in
     let valued = c .before .before .before .before .set-value .ensures rest t v (begins rest (a .p) t refl (c .before .before .before .before .before .before .leave .ensures m h q)) e f in
     c .join .ensures _ (c .before .before .set-node .ensures rest _ valued) (omega (arith, queue-fits h, h .ordered .queued))

@@ -1,7 +1,7 @@
 -- `site_call::wait` meets its contract: each writer's contract, one behind the other, leads to the record of the definition. Assumes nothing.
 use native.Mathlib.Omega.{arith}
 use Rattle.writes.proofs.Writes.{begins, waiting-taken}
-use Rattle.record.specs.Fields.{taken}
+use Rattle.record.specs.Fields.{dequeued}
 use Rattle.model.specs.declared.token.State.the-variants as states
 use Rattle.model.specs.Machine.Step.{put, withTables, withOrders}
 use Rattle.model.specs.Machine.Blank.{tokenAt}
@@ -27,7 +27,7 @@ unfolding put withTables withOrders
 returns c = λ m h q room.
     let a = c .before .before .before .before .before .before .args in
     let t = tokenAt (m .tokens) (a .p) in
-    let rest = taken m (a .place) in
+    let rest = dequeued m (a .place) in
     let same = waiting-taken (a .place) h in
     c .delay .ensures _ (c .before .before .set-state .ensures rest t (states.Waiting (a .c)) (begins rest (a .p) t refl (c .before .before .before .before .leave .ensures m h q)) refl refl) (omega arith)
 

@@ -1,0 +1,98 @@
+-- `orcrun`: from the bytes of its input to its lines. Assumes nothing: these are definitions.
+use mathlib.Core.Bool.{Bool, true, false}
+use mathlib.Core.List.{List, [], _∷_, _++_}
+use Prim.Native.Nat.{ℕ, zero, suc, _+_}
+use lib.ListN.{length, take, drop}
+use lib.Dec.{ltb, leb, eqb}
+use Rattle.job.specs.Number.{number, signed}
+use Rattle.job.specs.Node.{Dag}
+use Rattle.job.specs.Read.{tableLength, Answer, accepted, declined, readTable}
+use Rattle.job.specs.Construct.{construct}
+use Rattle.model.specs.Machine.Limits.{Limits, paper}
+use Rattle.model.specs.Machine.Reply.{Reported, reported, isRefused}
+use Rattle.model.specs.Machine.Start.{start}
+use Rattle.model.specs.Machine.Step.{step}
+use Rattle.model.specs.Machine.Answer.{answer}
+use Rattle.model.specs.Output.Line.{Line, call, publish, refused, table, end, limit, short, long, textOfAll}
+use Rattle.model.specs.declared.record.Machine.{Machine}
+use Rattle.model.specs.declared.reply.Outcome.{Outcome}
+
+-- the lines of what a call told
+unfoldable pub reportedLines : Reported → List Line
+reportedLines Reported.nothing = []
+reportedLines (Reported.published v) = publish v ∷ []
+reportedLines (Reported.called h s vs) = call h s vs ∷ []
+reportedLines (Reported.refused n) = refused n ∷ []
+
+-- where a run stands: the machine, the accepted steps, and the bytes not yet delivered
+pub record Standing : Type 0 where
+  pub machine : Machine
+  pub steps : ℕ
+  pub rest : List ℕ
+
+-- a turn prints lines, and the run goes on or is over
+pub data Turn : Type 0 where
+  on : List Line → Standing → Turn
+  over : List Line → Turn
+
+module _ (lim : Limits) (most : ℕ) (d : Dag) where
+  -- (docs/DECISIONS.md, "`limit` before any refusal") "It runs house order"; "a refused step ends the run"; "with 100,000 steps made and a token ready: `limit`, then `end`"
+  unfoldable pub stepTurn : Standing → Turn
+  stepTurn s =
+      elim (ltb (s .steps) most) [
+        | false ↦ over (limit ∷ end (s .steps) ∷ [])
+        | true ↦
+            (let o = step lim d (s .machine) 0 in
+            let ls = reportedLines (reported (o .reply) (o .values)) in
+            elim (isRefused (o .reply)) [
+              | true ↦ over (ls ++ (end (s .steps) ∷ []))
+              | false ↦ on ls (record { machine = o .machine; steps = suc (s .steps); rest = s .rest })
+            ])
+      ]
+
+  -- "with the queue empty it delivers a record": "handle and signed value, each little-endian"; a refused answer doesn't end the run
+  unfoldable pub deliverTurn : Standing → Turn
+  deliverTurn s =
+      let o = answer lim d (s .machine) (number (take 4 (s .rest))) (signed (number (take 4 (drop 4 (s .rest))))) in
+      on (reportedLines (reported (o .reply) (o .values))) (record { machine = o .machine; steps = s .steps; rest = drop 8 (s .rest) })
+
+  -- (docs/DECISIONS.md, "`short`") "A trailing piece prints `short`"; "last .. `end` and accepted steps"
+  unfoldable pub lastTurn : Standing → Turn
+  lastTurn s =
+      elim (eqb (length (s .rest)) 0) [
+        | true ↦ over (end (s .steps) ∷ [])
+        | false ↦ over (short ∷ end (s .steps) ∷ [])
+      ]
+
+  unfoldable pub turn : Standing → Turn
+  turn s =
+      elim (eqb (s .machine .queued) 0) [
+        | false ↦ stepTurn s
+        | true ↦ elim (leb 8 (length (s .rest))) [ true ↦ deliverTurn s | false ↦ lastTurn s ]
+      ]
+
+  -- so many turns at most
+  unfoldable pub turnLines : ℕ → Standing → List Line
+  turnLines zero s = []
+  turnLines (suc n) s = elim (turn s) [ over ls ↦ ls | on ls s′ ↦ ls ++ turnLines n s′ ]
+
+-- each turn makes a step, or takes a record, or is the last
+unfoldable pub runLines : Limits → (most : ℕ) → Dag → List ℕ → List Line
+runLines lim most d rest =
+    turnLines lim most d (most + length rest + 1) (record { machine = start lim d .machine; steps = 0; rest = rest })
+
+unfoldable pub tableLines : Limits → (most : ℕ) → List ℕ → Answer → List Line
+tableLines lim most rest (declined n e) = table n e ∷ []
+tableLines lim most rest (accepted p) = runLines lim most (construct p) rest
+
+-- "at most 65,536 bytes (else the line `long` only): a table (the first 4 + 5N bytes, or all if there are fewer), then 8-byte records"
+unfoldable pub inputLines : Limits → (most : ℕ) → List ℕ → List Line
+inputLines lim most input =
+    elim (leb (length input) 65536) [
+      | false ↦ long ∷ []
+      | true ↦ tableLines lim most (drop (tableLength input) input) (readTable (take (tableLength input) input))
+    ]
+
+-- the program: from the bytes of standard input to those of standard output
+unfoldable pub orcrun : List ℕ → List ℕ
+orcrun input = textOfAll (inputLines paper 100000 input)
