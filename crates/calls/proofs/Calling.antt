@@ -160,8 +160,8 @@ pub silent-ends : (m : Machine) (place p k : ℕ) → outcome m (Step.replied (d
 unfolding outcome Step.replied Step.ended
 silent-ends m place p k = refl
 
--- what the code was told is what the site says to all values
+-- what the code got is what the site says to all values
 pub replied-by : {s i : ℕ} (vs xs : List ℤ) {x y : SiteReply} → i < 7 → xs ≡ reportValues vs → s ≡ i → builtinReplyOf x ≡ builtin s (at xs 0 ∷ at xs 1 ∷ []) → x ≡ y
     → builtin i vs ≡ builtinReplyOf y
-replied-by {s} {i} vs xs l e same told f =
-    sym (says-to-front i vs xs l e) ∙ ap (λ j. builtin j (at xs 0 ∷ at xs 1 ∷ [])) (sym same) ∙ sym told ∙ ap builtinReplyOf f
+replied-by {s} {i} vs xs l e same got f =
+    sym (says-to-front i vs xs l e) ∙ ap (λ j. builtin j (at xs 0 ∷ at xs 1 ∷ [])) (sym same) ∙ sym got ∙ ap builtinReplyOf f

@@ -20,7 +20,7 @@ use Rattle.model.specs.Machine.State.{isLive, isReady, isWaiting}
 use Rattle.model.specs.Machine.Rules.{heldInRange}
 use Rattle.model.specs.Machine.Reply.{Effect, unless}
 use Rattle.model.specs.Machine.Step as Step
-use Rattle.model.specs.Machine.Step.{LookedUp, values, unset, look, hasTokenPlace, hasCellPlace, tokenPlace}
+use Rattle.model.specs.Machine.Step.{LookUpResult, values, unset, look, hasTokenPlace, hasCellPlace, tokenPlace}
 use Rattle.model.specs.Machine.Step.{cellPlace, withOrders, queueOf, waitsOf, chokeToken, act}
 use Rattle.model.specs.declared.token.Slot.the-variants as slots
 use Rattle.model.specs.declared.token.Held.the-variants as helds
@@ -39,7 +39,7 @@ use Rattle.model.proofs.Sees.Others.{token-other}
 use Rattle.model.proofs.Keeps.Lines.{Lines, Taken, taken-ready, taken-inside, lines-gone, lines-back, lines-wait, lines-new, lines-choke}
 use Rattle.model.proofs.Keeps.Orders.{Orders, queue-is, waits-are, orders-with, orders-counts}
 use Rattle.model.proofs.Keeps.Orders.{orders-put, orders-enqueue, orders-token, orders-cell}
-use Rattle.demand3.proofs.Values.{held-fits, LookUpFits, found, look-fits, ReplyFits, said, nothing, builtin-fits}
+use Rattle.demand3.proofs.Values.{held-fits, LookUpFits, found, look-fits, ReplyFits, gives-fits, nothing, builtin-fits}
 use Rattle.demand3.proofs.Looking.{look-unset}
 use Rattle.model.proofs.Keeps.Tables.{BindsFit, binds-written, formals-fit, Awaits, awaits-as, TokenHolds, Tables, Idle}
 use Rattle.model.proofs.Keeps.Tables.{idle-holds, blank-holds, tables-write, tables-wait, tables-call, tables-cell, tables-choke}
@@ -168,8 +168,8 @@ module _ (lim : Limits) (d : Dag) (m : Machine) (F : Facts lim d m) (some : 0 < 
         (ap (λ (t : Token). isReady (t .state)) (still u) ∙ not-live-ready _ (v .dead))
         (ap (λ (t : Token). isWaiting (t .state)) (still u) ∙ not-live-waiting _ (v .dead)) s l
 
-    two : {u w : Token} → Good u → Idle (u .state) → Good w → Idle (w .state) → Tables d (set (set (m .tokens) p u) q w) (m .cells) (m .calls)
-    two {u} {w} a i b j = tables-write (tables-write (F .tables) p u inside a i) q w (still-inside u) b j
+    both-written : {u w : Token} → Good u → Idle (u .state) → Good w → Idle (w .state) → Tables d (set (set (m .tokens) p u) q w) (m .cells) (m .calls)
+    both-written {u} {w} a i b j = tables-write (tables-write (F .tables) p u inside a i) q w (still-inside u) b j
 
     forked : (l r : ℕ) → l < length (d .nodes) → r < length (d .nodes) → Keeps (Step.forked at p acting q l r)
     unfolding After Step.forked Step.enqueue Step.newToken Step.put Step.withTables withOrders Step.withCounts Step.withNode
@@ -185,7 +185,7 @@ module _ (lim : Limits) (d : Dag) (m : Machine) (F : Facts lim d m) (some : 0 < 
           waits = waits;
           orders = orders-enqueue (orders-enqueue (orders-token (orders-put begun p (Step.withNode l acting)) q (Step.withNode r acting)) p) q;
           lines = second (Step.withNode l acting) (Step.withNode r acting) (taken-ready T) (lines-back T (Step.withNode l acting) (taken-ready T));
-          tables = two (ahead l il refl refl refl s) s (ahead r ir refl refl refl s) s;
+          tables = both-written (ahead l il refl refl refl s) s (ahead r ir refl refl refl s) s;
         }
 
     entered : (root : ℕ) (ps : List Param) (k : ℕ) → root < length (d .nodes) → all paramHolds ps ≡ true → k < length (d .nodes)
@@ -205,7 +205,7 @@ module _ (lim : Limits) (d : Dag) (m : Machine) (F : Facts lim d m) (some : 0 < 
           orders = orders-enqueue (orders-token (orders-put begun p frame) q callee) q;
           lines = second frame callee refl (lines-gone T frame refl refl);
           tables =
-              two (ahead k ik refl refl refl Idle.frame) Idle.frame
+              both-written (ahead k ik refl refl refl Idle.frame) Idle.frame
               (going ir refl (formals-fit (acting .binds) ps holds (was .binds)) Idle.ready) Idle.ready;
         }
       where
@@ -240,7 +240,7 @@ module _ (lim : Limits) (d : Dag) (m : Machine) (F : Facts lim d m) (some : 0 < 
           lines = second left right (taken-ready T) (lines-back T left (taken-ready T));
           tables =
               tables-cell
-              (two
+              (both-written
               (going il (was .value)
               (binds-written (acting .binds) x (slots.Cell c) (λ v e. let z : _≡_ {A = ℕ} 0 1 = cc in absurd (omega arith)) (was .binds)) s) s
               (ahead r ir refl refl refl s) s)
@@ -288,7 +288,7 @@ module _ (lim : Limits) (d : Dag) (m : Machine) (F : Facts lim d m) (some : 0 < 
 
   replied : (k : ℕ) → k < length (d .nodes) → {s : BuiltinReply} → ReplyFits s → Keeps (Step.replied at p acting k s)
   unfolding After Step.replied Step.withNode Step.withValue heldInRange
-  replied k l (said e) = goes-on _ (going l e (was .binds) (ready-idle (taken-ready T))) (taken-ready T)
+  replied k l (gives-fits e) = goes-on _ (going l e (was .binds) (ready-idle (taken-ready T))) (taken-ready T)
   replied k l nothing = ended
 
   calledOut : (s : ℕ) (vs : List ℤ) (k : ℕ) → m .calls < lim .calls → k < length (d .nodes) → Keeps (Step.calledOut at p acting s vs k)
@@ -332,7 +332,7 @@ module _ (lim : Limits) (d : Dag) (m : Machine) (F : Facts lim d m) (some : 0 < 
     called vs a true = replied k next (builtin-fits s a)
     called vs a false = after-unless (Facts lim d) _ _ _ (λ e. calledOut s vs k (ltb-lt _ _ e) next)
 
-    callSite : (l : LookedUp) → look (m .cells) (acting .binds) ps ≡ l → LookUpFits l → Keeps (Step.callSite lim d at p acting s k l)
+    callSite : (l : LookUpResult) → look (m .cells) (acting .binds) ps ≡ l → LookUpFits l → Keeps (Step.callSite lim d at p acting s k l)
     unfolding Step.callSite
     callSite (unset c) e f =
         let x = look-unset (m .cells) (acting .binds) ps c e in
@@ -350,8 +350,8 @@ module _ (lim : Limits) (d : Dag) (m : Machine) (F : Facts lim d m) (some : 0 < 
         })
     callSite (values vs) e (found a) = called vs a (isBuiltin s)
 
-    looked : Keeps (Step.callSite lim d at p acting s k (look (m .cells) (acting .binds) ps))
-    looked = callSite _ refl (look-fits (m .cells) (acting .binds) (was .binds) (F .tables .cells) ps holds)
+    site-call-keeps : Keeps (Step.callSite lim d at p acting s k (look (m .cells) (acting .binds) ps))
+    site-call-keeps = callSite _ refl (look-fits (m .cells) (acting .binds) (was .binds) (F .tables .cells) ps holds)
 
   returned : (f : Place) → Keeps (Step.returned at p acting f)
   unfolding After Step.returned withOrders Step.withState Step.withValue
@@ -434,7 +434,7 @@ module _ (lim : Limits) (d : Dag) (m : Machine) (F : Facts lim d m) (some : 0 < 
         after-unless (Facts lim d) _ _ _
         (λ c. split _ (token t) _ x l r (cell c) (node-inside l (and-left _ _ (and-right _ _ k))) (node-inside r (and-right _ _ (and-right _ _ k)))))
     acted (Node.site s ps j) e k =
-        looked named s ps j e (params ps (and-left _ _ (and-right _ _ k))) (node-inside j (and-right _ _ (and-right _ _ k)))
+        site-call-keeps named s ps j e (params ps (and-left _ _ (and-right _ _ k))) (node-inside j (and-right _ _ (and-right _ _ k)))
     acted (Node.call f ps j) e k =
         after-unless (Facts lim d) _ _ _
         (λ t.

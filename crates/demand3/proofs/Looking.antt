@@ -10,7 +10,7 @@ use Rattle.job.specs.Test.{all}
 use Rattle.job.specs.Syntax.{Param, variable, constant}
 use Rattle.model.specs.Machine.Blank.{cellAt, slotAt, isBound}
 use Rattle.model.specs.Machine.Rules.{notEmpty}
-use Rattle.model.specs.Machine.Step.{LookedUp, values, unset, andThen, look}
+use Rattle.model.specs.Machine.Step.{LookUpResult, values, unset, andThen, look}
 use Rattle.model.specs.declared.token.Slot.{Slot}
 use Rattle.model.specs.declared.token.Slot.the-variants as slots
 use Rattle.model.specs.declared.token.Bind.{Bind}
@@ -20,7 +20,7 @@ use Rattle.model.specs.declared.cell.Cell.{Cell}
 use Rattle.job.proofs.Test.{clash, all-head, all-tail}
 
 -- the first unset cell is that of a parameter
-unset-then : (v : ℤ) (l : LookedUp) (c : ℕ) → andThen v l ≡ unset c → l ≡ unset c
+unset-then : (v : ℤ) (l : LookUpResult) (c : ℕ) → andThen v l ≡ unset c → l ≡ unset c
 unfolding andThen
 unset-then v (values vs) c e = let z : _≡_ {A = ℕ} 0 1 = cc in absurd (omega arith)
 unset-then v (unset b) c e = e
@@ -34,7 +34,7 @@ asks-later cs bs p ps c (x, m, e, f) = (x, List·Memᴰ·tail m, e, f)
 module _ (cs : List Cell) (bs : List Bind) where
   cell-asks : (x : ℕ) (ps : List Param) (b : ℕ) → slotAt bs x ≡ slots.Cell b → (w : Held) → cellAt cs b .value ≡ w → (c : ℕ)
       → (look cs bs ps ≡ unset c → Asks cs bs ps c)
-      → elim w as (λ w. LookedUp) [ helds.Nothing ↦ unset b | helds.Value v ↦ andThen v (look cs bs ps) ] ≡ unset c → Asks cs bs (variable x ∷ ps) c
+      → elim w as (λ w. LookUpResult) [ helds.Nothing ↦ unset b | helds.Value v ↦ andThen v (look cs bs ps) ] ≡ unset c → Asks cs bs (variable x ∷ ps) c
   cell-asks x ps b s helds.Nothing w c f e =
       let z : b ≡ c = cc in
       (x, List·Memᴰ·head refl, s ∙ ap slots.Cell z, subst (λ i. cellAt cs i .value ≡ helds.Nothing) z w)
@@ -42,7 +42,7 @@ module _ (cs : List Cell) (bs : List Bind) where
 
   slot-asks : (x : ℕ) (ps : List Param) (s : Slot) → slotAt bs x ≡ s → (c : ℕ)
       → (look cs bs ps ≡ unset c → Asks cs bs ps c)
-      → elim s as (λ s. LookedUp) [
+      → elim s as (λ s. LookUpResult) [
         | slots.Empty ↦ values []
         | slots.Value v ↦ andThen v (look cs bs ps)
         | slots.Cell c ↦ elim (cellAt cs c .value) [ helds.Nothing ↦ unset c | helds.Value v ↦ andThen v (look cs bs ps) ]
@@ -60,19 +60,19 @@ module _ (cs : List Cell) (bs : List Bind) where
   look-unset (variable x ∷ ps) c e = slot-asks x ps (slotAt bs x) refl c (λ f. look-unset ps c f) e
 
 -- the other way
-abbrev Unset : LookedUp → Type 0
+abbrev Unset : LookUpResult → Type 0
 Unset l = (c : ℕ) × (l ≡ unset c)
 
-then-unset : (v : ℤ) (l : LookedUp) → Unset l → Unset (andThen v l)
+then-unset : (v : ℤ) (l : LookUpResult) → Unset l → Unset (andThen v l)
 unfolding andThen
 then-unset v l (c, e) = (c, ap (andThen v) e)
 
 module _ (cs : List Cell) (bs : List Bind) where
-  cell-unset : (b : ℕ) (w : Held) (l : LookedUp) → Unset l → Unset (elim w [ helds.Nothing ↦ unset b | helds.Value v ↦ andThen v l ])
+  cell-unset : (b : ℕ) (w : Held) (l : LookUpResult) → Unset l → Unset (elim w [ helds.Nothing ↦ unset b | helds.Value v ↦ andThen v l ])
   cell-unset b helds.Nothing l u = (b, refl)
   cell-unset b (helds.Value v) l u = then-unset v l u
 
-  slot-unset : (s : Slot) → isBound s ≡ true → (l : LookedUp) → Unset l
+  slot-unset : (s : Slot) → isBound s ≡ true → (l : LookUpResult) → Unset l
       → Unset
       (elim s [
         | slots.Empty ↦ values []

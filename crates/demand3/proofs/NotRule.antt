@@ -16,7 +16,7 @@ use Rattle.model.specs.Machine.State.{isBlankState, isReady}
 use Rattle.model.specs.Machine.Rules.{namesFrame, nodeRule, atNode, rulesHold}
 use Rattle.model.specs.Machine.Reply.{Effect, moves, waits, publishes, calls, refuses, unless, accepted, outcome}
 use Rattle.model.specs.Machine.Step as Step
-use Rattle.model.specs.Machine.Step.{LookedUp, values, unset, act, takes}
+use Rattle.model.specs.Machine.Step.{LookUpResult, values, unset, act, takes}
 use Rattle.model.specs.Machine.Answer as Answer
 use Rattle.model.specs.Machine.Answer.{holder, answered}
 use Rattle.model.specs.Run.Call.{Call, step, answer, runner, outcomeOf}
@@ -78,7 +78,7 @@ module _ (lim : Limits) (d : Dag) (before m : Machine) (p : ℕ) (t : Token) whe
   replied-not k (gives v) = tt
   replied-not k silent = tt
 
-  site-not : (s k : ℕ) (l : LookedUp) → NotRule (Step.callSite lim d m p t s k l)
+  site-not : (s k : ℕ) (l : LookUpResult) → NotRule (Step.callSite lim d m p t s k l)
   unfolding NotRule Step.callSite Step.waited Step.calledOut
   site-not s k (unset c) = tt
   site-not s k (values vs) = go (isBuiltin s)

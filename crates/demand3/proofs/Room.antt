@@ -13,7 +13,7 @@ use Rattle.job.specs.Node.{Node, Dag}
 use Rattle.model.specs.Machine.Limits.{Limits}
 use Rattle.model.specs.Machine.Blank.{tokenAt}
 use Rattle.model.specs.Machine.Reply.{Effect, accepted, outcome, unless, isRefused}
-use Rattle.model.specs.Machine.Step.{LookedUp, values, unset, goesOn, forked, split, entered, waited, replied, calledOut, returned, chokeAt, look, callSite, hasTokenPlace, hasCellPlace, act}
+use Rattle.model.specs.Machine.Step.{LookUpResult, values, unset, goesOn, forked, split, entered, waited, replied, calledOut, returned, chokeAt, look, callSite, hasTokenPlace, hasCellPlace, act}
 use Rattle.model.specs.declared.token.Place.{Place}
 use Rattle.model.specs.declared.token.Place.the-variants as places
 use Rattle.model.specs.declared.token.Token.{Token}
@@ -63,7 +63,7 @@ module _ (lim : Limits) (d : Dag) (before m : Machine) (room : Room lim d before
   replied-accepted k (gives v) = refl
   replied-accepted k silent = refl
 
-  site-accepted : (s k : ℕ) (l : LookedUp) → Accepted before (callSite lim d m p t s k l)
+  site-accepted : (s k : ℕ) (l : LookUpResult) → Accepted before (callSite lim d m p t s k l)
   unfolding callSite waited calledOut outcome accepted isRefused
   site-accepted s k (unset c) = refl
   site-accepted s k (values vs) = go (isBuiltin s)

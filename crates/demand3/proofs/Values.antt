@@ -12,7 +12,7 @@ use Rattle.job.specs.Syntax.{Param, variable, constant}
 use Rattle.job.specs.Node.{paramHolds}
 use Rattle.model.specs.Machine.Blank.{cellAt, slotAt}
 use Rattle.model.specs.Machine.Rules.{heldInRange}
-use Rattle.model.specs.Machine.Step.{LookedUp, values, unset, andThen, look, valueOf}
+use Rattle.model.specs.Machine.Step.{LookUpResult, values, unset, andThen, look, valueOf}
 use Rattle.model.specs.declared.token.Slot.{Slot}
 use Rattle.model.specs.declared.token.Slot.the-variants as slots
 use Rattle.model.specs.declared.token.Bind.{Bind}
@@ -31,11 +31,11 @@ held-fits helds.Nothing e = zero-fits
 held-fits (helds.Value v) e = e
 
 -- what is looked up
-pub data LookUpFits : LookedUp → Type 0 where
+pub data LookUpFits : LookUpResult → Type 0 where
   found : {vs : List ℤ} → All Signed32 vs → LookUpFits (values vs)
   waiting : {c : ℕ} → LookUpFits (unset c)
 
-then-fits : (v : ℤ) {l : LookedUp} → Signed32 v → LookUpFits l → LookUpFits (andThen v l)
+then-fits : (v : ℤ) {l : LookUpResult} → Signed32 v → LookUpFits l → LookUpFits (andThen v l)
 unfolding andThen
 then-fits v e (found a) = found (more e a)
 then-fits v e waiting = waiting
@@ -43,13 +43,13 @@ then-fits v e waiting = waiting
 module _ (cs : List Cell) (bs : List Bind)
     (bound : (x : ℕ) (v : ℤ) → slotAt bs x ≡ slots.Value v → Signed32 v)
     (cells : (c : ℕ) → heldInRange (cellAt cs c .value) ≡ true) where
-  cell-fits : (c : ℕ) (w : Held) → cellAt cs c .value ≡ w → (l : LookedUp) → LookUpFits l
+  cell-fits : (c : ℕ) (w : Held) → cellAt cs c .value ≡ w → (l : LookUpResult) → LookUpFits l
       → LookUpFits (elim w [ helds.Nothing ↦ unset c | helds.Value v ↦ andThen v l ])
   unfolding heldInRange
   cell-fits c helds.Nothing e l f = waiting
   cell-fits c (helds.Value v) e l f = then-fits v (ap heldInRange (sym e) ∙ cells c) f
 
-  slot-fits : (x : ℕ) (s : Slot) → slotAt bs x ≡ s → (l : LookedUp) → LookUpFits l
+  slot-fits : (x : ℕ) (s : Slot) → slotAt bs x ≡ s → (l : LookUpResult) → LookUpFits l
       → LookUpFits
       (elim s [
         | slots.Empty ↦ values []
@@ -68,25 +68,25 @@ module _ (cs : List Cell) (bs : List Bind)
 
 -- what a built-in replies
 pub data ReplyFits : BuiltinReply → Type 0 where
-  said : {v : ℤ} → Signed32 v → ReplyFits (gives v)
+  gives-fits : {v : ℤ} → Signed32 v → ReplyFits (gives v)
   nothing : ReplyFits silent
 
 zero-if-fits : (b : Bool) → ReplyFits (zeroIf b)
 unfolding zeroIf
-zero-if-fits true = said zero-fits
+zero-if-fits true = gives-fits zero-fits
 zero-if-fits false = nothing
 
 truth-fits : (b : Bool) → ReplyFits (gives (truth b))
 unfolding truth fits
-truth-fits true = said refl
-truth-fits false = said refl
+truth-fits true = gives-fits refl
+truth-fits false = gives-fits refl
 
 sum-fits : (a b : ℤ) → ReplyFits (sum a b)
 unfolding sum
 sum-fits a b = go (fits (a +ℤ b)) refl
   where
     go : (t : Bool) → fits (a +ℤ b) ≡ t → ReplyFits (elim t [ true ↦ gives (a +ℤ b) | false ↦ silent ])
-    go true e = said e
+    go true e = gives-fits e
     go false e = nothing
 
 at-fits : {vs : List ℤ} → All Signed32 vs → (i : ℕ) → Signed32 (at vs i)
@@ -96,10 +96,10 @@ at-fits (more e a) (suc i) = at-fits a i
 
 pub builtin-fits : (s : ℕ) {vs : List ℤ} → All Signed32 vs → ReplyFits (builtin s vs)
 unfolding builtin
-builtin-fits zero a = said (at-fits a 0)
+builtin-fits zero a = gives-fits (at-fits a 0)
 builtin-fits (suc zero) a = zero-if-fits _
 builtin-fits (suc (suc zero)) a = zero-if-fits _
-builtin-fits (suc (suc (suc zero))) a = said zero-fits
+builtin-fits (suc (suc (suc zero))) a = gives-fits zero-fits
 builtin-fits (suc (suc (suc (suc zero)))) a = sum-fits _ _
 builtin-fits (suc (suc (suc (suc (suc zero))))) a = truth-fits _
 builtin-fits (suc (suc (suc (suc (suc (suc zero)))))) a = truth-fits _

@@ -1,4 +1,4 @@
--- How a public call ends: refused by a test, with every word as it was; or as the call on a lawful record does, whose words are all told. Assumes nothing.
+-- How a public call ends: refused by a test, with every word as it was; or as the call on a lawful record does, whose words are all given. Assumes nothing.
 use mathlib.Core.Path.{_≡_, refl, sym, ap, subst, _∙_}
 use mathlib.Core.Bool.{Bool, true, false, not}
 use mathlib.Core.List.{List, []}
@@ -83,14 +83,14 @@ module _ {ws dag : List ℕ} {used cells : List Bool} (a : Lawful ws used cells 
   gave-gives effect {xs} r g =
       let x = outcome (machineOf ws) effect in
       subst (λ b. HasResult (after ws (elim b as (λ _. Outcome) [ true ↦ x | false ↦ outcome (machineOf ws) (refuses refusals.Rule) ])) r xs) (sym is-record)
-      (record { reply = g .reply; values = g .values; words = g .holds .codes .words ∙ told (isRefused (x .reply)) refl })
+      (record { reply = g .reply; values = g .values; words = g .holds .codes .words ∙ words-after (isRefused (x .reply)) refl })
     where
-      told : (b : Bool) → isRefused (outcome (machineOf ws) effect .reply) ≡ b
+      words-after : (b : Bool) → isRefused (outcome (machineOf ws) effect .reply) ≡ b
           → wordsOf (outcome (machineOf ws) effect .machine)
           ≡ elim (isRefused (outcome (machineOf ws) effect .reply)) as (λ _. List ℕ) [ true ↦ ws | false ↦ wordsOf (outcome (machineOf ws) effect .machine) ]
-      told true e =
+      words-after true e =
           rw e (ap wordsOf (outcome-refused (machineOf ws) effect e) ∙ sym (a .holds .codes .words))
-      told false e = rw e
+      words-after false e = rw e
 
 -- the two calls, by their tests
 module _ (dag ws : List ℕ) where

@@ -17,7 +17,7 @@ use Rattle.job.specs.Words.{paramOf}
 use Rattle.model.specs.Machine.Blank.{empty, isBound, blankCell, tokenAt, cellAt, slotAt}
 use Rattle.model.specs.Machine.Rules.{slotInRange, heldInRange, notEmpty}
 use Rattle.model.specs.Machine.Reply.{reportValues}
-use Rattle.model.specs.Machine.Step.{LookedUp, values, unset, andThen, look}
+use Rattle.model.specs.Machine.Step.{LookUpResult, values, unset, andThen, look}
 use Rattle.model.specs.declared.token.Slot.{Slot}
 use Rattle.model.specs.declared.token.Slot.the-variants as slots
 use Rattle.model.specs.declared.token.Held.{Held}
@@ -122,14 +122,14 @@ module _ (cs : List Cell) (bs : List Bind) (k w : ℕ) where
   found-constant f = sym (ap (paramFound cs bs) (param-constant k w f))
 
 -- looking up, one more at each turn
-look-held : (c : ℕ) (h : Held) (l : LookedUp) → elim h as (λ h. LookedUp) [ helds.Nothing ↦ unset c | helds.Value v ↦ andThen v l ] ≡ after (heldFound c h) l
+look-held : (c : ℕ) (h : Held) (l : LookUpResult) → elim h as (λ h. LookUpResult) [ helds.Nothing ↦ unset c | helds.Value v ↦ andThen v l ] ≡ after (heldFound c h) l
 unfolding after heldFound
 look-held c helds.Nothing l = refl
 look-held c (helds.Value v) l = refl
 
 look-slot :
-    (cs : List Cell) (s : Slot) (l : LookedUp)
-    → elim s as (λ s. LookedUp) [
+    (cs : List Cell) (s : Slot) (l : LookUpResult)
+    → elim s as (λ s. LookUpResult) [
       | slots.Empty ↦ values []
       | slots.Value v ↦ andThen v l
       | slots.Cell c ↦ elim (cellAt cs c .value) [ helds.Nothing ↦ unset c | helds.Value v ↦ andThen v l ]
@@ -145,16 +145,16 @@ unfolding look paramFound after
 look-next cs bs (constant v) ps = refl
 look-next cs bs (variable x) ps = look-slot cs (slotAt bs x) (look cs bs ps)
 
-unfoldable pub behind : List ℤ → LookedUp → LookedUp
+unfoldable pub behind : List ℤ → LookUpResult → LookUpResult
 behind vs (values ws) = values (vs ++ ws)
 behind vs (unset c) = unset c
 
-pub behind-none : (l : LookedUp) → l ≡ behind [] l
+pub behind-none : (l : LookUpResult) → l ≡ behind [] l
 unfolding behind
 behind-none (values ws) = refl
 behind-none (unset c) = refl
 
-behind-more : (vs : List ℤ) (v : ℤ) (l : LookedUp) → behind vs (andThen v l) ≡ behind (vs ++ (v ∷ [])) l
+behind-more : (vs : List ℤ) (v : ℤ) (l : LookUpResult) → behind vs (andThen v l) ≡ behind (vs ++ (v ∷ [])) l
 unfolding behind andThen
 behind-more vs v (values ws) = ap values (sym (append-assoc vs (v ∷ []) ws))
 behind-more vs v (unset c) = refl
@@ -249,7 +249,7 @@ unfolding paramFound notEmpty
 param-found cs bs (constant v) e f = let z : _≡_ {A = ℕ} 0 1 = cc in omega arith
 param-found cs bs (variable x) e f = bound-found cs (slotAt bs x) e f
 
-after-count : (n : ℕ) (k : Argument) (l : LookedUp) (vs : List ℤ) → (k ≡ arguments.Nothing → ⊥) → ((us : List ℤ) → l ≡ values us → length us ≡ n)
+after-count : (n : ℕ) (k : Argument) (l : LookUpResult) (vs : List ℤ) → (k ≡ arguments.Nothing → ⊥) → ((us : List ℤ) → l ≡ values us → length us ≡ n)
     → after k l ≡ values vs → length vs ≡ suc n
 unfolding after andThen
 after-count n (arguments.Value v) (values us) vs f g e = let z : vs ≡ v ∷ us = cc in ap length z ∙ ap suc (g us refl)
@@ -266,12 +266,12 @@ look-count cs bs (q ∷ ps) vs e f =
     (sym (look-next cs bs q ps) ∙ f)
 
 -- what a look-up's result says
-pub look-waits : (l : LookedUp) (r : LookUp) → r ≡ lookUpOf l → r .unset < 32 → l ≡ unset (r .unset)
+pub look-waits : (l : LookUpResult) (r : LookUp) → r ≡ lookUpOf l → r .unset < 32 → l ≡ unset (r .unset)
 unfolding lookUpOf
 look-waits (values vs) r e l = let z = ap (λ (r : LookUp). r .unset) e in absurd (omega arith)
 look-waits (unset c) r e l = ap unset (sym (ap (λ (r : LookUp). r .unset) e))
 
-pub look-values : (l : LookedUp) (r : LookUp) → r ≡ lookUpOf l → (r .unset < 32 → ⊥) → ((c : ℕ) → l ≡ unset c → c < 32) → (vs : List ℤ) × (l ≡ values vs) × (r .values ≡ reportValues vs)
+pub look-values : (l : LookUpResult) (r : LookUp) → r ≡ lookUpOf l → (r .unset < 32 → ⊥) → ((c : ℕ) → l ≡ unset c → c < 32) → (vs : List ℤ) × (l ≡ values vs) × (r .values ≡ reportValues vs)
 unfolding lookUpOf
 look-values (values vs) r e f g = (vs, refl, ap (λ (r : LookUp). r .values) e)
 look-values (unset c) r e f g = absurd (f (subst (λ n. n < 32) (sym (ap (λ (r : LookUp). r .unset) e)) (g c refl)))
@@ -294,7 +294,7 @@ module _ (cs : List Cell) (bs : List Bind) (r : all (λ (b : Bind). slotInRange 
   param-below (constant v) d e = let z : _≡_ {A = ℕ} 0 1 = cc in absurd (omega arith)
   param-below (variable x) d e = slot-below cs (slotAt bs x) d (slot-in-range bs x r) e
 
-  after-below : (k : Argument) (l : LookedUp) (c : ℕ) → ((d : ℕ) → k ≡ arguments.Unset d → d < 32) → ((d : ℕ) → l ≡ unset d → d < 32) → after k l ≡ unset c → c < 32
+  after-below : (k : Argument) (l : LookUpResult) (c : ℕ) → ((d : ℕ) → k ≡ arguments.Unset d → d < 32) → ((d : ℕ) → l ≡ unset d → d < 32) → after k l ≡ unset c → c < 32
   unfolding after andThen
   after-below (arguments.Value v) (values us) c f g e = let z : _≡_ {A = ℕ} 0 1 = cc in absurd (omega arith)
   after-below (arguments.Value v) (unset b) c f g e = g c e

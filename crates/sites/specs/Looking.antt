@@ -8,7 +8,7 @@ use Rattle.job.specs.Syntax.{Param, variable, constant}
 use Rattle.model.specs.Machine.Blank.{tokenAt, cellAt, slotAt}
 use Rattle.model.specs.Machine.Rules.{slotInRange, heldInRange}
 use Rattle.model.specs.Machine.Reply.{reportValues}
-use Rattle.model.specs.Machine.Step.{LookedUp, values, unset, andThen}
+use Rattle.model.specs.Machine.Step.{LookUpResult, values, unset, andThen}
 use Rattle.model.specs.declared.token.Slot.{Slot}
 use Rattle.model.specs.declared.token.Slot.the-variants as slots
 use Rattle.model.specs.declared.token.Bind.{Bind}
@@ -34,13 +34,13 @@ paramFound cs bs (variable x) = foundOf cs (slotAt bs x)
 paramFound cs bs (constant v) = arguments.Value v
 
 -- what is found first, then the rest
-unfoldable pub after : Argument → LookedUp → LookedUp
+unfoldable pub after : Argument → LookUpResult → LookUpResult
 after (arguments.Value v) l = andThen v l
 after (arguments.Unset c) l = unset c
 after arguments.Nothing l = values []
 
 -- a look-up's result: a place beyond the cells where all values are there
-unfoldable pub lookUpOf : LookedUp → LookUp
+unfoldable pub lookUpOf : LookUpResult → LookUp
 lookUpOf (values vs) = record { unset = 32; values = reportValues vs }
 lookUpOf (unset c) = record { unset = c; values = reportValues [] }
 

@@ -14,7 +14,7 @@ use Rattle.model.specs.Machine.Blank.{blankToken, tokenAt}
 use Rattle.model.specs.Machine.InUse.{sweep}
 use Rattle.model.specs.Machine.Reply.{Effect, unless}
 use Rattle.model.specs.Machine.Step as Step
-use Rattle.model.specs.Machine.Step.{LookedUp, values, unset, hasTokenPlace, hasCellPlace, withOrders, chokeToken, act}
+use Rattle.model.specs.Machine.Step.{LookUpResult, values, unset, hasTokenPlace, hasCellPlace, withOrders, chokeToken, act}
 use Rattle.model.specs.declared.token.Place.{Place}
 use Rattle.model.specs.declared.token.Place.the-variants as places
 use Rattle.model.specs.declared.token.State.the-variants as states
@@ -87,7 +87,7 @@ module _
     unfolding After Step.calledOut Step.put Step.withTables withOrders Step.withCounts Step.withNode Step.withState
     calledOut s vs next = none-new lim d m old _ (write-inside lim d m rules p inUse _ (fits-same refl refl refl acts))
 
-    callSite : (s next : ℕ) (l : LookedUp) → WithinAfter (Step.callSite lim d at p acting s next l)
+    callSite : (s next : ℕ) (l : LookUpResult) → WithinAfter (Step.callSite lim d at p acting s next l)
     unfolding Step.callSite
     callSite s next (unset c) = waited c
     callSite s next (values vs) = go (isBuiltin s)

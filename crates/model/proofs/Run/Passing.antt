@@ -21,7 +21,7 @@ use Rattle.model.specs.Machine.InUse.{tokensUsed, marked}
 use Rattle.model.specs.Machine.FreePlace.{nextPlace}
 use Rattle.model.specs.Machine.Rules.{rulesHold}
 use Rattle.model.specs.Machine.Reply.{Effect, calls, unless, isRefused}
-use Rattle.model.specs.Machine.Step.{withNode, withBinding, inCell, withTables, withOrders, withCounts, queueOf, waitsOf, put, newToken, LookedUp, values, unset, ended, goesOn, forked, split, entered, waited, replied, calledOut, returned, chokeAt, callSite, hasTokenPlace, act, takes, step}
+use Rattle.model.specs.Machine.Step.{withNode, withBinding, inCell, withTables, withOrders, withCounts, queueOf, waitsOf, put, newToken, LookUpResult, values, unset, ended, goesOn, forked, split, entered, waited, replied, calledOut, returned, chokeAt, callSite, hasTokenPlace, act, takes, step}
 use Rattle.model.specs.Run.Follow.{queuedToken, cellSet, endsToken, frontEnds, survivors, stays, fate, Stands}
 use Rattle.model.specs.declared.token.Slot.the-variants as slots
 use Rattle.model.specs.declared.token.Place.{Place}
@@ -159,7 +159,7 @@ module _ (lim : Limits) (d : Dag) (m : Machine) (h : QueueRulesHold m) (k : ℕ)
   unfolding calledOut After
   after-called s vs next = untouched-counts _ _ _ _ (untouched-put front _ taken apart base)
 
-  after-site : (s next : ℕ) (v : LookedUp) → Leaves (callSite lim d taken front actor s next v)
+  after-site : (s next : ℕ) (v : LookUpResult) → Leaves (callSite lim d taken front actor s next v)
   unfolding callSite After
   after-site s next (unset c) = after-waited c
   after-site s next (values vs) = go (isBuiltin s)

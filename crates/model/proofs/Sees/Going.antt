@@ -16,7 +16,7 @@ use Rattle.model.specs.Machine.Limits.{Limits}
 use Rattle.model.specs.Machine.Blank.{blankToken, tokenAt}
 use Rattle.model.specs.Machine.State.{isLive}
 use Rattle.model.specs.Machine.Reply.{moves, publishes, unless}
-use Rattle.model.specs.Machine.Step.{withNode, withBinding, withValue, withState, withTables, withOrders, withCounts, put, enqueue, LookedUp, values, unset, look, valueOf, ended, goesOn, waited, replied, calledOut, returned, callSite}
+use Rattle.model.specs.Machine.Step.{withNode, withBinding, withValue, withState, withTables, withOrders, withCounts, put, enqueue, LookUpResult, values, unset, look, valueOf, ended, goesOn, waited, replied, calledOut, returned, callSite}
 use Rattle.calculus.specs.Event.{Event, silently, showing}
 use Rattle.calculus.specs.Expression.{Exp}
 use Rattle.calculus.specs.Allowed.{nextHandle}
@@ -131,7 +131,7 @@ module _ (d : Dag) (M : Labels) (bodies : ℕ → Exp) (m : Machine) {name place
         goes-becomes m (A .others) _ (showing (Event.call (m .calls) s vs)) _ refl refl refl (fits-as {t = t} refl refl refl (acting-fits A))
         (sees (place-as {t = withNode k t} refl refl refl refl (place-to f (A .place))) (A .clear) called)
 
-    look-up-agrees : M .value n ≡ false → (l : LookedUp)
+    look-up-agrees : M .value n ≡ false → (l : LookUpResult)
         → Agrees M W L R (m .calls) (callSite lim d m p t s k l) (Abstract.asksSite (m .calls) s (running (at n B F U) v) (found l) (at k B F U))
     unfolding Shows callSite waited put withTables withOrders nextHandle withState
     look-up-agrees e (unset c) =

@@ -16,7 +16,7 @@ use Rattle.job.specs.Syntax as Job
 use Rattle.job.specs.Syntax.{levels}
 use Rattle.job.specs.WellFormed.{GoodParam}
 use Rattle.model.specs.Machine.Blank.{empty, unbound, cellAt, slotAt}
-use Rattle.model.specs.Machine.Step.{LookedUp, values, unset, andThen, look, passed, formalsBound}
+use Rattle.model.specs.Machine.Step.{LookUpResult, values, unset, andThen, look, passed, formalsBound}
 use Rattle.calculus.specs.Meaning.{position, paramMeant}
 use Rattle.model.specs.declared.token.Slot.{Slot}
 use Rattle.model.specs.declared.token.Slot.the-variants as slots
@@ -101,17 +101,17 @@ module _ {W : World} where
       go false e (List·Memᴰ·tail i) f = f i
 
 -- the values of parameters
-abbrev pub found : LookedUp → Option (List ℤ)
+abbrev pub found : LookUpResult → Option (List ℤ)
 found (values vs) = some vs
 found (unset c) = none
 
-found-more : (v : ℤ) (l : LookedUp) → inFront (some v) (found l) ≡ found (andThen v l)
+found-more : (v : ℤ) (l : LookUpResult) → inFront (some v) (found l) ≡ found (andThen v l)
 unfolding andThen
 found-more v (values vs) = refl
 found-more v (unset c) = refl
 
 module _ {W : World} {bs : List Bind} {scope : List ℕ} {B : List Binding} (views : BindingsSeen W bs scope B) where
-  abbrev slotCase : Slot → LookedUp → LookedUp
+  abbrev slotCase : Slot → LookUpResult → LookUpResult
   slotCase s l =
       elim s [
         | slots.Empty ↦ values []
@@ -119,12 +119,12 @@ module _ {W : World} {bs : List Bind} {scope : List ℕ} {B : List Binding} (vie
         | slots.Cell c ↦ elim (cellAt (W .cells) c .value) [ helds.Nothing ↦ unset c | helds.Value v ↦ andThen v l ]
       ]
 
-  cell-case : (h : Held) (c : ℕ) (l : LookedUp)
-      → inFront (held h) (found l) ≡ found (elim h as (λ h. LookedUp) [ helds.Nothing ↦ unset c | helds.Value v ↦ andThen v l ])
+  cell-case : (h : Held) (c : ℕ) (l : LookUpResult)
+      → inFront (held h) (found l) ≡ found (elim h as (λ h. LookUpResult) [ helds.Nothing ↦ unset c | helds.Value v ↦ andThen v l ])
   cell-case helds.Nothing c l = refl
   cell-case (helds.Value v) c l = found-more v l
 
-  slot-case : {s : Slot} {b : Binding} (l : LookedUp) → BindingSeen W s b → inFront (valueIn (W .store) b) (found l) ≡ found (slotCase s l)
+  slot-case : {s : Slot} {b : Binding} (l : LookUpResult) → BindingSeen W s b → inFront (valueIn (W .store) b) (found l) ≡ found (slotCase s l)
   slot-case l (valued {v = v}) = found-more v l
   slot-case l (celled {c = c} (below s v)) = rw (s .value) (cell-case (cellAt (W .cells) c .value) c l)
 

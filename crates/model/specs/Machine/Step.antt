@@ -123,16 +123,16 @@ unfoldable pub newCell : ℕ → Cell → Machine → Machine
 newCell c k m = withCounts (m .calls) (m .lasttoken) c (withTables (m .tokens) (set (m .cells) c k) m)
 
 -- "parameters in order": all their values, or the first unset cell
-pub data LookedUp : Type 0 where
-  values : List ℤ → LookedUp
-  unset : (cell : ℕ) → LookedUp
+pub data LookUpResult : Type 0 where
+  values : List ℤ → LookUpResult
+  unset : (cell : ℕ) → LookUpResult
 
-unfoldable pub andThen : ℤ → LookedUp → LookedUp
+unfoldable pub andThen : ℤ → LookUpResult → LookUpResult
 andThen v (values vs) = values (v ∷ vs)
 andThen v (unset c) = unset c
 
 module _ (cs : List Cell) (bs : List Bind) where
-  unfoldable pub look : List Param → LookedUp
+  unfoldable pub look : List Param → LookUpResult
   look [] = values []
   look (constant v ∷ ps) = andThen v (look ps)
   look (variable x ∷ ps) =
@@ -241,7 +241,7 @@ module _ (m : Machine) (p : ℕ) (t : Token) where
 
 module _ (lim : Limits) (d : Dag) where
   -- "13: outside call, all values there, after 1,000,000 such calls"
-  unfoldable pub callSite : Machine → ℕ → Token → (site next : ℕ) → LookedUp → Effect
+  unfoldable pub callSite : Machine → ℕ → Token → (site next : ℕ) → LookUpResult → Effect
   callSite m p t s k (unset c) = waited m p t c
   callSite m p t s k (values vs) =
       elim (isBuiltin s) [
