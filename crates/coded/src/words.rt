@@ -6,7 +6,7 @@ ghost use lib.ListN.{length, getD, take, drop};
 ghost use Rattle.record.specs.Decode.{machineOf};
 ghost use Rattle.record.specs.Holds.{Codes};
 ghost use Rattle.coded.specs.WordTests.{slotCoded, heldCoded, stateCoded, bindsCoded, rowCoded, cellCoded, tableCoded, tokenCoded, cellAtCoded};
-ghost use Rattle.coded.specs.Record.{isRecord};
+ghost use Rattle.coded.specs.Record.{isRecord, RowByRow};
 use model::record::Machine;
 use record::layout::CALLED_STATE;
 use record::layout::CELL_SLOT;
@@ -177,10 +177,10 @@ pub fn is_record(w: &[u32; Machine::WORDS]) -> bool
 
 fn look(w: &[u32]) {}
 
-// Says to the proof that there are 1,797 words of 32 bits, and what that tells of them.
+// Says to the proof that there are 1,797 words of 32 bits.
 pub fn whole(w: &[u32])
     requires { ⌜ length (now w) ≡ 1797 ⌝ }
-    ensures { λ _. ⌜ ((isRecord (now (w .entry)) ≡ true → Codes (now (w .entry)) (machineOf (now (w .entry)))) × (((p : ℕ) → p < 64 → tokenCoded (now (w .entry)) p ≡ true) → ((c : ℕ) → c < 32 → cellAtCoded (now (w .entry)) c ≡ true) → isRecord (now (w .entry)) ≡ true)) ⌝ }
+    ensures { λ _. ⌜ RowByRow (now (w .entry)) ⌝ }
 {
     look(w);
 }

@@ -15,7 +15,8 @@ use record::layout::TOKEN_WORDS;
 // Words that are all 0 are a token's.
 pub fn token_is_blank(w: &[u32; Machine::WORDS], p: usize) -> bool
     requires { ⌜ p < 64 ⌝ }
-    ensures { λ r. ⌜ (r ≡ true → tokenCoded (now (w .entry)) p ≡ true) × ((m : Machine) → Codes (now (w .entry)) m → r ≡ tokenIsBlank (tokenAt (m .tokens) p)) ⌝ }
+    ensures { λ r. ⌜ (r ≡ true → tokenCoded (now (w .entry)) p ≡ true)
+        × ((m : Machine) → Codes (now (w .entry)) m → r ≡ tokenIsBlank (tokenAt (m .tokens) p)) ⌝ }
 {
     let at = TOKEN_WORDS * p;
     all_zero(w, at, at + TOKEN_WORDS)

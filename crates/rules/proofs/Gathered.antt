@@ -2,7 +2,7 @@
 use mathlib.Core.Path.{_≡_, refl, sym, _∙_, ap, ap₂}
 use mathlib.Core.Bool.{Bool, true, false, not, _&&_}
 use mathlib.Core.List.{List, [], _∷_, _++_, append-nil, append-assoc}
-use Prim.Native.Nat.{ℕ, zero, suc, _+_, _<_, _≤_}
+use Prim.Native.Nat.{ℕ, zero, suc, _+_, _<_}
 use native.Mathlib.Decide.{ℕ-discrete}
 use native.Mathlib.Nat.{add-zero}
 use native.Mathlib.Numerals.{add-one}
@@ -74,10 +74,6 @@ module _ (ts : List Token) (list : List ℕ) (n i : ℕ) (d : Token) (l : i < le
       go : Dec (k ≡ 3) → take n′ (set list n h) ≡ openHandles (take (i + 1) ts)
       go (yes f) = one-more n′ f (e ∙ ap (λ b. n + once b) (eq-eqb k 3 f))
       go (no f) = no-more n′ f (e ∙ ap (λ b. n + once b) (ne-eqb k 3 f) ∙ add-zero n)
-
-pub once-most : (b : Bool) → once b ≤ 1
-once-most true = omega arith
-once-most false = omega arith
 
 -- a blank token has none
 pub blank-more : (ts : List Token) (i : ℕ) (d : Token) {xs : List ℕ} → i < length ts → tokenIsBlank (getD ts i d) ≡ true

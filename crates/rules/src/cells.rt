@@ -21,7 +21,9 @@ use row_rules::chain::chain_ends;
 // The words and the rules of one cell. A blank one keeps them all.
 fn cell_holds(w: &[u32; Machine::WORDS], c: usize, used: bool) -> bool
     requires { ⌜ c < 32 ⌝ }
-    ensures { λ r. ⌜ (r ≡ true → cellAtCoded (now (w .entry)) c ≡ true) × ((d : Dag) (m : Machine) → ValuesFit (now (w .entry)) m → r ≡ (cellRule d (m .cells) (cellAt (m .cells) c) and (used || cellIsBlank (cellAt (m .cells) c)))) ⌝ }
+    ensures { λ r. ⌜ (r ≡ true → cellAtCoded (now (w .entry)) c ≡ true)
+        × ((d : Dag) (m : Machine) → ValuesFit (now (w .entry)) m
+        → r ≡ (cellRule d (m .cells) (cellAt (m .cells) c) and (used || cellIsBlank (cellAt (m .cells) c)))) ⌝ }
 {
     if !used {
         return cell_coded(w, c) & cell_is_blank(w, c);
@@ -31,7 +33,9 @@ fn cell_holds(w: &[u32; Machine::WORDS], c: usize, used: bool) -> bool
 }
 
 pub fn cells_hold(w: &[u32; Machine::WORDS], used: &[bool; Machine::CELLS]) -> bool
-    ensures { λ r. ⌜ (r ≡ true → (c : ℕ) → c < 32 → cellAtCoded (now (w .entry)) c ≡ true) × ((d : Dag) (m : Machine) → ValuesFit (now (w .entry)) m → length (now (used .entry)) ≡ 32 → r ≡ (all (cellRule d (m .cells)) (m .cells) and restIsBlank cellIsBlank (now (used .entry)) (m .cells))) ⌝ }
+    ensures { λ r. ⌜ (r ≡ true → (c : ℕ) → c < 32 → cellAtCoded (now (w .entry)) c ≡ true)
+        × ((d : Dag) (m : Machine) → ValuesFit (now (w .entry)) m → length (now (used .entry)) ≡ 32
+        → r ≡ (all (cellRule d (m .cells)) (m .cells) and restIsBlank cellIsBlank (now (used .entry)) (m .cells))) ⌝ }
 {
     let mut ok = true;
     let mut i: usize = 0;

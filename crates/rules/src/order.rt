@@ -28,7 +28,8 @@ use record::order::waiting;
 // Does the order name places of tokens only? Its names are the first n of the 64 words from `at` on.
 fn order_in_range(w: &[u32; Machine::WORDS], at: usize, n: usize) -> bool
     requires { ⌜ (n ≤ 64) × (at ≤ 1728) ⌝ }
-    ensures { λ r. ⌜ (r ≡ true → (i : ℕ) → i < n → getD (now (w .entry)) (at + i) 0 < 64) × ((names : List ℕ) → NamesAt (now (w .entry)) at names → r ≡ all (λ (p : ℕ). ltb p 64) (take n names)) ⌝ }
+    ensures { λ r. ⌜ (r ≡ true → (i : ℕ) → i < n → getD (now (w .entry)) (at + i) 0 < 64) × ((names : List ℕ) → NamesAt (now (w .entry)) at names
+        → r ≡ all (λ (p : ℕ). ltb p 64) (take n names)) ⌝ }
 {
     let mut i: usize = 0;
     while i < n {
@@ -82,7 +83,8 @@ fn no_order() -> Order
 // The order of so many names from the word `at` on.
 fn read_order(w: &[u32; Machine::WORDS], at: usize, names: u32) -> Order
     requires { ⌜ at ≤ 1728 ⌝ }
-    ensures { λ r. ⌜ ((of : State → Bool) (kind : ℕ) (m : Machine) (array : List ℕ) → Codes (now (w .entry)) m → NamesAt (now (w .entry)) at array → ((s : State) → eqb (stateKind s) kind ≡ of s) → (allFrom (namedAs kind (r .counts)) 0 (m .tokens) and r .ok) ≡ namesOnce of (m .tokens) array names) ⌝ }
+    ensures { λ r. ⌜ ((of : State → Bool) (kind : ℕ) (m : Machine) (array : List ℕ) → Codes (now (w .entry)) m → NamesAt (now (w .entry)) at array → ((s : State) → eqb (stateKind s) kind ≡ of s)
+        → (allFrom (namedAs kind (r .counts)) 0 (m .tokens) and r .ok) ≡ namesOnce of (m .tokens) array names) ⌝ }
 {
     let n = wide(names);
     if Machine::TOKENS < n {
@@ -98,14 +100,16 @@ fn read_order(w: &[u32; Machine::WORDS], at: usize, names: u32) -> Order
 
 // The queue names the ready tokens.
 pub fn queue_order(w: &[u32; Machine::WORDS]) -> Order
-    ensures { λ r. ⌜ ((m : Machine) → Codes (now (w .entry)) m → (allFrom (namedAs 1 (r .counts)) 0 (m .tokens) and r .ok) ≡ namesOnce isReady (m .tokens) (m .queue) (m .queued)) ⌝ }
+    ensures { λ r. ⌜ ((m : Machine) → Codes (now (w .entry)) m
+        → (allFrom (namedAs 1 (r .counts)) 0 (m .tokens) and r .ok) ≡ namesOnce isReady (m .tokens) (m .queue) (m .queued)) ⌝ }
 {
     read_order(w, QUEUE_START, queued(w))
 }
 
 // The wait order names the waiting ones.
 pub fn wait_order(w: &[u32; Machine::WORDS]) -> Order
-    ensures { λ r. ⌜ ((m : Machine) → Codes (now (w .entry)) m → (allFrom (namedAs 2 (r .counts)) 0 (m .tokens) and r .ok) ≡ namesOnce isWaiting (m .tokens) (m .waits) (m .waiting)) ⌝ }
+    ensures { λ r. ⌜ ((m : Machine) → Codes (now (w .entry)) m
+        → (allFrom (namedAs 2 (r .counts)) 0 (m .tokens) and r .ok) ≡ namesOnce isWaiting (m .tokens) (m .waits) (m .waiting)) ⌝ }
 {
     read_order(w, WAITS_START, waiting(w))
 }

@@ -1,7 +1,7 @@
 // The rules of the tokens, all together: each row is looked at once, and one that is not in use only for being blank.
 ghost use mathlib.Core.Path.{_≡_};
 ghost use mathlib.Core.Bool.{true};
-ghost use Prim.Native.Nat.{ℕ, _<_};
+ghost use Prim.Native.Nat.{ℕ, _<_, _≤_};
 ghost use lib.Dec.{eqb};
 ghost use lib.ListN.{length};
 ghost use Rattle.job.specs.Test.{_and_, all, allFrom, differ, once};
@@ -33,7 +33,8 @@ use row_rules::range::token_in_range;
 // The words and the rules of a token that is in use.
 fn token_holds(w: &[u32; Machine::WORDS], p: usize, dag: &[u32]) -> bool
     requires { ⌜ (p < 64) × (length (now dag) ≡ 12331) × (dagHolds (dagOf (now dag)) ≡ true) ⌝ }
-    ensures { λ r. ⌜ (r ≡ true → tokenCoded (now (w .entry)) p ≡ true) × ((m : Machine) → ValuesFit (now (w .entry)) m → r ≡ tokenRule (dagOf (now (dag .entry))) m (tokenAt (m .tokens) p)) ⌝ }
+    ensures { λ r. ⌜ (r ≡ true → tokenCoded (now (w .entry)) p ≡ true)
+        × ((m : Machine) → ValuesFit (now (w .entry)) m → r ≡ tokenRule (dagOf (now (dag .entry))) m (tokenAt (m .tokens) p)) ⌝ }
 {
     let at = node(w, p);
     if dag[NODE_COUNT] <= at {
@@ -45,14 +46,15 @@ fn token_holds(w: &[u32; Machine::WORDS], p: usize, dag: &[u32]) -> bool
 // A place that is not in use: blank, and named by neither order.
 fn is_vacant(w: &[u32; Machine::WORDS], p: usize, queue: u8, waits: u8) -> bool
     requires { ⌜ p < 64 ⌝ }
-    ensures { λ r. ⌜ (r ≡ true → tokenCoded (now (w .entry)) p ≡ true) × ((m : Machine) → Codes (now (w .entry)) m → r ≡ ((eqb queue 0 and eqb waits 0) and tokenIsBlank (tokenAt (m .tokens) p))) ⌝ }
+    ensures { λ r. ⌜ (r ≡ true → tokenCoded (now (w .entry)) p ≡ true)
+        × ((m : Machine) → Codes (now (w .entry)) m → r ≡ ((eqb queue 0 and eqb waits 0) and tokenIsBlank (tokenAt (m .tokens) p))) ⌝ }
 {
     (queue == 0) & (waits == 0) & token_is_blank(w, p)
 }
 
 // How many handles a token in that state has.
 fn handles_of(kind: u32) -> usize
-    ensures { λ r. ⌜ r ≡ once (eqb kind 3) ⌝ }
+    ensures { λ r. ⌜ (r ≡ once (eqb kind 3)) × (r ≤ 1) ⌝ }
 {
     if kind == CALLED_STATE { 1 } else { 0 }
 }
@@ -66,7 +68,10 @@ pub fn tokens_hold(
     waits: &[u8; Machine::TOKENS],
 ) -> bool
     requires { ⌜ (length (now dag) ≡ 12331) × (dagHolds (dagOf (now dag)) ≡ true) ⌝ }
-    ensures { λ r. ⌜ (r ≡ true → (p : ℕ) → p < 64 → tokenCoded (now (w .entry)) p ≡ true) × ((m : Machine) → ValuesFit (now (w .entry)) m → length (now (used .entry)) ≡ 64 → r ≡ (((all (tokenRule (dagOf (now (dag .entry))) m) (m .tokens) and restIsBlank tokenIsBlank (now (used .entry)) (m .tokens)) and allFrom (namedByBoth (now (queue .entry)) (now (waits .entry))) 0 (m .tokens)) and differ (openHandles (m .tokens)))) ⌝ }
+    ensures { λ r. ⌜ (r ≡ true → (p : ℕ) → p < 64 → tokenCoded (now (w .entry)) p ≡ true)
+        × ((m : Machine) → ValuesFit (now (w .entry)) m → length (now (used .entry)) ≡ 64
+        → r ≡ (((all (tokenRule (dagOf (now (dag .entry))) m) (m .tokens) and restIsBlank tokenIsBlank (now (used .entry)) (m .tokens))
+        and allFrom (namedByBoth (now (queue .entry)) (now (waits .entry))) 0 (m .tokens)) and differ (openHandles (m .tokens)))) ⌝ }
 {
     let mut handles = [0u32; Machine::TOKENS];
     let mut count: usize = 0;

@@ -10,7 +10,7 @@ returns : tie.Need-returns
 returns c =
     let known = c .before in
     let long = known .before .pre in
-    (record-codes _ long, all-coded-record _ long (λ i. omega (arith, known .shared-slice-known .given i)))
+    record { codes = record-codes _ long; passes = all-coded-record _ long (λ i. omega (arith, known .shared-slice-known .given i)) }
 
 pub whole-spec : {M : Type 1} → statement M
 whole-spec = tie.close (tie.spec (λ c κs. search needs) returns)

@@ -16,7 +16,7 @@ returns : tie.Need-returns
 returns c =
     record {
       words = λ e. clash e refl;
-      codes = c .before .before .whole .ensures .0;
+      codes = c .before .before .whole .ensures .codes;
       rules = λ h e f. dag-breaks _ _ (sym (c .before .dag-holds .ensures) ∙ not-true _ (c .if1 .taken));
     }
 
@@ -43,9 +43,9 @@ returns-2 c =
       words =
           λ e.
           let both = first-true (tokens && cells) sizes (first-true (tokens && cells && sizes) (queue .ok && waits .ok) e) in
-          place14 .whole .ensures .1 (place2 .tokens-hold .ensures .0 (first-true tokens cells both))
+          place14 .whole .ensures .passes (place2 .tokens-hold .ensures .0 (first-true tokens cells both))
           (c .before .cells-hold .ensures .0 (second-true tokens cells both));
-      codes = place14 .whole .ensures .0;
+      codes = place14 .whole .ensures .codes;
       rules =
           λ k e f.
           let d = dagOf (args .dag .now) in

@@ -16,7 +16,7 @@ use Rattle.job.specs.Words.{dagOf}
 use Rattle.job.proofs.Test.{and-right}
 use Rattle.coded.specs.WordTests.{tokenCoded}
 use Rattle.row_rules.specs.ValuesFit.{ValuesFit}
-use Rattle.rules.proofs.Gathered.{handle-more, blank-more, once-most}
+use Rattle.rules.proofs.Gathered.{handle-more, blank-more}
 use Rattle.rules.proofs.OneRow.{token-blank}
 use Rattle.rules.proofs.Rest.{first-true, second-true, where-true}
 use Rattle.rules.proofs.Rows.{seen, seen-none, used-turn, vacant-turn, seen-done}
@@ -50,7 +50,7 @@ loop-holds c =
     )
 
 add-count : tie.Need-add-count Inv-loop μ-loop
-add-count c = omega (arith, c .handles-of .ensures, once-most (eqb (c .before .before .before .before .before .before .state .result) 3))
+add-count c = omega (arith, c .handles-of .ensures .1)
 
 loop-again : tie.Need-loop-again Inv-loop μ-loop
 unfolding tokenAt
@@ -63,7 +63,7 @@ loop-again c =
     let room : now .count < length (now .handles) = omega arith in (
       search needs,
       ⊎-elim
-          (λ w. omega (arith, w .7 .ensures, w .9, once-most (eqb (w .1 .result) 3)))
+          (λ w. omega (arith, w .7 .ensures .1, w .9))
           (λ w. omega (arith, w .5)) (c .if1 .came),
       ⊎-elim
           (λ w. ap length (w .8) ∙ length-set (now .handles) _ _ ∙ now .inv .2)
@@ -100,7 +100,7 @@ loop-again c =
           ap (take (c .if1 .count)) (w .8)
           ∙ handle-more (m .tokens) (now .handles) (now .count) (now .i) blankToken inside room
           (now .inv .5 m h (first-true (now .ok) (w .2 .result) f)) (w .6 .ensures m (h .codes)) (w .1 .ensures m (h .codes)) (c .if1 .count)
-          (w .9 ∙ ap (λ k. now .count + k) (w .7 .ensures)))
+          (w .9 ∙ ap (λ k. now .count + k) (w .7 .ensures .0)))
           (λ w.
           let f = sym (w .6) ∙ e in
           let blank = and-right (eqb (getD queue (now .i) 0) 0 and eqb (getD waits (now .i) 0) 0) _
