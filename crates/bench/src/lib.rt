@@ -1,5 +1,7 @@
 // Calls that `bench/` times from Rust: a run in house order by the public calls of `loader` and `machine`, and a whole run.
+use job::dag::GOAL;
 use job::dag::WORDS;
+use loader::table::Loaded;
 use loader::table::load;
 use machine::answer::answer;
 use machine::start::start;
@@ -43,8 +45,31 @@ pub extern "C" fn bench_calls(table: &[u8], handles: &[u32], most: u32, rounds: 
     made
 }
 
+// Loads a table. Answers the number of its nodes, or 0.
+#[no_mangle]
+pub extern "C" fn bench_load(table: &[u8], dag: &mut [u32; WORDS]) -> usize {
+    match load(table, dag) {
+        Loaded::Dag(nodes) => nodes,
+        Loaded::Refused(_, _) => 0,
+    }
+}
+
+// Loads a table, and starts a house run of it.
+#[no_mangle]
+pub extern "C" fn bench_start(
+    table: &[u8],
+    dag: &mut [u32; WORDS],
+    words: &mut [u32; Machine::WORDS],
+) -> usize {
+    let nodes = bench_load(table, dag);
+    let mut tokens = [false; Machine::TOKENS];
+    let mut cells = [false; Machine::CELLS];
+    unchecked::start::start(words, &mut tokens, &mut cells, dag[GOAL]);
+    nodes
+}
+
 // A whole run, from the bytes of an input to the bytes of its lines.
 #[no_mangle]
-pub extern "C" fn bench_orcrun(input: &[u8], from: usize, output: &mut [u8]) -> usize {
-    orcrun(input, from, output)
+pub extern "C" fn bench_orcrun(input: &[u8], dag: &mut [u32; WORDS], output: &mut [u8]) -> usize {
+    orcrun(input, 0, dag, output)
 }

@@ -1,5 +1,6 @@
 // Runs each stored input as `orcrun` runs its own, and prints a line `case` with its number and then what the run prints. On standard input an
 // input stands behind its length, 4 bytes, the lowest first.
+use job::dag::WORDS;
 use libc::STDIN_FILENO;
 use libc::STDOUT_FILENO;
 use run::orcrun::orcrun;
@@ -27,23 +28,23 @@ fn head(number: u64) {
 }
 
 // Prints what the run prints, in pieces as long as `output`.
-fn show(input: &[u8], output: &mut [u8])
+fn show(input: &[u8], dag: &mut [u32; WORDS], output: &mut [u8])
     requires { ⌜ 0 < length (now output) ⌝ }
 {
     let room = output.len();
     let mut from = 0;
-    let mut left = orcrun(input, 0, output);
+    let mut left = orcrun(input, 0, dag, output);
     while room < left {
         io::write_all(STDOUT_FILENO, output);
         left -= room;
         from += room;
-        orcrun(input, from, output);
+        orcrun(input, from, dag, output);
     }
     io::write_all(STDOUT_FILENO, &output[0..left]);
 }
 
 // Reads an input and shows its run. Answers false where none is left.
-fn next(number: u64, input: &mut [u8], output: &mut [u8]) -> bool
+fn next(number: u64, input: &mut [u8], dag: &mut [u32; WORDS], output: &mut [u8]) -> bool
     requires { ⌜ 0 < length (now output) ⌝ }
 {
     let mut size = [0u8; 4];
@@ -55,7 +56,7 @@ fn next(number: u64, input: &mut [u8], output: &mut [u8]) -> bool
         return false;
     }
     head(number);
-    show(&input[0..n], output);
+    show(&input[0..n], dag, output);
     true
 }
 
@@ -63,9 +64,10 @@ fn main() {
     // One byte more than a run may have.
     let mut input = [0u8; 65537];
     let mut output = [0u8; 65536];
+    let mut dag = [0u32; WORDS];
     let mut number = 0;
     while number < MOST {
-        if next(number, &mut input, &mut output) {
+        if next(number, &mut input, &mut dag, &mut output) {
             number += 1;
         } else {
             return;

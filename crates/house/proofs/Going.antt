@@ -17,6 +17,7 @@ use Rattle.model.specs.Machine.Answer as Answer
 use Rattle.model.specs.declared.record.Machine.{Machine}
 use Rattle.model.specs.declared.reply.Outcome.{Outcome}
 use Rattle.house.specs.Accepted.{Accepted}
+use Rattle.house.specs.Turned.{linesFrom}
 use Rattle.lines.specs.Ending.{lastLines}
 use Rattle.lines.specs.Shown.{ShowsBytes}
 use Rattle.turns.specs.Turn.{isLast, isLimit, isOver, turnOutcome, nextAt, nextSteps}
@@ -25,7 +26,7 @@ use Rattle.lines.proofs.Telling.{text-append}
 use Rattle.house.proofs.Reached.{Reached, reached-start, reached-by-step, reached-by-answer}
 use Rattle.turns.proofs.TurnCases.{empty-or-ready, last-is, not-last, limit-is, not-limit, over-is, not-over, turn-empty, turn-ready}
 use Rattle.turns.proofs.TurnCases.{at-empty, at-ready, steps-empty, steps-ready}
-use Rattle.house.proofs.HouseTurns.{standing, linesFrom, turn-last, turn-deliver, turn-limit, turn-refused, turn-step}
+use Rattle.house.proofs.HouseTurns.{standing, turn-last, turn-deliver, turn-limit, turn-refused, turn-step}
 
 module _ (words rest before : List ℕ) (from : ℕ) where
   pub record Going (m : Machine) (steps at total : ℕ) (output : List ℕ) : Type 0 where

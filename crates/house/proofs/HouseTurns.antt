@@ -19,14 +19,11 @@ use Rattle.model.specs.declared.record.Machine.{Machine}
 use Rattle.model.specs.declared.reply.Outcome.{Outcome}
 use Rattle.job.proofs.Test.{eq-eqb, ne-eqb, lt-ltb, le-not-ltb, le-leb, lt-not-leb}
 use Rattle.lines.specs.Ending.{lastLines}
+use Rattle.house.specs.Turned.{linesFrom}
 
 -- where a run stands with the records from `at` on not delivered
 abbrev pub standing : (rest : List ℕ) → Machine → (steps at : ℕ) → Standing
 standing rest m steps at = record { machine = m; steps = steps; rest = drop at rest }
-
--- the lines of an outcome
-abbrev pub linesFrom : Outcome → List Line
-linesFrom o = reportedLines (reported (o .reply) (o .values))
 
 module _ (d : Dag) (rest : List ℕ) (m : Machine) (steps at : ℕ) where
   abbrev s : Standing

@@ -1,30 +1,27 @@
 -- A run that is under way on lent words: they hold one of the run's records, and the marks are that record's.
 -- So each turn's report is that of the definition's turn. Assumes nothing.
-use mathlib.Core.Path.{_≡_, refl, _∙_, ap, ap₂, subst}
+use mathlib.Core.Path.{_≡_, refl, _∙_, ap, subst}
 use mathlib.Core.Bool.{Bool, true, false}
 use mathlib.Core.List.{List, [], _∷_}
 use Prim.Native.Nat.{ℕ, _+_, _-_, _<_, _≤_}
-use lib.IntN.{ℤ}
 use lib.ListN.{length, getD}
 use Rattle.job.specs.Words.{dagOf}
 use Rattle.model.specs.Output.Line.{textOfAll, end, limit}
-use Rattle.model.specs.Output.Orcrun.{runLines, reportedLines}
+use Rattle.model.specs.Output.Orcrun.{runLines}
 use Rattle.model.specs.Machine.Limits.{paper}
-use Rattle.model.specs.Machine.Reply.{reported}
 use Rattle.model.specs.Machine.Start as Start
 use Rattle.model.specs.Machine.Start.{startMachine}
 use Rattle.model.specs.declared.record.Machine.{Machine}
 use Rattle.model.specs.declared.reply.Outcome.{Outcome}
-use Rattle.model.specs.declared.reply.Reply.{Reply}
-use Rattle.model.specs.declared.reply.Report.{Report}
 use Rattle.record.specs.Holds.{Codes, Holds}
-use Rattle.acts.specs.Acting.{SomeMachine, Lawful, Marks, Gives}
+use Rattle.acts.specs.Acting.{SomeMachine, Lawful, Marks}
 use Rattle.house.specs.Accepted.{Accepted}
+use Rattle.house.specs.Turned.{Turned}
+use Rattle.house.specs.declared.turn.TurnEnd.{TurnEnd}
 use Rattle.lines.specs.Ending.{lastLines}
 use Rattle.lines.specs.Shown.{ShowsBytes}
-use Rattle.turns.specs.Turn.{isLast, isLimit, isOver, turnOutcome, nextAt, nextSteps, Turning}
+use Rattle.turns.specs.Turn.{isLast, isLimit, turnOutcome, nextAt, nextSteps, Turning}
 use Rattle.house.proofs.Reached.{started, reached-start, reached-rules, reached-framed}
-use Rattle.house.proofs.HouseTurns.{linesFrom}
 use Rattle.house.proofs.Going.{Going, going-begins, going-last, going-limit, going-there, going-ends, going-less, going-turns}
 
 -- the words and marks of a start
@@ -91,29 +88,20 @@ module _ (dag rest before : List ℕ) (from : ℕ) where
             → Whole after n
         lent-limit t s = going-limit dag rest before from (L .going) l last-of more k limit-of t s
 
-        module _ (free : k ≡ false) {ws′ : List ℕ} {used′ cells′ : List Bool} (r : Report)
-            (gives : (m : Machine) → Turning ws used cells dag rest at m → Gives (turnOutcome (dagOf dag) m rest at) m ws′ used′ cells′ r)
-            (b : Bool) (over-if : b ≡ isOver queued (r .reply)) where
-          given : Gives turned (L .machine) ws′ used′ cells′ r
+        module _ (free : k ≡ false) {ws′ output′ : List ℕ} {used′ cells′ : List Bool} (r : TurnEnd)
+            (gives : (m : Machine) → Turning ws used cells dag rest at m
+            → Turned (turnOutcome (dagOf dag) m rest at) m ws′ used′ cells′ output from total output′ r) where
+          given : Turned turned (L .machine) ws′ used′ cells′ output from total output′ r
           given = gives (L .machine) turning
 
-          over-of : b ≡ isOver (L .machine .queued) (turned .reply)
-          over-of = over-if ∙ ap₂ isOver queued-is (given .reply)
+          pub lent-few : r .total ≤ total + 80
+          lent-few = given .few
 
-          lines-of : {output′ : List ℕ} {total′ : ℕ} → ShowsBytes output from total (textOfAll (reportedLines (reported (r .reply) (r .values)))) output′ total′
-              → ShowsBytes output from total (textOfAll (linesFrom turned)) output′ total′
-          lines-of {output′} {total′} s =
-              subst (λ (vs : List ℤ). ShowsBytes output from total (textOfAll (reportedLines (reported (turned .reply) vs))) output′ total′)
-              (given .values)
-              (subst (λ (p : Reply). ShowsBytes output from total (textOfAll (reportedLines (reported p (r .values)))) output′ total′) (given .reply) s)
+          pub lent-ends : {after : List ℕ} {n : ℕ} → r .over ≡ true → ShowsBytes output′ from (r .total) (textOfAll (end steps ∷ [])) after n → Whole after n
+          lent-ends t u =
+              going-ends dag rest before from (L .going) l last-of more k limit-of free turned refl (r .over) (given .over) t (given .lines) u
 
-          pub lent-ends : {output′ after : List ℕ} {total′ n : ℕ} → b ≡ true
-              → ShowsBytes output from total (textOfAll (reportedLines (reported (r .reply) (r .values)))) output′ total′
-              → ShowsBytes output′ from total′ (textOfAll (end steps ∷ [])) after n → Whole after n
-          lent-ends t s u =
-              going-ends dag rest before from (L .going) l last-of more k limit-of free turned refl b over-of t (lines-of s) u
-
-          module _ (on-if : b ≡ false) (steps′ at′ : ℕ) (to : steps′ ≡ nextSteps queued steps) (behind : at′ ≡ nextAt queued at) where
+          module _ (on-if : r .over ≡ false) (steps′ at′ : ℕ) (to : steps′ ≡ nextSteps queued steps) (behind : at′ ≡ nextAt queued at) where
             to-of : steps′ ≡ nextSteps (L .machine .queued) steps
             to-of = to ∙ ap (λ (n : ℕ). nextSteps n steps) queued-is
 
@@ -122,15 +110,14 @@ module _ (dag rest before : List ℕ) (from : ℕ) where
 
             pub lent-less : (100000 - steps′) + (length rest - at′) < (100000 - steps) + (length rest - at)
             lent-less =
-                going-less dag rest before from (L .going) l last-of more k limit-of free turned refl b over-of on-if steps′ at′ to-of behind-of
+                going-less dag rest before from (L .going) l last-of more k limit-of free turned refl (r .over) (given .over) on-if
+                steps′ at′ to-of behind-of
 
-            pub lent-turns : {output′ : List ℕ} {total′ : ℕ}
-                → ShowsBytes output from total (textOfAll (reportedLines (reported (r .reply) (r .values)))) output′ total′ → total′ ≤ total + 80
-                → Lent ws′ used′ cells′ steps′ at′ total′ output′
-            lent-turns s small =
+            pub lent-turns : Lent ws′ used′ cells′ steps′ at′ (r .total) output′
+            lent-turns =
                 let next =
-                going-turns dag rest before from (L .going) l last-of more k limit-of free turned refl b over-of on-if
-                steps′ at′ to-of behind-of (lines-of s) small in
+                going-turns dag rest before from (L .going) l last-of more k limit-of free turned refl (r .over) (given .over) on-if
+                steps′ at′ to-of behind-of (given .lines) (given .few) in
                 record {
                   machine = turned .machine;
                   going = next;

@@ -2,4 +2,5 @@
 pub mod Reached
 pub mod HouseTurns
 pub mod Going
+pub mod Turning
 pub mod Lent

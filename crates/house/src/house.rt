@@ -11,25 +11,23 @@ ghost use Rattle.model.specs.Machine.Start as Start;
 ghost use Rattle.acts.specs.Acting.{Lawful};
 ghost use Rattle.lines.specs.Shown.{ShowsBytes};
 ghost use Rattle.house.specs.Accepted.{Accepted};
+use crate::turn::turn;
 use job::dag::GOAL;
 use job::dag::WORDS;
 use job::wide::wide;
 use lines::ending::show_end;
 use lines::ending::show_last;
 use lines::ending::show_limit;
-use lines::report::show_reply;
 use model::record::Machine;
 use record::order;
 use turns::turn::is_last;
 use turns::turn::is_limit;
-use turns::turn::is_over;
 use turns::turn::next_at;
 use turns::turn::next_steps;
-use turns::turn::turn;
 use unchecked::start::start;
 
 // Says to the proof how many words the array has.
-fn whole(dag: &[u32])
+pub fn whole(dag: &[u32])
     requires { ⌜ length (now dag) ≡ 12331 ⌝ }
     ensures { λ _. ⌜ length (now (dag .entry)) ≡ 12331 ⌝ }
 {}
@@ -59,11 +57,9 @@ fn run_turns(
         if is_limit(queued, steps) {
             return show_limit(steps, output, from, total);
         }
-        let report = turn(w, tokens, cells, dag, rest, at);
-        let reply = report.reply;
-        let values = report.values;
-        total = show_reply(reply, values, output, from, total);
-        if is_over(queued, reply) {
+        let turned = turn(w, tokens, cells, dag, rest, at, output, from, total);
+        total = turned.total;
+        if turned.over {
             return show_end(steps, output, from, total);
         }
         at = next_at(queued, at);

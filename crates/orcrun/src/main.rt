@@ -1,4 +1,5 @@
 // `orcrun`: a job's table and the answers to its calls on standard input, the lines of its run on standard output.
+use job::dag::WORDS;
 use libc::STDIN_FILENO;
 use libc::STDOUT_FILENO;
 use run::orcrun::orcrun;
@@ -15,17 +16,17 @@ fn write_piece(piece: &[u8], input: &[u8], from: usize)
 }
 
 // Prints what the run prints, in pieces as long as `output`. A run that prints more than one piece is run again for the next.
-fn print(input: &[u8], output: &mut [u8])
+fn print(input: &[u8], dag: &mut [u32; WORDS], output: &mut [u8])
     requires { ⌜ 0 < length (now output) ⌝ }
 {
     let room = output.len();
     let mut from = 0;
-    let mut left = orcrun(input, 0, output);
+    let mut left = orcrun(input, 0, dag, output);
     while room < left {
         write_piece(output, input, from);
         left -= room;
         from += room;
-        orcrun(input, from, output);
+        orcrun(input, from, dag, output);
     }
     write_piece(&output[0..left], input, from);
 }
@@ -42,5 +43,6 @@ fn main() {
     let mut input = [0u8; 65537];
     let mut output = buffer();
     let n = io::read_full(STDIN_FILENO, &mut input);
-    print(&input[0..n], &mut output);
+    let mut dag = [0u32; WORDS];
+    print(&input[0..n], &mut dag, &mut output);
 }

@@ -20,7 +20,7 @@ use Rattle.model.proofs.Machine.Started.{words-construct}
 use Rattle.job.proofs.DeclinedAt.{declined-at}
 use Rattle.loader.specs.Loaded.{loaded, loadedWords}
 use Rattle.loader.specs.declared.table.Loaded.the-variants.{Dag, Refused}
-use Rattle.run.specs.Input.{tableEnd}
+use Rattle.run.specs.Input.{tableEnd, dagAfter}
 use Rattle.house.specs.Accepted.{Accepted}
 
 -- what was loaded is the reader's answer
@@ -83,6 +83,11 @@ module _ (s : List ℕ) (end : ℕ) (is : end ≡ tableEnd s) where
     unfolding tableLines
     whole-table n e q = text-is (declined n e) (declined-of _ n e q)
 
+    pub dag-loaded : (d after : List ℕ) → after ≡ loadedWords (readTable (take (end - 0) s)) d → after ≡ dagAfter s d
+    unfolding dagAfter
+    dag-loaded d after e =
+        e ∙ ap (λ (t : List ℕ). loadedWords (readTable t) d) front ∙ rw (le-leb (length s) 65536 short, dagAfter) refl
+
     -- an accepted one
     module _ (words before : List ℕ) (k : ℕ) (size : length before ≡ 12331) (q : Dag k ≡ loaded (readTable (take (end - 0) s)))
         (w : words ≡ loadedWords (readTable (take (end - 0) s)) before) where
@@ -108,3 +113,7 @@ module _ (s : List ℕ) (end : ℕ) (is : end ≡ tableEnd s) where
 pub whole-long : (s : List ℕ) → 65536 < length s → textOfAll (long ∷ []) ≡ orcrun s
 unfolding orcrun inputLines
 whole-long s l = rw (lt-not-leb (length s) 65536 l, inputLines) refl
+
+pub dag-long : (s d : List ℕ) → 65536 < length s → d ≡ dagAfter s d
+unfolding dagAfter
+dag-long s d l = rw (lt-not-leb (length s) 65536 l, dagAfter) refl

@@ -108,17 +108,3 @@ module _ (queued : ℕ) where
 
   pub not-over : (r : Reply) → isOver queued r ≡ false → (queued ≡ 0 → ⊥) → isRefused r ≡ false
   not-over r t f = over-ready queued f r _ refl ∙ t
-
-  pub over-refused : (r : Reply) (refused b : Bool) → refused ≡ isRefused r → refused ≡ true → b ≡ ltb 0 queued → b ≡ isOver queued r
-  over-refused r refused b is t q = go (empty-or-ready queued)
-    where
-      go : (queued ≡ 0) ⊎ (queued ≡ 0 → ⊥) → b ≡ isOver queued r
-      go (inl e) = q ∙ le-not-ltb 0 queued (omega arith) ∙ over-empty queued e r
-      go (inr f) = q ∙ lt-ltb 0 queued (omega arith) ∙ over-ready queued f r true (sym t ∙ is)
-
-  pub over-accepted : (r : Reply) (refused : Bool) → refused ≡ isRefused r → refused ≡ false → false ≡ isOver queued r
-  over-accepted r refused is t = go (empty-or-ready queued)
-    where
-      go : (queued ≡ 0) ⊎ (queued ≡ 0 → ⊥) → false ≡ isOver queued r
-      go (inl e) = over-empty queued e r
-      go (inr f) = over-ready queued f r false (sym t ∙ is)

@@ -13,6 +13,7 @@ use Rattle.model.specs.Machine.Step as Step
 use Rattle.model.specs.Machine.Answer as Answer
 use Rattle.model.specs.declared.record.Machine.{Machine}
 use Rattle.model.specs.declared.reply.Reply.{Reply}
+use Rattle.model.specs.declared.reply.Reply.the-variants as replies
 use Rattle.model.specs.declared.reply.Outcome.{Outcome}
 use Rattle.acts.specs.Acting.{Lawful}
 
@@ -27,6 +28,14 @@ isLimit queued steps = elim (eqb queued 0) [ true ↦ false | false ↦ eqb step
 -- "a refused step ends the run, a refused answer doesn't"
 unfoldable pub isOver : (queued : ℕ) → Reply → Bool
 isOver queued r = elim (eqb queued 0) [ true ↦ false | false ↦ isRefused r ]
+
+-- a reply that is printed
+unfoldable pub hasLine : Reply → Bool
+hasLine replies.Done = false
+hasLine replies.Waits = false
+hasLine (replies.Published v) = true
+hasLine (replies.Called h s n) = true
+hasLine (replies.Refused r) = true
 
 -- "it runs house order; with the queue empty it delivers a record"
 unfoldable pub turnOutcome : Dag → Machine → (rest : List ℕ) (at : ℕ) → Outcome

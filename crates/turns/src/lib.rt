@@ -1,3 +1,3 @@
-// One turn of a house run: what is due, the step or the record that is delivered, and the counts after it.
-mod refused;
+// The parts of a turn of a house run: what is due, the record that is delivered, the tests on its reply, and the counts after it.
+pub mod reply;
 pub mod turn;

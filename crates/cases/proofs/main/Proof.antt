@@ -7,10 +7,10 @@ use Rattle.cases.proofs.main.Statement.{statement}
 use Rattle.cases.proofs.main.Tie as tie
 
 abbrev Inv-loop : tie.InvT-loop
-Inv-loop input₀ output₀ number₀ input output number = (length input ≡ 65537) × (length output ≡ 65536)
+Inv-loop input₀ output₀ dag₀ number₀ input output dag number = (length input ≡ 65537) × (length output ≡ 65536)
 
 abbrev μ-loop : tie.MeasureT-loop
-μ-loop input₀ output₀ number₀ input output number = 100000 - number
+μ-loop input₀ output₀ dag₀ number₀ input output dag number = 100000 - number
 
 loop-holds : tie.Need-loop-holds Inv-loop μ-loop
 loop-holds c = search needs

@@ -11,11 +11,11 @@ use Rattle.orcrun.proofs.print.Statement.{statement}
 use Rattle.orcrun.proofs.print.Tie as tie
 
 abbrev Inv-loop : tie.InvT-loop
-Inv-loop input output₀ room from₀ left₀ output from left =
+Inv-loop input dag₀ output₀ room from₀ left₀ dag output from left =
     (0 < room) × (room ≡ length output) × (length output ≡ length output₀) × Piece (orcrun input) from left output
 
 abbrev μ-loop : tie.MeasureT-loop
-μ-loop input output₀ room from₀ left₀ output from left = left
+μ-loop input dag₀ output₀ room from₀ left₀ dag output from left = left
 
 orcrun-requires : tie.Need-orcrun-requires Inv-loop μ-loop
 orcrun-requires c κs = search needs
@@ -26,7 +26,7 @@ loop-holds c =
       search needs,
       search needs,
       search needs,
-      piece-shown _ _ _ _ _ (c .before .before .orcrun .ensures .1) (omega arith),
+      piece-shown _ _ _ _ _ (c .before .before .orcrun .ensures .1 .1) (omega arith),
     )
 
 write-piece-requires : tie.Need-write-piece-requires Inv-loop μ-loop
@@ -46,11 +46,11 @@ loop-less c = search needs
 
 loop-again : tie.Need-loop-again Inv-loop μ-loop
 loop-again c =
-    let text = c .before .before .before .before .before .before .before .loop .inv .3 .behind in (
+    let text = c .before .before .before .before .before .before .before .before .loop .inv .3 .behind in (
       search needs,
       search needs,
       search needs,
-      piece-shown _ _ _ _ _ (c .before .before .orcrun2 .ensures .1) (omega arith),
+      piece-shown _ _ _ _ _ (c .before .before .orcrun2 .ensures .1 .1) (omega arith),
     )
 
 sub-write-piece : tie.Need-sub-write-piece Inv-loop μ-loop

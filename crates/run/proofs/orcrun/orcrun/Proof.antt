@@ -4,7 +4,7 @@ use mathlib.Core.Path.{sym, _∙_}
 use Rattle.model.specs.Output.Line.{long}
 use Rattle.lines.proofs.Showing.{shown-all, shows-as, shows-line, front-few, blank-line}
 use Rattle.lines.proofs.Telling.{text-one}
-use Rattle.run.proofs.Whole.{inside, entry-small, run-accepted, whole-long, whole-table, whole-run}
+use Rattle.run.proofs.Whole.{inside, entry-small, run-accepted, whole-long, whole-table, whole-run, dag-long, dag-loaded}
 use Rattle.run.proofs.orcrun.orcrun.Statement.{statement}
 use Rattle.run.proofs.orcrun.orcrun.Tie as tie
 
@@ -18,10 +18,15 @@ same-length : tie.Need-same-length
 same-length c = search needs
 
 returns : tie.Need-returns
-returns c = shown-all (shows-as (text-one long ∙ whole-long _ (c .before .before .before .before .before .before .if1 .taken)) (shows-line (c .before .before .before .before .put-long .ensures) blank-line (c .before .before .show-front .ensures)))
+returns c =
+    let shown = shown-all (shows-as (text-one long ∙ whole-long _ (c .before .before .before .before .before .before .if1 .taken)) (shows-line (c .before .before .before .before .put-long .ensures) blank-line (c .before .before .show-front .ensures))) in
+    (shown .0, (dag-long _ _ (c .before .before .before .before .before .before .if1 .taken), shown .1))
 
 table-end-requires : tie.Need-table-end-requires
 table-end-requires c κs = search needs
+
+whole-requires : tie.Need-whole-requires
+whole-requires c κs = search needs
 
 sub-load : tie.Need-sub-load
 sub-load c = search needs
@@ -30,7 +35,7 @@ part-load-start : tie.Need-part-load-start
 part-load-start c = search needs
 
 part-load-end : tie.Need-part-load-end
-part-load-end c = inside _ _ (c .table-end .ensures)
+part-load-end c = inside _ _ (c .before .before .before .table-end .ensures)
 
 load-requires : tie.Need-load-requires
 load-requires c κs = search needs
@@ -39,7 +44,7 @@ enum-known-answer : tie.Need-enum-known-answer
 enum-known-answer c = search needs
 
 cast-put-table : tie.Need-cast-put-table
-cast-put-table c = let small = entry-small _ _ (c .before .before .before .before .before .before .before .table-end .ensures) _ _ (sym (c .before .before .answer .given .1) ∙ c .before .before .before .before .load .ensures .0) in search needs
+cast-put-table c = let small = entry-small _ _ (c .before .before .before .before .before .before .before .before .before .before .table-end .ensures) _ _ (sym (c .before .before .answer .given .1) ∙ (c .before .before .before .before .load .ensures .0)) in search needs
 
 put-table-requires : tie.Need-put-table-requires
 put-table-requires c κs = search needs
@@ -51,16 +56,19 @@ enum-told : tie.Need-enum-told
 enum-told c = search needs
 
 sub-run : tie.Need-sub-run
-sub-run c = let z = inside _ _ (c .before .before .before .before .before .table-end .ensures) in search needs
+sub-run c = let z = inside _ _ (c .before .before .before .before .before .before .before .before .table-end .ensures) in search needs
 
 part-run-start : tie.Need-part-run-start
-part-run-start c = inside _ _ (c .before .before .before .before .before .table-end .ensures)
+part-run-start c = inside _ _ (c .before .before .before .before .before .before .before .before .table-end .ensures)
 
 part-run-end : tie.Need-part-run-end
 part-run-end c = search needs
 
 run-requires : tie.Need-run-requires
-run-requires c κs = (run-accepted _ _ (c .before .before .before .before .before .before .before .before .table-end .ensures) (c .before .before .before .before .before .before .before .before .before .if1 .left) _ _ _ (search needs) (sym (c .before .before .before .enum-told .given .1) ∙ c .before .before .before .before .before .load .ensures .0) (c .before .before .before .before .before .load .ensures .1), search needs)
+run-requires c κs = (
+  run-accepted _ _ (c .before .before .before .before .before .before .before .before .before .before .before .table-end .ensures) (c .before .before .before .before .before .before .before .before .before .before .before .before .if1 .left) _ _ _ (c .before .before .before .before .before .before .before .before .whole .ensures) (sym (c .before .before .before .enum-told .given .1) ∙ (c .before .before .before .before .before .load .ensures .0)) (c .before .before .before .before .before .load .ensures .1),
+  search needs,
+)
 
 same-length-2 : tie.Need-same-length-2
 same-length-2 c = search needs
@@ -68,19 +76,19 @@ same-length-2 c = search needs
 returns-2 : tie.Need-returns-2
 returns-2 c =
     let line = shows-line (c .before .before .before .before .put-table .ensures) blank-line (c .before .before .show-front2 .ensures) in
-    let whole = whole-table _ _ (c .before .before .before .before .before .before .before .before .before .before .before .before .table-end .ensures) (c .before .before .before .before .before .before .before .before .before .before .before .before .before .if1 .left) _ _ (sym (c .before .before .before .before .before .before .before .answer .given .1) ∙ c .before .before .before .before .before .before .before .before .before .load .ensures .0) in
-    shown-all (shows-as (text-one _ ∙ whole) line)
+    let whole = whole-table _ _ (c .before .before .before .before .before .before .before .before .before .before .before .before .before .before .before .table-end .ensures) (c .before .before .before .before .before .before .before .before .before .before .before .before .before .before .before .before .if1 .left) _ _ (sym (c .before .before .before .before .before .before .before .answer .given .1) ∙ (c .before .before .before .before .before .before .before .before .before .load .ensures .0)) in
+    let shown = shown-all (shows-as (text-one _ ∙ whole) line) in
+    (shown .0, (dag-loaded _ _ (c .before .before .before .before .before .before .before .before .before .before .before .before .before .before .before .table-end .ensures) (c .before .before .before .before .before .before .before .before .before .before .before .before .before .before .before .before .if1 .left) _ _ (c .before .before .before .before .before .before .before .before .before .load .ensures .1), shown .1))
 
 same-length-3 : tie.Need-same-length-3
 same-length-3 c = search needs
 
 returns-3 : tie.Need-returns-3
 returns-3 c =
-    shown-all
-    (shows-as
-    (whole-run _ _ (c .before .before .before .before .before .before .before .before .before .before .before .table-end .ensures) (c .before .before .before .before .before .before .before .before .before .before .before .before .if1 .left) _ _ _ (search needs) (sym (c .before .before .before .before .before .before .enum-told .given .1) ∙ c .before .before .before .before .before .before .before .before .load .ensures .0)
-    (c .before .before .before .before .before .before .before .before .load .ensures .1))
-    (c .before .before .run .ensures))
+    let whole =
+    whole-run _ _ (c .before .before .before .before .before .before .before .before .before .before .before .before .before .before .table-end .ensures) (c .before .before .before .before .before .before .before .before .before .before .before .before .before .before .before .if1 .left) _ _ _ (c .before .before .before .before .before .before .before .before .before .before .before .whole .ensures) (sym (c .before .before .before .before .before .before .enum-told .given .1) ∙ (c .before .before .before .before .before .before .before .before .load .ensures .0)) (c .before .before .before .before .before .before .before .before .load .ensures .1) in
+    let shown = shown-all (shows-as whole (c .before .before .run .ensures)) in
+    (shown .0, (dag-loaded _ _ (c .before .before .before .before .before .before .before .before .before .before .before .before .before .before .table-end .ensures) (c .before .before .before .before .before .before .before .before .before .before .before .before .before .before .before .if1 .left) _ _ (c .before .before .before .before .before .before .before .before .load .ensures .1), shown .1))
 
 pub orcrun-spec : {M : Type 1} → statement M
 orcrun-spec =
@@ -91,6 +99,7 @@ orcrun-spec =
     same-length
     returns
     table-end-requires
+    whole-requires
     sub-load
     part-load-start
     part-load-end

@@ -1,0 +1,51 @@
+-- A turn's report and its line are the outcome's: the reply says whether there is a line, and whether the run is over. Assumes nothing.
+use mathlib.Core.Path.{_≡_, refl, sym, _∙_, ap, ap₂}
+use mathlib.Core.Bool.{Bool, true, false}
+use mathlib.Core.List.{List, []}
+use Prim.Native.Nat.{ℕ, _+_, _≤_}
+use lib.IntN.{ℤ}
+use Rattle.job.proofs.Test.{clash}
+use Rattle.model.specs.Output.Line.{textOfAll}
+use Rattle.model.specs.Output.Orcrun.{reportedLines}
+use Rattle.model.specs.Machine.Reply.{reported, isRefused}
+use Rattle.model.specs.declared.record.Machine.{Machine}
+use Rattle.model.specs.declared.reply.Outcome.{Outcome}
+use Rattle.model.specs.declared.reply.Reply.{Reply}
+use Rattle.model.specs.declared.reply.Reply.the-variants as replies
+use Rattle.model.specs.declared.reply.Report.{Report}
+use Rattle.record.specs.Holds.{Codes}
+use Rattle.acts.specs.Acting.{Gives}
+use Rattle.lines.specs.Shown.{ShowsBytes}
+use Rattle.lines.proofs.Showing.{shows-as}
+use Rattle.turns.specs.Turn.{hasLine, isOver, Turning}
+use Rattle.house.specs.Turned.{Turned}
+
+-- a reply without a line prints nothing and refuses nothing
+pub silent : (r : Reply) (vs : List ℤ) → hasLine r ≡ false → ([] ≡ textOfAll (reportedLines (reported r vs))) × (false ≡ isRefused r)
+unfolding hasLine reported reportedLines textOfAll isRefused
+silent replies.Done vs e = (refl, refl)
+silent replies.Waits vs e = (refl, refl)
+silent (replies.Published v) vs e = clash refl e
+silent (replies.Called h s n) vs e = clash refl e
+silent (replies.Refused x) vs e = clash refl e
+
+module _ {o : Outcome} {m : Machine} {ws : List ℕ} {used cells : List Bool} {p : Report} (g : Gives o m ws used cells p) {before after : List ℕ}
+    {from total n : ℕ} {over : Bool} (ends : over ≡ isOver (m .queued) (p .reply)) where
+  pub turned-shows : ShowsBytes before from total (textOfAll (reportedLines (reported (p .reply) (p .values)))) after n → n ≤ total + 80
+      → Turned o m ws used cells before from total after (record { total = n; over = over })
+  turned-shows s few =
+      record {
+        holds = g .holds;
+        marks = g .marks;
+        lines = shows-as (ap₂ (λ (r : Reply) (vs : List ℤ). textOfAll (reportedLines (reported r vs))) (g .reply) (g .values)) s;
+        few = few;
+        over = ends ∙ ap (isOver (m .queued)) (g .reply);
+      }
+
+-- the queue's count, as the code has read it
+module _ {ws dag rest : List ℕ} {at q : ℕ} {used cells : List Bool} {m : Machine} (reads : (m : Machine) → Codes ws m → q ≡ m .queued) where
+  pub turn-is-empty : q ≡ 0 → Turning ws used cells dag rest at m → m .queued ≡ 0
+  turn-is-empty e t = sym (reads m (t .lawful .holds .codes)) ∙ e
+
+  pub turn-is-ready : (q ≡ 0 → ⊥) → Turning ws used cells dag rest at m → m .queued ≡ 0 → ⊥
+  turn-is-ready f t e = f (reads m (t .lawful .holds .codes) ∙ e)

@@ -1,0 +1,27 @@
+-- What a turn of a run leaves: the outcome's record in the words, its line in the output, and whether the run is over. Assumes nothing: these are definitions.
+use mathlib.Core.Path.{_≡_}
+use mathlib.Core.Bool.{Bool}
+use mathlib.Core.List.{List}
+use Prim.Native.Nat.{ℕ, _+_, _≤_}
+use Rattle.model.specs.Output.Line.{Line, textOfAll}
+use Rattle.model.specs.Output.Orcrun.{reportedLines}
+use Rattle.model.specs.Machine.Reply.{reported}
+use Rattle.model.specs.declared.record.Machine.{Machine}
+use Rattle.model.specs.declared.reply.Outcome.{Outcome}
+use Rattle.record.specs.Holds.{Holds}
+use Rattle.acts.specs.Acting.{Marks, CallersAreFrames}
+use Rattle.lines.specs.Shown.{ShowsBytes}
+use Rattle.turns.specs.Turn.{isOver}
+use Rattle.house.specs.declared.turn.TurnEnd.{TurnEnd}
+
+-- the lines of an outcome
+abbrev pub linesFrom : Outcome → List Line
+linesFrom o = reportedLines (reported (o .reply) (o .values))
+
+pub record Turned (o : Outcome) (m : Machine) (ws : List ℕ) (used usedCells : List Bool) (output : List ℕ) (from total : ℕ) (after : List ℕ) (r : TurnEnd)
+    : Type 0 where
+  pub holds : Holds ws (o .machine)
+  pub marks : CallersAreFrames m → Marks used usedCells (o .machine)
+  pub lines : ShowsBytes output from total (textOfAll (linesFrom o)) after (r .total)
+  pub few : r .total ≤ total + 80
+  pub over : r .over ≡ isOver (m .queued) (o .reply)

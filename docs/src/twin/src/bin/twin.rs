@@ -1,0 +1,5 @@
+//! The twin's program.
+
+fn main() -> std::io::Result<()> {
+    twin::program::run()
+}

@@ -1,0 +1,299 @@
+//! Start, step and answer.
+
+use crate::record::{next_place, places, Cell, Machine, Order, Slot, State, Token, Used};
+use crate::rules;
+use crate::table::{row_of, Dag, Row};
+
+/// What a call did. `Called` has the handle, the site, and the parameter values with their number.
+#[derive(Clone, Copy, Debug, PartialEq, Eq)]
+pub enum Reply {
+    Done,
+    Waits,
+    Published(i32),
+    Called(u32, u16, [i32; 4], usize),
+    Refused(u8),
+}
+
+use Reply::Refused;
+
+/// The public start: tests the dag.
+pub fn start(machine: &mut Machine, dag: &Dag) -> Reply {
+    if !rules::dag_holds(dag) {
+        return Refused(14);
+    }
+    machine.clear(dag[2] as u16);
+    Reply::Done
+}
+
+/// The public step: tests all index rules on any record and any dag first.
+pub fn step(machine: &mut Machine, dag: &Dag, place: usize) -> Reply {
+    let Some(mut used) = rules::tested(machine, dag) else { return Refused(14) };
+    if place >= machine.queue.count {
+        return Refused(9);
+    }
+    act(machine, dag, place, &mut used)
+}
+
+/// The public answer: tests all index rules first.
+pub fn answer(machine: &mut Machine, dag: &Dag, handle: u32, value: i32) -> Reply {
+    if rules::tested(machine, dag).is_none() {
+        return Refused(14);
+    }
+    house_answer(machine, handle, value)
+}
+
+/// An answer in a house run: the rules are not tested again. Nothing is out of reach after it.
+pub fn house_answer(machine: &mut Machine, handle: u32, value: i32) -> Reply {
+    if handle >= machine.calls {
+        return Refused(12);
+    }
+    let open = |token: &Token| token.state == State::Called(handle);
+    let Some(p) = machine.tokens.iter().position(open) else { return Refused(12) };
+    machine.tokens[p].value = Some(value);
+    machine.tokens[p].state = State::Ready;
+    machine.queue.push(p as u8);
+    Reply::Done
+}
+
+/// A variable's binding as it is, or a constant.
+fn passed(token: &Token, kind: u32, word: u32) -> Slot {
+    if kind == 7 {
+        token.binds[word as usize]
+    } else {
+        Slot::Value(word as i32)
+    }
+}
+
+/// The token at a place of the queue acts, on a record that keeps the rules. `used` says what is in use, before and after.
+pub fn act(machine: &mut Machine, dag: &Dag, place: usize, used: &mut Used) -> Reply {
+    let p = machine.queue.names[place];
+    let token = &machine.tokens[p as usize];
+    let value = token.value.unwrap_or(0);
+    let row = row_of(dag, token.node);
+    let [kind, a, b, c, ..] = *row;
+    match kind {
+        0 => end(machine, place, p, used, Reply::Done),
+        1 => site(machine, place, p, row, used),
+        2 => call(machine, dag, place, p, row, used),
+        3 => fork(machine, place, p, row, used),
+        4 => rebind(machine, place, p, a, Slot::Value(value), b, used),
+        5 => rebind(machine, place, p, a, Slot::Empty, b, used),
+        6 => split(machine, place, p, [a, b, c], used),
+        7 => choke(machine, place, p, used),
+        8 => returns(machine, place, p, used),
+        _ => end(machine, place, p, used, Reply::Published(value)),
+    }
+}
+
+/// To the back of the queue, at another node.
+fn goes_on(machine: &mut Machine, place: usize, p: u8, node: u32) {
+    machine.queue.remove(place);
+    machine.tokens[p as usize].node = node as u16;
+    machine.queue.push(p);
+}
+
+fn put_new(machine: &mut Machine, new: u8, token: Token, used: &mut Used) {
+    machine.tokens[new as usize] = token;
+    machine.last_token = new;
+    machine.queue.push(new);
+    used.tokens |= 1 << new;
+}
+
+fn end(machine: &mut Machine, place: usize, p: u8, used: &mut Used, reply: Reply) -> Reply {
+    let linked = machine.tokens[p as usize].names_any();
+    machine.queue.remove(place);
+    machine.tokens[p as usize] = Token::BLANK;
+    if linked {
+        machine.sweep(used);
+    }
+    used.tokens &= !(1 << p);
+    reply
+}
+
+fn rebind(
+    machine: &mut Machine,
+    place: usize,
+    p: u8,
+    variable: u32,
+    slot: Slot,
+    next: u32,
+    used: &mut Used,
+) -> Reply {
+    let bind = &mut machine.tokens[p as usize].binds[variable as usize];
+    let before = std::mem::replace(bind, slot);
+    goes_on(machine, place, p, next);
+    if matches!(before, Slot::Cell(_)) {
+        machine.sweep(used);
+    }
+    Reply::Done
+}
+
+fn fork(machine: &mut Machine, place: usize, p: u8, row: &Row, used: &mut Used) -> Reply {
+    let Some(new) = next_place(!used.tokens, machine.last_token) else { return Refused(10) };
+    goes_on(machine, place, p, row[1]);
+    let token = Token { node: row[2] as u16, ..machine.tokens[p as usize] };
+    put_new(machine, new, token, used);
+    Reply::Done
+}
+
+fn split(
+    machine: &mut Machine,
+    place: usize,
+    p: u8,
+    [left, right, variable]: [u32; 3],
+    used: &mut Used,
+) -> Reply {
+    let Some(new) = next_place(!used.tokens, machine.last_token) else { return Refused(10) };
+    let free = !used.cells as u64;
+    let Some(cell) = next_place(free, machine.last_cell) else { return Refused(11) };
+    let token = Token { node: right as u16, cell: Some(cell), ..machine.tokens[p as usize] };
+    machine.cells[cell as usize] =
+        Cell { parent: machine.tokens[p as usize].cell, value: None };
+    machine.last_cell = cell;
+    used.cells |= 1 << cell;
+    machine.tokens[p as usize].binds[variable as usize] = Slot::Cell(cell);
+    goes_on(machine, place, p, left);
+    put_new(machine, new, token, used);
+    Reply::Done
+}
+
+fn call(
+    machine: &mut Machine,
+    dag: &Dag,
+    place: usize,
+    p: u8,
+    row: &Row,
+    used: &mut Used,
+) -> Reply {
+    let Some(new) = next_place(!used.tokens, machine.last_token) else { return Refused(10) };
+    let token = &mut machine.tokens[p as usize];
+    let mut callee = Token {
+        node: dag[3 + 2 * row[1] as usize] as u16,
+        caller: Some(p),
+        cell: token.cell,
+        state: State::Ready,
+        ..Token::BLANK
+    };
+    for i in 0..row[3] as usize {
+        callee.binds[i] = passed(token, row[4 + 2 * i], row[5 + 2 * i]);
+    }
+    token.node = row[2] as u16;
+    token.state = State::Frame;
+    machine.queue.remove(place);
+    put_new(machine, new, callee, used);
+    Reply::Done
+}
+
+/// The frame goes on with the value. Where the token binds no cell and has the frame's, only the frame can be out of reach.
+fn returns(machine: &mut Machine, place: usize, p: u8, used: &mut Used) -> Reply {
+    let token = &machine.tokens[p as usize];
+    let Some(f) = token.caller else { return Refused(14) };
+    let frame = &machine.tokens[f as usize];
+    let lost = token.cell != frame.cell || token.binds_cell();
+    machine.tokens[p as usize] = Token { value: token.value, state: State::Ready, ..*frame };
+    machine.queue.remove(place);
+    machine.queue.push(p);
+    if lost {
+        machine.sweep(used);
+    } else if !machine.is_caller(f) {
+        machine.tokens[f as usize] = Token::BLANK;
+        used.tokens &= !(1 << f);
+    }
+    Reply::Done
+}
+
+fn site(machine: &mut Machine, place: usize, p: u8, row: &Row, used: &mut Used) -> Reply {
+    let count = row[3] as usize;
+    let token = &machine.tokens[p as usize];
+    let mut values = [0; 4];
+    for i in 0..count {
+        values[i] = match passed(token, row[4 + 2 * i], row[5 + 2 * i]) {
+            Slot::Empty => 0,
+            Slot::Value(value) => value,
+            Slot::Cell(cell) => match machine.cells[cell as usize].value {
+                Some(value) => value,
+                None => {
+                    machine.queue.remove(place);
+                    machine.tokens[p as usize].state = State::Waiting(cell);
+                    machine.waits.push(p);
+                    return Reply::Waits;
+                }
+            },
+        };
+    }
+    if row[1] < 7 {
+        let Some(value) = builtin(row[1], values[0], values[1]) else {
+            return end(machine, place, p, used, Reply::Done);
+        };
+        machine.tokens[p as usize].value = Some(value);
+        goes_on(machine, place, p, row[2]);
+        return Reply::Done;
+    }
+    let handle = machine.calls;
+    if handle >= 1_000_000 {
+        return Refused(13);
+    }
+    machine.queue.remove(place);
+    machine.calls += 1;
+    machine.tokens[p as usize].node = row[2] as u16;
+    machine.tokens[p as usize].state = State::Called(handle);
+    Reply::Called(handle, row[1] as u16, values, count)
+}
+
+fn builtin(site: u32, a: i32, b: i32) -> Option<i32> {
+    match site {
+        0 => Some(a),
+        1 => (a != 0).then_some(0),
+        2 => (a == 0).then_some(0),
+        3 => Some(0),
+        4 => a.checked_add(b),
+        5 => Some((a < b) as i32),
+        _ => Some((a == b) as i32),
+    }
+}
+
+/// Sets the cell, ends all tokens of it and of its descendants, and wakes those that wait at it.
+fn choke(machine: &mut Machine, place: usize, p: u8, used: &mut Used) -> Reply {
+    let token = &machine.tokens[p as usize];
+    let Some(cell) = token.cell else { return Refused(14) };
+    machine.cells[cell as usize].value = token.value;
+    machine.queue.remove(place);
+    let below = below(machine, cell, used.cells);
+    for p in places(used.tokens) {
+        let token = &mut machine.tokens[p];
+        if token.cell.is_some_and(|home| below >> home & 1 == 1) {
+            *token = Token::BLANK;
+        } else if token.state == State::Waiting(cell) {
+            token.state = State::Ready;
+        }
+    }
+    let state = |name: u8| machine.tokens[name as usize].state;
+    let (mut queue, mut waits) = (Order::EMPTY, Order::EMPTY);
+    for &name in machine.queue.names().iter().chain(machine.waits.names()) {
+        match state(name) {
+            State::Ready => queue.push(name),
+            State::Waiting(_) => waits.push(name),
+            _ => {}
+        }
+    }
+    machine.queue = queue;
+    machine.waits = waits;
+    machine.sweep(used);
+    Reply::Done
+}
+
+/// The cell and its descendants among those in use.
+fn below(machine: &Machine, cell: u8, among: u32) -> u32 {
+    let mut below = 1 << cell;
+    for start in places((among & !below) as u64) {
+        let mut here = Some(start as u8);
+        while let Some(at) = here {
+            if below >> at & 1 == 1 {
+                below |= 1 << start;
+                break;
+            }
+            here = machine.cells[at as usize].parent;
+        }
+    }
+    below
+}

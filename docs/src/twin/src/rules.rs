@@ -1,0 +1,174 @@
+//! The index rules, on any dag words and any record.
+
+use crate::record::{Cell, Machine, Order, Slot, State, Token, Used, CELLS, TOKENS};
+use crate::table::{row_of, takes, Dag, Row, HEAD, ROW};
+
+fn row_holds(row: &Row, nodes: u32, bodies: u32) -> bool {
+    let [kind, a, b, c, ..] = *row;
+    let unused = a == 0 && b == 0 && c == 0;
+    let head = match kind {
+        0 | 7 | 8 | 9 => unused,
+        1 => takes(a, c) && b < nodes,
+        2 => a < bodies && c <= 4 && b < nodes,
+        3 => a < nodes && b < nodes && c == 0,
+        4 | 5 => a < 8 && b < nodes && c == 0,
+        6 => a < nodes && b < nodes && c < 8,
+        _ => false,
+    };
+    let count = if kind == 1 || kind == 2 { c as usize } else { 0 };
+    head && row[4..].chunks_exact(2).enumerate().all(|(i, pair)| match (i < count, pair[0]) {
+        (true, 7) => pair[1] < 8,
+        (true, 8) => true,
+        (false, 0) => pair[1] == 0,
+        _ => false,
+    })
+}
+
+pub fn dag_holds(dag: &Dag) -> bool {
+    let (nodes, bodies) = (dag[0], dag[1]);
+    if nodes > 1022 || bodies > 32 || dag[2] >= nodes {
+        return false;
+    }
+    let heads = &dag[3..3 + 2 * bodies as usize];
+    heads.chunks_exact(2).all(|body| body[0] < nodes && body[1] <= 4)
+        && dag[HEAD..HEAD + ROW * nodes as usize]
+            .chunks_exact(ROW)
+            .all(|row| row_holds(row.try_into().expect("twelve words"), nodes, bodies))
+}
+
+fn in_places(place: Option<u8>, places: usize) -> bool {
+    place.is_none_or(|p| (p as usize) < places)
+}
+
+fn token_in_range(token: &Token, nodes: u32, calls: u32) -> bool {
+    (token.node as u32) < nodes
+        && in_places(token.caller, TOKENS)
+        && in_places(token.cell, CELLS)
+        && token.binds.iter().all(|slot| match *slot {
+            Slot::Cell(c) => (c as usize) < CELLS,
+            _ => true,
+        })
+        && match token.state {
+            State::Waiting(c) => (c as usize) < CELLS,
+            State::Called(h) => h < calls,
+            _ => true,
+        }
+}
+
+fn in_range(machine: &Machine, nodes: u32) -> bool {
+    machine.calls <= 1_000_000
+        && (machine.last_token as usize) < TOKENS
+        && (machine.last_cell as usize) < CELLS
+        && machine.queue.count <= TOKENS
+        && machine.waits.count <= TOKENS
+        && machine.tokens.iter().all(|token| token_in_range(token, nodes, machine.calls))
+        && machine.cells.iter().all(|cell| in_places(cell.parent, CELLS))
+}
+
+/// The tokens that an order names, if it names each once, and nothing behind it.
+fn named(order: &Order) -> Option<u64> {
+    let mut named = 0;
+    for &name in order.names() {
+        if name as usize >= TOKENS || named >> name & 1 == 1 {
+            return None;
+        }
+        named |= 1 << name;
+    }
+    order.names[order.count..].iter().all(|&name| name == 0).then_some(named)
+}
+
+/// Every chain of parents ends.
+fn parents_end(machine: &Machine) -> bool {
+    let mut ends: u32 = 0;
+    for start in 0..CELLS {
+        let mut chain: u32 = 0;
+        let mut here = Some(start as u8);
+        while let Some(at) = here {
+            if ends >> at & 1 == 1 {
+                break;
+            }
+            if chain >> at & 1 == 1 {
+                return false;
+            }
+            chain |= 1 << at;
+            here = machine.cells[at as usize].parent;
+        }
+        ends |= chain;
+    }
+    true
+}
+
+/// The rule of the node at which a token stands.
+fn node_holds(machine: &Machine, dag: &Dag, token: &Token) -> bool {
+    let row = row_of(dag, token.node);
+    let valued = token.state != State::Ready || token.value.is_some();
+    match row[0] {
+        1 | 2 => row[4..4 + 2 * row[3] as usize]
+            .chunks_exact(2)
+            .all(|pair| pair[0] != 7 || token.binds[pair[1] as usize] != Slot::Empty),
+        4 | 5 | 9 => valued,
+        7 => valued && token.cell.is_some(),
+        8 => {
+            valued && token.caller.is_some_and(|p| machine.tokens[p as usize].state == State::Frame)
+        }
+        _ => true,
+    }
+}
+
+/// The open handles so far.
+struct Handles {
+    seen: [u32; TOKENS],
+    count: usize,
+}
+
+impl Handles {
+    fn add(&mut self, handle: u32) -> bool {
+        if self.seen[..self.count].contains(&handle) {
+            return false;
+        }
+        self.seen[self.count] = handle;
+        self.count += 1;
+        true
+    }
+}
+
+/// What is in use, if all rules hold.
+pub fn tested(machine: &Machine, dag: &Dag) -> Option<Used> {
+    if !dag_holds(dag) || !in_range(machine, dag[0]) || !parents_end(machine) {
+        return None;
+    }
+    let queued = named(&machine.queue)?;
+    let waiting = named(&machine.waits)?;
+    let used = machine.used(u64::MAX);
+    let mut handles = Handles { seen: [0; TOKENS], count: 0 };
+    for (p, token) in machine.tokens.iter().enumerate() {
+        let bit = |bits: u64| bits >> p & 1 == 1;
+        let holds = match token.state {
+            State::Blank => !bit(queued) && !bit(waiting),
+            State::Frame => !bit(queued) && !bit(waiting),
+            State::Ready => bit(queued) && !bit(waiting) && !machine.under_set(token.cell),
+            State::Waiting(c) => {
+                !bit(queued)
+                    && bit(waiting)
+                    && !machine.under_set(token.cell)
+                    && machine.cells[c as usize].value.is_none()
+            }
+            State::Called(h) => {
+                !bit(queued)
+                    && !bit(waiting)
+                    && !machine.under_set(token.cell)
+                    && handles.add(h)
+            }
+        };
+        let rest = if bit(used.tokens) {
+            token.state == State::Blank || node_holds(machine, dag, token)
+        } else {
+            *token == Token::BLANK
+        };
+        if !holds || !rest {
+            return None;
+        }
+    }
+    let blank = |(c, cell): (usize, &Cell)| used.cells >> c & 1 == 1 || *cell == Cell::BLANK;
+    machine.cells.iter().enumerate().all(blank).then_some(used)
+}
