@@ -49,11 +49,11 @@ module _ {ws dag : List ℕ} {used cells : List Bool} {place p at : ℕ} {m : Ma
   abbrev after : Machine
   after = enqueue p (put p written (dequeued m place))
 
-  frame : isLive (tokenAt (m .tokens) f .state) ≡ false
+  pub frame : isLive (tokenAt (m .tokens) f .state) ≡ false
   unfolding nodeRule namesFrame
   frame = frame-idle _ (ap (namesFrame (m .tokens)) (sym caller) ∙ and-left _ _ (node-rule a))
 
-  returns : Returns m after p f written
+  pub returns : Returns m after p f written
   unfolding put withTables withOrders enqueue withState withValue isLive
   returns =
       record {

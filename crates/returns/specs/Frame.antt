@@ -7,13 +7,9 @@ use lib.ListN.{set}
 use Rattle.model.specs.Machine.Blank.{blankToken, tokenAt}
 use Rattle.model.specs.Machine.Step.{put}
 use Rattle.model.specs.declared.record.Machine.{Machine}
-use Rattle.model.specs.declared.token.Place.the-variants as places
 use Rattle.record.specs.Holds.{Holds}
+use Rattle.acts.specs.Callees.{NamesAsCaller}
 use Rattle.acts.specs.Links.{BindsNoCell}
-
--- the token at i names the one at f as its caller
-abbrev pub NamesAsCaller : Machine → (f i : ℕ) → Type 0
-NamesAsCaller m f i = tokenAt (m .tokens) i .caller ≡ places.At f
 
 -- r says whether any token does
 pub record IsCaller (m : Machine) (f : ℕ) (r : Bool) : Type 0 where

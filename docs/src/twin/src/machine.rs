@@ -132,6 +132,7 @@ fn fork(machine: &mut Machine, place: usize, p: u8, row: &Row, used: &mut Used) 
     let Some(new) = next_place(!used.tokens, machine.last_token) else { return Refused(10) };
     goes_on(machine, place, p, row[1]);
     let token = Token { node: row[2] as u16, ..machine.tokens[p as usize] };
+    used.share(token.caller);
     put_new(machine, new, token, used);
     Reply::Done
 }
@@ -147,10 +148,10 @@ fn split(
     let free = !used.cells as u64;
     let Some(cell) = next_place(free, machine.last_cell) else { return Refused(11) };
     let token = Token { node: right as u16, cell: Some(cell), ..machine.tokens[p as usize] };
-    machine.cells[cell as usize] =
-        Cell { parent: machine.tokens[p as usize].cell, value: None };
+    machine.cells[cell as usize] = Cell { parent: machine.tokens[p as usize].cell, value: None };
     machine.last_cell = cell;
     used.cells |= 1 << cell;
+    used.share(token.caller);
     machine.tokens[p as usize].binds[variable as usize] = Slot::Cell(cell);
     goes_on(machine, place, p, left);
     put_new(machine, new, token, used);
@@ -179,23 +180,30 @@ fn call(
     }
     token.node = row[2] as u16;
     token.state = State::Frame;
+    used.shared &= !(1 << p);
     machine.queue.remove(place);
     put_new(machine, new, callee, used);
     Reply::Done
 }
 
-/// The frame goes on with the value. Where the token binds no cell and has the frame's, only the frame can be out of reach.
+/// The frame goes on with the value. Where the token binds no cell and has the frame's, only the frame can be out of reach, and is where no
+/// other token has named it.
 fn returns(machine: &mut Machine, place: usize, p: u8, used: &mut Used) -> Reply {
     let token = &machine.tokens[p as usize];
     let Some(f) = token.caller else { return Refused(14) };
     let frame = &machine.tokens[f as usize];
     let lost = token.cell != frame.cell || token.binds_cell();
-    machine.tokens[p as usize] = Token { value: token.value, state: State::Ready, ..*frame };
+    let written = Token { value: token.value, state: State::Ready, ..*frame };
+    let shared = used.shared >> f & 1 == 1;
+    if shared {
+        used.share(written.caller);
+    }
+    machine.tokens[p as usize] = written;
     machine.queue.remove(place);
     machine.queue.push(p);
     if lost {
         machine.sweep(used);
-    } else if !machine.is_caller(f) {
+    } else if !(shared && machine.is_caller(f)) {
         machine.tokens[f as usize] = Token::BLANK;
         used.tokens &= !(1 << f);
     }

@@ -105,16 +105,24 @@ pub struct Machine {
     pub last_cell: u8,
 }
 
-/// Which tokens and cells are in use, a bit for each place.
+/// Which tokens and cells are in use, and which tokens more than one may name as its caller: a bit for each place.
 #[derive(Clone, Copy)]
 pub struct Used {
     pub tokens: u64,
     pub cells: u32,
+    pub shared: u64,
 }
 
 impl Used {
     /// What is in use at a start: the first token.
-    pub const START: Used = Used { tokens: 1, cells: 0 };
+    pub const START: Used = Used { tokens: 1, cells: 0, shared: 0 };
+
+    /// One more token names this caller.
+    pub fn share(&mut self, caller: Option<u8>) {
+        if let Some(frame) = caller {
+            self.shared |= 1 << frame;
+        }
+    }
 }
 
 /// The places whose bit is set.
@@ -203,10 +211,10 @@ impl Machine {
         }
     }
 
-    /// Live tokens, and what they reach by caller, cell, parent and binding. No token behind `among` is live, and every place that is
+    /// Live tokens, and what they reach by caller, cell, parent and binding. No token outside `among` is live, and every place that is
     /// named exists.
     pub fn used(&self, among: u64) -> Used {
-        let mut used = Used { tokens: 0, cells: 0 };
+        let mut used = Used { tokens: 0, cells: 0, shared: u64::MAX };
         for p in places(among) {
             if self.tokens[p].state.is_live() {
                 self.mark_token(p, &mut used);
@@ -224,10 +232,10 @@ impl Machine {
         for c in places((used.cells & !now.cells) as u64) {
             self.cells[c] = Cell::BLANK;
         }
-        *used = now;
+        *used = Used { shared: used.shared, ..now };
     }
 
     pub fn is_caller(&self, frame: u8) -> bool {
-        self.tokens.iter().any(|token| token.caller == Some(frame))
+        self.tokens.iter().fold(false, |named, token| named | (token.caller == Some(frame)))
     }
 }

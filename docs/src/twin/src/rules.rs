@@ -154,10 +154,7 @@ pub fn tested(machine: &Machine, dag: &Dag) -> Option<Used> {
                     && machine.cells[c as usize].value.is_none()
             }
             State::Called(h) => {
-                !bit(queued)
-                    && !bit(waiting)
-                    && !machine.under_set(token.cell)
-                    && handles.add(h)
+                !bit(queued) && !bit(waiting) && !machine.under_set(token.cell) && handles.add(h)
             }
         };
         let rest = if bit(used.tokens) {

@@ -122,7 +122,10 @@ fn whole_example(repeats: usize) {
     let started = front(repeats, 10_000, &job, true);
     row("load, start, 9 steps, 2 answers, 5 lines", run);
     row("load and start", started);
-    row("house steps, answers and lines alone: the difference", [0, 1].map(|k| run[k] - started[k]));
+    row(
+        "house steps, answers and lines alone: the difference",
+        [0, 1].map(|k| run[k] - started[k]),
+    );
     println!();
 }
 
