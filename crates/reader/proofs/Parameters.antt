@@ -1,21 +1,26 @@
 -- What is answered for one parameter and for several, at each outcome of the code's tests. Assumes nothing.
-use mathlib.Core.Path.{_≡_, refl, sym, _∙_, ap, ap₂}
-use mathlib.Core.List.{List, _∷_}
+use mathlib.Core.Path.{_≡_, refl, sym, _∙_, ap, ap₂, subst}
+use mathlib.Core.Bool.{Bool, true, false}
+use mathlib.Core.List.{List, [], _∷_}
 use Prim.Native.Nat.{ℕ, suc, _+_, _*_, _-_, _<_, _≤_}
 use native.Mathlib.Omega.{arith}
+use native.Mathlib.Decide.{decLt, ℕ-discrete}
 use native.Mathlib.Numerals.{add-one}
 use lib.ListN.{length, getD, take, drop}
+use lib.Dec.{ltb}
 use Rattle.job.specs.Number.{number}
-use Rattle.job.specs.Syntax.{Param, levels}
+use Rattle.job.specs.Syntax.{Param, variable, levels}
 use Rattle.job.specs.Entry.{Entry, entry, entries, kindOf}
 use Rattle.job.specs.Read.{Got, Read, got, refused, _>>=_, gives, need, entryAt, readParam, readParamList}
+use Rattle.job.proofs.Test.{eq-eqb, ne-eqb, lt-ltb, le-not-ltb}
 use Rattle.job.proofs.Position.{entries-end, entries-at, param-from}
-use Rattle.reader.specs.Checked.{entriesFrom, checked, checkedParam, checkedParamList, checkedNodes}
+use Rattle.reader.specs.Checked.{entriesFrom, checked, checkedParamList, checkedNodes}
+use Rattle.reader.specs.Fault.{unless, parameterFault}
 use Rattle.reader.specs.declared.checked.Checked.{Checked}
 use Rattle.reader.specs.declared.checked.Checked.the-variants.{Next, Refused}
-use Rattle.reader.proofs.Scope.{in-scope, out-of-scope}
+use Rattle.reader.proofs.Scope.{scope-test}
 use Rattle.reader.proofs.Row.{by-kind}
-use Rattle.reader.proofs.Onward.{bind-refused, checked-next, same-nodes}
+use Rattle.reader.proofs.Onward.{same-nodes}
 
 -- an entry of another kind is no parameter
 other-kind : (scope : List ℕ) (e k o : ℕ) (es : List Entry) → (k ≡ 8 → ⊥) → (k ≡ 7 → ⊥) → readParam scope e (entry k o ∷ es) ≡ refused 3 e
@@ -27,62 +32,110 @@ other-kind scope e k o es =
 
 module _ (ks os : List ℕ) (s at : ℕ) where
   -- the code's answer
-  abbrev Answers : Checked → Type 0
-  Answers r = r ≡ checkedParam (readParam (levels s) at (entriesFrom ks os at))
+  abbrev Refuses : ℕ → Type 0
+  Refuses r = r ≡ parameterFault s (entriesFrom ks os at)
 
-  pub param-end : length ks ≤ at → Answers (Refused 5 at)
-  unfolding readParam entryAt _>>=_ checked
+  pub param-end : length ks ≤ at → Refuses 5
+  unfolding parameterFault
   param-end l = rw (entries-end ks os at l)
 
   module _ (l : at < length ks) where
-    pub param-constant : getD ks at 0 ≡ 8 → Answers (Next (at + 1) 0)
-    unfolding readParam entryAt kindOf _>>=_ checked
-    param-constant k = rw (add-one, entries-at ks os at l, k)
+    pub param-constant : getD ks at 0 ≡ 8 → Refuses 0
+    unfolding parameterFault unless
+    param-constant k = rw (entries-at ks os at l, eq-eqb (getD ks at 0) 8 k)
 
-    pub param-other : (getD ks at 0 ≡ 8 → ⊥) → (getD ks at 0 ≡ 7 → ⊥) → Answers (Refused 3 at)
-    unfolding checked
-    param-other a b = rw (entries-at ks os at l, other-kind (levels s) at _ _ (drop (suc at) (entries ks os)) a b)
+    module _ (f : getD ks at 0 ≡ 8 → ⊥) where
+      pub param-other : (getD ks at 0 ≡ 7 → ⊥) → Refuses 3
+      unfolding parameterFault unless
+      param-other g = rw (entries-at ks os at l, ne-eqb (getD ks at 0) 8 f, ne-eqb (getD ks at 0) 7 g)
 
-    module _ (k : getD ks at 0 ≡ 7) (o : ℕ) (eo : o ≡ number (take 4 (drop (4 * at) os))) where
-      pub param-in : o < s → Answers (Next (at + 1) 0)
-      unfolding readParam entryAt kindOf need _>>=_ checked
-      param-in m = rw (add-one, entries-at ks os at l, k, ← eo, in-scope o s m)
+      module _ (k : getD ks at 0 ≡ 7) (o : ℕ) (eo : o ≡ number (take 4 (drop (4 * at) os))) where
+        pub param-in : o < s → Refuses 0
+        unfolding parameterFault unless
+        param-in m = rw (entries-at ks os at l, ne-eqb (getD ks at 0) 8 f, eq-eqb (getD ks at 0) 7 k, ← eo, lt-ltb o s m)
 
-      pub param-out : s ≤ o → Answers (Refused 7 at)
-      unfolding readParam entryAt kindOf need _>>=_ checked
-      param-out m = rw (entries-at ks os at l, k, ← eo, out-of-scope o s m)
+        pub param-out : s ≤ o → Refuses 7
+        unfolding parameterFault unless
+        param-out m = rw (entries-at ks os at l, ne-eqb (getD ks at 0) 8 f, eq-eqb (getD ks at 0) 7 k, ← eo, le-not-ltb o s m)
+
+-- what the fault says of a parameter's reading: with none it is read, and is one entry
+data Judged (e n : ℕ) : Read Param → Type 0 where
+  refuses : (n ≡ 0 → ⊥) → Judged e n (refused n e)
+  takes : {p : Got Param} → n ≡ 0 → p .next ≡ suc e → Judged e n (got p)
+
+judged-entry : (s e k o : ℕ) (es : List Entry) → Judged e (parameterFault s (entry k o ∷ es)) (readParam (levels s) e (entry k o ∷ es))
+unfolding readParam entryAt kindOf need _>>=_ parameterFault unless
+judged-entry s e k o es = go (ℕ-discrete k 8) (ℕ-discrete k 7)
+  where
+    seven : (b : Bool) → Judged e (unless b 7 0) (need b 7 e >>= (λ _. gives (variable o) (suc e) es))
+    seven true = takes refl refl
+    seven false = refuses (λ z. omega arith)
+
+    go : Dec (k ≡ 8) → Dec (k ≡ 7) → Judged e (parameterFault s (entry k o ∷ es)) (readParam (levels s) e (entry k o ∷ es))
+    go (yes h) d = rw h (takes refl refl)
+    go (no f) (yes h) = rw (h, scope-test o s) (seven (ltb o s))
+    go (no f) (no g) = rw (other-kind (levels s) e k o es f g, ne-eqb k 8 f, ne-eqb k 7 g) (refuses (λ z. omega arith))
+
+judged : (s e : ℕ) (es : List Entry) → Judged e (parameterFault s es) (readParam (levels s) e es)
+unfolding readParam entryAt _>>=_ parameterFault
+judged s e [] = refuses (λ z. omega arith)
+judged s e (x ∷ es) = judged-entry s e (x .kind) (x .operand) es
 
 -- the parameters behind the first
 rest : ℕ → List ℕ → Got Param → Read (List Param)
 rest n scope p = readParamList n scope (p .next) (p .rest) >>= (λ ps. gives (p .value ∷ ps .value) (ps .next) (ps .rest))
 
-module _ (ks os : List ℕ) (n s at : ℕ) where
+-- the loop's invariant: what is left from entry e on decides
+abbrev pub Left : (ks os : List ℕ) (count s at e left : ℕ) → Type 0
+Left ks os count s at e left =
+    checkedParamList (readParamList count (levels s) at (entriesFrom ks os at))
+    ≡ checkedParamList (readParamList left (levels s) e (entriesFrom ks os e))
+
+module _ (ks os : List ℕ) (count s at e left : ℕ) (g : Left ks os count s at e left) where
   abbrev Answered : Checked → Type 0
-  Answered r = r ≡ checkedParamList (readParamList n (levels s) at (entriesFrom ks os at))
+  Answered r = r ≡ checkedParamList (readParamList count (levels s) at (entriesFrom ks os at))
 
-  pub params-none : n ≡ 0 → Answered (Next at 0)
+  pub params-end : left ≤ 0 → Answered (Next e 0)
   unfolding readParamList checked
-  params-none z = rw z
+  params-end z = let y : left ≡ 0 = omega arith in sym (g ∙ rw y)
 
-  module _ (f : n ≡ 0 → ⊥) (q : Checked) (eq : Answers ks os s at q) where
-    opened : readParamList n (levels s) at (entriesFrom ks os at) ≡ (readParam (levels s) at (entriesFrom ks os at) >>= rest (n - 1) (levels s))
+  module _ (l : 0 < left) (n : ℕ) (en : n ≡ parameterFault s (entriesFrom ks os e)) where
+    opened : readParamList left (levels s) e (entriesFrom ks os e) ≡ (readParam (levels s) e (entriesFrom ks os e) >>= rest (left - 1) (levels s))
     unfolding rest readParamList
-    opened = let z : n ≡ suc (n - 1) = omega arith in ap (λ k. readParamList k (levels s) at (entriesFrom ks os at)) z
+    opened = let z : left ≡ suc (left - 1) = omega arith in ap (λ k. readParamList k (levels s) e (entriesFrom ks os e)) z
 
-    pub params-refused : (k e : ℕ) → q ≡ Refused k e → Answered (Refused k e)
-    params-refused k e h = rw opened (bind-refused (λ p. 0) _ (λ ps. 0) (rest (n - 1) (levels s)) k e (sym eq ∙ h))
+    it : Judged e n (readParam (levels s) e (entriesFrom ks os e))
+    it = subst (λ n. Judged e n (readParam (levels s) e (entriesFrom ks os e))) (sym en) (judged s e (entriesFrom ks os e))
 
-    pub params-more : (m d : ℕ) (z : Checked) → q ≡ Next m d
-        → z ≡ checkedParamList (readParamList (n - 1) (levels s) m (entriesFrom ks os m)) → Answered z
+    pub params-refused : (n ≡ 0 → ⊥) → Answered (Refused n e)
+    unfolding checked _>>=_
+    params-refused f = sym (g ∙ ap checkedParamList opened ∙ go (readParam (levels s) e (entriesFrom ks os e)) it)
+      where
+        go : (r : Read Param) → Judged e n r → checkedParamList (r >>= rest (left - 1) (levels s)) ≡ Refused n e
+        go (refused m i) (refuses h) = refl
+        go (got p) (takes z h) = absurd (f z)
+
+    pub params-more : n ≡ 0 → Left ks os count s at (e + 1) (left - 1)
     unfolding rest _>>=_
-    params-more m d z h ez =
-        let a = checked-next (λ p. 0) (readParam (levels s) at (entriesFrom ks os at)) m d (sym eq ∙ h) in
-        let b = param-from (entries ks os) (levels s) at (entriesFrom ks os at) (a .0) refl (a .1) in
-        let tail = readParamList (n - 1) (levels s) (a .0 .next) (a .0 .rest) in
-        ez
-        ∙ sym (ap checkedParamList (opened ∙ ap (λ r. r >>= rest (n - 1) (levels s)) (a .1))
-        ∙ same-nodes (λ ps. 0) (λ ps. 0) (λ ps. a .0 .value ∷ ps) (λ ps. refl) tail
-        ∙ ap₂ (λ i l. checkedParamList (readParamList (n - 1) (levels s) i l)) (a .2) (b .rest ∙ ap (λ i. drop i (entries ks os)) (a .2)))
+    params-more z = g ∙ ap checkedParamList opened ∙ go (readParam (levels s) e (entriesFrom ks os e)) refl it
+      where
+        go : (r : Read Param) → readParam (levels s) e (entriesFrom ks os e) ≡ r → Judged e n r
+            → checkedParamList (r >>= rest (left - 1) (levels s))
+            ≡ checkedParamList (readParamList (left - 1) (levels s) (e + 1) (entriesFrom ks os (e + 1)))
+        go (refused m i) q (refuses h) = absurd (h z)
+        go (got p) q (takes y h) =
+            let b = param-from (entries ks os) (levels s) e (entriesFrom ks os e) p refl q in
+            let i = h ∙ sym (add-one e) in
+            same-nodes (λ ps. 0) (λ ps. 0) (λ ps. p .value ∷ ps) (λ ps. refl) (readParamList (left - 1) (levels s) (p .next) (p .rest))
+            ∙ ap₂ (λ i l. checkedParamList (readParamList (left - 1) (levels s) i l)) i (b .rest ∙ ap (λ i. drop i (entries ks os)) i)
+
+    -- a parameter that is read is an entry
+    pub params-fit : length ks ≤ 512 → n ≡ 0 → e + 1 < 4096
+    params-fit k z = go (decLt e (length ks))
+      where
+        go : Dec (e < length ks) → e + 1 < 4096
+        go (yes m) = omega arith
+        go (no f) = let y : 5 ≡ n = param-end ks os s e (omega arith) ∙ sym en in absurd (omega arith)
 
 -- parameters make no node
 pub params-nodes : (q : Checked) (r : Read (List Param)) → q ≡ checkedParamList r → checkedNodes q < 4096

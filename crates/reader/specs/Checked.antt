@@ -25,9 +25,6 @@ checked nodes (got g) = Next (g .next) (nodes (g .value))
 checked nodes (refused n e) = Refused n e
 
 -- parameters make no node of their own
-abbrev pub checkedParam : Read Param → Checked
-checkedParam = checked (λ p. 0)
-
 abbrev pub checkedParamList : Read (List Param) → Checked
 checkedParamList = checked (λ ps. 0)
 

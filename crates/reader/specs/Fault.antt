@@ -1,9 +1,11 @@
--- The number that refuses an expression's entry by itself: "entry by entry 5, 3, 4, 6, 7". Assumes nothing: these are definitions.
+-- The number that refuses an entry by itself, an expression's or a parameter's: "entry by entry 5, 3, 4, 6, 7".
+-- Assumes nothing: these are definitions.
 use mathlib.Core.Bool.{Bool, true, false, not}
+use mathlib.Core.List.{List, [], _∷_}
 use Prim.Native.Nat.{ℕ, zero, suc}
-use lib.Dec.{ltb}
+use lib.Dec.{eqb, ltb}
 use Rattle.job.specs.Test.{_or_}
-use Rattle.job.specs.Entry.{EntryKind, isExpression, rowHolds, isBinder}
+use Rattle.job.specs.Entry.{Entry, EntryKind, isExpression, rowHolds, isBinder}
 
 -- this number, unless the test holds
 unfoldable pub unless : Bool → ℕ → ℕ → ℕ
@@ -15,3 +17,8 @@ unfoldable pub expressionFault : ℕ → ℕ → EntryKind → ℕ → ℕ
 expressionFault zero scope k o = unless (isExpression k) 3 (unless (rowHolds k o) 4 6)
 expressionFault (suc left) scope k o =
     unless (isExpression k) 3 (unless (rowHolds k o) 4 (unless (not (isBinder k) or ltb scope 8) 7 0))
+
+-- the first of these entries as a parameter: a constant (kind 8), or a variable (kind 7) that is one of so many in scope
+unfoldable pub parameterFault : ℕ → List Entry → ℕ
+parameterFault scope [] = 5
+parameterFault scope (x ∷ es) = unless (eqb (x .kind) 8) (unless (eqb (x .kind) 7) 3 (unless (ltb (x .operand) scope) 7 0)) 0

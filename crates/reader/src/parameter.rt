@@ -3,29 +3,30 @@ use crate::checked::Checked;
 use crate::entry;
 ghost use mathlib.Core.Path.{_≡_};
 ghost use Rattle.job.specs.Syntax.{levels};
-ghost use Rattle.job.specs.Read.{readParam, readParamList};
-ghost use Rattle.reader.specs.Checked.{Parts, entriesFrom, checkedParam, checkedParamList};
+ghost use Rattle.job.specs.Read.{readParamList};
+ghost use Rattle.reader.specs.Checked.{Parts, entriesFrom, checkedParamList};
+ghost use Rattle.reader.specs.Fault.{parameterFault};
 
-// The parameter at entry `at`, where so many variables are in scope.
-fn check_parameter(kinds: &[u8], operands: &[u8], scope: usize, at: usize) -> Checked
+// The number that refuses the parameter at entry `at`, or 0: so many variables are in scope.
+fn parameter_fault(kinds: &[u8], operands: &[u8], scope: usize, at: usize) -> u8
     requires { ⌜ Parts (now kinds) (now operands) ⌝ }
-    ensures { λ r. ⌜ r ≡ checkedParam (readParam (levels scope) at (entriesFrom (now (kinds .entry)) (now (operands .entry)) at)) ⌝ }
+    ensures { λ r. ⌜ r ≡ parameterFault scope (entriesFrom (now (kinds .entry)) (now (operands .entry)) at) ⌝ }
 {
     if kinds.len() <= at {
-        return Checked::Refused(5, at);
+        return 5;
     }
     let kind = kinds[at];
     if kind == 8 {
-        return Checked::Next(at + 1, 0);
+        return 0;
     }
     if kind != 7 {
-        return Checked::Refused(3, at);
+        return 3;
     }
     let variable = entry::operand(operands, at);
     if (variable as usize) < scope {
-        return Checked::Next(at + 1, 0);
+        return 0;
     }
-    Checked::Refused(7, at)
+    7
 }
 
 // So many parameters from entry `at` on.
@@ -39,12 +40,15 @@ pub fn check_parameters(
     requires { ⌜ Parts (now kinds) (now operands) ⌝ }
     ensures { λ r. ⌜ r ≡ checkedParamList (readParamList count (levels scope) at (entriesFrom (now (kinds .entry)) (now (operands .entry)) at)) ⌝ }
 {
-    if count == 0 {
-        return Checked::Next(at, 0);
+    let mut next = at;
+    let mut left = count;
+    while 0 < left {
+        let fault = parameter_fault(kinds, operands, scope, next);
+        if fault != 0 {
+            return Checked::Refused(fault, next);
+        }
+        next += 1;
+        left -= 1;
     }
-    let first = check_parameter(kinds, operands, scope, at);
-    match first {
-        Checked::Refused(n, e) => Checked::Refused(n, e),
-        Checked::Next(e, _) => check_parameters(kinds, operands, count - 1, scope, e),
-    }
+    Checked::Next(next, 0)
 }

@@ -1,17 +1,14 @@
--- `parameter::check_parameter` meets its contract: there is a law for each way out of the tests. Assumes nothing.
+-- `parameter::parameter_fault` meets its contract: there is a law for each way out of the tests. Assumes nothing.
 use borrow.Author.Needs.{needs}
 use Rattle.reader.proofs.Parameters.{param-end, param-constant, param-other, param-in, param-out}
-use Rattle.reader.proofs.parameter.check_parameter.Statement.{statement}
-use Rattle.reader.proofs.parameter.check_parameter.Tie as tie
+use Rattle.reader.proofs.parameter.parameter_fault.Statement.{statement}
+use Rattle.reader.proofs.parameter.parameter_fault.Tie as tie
 
 returns : tie.Need-returns
 returns c = search param-end
 
 shared-slice-read-kind : tie.Need-shared-slice-read-kind
 shared-slice-read-kind c = search needs
-
-add-t11 : tie.Need-add-t11
-add-t11 c = search needs
 
 returns-2 : tie.Need-returns-2
 returns-2 c = search param-constant
@@ -25,26 +22,13 @@ operand-requires c κs = search needs
 cast-if4 : tie.Need-cast-if4
 cast-if4 c = search needs
 
-add-t12 : tie.Need-add-t12
-add-t12 c = search needs
-
 returns-4 : tie.Need-returns-4
 returns-4 c = search param-in
 
 returns-5 : tie.Need-returns-5
 returns-5 c = search param-out
 
-pub check-parameter-spec : {M : Type 1} → statement M
-check-parameter-spec =
+pub parameter-fault-spec : {M : Type 1} → statement M
+parameter-fault-spec =
     tie.close
-    (tie.spec
-    returns
-    shared-slice-read-kind
-    add-t11
-    returns-2
-    returns-3
-    operand-requires
-    cast-if4
-    add-t12
-    returns-4
-    returns-5)
+    (tie.spec returns shared-slice-read-kind returns-2 returns-3 operand-requires cast-if4 returns-4 returns-5)
