@@ -3,19 +3,16 @@ use crate::checked::Checked;
 use crate::entry;
 ghost use mathlib.Core.Path.{_≡_};
 ghost use Prim.Native.Nat.{_≤_};
-ghost use lib.ListN.{take};
+ghost use lib.ListN.{length, take};
 ghost use Rattle.job.specs.Entry.{entry, entries};
 ghost use Rattle.job.specs.Read.{callHolds, definitionsHold};
 ghost use Rattle.reader.specs.Checked.{Parts, checkedTest};
 
-// May an entry of this kind and operand stand beside `count` definitions with these counts of formals?
-fn call_holds(kind: u8, operand: u32, formals: [u32; 32], count: usize) -> bool
-    requires { ⌜ count ≤ 32 ⌝ }
-    ensures { λ r. ⌜ r ≡ callHolds (take count formals) (entry kind operand) ⌝ }
+// May a call with this operand stand beside `count` definitions with these counts of formals?
+fn call_holds(operand: u32, formals: &[u32; 32], count: usize) -> bool
+    requires { ⌜ (length (now formals) ≡ 32) × (count ≤ 32) ⌝ }
+    ensures { λ r. ⌜ r ≡ callHolds (take count (now (formals .entry))) (entry 2 operand) ⌝ }
 {
-    if kind != 2 {
-        return true;
-    }
     let d = (operand % 65536) as usize;
     if count <= d {
         return false;
@@ -23,17 +20,20 @@ fn call_holds(kind: u8, operand: u32, formals: [u32; 32], count: usize) -> bool
     operand / 65536 == formals[d]
 }
 
-// The first call that may not.
-pub fn check_calls(kinds: &[u8], operands: &[u8], formals: [u32; 32], count: usize) -> Checked
+// The first call that may not. Entries of other kinds are passed by, and their operands not read.
+pub fn check_calls(kinds: &[u8], operands: &[u8], formals: &[u32; 32], count: usize) -> Checked
     requires { ⌜ Parts (now kinds) (now operands) ⌝ }
-    requires { ⌜ count ≤ 32 ⌝ }
-    ensures { λ r. ⌜ r ≡ checkedTest (definitionsHold (take count formals) 0 (entries (now (kinds .entry)) (now (operands .entry)))) ⌝ }
+    requires { ⌜ (length (now formals) ≡ 32) × (count ≤ 32) ⌝ }
+    ensures { λ r. ⌜ r ≡ checkedTest (definitionsHold (take count (now (formals .entry))) 0
+        (entries (now (kinds .entry)) (now (operands .entry)))) ⌝ }
 {
     let mut i = 0;
     while i < kinds.len() {
-        let holds = call_holds(kinds[i], entry::operand(operands, i), formals, count);
-        if !holds {
-            return Checked::Refused(8, i);
+        if kinds[i] == 2 {
+            let holds = call_holds(entry::operand(operands, i), formals, count);
+            if !holds {
+                return Checked::Refused(8, i);
+            }
         }
         i += 1;
     }

@@ -38,7 +38,7 @@ pub fn check_program(kinds: &[u8], operands: &[u8], definitions: usize) -> Check
                 Checked::Refused(n, e) => Checked::Refused(n, e),
                 Checked::Next(end, nodes) => {
                     let unread = check_end(kinds, operands, end);
-                    let calls = calls::check_calls(kinds, operands, formals, definitions);
+                    let calls = calls::check_calls(kinds, operands, &formals, definitions);
                     let whole = Checked::Next(end, before + nodes + 1);
                     checked::after(unread, checked::after(calls, whole))
                 }

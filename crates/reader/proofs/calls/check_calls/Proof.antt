@@ -1,8 +1,9 @@
 -- `calls::check_calls` meets its contract. The loop's invariant: the entries that are left decide. Assumes nothing.
 use Prim.Native.Nat.{_-_, _≤_}
+use mathlib.Core.Logic.{⊎-elim}
 use lib.ListN.{length, take}
 use borrow.Author.Needs.{needs}
-use Rattle.reader.proofs.Calling.{Scanning, scan-start, scan-end, scan-more, scan-refused}
+use Rattle.reader.proofs.Calling.{Scanning, scan-start, scan-end, scan-past, scan-more, scan-refused}
 use Rattle.reader.proofs.calls.check_calls.Statement.{statement}
 use Rattle.reader.proofs.calls.check_calls.Tie as tie
 
@@ -15,8 +16,8 @@ abbrev μ-loop : tie.MeasureT-loop
 loop-holds : tie.Need-loop-holds Inv-loop μ-loop
 loop-holds c = (search needs, scan-start _ _ _)
 
-shared-slice-read-call-holds : tie.Need-shared-slice-read-call-holds Inv-loop μ-loop
-shared-slice-read-call-holds c = search needs
+shared-slice-read-if1 : tie.Need-shared-slice-read-if1 Inv-loop μ-loop
+shared-slice-read-if1 c = search needs
 
 operand-requires : tie.Need-operand-requires Inv-loop μ-loop
 operand-requires c κs = search needs
@@ -34,7 +35,7 @@ loop-less : tie.Need-loop-less Inv-loop μ-loop
 loop-less c = search needs
 
 loop-again : tie.Need-loop-again Inv-loop μ-loop
-loop-again c = (search needs, search scan-more)
+loop-again c = (search needs, ⊎-elim (λ h. search scan-more) (λ h. search scan-past) (c .if1 .came))
 
 returns-2 : tie.Need-returns-2 Inv-loop μ-loop
 returns-2 c = search scan-end
@@ -46,7 +47,7 @@ check-calls-spec =
     Inv-loop
     μ-loop
     loop-holds
-    shared-slice-read-call-holds
+    shared-slice-read-if1
     operand-requires
     call-holds-requires
     returns

@@ -29,11 +29,11 @@ check-end-requires c κs = search needs
 check-calls-requires : tie.Need-check-calls-requires
 check-calls-requires c κs = search needs
 
-add-t21 : tie.Need-add-t21
-add-t21 c = fits-under w64 _ 4096 (search sum-few) tt
-
 add-t22 : tie.Need-add-t22
-add-t22 c = fits-under w64 _ 4096 (search all-few) tt
+add-t22 c = fits-under w64 _ 4096 (search sum-few) tt
+
+add-t23 : tie.Need-add-t23
+add-t23 c = fits-under w64 _ 4096 (search all-few) tt
 
 after-requires : tie.Need-after-requires
 after-requires c κs = search needs
@@ -62,8 +62,8 @@ check-program-spec =
     enum-known-goal-2
     check-end-requires
     check-calls-requires
-    add-t21
     add-t22
+    add-t23
     after-requires
     after-requires-2
     returns
