@@ -1,5 +1,4 @@
--- Laws that the loader's proofs share: one body, the definitions, the program, the table.
-pub mod Counted
+-- Laws that the loader's proofs share: the definitions, the program, the table.
 pub mod Before
 pub mod Writing
 pub mod Whole

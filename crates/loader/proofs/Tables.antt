@@ -14,6 +14,7 @@ use Rattle.job.specs.Construct.{construct}
 use Rattle.job.specs.Read.{Got, Read, got, refused, _>>=_, need, readEntries, sizeD, sizeN, readBytes, readerAnswer, readTable}
 use Rattle.job.proofs.Test.{eq-eqb, ne-eqb, le-leb, lt-not-leb}
 use Rattle.reader.specs.Checked.{checkedProgram}
+use Rattle.reader.specs.DefinitionList.{programSizes, Leads}
 use Rattle.reader.specs.declared.checked.Checked.{Checked}
 use Rattle.reader.specs.declared.checked.Checked.the-variants as checked
 use Rattle.reader.proofs.Onward.{checked-refused, checked-next}
@@ -44,8 +45,10 @@ module _ (ks os : List ℕ) (n : ℕ) (q : Checked) (eq : q ≡ checkedProgram (
     read : (p : Got Program) × (readEntries n (entries ks os) ≡ got p) × (p .next ≡ m) × (length (construct (p .value) .nodes) ≡ k)
     read = checked-next (λ p. length (construct p .nodes)) (readEntries n (entries ks os)) m k (sym eq ∙ h)
 
-    pub parts-accepted : Accepts (readEntries n (entries ks os))
-    parts-accepted = subst Accepts (sym (read .1)) accepts
+    pub parts-accepted : (ss : List ℕ) → Leads (programSizes (readEntries n (entries ks os))) ss → Accepts (readEntries n (entries ks os)) k ss
+    unfolding programSizes
+    parts-accepted ss l =
+        subst (λ r. Accepts r k ss) (sym (read .1)) (accepts (sym (read .3)) (subst (λ r. Leads (programSizes r) ss) (read .1) l))
 
     pub parts-done : (d d1 : List ℕ) → d1 ≡ storedProgram (readEntries n (entries ks os)) d → Loads (readEntries n (entries ks os)) (Dag k) d d1
     unfolding readerAnswer loaded loadedWords

@@ -1,14 +1,13 @@
 -- The loop over the definitions: the words of those that are done are stored, and the others are still to be read. Assumes nothing.
 use Prim.Native.Nat.{ℕ, suc, _+_, _*_, _-_, _<_, _≤_}
 use mathlib.Core.Path.{_≡_, refl, sym, ap, ap₂, subst, _∙_}
-use mathlib.Core.Bool.{true, false}
-use mathlib.Core.List.{List, [], _∷_, _++_, append-assoc, append-nil}
-use native.Mathlib.Decide.{decLt}
+use mathlib.Core.Bool.{false}
+use mathlib.Core.List.{List, [], _∷_, _++_, map, append-assoc, append-nil}
 use native.Mathlib.Numerals.{add-one}
 use native.Mathlib.Nat.{sub-zero}
 use native.Mathlib.Omega.{arith}
-use lib.ListN.{length, getD, drop, length-append}
-use lib.Seq.{sets}
+use lib.ListN.{length, getD, drop, length-append, length-map}
+use lib.Seq.{sets, getD-take}
 use Rattle.job.specs.Syntax.{Exp, Definition, levels}
 use Rattle.job.specs.Entry.{entries, EntryKind, kindOf, rowHolds}
 use Rattle.job.specs.Construct.{nodeCount, root}
@@ -17,15 +16,15 @@ use Rattle.job.specs.Read.{Got, Read, got, _>>=_, gives, need, entryAt, readExp
 use Rattle.job.proofs.Test.{leb-le}
 use Rattle.job.proofs.Position.{operandAt, entries-at, bind-got}
 use Rattle.reader.specs.Checked.{Parts, entriesFrom}
-use Rattle.reader.specs.DefinitionList.{readDefinitionList, definitionNodes, definitionListNodes}
+use Rattle.reader.specs.DefinitionList.{readDefinitionList, definitionNodes, definitionListNodes, sizesOf, Leads}
 use Rattle.reader.proofs.DefinitionLoop.{Defined, defined}
 use Rattle.reader.proofs.ProgramParts.{same-got}
 use Rattle.compiler.specs.Compiled.{reading}
-use Rattle.compiler.specs.Body.{compiledWithSink, storedBody}
+use Rattle.compiler.specs.Body.{Sunk, sunk, BodyAccepted, compiledWithSink, storedBody}
 use Rattle.compiler.specs.declared.expression.Compiled.{Compiled}
 use Rattle.compiler.proofs.Heads.{test-holds}
 use Rattle.compiler.proofs.Reread.{reread}
-use Rattle.loader.specs.Stored.{Fits, fits, BodyRead, DefinitionsRead, definitions, nodesBefore, bodiesBefore, placeBehind, wordsBefore, storedDefinitions}
+use Rattle.loader.specs.Stored.{DefinitionsRead, definitions, nodesBefore, bodiesBefore, placeBehind, wordsBefore, storedDefinitions}
 use Rattle.loader.specs.declared.program.Place.{Place}
 use Rattle.loader.proofs.Before.{count-append, one-more}
 
@@ -47,10 +46,11 @@ body-of ks os at g l r =
     (record { body = c .0; read = c .1; value = refl; next = refl; small = leb-le (operandAt os at) 4 (test-holds _ 4 at (b .0) (b .1)) })
 
 -- the loop's invariant: `done` are stored, `left` is read from entry `at` on, and both are all
-pub record Writing (count : ℕ) (ks os ws l : List ℕ) (at node i : ℕ) : Type 0 where
+pub record Writing (count : ℕ) (ks os ws ss l : List ℕ) (at node i : ℕ) : Type 0 where
   pub all : Got (List Definition)
   pub read-all : readDefinitionList count 0 (entries ks os) ≡ got all
   pub fits : definitionListNodes (all .value) < 1022
+  pub sized : Leads (sizesOf (all .value)) ss
   pub done : List Definition
   pub left : Got (List Definition)
   pub read-left : readDefinitionList (count - i) at (entriesFrom ks os at) ≡ got left
@@ -61,17 +61,20 @@ pub record Writing (count : ℕ) (ks os ws l : List ℕ) (at node i : ℕ) : Typ
   pub placed : node ≡ definitionListNodes done
   pub words : l ≡ wordsBefore done ws
 
-view : (r : Read (List Definition)) → DefinitionsRead r → (g : Got (List Definition)) × (r ≡ got g) × (definitionListNodes (g .value) < 1022)
-view (got g) (definitions h) = (g, refl, h)
+view : (r : Read (List Definition)) (ss : List ℕ) → DefinitionsRead r ss
+    → (g : Got (List Definition)) × (r ≡ got g) × (definitionListNodes (g .value) < 1022) × Leads (sizesOf (g .value)) ss
+view (got g) ss (definitions h k) = (g, refl, h, k)
 
-pub writing-start : (count : ℕ) (ks os ws : List ℕ) → DefinitionsRead (readDefinitionList count 0 (entries ks os)) → Writing count ks os ws ws 0 0 0
+pub writing-start : (count : ℕ) (ks os ws ss : List ℕ) → DefinitionsRead (readDefinitionList count 0 (entries ks os)) ss
+    → Writing count ks os ws ss ws 0 0 0
 unfolding definitionListNodes wordsBefore nodesBefore bodiesBefore rowsOfNodes bodyWords
-writing-start count ks os ws d =
-    let v = view (readDefinitionList count 0 (entries ks os)) d in
+writing-start count ks os ws ss d =
+    let v = view (readDefinitionList count 0 (entries ks os)) ss d in
     record {
       all = v .0;
       read-all = v .1;
       fits = v .2;
+      sized = v .3;
       done = [];
       left = v .0;
       read-left = rw sub-zero (v .1);
@@ -83,7 +86,12 @@ writing-start count ks os ws d =
       words = refl;
     }
 
-module _ (count : ℕ) (ks os ws l : List ℕ) (at node i : ℕ) (g : Writing count ks os ws l at node i) where
+-- what stands behind a list
+at-end : (f : Definition → ℕ) (a b : List Definition) (d : Definition) → getD (map f (a ++ (d ∷ b))) (length a) 0 ≡ f d
+at-end f [] b d = refl
+at-end f (x ∷ a) b d = at-end f a b d
+
+module _ (count : ℕ) (ks os ws ss l : List ℕ) (at node i : ℕ) (g : Writing count ks os ws ss l at node i) where
   pub writing-end : count ≤ i
       → (_≡_ {A = Place} (record { at = at; node = node }) (placeBehind (readDefinitionList count 0 (entries ks os))))
       × (l ≡ storedDefinitions (readDefinitionList count 0 (entries ks os)) ws)
@@ -124,6 +132,19 @@ module _ (count : ℕ) (ks os ws l : List ℕ) (at node i : ℕ) (g : Writing co
     its : BodyOf ks os at (turn .new)
     its = body-of ks os at (turn .new) (facts .here) (turn .read-new)
 
+    -- its size, off the array: its nodes and its sink
+    size : getD ss i 0 ≡ 1 + nodeCount (its .body .value)
+    size =
+        let all : sizesOf (g .all .value) ≡ sizesOf (g .done ++ (turn .new .value ∷ turn .others .value)) =
+        ap sizesOf (sym (g .whole) ∙ ap (λ ds. g .done ++ ds) (turn .value)) in
+        let long : i < length (sizesOf (g .all .value)) =
+        rw (all, length-map, length-append, g .many) (omega arith) in
+        sym (getD-take (length (sizesOf (g .all .value))) ss i 0 long)
+        ∙ ap (λ ns. getD ns i 0) (g .sized ∙ all)
+        ∙ ap (λ m. getD (sizesOf (g .done ++ (turn .new .value ∷ turn .others .value))) m 0) (sym (g .many))
+        ∙ at-end definitionNodes (g .done) (turn .others .value) (turn .new .value)
+        ∙ ap definitionNodes (its .value)
+
     pub turn-below : length ks ≤ 512 → at < 512
     turn-below k = let x = facts .here in omega arith
 
@@ -133,31 +154,47 @@ module _ (count : ℕ) (ks os ws l : List ℕ) (at node i : ℕ) (g : Writing co
     pub turn-within : length os ≡ 4 * length ks → 4 * at + 4 ≤ length os
     turn-within k = let x = facts .here in omega arith
 
+    room : node + nodeCount (its .body .value) < 1022
+    unfolding definitionListNodes
+    room =
+        let a = count-append (g .done) (g .left .value) in
+        let b = ap definitionListNodes (g .whole) in
+        let c = ap definitionListNodes (turn .value) in
+        let d = ap (λ (d : Definition). nodeCount (d .body)) (its .value) in
+        let p = g .placed in
+        let f = g .fits in
+        omega arith
+
+    pub turn-sum : node + getD ss i 0 < 4096
+    turn-sum = let k = size in let r = room in omega arith
+
+    pub turn-size : getD ss i 0 < 4096
+    turn-size = let k = turn-sum in omega arith
+
+    pub turn-some : 1 ≤ node + getD ss i 0
+    turn-some = let k = size in omega arith
+
     module _ (o : ℕ) (eo : o ≡ operandAt os at) where
       read : reading 24 ks os o (at + 1) ≡ got (its .body)
       read =
           let e = sym (add-one at) in
           reread (readExp 24) (ap levels (sym eo)) e (ap (λ m. drop m (entries ks os)) e) (its .read)
 
-      room : node + nodeCount (its .body .value) < 1022
-      unfolding definitionListNodes
-      room =
-          let a = count-append (g .done) (g .left .value) in
-          let b = ap definitionListNodes (g .whole) in
-          let c = ap definitionListNodes (turn .value) in
-          let d = ap (λ (d : Definition). nodeCount (d .body)) (its .value) in
-          let p = g .placed in
-          let f = g .fits in
-          omega arith
-
-      pub turn-read : Parts ks os → BodyRead ks os o (at + 1) node
+      pub turn-read : Parts ks os → BodyAccepted ks os o (at + 1) node (node + getD ss i 0 - 1)
       turn-read p =
           let s = its .small in
-          record { parts = p; scoped = omega arith; fits = subst (λ r. Fits r node) (sym read) (fits room) }
+          let k = size in
+          let r = room in
+          record {
+            parts = p;
+            scoped = omega arith;
+            below = omega arith;
+            sinks = subst (λ r. Sunk r node (node + getD ss i 0 - 1)) (sym read) (sunk (omega arith));
+          }
 
       pub turn-more : count ≤ 32 → (c : Compiled) (l1 l2 : List ℕ) → c ≡ compiledWithSink (reading 24 ks os o (at + 1)) node
           → l1 ≡ storedBody (reading 24 ks os o (at + 1)) false node l → l2 ≡ sets l1 (3 + 2 * i) (c .root ∷ o ∷ [])
-          → Writing count ks os ws l2 (c .at) (c .node) (i + 1)
+          → Writing count ks os ws ss l2 (c .at) (c .node) (i + 1)
       unfolding definitionListNodes
       turn-more k c l1 l2 ec e1 e2 =
           let d : Definition = record { formals = o; body = its .body .value } in
@@ -171,6 +208,7 @@ module _ (count : ℕ) (ks os ws l : List ℕ) (at node i : ℕ) (g : Writing co
             all = g .all;
             read-all = g .read-all;
             fits = g .fits;
+            sized = g .sized;
             done = g .done ++ (d ∷ []);
             left = turn .others;
             read-left = ap₂ (λ m es. readDefinitionList (count - (i + 1)) m es) (sym e)

@@ -1,36 +1,29 @@
 -- What is asked of the parts of an accepted program, and what compiling them gives and stores. (A refused reading is not asked about.)
 -- Assumes nothing: these are definitions.
-use mathlib.Core.Bool.{true, false}
+use mathlib.Core.Path.{_≡_}
+use mathlib.Core.Bool.{false}
 use mathlib.Core.List.{List, [], _∷_, _++_}
-use Prim.Native.Nat.{ℕ, _+_, _<_, _≤_}
+use Prim.Native.Nat.{ℕ, _+_, _<_}
+use lib.ListN.{length}
 use lib.Seq.{sets}
-use Rattle.job.specs.Syntax.{Exp, Definition, Program}
+use Rattle.job.specs.Syntax.{Definition, Program}
 use Rattle.job.specs.Node.{Node, Body}
 use Rattle.job.specs.Construct.{nodeCount, root, nodesOf, construct}
 use Rattle.job.specs.Words.{headWords, rowsOfNodes, bodyWords, written}
 use Rattle.job.specs.Read.{Got, Read, got, refused}
-use Rattle.reader.specs.Checked.{Parts}
-use Rattle.reader.specs.DefinitionList.{definitionNodes, definitionListNodes}
-use Rattle.compiler.specs.Compiled.{reading}
+use Rattle.reader.specs.DefinitionList.{definitionNodes, definitionListNodes, sizesOf, Leads}
 use Rattle.compiler.specs.Body.{sinkOf}
 use Rattle.loader.specs.declared.program.Place.{Place}
 
--- read, and its nodes from n on and its sink fit the dag's 1,022 places
-pub data Fits : Read Exp → ℕ → Type 0 where
-  fits : {g : Got Exp} {n : ℕ} → n + nodeCount (g .value) < 1022 → Fits (got g) n
+-- what is asked of the definitions: they were read, their nodes leave a place of the dag's 1,022, and their sizes are known
+pub data DefinitionsRead : Read (List Definition) → (sizes : List ℕ) → Type 0 where
+  definitions : {g : Got (List Definition)} {sizes : List ℕ} → definitionListNodes (g .value) < 1022 → Leads (sizesOf (g .value)) sizes
+      → DefinitionsRead (got g) sizes
 
--- what is asked of a body's entries
-pub record BodyRead (ks os : List ℕ) (scope at n : ℕ) : Type 0 where
-  pub parts : Parts ks os
-  pub scoped : scope ≤ 8
-  pub fits : Fits (reading 24 ks os scope at) n
-
--- what is asked of the definitions, and of the program
-pub data DefinitionsRead : Read (List Definition) → Type 0 where
-  definitions : {g : Got (List Definition)} → definitionListNodes (g .value) < 1022 → DefinitionsRead (got g)
-
-pub data Accepts : Read Program → Type 0 where
-  accepts : {p : Got Program} → Accepts (got p)
+-- what is asked of the program: it was read, and its number of nodes and the sizes of its definitions are known
+pub data Accepts : Read Program → (nodes : ℕ) → (sizes : List ℕ) → Type 0 where
+  accepts : {p : Got Program} {nodes : ℕ} {sizes : List ℕ} → nodes ≡ length (construct (p .value) .nodes)
+      → Leads (sizesOf (p .value .definitions)) sizes → Accepts (got p) nodes sizes
 
 -- the nodes of definitions, numbered from n, each body's toward its sink behind them; and where the bodies begin
 unfoldable pub nodesBefore : ℕ → List Definition → List Node

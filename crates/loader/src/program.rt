@@ -1,6 +1,6 @@
 // An accepted program: the bodies of its definitions, its goal, and the dag's head.
-use crate::body;
 use crate::head;
+use compiler::body;
 use job::dag::WORDS;
 use reader::entry;
 ghost use mathlib.Core.Path.{_≡_};
@@ -17,11 +17,17 @@ pub struct Place {
     pub node: usize,
 }
 
-// Stores the bodies of so many definitions, and their words of the head.
-fn compile_definitions(kinds: &[u8], operands: &[u8], dag: &mut [u32; WORDS], count: usize) -> Place
+// Stores the bodies of so many definitions, whose sizes are known, and their words of the head. A body's sink is its last node.
+fn compile_definitions(
+    kinds: &[u8],
+    operands: &[u8],
+    dag: &mut [u32; WORDS],
+    count: usize,
+    sizes: &[u32; 32],
+) -> Place
     requires { ⌜ Parts (now kinds) (now operands) ⌝ }
     requires { ⌜ count ≤ 32 ⌝ }
-    requires { ⌜ DefinitionsRead (readDefinitionList count 0 (entries (now kinds) (now operands))) ⌝ }
+    requires { ⌜ DefinitionsRead (readDefinitionList count 0 (entries (now kinds) (now operands))) (now sizes) ⌝ }
     ensures { λ r. ⌜ r ≡ placeBehind (readDefinitionList count 0 (entries (now (kinds .entry)) (now (operands .entry)))) ⌝ }
     ensures { λ _. ⌜ now (dag .exit) ≡ storedDefinitions (readDefinitionList count 0 (entries (now (kinds .entry)) (now (operands .entry))))
         (now (dag .entry)) ⌝ }
@@ -31,6 +37,7 @@ fn compile_definitions(kinds: &[u8], operands: &[u8], dag: &mut [u32; WORDS], co
     let mut i = 0;
     while i < count {
         let formals = entry::operand(operands, at);
+        let sink = node + sizes[i] as usize - 1;
         let definition = body::compile_body(
             kinds,
             operands,
@@ -38,6 +45,7 @@ fn compile_definitions(kinds: &[u8], operands: &[u8], dag: &mut [u32; WORDS], co
             formals as usize,
             at + 1,
             node,
+            sink,
             false,
         );
         head::put_definition(dag, i, definition.root, formals);
@@ -48,15 +56,32 @@ fn compile_definitions(kinds: &[u8], operands: &[u8], dag: &mut [u32; WORDS], co
     Place { at: at, node: node }
 }
 
-// Stores the dag of a program with so many definitions.
-pub fn compile_program(kinds: &[u8], operands: &[u8], dag: &mut [u32; WORDS], count: usize)
+// Stores the dag of a program with so many definitions, whose sizes and number of nodes its check found: each body is walked twice,
+// checked and compiled.
+pub fn compile_program(
+    kinds: &[u8],
+    operands: &[u8],
+    dag: &mut [u32; WORDS],
+    count: usize,
+    sizes: &[u32; 32],
+    nodes: usize,
+)
     requires { ⌜ Parts (now kinds) (now operands) ⌝ }
     requires { ⌜ count ≤ 32 ⌝ }
-    requires { ⌜ Accepts (readEntries count (entries (now kinds) (now operands))) ⌝ }
+    requires { ⌜ Accepts (readEntries count (entries (now kinds) (now operands))) nodes (now sizes) ⌝ }
     ensures { λ _. ⌜ now (dag .exit) ≡ storedProgram (readEntries count (entries (now (kinds .entry)) (now (operands .entry))))
         (now (dag .entry)) ⌝ }
 {
-    let before = compile_definitions(kinds, operands, dag, count);
-    let goal = body::compile_body(kinds, operands, dag, 0, before.at, before.node, true);
+    let before = compile_definitions(kinds, operands, dag, count, sizes);
+    let goal = body::compile_body(
+        kinds,
+        operands,
+        dag,
+        0,
+        before.at,
+        before.node,
+        nodes - 1,
+        true,
+    );
     head::put_sizes(dag, goal.node as u32, count as u32, goal.root);
 }

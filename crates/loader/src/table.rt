@@ -31,11 +31,12 @@ fn load_parts(kinds: &[u8], operands: &[u8], dag: &mut [u32; WORDS], definitions
     ensures { λ _. ⌜ now (dag .exit)
         ≡ loadedWords (readerAnswer (readEntries definitions (entries (now (kinds .entry)) (now (operands .entry))))) (now (dag .entry)) ⌝ }
 {
-    let answer = entries::check_program(kinds, operands, definitions);
+    let mut sizes = [0u32; 32];
+    let answer = entries::check_program(kinds, operands, definitions, &mut sizes);
     match answer {
         Checked::Refused(n, e) => Loaded::Refused(n, e),
         Checked::Next(_, nodes) => {
-            program::compile_program(kinds, operands, dag, definitions);
+            program::compile_program(kinds, operands, dag, definitions, &sizes, nodes);
             Loaded::Dag(nodes)
         }
     }

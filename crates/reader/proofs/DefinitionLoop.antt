@@ -1,11 +1,11 @@
 -- The loop over the definitions: those that are done stand in front of what is left to read. Assumes nothing.
 use mathlib.Core.Path.{_≡_, refl, sym, _∙_, ap, ap₂, subst}
-use mathlib.Core.List.{List, [], _∷_, _++_, append-assoc, append-nil}
+use mathlib.Core.List.{List, [], _∷_, _++_, map, append-assoc, append-nil}
 use Prim.Native.Nat.{ℕ, suc, _+_, _*_, _-_, _<_, _≤_}
 use native.Mathlib.Omega.{arith}
 use native.Mathlib.Decide.{decLt}
 use native.Mathlib.Numerals.{add-one}
-use lib.ListN.{length, getD, take, drop, set, length-append, length-set}
+use lib.ListN.{length, getD, take, drop, set, length-append, length-set, length-map}
 use lib.Seq.{take-suc-set}
 use Rattle.job.specs.Number.{number}
 use Rattle.job.specs.Syntax.{Exp, Definition, levels, formalsOf}
@@ -13,7 +13,7 @@ use Rattle.job.specs.Entry.{entries, kindOf}
 use Rattle.job.specs.Read.{Got, Read, got, refused, _>>=_, gives, need, entryAt, readExp, isDefinition, readDefinition}
 use Rattle.job.proofs.Position.{entries-end, entries-at, entries-length, bind-got, refused-got, exp-from}
 use Rattle.reader.specs.Checked.{entriesFrom, checked}
-use Rattle.reader.specs.DefinitionList.{readDefinitionList, definitionNodes, definitionListNodes, checkedDefinition, formalsRead, DefinitionsHold}
+use Rattle.reader.specs.DefinitionList.{readDefinitionList, definitionNodes, definitionListNodes, sizesOf, checkedDefinition, formalsRead, sizesRead, DefinitionsHold}
 use Rattle.reader.specs.declared.checked.Checked.{Checked}
 use Rattle.reader.specs.declared.checked.Checked.the-variants.{Next, Refused}
 use Rattle.reader.proofs.Onward.{checked-refused, checked-next}
@@ -72,16 +72,18 @@ unfolding definitionListNodes
 nodes-more [] d = omega arith
 nodes-more (x ∷ ds) d = omega (arith, nodes-more ds d)
 
-formals-more : (ds : List Definition) (d : Definition) → formalsOf (ds ++ (d ∷ [])) ≡ formalsOf ds ++ (d .formals ∷ [])
-formals-more [] d = refl
-formals-more (x ∷ ds) d = ap (λ l. x .formals ∷ l) (formals-more ds d)
+map-more : (f : Definition → ℕ) (ds : List Definition) (d : Definition) → map f (ds ++ (d ∷ [])) ≡ map f ds ++ (f d ∷ [])
+map-more f [] d = refl
+map-more f (x ∷ ds) d = ap (λ l. f x ∷ l) (map-more f ds d)
 
-pub formals-length : (ds : List Definition) → length (formalsOf ds) ≡ length ds
-formals-length [] = refl
-formals-length (d ∷ ds) = ap suc (formals-length ds)
+-- one more number is kept behind those that are done
+kept-more : (f : Definition → ℕ) (ds : List Definition) (d : Definition) (l : List ℕ) (i x : ℕ) → take i l ≡ map f ds → i < length l → x ≡ f d
+    → take (i + 1) (set l i x) ≡ map f (ds ++ (d ∷ []))
+kept-more f ds d l i x e h ex =
+    rw add-one (take-suc-set l i x h ∙ ap₂ (λ l x. l ++ (x ∷ [])) e ex ∙ sym (map-more f ds d))
 
 -- the loop's invariant: i definitions are done, and what is left is read from entry `at` on
-pub record Reading (count : ℕ) (ks os fs : List ℕ) (at nodes i : ℕ) : Type 0 where
+pub record Reading (count : ℕ) (ks os fs ss : List ℕ) (at nodes i : ℕ) : Type 0 where
   pub done : List Definition
   pub many : length done ≡ i
   pub most : i ≤ count
@@ -89,12 +91,14 @@ pub record Reading (count : ℕ) (ks os fs : List ℕ) (at nodes i : ℕ) : Type
   pub placed : nodes ≡ definitionListNodes done
   pub few : nodes ≤ 2 * at
   pub last : at ≤ length ks
-  pub kept : take i fs ≡ formalsOf done
+  pub counts : take i fs ≡ formalsOf done
+  pub counted : take i ss ≡ sizesOf done
   pub long : length fs ≡ 32
+  pub wide : length ss ≡ 32
 
-pub reading-start : (count : ℕ) (ks os fs : List ℕ) → length fs ≡ 32 → Reading count ks os fs 0 0 0
+pub reading-start : (count : ℕ) (ks os fs ss : List ℕ) → length fs ≡ 32 → length ss ≡ 32 → Reading count ks os fs ss 0 0 0
 unfolding definitionListNodes
-reading-start count ks os fs l = record {
+reading-start count ks os fs ss l w = record {
   done = [];
   many = refl;
   most = omega arith;
@@ -104,18 +108,20 @@ reading-start count ks os fs l = record {
   placed = refl;
   few = omega arith;
   last = omega arith;
-  kept = refl;
+  counts = refl;
+  counted = refl;
   long = l;
+  wide = w;
 }
 
 -- the definitions behind the first
 tail : ℕ → Got Definition → Read (List Definition)
 tail n d = readDefinitionList n (d .next) (d .rest) >>= (λ ds. gives (d .value ∷ ds .value) (ds .next) (ds .rest))
 
-module _ (count : ℕ) (ks os fs : List ℕ) (at nodes i : ℕ) (g : Reading count ks os fs at nodes i) where
+module _ (count : ℕ) (ks os fs ss : List ℕ) (at nodes i : ℕ) (g : Reading count ks os fs ss at nodes i) where
   pub reading-end : count ≤ i
-      → DefinitionsHold (readDefinitionList count 0 (entries ks os)) (record { answer = Next at nodes; formals = fs })
-  unfolding readDefinitionList prefixed _>>=_ checked formalsRead
+      → DefinitionsHold (readDefinitionList count 0 (entries ks os)) (Next at nodes) fs ss
+  unfolding readDefinitionList prefixed _>>=_ checked formalsRead sizesRead
   reading-end l =
       let z : count - i ≡ 0 = omega (arith, g .most) in
       let e : readDefinitionList count 0 (entries ks os) ≡ gives (g .done) at (entriesFrom ks os at) =
@@ -123,8 +129,10 @@ module _ (count : ℕ) (ks os fs : List ℕ) (at nodes i : ℕ) (g : Reading cou
       ∙ ap (λ k. prefixed (g .done) (readDefinitionList k at (entriesFrom ks os at))) z
       ∙ ap (λ ds. gives ds at (entriesFrom ks os at)) (append-nil (g .done)) in
       record {
-        answer = rw e (ap (λ n. Next at n) (g .placed));
-        formals = rw (e, formals-length (g .done), g .many) (g .kept);
+        answers = rw e (ap (λ n. Next at n) (g .placed));
+        counts = rw (e, length-map (g .done), g .many) (g .counts);
+        counted = rw (e, length-map (g .done), g .many) (g .counted);
+        long = g .long;
       }
 
   module _ (l : i < count) (q : Checked) (eq : q ≡ checkedDefinition (readDefinition at (entriesFrom ks os at))) where
@@ -135,12 +143,12 @@ module _ (count : ℕ) (ks os fs : List ℕ) (at nodes i : ℕ) (g : Reading cou
         g .rest ∙ ap (λ k. prefixed (g .done) (readDefinitionList k at (entriesFrom ks os at))) z
 
     pub reading-refused : (n e : ℕ) → q ≡ Refused n e
-        → DefinitionsHold (readDefinitionList count 0 (entries ks os)) (record { answer = Refused n e; formals = fs })
-    unfolding prefixed _>>=_ checked formalsRead
+        → DefinitionsHold (readDefinitionList count 0 (entries ks os)) (Refused n e) fs ss
+    unfolding prefixed _>>=_ checked formalsRead sizesRead
     reading-refused n e h =
         let r = checked-refused definitionNodes (readDefinition at (entriesFrom ks os at)) n e (sym eq ∙ h) in
         let all = opened ∙ ap (λ r. prefixed (g .done) (r >>= tail (count - (i + 1)))) r in
-        record { answer = rw all; formals = rw all }
+        record { answers = rw all; counts = rw all; counted = rw all; long = g .long }
 
     module _ (m d : ℕ) (h : q ≡ Next m d) where
       first : (a : Got Definition) × (readDefinition at (entriesFrom ks os at) ≡ got a) × (a .next ≡ m) × (definitionNodes (a .value) ≡ d)
@@ -164,7 +172,11 @@ module _ (count : ℕ) (ks os fs : List ℕ) (at nodes i : ℕ) (g : Reading cou
           let w = g .few in
           omega arith
 
-      pub reading-more : (o : ℕ) → o ≡ number (take 4 (drop (4 * at) os)) → count ≤ 32 → Reading count ks os (set fs i o) m (nodes + d) (i + 1)
+      pub reading-size : length ks ≤ 512 → d < 4096
+      reading-size k = let x = reading-fits k in omega arith
+
+      pub reading-more : (o : ℕ) → o ≡ number (take 4 (drop (4 * at) os)) → count ≤ 32
+          → Reading count ks os (set fs i o) (set ss i d) m (nodes + d) (i + 1)
       unfolding tail _>>=_
       reading-more o eo k =
           let n = count - (i + 1) in
@@ -186,10 +198,8 @@ module _ (count : ℕ) (ks os fs : List ℕ) (at nodes i : ℕ) (g : Reading cou
             placed = omega (arith, nodes-more (g .done) new, g .placed);
             few = omega arith;
             last = omega arith;
-            kept =
-                rw add-one
-                (take-suc-set fs i o (omega (arith, g .long))
-                ∙ ap₂ (λ l x. l ++ (x ∷ [])) (g .kept) (eo ∙ sym (facts .formals))
-                ∙ sym (formals-more (g .done) new));
+            counts = kept-more (λ d. d .formals) (g .done) new fs i o (g .counts) (omega (arith, g .long)) (eo ∙ sym (facts .formals));
+            counted = kept-more definitionNodes (g .done) new ss i d (g .counted) (omega (arith, g .wide)) (sym v);
             long = simp length-set (g .long);
+            wide = simp length-set (g .wide);
           }

@@ -3,21 +3,19 @@ use mathlib.Core.Path.{_≡_, refl, sym, _∙_, ap, ap₂}
 use mathlib.Core.List.{List, []}
 use Prim.Native.Nat.{ℕ, _+_, _<_, _≤_}
 use native.Mathlib.Omega.{arith}
-use lib.ListN.{length, take}
+use lib.ListN.{length, take, length-map}
 use Rattle.job.specs.Syntax.{Definition, Program, formalsOf, levels}
 use Rattle.job.specs.Entry.{Entry, entries}
-use Rattle.job.specs.Read.{Got, Read, got, refused, _>>=_, need, readExp, leftovers, definitionsHold, readEntries}
+use Rattle.job.specs.Read.{Got, Read, got, refused, _>>=_, gives, need, readExp, leftovers, definitionsHold, readEntries}
 use Rattle.job.specs.Construct.{nodeCount, construct}
 use Rattle.job.proofs.Position.{entries-end, entries-at, exp-from}
 use Rattle.reader.specs.Checked.{entriesFrom, checked, checkedTest, checkedExp, checkedProgram, afterwards}
-use Rattle.reader.specs.DefinitionList.{readDefinitionList, definitionListNodes, formalsRead, DefinitionsHold}
+use Rattle.reader.specs.DefinitionList.{readDefinitionList, definitionListNodes, formalsRead, sizesRead, programSizes, Leads, DefinitionsHold}
 use Rattle.reader.specs.declared.checked.Checked.{Checked}
 use Rattle.reader.specs.declared.checked.Checked.the-variants.{Next, Refused}
-use Rattle.reader.specs.declared.definition.DefinitionsAnswer.{DefinitionsAnswer}
 use Rattle.reader.proofs.Onward.{checked-refused, checked-next}
 use Rattle.reader.proofs.Few.{next-few}
-use Rattle.reader.proofs.DefinitionLoop.{formals-length}
-use Rattle.reader.proofs.ProgramParts.{whole, goalRead, AllDefined, all-defined, tests, entries-opened}
+use Rattle.reader.proofs.ProgramParts.{whole, goalRead, AllDefined, all-defined, tests, entries-opened, parted}
 use Rattle.reader.proofs.NodeCount.{construct-length}
 
 module _ (ks os : List ℕ) (at : ℕ) where
@@ -48,20 +46,32 @@ tests-all es p =
     (tests-answer nodes calls (got p)
     ∙ ap (λ m. afterwards (checkedTest calls) (Next (p .next) m)) (construct-length (p .value)))
 
-module _ (ks os : List ℕ) (n : ℕ) (d : DefinitionsAnswer) (found : DefinitionsHold (readDefinitionList n 0 (entries ks os)) d) where
+module _ (ks os : List ℕ) (n : ℕ) (d : Checked) (fs ss : List ℕ) (found : DefinitionsHold (readDefinitionList n 0 (entries ks os)) d fs ss) where
   -- the code's answer
   abbrev Answers : Checked → Type 0
   Answers r = r ≡ checkedProgram (readEntries n (entries ks os))
 
-  pub program-refused : (k e : ℕ) → d .answer ≡ Refused k e → Answers (Refused k e)
+  pub program-refused : (k e : ℕ) → d ≡ Refused k e → Answers (Refused k e)
   unfolding _>>=_ checked
   program-refused k e h =
-      let r = checked-refused definitionListNodes (readDefinitionList n 0 (entries ks os)) k e (sym (found .answer) ∙ h) in
+      let r = checked-refused definitionListNodes (readDefinitionList n 0 (entries ks os)) k e (sym (found .answers) ∙ h) in
       sym (ap checkedProgram (entries-opened n (entries ks os) ∙ ap (λ r. r >>= goalRead >>= tests (entries ks os)) r))
 
-  module _ (at before : ℕ) (h : d .answer ≡ Next at before) where
+  -- the sizes of the definitions are those of the program's
+  pub program-sizes : Leads (programSizes (readEntries n (entries ks os))) ss
+  unfolding programSizes sizesRead
+  program-sizes = go (readEntries n (entries ks os)) refl
+    where
+      go : (r : Read Program) → readEntries n (entries ks os) ≡ r → Leads (programSizes r) ss
+      go (refused k e) r = refl
+      go (got p) r =
+          let t = parted n (entries ks os) p r in
+          let same = ap (λ p. programSizes (gives p 0 [])) (t .value) ∙ ap sizesRead (sym (t .read-definitions)) in
+          rw same (found .counted)
+
+  module _ (at before : ℕ) (h : d ≡ Next at before) where
     first : (a : Got (List Definition)) × (readDefinitionList n 0 (entries ks os) ≡ got a) × (a .next ≡ at) × (definitionListNodes (a .value) ≡ before)
-    first = checked-next definitionListNodes (readDefinitionList n 0 (entries ks os)) at before (sym (found .answer) ∙ h)
+    first = checked-next definitionListNodes (readDefinitionList n 0 (entries ks os)) at before (sym (found .answers) ∙ h)
 
     facts : AllDefined ks os n 0 (first .0)
     facts = all-defined ks os n 0 (entries ks os) refl (first .0) (first .1)
@@ -91,11 +101,11 @@ module _ (ks os : List ℕ) (n : ℕ) (d : DefinitionsAnswer) (found : Definitio
         ∙ ap₂ (λ i l. readExp 24 [] i l >>= whole (first .0 .value) >>= tests (entries ks os)) (first .2)
         (facts .rest ∙ ap (λ i. entriesFrom ks os i) (first .2))
 
-    counts : take n (d .formals) ≡ formalsOf (first .0 .value)
+    counts : take n fs ≡ formalsOf (first .0 .value)
     unfolding formalsRead
     counts =
-        let many = ap (λ r. length (formalsRead r)) (first .1) ∙ formals-length (first .0 .value) ∙ facts .many in
-        ap (λ i. take i (d .formals)) (sym many) ∙ found .formals ∙ ap formalsRead (first .1)
+        let many = ap (λ r. length (formalsRead r)) (first .1) ∙ length-map (first .0 .value) (λ d. d .formals) ∙ facts .many in
+        ap (λ i. take i fs) (sym many) ∙ found .counts ∙ ap formalsRead (first .1)
 
     module _ (q : Checked) (eq : q ≡ checkedExp (readExp 24 (levels 0) at (entriesFrom ks os at))) where
       pub goal-refused : (k e : ℕ) → q ≡ Refused k e → Answers (Refused k e)
@@ -106,7 +116,7 @@ module _ (ks os : List ℕ) (n : ℕ) (d : DefinitionsAnswer) (found : Definitio
 
       pub program-done : (end nodes : ℕ) (u v x r : Checked) → q ≡ Next end nodes
           → u ≡ checkedTest (leftovers end (entriesFrom ks os end))
-          → v ≡ checkedTest (definitionsHold (take n (d .formals)) 0 (entries ks os)) → x ≡ afterwards v (Next end (before + nodes + 1))
+          → v ≡ checkedTest (definitionsHold (take n fs) 0 (entries ks os)) → x ≡ afterwards v (Next end (before + nodes + 1))
           → r ≡ afterwards u x → Answers r
       unfolding whole _>>=_
       program-done end nodes u v x r w eu ev ex er =

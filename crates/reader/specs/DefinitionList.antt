@@ -1,15 +1,14 @@
 -- The definitions of a program, as one reading, and what the code keeps of them. Assumes nothing: these are definitions.
 use mathlib.Core.Path.{_≡_}
-use mathlib.Core.List.{List, [], _∷_}
+use mathlib.Core.List.{List, [], _∷_, map}
 use Prim.Native.Nat.{ℕ, zero, suc, _+_}
 use lib.ListN.{length, take}
-use Rattle.job.specs.Syntax.{Definition, formalsOf}
+use Rattle.job.specs.Syntax.{Definition, Program, formalsOf}
 use Rattle.job.specs.Entry.{Entry}
 use Rattle.job.specs.Read.{Read, got, refused, _>>=_, gives, readDefinition}
 use Rattle.job.specs.Construct.{nodeCount}
 use Rattle.reader.specs.Checked.{checked}
 use Rattle.reader.specs.declared.checked.Checked.{Checked}
-use Rattle.reader.specs.declared.definition.DefinitionsAnswer.{DefinitionsAnswer}
 
 -- so many definitions, from entry e on
 unfoldable pub readDefinitionList : ℕ → ℕ → List Entry → Read (List Definition)
@@ -33,12 +32,31 @@ checkedDefinition = checked definitionNodes
 abbrev pub checkedDefinitionList : Read (List Definition) → Checked
 checkedDefinitionList = checked definitionListNodes
 
--- the counts of formals, where the definitions were read
+-- the nodes of each definition
+abbrev pub sizesOf : List Definition → List ℕ
+sizesOf ds = map definitionNodes ds
+
+-- the counts of formals and the sizes, where the definitions were read
 unfoldable pub formalsRead : Read (List Definition) → List ℕ
 formalsRead (got g) = formalsOf (g .value)
 formalsRead (refused n e) = []
 
--- the answer, and the counts of formals at the front of the array
-pub record DefinitionsHold (r : Read (List Definition)) (d : DefinitionsAnswer) : Type 0 where
-  pub answer : d .answer ≡ checkedDefinitionList r
-  pub formals : take (length (formalsRead r)) (d .formals) ≡ formalsRead r
+unfoldable pub sizesRead : Read (List Definition) → List ℕ
+sizesRead (got g) = sizesOf (g .value)
+sizesRead (refused n e) = []
+
+-- the sizes of the definitions of a program that was read
+unfoldable pub programSizes : Read Program → List ℕ
+programSizes (got p) = sizesOf (p .value .definitions)
+programSizes (refused n e) = []
+
+-- these words stand at the front of the array
+abbrev pub Leads : (words array : List ℕ) → Type 0
+Leads words array = take (length words) array ≡ words
+
+-- the answer, and the counts of formals and the sizes at the front of their arrays
+pub record DefinitionsHold (r : Read (List Definition)) (a : Checked) (formals sizes : List ℕ) : Type 0 where
+  pub answers : a ≡ checkedDefinitionList r
+  pub counts : Leads (formalsRead r) formals
+  pub counted : Leads (sizesRead r) sizes
+  pub long : length formals ≡ 32

@@ -5,16 +5,11 @@ use crate::entry;
 use crate::expression;
 ghost use mathlib.Core.Path.{_≡_};
 ghost use Prim.Native.Nat.{_≤_};
+ghost use lib.ListN.{length};
 ghost use Rattle.job.specs.Entry.{entries};
 ghost use Rattle.job.specs.Read.{readDefinition};
 ghost use Rattle.reader.specs.Checked.{Parts, entriesFrom};
 ghost use Rattle.reader.specs.DefinitionList.{checkedDefinition, readDefinitionList, DefinitionsHold};
-
-// The answer for some definitions, and the count of formals of each.
-pub struct DefinitionsAnswer {
-    pub answer: Checked,
-    pub formals: [u32; 32],
-}
 
 // The definition from entry `at` on.
 fn check_definition(kinds: &[u8], operands: &[u8], at: usize) -> Checked
@@ -37,13 +32,19 @@ fn check_definition(kinds: &[u8], operands: &[u8], at: usize) -> Checked
     )
 }
 
-// So many definitions, from the first entry on.
-pub fn check_definitions(kinds: &[u8], operands: &[u8], count: usize) -> DefinitionsAnswer
+// So many definitions, from the first entry on. The count of formals and the number of nodes of each, its sink included, are kept.
+pub fn check_definitions(
+    kinds: &[u8],
+    operands: &[u8],
+    count: usize,
+    formals: &mut [u32; 32],
+    sizes: &mut [u32; 32],
+) -> Checked
     requires { ⌜ Parts (now kinds) (now operands) ⌝ }
-    requires { ⌜ count ≤ 32 ⌝ }
-    ensures { λ r. ⌜ DefinitionsHold (readDefinitionList count 0 (entries (now (kinds .entry)) (now (operands .entry)))) r ⌝ }
+    requires { ⌜ (count ≤ 32) × (length (now formals) ≡ 32) × (length (now sizes) ≡ 32) ⌝ }
+    ensures { λ r. ⌜ DefinitionsHold (readDefinitionList count 0 (entries (now (kinds .entry)) (now (operands .entry)))) r
+        (now (formals .exit)) (now (sizes .exit)) ⌝ }
 {
-    let mut formals = [0u32; 32];
     let mut at = 0;
     let mut nodes = 0;
     let mut i = 0;
@@ -51,21 +52,16 @@ pub fn check_definitions(kinds: &[u8], operands: &[u8], count: usize) -> Definit
         let definition = check_definition(kinds, operands, at);
         match definition {
             Checked::Refused(n, e) => {
-                return DefinitionsAnswer {
-                    answer: Checked::Refused(n, e),
-                    formals,
-                };
+                return Checked::Refused(n, e);
             }
             Checked::Next(e, k) => {
                 formals[i] = entry::operand(operands, at);
+                sizes[i] = k as u32;
                 at = e;
                 nodes = nodes + k;
             }
         }
         i += 1;
     }
-    DefinitionsAnswer {
-        answer: Checked::Next(at, nodes),
-        formals,
-    }
+    Checked::Next(at, nodes)
 }

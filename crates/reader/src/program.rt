@@ -6,9 +6,11 @@ use crate::definition;
 use crate::expression;
 ghost use mathlib.Core.Path.{_≡_};
 ghost use Prim.Native.Nat.{_≤_};
+ghost use lib.ListN.{length};
 ghost use Rattle.job.specs.Entry.{entries};
 ghost use Rattle.job.specs.Read.{leftovers, readEntries};
 ghost use Rattle.reader.specs.Checked.{Parts, entriesFrom, checkedTest, checkedProgram};
+ghost use Rattle.reader.specs.DefinitionList.{programSizes, Leads};
 
 // Does the table end at entry `at`?
 fn check_end(kinds: &[u8], operands: &[u8], at: usize) -> Checked
@@ -21,16 +23,23 @@ fn check_end(kinds: &[u8], operands: &[u8], at: usize) -> Checked
     Checked::Next(at, 0)
 }
 
-// The entries of a table with so many definitions: the first entry behind them and the number of nodes, or the refusal.
-pub fn check_program(kinds: &[u8], operands: &[u8], definitions: usize) -> Checked
+// The entries of a table with so many definitions: the first entry behind them and the number of nodes, or the refusal. The sizes of an
+// accepted program's definitions are kept, so that no body is walked again to count it.
+pub fn check_program(
+    kinds: &[u8],
+    operands: &[u8],
+    definitions: usize,
+    sizes: &mut [u32; 32],
+) -> Checked
     requires { ⌜ Parts (now kinds) (now operands) ⌝ }
-    requires { ⌜ definitions ≤ 32 ⌝ }
+    requires { ⌜ (definitions ≤ 32) × (length (now sizes) ≡ 32) ⌝ }
     ensures { λ r. ⌜ r ≡ checkedProgram (readEntries definitions (entries (now (kinds .entry)) (now (operands .entry)))) ⌝ }
+    ensures { λ _. ⌜ Leads (programSizes (readEntries definitions (entries (now (kinds .entry)) (now (operands .entry)))))
+        (now (sizes .exit)) ⌝ }
 {
-    let found = definition::check_definitions(kinds, operands, definitions);
-    let answer = found.answer;
-    let formals = found.formals;
-    match answer {
+    let mut formals = [0u32; 32];
+    let found = definition::check_definitions(kinds, operands, definitions, &mut formals, sizes);
+    match found {
         Checked::Refused(n, e) => Checked::Refused(n, e),
         Checked::Next(at, before) => {
             let goal = expression::check_expression(kinds, operands, expression::DEPTH, 0, at);

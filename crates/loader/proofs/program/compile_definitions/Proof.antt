@@ -3,21 +3,37 @@
 use Prim.Native.Nat.{_-_}
 use borrow.Author.Needs.{needs, fits-under}
 use mir.Syntax.{w64}
-use Rattle.loader.proofs.Writing.{Writing, writing-start, writing-end, turn-below, turn-next, turn-within, turn-read, turn-more}
+use Rattle.loader.proofs.Writing.{Writing, writing-start, writing-end, turn-below, turn-next, turn-within, turn-size, turn-sum, turn-some}
+use Rattle.loader.proofs.Writing.{turn-read, turn-more}
 use Rattle.loader.proofs.program.compile_definitions.Statement.{statement}
 use Rattle.loader.proofs.program.compile_definitions.Tie as tie
 
 abbrev Inv-loop : tie.InvT-loop
-Inv-loop kinds operands dag₀ count at₀ node₀ i₀ dag at node i = Writing count kinds operands dag₀ dag at node i
+Inv-loop kinds operands dag₀ count sizes at₀ node₀ i₀ dag at node i = Writing count kinds operands dag₀ sizes dag at node i
 
 abbrev μ-loop : tie.MeasureT-loop
-μ-loop kinds operands dag₀ count at₀ node₀ i₀ dag at node i = count - i
+μ-loop kinds operands dag₀ count sizes at₀ node₀ i₀ dag at node i = count - i
 
 loop-holds : tie.Need-loop-holds Inv-loop μ-loop
 loop-holds c = search writing-start
 
 operand-requires : tie.Need-operand-requires Inv-loop μ-loop
 operand-requires c κs = (search turn-below, search turn-within)
+
+mul-sink : tie.Need-mul-sink Inv-loop μ-loop
+mul-sink c = search needs
+
+element-copy-out-sink : tie.Need-element-copy-out-sink Inv-loop μ-loop
+element-copy-out-sink c = search needs
+
+cast-sink : tie.Need-cast-sink Inv-loop μ-loop
+cast-sink c = fits-under w64 _ 4096 (search turn-size) tt
+
+add-sink : tie.Need-add-sink Inv-loop μ-loop
+add-sink c = fits-under w64 _ 4096 (search turn-sum) tt
+
+sub-sink : tie.Need-sub-sink Inv-loop μ-loop
+sub-sink c = search turn-some
 
 cast-compile-body : tie.Need-cast-compile-body Inv-loop μ-loop
 cast-compile-body c = search needs
@@ -41,7 +57,7 @@ loop-again : tie.Need-loop-again Inv-loop μ-loop
 loop-again c = search turn-more
 
 returns : tie.Need-returns Inv-loop μ-loop
-returns c = writing-end _ _ _ _ _ _ _ _ (c .before .loop .inv) (c .loop-test .left)
+returns c = writing-end _ _ _ _ _ _ _ _ _ (c .before .loop .inv) (c .loop-test .left)
 
 pub compile-definitions-spec : {M : Type 1} → statement M
 compile-definitions-spec =
@@ -51,6 +67,11 @@ compile-definitions-spec =
     μ-loop
     loop-holds
     operand-requires
+    mul-sink
+    element-copy-out-sink
+    cast-sink
+    add-sink
+    sub-sink
     cast-compile-body
     add-compile-body
     compile-body-requires

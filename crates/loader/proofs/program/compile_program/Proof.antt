@@ -1,13 +1,16 @@
 -- `program::compile_program` meets its contract: the definitions, then the goal, then the head. Assumes nothing.
 use borrow.Author.Needs.{needs, fits-under}
 use mir.Syntax.{w32}
-use Rattle.loader.proofs.Whole.{definitions-read, goal-read, nodes-fit, program-done}
+use Rattle.loader.proofs.Whole.{some-nodes, definitions-read, goal-read, nodes-fit, program-done}
 use Rattle.loader.proofs.program.compile_program.Statement.{statement}
 use Rattle.loader.proofs.program.compile_program.Tie as tie
 
 compile-definitions-requires : tie.Need-compile-definitions-requires
 compile-definitions-requires c κs =
-    let pre = c .before .before .before .pre in (pre .0, (pre .1 .0, definitions-read _ _ _ (pre .1 .1) (pre .0)))
+    let pre = c .before .before .before .pre in (pre .0, (pre .1 .0, definitions-read _ _ _ _ _ (pre .1 .1) (pre .0)))
+
+sub-compile-body : tie.Need-sub-compile-body
+sub-compile-body c = search some-nodes
 
 compile-body-requires : tie.Need-compile-body-requires
 compile-body-requires c κs = search goal-read
@@ -29,6 +32,7 @@ compile-program-spec =
     tie.close
     (tie.spec
     compile-definitions-requires
+    sub-compile-body
     compile-body-requires
     cast-put-sizes
     cast-put-sizes-2

@@ -15,18 +15,20 @@ enum-known-answer-2 c = search needs
 
 compile-program-requires : tie.Need-compile-program-requires
 compile-program-requires c κs =
-    let answer = c .before .before in
+    let answer = c .before .before .before in
     let check = answer .before .before in
-    let pre = check .before .before .before .pre in
-    (pre .0, (pre .1, parts-accepted _ _ _ _ (check .check-program .ensures) _ _ (answer .answer2 .given .1)))
+    let pre = check .before .before .before .before .pre in (
+      pre .0,
+      (pre .1, parts-accepted _ _ _ _ (check .check-program .ensures .0) _ _ (answer .answer2 .given .1) _ (check .check-program .ensures .1)),
+    )
 
 returns : tie.Need-returns
 returns c = (search refused-answer, search refused-words)
 
 returns-2 : tie.Need-returns-2
 returns-2 c =
-    let answer = c .before .before .before in
-    parts-done _ _ _ _ (answer .before .before .check-program .ensures) _ _ (answer .answer2 .given .1) _ _ (c .compile-program .ensures)
+    let answer = c .before .before .before .before in
+    parts-done _ _ _ _ (answer .before .before .check-program .ensures .0) _ _ (answer .answer2 .given .1) _ _ (c .compile-program .ensures)
 
 pub load-parts-spec : {M : Type 1} → statement M
 load-parts-spec =

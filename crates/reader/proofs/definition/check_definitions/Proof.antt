@@ -1,22 +1,21 @@
 -- `definition::check_definitions` meets its contract. The loop's invariant: what is done stands in front of what is left to read, and the
--- counts of formals so far are at the front of the array. Assumes nothing.
+-- counts of formals and the sizes so far are at the front of the arrays. Assumes nothing.
 use Prim.Native.Nat.{_-_}
-use mathlib.Core.Path.{refl}
 use borrow.Author.Needs.{needs, fits-under}
-use mir.Syntax.{w64}
+use mir.Syntax.{w32, w64}
 use Rattle.reader.proofs.DefinitionLoop.{Reading, reading-start, reading-end, reading-refused, reading-more}
-use Rattle.reader.proofs.DefinitionLoop.{reading-below, reading-within, reading-fits}
+use Rattle.reader.proofs.DefinitionLoop.{reading-below, reading-within, reading-fits, reading-size}
 use Rattle.reader.proofs.definition.check_definitions.Statement.{statement}
 use Rattle.reader.proofs.definition.check_definitions.Tie as tie
 
 abbrev Inv-loop : tie.InvT-loop
-Inv-loop kinds operands count formals₀ at₀ nodes₀ i₀ formals at nodes i = Reading count kinds operands formals at nodes i
+Inv-loop kinds operands count formals₀ sizes₀ at₀ nodes₀ i₀ formals sizes at nodes i = Reading count kinds operands formals sizes at nodes i
 
 abbrev μ-loop : tie.MeasureT-loop
-μ-loop kinds operands count formals₀ at₀ nodes₀ i₀ formals at nodes i = count - i
+μ-loop kinds operands count formals₀ sizes₀ at₀ nodes₀ i₀ formals sizes at nodes i = count - i
 
 loop-holds : tie.Need-loop-holds Inv-loop μ-loop
-loop-holds c = reading-start _ _ _ _ refl
+loop-holds c = search reading-start
 
 check-definition-requires : tie.Need-check-definition-requires Inv-loop μ-loop
 check-definition-requires c κs = search needs
@@ -36,8 +35,17 @@ operand-requires c κs = (search reading-below, search reading-within)
 mul-formals : tie.Need-mul-formals Inv-loop μ-loop
 mul-formals c = search needs
 
-array-write-formals : tie.Need-array-write-formals Inv-loop μ-loop
-array-write-formals c = search needs
+element-write-formals : tie.Need-element-write-formals Inv-loop μ-loop
+element-write-formals c = search needs
+
+cast-sizes : tie.Need-cast-sizes Inv-loop μ-loop
+cast-sizes c = fits-under w32 _ 4096 (search reading-size) tt
+
+mul-sizes : tie.Need-mul-sizes Inv-loop μ-loop
+mul-sizes c = search needs
+
+element-write-sizes : tie.Need-element-write-sizes Inv-loop μ-loop
+element-write-sizes c = search needs
 
 add-nodes : tie.Need-add-nodes Inv-loop μ-loop
 add-nodes c = fits-under w64 _ 4096 (search reading-fits) tt
@@ -67,7 +75,10 @@ check-definitions-spec =
     enum-known-definition-2
     operand-requires
     mul-formals
-    array-write-formals
+    element-write-formals
+    cast-sizes
+    mul-sizes
+    element-write-sizes
     add-nodes
     add-i
     loop-less
