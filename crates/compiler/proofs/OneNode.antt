@@ -68,9 +68,10 @@ module _ {left : ℕ} {ks os : List ℕ} {s at n : ℕ} (t : Taken left ks os s 
     pub call-room : at + 1 + high (operandAt os at) ≤ length ks
     call-room = let e = ended .inside in omega arith
 
-    pub call-done : (k o : ℕ) (c : Compiled) (w d d' : List ℕ) → o ≡ operandAt os at → w ≡ callNodeWords ks os at k
-        → c ≡ record { at = at + 1 + high o; node = n + 1; root = n } → d' ≡ sets d (headWords + 12 * n) w → Done left ks os s at n k c d d'
-    call-done k o c w d d' eo ew ec ed = go (its .which)
+    pub call-done : (k o : ℕ) (c : Compiled) (d d' : List ℕ) → o ≡ operandAt os at
+        → c ≡ record { at = at + 1 + high o; node = n + 1; root = n } → d' ≡ sets d (headWords + 12 * n) (callNodeWords ks os at k)
+        → Done left ks os s at n k c d d'
+    call-done k o c d d' eo ec ed = go (its .which)
       where
         behind : at + 1 + high o ≡ t .it .next
         behind =
@@ -84,7 +85,7 @@ module _ {left : ℕ} {ks os : List ℕ} {s at n : ℕ} (t : Taken left ks os s 
             → Done left ks os s at n k c d d'
         go (inl v) =
             let e = site-words ks os (operand-small os small) (levels s) at k (its .params) (its .read) (t .here) (v .0) in
-            single-done k _ c w d d' (single-site n k (v .1)) behind (ew ∙ sym e) ec ed
+            single-done k _ c _ d d' (single-site n k (v .1)) behind (sym e) ec ed
         go (inr v) =
             let e = call-words ks os (operand-small os small) (levels s) at k (its .params) (its .read) (t .here) (v .0) in
-            single-done k _ c w d d' (single-call n k (v .1)) behind (ew ∙ sym e) ec ed
+            single-done k _ c _ d d' (single-call n k (v .1)) behind (sym e) ec ed

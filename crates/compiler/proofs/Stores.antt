@@ -1,12 +1,11 @@
 -- Runs of stores at different places may be made in either order. So a list of rows may be stored row by row, and a later row before an earlier
--- one. Assumes nothing.
+-- one; and a row in fours. Assumes nothing.
 use Prim.Native.Nat.{ℕ, suc, _+_, _<_, _≤_}
 use mathlib.Core.Path.{_≡_, refl, sym, ap, _∙_}
 use mathlib.Core.List.{List, [], _∷_, _++_}
-use native.Mathlib.Numerals.{add-one}
 use native.Mathlib.Omega.{arith}
-use lib.ListN.{length, getD, take, set}
-use lib.Seq.{sets, take-suc, length-take-le, set-comm, take-all}
+use lib.ListN.{length, getD, drop, set}
+use lib.Seq.{sets, drop-cons, drop-length, set-comm}
 use Rattle.job.proofs.Stores.{sets-append}
 
 -- one store below a run of stores
@@ -22,13 +21,30 @@ sets-swap l i j (x ∷ a) b h =
     ap (λ (m : List ℕ). sets m (suc i) a) (set-sets l i j x b (omega arith))
     ∙ sets-swap (set l i x) (suc i) j a b (omega arith)
 
--- the loop that stores twelve words: one more is stored, and all are
-pub put-more : (l w d : List ℕ) (b i : ℕ) → i < 12 → length w ≡ 12 → d ≡ sets l b (take i w)
-    → set d (b + i) (getD w i 0) ≡ sets l b (take (i + 1) w)
-put-more l w d b i h e p =
-    let k : i < length w = omega arith in
-    let n : length (take i w) ≡ i = length-take-le i w (omega arith) in
-    rw p (sym (rw (add-one, take-suc w i 0, sets-append) (rw n)))
+-- a row's twelve words, stored in fours
+pub in-fours : (l d1 d2 d3 : List ℕ) (i a b c d e f g h p q r s : ℕ) → d1 ≡ sets l i (a ∷ b ∷ c ∷ d ∷ [])
+    → d2 ≡ sets d1 (i + 4) (e ∷ f ∷ g ∷ h ∷ []) → d3 ≡ sets d2 (i + 8) (p ∷ q ∷ r ∷ s ∷ [])
+    → d3 ≡ sets l i (a ∷ b ∷ c ∷ d ∷ e ∷ f ∷ g ∷ h ∷ p ∷ q ∷ r ∷ s ∷ [])
+in-fours l d1 d2 d3 i a b c d e f g h p q r s e1 e2 e3 =
+    let first : List ℕ = a ∷ b ∷ c ∷ d ∷ [] in
+    let second : List ℕ = e ∷ f ∷ g ∷ h ∷ [] in
+    let third : List ℕ = p ∷ q ∷ r ∷ s ∷ [] in
+    let both : d2 ≡ sets l i (first ++ second) =
+    e2 ∙ ap (λ (m : List ℕ). sets m (i + 4) second) e1 ∙ sym (sets-append l i first second) in
+    e3 ∙ ap (λ (m : List ℕ). sets m (i + 8) third) both ∙ sym (sets-append l i (first ++ second) third)
 
-pub put-done : (l w d : List ℕ) (b i : ℕ) → i ≤ 12 → 12 ≤ i → length w ≡ 12 → d ≡ sets l b (take i w) → d ≡ sets l b w
-put-done l w d b i h g e p = p ∙ ap (λ (m : List ℕ). sets l b m) (take-all i w (omega arith))
+-- a list of twelve words, by its elements
+from : (w : List ℕ) (i : ℕ) {t : List ℕ} → i < length w → drop (suc i) w ≡ t → drop i w ≡ getD w i 0 ∷ t
+from w i h e = drop-cons w i 0 h ∙ ap (λ (t : List ℕ). getD w i 0 ∷ t) e
+
+pub put-done : (l w d1 d2 d3 : List ℕ) (i : ℕ) → length w ≡ 12
+    → d1 ≡ sets l i (getD w 0 0 ∷ getD w 1 0 ∷ getD w 2 0 ∷ getD w 3 0 ∷ [])
+    → d2 ≡ sets d1 (i + 4) (getD w 4 0 ∷ getD w 5 0 ∷ getD w 6 0 ∷ getD w 7 0 ∷ [])
+    → d3 ≡ sets d2 (i + 8) (getD w 8 0 ∷ getD w 9 0 ∷ getD w 10 0 ∷ getD w 11 0 ∷ []) → d3 ≡ sets l i w
+put-done l w d1 d2 d3 i n e1 e2 e3 =
+    in-fours l d1 d2 d3 i _ _ _ _ _ _ _ _ _ _ _ _ e1 e2 e3
+    ∙ ap (λ (m : List ℕ). sets l i m)
+    (sym (from w 0 (omega arith) (from w 1 (omega arith) (from w 2 (omega arith) (from w 3 (omega arith)
+    (from w 4 (omega arith) (from w 5 (omega arith) (from w 6 (omega arith) (from w 7 (omega arith)
+    (from w 8 (omega arith) (from w 9 (omega arith) (from w 10 (omega arith) (from w 11 (omega arith)
+    (ap (λ (k : ℕ). drop k w) (sym n) ∙ drop-length w))))))))))))))

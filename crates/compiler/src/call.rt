@@ -1,13 +1,18 @@
-// The twelve words of a call's node, off its entries.
+// The twelve words of a call's node, off its entries, stored in the dag.
 ghost use mathlib.Core.Path.{_≡_};
 ghost use Prim.Native.Nat.{_+_, _*_, _<_, _≤_};
 ghost use lib.ListN.{length, getD};
+ghost use lib.Seq.{sets};
 ghost use lib.Dec.{ltb};
 ghost use Rattle.job.specs.Entry.{high};
+ghost use Rattle.job.specs.Words.{headWords, arrayWords};
 ghost use Rattle.job.proofs.Position.{operandAt};
 ghost use Rattle.reader.specs.Checked.{Parts};
-ghost use Rattle.compiler.specs.Call.{wordIf, callNodeWords};
+ghost use Rattle.compiler.specs.Call.{wordIf, placeWords, callNodeWords};
+use crate::store::put_four;
+use job::dag::HEAD_WORDS;
 use job::dag::ROW_WORDS;
+use job::dag::WORDS;
 use reader::entry::operand;
 
 // The kind of parameter `i` of `count`, whose entries begin at `at`, or 0.
@@ -33,27 +38,55 @@ fn operand_word(operands: &[u8], at: usize, i: usize, count: usize) -> u32
     0
 }
 
-// "low 16 bits site, high 16 bits parameter count", or the same of a definition: the words of the call at `at`.
-pub fn call_node_words(kinds: &[u8], operands: &[u8], at: usize, next: u32) -> [u32; ROW_WORDS]
+// Stores the words of two places for parameters, from place `i` on, at word `word`: the entries of `count` parameters begin at `at`.
+fn put_places(
+    kinds: &[u8],
+    operands: &[u8],
+    dag: &mut [u32; WORDS],
+    word: usize,
+    at: usize,
+    i: usize,
+    count: usize,
+)
     requires { ⌜ Parts (now kinds) (now operands) ⌝ }
-    requires { ⌜ at + 1 + high (operandAt (now operands) at) ≤ length (now kinds) ⌝ }
-    ensures { λ r. ⌜ r ≡ callNodeWords (now (kinds .entry)) (now (operands .entry)) at next ⌝ }
+    requires { ⌜ (word + 4 ≤ arrayWords) × (i < 4) × (at + count ≤ length (now kinds)) ⌝ }
+    ensures { λ _. ⌜ now (dag .exit) ≡ sets (now (dag .entry)) word (placeWords 2 i count (now (kinds .entry)) (now (operands .entry)) at) ⌝ }
+{
+    put_four(
+        dag,
+        word,
+        kind_word(kinds, at, i, count),
+        operand_word(operands, at, i, count),
+        kind_word(kinds, at, i + 1, count),
+        operand_word(operands, at, i + 1, count),
+    );
+}
+
+// "low 16 bits site, high 16 bits parameter count", or the same of a definition: stores the node of the call at `at`.
+pub fn put_call(
+    kinds: &[u8],
+    operands: &[u8],
+    dag: &mut [u32; WORDS],
+    node: usize,
+    at: usize,
+    next: u32,
+)
+    requires { ⌜ Parts (now kinds) (now operands) ⌝ }
+    requires { ⌜ (node < 1022) × (at + 1 + high (operandAt (now operands) at) ≤ length (now kinds)) ⌝ }
+    ensures { λ _. ⌜ now (dag .exit) ≡ sets (now (dag .entry)) (headWords + 12 * node)
+        (callNodeWords (now (kinds .entry)) (now (operands .entry)) at next) ⌝ }
 {
     let head = operand(operands, at);
     let n = (head / 65536) as usize;
-    let p = at + 1;
-    [
+    let base = HEAD_WORDS + ROW_WORDS * node;
+    put_four(
+        dag,
+        base,
         kinds[at] as u32,
         head % 65536,
         next,
         head / 65536,
-        kind_word(kinds, p, 0, n),
-        operand_word(operands, p, 0, n),
-        kind_word(kinds, p, 1, n),
-        operand_word(operands, p, 1, n),
-        kind_word(kinds, p, 2, n),
-        operand_word(operands, p, 2, n),
-        kind_word(kinds, p, 3, n),
-        operand_word(operands, p, 3, n),
-    ]
+    );
+    put_places(kinds, operands, dag, base + 4, at + 1, 0, n);
+    put_places(kinds, operands, dag, base + 8, at + 1, 2, n);
 }

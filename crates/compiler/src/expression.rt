@@ -2,7 +2,7 @@
 ghost use mathlib.Core.Path.{_≡_};
 ghost use Prim.Native.Nat.{_+_, _<_};
 ghost use Rattle.compiler.specs.Compiled.{Accepted, reading, compiled, stored};
-use crate::call::call_node_words;
+use crate::call::put_call;
 use crate::join::join_root;
 use crate::join::put_own;
 use crate::plan::ExpressionPlan;
@@ -53,11 +53,7 @@ pub fn compile_expression(
     }
     if kind < 3 {
         let count = (operand(operands, at) / 65536) as usize;
-        put(
-            dag,
-            plan.first,
-            call_node_words(kinds, operands, at, plan.next),
-        );
+        put_call(kinds, operands, dag, plan.first, at, plan.next);
         return single(at + 1 + count, plan.first);
     }
     let l = left_plan(kind, plan);

@@ -11,7 +11,7 @@ use Rattle.compiler.proofs.TwoSides.{own-room, accept-left, accept-righ
 use Rattle.compiler.proofs.expression.compile_expression.Reads as reads
 use Rattle.compiler.proofs.expression.compile_expression.Kinds as kinds
 use Rattle.compiler.proofs.expression.+compile_expression.Lts-compile_expression as lts
-use Rattle.compiler.proofs.call.call_node_words.Reads as call-node-words-reads
+use Rattle.compiler.proofs.call.put_call.Reads as put-call-reads
 use Rattle.reader.proofs.entry.operand.Reads as operand-reads
 use Rattle.compiler.proofs.expression.single.Reads as single-reads
 use Rattle.compiler.proofs.join.join_root.Reads as join-root-reads
@@ -40,8 +40,8 @@ claims t = (
   single-reads.Learnt,
   operand-reads.Asked,
   operand-reads.Learnt,
-  call-node-words-reads.Asked,
-  call-node-words-reads.Learnt,
+  put-call-reads.Asked,
+  put-call-reads.Learnt,
   left-plan-reads.Asked,
   left-plan-reads.Learnt,
   Below t,
@@ -77,17 +77,17 @@ operand-requires t c κs = search needs
 cast-count : (t : ℕ) → lts.Need-cast-count (claims t) (At t) reads.Post
 cast-count t c = search needs
 
-call-node-words-requires : (t : ℕ) → lts.Need-call-node-words-requires (claims t) (At t) reads.Post
-call-node-words-requires t c κs =
+put-call-requires : (t : ℕ) → lts.Need-put-call-requires (claims t) (At t) reads.Post
+put-call-requires t c κs =
     let call = c .before .before in
     let known = call .before .before .before in
     let start = known .before .before in (
       search needs,
-      call-room (taken (start .pre .1)) (λ i. omega (arith, known .shared-slice-known2 .given i)) (call .before .if1 .left) (call .if2 .taken),
+      (
+        start .pre .1 .low,
+        call-room (taken (start .pre .1)) (λ i. omega (arith, known .shared-slice-known2 .given i)) (call .before .if1 .left) (call .if2 .taken),
+      ),
     )
-
-put-requires-2 : (t : ℕ) → lts.Need-put-requires-2 (claims t) (At t) reads.Post
-put-requires-2 t c κs = search needs
 
 add-single-2 : (t : ℕ) → lts.Need-add-single-2 (claims t) (At t) reads.Post
 add-single-2 t c = search needs
@@ -100,13 +100,13 @@ single-requires-2 t c κs = search needs
 
 returns-2 : (t : ℕ) → lts.Need-returns-2 (claims t) (At t) reads.Post
 returns-2 t c =
-    let words = c .before .before in
-    let head = words .before .before in
+    let stored = c .before in
+    let head = stored .before .before in
     let call = head .before in
     let known = call .before .before .before in
     let start = known .before .before in
     call-done (taken (start .pre .1)) (λ i. omega (arith, known .shared-slice-known2 .given i)) (call .before .if1 .left) (call .if2 .taken)
-    _ _ _ _ _ _ (head .operand .ensures) (words .call-node-words .ensures) (c .single2 .ensures) (c .before .put2 .ensures)
+    _ _ _ _ _ (head .operand .ensures) (c .single2 .ensures) (stored .put-call .ensures)
 
 left-plan-requires : (t : ℕ) → lts.Need-left-plan-requires (claims t) (At t) reads.Post
 left-plan-requires t c κs = search needs
@@ -174,8 +174,7 @@ pub +compile-expression-spec : {M : Type 1} → statement M
     (returns t)
     (operand-requires t)
     (cast-count t)
-    (call-node-words-requires t)
-    (put-requires-2 t)
+    (put-call-requires t)
     (add-single-2 t)
     (add-single-3 t)
     (single-requires-2 t)

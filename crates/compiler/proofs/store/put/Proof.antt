@@ -1,71 +1,94 @@
--- `store::put` meets its contract. The loop's invariant: the first `i` words are stored. What is left of the twelve falls. Assumes nothing.
-use Prim.Native.Nat.{_-_, _≤_}
-use mathlib.Core.Path.{_≡_, refl}
-use lib.ListN.{take}
-use lib.Seq.{sets}
+-- `store::put` meets its contract: three runs of four words are the row. Assumes nothing.
 use borrow.Author.Needs.{needs}
-use native.Mathlib.Omega.{arith}
-use Rattle.compiler.proofs.Stores.{put-more, put-done}
+use Rattle.compiler.proofs.Stores.{put-done}
 use Rattle.compiler.proofs.store.put.Statement.{statement}
 use Rattle.compiler.proofs.store.put.Tie as tie
 
-abbrev Inv-loop : tie.InvT-loop
-Inv-loop dag₀ node words base i₀ dag i = (i ≤ 12) × (dag ≡ sets dag₀ base (take i words))
-
-abbrev μ-loop : tie.MeasureT-loop
-μ-loop dag₀ node words base i₀ dag i = 12 - i
-
-mul-base : tie.Need-mul-base Inv-loop μ-loop
+mul-base : tie.Need-mul-base
 mul-base c = search needs
 
-add-base : tie.Need-add-base Inv-loop μ-loop
+add-base : tie.Need-add-base
 add-base c = search needs
 
-loop-holds : tie.Need-loop-holds Inv-loop μ-loop
-loop-holds c = (search needs, refl)
+array-read-put-four : tie.Need-array-read-put-four
+array-read-put-four c = search needs
 
-mul-dag : tie.Need-mul-dag Inv-loop μ-loop
-mul-dag c = search needs
+array-read-put-four-2 : tie.Need-array-read-put-four-2
+array-read-put-four-2 c = search needs
 
-array-read-dag : tie.Need-array-read-dag Inv-loop μ-loop
-array-read-dag c = search needs
+array-read-put-four-3 : tie.Need-array-read-put-four-3
+array-read-put-four-3 c = search needs
 
-add-dag : tie.Need-add-dag Inv-loop μ-loop
-add-dag c = search needs
+array-read-put-four-4 : tie.Need-array-read-put-four-4
+array-read-put-four-4 c = search needs
 
-mul-dag-2 : tie.Need-mul-dag-2 Inv-loop μ-loop
-mul-dag-2 c = search needs
+put-four-requires : tie.Need-put-four-requires
+put-four-requires c κs = search needs
 
-element-write-dag : tie.Need-element-write-dag Inv-loop μ-loop
-element-write-dag c = omega arith
+add-put-four : tie.Need-add-put-four
+add-put-four c = search needs
 
-add-i : tie.Need-add-i Inv-loop μ-loop
-add-i c = search needs
+array-read-put-four-5 : tie.Need-array-read-put-four-5
+array-read-put-four-5 c = search needs
 
-loop-less : tie.Need-loop-less Inv-loop μ-loop
-loop-less c = search needs
+array-read-put-four-6 : tie.Need-array-read-put-four-6
+array-read-put-four-6 c = search needs
 
-loop-again : tie.Need-loop-again Inv-loop μ-loop
-loop-again c = (search needs, search put-more)
+array-read-put-four-7 : tie.Need-array-read-put-four-7
+array-read-put-four-7 c = search needs
 
-returns : tie.Need-returns Inv-loop μ-loop
-returns c = search put-done
+array-read-put-four-8 : tie.Need-array-read-put-four-8
+array-read-put-four-8 c = search needs
+
+put-four-requires-2 : tie.Need-put-four-requires-2
+put-four-requires-2 c κs = search needs
+
+add-put-four-2 : tie.Need-add-put-four-2
+add-put-four-2 c = search needs
+
+array-read-put-four-9 : tie.Need-array-read-put-four-9
+array-read-put-four-9 c = search needs
+
+array-read-put-four-10 : tie.Need-array-read-put-four-10
+array-read-put-four-10 c = search needs
+
+array-read-put-four-11 : tie.Need-array-read-put-four-11
+array-read-put-four-11 c = search needs
+
+array-read-put-four-12 : tie.Need-array-read-put-four-12
+array-read-put-four-12 c = search needs
+
+put-four-requires-3 : tie.Need-put-four-requires-3
+put-four-requires-3 c κs = search needs
+
+returns : tie.Need-returns
+returns c =
+    let second = c .before .before in
+    let first = second .before .before in
+    let start = first .before .before in
+    put-done _ (start .args .t3) _ _ _ _ (search needs) (first .put-four .ensures) (second .put-four2 .ensures) (c .put-four3 .ensures)
 
 pub put-spec : {M : Type 1} → statement M
 put-spec =
     tie.close
     (tie.spec
-    Inv-loop
-    μ-loop
     mul-base
     add-base
-    loop-holds
-    mul-dag
-    array-read-dag
-    add-dag
-    mul-dag-2
-    element-write-dag
-    add-i
-    loop-less
-    loop-again
+    array-read-put-four
+    array-read-put-four-2
+    array-read-put-four-3
+    array-read-put-four-4
+    put-four-requires
+    add-put-four
+    array-read-put-four-5
+    array-read-put-four-6
+    array-read-put-four-7
+    array-read-put-four-8
+    put-four-requires-2
+    add-put-four-2
+    array-read-put-four-9
+    array-read-put-four-10
+    array-read-put-four-11
+    array-read-put-four-12
+    put-four-requires-3
     returns)
