@@ -13,7 +13,7 @@ use Rattle.job.specs.Construct.{nodeCount, root, construct}
 use Rattle.job.specs.Words.{written}
 use Rattle.job.specs.Read.{Got, Read, got, readExp, readEntries}
 use Rattle.reader.specs.Checked.{Parts, entriesFrom}
-use Rattle.reader.specs.DefinitionList.{readDefinitionList, definitionListNodes, sizesOf, Leads}
+use Rattle.reader.specs.DefinitionList.{readDefinitionList, definitionListNodes, definitionSizes, Leads}
 use Rattle.reader.proofs.NodeCount.{construct-length}
 use Rattle.reader.proofs.ProgramParts.{AllDefined, all-defined, Parted, parted}
 use Rattle.reader.proofs.AtMost.{nodes-at-most}
@@ -26,12 +26,12 @@ use Rattle.loader.specs.declared.program.Place.{Place}
 use Rattle.loader.proofs.Before.{all-words}
 
 view : (r : Read Program) (nodes : ℕ) (ss : List ℕ) → Accepts r nodes ss
-    → (p : Got Program) × (r ≡ got p) × (nodes ≡ length (construct (p .value) .nodes)) × Leads (sizesOf (p .value .definitions)) ss
+    → (p : Got Program) × (r ≡ got p) × (nodes ≡ length (construct (p .value) .nodes)) × Leads (definitionSizes (p .value .definitions)) ss
 view (got p) nodes ss (accepts h k) = (p, refl, h, k)
 
 module _ (ks os : List ℕ) (n nodes : ℕ) (ss : List ℕ) (ok : Accepts (readEntries n (entries ks os)) nodes ss) (parts : Parts ks os) where
   it : (p : Got Program) × (readEntries n (entries ks os) ≡ got p) × (nodes ≡ length (construct (p .value) .nodes))
-      × Leads (sizesOf (p .value .definitions)) ss
+      × Leads (definitionSizes (p .value .definitions)) ss
   it = view (readEntries n (entries ks os)) nodes ss ok
 
   its : Parted n (entries ks os) (it .0 .value)
@@ -56,7 +56,7 @@ module _ (ks os : List ℕ) (n nodes : ℕ) (ss : List ℕ) (ok : Accepts (readE
   pub definitions-read : DefinitionsRead (readDefinitionList n 0 (entries ks os)) ss
   definitions-read =
       subst (λ r. DefinitionsRead r ss) (sym (its .read-definitions))
-      (definitions (let m = most in omega arith) (subst (λ (p : Program). Leads (sizesOf (p .definitions)) ss) (its .value) (it .3)))
+      (definitions (let m = most in omega arith) (subst (λ (p : Program). Leads (definitionSizes (p .definitions)) ss) (its .value) (it .3)))
 
   module _ (r : Place) (er : r ≡ placeBehind (readDefinitionList n 0 (entries ks os))) where
     given : r ≡ placeBehind (got (its .definitions))

@@ -16,7 +16,7 @@ use Rattle.job.specs.Read.{Got, Read, got, _>>=_, gives, need, entryAt, readExp
 use Rattle.job.proofs.Test.{leb-le}
 use Rattle.job.proofs.Position.{operandAt, entries-at, bind-got}
 use Rattle.reader.specs.Checked.{Parts, entriesFrom}
-use Rattle.reader.specs.DefinitionList.{readDefinitionList, definitionNodes, definitionListNodes, sizesOf, Leads}
+use Rattle.reader.specs.DefinitionList.{readDefinitionList, definitionNodes, definitionListNodes, definitionSizes, Leads}
 use Rattle.reader.proofs.DefinitionLoop.{Defined, defined}
 use Rattle.reader.proofs.ProgramParts.{same-got}
 use Rattle.compiler.specs.Compiled.{reading}
@@ -50,7 +50,7 @@ pub record Writing (count : ℕ) (ks os ws ss l : List ℕ) (at node i : ℕ) : 
   pub all : Got (List Definition)
   pub read-all : readDefinitionList count 0 (entries ks os) ≡ got all
   pub fits : definitionListNodes (all .value) < 1022
-  pub sized : Leads (sizesOf (all .value)) ss
+  pub sized : Leads (definitionSizes (all .value)) ss
   pub done : List Definition
   pub left : Got (List Definition)
   pub read-left : readDefinitionList (count - i) at (entriesFrom ks os at) ≡ got left
@@ -62,7 +62,7 @@ pub record Writing (count : ℕ) (ks os ws ss l : List ℕ) (at node i : ℕ) : 
   pub words : l ≡ wordsBefore done ws
 
 view : (r : Read (List Definition)) (ss : List ℕ) → DefinitionsRead r ss
-    → (g : Got (List Definition)) × (r ≡ got g) × (definitionListNodes (g .value) < 1022) × Leads (sizesOf (g .value)) ss
+    → (g : Got (List Definition)) × (r ≡ got g) × (definitionListNodes (g .value) < 1022) × Leads (definitionSizes (g .value)) ss
 view (got g) ss (definitions h k) = (g, refl, h, k)
 
 pub writing-start : (count : ℕ) (ks os ws ss : List ℕ) → DefinitionsRead (readDefinitionList count 0 (entries ks os)) ss
@@ -135,13 +135,13 @@ module _ (count : ℕ) (ks os ws ss l : List ℕ) (at node i : ℕ) (g : Writing
     -- its size, off the array: its nodes and its sink
     size : getD ss i 0 ≡ 1 + nodeCount (its .body .value)
     size =
-        let all : sizesOf (g .all .value) ≡ sizesOf (g .done ++ (turn .new .value ∷ turn .others .value)) =
-        ap sizesOf (sym (g .whole) ∙ ap (λ ds. g .done ++ ds) (turn .value)) in
-        let long : i < length (sizesOf (g .all .value)) =
+        let all : definitionSizes (g .all .value) ≡ definitionSizes (g .done ++ (turn .new .value ∷ turn .others .value)) =
+        ap definitionSizes (sym (g .whole) ∙ ap (λ ds. g .done ++ ds) (turn .value)) in
+        let long : i < length (definitionSizes (g .all .value)) =
         rw (all, length-map, length-append, g .many) (omega arith) in
-        sym (getD-take (length (sizesOf (g .all .value))) ss i 0 long)
+        sym (getD-take (length (definitionSizes (g .all .value))) ss i 0 long)
         ∙ ap (λ ns. getD ns i 0) (g .sized ∙ all)
-        ∙ ap (λ m. getD (sizesOf (g .done ++ (turn .new .value ∷ turn .others .value))) m 0) (sym (g .many))
+        ∙ ap (λ m. getD (definitionSizes (g .done ++ (turn .new .value ∷ turn .others .value))) m 0) (sym (g .many))
         ∙ at-end definitionNodes (g .done) (turn .others .value) (turn .new .value)
         ∙ ap definitionNodes (its .value)
 

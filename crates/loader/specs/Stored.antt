@@ -11,19 +11,19 @@ use Rattle.job.specs.Node.{Node, Body}
 use Rattle.job.specs.Construct.{nodeCount, root, nodesOf, construct}
 use Rattle.job.specs.Words.{headWords, rowsOfNodes, bodyWords, written}
 use Rattle.job.specs.Read.{Got, Read, got, refused}
-use Rattle.reader.specs.DefinitionList.{definitionNodes, definitionListNodes, sizesOf, Leads}
+use Rattle.reader.specs.DefinitionList.{definitionNodes, definitionListNodes, definitionSizes, Leads}
 use Rattle.compiler.specs.Body.{sinkOf}
 use Rattle.loader.specs.declared.program.Place.{Place}
 
 -- what is asked of the definitions: they were read, their nodes leave a place of the dag's 1,022, and their sizes are known
 pub data DefinitionsRead : Read (List Definition) → (sizes : List ℕ) → Type 0 where
-  definitions : {g : Got (List Definition)} {sizes : List ℕ} → definitionListNodes (g .value) < 1022 → Leads (sizesOf (g .value)) sizes
+  definitions : {g : Got (List Definition)} {sizes : List ℕ} → definitionListNodes (g .value) < 1022 → Leads (definitionSizes (g .value)) sizes
       → DefinitionsRead (got g) sizes
 
 -- what is asked of the program: it was read, and its number of nodes and the sizes of its definitions are known
 pub data Accepts : Read Program → (nodes : ℕ) → (sizes : List ℕ) → Type 0 where
   accepts : {p : Got Program} {nodes : ℕ} {sizes : List ℕ} → nodes ≡ length (construct (p .value) .nodes)
-      → Leads (sizesOf (p .value .definitions)) sizes → Accepts (got p) nodes sizes
+      → Leads (definitionSizes (p .value .definitions)) sizes → Accepts (got p) nodes sizes
 
 -- the nodes of definitions, numbered from n, each body's toward its sink behind them; and where the bodies begin
 unfoldable pub nodesBefore : ℕ → List Definition → List Node

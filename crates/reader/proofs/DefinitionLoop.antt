@@ -13,7 +13,7 @@ use Rattle.job.specs.Entry.{entries, kindOf}
 use Rattle.job.specs.Read.{Got, Read, got, refused, _>>=_, gives, need, entryAt, readExp, isDefinition, readDefinition}
 use Rattle.job.proofs.Position.{entries-end, entries-at, entries-length, bind-got, refused-got, exp-from}
 use Rattle.reader.specs.Checked.{entriesFrom, checked}
-use Rattle.reader.specs.DefinitionList.{readDefinitionList, definitionNodes, definitionListNodes, sizesOf, checkedDefinition, formalsRead, sizesRead, DefinitionsHold}
+use Rattle.reader.specs.DefinitionList.{readDefinitionList, definitionNodes, definitionListNodes, definitionSizes, checkedDefinition, formalsRead, sizesRead, DefinitionsHold}
 use Rattle.reader.specs.declared.checked.Checked.{Checked}
 use Rattle.reader.specs.declared.checked.Checked.the-variants.{Next, Refused}
 use Rattle.reader.proofs.Onward.{checked-refused, checked-next}
@@ -92,7 +92,7 @@ pub record Reading (count : ℕ) (ks os fs ss : List ℕ) (at nodes i : ℕ) : T
   pub few : nodes ≤ 2 * at
   pub last : at ≤ length ks
   pub counts : take i fs ≡ formalsOf done
-  pub counted : take i ss ≡ sizesOf done
+  pub counted : take i ss ≡ definitionSizes done
   pub long : length fs ≡ 32
   pub wide : length ss ≡ 32
 

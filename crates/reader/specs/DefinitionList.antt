@@ -33,8 +33,8 @@ abbrev pub checkedDefinitionList : Read (List Definition) → Checked
 checkedDefinitionList = checked definitionListNodes
 
 -- the nodes of each definition
-abbrev pub sizesOf : List Definition → List ℕ
-sizesOf ds = map definitionNodes ds
+abbrev pub definitionSizes : List Definition → List ℕ
+definitionSizes ds = map definitionNodes ds
 
 -- the counts of formals and the sizes, where the definitions were read
 unfoldable pub formalsRead : Read (List Definition) → List ℕ
@@ -42,12 +42,12 @@ formalsRead (got g) = formalsOf (g .value)
 formalsRead (refused n e) = []
 
 unfoldable pub sizesRead : Read (List Definition) → List ℕ
-sizesRead (got g) = sizesOf (g .value)
+sizesRead (got g) = definitionSizes (g .value)
 sizesRead (refused n e) = []
 
 -- the sizes of the definitions of a program that was read
 unfoldable pub programSizes : Read Program → List ℕ
-programSizes (got p) = sizesOf (p .value .definitions)
+programSizes (got p) = definitionSizes (p .value .definitions)
 programSizes (refused n e) = []
 
 -- these words stand at the front of the array
