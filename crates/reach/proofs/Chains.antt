@@ -6,7 +6,7 @@ use mathlib.Core.Logic.{_≢_}
 use mathlib.Core.List.{List, [], _∷_, _++_}
 use Prim.Native.Nat.{ℕ, zero, suc, _+_, _-_, _≤_, _<_}
 use native.Mathlib.Omega.{arith}
-use lib.ListN.{length, getD, set}
+use lib.ListN.{length, getD, set, replicate}
 use Rattle.model.specs.Machine.InUse.{markChain, markFromEach}
 use Rattle.model.specs.declared.token.Place.{Place}
 use Rattle.model.specs.declared.token.Place.the-variants as places
@@ -73,3 +73,10 @@ module _ {A : Type 0} (link : A → Place) (blank : A) (xs : List A) where
   unfolding markFromEach
   chains-append [] rs marks = refl
   chains-append (q ∷ qs) rs marks = chains-append qs rs (walk (length xs) q marks)
+
+  -- chains that begin nowhere
+  pub chains-nowhere : (n : ℕ) (marks : List Bool) → markFromEach link blank xs (replicate n places.Nowhere) marks ≡ marks
+  unfolding markFromEach
+  chains-nowhere zero marks = refl
+  chains-nowhere (suc n) marks =
+      ap (markFromEach link blank xs (replicate n places.Nowhere)) (walk-nowhere (length xs) marks) ∙ chains-nowhere n marks

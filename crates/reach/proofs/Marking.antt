@@ -1,14 +1,16 @@
 -- The loops that mark from each active token, from each cell that a token names, and from those of each token in use: what a turn leaves to
 -- do. Each is one element of the list that the definition goes through. Assumes nothing.
 use mathlib.Core.Path.{_≡_, refl, sym, _∙_, ap, ap₂}
-use mathlib.Core.Bool.{Bool, true, false}
+use mathlib.Core.Bool.{Bool, true, false, _||_, true≢false}
 use mathlib.Core.Logic.{_≢_}
 use mathlib.Core.List.{List, _∷_, map}
 use Prim.Native.Nat.{ℕ, suc, _+_, _≤_, _<_}
 use native.Mathlib.Numerals.{add-one}
 use native.Mathlib.Omega.{arith}
+use borrow.Author.Count.{below-more}
 use lib.ListN.{length, getD, drop, replicate, drop-of-length-le}
 use Rattle.model.specs.Machine.Active.{isActive}
+use Rattle.model.specs.Machine.State.{isLive}
 use Rattle.model.specs.Machine.Blank.{empty, blankToken, blankCell, tokenAt, slotAt}
 use Rattle.model.specs.Machine.InUse.{markChain, markFromEach, reached, activePlaces, usedTokens, tokensUsed}
 use Rattle.model.specs.Machine.InUse.{boundCell, cellsOf, cellsOfMarked, usedCells}
@@ -22,10 +24,10 @@ use Rattle.model.specs.declared.token.Slot.the-variants as slots
 use Rattle.model.specs.declared.token.Token.{Token}
 use Rattle.record.specs.Decode.{placeFrom}
 use Rattle.record.specs.Words.{placeNumber, slotKind, slotNumber}
-use Rattle.reach.specs.Marks.{callersMarked, parentsMarked, cellsMarked, activeMarked, heldMarked}
-use Rattle.reach.proofs.Lists.{drop-next}
+use Rattle.reach.specs.Marks.{callersMarked, parentsMarked, cellsMarked, activeMarked, heldMarked, BlankFrom, UnmarkedFrom}
+use Rattle.reach.proofs.Lists.{any-default, drop-next, steady}
 use Rattle.reach.proofs.Links.{place-from}
-use Rattle.reach.proofs.Chains.{chains-append}
+use Rattle.reach.proofs.Chains.{chains-append, chains-nowhere}
 
 -- a token's turn, by the code's answer
 module _ (m : Machine) (p : ℕ) (marks : List Bool) (b : Bool) (e : b ≡ isActive (m .cells) (tokenAt (m .tokens) p)) where
@@ -76,11 +78,22 @@ callers-next m p marks l h =
         ap (λ k. allMarked m (rest (suc p)) (markChain (λ (t : Token). t .caller) blankToken (m .tokens) k (places.At p) marks)) l
     go false = refl
 
-pub callers-last : (m : Machine) (p : ℕ) (marks : List Bool) → length (m .tokens) ≡ 64 → 64 ≤ p → callersLeft m p marks ≡ marks
+callers-end : (m : Machine) (marks : List Bool) → length (m .tokens) ≡ 64 → callersLeft m 64 marks ≡ marks
 unfolding activePlaces markFromEach
-callers-last m p marks l h =
-    let z : length (m .tokens) ≤ p = omega arith in
-    ap (λ ts. allMarked m (activePlaces (m .cells) p ts) marks) (drop-of-length-le (m .tokens) z)
+callers-end m marks l =
+    let z : length (m .tokens) ≤ 64 = omega arith in
+    ap (λ ts. allMarked m (activePlaces (m .cells) 64 ts) marks) (drop-of-length-le (m .tokens) z)
+
+-- a blank token is not active
+pub callers-last : (m : Machine) (p : ℕ) (marks : List Bool) → length (m .tokens) ≡ 64 → p ≤ 64 → BlankFrom m p → callersLeft m p marks ≡ marks
+unfolding isActive isLive
+callers-last m p marks l h blank =
+    steady (λ i. callersLeft m i marks) p 64 h
+    (λ i from to. callers-next m i marks l to ∙ ap (callersLeft m (i + 1)) (sym (inactive-marks m i marks false (idle i from to) refl)))
+    ∙ callers-end m marks l
+  where
+    idle : (i : ℕ) → p ≤ i → i < 64 → false ≡ isActive (m .cells) (tokenAt (m .tokens) i)
+    idle i from to = sym (ap (isActive (m .cells)) (blank i from to))
 
 -- the number of the cell that a binding names
 unbound-slot : (s : Slot) → slotKind s ≢ 2 → 0 ≡ placeNumber (boundCell (record { slot = s }))
@@ -156,9 +169,32 @@ cells-next m used p marks s l h =
     go true = chains-append (λ (c : Cell). c .parent) blankCell (m .cells) (cellsOf (getD (m .tokens) p blankToken)) rest marks
     go false = refl
 
-pub cells-last : (m : Machine) (used : List Bool) (p : ℕ) (marks : List Bool) → length used ≡ 64 → length (m .tokens) ≡ 64 → 64 ≤ p
-    → cellsLeft m used p marks ≡ marks
+cells-end : (m : Machine) (used : List Bool) (marks : List Bool) → length (m .tokens) ≡ 64 → cellsLeft m used 64 marks ≡ marks
 unfolding cellsOfMarked markFromEach
-cells-last m used p marks s l h =
-    let z : length (m .tokens) ≤ p = omega arith in
-    ap (λ ts. cellsMarked m (cellsOfMarked (drop p used) ts) marks) (drop-of-length-le (m .tokens) z)
+cells-end m used marks l =
+    let z : length (m .tokens) ≤ 64 = omega arith in
+    ap (λ ts. cellsMarked m (cellsOfMarked (drop 64 used) ts) marks) (drop-of-length-le (m .tokens) z)
+
+-- a blank token names no cell
+blank-names : (m : Machine) (marks : List Bool) → cellsMarked m (cellsOf blankToken) marks ≡ marks
+unfolding cellsOf boundCell
+blank-names m marks = chains-nowhere (λ (c : Cell). c .parent) blankCell (m .cells) 9 marks
+
+held-blank : (m : Machine) (p : ℕ) (used : Bool) (marks : List Bool) → tokenAt (m .tokens) p ≡ blankToken → heldMarked m p used marks ≡ marks
+unfolding heldMarked
+held-blank m p true marks e = ap (λ t. cellsMarked m (cellsOf t) marks) e ∙ blank-names m marks
+held-blank m p false marks e = refl
+
+pub cells-last : (m : Machine) (used : List Bool) (p : ℕ) (marks : List Bool) → length used ≡ 64 → length (m .tokens) ≡ 64 → p ≤ 64 → BlankFrom m p
+    → cellsLeft m used p marks ≡ marks
+cells-last m used p marks s l h blank =
+    steady (λ i. cellsLeft m used i marks) p 64 h
+    (λ i from to. cells-next m used i marks s l to ∙ ap (cellsLeft m used (i + 1)) (held-blank m i (getD used i false) marks (blank i from to)))
+    ∙ cells-end m used marks l
+
+-- the loop that looks for a mark: where none was found before i and there is none at i, there is none before i + 1
+pub unmarked-more : (marks : List Bool) (from i : ℕ) (found : Bool) → i < length marks → (found ≡ false → UnmarkedFrom marks from i)
+    → (found || getD marks i false) ≡ false → UnmarkedFrom marks from (i + 1)
+unmarked-more marks from i true l none e k h b = absurd (true≢false e)
+unmarked-more marks from i false l none e k h b =
+    below-more (λ j. from ≤ j → getD marks j true ≡ false) i (λ j b f. none refl j f b) (λ f. any-default marks i true false l ∙ e) k b h

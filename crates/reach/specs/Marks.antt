@@ -2,7 +2,7 @@
 use mathlib.Core.Path.{_≡_}
 use mathlib.Core.Bool.{Bool, true, false}
 use mathlib.Core.List.{List}
-use Prim.Native.Nat.{ℕ, _<_}
+use Prim.Native.Nat.{ℕ, _≤_, _<_}
 use lib.ListN.{getD}
 use lib.Dec.{ltb}
 use Rattle.model.specs.Machine.Active.{isActive}
@@ -58,6 +58,13 @@ FreeTokens m marks = (i : ℕ) → i < 64 → getD marks i true ≡ false → to
 
 abbrev pub FreeCells : Machine → List Bool → Type 0
 FreeCells m marks = (c : ℕ) → c < 32 → getD marks c true ≡ false → cellAt (m .cells) c ≡ blankCell
+
+-- no place from `end` on is marked, of so many; every token from there on is blank
+abbrev pub UnmarkedFrom : List Bool → (end size : ℕ) → Type 0
+UnmarkedFrom marks end size = (i : ℕ) → end ≤ i → i < size → getD marks i true ≡ false
+
+abbrev pub BlankFrom : Machine → (end : ℕ) → Type 0
+BlankFrom m end = (i : ℕ) → end ≤ i → i < 64 → tokenAt (m .tokens) i ≡ blankToken
 
 pub record Vacant (m : Machine) (tokenMarks cellMarks : List Bool) : Type 0 where
   pub tokens : FreeTokens m tokenMarks

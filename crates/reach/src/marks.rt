@@ -1,10 +1,12 @@
 // Marks of both tables, over slices: what lends an array as a slice knows its length, also after the call.
 ghost use mathlib.Core.Path.{_≡_};
-ghost use mathlib.Core.Bool.{false};
+ghost use mathlib.Core.Bool.{true, false};
+ghost use Prim.Native.Nat.{_≤_};
 ghost use lib.ListN.{length, replicate};
 ghost use Rattle.model.specs.Machine.InUse.{tokensUsed, usedCells};
 ghost use Rattle.model.specs.declared.record.Machine.{Machine};
 ghost use Rattle.record.specs.Holds.{Codes};
+ghost use Rattle.reach.specs.Marks.{BlankFrom, UnmarkedFrom};
 use crate::mark::mark_active;
 use crate::mark::mark_held;
 use model::record::Machine;
@@ -21,27 +23,52 @@ fn clear(marks: &mut [bool], size: usize)
     }
 }
 
-// The tokens: the active ones, and what they reach by their callers.
-pub fn mark_tokens(w: &[u32; Machine::WORDS], marks: &mut [bool])
-    requires { ⌜ length (now marks) ≡ 64 ⌝ }
-    ensures { λ _. ⌜ ((m : Machine) → Codes (now (w .entry)) m → now (marks .exit) ≡ tokensUsed m) ⌝ }
+// Is no place from this one on marked? Every mark is read, so that many are read at once.
+fn none_from(marks: &[bool], from: usize, size: usize) -> bool
+    requires { ⌜ (length (now marks) ≡ size) × (from ≤ size) ⌝ }
+    ensures { λ r. ⌜ (r ≡ true → UnmarkedFrom (now (marks .entry)) from size) ⌝ }
+{
+    let mut found = false;
+    let mut i = from;
+    while i < size {
+        found = found | marks[i];
+        i += 1;
+    }
+    !found
+}
+
+// An end behind which no place is marked: the few first places, where the others are not in use, or all of them.
+pub fn marked_end(marks: &[bool], size: usize) -> usize
+    requires { ⌜ (length (now marks) ≡ size) × (8 ≤ size) ⌝ }
+    ensures { λ r. ⌜ (r ≤ size) × UnmarkedFrom (now (marks .entry)) r size ⌝ }
+{
+    if none_from(marks, 8, size) {
+        return 8;
+    }
+    size
+}
+
+// The tokens: the active ones, and what they reach by their callers. From the end on there is none.
+pub fn mark_tokens(w: &[u32; Machine::WORDS], marks: &mut [bool], end: usize)
+    requires { ⌜ (length (now marks) ≡ 64) × (end ≤ 64) ⌝ }
+    ensures { λ _. ⌜ ((m : Machine) → Codes (now (w .entry)) m → BlankFrom m end → now (marks .exit) ≡ tokensUsed m) ⌝ }
 {
     clear(marks, Machine::TOKENS);
     let mut p: usize = 0;
-    while p < Machine::TOKENS {
+    while p < end {
         mark_active(w, p, marks);
         p += 1;
     }
 }
 
 // The cells that these tokens reach.
-pub fn mark_cells(w: &[u32; Machine::WORDS], tokens: &[bool], marks: &mut [bool])
-    requires { ⌜ (length (now tokens) ≡ 64) × (length (now marks) ≡ 32) ⌝ }
-    ensures { λ _. ⌜ ((m : Machine) → Codes (now (w .entry)) m → now (marks .exit) ≡ usedCells (now (tokens .entry)) (m .tokens) (m .cells)) ⌝ }
+pub fn mark_cells(w: &[u32; Machine::WORDS], tokens: &[bool], marks: &mut [bool], end: usize)
+    requires { ⌜ (length (now tokens) ≡ 64) × (length (now marks) ≡ 32) × (end ≤ 64) ⌝ }
+    ensures { λ _. ⌜ ((m : Machine) → Codes (now (w .entry)) m → BlankFrom m end → now (marks .exit) ≡ usedCells (now (tokens .entry)) (m .tokens) (m .cells)) ⌝ }
 {
     clear(marks, Machine::CELLS);
     let mut p: usize = 0;
-    while p < Machine::TOKENS {
+    while p < end {
         mark_held(w, p, tokens[p], marks);
         p += 1;
     }

@@ -15,6 +15,6 @@ pub fn in_use(
 )
     ensures { λ _. ⌜ ((m : Machine) → Codes (now (w .entry)) m → (now (tokens .exit) ≡ tokensUsed m) × (now (cells .exit) ≡ cellsUsed m)) ⌝ }
 {
-    mark_tokens(w, tokens);
-    mark_cells(w, tokens, cells);
+    mark_tokens(w, tokens, Machine::TOKENS);
+    mark_cells(w, tokens, cells, Machine::TOKENS);
 }

@@ -3,6 +3,7 @@ use mathlib.Core.Bool.{false}
 use mathlib.Core.Path.{_≡_, _∙_, sym, ap}
 use Prim.Native.Nat.{_+_, _-_, _≤_}
 use borrow.Author.Needs.{needs}
+use native.Mathlib.Omega.{arith}
 use lib.ListN.{length, length-replicate}
 use Rattle.model.specs.Machine.InUse.{usedCells}
 use Rattle.model.specs.declared.record.Machine.{Machine}
@@ -12,13 +13,13 @@ use Rattle.reach.proofs.marks.mark_cells.Statement.{statement}
 use Rattle.reach.proofs.marks.mark_cells.Tie as tie
 
 abbrev Inv-loop : tie.InvT-loop
-Inv-loop w tokens marks₀ p₀ marks p =
-    (p ≤ 64)
+Inv-loop w tokens marks₀ end p₀ marks p =
+    (p ≤ end)
     × (length marks ≡ 32)
     × ((m : Machine) → Codes w m → usedCells tokens (m .tokens) (m .cells) ≡ cellsLeft m tokens p marks)
 
 abbrev μ-loop : tie.MeasureT-loop
-μ-loop w tokens marks₀ p₀ marks p = 64 - p
+μ-loop w tokens marks₀ end p₀ marks p = end - p
 
 clear-requires : tie.Need-clear-requires Inv-loop μ-loop
 clear-requires c κs = search needs
@@ -58,9 +59,11 @@ same-length c = search needs
 
 returns : tie.Need-returns Inv-loop μ-loop
 returns c =
-    λ m h.
+    λ m h blank.
     let l = c .before .loop in
-    sym (l .inv .2 m h ∙ cells-last m _ (l .p) _ (c .before .before .before .before .before .before .before .before .pre .0) (h .shaped .tokens) (search needs))
+    let start = c .before .before .before .before .before .before .before .before in
+    let z : l .p ≡ start .args .end = search needs in
+    sym (l .inv .2 m h ∙ cells-last m _ (l .p) _ (start .pre .0) (h .shaped .tokens) (search needs) (λ i from. blank i (omega arith)))
 
 pub mark-cells-spec : {M : Type 1} → statement M
 mark-cells-spec =

@@ -3,6 +3,7 @@ use mathlib.Core.Bool.{false}
 use mathlib.Core.Path.{_≡_, _∙_, sym, ap}
 use Prim.Native.Nat.{_-_, _≤_}
 use borrow.Author.Needs.{needs}
+use native.Mathlib.Omega.{arith}
 use lib.ListN.{length, length-replicate}
 use Rattle.model.specs.Machine.InUse.{tokensUsed}
 use Rattle.model.specs.declared.record.Machine.{Machine}
@@ -12,10 +13,10 @@ use Rattle.reach.proofs.marks.mark_tokens.Statement.{statement}
 use Rattle.reach.proofs.marks.mark_tokens.Tie as tie
 
 abbrev Inv-loop : tie.InvT-loop
-Inv-loop w marks₀ p₀ marks p = (p ≤ 64) × (length marks ≡ 64) × ((m : Machine) → Codes w m → tokensUsed m ≡ callersLeft m p marks)
+Inv-loop w marks₀ end p₀ marks p = (p ≤ end) × (length marks ≡ 64) × ((m : Machine) → Codes w m → tokensUsed m ≡ callersLeft m p marks)
 
 abbrev μ-loop : tie.MeasureT-loop
-μ-loop w marks₀ p₀ marks p = 64 - p
+μ-loop w marks₀ end p₀ marks p = end - p
 
 clear-requires : tie.Need-clear-requires Inv-loop μ-loop
 clear-requires c κs = search needs
@@ -49,7 +50,12 @@ same-length : tie.Need-same-length Inv-loop μ-loop
 same-length c = search needs
 
 returns : tie.Need-returns Inv-loop μ-loop
-returns c = λ m h. let l = c .before .loop in sym (l .inv .2 m h ∙ callers-last m (l .p) _ (h .shaped .tokens) (search needs))
+returns c =
+    λ m h blank.
+    let l = c .before .loop in
+    let start = c .before .before .before .before .before .before .before in
+    let z : l .p ≡ start .args .end = search needs in
+    sym (l .inv .2 m h ∙ callers-last m (l .p) _ (h .shaped .tokens) (search needs) (λ i from. blank i (omega arith)))
 
 pub mark-tokens-spec : {M : Type 1} → statement M
 mark-tokens-spec =
