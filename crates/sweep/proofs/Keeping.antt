@@ -2,6 +2,7 @@
 -- Assumes nothing.
 use mathlib.Core.Path.{_≡_, refl, sym, _∙_, ap}
 use mathlib.Core.Bool.{Bool, true, false}
+use mathlib.Core.Logic.{⊎-elim}
 use mathlib.Core.List.{List, [], _∷_, _++_, append-nil}
 use Prim.Native.Nat.{ℕ, suc, _+_, _≤_, _<_}
 use native.Mathlib.Numerals.{add-one}
@@ -15,26 +16,23 @@ use Rattle.model.specs.declared.cell.Cell.{Cell}
 use Rattle.model.specs.declared.record.Machine.{Machine}
 use Rattle.model.specs.declared.token.Token.{Token}
 use Rattle.model.proofs.Keeps.Clean.{Clean, finish-clean}
-use Rattle.model.proofs.Machine.Kept.{length-kept, kept-marked, kept-free}
+use Rattle.model.proofs.Machine.Kept.{length-kept, kept-marked, kept-free, kept-cases}
 use Rattle.record.proofs.TokenRow.{put-self}
 use Rattle.record.proofs.CellRow.{put-self as put-cell-self}
 use Rattle.record.specs.Fields.{storeCell}
-use Rattle.reach.specs.Marks.{Vacant, sweptToken, sweptCell, tokensSwept, cellsSwept}
-use Rattle.reach.proofs.Lists.{any-default}
+use Rattle.reach.specs.Marks.{Vacant, BlankFrom, sweptToken, sweptCell, tokensSwept, cellsSwept}
+use Rattle.reach.proofs.Lists.{any-default, steady}
 
 module _ {A : Type 0} (blank : A) (marks : List Bool) (xs : List A) where
   -- done up to i
   abbrev pub partly : ℕ → List A
   partly i = take i (restBlanked blank marks xs) ++ drop i xs
 
-  module _ (size i : ℕ) (wide : length marks ≡ size) (long : length xs ≡ size) where
-    pub partly-over : size ≤ i → partly i ≡ restBlanked blank marks xs
-    partly-over h =
-        let x = length-kept blank marks xs in
-        let y : length (restBlanked blank marks xs) ≤ i = omega arith in
-        let z : length xs ≤ i = omega arith in
-        rw (take-all i (restBlanked blank marks xs) y, drop-of-length-le xs z, append-nil)
+  -- a blank row stays blank, marked or not
+  pub kept-blank : (i : ℕ) → getD xs i blank ≡ blank → getD (restBlanked blank marks xs) i blank ≡ blank
+  kept-blank i b = ⊎-elim (λ e. e ∙ b) (λ e. e) (kept-cases blank marks xs i)
 
+  module _ (size i : ℕ) (wide : length marks ≡ size) (long : length xs ≡ size) where
     module _ (h : i < size) where
       -- the table with v at i, done before and not after
       abbrev held : A → List A
@@ -68,6 +66,21 @@ module _ {A : Type 0} (blank : A) (marks : List Bool) (xs : List A) where
           ∙ set-at (take i (restBlanked blank marks xs)) (getD xs i blank) (drop (suc i) xs) blank i before-long
           ∙ ap held (sym (kept-free blank marks xs i (mark-at false e)))
           ∙ sym partly-next
+
+      idle : getD xs i blank ≡ blank → partly i ≡ partly (i + 1)
+      idle b = partly-held ∙ ap held (b ∙ sym (kept-blank i b)) ∙ sym partly-next
+
+  module _ (size : ℕ) (wide : length marks ≡ size) (long : length xs ≡ size) where
+    partly-end : partly size ≡ restBlanked blank marks xs
+    partly-end =
+        let x = length-kept blank marks xs in
+        let y : length (restBlanked blank marks xs) ≤ size = omega arith in
+        let z : length xs ≤ size = omega arith in
+        rw (take-all size (restBlanked blank marks xs) y, drop-of-length-le xs z, append-nil)
+
+    -- the rows from i on are blank
+    pub partly-over : (i : ℕ) → i ≤ size → ((k : ℕ) → i ≤ k → k < size → getD xs k blank ≡ blank) → partly i ≡ restBlanked blank marks xs
+    partly-over i h b = steady partly i size h (λ k from to. idle size k wide long to (b k from to)) ∙ partly-end
 
 -- the record when its tokens, or its cells, are done up to i
 abbrev pub tokensKept : List Bool → Machine → ℕ → Machine
@@ -115,8 +128,9 @@ module _ (marks : List Bool) (m : Machine) where
     tokens-next true h e = ap (λ ts. withTables ts (m .cells) m) (keeps blankToken marks (m .tokens) 64 i wide long h e)
     tokens-next false h e = ap (λ ts. withTables ts (m .cells) m) (blanks blankToken marks (m .tokens) 64 i wide long h e)
 
-    pub tokens-last : 64 ≤ i → tokensKept marks m i ≡ withTables (restBlanked blankToken marks (m .tokens)) (m .cells) m
-    tokens-last h = ap (λ ts. withTables ts (m .cells) m) (partly-over blankToken marks (m .tokens) 64 i wide long h)
+    pub tokens-last : i ≤ 64 → BlankFrom m i → tokensKept marks m i ≡ withTables (restBlanked blankToken marks (m .tokens)) (m .cells) m
+    unfolding tokenAt
+    tokens-last h b = ap (λ ts. withTables ts (m .cells) m) (partly-over blankToken marks (m .tokens) 64 wide long i h b)
 
   pub cells-first : m ≡ cellsKept marks m 0
   unfolding withTables
@@ -132,8 +146,10 @@ module _ (marks : List Bool) (m : Machine) where
     cells-next true h e = ap (λ cs. withTables (m .tokens) cs m) (keeps blankCell marks (m .cells) 32 i wide long h e)
     cells-next false h e = ap (λ cs. withTables (m .tokens) cs m) (blanks blankCell marks (m .cells) 32 i wide long h e)
 
-    pub cells-last : 32 ≤ i → cellsKept marks m i ≡ withTables (m .tokens) (restBlanked blankCell marks (m .cells)) m
-    cells-last h = ap (λ cs. withTables (m .tokens) cs m) (partly-over blankCell marks (m .cells) 32 i wide long h)
+    pub cells-last : i ≤ 32 → ((k : ℕ) → i ≤ k → k < 32 → cellAt (m .cells) k ≡ blankCell)
+        → cellsKept marks m i ≡ withTables (m .tokens) (restBlanked blankCell marks (m .cells)) m
+    unfolding cellAt
+    cells-last h b = ap (λ cs. withTables (m .tokens) cs m) (partly-over blankCell marks (m .cells) 32 wide long i h b)
 
 -- a table done by the marks of what is in use
 module _ (m : Machine) (used : List Bool) where
@@ -143,6 +159,10 @@ module _ (m : Machine) (used : List Bool) where
   pub cells-swept : (tokens : List Bool) → used ≡ usedCells tokens (m .tokens) (m .cells)
       → withTables (m .tokens) (restBlanked blankCell used (m .cells)) m ≡ cellsSwept tokens m
   cells-swept tokens e = ap (λ us. withTables (m .tokens) (restBlanked blankCell us (m .cells)) m) e
+
+pub swept-blank : (m : Machine) (end : ℕ) → BlankFrom m end → BlankFrom (tokensSwept m) end
+unfolding withTables tokenAt
+swept-blank m end b i from to = kept-blank blankToken (tokensUsed m) (m .tokens) i (b i from to)
 
 -- the tokens in use name the same cells when the others are blank
 names-kept : (used : List Bool) (ts : List Token) → cellsOfMarked used (restBlanked blankToken used ts) ≡ cellsOfMarked used ts

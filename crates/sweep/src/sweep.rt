@@ -1,17 +1,18 @@
 // "The rest is blank after each accepted call." What was not marked is blank already.
 ghost use mathlib.Core.Path.{_≡_};
 ghost use mathlib.Core.Bool.{false};
-ghost use Prim.Native.Nat.{_<_};
+ghost use Prim.Native.Nat.{_<_, _≤_};
 ghost use lib.ListN.{length};
 ghost use Rattle.model.specs.Machine.Blank.{blankToken, blankCell, tokenAt, cellAt};
 ghost use Rattle.model.specs.Machine.InUse.{tokensUsed, cellsUsed, usedCells, restBlanked, sweep};
 ghost use Rattle.model.specs.Machine.Step.{withTables};
 ghost use Rattle.model.specs.declared.record.Machine.{Machine};
 ghost use Rattle.record.specs.Holds.{Holds};
-ghost use Rattle.reach.specs.Marks.{Vacant, FreeTokens, FreeCells, sweptToken, sweptCell, tokensSwept, cellsSwept};
+ghost use Rattle.reach.specs.Marks.{Vacant, FreeTokens, FreeCells, UnmarkedFrom, BlankFrom, sweptToken, sweptCell, tokensSwept, cellsSwept};
 use model::record::Machine;
 use reach::marks::mark_cells;
 use reach::marks::mark_tokens;
+use reach::marks::marked_end;
 use record::cell::put_unset;
 use record::token::blank;
 
@@ -53,13 +54,13 @@ fn renew(marks: &mut [bool], used: &[bool], size: usize)
     }
 }
 
-// The tokens' rows by what is in use, which the marks then say.
-fn keep_tokens(w: &mut [u32; Machine::WORDS], marks: &mut [bool], used: &[bool])
-    requires { ⌜ (length (now marks) ≡ 64) × (length (now used) ≡ 64) ⌝ }
+// The tokens' rows by what is in use, which the marks then say. From the end on none was marked.
+fn keep_tokens(w: &mut [u32; Machine::WORDS], marks: &mut [bool], used: &[bool], end: usize)
+    requires { ⌜ (length (now marks) ≡ 64) × (length (now used) ≡ 64) × (end ≤ 64) × UnmarkedFrom (now marks) end 64 ⌝ }
     ensures { λ _. ⌜ (now (marks .exit) ≡ now (used .entry)) × ((m : Machine) → Holds (now (w .entry)) m → FreeTokens m (now (marks .entry)) → Holds (now (w .exit)) (withTables (restBlanked blankToken (now (used .entry)) (m .tokens)) (m .cells) m)) ⌝ }
 {
     let mut p: usize = 0;
-    while p < Machine::TOKENS {
+    while p < end {
         keep_token(w, p, marks[p], used[p]);
         p += 1;
     }
@@ -67,12 +68,12 @@ fn keep_tokens(w: &mut [u32; Machine::WORDS], marks: &mut [bool], used: &[bool])
 }
 
 // The same of the cells'.
-fn keep_cells(w: &mut [u32; Machine::WORDS], marks: &mut [bool], used: &[bool])
-    requires { ⌜ (length (now marks) ≡ 32) × (length (now used) ≡ 32) ⌝ }
+fn keep_cells(w: &mut [u32; Machine::WORDS], marks: &mut [bool], used: &[bool], end: usize)
+    requires { ⌜ (length (now marks) ≡ 32) × (length (now used) ≡ 32) × (end ≤ 32) × UnmarkedFrom (now marks) end 32 ⌝ }
     ensures { λ _. ⌜ (now (marks .exit) ≡ now (used .entry)) × ((m : Machine) → Holds (now (w .entry)) m → FreeCells m (now (marks .entry)) → Holds (now (w .exit)) (withTables (m .tokens) (restBlanked blankCell (now (used .entry)) (m .cells)) m)) ⌝ }
 {
     let mut c: usize = 0;
-    while c < Machine::CELLS {
+    while c < end {
         keep_cell(w, c, marks[c], used[c]);
         c += 1;
     }
@@ -80,25 +81,29 @@ fn keep_cells(w: &mut [u32; Machine::WORDS], marks: &mut [bool], used: &[bool])
 }
 
 // The tokens that are in use no more. The marks say which may be other than blank, and then which are in use.
-fn sweep_tokens(w: &mut [u32; Machine::WORDS], marks: &mut [bool; Machine::TOKENS])
+fn sweep_tokens(w: &mut [u32; Machine::WORDS], marks: &mut [bool; Machine::TOKENS], end: usize)
+    requires { ⌜ (end ≤ 64) × UnmarkedFrom (now marks) end 64 ⌝ }
     ensures { λ _. ⌜ ((m : Machine) → Holds (now (w .entry)) m → FreeTokens m (now (marks .entry)) → Holds (now (w .exit)) (tokensSwept m) × (now (marks .exit) ≡ tokensUsed m)) ⌝ }
 {
     let mut used = [false; Machine::TOKENS];
-    mark_tokens(w, &mut used);
-    keep_tokens(w, marks, &used);
+    mark_tokens(w, &mut used, end);
+    keep_tokens(w, marks, &used, end);
 }
 
-// The cells that these tokens reach no more.
+// The cells that these tokens, all before the end, reach no more.
 fn sweep_cells(
     w: &mut [u32; Machine::WORDS],
     tokens: &[bool; Machine::TOKENS],
     marks: &mut [bool; Machine::CELLS],
+    end: usize,
 )
-    ensures { λ _. ⌜ ((m : Machine) → Holds (now (w .entry)) m → FreeCells m (now (marks .entry)) → Holds (now (w .exit)) (cellsSwept (now (tokens .entry)) m) × (now (marks .exit) ≡ usedCells (now (tokens .entry)) (m .tokens) (m .cells))) ⌝ }
+    requires { ⌜ end ≤ 64 ⌝ }
+    ensures { λ _. ⌜ ((m : Machine) → Holds (now (w .entry)) m → BlankFrom m end → FreeCells m (now (marks .entry)) → Holds (now (w .exit)) (cellsSwept (now (tokens .entry)) m) × (now (marks .exit) ≡ usedCells (now (tokens .entry)) (m .tokens) (m .cells))) ⌝ }
 {
     let mut used = [false; Machine::CELLS];
-    mark_cells(w, tokens, &mut used);
-    keep_cells(w, marks, &used);
+    mark_cells(w, tokens, &mut used, end);
+    let last = marked_end(marks, Machine::CELLS);
+    keep_cells(w, marks, &used, last);
 }
 
 // The marks say which rows may be other than blank. Rows that are in use no more become blank, and the marks say what is in use now.
@@ -109,6 +114,7 @@ pub fn sweep(
 )
     ensures { λ _. ⌜ ((m : Machine) → Holds (now (w .entry)) m → Vacant m (now (tokens .entry)) (now (cells .entry)) → Holds (now (w .exit)) (sweep m) × (now (tokens .exit) ≡ tokensUsed (sweep m)) × (now (cells .exit) ≡ cellsUsed (sweep m))) ⌝ }
 {
-    sweep_tokens(w, tokens);
-    sweep_cells(w, tokens, cells);
+    let end = marked_end(tokens, Machine::TOKENS);
+    sweep_tokens(w, tokens, end);
+    sweep_cells(w, tokens, cells, end);
 }

@@ -1,7 +1,8 @@
 -- `sweep::keep_cells` meets its contract. The loop's invariant: the cells before `c` are kept or blank. Assumes nothing.
 use mathlib.Core.Bool.{true, false}
-use mathlib.Core.Path.{refl, subst, _∙_}
+use mathlib.Core.Path.{_≡_, refl, subst, _∙_}
 use Prim.Native.Nat.{_-_, _≤_}
+use native.Mathlib.Omega.{arith}
 use borrow.Author.Needs.{needs}
 use Rattle.model.specs.declared.record.Machine.{Machine}
 use Rattle.record.specs.Holds.{Holds}
@@ -12,10 +13,10 @@ use Rattle.sweep.proofs.sweep.keep_cells.Statement.{statement}
 use Rattle.sweep.proofs.sweep.keep_cells.Tie as tie
 
 abbrev Inv-loop : tie.InvT-loop
-Inv-loop w₀ marks used c₀ w c = (c ≤ 32) × ((m : Machine) → Holds w₀ m → FreeCells m marks → Holds w (cellsKept used m c))
+Inv-loop w₀ marks used end c₀ w c = (c ≤ end) × ((m : Machine) → Holds w₀ m → FreeCells m marks → Holds w (cellsKept used m c))
 
 abbrev μ-loop : tie.MeasureT-loop
-μ-loop w₀ marks used c₀ w c = 32 - c
+μ-loop w₀ marks used end c₀ w c = end - c
 
 loop-holds : tie.Need-loop-holds Inv-loop μ-loop
 loop-holds c = (search needs, λ m h v. subst (Holds _) (cells-first (c .before .before .args .used .now) m) h)
@@ -57,9 +58,13 @@ same-length c = search needs
 returns : tie.Need-returns Inv-loop μ-loop
 returns c =
     let l = c .before .before .before .before .before .loop in
-    let wide = c .before .before .before .before .before .before .before .before .pre .1 in (
+    let start = c .before .before .before .before .before .before .before .before in
+    let over : l .c ≡ start .args .end = search needs in (
       c .before .before .renew .ensures,
-      λ m h v. subst (Holds _) (cells-last _ m (l .c) wide (h .codes .shaped .cells) (search needs)) (l .inv .1 m h v),
+      λ m h v.
+          subst (Holds _)
+          (cells-last _ m (l .c) (start .pre .1) (h .codes .shaped .cells) (search needs) (λ i from to. v i to (start .pre .3 i (omega arith) to)))
+          (l .inv .1 m h v),
     )
 
 pub keep-cells-spec : {M : Type 1} → statement M

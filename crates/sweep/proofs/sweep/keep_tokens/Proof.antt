@@ -1,7 +1,8 @@
 -- `sweep::keep_tokens` meets its contract. The loop's invariant: the tokens before `p` are kept or blank. Assumes nothing.
 use mathlib.Core.Bool.{true, false}
-use mathlib.Core.Path.{refl, subst, _∙_}
+use mathlib.Core.Path.{_≡_, refl, subst, _∙_}
 use Prim.Native.Nat.{_-_, _≤_}
+use native.Mathlib.Omega.{arith}
 use borrow.Author.Needs.{needs}
 use Rattle.model.specs.declared.record.Machine.{Machine}
 use Rattle.record.specs.Holds.{Holds}
@@ -12,10 +13,10 @@ use Rattle.sweep.proofs.sweep.keep_tokens.Statement.{statement}
 use Rattle.sweep.proofs.sweep.keep_tokens.Tie as tie
 
 abbrev Inv-loop : tie.InvT-loop
-Inv-loop w₀ marks used p₀ w p = (p ≤ 64) × ((m : Machine) → Holds w₀ m → FreeTokens m marks → Holds w (tokensKept used m p))
+Inv-loop w₀ marks used end p₀ w p = (p ≤ end) × ((m : Machine) → Holds w₀ m → FreeTokens m marks → Holds w (tokensKept used m p))
 
 abbrev μ-loop : tie.MeasureT-loop
-μ-loop w₀ marks used p₀ w p = 64 - p
+μ-loop w₀ marks used end p₀ w p = end - p
 
 loop-holds : tie.Need-loop-holds Inv-loop μ-loop
 loop-holds c = (search needs, λ m h v. subst (Holds _) (tokens-first (c .before .before .args .used .now) m) h)
@@ -57,9 +58,13 @@ same-length c = search needs
 returns : tie.Need-returns Inv-loop μ-loop
 returns c =
     let l = c .before .before .before .before .before .loop in
-    let wide = c .before .before .before .before .before .before .before .before .pre .1 in (
+    let start = c .before .before .before .before .before .before .before .before in
+    let over : l .p ≡ start .args .end = search needs in (
       c .before .before .renew .ensures,
-      λ m h v. subst (Holds _) (tokens-last _ m (l .p) wide (h .codes .shaped .tokens) (search needs)) (l .inv .1 m h v),
+      λ m h v.
+          subst (Holds _)
+          (tokens-last _ m (l .p) (start .pre .1) (h .codes .shaped .tokens) (search needs) (λ i from to. v i to (start .pre .3 i (omega arith) to)))
+          (l .inv .1 m h v),
     )
 
 pub keep-tokens-spec : {M : Type 1} → statement M

@@ -12,6 +12,9 @@ slice-aggregate-mark-cells c = search needs
 mark-cells-requires : tie.Need-mark-cells-requires
 mark-cells-requires c κs = search needs
 
+marked-end-requires : tie.Need-marked-end-requires
+marked-end-requires c κs = search needs
+
 slice-aggregate-keep-cells : tie.Need-slice-aggregate-keep-cells
 slice-aggregate-keep-cells c = search needs
 
@@ -20,8 +23,8 @@ keep-cells-requires c κs = search needs
 
 returns : tie.Need-returns
 returns c =
-    λ m h v.
-    let used = c .before .before .before .before .before .mark-cells .ensures m (h .codes) in
+    λ m h blank v.
+    let used = c .before .before .before .before .before .before .before .before .mark-cells .ensures m (h .codes) blank in
     let done = c .keep-cells .ensures in
     (subst (Holds _) (cells-swept m _ _ used) (done .1 m h v), done .0 ∙ used)
 
@@ -31,6 +34,7 @@ sweep-cells-spec =
     (tie.spec
     slice-aggregate-mark-cells
     mark-cells-requires
+    marked-end-requires
     slice-aggregate-keep-cells
     keep-cells-requires
     returns)

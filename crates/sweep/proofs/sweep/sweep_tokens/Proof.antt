@@ -21,7 +21,8 @@ keep-tokens-requires c κs = search needs
 returns : tie.Need-returns
 returns c =
     λ m h v.
-    let used = c .before .before .before .before .before .mark-tokens .ensures m (h .codes) in
+    let none = c .before .before .before .before .before .before .before .before .pre .1 in
+    let used = c .before .before .before .before .before .mark-tokens .ensures m (h .codes) (λ i from to. v i to (none i from to)) in
     let done = c .keep-tokens .ensures in
     (subst (Holds _) (tokens-swept m _ used) (done .1 m h v), done .0 ∙ used)
 
