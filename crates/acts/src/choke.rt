@@ -11,6 +11,7 @@ use model::record::Machine;
 use model::reply::Reply;
 use model::reply::Report;
 use pruning::choke::written;
+use reach::marks::marked_end;
 use record::cell;
 use record::token;
 use sweep::sweep::sweep;
@@ -31,7 +32,8 @@ pub fn choke_cell(
     let c = wide(token::cell(w, p));
     let kind = token::value_kind(w, p);
     let value = token::value(w, p);
-    written(w, place, c - 1, kind, value);
+    let end = marked_end(tokens, Machine::TOKENS);
+    written(w, place, c - 1, kind, value, end);
     sweep(w, tokens, cells);
     plain(Reply::Done)
 }

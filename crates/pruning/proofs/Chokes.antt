@@ -5,8 +5,8 @@ use mathlib.Core.List.{List, [], _∷_, _++_, map, append-assoc, append-nil}
 use Prim.Native.Nat.{ℕ, zero, suc, _+_, _-_, _<_, _≤_}
 use native.Mathlib.Numerals.{add-one}
 use native.Mathlib.Omega.{arith}
-use lib.ListN.{length, getD, set, take, drop, length-append, List·getD-map, List·getD-append, List·getD-eq-default}
-use lib.Seq.{take-suc, take-all, length-take-le}
+use lib.ListN.{length, getD, set, take, drop, replicate, getD-replicate, length-append, List·getD-map, List·getD-append, List·getD-eq-default}
+use lib.Seq.{take-suc, take-all, append-snoc, length-take-le}
 use lib.Dec.{eqb}
 use Rattle.job.specs.Test.{filter, padded}
 use Rattle.model.specs.Machine.Blank.{blankToken, blankCell, tokenAt, cellAt}
@@ -22,6 +22,8 @@ use Rattle.model.specs.declared.token.Token.{Token}
 use Rattle.model.specs.declared.cell.Cell.{Cell}
 use Rattle.model.specs.declared.record.Machine.{Machine}
 use Rattle.job.proofs.Test.{eq-eqb, ne-eqb}
+use Rattle.model.proofs.Machine.Choke.{choke-at}
+use Rattle.model.proofs.Machine.Writes.{choked-blank}
 use Rattle.model.proofs.Keeps.Orders.{queue-is, waits-are, orders-with}
 use Rattle.record.specs.Decode.{placeFrom}
 use Rattle.record.specs.Fields.{dequeued, storeCell, setCell}
@@ -32,7 +34,9 @@ use Rattle.orders.proofs.Padded.{length-without}
 use Rattle.record.proofs.TokenRow.{put-self}
 use Rattle.orders.proofs.Retaining.{filter-one, filter-append, filter-short, filter-same}
 use Rattle.pruning.specs.Choking.{rowsChoked, reordered, ChokeFacts}
-use Rattle.sites.proofs.Tables.{Mapping, mapping-more, mapping-at, mapping-end}
+use Rattle.reach.specs.Marks.{BlankFrom}
+use Rattle.reach.proofs.Lists.{drop-next, steady}
+use Rattle.sites.proofs.Tables.{Mapping, mapping-more, mapping-at, mapping-end, map-append}
 
 -- the walk up, so many links, from the place that has a number
 abbrev pub walk : List Cell → ℕ → ℕ → ℕ → Bool
@@ -112,6 +116,39 @@ module _ (cs : List Cell) (c : ℕ) (t : Token) (b : Bool) (e : b ≡ within cs 
     unfolding chokeToken
     choke-passes en g = rw (sym e ∙ f, waits-by c k n (t .state) false ek en (λ z. absurd (Rattle.job.proofs.Test.clash {A = ⊥} z refl)) (λ _. g), chokeToken)
 
+-- a loop that writes f of each element may stop where the rest is so already
+module _ {A B : Type 0} (f : A → B) (xs : List A) (old : List B) (d : A) (e : B) (s : length old ≡ length xs) where
+  abbrev written-to : ℕ → List B
+  written-to i = map f (take i xs) ++ drop i old
+
+  written-same : (i : ℕ) → i < length xs → getD old i e ≡ f (getD xs i d) → written-to i ≡ written-to (i + 1)
+  written-same i l g =
+      let front = map f (take i xs) in
+      let more : map f (take (i + 1) xs) ≡ front ++ (f (getD xs i d) ∷ []) =
+      ap (λ n. map f (take n xs)) (add-one i) ∙ ap (map f) (take-suc xs i d l) ∙ map-append f (take i xs) (getD xs i d ∷ []) in
+      ap (_++_ front) (drop-next old i e (omega arith) ∙ ap (λ x. x ∷ drop (i + 1) old) g)
+      ∙ sym (append-snoc front (f (getD xs i d)) (drop (i + 1) old))
+      ∙ ap (λ ys. ys ++ drop (i + 1) old) (sym more)
+
+  pub mapping-rest : (i : ℕ) (out : List B) → Mapping f xs old i out → i ≤ length xs
+      → ((k : ℕ) → i ≤ k → k < length xs → getD old k e ≡ f (getD xs k d)) → out ≡ map f xs
+  mapping-rest i out o l g =
+      o .so-far
+      ∙ steady written-to i (length xs) l (λ k from to. written-same k to (g k from to))
+      ∙ mapping-end f xs old (length xs) (written-to (length xs)) (record { so-far = refl; size = s }) (omega arith)
+
+-- the marks of those whose state is of a kind
+pub kinds-rest : (m : Machine) (kind p : ℕ) (marks : List Bool) → length (m .tokens) ≡ 64 → 0 < kind → p ≤ 64 → BlankFrom m p
+    → Mapping (λ (t : Token). eqb (stateKind (t .state)) kind) (m .tokens) (replicate 64 false) p marks
+    → marks ≡ map (λ (t : Token). eqb (stateKind (t .state)) kind) (m .tokens)
+unfolding tokenAt
+kinds-rest m kind p marks l some h b o =
+    mapping-rest _ (m .tokens) (replicate 64 false) blankToken false (sym l) p marks o (omega arith)
+    (λ k from to.
+    let z : k < 64 = omega arith in
+    getD-replicate 64 k false false z
+    ∙ sym (ap (λ (t : Token). eqb (stateKind (t .state)) kind) (b k from z) ∙ ne-eqb 0 kind (λ e. absurd (omega arith))))
+
 -- the rows, one more at each turn
 module _ (c : ℕ) (m : Machine) where
   abbrev ends : Token → Token
@@ -135,6 +172,24 @@ module _ (c : ℕ) (m : Machine) where
 
   pub rows-all : (p : ℕ) → length (m .tokens) ≤ p → rows p ≡ map ends (m .tokens)
   rows-all p l = mapping-end ends (m .tokens) (m .tokens) p (rows p) (record { so-far = refl; size = refl }) l
+
+  -- from p on the tokens are blank
+  module _ (long : length (m .tokens) ≡ 64) (p : ℕ) (b : BlankFrom m p) where
+    pub rows-rest : p ≤ 64 → rowsChoked c p m ≡ rowsChoked c 64 m
+    unfolding tokenAt
+    rows-rest l =
+        ap (λ ts. withTables ts (m .cells) m)
+        (mapping-rest ends (m .tokens) (m .tokens) blankToken blankToken refl p (rows p) (record { so-far = refl; size = refl }) (omega arith)
+        (λ k from to. let e = b k from (omega arith) in sym (ap ends e ∙ choked-blank (m .cells) c ∙ sym e))
+        ∙ sym (rows-all 64 (omega arith)))
+
+    pub rows-blank : BlankFrom (rowsChoked c 64 m) p
+    unfolding withTables
+    rows-blank i from to =
+        ap (λ ts. tokenAt ts i) (rows-all 64 (omega arith))
+        ∙ choke-at (m .cells) c (m .tokens) i
+        ∙ ap ends (b i from to)
+        ∙ choked-blank (m .cells) c
 
 -- the orders of a record
 pub orders-again : {ws : List ℕ} {m : Machine} → Holds ws m → withOrders (queueOf m) (waitsOf m) m ≡ m

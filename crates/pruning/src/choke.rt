@@ -15,6 +15,7 @@ ghost use Rattle.record.specs.Fields.{dequeued};
 ghost use Rattle.record.specs.Holds.{Codes, Holds};
 ghost use Rattle.orders.specs.Retaining.{markedOf};
 ghost use Rattle.record.specs.Words.{stateKind, placeNumber, heldKind, heldNumber};
+ghost use Rattle.reach.specs.Marks.{BlankFrom};
 ghost use Rattle.pruning.specs.Choking.{rowsChoked, reordered, ChokeFacts};
 use job::wide::wide;
 use model::record::Machine;
@@ -65,23 +66,26 @@ fn choke_row(w: &mut [u32; Machine::WORDS], p: usize, c: usize)
     }
 }
 
-fn choke_rows(w: &mut [u32; Machine::WORDS], c: usize)
-    ensures { λ _. ⌜ ((m : Machine) → Holds (now (w .entry)) m → Holds (now (w .exit)) (rowsChoked c 64 m)) ⌝ }
+// What becomes of all of them: from the end on they are blank, and stay so.
+fn choke_rows(w: &mut [u32; Machine::WORDS], c: usize, end: usize)
+    requires { ⌜ end ≤ 64 ⌝ }
+    ensures { λ _. ⌜ ((m : Machine) → Holds (now (w .entry)) m → BlankFrom m end → Holds (now (w .exit)) (rowsChoked c 64 m)) ⌝ }
 {
     let mut p: usize = 0;
-    while p < Machine::TOKENS {
+    while p < end {
         choke_row(w, p, c);
         p += 1;
     }
 }
 
-// The tokens whose state is of a kind.
-fn in_state(w: &[u32; Machine::WORDS], kind: u32) -> [bool; Machine::TOKENS]
-    ensures { λ r. ⌜ ((m : Machine) → Codes (now (w .entry)) m → r ≡ map (λ (t : Token). eqb (stateKind (t .state)) kind) (m .tokens)) ⌝ }
+// The tokens whose state is of a kind that is not blank.
+fn in_state(w: &[u32; Machine::WORDS], kind: u32, end: usize) -> [bool; Machine::TOKENS]
+    requires { ⌜ (0 < kind) × (end ≤ 64) ⌝ }
+    ensures { λ r. ⌜ ((m : Machine) → Codes (now (w .entry)) m → BlankFrom m end → r ≡ map (λ (t : Token). eqb (stateKind (t .state)) kind) (m .tokens)) ⌝ }
 {
     let mut marks = [false; Machine::TOKENS];
     let mut p: usize = 0;
-    while p < Machine::TOKENS {
+    while p < end {
         marks[p] = token::state(w, p) == kind;
         p += 1;
     }
@@ -114,23 +118,31 @@ fn wake(w: &mut [u32; Machine::WORDS], ready: &[bool; Machine::TOKENS])
 }
 
 // The queue keeps the tokens that are still ready and takes those that waited; the wait order keeps those that still wait.
-fn reorder(w: &mut [u32; Machine::WORDS])
-    ensures { λ _. ⌜ ((m : Machine) → Holds (now (w .entry)) m → m .queued + m .waiting ≤ 64 → Holds (now (w .exit)) (reordered m)) ⌝ }
+fn reorder(w: &mut [u32; Machine::WORDS], end: usize)
+    requires { ⌜ end ≤ 64 ⌝ }
+    ensures { λ _. ⌜ ((m : Machine) → Holds (now (w .entry)) m → BlankFrom m end → m .queued + m .waiting ≤ 64 → Holds (now (w .exit)) (reordered m)) ⌝ }
 {
-    let ready = in_state(w, READY_STATE);
-    let waiting = in_state(w, WAITING_STATE);
+    let ready = in_state(w, READY_STATE, end);
+    let waiting = in_state(w, WAITING_STATE, end);
     order::retain_queue(w, &ready);
     wake(w, &ready);
     order::retain_waits(w, &waiting);
 }
 
-// "Set the cell; all tokens of it and of its descendants end; waiters become ready, longest wait first."
-pub fn written(w: &mut [u32; Machine::WORDS], place: usize, c: usize, kind: u32, number: u32)
-    requires { ⌜ c < 32 ⌝ }
-    ensures { λ _. ⌜ ((m : Machine) (v : Held) → Holds (now (w .entry)) m → ChokeFacts m place → heldKind v ≡ kind → heldNumber v ≡ number → Holds (now (w .exit)) (afterChoke c v (dequeued m place))) ⌝ }
+// "Set the cell; all tokens of it and of its descendants end; waiters become ready, longest wait first." From the end on no token is in use.
+pub fn written(
+    w: &mut [u32; Machine::WORDS],
+    place: usize,
+    c: usize,
+    kind: u32,
+    number: u32,
+    end: usize,
+)
+    requires { ⌜ (c < 32) × (end ≤ 64) ⌝ }
+    ensures { λ _. ⌜ ((m : Machine) (v : Held) → Holds (now (w .entry)) m → BlankFrom m end → ChokeFacts m place → heldKind v ≡ kind → heldNumber v ≡ number → Holds (now (w .exit)) (afterChoke c v (dequeued m place))) ⌝ }
 {
     order::leave(w, place);
-    choke_rows(w, c);
+    choke_rows(w, c, end);
     cell::set_value(w, c, kind, number);
-    reorder(w);
+    reorder(w, end);
 }

@@ -1,5 +1,5 @@
 -- `choke::choke_cell` meets its contract: each way out is how the definition's step ends there. Assumes nothing.
-use Rattle.acts.proofs.Vacancy.{choke-vacant}
+use Rattle.acts.proofs.Vacancy.{free-token, choke-vacant}
 use Rattle.acts.proofs.Ending.{choke-cell}
 use Rattle.acts.proofs.Instructions.{choke-step}
 use Rattle.acts.proofs.Outcomes.{token-inside, gives-swept}
@@ -24,11 +24,20 @@ value-kind-requires c κs = token-inside (c .before .before .before .before .pre
 value-requires : tie.Need-value-requires
 value-requires c κs = token-inside (c .before .before .before .before .before .before .pre .is .taking)
 
+marked-end-requires : tie.Need-marked-end-requires
+marked-end-requires c κs = search needs
+
 sub-written : tie.Need-sub-written
-sub-written c = let k = choke-cell _ _ _ _ _ (c .before .before .before .before .before .before .before .before .pre .is) (c .before .before .before .before .before .wide .ensures ∙ c .before .before .before .before .before .before .cell .ensures _ (c .before .before .before .before .before .before .before .before .pre .is .taking .lawful .holds .codes)) in omega (arith, k .0)
+sub-written c =
+    let acting = c .before .before .before .before .before .before .before .before .before .before .before .pre .is in
+    let k = choke-cell _ _ _ _ _ acting (c .before .before .before .before .before .before .before .before .wide .ensures ∙ c .before .before .before .before .before .before .before .before .before .cell .ensures _ (acting .taking .lawful .holds .codes)) in
+    omega (arith, k .0)
 
 written-requires : tie.Need-written-requires
-written-requires c κs = choke-cell _ _ _ _ _ (c .before .before .before .before .before .before .before .before .pre .is) (c .before .before .before .before .before .wide .ensures ∙ c .before .before .before .before .before .before .cell .ensures _ (c .before .before .before .before .before .before .before .before .pre .is .taking .lawful .holds .codes)) .1
+written-requires c κs =
+    let acting = c .before .before .before .before .before .before .before .before .before .before .before .pre .is in
+    let k = choke-cell _ _ _ _ _ acting (c .before .before .before .before .before .before .before .before .wide .ensures ∙ c .before .before .before .before .before .before .before .before .before .cell .ensures _ (acting .taking .lawful .holds .codes)) in
+    (k .1, c .before .marked-end .ensures .0)
 
 sweep-requires : tie.Need-sweep-requires
 sweep-requires c κs = search needs
@@ -38,13 +47,14 @@ plain-requires c κs = search needs
 
 returns : tie.Need-returns
 returns c = λ m a.
-    let codes = a .taking .lawful .holds .codes in
-    let k = choke-cell _ _ _ _ m a (c .before .before .before .before .before .before .before .before .before .before .before .wide .ensures ∙ c .before .before .before .before .before .before .before .before .before .before .before .before .cell .ensures m codes) in
-    let v = tokenAt (m .tokens) (c .before .before .before .before .before .before .before .before .before .before .before .before .before .before .args .p) .value in
+    let holds = a .taking .lawful .holds in
+    let k = choke-cell _ _ _ _ m a (c .before .before .before .before .before .before .before .before .before .before .before .before .before .before .wide .ensures ∙ c .before .before .before .before .before .before .before .before .before .before .before .before .before .before .before .cell .ensures m (holds .codes)) in
+    let v = tokenAt (m .tokens) (c .before .before .before .before .before .before .before .before .before .before .before .before .before .before .before .before .before .args .p) .value in
+    let none = c .before .before .before .before .before .before .before .marked-end .ensures .1 in
     gives-swept _ replies.Done _ (choke-step _ _ _ _ m _ (k .2) a) (c .plain .ensures)
     (c .before .sweep .ensures _
-    (c .before .before .before .before .before .written .ensures m v (a .taking .lawful .holds) (record { queued = a .taking .queued; room = room _ m (a .taking .lawful .rules) })
-    (sym (c .before .before .before .before .before .before .before .before .before .value-kind .ensures m codes)) (sym (c .before .before .before .before .before .before .before .value .ensures m codes))) (choke-vacant (a .taking) _ v (k .2)))
+    (c .before .before .before .before .before .written .ensures m v holds (λ i from to. free-token (a .taking .lawful) i (none i from to)) (record { queued = a .taking .queued; room = room _ m (a .taking .lawful .rules) })
+    (sym (c .before .before .before .before .before .before .before .before .before .before .before .before .value-kind .ensures m (holds .codes))) (sym (c .before .before .before .before .before .before .before .before .before .before .value .ensures m (holds .codes)))) (choke-vacant (a .taking) _ v (k .2)))
 
 pub choke-cell-spec : {M : Type 1} → statement M
 choke-cell-spec =
@@ -54,6 +64,7 @@ choke-cell-spec =
     wide-requires
     value-kind-requires
     value-requires
+    marked-end-requires
     sub-written
     written-requires
     sweep-requires

@@ -1,6 +1,6 @@
--- After p turns the first p marks are the tests of the first p tokens. Assumes nothing.
+-- After p turns the first p marks are the tests of the first p tokens; no mark is there of a blank one. Assumes nothing.
 use mathlib.Core.Bool.{false}
-use mathlib.Core.Path.{sym, ap}
+use mathlib.Core.Path.{_≡_, sym, ap}
 use borrow.Author.Needs.{needs}
 use native.Mathlib.Omega.{arith}
 use Prim.Native.Nat.{_≤_, _-_}
@@ -11,15 +11,16 @@ use Rattle.model.specs.declared.record.Machine.{Machine}
 use Rattle.model.specs.declared.token.Token.{Token}
 use Rattle.record.specs.Words.{stateKind}
 use Rattle.record.specs.Holds.{Codes}
-use Rattle.sites.proofs.Tables.{Mapping, mapping-none, mapping-more, mapping-end}
+use Rattle.sites.proofs.Tables.{Mapping, mapping-none, mapping-more}
+use Rattle.pruning.proofs.Chokes.{kinds-rest}
 use Rattle.pruning.proofs.choke.in_state.Statement.{statement}
 use Rattle.pruning.proofs.choke.in_state.Tie as tie
 
 abbrev Inv-loop : tie.InvT-loop
-Inv-loop w kind marks₀ p₀ marks p = (p ≤ 64) × ((m : Machine) → Codes w m → Mapping (λ (t : Token). eqb (stateKind (t .state)) kind) (m .tokens) (replicate 64 false) p marks)
+Inv-loop w kind end marks₀ p₀ marks p = (p ≤ end) × ((m : Machine) → Codes w m → Mapping (λ (t : Token). eqb (stateKind (t .state)) kind) (m .tokens) (replicate 64 false) p marks)
 
 abbrev μ-loop : tie.MeasureT-loop
-μ-loop w kind marks₀ p₀ marks p = 64 - p
+μ-loop w kind end marks₀ p₀ marks p = end - p
 
 loop-holds : tie.Need-loop-holds Inv-loop μ-loop
 loop-holds c = (search needs, λ m h. mapping-none _ (m .tokens) _ (sym (h .shaped .tokens)))
@@ -41,7 +42,12 @@ unfolding tokenAt
 loop-again c = (search needs, λ m h. mapping-more _ (m .tokens) _ _ _ _ blankToken (c .before .before .loop .inv .1 m h) (omega (arith, h .shaped .tokens)) (ap (λ n. eqb n (c .before .before .before .args .kind)) (c .state .ensures m h)))
 
 returns : tie.Need-returns Inv-loop μ-loop
-returns c = λ m h. mapping-end _ (m .tokens) _ _ _ (c .before .loop .inv .1 m h) (omega (arith, h .shaped .tokens))
+returns c =
+    λ m h blank.
+    let l = c .before .loop in
+    let start = c .before .before in
+    let over : l .p ≡ start .args .end = omega arith in
+    kinds-rest m (start .args .kind) (l .p) _ (h .shaped .tokens) (start .pre .0) (omega arith) (λ i from. blank i (omega arith)) (l .inv .1 m h)
 
 pub in-state-spec : {M : Type 1} → statement M
 in-state-spec =

@@ -22,12 +22,12 @@ retain-waits-requires : tie.Need-retain-waits-requires
 retain-waits-requires c κs = search needs
 
 returns : tie.Need-returns
-returns c = λ m h l.
+returns c = λ m h blank l.
     let ready = c .before .before .before .before .before .before .before .before .before .before .before .in-state .result in
     let waiting = c .before .before .before .before .before .before .before .before .before .in-state2 .result in
     let one = c .before .before .before .before .before .before .retain-queue .ensures m h in
     let two = c .before .before .before .wake .ensures (first m ready) one (first-room h ready l) in
-    subst (Holds _) (reorder-is m ready waiting (c .before .before .before .before .before .before .before .before .before .before .before .in-state .ensures m (h .codes)) (c .before .before .before .before .before .before .before .before .before .in-state2 .ensures m (h .codes))) (c .retain-waits .ensures (second m ready) two)
+    subst (Holds _) (reorder-is m ready waiting (c .before .before .before .before .before .before .before .before .before .before .before .in-state .ensures m (h .codes) blank) (c .before .before .before .before .before .before .before .before .before .in-state2 .ensures m (h .codes) blank)) (c .retain-waits .ensures (second m ready) two)
 
 pub reorder-spec : {M : Type 1} → statement M
 reorder-spec =
