@@ -12,7 +12,7 @@ use crate::mark::mark_held;
 use model::record::Machine;
 
 // No mark is left.
-fn clear(marks: &mut [bool], size: usize)
+pub fn clear(marks: &mut [bool], size: usize)
     requires { ⌜ length (now marks) ≡ size ⌝ }
     ensures { λ _. ⌜ now (marks .exit) ≡ replicate size false ⌝ }
 {

@@ -4,17 +4,19 @@ use mathlib.Core.Bool.{Bool, true, false}
 use mathlib.Core.List.{List, []}
 use Prim.Native.Nat.{ℕ, _<_, _≤_}
 use native.Mathlib.Omega.{arith}
-use lib.ListN.{length, getD, replicate}
+use lib.ListN.{length, getD, set, replicate}
 use lib.IntN.{ℤ}
 use Rattle.job.specs.Test.{padded}
 use Rattle.job.specs.Words.{dagOf}
+use Rattle.model.specs.Machine.Active.{upward, underSet, isActive}
 use Rattle.model.specs.Machine.Answer as Answer
 use Rattle.model.specs.Machine.Answer.{holder}
 use Rattle.model.specs.Machine.Blank.{blankToken, isPlace, tokenAt}
-use Rattle.model.specs.Machine.InUse.{tokensUsed, cellsUsed}
+use Rattle.model.specs.Machine.InUse.{markChain, markFromEach, reached, activePlaces, boundCell, cellsOf, cellsOfMarked, usedTokens, usedCells, tokensUsed, cellsUsed}
 use Rattle.model.specs.Machine.Limits.{paper}
 use Rattle.model.specs.Machine.Reply.{outcome, unless}
 use Rattle.model.specs.Machine.Start.{startToken, startMachine}
+use Rattle.model.specs.Machine.State.{isLive}
 use Rattle.model.specs.Machine.Step.{queueOf, waitsOf}
 use Rattle.model.specs.declared.record.Machine.{Machine}
 use Rattle.model.specs.declared.reply.Report.{Report}
@@ -112,3 +114,12 @@ start-holds goal e =
           };
       ordered = record { queue = refl; queued = refl; waits = refl; waiting = refl };
     }
+
+-- the marks of a start: one token is in use, and no cell
+pub start-tokens : (goal : ℕ) → set (replicate 64 false) 0 true ≡ tokensUsed (startMachine paper goal)
+unfolding usedTokens reached markFromEach markChain activePlaces isActive isLive underSet upward
+start-tokens goal = refl
+
+pub start-cells : (goal : ℕ) → replicate 32 false ≡ cellsUsed (startMachine paper goal)
+unfolding usedTokens usedCells reached markFromEach markChain activePlaces isActive isLive underSet upward cellsOfMarked cellsOf boundCell
+start-cells goal = refl

@@ -6,6 +6,7 @@ ghost use Rattle.record.specs.Holds.{Holds};
 ghost use Rattle.acts.specs.Acting.{Marks};
 use job::dag::WORDS;
 use model::record::Machine;
+use reach::marks::clear;
 
 // The words of a start, and its marks: one token is in use, and no cell.
 pub fn start(
@@ -17,5 +18,7 @@ pub fn start(
     ensures { λ _. ⌜ Holds (now (w .exit)) (startMachine paper goal) × Marks (now (tokens .exit)) (now (cells .exit)) (startMachine paper goal) ⌝ }
 {
     record::start::start(w, goal);
-    reach::used::in_use(w, tokens, cells);
+    clear(tokens, Machine::TOKENS);
+    clear(cells, Machine::CELLS);
+    tokens[0] = true;
 }
