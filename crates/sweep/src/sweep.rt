@@ -102,8 +102,8 @@ fn sweep_cells(
 {
     let mut used = [false; Machine::CELLS];
     mark_cells(w, tokens, &mut used, end);
-    let last = marked_end(marks, Machine::CELLS);
-    keep_cells(w, marks, &used, last);
+    let cells_end = marked_end(marks, Machine::CELLS);
+    keep_cells(w, marks, &used, cells_end);
 }
 
 // The marks say which rows may be other than blank. Rows that are in use no more become blank, and the marks say what is in use now.
