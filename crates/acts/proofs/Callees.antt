@@ -8,7 +8,7 @@ use Prim.Native.Nat.{ℕ, _<_}
 use native.Mathlib.Decide.{ℕ-discrete, decLt}
 use native.Mathlib.Omega.{arith}
 use lib.IntN.{ℤ}
-use lib.ListN.{length, getD, set, length-set, List·getD-eq-default}
+use lib.ListN.{length, getD, set, replicate, length-set, List·getD-eq-default}
 use lib.Seq.{getD-set-same, getD-set-other}
 use Rattle.model.specs.Machine.Blank.{blankToken, tokenAt}
 use Rattle.model.specs.Machine.InUse.{tokensUsed, sweep}
@@ -21,10 +21,12 @@ use Rattle.model.specs.declared.token.Place.{Place}
 use Rattle.model.specs.declared.token.Place.the-variants as places
 use Rattle.model.specs.declared.token.Token.{Token}
 use Rattle.job.proofs.Test.{clash}
+use Rattle.model.proofs.Keeps.Facts.{blank-at}
 use Rattle.model.proofs.Machine.InUse.{token-outside}
 use Rattle.model.proofs.Machine.Kept.{kept-marked, kept-free}
 use Rattle.model.proofs.Sees.Others.{token-same, token-other}
 use Rattle.model.proofs.Keeps.Clean.{tokensOf}
+use Rattle.acts.specs.Acting.{Lawful}
 use Rattle.acts.specs.Callees.{NamesAsCaller, OneCallee, callerShared, returnShared}
 
 pub nowhere-at : (f : ℕ) → places.Nowhere ≡ places.At f → ⊥
@@ -118,3 +120,7 @@ module _ (s : List Bool) (m n : Machine) (same : n .tokens ≡ m .tokens) (p : �
 
   pub blank-callees : NoNewCallee s m (put p blankToken n)
   blank-callees = put-callees blankToken (λ f e. absurd (nowhere-at f e))
+
+-- where every place is marked nothing is asked
+pub all-shared : {ws dag : List ℕ} {used cells : List Bool} {m : Machine} → Lawful ws used cells dag m → OneCallee (replicate 64 true) m
+all-shared l f i j e a b = clash (blank-at 64 f true) e

@@ -15,6 +15,8 @@ use Rattle.model.specs.declared.record.Machine.{Machine}
 use Rattle.model.specs.declared.reply.Outcome.{Outcome}
 use Rattle.record.specs.Holds.{Codes, Holds}
 use Rattle.acts.specs.Acting.{SomeMachine, Lawful, Marks}
+use Rattle.acts.specs.Callees.{OneCallee}
+use Rattle.acts.proofs.CalleeSteps.{start-callees}
 use Rattle.house.specs.Accepted.{Accepted}
 use Rattle.house.specs.Turned.{Turned}
 use Rattle.house.specs.declared.turn.TurnEnd.{TurnEnd}
@@ -36,27 +38,32 @@ lawful-start {ws} {used} {cells} dag A l s =
       size = l;
     }
 
+pub started-callees : (shared : List Bool) (dag : List ℕ) → Accepted dag → OneCallee shared (Start.start paper (dagOf dag) .machine)
+started-callees shared dag A = subst (λ (m : Machine). OneCallee shared m) (started dag A) (start-callees shared _)
+
 module _ (dag rest before : List ℕ) (from : ℕ) where
-  pub record Lent (ws : List ℕ) (used cells : List Bool) (steps at total : ℕ) (output : List ℕ) : Type 0 where
+  pub record Lent (ws : List ℕ) (used cells shared : List Bool) (steps at total : ℕ) (output : List ℕ) : Type 0 where
     pub machine : Machine
     pub going : Going dag rest before from machine steps at total output
     pub lawful : Lawful ws used cells dag machine
+    pub callees : OneCallee shared machine
 
-  pub lent-begins : {ws : List ℕ} {used cells : List Bool}
+  pub lent-begins : (shared : List Bool) {ws : List ℕ} {used cells : List Bool}
       → Accepted dag × (length rest ≤ 65536) × Lawful ws used cells dag (Start.start paper (dagOf dag) .machine)
-      → Lent ws used cells 0 0 0 before
-  lent-begins s =
+      → OneCallee shared (Start.start paper (dagOf dag) .machine) → Lent ws used cells shared 0 0 0 before
+  lent-begins shared s one =
       record {
         machine = Start.start paper (dagOf dag) .machine;
         going = going-begins dag rest before from (s .0) _ (s .1) refl;
         lawful = s .2;
+        callees = one;
       }
 
   abbrev Whole : List ℕ → ℕ → Type 0
   Whole after n = ShowsBytes before from 0 (textOfAll (runLines paper 100000 (dagOf dag) rest)) after n
 
   -- each turn, by the tests that lead to it: `queued` is the count that the code has read
-  module _ {ws : List ℕ} {used cells : List Bool} {steps at total : ℕ} {output : List ℕ} (L : Lent ws used cells steps at total output)
+  module _ {ws : List ℕ} {used cells shared : List Bool} {steps at total : ℕ} {output : List ℕ} (L : Lent ws used cells shared steps at total output)
       (word queued : ℕ) (reads : (m : Machine) → Codes ws m → word ≡ m .queued) (wide : queued ≡ word)
       (l : Bool) (last : l ≡ isLast queued (length rest - at)) where
     queued-is : queued ≡ L .machine .queued
@@ -88,11 +95,11 @@ module _ (dag rest before : List ℕ) (from : ℕ) where
             → Whole after n
         lent-limit t s = going-limit dag rest before from (L .going) l last-of more k limit-of t s
 
-        module _ (free : k ≡ false) {ws′ output′ : List ℕ} {used′ cells′ : List Bool} (r : TurnEnd)
-            (gives : (m : Machine) → Turning ws used cells dag rest at m
-            → Turned (turnOutcome (dagOf dag) m rest at) m ws′ used′ cells′ output from total output′ r) where
-          given : Turned turned (L .machine) ws′ used′ cells′ output from total output′ r
-          given = gives (L .machine) turning
+        module _ (free : k ≡ false) {ws′ output′ : List ℕ} {used′ cells′ shared′ : List Bool} (r : TurnEnd)
+            (gives : (m : Machine) → Turning ws used cells dag rest at m → OneCallee shared m
+                → Turned (turnOutcome (dagOf dag) m rest at) m ws′ used′ cells′ shared′ output from total output′ r) where
+          given : Turned turned (L .machine) ws′ used′ cells′ shared′ output from total output′ r
+          given = gives (L .machine) turning (L .callees)
 
           pub lent-few : r .total ≤ total + 80
           lent-few = given .few
@@ -113,7 +120,7 @@ module _ (dag rest before : List ℕ) (from : ℕ) where
                 going-less dag rest before from (L .going) l last-of more k limit-of free turned refl (r .over) (given .over) on-if
                 steps′ at′ to-of behind-of
 
-            pub lent-turns : Lent ws′ used′ cells′ steps′ at′ (r .total) output′
+            pub lent-turns : Lent ws′ used′ cells′ shared′ steps′ at′ (r .total) output′
             lent-turns =
                 let next =
                 going-turns dag rest before from (L .going) l last-of more k limit-of free turned refl (r .over) (given .over) on-if
@@ -128,4 +135,5 @@ module _ (dag rest before : List ℕ) (from : ℕ) where
                         marks = given .marks (reached-framed dag (L .going .accepted) (L .going .reached));
                         size = L .lawful .size;
                       };
+                  callees = given .callees (reached-framed dag (L .going .accepted) (L .going .reached));
                 }

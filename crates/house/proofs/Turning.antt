@@ -14,7 +14,7 @@ use Rattle.model.specs.declared.reply.Reply.{Reply}
 use Rattle.model.specs.declared.reply.Reply.the-variants as replies
 use Rattle.model.specs.declared.reply.Report.{Report}
 use Rattle.record.specs.Holds.{Codes}
-use Rattle.acts.specs.Acting.{Gives}
+use Rattle.acts.specs.Callees.{Stepped}
 use Rattle.lines.specs.Shown.{ShowsBytes}
 use Rattle.lines.proofs.Showing.{shows-as}
 use Rattle.turns.specs.Turn.{hasLine, isOver, Turning}
@@ -29,17 +29,18 @@ silent (replies.Published v) vs e = clash refl e
 silent (replies.Called h s n) vs e = clash refl e
 silent (replies.Refused x) vs e = clash refl e
 
-module _ {o : Outcome} {m : Machine} {ws : List ℕ} {used cells : List Bool} {p : Report} (g : Gives o m ws used cells p) {before after : List ℕ}
+module _ {o : Outcome} {m : Machine} {ws : List ℕ} {used cells shared : List Bool} {p : Report} (g : Stepped o m ws used cells shared p) {before after : List ℕ}
     {from total n : ℕ} {over : Bool} (ends : over ≡ isOver (m .queued) (p .reply)) where
   pub turned-shows : ShowsBytes before from total (textOfAll (reportedLines (reported (p .reply) (p .values)))) after n → n ≤ total + 80
-      → Turned o m ws used cells before from total after (record { total = n; over = over })
+      → Turned o m ws used cells shared before from total after (record { total = n; over = over })
   turned-shows s few =
       record {
-        holds = g .holds;
-        marks = g .marks;
-        lines = shows-as (ap₂ (λ (r : Reply) (vs : List ℤ). textOfAll (reportedLines (reported r vs))) (g .reply) (g .values)) s;
+        holds = g .gives .holds;
+        marks = g .gives .marks;
+        callees = g .callees;
+        lines = shows-as (ap₂ (λ (r : Reply) (vs : List ℤ). textOfAll (reportedLines (reported r vs))) (g .gives .reply) (g .gives .values)) s;
         few = few;
-        over = ends ∙ ap (isOver (m .queued)) (g .reply);
+        over = ends ∙ ap (isOver (m .queued)) (g .gives .reply);
       }
 
 -- the queue's count, as the code has read it

@@ -10,6 +10,7 @@ use Rattle.model.specs.declared.record.Machine.{Machine}
 use Rattle.model.specs.declared.reply.Outcome.{Outcome}
 use Rattle.record.specs.Holds.{Holds}
 use Rattle.acts.specs.Acting.{Marks, CallersAreFrames}
+use Rattle.acts.specs.Callees.{OneCallee}
 use Rattle.lines.specs.Shown.{ShowsBytes}
 use Rattle.turns.specs.Turn.{isOver}
 use Rattle.house.specs.declared.turn.TurnEnd.{TurnEnd}
@@ -18,10 +19,11 @@ use Rattle.house.specs.declared.turn.TurnEnd.{TurnEnd}
 abbrev pub linesFrom : Outcome → List Line
 linesFrom o = reportedLines (reported (o .reply) (o .values))
 
-pub record Turned (o : Outcome) (m : Machine) (ws : List ℕ) (used usedCells : List Bool) (output : List ℕ) (from total : ℕ) (after : List ℕ) (r : TurnEnd)
+pub record Turned (o : Outcome) (m : Machine) (ws : List ℕ) (used usedCells shared : List Bool) (output : List ℕ) (from total : ℕ) (after : List ℕ) (r : TurnEnd)
     : Type 0 where
   pub holds : Holds ws (o .machine)
   pub marks : CallersAreFrames m → Marks used usedCells (o .machine)
+  pub callees : CallersAreFrames m → OneCallee shared (o .machine)
   pub lines : ShowsBytes output from total (textOfAll (linesFrom o)) after (r .total)
   pub few : r .total ≤ total + 80
   pub over : r .over ≡ isOver (m .queued) (o .reply)

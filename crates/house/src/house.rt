@@ -9,6 +9,7 @@ ghost use Rattle.model.specs.Output.Orcrun.{runLines};
 ghost use Rattle.model.specs.Machine.Limits.{paper};
 ghost use Rattle.model.specs.Machine.Start as Start;
 ghost use Rattle.acts.specs.Acting.{Lawful};
+ghost use Rattle.acts.specs.Callees.{OneCallee};
 ghost use Rattle.lines.specs.Shown.{ShowsBytes};
 ghost use Rattle.house.specs.Accepted.{Accepted};
 use crate::turn::turn;
@@ -37,12 +38,14 @@ fn run_turns(
     w: &mut [u32; Machine::WORDS],
     tokens: &mut [bool; Machine::TOKENS],
     cells: &mut [bool; Machine::CELLS],
+    shared: &mut [bool; Machine::TOKENS],
     rest: &[u8],
     dag: &[u32; WORDS],
     output: &mut [u8],
     from: usize,
 ) -> usize
     requires { ⌜ Accepted (now dag) × (length (now rest) ≤ 65536) × Lawful (now w) (now tokens) (now cells) (now dag) (Start.start paper (dagOf (now dag)) .machine) ⌝ }
+    requires { ⌜ OneCallee (now shared) (Start.start paper (dagOf (now dag)) .machine) ⌝ }
     ensures { λ r. ⌜ ShowsBytes (now (output .entry)) from 0 (textOfAll (runLines paper 100000 (dagOf (now (dag .entry))) (now (rest .entry)))) (now (output .exit)) r ⌝ }
 {
     let mut steps: u32 = 0;
@@ -57,7 +60,9 @@ fn run_turns(
         if is_limit(queued, steps) {
             return show_limit(steps, output, from, total);
         }
-        let turned = turn(w, tokens, cells, dag, rest, at, output, from, total);
+        let turned = turn(
+            w, tokens, cells, shared, dag, rest, at, output, from, total,
+        );
         total = turned.total;
         if turned.over {
             return show_end(steps, output, from, total);
@@ -75,6 +80,16 @@ pub fn run(rest: &[u8], dag: &[u32; WORDS], output: &mut [u8], from: usize) -> u
     let mut words = [0u32; Machine::WORDS];
     let mut tokens = [false; Machine::TOKENS];
     let mut cells = [false; Machine::CELLS];
+    let mut shared = [false; Machine::TOKENS];
     start(&mut words, &mut tokens, &mut cells, dag[GOAL]);
-    run_turns(&mut words, &mut tokens, &mut cells, rest, dag, output, from)
+    run_turns(
+        &mut words,
+        &mut tokens,
+        &mut cells,
+        &mut shared,
+        rest,
+        dag,
+        output,
+        from,
+    )
 }

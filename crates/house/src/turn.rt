@@ -4,6 +4,7 @@ ghost use Prim.Native.Nat.{_+_, _≤_};
 ghost use Rattle.job.specs.Words.{dagOf};
 ghost use Rattle.model.specs.declared.record.Machine.{Machine};
 ghost use Rattle.acts.specs.Acting.{SomeMachine};
+ghost use Rattle.acts.specs.Callees.{OneCallee};
 ghost use Rattle.turns.specs.Turn.{Turning, turnOutcome};
 ghost use Rattle.house.specs.Turned.{Turned};
 use job::dag::WORDS;
@@ -26,6 +27,7 @@ pub fn turn(
     w: &mut [u32; Machine::WORDS],
     tokens: &mut [bool; Machine::TOKENS],
     cells: &mut [bool; Machine::CELLS],
+    shared: &mut [bool; Machine::TOKENS],
     dag: &[u32; WORDS],
     rest: &[u8],
     at: usize,
@@ -35,8 +37,9 @@ pub fn turn(
 ) -> TurnEnd
     requires { ⌜ SomeMachine (Turning (now w) (now tokens) (now cells) (now dag) (now rest) at) × (total + 80 ≤ 1000000000) ⌝ }
     ensures { λ r. ⌜ ((m : Machine) → Turning (now (w .entry)) (now (tokens .entry)) (now (cells .entry)) (now (dag .entry)) (now (rest .entry)) at m
+        → OneCallee (now (shared .entry)) m
         → Turned (turnOutcome (dagOf (now (dag .entry))) m (now (rest .entry)) at) m (now (w .exit)) (now (tokens .exit)) (now (cells .exit))
-        (now (output .entry)) from total (now (output .exit)) r) ⌝ }
+        (now (shared .exit)) (now (output .entry)) from total (now (output .exit)) r) ⌝ }
 {
     if order::queued(w) == 0 {
         let report = deliver(w, rest, at);
@@ -48,7 +51,7 @@ pub fn turn(
             over: false,
         };
     }
-    let report = step(w, tokens, cells, dag, 0);
+    let report = step(w, tokens, cells, shared, dag, 0);
     let reply = report.reply;
     if has_line(reply) {
         let values = report.values;

@@ -22,5 +22,6 @@ pub fn step(w: &mut [u32; Machine::WORDS], dag: &[u32; WORDS], place: usize) -> 
     if wide(queued(w)) <= place {
         return plain(Reply::Refused(Refusal::NoToken));
     }
-    unchecked::step::step(w, &mut tokens, &mut cells, dag, place)
+    let mut shared = [true; Machine::TOKENS];
+    unchecked::step::step(w, &mut tokens, &mut cells, &mut shared, dag, place)
 }

@@ -30,7 +30,7 @@ use Rattle.model.proofs.Sees.Others.{token-other}
 use Rattle.demand3.proofs.Returned.{Returns}
 use Rattle.record.specs.Fields.{dequeued}
 use Rattle.acts.specs.Acting.{Acting}
-use Rattle.acts.specs.Callees.{NamesAsCaller, OneCallee, callerShared, returnShared}
+use Rattle.acts.specs.Callees.{NamesAsCaller, OneCallee, Alone, callerShared, returnShared}
 use Rattle.acts.proofs.Callees.{unshared, blank-names, callees-kept, swept-callees, swept-names, put-names}
 use Rattle.acts.proofs.Instructions.{return-step}
 use Rattle.returns.proofs.Returning.{returns}
@@ -57,6 +57,42 @@ module _ {ws dag : List ℕ} {used cells : List Bool} {place p at : ℕ} {m : Ma
   unfolding After enqueue withOrders withState withValue
   names-after g i e = put-names (dequeued m place) p written g i e
 
+  module _ (alone : Alone m p) where
+    -- no other token named the frame, so none does
+    pub nobody : (i : ℕ) → NamesAsCaller after f i → ⊥
+    unfolding After
+    nobody i e = go (names-after f i e)
+      where
+        go : ((i ≡ p) × NamesAsCaller m f f) ⊎ ((i ≡ p → ⊥) × NamesAsCaller m f i) → ⊥
+        go (inl w) = other (alone f f caller (w .1))
+        go (inr w) = w .0 (alone f i caller (w .1))
+
+    frame-row : tokenAt (after .tokens) f ≡ tokenAt (m .tokens) f
+    unfolding enqueue withOrders put withTables
+    frame-row = token-other (m .tokens) p f written other
+
+    NotFrame : ℕ → Type 0
+    NotFrame i = i ≡ f → ⊥
+
+    unused : Used after f → ⊥
+    unfolding NotFrame
+    unused u =
+        tokensOf after .least NotFrame
+        (λ i e q. clash (active-live (after .cells) _ e) (ap (λ k. isLive (tokenAt (after .tokens) k .state)) q ∙ (ap (λ (t : Token). isLive (t .state)) frame-row ∙ is .frame)))
+        (λ i l h j e q. nobody i (e ∙ ap places.At q))
+        f (let z = is .inside in let y = lengths in omega arith) u refl
+      where
+        lengths : length (after .tokens) ≡ length (m .tokens)
+        lengths = ap length (is .tokens) ∙ length-set (m .tokens) p written
+
+    frame-gone : tokenAt (sweep after .tokens) f ≡ blankToken
+    unfolding sweep tokenAt
+    frame-gone = go (getD (tokensUsed after) f true) refl
+      where
+        go : (b : Bool) → getD (tokensUsed after) f true ≡ b → tokenAt (sweep after .tokens) f ≡ blankToken
+        go true u = absurd (unused u)
+        go false u = kept-free blankToken (tokensUsed after) (after .tokens) f u
+
   module _ (s : List Bool) (one : OneCallee s m) where
     shared-callees : OneCallee (callerShared (tokenAt (m .tokens) f .caller) s) after
     unfolding After
@@ -70,55 +106,25 @@ module _ {ws dag : List ℕ} {used cells : List Bool} {place p at : ℕ} {m : Ma
             go (inl w) = absurd (unshared (tokenAt (m .tokens) f .caller) s g e .0 (w .1))
             go (inr w) = w .1
 
-    module _ (alone : getD s f true ≡ false) where
-      -- no other token named the frame, so none does
-      pub nobody : (i : ℕ) → NamesAsCaller after f i → ⊥
-      unfolding After
-      nobody i e = go (names-after f i e)
-        where
-          go : ((i ≡ p) × NamesAsCaller m f f) ⊎ ((i ≡ p → ⊥) × NamesAsCaller m f i) → ⊥
-          go (inl w) = other (one f f p alone (w .1) caller)
-          go (inr w) = w .0 (one f i p alone (w .1) caller)
+    alone-callees : Alone m p → OneCallee s (sweep after)
+    unfolding After
+    alone-callees alone g i j e b c = go (names-after g i (swept-names after g i b)) (names-after g j (swept-names after g j c))
+      where
+        not-frame : (k : ℕ) → NamesAsCaller (sweep after) g k → f ≡ k → ⊥
+        not-frame k d q = blank-names (sweep after) g f (frame-gone alone) (ap (λ l. tokenAt (sweep after .tokens) l .caller) q ∙ d)
 
-      frame-row : tokenAt (after .tokens) f ≡ tokenAt (m .tokens) f
-      unfolding enqueue withOrders put withTables
-      frame-row = token-other (m .tokens) p f written other
+        go : ((i ≡ p) × NamesAsCaller m g f) ⊎ ((i ≡ p → ⊥) × NamesAsCaller m g i) → ((j ≡ p) × NamesAsCaller m g f) ⊎ ((j ≡ p → ⊥) × NamesAsCaller m g j)
+            → i ≡ j
+        go (inl x) (inl y) = x .0 ∙ sym (y .0)
+        go (inl x) (inr y) = absurd (not-frame j c (one g f j e (x .1) (y .1)))
+        go (inr x) (inl y) = absurd (not-frame i b (one g f i e (y .1) (x .1)))
+        go (inr x) (inr y) = one g i j e (x .1) (y .1)
 
-      NotFrame : ℕ → Type 0
-      NotFrame i = i ≡ f → ⊥
-
-      unused : Used after f → ⊥
-      unfolding NotFrame
-      unused u =
-          tokensOf after .least NotFrame
-          (λ i e q. clash (active-live (after .cells) _ e) (ap (λ k. isLive (tokenAt (after .tokens) k .state)) q ∙ (ap (λ (t : Token). isLive (t .state)) frame-row ∙ is .frame)))
-          (λ i l h j e q. nobody i (e ∙ ap places.At q))
-          f (let z = is .inside in let y = lengths in omega arith) u refl
-        where
-          lengths : length (after .tokens) ≡ length (m .tokens)
-          lengths = ap length (is .tokens) ∙ length-set (m .tokens) p written
-
-      frame-gone : tokenAt (sweep after .tokens) f ≡ blankToken
-      unfolding sweep tokenAt
-      frame-gone = go (getD (tokensUsed after) f true) refl
-        where
-          go : (b : Bool) → getD (tokensUsed after) f true ≡ b → tokenAt (sweep after .tokens) f ≡ blankToken
-          go true u = absurd (unused u)
-          go false u = kept-free blankToken (tokensUsed after) (after .tokens) f u
-
-      alone-callees : OneCallee s (sweep after)
-      unfolding After
-      alone-callees g i j e b c = go (names-after g i (swept-names after g i b)) (names-after g j (swept-names after g j c))
-        where
-          not-frame : (k : ℕ) → NamesAsCaller (sweep after) g k → f ≡ k → ⊥
-          not-frame k d q = blank-names (sweep after) g f frame-gone (ap (λ l. tokenAt (sweep after .tokens) l .caller) q ∙ d)
-
-          go : ((i ≡ p) × NamesAsCaller m g f) ⊎ ((i ≡ p → ⊥) × NamesAsCaller m g i) → ((j ≡ p) × NamesAsCaller m g f) ⊎ ((j ≡ p → ⊥) × NamesAsCaller m g j)
-              → i ≡ j
-          go (inl x) (inl y) = x .0 ∙ sym (y .0)
-          go (inl x) (inr y) = absurd (not-frame j c (one g f j e (x .1) (y .1)))
-          go (inr x) (inl y) = absurd (not-frame i b (one g f i e (y .1) (x .1)))
-          go (inr x) (inr y) = one g i j e (x .1) (y .1)
+    pub alone-of : getD s f true ≡ false → Alone m p
+    alone-of e g i c d =
+        let w : places.At f ≡ places.At g = sym caller ∙ c in
+        let z : g ≡ f = cc in
+        one f i p e (d ∙ ap places.At z) caller
 
     pub return-keeps : OneCallee (returnShared m f s) (Step.step paper (dagOf dag) m place .machine)
     unfolding returnShared accepted
@@ -128,4 +134,4 @@ module _ {ws dag : List ℕ} {used cells : List Bool} {place p at : ℕ} {m : Ma
         go : (b : Bool) → getD s f true ≡ b
             → OneCallee (elim b [ true ↦ callerShared (tokenAt (m .tokens) f .caller) s | false ↦ s ]) (sweep after)
         go true e = swept-callees (callerShared (tokenAt (m .tokens) f .caller) s) after shared-callees
-        go false e = alone-callees e
+        go false e = alone-callees (λ g i c d. alone-of e g i c d)

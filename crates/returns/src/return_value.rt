@@ -8,6 +8,7 @@ ghost use mathlib.Core.Bool.{false};
 ghost use Prim.Native.Nat.{_<_};
 ghost use Rattle.record.specs.Holds.{Codes};
 ghost use Rattle.acts.specs.Acting.{SomeMachine, Acting, Gives};
+ghost use Rattle.acts.specs.Callees.{Alone};
 ghost use Rattle.returns.specs.Frame.{SameCells};
 use crate::frame::release;
 use acts::links::binds_cell;
@@ -33,7 +34,7 @@ fn may_lose_cell(w: &[u32; Machine::WORDS], p: usize, f: usize) -> bool
     true
 }
 
-// "A token at return names a frame."
+// "A token at return names a frame." Where it is not shared, no other token names it.
 pub fn return_value(
     w: &mut [u32; Machine::WORDS],
     tokens: &mut [bool; Machine::TOKENS],
@@ -42,9 +43,12 @@ pub fn return_value(
     place: usize,
     p: usize,
     at: usize,
+    shared: bool,
 ) -> Report
     requires { ⌜ SomeMachine (Acting (now w) (now tokens) (now cells) (now dag) place p at 8) ⌝ }
-    ensures { λ r. ⌜ ((m : Machine) → Acting (now (w .entry)) (now (tokens .entry)) (now (cells .entry)) (now (dag .entry)) place p at 8 m → Gives (Step.step paper (dagOf (now (dag .entry))) m place) m (now (w .exit)) (now (tokens .exit)) (now (cells .exit)) r) ⌝ }
+    ensures { λ r. ⌜ ((m : Machine) → Acting (now (w .entry)) (now (tokens .entry)) (now (cells .entry)) (now (dag .entry)) place p at 8 m
+        → (shared ≡ false → Alone m p)
+        → Gives (Step.step paper (dagOf (now (dag .entry))) m place) m (now (w .exit)) (now (tokens .exit)) (now (cells .exit)) r) ⌝ }
 {
     let f = wide(caller(w, p)) - 1;
     let lost = may_lose_cell(w, p, f);
@@ -53,6 +57,6 @@ pub fn return_value(
         sweep(w, tokens, cells);
         return plain(Reply::Done);
     }
-    release(w, tokens, f);
+    release(w, tokens, f, shared);
     plain(Reply::Done)
 }

@@ -16,6 +16,8 @@ use Rattle.model.specs.declared.reply.Outcome.{Outcome}
 use Rattle.model.specs.declared.reply.Report.{Report}
 use Rattle.record.specs.Holds.{Codes}
 use Rattle.acts.specs.Acting.{SomeMachine, Lawful, QueueHasToken, Gives}
+use Rattle.acts.specs.Callees.{OneCallee, Stepped}
+use Rattle.acts.proofs.CalleeSteps.{answer-keeps}
 use Rattle.turns.specs.Turn.{turnOutcome, Turning}
 use Rattle.turns.proofs.TurnCases.{turn-empty, turn-ready}
 
@@ -42,12 +44,12 @@ module _ (ws dag rest : List ℕ) (at : ℕ) (used cells : List Bool) (q : ℕ) 
     pub turn-there : SomeMachine (Turning ws used cells dag rest at) → at + 8 ≤ length rest
     turn-there s = s .is .there (sym (queued-is (s .is)) ∙ e)
 
-    pub turn-answers : (after : List ℕ) (r : Report)
+    pub turn-answers : (shared : List Bool) (after : List ℕ) (r : Report)
         → Answers ws after r (number (take 4 (drop at rest))) (signed (number (take 4 (drop (at + 4) rest))))
-        → (m : Machine) → Turning ws used cells dag rest at m → Gives (turnOutcome (dagOf dag) m rest at) m after used cells r
-    turn-answers after r gives m t =
-        subst (λ (o : Outcome). Gives o m after used cells r) (turn-empty (dagOf dag) m rest at _ (sym (queued-is t) ∙ e) refl)
-        (gives m dag used cells (t .lawful))
+        → (m : Machine) → Turning ws used cells dag rest at m → OneCallee shared m → Stepped (turnOutcome (dagOf dag) m rest at) m after used cells shared r
+    turn-answers shared after r gives m t one =
+        subst (λ (o : Outcome). Stepped o m after used cells shared r) (turn-empty (dagOf dag) m rest at _ (sym (queued-is t) ∙ e) refl)
+        (record { gives = gives m dag used cells (t .lawful); callees = λ framed. answer-keeps shared (dagOf dag) m _ _ one })
 
   -- and else the token at place 0 acts
   module _ (f : q ≡ 0 → ⊥) where
@@ -57,9 +59,11 @@ module _ (ws dag rest : List ℕ) (at : ℕ) (used cells : List Bool) (q : ℕ) 
     pub turn-some : SomeMachine (Turning ws used cells dag rest at) → SomeMachine (QueueHasToken ws used cells dag 0)
     turn-some s = record { machine = s .machine; is = ready (s .is) }
 
-    pub turn-steps : (after : List ℕ) (used′ cells′ : List Bool) (r : Report)
-        → ((m : Machine) → QueueHasToken ws used cells dag 0 m → Gives (Step.step paper (dagOf dag) m 0) m after used′ cells′ r)
-        → (m : Machine) → Turning ws used cells dag rest at m → Gives (turnOutcome (dagOf dag) m rest at) m after used′ cells′ r
-    turn-steps after used′ cells′ r gives m t =
-        subst (λ (o : Outcome). Gives o m after used′ cells′ r) (turn-ready (dagOf dag) m rest at _ (λ z. f (queued-is t ∙ z)) refl)
-        (gives m (ready t))
+    pub turn-steps : (shared shared′ : List Bool) (after : List ℕ) (used′ cells′ : List Bool) (r : Report)
+        → ((m : Machine) → QueueHasToken ws used cells dag 0 m → OneCallee shared m
+            → Stepped (Step.step paper (dagOf dag) m 0) m after used′ cells′ shared′ r)
+        → (m : Machine) → Turning ws used cells dag rest at m → OneCallee shared m
+        → Stepped (turnOutcome (dagOf dag) m rest at) m after used′ cells′ shared′ r
+    turn-steps shared shared′ after used′ cells′ r gives m t one =
+        subst (λ (o : Outcome). Stepped o m after used′ cells′ shared′ r) (turn-ready (dagOf dag) m rest at _ (λ z. f (queued-is t ∙ z)) refl)
+        (gives m (ready t) one)

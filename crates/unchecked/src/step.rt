@@ -3,7 +3,8 @@ ghost use Rattle.job.specs.Words.{dagOf};
 ghost use Rattle.model.specs.Machine.Limits.{paper};
 ghost use Rattle.model.specs.Machine.Step as Step;
 ghost use Rattle.model.specs.declared.record.Machine.{Machine};
-ghost use Rattle.acts.specs.Acting.{SomeMachine, QueueHasToken, Gives};
+ghost use Rattle.acts.specs.Acting.{SomeMachine, QueueHasToken};
+ghost use Rattle.acts.specs.Callees.{OneCallee, Stepped};
 use crate::act::act;
 use job::dag::HEAD_WORDS;
 use job::dag::ROW_WORDS;
@@ -19,13 +20,16 @@ pub fn step(
     w: &mut [u32; Machine::WORDS],
     tokens: &mut [bool; Machine::TOKENS],
     cells: &mut [bool; Machine::CELLS],
+    shared: &mut [bool; Machine::TOKENS],
     dag: &[u32; WORDS],
     place: usize,
 ) -> Report
     requires { ⌜ SomeMachine (QueueHasToken (now w) (now tokens) (now cells) (now dag) place) ⌝ }
-    ensures { λ r. ⌜ ((m : Machine) → QueueHasToken (now (w .entry)) (now (tokens .entry)) (now (cells .entry)) (now (dag .entry)) place m → Gives (Step.step paper (dagOf (now (dag .entry))) m place) m (now (w .exit)) (now (tokens .exit)) (now (cells .exit)) r) ⌝ }
+    ensures { λ r. ⌜ ((m : Machine) → QueueHasToken (now (w .entry)) (now (tokens .entry)) (now (cells .entry)) (now (dag .entry)) place m
+        → OneCallee (now (shared .entry)) m
+        → Stepped (Step.step paper (dagOf (now (dag .entry))) m place) m (now (w .exit)) (now (tokens .exit)) (now (cells .exit)) (now (shared .exit)) r) ⌝ }
 {
     let p = wide(queue_name(w, place));
     let at = HEAD_WORDS + ROW_WORDS * wide(node(w, p));
-    act(w, tokens, cells, dag, place, p, at)
+    act(w, tokens, cells, shared, dag, place, p, at)
 }

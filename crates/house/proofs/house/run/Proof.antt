@@ -1,6 +1,8 @@
 -- `house::run` meets its contract: the words and marks that it lends are those of the start. Assumes nothing.
+use mathlib.Core.Bool.{false}
 use borrow.Author.Needs.{needs}
-use Rattle.house.proofs.Lent.{lawful-start}
+use lib.ListN.{replicate}
+use Rattle.house.proofs.Lent.{lawful-start, started-callees}
 use Rattle.house.proofs.house.run.Statement.{statement}
 use Rattle.house.proofs.house.run.Tie as tie
 
@@ -14,7 +16,7 @@ start-requires : tie.Need-start-requires
 start-requires c κs = search needs
 
 run-turns-requires : tie.Need-run-turns-requires
-run-turns-requires c κs = (c .before .before .before .before .before .before .before .before .before .before .before .before .before .pre .0, c .before .before .before .before .before .before .before .before .before .before .before .before .before .pre .1, lawful-start _ (c .before .before .before .before .before .before .before .before .before .before .before .before .before .pre .0) (c .before .before .before .before .before .before .before .before .before .whole .ensures) (c .before .before .before .before .start .ensures))
+run-turns-requires c κs = (((c .before .before .before .before .before .before .before .before .before .before .before .before .before .before .pre .0), (c .before .before .before .before .before .before .before .before .before .before .before .before .before .before .pre .1), lawful-start _ (c .before .before .before .before .before .before .before .before .before .before .before .before .before .before .pre .0) (c .before .before .before .before .before .before .before .before .before .before .whole .ensures) (c .before .before .before .before .before .start .ensures)), started-callees (replicate 64 false) _ (c .before .before .before .before .before .before .before .before .before .before .before .before .before .before .pre .0))
 
 same-length : tie.Need-same-length
 same-length c = search needs

@@ -9,14 +9,14 @@ use Rattle.house.proofs.house.run_turns.Statement.{statement}
 use Rattle.house.proofs.house.run_turns.Tie as tie
 
 abbrev Inv-loop : tie.InvT-loop
-Inv-loop w₀ tokens₀ cells₀ rest dag output₀ from steps₀ at₀ total₀ w tokens cells output steps at total =
-    Lent dag rest output₀ from w tokens cells steps at total output × (length output ≡ length output₀)
+Inv-loop w₀ tokens₀ cells₀ shared₀ rest dag output₀ from steps₀ at₀ total₀ w tokens cells shared output steps at total =
+    Lent dag rest output₀ from w tokens cells shared steps at total output × (length output ≡ length output₀)
 
 abbrev μ-loop : tie.MeasureT-loop
-μ-loop w₀ tokens₀ cells₀ rest dag output₀ from steps₀ at₀ total₀ w tokens cells output steps at total = (100000 - steps) + (length rest - at)
+μ-loop w₀ tokens₀ cells₀ shared₀ rest dag output₀ from steps₀ at₀ total₀ w tokens cells shared output steps at total = (100000 - steps) + (length rest - at)
 
 loop-holds : tie.Need-loop-holds Inv-loop μ-loop
-loop-holds c = (lent-begins _ _ _ _ (c .before .before .pre), refl)
+loop-holds c = (lent-begins _ _ _ _ ((c .before .before .args .shared .now)) ((c .before .before .pre .0)) ((c .before .before .pre .1)), refl)
 
 queued-requires : tie.Need-queued-requires Inv-loop μ-loop
 queued-requires c κs = search needs
@@ -53,31 +53,31 @@ returns-2 c = lent-limit _ _ _ _ (c .before .before .before .before .before .bef
 
 turn-requires : tie.Need-turn-requires Inv-loop μ-loop
 turn-requires c κs = (
-  lent-turning _ _ _ _ (c .before .before .before .before .before .before .before .before .before .before .before .loop .inv .0) _ _ (c .before .before .before .before .before .before .before .before .before .queued .ensures) (c .before .before .before .before .before .before .before .before .wide .ensures) _ (c .before .before .before .before .before .before .before .is-last .ensures) (c .before .before .before .before .before .before .if1 .left),
-  let room = (c .before .before .before .before .before .before .before .before .before .before .before .loop .inv .0 .going .room) in omega arith,
+  lent-turning _ _ _ _ (c .before .before .before .before .before .before .before .before .before .before .before .before .loop .inv .0) _ _ (c .before .before .before .before .before .before .before .before .before .before .queued .ensures) (c .before .before .before .before .before .before .before .before .before .wide .ensures) _ (c .before .before .before .before .before .before .before .before .is-last .ensures) (c .before .before .before .before .before .before .before .if1 .left),
+  let room = (c .before .before .before .before .before .before .before .before .before .before .before .before .loop .inv .0 .going .room) in omega arith,
 )
 
 show-end-requires : tie.Need-show-end-requires Inv-loop μ-loop
-show-end-requires c κs = let room = (c .before .before .before .before .before .before .before .before .before .before .before .before .before .before .before .before .loop .inv .0 .going .room) in let small = lent-few _ _ _ _ (c .before .before .before .before .before .before .before .before .before .before .before .before .before .before .before .before .loop .inv .0) _ _ (c .before .before .before .before .before .before .before .before .before .before .before .before .before .before .queued .ensures) (c .before .before .before .before .before .before .before .before .before .before .before .before .before .wide .ensures) _ (c .before .before .before .before .before .before .before .before .before .before .before .before .is-last .ensures) (c .before .before .before .before .before .before .before .before .before .before .before .if1 .left) _ (c .before .before .before .before .before .before .before .before .before .before .is-limit .ensures) (c .before .before .before .before .before .before .before .before .before .if2 .left) _ (c .before .before .before .before .turn .ensures) in omega arith
+show-end-requires c κs = let room = (c .before .before .before .before .before .before .before .before .before .before .before .before .before .before .before .before .before .loop .inv .0 .going .room) in let small = lent-few _ _ _ _ (c .before .before .before .before .before .before .before .before .before .before .before .before .before .before .before .before .before .loop .inv .0) _ _ (c .before .before .before .before .before .before .before .before .before .before .before .before .before .before .before .queued .ensures) (c .before .before .before .before .before .before .before .before .before .before .before .before .before .before .wide .ensures) _ (c .before .before .before .before .before .before .before .before .before .before .before .before .before .is-last .ensures) (c .before .before .before .before .before .before .before .before .before .before .before .before .if1 .left) _ (c .before .before .before .before .before .before .before .before .before .before .before .is-limit .ensures) (c .before .before .before .before .before .before .before .before .before .before .if2 .left) _ (c .before .before .before .before .turn .ensures) in omega arith
 
 same-length-3 : tie.Need-same-length-3 Inv-loop μ-loop
 same-length-3 c = search needs
 
 returns-3 : tie.Need-returns-3 Inv-loop μ-loop
-returns-3 c = lent-ends _ _ _ _ (c .before .before .before .before .before .before .before .before .before .before .before .before .before .before .before .before .before .before .before .loop .inv .0) _ _ (c .before .before .before .before .before .before .before .before .before .before .before .before .before .before .before .before .before .queued .ensures) (c .before .before .before .before .before .before .before .before .before .before .before .before .before .before .before .before .wide .ensures) _ (c .before .before .before .before .before .before .before .before .before .before .before .before .before .before .before .is-last .ensures) (c .before .before .before .before .before .before .before .before .before .before .before .before .before .before .if1 .left) _ (c .before .before .before .before .before .before .before .before .before .before .before .before .before .is-limit .ensures) (c .before .before .before .before .before .before .before .before .before .before .before .before .if2 .left) _ (c .before .before .before .before .before .before .before .turn .ensures) (c .before .before .before .before .if3 .taken) (c .before .before .show-end .ensures)
+returns-3 c = lent-ends _ _ _ _ (c .before .before .before .before .before .before .before .before .before .before .before .before .before .before .before .before .before .before .before .before .loop .inv .0) _ _ (c .before .before .before .before .before .before .before .before .before .before .before .before .before .before .before .before .before .before .queued .ensures) (c .before .before .before .before .before .before .before .before .before .before .before .before .before .before .before .before .before .wide .ensures) _ (c .before .before .before .before .before .before .before .before .before .before .before .before .before .before .before .before .is-last .ensures) (c .before .before .before .before .before .before .before .before .before .before .before .before .before .before .before .if1 .left) _ (c .before .before .before .before .before .before .before .before .before .before .before .before .before .before .is-limit .ensures) (c .before .before .before .before .before .before .before .before .before .before .before .before .before .if2 .left) _ (c .before .before .before .before .before .before .before .turn .ensures) (c .before .before .before .before .if3 .taken) (c .before .before .show-end .ensures)
 
 next-at-requires : tie.Need-next-at-requires Inv-loop μ-loop
-next-at-requires c κs = let inside = (c .before .before .before .before .before .before .before .before .before .before .before .before .before .before .before .loop .inv .0 .going .inside) in let few = (c .before .before .before .before .before .before .before .before .before .before .before .before .before .before .before .before .before .before .pre .1) in omega arith
+next-at-requires c κs = let inside = (c .before .before .before .before .before .before .before .before .before .before .before .before .before .before .before .before .loop .inv .0 .going .inside) in let few = (c .before .before .before .before .before .before .before .before .before .before .before .before .before .before .before .before .before .before .before .pre .0 .1) in omega arith
 
 next-steps-requires : tie.Need-next-steps-requires Inv-loop μ-loop
-next-steps-requires c κs = let few = (c .before .before .before .before .before .before .before .before .before .before .before .before .before .before .before .before .loop .inv .0 .going .few) in omega arith
+next-steps-requires c κs = let few = (c .before .before .before .before .before .before .before .before .before .before .before .before .before .before .before .before .before .loop .inv .0 .going .few) in omega arith
 
 loop-less : tie.Need-loop-less Inv-loop μ-loop
-loop-less c = lent-less _ _ _ _ (c .before .before .before .before .before .before .before .before .before .before .before .before .before .before .before .before .before .loop .inv .0) _ _ (c .before .before .before .before .before .before .before .before .before .before .before .before .before .before .before .queued .ensures) (c .before .before .before .before .before .before .before .before .before .before .before .before .before .before .wide .ensures) _ (c .before .before .before .before .before .before .before .before .before .before .before .before .before .is-last .ensures) (c .before .before .before .before .before .before .before .before .before .before .before .before .if1 .left) _ (c .before .before .before .before .before .before .before .before .before .before .before .is-limit .ensures) (c .before .before .before .before .before .before .before .before .before .before .if2 .left) _ (c .before .before .before .before .before .turn .ensures) (c .before .before .if3 .left) _ _ (c .next-steps .ensures) (c .before .next-at .ensures)
+loop-less c = lent-less _ _ _ _ (c .before .before .before .before .before .before .before .before .before .before .before .before .before .before .before .before .before .before .loop .inv .0) _ _ (c .before .before .before .before .before .before .before .before .before .before .before .before .before .before .before .before .queued .ensures) (c .before .before .before .before .before .before .before .before .before .before .before .before .before .before .before .wide .ensures) _ (c .before .before .before .before .before .before .before .before .before .before .before .before .before .before .is-last .ensures) (c .before .before .before .before .before .before .before .before .before .before .before .before .before .if1 .left) _ (c .before .before .before .before .before .before .before .before .before .before .before .before .is-limit .ensures) (c .before .before .before .before .before .before .before .before .before .before .before .if2 .left) _ (c .before .before .before .before .before .turn .ensures) (c .before .before .if3 .left) _ _ (c .next-steps .ensures) (c .before .next-at .ensures)
 
 loop-again : tie.Need-loop-again Inv-loop μ-loop
 loop-again c = (
-  lent-turns _ _ _ _ (c .before .before .before .before .before .before .before .before .before .before .before .before .before .before .before .before .before .loop .inv .0) _ _ (c .before .before .before .before .before .before .before .before .before .before .before .before .before .before .before .queued .ensures) (c .before .before .before .before .before .before .before .before .before .before .before .before .before .before .wide .ensures) _ (c .before .before .before .before .before .before .before .before .before .before .before .before .before .is-last .ensures) (c .before .before .before .before .before .before .before .before .before .before .before .before .if1 .left) _ (c .before .before .before .before .before .before .before .before .before .before .before .is-limit .ensures) (c .before .before .before .before .before .before .before .before .before .before .if2 .left) _ (c .before .before .before .before .before .turn .ensures) (c .before .before .if3 .left) _ _ (c .next-steps .ensures) (c .before .next-at .ensures),
+  lent-turns _ _ _ _ (c .before .before .before .before .before .before .before .before .before .before .before .before .before .before .before .before .before .before .loop .inv .0) _ _ (c .before .before .before .before .before .before .before .before .before .before .before .before .before .before .before .before .queued .ensures) (c .before .before .before .before .before .before .before .before .before .before .before .before .before .before .before .wide .ensures) _ (c .before .before .before .before .before .before .before .before .before .before .before .before .before .before .is-last .ensures) (c .before .before .before .before .before .before .before .before .before .before .before .before .before .if1 .left) _ (c .before .before .before .before .before .before .before .before .before .before .before .before .is-limit .ensures) (c .before .before .before .before .before .before .before .before .before .before .before .if2 .left) _ (c .before .before .before .before .before .turn .ensures) (c .before .before .if3 .left) _ _ (c .next-steps .ensures) (c .before .next-at .ensures),
   search needs,
 )
 

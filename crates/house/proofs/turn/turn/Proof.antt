@@ -22,12 +22,12 @@ same-length : tie.Need-same-length
 same-length c = search needs
 
 returns : tie.Need-returns
-returns c = λ m t.
-    turned-shows (turn-answers _ _ _ _ _ _ _ (c .before .before .before .before .before .before .before .before .queued .ensures) (c .before .before .before .before .before .before .before .if1 .taken) _ _ (c .before .before .before .before .before .deliver .ensures) m t)
+returns c = λ m t one.
+    turned-shows (turn-answers _ _ _ _ _ _ _ (c .before .before .before .before .before .before .before .before .queued .ensures) (c .before .before .before .before .before .before .before .if1 .taken) ((c .before .before .before .before .before .before .before .before .before .before .before .before .args .shared .now)) _ _ (c .before .before .before .before .before .deliver .ensures) m t one)
     (over-empty _ (turn-is-empty (c .before .before .before .before .before .before .before .before .queued .ensures) (c .before .before .before .before .before .before .before .if1 .taken) t) _) (c .before .before .show-reply .ensures .0) (c .before .before .show-reply .ensures .1)
 
 step-requires : tie.Need-step-requires
-step-requires c κs = turn-some _ _ _ _ _ _ _ (c .before .before .before .before .queued .ensures) (c .before .before .before .if1 .left) ((c .before .before .before .before .before .before .before .before .pre .0))
+step-requires c κs = turn-some _ _ _ _ _ _ _ (c .before .before .before .before .before .queued .ensures) (c .before .before .before .before .if1 .left) ((c .before .before .before .before .before .before .before .before .before .pre .0))
 
 has-line-requires : tie.Need-has-line-requires
 has-line-requires c κs = search needs
@@ -42,15 +42,15 @@ same-length-2 : tie.Need-same-length-2
 same-length-2 c = search needs
 
 returns-2 : tie.Need-returns-2
-returns-2 c = λ m t.
-    turned-shows (turn-steps _ _ _ _ _ _ _ (c .before .before .before .before .before .before .before .before .before .before .before .before .before .queued .ensures) (c .before .before .before .before .before .before .before .before .before .before .before .before .if1 .left) _ _ _ _ (c .before .before .before .before .before .before .before .before .step .ensures) m t)
-    (over-ready _ (turn-is-ready (c .before .before .before .before .before .before .before .before .before .before .before .before .before .queued .ensures) (c .before .before .before .before .before .before .before .before .before .before .before .before .if1 .left) t) _ _ (c .is-refused .ensures)) (c .before .before .before .show-reply2 .ensures .0) (c .before .before .before .show-reply2 .ensures .1)
+returns-2 c = λ m t one.
+    turned-shows (turn-steps _ _ _ _ _ _ _ (c .before .before .before .before .before .before .before .before .before .before .before .before .before .before .queued .ensures) (c .before .before .before .before .before .before .before .before .before .before .before .before .before .if1 .left) ((c .before .before .before .before .before .before .before .before .before .before .before .before .before .before .before .before .before .before .args .shared .now)) _ _ _ _ _ (c .before .before .before .before .before .before .before .before .step .ensures) m t one)
+    (over-ready _ (turn-is-ready (c .before .before .before .before .before .before .before .before .before .before .before .before .before .before .queued .ensures) (c .before .before .before .before .before .before .before .before .before .before .before .before .before .if1 .left) t) _ _ (c .is-refused .ensures)) (c .before .before .before .show-reply2 .ensures .0) (c .before .before .before .show-reply2 .ensures .1)
 
 returns-3 : tie.Need-returns-3
-returns-3 c = λ m t.
+returns-3 c = λ m t one.
     let quiet = silent _ _ (sym (c .before .has-line .ensures) ∙ (c .if2 .left)) in
-    turned-shows (turn-steps _ _ _ _ _ _ _ (c .before .before .before .before .before .before .before .queued .ensures) (c .before .before .before .before .before .before .if1 .left) _ _ _ _ (c .before .before .step .ensures) m t)
-    (over-ready _ (turn-is-ready (c .before .before .before .before .before .before .before .queued .ensures) (c .before .before .before .before .before .before .if1 .left) t) _ _ (quiet .1)) (shows-as (quiet .0) (shows-none _ _ _)) (omega arith)
+    turned-shows (turn-steps _ _ _ _ _ _ _ (c .before .before .before .before .before .before .before .before .queued .ensures) (c .before .before .before .before .before .before .before .if1 .left) ((c .before .before .before .before .before .before .before .before .before .before .before .before .args .shared .now)) _ _ _ _ _ (c .before .before .step .ensures) m t one)
+    (over-ready _ (turn-is-ready (c .before .before .before .before .before .before .before .before .queued .ensures) (c .before .before .before .before .before .before .before .if1 .left) t) _ _ (quiet .1)) (shows-as (quiet .0) (shows-none _ _ _)) (omega arith)
 
 pub turn-spec : {M : Type 1} → statement M
 turn-spec =

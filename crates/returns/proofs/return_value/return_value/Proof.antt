@@ -6,6 +6,7 @@ use Rattle.model.specs.declared.reply.Reply.the-variants as replies
 use Rattle.acts.proofs.Ending.{return-caller, return-vacant}
 use Rattle.acts.proofs.Instructions.{return-step}
 use Rattle.acts.proofs.Outcomes.{token-inside, gives-swept}
+use Rattle.returns.proofs.ReturnCallees.{nobody}
 use Rattle.returns.proofs.Returning.{released-swept}
 use Rattle.returns.proofs.return_value.return_value.Statement.{statement}
 use Rattle.returns.proofs.return_value.return_value.Tie as tie
@@ -32,7 +33,7 @@ plain-requires : tie.Need-plain-requires
 plain-requires c κs = search needs
 
 returns : tie.Need-returns
-returns c = λ m a.
+returns c = λ m a alone.
     let k = return-caller _ _ _ _ m a (c .before .before .before .before .before .before .before .before .before .before .wide .ensures ∙ c .before .before .before .before .before .before .before .before .before .before .before .caller .ensures m (a .taking .lawful .holds .codes)) in
     gives-swept _ replies.Done _ (return-step _ _ _ _ m _ (k .2) a) (c .plain .ensures)
     (c .before .sweep .ensures _ (c .before .before .before .before .before .before .written .ensures m (a .taking .lawful .holds) (a .taking .queued)) (return-vacant (a .taking) _))
@@ -44,11 +45,11 @@ plain-requires-2 : tie.Need-plain-requires-2
 plain-requires-2 c κs = search needs
 
 returns-2 : tie.Need-returns-2
-returns-2 c = λ m a.
+returns-2 c = λ m a alone.
     let k = return-caller _ _ _ _ m a (c .before .before .before .before .before .before .before .before .before .wide .ensures ∙ c .before .before .before .before .before .before .before .before .before .before .caller .ensures m (a .taking .lawful .holds .codes)) in
     gives-swept _ replies.Done _ (return-step _ _ _ _ m _ (k .2) a) (c .plain2 .ensures)
     (released-swept a _ (k .1) (k .2) (c .before .before .before .before .before .before .before .may-lose-cell .ensures m (a .taking .lawful .holds .codes) (c .before .before .before .before .if1 .left))
-    (c .before .release .ensures _ (c .before .before .before .before .before .written .ensures m (a .taking .lawful .holds) (a .taking .queued))))
+    (c .before .release .ensures _ (c .before .before .before .before .before .written .ensures m (a .taking .lawful .holds) (a .taking .queued)) (λ e. nobody a _ (k .1) (k .2) (alone e))))
 
 pub return-value-spec : {M : Type 1} → statement M
 return-value-spec =

@@ -26,10 +26,10 @@ add-at : tie.Need-add-at
 add-at c = search needs
 
 act-requires : tie.Need-act-requires
-act-requires c κs = let r = c .before .before .before .before .before .before .before .before .before .pre .is in let codes = r .lawful .holds .codes in record { machine = c .before .before .before .before .before .before .before .before .before .pre .machine; is = acting-of r (c .before .before .before .before .before .before .wide .ensures ∙ c .before .before .before .before .before .before .before .queue-name .ensures _ codes) (ap (λ n. 67 + 12 * n) (c .before .before .before .wide2 .ensures ∙ c .before .before .before .before .node .ensures _ codes)) }
+act-requires c κs = let r = c .before .before .before .before .before .before .before .before .before .before .pre .is in let codes = r .lawful .holds .codes in record { machine = c .before .before .before .before .before .before .before .before .before .before .pre .machine; is = acting-of r (c .before .before .before .before .before .before .before .wide .ensures ∙ c .before .before .before .before .before .before .before .before .queue-name .ensures _ codes) (ap (λ n. 67 + 12 * n) (c .before .before .before .before .wide2 .ensures ∙ c .before .before .before .before .before .node .ensures _ codes)) }
 
 returns : tie.Need-returns
-returns c = λ m r. let codes = r .lawful .holds .codes in c .act .ensures m (acting-of r (c .before .before .before .before .before .before .before .wide .ensures ∙ c .before .before .before .before .before .before .before .before .queue-name .ensures m codes) (ap (λ n. 67 + 12 * n) (c .before .before .before .before .wide2 .ensures ∙ c .before .before .before .before .before .node .ensures m codes)))
+returns c = λ m r one. let codes = r .lawful .holds .codes in c .act .ensures m (acting-of r (c .before .before .before .before .before .before .before .before .wide .ensures ∙ c .before .before .before .before .before .before .before .before .before .queue-name .ensures m codes) (ap (λ n. 67 + 12 * n) (c .before .before .before .before .before .wide2 .ensures ∙ c .before .before .before .before .before .before .node .ensures m codes))) one
 
 pub step-spec : {M : Type 1} → statement M
 step-spec =
