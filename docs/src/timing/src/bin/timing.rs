@@ -45,13 +45,28 @@ fn medians(found: Found) -> [f64; SIDES] {
     })
 }
 
-/// Times both sides in turn: medians over the repeats.
+/// Times both sides in turn: medians over the repeats. Each repeat has its stack elsewhere within a page, since a run's time depends on
+/// where its stack lies beside its room.
 fn in_turn(repeats: usize, mut times: impl FnMut() -> [f64; SIDES]) -> [f64; SIDES] {
     let mut found = [const { Vec::new() }; SIDES];
-    for _ in 0..repeats {
-        add(&mut found, times());
+    for repeat in 0..repeats {
+        add(&mut found, deeper(repeat * PAGE / repeats, &mut times));
     }
     medians(found)
+}
+
+const PAGE: usize = 4096;
+
+/// Calls with so many bytes more on the stack, about.
+fn deeper(bytes: usize, times: &mut dyn FnMut() -> [f64; SIDES]) -> [f64; SIDES] {
+    let filled = [0u8; 64];
+    black_box(&filled);
+    if bytes < filled.len() {
+        return times();
+    }
+    let found = deeper(bytes - filled.len(), times);
+    black_box(&filled);
+    found
 }
 
 fn head(title: &str) {
@@ -218,7 +233,7 @@ const GROWING: [(usize, usize, usize); 11] = [
 
 fn growth(repeats: usize) {
     const STEPS: u32 = 2_000;
-    let repeats = repeats.min(5);
+    let repeats = repeats.min(9);
     let jobs = GROWING.map(|(loops, open, unused)| {
         let job = jobs::long(loops, open, unused);
         let dag = twins::loaded(&job);
