@@ -1,5 +1,5 @@
 -- A turn's report and its line are the outcome's: the reply says whether there is a line, and whether the run is over. Assumes nothing.
-use mathlib.Core.Path.{_≡_, refl, sym, _∙_, ap, ap₂}
+use mathlib.Core.Path.{_≡_, refl, _∙_, ap, ap₂}
 use mathlib.Core.Bool.{Bool, true, false}
 use mathlib.Core.List.{List, []}
 use Prim.Native.Nat.{ℕ, _+_, _≤_}
@@ -13,11 +13,10 @@ use Rattle.model.specs.declared.reply.Outcome.{Outcome}
 use Rattle.model.specs.declared.reply.Reply.{Reply}
 use Rattle.model.specs.declared.reply.Reply.the-variants as replies
 use Rattle.model.specs.declared.reply.Report.{Report}
-use Rattle.record.specs.Holds.{Codes}
 use Rattle.acts.specs.Callees.{Stepped}
 use Rattle.lines.specs.Shown.{ShowsBytes}
 use Rattle.lines.proofs.Showing.{shows-as}
-use Rattle.turns.specs.Turn.{hasLine, isOver, Turning}
+use Rattle.turns.specs.Turn.{hasLine, isOver}
 use Rattle.house.specs.Turned.{Turned}
 
 -- a reply without a line prints nothing and refuses nothing
@@ -42,11 +41,3 @@ module _ {o : Outcome} {m : Machine} {ws : List ℕ} {used cells shared : List B
         few = few;
         over = ends ∙ ap (isOver (m .queued)) (g .gives .reply);
       }
-
--- the queue's count, as the code has read it
-module _ {ws dag rest : List ℕ} {at q : ℕ} {used cells : List Bool} {m : Machine} (reads : (m : Machine) → Codes ws m → q ≡ m .queued) where
-  pub turn-is-empty : q ≡ 0 → Turning ws used cells dag rest at m → m .queued ≡ 0
-  turn-is-empty e t = sym (reads m (t .lawful .holds .codes)) ∙ e
-
-  pub turn-is-ready : (q ≡ 0 → ⊥) → Turning ws used cells dag rest at m → m .queued ≡ 0 → ⊥
-  turn-is-ready f t e = f (reads m (t .lawful .holds .codes) ∙ e)

@@ -1,6 +1,6 @@
 -- What a turn of a run leaves: the outcome's record in the words, its line in the output, and whether the run is over. Assumes nothing: these are definitions.
 use mathlib.Core.Path.{_≡_}
-use mathlib.Core.Bool.{Bool}
+use mathlib.Core.Bool.{Bool, false}
 use mathlib.Core.List.{List}
 use Prim.Native.Nat.{ℕ, _+_, _≤_}
 use Rattle.model.specs.Output.Line.{Line, textOfAll}
@@ -18,6 +18,10 @@ use Rattle.house.specs.declared.turn.TurnEnd.{TurnEnd}
 -- the lines of an outcome
 abbrev pub linesFrom : Outcome → List Line
 linesFrom o = reportedLines (reported (o .reply) (o .values))
+
+-- a run that goes on with so many bytes printed
+abbrev pub goesOn : (total : ℕ) → TurnEnd
+goesOn n = record { total = n; over = false }
 
 pub record Turned (o : Outcome) (m : Machine) (ws : List ℕ) (used usedCells shared : List Bool) (output : List ℕ) (from total : ℕ) (after : List ℕ) (r : TurnEnd)
     : Type 0 where

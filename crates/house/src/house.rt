@@ -12,20 +12,19 @@ ghost use Rattle.acts.specs.Acting.{Lawful};
 ghost use Rattle.acts.specs.Callees.{OneCallee};
 ghost use Rattle.lines.specs.Shown.{ShowsBytes};
 ghost use Rattle.house.specs.Accepted.{Accepted};
-use crate::turn::turn;
+use crate::turn::deliver_turn;
+use crate::turn::step_turn;
 use job::dag::GOAL;
 use job::dag::WORDS;
-use job::wide::wide;
 use lines::ending::show_end;
 use lines::ending::show_last;
 use lines::ending::show_limit;
 use model::record::Machine;
 use record::order;
-use turns::turn::is_last;
-use turns::turn::is_limit;
-use turns::turn::next_at;
-use turns::turn::next_steps;
 use unchecked::start::start;
+
+// "With 100,000 steps made and a token ready: `limit`."
+const STEPS: u32 = 100000;
 
 // Says to the proof how many words the array has.
 pub fn whole(dag: &[u32])
@@ -52,23 +51,24 @@ fn run_turns(
     let mut at: usize = 0;
     let mut total: usize = 0;
     loop {
-        let queued = wide(order::queued(w));
-        let left = rest.len() - at;
-        if is_last(queued, left) {
-            return show_last(left, steps, output, from, total);
+        if order::queued(w) == 0 {
+            let left = rest.len() - at;
+            if left < 8 {
+                return show_last(left, steps, output, from, total);
+            }
+            total = deliver_turn(w, rest, at, output, from, total);
+            at += 8;
+            continue;
         }
-        if is_limit(queued, steps) {
+        if steps == STEPS {
             return show_limit(steps, output, from, total);
         }
-        let turned = turn(
-            w, tokens, cells, shared, dag, rest, at, output, from, total,
-        );
+        let turned = step_turn(w, tokens, cells, shared, dag, output, from, total);
         total = turned.total;
         if turned.over {
             return show_end(steps, output, from, total);
         }
-        at = next_at(queued, at);
-        steps = next_steps(queued, steps);
+        steps += 1;
     }
 }
 

@@ -1,19 +1,22 @@
-// One turn of a run and its line: a step of the token at place 0 or, with the queue empty, the delivery of a record. A reply is taken apart only where it has a
-// line, so that a step without one costs nothing more.
-ghost use Prim.Native.Nat.{_+_, _≤_};
+// A turn of a run and its line: the delivery of a record, or a step of the token at place 0. A reply is taken apart only where it has a line, so that a
+// step without one costs nothing more.
+ghost use mathlib.Core.Path.{_≡_};
+ghost use mathlib.Core.Bool.{Bool};
+ghost use mathlib.Core.List.{List};
+ghost use Prim.Native.Nat.{ℕ, _+_, _≤_};
+ghost use lib.ListN.{length};
 ghost use Rattle.job.specs.Words.{dagOf};
 ghost use Rattle.model.specs.declared.record.Machine.{Machine};
-ghost use Rattle.acts.specs.Acting.{SomeMachine};
+ghost use Rattle.acts.specs.Acting.{SomeMachine, Lawful, QueueHasToken};
 ghost use Rattle.acts.specs.Callees.{OneCallee};
-ghost use Rattle.turns.specs.Turn.{Turning, turnOutcome};
-ghost use Rattle.house.specs.Turned.{Turned};
+ghost use Rattle.turns.specs.Turn.{turnOutcome};
+ghost use Rattle.house.specs.Turned.{Turned, goesOn};
 use job::dag::WORDS;
 use lines::report::show_reply;
 use model::record::Machine;
-use record::order;
 use turns::reply::has_line;
 use turns::reply::is_refused;
-use turns::turn::deliver;
+use turns::deliver::deliver;
 use unchecked::step::step;
 
 // How many bytes are printed, and whether the run is over.
@@ -22,35 +25,43 @@ pub struct TurnEnd {
     pub over: bool,
 }
 
-// "A refused step ends the run, a refused answer doesn't."
-pub fn turn(
+// "With the queue empty it delivers a record"; a refused answer doesn't end the run.
+pub fn deliver_turn(
     w: &mut [u32; Machine::WORDS],
-    tokens: &mut [bool; Machine::TOKENS],
-    cells: &mut [bool; Machine::CELLS],
-    shared: &mut [bool; Machine::TOKENS],
-    dag: &[u32; WORDS],
     rest: &[u8],
     at: usize,
     output: &mut [u8],
     from: usize,
     total: usize,
-) -> TurnEnd
-    requires { ⌜ SomeMachine (Turning (now w) (now tokens) (now cells) (now dag) (now rest) at) × (total + 80 ≤ 1000000000) ⌝ }
-    ensures { λ r. ⌜ ((m : Machine) → Turning (now (w .entry)) (now (tokens .entry)) (now (cells .entry)) (now (dag .entry)) (now (rest .entry)) at m
-        → OneCallee (now (shared .entry)) m
-        → Turned (turnOutcome (dagOf (now (dag .entry))) m (now (rest .entry)) at) m (now (w .exit)) (now (tokens .exit)) (now (cells .exit))
-        (now (shared .exit)) (now (output .entry)) from total (now (output .exit)) r) ⌝ }
+) -> usize
+    requires { ⌜ (at + 8 ≤ length (now rest)) × (total + 80 ≤ 1000000000) ⌝ }
+    ensures { λ r. ⌜ ((m : Machine) (dag : List ℕ) (used cells shared : List Bool) → Lawful (now (w .entry)) used cells dag m → OneCallee shared m → m .queued ≡ 0
+        → Turned (turnOutcome (dagOf dag) m (now (rest .entry)) at) m (now (w .exit)) used cells shared
+        (now (output .entry)) from total (now (output .exit)) (goesOn r)) ⌝ }
 {
-    if order::queued(w) == 0 {
-        let report = deliver(w, rest, at);
-        let reply = report.reply;
-        let values = report.values;
-        let printed = show_reply(reply, values, output, from, total);
-        return TurnEnd {
-            total: printed,
-            over: false,
-        };
-    }
+    let report = deliver(w, rest, at);
+    let reply = report.reply;
+    let values = report.values;
+    show_reply(reply, values, output, from, total)
+}
+
+// "It runs house order"; "a refused step ends the run".
+pub fn step_turn(
+    w: &mut [u32; Machine::WORDS],
+    tokens: &mut [bool; Machine::TOKENS],
+    cells: &mut [bool; Machine::CELLS],
+    shared: &mut [bool; Machine::TOKENS],
+    dag: &[u32; WORDS],
+    output: &mut [u8],
+    from: usize,
+    total: usize,
+) -> TurnEnd
+    requires { ⌜ SomeMachine (QueueHasToken (now w) (now tokens) (now cells) (now dag) 0) × (total + 80 ≤ 1000000000) ⌝ }
+    ensures { λ r. ⌜ ((m : Machine) (rest : List ℕ) (at : ℕ) → QueueHasToken (now (w .entry)) (now (tokens .entry)) (now (cells .entry)) (now (dag .entry)) 0 m
+        → OneCallee (now (shared .entry)) m
+        → Turned (turnOutcome (dagOf (now (dag .entry))) m rest at) m (now (w .exit)) (now (tokens .exit)) (now (cells .exit)) (now (shared .exit))
+        (now (output .entry)) from total (now (output .exit)) r) ⌝ }
+{
     let report = step(w, tokens, cells, shared, dag, 0);
     let reply = report.reply;
     if has_line(reply) {

@@ -37,8 +37,8 @@ fn none_from(marks: &[bool], from: usize, size: usize) -> bool
     !found
 }
 
-// An end behind which no place is marked: the few first places, where the others are not in use, or all of them.
-pub fn marked_end(marks: &[bool], size: usize) -> usize
+// The few first places, where the others are not in use, or all of them.
+fn few_or_all(marks: &[bool], size: usize) -> usize
     requires { ⌜ (length (now marks) ≡ size) × (8 ≤ size) ⌝ }
     ensures { λ r. ⌜ (r ≤ size) × UnmarkedFrom (now (marks .entry)) r size ⌝ }
 {
@@ -46,6 +46,21 @@ pub fn marked_end(marks: &[bool], size: usize) -> usize
         return 8;
     }
     size
+}
+
+// The end of the places in use: no place from it on is marked.
+pub fn marked_end(marks: &[bool], size: usize) -> usize
+    requires { ⌜ (length (now marks) ≡ size) × (8 ≤ size) ⌝ }
+    ensures { λ r. ⌜ (r ≤ size) × UnmarkedFrom (now (marks .entry)) r size ⌝ }
+{
+    let mut end = few_or_all(marks, size);
+    while 0 < end {
+        if marks[end - 1] {
+            return end;
+        }
+        end -= 1;
+    }
+    end
 }
 
 // The tokens: the active ones, and what they reach by their callers. From the end on there is none.

@@ -1,9 +1,8 @@
 -- One turn of a house run, by how many tokens are in the queue before it. Assumes nothing: these are definitions.
-use mathlib.Core.Path.{_≡_}
 use mathlib.Core.Bool.{Bool, true, false}
 use mathlib.Core.List.{List}
-use Prim.Native.Nat.{ℕ, suc, _+_, _≤_}
-use lib.ListN.{length, take, drop}
+use Prim.Native.Nat.{ℕ, suc, _+_}
+use lib.ListN.{take, drop}
 use lib.Dec.{eqb, ltb}
 use Rattle.job.specs.Number.{number, signed}
 use Rattle.job.specs.Node.{Dag}
@@ -15,7 +14,6 @@ use Rattle.model.specs.declared.record.Machine.{Machine}
 use Rattle.model.specs.declared.reply.Reply.{Reply}
 use Rattle.model.specs.declared.reply.Reply.the-variants as replies
 use Rattle.model.specs.declared.reply.Outcome.{Outcome}
-use Rattle.acts.specs.Acting.{Lawful}
 
 -- no token is ready, and fewer bytes are left than a record has
 unfoldable pub isLast : (queued left : ℕ) → Bool
@@ -52,8 +50,3 @@ nextAt queued at = elim (eqb queued 0) [ true ↦ at + 8 | false ↦ at ]
 -- "accepted steps": a turn that goes on is one, unless it delivered a record
 unfoldable pub nextSteps : (queued steps : ℕ) → ℕ
 nextSteps queued steps = elim (eqb queued 0) [ true ↦ steps | false ↦ suc steps ]
-
--- what a turn asks: the words hold m and the marks are m's, and a record is there where one is to be delivered
-pub record Turning (ws : List ℕ) (used usedCells : List Bool) (dag rest : List ℕ) (at : ℕ) (m : Machine) : Type 0 where
-  pub lawful : Lawful ws used usedCells dag m
-  pub there : m .queued ≡ 0 → at + 8 ≤ length rest

@@ -1,3 +1,3 @@
-// The parts of a turn of a house run: what is due, the record that is delivered, the tests on its reply, and the counts after it.
+// The parts of a turn of a house run: the record that is delivered, and the tests on a reply.
+pub mod deliver;
 pub mod reply;
-pub mod turn;

@@ -1,11 +1,11 @@
--- `turn::deliver` meets its contract: the numbers handed on are those of the record. Assumes nothing.
+-- `deliver::deliver` meets its contract: the numbers handed on are those of the record. Assumes nothing.
 use borrow.Author.Needs.{needs}
 use mir.Facts.{toZ-ofZ}
 use mir.Val.{SFits}
 use mir.Syntax.{w32}
 use Rattle.turns.proofs.TurnGives.{delivered}
-use Rattle.turns.proofs.turn.deliver.Statement.{statement}
-use Rattle.turns.proofs.turn.deliver.Tie as tie
+use Rattle.turns.proofs.deliver.deliver.Statement.{statement}
+use Rattle.turns.proofs.deliver.deliver.Tie as tie
 
 word-at-requires : tie.Need-word-at-requires
 word-at-requires c κs = search needs

@@ -1,0 +1,27 @@
+// The delivery of a record.
+ghost use mathlib.Core.Bool.{Bool};
+ghost use mathlib.Core.List.{List};
+ghost use Prim.Native.Nat.{ℕ, _+_, _≤_};
+ghost use lib.ListN.{length, take, drop};
+ghost use Rattle.job.specs.Words.{dagOf};
+ghost use Rattle.model.specs.Machine.Answer as Answer;
+ghost use Rattle.model.specs.Machine.Limits.{paper};
+ghost use Rattle.job.specs.Number as Number;
+ghost use Rattle.job.specs.Number.{number};
+ghost use Rattle.model.specs.declared.record.Machine.{Machine};
+ghost use Rattle.acts.specs.Acting.{Lawful, Gives};
+use model::record::Machine;
+use model::reply::Report;
+use reader::entry::word_at;
+use sites::number::signed;
+use unchecked::answer::answer;
+
+// Delivers the record at an index: "handle and signed value, each little-endian".
+pub fn deliver(w: &mut [u32; Machine::WORDS], rest: &[u8], at: usize) -> Report
+    requires { ⌜ at + 8 ≤ length (now rest) ⌝ }
+    ensures { λ r. ⌜ ((m : Machine) (dag : List ℕ) (used cells : List Bool) → Lawful (now (w .entry)) used cells dag m → Gives (Answer.answer paper (dagOf dag) m (number (take 4 (drop at (now (rest .entry))))) (Number.signed (number (take 4 (drop (at + 4) (now (rest .entry))))))) m (now (w .exit)) used cells r) ⌝ }
+{
+    let handle = word_at(rest, at);
+    let value = signed(word_at(rest, at + 4));
+    answer(w, handle, value)
+}
