@@ -1,2 +1,3 @@
--- Laws of the loop that looks for a place.
+-- Laws of the loops that look for a place.
 pub mod Placing
+pub mod Nearest

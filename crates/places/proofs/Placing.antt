@@ -46,11 +46,11 @@ module _ (marks : List Bool) where
   unfolding seek look
   looks end n p q e = sym (ap (look end n) e)
 
-  seek-free : (end n p q : ℕ) → q ≡ around (length marks) p → Free marks q → seek end marks (suc n) p ≡ q
+  pub seek-free : (end n p q : ℕ) → q ≡ around (length marks) p → Free marks q → seek end marks (suc n) p ≡ q
   unfolding look
   seek-free end n p q e f = looks end n p q e ∙ rw (f, look)
 
-  seek-used : (end n p q : ℕ) → q ≡ around (length marks) p → Marked marks q → seek end marks (suc n) p ≡ seek end marks n (suc q)
+  pub seek-used : (end n p q : ℕ) → q ≡ around (length marks) p → Marked marks q → seek end marks (suc n) p ≡ seek end marks n (suc q)
   unfolding look
   seek-used end n p q e f = looks end n p q e ∙ rw (f, look)
 
@@ -109,7 +109,7 @@ module _ (marks : List Bool) where
   next-free last h = subst (Free marks) (sym (from-seek marks (length marks) (suc last))) (finds last h .place)
 
   -- where there is none, the search comes to its end
-  seek-all : ((i : ℕ) → Marked marks i) → (end n p : ℕ) → seek end marks n p ≡ end
+  pub seek-all : ((i : ℕ) → Marked marks i) → (end n p : ℕ) → seek end marks n p ≡ end
   unfolding seek
   seek-all h end zero p = refl
   seek-all h end (suc n) p =

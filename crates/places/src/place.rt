@@ -1,6 +1,7 @@
 // Where a new record goes.
+ghost use mathlib.Core.Bool.{true, false};
 ghost use mathlib.Core.Path.{_≡_};
-ghost use Prim.Native.Nat.{_<_};
+ghost use Prim.Native.Nat.{ℕ, _+_, _-_, _%_, _<_};
 ghost use lib.ListN.{length};
 ghost use Rattle.model.specs.Machine.FreePlace.{around};
 ghost use Rattle.reach.specs.Marks.{nextOr};
@@ -34,10 +35,47 @@ fn next_of(marks: &[bool], size: usize, last: u32) -> usize
     size
 }
 
+// How far a place is from the first to be looked at, round from the end to 0; one in use is farther than any.
+fn distance(used: bool, i: u8, first: u8) -> u8
+    requires { ⌜ i < 64 ⌝ }
+    requires { ⌜ first < 64 ⌝ }
+    ensures { λ r. ⌜ (used ≡ true → r ≡ 64) ⌝ }
+    ensures { λ r. ⌜ (used ≡ false → r ≡ (i + 64 - first) % 64) ⌝ }
+{
+    if used { 64 } else { (i + 64 - first) % 64 }
+}
+
+// The nearest place not in use, or 64. The loop looks at every place: in a nearly full table an early exit cannot be predicted.
+fn nearest(marks: &[bool], first: u8) -> usize
+    requires { ⌜ length (now marks) ≡ 64 ⌝ }
+    requires { ⌜ first < 64 ⌝ }
+    ensures { λ r. ⌜ ((last : ℕ) → first ≡ around 64 (last + 1) → r ≡ nextOr 64 (now (marks .entry)) last) ⌝ }
+{
+    let mut best: u8 = 64;
+    let mut i: u8 = 0;
+    while i < 64 {
+        let d = distance(marks[i as usize], i, first);
+        if d < best {
+            best = d;
+        }
+        i += 1;
+    }
+    if best == 64 {
+        return Machine::TOKENS;
+    }
+    ((first + best) % 64) as usize
+}
+
 pub fn next_token(marks: &[bool; Machine::TOKENS], last: u32) -> usize
     ensures { λ r. ⌜ r ≡ nextOr 64 (now (marks .entry)) last ⌝ }
 {
-    next_of(marks, Machine::TOKENS, last)
+    // as a slice, so that its length is known
+    let slice: &[bool] = marks;
+    let first = around(Machine::TOKENS, wide(last) + 1);
+    if !slice[first] {
+        return first;
+    }
+    nearest(slice, first as u8)
 }
 
 pub fn next_cell(marks: &[bool; Machine::CELLS], last: u32) -> usize
