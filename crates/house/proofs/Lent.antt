@@ -115,7 +115,7 @@ module _ (dag rest before : List ℕ) (from : ℕ) where
 
         module _ {ws′ output′ : List ℕ} (n : ℕ)
             (gives : (m : Machine) (d : List ℕ) (us ks ss : List Bool) → Lawful ws us ks d m → OneCallee ss m → m .queued ≡ 0
-                → Turned (turnOutcome (dagOf d) m rest at) m ws′ us ks ss output from total output′ (goesOn n)) where
+            → Turned (turnOutcome (dagOf d) m rest at) m ws′ us ks ss output from total output′ (goesOn n)) where
           delivered : Turned turned (L .machine) ws′ used cells shared output from total output′ (goesOn n)
           delivered = gives (L .machine) dag used cells shared (L .lawful) (L .callees) none
 
@@ -150,7 +150,7 @@ module _ (dag rest before : List ℕ) (from : ℕ) where
 
       module _ (under : steps ≡ 100000 → ⊥) {ws′ output′ : List ℕ} {used′ cells′ shared′ : List Bool} (r : TurnEnd)
           (gives : (m : Machine) (rs : List ℕ) (a : ℕ) → QueueHasToken ws used cells dag 0 m → OneCallee shared m
-              → Turned (turnOutcome (dagOf dag) m rs a) m ws′ used′ cells′ shared′ output from total output′ r) where
+          → Turned (turnOutcome (dagOf dag) m rs a) m ws′ used′ cells′ shared′ output from total output′ r) where
         stepped : Turned turned (L .machine) ws′ used′ cells′ shared′ output from total output′ r
         stepped = gives (L .machine) rest at has (L .callees)
 

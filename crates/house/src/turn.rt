@@ -14,9 +14,9 @@ ghost use Rattle.house.specs.Turned.{Turned, goesOn};
 use job::dag::WORDS;
 use lines::report::show_reply;
 use model::record::Machine;
+use turns::deliver::deliver;
 use turns::reply::has_line;
 use turns::reply::is_refused;
-use turns::deliver::deliver;
 use unchecked::step::step;
 
 // How many bytes are printed, and whether the run is over.
