@@ -94,3 +94,7 @@ pub decimal-written : (n at next : ℕ) (before after : List ℕ) → Fits w32 n
     → Written 10 before at (decimal n) after next
 unfolding decimal
 decimal-written n at next before after f w = record { stored = w .stored; behind = w .behind; few = decimal-few n f }
+
+pub decimal-one : (n at : ℕ) (before : List ℕ) → n < 10 → Written 10 before at (decimal n) (set before at (48 + n)) (at + 1)
+unfolding decimal
+decimal-one n at before l = written-as (one-written before at (48 + n)) (sym (digits-one 20 n (λ e. omega arith) l)) (omega arith)

@@ -1,5 +1,6 @@
 -- `decimal::put_decimal` meets its contract: a number of 32 bits has at most ten digits. Assumes nothing.
-use Rattle.text.proofs.Digits.{decimal-room, decimal-written}
+use borrow.Author.Needs.{needs}
+use Rattle.text.proofs.Digits.{decimal-one, decimal-room, decimal-written}
 use Rattle.text.proofs.decimal.put_decimal.Statement.{statement}
 use Rattle.text.proofs.decimal.put_decimal.Tie as tie
 
@@ -9,5 +10,20 @@ put-digits-requires c κs = search decimal-room
 returns : tie.Need-returns
 returns c = search decimal-written
 
+cast-buffer : tie.Need-cast-buffer
+cast-buffer c = search needs
+
+add-buffer : tie.Need-add-buffer
+add-buffer c = search needs
+
+element-write-buffer : tie.Need-element-write-buffer
+element-write-buffer c = search needs
+
+add-result : tie.Need-add-result
+add-result c = search needs
+
+returns-2 : tie.Need-returns-2
+returns-2 c = search decimal-one
+
 pub put-decimal-spec : {M : Type 1} → statement M
-put-decimal-spec = tie.close (tie.spec put-digits-requires returns)
+put-decimal-spec = tie.close (tie.spec put-digits-requires returns cast-buffer add-buffer element-write-buffer add-result returns-2)
