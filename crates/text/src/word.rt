@@ -37,17 +37,27 @@ pub fn put_value(buffer: &mut [u8; 80], at: usize, v: i32) -> usize
     signed::put_signed(buffer, at + 1, v)
 }
 
+// As many of the values as `count` says. Each is read by itself, so that the array is not copied.
 pub fn put_value_list(buffer: &mut [u8; 80], at: usize, values: [i32; 4], count: usize) -> usize
     requires { ⌜ (at + 48 ≤ 80) × (count ≤ 4) ⌝ }
     ensures { λ r. ⌜ Written 48 (now (buffer .entry)) at (allSpaced (map signedDecimal (take count values))) (now (buffer .exit)) r ⌝ }
 {
-    let mut to = at;
-    let mut i = 0;
-    while i < count {
-        to = put_value(buffer, to, values[i]);
-        i += 1;
+    if count == 0 {
+        return at;
     }
-    to
+    let one = put_value(buffer, at, values[0]);
+    if count == 1 {
+        return one;
+    }
+    let two = put_value(buffer, one, values[1]);
+    if count == 2 {
+        return two;
+    }
+    let three = put_value(buffer, two, values[2]);
+    if count == 3 {
+        return three;
+    }
+    put_value(buffer, three, values[3])
 }
 
 pub fn put_feed(buffer: &mut [u8; 80], at: usize) -> usize
