@@ -14,7 +14,7 @@ use pruning::choke::written;
 use reach::marks::marked_end;
 use record::cell;
 use record::token;
-use sweep::sweep::sweep;
+use sweep::sweep::sweep_to;
 
 // "A token at choke names a cell."
 pub fn choke_cell(
@@ -34,6 +34,6 @@ pub fn choke_cell(
     let value = token::value(w, p);
     let end = marked_end(tokens, Machine::TOKENS);
     written(w, place, c - 1, kind, value, end);
-    sweep(w, tokens, cells);
+    sweep_to(w, tokens, cells, end);
     plain(Reply::Done)
 }

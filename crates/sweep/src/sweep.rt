@@ -106,7 +106,21 @@ fn sweep_cells(
     keep_cells(w, marks, &used, cells_end);
 }
 
-// The marks say which rows may be other than blank. Rows that are in use no more become blank, and the marks say what is in use now.
+// The marks say which rows may be other than blank; from the end on none is marked. Rows that are in use no more become blank, and the marks say what is in
+// use now.
+pub fn sweep_to(
+    w: &mut [u32; Machine::WORDS],
+    tokens: &mut [bool; Machine::TOKENS],
+    cells: &mut [bool; Machine::CELLS],
+    end: usize,
+)
+    requires { ⌜ (end ≤ 64) × UnmarkedFrom (now tokens) end 64 ⌝ }
+    ensures { λ _. ⌜ ((m : Machine) → Holds (now (w .entry)) m → Vacant m (now (tokens .entry)) (now (cells .entry)) → Holds (now (w .exit)) (sweep m) × (now (tokens .exit) ≡ tokensUsed (sweep m)) × (now (cells .exit) ≡ cellsUsed (sweep m))) ⌝ }
+{
+    sweep_tokens(w, tokens, end);
+    sweep_cells(w, tokens, cells, end);
+}
+
 pub fn sweep(
     w: &mut [u32; Machine::WORDS],
     tokens: &mut [bool; Machine::TOKENS],
@@ -115,6 +129,5 @@ pub fn sweep(
     ensures { λ _. ⌜ ((m : Machine) → Holds (now (w .entry)) m → Vacant m (now (tokens .entry)) (now (cells .entry)) → Holds (now (w .exit)) (sweep m) × (now (tokens .exit) ≡ tokensUsed (sweep m)) × (now (cells .exit) ≡ cellsUsed (sweep m))) ⌝ }
 {
     let end = marked_end(tokens, Machine::TOKENS);
-    sweep_tokens(w, tokens, end);
-    sweep_cells(w, tokens, cells, end);
+    sweep_to(w, tokens, cells, end);
 }

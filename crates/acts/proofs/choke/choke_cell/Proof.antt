@@ -39,8 +39,8 @@ written-requires c κs =
     let k = choke-cell _ _ _ _ _ acting (c .before .before .before .before .before .before .before .before .wide .ensures ∙ c .before .before .before .before .before .before .before .before .before .cell .ensures _ (acting .taking .lawful .holds .codes)) in
     (k .1, c .before .marked-end .ensures .0)
 
-sweep-requires : tie.Need-sweep-requires
-sweep-requires c κs = search needs
+sweep-to-requires : tie.Need-sweep-to-requires
+sweep-to-requires c κs = c .before .before .before .before .before .marked-end .ensures
 
 plain-requires : tie.Need-plain-requires
 plain-requires c κs = search needs
@@ -52,7 +52,7 @@ returns c = λ m a.
     let v = tokenAt (m .tokens) (c .before .before .before .before .before .before .before .before .before .before .before .before .before .before .before .before .before .args .p) .value in
     let none = c .before .before .before .before .before .before .before .marked-end .ensures .1 in
     gives-swept _ replies.Done _ (choke-step _ _ _ _ m _ (k .2) a) (c .plain .ensures)
-    (c .before .sweep .ensures _
+    (c .before .sweep-to .ensures _
     (c .before .before .before .before .before .written .ensures m v holds (λ i from to. free-token (a .taking .lawful) i (none i from to)) (record { queued = a .taking .queued; room = room _ m (a .taking .lawful .rules) })
     (sym (c .before .before .before .before .before .before .before .before .before .before .before .before .value-kind .ensures m (holds .codes))) (sym (c .before .before .before .before .before .before .before .before .before .before .value .ensures m (holds .codes)))) (choke-vacant (a .taking) _ v (k .2)))
 
@@ -67,6 +67,6 @@ choke-cell-spec =
     marked-end-requires
     sub-written
     written-requires
-    sweep-requires
+    sweep-to-requires
     plain-requires
     returns)
