@@ -1,6 +1,6 @@
 -- The digits of a number, the front ones first: a number below ten is one digit, any other has those of its tenth before the last;
 -- a number below 10 ^ k has at most k. Assumes nothing.
-use mathlib.Core.Path.{_≡_, refl, sym}
+use mathlib.Core.Path.{_≡_, refl, sym, subst}
 use mathlib.Core.List.{List, [], _∷_, _++_}
 use Prim.Native.Nat.{ℕ, zero, suc, _+_, _-_, _*_, _/_, _%_, _^_, _<_, _≤_}
 use native.Mathlib.Nat.{pow-suc}
@@ -98,3 +98,22 @@ decimal-written n at next before after f w = record { stored = w .stored; behind
 pub decimal-one : (n at : ℕ) (before : List ℕ) → n < 10 → Written 10 before at (decimal n) (set before at (48 + n)) (at + 1)
 unfolding decimal
 decimal-one n at before l = written-as (one-written before at (48 + n)) (sym (digits-one 20 n (λ e. omega arith) l)) (omega arith)
+
+digits-more-written-two : (n at : ℕ) (before : List ℕ) → 10 ≤ n → Written 1 before at (digits 19 (n / 10)) (set before at (48 + n / 10)) (at + 1)
+    → Written 2 before at (digits 20 n) (set (set before at (48 + n / 10)) (at + 1) (48 + n % 10)) (at + 1 + 1)
+digits-more-written-two n at before l w =
+    written-as {k = 2} (then-written w (one-written (set before at (48 + n / 10)) (at + 1) (48 + n % 10))) (sym (digits-more 20 n (λ e. omega arith) l))
+    (omega arith)
+
+pub decimal-two : (n at : ℕ) (before : List ℕ) → 10 ≤ n → n < 100
+    → Written 10 before at (decimal n) (set (set before at (48 + n / 10)) (at + 1) (48 + n % 10)) (at + 2)
+unfolding decimal
+decimal-two n at before l h =
+    let front : Written 1 before at (digits 19 (n / 10)) (set before at (48 + n / 10)) (at + 1) =
+    written-as (one-written before at (48 + n / 10)) (sym (digits-one 19 (n / 10) (λ e. omega arith) (omega arith))) (omega arith) in
+    let both : Written 2 before at (digits 20 n) (set (set before at (48 + n / 10)) (at + 1) (48 + n % 10)) (at + 1 + 1) =
+    digits-more-written-two n at before l front in
+    let whole : Written 10 before at (digits 20 n) (set (set before at (48 + n / 10)) (at + 1) (48 + n % 10)) (at + 1 + 1) =
+    written-as both refl (omega arith) in
+    let e : at + 1 + 1 ≡ at + 2 = omega arith in
+    subst (λ k. Written 10 before at (digits 20 n) (set (set before at (48 + n / 10)) (at + 1) (48 + n % 10)) k) e whole

@@ -21,13 +21,18 @@ fn put_digits(buffer: &mut [u8; 80], at: usize, most: usize, n: u32) -> usize
     last + 1
 }
 
-// Most numbers have one digit, which is put without a call.
+// Most numbers have one digit or two, which are put without a call.
 pub fn put_decimal(buffer: &mut [u8; 80], at: usize, n: u32) -> usize
     requires { ⌜ at + 10 ≤ 80 ⌝ }
     ensures { λ r. ⌜ Written 10 (now (buffer .entry)) at (decimal n) (now (buffer .exit)) r ⌝ }
 {
-    if 10 <= n {
+    if 100 <= n {
         return put_digits(buffer, at, 20, n);
+    }
+    if 10 <= n {
+        buffer[at] = b'0' + (n / 10) as u8;
+        buffer[at + 1] = b'0' + (n % 10) as u8;
+        return at + 2;
     }
     buffer[at] = b'0' + n as u8;
     at + 1

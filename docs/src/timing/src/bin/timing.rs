@@ -6,7 +6,7 @@ use timing::proved::Room;
 use timing::{jobs, proved, twins};
 use twin::lines::{orcrun, table_of};
 use twin::record::Machine;
-use twin::table::{load, Dag};
+use twin::table::{load, Dag, Refused};
 
 /// What is timed: the proved library, the twin.
 const SIDES: usize = 2;
@@ -93,14 +93,16 @@ fn whole(repeats: usize, rounds: u32, job: &[u8]) -> [f64; SIDES] {
     let (mut room, mut machine) = (Room::new(), Box::new(Machine::BLANK));
     let mut dag = twins::loaded(job);
     let length = room.orcrun(job, &mut output);
-    assert_eq!(orcrun(job, &mut dag, &mut machine, &mut lines), length);
+    // called as a library's function is, and not made part of the loop
+    let run: fn(&[u8], &mut Dag, &mut Machine, &mut [u8]) -> usize = black_box(orcrun);
+    assert_eq!(run(job, &mut dag, &mut machine, &mut lines), length);
     assert_eq!(output[..length], lines[..length]);
     in_turn(repeats, || {
         let proved = nanoseconds(rounds, || {
             black_box(room.orcrun(black_box(job), &mut output));
         });
         let twin = nanoseconds(rounds, || {
-            black_box(orcrun(black_box(job), &mut dag, &mut machine, &mut lines));
+            black_box(run(black_box(job), &mut dag, &mut machine, &mut lines));
         });
         [proved, twin]
     })
@@ -113,6 +115,7 @@ fn front(repeats: usize, rounds: u32, job: &[u8], started: bool) -> [f64; SIDES]
     let mut dag = twins::loaded(job);
     assert_eq!(room.load(table), dag[0] as usize);
     assert_eq!(room.dag[..], dag[..]);
+    let load: fn(&[u8], &mut Dag) -> Result<usize, Refused> = black_box(load);
     in_turn(repeats, || {
         let proved = nanoseconds(rounds, || {
             let table = black_box(table);
