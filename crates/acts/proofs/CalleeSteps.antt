@@ -38,9 +38,9 @@ use Rattle.model.proofs.Machine.Writes.{Choked, ends, wakes, stays, choked-case
 use Rattle.record.specs.Fields.{dequeued}
 use Rattle.sites.specs.Row.{nodeIn, paramsAt}
 use Rattle.acts.specs.Acting.{Acting}
-use Rattle.acts.specs.Callees.{NamesAsCaller, OneCallee, callerShared, returnShared}
+use Rattle.acts.specs.SharedFrames.{NamesAsCaller, OneCallee, callerShared, returnShared}
 use Rattle.acts.proofs.Outcomes.{step-is}
-use Rattle.acts.proofs.Callees.{nowhere-at, blank-names, unshared, NoNewCallee, callees-kept, After, effect-callees, swept-callees, put-names, put-callees, blank-callees}
+use Rattle.acts.proofs.SharedFrames.{nowhere-at, blank-names, unshared, NoNewCallee, callees-kept, After, effect-callees, swept-callees, put-names, put-callees, blank-callees}
 
 -- a choked token has the caller that it had, or none
 choked-names : (cs : List Cell) (c f : ℕ) (t : Token) → chokeToken cs c t .caller ≡ places.At f → t .caller ≡ places.At f

@@ -3,5 +3,5 @@ pub mod Outcomes
 pub mod Vacancy
 pub mod Instructions
 pub mod Ending
-pub mod Callees
+pub mod SharedFrames
 pub mod CalleeSteps

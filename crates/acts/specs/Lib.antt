@@ -1,4 +1,4 @@
 -- What the contracts of this crate cite, over the definitions of crate `model` and the words of crate `record`.
 pub mod Acting
-pub mod Callees
+pub mod SharedFrames
 pub mod Links

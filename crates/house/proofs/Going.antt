@@ -17,7 +17,7 @@ use Rattle.model.specs.Machine.Answer as Answer
 use Rattle.model.specs.declared.record.Machine.{Machine}
 use Rattle.model.specs.declared.reply.Outcome.{Outcome}
 use Rattle.house.specs.Accepted.{Accepted}
-use Rattle.house.specs.Turned.{linesFrom}
+use Rattle.house.specs.TurnLeaves.{linesFrom}
 use Rattle.lines.specs.Ending.{lastLines}
 use Rattle.lines.specs.Shown.{ShowsBytes}
 use Rattle.turns.specs.Turn.{isLast, isLimit, isOver, turnOutcome, nextAt, nextSteps}

@@ -19,7 +19,7 @@ use Rattle.model.specs.declared.record.Machine.{Machine}
 use Rattle.model.specs.declared.reply.Outcome.{Outcome}
 use Rattle.job.proofs.Test.{eq-eqb, ne-eqb, lt-ltb, le-not-ltb, le-leb, lt-not-leb}
 use Rattle.lines.specs.Ending.{lastLines}
-use Rattle.house.specs.Turned.{linesFrom}
+use Rattle.house.specs.TurnLeaves.{linesFrom}
 
 -- where a run stands with the records from `at` on not delivered
 abbrev pub standing : (rest : List ℕ) → Machine → (steps at : ℕ) → Standing

@@ -17,10 +17,10 @@ use Rattle.model.specs.declared.record.Machine.{Machine}
 use Rattle.model.specs.declared.reply.Outcome.{Outcome}
 use Rattle.record.specs.Holds.{Codes, Holds}
 use Rattle.acts.specs.Acting.{SomeMachine, Lawful, Marks, QueueHasToken}
-use Rattle.acts.specs.Callees.{OneCallee}
+use Rattle.acts.specs.SharedFrames.{OneCallee}
 use Rattle.acts.proofs.CalleeSteps.{start-callees}
 use Rattle.house.specs.Accepted.{Accepted}
-use Rattle.house.specs.Turned.{Turned, goesOn}
+use Rattle.house.specs.TurnLeaves.{TurnLeaves, goesOn}
 use Rattle.house.specs.declared.turn.TurnEnd.{TurnEnd}
 use Rattle.lines.specs.Ending.{lastLines}
 use Rattle.lines.specs.Shown.{ShowsBytes}
@@ -81,7 +81,7 @@ module _ (dag rest before : List ℕ) (from : ℕ) where
     -- what a turn that goes on leaves
     under-way : {ws′ output′ : List ℕ} {used′ cells′ shared′ : List Bool} {steps′ at′ : ℕ} (r : TurnEnd)
         → Going dag rest before from (turned .machine) steps′ at′ (r .total) output′
-        → Turned turned (L .machine) ws′ used′ cells′ shared′ output from total output′ r → Lent ws′ used′ cells′ shared′ steps′ at′ (r .total) output′
+        → TurnLeaves turned (L .machine) ws′ used′ cells′ shared′ output from total output′ r → Lent ws′ used′ cells′ shared′ steps′ at′ (r .total) output′
     under-way r next given =
         let framed = reached-framed dag (L .going .accepted) (L .going .reached) in
         record {
@@ -115,8 +115,8 @@ module _ (dag rest before : List ℕ) (from : ℕ) where
 
         module _ {ws′ output′ : List ℕ} (n : ℕ)
             (gives : (m : Machine) (d : List ℕ) (us ks ss : List Bool) → Lawful ws us ks d m → OneCallee ss m → m .queued ≡ 0
-            → Turned (turnOutcome (dagOf d) m rest at) m ws′ us ks ss output from total output′ (goesOn n)) where
-          delivered : Turned turned (L .machine) ws′ used cells shared output from total output′ (goesOn n)
+            → TurnLeaves (turnOutcome (dagOf d) m rest at) m ws′ us ks ss output from total output′ (goesOn n)) where
+          delivered : TurnLeaves turned (L .machine) ws′ used cells shared output from total output′ (goesOn n)
           delivered = gives (L .machine) dag used cells shared (L .lawful) (L .callees) none
 
           pub lent-delivers-less : (100000 - steps) + (length rest - (at + 8)) < (100000 - steps) + (length rest - at)
@@ -150,8 +150,8 @@ module _ (dag rest before : List ℕ) (from : ℕ) where
 
       module _ (under : steps ≡ 100000 → ⊥) {ws′ output′ : List ℕ} {used′ cells′ shared′ : List Bool} (r : TurnEnd)
           (gives : (m : Machine) (rs : List ℕ) (a : ℕ) → QueueHasToken ws used cells dag 0 m → OneCallee shared m
-          → Turned (turnOutcome (dagOf dag) m rs a) m ws′ used′ cells′ shared′ output from total output′ r) where
-        stepped : Turned turned (L .machine) ws′ used′ cells′ shared′ output from total output′ r
+          → TurnLeaves (turnOutcome (dagOf dag) m rs a) m ws′ used′ cells′ shared′ output from total output′ r) where
+        stepped : TurnLeaves turned (L .machine) ws′ used′ cells′ shared′ output from total output′ r
         stepped = gives (L .machine) rest at has (L .callees)
 
         abbrev below : false ≡ isLimit (L .machine .queued) steps

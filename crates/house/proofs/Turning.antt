@@ -13,11 +13,11 @@ use Rattle.model.specs.declared.reply.Outcome.{Outcome}
 use Rattle.model.specs.declared.reply.Reply.{Reply}
 use Rattle.model.specs.declared.reply.Reply.the-variants as replies
 use Rattle.model.specs.declared.reply.Report.{Report}
-use Rattle.acts.specs.Callees.{Stepped}
+use Rattle.acts.specs.SharedFrames.{Stepped}
 use Rattle.lines.specs.Shown.{ShowsBytes}
 use Rattle.lines.proofs.Showing.{shows-as}
 use Rattle.turns.specs.Turn.{hasLine, isOver}
-use Rattle.house.specs.Turned.{Turned}
+use Rattle.house.specs.TurnLeaves.{TurnLeaves}
 
 -- a reply without a line prints nothing and refuses nothing
 pub silent : (r : Reply) (vs : List ℤ) → hasLine r ≡ false → ([] ≡ textOfAll (reportedLines (reported r vs))) × (false ≡ isRefused r)
@@ -31,7 +31,7 @@ silent (replies.Refused x) vs e = clash refl e
 module _ {o : Outcome} {m : Machine} {ws : List ℕ} {used cells shared : List Bool} {p : Report} (g : Stepped o m ws used cells shared p) {before after : List ℕ}
     {from total n : ℕ} {over : Bool} (ends : over ≡ isOver (m .queued) (p .reply)) where
   pub turned-shows : ShowsBytes before from total (textOfAll (reportedLines (reported (p .reply) (p .values)))) after n → n ≤ total + 80
-      → Turned o m ws used cells shared before from total after (record { total = n; over = over })
+      → TurnLeaves o m ws used cells shared before from total after (record { total = n; over = over })
   turned-shows s few =
       record {
         holds = g .gives .holds;

@@ -9,7 +9,7 @@ ghost use Rattle.model.specs.Output.Orcrun.{runLines};
 ghost use Rattle.model.specs.Machine.Limits.{paper};
 ghost use Rattle.model.specs.Machine.Start as Start;
 ghost use Rattle.acts.specs.Acting.{Lawful};
-ghost use Rattle.acts.specs.Callees.{OneCallee};
+ghost use Rattle.acts.specs.SharedFrames.{OneCallee};
 ghost use Rattle.lines.specs.Shown.{ShowsBytes};
 ghost use Rattle.house.specs.Accepted.{Accepted};
 use crate::turn::deliver_turn;

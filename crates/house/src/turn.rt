@@ -8,9 +8,9 @@ ghost use lib.ListN.{length};
 ghost use Rattle.job.specs.Words.{dagOf};
 ghost use Rattle.model.specs.declared.record.Machine.{Machine};
 ghost use Rattle.acts.specs.Acting.{SomeMachine, Lawful, QueueHasToken};
-ghost use Rattle.acts.specs.Callees.{OneCallee};
+ghost use Rattle.acts.specs.SharedFrames.{OneCallee};
 ghost use Rattle.turns.specs.Turn.{turnOutcome};
-ghost use Rattle.house.specs.Turned.{Turned, goesOn};
+ghost use Rattle.house.specs.TurnLeaves.{TurnLeaves, goesOn};
 use job::dag::WORDS;
 use lines::report::show_reply;
 use model::record::Machine;
@@ -36,7 +36,7 @@ pub fn deliver_turn(
 ) -> usize
     requires { ⌜ (at + 8 ≤ length (now rest)) × (total + 80 ≤ 1000000000) ⌝ }
     ensures { λ r. ⌜ ((m : Machine) (dag : List ℕ) (used cells shared : List Bool) → Lawful (now (w .entry)) used cells dag m → OneCallee shared m → m .queued ≡ 0
-        → Turned (turnOutcome (dagOf dag) m (now (rest .entry)) at) m (now (w .exit)) used cells shared
+        → TurnLeaves (turnOutcome (dagOf dag) m (now (rest .entry)) at) m (now (w .exit)) used cells shared
         (now (output .entry)) from total (now (output .exit)) (goesOn r)) ⌝ }
 {
     let report = deliver(w, rest, at);
@@ -59,7 +59,7 @@ pub fn step_turn(
     requires { ⌜ SomeMachine (QueueHasToken (now w) (now tokens) (now cells) (now dag) 0) × (total + 80 ≤ 1000000000) ⌝ }
     ensures { λ r. ⌜ ((m : Machine) (rest : List ℕ) (at : ℕ) → QueueHasToken (now (w .entry)) (now (tokens .entry)) (now (cells .entry)) (now (dag .entry)) 0 m
         → OneCallee (now (shared .entry)) m
-        → Turned (turnOutcome (dagOf (now (dag .entry))) m rest at) m (now (w .exit)) (now (tokens .exit)) (now (cells .exit)) (now (shared .exit))
+        → TurnLeaves (turnOutcome (dagOf (now (dag .entry))) m rest at) m (now (w .exit)) (now (tokens .exit)) (now (cells .exit)) (now (shared .exit))
         (now (output .entry)) from total (now (output .exit)) r) ⌝ }
 {
     let report = step(w, tokens, cells, shared, dag, 0);

@@ -137,18 +137,18 @@ module _ (names : List ℕ) (marks : List Bool) where
         omega arith
 
 -- where the pass is after i turns, and a turn more
-pub record Turned (names : List ℕ) (count : ℕ) (marks : List Bool) (i : ℕ) (after : List ℕ) (n : ℕ) : Type 0 where
+pub record TurnLeaves (names : List ℕ) (count : ℕ) (marks : List Bool) (i : ℕ) (after : List ℕ) (n : ℕ) : Type 0 where
   pub below : i ≤ count
   pub few : n ≤ i
   pub size : length after ≡ length names
   pub number : n ≡ length (front names marks i)
   pub array : after ≡ turned names marks i
 
-pub turned-first : (names : List ℕ) (count : ℕ) (marks : List Bool) → Turned names count marks 0 names 0
+pub turned-first : (names : List ℕ) (count : ℕ) (marks : List Bool) → TurnLeaves names count marks 0 names 0
 unfolding filter padded
 turned-first names count marks = record { below = omega arith; few = omega arith; size = refl; number = refl; array = refl }
 
-module _ {names after : List ℕ} {count i n : ℕ} {marks : List Bool} (t : Turned names count marks i after n) where
+module _ {names after : List ℕ} {count i n : ℕ} {marks : List Bool} (t : TurnLeaves names count marks i after n) where
   module _ (b : Bool) (l : i < count) (fit : count ≤ length names) (e : b ≡ getD marks (getD after i 0) false) where
     name : getD after i 0 ≡ getD names i 0
     name = ap (λ r. getD r i 0) (t .array) ∙ turn-name names marks i (omega (arith, t .below))
@@ -156,7 +156,7 @@ module _ {names after : List ℕ} {count i n : ℕ} {marks : List Bool} (t : Tur
     mark : getD marks (getD names i 0) false ≡ b
     mark = ap (λ p. getD marks p false) (sym name) ∙ sym e
 
-    pub turned-drops : (xs : List ℕ) (k : ℕ) → b ≡ false → xs ≡ set after i 0 → k ≡ n → Turned names count marks (i + 1) xs k
+    pub turned-drops : (xs : List ℕ) (k : ℕ) → b ≡ false → xs ≡ set after i 0 → k ≡ n → TurnLeaves names count marks (i + 1) xs k
     turned-drops xs k f ex ek =
         let inside : i < length names = omega arith in
         record {
@@ -167,7 +167,7 @@ module _ {names after : List ℕ} {count i n : ℕ} {marks : List Bool} (t : Tur
           array = ex ∙ ap (λ r. set r i 0) (t .array) ∙ turn-drops names marks i inside (mark ∙ f);
         }
 
-    pub turned-keeps : (xs : List ℕ) (k : ℕ) → b ≡ true → xs ≡ set (set after i 0) n (getD after i 0) → k ≡ n + 1 → Turned names count marks (i + 1) xs k
+    pub turned-keeps : (xs : List ℕ) (k : ℕ) → b ≡ true → xs ≡ set (set after i 0) n (getD after i 0) → k ≡ n + 1 → TurnLeaves names count marks (i + 1) xs k
     turned-keeps xs k f ex ek =
         let inside : i < length names = omega arith in
         record {

@@ -11,7 +11,7 @@ use Rattle.model.specs.declared.token.Place.the-variants as places
 use Rattle.model.specs.declared.token.Token.{Token}
 use Rattle.model.proofs.Machine.InUse.{token-outside}
 use Rattle.record.specs.Words.{placeNumber}
-use Rattle.acts.specs.Callees.{NamesAsCaller}
+use Rattle.acts.specs.SharedFrames.{NamesAsCaller}
 
 -- a place by its number
 pub place-of : (q : Place) (f n : ℕ) → n ≡ placeNumber q → n ≡ f + 1 → q ≡ places.At f

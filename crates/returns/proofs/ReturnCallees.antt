@@ -30,8 +30,8 @@ use Rattle.model.proofs.Sees.Others.{token-other}
 use Rattle.demand3.proofs.Returned.{Returns}
 use Rattle.record.specs.Fields.{dequeued}
 use Rattle.acts.specs.Acting.{Acting}
-use Rattle.acts.specs.Callees.{NamesAsCaller, OneCallee, Alone, callerShared, returnShared}
-use Rattle.acts.proofs.Callees.{unshared, blank-names, callees-kept, swept-callees, swept-names, put-names}
+use Rattle.acts.specs.SharedFrames.{NamesAsCaller, OneCallee, Alone, callerShared, returnShared}
+use Rattle.acts.proofs.SharedFrames.{unshared, blank-names, callees-kept, swept-callees, swept-names, put-names}
 use Rattle.acts.proofs.Instructions.{return-step}
 use Rattle.returns.proofs.Returning.{returns}
 

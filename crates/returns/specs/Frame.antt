@@ -8,7 +8,7 @@ use Rattle.model.specs.Machine.Blank.{blankToken, tokenAt}
 use Rattle.model.specs.Machine.Step.{put}
 use Rattle.model.specs.declared.record.Machine.{Machine}
 use Rattle.record.specs.Holds.{Holds}
-use Rattle.acts.specs.Callees.{NamesAsCaller}
+use Rattle.acts.specs.SharedFrames.{NamesAsCaller}
 use Rattle.acts.specs.Links.{BindsNoCell}
 
 -- r says whether any token does

@@ -4,7 +4,7 @@ ghost use mathlib.Core.Bool.{false};
 ghost use Prim.Native.Nat.{ℕ, _<_};
 ghost use Rattle.model.specs.declared.record.Machine.{Machine};
 ghost use Rattle.record.specs.Holds.{Codes, Holds};
-ghost use Rattle.acts.specs.Callees.{NamesAsCaller};
+ghost use Rattle.acts.specs.SharedFrames.{NamesAsCaller};
 ghost use Rattle.returns.specs.Frame.{IsCaller, AfterRelease};
 use model::record::Machine;
 use record::token::blank;

@@ -8,7 +8,7 @@ ghost use mathlib.Core.Bool.{false};
 ghost use Prim.Native.Nat.{_<_};
 ghost use Rattle.record.specs.Holds.{Codes};
 ghost use Rattle.acts.specs.Acting.{SomeMachine, Acting, Gives};
-ghost use Rattle.acts.specs.Callees.{Alone};
+ghost use Rattle.acts.specs.SharedFrames.{Alone};
 ghost use Rattle.returns.specs.Frame.{SameCells};
 use crate::frame::release;
 use acts::links::binds_cell;

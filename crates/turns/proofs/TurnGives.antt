@@ -15,7 +15,7 @@ use Rattle.model.specs.declared.record.Machine.{Machine}
 use Rattle.model.specs.declared.reply.Outcome.{Outcome}
 use Rattle.model.specs.declared.reply.Report.{Report}
 use Rattle.acts.specs.Acting.{Lawful, QueueHasToken, Gives}
-use Rattle.acts.specs.Callees.{OneCallee, Stepped}
+use Rattle.acts.specs.SharedFrames.{OneCallee, Stepped}
 use Rattle.acts.proofs.CalleeSteps.{answer-keeps}
 use Rattle.turns.specs.Turn.{turnOutcome}
 use Rattle.turns.proofs.TurnCases.{turn-empty, turn-ready}

@@ -19,8 +19,8 @@ use Rattle.job.proofs.Test.{clash}
 use Rattle.demand3.proofs.Unblanked.{rules-clean}
 use Rattle.record.specs.Words.{placeNumber}
 use Rattle.acts.specs.Acting.{Taking, Acting, CallersAreFrames, Gives}
-use Rattle.acts.specs.Callees.{NamesAsCaller, OneCallee, callerShared, returnShared, Stepped}
-use Rattle.acts.proofs.Callees.{blank-names}
+use Rattle.acts.specs.SharedFrames.{NamesAsCaller, OneCallee, callerShared, returnShared, Stepped}
+use Rattle.acts.proofs.SharedFrames.{blank-names}
 use Rattle.acts.proofs.CalleeSteps.{stop-keeps, site-keeps, assign-keeps, remove-keeps, choke-keeps, publish-keeps, call-keeps, fork-keeps, where-keeps}
 use Rattle.acts.proofs.Outcomes.{token-ready}
 use Rattle.returns.proofs.ReturnCallees.{return-keeps}

@@ -5,7 +5,7 @@ ghost use Rattle.model.specs.Machine.Limits.{paper};
 ghost use Rattle.model.specs.Machine.Step as Step;
 ghost use Rattle.model.specs.declared.record.Machine.{Machine};
 ghost use Rattle.acts.specs.Acting.{SomeMachine, Acting};
-ghost use Rattle.acts.specs.Callees.{OneCallee, Stepped};
+ghost use Rattle.acts.specs.SharedFrames.{OneCallee, Stepped};
 use crate::callees::call_marked;
 use crate::callees::fork_marked;
 use crate::callees::return_marked;

@@ -11,7 +11,7 @@ ghost use Rattle.model.specs.Machine.Step as Step;
 ghost use Rattle.model.specs.declared.record.Machine.{Machine};
 ghost use Rattle.record.specs.Holds.{Codes};
 ghost use Rattle.acts.specs.Acting.{SomeMachine, Acting};
-ghost use Rattle.acts.specs.Callees.{OneCallee, callerShared, Stepped};
+ghost use Rattle.acts.specs.SharedFrames.{OneCallee, callerShared, Stepped};
 use job::dag::WORDS;
 use job::wide::wide;
 use model::record::Machine;

@@ -4,7 +4,7 @@ ghost use Rattle.model.specs.Machine.Limits.{paper};
 ghost use Rattle.model.specs.Machine.Step as Step;
 ghost use Rattle.model.specs.declared.record.Machine.{Machine};
 ghost use Rattle.acts.specs.Acting.{SomeMachine, QueueHasToken};
-ghost use Rattle.acts.specs.Callees.{OneCallee, Stepped};
+ghost use Rattle.acts.specs.SharedFrames.{OneCallee, Stepped};
 use crate::act::act;
 use job::dag::HEAD_WORDS;
 use job::dag::ROW_WORDS;

@@ -1,7 +1,7 @@
 -- `step::step` meets its contract: each way out is how the definition's call ends there. Assumes nothing.
 use Rattle.machine.proofs.Giving.{denied, granted, step-rule, step-gives, step-no-token}
 use native.Mathlib.Omega.{arith}
-use Rattle.acts.proofs.Callees.{all-shared}
+use Rattle.acts.proofs.SharedFrames.{all-shared}
 use borrow.Author.Needs.{needs}
 use Rattle.machine.proofs.step.step.Statement.{statement}
 use Rattle.machine.proofs.step.step.Tie as tie

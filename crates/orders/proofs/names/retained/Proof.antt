@@ -1,15 +1,15 @@
--- Each turn takes a name out and puts it behind those kept so far if it is marked, as `Turned` says. Assumes nothing.
+-- Each turn takes a name out and puts it behind those kept so far if it is marked, as `TurnLeaves` says. Assumes nothing.
 use mathlib.Core.Logic.{⊎-elim}
 use borrow.Author.Needs.{needs}
 use native.Mathlib.Omega.{arith}
 use Prim.Native.Nat.{_-_}
 use lib.ListN.{length-set}
-use Rattle.orders.proofs.Retaining.{Turned, turned-first, turned-drops, turned-keeps, retained-all}
+use Rattle.orders.proofs.Retaining.{TurnLeaves, turned-first, turned-drops, turned-keeps, retained-all}
 use Rattle.orders.proofs.names.retained.Statement.{statement}
 use Rattle.orders.proofs.names.retained.Tie as tie
 
 abbrev Inv-loop : tie.InvT-loop
-Inv-loop names₀ count keep n₀ i₀ names n i = Turned names₀ count keep i names n
+Inv-loop names₀ count keep n₀ i₀ names n i = TurnLeaves names₀ count keep i names n
 
 abbrev μ-loop : tie.MeasureT-loop
 μ-loop names₀ count keep n₀ i₀ names n i = count - i

@@ -10,7 +10,7 @@ use Rattle.model.specs.declared.record.Machine.{Machine}
 use Rattle.model.specs.declared.reply.Outcome.{Outcome}
 use Rattle.record.specs.Holds.{Holds}
 use Rattle.acts.specs.Acting.{Marks, CallersAreFrames}
-use Rattle.acts.specs.Callees.{OneCallee}
+use Rattle.acts.specs.SharedFrames.{OneCallee}
 use Rattle.lines.specs.Shown.{ShowsBytes}
 use Rattle.turns.specs.Turn.{isOver}
 use Rattle.house.specs.declared.turn.TurnEnd.{TurnEnd}
@@ -23,7 +23,7 @@ linesFrom o = reportedLines (reported (o .reply) (o .values))
 abbrev pub goesOn : (total : ℕ) → TurnEnd
 goesOn n = record { total = n; over = false }
 
-pub record Turned (o : Outcome) (m : Machine) (ws : List ℕ) (used usedCells shared : List Bool) (output : List ℕ) (from total : ℕ) (after : List ℕ) (r : TurnEnd)
+pub record TurnLeaves (o : Outcome) (m : Machine) (ws : List ℕ) (used usedCells shared : List Bool) (output : List ℕ) (from total : ℕ) (after : List ℕ) (r : TurnEnd)
     : Type 0 where
   pub holds : Holds ws (o .machine)
   pub marks : CallersAreFrames m → Marks used usedCells (o .machine)

@@ -27,7 +27,7 @@ use Rattle.model.proofs.Machine.Kept.{kept-marked, kept-free}
 use Rattle.model.proofs.Sees.Others.{token-same, token-other}
 use Rattle.model.proofs.Keeps.Clean.{tokensOf}
 use Rattle.acts.specs.Acting.{Lawful}
-use Rattle.acts.specs.Callees.{NamesAsCaller, OneCallee, callerShared, returnShared}
+use Rattle.acts.specs.SharedFrames.{NamesAsCaller, OneCallee, callerShared, returnShared}
 
 pub nowhere-at : (f : ℕ) → places.Nowhere ≡ places.At f → ⊥
 nowhere-at f e = let z : _≡_ {A = ℕ} 0 1 = cc in absurd (omega arith)
