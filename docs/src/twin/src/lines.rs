@@ -124,10 +124,13 @@ fn run(machine: &mut Machine, dag: &Dag, mut answers: &[u8], lines: &mut Lines) 
                 lines.put(b"limit", &[]);
                 break;
             }
+            // most steps have no line
             let reply = act(machine, dag, 0, &mut used);
-            lines.reply(reply);
-            if matches!(reply, Reply::Refused(_)) {
-                break;
+            if !matches!(reply, Reply::Done | Reply::Waits) {
+                lines.reply(reply);
+                if matches!(reply, Reply::Refused(_)) {
+                    break;
+                }
             }
             steps += 1;
         } else if let Some((record, rest)) = answers.split_first_chunk::<8>() {

@@ -65,6 +65,7 @@ fn passed(token: &Token, kind: u32, word: u32) -> Slot {
 }
 
 /// The token at a place of the queue acts, on a record that keeps the rules. `used` says what is in use, before and after.
+#[inline(always)]
 pub fn act(machine: &mut Machine, dag: &Dag, place: usize, used: &mut Used) -> Reply {
     let p = machine.queue.names[place];
     let token = &machine.tokens[p as usize];
