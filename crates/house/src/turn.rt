@@ -25,7 +25,7 @@ pub struct TurnEnd {
     pub over: bool,
 }
 
-// "With the queue empty it delivers a record"; a refused answer doesn't end the run.
+// "With the queue empty it delivers a record"; a refused answer doesn't end the run. An answer has no values beside its reply.
 pub fn deliver_turn(
     w: &mut [u32; Machine::WORDS],
     rest: &[u8],
@@ -41,8 +41,10 @@ pub fn deliver_turn(
 {
     let report = deliver(w, rest, at);
     let reply = report.reply;
-    let values = report.values;
-    show_reply(reply, values, output, from, total)
+    if has_line(reply) {
+        return show_reply(reply, [0; 4], output, from, total);
+    }
+    total
 }
 
 // "It runs house order"; "a refused step ends the run".
