@@ -1,6 +1,6 @@
 -- What is known where a token acts, and what its act leaves. Assumes nothing: these are definitions.
 use mathlib.Core.Path.{_≡_}
-use mathlib.Core.Bool.{Bool, true}
+use mathlib.Core.Bool.{Bool, true, false}
 use mathlib.Core.List.{List, []}
 use Prim.Native.Nat.{ℕ, _<_}
 use lib.ListN.{length, getD}
@@ -12,7 +12,9 @@ use Rattle.model.specs.Machine.Reply.{reportValues}
 use Rattle.model.specs.Machine.Rules.{rulesHold}
 use Rattle.model.specs.declared.record.Machine.{Machine}
 use Rattle.model.specs.declared.reply.Outcome.{Outcome}
+use Rattle.model.specs.declared.reply.Refusal.the-variants as refusals
 use Rattle.model.specs.declared.reply.Reply.{Reply}
+use Rattle.model.specs.declared.reply.Reply.the-variants as replies
 use Rattle.model.specs.declared.reply.Report.{Report}
 use Rattle.model.specs.declared.token.Place.the-variants as places
 use Rattle.model.specs.declared.token.State.the-variants as states
@@ -68,3 +70,8 @@ pub record Gives (o : Outcome) (m : Machine) (ws : List ℕ) (used usedCells : L
 -- a report without values
 abbrev pub plain : Reply → Report
 plain r = record { reply = r; values = reportValues [] }
+
+-- an answer's, by whether its handle was open
+abbrev pub answerReport : Bool → Report
+answerReport true = plain replies.Done
+answerReport false = plain (replies.Refused refusals.NotOpen)

@@ -14,6 +14,8 @@ ghost use Rattle.house.specs.TurnLeaves.{TurnLeaves, goesOn};
 use job::dag::WORDS;
 use lines::report::show_reply;
 use model::record::Machine;
+use model::reply::Refusal;
+use model::reply::Reply;
 use turns::deliver::deliver;
 use turns::reply::has_line;
 use turns::reply::is_refused;
@@ -25,7 +27,7 @@ pub struct TurnEnd {
     pub over: bool,
 }
 
-// "With the queue empty it delivers a record"; a refused answer doesn't end the run. An answer has no values beside its reply.
+// "With the queue empty it delivers a record"; a refused answer doesn't end the run.
 pub fn deliver_turn(
     w: &mut [u32; Machine::WORDS],
     rest: &[u8],
@@ -39,12 +41,11 @@ pub fn deliver_turn(
         → TurnLeaves (turnOutcome (dagOf dag) m (now (rest .entry)) at) m (now (w .exit)) used cells shared
         (now (output .entry)) from total (now (output .exit)) (goesOn r)) ⌝ }
 {
-    let report = deliver(w, rest, at);
-    let reply = report.reply;
-    if has_line(reply) {
-        return show_reply(reply, [0; 4], output, from, total);
+    if deliver(w, rest, at) {
+        return total;
     }
-    total
+    let refused = Reply::Refused(Refusal::NotOpen);
+    show_reply(refused, [0; 4], output, from, total)
 }
 
 // "It runs house order"; "a refused step ends the run".

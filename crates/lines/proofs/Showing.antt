@@ -167,6 +167,10 @@ front-few w = let f = w .few in let e = w .behind in omega arith
 pub blank-line : length {A = ℕ} (replicate 80 0) ≡ 80
 blank-line = length-replicate {A = ℕ} 80 0
 
+-- a line's buffer keeps its length
+pub full : {n : ℕ} {before after bytes : List ℕ} → Written 80 before 0 bytes after n → length before ≡ 80 → length after ≡ 80
+full {before = before} {bytes = bytes} w e = ap length (w .stored) ∙ length-sets before 0 bytes ∙ e
+
 -- the part of a buffer from its first byte on
 pub front-part : (n : ℕ) (buffer : List ℕ) → take (n - 0) buffer ≡ take n buffer
 front-part n buffer = let same : n - 0 ≡ n = omega arith in ap (λ (k : ℕ). take k buffer) same

@@ -14,7 +14,7 @@ pub fn show_end(steps: u32, output: &mut [u8], from: usize, total: usize) -> usi
 {
     let mut buffer = [0u8; 80];
     let n = line::put_end(&mut buffer, 0, steps);
-    show_front(buffer, n, output, from, total)
+    show_front(&buffer, n, output, from, total)
 }
 
 // "With 100,000 steps made and a token ready: `limit`, then `end`."
@@ -24,7 +24,7 @@ pub fn show_limit(steps: u32, output: &mut [u8], from: usize, total: usize) -> u
 {
     let mut buffer = [0u8; 80];
     let n = line::put_limit(&mut buffer, 0);
-    let to = show_front(buffer, n, output, from, total);
+    let to = show_front(&buffer, n, output, from, total);
     show_end(steps, output, from, to)
 }
 
@@ -38,6 +38,6 @@ pub fn show_last(left: usize, steps: u32, output: &mut [u8], from: usize, total:
     }
     let mut buffer = [0u8; 80];
     let n = line::put_short(&mut buffer, 0);
-    let to = show_front(buffer, n, output, from, total);
+    let to = show_front(&buffer, n, output, from, total);
     show_end(steps, output, from, to)
 }

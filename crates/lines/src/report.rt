@@ -40,7 +40,7 @@ fn show_publish(v: i32, output: &mut [u8], from: usize, total: usize) -> usize
 {
     let mut buffer = [0u8; 80];
     let n = line::put_publish(&mut buffer, 0, v);
-    show_front(buffer, n, output, from, total)
+    show_front(&buffer, n, output, from, total)
 }
 
 fn show_call(
@@ -57,7 +57,7 @@ fn show_call(
 {
     let mut buffer = [0u8; 80];
     let n = line::put_call(&mut buffer, 0, handle, site, values, count);
-    show_front(buffer, n, output, from, total)
+    show_front(&buffer, n, output, from, total)
 }
 
 fn show_refused(number: u8, output: &mut [u8], from: usize, total: usize) -> usize
@@ -66,7 +66,7 @@ fn show_refused(number: u8, output: &mut [u8], from: usize, total: usize) -> usi
 {
     let mut buffer = [0u8; 80];
     let n = line::put_refused(&mut buffer, 0, number);
-    show_front(buffer, n, output, from, total)
+    show_front(&buffer, n, output, from, total)
 }
 
 // Shows the line of a reply behind the first `total` bytes. Answers how many there are then.

@@ -30,10 +30,10 @@ fn show(line: &[u8], output: &mut [u8], from: usize, total: usize) -> usize
     total + line.len()
 }
 
-// The first `n` bytes of a line's buffer.
-pub fn show_front(buffer: [u8; 80], n: usize, output: &mut [u8], from: usize, total: usize) -> usize
-    requires { ⌜ (n ≤ 80) × (total + 80 ≤ 1000000000) ⌝ }
-    ensures { λ r. ⌜ ShowsBytes (now (output .entry)) from total (take n buffer) (now (output .exit)) r ⌝ }
+// The first `n` bytes of a line's buffer, which is not copied: its bytes were just written, and a copy would wait for them.
+pub fn show_front(buffer: &[u8], n: usize, output: &mut [u8], from: usize, total: usize) -> usize
+    requires { ⌜ (n ≤ 80) × (length (now buffer) ≡ 80) × (total + 80 ≤ 1000000000) ⌝ }
+    ensures { λ r. ⌜ ShowsBytes (now (output .entry)) from total (take n (now (buffer .entry))) (now (output .exit)) r ⌝ }
 {
     show(&buffer[0..n], output, from, total)
 }

@@ -4,6 +4,7 @@ ghost use mathlib.Core.Bool.{false};
 ghost use mathlib.Core.List.{map, _++_, _∷_, []};
 ghost use Prim.Native.Nat.{_<_, _≤_, _+_};
 ghost use lib.Dec.{eqb};
+ghost use lib.ListN.{replicate};
 ghost use Rattle.model.specs.Machine.Active.{within};
 ghost use Rattle.model.specs.Machine.Blank.{tokenAt};
 ghost use Rattle.model.specs.Machine.Step.{put, withOrders, queueOf, waitsOf, chokeToken, afterChoke};
@@ -78,18 +79,17 @@ fn choke_rows(w: &mut [u32; Machine::WORDS], c: usize, end: usize)
     }
 }
 
-// The tokens whose state is of a kind that is not blank.
-fn in_state(w: &[u32; Machine::WORDS], kind: u32, end: usize) -> [bool; Machine::TOKENS]
+// Marks the tokens whose state is of a kind that is not blank. No mark is there before.
+fn mark_state(w: &[u32; Machine::WORDS], kind: u32, end: usize, marks: &mut [bool; Machine::TOKENS])
     requires { ⌜ (0 < kind) × (end ≤ 64) ⌝ }
-    ensures { λ r. ⌜ ((m : Machine) → Codes (now (w .entry)) m → BlankFrom m end → r ≡ map (λ (t : Token). eqb (stateKind (t .state)) kind) (m .tokens)) ⌝ }
+    ensures { λ _. ⌜ ((m : Machine) → Codes (now (w .entry)) m → BlankFrom m end → now (marks .entry) ≡ replicate 64 false
+        → now (marks .exit) ≡ map (λ (t : Token). eqb (stateKind (t .state)) kind) (m .tokens)) ⌝ }
 {
-    let mut marks = [false; Machine::TOKENS];
     let mut p: usize = 0;
     while p < end {
         marks[p] = token::state(w, p) == kind;
         p += 1;
     }
-    marks
 }
 
 // A name joins the queue if it is marked.
@@ -122,8 +122,10 @@ fn reorder(w: &mut [u32; Machine::WORDS], end: usize)
     requires { ⌜ end ≤ 64 ⌝ }
     ensures { λ _. ⌜ ((m : Machine) → Holds (now (w .entry)) m → BlankFrom m end → m .queued + m .waiting ≤ 64 → Holds (now (w .exit)) (reordered m)) ⌝ }
 {
-    let ready = in_state(w, READY_STATE, end);
-    let waiting = in_state(w, WAITING_STATE, end);
+    let mut ready = [false; Machine::TOKENS];
+    mark_state(w, READY_STATE, end, &mut ready);
+    let mut waiting = [false; Machine::TOKENS];
+    mark_state(w, WAITING_STATE, end, &mut waiting);
     order::retain_queue(w, &ready);
     wake(w, &ready);
     order::retain_waits(w, &waiting);

@@ -128,61 +128,62 @@ module _ (ks os : List ℕ) (left s at : ℕ) where
       unfolding kindOf readKind checked nodeCount
       exp-stop k = rw (by-kind, k, add-one)
 
-      pub exp-call : (q r : Checked) → (getD ks at 0 ≡ 0 → ⊥) → getD ks at 0 < 3
-          → q ≡ checkedParamList (readParamList (o / 65536) (levels s) (at + 1) (entriesFrom ks os (at + 1)))
-          → r ≡ more 1 q → Answers r
-      unfolding behind
-      exp-call q r f k eq er =
-          er
-          ∙ ap (more 1) (eq ∙ ap (λ i. checkedParamList (readParamList (o / 65536) (levels s) i (entriesFrom ks os i))) (add-one at))
-          ∙ sym (ap checkedExp by-kind ∙ call-kind (readExp (left - 1)) (levels s) at (suc at) behind (getD ks at 0) o f k)
+      module _ (f : getD ks at 0 ≡ 0 → ⊥) where
+        pub exp-call : (q r : Checked) → getD ks at 0 < 3
+            → q ≡ checkedParamList (readParamList (o / 65536) (levels s) (at + 1) (entriesFrom ks os (at + 1)))
+            → r ≡ more 1 q → Answers r
+        unfolding behind
+        exp-call q r k eq er =
+            er
+            ∙ ap (more 1) (eq ∙ ap (λ i. checkedParamList (readParamList (o / 65536) (levels s) i (entriesFrom ks os i))) (add-one at))
+            ∙ sym (ap checkedExp by-kind ∙ call-kind (readExp (left - 1)) (levels s) at (suc at) behind (getD ks at 0) o f k)
 
-      module _ (k3 : 3 ≤ getD ks at 0) (sd : Sides) (sides : JoinHolds (getD ks at 0) s sd) where
-        pub left-fits : s ≤ 8 → sd .left ≤ 8
-        unfolding scopeLeft
-        left-fits m =
-            let x = sound left s (getD ks at 0) o (sym en ∙ z) in
-            side-fits (getD ks at 0) s (sd .left) scopeLeft (left-most s) refl m k3 (x .room) (sides .left)
+        module _ (k3 : 3 ≤ getD ks at 0) (sd : Sides) (sides : JoinHolds (getD ks at 0) s sd) where
+          pub left-fits : s ≤ 8 → sd .left ≤ 8
+          unfolding scopeLeft
+          left-fits m =
+              let x = sound left s (getD ks at 0) o (sym en ∙ z) in
+              side-fits (getD ks at 0) s (sd .left) scopeLeft (left-most s) refl m k3 (x .room) (sides .left)
 
-        pub right-fits : s ≤ 8 → sd .right ≤ 8
-        unfolding scopeRight
-        right-fits m =
-            let x = sound left s (getD ks at 0) o (sym en ∙ z) in
-            side-fits (getD ks at 0) s (sd .right) scopeRight (right-most s) refl m k3 (x .room) (sides .right)
+          pub right-fits : s ≤ 8 → sd .right ≤ 8
+          unfolding scopeRight
+          right-fits m =
+              let x = sound left s (getD ks at 0) o (sym en ∙ z) in
+              side-fits (getD ks at 0) s (sd .right) scopeRight (right-most s) refl m k3 (x .room) (sides .right)
 
-        pub own-fits : sd .nodes ≤ 3
-        own-fits = let x = sides .nodes in omega (arith, own-few (joinOf (getD ks at 0) s))
+          pub own-fits : sd .nodes ≤ 3
+          own-fits = let x = sides .nodes in omega (arith, own-few (joinOf (getD ks at 0) s))
 
-        by-join : readExp left (levels s) at (entriesFrom ks os at)
-            ≡ (readExp (left - 1) (levels (sd .left)) (at + 1) (entriesFrom ks os (at + 1))
-            >>= second (readExp (left - 1)) (joinOf (getD ks at 0) s) (levels (sd .right)))
-        unfolding second behind readJoin
-        by-join =
-            let j = joinOf (getD ks at 0) s in
-            let side = readExp (left - 1) in
-            let x = sound left s (getD ks at 0) o (sym en ∙ z) in
-            by-kind
-            ∙ join-kind side s at (suc at) behind (getD ks at 0) o (x .kind) k3
-            ∙ ap₂ (λ a b. side a (suc at) behind >>= second side j b) (sym (sides .left)) (sym (sides .right))
-            ∙ ap (λ i. side (levels (sd .left)) i (entriesFrom ks os i) >>= second side j (levels (sd .right))) (sym (add-one at))
-
-        module _ (q : Checked) (eq : q ≡ checkedExp (readExp (left - 1) (levels (sd .left)) (at + 1) (entriesFrom ks os (at + 1)))) where
-          pub exp-left : (n e : ℕ) → q ≡ Refused n e → Answers (Refused n e)
-          exp-left n e h = rw by-join (bind-refused nodeCount _ nodeCount (second _ _ _) n e (sym eq ∙ h))
-
-          pub exp-join : (m d : ℕ) (z r : Checked) → q ≡ Next m d
-              → z ≡ checkedExp (readExp (left - 1) (levels (sd .right)) m (entriesFrom ks os m)) → r ≡ more (sd .nodes + d) z → Answers r
-          unfolding _>>=_
-          exp-join m d z r h ez er =
+          by-join : readExp left (levels s) at (entriesFrom ks os at)
+              ≡ (readExp (left - 1) (levels (sd .left)) (at + 1) (entriesFrom ks os (at + 1))
+              >>= second (readExp (left - 1)) (joinOf (getD ks at 0) s) (levels (sd .right)))
+          unfolding second behind readJoin
+          by-join =
               let j = joinOf (getD ks at 0) s in
               let side = readExp (left - 1) in
-              let es = entries ks os in
-              let a = checked-next nodeCount (side (levels (sd .left)) (at + 1) (entriesFrom ks os (at + 1))) m d (sym eq ∙ h) in
-              let f = exp-from es (left - 1) (levels (sd .left)) (at + 1) (entriesFrom ks os (at + 1)) (a .0) refl (a .1) in
-              let x : own j + nodeCount (a .0 .value) ≡ sd .nodes + d = ap₂ (λ i k. i + k) (sym (sides .nodes)) (a .3) in
-              er
-              ∙ ap (more (sd .nodes + d)) ez
-              ∙ sym (ap checkedExp (by-join ∙ ap (λ r. r >>= second side j (levels (sd .right))) (a .1))
-              ∙ second-answer side j (levels (sd .right)) (a .0)
-              ∙ ap (λ n. more n (checkedExp (side (levels (sd .right)) (a .0 .next) (a .0 .rest)))) x
-              ∙ ap₂ (λ i l. more (sd .nodes + d) (checkedExp (side (levels (sd .right)) i l))) (a .2) (f .rest ∙ ap (λ i. drop i es) (a .2)))
+              let x = sound left s (getD ks at 0) o (sym en ∙ z) in
+              by-kind
+              ∙ join-kind side s at (suc at) behind (getD ks at 0) o (x .kind) k3
+              ∙ ap₂ (λ a b. side a (suc at) behind >>= second side j b) (sym (sides .left)) (sym (sides .right))
+              ∙ ap (λ i. side (levels (sd .left)) i (entriesFrom ks os i) >>= second side j (levels (sd .right))) (sym (add-one at))
+
+          module _ (q : Checked) (eq : q ≡ checkedExp (readExp (left - 1) (levels (sd .left)) (at + 1) (entriesFrom ks os (at + 1)))) where
+            pub exp-left : (n e : ℕ) → q ≡ Refused n e → Answers (Refused n e)
+            exp-left n e h = rw by-join (bind-refused nodeCount _ nodeCount (second _ _ _) n e (sym eq ∙ h))
+
+            pub exp-join : (m d : ℕ) (z r : Checked) → q ≡ Next m d
+                → z ≡ checkedExp (readExp (left - 1) (levels (sd .right)) m (entriesFrom ks os m)) → r ≡ more (sd .nodes + d) z → Answers r
+            unfolding _>>=_
+            exp-join m d z r h ez er =
+                let j = joinOf (getD ks at 0) s in
+                let side = readExp (left - 1) in
+                let es = entries ks os in
+                let a = checked-next nodeCount (side (levels (sd .left)) (at + 1) (entriesFrom ks os (at + 1))) m d (sym eq ∙ h) in
+                let f = exp-from es (left - 1) (levels (sd .left)) (at + 1) (entriesFrom ks os (at + 1)) (a .0) refl (a .1) in
+                let x : own j + nodeCount (a .0 .value) ≡ sd .nodes + d = ap₂ (λ i k. i + k) (sym (sides .nodes)) (a .3) in
+                er
+                ∙ ap (more (sd .nodes + d)) ez
+                ∙ sym (ap checkedExp (by-join ∙ ap (λ r. r >>= second side j (levels (sd .right))) (a .1))
+                ∙ second-answer side j (levels (sd .right)) (a .0)
+                ∙ ap (λ n. more n (checkedExp (side (levels (sd .right)) (a .0 .next) (a .0 .rest)))) x
+                ∙ ap₂ (λ i l. more (sd .nodes + d) (checkedExp (side (levels (sd .right)) i l))) (a .2) (f .rest ∙ ap (λ i. drop i es) (a .2)))

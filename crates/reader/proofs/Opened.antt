@@ -3,7 +3,7 @@
 use mathlib.Core.Path.{_≡_, refl, sym, _∙_, ap}
 use mathlib.Core.Bool.{Bool, true, false, not}
 use mathlib.Core.List.{List, _∷_}
-use Prim.Native.Nat.{ℕ, zero, suc, _+_, _*_, _-_, _<_, _≤_}
+use Prim.Native.Nat.{ℕ, zero, suc, _-_, _<_, _≤_}
 use native.Mathlib.Omega.{arith}
 use native.Mathlib.Decide.{decLt}
 use lib.ListN.{length}
@@ -163,6 +163,5 @@ sound (suc left) s k o q = go (isExpression (kindOf k)) (rowHolds (kindOf k) o) 
 pub depth-left : (left s k o n : ℕ) → n ≡ expressionFault left s (kindOf k) o → n ≡ 0 → 1 ≤ left
 depth-left left s k o n e z = sound left s k o (sym e ∙ z) .depth
 
--- twice the depth leaves room for a side's measure between an expression's and that of the join above it
-pub depth-falls : (left s k o n t : ℕ) → n ≡ expressionFault left s (kindOf k) o → n ≡ 0 → 2 * left ≡ t → 2 * (left - 1) + 1 < t
+pub depth-falls : (left s k o n t : ℕ) → n ≡ expressionFault left s (kindOf k) o → n ≡ 0 → left ≡ t → left - 1 < t
 depth-falls left s k o n t e z q = let d = depth-left left s k o n e z in omega arith

@@ -4,8 +4,7 @@ use crate::checked::Checked;
 use crate::entry;
 use crate::parameter;
 ghost use mathlib.Core.Path.{_≡_};
-ghost use Prim.Native.Nat.{_<_, _≤_};
-ghost use lib.ListN.{length, getD};
+ghost use Prim.Native.Nat.{_≤_};
 ghost use Rattle.job.specs.Syntax.{levels};
 ghost use Rattle.job.specs.Read.{readExp};
 ghost use Rattle.reader.specs.Checked.{Parts, entriesFrom, checkedExp};
@@ -47,41 +46,6 @@ pub fn sides_of(kind: u8, scope: usize) -> Sides
     }
 }
 
-// The leaf at entry `at`: a stop, or a call with its parameters.
-fn check_leaf(kinds: &[u8], operands: &[u8], left: usize, scope: usize, at: usize) -> Checked
-    requires { ⌜ Parts (now kinds) (now operands) × (scope ≤ 8) × (at < length (now kinds)) × (getD (now kinds) at 0 < 3) ⌝ }
-    ensures { λ r. ⌜ r ≡ checkedExp (readExp left (levels scope) at (entriesFrom (now (kinds .entry)) (now (operands .entry)) at)) ⌝ }
-{
-    let kind = kinds[at];
-    let operand = entry::operand(operands, at);
-    let fault = entry::fault(kind, operand, left, scope);
-    if fault != 0 {
-        return Checked::Refused(fault, at);
-    }
-    if kind == 0 {
-        return Checked::Next(at + 1, 1);
-    }
-    let count = operand / 65536;
-    checked::add_nodes(
-        parameter::check_parameters(kinds, operands, count as usize, scope, at + 1),
-        1,
-    )
-}
-
-// A side of a join. A leaf is tested without a call that recurs, which costs more than the tests.
-fn check_side(kinds: &[u8], operands: &[u8], left: usize, scope: usize, at: usize) -> Checked
-    requires { ⌜ Parts (now kinds) (now operands) × (scope ≤ 8) ⌝ }
-    ensures { λ r. ⌜ r ≡ checkedExp (readExp left (levels scope) at (entriesFrom (now (kinds .entry)) (now (operands .entry)) at)) ⌝ }
-{
-    if kinds.len() <= at {
-        return Checked::Refused(5, at);
-    }
-    if kinds[at] < 3 {
-        return check_leaf(kinds, operands, left, scope, at);
-    }
-    check_expression(kinds, operands, left, scope, at)
-}
-
 // The expression from entry `at` on, where so many levels of depth are left and so many variables in scope.
 pub fn check_expression(
     kinds: &[u8],
@@ -97,20 +61,30 @@ pub fn check_expression(
         return Checked::Refused(5, at);
     }
     let kind = kinds[at];
-    if kind < 3 {
-        return check_leaf(kinds, operands, left, scope, at);
-    }
     let operand = entry::operand(operands, at);
     let fault = entry::fault(kind, operand, left, scope);
     if fault != 0 {
         return Checked::Refused(fault, at);
     }
+    if kind == 0 {
+        return Checked::Next(at + 1, 1);
+    }
+    if kind < 3 {
+        let count = operand / 65536;
+        return checked::add_nodes(
+            parameter::check_parameters(kinds, operands, count as usize, scope, at + 1),
+            1,
+        );
+    }
     let sides = sides_of(kind, scope);
-    let first = check_side(kinds, operands, left - 1, sides.left, at + 1);
+    // lent on as copies: a parameter that is lent on is stored where the call begins, also for a leaf
+    let kind_part = kinds;
+    let operand_part = operands;
+    let first = check_expression(kind_part, operand_part, left - 1, sides.left, at + 1);
     match first {
         Checked::Refused(n, e) => Checked::Refused(n, e),
         Checked::Next(e, k) => {
-            let second = check_side(kinds, operands, left - 1, sides.right, e);
+            let second = check_expression(kind_part, operand_part, left - 1, sides.right, e);
             checked::add_nodes(second, sides.nodes + k)
         }
     }

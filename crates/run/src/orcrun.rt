@@ -23,7 +23,7 @@ pub fn orcrun(input: &[u8], from: usize, dag: &mut [u32; WORDS], output: &mut [u
     let mut buffer = [0u8; 80];
     if 65536 < input.len() {
         let n = line::put_long(&mut buffer, 0);
-        return show_front(buffer, n, output, from, 0);
+        return show_front(&buffer, n, output, from, 0);
     }
     let end = table_end(input);
     whole(dag);
@@ -31,7 +31,7 @@ pub fn orcrun(input: &[u8], from: usize, dag: &mut [u32; WORDS], output: &mut [u
     match answer {
         Loaded::Refused(number, entry) => {
             let n = line::put_table(&mut buffer, 0, number, entry as u32);
-            show_front(buffer, n, output, from, 0)
+            show_front(&buffer, n, output, from, 0)
         }
         Loaded::Dag(_) => run(&input[end..], dag, output, from),
     }

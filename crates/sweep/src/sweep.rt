@@ -54,20 +54,20 @@ fn renew(marks: &mut [bool], used: &[bool], size: usize)
     }
 }
 
-// The tokens' rows by what is in use, which the marks then say. From the end on none was marked.
-fn keep_tokens(w: &mut [u32; Machine::WORDS], marks: &mut [bool], used: &[bool], end: usize)
+// The tokens' rows by what is in use. From the end on none was marked.
+fn keep_tokens(w: &mut [u32; Machine::WORDS], marks: &[bool], used: &[bool], end: usize)
     requires { ⌜ (length (now marks) ≡ 64) × (length (now used) ≡ 64) × (end ≤ 64) × UnmarkedFrom (now marks) end 64 ⌝ }
-    ensures { λ _. ⌜ (now (marks .exit) ≡ now (used .entry)) × ((m : Machine) → Holds (now (w .entry)) m → FreeTokens m (now (marks .entry)) → Holds (now (w .exit)) (withTables (restBlanked blankToken (now (used .entry)) (m .tokens)) (m .cells) m)) ⌝ }
+    ensures { λ _. ⌜ ((m : Machine) → Holds (now (w .entry)) m → FreeTokens m (now (marks .entry))
+        → Holds (now (w .exit)) (withTables (restBlanked blankToken (now (used .entry)) (m .tokens)) (m .cells) m)) ⌝ }
 {
     let mut p: usize = 0;
     while p < end {
         keep_token(w, p, marks[p], used[p]);
         p += 1;
     }
-    renew(marks, used, Machine::TOKENS);
 }
 
-// The same of the cells'.
+// The same of the cells', which the marks then say.
 fn keep_cells(w: &mut [u32; Machine::WORDS], marks: &mut [bool], used: &[bool], end: usize)
     requires { ⌜ (length (now marks) ≡ 32) × (length (now used) ≡ 32) × (end ≤ 32) × UnmarkedFrom (now marks) end 32 ⌝ }
     ensures { λ _. ⌜ (now (marks .exit) ≡ now (used .entry)) × ((m : Machine) → Holds (now (w .entry)) m → FreeCells m (now (marks .entry)) → Holds (now (w .exit)) (withTables (m .tokens) (restBlanked blankCell (now (used .entry)) (m .cells)) m)) ⌝ }
@@ -78,16 +78,6 @@ fn keep_cells(w: &mut [u32; Machine::WORDS], marks: &mut [bool], used: &[bool], 
         c += 1;
     }
     renew(marks, used, Machine::CELLS);
-}
-
-// The tokens that are in use no more. The marks say which may be other than blank, and then which are in use.
-fn sweep_tokens(w: &mut [u32; Machine::WORDS], marks: &mut [bool; Machine::TOKENS], end: usize)
-    requires { ⌜ (end ≤ 64) × UnmarkedFrom (now marks) end 64 ⌝ }
-    ensures { λ _. ⌜ ((m : Machine) → Holds (now (w .entry)) m → FreeTokens m (now (marks .entry)) → Holds (now (w .exit)) (tokensSwept m) × (now (marks .exit) ≡ tokensUsed m)) ⌝ }
-{
-    let mut used = [false; Machine::TOKENS];
-    mark_tokens(w, &mut used, end);
-    keep_tokens(w, marks, &used, end);
 }
 
 // The cells that these tokens, all before the end, reach no more.
@@ -107,7 +97,7 @@ fn sweep_cells(
 }
 
 // The marks say which rows may be other than blank; from the end on none is marked. Rows that are in use no more become blank, and the marks say what is in
-// use now.
+// use now: last, since what was just marked one by one is not read at once without waiting for it.
 pub fn sweep_to(
     w: &mut [u32; Machine::WORDS],
     tokens: &mut [bool; Machine::TOKENS],
@@ -117,8 +107,11 @@ pub fn sweep_to(
     requires { ⌜ (end ≤ 64) × UnmarkedFrom (now tokens) end 64 ⌝ }
     ensures { λ _. ⌜ ((m : Machine) → Holds (now (w .entry)) m → Vacant m (now (tokens .entry)) (now (cells .entry)) → Holds (now (w .exit)) (sweep m) × (now (tokens .exit) ≡ tokensUsed (sweep m)) × (now (cells .exit) ≡ cellsUsed (sweep m))) ⌝ }
 {
-    sweep_tokens(w, tokens, end);
-    sweep_cells(w, tokens, cells, end);
+    let mut used = [false; Machine::TOKENS];
+    mark_tokens(w, &mut used, end);
+    keep_tokens(w, tokens, &used, end);
+    sweep_cells(w, &used, cells, end);
+    renew(tokens, &used, Machine::TOKENS);
 }
 
 pub fn sweep(

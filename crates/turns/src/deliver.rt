@@ -9,19 +9,20 @@ ghost use Rattle.model.specs.Machine.Limits.{paper};
 ghost use Rattle.job.specs.Number as Number;
 ghost use Rattle.job.specs.Number.{number};
 ghost use Rattle.model.specs.declared.record.Machine.{Machine};
-ghost use Rattle.acts.specs.Acting.{Lawful, Gives};
+ghost use Rattle.acts.specs.Acting.{Lawful, Gives, answerReport};
 use model::record::Machine;
-use model::reply::Report;
 use reader::entry::word_at;
 use sites::number::signed;
-use unchecked::answer::answer;
+use unchecked::answer::resume;
 
-// Delivers the record at an index: "handle and signed value, each little-endian".
-pub fn deliver(w: &mut [u32; Machine::WORDS], rest: &[u8], at: usize) -> Report
+// Delivers the record at an index: "handle and signed value, each little-endian". Was its handle open?
+pub fn deliver(w: &mut [u32; Machine::WORDS], rest: &[u8], at: usize) -> bool
     requires { ⌜ at + 8 ≤ length (now rest) ⌝ }
-    ensures { λ r. ⌜ ((m : Machine) (dag : List ℕ) (used cells : List Bool) → Lawful (now (w .entry)) used cells dag m → Gives (Answer.answer paper (dagOf dag) m (number (take 4 (drop at (now (rest .entry))))) (Number.signed (number (take 4 (drop (at + 4) (now (rest .entry))))))) m (now (w .exit)) used cells r) ⌝ }
+    ensures { λ r. ⌜ ((m : Machine) (dag : List ℕ) (used cells : List Bool) → Lawful (now (w .entry)) used cells dag m
+        → Gives (Answer.answer paper (dagOf dag) m (number (take 4 (drop at (now (rest .entry)))))
+        (Number.signed (number (take 4 (drop (at + 4) (now (rest .entry))))))) m (now (w .exit)) used cells (answerReport r)) ⌝ }
 {
     let handle = word_at(rest, at);
     let value = signed(word_at(rest, at + 4));
-    answer(w, handle, value)
+    resume(w, handle, value)
 }

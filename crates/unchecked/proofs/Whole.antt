@@ -19,6 +19,7 @@ use Rattle.model.specs.Machine.Start.{startToken, startMachine}
 use Rattle.model.specs.Machine.State.{isLive}
 use Rattle.model.specs.Machine.Step.{queueOf, waitsOf}
 use Rattle.model.specs.declared.record.Machine.{Machine}
+use Rattle.model.specs.declared.reply.Outcome.{Outcome}
 use Rattle.model.specs.declared.reply.Report.{Report}
 use Rattle.model.specs.declared.reply.Refusal.the-variants as refusals
 use Rattle.model.specs.declared.reply.Reply.the-variants as replies
@@ -35,7 +36,7 @@ use Rattle.sites.specs.Answering.{answeredBy, Answered}
 use Rattle.sites.specs.Row.{rowOf}
 use Rattle.sites.proofs.Holders.{answered-moves, answered-refuses}
 use Rattle.unchecked.proofs.Unknown.{unknown-handle}
-use Rattle.acts.specs.Acting.{Lawful, QueueHasToken, Taking, Acting, Gives, plain}
+use Rattle.acts.specs.Acting.{Lawful, QueueHasToken, Taking, Acting, Gives, answerReport}
 use Rattle.acts.proofs.Outcomes.{gives-whole, gives-refused}
 
 -- the token that acts
@@ -63,35 +64,40 @@ module _ {ws dag : List ℕ} {used cells : List Bool} {m : Machine} (a : Lawful 
   unfolding Answer.answer unless
   tested = rw (a .rules, unless)
 
-  pub answer-unknown : m .calls ≤ handle → (r : Report) → r ≡ plain (replies.Refused refusals.NotOpen)
-      → Gives (Answer.answer paper (dagOf dag) m handle v) m ws used cells r
+  pub answer-unknown : m .calls ≤ handle → Gives (Answer.answer paper (dagOf dag) m handle v) m ws used cells (answerReport false)
   unfolding isPlace
-  answer-unknown l r f =
+  answer-unknown l =
       let none = ap isPlace (unknown-handle (dagOf dag) m handle (a .rules) l) in
-      gives-refused refusals.NotOpen r a (tested ∙ ap (outcome m) (answered-refuses m v _ none)) f
+      gives-refused refusals.NotOpen _ a (tested ∙ ap (outcome m) (answered-refuses m v _ none)) refl
 
 -- an answer
 module _ {ws after dag : List ℕ} {used cells : List Bool} {m : Machine} (a : Lawful ws used cells dag m) (handle : ℕ) (v : ℤ) (b : Bool)
-    (k : Answered handle v b ws after) (r : Report) where
+    (k : Answered handle v b ws after) where
   at-place : (q : Place) → holder handle 0 (m .tokens) ≡ q → isPlace q ≡ true → Carried (answeredBy m v q) (tokensUsed m) (cellsUsed m)
   unfolding isPlace answeredBy
   at-place places.Nowhere e f = clash f refl
   at-place (places.At p) e f = answered-carried paper (dagOf dag) m (a .rules) handle v p e
 
-  pub answer-gives : b ≡ true → r ≡ plain replies.Done → Gives (Answer.answer paper (dagOf dag) m handle v) m after used cells r
+  pub answer-gives : Gives (Answer.answer paper (dagOf dag) m handle v) m after used cells (answerReport b)
   unfolding outcome
-  answer-gives e f =
-      let here = sym (k .says m (a .holds)) ∙ e in
-      let c = at-place (holder handle 0 (m .tokens)) refl here in
-      gives-whole (answeredBy m v (holder handle 0 (m .tokens))) replies.Done [] r (tested a handle v ∙ ap (outcome m) (answered-moves m v _ here))
-      (ap (λ (y : Report). y .reply) f) (ap (λ (y : Report). y .values) f) (k .does (dagOf dag) m (a .holds) (a .rules)) (c .whole)
-      (λ framed. record { whole = c .whole; tokens = c .tokens ∙ sym (a .marks .tokens); cells = c .cells ∙ sym (a .marks .cells) })
+  answer-gives = go b refl
+    where
+      go : (x : Bool) → b ≡ x → Gives (Answer.answer paper (dagOf dag) m handle v) m after used cells (answerReport x)
+      go true e =
+          let here = sym (k .says m (a .holds)) ∙ e in
+          let c = at-place (holder handle 0 (m .tokens)) refl here in
+          gives-whole (answeredBy m v (holder handle 0 (m .tokens))) replies.Done [] (answerReport true)
+          (tested a handle v ∙ ap (outcome m) (answered-moves m v _ here)) refl refl (k .does (dagOf dag) m (a .holds) (a .rules)) (c .whole)
+          (λ framed. record { whole = c .whole; tokens = c .tokens ∙ sym (a .marks .tokens); cells = c .cells ∙ sym (a .marks .cells) })
+      go false e =
+          let none = sym (k .says m (a .holds)) ∙ e in
+          subst (λ x. Gives (Answer.answer paper (dagOf dag) m handle v) m x used cells (answerReport false)) (sym (k .stays e))
+          (gives-refused refusals.NotOpen _ a (tested a handle v ∙ ap (outcome m) (answered-refuses m v _ none)) refl)
 
-  pub answer-refused : b ≡ false → r ≡ plain (replies.Refused refusals.NotOpen) → Gives (Answer.answer paper (dagOf dag) m handle v) m after used cells r
-  answer-refused e f =
-      let none = sym (k .says m (a .holds)) ∙ e in
-      subst (λ x. Gives (Answer.answer paper (dagOf dag) m handle v) m x used cells r) (sym (k .stays e))
-      (gives-refused refusals.NotOpen r a (tested a handle v ∙ ap (outcome m) (answered-refuses m v _ none)) f)
+-- its report, by whether the handle was open
+pub reported : {o : Outcome} {m : Machine} {ws : List ℕ} {used cells : List Bool} (x : Bool) {b : Bool} {r : Report}
+    → Gives o m ws used cells (answerReport b) → b ≡ x → r ≡ answerReport x → Gives o m ws used cells r
+reported {o} {m} {ws} {used} {cells} x g e f = subst (Gives o m ws used cells) (ap answerReport e ∙ sym f) g
 
 -- the words of a start
 pub start-holds : {ws : List ℕ} (goal : ℕ) → ws ≡ wordsOf (startMachine paper goal) → Holds ws (startMachine paper goal)

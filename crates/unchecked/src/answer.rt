@@ -6,7 +6,7 @@ ghost use Rattle.job.specs.Words.{dagOf};
 ghost use Rattle.model.specs.Machine.Answer as Answer;
 ghost use Rattle.model.specs.Machine.Limits.{paper};
 ghost use Rattle.model.specs.declared.record.Machine.{Machine};
-ghost use Rattle.acts.specs.Acting.{Lawful, Gives};
+ghost use Rattle.acts.specs.Acting.{Lawful, Gives, answerReport};
 use acts::report::plain;
 use job::dag::WORDS;
 use model::record::Machine;
@@ -15,14 +15,23 @@ use model::reply::Reply;
 use model::reply::Report;
 use record::count::calls_made;
 
-// An answer's token is in use before and after it, and names what it named: the marks stay. A handle that no call was given is not looked for.
-pub fn answer(w: &mut [u32; Machine::WORDS], handle: u32, value: i32) -> Report
-    ensures { λ r. ⌜ ((m : Machine) (dag : List ℕ) (used cells : List Bool) → Lawful (now (w .entry)) used cells dag m → Gives (Answer.answer paper (dagOf dag) m handle value) m (now (w .exit)) used cells r) ⌝ }
+// Was the handle open? Then its token takes the value and is ready. It is in use before and after, and names what it named: the marks stay. A handle that no
+// call was given is not looked for.
+pub fn resume(w: &mut [u32; Machine::WORDS], handle: u32, value: i32) -> bool
+    ensures { λ r. ⌜ ((m : Machine) (dag : List ℕ) (used cells : List Bool) → Lawful (now (w .entry)) used cells dag m
+        → Gives (Answer.answer paper (dagOf dag) m handle value) m (now (w .exit)) used cells (answerReport r)) ⌝ }
 {
     if calls_made(w) <= handle {
-        return plain(Reply::Refused(Refusal::NotOpen));
+        return false;
     }
-    if sites::answer::answer(w, handle, value) {
+    sites::answer::answer(w, handle, value)
+}
+
+pub fn answer(w: &mut [u32; Machine::WORDS], handle: u32, value: i32) -> Report
+    ensures { λ r. ⌜ ((m : Machine) (dag : List ℕ) (used cells : List Bool) → Lawful (now (w .entry)) used cells dag m
+        → Gives (Answer.answer paper (dagOf dag) m handle value) m (now (w .exit)) used cells r) ⌝ }
+{
+    if resume(w, handle, value) {
         return plain(Reply::Done);
     }
     plain(Reply::Refused(Refusal::NotOpen))

@@ -3,7 +3,7 @@ use borrow.Author.Needs.{needs}
 use native.Mathlib.Omega.{arith}
 use mathlib.Core.Path.{_∙_, ap}
 use Rattle.model.specs.Output.Line.{textOfAll, short}
-use Rattle.lines.proofs.Showing.{shows-then, shows-as, shows-line, front-few, blank-line}
+use Rattle.lines.proofs.Showing.{shows-then, shows-as, shows-line, front-few, full, blank-line}
 use Rattle.lines.proofs.Telling.{text-first, last-none, last-some}
 use Rattle.lines.proofs.ending.show_last.Statement.{statement}
 use Rattle.lines.proofs.ending.show_last.Tie as tie
@@ -20,13 +20,16 @@ returns c = shows-as (ap textOfAll (last-none _ _ (c .before .before .before .be
 put-short-requires : tie.Need-put-short-requires
 put-short-requires c κs = search needs
 
+slice-aggregate-show-front : tie.Need-slice-aggregate-show-front
+slice-aggregate-show-front c = search (needs, full (c .before .put-short .ensures) blank-line)
+
 show-front-requires : tie.Need-show-front-requires
-show-front-requires c κs = (front-few (c .before .put-short .ensures), search needs)
+show-front-requires c κs = (front-few (c .before .before .put-short .ensures), full (c .before .before .put-short .ensures) blank-line, search needs)
 
 show-end-requires-2 : tie.Need-show-end-requires-2
 show-end-requires-2 c κs =
-    let few = c .before .before .before .before .before .put-short .ensures .few in
-    let to = shows-line (c .before .before .before .before .before .put-short .ensures) blank-line (c .before .before .before .show-front .ensures) .behind in
+    let few = c .before .before .before .before .before .before .put-short .ensures .few in
+    let to = shows-line (c .before .before .before .before .before .before .put-short .ensures) blank-line (c .before .before .before .show-front .ensures) .behind in
     omega arith
 
 same-length-2 : tie.Need-same-length-2
@@ -34,8 +37,8 @@ same-length-2 c = search needs
 
 returns-2 : tie.Need-returns-2
 returns-2 c =
-    let first = shows-line (c .before .before .before .before .before .before .before .before .put-short .ensures) blank-line (c .before .before .before .before .before .before .show-front .ensures) in
-    shows-as (text-first short _ ∙ ap textOfAll (last-some _ _ (c .before .before .before .before .before .before .before .before .before .before .if1 .left))) (shows-then first (c .before .before .show-end2 .ensures))
+    let first = shows-line (c .before .before .before .before .before .before .before .before .before .put-short .ensures) blank-line (c .before .before .before .before .before .before .show-front .ensures) in
+    shows-as (text-first short _ ∙ ap textOfAll (last-some _ _ (c .before .before .before .before .before .before .before .before .before .before .before .if1 .left))) (shows-then first (c .before .before .show-end2 .ensures))
 
 pub show-last-spec : {M : Type 1} → statement M
 show-last-spec =
@@ -45,6 +48,7 @@ show-last-spec =
     same-length
     returns
     put-short-requires
+    slice-aggregate-show-front
     show-front-requires
     show-end-requires-2
     same-length-2

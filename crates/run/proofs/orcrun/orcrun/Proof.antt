@@ -2,7 +2,7 @@
 use borrow.Author.Needs.{needs}
 use mathlib.Core.Path.{sym, _∙_}
 use Rattle.model.specs.Output.Line.{long}
-use Rattle.lines.proofs.Showing.{shown-all, shows-as, shows-line, front-few, blank-line}
+use Rattle.lines.proofs.Showing.{shown-all, shows-as, shows-line, front-few, full, blank-line}
 use Rattle.lines.proofs.Telling.{text-one}
 use Rattle.run.proofs.Whole.{inside, entry-small, run-accepted, whole-long, whole-table, whole-run, dag-long, dag-loaded}
 use Rattle.run.proofs.orcrun.orcrun.Statement.{statement}
@@ -11,16 +11,23 @@ use Rattle.run.proofs.orcrun.orcrun.Tie as tie
 put-long-requires : tie.Need-put-long-requires
 put-long-requires c κs = search needs
 
+slice-aggregate-show-front : tie.Need-slice-aggregate-show-front
+slice-aggregate-show-front c = search (needs, full (c .before .put-long .ensures) blank-line)
+
 show-front-requires : tie.Need-show-front-requires
-show-front-requires c κs = (front-few (c .before .put-long .ensures), search needs)
+show-front-requires c κs = let put = c .before .before in (front-few (put .put-long .ensures), full (put .put-long .ensures) blank-line, search needs)
 
 same-length : tie.Need-same-length
 same-length c = search needs
 
 returns : tie.Need-returns
 returns c =
-    let shown = shown-all (shows-as (text-one long ∙ whole-long _ (c .before .before .before .before .before .before .if1 .taken)) (shows-line (c .before .before .before .before .put-long .ensures) blank-line (c .before .before .show-front .ensures))) in
-    (shown .0, (dag-long _ _ (c .before .before .before .before .before .before .if1 .taken), shown .1))
+    let shown = c .before .before in
+    let put = shown .before .before .before in
+    let test = put .before .before in
+    let line = shows-line (put .put-long .ensures) blank-line (shown .show-front .ensures) in
+    let all = shown-all (shows-as (text-one long ∙ whole-long _ (test .if1 .taken)) line) in
+    (all .0, (dag-long _ _ (test .if1 .taken), all .1))
 
 table-end-requires : tie.Need-table-end-requires
 table-end-requires c κs = search needs
@@ -49,8 +56,11 @@ cast-put-table c = let small = entry-small _ _ (c .before .before .before .befor
 put-table-requires : tie.Need-put-table-requires
 put-table-requires c κs = search needs
 
+slice-aggregate-show-front-2 : tie.Need-slice-aggregate-show-front-2
+slice-aggregate-show-front-2 c = search (needs, full (c .before .put-table .ensures) blank-line)
+
 show-front-requires-2 : tie.Need-show-front-requires-2
-show-front-requires-2 c κs = (front-few (c .before .put-table .ensures), search needs)
+show-front-requires-2 c κs = let put = c .before .before in (front-few (put .put-table .ensures), full (put .put-table .ensures) blank-line, search needs)
 
 enum-told : tie.Need-enum-told
 enum-told c = search needs
@@ -65,36 +75,54 @@ part-run-end : tie.Need-part-run-end
 part-run-end c = search needs
 
 run-requires : tie.Need-run-requires
-run-requires c κs = (
-  run-accepted _ _ (c .before .before .before .before .before .before .before .before .before .before .before .table-end .ensures) (c .before .before .before .before .before .before .before .before .before .before .before .before .if1 .left) _ _ _ (c .before .before .before .before .before .before .before .before .whole .ensures) (sym (c .before .before .before .enum-told .given .1) ∙ (c .before .before .before .before .before .load .ensures .0)) (c .before .before .before .before .before .load .ensures .1),
-  search needs,
-)
+run-requires c κs =
+    let told = c .before .before .before in
+    let load = told .before .before in
+    let whole = load .before .before .before in
+    let end = whole .before .before .before in (
+      run-accepted _ _ (end .table-end .ensures) (end .before .if1 .left) _ _ _ (whole .whole .ensures)
+          (sym (told .enum-told .given .1) ∙ (load .load .ensures .0)) (load .load .ensures .1),
+      search needs,
+    )
 
 same-length-2 : tie.Need-same-length-2
 same-length-2 c = search needs
 
 returns-2 : tie.Need-returns-2
 returns-2 c =
-    let line = shows-line (c .before .before .before .before .put-table .ensures) blank-line (c .before .before .show-front2 .ensures) in
-    let whole = whole-table _ _ (c .before .before .before .before .before .before .before .before .before .before .before .before .before .before .before .table-end .ensures) (c .before .before .before .before .before .before .before .before .before .before .before .before .before .before .before .before .if1 .left) _ _ (sym (c .before .before .before .before .before .before .before .answer .given .1) ∙ (c .before .before .before .before .before .before .before .before .before .load .ensures .0)) in
-    let shown = shown-all (shows-as (text-one _ ∙ whole) line) in
-    (shown .0, (dag-loaded _ _ (c .before .before .before .before .before .before .before .before .before .before .before .before .before .before .before .table-end .ensures) (c .before .before .before .before .before .before .before .before .before .before .before .before .before .before .before .before .if1 .left) _ _ (c .before .before .before .before .before .before .before .before .before .load .ensures .1), shown .1))
+    let shown = c .before .before in
+    let put = shown .before .before .before in
+    let answer = put .before .before .before in
+    let load = answer .before .before in
+    let end = load .before .before .before .before .before .before in
+    let line = shows-line (put .put-table .ensures) blank-line (shown .show-front2 .ensures) in
+    let refused = sym (answer .answer .given .1) ∙ (load .load .ensures .0) in
+    let whole = whole-table _ _ (end .table-end .ensures) (end .before .if1 .left) _ _ refused in
+    let all = shown-all (shows-as (text-one _ ∙ whole) line) in
+    (all .0, (dag-loaded _ _ (end .table-end .ensures) (end .before .if1 .left) _ _ (load .load .ensures .1), all .1))
 
 same-length-3 : tie.Need-same-length-3
 same-length-3 c = search needs
 
 returns-3 : tie.Need-returns-3
 returns-3 c =
+    let ran = c .before .before in
+    let told = ran .before .before .before .before in
+    let load = told .before .before in
+    let lent = load .before .before .before in
+    let end = lent .before .before .before in
+    let accepted = sym (told .enum-told .given .1) ∙ (load .load .ensures .0) in
     let whole =
-    whole-run _ _ (c .before .before .before .before .before .before .before .before .before .before .before .before .before .before .table-end .ensures) (c .before .before .before .before .before .before .before .before .before .before .before .before .before .before .before .if1 .left) _ _ _ (c .before .before .before .before .before .before .before .before .before .before .before .whole .ensures) (sym (c .before .before .before .before .before .before .enum-told .given .1) ∙ (c .before .before .before .before .before .before .before .before .load .ensures .0)) (c .before .before .before .before .before .before .before .before .load .ensures .1) in
-    let shown = shown-all (shows-as whole (c .before .before .run .ensures)) in
-    (shown .0, (dag-loaded _ _ (c .before .before .before .before .before .before .before .before .before .before .before .before .before .before .table-end .ensures) (c .before .before .before .before .before .before .before .before .before .before .before .before .before .before .before .if1 .left) _ _ (c .before .before .before .before .before .before .before .before .load .ensures .1), shown .1))
+    whole-run _ _ (end .table-end .ensures) (end .before .if1 .left) _ _ _ (lent .whole .ensures) accepted (load .load .ensures .1) in
+    let all = shown-all (shows-as whole (ran .run .ensures)) in
+    (all .0, (dag-loaded _ _ (end .table-end .ensures) (end .before .if1 .left) _ _ (load .load .ensures .1), all .1))
 
 pub orcrun-spec : {M : Type 1} → statement M
 orcrun-spec =
     tie.close
     (tie.spec
     put-long-requires
+    slice-aggregate-show-front
     show-front-requires
     same-length
     returns
@@ -107,6 +135,7 @@ orcrun-spec =
     enum-known-answer
     cast-put-table
     put-table-requires
+    slice-aggregate-show-front-2
     show-front-requires-2
     enum-told
     sub-run

@@ -21,11 +21,11 @@ abbrev μ-loop : tie.MeasureT-loop
 loop-holds : tie.Need-loop-holds Inv-loop μ-loop
 loop-holds c = (search needs, λ m h v. subst (Holds _) (tokens-first (c .before .before .args .used .now) m) h)
 
-slice-read-keep-token : tie.Need-slice-read-keep-token Inv-loop μ-loop
-slice-read-keep-token c = search needs
-
 shared-slice-read-keep-token : tie.Need-shared-slice-read-keep-token Inv-loop μ-loop
 shared-slice-read-keep-token c = search needs
+
+shared-slice-read-keep-token-2 : tie.Need-shared-slice-read-keep-token-2 Inv-loop μ-loop
+shared-slice-read-keep-token-2 c = search needs
 
 keep-token-requires : tie.Need-keep-token-requires Inv-loop μ-loop
 keep-token-requires c κs = search needs
@@ -49,23 +49,15 @@ loop-again c =
           (λ e. token-there _ m (l .p) (start .pre .1) long (search needs) ∙ v (l .p) (search needs) (any-default marks (l .p) true false (search needs) ∙ e))),
     )
 
-renew-requires : tie.Need-renew-requires Inv-loop μ-loop
-renew-requires c κs = search needs
-
-same-length : tie.Need-same-length Inv-loop μ-loop
-same-length c = search needs
-
 returns : tie.Need-returns Inv-loop μ-loop
 returns c =
-    let l = c .before .before .before .before .before .loop in
-    let start = c .before .before .before .before .before .before .before .before in
-    let over : l .p ≡ start .args .end = search needs in (
-      c .before .before .renew .ensures,
-      λ m h v.
-          subst (Holds _)
-          (tokens-last _ m (l .p) (start .pre .1) (h .codes .shaped .tokens) (search needs) (λ i from to. v i to (start .pre .3 i (omega arith) to)))
-          (l .inv .1 m h v),
-    )
+    λ m h v.
+    let l = c .before .loop in
+    let start = c .before .before .before .before in
+    let over : l .p ≡ start .args .end = search needs in
+    subst (Holds _)
+    (tokens-last _ m (l .p) (start .pre .1) (h .codes .shaped .tokens) (search needs) (λ i from to. v i to (start .pre .3 i (omega arith) to)))
+    (l .inv .1 m h v)
 
 pub keep-tokens-spec : {M : Type 1} → statement M
 keep-tokens-spec =
@@ -74,12 +66,10 @@ keep-tokens-spec =
     Inv-loop
     μ-loop
     loop-holds
-    slice-read-keep-token
     shared-slice-read-keep-token
+    shared-slice-read-keep-token-2
     keep-token-requires
     add-p
     loop-less
     loop-again
-    renew-requires
-    same-length
     returns)

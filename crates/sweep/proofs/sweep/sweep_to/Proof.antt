@@ -4,29 +4,58 @@ use borrow.Author.Needs.{needs}
 use Rattle.model.specs.Machine.Step.{withTables}
 use Rattle.model.proofs.Keeps.Clean.{finish-tokens, finish-cells}
 use Rattle.record.specs.Holds.{Holds}
-use Rattle.reach.specs.Marks.{tokensSwept}
-use Rattle.sweep.proofs.Keeping.{swept, swept-blank, reach-kept}
+use Rattle.reach.specs.Marks.{BlankFrom, tokensSwept}
+use Rattle.sweep.proofs.Keeping.{tokens-swept, swept, swept-blank, reach-kept}
 use Rattle.sweep.proofs.sweep.sweep_to.Statement.{statement}
 use Rattle.sweep.proofs.sweep.sweep_to.Tie as tie
 
-sweep-tokens-requires : tie.Need-sweep-tokens-requires
-sweep-tokens-requires c κs = search needs
+slice-aggregate-mark-tokens : tie.Need-slice-aggregate-mark-tokens
+slice-aggregate-mark-tokens c = search needs
+
+mark-tokens-requires : tie.Need-mark-tokens-requires
+mark-tokens-requires c κs = search needs
+
+slice-aggregate-keep-tokens : tie.Need-slice-aggregate-keep-tokens
+slice-aggregate-keep-tokens c = search needs
+
+keep-tokens-requires : tie.Need-keep-tokens-requires
+keep-tokens-requires c κs = search needs
 
 sweep-cells-requires : tie.Need-sweep-cells-requires
 sweep-cells-requires c κs = search needs
+
+slice-aggregate-renew : tie.Need-slice-aggregate-renew
+slice-aggregate-renew c = search needs
+
+renew-requires : tie.Need-renew-requires
+renew-requires c κs = search needs
 
 returns : tie.Need-returns
 unfolding withTables
 returns c =
     λ m h v.
-    let first = c .before .before .before .before .sweep-tokens .ensures m h (v .tokens) in
-    let start = c .before .before .before .before .before .before .before in
-    let blank = swept-blank m (start .args .end) (λ i from to. v .tokens i to (start .pre .1 i from to)) in
-    let then = c .sweep-cells .ensures (tokensSwept m) (first .0) blank (v .cells) in (
-      subst (Holds _) (swept m _ (first .1)) (then .0),
-      first .1 ∙ sym (finish-tokens m),
-      then .1 ∙ (reach-kept m _ (first .1) ∙ sym (finish-cells m)),
+    let cells = c .before .before .before in
+    let kept = cells .before .before .before .before in
+    let marked = kept .before .before .before .before .before .before in
+    let start = marked .before .before .before in
+    let none : BlankFrom m (start .args .end) = λ i from to. v .tokens i to (start .pre .1 i from to) in
+    let used = marked .mark-tokens .ensures m (h .codes) none in
+    let first = subst (Holds _) (tokens-swept m _ used) (kept .keep-tokens .ensures m h (v .tokens)) in
+    let then = cells .sweep-cells .ensures (tokensSwept m) first (swept-blank m (start .args .end) none) (v .cells) in (
+      subst (Holds _) (swept m _ used) (then .0),
+      c .renew .ensures ∙ used ∙ sym (finish-tokens m),
+      then .1 ∙ (reach-kept m _ used ∙ sym (finish-cells m)),
     )
 
 pub sweep-to-spec : {M : Type 1} → statement M
-sweep-to-spec = tie.close (tie.spec sweep-tokens-requires sweep-cells-requires returns)
+sweep-to-spec =
+    tie.close
+    (tie.spec
+    slice-aggregate-mark-tokens
+    mark-tokens-requires
+    slice-aggregate-keep-tokens
+    keep-tokens-requires
+    sweep-cells-requires
+    slice-aggregate-renew
+    renew-requires
+    returns)

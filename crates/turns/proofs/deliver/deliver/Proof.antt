@@ -19,13 +19,13 @@ word-at-requires-2 c κs = search needs
 signed-requires : tie.Need-signed-requires
 signed-requires c κs = search needs
 
-answer-requires : tie.Need-answer-requires
-answer-requires c κs = search needs
+resume-requires : tie.Need-resume-requires
+resume-requires c κs = search needs
 
 returns : tie.Need-returns
 returns c =
     let fits : SFits w32 (c .before .before .signed .result) = search needs in
-    delivered _ _ _ _ _ _ _ _ _ (c .answer .ensures) (toZ-ofZ fits) (c .before .before .before .before .word-at .ensures) (c .before .before .signed .ensures) (c .before .before .before .word-at2 .ensures)
+    delivered _ _ _ _ _ _ _ _ _ (c .resume .ensures) (toZ-ofZ fits) (c .before .before .before .before .word-at .ensures) (c .before .before .signed .ensures) (c .before .before .before .word-at2 .ensures)
 
 pub deliver-spec : {M : Type 1} → statement M
 deliver-spec =
@@ -35,5 +35,5 @@ deliver-spec =
     add-word-at
     word-at-requires-2
     signed-requires
-    answer-requires
+    resume-requires
     returns)
