@@ -6,6 +6,7 @@ use mathlib.Core.List.{List}
 use Prim.Native.Nat.{ℕ, zero, suc, _+_, _-_, _%_, _≤_, _<_}
 use native.Mathlib.Decide.{decLt, ℕ-discrete}
 use native.Mathlib.Omega.{arith}
+use mir.Val.{boolByte}
 use lib.ListN.{length, getD}
 use Rattle.model.specs.Machine.FreePlace.{around}
 use Rattle.model.proofs.Machine.Marks.{Marked, Free, free-inside}
@@ -15,6 +16,17 @@ use Rattle.places.proofs.Placing.{around-inside, around-outside, seek, 
 
 abbrev pub distance : ℕ → ℕ → ℕ
 distance first i = (i + 64 - first) % 64
+
+-- whether a place is in use, as a number
+pub mark-small : (b : Bool) → boolByte b ≤ 1
+mark-small true = omega arith
+mark-small false = omega arith
+
+pub mark-true : (b : Bool) → b ≡ true → boolByte b ≡ 1
+mark-true b e = rw e refl
+
+pub mark-false : (b : Bool) → b ≡ false → boolByte b ≡ 0
+mark-false b e = rw e refl
 
 -- of the places below i, `best` is the least distance of one not in use, or 64
 pub record Nearest (marks : List Bool) (first i best : ℕ) : Type 0 where
@@ -78,7 +90,7 @@ module _ (marks : List Bool) (long : length marks ≡ 64) where
     -- one place more
     module _
         (l : i < 64) (d next : ℕ)
-        (used : getD marks i false ≡ true → d ≡ 64)
+        (used : getD marks i false ≡ true → 64 ≤ d)
         (free : getD marks i false ≡ false → d ≡ distance first i) where
       same-mark : getD marks i true ≡ getD marks i false
       same-mark = any-default marks i true false (omega arith)

@@ -187,3 +187,13 @@ module _ (marks : List Bool) where
             here
             ∙ seek-used size (size - (k + 1)) p q turn (mark-at true (not-false _ e))
             ∙ ap (seek size marks (size - (k + 1))) (sym (add-one q))
+
+    -- one of the first two places
+    module _ (last after first : ℕ) (e : after ≡ last) (f : first ≡ around size (after + 1)) (b : first < size) where
+      pub place-one : not (getD marks first false) ≡ true → first ≡ nextOr size marks last
+      place-one = place-found 0 _ _ (place-first last after e) first f (omega arith) b
+
+      pub place-two : not (getD marks first false) ≡ false → (second : ℕ) → second ≡ around size (first + 1) → 1 < size → second < size
+          → not (getD marks second false) ≡ true → second ≡ nextOr size marks last
+      place-two used second g l below =
+          place-found 1 _ _ (place-next 0 _ _ (place-first last after e) first f (omega arith) b used) second g l below

@@ -1,7 +1,7 @@
 // Where a new record goes.
 ghost use mathlib.Core.Bool.{true, false};
 ghost use mathlib.Core.Path.{_≡_};
-ghost use Prim.Native.Nat.{ℕ, _+_, _-_, _%_, _<_};
+ghost use Prim.Native.Nat.{ℕ, _+_, _-_, _%_, _<_, _≤_};
 ghost use lib.ListN.{length};
 ghost use Rattle.model.specs.Machine.FreePlace.{around};
 ghost use Rattle.reach.specs.Marks.{nextOr};
@@ -35,14 +35,14 @@ fn next_of(marks: &[bool], size: usize, last: u32) -> usize
     size
 }
 
-// How far a place is from the first to be looked at, round from the end to 0; one in use is farther than any.
+// How far a place is from the first to be looked at, round from the end to 0; one in use is farther than any that is not. No branch: all are computed at once.
 fn distance(used: bool, i: u8, first: u8) -> u8
     requires { ⌜ i < 64 ⌝ }
     requires { ⌜ first < 64 ⌝ }
-    ensures { λ r. ⌜ (used ≡ true → r ≡ 64) ⌝ }
+    ensures { λ r. ⌜ (used ≡ true → 64 ≤ r) ⌝ }
     ensures { λ r. ⌜ (used ≡ false → r ≡ (i + 64 - first) % 64) ⌝ }
 {
-    if used { 64 } else { (i + 64 - first) % 64 }
+    64 * used as u8 + (i + 64 - first) % 64
 }
 
 // The nearest place not in use, or 64. The loop looks at every place: in a nearly full table an early exit cannot be predicted.
@@ -66,6 +66,7 @@ fn nearest(marks: &[bool], first: u8) -> usize
     ((first + best) % 64) as usize
 }
 
+// Two places are looked at by themselves: in most tables one of them is not in use.
 pub fn next_token(marks: &[bool; Machine::TOKENS], last: u32) -> usize
     ensures { λ r. ⌜ r ≡ nextOr 64 (now (marks .entry)) last ⌝ }
 {
@@ -74,6 +75,10 @@ pub fn next_token(marks: &[bool; Machine::TOKENS], last: u32) -> usize
     let first = around(Machine::TOKENS, wide(last) + 1);
     if !slice[first] {
         return first;
+    }
+    let second = around(Machine::TOKENS, first + 1);
+    if !slice[second] {
+        return second;
     }
     nearest(slice, first as u8)
 }

@@ -1,8 +1,15 @@
 -- `place::distance` meets its contract, by cases. Assumes nothing.
 use borrow.Author.Needs.{needs}
-use Rattle.job.proofs.Test.{clash}
+use native.Mathlib.Omega.{arith}
+use Rattle.places.proofs.Nearest.{mark-small, mark-true, mark-false}
 use Rattle.places.proofs.place.distance.Statement.{statement}
 use Rattle.places.proofs.place.distance.Tie as tie
+
+cast-result : tie.Need-cast-result
+cast-result c = search needs
+
+mul-result : tie.Need-mul-result
+mul-result c = search (needs, mark-small (c .args .used))
 
 add-result : tie.Need-add-result
 add-result c = search needs
@@ -10,11 +17,11 @@ add-result c = search needs
 sub-result : tie.Need-sub-result
 sub-result c = search needs
 
-returns : tie.Need-returns
-returns c = (search needs, λ e. clash (c .if1 .taken) e)
+add-result-2 : tie.Need-add-result-2
+add-result-2 c = search (needs, mark-small (c .args .used))
 
-returns-2 : tie.Need-returns-2
-returns-2 c = (λ e. clash e (c .if1 .left), search needs)
+returns : tie.Need-returns
+returns c = (λ e. omega (arith, mark-true _ e), λ e. omega (arith, mark-false _ e))
 
 pub distance-spec : {M : Type 1} → statement M
-distance-spec = tie.close (tie.spec add-result sub-result returns returns-2)
+distance-spec = tie.close (tie.spec cast-result mul-result add-result sub-result add-result-2 returns)
