@@ -56,10 +56,10 @@ pub fn compile_expression(
         put_call(kinds, operands, dag, plan.first, at, plan.next);
         return single(at + 1 + count, plan.first);
     }
+    let l = left_plan(kind, plan);
     // lent on as copies: a parameter that is lent on is stored where the call begins, also for a leaf
     let kind_part = kinds;
     let operand_part = operands;
-    let l = left_plan(kind, plan);
     let f = compile_expression(kind_part, operand_part, dag, left - 1, at + 1, l);
     let r = right_plan(kind, plan, f.node);
     let g = compile_expression(kind_part, operand_part, dag, left - 1, f.at, r);
