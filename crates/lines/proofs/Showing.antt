@@ -46,6 +46,23 @@ showing-length o from total (x ∷ xs) = showing-length (withByte o from total x
     placed-length true = length-set o (total - from) x
     placed-length false = refl
 
+-- where the part that is shown has begun, bytes are stored as they are
+showing-at : (o : List ℕ) (from total : ℕ) (bs : List ℕ) → from ≤ total → sets o (total - from) bs ≡ showing o from total bs
+unfolding showing
+showing-at o from total [] l = refl
+showing-at o from total (b ∷ bs) l =
+    let e : suc (total - from) ≡ suc total - from = omega arith in
+    ap (λ (n : ℕ). sets (set o (total - from) b) n bs) e
+    ∙ ap (λ (u : List ℕ). sets u (suc total - from) bs) (placed-inside o from total b l)
+    ∙ showing-at (withByte o from total b) from (suc total) bs (omega arith)
+
+-- a line that was put there at once
+pub shows-put : {o r : List ℕ} {from total n : ℕ} {bytes : List ℕ} → Written 80 o (total - from) bytes r n → from ≤ total
+    → ShowsBytes o from total bytes r (from + n)
+shows-put {o} {from = from} {total = total} {bytes = bytes} w l =
+    let e = w .behind in
+    record { stored = w .stored ∙ showing-at o from total bytes l; behind = omega arith }
+
 pub shows-none : (o : List ℕ) (from total : ℕ) → ShowsBytes o from total [] o total
 unfolding showing
 shows-none o from total = record { stored = refl; behind = omega arith }

@@ -4,6 +4,7 @@ ghost use Prim.Native.Nat.{_+_, _≤_};
 ghost use Rattle.model.specs.Output.Line.{textOfAll, end, limit};
 ghost use Rattle.lines.specs.Ending.{lastLines};
 ghost use Rattle.lines.specs.Shown.{ShowsBytes};
+use crate::shown::has_room;
 use crate::shown::show_front;
 use text::line;
 
@@ -12,6 +13,9 @@ pub fn show_end(steps: u32, output: &mut [u8], from: usize, total: usize) -> usi
     requires { ⌜ total + 80 ≤ 1000000000 ⌝ }
     ensures { λ r. ⌜ ShowsBytes (now (output .entry)) from total (textOfAll (end steps ∷ [])) (now (output .exit)) r ⌝ }
 {
+    if has_room(output, from, total) {
+        return from + line::put_end(output, total - from, steps);
+    }
     let mut buffer = [0u8; 80];
     let n = line::put_end(&mut buffer, 0, steps);
     show_front(&buffer, n, output, from, total)

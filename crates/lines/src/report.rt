@@ -6,6 +6,7 @@ ghost use Rattle.model.specs.Output.Line.{publish, call, refused, textOf, textO
 ghost use Rattle.model.specs.Output.Orcrun.{reportedLines};
 ghost use Rattle.model.specs.Machine.Reply.{numberOf, reported};
 ghost use Rattle.lines.specs.Shown.{ShowsBytes};
+use crate::shown::has_room;
 use crate::shown::show_front;
 use model::reply::Refusal;
 use model::reply::Reply;
@@ -38,6 +39,9 @@ fn show_publish(v: i32, output: &mut [u8], from: usize, total: usize) -> usize
     requires { ⌜ total + 80 ≤ 1000000000 ⌝ }
     ensures { λ r. ⌜ ShowsBytes (now (output .entry)) from total (textOf (publish v)) (now (output .exit)) r × (r ≤ total + 80) ⌝ }
 {
+    if has_room(output, from, total) {
+        return from + line::put_publish(output, total - from, v);
+    }
     let mut buffer = [0u8; 80];
     let n = line::put_publish(&mut buffer, 0, v);
     show_front(&buffer, n, output, from, total)
@@ -55,6 +59,9 @@ fn show_call(
     requires { ⌜ (total + 80 ≤ 1000000000) × (count ≤ 4) ⌝ }
     ensures { λ r. ⌜ ShowsBytes (now (output .entry)) from total (textOf (call handle site (take count values))) (now (output .exit)) r × (r ≤ total + 80) ⌝ }
 {
+    if has_room(output, from, total) {
+        return from + line::put_call(output, total - from, handle, site, values, count);
+    }
     let mut buffer = [0u8; 80];
     let n = line::put_call(&mut buffer, 0, handle, site, values, count);
     show_front(&buffer, n, output, from, total)
@@ -64,6 +71,9 @@ fn show_refused(number: u8, output: &mut [u8], from: usize, total: usize) -> usi
     requires { ⌜ total + 80 ≤ 1000000000 ⌝ }
     ensures { λ r. ⌜ ShowsBytes (now (output .entry)) from total (textOf (refused number)) (now (output .exit)) r × (r ≤ total + 80) ⌝ }
 {
+    if has_room(output, from, total) {
+        return from + line::put_refused(output, total - from, number);
+    }
     let mut buffer = [0u8; 80];
     let n = line::put_refused(&mut buffer, 0, number);
     show_front(&buffer, n, output, from, total)

@@ -1,8 +1,21 @@
 // The part of the printed bytes that a caller has room for: those from `from` on, as many as fit.
 ghost use mathlib.Core.Path.{_≡_};
-ghost use Prim.Native.Nat.{_+_, _≤_};
+ghost use mathlib.Core.Bool.{true};
+ghost use Prim.Native.Nat.{_+_, _-_, _≤_};
 ghost use lib.ListN.{length, take};
 ghost use Rattle.lines.specs.Shown.{ShowsBytes, withByte};
+use text::line::LONGEST;
+
+// Is there room for a whole line behind the first `total` bytes? Then it is put there at once, without a buffer.
+pub fn has_room(output: &[u8], from: usize, total: usize) -> bool
+    requires { ⌜ total + 80 ≤ 1000000000 ⌝ }
+    ensures { λ r. ⌜ (r ≡ true → (from ≤ total) × (total - from + 80 ≤ length (now (output .entry)))) ⌝ }
+{
+    if total < from {
+        return false;
+    }
+    total - from + LONGEST <= output.len()
+}
 
 // The byte behind the first `total`.
 fn show_byte(output: &mut [u8], from: usize, total: usize, byte: u8)

@@ -69,16 +69,16 @@ digits-more-written most n at last before middle h l w =
 
 -- the room that the code has
 
-pub room-one : (most n at : ℕ) → (most ≡ 0 → ⊥) → n < 10 → at + length (digits most n) ≤ 80 → at < 80
-room-one most n at h l r = omega (arith, length-one most n h l)
+pub room-one : (most n at room : ℕ) → (most ≡ 0 → ⊥) → n < 10 → at + length (digits most n) ≤ room → at < room
+room-one most n at room h l r = omega (arith, length-one most n h l)
 
-pub room-front : (most n at : ℕ) → (most ≡ 0 → ⊥) → 10 ≤ n → at + length (digits most n) ≤ 80
-    → at + length (digits (most - 1) (n / 10)) ≤ 80
-room-front most n at h l r = omega (arith, length-more most n h l)
+pub room-front : (most n at room : ℕ) → (most ≡ 0 → ⊥) → 10 ≤ n → at + length (digits most n) ≤ room
+    → at + length (digits (most - 1) (n / 10)) ≤ room
+room-front most n at room h l r = omega (arith, length-more most n h l)
 
-pub room-last : (most n at last : ℕ) (before middle : List ℕ) → (most ≡ 0 → ⊥) → 10 ≤ n → at + length (digits most n) ≤ 80
-    → Written (most - 1) before at (digits (most - 1) (n / 10)) middle last → last < 80
-room-last most n at last before middle h l r w = let b = w .behind in omega (arith, length-more most n h l)
+pub room-last : (most n at last room : ℕ) (before middle : List ℕ) → (most ≡ 0 → ⊥) → 10 ≤ n → at + length (digits most n) ≤ room
+    → Written (most - 1) before at (digits (most - 1) (n / 10)) middle last → last < room
+room-last most n at last room before middle h l r w = let b = w .behind in omega (arith, length-more most n h l)
 
 -- a number of 32 bits has at most ten digits
 
@@ -86,9 +86,9 @@ decimal-few : (n : ℕ) → Fits w32 n → length (decimal n) ≤ 10
 unfolding decimal
 decimal-few n f = digits-few 20 n 9 (omega (arith, f .fits))
 
-pub decimal-room : (n at : ℕ) → Fits w32 n → at + 10 ≤ 80 → at + length (digits 20 n) ≤ 80
+pub decimal-room : (n at room : ℕ) → Fits w32 n → at + 10 ≤ room → at + length (digits 20 n) ≤ room
 unfolding decimal
-decimal-room n at f r = omega (arith, decimal-few n f)
+decimal-room n at room f r = omega (arith, decimal-few n f)
 
 pub decimal-written : (n at next : ℕ) (before after : List ℕ) → Fits w32 n → Written 20 before at (digits 20 n) after next
     → Written 10 before at (decimal n) after next

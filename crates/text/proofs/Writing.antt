@@ -1,12 +1,12 @@
 -- Writing in parts: what is written first and what is written behind it are written one after the other, since a run of stores
 -- may be cut anywhere. Assumes nothing.
-use mathlib.Core.Path.{_≡_, refl, sym, _∙_, subst}
+use mathlib.Core.Path.{_≡_, refl, sym, _∙_, ap, subst}
 use mathlib.Core.List.{List, [], _∷_, _++_}
 use Prim.Native.Nat.{ℕ, suc, _+_, _<_, _≤_}
 use native.Mathlib.Numerals.{add-one}
 use native.Mathlib.Omega.{arith}
 use lib.ListN.{length, getD, take, set, length-append}
-use lib.Seq.{sets, take-suc, take-all}
+use lib.Seq.{sets, take-suc, take-all, length-sets}
 use Rattle.job.proofs.Stores.{sets-append}
 use Rattle.text.specs.Written.{Written}
 
@@ -40,6 +40,10 @@ written-as {m} {k} {before} {after} {at} {next} {a} {b} w e h =
     let u = w .few in
     let v : Written k before at a after next = record { stored = w .stored; behind = w .behind; few = omega arith } in
     subst (λ (bytes : List ℕ). Written k before at bytes after next) e v
+
+-- the buffer keeps its length
+pub written-length : {m : ℕ} {before after : List ℕ} {at next : ℕ} {bytes : List ℕ} → Written m before at bytes after next → length after ≡ length before
+written-length {before = before} {at = at} {bytes = bytes} w = ap length (w .stored) ∙ length-sets before at bytes
 
 -- a loop's turn: one more byte of a word
 pub word-more : (word : List ℕ) (before middle : List ℕ) (at to i : ℕ) → i < length word → Written i before at (take i word) middle to

@@ -5,8 +5,8 @@ ghost use Rattle.model.specs.Output.Line.{digits, decimal};
 ghost use Rattle.text.specs.Written.{Written};
 
 // So many digits at most: the front ones first, then the last.
-fn put_digits(buffer: &mut [u8; 80], at: usize, most: usize, n: u32) -> usize
-    requires { ⌜ at + length (digits most n) ≤ 80 ⌝ }
+fn put_digits(buffer: &mut [u8], at: usize, most: usize, n: u32) -> usize
+    requires { ⌜ at + length (digits most n) ≤ length (now buffer) ⌝ }
     ensures { λ r. ⌜ Written most (now (buffer .entry)) at (digits most n) (now (buffer .exit)) r ⌝ }
 {
     if most == 0 {
@@ -22,8 +22,8 @@ fn put_digits(buffer: &mut [u8; 80], at: usize, most: usize, n: u32) -> usize
 }
 
 // Most numbers have one digit or two, which are put without a call.
-pub fn put_decimal(buffer: &mut [u8; 80], at: usize, n: u32) -> usize
-    requires { ⌜ at + 10 ≤ 80 ⌝ }
+pub fn put_decimal(buffer: &mut [u8], at: usize, n: u32) -> usize
+    requires { ⌜ at + 10 ≤ length (now buffer) ⌝ }
     ensures { λ r. ⌜ Written 10 (now (buffer .entry)) at (decimal n) (now (buffer .exit)) r ⌝ }
 {
     if 100 <= n {

@@ -11,14 +11,14 @@ pub const LONGEST: usize = 80;
 
 // (the first `count` of the values)
 pub fn put_call(
-    buffer: &mut [u8; 80],
+    buffer: &mut [u8],
     at: usize,
     handle: u32,
     site: u16,
     values: [i32; 4],
     count: usize,
 ) -> usize
-    requires { ⌜ (at + 80 ≤ 80) × (count ≤ 4) ⌝ }
+    requires { ⌜ (at + 80 ≤ length (now buffer)) × (count ≤ 4) ⌝ }
     ensures { λ r. ⌜ Written 80 (now (buffer .entry)) at (textOf (call handle site (take count values))) (now (buffer .exit)) r ⌝ }
 {
     let to = word::put_word(buffer, at, b"call");
@@ -28,8 +28,8 @@ pub fn put_call(
     word::put_feed(buffer, to)
 }
 
-pub fn put_publish(buffer: &mut [u8; 80], at: usize, v: i32) -> usize
-    requires { ⌜ at + 80 ≤ 80 ⌝ }
+pub fn put_publish(buffer: &mut [u8], at: usize, v: i32) -> usize
+    requires { ⌜ at + 80 ≤ length (now buffer) ⌝ }
     ensures { λ r. ⌜ Written 80 (now (buffer .entry)) at (textOf (publish v)) (now (buffer .exit)) r ⌝ }
 {
     let to = word::put_word(buffer, at, b"publish");
@@ -38,8 +38,8 @@ pub fn put_publish(buffer: &mut [u8; 80], at: usize, v: i32) -> usize
 }
 
 // A word and a number: the lines `refused` and `end`.
-fn put_counted(buffer: &mut [u8; 80], at: usize, first: &[u8], n: u32) -> usize
-    requires { ⌜ (at + 80 ≤ 80) × (length (now first) ≤ 7) ⌝ }
+fn put_counted(buffer: &mut [u8], at: usize, first: &[u8], n: u32) -> usize
+    requires { ⌜ (at + 80 ≤ length (now buffer)) × (length (now first) ≤ 7) ⌝ }
     ensures { λ r. ⌜ Written 80 (now (buffer .entry)) at (lineOf (now (first .entry)) (decimal n ∷ [])) (now (buffer .exit)) r ⌝ }
 {
     let to = word::put_word(buffer, at, first);
@@ -47,22 +47,22 @@ fn put_counted(buffer: &mut [u8; 80], at: usize, first: &[u8], n: u32) -> usize
     word::put_feed(buffer, to)
 }
 
-pub fn put_refused(buffer: &mut [u8; 80], at: usize, n: u8) -> usize
-    requires { ⌜ at + 80 ≤ 80 ⌝ }
+pub fn put_refused(buffer: &mut [u8], at: usize, n: u8) -> usize
+    requires { ⌜ at + 80 ≤ length (now buffer) ⌝ }
     ensures { λ r. ⌜ Written 80 (now (buffer .entry)) at (textOf (refused n)) (now (buffer .exit)) r ⌝ }
 {
     put_counted(buffer, at, b"refused", n as u32)
 }
 
-pub fn put_end(buffer: &mut [u8; 80], at: usize, steps: u32) -> usize
-    requires { ⌜ at + 80 ≤ 80 ⌝ }
+pub fn put_end(buffer: &mut [u8], at: usize, steps: u32) -> usize
+    requires { ⌜ at + 80 ≤ length (now buffer) ⌝ }
     ensures { λ r. ⌜ Written 80 (now (buffer .entry)) at (textOf (end steps)) (now (buffer .exit)) r ⌝ }
 {
     put_counted(buffer, at, b"end", steps)
 }
 
-pub fn put_table(buffer: &mut [u8; 80], at: usize, n: u8, entry: u32) -> usize
-    requires { ⌜ at + 80 ≤ 80 ⌝ }
+pub fn put_table(buffer: &mut [u8], at: usize, n: u8, entry: u32) -> usize
+    requires { ⌜ at + 80 ≤ length (now buffer) ⌝ }
     ensures { λ r. ⌜ Written 80 (now (buffer .entry)) at (textOf (table n entry)) (now (buffer .exit)) r ⌝ }
 {
     let to = word::put_word(buffer, at, b"table");
@@ -71,22 +71,22 @@ pub fn put_table(buffer: &mut [u8; 80], at: usize, n: u8, entry: u32) -> usize
     word::put_feed(buffer, to)
 }
 
-pub fn put_limit(buffer: &mut [u8; 80], at: usize) -> usize
-    requires { ⌜ at + 80 ≤ 80 ⌝ }
+pub fn put_limit(buffer: &mut [u8], at: usize) -> usize
+    requires { ⌜ at + 80 ≤ length (now buffer) ⌝ }
     ensures { λ r. ⌜ Written 80 (now (buffer .entry)) at (textOf limit) (now (buffer .exit)) r ⌝ }
 {
     word::put_word(buffer, at, b"limit\n")
 }
 
-pub fn put_short(buffer: &mut [u8; 80], at: usize) -> usize
-    requires { ⌜ at + 80 ≤ 80 ⌝ }
+pub fn put_short(buffer: &mut [u8], at: usize) -> usize
+    requires { ⌜ at + 80 ≤ length (now buffer) ⌝ }
     ensures { λ r. ⌜ Written 80 (now (buffer .entry)) at (textOf short) (now (buffer .exit)) r ⌝ }
 {
     word::put_word(buffer, at, b"short\n")
 }
 
-pub fn put_long(buffer: &mut [u8; 80], at: usize) -> usize
-    requires { ⌜ at + 80 ≤ 80 ⌝ }
+pub fn put_long(buffer: &mut [u8], at: usize) -> usize
+    requires { ⌜ at + 80 ≤ length (now buffer) ⌝ }
     ensures { λ r. ⌜ Written 80 (now (buffer .entry)) at (textOf long) (now (buffer .exit)) r ⌝ }
 {
     word::put_word(buffer, at, b"long\n")

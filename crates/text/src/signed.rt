@@ -2,6 +2,7 @@
 use crate::decimal;
 ghost use mathlib.Core.Path.{_≡_};
 ghost use Prim.Native.Nat.{_+_, _≤_};
+ghost use lib.ListN.{length};
 ghost use lib.IntN.{natAbs};
 ghost use Rattle.model.specs.Output.Line.{signedDecimal};
 ghost use Rattle.text.specs.Written.{Written};
@@ -16,8 +17,8 @@ fn magnitude(v: i32) -> u32
     v as u32
 }
 
-pub fn put_signed(buffer: &mut [u8; 80], at: usize, v: i32) -> usize
-    requires { ⌜ at + 11 ≤ 80 ⌝ }
+pub fn put_signed(buffer: &mut [u8], at: usize, v: i32) -> usize
+    requires { ⌜ at + 11 ≤ length (now buffer) ⌝ }
     ensures { λ r. ⌜ Written 11 (now (buffer .entry)) at (signedDecimal v) (now (buffer .exit)) r ⌝ }
 {
     if v < 0 {

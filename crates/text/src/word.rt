@@ -7,8 +7,8 @@ ghost use lib.ListN.{length, take};
 ghost use Rattle.model.specs.Output.Line.{decimal, signedDecimal};
 ghost use Rattle.text.specs.Written.{Written, spaced, allSpaced, lineFeed};
 
-pub fn put_word(buffer: &mut [u8; 80], at: usize, word: &[u8]) -> usize
-    requires { ⌜ at + length (now word) ≤ 80 ⌝ }
+pub fn put_word(buffer: &mut [u8], at: usize, word: &[u8]) -> usize
+    requires { ⌜ at + length (now word) ≤ length (now buffer) ⌝ }
     ensures { λ r. ⌜ Written (length (now (word .entry))) (now (buffer .entry)) at (now (word .entry)) (now (buffer .exit)) r ⌝ }
 {
     let mut to = at;
@@ -21,16 +21,16 @@ pub fn put_word(buffer: &mut [u8; 80], at: usize, word: &[u8]) -> usize
     to
 }
 
-pub fn put_number(buffer: &mut [u8; 80], at: usize, n: u32) -> usize
-    requires { ⌜ at + 11 ≤ 80 ⌝ }
+pub fn put_number(buffer: &mut [u8], at: usize, n: u32) -> usize
+    requires { ⌜ at + 11 ≤ length (now buffer) ⌝ }
     ensures { λ r. ⌜ Written 11 (now (buffer .entry)) at (spaced (decimal n)) (now (buffer .exit)) r ⌝ }
 {
     buffer[at] = b' ';
     decimal::put_decimal(buffer, at + 1, n)
 }
 
-pub fn put_value(buffer: &mut [u8; 80], at: usize, v: i32) -> usize
-    requires { ⌜ at + 12 ≤ 80 ⌝ }
+pub fn put_value(buffer: &mut [u8], at: usize, v: i32) -> usize
+    requires { ⌜ at + 12 ≤ length (now buffer) ⌝ }
     ensures { λ r. ⌜ Written 12 (now (buffer .entry)) at (spaced (signedDecimal v)) (now (buffer .exit)) r ⌝ }
 {
     buffer[at] = b' ';
@@ -38,8 +38,8 @@ pub fn put_value(buffer: &mut [u8; 80], at: usize, v: i32) -> usize
 }
 
 // As many of the values as `count` says. Each is read by itself, so that the array is not copied.
-pub fn put_value_list(buffer: &mut [u8; 80], at: usize, values: [i32; 4], count: usize) -> usize
-    requires { ⌜ (at + 48 ≤ 80) × (count ≤ 4) ⌝ }
+pub fn put_value_list(buffer: &mut [u8], at: usize, values: [i32; 4], count: usize) -> usize
+    requires { ⌜ (at + 48 ≤ length (now buffer)) × (count ≤ 4) ⌝ }
     ensures { λ r. ⌜ Written 48 (now (buffer .entry)) at (allSpaced (map signedDecimal (take count values))) (now (buffer .exit)) r ⌝ }
 {
     if count == 0 {
@@ -60,8 +60,8 @@ pub fn put_value_list(buffer: &mut [u8; 80], at: usize, values: [i32; 4], count:
     put_value(buffer, three, values[3])
 }
 
-pub fn put_feed(buffer: &mut [u8; 80], at: usize) -> usize
-    requires { ⌜ at + 1 ≤ 80 ⌝ }
+pub fn put_feed(buffer: &mut [u8], at: usize) -> usize
+    requires { ⌜ at + 1 ≤ length (now buffer) ⌝ }
     ensures { λ r. ⌜ Written 1 (now (buffer .entry)) at lineFeed (now (buffer .exit)) r ⌝ }
 {
     buffer[at] = b'\n';

@@ -17,19 +17,22 @@ same-length c = search needs
 returns : tie.Need-returns
 returns c = shows-as (ap textOfAll (last-none _ _ (c .before .before .before .before .if1 .taken))) (c .before .before .show-end .ensures)
 
+slice-aggregate-put-short : tie.Need-slice-aggregate-put-short
+slice-aggregate-put-short c = search needs
+
 put-short-requires : tie.Need-put-short-requires
 put-short-requires c κs = search needs
 
 slice-aggregate-show-front : tie.Need-slice-aggregate-show-front
-slice-aggregate-show-front c = search (needs, full (c .before .put-short .ensures) blank-line)
+slice-aggregate-show-front c = search (needs, full (c .before .before .put-short .ensures) blank-line)
 
 show-front-requires : tie.Need-show-front-requires
-show-front-requires c κs = (front-few (c .before .before .put-short .ensures), full (c .before .before .put-short .ensures) blank-line, search needs)
+show-front-requires c κs = (front-few (c .before .before .before .put-short .ensures), full (c .before .before .before .put-short .ensures) blank-line, search needs)
 
 show-end-requires-2 : tie.Need-show-end-requires-2
 show-end-requires-2 c κs =
-    let few = c .before .before .before .before .before .before .put-short .ensures .few in
-    let to = shows-line (c .before .before .before .before .before .before .put-short .ensures) blank-line (c .before .before .before .show-front .ensures) .behind in
+    let few = c .before .before .before .before .before .before .before .put-short .ensures .few in
+    let to = shows-line (c .before .before .before .before .before .before .before .put-short .ensures) blank-line (c .before .before .before .show-front .ensures) .behind in
     omega arith
 
 same-length-2 : tie.Need-same-length-2
@@ -37,8 +40,8 @@ same-length-2 c = search needs
 
 returns-2 : tie.Need-returns-2
 returns-2 c =
-    let first = shows-line (c .before .before .before .before .before .before .before .before .before .put-short .ensures) blank-line (c .before .before .before .before .before .before .show-front .ensures) in
-    shows-as (text-first short _ ∙ ap textOfAll (last-some _ _ (c .before .before .before .before .before .before .before .before .before .before .before .if1 .left))) (shows-then first (c .before .before .show-end2 .ensures))
+    let first = shows-line (c .before .before .before .before .before .before .before .before .before .before .put-short .ensures) blank-line (c .before .before .before .before .before .before .show-front .ensures) in
+    shows-as (text-first short _ ∙ ap textOfAll (last-some _ _ (c .before .before .before .before .before .before .before .before .before .before .before .before .if1 .left))) (shows-then first (c .before .before .show-end2 .ensures))
 
 pub show-last-spec : {M : Type 1} → statement M
 show-last-spec =
@@ -47,6 +50,7 @@ show-last-spec =
     show-end-requires
     same-length
     returns
+    slice-aggregate-put-short
     put-short-requires
     slice-aggregate-show-front
     show-front-requires

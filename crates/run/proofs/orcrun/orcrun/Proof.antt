@@ -8,14 +8,17 @@ use Rattle.run.proofs.Whole.{inside, entry-small, run-accepted, whole-l
 use Rattle.run.proofs.orcrun.orcrun.Statement.{statement}
 use Rattle.run.proofs.orcrun.orcrun.Tie as tie
 
+slice-aggregate-put-long : tie.Need-slice-aggregate-put-long
+slice-aggregate-put-long c = search needs
+
 put-long-requires : tie.Need-put-long-requires
 put-long-requires c κs = search needs
 
 slice-aggregate-show-front : tie.Need-slice-aggregate-show-front
-slice-aggregate-show-front c = search (needs, full (c .before .put-long .ensures) blank-line)
+slice-aggregate-show-front c = search (needs, full (c .before .before .put-long .ensures) blank-line)
 
 show-front-requires : tie.Need-show-front-requires
-show-front-requires c κs = let put = c .before .before in (front-few (put .put-long .ensures), full (put .put-long .ensures) blank-line, search needs)
+show-front-requires c κs = let put = c .before .before .before in (front-few (put .put-long .ensures), full (put .put-long .ensures) blank-line, search needs)
 
 same-length : tie.Need-same-length
 same-length c = search needs
@@ -23,7 +26,7 @@ same-length c = search needs
 returns : tie.Need-returns
 returns c =
     let shown = c .before .before in
-    let put = shown .before .before .before in
+    let put = shown .before .before .before .before in
     let test = put .before .before in
     let line = shows-line (put .put-long .ensures) blank-line (shown .show-front .ensures) in
     let all = shown-all (shows-as (text-one long ∙ whole-long _ (test .if1 .taken)) line) in
@@ -50,6 +53,9 @@ load-requires c κs = search needs
 enum-known-answer : tie.Need-enum-known-answer
 enum-known-answer c = search needs
 
+slice-aggregate-put-table : tie.Need-slice-aggregate-put-table
+slice-aggregate-put-table c = search needs
+
 cast-put-table : tie.Need-cast-put-table
 cast-put-table c = let small = entry-small _ _ (c .before .before .before .before .before .before .before .before .before .before .table-end .ensures) _ _ (sym (c .before .before .answer .given .1) ∙ (c .before .before .before .before .load .ensures .0)) in search needs
 
@@ -57,10 +63,10 @@ put-table-requires : tie.Need-put-table-requires
 put-table-requires c κs = search needs
 
 slice-aggregate-show-front-2 : tie.Need-slice-aggregate-show-front-2
-slice-aggregate-show-front-2 c = search (needs, full (c .before .put-table .ensures) blank-line)
+slice-aggregate-show-front-2 c = search (needs, full (c .before .before .put-table .ensures) blank-line)
 
 show-front-requires-2 : tie.Need-show-front-requires-2
-show-front-requires-2 c κs = let put = c .before .before in (front-few (put .put-table .ensures), full (put .put-table .ensures) blank-line, search needs)
+show-front-requires-2 c κs = let put = c .before .before .before in (front-few (put .put-table .ensures), full (put .put-table .ensures) blank-line, search needs)
 
 enum-told : tie.Need-enum-told
 enum-told c = search needs
@@ -91,7 +97,7 @@ same-length-2 c = search needs
 returns-2 : tie.Need-returns-2
 returns-2 c =
     let shown = c .before .before in
-    let put = shown .before .before .before in
+    let put = shown .before .before .before .before in
     let answer = put .before .before .before in
     let load = answer .before .before in
     let end = load .before .before .before .before .before .before in
@@ -121,6 +127,7 @@ pub orcrun-spec : {M : Type 1} → statement M
 orcrun-spec =
     tie.close
     (tie.spec
+    slice-aggregate-put-long
     put-long-requires
     slice-aggregate-show-front
     show-front-requires
@@ -133,6 +140,7 @@ orcrun-spec =
     part-load-end
     load-requires
     enum-known-answer
+    slice-aggregate-put-table
     cast-put-table
     put-table-requires
     slice-aggregate-show-front-2

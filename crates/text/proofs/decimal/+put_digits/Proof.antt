@@ -3,6 +3,7 @@ use Prim.Native.Nat.{ℕ, _<_}
 use borrow.Fn.Kinds.{In}
 use borrow.Fn.PlainCycle.{Measures, is, falls, and}
 use borrow.Author.Needs.{needs}
+use lib.ListN.{length, length-set}
 use native.Mathlib.Omega.{arith}
 use Rattle.text.proofs.Digits.{digits-none-written, digits-one-written, digits-more-written, room-one, room-front, room-last}
 use Rattle.text.proofs.decimal.put_digits.Reads as reads
@@ -33,11 +34,17 @@ module _ (t : ℕ) where
   add-buffer : lts.Need-add-buffer (claims t) (starts t) reads.Post
   add-buffer c = search needs
 
-  element-write-buffer : lts.Need-element-write-buffer (claims t) (starts t) reads.Post
-  element-write-buffer c = search room-one
+  slice-write-buffer : lts.Need-slice-write-buffer (claims t) (starts t) reads.Post
+  slice-write-buffer c = search (needs, room-one)
 
   add-result : lts.Need-add-result (claims t) (starts t) reads.Post
-  add-result c = let r : c .before .before .args .at < 80 = search room-one in search needs
+  add-result c =
+      let start = c .before .before .before in
+      let r : start .args .at < length (start .args .buffer .now) = search room-one in
+      search needs
+
+  same-length : lts.Need-same-length (claims t) (starts t) reads.Post
+  same-length c = search needs
 
   returns-2 : lts.Need-returns-2 (claims t) (starts t) reads.Post
   returns-2 c = search digits-one-written
@@ -54,11 +61,18 @@ module _ (t : ℕ) where
   add-buffer-2 : lts.Need-add-buffer-2 (claims t) (starts t) reads.Post
   add-buffer-2 c = search needs
 
-  element-write-buffer-2 : lts.Need-element-write-buffer-2 (claims t) (starts t) reads.Post
-  element-write-buffer-2 c = search room-last
+  slice-write-buffer-2 : lts.Need-slice-write-buffer-2 (claims t) (starts t) reads.Post
+  slice-write-buffer-2 c = search (needs, room-last)
 
   add-result-2 : lts.Need-add-result-2 (claims t) (starts t) reads.Post
-  add-result-2 c = let r : c .put-digits .result < 80 = search room-last in search needs
+  add-result-2 c =
+      let put = c .before .before in
+      let start = put .before .before .before .before .before in
+      let r : put .put-digits .result < length (start .args .buffer .now) = search room-last in
+      search needs
+
+  same-length-2 : lts.Need-same-length-2 (claims t) (starts t) reads.Post
+  same-length-2 c = simp length-set (search needs)
 
   returns-3 : lts.Need-returns-3 (claims t) (starts t) reads.Post
   returns-3 c = search digits-more-written
@@ -68,13 +82,15 @@ pub +put-digits-spec : {M : Type 1} → statement M
     (returns t)
     (cast-buffer t)
     (add-buffer t)
-    (element-write-buffer t)
+    (slice-write-buffer t)
     (add-result t)
+    (same-length t)
     (returns-2 t)
     (sub-put-digits t)
     (put-digits-requires t)
     (cast-buffer-2 t)
     (add-buffer-2 t)
-    (element-write-buffer-2 t)
+    (slice-write-buffer-2 t)
     (add-result-2 t)
+    (same-length-2 t)
     (returns-3 t)

@@ -1,11 +1,15 @@
 -- `decimal::put_decimal` meets its contract: a number of 32 bits has at most ten digits. Assumes nothing.
 use borrow.Author.Needs.{needs}
+use lib.ListN.{length-set}
 use Rattle.text.proofs.Digits.{decimal-one, decimal-two, decimal-room, decimal-written}
 use Rattle.text.proofs.decimal.put_decimal.Statement.{statement}
 use Rattle.text.proofs.decimal.put_decimal.Tie as tie
 
 put-digits-requires : tie.Need-put-digits-requires
-put-digits-requires c κs = search decimal-room
+put-digits-requires c κs = search (needs, decimal-room)
+
+same-length : tie.Need-same-length
+same-length c = search needs
 
 returns : tie.Need-returns
 returns c = search decimal-written
@@ -16,8 +20,8 @@ cast-buffer c = search needs
 add-buffer : tie.Need-add-buffer
 add-buffer c = search needs
 
-element-write-buffer : tie.Need-element-write-buffer
-element-write-buffer c = search needs
+slice-write-buffer : tie.Need-slice-write-buffer
+slice-write-buffer c = search needs
 
 cast-buffer-2 : tie.Need-cast-buffer-2
 cast-buffer-2 c = search needs
@@ -28,11 +32,14 @@ add-buffer-2 c = search needs
 add-buffer-3 : tie.Need-add-buffer-3
 add-buffer-3 c = search needs
 
-element-write-buffer-2 : tie.Need-element-write-buffer-2
-element-write-buffer-2 c = search needs
+slice-write-buffer-2 : tie.Need-slice-write-buffer-2
+slice-write-buffer-2 c = simp length-set (search needs)
 
 add-result : tie.Need-add-result
 add-result c = search needs
+
+same-length-2 : tie.Need-same-length-2
+same-length-2 c = simp length-set (search needs)
 
 returns-2 : tie.Need-returns-2
 returns-2 c = search decimal-two
@@ -43,11 +50,14 @@ cast-buffer-3 c = search needs
 add-buffer-4 : tie.Need-add-buffer-4
 add-buffer-4 c = search needs
 
-element-write-buffer-3 : tie.Need-element-write-buffer-3
-element-write-buffer-3 c = search needs
+slice-write-buffer-3 : tie.Need-slice-write-buffer-3
+slice-write-buffer-3 c = search needs
 
 add-result-2 : tie.Need-add-result-2
 add-result-2 c = search needs
+
+same-length-3 : tie.Need-same-length-3
+same-length-3 c = search needs
 
 returns-3 : tie.Need-returns-3
 returns-3 c = search decimal-one
@@ -57,18 +67,21 @@ put-decimal-spec =
     tie.close
     (tie.spec
     put-digits-requires
+    same-length
     returns
     cast-buffer
     add-buffer
-    element-write-buffer
+    slice-write-buffer
     cast-buffer-2
     add-buffer-2
     add-buffer-3
-    element-write-buffer-2
+    slice-write-buffer-2
     add-result
+    same-length-2
     returns-2
     cast-buffer-3
     add-buffer-4
-    element-write-buffer-3
+    slice-write-buffer-3
     add-result-2
+    same-length-3
     returns-3)

@@ -26,16 +26,21 @@ put-value-list-requires c κs = search needs
 put-feed-requires : tie.Need-put-feed-requires
 put-feed-requires c κs = search needs
 
+same-length : tie.Need-same-length
+same-length c = search needs
+
 returns : tie.Need-returns
 unfolding ascii textOf
 returns c =
-    let values = then-written (c .before .before .put-value-list .ensures) (c .put-feed .ensures) in
-    let site = then-written (c .before .before .before .before .put-number2 .ensures) values in
-    let handle = then-written (c .before .before .before .before .before .before .put-number .ensures) site in
-    written-as
-    (then-written (c .before .before .before .before .before .before .before .before .put-word .ensures) handle)
-    (two-spaced (ascii "call") _ _ _)
-    (omega arith)
+    let feed = c .before .before in
+    let list = feed .before .before .before .before in
+    let number = list .before .before .before .before in
+    let first = number .before .before .before .before in
+    let word = first .before .before .before .before in
+    let values = then-written (list .put-value-list .ensures) (feed .put-feed .ensures) in
+    let site = then-written (number .put-number2 .ensures) values in
+    let handle = then-written (first .put-number .ensures) site in
+    written-as (then-written (word .put-word .ensures) handle) (two-spaced (ascii "call") _ _ _) (omega arith)
 
 pub put-call-spec : {M : Type 1} → statement M
 put-call-spec =
@@ -47,4 +52,5 @@ put-call-spec =
     put-number-requires-2
     put-value-list-requires
     put-feed-requires
+    same-length
     returns)

@@ -18,12 +18,24 @@ put-number-requires c κs = search needs
 put-feed-requires : tie.Need-put-feed-requires
 put-feed-requires c κs = search needs
 
+same-length : tie.Need-same-length
+same-length c = search needs
+
 returns : tie.Need-returns
 unfolding allSpaced
 returns c =
-    let number = then-written (c .before .before .put-number .ensures) (c .put-feed .ensures) in
-    written-as (then-written (c .before .before .before .before .put-word .ensures) number) (one-spaced _ _ []) (omega arith)
+    let feed = c .before .before in
+    let put = feed .before .before .before .before in
+    let word = put .before .before .before .before in
+    let number = then-written (put .put-number .ensures) (feed .put-feed .ensures) in
+    written-as (then-written (word .put-word .ensures) number) (one-spaced _ _ []) (omega arith)
 
 pub put-counted-spec : {M : Type 1} → statement M
 put-counted-spec =
-    tie.close (tie.spec put-word-requires put-number-requires put-feed-requires returns)
+    tie.close
+    (tie.spec
+    put-word-requires
+    put-number-requires
+    put-feed-requires
+    same-length
+    returns)

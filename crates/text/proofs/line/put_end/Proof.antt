@@ -10,9 +10,18 @@ slice-aggregate-put-counted c = search needs
 put-counted-requires : tie.Need-put-counted-requires
 put-counted-requires c κs = search needs
 
+same-length : tie.Need-same-length
+same-length c = search needs
+
 returns : tie.Need-returns
 unfolding ascii textOf
-returns c = c .put-counted .ensures
+returns c = c .before .before .put-counted .ensures
 
 pub put-end-spec : {M : Type 1} → statement M
-put-end-spec = tie.close (tie.spec slice-aggregate-put-counted put-counted-requires returns)
+put-end-spec =
+    tie.close
+    (tie.spec
+    slice-aggregate-put-counted
+    put-counted-requires
+    same-length
+    returns)

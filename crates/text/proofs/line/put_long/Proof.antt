@@ -13,9 +13,12 @@ slice-aggregate-put-word c = search needs
 put-word-requires : tie.Need-put-word-requires
 put-word-requires c κs = search needs
 
+same-length : tie.Need-same-length
+same-length c = search needs
+
 returns : tie.Need-returns
 unfolding ascii lineOf textOf
-returns c = written-as (c .put-word .ensures) refl (omega arith)
+returns c = written-as (c .before .before .put-word .ensures) refl (omega arith)
 
 pub put-long-spec : {M : Type 1} → statement M
-put-long-spec = tie.close (tie.spec slice-aggregate-put-word put-word-requires returns)
+put-long-spec = tie.close (tie.spec slice-aggregate-put-word put-word-requires same-length returns)

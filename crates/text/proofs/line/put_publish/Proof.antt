@@ -21,11 +21,17 @@ put-value-requires c κs = search needs
 put-feed-requires : tie.Need-put-feed-requires
 put-feed-requires c κs = search needs
 
+same-length : tie.Need-same-length
+same-length c = search needs
+
 returns : tie.Need-returns
 unfolding ascii lineOf textOf spaced lineFeed
 returns c =
-    let value = rw (toZ-ofZ (c .before .before .before .before .before .before .before .fits .v)) at (c .before .before .put-value .ensures) in
-    written-as (then-written (c .before .before .before .before .put-word .ensures) (then-written value (c .put-feed .ensures))) refl (omega arith)
+    let feed = c .before .before in
+    let put = feed .before .before .before .before in
+    let word = put .before .before .before .before in
+    let value = rw (toZ-ofZ (word .before .before .before .before .fits .v)) at (put .put-value .ensures) in
+    written-as (then-written (word .put-word .ensures) (then-written value (feed .put-feed .ensures))) refl (omega arith)
 
 pub put-publish-spec : {M : Type 1} → statement M
 put-publish-spec =
@@ -35,4 +41,5 @@ put-publish-spec =
     put-word-requires
     put-value-requires
     put-feed-requires
+    same-length
     returns)

@@ -24,15 +24,19 @@ put-number-requires-2 c κs = search needs
 put-feed-requires : tie.Need-put-feed-requires
 put-feed-requires c κs = search needs
 
+same-length : tie.Need-same-length
+same-length c = search needs
+
 returns : tie.Need-returns
 unfolding ascii textOf allSpaced
 returns c =
-    let last = then-written (c .before .before .put-number2 .ensures) (c .put-feed .ensures) in
-    let numbers = then-written (c .before .before .before .before .put-number .ensures) last in
-    written-as
-    (then-written (c .before .before .before .before .before .before .put-word .ensures) numbers)
-    (two-spaced (ascii "table") _ _ [])
-    (omega arith)
+    let feed = c .before .before in
+    let second = feed .before .before .before .before in
+    let first = second .before .before .before .before in
+    let word = first .before .before .before .before in
+    let last = then-written (second .put-number2 .ensures) (feed .put-feed .ensures) in
+    let numbers = then-written (first .put-number .ensures) last in
+    written-as (then-written (word .put-word .ensures) numbers) (two-spaced (ascii "table") _ _ []) (omega arith)
 
 pub put-table-spec : {M : Type 1} → statement M
 put-table-spec =
@@ -43,4 +47,5 @@ put-table-spec =
     put-number-requires
     put-number-requires-2
     put-feed-requires
+    same-length
     returns)

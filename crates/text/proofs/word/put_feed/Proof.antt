@@ -6,15 +6,18 @@ use Rattle.text.proofs.Writing.{one-written}
 use Rattle.text.proofs.word.put_feed.Statement.{statement}
 use Rattle.text.proofs.word.put_feed.Tie as tie
 
-element-write-buffer : tie.Need-element-write-buffer
-element-write-buffer c = search needs
+slice-write-buffer : tie.Need-slice-write-buffer
+slice-write-buffer c = search needs
 
 add-result : tie.Need-add-result
 add-result c = search needs
+
+same-length : tie.Need-same-length
+same-length c = search needs
 
 returns : tie.Need-returns
 unfolding ascii lineFeed
 returns c = one-written _ _ 10
 
 pub put-feed-spec : {M : Type 1} → statement M
-put-feed-spec = tie.close (tie.spec element-write-buffer add-result returns)
+put-feed-spec = tie.close (tie.spec slice-write-buffer add-result same-length returns)

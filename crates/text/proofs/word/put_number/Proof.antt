@@ -1,24 +1,36 @@
 -- `word::put_number` meets its contract: a space, and then the number. Assumes nothing.
 use borrow.Author.Needs.{needs}
+use lib.ListN.{length-set}
 use Rattle.model.specs.Output.Line.{ascii}
 use Rattle.text.specs.Written.{spaced}
-use Rattle.text.proofs.Writing.{one-written, then-written}
+use Rattle.text.proofs.Writing.{one-written, then-written, written-length}
 use Rattle.text.proofs.word.put_number.Statement.{statement}
 use Rattle.text.proofs.word.put_number.Tie as tie
 
-element-write-buffer : tie.Need-element-write-buffer
-element-write-buffer c = search needs
+slice-write-buffer : tie.Need-slice-write-buffer
+slice-write-buffer c = search needs
 
 add-put-decimal : tie.Need-add-put-decimal
 add-put-decimal c = search needs
 
 put-decimal-requires : tie.Need-put-decimal-requires
-put-decimal-requires c κs = search needs
+put-decimal-requires c κs = simp length-set (search needs)
+
+same-length : tie.Need-same-length
+same-length c =
+    let start = c .before .before .before .before .before in
+    written-length (then-written (one-written (start .args .buffer .now) (start .args .at) 32) (c .before .before .put-decimal .ensures))
 
 returns : tie.Need-returns
 unfolding ascii spaced
-returns c = then-written (one-written _ _ 32) (c .put-decimal .ensures)
+returns c = then-written (one-written _ _ 32) (c .before .before .put-decimal .ensures)
 
 pub put-number-spec : {M : Type 1} → statement M
 put-number-spec =
-    tie.close (tie.spec element-write-buffer add-put-decimal put-decimal-requires returns)
+    tie.close
+    (tie.spec
+    slice-write-buffer
+    add-put-decimal
+    put-decimal-requires
+    same-length
+    returns)

@@ -5,7 +5,7 @@ use mathlib.Core.Path.{_≡_, sym, ap}
 use mathlib.Core.List.{map}
 use Prim.Native.Nat.{ℕ, _+_, _*_}
 use lib.IntN.{pos}
-use lib.ListN.{take, getD}
+use lib.ListN.{length, take, getD}
 use mir.Syntax.{w32}
 use mir.Val.{SFits}
 use mir.Facts.{toZ-ofZ}
@@ -19,9 +19,10 @@ use Rattle.text.proofs.word.put_value_list.Tie as tie
 returns : tie.Need-returns
 unfolding allSpaced
 returns c =
-    let values = c .before .args .t3 in
-    let none = none-written (c .before .args .buffer .now) (c .before .args .at) in
-    let count : 0 ≡ c .before .args .count = sym (c .if1 .taken) in
+    let start = c .before .before in
+    let values = start .args .t3 in
+    let none = none-written (start .args .buffer .now) (start .args .at) in
+    let count : 0 ≡ start .args .count = sym (c .if1 .taken) in
     written-as none (ap (λ (n : ℕ). allSpaced (map signedDecimal (take n values))) count) (omega arith)
 
 array-copy-out-put-value : tie.Need-array-copy-out-put-value
@@ -30,15 +31,20 @@ array-copy-out-put-value c = search needs
 put-value-requires : tie.Need-put-value-requires
 put-value-requires c κs = search needs
 
+same-length : tie.Need-same-length
+same-length c = search needs
+
 returns-2 : tie.Need-returns-2
 unfolding allSpaced
 returns-2 c =
-    let values = c .before .before .before .before .before .args .t3 in
-    let none = none-written (c .before .before .before .before .before .args .buffer .now) (c .before .before .before .before .before .args .at) in
-    let fits0 : SFits w32 (getD values 0 (pos 0)) = record { sfits = c .before .before .put-value-arg2 .given } in
-    let w0 = values-written values (pos 0) _ _ _ _ _ _ 0 (search needs) none (rw (toZ-ofZ fits0) at (c .before .put-value .ensures)) in
-    let count : 1 ≡ c .before .before .before .before .before .args .count = sym (c .if2 .taken) in
-    written-as w0 (ap (λ (n : ℕ). allSpaced (map signedDecimal (take n values))) count) (omega arith)
+    let start = c .before .before .before .before .before .before .before .before in
+    let values = start .args .t3 in
+    let none = none-written (start .args .buffer .now) (start .args .at) in
+    let put1 = c .before .before .before in
+    let fits1 : SFits w32 (getD values 0 (pos 0)) = record { sfits = put1 .before .put-value-arg2 .given } in
+    let w1 = values-written values (pos 0) _ _ _ _ _ _ 0 (search needs) none (rw (toZ-ofZ fits1) at (put1 .put-value .ensures)) in
+    let count : 1 ≡ start .args .count = sym (c .if2 .taken) in
+    written-as w1 (ap (λ (n : ℕ). allSpaced (map signedDecimal (take n values))) count) (omega arith)
 
 array-copy-out-put-value-2 : tie.Need-array-copy-out-put-value-2
 array-copy-out-put-value-2 c = search needs
@@ -46,17 +52,23 @@ array-copy-out-put-value-2 c = search needs
 put-value-requires-2 : tie.Need-put-value-requires-2
 put-value-requires-2 c κs = search needs
 
+same-length-2 : tie.Need-same-length-2
+same-length-2 c = search needs
+
 returns-3 : tie.Need-returns-3
 unfolding allSpaced
 returns-3 c =
-    let values = c .before .before .before .before .before .before .before .before .before .args .t3 in
-    let none = none-written (c .before .before .before .before .before .before .before .before .before .args .buffer .now) (c .before .before .before .before .before .before .before .before .before .args .at) in
-    let fits0 : SFits w32 (getD values 0 (pos 0)) = record { sfits = c .before .before .before .before .before .before .put-value-arg2 .given } in
-    let w0 = values-written values (pos 0) _ _ _ _ _ _ 0 (search needs) none (rw (toZ-ofZ fits0) at (c .before .before .before .before .before .put-value .ensures)) in
-    let fits1 : SFits w32 (getD values 1 (pos 0)) = record { sfits = c .before .before .put-value-arg4 .given } in
-    let w1 = values-written values (pos 0) _ _ _ _ _ _ 1 (search needs) w0 (rw (toZ-ofZ fits1) at (c .before .put-value2 .ensures)) in
-    let count : 2 ≡ c .before .before .before .before .before .before .before .before .before .args .count = sym (c .if3 .taken) in
-    written-as w1 (ap (λ (n : ℕ). allSpaced (map signedDecimal (take n values))) count) (omega arith)
+    let start = c .before .before .before .before .before .before .before .before .before .before .before .before .before .before in
+    let values = start .args .t3 in
+    let none = none-written (start .args .buffer .now) (start .args .at) in
+    let put1 = c .before .before .before .before .before .before .before .before .before in
+    let fits1 : SFits w32 (getD values 0 (pos 0)) = record { sfits = put1 .before .put-value-arg2 .given } in
+    let w1 = values-written values (pos 0) _ _ _ _ _ _ 0 (search needs) none (rw (toZ-ofZ fits1) at (put1 .put-value .ensures)) in
+    let put2 = c .before .before .before in
+    let fits2 : SFits w32 (getD values 1 (pos 0)) = record { sfits = put2 .before .put-value-arg4 .given } in
+    let w2 = values-written values (pos 0) _ _ _ _ _ _ 1 (search needs) w1 (rw (toZ-ofZ fits2) at (put2 .put-value2 .ensures)) in
+    let count : 2 ≡ start .args .count = sym (c .if3 .taken) in
+    written-as w2 (ap (λ (n : ℕ). allSpaced (map signedDecimal (take n values))) count) (omega arith)
 
 array-copy-out-put-value-3 : tie.Need-array-copy-out-put-value-3
 array-copy-out-put-value-3 c = search needs
@@ -64,19 +76,26 @@ array-copy-out-put-value-3 c = search needs
 put-value-requires-3 : tie.Need-put-value-requires-3
 put-value-requires-3 c κs = search needs
 
+same-length-3 : tie.Need-same-length-3
+same-length-3 c = search needs
+
 returns-4 : tie.Need-returns-4
 unfolding allSpaced
 returns-4 c =
-    let values = c .before .before .before .before .before .before .before .before .before .before .before .before .before .args .t3 in
-    let none = none-written (c .before .before .before .before .before .before .before .before .before .before .before .before .before .args .buffer .now) (c .before .before .before .before .before .before .before .before .before .before .before .before .before .args .at) in
-    let fits0 : SFits w32 (getD values 0 (pos 0)) = record { sfits = c .before .before .before .before .before .before .before .before .before .before .put-value-arg2 .given } in
-    let w0 = values-written values (pos 0) _ _ _ _ _ _ 0 (search needs) none (rw (toZ-ofZ fits0) at (c .before .before .before .before .before .before .before .before .before .put-value .ensures)) in
-    let fits1 : SFits w32 (getD values 1 (pos 0)) = record { sfits = c .before .before .before .before .before .before .put-value-arg4 .given } in
-    let w1 = values-written values (pos 0) _ _ _ _ _ _ 1 (search needs) w0 (rw (toZ-ofZ fits1) at (c .before .before .before .before .before .put-value2 .ensures)) in
-    let fits2 : SFits w32 (getD values 2 (pos 0)) = record { sfits = c .before .before .put-value-arg6 .given } in
-    let w2 = values-written values (pos 0) _ _ _ _ _ _ 2 (search needs) w1 (rw (toZ-ofZ fits2) at (c .before .put-value3 .ensures)) in
-    let count : 3 ≡ c .before .before .before .before .before .before .before .before .before .before .before .before .before .args .count = sym (c .if4 .taken) in
-    written-as w2 (ap (λ (n : ℕ). allSpaced (map signedDecimal (take n values))) count) (omega arith)
+    let start = c .before .before .before .before .before .before .before .before .before .before .before .before .before .before .before .before .before .before .before .before in
+    let values = start .args .t3 in
+    let none = none-written (start .args .buffer .now) (start .args .at) in
+    let put1 = c .before .before .before .before .before .before .before .before .before .before .before .before .before .before .before in
+    let fits1 : SFits w32 (getD values 0 (pos 0)) = record { sfits = put1 .before .put-value-arg2 .given } in
+    let w1 = values-written values (pos 0) _ _ _ _ _ _ 0 (search needs) none (rw (toZ-ofZ fits1) at (put1 .put-value .ensures)) in
+    let put2 = c .before .before .before .before .before .before .before .before .before in
+    let fits2 : SFits w32 (getD values 1 (pos 0)) = record { sfits = put2 .before .put-value-arg4 .given } in
+    let w2 = values-written values (pos 0) _ _ _ _ _ _ 1 (search needs) w1 (rw (toZ-ofZ fits2) at (put2 .put-value2 .ensures)) in
+    let put3 = c .before .before .before in
+    let fits3 : SFits w32 (getD values 2 (pos 0)) = record { sfits = put3 .before .put-value-arg6 .given } in
+    let w3 = values-written values (pos 0) _ _ _ _ _ _ 2 (search needs) w2 (rw (toZ-ofZ fits3) at (put3 .put-value3 .ensures)) in
+    let count : 3 ≡ start .args .count = sym (c .if4 .taken) in
+    written-as w3 (ap (λ (n : ℕ). allSpaced (map signedDecimal (take n values))) count) (omega arith)
 
 array-copy-out-put-value-4 : tie.Need-array-copy-out-put-value-4
 array-copy-out-put-value-4 c = search needs
@@ -84,21 +103,31 @@ array-copy-out-put-value-4 c = search needs
 put-value-requires-4 : tie.Need-put-value-requires-4
 put-value-requires-4 c κs = search needs
 
+same-length-4 : tie.Need-same-length-4
+same-length-4 c = search needs
+
 returns-5 : tie.Need-returns-5
 unfolding allSpaced
 returns-5 c =
-    let values = c .before .before .before .before .before .before .before .before .before .before .before .before .before .before .before .before .args .t3 in
-    let none = none-written (c .before .before .before .before .before .before .before .before .before .before .before .before .before .before .before .before .args .buffer .now) (c .before .before .before .before .before .before .before .before .before .before .before .before .before .before .before .before .args .at) in
-    let fits0 : SFits w32 (getD values 0 (pos 0)) = record { sfits = c .before .before .before .before .before .before .before .before .before .before .before .before .before .put-value-arg2 .given } in
-    let w0 = values-written values (pos 0) _ _ _ _ _ _ 0 (search needs) none (rw (toZ-ofZ fits0) at (c .before .before .before .before .before .before .before .before .before .before .before .before .put-value .ensures)) in
-    let fits1 : SFits w32 (getD values 1 (pos 0)) = record { sfits = c .before .before .before .before .before .before .before .before .before .put-value-arg4 .given } in
-    let w1 = values-written values (pos 0) _ _ _ _ _ _ 1 (search needs) w0 (rw (toZ-ofZ fits1) at (c .before .before .before .before .before .before .before .before .put-value2 .ensures)) in
-    let fits2 : SFits w32 (getD values 2 (pos 0)) = record { sfits = c .before .before .before .before .before .put-value-arg6 .given } in
-    let w2 = values-written values (pos 0) _ _ _ _ _ _ 2 (search needs) w1 (rw (toZ-ofZ fits2) at (c .before .before .before .before .put-value3 .ensures)) in
-    let fits3 : SFits w32 (getD values 3 (pos 0)) = record { sfits = c .before .put-value-arg8 .given } in
-    let w3 = values-written values (pos 0) _ _ _ _ _ _ 3 (search needs) w2 (rw (toZ-ofZ fits3) at (c .put-value4 .ensures)) in
-    let count : 4 ≡ c .before .before .before .before .before .before .before .before .before .before .before .before .before .before .before .before .args .count = (let few = c .before .before .before .before .before .before .before .before .before .before .before .before .before .before .before .before .pre .1 in omega arith) in
-    written-as w3 (ap (λ (n : ℕ). allSpaced (map signedDecimal (take n values))) count) (omega arith)
+    let start = c .before .before .before .before .before .before .before .before .before .before .before .before .before .before .before .before .before .before .before .before .before .before .before .before .before in
+    let values = start .args .t3 in
+    let four : length values ≡ 4 = search needs in
+    let none = none-written (start .args .buffer .now) (start .args .at) in
+    let put1 = c .before .before .before .before .before .before .before .before .before .before .before .before .before .before .before .before .before .before .before .before in
+    let fits1 : SFits w32 (getD values 0 (pos 0)) = record { sfits = put1 .before .put-value-arg2 .given } in
+    let w1 = values-written values (pos 0) _ _ _ _ _ _ 0 (omega arith) none (rw (toZ-ofZ fits1) at (put1 .put-value .ensures)) in
+    let put2 = c .before .before .before .before .before .before .before .before .before .before .before .before .before .before in
+    let fits2 : SFits w32 (getD values 1 (pos 0)) = record { sfits = put2 .before .put-value-arg4 .given } in
+    let w2 = values-written values (pos 0) _ _ _ _ _ _ 1 (omega arith) w1 (rw (toZ-ofZ fits2) at (put2 .put-value2 .ensures)) in
+    let put3 = c .before .before .before .before .before .before .before .before in
+    let fits3 : SFits w32 (getD values 2 (pos 0)) = record { sfits = put3 .before .put-value-arg6 .given } in
+    let w3 = values-written values (pos 0) _ _ _ _ _ _ 2 (omega arith) w2 (rw (toZ-ofZ fits3) at (put3 .put-value3 .ensures)) in
+    let put4 = c .before .before in
+    let fits4 : SFits w32 (getD values 3 (pos 0)) = record { sfits = put4 .before .put-value-arg8 .given } in
+    let w4 = values-written values (pos 0) _ _ _ _ _ _ 3 (omega arith) w3 (rw (toZ-ofZ fits4) at (put4 .put-value4 .ensures)) in
+    let few = start .pre .1 in
+    let count : 4 ≡ start .args .count = omega arith in
+    written-as w4 (ap (λ (n : ℕ). allSpaced (map signedDecimal (take n values))) count) (omega arith)
 
 pub put-value-list-spec : {M : Type 1} → statement M
 put-value-list-spec =
@@ -107,13 +136,17 @@ put-value-list-spec =
     returns
     array-copy-out-put-value
     put-value-requires
+    same-length
     returns-2
     array-copy-out-put-value-2
     put-value-requires-2
+    same-length-2
     returns-3
     array-copy-out-put-value-3
     put-value-requires-3
+    same-length-3
     returns-4
     array-copy-out-put-value-4
     put-value-requires-4
+    same-length-4
     returns-5)

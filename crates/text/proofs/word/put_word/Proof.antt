@@ -4,7 +4,7 @@ use Prim.Native.Nat.{_+_, _-_, _≤_}
 use lib.ListN.{length, take}
 use borrow.Author.Needs.{needs}
 use Rattle.text.specs.Written.{Written}
-use Rattle.text.proofs.Writing.{none-written, word-more, word-written}
+use Rattle.text.proofs.Writing.{none-written, written-length, word-more, word-written}
 use Rattle.text.proofs.word.put_word.Statement.{statement}
 use Rattle.text.proofs.word.put_word.Tie as tie
 
@@ -20,11 +20,11 @@ loop-holds c = (search needs, (search needs, none-written _ _))
 shared-slice-read-buffer : tie.Need-shared-slice-read-buffer Inv-loop μ-loop
 shared-slice-read-buffer c = search needs
 
-element-write-buffer : tie.Need-element-write-buffer Inv-loop μ-loop
-element-write-buffer c = search needs
+slice-write-buffer : tie.Need-slice-write-buffer Inv-loop μ-loop
+slice-write-buffer c = let e = written-length (c .before .before .loop .inv .1 .1) in search needs
 
 add-to : tie.Need-add-to Inv-loop μ-loop
-add-to c = search needs
+add-to c = let e = written-length (c .before .before .loop .inv .1 .1) in search needs
 
 add-i : tie.Need-add-i Inv-loop μ-loop
 add-i c = search needs
@@ -34,6 +34,9 @@ loop-less c = search needs
 
 loop-again : tie.Need-loop-again Inv-loop μ-loop
 loop-again c = (search needs, (search needs, search word-more))
+
+same-length : tie.Need-same-length Inv-loop μ-loop
+same-length c = written-length (c .before .loop .inv .1 .1)
 
 returns : tie.Need-returns Inv-loop μ-loop
 returns c = search word-written
@@ -46,9 +49,10 @@ put-word-spec =
     μ-loop
     loop-holds
     shared-slice-read-buffer
-    element-write-buffer
+    slice-write-buffer
     add-to
     add-i
     loop-less
     loop-again
+    same-length
     returns)
