@@ -114,10 +114,10 @@ module _ (dag rest before : List ℕ) (from : ℕ) where
         lent-there = let inside = L .going .inside in omega arith
 
         module _ {ws′ output′ : List ℕ} (n : ℕ)
-            (gives : (m : Machine) (d : List ℕ) (us ks ss : List Bool) → Lawful ws us ks d m → OneCallee ss m → m .queued ≡ 0
-            → TurnLeaves (turnOutcome (dagOf d) m rest at) m ws′ us ks ss output from total output′ (goesOn n)) where
+            (gives : (m : Machine) (d : List ℕ) (ks ss : List Bool) → Lawful ws used ks d m → OneCallee ss m → m .queued ≡ 0
+            → TurnLeaves (turnOutcome (dagOf d) m rest at) m ws′ used ks ss output from total output′ (goesOn n)) where
           delivered : TurnLeaves turned (L .machine) ws′ used cells shared output from total output′ (goesOn n)
-          delivered = gives (L .machine) dag used cells shared (L .lawful) (L .callees) none
+          delivered = gives (L .machine) dag cells shared (L .lawful) (L .callees) none
 
           pub lent-delivers-less : (100000 - steps) + (length rest - (at + 8)) < (100000 - steps) + (length rest - at)
           lent-delivers-less = omega arith

@@ -56,7 +56,7 @@ fn run_turns(
             if left < 8 {
                 return show_last(left, steps, output, from, total);
             }
-            total = deliver_turn(w, rest, at, output, from, total);
+            total = deliver_turn(w, tokens, rest, at, output, from, total);
             at += 8;
             continue;
         }

@@ -16,6 +16,7 @@ use lines::report::show_reply;
 use model::record::Machine;
 use model::reply::Refusal;
 use model::reply::Reply;
+use reach::marks::few_or_all;
 use turns::deliver::deliver;
 use turns::reply::has_line;
 use turns::reply::is_refused;
@@ -30,6 +31,7 @@ pub struct TurnEnd {
 // "With the queue empty it delivers a record"; a refused answer doesn't end the run.
 pub fn deliver_turn(
     w: &mut [u32; Machine::WORDS],
+    tokens: &[bool; Machine::TOKENS],
     rest: &[u8],
     at: usize,
     output: &mut [u8],
@@ -37,11 +39,13 @@ pub fn deliver_turn(
     total: usize,
 ) -> usize
     requires { ⌜ (at + 8 ≤ length (now rest)) × (total + 80 ≤ 1000000000) ⌝ }
-    ensures { λ r. ⌜ ((m : Machine) (dag : List ℕ) (used cells shared : List Bool) → Lawful (now (w .entry)) used cells dag m → OneCallee shared m → m .queued ≡ 0
-        → TurnLeaves (turnOutcome (dagOf dag) m (now (rest .entry)) at) m (now (w .exit)) used cells shared
+    ensures { λ r. ⌜ ((m : Machine) (dag : List ℕ) (cells shared : List Bool) → Lawful (now (w .entry)) (now (tokens .entry)) cells dag m
+        → OneCallee shared m → m .queued ≡ 0
+        → TurnLeaves (turnOutcome (dagOf dag) m (now (rest .entry)) at) m (now (w .exit)) (now (tokens .entry)) cells shared
         (now (output .entry)) from total (now (output .exit)) (goesOn r)) ⌝ }
 {
-    if deliver(w, rest, at) {
+    let end = few_or_all(tokens, Machine::TOKENS);
+    if deliver(w, rest, at, end) {
         return total;
     }
     let refused = Reply::Refused(Refusal::NotOpen);

@@ -4,3 +4,4 @@ pub mod Links
 pub mod Chains
 pub mod Climbing
 pub mod Marking
+pub mod Weights

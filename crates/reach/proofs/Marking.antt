@@ -5,7 +5,6 @@ use mathlib.Core.Bool.{Bool, true, false, _||_, true≢false}
 use mathlib.Core.Logic.{_≢_}
 use mathlib.Core.List.{List, _∷_, map}
 use Prim.Native.Nat.{ℕ, suc, _+_, _-_, _≤_, _<_}
-use native.Mathlib.Decide.{ℕ-discrete}
 use native.Mathlib.Numerals.{add-one}
 use native.Mathlib.Omega.{arith}
 use borrow.Author.Count.{below-more}
@@ -199,12 +198,3 @@ pub unmarked-more : (marks : List Bool) (from i : ℕ) (found : Bool) → i < le
 unmarked-more marks from i true l none e k h b = absurd (true≢false e)
 unmarked-more marks from i false l none e k h b =
     below-more (λ j. from ≤ j → getD marks j true ≡ false) i (λ j b f. none refl j f b) (λ f. any-default marks i true false l ∙ e) k b h
-
--- one place more from which none is marked
-pub unmarked-before : (marks : List Bool) (end size : ℕ) → 0 < end → end ≤ size → length marks ≡ size → UnmarkedFrom marks end size
-    → getD marks (end - 1) false ≡ false → UnmarkedFrom marks (end - 1) size
-unmarked-before marks end size some inside all none e i from to = go (ℕ-discrete i (end - 1))
-  where
-    go : Dec (i ≡ end - 1) → getD marks i true ≡ false
-    go (yes q) = any-default marks i true false (omega arith) ∙ ap (λ k. getD marks k false) q ∙ e
-    go (no n) = none i (omega arith) to

@@ -1,10 +1,11 @@
 -- Marks of what is in use, as they are made, kept and looked through. Assumes nothing: these are definitions.
 use mathlib.Core.Path.{_≡_}
 use mathlib.Core.Bool.{Bool, true, false}
-use mathlib.Core.List.{List}
-use Prim.Native.Nat.{ℕ, _≤_, _<_}
+use mathlib.Core.List.{List, [], _∷_}
+use Prim.Native.Nat.{ℕ, zero, suc, _+_, _*_, _≤_, _<_}
 use lib.ListN.{getD}
 use lib.Dec.{ltb}
+use mir.Val.{boolByte}
 use Rattle.model.specs.Machine.Active.{isActive}
 use Rattle.model.specs.Machine.Blank.{blankToken, blankCell, tokenAt, cellAt}
 use Rattle.model.specs.Machine.InUse.{markChain, markFromEach, cellsOf, tokensUsed, usedCells, marked, restBlanked}
@@ -62,6 +63,12 @@ FreeCells m marks = (c : ℕ) → c < 32 → getD marks c true ≡ false → cel
 -- no place from `end` on is marked, of so many; every token from there on is blank
 abbrev pub UnmarkedFrom : List Bool → (end size : ℕ) → Type 0
 UnmarkedFrom marks end size = (i : ℕ) → end ≤ i → i < size → getD marks i true ≡ false
+
+-- the first n marks as a number, the lowest byte first: 1 for a mark
+abbrev pub weight : (n : ℕ) → List Bool → ℕ
+weight zero marks = 0
+weight (suc n) [] = 0
+weight (suc n) (b ∷ marks) = boolByte b + 256 * weight n marks
 
 abbrev pub BlankFrom : Machine → (end : ℕ) → Type 0
 BlankFrom m end = (i : ℕ) → end ≤ i → i < 64 → tokenAt (m .tokens) i ≡ blankToken

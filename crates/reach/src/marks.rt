@@ -1,12 +1,14 @@
 // Marks of both tables, over slices: what lends an array as a slice knows its length, also after the call.
 ghost use mathlib.Core.Path.{_≡_};
-ghost use mathlib.Core.Bool.{true, false};
-ghost use Prim.Native.Nat.{_≤_};
+ghost use mathlib.Core.Bool.{Bool, true, false};
+ghost use mathlib.Core.List.{List};
+ghost use Prim.Native.Nat.{_+_, _*_, _≤_, _<_};
 ghost use lib.ListN.{length, replicate};
+ghost use mir.Val.{boolByte};
 ghost use Rattle.model.specs.Machine.InUse.{tokensUsed, usedCells};
 ghost use Rattle.model.specs.declared.record.Machine.{Machine};
 ghost use Rattle.record.specs.Holds.{Codes};
-ghost use Rattle.reach.specs.Marks.{BlankFrom, UnmarkedFrom};
+ghost use Rattle.reach.specs.Marks.{BlankFrom, UnmarkedFrom, weight};
 use crate::mark::mark_active;
 use crate::mark::mark_held;
 use model::record::Machine;
@@ -38,7 +40,7 @@ fn none_from(marks: &[bool], from: usize, size: usize) -> bool
 }
 
 // The few first places, where the others are not in use, or all of them.
-fn few_or_all(marks: &[bool], size: usize) -> usize
+pub fn few_or_all(marks: &[bool], size: usize) -> usize
     requires { ⌜ (length (now marks) ≡ size) × (8 ≤ size) ⌝ }
     ensures { λ r. ⌜ (r ≤ size) × UnmarkedFrom (now (marks .entry)) r size ⌝ }
 {
@@ -48,17 +50,49 @@ fn few_or_all(marks: &[bool], size: usize) -> usize
     size
 }
 
-// The end of the places in use: no place from it on is marked.
+// Four marks as a number of four bytes, the lowest first.
+fn four(a: bool, b: bool, c: bool, d: bool) -> u64
+    ensures { λ r. ⌜ (r ≡ boolByte a + 256 * (boolByte b + 256 * (boolByte c + 256 * boolByte d))) × (r < 4294967296) ⌝ }
+{
+    a as u64 + 256 * (b as u64 + 256 * (c as u64 + 256 * d as u64))
+}
+
+// The first eight marks as a number of eight bytes: they are read at once.
+fn first_eight(marks: &[bool]) -> u64
+    requires { ⌜ 8 ≤ length (now marks) ⌝ }
+    ensures { λ r. ⌜ r ≡ weight 8 (now (marks .entry)) ⌝ }
+{
+    four(marks[0], marks[1], marks[2], marks[3])
+        + 4294967296 * four(marks[4], marks[5], marks[6], marks[7])
+}
+
+// Where eight marks end, or somewhat behind it, from that number.
+fn end_of_eight(number: u64) -> usize
+    ensures { λ r. ⌜ (r ≤ 8) × ((marks : List Bool) → 8 ≤ length marks → number ≡ weight 8 marks → UnmarkedFrom marks r 8) ⌝ }
+{
+    if number < 65536 {
+        if number < 256 {
+            return 1;
+        }
+        return 2;
+    }
+    if number < 4294967296 {
+        if number < 16777216 {
+            return 3;
+        }
+        return 4;
+    }
+    8
+}
+
+// The end of the places in use where they are few, or somewhat behind it; else that of all places. No place from it on is marked.
 pub fn marked_end(marks: &[bool], size: usize) -> usize
     requires { ⌜ (length (now marks) ≡ size) × (8 ≤ size) ⌝ }
     ensures { λ r. ⌜ (r ≤ size) × UnmarkedFrom (now (marks .entry)) r size ⌝ }
 {
-    let mut end = few_or_all(marks, size);
-    while 0 < end {
-        if marks[end - 1] {
-            return end;
-        }
-        end -= 1;
+    let end = few_or_all(marks, size);
+    if end == 8 {
+        return end_of_eight(first_eight(marks));
     }
     end
 }

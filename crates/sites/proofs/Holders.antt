@@ -32,6 +32,8 @@ use Rattle.job.proofs.Test.{clash, lt-ltb, le-not-ltb}
 use Rattle.model.proofs.Machine.Within.{holder-holds}
 use Rattle.record.specs.Holds.{Codes, Holds}
 use Rattle.record.specs.Words.{stateKind, stateNumber}
+use Rattle.reach.specs.Marks.{BlankFrom}
+use Rattle.reach.proofs.Lists.{steady}
 use Rattle.sites.specs.Answering.{placeBelow, answeredBy, Answered}
 use Rattle.sites.proofs.Facts.{tokens-size, queue-room}
 
@@ -50,6 +52,15 @@ module _ (h i : ℕ) (ts : List Token) (d : Token) (l : i < length ts) {x : Plac
 pub holder-none : (h i : ℕ) (ts : List Token) → length ts ≤ i → {x : Place} → x ≡ holder h i (drop i ts) → x ≡ places.Nowhere
 unfolding holder
 holder-none h i ts l e = e ∙ ap (holder h i) (drop-of-length-le ts {i = i} l)
+
+-- no blank token is under a handle
+pub holder-blank : (h end : ℕ) (ts : List Token) → length ts ≡ 64 → end ≤ 64 → ((i : ℕ) → end ≤ i → i < 64 → tokenAt ts i ≡ blankToken)
+    → holder h end (drop end ts) ≡ places.Nowhere
+unfolding tokenAt any handleOf
+holder-blank h end ts l inside blank =
+    steady (λ (i : ℕ). holder h i (drop i ts)) end 64 inside
+    (λ i from to. holder-on h i ts blankToken (omega arith) refl (ap (λ (t : Token). any (eqb h) (handleOf (t .state))) (blank i from to)))
+    ∙ holder-none h 64 ts (omega arith) refl
 
 -- the token under a handle is not ready
 open-waits : (h : ℕ) (s : State) → any (eqb h) (handleOf s) ≡ true → isReady s ≡ false
@@ -132,28 +143,29 @@ answered-refuses m v places.Nowhere e = refl
 answered-refuses m v (places.At p) e = clash refl e
 
 -- what the code has done, by the number that the search gave
-module _ (h p : ℕ) (v : ℤ) (before after : List ℕ) (found : (m : Machine) → Codes before m → holder h 0 (m .tokens) ≡ placeBelow 64 p) where
-  pub not-answered : 64 ≤ p → after ≡ before → Answered h v false before after
+module _ (end h p : ℕ) (v : ℤ) (before after : List ℕ)
+    (found : (m : Machine) → Codes before m → BlankFrom m end → holder h 0 (m .tokens) ≡ placeBelow end p) where
+  pub not-answered : end ≤ p → after ≡ before → Answered end h v false before after
   unfolding isPlace answeredBy
   not-answered l e =
       record {
-        says = λ m k. sym (ap isPlace (found m (k .codes) ∙ place-none 64 p l));
+        says = λ m k b. sym (ap isPlace (found m (k .codes) b ∙ place-none end p l));
         does =
-            λ d m k r.
-            subst (Holds after) (sym (ap (answeredBy m v) (found m (k .codes) ∙ place-none 64 p l))) (subst (λ ws. Holds ws m) (sym e) k);
+            λ d m k b r.
+            subst (Holds after) (sym (ap (answeredBy m v) (found m (k .codes) b ∙ place-none end p l))) (subst (λ ws. Holds ws m) (sym e) k);
         stays = λ _. e;
       }
 
-  pub is-answered : p < 64
+  pub is-answered : p < end
       → ((m : Machine) → Holds before m → m .queued < 64 → Holds after (enqueue p (put p (withState states.Ready (withValue (helds.Value v) (tokenAt (m .tokens) p))) m)))
-      → Answered h v true before after
+      → Answered end h v true before after
   unfolding isPlace answeredBy
   is-answered l e =
       record {
-        says = λ m k. sym (ap isPlace (found m (k .codes) ∙ place-there 64 p l));
+        says = λ m k b. sym (ap isPlace (found m (k .codes) b ∙ place-there end p l));
         does =
-            λ d m k r.
-            let at : holder h 0 (m .tokens) ≡ places.At p = found m (k .codes) ∙ place-there 64 p l in
+            λ d m k b r.
+            let at : holder h 0 (m .tokens) ≡ places.At p = found m (k .codes) b ∙ place-there end p l in
             subst (Holds after) (sym (ap (answeredBy m v) at)) (e m k (open-room d m r h p at));
         stays = λ z. clash refl z;
       }

@@ -4,6 +4,7 @@ ghost use Prim.Native.Nat.{_≤_, _<_};
 ghost use Rattle.model.specs.Machine.Answer.{holder};
 ghost use Rattle.model.specs.declared.record.Machine.{Machine};
 ghost use Rattle.record.specs.Holds.{Codes};
+ghost use Rattle.reach.specs.Marks.{BlankFrom};
 ghost use Rattle.sites.specs.Answering.{placeBelow, NextCalled, Answered};
 use crate::number::unsigned;
 use model::record::Machine;
@@ -12,13 +13,13 @@ use record::layout::READY_STATE;
 use record::order;
 use record::token;
 
-// The first place from an index on whose token is called out, or 64.
-fn next_called(w: &[u32; Machine::WORDS], from: usize) -> usize
-    requires { ⌜ from ≤ 64 ⌝ }
-    ensures { λ r. ⌜ (from ≤ r) × (r ≤ 64) × ((m : Machine) → Codes (now (w .entry)) m → NextCalled m from r) ⌝ }
+// The first place from an index on whose token is called out, or the end.
+fn next_called(w: &[u32; Machine::WORDS], from: usize, end: usize) -> usize
+    requires { ⌜ (from ≤ end) × (end ≤ 64) ⌝ }
+    ensures { λ r. ⌜ (from ≤ r) × (r ≤ end) × ((m : Machine) → Codes (now (w .entry)) m → NextCalled m end from r) ⌝ }
 {
     let mut p = from;
-    while p < Machine::TOKENS {
+    while p < end {
         if token::state(w, p) == CALLED_STATE {
             return p;
         }
@@ -27,26 +28,28 @@ fn next_called(w: &[u32; Machine::WORDS], from: usize) -> usize
     p
 }
 
-// The place of the token that is called out under the handle, or 64.
-fn find_open(w: &[u32; Machine::WORDS], handle: u32) -> usize
-    ensures { λ r. ⌜ (r ≤ 64) × ((m : Machine) → Codes (now (w .entry)) m → holder handle 0 (m .tokens) ≡ placeBelow 64 r) ⌝ }
+// The place of the token that is called out under the handle, or the end.
+fn find_open(w: &[u32; Machine::WORDS], handle: u32, end: usize) -> usize
+    requires { ⌜ end ≤ 64 ⌝ }
+    ensures { λ r. ⌜ (r ≤ end) × ((m : Machine) → Codes (now (w .entry)) m → BlankFrom m end → holder handle 0 (m .tokens) ≡ placeBelow end r) ⌝ }
 {
-    let mut p = next_called(w, 0);
-    while p < Machine::TOKENS {
+    let mut p = next_called(w, 0, end);
+    while p < end {
         if handle == token::state_number(w, p) {
             return p;
         }
-        p = next_called(w, p + 1);
+        p = next_called(w, p + 1, end);
     }
     p
 }
 
-// "12: answer to a handle that is not open": false, and the words stay as they are.
-pub fn answer(w: &mut [u32; Machine::WORDS], handle: u32, value: i32) -> bool
-    ensures { λ r. ⌜ Answered handle value r (now (w .entry)) (now (w .exit)) ⌝ }
+// "12: answer to a handle that is not open": false, and the words stay as they are. From the end on no token is in use.
+pub fn answer(w: &mut [u32; Machine::WORDS], handle: u32, value: i32, end: usize) -> bool
+    requires { ⌜ end ≤ 64 ⌝ }
+    ensures { λ r. ⌜ Answered end handle value r (now (w .entry)) (now (w .exit)) ⌝ }
 {
-    let p = find_open(w, handle);
-    if Machine::TOKENS <= p {
+    let p = find_open(w, handle, end);
+    if end <= p {
         return false;
     }
     token::set_value(w, p, 1, unsigned(value));

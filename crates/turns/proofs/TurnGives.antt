@@ -14,6 +14,7 @@ use Rattle.model.specs.Machine.Answer as Answer
 use Rattle.model.specs.declared.record.Machine.{Machine}
 use Rattle.model.specs.declared.reply.Outcome.{Outcome}
 use Rattle.model.specs.declared.reply.Report.{Report}
+use Rattle.reach.specs.Marks.{BlankFrom}
 use Rattle.acts.specs.Acting.{Lawful, QueueHasToken, Gives}
 use Rattle.acts.specs.SharedFrames.{OneCallee, Stepped}
 use Rattle.acts.proofs.CalleeSteps.{answer-keeps}
@@ -21,27 +22,27 @@ use Rattle.turns.specs.Turn.{turnOutcome}
 use Rattle.turns.proofs.TurnCases.{turn-empty, turn-ready}
 
 -- an answer, for any record that the words hold
-abbrev pub Answers : (ws after : List ℕ) → Report → (handle : ℕ) (value : ℤ) → Type 0
-Answers ws after r h v =
-    (m : Machine) (dag : List ℕ) (used cells : List Bool) → Lawful ws used cells dag m
+abbrev pub Answers : (ws after : List ℕ) (end : ℕ) → Report → (handle : ℕ) (value : ℤ) → Type 0
+Answers ws after end r h v =
+    (m : Machine) (dag : List ℕ) (used cells : List Bool) → Lawful ws used cells dag m → BlankFrom m end
     → Gives (Answer.answer paper (dagOf dag) m h v) m after used cells r
 
 -- the numbers of a record, as the code hands them on
-pub delivered : (ws after : List ℕ) (r : Report) (h k w n : ℕ) (u v : ℤ) → Answers ws after r h u → u ≡ v → h ≡ k → v ≡ signed w → w ≡ n
-    → Answers ws after r k (signed n)
-delivered ws after r h k w n u v gives e same is word m dag used cells lawful =
+pub delivered : (ws after : List ℕ) (end : ℕ) (r : Report) (h k w n : ℕ) (u v : ℤ) → Answers ws after end r h u → u ≡ v → h ≡ k → v ≡ signed w → w ≡ n
+    → Answers ws after end r k (signed n)
+delivered ws after end r h k w n u v gives e same is word m dag used cells lawful blank =
     subst (λ (i : ℕ). Gives (Answer.answer paper (dagOf dag) m i (signed n)) m after used cells r) same
     (subst (λ (z : ℤ). Gives (Answer.answer paper (dagOf dag) m h z) m after used cells r) (e ∙ is ∙ ap signed word)
-    (gives m dag used cells lawful))
+    (gives m dag used cells lawful blank))
 
 -- with the queue empty a record is delivered
-pub turn-answers : (ws rest after : List ℕ) (at : ℕ) (r : Report)
-    → Answers ws after r (number (take 4 (drop at rest))) (signed (number (take 4 (drop (at + 4) rest))))
-    → (m : Machine) (dag : List ℕ) (used cells shared : List Bool) → Lawful ws used cells dag m → OneCallee shared m → m .queued ≡ 0
+pub turn-answers : (ws rest after : List ℕ) (at end : ℕ) (r : Report)
+    → Answers ws after end r (number (take 4 (drop at rest))) (signed (number (take 4 (drop (at + 4) rest))))
+    → (m : Machine) (dag : List ℕ) (used cells shared : List Bool) → Lawful ws used cells dag m → BlankFrom m end → OneCallee shared m → m .queued ≡ 0
     → Stepped (turnOutcome (dagOf dag) m rest at) m after used cells shared r
-turn-answers ws rest after at r gives m dag used cells shared lawful one e =
+turn-answers ws rest after at end r gives m dag used cells shared lawful blank one e =
     subst (λ (o : Outcome). Stepped o m after used cells shared r) (turn-empty (dagOf dag) m rest at _ e refl)
-    (record { gives = gives m dag used cells lawful; callees = λ framed. answer-keeps shared (dagOf dag) m _ _ one })
+    (record { gives = gives m dag used cells lawful blank; callees = λ framed. answer-keeps shared (dagOf dag) m _ _ one })
 
 -- and else the token at place 0 acts
 pub turn-steps : {ws dag after : List ℕ} {used cells used′ cells′ shared′ : List Bool} {r : Report} (m : Machine) (rest : List ℕ) (at : ℕ)

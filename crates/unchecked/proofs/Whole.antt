@@ -36,6 +36,7 @@ use Rattle.sites.specs.Answering.{answeredBy, Answered}
 use Rattle.sites.specs.Row.{rowOf}
 use Rattle.sites.proofs.Holders.{answered-moves, answered-refuses}
 use Rattle.unchecked.proofs.Unknown.{unknown-handle}
+use Rattle.reach.specs.Marks.{BlankFrom}
 use Rattle.acts.specs.Acting.{Lawful, QueueHasToken, Taking, Acting, Gives, answerReport}
 use Rattle.acts.proofs.Outcomes.{gives-whole, gives-refused}
 
@@ -72,7 +73,7 @@ module _ {ws dag : List ℕ} {used cells : List Bool} {m : Machine} (a : Lawful 
 
 -- an answer
 module _ {ws after dag : List ℕ} {used cells : List Bool} {m : Machine} (a : Lawful ws used cells dag m) (handle : ℕ) (v : ℤ) (b : Bool)
-    (k : Answered handle v b ws after) where
+    (end : ℕ) (k : Answered end handle v b ws after) (blank : BlankFrom m end) where
   at-place : (q : Place) → holder handle 0 (m .tokens) ≡ q → isPlace q ≡ true → Carried (answeredBy m v q) (tokensUsed m) (cellsUsed m)
   unfolding isPlace answeredBy
   at-place places.Nowhere e f = clash f refl
@@ -84,13 +85,13 @@ module _ {ws after dag : List ℕ} {used cells : List Bool} {m : Machine} (a : L
     where
       go : (x : Bool) → b ≡ x → Gives (Answer.answer paper (dagOf dag) m handle v) m after used cells (answerReport x)
       go true e =
-          let here = sym (k .says m (a .holds)) ∙ e in
+          let here = sym (k .says m (a .holds) blank) ∙ e in
           let c = at-place (holder handle 0 (m .tokens)) refl here in
           gives-whole (answeredBy m v (holder handle 0 (m .tokens))) replies.Done [] (answerReport true)
-          (tested a handle v ∙ ap (outcome m) (answered-moves m v _ here)) refl refl (k .does (dagOf dag) m (a .holds) (a .rules)) (c .whole)
+          (tested a handle v ∙ ap (outcome m) (answered-moves m v _ here)) refl refl (k .does (dagOf dag) m (a .holds) blank (a .rules)) (c .whole)
           (λ framed. record { whole = c .whole; tokens = c .tokens ∙ sym (a .marks .tokens); cells = c .cells ∙ sym (a .marks .cells) })
       go false e =
-          let none = sym (k .says m (a .holds)) ∙ e in
+          let none = sym (k .says m (a .holds) blank) ∙ e in
           subst (λ x. Gives (Answer.answer paper (dagOf dag) m handle v) m x used cells (answerReport false)) (sym (k .stays e))
           (gives-refused refusals.NotOpen _ a (tested a handle v ∙ ap (outcome m) (answered-refuses m v _ none)) refl)
 

@@ -4,24 +4,41 @@ use crate::machine::{act, house_answer, Reply};
 use crate::record::{Machine, Used};
 use crate::table::{load, Dag};
 
-/// The longest line has fewer bytes.
-const LINE: usize = 80;
-
 /// The lines printed so far. Bytes that the output has no room for are counted and not stored.
 struct Lines<'a> {
     out: &'a mut [u8],
     length: usize,
-    line: [u8; LINE],
-    used: usize,
 }
 
 impl Lines<'_> {
-    fn word(&mut self, word: &[u8]) {
-        self.line[self.used..self.used + word.len()].copy_from_slice(word);
-        self.used += word.len();
+    fn byte(&mut self, byte: u8) {
+        if let Some(to) = self.out.get_mut(self.length) {
+            *to = byte;
+        }
+        self.length += 1;
     }
 
+    /// A word at once where there is room for all of it.
+    fn word(&mut self, word: &[u8]) {
+        if let Some(room) = self.out.get_mut(self.length..self.length + word.len()) {
+            room.copy_from_slice(word);
+            self.length += word.len();
+            return;
+        }
+        for &byte in word {
+            self.byte(byte);
+        }
+    }
+
+    /// Most numbers have one digit or two, which are put without a copy.
     fn number(&mut self, n: u32) {
+        if n < 10 {
+            return self.byte(b'0' + n as u8);
+        }
+        if n < 100 {
+            self.byte(b'0' + (n / 10) as u8);
+            return self.byte(b'0' + (n % 10) as u8);
+        }
         let mut digits = [0; 10];
         let mut at = digits.len();
         let mut rest = n;
@@ -37,23 +54,20 @@ impl Lines<'_> {
     }
 
     fn unsigned(&mut self, n: u32) {
-        self.word(b" ");
+        self.byte(b' ');
         self.number(n);
     }
 
     fn signed(&mut self, v: i32) {
-        self.word(if v < 0 { b" -" } else { b" " });
+        self.byte(b' ');
+        if v < 0 {
+            self.byte(b'-');
+        }
         self.number(v.unsigned_abs());
     }
 
     fn end(&mut self) {
-        self.word(b"\n");
-        if let Some(room) = self.out.get_mut(self.length..) {
-            let stored = self.used.min(room.len());
-            room[..stored].copy_from_slice(&self.line[..stored]);
-        }
-        self.length += self.used;
-        self.used = 0;
+        self.byte(b'\n');
     }
 
     fn put(&mut self, word: &[u8], numbers: &[u32]) {
@@ -100,7 +114,7 @@ pub fn table_of(input: &[u8]) -> &[u8] {
 /// A whole run, in house order: the number of bytes that it prints. The dag and the record are room that the caller lends; what they
 /// hold before does not matter.
 pub fn orcrun(input: &[u8], dag: &mut Dag, machine: &mut Machine, out: &mut [u8]) -> usize {
-    let mut lines = Lines { out, length: 0, line: [0; LINE], used: 0 };
+    let mut lines = Lines { out, length: 0 };
     if input.len() > 65_536 {
         lines.put(b"long", &[]);
         return lines.length;

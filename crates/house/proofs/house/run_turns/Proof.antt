@@ -36,22 +36,35 @@ returns : tie.Need-returns Inv-loop μ-loop
 returns c = lent-last _ _ _ _ (c .before .before .before .before .before .before .before .before .loop .inv .0) _ (c .before .before .before .before .before .before .queued .ensures) (c .before .before .before .before .before .if1 .taken) (c .before .before .before .before .if2 .taken) (c .before .before .show-last .ensures)
 
 deliver-turn-requires : tie.Need-deliver-turn-requires Inv-loop μ-loop
-deliver-turn-requires c κs = (
-  lent-there _ _ _ _ (c .before .before .before .before .before .before .loop .inv .0) _ (c .before .before .before .before .queued .ensures) (c .before .before .before .if1 .taken) (c .before .before .if2 .left),
-  let room = (c .before .before .before .before .before .before .loop .inv .0 .going .room) in omega arith,
-)
+deliver-turn-requires c κs =
+    let test = c .before .before .before in
+    let queue = test .before .before in
+    let lent = queue .before .before .loop .inv .0 in
+    let room = lent .going .room in
+    (lent-there _ _ _ _ lent _ (queue .queued .ensures) (test .before .if1 .taken) (test .if2 .left), omega arith)
 
 add-at : tie.Need-add-at Inv-loop μ-loop
-add-at c = let inside = (c .before .before .before .before .before .before .before .before .before .loop .inv .0 .going .inside) in let few = (c .before .before .before .before .before .before .before .before .before .before .before .before .pre .0 .1) in omega arith
+add-at c =
+    let loop = c .before .before .before .before .before .before .before .before .before .before in
+    let inside = loop .loop .inv .0 .going .inside in
+    let few = loop .before .before .before .pre .0 .1 in
+    omega arith
 
 loop-less : tie.Need-loop-less Inv-loop μ-loop
-loop-less c = lent-delivers-less _ _ _ _ (c .before .before .before .before .before .before .before .before .before .loop .inv .0) _ (c .before .before .before .before .before .before .before .queued .ensures) (c .before .before .before .before .before .before .if1 .taken) (c .before .before .before .before .before .if2 .left) _ (c .before .before .deliver-turn .ensures)
+loop-less c =
+    let turn = c .before .before in
+    let test = turn .before .before .before .before in
+    let queue = test .before .before in
+    lent-delivers-less _ _ _ _ (queue .before .before .loop .inv .0) _ (queue .queued .ensures) (test .before .if1 .taken) (test .if2 .left) _ (turn .deliver-turn .ensures)
 
 loop-again : tie.Need-loop-again Inv-loop μ-loop
-loop-again c = (
-  lent-delivers _ _ _ _ (c .before .before .before .before .before .before .before .before .before .loop .inv .0) _ (c .before .before .before .before .before .before .before .queued .ensures) (c .before .before .before .before .before .before .if1 .taken) (c .before .before .before .before .before .if2 .left) _ (c .before .before .deliver-turn .ensures),
-  search needs,
-)
+loop-again c =
+    let turn = c .before .before in
+    let test = turn .before .before .before .before in
+    let queue = test .before .before in (
+      lent-delivers _ _ _ _ (queue .before .before .loop .inv .0) _ (queue .queued .ensures) (test .before .if1 .taken) (test .if2 .left) _ (turn .deliver-turn .ensures),
+      search needs,
+    )
 
 show-limit-requires : tie.Need-show-limit-requires Inv-loop μ-loop
 show-limit-requires c κs = let room = (c .before .before .before .before .before .loop .inv .0 .going .room) in omega arith

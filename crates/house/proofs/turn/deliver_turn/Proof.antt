@@ -5,6 +5,7 @@ use borrow.Author.Needs.{needs}
 use native.Mathlib.Omega.{arith}
 use Rattle.job.specs.Test.{padded}
 use Rattle.turns.specs.Turn.{hasLine}
+use Rattle.acts.proofs.Vacancy.{free-token}
 use Rattle.lines.proofs.Showing.{shows-none, shows-as}
 use Rattle.turns.proofs.TurnCases.{over-empty}
 use Rattle.turns.proofs.TurnGives.{turn-answers}
@@ -12,13 +13,19 @@ use Rattle.house.proofs.Turning.{silent, turned-shows, by-handle}
 use Rattle.house.proofs.turn.deliver_turn.Statement.{statement}
 use Rattle.house.proofs.turn.deliver_turn.Tie as tie
 
+few-or-all-requires : tie.Need-few-or-all-requires
+few-or-all-requires c κs = search needs
+
 deliver-requires : tie.Need-deliver-requires
 deliver-requires c κs = search needs
 
 returns : tie.Need-returns
 unfolding hasLine
-returns c = λ m dag used cells shared lawful one e.
-    let turned = turn-answers _ _ _ _ _ (c .before .deliver .ensures) m dag used cells shared lawful one e in
+returns c = λ m dag cells shared lawful one e.
+    let answered = c .before in
+    let none = answered .before .before .few-or-all .ensures .1 in
+    let turned =
+    turn-answers _ _ _ _ _ _ (answered .deliver .ensures) m dag _ cells shared lawful (λ i from to. free-token lawful i (none i from to)) one e in
     turned-shows (by-handle true turned (c .if1 .taken)) (over-empty _ e _) (shows-as (silent _ _ refl .0) (shows-none _ _ _)) (omega arith)
 
 show-reply-requires : tie.Need-show-reply-requires
@@ -29,11 +36,15 @@ same-length c = search needs
 
 returns-2 : tie.Need-returns-2
 unfolding padded
-returns-2 c = λ m dag used cells shared lawful one e.
+returns-2 c = λ m dag cells shared lawful one e.
     let shown = c .before .before in
     let test = shown .before .before in
-    let turned = turn-answers _ _ _ _ _ (test .before .deliver .ensures) m dag used cells shared lawful one e in
+    let answered = test .before in
+    let none = answered .before .before .few-or-all .ensures .1 in
+    let turned =
+    turn-answers _ _ _ _ _ _ (answered .deliver .ensures) m dag _ cells shared lawful (λ i from to. free-token lawful i (none i from to)) one e in
     turned-shows (by-handle false turned (test .if1 .left)) (over-empty _ e _) (shown .show-reply .ensures .0) (shown .show-reply .ensures .1)
 
 pub deliver-turn-spec : {M : Type 1} → statement M
-deliver-turn-spec = tie.close (tie.spec deliver-requires returns show-reply-requires same-length returns-2)
+deliver-turn-spec =
+    tie.close (tie.spec few-or-all-requires deliver-requires returns show-reply-requires same-length returns-2)

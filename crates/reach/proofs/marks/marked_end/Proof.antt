@@ -1,60 +1,32 @@
--- `marks::marked_end` meets its contract. The loop's invariant: no place from `end` on is marked. Assumes nothing.
-use Prim.Native.Nat.{_≤_}
+-- `marks::marked_end` meets its contract: where no place from 8 on is marked, the first eight tell. Assumes nothing.
+use mathlib.Core.Path.{subst}
 use borrow.Author.Needs.{needs}
 use native.Mathlib.Omega.{arith}
 use Rattle.reach.specs.Marks.{UnmarkedFrom}
-use Rattle.reach.proofs.Marking.{unmarked-before}
+use Rattle.reach.proofs.Weights.{unmarked-few}
 use Rattle.reach.proofs.marks.marked_end.Statement.{statement}
 use Rattle.reach.proofs.marks.marked_end.Tie as tie
 
-abbrev Inv-loop : tie.InvT-loop
-Inv-loop marks size end₀ end = (end ≤ size) × UnmarkedFrom marks end size
-
-abbrev μ-loop : tie.MeasureT-loop
-μ-loop marks size end₀ end = end
-
-few-or-all-requires : tie.Need-few-or-all-requires Inv-loop μ-loop
+few-or-all-requires : tie.Need-few-or-all-requires
 few-or-all-requires c κs = search needs
 
-loop-holds : tie.Need-loop-holds Inv-loop μ-loop
-loop-holds c = (c .few-or-all .ensures)
+first-eight-requires : tie.Need-first-eight-requires
+first-eight-requires c κs = search needs
 
-sub-if1 : tie.Need-sub-if1 Inv-loop μ-loop
-sub-if1 c = search needs
+end-of-eight-requires : tie.Need-end-of-eight-requires
+end-of-eight-requires c κs = search needs
 
-shared-slice-read-if1 : tie.Need-shared-slice-read-if1 Inv-loop μ-loop
-shared-slice-read-if1 c = search needs
+returns : tie.Need-returns
+returns c =
+    let start = c .before .before .before .before .before in
+    let few = c .before .before .before .few-or-all .ensures .1 in
+    let marks = start .args .marks .now in
+    let end = c .end-of-eight .ensures in
+    let none = subst (λ e. UnmarkedFrom marks e (start .args .size)) (c .before .before .if1 .taken) few in
+    (omega (arith, end .0, start .pre .1), unmarked-few marks _ _ (end .1 marks (search needs) (c .before .first-eight .ensures)) none)
 
-returns : tie.Need-returns Inv-loop μ-loop
-returns c = (c .before .before .before .loop .inv)
-
-sub-end : tie.Need-sub-end Inv-loop μ-loop
-sub-end c = search needs
-
-loop-less : tie.Need-loop-less Inv-loop μ-loop
-loop-less c = search needs
-
-loop-again : tie.Need-loop-again Inv-loop μ-loop
-loop-again c =
-    let l = (c .before .before .before .loop) in
-    let marks = (c .before .before .before .before .before .before .args .marks .now) in
-    (search needs, unmarked-before marks (l .end) _ (search needs) (l .inv .0) ((c .before .before .before .before .before .before .pre .0)) (l .inv .1) (c .if1 .left))
-
-returns-2 : tie.Need-returns-2 Inv-loop μ-loop
-returns-2 c = (c .before .loop .inv)
+returns-2 : tie.Need-returns-2
+returns-2 c = c .before .few-or-all .ensures
 
 pub marked-end-spec : {M : Type 1} → statement M
-marked-end-spec =
-    tie.close
-    (tie.spec
-    Inv-loop
-    μ-loop
-    few-or-all-requires
-    loop-holds
-    sub-if1
-    shared-slice-read-if1
-    returns
-    sub-end
-    loop-less
-    loop-again
-    returns-2)
+marked-end-spec = tie.close (tie.spec few-or-all-requires first-eight-requires end-of-eight-requires returns returns-2)

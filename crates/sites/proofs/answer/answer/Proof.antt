@@ -18,7 +18,7 @@ find-open-requires : tie.Need-find-open-requires
 find-open-requires c κs = search needs
 
 returns : tie.Need-returns
-returns c = not-answered _ (c .before .find-open .result) _ _ _ (c .before .find-open .ensures .1) (c .if1 .taken) refl
+returns c = not-answered _ _ (c .before .find-open .result) _ _ _ (c .before .find-open .ensures .1) (c .if1 .taken) refl
 
 unsigned-requires : tie.Need-unsigned-requires
 unsigned-requires c κs = search needs
@@ -37,7 +37,7 @@ join-requires c κs = search needs
 
 returns-2 : tie.Need-returns-2
 unfolding put withTables
-returns-2 c = is-answered _ (c .before .before .before .before .before .before .before .before .find-open .result) _ _ _ (c .before .before .before .before .before .before .before .before .find-open .ensures .1) (omega arith) (λ m h l.
+returns-2 c = is-answered _ _ (c .before .before .before .before .before .before .before .before .find-open .result) _ _ _ (c .before .before .before .before .before .before .before .before .find-open .ensures .1) (omega arith) (λ m h l.
     let p = c .before .before .before .before .before .before .before .before .find-open .result in
     let t = tokenAt (m .tokens) p in
     let v = helds.Value (c .before .before .before .before .before .before .before .before .before .before .args .value) in

@@ -10,18 +10,18 @@ use Rattle.model.specs.Machine.Blank.{blankToken, tokenAt}
 use Rattle.job.proofs.Test.{eq-eqb, ne-eqb}
 use Rattle.record.specs.Holds.{Codes}
 use Rattle.record.specs.Words.{stateKind}
-use Rattle.sites.proofs.Holders.{holder-found, holder-on, holder-none, open-called, place-there, place-none}
+use Rattle.sites.proofs.Holders.{holder-found, holder-on, holder-blank, open-called, place-there, place-none}
 use Rattle.sites.proofs.answer.find_open.Statement.{statement}
 use Rattle.sites.proofs.answer.find_open.Tie as tie
 
 abbrev Inv-loop : tie.InvT-loop
-Inv-loop w handle p₀ p =
-    (p ≤ 64)
+Inv-loop w handle end p₀ p =
+    (p ≤ end)
     × ((m : Machine) → Codes w m
-    → (holder handle 0 (m .tokens) ≡ holder handle p (drop p (m .tokens))) × (p < 64 → stateKind (tokenAt (m .tokens) p .state) ≡ 3))
+    → (holder handle 0 (m .tokens) ≡ holder handle p (drop p (m .tokens))) × (p < end → stateKind (tokenAt (m .tokens) p .state) ≡ 3))
 
 abbrev μ-loop : tie.MeasureT-loop
-μ-loop w handle p₀ p = 64 - p
+μ-loop w handle end p₀ p = end - p
 
 next-called-requires : tie.Need-next-called-requires Inv-loop μ-loop
 next-called-requires c κs = search needs
@@ -36,10 +36,12 @@ returns : tie.Need-returns Inv-loop μ-loop
 unfolding tokenAt
 returns c = (
   search needs,
-  λ m h.
-      holder-found _ (c .before .before .before .loop .p) (m .tokens) blankToken (omega (arith, h .shaped .tokens)) (c .before .before .before .loop .inv .1 m h .0)
-      (sym (open-called _ _ _ _ refl (c .before .state-number .ensures m h) (c .before .before .before .loop .inv .1 m h .1 (omega arith))) ∙ eq-eqb _ _ (c .if1 .taken))
-      ∙ sym (place-there 64 (c .before .before .before .loop .p) (omega arith)),
+  λ m h blank.
+      let l = c .before .before .before .loop in
+      let here = l .inv .1 m h in
+      let found = open-called _ _ _ _ refl (c .before .state-number .ensures m h) (here .1 (omega arith)) in
+      holder-found _ (l .p) (m .tokens) blankToken (omega (arith, h .shaped .tokens)) (here .0) (sym found ∙ eq-eqb _ _ (c .if1 .taken))
+      ∙ sym (place-there _ (l .p) (omega arith)),
 )
 
 add-next-called : tie.Need-add-next-called Inv-loop μ-loop
@@ -66,8 +68,13 @@ loop-again c = (
 returns-2 : tie.Need-returns-2 Inv-loop μ-loop
 returns-2 c = (
   search needs,
-  λ m h.
-      holder-none _ (c .before .loop .p) (m .tokens) (omega (arith, h .shaped .tokens)) (c .before .loop .inv .1 m h .0) ∙ sym (place-none 64 (c .before .loop .p) (omega arith)),
+  λ m h blank.
+      let l = c .before .loop in
+      let start = c .before .before .before in
+      let over : l .p ≡ start .args .end = search needs in
+      l .inv .1 m h .0
+      ∙ holder-blank _ (l .p) (m .tokens) (h .shaped .tokens) (omega arith) (λ i from to. blank i (omega arith) to)
+      ∙ sym (place-none _ (l .p) (omega arith)),
 )
 
 pub find-open-spec : {M : Type 1} → statement M

@@ -13,11 +13,11 @@ use Rattle.sites.proofs.answer.next_called.Statement.{statement}
 use Rattle.sites.proofs.answer.next_called.Tie as tie
 
 abbrev Inv-loop : tie.InvT-loop
-Inv-loop w from p₀ p =
-    (from ≤ p) × (p ≤ 64) × ((m : Machine) → Codes w m → (h : ℕ) → holder h from (drop from (m .tokens)) ≡ holder h p (drop p (m .tokens)))
+Inv-loop w from end p₀ p =
+    (from ≤ p) × (p ≤ end) × ((m : Machine) → Codes w m → (h : ℕ) → holder h from (drop from (m .tokens)) ≡ holder h p (drop p (m .tokens)))
 
 abbrev μ-loop : tie.MeasureT-loop
-μ-loop w from p₀ p = 64 - p
+μ-loop w from end p₀ p = end - p
 
 loop-holds : tie.Need-loop-holds Inv-loop μ-loop
 loop-holds c = (search needs, search needs, λ m h g. refl)

@@ -12,7 +12,7 @@ calls-made-requires : tie.Need-calls-made-requires
 calls-made-requires c κs = search needs
 
 returns : tie.Need-returns
-returns c = λ m dag used cells a.
+returns c = λ m dag used cells a blank.
     let s = c .before .before .before in
     let e = c .before .calls-made .ensures m (a .holds .codes) in
     let l = c .if1 .taken in
@@ -22,10 +22,10 @@ answer-requires : tie.Need-answer-requires
 answer-requires c κs = search needs
 
 returns-2 : tie.Need-returns-2
-returns-2 c = λ m dag used cells a.
+returns-2 c = λ m dag used cells a blank.
     let s = c .before .before .before .before .before in
     let f : SFits w32 (s .args .value) = search needs in
-    answer-gives a _ _ _ (rw (toZ-ofZ f) at (c .answer .ensures))
+    answer-gives a _ _ _ _ (rw (toZ-ofZ f) at (c .answer .ensures)) blank
 
 pub resume-spec : {M : Type 1} → statement M
 resume-spec = tie.close (tie.spec calls-made-requires returns answer-requires returns-2)
