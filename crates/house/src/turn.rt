@@ -12,10 +12,11 @@ ghost use Rattle.acts.specs.SharedFrames.{OneCallee};
 ghost use Rattle.turns.specs.Turn.{turnOutcome};
 ghost use Rattle.house.specs.TurnLeaves.{TurnLeaves, goesOn};
 use job::dag::WORDS;
+use lines::report::number_of;
+use lines::report::show_refused;
 use lines::report::show_reply;
 use model::record::Machine;
 use model::reply::Refusal;
-use model::reply::Reply;
 use reach::marks::few_or_all;
 use turns::deliver::deliver;
 use turns::reply::has_line;
@@ -48,8 +49,7 @@ pub fn deliver_turn(
     if deliver(w, rest, at, end) {
         return total;
     }
-    let refused = Reply::Refused(Refusal::NotOpen);
-    show_reply(refused, [0; 4], output, from, total)
+    show_refused(number_of(Refusal::NotOpen), output, from, total)
 }
 
 // "It runs house order"; "a refused step ends the run".

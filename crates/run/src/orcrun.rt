@@ -20,8 +20,8 @@ pub fn orcrun(input: &[u8], from: usize, dag: &mut [u32; WORDS], output: &mut [u
     ensures { λ _. ⌜ now (dag .exit) ≡ dagAfter (now (input .entry)) (now (dag .entry)) ⌝ }
     ensures { λ _. ⌜ now (output .exit) ≡ shown (now (output .entry)) from (orcrun (now (input .entry))) ⌝ }
 {
-    let mut buffer = [0u8; 80];
     if 65536 < input.len() {
+        let mut buffer = [0u8; 80];
         let n = line::put_long(&mut buffer, 0);
         return show_front(&buffer, n, output, from, 0);
     }
@@ -30,6 +30,7 @@ pub fn orcrun(input: &[u8], from: usize, dag: &mut [u32; WORDS], output: &mut [u
     let answer = load(&input[0..end], dag);
     match answer {
         Loaded::Refused(number, entry) => {
+            let mut buffer = [0u8; 80];
             let n = line::put_table(&mut buffer, 0, number, entry as u32);
             show_front(&buffer, n, output, from, 0)
         }

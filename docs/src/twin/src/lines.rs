@@ -151,7 +151,7 @@ fn run(machine: &mut Machine, dag: &Dag, mut answers: &[u8], lines: &mut Lines) 
             let [a, b, c, d, e, f, g, h] = *record;
             let handle = u32::from_le_bytes([a, b, c, d]);
             let value = i32::from_le_bytes([e, f, g, h]);
-            lines.reply(house_answer(machine, handle, value));
+            lines.reply(house_answer(machine, used.tokens, handle, value));
             answers = rest;
         } else {
             if !answers.is_empty() {

@@ -39,16 +39,16 @@ pub fn answer(machine: &mut Machine, dag: &Dag, handle: u32, value: i32) -> Repl
     if rules::tested(machine, dag).is_none() {
         return Refused(14);
     }
-    house_answer(machine, handle, value)
+    house_answer(machine, u64::MAX, handle, value)
 }
 
-/// An answer in a house run: the rules are not tested again. Nothing is out of reach after it.
-pub fn house_answer(machine: &mut Machine, handle: u32, value: i32) -> Reply {
+/// An answer in a house run: the rules are not tested again, and only tokens in use are looked at. Nothing is out of reach after it.
+pub fn house_answer(machine: &mut Machine, used: u64, handle: u32, value: i32) -> Reply {
     if handle >= machine.calls {
         return Refused(12);
     }
-    let open = |token: &Token| token.state == State::Called(handle);
-    let Some(p) = machine.tokens.iter().position(open) else { return Refused(12) };
+    let open = |&p: &usize| machine.tokens[p].state == State::Called(handle);
+    let Some(p) = places(used).find(open) else { return Refused(12) };
     machine.tokens[p].value = Some(value);
     machine.tokens[p].state = State::Ready;
     machine.queue.push(p as u8);
