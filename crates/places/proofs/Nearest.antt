@@ -90,7 +90,7 @@ module _ (marks : List Bool) (long : length marks ≡ 64) where
     -- one place more
     module _
         (l : i < 64) (d next : ℕ)
-        (used : getD marks i false ≡ true → 64 ≤ d)
+        (used : getD marks i false ≡ true → d ≡ 64 + distance first i)
         (free : getD marks i false ≡ false → d ≡ distance first i) where
       same-mark : getD marks i true ≡ getD marks i false
       same-mark = any-default marks i true false (omega arith)

@@ -1,7 +1,7 @@
 // Where a new record goes.
 ghost use mathlib.Core.Bool.{true, false};
 ghost use mathlib.Core.Path.{_≡_};
-ghost use Prim.Native.Nat.{ℕ, _+_, _-_, _%_, _<_, _≤_};
+ghost use Prim.Native.Nat.{ℕ, _+_, _-_, _%_, _<_};
 ghost use lib.ListN.{length};
 ghost use Rattle.model.specs.Machine.FreePlace.{around};
 ghost use Rattle.reach.specs.Marks.{nextOr};
@@ -39,7 +39,7 @@ fn next_of(marks: &[bool], size: usize, last: u32) -> usize
 fn distance(used: bool, i: u8, first: u8) -> u8
     requires { ⌜ i < 64 ⌝ }
     requires { ⌜ first < 64 ⌝ }
-    ensures { λ r. ⌜ (used ≡ true → 64 ≤ r) ⌝ }
+    ensures { λ r. ⌜ (used ≡ true → r ≡ 64 + (i + 64 - first) % 64) ⌝ }
     ensures { λ r. ⌜ (used ≡ false → r ≡ (i + 64 - first) % 64) ⌝ }
 {
     64 * used as u8 + (i + 64 - first) % 64
