@@ -81,7 +81,8 @@ module _ (dag rest before : List ℕ) (from : ℕ) where
     -- what a turn that goes on leaves
     under-way : {ws′ output′ : List ℕ} {used′ cells′ shared′ : List Bool} {steps′ at′ : ℕ} (r : TurnEnd)
         → Going dag rest before from (turned .machine) steps′ at′ (r .total) output′
-        → TurnLeaves turned (L .machine) ws′ used′ cells′ shared′ output from total output′ r → Lent ws′ used′ cells′ shared′ steps′ at′ (r .total) output′
+        → TurnLeaves turned (L .machine) ws′ used′ cells′ shared′ output from total output′ r
+        → Lent ws′ used′ cells′ shared′ steps′ at′ (r .total) output′
     under-way r next given =
         let framed = reached-framed dag (L .going .accepted) (L .going .reached) in
         record {

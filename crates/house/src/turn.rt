@@ -64,7 +64,8 @@ pub fn step_turn(
     total: usize,
 ) -> TurnEnd
     requires { ⌜ SomeMachine (QueueHasToken (now w) (now tokens) (now cells) (now dag) 0) × (total + 80 ≤ 1000000000) ⌝ }
-    ensures { λ r. ⌜ ((m : Machine) (rest : List ℕ) (at : ℕ) → QueueHasToken (now (w .entry)) (now (tokens .entry)) (now (cells .entry)) (now (dag .entry)) 0 m
+    ensures { λ r. ⌜ ((m : Machine) (rest : List ℕ) (at : ℕ)
+        → QueueHasToken (now (w .entry)) (now (tokens .entry)) (now (cells .entry)) (now (dag .entry)) 0 m
         → OneCallee (now (shared .entry)) m
         → TurnLeaves (turnOutcome (dagOf (now (dag .entry))) m rest at) m (now (w .exit)) (now (tokens .exit)) (now (cells .exit)) (now (shared .exit))
         (now (output .entry)) from total (now (output .exit)) r) ⌝ }

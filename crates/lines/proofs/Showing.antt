@@ -12,6 +12,7 @@ use lib.Dec.{leb}
 use lib.Seq.{sets, sets-eq, length-sets, length-take-le, take-all, take-at, take-nil, drop-nil, take-suc, take-append-le, drop-append-le, set-out}
 use Rattle.job.proofs.Test.{le-leb, lt-not-leb}
 use Rattle.text.specs.Written.{Written}
+use Rattle.text.proofs.Writing.{written-length}
 use Rattle.job.proofs.Stores.{sets-append}
 use Rattle.lines.specs.Shown.{shown, withByte, showing, ShowsBytes}
 
@@ -186,7 +187,7 @@ blank-line = length-replicate {A = ℕ} 80 0
 
 -- a line's buffer keeps its length
 pub full : {n : ℕ} {before after bytes : List ℕ} → Written 80 before 0 bytes after n → length before ≡ 80 → length after ≡ 80
-full {before = before} {bytes = bytes} w e = ap length (w .stored) ∙ length-sets before 0 bytes ∙ e
+full w e = written-length w ∙ e
 
 -- the part of a buffer from its first byte on
 pub front-part : (n : ℕ) (buffer : List ℕ) → take (n - 0) buffer ≡ take n buffer

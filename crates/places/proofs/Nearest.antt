@@ -18,10 +18,6 @@ abbrev pub distance : ℕ → ℕ → ℕ
 distance first i = (i + 64 - first) % 64
 
 -- whether a place is in use, as a number
-pub mark-small : (b : Bool) → boolByte b ≤ 1
-mark-small true = omega arith
-mark-small false = omega arith
-
 pub mark-true : (b : Bool) → b ≡ true → boolByte b ≡ 1
 mark-true b e = rw e refl
 

@@ -25,7 +25,8 @@ light (suc n) (suc k) (true ∷ marks) l h (suc i) a b = light n k marks (omega 
 light (suc n) (suc k) (false ∷ marks) l h (suc i) a b = light n k marks (omega arith) (omega arith) i (omega arith) (omega arith)
 
 -- the end by a power of 256
-pub unmarked-light : (k number : ℕ) → number < power k → (marks : List Bool) → 8 ≤ length marks → number ≡ weight 8 marks → UnmarkedFrom marks k 8
+pub unmarked-light : (k number : ℕ) → number < power k → (marks : List Bool) → 8 ≤ length marks → number ≡ weight 8 marks
+    → UnmarkedFrom marks k 8
 unmarked-light k number h marks l e i a b = light 8 k marks l (subst (λ (n : ℕ). n < power k) e h) i a b
 
 -- eight marks, one by one

@@ -31,7 +31,8 @@ fn next_called(w: &[u32; Machine::WORDS], from: usize, end: usize) -> usize
 // The place of the token that is called out under the handle, or the end.
 fn find_open(w: &[u32; Machine::WORDS], handle: u32, end: usize) -> usize
     requires { ⌜ end ≤ 64 ⌝ }
-    ensures { λ r. ⌜ (r ≤ end) × ((m : Machine) → Codes (now (w .entry)) m → BlankFrom m end → holder handle 0 (m .tokens) ≡ placeBelow end r) ⌝ }
+    ensures { λ r. ⌜ (r ≤ end) × ((m : Machine) → Codes (now (w .entry)) m → BlankFrom m end
+        → holder handle 0 (m .tokens) ≡ placeBelow end r) ⌝ }
 {
     let mut p = next_called(w, 0, end);
     while p < end {

@@ -105,7 +105,8 @@ pub fn sweep_to(
     end: usize,
 )
     requires { ⌜ (end ≤ 64) × UnmarkedFrom (now tokens) end 64 ⌝ }
-    ensures { λ _. ⌜ ((m : Machine) → Holds (now (w .entry)) m → Vacant m (now (tokens .entry)) (now (cells .entry)) → Holds (now (w .exit)) (sweep m) × (now (tokens .exit) ≡ tokensUsed (sweep m)) × (now (cells .exit) ≡ cellsUsed (sweep m))) ⌝ }
+    ensures { λ _. ⌜ ((m : Machine) → Holds (now (w .entry)) m → Vacant m (now (tokens .entry)) (now (cells .entry))
+        → Holds (now (w .exit)) (sweep m) × (now (tokens .exit) ≡ tokensUsed (sweep m)) × (now (cells .exit) ≡ cellsUsed (sweep m))) ⌝ }
 {
     let mut used = [false; Machine::TOKENS];
     mark_tokens(w, &mut used, end);
@@ -119,7 +120,8 @@ pub fn sweep(
     tokens: &mut [bool; Machine::TOKENS],
     cells: &mut [bool; Machine::CELLS],
 )
-    ensures { λ _. ⌜ ((m : Machine) → Holds (now (w .entry)) m → Vacant m (now (tokens .entry)) (now (cells .entry)) → Holds (now (w .exit)) (sweep m) × (now (tokens .exit) ≡ tokensUsed (sweep m)) × (now (cells .exit) ≡ cellsUsed (sweep m))) ⌝ }
+    ensures { λ _. ⌜ ((m : Machine) → Holds (now (w .entry)) m → Vacant m (now (tokens .entry)) (now (cells .entry))
+        → Holds (now (w .exit)) (sweep m) × (now (tokens .exit) ≡ tokensUsed (sweep m)) × (now (cells .exit) ≡ cellsUsed (sweep m))) ⌝ }
 {
     let end = marked_end(tokens, Machine::TOKENS);
     sweep_to(w, tokens, cells, end);

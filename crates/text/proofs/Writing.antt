@@ -42,7 +42,8 @@ written-as {m} {k} {before} {after} {at} {next} {a} {b} w e h =
     subst (λ (bytes : List ℕ). Written k before at bytes after next) e v
 
 -- the buffer keeps its length
-pub written-length : {m : ℕ} {before after : List ℕ} {at next : ℕ} {bytes : List ℕ} → Written m before at bytes after next → length after ≡ length before
+pub written-length : {m : ℕ} {before after : List ℕ} {at next : ℕ} {bytes : List ℕ} → Written m before at bytes after next
+    → length after ≡ length before
 written-length {before = before} {at = at} {bytes = bytes} w = ap length (w .stored) ∙ length-sets before at bytes
 
 -- a loop's turn: one more byte of a word

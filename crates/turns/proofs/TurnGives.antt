@@ -28,8 +28,8 @@ Answers ws after end r h v =
     → Gives (Answer.answer paper (dagOf dag) m h v) m after used cells r
 
 -- the numbers of a record, as the code hands them on
-pub delivered : (ws after : List ℕ) (end : ℕ) (r : Report) (h k w n : ℕ) (u v : ℤ) → Answers ws after end r h u → u ≡ v → h ≡ k → v ≡ signed w → w ≡ n
-    → Answers ws after end r k (signed n)
+pub delivered : (ws after : List ℕ) (end : ℕ) (r : Report) (h k w n : ℕ) (u v : ℤ) → Answers ws after end r h u → u ≡ v → h ≡ k
+    → v ≡ signed w → w ≡ n → Answers ws after end r k (signed n)
 delivered ws after end r h k w n u v gives e same is word m dag used cells lawful blank =
     subst (λ (i : ℕ). Gives (Answer.answer paper (dagOf dag) m i (signed n)) m after used cells r) same
     (subst (λ (z : ℤ). Gives (Answer.answer paper (dagOf dag) m h z) m after used cells r) (e ∙ is ∙ ap signed word)
@@ -38,7 +38,8 @@ delivered ws after end r h k w n u v gives e same is word m dag used cells lawfu
 -- with the queue empty a record is delivered
 pub turn-answers : (ws rest after : List ℕ) (at end : ℕ) (r : Report)
     → Answers ws after end r (number (take 4 (drop at rest))) (signed (number (take 4 (drop (at + 4) rest))))
-    → (m : Machine) (dag : List ℕ) (used cells shared : List Bool) → Lawful ws used cells dag m → BlankFrom m end → OneCallee shared m → m .queued ≡ 0
+    → (m : Machine) (dag : List ℕ) (used cells shared : List Bool) → Lawful ws used cells dag m → BlankFrom m end
+    → OneCallee shared m → m .queued ≡ 0
     → Stepped (turnOutcome (dagOf dag) m rest at) m after used cells shared r
 turn-answers ws rest after at end r gives m dag used cells shared lawful blank one e =
     subst (λ (o : Outcome). Stepped o m after used cells shared r) (turn-empty (dagOf dag) m rest at _ e refl)

@@ -33,7 +33,11 @@ same-length : tie.Need-same-length Inv-loop μ-loop
 same-length c = search needs
 
 returns : tie.Need-returns Inv-loop μ-loop
-returns c = lent-last _ _ _ _ (c .before .before .before .before .before .before .before .before .loop .inv .0) _ (c .before .before .before .before .before .before .queued .ensures) (c .before .before .before .before .before .if1 .taken) (c .before .before .before .before .if2 .taken) (c .before .before .show-last .ensures)
+returns c =
+    let shown = c .before .before in
+    let test = shown .before .before in
+    let queue = test .before .before in
+    lent-last _ _ _ _ (queue .before .before .loop .inv .0) _ (queue .queued .ensures) (test .before .if1 .taken) (test .if2 .taken) (shown .show-last .ensures)
 
 deliver-turn-requires : tie.Need-deliver-turn-requires Inv-loop μ-loop
 deliver-turn-requires c κs =
@@ -55,14 +59,16 @@ loop-less c =
     let turn = c .before .before in
     let test = turn .before .before .before .before in
     let queue = test .before .before in
-    lent-delivers-less _ _ _ _ (queue .before .before .loop .inv .0) _ (queue .queued .ensures) (test .before .if1 .taken) (test .if2 .left) _ (turn .deliver-turn .ensures)
+    lent-delivers-less _ _ _ _ (queue .before .before .loop .inv .0) _ (queue .queued .ensures) (test .before .if1 .taken) (test .if2 .left) _
+    (turn .deliver-turn .ensures)
 
 loop-again : tie.Need-loop-again Inv-loop μ-loop
 loop-again c =
     let turn = c .before .before in
     let test = turn .before .before .before .before in
     let queue = test .before .before in (
-      lent-delivers _ _ _ _ (queue .before .before .loop .inv .0) _ (queue .queued .ensures) (test .before .if1 .taken) (test .if2 .left) _ (turn .deliver-turn .ensures),
+      lent-delivers _ _ _ _ (queue .before .before .loop .inv .0) _ (queue .queued .ensures) (test .before .if1 .taken) (test .if2 .left) _
+          (turn .deliver-turn .ensures),
       search needs,
     )
 
@@ -73,34 +79,65 @@ same-length-2 : tie.Need-same-length-2 Inv-loop μ-loop
 same-length-2 c = search needs
 
 returns-2 : tie.Need-returns-2 Inv-loop μ-loop
-returns-2 c = lent-limit _ _ _ _ (c .before .before .before .before .before .before .before .before .loop .inv .0) _ (c .before .before .before .before .before .before .queued .ensures) (c .before .before .before .before .before .if1 .left) (c .before .before .before .before .if3 .taken) (c .before .before .show-limit .ensures)
+returns-2 c =
+    let shown = c .before .before in
+    let test = shown .before .before in
+    let queue = test .before .before in
+    lent-limit _ _ _ _ (queue .before .before .loop .inv .0) _ (queue .queued .ensures) (test .before .if1 .left) (test .if3 .taken) (shown .show-limit .ensures)
 
 step-turn-requires : tie.Need-step-turn-requires Inv-loop μ-loop
-step-turn-requires c κs = (
-  lent-ready _ _ _ _ (c .before .before .before .before .before .before .before .before .before .loop .inv .0) _ (c .before .before .before .before .before .before .before .queued .ensures) (c .before .before .before .before .before .before .if1 .left),
-  let room = (c .before .before .before .before .before .before .before .before .before .loop .inv .0 .going .room) in omega arith,
-)
+step-turn-requires c κs =
+    let test = c .before .before .before .before .before .before in
+    let lent = test .before .before .before .loop .inv .0 in
+    let room = lent .going .room in
+    (lent-ready _ _ _ _ lent _ (test .before .queued .ensures) (test .if1 .left), omega arith)
 
 show-end-requires : tie.Need-show-end-requires Inv-loop μ-loop
-show-end-requires c κs = let room = (c .before .before .before .before .before .before .before .before .before .before .before .before .before .before .loop .inv .0 .going .room) in let small = lent-few _ _ _ _ (c .before .before .before .before .before .before .before .before .before .before .before .before .before .before .loop .inv .0) _ (c .before .before .before .before .before .before .before .before .before .before .before .before .queued .ensures) (c .before .before .before .before .before .before .before .before .before .before .before .if1 .left) (c .before .before .before .before .before .before .before .before .before .before .if3 .left) _ (c .before .before .before .before .step-turn .ensures) in omega arith
+show-end-requires c κs =
+    let turn = c .before .before .before .before in
+    let test = turn .before .before .before .before .before .before in
+    let queue = test .before .before in
+    let lent = queue .before .before .loop .inv .0 in
+    let room = lent .going .room in
+    let small = lent-few _ _ _ _ lent _ (queue .queued .ensures) (test .before .if1 .left) (test .if3 .left) _ (turn .step-turn .ensures) in
+    omega arith
 
 same-length-3 : tie.Need-same-length-3 Inv-loop μ-loop
 same-length-3 c = search needs
 
 returns-3 : tie.Need-returns-3 Inv-loop μ-loop
-returns-3 c = lent-ends _ _ _ _ (c .before .before .before .before .before .before .before .before .before .before .before .before .before .before .before .before .before .loop .inv .0) _ (c .before .before .before .before .before .before .before .before .before .before .before .before .before .before .before .queued .ensures) (c .before .before .before .before .before .before .before .before .before .before .before .before .before .before .if1 .left) (c .before .before .before .before .before .before .before .before .before .before .before .before .before .if3 .left) _ (c .before .before .before .before .before .before .before .step-turn .ensures) (c .before .before .before .before .if4 .taken) (c .before .before .show-end .ensures)
+returns-3 c =
+    let shown = c .before .before in
+    let over = shown .before .before in
+    let turn = over .before .before .before in
+    let test = turn .before .before .before .before .before .before in
+    let queue = test .before .before in
+    lent-ends _ _ _ _ (queue .before .before .loop .inv .0) _ (queue .queued .ensures) (test .before .if1 .left) (test .if3 .left) _ (turn .step-turn .ensures)
+    (over .if4 .taken) (shown .show-end .ensures)
 
 add-steps : tie.Need-add-steps Inv-loop μ-loop
-add-steps c = let few = (c .before .before .before .before .before .before .before .before .before .before .before .before .before .loop .inv .0 .going .few) in omega arith
+add-steps c =
+    let test = c .before .before .before .before .before .before .before .before .before in
+    let few = test .before .before .before .before .loop .inv .0 .going .few in
+    omega arith
 
 loop-less-2 : tie.Need-loop-less-2 Inv-loop μ-loop
-loop-less-2 c = lent-steps-less _ _ _ _ (c .before .before .before .before .before .before .before .before .before .before .before .before .before .loop .inv .0) _ (c .before .before .before .before .before .before .before .before .before .before .before .queued .ensures) (c .before .before .before .before .before .before .before .before .before .before .if1 .left) (c .before .before .before .before .before .before .before .before .before .if3 .left) _ (c .before .before .before .step-turn .ensures) (c .if4 .left)
+loop-less-2 c =
+    let turn = c .before .before .before in
+    let test = turn .before .before .before .before .before .before in
+    let queue = test .before .before in
+    lent-steps-less _ _ _ _ (queue .before .before .loop .inv .0) _ (queue .queued .ensures) (test .before .if1 .left) (test .if3 .left) _ (turn .step-turn .ensures)
+    (c .if4 .left)
 
 loop-again-2 : tie.Need-loop-again-2 Inv-loop μ-loop
-loop-again-2 c = (
-  lent-steps _ _ _ _ (c .before .before .before .before .before .before .before .before .before .before .before .before .before .loop .inv .0) _ (c .before .before .before .before .before .before .before .before .before .before .before .queued .ensures) (c .before .before .before .before .before .before .before .before .before .before .if1 .left) (c .before .before .before .before .before .before .before .before .before .if3 .left) _ (c .before .before .before .step-turn .ensures) (c .if4 .left),
-  search needs,
-)
+loop-again-2 c =
+    let turn = c .before .before .before in
+    let test = turn .before .before .before .before .before .before in
+    let queue = test .before .before in (
+      lent-steps _ _ _ _ (queue .before .before .loop .inv .0) _ (queue .queued .ensures) (test .before .if1 .left) (test .if3 .left) _ (turn .step-turn .ensures)
+          (c .if4 .left),
+      search needs,
+    )
 
 pub run-turns-spec : {M : Type 1} → statement M
 run-turns-spec =

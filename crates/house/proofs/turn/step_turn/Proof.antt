@@ -27,7 +27,8 @@ same-length c = search needs
 returns : tie.Need-returns
 returns c = λ m rest at t one.
     turned-shows (turn-steps m rest at t ((c .before .before .before .before .before .before .before .before .step .ensures) m t one))
-    (over-ready _ (λ z. let some = t .queued in absurd (omega arith)) _ _ (c .is-refused .ensures)) (c .before .before .before .show-reply .ensures .0) (c .before .before .before .show-reply .ensures .1)
+    (over-ready _ (λ z. let some = t .queued in absurd (omega arith)) _ _ (c .is-refused .ensures))
+    (c .before .before .before .show-reply .ensures .0) (c .before .before .before .show-reply .ensures .1)
 
 returns-2 : tie.Need-returns-2
 returns-2 c = λ m rest at t one.

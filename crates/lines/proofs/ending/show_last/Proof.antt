@@ -27,12 +27,16 @@ slice-aggregate-show-front : tie.Need-slice-aggregate-show-front
 slice-aggregate-show-front c = search (needs, full (c .before .before .put-short .ensures) blank-line)
 
 show-front-requires : tie.Need-show-front-requires
-show-front-requires c κs = (front-few (c .before .before .before .put-short .ensures), full (c .before .before .before .put-short .ensures) blank-line, search needs)
+show-front-requires c κs =
+    let written = c .before .before .before .put-short .ensures in
+    (front-few written, full written blank-line, search needs)
 
 show-end-requires-2 : tie.Need-show-end-requires-2
 show-end-requires-2 c κs =
-    let few = c .before .before .before .before .before .before .before .put-short .ensures .few in
-    let to = shows-line (c .before .before .before .before .before .before .before .put-short .ensures) blank-line (c .before .before .before .show-front .ensures) .behind in
+    let shown = c .before .before .before in
+    let written = shown .before .before .before .before .put-short .ensures in
+    let few = written .few in
+    let to = shows-line written blank-line (shown .show-front .ensures) .behind in
     omega arith
 
 same-length-2 : tie.Need-same-length-2
@@ -40,8 +44,12 @@ same-length-2 c = search needs
 
 returns-2 : tie.Need-returns-2
 returns-2 c =
-    let first = shows-line (c .before .before .before .before .before .before .before .before .before .before .put-short .ensures) blank-line (c .before .before .before .before .before .before .show-front .ensures) in
-    shows-as (text-first short _ ∙ ap textOfAll (last-some _ _ (c .before .before .before .before .before .before .before .before .before .before .before .before .if1 .left))) (shows-then first (c .before .before .show-end2 .ensures))
+    let ended = c .before .before in
+    let shown = ended .before .before .before .before in
+    let put = shown .before .before .before .before in
+    let first = shows-line (put .put-short .ensures) blank-line (shown .show-front .ensures) in
+    let lines = text-first short _ ∙ ap textOfAll (last-some _ _ (put .before .before .if1 .left)) in
+    shows-as lines (shows-then first (ended .show-end2 .ensures))
 
 pub show-last-spec : {M : Type 1} → statement M
 show-last-spec =

@@ -17,12 +17,16 @@ slice-aggregate-show-front : tie.Need-slice-aggregate-show-front
 slice-aggregate-show-front c = search (needs, full (c .before .before .put-limit .ensures) blank-line)
 
 show-front-requires : tie.Need-show-front-requires
-show-front-requires c κs = (front-few (c .before .before .before .put-limit .ensures), full (c .before .before .before .put-limit .ensures) blank-line, search needs)
+show-front-requires c κs =
+    let written = c .before .before .before .put-limit .ensures in
+    (front-few written, full written blank-line, search needs)
 
 show-end-requires : tie.Need-show-end-requires
 show-end-requires c κs =
-    let few = c .before .before .before .before .before .before .before .put-limit .ensures .few in
-    let to = shows-line (c .before .before .before .before .before .before .before .put-limit .ensures) blank-line (c .before .before .before .show-front .ensures) .behind in
+    let shown = c .before .before .before in
+    let written = shown .before .before .before .before .put-limit .ensures in
+    let few = written .few in
+    let to = shows-line written blank-line (shown .show-front .ensures) .behind in
     omega arith
 
 same-length : tie.Need-same-length
@@ -30,8 +34,11 @@ same-length c = search needs
 
 returns : tie.Need-returns
 returns c =
-    let first = shows-line (c .before .before .before .before .before .before .before .before .before .before .put-limit .ensures) blank-line (c .before .before .before .before .before .before .show-front .ensures) in
-    shows-as (text-first limit _) (shows-then first (c .before .before .show-end .ensures))
+    let ended = c .before .before in
+    let shown = ended .before .before .before .before in
+    let put = shown .before .before .before .before in
+    let first = shows-line (put .put-limit .ensures) blank-line (shown .show-front .ensures) in
+    shows-as (text-first limit _) (shows-then first (ended .show-end .ensures))
 
 pub show-limit-spec : {M : Type 1} → statement M
 show-limit-spec =

@@ -44,7 +44,13 @@ loop-less c = search needs
 
 loop-again : tie.Need-loop-again Inv-loop μ-loop
 unfolding tokenAt
-loop-again c = (search needs, λ m h none. mapping-more _ (m .tokens) _ _ _ _ blankToken (c .before .before .loop .inv .1 m h none) (omega (arith, h .shaped .tokens)) (ap (λ n. eqb n (c .before .before .before .args .kind)) (c .state .ensures m h)))
+loop-again c =
+    let l = c .before .before in (
+      search needs,
+      λ m h none.
+          mapping-more _ (m .tokens) _ _ _ _ blankToken (l .loop .inv .1 m h none) (omega (arith, h .shaped .tokens))
+          (ap (λ n. eqb n (l .before .args .kind)) (c .state .ensures m h)),
+    )
 
 returns : tie.Need-returns Inv-loop μ-loop
 returns c =

@@ -18,7 +18,9 @@ slice-aggregate-show-front : tie.Need-slice-aggregate-show-front
 slice-aggregate-show-front c = search (needs, full (c .before .before .put-long .ensures) blank-line)
 
 show-front-requires : tie.Need-show-front-requires
-show-front-requires c κs = let put = c .before .before .before in (front-few (put .put-long .ensures), full (put .put-long .ensures) blank-line, search needs)
+show-front-requires c κs =
+    let written = c .before .before .before .put-long .ensures in
+    (front-few written, full written blank-line, search needs)
 
 same-length : tie.Need-same-length
 same-length c = search needs
@@ -66,7 +68,9 @@ slice-aggregate-show-front-2 : tie.Need-slice-aggregate-show-front-2
 slice-aggregate-show-front-2 c = search (needs, full (c .before .before .put-table .ensures) blank-line)
 
 show-front-requires-2 : tie.Need-show-front-requires-2
-show-front-requires-2 c κs = let put = c .before .before .before in (front-few (put .put-table .ensures), full (put .put-table .ensures) blank-line, search needs)
+show-front-requires-2 c κs =
+    let written = c .before .before .before .put-table .ensures in
+    (front-few written, full written blank-line, search needs)
 
 enum-told : tie.Need-enum-told
 enum-told c = search needs

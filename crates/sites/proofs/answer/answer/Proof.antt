@@ -37,12 +37,16 @@ join-requires c κs = search needs
 
 returns-2 : tie.Need-returns-2
 unfolding put withTables
-returns-2 c = is-answered _ _ (c .before .before .before .before .before .before .before .before .find-open .result) _ _ _ (c .before .before .before .before .before .before .before .before .find-open .ensures .1) (omega arith) (λ m h l.
-    let p = c .before .before .before .before .before .before .before .before .find-open .result in
+returns-2 c =
+    let word = c .before .before .before .before .before in
+    let found = word .before .before .before in
+    let start = found .before .before in
+    let p = found .find-open .result in
+    is-answered _ _ p _ _ _ (found .find-open .ensures .1) (omega arith) (λ m h l.
     let t = tokenAt (m .tokens) p in
-    let v = helds.Value (c .before .before .before .before .before .before .before .before .before .before .args .value) in
-    let word = sym (c .before .before .before .before .before .unsigned .ensures ∙ ap unsigned (toZ-ofZ (c .before .before .before .before .before .before .before .before .before .before .fits .value))) in
-    let one = c .before .before .before .before .set-value .ensures m t v (subst (Holds _) (sym (put-self m p)) h) refl word in
+    let v = helds.Value (start .args .value) in
+    let code = sym (word .unsigned .ensures ∙ ap unsigned (toZ-ofZ (start .fits .value))) in
+    let one = c .before .before .before .before .set-value .ensures m t v (subst (Holds _) (sym (put-self m p)) h) refl code in
     let two = c .before .before .set-state .ensures m (withValue v t) states.Ready one refl refl in
     c .join .ensures _ two l)
 

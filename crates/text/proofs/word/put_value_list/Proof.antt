@@ -37,10 +37,10 @@ same-length c = search needs
 returns-2 : tie.Need-returns-2
 unfolding allSpaced
 returns-2 c =
-    let start = c .before .before .before .before .before .before .before .before in
+    let put1 = c .before .before .before in
+    let start = put1 .before .before .before .before .before in
     let values = start .args .t3 in
     let none = none-written (start .args .buffer .now) (start .args .at) in
-    let put1 = c .before .before .before in
     let fits1 : SFits w32 (getD values 0 (pos 0)) = record { sfits = put1 .before .put-value-arg2 .given } in
     let w1 = values-written values (pos 0) _ _ _ _ _ _ 0 (search needs) none (rw (toZ-ofZ fits1) at (put1 .put-value .ensures)) in
     let count : 1 ≡ start .args .count = sym (c .if2 .taken) in
@@ -58,13 +58,13 @@ same-length-2 c = search needs
 returns-3 : tie.Need-returns-3
 unfolding allSpaced
 returns-3 c =
-    let start = c .before .before .before .before .before .before .before .before .before .before .before .before .before .before in
+    let put2 = c .before .before .before in
+    let put1 = put2 .before .before .before .before .before .before in
+    let start = put1 .before .before .before .before .before in
     let values = start .args .t3 in
     let none = none-written (start .args .buffer .now) (start .args .at) in
-    let put1 = c .before .before .before .before .before .before .before .before .before in
     let fits1 : SFits w32 (getD values 0 (pos 0)) = record { sfits = put1 .before .put-value-arg2 .given } in
     let w1 = values-written values (pos 0) _ _ _ _ _ _ 0 (search needs) none (rw (toZ-ofZ fits1) at (put1 .put-value .ensures)) in
-    let put2 = c .before .before .before in
     let fits2 : SFits w32 (getD values 1 (pos 0)) = record { sfits = put2 .before .put-value-arg4 .given } in
     let w2 = values-written values (pos 0) _ _ _ _ _ _ 1 (search needs) w1 (rw (toZ-ofZ fits2) at (put2 .put-value2 .ensures)) in
     let count : 2 ≡ start .args .count = sym (c .if3 .taken) in
@@ -82,16 +82,16 @@ same-length-3 c = search needs
 returns-4 : tie.Need-returns-4
 unfolding allSpaced
 returns-4 c =
-    let start = c .before .before .before .before .before .before .before .before .before .before .before .before .before .before .before .before .before .before .before .before in
+    let put3 = c .before .before .before in
+    let put2 = put3 .before .before .before .before .before .before in
+    let put1 = put2 .before .before .before .before .before .before in
+    let start = put1 .before .before .before .before .before in
     let values = start .args .t3 in
     let none = none-written (start .args .buffer .now) (start .args .at) in
-    let put1 = c .before .before .before .before .before .before .before .before .before .before .before .before .before .before .before in
     let fits1 : SFits w32 (getD values 0 (pos 0)) = record { sfits = put1 .before .put-value-arg2 .given } in
     let w1 = values-written values (pos 0) _ _ _ _ _ _ 0 (search needs) none (rw (toZ-ofZ fits1) at (put1 .put-value .ensures)) in
-    let put2 = c .before .before .before .before .before .before .before .before .before in
     let fits2 : SFits w32 (getD values 1 (pos 0)) = record { sfits = put2 .before .put-value-arg4 .given } in
     let w2 = values-written values (pos 0) _ _ _ _ _ _ 1 (search needs) w1 (rw (toZ-ofZ fits2) at (put2 .put-value2 .ensures)) in
-    let put3 = c .before .before .before in
     let fits3 : SFits w32 (getD values 2 (pos 0)) = record { sfits = put3 .before .put-value-arg6 .given } in
     let w3 = values-written values (pos 0) _ _ _ _ _ _ 2 (search needs) w2 (rw (toZ-ofZ fits3) at (put3 .put-value3 .ensures)) in
     let count : 3 ≡ start .args .count = sym (c .if4 .taken) in
@@ -109,20 +109,20 @@ same-length-4 c = search needs
 returns-5 : tie.Need-returns-5
 unfolding allSpaced
 returns-5 c =
-    let start = c .before .before .before .before .before .before .before .before .before .before .before .before .before .before .before .before .before .before .before .before .before .before .before .before .before in
+    let put4 = c .before .before in
+    let put3 = put4 .before .before .before .before .before .before in
+    let put2 = put3 .before .before .before .before .before .before in
+    let put1 = put2 .before .before .before .before .before .before in
+    let start = put1 .before .before .before .before .before in
     let values = start .args .t3 in
     let four : length values ≡ 4 = search needs in
     let none = none-written (start .args .buffer .now) (start .args .at) in
-    let put1 = c .before .before .before .before .before .before .before .before .before .before .before .before .before .before .before .before .before .before .before .before in
     let fits1 : SFits w32 (getD values 0 (pos 0)) = record { sfits = put1 .before .put-value-arg2 .given } in
     let w1 = values-written values (pos 0) _ _ _ _ _ _ 0 (omega arith) none (rw (toZ-ofZ fits1) at (put1 .put-value .ensures)) in
-    let put2 = c .before .before .before .before .before .before .before .before .before .before .before .before .before .before in
     let fits2 : SFits w32 (getD values 1 (pos 0)) = record { sfits = put2 .before .put-value-arg4 .given } in
     let w2 = values-written values (pos 0) _ _ _ _ _ _ 1 (omega arith) w1 (rw (toZ-ofZ fits2) at (put2 .put-value2 .ensures)) in
-    let put3 = c .before .before .before .before .before .before .before .before in
     let fits3 : SFits w32 (getD values 2 (pos 0)) = record { sfits = put3 .before .put-value-arg6 .given } in
     let w3 = values-written values (pos 0) _ _ _ _ _ _ 2 (omega arith) w2 (rw (toZ-ofZ fits3) at (put3 .put-value3 .ensures)) in
-    let put4 = c .before .before in
     let fits4 : SFits w32 (getD values 3 (pos 0)) = record { sfits = put4 .before .put-value-arg8 .given } in
     let w4 = values-written values (pos 0) _ _ _ _ _ _ 3 (omega arith) w3 (rw (toZ-ofZ fits4) at (put4 .put-value4 .ensures)) in
     let few = start .pre .1 in

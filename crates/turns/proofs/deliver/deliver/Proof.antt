@@ -25,7 +25,9 @@ resume-requires c κs = search needs
 returns : tie.Need-returns
 returns c =
     let fits : SFits w32 (c .before .before .signed .result) = search needs in
-    delivered _ _ _ _ _ _ _ _ _ _ (c .resume .ensures) (toZ-ofZ fits) (c .before .before .before .before .word-at .ensures) (c .before .before .signed .ensures) (c .before .before .before .word-at2 .ensures)
+    let second = c .before .before .before in
+    delivered _ _ _ _ _ _ _ _ _ _ (c .resume .ensures) (toZ-ofZ fits) (second .before .word-at .ensures) (c .before .before .signed .ensures)
+    (second .word-at2 .ensures)
 
 pub deliver-spec : {M : Type 1} → statement M
 deliver-spec =
