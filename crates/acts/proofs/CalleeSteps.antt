@@ -21,7 +21,8 @@ use Rattle.model.specs.Machine.Answer as Answer
 use Rattle.model.specs.Machine.Answer.{holder}
 use Rattle.model.specs.Machine.Start.{startToken, startMachine}
 use Rattle.model.specs.Machine.Step as Step
-use Rattle.model.specs.Machine.Step.{act, put, withTables, withOrders, withCounts, enqueue, newToken, newCell, withNode, withBinding, withValue, withState, inCell}
+use Rattle.model.specs.Machine.Update.{put, withTables, withOrders, withCounts, enqueue, newToken, newCell, withNode, withBinding, withValue, withState, inCell}
+use Rattle.model.specs.Machine.Step.{act}
 use Rattle.model.specs.Machine.Step.{LookUpResult, values, unset, chokeToken, afterChoke}
 use Rattle.model.specs.declared.cell.Cell.{Cell}
 use Rattle.model.specs.declared.record.Machine.{Machine}
@@ -85,7 +86,7 @@ module _ (s : List Bool) {ws dag : List ℕ} {used cells : List Bool} {place p a
   replied-callees next (gives v) = anew _ (unfold withNode withValue in refl)
   replied-callees next silent = gone
 
-  site-callees : (site next : ℕ) (r : LookUpResult) → After (NoNewCallee s m) (Step.callSite paper (dagOf dag) n p t site next r)
+  site-callees : (site next : ℕ) (r : LookUpResult) → After (NoNewCallee s m) (Step.callSite paper n p t site next r)
   unfolding Step.callSite
   site-callees site next (unset c) = unfold After Step.waited withOrders in anew _ (unfold withState in refl)
   site-callees site next (values vs) = go (isBuiltin site)
@@ -103,7 +104,7 @@ module _ (s : List Bool) {ws dag : List ℕ} {used cells : List Bool} {place p a
       go true = replied-callees next (builtin site vs)
       go false = out _
 
-  choke-callees : (q : Place) → After (NoNewCallee s m) (Step.chokeAt n p t q)
+  choke-callees : (q : Place) → After (NoNewCallee s m) (Step.chokeAt n t q)
   unfolding After Step.chokeAt afterChoke withOrders withTables
   choke-callees places.Nowhere = tt
   choke-callees (places.At c) = λ f i e. mapped-names f _ (choked-names (m .cells) c f) (m .tokens) i
@@ -167,7 +168,7 @@ module _ (s : List Bool) (dag : List ℕ) (place p at : ℕ) (m : Machine) where
     where
       go : (b : Bool)
           → After (NoNewCallee (u s m p) m)
-          (unless b refusals.TokenLimit (Step.forked (dequeued m place) p (tokenAt (m .tokens) p) (Step.tokenPlace paper (dagOf dag) m) (getD dag (at + 1) 0) (getD dag (at + 2) 0)))
+          (unless b refusals.TokenLimit (Step.forked (dequeued m place) p (tokenAt (m .tokens) p) (Step.tokenPlace m) (getD dag (at + 1) 0) (getD dag (at + 2) 0)))
       go true =
           unfold unless After Step.forked enqueue withOrders newToken withCounts in
           second-callee (u s m p) m _ _ (withNode (getD dag (at + 2) 0) (tokenAt (m .tokens) p)) (λ f e c. unshared (caller s m p) s f e .0 (unfold withNode in c)) (anew (u s m p) a (withNode (getD dag (at + 1) 0) (tokenAt (m .tokens) p)) (unfold withNode in refl))
@@ -181,10 +182,10 @@ module _ (s : List Bool) (dag : List ℕ) (place p at : ℕ) (m : Machine) where
           → After (NoNewCallee (u s m p) m)
           (unless b refusals.TokenLimit
           (unless c refusals.CellLimit
-          (Step.split (dequeued m place) p (tokenAt (m .tokens) p) (Step.tokenPlace paper (dagOf dag) m) (Step.cellPlace paper (dagOf dag) m) (getD dag (at + 3) 0) (getD dag (at + 1) 0) (getD dag (at + 2) 0))))
+          (Step.split (dequeued m place) p (tokenAt (m .tokens) p) (Step.tokenPlace m) (Step.cellPlace m) (getD dag (at + 3) 0) (getD dag (at + 1) 0) (getD dag (at + 2) 0))))
       go true true =
           unfold unless After Step.split enqueue withOrders newCell newToken withCounts withTables in
-          second-callee (u s m p) m _ _ (inCell (Step.cellPlace paper (dagOf dag) m) (withNode (getD dag (at + 2) 0) (tokenAt (m .tokens) p))) (λ f e c. unshared (caller s m p) s f e .0 (unfold inCell withNode in c)) (anew (u s m p) a (withNode (getD dag (at + 1) 0) (withBinding (getD dag (at + 3) 0) (slots.Cell (Step.cellPlace paper (dagOf dag) m)) (tokenAt (m .tokens) p))) (unfold withNode withBinding in refl))
+          second-callee (u s m p) m _ _ (inCell (Step.cellPlace m) (withNode (getD dag (at + 2) 0) (tokenAt (m .tokens) p))) (λ f e c. unshared (caller s m p) s f e .0 (unfold inCell withNode in c)) (anew (u s m p) a (withNode (getD dag (at + 1) 0) (withBinding (getD dag (at + 3) 0) (slots.Cell (Step.cellPlace m)) (tokenAt (m .tokens) p))) (unfold withNode withBinding in refl))
       go true false = unfold unless After in tt
       go false c = unfold unless After in tt
 
@@ -226,13 +227,13 @@ module _ (s : List Bool) (m : Machine) (p : ℕ) (none : (i : ℕ) → NamesAsCa
 module _ (s : List Bool) (dag : List ℕ) (place p at : ℕ) (m : Machine) where
   abbrev entering : Effect
   entering =
-      Step.entered (dequeued m place) p (tokenAt (m .tokens) p) (Step.tokenPlace paper (dagOf dag) m) (bodyAt (dagOf dag) (getD dag (at + 1) 0) .root)
+      Step.entered (dequeued m place) p (tokenAt (m .tokens) p) (Step.tokenPlace m) (bodyAt (dagOf dag) (getD dag (at + 1) 0) .root)
       (paramsAt dag at) (getD dag (at + 2) 0)
 
   pub call-keeps : (ws : List ℕ) (used cells : List Bool) → Acting ws used cells dag place p at 2 m → ((i : ℕ) → NamesAsCaller m p i → ⊥) → OneCallee s m
       → OneCallee (set s p false) (Step.step paper (dagOf dag) m place .machine)
   unfolding act unless outcome accepted Step.entered withOrders
-  call-keeps ws used cells a none one = subst (λ (o : Outcome). OneCallee (set s p false) (o .machine)) (sym (step-is a)) (go (Step.hasTokenPlace paper (dagOf dag) m))
+  call-keeps ws used cells a none one = subst (λ (o : Outcome). OneCallee (set s p false) (o .machine)) (sym (step-is a)) (go (Step.hasTokenPlace paper m))
     where
       go : (b : Bool) → OneCallee (set s p false) (outcome m (unless b refusals.TokenLimit entering) .machine)
       go true =

@@ -18,7 +18,8 @@ use Rattle.model.specs.Machine.InUse.{tokensUsed, cellsUsed, sweep}
 use Rattle.model.specs.Machine.Limits.{paper}
 use Rattle.model.specs.Machine.Reply.{accepted}
 use Rattle.model.specs.Machine.Rules.{nodeRule, namesFrame, heldInRange, placeInRange, slotInRange, stateInRange, tokenInRange}
-use Rattle.model.specs.Machine.Step.{withNode, withState, withValue, withBinding, put, enqueue, valueOf, withTables, withOrders}
+use Rattle.model.specs.Machine.Update.{withNode, withState, withValue, withBinding, put, enqueue, withTables, withOrders}
+use Rattle.model.specs.Machine.Step.{valueOf}
 use Rattle.model.specs.declared.record.Machine.{Machine}
 use Rattle.model.specs.declared.reply.Outcome.{Outcome}
 use Rattle.model.specs.declared.reply.Reply.{Reply}

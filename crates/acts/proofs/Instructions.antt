@@ -14,7 +14,8 @@ use Rattle.model.specs.Machine.Limits.{paper}
 use Rattle.model.specs.Machine.FreePlace.{nextPlace}
 use Rattle.model.specs.Machine.Reply.{accepted, outcome, unless, refuses}
 use Rattle.model.specs.Machine.Step as Step
-use Rattle.model.specs.Machine.Step.{act, withNode, withState, withValue, withBinding, inCell, put, enqueue, newToken, newCell, valueOf, withOrders}
+use Rattle.model.specs.Machine.Update.{withNode, withState, withValue, withBinding, inCell, put, enqueue, newToken, newCell, withOrders}
+use Rattle.model.specs.Machine.Step.{act, valueOf}
 use Rattle.model.specs.Machine.Step.{hasTokenPlace, hasCellPlace, callSite, look}
 use Rattle.model.specs.declared.record.Machine.{Machine}
 use Rattle.model.specs.declared.reply.Refusal.the-variants as refusals
@@ -63,11 +64,11 @@ module _ {ws dag : List ℕ} {used cells : List Bool} {m : Machine} (a : Lawful 
     own : new ≡ nextOr 64 (tokensUsed m) (m .lasttoken)
     own = next ∙ ap₂ (nextOr 64) (a .marks .tokens) given
 
-    pub token-room : new < 64 → (hasTokenPlace paper d m ≡ true) × (new ≡ nextPlace (tokensUsed m) (m .lasttoken))
+    pub token-room : new < 64 → (hasTokenPlace paper m ≡ true) × (new ≡ nextPlace (tokensUsed m) (m .lasttoken))
     unfolding hasTokenPlace
     token-room l = next-room (tokensUsed m) (m .lasttoken) own l
 
-    pub token-full : 64 ≤ new → hasTokenPlace paper d m ≡ false
+    pub token-full : 64 ≤ new → hasTokenPlace paper m ≡ false
     unfolding hasTokenPlace
     token-full l =
         next-full (tokensUsed m) (m .lasttoken) own l
@@ -81,11 +82,11 @@ module _ {ws dag : List ℕ} {used cells : List Bool} {m : Machine} (a : Lawful 
     own-cell : new ≡ nextOr 32 (cellsUsed m) (m .lastcell)
     own-cell = next ∙ ap₂ (nextOr 32) (a .marks .cells) given
 
-    pub cell-room : new < 32 → (hasCellPlace paper d m ≡ true) × (new ≡ nextPlace (cellsUsed m) (m .lastcell))
+    pub cell-room : new < 32 → (hasCellPlace paper m ≡ true) × (new ≡ nextPlace (cellsUsed m) (m .lastcell))
     unfolding hasCellPlace
     cell-room l = next-room (cellsUsed m) (m .lastcell) own-cell l
 
-    pub cell-full : 32 ≤ new → hasCellPlace paper d m ≡ false
+    pub cell-full : 32 ≤ new → hasCellPlace paper m ≡ false
     unfolding hasCellPlace
     cell-full l =
         next-full (cellsUsed m) (m .lastcell) own-cell l
@@ -128,15 +129,15 @@ module _ (dag : List ℕ) (place p at : ℕ) (m : Machine) where
   pub choke-step : {ws : List ℕ} {used cells : List Bool} → (c : ℕ) → t .cell ≡ places.At c → Acting ws used cells dag place p at 7 m → Step.step paper (dagOf dag) m place
       ≡ accepted replies.Done [] (Step.afterChoke c (t .value) (dequeued m place))
   unfolding act outcome Step.chokeAt
-  choke-step c e a = step-is a ∙ ap (λ q. outcome m (Step.chokeAt (dequeued m place) p t q)) e
+  choke-step c e a = step-is a ∙ ap (λ q. outcome m (Step.chokeAt (dequeued m place) t q)) e
 
   pub site-step : {ws : List ℕ} {used cells : List Bool} → Acting ws used cells dag place p at 1 m → Step.step paper (dagOf dag) m place
-      ≡ outcome m (callSite paper (dagOf dag) (dequeued m place) p t (word 1) (word 2) (look (m .cells) (t .binds) (paramsAt dag at)))
+      ≡ outcome m (callSite paper (dequeued m place) p t (word 1) (word 2) (look (m .cells) (t .binds) (paramsAt dag at)))
   unfolding act withOrders
   site-step a = step-is a
 
   -- fork, where and definition call, with room and without
-  pub fork-step : {ws : List ℕ} {used cells : List Bool} → (new : ℕ) → hasTokenPlace paper (dagOf dag) m ≡ true → new ≡ nextPlace (tokensUsed m) (m .lasttoken) → Acting ws used cells dag place p at 3 m
+  pub fork-step : {ws : List ℕ} {used cells : List Bool} → (new : ℕ) → hasTokenPlace paper m ≡ true → new ≡ nextPlace (tokensUsed m) (m .lasttoken) → Acting ws used cells dag place p at 3 m
       → Step.step paper (dagOf dag) m place
       ≡ accepted replies.Done [] (enqueue new (enqueue p (newToken new (withNode (word 2) t) (put p (withNode (word 1) t) (dequeued m place)))))
   unfolding act outcome unless Step.forked
@@ -145,13 +146,13 @@ module _ (dag : List ℕ) (place p at : ℕ) (m : Machine) where
       ∙ ap (λ b. outcome m (unless b refusals.TokenLimit (Step.forked (dequeued m place) p t (nextPlace (tokensUsed m) (m .lasttoken)) (word 1) (word 2)))) room
       ∙ ap (λ q. accepted replies.Done [] (enqueue q (enqueue p (newToken q (withNode (word 2) t) (put p (withNode (word 1) t) (dequeued m place)))))) (sym e)
 
-  pub fork-full : {ws : List ℕ} {used cells : List Bool} → hasTokenPlace paper (dagOf dag) m ≡ false → Acting ws used cells dag place p at 3 m → Step.step paper (dagOf dag) m place ≡ outcome m (refuses refusals.TokenLimit)
+  pub fork-full : {ws : List ℕ} {used cells : List Bool} → hasTokenPlace paper m ≡ false → Acting ws used cells dag place p at 3 m → Step.step paper (dagOf dag) m place ≡ outcome m (refuses refusals.TokenLimit)
   unfolding act outcome unless
   fork-full full a =
       step-is a
       ∙ ap (λ b. outcome m (unless b refusals.TokenLimit (Step.forked (dequeued m place) p t (nextPlace (tokensUsed m) (m .lasttoken)) (word 1) (word 2)))) full
 
-  pub call-step : {ws : List ℕ} {used cells : List Bool} → (new : ℕ) → hasTokenPlace paper (dagOf dag) m ≡ true → new ≡ nextPlace (tokensUsed m) (m .lasttoken) → Acting ws used cells dag place p at 2 m
+  pub call-step : {ws : List ℕ} {used cells : List Bool} → (new : ℕ) → hasTokenPlace paper m ≡ true → new ≡ nextPlace (tokensUsed m) (m .lasttoken) → Acting ws used cells dag place p at 2 m
       → Step.step paper (dagOf dag) m place
       ≡ accepted replies.Done []
       (enqueue new
@@ -167,7 +168,7 @@ module _ (dag : List ℕ) (place p at : ℕ) (m : Machine) where
       accepted replies.Done []
       (enqueue q (newToken q (callee p (t .cell) (t .binds) root (paramsAt dag at)) (put p (withNode (word 2) (withState states.Frame t)) (dequeued m place))))) (sym e)
 
-  pub call-full : {ws : List ℕ} {used cells : List Bool} → hasTokenPlace paper (dagOf dag) m ≡ false → Acting ws used cells dag place p at 2 m → Step.step paper (dagOf dag) m place ≡ outcome m (refuses refusals.TokenLimit)
+  pub call-full : {ws : List ℕ} {used cells : List Bool} → hasTokenPlace paper m ≡ false → Acting ws used cells dag place p at 2 m → Step.step paper (dagOf dag) m place ≡ outcome m (refuses refusals.TokenLimit)
   unfolding act outcome unless
   call-full full a =
       let root = bodyAt (dagOf dag) (word 1) .root in
@@ -181,8 +182,8 @@ module _ (dag : List ℕ) (place p at : ℕ) (m : Machine) where
       (newCell c (unsetCell (t .cell))
       (newToken new (inCell c (withNode (word 2) t)) (put p (withNode (word 1) (withBinding (word 3) (slots.Cell c) t)) (dequeued m place)))))
 
-  pub where-step : {ws : List ℕ} {used cells : List Bool} → (new c : ℕ) → hasTokenPlace paper (dagOf dag) m ≡ true → new ≡ nextPlace (tokensUsed m) (m .lasttoken)
-      → hasCellPlace paper (dagOf dag) m ≡ true → c ≡ nextPlace (cellsUsed m) (m .lastcell) → Acting ws used cells dag place p at 6 m
+  pub where-step : {ws : List ℕ} {used cells : List Bool} → (new c : ℕ) → hasTokenPlace paper m ≡ true → new ≡ nextPlace (tokensUsed m) (m .lasttoken)
+      → hasCellPlace paper m ≡ true → c ≡ nextPlace (cellsUsed m) (m .lastcell) → Acting ws used cells dag place p at 6 m
       → Step.step paper (dagOf dag) m place ≡ accepted replies.Done [] (splitting new c)
   unfolding act outcome unless Step.split
   where-step new c room e below f a =
@@ -193,7 +194,7 @@ module _ (dag : List ℕ) (place p at : ℕ) (m : Machine) where
       (λ b g. outcome m (unless b refusals.TokenLimit (unless g refusals.CellLimit (Step.split (dequeued m place) p t q k (word 3) (word 1) (word 2))))) room below
       ∙ ap₂ (λ q k. accepted replies.Done [] (splitting q k)) (sym e) (sym f)
 
-  pub where-full : {ws : List ℕ} {used cells : List Bool} → hasTokenPlace paper (dagOf dag) m ≡ false → Acting ws used cells dag place p at 6 m → Step.step paper (dagOf dag) m place ≡ outcome m (refuses refusals.TokenLimit)
+  pub where-full : {ws : List ℕ} {used cells : List Bool} → hasTokenPlace paper m ≡ false → Acting ws used cells dag place p at 6 m → Step.step paper (dagOf dag) m place ≡ outcome m (refuses refusals.TokenLimit)
   unfolding act outcome unless
   where-full full a =
       let q = nextPlace (tokensUsed m) (m .lasttoken) in
@@ -203,9 +204,9 @@ module _ (dag : List ℕ) (place p at : ℕ) (m : Machine) where
       (λ b.
       outcome m
       (unless b refusals.TokenLimit
-      (unless (hasCellPlace paper (dagOf dag) m) refusals.CellLimit (Step.split (dequeued m place) p t q k (word 3) (word 1) (word 2))))) full
+      (unless (hasCellPlace paper m) refusals.CellLimit (Step.split (dequeued m place) p t q k (word 3) (word 1) (word 2))))) full
 
-  pub where-cells-full : {ws : List ℕ} {used cells : List Bool} → hasTokenPlace paper (dagOf dag) m ≡ true → hasCellPlace paper (dagOf dag) m ≡ false → Acting ws used cells dag place p at 6 m
+  pub where-cells-full : {ws : List ℕ} {used cells : List Bool} → hasTokenPlace paper m ≡ true → hasCellPlace paper m ≡ false → Acting ws used cells dag place p at 6 m
       → Step.step paper (dagOf dag) m place ≡ outcome m (refuses refusals.CellLimit)
   unfolding act outcome unless
   where-cells-full room full a =

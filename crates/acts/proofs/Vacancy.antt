@@ -12,7 +12,8 @@ use Rattle.model.specs.Machine.Limits.{paper}
 use Rattle.model.specs.declared.record.Machine.{Machine}
 use Rattle.model.specs.declared.token.Token.{Token}
 use Rattle.model.specs.Machine.Step as Step
-use Rattle.model.specs.Machine.Step.{afterChoke, withTables, withOrders}
+use Rattle.model.specs.Machine.Update.{withTables, withOrders}
+use Rattle.model.specs.Machine.Step.{afterChoke}
 use Rattle.model.specs.declared.token.Held.{Held}
 use Rattle.model.specs.declared.token.Place.the-variants as places
 use Rattle.record.specs.Fields.{dequeued}

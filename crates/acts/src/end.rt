@@ -3,7 +3,7 @@ ghost use Prim.Native.Nat.{_<_};
 ghost use Rattle.model.specs.declared.record.Machine.{Machine};
 ghost use Rattle.record.specs.Fields.{dequeued};
 ghost use Rattle.model.specs.Machine.Blank.{blankToken};
-ghost use Rattle.model.specs.Machine.Step.{put};
+ghost use Rattle.model.specs.Machine.Update.{put};
 ghost use Rattle.job.specs.Words.{dagOf};
 ghost use Rattle.model.specs.Machine.Limits.{paper};
 ghost use Rattle.model.specs.Machine.Step as Step;

@@ -4,7 +4,7 @@ ghost use Prim.Native.Nat.{_<_};
 ghost use Rattle.model.specs.Machine.Blank.{tokenAt};
 ghost use Rattle.model.specs.declared.record.Machine.{Machine};
 ghost use Rattle.record.specs.Fields.{dequeued};
-ghost use Rattle.model.specs.Machine.Step.{withNode, withBinding, put, enqueue};
+ghost use Rattle.model.specs.Machine.Update.{withNode, withBinding, put, enqueue};
 ghost use Rattle.model.specs.declared.token.Slot.{Slot};
 ghost use Rattle.record.specs.Words.{slotKind, slotNumber};
 ghost use Rattle.job.specs.Words.{dagOf};

@@ -16,8 +16,10 @@ use Rattle.model.specs.Machine.Blank.{blankToken, tokenAt}
 use Rattle.model.specs.Machine.InUse.{tokensUsed, cellsUsed}
 use Rattle.model.specs.Machine.Limits.{paper}
 use Rattle.model.specs.Machine.Reply.{accepted, outcome, unless, refuses, reportValues}
+use Rattle.model.specs.Machine.Update as Update
 use Rattle.model.specs.Machine.Step as Step
-use Rattle.model.specs.Machine.Step.{withNode, withState, withValue, put, enqueue, look, callSite, withTables, withOrders, withCounts}
+use Rattle.model.specs.Machine.Update.{withNode, withState, withValue, put, enqueue, withTables, withOrders, withCounts}
+use Rattle.model.specs.Machine.Step.{look, callSite}
 use Rattle.model.specs.declared.record.Machine.{Machine}
 use Rattle.model.specs.declared.reply.Outcome.{Outcome}
 use Rattle.model.specs.declared.reply.Reply.{Reply}
@@ -60,7 +62,7 @@ module _ {ws dag : List ℕ} {used cells : List Bool} {place p : ℕ} {m : Machi
 
   pub wait-gives : {x : Outcome} (c : ℕ) {after : List ℕ} (r : Report) → x ≡ outcome m (Step.waited (dequeued m place) p t c) → r ≡ plain replies.Waits
       → Holds after (delayed p (put p (withState (states.Waiting c) t) (dequeued m place))) → Gives x m after used cells r
-  unfolding outcome Step.waited put withTables Step.queueOf Step.waitsOf
+  unfolding outcome Step.waited put withTables Update.queueOf Update.waitsOf
   wait-gives c r e f h =
       marked _ replies.Waits [] r e (ap (λ (y : Report). y .reply) f) (ap (λ (y : Report). y .values) f) h
       (waited-carried paper (dagOf dag) m (a .lawful .rules) place (a .queued) p (a .token) c _ _)
@@ -97,7 +99,7 @@ module _ (dag : List ℕ) (place p from : ℕ) (m : Machine) where
       → Step.step paper (dagOf dag) m place ≡ outcome m (Step.waited (dequeued m place) p mine c)
   unfolding callSite
   waits-at a c e =
-      site-step dag place p from m a ∙ ap (λ l. outcome m (callSite paper (dagOf dag) (dequeued m place) p mine (word 1) (word 2) l)) e
+      site-step dag place p from m a ∙ ap (λ l. outcome m (callSite paper (dequeued m place) p mine (word 1) (word 2) l)) e
 
   module _ {ws : List ℕ} {used cells : List Bool} {vs : List ℤ} (k : Evaluated ws used cells dag place p from vs m) where
     by-site : Bool → Outcome
@@ -113,7 +115,7 @@ module _ (dag : List ℕ) (place p from : ℕ) (m : Machine) where
     unfolding callSite by-site
     at-site =
         site-step dag place p from m (k .acting)
-        ∙ ap (λ l. outcome m (callSite paper (dagOf dag) (dequeued m place) p mine (word 1) (word 2) l)) (k .found)
+        ∙ ap (λ l. outcome m (callSite paper (dequeued m place) p mine (word 1) (word 2) l)) (k .found)
 
     pub says : (said : BuiltinReply) → word 1 < 7 → builtin (word 1) (k .values) ≡ said
         → Step.step paper (dagOf dag) m place ≡ outcome m (Step.replied (dequeued m place) p mine (word 2) said)

@@ -19,9 +19,11 @@ use Rattle.model.specs.Machine.Active.{upward, within}
 use Rattle.model.specs.Machine.State.{isLive, isReady, isWaiting}
 use Rattle.model.specs.Machine.Rules.{heldInRange}
 use Rattle.model.specs.Machine.Reply.{Effect, unless}
+use Rattle.model.specs.Machine.Update as Update
 use Rattle.model.specs.Machine.Step as Step
 use Rattle.model.specs.Machine.Step.{LookUpResult, values, unset, look, hasTokenPlace, hasCellPlace, tokenPlace}
-use Rattle.model.specs.Machine.Step.{cellPlace, withOrders, queueOf, waitsOf, chokeToken, act}
+use Rattle.model.specs.Machine.Update.{withOrders, queueOf, waitsOf}
+use Rattle.model.specs.Machine.Step.{cellPlace, chokeToken, act}
 use Rattle.model.specs.declared.token.Slot.the-variants as slots
 use Rattle.model.specs.declared.token.Held.the-variants as helds
 use Rattle.model.specs.declared.token.Place.{Place}
@@ -106,8 +108,8 @@ module _ (lim : Limits) (d : Dag) (m : Machine) (F : Facts lim d m) (some : 0 < 
   ready-idle : {s : State} → s ≡ states.Ready → Idle s
   ready-idle e = subst Idle (sym e) Idle.ready
 
-  goes-on : (u : Token) → Good u → u .state ≡ states.Ready → Keeps (Step.goesOn at p acting u)
-  unfolding After Step.goesOn Step.enqueue Step.put Step.withTables withOrders
+  goes-on : (u : Token) → Good u → u .state ≡ states.Ready → Keeps (Step.goesOn at p u)
+  unfolding After Step.goesOn Update.enqueue Update.put Update.withTables withOrders
   goes-on u k s =
       record {
         tokenPlaces = length-set (m .tokens) p u ∙ F .tokenPlaces;
@@ -127,8 +129,8 @@ module _ (lim : Limits) (d : Dag) (m : Machine) (F : Facts lim d m) (some : 0 < 
   ahead k l n v b i =
       going (subst (λ j. j < length (d .nodes)) (sym n) l) (ap heldInRange v ∙ was .value) (subst BindsFit (sym b) (was .binds)) i
 
-  pub ended : Facts lim d (Step.ended at p acting)
-  unfolding Step.ended Step.put Step.withTables withOrders isReady isWaiting
+  pub ended : Facts lim d (Step.ended at p)
+  unfolding Step.ended Update.put Update.withTables withOrders isReady isWaiting
   ended =
       record {
         tokenPlaces = length-set (m .tokens) p blankToken ∙ F .tokenPlaces;
@@ -172,7 +174,7 @@ module _ (lim : Limits) (d : Dag) (m : Machine) (F : Facts lim d m) (some : 0 < 
     both-written {u} {w} a i b j = tables-write (tables-write (F .tables) p u inside a i) q w (still-inside u) b j
 
     forked : (l r : ℕ) → l < length (d .nodes) → r < length (d .nodes) → Keeps (Step.forked at p acting q l r)
-    unfolding After Step.forked Step.enqueue Step.newToken Step.put Step.withTables withOrders Step.withCounts Step.withNode
+    unfolding After Step.forked Update.enqueue Update.newToken Update.put Update.withTables withOrders Update.withCounts Update.withNode
     forked l r il ir =
         let s = ready-idle (taken-ready T) in
         record {
@@ -183,15 +185,15 @@ module _ (lim : Limits) (d : Dag) (m : Machine) (F : Facts lim d m) (some : 0 < 
           lastcell = F .lastcell;
           queue = (queue ++ (p ∷ [])) ++ (q ∷ []);
           waits = waits;
-          orders = orders-enqueue (orders-enqueue (orders-token (orders-put begun p (Step.withNode l acting)) q (Step.withNode r acting)) p) q;
-          lines = second (Step.withNode l acting) (Step.withNode r acting) (taken-ready T) (lines-back T (Step.withNode l acting) (taken-ready T));
+          orders = orders-enqueue (orders-enqueue (orders-token (orders-put begun p (Update.withNode l acting)) q (Update.withNode r acting)) p) q;
+          lines = second (Update.withNode l acting) (Update.withNode r acting) (taken-ready T) (lines-back T (Update.withNode l acting) (taken-ready T));
           tables = both-written (ahead l il refl refl refl s) s (ahead r ir refl refl refl s) s;
         }
 
     entered : (root : ℕ) (ps : List Param) (k : ℕ) → root < length (d .nodes) → all paramHolds ps ≡ true → k < length (d .nodes)
         → Keeps (Step.entered at p acting q root ps k)
     unfolding
-        After Step.entered Step.enqueue Step.newToken Step.put Step.withTables withOrders Step.withCounts Step.withNode Step.withState
+        After Step.entered Update.enqueue Update.newToken Update.put Update.withTables withOrders Update.withCounts Update.withNode Update.withState
         isReady isWaiting heldInRange
     entered root ps k ir holds ik =
         record {
@@ -210,7 +212,7 @@ module _ (lim : Limits) (d : Dag) (m : Machine) (F : Facts lim d m) (some : 0 < 
         }
       where
         frame : Token
-        frame = Step.withNode k (Step.withState states.Frame acting)
+        frame = Update.withNode k (Update.withState states.Frame acting)
 
         callee : Token
         callee =
@@ -225,7 +227,7 @@ module _ (lim : Limits) (d : Dag) (m : Machine) (F : Facts lim d m) (some : 0 < 
 
     split : (c x l r : ℕ) → c < length (m .cells) → l < length (d .nodes) → r < length (d .nodes) → Keeps (Step.split at p acting q c x l r)
     unfolding
-        After Step.split Step.enqueue Step.newToken Step.newCell Step.put Step.withTables withOrders Step.withCounts Step.withNode Step.inCell Step.withBinding
+        After Step.split Update.enqueue Update.newToken Update.newCell Update.put Update.withTables withOrders Update.withCounts Update.withNode Update.inCell Update.withBinding
     split c x l r ic il ir =
         let s = ready-idle (taken-ready T) in
         record {
@@ -248,17 +250,17 @@ module _ (lim : Limits) (d : Dag) (m : Machine) (F : Facts lim d m) (some : 0 < 
         }
       where
         left : Token
-        left = Step.withNode l (Step.withBinding x (slots.Cell c) acting)
+        left = Update.withNode l (Update.withBinding x (slots.Cell c) acting)
 
         right : Token
-        right = Step.inCell c (Step.withNode r acting)
+        right = Update.inCell c (Update.withNode r acting)
 
         own : Cell
         own = record { parent = acting .cell; value = helds.Nothing }
 
   -- site calls
   waited : (c : ℕ) → Awaits d (m .cells) acting c → Keeps (Step.waited at p acting c)
-  unfolding After Step.waited Step.put Step.withTables withOrders Step.withState
+  unfolding After Step.waited Update.put Update.withTables withOrders Update.withState
   waited c b =
       record {
         tokenPlaces = length-set (m .tokens) p u ∙ F .tokenPlaces;
@@ -268,7 +270,7 @@ module _ (lim : Limits) (d : Dag) (m : Machine) (F : Facts lim d m) (some : 0 < 
         lastcell = F .lastcell;
         queue = queueOf at;
         waits = waitsOf at ++ (p ∷ []);
-        orders = orders-with (queueOf at) (waitsOf at ++ (p ∷ [])) (Step.put p u at);
+        orders = orders-with (queueOf at) (waitsOf at ++ (p ∷ [])) (Update.put p u at);
         lines =
             subst (λ q. Lines (set (m .tokens) p u) q (waitsOf at ++ (p ∷ []))) (sym (queue-is begun))
             (subst (λ w. Lines (set (m .tokens) p u) queue (w ++ (p ∷ []))) (sym (waits-are begun)) (lines-wait T u c refl));
@@ -284,15 +286,15 @@ module _ (lim : Limits) (d : Dag) (m : Machine) (F : Facts lim d m) (some : 0 < 
       }
     where
       u : Token
-      u = Step.withState (states.Waiting c) acting
+      u = Update.withState (states.Waiting c) acting
 
   replied : (k : ℕ) → k < length (d .nodes) → {s : BuiltinReply} → ReplyFits s → Keeps (Step.replied at p acting k s)
-  unfolding After Step.replied Step.withNode Step.withValue heldInRange
+  unfolding After Step.replied Update.withNode Update.withValue heldInRange
   replied k l (gives-fits e) = goes-on _ (going l e (was .binds) (ready-idle (taken-ready T))) (taken-ready T)
   replied k l nothing = ended
 
   calledOut : (s : ℕ) (vs : List ℤ) (k : ℕ) → m .calls < lim .calls → k < length (d .nodes) → Keeps (Step.calledOut at p acting s vs k)
-  unfolding After Step.calledOut Step.put Step.withTables withOrders Step.withCounts Step.withNode Step.withState isReady isWaiting
+  unfolding After Step.calledOut Update.put Update.withTables withOrders Update.withCounts Update.withNode Update.withState isReady isWaiting
   calledOut s vs k few l =
       record {
         tokenPlaces = length-set (m .tokens) p u ∙ F .tokenPlaces;
@@ -316,7 +318,7 @@ module _ (lim : Limits) (d : Dag) (m : Machine) (F : Facts lim d m) (some : 0 < 
       }
     where
       u : Token
-      u = Step.withNode k (Step.withState (states.Called (m .calls)) acting)
+      u = Update.withNode k (Update.withState (states.Called (m .calls)) acting)
 
   -- "the first unset cell makes the token wait there"
   module _ (named : (x c : ℕ) → slotAt (acting .binds) x ≡ slots.Cell c → c < length (m .cells))
@@ -332,7 +334,7 @@ module _ (lim : Limits) (d : Dag) (m : Machine) (F : Facts lim d m) (some : 0 < 
     called vs a true = replied k next (builtin-fits s a)
     called vs a false = after-unless (Facts lim d) _ _ _ (λ e. calledOut s vs k (ltb-lt _ _ e) next)
 
-    callSite : (l : LookUpResult) → look (m .cells) (acting .binds) ps ≡ l → LookUpFits l → Keeps (Step.callSite lim d at p acting s k l)
+    callSite : (l : LookUpResult) → look (m .cells) (acting .binds) ps ≡ l → LookUpFits l → Keeps (Step.callSite lim at p acting s k l)
     unfolding Step.callSite
     callSite (unset c) e f =
         let x = look-unset (m .cells) (acting .binds) ps c e in
@@ -350,17 +352,17 @@ module _ (lim : Limits) (d : Dag) (m : Machine) (F : Facts lim d m) (some : 0 < 
         })
     callSite (values vs) e (found a) = called vs a (isBuiltin s)
 
-    site-call-keeps : Keeps (Step.callSite lim d at p acting s k (look (m .cells) (acting .binds) ps))
+    site-call-keeps : Keeps (Step.callSite lim at p acting s k (look (m .cells) (acting .binds) ps))
     site-call-keeps = callSite _ refl (look-fits (m .cells) (acting .binds) (was .binds) (F .tables .cells) ps holds)
 
   returned : (f : Place) → Keeps (Step.returned at p acting f)
-  unfolding After Step.returned withOrders Step.withState Step.withValue
+  unfolding After Step.returned withOrders Update.withState Update.withValue
   returned places.Nowhere = tt
   returned (places.At f) =
       let fr = F .tables .tokens f in goes-on _ (going (fr .node) (was .value) (fr .binds) Idle.ready) refl
 
-  chokes : (c : Place) → acting .cell ≡ c → ((b : ℕ) → c ≡ places.At b → b < length (m .cells)) → Keeps (Step.chokeAt at p acting c)
-  unfolding After Step.chokeAt Step.afterChoke Step.withTables withOrders
+  chokes : (c : Place) → acting .cell ≡ c → ((b : ℕ) → c ≡ places.At b → b < length (m .cells)) → Keeps (Step.chokeAt at acting c)
+  unfolding After Step.chokeAt Step.afterChoke Update.withTables withOrders
   chokes places.Nowhere e i = tt
   chokes (places.At c) e i =
       record {
@@ -371,7 +373,7 @@ module _ (lim : Limits) (d : Dag) (m : Machine) (F : Facts lim d m) (some : 0 < 
         lastcell = F .lastcell;
         queue = readyOf (queueOf at ++ waitsOf at);
         waits = waitingOf (waitsOf at);
-        orders = orders-with _ _ (Step.withTables ts (set (m .cells) c k) at);
+        orders = orders-with _ _ (Update.withTables ts (set (m .cells) c k) at);
         lines =
             subst (λ q. Lines ts (readyOf (q ++ waitsOf at)) (waitingOf (waitsOf at))) (sym (queue-is begun))
             (subst (λ w. Lines ts (readyOf (queue ++ w)) (waitingOf w)) (sym (waits-are begun))
@@ -395,8 +397,8 @@ module _ (lim : Limits) (d : Dag) (m : Machine) (F : Facts lim d m) (some : 0 < 
   module _ (dag : dagHolds d ≡ true)
       (named : (x c : ℕ) → slotAt (acting .binds) x ≡ slots.Cell c → c < length (m .cells))
       (own : (c : ℕ) → acting .cell ≡ places.At c → c < length (m .cells))
-      (token : hasTokenPlace lim d m ≡ true → Vacant m (tokenPlace lim d m))
-      (cell : hasCellPlace lim d m ≡ true → cellPlace lim d m < length (m .cells)) where
+      (token : hasTokenPlace lim m ≡ true → Vacant m (tokenPlace m))
+      (cell : hasCellPlace lim m ≡ true → cellPlace m < length (m .cells)) where
     node-inside : (k : ℕ) → isNode d k ≡ true → k < length (d .nodes)
     unfolding isNode
     node-inside k e = ltb-lt k (length (d .nodes)) e
@@ -410,7 +412,7 @@ module _ (lim : Limits) (d : Dag) (m : Machine) (F : Facts lim d m) (some : 0 < 
     body e l = node-inside (bodyAt d e .root) (and-left _ _ (body-rules d e dag (ltb-lt e (length (d .bodies)) l)))
 
     pub acted : (N : Node) → nodeAt d (acting .node) ≡ N → nodeHolds d N ≡ true → Keeps (act lim d m at p acting N)
-    unfolding After act nodeHolds Step.withNode Step.withBinding withOrders
+    unfolding After act nodeHolds Update.withNode Update.withBinding withOrders
     acted Node.stop e k = ended
     acted Node.publish e k = ended
     acted (Node.fork l r) e k =

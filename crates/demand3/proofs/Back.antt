@@ -18,7 +18,8 @@ use Rattle.model.specs.Machine.Blank.{tokenAt}
 use Rattle.model.specs.Machine.Rules.{rulesHold}
 use Rattle.model.specs.Machine.Reply.{accepted, outcome, unless, reported, isRefused}
 use Rattle.model.specs.Machine.Step as Step
-use Rattle.model.specs.Machine.Step.{withOrders, queueOf, waitsOf, unset, look, takes}
+use Rattle.model.specs.Machine.Update.{withOrders, queueOf, waitsOf}
+use Rattle.model.specs.Machine.Step.{unset, look, takes}
 use Rattle.model.specs.Machine.Answer as Answer
 use Rattle.model.specs.Machine.Answer.{answered}
 use Rattle.calculus.specs.Event.{Event, Label, silently, showing}

@@ -19,8 +19,9 @@ use Rattle.model.specs.Machine.State.{isLive}
 use Rattle.model.specs.Machine.InUse.{tokensUsed, cellsUsed, sweep}
 use Rattle.model.specs.Machine.FreePlace.{nextPlace}
 use Rattle.model.specs.Machine.Rules.{rulesHold}
-use Rattle.model.specs.Machine.Step.{withNode, withBinding, withValue, inCell, withState, withTables, withOrders, withCounts}
-use Rattle.model.specs.Machine.Step.{put, enqueue, newToken, newCell, hasTokenPlace, hasCellPlace}
+use Rattle.model.specs.Machine.Update.{withNode, withBinding, withValue, inCell, withState, withTables, withOrders, withCounts}
+use Rattle.model.specs.Machine.Update.{put, enqueue, newToken, newCell}
+use Rattle.model.specs.Machine.Step.{hasTokenPlace, hasCellPlace}
 use Rattle.model.specs.Machine.Answer.{holder}
 use Rattle.model.specs.declared.token.Slot.{Slot}
 use Rattle.model.specs.declared.token.Slot.the-variants as slots
@@ -192,7 +193,7 @@ module _ (lim : Limits) (d : Dag) (m : Machine) (holds : rulesHold lim d m ≡ t
             go (no n) = ap (λ (b : Bind). b .slot) (getD-set-other (t .binds) x y (record { slot = s }) empty n) ∙ e
 
     -- with room for a token, at the place q
-    module _ (fits : Fitting lim) (room : hasTokenPlace lim d m ≡ true) (q : ℕ) (new : q ≡ nextPlace (tokensUsed m) (m .lasttoken)) where
+    module _ (fits : Fitting lim) (room : hasTokenPlace lim m ≡ true) (q : ℕ) (new : q ≡ nextPlace (tokensUsed m) (m .lasttoken)) where
       free : Free (tokensUsed m) q
       free = place-free lim d m holds place queued p token fits room q new
 
@@ -212,7 +213,7 @@ module _ (lim : Limits) (d : Dag) (m : Machine) (holds : rulesHold lim d m ≡ t
           new-carried clean q (call-inside lim d m rules p used q root ps next)
           (call-adds lim d m holds p live _ q (withNode next (withState states.Frame t)) (callee p t root ps) refl free refl refl refl refl refl refl refl)
 
-      pub split-carried : hasCellPlace lim d m ≡ true → (c : ℕ) → c ≡ nextPlace (cellsUsed m) (m .lastcell) → (x left right : ℕ)
+      pub split-carried : hasCellPlace lim m ≡ true → (c : ℕ) → c ≡ nextPlace (cellsUsed m) (m .lastcell) → (x left right : ℕ)
           → Carried
           (enqueue q
           (enqueue p

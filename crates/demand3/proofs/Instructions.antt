@@ -16,8 +16,9 @@ use Rattle.model.specs.Machine.State.{isLive}
 use Rattle.model.specs.Machine.InUse.{tokensUsed, cellsUsed}
 use Rattle.model.specs.Machine.FreePlace.{nextPlace}
 use Rattle.model.specs.Machine.Rules.{rulesHold}
-use Rattle.model.specs.Machine.Step.{withNode, withBinding, withValue, inCell, withState, withTables, withOrders, withCounts, queueOf, waitsOf}
-use Rattle.model.specs.Machine.Step.{put, enqueue, newToken, newCell, hasTokenPlace, hasCellPlace}
+use Rattle.model.specs.Machine.Update.{withNode, withBinding, withValue, inCell, withState, withTables, withOrders, withCounts, queueOf, waitsOf}
+use Rattle.model.specs.Machine.Update.{put, enqueue, newToken, newCell}
+use Rattle.model.specs.Machine.Step.{hasTokenPlace, hasCellPlace}
 use Rattle.model.specs.Machine.Answer.{holder}
 use Rattle.model.specs.declared.token.Slot.the-variants as slots
 use Rattle.model.specs.declared.token.Held.the-variants as helds
@@ -65,11 +66,11 @@ module _ (lim : Limits) (d : Dag) (m : Machine) (holds : rulesHold lim d m ≡ t
     replied-whole next v = same-links lim d m holds p acting-live _ (withNode next (withValue (helds.Value v) t)) refl refl acting-live refl refl refl
 
     -- with room for a token, at the place q
-    module _ (fits : Fitting lim) (room : hasTokenPlace lim d m ≡ true) (q : ℕ) (new : q ≡ nextPlace (tokensUsed m) (m .lasttoken)) where
+    module _ (fits : Fitting lim) (room : hasTokenPlace lim m ≡ true) (q : ℕ) (new : q ≡ nextPlace (tokensUsed m) (m .lasttoken)) where
       pub place-free : Free (tokensUsed m) q
       place-free = subst (Free (tokensUsed m)) (sym new) (free-token lim d m holds fits room)
 
-      pub cell-free : hasCellPlace lim d m ≡ true → (c : ℕ) → c ≡ nextPlace (cellsUsed m) (m .lastcell) → Free (cellsUsed m) c
+      pub cell-free : hasCellPlace lim m ≡ true → (c : ℕ) → c ≡ nextPlace (cellsUsed m) (m .lastcell) → Free (cellsUsed m) c
       cell-free below c cell = subst (Free (cellsUsed m)) (sym cell) (free-cell lim d m holds fits below)
 
       -- "left keeps the place, right is new"
@@ -87,7 +88,7 @@ module _ (lim : Limits) (d : Dag) (m : Machine) (holds : rulesHold lim d m ≡ t
           refl refl refl refl refl refl refl
 
       -- "left binds x to the new cell; right is new and belongs to it"
-      pub split-whole : hasCellPlace lim d m ≡ true → (c : ℕ) → c ≡ nextPlace (cellsUsed m) (m .lastcell) → (x left right : ℕ)
+      pub split-whole : hasCellPlace lim m ≡ true → (c : ℕ) → c ≡ nextPlace (cellsUsed m) (m .lastcell) → (x left right : ℕ)
           → Whole
           (enqueue q
           (enqueue p

@@ -15,7 +15,8 @@ use Rattle.model.specs.Machine.Blank.{tokenAt}
 use Rattle.model.specs.Machine.InUse.{marked, tokensUsed, cellsUsed}
 use Rattle.model.specs.Machine.Rules.{tokenInRange, cellInRange, sizesInRange, machineHolds, rulesHold}
 use Rattle.model.specs.Machine.Reply.{Effect, refuses, unless, outcome, isRefused}
-use Rattle.model.specs.Machine.Step.{LookUpResult, values, unset, withOrders, queueOf, waitsOf, callSite, hasTokenPlace, hasCellPlace, act, takes, step}
+use Rattle.model.specs.Machine.Update.{withOrders, queueOf, waitsOf}
+use Rattle.model.specs.Machine.Step.{LookUpResult, values, unset, callSite, hasTokenPlace, hasCellPlace, act, takes, step}
 use Rattle.model.specs.Machine.Answer.{holder, answered, answer}
 use Rattle.model.specs.declared.token.Token.{Token}
 use Rattle.model.specs.declared.record.Machine.{Machine}
@@ -51,10 +52,10 @@ unless-same m true b′ r e e′ f g ok = rw (f refl) (g ok)
 unless-same m false b′ r e e′ f g ok = clash refl ok
 
 module _ (lim : Limits) (t c : ℕ) (d : Dag) (m : Machine)
-    (token-too : hasTokenPlace lim d m ≡ true → hasTokenPlace (allowing lim t c) d m ≡ true)
-    (cell-too : hasCellPlace lim d m ≡ true → hasCellPlace (allowing lim t c) d m ≡ true) where
+    (token-too : hasTokenPlace lim m ≡ true → hasTokenPlace (allowing lim t c) m ≡ true)
+    (cell-too : hasCellPlace lim m ≡ true → hasCellPlace (allowing lim t c) m ≡ true) where
   same-site : (at : Machine) (p : ℕ) (u : Token) (s k : ℕ) (l : LookUpResult)
-      → callSite (allowing lim t c) d at p u s k l ≡ callSite lim d at p u s k l
+      → callSite (allowing lim t c) at p u s k l ≡ callSite lim at p u s k l
   unfolding callSite
   same-site at p u s k (values vs) = refl
   same-site at p u s k (unset b) = refl

@@ -78,7 +78,7 @@ module _ (lim : Limits) (d : Dag) (before m : Machine) (p : ℕ) (t : Token) whe
   replied-not k (gives v) = tt
   replied-not k silent = tt
 
-  site-not : (s k : ℕ) (l : LookUpResult) → NotRule (Step.callSite lim d m p t s k l)
+  site-not : (s k : ℕ) (l : LookUpResult) → NotRule (Step.callSite lim m p t s k l)
   unfolding NotRule Step.callSite Step.waited Step.calledOut
   site-not s k (unset c) = tt
   site-not s k (values vs) = go (isBuiltin s)
@@ -97,7 +97,7 @@ module _ (lim : Limits) (d : Dag) (before m : Machine) (p : ℕ) (t : Token) whe
   return-not ts places.Nowhere e = clash e refl
   return-not ts (places.At f) e = tt
 
-  choke-not : (c : Place) → isPlace c ≡ true → NotRule (Step.chokeAt m p t c)
+  choke-not : (c : Place) → isPlace c ≡ true → NotRule (Step.chokeAt m t c)
   unfolding NotRule isPlace Step.chokeAt
   choke-not places.Nowhere e = clash e refl
   choke-not (places.At c) e = tt

@@ -19,9 +19,11 @@ use Rattle.model.specs.Machine.InUse.{tokensUsed, cellsUsed, sweep}
 use Rattle.model.specs.Machine.Rules.{heldInRange, placeInRange, rulesHold}
 use Rattle.model.specs.Machine.Reply.{Effect, moves, waits, publishes, calls, refuses, isRefused}
 use Rattle.model.specs.Machine.Start.{startToken, startMachine}
+use Rattle.model.specs.Machine.Update as Update
 use Rattle.model.specs.Machine.Step as Step
-use Rattle.model.specs.Machine.Step.{withOrders, queueOf, waitsOf, put, enqueue, withState}
-use Rattle.model.specs.Machine.Step.{withValue, hasTokenPlace, hasCellPlace, tokenPlace, cellPlace, takes}
+use Rattle.model.specs.Machine.Update.{withOrders, queueOf, waitsOf, put, enqueue, withState}
+use Rattle.model.specs.Machine.Update.{withValue}
+use Rattle.model.specs.Machine.Step.{hasTokenPlace, hasCellPlace, tokenPlace, cellPlace, takes}
 use Rattle.model.specs.Machine.Answer as Answer
 use Rattle.model.specs.Machine.Answer.{holder, answered}
 use Rattle.calculus.specs.Event.{Event, Label}
@@ -184,14 +186,14 @@ module _ (lim : Limits) (d : Dag) (M : Labels) (room : Roomy lim) (flow : Flow d
         live : LiveUsed m
         live = sees-live (r .view)
 
-        token : hasTokenPlace lim d m ≡ true → Vacant m (tokenPlace lim d m)
+        token : hasTokenPlace lim m ≡ true → Vacant m (tokenPlace m)
         token e =
             let free = free-token lim d m rules (fitting room) e in
             let l = free-inside (tokensUsed m) _ free in
             let z = tokens-used (m .tokens) (m .cells) .size in
             record { inside = omega arith; dead = false-of _ (λ x. clash (live _ x) free) }
 
-        cell : hasCellPlace lim d m ≡ true → cellPlace lim d m < length (m .cells)
+        cell : hasCellPlace lim m ≡ true → cellPlace m < length (m .cells)
         cell e =
             let l = free-inside (cellsUsed m) _ (free-cell lim d m rules (fitting room) e) in
             let z = cells-used (tokensUsed m) (m .tokens) (m .cells) (tokens-used (m .tokens) (m .cells) .size) .size in
@@ -213,7 +215,7 @@ module _ (lim : Limits) (d : Dag) (M : Labels) (room : Roomy lim) (flow : Flow d
     -- what an answer leaves, before blanking
     answered-facts : (m : Machine) → Facts lim d m → (v : ℤ) → Signed32 v → (p h : ℕ) → tokenAt (m .tokens) p .state ≡ states.Called h
         → Facts lim d (enqueue p (put p (withState states.Ready (withValue (helds.Value v) (tokenAt (m .tokens) p))) m))
-    unfolding enqueue put Step.withTables withOrders withState withValue isLive isReady isWaiting heldInRange
+    unfolding enqueue put Update.withTables withOrders withState withValue isLive isReady isWaiting heldInRange
     answered-facts m F v fits p h e =
         record {
           tokenPlaces = length-set (m .tokens) p u ∙ F .tokenPlaces;

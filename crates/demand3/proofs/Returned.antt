@@ -15,7 +15,7 @@ use Rattle.model.specs.Machine.Active.{underSet, isActive}
 use Rattle.model.specs.Machine.State.{isLive}
 use Rattle.model.specs.Machine.InUse.{tokensUsed, cellsUsed, restBlanked, sweep}
 use Rattle.model.specs.Machine.Rules.{rulesHold}
-use Rattle.model.specs.Machine.Step.{put, withTables}
+use Rattle.model.specs.Machine.Update.{put, withTables}
 use Rattle.model.specs.declared.token.Slot.the-variants as slots
 use Rattle.model.specs.declared.token.Place.{Place}
 use Rattle.model.specs.declared.token.Place.the-variants as places

@@ -28,8 +28,8 @@ use Rattle.model.proofs.Sees.View.{World, Nested, hasCaller, cellsOfCaller, Cel
 use Rattle.model.proofs.Sees.Agrees.{Acting}
 
 pub record Room (lim : Limits) (d : Dag) (m : Machine) : Type 0 where
-  pub tokens : hasTokenPlace lim d m ≡ true
-  pub cells : hasCellPlace lim d m ≡ true
+  pub tokens : hasTokenPlace lim m ≡ true
+  pub cells : hasCellPlace lim m ≡ true
   pub calls : m .calls < lim .calls
 
 abbrev pub Accepted : Machine → Effect → Type 0
@@ -63,7 +63,7 @@ module _ (lim : Limits) (d : Dag) (before m : Machine) (room : Room lim d before
   replied-accepted k (gives v) = refl
   replied-accepted k silent = refl
 
-  site-accepted : (s k : ℕ) (l : LookUpResult) → Accepted before (callSite lim d m p t s k l)
+  site-accepted : (s k : ℕ) (l : LookUpResult) → Accepted before (callSite lim m p t s k l)
   unfolding callSite waited calledOut outcome accepted isRefused
   site-accepted s k (unset c) = refl
   site-accepted s k (values vs) = go (isBuiltin s)
@@ -78,7 +78,7 @@ module _ (lim : Limits) (d : Dag) (before m : Machine) (room : Room lim d before
           accepted-unless before (ltb (m .calls) (lim .calls)) refusals.CallLimit (calledOut m p t s vs k)
           (lt-ltb (m .calls) (lim .calls) (let z : before .calls < lim .calls = room .calls in omega arith)) refl
 
-  chokes-accepted : (q : Place) → (c : ℕ) × (q ≡ places.At c) → Accepted before (chokeAt m p t q)
+  chokes-accepted : (q : Place) → (c : ℕ) × (q ≡ places.At c) → Accepted before (chokeAt m t q)
   unfolding chokeAt outcome accepted isRefused
   chokes-accepted places.Nowhere x = let e = x .1 in let z : _≡_ {A = ℕ} 0 1 = cc in absurd (omega arith)
   chokes-accepted (places.At c) x = refl

@@ -266,16 +266,16 @@ module _ (lim : Limits) (d : Dag) (M : Labels) (flow : Flow d M) (dag : dagHolds
   unfolding tokenInRange isNode slotInRange heldInRange placeInRange stateInRange all _and_
   blank-range = rw (lt-ltb 0 (length (d .nodes)) some) refl
 
-  cell-range : (c : ℕ) → Named M W c → cellInRange lim d (cellAt (m .cells) c) ≡ true
+  cell-range : (c : ℕ) → Named M W c → cellInRange lim (cellAt (m .cells) c) ≡ true
   unfolding cellInRange
   cell-range c (named (below s v)) =
       and-both (subst (λ n. placeInRange n (cellAt (m .cells) c .parent) ≡ true) (X .cellPlaces) (cells-range v)) (X .tables .cells c)
 
-  blank-cell-range : cellInRange lim d blankCell ≡ true
+  blank-cell-range : cellInRange lim blankCell ≡ true
   unfolding cellInRange placeInRange heldInRange _and_
   blank-cell-range = refl
 
-  sizes : sizesInRange lim d m ≡ true
+  sizes : sizesInRange lim m ≡ true
   unfolding sizesInRange
   sizes =
       and-both (eq-eqb _ _ (X .tokenPlaces))
@@ -351,7 +351,7 @@ module _ (lim : Limits) (d : Dag) (M : Labels) (flow : Flow d M) (dag : dagHolds
       and-both dag
       (and-both sizes
       (and-both (each-token (tokenInRange lim d (m .calls)) blank-range token-range)
-      (and-both (each-cell (cellInRange lim d) blank-cell-range cell-range)
+      (and-both (each-cell (cellInRange lim) blank-cell-range cell-range)
       (and-both (queue-names (X .orders) (X .lines))
       (and-both (each-cell (λ (c : Cell). chainEnds (m .cells) (length (m .cells)) (c .parent)) blank-chain chain)
       (and-both (all-from (notUnderSet (m .cells)) (m .tokens) blankToken (λ p l. not-under p))

@@ -18,7 +18,7 @@ use Rattle.model.specs.Machine.Blank.{tokenIsBlank, cellIsBlank}
 use Rattle.model.specs.Machine.Active.{isSet, underSet, isActive}
 use Rattle.model.specs.Machine.InUse.{tokensUsed, cellsUsed, sweep}
 use Rattle.model.specs.Machine.Rules.{tokenInRange, restIsBlank, rulesHold}
-use Rattle.model.specs.Machine.Step.{withTables}
+use Rattle.model.specs.Machine.Update.{withTables}
 use Rattle.model.specs.declared.token.Slot.{Slot}
 use Rattle.model.specs.declared.token.Slot.the-variants as slots
 use Rattle.model.specs.declared.token.Bind.{Bind}

@@ -6,6 +6,7 @@ pub mod Active
 pub mod InUse
 pub mod FreePlace
 pub mod Rules
+pub mod Update
 pub mod Reply
 pub mod Start
 pub mod Step

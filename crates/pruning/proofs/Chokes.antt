@@ -12,7 +12,8 @@ use Rattle.job.specs.Test.{filter, padded}
 use Rattle.model.specs.Machine.Blank.{blankToken, blankCell, tokenAt, cellAt}
 use Rattle.model.specs.Machine.Active.{upward, within}
 use Rattle.model.specs.Machine.State.{isReady, isWaiting, waitsAt}
-use Rattle.model.specs.Machine.Step.{withState, chokeToken, afterChoke, withTables, withOrders, queueOf, waitsOf, put, enqueue}
+use Rattle.model.specs.Machine.Update.{withState, withTables, withOrders, queueOf, waitsOf, put, enqueue}
+use Rattle.model.specs.Machine.Step.{chokeToken, afterChoke}
 use Rattle.model.specs.declared.token.Held.{Held}
 use Rattle.model.specs.declared.token.Place.{Place}
 use Rattle.model.specs.declared.token.Place.the-variants as places

@@ -5,7 +5,8 @@ use lib.ListN.{take, drop}
 use Rattle.job.specs.Test.{filter}
 use Rattle.model.specs.Machine.Blank.{tokenAt}
 use Rattle.model.specs.Machine.State.{isReady, isWaiting}
-use Rattle.model.specs.Machine.Step.{withTables, withOrders, queueOf, waitsOf, chokeToken}
+use Rattle.model.specs.Machine.Update.{withTables, withOrders, queueOf, waitsOf}
+use Rattle.model.specs.Machine.Step.{chokeToken}
 use Rattle.model.specs.declared.record.Machine.{Machine}
 
 -- the record after the first p rows

@@ -10,7 +10,7 @@ use Rattle.model.specs.Machine.Active.{isActive}
 use Rattle.model.specs.Machine.Blank.{blankToken, blankCell, tokenAt, cellAt}
 use Rattle.model.specs.Machine.InUse.{markChain, markFromEach, cellsOf, tokensUsed, usedCells, marked, restBlanked}
 use Rattle.model.specs.Machine.FreePlace.{nextPlace}
-use Rattle.model.specs.Machine.Step.{put, withTables}
+use Rattle.model.specs.Machine.Update.{put, withTables}
 use Rattle.model.specs.declared.cell.Cell.{Cell}
 use Rattle.model.specs.declared.record.Machine.{Machine}
 use Rattle.model.specs.declared.token.Place.{Place}

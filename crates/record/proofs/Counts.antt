@@ -3,7 +3,7 @@ use mathlib.Core.Path.{_≡_, ap, _∙_}
 use mathlib.Core.List.{List}
 use Prim.Native.Nat.{ℕ, _+_, _-_}
 use lib.ListN.{length, getD, set}
-use Rattle.model.specs.Machine.Step.{withCounts}
+use Rattle.model.specs.Machine.Update.{withCounts}
 use Rattle.model.specs.declared.record.Machine.{Machine}
 use Rattle.record.specs.Words.{wordsOf, countWords, parts}
 use Rattle.record.specs.Holds.{Codes, Holds}

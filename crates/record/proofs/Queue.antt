@@ -7,7 +7,7 @@ use native.Mathlib.Omega.{arith}
 use lib.ListN.{length, getD, set, take, drop, replicate, length-append}
 use lib.Seq.{drop-append-seam}
 use Rattle.job.specs.Test.{padded, without}
-use Rattle.model.specs.Machine.Step.{withOrders, queueOf, waitsOf, enqueue}
+use Rattle.model.specs.Machine.Update.{withOrders, queueOf, waitsOf, enqueue}
 use Rattle.model.specs.declared.record.Machine.{Machine}
 use Rattle.record.specs.Fields.{dequeued, delayed}
 use Rattle.record.specs.Words.{wordsOf, countWords, parts}

@@ -13,7 +13,7 @@ use Rattle.job.specs.Node.{Dag}
 use Rattle.model.specs.Machine.Limits.{Limits}
 use Rattle.model.specs.Machine.Rules.{namesOnce, rulesHold}
 use Rattle.model.specs.Machine.State.{isReady, isWaiting}
-use Rattle.model.specs.Machine.Step.{queueOf, waitsOf}
+use Rattle.model.specs.Machine.Update.{queueOf, waitsOf}
 use Rattle.model.specs.declared.token.State.{State}
 use Rattle.model.specs.declared.token.Token.{Token}
 use Rattle.model.specs.declared.record.Machine.{Machine}

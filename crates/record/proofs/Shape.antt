@@ -8,7 +8,7 @@ use lib.ListN.{length, getD, set, replicate, length-append}
 use lib.Seq.{getD-set-same, getD-set-other}
 use Rattle.job.specs.Test.{padded}
 use Rattle.model.specs.Machine.Blank.{blankToken, tokenAt}
-use Rattle.model.specs.Machine.Step.{withTables, withCounts, withOrders, queueOf, waitsOf}
+use Rattle.model.specs.Machine.Update.{withTables, withCounts, withOrders, queueOf, waitsOf}
 use Rattle.model.specs.declared.token.Token.{Token}
 use Rattle.model.specs.declared.cell.Cell.{Cell}
 use Rattle.model.specs.declared.record.Machine.{Machine}

@@ -6,7 +6,7 @@ use native.Mathlib.Omega.{arith}
 use lib.ListN.{length, getD, set, length-set}
 use lib.Seq.{paste, getD-set-same, set-set, set-getD}
 use Rattle.model.specs.Machine.Blank.{blankToken, tokenAt, slotAt}
-use Rattle.model.specs.Machine.Step.{put, withNode, withState, withValue, withBinding, withTables}
+use Rattle.model.specs.Machine.Update.{put, withNode, withState, withValue, withBinding, withTables}
 use Rattle.model.specs.declared.token.Slot.{Slot}
 use Rattle.model.specs.declared.token.Bind.{Bind}
 use Rattle.model.specs.declared.token.Held.{Held}

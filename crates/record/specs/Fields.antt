@@ -3,7 +3,7 @@ use mathlib.Core.List.{List, [], _∷_, _++_}
 use Prim.Native.Nat.{ℕ}
 use lib.ListN.{set}
 use Rattle.job.specs.Test.{without}
-use Rattle.model.specs.Machine.Step.{withTables, withOrders, queueOf, waitsOf}
+use Rattle.model.specs.Machine.Update.{withTables, withOrders, queueOf, waitsOf}
 use Rattle.model.specs.declared.token.Bind.{Bind}
 use Rattle.model.specs.declared.token.Held.{Held}
 use Rattle.model.specs.declared.token.Held.the-variants as helds

@@ -5,7 +5,7 @@ use Prim.Native.Nat.{ℕ}
 use lib.ListN.{length}
 use Rattle.job.specs.Test.{padded}
 use Rattle.model.specs.Machine.Blank.{tokenAt}
-use Rattle.model.specs.Machine.Step.{queueOf, waitsOf}
+use Rattle.model.specs.Machine.Update.{queueOf, waitsOf}
 use Rattle.model.specs.declared.record.Machine.{Machine}
 use Rattle.record.specs.Words.{wordsOf}
 

@@ -1,6 +1,6 @@
 // The counts of a record: outside calls made, and the places last given to a token and to a cell.
 ghost use mathlib.Core.Path.{_≡_};
-ghost use Rattle.model.specs.Machine.Step.{withCounts};
+ghost use Rattle.model.specs.Machine.Update.{withCounts};
 ghost use Rattle.model.specs.declared.record.Machine.{Machine};
 ghost use Rattle.record.specs.Holds.{Codes, Holds};
 use crate::layout::CALL_COUNT;

@@ -4,7 +4,7 @@ ghost use mathlib.Core.Bool.{false};
 ghost use Prim.Native.Nat.{ℕ, _<_, _-_};
 ghost use lib.ListN.{length, getD};
 ghost use Rattle.job.specs.Test.{filter};
-ghost use Rattle.model.specs.Machine.Step.{enqueue, withOrders, queueOf, waitsOf};
+ghost use Rattle.model.specs.Machine.Update.{enqueue, withOrders, queueOf, waitsOf};
 ghost use Rattle.model.specs.declared.record.Machine.{Machine};
 ghost use Rattle.record.specs.Holds.{Codes, Holds};
 ghost use Rattle.record.specs.Fields.{dequeued, delayed};

@@ -3,7 +3,7 @@ ghost use mathlib.Core.Path.{_≡_};
 ghost use Prim.Native.Nat.{_<_};
 ghost use lib.ListN.{length};
 ghost use Rattle.model.specs.Machine.Blank.{blankToken, tokenAt, slotAt};
-ghost use Rattle.model.specs.Machine.Step.{put, withNode, withState, withValue, withBinding};
+ghost use Rattle.model.specs.Machine.Update.{put, withNode, withState, withValue, withBinding};
 ghost use Rattle.model.specs.declared.record.Machine.{Machine};
 ghost use Rattle.model.specs.declared.token.Held.{Held};
 ghost use Rattle.model.specs.declared.token.Place.{Place};

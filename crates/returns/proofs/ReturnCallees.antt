@@ -15,7 +15,7 @@ use Rattle.model.specs.Machine.Limits.{paper}
 use Rattle.model.specs.Machine.Reply.{accepted}
 use Rattle.model.specs.Machine.State.{isLive}
 use Rattle.model.specs.Machine.Step as Step
-use Rattle.model.specs.Machine.Step.{put, withTables, withOrders, withValue, withState, enqueue}
+use Rattle.model.specs.Machine.Update.{put, withTables, withOrders, withValue, withState, enqueue}
 use Rattle.model.specs.declared.record.Machine.{Machine}
 use Rattle.model.specs.declared.reply.Outcome.{Outcome}
 use Rattle.model.specs.declared.token.Place.the-variants as places

@@ -12,7 +12,7 @@ use Rattle.model.specs.Machine.Blank.{tokenAt}
 use Rattle.model.specs.Machine.InUse.{tokensUsed, cellsUsed, sweep}
 use Rattle.model.specs.Machine.Limits.{paper}
 use Rattle.model.specs.Machine.Rules.{namesFrame, nodeRule}
-use Rattle.model.specs.Machine.Step.{withTables, withOrders, withValue, withState, put, enqueue}
+use Rattle.model.specs.Machine.Update.{withTables, withOrders, withValue, withState, put, enqueue}
 use Rattle.model.specs.declared.record.Machine.{Machine}
 use Rattle.model.specs.declared.token.Place.the-variants as places
 use Rattle.model.specs.declared.token.State.{State}

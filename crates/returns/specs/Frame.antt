@@ -5,7 +5,7 @@ use mathlib.Core.List.{List}
 use Prim.Native.Nat.{ℕ}
 use lib.ListN.{set}
 use Rattle.model.specs.Machine.Blank.{blankToken, tokenAt}
-use Rattle.model.specs.Machine.Step.{put}
+use Rattle.model.specs.Machine.Update.{put}
 use Rattle.model.specs.declared.record.Machine.{Machine}
 use Rattle.record.specs.Holds.{Holds}
 use Rattle.acts.specs.SharedFrames.{NamesAsCaller}

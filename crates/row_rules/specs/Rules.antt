@@ -22,7 +22,7 @@ tokenRule d m t =
 
 -- in range, with a parent chain that ends
 abbrev pub cellRule : Dag → List Cell → Cell → Bool
-cellRule d cs c = cellInRange paper d c and chainEnds cs 32 (c .parent)
+cellRule d cs c = cellInRange paper c and chainEnds cs 32 (c .parent)
 
 -- "at a call no empty variable", at the two words of one parameter
 abbrev pub pairBound : List Bind → Bool → (kind word : ℕ) → Bool

@@ -116,6 +116,6 @@ module _ (d : Dag) (cs : List Cell) (c : Cell) where
       (and-both (place-blank 32 (c .parent) none) (held-blank (c .value) (and-right (not (isPlace (c .parent))) _ e)))
       (ends-none cs 32 (c .parent) none)
 
-  pub cell-in : heldInRange (c .value) ≡ true → placeInRange 32 (c .parent) ≡ cellInRange paper d c
+  pub cell-in : heldInRange (c .value) ≡ true → placeInRange 32 (c .parent) ≡ cellInRange paper c
   unfolding cellInRange
   cell-in e = sym (ap (_and_ (placeInRange 32 (c .parent))) e ∙ and-true _)

@@ -61,13 +61,13 @@ module _ (d : Dag) (m : Machine) where
       (all-both (notUnderSet (m .cells)) (λ (t : Token). waitsAtUnset (m .cells) (t .state)) (m .tokens)))
 
   module _ (tokens : length (m .tokens) ≡ 64) (cells : length (m .cells) ≡ 32) where
-    cell-rules : all (cellRule d (m .cells)) (m .cells) ≡ (all (cellInRange paper d) (m .cells) and chainsEnd (m .cells))
+    cell-rules : all (cellRule d (m .cells)) (m .cells) ≡ (all (cellInRange paper) (m .cells) and chainsEnd (m .cells))
     unfolding chainsEnd
     cell-rules =
-        all-both (cellInRange paper d) (λ (c : Cell). chainEnds (m .cells) 32 (c .parent)) (m .cells)
-        ∙ ap (λ n. all (cellInRange paper d) (m .cells) and all (λ (c : Cell). chainEnds (m .cells) n (c .parent)) (m .cells)) (sym cells)
+        all-both (cellInRange paper) (λ (c : Cell). chainEnds (m .cells) 32 (c .parent)) (m .cells)
+        ∙ ap (λ n. all (cellInRange paper) (m .cells) and all (λ (c : Cell). chainEnds (m .cells) n (c .parent)) (m .cells)) (sym cells)
 
-    sizes-parts : sizesInRange paper d m ≡ (leb (m .calls) 1000000 and ltb (m .lasttoken) 64 and ltb (m .lastcell) 32)
+    sizes-parts : sizesInRange paper m ≡ (leb (m .calls) 1000000 and ltb (m .lasttoken) 64 and ltb (m .lastcell) 32)
     unfolding sizesInRange _and_
     sizes-parts = rw (tokens, cells)
 

@@ -133,5 +133,5 @@ module _ (d : Dag) (m : Machine) (k : rulesHold paper d m ≡ true) where
       let a = and-right (eqb (length (t .binds)) 8) _ (and-right (isNode d (t .node)) _ (token-range p l)) in
       record {
         slots = and-left _ _ a;
-        cells = all-implied (cellInRange paper d) (λ (c : Cell). rules.heldInRange (c .value)) (λ c e. and-right (rules.placeInRange 32 (c .parent)) _ e) (m .cells) (holds .cells);
+        cells = all-implied (cellInRange paper) (λ (c : Cell). rules.heldInRange (c .value)) (λ c e. and-right (rules.placeInRange 32 (c .parent)) _ e) (m .cells) (holds .cells);
       }

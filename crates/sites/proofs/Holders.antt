@@ -18,7 +18,7 @@ use Rattle.model.specs.Machine.Blank.{blankToken, tokenAt, isPlace}
 use Rattle.model.specs.Machine.Rules.{rulesHold}
 use Rattle.model.specs.Machine.State.{isReady, handleOf}
 use Rattle.model.specs.Machine.Reply.{refuses, moves}
-use Rattle.model.specs.Machine.Step.{withValue, withState, put, enqueue}
+use Rattle.model.specs.Machine.Update.{withValue, withState, put, enqueue}
 use Rattle.model.specs.Machine.Answer.{holder, answered}
 use Rattle.model.specs.declared.token.Held.the-variants as helds
 use Rattle.model.specs.declared.token.Place.{Place}

@@ -11,7 +11,7 @@ use Rattle.model.specs.Machine.Answer.{holder}
 use Rattle.model.specs.Machine.Blank.{isPlace, tokenAt}
 use Rattle.model.specs.Machine.Limits.{paper}
 use Rattle.model.specs.Machine.Rules.{rulesHold}
-use Rattle.model.specs.Machine.Step.{withValue, withState, put, enqueue}
+use Rattle.model.specs.Machine.Update.{withValue, withState, put, enqueue}
 use Rattle.model.specs.declared.token.Held.the-variants as helds
 use Rattle.model.specs.declared.token.Place.{Place}
 use Rattle.model.specs.declared.token.Place.the-variants as places

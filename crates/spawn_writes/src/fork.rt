@@ -4,7 +4,7 @@ ghost use Rattle.model.specs.Machine.Blank.{tokenAt};
 ghost use Rattle.model.specs.declared.record.Machine.{Machine};
 ghost use Rattle.record.specs.Fields.{dequeued};
 ghost use Rattle.record.specs.Holds.{Holds};
-ghost use Rattle.model.specs.Machine.Step.{withNode, put, enqueue, newToken};
+ghost use Rattle.model.specs.Machine.Update.{withNode, put, enqueue, newToken};
 use model::record::Machine;
 use record::count::set_last_token;
 use record::order::join;

@@ -5,7 +5,7 @@ ghost use Rattle.model.specs.Machine.Blank.{tokenAt};
 ghost use Rattle.model.specs.declared.record.Machine.{Machine};
 ghost use Rattle.record.specs.Fields.{dequeued};
 ghost use Rattle.record.specs.Holds.{Holds};
-ghost use Rattle.model.specs.Machine.Step.{withNode, withBinding, inCell, put, enqueue, newToken, newCell};
+ghost use Rattle.model.specs.Machine.Update.{withNode, withBinding, inCell, put, enqueue, newToken, newCell};
 ghost use Rattle.model.specs.declared.token.Slot.the-variants as slots;
 ghost use Rattle.record.specs.Fields.{unsetCell};
 use model::record::Machine;

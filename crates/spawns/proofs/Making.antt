@@ -14,7 +14,8 @@ use Rattle.model.specs.Machine.FreePlace.{nextPlace}
 use Rattle.model.specs.Machine.Reply.{accepted}
 use Rattle.model.specs.Machine.State.{isReady}
 use Rattle.model.specs.Machine.Step as Step
-use Rattle.model.specs.Machine.Step.{withNode, withState, withBinding, inCell, put, enqueue, newToken, newCell, hasTokenPlace}
+use Rattle.model.specs.Machine.Update.{withNode, withState, withBinding, inCell, put, enqueue, newToken, newCell}
+use Rattle.model.specs.Machine.Step.{hasTokenPlace}
 use Rattle.model.specs.declared.record.Machine.{Machine}
 use Rattle.model.specs.declared.reply.Outcome.{Outcome}
 use Rattle.model.specs.declared.reply.Report.{Report}
@@ -46,7 +47,7 @@ gives-made o r e f h k =
 
 module _ {ws dag : List ℕ} {used cells : List Bool} {place p : ℕ} {m : Machine} (a : Taking ws used cells dag place p m) {new last : ℕ}
     (next : new ≡ nextOr 64 used last) (given : last ≡ m .lasttoken) (inside : new < 64) where
-  room : (hasTokenPlace paper (dagOf dag) m ≡ true) × (new ≡ nextPlace (tokensUsed m) (m .lasttoken))
+  room : (hasTokenPlace paper m ≡ true) × (new ≡ nextPlace (tokensUsed m) (m .lasttoken))
   room = token-room (a .lawful) next given inside
 
   free : Free (tokensUsed m) new

@@ -11,7 +11,7 @@ use lib.ListN.{length, getD, set, take, drop, drop-of-length-le}
 use lib.Seq.{take-suc, take-all, drop-cons, append-snoc, set-at, getD-at, length-take-le}
 use Rattle.model.specs.Machine.Blank.{blankToken, blankCell, tokenAt, cellAt}
 use Rattle.model.specs.Machine.InUse.{restBlanked, sweep, reached, cellsOf, cellsOfMarked, usedCells, tokensUsed, cellsUsed}
-use Rattle.model.specs.Machine.Step.{put, withTables}
+use Rattle.model.specs.Machine.Update.{put, withTables}
 use Rattle.model.specs.declared.cell.Cell.{Cell}
 use Rattle.model.specs.declared.record.Machine.{Machine}
 use Rattle.model.specs.declared.token.Token.{Token}

@@ -5,7 +5,7 @@ ghost use Prim.Native.Nat.{_<_, _≤_};
 ghost use lib.ListN.{length};
 ghost use Rattle.model.specs.Machine.Blank.{blankToken, blankCell, tokenAt, cellAt};
 ghost use Rattle.model.specs.Machine.InUse.{tokensUsed, cellsUsed, usedCells, restBlanked, sweep};
-ghost use Rattle.model.specs.Machine.Step.{withTables};
+ghost use Rattle.model.specs.Machine.Update.{withTables};
 ghost use Rattle.model.specs.declared.record.Machine.{Machine};
 ghost use Rattle.record.specs.Holds.{Holds};
 ghost use Rattle.reach.specs.Marks.{Vacant, FreeTokens, FreeCells, UnmarkedFrom, BlankFrom, sweptToken, sweptCell, tokensSwept, cellsSwept};

@@ -17,7 +17,7 @@ use Rattle.model.specs.Machine.Limits.{paper}
 use Rattle.model.specs.Machine.Reply.{outcome, unless}
 use Rattle.model.specs.Machine.Start.{startToken, startMachine}
 use Rattle.model.specs.Machine.State.{isLive}
-use Rattle.model.specs.Machine.Step.{queueOf, waitsOf}
+use Rattle.model.specs.Machine.Update.{queueOf, waitsOf}
 use Rattle.model.specs.declared.record.Machine.{Machine}
 use Rattle.model.specs.declared.reply.Outcome.{Outcome}
 use Rattle.model.specs.declared.reply.Report.{Report}

@@ -7,7 +7,7 @@ use native.Mathlib.Omega.{arith}
 use lib.ListN.{length, length-append, length-set}
 use lib.Seq.{set-comm}
 use Rattle.model.specs.Machine.Blank.{tokenAt}
-use Rattle.model.specs.Machine.Step.{put, withBinding, withTables, withCounts, withOrders, queueOf, enqueue}
+use Rattle.model.specs.Machine.Update.{put, withBinding, withTables, withCounts, withOrders, queueOf, enqueue}
 use Rattle.model.specs.declared.token.Token.{Token}
 use Rattle.model.specs.declared.record.Machine.{Machine}
 use Rattle.model.proofs.Sees.Others.{token-same, token-other}

@@ -4,7 +4,7 @@ ghost use Rattle.model.specs.declared.record.Machine.{Machine};
 ghost use Rattle.record.specs.Fields.{dequeued};
 ghost use Rattle.record.specs.Holds.{Holds};
 ghost use Rattle.model.specs.Machine.Blank.{blankToken};
-ghost use Rattle.model.specs.Machine.Step.{put};
+ghost use Rattle.model.specs.Machine.Update.{put};
 use model::record::Machine;
 use record::order::leave;
 use record::token::blank;

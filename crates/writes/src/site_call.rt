@@ -3,7 +3,7 @@
 ghost use mathlib.Core.Path.{_≡_};
 ghost use Prim.Native.Nat.{_<_, _+_, suc};
 ghost use Rattle.model.specs.Machine.Blank.{tokenAt};
-ghost use Rattle.model.specs.Machine.Step.{withNode, withState, withValue, put, enqueue, withCounts};
+ghost use Rattle.model.specs.Machine.Update.{withNode, withState, withValue, put, enqueue, withCounts};
 ghost use Rattle.model.specs.declared.record.Machine.{Machine};
 ghost use Rattle.model.specs.declared.token.Held.{Held};
 ghost use Rattle.model.specs.declared.token.State.the-variants as states;

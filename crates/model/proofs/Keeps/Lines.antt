@@ -15,7 +15,8 @@ use Rattle.model.specs.Machine.Active.{within}
 use Rattle.model.specs.Machine.InUse.{marked}
 use Rattle.model.specs.Machine.Rules.{namesOnce}
 use Rattle.model.specs.Machine.State.{isReady, isWaiting, waitsAt}
-use Rattle.model.specs.Machine.Step.{withState, chokeToken}
+use Rattle.model.specs.Machine.Update.{withState}
+use Rattle.model.specs.Machine.Step.{chokeToken}
 use Rattle.model.specs.declared.token.State.{State}
 use Rattle.model.specs.declared.token.State.the-variants as states
 use Rattle.model.specs.declared.token.Token.{Token}

@@ -19,7 +19,8 @@ use Rattle.model.specs.Machine.Blank.{empty, unbound, blankToken, blankC
 use Rattle.model.specs.Machine.Active.{within}
 use Rattle.model.specs.Machine.InUse.{restBlanked}
 use Rattle.model.specs.Machine.Rules.{heldInRange}
-use Rattle.model.specs.Machine.Step.{withState, passed, formalsBound, chokeToken}
+use Rattle.model.specs.Machine.Update.{withState}
+use Rattle.model.specs.Machine.Step.{passed, formalsBound, chokeToken}
 use Rattle.model.specs.Machine.State.{waitsAt}
 use Rattle.model.specs.declared.token.Slot.{Slot}
 use Rattle.model.specs.declared.token.Slot.the-variants as slots

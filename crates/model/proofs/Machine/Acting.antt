@@ -9,7 +9,8 @@ use Rattle.job.specs.Syntax.{Param}
 use Rattle.job.specs.Node.{Dag}
 use Rattle.model.specs.Machine.Limits.{Limits}
 use Rattle.model.specs.Machine.Blank.{tokenAt}
-use Rattle.model.specs.Machine.Step.{withNode, withBinding, inCell, withState, formalsBound}
+use Rattle.model.specs.Machine.Update.{withNode, withBinding, inCell, withState}
+use Rattle.model.specs.Machine.Step.{formalsBound}
 use Rattle.model.specs.declared.token.Slot.the-variants as slots
 use Rattle.model.specs.declared.token.Held.the-variants as helds
 use Rattle.model.specs.declared.token.Place.the-variants as places

@@ -13,8 +13,10 @@ use Rattle.model.specs.Machine.Limits.{Limits}
 use Rattle.model.specs.Machine.Blank.{blankToken, tokenAt}
 use Rattle.model.specs.Machine.InUse.{sweep}
 use Rattle.model.specs.Machine.Reply.{Effect, unless}
+use Rattle.model.specs.Machine.Update as Update
 use Rattle.model.specs.Machine.Step as Step
-use Rattle.model.specs.Machine.Step.{LookUpResult, values, unset, hasTokenPlace, hasCellPlace, withOrders, chokeToken, act}
+use Rattle.model.specs.Machine.Update.{withOrders}
+use Rattle.model.specs.Machine.Step.{LookUpResult, values, unset, hasTokenPlace, hasCellPlace, chokeToken, act}
 use Rattle.model.specs.declared.token.Place.{Place}
 use Rattle.model.specs.declared.token.Place.the-variants as places
 use Rattle.model.specs.declared.token.State.the-variants as states
@@ -46,48 +48,48 @@ module _
     acts : Fits (Used m) (UsedCell m) acting
     acts = used-fits m p inUse
 
-    goes-on : (u : Token) → Fits (Used m) (UsedCell m) u → WithinAfter (Step.goesOn at p acting u)
-    unfolding After Step.goesOn Step.enqueue Step.put Step.withTables withOrders
+    goes-on : (u : Token) → Fits (Used m) (UsedCell m) u → WithinAfter (Step.goesOn at p u)
+    unfolding After Step.goesOn Update.enqueue Update.put Update.withTables withOrders
     goes-on u f = none-new lim d m old _ (write-inside lim d m rules p inUse u f)
 
-    ended : Within lim (sweep (Step.ended at p acting))
-    unfolding Step.ended Step.put Step.withTables withOrders
+    ended : Within lim (sweep (Step.ended at p))
+    unfolding Step.ended Update.put Update.withTables withOrders
     ended = none-new lim d m old _ (write-inside lim d m rules p inUse blankToken (fits-blank (Used m) (UsedCell m)))
 
-    forked : (r left right : ℕ) → hasTokenPlace lim d m ≡ true → WithinAfter (Step.forked at p acting r left right)
-    unfolding After Step.forked Step.enqueue Step.newToken Step.put Step.withTables withOrders Step.withCounts Step.withNode
+    forked : (r left right : ℕ) → hasTokenPlace lim m ≡ true → WithinAfter (Step.forked at p acting r left right)
+    unfolding After Step.forked Update.enqueue Update.newToken Update.put Update.withTables withOrders Update.withCounts Update.withNode
     forked r left right t =
         token-new lim d m old _ r t (fork-inside lim d m rules p inUse r left right)
 
     split :
         (r c x left right : ℕ)
-        → hasTokenPlace lim d m ≡ true
-        → hasCellPlace lim d m ≡ true
+        → hasTokenPlace lim m ≡ true
+        → hasCellPlace lim m ≡ true
         → WithinAfter (Step.split at p acting r c x left right)
     unfolding
-        After Step.split Step.enqueue Step.newToken Step.newCell Step.put Step.withTables withOrders Step.withCounts Step.withNode Step.inCell
+        After Step.split Update.enqueue Update.newToken Update.newCell Update.put Update.withTables withOrders Update.withCounts Update.withNode Update.inCell
     split r c x left right t k = both-new lim d m old _ r c t k (split-inside lim d m rules p inUse r c x left right)
 
-    entered : (r root : ℕ) (ps : List Param) (next : ℕ) → hasTokenPlace lim d m ≡ true → WithinAfter (Step.entered at p acting r root ps next)
-    unfolding After Step.entered Step.enqueue Step.newToken Step.put Step.withTables withOrders Step.withCounts Step.withNode Step.withState
+    entered : (r root : ℕ) (ps : List Param) (next : ℕ) → hasTokenPlace lim m ≡ true → WithinAfter (Step.entered at p acting r root ps next)
+    unfolding After Step.entered Update.enqueue Update.newToken Update.put Update.withTables withOrders Update.withCounts Update.withNode Update.withState
     entered r root ps next t =
         token-new lim d m old _ r t (call-inside lim d m rules p inUse r root ps next)
 
     waited : (c : ℕ) → WithinAfter (Step.waited at p acting c)
-    unfolding After Step.waited Step.put Step.withTables withOrders Step.withState
+    unfolding After Step.waited Update.put Update.withTables withOrders Update.withState
     waited c =
-        none-new lim d m old _ (write-inside lim d m rules p inUse (Step.withState (states.Waiting c) acting) (fits-same refl refl refl acts))
+        none-new lim d m old _ (write-inside lim d m rules p inUse (Update.withState (states.Waiting c) acting) (fits-same refl refl refl acts))
 
     replied : (next : ℕ) (s : BuiltinReply) → WithinAfter (Step.replied at p acting next s)
-    unfolding After Step.replied Step.withNode Step.withValue
+    unfolding After Step.replied Update.withNode Update.withValue
     replied next (gives v) = goes-on _ (fits-same refl refl refl acts)
     replied next silent = ended
 
     calledOut : (s : ℕ) (vs : List ℤ) (next : ℕ) → WithinAfter (Step.calledOut at p acting s vs next)
-    unfolding After Step.calledOut Step.put Step.withTables withOrders Step.withCounts Step.withNode Step.withState
+    unfolding After Step.calledOut Update.put Update.withTables withOrders Update.withCounts Update.withNode Update.withState
     calledOut s vs next = none-new lim d m old _ (write-inside lim d m rules p inUse _ (fits-same refl refl refl acts))
 
-    callSite : (s next : ℕ) (l : LookUpResult) → WithinAfter (Step.callSite lim d at p acting s next l)
+    callSite : (s next : ℕ) (l : LookUpResult) → WithinAfter (Step.callSite lim at p acting s next l)
     unfolding Step.callSite
     callSite s next (unset c) = waited c
     callSite s next (values vs) = go (isBuiltin s)
@@ -103,12 +105,12 @@ module _
         go false = after-unless _ _ _ _ (λ e. calledOut s vs next)
 
     returned : (f : Place) → Names (Used m) f → WithinAfter (Step.returned at p acting f)
-    unfolding After Step.returned withOrders Step.withState Step.withValue
+    unfolding After Step.returned withOrders Update.withState Update.withValue
     returned places.Nowhere n = tt
     returned (places.At f) n = goes-on _ (fits-same refl refl refl (used-fits m f (n f refl)))
 
-    chokes : (c : Place) → Names (UsedCell m) c → WithinAfter (Step.chokeAt at p acting c)
-    unfolding After Step.chokeAt Step.afterChoke Step.withTables withOrders
+    chokes : (c : Place) → Names (UsedCell m) c → WithinAfter (Step.chokeAt at acting c)
+    unfolding After Step.chokeAt Step.afterChoke Update.withTables withOrders
     chokes places.Nowhere n = tt
     chokes (places.At c) n =
         none-new lim d m old _
@@ -119,7 +121,7 @@ module _
         c _ (n c refl) (used-parent m c (n c refl)))
 
     pub acted : (n : Node) → WithinAfter (act lim d m at p acting n)
-    unfolding After act Step.withNode Step.withBinding
+    unfolding After act Update.withNode Update.withBinding
     acted Node.stop = ended
     acted Node.publish = ended
     acted (Node.fork l r) = after-unless _ _ _ _ (λ t. forked _ l r t)

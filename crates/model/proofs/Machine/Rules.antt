@@ -28,9 +28,9 @@ both a b e = (and-left a b e, and-right a b e)
 -- the rules, in their order
 pub record EachRuleHolds (lim : Limits) (d : Dag) (m : Machine) : Type 0 where
   pub dag : dagHolds d ≡ true
-  pub sizes : rules.sizesInRange lim d m ≡ true
+  pub sizes : rules.sizesInRange lim m ≡ true
   pub tokens : all (rules.tokenInRange lim d (m .calls)) (m .tokens) ≡ true
-  pub cells : all (rules.cellInRange lim d) (m .cells) ≡ true
+  pub cells : all (rules.cellInRange lim) (m .cells) ≡ true
   pub queue : namesOnce isReady (m .tokens) (m .queue) (m .queued) ≡ true
   pub chains : rules.chainsEnd (m .cells) ≡ true
   pub under : all (rules.notUnderSet (m .cells)) (m .tokens) ≡ true

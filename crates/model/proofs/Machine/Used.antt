@@ -126,7 +126,7 @@ module _ (lim : Limits) (d : Dag) (m : Machine) (old : Within lim m) where
 
   pub token-new :
       (o : Machine) (q : ℕ)
-      → hasTokenPlace lim d m ≡ true
+      → hasTokenPlace lim m ≡ true
       → InsideUsed m (With (Used m) q) (UsedCell m) (o .tokens) (o .cells)
       → Within lim (sweep o)
   unfolding hasTokenPlace
@@ -140,8 +140,8 @@ module _ (lim : Limits) (d : Dag) (m : Machine) (old : Within lim m) where
 
   pub both-new :
       (o : Machine) (q c : ℕ)
-      → hasTokenPlace lim d m ≡ true
-      → hasCellPlace lim d m ≡ true
+      → hasTokenPlace lim m ≡ true
+      → hasCellPlace lim m ≡ true
       → InsideUsed m (With (Used m) q) (With (UsedCell m) c) (o .tokens) (o .cells)
       → Within lim (sweep o)
   unfolding hasTokenPlace hasCellPlace

@@ -15,8 +15,9 @@ use Rattle.model.specs.Machine.Blank.{tokenAt}
 use Rattle.model.specs.Machine.State.{isLive, isReady, handleOf}
 use Rattle.model.specs.Machine.InUse.{sweep}
 use Rattle.model.specs.Machine.Reply.{isRefused}
-use Rattle.model.specs.Machine.Step as Step
-use Rattle.model.specs.Machine.Step.{queueOf, waitsOf, takes, step}
+use Rattle.model.specs.Machine.Update as Update
+use Rattle.model.specs.Machine.Update.{queueOf, waitsOf}
+use Rattle.model.specs.Machine.Step.{takes, step}
 use Rattle.model.specs.Machine.Answer.{holder, answered, answer}
 use Rattle.model.specs.declared.token.Place.{Place}
 use Rattle.model.specs.declared.token.Place.the-variants as places
@@ -96,7 +97,7 @@ module _ (lim : Limits) (d : Dag) (m : Machine) where
       → EachRuleHolds lim d m
       → Within lim m
       → After (λ o. Within lim (sweep o)) (answered m value h)
-  unfolding After answered Step.enqueue Step.put Step.withTables Step.withOrders Step.withState Step.withValue
+  unfolding After answered Update.enqueue Update.put Update.withTables Update.withOrders Update.withState Update.withValue
   answered-within v handle places.Nowhere e rules old = tt
   answered-within v handle (places.At p) e rules old =
       none-new lim d m old _ (inside-put (inside-old lim d m rules) p _ inUse (fits-same refl refl refl (used-fits m p inUse)))

@@ -13,7 +13,8 @@ use Rattle.job.specs.Syntax.{Param, variable, constant}
 use Rattle.model.specs.Machine.Blank.{empty, unbound, blankToken, slotAt}
 use Rattle.model.specs.Machine.Active.{within}
 use Rattle.model.specs.Machine.State.{isLive, waitsAt}
-use Rattle.model.specs.Machine.Step.{withBinding, withState, passed, formalsBound, chokeToken}
+use Rattle.model.specs.Machine.Update.{withBinding, withState}
+use Rattle.model.specs.Machine.Step.{passed, formalsBound, chokeToken}
 use Rattle.model.specs.declared.token.Slot.{Slot}
 use Rattle.model.specs.declared.token.Slot.the-variants as slots
 use Rattle.model.specs.declared.token.Bind.{Bind}

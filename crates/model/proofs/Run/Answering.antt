@@ -16,7 +16,7 @@ use Rattle.model.specs.Machine.Limits.{Limits}
 use Rattle.model.specs.Machine.Blank.{blankToken, tokenAt}
 use Rattle.model.specs.Machine.State.{handleOf, isReady}
 use Rattle.model.specs.Machine.Reply.{Effect, isRefused}
-use Rattle.model.specs.Machine.Step.{queueOf}
+use Rattle.model.specs.Machine.Update.{queueOf}
 use Rattle.model.specs.Machine.Answer.{holder, answered, answer}
 use Rattle.model.specs.Run.Follow.{queuedToken, Stands}
 use Rattle.model.specs.declared.token.Place.{Place}

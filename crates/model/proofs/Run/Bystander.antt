@@ -12,7 +12,7 @@ use Rattle.model.specs.Machine.Blank.{blankToken, tokenAt}
 use Rattle.model.specs.Machine.Active.{underSet, isActive}
 use Rattle.model.specs.Machine.InUse.{tokensUsed, sweep}
 use Rattle.model.specs.Machine.State.{isReady}
-use Rattle.model.specs.Machine.Step.{withTables, withOrders, withCounts, queueOf, waitsOf, put, enqueue, newToken, newCell}
+use Rattle.model.specs.Machine.Update.{withTables, withOrders, withCounts, queueOf, waitsOf, put, enqueue, newToken, newCell}
 use Rattle.model.specs.Run.Follow.{Stands, queuedToken}
 use Rattle.model.specs.declared.token.Place.{Place}
 use Rattle.model.specs.declared.token.Token.{Token}

@@ -9,7 +9,8 @@ use Rattle.job.specs.Test.{filter}
 use Rattle.model.specs.Machine.Blank.{blankToken, tokenAt, cellAt}
 use Rattle.model.specs.Machine.Active.{within}
 use Rattle.model.specs.Machine.State.{isReady, waitsAt}
-use Rattle.model.specs.Machine.Step.{withTables, queueOf, waitsOf, chokeToken, afterChoke}
+use Rattle.model.specs.Machine.Update.{withTables, queueOf, waitsOf}
+use Rattle.model.specs.Machine.Step.{chokeToken, afterChoke}
 use Rattle.model.specs.declared.token.Held.{Held}
 use Rattle.model.specs.declared.token.State.{State}
 use Rattle.model.specs.declared.token.State.the-variants as states

@@ -21,7 +21,8 @@ use Rattle.model.specs.Machine.InUse.{tokensUsed, marked}
 use Rattle.model.specs.Machine.FreePlace.{nextPlace}
 use Rattle.model.specs.Machine.Rules.{rulesHold}
 use Rattle.model.specs.Machine.Reply.{Effect, calls, unless, isRefused}
-use Rattle.model.specs.Machine.Step.{withNode, withBinding, inCell, withTables, withOrders, withCounts, queueOf, waitsOf, put, newToken, LookUpResult, values, unset, ended, goesOn, forked, split, entered, waited, replied, calledOut, returned, chokeAt, callSite, hasTokenPlace, act, takes, step}
+use Rattle.model.specs.Machine.Update.{withNode, withBinding, inCell, withTables, withOrders, withCounts, queueOf, waitsOf, put, newToken}
+use Rattle.model.specs.Machine.Step.{LookUpResult, values, unset, ended, goesOn, forked, split, entered, waited, replied, calledOut, returned, chokeAt, callSite, hasTokenPlace, act, takes, step}
 use Rattle.model.specs.Run.Follow.{queuedToken, cellSet, endsToken, frontEnds, survivors, stays, fate, Stands}
 use Rattle.model.specs.declared.token.Slot.the-variants as slots
 use Rattle.model.specs.declared.token.Place.{Place}
@@ -110,11 +111,11 @@ module _ (lim : Limits) (d : Dag) (m : Machine) (h : QueueRulesHold m) (k : ℕ)
   front-clear = h .clear 0 (omega arith)
 
   -- one instruction after another
-  after-ended : Untouched watched place k (ended taken front actor)
+  after-ended : Untouched watched place k (ended taken front)
   unfolding ended
   after-ended = untouched-put front blankToken taken apart base
 
-  after-going : (u : Token) → Leaves (goesOn taken front actor u)
+  after-going : (u : Token) → Leaves (goesOn taken front u)
   unfolding goesOn After
   after-going u = untouched-enqueue front _ (untouched-put front u taken apart base)
 
@@ -159,7 +160,7 @@ module _ (lim : Limits) (d : Dag) (m : Machine) (h : QueueRulesHold m) (k : ℕ)
   unfolding calledOut After
   after-called s vs next = untouched-counts _ _ _ _ (untouched-put front _ taken apart base)
 
-  after-site : (s next : ℕ) (v : LookUpResult) → Leaves (callSite lim d taken front actor s next v)
+  after-site : (s next : ℕ) (v : LookUpResult) → Leaves (callSite lim taken front actor s next v)
   unfolding callSite After
   after-site s next (unset c) = after-waited c
   after-site s next (values vs) = go (isBuiltin s)
@@ -186,7 +187,7 @@ module _ (lim : Limits) (d : Dag) (m : Machine) (h : QueueRulesHold m) (k : ℕ)
   used-length = tokens-used (m .tokens) (m .cells) .size
 
   module _ (fits : lim .tokens ≤ lim .tokenPlaces) (holds : rulesHold lim d m ≡ true) where
-    fresh : hasTokenPlace lim d m ≡ true → place ≡ nextPlace (tokensUsed m) (m .lasttoken) → ⊥
+    fresh : hasTokenPlace lim m ≡ true → place ≡ nextPlace (tokensUsed m) (m .lasttoken) → ⊥
     unfolding hasTokenPlace
     fresh e p =
         clash (unharmed-marked (h .ready (suc k) l) m unharmed)
@@ -254,7 +255,7 @@ module _ (lim : Limits) (d : Dag) (m : Machine) (h : QueueRulesHold m) (k : ℕ)
 
     chokes-leaves :
         (k′ : ℕ) → frontEnds d m (suc k) ≡ false → survivors d m 1 k ≡ k′
-        → After (Untouched watched place k′) (chokeAt taken front actor (places.At c))
+        → After (Untouched watched place k′) (chokeAt taken actor (places.At c))
     unfolding chokeAt After withOrders
     chokes-leaves k′ f s =
         untouched-choked c taken (actor .value) (h .named (suc k) l) (h .ready (suc k) l) (sym (ends (suc k)) ∙ f) (base .unharmed)
@@ -284,7 +285,7 @@ module _ (lim : Limits) (d : Dag) (m : Machine) (h : QueueRulesHold m) (k : ℕ)
         position-after : survivors d m 1 k ≡ k′
         position-after = fate-stays d m k k′ e .1
 
-        choking : N ≡ Node.choke → (q : Place) → actor .cell ≡ q → After (Untouched watched place k′) (chokeAt taken front actor q)
+        choking : N ≡ Node.choke → (q : Place) → actor .cell ≡ q → After (Untouched watched place k′) (chokeAt taken actor q)
         choking n places.Nowhere i = unfold chokeAt After in tt
         choking n (places.At c) i = chokes-leaves c n i k′ spared position-after
 

@@ -13,7 +13,8 @@ use Rattle.model.specs.Machine.State.{isLive}
 use Rattle.model.specs.Machine.InUse.{tokensUsed, cellsUsed}
 use Rattle.model.specs.Machine.FreePlace.{nextPlace}
 use Rattle.model.specs.Machine.Reply.{unless}
-use Rattle.model.specs.Machine.Step.{withOrders, forked, split, entered, hasTokenPlace, hasCellPlace, act}
+use Rattle.model.specs.Machine.Update.{withOrders}
+use Rattle.model.specs.Machine.Step.{forked, split, entered, hasTokenPlace, hasCellPlace, act}
 use Rattle.calculus.specs.Expression.{Exp}
 use Rattle.model.specs.declared.token.Held.{Held}
 use Rattle.model.specs.declared.token.State.{State}
@@ -64,8 +65,8 @@ module _ (lim : Limits) (d : Dag) (M : Labels) (bodies : ℕ → Exp) (before : 
     {name place : ℕ → ℕ} {σ : Store} {new p : ℕ}
     {L R : List Abstract.Token} {n : ℕ} {B : List Binding} {F : List Frame} {U : List ℕ} {v : ℤ}
     (A : Acting M (world (before .tokens) (before .cells) name place σ new) p L R n B F U v)
-    (token : hasTokenPlace lim d before ≡ true → Free (tokensUsed before) (nextPlace (tokensUsed before) (before .lasttoken)))
-    (cell : hasCellPlace lim d before ≡ true → Free (cellsUsed before) (nextPlace (cellsUsed before) (before .lastcell))) where
+    (token : hasTokenPlace lim before ≡ true → Free (tokensUsed before) (nextPlace (tokensUsed before) (before .lasttoken)))
+    (cell : hasCellPlace lim before ≡ true → Free (cellsUsed before) (nextPlace (cellsUsed before) (before .lastcell))) where
   abbrev W : World
   W = world (before .tokens) (before .cells) name place σ new
 
@@ -88,18 +89,18 @@ module _ (lim : Limits) (d : Dag) (M : Labels) (bodies : ℕ → Exp) (before : 
   act-agrees FlowAt.stop = stop-agrees d M bodies m A
   act-agrees (FlowAt.site {s = s} e good f) = site-agrees d M bodies m A lim s f e good
   act-agrees (FlowAt.call {e = e} {ps = ps} {k = k} x good f enters) =
-      shows-unless _ (hasTokenPlace lim d before) refusals.TokenLimit (entered m p t q (bodyAt d e .root) ps k)
+      shows-unless _ (hasTokenPlace lim before) refusals.TokenLimit (entered m p t q (bodyAt d e .root) ps k)
       (λ ok. call-agrees d M bodies m A q (token ok) good f enters)
   act-agrees (FlowAt.fork {l = l} {r = r} a b f g) =
-      shows-unless _ (hasTokenPlace lim d before) refusals.TokenLimit (forked m p t q l r)
+      shows-unless _ (hasTokenPlace lim before) refusals.TokenLimit (forked m p t q l r)
       (λ ok. fork-agrees d M bodies m A q (token ok) a b f g)
   act-agrees (FlowAt.assign e l g f) = assign-agrees d M bodies m A e l g f
   act-agrees (FlowAt.remove e l x g f) = remove-agrees d M bodies m A e l x g f
   act-agrees (FlowAt.where' {x = x} {l = l} {r = r} a b i fresh f g) =
-      shows-unless _ (hasTokenPlace lim d before) refusals.TokenLimit
-      (unless (hasCellPlace lim d before) refusals.CellLimit (split m p t q c x l r))
+      shows-unless _ (hasTokenPlace lim before) refusals.TokenLimit
+      (unless (hasCellPlace lim before) refusals.CellLimit (split m p t q c x l r))
       (λ ok.
-      shows-unless _ (hasCellPlace lim d before) refusals.CellLimit (split m p t q c x l r)
+      shows-unless _ (hasCellPlace lim before) refusals.CellLimit (split m p t q c x l r)
       (λ too. where-agrees d M bodies m A q (token ok) c (cell too) a b i fresh f g))
   act-agrees (FlowAt.choke e x) = choke-agrees d M bodies m A e
   act-agrees (FlowAt.return e z x) = return-agrees d M bodies m A e z

@@ -11,7 +11,7 @@ use lib.IntN.{ℤ}
 use Rattle.job.specs.Test.{any}
 use Rattle.model.specs.Machine.Blank.{blankToken, tokenAt}
 use Rattle.model.specs.Machine.State.{isLive, handleOf}
-use Rattle.model.specs.Machine.Step.{withValue, withState, withTables, withOrders, put, enqueue}
+use Rattle.model.specs.Machine.Update.{withValue, withState, withTables, withOrders, put, enqueue}
 use Rattle.model.specs.Machine.Answer.{holder}
 use Rattle.calculus.specs.Event.{Event, showing}
 use Rattle.calculus.specs.Allowed.{nextHandle}

@@ -15,7 +15,8 @@ use Rattle.job.specs.Node.{Node, Dag}
 use Rattle.model.specs.Machine.Blank.{blankToken, tokenAt, cellAt}
 use Rattle.model.specs.Machine.Active.{within}
 use Rattle.model.specs.Machine.State.{isLive, waitsAt}
-use Rattle.model.specs.Machine.Step.{withState, withTables, withOrders, chokeToken, afterChoke, chokeAt}
+use Rattle.model.specs.Machine.Update.{withState, withTables, withOrders}
+use Rattle.model.specs.Machine.Step.{chokeToken, afterChoke, chokeAt}
 use Rattle.calculus.specs.Expression.{Exp}
 use Rattle.model.specs.declared.token.Held.{Held}
 use Rattle.model.specs.declared.token.Held.the-variants as helds
@@ -268,7 +269,7 @@ module _ (d : Dag) (M : Labels) (bodies : ℕ → Exp) (m : Machine) {name place
   t = tokenAt (m .tokens) p
 
   choke-from : {q : Place} {X : List ℕ} → M .value n ≡ true → t .cell ≡ q → CellsSeen W q X
-      → Agrees M W L R (m .calls) (chokeAt m p t q) (Abstract.chokes X v)
+      → Agrees M W L R (m .calls) (chokeAt m t q) (Abstract.chokes X v)
   unfolding Shows chokeAt afterChoke withTables withOrders
   choke-from e f root = tt
   choke-from e f (below {c = c} {n = i} {U = X} s z) =
@@ -281,7 +282,7 @@ module _ (d : Dag) (M : Labels) (bodies : ℕ → Exp) (m : Machine) {name place
       ends = ap (within (m .cells) c) f ∙ (within-seen s (below s z) ∙ any-first i X)
 
   pub choke-agrees : M .value n ≡ true
-      → Agrees M W L R (m .calls) (chokeAt m p t (t .cell))
+      → Agrees M W L R (m .calls) (chokeAt m t (t .cell))
       (actsAt (programOf d M bodies) σ new (m .calls) (nodeMeant (M .scope n) Node.choke) (at n B F U) v)
   unfolding nodeMeant
   choke-agrees e = choke-from e refl (A .place .cell)

@@ -16,7 +16,8 @@ use Rattle.model.specs.Machine.Limits.{Limits}
 use Rattle.model.specs.Machine.Blank.{blankToken, tokenAt}
 use Rattle.model.specs.Machine.State.{isLive}
 use Rattle.model.specs.Machine.Reply.{moves, publishes, unless}
-use Rattle.model.specs.Machine.Step.{withNode, withBinding, withValue, withState, withTables, withOrders, withCounts, put, enqueue, LookUpResult, values, unset, look, valueOf, ended, goesOn, waited, replied, calledOut, returned, callSite}
+use Rattle.model.specs.Machine.Update.{withNode, withBinding, withValue, withState, withTables, withOrders, withCounts, put, enqueue}
+use Rattle.model.specs.Machine.Step.{LookUpResult, values, unset, look, valueOf, ended, goesOn, waited, replied, calledOut, returned, callSite}
 use Rattle.calculus.specs.Event.{Event, silently, showing}
 use Rattle.calculus.specs.Expression.{Exp}
 use Rattle.calculus.specs.Allowed.{nextHandle}
@@ -51,19 +52,19 @@ module _ (d : Dag) (M : Labels) (bodies : ℕ → Exp) (m : Machine) {name place
   abbrev does : Node → Abstract.Effect
   does N = actsAt (programOf d M bodies) σ new (m .calls) (nodeMeant (M .scope n) N) (at n B F U) v
 
-  pub stop-agrees : Agrees M W L R (m .calls) (moves (ended m p t)) (does Node.stop)
+  pub stop-agrees : Agrees M W L R (m .calls) (moves (ended m p)) (does Node.stop)
   unfolding Shows ended put withTables nodeMeant isLive nextHandle
-  stop-agrees = ends-becomes m (A .others) (ended m p t) silently blankToken refl refl refl refl
+  stop-agrees = ends-becomes m (A .others) (ended m p) silently blankToken refl refl refl refl
 
-  pub publish-agrees : M .value n ≡ true → Agrees M W L R (m .calls) (publishes (valueOf (t .value)) (ended m p t)) (does Node.publish)
+  pub publish-agrees : M .value n ≡ true → Agrees M W L R (m .calls) (publishes (valueOf (t .value)) (ended m p)) (does Node.publish)
   unfolding Shows ended put withTables nodeMeant isLive nextHandle valueOf
   publish-agrees e =
-      subst (λ w. Becomes M W L R (m .calls) (does Node.publish) (showing (Event.publish (valueOf w))) (ended m p t))
+      subst (λ w. Becomes M W L R (m .calls) (does Node.publish) (showing (Event.publish (valueOf w))) (ended m p))
       (sym (value-there e (A .value)))
-      (ends-becomes m (A .others) (ended m p t) (showing (Event.publish v)) blankToken refl refl refl refl)
+      (ends-becomes m (A .others) (ended m p) (showing (Event.publish v)) blankToken refl refl refl refl)
 
   pub assign-agrees : {x k : ℕ} → M .value n ≡ true → x < 8 → Fresh x (M .scope n) → Follows d M n k (x ∷ M .scope n) (M .nest n)
-      → Agrees M W L R (m .calls) (goesOn m p t (withNode k (withBinding x (slots.Value (valueOf (t .value))) t))) (does (Node.assign x k))
+      → Agrees M W L R (m .calls) (goesOn m p (withNode k (withBinding x (slots.Value (valueOf (t .value))) t))) (does (Node.assign x k))
   unfolding Shows goesOn enqueue put withTables withOrders nodeMeant nextHandle
   assign-agrees {x} {k} e l g f =
       goes-becomes m (A .others) _ silently u refl refl refl
@@ -86,7 +87,7 @@ module _ (d : Dag) (M : Labels) (bodies : ℕ → Exp) (m : Machine) {name place
 
   pub remove-agrees : {x k : ℕ} {scope : List ℕ}
       → M .value n ≡ true → x < 8 → M .scope n ≡ x ∷ scope → Fresh x scope → Follows d M n k scope (M .nest n)
-      → Agrees M W L R (m .calls) (goesOn m p t (withNode k (withBinding x slots.Empty t))) (does (Node.remove x k))
+      → Agrees M W L R (m .calls) (goesOn m p (withNode k (withBinding x slots.Empty t))) (does (Node.remove x k))
   unfolding Shows goesOn enqueue put withTables withOrders nodeMeant nextHandle withNode withBinding
   remove-agrees {x} {k} e l q g f =
       goes-becomes m (A .others) _ silently (withNode k (withBinding x slots.Empty t)) refl refl refl
@@ -98,7 +99,7 @@ module _ (d : Dag) (M : Labels) (bodies : ℕ → Exp) (m : Machine) {name place
 
   -- the frame is under the same cells as the token that returns to it
   return-to : {G : List Frame} → M .value n ≡ true → U ≡ cellsOfCaller G → (f : ℕ) → t .caller ≡ places.At f → FrameSeen W M f G
-      → Agrees M W L R (m .calls) (goesOn m p t (withState states.Ready (withValue (t .value) (tokenAt (m .tokens) f)))) (Abstract.returns G v)
+      → Agrees M W L R (m .calls) (goesOn m p (withState states.Ready (withValue (t .value) (tokenAt (m .tokens) f)))) (Abstract.returns G v)
   unfolding Shows goesOn enqueue put withTables withOrders nextHandle withState withValue
   return-to e z f c (frameAt l s b) =
       goes-becomes m (A .others) _ silently _ refl refl refl
@@ -132,7 +133,7 @@ module _ (d : Dag) (M : Labels) (bodies : ℕ → Exp) (m : Machine) {name place
         (sees (place-as {t = withNode k t} refl refl refl refl (place-to f (A .place))) (A .clear) called)
 
     look-up-agrees : M .value n ≡ false → (l : LookUpResult)
-        → Agrees M W L R (m .calls) (callSite lim d m p t s k l) (Abstract.asksSite (m .calls) s (running (at n B F U) v) (found l) (at k B F U))
+        → Agrees M W L R (m .calls) (callSite lim m p t s k l) (Abstract.asksSite (m .calls) s (running (at n B F U) v) (found l) (at k B F U))
     unfolding Shows callSite waited put withTables withOrders nextHandle withState
     look-up-agrees e (unset c) =
         goes-becomes m (A .others) _ silently _ refl refl refl (fits-as {t = t} refl refl refl (acting-fits A))
@@ -149,11 +150,11 @@ module _ (d : Dag) (M : Labels) (bodies : ℕ → Exp) (m : Machine) {name place
         go false = shows-unless _ (ltb (m .calls) (lim .calls)) refusals.CallLimit (calledOut m p t s vs k) (λ i. called-agrees vs)
 
     pub site-agrees : {ps : List Param} → M .value n ≡ false → All (GoodParam (M .scope n)) ps
-        → Agrees M W L R (m .calls) (callSite lim d m p t s k (look (m .cells) (t .binds) ps)) (does (Node.site s ps k))
+        → Agrees M W L R (m .calls) (callSite lim m p t s k (look (m .cells) (t .binds) ps)) (does (Node.site s ps k))
     unfolding nodeMeant
     site-agrees {ps} e good =
         subst
-        (λ o. Agrees M W L R (m .calls) (callSite lim d m p t s k (look (m .cells) (t .binds) ps))
+        (λ o. Agrees M W L R (m .calls) (callSite lim m p t s k (look (m .cells) (t .binds) ps))
         (Abstract.asksSite (m .calls) s (running (at n B F U) v) o (at k B F U)))
         (sym (values-seen (A .place .binds .views) good))
         (look-up-agrees e (look (m .cells) (t .binds) ps))

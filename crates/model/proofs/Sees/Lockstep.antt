@@ -21,7 +21,8 @@ use Rattle.model.specs.Machine.Rules.{tokenInRange, sizesInRange, rulesH
 use Rattle.model.specs.Machine.State.{isReady}
 use Rattle.model.specs.Machine.Reply.{Effect, moves, waits, publishes, calls, refuses, accepted, outcome, reported, isRefused}
 use Rattle.model.specs.Machine.Step as Step
-use Rattle.model.specs.Machine.Step.{withOrders, queueOf, waitsOf, hasTokenPlace, hasCellPlace, takes}
+use Rattle.model.specs.Machine.Update.{withOrders, queueOf, waitsOf}
+use Rattle.model.specs.Machine.Step.{hasTokenPlace, hasCellPlace, takes}
 use Rattle.model.specs.Machine.Answer as Answer
 use Rattle.model.specs.Machine.Answer.{holder, answered}
 use Rattle.calculus.specs.Event.{Event, Label, silently, showing}
@@ -74,7 +75,7 @@ module _ (lim : Limits) (d : Dag) (m : Machine) (holds : rulesHold lim d m ≡ t
   unfolding sizesInRange
   lastcell-inside = ltb-lt _ _ (and-right _ _ (and-right _ _ (and-right _ _ (and-right _ _ (rules .sizes)))))
 
-  pub free-token : Fitting lim → hasTokenPlace lim d m ≡ true → Free (tokensUsed m) (nextPlace (tokensUsed m) (m .lasttoken))
+  pub free-token : Fitting lim → hasTokenPlace lim m ≡ true → Free (tokensUsed m) (nextPlace (tokensUsed m) (m .lasttoken))
   unfolding hasTokenPlace
   free-token fits e =
       let few = ltb-lt (marked (tokensUsed m)) (lim .tokens) e in
@@ -84,7 +85,7 @@ module _ (lim : Limits) (d : Dag) (m : Machine) (holds : rulesHold lim d m ≡ t
       let room : lim .tokens ≤ lim .tokenPlaces = fits .tokens in
       next-place-free (tokensUsed m) (m .lasttoken) (omega arith) (omega arith)
 
-  pub free-cell : Fitting lim → hasCellPlace lim d m ≡ true → Free (cellsUsed m) (nextPlace (cellsUsed m) (m .lastcell))
+  pub free-cell : Fitting lim → hasCellPlace lim m ≡ true → Free (cellsUsed m) (nextPlace (cellsUsed m) (m .lastcell))
   unfolding hasCellPlace
   free-cell fits e =
       let few = ltb-lt (marked (cellsUsed m)) (lim .cells) e in

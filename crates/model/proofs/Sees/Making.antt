@@ -16,7 +16,8 @@ use Rattle.job.specs.Node.{Node, Dag, bodyAt}
 use Rattle.model.specs.Machine.Blank.{blankCell, tokenAt, cellAt}
 use Rattle.model.specs.Machine.State.{isLive}
 use Rattle.model.specs.Machine.InUse.{tokensUsed, cellsUsed}
-use Rattle.model.specs.Machine.Step.{withNode, withBinding, inCell, withState, withTables, withOrders, withCounts, put, enqueue, newToken, newCell, formalsBound, forked, split, entered}
+use Rattle.model.specs.Machine.Update.{withNode, withBinding, inCell, withState, withTables, withOrders, withCounts, put, enqueue, newToken, newCell}
+use Rattle.model.specs.Machine.Step.{formalsBound, forked, split, entered}
 use Rattle.calculus.specs.Expression.{Exp}
 use Rattle.calculus.specs.Allowed.{nextHandle}
 use Rattle.calculus.specs.Meaning.{paramMeant}

@@ -9,7 +9,7 @@ use lib.ListN.{length}
 use lib.IntN.{ℤ}
 use Rattle.job.specs.Node.{Dag}
 use Rattle.model.specs.Machine.Blank.{slotAt}
-use Rattle.model.specs.Machine.Step.{withNode, withBinding}
+use Rattle.model.specs.Machine.Update.{withNode, withBinding}
 use Rattle.model.specs.declared.token.Slot.{Slot}
 use Rattle.model.specs.declared.token.Slot.the-variants as slots
 use Rattle.model.specs.declared.token.Bind.{Bind}

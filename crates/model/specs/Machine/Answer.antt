@@ -11,7 +11,7 @@ use Rattle.model.specs.Machine.Blank.{tokenAt}
 use Rattle.model.specs.Machine.Rules.{rulesHold}
 use Rattle.model.specs.Machine.State.{handleOf}
 use Rattle.model.specs.Machine.Reply.{Effect, moves, refuses, unless, outcome}
-use Rattle.model.specs.Machine.Step.{withValue, withState, put, enqueue}
+use Rattle.model.specs.Machine.Update.{withValue, withState, put, enqueue}
 use Rattle.model.specs.declared.token.Held.the-variants as helds
 use Rattle.model.specs.declared.token.Place.{Place}
 use Rattle.model.specs.declared.token.Place.the-variants as places

@@ -48,28 +48,27 @@ stateInRange cells calls (states.Waiting c) = ltb c cells
 stateInRange cells calls (states.Called h) = ltb h calls
 stateInRange cells calls states.Frame = true
 
-module _ (lim : Limits) (d : Dag) where
-  unfoldable pub tokenInRange : (calls : ℕ) → Token → Bool
-  tokenInRange calls t =
-      isNode d (t .node)
-      and eqb (length (t .binds)) 8
-      and all (λ (b : Bind). slotInRange (lim .cellPlaces) (b .slot)) (t .binds)
-      and heldInRange (t .value)
-      and placeInRange (lim .tokenPlaces) (t .caller)
-      and placeInRange (lim .cellPlaces) (t .cell)
-      and stateInRange (lim .cellPlaces) calls (t .state)
+unfoldable pub tokenInRange : Limits → Dag → (calls : ℕ) → Token → Bool
+tokenInRange lim d calls t =
+    isNode d (t .node)
+    and eqb (length (t .binds)) 8
+    and all (λ (b : Bind). slotInRange (lim .cellPlaces) (b .slot)) (t .binds)
+    and heldInRange (t .value)
+    and placeInRange (lim .tokenPlaces) (t .caller)
+    and placeInRange (lim .cellPlaces) (t .cell)
+    and stateInRange (lim .cellPlaces) calls (t .state)
 
-  unfoldable pub cellInRange : Cell → Bool
-  cellInRange c = placeInRange (lim .cellPlaces) (c .parent) and heldInRange (c .value)
+unfoldable pub cellInRange : Limits → Cell → Bool
+cellInRange lim c = placeInRange (lim .cellPlaces) (c .parent) and heldInRange (c .value)
 
-  -- the fields that the representation adds: docs/DECISIONS.md, "Fields and their ranges"
-  unfoldable pub sizesInRange : Machine → Bool
-  sizesInRange m =
-      eqb (length (m .tokens)) (lim .tokenPlaces)
-      and eqb (length (m .cells)) (lim .cellPlaces)
-      and leb (m .calls) (lim .calls)
-      and ltb (m .lasttoken) (lim .tokenPlaces)
-      and ltb (m .lastcell) (lim .cellPlaces)
+-- the fields that the representation adds: docs/DECISIONS.md, "Fields and their ranges"
+unfoldable pub sizesInRange : Limits → Machine → Bool
+sizesInRange lim m =
+    eqb (length (m .tokens)) (lim .tokenPlaces)
+    and eqb (length (m .cells)) (lim .cellPlaces)
+    and leb (m .calls) (lim .calls)
+    and ltb (m .lasttoken) (lim .tokenPlaces)
+    and ltb (m .lastcell) (lim .cellPlaces)
 
 -- "the queue names each ready token once and nothing else"; "the wait order names each waiting token once".
 -- An order is the first n numbers of its array; what stands behind them is 0
@@ -147,9 +146,9 @@ unfoldable pub machineHolds : Limits → Dag → Machine → Bool
 machineHolds lim d m =
     let used = tokensUsed m in
     -- "kinds, sites, counts, nodes, slots, tokens and cells named lie in their ranges"
-    sizesInRange lim d m
+    sizesInRange lim m
     and all (tokenInRange lim d (m .calls)) (m .tokens)
-    and all (cellInRange lim d) (m .cells)
+    and all (cellInRange lim) (m .cells)
     -- "the queue names each ready token once and nothing else"
     and namesOnce isReady (m .tokens) (m .queue) (m .queued)
     -- "each parent chain ends"

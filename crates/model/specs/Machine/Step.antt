@@ -6,11 +6,13 @@ use Prim.Native.Nat.{ℕ, suc}
 use lib.ListN.{length, getD, set, take, drop}
 use lib.Dec.{ltb}
 use lib.IntN.{ℤ, pos}
-use Rattle.job.specs.Test.{filter, padded, without}
+use Rattle.job.specs.Test.{filter, without}
 use Rattle.job.specs.Site.{BuiltinReply, gives, silent, isBuiltin, builtin}
 use Rattle.job.specs.Syntax.{Param, variable, constant}
 use Rattle.job.specs.Node.{Node, Dag, nodeAt, bodyAt}
 use Rattle.model.specs.Machine.Limits.{Limits}
+use Rattle.model.specs.Machine.Update.{withNode, withBinding, withValue, inCell, withState, withTables, withOrders, withCounts}
+use Rattle.model.specs.Machine.Update.{queueOf, waitsOf, put, enqueue, newToken, newCell}
 use Rattle.model.specs.Machine.Blank.{empty, unbound, blankToken, tokenAt, cellAt, slotAt}
 use Rattle.model.specs.Machine.Active.{within}
 use Rattle.model.specs.Machine.InUse.{tokensUsed, cellsUsed, marked}
@@ -32,95 +34,6 @@ use Rattle.model.specs.declared.cell.Cell.{Cell}
 use Rattle.model.specs.declared.record.Machine.{Machine}
 use Rattle.model.specs.declared.reply.Refusal.the-variants as refusals
 use Rattle.model.specs.declared.reply.Outcome.{Outcome}
-
--- Tokens. "What a line does not name is copied from the token acted on"
-unfoldable pub withNode : ℕ → Token → Token
-withNode k t = record { node = k; binds = t .binds; value = t .value; caller = t .caller; cell = t .cell; state = t .state }
-
-unfoldable pub withBinding : ℕ → Slot → Token → Token
-withBinding x s t =
-    record {
-      node = t .node;
-      binds = set (t .binds) x (record { slot = s });
-      value = t .value;
-      caller = t .caller;
-      cell = t .cell;
-      state = t .state;
-    }
-
-unfoldable pub withValue : Held → Token → Token
-withValue v t = record { node = t .node; binds = t .binds; value = v; caller = t .caller; cell = t .cell; state = t .state }
-
-unfoldable pub inCell : ℕ → Token → Token
-inCell c t =
-    record { node = t .node; binds = t .binds; value = t .value; caller = t .caller; cell = places.At c; state = t .state }
-
-unfoldable pub withState : State → Token → Token
-withState s t = record { node = t .node; binds = t .binds; value = t .value; caller = t .caller; cell = t .cell; state = s }
-
--- Machines, a field or two at a time
-unfoldable pub withTables : List Token → List Cell → Machine → Machine
-withTables ts cs m =
-    record {
-      tokens = ts;
-      cells = cs;
-      queue = m .queue;
-      queued = m .queued;
-      waits = m .waits;
-      waiting = m .waiting;
-      calls = m .calls;
-      lasttoken = m .lasttoken;
-      lastcell = m .lastcell;
-    }
-
-unfoldable pub withOrders : (queue waits : List ℕ) → Machine → Machine
-withOrders q w m =
-    record {
-      tokens = m .tokens;
-      cells = m .cells;
-      queue = padded 0 (length (m .tokens)) q;
-      queued = length q;
-      waits = padded 0 (length (m .tokens)) w;
-      waiting = length w;
-      calls = m .calls;
-      lasttoken = m .lasttoken;
-      lastcell = m .lastcell;
-    }
-
-unfoldable pub withCounts : (calls lasttoken lastcell : ℕ) → Machine → Machine
-withCounts n p c m =
-    record {
-      tokens = m .tokens;
-      cells = m .cells;
-      queue = m .queue;
-      queued = m .queued;
-      waits = m .waits;
-      waiting = m .waiting;
-      calls = n;
-      lasttoken = p;
-      lastcell = c;
-    }
-
--- the queue, and the wait order, longest wait first
-unfoldable pub queueOf : Machine → List ℕ
-queueOf m = take (m .queued) (m .queue)
-
-unfoldable pub waitsOf : Machine → List ℕ
-waitsOf m = take (m .waiting) (m .waits)
-
-unfoldable pub put : ℕ → Token → Machine → Machine
-put p t m = withTables (set (m .tokens) p t) (m .cells) m
-
--- "A ready token goes to the back of the queue"
-unfoldable pub enqueue : ℕ → Machine → Machine
-enqueue p m = withOrders (queueOf m ++ (p ∷ [])) (waitsOf m) m
-
--- a new token, a new cell: the place is the last one given
-unfoldable pub newToken : ℕ → Token → Machine → Machine
-newToken p t m = withCounts (m .calls) p (m .lastcell) (put p t m)
-
-unfoldable pub newCell : ℕ → Cell → Machine → Machine
-newCell c k m = withCounts (m .calls) (m .lasttoken) c (withTables (m .tokens) (set (m .cells) c k) m)
 
 -- "parameters in order": all their values, or the first unset cell
 pub data LookUpResult : Type 0 where
@@ -176,7 +89,7 @@ afterChoke c v m =
     (withTables ts cs m)
 
 -- What each node does. The token t at place p acts; m is the machine with p taken from its queue
-module _ (m : Machine) (p : ℕ) (t : Token) where
+module _ (m : Machine) (p : ℕ) where
   -- "the token ends"
   unfoldable pub ended : Machine
   ended = put p blankToken m
@@ -185,6 +98,7 @@ module _ (m : Machine) (p : ℕ) (t : Token) where
   unfoldable pub goesOn : Token → Effect
   goesOn u = moves (enqueue p (put p u m))
 
+module _ (m : Machine) (p : ℕ) (t : Token) where
   -- "left keeps the place, right is new", at place q
   unfoldable pub forked : (q left right : ℕ) → Effect
   forked q l r = moves (enqueue q (enqueue p (newToken q (withNode r t) (put p (withNode l t) m))))
@@ -220,8 +134,8 @@ module _ (m : Machine) (p : ℕ) (t : Token) where
 
   -- "a built-in replies and the token goes on, or it is silent and the token ends"
   unfoldable pub replied : (next : ℕ) → BuiltinReply → Effect
-  replied k (gives v) = goesOn (withNode k (withValue (helds.Value v) t))
-  replied k silent = moves ended
+  replied k (gives v) = goesOn m p (withNode k (withValue (helds.Value v) t))
+  replied k silent = moves (ended m p)
 
   -- "an outside call takes the next handle (from 0), and the token is called out at the next node"
   unfoldable pub calledOut : (site : ℕ) → List ℤ → (next : ℕ) → Effect
@@ -232,14 +146,20 @@ module _ (m : Machine) (p : ℕ) (t : Token) where
   -- "return: the place takes a copy of the frame with the value". (The test for 14 leaves no token without a frame.)
   unfoldable pub returned : Place → Effect
   returned places.Nowhere = refuses refusals.Rule
-  returned (places.At f) = goesOn (withState states.Ready (withValue (t .value) (tokenAt (m .tokens) f)))
+  returned (places.At f) = goesOn m p (withState states.Ready (withValue (t .value) (tokenAt (m .tokens) f)))
 
-  -- "choke: set the cell; .." (The test for 14 leaves no token without a cell.)
-  unfoldable pub chokeAt : Place → Effect
-  chokeAt places.Nowhere = refuses refusals.Rule
-  chokeAt (places.At c) = moves (afterChoke c (t .value) m)
+-- "choke: set the cell; .." (The test for 14 leaves no token without a cell.)
+unfoldable pub chokeAt : Machine → Token → Place → Effect
+chokeAt m t places.Nowhere = refuses refusals.Rule
+chokeAt m t (places.At c) = moves (afterChoke c (t .value) m)
 
-module _ (lim : Limits) (d : Dag) where
+abbrev pub tokenPlace : Machine → ℕ
+tokenPlace before = nextPlace (tokensUsed before) (before .lasttoken)
+
+abbrev pub cellPlace : Machine → ℕ
+cellPlace before = nextPlace (cellsUsed before) (before .lastcell)
+
+module _ (lim : Limits) where
   -- "13: outside call, all values there, after 1,000,000 such calls"
   unfoldable pub callSite : Machine → ℕ → Token → (site next : ℕ) → LookUpResult → Effect
   callSite m p t s k (unset c) = waited m p t c
@@ -256,28 +176,23 @@ module _ (lim : Limits) (d : Dag) where
   unfoldable pub hasCellPlace : Machine → Bool
   hasCellPlace before = ltb (marked (cellsUsed before)) (lim .cells)
 
-  abbrev pub tokenPlace : Machine → ℕ
-  tokenPlace before = nextPlace (tokensUsed before) (before .lasttoken)
-
-  abbrev pub cellPlace : Machine → ℕ
-  cellPlace before = nextPlace (cellsUsed before) (before .lastcell)
-
+module _ (lim : Limits) (d : Dag) where
   -- the instruction table
   unfoldable pub act : (before m : Machine) → ℕ → Token → Node → Effect
-  act before m p t Node.stop = moves (ended m p t)
-  act before m p t Node.publish = publishes (valueOf (t .value)) (ended m p t)
+  act before m p t Node.stop = moves (ended m p)
+  act before m p t Node.publish = publishes (valueOf (t .value)) (ended m p)
   act before m p t (Node.fork l r) =
-      unless (hasTokenPlace before) refusals.TokenLimit (forked m p t (tokenPlace before) l r)
-  act before m p t (Node.assign x k) = goesOn m p t (withNode k (withBinding x (slots.Value (valueOf (t .value))) t))
-  act before m p t (Node.remove x k) = goesOn m p t (withNode k (withBinding x slots.Empty t))
+      unless (hasTokenPlace lim before) refusals.TokenLimit (forked m p t (tokenPlace before) l r)
+  act before m p t (Node.assign x k) = goesOn m p (withNode k (withBinding x (slots.Value (valueOf (t .value))) t))
+  act before m p t (Node.remove x k) = goesOn m p (withNode k (withBinding x slots.Empty t))
   act before m p t (Node.where' x l r) =
-      unless (hasTokenPlace before) refusals.TokenLimit
-      (unless (hasCellPlace before) refusals.CellLimit (split m p t (tokenPlace before) (cellPlace before) x l r))
-  act before m p t (Node.site s ps k) = callSite m p t s k (look (m .cells) (t .binds) ps)
+      unless (hasTokenPlace lim before) refusals.TokenLimit
+      (unless (hasCellPlace lim before) refusals.CellLimit (split m p t (tokenPlace before) (cellPlace before) x l r))
+  act before m p t (Node.site s ps k) = callSite lim m p t s k (look (m .cells) (t .binds) ps)
   act before m p t (Node.call e ps k) =
-      unless (hasTokenPlace before) refusals.TokenLimit (entered m p t (tokenPlace before) (bodyAt d e .root) ps k)
+      unless (hasTokenPlace lim before) refusals.TokenLimit (entered m p t (tokenPlace before) (bodyAt d e .root) ps k)
   act before m p t Node.return = returned m p t (t .caller)
-  act before m p t Node.choke = chokeAt m p t (t .cell)
+  act before m p t Node.choke = chokeAt m t (t .cell)
   -- the test for 14 leaves no such node
   act before m p t Node.unknown = refuses refusals.Rule
 

@@ -17,7 +17,7 @@ use Rattle.model.specs.Machine.State.{isWaiting}
 use Rattle.model.specs.Machine.Reply.{isRefused}
 use Rattle.model.specs.Machine.Start as Start
 use Rattle.model.specs.Machine.Step as Step
-use Rattle.model.specs.Machine.Step.{queueOf, waitsOf, withOrders}
+use Rattle.model.specs.Machine.Update.{queueOf, waitsOf, withOrders}
 use Rattle.model.specs.Machine.Answer as Answer
 use Rattle.job.specs.Notation.{_∣_, _<[_]<_, v, #, let′, goal}
 use Rattle.model.specs.Run.Call.{Call, Runner, outcomeOf, machineAfter}

@@ -6,7 +6,7 @@ use Prim.Native.Nat.{_<_, _≤_, _-_, _+_}
 use native.Mathlib.Omega.{arith}
 use lib.ListN.{take}
 use Rattle.model.specs.declared.record.Machine.{Machine}
-use Rattle.model.specs.Machine.Step.{withOrders, queueOf, waitsOf}
+use Rattle.model.specs.Machine.Update.{withOrders, queueOf, waitsOf}
 use Rattle.record.proofs.Shape.{waits-fit}
 use Rattle.orders.specs.Retaining.{markedOf}
 use Rattle.record.specs.Holds.{Holds}

@@ -1,7 +1,7 @@
 -- The four changes one after the other are the definition's choke. Assumes nothing.
 use mathlib.Core.Path.{subst}
 use borrow.Author.Needs.{needs}
-use Rattle.model.specs.Machine.Step.{withTables, withOrders}
+use Rattle.model.specs.Machine.Update.{withTables, withOrders}
 use Rattle.record.specs.Holds.{Holds}
 use Rattle.record.specs.Fields.{dequeued}
 use Rattle.pruning.proofs.Chokes.{taken-room, rows-blank, choke-is}

@@ -4,7 +4,7 @@ use borrow.Author.Needs.{needs}
 use native.Mathlib.Omega.{arith}
 use mir.Facts.{toZ-ofZ}
 use Rattle.job.specs.Number.{unsigned}
-use Rattle.model.specs.Machine.Step.{put, withTables, withValue}
+use Rattle.model.specs.Machine.Update.{put, withTables, withValue}
 use Rattle.model.specs.declared.token.State.the-variants as states
 use Rattle.model.specs.declared.token.Held.the-variants as helds
 use Rattle.model.specs.Machine.Blank.{tokenAt}

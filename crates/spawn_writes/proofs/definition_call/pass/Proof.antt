@@ -7,7 +7,7 @@ use Rattle.job.proofs.Number.{unsigned-signed}
 use Rattle.model.specs.declared.token.Token.{Token}
 use Rattle.model.specs.declared.token.Slot.the-variants as slots
 use Rattle.job.specs.Number.{signed}
-use Rattle.model.specs.Machine.Step.{put}
+use Rattle.model.specs.Machine.Update.{put}
 use Rattle.model.specs.Machine.Blank.{tokenAt, slotAt}
 use mathlib.Core.Path.{refl, sym, ap, _∙_}
 use borrow.Author.Needs.{needs}

@@ -5,7 +5,8 @@ use Rattle.sites.specs.Row.{paramsAt}
 use Rattle.record.specs.Holds.{Holds}
 use Rattle.record.specs.Fields.{withBinds}
 use Rattle.model.specs.declared.record.Machine.{Machine}
-use Rattle.model.specs.Machine.Step.{put, withBinding, formalsBound}
+use Rattle.model.specs.Machine.Update.{put, withBinding}
+use Rattle.model.specs.Machine.Step.{formalsBound}
 use Rattle.model.specs.Machine.Blank.{blankToken, tokenAt}
 use lib.ListN.{getD, take}
 use borrow.Author.Needs.{needs}

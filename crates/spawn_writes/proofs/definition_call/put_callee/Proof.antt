@@ -2,7 +2,7 @@
 use Rattle.writes.proofs.Writes.{begins}
 use Rattle.model.specs.declared.token.State.the-variants as states
 use Rattle.model.specs.declared.token.Place.the-variants as places
-use Rattle.model.specs.Machine.Step.{withNode, withState}
+use Rattle.model.specs.Machine.Update.{withNode, withState}
 use Rattle.model.specs.Machine.Blank.{blankToken}
 use mathlib.Core.Path.{refl}
 use borrow.Author.Needs.{needs}

@@ -5,7 +5,7 @@ use Rattle.record.specs.Fields.{dequeued}
 use Rattle.record.proofs.Shape.{queue-fits}
 use Rattle.model.specs.declared.token.Token.{Token}
 use Rattle.model.specs.declared.token.State.the-variants as states
-use Rattle.model.specs.Machine.Step.{put, withNode, withState, newToken, withTables, withOrders, withCounts}
+use Rattle.model.specs.Machine.Update.{put, withNode, withState, newToken, withTables, withOrders, withCounts}
 use Rattle.model.specs.Machine.Blank.{tokenAt}
 use native.Mathlib.Omega.{arith}
 use mathlib.Core.Path.{refl, sym, ap, _∙_}

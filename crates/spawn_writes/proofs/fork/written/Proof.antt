@@ -3,7 +3,7 @@ use mathlib.Core.Path.{refl}
 use native.Mathlib.Omega.{arith}
 use Rattle.record.specs.Fields.{dequeued}
 use Rattle.model.specs.Machine.Blank.{tokenAt}
-use Rattle.model.specs.Machine.Step.{put, withNode, withTables, withCounts, withOrders, newToken}
+use Rattle.model.specs.Machine.Update.{put, withNode, withTables, withCounts, withOrders, newToken}
 use Rattle.writes.proofs.Writes.{begins, carry, put-same, queued-taken, queued-joined}
 use borrow.Author.Needs.{needs}
 use Rattle.spawn_writes.proofs.fork.written.Statement.{statement}

@@ -4,7 +4,7 @@ use Rattle.record.specs.Holds.{Holds}
 use Rattle.model.specs.declared.token.Place.the-variants as places
 use Rattle.model.specs.declared.token.Slot.the-variants as slots
 use Rattle.model.specs.Machine.Blank.{tokenAt}
-use Rattle.model.specs.Machine.Step.{put, withNode, inCell, withBinding}
+use Rattle.model.specs.Machine.Update.{put, withNode, inCell, withBinding}
 use Rattle.writes.proofs.Writes.{begins, put-other, put-comm}
 use borrow.Author.Needs.{needs}
 use Rattle.spawn_writes.proofs.where_split.split_tokens.Statement.{statement}

@@ -2,7 +2,7 @@
 use mathlib.Core.Path.{sym}
 use native.Mathlib.Omega.{arith}
 use Rattle.model.specs.Machine.Blank.{tokenAt}
-use Rattle.model.specs.Machine.Step.{put, withTables, withCounts, withOrders, newToken, newCell}
+use Rattle.model.specs.Machine.Update.{put, withTables, withCounts, withOrders, newToken, newCell}
 use Rattle.writes.proofs.Writes.{queued-taken, queued-joined}
 use borrow.Author.Needs.{needs}
 use Rattle.spawn_writes.proofs.where_split.written.Statement.{statement}

@@ -1,7 +1,7 @@
 -- `sweep::sweep_to` meets its contract: both tables are swept, and that changes nothing of what is in use. Assumes nothing.
 use mathlib.Core.Path.{_∙_, subst, sym}
 use borrow.Author.Needs.{needs}
-use Rattle.model.specs.Machine.Step.{withTables}
+use Rattle.model.specs.Machine.Update.{withTables}
 use Rattle.model.proofs.Keeps.Clean.{finish-tokens, finish-cells}
 use Rattle.record.specs.Holds.{Holds}
 use Rattle.reach.specs.Marks.{BlankFrom, tokensSwept}

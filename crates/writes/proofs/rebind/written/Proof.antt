@@ -4,7 +4,7 @@ use mathlib.Core.Path.{refl}
 use native.Mathlib.Omega.{arith}
 use Rattle.record.specs.Fields.{dequeued}
 use Rattle.model.specs.Machine.Blank.{tokenAt}
-use Rattle.model.specs.Machine.Step.{put, withTables, withOrders}
+use Rattle.model.specs.Machine.Update.{put, withTables, withOrders}
 use Rattle.writes.proofs.Writes.{begins, queued-taken}
 use borrow.Author.Needs.{needs}
 use Rattle.writes.proofs.rebind.written.Statement.{statement}

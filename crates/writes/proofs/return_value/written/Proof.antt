@@ -5,7 +5,7 @@ use native.Mathlib.Omega.{arith}
 use Rattle.record.specs.Fields.{dequeued}
 use Rattle.model.specs.declared.token.State.the-variants as states
 use Rattle.model.specs.Machine.Blank.{tokenAt}
-use Rattle.model.specs.Machine.Step.{put, withTables, withOrders}
+use Rattle.model.specs.Machine.Update.{put, withTables, withOrders}
 use Rattle.writes.proofs.Writes.{queued-taken}
 use borrow.Author.Needs.{needs}
 use Rattle.writes.proofs.return_value.written.Statement.{statement}
