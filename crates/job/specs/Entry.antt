@@ -4,6 +4,7 @@ use mathlib.Core.List.{List, [], _∷_}
 use Prim.Native.Nat.{ℕ, _/_, _%_}
 use lib.ListN.{getD, take, drop}
 use lib.Dec.{eqb, leb}
+use Rattle.job.specs.Bounds.{parameterLimit}
 use Rattle.job.specs.Test.{_and_}
 use Rattle.job.specs.Number.{number}
 use Rattle.job.specs.Site.{siteTakes}
@@ -54,11 +55,11 @@ isExpression unknown = false
 unfoldable pub rowHolds : EntryKind → ℕ → Bool
 rowHolds stop o = eqb o 0
 rowHolds site o = siteTakes (low o) (high o)
-rowHolds call o = leb (high o) 4
+rowHolds call o = leb (high o) parameterLimit
 rowHolds par o = eqb o 0
 rowHolds seq o = eqb o 0
 rowHolds prune o = eqb o 0
-rowHolds definition o = leb o 4
+rowHolds definition o = leb o parameterLimit
 rowHolds variable o = true
 rowHolds constant o = true
 rowHolds unknown o = false

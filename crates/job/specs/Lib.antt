@@ -1,4 +1,5 @@
 -- "The job table", "What the runner hands back when it declines" (1 to 8) and "From entries to dag". Read in this order.
+pub mod Bounds
 pub mod Test
 pub mod Number
 pub mod Site

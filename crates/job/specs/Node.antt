@@ -4,6 +4,7 @@ use mathlib.Core.List.{List, [], _∷_}
 use Prim.Native.Nat.{ℕ}
 use lib.ListN.{length, getD}
 use lib.Dec.{ltb, leb, eqb}
+use Rattle.job.specs.Bounds.{parameterLimit, scopeLimit, definitionLimit, nodeLimit}
 use Rattle.job.specs.Test.{_and_, all}
 use Rattle.job.specs.Number.{fits}
 use Rattle.job.specs.Site.{siteTakes}
@@ -41,11 +42,11 @@ bodyAt d i = getD (d .bodies) i (record { root = 0; formals = 0 })
 
 -- Index rules of a dag: "kinds, sites, counts, nodes, slots .. named lie in their ranges, a built-in with its own count"
 unfoldable pub paramHolds : Param → Bool
-paramHolds (variable x) = ltb x 8
+paramHolds (variable x) = ltb x scopeLimit
 paramHolds (constant v) = fits v
 
 unfoldable pub paramsHold : List Param → Bool
-paramsHold ps = leb (length ps) 4 and all paramHolds ps
+paramsHold ps = leb (length ps) parameterLimit and all paramHolds ps
 
 module _ (d : Dag) where
   unfoldable pub isNode : ℕ → Bool
@@ -56,22 +57,22 @@ module _ (d : Dag) where
   nodeHolds (Node.site s ps k) = siteTakes s (length ps) and paramsHold ps and isNode k
   nodeHolds (Node.call e ps k) = ltb e (length (d .bodies)) and paramsHold ps and isNode k
   nodeHolds (Node.fork l r) = isNode l and isNode r
-  nodeHolds (Node.assign x k) = ltb x 8 and isNode k
-  nodeHolds (Node.remove x k) = ltb x 8 and isNode k
-  nodeHolds (Node.where' x l r) = ltb x 8 and isNode l and isNode r
+  nodeHolds (Node.assign x k) = ltb x scopeLimit and isNode k
+  nodeHolds (Node.remove x k) = ltb x scopeLimit and isNode k
+  nodeHolds (Node.where' x l r) = ltb x scopeLimit and isNode l and isNode r
   nodeHolds Node.choke = true
   nodeHolds Node.return = true
   nodeHolds Node.publish = true
   nodeHolds Node.unknown = false
 
   unfoldable pub bodyHolds : Body → Bool
-  bodyHolds b = isNode (b .root) and leb (b .formals) 4
+  bodyHolds b = isNode (b .root) and leb (b .formals) parameterLimit
 
 -- "at most 1,022 nodes"; "D is 0 to 32"
 unfoldable pub dagHolds : Dag → Bool
 dagHolds d =
-    leb (length (d .nodes)) 1022
-    and leb (length (d .bodies)) 32
+    leb (length (d .nodes)) nodeLimit
+    and leb (length (d .bodies)) definitionLimit
     and isNode d (d .goal)
     and all (bodyHolds d) (d .bodies)
     and all (nodeHolds d) (d .nodes)

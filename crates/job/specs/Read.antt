@@ -4,6 +4,7 @@ use mathlib.Core.List.{List, [], _∷_}
 use Prim.Native.Nat.{ℕ, zero, suc, _+_, _*_}
 use lib.ListN.{length, getD, take, drop}
 use lib.Dec.{ltb, leb, eqb}
+use Rattle.job.specs.Bounds.{scopeLimit, depthLimit, definitionLimit, entryLimit}
 use Rattle.job.specs.Test.{_and_, _or_, any}
 use Rattle.job.specs.Number.{number, signed}
 use Rattle.job.specs.Syntax.{Param, variable, constant, Join, par, seq, prune, Exp, stop, site, call, join, Definition, Program, formalsOf, levels, scopeLeft, scopeRight}
@@ -90,7 +91,7 @@ readExp (suc left) scope e es = do
   let level = length scope
   _ ← need (isExpression k) 3 e
   _ ← need (rowHolds k o) 4 e
-  _ ← need (not (isBinder k) or ltb level 8) 7 e
+  _ ← need (not (isBinder k) or ltb level scopeLimit) 7 e
   elim k as (λ k. Read Exp) [
     | EntryKind.stop ↦ gives stop (x .next) (x .rest)
     | EntryKind.site ↦ readCall (site (low o)) (high o) scope (x .next) (x .rest)
@@ -122,13 +123,13 @@ readDefinition e es = do
   x ← entryAt e es
   _ ← need (isDefinition (kindOf (x .value .kind))) 3 e
   _ ← need (rowHolds EntryKind.definition (x .value .operand)) 4 e
-  b ← readExp 24 (levels (x .value .operand)) (x .next) (x .rest)
+  b ← readExp depthLimit (levels (x .value .operand)) (x .next) (x .rest)
   gives (record { formals = x .value .operand; body = b .value }) (b .next) (b .rest)
 
 -- "D definitions, then the goal"
 unfoldable pub readProgram : ℕ → ℕ → List Entry → Read Program
 readProgram zero e es = do
-  g ← readExp 24 [] e es
+  g ← readExp depthLimit [] e es
   gives (record { definitions = []; goal = g .value }) (g .next) (g .rest)
 readProgram (suc n) e es = do
   d ← readDefinition e es
@@ -174,7 +175,7 @@ unfoldable pub readBytes : List ℕ → Read Program
 readBytes b = do
   _ ← need (leb 4 (length b)) 1 0
   _ ← need (eqb (length b) (tableLength b)) 1 0
-  _ ← need (leb (sizeD b) 32 and leb 1 (sizeN b) and leb (sizeN b) 512) 2 0
+  _ ← need (leb (sizeD b) definitionLimit and leb 1 (sizeN b) and leb (sizeN b) entryLimit) 2 0
   readEntries (sizeD b) (entries (take (sizeN b) (drop 4 b)) (drop (4 + sizeN b) b))
 
 -- the reader's answer

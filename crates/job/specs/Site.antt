@@ -6,6 +6,7 @@ use lib.ListN.{length, getD}
 use lib.Dec.{ltb, leb, eqb}
 use lib.IntN.{ℤ, pos, _+ℤ_}
 use lib.Signed.{ltZ}
+use Rattle.job.specs.Bounds.{parameterLimit}
 use Rattle.job.specs.Test.{_and_, _or_}
 use Rattle.job.specs.Number.{fits, equalZ}
 
@@ -64,7 +65,7 @@ isOutside s = leb 16 s and leb s 1023
 
 -- a site that a call with n parameters may name: "sites 7 to 15 are unknown", "counts are at most 4"
 unfoldable pub siteTakes : ℕ → ℕ → Bool
-siteTakes s n = (isBuiltin s and eqb n (getD builtinCounts s 0)) or (isOutside s and leb n 4)
+siteTakes s n = (isBuiltin s and eqb n (getD builtinCounts s 0)) or (isOutside s and leb n parameterLimit)
 
 -- what a built-in says to its parameters' values. (No other site is asked: `isBuiltin` is tested first.)
 unfoldable pub builtin : ℕ → List ℤ → BuiltinReply

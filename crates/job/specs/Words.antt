@@ -7,6 +7,7 @@ use Prim.Native.Nat.{ℕ, zero, suc, _+_, _*_}
 use lib.ListN.{length, getD, take, drop, replicate}
 use lib.Seq.{sets}
 use lib.Dec.{eqb}
+use Rattle.job.specs.Bounds.{parameterLimit, nodeLimit}
 use Rattle.job.specs.Test.{same}
 use Rattle.job.specs.Number.{signed, unsigned}
 use Rattle.job.specs.Syntax.{Param, variable, constant}
@@ -21,16 +22,16 @@ paramWords (suc n) (constant v ∷ ps) = 8 ∷ unsigned v ∷ paramWords n ps
 
 -- the twelve words of a node
 unfoldable pub nodeWords : Node → List ℕ
-nodeWords Node.stop = 0 ∷ 0 ∷ 0 ∷ 0 ∷ paramWords 4 []
-nodeWords (Node.site s ps k) = 1 ∷ s ∷ k ∷ length ps ∷ paramWords 4 ps
-nodeWords (Node.call d ps k) = 2 ∷ d ∷ k ∷ length ps ∷ paramWords 4 ps
-nodeWords (Node.fork l r) = 3 ∷ l ∷ r ∷ 0 ∷ paramWords 4 []
-nodeWords (Node.assign x k) = 4 ∷ x ∷ k ∷ 0 ∷ paramWords 4 []
-nodeWords (Node.remove x k) = 5 ∷ x ∷ k ∷ 0 ∷ paramWords 4 []
-nodeWords (Node.where' x l r) = 6 ∷ l ∷ r ∷ x ∷ paramWords 4 []
-nodeWords Node.choke = 7 ∷ 0 ∷ 0 ∷ 0 ∷ paramWords 4 []
-nodeWords Node.return = 8 ∷ 0 ∷ 0 ∷ 0 ∷ paramWords 4 []
-nodeWords Node.publish = 9 ∷ 0 ∷ 0 ∷ 0 ∷ paramWords 4 []
+nodeWords Node.stop = 0 ∷ 0 ∷ 0 ∷ 0 ∷ paramWords parameterLimit []
+nodeWords (Node.site s ps k) = 1 ∷ s ∷ k ∷ length ps ∷ paramWords parameterLimit ps
+nodeWords (Node.call d ps k) = 2 ∷ d ∷ k ∷ length ps ∷ paramWords parameterLimit ps
+nodeWords (Node.fork l r) = 3 ∷ l ∷ r ∷ 0 ∷ paramWords parameterLimit []
+nodeWords (Node.assign x k) = 4 ∷ x ∷ k ∷ 0 ∷ paramWords parameterLimit []
+nodeWords (Node.remove x k) = 5 ∷ x ∷ k ∷ 0 ∷ paramWords parameterLimit []
+nodeWords (Node.where' x l r) = 6 ∷ l ∷ r ∷ x ∷ paramWords parameterLimit []
+nodeWords Node.choke = 7 ∷ 0 ∷ 0 ∷ 0 ∷ paramWords parameterLimit []
+nodeWords Node.return = 8 ∷ 0 ∷ 0 ∷ 0 ∷ paramWords parameterLimit []
+nodeWords Node.publish = 9 ∷ 0 ∷ 0 ∷ 0 ∷ paramWords parameterLimit []
 nodeWords Node.unknown = []
 
 unfoldable pub paramOf : (kind word : ℕ) → Param
@@ -80,7 +81,7 @@ abbrev pub headWords : ℕ
 headWords = 67
 
 abbrev pub arrayWords : ℕ
-arrayWords = headWords + 12 * 1022
+arrayWords = headWords + 12 * nodeLimit
 
 -- the dag that the array holds; words past its last definition and its last node are no part of it
 unfoldable pub dagOf : List ℕ → Dag

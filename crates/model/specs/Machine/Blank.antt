@@ -4,6 +4,7 @@ use mathlib.Core.List.{List}
 use Prim.Native.Nat.{ℕ}
 use lib.ListN.{getD, replicate}
 use lib.Dec.{eqb}
+use Rattle.job.specs.Bounds.{scopeLimit}
 use Rattle.job.specs.Test.{_and_, all}
 use Rattle.model.specs.Machine.State.{isBlankState}
 use Rattle.model.specs.Machine.Limits.{Limits}
@@ -24,7 +25,7 @@ empty = record { slot = slots.Empty }
 
 -- "nothing bound"
 abbrev pub unbound : List Bind
-unbound = replicate 8 empty
+unbound = replicate scopeLimit empty
 
 abbrev pub blankToken : Token
 blankToken =

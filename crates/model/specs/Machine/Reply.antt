@@ -4,6 +4,7 @@ use mathlib.Core.List.{List, [], _∷_}
 use Prim.Native.Nat.{ℕ}
 use lib.ListN.{length, take}
 use lib.IntN.{ℤ, pos}
+use Rattle.job.specs.Bounds.{parameterLimit}
 use Rattle.job.specs.Test.{padded}
 use Rattle.model.specs.Machine.InUse.{sweep}
 use Rattle.model.specs.declared.record.Machine.{Machine}
@@ -23,7 +24,7 @@ pub data Effect : Type 0 where
 
 -- the values beside a reply: the call's in order, then zeros (docs/DECISIONS.md, "The values beside a reply")
 abbrev pub reportValues : List ℤ → List ℤ
-reportValues vs = padded (pos 0) 4 vs
+reportValues vs = padded (pos 0) parameterLimit vs
 
 unfoldable pub accepted : Reply → List ℤ → Machine → Outcome
 accepted r vs m = record { reply = r; values = reportValues vs; machine = sweep m }

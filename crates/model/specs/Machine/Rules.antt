@@ -4,6 +4,7 @@ use mathlib.Core.List.{List, [], _∷_, _++_}
 use Prim.Native.Nat.{ℕ, zero, suc}
 use lib.ListN.{length, take, drop}
 use lib.Dec.{ltb, leb, eqb}
+use Rattle.job.specs.Bounds.{scopeLimit}
 use Rattle.job.specs.Test.{_and_, _or_, all, allFrom, count, once, differ}
 use Rattle.job.specs.Number.{fits}
 use Rattle.job.specs.Syntax.{Param, variable, constant}
@@ -51,7 +52,7 @@ stateInRange cells calls states.Frame = true
 unfoldable pub tokenInRange : Limits → Dag → (calls : ℕ) → Token → Bool
 tokenInRange lim d calls t =
     isNode d (t .node)
-    and eqb (length (t .binds)) 8
+    and eqb (length (t .binds)) scopeLimit
     and all (λ (b : Bind). slotInRange (lim .cellPlaces) (b .slot)) (t .binds)
     and heldInRange (t .value)
     and placeInRange (lim .tokenPlaces) (t .caller)
