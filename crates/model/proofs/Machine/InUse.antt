@@ -12,7 +12,7 @@ use lib.ListN.{length, replicate, List·getD-eq-default}
 use Rattle.model.specs.Machine.Blank.{empty, blankToken, blankCell, tokenAt, cellAt, slotAt}
 use Rattle.model.specs.Machine.Active.{isActive}
 use Rattle.model.specs.Machine.State.{isLive}
-use Rattle.model.specs.Machine.InUse.{activePlaces, boundCell, cellsOf, cellsOfMarked, usedTokens, usedCells}
+use Rattle.model.specs.Machine.InUse.{TokenInUse, CellInUse, activePlaces, boundCell, cellsOf, cellsOfMarked, usedTokens, usedCells}
 use Rattle.model.specs.declared.token.Slot.{Slot}
 use Rattle.model.specs.declared.token.Slot.the-variants as slots
 use Rattle.model.specs.declared.token.Bind.{Bind}
@@ -255,3 +255,33 @@ cells-used used ts cs s =
       where
         listed : (i : ℕ) → CellsIn Q (tokenAt ts i) → (q : Place) → List·Memᴰ q (cellsOf (tokenAt ts i)) → Names Q q
         listed i n q y a e = of-cells Q (tokenAt ts i) n a (subst (λ p. List·Memᴰ p (cellsOf (tokenAt ts i))) e y)
+
+-- what is marked is what is in use: "in use" as a relation, and as it is computed
+module _ (ts : List Token) (cs : List Cell) where
+  abbrev T : TokensUsed ts cs (usedTokens ts cs)
+  T = tokens-used ts cs
+
+  abbrev C : CellsUsed (usedTokens ts cs) ts cs (usedCells (usedTokens ts cs) ts cs)
+  C = cells-used (usedTokens ts cs) ts cs (T .size)
+
+  pub token-marked : {p : ℕ} → TokenInUse ts cs p → Marked (usedTokens ts cs) p
+  token-marked (TokenInUse.active {p = p} e) = T .active p e
+  token-marked (TokenInUse.caller {p = p} {q = q} u e) = T .caller p (token-marked u) q e
+
+  pub cell-marked : {c : ℕ} → CellInUse ts cs c → Marked (usedCells (usedTokens ts cs) ts cs) c
+  cell-marked (CellInUse.cell {p = p} {c = c} u e) = C .named p (token-marked u) .cell c e
+  cell-marked (CellInUse.binding {p = p} {c = c} x u e) = C .named p (token-marked u) .binds x c e
+  cell-marked (CellInUse.parent {b = b} {c = c} u e) = C .parent b (cell-marked u) c e
+
+  pub tokens-in-use : (p : ℕ) → p < length ts → Marked (usedTokens ts cs) p → TokenInUse ts cs p
+  tokens-in-use p l m = T .least (TokenInUse ts cs) (λ i e. TokenInUse.active e) (λ i k u q e. TokenInUse.caller u e) p l m
+
+  pub cells-in-use : (c : ℕ) → c < length cs → Marked (usedCells (usedTokens ts cs) ts cs) c → CellInUse ts cs c
+  cells-in-use c l m = C .least (CellInUse ts cs) named (λ b k u q e. CellInUse.parent u e) c l m
+    where
+      named : (i : ℕ) → i < length ts → Marked (usedTokens ts cs) i → CellsIn (CellInUse ts cs) (tokenAt ts i)
+      named i k u =
+          record {
+            cell = λ b e. CellInUse.cell (tokens-in-use i k u) e;
+            binds = λ x b e. CellInUse.binding x (tokens-in-use i k u) e;
+          }

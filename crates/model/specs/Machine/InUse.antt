@@ -1,9 +1,10 @@
 -- Document 01: in use, and blank after each accepted call (docs/DECISIONS.md, "In use"). Assumes nothing: these are definitions.
+use mathlib.Core.Path.{_≡_}
 use mathlib.Core.Bool.{Bool, true, false}
 use mathlib.Core.List.{List, [], _∷_, _++_, map}
 use Prim.Native.Nat.{ℕ, zero, suc}
 use lib.ListN.{length, getD, set, replicate}
-use Rattle.model.specs.Machine.Blank.{blankToken, blankCell}
+use Rattle.model.specs.Machine.Blank.{blankToken, blankCell, tokenAt, cellAt, slotAt}
 use Rattle.model.specs.Machine.Active.{isActive}
 use Rattle.model.specs.declared.token.Slot.{Slot}
 use Rattle.model.specs.declared.token.Slot.the-variants as slots
@@ -14,6 +15,18 @@ use Rattle.model.specs.declared.token.Token.{Token}
 use Rattle.model.specs.declared.cell.Cell.{Cell}
 use Rattle.model.specs.declared.record.Machine.{Machine}
 
+-- "In use: active tokens, and what they reach by caller, cell, parent and binding": the least sets closed under these links
+module _ (ts : List Token) (cs : List Cell) where
+  pub data TokenInUse : (place : ℕ) → Type 0 where
+    active : {p : ℕ} → isActive cs (tokenAt ts p) ≡ true → TokenInUse p
+    caller : {p q : ℕ} → TokenInUse p → tokenAt ts p .caller ≡ places.At q → TokenInUse q
+
+  pub data CellInUse : (place : ℕ) → Type 0 where
+    cell : {p c : ℕ} → TokenInUse p → tokenAt ts p .cell ≡ places.At c → CellInUse c
+    binding : {p c : ℕ} (x : ℕ) → TokenInUse p → slotAt (tokenAt ts p .binds) x ≡ slots.Cell c → CellInUse c
+    parent : {b c : ℕ} → CellInUse b → cellAt cs b .parent ≡ places.At c → CellInUse c
+
+-- The computed form of both: proofs/Machine/InUse.antt shows that what is marked is what is in use (`tokens-in-use`, `cells-in-use`).
 -- Marks are a Bool for each place. A chain of links is marked until it ends or comes to a place that is marked already;
 -- it is followed for so many links at most
 unfoldable pub markChain : {A : Type 0} → (A → Place) → A → List A → ℕ → Place → List Bool → List Bool
@@ -55,11 +68,11 @@ cellsOfMarked [] (t ∷ ts) = []
 cellsOfMarked (true ∷ marks) (t ∷ ts) = cellsOf t ++ cellsOfMarked marks ts
 cellsOfMarked (false ∷ marks) (t ∷ ts) = cellsOfMarked marks ts
 
--- "In use: active tokens, and what they reach by caller, .."
+-- the tokens that the active ones reach by caller
 unfoldable pub usedTokens : List Token → List Cell → List Bool
 usedTokens ts cs = reached (λ (t : Token). t .caller) blankToken ts (activePlaces cs 0 ts)
 
--- ".. cell, parent and binding": the cells that the tokens in use reach
+-- the cells that the tokens in use reach by cell, binding and parent
 unfoldable pub usedCells : List Bool → List Token → List Cell → List Bool
 usedCells used ts cs = reached (λ (c : Cell). c .parent) blankCell cs (cellsOfMarked used ts)
 
