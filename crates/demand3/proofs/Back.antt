@@ -45,7 +45,8 @@ use Rattle.model.proofs.Sees.Agrees.{Acting}
 use Rattle.demand3.proofs.Room.{Room, Accepted, act-accepted}
 use Rattle.model.proofs.Sees.Answering.{answered-becomes}
 use Rattle.demand3.proofs.Turn.{Turn, is-ready, is-waiting, is-called, turn, queue-index, open-holder}
-use Rattle.model.proofs.Sees.Lockstep.{Fitting, at-node, eventsBy, shown-by, takes-agrees}
+use Rattle.model.proofs.Run.Passage.{eventsBy}
+use Rattle.model.proofs.Sees.Lockstep.{Fitting, at-node, shown-by, takes-agrees}
 
 -- the token at p is at a site call that finds an unset cell
 pub record Blocked (d : Dag) (m : Machine) (p : ℕ) : Type 0 where

@@ -10,12 +10,13 @@ use Rattle.model.specs.Machine.Reply.{isRefused}
 use Rattle.calculus.specs.Event.{Event, Label, silently}
 use Rattle.calculus.specs.Expression.{Exp}
 use Rattle.calculus.specs.Allowed.{shown}
-use Rattle.model.specs.Run.Call.{Call, runner, outcomeOf, eventsFrom, noneRefused}
+use Rattle.model.specs.Run.Call.{Call, runner, outcomeOf}
 use Rattle.model.specs.declared.record.Machine.{Machine}
 use Rattle.simulation.proofs.Machine as Abstract
 use Rattle.model.proofs.Sees.Labels.{Labels, programOf, Flow}
 use Rattle.model.proofs.Sees.Sees.{Sees}
-use Rattle.model.proofs.Sees.Lockstep.{Fitting, eventsBy, shown-append}
+use Rattle.model.proofs.Run.Passage.{eventsBy, Passage}
+use Rattle.model.proofs.Sees.Lockstep.{Fitting, shown-append}
 use Rattle.demand3.proofs.Back.{Ready, Followed, stays, calls, step-followed}
 
 -- the number of steps of a run
@@ -34,14 +35,11 @@ module _ (lim : Limits) (d : Dag) (M : Labels) (bodies : ℕ → Exp) where
 
   -- calls on m, none refused, with this event list
   pub data Does (m : Machine) (es : List Event) : Type 0 where
-    does : (cs : List Call) → noneRefused runner lim d m cs ≡ true → eventsFrom runner lim d m cs ≡ es → Does m es
+    does : {cs : List Call} {end : Machine} → Passage lim d m cs es true end → Does m es
 
   first-call : {m : Machine} {es : List Event} (a : Label) (c : Call) → isRefused (outcomeOf runner lim d m c .reply) ≡ false
       → eventsBy c (outcomeOf runner lim d m c) ≡ shown a [] → Does (outcomeOf runner lim d m c .machine) es → Does m (shown a es)
-  unfolding noneRefused eventsFrom
-  first-call {m} {es} a c ok e (does cs fine f) =
-      does (c ∷ cs) (rw (ok, noneRefused) fine)
-      (ap (λ xs. xs ++ eventsFrom runner lim d (outcomeOf runner lim d m c .machine) cs) e ∙ (ap (λ ys. shown a [] ++ ys) f ∙ shown-append a es))
+  first-call {m} {es} a c ok e (does p) = subst (Does m) (ap (λ xs. xs ++ es) e ∙ shown-append a es) (does (Passage.accepted ok p))
 
   no-call : {m : Machine} {es : List Event} {a : Label} → a ≡ silently → Does m es → Does m (shown a es)
   unfolding shown
@@ -50,8 +48,7 @@ module _ (lim : Limits) (d : Dag) (M : Labels) (bodies : ℕ → Exp) where
   pub run-followed : (fits : Fitting lim) (flow : Flow d M) (I : ℕ → Machine → Type 0) → Keeps I
       → {s s′ : Abstract.State} {es : List Event} (m : Machine) (r : Abstract.Run (programOf d M bodies) s es s′)
       → Sees M m s → I (stepsOf r) m → Does m es
-  unfolding noneRefused eventsFrom
-  run-followed fits flow I X m Abstract.rests sn i = does [] refl refl
+  run-followed fits flow I X m Abstract.rests sn i = does Passage.none
   run-followed fits flow I X m (Abstract.then {t = t} {a = a} {es = es} st r) sn i =
       go (step-followed lim d M bodies fits flow m (X .ready (stepsOf r) m i) sn st) (λ m′ x j. run-followed fits flow I X m′ r x j)
     where

@@ -40,6 +40,7 @@ use Rattle.model.proofs.Sees.Sees.{Sees, seenAs}
 use Rattle.demand3.proofs.Room.{Room}
 use Rattle.demand3.proofs.Back.{Ready}
 use Rattle.demand3.proofs.Following.{stepsOf, Keeps, Does, does, run-followed}
+use Rattle.model.proofs.Run.Passage.{Passage, passed}
 use Rattle.model.proofs.Sees.Lockstep.{fitting}
 use Rattle.demand3.proofs.Reached.{Reached, Roomy, limits-roomy, start-reached, Reaches, reaches, call-reached}
 use Rattle.demand3.proofs.Blocked.{reached-ready}
@@ -124,7 +125,9 @@ module _ (p : Program) (w : WellFormed p) {events : List Event} {s : Abstract.St
     (r : Abstract.Run (programOf (construct p) (labelsOf p) (meaning p .body)) (startAt (construct p .goal)) events s) where
   shown-at : (t c k : ℕ) → suc (stepsOf r) ≤ t → suc (stepsOf r) ≤ c → stepsOf r ≤ k → Shown runner p events t c k
   shown-at t c k at ac ak =
-      subst (λ m. Run lim m) (sym (start-machine lim p w)) (from (run-followed lim d M bodies (fitting t c k) flow (Spare lim d M bodies room flow dag) (spare-keeps lim d M bodies room flow dag) m r (begun .view) spare))
+      from (start-machine lim p w)
+      (run-followed lim d M bodies (fitting t c k) flow (Spare lim d M bodies room flow dag) (spare-keeps lim d M bodies room flow dag) m r
+      (begun .view) spare)
     where
       lim : Limits
       lim = limits t c k
@@ -159,12 +162,10 @@ module _ (p : Program) (w : WellFormed p) {events : List Event} {s : Abstract.St
           let none : marked (cellsUsed m) ≡ 0 = start-no-cell lim (d .goal) in
           record { state = startAt (d .goal); reached = begun; tokens = omega arith; cells = omega arith; calls = omega arith }
 
-      -- calls on a machine, none refused, that show the list
-      Run : Limits → Machine → Type 0
-      Run l o = (calls : List Call) × (noneRefused runner l d o calls ≡ true) × (eventsFrom runner l d o calls ≡ events)
-
-      from : Does lim d M bodies m events → Run lim m
-      from (does calls fine same) = (calls, fine, same)
+      from : {o : Machine} → o ≡ m → Does lim d M bodies m events
+          → (calls : List Call) × (noneRefused runner lim d o calls ≡ true) × (eventsFrom runner lim d o calls ≡ events)
+      from e (does {cs = calls} {end = end} p) =
+          let z = passed lim d (subst (λ o. Passage lim d o calls events true end) (sym e) p) in (calls, z .clear, z .shows)
 
 pub allowed-lists-are-shown : Middle runner
 allowed-lists-are-shown table p e events allowed =

@@ -22,7 +22,7 @@ use Rattle.job.proofs.Accepted.{accepted-well-formed}
 use Rattle.model.proofs.Sees.Labelling.{labelsOf}
 use Rattle.model.proofs.Sees.Flowing.{construct-flows}
 use Rattle.demand3.proofs.Reached.{Roomy}
-use Rattle.demand3.proofs.Runs.{InRun, start-in-run, calls-in-run, in-run-rules}
+use Rattle.demand3.proofs.Runs.{InRun, run-in-run, in-run-rules}
 use Rattle.demand3.proofs.NotRule.{not-rule}
 
 -- a run on an accepted table
@@ -35,9 +35,7 @@ module _ (lim : Limits) (room : Roomy lim) (table : List ℕ) (p : Program) (rea
 
   pub run-reached : (calls : List Call)
       → InRun lim (construct p) (labelsOf p) (machineAfter runner lim (construct p) (started runner lim (construct p)) calls)
-  run-reached calls =
-      calls-in-run lim d (labelsOf p) room (construct-flows p good) (construct-holds p good) (meaning p .body) calls _
-      (start-in-run lim d (labelsOf p) room (construct-flows p good) (construct-holds p good) (meaning p .body))
+  run-reached calls = run-in-run lim d (labelsOf p) room (construct-flows p good) (construct-holds p good) (meaning p .body) calls
 
   -- the index rules hold of every record of a run
   pub run-rules : (calls : List Call)

@@ -55,7 +55,8 @@ use Rattle.model.proofs.Sees.Acts as Acts
 use Rattle.model.proofs.Sees.Answering.{holder-called, Pending, pending, find-pending, answered-becomes}
 use Rattle.model.proofs.Sees.Begin.{start-machine-sees}
 use Rattle.model.proofs.Sees.Lockstep as Lockstep
-use Rattle.model.proofs.Sees.Lockstep.{free-token, free-cell, takes-agrees, eventsBy, Steps, steps, call-locks}
+use Rattle.model.proofs.Run.Passage.{eventsBy}
+use Rattle.model.proofs.Sees.Lockstep.{free-token, free-cell, takes-agrees, Steps, steps, call-locks}
 use Rattle.model.proofs.Keeps.Lines.{Lines, Taken, take-out, taken-ready, lines-new}
 use Rattle.model.proofs.Keeps.Orders.{queue-is, waits-are, orders-put, orders-enqueue}
 use Rattle.model.proofs.Keeps.Tables.{Idle, idle-holds, tables-write}

@@ -2,25 +2,23 @@
 -- it; so each keeps the index rules. Assumes nothing.
 use mathlib.Core.Path.{_≡_, refl, sym, subst}
 use mathlib.Core.Logic.{_⊎_, inl, inr}
-use mathlib.Core.Bool.{true, false}
-use mathlib.Core.List.{List, [], _∷_}
+use mathlib.Core.Bool.{Bool, true, false}
+use mathlib.Core.List.{List}
 use Prim.Native.Nat.{ℕ}
 use Rattle.job.specs.Node.{Dag, dagHolds}
 use Rattle.model.specs.Machine.Limits.{Limits}
 use Rattle.model.specs.Machine.Rules.{rulesHold}
 use Rattle.model.specs.Machine.Reply.{isRefused}
 use Rattle.model.specs.Machine.Start.{start, startMachine}
-use Rattle.model.specs.Machine.Step as Step
-use Rattle.model.specs.Machine.Answer as Answer
 use Rattle.calculus.specs.Event.{Event}
 use Rattle.calculus.specs.Expression.{Exp}
-use Rattle.model.specs.Run.Call.{Call, step, answer, runner, outcomeOf, machineAfter, started}
+use Rattle.model.specs.Run.Call.{Call, runner, outcomeOf, machineAfter, started}
 use Rattle.model.specs.declared.record.Machine.{Machine}
 use Rattle.model.specs.declared.reply.Outcome.{Outcome}
 use Rattle.job.proofs.Test.{holds-or-fails}
 use Rattle.simulation.proofs.Machine as Abstract
 use Rattle.model.proofs.Sees.Labels.{Labels, Flow}
-use Rattle.model.proofs.Sees.Lockstep.{refused-leaves}
+use Rattle.model.proofs.Run.Passage.{Passage, passage, refused-leaves}
 use Rattle.demand3.proofs.Reached.{Reached, Roomy, reached-rules, start-reached, Reaches, reaches, call-reached}
 
 -- the machine is reached, with some state of the abstract machine
@@ -43,10 +41,11 @@ module _ (lim : Limits) (d : Dag) (M : Labels) (room : Roomy lim) (flow : Flow d
       go (inr ok) = next (call-reached lim d M room flow dag bodies m r c ok)
 
   -- "any list of calls"
-  pub calls-in-run : (cs : List Call) (m : Machine) → InRun lim d M m → InRun lim d M (machineAfter runner lim d m cs)
-  unfolding machineAfter
-  calls-in-run [] m r = r
-  calls-in-run (c ∷ cs) m r = calls-in-run cs (outcomeOf runner lim d m c .machine) (call-in-run m c r)
+  calls-in-run : {m end : Machine} {cs : List Call} {es : List Event} {fine : Bool} → Passage lim d m cs es fine end
+      → InRun lim d M m → InRun lim d M end
+  calls-in-run Passage.none r = r
+  calls-in-run (Passage.refused no′ p) r = calls-in-run p r
+  calls-in-run (Passage.accepted {m = m} {c = c} ok p) r = calls-in-run p (call-in-run m c r)
 
   pub in-run-rules : {m : Machine} → InRun lim d M m → rulesHold lim d m ≡ true
   in-run-rules (seenWith s r) = reached-rules lim d M room flow dag r
@@ -57,3 +56,7 @@ module _ (lim : Limits) (d : Dag) (M : Labels) (room : Roomy lim) (flow : Flow d
 
   pub start-in-run : InRun lim d M (started runner lim d)
   start-in-run = subst (InRun lim d M) (sym start-is) (seenWith _ (start-reached lim d M room flow dag))
+
+  -- every record of a run
+  pub run-in-run : (cs : List Call) → InRun lim d M (machineAfter runner lim d (started runner lim d) cs)
+  run-in-run cs = calls-in-run (passage lim d cs (started runner lim d)) start-in-run

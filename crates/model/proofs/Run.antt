@@ -5,6 +5,7 @@ pub mod Survivors
 pub mod Chain
 pub mod Bystander
 pub mod Choking
+pub mod Passage
 pub mod Passing
 pub mod Answering
 pub mod Last

@@ -1,22 +1,25 @@
 -- Demand 3, last part: while a ready token with k others before it neither acts nor is pruned, "at most k later steps have been accepted",
 -- if every step takes place 0. Each accepted step at place 0 that neither takes nor ends a token leaves it in the queue with
 -- fewer others before it, so there are at most as many such steps as stood before it; answers leave it where it was. Assumes nothing.
-use mathlib.Core.Path.{_≡_, refl}
-use mathlib.Core.Logic.{_⊎_, inl, inr}
-use mathlib.Core.Bool.{true, false}
+use mathlib.Core.Path.{_≡_, refl, sym, subst}
+use mathlib.Core.Bool.{Bool, true, false}
 use mathlib.Core.List.{List, _∷_}
 use Prim.Native.Nat.{ℕ, zero, suc, _≤_, _<_}
 use native.Mathlib.Omega.{arith}
+use lib.IntN.{ℤ}
+use Rattle.job.specs.Number.{Signed32}
 use Rattle.job.specs.Node.{Dag}
 use Rattle.job.specs.Construct.{construct}
 use Rattle.model.specs.Machine.Limits.{Limits, paper}
 use Rattle.model.specs.Machine.Reply.{isRefused}
 use Rattle.model.specs.Machine.Step as Step
-use Rattle.model.specs.Run.Call.{Call, runner, outcomeOf, started, machineAfter}
+use Rattle.model.specs.Machine.Answer as Answer
+use Rattle.calculus.specs.Event.{Event}
+use Rattle.model.specs.Run.Call.{Call, runner, outcomeOf}
 use Rattle.model.specs.Run.Follow.{Fate, acts, falls, stays, fate, House, Followed}
 use Rattle.model.specs.Run.Demand3.{Last}
 use Rattle.model.specs.declared.record.Machine.{Machine}
-use Rattle.job.proofs.Test.{holds-or-fails}
+use Rattle.model.proofs.Run.Passage.{Passage, passage, refused-leaves}
 use Rattle.model.proofs.Run.Survivors.{survivors-bound, fate-stays}
 use Rattle.model.proofs.Run.Passing.{step-stands}
 use Rattle.model.proofs.Run.Answering.{answer-stands}
@@ -30,51 +33,50 @@ module _ (lim : Limits) (d : Dag) (fits : lim .tokens ≤ lim .tokenPlaces) wher
   abbrev pub Fair : Machine → ℕ → List Call → Type 0
   Fair m k calls = (n : ℕ) × Followed runner lim d m k calls n × (n ≤ k)
 
-  -- a step, once the calls after it are followed
+  -- an accepted step, once the calls after it are followed
   after-step :
-      {calls : List Call} (m : Machine) (k : ℕ) → k < m .queued
-      → ((m′ : Machine) (k′ : ℕ) → k′ < m′ .queued → Fair m′ k′ calls) → Fair m k (Call.step 0 ∷ calls)
+      {calls : List Call} (m : Machine) (k : ℕ) → k < m .queued → isRefused (Step.step lim d m 0 .reply) ≡ false
+      → ((k′ : ℕ) → k′ < Step.step lim d m 0 .machine .queued → Fair (Step.step lim d m 0 .machine) k′ calls) → Fair m k (Call.step 0 ∷ calls)
   unfolding outcomeOf
-  after-step {calls} m k l rest = go (holds-or-fails (isRefused (Step.step lim d m 0 .reply)))
+  after-step {calls} m k l ok rest = by-fate k l (fate d m k) refl
     where
-      stepped : Machine
-      stepped = Step.step lim d m 0 .machine
-
-      behind :
-          (k k′ : ℕ) → suc k < m .queued → isRefused (Step.step lim d m 0 .reply) ≡ false → fate d m (suc k) ≡ stays k′
-          → Fair m (suc k) (Call.step 0 ∷ calls)
-      behind k k′ l ok e =
+      behind : (k k′ : ℕ) → suc k < m .queued → fate d m (suc k) ≡ stays k′ → Fair m (suc k) (Call.step 0 ∷ calls)
+      behind k k′ l e =
           let s = step-stands lim d m k k′ fits ok l e in
-          let r = rest stepped k′ (s .queued) in (
+          let r = rest k′ (s .queued) in (
             suc (r .0),
             Followed.passed ok e s (r .1),
             (let b = survivors-bound d m 1 k in let p = fate-stays d m k k′ e .1 in let n = r .2 in omega arith),
           )
 
-      by-fate :
-          (k : ℕ) → k < m .queued → isRefused (Step.step lim d m 0 .reply) ≡ false → (f : Fate) → fate d m k ≡ f
-          → Fair m k (Call.step 0 ∷ calls)
-      by-fate k l ok acts e = (0, Followed.acted ok e, omega arith)
-      by-fate k l ok falls e = (0, Followed.pruned ok e, omega arith)
-      by-fate zero l ok (stays k′) e = let z : _≡_ {A = ℕ} 0 1 = cc (front-acts d m) in absurd (omega arith)
-      by-fate (suc k) l ok (stays k′) e = behind k k′ l ok e
+      by-fate : (k : ℕ) → k < m .queued → (f : Fate) → fate d m k ≡ f → Fair m k (Call.step 0 ∷ calls)
+      by-fate k l acts e = (0, Followed.acted ok e, omega arith)
+      by-fate k l falls e = (0, Followed.pruned ok e, omega arith)
+      by-fate zero l (stays k′) e = let z : _≡_ {A = ℕ} 0 1 = cc (front-acts d m) in absurd (omega arith)
+      by-fate (suc k) l (stays k′) e = behind k k′ l e
 
-      go :
-          (isRefused (Step.step lim d m 0 .reply) ≡ true) ⊎ (isRefused (Step.step lim d m 0 .reply) ≡ false)
-          → Fair m k (Call.step 0 ∷ calls)
-      go (inl e) = (0, Followed.refused e, omega arith)
-      go (inr ok) = by-fate k l ok (fate d m k) refl
-
-  pub follow : {calls : List Call} → House calls → (m : Machine) (k : ℕ) → k < m .queued → Fair m k calls
+  -- an answer, accepted or not
+  after-answer : {calls : List Call} (m : Machine) (k h : ℕ) (v : ℤ) (signed : Signed32 v) → k < m .queued
+      → ((k′ : ℕ) → k′ < Answer.answer lim d m h v .machine .queued → Fair (Answer.answer lim d m h v .machine) k′ calls)
+      → Fair m k (Call.answer h v signed ∷ calls)
   unfolding outcomeOf
-  follow House.none m k l = (0, Followed.over, omega arith)
-  follow (House.front rest) m k l = after-step m k l (λ m′ k′ l′. follow rest m′ k′ l′)
-  follow (House.between {h = h} {v = v} rest) m k l =
-      let s = answer-stands lim d m h v k l in
-      let r = follow rest _ k (s .queued) in
-      (r .0, Followed.between s (r .1), r .2)
+  after-answer m k h v signed l rest =
+      let s = answer-stands lim d m h v k l in let r = rest k (s .queued) in (r .0, Followed.between s (r .1), r .2)
+
+  pub follow : {m end : Machine} {calls : List Call} {es : List Event} {fine : Bool} → House calls → Passage lim d m calls es fine end
+      → (k : ℕ) → k < m .queued → Fair m k calls
+  unfolding outcomeOf
+  follow House.none p k l = (0, Followed.over, omega arith)
+  follow (House.front rest) (Passage.refused no′ p) k l = (0, Followed.refused no′, omega arith)
+  follow (House.front rest) (Passage.accepted {m = m} ok p) k l = after-step m k l ok (λ k′ l′. follow rest p k′ l′)
+  follow (House.between {h = h} {v = v} {fits = signed} {cs = calls} rest) (Passage.refused {m = m} no′ p) k l =
+      after-answer m k h v signed l
+      (subst (λ (m′ : Machine). (k′ : ℕ) → k′ < m′ .queued → Fair m′ k′ calls) (sym (refused-leaves lim d m (Call.answer h v signed) no′))
+      (λ k′ l′. follow rest p k′ l′))
+  follow (House.between {h = h} {v = v} {fits = signed} rest) (Passage.accepted {m = m} ok p) k l =
+      after-answer m k h v signed l (λ k′ l′. follow rest p k′ l′)
 
 -- "Last part: .. at most k later steps have been accepted."
 pub house-order-is-fair : Last runner
 house-order-is-fair table p read earlier later house k l =
-    follow paper (construct p) (omega arith) house (machineAfter runner paper (construct p) (started runner paper (construct p)) earlier) k l
+    follow paper (construct p) (omega arith) house (passage paper (construct p) later _) k l

@@ -3,7 +3,7 @@
 -- to call: an accepted call has tested the rules itself. Assumes nothing.
 use mathlib.Core.Path.{_≡_, refl, sym, _∙_, ap, subst}
 use mathlib.Core.Logic.{_⊎_, inl, inr}
-use mathlib.Core.Bool.{true, false}
+use mathlib.Core.Bool.{Bool, true, false}
 use mathlib.Core.List.{List, [], _∷_, _++_}
 use Prim.Native.Nat.{ℕ, _<_, _≤_}
 use native.Mathlib.Omega.{arith}
@@ -28,7 +28,7 @@ use Rattle.model.specs.Machine.Answer.{holder, answered}
 use Rattle.calculus.specs.Event.{Event, Label, silently, showing}
 use Rattle.calculus.specs.Expression.{Exp}
 use Rattle.calculus.specs.Allowed.{shown}
-use Rattle.model.specs.Run.Call.{Call, step, answer, runner, eventsOf, outcomeOf, eventsFrom, machineAfter, started}
+use Rattle.model.specs.Run.Call.{Call, step, answer, runner, eventsOf, outcomeOf, eventsFrom, started}
 use Rattle.model.specs.declared.token.Place.{Place}
 use Rattle.model.specs.declared.token.Place.the-variants as places
 use Rattle.model.specs.declared.token.State.{State}
@@ -42,7 +42,8 @@ use Rattle.model.proofs.Machine.Marks.{Free}
 use Rattle.model.proofs.Machine.InUse.{tokens-used, cells-used}
 use Rattle.model.proofs.Machine.Places.{next-place-free}
 use Rattle.model.proofs.Machine.Rules.{EachRuleHolds, each-rule-holds, ready-state}
-use Rattle.model.proofs.Machine.Refused.{outcome-refused, StepAccepted, step-accepted, AnswerAccepted, answer-accepted}
+use Rattle.model.proofs.Machine.Refused.{StepAccepted, step-accepted, AnswerAccepted, answer-accepted}
+use Rattle.model.proofs.Run.Passage.{eventsBy, Passage, passage}
 use Rattle.model.proofs.Run.Queue.{queue-rules-hold, tokens-sized, lasttoken-inside}
 use Rattle.simulation.proofs.Machine as Abstract
 use Rattle.simulation.proofs.Machine.{Binding, Frame, at, Store, state, labelOf, after, Move, startAt}
@@ -103,10 +104,6 @@ module _ (lim : Limits) (d : Dag) (m : Machine) (holds : rulesHold lim d m ≡ t
 module _ (d : Dag) (M : Labels) (bodies : ℕ → Exp) where
   pub data Steps (s : Abstract.State) (es : List Event) (m : Machine) : Type 0 where
     steps : {a : Label} {s′ : Abstract.State} → Abstract.Step (programOf d M bodies) s a s′ → es ≡ shown a [] → Sees M m s′ → Steps s es m
-
--- what a call and its outcome show
-abbrev pub eventsBy : Call → Outcome → List Event
-eventsBy c o = eventsOf c (reported (o .reply) (o .values))
 
 called-shows : (place h s : ℕ) (vs : List ℤ) (m : Machine)
     → eventsBy (step place) (accepted (replies.Called h s (length vs)) vs m) ≡ Event.call h s vs ∷ []
@@ -204,22 +201,6 @@ module _ (lim : Limits) (d : Dag) (M : Labels) (bodies : ℕ → Exp) (fits : Fi
       go places.Nowhere e r = unfold answered outcome isRefused in clash refl r
       go (places.At p) e r = found p (find-pending p h K (holder-called h (m .tokens) p e))
 
--- a refused call shows nothing and leaves the machine
-refused-shows : (c : Call) (r : Reply) (vs : List ℤ) → isRefused r ≡ true → eventsOf c (reported r vs) ≡ []
-unfolding isRefused reported eventsOf
-refused-shows c replies.Done vs e = clash e refl
-refused-shows c replies.Waits vs e = clash e refl
-refused-shows c (replies.Published v) vs e = clash e refl
-refused-shows c (replies.Called h s n) vs e = clash e refl
-refused-shows (step place) (replies.Refused r) vs e = refl
-refused-shows (answer h v signed) (replies.Refused r) vs e = refl
-
-pub refused-leaves : (lim : Limits) (d : Dag) (m : Machine) (c : Call)
-    → isRefused (outcomeOf runner lim d m c .reply) ≡ true → outcomeOf runner lim d m c .machine ≡ m
-unfolding outcomeOf Step.step Answer.answer
-refused-leaves lim d m (step place) e = outcome-refused m _ e
-refused-leaves lim d m (answer h v signed) e = outcome-refused m _ e
-
 -- "14: dag .. breaks an index rule": nothing is accepted on such a dag
 accepted-dag : (lim : Limits) (d : Dag) (m : Machine) (c : Call) → isRefused (outcomeOf runner lim d m c .reply) ≡ false → dagHolds d ≡ true
 unfolding outcomeOf
@@ -243,53 +224,29 @@ module _ (lim : Limits) (d : Dag) (M : Labels) (bodies : ℕ → Exp) (fits : Fi
     runs : {s′ : Abstract.State} → Abstract.Run (programOf d M bodies) s es s′ → Sees M m s′ → Runs s es m
 
   -- "any list of calls"
-  pub calls-lock : (cs : List Call) (m : Machine) (s : Abstract.State) → Sees M m s
-      → Runs s (eventsFrom runner lim d m cs) (machineAfter runner lim d m cs)
-  unfolding eventsFrom machineAfter
-  calls-lock [] m s sn = runs Abstract.rests sn
-  calls-lock (c ∷ cs) m s sn = go (holds-or-fails (isRefused (o .reply))) (λ m′ s′ x. calls-lock cs m′ s′ x)
+  pub calls-lock : {m end : Machine} {cs : List Call} {es : List Event} {fine : Bool} → Passage lim d m cs es fine end
+      → (s : Abstract.State) → Sees M m s → Runs s es end
+  calls-lock Passage.none s sn = runs Abstract.rests sn
+  calls-lock (Passage.refused no′ p) s sn = calls-lock p s sn
+  calls-lock (Passage.accepted {m = m} {end = end} {c = c} {es = es} ok p) s sn = locked (call-locks m sn c ok) (λ s′ x. calls-lock p s′ x)
     where
       o : Outcome
       o = outcomeOf runner lim d m c
 
-      rest : Machine → List Event
-      rest m′ = eventsFrom runner lim d m′ cs
-
-      end : Machine → Machine
-      end m′ = machineAfter runner lim d m′ cs
-
-      Further : Type 0
-      Further = (m′ : Machine) (s′ : Abstract.State) → Sees M m′ s′ → Runs s′ (rest m′) (end m′)
-
-      first : {s₁ : Abstract.State} {a : Label} → Abstract.Step (programOf d M bodies) s a s₁ → eventsBy c o ≡ shown a []
-          → Runs s₁ (rest (o .machine)) (end (o .machine)) → Runs s (eventsBy c o ++ rest (o .machine)) (end (o .machine))
+      first : {s₁ : Abstract.State} {a : Label} → Abstract.Step (programOf d M bodies) s a s₁ → eventsBy c o ≡ shown a [] → Runs s₁ es end
+          → Runs s (eventsBy c o ++ es) end
       first {a = a} st e (runs r sn′) =
-          subst (λ es. Runs s es (end (o .machine))) (sym (ap (λ es. es ++ rest (o .machine)) e ∙ shown-append a (rest (o .machine))))
-          (runs (Abstract.then st r) sn′)
+          subst (λ es. Runs s es end) (sym (ap (λ xs. xs ++ es) e ∙ shown-append a es)) (runs (Abstract.then st r) sn′)
 
-      locked : Steps d M bodies s (eventsBy c o) (o .machine) → Further → Runs s (eventsBy c o ++ rest (o .machine)) (end (o .machine))
-      locked (steps st e sn′) f = first st e (f (o .machine) _ sn′)
-
-      go : (isRefused (o .reply) ≡ true) ⊎ (isRefused (o .reply) ≡ false) → Further → Runs s (eventsBy c o ++ rest (o .machine)) (end (o .machine))
-      go (inl no′) f =
-          subst (λ es. Runs s (es ++ rest (o .machine)) (end (o .machine))) (sym (refused-shows c (o .reply) (o .values) no′))
-          (subst (λ m′. Runs s (rest m′) (end m′)) (sym (refused-leaves lim d m c no′)) (f m s sn))
-      go (inr ok) f = locked (call-locks m sn c ok) f
+      locked : Steps d M bodies s (eventsBy c o) (o .machine) → ((s′ : Abstract.State) → Sees M (o .machine) s′ → Runs s′ es end)
+          → Runs s (eventsBy c o ++ es) end
+      locked (steps st e sn′) f = first st e (f _ sn′)
 
   -- on a dag that breaks a rule every call is refused
-  no-events : dagHolds d ≡ false → (cs : List Call) (m : Machine) → eventsFrom runner lim d m cs ≡ []
-  unfolding eventsFrom
-  no-events e [] m = refl
-  no-events e (c ∷ cs) m =
-      go (holds-or-fails (isRefused (outcomeOf runner lim d m c .reply))) (no-events e cs (outcomeOf runner lim d m c .machine))
-    where
-      o : Outcome
-      o = outcomeOf runner lim d m c
-
-      go : (isRefused (o .reply) ≡ true) ⊎ (isRefused (o .reply) ≡ false) → eventsFrom runner lim d (o .machine) cs ≡ []
-          → eventsBy c o ++ eventsFrom runner lim d (o .machine) cs ≡ []
-      go (inl no′) f = ap (λ es. es ++ eventsFrom runner lim d (o .machine) cs) (refused-shows c (o .reply) (o .values) no′) ∙ f
-      go (inr ok) f = clash (accepted-dag lim d m c ok) e
+  no-events : dagHolds d ≡ false → {m end : Machine} {cs : List Call} {es : List Event} {fine : Bool} → Passage lim d m cs es fine end → es ≡ []
+  no-events e Passage.none = refl
+  no-events e (Passage.refused no′ p) = no-events e p
+  no-events e (Passage.accepted {m = m} {c = c} ok p) = clash (accepted-dag lim d m c ok) e
 
   -- "each run's event list": from the start on, some run of the abstract machine shows it
   pub data Shown (es : List Event) : Type 0 where
@@ -302,5 +259,5 @@ module _ (lim : Limits) (d : Dag) (M : Labels) (bodies : ℕ → Exp) (fits : Fi
       from (runs r sn) = shows r
 
       go : (dagHolds d ≡ true) ⊎ (dagHolds d ≡ false) → Shown (eventsFrom runner lim d (started runner lim d) cs)
-      go (inl holds) = from (calls-lock cs (started runner lim d) (startAt (d .goal)) (start-sees lim d M flow some holds))
-      go (inr broken) = subst Shown (sym (no-events broken cs (started runner lim d))) (shows Abstract.rests)
+      go (inl holds) = from (calls-lock (passage lim d cs (started runner lim d)) (startAt (d .goal)) (start-sees lim d M flow some holds))
+      go (inr broken) = subst Shown (sym (no-events broken (passage lim d cs (started runner lim d)))) (shows Abstract.rests)
