@@ -16,7 +16,7 @@ use Rattle.job.specs.Node.{Node, Dag, nodeAt}
 use Rattle.model.specs.Machine.Limits.{Limits}
 use Rattle.model.specs.Machine.Blank.{tokenAt}
 use Rattle.model.specs.Machine.Rules.{rulesHold}
-use Rattle.model.specs.Machine.Reply.{accepted, outcome, unless, reported, isRefused}
+use Rattle.model.specs.Machine.Reply.{accepted, outcome, unless, isRefused}
 use Rattle.model.specs.Machine.Step as Step
 use Rattle.model.specs.Machine.Update.{withOrders, queueOf, waitsOf}
 use Rattle.model.specs.Machine.Step.{unset, look, takes}
@@ -171,7 +171,7 @@ module _ (lim : Limits) (d : Dag) (M : Labels) (bodies : ℕ → Exp) (fits : Fi
       → Others M W p L R → PlaceSeen W M (tokenAt (m .tokens) p) n B F U → Unset σ U
       → TokenSeen W M (tokenAt (m .tokens) p) (Abstract.calledOut h (at n B F U))
       → FollowedBy L R (Abstract.makes (showing (Event.answer h w)) (running (at n B F U) w ∷ []))
-  unfolding outcomeOf answered outcome accepted isRefused reported eventsOf shown
+  unfolding outcomeOf answered outcome accepted isRefused eventsOf shown
   follow-called {L} {R} {n} {B} {F} {U} p h w signed e o z un seen =
       let does = answer-does h p w e in
       calls (answer h w signed) (ap (λ (o : Outcome). isRefused (o .reply)) does) (ap (eventsBy (answer h w signed)) does)

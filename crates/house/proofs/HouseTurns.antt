@@ -12,7 +12,7 @@ use Rattle.job.specs.Node.{Dag}
 use Rattle.model.specs.Output.Line.{Line, end, limit, short}
 use Rattle.model.specs.Output.Orcrun.{Standing, Turn, on, over, reportedLines, stepTurn, deliverTurn, lastTurn, turn}
 use Rattle.model.specs.Machine.Limits.{paper}
-use Rattle.model.specs.Machine.Reply.{reported, isRefused}
+use Rattle.model.specs.Machine.Reply.{isRefused}
 use Rattle.model.specs.Machine.Step as Step
 use Rattle.model.specs.Machine.Answer as Answer
 use Rattle.model.specs.declared.record.Machine.{Machine}

@@ -7,7 +7,7 @@ use lib.IntN.{ℤ}
 use Rattle.job.proofs.Test.{clash}
 use Rattle.model.specs.Output.Line.{textOfAll}
 use Rattle.model.specs.Output.Orcrun.{reportedLines}
-use Rattle.model.specs.Machine.Reply.{reported, isRefused}
+use Rattle.model.specs.Machine.Reply.{isRefused}
 use Rattle.model.specs.declared.record.Machine.{Machine}
 use Rattle.model.specs.declared.reply.Outcome.{Outcome}
 use Rattle.model.specs.declared.reply.Reply.{Reply}
@@ -21,8 +21,8 @@ use Rattle.turns.specs.Turn.{hasLine, isOver}
 use Rattle.house.specs.TurnLeaves.{TurnLeaves}
 
 -- a reply without a line prints nothing and refuses nothing
-pub silent : (r : Reply) (vs : List ℤ) → hasLine r ≡ false → ([] ≡ textOfAll (reportedLines (reported r vs))) × (false ≡ isRefused r)
-unfolding hasLine reported reportedLines textOfAll isRefused
+pub silent : (r : Reply) (vs : List ℤ) → hasLine r ≡ false → ([] ≡ textOfAll (reportedLines r vs)) × (false ≡ isRefused r)
+unfolding hasLine reportedLines textOfAll isRefused
 silent replies.Done vs e = (refl, refl)
 silent replies.Waits vs e = (refl, refl)
 silent (replies.Published v) vs e = clash refl e
@@ -31,14 +31,14 @@ silent (replies.Refused x) vs e = clash refl e
 
 module _ {o : Outcome} {m : Machine} {ws : List ℕ} {used cells shared : List Bool} {p : Report} (g : Stepped o m ws used cells shared p) {before after : List ℕ}
     {from total n : ℕ} {over : Bool} (ends : over ≡ isOver (m .queued) (p .reply)) where
-  pub turned-shows : ShowsBytes before from total (textOfAll (reportedLines (reported (p .reply) (p .values)))) after n → n ≤ total + 80
+  pub turned-shows : ShowsBytes before from total (textOfAll (reportedLines (p .reply) (p .values))) after n → n ≤ total + 80
       → TurnLeaves o m ws used cells shared before from total after (record { total = n; over = over })
   turned-shows s few =
       record {
         holds = g .gives .holds;
         marks = g .gives .marks;
         callees = g .callees;
-        lines = shows-as (ap₂ (λ (r : Reply) (vs : List ℤ). textOfAll (reportedLines (reported r vs))) (g .gives .reply) (g .gives .values)) s;
+        lines = shows-as (ap₂ (λ (r : Reply) (vs : List ℤ). textOfAll (reportedLines r vs)) (g .gives .reply) (g .gives .values)) s;
         few = few;
         over = ends ∙ ap (isOver (m .queued)) (g .gives .reply);
       }

@@ -5,7 +5,6 @@ use mathlib.Core.List.{List}
 use Prim.Native.Nat.{ℕ, _+_, _≤_}
 use Rattle.model.specs.Output.Line.{Line, textOfAll}
 use Rattle.model.specs.Output.Orcrun.{reportedLines}
-use Rattle.model.specs.Machine.Reply.{reported}
 use Rattle.model.specs.declared.record.Machine.{Machine}
 use Rattle.model.specs.declared.reply.Outcome.{Outcome}
 use Rattle.record.specs.Holds.{Holds}
@@ -17,7 +16,7 @@ use Rattle.house.specs.declared.turn.TurnEnd.{TurnEnd}
 
 -- the lines of an outcome
 abbrev pub linesFrom : Outcome → List Line
-linesFrom o = reportedLines (reported (o .reply) (o .values))
+linesFrom o = reportedLines (o .reply) (o .values)
 
 -- a run that goes on with so many bytes printed
 abbrev pub goesOn : (total : ℕ) → TurnEnd

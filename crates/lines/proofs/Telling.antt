@@ -9,7 +9,7 @@ use lib.ListN.{length, take}
 use lib.Seq.{take-all}
 use Rattle.model.specs.Output.Line.{Line, textOf, textOfAll, call, publish, refused, end, short}
 use Rattle.model.specs.Output.Orcrun.{reportedLines}
-use Rattle.model.specs.Machine.Reply.{reported, numberOf}
+use Rattle.model.specs.Machine.Reply.{numberOf}
 use Rattle.model.specs.declared.reply.Refusal.{Refusal}
 use Rattle.model.specs.declared.reply.Reply.{Reply}
 use Rattle.model.specs.declared.reply.Reply.the-variants as replies
@@ -35,21 +35,21 @@ text-first l ls = refl
 -- the text of a reply, by its case
 module _ (reply : Reply) (values : List ℤ) where
   abbrev Text : List ℕ
-  Text = textOfAll (reportedLines (reported reply values))
+  Text = textOfAll (reportedLines reply values)
 
-  one-line : (l : Line) → reportedLines (reported reply values) ≡ l ∷ [] → textOf l ≡ Text
+  one-line : (l : Line) → reportedLines reply values ≡ l ∷ [] → textOf l ≡ Text
   one-line l e = text-one l ∙ ap textOfAll (sym e)
 
   pub tells-publish : (v : ℤ) → reply ≡ replies.Published v → textOf (publish v) ≡ Text
-  unfolding reportedLines reported
-  tells-publish v e = one-line (publish v) (ap (λ (r : Reply). reportedLines (reported r values)) e)
+  unfolding reportedLines
+  tells-publish v e = one-line (publish v) (ap (λ (r : Reply). reportedLines r values) e)
 
   -- (there are four values, so as many as four of them are all)
   pub tells-call : (h s k j : ℕ) → length values ≡ 4 → reply ≡ replies.Called h s k → j ≡ min k 4 → textOf (call h s (take j values)) ≡ Text
-  unfolding reportedLines reported
+  unfolding reportedLines
   tells-call h s k j four e m =
       one-line (call h s (take j values))
-      (ap (λ (r : Reply). reportedLines (reported r values)) e ∙ ap (λ (vs : List ℤ). call h s vs ∷ []) front)
+      (ap (λ (r : Reply). reportedLines r values) e ∙ ap (λ (vs : List ℤ). call h s vs ∷ []) front)
     where
       front : take k values ≡ take j values
       front = go (decLt k 5)
@@ -59,20 +59,20 @@ module _ (reply : Reply) (values : List ℤ) where
           go (no l) = take-all k values (omega arith) ∙ sym (take-all j values (omega arith))
 
   pub tells-refusal : (k : ℕ) (r : Refusal) → reply ≡ replies.Refused r → k ≡ numberOf r → textOf (refused k) ≡ Text
-  unfolding reportedLines reported
-  tells-refusal k r e m = one-line (refused k) (ap (λ (r : Reply). reportedLines (reported r values)) e ∙ ap (λ (i : ℕ). refused i ∷ []) (sym m))
+  unfolding reportedLines
+  tells-refusal k r e m = one-line (refused k) (ap (λ (r : Reply). reportedLines r values) e ∙ ap (λ (i : ℕ). refused i ∷ []) (sym m))
 
-  quiet : reportedLines (reported reply values) ≡ [] → [] ≡ Text
+  quiet : reportedLines reply values ≡ [] → [] ≡ Text
   unfolding textOfAll
   quiet e = ap textOfAll (sym e)
 
   pub tells-done : reply ≡ replies.Done → [] ≡ Text
-  unfolding reportedLines reported
-  tells-done e = quiet (ap (λ (r : Reply). reportedLines (reported r values)) e)
+  unfolding reportedLines
+  tells-done e = quiet (ap (λ (r : Reply). reportedLines r values) e)
 
   pub tells-waits : reply ≡ replies.Waits → [] ≡ Text
-  unfolding reportedLines reported
-  tells-waits e = quiet (ap (λ (r : Reply). reportedLines (reported r values)) e)
+  unfolding reportedLines
+  tells-waits e = quiet (ap (λ (r : Reply). reportedLines r values) e)
 
 -- the last lines
 pub last-none : (left k : ℕ) → left ≡ 0 → end k ∷ [] ≡ lastLines left k

@@ -4,7 +4,7 @@ ghost use Prim.Native.Nat.{_+_, _≤_, min};
 ghost use lib.ListN.{take};
 ghost use Rattle.model.specs.Output.Line.{publish, call, refused, textOf, textOfAll};
 ghost use Rattle.model.specs.Output.Orcrun.{reportedLines};
-ghost use Rattle.model.specs.Machine.Reply.{numberOf, reported};
+ghost use Rattle.model.specs.Machine.Reply.{numberOf};
 ghost use Rattle.lines.specs.Shown.{ShowsBytes};
 use crate::shown::has_room;
 use crate::shown::show_front;
@@ -88,7 +88,7 @@ pub fn show_reply(
     total: usize,
 ) -> usize
     requires { ⌜ total + 80 ≤ 1000000000 ⌝ }
-    ensures { λ r. ⌜ ShowsBytes (now (output .entry)) from total (textOfAll (reportedLines (reported reply values))) (now (output .exit)) r ⌝ }
+    ensures { λ r. ⌜ ShowsBytes (now (output .entry)) from total (textOfAll (reportedLines reply values)) (now (output .exit)) r ⌝ }
     ensures { λ r. ⌜ r ≤ total + 80 ⌝ }
 {
     match reply {

@@ -6,7 +6,7 @@ use mathlib.Core.List.{List, [], _∷_, _++_}
 use lib.IntN.{ℤ}
 use Rattle.job.specs.Node.{Dag}
 use Rattle.model.specs.Machine.Limits.{Limits}
-use Rattle.model.specs.Machine.Reply.{reported, isRefused}
+use Rattle.model.specs.Machine.Reply.{isRefused}
 use Rattle.model.specs.Machine.Step as Step
 use Rattle.model.specs.Machine.Answer as Answer
 use Rattle.calculus.specs.Event.{Event}
@@ -20,10 +20,10 @@ use Rattle.model.proofs.Machine.Refused.{outcome-refused}
 
 -- the events of a call with this outcome
 abbrev pub eventsBy : Call → Outcome → List Event
-eventsBy c o = eventsOf c (reported (o .reply) (o .values))
+eventsBy c o = eventsOf c (o .reply) (o .values)
 
-refused-shows : (c : Call) (r : Reply) (vs : List ℤ) → isRefused r ≡ true → eventsOf c (reported r vs) ≡ []
-unfolding isRefused reported eventsOf
+refused-shows : (c : Call) (r : Reply) (vs : List ℤ) → isRefused r ≡ true → eventsOf c r vs ≡ []
+unfolding isRefused eventsOf
 refused-shows c replies.Done vs e = clash e refl
 refused-shows c replies.Waits vs e = clash e refl
 refused-shows c (replies.Published v) vs e = clash e refl

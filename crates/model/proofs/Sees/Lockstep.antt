@@ -19,7 +19,7 @@ use Rattle.model.specs.Machine.InUse.{tokensUsed, cellsUsed, marked}
 use Rattle.model.specs.Machine.FreePlace.{nextPlace}
 use Rattle.model.specs.Machine.Rules.{tokenInRange, sizesInRange, rulesHold}
 use Rattle.model.specs.Machine.State.{isReady}
-use Rattle.model.specs.Machine.Reply.{Effect, moves, waits, publishes, calls, refuses, accepted, outcome, reported, isRefused}
+use Rattle.model.specs.Machine.Reply.{Effect, moves, waits, publishes, calls, refuses, accepted, outcome, isRefused}
 use Rattle.model.specs.Machine.Step as Step
 use Rattle.model.specs.Machine.Update.{withOrders, queueOf, waitsOf}
 use Rattle.model.specs.Machine.Step.{hasTokenPlace, hasCellPlace, takes}
@@ -107,7 +107,7 @@ module _ (d : Dag) (M : Labels) (bodies : ℕ → Exp) where
 
 called-shows : (place h s : ℕ) (vs : List ℤ) (m : Machine)
     → eventsBy (step place) (accepted (replies.Called h s (length vs)) vs m) ≡ Event.call h s vs ∷ []
-unfolding eventsOf reported accepted padded
+unfolding eventsOf accepted padded
 called-shows place h s vs m = ap (λ ws. Event.call h s ws ∷ []) (take-append-seam vs _)
 
 -- an outcome shows what its effect does, and its machine is the effect's, blanked
@@ -115,7 +115,7 @@ module _ (M : Labels) (W : World) (L R : List Abstract.Token) (h : ℕ) (x : Abs
   pub shown-by : (e : Effect) → Agrees M W L R h e x → isRefused (outcome before e .reply) ≡ false
       → (eventsBy (step place) (outcome before e) ≡ shown (labelOf x) [])
       × Sees M (outcome before e .machine) (after L R (W .store) (W .new) h x)
-  unfolding Shows outcome accepted reported eventsOf isRefused shown
+  unfolding Shows outcome accepted eventsOf isRefused shown
   shown-by (moves m) b ok = (ap (λ a. shown a []) (sym (b .label)), finish-sees m (b .machine))
   shown-by (waits m) b ok = (ap (λ a. shown a []) (sym (b .label)), finish-sees m (b .machine))
   shown-by (publishes v m) b ok = (ap (λ a. shown a []) (sym (b .label)), finish-sees m (b .machine))
@@ -194,7 +194,7 @@ module _ (lim : Limits) (d : Dag) (M : Labels) (bodies : ℕ → Exp) (fits : Fi
       W = world (m .tokens) (m .cells) name place σ new
 
       found : (p : ℕ) → Pending M W p h S → Locked (outcome m (answered m v (places.At p)))
-      found p (pending split others view clear seen) = unfold answered outcome accepted eventsOf reported shown in
+      found p (pending split others view clear seen) = unfold answered outcome accepted isRefused eventsOf shown in
           steps (Abstract.step (Move.answered v signed) split) refl (finish-sees _ (answered-becomes m h v others view clear seen .machine))
 
       go : (q : Place) → holder h 0 (m .tokens) ≡ q → isRefused (outcome m (answered m v q) .reply) ≡ false → Locked (outcome m (answered m v q))

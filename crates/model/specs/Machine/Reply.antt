@@ -2,7 +2,7 @@
 use mathlib.Core.Bool.{Bool, true, false}
 use mathlib.Core.List.{List, [], _∷_}
 use Prim.Native.Nat.{ℕ}
-use lib.ListN.{length, take}
+use lib.ListN.{length}
 use lib.IntN.{ℤ, pos}
 use Rattle.job.specs.Bounds.{parameterLimit}
 use Rattle.job.specs.Test.{padded}
@@ -50,20 +50,6 @@ numberOf refusals.CellLimit = 11
 numberOf refusals.NotOpen = 12
 numberOf refusals.CallLimit = 13
 numberOf refusals.Rule = 14
-
--- what a reply tells, with the values beside it, in document 01's words
-pub data Reported : Type 0 where
-  nothing : Reported
-  published : ℤ → Reported
-  called : (handle site : ℕ) → List ℤ → Reported
-  refused : (number : ℕ) → Reported
-
-unfoldable pub reported : Reply → List ℤ → Reported
-reported replies.Done vs = nothing
-reported replies.Waits vs = nothing
-reported (replies.Published v) vs = published v
-reported (replies.Called h s n) vs = called h s (take n vs)
-reported (replies.Refused r) vs = refused (numberOf r)
 
 unfoldable pub isRefused : Reply → Bool
 isRefused replies.Done = false

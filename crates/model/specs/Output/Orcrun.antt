@@ -4,25 +4,29 @@ use mathlib.Core.List.{List, [], _∷_, _++_}
 use Prim.Native.Nat.{ℕ, zero, suc, _+_}
 use lib.ListN.{length, take, drop}
 use lib.Dec.{ltb, leb, eqb}
+use lib.IntN.{ℤ}
 use Rattle.job.specs.Number.{number, signed}
 use Rattle.job.specs.Node.{Dag}
 use Rattle.job.specs.Read.{tableLength, Answer, accepted, declined, readTable}
 use Rattle.job.specs.Construct.{construct}
 use Rattle.model.specs.Machine.Limits.{Limits, paper}
-use Rattle.model.specs.Machine.Reply.{Reported, reported, isRefused}
+use Rattle.model.specs.Machine.Reply.{numberOf, isRefused}
 use Rattle.model.specs.Machine.Start.{start}
 use Rattle.model.specs.Machine.Step.{step}
 use Rattle.model.specs.Machine.Answer.{answer}
 use Rattle.model.specs.Output.Line.{Line, call, publish, refused, table, end, limit, short, long, textOfAll}
 use Rattle.model.specs.declared.record.Machine.{Machine}
+use Rattle.model.specs.declared.reply.Reply.{Reply}
+use Rattle.model.specs.declared.reply.Reply.the-variants as replies
 use Rattle.model.specs.declared.reply.Outcome.{Outcome}
 
--- the lines of what a call told
-unfoldable pub reportedLines : Reported → List Line
-reportedLines Reported.nothing = []
-reportedLines (Reported.published v) = publish v ∷ []
-reportedLines (Reported.called h s vs) = call h s vs ∷ []
-reportedLines (Reported.refused n) = refused n ∷ []
+-- the lines of a reply, with the values beside it
+unfoldable pub reportedLines : Reply → (values : List ℤ) → List Line
+reportedLines replies.Done vs = []
+reportedLines replies.Waits vs = []
+reportedLines (replies.Published v) vs = publish v ∷ []
+reportedLines (replies.Called h s n) vs = call h s (take n vs) ∷ []
+reportedLines (replies.Refused r) vs = refused (numberOf r) ∷ []
 
 -- where a run stands: the machine, the accepted steps, and the bytes not yet delivered
 pub record Standing : Type 0 where
@@ -43,7 +47,7 @@ module _ (lim : Limits) (most : ℕ) (d : Dag) where
         | false ↦ over (limit ∷ end (s .steps) ∷ [])
         | true ↦
             (let o = step lim d (s .machine) 0 in
-            let ls = reportedLines (reported (o .reply) (o .values)) in
+            let ls = reportedLines (o .reply) (o .values) in
             elim (isRefused (o .reply)) [
               | true ↦ over (ls ++ (end (s .steps) ∷ []))
               | false ↦ on ls (record { machine = o .machine; steps = suc (s .steps); rest = s .rest })
@@ -54,7 +58,7 @@ module _ (lim : Limits) (most : ℕ) (d : Dag) where
   unfoldable pub deliverTurn : Standing → Turn
   deliverTurn s =
       let o = answer lim d (s .machine) (number (take 4 (s .rest))) (signed (number (take 4 (drop 4 (s .rest))))) in
-      on (reportedLines (reported (o .reply) (o .values))) (record { machine = o .machine; steps = s .steps; rest = drop 8 (s .rest) })
+      on (reportedLines (o .reply) (o .values)) (record { machine = o .machine; steps = s .steps; rest = drop 8 (s .rest) })
 
   -- (docs/DECISIONS.md, "`short`") "A trailing piece prints `short`"; "last .. `end` and accepted steps"
   unfoldable pub lastTurn : Standing → Turn

@@ -3,16 +3,19 @@ use mathlib.Core.Path.{_≡_}
 use mathlib.Core.Bool.{Bool, true, false}
 use mathlib.Core.List.{List, [], _∷_, _++_}
 use Prim.Native.Nat.{ℕ}
+use lib.ListN.{take}
 use lib.IntN.{ℤ}
 use Rattle.job.specs.Number.{Signed32}
 use Rattle.job.specs.Node.{Dag}
 use Rattle.model.specs.Machine.Limits.{Limits}
-use Rattle.model.specs.Machine.Reply.{Reported, reported, isRefused}
+use Rattle.model.specs.Machine.Reply.{isRefused}
 use Rattle.model.specs.Machine.Start as Start
 use Rattle.model.specs.Machine.Step as Step
 use Rattle.model.specs.Machine.Answer as Answer
 use Rattle.calculus.specs.Event.{Event}
 use Rattle.model.specs.declared.record.Machine.{Machine}
+use Rattle.model.specs.declared.reply.Reply.{Reply}
+use Rattle.model.specs.declared.reply.Reply.the-variants as replies
 use Rattle.model.specs.declared.reply.Outcome.{Outcome}
 
 -- "steps, each with the queue place it picks, and answers, each with handle and value" (docs/DECISIONS.md, "A call of a run")
@@ -32,16 +35,13 @@ runner = record { start = Start.start; step = Step.step; answer = Answer.answer 
 
 -- what a call and its reply give: "an outside call gives handle, site and parameter values, a publish step its value,
 -- an accepted answer its handle and value; other accepted steps and all refused calls give nothing"
-unfoldable pub eventsOf : Call → Reported → List Event
-eventsOf (step place) Reported.nothing = []
-eventsOf (step place) (Reported.published v) = Event.publish v ∷ []
-eventsOf (step place) (Reported.called h s vs) = Event.call h s vs ∷ []
-eventsOf (step place) (Reported.refused n) = []
-eventsOf (answer h v fits) Reported.nothing = Event.answer h v ∷ []
-eventsOf (answer h v fits) (Reported.refused n) = []
--- an answer's reply is none of these
-eventsOf (answer h v fits) (Reported.published w) = []
-eventsOf (answer h v fits) (Reported.called k s vs) = []
+unfoldable pub eventsOf : Call → Reply → (values : List ℤ) → List Event
+eventsOf (step place) replies.Done vs = []
+eventsOf (step place) replies.Waits vs = []
+eventsOf (step place) (replies.Published v) vs = Event.publish v ∷ []
+eventsOf (step place) (replies.Called h s n) vs = Event.call h s (take n vs) ∷ []
+eventsOf (step place) (replies.Refused r) vs = []
+eventsOf (answer h v fits) r vs = elim (isRefused r) [ true ↦ [] | false ↦ Event.answer h v ∷ [] ]
 
 module _ (R : Runner) (lim : Limits) (d : Dag) where
   unfoldable pub outcomeOf : Machine → Call → Outcome
@@ -56,7 +56,7 @@ module _ (R : Runner) (lim : Limits) (d : Dag) where
   unfoldable pub eventsFrom : Machine → List Call → List Event
   eventsFrom m [] = []
   eventsFrom m (c ∷ cs) =
-      let o = outcomeOf m c in eventsOf c (reported (o .reply) (o .values)) ++ eventsFrom (o .machine) cs
+      let o = outcomeOf m c in eventsOf c (o .reply) (o .values) ++ eventsFrom (o .machine) cs
 
   unfoldable pub noneRefused : Machine → List Call → Bool
   noneRefused m [] = true

@@ -14,7 +14,7 @@ use Rattle.job.specs.Construct.{construct}
 use Rattle.model.specs.Machine.Limits.{Limits, limits}
 use Rattle.model.specs.Machine.Blank.{blankToken}
 use Rattle.model.specs.Machine.Rules.{rulesHold}
-use Rattle.model.specs.Machine.Reply.{reportValues, refuses, unless, outcome, reported}
+use Rattle.model.specs.Machine.Reply.{reportValues, refuses, unless, outcome, isRefused}
 use Rattle.model.specs.Machine.Start as Start
 use Rattle.model.specs.Machine.Start.{startToken}
 use Rattle.model.specs.Machine.Answer as Answer
@@ -68,7 +68,7 @@ module _ (lim : Limits) (d : Dag) (m : Machine) (closed : (h : ℕ) → holder h
 
   -- so the machine stays, and no call shows anything
   shows-nothing : (calls : List Call) → eventsFrom idle lim d m calls ≡ []
-  unfolding eventsFrom eventsOf outcomeOf idleStep outcome reported
+  unfolding eventsFrom eventsOf outcomeOf idleStep outcome isRefused
   shows-nothing [] = refl
   shows-nothing (Call.step place ∷ calls) = shows-nothing calls
   shows-nothing (Call.answer h v fits ∷ calls) = rw (answer-refused h v .1) (shows-nothing calls)
