@@ -4,9 +4,8 @@ use mathlib.Core.Logic.{_⊎_, inl, inr}
 use mathlib.Core.Bool.{Bool, true, false}
 use mathlib.Core.List.{List, [], _∷_, map}
 use Prim.Native.Nat.{ℕ, zero, suc, _+_}
-use native.Mathlib.Decide.{ℕ-discrete, decLt}
-use native.Mathlib.Omega.{arith}
-use lib.ListN.{length, getD, set}
+use native.Mathlib.Decide.{ℕ-discrete}
+use lib.ListN.{getD, set}
 use lib.Dec.{ltb}
 use lib.IntN.{ℤ}
 use lib.Seq.{getD-set-other}
@@ -35,11 +34,11 @@ use Rattle.model.specs.declared.token.Slot.the-variants as slots
 use Rattle.model.specs.declared.token.State.the-variants as states
 use Rattle.model.specs.declared.token.Token.{Token}
 use Rattle.model.proofs.Keeps.Facts.{blank-at}
-use Rattle.model.proofs.Machine.Writes.{Choked, ends, wakes, stays, choked-cases, choked-blank}
+use Rattle.model.proofs.Machine.Writes.{Choked, ends, wakes, stays, choked-cases}
 use Rattle.record.specs.Fields.{dequeued}
 use Rattle.sites.specs.Row.{nodeIn, paramsAt}
 use Rattle.acts.specs.Acting.{Acting}
-use Rattle.acts.specs.SharedFrames.{NamesAsCaller, OneCallee, callerShared, returnShared}
+use Rattle.acts.specs.SharedFrames.{NamesAsCaller, OneCallee, callerShared}
 use Rattle.acts.proofs.Outcomes.{step-is}
 use Rattle.acts.proofs.SharedFrames.{nowhere-at, blank-names, unshared, NoNewCallee, callees-kept, After, effect-callees, swept-callees, put-names, put-callees, blank-callees}
 

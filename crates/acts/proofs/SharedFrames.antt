@@ -3,11 +3,10 @@
 use mathlib.Core.Path.{_≡_, refl, sym, _∙_, ap, subst}
 use mathlib.Core.Logic.{_⊎_, inl, inr}
 use mathlib.Core.Bool.{Bool, true, false}
-use mathlib.Core.List.{List, map}
+use mathlib.Core.List.{List}
 use Prim.Native.Nat.{ℕ, _<_}
 use native.Mathlib.Decide.{ℕ-discrete, decLt}
 use native.Mathlib.Omega.{arith}
-use lib.IntN.{ℤ}
 use lib.ListN.{length, getD, set, replicate, length-set, List·getD-eq-default}
 use lib.Seq.{getD-set-same, getD-set-other}
 use Rattle.model.specs.Machine.Blank.{blankToken, tokenAt}
@@ -15,8 +14,6 @@ use Rattle.model.specs.Machine.InUse.{tokensUsed, sweep}
 use Rattle.model.specs.Machine.Reply.{Effect, moves, waits, publishes, calls, refuses, accepted, outcome}
 use Rattle.model.specs.Machine.Update.{put, withTables}
 use Rattle.model.specs.declared.record.Machine.{Machine}
-use Rattle.model.specs.declared.reply.Outcome.{Outcome}
-use Rattle.model.specs.declared.reply.Reply.{Reply}
 use Rattle.model.specs.declared.token.Place.{Place}
 use Rattle.model.specs.declared.token.Place.the-variants as places
 use Rattle.model.specs.declared.token.Token.{Token}
@@ -27,7 +24,7 @@ use Rattle.model.proofs.Machine.Kept.{kept-marked, kept-free}
 use Rattle.model.proofs.Sees.Others.{token-same, token-other}
 use Rattle.model.proofs.Keeps.Clean.{tokensOf}
 use Rattle.acts.specs.Acting.{Lawful}
-use Rattle.acts.specs.SharedFrames.{NamesAsCaller, OneCallee, callerShared, returnShared}
+use Rattle.acts.specs.SharedFrames.{NamesAsCaller, OneCallee, callerShared}
 
 pub nowhere-at : (f : ℕ) → places.Nowhere ≡ places.At f → ⊥
 nowhere-at f e = let z : _≡_ {A = ℕ} 0 1 = cc in absurd (omega arith)

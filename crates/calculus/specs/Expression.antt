@@ -1,6 +1,6 @@
 -- Expressions of the calculus, and substitution with no name caught. Assumes nothing: these are definitions.
 -- A variable is the number of binders between it and its own, so that a name cannot be caught (docs/DECISIONS.md, "Variables").
-use mathlib.Core.List.{List, [], _∷_, map, reverse}
+use mathlib.Core.List.{List, map, reverse}
 use Prim.Native.Nat.{ℕ, zero, suc}
 use lib.ListN.{getD}
 use lib.IntN.{ℤ, pos}

@@ -1,8 +1,7 @@
 -- The goal, with definitions, that a program is for the calculus. Assumes nothing: these are definitions.
-use mathlib.Core.Bool.{Bool, true, false}
+use mathlib.Core.Bool.{true, false}
 use mathlib.Core.List.{List, [], _∷_, map}
 use Prim.Native.Nat.{ℕ, zero, suc}
-use lib.ListN.{getD}
 use lib.Dec.{eqb}
 use Rattle.job.specs.Syntax as Job
 use Rattle.job.specs.Syntax.{Definition, Program, levels, scopeLeft, scopeRight}

@@ -27,7 +27,6 @@ use Rattle.model.specs.declared.reply.Report.{Report}
 use Rattle.model.specs.declared.reply.Reply.the-variants as replies
 use Rattle.model.specs.declared.reply.Refusal.the-variants as refusals
 use Rattle.model.specs.declared.token.Held.the-variants as helds
-use Rattle.model.specs.declared.token.Place.the-variants as places
 use Rattle.model.specs.declared.token.State.the-variants as states
 use Rattle.model.specs.declared.token.Token.{Token}
 use Rattle.job.proofs.Test.{lt-ltb, le-not-ltb}

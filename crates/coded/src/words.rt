@@ -1,7 +1,7 @@
 // Are words those of a record? "Words that are not those of their decoding are no record."
 ghost use mathlib.Core.Path.{_≡_};
 ghost use mathlib.Core.Bool.{true};
-ghost use Prim.Native.Nat.{ℕ, _<_, _≤_, _+_};
+ghost use Prim.Native.Nat.{_<_, _≤_, _+_};
 ghost use lib.ListN.{length, getD, take, drop};
 ghost use Rattle.record.specs.Decode.{machineOf};
 ghost use Rattle.record.specs.Holds.{Codes};

@@ -1,8 +1,8 @@
 -- A waiting token is blocked: it stands at a site call whose parameters have no values yet, since one of them is bound to an unset cell and none
 -- is empty. So a record of a run that has room can follow the abstract machine. Assumes nothing.
 use mathlib.Core.Path.{_≡_, ap, subst}
-use mathlib.Core.Bool.{true, false}
-use Prim.Native.Nat.{ℕ, suc, _<_}
+use mathlib.Core.Bool.{true}
+use Prim.Native.Nat.{ℕ, _<_}
 use lib.ListN.{length}
 use Rattle.job.specs.Node.{Dag, nodeAt, dagHolds}
 use Rattle.model.specs.Machine.Limits.{Limits}
@@ -10,9 +10,6 @@ use Rattle.model.specs.Machine.Blank.{blankToken, tokenAt}
 use Rattle.model.specs.Machine.State.{isBlankState, isLive}
 use Rattle.model.specs.Machine.Rules.{nodeRule, atNode}
 use Rattle.model.specs.Machine.Step.{unset, look}
-use Rattle.model.specs.Machine.Reply.{isRefused}
-use Rattle.calculus.specs.Expression.{Exp}
-use Rattle.model.specs.Run.Call.{Call, runner, outcomeOf}
 use Rattle.model.specs.declared.token.State.the-variants as states
 use Rattle.model.specs.declared.token.Token.{Token}
 use Rattle.model.specs.declared.record.Machine.{Machine}
@@ -23,12 +20,10 @@ use Rattle.model.proofs.Sees.Labels.{Labels, Flow}
 use Rattle.model.proofs.Sees.Sees.{live-inside}
 use Rattle.demand3.proofs.Room.{Room}
 use Rattle.demand3.proofs.Back.{Blocked, Ready}
-use Rattle.demand3.proofs.Following.{Keeps}
 use Rattle.demand3.proofs.Looking.{look-blocked}
 use Rattle.model.proofs.Keeps.Tables.{Awaits}
 use Rattle.demand3.proofs.Reached.{Reached, Roomy, reached-rules}
 use Rattle.demand3.proofs.NotRule.{at-rule}
-use Rattle.demand3.proofs.Runs.{InRun, seenWith, call-in-run}
 
 module _ (lim : Limits) (d : Dag) (M : Labels) (room : Roomy lim) (flow : Flow d M) (dag : dagHolds d ≡ true) where
   pub waiting-blocked : {m : Machine} {s : Abstract.State} → Reached lim d M m s → (p c : ℕ) → tokenAt (m .tokens) p .state ≡ states.Waiting c
@@ -59,20 +54,3 @@ module _ (lim : Limits) (d : Dag) (M : Labels) (room : Roomy lim) (flow : Flow d
   -- a record of a run that has room can follow the abstract machine
   pub reached-ready : {m : Machine} {s : Abstract.State} → Reached lim d M m s → Room lim d m → Ready lim d m
   reached-ready r space = record { holds = reached-rules lim d M room flow dag r; room = space; blocked = waiting-blocked r }
-
-  pub in-run-ready : {m : Machine} → InRun lim d M m → Room lim d m → Ready lim d m
-  in-run-ready (seenWith s r) space = reached-ready r space
-
-  -- where room lasts for the steps to come, records of a run can follow a run of the abstract machine
-  pub in-run-keeps : (bodies : ℕ → Exp) (J : ℕ → Machine → Type 0)
-      → ((n : ℕ) (m : Machine) → J (suc n) m → Room lim d m)
-      → ((n : ℕ) (m : Machine) → J (suc n) m → J n m)
-      → ((n : ℕ) (m : Machine) (c : Call) → InRun lim d M m → J (suc n) m → isRefused (outcomeOf runner lim d m c .reply) ≡ false
-      → J n (outcomeOf runner lim d m c .machine))
-      → Keeps lim d M bodies (λ n m. InRun lim d M m × J n m)
-  in-run-keeps bodies J space less next =
-      record {
-        ready = λ n m i. in-run-ready (i .0) (space n m (i .1));
-        stay = λ n m i. (i .0, less n m (i .1));
-        call = λ n m c i v ok v′. (call-in-run lim d M room flow dag bodies m c (i .0), next n m c (i .0) (i .1) ok);
-      }

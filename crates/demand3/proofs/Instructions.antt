@@ -1,11 +1,10 @@
 -- The instructions after which blanking changes nothing: a wait, an outside call, a built-in's reply, a fork, a where, a definition call; and an
 -- answer. Each writes what Unblanked allows: the orders and the counts do not matter, new places are free because there was room. Assumes nothing.
-use mathlib.Core.Path.{_≡_, refl, sym, ap, subst}
+use mathlib.Core.Path.{_≡_, refl, sym, subst}
 use mathlib.Core.Bool.{true}
 use mathlib.Core.List.{List}
 use Prim.Native.Nat.{ℕ, _<_}
 use lib.ListN.{getD}
-use lib.IntN.{ℤ}
 use Rattle.job.specs.Test.{without}
 use Rattle.job.specs.Syntax.{Param}
 use Rattle.job.specs.Node.{Dag}
@@ -16,13 +15,11 @@ use Rattle.model.specs.Machine.State.{isLive}
 use Rattle.model.specs.Machine.InUse.{tokensUsed, cellsUsed}
 use Rattle.model.specs.Machine.FreePlace.{nextPlace}
 use Rattle.model.specs.Machine.Rules.{rulesHold}
-use Rattle.model.specs.Machine.Update.{withNode, withBinding, withValue, inCell, withState, withTables, withOrders, withCounts, queueOf, waitsOf}
+use Rattle.model.specs.Machine.Update.{withNode, withBinding, inCell, withState, withTables, withOrders, withCounts, queueOf, waitsOf}
 use Rattle.model.specs.Machine.Update.{put, enqueue, newToken, newCell}
 use Rattle.model.specs.Machine.Step.{hasTokenPlace, hasCellPlace}
-use Rattle.model.specs.Machine.Answer.{holder}
 use Rattle.model.specs.declared.token.Slot.the-variants as slots
 use Rattle.model.specs.declared.token.Held.the-variants as helds
-use Rattle.model.specs.declared.token.Place.the-variants as places
 use Rattle.model.specs.declared.token.State.the-variants as states
 use Rattle.model.specs.declared.token.Token.{Token}
 use Rattle.model.specs.declared.record.Machine.{Machine}
@@ -30,9 +27,8 @@ use Rattle.model.proofs.Machine.Marks.{Free}
 use Rattle.model.proofs.Machine.Rules.{ready-live}
 pub use Rattle.model.proofs.Machine.Acting.{callee}
 use Rattle.model.proofs.Run.Queue.{queue-rules-hold}
-use Rattle.model.proofs.Sees.Answering.{holder-called}
 use Rattle.model.proofs.Sees.Lockstep.{Fitting, free-token, free-cell}
-use Rattle.demand3.proofs.Unblanked.{Whole, same-links, fork-links, call-links, split-links}
+use Rattle.demand3.proofs.Unblanked.{Whole, fork-links, call-links, split-links}
 
 -- the machine with the token at a place of the queue taken out of it
 abbrev pub taken : Machine → (place : ℕ) → Machine
@@ -47,23 +43,6 @@ module _ (lim : Limits) (d : Dag) (m : Machine) (holds : rulesHold lim d m ≡ t
     pub acting-live : isLive (t .state) ≡ true
     acting-live =
         subst (λ i. isLive (tokenAt (m .tokens) i .state) ≡ true) (sym token) (ready-live _ (queue-rules-hold lim d m holds .ready place queued))
-
-    -- "the first unset cell makes the token wait there"; the orders may be any
-    pub waited-whole : (c : ℕ) (queue waits : List ℕ) → Whole (withOrders queue waits (put p (withState (states.Waiting c) t) (taken m place)))
-    unfolding withOrders put withTables withState isLive
-    waited-whole c queue waits = same-links lim d m holds p acting-live _ (withState (states.Waiting c) t) refl refl refl refl refl refl
-
-    -- "the token is called out at the next node"; the handle and the counts may be any
-    pub called-whole : (h next calls lasttoken lastcell : ℕ)
-        → Whole (withCounts calls lasttoken lastcell (put p (withNode next (withState (states.Called h) t)) (taken m place)))
-    unfolding withOrders withCounts put withTables withNode withState isLive
-    called-whole h next calls lasttoken lastcell =
-        same-links lim d m holds p acting-live _ (withNode next (withState (states.Called h) t)) refl refl refl refl refl refl
-
-    -- "a built-in replies and the token goes on"
-    pub replied-whole : (next : ℕ) (v : ℤ) → Whole (enqueue p (put p (withNode next (withValue (helds.Value v) t)) (taken m place)))
-    unfolding withOrders put withTables enqueue withNode withValue
-    replied-whole next v = same-links lim d m holds p acting-live _ (withNode next (withValue (helds.Value v) t)) refl refl acting-live refl refl refl
 
     -- with room for a token, at the place q
     module _ (fits : Fitting lim) (room : hasTokenPlace lim m ≡ true) (q : ℕ) (new : q ≡ nextPlace (tokensUsed m) (m .lasttoken)) where
@@ -98,11 +77,3 @@ module _ (lim : Limits) (d : Dag) (m : Machine) (holds : rulesHold lim d m ≡ t
       split-whole below c cell x left right =
           split-links lim d m holds p acting-live _ q (withNode left (withBinding x (slots.Cell c) t)) (inCell c (withNode right t)) refl place-free c
           (record { parent = t .cell; value = helds.Nothing }) refl (cell-free below c cell) refl refl acting-live refl acting-live refl refl refl
-
-  -- "An answer gives its token the value and makes it ready"
-  pub answered-whole : (handle : ℕ) (v : ℤ) (p : ℕ) → holder handle 0 (m .tokens) ≡ places.At p
-      → Whole (enqueue p (put p (withState states.Ready (withValue (helds.Value v) (tokenAt (m .tokens) p))) m))
-  unfolding withOrders put withTables enqueue withState withValue isLive
-  answered-whole handle v p found =
-      same-links lim d m holds p (ap isLive (holder-called handle (m .tokens) p found)) _
-      (withState states.Ready (withValue (helds.Value v) (tokenAt (m .tokens) p))) refl refl refl refl refl refl

@@ -2,20 +2,15 @@
 -- smaller. So a step adds at most one token and one cell to those in use, and an answer none. Assumes nothing.
 use mathlib.Core.Path.{_≡_, refl, sym, _∙_, ap, subst}
 use mathlib.Core.Bool.{Bool, true, false}
-use mathlib.Core.List.{List}
 use Prim.Native.Nat.{ℕ, suc, _≤_}
 use native.Mathlib.Omega.{arith}
-use lib.ListN.{getD}
 use lib.Dec.{ltb}
 use lib.IntN.{ℤ}
-use Rattle.job.specs.Test.{without}
-use Rattle.job.specs.Node.{Node, Dag, nodeAt}
+use Rattle.job.specs.Node.{Node, Dag}
 use Rattle.model.specs.Machine.Limits.{Limits}
-use Rattle.model.specs.Machine.Blank.{tokenAt}
 use Rattle.model.specs.Machine.InUse.{marked, tokensUsed, cellsUsed}
 use Rattle.model.specs.Machine.Rules.{tokenInRange, cellInRange, sizesInRange, machineHolds, rulesHold}
-use Rattle.model.specs.Machine.Reply.{Effect, refuses, unless, outcome, isRefused}
-use Rattle.model.specs.Machine.Update.{withOrders, queueOf, waitsOf}
+use Rattle.model.specs.Machine.Reply.{Effect, unless, outcome, isRefused}
 use Rattle.model.specs.Machine.Step.{LookUpResult, values, unset, callSite, hasTokenPlace, hasCellPlace, act, takes, step}
 use Rattle.model.specs.Machine.Answer.{holder, answered, answer}
 use Rattle.model.specs.declared.token.Token.{Token}
@@ -24,8 +19,6 @@ use Rattle.model.specs.declared.reply.Refusal.{Refusal}
 use Rattle.model.specs.declared.reply.Refusal.the-variants as refusals
 use Rattle.model.specs.declared.reply.Outcome.{Outcome}
 use Rattle.job.proofs.Test.{clash, ltb-lt, lt-ltb}
-use Rattle.model.proofs.Machine.Refused.{StepAccepted, step-accepted}
-use Rattle.model.proofs.Machine.Used.{Within}
 use Rattle.model.proofs.Machine.Within.{step-within, answer-within}
 
 -- these limits, for as many tokens and cells

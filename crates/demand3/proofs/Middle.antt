@@ -2,11 +2,10 @@
 -- The abstract machine shows the list in some number of steps; a step adds at most one token, one cell and one call, so limits above that number leave
 -- room for each, and the concrete machine follows. Assumes nothing.
 use mathlib.Core.Path.{_≡_, refl, sym, subst}
-use mathlib.Core.Bool.{Bool, true, false}
+use mathlib.Core.Bool.{true, false}
 use mathlib.Core.List.{List}
-use Prim.Native.Nat.{ℕ, zero, suc, _+_, _<_, _≤_}
+use Prim.Native.Nat.{ℕ, suc, _+_, _≤_}
 use native.Mathlib.Omega.{arith}
-use lib.ListN.{length}
 use Rattle.job.specs.Syntax.{Program}
 use Rattle.job.specs.WellFormed.{WellFormed}
 use Rattle.job.specs.Node.{Dag, dagHolds}
@@ -18,12 +17,11 @@ use Rattle.model.specs.Machine.Start.{startMachine}
 use Rattle.model.specs.Machine.Step.{hasTokenPlace, hasCellPlace}
 use Rattle.calculus.specs.Event.{Event, Label, silently, showing}
 use Rattle.calculus.specs.Expression.{Exp}
-use Rattle.calculus.specs.Allowed.{Allowed, nextHandle}
+use Rattle.calculus.specs.Allowed.{nextHandle}
 use Rattle.calculus.specs.Meaning.{meaning}
 use Rattle.model.specs.Run.Call.{Call, step, answer, runner, outcomeOf, noneRefused, eventsFrom}
 use Rattle.model.specs.Run.Demand3.{Shown, Middle}
 use Rattle.model.specs.declared.record.Machine.{Machine}
-use Rattle.model.specs.declared.reply.Outcome.{Outcome}
 use Rattle.job.proofs.Test.{lt-ltb}
 use Rattle.job.proofs.Accepted.{accepted-well-formed}
 use Rattle.job.proofs.DagHolds.{construct-holds}
@@ -38,7 +36,6 @@ use Rattle.model.proofs.Sees.Labelling.{labelsOf}
 use Rattle.model.proofs.Sees.Flowing.{construct-flows}
 use Rattle.model.proofs.Sees.Sees.{Sees, seenAs}
 use Rattle.demand3.proofs.Room.{Room}
-use Rattle.demand3.proofs.Back.{Ready}
 use Rattle.demand3.proofs.Following.{stepsOf, Keeps, Does, does, run-followed}
 use Rattle.model.proofs.Run.Passage.{Passage, passed}
 use Rattle.model.proofs.Sees.Lockstep.{fitting}

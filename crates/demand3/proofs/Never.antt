@@ -1,7 +1,7 @@
 -- "14: dag or machine record breaks an index rule" is never the reply to a call of a run: every record of a run on an accepted table is reached,
 -- so it keeps the rules, and a call on such a record is not refused with 14. For all limits with tables that have a place and are no smaller
 -- than the limits, in particular the paper's. Assumes nothing.
-use mathlib.Core.Path.{_≡_, refl}
+use mathlib.Core.Path.{_≡_}
 use mathlib.Core.Bool.{true}
 use mathlib.Core.List.{List}
 use Prim.Native.Nat.{ℕ}
@@ -12,7 +12,6 @@ use Rattle.job.specs.Node.{Dag}
 use Rattle.job.specs.Construct.{construct}
 use Rattle.model.specs.Machine.Limits.{Limits}
 use Rattle.model.specs.Machine.Rules.{rulesHold}
-use Rattle.model.specs.Machine.Start.{start}
 use Rattle.calculus.specs.Meaning.{meaning}
 use Rattle.model.specs.Run.Call.{Call, runner, outcomeOf, machineAfter, started}
 use Rattle.model.specs.declared.reply.Refusal.the-variants as refusals
@@ -48,8 +47,3 @@ module _ (lim : Limits) (room : Roomy lim) (table : List ℕ) (p : Program) (rea
       ≡ replies.Refused refusals.Rule
       → ⊥
   never-14 earlier c = not-rule lim d _ (run-rules earlier) c
-
-  -- and the start is accepted
-  pub start-done : start lim (construct p) .reply ≡ replies.Done
-  unfolding start
-  start-done = rw (construct-holds p good, start) refl

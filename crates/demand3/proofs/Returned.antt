@@ -2,7 +2,6 @@
 -- it any more, the frame. Then only the frame's row is made blank. Assumes nothing.
 use mathlib.Core.Path.{_≡_, refl, sym, _∙_, ap, ap₂, subst, subst₂}
 use mathlib.Core.Bool.{Bool, true, false}
-use mathlib.Core.List.{List}
 use Prim.Native.Nat.{ℕ, _<_}
 use native.Mathlib.Decide.{ℕ-discrete, decLt}
 use native.Mathlib.Omega.{arith}
@@ -16,14 +15,12 @@ use Rattle.model.specs.Machine.State.{isLive}
 use Rattle.model.specs.Machine.InUse.{tokensUsed, cellsUsed, restBlanked, sweep}
 use Rattle.model.specs.Machine.Rules.{rulesHold}
 use Rattle.model.specs.Machine.Update.{put, withTables}
-use Rattle.model.specs.declared.token.Slot.the-variants as slots
 use Rattle.model.specs.declared.token.Place.{Place}
 use Rattle.model.specs.declared.token.Place.the-variants as places
 use Rattle.model.specs.declared.token.Token.{Token}
-use Rattle.model.specs.declared.cell.Cell.{Cell}
 use Rattle.model.specs.declared.record.Machine.{Machine}
 use Rattle.job.proofs.Test.{clash}
-use Rattle.model.proofs.Machine.Marks.{Marked, Free, free-inside, marks-same, marks-removed}
+use Rattle.model.proofs.Machine.Marks.{Free, marks-same, marks-removed}
 use Rattle.model.proofs.Machine.Reach.{Names}
 use Rattle.model.proofs.Machine.InUse.{CellsIn, token-outside}
 use Rattle.model.proofs.Machine.Kept.{length-kept, kept-marked, kept-free, kept-whole}

@@ -9,8 +9,8 @@ use lib.Seq.{drop-drop}
 use lib.Dec.{eqb}
 use Rattle.job.specs.Number.{number, signed}
 use Rattle.job.specs.Node.{Dag}
-use Rattle.model.specs.Output.Line.{Line, end, limit, short}
-use Rattle.model.specs.Output.Orcrun.{Standing, Turn, on, over, reportedLines, stepTurn, deliverTurn, lastTurn, turn}
+use Rattle.model.specs.Output.Line.{end, limit, short}
+use Rattle.model.specs.Output.Orcrun.{Standing, Turn, on, over, stepTurn, deliverTurn, lastTurn, turn}
 use Rattle.model.specs.Machine.Limits.{paper}
 use Rattle.model.specs.Machine.Reply.{isRefused}
 use Rattle.model.specs.Machine.Step as Step

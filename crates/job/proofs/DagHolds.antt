@@ -1,20 +1,17 @@
 -- The dag of a well-formed program keeps the index rules: each node names nodes of the same construction, and parameters, variables and definitions
 -- lie in their ranges because the expression's do. Assumes nothing.
-use mathlib.Core.Path.{_≡_, refl, sym, _∙_, ap, subst}
-use mathlib.Core.Logic.{_⊎_, inl, inr}
+use mathlib.Core.Path.{_≡_, refl, sym, _∙_, ap}
 use mathlib.Core.Bool.{true}
-use mathlib.Core.List.{List, [], _∷_, List·Memᴰ, List·Memᴰ·not-nil, List·Memᴰ·cases-cons}
-use Prim.Native.Nat.{ℕ, zero, suc, _+_, _≤_, _<_}
+use mathlib.Core.List.{List, [], _∷_}
+use Prim.Native.Nat.{ℕ, suc, _+_, _≤_, _<_}
 use native.Mathlib.Omega.{arith}
 use lib.ListN.{length, getD, length-map}
-use lib.Dec.{leb, eqb}
 use Rattle.job.specs.Test.{_and_, all, All, none, more}
-use Rattle.job.specs.Site.{builtinCounts, builtinTable, isBuiltin, isOutside, siteTakes}
-use Rattle.job.specs.Syntax.{Param, Join, Exp, Definition, Program, formalsOf, levels, scopeLeft, scopeRight}
-use Rattle.job.specs.WellFormed.{GoodParam, SiteTakes, GoodJoin, Good, GoodDefinition, WellFormed}
+use Rattle.job.specs.Syntax.{Param, Join, Exp, Definition, Program, formalsOf}
+use Rattle.job.specs.WellFormed.{GoodParam, GoodJoin, Good, GoodDefinition, WellFormed}
 use Rattle.job.specs.Node.{Node, Dag, paramHolds, paramsHold, isNode, nodeHolds, bodyHolds, dagHolds}
 use Rattle.job.specs.Construct.{own, nodeCount, root, ownNodes, nodesOf, nextLeft, nextRight, constructFrom, construct}
-use Rattle.job.proofs.Test.{eq-eqb, lt-ltb, le-leb, leb-le, and-both, or-left, or-right, all-nil, all-cons, all-append, all-at, All-all, All-map}
+use Rattle.job.proofs.Test.{lt-ltb, le-leb, and-both, all-nil, all-cons, all-append, All-all, All-map}
 use Rattle.job.proofs.All.{All-member, All-at}
 use Rattle.job.proofs.Scope.{Slots, levels-slots, left-slots, right-slots}
 use Rattle.job.proofs.WellFormed.{takes-site, site-few}

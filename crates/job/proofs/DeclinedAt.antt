@@ -1,18 +1,18 @@
 -- A declined table's entry is at most the number of entries, so at most 512: no reading goes past the last entry. Assumes nothing.
-use mathlib.Core.Path.{_≡_, refl, sym, _∙_, ap, subst}
+use mathlib.Core.Path.{_≡_, refl}
 use mathlib.Core.Bool.{Bool, true, false}
 use mathlib.Core.List.{List, [], _∷_}
-use Prim.Native.Nat.{ℕ, zero, suc, _+_, _<_, _≤_, min}
+use Prim.Native.Nat.{ℕ, zero, suc, _+_, _≤_}
 use native.Mathlib.Omega.{arith}
 use lib.ListN.{length, take, drop, length-take}
 use lib.Dec.{leb, eqb}
 use Rattle.job.specs.Test.{_and_, any}
 use Rattle.job.specs.Number.{signed}
-use Rattle.job.specs.Syntax.{Param, variable, constant, Join, par, seq, prune, Exp, stop, site, call, Definition, Program, formalsOf, levels, scopeLeft, scopeRight}
+use Rattle.job.specs.Syntax.{Param, variable, constant, Join, par, seq, prune, Exp, stop, site, call, Program, formalsOf, levels, scopeLeft, scopeRight}
 use Rattle.job.specs.Entry.{Entry, entries, low, high, EntryKind, kindOf}
-use Rattle.job.specs.Read.{Got, Read, got, refused, _>>=_, gives, need, entryAt, readParam, readParamList, readCall, readJoin, readExp, isDefinition}
-use Rattle.job.specs.Read.{readDefinition, readProgram, leftovers, callHolds, definitionsHold, readEntries, sizeD, sizeN, tableLength, readBytes}
-use Rattle.job.specs.Read.{Answer, accepted, declined, readerAnswer, readTable}
+use Rattle.job.specs.Read.{Got, Read, got, refused, _>>=_, gives, need, entryAt, readParam, readParamList, readCall, readJoin, readExp}
+use Rattle.job.specs.Read.{readDefinition, readProgram, leftovers, callHolds, definitionsHold, readEntries, sizeD, sizeN, readBytes}
+use Rattle.job.specs.Read.{declined, readerAnswer, readTable}
 use Rattle.job.proofs.Test.{and-right, leb-le}
 use Rattle.job.proofs.Entry.{length-entries}
 

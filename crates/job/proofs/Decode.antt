@@ -1,25 +1,23 @@
 -- Decoding the words of a dag gives the dag back, and writing a dag leaves every other word as it was: a row's twelve words determine its node,
 -- and the head and the rows stand side by side in the array. Assumes nothing.
 use mathlib.Core.Path.{_≡_, refl, _∙_, ap, ap₂}
-use mathlib.Core.Logic.{_⊎_, inl, inr}
-use mathlib.Core.Bool.{true, false}
+use mathlib.Core.Logic.{_⊎_}
+use mathlib.Core.Bool.{true}
 use mathlib.Core.List.{List, [], _∷_, _++_, append-assoc}
-use Prim.Native.Nat.{ℕ, zero, suc, _+_, _-_, _*_, _^_, _≤_, _<_}
+use Prim.Native.Nat.{ℕ, zero, suc, _+_, _-_, _*_, _≤_, _<_}
 use native.Mathlib.Omega.{arith}
-use lib.ListN.{length, getD, length-append}
+use lib.ListN.{length, length-append}
 use lib.Seq.{sets, length-sets, take-at, drop-at}
 use lib.Dec.{ltb, leb}
-use lib.IntN.{ℤ, pos, negsuc}
 use Rattle.job.specs.Test.{_and_, all, same}
-use Rattle.job.specs.Number.{Signed32, fits, signed, unsigned}
 use Rattle.job.specs.Site.{siteTakes}
 use Rattle.job.specs.Syntax.{Param, variable, constant}
 use Rattle.job.specs.Node.{Node, Body, Dag, paramHolds, paramsHold, isNode, nodeHolds, dagHolds}
 use Rattle.job.specs.Words.{paramWords, nodeWords, paramOf, paramsFrom, nodeBy, decodedNode, nodesFrom, bodiesFrom, headWords, arrayWords, dagOf, rowsOfNodes, bodyWords, written}
-use Rattle.job.proofs.Laid.{Laid, laid, getD-sets-before, getD-sets-after}
-use Rattle.job.proofs.Rules.{DagRules, dag-rules}
+use Rattle.job.proofs.Laid.{Laid, laid}
+use Rattle.job.proofs.Rules.{dag-rules}
 use Rattle.job.proofs.Number.{signed-unsigned}
-use Rattle.job.proofs.Test.{clash, ltb-lt, leb-le, le-not-ltb, and-left, and-right, all-head, all-tail, same-refl}
+use Rattle.job.proofs.Test.{clash, leb-le, and-left, and-right, all-head, all-tail, same-refl}
 
 -- parameters
 param-words-length : (n : ℕ) (ps : List Param) → length (paramWords n ps) ≡ 2 * n
@@ -150,21 +148,3 @@ decode-written d ws e l =
 -- the words that a dag leaves alone: between its head and the nodes, and past its last node
 abbrev pub Outside : Dag → ℕ → Type 0
 Outside d i = ((3 + 2 * length (d .bodies) ≤ i) × (i < headWords)) ⊎ (headWords + 12 * length (d .nodes) ≤ i)
-
-pub written-outside : (d : Dag) (ws : List ℕ) (i : ℕ) → dagHolds d ≡ true → Outside d i → getD (written d ws) i 0 ≡ getD ws i 0
-unfolding written headOf
-written-outside d ws i e h = rows h ∙ getD-sets-after (headOf d) ws 0 i 0 (head h)
-  where
-    rules : DagRules d
-    rules = dag-rules d e
-
-    size : length (rowsOfNodes (d .nodes)) ≡ 12 * length (d .nodes)
-    size = rows-length d (d .nodes) (rules .nodes)
-
-    rows : Outside d i → getD (written d ws) i 0 ≡ getD (sets ws 0 (headOf d)) i 0
-    rows (inl b) = getD-sets-before (rowsOfNodes (d .nodes)) (sets ws 0 (headOf d)) headWords i 0 (b .1)
-    rows (inr b) = getD-sets-after (rowsOfNodes (d .nodes)) (sets ws 0 (headOf d)) headWords i 0 (omega (arith, size))
-
-    head : Outside d i → 0 + length (headOf d) ≤ i
-    head (inl b) = omega (arith, head-length d, b .0)
-    head (inr b) = omega (arith, head-length d, rules .bodies-few)

@@ -3,18 +3,16 @@
 use mathlib.Core.Path.{_≡_, refl}
 use mathlib.Core.Bool.{true, not}
 use mathlib.Core.List.{List, [], _∷_, map}
-use Prim.Native.Nat.{ℕ, zero, suc, _+_, _*_, _^_, _<_, _≤_}
+use Prim.Native.Nat.{ℕ, _+_, _*_, _^_, _<_, _≤_}
 use native.Mathlib.Omega.{arith}
 use lib.ListN.{length, getD, length-map}
-use lib.Dec.{eqb, leb}
-use Rattle.job.specs.Test.{_and_, all, All, none, more}
-use Rattle.job.specs.Site.{builtinCounts}
-use Rattle.job.specs.Syntax.{Param, Join, Exp, Definition, Program, formalsOf, levels, scopeLeft, scopeRight}
+use lib.Dec.{eqb}
+use Rattle.job.specs.Test.{_and_, All, none, more}
+use Rattle.job.specs.Syntax.{Param, Join, Exp, Definition, Program, formalsOf}
 use Rattle.job.specs.Entry.{Entry, entry}
-use Rattle.job.specs.Encode.{encodeParam, encodeJoin, encodeExp, encodeDefinitions, encodeEntries, operandBytes, encode}
-use Rattle.job.specs.WellFormed.{GoodParam, SiteTakes, GoodJoin, Good, GoodDefinition, WellFormed}
-use Rattle.job.proofs.Test.{leb-le, all-at, All-map}
-use Rattle.job.proofs.All.{All-append, All-member, All-at, All-image}
+use Rattle.job.specs.Encode.{encodeParam, encodeJoin, encodeExp, encodeDefinitions, encodeEntries, operandBytes}
+use Rattle.job.specs.WellFormed.{GoodParam, SiteTakes, Good, GoodDefinition, WellFormed}
+use Rattle.job.proofs.All.{All-append, All-member, All-at}
 use Rattle.job.proofs.Number.{Byte, bytes-are, unsigned-below}
 use Rattle.job.proofs.Entry.{Short, low-of, high-of}
 use Rattle.job.proofs.Scope.{Slots, levels-slots, left-slots, right-slots}
@@ -114,11 +112,3 @@ operands-bytes : (es : List Entry) → All Byte (operandBytes es)
 unfolding operandBytes
 operands-bytes [] = none
 operands-bytes (x ∷ es) = All-append (bytes-are 4 (x .operand)) (operands-bytes es)
-
--- an encoding is a list of bytes
-pub encode-bytes : (p : Program) → WellFormed p → All Byte (encode p)
-unfolding encode
-encode-bytes p w =
-    let es = encodeEntries p in
-    let kinds = All-image {P = Byte} (λ (x : Entry). x .kind) (All-map (λ x f. f .kind) (program-fine w)) in
-    All-append (All-append (All-append (bytes-are 2 (length (p .definitions))) (bytes-are 2 (length es))) kinds) (operands-bytes es)

@@ -1,6 +1,6 @@
 -- Loops that test each element of a list: what the flag says before, during and after them. Assumes nothing.
-use mathlib.Core.Path.{_≡_, refl, sym, _∙_, ap}
-use mathlib.Core.Bool.{Bool, true, false, _&&_}
+use mathlib.Core.Path.{_≡_, sym, _∙_, ap}
+use mathlib.Core.Bool.{Bool, _&&_}
 use mathlib.Core.List.{List, [], _∷_, map}
 use Prim.Native.Nat.{ℕ, zero, suc, _+_, _<_, _≤_}
 use native.Mathlib.Numerals.{add-one}
@@ -15,10 +15,6 @@ pub done : {A : Type 0} (test : List A → Bool) (xs : List A) (i : ℕ) {ok : B
     → length xs ≤ i → ok ≡ test (take i xs) → ok ≡ test xs
 done test xs i l e = e ∙ ap test (take-all i xs l)
 
-and-nothing : (b : Bool) → (b && true) ≡ b
-and-nothing true = refl
-and-nothing false = refl
-
 -- the same test of each element
 module _ {A : Type 0} (p : A → Bool) where
   pub all-more : (xs : List A) (i : ℕ) (d : A) → i < length xs → all p (take (suc i) xs) ≡ (all p (take i xs) and p (getD xs i d))
@@ -30,11 +26,6 @@ module _ {A : Type 0} (p : A → Bool) where
   pub all-turn : (xs : List A) (i : ℕ) (d : A) {ok b : Bool}
       → i < length xs → ok ≡ all p (take i xs) → b ≡ p (getD xs i d) → (ok && b) ≡ all p (take (i + 1) xs)
   all-turn xs i d l e f = both e f ∙ rw add-one (sym (all-more xs i d l))
-
-  -- an element that passes leaves the flag as it is
-  pub all-pass : (xs : List A) (i : ℕ) (d : A) {ok : Bool}
-      → i < length xs → ok ≡ all p (take i xs) → true ≡ p (getD xs i d) → ok ≡ all p (take (i + 1) xs)
-  all-pass xs i d {ok} l e f = sym (and-nothing ok) ∙ all-turn xs i d l e f
 
 -- what owning a struct tells of the length of a field that is an array: the relation stands at `map` over the list
 pub mapped : {A B : Type 0} (f : A → B) (l : List A) (n : ℕ) → length (map f l) ≡ n → length l ≡ n

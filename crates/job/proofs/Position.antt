@@ -1,7 +1,6 @@
 -- Entries by their index: what stands at an index of the two parts, and that a reader which begins at an index leaves the entries from its
 -- next index on. So code that keeps an index reads what the definitions read from a list. Assumes nothing.
-use mathlib.Core.Path.{_≡_, refl, sym, _∙_, ap, subst}
-use mathlib.Core.Bool.{Bool, true, false}
+use mathlib.Core.Path.{_≡_, refl, sym, _∙_, ap}
 use mathlib.Core.List.{List, [], _∷_}
 use Prim.Native.Nat.{ℕ, zero, suc, _+_, _*_, _<_, _≤_}
 use native.Mathlib.Omega.{arith}

@@ -1,10 +1,10 @@
 -- Which sites a call may name, range by range. Assumes nothing.
-use mathlib.Core.Path.{_≡_, refl, sym, _∙_}
+use mathlib.Core.Path.{_≡_, refl}
 use mathlib.Core.Bool.{Bool, true, false}
 use Prim.Native.Nat.{ℕ, _<_, _≤_}
 use native.Mathlib.Omega.{arith}
 use lib.ListN.{getD}
-use lib.Dec.{ltb, leb, eqb}
+use lib.Dec.{leb, eqb}
 use Rattle.job.specs.Test.{_and_, _or_}
 use Rattle.job.specs.Site.{builtinCounts, isBuiltin, isOutside, siteTakes}
 use Rattle.job.proofs.Test.{lt-ltb, le-not-ltb, le-leb, lt-not-leb}

@@ -1,14 +1,14 @@
 -- From tests to facts and back: laws of the Boolean tests that definitions use. Assumes nothing.
-use mathlib.Core.Path.{_≡_, refl, sym, _∙_, ap}
+use mathlib.Core.Path.{_≡_, refl}
 use mathlib.Core.Logic.{_⊎_, inl, inr}
-use mathlib.Core.Bool.{Bool, true, false, not}
+use mathlib.Core.Bool.{Bool, true, false}
 use mathlib.Core.List.{List, [], _∷_, _++_}
 use Prim.Native.Nat.{ℕ, zero, suc, _+_, _<_, _≤_}
 use native.Mathlib.Decide.{decLt}
 use native.Mathlib.Omega.{arith}
 use lib.ListN.{length, getD}
 use lib.Dec.{T, ltb, leb, eqb, eqb→eq, eqb-refl, ltb→lt, lt→ltb, leb→le, le→leb}
-use Rattle.job.specs.Test.{_and_, _or_, all, any, All, none, more, count, once, same}
+use Rattle.job.specs.Test.{_and_, _or_, all, All, none, more, same}
 
 -- a test does not both hold and fail
 pub clash : {A : Type 0} {b : Bool} → b ≡ true → b ≡ false → A

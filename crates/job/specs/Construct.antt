@@ -1,8 +1,8 @@
 -- "From entries to dag": the construction. Assumes nothing: these are definitions.
 use mathlib.Core.List.{List, [], _∷_, _++_}
 use Prim.Native.Nat.{ℕ, suc, _+_}
-use Rattle.job.specs.Syntax.{Param, Join, par, seq, prune, Exp, stop, site, call, join, Definition, Program}
-use Rattle.job.specs.Node.{Node, Body, Dag}
+use Rattle.job.specs.Syntax.{Join, par, seq, prune, Exp, stop, site, call, join, Definition, Program}
+use Rattle.job.specs.Node.{Node, Dag}
 
 -- "sequence makes assign, remove; prune makes where, remove, choke": the nodes that a join makes itself
 unfoldable pub own : Join → ℕ

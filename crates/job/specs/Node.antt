@@ -1,9 +1,9 @@
 -- The dag: its nodes, where each definition's body and the goal begin, and its index rules. Assumes nothing: these are definitions.
 use mathlib.Core.Bool.{Bool, true, false}
-use mathlib.Core.List.{List, [], _∷_}
+use mathlib.Core.List.{List}
 use Prim.Native.Nat.{ℕ}
 use lib.ListN.{length, getD}
-use lib.Dec.{ltb, leb, eqb}
+use lib.Dec.{ltb, leb}
 use Rattle.job.specs.Bounds.{parameterLimit, scopeLimit, definitionLimit, nodeLimit}
 use Rattle.job.specs.Test.{_and_, all}
 use Rattle.job.specs.Number.{fits}

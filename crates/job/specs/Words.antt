@@ -1,10 +1,10 @@
 -- The dag's words: what stands in the array that a host lends (docs/DECISIONS.md, "Words"). Assumes nothing: these are definitions.
 -- A head of 67 words (number of nodes, number of definitions, the goal's root, root and formals of each definition),
 -- then 12 words a node: kind, two numbers, a third number, and four parameters of two words each.
-use mathlib.Core.Bool.{Bool, true, false}
+use mathlib.Core.Bool.{true, false}
 use mathlib.Core.List.{List, [], _∷_, _++_}
 use Prim.Native.Nat.{ℕ, zero, suc, _+_, _*_}
-use lib.ListN.{length, getD, take, drop, replicate}
+use lib.ListN.{length, getD, take, drop}
 use lib.Seq.{sets}
 use lib.Dec.{eqb}
 use Rattle.job.specs.Bounds.{parameterLimit, nodeLimit}

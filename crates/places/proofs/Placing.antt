@@ -135,9 +135,6 @@ module _ (marks : List Bool) where
         go true e = e
         go false e = let z = next-full last e in absurd (omega arith)
 
-    pub room-place : (last : ℕ) → nextOr size marks last < size → nextOr size marks last ≡ nextPlace marks last
-    room-place last h = next-room last (room last h)
-
     -- the size itself says that there is none
     pub full : (last : ℕ) → nextOr size marks last ≡ size → ltb (marked marks) size ≡ false
     full last h = go (ltb (marked marks) size) refl

@@ -6,7 +6,7 @@ use native.Mathlib.Decide.{decLt}
 use native.Mathlib.Numerals.{add-one}
 use native.Mathlib.Omega.{arith}
 use lib.ListN.{length, getD, set, take, drop, List·getD-append}
-use lib.Seq.{paste, paste-zero, paste-suc, length-paste-head, length-take-le, getD-take, getD-drop}
+use lib.Seq.{paste, paste-suc, length-paste-head, length-take-le, getD-take, getD-drop}
 use Rattle.model.specs.Machine.Blank.{tokenAt}
 use Rattle.model.specs.Machine.Update.{put}
 use Rattle.model.specs.declared.token.Token.{Token}
@@ -50,9 +50,6 @@ module _ {ws : List ℕ} {m : Machine} (h : Codes ws m) (from place i : ℕ) (f 
       (ap (λ r. getD r (24 * from + i) 0) e ∙ read (decLt from place) ∙ token-word h from f i s)
       ∙ paste-suc ws (24 * place) row i 0 (omega (arith, words-long h)) (omega (arith, row-wide (tokenAt (m .tokens) from)))
       ∙ ap (paste ws (24 * place) row) (sym (add-one i))
-
-  pub copy-start : (k : ℕ) → k ≡ 0 → ws ≡ paste ws (24 * place) row k
-  copy-start k e = paste-zero ws (24 * place) row ∙ ap (paste ws (24 * place) row) (sym e)
 
 pub row-done : {ws : List ℕ} {m : Machine} → Holds ws m → (place i : ℕ) (t : Token) (w : List ℕ)
     → place < 64 → length (t .binds) ≡ 8 → i ≡ 24 → w ≡ paste ws (24 * place) (rowOf t) i → Holds w (put place t m)

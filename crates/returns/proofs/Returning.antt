@@ -5,11 +5,11 @@ use mathlib.Core.Bool.{Bool, true, false}
 use mathlib.Core.List.{List}
 use Prim.Native.Nat.{ℕ, _<_}
 use native.Mathlib.Omega.{arith}
-use lib.ListN.{length, set}
+use lib.ListN.{set}
 use Rattle.job.specs.Words.{dagOf}
 use Rattle.model.specs.Machine.State.{isLive, isFrame}
 use Rattle.model.specs.Machine.Blank.{tokenAt}
-use Rattle.model.specs.Machine.InUse.{tokensUsed, cellsUsed, sweep}
+use Rattle.model.specs.Machine.InUse.{tokensUsed, cellsUsed}
 use Rattle.model.specs.Machine.Limits.{paper}
 use Rattle.model.specs.Machine.Rules.{namesFrame, nodeRule}
 use Rattle.model.specs.Machine.Update.{withTables, withOrders, withValue, withState, put, enqueue}

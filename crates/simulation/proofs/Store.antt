@@ -1,7 +1,7 @@
 -- Laws of the abstract machine's cells: what a set cell holds, and which tokens its setting ends. By the tests that decide it. Assumes nothing.
 use mathlib.Core.Path.{_≡_, refl, _∙_, ap}
 use mathlib.Core.Bool.{Bool, true, false, not}
-use mathlib.Core.List.{List, [], _∷_, List·Memᴰ, List·Memᴰ·head, List·Memᴰ·tail, List·Memᴰ·not-nil}
+use mathlib.Core.List.{List, [], _∷_, List·Memᴰ, List·Memᴰ·head, List·Memᴰ·tail}
 use mathlib.Core.Option.{Option, some, none}
 use Prim.Native.Nat.{ℕ}
 use native.Mathlib.Omega.{arith}
@@ -9,7 +9,7 @@ use lib.Dec.{eqb}
 use lib.IntN.{ℤ}
 use Rattle.job.specs.Test.{_or_, any, filter, All, more}
 use Rattle.job.proofs.WellFormed.{member-any}
-use Rattle.job.proofs.Test.{eqb-same, eq-eqb, ne-eqb, or-left, or-right}
+use Rattle.job.proofs.Test.{eqb-same, ne-eqb}
 use Rattle.simulation.proofs.Machine.{Token, Store, chosen, withSet, cellsOf, isOutOf, outOf}
 
 abbrev pub _∈_ : ℕ → List ℕ → Type 0

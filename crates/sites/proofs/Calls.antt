@@ -6,7 +6,7 @@ use lib.ListN.{length, getD, replicate}
 use lib.IntN.{ℤ, pos}
 use Rattle.job.specs.Test.{padded}
 use Rattle.job.specs.Site.{BuiltinReply, gives, silent, at, builtin}
-use Rattle.model.specs.Machine.Reply.{reportValues, calls}
+use Rattle.model.specs.Machine.Reply.{reportValues}
 use Rattle.sites.specs.declared.site.SiteReply.{SiteReply}
 use Rattle.sites.specs.SiteReplies.{siteReplyOf, builtinReplyOf}
 use Rattle.sites.proofs.Sites.{says-to-two}

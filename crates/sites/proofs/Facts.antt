@@ -5,7 +5,7 @@ use mathlib.Core.Bool.{Bool, true, false}
 use mathlib.Core.List.{List, [], _∷_, _++_}
 use Prim.Native.Nat.{ℕ, _+_, _-_, _<_, _≤_}
 use native.Mathlib.Omega.{arith}
-use lib.ListN.{length, getD, take, length-append}
+use lib.ListN.{length, take, length-append}
 use lib.Seq.{length-take-le}
 use lib.Dec.{ltb, eqb}
 use Rattle.job.specs.Test.{all, count, once}
@@ -20,7 +20,7 @@ use Rattle.model.specs.declared.token.State.the-variants as states
 use Rattle.model.specs.declared.cell.Cell.{Cell}
 use Rattle.model.specs.declared.record.Machine.{Machine}
 use Rattle.job.proofs.Test.{and-left, and-right, eqb-eq, all-at, all-head, all-tail, all-nil, all-cons, all-append}
-use Rattle.model.proofs.Machine.Rules.{EachRuleHolds, each-rule-holds, NamesOnce, names-once, order-inside}
+use Rattle.model.proofs.Machine.Rules.{EachRuleHolds, each-rule-holds, NamesOnce, names-once}
 use Rattle.sites.specs.Looking.{LookFacts}
 use Rattle.sites.proofs.Counting.{names-few, names-fewer, count-append}
 
@@ -116,8 +116,6 @@ module _ (d : Dag) (m : Machine) (k : rulesHold paper d m ≡ true) where
 
   -- the token at a place of the queue
   module _ (place : ℕ) (l : place < m .queued) where
-    pub queue-inside : getD (m .queue) place 0 < 64
-    queue-inside = subst (λ n. getD (m .queue) place 0 < n) tokens-size (order-inside isReady (m .tokens) (m .queue) (m .queued) queue place l)
 
   -- a token's own ranges
   pub token-range : (p : ℕ) → p < 64 → tokenInRange paper d (m .calls) (tokenAt (m .tokens) p) ≡ true

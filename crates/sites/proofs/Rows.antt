@@ -71,12 +71,6 @@ module _ (ws : List ℕ) (at : ℕ) where
   abbrev word : ℕ → ℕ
   word i = getD ws (at + i) 0
 
-  pub fork-numbers : NodeRow ws at 3 → (word 1 < 65536) × (word 2 < 65536)
-  unfolding nodeHolds
-  fork-numbers o =
-      let k = node-holds ws at 3 o in
-      (node-number ws at 3 o (word 1) (and-left _ _ k), node-number ws at 3 o (word 2) (and-right (isNode (dagOf ws) (word 1)) _ k))
-
   bind-numbers : (kind : ℕ) → NodeRow ws at kind → nodeHolds (dagOf ws) (Node.assign (word 1) (word 2)) ≡ true → (word 1 < 8) × (word 2 < 65536)
   unfolding nodeHolds
   bind-numbers kind o e = (ltb-lt (word 1) 8 (and-left _ _ e), node-number ws at kind o (word 2) (and-right (ltb (word 1) 8) _ e))
@@ -119,10 +113,6 @@ module _ (ws : List ℕ) (at : ℕ) where
         ap (λ i. getD ws (3 + 2 * i) 0) same ∙ sym (root-read ws (word 1) (o .dag) (call-body o)),
       )
 
-  pub call-next : NodeRow ws at 2 → word 2 < 65536
-  call-next o =
-      node-number ws at 2 o (word 2) (and-right (paramsHold (paramsAt ws at)) _ (and-right (ltb (word 1) (length (dagOf ws .bodies))) _ (call-rule o)))
-
   -- site call
   site-rule : NodeRow ws at 1 → (siteTakes (word 1) (length (paramsAt ws at)) and paramsHold (paramsAt ws at) and isNode (dagOf ws) (word 2)) ≡ true
   unfolding nodeHolds
@@ -134,10 +124,6 @@ module _ (ws : List ℕ) (at : ℕ) where
 
   pub site-number : NodeRow ws at 1 → word 1 < 1024
   site-number o = site-below (word 1) (length (paramsAt ws at)) (and-left _ _ (site-rule o))
-
-  pub site-next : NodeRow ws at 1 → word 2 < 65536
-  site-next o =
-      node-number ws at 1 o (word 2) (and-right (paramsHold (paramsAt ws at)) _ (and-right (siteTakes (word 1) (length (paramsAt ws at))) _ (site-rule o)))
 
 -- a node's kind is one of ten
 pub kind-below : (d : Dag) (a b c : ℕ) (ps : List Param) (kind : ℕ) → nodeHolds d (nodeOfKind a b c ps kind) ≡ true → kind < 10

@@ -15,12 +15,11 @@ use Rattle.model.specs.Machine.Update.{put, withTables}
 use Rattle.model.specs.declared.cell.Cell.{Cell}
 use Rattle.model.specs.declared.record.Machine.{Machine}
 use Rattle.model.specs.declared.token.Token.{Token}
-use Rattle.model.proofs.Keeps.Clean.{Clean, finish-clean}
 use Rattle.model.proofs.Machine.Kept.{length-kept, kept-marked, kept-free, kept-cases}
 use Rattle.record.proofs.TokenRow.{put-self}
 use Rattle.record.proofs.CellRow.{put-self as put-cell-self}
 use Rattle.record.specs.Fields.{storeCell}
-use Rattle.reach.specs.Marks.{Vacant, BlankFrom, sweptToken, sweptCell, tokensSwept, cellsSwept}
+use Rattle.reach.specs.Marks.{BlankFrom, sweptToken, sweptCell, tokensSwept, cellsSwept}
 use Rattle.reach.proofs.Lists.{any-default, steady}
 
 module _ {A : Type 0} (blank : A) (marks : List Bool) (xs : List A) where
@@ -183,10 +182,3 @@ module _ (m : Machine) (tokens : List Bool) (e : tokens ≡ tokensUsed m) where
   pub swept : cellsSwept tokens (tokensSwept m) ≡ sweep m
   unfolding sweep withTables
   swept = ap (λ ns. withTables (restBlanked blankToken (tokensUsed m) (m .tokens)) (restBlanked blankCell ns (m .cells)) m) reach-kept
-
--- the marks of what is in use say what is blank, where the rest is blank
-pub vacant-clean : (m : Machine) → Clean m → Vacant m (tokensUsed m) (cellsUsed m)
-vacant-clean m c = record { tokens = λ i l e. c .tokens i e; cells = λ i l e. c .cells i e }
-
-pub vacant-finish : (m : Machine) → Vacant (sweep m) (tokensUsed (sweep m)) (cellsUsed (sweep m))
-vacant-finish m = vacant-clean (sweep m) (finish-clean m)

@@ -8,7 +8,7 @@ ghost use Rattle.model.specs.Machine.InUse.{tokensUsed, cellsUsed, usedCells, r
 ghost use Rattle.model.specs.Machine.Update.{withTables};
 ghost use Rattle.model.specs.declared.record.Machine.{Machine};
 ghost use Rattle.record.specs.Holds.{Holds};
-ghost use Rattle.reach.specs.Marks.{Vacant, FreeTokens, FreeCells, UnmarkedFrom, BlankFrom, sweptToken, sweptCell, tokensSwept, cellsSwept};
+ghost use Rattle.reach.specs.Marks.{Vacant, FreeTokens, FreeCells, UnmarkedFrom, BlankFrom, sweptToken, sweptCell, cellsSwept};
 use model::record::Machine;
 use reach::marks::mark_cells;
 use reach::marks::mark_tokens;

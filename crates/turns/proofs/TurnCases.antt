@@ -17,7 +17,7 @@ use Rattle.model.specs.Machine.Answer as Answer
 use Rattle.model.specs.declared.record.Machine.{Machine}
 use Rattle.model.specs.declared.reply.Reply.{Reply}
 use Rattle.model.specs.declared.reply.Outcome.{Outcome}
-use Rattle.job.proofs.Test.{clash, eq-eqb, ne-eqb, eqb-eq, eqb-ne, ltb-lt, lt-ltb, le-not-ltb, not-ltb-le}
+use Rattle.job.proofs.Test.{clash, eq-eqb, ne-eqb, eqb-eq, eqb-ne, ltb-lt, not-ltb-le}
 use Rattle.turns.specs.Turn.{isLast, isLimit, isOver, turnOutcome, nextAt, nextSteps}
 
 module _ (queued : ℕ) where

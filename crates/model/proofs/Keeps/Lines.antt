@@ -21,10 +21,10 @@ use Rattle.model.specs.declared.token.State.{State}
 use Rattle.model.specs.declared.token.State.the-variants as states
 use Rattle.model.specs.declared.token.Token.{Token}
 use Rattle.model.specs.declared.cell.Cell.{Cell}
-use Rattle.job.proofs.Test.{clash, false-of, eqb-same, eqb-eq, eq-eqb, ne-eqb, lt-ltb, le-leb, ltb-lt, and-both, all-head, all-tail}
+use Rattle.job.proofs.Test.{clash, false-of, eqb-same, eqb-eq, eq-eqb, ne-eqb, lt-ltb, le-leb, and-both, all-head, all-tail}
 use Rattle.model.proofs.Machine.Marks.{Free, marked-le-length, marked-set-free}
 use Rattle.model.proofs.Machine.InUse.{token-outside}
-use Rattle.model.proofs.Machine.Rules.{NamesOnce, names-once, ready-state}
+use Rattle.model.proofs.Machine.Rules.{ready-state}
 use Rattle.model.proofs.Sees.Others.{count-append, token-same, token-other}
 use Rattle.model.proofs.Machine.Choke.{choke-at, choke-ends}
 use Rattle.model.proofs.Sees.Choke.{woken, choke-spares}
@@ -109,21 +109,6 @@ Names of ts l = (r : ℕ) → count r l ≡ once (of (tokenAt ts r .state))
 module _ (of : State → Bool) (none : of states.Blank ≡ false) (ts : List Token) where
   outside : (r : ℕ) → length ts ≤ r → once (of (tokenAt ts r .state)) ≡ 0
   outside r l = ap (λ (t : Token). once (of (t .state))) (token-outside ts r l) ∙ ap once none
-
-  -- as the rules have it
-  pub names-line : (array : List ℕ) (n : ℕ) → namesOnce of ts array n ≡ true → Names of ts (take n array)
-  names-line array n e r = go (decLt r (length ts))
-    where
-      o : NamesOnce of ts array n
-      o = names-once of ts array n e
-
-      go : Dec (r < length ts) → count r (take n array) ≡ once (of (tokenAt ts r .state))
-      go (yes l) = o .counts r l
-      go (no f) = absent (decLt 0 (count r (take n array)))
-        where
-          absent : Dec (0 < count r (take n array)) → count r (take n array) ≡ once (of (tokenAt ts r .state))
-          absent (yes k) = absurd (f (ltb-lt r (length ts) (counted-tested (λ p. ltb p (length ts)) (take n array) (o .inside) r k)))
-          absent (no k) = let z = outside r (omega arith) in let y : count r (take n array) ≡ 0 = omega arith in y ∙ sym z
 
   module _ (l : List ℕ) (h : Names of ts l) where
     inside : (r : ℕ) → 0 < count r l → r < length ts

@@ -123,18 +123,6 @@ start-refused lim d r e = go (start-cases lim d)
         absurd (omega arith)
     go (inr x) = ap (λ (o : Outcome). o .machine) (x .1)
 
--- "The start tests 14"
-pub start-accepted :
-    (lim : Limits) (d : Dag)
-    → isRefused (start lim d .reply) ≡ false
-    → (dagHolds d ≡ true) × (start lim d ≡ begun lim d)
-unfolding isRefused
-start-accepted lim d e = go (start-cases lim d)
-  where
-    go : StartCases lim d (start lim d) → (dagHolds d ≡ true) × (start lim d ≡ begun lim d)
-    go (inl x) = x
-    go (inr x) = clash (ap (λ (o : Outcome). isRefused (o .reply)) (x .1)) e
-
 -- "A step tests 14, 9": where a step is accepted the rules held; it took a queued token and did what its node does
 pub record StepAccepted (lim : Limits) (d : Dag) (m : Machine) (place : ℕ) : Type 0 where
   pub holds : rulesHold lim d m ≡ true

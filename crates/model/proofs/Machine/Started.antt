@@ -1,6 +1,6 @@
 -- A well-formed program begins: the start accepts its dag, also read back from the words that it was written to.
 -- The dag keeps the index rules, and the start tests nothing else. Assumes nothing.
-use mathlib.Core.Path.{_≡_, _∙_, ap}
+use mathlib.Core.Path.{_≡_, ap}
 use mathlib.Core.Bool.{true}
 use mathlib.Core.List.{List, []}
 use Prim.Native.Nat.{ℕ}
@@ -37,7 +37,3 @@ start-machine lim p w = ap (λ o. o .machine) (start-begins lim p w)
 -- an array that a program's dag was written into holds that dag, and the start accepts what it holds
 pub words-construct : (p : Program) (ws : List ℕ) → WellFormed p → length ws ≡ arrayWords → dagOf (written (construct p) ws) ≡ construct p
 words-construct p ws w l = decode-written (construct p) ws (construct-holds p w) l
-
-pub start-from-words : (lim : Limits) (p : Program) (ws : List ℕ) → WellFormed p → length ws ≡ arrayWords
-    → start lim (dagOf (written (construct p) ws)) ≡ begun lim (construct p .goal)
-start-from-words lim p ws w l = ap (start lim) (words-construct p ws w l) ∙ start-begins lim p w

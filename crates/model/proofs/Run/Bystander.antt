@@ -1,7 +1,7 @@
 -- A ready token that does not act: what a step writes at other places leaves it as it is, at its position and active, so that
 -- blanking keeps it. One lemma for each change of a machine. Assumes nothing.
 use mathlib.Core.Path.{_≡_, refl, sym, _∙_, subst}
-use mathlib.Core.Bool.{true, false, not}
+use mathlib.Core.Bool.{true, false}
 use mathlib.Core.List.{List, [], _∷_, _++_}
 use Prim.Native.Nat.{ℕ, _<_}
 use native.Mathlib.Omega.{arith}

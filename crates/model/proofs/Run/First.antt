@@ -2,7 +2,6 @@
 -- shows is allowed. Assumes nothing.
 use mathlib.Core.List.{List}
 use native.Mathlib.Omega.{arith}
-use Rattle.job.specs.Syntax.{Program}
 use Rattle.job.specs.Construct.{construct}
 use Rattle.model.specs.Machine.Limits.{paper}
 use Rattle.calculus.specs.Event.{Event}

@@ -2,7 +2,7 @@
 -- if every step takes place 0. Each accepted step at place 0 that neither takes nor ends a token leaves it in the queue with
 -- fewer others before it, so there are at most as many such steps as stood before it; answers leave it where it was. Assumes nothing.
 use mathlib.Core.Path.{_≡_, refl, sym, subst}
-use mathlib.Core.Bool.{Bool, true, false}
+use mathlib.Core.Bool.{Bool, false}
 use mathlib.Core.List.{List, _∷_}
 use Prim.Native.Nat.{ℕ, zero, suc, _≤_, _<_}
 use native.Mathlib.Omega.{arith}

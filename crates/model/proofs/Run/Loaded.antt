@@ -1,6 +1,6 @@
 -- The words that a table's dag is written as stand for the dag: the start on them is accepted, and whatever is called from there has the outcomes of the
 -- run of which demand 3 speaks, since the words decode to the construction. Assumes nothing.
-use mathlib.Core.Path.{_≡_, sym, ap}
+use mathlib.Core.Path.{_≡_, ap}
 use mathlib.Core.List.{List}
 use Prim.Native.Nat.{ℕ}
 use lib.ListN.{length}
@@ -14,7 +14,6 @@ use Rattle.model.specs.Machine.Start.{start}
 use Rattle.model.specs.Run.Call.{Call, runner, outcomeOf, machineAfter, eventsFrom, started}
 use Rattle.model.specs.declared.record.Machine.{Machine}
 use Rattle.model.specs.declared.reply.Reply.the-variants as replies
-use Rattle.model.specs.declared.reply.Outcome.{Outcome}
 use Rattle.job.proofs.Accepted.{accepted-well-formed}
 use Rattle.model.proofs.Machine.Started.{start-accepts, words-construct}
 

@@ -3,7 +3,7 @@
 use mathlib.Core.Path.{_≡_, refl, sym, _∙_, subst}
 use mathlib.Core.Bool.{Bool, true, false, not}
 use mathlib.Core.List.{List, [], _∷_}
-use Prim.Native.Nat.{ℕ, zero, suc, _≤_, _<_}
+use Prim.Native.Nat.{ℕ, suc, _≤_, _<_}
 use native.Mathlib.Omega.{arith}
 use lib.ListN.{length, getD, take}
 use lib.Seq.{getD-take, length-take-le}
@@ -12,11 +12,10 @@ use Rattle.job.specs.Node.{Dag}
 use Rattle.model.specs.Machine.Limits.{Limits}
 use Rattle.model.specs.Machine.Blank.{blankToken, tokenAt}
 use Rattle.model.specs.Machine.Active.{underSet}
-use Rattle.model.specs.Machine.State.{isLive, isReady}
+use Rattle.model.specs.Machine.State.{isReady}
 use Rattle.model.specs.Machine.Rules.{notUnderSet, sizesInRange, rulesHold}
 use Rattle.model.specs.Run.Follow.{queuedToken}
 use Rattle.model.specs.declared.token.State.{State}
-use Rattle.model.specs.declared.token.State.the-variants as states
 use Rattle.model.specs.declared.token.Token.{Token}
 use Rattle.model.specs.declared.cell.Cell.{Cell}
 use Rattle.model.specs.declared.record.Machine.{Machine}

@@ -7,12 +7,12 @@ use mathlib.Core.List.{List, [], _∷_, _++_, map}
 use Prim.Native.Nat.{ℕ, suc, _+_, _<_}
 use native.Mathlib.Decide.{ℕ-discrete}
 use native.Mathlib.Omega.{arith}
-use lib.ListN.{length, getD, set, length-set, length-map, List·getD-map}
+use lib.ListN.{length, set, length-set, length-map}
 use lib.Dec.{eqb}
 use lib.IntN.{ℤ}
 use Rattle.job.specs.Test.{count, once, any, filter}
 use Rattle.job.specs.Node.{Node, Dag}
-use Rattle.model.specs.Machine.Blank.{blankToken, tokenAt, cellAt}
+use Rattle.model.specs.Machine.Blank.{tokenAt, cellAt}
 use Rattle.model.specs.Machine.Active.{within}
 use Rattle.model.specs.Machine.State.{isLive, waitsAt}
 use Rattle.model.specs.Machine.Update.{withState, withTables, withOrders}
@@ -21,7 +21,6 @@ use Rattle.calculus.specs.Expression.{Exp}
 use Rattle.model.specs.declared.token.Held.{Held}
 use Rattle.model.specs.declared.token.Held.the-variants as helds
 use Rattle.model.specs.declared.token.Place.{Place}
-use Rattle.model.specs.declared.token.Place.the-variants as places
 use Rattle.model.specs.declared.token.State.{State}
 use Rattle.model.specs.declared.token.State.the-variants as states
 use Rattle.model.specs.declared.token.Token.{Token}

@@ -5,9 +5,7 @@ use mathlib.Core.Bool.{Bool, true, false}
 use mathlib.Core.List.{List, [], _∷_, map, List·Memᴰ}
 use Prim.Native.Nat.{ℕ, suc, _<_, _≤_}
 use lib.ListN.{length}
-use lib.IntN.{ℤ}
 use Rattle.job.specs.Test.{All}
-use Rattle.job.specs.Number.{Signed32}
 use Rattle.job.specs.Syntax.{Param, levels}
 use Rattle.job.specs.Node.{Node, Dag, nodeAt, bodyAt}
 use Rattle.job.specs.WellFormed.{GoodParam}

@@ -6,14 +6,13 @@ use mathlib.Core.Option.{none}
 use Prim.Native.Nat.{ℕ, suc, _<_}
 use native.Mathlib.Omega.{arith}
 use lib.ListN.{length, set, length-set}
-use lib.Seq.{getD-set-same, getD-set-other}
 use lib.Dec.{eqb}
 use lib.IntN.{ℤ}
 use Rattle.job.specs.Test.{All}
 use Rattle.job.specs.Syntax.{Param}
 use Rattle.job.specs.WellFormed.{GoodParam}
 use Rattle.job.specs.Node.{Node, Dag, bodyAt}
-use Rattle.model.specs.Machine.Blank.{blankCell, tokenAt, cellAt}
+use Rattle.model.specs.Machine.Blank.{tokenAt, cellAt}
 use Rattle.model.specs.Machine.State.{isLive}
 use Rattle.model.specs.Machine.InUse.{tokensUsed, cellsUsed}
 use Rattle.model.specs.Machine.Update.{withNode, withBinding, inCell, withState, withTables, withOrders, withCounts, put, enqueue, newToken, newCell}

@@ -201,9 +201,6 @@ module _ {M : Labels} {Q R : ℕ → Type 0} {O W : World} (K : Kept Q R O W) (Z
       → Fits Q R t → ((c : ℕ) → O .store c ≡ none → W .store c ≡ none) → TokenSeen O M t x → TokenSeen W M t x
   token-keep h f (sees v u s) = sees (place-keep h v) (λ c m. f c (u c m)) s
 
-  pub token-fits : (p : ℕ) {x : Abstract.Token} → Q p → TokenSeen O M (tokenAt (O .tokens) p) x → Fits Q R (tokenAt (O .tokens) p)
-  token-fits p h (sees v u s) = Z .token p h v
-
 -- lists of tokens
 count-here : (p : ℕ) (A : List ℕ) → 0 < count p (p ∷ A)
 unfolding count

@@ -2,7 +2,7 @@
 -- the table has, and that is enough: a chain that is seen ends, so no cell comes twice in it. Assumes nothing.
 use mathlib.Core.Path.{_≡_, refl, sym, _∙_, ap, subst}
 use mathlib.Core.Bool.{Bool, true, false}
-use mathlib.Core.List.{List, [], _∷_, _++_, List·Memᴰ·head, List·Memᴰ·tail, List·Memᴰ·not-nil}
+use mathlib.Core.List.{List, [], _∷_, _++_, List·Memᴰ·head}
 use Prim.Native.Nat.{ℕ, zero, suc, _+_, _<_, _≤_}
 use native.Mathlib.Decide.{ℕ-discrete}
 use native.Mathlib.Omega.{arith}
@@ -16,9 +16,9 @@ use Rattle.model.specs.Machine.InUse.{marked}
 use Rattle.model.specs.declared.token.Place.{Place}
 use Rattle.model.specs.declared.token.Place.the-variants as places
 use Rattle.job.proofs.WellFormed.{member-any}
-use Rattle.job.proofs.Test.{clash, eq-eqb, ne-eqb, or-left, or-right}
+use Rattle.job.proofs.Test.{clash, eq-eqb, ne-eqb}
 use Rattle.model.proofs.Machine.Marks.{Free, marked-le-length, marked-set-free}
-use Rattle.simulation.proofs.Store.{_∈_, _∉_}
+use Rattle.simulation.proofs.Store.{_∉_}
 use Rattle.model.proofs.Sees.View.{World, CellSeen, CellsSeen, root, below}
 
 -- names in a list

@@ -3,7 +3,7 @@
 use mathlib.Core.Bool.{Bool, true, false}
 use mathlib.Core.List.{List, [], _∷_, _++_, map}
 use Prim.Native.Nat.{ℕ, suc}
-use lib.ListN.{length, getD, set, take, drop}
+use lib.ListN.{length, getD, set, drop}
 use lib.Dec.{ltb}
 use lib.IntN.{ℤ, pos}
 use Rattle.job.specs.Test.{filter, without}
@@ -13,21 +13,19 @@ use Rattle.job.specs.Node.{Node, Dag, nodeAt, bodyAt}
 use Rattle.model.specs.Machine.Limits.{Limits}
 use Rattle.model.specs.Machine.Update.{withNode, withBinding, withValue, inCell, withState, withTables, withOrders, withCounts}
 use Rattle.model.specs.Machine.Update.{queueOf, waitsOf, put, enqueue, newToken, newCell}
-use Rattle.model.specs.Machine.Blank.{empty, unbound, blankToken, tokenAt, cellAt, slotAt}
+use Rattle.model.specs.Machine.Blank.{unbound, blankToken, tokenAt, cellAt, slotAt}
 use Rattle.model.specs.Machine.Active.{within}
 use Rattle.model.specs.Machine.InUse.{tokensUsed, cellsUsed, marked}
 use Rattle.model.specs.Machine.FreePlace.{nextPlace}
 use Rattle.model.specs.Machine.Rules.{rulesHold}
 use Rattle.model.specs.Machine.State.{isReady, isWaiting, waitsAt}
 use Rattle.model.specs.Machine.Reply.{Effect, moves, waits, publishes, calls, refuses, unless, outcome}
-use Rattle.model.specs.declared.token.Slot.{Slot}
 use Rattle.model.specs.declared.token.Slot.the-variants as slots
 use Rattle.model.specs.declared.token.Bind.{Bind}
 use Rattle.model.specs.declared.token.Held.{Held}
 use Rattle.model.specs.declared.token.Held.the-variants as helds
 use Rattle.model.specs.declared.token.Place.{Place}
 use Rattle.model.specs.declared.token.Place.the-variants as places
-use Rattle.model.specs.declared.token.State.{State}
 use Rattle.model.specs.declared.token.State.the-variants as states
 use Rattle.model.specs.declared.token.Token.{Token}
 use Rattle.model.specs.declared.cell.Cell.{Cell}

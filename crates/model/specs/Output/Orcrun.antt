@@ -1,5 +1,5 @@
 -- `orcrun`: from the bytes of its input to its lines. Assumes nothing: these are definitions.
-use mathlib.Core.Bool.{Bool, true, false}
+use mathlib.Core.Bool.{true, false}
 use mathlib.Core.List.{List, [], _∷_, _++_}
 use Prim.Native.Nat.{ℕ, zero, suc, _+_}
 use lib.ListN.{length, take, drop}
@@ -18,7 +18,6 @@ use Rattle.model.specs.Output.Line.{Line, call, publish, refused, table,
 use Rattle.model.specs.declared.record.Machine.{Machine}
 use Rattle.model.specs.declared.reply.Reply.{Reply}
 use Rattle.model.specs.declared.reply.Reply.the-variants as replies
-use Rattle.model.specs.declared.reply.Outcome.{Outcome}
 
 -- the lines of a reply, with the values beside it
 unfoldable pub reportedLines : Reply → (values : List ℤ) → List Line

@@ -12,7 +12,6 @@ use Rattle.calculus.specs.Allowed.{Allowed}
 use Rattle.calculus.specs.Meaning.{meaning}
 use Rattle.model.specs.Run.Call.{Call, Runner, runner, started, machineAfter, eventsFrom, noneRefused}
 use Rattle.model.specs.Run.Follow.{House, Followed}
-use Rattle.model.specs.declared.record.Machine.{Machine}
 
 module _ (R : Runner) where
   -- "First part: each run's event list is allowed for its table."

@@ -2,7 +2,7 @@
 use mathlib.Core.Path.{_≡_, refl, _∙_}
 use Prim.Native.Nat.{_≤_, _-_}
 use native.Mathlib.Omega.{arith}
-use lib.ListN.{length, drop, length-set}
+use lib.ListN.{length, drop}
 use lib.Seq.{drop-set-lt}
 use Rattle.orders.proofs.Padded.{Carries, carries-first, carries-next, carries-last}
 use borrow.Author.Needs.{needs}

@@ -1,5 +1,4 @@
 -- `marks::first_eight` meets its contract: its two numbers of four marks are one of eight. Assumes nothing.
-use mathlib.Core.Path.{_∙_}
 use borrow.Author.Needs.{needs}
 use native.Mathlib.Omega.{arith}
 use Rattle.reach.proofs.Weights.{eight-weight}

@@ -1,7 +1,7 @@
 -- `frame::release` meets its contract: the search says which way it goes. Assumes nothing.
 use mathlib.Core.Path.{refl}
 use borrow.Author.Needs.{needs}
-use Rattle.returns.specs.Frame.{AfterRelease, shared, alone}
+use Rattle.returns.specs.Frame.{shared, alone}
 use Rattle.returns.proofs.frame.release.Statement.{statement}
 use Rattle.returns.proofs.frame.release.Tie as tie
 

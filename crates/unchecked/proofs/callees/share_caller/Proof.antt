@@ -1,7 +1,6 @@
 -- `callees::share_caller` meets its contract: by the number of the caller's place. Assumes nothing.
 use mathlib.Core.Path.{_∙_}
 use borrow.Author.Needs.{needs}
-use native.Mathlib.Omega.{arith}
 use Rattle.unchecked.proofs.CalleeMarks.{shared-none, shared-far, shared-at}
 use Rattle.unchecked.proofs.callees.share_caller.Statement.{statement}
 use Rattle.unchecked.proofs.callees.share_caller.Tie as tie
