@@ -20,7 +20,8 @@ use Rattle.model.specs.Machine.Answer as Answer
 use Rattle.model.specs.Machine.Answer.{holder}
 use Rattle.model.specs.Machine.Start.{startToken, startMachine}
 use Rattle.model.specs.Machine.Step as Step
-use Rattle.model.specs.Machine.Update.{put, withTables, withOrders, withCounts, enqueue, newToken, newCell, withNode, withBinding, withValue, withState, inCell}
+use Rattle.model.specs.Machine.Update.{put, withTables, withOrders, withCounts, enqueue, newToken, newCell, withNode, withBinding}
+use Rattle.model.specs.Machine.Update.{withValue, withState, inCell}
 use Rattle.model.specs.Machine.Step.{act}
 use Rattle.model.specs.Machine.Step.{LookUpResult, values, unset, chokeToken, afterChoke}
 use Rattle.model.specs.declared.cell.Cell.{Cell}
@@ -40,7 +41,8 @@ use Rattle.sites.specs.Row.{nodeIn, paramsAt}
 use Rattle.acts.specs.Acting.{Acting}
 use Rattle.acts.specs.SharedFrames.{NamesAsCaller, OneCallee, callerShared}
 use Rattle.acts.proofs.Outcomes.{step-is}
-use Rattle.acts.proofs.SharedFrames.{nowhere-at, blank-names, unshared, NoNewCallee, callees-kept, After, effect-callees, swept-callees, put-names, put-callees, blank-callees}
+use Rattle.acts.proofs.SharedFrames.{nowhere-at, blank-names, unshared, NoNewCallee, callees-kept, After, effect-callees}
+use Rattle.acts.proofs.SharedFrames.{swept-callees, put-names, put-callees, blank-callees}
 
 -- a choked token has the caller that it had, or none
 choked-names : (cs : List Cell) (c f : ℕ) (t : Token) → chokeToken cs c t .caller ≡ places.At f → t .caller ≡ places.At f
@@ -58,7 +60,8 @@ mapped-names f g h [] i e = e
 mapped-names f g h (t ∷ ts) zero e = h t e
 mapped-names f g h (t ∷ ts) (suc i) e = mapped-names f g h ts i e
 
-module _ (s : List Bool) {ws dag : List ℕ} {used cells : List Bool} {place p at k : ℕ} {m : Machine} (a : Acting ws used cells dag place p at k m) where
+module _ (s : List Bool) {ws dag : List ℕ} {used cells : List Bool} {place p at k : ℕ} {m : Machine}
+    (a : Acting ws used cells dag place p at k m) where
   abbrev t : Token
   t = tokenAt (m .tokens) p
 
@@ -111,7 +114,8 @@ module _ (s : List Bool) {ws dag : List ℕ} {used cells : List Bool} {place p a
 -- Steps that give no place a new callee
 module _ (s : List Bool) (dag : List ℕ) (place p at : ℕ) (m : Machine) where
   abbrev pub StepKeeps : (k : ℕ) → Type 0
-  StepKeeps k = (ws : List ℕ) (used cells : List Bool) → Acting ws used cells dag place p at k m → OneCallee s m → OneCallee s (Step.step paper (dagOf dag) m place .machine)
+  StepKeeps k = (ws : List ℕ) (used cells : List Bool) → Acting ws used cells dag place p at k m → OneCallee s m
+      → OneCallee s (Step.step paper (dagOf dag) m place .machine)
 
   pub stop-keeps : StepKeeps 0
   unfolding act After Step.ended
@@ -138,7 +142,8 @@ module _ (s : List Bool) (dag : List ℕ) (place p at : ℕ) (m : Machine) where
   publish-keeps ws used cells a = stepped s a (gone s a)
 
 -- one more token with a caller that is marked
-second-callee : (u : List Bool) (m o : Machine) (q : ℕ) (v : Token) → ((f : ℕ) → getD u f true ≡ false → v .caller ≡ places.At f → ⊥) → NoNewCallee u m o
+second-callee : (u : List Bool) (m o : Machine) (q : ℕ) (v : Token) → ((f : ℕ) → getD u f true ≡ false → v .caller ≡ places.At f → ⊥)
+    → NoNewCallee u m o
     → NoNewCallee u m (put q v o)
 second-callee u m o q v other h f i e a = go (put-names o q v f i a)
   where
@@ -159,7 +164,8 @@ module _ (s : List Bool) (m : Machine) (p : ℕ) where
 
 module _ (s : List Bool) (dag : List ℕ) (place p at : ℕ) (m : Machine) where
   abbrev pub SplitKeeps : (k : ℕ) → Type 0
-  SplitKeeps k = (ws : List ℕ) (used cells : List Bool) → Acting ws used cells dag place p at k m → OneCallee s m → OneCallee (u s m p) (Step.step paper (dagOf dag) m place .machine)
+  SplitKeeps k = (ws : List ℕ) (used cells : List Bool) → Acting ws used cells dag place p at k m → OneCallee s m
+      → OneCallee (u s m p) (Step.step paper (dagOf dag) m place .machine)
 
   pub fork-keeps : SplitKeeps 3
   unfolding act
@@ -167,10 +173,13 @@ module _ (s : List Bool) (dag : List ℕ) (place p at : ℕ) (m : Machine) where
     where
       go : (b : Bool)
           → After (NoNewCallee (u s m p) m)
-          (unless b refusals.TokenLimit (Step.forked (dequeued m place) p (tokenAt (m .tokens) p) (Step.tokenPlace m) (getD dag (at + 1) 0) (getD dag (at + 2) 0)))
+          (unless b refusals.TokenLimit
+          (Step.forked (dequeued m place) p (tokenAt (m .tokens) p) (Step.tokenPlace m) (getD dag (at + 1) 0) (getD dag (at + 2) 0)))
       go true =
           unfold unless After Step.forked enqueue withOrders newToken withCounts in
-          second-callee (u s m p) m _ _ (withNode (getD dag (at + 2) 0) (tokenAt (m .tokens) p)) (λ f e c. unshared (caller s m p) s f e .0 (unfold withNode in c)) (anew (u s m p) a (withNode (getD dag (at + 1) 0) (tokenAt (m .tokens) p)) (unfold withNode in refl))
+          second-callee (u s m p) m _ _ (withNode (getD dag (at + 2) 0) (tokenAt (m .tokens) p))
+          (λ f e c. unshared (caller s m p) s f e .0 (unfold withNode in c))
+          (anew (u s m p) a (withNode (getD dag (at + 1) 0) (tokenAt (m .tokens) p)) (unfold withNode in refl))
       go false = unfold unless After in tt
 
   pub where-keeps : SplitKeeps 6
@@ -181,10 +190,16 @@ module _ (s : List Bool) (dag : List ℕ) (place p at : ℕ) (m : Machine) where
           → After (NoNewCallee (u s m p) m)
           (unless b refusals.TokenLimit
           (unless c refusals.CellLimit
-          (Step.split (dequeued m place) p (tokenAt (m .tokens) p) (Step.tokenPlace m) (Step.cellPlace m) (getD dag (at + 3) 0) (getD dag (at + 1) 0) (getD dag (at + 2) 0))))
+          (Step.split (dequeued m place) p (tokenAt (m .tokens) p) (Step.tokenPlace m) (Step.cellPlace m) (getD dag (at + 3) 0)
+          (getD dag (at + 1) 0) (getD dag (at + 2) 0))))
       go true true =
           unfold unless After Step.split enqueue withOrders newCell newToken withCounts withTables in
-          second-callee (u s m p) m _ _ (inCell (Step.cellPlace m) (withNode (getD dag (at + 2) 0) (tokenAt (m .tokens) p))) (λ f e c. unshared (caller s m p) s f e .0 (unfold inCell withNode in c)) (anew (u s m p) a (withNode (getD dag (at + 1) 0) (withBinding (getD dag (at + 3) 0) (slots.Cell (Step.cellPlace m)) (tokenAt (m .tokens) p))) (unfold withNode withBinding in refl))
+          second-callee (u s m p) m _ _ (inCell (Step.cellPlace m) (withNode (getD dag (at + 2) 0) (tokenAt (m .tokens) p)))
+          (λ f e c. unshared (caller s m p) s f e .0 (unfold inCell withNode in c))
+          (anew (u s m p) a
+          (withNode (getD dag (at + 1) 0)
+          (withBinding (getD dag (at + 3) 0) (slots.Cell (Step.cellPlace m)) (tokenAt (m .tokens) p)))
+          (unfold withNode withBinding in refl))
       go true false = unfold unless After in tt
       go false c = unfold unless After in tt
 
@@ -229,26 +244,33 @@ module _ (s : List Bool) (dag : List ℕ) (place p at : ℕ) (m : Machine) where
       Step.entered (dequeued m place) p (tokenAt (m .tokens) p) (Step.tokenPlace m) (bodyAt (dagOf dag) (getD dag (at + 1) 0) .root)
       (paramsAt dag at) (getD dag (at + 2) 0)
 
-  pub call-keeps : (ws : List ℕ) (used cells : List Bool) → Acting ws used cells dag place p at 2 m → ((i : ℕ) → NamesAsCaller m p i → ⊥) → OneCallee s m
+  pub call-keeps : (ws : List ℕ) (used cells : List Bool) → Acting ws used cells dag place p at 2 m → ((i : ℕ) → NamesAsCaller m p i → ⊥)
+      → OneCallee s m
       → OneCallee (set s p false) (Step.step paper (dagOf dag) m place .machine)
   unfolding act unless outcome accepted Step.entered withOrders
-  call-keeps ws used cells a none one = subst (λ (o : Outcome). OneCallee (set s p false) (o .machine)) (sym (step-is a)) (go (Step.hasTokenPlace paper m))
+  call-keeps ws used cells a none one = subst (λ (o : Outcome). OneCallee (set s p false) (o .machine)) (sym (step-is a))
+      (go (Step.hasTokenPlace paper m))
     where
       go : (b : Bool) → OneCallee (set s p false) (outcome m (unless b refusals.TokenLimit entering) .machine)
       go true =
-          swept-callees (set s p false) _ (called s m p none one (dequeued m place) _ _ (withNode (getD dag (at + 2) 0) (withState states.Frame (tokenAt (m .tokens) p))) refl refl
+          swept-callees (set s p false) _
+          (called s m p none one (dequeued m place) _ _ (withNode (getD dag (at + 2) 0) (withState states.Frame (tokenAt (m .tokens) p)))
+          refl refl
           (unfold withNode withState in refl))
       go false = fresh s m p none one
 
 -- An answer leaves each token its caller
-pub answer-keeps : (s : List Bool) (d : Dag) (m : Machine) (h : ℕ) (v : ℤ) → OneCallee s m → OneCallee s (Answer.answer paper d m h v .machine)
+pub answer-keeps : (s : List Bool) (d : Dag) (m : Machine) (h : ℕ) (v : ℤ) → OneCallee s m
+    → OneCallee s (Answer.answer paper d m h v .machine)
 unfolding Answer.answer
 answer-keeps s d m h v one = effect-callees s m _ (tested (rulesHold paper d m)) one
   where
     given : (q : Place) → After (NoNewCallee s m) (Answer.answered m v q)
     given places.Nowhere = unfold After Answer.answered in tt
     given (places.At p) =
-        unfold After Answer.answered enqueue withOrders in put-callees s m m refl p (withState states.Ready (withValue (helds.Value v) (tokenAt (m .tokens) p))) (λ f e. unfold withState withValue in e)
+        unfold After Answer.answered enqueue withOrders in
+        put-callees s m m refl p (withState states.Ready (withValue (helds.Value v) (tokenAt (m .tokens) p)))
+        (λ f e. unfold withState withValue in e)
 
     tested : (b : Bool) → After (NoNewCallee s m) (unless b refusals.Rule (Answer.answered m v (holder h 0 (m .tokens))))
     tested true = unfold unless in given _

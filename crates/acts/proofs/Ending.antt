@@ -1,5 +1,5 @@
--- The instructions after which something may be out of reach: an end, another binding, a return. Where the token named no cell that it names no more,
--- nothing is, and otherwise the record is swept. Assumes nothing.
+-- The instructions after which something may be out of reach: an end, another binding, a return. Where the token named no cell that it
+-- names no more, nothing is, and otherwise the record is swept. Assumes nothing.
 use mathlib.Core.Path.{_≡_, refl, sym, ap, ap₂, subst, _∙_}
 use mathlib.Core.Bool.{Bool, true, false}
 use mathlib.Core.List.{List, []}
@@ -66,7 +66,8 @@ module _ {ws dag : List ℕ} {used cells : List Bool} {place p : ℕ} {m : Machi
   unfolding put withTables withOrders
   end-vacant = vacant-row a _ blankToken refl refl
 
-  pub end-gives : {after : List ℕ} (reply : Reply) (r : Report) → r ≡ plain reply → NoLinks t → Holds after (put p blankToken (dequeued m place))
+  pub end-gives : {after : List ℕ} (reply : Reply) (r : Report) → r ≡ plain reply → NoLinks t
+      → Holds after (put p blankToken (dequeued m place))
       → Gives (accepted reply [] (put p blankToken (dequeued m place))) m after (set used p false) cells r
   end-gives reply r e n h =
       let k = a .lawful .marks in
@@ -94,7 +95,8 @@ module _ {ws dag : List ℕ} {used cells : List Bool} {place p : ℕ} {m : Machi
         (λ framed. record { whole = c .whole; tokens = c .tokens ∙ sym (marks .tokens); cells = c .cells ∙ sym (marks .cells) })
 
   -- a return
-  pub return-vacant : (f : ℕ) → Vacant (enqueue p (put p (withState states.Ready (withValue (t .value) (tokenAt (m .tokens) f))) (dequeued m place))) used cells
+  pub return-vacant : (f : ℕ)
+      → Vacant (enqueue p (put p (withState states.Ready (withValue (t .value) (tokenAt (m .tokens) f))) (dequeued m place))) used cells
   unfolding put withTables withOrders enqueue
   return-vacant f = vacant-row a _ (withState states.Ready (withValue (t .value) (tokenAt (m .tokens) f))) refl refl
 
@@ -103,7 +105,8 @@ pub no-cell : (s : Slot) (k : ℕ) → k ≡ slotKind s → (k ≡ 2 → ⊥) �
 no-cell s k e n c f = n (e ∙ ap slotKind f)
 
 -- a call's outcome in other words
-pub gives-as : {x y : Outcome} {m : Machine} {ws : List ℕ} {used cells : List Bool} {r : Report} → y ≡ x → Gives x m ws used cells r → Gives y m ws used cells r
+pub gives-as : {x y : Outcome} {m : Machine} {ws : List ℕ} {used cells : List Bool} {r : Report} → y ≡ x → Gives x m ws used cells r
+    → Gives y m ws used cells r
 gives-as {x} {y} {m} {ws} {used} {cells} {r} e g = subst (λ o. Gives o m ws used cells r) (sym e) g
 
 -- no variable below x is bound to a cell, and then none at all
@@ -173,12 +176,14 @@ module _ {ws dag : List ℕ} {used cells : List Bool} {place p : ℕ} {m : Machi
   cell-range = and-left _ _ (and-right (placeInRange 64 (tokenAt (m .tokens) p .caller)) _ rest)
 
 module _ (dag : List ℕ) (place p at : ℕ) (m : Machine) {n : ℕ} where
-  pub return-caller : {ws : List ℕ} {used cells : List Bool} → Acting ws used cells dag place p at 8 m → n ≡ placeNumber (tokenAt (m .tokens) p .caller)
+  pub return-caller : {ws : List ℕ} {used cells : List Bool} → Acting ws used cells dag place p at 8 m
+      → n ≡ placeNumber (tokenAt (m .tokens) p .caller)
       → (1 ≤ n) × (n - 1 < 64) × (tokenAt (m .tokens) p .caller ≡ places.At (n - 1))
   unfolding nodeRule
   return-caller a e = is-place _ n 64 (frame-place (m .tokens) _ (and-left _ _ (node-rule a))) (caller-range (a .taking)) e
 
-  pub choke-cell : {ws : List ℕ} {used cells : List Bool} → Acting ws used cells dag place p at 7 m → n ≡ placeNumber (tokenAt (m .tokens) p .cell)
+  pub choke-cell : {ws : List ℕ} {used cells : List Bool} → Acting ws used cells dag place p at 7 m
+      → n ≡ placeNumber (tokenAt (m .tokens) p .cell)
       → (1 ≤ n) × (n - 1 < 32) × (tokenAt (m .tokens) p .cell ≡ places.At (n - 1))
   unfolding nodeRule
   choke-cell a e = is-place _ n 32 (and-left _ _ (node-rule a)) (cell-range (a .taking)) e

@@ -39,7 +39,8 @@ pub fitting : Fitting paper
 fitting = record { tokens = omega arith; cells = omega arith }
 
 -- the next place, where there is room, and where there is none
-pub next-room : {n new : ℕ} (marks : List Bool) (last : ℕ) → new ≡ nextOr n marks last → new < n → (ltb (marked marks) n ≡ true) × (new ≡ nextPlace marks last)
+pub next-room : {n new : ℕ} (marks : List Bool) (last : ℕ) → new ≡ nextOr n marks last → new < n
+    → (ltb (marked marks) n ≡ true) × (new ≡ nextPlace marks last)
 unfolding nextOr
 next-room {n} {new} marks last e l = go (ltb (marked marks) n) e
   where
@@ -52,7 +53,8 @@ next-full : {n new : ℕ} (marks : List Bool) (last : ℕ) → new ≡ nextOr n 
 unfolding nextOr
 next-full {n} {new} marks last e l inside = go (ltb (marked marks) n) e inside
   where
-    go : (b : Bool) → new ≡ elim b as (λ _. ℕ) [ true ↦ nextPlace marks last | false ↦ n ] → (b ≡ true → nextPlace marks last < n) → b ≡ false
+    go : (b : Bool) → new ≡ elim b as (λ _. ℕ) [ true ↦ nextPlace marks last | false ↦ n ] → (b ≡ true → nextPlace marks last < n)
+        → b ≡ false
     go true f g = let h = g refl in absurd (omega arith)
     go false f g = refl
 
@@ -103,16 +105,19 @@ module _ (dag : List ℕ) (place p at : ℕ) (m : Machine) where
   abbrev word : ℕ → ℕ
   word i = getD dag (at + i) 0
 
-  pub stop-step : {ws : List ℕ} {used cells : List Bool} → Acting ws used cells dag place p at 0 m → Step.step paper (dagOf dag) m place ≡ accepted replies.Done [] (put p blankToken (dequeued m place))
+  pub stop-step : {ws : List ℕ} {used cells : List Bool} → Acting ws used cells dag place p at 0 m
+      → Step.step paper (dagOf dag) m place ≡ accepted replies.Done [] (put p blankToken (dequeued m place))
   unfolding act outcome Step.ended
   stop-step a = step-is a
 
-  pub publish-step : {ws : List ℕ} {used cells : List Bool} → Acting ws used cells dag place p at 9 m → Step.step paper (dagOf dag) m place ≡ accepted (replies.Published (valueOf (t .value))) [] (put p blankToken (dequeued m place))
+  pub publish-step : {ws : List ℕ} {used cells : List Bool} → Acting ws used cells dag place p at 9 m
+      → Step.step paper (dagOf dag) m place ≡ accepted (replies.Published (valueOf (t .value))) [] (put p blankToken (dequeued m place))
   unfolding act outcome Step.ended
   publish-step a = step-is a
 
   pub assign-step : {ws : List ℕ} {used cells : List Bool} → Acting ws used cells dag place p at 4 m → Step.step paper (dagOf dag) m place
-      ≡ accepted replies.Done [] (enqueue p (put p (withNode (word 2) (withBinding (word 1) (slots.Value (valueOf (t .value))) t)) (dequeued m place)))
+      ≡ accepted replies.Done []
+      (enqueue p (put p (withNode (word 2) (withBinding (word 1) (slots.Value (valueOf (t .value))) t)) (dequeued m place)))
   unfolding act outcome Step.goesOn
   assign-step a = step-is a
 
@@ -121,12 +126,15 @@ module _ (dag : List ℕ) (place p at : ℕ) (m : Machine) where
   unfolding act outcome Step.goesOn
   remove-step a = step-is a
 
-  pub return-step : {ws : List ℕ} {used cells : List Bool} → (f : ℕ) → t .caller ≡ places.At f → Acting ws used cells dag place p at 8 m → Step.step paper (dagOf dag) m place
-      ≡ accepted replies.Done [] (enqueue p (put p (withState states.Ready (withValue (t .value) (tokenAt (m .tokens) f))) (dequeued m place)))
+  pub return-step : {ws : List ℕ} {used cells : List Bool} → (f : ℕ) → t .caller ≡ places.At f → Acting ws used cells dag place p at 8 m
+      → Step.step paper (dagOf dag) m place
+      ≡ accepted replies.Done []
+      (enqueue p (put p (withState states.Ready (withValue (t .value) (tokenAt (m .tokens) f))) (dequeued m place)))
   unfolding act outcome Step.goesOn Step.returned withOrders
   return-step f e a = step-is a ∙ ap (λ q. outcome m (Step.returned (dequeued m place) p t q)) e
 
-  pub choke-step : {ws : List ℕ} {used cells : List Bool} → (c : ℕ) → t .cell ≡ places.At c → Acting ws used cells dag place p at 7 m → Step.step paper (dagOf dag) m place
+  pub choke-step : {ws : List ℕ} {used cells : List Bool} → (c : ℕ) → t .cell ≡ places.At c → Acting ws used cells dag place p at 7 m
+      → Step.step paper (dagOf dag) m place
       ≡ accepted replies.Done [] (Step.afterChoke c (t .value) (dequeued m place))
   unfolding act outcome Step.chokeAt
   choke-step c e a = step-is a ∙ ap (λ q. outcome m (Step.chokeAt (dequeued m place) t q)) e
@@ -137,22 +145,31 @@ module _ (dag : List ℕ) (place p at : ℕ) (m : Machine) where
   site-step a = step-is a
 
   -- fork, where and definition call, with room and without
-  pub fork-step : {ws : List ℕ} {used cells : List Bool} → (new : ℕ) → hasTokenPlace paper m ≡ true → new ≡ nextPlace (tokensUsed m) (m .lasttoken) → Acting ws used cells dag place p at 3 m
+  pub fork-step : {ws : List ℕ} {used cells : List Bool} → (new : ℕ) → hasTokenPlace paper m ≡ true
+      → new ≡ nextPlace (tokensUsed m) (m .lasttoken) → Acting ws used cells dag place p at 3 m
       → Step.step paper (dagOf dag) m place
-      ≡ accepted replies.Done [] (enqueue new (enqueue p (newToken new (withNode (word 2) t) (put p (withNode (word 1) t) (dequeued m place)))))
+      ≡ accepted replies.Done []
+      (enqueue new (enqueue p (newToken new (withNode (word 2) t) (put p (withNode (word 1) t) (dequeued m place)))))
   unfolding act outcome unless Step.forked
   fork-step new room e a =
       step-is a
-      ∙ ap (λ b. outcome m (unless b refusals.TokenLimit (Step.forked (dequeued m place) p t (nextPlace (tokensUsed m) (m .lasttoken)) (word 1) (word 2)))) room
-      ∙ ap (λ q. accepted replies.Done [] (enqueue q (enqueue p (newToken q (withNode (word 2) t) (put p (withNode (word 1) t) (dequeued m place)))))) (sym e)
+      ∙ ap (λ b. outcome m
+      (unless b refusals.TokenLimit (Step.forked (dequeued m place) p t (nextPlace (tokensUsed m) (m .lasttoken)) (word 1) (word 2))))
+      room
+      ∙ ap (λ q. accepted replies.Done []
+      (enqueue q (enqueue p (newToken q (withNode (word 2) t) (put p (withNode (word 1) t) (dequeued m place)))))) (sym e)
 
-  pub fork-full : {ws : List ℕ} {used cells : List Bool} → hasTokenPlace paper m ≡ false → Acting ws used cells dag place p at 3 m → Step.step paper (dagOf dag) m place ≡ outcome m (refuses refusals.TokenLimit)
+  pub fork-full : {ws : List ℕ} {used cells : List Bool} → hasTokenPlace paper m ≡ false → Acting ws used cells dag place p at 3 m
+      → Step.step paper (dagOf dag) m place ≡ outcome m (refuses refusals.TokenLimit)
   unfolding act outcome unless
   fork-full full a =
       step-is a
-      ∙ ap (λ b. outcome m (unless b refusals.TokenLimit (Step.forked (dequeued m place) p t (nextPlace (tokensUsed m) (m .lasttoken)) (word 1) (word 2)))) full
+      ∙ ap (λ b. outcome m
+      (unless b refusals.TokenLimit (Step.forked (dequeued m place) p t (nextPlace (tokensUsed m) (m .lasttoken)) (word 1) (word 2))))
+      full
 
-  pub call-step : {ws : List ℕ} {used cells : List Bool} → (new : ℕ) → hasTokenPlace paper m ≡ true → new ≡ nextPlace (tokensUsed m) (m .lasttoken) → Acting ws used cells dag place p at 2 m
+  pub call-step : {ws : List ℕ} {used cells : List Bool} → (new : ℕ) → hasTokenPlace paper m ≡ true
+      → new ≡ nextPlace (tokensUsed m) (m .lasttoken) → Acting ws used cells dag place p at 2 m
       → Step.step paper (dagOf dag) m place
       ≡ accepted replies.Done []
       (enqueue new
@@ -162,27 +179,35 @@ module _ (dag : List ℕ) (place p at : ℕ) (m : Machine) where
   call-step new room e a =
       let root = bodyAt (dagOf dag) (word 1) .root in
       step-is a
-      ∙ ap (λ b. outcome m (unless b refusals.TokenLimit (Step.entered (dequeued m place) p t (nextPlace (tokensUsed m) (m .lasttoken)) root (paramsAt dag at) (word 2)))) room
+      ∙ ap (λ b. outcome m
+      (unless b refusals.TokenLimit
+      (Step.entered (dequeued m place) p t (nextPlace (tokensUsed m) (m .lasttoken)) root (paramsAt dag at) (word 2)))) room
       ∙ ap
       (λ q.
       accepted replies.Done []
-      (enqueue q (newToken q (callee p (t .cell) (t .binds) root (paramsAt dag at)) (put p (withNode (word 2) (withState states.Frame t)) (dequeued m place))))) (sym e)
+      (enqueue q (newToken q (callee p (t .cell) (t .binds) root (paramsAt dag at))
+      (put p (withNode (word 2) (withState states.Frame t)) (dequeued m place))))) (sym e)
 
-  pub call-full : {ws : List ℕ} {used cells : List Bool} → hasTokenPlace paper m ≡ false → Acting ws used cells dag place p at 2 m → Step.step paper (dagOf dag) m place ≡ outcome m (refuses refusals.TokenLimit)
+  pub call-full : {ws : List ℕ} {used cells : List Bool} → hasTokenPlace paper m ≡ false → Acting ws used cells dag place p at 2 m
+      → Step.step paper (dagOf dag) m place ≡ outcome m (refuses refusals.TokenLimit)
   unfolding act outcome unless
   call-full full a =
       let root = bodyAt (dagOf dag) (word 1) .root in
       step-is a
-      ∙ ap (λ b. outcome m (unless b refusals.TokenLimit (Step.entered (dequeued m place) p t (nextPlace (tokensUsed m) (m .lasttoken)) root (paramsAt dag at) (word 2)))) full
+      ∙ ap (λ b. outcome m
+      (unless b refusals.TokenLimit
+      (Step.entered (dequeued m place) p t (nextPlace (tokensUsed m) (m .lasttoken)) root (paramsAt dag at) (word 2)))) full
 
   abbrev splitting : (new c : ℕ) → Machine
   splitting new c =
       enqueue new
       (enqueue p
       (newCell c (unsetCell (t .cell))
-      (newToken new (inCell c (withNode (word 2) t)) (put p (withNode (word 1) (withBinding (word 3) (slots.Cell c) t)) (dequeued m place)))))
+      (newToken new (inCell c (withNode (word 2) t))
+      (put p (withNode (word 1) (withBinding (word 3) (slots.Cell c) t)) (dequeued m place)))))
 
-  pub where-step : {ws : List ℕ} {used cells : List Bool} → (new c : ℕ) → hasTokenPlace paper m ≡ true → new ≡ nextPlace (tokensUsed m) (m .lasttoken)
+  pub where-step : {ws : List ℕ} {used cells : List Bool} → (new c : ℕ) → hasTokenPlace paper m ≡ true
+      → new ≡ nextPlace (tokensUsed m) (m .lasttoken)
       → hasCellPlace paper m ≡ true → c ≡ nextPlace (cellsUsed m) (m .lastcell) → Acting ws used cells dag place p at 6 m
       → Step.step paper (dagOf dag) m place ≡ accepted replies.Done [] (splitting new c)
   unfolding act outcome unless Step.split
@@ -191,10 +216,13 @@ module _ (dag : List ℕ) (place p at : ℕ) (m : Machine) where
       let k = nextPlace (cellsUsed m) (m .lastcell) in
       step-is a
       ∙ ap₂
-      (λ b g. outcome m (unless b refusals.TokenLimit (unless g refusals.CellLimit (Step.split (dequeued m place) p t q k (word 3) (word 1) (word 2))))) room below
+      (λ b g. outcome m
+      (unless b refusals.TokenLimit (unless g refusals.CellLimit (Step.split (dequeued m place) p t q k (word 3) (word 1) (word 2)))))
+      room below
       ∙ ap₂ (λ q k. accepted replies.Done [] (splitting q k)) (sym e) (sym f)
 
-  pub where-full : {ws : List ℕ} {used cells : List Bool} → hasTokenPlace paper m ≡ false → Acting ws used cells dag place p at 6 m → Step.step paper (dagOf dag) m place ≡ outcome m (refuses refusals.TokenLimit)
+  pub where-full : {ws : List ℕ} {used cells : List Bool} → hasTokenPlace paper m ≡ false → Acting ws used cells dag place p at 6 m
+      → Step.step paper (dagOf dag) m place ≡ outcome m (refuses refusals.TokenLimit)
   unfolding act outcome unless
   where-full full a =
       let q = nextPlace (tokensUsed m) (m .lasttoken) in
@@ -206,7 +234,8 @@ module _ (dag : List ℕ) (place p at : ℕ) (m : Machine) where
       (unless b refusals.TokenLimit
       (unless (hasCellPlace paper m) refusals.CellLimit (Step.split (dequeued m place) p t q k (word 3) (word 1) (word 2))))) full
 
-  pub where-cells-full : {ws : List ℕ} {used cells : List Bool} → hasTokenPlace paper m ≡ true → hasCellPlace paper m ≡ false → Acting ws used cells dag place p at 6 m
+  pub where-cells-full : {ws : List ℕ} {used cells : List Bool} → hasTokenPlace paper m ≡ true → hasCellPlace paper m ≡ false
+      → Acting ws used cells dag place p at 6 m
       → Step.step paper (dagOf dag) m place ≡ outcome m (refuses refusals.CellLimit)
   unfolding act outcome unless
   where-cells-full room full a =
@@ -214,4 +243,6 @@ module _ (dag : List ℕ) (place p at : ℕ) (m : Machine) where
       let k = nextPlace (cellsUsed m) (m .lastcell) in
       step-is a
       ∙ ap₂
-      (λ b g. outcome m (unless b refusals.TokenLimit (unless g refusals.CellLimit (Step.split (dequeued m place) p t q k (word 3) (word 1) (word 2))))) room full
+      (λ b g. outcome m
+      (unless b refusals.TokenLimit (unless g refusals.CellLimit (Step.split (dequeued m place) p t q k (word 3) (word 1) (word 2)))))
+      room full

@@ -1,5 +1,5 @@
--- How a step ends: its outcome is that of the instruction at the token's node; where nothing is out of reach the words that were written are all there
--- is to it, and otherwise sweeping them. Assumes nothing.
+-- How a step ends: its outcome is that of the instruction at the token's node; where nothing is out of reach the words that were written
+-- are all there is to it, and otherwise sweeping them. Assumes nothing.
 use mathlib.Core.Path.{_≡_, sym, ap, subst, _∙_}
 use mathlib.Core.Bool.{Bool, true}
 use mathlib.Core.List.{List, []}
@@ -38,8 +38,10 @@ use Rattle.sites.proofs.Facts.{tokens-size}
 use Rattle.sites.proofs.Rows.{node-is, row-inside}
 
 -- an accepted call after which blanking changes nothing
-pub gives-whole : {x : Outcome} {m : Machine} (o : Machine) (reply : Reply) (vs : List ℤ) {ws : List ℕ} {used cells : List Bool} (r : Report)
-    → x ≡ accepted reply vs o → r .reply ≡ reply → r .values ≡ reportValues vs → Holds ws o → sweep o ≡ o → (CallersAreFrames m → Carried o used cells)
+pub gives-whole : {x : Outcome} {m : Machine} (o : Machine) (reply : Reply) (vs : List ℤ) {ws : List ℕ} {used cells : List Bool}
+    (r : Report)
+    → x ≡ accepted reply vs o → r .reply ≡ reply → r .values ≡ reportValues vs → Holds ws o → sweep o ≡ o
+    → (CallersAreFrames m → Carried o used cells)
     → Gives x m ws used cells r
 unfolding accepted
 gives-whole {x} {m} o reply vs {ws} {used} {cells} r e f g h w k =
@@ -83,7 +85,11 @@ gives-refused {x} {ws} why r a e f =
       holds = subst (Holds ws) (sym after) (a .holds);
       marks =
           λ framed.
-          record { tokens = a .marks .tokens ∙ ap (λ n. tokensUsed n) (sym after); cells = a .marks .cells ∙ ap (λ n. cellsUsed n) (sym after) };
+          record {
+            tokens = a .marks .tokens ∙ ap (λ n. tokensUsed n) (sym after);
+            cells = a .marks .cells
+                ∙ ap (λ n. cellsUsed n) (sym after);
+          };
     }
 
 -- the token at a place of the queue
@@ -106,7 +112,8 @@ module _ {ws dag : List ℕ} {used cells : List Bool} {place p : ℕ} {m : Machi
 
   pub token-ready : isReady (t .state) ≡ true
   token-ready =
-      subst (λ i. isReady (tokenAt (m .tokens) i .state) ≡ true) (sym (a .token)) (queue-rules-hold paper d m (a .lawful .rules) .ready place (a .queued))
+      subst (λ i. isReady (tokenAt (m .tokens) i .state) ≡ true) (sym (a .token))
+      (queue-rules-hold paper d m (a .lawful .rules) .ready place (a .queued))
 
   pub node-named : t .node < length (d .nodes)
   node-named =
@@ -127,7 +134,8 @@ module _ {ws dag : List ℕ} {used cells : List Bool} {place p : ℕ} {m : Machi
   step-at =
       rw (a .lawful .rules, lt-ltb place (m .queued) (a .queued), unless)
       (ap
-      (λ i. outcome m (act paper d m (dequeued m place) i (tokenAt (m .tokens) i) (nodeAt d (tokenAt (m .tokens) i .node)))) (sym (a .token)))
+      (λ i. outcome m (act paper d m (dequeued m place) i (tokenAt (m .tokens) i) (nodeAt d (tokenAt (m .tokens) i .node))))
+      (sym (a .token)))
 
 -- .. and the words of its node's row
 module _ {ws dag : List ℕ} {used cells : List Bool} {place p at k : ℕ} {m : Machine} (a : Acting ws used cells dag place p at k m) where

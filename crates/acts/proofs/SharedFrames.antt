@@ -1,5 +1,5 @@
--- A place that is not marked keeps one callee at most through every instruction: most leave each token its caller or none; a fork, a where and a
--- return mark the caller that gets one more; a call's frame was named by nobody. Assumes nothing.
+-- A place that is not marked keeps one callee at most through every instruction: most leave each token its caller or none; a fork, a where
+-- and a return mark the caller that gets one more; a call's frame was named by nobody. Assumes nothing.
 use mathlib.Core.Path.{_≡_, refl, sym, _∙_, ap, subst}
 use mathlib.Core.Logic.{_⊎_, inl, inr}
 use mathlib.Core.Bool.{Bool, true, false}
@@ -45,7 +45,8 @@ marked-more s g f e = go (ℕ-discrete f g)
     go (yes q) = clash (at (decLt g (length s))) (ap (λ k. getD (set s g true) k true) (sym q) ∙ e)
     go (no n) = (n, sym (getD-set-other s g f true true n) ∙ e)
 
-pub unshared : (q : Place) (s : List Bool) (f : ℕ) → getD (callerShared q s) f true ≡ false → (q ≡ places.At f → ⊥) × (getD s f true ≡ false)
+pub unshared : (q : Place) (s : List Bool) (f : ℕ) → getD (callerShared q s) f true ≡ false
+    → (q ≡ places.At f → ⊥) × (getD s f true ≡ false)
 unfolding callerShared
 unshared places.Nowhere s f e = (nowhere-at f, e)
 unshared (places.At g) s f e = let w = marked-more s g f e in (λ q. w .0 (let z : f ≡ g = cc in z), w .1)
@@ -95,7 +96,8 @@ pub swept-callees : (s : List Bool) (o : Machine) → OneCallee s o → OneCalle
 swept-callees s o one f i j e a b = one f i j e (swept-names o f i a) (swept-names o f j b)
 
 -- an effect after which no place has a new callee
-pub effect-callees : (s : List Bool) (m : Machine) (e : Effect) → After (NoNewCallee s m) e → OneCallee s m → OneCallee s (outcome m e .machine)
+pub effect-callees : (s : List Bool) (m : Machine) (e : Effect) → After (NoNewCallee s m) e → OneCallee s m
+    → OneCallee s (outcome m e .machine)
 unfolding After outcome accepted
 effect-callees s m (moves n) h one = swept-callees s n (callees-kept s s m n (λ f e. e) h one)
 effect-callees s m (waits n) h one = swept-callees s n (callees-kept s s m n (λ f e. e) h one)

@@ -1,5 +1,5 @@
--- What was not in use before an instruction is blank after it: an instruction writes to the row of the token that acts, which is in use, and to rows
--- that it gives out. So sweeping need only look at rows that were in use. Assumes nothing.
+-- What was not in use before an instruction is blank after it: an instruction writes to the row of the token that acts, which is in use,
+-- and to rows that it gives out. So sweeping need only look at rows that were in use. Assumes nothing.
 use mathlib.Core.Path.{_≡_, sym, ap, _∙_}
 use mathlib.Core.Bool.{Bool, true, false}
 use mathlib.Core.List.{List}
@@ -56,15 +56,18 @@ module _ {ws dag : List ℕ} {used cells : List Bool} {place p : ℕ} {m : Machi
       }
 
 -- a choke writes to rows of tokens in use and to the cell of the token that acts, which is in use
-pub choke-vacant : {ws dag : List ℕ} {used cells : List Bool} {place p : ℕ} {m : Machine} → Taking ws used cells dag place p m → (c : ℕ) (v : Held)
+pub choke-vacant : {ws dag : List ℕ} {used cells : List Bool} {place p : ℕ} {m : Machine} → Taking ws used cells dag place p m
+    → (c : ℕ) (v : Held)
     → tokenAt (m .tokens) p .cell ≡ places.At c → Vacant (afterChoke c v (dequeued m place)) used cells
 unfolding afterChoke withTables withOrders cellAt
 choke-vacant {ws} {dag} {used} {cells} {place} {p} {m} a c v e =
     record {
-      tokens = λ i l f. choke-at (m .cells) c (m .tokens) i ∙ ap (Step.chokeToken (m .cells) c) (free-token (a .lawful) i f) ∙ choked-blank (m .cells) c;
+      tokens = λ i l f. choke-at (m .cells) c (m .tokens) i ∙ ap (Step.chokeToken (m .cells) c) (free-token (a .lawful) i f)
+          ∙ choked-blank (m .cells) c;
       cells = λ k l f. getD-set-other (m .cells) c k _ blankCell (λ g. apart k f g) ∙ free-cell (a .lawful) k f;
     }
   where
     apart : (k : ℕ) → getD cells k true ≡ false → k ≡ c → ⊥
     apart k f g =
-        clash (ap (λ u. getD u c true) (a .lawful .marks .cells) ∙ cellsOf m .named p (token-used a) .cell c e) (ap (λ j. getD cells j true) (sym g) ∙ f)
+        clash (ap (λ u. getD u c true) (a .lawful .marks .cells) ∙ cellsOf m .named p (token-used a) .cell c e)
+        (ap (λ j. getD cells j true) (sym g) ∙ f)

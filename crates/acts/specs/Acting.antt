@@ -58,7 +58,8 @@ pub record Acting (ws : List ℕ) (used usedCells : List Bool) (dag : List ℕ) 
 -- every caller of a token in use is a frame: so it is in each record of a run
 abbrev pub CallersAreFrames : Machine → Type 0
 CallersAreFrames m =
-    (i j : ℕ) → getD (tokensUsed m) i true ≡ true → tokenAt (m .tokens) i .caller ≡ places.At j → tokenAt (m .tokens) j .state ≡ states.Frame
+    (i j : ℕ) → getD (tokensUsed m) i true ≡ true → tokenAt (m .tokens) i .caller ≡ places.At j
+    → tokenAt (m .tokens) j .state ≡ states.Frame
 
 -- a call's report and the words after it are those of an outcome; the marks too, where callers are frames
 pub record Gives (o : Outcome) (m : Machine) (ws : List ℕ) (used usedCells : List Bool) (r : Report) : Type 0 where

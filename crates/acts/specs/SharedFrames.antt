@@ -33,7 +33,8 @@ callerShared (places.At f) shared = set shared f true
 unfoldable pub returnShared : Machine → (f : ℕ) → List Bool → List Bool
 returnShared m f shared = elim (getD shared f true) [ true ↦ callerShared (tokenAt (m .tokens) f .caller) shared | false ↦ shared ]
 
--- a step's report, words and marks are those of an outcome; and so are the marks of what may have more than one callee, where callers are frames
+-- a step's report, words and marks are those of an outcome; and so are the marks of what may have more than one callee, where callers are
+-- frames
 pub record Stepped (o : Outcome) (m : Machine) (ws : List ℕ) (used usedCells shared : List Bool) (r : Report) : Type 0 where
   pub gives : Gives o m ws used usedCells r
   pub callees : CallersAreFrames m → OneCallee shared (o .machine)

@@ -27,7 +27,9 @@ pub fn choke_cell(
     at: usize,
 ) -> Report
     requires { ⌜ SomeMachine (Acting (now w) (now tokens) (now cells) (now dag) place p at 7) ⌝ }
-    ensures { λ r. ⌜ ((m : Machine) → Acting (now (w .entry)) (now (tokens .entry)) (now (cells .entry)) (now (dag .entry)) place p at 7 m → Gives (Step.step paper (dagOf (now (dag .entry))) m place) m (now (w .exit)) (now (tokens .exit)) (now (cells .exit)) r) ⌝ }
+    ensures { λ r.
+        ⌜ ((m : Machine) → Acting (now (w .entry)) (now (tokens .entry)) (now (cells .entry)) (now (dag .entry)) place p at 7 m
+        → Gives (Step.step paper (dagOf (now (dag .entry))) m place) m (now (w .exit)) (now (tokens .exit)) (now (cells .exit)) r) ⌝ }
 {
     let c = wide(token::cell(w, p));
     let kind = token::value_kind(w, p);

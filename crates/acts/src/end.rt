@@ -34,7 +34,10 @@ pub fn end(
     reply: Reply,
 ) -> Report
     requires { ⌜ p < 64 ⌝ }
-    ensures { λ r. ⌜ ((m : Machine) (dag : List ℕ) → Taking (now (w .entry)) (now (tokens .entry)) (now (cells .entry)) dag place p m → Gives (accepted reply [] (put p blankToken (dequeued m place))) m (now (w .exit)) (now (tokens .exit)) (now (cells .exit)) r) ⌝ }
+    ensures { λ r.
+        ⌜ ((m : Machine) (dag : List ℕ) → Taking (now (w .entry)) (now (tokens .entry)) (now (cells .entry)) dag place p m
+        → Gives (accepted reply [] (put p blankToken (dequeued m place))) m (now (w .exit)) (now (tokens .exit)) (now (cells .exit)) r)
+        ⌝ }
 {
     let linked = names(w, p);
     written(w, place, p);
@@ -57,7 +60,9 @@ pub fn stop(
     at: usize,
 ) -> Report
     requires { ⌜ SomeMachine (Acting (now w) (now tokens) (now cells) (now dag) place p at 0) ⌝ }
-    ensures { λ r. ⌜ ((m : Machine) → Acting (now (w .entry)) (now (tokens .entry)) (now (cells .entry)) (now (dag .entry)) place p at 0 m → Gives (Step.step paper (dagOf (now (dag .entry))) m place) m (now (w .exit)) (now (tokens .exit)) (now (cells .exit)) r) ⌝ }
+    ensures { λ r.
+        ⌜ ((m : Machine) → Acting (now (w .entry)) (now (tokens .entry)) (now (cells .entry)) (now (dag .entry)) place p at 0 m
+        → Gives (Step.step paper (dagOf (now (dag .entry))) m place) m (now (w .exit)) (now (tokens .exit)) (now (cells .exit)) r) ⌝ }
 {
     end(w, tokens, cells, place, p, Reply::Done)
 }
@@ -73,7 +78,9 @@ pub fn publish(
     at: usize,
 ) -> Report
     requires { ⌜ SomeMachine (Acting (now w) (now tokens) (now cells) (now dag) place p at 9) ⌝ }
-    ensures { λ r. ⌜ ((m : Machine) → Acting (now (w .entry)) (now (tokens .entry)) (now (cells .entry)) (now (dag .entry)) place p at 9 m → Gives (Step.step paper (dagOf (now (dag .entry))) m place) m (now (w .exit)) (now (tokens .exit)) (now (cells .exit)) r) ⌝ }
+    ensures { λ r.
+        ⌜ ((m : Machine) → Acting (now (w .entry)) (now (tokens .entry)) (now (cells .entry)) (now (dag .entry)) place p at 9 m
+        → Gives (Step.step paper (dagOf (now (dag .entry))) m place) m (now (w .exit)) (now (tokens .exit)) (now (cells .exit)) r) ⌝ }
 {
     let v = signed(value(w, p));
     end(w, tokens, cells, place, p, Reply::Published(v))

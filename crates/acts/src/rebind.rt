@@ -47,7 +47,12 @@ fn rebind(
     next: u32,
 ) -> Report
     requires { ⌜ (p < 64) × (x < 8) ⌝ }
-    ensures { λ r. ⌜ ((m : Machine) (dag : List ℕ) (s : Slot) → Taking (now (w .entry)) (now (tokens .entry)) (now (cells .entry)) dag place p m → ((c : ℕ) → s ≡ slots.Cell c → ⊥) → slotKind s ≡ kind → slotNumber s ≡ number → Gives (accepted replies.Done [] (enqueue p (put p (withNode next (withBinding x s (tokenAt (m .tokens) p))) (dequeued m place)))) m (now (w .exit)) (now (tokens .exit)) (now (cells .exit)) r) ⌝ }
+    ensures { λ r.
+        ⌜ ((m : Machine) (dag : List ℕ) (s : Slot) → Taking (now (w .entry)) (now (tokens .entry)) (now (cells .entry)) dag place p m
+        → ((c : ℕ) → s ≡ slots.Cell c → ⊥) → slotKind s ≡ kind → slotNumber s ≡ number
+        → Gives (accepted replies.Done []
+        (enqueue p (put p (withNode next (withBinding x s (tokenAt (m .tokens) p))) (dequeued m place)))) m (now (w .exit))
+        (now (tokens .exit)) (now (cells .exit)) r) ⌝ }
 {
     let old = bind_kind(w, p, x);
     written(w, place, p, x, kind, number, next);
@@ -69,7 +74,9 @@ pub fn assign(
     at: usize,
 ) -> Report
     requires { ⌜ SomeMachine (Acting (now w) (now tokens) (now cells) (now dag) place p at 4) ⌝ }
-    ensures { λ r. ⌜ ((m : Machine) → Acting (now (w .entry)) (now (tokens .entry)) (now (cells .entry)) (now (dag .entry)) place p at 4 m → Gives (Step.step paper (dagOf (now (dag .entry))) m place) m (now (w .exit)) (now (tokens .exit)) (now (cells .exit)) r) ⌝ }
+    ensures { λ r.
+        ⌜ ((m : Machine) → Acting (now (w .entry)) (now (tokens .entry)) (now (cells .entry)) (now (dag .entry)) place p at 4 m
+        → Gives (Step.step paper (dagOf (now (dag .entry))) m place) m (now (w .exit)) (now (tokens .exit)) (now (cells .exit)) r) ⌝ }
 {
     let x = wide(dag_word(dag, at + NAMED_NUMBER));
     let number = value(w, p);
@@ -97,7 +104,9 @@ pub fn remove(
     at: usize,
 ) -> Report
     requires { ⌜ SomeMachine (Acting (now w) (now tokens) (now cells) (now dag) place p at 5) ⌝ }
-    ensures { λ r. ⌜ ((m : Machine) → Acting (now (w .entry)) (now (tokens .entry)) (now (cells .entry)) (now (dag .entry)) place p at 5 m → Gives (Step.step paper (dagOf (now (dag .entry))) m place) m (now (w .exit)) (now (tokens .exit)) (now (cells .exit)) r) ⌝ }
+    ensures { λ r.
+        ⌜ ((m : Machine) → Acting (now (w .entry)) (now (tokens .entry)) (now (cells .entry)) (now (dag .entry)) place p at 5 m
+        → Gives (Step.step paper (dagOf (now (dag .entry))) m place) m (now (w .exit)) (now (tokens .exit)) (now (cells .exit)) r) ⌝ }
 {
     let x = wide(dag_word(dag, at + NAMED_NUMBER));
     rebind(

@@ -1,5 +1,5 @@
--- Worked examples: lists that are allowed, each with its program. The first four are written out, rewriting by rewriting; the others' rewritings are
--- found by computation (`Search`). Assumes nothing.
+-- Worked examples: lists that are allowed, each with its program. The first four are written out, rewriting by rewriting; the others'
+-- rewritings are found by computation (`Search`). Assumes nothing.
 use mathlib.Core.Path.{refl}
 use mathlib.Core.List.{List, [], _∷_}
 use Prim.Native.Nat.{ℕ}
@@ -89,13 +89,15 @@ unfolding meant rewritten searching
 second-answer-lost = allowed (meaning first-answer) 20 refl
 
 -- 17(x) <x< 16()
-pub passed-on : Allowed (meaning pass-on) (call 0 16 [] ∷ answer 0 (pos 6) ∷ call 1 17 (pos 6 ∷ []) ∷ answer 1 (pos 8) ∷ publish (pos 8) ∷ [])
+pub passed-on : Allowed (meaning pass-on)
+    (call 0 16 [] ∷ answer 0 (pos 6) ∷ call 1 17 (pos 6 ∷ []) ∷ answer 1 (pos 8) ∷ publish (pos 8) ∷ [])
 unfolding meant rewritten searching
 passed-on = allowed (meaning pass-on) 20 refl
 
 -- (18() | 17(x)) <x< 16(): the call that does not need x is made first, and that of 17 resumes with the answer of 16
 pub one-resumed :
-    Allowed (meaning one-suspended) (call 0 18 [] ∷ call 1 16 [] ∷ answer 1 (pos 6) ∷ call 2 17 (pos 6 ∷ []) ∷ answer 0 (pos 8) ∷ publish (pos 8) ∷ [])
+    Allowed (meaning one-suspended)
+    (call 0 18 [] ∷ call 1 16 [] ∷ answer 1 (pos 6) ∷ call 2 17 (pos 6 ∷ []) ∷ answer 0 (pos 8) ∷ publish (pos 8) ∷ [])
 unfolding meant rewritten searching
 one-resumed = allowed (meaning one-suspended) 20 refl
 
@@ -145,7 +147,8 @@ one-true-enough = allowed (meaning parallel-or) 20 refl
 
 -- Metronome() = signal | (16(1) >x> Metronome())
 pub two-ticks :
-    Allowed (meaning metronome) (publish (pos 0) ∷ call 0 16 (pos 1 ∷ []) ∷ answer 0 (pos 0) ∷ publish (pos 0) ∷ call 1 16 (pos 1 ∷ []) ∷ [])
+    Allowed (meaning metronome)
+    (publish (pos 0) ∷ call 0 16 (pos 1 ∷ []) ∷ answer 0 (pos 0) ∷ publish (pos 0) ∷ call 1 16 (pos 1 ∷ []) ∷ [])
 unfolding meant rewritten searching
 two-ticks = allowed (meaning metronome) 20 refl
 

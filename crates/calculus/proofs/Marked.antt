@@ -1,5 +1,5 @@
--- The programs of the marked runs in the calculus: each list that a run prints is allowed, and no event may come after it. (Of N = 0 there is no
--- program, and for the two that go on for ever see `Silent`.) Assumes nothing.
+-- The programs of the marked runs in the calculus: each list that a run prints is allowed, and no event may come after it. (Of N = 0 there
+-- is no program, and for the two that go on for ever see `Silent`.) Assumes nothing.
 use mathlib.Core.Path.{refl}
 use mathlib.Core.List.{[], _∷_}
 use lib.IntN.{pos}

@@ -1,5 +1,6 @@
--- "E(P) silently becomes its body with P for the formals, no name caught": programs, the goals with definitions that they mean, and what a call
--- becomes, written out. Each holds by computation. In a meaning a variable is the number of binders between it and its own. Assumes nothing.
+-- "E(P) silently becomes its body with P for the formals, no name caught": programs, the goals with definitions that they mean, and what a
+-- call becomes, written out. Each holds by computation. In a meaning a variable is the number of binders between it and its own. Assumes
+-- nothing.
 use mathlib.Core.Path.{_≡_, refl}
 use mathlib.Core.List.{[], _∷_}
 use Prim.Native.Nat.{ℕ}

@@ -133,7 +133,8 @@ module _ (body : ℕ → Exp) (h : ℕ) where
       → paramValues ps ≡ o → everyOfSite s o p ≡ false → Failing (site s ps) p
   unfolding everyOfSite
   site-failing s ps p none e t = clash refl t
-  site-failing s ps p (some vs) e t = elim (and-fails _ _ t) [ inl l ↦ by-builtin (implies-fails _ _ l) | inr r ↦ by-call (implies-fails _ _ r) ]
+  site-failing s ps p (some vs) e t =
+      elim (and-fails _ _ t) [ inl l ↦ by-builtin (implies-fails _ _ l) | inr r ↦ by-call (implies-fails _ _ r) ]
     where
       by-builtin : (isBuiltin s ≡ true) × (afterReply (builtin s vs) (p silently) ≡ false) → Failing (site s ps) p
       by-builtin (b, l) = reply-failing s ps vs p (builtin s vs) e b refl l
@@ -160,8 +161,10 @@ module _ (body : ℕ → Exp) (h : ℕ) where
   some-move w (call d ps) p t = record { label = silently; left = subst (formals ps) (body d); move = entered; fails = t }
   some-move w (par f g) p t =
       elim (and-fails _ _ t) [
-        | inl l ↦ let x = some-move w f _ l in record { label = x .label; left = par (x .left) g; move = par-left (x .move); fails = x .fails }
-        | inr r ↦ let x = some-move w g _ r in record { label = x .label; left = par f (x .left); move = par-right (x .move); fails = x .fails }
+        | inl l ↦ let x = some-move w f _ l in
+            record { label = x .label; left = par (x .left) g; move = par-left (x .move); fails = x .fails }
+        | inr r ↦ let x = some-move w g _ r in
+            record { label = x .label; left = par f (x .left); move = par-right (x .move); fails = x .fails }
       ]
   some-move w (seq f g) p t =
       let x = some-move w f _ t in
@@ -176,7 +179,8 @@ module _ (body : ℕ → Exp) (h : ℕ) where
       (x .fails)
   some-move w (prune f g) p t =
       elim (and-fails _ _ t) [
-        | inl l ↦ let x = some-move w f _ l in record { label = x .label; left = prune (x .left) g; move = prune-left (x .move); fails = x .fails }
+        | inl l ↦ let x = some-move w f _ l in
+            record { label = x .label; left = prune (x .left) g; move = prune-left (x .move); fails = x .fails }
         | inr r ↦
             let x = some-move w g _ r in
             sorted-failing

@@ -1,5 +1,5 @@
--- The programs of the worked examples, in the notation of the marked runs: document 01's, and document 002's with outside sites for its own.
--- Assumes nothing: these are definitions.
+-- The programs of the worked examples, in the notation of the marked runs: document 01's, and document 002's with outside sites for its
+-- own. Assumes nothing: these are definitions.
 use mathlib.Core.List.{List, [], _∷_}
 use Prim.Native.Nat.{ℕ}
 use Rattle.job.specs.Syntax.{Param, Exp, stop, site, call, Program}

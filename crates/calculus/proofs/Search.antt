@@ -1,5 +1,6 @@
--- Whether a list is allowed, by computation: `misses` tries every rewriting, each as far as it shows the list's next event. Where it finds none
--- that leads on, the list is not allowed; where it finds one to the list's end, it is. True because `every` looks at all moves. Assumes nothing.
+-- Whether a list is allowed, by computation: `misses` tries every rewriting, each as far as it shows the list's next event. Where it finds
+-- none that leads on, the list is not allowed; where it finds one to the list's end, it is. True because `every` looks at all moves.
+-- Assumes nothing.
 use mathlib.Core.Path.{_≡_, refl, sym, subst as along}
 use mathlib.Core.Bool.{Bool, true, false}
 use mathlib.Core.List.{List, [], _∷_}
@@ -13,7 +14,8 @@ use Rattle.calculus.specs.Expression.{Exp}
 use Rattle.calculus.specs.Rewriting.{Rewrites}
 use Rattle.calculus.specs.Allowed.{Goal, Configuration, nextHandle, shown, CanShow, ends, then, Allowed}
 use Rattle.job.proofs.Test.{clash, eqb-same, eqb-eq, and-left, and-right, and-both}
-use Rattle.calculus.proofs.Moves.{_implies_, under, implies-fails, Tests, Within, in-silence, in-publishing, in-calling, in-answering}
+use Rattle.calculus.proofs.Moves.{_implies_, under, implies-fails, Tests, Within, in-silence, in-publishing, in-calling}
+use Rattle.calculus.proofs.Moves.{in-answering}
 use Rattle.calculus.proofs.Moves.{every, every-move, some-move, moving}
 
 -- two events are the same
@@ -119,7 +121,8 @@ module _ (body : ℕ → Exp) where
   -- a move that does not miss the list, and the rewritings after it
   onward : {h : ℕ} {f : Exp} {e : Event} {es : List Event} (m : ℕ → Exp → List Event → Bool)
       → ((k : ℕ) (g : Exp) (ds : List Event) → m k g ds ≡ false → CanShow body (record { exp = g; handle = k }) ds)
-      → (a : Label) {f′ : Exp} → Rewrites body h f a f′ → after m h e es a f′ ≡ false → CanShow body (record { exp = f; handle = h }) (e ∷ es)
+      → (a : Label) {f′ : Exp} → Rewrites body h f a f′ → after m h e es a f′ ≡ false
+      → CanShow body (record { exp = f; handle = h }) (e ∷ es)
   unfolding after shown nextHandle
   onward {h = h} {e = e} {es = es} m rest silently {f′} r t = then {a = silently} r (rest h f′ (e ∷ es) t)
   onward {h = h} {f = f} {e = e} {es = es} m rest (showing e′) {f′} r t =

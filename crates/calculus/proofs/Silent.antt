@@ -1,5 +1,5 @@
--- The two marked programs that go on for ever, E() = E() and W() = stop <x< W(), show nothing: their lists are empty. True because each silent
--- rewriting leads to an expression of the same form, and no other rewriting is there. Assumes nothing.
+-- The two marked programs that go on for ever, E() = E() and W() = stop <x< W(), show nothing: their lists are empty. True because each
+-- silent rewriting leads to an expression of the same form, and no other rewriting is there. Assumes nothing.
 use mathlib.Core.Path.{_≡_, refl}
 use mathlib.Core.List.{List, []}
 use Prim.Native.Nat.{ℕ}

@@ -6,7 +6,8 @@ use mathlib.Core.List.{List, [], _∷_, map}
 use Prim.Native.Nat.{ℕ, zero, suc, _<_}
 use native.Mathlib.Omega.{arith}
 use lib.IntN.{ℤ}
-use Rattle.calculus.specs.Expression.{Param, value, variable, Exp, stop, site, call, par, seq, prune, pending, hand, Substitution, raise, lift, substParam, subst, innermost}
+use Rattle.calculus.specs.Expression.{Param, value, variable, Exp, stop, site, call, par, seq, prune, pending, hand, Substitution}
+use Rattle.calculus.specs.Expression.{raise, lift, substParam, subst, innermost}
 
 infixr 40 _after_
 -- first ρ, then θ

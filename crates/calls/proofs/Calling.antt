@@ -51,7 +51,8 @@ module _ {ws dag : List ℕ} {used cells : List Bool} {place p : ℕ} {m : Machi
   t = tokenAt (m .tokens) p
 
   -- an instruction that left the marks
-  marked : {x : Outcome} (o : Machine) (reply : Reply) (vs : List ℤ) {after : List ℕ} (r : Report) → x ≡ accepted reply vs o → r .reply ≡ reply
+  marked : {x : Outcome} (o : Machine) (reply : Reply) (vs : List ℤ) {after : List ℕ} (r : Report) → x ≡ accepted reply vs o
+      → r .reply ≡ reply
       → r .values ≡ reportValues vs → Holds after o → Carried o (tokensUsed m) (cellsUsed m)
       → Gives x m after used cells r
   marked o reply vs r e f g h c =
@@ -59,15 +60,18 @@ module _ {ws dag : List ℕ} {used cells : List Bool} {place p : ℕ} {m : Machi
       gives-whole o reply vs r e f g h (c .whole)
       (λ framed. record { whole = c .whole; tokens = c .tokens ∙ sym (k .tokens); cells = c .cells ∙ sym (k .cells) })
 
-  pub wait-gives : {x : Outcome} (c : ℕ) {after : List ℕ} (r : Report) → x ≡ outcome m (Step.waited (dequeued m place) p t c) → r ≡ plain replies.Waits
+  pub wait-gives : {x : Outcome} (c : ℕ) {after : List ℕ} (r : Report) → x ≡ outcome m (Step.waited (dequeued m place) p t c)
+      → r ≡ plain replies.Waits
       → Holds after (delayed p (put p (withState (states.Waiting c) t) (dequeued m place))) → Gives x m after used cells r
   unfolding outcome Step.waited put withTables Update.queueOf Update.waitsOf
   wait-gives c r e f h =
       marked _ replies.Waits [] r e (ap (λ (y : Report). y .reply) f) (ap (λ (y : Report). y .values) f) h
       (waited-carried paper (dagOf dag) m (a .lawful .rules) place (a .queued) p (a .token) c _ _)
 
-  pub reply-gives : {x : Outcome} (v : ℤ) (k j : ℕ) {after : List ℕ} (r : Report) → x ≡ outcome m (Step.replied (dequeued m place) p t k (gives v)) → j ≡ k
-      → r ≡ plain replies.Done → Holds after (enqueue p (put p (withNode j (withValue (helds.Value v) t)) (dequeued m place))) → Gives x m after used cells r
+  pub reply-gives : {x : Outcome} (v : ℤ) (k j : ℕ) {after : List ℕ} (r : Report)
+      → x ≡ outcome m (Step.replied (dequeued m place) p t k (gives v)) → j ≡ k
+      → r ≡ plain replies.Done → Holds after (enqueue p (put p (withNode j (withValue (helds.Value v) t)) (dequeued m place)))
+      → Gives x m after used cells r
   unfolding outcome Step.replied Step.goesOn
   reply-gives v k j {after} r e g f h =
       marked _ replies.Done [] r e (ap (λ (y : Report). y .reply) f) (ap (λ (y : Report). y .values) f)
@@ -77,13 +81,18 @@ module _ {ws dag : List ℕ} {used cells : List Bool} {place p : ℕ} {m : Machi
   pub call-gives : {x : Outcome} (s i n k j h : ℕ) (vs : List ℤ) {after : List ℕ} (r : Report)
       → x ≡ outcome m (Step.calledOut (dequeued m place) p t s vs k) → h ≡ m .calls → i ≡ s → j ≡ k → n ≡ length vs
       → r .reply ≡ replies.Called h i n → r .values ≡ reportValues vs
-      → Holds after (withCounts (suc h) (m .lasttoken) (m .lastcell) (put p (withNode j (withState (states.Called h) t)) (dequeued m place)))
+      → Holds after
+      (withCounts (suc h) (m .lasttoken) (m .lastcell) (put p (withNode j (withState (states.Called h) t)) (dequeued m place)))
       → Gives x m after used cells r
   unfolding outcome Step.calledOut withOrders
   call-gives s i n k j h vs {after} r e eh ei g l f v held =
-      marked _ (replies.Called (m .calls) s (length vs)) vs r e (f ∙ ap₂ (λ x y. replies.Called x y n) eh ei ∙ ap (replies.Called (m .calls) s) l) v
-      (subst₂ (λ x y. Holds after (withCounts (suc x) (m .lasttoken) (m .lastcell) (put p (withNode y (withState (states.Called x) t)) (dequeued m place)))) eh g held)
-      (called-carried paper (dagOf dag) m (a .lawful .rules) place (a .queued) p (a .token) (m .calls) k (suc (m .calls)) (m .lasttoken) (m .lastcell))
+      marked _ (replies.Called (m .calls) s (length vs)) vs r e
+      (f ∙ ap₂ (λ x y. replies.Called x y n) eh ei ∙ ap (replies.Called (m .calls) s) l) v
+      (subst₂ (λ x y. Holds after
+      (withCounts (suc x) (m .lasttoken) (m .lastcell) (put p (withNode y (withState (states.Called x) t)) (dequeued m place)))) eh g
+      held)
+      (called-carried paper (dagOf dag) m (a .lawful .rules) place (a .queued) p (a .token) (m .calls) k (suc (m .calls)) (m .lasttoken)
+      (m .lastcell))
 
 -- what a site call does, by what was found
 module _ (dag : List ℕ) (place p from : ℕ) (m : Machine) where
@@ -107,7 +116,8 @@ module _ (dag : List ℕ) (place p from : ℕ) (m : Machine) where
         (elim b [
           | true ↦ Step.replied (dequeued m place) p mine (word 2) (builtin (word 1) (k .values))
           | false ↦
-              unless (ltb (dequeued m place .calls) 1000000) refusals.CallLimit (Step.calledOut (dequeued m place) p mine (word 1) (k .values) (word 2))
+              unless (ltb (dequeued m place .calls) 1000000) refusals.CallLimit
+              (Step.calledOut (dequeued m place) p mine (word 1) (k .values) (word 2))
         ])
 
     at-site : Step.step paper (dagOf dag) m place ≡ by-site (isBuiltin (word 1))
@@ -128,22 +138,26 @@ module _ (dag : List ℕ) (place p from : ℕ) (m : Machine) where
     calls-out l f =
         at-site
         ∙ ap by-site (le-not-ltb (word 1) 7 l)
-        ∙ ap (λ b. outcome m (unless b refusals.CallLimit (Step.calledOut (dequeued m place) p mine (word 1) (k .values) (word 2)))) (lt-ltb (m .calls) 1000000 f)
+        ∙ ap (λ b. outcome m (unless b refusals.CallLimit (Step.calledOut (dequeued m place) p mine (word 1) (k .values) (word 2))))
+        (lt-ltb (m .calls) 1000000 f)
 
     pub calls-no-more : 7 ≤ word 1 → 1000000 ≤ m .calls → Step.step paper (dagOf dag) m place ≡ outcome m (refuses refusals.CallLimit)
     unfolding by-site isBuiltin unless withOrders
     calls-no-more l f =
         at-site
         ∙ ap by-site (le-not-ltb (word 1) 7 l)
-        ∙ ap (λ b. outcome m (unless b refusals.CallLimit (Step.calledOut (dequeued m place) p mine (word 1) (k .values) (word 2)))) (le-not-ltb (m .calls) 1000000 f)
+        ∙ ap (λ b. outcome m (unless b refusals.CallLimit (Step.calledOut (dequeued m place) p mine (word 1) (k .values) (word 2))))
+        (le-not-ltb (m .calls) 1000000 f)
 
 -- all values were found
-pub values-of : {ws dag : List ℕ} {used cells : List Bool} {place p from : ℕ} {m : Machine} (r : LookUp) → Acting ws used cells dag place p from 1 m
+pub values-of : {ws dag : List ℕ} {used cells : List Bool} {place p from : ℕ} {m : Machine} (r : LookUp)
+    → Acting ws used cells dag place p from 1 m
     → r ≡ lookUpOf (look (m .cells) (tokenAt (m .tokens) p .binds) (paramsAt dag from)) → 32 ≤ r .unset
     → Evaluated ws used cells dag place p from (r .values) m
 values-of {ws} {dag} {used} {cells} {place} {p} {from} {m} r a e n =
     let facts = look-facts (dagOf dag) m (a .taking .lawful .rules) p (token-inside (a .taking)) in
-    let k = look-values _ r e (λ l. omega arith) (look-below (m .cells) (tokenAt (m .tokens) p .binds) (facts .slots) (paramsAt dag from)) in
+    let k = look-values _ r e (λ l. omega arith) (look-below (m .cells) (tokenAt (m .tokens) p .binds) (facts .slots) (paramsAt dag from))
+    in
     record { acting = a; values = k .0; found = k .1; padded = k .2 }
 
 -- as many values as parameters: "at a call no empty variable"
@@ -162,7 +176,8 @@ unfolding outcome Step.replied Step.ended
 silent-ends m place p k = refl
 
 -- what the code got is what the site says to all values
-pub replied-by : {s i : ℕ} (vs xs : List ℤ) {x y : SiteReply} → i < 7 → xs ≡ reportValues vs → s ≡ i → builtinReplyOf x ≡ builtin s (at xs 0 ∷ at xs 1 ∷ []) → x ≡ y
+pub replied-by : {s i : ℕ} (vs xs : List ℤ) {x y : SiteReply} → i < 7 → xs ≡ reportValues vs → s ≡ i
+    → builtinReplyOf x ≡ builtin s (at xs 0 ∷ at xs 1 ∷ []) → x ≡ y
     → builtin i vs ≡ builtinReplyOf y
 replied-by {s} {i} vs xs l e same got f =
     sym (says-to-front i vs xs l e) ∙ ap (λ j. builtin j (at xs 0 ∷ at xs 1 ∷ [])) (sym same) ∙ sym got ∙ ap builtinReplyOf f

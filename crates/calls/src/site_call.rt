@@ -1,5 +1,5 @@
-// Site call: "parameters in order; the first unset cell makes the token wait there. Otherwise a built-in replies and the token goes on, or it is silent
-// and the token ends; an outside call takes the next handle (from 0), and the token is called out at the next node".
+// Site call: "parameters in order; the first unset cell makes the token wait there. Otherwise a built-in replies and the token goes on, or
+// it is silent and the token ends; an outside call takes the next handle (from 0), and the token is called out at the next node".
 ghost use Prim.Native.Nat.{_<_, _≤_, _+_};
 ghost use lib.ListN.{getD};
 ghost use Rattle.model.specs.declared.record.Machine.{Machine};
@@ -43,7 +43,10 @@ fn outside(
     values: [i32; 4],
 ) -> Report
     requires { ⌜ SomeMachine (Evaluated (now w) (now tokens) (now cells) (now dag) place p at values) ⌝ }
-    ensures { λ r. ⌜ ((m : Machine) → Evaluated (now (w .entry)) (now (tokens .entry)) (now (cells .entry)) (now (dag .entry)) place p at values m → 7 ≤ getD (now (dag .entry)) (at + 1) 0 → Gives (Step.step paper (dagOf (now (dag .entry))) m place) m (now (w .exit)) (now (tokens .entry)) (now (cells .entry)) r) ⌝ }
+    ensures { λ r.
+        ⌜ ((m : Machine) → Evaluated (now (w .entry)) (now (tokens .entry)) (now (cells .entry)) (now (dag .entry)) place p at values m
+        → 7 ≤ getD (now (dag .entry)) (at + 1) 0
+        → Gives (Step.step paper (dagOf (now (dag .entry))) m place) m (now (w .exit)) (now (tokens .entry)) (now (cells .entry)) r) ⌝ }
 {
     let handle = calls_made(w);
     if CALL_LIMIT <= handle {
@@ -70,7 +73,9 @@ fn built_in(
     values: [i32; 4],
 ) -> Report
     requires { ⌜ SomeMachine (Evaluated (now w) (now tokens) (now cells) (now dag) place p at values) × (getD (now dag) (at + 1) 0 < 7) ⌝ }
-    ensures { λ r. ⌜ ((m : Machine) → Evaluated (now (w .entry)) (now (tokens .entry)) (now (cells .entry)) (now (dag .entry)) place p at values m → Gives (Step.step paper (dagOf (now (dag .entry))) m place) m (now (w .exit)) (now (tokens .exit)) (now (cells .exit)) r) ⌝ }
+    ensures { λ r.
+        ⌜ ((m : Machine) → Evaluated (now (w .entry)) (now (tokens .entry)) (now (cells .entry)) (now (dag .entry)) place p at values m
+        → Gives (Step.step paper (dagOf (now (dag .entry))) m place) m (now (w .exit)) (now (tokens .exit)) (now (cells .exit)) r) ⌝ }
 {
     let a = values[0];
     let b = values[1];
@@ -93,7 +98,9 @@ pub fn site_call(
     at: usize,
 ) -> Report
     requires { ⌜ SomeMachine (Acting (now w) (now tokens) (now cells) (now dag) place p at 1) ⌝ }
-    ensures { λ r. ⌜ ((m : Machine) → Acting (now (w .entry)) (now (tokens .entry)) (now (cells .entry)) (now (dag .entry)) place p at 1 m → Gives (Step.step paper (dagOf (now (dag .entry))) m place) m (now (w .exit)) (now (tokens .exit)) (now (cells .exit)) r) ⌝ }
+    ensures { λ r.
+        ⌜ ((m : Machine) → Acting (now (w .entry)) (now (tokens .entry)) (now (cells .entry)) (now (dag .entry)) place p at 1 m
+        → Gives (Step.step paper (dagOf (now (dag .entry))) m place) m (now (w .exit)) (now (tokens .exit)) (now (cells .exit)) r) ⌝ }
 {
     let found = look_up(w, dag, p, at);
     let unset = found.unset;

@@ -1,5 +1,5 @@
-// Runs each stored input as `orcrun` runs its own, and prints a line `case` with its number and then what the run prints. On standard input an
-// input stands behind its length, 4 bytes, the lowest first.
+// Runs each stored input as `orcrun` runs its own, and prints a line `case` with its number and then what the run prints. On standard input
+// an input stands behind its length, 4 bytes, the lowest first.
 use job::dag::WORDS;
 use libc::STDIN_FILENO;
 use libc::STDOUT_FILENO;

@@ -157,7 +157,8 @@ row-passes t =
     let s : (x : ℕ) → slotCoded (slotKind (slotAt (t .binds) x)) (slotNumber (slotAt (t .binds) x)) ≡ true = λ x. slot-passes
     (slotAt (t .binds) x) in
     and-both (state-passes (t .state)) (and-both (held-passes (t .value)) (and-both refl
-    (and-both (s 0) (and-both (s 1) (and-both (s 2) (and-both (s 3) (and-both (s 4) (and-both (s 5) (and-both (s 6) (and-both (s 7) refl))))))))))
+    (and-both (s 0)
+    (and-both (s 1) (and-both (s 2) (and-both (s 3) (and-both (s 4) (and-both (s 5) (and-both (s 6) (and-both (s 7) refl))))))))))
 
 cell-passes : (c : Cell) → cellCoded (cellRow c) ≡ true
 unfolding cellRow cellCoded
@@ -180,7 +181,8 @@ module _ {A : Type 0} (f : A → List ℕ) (g : List ℕ → A) (ok : List ℕ �
       ∙ sym (take-add w (w * n) ws)
       ∙ ap (λ k. take k ws) (sym m)
 
-module _ {A : Type 0} (f : A → List ℕ) (ok : List ℕ → Bool) (w : ℕ) (wide : (x : A) → length (f x) ≡ w) (passes : (x : A) → ok (f x) ≡ true) where
+module _ {A : Type 0} (f : A → List ℕ) (ok : List ℕ → Bool) (w : ℕ) (wide : (x : A) → length (f x) ≡ w)
+    (passes : (x : A) → ok (f x) ≡ true) where
   table-passes : (xs : List A) (n : ℕ) (rest : List ℕ) → length xs ≡ n → tableCoded ok w n (tableWords f xs ++ rest) ≡ true
   unfolding tableWords tableCoded
   table-passes [] zero rest e = refl

@@ -58,7 +58,8 @@ slots-step n k ws =
     ∙ ap (λ r. slotCoded (getD ws k 0) (getD ws (k + 1) 0) and bindsCoded n r) (drop-drop 2 k ws)
 
 module _ (ws : List ℕ) (at x : ℕ) (all : Bool) (l : x < 8) (left : all ≡ bindsCoded (8 - x) (drop (at + 2 * x) ws)) where
-  slots-now : all ≡ (slotCoded (getD ws (at + 2 * x) 0) (getD ws (at + 2 * x + 1) 0) and bindsCoded (8 - (x + 1)) (drop (at + 2 * (x + 1)) ws))
+  slots-now : all
+      ≡ (slotCoded (getD ws (at + 2 * x) 0) (getD ws (at + 2 * x + 1) 0) and bindsCoded (8 - (x + 1)) (drop (at + 2 * (x + 1)) ws))
   slots-now =
       let z : 8 - x ≡ suc (8 - (x + 1)) = omega arith in
       let y : at + 2 * x + 2 ≡ at + 2 * (x + 1) = omega arith in
@@ -110,7 +111,15 @@ module _ (ws : List ℕ) (at : ℕ) where
   unfolding rowCoded
   row-is =
       let z : at + 0 ≡ at = omega arith in
-      rw (in-row 0 (omega arith), in-row 1 (omega arith), in-row 5 (omega arith), in-row 6 (omega arith), in-row 7 (omega arith), row-slots, z)
+      rw (
+        in-row 0 (omega arith),
+        in-row 1 (omega arith),
+        in-row 5 (omega arith),
+        in-row 6 (omega arith),
+        in-row 7 (omega arith),
+        row-slots,
+        z,
+      )
 
   module _ (a b : ℕ) (s : Bool) (ea : a ≡ getD ws at 0) (eb : b ≡ getD ws (at + 1) 0) (es : s ≡ stateCoded a b) where
     state-is : stateCoded (getD ws at 0) (getD ws (at + 1) 0) ≡ s
@@ -120,7 +129,8 @@ module _ (ws : List ℕ) (at : ℕ) where
     unfolding _and_
     row-state e = sym (row-is ∙ rw (state-is, e))
 
-    module _ (f g : ℕ) (v : Bool) (ef : f ≡ getD ws (at + 5) 0) (eg : g ≡ getD ws (at + 6) 0) (ev : v ≡ heldCoded f g) (one : s ≡ true) where
+    module _ (f g : ℕ) (v : Bool) (ef : f ≡ getD ws (at + 5) 0) (eg : g ≡ getD ws (at + 6) 0) (ev : v ≡ heldCoded f g)
+        (one : s ≡ true) where
       held-is : heldCoded (getD ws (at + 5) 0) (getD ws (at + 6) 0) ≡ v
       held-is = sym (ev ∙ ap₂ heldCoded ef eg)
 
@@ -149,27 +159,28 @@ zero-row ws at f =
     at-drop (at + 8) i ws ∙ ap (λ k. getD ws k 0) z ∙ f (8 + i) (omega arith) ∙ sym (getD-replicate {A = ℕ} 16 i 0 0 (omega arith))))
 
 -- a table
-module _ (ok : List ℕ → Bool) (w size : ℕ) (ws : List ℕ) (p : ℕ) (all : Bool) (left : all ≡ tableCoded ok w (size - p) (drop (w * p) ws)) where
-  table-now : p < size → w * p + w ≡ w * (p + 1)
-      → all ≡ (ok (take w (drop (w * p) ws)) and tableCoded ok w (size - (p + 1)) (drop (w * (p + 1)) ws))
-  unfolding tableCoded
-  table-now l y =
-      let z : size - p ≡ suc (size - (p + 1)) = omega arith in
-      left ∙ ap (λ n. tableCoded ok w n (drop (w * p) ws)) z
-      ∙ ap (λ r. ok (take w (drop (w * p) ws)) and tableCoded ok w (size - (p + 1)) r) (drop-drop w (w * p) ws ∙ ap (λ k. drop k ws) y)
+module _ (ok : List ℕ → Bool) (w size : ℕ) (ws : List ℕ) (p : ℕ) (all : Bool) (left : all ≡ tableCoded ok w (size - p) (drop (w * p) ws))
+  where
+    table-now : p < size → w * p + w ≡ w * (p + 1)
+        → all ≡ (ok (take w (drop (w * p) ws)) and tableCoded ok w (size - (p + 1)) (drop (w * (p + 1)) ws))
+    unfolding tableCoded
+    table-now l y =
+        let z : size - p ≡ suc (size - (p + 1)) = omega arith in
+        left ∙ ap (λ n. tableCoded ok w n (drop (w * p) ws)) z
+        ∙ ap (λ r. ok (take w (drop (w * p) ws)) and tableCoded ok w (size - (p + 1)) r) (drop-drop w (w * p) ws ∙ ap (λ k. drop k ws) y)
 
-  pub table-on : p < size → w * p + w ≡ w * (p + 1) → ok (take w (drop (w * p) ws)) ≡ true
-      → all ≡ tableCoded ok w (size - (p + 1)) (drop (w * (p + 1)) ws)
-  unfolding _and_
-  table-on l y e = table-now l y ∙ rw e
+    pub table-on : p < size → w * p + w ≡ w * (p + 1) → ok (take w (drop (w * p) ws)) ≡ true
+        → all ≡ tableCoded ok w (size - (p + 1)) (drop (w * (p + 1)) ws)
+    unfolding _and_
+    table-on l y e = table-now l y ∙ rw e
 
-  pub table-fail : p < size → w * p + w ≡ w * (p + 1) → ok (take w (drop (w * p) ws)) ≡ false → false ≡ all
-  unfolding _and_
-  table-fail l y e = sym (table-now l y ∙ rw e)
+    pub table-fail : p < size → w * p + w ≡ w * (p + 1) → ok (take w (drop (w * p) ws)) ≡ false → false ≡ all
+    unfolding _and_
+    table-fail l y e = sym (table-now l y ∙ rw e)
 
-  pub table-end : size ≤ p → true ≡ all
-  unfolding tableCoded
-  table-end l = let z : size - p ≡ 0 = omega arith in sym (left ∙ ap (λ n. tableCoded ok w n (drop (w * p) ws)) z)
+    pub table-end : size ≤ p → true ≡ all
+    unfolding tableCoded
+    table-end l = let z : size - p ≡ 0 = omega arith in sym (left ∙ ap (λ n. tableCoded ok w n (drop (w * p) ws)) z)
 
 -- a cell
 module _ (ws : List ℕ) (at : ℕ) where

@@ -13,8 +13,8 @@ use Rattle.coded.specs.WordTests.{tokenCoded, cellAtCoded}
 unfoldable pub isRecord : List ℕ → Bool
 isRecord ws = same ws (wordsOf (machineOf ws))
 
--- what holds of any 1,797 words of 32 bits: a record's words are those of the record that they decode to, and words are a record's if each token's and
--- each cell's are
+-- what holds of any 1,797 words of 32 bits: a record's words are those of the record that they decode to, and words are a record's if each
+-- token's and each cell's are
 pub record RowByRow (ws : List ℕ) : Type 0 where
   pub codes : isRecord ws ≡ true → Codes ws (machineOf ws)
   pub passes : ((p : ℕ) → p < 64 → tokenCoded ws p ≡ true) → ((c : ℕ) → c < 32 → cellAtCoded ws c ≡ true) → isRecord ws ≡ true

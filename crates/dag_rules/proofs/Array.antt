@@ -64,7 +64,8 @@ module _ (ws : List ℕ) where
   node-row-at i l = node-from (getD ws 0 0) i (drop 67 ws) l ∙ ap (λ xs. decodedNode (take 12 xs)) (drop-drop (12 * i) 67 ws)
 
   pub body-holds-at : (i : ℕ) (d : Body) → i < getD ws 1 0
-      → bodyHolds (dagOf ws) (getD (dagOf ws .bodies) i d) ≡ (ltb (getD ws (3 + 2 * i) 0) (getD ws 0 0) and leb (getD ws (3 + 2 * i + 1) 0) 4)
+      → bodyHolds (dagOf ws) (getD (dagOf ws .bodies) i d)
+      ≡ (ltb (getD ws (3 + 2 * i) 0) (getD ws 0 0) and leb (getD ws (3 + 2 * i + 1) 0) 4)
   unfolding bodyHolds isNode dagOf
   body-holds-at i d l =
       let e : 3 + (2 * i + 1) ≡ 3 + 2 * i + 1 = omega arith in
@@ -78,7 +79,8 @@ module _ (ws : List ℕ) where
 
   -- within the array
   pub node-holds-at : length ws ≡ 12331 → getD ws 0 0 ≤ 1022 → (i : ℕ) → i < getD ws 0 0
-      → nodeHolds (dagOf ws) (getD (dagOf ws .nodes) i Node.unknown) ≡ rowHolds (getD ws 0 0) (getD ws 1 0) (take 12 (drop (67 + 12 * i) ws))
+      → nodeHolds (dagOf ws) (getD (dagOf ws .nodes) i Node.unknown)
+      ≡ rowHolds (getD ws 0 0) (getD ws 1 0) (take 12 (drop (67 + 12 * i) ws))
   node-holds-at e f i l =
       let row = take 12 (drop (67 + 12 * i) ws) in
       let h : 12 ≤ length (drop (67 + 12 * i) ws) = simp length-drop (omega arith) in
@@ -101,7 +103,8 @@ module _ (ws : List ℕ) where
   unfolding dagHolds isNode _and_
   holds-by-parts m l =
       rw (nodes-length, bodies-length, le-leb (getD ws 0 0) 1022 m, le-leb (getD ws 1 0) 32 l)
-      (ap (λ g. ltb g (getD ws 0 0) and all (bodyHolds (dagOf ws)) (dagOf ws .bodies) and all (nodeHolds (dagOf ws)) (dagOf ws .nodes)) goal-is)
+      (ap (λ g. ltb g (getD ws 0 0) and all (bodyHolds (dagOf ws)) (dagOf ws .bodies) and all (nodeHolds (dagOf ws)) (dagOf ws .nodes))
+      goal-is)
 
   -- in a dag whose rules hold the node is the one that the row would be by its kind
   pub node-by-kind : dagHolds (dagOf ws) ≡ true → (i : ℕ) → i < getD ws 0 0 → nodeAt (dagOf ws) i ≡ nodeBy (take 12 (drop (67 + 12 * i) ws))

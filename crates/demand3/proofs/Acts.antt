@@ -1,5 +1,5 @@
--- Each instruction keeps the facts: what it writes is a token whose fields come from the one that acts, from its node or from a frame, and the
--- orders gain the places that become ready or wait. Stated of the machine before blanking. Assumes nothing.
+-- Each instruction keeps the facts: what it writes is a token whose fields come from the one that acts, from its node or from a frame, and
+-- the orders gain the places that become ready or wait. Stated of the machine before blanking. Assumes nothing.
 use mathlib.Core.Path.{_≡_, refl, sym, _∙_, ap, subst}
 use mathlib.Core.Bool.{Bool, true, false}
 use mathlib.Core.List.{List, [], _∷_, _++_, map}
@@ -125,7 +125,8 @@ module _ (lim : Limits) (d : Dag) (m : Machine) (F : Facts lim d m) (some : 0 < 
       }
 
   -- to another node, with what it has
-  ahead : (k : ℕ) → k < length (d .nodes) → {u : Token} → u .node ≡ k → u .value ≡ acting .value → u .binds ≡ acting .binds → Idle (u .state) → Good u
+  ahead : (k : ℕ) → k < length (d .nodes) → {u : Token} → u .node ≡ k → u .value ≡ acting .value → u .binds ≡ acting .binds
+      → Idle (u .state) → Good u
   ahead k l n v b i =
       going (subst (λ j. j < length (d .nodes)) (sym n) l) (ap heldInRange v ∙ was .value) (subst BindsFit (sym b) (was .binds)) i
 
@@ -170,7 +171,8 @@ module _ (lim : Limits) (d : Dag) (m : Machine) (F : Facts lim d m) (some : 0 < 
         (ap (λ (t : Token). isReady (t .state)) (still u) ∙ not-live-ready _ (v .dead))
         (ap (λ (t : Token). isWaiting (t .state)) (still u) ∙ not-live-waiting _ (v .dead)) s l
 
-    both-written : {u w : Token} → Good u → Idle (u .state) → Good w → Idle (w .state) → Tables d (set (set (m .tokens) p u) q w) (m .cells) (m .calls)
+    both-written : {u w : Token} → Good u → Idle (u .state) → Good w → Idle (w .state)
+        → Tables d (set (set (m .tokens) p u) q w) (m .cells) (m .calls)
     both-written {u} {w} a i b j = tables-write (tables-write (F .tables) p u inside a i) q w (still-inside u) b j
 
     forked : (l r : ℕ) → l < length (d .nodes) → r < length (d .nodes) → Keeps (Step.forked at p acting q l r)
@@ -185,15 +187,18 @@ module _ (lim : Limits) (d : Dag) (m : Machine) (F : Facts lim d m) (some : 0 < 
           lastcell = F .lastcell;
           queue = (queue ++ (p ∷ [])) ++ (q ∷ []);
           waits = waits;
-          orders = orders-enqueue (orders-enqueue (orders-token (orders-put begun p (Update.withNode l acting)) q (Update.withNode r acting)) p) q;
-          lines = second (Update.withNode l acting) (Update.withNode r acting) (taken-ready T) (lines-back T (Update.withNode l acting) (taken-ready T));
+          orders = orders-enqueue
+              (orders-enqueue (orders-token (orders-put begun p (Update.withNode l acting)) q (Update.withNode r acting)) p) q;
+          lines = second (Update.withNode l acting) (Update.withNode r acting) (taken-ready T)
+              (lines-back T (Update.withNode l acting) (taken-ready T));
           tables = both-written (ahead l il refl refl refl s) s (ahead r ir refl refl refl s) s;
         }
 
     entered : (root : ℕ) (ps : List Param) (k : ℕ) → root < length (d .nodes) → all paramHolds ps ≡ true → k < length (d .nodes)
         → Keeps (Step.entered at p acting q root ps k)
     unfolding
-        After Step.entered Update.enqueue Update.newToken Update.put Update.withTables withOrders Update.withCounts Update.withNode Update.withState
+        After Step.entered Update.enqueue Update.newToken Update.put Update.withTables withOrders Update.withCounts Update.withNode
+        Update.withState
         isReady isWaiting heldInRange
     entered root ps k ir holds ik =
         record {
@@ -227,7 +232,8 @@ module _ (lim : Limits) (d : Dag) (m : Machine) (F : Facts lim d m) (some : 0 < 
 
     split : (c x l r : ℕ) → c < length (m .cells) → l < length (d .nodes) → r < length (d .nodes) → Keeps (Step.split at p acting q c x l r)
     unfolding
-        After Step.split Update.enqueue Update.newToken Update.newCell Update.put Update.withTables withOrders Update.withCounts Update.withNode Update.inCell Update.withBinding
+        After Step.split Update.enqueue Update.newToken Update.newCell Update.put Update.withTables withOrders Update.withCounts
+        Update.withNode Update.inCell Update.withBinding
     split c x l r ic il ir =
         let s = ready-idle (taken-ready T) in
         record {
@@ -244,7 +250,8 @@ module _ (lim : Limits) (d : Dag) (m : Machine) (F : Facts lim d m) (some : 0 < 
               tables-cell
               (both-written
               (going il (was .value)
-              (binds-written (acting .binds) x (slots.Cell c) (λ v e. let z : _≡_ {A = ℕ} 0 1 = cc in absurd (omega arith)) (was .binds)) s) s
+              (binds-written (acting .binds) x (slots.Cell c) (λ v e. let z : _≡_ {A = ℕ} 0 1 = cc in absurd (omega arith)) (was .binds)) s)
+              s
               (ahead r ir refl refl refl s) s)
               c own ic refl;
         }
@@ -294,7 +301,8 @@ module _ (lim : Limits) (d : Dag) (m : Machine) (F : Facts lim d m) (some : 0 < 
   replied k l nothing = ended
 
   calledOut : (s : ℕ) (vs : List ℤ) (k : ℕ) → m .calls < lim .calls → k < length (d .nodes) → Keeps (Step.calledOut at p acting s vs k)
-  unfolding After Step.calledOut Update.put Update.withTables withOrders Update.withCounts Update.withNode Update.withState isReady isWaiting
+  unfolding After Step.calledOut Update.put Update.withTables withOrders Update.withCounts Update.withNode Update.withState isReady
+      isWaiting
   calledOut s vs k few l =
       record {
         tokenPlaces = length-set (m .tokens) p u ∙ F .tokenPlaces;
@@ -434,7 +442,8 @@ module _ (lim : Limits) (d : Dag) (m : Machine) (F : Facts lim d m) (some : 0 < 
         after-unless (Facts lim d) _ _ _
         (λ t.
         after-unless (Facts lim d) _ _ _
-        (λ c. split _ (token t) _ x l r (cell c) (node-inside l (and-left _ _ (and-right _ _ k))) (node-inside r (and-right _ _ (and-right _ _ k)))))
+        (λ c. split _ (token t) _ x l r (cell c) (node-inside l (and-left _ _ (and-right _ _ k)))
+        (node-inside r (and-right _ _ (and-right _ _ k)))))
     acted (Node.site s ps j) e k =
         site-call-keeps named s ps j e (params ps (and-left _ _ (and-right _ _ k))) (node-inside j (and-right _ _ (and-right _ _ k)))
     acted (Node.call f ps j) e k =

@@ -1,5 +1,6 @@
--- The lock step the other way: what the abstract machine does, the concrete machine does by one call that shows the same and is not refused, or
--- without a call where a waiting token stays. Asked of the record: it keeps the rules, has room, and its waiting tokens are blocked.
+-- The lock step the other way: what the abstract machine does, the concrete machine does by one call that shows the same and is not
+-- refused, or without a call where a waiting token stays. Asked of the record: it keeps the rules, has room, and its waiting tokens are
+-- blocked.
 -- By the same agreement of effects as the lock step itself. Assumes nothing.
 use mathlib.Core.Path.{_≡_, refl, sym, _∙_, ap, subst}
 use mathlib.Core.Bool.{true, false}
@@ -74,7 +75,8 @@ split-whole first = refl
 split-whole (later {y = y} s) = ap (_∷_ y) (split-whole s)
 
 -- a name that is skipped changes nothing
-skip-name : {M : Labels} {ts : List Token} {cs : List Cell} {name place : ℕ → ℕ} {σ : Store} {new : ℕ} {A : List ℕ} {S : List Abstract.Token}
+skip-name : {M : Labels} {ts : List Token} {cs : List Cell} {name place : ℕ → ℕ} {σ : Store} {new : ℕ} {A : List ℕ}
+    {S : List Abstract.Token}
     → Core M (world ts cs name place σ new) A S → Core M (world ts cs name place σ (suc new)) A S
 skip-name {M} {ts} {cs} {name} {place} {σ} {new} K =
     record {
@@ -117,7 +119,8 @@ module _ (lim : Limits) (d : Dag) (M : Labels) (bodies : ℕ → Exp) (fits : Fi
       at-site (FlowAt.site e good f) = unfold nodeMeant in ap asks (values-seen (z .binds .views) good ∙ ap found (b .finds))
 
       go : (N : Node) → N ≡ Node.site (b .site) (b .params) (b .next) → FlowAt d M n N
-          → Abstract.actsAt G σ new (m .calls) (nodeMeant (M .scope n) N) (at n B F U) v ≡ Abstract.makes silently (running (at n B F U) v ∷ [])
+          → Abstract.actsAt G σ new (m .calls) (nodeMeant (M .scope n) N) (at n B F U) v
+          ≡ Abstract.makes silently (running (at n B F U) v ∷ [])
       go N e f =
           ap (λ N. Abstract.actsAt G σ new (m .calls) (nodeMeant (M .scope n) N) (at n B F U) v) e ∙ at-site (subst (FlowAt d M n) e f)
 
@@ -154,7 +157,8 @@ module _ (lim : Limits) (d : Dag) (M : Labels) (bodies : ℕ → Exp) (fits : Fi
         shown-by M W L R (m .calls) (Abstract.act G σ new (m .calls) (at n B F U) v) k m (takes lim d m k)
         (takes-agrees lim d M bodies fits flow m k (ok .holds) l acting) fine in
         calls (step k) (ap (λ (o : Outcome). isRefused (o .reply)) o ∙ fine) (ap (eventsBy (step k)) o ∙ both .0)
-        (subst (λ (o : Outcome). Sees M (o .machine) (after L R σ new (m .calls) (Abstract.act G σ new (m .calls) (at n B F U) v))) (sym o) (both .1))
+        (subst (λ (o : Outcome). Sees M (o .machine) (after L R σ new (m .calls) (Abstract.act G σ new (m .calls) (at n B F U) v))) (sym o)
+        (both .1))
 
     follow-ready : (p : ℕ) → Acting M W p L R n B F U v → FollowedBy L R (Abstract.act G σ new (m .calls) (at n B F U) v)
     follow-ready p acting =
@@ -176,7 +180,8 @@ module _ (lim : Limits) (d : Dag) (M : Labels) (bodies : ℕ → Exp) (fits : Fi
       let does = answer-does h p w e in
       calls (answer h w signed) (ap (λ (o : Outcome). isRefused (o .reply)) does) (ap (eventsBy (answer h w signed)) does)
       (subst
-      (λ (o : Outcome). Sees M (o .machine) (after L R σ new (m .calls) (Abstract.makes (showing (Event.answer h w)) (running (at n B F U) w ∷ []))))
+      (λ (o : Outcome). Sees M (o .machine)
+      (after L R σ new (m .calls) (Abstract.makes (showing (Event.answer h w)) (running (at n B F U) w ∷ []))))
       (sym does) (finish-sees _ (answered-becomes m h w o z un seen .machine)))
 
   follow : {L R : List Abstract.Token} {x : Abstract.Token} (move : Move x) → Split x S L R → Turn M W L R x

@@ -1,5 +1,5 @@
--- A waiting token is blocked: it stands at a site call whose parameters have no values yet, since one of them is bound to an unset cell and none
--- is empty. So a record of a run that has room can follow the abstract machine. Assumes nothing.
+-- A waiting token is blocked: it stands at a site call whose parameters have no values yet, since one of them is bound to an unset cell and
+-- none is empty. So a record of a run that has room can follow the abstract machine. Assumes nothing.
 use mathlib.Core.Path.{_≡_, ap, subst}
 use mathlib.Core.Bool.{true}
 use Prim.Native.Nat.{ℕ, _<_}
@@ -26,7 +26,8 @@ use Rattle.demand3.proofs.Reached.{Reached, Roomy, reached-rules}
 use Rattle.demand3.proofs.NotRule.{at-rule}
 
 module _ (lim : Limits) (d : Dag) (M : Labels) (room : Roomy lim) (flow : Flow d M) (dag : dagHolds d ≡ true) where
-  pub waiting-blocked : {m : Machine} {s : Abstract.State} → Reached lim d M m s → (p c : ℕ) → tokenAt (m .tokens) p .state ≡ states.Waiting c
+  pub waiting-blocked : {m : Machine} {s : Abstract.State} → Reached lim d M m s → (p c : ℕ)
+      → tokenAt (m .tokens) p .state ≡ states.Waiting c
       → Blocked d m p
   unfolding isLive isBlankState tokenAt nodeRule
   waiting-blocked {m} r p c e =
@@ -44,7 +45,8 @@ module _ (lim : Limits) (d : Dag) (M : Labels) (room : Roomy lim) (flow : Flow d
       rule : nodeRule (m .tokens) t (nodeAt d (t .node)) ≡ true
       rule =
           at-rule d (m .tokens) t (ap isBlankState e)
-          (all-at (atNode d (m .tokens)) (m .tokens) p blankToken (each-rule-holds lim d m (reached-rules lim d M room flow dag r) .nodes) inside)
+          (all-at (atNode d (m .tokens)) (m .tokens) p blankToken (each-rule-holds lim d m (reached-rules lim d M room flow dag r) .nodes)
+          inside)
 
       found : (a : ℕ) × (look (m .cells) (t .binds) (b .params) ≡ unset a)
       found =

@@ -1,6 +1,6 @@
--- What is in use after an instruction, from what was in use before it: the same, the new places besides, or all but the place of a token that
--- ended; and blanking changes nothing. What was in use stays (Unblanked), what is in use is inside what was and what is new (Inside), and marks
--- that agree at each place are equal. Assumes nothing.
+-- What is in use after an instruction, from what was in use before it: the same, the new places besides, or all but the place of a token
+-- that ended; and blanking changes nothing. What was in use stays (Unblanked), what is in use is inside what was and what is new (Inside),
+-- and marks that agree at each place are equal. Assumes nothing.
 use mathlib.Core.Path.{_≡_, refl, sym, _∙_, ap, subst, subst₂}
 use mathlib.Core.Bool.{Bool, true, false}
 use mathlib.Core.List.{List}
@@ -139,10 +139,12 @@ module _ (lim : Limits) (d : Dag) (m : Machine) (holds : rulesHold lim d m ≡ t
     writes = write-inside lim d m rules p inUse
 
     links-carried : (o : Machine) (u : Token) → o .tokens ≡ set (m .tokens) p u → o .cells ≡ m .cells
-        → isLive (u .state) ≡ true → u .caller ≡ was .caller → u .cell ≡ was .cell → u .binds ≡ was .binds → Carried o (tokensUsed m) (cellsUsed m)
+        → isLive (u .state) ≡ true → u .caller ≡ was .caller → u .cell ≡ was .cell → u .binds ≡ was .binds
+        → Carried o (tokensUsed m) (cellsUsed m)
     links-carried o u tokens cells alive caller cell binds =
         same-carried clean
-        (subst₂ (InsideUsed m (Used m) (UsedCell m)) (sym tokens) (sym cells) (writes u (fits-same caller cell binds (used-fits m p inUse))))
+        (subst₂ (InsideUsed m (Used m) (UsedCell m)) (sym tokens) (sym cells)
+        (writes u (fits-same caller cell binds (used-fits m p inUse))))
         (same-adds lim d m holds p live o u tokens cells alive caller cell binds)
 
   -- The instructions; the machines are those of Instructions
@@ -162,9 +164,11 @@ module _ (lim : Limits) (d : Dag) (m : Machine) (holds : rulesHold lim d m ≡ t
     waited-carried c queue waits = links-carried p live _ (withState (states.Waiting c) t) refl refl refl refl refl refl
 
     pub called-carried : (h next calls lasttoken lastcell : ℕ)
-        → Carried (withCounts calls lasttoken lastcell (put p (withNode next (withState (states.Called h) t)) (taken m place))) (tokensUsed m) (cellsUsed m)
+        → Carried (withCounts calls lasttoken lastcell (put p (withNode next (withState (states.Called h) t)) (taken m place)))
+        (tokensUsed m) (cellsUsed m)
     unfolding withOrders withCounts put withTables withNode withState isLive
-    called-carried h next calls lasttoken lastcell = links-carried p live _ (withNode next (withState (states.Called h) t)) refl refl refl refl refl refl
+    called-carried h next calls lasttoken lastcell = links-carried p live _ (withNode next (withState (states.Called h) t)) refl refl refl
+        refl refl refl
 
     pub replied-carried : (next : ℕ) (v : ℤ)
         → Carried (enqueue p (put p (withNode next (withValue (helds.Value v) t)) (taken m place))) (tokensUsed m) (cellsUsed m)
@@ -211,7 +215,8 @@ module _ (lim : Limits) (d : Dag) (m : Machine) (holds : rulesHold lim d m ≡ t
       unfolding withOrders withCounts put withTables enqueue newToken withNode withState isLive
       entered-carried root ps next =
           new-carried clean q (call-inside lim d m rules p used q root ps next)
-          (call-adds lim d m holds p live _ q (withNode next (withState states.Frame t)) (callee p t root ps) refl free refl refl refl refl refl refl refl)
+          (call-adds lim d m holds p live _ q (withNode next (withState states.Frame t))
+          (callee p t root ps) refl free refl refl refl refl refl refl refl)
 
       pub split-carried : hasCellPlace lim m ≡ true → (c : ℕ) → c ≡ nextPlace (cellsUsed m) (m .lastcell) → (x left right : ℕ)
           → Carried
@@ -283,7 +288,8 @@ module _ (lim : Limits) (d : Dag) (m : Machine) (holds : rulesHold lim d m ≡ t
         ended-carried = record { whole = ended-whole; tokens = tokens-removed ends within; cells = ended-cells }
 
   pub answered-carried : (handle : ℕ) (v : ℤ) (p : ℕ) → holder handle 0 (m .tokens) ≡ places.At p
-      → Carried (enqueue p (put p (withState states.Ready (withValue (helds.Value v) (tokenAt (m .tokens) p))) m)) (tokensUsed m) (cellsUsed m)
+      → Carried (enqueue p (put p (withState states.Ready (withValue (helds.Value v) (tokenAt (m .tokens) p))) m)) (tokensUsed m)
+      (cellsUsed m)
   unfolding withOrders put withTables enqueue withState withValue isLive
   answered-carried handle v p found =
       links-carried p (ap isLive (holder-called handle (m .tokens) p found)) _

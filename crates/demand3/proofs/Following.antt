@@ -1,5 +1,5 @@
--- Each run of the abstract machine is followed by a run of the concrete machine, without refused calls, that has the same event list: step by step,
--- if something that makes the record ready for the steps to come is kept by each accepted call. Assumes nothing.
+-- Each run of the abstract machine is followed by a run of the concrete machine, without refused calls, that has the same event list: step
+-- by step, if something that makes the record ready for the steps to come is kept by each accepted call. Assumes nothing.
 use mathlib.Core.Path.{_≡_, sym, _∙_, ap, subst}
 use mathlib.Core.Bool.{true, false}
 use mathlib.Core.List.{List, [], _++_}

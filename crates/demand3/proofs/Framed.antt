@@ -1,5 +1,5 @@
--- In a run, who is named as a caller is a frame: the frames of each active token are seen from its caller on, and so are those of each token that
--- is reached by callers. Assumes nothing.
+-- In a run, who is named as a caller is a frame: the frames of each active token are seen from its caller on, and so are those of each
+-- token that is reached by callers. Assumes nothing.
 use mathlib.Core.Path.{_≡_, sym, _∙_, ap}
 use mathlib.Core.Bool.{true}
 use mathlib.Core.List.{List}

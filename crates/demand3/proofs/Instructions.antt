@@ -1,5 +1,6 @@
--- The instructions after which blanking changes nothing: a wait, an outside call, a built-in's reply, a fork, a where, a definition call; and an
--- answer. Each writes what Unblanked allows: the orders and the counts do not matter, new places are free because there was room. Assumes nothing.
+-- The instructions after which blanking changes nothing: a wait, an outside call, a built-in's reply, a fork, a where, a definition call;
+-- and an answer. Each writes what Unblanked allows: the orders and the counts do not matter, new places are free because there was room.
+-- Assumes nothing.
 use mathlib.Core.Path.{_≡_, refl, sym, subst}
 use mathlib.Core.Bool.{true}
 use mathlib.Core.List.{List}
@@ -42,7 +43,8 @@ module _ (lim : Limits) (d : Dag) (m : Machine) (holds : rulesHold lim d m ≡ t
 
     pub acting-live : isLive (t .state) ≡ true
     acting-live =
-        subst (λ i. isLive (tokenAt (m .tokens) i .state) ≡ true) (sym token) (ready-live _ (queue-rules-hold lim d m holds .ready place queued))
+        subst (λ i. isLive (tokenAt (m .tokens) i .state) ≡ true) (sym token)
+        (ready-live _ (queue-rules-hold lim d m holds .ready place queued))
 
     -- with room for a token, at the place q
     module _ (fits : Fitting lim) (room : hasTokenPlace lim m ≡ true) (q : ℕ) (new : q ≡ nextPlace (tokensUsed m) (m .lasttoken)) where
@@ -53,10 +55,12 @@ module _ (lim : Limits) (d : Dag) (m : Machine) (holds : rulesHold lim d m ≡ t
       cell-free below c cell = subst (Free (cellsUsed m)) (sym cell) (free-cell lim d m holds fits below)
 
       -- "left keeps the place, right is new"
-      pub forked-whole : (left right : ℕ) → Whole (enqueue q (enqueue p (newToken q (withNode right t) (put p (withNode left t) (taken m place)))))
+      pub forked-whole : (left right : ℕ)
+          → Whole (enqueue q (enqueue p (newToken q (withNode right t) (put p (withNode left t) (taken m place)))))
       unfolding withOrders withCounts put withTables enqueue newToken withNode
       forked-whole left right =
-          fork-links lim d m holds p acting-live _ q (withNode left t) (withNode right t) refl place-free refl acting-live refl acting-live refl refl refl
+          fork-links lim d m holds p acting-live _ q (withNode left t) (withNode right t) refl place-free refl acting-live refl acting-live
+          refl refl refl
 
       -- "the token becomes a frame at next, the callee is new"
       pub entered-whole : (root : ℕ) (ps : List Param) (next : ℕ)
@@ -75,5 +79,7 @@ module _ (lim : Limits) (d : Dag) (m : Machine) (holds : rulesHold lim d m ≡ t
           (newToken q (inCell c (withNode right t)) (put p (withNode left (withBinding x (slots.Cell c) t)) (taken m place))))))
       unfolding withOrders withCounts put withTables enqueue newToken newCell withNode inCell withBinding isSet hasValue
       split-whole below c cell x left right =
-          split-links lim d m holds p acting-live _ q (withNode left (withBinding x (slots.Cell c) t)) (inCell c (withNode right t)) refl place-free c
-          (record { parent = t .cell; value = helds.Nothing }) refl (cell-free below c cell) refl refl acting-live refl acting-live refl refl refl
+          split-links lim d m holds p acting-live _ q (withNode left (withBinding x (slots.Cell c) t))
+          (inCell c (withNode right t)) refl place-free c
+          (record { parent = t .cell; value = helds.Nothing }) refl (cell-free below c cell) refl refl acting-live refl acting-live refl
+          refl refl

@@ -86,7 +86,8 @@ pub step-larger : (lim : Limits) (t c : ℕ) → lim .tokens ≤ t → lim .cell
     → isRefused (step lim d m place .reply) ≡ false → step (allowing lim t c) d m place ≡ step lim d m place
 unfolding hasTokenPlace hasCellPlace
 step-larger lim t c l k d m place ok =
-    same-step lim t c d m (below-more (marked (tokensUsed m)) (lim .tokens) t l) (below-more (marked (cellsUsed m)) (lim .cells) c k) place ok
+    same-step lim t c d m (below-more (marked (tokensUsed m)) (lim .tokens) t l) (below-more (marked (cellsUsed m)) (lim .cells) c k) place
+    ok
 
 -- the tokens and the cells in use
 abbrev pub UsedAtMost : Machine → (tokens cells : ℕ) → Type 0

@@ -1,5 +1,5 @@
--- What every record of a run keeps, so that no call of a run is refused with 14; what is in use after each instruction; then the middle part of
--- demand 3, and demand 3 whole.
+-- What every record of a run keeps, so that no call of a run is refused with 14; what is in use after each instruction; then the middle
+-- part of demand 3, and demand 3 whole.
 pub mod Looking
 pub mod Values
 pub mod Used

@@ -1,5 +1,5 @@
--- What a call's parameters come to: an unset cell that is found is that of a parameter, and if a parameter is bound to an unset cell, and none is
--- empty, an unset cell is found. By induction over the parameters. Assumes nothing.
+-- What a call's parameters come to: an unset cell that is found is that of a parameter, and if a parameter is bound to an unset cell, and
+-- none is empty, an unset cell is found. By induction over the parameters. Assumes nothing.
 use mathlib.Core.Path.{_≡_, refl, _∙_, ap, subst}
 use mathlib.Core.Bool.{true}
 use mathlib.Core.List.{List, [], _∷_, List·Memᴰ, List·Memᴰ·head, List·Memᴰ·tail, List·Memᴰ·not-nil}
@@ -34,7 +34,8 @@ asks-later cs bs p ps c (x, m, e, f) = (x, List·Memᴰ·tail m, e, f)
 module _ (cs : List Cell) (bs : List Bind) where
   cell-asks : (x : ℕ) (ps : List Param) (b : ℕ) → slotAt bs x ≡ slots.Cell b → (w : Held) → cellAt cs b .value ≡ w → (c : ℕ)
       → (look cs bs ps ≡ unset c → Asks cs bs ps c)
-      → elim w as (λ w. LookUpResult) [ helds.Nothing ↦ unset b | helds.Value v ↦ andThen v (look cs bs ps) ] ≡ unset c → Asks cs bs (variable x ∷ ps) c
+      → elim w as (λ w. LookUpResult) [ helds.Nothing ↦ unset b | helds.Value v ↦ andThen v (look cs bs ps) ] ≡ unset c
+      → Asks cs bs (variable x ∷ ps) c
   cell-asks x ps b s helds.Nothing w c f e =
       let z : b ≡ c = cc in
       (x, List·Memᴰ·head refl, s ∙ ap slots.Cell z, subst (λ i. cellAt cs i .value ≡ helds.Nothing) z w)
@@ -85,7 +86,8 @@ module _ (cs : List Cell) (bs : List Bind) where
   slot-unset (slots.Cell c) k l u = cell-unset c (cellAt cs c .value) l u
 
   -- a parameter bound to an unset cell
-  pub look-blocked : (ps : List Param) (x c : ℕ) → List·Memᴰ (variable x) ps → slotAt bs x ≡ slots.Cell c → cellAt cs c .value ≡ helds.Nothing
+  pub look-blocked : (ps : List Param) (x c : ℕ) → List·Memᴰ (variable x) ps → slotAt bs x ≡ slots.Cell c
+      → cellAt cs c .value ≡ helds.Nothing
       → all (notEmpty bs) ps ≡ true → Unset (look cs bs ps)
   unfolding look notEmpty
   look-blocked [] x c m s w k = absurd (List·Memᴰ·not-nil m)

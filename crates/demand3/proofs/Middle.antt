@@ -1,6 +1,6 @@
--- Demand 3, middle part: each list allowed for a table is shown by some run without refused calls, at limits large enough and at all larger ones.
--- The abstract machine shows the list in some number of steps; a step adds at most one token, one cell and one call, so limits above that number leave
--- room for each, and the concrete machine follows. Assumes nothing.
+-- Demand 3, middle part: each list allowed for a table is shown by some run without refused calls, at limits large enough and at all larger
+-- ones. The abstract machine shows the list in some number of steps; a step adds at most one token, one cell and one call, so limits above
+-- that number leave room for each, and the concrete machine follows. Assumes nothing.
 use mathlib.Core.Path.{_≡_, refl, sym, subst}
 use mathlib.Core.Bool.{true, false}
 use mathlib.Core.List.{List}
@@ -68,7 +68,8 @@ call-adds : (lim : Limits) (d : Dag) (m : Machine) (c : Call) → isRefused (out
     → UsedAtMost (outcomeOf runner lim d m c .machine) (suc (marked (tokensUsed m))) (suc (marked (cellsUsed m)))
 unfolding outcomeOf
 call-adds lim d m (step k) ok = step-adds lim d m k ok
-call-adds lim d m (answer h v signed) ok = let x = answer-adds lim d m h v ok in (let z = x .0 in omega arith, (let z = x .1 in omega arith))
+call-adds lim d m (answer h v signed) ok = let x = answer-adds lim d m h v ok in
+    (let z = x .0 in omega arith, (let z = x .1 in omega arith))
 
 module _ (lim : Limits) (d : Dag) (M : Labels) (bodies : ℕ → Exp) (room : Roomy lim) (flow : Flow d M) (dag : dagHolds d ≡ true) where
   -- a record of a run with room for n more steps

@@ -1,6 +1,6 @@
--- "14: dag or machine record breaks an index rule" is never the reply to a call of a run: every record of a run on an accepted table is reached,
--- so it keeps the rules, and a call on such a record is not refused with 14. For all limits with tables that have a place and are no smaller
--- than the limits, in particular the paper's. Assumes nothing.
+-- "14: dag or machine record breaks an index rule" is never the reply to a call of a run: every record of a run on an accepted table is
+-- reached, so it keeps the rules, and a call on such a record is not refused with 14. For all limits with tables that have a place and are
+-- no smaller than the limits, in particular the paper's. Assumes nothing.
 use mathlib.Core.Path.{_≡_}
 use mathlib.Core.Bool.{true}
 use mathlib.Core.List.{List}
@@ -39,7 +39,8 @@ module _ (lim : Limits) (room : Roomy lim) (table : List ℕ) (p : Program) (rea
   -- the index rules hold of every record of a run
   pub run-rules : (calls : List Call)
       → rulesHold lim (construct p) (machineAfter runner lim (construct p) (started runner lim (construct p)) calls) ≡ true
-  run-rules calls = in-run-rules lim d (labelsOf p) room (construct-flows p good) (construct-holds p good) (meaning p .body) (run-reached calls)
+  run-rules calls = in-run-rules lim d (labelsOf p) room (construct-flows p good) (construct-holds p good) (meaning p .body)
+      (run-reached calls)
 
   -- no call of a run is refused with 14
   pub never-14 : (earlier : List Call) (c : Call)

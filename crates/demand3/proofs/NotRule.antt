@@ -1,5 +1,5 @@
--- A call on a record that keeps the index rules is not refused with 14: the instruction table refuses so only at no node, at return without a
--- frame and at choke without a cell, and the rules leave none of these. Assumes nothing.
+-- A call on a record that keeps the index rules is not refused with 14: the instruction table refuses so only at no node, at return without
+-- a frame and at choke without a cell, and the rules leave none of these. Assumes nothing.
 use mathlib.Core.Path.{_≡_, refl}
 use mathlib.Core.Bool.{Bool, true, false}
 use mathlib.Core.List.{List}

@@ -1,6 +1,6 @@
--- What is carried through a run, in one record: the machine is seen as a state of the abstract machine, has the facts, and is blank where it is
--- not in use. It holds of the start and after each accepted step and answer, together with the abstract machine's step; and it gives the index
--- rules. Assumes nothing.
+-- What is carried through a run, in one record: the machine is seen as a state of the abstract machine, has the facts, and is blank where
+-- it is not in use. It holds of the start and after each accepted step and answer, together with the abstract machine's step; and it gives
+-- the index rules. Assumes nothing.
 use mathlib.Core.Path.{_≡_, refl, sym, _∙_, ap, subst}
 use mathlib.Core.Bool.{true, false}
 use mathlib.Core.List.{List, [], _∷_, _++_}
@@ -90,7 +90,8 @@ fitting r = record { tokens = r .tokens; cells = r .cells }
 pub sees-live : {M : Labels} {m : Machine} {s : Abstract.State} → Sees M m s → LiveUsed m
 sees-live (seenAs name place A K) p e = token-used _ p (token-at p (live-listed p K e) (K .seen) .1)
 
-shows-after : (P : Label → Machine → Type 0) (Q : Machine → Type 0) → ((a : Label) (o : Machine) → P a o → Q o) → (e : Effect) → Shows P e → After Q e
+shows-after : (P : Label → Machine → Type 0) (Q : Machine → Type 0) → ((a : Label) (o : Machine) → P a o → Q o) → (e : Effect) → Shows P e
+    → After Q e
 unfolding Shows After
 shows-after P Q f (moves o) x = f _ o x
 shows-after P Q f (waits o) x = f _ o x
@@ -229,7 +230,8 @@ module _ (lim : Limits) (d : Dag) (M : Labels) (room : Roomy lim) (flow : Flow d
           orders = orders-enqueue (orders-put (F .orders) p u) p;
           lines = lines-new p u inside (ap isReady e) (ap isWaiting e) refl (F .lines);
           tables =
-              tables-write (F .tables) p u inside (idle-holds (F .tables .tokens p .node) fits (F .tables .tokens p .binds) Idle.ready) Idle.ready;
+              tables-write (F .tables) p u inside (idle-holds (F .tables .tokens p .node) fits (F .tables .tokens p .binds) Idle.ready)
+              Idle.ready;
         }
       where
         u : Token
@@ -274,19 +276,22 @@ module _ (lim : Limits) (d : Dag) (M : Labels) (room : Roomy lim) (flow : Flow d
         found {p = p} e (pending split others view clear seen) = unfold answered After in
             (answered-facts m (r .facts) v signed p h e, sees-live (answered-becomes m h v others view clear seen .machine))
 
-        from : {s : Abstract.State} → Sees M m s → (p : ℕ) → tokenAt (m .tokens) p .state ≡ states.Called h → Good (answered m v (places.At p))
+        from : {s : Abstract.State} → Sees M m s → (p : ℕ) → tokenAt (m .tokens) p .state ≡ states.Called h
+            → Good (answered m v (places.At p))
         from (seenAs name place A K) p e = found e (find-pending p h K e)
 
         go : (q : Place) → holder h 0 (m .tokens) ≡ q → Good (answered m v q)
         go places.Nowhere e = unfold answered After in tt
         go (places.At p) e = from (r .view) p (holder-called h (m .tokens) p e)
 
-    pub call-facts : (m : Machine) {s : Abstract.State} → Reached lim d M m s → (c : Call) → isRefused (outcomeOf runner lim d m c .reply) ≡ false
+    pub call-facts : (m : Machine) {s : Abstract.State} → Reached lim d M m s → (c : Call)
+        → isRefused (outcomeOf runner lim d m c .reply) ≡ false
         → Facts lim d (outcomeOf runner lim d m c .machine) × Clean (outcomeOf runner lim d m c .machine)
     unfolding outcomeOf
     call-facts m r (step k) ok = step-facts m r k ok
     call-facts m r (answer h v signed) ok = answer-facts m r h v signed ok
 
-    pub call-reached : (m : Machine) {s : Abstract.State} → Reached lim d M m s → (c : Call) → isRefused (outcomeOf runner lim d m c .reply) ≡ false
+    pub call-reached : (m : Machine) {s : Abstract.State} → Reached lim d M m s → (c : Call)
+        → isRefused (outcomeOf runner lim d m c .reply) ≡ false
         → Reaches s (eventsBy c (outcomeOf runner lim d m c)) (outcomeOf runner lim d m c .machine)
     call-reached m r c ok = joined (call-facts m r c ok) (call-locks lim d M bodies (fitting room) flow m (r .view) c ok)

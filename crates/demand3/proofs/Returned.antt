@@ -1,5 +1,5 @@
--- A return whose token binds no cell and is in its frame's cell: the token takes the frame's links, so all stays in use but, where no token names
--- it any more, the frame. Then only the frame's row is made blank. Assumes nothing.
+-- A return whose token binds no cell and is in its frame's cell: the token takes the frame's links, so all stays in use but, where no token
+-- names it any more, the frame. Then only the frame's row is made blank. Assumes nothing.
 use mathlib.Core.Path.{_≡_, refl, sym, _∙_, ap, ap₂, subst, subst₂}
 use mathlib.Core.Bool.{Bool, true, false}
 use Prim.Native.Nat.{ℕ, _<_}
@@ -48,7 +48,8 @@ pub record Returns (m o : Machine) (p f : ℕ) (u : Token) : Type 0 where
   pub sameCell : u .cell ≡ tokenAt (m .tokens) f .cell
   pub sameBinds : u .binds ≡ tokenAt (m .tokens) f .binds
 
-module _ (lim : Limits) (d : Dag) (m : Machine) (holds : rulesHold lim d m ≡ true) (o : Machine) (p f : ℕ) (u : Token) (r : Returns m o p f u)
+module _ (lim : Limits) (d : Dag) (m : Machine) (holds : rulesHold lim d m ≡ true) (o : Machine) (p f : ℕ) (u : Token)
+    (r : Returns m o p f u)
     (cell : tokenAt (m .tokens) p .cell ≡ tokenAt (m .tokens) f .cell) (binds : BindsNoCell (tokenAt (m .tokens) p)) where
   abbrev t : Token
   t = tokenAt (m .tokens) p
@@ -80,7 +81,8 @@ module _ (lim : Limits) (d : Dag) (m : Machine) (holds : rulesHold lim d m ≡ t
   token-used : Used o p
   token-used =
       clear-used o p u here (r .alive)
-      (same-under (u .cell) (ap (underSet (m .cells)) (r .sameCell ∙ sym cell) ∙ active-clear (m .cells) t (lives-active lim d m rules p (r .live))))
+      (same-under (u .cell)
+      (ap (underSet (m .cells)) (r .sameCell ∙ sym cell) ∙ active-clear (m .cells) t (lives-active lim d m rules p (r .live))))
 
   -- what it named and what the frame named is in use
   names : Fits (Used o) (UsedCell o) u
@@ -270,13 +272,15 @@ module _ (lim : Limits) (d : Dag) (m : Machine) (holds : rulesHold lim d m ≡ t
             → getD (restBlanked blankToken (tokensUsed o) (o .tokens)) i blankToken ≡ getD (set (o .tokens) f blankToken) i blankToken
         at i true e (yes q) = clash (subst (Used o) q e) frame-free
         at i true e (no n) =
-            kept-marked blankToken (tokensUsed o) (o .tokens) i (tokensOf o .size) e ∙ sym (getD-set-other (o .tokens) f i blankToken blankToken n)
+            kept-marked blankToken (tokensUsed o) (o .tokens) i (tokensOf o .size) e
+            ∙ sym (getD-set-other (o .tokens) f i blankToken blankToken n)
         at i false e (yes q) =
             let l : f < length (o .tokens) = omega (arith, r .inside, within .tokens) in
             kept-free blankToken (tokensUsed o) (o .tokens) i e
             ∙ sym (ap (λ k. getD (set (o .tokens) f blankToken) k blankToken) q ∙ getD-set-same (o .tokens) f blankToken blankToken l)
         at i false e (no n) =
-            kept-free blankToken (tokensUsed o) (o .tokens) i e ∙ sym (getD-set-other (o .tokens) f i blankToken blankToken n ∙ vacant i e n)
+            kept-free blankToken (tokensUsed o) (o .tokens) i e
+            ∙ sym (getD-set-other (o .tokens) f i blankToken blankToken n ∙ vacant i e n)
 
         rows : restBlanked blankToken (tokensUsed o) (o .tokens) ≡ set (o .tokens) f blankToken
         rows =

@@ -1,5 +1,5 @@
--- With room for a token, a cell and a call, an instruction of a ready token that is seen is not refused: at choke it has a cell and at return a
--- caller, by the labels of its node. Assumes nothing.
+-- With room for a token, a cell and a call, an instruction of a ready token that is seen is not refused: at choke it has a cell and at
+-- return a caller, by the labels of its node. Assumes nothing.
 use mathlib.Core.Path.{_≡_, refl, sym, _∙_, subst}
 use mathlib.Core.Bool.{Bool, true, false}
 use mathlib.Core.List.{List, [], _∷_, _++_}
@@ -13,7 +13,8 @@ use Rattle.job.specs.Node.{Node, Dag}
 use Rattle.model.specs.Machine.Limits.{Limits}
 use Rattle.model.specs.Machine.Blank.{tokenAt}
 use Rattle.model.specs.Machine.Reply.{Effect, accepted, outcome, unless, isRefused}
-use Rattle.model.specs.Machine.Step.{LookUpResult, values, unset, goesOn, forked, split, entered, waited, replied, calledOut, returned, chokeAt, look, callSite, hasTokenPlace, hasCellPlace, act}
+use Rattle.model.specs.Machine.Step.{LookUpResult, values, unset, goesOn, forked, split, entered, waited, replied, calledOut, returned}
+use Rattle.model.specs.Machine.Step.{chokeAt, look, callSite, hasTokenPlace, hasCellPlace, act}
 use Rattle.model.specs.declared.token.Place.{Place}
 use Rattle.model.specs.declared.token.Place.the-variants as places
 use Rattle.model.specs.declared.token.Token.{Token}
@@ -55,9 +56,11 @@ longer (c ∷ C) D l = omega arith
 
 under-cell : {M : Labels} {n : ℕ} {U : List ℕ} {F : List Frame} → 1 ≤ M .nest n → Nested M n U F → 1 ≤ length U
 under-cell {M} {n} {F = F} l o =
-    subst (λ U. 1 ≤ length U) (sym (o .parts)) (longer (o .own) (cellsOfCaller F) (let z : length (o .own) ≡ M .nest n = o .size in omega arith))
+    subst (λ U. 1 ≤ length U) (sym (o .parts))
+    (longer (o .own) (cellsOfCaller F) (let z : length (o .own) ≡ M .nest n = o .size in omega arith))
 
-module _ (lim : Limits) (d : Dag) (before m : Machine) (room : Room lim d before) (same : m .calls ≡ before .calls) (p : ℕ) (t : Token) where
+module _ (lim : Limits) (d : Dag) (before m : Machine) (room : Room lim d before) (same : m .calls ≡ before .calls) (p : ℕ)
+    (t : Token) where
   replied-accepted : (k : ℕ) (r : BuiltinReply) → Accepted before (replied m p t k r)
   unfolding replied goesOn outcome accepted isRefused
   replied-accepted k (gives v) = refl

@@ -1,5 +1,6 @@
--- A record that is seen, has the facts and is blank where it is not in use keeps the index rules, one by one: places named are in range because
--- they are seen, parent chains end because they are seen as lists, and the rules at the nodes are what the labels of the flow say. Assumes nothing.
+-- A record that is seen, has the facts and is blank where it is not in use keeps the index rules, one by one: places named are in range
+-- because they are seen, parent chains end because they are seen as lists, and the rules at the nodes are what the labels of the flow say.
+-- Assumes nothing.
 use mathlib.Core.Path.{_≡_, refl, sym, _∙_, ap, subst}
 use mathlib.Core.Logic.{_⊎_, inl, inr}
 use mathlib.Core.Bool.{Bool, true, false, not}
@@ -67,7 +68,8 @@ handle-there h (t ∷ ts) e = go (t .state) refl e (λ x. let y = handle-there h
     here g true s e x f = (0, s ∙ ap states.Called (sym (eqb-eq h g e)))
     here g false s e x f = f x
 
-    go : (s : State) → t .state ≡ s → any (eqb h) (handleOf s ++ openHandles ts) ≡ true → (any (eqb h) (openHandles ts) ≡ true → Found) → Found
+    go : (s : State) → t .state ≡ s → any (eqb h) (handleOf s ++ openHandles ts) ≡ true → (any (eqb h) (openHandles ts) ≡ true → Found)
+        → Found
     go states.Blank s x f = f x
     go states.Ready s x f = f x
     go (states.Waiting c) s x f = f x
@@ -79,18 +81,21 @@ handles-differ : (ts : List Token)
     → differ (openHandles ts) ≡ true
 unfolding differ openHandles handleOf
 handles-differ [] f = refl
-handles-differ (t ∷ ts) f = go (t .state) refl (handles-differ ts (λ p q h a b. let z : suc p ≡ suc q = f (suc p) (suc q) h a b in omega arith))
+handles-differ (t ∷ ts) f = go (t .state) refl
+    (handles-differ ts (λ p q h a b. let z : suc p ≡ suc q = f (suc p) (suc q) h a b in omega arith))
   where
     go : (s : State) → t .state ≡ s → differ (openHandles ts) ≡ true → differ (handleOf s ++ openHandles ts) ≡ true
     go states.Blank s x = x
     go states.Ready s x = x
     go (states.Waiting c) s x = x
     go (states.Called h) s x =
-        and-both (ap not (false-of _ (λ a. let y = handle-there h ts a in let z : 0 ≡ suc (y .0) = f 0 (suc (y .0)) h s (y .1) in omega arith))) x
+        and-both (ap not
+        (false-of _ (λ a. let y = handle-there h ts a in let z : 0 ≡ suc (y .0) = f 0 (suc (y .0)) h s (y .1) in omega arith))) x
     go states.Frame s x = x
 
 -- ranges, of what is seen
-slot-range : (n : ℕ) (s : Slot) → ((v : ℤ) → s ≡ slots.Value v → fits v ≡ true) → ((c : ℕ) → s ≡ slots.Cell c → c < n) → slotInRange n s ≡ true
+slot-range : (n : ℕ) (s : Slot) → ((v : ℤ) → s ≡ slots.Value v → fits v ≡ true) → ((c : ℕ) → s ≡ slots.Cell c → c < n)
+    → slotInRange n s ≡ true
 unfolding slotInRange
 slot-range n slots.Empty f g = refl
 slot-range n (slots.Value v) f g = f v refl
@@ -163,7 +168,8 @@ module _ (d : Dag) (M : Labels) (W : World) where
   slot-bound valued = refl
   slot-bound (celled v) = refl
 
-  params-bound : {bs : List Bind} {scope : List ℕ} {B : List Binding} {ps : List Param} → BindingsSeen W bs scope B → All (GoodParam scope) ps
+  params-bound : {bs : List Bind} {scope : List ℕ} {B : List Binding} {ps : List Param} → BindingsSeen W bs scope B
+      → All (GoodParam scope) ps
       → all (notEmpty bs) ps ≡ true
   unfolding all notEmpty _and_
   params-bound v none = refl
@@ -198,7 +204,8 @@ module _ (d : Dag) (M : Labels) (W : World) where
   node-rule t v h (FlowAt.return e z b) = and-both (names-frame (v .caller) (sym (v .nested .body) ∙ b)) (h e)
   node-rule t v h (FlowAt.publish e) = h e
 
-value-there : {M : Labels} {n : ℕ} {K : Abstract.Place} {s : State} {w : Held} {x : Abstract.Token} → M .value n ≡ true → StateSeen M n K s w x
+value-there : {M : Labels} {n : ℕ} {K : Abstract.Place} {s : State} {w : Held} {x : Abstract.Token} → M .value n ≡ true
+    → StateSeen M n K s w x
     → (not (isReady s) or hasValue w) ≡ true
 unfolding isReady hasValue _or_
 value-there e (ready (absent f)) = clash e f
@@ -223,7 +230,8 @@ module _ (lim : Limits) (d : Dag) (M : Labels) (flow : Flow d M) (dag : dagHolds
   good p = X .tables .tokens p
 
   -- a test of each token: it is in use and so stands somewhere, or it is blank
-  each-token : (test : Token → Bool) → test blankToken ≡ true → ((p : ℕ) → Standing M W p → test (tok p) ≡ true) → all test (m .tokens) ≡ true
+  each-token : (test : Token → Bool) → test blankToken ≡ true → ((p : ℕ) → Standing M W p → test (tok p) ≡ true)
+      → all test (m .tokens) ≡ true
   unfolding tokenAt
   each-token test e h = all-from test (m .tokens) blankToken (λ p l. go p l (getD (tokensUsed m) p true) refl)
     where
@@ -231,7 +239,8 @@ module _ (lim : Limits) (d : Dag) (M : Labels) (flow : Flow d M) (dag : dagHolds
       go p l true u = h p (used-stands M W K p l u)
       go p l false u = ap test (clean .tokens p u) ∙ e
 
-  each-cell : (test : Cell → Bool) → test blankCell ≡ true → ((c : ℕ) → Named M W c → test (cellAt (m .cells) c) ≡ true) → all test (m .cells) ≡ true
+  each-cell : (test : Cell → Bool) → test blankCell ≡ true → ((c : ℕ) → Named M W c → test (cellAt (m .cells) c) ≡ true)
+      → all test (m .cells) ≡ true
   unfolding cellAt
   each-cell test e h = all-from test (m .cells) blankCell (λ c l. go c l (getD (cellsUsed m) c true) refl)
     where
@@ -279,7 +288,8 @@ module _ (lim : Limits) (d : Dag) (M : Labels) (flow : Flow d M) (dag : dagHolds
   unfolding sizesInRange
   sizes =
       and-both (eq-eqb _ _ (X .tokenPlaces))
-      (and-both (eq-eqb _ _ (X .cellPlaces)) (and-both (le-leb _ _ (X .calls)) (and-both (lt-ltb _ _ (X .lasttoken)) (lt-ltb _ _ (X .lastcell)))))
+      (and-both (eq-eqb _ _ (X .cellPlaces))
+      (and-both (le-leb _ _ (X .calls)) (and-both (lt-ltb _ _ (X .lasttoken)) (lt-ltb _ _ (X .lastcell)))))
 
   chain : (c : ℕ) → Named M W c → chainEnds (m .cells) (length (m .cells)) (cellAt (m .cells) c .parent) ≡ true
   chain c (named (below s v)) = chain-ends (length (m .cells)) v (chain-short v)
@@ -302,7 +312,8 @@ module _ (lim : Limits) (d : Dag) (M : Labels) (flow : Flow d M) (dag : dagHolds
       clear : {x : Abstract.Token} → TokenSeen W M (tok p) x → underSet (m .cells) (tok p .cell) ≡ false
       clear (sees v un s) = not-under-set un (v .cell)
 
-      go : (b : Bool) → isLive (tok p .state) ≡ b → elim b as (λ b. Bool) [ true ↦ not (underSet (m .cells) (tok p .cell)) | false ↦ true ] ≡ true
+      go : (b : Bool) → isLive (tok p .state) ≡ b
+          → elim b as (λ b. Bool) [ true ↦ not (underSet (m .cells) (tok p .cell)) | false ↦ true ] ≡ true
       go true e = ap not (clear (token-seen p e .1))
       go false e = refl
 

@@ -1,5 +1,5 @@
--- A run, record by record: each is reached with some state of the abstract machine, since the start is and each call, accepted or refused, keeps
--- it; so each keeps the index rules. Assumes nothing.
+-- A run, record by record: each is reached with some state of the abstract machine, since the start is and each call, accepted or refused,
+-- keeps it; so each keeps the index rules. Assumes nothing.
 use mathlib.Core.Path.{_≡_, refl, sym, subst}
 use mathlib.Core.Logic.{_⊎_, inl, inr}
 use mathlib.Core.Bool.{Bool, true, false}

@@ -1,5 +1,6 @@
--- Where the concrete machine has what the abstract machine's token stands for: a place, ready, waiting or called out; a position of the queue if it
--- is ready, since the queue names each ready token; and the holder of its handle if it is called out, since open handles differ. Assumes nothing.
+-- Where the concrete machine has what the abstract machine's token stands for: a place, ready, waiting or called out; a position of the
+-- queue if it is ready, since the queue names each ready token; and the holder of its handle if it is called out, since open handles
+-- differ. Assumes nothing.
 use mathlib.Core.Path.{_≡_, refl, sym, _∙_, ap, subst}
 use mathlib.Core.Bool.{Bool, true, false, not}
 use mathlib.Core.List.{List, [], _∷_, _++_}
@@ -145,7 +146,8 @@ holder-finds h i (t ∷ ts) zero u e = go _ (has-handle h (t .state) e)
     go false x = clash x refl
 holder-finds h i (t ∷ ts) (suc p) u e =
     go (any (eqb h) (handleOf (t .state))) refl
-    (holder-finds h (suc i) ts p (differ-behind (t .state) (openHandles ts) u) e ∙ ap places.At (let z : suc i + p ≡ i + suc p = omega arith in z))
+    (holder-finds h (suc i) ts p (differ-behind (t .state) (openHandles ts) u) e
+    ∙ ap places.At (let z : suc i + p ≡ i + suc p = omega arith in z))
   where
     go : (b : Bool) → any (eqb h) (handleOf (t .state)) ≡ b → holder h (suc i) ts ≡ places.At (i + suc p)
         → elim b as (λ b. Place) [ true ↦ places.At i | false ↦ holder h (suc i) ts ] ≡ places.At (i + suc p)

@@ -1,6 +1,6 @@
--- What only adds, or keeps a token's links, leaves a blanked record blanked, so blanking it again changes nothing: what was in use stays in use,
--- and what is written is in use. First what blank and clean mean, then the one law (`adds-clean`), then the writes of the instructions. Assumes
--- nothing.
+-- What only adds, or keeps a token's links, leaves a blanked record blanked, so blanking it again changes nothing: what was in use stays in
+-- use, and what is written is in use. First what blank and clean mean, then the one law (`adds-clean`), then the writes of the
+-- instructions. Assumes nothing.
 use mathlib.Core.Path.{_≡_, refl, sym, _∙_, ap, ap₂, subst, subst₂}
 use mathlib.Core.Bool.{Bool, true, false, not}
 use mathlib.Core.List.{List, [], _∷_}
@@ -83,7 +83,8 @@ slot-empty (slots.Cell c) e = clash e refl
 binds-empty : (bs : List Bind) → all (λ (b : Bind). not (isBound (b .slot))) bs ≡ true → bs ≡ replicate (length bs) empty
 binds-empty [] e = refl
 binds-empty (b ∷ bs) e =
-    ap₂ (λ (s : Slot) (r : List Bind). record { slot = s } ∷ r) (slot-empty (b .slot) (all-head _ b bs e)) (binds-empty bs (all-tail _ b bs e))
+    ap₂ (λ (s : Slot) (r : List Bind). record { slot = s } ∷ r) (slot-empty (b .slot) (all-head _ b bs e))
+    (binds-empty bs (all-tail _ b bs e))
 
 token-blank : (t : Token) → length (t .binds) ≡ 8 → tokenIsBlank t ≡ true → t ≡ blankToken
 unfolding tokenIsBlank
@@ -196,7 +197,8 @@ module _ {m o : Machine} {p : ℕ} (a : Adds m o p) where
   active-used : (i : ℕ) → isActive (m .cells) (tokenAt (m .tokens) i) ≡ true → (i ≡ p → ⊥) → Used o i
   active-used i e n =
       let t = tokenAt (m .tokens) i in
-      clear-used o i t (row-stays i (tokensOf m .active i e) n) (active-live (m .cells) t e) (a .clear (t .cell) (active-clear (m .cells) t e))
+      clear-used o i t (row-stays i (tokensOf m .active i e) n) (active-live (m .cells) t e)
+      (a .clear (t .cell) (active-clear (m .cells) t e))
 
   -- what a token in use named
   names-used : (i : ℕ) → Used m i → ((i ≡ p → ⊥) → Used o i) → Fits (Used o) (UsedCell o) (tokenAt (m .tokens) i)
@@ -266,7 +268,8 @@ module _ {m o : Machine} {p : ℕ} (a : Adds m o p) where
       token i e (no n) = free-same (a .row i n) e ∙ was .tokens i (was-free i n e)
 
 -- The writes. The record m keeps the rules, and the token t at p is live
-module _ (lim : Limits) (d : Dag) (m : Machine) (holds : rulesHold lim d m ≡ true) (p : ℕ) (live : isLive (tokenAt (m .tokens) p .state) ≡ true) where
+module _ (lim : Limits) (d : Dag) (m : Machine) (holds : rulesHold lim d m ≡ true) (p : ℕ)
+    (live : isLive (tokenAt (m .tokens) p .state) ≡ true) where
   abbrev t : Token
   t = tokenAt (m .tokens) p
 
@@ -359,7 +362,8 @@ module _ (lim : Limits) (d : Dag) (m : Machine) (holds : rulesHold lim d m ≡ t
 
     second : tokenAt (o .tokens) q ≡ v
     second =
-        let l : q < length (set (m .tokens) p u) = omega (arith, free-inside (tokensUsed m) q free, tokensOf m .size, length-set (m .tokens) p u) in
+        let l : q < length (set (m .tokens) p u) =
+        omega (arith, free-inside (tokensUsed m) q free, tokensOf m .size, length-set (m .tokens) p u) in
         ap (λ ts. tokenAt ts q) tokens ∙ token-same (set (m .tokens) p u) q v l
 
     two-row : Used o q → (i : ℕ) → (i ≡ p → ⊥) → AsBefore (tokenAt (o .tokens) i) (tokenAt (m .tokens) i) (tokensUsed m) (tokensUsed o) i

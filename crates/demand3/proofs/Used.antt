@@ -1,5 +1,5 @@
--- What is in use is seen: each token in use has a view of where it stands and is not blank, each cell in use has a name and its parents are seen.
--- The marks are the least that hold the active tokens and are closed, and views are closed too. Assumes nothing.
+-- What is in use is seen: each token in use has a view of where it stands and is not blank, each cell in use has a name and its parents are
+-- seen. The marks are the least that hold the active tokens and are closed, and views are closed too. Assumes nothing.
 use mathlib.Core.Path.{_≡_, refl, sym, _∙_, ap, subst}
 use mathlib.Core.Logic.{_⊎_, inl, inr}
 use mathlib.Core.Bool.{true, false}
@@ -26,7 +26,8 @@ use Rattle.simulation.proofs.Machine as Abstract
 use Rattle.simulation.proofs.Machine.{Binding, Frame}
 use Rattle.simulation.proofs.Store.{_∈_, _∉_}
 use Rattle.model.proofs.Sees.Labels.{Labels}
-use Rattle.model.proofs.Sees.View.{World, CellsSeen, root, below, BindingSeen, valued, celled, SlotsSeen, PlaceSeen, TokenSeen, sees, FrameSeen, frameAt, frame-seen}
+use Rattle.model.proofs.Sees.View.{World, CellsSeen, root, below, BindingSeen, valued, celled, SlotsSeen, PlaceSeen, TokenSeen, sees}
+use Rattle.model.proofs.Sees.View.{FrameSeen, frameAt, frame-seen}
 use Rattle.model.proofs.Sees.Sees.{Core, state-live, UsedToken, UsedCell, tokens-of, cells-of, token-at, live-listed}
 use Rattle.model.proofs.Sees.Slots.{variable-seen}
 
@@ -83,7 +84,8 @@ module _ (M : Labels) (W : World) where
   binding-named c e valued = let z : _≡_ {A = ℕ} 0 1 = cc in absurd (omega arith)
   binding-named c e (celled {c = b} v) = subst Named (let z : b ≡ c = cc in z) (named v)
 
-  slot-named : {bs : List Bind} {scope : List ℕ} {B : List Binding} → SlotsSeen W bs scope B → (x c : ℕ) → slotAt bs x ≡ slots.Cell c → Named c
+  slot-named : {bs : List Bind} {scope : List ℕ} {B : List Binding} → SlotsSeen W bs scope B → (x c : ℕ) → slotAt bs x ≡ slots.Cell c
+      → Named c
   slot-named {bs} {scope} s x c e = go (member-or-not x scope)
     where
       go : (x ∈ scope) ⊎ (x ∉ scope) → Named c

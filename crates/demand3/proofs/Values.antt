@@ -1,5 +1,5 @@
--- Values stay signed 32-bit: what a call's parameters give is, if constants, bindings and cells' values are, and so is what a built-in replies,
--- since it replies a parameter, 0, 1 or a sum that it has tested. Assumes nothing.
+-- Values stay signed 32-bit: what a call's parameters give is, if constants, bindings and cells' values are, and so is what a built-in
+-- replies, since it replies a parameter, 0, 1 or a sum that it has tested. Assumes nothing.
 use mathlib.Core.Path.{_≡_, refl, sym, _∙_, ap}
 use mathlib.Core.Bool.{Bool, true, false}
 use mathlib.Core.List.{List, [], _∷_}

@@ -43,7 +43,8 @@ module _ (words rest before : List ℕ) (from : ℕ) where
     pub shows : ShowsBytes before from 0 printed output total
     pub room : total + 80 * left ≤ 13242960
 
-  pub going-begins : Accepted words → (m : Machine) → length rest ≤ 65536 → m ≡ Start.start paper (dagOf words) .machine → Going m 0 0 0 before
+  pub going-begins : Accepted words → (m : Machine) → length rest ≤ 65536 → m ≡ Start.start paper (dagOf words) .machine
+      → Going m 0 0 0 before
   unfolding runLines
   going-begins A m l e =
       record {
@@ -51,7 +52,8 @@ module _ (words rest before : List ℕ) (from : ℕ) where
         reached = subst (Reached words A) (sym e) (reached-start words A);
         printed = [];
         left = 100000 + length rest + 1;
-        whole = ap (λ (u : Machine). textOfAll (turnLines paper 100000 (dagOf words) (100000 + length rest + 1) (standing rest u 0 0))) (sym e);
+        whole = ap (λ (u : Machine). textOfAll (turnLines paper 100000 (dagOf words) (100000 + length rest + 1) (standing rest u 0 0)))
+            (sym e);
         enough = omega arith;
         few = omega arith;
         inside = omega arith;
@@ -92,7 +94,8 @@ module _ (words rest before : List ℕ) (from : ℕ) where
                 G .whole
                 ∙ ap (λ (j : ℕ). G .printed ++ textOfAll (turnLines paper 100000 (dagOf words) j (standing rest m steps at))) z
                 ∙ ap (λ (u : List ℕ). G .printed ++ u) (turns-on k (standing rest m steps at) (standing rest n steps′ at′) ls e)
-                ∙ sym (append-assoc (G .printed) (textOfAll ls) (textOfAll (turnLines paper 100000 (dagOf words) k (standing rest n steps′ at′))));
+                ∙ sym (append-assoc (G .printed) (textOfAll ls)
+                (textOfAll (turnLines paper 100000 (dagOf words) k (standing rest n steps′ at′))));
             enough = omega arith;
             few = few;
             inside = inside;
@@ -103,7 +106,8 @@ module _ (words rest before : List ℕ) (from : ℕ) where
   -- the run is over
   going-over : {m : Machine} {steps at total n : ℕ} {output after : List ℕ} (ls : List Line) → Going m steps at total output
       → turn paper 100000 (dagOf words) (standing rest m steps at) ≡ over ls
-      → ShowsBytes output from total (textOfAll ls) after n → ShowsBytes before from 0 (textOfAll (runLines paper 100000 (dagOf words) rest)) after n
+      → ShowsBytes output from total (textOfAll ls) after n
+      → ShowsBytes before from 0 (textOfAll (runLines paper 100000 (dagOf words) rest)) after n
   going-over {m} {steps} {at} ls G e s = shows-as (sym (go (G .left) refl)) (shows-then (G .shows) s)
     where
       go : (k : ℕ) → G .left ≡ k → textOfAll (runLines paper 100000 (dagOf words) rest) ≡ G .printed ++ textOfAll ls
@@ -150,7 +154,8 @@ module _ (words rest before : List ℕ) (from : ℕ) where
         answered e = turned ∙ sym (turn-empty (dagOf words) m rest at _ e refl)
 
         -- "a refused step ends the run"
-        pub going-ends : {output′ after : List ℕ} {total′ n : ℕ} → b ≡ true → ShowsBytes output from total (textOfAll (linesFrom o)) output′ total′
+        pub going-ends : {output′ after : List ℕ} {total′ n : ℕ} → b ≡ true
+            → ShowsBytes output from total (textOfAll (linesFrom o)) output′ total′
             → ShowsBytes output′ from total′ (textOfAll (end steps ∷ [])) after n
             → ShowsBytes before from 0 (textOfAll (runLines paper 100000 (dagOf words) rest)) after n
         going-ends t s u =
@@ -159,7 +164,8 @@ module _ (words rest before : List ℕ) (from : ℕ) where
             (shows-as (sym (text-append (linesFrom o) (end steps ∷ []))) (shows-then s u))
 
         -- and else it goes on
-        module _ (on-if : b ≡ false) (steps′ at′ : ℕ) (to : steps′ ≡ nextSteps (m .queued) steps) (behind : at′ ≡ nextAt (m .queued) at) where
+        module _ (on-if : b ≡ false) (steps′ at′ : ℕ) (to : steps′ ≡ nextSteps (m .queued) steps)
+            (behind : at′ ≡ nextAt (m .queued) at) where
           pub going-less : (100000 - steps′) + (length rest - at′) < (100000 - steps) + (length rest - at)
           going-less = go (empty-or-ready (m .queued))
             where
@@ -187,8 +193,10 @@ module _ (words rest before : List ℕ) (from : ℕ) where
                   let left = there e in
                   let few = G .few in
                   going-on (linesFrom o) G (reached-by-answer words (G .accepted) m o _ _ (G .reached) (answered e))
-                  (subst (λ (k : ℕ). turn paper 100000 (dagOf words) (standing rest m steps at) ≡ on (linesFrom o) (standing rest (o .machine) k at′)) (sym b)
-                  (subst (λ (k : ℕ). turn paper 100000 (dagOf words) (standing rest m steps at) ≡ on (linesFrom o) (standing rest (o .machine) steps k)) (sym a)
+                  (subst (λ (k : ℕ). turn paper 100000 (dagOf words) (standing rest m steps at)
+                  ≡ on (linesFrom o) (standing rest (o .machine) k at′)) (sym b)
+                  (subst (λ (k : ℕ). turn paper 100000 (dagOf words) (standing rest m steps at)
+                  ≡ on (linesFrom o) (standing rest (o .machine) steps k)) (sym a)
                   (turn-deliver (dagOf words) rest m steps at o e left (answered e))))
                   going-less (omega arith) (omega arith) s small
               go (inr f) =
@@ -198,7 +206,10 @@ module _ (words rest before : List ℕ) (from : ℕ) where
                   let some = under f in
                   let inside = G .inside in
                   going-on (linesFrom o) G (reached-by-step words (G .accepted) m o (G .reached) (stepped f))
-                  (subst (λ (k : ℕ). turn paper 100000 (dagOf words) (standing rest m steps at) ≡ on (linesFrom o) (standing rest (o .machine) k at′)) (sym b)
-                  (subst (λ (k : ℕ). turn paper 100000 (dagOf words) (standing rest m steps at) ≡ on (linesFrom o) (standing rest (o .machine) (suc steps) k)) (sym a)
-                  (turn-step (dagOf words) rest m steps at o f few some (stepped f) (not-over (m .queued) (o .reply) (sym over-if ∙ on-if) f))))
+                  (subst (λ (k : ℕ). turn paper 100000 (dagOf words) (standing rest m steps at)
+                  ≡ on (linesFrom o) (standing rest (o .machine) k at′)) (sym b)
+                  (subst (λ (k : ℕ). turn paper 100000 (dagOf words) (standing rest m steps at)
+                  ≡ on (linesFrom o) (standing rest (o .machine) (suc steps) k)) (sym a)
+                  (turn-step (dagOf words) rest m steps at o f few some (stepped f)
+                  (not-over (m .queued) (o .reply) (sym over-if ∙ on-if) f))))
                   going-less (omega arith) (omega arith) s small

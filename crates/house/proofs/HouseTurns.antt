@@ -38,7 +38,8 @@ module _ (d : Dag) (rest : List ℕ) (m : Machine) (steps at : ℕ) where
   last-lines n k true e = rw (sym e, lastLines) refl
   last-lines n k false e = rw (sym e, lastLines) refl
 
-  pub turn-last : m .queued ≡ 0 → length rest - at < 8 → turn paper 100000 d (standing rest m steps at) ≡ over (lastLines (length rest - at) steps)
+  pub turn-last : m .queued ≡ 0 → length rest - at < 8
+      → turn paper 100000 d (standing rest m steps at) ≡ over (lastLines (length rest - at) steps)
   unfolding turn lastTurn
   turn-last e l =
       rw (eq-eqb (m .queued) 0 e, lt-not-leb 8 (length (drop at rest)) (omega (arith, left)), turn, lastTurn)
@@ -49,7 +50,14 @@ module _ (d : Dag) (rest : List ℕ) (m : Machine) (steps at : ℕ) where
       → turn paper 100000 d (standing rest m steps at) ≡ on (linesFrom o) (standing rest (o .machine) steps (at + 8))
   unfolding turn deliverTurn
   turn-deliver o e l q =
-      rw (eq-eqb (m .queued) 0 e, le-leb 8 (length (drop at rest)) (omega (arith, left)), turn, deliverTurn, drop-drop 4 at rest, drop-drop 8 at rest)
+      rw (
+        eq-eqb (m .queued) 0 e,
+        le-leb 8 (length (drop at rest)) (omega (arith, left)),
+        turn,
+        deliverTurn,
+        drop-drop 4 at rest,
+        drop-drop 8 at rest,
+      )
       (ap (λ (u : Outcome). on (linesFrom u) (standing rest (u .machine) steps (at + 8))) (sym q))
 
   pub turn-limit : (m .queued ≡ 0 → ⊥) → steps ≡ 100000 → turn paper 100000 d (standing rest m steps at) ≡ over (limit ∷ end steps ∷ [])

@@ -69,7 +69,8 @@ module _ (dag rest before : List ℕ) (from : ℕ) where
   Whole after n = ShowsBytes before from 0 (textOfAll (runLines paper 100000 (dagOf dag) rest)) after n
 
   -- each turn, by the tests that lead to it: `word` is the queue's count as the code has read it
-  module _ {ws : List ℕ} {used cells shared : List Bool} {steps at total : ℕ} {output : List ℕ} (L : Lent ws used cells shared steps at total output)
+  module _ {ws : List ℕ} {used cells shared : List Bool} {steps at total : ℕ} {output : List ℕ}
+      (L : Lent ws used cells shared steps at total output)
       (word : ℕ) (reads : (m : Machine) → Codes ws m → word ≡ m .queued) where
     count : word ≡ L .machine .queued
     count = reads (L .machine) (L .lawful .holds .codes)
@@ -126,7 +127,8 @@ module _ (dag rest before : List ℕ) (from : ℕ) where
           pub lent-delivers : Lent ws′ used cells shared steps (at + 8) n output′
           lent-delivers =
               under-way (goesOn n)
-              (going-turns dag rest before from (L .going) false unread refl false (limit-empty _ none _) refl turned refl false (delivered .over) refl
+              (going-turns dag rest before from (L .going) false unread refl false (limit-empty _ none _) refl turned refl false
+              (delivered .over) refl
               steps (at + 8) (steps-empty _ none steps) (at-empty _ none at) (delivered .lines) (delivered .few))
               delivered
 
@@ -141,7 +143,8 @@ module _ (dag rest before : List ℕ) (from : ℕ) where
       pub lent-limit : {after : List ℕ} {n : ℕ} → steps ≡ 100000 → ShowsBytes output from total (textOfAll (limit ∷ end steps ∷ [])) after n
           → Whole after n
       lent-limit q s =
-          going-limit dag rest before from (L .going) false busy refl true (limit-ready _ ready steps true (sym (eq-eqb steps 100000 q))) refl s
+          going-limit dag rest before from (L .going) false busy refl true (limit-ready _ ready steps true (sym (eq-eqb steps 100000 q)))
+          refl s
 
       has : QueueHasToken ws used cells dag 0 (L .machine)
       has = record { lawful = L .lawful; queued = some (L .machine .queued) ready }
@@ -164,7 +167,8 @@ module _ (dag rest before : List ℕ) (from : ℕ) where
         pub lent-ends : {after : List ℕ} {n : ℕ} → r .over ≡ true → ShowsBytes output′ from (r .total) (textOfAll (end steps ∷ [])) after n
             → Whole after n
         lent-ends t u =
-            going-ends dag rest before from (L .going) false busy refl false below refl turned refl (r .over) (stepped .over) t (stepped .lines) u
+            going-ends dag rest before from (L .going) false busy refl false below refl turned refl (r .over) (stepped .over) t
+            (stepped .lines) u
 
         module _ (on-if : r .over ≡ false) where
           pub lent-steps-less : (100000 - (steps + 1)) + (length rest - at) < (100000 - steps) + (length rest - at)

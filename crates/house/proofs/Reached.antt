@@ -57,12 +57,14 @@ module _ (words : List ℕ) (A : Accepted words) where
 
   pub reached-step : (m : Machine) (place : ℕ) → Reached m → Reached (Step.step paper (dagOf words) m place .machine)
   unfolding outcomeOf
-  reached-step m place r = call-in-run paper d (labelsOf (A .program)) paper-roomy flows dag-holds (meaning (A .program) .body) m (step place) r
+  reached-step m place r = call-in-run paper d (labelsOf (A .program)) paper-roomy flows dag-holds (meaning (A .program) .body) m
+      (step place) r
 
   pub reached-answer : (m : Machine) (h w : ℕ) → Reached m → Reached (Answer.answer paper (dagOf words) m h (signed w) .machine)
   unfolding outcomeOf
   reached-answer m h w r =
-      call-in-run paper d (labelsOf (A .program)) paper-roomy flows dag-holds (meaning (A .program) .body) m (answer h (signed w) (signed-fits w)) r
+      call-in-run paper d (labelsOf (A .program)) paper-roomy flows dag-holds (meaning (A .program) .body) m
+      (answer h (signed w) (signed-fits w)) r
 
   pub reached-framed : {m : Machine} → Reached m → CallersAreFrames m
   reached-framed r = in-run-framed r
@@ -74,5 +76,6 @@ module _ (words : List ℕ) (A : Accepted words) (m : Machine) (o : Outcome) whe
   pub reached-by-step : Reached words A m → o ≡ Step.step paper (dagOf words) m 0 → Reached words A (o .machine)
   reached-by-step r e = subst (λ (u : Outcome). Reached words A (u .machine)) (sym e) (reached-step words A m 0 r)
 
-  pub reached-by-answer : (h w : ℕ) → Reached words A m → o ≡ Answer.answer paper (dagOf words) m h (signed w) → Reached words A (o .machine)
+  pub reached-by-answer : (h w : ℕ) → Reached words A m → o ≡ Answer.answer paper (dagOf words) m h (signed w)
+      → Reached words A (o .machine)
   reached-by-answer h w r e = subst (λ (u : Outcome). Reached words A (u .machine)) (sym e) (reached-answer words A m h w r)

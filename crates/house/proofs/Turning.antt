@@ -29,7 +29,8 @@ silent (replies.Published v) vs e = clash refl e
 silent (replies.Called h s n) vs e = clash refl e
 silent (replies.Refused x) vs e = clash refl e
 
-module _ {o : Outcome} {m : Machine} {ws : List ℕ} {used cells shared : List Bool} {p : Report} (g : Stepped o m ws used cells shared p) {before after : List ℕ}
+module _ {o : Outcome} {m : Machine} {ws : List ℕ} {used cells shared : List Bool} {p : Report}
+    (g : Stepped o m ws used cells shared p) {before after : List ℕ}
     {from total n : ℕ} {over : Bool} (ends : over ≡ isOver (m .queued) (p .reply)) where
   pub turned-shows : ShowsBytes before from total (textOfAll (reportedLines (p .reply) (p .values))) after n → n ≤ total + 80
       → TurnLeaves o m ws used cells shared before from total after (record { total = n; over = over })

@@ -1,4 +1,5 @@
--- What a turn of a run leaves: the outcome's record in the words, its line in the output, and whether the run is over. Assumes nothing: these are definitions.
+-- What a turn of a run leaves: the outcome's record in the words, its line in the output, and whether the run is over. Assumes nothing:
+-- these are definitions.
 use mathlib.Core.Path.{_≡_}
 use mathlib.Core.Bool.{Bool, false}
 use mathlib.Core.List.{List}
@@ -22,7 +23,8 @@ linesFrom o = reportedLines (o .reply) (o .values)
 abbrev pub goesOn : (total : ℕ) → TurnEnd
 goesOn n = record { total = n; over = false }
 
-pub record TurnLeaves (o : Outcome) (m : Machine) (ws : List ℕ) (used usedCells shared : List Bool) (output : List ℕ) (from total : ℕ) (after : List ℕ) (r : TurnEnd)
+pub record TurnLeaves (o : Outcome) (m : Machine) (ws : List ℕ) (used usedCells shared : List Bool) (output : List ℕ) (from total : ℕ)
+    (after : List ℕ) (r : TurnEnd)
     : Type 0 where
   pub holds : Holds ws (o .machine)
   pub marks : CallersAreFrames m → Marks used usedCells (o .machine)

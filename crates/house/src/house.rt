@@ -1,5 +1,5 @@
-// A house run: "it runs house order; with the queue empty it delivers a record". Its records are those of a run, so their index rules hold and are
-// not tested again at each step.
+// A house run: "it runs house order; with the queue empty it delivers a record". Its records are those of a run, so their index rules hold
+// and are not tested again at each step.
 ghost use mathlib.Core.Path.{_≡_};
 ghost use Prim.Native.Nat.{_≤_};
 ghost use lib.ListN.{length};
@@ -43,9 +43,12 @@ fn run_turns(
     output: &mut [u8],
     from: usize,
 ) -> usize
-    requires { ⌜ Accepted (now dag) × (length (now rest) ≤ 65536) × Lawful (now w) (now tokens) (now cells) (now dag) (Start.start paper (dagOf (now dag)) .machine) ⌝ }
+    requires { ⌜ Accepted (now dag) × (length (now rest) ≤ 65536) × Lawful (now w) (now tokens) (now cells) (now dag)
+        (Start.start paper (dagOf (now dag)) .machine) ⌝ }
     requires { ⌜ OneCallee (now shared) (Start.start paper (dagOf (now dag)) .machine) ⌝ }
-    ensures { λ r. ⌜ ShowsBytes (now (output .entry)) from 0 (textOfAll (runLines paper 100000 (dagOf (now (dag .entry))) (now (rest .entry)))) (now (output .exit)) r ⌝ }
+    ensures { λ r.
+        ⌜ ShowsBytes (now (output .entry)) from 0 (textOfAll (runLines paper 100000 (dagOf (now (dag .entry))) (now (rest .entry))))
+        (now (output .exit)) r ⌝ }
 {
     let mut steps: u32 = 0;
     let mut at: usize = 0;
@@ -74,7 +77,9 @@ fn run_turns(
 
 pub fn run(rest: &[u8], dag: &[u32; WORDS], output: &mut [u8], from: usize) -> usize
     requires { ⌜ Accepted (now dag) × (length (now rest) ≤ 65536) ⌝ }
-    ensures { λ r. ⌜ ShowsBytes (now (output .entry)) from 0 (textOfAll (runLines paper 100000 (dagOf (now (dag .entry))) (now (rest .entry)))) (now (output .exit)) r ⌝ }
+    ensures { λ r.
+        ⌜ ShowsBytes (now (output .entry)) from 0 (textOfAll (runLines paper 100000 (dagOf (now (dag .entry))) (now (rest .entry))))
+        (now (output .exit)) r ⌝ }
 {
     whole(dag);
     let mut words = [0u32; Machine::WORDS];

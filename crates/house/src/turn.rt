@@ -1,5 +1,5 @@
-// A turn of a run and its line: the delivery of a record, or a step of the token at place 0. A reply is taken apart only where it has a line, so that a
-// step without one costs nothing more.
+// A turn of a run and its line: the delivery of a record, or a step of the token at place 0. A reply is taken apart only where it has a
+// line, so that a step without one costs nothing more.
 ghost use mathlib.Core.Path.{_≡_};
 ghost use mathlib.Core.Bool.{Bool};
 ghost use mathlib.Core.List.{List};
@@ -67,7 +67,8 @@ pub fn step_turn(
     ensures { λ r. ⌜ ((m : Machine) (rest : List ℕ) (at : ℕ)
         → QueueHasToken (now (w .entry)) (now (tokens .entry)) (now (cells .entry)) (now (dag .entry)) 0 m
         → OneCallee (now (shared .entry)) m
-        → TurnLeaves (turnOutcome (dagOf (now (dag .entry))) m rest at) m (now (w .exit)) (now (tokens .exit)) (now (cells .exit)) (now (shared .exit))
+        → TurnLeaves (turnOutcome (dagOf (now (dag .entry))) m rest at) m (now (w .exit)) (now (tokens .exit)) (now (cells .exit))
+        (now (shared .exit))
         (now (output .entry)) from total (now (output .exit)) r) ⌝ }
 {
     let report = step(w, tokens, cells, shared, dag, 0);

@@ -1,5 +1,5 @@
--- The dag of a well-formed program keeps the index rules: each node names nodes of the same construction, and parameters, variables and definitions
--- lie in their ranges because the expression's do. Assumes nothing.
+-- The dag of a well-formed program keeps the index rules: each node names nodes of the same construction, and parameters, variables and
+-- definitions lie in their ranges because the expression's do. Assumes nothing.
 use mathlib.Core.Path.{_≡_, refl, sym, _∙_, ap}
 use mathlib.Core.Bool.{true}
 use mathlib.Core.List.{List, [], _∷_}
@@ -96,7 +96,8 @@ module _ (d : Dag) (formals : List ℕ) (counted : length formals ≡ length (d 
       let m = length (d .nodes) in
       let first = n + own j in
       let second = n + own j + nodeCount f in
-      let o = own-nodes-hold b (root f first) (root g second) k (omega (arith, root-below f first)) (omega (arith, root-below g second)) hk in
+      let o = own-nodes-hold b (root f first) (root g second) k (omega (arith, root-below f first))
+      (omega (arith, root-below g second)) hk in
       let l = nodes-hold gf (left-slots b s) first (nextLeft j n k) (next-left j n k m (omega arith) hk) (omega arith) in
       let r = nodes-hold gg (right-slots b s) second (nextRight j n k) (next-right j n k m (omega arith) hk) (omega arith) in
       all-append (nodeHolds d) _ _ (all-append (nodeHolds d) _ _ o l) r

@@ -8,9 +8,11 @@ use lib.ListN.{length, take, drop, length-take}
 use lib.Dec.{leb, eqb}
 use Rattle.job.specs.Test.{_and_, any}
 use Rattle.job.specs.Number.{signed}
-use Rattle.job.specs.Syntax.{Param, variable, constant, Join, par, seq, prune, Exp, stop, site, call, Program, formalsOf, levels, scopeLeft, scopeRight}
+use Rattle.job.specs.Syntax.{Param, variable, constant, Join, par, seq, prune, Exp, stop, site, call, Program, formalsOf, levels}
+use Rattle.job.specs.Syntax.{scopeLeft, scopeRight}
 use Rattle.job.specs.Entry.{Entry, entries, low, high, EntryKind, kindOf}
-use Rattle.job.specs.Read.{Got, Read, got, refused, _>>=_, gives, need, entryAt, readParam, readParamList, readCall, readJoin, readExp}
+use Rattle.job.specs.Read.{Got, Read, got, refused, _>>=_, gives, need, entryAt, readParam, readParamList, readCall, readJoin}
+use Rattle.job.specs.Read.{readExp}
 use Rattle.job.specs.Read.{readDefinition, readProgram, leftovers, callHolds, definitionsHold, readEntries, sizeD, sizeN, readBytes}
 use Rattle.job.specs.Read.{declined, readerAnswer, readTable}
 use Rattle.job.proofs.Test.{and-right, leb-le}
@@ -66,7 +68,8 @@ module _ (m : ℕ) where
             | EntryKind.seq ↦ refused 3 e
             | EntryKind.prune ↦ refused 3 e
             | EntryKind.definition ↦ refused 3 e
-            | EntryKind.variable ↦ need (any (eqb (x .value .operand)) scope) 7 e >>= (λ _. gives (variable (x .value .operand)) (x .next) (x .rest))
+            | EntryKind.variable ↦ need (any (eqb (x .value .operand)) scope) 7 e >>=
+                (λ _. gives (variable (x .value .operand)) (x .next) (x .rest))
             | EntryKind.constant ↦ gives (constant (signed (x .value .operand))) (x .next) (x .rest)
             | EntryKind.unknown ↦ refused 3 e
           ])
@@ -88,7 +91,8 @@ module _ (m : ℕ) where
       bind (readParam scope e es) _ (param-within scope e es l)
       (λ p k. bind (readParamList n scope (p .next) (p .rest)) _ (params-within n scope (p .next) (p .rest) k) (λ ps j. reads j))
 
-  call-within : (h : List Param → Exp) (n : ℕ) (scope : List ℕ) (e : ℕ) (es : List Entry) → e + length es ≤ m → Within m (readCall h n scope e es)
+  call-within : (h : List Param → Exp) (n : ℕ) (scope : List ℕ) (e : ℕ) (es : List Entry) → e + length es ≤ m
+      → Within m (readCall h n scope e es)
   unfolding readCall
   call-within h n scope e es l = bind (readParamList n scope e es) _ (params-within n scope e es l) (λ ps k. reads k)
 
@@ -107,12 +111,15 @@ module _ (m : ℕ) where
       (λ x k. after _ 3 e _ (omega arith) (λ _. after _ 4 e _ (omega arith) (λ _. stops 6 e (omega arith))))
   exp-within (suc left) scope e es l =
       bind (entryAt e es) _ (entry-within e es l)
-      (λ x k. after _ 3 e _ (omega arith) (λ _. after _ 4 e _ (omega arith) (λ _. after _ 7 e _ (omega arith) (λ _. by-kind (exp-within left) x k (kindOf (x .value .kind))))))
+      (λ x k. after _ 3 e _ (omega arith)
+      (λ _. after _ 4 e _ (omega arith)
+      (λ _. after _ 7 e _ (omega arith) (λ _. by-kind (exp-within left) x k (kindOf (x .value .kind))))))
     where
       no : Within m {A = Exp} (refused 3 e)
       no = stops 3 e (omega arith)
 
-      by-kind : ((scope : List ℕ) (e : ℕ) (es : List Entry) → e + length es ≤ m → Within m (readExp left scope e es)) → (x : Got Entry) → x .next + length (x .rest) ≤ m → (k : EntryKind)
+      by-kind : ((scope : List ℕ) (e : ℕ) (es : List Entry) → e + length es ≤ m → Within m (readExp left scope e es)) → (x : Got Entry)
+          → x .next + length (x .rest) ≤ m → (k : EntryKind)
           → Within m {A = Exp} (elim k as (λ k. Read Exp) [
             | EntryKind.stop ↦ gives stop (x .next) (x .rest)
             | EntryKind.site ↦ readCall (site (low (x .value .operand))) (high (x .value .operand)) scope (x .next) (x .rest)
@@ -141,7 +148,8 @@ module _ (m : ℕ) where
   definition-within e es l =
       bind (entryAt e es) _ (entry-within e es l)
       (λ x k. after _ 3 e _ (omega arith) (λ _. after _ 4 e _ (omega arith)
-      (λ _. bind (readExp 24 (levels (x .value .operand)) (x .next) (x .rest)) _ (exp-within 24 (levels (x .value .operand)) (x .next) (x .rest) k) (λ b j. reads j))))
+      (λ _. bind (readExp 24 (levels (x .value .operand)) (x .next) (x .rest)) _
+      (exp-within 24 (levels (x .value .operand)) (x .next) (x .rest) k) (λ b j. reads j))))
 
   program-within : (n e : ℕ) (es : List Entry) → e + length es ≤ m → Within m (readProgram n e es)
   unfolding readProgram
@@ -165,7 +173,8 @@ module _ (m : ℕ) where
   entries-within D es l =
       bind (readProgram D 0 es) _ (program-within D 0 es (omega arith))
       (λ p k. bind (leftovers (p .next) (p .rest)) _ (leftovers-within (p .next) (p .rest) k)
-      (λ _ _. bind (definitionsHold (formalsOf (p .value .definitions)) 0 es) _ (calls-within (formalsOf (p .value .definitions)) 0 es (omega arith))
+      (λ _ _. bind (definitionsHold (formalsOf (p .value .definitions)) 0 es) _
+      (calls-within (formalsOf (p .value .definitions)) 0 es (omega arith))
       (λ _ _. reads k)))
 
 bytes-within : (b : List ℕ) → Within 512 (readBytes b)

@@ -14,7 +14,8 @@ use Rattle.job.specs.Syntax.{Definition, Program, formalsOf, levels}
 use Rattle.job.specs.Entry.{Entry, entry, entries, EntryKind, kindOf, rowHolds}
 use Rattle.job.specs.Encode.{encodeExp, encodeDefinitions, encodeEntries, operandBytes, encode}
 use Rattle.job.specs.WellFormed.{Good, GoodDefinition, WellFormed}
-use Rattle.job.specs.Read.{Got, _>>=_, entryAt, need, isDefinition, readDefinition, readProgram, leftovers, callHolds, definitionsHold}
+use Rattle.job.specs.Read.{Got, _>>=_, entryAt, need, isDefinition, readDefinition, readProgram, leftovers, callHolds}
+use Rattle.job.specs.Read.{definitionsHold}
 use Rattle.job.specs.Read.{readEntries, sizeD, sizeN, tableLength, readBytes}
 use Rattle.job.proofs.All.{All-drop}
 use Rattle.job.proofs.Test.{eqb-eq, leb-le, and-left, and-right, clash}

@@ -84,7 +84,8 @@ pub record FoundExp (formals : List ℕ) (left : ℕ) (scope : List ℕ) (es : L
 -- all that is read with so many levels of depth left
 abbrev pub Sound : (formals : List ℕ) (left : ℕ) → Type 0
 Sound formals left =
-    (scope : List ℕ) (e : ℕ) (es : List Entry) → All (CallRuleHolds formals) es → Yields (FoundExp formals left scope es) (readExp left scope e es)
+    (scope : List ℕ) (e : ℕ) (es : List Entry) → All (CallRuleHolds formals) es
+    → Yields (FoundExp formals left scope es) (readExp left scope e es)
 
 module _ (formals : List ℕ) (left : ℕ) (scope : List ℕ) (e : ℕ) (x : Entry) (rest : List Entry) where
   bare-entry : {k : ℕ} → x .kind ≡ k → eqb (x .operand) 0 ≡ true → x ≡ entry k 0
@@ -96,7 +97,8 @@ module _ (formals : List ℕ) (left : ℕ) (scope : List ℕ) (e : ℕ) (x : Ent
   stop-found k t = record { good = Good.stop; begins = begins-one (λ s. bare-entry k t) }
 
   site-found : x .kind ≡ 1 → siteTakes (low (x .operand)) (high (x .operand)) ≡ true
-      → Yields (FoundExp formals (suc left) scope (x ∷ rest)) (readCall (Exp.site (low (x .operand))) (high (x .operand)) scope (suc e) rest)
+      → Yields (FoundExp formals (suc left) scope (x ∷ rest))
+      (readCall (Exp.site (low (x .operand))) (high (x .operand)) scope (suc e) rest)
   unfolding encodeExp readCall
   site-found k t =
       yields-bind _ (params-found (high (x .operand)) scope (suc e) rest) λ ps h.
@@ -106,7 +108,8 @@ module _ (formals : List ℕ) (left : ℕ) (scope : List ℕ) (e : ℕ) (x : Ent
       })
 
   call-found : x .kind ≡ 2 → CallRuleHolds formals x
-      → Yields (FoundExp formals (suc left) scope (x ∷ rest)) (readCall (Exp.call (low (x .operand))) (high (x .operand)) scope (suc e) rest)
+      → Yields (FoundExp formals (suc left) scope (x ∷ rest))
+      (readCall (Exp.call (low (x .operand))) (high (x .operand)) scope (suc e) rest)
   unfolding encodeExp readCall
   call-found k t =
       let names = holds-names formals x k t in

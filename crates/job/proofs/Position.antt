@@ -11,7 +11,8 @@ use Rattle.job.specs.Test.{any}
 use Rattle.job.specs.Number.{number, signed}
 use Rattle.job.specs.Syntax.{Param, variable, constant, Join, par, seq, prune, Exp, stop, site, call, scopeLeft, scopeRight}
 use Rattle.job.specs.Entry.{Entry, entry, entries, low, high, EntryKind, kindOf}
-use Rattle.job.specs.Read.{Got, Read, got, refused, _>>=_, gives, need, entryAt, readParam, readParamList, readCall, readJoin, readExp}
+use Rattle.job.specs.Read.{Got, Read, got, refused, _>>=_, gives, need, entryAt, readParam, readParamList, readCall, readJoin}
+use Rattle.job.specs.Read.{readExp}
 
 -- the operand at an index
 abbrev pub operandAt : List ℕ → ℕ → ℕ
@@ -86,7 +87,8 @@ module _ (es : List Entry) where
   pub param-from : (scope : List ℕ) (e : ℕ) (l : List Entry) (g : Got Param)
       → l ≡ drop e es → readParam scope e l ≡ got g → From es e g
   unfolding readParam
-  param-from scope e l g q r = let b = bind-got (entryAt e l) _ g r in kind-from (b .0) (entered l (b .0) q (b .1)) (kindOf (b .0 .value .kind)) (b .2)
+  param-from scope e l g q r = let b = bind-got (entryAt e l) _ g r in
+      kind-from (b .0) (entered l (b .0) q (b .1)) (kindOf (b .0 .value .kind)) (b .2)
     where
       kept : (x : Got Entry) → From es e x → (p : Param) → gives p (x .next) (x .rest) ≡ got g → From es e g
       kept x f p r = moved (cc) (cc) f
@@ -100,7 +102,8 @@ module _ (es : List Entry) where
             | EntryKind.seq ↦ refused 3 e
             | EntryKind.prune ↦ refused 3 e
             | EntryKind.definition ↦ refused 3 e
-            | EntryKind.variable ↦ need (any (eqb (x .value .operand)) scope) 7 e >>= (λ _. gives (variable (x .value .operand)) (x .next) (x .rest))
+            | EntryKind.variable ↦ need (any (eqb (x .value .operand)) scope) 7 e >>=
+                (λ _. gives (variable (x .value .operand)) (x .next) (x .rest))
             | EntryKind.constant ↦ gives (constant (signed (x .value .operand))) (x .next) (x .rest)
             | EntryKind.unknown ↦ refused 3 e
           ]) ≡ got g → From es e g
@@ -116,7 +119,13 @@ module _ (es : List Entry) where
       kind-from x f EntryKind.unknown r = refused-got r
 
   here : {A : Type 0} (a : A) (e : ℕ) (l : List Entry) → l ≡ drop e es → e ≤ length es → (g : Got A) → gives a e l ≡ got g → From es e g
-  here a e l q m g r = record { rest = (let z : l ≡ g .rest = cc in let y : e ≡ g .next = cc in sym z ∙ (q ∙ ap (λ n. drop n es) y)); next = (let y : e ≡ g .next = cc in omega arith); last = (let y : e ≡ g .next = cc in omega arith) }
+  here a e l q m g r =
+      record {
+        rest = (let z : l ≡ g .rest = cc in let y : e ≡ g .next = cc in sym z ∙ (q ∙ ap (λ n. drop n es) y));
+        next =
+            (let y : e ≡ g .next = cc in omega arith);
+        last = (let y : e ≡ g .next = cc in omega arith);
+      }
 
   pub params-from : (n : ℕ) (scope : List ℕ) (e : ℕ) (l : List Entry) (g : Got (List Param))
       → l ≡ drop e es → e ≤ length es → readParamList n scope e l ≡ got g → From es e g
@@ -176,11 +185,17 @@ module _ (es : List Entry) where
             | EntryKind.unknown ↦ refused 3 e
           ]) ≡ got g → From es e g
       kind-from x f EntryKind.stop reads r = moved (cc) (cc) f
-      kind-from x f EntryKind.site reads r = onward f (call-from (λ ps. site (low (x .value .operand)) ps) (high (x .value .operand)) scope (x .next) (x .rest) g (f .rest) (f .last) r)
-      kind-from x f EntryKind.call reads r = onward f (call-from (λ ps. call (low (x .value .operand)) ps) (high (x .value .operand)) scope (x .next) (x .rest) g (f .rest) (f .last) r)
+      kind-from x f EntryKind.site reads r =
+          onward f (call-from (λ ps. site (low (x .value .operand)) ps) (high (x .value .operand)) scope (x .next) (x .rest) g (f .rest)
+          (f .last) r)
+      kind-from x f EntryKind.call reads r =
+          onward f (call-from (λ ps. call (low (x .value .operand)) ps) (high (x .value .operand)) scope (x .next) (x .rest) g (f .rest)
+          (f .last) r)
       kind-from x f EntryKind.par reads r = onward f (join-from (readExp left) reads par scope (x .next) (x .rest) g (f .rest) r)
-      kind-from x f EntryKind.seq reads r = onward f (join-from (readExp left) reads (seq (length scope)) scope (x .next) (x .rest) g (f .rest) r)
-      kind-from x f EntryKind.prune reads r = onward f (join-from (readExp left) reads (prune (length scope)) scope (x .next) (x .rest) g (f .rest) r)
+      kind-from x f EntryKind.seq reads r =
+          onward f (join-from (readExp left) reads (seq (length scope)) scope (x .next) (x .rest) g (f .rest) r)
+      kind-from x f EntryKind.prune reads r =
+          onward f (join-from (readExp left) reads (prune (length scope)) scope (x .next) (x .rest) g (f .rest) r)
       kind-from x f EntryKind.definition reads r = refused-got r
       kind-from x f EntryKind.variable reads r = refused-got r
       kind-from x f EntryKind.constant reads r = refused-got r

@@ -1,6 +1,6 @@
 -- How many nodes a construction makes: an expression as many as its size, a program of 512 entries at most 1,022.
--- A join makes at most three nodes of its own and stands over two operands, so j joins make at most 4j + 1 nodes and take at least 2j + 1 entries.
--- Assumes nothing.
+-- A join makes at most three nodes of its own and stands over two operands, so j joins make at most 4j + 1 nodes and take at least 2j + 1
+-- entries. Assumes nothing.
 use mathlib.Core.Path.{_≡_, refl}
 use mathlib.Core.List.{List, [], _∷_, _++_}
 use Prim.Native.Nat.{ℕ, suc, _+_, _*_, _≤_}

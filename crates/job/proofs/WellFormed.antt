@@ -69,7 +69,8 @@ pub record Names (formals : List ℕ) (d n : ℕ) : Type 0 where
   pub defined : d < length formals
   pub count : n ≡ getD formals d 0
 
-pub holds-names : (formals : List ℕ) (x : Entry) → x .kind ≡ 2 → CallRuleHolds formals x → Names formals (low (x .operand)) (high (x .operand))
+pub holds-names : (formals : List ℕ) (x : Entry) → x .kind ≡ 2 → CallRuleHolds formals x
+    → Names formals (low (x .operand)) (high (x .operand))
 unfolding callHolds _or_
 holds-names formals x k e =
     let d = low (x .operand) in

@@ -24,7 +24,8 @@ firstLeft j n = n + own j
 abbrev pub firstRight : Join → Exp → ℕ → ℕ
 firstRight j f n = n + own j + nodeCount f
 
--- where a token enters an expression whose nodes are numbered from n: a sequence is entered at its f (docs/DECISIONS.md, "Where a sequence begins")
+-- where a token enters an expression whose nodes are numbered from n: a sequence is entered at its f (docs/DECISIONS.md, "Where a sequence
+-- begins")
 unfoldable pub root : Exp → ℕ → ℕ
 root stop n = n
 root (site s ps) n = n

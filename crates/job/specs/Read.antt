@@ -7,7 +7,8 @@ use lib.Dec.{ltb, leb, eqb}
 use Rattle.job.specs.Bounds.{scopeLimit, depthLimit, definitionLimit, entryLimit}
 use Rattle.job.specs.Test.{_and_, _or_, any}
 use Rattle.job.specs.Number.{number, signed}
-use Rattle.job.specs.Syntax.{Param, variable, constant, Join, par, seq, prune, Exp, stop, site, call, join, Definition, Program, formalsOf, levels, scopeLeft, scopeRight}
+use Rattle.job.specs.Syntax.{Param, variable, constant, Join, par, seq, prune, Exp, stop, site, call, join, Definition, Program}
+use Rattle.job.specs.Syntax.{formalsOf, levels, scopeLeft, scopeRight}
 use Rattle.job.specs.Entry.{Entry, entries, low, high, EntryKind, kindOf, isExpression, rowHolds, isBinder}
 
 -- what was read, the number of the first entry that was not, and the entries from there on
@@ -76,8 +77,8 @@ readJoin side j scope e es = do
   g ← side (scopeRight j scope) (f .next) (f .rest)
   gives (join j (f .value) (g .value)) (g .next) (g .rest)
 
--- an expression from entry e on (docs/DECISIONS.md, "Order at one entry", "Depth"): so many levels of depth are left, these variables are in scope.
--- "Entry by entry 5, 3, 4, 6, 7": "6: depth 25", "7: .. a binder where 8 are in scope"
+-- an expression from entry e on (docs/DECISIONS.md, "Order at one entry", "Depth"): so many levels of depth are left, these variables are
+-- in scope. "Entry by entry 5, 3, 4, 6, 7": "6: depth 25", "7: .. a binder where 8 are in scope"
 unfoldable pub readExp : ℕ → List ℕ → ℕ → List Entry → Read Exp
 readExp zero scope e es = do
   x ← entryAt e es

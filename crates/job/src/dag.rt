@@ -3,8 +3,8 @@
 
 pub const WORDS: usize = 12331;
 
-// The words of the head: how many nodes and definitions there are, the goal's first node, and where the definitions begin, each with its first
-// node and its count of formals.
+// The words of the head: how many nodes and definitions there are, the goal's first node, and where the definitions begin, each with its
+// first node and its count of formals.
 pub const NODE_COUNT: usize = 0;
 
 pub const DEFINITION_COUNT: usize = 1;
@@ -18,8 +18,9 @@ pub const HEAD_WORDS: usize = 67;
 
 pub const ROW_WORDS: usize = 12;
 
-// The words of a row, behind the node's kind. First the site, definition or variable that the node names, or the left node; then the next node, or
-// the right node; then how many parameters there are, or the variable that where binds; then the parameters, each with its kind and its word.
+// The words of a row, behind the node's kind. First the site, definition or variable that the node names, or the left node; then the next
+// node, or the right node; then how many parameters there are, or the variable that where binds; then the parameters, each with its kind
+// and its word.
 pub const NAMED_NUMBER: usize = 1;
 
 pub const LEFT_NODE: usize = 1;

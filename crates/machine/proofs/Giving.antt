@@ -1,4 +1,5 @@
--- How a public call ends: refused by a test, with every word as it was; or as the call on a lawful record does, whose words are all given. Assumes nothing.
+-- How a public call ends: refused by a test, with every word as it was; or as the call on a lawful record does, whose words are all given.
+-- Assumes nothing.
 use mathlib.Core.Path.{_≡_, refl, sym, ap, subst, _∙_}
 use mathlib.Core.Bool.{Bool, true, false, not}
 use mathlib.Core.List.{List, []}
@@ -78,16 +79,19 @@ module _ {ws dag : List ℕ} {used cells : List Bool} (a : Lawful ws used cells 
   is-record = subst (λ xs. same ws xs ≡ true) (a .holds .codes .words) (same-refl ws)
 
   pub gave-gives : (effect : Effect) {xs : List ℕ} {now below : List Bool} (r : Report)
-      → Gives (outcome (machineOf ws) effect) (machineOf ws) xs now below r → HasResult (after ws (ofRecord ws (outcome (machineOf ws) effect))) r xs
+      → Gives (outcome (machineOf ws) effect) (machineOf ws) xs now below r
+      → HasResult (after ws (ofRecord ws (outcome (machineOf ws) effect))) r xs
   unfolding after ofRecord
   gave-gives effect {xs} r g =
       let x = outcome (machineOf ws) effect in
-      subst (λ b. HasResult (after ws (elim b as (λ _. Outcome) [ true ↦ x | false ↦ outcome (machineOf ws) (refuses refusals.Rule) ])) r xs) (sym is-record)
+      subst (λ b. HasResult (after ws (elim b as (λ _. Outcome) [ true ↦ x | false ↦ outcome (machineOf ws) (refuses refusals.Rule) ])) r
+      xs) (sym is-record)
       (record { reply = g .reply; values = g .values; words = g .holds .codes .words ∙ words-after (isRefused (x .reply)) refl })
     where
       words-after : (b : Bool) → isRefused (outcome (machineOf ws) effect .reply) ≡ b
           → wordsOf (outcome (machineOf ws) effect .machine)
-          ≡ elim (isRefused (outcome (machineOf ws) effect .reply)) as (λ _. List ℕ) [ true ↦ ws | false ↦ wordsOf (outcome (machineOf ws) effect .machine) ]
+          ≡ elim (isRefused (outcome (machineOf ws) effect .reply)) as (λ _. List ℕ)
+          [ true ↦ ws | false ↦ wordsOf (outcome (machineOf ws) effect .machine) ]
       words-after true e =
           rw e (ap wordsOf (outcome-refused (machineOf ws) effect e) ∙ sym (a .holds .codes .words))
       words-after false e = rw e
@@ -99,7 +103,8 @@ module _ (dag ws : List ℕ) where
   unfolding stepOn Step.step
   step-rule place b r e f g = gave-rule dag ws _ b r e f g
 
-  pub answer-rule : (handle : ℕ) (v : ℤ) (b : Bool) (r : Report) → b ≡ (isRecord ws and rulesHold paper (dagOf dag) (machineOf ws)) → b ≡ false
+  pub answer-rule : (handle : ℕ) (v : ℤ) (b : Bool) (r : Report) → b ≡ (isRecord ws and rulesHold paper (dagOf dag) (machineOf ws))
+      → b ≡ false
       → r ≡ plain (replies.Refused refusals.Rule) → HasResult (answerOn dag ws handle v) r ws
   unfolding answerOn Answer.answer
   answer-rule handle v b r e f g = gave-rule dag ws _ b r e f g
@@ -111,7 +116,8 @@ module _ (dag ws : List ℕ) where
     step-gives place r g = gave-gives a _ r g
 
     pub answer-gives : (handle : ℕ) (v : ℤ) {xs : List ℕ} {now below : List Bool} (r : Report)
-        → Gives (Answer.answer paper (dagOf dag) (machineOf ws) handle v) (machineOf ws) xs now below r → HasResult (answerOn dag ws handle v) r xs
+        → Gives (Answer.answer paper (dagOf dag) (machineOf ws) handle v) (machineOf ws) xs now below r
+        → HasResult (answerOn dag ws handle v) r xs
     unfolding answerOn Answer.answer
     answer-gives handle v r g = gave-gives a _ r g
 
@@ -148,7 +154,8 @@ not-begun d e =
     ])
     (sym e)
 
-pub start-gave : (dag ws xs : List ℕ) (goal : ℕ) (r : Report) → true ≡ dagHolds (dagOf dag) → goal ≡ getD dag 2 0 → xs ≡ wordsOf (startMachine paper goal)
+pub start-gave : (dag ws xs : List ℕ) (goal : ℕ) (r : Report) → true ≡ dagHolds (dagOf dag) → goal ≡ getD dag 2 0
+    → xs ≡ wordsOf (startMachine paper goal)
     → r ≡ plain replies.Done → HasResult (startOn dag ws) r xs
 unfolding startOn after dagOf isRefused
 start-gave dag ws xs goal r e f g h =
@@ -159,7 +166,8 @@ start-gave dag ws xs goal r e f g h =
       words = g ∙ ap (λ n. wordsOf (startMachine paper n)) f;
     })
 
-pub start-refused : (dag ws : List ℕ) (r : Report) → false ≡ dagHolds (dagOf dag) → r ≡ plain (replies.Refused refusals.Rule) → HasResult (startOn dag ws) r ws
+pub start-refused : (dag ws : List ℕ) (r : Report) → false ≡ dagHolds (dagOf dag) → r ≡ plain (replies.Refused refusals.Rule)
+    → HasResult (startOn dag ws) r ws
 unfolding startOn after isRefused
 start-refused dag ws r e h =
     subst (λ o. HasResult (after ws o) r ws) (sym (not-begun (dagOf dag) e))

@@ -1,4 +1,5 @@
--- What a public call gives, from the words that it is lent, the words of the dag and its arguments alone. Assumes nothing: these are definitions.
+-- What a public call gives, from the words that it is lent, the words of the dag and its arguments alone. Assumes nothing: these are
+-- definitions.
 use mathlib.Core.Path.{_≡_}
 use mathlib.Core.Bool.{true, false}
 use mathlib.Core.List.{List}

@@ -28,7 +28,8 @@ pub fn is_lawful(
     cells: &mut [bool; Machine::CELLS],
 ) -> bool
     ensures { λ r. ⌜ r ≡ (isRecord (now (w .entry)) and rulesHold paper (dagOf (now (dag .entry))) (machineOf (now (w .entry)))) ⌝ }
-    ensures { λ r. ⌜ (r ≡ true → Lawful (now (w .entry)) (now (tokens .exit)) (now (cells .exit)) (now (dag .entry)) (machineOf (now (w .entry)))) ⌝ }
+    ensures { λ r.
+        ⌜ (r ≡ true → Lawful (now (w .entry)) (now (tokens .exit)) (now (cells .exit)) (now (dag .entry)) (machineOf (now (w .entry)))) ⌝ }
 {
     whole(dag);
     in_use(w, tokens, cells);

@@ -33,7 +33,8 @@ module _ {A : Type 0} (f : A → Bool) where
   filter-short [] = omega arith
   filter-short (x ∷ xs) = go (f x) (filter-short xs)
     where
-      go : (b : Bool) → length (filter f xs) ≤ length xs → length {A = A} (elim b [ true ↦ x ∷ filter f xs | false ↦ filter f xs ]) ≤ suc (length xs)
+      go : (b : Bool) → length (filter f xs) ≤ length xs
+          → length {A = A} (elim b [ true ↦ x ∷ filter f xs | false ↦ filter f xs ]) ≤ suc (length xs)
       go true l = omega arith
       go false l = omega arith
 
@@ -62,7 +63,8 @@ module _ {A : Type 0} (f : A → Bool) where
 pub filter-same : {A : Type 0} (f g : A → Bool) (xs : List A) → ((x : A) → f x ≡ g x) → filter f xs ≡ filter g xs
 unfolding filter
 filter-same f g [] e = refl
-filter-same {A} f g (x ∷ xs) e = ap₂ (λ (b : Bool) (ys : List A). elim b as (λ b. List A) [ true ↦ x ∷ ys | false ↦ ys ]) (e x) (filter-same f g xs e)
+filter-same {A} f g (x ∷ xs) e = ap₂ (λ (b : Bool) (ys : List A). elim b as (λ b. List A) [ true ↦ x ∷ ys | false ↦ ys ]) (e x)
+    (filter-same f g xs e)
 
 zero-behind : (n : ℕ) (rest : List ℕ) → replicate n 0 ++ (0 ∷ rest) ≡ 0 ∷ (replicate n 0 ++ rest)
 zero-behind zero rest = refl
@@ -70,7 +72,8 @@ zero-behind (suc n) rest = ap (_∷_ 0) (zero-behind n rest)
 
 replicate-add : (n k : ℕ) → replicate n 0 ++ replicate k 0 ≡ replicate {A = ℕ} (n + k) 0
 replicate-add zero k = let e : k ≡ 0 + k = omega arith in ap (λ j. replicate j 0) e
-replicate-add (suc n) k = let e : suc (n + k) ≡ suc n + k = omega arith in ap (_∷_ 0) (replicate-add n k) ∙ ap (λ j. replicate {A = ℕ} j 0) e
+replicate-add (suc n) k = let e : suc (n + k) ≡ suc n + k = omega arith in
+    ap (_∷_ 0) (replicate-add n k) ∙ ap (λ j. replicate {A = ℕ} j 0) e
 
 module _ (names : List ℕ) (marks : List Bool) where
   abbrev pub front : ℕ → List ℕ
@@ -116,9 +119,11 @@ module _ (names : List ℕ) (marks : List Bool) where
         ∙ ap (λ n. padded 0 (i + 1) (front i) ++ drop n names) (sym (add-one i))
 
     pub turn-drops : getD marks (getD names i 0) false ≡ false → set (turned i) i 0 ≡ turned (i + 1)
-    turn-drops e = cleared ∙ ap (λ xs. padded 0 (i + 1) xs ++ drop (i + 1) names) (sym (filter-drops (λ (p : ℕ). getD marks p false) names i 0 l e))
+    turn-drops e = cleared ∙ ap (λ xs. padded 0 (i + 1) xs ++ drop (i + 1) names)
+        (sym (filter-drops (λ (p : ℕ). getD marks p false) names i 0 l e))
 
-    pub turn-keeps : (n : ℕ) → n ≡ length (front i) → getD marks (getD names i 0) false ≡ true → set (set (turned i) i 0) n (getD names i 0) ≡ turned (i + 1)
+    pub turn-keeps : (n : ℕ) → n ≡ length (front i) → getD marks (getD names i 0) false ≡ true
+        → set (set (turned i) i 0) n (getD names i 0) ≡ turned (i + 1)
     turn-keeps n s e =
         let short = front-short i (omega arith) in
         let long = padded-long (front i) (i + 1) (omega arith) in
@@ -133,7 +138,8 @@ module _ (names : List ℕ) (marks : List Bool) where
     pub count-keeps : (n : ℕ) → n ≡ length (front i) → getD marks (getD names i 0) false ≡ true → n + 1 ≡ length (front (i + 1))
     count-keeps n s e =
         let a = length-append (front i) (getD names i 0 ∷ []) in
-        let b : length (front (i + 1)) ≡ length (front i ++ (getD names i 0 ∷ [])) = ap length (filter-keeps (λ (p : ℕ). getD marks p false) names i 0 l e) in
+        let b : length (front (i + 1)) ≡ length (front i ++ (getD names i 0 ∷ [])) =
+        ap length (filter-keeps (λ (p : ℕ). getD marks p false) names i 0 l e) in
         omega arith
 
 -- where the pass is after i turns, and a turn more
@@ -167,7 +173,8 @@ module _ {names after : List ℕ} {count i n : ℕ} {marks : List Bool} (t : Tur
           array = ex ∙ ap (λ r. set r i 0) (t .array) ∙ turn-drops names marks i inside (mark ∙ f);
         }
 
-    pub turned-keeps : (xs : List ℕ) (k : ℕ) → b ≡ true → xs ≡ set (set after i 0) n (getD after i 0) → k ≡ n + 1 → TurnLeaves names count marks (i + 1) xs k
+    pub turned-keeps : (xs : List ℕ) (k : ℕ) → b ≡ true → xs ≡ set (set after i 0) n (getD after i 0) → k ≡ n + 1
+        → TurnLeaves names count marks (i + 1) xs k
     turned-keeps xs k f ex ek =
         let inside : i < length names = omega arith in
         record {

@@ -7,11 +7,13 @@ ghost use Rattle.job.specs.Test.{padded, without};
 ghost use Rattle.orders.specs.Retaining.{Retained};
 use job::wide::wide;
 
-// An order with the name at an index left out: from the back, each name goes one place to the front. (Most orders are short, and a loop from the front is made a
-// call of `memmove`.)
+// An order with the name at an index left out: from the back, each name goes one place to the front. (Most orders are short, and a loop
+// from the front is made a call of `memmove`.)
 pub fn left_out(names: &mut [u32], count: usize, index: usize)
     requires { ⌜ (index < count) × (count ≤ 64) × (length (now names) ≡ 64) ⌝ }
-    ensures { λ _. ⌜ (drop count (now (names .entry)) ≡ replicate (64 - count) 0 → now (names .exit) ≡ padded 0 64 (without index (take count (now (names .entry))))) ⌝ }
+    ensures { λ _.
+        ⌜ (drop count (now (names .entry)) ≡ replicate (64 - count) 0
+        → now (names .exit) ≡ padded 0 64 (without index (take count (now (names .entry))))) ⌝ }
 {
     let mut carried: u32 = 0;
     let mut i = count;

@@ -94,7 +94,8 @@ module _ (marks : List Bool) where
       go (no x) next = turned n q j f l (omega arith) (omega arith)
 
   finds : (last : ℕ) → marked marks < length marks → Found (length marks) (suc last)
-  finds last h = let x = some-free marks h in go (x .0) (x .1) (free-inside marks (x .0) (x .1)) (decLt last (x .0)) (decLt last (length marks))
+  finds last h = let x = some-free marks h in
+      go (x .0) (x .1) (free-inside marks (x .0) (x .1)) (decLt last (x .0)) (decLt last (length marks))
     where
       go : (j : ℕ) → Free marks j → j < length marks → Dec (last < j) → Dec (last < length marks) → Found (length marks) (suc last)
       go j f k (yes x) d = ahead (length marks) (suc last) j f k (omega arith) (omega arith)

@@ -35,7 +35,8 @@ fn next_of(marks: &[bool], size: usize, last: u32) -> usize
     size
 }
 
-// How far a place is from the first to be looked at, round from the end to 0; one in use is farther than any that is not. No branch: all are computed at once.
+// How far a place is from the first to be looked at, round from the end to 0; one in use is farther than any that is not. No branch: all
+// are computed at once.
 fn distance(used: bool, i: u8, first: u8) -> u8
     requires { ⌜ i < 64 ⌝ }
     requires { ⌜ first < 64 ⌝ }

@@ -1,11 +1,13 @@
--- A choke, step by step: the walk up from a cell by the words' numbers, what becomes of a token, of the table, and of the two orders. Assumes nothing.
+-- A choke, step by step: the walk up from a cell by the words' numbers, what becomes of a token, of the table, and of the two orders.
+-- Assumes nothing.
 use mathlib.Core.Path.{_≡_, refl, sym, ap, ap₂, subst, _∙_}
 use mathlib.Core.Bool.{Bool, true, false}
 use mathlib.Core.List.{List, [], _∷_, _++_, map, append-assoc, append-nil}
 use Prim.Native.Nat.{ℕ, zero, suc, _+_, _-_, _<_, _≤_}
 use native.Mathlib.Numerals.{add-one}
 use native.Mathlib.Omega.{arith}
-use lib.ListN.{length, getD, set, take, drop, replicate, getD-replicate, length-append, List·getD-map, List·getD-append, List·getD-eq-default}
+use lib.ListN.{length, getD, set, take, drop, replicate, getD-replicate, length-append, List·getD-map, List·getD-append}
+use lib.ListN.{List·getD-eq-default}
 use lib.Seq.{take-suc, take-all, append-snoc, length-take-le}
 use lib.Dec.{eqb}
 use Rattle.job.specs.Test.{filter, padded}
@@ -76,7 +78,8 @@ module _ (cs : List Cell) (c n k : ℕ) where
       let s : n ≡ suc (n - 1) = omega arith in
       sym (ap₂ (λ n q. upward (λ b k. eqb c b) cs n q) s (named b z e) ∙ rw (eq-eqb c b f, upward))
 
-  pub walk-on : (b j : ℕ) → 0 < n → 0 < k → b ≡ k - 1 → (c ≡ b → ⊥) → j ≡ placeNumber (cellAt cs b .parent) → walk cs c n k ≡ walk cs c (n - 1) j
+  pub walk-on : (b j : ℕ) → 0 < n → 0 < k → b ≡ k - 1 → (c ≡ b → ⊥) → j ≡ placeNumber (cellAt cs b .parent)
+      → walk cs c n k ≡ walk cs c (n - 1) j
   unfolding upward
   walk-on b j l z e f g =
       let s : n ≡ suc (n - 1) = omega arith in
@@ -90,7 +93,8 @@ module _ (cs : List Cell) (c n k : ℕ) where
       ∙ sym (from-root cs c (n - 1) (placeFrom 0) refl))
 
 -- what becomes of a token
-waits-by : (c k n : ℕ) (s : State) (b : Bool) → k ≡ stateKind s → n ≡ stateNumber s → (b ≡ true → (k ≡ 2) × (c ≡ n)) → (b ≡ false → k ≡ 2 → c ≡ n → ⊥) → waitsAt c s ≡ b
+waits-by : (c k n : ℕ) (s : State) (b : Bool) → k ≡ stateKind s → n ≡ stateNumber s → (b ≡ true → (k ≡ 2) × (c ≡ n))
+    → (b ≡ false → k ≡ 2 → c ≡ n → ⊥) → waitsAt c s ≡ b
 unfolding waitsAt
 waits-by c k n states.Blank true e f yes' no' = let z = yes' refl .0 in absurd (omega arith)
 waits-by c k n states.Blank false e f yes' no' = refl
@@ -111,11 +115,22 @@ module _ (cs : List Cell) (c : ℕ) (t : Token) (b : Bool) (e : b ≡ within cs 
   module _ (k n : ℕ) (ek : k ≡ stateKind (t .state)) (f : b ≡ false) where
     pub choke-wakes : n ≡ stateNumber (t .state) → k ≡ 2 → c ≡ n → withState states.Ready t ≡ chokeToken cs c t
     unfolding chokeToken
-    choke-wakes en g h = rw (sym e ∙ f, waits-by c k n (t .state) true ek en (λ _. (g, h)) (λ z. absurd (Rattle.job.proofs.Test.clash {A = ⊥} refl z)), chokeToken)
+    choke-wakes en g h =
+        rw (
+          sym e ∙ f,
+          waits-by c k n (t .state) true ek en (λ _. (g, h)) (λ z. absurd (Rattle.job.proofs.Test.clash {A = ⊥} refl z)),
+          chokeToken,
+        )
 
     pub choke-passes : n ≡ stateNumber (t .state) → (k ≡ 2 → c ≡ n → ⊥) → t ≡ chokeToken cs c t
     unfolding chokeToken
-    choke-passes en g = rw (sym e ∙ f, waits-by c k n (t .state) false ek en (λ z. absurd (Rattle.job.proofs.Test.clash {A = ⊥} z refl)) (λ _. g), chokeToken)
+    choke-passes en g =
+        rw (
+          sym e ∙ f,
+          waits-by c k n (t .state) false ek en (λ z. absurd (Rattle.job.proofs.Test.clash {A = ⊥} z refl))
+              (λ _. g),
+          chokeToken,
+        )
 
 -- a loop that writes f of each element may stop where the rest is so already
 module _ {A B : Type 0} (f : A → B) (xs : List A) (old : List B) (d : A) (e : B) (s : length old ≡ length xs) where
@@ -180,7 +195,8 @@ module _ (c : ℕ) (m : Machine) where
     unfolding tokenAt
     rows-rest l =
         ap (λ ts. withTables ts (m .cells) m)
-        (mapping-rest ends (m .tokens) (m .tokens) blankToken blankToken refl p (rows p) (record { so-far = refl; size = refl }) (omega arith)
+        (mapping-rest ends (m .tokens) (m .tokens) blankToken blankToken refl p (rows p) (record { so-far = refl; size = refl })
+        (omega arith)
         (λ k from to. let e = b k from (omega arith) in sym (ap ends e ∙ choked-blank (m .cells) c ∙ sym e))
         ∙ sym (rows-all 64 (omega arith)))
 
@@ -224,7 +240,8 @@ waits-back q w m = waits-are (orders-with q w m)
 module _ {ws : List ℕ} (m : Machine) (marks : List Bool) (p : ℕ) (b : Bool) (e : b ≡ getD marks p false) where
   pub joins : b ≡ true → Holds ws (enqueue p m) → Holds ws (withOrders (queueOf m ++ markedOf marks (p ∷ [])) (waitsOf m) m)
   unfolding enqueue
-  joins f h = subst (λ xs. Holds ws (withOrders (queueOf m ++ xs) (waitsOf m) m)) (sym (filter-one (λ (p : ℕ). getD marks p false) p true (sym e ∙ f))) h
+  joins f h = subst (λ xs. Holds ws (withOrders (queueOf m ++ xs) (waitsOf m) m))
+      (sym (filter-one (λ (p : ℕ). getD marks p false) p true (sym e ∙ f))) h
 
   pub stays-out : b ≡ false → Holds ws m → Holds ws (withOrders (queueOf m ++ markedOf marks (p ∷ [])) (waitsOf m) m)
   stays-out f h =
@@ -317,13 +334,15 @@ module _ (m : Machine) (ready waiting : List Bool)
   unfolding tokenAt
   ready-same xs =
       filter-same _ _ xs
-      (λ p. ap (λ r. getD r p false) er ∙ List·getD-map (λ (t : Token). eqb (stateKind (t .state)) 1) (m .tokens) p blankToken ∙ ready-kind _)
+      (λ p. ap (λ r. getD r p false) er ∙ List·getD-map (λ (t : Token). eqb (stateKind (t .state)) 1) (m .tokens) p blankToken
+      ∙ ready-kind _)
 
   waiting-same : (xs : List ℕ) → markedOf waiting xs ≡ filter (λ (p : ℕ). isWaiting (tokenAt (m .tokens) p .state)) xs
   unfolding tokenAt
   waiting-same xs =
       filter-same _ _ xs
-      (λ p. ap (λ r. getD r p false) ew ∙ List·getD-map (λ (t : Token). eqb (stateKind (t .state)) 2) (m .tokens) p blankToken ∙ waiting-kind _)
+      (λ p. ap (λ r. getD r p false) ew ∙ List·getD-map (λ (t : Token). eqb (stateKind (t .state)) 2) (m .tokens) p blankToken
+      ∙ waiting-kind _)
 
   pub reorder-is : third m ready waiting ≡ reordered m
   unfolding withOrders
@@ -336,12 +355,14 @@ module _ (m : Machine) (ready waiting : List Bool)
       ap₂ (λ a b. a ++ markedOf ready b) (queue-back (markedOf ready q) w m) (waits-back (markedOf ready q) w m)
       ∙ sym (filter-append (λ (p : ℕ). getD ready p false) q w)
       ∙ ready-same (q ++ w) in
-      let back : waitsOf two ≡ w = waits-back (queueOf one ++ markedOf ready (waitsOf one)) (waitsOf one) one ∙ waits-back (markedOf ready q) w m in
+      let back : waitsOf two ≡ w = waits-back (queueOf one ++ markedOf ready (waitsOf one)) (waitsOf one) one
+      ∙ waits-back (markedOf ready q) w m in
       ap₂ (λ a b. withOrders a (markedOf waiting b) m)
       (queue-back (queueOf one ++ markedOf ready (waitsOf one)) (waitsOf one) one ∙ front) back
       ∙ ap (λ b. withOrders (filter (λ (p : ℕ). isReady (tokenAt (m .tokens) p .state)) (q ++ w)) b m) (waiting-same w)
 
-pub first-room : {ws : List ℕ} {m : Machine} → Holds ws m → (ready : List Bool) → m .queued + m .waiting ≤ 64 → first m ready .queued + first m ready .waiting ≤ 64
+pub first-room : {ws : List ℕ} {m : Machine} → Holds ws m → (ready : List Bool) → m .queued + m .waiting ≤ 64
+    → first m ready .queued + first m ready .waiting ≤ 64
 unfolding withOrders
 first-room {ws} {m} h ready l =
     let a = filter-short (λ (p : ℕ). getD ready p false) (queueOf m) in
@@ -365,7 +386,8 @@ module _ {ws : List ℕ} (m : Machine) (h : Holds ws m) (place c : ℕ) (f : Cho
   unfolding withOrders
   tokens-there = h .codes .shaped .tokens
 
-  pub choke-is : (v : Held) → reordered (storeCell c (setCell v (cellAt (dequeued m place .cells) c)) (rowsChoked c 64 (dequeued m place))) ≡ afterChoke c v (dequeued m place)
+  pub choke-is : (v : Held) → reordered (storeCell c (setCell v (cellAt (dequeued m place .cells) c)) (rowsChoked c 64 (dequeued m place)))
+      ≡ afterChoke c v (dequeued m place)
   unfolding afterChoke withTables queueOf waitsOf
   choke-is v =
       let t = dequeued m place in
@@ -379,9 +401,12 @@ module _ {ws : List ℕ} (m : Machine) (c p : ℕ) (b : Bool) (e : b ≡ within 
 
   module _ (k : ℕ) (ek : k ≡ stateKind (tokenAt (m .tokens) p .state)) (f : b ≡ false) where
     pub row-wakes : (n : ℕ) → n ≡ stateNumber (tokenAt (m .tokens) p .state) → k ≡ 2 → c ≡ n
-        → Holds ws (put p (withState states.Ready (tokenAt (m .tokens) p)) m) → Holds ws (put p (chokeToken (m .cells) c (tokenAt (m .tokens) p)) m)
+        → Holds ws (put p (withState states.Ready (tokenAt (m .tokens) p)) m)
+        → Holds ws (put p (chokeToken (m .cells) c (tokenAt (m .tokens) p)) m)
     row-wakes n en g s h = subst (λ t. Holds ws (put p t m)) (choke-wakes (m .cells) c (tokenAt (m .tokens) p) b e k n ek f en g s) h
 
-    pub row-passes : (n : ℕ) → n ≡ stateNumber (tokenAt (m .tokens) p .state) → (k ≡ 2 → c ≡ n → ⊥) → Holds ws m → Holds ws (put p (chokeToken (m .cells) c (tokenAt (m .tokens) p)) m)
+    pub row-passes : (n : ℕ) → n ≡ stateNumber (tokenAt (m .tokens) p .state) → (k ≡ 2 → c ≡ n → ⊥) → Holds ws m
+        → Holds ws (put p (chokeToken (m .cells) c (tokenAt (m .tokens) p)) m)
     row-passes n en g h =
-        subst (λ t. Holds ws (put p t m)) (choke-passes (m .cells) c (tokenAt (m .tokens) p) b e k n ek f en g) (subst (Holds ws) (sym (put-self m p)) h)
+        subst (λ t. Holds ws (put p t m)) (choke-passes (m .cells) c (tokenAt (m .tokens) p) b e k n ek f en g)
+        (subst (Holds ws) (sym (put-self m p)) h)

@@ -54,7 +54,9 @@ fn is_within(w: &[u32; Machine::WORDS], c: usize, start: u32) -> bool
 // What becomes of a token.
 fn choke_row(w: &mut [u32; Machine::WORDS], p: usize, c: usize)
     requires { ⌜ p < 64 ⌝ }
-    ensures { λ _. ⌜ ((m : Machine) → Holds (now (w .entry)) m → Holds (now (w .exit)) (put p (chokeToken (m .cells) c (tokenAt (m .tokens) p)) m)) ⌝ }
+    ensures { λ _.
+        ⌜ ((m : Machine) → Holds (now (w .entry)) m → Holds (now (w .exit)) (put p (chokeToken (m .cells) c (tokenAt (m .tokens) p)) m))
+        ⌝ }
 {
     let home = token::cell(w, p);
     if is_within(w, c, home) {
@@ -95,7 +97,9 @@ fn mark_state(w: &[u32; Machine::WORDS], kind: u32, end: usize, marks: &mut [boo
 
 // A name joins the queue if it is marked.
 fn join_marked(w: &mut [u32; Machine::WORDS], name: u32, marks: &[bool; Machine::TOKENS])
-    ensures { λ _. ⌜ ((m : Machine) → Holds (now (w .entry)) m → m .queued < 64 → Holds (now (w .exit)) (withOrders (queueOf m ++ markedOf (now (marks .entry)) (name ∷ [])) (waitsOf m) m)) ⌝ }
+    ensures { λ _.
+        ⌜ ((m : Machine) → Holds (now (w .entry)) m → m .queued < 64
+        → Holds (now (w .exit)) (withOrders (queueOf m ++ markedOf (now (marks .entry)) (name ∷ [])) (waitsOf m) m)) ⌝ }
 {
     if is_marked(marks, name) {
         order::join(w, name);
@@ -104,7 +108,9 @@ fn join_marked(w: &mut [u32; Machine::WORDS], name: u32, marks: &[bool; Machine:
 
 // "Waiters become ready, longest wait first": the marked names of the wait order join the queue.
 fn wake(w: &mut [u32; Machine::WORDS], ready: &[bool; Machine::TOKENS])
-    ensures { λ _. ⌜ ((m : Machine) → Holds (now (w .entry)) m → m .queued + m .waiting ≤ 64 → Holds (now (w .exit)) (withOrders (queueOf m ++ markedOf (now (ready .entry)) (waitsOf m)) (waitsOf m) m)) ⌝ }
+    ensures { λ _.
+        ⌜ ((m : Machine) → Holds (now (w .entry)) m → m .queued + m .waiting ≤ 64
+        → Holds (now (w .exit)) (withOrders (queueOf m ++ markedOf (now (ready .entry)) (waitsOf m)) (waitsOf m) m)) ⌝ }
 {
     let count = wide(order::waiting(w));
     if Machine::TOKENS < count {
@@ -121,7 +127,9 @@ fn wake(w: &mut [u32; Machine::WORDS], ready: &[bool; Machine::TOKENS])
 // The queue keeps the tokens that are still ready and takes those that waited; the wait order keeps those that still wait.
 fn reorder(w: &mut [u32; Machine::WORDS], end: usize)
     requires { ⌜ end ≤ 64 ⌝ }
-    ensures { λ _. ⌜ ((m : Machine) → Holds (now (w .entry)) m → BlankFrom m end → m .queued + m .waiting ≤ 64 → Holds (now (w .exit)) (reordered m)) ⌝ }
+    ensures { λ _.
+        ⌜ ((m : Machine) → Holds (now (w .entry)) m → BlankFrom m end → m .queued + m .waiting ≤ 64
+        → Holds (now (w .exit)) (reordered m)) ⌝ }
 {
     let mut ready = [false; Machine::TOKENS];
     mark_state(w, READY_STATE, end, &mut ready);
@@ -132,7 +140,8 @@ fn reorder(w: &mut [u32; Machine::WORDS], end: usize)
     order::retain_waits(w, &waiting);
 }
 
-// "Set the cell; all tokens of it and of its descendants end; waiters become ready, longest wait first." From the end on no token is in use.
+// "Set the cell; all tokens of it and of its descendants end; waiters become ready, longest wait first." From the end on no token is in
+// use.
 pub fn written(
     w: &mut [u32; Machine::WORDS],
     place: usize,
@@ -142,7 +151,9 @@ pub fn written(
     end: usize,
 )
     requires { ⌜ (c < 32) × (end ≤ 64) ⌝ }
-    ensures { λ _. ⌜ ((m : Machine) (v : Held) → Holds (now (w .entry)) m → BlankFrom m end → ChokeFacts m place → heldKind v ≡ kind → heldNumber v ≡ number → Holds (now (w .exit)) (afterChoke c v (dequeued m place))) ⌝ }
+    ensures { λ _.
+        ⌜ ((m : Machine) (v : Held) → Holds (now (w .entry)) m → BlankFrom m end → ChokeFacts m place → heldKind v ≡ kind
+        → heldNumber v ≡ number → Holds (now (w .exit)) (afterChoke c v (dequeued m place))) ⌝ }
 {
     order::leave(w, place);
     choke_rows(w, c, end);

@@ -30,7 +30,8 @@ module _ {A : Type 0} (link : A → Place) (blank : A) (xs : List A) where
   walk-met zero i marks e = refl
   walk-met (suc n) i marks e = rw (e, markChain)
 
-  walk-goes : (n i : ℕ) (marks : List Bool) → Free marks i → walk (suc n) (places.At i) marks ≡ walk n (link (getD xs i blank)) (set marks i true)
+  walk-goes : (n i : ℕ) (marks : List Bool) → Free marks i
+      → walk (suc n) (places.At i) marks ≡ walk n (link (getD xs i blank)) (set marks i true)
   unfolding markChain
   walk-goes n i marks e = rw (e, markChain)
 

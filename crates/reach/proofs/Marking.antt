@@ -56,7 +56,8 @@ allMarked m qs marks = markFromEach (λ (t : Token). t .caller) blankToken (m .t
 abbrev pub callersLeft : Machine → ℕ → List Bool → List Bool
 callersLeft m p marks = allMarked m (activePlaces (m .cells) p (drop p (m .tokens))) marks
 
-pub callers-first : (m : Machine) (marks : List Bool) → length (m .tokens) ≡ 64 → marks ≡ replicate 64 false → tokensUsed m ≡ callersLeft m 0 marks
+pub callers-first : (m : Machine) (marks : List Bool) → length (m .tokens) ≡ 64 → marks ≡ replicate 64 false
+    → tokensUsed m ≡ callersLeft m 0 marks
 unfolding usedTokens reached
 callers-first m marks l e = ap (callersLeft m 0) (ap (λ n. replicate n false) l ∙ sym e)
 
@@ -85,7 +86,8 @@ callers-end m marks l =
     ap (λ ts. allMarked m (activePlaces (m .cells) 64 ts) marks) (drop-of-length-le (m .tokens) z)
 
 -- a blank token is not active
-pub callers-last : (m : Machine) (p : ℕ) (marks : List Bool) → length (m .tokens) ≡ 64 → p ≤ 64 → BlankFrom m p → callersLeft m p marks ≡ marks
+pub callers-last : (m : Machine) (p : ℕ) (marks : List Bool) → length (m .tokens) ≡ 64 → p ≤ 64 → BlankFrom m p
+    → callersLeft m p marks ≡ marks
 unfolding isActive isLive
 callers-last m p marks l h blank =
     steady (λ i. callersLeft m i marks) p 64 h
@@ -119,11 +121,13 @@ module _ (bs : List Bind) (x k : ℕ) (e : k ≡ slotKind (slotAt bs x)) where
 
 -- one chain of cells more
 module _ (m : Machine) (l : length (m .cells) ≡ 32) where
-  chain-first : (n : ℕ) (q : Place) (qs : List Place) (marks more : List Bool) → n ≡ placeNumber q → more ≡ parentsMarked m (placeFrom n) marks
+  chain-first : (n : ℕ) (q : Place) (qs : List Place) (marks more : List Bool) → n ≡ placeNumber q
+      → more ≡ parentsMarked m (placeFrom n) marks
       → cellsMarked m (q ∷ qs) marks ≡ cellsMarked m qs more
   unfolding markFromEach
   chain-first n q qs marks more e f =
-      ap (cellsMarked m qs) (sym (f ∙ ap₂ (λ k r. markChain (λ (c : Cell). c .parent) blankCell (m .cells) k r marks) (sym l) (place-from n q e)))
+      ap (cellsMarked m qs)
+      (sym (f ∙ ap₂ (λ k r. markChain (λ (c : Cell). c .parent) blankCell (m .cells) k r marks) (sym l) (place-from n q e)))
 
   -- a token's own cell, and then its bindings
   pub named-first : (t : Token) (n : ℕ) (marks more : List Bool) → n ≡ placeNumber (t .cell) → more ≡ parentsMarked m (placeFrom n) marks
@@ -157,7 +161,8 @@ pub cells-next : (m : Machine) (used : List Bool) (p : ℕ) (marks : List Bool) 
     → cellsLeft m used p marks ≡ cellsLeft m used (p + 1) (heldMarked m p (getD used p false) marks)
 unfolding cellsOfMarked heldMarked tokenAt
 cells-next m used p marks s l h =
-    ap₂ (λ us ts. cellsMarked m (cellsOfMarked us ts) marks) (drop-next used p false (omega arith)) (drop-next (m .tokens) p blankToken (omega arith))
+    ap₂ (λ us ts. cellsMarked m (cellsOfMarked us ts) marks) (drop-next used p false (omega arith))
+    (drop-next (m .tokens) p blankToken (omega arith))
     ∙ go (getD used p false)
   where
     rest : List Place
@@ -180,16 +185,19 @@ blank-names : (m : Machine) (marks : List Bool) → cellsMarked m (cellsOf blank
 unfolding cellsOf boundCell
 blank-names m marks = chains-nowhere (λ (c : Cell). c .parent) blankCell (m .cells) 9 marks
 
-held-blank : (m : Machine) (p : ℕ) (used : Bool) (marks : List Bool) → tokenAt (m .tokens) p ≡ blankToken → heldMarked m p used marks ≡ marks
+held-blank : (m : Machine) (p : ℕ) (used : Bool) (marks : List Bool) → tokenAt (m .tokens) p ≡ blankToken
+    → heldMarked m p used marks ≡ marks
 unfolding heldMarked
 held-blank m p true marks e = ap (λ t. cellsMarked m (cellsOf t) marks) e ∙ blank-names m marks
 held-blank m p false marks e = refl
 
-pub cells-last : (m : Machine) (used : List Bool) (p : ℕ) (marks : List Bool) → length used ≡ 64 → length (m .tokens) ≡ 64 → p ≤ 64 → BlankFrom m p
+pub cells-last : (m : Machine) (used : List Bool) (p : ℕ) (marks : List Bool) → length used ≡ 64 → length (m .tokens) ≡ 64 → p ≤ 64
+    → BlankFrom m p
     → cellsLeft m used p marks ≡ marks
 cells-last m used p marks s l h blank =
     steady (λ i. cellsLeft m used i marks) p 64 h
-    (λ i from to. cells-next m used i marks s l to ∙ ap (cellsLeft m used (i + 1)) (held-blank m i (getD used i false) marks (blank i from to)))
+    (λ i from to. cells-next m used i marks s l to
+    ∙ ap (cellsLeft m used (i + 1)) (held-blank m i (getD used i false) marks (blank i from to)))
     ∙ cells-end m used marks l
 
 -- the loop that looks for a mark: where none was found before i and there is none at i, there is none before i + 1

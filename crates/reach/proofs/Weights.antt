@@ -31,8 +31,10 @@ unmarked-light k number h marks l e i a b = light 8 k marks l (subst (λ (n : �
 
 -- eight marks, one by one
 pub eight-weight : (marks : List Bool) → 8 ≤ length marks
-    → boolByte (getD marks 0 false) + 256 * (boolByte (getD marks 1 false) + 256 * (boolByte (getD marks 2 false) + 256 * (boolByte (getD marks 3 false)
-    + 256 * (boolByte (getD marks 4 false) + 256 * (boolByte (getD marks 5 false) + 256 * (boolByte (getD marks 6 false) + 256 * boolByte (getD marks 7 false)))))))
+    → boolByte (getD marks 0 false) + 256 *
+    (boolByte (getD marks 1 false) + 256 * (boolByte (getD marks 2 false) + 256 * (boolByte (getD marks 3 false)
+    + 256 * (boolByte (getD marks 4 false) + 256 *
+    (boolByte (getD marks 5 false) + 256 * (boolByte (getD marks 6 false) + 256 * boolByte (getD marks 7 false)))))))
     ≡ weight 8 marks
 eight-weight [] l = absurd (omega arith)
 eight-weight (a ∷ []) l = absurd (omega arith)

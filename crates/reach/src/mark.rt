@@ -27,7 +27,8 @@ use record::token::state;
 // Marks the chain of callers from a place, until it ends or comes to a marked place.
 fn mark_callers(w: &[u32; Machine::WORDS], start: usize, marks: &mut [bool])
     requires { ⌜ length (now marks) ≡ 64 ⌝ }
-    ensures { λ _. ⌜ ((m : Machine) → Codes (now (w .entry)) m → now (marks .exit) ≡ callersMarked m (placeFrom start) (now (marks .entry))) ⌝ }
+    ensures { λ _.
+        ⌜ ((m : Machine) → Codes (now (w .entry)) m → now (marks .exit) ≡ callersMarked m (placeFrom start) (now (marks .entry))) ⌝ }
 {
     let mut q = start;
     let mut n: usize = 0;
@@ -51,7 +52,8 @@ fn mark_callers(w: &[u32; Machine::WORDS], start: usize, marks: &mut [bool])
 // The same for cells and their parents.
 fn mark_parents(w: &[u32; Machine::WORDS], start: usize, marks: &mut [bool])
     requires { ⌜ length (now marks) ≡ 32 ⌝ }
-    ensures { λ _. ⌜ ((m : Machine) → Codes (now (w .entry)) m → now (marks .exit) ≡ parentsMarked m (placeFrom start) (now (marks .entry))) ⌝ }
+    ensures { λ _.
+        ⌜ ((m : Machine) → Codes (now (w .entry)) m → now (marks .exit) ≡ parentsMarked m (placeFrom start) (now (marks .entry))) ⌝ }
 {
     let mut q = start;
     let mut n: usize = 0;
@@ -100,7 +102,8 @@ pub fn mark_active(w: &[u32; Machine::WORDS], p: usize, marks: &mut [bool])
 // The number of the cell that a binding names.
 fn bound(w: &[u32; Machine::WORDS], p: usize, x: usize) -> usize
     requires { ⌜ (p < 64) × (x < 8) ⌝ }
-    ensures { λ r. ⌜ ((m : Machine) → Codes (now (w .entry)) m → r ≡ placeNumber (boundCell (getD (tokenAt (m .tokens) p .binds) x empty))) ⌝ }
+    ensures { λ r.
+        ⌜ ((m : Machine) → Codes (now (w .entry)) m → r ≡ placeNumber (boundCell (getD (tokenAt (m .tokens) p .binds) x empty))) ⌝ }
 {
     if bind_kind(w, p, x) != CELL_SLOT {
         return 0;
@@ -111,7 +114,9 @@ fn bound(w: &[u32; Machine::WORDS], p: usize, x: usize) -> usize
 // Marks what a token's own cell and its bindings reach.
 fn mark_named(w: &[u32; Machine::WORDS], p: usize, marks: &mut [bool])
     requires { ⌜ (p < 64) × (length (now marks) ≡ 32) ⌝ }
-    ensures { λ _. ⌜ ((m : Machine) → Codes (now (w .entry)) m → now (marks .exit) ≡ cellsMarked m (cellsOf (tokenAt (m .tokens) p)) (now (marks .entry))) ⌝ }
+    ensures { λ _.
+        ⌜ ((m : Machine) → Codes (now (w .entry)) m
+        → now (marks .exit) ≡ cellsMarked m (cellsOf (tokenAt (m .tokens) p)) (now (marks .entry))) ⌝ }
 {
     mark_parents(w, wide(cell(w, p)), marks);
     let mut x: usize = 0;

@@ -113,7 +113,9 @@ pub fn mark_tokens(w: &[u32; Machine::WORDS], marks: &mut [bool], end: usize)
 // The cells that these tokens reach.
 pub fn mark_cells(w: &[u32; Machine::WORDS], tokens: &[bool], marks: &mut [bool], end: usize)
     requires { ⌜ (length (now tokens) ≡ 64) × (length (now marks) ≡ 32) × (end ≤ 64) ⌝ }
-    ensures { λ _. ⌜ ((m : Machine) → Codes (now (w .entry)) m → BlankFrom m end → now (marks .exit) ≡ usedCells (now (tokens .entry)) (m .tokens) (m .cells)) ⌝ }
+    ensures { λ _.
+        ⌜ ((m : Machine) → Codes (now (w .entry)) m → BlankFrom m end
+        → now (marks .exit) ≡ usedCells (now (tokens .entry)) (m .tokens) (m .cells)) ⌝ }
 {
     clear(marks, Machine::CELLS);
     let mut p: usize = 0;

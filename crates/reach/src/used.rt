@@ -13,7 +13,8 @@ pub fn in_use(
     tokens: &mut [bool; Machine::TOKENS],
     cells: &mut [bool; Machine::CELLS],
 )
-    ensures { λ _. ⌜ ((m : Machine) → Codes (now (w .entry)) m → (now (tokens .exit) ≡ tokensUsed m) × (now (cells .exit) ≡ cellsUsed m)) ⌝ }
+    ensures { λ _.
+        ⌜ ((m : Machine) → Codes (now (w .entry)) m → (now (tokens .exit) ≡ tokensUsed m) × (now (cells .exit) ≡ cellsUsed m)) ⌝ }
 {
     mark_tokens(w, tokens, Machine::TOKENS);
     mark_cells(w, tokens, cells, Machine::TOKENS);

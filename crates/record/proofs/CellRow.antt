@@ -62,7 +62,8 @@ module _ {ws : List ℕ} (m : Machine) (k : Cell) (c : ℕ) (h : Holds ws (store
       (tables-hold h (m .tokens) (set (set (m .cells) c k) c x) e (shaped h .tokens)
       (length-set (set (m .cells) c k) c x ∙ (length-set (m .cells) c k ∙ cells-long)) (shaped h .binds))
 
-  pub parent-put : (n : ℕ) (q : Place) → placeNumber q ≡ n → Holds (set ws (1536 + 4 * c) n) (storeCell c (record { parent = q; value = k .value }) m)
+  pub parent-put : (n : ℕ) (q : Place) → placeNumber q ≡ n
+      → Holds (set ws (1536 + 4 * c) n) (storeCell c (record { parent = q; value = k .value }) m)
   unfolding withTables wordsOf countWords cellRow
   parent-put n q e =
       let z : 1536 + 4 * c ≡ 1536 + 4 * c + 0 = omega arith in
@@ -77,7 +78,8 @@ module _ {ws : List ℕ} (m : Machine) (k : Cell) (c : ℕ) (h : Holds ws (store
   value-put i n v e f =
       becomes (setCell v k)
       (ap (λ r. set (set r (1536 + 4 * c + 1) i) (1536 + 4 * c + 2) n) (h .codes .words)
-      ∙ parts-laws.cells-set2 _ _ _ _ _ (shaped h .tokens) (shaped h .cells) (shaped h .queue) (shaped h .waits) c 1 2 i n (setCell v k) l (omega arith)
+      ∙ parts-laws.cells-set2 _ _ _ _ _ (shaped h .tokens) (shaped h .cells) (shaped h .queue) (shaped h .waits) c 1 2 i n (setCell v k) l
+      (omega arith)
       (omega arith) (ap (λ x. set (set (cellRow x) 1 i) 2 n) here ∙ rw (← e, ← f)))
 
 module _ {ws : List ℕ} {m : Machine} (h : Holds ws m) (c : ℕ) (l : c < 32) where
@@ -93,4 +95,5 @@ module _ {ws : List ℕ} {m : Machine} (h : Holds ws m) (c : ℕ) (l : c < 32) w
 
   pub unset-put : (n : ℕ) (q : Place) → placeNumber q ≡ n
       → Holds (set (set (set ws (1536 + 4 * c) n) (1536 + 4 * c + 1) 0) (1536 + 4 * c + 2) 0) (storeCell c (unsetCell q) m)
-  unset-put n q e = value-put m (record { parent = q; value = there .value }) c (parent-put m there c stays l n q e) l 0 0 helds.Nothing refl refl
+  unset-put n q e = value-put m (record { parent = q; value = there .value }) c (parent-put m there c stays l n q e) l 0 0 helds.Nothing
+      refl refl

@@ -41,10 +41,13 @@ module _ {ws : List ℕ} {m : Machine} (h : Codes ws m) (from place i : ℕ) (f 
   row = rowOf (tokenAt (m .tokens) from)
 
   read : Dec (from < place) → getD (paste ws (24 * place) row i) (24 * from + i) 0 ≡ getD ws (24 * from + i) 0
-  read (yes b) = paste-before ws (24 * place) row i (24 * from + i) (omega (arith, words-long h)) (omega (arith, row-wide (tokenAt (m .tokens) from))) (omega arith)
-  read (no b) = paste-behind ws (24 * place) row i (24 * from + i) (omega (arith, words-long h)) (omega (arith, row-wide (tokenAt (m .tokens) from))) (omega arith)
+  read (yes b) = paste-before ws (24 * place) row i (24 * from + i) (omega (arith, words-long h))
+      (omega (arith, row-wide (tokenAt (m .tokens) from))) (omega arith)
+  read (no b) = paste-behind ws (24 * place) row i (24 * from + i) (omega (arith, words-long h))
+      (omega (arith, row-wide (tokenAt (m .tokens) from))) (omega arith)
 
-  pub copy-on : (w : List ℕ) → w ≡ paste ws (24 * place) row i → set w (24 * place + i) (getD w (24 * from + i) 0) ≡ paste ws (24 * place) row (i + 1)
+  pub copy-on : (w : List ℕ) → w ≡ paste ws (24 * place) row i
+      → set w (24 * place + i) (getD w (24 * from + i) 0) ≡ paste ws (24 * place) row (i + 1)
   copy-on w e =
       ap₂ (λ r v. set r (24 * place + i) v) e
       (ap (λ r. getD r (24 * from + i) 0) e ∙ read (decLt from place) ∙ token-word h from f i s)

@@ -42,7 +42,8 @@ module _ {ws : List ℕ} {m : Machine} (h : Codes ws m) where
   unfolding countWords wordsOf
   words-long =
       ap length (h .words)
-      ∙ parts-laws.parts-long (m .tokens) (m .cells) (m .queue) (m .waits) (countWords m) (h .shaped .tokens) (h .shaped .cells) (h .shaped .queue)
+      ∙ parts-laws.parts-long (m .tokens) (m .cells) (m .queue) (m .waits) (countWords m) (h .shaped .tokens) (h .shaped .cells)
+      (h .shaped .queue)
       (h .shaped .waits)
 
 module _ {ws : List ℕ} {m : Machine} (h : Holds ws m) where

@@ -19,7 +19,8 @@ pub cell-wide : (c : Cell) → length (cellRow c) ≡ 4
 unfolding cellRow
 cell-wide c = refl
 
-module _ (ts : List Token) (cs : List Cell) (q w k : List ℕ) (tl : length ts ≡ 64) (cl : length cs ≡ 32) (ql : length q ≡ 64) (wl : length w ≡ 64) where
+module _ (ts : List Token) (cs : List Cell) (q w k : List ℕ) (tl : length ts ≡ 64) (cl : length cs ≡ 32) (ql : length q ≡ 64)
+    (wl : length w ≡ 64) where
   tokens-long : length (tableWords rowOf ts) ≡ 1536
   tokens-long = rows-length rowOf 24 row-wide ts ∙ ap (λ n. 24 * n) tl
 
@@ -60,7 +61,8 @@ module _ (ts : List Token) (cs : List Cell) (q w k : List ℕ) (tl : length ts �
         ∙ rows-get rowOf 24 row-wide blankToken ts p j token-there s
 
     pub tokens-set :
-        (v : ℕ) (t : Token) → set (rowOf (getD ts p blankToken)) j v ≡ rowOf t → set (parts ts cs q w k) (24 * p + j) v ≡ parts (set ts p t) cs q w k
+        (v : ℕ) (t : Token) → set (rowOf (getD ts p blankToken)) j v ≡ rowOf t
+        → set (parts ts cs q w k) (24 * p + j) v ≡ parts (set ts p t) cs q w k
     unfolding parts
     tokens-set v t e =
         set-append-left (tableWords rowOf ts) _ (24 * p + j) v (omega (arith, tokens-long))
@@ -93,7 +95,8 @@ module _ (ts : List Token) (cs : List Cell) (q w k : List ℕ) (tl : length ts �
         ∙ rows-get cellRow 4 cell-wide blankCell cs c j cell-there s
 
     pub cells-set :
-        (v : ℕ) (x : Cell) → set (cellRow (getD cs c blankCell)) j v ≡ cellRow x → set (parts ts cs q w k) (1536 + 4 * c + j) v ≡ parts ts (set cs c x) q w k
+        (v : ℕ) (x : Cell) → set (cellRow (getD cs c blankCell)) j v ≡ cellRow x
+        → set (parts ts cs q w k) (1536 + 4 * c + j) v ≡ parts ts (set cs c x) q w k
     unfolding parts
     cells-set v x e =
         ap (λ i. set (parts ts cs q w k) i v) cell-index
@@ -158,8 +161,10 @@ module _ (ts : List Token) (cs : List Cell) (q w k : List ℕ) (tl : length ts �
   unfolding parts
   tokens-set2 p j i u v t l a b e =
       ap (λ r. set r (24 * p + i) v) (set-append-left (tableWords rowOf ts) _ (24 * p + j) u (omega (arith, tokens-long)))
-      ∙ set-append-left (set (tableWords rowOf ts) (24 * p + j) u) _ (24 * p + i) v (omega (arith, tokens-long, length-set (tableWords rowOf ts) (24 * p + j) u))
-      ∙ ap (λ r. r ++ (tableWords cellRow cs ++ (q ++ (w ++ k)))) (rows-set2 rowOf 24 row-wide blankToken ts p j i u v t (omega (arith, tl)) a b e)
+      ∙ set-append-left (set (tableWords rowOf ts) (24 * p + j) u) _ (24 * p + i) v
+      (omega (arith, tokens-long, length-set (tableWords rowOf ts) (24 * p + j) u))
+      ∙ ap (λ r. r ++ (tableWords cellRow cs ++ (q ++ (w ++ k))))
+      (rows-set2 rowOf 24 row-wide blankToken ts p j i u v t (omega (arith, tl)) a b e)
 
   pub cells-set2 :
       (c j i u v : ℕ) (x : Cell)
@@ -193,7 +198,8 @@ module _ (ts : List Token) (cs : List Cell) (q w k : List ℕ) (tl : length ts �
 
   pub waits-get : (i : ℕ) → i < 64 → getD (parts ts cs q w k) (1728 + i) 0 ≡ getD w i 0
   waits-get i l =
-      ap (λ r. getD r (1728 + i) 0) ahead-parts ∙ get-behind (front ++ q) _ 1728 ahead-long i 0 ∙ List·getD-append w _ 0 i (omega (arith, wl))
+      ap (λ r. getD r (1728 + i) 0) ahead-parts ∙ get-behind (front ++ q) _ 1728 ahead-long i 0
+      ∙ List·getD-append w _ 0 i (omega (arith, wl))
 
   pub waits-set : (i v : ℕ) → i < 64 → set (parts ts cs q w k) (1728 + i) v ≡ parts ts cs q (set w i v) k
   waits-set i v l =

@@ -145,7 +145,8 @@ module _ {ws : List ℕ} {m : Machine} (h : Holds ws m) where
         let names : take count (take 64 (drop 1664 ws)) ≡ queueOf m = ap₂ take e queue-part in
         let zeros = ap (drop count) queue-part ∙ rest-zero (m .queue) (queueOf m) count queue-is (e ∙ h .ordered .queued) in
         queue-put (markedOf marks (queueOf m)) x n (kept-few marks (queueOf m) (queue-fits h))
-        (r .array zeros ∙ ap (λ xs. padded 0 64 (markedOf marks xs)) names) (r .number ∙ ap (λ xs. length (markedOf marks xs)) names) (queue-lent x)
+        (r .array zeros ∙ ap (λ xs. padded 0 64 (markedOf marks xs)) names) (r .number ∙ ap (λ xs. length (markedOf marks xs)) names)
+        (queue-lent x)
 
     pub retain-waits-put : count ≡ m .waiting → Retained (take 64 (drop 1728 ws)) count marks x n
         → Holds (set (take 1728 ws ++ (x ++ drop 64 (drop 1728 ws))) 1793 n) (withOrders (queueOf m) (markedOf marks (waitsOf m)) m)
@@ -154,4 +155,5 @@ module _ {ws : List ℕ} {m : Machine} (h : Holds ws m) where
         let names : take count (take 64 (drop 1728 ws)) ≡ waitsOf m = ap₂ take e waits-part in
         let zeros = ap (drop count) waits-part ∙ rest-zero (m .waits) (waitsOf m) count waits-are (e ∙ h .ordered .waiting) in
         waits-put (markedOf marks (waitsOf m)) x n (kept-few marks (waitsOf m) (waits-fit h))
-        (r .array zeros ∙ ap (λ xs. padded 0 64 (markedOf marks xs)) names) (r .number ∙ ap (λ xs. length (markedOf marks xs)) names) (waits-lent x)
+        (r .array zeros ∙ ap (λ xs. padded 0 64 (markedOf marks xs)) names) (r .number ∙ ap (λ xs. length (markedOf marks xs)) names)
+        (waits-lent x)

@@ -1,4 +1,5 @@
--- What makes words hold a record after a change: the words are those of the changed record, and its lengths and orders are as before. Assumes nothing.
+-- What makes words hold a record after a change: the words are those of the changed record, and its lengths and orders are as before.
+-- Assumes nothing.
 use mathlib.Core.Path.{_≡_, sym, ap, ap₂, _∙_}
 use mathlib.Core.List.{List, [], _∷_}
 use Prim.Native.Nat.{ℕ, _-_, _<_, _≤_}

@@ -15,7 +15,8 @@ use Rattle.model.specs.declared.token.State.{State}
 use Rattle.model.specs.declared.token.Token.{Token}
 use Rattle.model.specs.declared.record.Machine.{Machine}
 use Rattle.record.specs.Fields.{withCaller, withCell}
-use Rattle.record.specs.Words.{rowOf, wordsOf, countWords, parts, slotKind, slotNumber, stateKind, stateNumber, placeNumber, heldKind, heldNumber}
+use Rattle.record.specs.Words.{rowOf, wordsOf, countWords, parts, slotKind, slotNumber, stateKind, stateNumber, placeNumber, heldKind}
+use Rattle.record.specs.Words.{heldNumber}
 use Rattle.record.specs.Holds.{Codes, Holds}
 use Rattle.record.proofs.Parts as parts-laws
 use Rattle.record.proofs.Shape.{shaped, tables-hold, binds-after}
@@ -48,8 +49,17 @@ slot-number t (suc (suc (suc (suc (suc (suc (suc (suc x)))))))) l = absurd (omeg
 -- a binding is written in the row
 bound-in :
     (t : Token) (bs : List Bind) (x : ℕ) (s : Slot) → x < 8 → length bs ≡ 8
-    → set (set (rowOf (record { node = t .node; binds = bs; value = t .value; caller = t .caller; cell = t .cell; state = t .state })) (8 + 2 * x) (slotKind s)) (9 + 2 * x) (slotNumber s)
-    ≡ rowOf (record { node = t .node; binds = set bs x (record { slot = s }); value = t .value; caller = t .caller; cell = t .cell; state = t .state })
+    → set (set (rowOf (record { node = t .node; binds = bs; value = t .value; caller = t .caller; cell = t .cell; state = t .state }))
+    (8 + 2 * x) (slotKind s)) (9 + 2 * x) (slotNumber s)
+    ≡ rowOf (record {
+      node = t .node;
+      binds = set bs x (record { slot = s });
+      value = t .value;
+      caller = t .caller;
+      cell = t .cell;
+      state =
+          t .state;
+    })
 unfolding rowOf slotAt
 bound-in t (a ∷ b ∷ c ∷ d ∷ e ∷ f ∷ g ∷ h ∷ []) zero s i l = refl
 bound-in t (a ∷ b ∷ c ∷ d ∷ e ∷ f ∷ g ∷ h ∷ []) (suc zero) s i l = refl
@@ -212,5 +222,6 @@ module _ {ws : List ℕ} (m : Machine) (t : Token) (p : ℕ) (h : Holds ws (put 
       let a : 24 * p + 8 + 2 * x ≡ 24 * p + (8 + 2 * x) = omega arith in
       let b : 24 * p + 9 + 2 * x ≡ 24 * p + (9 + 2 * x) = omega arith in
       rw (a, b)
-      (words-put (8 + 2 * x) (9 + 2 * x) k n (withBinding x s t) (omega arith) (omega arith) (length-set (t .binds) x (record { slot = s }) ∙ own-binds)
+      (words-put (8 + 2 * x) (9 + 2 * x) k n (withBinding x s t) (omega arith) (omega arith)
+      (length-set (t .binds) x (record { slot = s }) ∙ own-binds)
       (bound t x k n s i own-binds e f))

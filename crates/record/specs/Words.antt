@@ -10,9 +10,10 @@
 -- | 1794         | outside calls made                                                                       |
 -- | 1795, 1796   | the place last given to a token, and to a cell                                           |
 --
--- A token: state (0 blank, 1 ready, 2 waiting, 3 called out, 4 frame); the cell at which it waits, or the handle of its open call, else 0; node; caller
--- and cell (place + 1, 0 for none); 1 if it has a value, else 0; the value; 0; and for each of eight variables what it is bound to (0 empty, 1 value,
--- 2 cell) and the value or the cell's place. A cell: parent (place + 1, 0 for none); 1 if it is set, else 0; its value; 0. A value is its 32 bits.
+-- A token: state (0 blank, 1 ready, 2 waiting, 3 called out, 4 frame); the cell at which it waits, or the handle of its open call, else 0;
+-- node; caller and cell (place + 1, 0 for none); 1 if it has a value, else 0; the value; 0; and for each of eight variables what it is
+-- bound to (0 empty, 1 value, 2 cell) and the value or the cell's place. A cell: parent (place + 1, 0 for none); 1 if it is set, else 0;
+-- its value; 0. A value is its 32 bits.
 use mathlib.Core.List.{List, [], _∷_, _++_}
 use Prim.Native.Nat.{ℕ, _+_}
 use Rattle.job.specs.Number.{unsigned}

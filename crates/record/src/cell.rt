@@ -38,7 +38,9 @@ pub fn value(w: &[u32; Machine::WORDS], c: usize) -> u32
 // A cell without a value, below the parent that has this number. With 0, for nowhere, it is a blank cell.
 pub fn put_unset(w: &mut [u32; Machine::WORDS], c: usize, parent: u32)
     requires { ⌜ c < 32 ⌝ }
-    ensures { λ _. ⌜ ((m : Machine) (q : Place) → Holds (now (w .entry)) m → placeNumber q ≡ parent → Holds (now (w .exit)) (storeCell c (unsetCell q) m)) ⌝ }
+    ensures { λ _.
+        ⌜ ((m : Machine) (q : Place) → Holds (now (w .entry)) m → placeNumber q ≡ parent
+        → Holds (now (w .exit)) (storeCell c (unsetCell q) m)) ⌝ }
 {
     w[CELLS_START + CELL_WORDS * c] = parent;
     w[CELLS_START + CELL_WORDS * c + CELL_VALUE_KIND] = 0;
@@ -48,7 +50,9 @@ pub fn put_unset(w: &mut [u32; Machine::WORDS], c: usize, parent: u32)
 // "Set the cell", to the value whose words these are.
 pub fn set_value(w: &mut [u32; Machine::WORDS], c: usize, kind: u32, number: u32)
     requires { ⌜ c < 32 ⌝ }
-    ensures { λ _. ⌜ ((m : Machine) (v : Held) → Holds (now (w .entry)) m → heldKind v ≡ kind → heldNumber v ≡ number → Holds (now (w .exit)) (storeCell c (setCell v (cellAt (m .cells) c)) m)) ⌝ }
+    ensures { λ _.
+        ⌜ ((m : Machine) (v : Held) → Holds (now (w .entry)) m → heldKind v ≡ kind → heldNumber v ≡ number
+        → Holds (now (w .exit)) (storeCell c (setCell v (cellAt (m .cells) c)) m)) ⌝ }
 {
     w[CELLS_START + CELL_WORDS * c + CELL_VALUE_KIND] = kind;
     w[CELLS_START + CELL_WORDS * c + CELL_VALUE] = number;

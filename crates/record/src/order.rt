@@ -90,7 +90,9 @@ pub fn leave(w: &mut [u32; Machine::WORDS], index: usize)
 
 fn retain_queue_slice(w: &mut [u32], keep: &[bool])
     requires { ⌜ length (now w) ≡ 1797 ⌝ }
-    ensures { λ _. ⌜ ((m : Machine) → Holds (now (w .entry)) m → Holds (now (w .exit)) (withOrders (filter (λ (p : ℕ). getD (now (keep .entry)) p false) (queueOf m)) (waitsOf m) m)) ⌝ }
+    ensures { λ _.
+        ⌜ ((m : Machine) → Holds (now (w .entry)) m
+        → Holds (now (w .exit)) (withOrders (filter (λ (p : ℕ). getD (now (keep .entry)) p false) (queueOf m)) (waitsOf m) m)) ⌝ }
 {
     let count = wide(w[QUEUE_LENGTH]);
     if count <= Machine::TOKENS {
@@ -101,14 +103,18 @@ fn retain_queue_slice(w: &mut [u32], keep: &[bool])
 
 // The queue keeps the names that are marked.
 pub fn retain_queue(w: &mut [u32; Machine::WORDS], keep: &[bool; Machine::TOKENS])
-    ensures { λ _. ⌜ ((m : Machine) → Holds (now (w .entry)) m → Holds (now (w .exit)) (withOrders (filter (λ (p : ℕ). getD (now (keep .entry)) p false) (queueOf m)) (waitsOf m) m)) ⌝ }
+    ensures { λ _.
+        ⌜ ((m : Machine) → Holds (now (w .entry)) m
+        → Holds (now (w .exit)) (withOrders (filter (λ (p : ℕ). getD (now (keep .entry)) p false) (queueOf m)) (waitsOf m) m)) ⌝ }
 {
     retain_queue_slice(w, keep);
 }
 
 fn retain_waits_slice(w: &mut [u32], keep: &[bool])
     requires { ⌜ length (now w) ≡ 1797 ⌝ }
-    ensures { λ _. ⌜ ((m : Machine) → Holds (now (w .entry)) m → Holds (now (w .exit)) (withOrders (queueOf m) (filter (λ (p : ℕ). getD (now (keep .entry)) p false) (waitsOf m)) m)) ⌝ }
+    ensures { λ _.
+        ⌜ ((m : Machine) → Holds (now (w .entry)) m
+        → Holds (now (w .exit)) (withOrders (queueOf m) (filter (λ (p : ℕ). getD (now (keep .entry)) p false) (waitsOf m)) m)) ⌝ }
 {
     let count = wide(w[WAITS_LENGTH]);
     if count <= Machine::TOKENS {
@@ -119,7 +125,9 @@ fn retain_waits_slice(w: &mut [u32], keep: &[bool])
 
 // The wait order keeps the names that are marked.
 pub fn retain_waits(w: &mut [u32; Machine::WORDS], keep: &[bool; Machine::TOKENS])
-    ensures { λ _. ⌜ ((m : Machine) → Holds (now (w .entry)) m → Holds (now (w .exit)) (withOrders (queueOf m) (filter (λ (p : ℕ). getD (now (keep .entry)) p false) (waitsOf m)) m)) ⌝ }
+    ensures { λ _.
+        ⌜ ((m : Machine) → Holds (now (w .entry)) m
+        → Holds (now (w .exit)) (withOrders (queueOf m) (filter (λ (p : ℕ). getD (now (keep .entry)) p false) (waitsOf m)) m)) ⌝ }
 {
     retain_waits_slice(w, keep);
 }

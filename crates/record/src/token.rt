@@ -90,21 +90,26 @@ pub fn bind_number(w: &[u32; Machine::WORDS], p: usize, x: usize) -> u32
 
 pub fn set_node(w: &mut [u32; Machine::WORDS], p: usize, node: u32)
     requires { ⌜ p < 64 ⌝ }
-    ensures { λ _. ⌜ ((m : Machine) (t : Token) → Holds (now (w .entry)) (put p t m) → Holds (now (w .exit)) (put p (withNode node t) m)) ⌝ }
+    ensures { λ _.
+        ⌜ ((m : Machine) (t : Token) → Holds (now (w .entry)) (put p t m) → Holds (now (w .exit)) (put p (withNode node t) m)) ⌝ }
 {
     w[TOKEN_WORDS * p + TOKEN_NODE] = node;
 }
 
 pub fn set_caller(w: &mut [u32; Machine::WORDS], p: usize, number: u32)
     requires { ⌜ p < 64 ⌝ }
-    ensures { λ _. ⌜ ((m : Machine) (t : Token) (q : Place) → Holds (now (w .entry)) (put p t m) → placeNumber q ≡ number → Holds (now (w .exit)) (put p (withCaller q t) m)) ⌝ }
+    ensures { λ _.
+        ⌜ ((m : Machine) (t : Token) (q : Place) → Holds (now (w .entry)) (put p t m) → placeNumber q ≡ number
+        → Holds (now (w .exit)) (put p (withCaller q t) m)) ⌝ }
 {
     w[TOKEN_WORDS * p + TOKEN_CALLER] = number;
 }
 
 pub fn set_cell(w: &mut [u32; Machine::WORDS], p: usize, number: u32)
     requires { ⌜ p < 64 ⌝ }
-    ensures { λ _. ⌜ ((m : Machine) (t : Token) (q : Place) → Holds (now (w .entry)) (put p t m) → placeNumber q ≡ number → Holds (now (w .exit)) (put p (withCell q t) m)) ⌝ }
+    ensures { λ _.
+        ⌜ ((m : Machine) (t : Token) (q : Place) → Holds (now (w .entry)) (put p t m) → placeNumber q ≡ number
+        → Holds (now (w .exit)) (put p (withCell q t) m)) ⌝ }
 {
     w[TOKEN_WORDS * p + TOKEN_CELL] = number;
 }
@@ -112,7 +117,9 @@ pub fn set_cell(w: &mut [u32; Machine::WORDS], p: usize, number: u32)
 // The state whose words these are.
 pub fn set_state(w: &mut [u32; Machine::WORDS], p: usize, kind: u32, number: u32)
     requires { ⌜ p < 64 ⌝ }
-    ensures { λ _. ⌜ ((m : Machine) (t : Token) (s : State) → Holds (now (w .entry)) (put p t m) → stateKind s ≡ kind → stateNumber s ≡ number → Holds (now (w .exit)) (put p (withState s t) m)) ⌝ }
+    ensures { λ _.
+        ⌜ ((m : Machine) (t : Token) (s : State) → Holds (now (w .entry)) (put p t m) → stateKind s ≡ kind → stateNumber s ≡ number
+        → Holds (now (w .exit)) (put p (withState s t) m)) ⌝ }
 {
     w[TOKEN_WORDS * p] = kind;
     w[TOKEN_WORDS * p + TOKEN_STATE_NUMBER] = number;
@@ -121,7 +128,9 @@ pub fn set_state(w: &mut [u32; Machine::WORDS], p: usize, kind: u32, number: u32
 // The value whose words these are.
 pub fn set_value(w: &mut [u32; Machine::WORDS], p: usize, kind: u32, number: u32)
     requires { ⌜ p < 64 ⌝ }
-    ensures { λ _. ⌜ ((m : Machine) (t : Token) (v : Held) → Holds (now (w .entry)) (put p t m) → heldKind v ≡ kind → heldNumber v ≡ number → Holds (now (w .exit)) (put p (withValue v t) m)) ⌝ }
+    ensures { λ _.
+        ⌜ ((m : Machine) (t : Token) (v : Held) → Holds (now (w .entry)) (put p t m) → heldKind v ≡ kind → heldNumber v ≡ number
+        → Holds (now (w .exit)) (put p (withValue v t) m)) ⌝ }
 {
     w[TOKEN_WORDS * p + TOKEN_VALUE_KIND] = kind;
     w[TOKEN_WORDS * p + TOKEN_VALUE] = number;
@@ -130,7 +139,9 @@ pub fn set_value(w: &mut [u32; Machine::WORDS], p: usize, kind: u32, number: u32
 // The slot whose words these are, bound to a variable.
 pub fn set_bind(w: &mut [u32; Machine::WORDS], p: usize, x: usize, kind: u32, number: u32)
     requires { ⌜ (p < 64) × (x < 8) ⌝ }
-    ensures { λ _. ⌜ ((m : Machine) (t : Token) (s : Slot) → Holds (now (w .entry)) (put p t m) → slotKind s ≡ kind → slotNumber s ≡ number → Holds (now (w .exit)) (put p (withBinding x s t) m)) ⌝ }
+    ensures { λ _.
+        ⌜ ((m : Machine) (t : Token) (s : Slot) → Holds (now (w .entry)) (put p t m) → slotKind s ≡ kind → slotNumber s ≡ number
+        → Holds (now (w .exit)) (put p (withBinding x s t) m)) ⌝ }
 {
     w[TOKEN_WORDS * p + TOKEN_BIND_KIND + 2 * x] = kind;
     w[TOKEN_WORDS * p + TOKEN_BIND_NUMBER + 2 * x] = number;
@@ -154,7 +165,9 @@ pub fn copy(w: &mut [u32; Machine::WORDS], from: usize, place: usize)
 // The words of a row, one by one.
 fn write(w: &mut [u32; Machine::WORDS], p: usize, row: &[u32; TOKEN_WORDS])
     requires { ⌜ p < 64 ⌝ }
-    ensures { λ _. ⌜ ((m : Machine) (t : Token) → Holds (now (w .entry)) m → length (t .binds) ≡ 8 → now (row .entry) ≡ rowOf t → Holds (now (w .exit)) (put p t m)) ⌝ }
+    ensures { λ _.
+        ⌜ ((m : Machine) (t : Token) → Holds (now (w .entry)) m → length (t .binds) ≡ 8 → now (row .entry) ≡ rowOf t
+        → Holds (now (w .exit)) (put p t m)) ⌝ }
 {
     let at = TOKEN_WORDS * p;
     let mut i: usize = 0;

@@ -1,5 +1,5 @@
--- A return keeps one callee at most for a place that is not marked: the token takes its frame's caller, and a frame with no other callee goes. Assumes
--- nothing.
+-- A return keeps one callee at most for a place that is not marked: the token takes its frame's caller, and a frame with no other callee
+-- goes. Assumes nothing.
 use mathlib.Core.Path.{_≡_, refl, sym, _∙_, ap, subst}
 use mathlib.Core.Logic.{_⊎_, inl, inr}
 use mathlib.Core.Bool.{Bool, true, false}
@@ -77,7 +77,8 @@ module _ {ws dag : List ℕ} {used cells : List Bool} {place p at : ℕ} {m : Ma
     unfolding NotFrame
     unused u =
         tokensOf after .least NotFrame
-        (λ i e q. clash (active-live (after .cells) _ e) (ap (λ k. isLive (tokenAt (after .tokens) k .state)) q ∙ (ap (λ (t : Token). isLive (t .state)) frame-row ∙ is .frame)))
+        (λ i e q. clash (active-live (after .cells) _ e)
+        (ap (λ k. isLive (tokenAt (after .tokens) k .state)) q ∙ (ap (λ (t : Token). isLive (t .state)) frame-row ∙ is .frame)))
         (λ i l h j e q. nobody i (e ∙ ap places.At q))
         f (let z = is .inside in let y = lengths in omega arith) u refl
       where
@@ -96,9 +97,11 @@ module _ {ws dag : List ℕ} {used cells : List Bool} {place p at : ℕ} {m : Ma
     shared-callees : OneCallee (callerShared (tokenAt (m .tokens) f .caller) s) after
     unfolding After
     shared-callees =
-        callees-kept s (callerShared (tokenAt (m .tokens) f .caller) s) m after (λ g e. unshared (tokenAt (m .tokens) f .caller) s g e .1) old one
+        callees-kept s (callerShared (tokenAt (m .tokens) f .caller) s) m after (λ g e. unshared (tokenAt (m .tokens) f .caller) s g e .1)
+        old one
       where
-        old : (g i : ℕ) → getD (callerShared (tokenAt (m .tokens) f .caller) s) g true ≡ false → NamesAsCaller after g i → NamesAsCaller m g i
+        old : (g i : ℕ) → getD (callerShared (tokenAt (m .tokens) f .caller) s) g true ≡ false → NamesAsCaller after g i
+            → NamesAsCaller m g i
         old g i e c = go (names-after g i c)
           where
             go : ((i ≡ p) × NamesAsCaller m g f) ⊎ ((i ≡ p → ⊥) × NamesAsCaller m g i) → NamesAsCaller m g i
@@ -112,7 +115,8 @@ module _ {ws dag : List ℕ} {used cells : List Bool} {place p at : ℕ} {m : Ma
         not-frame : (k : ℕ) → NamesAsCaller (sweep after) g k → f ≡ k → ⊥
         not-frame k d q = blank-names (sweep after) g f (frame-gone alone) (ap (λ l. tokenAt (sweep after .tokens) l .caller) q ∙ d)
 
-        go : ((i ≡ p) × NamesAsCaller m g f) ⊎ ((i ≡ p → ⊥) × NamesAsCaller m g i) → ((j ≡ p) × NamesAsCaller m g f) ⊎ ((j ≡ p → ⊥) × NamesAsCaller m g j)
+        go : ((i ≡ p) × NamesAsCaller m g f) ⊎ ((i ≡ p → ⊥) × NamesAsCaller m g i)
+            → ((j ≡ p) × NamesAsCaller m g f) ⊎ ((j ≡ p → ⊥) × NamesAsCaller m g j)
             → i ≡ j
         go (inl x) (inl y) = x .0 ∙ sym (y .0)
         go (inl x) (inr y) = absurd (not-frame j c (one g f j e (x .1) (y .1)))
@@ -128,7 +132,8 @@ module _ {ws dag : List ℕ} {used cells : List Bool} {place p at : ℕ} {m : Ma
     pub return-keeps : OneCallee (returnShared m f s) (Step.step paper (dagOf dag) m place .machine)
     unfolding returnShared accepted
     return-keeps =
-        subst (λ (o : Outcome). OneCallee (returnShared m f s) (o .machine)) (sym (return-step dag place p at m f caller a)) (go (getD s f true) refl)
+        subst (λ (o : Outcome). OneCallee (returnShared m f s) (o .machine)) (sym (return-step dag place p at m f caller a))
+        (go (getD s f true) refl)
       where
         go : (b : Bool) → getD s f true ≡ b
             → OneCallee (elim b [ true ↦ callerShared (tokenAt (m .tokens) f .caller) s | false ↦ s ]) (sweep after)

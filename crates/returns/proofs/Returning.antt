@@ -1,5 +1,5 @@
--- What a return leaves where its token binds no cell and is in its frame's cell: the record of the definition, swept, with the frame made blank or
--- left as it was. Assumes nothing.
+-- What a return leaves where its token binds no cell and is in its frame's cell: the record of the definition, swept, with the frame made
+-- blank or left as it was. Assumes nothing.
 use mathlib.Core.Path.{_≡_, refl, sym, ap, subst, _∙_}
 use mathlib.Core.Bool.{Bool, true, false}
 use mathlib.Core.List.{List}
@@ -69,7 +69,8 @@ module _ {ws dag : List ℕ} {used cells : List Bool} {place p at : ℕ} {m : Ma
         sameBinds = refl;
       }
 
-  pub released-swept : {now : List ℕ} {marks : List Bool} → SameCells m p f → AfterRelease after f now used marks → Swept after now marks cells
+  pub released-swept : {now : List ℕ} {marks : List Bool} → SameCells m p f → AfterRelease after f now used marks
+      → Swept after now marks cells
   released-swept {now} {marks} s (shared i k h e) =
       let c = returned-shared paper (dagOf dag) m (a .taking .lawful .rules) after p f written returns (s .cell) (s .binds) i k in (
         subst (Holds now) (sym (c .whole)) h,
@@ -81,7 +82,8 @@ module _ {ws dag : List ℕ} {used cells : List Bool} {place p at : ℕ} {m : Ma
         subst (Holds now) (sym (returned-swept paper (dagOf dag) m rules after p f written returns (s .cell) (s .binds) n)) h,
         e
             ∙ (ap (λ us. set us f false) (a .taking .lawful .marks .tokens)
-            ∙ (sym (returned-tokens paper (dagOf dag) m rules after p f written returns (s .cell) (s .binds) n) ∙ sym (finish-tokens after))),
+            ∙ (sym (returned-tokens paper (dagOf dag) m rules after p f written returns (s .cell) (s .binds) n)
+            ∙ sym (finish-tokens after))),
         a .taking .lawful .marks .cells
             ∙ (sym (returned-cells paper (dagOf dag) m rules after p f written returns (s .cell) (s .binds)) ∙ sym (finish-cells after)),
       )

@@ -47,7 +47,8 @@ module _ (cs : List Cell) (q : Place) (i : ℕ) (long : length cs ≡ 32) where
 
     pub ends-past : 32 ≤ c → true ≡ chainEnds cs (32 - i) q
     ends-past l =
-        sym (ends-on ∙ ap (λ (k : Cell). chainEnds cs (32 - (i + 1)) (k .parent)) (cell-past cs c (omega arith)) ∙ ends-nowhere cs (32 - (i + 1)))
+        sym (ends-on ∙ ap (λ (k : Cell). chainEnds cs (32 - (i + 1)) (k .parent)) (cell-past cs c (omega arith))
+        ∙ ends-nowhere cs (32 - (i + 1)))
 
 -- the cell at which a token waits
 module _ (cs : List Cell) (long : length cs ≡ 32) (k n : ℕ) (s : State) (kind : k ≡ stateKind s) (number : n ≡ stateNumber s) where

@@ -44,7 +44,9 @@ pub fn chain_ends(w: &[u32; Machine::WORDS], place: u32) -> bool
 
 // A token in the state that has these words: if it waits, then at an unset cell.
 fn waits_at_unset(w: &[u32; Machine::WORDS], kind: u32, number: u32) -> bool
-    ensures { λ r. ⌜ ((m : Machine) (s : State) → Codes (now (w .entry)) m → kind ≡ stateKind s → number ≡ stateNumber s → r ≡ waitsAtUnset (m .cells) s) ⌝ }
+    ensures { λ r.
+        ⌜ ((m : Machine) (s : State) → Codes (now (w .entry)) m → kind ≡ stateKind s → number ≡ stateNumber s
+        → r ≡ waitsAtUnset (m .cells) s) ⌝ }
 {
     if kind == WAITING_STATE {
         let at = wide(number);
@@ -59,7 +61,9 @@ fn waits_at_unset(w: &[u32; Machine::WORDS], kind: u32, number: u32) -> bool
 // A token that is blank or a frame passes; any other must be under no set cell.
 pub fn is_free(w: &[u32; Machine::WORDS], p: usize) -> bool
     requires { ⌜ p < 64 ⌝ }
-    ensures { λ r. ⌜ ((m : Machine) → Codes (now (w .entry)) m → r ≡ (notUnderSet (m .cells) (tokenAt (m .tokens) p) and waitsAtUnset (m .cells) (tokenAt (m .tokens) p .state))) ⌝ }
+    ensures { λ r.
+        ⌜ ((m : Machine) → Codes (now (w .entry)) m
+        → r ≡ (notUnderSet (m .cells) (tokenAt (m .tokens) p) and waitsAtUnset (m .cells) (tokenAt (m .tokens) p .state))) ⌝ }
 {
     let kind = state(w, p);
     if (kind == BLANK_STATE) | (kind == FRAME_STATE) {

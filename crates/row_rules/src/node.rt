@@ -61,7 +61,9 @@ fn pair_is_bound(w: &[u32; Machine::WORDS], p: usize, named: bool, kind: u32, wo
 
 fn params_are_bound(w: &[u32; Machine::WORDS], p: usize, row: &[u32]) -> bool
     requires { ⌜ (p < 64) × (length (now row) ≡ 12) ⌝ }
-    ensures { λ r. ⌜ ((m : Machine) → Codes (now (w .entry)) m → r ≡ all (notEmpty (tokenAt (m .tokens) p .binds)) (paramsFrom (getD (now (row .entry)) 3 0) (drop 4 (now (row .entry))))) ⌝ }
+    ensures { λ r.
+        ⌜ ((m : Machine) → Codes (now (w .entry)) m
+        → r ≡ all (notEmpty (tokenAt (m .tokens) p .binds)) (paramsFrom (getD (now (row .entry)) 3 0) (drop 4 (now (row .entry))))) ⌝ }
 {
     let count = row[PARAMETER_COUNT];
     let first = pair_is_bound(w, p, 0 < count, row[4], row[5]);
@@ -95,7 +97,8 @@ fn names_frame(w: &[u32; Machine::WORDS], p: usize) -> bool
 // The rule of the node that the row would be.
 fn node_rule(w: &[u32; Machine::WORDS], p: usize, row: &[u32]) -> bool
     requires { ⌜ (p < 64) × (length (now row) ≡ 12) ⌝ }
-    ensures { λ r. ⌜ ((m : Machine) → Codes (now (w .entry)) m → r ≡ nodeRule (m .tokens) (tokenAt (m .tokens) p) (nodeBy (now (row .entry)))) ⌝ }
+    ensures { λ r.
+        ⌜ ((m : Machine) → Codes (now (w .entry)) m → r ≡ nodeRule (m .tokens) (tokenAt (m .tokens) p) (nodeBy (now (row .entry)))) ⌝ }
 {
     match row[0] {
         STOP => true,
@@ -115,7 +118,9 @@ fn node_rule(w: &[u32; Machine::WORDS], p: usize, row: &[u32]) -> bool
 // A blank token is at no node.
 pub fn at_node(w: &[u32; Machine::WORDS], p: usize, node: usize, dag: &[u32]) -> bool
     requires { ⌜ (p < 64) × (length (now dag) ≡ 12331) × (dagHolds (dagOf (now dag)) ≡ true) × (node < getD (now dag) 0 0) ⌝ }
-    ensures { λ r. ⌜ ((m : Machine) → Codes (now (w .entry)) m → node ≡ tokenAt (m .tokens) p .node → r ≡ atNode (dagOf (now (dag .entry))) (m .tokens) (tokenAt (m .tokens) p)) ⌝ }
+    ensures { λ r.
+        ⌜ ((m : Machine) → Codes (now (w .entry)) m → node ≡ tokenAt (m .tokens) p .node
+        → r ≡ atNode (dagOf (now (dag .entry))) (m .tokens) (tokenAt (m .tokens) p)) ⌝ }
 {
     if state(w, p) == BLANK_STATE {
         return true;

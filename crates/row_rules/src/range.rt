@@ -31,7 +31,9 @@ use record::token::state_number;
 // A token's bindings: cells below 32.
 fn binds_in_range(w: &[u32; Machine::WORDS], p: usize) -> bool
     requires { ⌜ p < 64 ⌝ }
-    ensures { λ r. ⌜ ((m : Machine) → ValuesFit (now (w .entry)) m → r ≡ all (λ (b : Bind). slotInRange 32 (b .slot)) (tokenAt (m .tokens) p .binds)) ⌝ }
+    ensures { λ r.
+        ⌜ ((m : Machine) → ValuesFit (now (w .entry)) m
+        → r ≡ all (λ (b : Bind). slotInRange 32 (b .slot)) (tokenAt (m .tokens) p .binds)) ⌝ }
 {
     let mut ok = true;
     let mut x: usize = 0;
@@ -56,7 +58,11 @@ fn state_in_range(kind: u32, number: u32, calls: u32) -> bool
 // A token's fields but its node.
 pub fn token_in_range(w: &[u32; Machine::WORDS], p: usize) -> bool
     requires { ⌜ p < 64 ⌝ }
-    ensures { λ r. ⌜ ((m : Machine) → ValuesFit (now (w .entry)) m → r ≡ (all (λ (b : Bind). slotInRange 32 (b .slot)) (tokenAt (m .tokens) p .binds) and placeInRange 64 (tokenAt (m .tokens) p .caller) and placeInRange 32 (tokenAt (m .tokens) p .cell) and stateInRange 32 (m .calls) (tokenAt (m .tokens) p .state))) ⌝ }
+    ensures { λ r.
+        ⌜ ((m : Machine) → ValuesFit (now (w .entry)) m
+        → r ≡ (all (λ (b : Bind). slotInRange 32 (b .slot)) (tokenAt (m .tokens) p .binds) and placeInRange 64
+        (tokenAt (m .tokens) p .caller) and placeInRange 32 (tokenAt (m .tokens) p .cell) and stateInRange 32 (m .calls)
+        (tokenAt (m .tokens) p .state))) ⌝ }
 {
     let named = (caller(w, p) <= TOKEN_PLACE_COUNT) & (cell(w, p) <= CELL_PLACE_COUNT);
     let open = state_in_range(state(w, p), state_number(w, p), calls_made(w));
@@ -65,7 +71,8 @@ pub fn token_in_range(w: &[u32; Machine::WORDS], p: usize) -> bool
 
 // The numbers beside the tables.
 pub fn sizes_in_range(w: &[u32; Machine::WORDS]) -> bool
-    ensures { λ r. ⌜ ((m : Machine) → Codes (now (w .entry)) m → r ≡ (leb (m .calls) 1000000 and ltb (m .lasttoken) 64 and ltb (m .lastcell) 32)) ⌝ }
+    ensures { λ r.
+        ⌜ ((m : Machine) → Codes (now (w .entry)) m → r ≡ (leb (m .calls) 1000000 and ltb (m .lasttoken) 64 and ltb (m .lastcell) 32)) ⌝ }
 {
     (calls_made(w) <= CALL_LIMIT)
         & (last_token(w) < TOKEN_PLACE_COUNT)

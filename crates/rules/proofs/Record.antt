@@ -82,7 +82,8 @@ module _ (d : Dag) (m : Machine) where
     pub rules-are : dagHolds d ≡ true → {used marks : List Bool} → used ≡ tokensUsed m → marks ≡ cellsUsed m
         → (queue waits : List ℕ) (queued waited : Bool) {first second sizes : Bool}
         → first
-        ≡ (((all (tokenRule d m) (m .tokens) and restIsBlank tokenIsBlank used (m .tokens)) and allFrom (namedByBoth queue waits) 0 (m .tokens))
+        ≡ (((all (tokenRule d m) (m .tokens) and restIsBlank tokenIsBlank used (m .tokens)) and allFrom (namedByBoth queue waits) 0
+        (m .tokens))
         and differ (openHandles (m .tokens)))
         → second ≡ (all (cellRule d (m .cells)) (m .cells) and restIsBlank cellIsBlank marks (m .cells))
         → sizes ≡ (leb (m .calls) 1000000 and ltb (m .lasttoken) 64 and ltb (m .lastcell) 32)

@@ -59,7 +59,8 @@ module _ (d : Dag) (m : Machine) (used : List Bool) (queue waits : List ℕ) whe
   pub used-turn : (i : ℕ) {ok b a : Bool} → i < length used → i < length (m .tokens) → ok ≡ seen i → getD used i false ≡ true
       → b ≡ rule (tokenAt (m .tokens) i) → a ≡ namedByBoth queue waits i (tokenAt (m .tokens) i) → (ok && b && a) ≡ seen (i + 1)
   used-turn i k l e u f g =
-      seen-turn i k l e (f ∙ marked-one {used = getD used i false} (rule (tokenAt (m .tokens) i)) (tokenIsBlank (tokenAt (m .tokens) i)) u) g
+      seen-turn i k l e (f ∙ marked-one {used = getD used i false} (rule (tokenAt (m .tokens) i)) (tokenIsBlank (tokenAt (m .tokens) i)) u)
+      g
 
   -- any other for being blank and named by neither
   vacant : (i : ℕ) (t : Token) (b : Bool) → tokenIsBlank t ≡ b
@@ -87,10 +88,13 @@ module _ (d : Dag) (m : Machine) (used : List Bool) (queue waits : List ℕ) whe
   pub seen-done : (i : ℕ) → length (m .tokens) ≤ i
       → seen i ≡ ((all rule (m .tokens) and restIsBlank tokenIsBlank used (m .tokens)) and allFrom (namedByBoth queue waits) 0 (m .tokens))
   seen-done i l =
-      ap (λ (ts : List Token). (all rule ts and restIsBlank tokenIsBlank used ts) and allFrom (namedByBoth queue waits) 0 ts) (take-all i (m .tokens) l)
+      ap (λ (ts : List Token). (all rule ts and restIsBlank tokenIsBlank used ts) and allFrom (namedByBoth queue waits) 0 ts)
+      (take-all i (m .tokens) l)
 
 -- two tests of each element with its index
-pub from-both : {A : Type 0} (f g : ℕ → A → Bool) (j : ℕ) (xs : List A) → allFrom (λ p x. f p x and g p x) j xs ≡ (allFrom f j xs and allFrom g j xs)
+pub from-both : {A : Type 0} (f g : ℕ → A → Bool) (j : ℕ) (xs : List A)
+    → allFrom (λ p x. f p x and g p x) j xs ≡ (allFrom f j xs and allFrom g j xs)
 unfolding allFrom _and_
 from-both f g j [] = refl
-from-both f g j (x ∷ xs) = ap (_and_ (f j x and g j x)) (from-both f g (suc j) xs) ∙ regroup (f j x) (g j x) (allFrom f (suc j) xs) (allFrom g (suc j) xs)
+from-both f g j (x ∷ xs) = ap (_and_ (f j x and g j x)) (from-both f g (suc j) xs) ∙ regroup (f j x) (g j x) (allFrom f (suc j) xs)
+    (allFrom g (suc j) xs)

@@ -28,7 +28,8 @@ use record::order::waiting;
 // Does the order name places of tokens only? Its names are the first n of the 64 words from `at` on.
 fn order_in_range(w: &[u32; Machine::WORDS], at: usize, n: usize) -> bool
     requires { ⌜ (n ≤ 64) × (at ≤ 1728) ⌝ }
-    ensures { λ r. ⌜ (r ≡ true → (i : ℕ) → i < n → getD (now (w .entry)) (at + i) 0 < 64) × ((names : List ℕ) → NamesAt (now (w .entry)) at names
+    ensures { λ r.
+        ⌜ (r ≡ true → (i : ℕ) → i < n → getD (now (w .entry)) (at + i) 0 < 64) × ((names : List ℕ) → NamesAt (now (w .entry)) at names
         → r ≡ all (λ (p : ℕ). ltb p 64) (take n names)) ⌝ }
 {
     let mut i: usize = 0;
@@ -83,7 +84,9 @@ fn no_order() -> Order
 // The order of so many names from the word `at` on.
 fn read_order(w: &[u32; Machine::WORDS], at: usize, names: u32) -> Order
     requires { ⌜ at ≤ 1728 ⌝ }
-    ensures { λ r. ⌜ ((of : State → Bool) (kind : ℕ) (m : Machine) (array : List ℕ) → Codes (now (w .entry)) m → NamesAt (now (w .entry)) at array → ((s : State) → eqb (stateKind s) kind ≡ of s)
+    ensures { λ r.
+        ⌜ ((of : State → Bool) (kind : ℕ) (m : Machine) (array : List ℕ) → Codes (now (w .entry)) m → NamesAt (now (w .entry)) at array
+        → ((s : State) → eqb (stateKind s) kind ≡ of s)
         → (allFrom (namedAs kind (r .counts)) 0 (m .tokens) and r .ok) ≡ namesOnce of (m .tokens) array names) ⌝ }
 {
     let n = wide(names);

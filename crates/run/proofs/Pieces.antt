@@ -1,4 +1,5 @@
--- A text in pieces: an output that shows a text holds the piece from its byte on, and the pieces, one behind the other, are the text. Assumes nothing.
+-- A text in pieces: an output that shows a text holds the piece from its byte on, and the pieces, one behind the other, are the text.
+-- Assumes nothing.
 use mathlib.Core.Path.{_≡_, refl, sym, _∙_, ap}
 use mathlib.Core.List.{List, _++_}
 use Prim.Native.Nat.{ℕ, zero, suc, _+_, _-_, _≤_}

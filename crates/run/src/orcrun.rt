@@ -13,8 +13,8 @@ use loader::table::Loaded;
 use loader::table::load;
 use text::line;
 
-// Runs the job of an input and stores what it prints from byte `from` on, as many bytes as the output has room for. Answers how many bytes it prints in all.
-// The dag's words are room that the caller lends, whatever they hold: those that the table's dag does not use stay.
+// Runs the job of an input and stores what it prints from byte `from` on, as many bytes as the output has room for. Answers how many bytes
+// it prints in all. The dag's words are room that the caller lends, whatever they hold: those that the table's dag does not use stay.
 pub fn orcrun(input: &[u8], from: usize, dag: &mut [u32; WORDS], output: &mut [u8]) -> usize
     ensures { λ r. ⌜ r ≡ length (orcrun (now (input .entry))) ⌝ }
     ensures { λ _. ⌜ now (dag .exit) ≡ dagAfter (now (input .entry)) (now (dag .entry)) ⌝ }

@@ -1,6 +1,6 @@
 -- An expression with a hole, one operator deep, and the tokens of its other side. Whatever stands for what fills the hole makes, with them,
--- what stands for the whole; and the whole acts as its filling does, but where it catches what the filling publishes. By cases on the operator.
--- Assumes nothing.
+-- what stands for the whole; and the whole acts as its filling does, but where it catches what the filling publishes. By cases on the
+-- operator. Assumes nothing.
 use mathlib.Core.Path.{_≡_, refl, sym}
 use mathlib.Core.Path.{subst as along}
 use mathlib.Core.List.{List, [], _∷_, List·Memᴰ·head, List·Memᴰ·tail}

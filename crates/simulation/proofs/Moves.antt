@@ -11,7 +11,8 @@ use Rattle.job.specs.Site.{BuiltinReply, gives, silent, isBuiltin, isOutside, b
 use Rattle.calculus.specs.Expression.{Param, Exp, Substitution, lift, substParam, subst}
 use Rattle.calculus.specs.Rewriting.{paramValues, silence, answering, Rewrites}
 use Rattle.simulation.proofs.Shuffle.{Split, first, later, pair, split-none, gap-alone, found, either-side}
-use Rattle.simulation.proofs.Machine.{Node, Program, Binding, Frame, Place, at, above, Token, running, Store, asksSite, Move, acts, answered}
+use Rattle.simulation.proofs.Machine.{Node, Program, Binding, Frame, Place, at, above, Token, running, Store, asksSite, Move, acts}
+use Rattle.simulation.proofs.Machine.{answered}
 use Rattle.simulation.proofs.Cells.{parts-swap, parts-move, parts-alone, parts-own, parts-none, grows-all, grows-new, Tidy}
 use Rattle.simulation.proofs.Binding.{Env, Unset, env-cell, values-agree}
 use Rattle.simulation.proofs.Relation.{Code, Leads, here, removes, returns, then, chokes, Rep, leads-under-new}
@@ -73,8 +74,10 @@ module _ (G : Program) (σ : Store) (new h : ℕ) where
       → Bodies G → Tidy σ new Γ (above K) C → Rep G σ Γ e K S C → (m : Move u) → Split u S X Y → Moves G σ new h Γ e K X Y C u m
   token-moves bs t Rep.stop m z = split-none z
   token-moves bs t (Rep.hand here) acts first = moves (publishes refl Rewrites.published Rep.stop grows-all)
-  token-moves bs t (Rep.hand {v = v} (removes e l)) acts first = moves (makes (act-at G σ new h v refl e) silence same (Rep.hand l) grows-all)
-  token-moves bs t (Rep.hand {v = v} (returns e l)) acts first = moves (makes (act-at G σ new h v refl e) silence same (Rep.hand l) grows-all)
+  token-moves bs t (Rep.hand {v = v} (removes e l)) acts first =
+      moves (makes (act-at G σ new h v refl e) silence same (Rep.hand l) grows-all)
+  token-moves bs t (Rep.hand {v = v} (returns e l)) acts first =
+      moves (makes (act-at G σ new h v refl e) silence same (Rep.hand l) grows-all)
   token-moves bs t (Rep.hand l) m (later z) = split-none z
   token-moves bs t (Rep.pending l) (answered v fits) first =
       moves (makes refl answering (once (Rewrites.answered fits)) (Rep.hand l) grows-all)

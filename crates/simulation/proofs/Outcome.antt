@@ -10,12 +10,14 @@ use Rattle.calculus.specs.Expression.{Exp, Substitution, lift, subst, innermost
 use Rattle.calculus.specs.Rewriting.{NotPublishing, silence, Rewrites}
 use Rattle.calculus.proofs.Substitution.{bound, innermost-lift}
 use Rattle.simulation.proofs.Shuffle.{Mix, mix-filter, mix-unit, mix-middle, mix-swap, Gap}
-use Rattle.simulation.proofs.Machine.{Node, Program, Binding, Frame, Place, at, above, Token, running, Store, withSet, isOutOf, outOf, Effect, Move, acts, actsAt, act, effect}
+use Rattle.simulation.proofs.Machine.{Node, Program, Binding, Frame, Place, at, above, Token, running, Store, withSet, isOutOf}
+use Rattle.simulation.proofs.Machine.{outOf, Effect, Move, acts, actsAt, act, effect}
 use Rattle.simulation.proofs.Store.{_∈_, _∉_}
 use Rattle.simulation.proofs.Cells.{Parts, parts-alone, Grows, grows-within, grows-from, grown, whole-grows, not-in-append, Tidy}
 use Rattle.simulation.proofs.Binding.{change-innermost, env-value}
 use Rattle.simulation.proofs.Relation.{Then, then, Chokes, chokes, removes, Rep, rep-changed, rep-ends, rep-stays}
-use Rattle.simulation.proofs.Hole.{Gate, free, catching, Lets, through, passing, Lifts, acting, caught, Hole, fill, hole-set, hole-stays, hole-place, hole-acts}
+use Rattle.simulation.proofs.Hole.{Gate, free, catching, Lets, through, passing, Lifts, acting, caught, Hole, fill, hole-set}
+use Rattle.simulation.proofs.Hole.{hole-stays, hole-place, hole-acts}
 
 -- publishing passes no gate that catches
 publish-stays : {v : ℤ} {A : Type 0} → NotPublishing (showing (Event.publish v)) → A
@@ -34,7 +36,8 @@ module _ (G : Program) (σ : Store) (new h : ℕ) where
         → T ≡ K → Rewrites (G .body) h e (showing (Event.publish w)) e′ → Rep G σ Γ e′ K (X ++ Y) C₁ → Grows new (suc new) C C₁
         → Outcome Γ e K X Y C (running T w) acts (showing (Event.publish w)) e′
     makes : {t : Token} {m : Move t} {a : Label} {N : List Token} {e′ : Exp} {C₁ : List ℕ}
-        → effect G σ new h t m ≡ Effect.makes a N → NotPublishing a → AtMost G h e a e′ → Rep G σ Γ e′ K (X ++ (N ++ Y)) C₁ → Grows new (suc new) C C₁
+        → effect G σ new h t m ≡ Effect.makes a N → NotPublishing a → AtMost G h e a e′ → Rep G σ Γ e′ K (X ++ (N ++ Y)) C₁
+        → Grows new (suc new) C C₁
         → Outcome Γ e K X Y C t m a e′
     sets : {t : Token} {m : Move t} {c : ℕ} {v : ℤ} {e′ : Exp} {C₁ : List ℕ}
         → effect G σ new h t m ≡ Effect.sets c v → c ∈ C → c ∉ C₁ → AtMost G h e silently e′
@@ -77,7 +80,8 @@ module _ (G : Program) (σ : Store) (new h : ℕ) where
       let mixed : Mix (outOf c Z) (outOf c (X₁ ++ Y₁)) (outOf c (X ++ Y)) = mix-filter (isOutOf c) (mix-swap (gap .filled [])) in
       let left : Z ≡ outOf c (X ++ Y) = sym stay ∙ mix-unit (along (λ x. Mix (outOf c Z) x (outOf c (X ++ Y))) gone mixed) in
       sets (act-at w q ec) own n (once s)
-      (along (λ x. Rep G (withSet σ c w) Γ (subst (innermost w) f) K x D) left (rep-changed G (change-innermost σ c w (t .own c own .unset)) rf))
+      (along (λ x. Rep G (withSet σ c w) Γ (subst (innermost w) f) K x D) left
+      (rep-changed G (change-innermost σ c w (t .own c own .unset)) rf))
       (grows-within (λ b m. p .in-right b (List·Memᴰ·tail m)))
 
   -- where an own cell of the filling is set, the other side of the hole stays

@@ -9,8 +9,10 @@ use Rattle.calculus.specs.Event.{Event, Label, silently, showing}
 use Rattle.calculus.specs.Expression.{Exp, Substitution, lift, subst}
 use Rattle.calculus.specs.Rewriting.{answering, Rewrites}
 use Rattle.simulation.proofs.Shuffle.{Split, first, Mix, mix-swap, mix-nothing, pair, Kept, kept, keeps}
-use Rattle.simulation.proofs.Machine.{Program, Binding, Frame, Place, at, above, Token, running, Store, Effect, Move, acts, answered, effect}
-use Rattle.simulation.proofs.Cells.{Parts, parts-swap, parts-move, parts-alone, parts-own, parts-none, Grows, grows-all, grows-new, grows-then, grown, whole-grows, Tidy, tidy-grown}
+use Rattle.simulation.proofs.Machine.{Program, Binding, Frame, Place, at, above, Token, running, Store, Effect, Move, acts, answered}
+use Rattle.simulation.proofs.Machine.{effect}
+use Rattle.simulation.proofs.Cells.{Parts, parts-swap, parts-move, parts-alone, parts-own, parts-none, Grows, grows-all, grows-new}
+use Rattle.simulation.proofs.Cells.{grows-then, grown, whole-grows, Tidy, tidy-grown}
 use Rattle.simulation.proofs.Binding.{Env, env-cell}
 use Rattle.simulation.proofs.Relation.{Code, Leads, here, removes, returns, then, chokes, Rep, leads-under-new}
 use Rattle.simulation.proofs.Hole.{Gate, Lifts, acting, caught, through, passing, Hole, hole-tidy}
@@ -52,7 +54,8 @@ module _ (G : Program) (σ : Store) (h : ℕ) where
       → Ready Γ e K (X ++ (N ++ Y)) C₁ (suc new) a e′ → Ready Γ e K S C new a e′
   ready-after m z q g (ready r l g₁ z₁ o) = ready (quiet m z q r) (omega arith) (grows-then (omega arith) l g g₁) z₁ o
 
-  ready-inside : {Γ Δ C D E : List ℕ} {K L : Place} {gate : Gate} {plug : Exp → Exp} {S Z Q : List Token} {new : ℕ} {a b : Label} {f f′ e : Exp}
+  ready-inside : {Γ Δ C D E : List ℕ} {K L : Place} {gate : Gate} {plug : Exp → Exp} {S Z Q : List Token} {new : ℕ} {a b : Label}
+      {f f′ e : Exp}
       → Hole G σ Γ K gate Δ L Z D plug → Parts C D E → Tidy σ new Γ (above K) E → Mix S Z Q → Lifts gate plug a f′ b e
       → Ready Δ f L S C new a f′ → Ready Γ (plug f) K Q E new b e
   ready-inside {Γ} {Δ} {C} {D} {E} {K} {L} {gate} {plug} {S} {Z} {Q} {new} {a} {b} {f} {f′} {e} H p t mx l
@@ -79,7 +82,8 @@ module _ (G : Program) (σ : Store) (h : ℕ) where
   later-tidy : {Γ U C C₁ : List ℕ} {new : ℕ} → Tidy σ new Γ U C → Grows new (suc new) C C₁ → Tidy σ (suc new) Γ U C₁
   later-tidy t g = tidy-grown t (omega arith) g
 
-  code-ready : {Γ C U : List ℕ} {K : Place} {e e′ : Exp} {a : Label} {n k new : ℕ} {B : List Binding} {F : List Frame} (w : ℤ) (ρ : Substitution)
+  code-ready : {Γ C U : List ℕ} {K : Place} {e e′ : Exp} {a : Label} {n k new : ℕ} {B : List Binding} {F : List Frame} (w : ℤ)
+      (ρ : Substitution)
       → Bodies G → Tidy σ new Γ (above K) C → Code G e n k → Env σ Γ ρ B → Leads G (at k B F U) K
       → Rewrites (G .body) h (subst ρ e) a e′ → Ready Γ (subst ρ e) K (running (at n B F U) w ∷ []) C new a e′
   unfolding subst
@@ -137,7 +141,8 @@ module _ (G : Program) (σ : Store) (h : ℕ) where
       let q = parts-swap p in
       ready-inside H q t (mix-swap mx) (acting through) (rep-ready bs (hole-tidy G H q t) g s)
   rep-ready bs t (Rep.seq ρ b f) (Rewrites.seq-acts s p) =
-      let H = Hole.seq b in ready-inside H parts-alone t (mix-nothing _) (acting (passing p)) (rep-ready bs (hole-tidy G H parts-alone t) f s)
+      let H = Hole.seq b in
+      ready-inside H parts-alone t (mix-nothing _) (acting (passing p)) (rep-ready bs (hole-tidy G H parts-alone t) f s)
   rep-ready bs t (Rep.seq ρ b f) (Rewrites.seq-publishes s) =
       let H = Hole.seq b in ready-inside H parts-alone t (mix-nothing _) caught (rep-ready bs (hole-tidy G H parts-alone t) f s)
   rep-ready bs t (Rep.prune n p mx ch f g) (Rewrites.prune-left s) =

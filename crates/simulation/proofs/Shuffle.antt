@@ -1,5 +1,5 @@
--- Splits and shuffles of lists: an element of a shuffle comes from one of the two lists, and whatever is put in its place keeps the shuffle.
--- By recursion on the shuffle. Assumes nothing.
+-- Splits and shuffles of lists: an element of a shuffle comes from one of the two lists, and whatever is put in its place keeps the
+-- shuffle. By recursion on the shuffle. Assumes nothing.
 use mathlib.Core.Path.{_≡_, refl, ap}
 use mathlib.Core.Bool.{Bool, true, false}
 use mathlib.Core.List.{List, [], _∷_, _++_}

@@ -1,4 +1,5 @@
--- Laws of the abstract machine's cells: what a set cell holds, and which tokens its setting ends. By the tests that decide it. Assumes nothing.
+-- Laws of the abstract machine's cells: what a set cell holds, and which tokens its setting ends. By the tests that decide it. Assumes
+-- nothing.
 use mathlib.Core.Path.{_≡_, refl, _∙_, ap}
 use mathlib.Core.Bool.{Bool, true, false, not}
 use mathlib.Core.List.{List, [], _∷_, List·Memᴰ, List·Memᴰ·head, List·Memᴰ·tail}

@@ -1,5 +1,5 @@
--- Soundness of runs: what a run of the abstract machine shows from a state that stands for an expression, rewritings of it show. By recursion
--- on the run. Assumes nothing.
+-- Soundness of runs: what a run of the abstract machine shows from a state that stands for an expression, rewritings of it show. By
+-- recursion on the run. Assumes nothing.
 use mathlib.Core.Path.{_≡_, refl, sym, _∙_, ap}
 use mathlib.Core.Path.{subst as along}
 use mathlib.Core.List.{List, [], List·Memᴰ·not-nil}
@@ -10,7 +10,8 @@ use Rattle.calculus.specs.Event.{Event, Label}
 use Rattle.calculus.specs.Expression.{Exp, Substitution, subst}
 use Rattle.calculus.specs.Expression as Calculus
 use Rattle.calculus.specs.Allowed.{nextHandle, shown, CanShow}
-use Rattle.simulation.proofs.Machine.{Node, Program, at, Token, Store, Effect, Move, effect, State, state, handleOf, after, labelOf, Step, step, Run, rests, startAt}
+use Rattle.simulation.proofs.Machine.{Node, Program, at, Token, Store, Effect, Move, effect, State, state, handleOf, after, labelOf}
+use Rattle.simulation.proofs.Machine.{Step, step, Run, rests, startAt}
 use Rattle.simulation.proofs.Cells.{apart-none, Tidy, tidy-grown, tidy-set}
 use Rattle.simulation.proofs.Binding as Binding
 use Rattle.simulation.proofs.Relation.{Code, here, Rep}

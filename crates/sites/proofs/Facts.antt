@@ -1,5 +1,5 @@
--- What the index rules say of the record, as the instructions ask it: sizes, and room in the orders, because an order names a token once and no
--- token is both ready and waiting. Assumes nothing.
+-- What the index rules say of the record, as the instructions ask it: sizes, and room in the orders, because an order names a token once
+-- and no token is both ready and waiting. Assumes nothing.
 use mathlib.Core.Path.{_≡_, sym, ap, subst, _∙_}
 use mathlib.Core.Bool.{Bool, true, false}
 use mathlib.Core.List.{List, [], _∷_, _++_}
@@ -121,7 +121,8 @@ module _ (d : Dag) (m : Machine) (k : rulesHold paper d m ≡ true) where
   pub token-range : (p : ℕ) → p < 64 → tokenInRange paper d (m .calls) (tokenAt (m .tokens) p) ≡ true
   unfolding tokenAt
   token-range p l =
-      let t : length (m .tokens) ≡ 64 = tokens-size in all-at (tokenInRange paper d (m .calls)) (m .tokens) p blankToken (holds .tokens) (omega arith)
+      let t : length (m .tokens) ≡ 64 = tokens-size in
+      all-at (tokenInRange paper d (m .calls)) (m .tokens) p blankToken (holds .tokens) (omega arith)
 
   -- what a look-up needs of the record
   pub look-facts : (p : ℕ) → p < 64 → LookFacts m p
@@ -131,5 +132,6 @@ module _ (d : Dag) (m : Machine) (k : rulesHold paper d m ≡ true) where
       let a = and-right (eqb (length (t .binds)) 8) _ (and-right (isNode d (t .node)) _ (token-range p l)) in
       record {
         slots = and-left _ _ a;
-        cells = all-implied (cellInRange paper) (λ (c : Cell). rules.heldInRange (c .value)) (λ c e. and-right (rules.placeInRange 32 (c .parent)) _ e) (m .cells) (holds .cells);
+        cells = all-implied (cellInRange paper) (λ (c : Cell). rules.heldInRange (c .value))
+            (λ c e. and-right (rules.placeInRange 32 (c .parent)) _ e) (m .cells) (holds .cells);
       }

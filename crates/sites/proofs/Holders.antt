@@ -1,5 +1,5 @@
--- The search for the token under a handle, place by place, and its answer: the token was called out, so it was not ready, and the queue has room
--- for it. Assumes nothing.
+-- The search for the token under a handle, place by place, and its answer: the token was called out, so it was not ready, and the queue has
+-- room for it. Assumes nothing.
 use mathlib.Core.Path.{_≡_, refl, sym, ap, subst, _∙_}
 use mathlib.Core.Bool.{Bool, true, false}
 use mathlib.Core.List.{List}
@@ -39,7 +39,8 @@ use Rattle.sites.proofs.Facts.{tokens-size, queue-room}
 
 -- a turn of the search
 module _ (h i : ℕ) (ts : List Token) (d : Token) (l : i < length ts) {x : Place} (so-far : x ≡ holder h i (drop i ts)) where
-  turn : (b : Bool) → any (eqb h) (handleOf (getD ts i d .state)) ≡ b → x ≡ elim b [ true ↦ places.At i | false ↦ holder h (suc i) (drop (suc i) ts) ]
+  turn : (b : Bool) → any (eqb h) (handleOf (getD ts i d .state)) ≡ b
+      → x ≡ elim b [ true ↦ places.At i | false ↦ holder h (suc i) (drop (suc i) ts) ]
   unfolding holder
   turn b e = so-far ∙ ap (holder h i) (drop-cons ts i d l) ∙ rw (e, holder)
 
@@ -88,7 +89,8 @@ module _ (d : Dag) (m : Machine) (k : rulesHold paper d m ≡ true) (h p : ℕ) 
 
       go : Dec (p < length (m .tokens)) → p < 64
       go (yes l) = let z = n in omega arith
-      go (no f) = clash open-at (ap (λ (t : Token). any (eqb h) (handleOf (t .state))) (List·getD-eq-default (m .tokens) blankToken {n = p} (omega arith)))
+      go (no f) = clash open-at
+          (ap (λ (t : Token). any (eqb h) (handleOf (t .state))) (List·getD-eq-default (m .tokens) blankToken {n = p} (omega arith)))
 
   pub open-room : m .queued < 64
   open-room = queue-room d m k p open-inside (open-waits h _ open-at)
@@ -152,12 +154,14 @@ module _ (end h p : ℕ) (v : ℤ) (before after : List ℕ)
         says = λ m k b. sym (ap isPlace (found m (k .codes) b ∙ place-none end p l));
         does =
             λ d m k b r.
-            subst (Holds after) (sym (ap (answeredBy m v) (found m (k .codes) b ∙ place-none end p l))) (subst (λ ws. Holds ws m) (sym e) k);
+            subst (Holds after) (sym (ap (answeredBy m v) (found m (k .codes) b ∙ place-none end p l)))
+            (subst (λ ws. Holds ws m) (sym e) k);
         stays = λ _. e;
       }
 
   pub is-answered : p < end
-      → ((m : Machine) → Holds before m → m .queued < 64 → Holds after (enqueue p (put p (withState states.Ready (withValue (helds.Value v) (tokenAt (m .tokens) p))) m)))
+      → ((m : Machine) → Holds before m → m .queued < 64
+      → Holds after (enqueue p (put p (withState states.Ready (withValue (helds.Value v) (tokenAt (m .tokens) p))) m)))
       → Answered end h v true before after
   unfolding isPlace answeredBy
   is-answered l e =

@@ -42,7 +42,8 @@ unfolding heldFound
 held-nothing c helds.Nothing e = refl
 held-nothing c (helds.Value v) e = absurd (omega arith)
 
-held-value : (c n : ℕ) (h : Held) → (heldKind h ≡ 0 → ⊥) → n ≡ heldNumber h → heldInRange h ≡ true → arguments.Value (signed n) ≡ heldFound c h
+held-value : (c n : ℕ) (h : Held) → (heldKind h ≡ 0 → ⊥) → n ≡ heldNumber h → heldInRange h ≡ true
+    → arguments.Value (signed n) ≡ heldFound c h
 unfolding heldFound heldInRange
 held-value c n helds.Nothing f e r = absurd (f refl)
 held-value c n (helds.Value v) f e r = ap arguments.Value (ap signed e ∙ signed-unsigned v r)
@@ -61,7 +62,8 @@ slot-empty cs slots.Empty e = refl
 slot-empty cs (slots.Value v) e = absurd (omega arith)
 slot-empty cs (slots.Cell c) e = absurd (omega arith)
 
-slot-value : (cs : List Cell) (n : ℕ) (s : Slot) → slotKind s ≡ 1 → n ≡ slotNumber s → slotInRange 32 s ≡ true → arguments.Value (signed n) ≡ foundOf cs s
+slot-value : (cs : List Cell) (n : ℕ) (s : Slot) → slotKind s ≡ 1 → n ≡ slotNumber s → slotInRange 32 s ≡ true
+    → arguments.Value (signed n) ≡ foundOf cs s
 unfolding foundOf slotInRange
 slot-value cs n slots.Empty e f r = absurd (omega arith)
 slot-value cs n (slots.Value v) e f r = ap arguments.Value (ap signed f ∙ signed-unsigned v r)
@@ -106,7 +108,8 @@ module _ (m : Machine) (p x k n : ℕ) (o : LookFacts m p) where
     variable-value e = slot-value (m .cells) n bound (sym ek ∙ e) en in-range
 
     pub variable-cell : (r : Argument) → (k ≡ 0 → ⊥) → (k ≡ 1 → ⊥)
-        → (n < 32 → heldInRange (cellAt (m .cells) n .value) ≡ true → r ≡ heldFound n (cellAt (m .cells) n .value)) → r ≡ foundOf (m .cells) bound
+        → (n < 32 → heldInRange (cellAt (m .cells) n .value) ≡ true → r ≡ heldFound n (cellAt (m .cells) n .value))
+        → r ≡ foundOf (m .cells) bound
     variable-cell r f g h =
         let both = slot-cell (m .cells) n bound (λ z. f (ek ∙ z)) (λ z. g (ek ∙ z)) en in-range in
         h (both .0) (cell-in-range (m .cells) n (o .cells)) ∙ both .1
@@ -122,7 +125,8 @@ module _ (cs : List Cell) (bs : List Bind) (k w : ℕ) where
   found-constant f = sym (ap (paramFound cs bs) (param-constant k w f))
 
 -- looking up, one more at each turn
-look-held : (c : ℕ) (h : Held) (l : LookUpResult) → elim h as (λ h. LookUpResult) [ helds.Nothing ↦ unset c | helds.Value v ↦ andThen v l ] ≡ after (heldFound c h) l
+look-held : (c : ℕ) (h : Held) (l : LookUpResult)
+    → elim h as (λ h. LookUpResult) [ helds.Nothing ↦ unset c | helds.Value v ↦ andThen v l ] ≡ after (heldFound c h) l
 unfolding after heldFound
 look-held c helds.Nothing l = refl
 look-held c (helds.Value v) l = refl
@@ -140,7 +144,8 @@ look-slot cs slots.Empty l = refl
 look-slot cs (slots.Value v) l = refl
 look-slot cs (slots.Cell c) l = look-held c (cellAt cs c .value) l
 
-look-next : (cs : List Cell) (bs : List Bind) (q : Param) (ps : List Param) → look cs bs (q ∷ ps) ≡ after (paramFound cs bs q) (look cs bs ps)
+look-next : (cs : List Cell) (bs : List Bind) (q : Param) (ps : List Param)
+    → look cs bs (q ∷ ps) ≡ after (paramFound cs bs q) (look cs bs ps)
 unfolding look paramFound after
 look-next cs bs (constant v) ps = refl
 look-next cs bs (variable x) ps = look-slot cs (slotAt bs x) (look cs bs ps)
@@ -181,7 +186,8 @@ module _ (cs : List Cell) (bs : List Bind) (ps : List Param) (i : ℕ) (vs : Lis
         → look cs bs ps ≡ behind (take i vs) (after k (look cs bs (drop (suc i) ps)))
     step d k l e =
         o ∙ ap (behind (take i vs))
-        (ap (look cs bs) (drop-cons ps i d l) ∙ look-next cs bs (getD ps i d) (drop (suc i) ps) ∙ ap (λ x. after x (look cs bs (drop (suc i) ps))) e)
+        (ap (look cs bs) (drop-cons ps i d l) ∙ look-next cs bs (getD ps i d) (drop (suc i) ps)
+        ∙ ap (λ x. after x (look cs bs (drop (suc i) ps))) e)
 
     pub looking-on : (d : Param) (v : ℤ) → i < length ps → i < 4 → paramFound cs bs (getD ps i d) ≡ arguments.Value v
         → look cs bs ps ≡ behind (take (i + 1) (set vs i v)) (look cs bs (drop (i + 1) ps))
@@ -192,7 +198,8 @@ module _ (cs : List Cell) (bs : List Bind) (ps : List Param) (i : ℕ) (vs : Lis
         let one : i + 1 ≡ suc i = add-one i in
         step d (arguments.Value v) l e
         ∙ behind-more (take i vs) v (look cs bs (drop (suc i) ps))
-        ∙ ap₂ (λ xs n. behind xs (look cs bs (drop n ps))) (sym (take-suc-set vs i v room) ∙ ap (λ n. take n (set vs i v)) (sym one)) (sym one)
+        ∙ ap₂ (λ xs n. behind xs (look cs bs (drop n ps))) (sym (take-suc-set vs i v room) ∙ ap (λ n. take n (set vs i v)) (sym one))
+        (sym one)
 
     pub look-up-unset : (d : Param) (c : ℕ) → i < length ps → paramFound cs bs (getD ps i d) ≡ arguments.Unset c
         → record { unset = c; values = replicate 4 (pos 0) } ≡ lookUpOf (look cs bs ps)
@@ -220,7 +227,8 @@ module _ (ws : List ℕ) (at i : ℕ) (o : ParamsHold ws at) (l : i < getD ws (a
   pub param-here : paramOf (getD ws (at + 4 + 2 * i) 0) (getD ws (at + 4 + 2 * i + 1) 0) ≡ getD (paramsAt ws at) i (variable 0)
   param-here =
       let next : at + 4 + 2 * i + 1 ≡ at + 5 + 2 * i = omega arith in
-      ap (λ j. paramOf (getD ws (at + 4 + 2 * i) 0) (getD ws j 0)) next ∙ sym (params-at ws at (o .size) (o .inside) (o .few) i (variable 0) l)
+      ap (λ j. paramOf (getD ws (at + 4 + 2 * i) 0) (getD ws j 0)) next
+      ∙ sym (params-at ws at (o .size) (o .inside) (o .few) i (variable 0) l)
 
   pub param-there : i < length (paramsAt ws at)
   param-there = let n = params-count ws at (o .size) (o .inside) (o .few) in omega arith
@@ -249,7 +257,8 @@ unfolding paramFound notEmpty
 param-found cs bs (constant v) e f = let z : _≡_ {A = ℕ} 0 1 = cc in omega arith
 param-found cs bs (variable x) e f = bound-found cs (slotAt bs x) e f
 
-after-count : (n : ℕ) (k : Argument) (l : LookUpResult) (vs : List ℤ) → (k ≡ arguments.Nothing → ⊥) → ((us : List ℤ) → l ≡ values us → length us ≡ n)
+after-count : (n : ℕ) (k : Argument) (l : LookUpResult) (vs : List ℤ) → (k ≡ arguments.Nothing → ⊥)
+    → ((us : List ℤ) → l ≡ values us → length us ≡ n)
     → after k l ≡ values vs → length vs ≡ suc n
 unfolding after andThen
 after-count n (arguments.Value v) (values us) vs f g e = let z : vs ≡ v ∷ us = cc in ap length z ∙ ap suc (g us refl)
@@ -257,7 +266,8 @@ after-count n (arguments.Value v) (unset c) vs f g e = let z : _≡_ {A = ℕ} 0
 after-count n (arguments.Unset c) l vs f g e = let z : _≡_ {A = ℕ} 0 1 = cc in absurd (omega arith)
 after-count n arguments.Nothing l vs f g e = absurd (f refl)
 
-pub look-count : (cs : List Cell) (bs : List Bind) (ps : List Param) (vs : List ℤ) → all (notEmpty bs) ps ≡ true → look cs bs ps ≡ values vs → length vs ≡ length ps
+pub look-count : (cs : List Cell) (bs : List Bind) (ps : List Param) (vs : List ℤ) → all (notEmpty bs) ps ≡ true → look cs bs ps ≡ values vs
+    → length vs ≡ length ps
 unfolding look
 look-count cs bs [] vs e f = let z : vs ≡ [] = cc in ap length z
 look-count cs bs (q ∷ ps) vs e f =
@@ -271,7 +281,8 @@ unfolding lookUpOf
 look-waits (values vs) r e l = let z = ap (λ (r : LookUp). r .unset) e in absurd (omega arith)
 look-waits (unset c) r e l = ap unset (sym (ap (λ (r : LookUp). r .unset) e))
 
-pub look-values : (l : LookUpResult) (r : LookUp) → r ≡ lookUpOf l → (r .unset < 32 → ⊥) → ((c : ℕ) → l ≡ unset c → c < 32) → (vs : List ℤ) × (l ≡ values vs) × (r .values ≡ reportValues vs)
+pub look-values : (l : LookUpResult) (r : LookUp) → r ≡ lookUpOf l → (r .unset < 32 → ⊥) → ((c : ℕ) → l ≡ unset c → c < 32)
+    → (vs : List ℤ) × (l ≡ values vs) × (r .values ≡ reportValues vs)
 unfolding lookUpOf
 look-values (values vs) r e f g = (vs, refl, ap (λ (r : LookUp). r .values) e)
 look-values (unset c) r e f g = absurd (f (subst (λ n. n < 32) (sym (ap (λ (r : LookUp). r .unset) e)) (g c refl)))
@@ -294,7 +305,8 @@ module _ (cs : List Cell) (bs : List Bind) (r : all (λ (b : Bind). slotInRange 
   param-below (constant v) d e = let z : _≡_ {A = ℕ} 0 1 = cc in absurd (omega arith)
   param-below (variable x) d e = slot-below cs (slotAt bs x) d (slot-in-range bs x r) e
 
-  after-below : (k : Argument) (l : LookUpResult) (c : ℕ) → ((d : ℕ) → k ≡ arguments.Unset d → d < 32) → ((d : ℕ) → l ≡ unset d → d < 32) → after k l ≡ unset c → c < 32
+  after-below : (k : Argument) (l : LookUpResult) (c : ℕ) → ((d : ℕ) → k ≡ arguments.Unset d → d < 32) → ((d : ℕ) → l ≡ unset d → d < 32)
+      → after k l ≡ unset c → c < 32
   unfolding after andThen
   after-below (arguments.Value v) (values us) c f g e = let z : _≡_ {A = ℕ} 0 1 = cc in absurd (omega arith)
   after-below (arguments.Value v) (unset b) c f g e = g c e
@@ -305,4 +317,5 @@ module _ (cs : List Cell) (bs : List Bind) (r : all (λ (b : Bind). slotInRange 
   unfolding look
   look-below [] c e = let z : _≡_ {A = ℕ} 0 1 = cc in absurd (omega arith)
   look-below (q ∷ ps) c e =
-      after-below (paramFound cs bs q) (look cs bs ps) c (λ d f. param-below q d f) (λ d f. look-below ps d f) (sym (look-next cs bs q ps) ∙ e)
+      after-below (paramFound cs bs q) (look cs bs ps) c (λ d f. param-below q d f) (λ d f. look-below ps d f)
+      (sym (look-next cs bs q ps) ∙ e)

@@ -1,5 +1,5 @@
--- Reading a node: for a dag whose rules hold the node at an index is the one that its row's words are by their kind, because a row of other words would be
--- no node, which the rules refuse. Assumes nothing.
+-- Reading a node: for a dag whose rules hold the node at an index is the one that its row's words are by their kind, because a row of other
+-- words would be no node, which the rules refuse. Assumes nothing.
 use mathlib.Core.Path.{_≡_, refl, ap, ap₂, subst, _∙_}
 use mathlib.Core.Bool.{Bool, true, false}
 use mathlib.Core.List.{List}
@@ -43,7 +43,8 @@ holds-words : (d : Dag) (row : List ℕ) → nodeHolds d (decodedNode row) ≡ t
 unfolding decodedNode nodeHolds
 holds-words d row e = go (same row (nodeWords (nodeBy row))) refl e
   where
-    go : (b : Bool) → same row (nodeWords (nodeBy row)) ≡ b → nodeHolds d (elim b [ true ↦ nodeBy row | false ↦ Node.unknown ]) ≡ true → row ≡ nodeWords (nodeBy row)
+    go : (b : Bool) → same row (nodeWords (nodeBy row)) ≡ b → nodeHolds d (elim b [ true ↦ nodeBy row | false ↦ Node.unknown ]) ≡ true
+        → row ≡ nodeWords (nodeBy row)
     go true s k = same-eq row (nodeWords (nodeBy row)) s
     go false s k = clash k refl
 
@@ -74,7 +75,8 @@ unfolding nodeBy paramsAt
 node-of-kind ws at kind e =
     let start : at + 0 ≡ at = omega arith in
     let row = rowAt ws at in
-    ap₂ (λ x y. nodeOfKind x y (getD row 3 0) (paramsFrom (getD row 3 0) (drop 4 row)) (getD row 0 0)) (row-word ws at 1 (omega arith)) (row-word ws at 2 (omega arith))
+    ap₂ (λ x y. nodeOfKind x y (getD row 3 0) (paramsFrom (getD row 3 0) (drop 4 row)) (getD row 0 0)) (row-word ws at 1 (omega arith))
+    (row-word ws at 2 (omega arith))
     ∙ ap₂ (λ x y. nodeOfKind (getD ws (at + 1) 0) (getD ws (at + 2) 0) x (paramsFrom x (drop 4 row)) y) (row-word ws at 3 (omega arith))
     (row-word ws at 0 (omega arith) ∙ ap (λ n. getD ws n 0) start ∙ e)
 

@@ -62,7 +62,8 @@ module _ (ws : List ℕ) (at : ℕ) (size : length ws ≡ 12331) (inside : at + 
   row-long = let z : length (drop at ws) ≡ length ws - at = length-drop at ws in length-take-le 12 (drop at ws) (omega arith)
 
   words-long : length (drop 4 (rowAt ws at)) ≡ 8
-  words-long = let z : length (drop 4 (rowAt ws at)) ≡ length (rowAt ws at) - 4 = length-drop 4 (rowAt ws at) in let y = row-long in omega arith
+  words-long = let z : length (drop 4 (rowAt ws at)) ≡ length (rowAt ws at) - 4 = length-drop 4 (rowAt ws at) in let y = row-long in
+      omega arith
 
   param-word : (i : ℕ) → i < 8 → getD (drop 4 (rowAt ws at)) i 0 ≡ getD ws (at + (4 + i)) 0
   param-word i l = getD-drop 4 (rowAt ws at) i 0 ∙ row-word ws at (4 + i) (omega arith)
@@ -151,7 +152,8 @@ module _ (ws : List ℕ) (at i k w : ℕ) (o : ParamsHold ws at) (l : i < getD w
       ap (set (formalsBound bs (take i (paramsAt ws at))) i) (g ∙ ap (passed bs) (sym (the-param e f)))
       ∙ bound-more bs (paramsAt ws at) i (variable 0) (omega arith) (omega arith)
 
-pub params-bound : (ws : List ℕ) (at i : ℕ) (bs : List Bind) → ParamsHold ws at → getD ws (at + 3) 0 ≤ i → formalsBound bs (take i (paramsAt ws at)) ≡ formalsBound bs (paramsAt ws at)
+pub params-bound : (ws : List ℕ) (at i : ℕ) (bs : List Bind) → ParamsHold ws at → getD ws (at + 3) 0 ≤ i
+    → formalsBound bs (take i (paramsAt ws at)) ≡ formalsBound bs (paramsAt ws at)
 params-bound ws at i bs o l = let n = params-count ws at (o .size) (o .inside) (o .few) in bound-all bs (paramsAt ws at) i (omega arith)
 
 pub none-bound : (bs : List Bind) (ps : List Param) → unbound ≡ formalsBound bs (take 0 ps)

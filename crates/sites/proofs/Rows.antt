@@ -1,4 +1,5 @@
--- What the rules of a dag say, where they hold, of a node's row: the node that its words are, by its kind, and the numbers in them. Assumes nothing.
+-- What the rules of a dag say, where they hold, of a node's row: the node that its words are, by its kind, and the numbers in them. Assumes
+-- nothing.
 use mathlib.Core.Path.{_≡_, refl, sym, ap, subst, _∙_}
 use mathlib.Core.Logic.{_⊎_, inl, inr}
 use mathlib.Core.Bool.{true}
@@ -71,7 +72,8 @@ module _ (ws : List ℕ) (at : ℕ) where
   abbrev word : ℕ → ℕ
   word i = getD ws (at + i) 0
 
-  bind-numbers : (kind : ℕ) → NodeRow ws at kind → nodeHolds (dagOf ws) (Node.assign (word 1) (word 2)) ≡ true → (word 1 < 8) × (word 2 < 65536)
+  bind-numbers : (kind : ℕ) → NodeRow ws at kind → nodeHolds (dagOf ws) (Node.assign (word 1) (word 2)) ≡ true
+      → (word 1 < 8) × (word 2 < 65536)
   unfolding nodeHolds
   bind-numbers kind o e = (ltb-lt (word 1) 8 (and-left _ _ e), node-number ws at kind o (word 2) (and-right (ltb (word 1) 8) _ e))
 
@@ -93,7 +95,8 @@ module _ (ws : List ℕ) (at : ℕ) where
       )
 
   -- definition call
-  call-rule : NodeRow ws at 2 → (ltb (word 1) (length (dagOf ws .bodies)) and paramsHold (paramsAt ws at) and isNode (dagOf ws) (word 2)) ≡ true
+  call-rule : NodeRow ws at 2 → (ltb (word 1) (length (dagOf ws .bodies)) and paramsHold (paramsAt ws at) and isNode (dagOf ws) (word 2))
+      ≡ true
   unfolding nodeHolds
   call-rule o = node-holds ws at 2 o
 
@@ -104,7 +107,8 @@ module _ (ws : List ℕ) (at : ℕ) where
   call-body : NodeRow ws at 2 → word 1 < length (dagOf ws .bodies)
   call-body o = ltb-lt (word 1) (length (dagOf ws .bodies)) (and-left _ _ (call-rule o))
 
-  pub call-root : (k : ℕ) → NodeRow ws at 2 → k ≡ word 1 → (k < 32) × (getD ws (3 + 2 * k) 0 < 65536) × (getD ws (3 + 2 * k) 0 ≡ bodyAt (dagOf ws) (word 1) .root)
+  pub call-root : (k : ℕ) → NodeRow ws at 2 → k ≡ word 1
+      → (k < 32) × (getD ws (3 + 2 * k) 0 < 65536) × (getD ws (3 + 2 * k) 0 ≡ bodyAt (dagOf ws) (word 1) .root)
   call-root k o same =
       let b = body-few ws (word 1) (o .dag) (call-body o) in
       let r = root-few ws (word 1) (o .dag) (call-body o) in (
@@ -114,7 +118,8 @@ module _ (ws : List ℕ) (at : ℕ) where
       )
 
   -- site call
-  site-rule : NodeRow ws at 1 → (siteTakes (word 1) (length (paramsAt ws at)) and paramsHold (paramsAt ws at) and isNode (dagOf ws) (word 2)) ≡ true
+  site-rule : NodeRow ws at 1
+      → (siteTakes (word 1) (length (paramsAt ws at)) and paramsHold (paramsAt ws at) and isNode (dagOf ws) (word 2)) ≡ true
   unfolding nodeHolds
   site-rule o = node-holds ws at 1 o
 
@@ -132,7 +137,8 @@ kind-below d a b c ps kind e = go (decLt kind 10)
   where
     go : Dec (kind < 10) → kind < 10
     go (yes l) = l
-    go (no f) = clash (subst (λ n. nodeHolds d n ≡ true) (List·getD-eq-default (nodesByKind a b c ps) Node.unknown {n = kind} (omega arith)) e) refl
+    go (no f) = clash
+        (subst (λ n. nodeHolds d n ≡ true) (List·getD-eq-default (nodesByKind a b c ps) Node.unknown {n = kind} (omega arith)) e) refl
 
 -- the kind that is left is the last one
 low-kinds : (k : ℕ) → (k ≡ 0 → ⊥) → (k ≡ 1 → ⊥) → (k ≡ 2 → ⊥) → (k ≡ 3 → ⊥) → (k ≡ 4 → ⊥) → 5 ≤ k

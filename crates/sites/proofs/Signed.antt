@@ -1,5 +1,5 @@
--- Signed 32-bit numbers as the code has them: a sum fits 64 bits, two comparisons tell whether it fits 32, and two numbers are equal exactly
--- when their bits are. Assumes nothing.
+-- Signed 32-bit numbers as the code has them: a sum fits 64 bits, two comparisons tell whether it fits 32, and two numbers are equal
+-- exactly when their bits are. Assumes nothing.
 use mathlib.Core.Path.{_≡_, refl, sym, ap, _∙_}
 use mathlib.Core.Bool.{Bool, true, false, cond}
 use Prim.Native.Nat.{ℕ, zero, suc, _+_, _-_, _≤_, _<_, _^_}

@@ -1,4 +1,5 @@
--- Reading and writing tables: within a table the default is never read, and a loop that writes f of each element comes to `map f`. Assumes nothing.
+-- Reading and writing tables: within a table the default is never read, and a loop that writes f of each element comes to `map f`. Assumes
+-- nothing.
 use mathlib.Core.Path.{_≡_, refl, sym, ap, ap₂, _∙_}
 use mathlib.Core.List.{List, [], _∷_, _++_, map, append-nil}
 use Prim.Native.Nat.{ℕ, zero, suc, _+_, _-_, _<_, _≤_}

@@ -40,7 +40,9 @@ pub struct LookUp {
 
 // A cell as an argument.
 fn cell_argument(w: &[u32; Machine::WORDS], number: u32) -> Argument
-    ensures { λ r. ⌜ ((m : Machine) → Codes (now (w .entry)) m → number < 32 → heldInRange (cellAt (m .cells) number .value) ≡ true → r ≡ heldFound number (cellAt (m .cells) number .value)) ⌝ }
+    ensures { λ r.
+        ⌜ ((m : Machine) → Codes (now (w .entry)) m → number < 32 → heldInRange (cellAt (m .cells) number .value) ≡ true
+        → r ≡ heldFound number (cellAt (m .cells) number .value)) ⌝ }
 {
     let c = wide(number);
     if Machine::CELLS <= c {
@@ -55,7 +57,8 @@ fn cell_argument(w: &[u32; Machine::WORDS], number: u32) -> Argument
 // A variable as an argument.
 fn variable_argument(w: &[u32; Machine::WORDS], p: usize, x: usize) -> Argument
     requires { ⌜ (p < 64) × (x < 8) ⌝ }
-    ensures { λ r. ⌜ ((m : Machine) → Codes (now (w .entry)) m → LookFacts m p → r ≡ foundOf (m .cells) (slotAt (tokenAt (m .tokens) p .binds) x)) ⌝ }
+    ensures { λ r.
+        ⌜ ((m : Machine) → Codes (now (w .entry)) m → LookFacts m p → r ≡ foundOf (m .cells) (slotAt (tokenAt (m .tokens) p .binds) x)) ⌝ }
 {
     let kind = token::bind_kind(w, p, x);
     let number = token::bind_number(w, p, x);
@@ -71,7 +74,10 @@ fn variable_argument(w: &[u32; Machine::WORDS], p: usize, x: usize) -> Argument
 // The parameter whose kind stands at a word of the dag, and its number behind it.
 fn param_argument(w: &[u32; Machine::WORDS], dag: &[u32; WORDS], p: usize, at: usize) -> Argument
     requires { ⌜ (p < 64) × (at + 1 < 12331) × (paramHolds (paramOf (getD (now dag) at 0) (getD (now dag) (at + 1) 0)) ≡ true) ⌝ }
-    ensures { λ r. ⌜ ((m : Machine) → Codes (now (w .entry)) m → LookFacts m p → r ≡ paramFound (m .cells) (tokenAt (m .tokens) p .binds) (paramOf (getD (now (dag .entry)) at 0) (getD (now (dag .entry)) (at + 1) 0))) ⌝ }
+    ensures { λ r.
+        ⌜ ((m : Machine) → Codes (now (w .entry)) m → LookFacts m p
+        → r ≡ paramFound (m .cells) (tokenAt (m .tokens) p .binds)
+        (paramOf (getD (now (dag .entry)) at 0) (getD (now (dag .entry)) (at + 1) 0))) ⌝ }
 {
     let word = dag[at + 1];
     if dag[at] == VARIABLE {
@@ -83,7 +89,9 @@ fn param_argument(w: &[u32; Machine::WORDS], dag: &[u32; WORDS], p: usize, at: u
 // The parameters of the node whose row begins at a word of the dag.
 pub fn look_up(w: &[u32; Machine::WORDS], dag: &[u32; WORDS], p: usize, at: usize) -> LookUp
     requires { ⌜ (p < 64) × ParamsHold (now dag) at ⌝ }
-    ensures { λ r. ⌜ ((m : Machine) → Codes (now (w .entry)) m → LookFacts m p → r ≡ lookUpOf (look (m .cells) (tokenAt (m .tokens) p .binds) (paramsAt (now (dag .entry)) at))) ⌝ }
+    ensures { λ r.
+        ⌜ ((m : Machine) → Codes (now (w .entry)) m → LookFacts m p
+        → r ≡ lookUpOf (look (m .cells) (tokenAt (m .tokens) p .binds) (paramsAt (now (dag .entry)) at))) ⌝ }
 {
     let count = wide(dag[at + PARAMETER_COUNT]);
     let mut values = [0i32; 4];

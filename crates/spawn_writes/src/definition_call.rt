@@ -41,7 +41,9 @@ use writes::dag::dag_word;
 // "A variable's binding is passed on as it is, its cell set or unset": one parameter, by its kind and word, to the formal i.
 fn pass(w: &mut [u32; Machine::WORDS], p: usize, new: usize, i: usize, kind: u32, number: u32)
     requires { ⌜ (p < 64) × (new < 64) × (i < 8) × (paramHolds (paramOf kind number) ≡ true) ⌝ }
-    ensures { λ _. ⌜ ((m : Machine) (t : Token) → Holds (now (w .entry)) (put new t m) → (p ≡ new → ⊥) → Holds (now (w .exit)) (put new (withBinding i (passed (tokenAt (m .tokens) p .binds) (paramOf kind number) .slot) t) m)) ⌝ }
+    ensures { λ _.
+        ⌜ ((m : Machine) (t : Token) → Holds (now (w .entry)) (put new t m) → (p ≡ new → ⊥)
+        → Holds (now (w .exit)) (put new (withBinding i (passed (tokenAt (m .tokens) p .binds) (paramOf kind number) .slot) t) m)) ⌝ }
 {
     if kind == VARIABLE {
         let x = wide(number);
@@ -56,7 +58,10 @@ fn pass(w: &mut [u32; Machine::WORDS], p: usize, new: usize, i: usize, kind: u32
 // "only its formals bound"
 fn pass_all(w: &mut [u32; Machine::WORDS], dag: &[u32; WORDS], at: usize, p: usize, new: usize)
     requires { ⌜ (p < 64) × (new < 64) × ParamsHold (now dag) at ⌝ }
-    ensures { λ _. ⌜ ((m : Machine) → Holds (now (w .entry)) (put new blankToken m) → (p ≡ new → ⊥) → Holds (now (w .exit)) (put new (withBinds (formalsBound (tokenAt (m .tokens) p .binds) (paramsAt (now (dag .entry)) at)) blankToken) m)) ⌝ }
+    ensures { λ _.
+        ⌜ ((m : Machine) → Holds (now (w .entry)) (put new blankToken m) → (p ≡ new → ⊥)
+        → Holds (now (w .exit))
+        (put new (withBinds (formalsBound (tokenAt (m .tokens) p .binds) (paramsAt (now (dag .entry)) at)) blankToken) m)) ⌝ }
 {
     let count = wide(dag_word(dag, at + PARAMETER_COUNT));
     let mut i: usize = 0;
@@ -79,7 +84,10 @@ fn put_callee(
     home: u32,
 )
     requires { ⌜ (p < 64) × (new < 64) × ParamsHold (now dag) at ⌝ }
-    ensures { λ _. ⌜ ((m : Machine) (q : Place) → Holds (now (w .entry)) m → (p ≡ new → ⊥) → tokenAt (m .tokens) new ≡ blankToken → placeNumber q ≡ home → Holds (now (w .exit)) (put new (callee p q (tokenAt (m .tokens) p .binds) root (paramsAt (now (dag .entry)) at)) m)) ⌝ }
+    ensures { λ _.
+        ⌜ ((m : Machine) (q : Place) → Holds (now (w .entry)) m → (p ≡ new → ⊥) → tokenAt (m .tokens) new ≡ blankToken
+        → placeNumber q ≡ home
+        → Holds (now (w .exit)) (put new (callee p q (tokenAt (m .tokens) p .binds) root (paramsAt (now (dag .entry)) at)) m)) ⌝ }
 {
     pass_all(w, dag, at, p, new);
     set_state(w, new, READY_STATE, 0);
@@ -100,7 +108,12 @@ pub fn written(
     next: u32,
 )
     requires { ⌜ (p < 64) × (new < 64) × ParamsHold (now dag) at ⌝ }
-    ensures { λ _. ⌜ ((m : Machine) → Holds (now (w .entry)) m → place < m .queued → (p ≡ new → ⊥) → tokenAt (m .tokens) new ≡ blankToken → Holds (now (w .exit)) (enqueue new (newToken new (callee p (tokenAt (m .tokens) p .cell) (tokenAt (m .tokens) p .binds) root (paramsAt (now (dag .entry)) at)) (put p (withNode next (withState states.Frame (tokenAt (m .tokens) p))) (dequeued m place))))) ⌝ }
+    ensures { λ _.
+        ⌜ ((m : Machine) → Holds (now (w .entry)) m → place < m .queued → (p ≡ new → ⊥) → tokenAt (m .tokens) new ≡ blankToken
+        → Holds (now (w .exit))
+        (enqueue new (newToken new
+        (callee p (tokenAt (m .tokens) p .cell) (tokenAt (m .tokens) p .binds) root (paramsAt (now (dag .entry)) at))
+        (put p (withNode next (withState states.Frame (tokenAt (m .tokens) p))) (dequeued m place))))) ⌝ }
 {
     let home = cell(w, p);
     leave(w, place);

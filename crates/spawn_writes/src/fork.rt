@@ -22,7 +22,12 @@ pub fn written(
     right: u32,
 )
     requires { ⌜ (p < 64) × (new < 64) ⌝ }
-    ensures { λ _. ⌜ ((m : Machine) → Holds (now (w .entry)) m → place < m .queued → m .queued < 64 → Holds (now (w .exit)) (enqueue new (enqueue p (newToken new (withNode right (tokenAt (m .tokens) p)) (put p (withNode left (tokenAt (m .tokens) p)) (dequeued m place)))))) ⌝ }
+    ensures { λ _.
+        ⌜ ((m : Machine) → Holds (now (w .entry)) m → place < m .queued → m .queued < 64
+        → Holds (now (w .exit))
+        (enqueue new (enqueue p
+        (newToken new (withNode right (tokenAt (m .tokens) p))
+        (put p (withNode left (tokenAt (m .tokens) p)) (dequeued m place)))))) ⌝ }
 {
     leave(w, place);
     set_node(w, p, left);

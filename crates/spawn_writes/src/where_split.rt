@@ -32,7 +32,11 @@ fn split_tokens(
     right: u32,
 )
     requires { ⌜ (p < 64) × (new < 64) × (c < 32) × (x < 8) ⌝ }
-    ensures { λ _. ⌜ ((m : Machine) → Holds (now (w .entry)) m → (p ≡ new → ⊥) → Holds (now (w .exit)) (put new (inCell c (withNode right (tokenAt (m .tokens) p))) (put p (withNode left (withBinding x (slots.Cell c) (tokenAt (m .tokens) p))) m))) ⌝ }
+    ensures { λ _.
+        ⌜ ((m : Machine) → Holds (now (w .entry)) m → (p ≡ new → ⊥)
+        → Holds (now (w .exit))
+        (put new (inCell c (withNode right (tokenAt (m .tokens) p)))
+        (put p (withNode left (withBinding x (slots.Cell c) (tokenAt (m .tokens) p))) m))) ⌝ }
 {
     copy(w, p, new);
     set_node(w, new, right);
@@ -53,7 +57,13 @@ pub fn written(
     right: u32,
 )
     requires { ⌜ (p < 64) × (new < 64) × (c < 32) × (x < 8) ⌝ }
-    ensures { λ _. ⌜ ((m : Machine) → Holds (now (w .entry)) m → place < m .queued → m .queued < 64 → (p ≡ new → ⊥) → Holds (now (w .exit)) (enqueue new (enqueue p (newCell c (unsetCell (tokenAt (m .tokens) p .cell)) (newToken new (inCell c (withNode right (tokenAt (m .tokens) p))) (put p (withNode left (withBinding x (slots.Cell c) (tokenAt (m .tokens) p))) (dequeued m place))))))) ⌝ }
+    ensures { λ _.
+        ⌜ ((m : Machine) → Holds (now (w .entry)) m → place < m .queued → m .queued < 64 → (p ≡ new → ⊥)
+        → Holds (now (w .exit))
+        (enqueue new (enqueue p
+        (newCell c (unsetCell (tokenAt (m .tokens) p .cell))
+        (newToken new (inCell c (withNode right (tokenAt (m .tokens) p)))
+        (put p (withNode left (withBinding x (slots.Cell c) (tokenAt (m .tokens) p))) (dequeued m place))))))) ⌝ }
 {
     let parent = cell(w, p);
     leave(w, place);

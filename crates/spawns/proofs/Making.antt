@@ -1,5 +1,5 @@
--- Fork, where and definition call: the new places are free, so they are blank and apart from the token that acts, and there is room in the queue; what
--- is in use afterwards is what was, and what is new. Assumes nothing.
+-- Fork, where and definition call: the new places are free, so they are blank and apart from the token that acts, and there is room in the
+-- queue; what is in use afterwards is what was, and what is new. Assumes nothing.
 use mathlib.Core.Path.{_≡_, refl, sym, ap, subst, subst₂, _∙_}
 use mathlib.Core.Bool.{Bool, true, false}
 use mathlib.Core.List.{List, []}
@@ -68,7 +68,8 @@ module _ {ws dag : List ℕ} {used cells : List Bool} {place p : ℕ} {m : Machi
   queue-open = queue-room (dagOf dag) m (a .lawful .rules) new inside not-ready
 
 -- marks that the code changed
-carried-as : {o : Machine} {tokens cells used below : List Bool} → Carried o tokens cells → tokens ≡ used → cells ≡ below → Carried o used below
+carried-as : {o : Machine} {tokens cells used below : List Bool} → Carried o tokens cells → tokens ≡ used → cells ≡ below
+    → Carried o used below
 carried-as k e f = record { whole = k .whole; tokens = k .tokens ∙ e; cells = k .cells ∙ f }
 
 module _ (dag : List ℕ) (place p at : ℕ) (m : Machine) where
@@ -78,31 +79,37 @@ module _ (dag : List ℕ) (place p at : ℕ) (m : Machine) where
   abbrev word : ℕ → ℕ
   word i = getD dag (at + i) 0
 
-  module _ {ws : List ℕ} {used cells : List Bool} (a : Acting ws used cells dag place p at 3 m) {new last : ℕ} (next : new ≡ nextOr 64 used last) (given : last ≡ m .lasttoken) where
+  module _ {ws : List ℕ} {used cells : List Bool} (a : Acting ws used cells dag place p at 3 m) {new last : ℕ}
+      (next : new ≡ nextOr 64 used last) (given : last ≡ m .lasttoken) where
     pub fork-gives : {after : List ℕ} (r : Report) (left right : ℕ) → left ≡ word 1 → right ≡ word 2 → new < 64 → r ≡ plain replies.Done
         → Holds after (enqueue new (enqueue p (newToken new (withNode right t) (put p (withNode left t) (dequeued m place)))))
         → Gives (Step.step paper (dagOf dag) m place) m after (set used new true) cells r
     fork-gives {after} r left right el er l e h₀ =
         let h =
-        subst₂ (λ i j. Holds after (enqueue new (enqueue p (newToken new (withNode j t) (put p (withNode i t) (dequeued m place)))))) el er h₀ in
+        subst₂ (λ i j. Holds after (enqueue new (enqueue p (newToken new (withNode j t) (put p (withNode i t) (dequeued m place)))))) el er
+        h₀ in
         let y = token-room (a .taking .lawful) next given l in
         let k = a .taking .lawful .marks in
         gives-made _ r (fork-step dag place p at m new (y .0) (y .1) a) e h
         (carried-as
-        (forked-carried paper (dagOf dag) m (a .taking .lawful .rules) place (a .taking .queued) p (a .taking .token) fitting (y .0) new (y .1) (word 1)
+        (forked-carried paper (dagOf dag) m (a .taking .lawful .rules) place (a .taking .queued) p (a .taking .token) fitting (y .0) new
+        (y .1) (word 1)
         (word 2))
         (ap (λ u. set u new true) (sym (k .tokens))) (sym (k .cells)))
 
     pub fork-refused : (r : Report) → 64 ≤ new → r ≡ plain (replies.Refused refusals.TokenLimit)
         → Gives (Step.step paper (dagOf dag) m place) m ws used cells r
     fork-refused r l e =
-        gives-refused refusals.TokenLimit r (a .taking .lawful) (fork-full dag place p at m (token-full (a .taking .lawful) next given l) a) e
+        gives-refused refusals.TokenLimit r (a .taking .lawful) (fork-full dag place p at m (token-full (a .taking .lawful) next given l) a)
+        e
 
-  module _ {ws : List ℕ} {used cells : List Bool} (a : Acting ws used cells dag place p at 2 m) {new last : ℕ} (next : new ≡ nextOr 64 used last) (given : last ≡ m .lasttoken) where
+  module _ {ws : List ℕ} {used cells : List Bool} (a : Acting ws used cells dag place p at 2 m) {new last : ℕ}
+      (next : new ≡ nextOr 64 used last) (given : last ≡ m .lasttoken) where
     pub call-gives : {after : List ℕ} (r : Report) (root next : ℕ) → root ≡ bodyAt (dagOf dag) (word 1) .root → next ≡ word 2 → new < 64
         → r ≡ plain replies.Done
         → Holds after
-        (enqueue new (newToken new (callee p (t .cell) (t .binds) root (paramsAt dag at)) (put p (withNode next (withState states.Frame t)) (dequeued m place))))
+        (enqueue new (newToken new (callee p (t .cell) (t .binds) root (paramsAt dag at))
+        (put p (withNode next (withState states.Frame t)) (dequeued m place))))
         → Gives (Step.step paper (dagOf dag) m place) m after (set used new true) cells r
     call-gives {after} r root k₂ f g l e h =
         let y = token-room (a .taking .lawful) next given l in
@@ -111,24 +118,29 @@ module _ (dag : List ℕ) (place p at : ℕ) (m : Machine) where
         subst₂
         (λ x y.
         Holds after
-        (enqueue new (newToken new (callee p (t .cell) (t .binds) x (paramsAt dag at)) (put p (withNode y (withState states.Frame t)) (dequeued m place)))))
+        (enqueue new (newToken new (callee p (t .cell) (t .binds) x (paramsAt dag at))
+        (put p (withNode y (withState states.Frame t)) (dequeued m place)))))
         f g h in
         gives-made _ r (call-step dag place p at m new (y .0) (y .1) a) e own
         (carried-as
-        (entered-carried paper (dagOf dag) m (a .taking .lawful .rules) place (a .taking .queued) p (a .taking .token) fitting (y .0) new (y .1)
+        (entered-carried paper (dagOf dag) m (a .taking .lawful .rules) place (a .taking .queued) p (a .taking .token) fitting (y .0) new
+        (y .1)
         (bodyAt (dagOf dag) (word 1) .root) (paramsAt dag at) (word 2))
         (ap (λ u. set u new true) (sym (k .tokens))) (sym (k .cells)))
 
     pub call-refused : (r : Report) → 64 ≤ new → r ≡ plain (replies.Refused refusals.TokenLimit)
         → Gives (Step.step paper (dagOf dag) m place) m ws used cells r
     call-refused r l e =
-        gives-refused refusals.TokenLimit r (a .taking .lawful) (call-full dag place p at m (token-full (a .taking .lawful) next given l) a) e
+        gives-refused refusals.TokenLimit r (a .taking .lawful) (call-full dag place p at m (token-full (a .taking .lawful) next given l) a)
+        e
 
-  module _ {ws : List ℕ} {used cells : List Bool} (a : Acting ws used cells dag place p at 6 m) {new last : ℕ} (next : new ≡ nextOr 64 used last) (given : last ≡ m .lasttoken) where
+  module _ {ws : List ℕ} {used cells : List Bool} (a : Acting ws used cells dag place p at 6 m) {new last : ℕ}
+      (next : new ≡ nextOr 64 used last) (given : last ≡ m .lasttoken) where
     pub where-refused : (r : Report) → 64 ≤ new → r ≡ plain (replies.Refused refusals.TokenLimit)
         → Gives (Step.step paper (dagOf dag) m place) m ws used cells r
     where-refused r l e =
-        gives-refused refusals.TokenLimit r (a .taking .lawful) (where-full dag place p at m (token-full (a .taking .lawful) next given l) a) e
+        gives-refused refusals.TokenLimit r (a .taking .lawful)
+        (where-full dag place p at m (token-full (a .taking .lawful) next given l) a) e
 
     module _ {c lastc : ℕ} (nextc : c ≡ nextOr 32 cells lastc) (givenc : lastc ≡ m .lastcell) where
       pub where-refused-cell : (r : Report) → new < 64 → 32 ≤ c → r ≡ plain (replies.Refused refusals.CellLimit)
@@ -142,7 +154,8 @@ module _ (dag : List ℕ) (place p at : ℕ) (m : Machine) where
       splits x left right =
           enqueue new
           (enqueue p
-          (newCell c (unsetCell (t .cell)) (newToken new (inCell c (withNode right t)) (put p (withNode left (withBinding x (slots.Cell c) t)) (dequeued m place)))))
+          (newCell c (unsetCell (t .cell))
+          (newToken new (inCell c (withNode right t)) (put p (withNode left (withBinding x (slots.Cell c) t)) (dequeued m place)))))
 
       pub where-gives : {after : List ℕ} (r : Report) (x left right : ℕ) → x ≡ word 3 → left ≡ word 1 → right ≡ word 2 → new < 64 → c < 32
           → r ≡ plain replies.Done → Holds after (splits x left right)
@@ -154,6 +167,7 @@ module _ (dag : List ℕ) (place p at : ℕ) (m : Machine) where
           let k = a .taking .lawful .marks in
           gives-made _ r (where-step dag place p at m new c (y .0) (y .1) (z .0) (z .1) a) e h
           (carried-as
-          (split-carried paper (dagOf dag) m (a .taking .lawful .rules) place (a .taking .queued) p (a .taking .token) fitting (y .0) new (y .1) (z .0) c
+          (split-carried paper (dagOf dag) m (a .taking .lawful .rules) place (a .taking .queued) p (a .taking .token) fitting (y .0) new
+          (y .1) (z .0) c
           (z .1) (word 3) (word 1) (word 2))
           (ap (λ u. set u new true) (sym (k .tokens))) (ap (λ u. set u c true) (sym (k .cells))))

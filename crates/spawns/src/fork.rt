@@ -29,7 +29,9 @@ pub fn fork(
     at: usize,
 ) -> Report
     requires { ⌜ SomeMachine (Acting (now w) (now tokens) (now cells) (now dag) place p at 3) ⌝ }
-    ensures { λ r. ⌜ ((m : Machine) → Acting (now (w .entry)) (now (tokens .entry)) (now (cells .entry)) (now (dag .entry)) place p at 3 m → Gives (Step.step paper (dagOf (now (dag .entry))) m place) m (now (w .exit)) (now (tokens .exit)) (now (cells .entry)) r) ⌝ }
+    ensures { λ r.
+        ⌜ ((m : Machine) → Acting (now (w .entry)) (now (tokens .entry)) (now (cells .entry)) (now (dag .entry)) place p at 3 m
+        → Gives (Step.step paper (dagOf (now (dag .entry))) m place) m (now (w .exit)) (now (tokens .exit)) (now (cells .entry)) r) ⌝ }
 {
     let new = next_token(tokens, last_token(w));
     if Machine::TOKENS <= new {

@@ -33,7 +33,9 @@ pub fn where_split(
     at: usize,
 ) -> Report
     requires { ⌜ SomeMachine (Acting (now w) (now tokens) (now cells) (now dag) place p at 6) ⌝ }
-    ensures { λ r. ⌜ ((m : Machine) → Acting (now (w .entry)) (now (tokens .entry)) (now (cells .entry)) (now (dag .entry)) place p at 6 m → Gives (Step.step paper (dagOf (now (dag .entry))) m place) m (now (w .exit)) (now (tokens .exit)) (now (cells .exit)) r) ⌝ }
+    ensures { λ r.
+        ⌜ ((m : Machine) → Acting (now (w .entry)) (now (tokens .entry)) (now (cells .entry)) (now (dag .entry)) place p at 6 m
+        → Gives (Step.step paper (dagOf (now (dag .entry))) m place) m (now (w .exit)) (now (tokens .exit)) (now (cells .exit)) r) ⌝ }
 {
     let new = next_token(tokens, last_token(w));
     if Machine::TOKENS <= new {

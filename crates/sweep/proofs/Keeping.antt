@@ -41,17 +41,20 @@ module _ {A : Type 0} (blank : A) (marks : List Bool) (xs : List A) where
       before-long = let x = length-kept blank marks xs in length-take-le i (restBlanked blank marks xs) (omega arith)
 
       partly-held : partly i ≡ held (getD xs i blank)
-      partly-held = let l : i < length xs = omega arith in ap (λ (l : List A). take i (restBlanked blank marks xs) ++ l) (drop-cons xs i blank l)
+      partly-held = let l : i < length xs = omega arith in
+          ap (λ (l : List A). take i (restBlanked blank marks xs) ++ l) (drop-cons xs i blank l)
 
       partly-next : partly (i + 1) ≡ held (getD (restBlanked blank marks xs) i blank)
       partly-next =
           let x = length-kept blank marks xs in
           let l : i < length (restBlanked blank marks xs) = omega arith in
-          rw (add-one, take-suc (restBlanked blank marks xs) i blank l) (append-snoc (take i (restBlanked blank marks xs)) _ (drop (suc i) xs))
+          rw (add-one, take-suc (restBlanked blank marks xs) i blank l)
+          (append-snoc (take i (restBlanked blank marks xs)) _ (drop (suc i) xs))
 
       pub partly-at : getD (partly i) i blank ≡ getD xs i blank
       partly-at =
-          ap (λ l. getD l i blank) partly-held ∙ getD-at (take i (restBlanked blank marks xs)) (getD xs i blank) (drop (suc i) xs) blank i before-long
+          ap (λ l. getD l i blank) partly-held ∙ getD-at (take i (restBlanked blank marks xs)) (getD xs i blank)
+          (drop (suc i) xs) blank i before-long
 
       mark-at : (x : Bool) → getD marks i false ≡ x → getD marks i true ≡ x
       mark-at x e = any-default marks i true false (omega arith) ∙ e

@@ -19,7 +19,9 @@ use record::token::blank;
 // A token's row that was in use and is no more.
 fn keep_token(w: &mut [u32; Machine::WORDS], p: usize, was: bool, used: bool)
     requires { ⌜ p < 64 ⌝ }
-    ensures { λ _. ⌜ ((m : Machine) → Holds (now (w .entry)) m → (was ≡ false → tokenAt (m .tokens) p ≡ blankToken) → Holds (now (w .exit)) (sweptToken p used m)) ⌝ }
+    ensures { λ _.
+        ⌜ ((m : Machine) → Holds (now (w .entry)) m → (was ≡ false → tokenAt (m .tokens) p ≡ blankToken)
+        → Holds (now (w .exit)) (sweptToken p used m)) ⌝ }
 {
     if used {
         return;
@@ -32,7 +34,9 @@ fn keep_token(w: &mut [u32; Machine::WORDS], p: usize, was: bool, used: bool)
 // The same of a cell's.
 fn keep_cell(w: &mut [u32; Machine::WORDS], c: usize, was: bool, used: bool)
     requires { ⌜ c < 32 ⌝ }
-    ensures { λ _. ⌜ ((m : Machine) → Holds (now (w .entry)) m → (was ≡ false → cellAt (m .cells) c ≡ blankCell) → Holds (now (w .exit)) (sweptCell c used m)) ⌝ }
+    ensures { λ _.
+        ⌜ ((m : Machine) → Holds (now (w .entry)) m → (was ≡ false → cellAt (m .cells) c ≡ blankCell)
+        → Holds (now (w .exit)) (sweptCell c used m)) ⌝ }
 {
     if used {
         return;
@@ -70,7 +74,10 @@ fn keep_tokens(w: &mut [u32; Machine::WORDS], marks: &[bool], used: &[bool], end
 // The same of the cells', which the marks then say.
 fn keep_cells(w: &mut [u32; Machine::WORDS], marks: &mut [bool], used: &[bool], end: usize)
     requires { ⌜ (length (now marks) ≡ 32) × (length (now used) ≡ 32) × (end ≤ 32) × UnmarkedFrom (now marks) end 32 ⌝ }
-    ensures { λ _. ⌜ (now (marks .exit) ≡ now (used .entry)) × ((m : Machine) → Holds (now (w .entry)) m → FreeCells m (now (marks .entry)) → Holds (now (w .exit)) (withTables (m .tokens) (restBlanked blankCell (now (used .entry)) (m .cells)) m)) ⌝ }
+    ensures { λ _.
+        ⌜ (now (marks .exit) ≡ now (used .entry))
+        × ((m : Machine) → Holds (now (w .entry)) m → FreeCells m (now (marks .entry))
+        → Holds (now (w .exit)) (withTables (m .tokens) (restBlanked blankCell (now (used .entry)) (m .cells)) m)) ⌝ }
 {
     let mut c: usize = 0;
     while c < end {
@@ -88,7 +95,10 @@ fn sweep_cells(
     end: usize,
 )
     requires { ⌜ end ≤ 64 ⌝ }
-    ensures { λ _. ⌜ ((m : Machine) → Holds (now (w .entry)) m → BlankFrom m end → FreeCells m (now (marks .entry)) → Holds (now (w .exit)) (cellsSwept (now (tokens .entry)) m) × (now (marks .exit) ≡ usedCells (now (tokens .entry)) (m .tokens) (m .cells))) ⌝ }
+    ensures { λ _.
+        ⌜ ((m : Machine) → Holds (now (w .entry)) m → BlankFrom m end → FreeCells m (now (marks .entry))
+        → Holds (now (w .exit)) (cellsSwept (now (tokens .entry)) m)
+        × (now (marks .exit) ≡ usedCells (now (tokens .entry)) (m .tokens) (m .cells))) ⌝ }
 {
     let mut used = [false; Machine::CELLS];
     mark_cells(w, tokens, &mut used, end);
@@ -96,8 +106,8 @@ fn sweep_cells(
     keep_cells(w, marks, &used, cells_end);
 }
 
-// The marks say which rows may be other than blank; from the end on none is marked. Rows that are in use no more become blank, and the marks say what is in
-// use now: last, since what was just marked one by one is not read at once without waiting for it.
+// The marks say which rows may be other than blank; from the end on none is marked. Rows that are in use no more become blank, and the
+// marks say what is in use now: last, since what was just marked one by one is not read at once without waiting for it.
 pub fn sweep_to(
     w: &mut [u32; Machine::WORDS],
     tokens: &mut [bool; Machine::TOKENS],

@@ -65,7 +65,8 @@ module _ (queued : ℕ) where
 
 module _ (d : Dag) (m : Machine) (rest : List ℕ) (at : ℕ) (o : Outcome) where
   pub turn-empty : m .queued ≡ 0
-      → o ≡ Answer.answer paper d m (number (take 4 (drop at rest))) (signed (number (take 4 (drop (at + 4) rest)))) → o ≡ turnOutcome d m rest at
+      → o ≡ Answer.answer paper d m (number (take 4 (drop at rest))) (signed (number (take 4 (drop (at + 4) rest))))
+      → o ≡ turnOutcome d m rest at
   unfolding turnOutcome
   turn-empty e q = q ∙ rw (eq-eqb (m .queued) 0 e, turnOutcome) refl
 

@@ -1,4 +1,5 @@
--- The marks of the frames that may have more than one callee, as the code writes them; and nobody names a ready token as its caller. Assumes nothing.
+-- The marks of the frames that may have more than one callee, as the code writes them; and nobody names a ready token as its caller.
+-- Assumes nothing.
 use mathlib.Core.Path.{_≡_, refl, sym, ap, subst}
 use mathlib.Core.Bool.{Bool, true, false}
 use mathlib.Core.List.{List, [], _∷_}
@@ -21,7 +22,8 @@ use Rattle.record.specs.Words.{placeNumber}
 use Rattle.acts.specs.Acting.{Taking, Acting, CallersAreFrames, Gives}
 use Rattle.acts.specs.SharedFrames.{NamesAsCaller, OneCallee, callerShared, returnShared, Stepped}
 use Rattle.acts.proofs.SharedFrames.{blank-names}
-use Rattle.acts.proofs.CalleeSteps.{stop-keeps, site-keeps, assign-keeps, remove-keeps, choke-keeps, publish-keeps, call-keeps, fork-keeps, where-keeps}
+use Rattle.acts.proofs.CalleeSteps.{stop-keeps, site-keeps, assign-keeps, remove-keeps, choke-keeps, publish-keeps, call-keeps, fork-keeps}
+use Rattle.acts.proofs.CalleeSteps.{where-keeps}
 use Rattle.acts.proofs.Outcomes.{token-ready}
 use Rattle.returns.proofs.ReturnCallees.{return-keeps}
 
@@ -57,7 +59,8 @@ module _ (m : Machine) (f : ℕ) (s : List Bool) where
   return-unmarked e = rw (e, returnShared) refl
 
 -- callers are frames
-pub nobody-names : {ws dag : List ℕ} {used cells : List Bool} {place p : ℕ} {m : Machine} → Taking ws used cells dag place p m → CallersAreFrames m
+pub nobody-names : {ws dag : List ℕ} {used cells : List Bool} {place p : ℕ} {m : Machine} → Taking ws used cells dag place p m
+    → CallersAreFrames m
     → (i : ℕ) → NamesAsCaller m p i → ⊥
 unfolding isReady
 nobody-names {dag = dag} {p = p} {m = m} a framed i e = go (getD (tokensUsed m) i true) refl
@@ -74,27 +77,36 @@ abbrev GivesStep : (dag : List ℕ) (place : ℕ) (m : Machine) (after : List �
 GivesStep dag place m after used cells r = Gives (Step.step paper (dagOf dag) m place) m after used cells r
 
 pub stop-leaves : (s : List Bool) {ws dag after : List ℕ} {used cells used′ cells′ : List Bool} {place p at : ℕ} {m : Machine} {r : Report}
-    → Acting ws used cells dag place p at 0 m → OneCallee s m → GivesStep dag place m after used′ cells′ r → Leaves dag place m after used′ cells′ r s
+    → Acting ws used cells dag place p at 0 m → OneCallee s m → GivesStep dag place m after used′ cells′ r
+    → Leaves dag place m after used′ cells′ r s
 stop-leaves s a one g = record { gives = g; callees = λ framed. stop-keeps s _ _ _ _ _ _ _ _ a one }
 
 pub site-leaves : (s : List Bool) {ws dag after : List ℕ} {used cells used′ cells′ : List Bool} {place p at : ℕ} {m : Machine} {r : Report}
-    → Acting ws used cells dag place p at 1 m → OneCallee s m → GivesStep dag place m after used′ cells′ r → Leaves dag place m after used′ cells′ r s
+    → Acting ws used cells dag place p at 1 m → OneCallee s m → GivesStep dag place m after used′ cells′ r
+    → Leaves dag place m after used′ cells′ r s
 site-leaves s a one g = record { gives = g; callees = λ framed. site-keeps s _ _ _ _ _ _ _ _ a one }
 
-pub assign-leaves : (s : List Bool) {ws dag after : List ℕ} {used cells used′ cells′ : List Bool} {place p at : ℕ} {m : Machine} {r : Report}
-    → Acting ws used cells dag place p at 4 m → OneCallee s m → GivesStep dag place m after used′ cells′ r → Leaves dag place m after used′ cells′ r s
+pub assign-leaves : (s : List Bool) {ws dag after : List ℕ} {used cells used′ cells′ : List Bool} {place p at : ℕ} {m : Machine}
+    {r : Report}
+    → Acting ws used cells dag place p at 4 m → OneCallee s m → GivesStep dag place m after used′ cells′ r
+    → Leaves dag place m after used′ cells′ r s
 assign-leaves s a one g = record { gives = g; callees = λ framed. assign-keeps s _ _ _ _ _ _ _ _ a one }
 
-pub remove-leaves : (s : List Bool) {ws dag after : List ℕ} {used cells used′ cells′ : List Bool} {place p at : ℕ} {m : Machine} {r : Report}
-    → Acting ws used cells dag place p at 5 m → OneCallee s m → GivesStep dag place m after used′ cells′ r → Leaves dag place m after used′ cells′ r s
+pub remove-leaves : (s : List Bool) {ws dag after : List ℕ} {used cells used′ cells′ : List Bool} {place p at : ℕ} {m : Machine}
+    {r : Report}
+    → Acting ws used cells dag place p at 5 m → OneCallee s m → GivesStep dag place m after used′ cells′ r
+    → Leaves dag place m after used′ cells′ r s
 remove-leaves s a one g = record { gives = g; callees = λ framed. remove-keeps s _ _ _ _ _ _ _ _ a one }
 
 pub choke-leaves : (s : List Bool) {ws dag after : List ℕ} {used cells used′ cells′ : List Bool} {place p at : ℕ} {m : Machine} {r : Report}
-    → Acting ws used cells dag place p at 7 m → OneCallee s m → GivesStep dag place m after used′ cells′ r → Leaves dag place m after used′ cells′ r s
+    → Acting ws used cells dag place p at 7 m → OneCallee s m → GivesStep dag place m after used′ cells′ r
+    → Leaves dag place m after used′ cells′ r s
 choke-leaves s a one g = record { gives = g; callees = λ framed. choke-keeps s _ _ _ _ _ _ _ _ a one }
 
-pub publish-leaves : (s : List Bool) {ws dag after : List ℕ} {used cells used′ cells′ : List Bool} {place p at : ℕ} {m : Machine} {r : Report}
-    → Acting ws used cells dag place p at 9 m → OneCallee s m → GivesStep dag place m after used′ cells′ r → Leaves dag place m after used′ cells′ r s
+pub publish-leaves : (s : List Bool) {ws dag after : List ℕ} {used cells used′ cells′ : List Bool} {place p at : ℕ} {m : Machine}
+    {r : Report}
+    → Acting ws used cells dag place p at 9 m → OneCallee s m → GivesStep dag place m after used′ cells′ r
+    → Leaves dag place m after used′ cells′ r s
 publish-leaves s a one g = record { gives = g; callees = λ framed. publish-keeps s _ _ _ _ _ _ _ _ a one }
 
 pub call-leaves : (s : List Bool) {ws dag after : List ℕ} {used cells used′ cells′ : List Bool} {place p at : ℕ} {m : Machine} {r : Report}
@@ -102,7 +114,8 @@ pub call-leaves : (s : List Bool) {ws dag after : List ℕ} {used cells used′ 
     → Leaves dag place m after used′ cells′ r (set s p false)
 call-leaves s a one g = record { gives = g; callees = λ framed. call-keeps s _ _ _ _ _ _ _ _ a (nobody-names (a .taking) framed) one }
 
-pub fork-leaves : (s s′ : List Bool) {ws dag after : List ℕ} {used cells used′ cells′ : List Bool} {place p at : ℕ} {m : Machine} {r : Report}
+pub fork-leaves : (s s′ : List Bool) {ws dag after : List ℕ} {used cells used′ cells′ : List Bool} {place p at : ℕ} {m : Machine}
+    {r : Report}
     → Acting ws used cells dag place p at 3 m → OneCallee s m → GivesStep dag place m after used′ cells′ r
     → s′ ≡ callerShared (tokenAt (m .tokens) p .caller) s → Leaves dag place m after used′ cells′ r s′
 fork-leaves s s′ {dag = dag} {place = place} {m = m} a one g e =
@@ -110,10 +123,12 @@ fork-leaves s s′ {dag = dag} {place = place} {m = m} a one g e =
       gives = g;
       callees =
           λ framed.
-          subst (λ (u : List Bool). OneCallee u (Step.step paper (dagOf dag) m place .machine)) (sym e) (fork-keeps s _ _ _ _ _ _ _ _ a one);
+          subst (λ (u : List Bool). OneCallee u (Step.step paper (dagOf dag) m place .machine)) (sym e)
+          (fork-keeps s _ _ _ _ _ _ _ _ a one);
     }
 
-pub where-leaves : (s s′ : List Bool) {ws dag after : List ℕ} {used cells used′ cells′ : List Bool} {place p at : ℕ} {m : Machine} {r : Report}
+pub where-leaves : (s s′ : List Bool) {ws dag after : List ℕ} {used cells used′ cells′ : List Bool} {place p at : ℕ} {m : Machine}
+    {r : Report}
     → Acting ws used cells dag place p at 6 m → OneCallee s m → GivesStep dag place m after used′ cells′ r
     → s′ ≡ callerShared (tokenAt (m .tokens) p .caller) s → Leaves dag place m after used′ cells′ r s′
 where-leaves s s′ {dag = dag} {place = place} {m = m} a one g e =
@@ -121,10 +136,12 @@ where-leaves s s′ {dag = dag} {place = place} {m = m} a one g e =
       gives = g;
       callees =
           λ framed.
-          subst (λ (u : List Bool). OneCallee u (Step.step paper (dagOf dag) m place .machine)) (sym e) (where-keeps s _ _ _ _ _ _ _ _ a one);
+          subst (λ (u : List Bool). OneCallee u (Step.step paper (dagOf dag) m place .machine)) (sym e)
+          (where-keeps s _ _ _ _ _ _ _ _ a one);
     }
 
-pub return-leaves : (s s′ : List Bool) {ws dag after : List ℕ} {used cells used′ cells′ : List Bool} {place p at : ℕ} {m : Machine} {r : Report}
+pub return-leaves : (s s′ : List Bool) {ws dag after : List ℕ} {used cells used′ cells′ : List Bool} {place p at : ℕ} {m : Machine}
+    {r : Report}
     → Acting ws used cells dag place p at 8 m → OneCallee s m → GivesStep dag place m after used′ cells′ r
     → (f : ℕ) → f < 64 → tokenAt (m .tokens) p .caller ≡ places.At f → s′ ≡ returnShared m f s → Leaves dag place m after used′ cells′ r s′
 return-leaves s s′ {dag = dag} {place = place} {m = m} a one g f l caller e =

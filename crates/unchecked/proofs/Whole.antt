@@ -12,7 +12,8 @@ use Rattle.model.specs.Machine.Active.{upward, underSet, isActive}
 use Rattle.model.specs.Machine.Answer as Answer
 use Rattle.model.specs.Machine.Answer.{holder}
 use Rattle.model.specs.Machine.Blank.{blankToken, isPlace, tokenAt}
-use Rattle.model.specs.Machine.InUse.{markChain, markFromEach, reached, activePlaces, boundCell, cellsOf, cellsOfMarked, usedTokens, usedCells, tokensUsed, cellsUsed}
+use Rattle.model.specs.Machine.InUse.{markChain, markFromEach, reached, activePlaces, boundCell, cellsOf, cellsOfMarked, usedTokens}
+use Rattle.model.specs.Machine.InUse.{usedCells, tokensUsed, cellsUsed}
 use Rattle.model.specs.Machine.Limits.{paper}
 use Rattle.model.specs.Machine.Reply.{outcome, unless}
 use Rattle.model.specs.Machine.Start.{startToken, startMachine}
@@ -52,7 +53,8 @@ module _ {ws dag : List ℕ} {used cells : List Bool} {place : ℕ} {m : Machine
   pub taking-of : {p : ℕ} → p ≡ getD (m .queue) place 0 → Taking ws used cells dag place p m
   taking-of e = record { lawful = r .lawful; queued = r .queued; token = e }
 
-  pub acting-of : {p at : ℕ} → p ≡ getD (m .queue) place 0 → at ≡ rowOf (tokenAt (m .tokens) p .node) → Acting ws used cells dag place p at (getD dag at 0) m
+  pub acting-of : {p at : ℕ} → p ≡ getD (m .queue) place 0 → at ≡ rowOf (tokenAt (m .tokens) p .node)
+      → Acting ws used cells dag place p at (getD dag at 0) m
   acting-of e f = record { taking = taking-of e; row = f; kind = refl }
 
 pub of-kind : {ws dag : List ℕ} {used cells : List Bool} {place p at i : ℕ} (k : ℕ) {m : Machine} → getD dag at 0 ≡ i → i ≡ k
@@ -88,7 +90,8 @@ module _ {ws after dag : List ℕ} {used cells : List Bool} {m : Machine} (a : L
           let here = sym (k .says m (a .holds) blank) ∙ e in
           let c = at-place (holder handle 0 (m .tokens)) refl here in
           gives-whole (answeredBy m v (holder handle 0 (m .tokens))) replies.Done [] (answerReport true)
-          (tested a handle v ∙ ap (outcome m) (answered-moves m v _ here)) refl refl (k .does (dagOf dag) m (a .holds) blank (a .rules)) (c .whole)
+          (tested a handle v ∙ ap (outcome m) (answered-moves m v _ here)) refl refl (k .does (dagOf dag) m (a .holds) blank (a .rules))
+          (c .whole)
           (λ framed. record { whole = c .whole; tokens = c .tokens ∙ sym (a .marks .tokens); cells = c .cells ∙ sym (a .marks .cells) })
       go false e =
           let none = sym (k .says m (a .holds) blank) ∙ e in

@@ -43,9 +43,13 @@ pub fn act(
     at: usize,
 ) -> Report
     requires { ⌜ SomeMachine (Acting (now w) (now tokens) (now cells) (now dag) place p at (getD (now dag) at 0)) ⌝ }
-    ensures { λ r. ⌜ ((m : Machine) → Acting (now (w .entry)) (now (tokens .entry)) (now (cells .entry)) (now (dag .entry)) place p at (getD (now (dag .entry)) at 0) m
+    ensures { λ r.
+        ⌜ ((m : Machine)
+        → Acting (now (w .entry)) (now (tokens .entry)) (now (cells .entry)) (now (dag .entry)) place p at
+        (getD (now (dag .entry)) at 0) m
         → OneCallee (now (shared .entry)) m
-        → Stepped (Step.step paper (dagOf (now (dag .entry))) m place) m (now (w .exit)) (now (tokens .exit)) (now (cells .exit)) (now (shared .exit)) r) ⌝ }
+        → Stepped (Step.step paper (dagOf (now (dag .entry))) m place) m (now (w .exit)) (now (tokens .exit)) (now (cells .exit))
+        (now (shared .exit)) r) ⌝ }
 {
     match dag_word(dag, at) {
         STOP => stop(w, tokens, cells, dag, place, p, at),

@@ -16,8 +16,8 @@ use model::reply::Reply;
 use model::reply::Report;
 use record::count::calls_made;
 
-// Was the handle open? Then its token takes the value and is ready. It is in use before and after, and names what it named: the marks stay. A handle that no
-// call was given is not looked for, and no token from the end on, where none is in use.
+// Was the handle open? Then its token takes the value and is ready. It is in use before and after, and names what it named: the marks stay.
+// A handle that no call was given is not looked for, and no token from the end on, where none is in use.
 pub fn resume(w: &mut [u32; Machine::WORDS], handle: u32, value: i32, end: usize) -> bool
     requires { ⌜ end ≤ 64 ⌝ }
     ensures { λ r. ⌜ ((m : Machine) (dag : List ℕ) (used cells : List Bool) → Lawful (now (w .entry)) used cells dag m → BlankFrom m end

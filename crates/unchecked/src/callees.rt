@@ -1,5 +1,5 @@
-// The instructions that change who names a frame as its caller, with the marks of the frames that may have more than one callee. A return looks for another
-// callee only where its frame is marked.
+// The instructions that change who names a frame as its caller, with the marks of the frames that may have more than one callee. A return
+// looks for another callee only where its frame is marked.
 ghost use mathlib.Core.Path.{_≡_};
 ghost use Prim.Native.Nat.{_<_};
 ghost use mathlib.Core.Bool.{true};
@@ -25,7 +25,9 @@ use spawns::where_split::where_split;
 // The caller of the token at p gets one more callee.
 fn share_caller(w: &[u32; Machine::WORDS], p: usize, shared: &mut [bool])
     requires { ⌜ (p < 64) × (length (now shared) ≡ 64) ⌝ }
-    ensures { λ _. ⌜ ((m : Machine) → Codes (now (w .entry)) m → now (shared .exit) ≡ callerShared (tokenAt (m .tokens) p .caller) (now (shared .entry))) ⌝ }
+    ensures { λ _.
+        ⌜ ((m : Machine) → Codes (now (w .entry)) m
+        → now (shared .exit) ≡ callerShared (tokenAt (m .tokens) p .caller) (now (shared .entry))) ⌝ }
 {
     let f = wide(caller(w, p));
     if 0 < f {
@@ -56,7 +58,8 @@ pub fn fork_marked(
     requires { ⌜ SomeMachine (Acting (now w) (now tokens) (now cells) (now dag) place p at 3) ⌝ }
     ensures { λ r. ⌜ ((m : Machine) → Acting (now (w .entry)) (now (tokens .entry)) (now (cells .entry)) (now (dag .entry)) place p at 3 m
         → OneCallee (now (shared .entry)) m
-        → Stepped (Step.step paper (dagOf (now (dag .entry))) m place) m (now (w .exit)) (now (tokens .exit)) (now (cells .exit)) (now (shared .exit)) r) ⌝ }
+        → Stepped (Step.step paper (dagOf (now (dag .entry))) m place) m (now (w .exit)) (now (tokens .exit)) (now (cells .exit))
+        (now (shared .exit)) r) ⌝ }
 {
     share_caller(w, p, shared);
     fork(w, tokens, cells, dag, place, p, at)
@@ -75,7 +78,8 @@ pub fn where_marked(
     requires { ⌜ SomeMachine (Acting (now w) (now tokens) (now cells) (now dag) place p at 6) ⌝ }
     ensures { λ r. ⌜ ((m : Machine) → Acting (now (w .entry)) (now (tokens .entry)) (now (cells .entry)) (now (dag .entry)) place p at 6 m
         → OneCallee (now (shared .entry)) m
-        → Stepped (Step.step paper (dagOf (now (dag .entry))) m place) m (now (w .exit)) (now (tokens .exit)) (now (cells .exit)) (now (shared .exit)) r) ⌝ }
+        → Stepped (Step.step paper (dagOf (now (dag .entry))) m place) m (now (w .exit)) (now (tokens .exit)) (now (cells .exit))
+        (now (shared .exit)) r) ⌝ }
 {
     share_caller(w, p, shared);
     where_split(w, tokens, cells, dag, place, p, at)
@@ -95,7 +99,8 @@ pub fn call_marked(
     requires { ⌜ SomeMachine (Acting (now w) (now tokens) (now cells) (now dag) place p at 2) ⌝ }
     ensures { λ r. ⌜ ((m : Machine) → Acting (now (w .entry)) (now (tokens .entry)) (now (cells .entry)) (now (dag .entry)) place p at 2 m
         → OneCallee (now (shared .entry)) m
-        → Stepped (Step.step paper (dagOf (now (dag .entry))) m place) m (now (w .exit)) (now (tokens .exit)) (now (cells .exit)) (now (shared .exit)) r) ⌝ }
+        → Stepped (Step.step paper (dagOf (now (dag .entry))) m place) m (now (w .exit)) (now (tokens .exit)) (now (cells .exit))
+        (now (shared .exit)) r) ⌝ }
 {
     shared[p] = false;
     definition_call(w, tokens, cells, dag, place, p, at)
@@ -115,7 +120,8 @@ pub fn return_marked(
     requires { ⌜ SomeMachine (Acting (now w) (now tokens) (now cells) (now dag) place p at 8) ⌝ }
     ensures { λ r. ⌜ ((m : Machine) → Acting (now (w .entry)) (now (tokens .entry)) (now (cells .entry)) (now (dag .entry)) place p at 8 m
         → OneCallee (now (shared .entry)) m
-        → Stepped (Step.step paper (dagOf (now (dag .entry))) m place) m (now (w .exit)) (now (tokens .exit)) (now (cells .exit)) (now (shared .exit)) r) ⌝ }
+        → Stepped (Step.step paper (dagOf (now (dag .entry))) m place) m (now (w .exit)) (now (tokens .exit)) (now (cells .exit))
+        (now (shared .exit)) r) ⌝ }
 {
     let f = wide(caller(w, p)) - 1;
     if is_shared(shared, f) {

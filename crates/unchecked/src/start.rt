@@ -15,7 +15,8 @@ pub fn start(
     cells: &mut [bool; Machine::CELLS],
     goal: u32,
 )
-    ensures { λ _. ⌜ Holds (now (w .exit)) (startMachine paper goal) × Marks (now (tokens .exit)) (now (cells .exit)) (startMachine paper goal) ⌝ }
+    ensures { λ _.
+        ⌜ Holds (now (w .exit)) (startMachine paper goal) × Marks (now (tokens .exit)) (now (cells .exit)) (startMachine paper goal) ⌝ }
 {
     record::start::start(w, goal);
     clear(tokens, Machine::TOKENS);

@@ -27,7 +27,8 @@ pub fn step(
     requires { ⌜ SomeMachine (QueueHasToken (now w) (now tokens) (now cells) (now dag) place) ⌝ }
     ensures { λ r. ⌜ ((m : Machine) → QueueHasToken (now (w .entry)) (now (tokens .entry)) (now (cells .entry)) (now (dag .entry)) place m
         → OneCallee (now (shared .entry)) m
-        → Stepped (Step.step paper (dagOf (now (dag .entry))) m place) m (now (w .exit)) (now (tokens .exit)) (now (cells .exit)) (now (shared .exit)) r) ⌝ }
+        → Stepped (Step.step paper (dagOf (now (dag .entry))) m place) m (now (w .exit)) (now (tokens .exit)) (now (cells .exit))
+        (now (shared .exit)) r) ⌝ }
 {
     let p = wide(queue_name(w, place));
     let at = HEAD_WORDS + ROW_WORDS * wide(node(w, p));

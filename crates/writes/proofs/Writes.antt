@@ -58,10 +58,12 @@ put-comm m p q t u n = ap (λ ts. withTables ts (m .cells) m) (set-comm (m .toke
 pub carry : {ws : List ℕ} (f : Token → Machine) {t u : Token} → t ≡ u → Holds ws (f t) → Holds ws (f u)
 carry {ws} f e h = subst (λ x. Holds ws (f x)) e h
 
-pub carry-slot : {ws : List ℕ} (m : Machine) (p x : ℕ) (t : Token) {s r : Slot} → s ≡ r → Holds ws (put p (withBinding x s t) m) → Holds ws (put p (withBinding x r t) m)
+pub carry-slot : {ws : List ℕ} (m : Machine) (p x : ℕ) (t : Token) {s r : Slot} → s ≡ r → Holds ws (put p (withBinding x s t) m)
+    → Holds ws (put p (withBinding x r t) m)
 carry-slot {ws} m p x t e h = subst (λ s. Holds ws (put p (withBinding x s t) m)) e h
 
-pub carry-binds : {ws : List ℕ} (m : Machine) (p : ℕ) (t : Token) {bs cs : List Bind} → bs ≡ cs → Holds ws (put p (withBinds bs t) m) → Holds ws (put p (withBinds cs t) m)
+pub carry-binds : {ws : List ℕ} (m : Machine) (p : ℕ) (t : Token) {bs cs : List Bind} → bs ≡ cs → Holds ws (put p (withBinds bs t) m)
+    → Holds ws (put p (withBinds cs t) m)
 carry-binds {ws} m p t e h = subst (λ bs. Holds ws (put p (withBinds bs t) m)) e h
 
 pub carry-binding : {ws : List ℕ} (f : List Bind → Machine) {bs cs : List Bind} → bs ≡ cs → Holds ws (f bs) → Holds ws (f cs)

@@ -11,7 +11,8 @@ use record::token::blank;
 
 pub fn written(w: &mut [u32; Machine::WORDS], place: usize, p: usize)
     requires { ⌜ p < 64 ⌝ }
-    ensures { λ _. ⌜ ((m : Machine) → Holds (now (w .entry)) m → place < m .queued → Holds (now (w .exit)) (put p blankToken (dequeued m place))) ⌝ }
+    ensures { λ _.
+        ⌜ ((m : Machine) → Holds (now (w .entry)) m → place < m .queued → Holds (now (w .exit)) (put p blankToken (dequeued m place))) ⌝ }
 {
     leave(w, place);
     blank(w, p);

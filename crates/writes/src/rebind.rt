@@ -25,7 +25,9 @@ pub fn written(
     next: u32,
 )
     requires { ⌜ (p < 64) × (x < 8) ⌝ }
-    ensures { λ _. ⌜ ((m : Machine) (s : Slot) → Holds (now (w .entry)) m → place < m .queued → slotKind s ≡ kind → slotNumber s ≡ number → Holds (now (w .exit)) (enqueue p (put p (withNode next (withBinding x s (tokenAt (m .tokens) p))) (dequeued m place)))) ⌝ }
+    ensures { λ _.
+        ⌜ ((m : Machine) (s : Slot) → Holds (now (w .entry)) m → place < m .queued → slotKind s ≡ kind → slotNumber s ≡ number
+        → Holds (now (w .exit)) (enqueue p (put p (withNode next (withBinding x s (tokenAt (m .tokens) p))) (dequeued m place)))) ⌝ }
 {
     leave(w, place);
     set_bind(w, p, x, kind, number);

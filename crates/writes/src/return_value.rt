@@ -19,7 +19,11 @@ use record::token::value_kind;
 // The token at p becomes the frame at f, with its own value.
 pub fn written(w: &mut [u32; Machine::WORDS], place: usize, p: usize, f: usize)
     requires { ⌜ (p < 64) × (f < 64) ⌝ }
-    ensures { λ _. ⌜ ((m : Machine) → Holds (now (w .entry)) m → place < m .queued → Holds (now (w .exit)) (enqueue p (put p (withState states.Ready (withValue (tokenAt (m .tokens) p .value) (tokenAt (m .tokens) f))) (dequeued m place)))) ⌝ }
+    ensures { λ _.
+        ⌜ ((m : Machine) → Holds (now (w .entry)) m → place < m .queued
+        → Holds (now (w .exit))
+        (enqueue p (put p (withState states.Ready (withValue (tokenAt (m .tokens) p .value) (tokenAt (m .tokens) f)))
+        (dequeued m place)))) ⌝ }
 {
     let has = value_kind(w, p);
     let number = value(w, p);

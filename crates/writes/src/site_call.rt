@@ -1,5 +1,5 @@
-// Site call: "parameters in order; the first unset cell makes the token wait there. Otherwise a built-in replies and the token goes on, or it is silent
-// and the token ends; an outside call takes the next handle (from 0), and the token is called out at the next node".
+// Site call: "parameters in order; the first unset cell makes the token wait there. Otherwise a built-in replies and the token goes on, or
+// it is silent and the token ends; an outside call takes the next handle (from 0), and the token is called out at the next node".
 ghost use mathlib.Core.Path.{_≡_};
 ghost use Prim.Native.Nat.{_<_, _+_, suc};
 ghost use Rattle.model.specs.Machine.Blank.{tokenAt};
@@ -25,7 +25,9 @@ use sites::number::unsigned;
 // "The token waits there": at the cell c.
 pub fn wait(w: &mut [u32; Machine::WORDS], place: usize, p: usize, c: u32)
     requires { ⌜ p < 64 ⌝ }
-    ensures { λ _. ⌜ ((m : Machine) → Holds (now (w .entry)) m → place < m .queued → m .waiting < 64 → Holds (now (w .exit)) (delayed p (put p (withState (states.Waiting c) (tokenAt (m .tokens) p)) (dequeued m place)))) ⌝ }
+    ensures { λ _.
+        ⌜ ((m : Machine) → Holds (now (w .entry)) m → place < m .queued → m .waiting < 64
+        → Holds (now (w .exit)) (delayed p (put p (withState (states.Waiting c) (tokenAt (m .tokens) p)) (dequeued m place)))) ⌝ }
 {
     leave(w, place);
     set_state(w, p, WAITING_STATE, c);
@@ -35,7 +37,9 @@ pub fn wait(w: &mut [u32; Machine::WORDS], place: usize, p: usize, c: u32)
 // "A built-in replies and the token goes on", with the value that has these 32 bits.
 pub fn reply(w: &mut [u32; Machine::WORDS], place: usize, p: usize, bits: u32, next: u32)
     requires { ⌜ p < 64 ⌝ }
-    ensures { λ _. ⌜ ((m : Machine) (v : Held) → Holds (now (w .entry)) m → place < m .queued → heldKind v ≡ 1 → heldNumber v ≡ bits → Holds (now (w .exit)) (enqueue p (put p (withNode next (withValue v (tokenAt (m .tokens) p))) (dequeued m place)))) ⌝ }
+    ensures { λ _.
+        ⌜ ((m : Machine) (v : Held) → Holds (now (w .entry)) m → place < m .queued → heldKind v ≡ 1 → heldNumber v ≡ bits
+        → Holds (now (w .exit)) (enqueue p (put p (withNode next (withValue v (tokenAt (m .tokens) p))) (dequeued m place)))) ⌝ }
 {
     leave(w, place);
     set_value(w, p, 1, bits);
@@ -46,7 +50,11 @@ pub fn reply(w: &mut [u32; Machine::WORDS], place: usize, p: usize, bits: u32, n
 // "The token is called out at the next node", under a handle.
 pub fn call_out(w: &mut [u32; Machine::WORDS], place: usize, p: usize, handle: u32, next: u32)
     requires { ⌜ (p < 64) × (handle < 1000000) ⌝ }
-    ensures { λ _. ⌜ ((m : Machine) → Holds (now (w .entry)) m → place < m .queued → Holds (now (w .exit)) (withCounts (suc handle) (m .lasttoken) (m .lastcell) (put p (withNode next (withState (states.Called handle) (tokenAt (m .tokens) p))) (dequeued m place)))) ⌝ }
+    ensures { λ _.
+        ⌜ ((m : Machine) → Holds (now (w .entry)) m → place < m .queued
+        → Holds (now (w .exit))
+        (withCounts (suc handle) (m .lasttoken) (m .lastcell)
+        (put p (withNode next (withState (states.Called handle) (tokenAt (m .tokens) p))) (dequeued m place)))) ⌝ }
 {
     leave(w, place);
     set_state(w, p, CALLED_STATE, handle);

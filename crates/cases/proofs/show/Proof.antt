@@ -7,7 +7,8 @@ use Rattle.cases.proofs.show.Statement.{statement}
 use Rattle.cases.proofs.show.Tie as tie
 
 abbrev Inv-loop : tie.InvT-loop
-Inv-loop input dag₀ output₀ room from₀ left₀ dag output from left = (0 < room) × (from + left ≡ left₀) × (room ≡ length output) × (length output ≡ length output₀)
+Inv-loop input dag₀ output₀ room from₀ left₀ dag output from left = (0 < room) × (from + left ≡ left₀) × (room ≡ length output)
+    × (length output ≡ length output₀)
 
 abbrev μ-loop : tie.MeasureT-loop
 μ-loop input dag₀ output₀ room from₀ left₀ dag output from left = left

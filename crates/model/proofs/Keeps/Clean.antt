@@ -1,5 +1,5 @@
--- "What is not in use is blank": blanking makes it so, since what was in use stays in use. The tokens in use name the same cells and callers as
--- before, and a token stays active because the cells above it are in use. Assumes nothing.
+-- "What is not in use is blank": blanking makes it so, since what was in use stays in use. The tokens in use name the same cells and
+-- callers as before, and a token stays active because the cells above it are in use. Assumes nothing.
 use mathlib.Core.Path.{_≡_, refl, sym, _∙_, ap, subst}
 use mathlib.Core.Bool.{Bool, true, false, not}
 use mathlib.Core.List.{List, [], _∷_}
@@ -86,7 +86,8 @@ module _ (m : Machine) where
   cell-stays c u = kept-marked blankCell (cellsUsed m) (m .cells) c (cellsOf m .size) u
 
   -- what is above a place in use
-  upward-stays : (test : ℕ → Cell → Bool) (n : ℕ) (q : Place) → Names (UsedCell m) q → upward test (then .cells) n q ≡ upward test (m .cells) n q
+  upward-stays : (test : ℕ → Cell → Bool) (n : ℕ) (q : Place) → Names (UsedCell m) q
+      → upward test (then .cells) n q ≡ upward test (m .cells) n q
   unfolding upward
   upward-stays test zero q h = refl
   upward-stays test (suc n) places.Nowhere h = refl
@@ -103,7 +104,8 @@ module _ (m : Machine) where
       ap (λ n. upward (λ c k. isSet k) (then .cells) n q) (length-kept blankCell (cellsUsed m) (m .cells))
       ∙ upward-stays (λ c k. isSet k) (length (m .cells)) q h
 
-  active-stays : (i : ℕ) → Used m i → isActive (m .cells) (tokenAt (m .tokens) i) ≡ true → isActive (then .cells) (tokenAt (then .tokens) i) ≡ true
+  active-stays : (i : ℕ) → Used m i → isActive (m .cells) (tokenAt (m .tokens) i) ≡ true
+      → isActive (then .cells) (tokenAt (then .tokens) i) ≡ true
   active-stays i u e = ap (isActive (then .cells)) (token-stays i u) ∙ (same (tokenAt (m .tokens) i) (used-fits m i u .cells .cell) ∙ e)
     where
       same : (t : Token) → Names (UsedCell m) (t .cell) → isActive (then .cells) t ≡ isActive (m .cells) t
@@ -117,7 +119,8 @@ module _ (m : Machine) where
   tokens-stay =
       tokensOf m .least Both
       (λ i e. let u = tokensOf m .active i e in (u, tokensOf then .active i (active-stays i u e)))
-      (λ i l b j e. (tokensOf m .caller i (b .0) j e, tokensOf then .caller i (b .1) j (ap (λ (t : Token). t .caller) (token-stays i (b .0)) ∙ e)))
+      (λ i l b j e.
+      (tokensOf m .caller i (b .0) j e, tokensOf then .caller i (b .1) j (ap (λ (t : Token). t .caller) (token-stays i (b .0)) ∙ e)))
 
   BothCells : ℕ → Type 0
   BothCells c = UsedCell m c × UsedCell (sweep m) c
@@ -137,7 +140,8 @@ module _ (m : Machine) where
           }
 
       parents : (c : ℕ) → c < length (m .cells) → BothCells c → Names BothCells (cellAt (m .cells) c .parent)
-      parents c l b a e = (cellsOf m .parent c (b .0) a e, cellsOf then .parent c (b .1) a (ap (λ (k : Cell). k .parent) (cell-stays c (b .0)) ∙ e))
+      parents c l b a e =
+          (cellsOf m .parent c (b .0) a e, cellsOf then .parent c (b .1) a (ap (λ (k : Cell). k .parent) (cell-stays c (b .0)) ∙ e))
 
   -- "The rest is blank after each accepted call"
   pub finish-clean : Clean (sweep m)
@@ -183,7 +187,8 @@ module _ (m : Machine) where
       let k = length-kept blankToken (tokensUsed m) (m .tokens) in
       let a = tokensOf then .size in
       let b = tokensOf m .size in
-      marks-same (tokensUsed then) (tokensUsed m) (omega arith) (λ i l u. tokens-were i (omega arith) u) (λ i l u. tokens-stay i (omega arith) u .1)
+      marks-same (tokensUsed then) (tokensUsed m) (omega arith) (λ i l u. tokens-were i (omega arith) u)
+      (λ i l u. tokens-stay i (omega arith) u .1)
 
   pub finish-cells : cellsUsed (sweep m) ≡ cellsUsed m
   unfolding sweep BothCells
@@ -191,7 +196,8 @@ module _ (m : Machine) where
       let k = length-kept blankCell (cellsUsed m) (m .cells) in
       let a = cellsOf then .size in
       let b = cellsOf m .size in
-      marks-same (cellsUsed then) (cellsUsed m) (omega arith) (λ c l u. cells-were c (omega arith) u) (λ c l u. cells-stay c (omega arith) u .1)
+      marks-same (cellsUsed then) (cellsUsed m) (omega arith) (λ c l u. cells-were c (omega arith) u)
+      (λ c l u. cells-stay c (omega arith) u .1)
 
 -- the start, whose token is in use
 pub start-clean : (lim : Limits) (goal : ℕ) → Marked (tokensUsed (startMachine lim goal)) 0 → Clean (startMachine lim goal)

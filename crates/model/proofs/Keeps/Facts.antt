@@ -1,6 +1,6 @@
--- What a record of a run has beside its view: sizes and counts in range, orders that name each ready and each waiting token once, and tables
--- whose nodes, values and handles are right and whose waiting tokens are blocked. The start has it, and blanking keeps it where live tokens are
--- in use. Assumes nothing.
+-- What a record of a run has beside its view: sizes and counts in range, orders that name each ready and each waiting token once, and
+-- tables whose nodes, values and handles are right and whose waiting tokens are blocked. The start has it, and blanking keeps it where live
+-- tokens are in use. Assumes nothing.
 use mathlib.Core.Path.{_≡_, refl, sym, _∙_, ap, subst}
 use mathlib.Core.Logic.{_⊎_, inl, inr}
 use mathlib.Core.Bool.{Bool, true, false}
@@ -128,7 +128,8 @@ module _ (lim : Limits) (d : Dag) (some : 0 < lim .tokenPlaces) (cell : 0 < lim 
         orders = start-orders;
         lines = start-lines;
         tables =
-            tables-write blank-tables 0 (startToken (d .goal)) (let z = size in omega arith) (idle-holds goal refl unbound-fit Idle.ready) Idle.ready;
+            tables-write blank-tables 0 (startToken (d .goal)) (let z = size in
+            omega arith) (idle-holds goal refl unbound-fit Idle.ready) Idle.ready;
       }
 
 -- live tokens are in use

@@ -1,5 +1,5 @@
--- Two lines of places, the queue and the wait order: each ready, or waiting, token stands in its line once. That is what the index rules ask of
--- the orders, since such a line is no longer than the table; and each kind of step keeps it, by counting. Assumes nothing.
+-- Two lines of places, the queue and the wait order: each ready, or waiting, token stands in its line once. That is what the index rules
+-- ask of the orders, since such a line is no longer than the table; and each kind of step keeps it, by counting. Assumes nothing.
 use mathlib.Core.Path.{_≡_, refl, sym, _∙_, ap, subst}
 use mathlib.Core.Bool.{Bool, true, false}
 use mathlib.Core.List.{List, [], _∷_, _++_, map}
@@ -137,7 +137,8 @@ module _ (of : State → Bool) (none : of states.Blank ≡ false) (ts : List Tok
         let line : take (length l) room ≡ l = take-append-seam l rest in
         and-both (eq-eqb _ _ (let z : length room ≡ length ts = omega arith in z))
         (and-both (le-leb _ _ (let z : length l ≤ length room = omega arith in z))
-        (and-both (subst (λ x. all (λ (p : ℕ). ltb p (length ts)) x ≡ true) (sym line) (all-counted _ l (λ r k. lt-ltb r (length ts) (inside r k))))
+        (and-both (subst (λ x. all (λ (p : ℕ). ltb p (length ts)) x ≡ true) (sym line)
+        (all-counted _ l (λ r k. lt-ltb r (length ts) (inside r k))))
         (and-both
         (subst (λ x. allFrom (λ p (t : Token). eqb (count p x) (once (of (t .state)))) 0 ts ≡ true) (sym line)
         (all-from-at _ 0 ts blankToken (λ i k. eq-eqb _ _ (ap (λ x. count x l) (let z : 0 + i ≡ i = omega arith in z) ∙ h i))))
@@ -265,7 +266,8 @@ lines-new {ts} {queue} {waits} q u i nr nw e l =
       ready =
           written-names isReady ts q u (queue ++ (q ∷ [])) i (back-same q queue _ (l .ready q ∙ ap once nr) (ap isReady e))
           (λ r n. back-other r q queue _ n (l .ready r));
-      waiting = written-names isWaiting ts q u waits i (l .waiting q ∙ ap once nw ∙ sym (ap (λ s. once (isWaiting s)) e)) (λ r n. l .waiting r);
+      waiting = written-names isWaiting ts q u waits i (l .waiting q ∙ ap once nw ∙ sym (ap (λ s. once (isWaiting s)) e))
+          (λ r n. l .waiting r);
     }
 
 -- a line filtered
@@ -316,7 +318,8 @@ module _ (ts : List Token) (cs : List Cell) (c p : ℕ) (queue waits : List ℕ)
   abbrev then : List Token
   then = map (chokeToken cs c) ts
 
-  spared : (of : State → Bool) → of states.Blank ≡ false → (r : ℕ) → of (tokenAt then r .state) ≡ true → within cs c (tokenAt ts r .cell) ≡ false
+  spared : (of : State → Bool) → of states.Blank ≡ false → (r : ℕ) → of (tokenAt then r .state) ≡ true
+      → within cs c (tokenAt ts r .cell) ≡ false
   spared of none r e =
       false-of _ (λ x. clash e (ap (λ (t : Token). of (t .state)) (choke-at cs c ts r ∙ choke-ends cs c (tokenAt ts r) x) ∙ none))
 
@@ -324,7 +327,8 @@ module _ (ts : List Token) (cs : List Cell) (c p : ℕ) (queue waits : List ℕ)
   spared-at r x = choke-at cs c ts r ∙ choke-spares cs c (tokenAt ts r) x
 
   pub lines-choke :
-      Lines then (filter (λ (r : ℕ). isReady (tokenAt then r .state)) (queue ++ waits)) (filter (λ (r : ℕ). isWaiting (tokenAt then r .state)) waits)
+      Lines then (filter (λ (r : ℕ). isReady (tokenAt then r .state)) (queue ++ waits))
+      (filter (λ (r : ℕ). isWaiting (tokenAt then r .state)) waits)
   unfolding isReady isWaiting
   lines-choke =
       record {
@@ -333,8 +337,10 @@ module _ (ts : List Token) (cs : List Cell) (c p : ℕ) (queue waits : List ℕ)
             count-filter (λ (r : ℕ). isReady (tokenAt then r .state)) r (queue ++ waits)
             (λ e.
             let x = spared isReady refl r e in
-            let a = woken-ready c (tokenAt ts r .state) (tokenAt ts r) refl (ap (λ (t : Token). isReady (t .state)) (sym (spared-at r x)) ∙ e) in
-            let apart : once (eqb r p) ≡ 0 = ap once (ne-eqb r p (λ z. clash own (ap (λ y. within cs c (tokenAt ts y .cell)) (sym z) ∙ x))) in
+            let a = woken-ready c (tokenAt ts r .state) (tokenAt ts r) refl
+            (ap (λ (t : Token). isReady (t .state)) (sym (spared-at r x)) ∙ e) in
+            let apart : once (eqb r p) ≡ 0 = ap once (ne-eqb r p (λ z. clash own (ap (λ y. within cs c (tokenAt ts y .cell)) (sym z) ∙ x)))
+            in
             let b = l .ready r in
             let d = l .waiting r in
             let f = count-append r queue waits in
@@ -345,7 +351,8 @@ module _ (ts : List Token) (cs : List Cell) (c p : ℕ) (queue waits : List ℕ)
             (λ e.
             let x = spared isWaiting refl r e in
             let w = ap (λ (t : Token). isWaiting (t .state)) (sym (spared-at r x)) ∙ e in
-            let a : once (isWaiting (tokenAt ts r .state)) ≡ 1 = ap once (woken-waiting (waitsAt c (tokenAt ts r .state)) (tokenAt ts r) w) in
+            let a : once (isWaiting (tokenAt ts r .state)) ≡ 1 = ap once (woken-waiting (waitsAt c (tokenAt ts r .state)) (tokenAt ts r) w)
+            in
             let d = l .waiting r in
             omega arith);
       }

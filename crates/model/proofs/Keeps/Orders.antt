@@ -1,5 +1,5 @@
--- What the two orders of a machine are after each way to write it: the lists that were put in, padded with 0. With lines that name each ready
--- and each waiting token once, that is what the index rules ask of the orders. Assumes nothing.
+-- What the two orders of a machine are after each way to write it: the lists that were put in, padded with 0. With lines that name each
+-- ready and each waiting token once, that is what the index rules ask of the orders. Assumes nothing.
 use mathlib.Core.Path.{_≡_, refl, sym, _∙_, ap, subst}
 use mathlib.Core.Bool.{true}
 use mathlib.Core.List.{List, [], _∷_, _++_}

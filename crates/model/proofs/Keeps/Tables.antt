@@ -1,6 +1,6 @@
--- What is asked of the tables of tokens and cells beside their view: nodes in range, values signed 32-bit, open handles below the count of calls
--- and different, and a waiting token at a site call with a parameter bound to the unset cell that it waits at. Each way to write
--- the tables keeps it: one token, an unset cell, a choke, blanking. Assumes nothing.
+-- What is asked of the tables of tokens and cells beside their view: nodes in range, values signed 32-bit, open handles below the count of
+-- calls and different, and a waiting token at a site call with a parameter bound to the unset cell that it waits at. Each way to write the
+-- tables keeps it: one token, an unset cell, a choke, blanking. Assumes nothing.
 use mathlib.Core.Path.{_≡_, refl, sym, _∙_, ap, subst}
 use mathlib.Core.Logic.{_⊎_, inl, inr}
 use mathlib.Core.Bool.{Bool, true, false}
@@ -180,7 +180,8 @@ module _ {d : Dag} {ts : List Token} {cs : List Cell} {calls : ℕ} (T : Tables 
         there : (x : ℕ) → (x ≡ p → ⊥) → tokenAt (set ts p u) x .state ≡ states.Called h → tokenAt ts x .state ≡ states.Called h
         there x n s = ap (λ (t : Token). t .state) (sym (token-other ts p x u n)) ∙ s
 
-        go : Dec (r ≡ p) → Dec (q ≡ p) → tokenAt (set ts p u) r .state ≡ states.Called h → tokenAt (set ts p u) q .state ≡ states.Called h → r ≡ q
+        go : Dec (r ≡ p) → Dec (q ≡ p) → tokenAt (set ts p u) r .state ≡ states.Called h → tokenAt (set ts p u) q .state ≡ states.Called h
+            → r ≡ q
         go (yes a) (yes b) x y = a ∙ sym b
         go (yes a) (no b) x y = absurd (f h q (here r a x) b (there q b y))
         go (no a) (yes b) x y = absurd (f h r (here q b y) a (there r a x))
@@ -222,7 +223,8 @@ module _ {d : Dag} {ts : List Token} {cs : List Cell} {calls : ℕ} (T : Tables 
   unfolding heldInRange
   tables-cell c k i e =
       record {
-        tokens = λ p. token-cells (length-set cs c k) (omega arith) (λ b s l v. at-cell (λ (x : Cell). x .value ≡ helds.Nothing) b e v) (T .tokens p);
+        tokens = λ p. token-cells (length-set cs c k) (omega arith) (λ b s l v. at-cell (λ (x : Cell). x .value ≡ helds.Nothing) b e v)
+            (T .tokens p);
         cells = λ b. at-cell (λ (x : Cell). heldInRange (x .value) ≡ true) b (ap heldInRange e) (T .cells b);
         apart = T .apart;
       }
@@ -235,14 +237,16 @@ module _ {d : Dag} {ts : List Token} {cs : List Cell} {calls : ℕ} (T : Tables 
           go (no n) = subst P (sym (cell-other cs c b k n)) y
 
   -- blanking
-  pub tables-swept : 0 < length (d .nodes) → (used cells : List Bool) → Tables d (restBlanked blankToken used ts) (restBlanked blankCell cells cs) calls
+  pub tables-swept : 0 < length (d .nodes) → (used cells : List Bool)
+      → Tables d (restBlanked blankToken used ts) (restBlanked blankCell cells cs) calls
   unfolding heldInRange
   tables-swept some used cells =
       record {
         tokens =
             λ p.
             token-now (λ t. TokenHolds d cs′ calls t) p
-            (token-cells (length-kept blankCell cells cs) (omega arith) (λ c s l v. cell-now (λ x. x .value ≡ helds.Nothing) c v refl) (T .tokens p))
+            (token-cells (length-kept blankCell cells cs) (omega arith) (λ c s l v. cell-now (λ x. x .value ≡ helds.Nothing) c v refl)
+            (T .tokens p))
             (blank-holds some);
         cells = λ c. cell-now (λ x. heldInRange (x .value) ≡ true) c (T .cells c) refl;
         apart = λ p q h a b. T .apart p q h (called-before p h a) (called-before q h b);
@@ -296,7 +300,8 @@ module _ {d : Dag} {ts : List Token} {cs : List Cell} {calls : ℕ} (T : Tables 
       where
         go : (a b : Bool) → waitsAt c (t .state) ≡ b
             → waitsAt c
-            ((elim a as (λ a. Token) [ true ↦ blankToken | false ↦ elim b as (λ b. Token) [ true ↦ withState states.Ready t | false ↦ t ] ]) .state) ≡ false
+            ((elim a as (λ a. Token)
+            [ true ↦ blankToken | false ↦ elim b as (λ b. Token) [ true ↦ withState states.Ready t | false ↦ t ] ]) .state) ≡ false
         go true b e = refl
         go false true e = refl
         go false false e = e

@@ -1,5 +1,5 @@
--- What a token in use writes when it acts is inside what is in use and the places that are new: the tokens that it writes name what it named, itself
--- and the new cell, and nothing else. Assumes nothing.
+-- What a token in use writes when it acts is inside what is in use and the places that are new: the tokens that it writes name what it
+-- named, itself and the new cell, and nothing else. Assumes nothing.
 use mathlib.Core.Path.{_≡_, refl}
 use mathlib.Core.Logic.{inl, inr}
 use mathlib.Core.List.{List}
@@ -55,7 +55,8 @@ module _ (lim : Limits) (d : Dag) (m : Machine) (rules : EachRuleHolds lim d m) 
       (fits-map (λ i x. inl x) (λ c x. x) (fits-same refl refl refl acts))
 
   pub call-inside : (q root : ℕ) (ps : List Param) (next : ℕ)
-      → InsideUsed m (With (Used m) q) (UsedCell m) (set (set (m .tokens) p (withNode next (withState states.Frame t))) q (callee p t root ps)) (m .cells)
+      → InsideUsed m (With (Used m) q) (UsedCell m)
+      (set (set (m .tokens) p (withNode next (withState states.Frame t))) q (callee p t root ps)) (m .cells)
   unfolding withNode withState
   call-inside q root ps next =
       inside-token (write-inside (withNode next (withState states.Frame t)) (fits-same refl refl refl acts)) q (callee p t root ps)

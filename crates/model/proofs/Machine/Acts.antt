@@ -67,18 +67,21 @@ module _
         → hasCellPlace lim m ≡ true
         → WithinAfter (Step.split at p acting r c x left right)
     unfolding
-        After Step.split Update.enqueue Update.newToken Update.newCell Update.put Update.withTables withOrders Update.withCounts Update.withNode Update.inCell
+        After Step.split Update.enqueue Update.newToken Update.newCell Update.put Update.withTables withOrders Update.withCounts
+        Update.withNode Update.inCell
     split r c x left right t k = both-new lim d m old _ r c t k (split-inside lim d m rules p inUse r c x left right)
 
     entered : (r root : ℕ) (ps : List Param) (next : ℕ) → hasTokenPlace lim m ≡ true → WithinAfter (Step.entered at p acting r root ps next)
-    unfolding After Step.entered Update.enqueue Update.newToken Update.put Update.withTables withOrders Update.withCounts Update.withNode Update.withState
+    unfolding After Step.entered Update.enqueue Update.newToken Update.put Update.withTables withOrders Update.withCounts Update.withNode
+        Update.withState
     entered r root ps next t =
         token-new lim d m old _ r t (call-inside lim d m rules p inUse r root ps next)
 
     waited : (c : ℕ) → WithinAfter (Step.waited at p acting c)
     unfolding After Step.waited Update.put Update.withTables withOrders Update.withState
     waited c =
-        none-new lim d m old _ (write-inside lim d m rules p inUse (Update.withState (states.Waiting c) acting) (fits-same refl refl refl acts))
+        none-new lim d m old _
+        (write-inside lim d m rules p inUse (Update.withState (states.Waiting c) acting) (fits-same refl refl refl acts))
 
     replied : (next : ℕ) (s : BuiltinReply) → WithinAfter (Step.replied at p acting next s)
     unfolding After Step.replied Update.withNode Update.withValue

@@ -106,7 +106,8 @@ module _ (lim : Limits) (goal : ℕ) where
       first (inr e) = inr e
 
   start-tokens : marked (tokensUsed begins) ≤ 1
-  start-tokens = let y = marked-replicate (lim .tokenPlaces) in let z = marked-inside-one (tokensUsed begins) none 0 sizes only in omega arith
+  start-tokens = let y = marked-replicate (lim .tokenPlaces) in let z = marked-inside-one (tokensUsed begins) none 0 sizes only in
+      omega arith
 
   -- exactly one token, where there is a place for it
   pub start-token-marks : 1 ≤ lim .tokenPlaces → tokensUsed begins ≡ set none 0 true

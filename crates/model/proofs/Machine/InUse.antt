@@ -1,5 +1,5 @@
--- In use: the active tokens and what they reach by caller; the cells that tokens in use name and what those reach by parent; and nothing else.
--- Both are what is reached from some places by a link (Reach). Assumes nothing.
+-- In use: the active tokens and what they reach by caller; the cells that tokens in use name and what those reach by parent; and nothing
+-- else. Both are what is reached from some places by a link (Reach). Assumes nothing.
 use mathlib.Core.Path.{_≡_, refl, sym, _∙_, ap, subst}
 use mathlib.Core.Logic.{_⊎_, inl, inr}
 use mathlib.Core.Bool.{Bool, true, false}
@@ -221,7 +221,8 @@ pub record CellsUsed (used : List Bool) (ts : List Token) (cs : List Cell) (r : 
       → Marked r c
       → Q c
 
-pub cells-used : (used : List Bool) (ts : List Token) (cs : List Cell) → length used ≡ length ts → CellsUsed used ts cs (usedCells used ts cs)
+pub cells-used : (used : List Bool) (ts : List Token) (cs : List Cell) → length used ≡ length ts
+    → CellsUsed used ts cs (usedCells used ts cs)
 unfolding usedCells cellAt
 cells-used used ts cs s =
     record {

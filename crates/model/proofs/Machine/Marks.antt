@@ -1,6 +1,6 @@
 -- Marks are a Bool for each place; a place out of range counts as marked. Marking a place marks it, keeps the others and adds one at most
--- to the count, so a list of marks inside another has no more of them; marks that agree at each place are equal. Each is an induction over the
--- list. Assumes nothing.
+-- to the count, so a list of marks inside another has no more of them; marks that agree at each place are equal. Each is an induction over
+-- the list. Assumes nothing.
 use mathlib.Core.Path.{_≡_, refl, sym, _∙_, ap, subst}
 use mathlib.Core.Logic.{_⊎_, inl, inr}
 use mathlib.Core.Bool.{Bool, true, false}
@@ -140,7 +140,8 @@ same-test false true f g = g refl
 same-test false false f g = refl
 
 module _ (new old : List Bool) (size : length new ≡ length old) where
-  pub marks-same : ((i : ℕ) → i < length new → Marked new i → Marked old i) → ((i : ℕ) → i < length old → Marked old i → Marked new i) → new ≡ old
+  pub marks-same : ((i : ℕ) → i < length new → Marked new i → Marked old i) → ((i : ℕ) → i < length old → Marked old i → Marked new i)
+      → new ≡ old
   marks-same f g = ext-getD true new old size (λ i l. same-test _ _ (f i l) (g i (omega arith)))
 
   pub marks-added : (q : ℕ) → ((i : ℕ) → i < length new → Marked new i → Marked old i ⊎ (i ≡ q))

@@ -10,7 +10,8 @@ use lib.ListN.{length, getD, set, replicate, length-set, length-replicate}
 use Rattle.model.specs.Machine.InUse.{markChain, markFromEach, reached, marked}
 use Rattle.model.specs.declared.token.Place.{Place}
 use Rattle.model.specs.declared.token.Place.the-variants as places
-use Rattle.model.proofs.Machine.Marks.{Marked, marked-none, free-inside, mark-same, mark-mono, mark-inverse, marked-all, marked-set-free}
+use Rattle.model.proofs.Machine.Marks.{Marked, marked-none, free-inside, mark-same, mark-mono, mark-inverse, marked-all}
+use Rattle.model.proofs.Machine.Marks.{marked-set-free}
 
 -- the places that a place names: one or none
 abbrev pub Names : (ℕ → Type 0) → Place → Type 0
@@ -126,7 +127,8 @@ module _ {A : Type 0} (link : A → Place) (blank : A) (xs : List A) where
     abbrev Only : List Bool → List Bool → Type 0
     Only marks r = (i : ℕ) → Marked r i → Marked marks i ⊎ Q i
 
-    chain-least : (n : ℕ) (q : Place) (marks : List Bool) → length marks ≡ length xs → Names Q q → Only marks (markChain link blank xs n q marks)
+    chain-least : (n : ℕ) (q : Place) (marks : List Bool) → length marks ≡ length xs → Names Q q
+        → Only marks (markChain link blank xs n q marks)
     unfolding markChain
     chain-least zero q marks l h i m = inl m
     chain-least (suc n) places.Nowhere marks l h i m = inl m

@@ -1,5 +1,5 @@
--- A refusal leaves the record, and an accepted call was tested: by the shape of an outcome, which has the old record exactly where its effect
--- refuses. Assumes nothing.
+-- A refusal leaves the record, and an accepted call was tested: by the shape of an outcome, which has the old record exactly where its
+-- effect refuses. Assumes nothing.
 use mathlib.Core.Path.{_≡_, refl, sym, _∙_, ap, subst}
 use mathlib.Core.Logic.{_⊎_, inl, inr}
 use mathlib.Core.Bool.{Bool, true, false}
@@ -13,7 +13,8 @@ use Rattle.model.specs.Machine.Limits.{Limits}
 use Rattle.model.specs.Machine.Blank.{blankMachine}
 use Rattle.model.specs.Machine.InUse.{sweep}
 use Rattle.model.specs.Machine.Rules.{rulesHold}
-use Rattle.model.specs.Machine.Reply.{Effect, moves, waits, publishes, calls, refuses, accepted, outcome, unless, reportValues, isRefused}
+use Rattle.model.specs.Machine.Reply.{Effect, moves, waits, publishes, calls, refuses, accepted, outcome, unless, reportValues}
+use Rattle.model.specs.Machine.Reply.{isRefused}
 use Rattle.model.specs.Machine.Start.{start, startMachine}
 use Rattle.model.specs.Machine.Step.{step, takes}
 use Rattle.model.specs.Machine.Answer.{answer, answered, holder}

@@ -111,7 +111,8 @@ names-once of ts array n e =
     test p t = eqb (count p (take n array)) (once (of (t .state)))
 
     at : (p : ℕ) → p < length ts → allFrom test 0 ts ≡ true → test p (getD ts p blankToken) ≡ true
-    at p l h = subst (λ i. test i (getD ts p blankToken) ≡ true) (let z : 0 + p ≡ p = omega arith in z) (all-from-at test 0 ts p blankToken h l)
+    at p l h = subst (λ i. test i (getD ts p blankToken) ≡ true) (let z : 0 + p ≡ p = omega arith in
+        z) (all-from-at test 0 ts p blankToken h l)
 
 -- what stands in a list is counted there
 pub count-at : (xs : List ℕ) (k : ℕ) → k < length xs → 0 < count (getD xs k 0) xs
@@ -133,7 +134,8 @@ module _ (of : State → Bool) (ts : List Token) (array : List ℕ) (n : ℕ) (o
   short = let y : n ≤ length array = o .fits in let z : length (take n array) ≡ n = length-take-le n array y in omega arith
 
   pub order-inside : getD array k 0 < length ts
-  order-inside = subst (λ p. p < length ts) at-take (ltb-lt _ _ (all-at (λ (p : ℕ). ltb p (length ts)) (take n array) k 0 (o .inside) short))
+  order-inside = subst (λ p. p < length ts) at-take
+      (ltb-lt _ _ (all-at (λ (p : ℕ). ltb p (length ts)) (take n array) k 0 (o .inside) short))
 
   pub order-names : of (tokenAt ts (getD array k 0) .state) ≡ true
   order-names =

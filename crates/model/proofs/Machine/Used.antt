@@ -88,13 +88,15 @@ module _ (m : Machine) where
     tokens-same : {R : ℕ → Type 0} → InsideUsed Used R (o .tokens) (o .cells) → marked (tokensUsed o) ≤ marked (tokensUsed m)
     tokens-same h = marked-inside (tokensUsed o) (tokensUsed m) (tokens-size (h .tokens)) (tokens-inside h)
 
-    tokens-one : {R : ℕ → Type 0} (q : ℕ) → InsideUsed (With Used q) R (o .tokens) (o .cells) → marked (tokensUsed o) ≤ suc (marked (tokensUsed m))
+    tokens-one : {R : ℕ → Type 0} (q : ℕ) → InsideUsed (With Used q) R (o .tokens) (o .cells)
+        → marked (tokensUsed o) ≤ suc (marked (tokensUsed m))
     tokens-one q h = marked-inside-one (tokensUsed o) (tokensUsed m) q (tokens-size (h .tokens)) (tokens-inside h)
 
     cells-same : {Q : ℕ → Type 0} → InsideUsed Q UsedCell (o .tokens) (o .cells) → marked (cellsUsed o) ≤ marked (cellsUsed m)
     cells-same h = marked-inside (cellsUsed o) (cellsUsed m) (cells-size (h .cells)) (cells-inside h)
 
-    cells-one : {Q : ℕ → Type 0} (c : ℕ) → InsideUsed Q (With UsedCell c) (o .tokens) (o .cells) → marked (cellsUsed o) ≤ suc (marked (cellsUsed m))
+    cells-one : {Q : ℕ → Type 0} (c : ℕ) → InsideUsed Q (With UsedCell c) (o .tokens) (o .cells)
+        → marked (cellsUsed o) ≤ suc (marked (cellsUsed m))
     cells-one c h = marked-inside-one (cellsUsed o) (cellsUsed m) c (cells-size (h .cells)) (cells-inside h)
 
 -- a record that keeps the rules: its live tokens are active, so in use

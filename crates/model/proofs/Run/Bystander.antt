@@ -114,7 +114,8 @@ module _ {u : Token} {p : ℕ} (ready : isReady (u .state) ≡ true) where
   pub unharmed-marked : (m : Machine) → Unharmed u p m → Marked (tokensUsed m) p
   unharmed-marked m h =
       tokens-used (m .tokens) (m .cells) .active p
-      (subst (λ (t : Token). isActive (m .cells) t ≡ true) (sym (h .token)) (live-active (m .cells) u (ready-live (u .state) ready) (h .clear)))
+      (subst (λ (t : Token). isActive (m .cells) t ≡ true) (sym (h .token))
+      (live-active (m .cells) u (ready-live (u .state) ready) (h .clear)))
 
   pub unharmed-finish : (m : Machine) → Unharmed u p m → tokenAt (sweep m .tokens) p ≡ u
   unfolding sweep tokenAt

@@ -1,4 +1,5 @@
--- What a choke does to ready tokens: those within its cell end, the others are as they were, and the queue keeps just these. Assumes nothing.
+-- What a choke does to ready tokens: those within its cell end, the others are as they were, and the queue keeps just these. Assumes
+-- nothing.
 use mathlib.Core.Path.{_≡_, refl, sym, _∙_, ap}
 use mathlib.Core.Bool.{Bool, true, false, not}
 use mathlib.Core.List.{List, [], _∷_, _++_, map}

@@ -1,5 +1,5 @@
--- Demand 3, first part: each run's event list is allowed for its table. A run is in lock step with a run of the abstract machine, and what that
--- shows is allowed. Assumes nothing.
+-- Demand 3, first part: each run's event list is allowed for its table. A run is in lock step with a run of the abstract machine, and what
+-- that shows is allowed. Assumes nothing.
 use mathlib.Core.List.{List}
 use native.Mathlib.Omega.{arith}
 use Rattle.job.specs.Construct.{construct}
@@ -26,5 +26,6 @@ runs-are-allowed table p e calls =
     fitting : Fitting paper
     fitting = record { tokens = omega arith; cells = omega arith }
 
-    allowed : {es : List Event} → Shown paper (construct p) (labelsOf p) (meaning p .body) fitting (construct-flows p w) es → Allowed (meaning p) es
+    allowed : {es : List Event} → Shown paper (construct p) (labelsOf p) (meaning p .body) fitting (construct-flows p w) es
+        → Allowed (meaning p) es
     allowed (shows r) = sound p w r

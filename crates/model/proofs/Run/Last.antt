@@ -36,7 +36,8 @@ module _ (lim : Limits) (d : Dag) (fits : lim .tokens ≤ lim .tokenPlaces) wher
   -- an accepted step, once the calls after it are followed
   after-step :
       {calls : List Call} (m : Machine) (k : ℕ) → k < m .queued → isRefused (Step.step lim d m 0 .reply) ≡ false
-      → ((k′ : ℕ) → k′ < Step.step lim d m 0 .machine .queued → Fair (Step.step lim d m 0 .machine) k′ calls) → Fair m k (Call.step 0 ∷ calls)
+      → ((k′ : ℕ) → k′ < Step.step lim d m 0 .machine .queued → Fair (Step.step lim d m 0 .machine) k′ calls)
+      → Fair m k (Call.step 0 ∷ calls)
   unfolding outcomeOf
   after-step {calls} m k l ok rest = by-fate k l (fate d m k) refl
     where

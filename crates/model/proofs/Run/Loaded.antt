@@ -1,5 +1,5 @@
--- The words that a table's dag is written as stand for the dag: the start on them is accepted, and whatever is called from there has the outcomes of the
--- run of which demand 3 speaks, since the words decode to the construction. Assumes nothing.
+-- The words that a table's dag is written as stand for the dag: the start on them is accepted, and whatever is called from there has the
+-- outcomes of the run of which demand 3 speaks, since the words decode to the construction. Assumes nothing.
 use mathlib.Core.Path.{_≡_, ap}
 use mathlib.Core.List.{List}
 use Prim.Native.Nat.{ℕ}

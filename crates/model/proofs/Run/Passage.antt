@@ -1,5 +1,6 @@
--- From one call to a list of calls: a refused call shows nothing and leaves the machine, an accepted one shows its events and hands its machine
--- on. Every list of calls is passed in this way and in no other, so each part of demand 3 needs a law for one accepted call. Assumes nothing.
+-- From one call to a list of calls: a refused call shows nothing and leaves the machine, an accepted one shows its events and hands its
+-- machine on. Every list of calls is passed in this way and in no other, so each part of demand 3 needs a law for one accepted call.
+-- Assumes nothing.
 use mathlib.Core.Path.{_≡_, refl, sym, _∙_, ap, subst}
 use mathlib.Core.Bool.{Bool, true, false}
 use mathlib.Core.List.{List, [], _∷_, _++_}
@@ -32,7 +33,8 @@ refused-shows (step place) (replies.Refused r) vs e = refl
 refused-shows (answer h v signed) (replies.Refused r) vs e = refl
 
 module _ (lim : Limits) (d : Dag) where
-  pub refused-leaves : (m : Machine) (c : Call) → isRefused (outcomeOf runner lim d m c .reply) ≡ true → outcomeOf runner lim d m c .machine ≡ m
+  pub refused-leaves : (m : Machine) (c : Call) → isRefused (outcomeOf runner lim d m c .reply) ≡ true
+      → outcomeOf runner lim d m c .machine ≡ m
   unfolding outcomeOf Step.step Answer.answer
   refused-leaves m (step place) e = outcome-refused m _ e
   refused-leaves m (answer h v signed) e = outcome-refused m _ e
@@ -69,7 +71,8 @@ module _ (lim : Limits) (d : Dag) where
           → Passage m (c ∷ cs) (eventsBy c o ++ shown (o .machine)) (elim b as (λ b. Bool) [ true ↦ false | false ↦ fine (o .machine) ])
           (end (o .machine))
       go true no′ rest =
-          subst (λ es. Passage m (c ∷ cs) (es ++ shown (o .machine)) false (end (o .machine))) (sym (refused-shows c (o .reply) (o .values) no′))
+          subst (λ es. Passage m (c ∷ cs) (es ++ shown (o .machine)) false (end (o .machine)))
+          (sym (refused-shows c (o .reply) (o .values) no′))
           (subst (λ m′. Passage m (c ∷ cs) (shown m′) false (end m′)) (sym (refused-leaves m c no′)) (refused no′ (rest m)))
       go false ok rest = accepted ok (rest (o .machine))
 
@@ -94,4 +97,9 @@ module _ (lim : Limits) (d : Dag) where
       }
   passed (accepted {m = m} {c = c} {cs = cs} ok p) =
       let r = passed p in
-      record { shows = ap (λ es. eventsBy c (outcomeOf runner lim d m c) ++ es) (r .shows); clear = rw (ok, noneRefused) (r .clear); ends = r .ends }
+      record {
+        shows = ap (λ es. eventsBy c (outcomeOf runner lim d m c) ++ es) (r .shows);
+        clear = rw (ok, noneRefused) (r .clear);
+        ends =
+            r .ends;
+      }

@@ -1,5 +1,6 @@
 -- An accepted step that takes the front of the queue leaves a token behind it as it is, at the position that its fate says, unless the step
--- ends it: each instruction writes at the front's place, at a place that was not in use, or, at choke, what is within its cell. Assumes nothing.
+-- ends it: each instruction writes at the front's place, at a place that was not in use, or, at choke, what is within its cell. Assumes
+-- nothing.
 use mathlib.Core.Path.{_≡_, refl, sym, _∙_, ap, subst}
 use mathlib.Core.Logic.{_⊎_, inl, inr}
 use mathlib.Core.Bool.{Bool, true, false, not}
@@ -21,8 +22,10 @@ use Rattle.model.specs.Machine.InUse.{tokensUsed, marked}
 use Rattle.model.specs.Machine.FreePlace.{nextPlace}
 use Rattle.model.specs.Machine.Rules.{rulesHold}
 use Rattle.model.specs.Machine.Reply.{Effect, calls, unless, isRefused}
-use Rattle.model.specs.Machine.Update.{withNode, withBinding, inCell, withTables, withOrders, withCounts, queueOf, waitsOf, put, newToken}
-use Rattle.model.specs.Machine.Step.{LookUpResult, values, unset, ended, goesOn, forked, split, entered, waited, replied, calledOut, returned, chokeAt, callSite, hasTokenPlace, act, takes, step}
+use Rattle.model.specs.Machine.Update.{withNode, withBinding, inCell, withTables, withOrders, withCounts, queueOf, waitsOf, put}
+use Rattle.model.specs.Machine.Update.{newToken}
+use Rattle.model.specs.Machine.Step.{LookUpResult, values, unset, ended, goesOn, forked, split, entered, waited, replied, calledOut}
+use Rattle.model.specs.Machine.Step.{returned, chokeAt, callSite, hasTokenPlace, act, takes, step}
 use Rattle.model.specs.Run.Follow.{queuedToken, cellSet, endsToken, frontEnds, survivors, stays, fate, Stands}
 use Rattle.model.specs.declared.token.Slot.the-variants as slots
 use Rattle.model.specs.declared.token.Place.{Place}
@@ -39,7 +42,9 @@ use Rattle.model.proofs.Machine.Refused.{After, after-unless, after-out
 use Rattle.model.proofs.Run.Queue.{QueueRulesHold, queue-rules-hold, tokens-sized, lasttoken-inside}
 use Rattle.model.proofs.Run.Survivors.{among, Behind, filter-finds, survivors-all, survivors-pass, fate-stays}
 use Rattle.model.proofs.Run.Choking.{readyThen, queueThen, within-ready, untouched-choked}
-use Rattle.model.proofs.Run.Bystander.{Unharmed, Untouched, queue-orders, untouched-orders, untouched-waits, untouched-enqueue, untouched-put, untouched-counts, untouched-token, untouched-cell, unharmed-marked, queued-unharmed, untouched-stands}
+use Rattle.model.proofs.Run.Bystander.{Unharmed, Untouched, queue-orders, untouched-orders, untouched-waits, untouched-enqueue}
+use Rattle.model.proofs.Run.Bystander.{untouched-put, untouched-counts, untouched-token, untouched-cell, unharmed-marked}
+use Rattle.model.proofs.Run.Bystander.{queued-unharmed, untouched-stands}
 
 -- if no cell is set no token is ended
 spares-all :
@@ -174,7 +179,8 @@ module _ (lim : Limits) (d : Dag) (m : Machine) (h : QueueRulesHold m) (k : ℕ)
           ])
       go true = after-replied next (builtin s vs)
       go false =
-          after-unless (Untouched watched place k) (ltb (taken .calls) (lim .calls)) refusals.CallLimit (calledOut taken front actor s vs next)
+          after-unless (Untouched watched place k) (ltb (taken .calls) (lim .calls)) refusals.CallLimit
+          (calledOut taken front actor s vs next)
           (λ e. after-called s vs next)
 
   after-returned : (q : Place) → Leaves (returned taken front actor q)

@@ -19,7 +19,8 @@ use Rattle.model.specs.declared.token.State.{State}
 use Rattle.model.specs.declared.token.Token.{Token}
 use Rattle.model.specs.declared.cell.Cell.{Cell}
 use Rattle.model.specs.declared.record.Machine.{Machine}
-use Rattle.model.proofs.Machine.Rules.{EachRuleHolds, each-rule-holds, NamesOnce, names-once, order-inside, order-names, count-at, ready-live}
+use Rattle.model.proofs.Machine.Rules.{EachRuleHolds, each-rule-holds, NamesOnce, names-once, order-inside, order-names, count-at}
+use Rattle.model.proofs.Machine.Rules.{ready-live}
 use Rattle.job.proofs.Test.{clash, eqb-eq, eqb-same, ltb-lt, and-left, and-right, all-at}
 
 -- what stands in a list is counted

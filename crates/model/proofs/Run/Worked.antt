@@ -1,5 +1,5 @@
--- Runs by computation, for rules that the marked runs do not show: a definition call does not wait, a handle is not given again, and a callee has
--- only its formals bound. Assumes nothing.
+-- Runs by computation, for rules that the marked runs do not show: a definition call does not wait, a handle is not given again, and a
+-- callee has only its formals bound. Assumes nothing.
 use mathlib.Core.Path.{_≡_, refl}
 use mathlib.Core.List.{List, [], _∷_, _++_}
 use Prim.Native.Nat.{ℕ, _<_}

@@ -1,5 +1,5 @@
--- Every instruction of a ready token agrees with the abstract machine's: one clause for each node. The same lemma serves both directions, since
--- it speaks of the machine before blanking and of whatever is not refused. Assumes nothing.
+-- Every instruction of a ready token agrees with the abstract machine's: one clause for each node. The same lemma serves both directions,
+-- since it speaks of the machine before blanking and of whatever is not refused. Assumes nothing.
 use mathlib.Core.Path.{_≡_, refl, ap, subst}
 use mathlib.Core.Bool.{true}
 use mathlib.Core.List.{List}
@@ -47,7 +47,8 @@ ready-is e (waiting f h) = let z : _≡_ {A = ℕ} 0 1 = cc in absurd (omega ari
 ready-is e called = let z : _≡_ {A = ℕ} 0 1 = cc in absurd (omega arith)
 
 take-token : {M : Labels} {W : World} {p : ℕ} {S L R : List Abstract.Token} {x : Abstract.Token}
-    → tokenAt (W .tokens) p .state ≡ states.Ready → Split x S L R → Others M W p L R → TokenSeen W M (tokenAt (W .tokens) p) x → Taken M W p S
+    → tokenAt (W .tokens) p .state ≡ states.Ready → Split x S L R → Others M W p L R → TokenSeen W M (tokenAt (W .tokens) p) x
+    → Taken M W p S
 take-token {S = S} {L = L} {R = R} e i o (sees z un st) =
     let r = ready-is e st in
     taken (subst (λ x. Split x S L R) (r .1) i) (record { others = o; place = z; clear = un; value = r .2; state = e })

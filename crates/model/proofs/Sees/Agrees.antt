@@ -1,5 +1,5 @@
--- An effect of the concrete machine agrees with one of the abstract machine: it shows the same, and the machine before blanking is seen as the
--- state after. Stated for any effect, with the two that write one place: the token ends, or it goes on. Assumes nothing.
+-- An effect of the concrete machine agrees with one of the abstract machine: it shows the same, and the machine before blanking is seen as
+-- the state after. Stated for any effect, with the two that write one place: the token ends, or it goes on. Assumes nothing.
 use mathlib.Core.Path.{_≡_, refl}
 use mathlib.Core.Bool.{Bool, true, false}
 use mathlib.Core.List.{List, [], _∷_, _++_}
@@ -45,7 +45,8 @@ module _ {M : Labels} {W : World} {p : ℕ} {L R : List Abstract.Token} {n : ℕ
   acting-fits = used-fits W p acting-used
 
 -- the machine m is seen as the state after the effect x of a token between L and R, and x has the label a
-pub record Becomes (M : Labels) (W : World) (L R : List Abstract.Token) (h : ℕ) (x : Abstract.Effect) (a : Label) (m : Machine) : Type 0 where
+pub record Becomes (M : Labels) (W : World) (L R : List Abstract.Token) (h : ℕ) (x : Abstract.Effect) (a : Label)
+    (m : Machine) : Type 0 where
   pub label : Abstract.labelOf x ≡ a
   pub machine : Sees M m (Abstract.after L R (W .store) (W .new) h x)
 

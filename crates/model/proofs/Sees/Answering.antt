@@ -1,4 +1,5 @@
--- An answer agrees with the abstract machine's: the token that holds the handle is called out under it, and goes on with the value. Assumes nothing.
+-- An answer agrees with the abstract machine's: the token that holds the handle is called out under it, and goes on with the value. Assumes
+-- nothing.
 use mathlib.Core.Path.{_≡_, refl, sym, ap, subst}
 use mathlib.Core.Logic.{_⊎_, inl, inr}
 use mathlib.Core.Bool.{Bool, true, false}
@@ -75,7 +76,8 @@ holder-called h ts p e =
 pub data Pending (M : Labels) (W : World) (p h : ℕ) (S : List Abstract.Token) : Type 0 where
   pending : {L R : List Abstract.Token} {n : ℕ} {B : List Binding} {F : List Frame} {U : List ℕ}
       → Split (Abstract.calledOut h (at n B F U)) S L R → Others M W p L R
-      → PlaceSeen W M (tokenAt (W .tokens) p) n B F U → Unset (W .store) U → TokenSeen W M (tokenAt (W .tokens) p) (Abstract.calledOut h (at n B F U))
+      → PlaceSeen W M (tokenAt (W .tokens) p) n B F U → Unset (W .store) U
+      → TokenSeen W M (tokenAt (W .tokens) p) (Abstract.calledOut h (at n B F U))
       → Pending M W p h S
 
 called-is : {M : Labels} {n : ℕ} {K : Abstract.Place} {s : State} {w : Held} {x : Abstract.Token} (h : ℕ)
@@ -85,7 +87,8 @@ called-is h e (waiting f v) = let z : _≡_ {A = ℕ} 0 1 = cc in absurd (omega 
 called-is {K = K} h e (called {h = g}) = ap (λ i. Abstract.calledOut i K) (let z : g ≡ h = cc in z)
 
 pend-token : {M : Labels} {W : World} {p h : ℕ} {S L R : List Abstract.Token} {x : Abstract.Token}
-    → tokenAt (W .tokens) p .state ≡ states.Called h → Split x S L R → Others M W p L R → TokenSeen W M (tokenAt (W .tokens) p) x → Pending M W p h S
+    → tokenAt (W .tokens) p .state ≡ states.Called h → Split x S L R → Others M W p L R → TokenSeen W M (tokenAt (W .tokens) p) x
+    → Pending M W p h S
 pend-token {M} {W} {p} {h} {S} {L} {R} e i o (sees {n = n} {B = B} {F = F} {U = U} {x = x} z un st) =
     let same : x ≡ Abstract.calledOut h (at n B F U) = called-is h e st in
     pending (subst (λ x. Split x S L R) same i) o z un (subst (λ x. TokenSeen W M (tokenAt (W .tokens) p) x) same (sees z un st))

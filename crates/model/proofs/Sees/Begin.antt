@@ -19,7 +19,8 @@ use Rattle.model.specs.declared.record.Machine.{Machine}
 use Rattle.job.proofs.Test.{eqb-same, ne-eqb}
 use Rattle.simulation.proofs.Machine.{at, running, startAt}
 use Rattle.model.proofs.Sees.Labels.{Labels, Flow}
-use Rattle.model.proofs.Sees.View.{World, absent, ready, root, nothing, outermost, BindingsSeen, PlaceSeen, TokenSeen, sees, nobody, also}
+use Rattle.model.proofs.Sees.View.{World, absent, ready, root, nothing, outermost, BindingsSeen, PlaceSeen, TokenSeen, sees, nobody}
+use Rattle.model.proofs.Sees.View.{also}
 use Rattle.model.proofs.Sees.Sees.{world, Sees, seenAs}
 use Rattle.model.proofs.Sees.Slots.{unbound-empty}
 use Rattle.model.proofs.Sees.Others.{token-same, token-other}
@@ -44,7 +45,8 @@ module _ (lim : Limits) (d : Dag) (M : Labels) (flow : Flow d M) (some : 0 < lim
 
   other-place : (r : ℕ) → tokenAt (m .tokens) (suc r) ≡ blankToken
   other-place r =
-      token-other (replicate (lim .tokenPlaces) blankToken) 0 (suc r) (startToken (d .goal)) (λ e. omega arith) ∙ blank-at (lim .tokenPlaces) (suc r)
+      token-other (replicate (lim .tokenPlaces) blankToken) 0 (suc r) (startToken (d .goal)) (λ e. omega arith)
+      ∙ blank-at (lim .tokenPlaces) (suc r)
 
   start-place : PlaceSeen W M (startToken (d .goal)) (d .goal) [] [] []
   start-place =

@@ -1,6 +1,6 @@
--- Choke agrees with the abstract machine's: the tokens within the cell end, those that wait at it become ready, the others are as before; and
--- the cell and its name get the value. A token that stays has its frames outside the cell too, since it is under all that its caller is under.
--- Assumes nothing.
+-- Choke agrees with the abstract machine's: the tokens within the cell end, those that wait at it become ready, the others are as before;
+-- and the cell and its name get the value. A token that stays has its frames outside the cell too, since it is under all that its caller is
+-- under. Assumes nothing.
 use mathlib.Core.Path.{_≡_, refl, sym, _∙_, ap, subst}
 use mathlib.Core.Bool.{Bool, true, false, not}
 use mathlib.Core.List.{List, [], _∷_, _++_, map}
@@ -32,7 +32,9 @@ use Rattle.simulation.proofs.Machine as Abstract
 use Rattle.simulation.proofs.Machine.{Binding, Frame, at, Store, withSet, isOutOf, outOf, actsAt}
 use Rattle.simulation.proofs.Store.{_∈_, set-same, set-other}
 use Rattle.model.proofs.Sees.Labels.{Labels, nodeMeant, programOf}
-use Rattle.model.proofs.Sees.View.{held, World, Nested, StateSeen, ready, waiting, called, Unset, CellSeen, CellsSeen, root, below, PlaceSeen, TokenSeen, sees, TokensSeen, nobody, also, FrameSeen, frameAt, frame-seen, Kept, Closed, place-keep, tokens-append}
+use Rattle.model.proofs.Sees.View.{held, World, Nested, StateSeen, ready, waiting, called, Unset, CellSeen, CellsSeen, root, below}
+use Rattle.model.proofs.Sees.View.{PlaceSeen, TokenSeen, sees, TokensSeen, nobody, also, FrameSeen, frameAt, frame-seen, Kept}
+use Rattle.model.proofs.Sees.View.{Closed, place-keep, tokens-append}
 use Rattle.model.proofs.Sees.Sees.{Core, world, sees-tables}
 use Rattle.model.proofs.Sees.Others.{Others, count-append}
 use Rattle.model.proofs.Run.Chain.{cell-same, cell-other}

@@ -1,5 +1,5 @@
--- No variable is free in a goal's meaning, so that no substitution changes it: a variable in scope means a position below the scope's length, and
--- a substitution that leaves those alone leaves the expression alone. Assumes nothing.
+-- No variable is free in a goal's meaning, so that no substitution changes it: a variable in scope means a position below the scope's
+-- length, and a substitution that leaves those alone leaves the expression alone. Assumes nothing.
 use mathlib.Core.Path.{_≡_, refl, ap, ap₂}
 use mathlib.Core.Logic.{_⊎_, inl, inr}
 use mathlib.Core.Bool.{Bool, true, false}

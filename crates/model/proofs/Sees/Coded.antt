@@ -1,5 +1,6 @@
--- The abstract program of a well-formed program's dag has the code of the program's meaning: of each body toward a return, of the goal toward
--- publish. Code and nodes follow the same recursion, and a node's label has the scope by which its variables are meant. Assumes nothing.
+-- The abstract program of a well-formed program's dag has the code of the program's meaning: of each body toward a return, of the goal
+-- toward publish. Code and nodes follow the same recursion, and a node's label has the scope by which its variables are meant. Assumes
+-- nothing.
 use mathlib.Core.Path.{_≡_, sym, _∙_, ap, ap₂, subst}
 use mathlib.Core.Logic.{_⊎_, inl, inr}
 use mathlib.Core.Bool.{Bool, true, false}

@@ -1,4 +1,5 @@
--- A property of each element of a list together with its index, counted from n: of two lists it holds of one after the other. Assumes nothing.
+-- A property of each element of a list together with its index, counted from n: of two lists it holds of one after the other. Assumes
+-- nothing.
 use mathlib.Core.Path.{_≡_, ap, subst}
 use mathlib.Core.List.{List, [], _∷_, _++_}
 use Prim.Native.Nat.{ℕ, zero, suc, _+_, _<_}
@@ -38,7 +39,8 @@ module _ {A : Type 0} {P : ℕ → A → Type 0} where
   each-append m e none qs = each-from (omega arith) qs
   each-append m e (more p ps) qs = more p (each-append m (omega arith) ps qs)
 
-  pub each-three : {n : ℕ} (a b : ℕ) (xs ys zs : List A) → length xs ≡ a → length ys ≡ b → Each P n (xs ++ ys ++ zs) → Three P n a b xs ys zs
+  pub each-three : {n : ℕ} (a b : ℕ) (xs ys zs : List A) → length xs ≡ a → length ys ≡ b → Each P n (xs ++ ys ++ zs)
+      → Three P n a b xs ys zs
   each-three {n} a b xs ys zs e f ps =
       let both = each-left (xs ++ ys) zs ps in
       record {
@@ -47,7 +49,8 @@ module _ {A : Type 0} {P : ℕ → A → Type 0} where
         third = each-right (xs ++ ys) zs (n + a + b) (omega (arith, length-append xs ys)) ps;
       }
 
-  pub three-each : {n : ℕ} (a b : ℕ) (xs ys zs : List A) → length xs ≡ a → length ys ≡ b → Three P n a b xs ys zs → Each P n (xs ++ ys ++ zs)
+  pub three-each : {n : ℕ} (a b : ℕ) (xs ys zs : List A) → length xs ≡ a → length ys ≡ b → Three P n a b xs ys zs
+      → Each P n (xs ++ ys ++ zs)
   three-each {n} a b xs ys zs e f t =
       each-append (n + a + b) (omega (arith, length-append xs ys)) (each-append (n + a) (omega arith) (t .first) (t .second)) (t .third)
 
@@ -62,7 +65,8 @@ module _ {A : Type 0} {P : ℕ → A → Type 0} where
   at-each n [] d h = none
   at-each n (x ∷ xs) d h =
       more (subst (λ i. P i x) (let z : n + 0 ≡ n = omega arith in z) (h 0 (omega arith)))
-      (at-each (suc n) xs d (λ i l. subst (λ j. P j (getD xs i d)) (let z : n + suc i ≡ suc n + i = omega arith in z) (h (suc i) (omega arith))))
+      (at-each (suc n) xs d
+      (λ i l. subst (λ j. P j (getD xs i d)) (let z : n + suc i ≡ suc n + i = omega arith in z) (h (suc i) (omega arith))))
 
 pub each-map : {A : Type 0} {P Q : ℕ → A → Type 0} {n : ℕ} {xs : List A} → ((i : ℕ) (x : A) → P i x → Q i x) → Each P n xs → Each Q n xs
 each-map f none = none

@@ -1,5 +1,5 @@
--- The labels keep the flow of a well-formed program's dag: what each node asks of those that it names was laid beside it in the same recursion,
--- and a binder's number, the length of its scope, is in no scope yet. Assumes nothing.
+-- The labels keep the flow of a well-formed program's dag: what each node asks of those that it names was laid beside it in the same
+-- recursion, and a binder's number, the length of its scope, is in no scope yet. Assumes nothing.
 use mathlib.Core.Path.{_≡_, refl, sym, _∙_, ap, subst}
 use mathlib.Core.Bool.{Bool, true, false}
 use mathlib.Core.List.{List, [], _∷_}
@@ -177,7 +177,8 @@ module _ (M : Labels) where
       goal-labelled (suc (n + nodeCount (d .body))) ds g (each-tail (then-labelled M (d .body) (levels (d .formals)) 0 true _ ls))
 
   body-labelled : (n : ℕ) (ds : List Definition) (g : Exp) → Labelled M n (programLabels ds g) → (e : ℕ) → e < length ds
-      → Has M (getD (constructFrom n ds g .bodies) e (record { root = 0; formals = 0 }) .root) (plain (levels (getD (formalsOf ds) e 0)) 0 true)
+      → Has M (getD (constructFrom n ds g .bodies) e (record { root = 0; formals = 0 }) .root)
+      (plain (levels (getD (formalsOf ds) e 0)) 0 true)
   unfolding programLabels constructFrom
   body-labelled n [] g ls e l = absurd (omega arith)
   body-labelled n (d ∷ ds) g ls zero l =

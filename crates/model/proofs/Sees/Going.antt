@@ -1,4 +1,5 @@
--- The instructions that write one place agree with the abstract machine's: stop, publish, assign, remove, return, and site calls. Assumes nothing.
+-- The instructions that write one place agree with the abstract machine's: stop, publish, assign, remove, return, and site calls. Assumes
+-- nothing.
 use mathlib.Core.Path.{_≡_, refl, sym, subst}
 use mathlib.Core.Bool.{Bool, true, false}
 use mathlib.Core.List.{List, _∷_}
@@ -17,7 +18,8 @@ use Rattle.model.specs.Machine.Blank.{blankToken, tokenAt}
 use Rattle.model.specs.Machine.State.{isLive}
 use Rattle.model.specs.Machine.Reply.{moves, publishes, unless}
 use Rattle.model.specs.Machine.Update.{withNode, withBinding, withValue, withState, withTables, withOrders, withCounts, put, enqueue}
-use Rattle.model.specs.Machine.Step.{LookUpResult, values, unset, look, valueOf, ended, goesOn, waited, replied, calledOut, returned, callSite}
+use Rattle.model.specs.Machine.Step.{LookUpResult, values, unset, look, valueOf, ended, goesOn, waited, replied, calledOut, returned}
+use Rattle.model.specs.Machine.Step.{callSite}
 use Rattle.calculus.specs.Event.{Event, silently, showing}
 use Rattle.calculus.specs.Expression.{Exp}
 use Rattle.calculus.specs.Allowed.{nextHandle}
@@ -33,11 +35,14 @@ use Rattle.simulation.proofs.Machine as Abstract
 use Rattle.simulation.proofs.Machine.{Binding, Frame, at, running, Store, actsAt}
 use Rattle.simulation.proofs.Store.{_∈_}
 use Rattle.model.proofs.Sees.Labels.{Labels, nodeMeant, programOf, Fresh, Follows}
-use Rattle.model.proofs.Sees.View.{World, cellsOfCaller, present, waiting, called, valued, BindingSeen, FrameSeen, frameAt, frame-seen, TokenSeen, sees}
+use Rattle.model.proofs.Sees.View.{World, cellsOfCaller, present, waiting, called, valued, BindingSeen, FrameSeen, frameAt}
+use Rattle.model.proofs.Sees.View.{frame-seen, TokenSeen, sees}
 use Rattle.model.proofs.Sees.Sees.{world, tokens-of, used-fits}
 use Rattle.model.proofs.Sees.Slots.{found, values-seen}
-use Rattle.model.proofs.Sees.Moving.{value-there, value-optional, value-held, ready-seen, nested-none, place-to, place-bind, place-drop, place-as, fits-as, fits-bind}
-use Rattle.model.proofs.Sees.Agrees.{Acting, acting-used, acting-fits, Becomes, Shows, shows-unless, Agrees, ends-becomes, goes-becomes}
+use Rattle.model.proofs.Sees.Moving.{value-there, value-optional, value-held, ready-seen, nested-none, place-to, place-bind}
+use Rattle.model.proofs.Sees.Moving.{place-drop, place-as, fits-as, fits-bind}
+use Rattle.model.proofs.Sees.Agrees.{Acting, acting-used, acting-fits, Becomes, Shows, shows-unless, Agrees, ends-becomes}
+use Rattle.model.proofs.Sees.Agrees.{goes-becomes}
 
 module _ (d : Dag) (M : Labels) (bodies : ℕ → Exp) (m : Machine) {name place : ℕ → ℕ} {σ : Store} {new p : ℕ}
     {L R : List Abstract.Token} {n : ℕ} {B : List Binding} {F : List Frame} {U : List ℕ} {v : ℤ}
@@ -99,7 +104,8 @@ module _ (d : Dag) (M : Labels) (bodies : ℕ → Exp) (m : Machine) {name place
 
   -- the frame is under the same cells as the token that returns to it
   return-to : {G : List Frame} → M .value n ≡ true → U ≡ cellsOfCaller G → (f : ℕ) → t .caller ≡ places.At f → FrameSeen W M f G
-      → Agrees M W L R (m .calls) (goesOn m p (withState states.Ready (withValue (t .value) (tokenAt (m .tokens) f)))) (Abstract.returns G v)
+      → Agrees M W L R (m .calls) (goesOn m p (withState states.Ready (withValue (t .value) (tokenAt (m .tokens) f))))
+      (Abstract.returns G v)
   unfolding Shows goesOn enqueue put withTables withOrders nextHandle withState withValue
   return-to e z f c (frameAt l s b) =
       goes-becomes m (A .others) _ silently _ refl refl refl
@@ -129,11 +135,13 @@ module _ (d : Dag) (M : Labels) (bodies : ℕ → Exp) (m : Machine) {name place
         → Agrees M W L R (m .calls) (calledOut m p t s vs k) (Abstract.callsSite (m .calls) s vs false (at k B F U))
     unfolding Shows calledOut put withTables withCounts nextHandle withNode withState
     called-agrees vs =
-        goes-becomes m (A .others) _ (showing (Event.call (m .calls) s vs)) _ refl refl refl (fits-as {t = t} refl refl refl (acting-fits A))
+        goes-becomes m (A .others) _ (showing (Event.call (m .calls) s vs)) _ refl refl refl
+        (fits-as {t = t} refl refl refl (acting-fits A))
         (sees (place-as {t = withNode k t} refl refl refl refl (place-to f (A .place))) (A .clear) called)
 
     look-up-agrees : M .value n ≡ false → (l : LookUpResult)
-        → Agrees M W L R (m .calls) (callSite lim m p t s k l) (Abstract.asksSite (m .calls) s (running (at n B F U) v) (found l) (at k B F U))
+        → Agrees M W L R (m .calls) (callSite lim m p t s k l)
+        (Abstract.asksSite (m .calls) s (running (at n B F U) v) (found l) (at k B F U))
     unfolding Shows callSite waited put withTables withOrders nextHandle withState
     look-up-agrees e (unset c) =
         goes-becomes m (A .others) _ silently _ refl refl refl (fits-as {t = t} refl refl refl (acting-fits A))

@@ -109,7 +109,8 @@ module _ (M : Labels) where
     here-labelled = each-left _ ls labelled
 
     pub then-labelled : Labelled M (n + nodeCount e) ls
-    then-labelled = each-right (expLabels e scope nest body) ls (n + nodeCount e) (ap (λ m. n + m) (exp-labels-length e scope nest body)) labelled
+    then-labelled = each-right (expLabels e scope nest body) ls (n + nodeCount e)
+        (ap (λ m. n + m) (exp-labels-length e scope nest body)) labelled
 
 -- the labels of a program stand for its nodes
 pub labelled-whole : (p : Program) → Labelled (labelsOf p) 0 (programLabels (p .definitions) (p .goal))

@@ -1,5 +1,5 @@
--- What is known of each node of a dag before anything runs, and how nodes that follow one another agree. The abstract machine's program of a dag
--- is read off its nodes by their scopes. Assumes nothing: these are definitions.
+-- What is known of each node of a dag before anything runs, and how nodes that follow one another agree. The abstract machine's program of
+-- a dag is read off its nodes by their scopes. Assumes nothing: these are definitions.
 use mathlib.Core.Path.{_≡_}
 use mathlib.Core.Bool.{Bool, true, false}
 use mathlib.Core.List.{List, [], _∷_, map, List·Memᴰ}

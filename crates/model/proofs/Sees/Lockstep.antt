@@ -1,6 +1,6 @@
--- The lock step: each accepted call of the concrete machine is one step of the abstract machine that shows the same events, and the machines
--- are seen as one another again. So each run's event list is shown by a run of the abstract machine. Nothing but the view is carried from call
--- to call: an accepted call has tested the rules itself. Assumes nothing.
+-- The lock step: each accepted call of the concrete machine is one step of the abstract machine that shows the same events, and the
+-- machines are seen as one another again. So each run's event list is shown by a run of the abstract machine. Nothing but the view is
+-- carried from call to call: an accepted call has tested the rules itself. Assumes nothing.
 use mathlib.Core.Path.{_≡_, refl, sym, _∙_, ap, subst}
 use mathlib.Core.Logic.{_⊎_, inl, inr}
 use mathlib.Core.Bool.{Bool, true, false}
@@ -129,7 +129,8 @@ module _ (lim : Limits) (d : Dag) (M : Labels) (bodies : ℕ → Exp) (fits : Fi
   unfolding takes
   takes-agrees m k holds l {name} {place} {σ} {new} {L} {R} {n} {B} {F} {U} {v} acting =
       subst
-      (λ i. Agrees M W L R (m .calls) (Step.act lim d m (withOrders (without k (queueOf m)) (waitsOf m) m) p (tokenAt (m .tokens) p) (nodeAt d i)) x)
+      (λ i. Agrees M W L R (m .calls)
+      (Step.act lim d m (withOrders (without k (queueOf m)) (waitsOf m) m) p (tokenAt (m .tokens) p) (nodeAt d i)) x)
       (sym (acting .place .node))
       (act-agrees lim d M bodies m (without k (queueOf m)) (waitsOf m) acting
       (free-token lim d m holds fits) (free-cell lim d m holds fits) (flow .at n there))
@@ -194,7 +195,8 @@ module _ (lim : Limits) (d : Dag) (M : Labels) (bodies : ℕ → Exp) (fits : Fi
       found p (pending split others view clear seen) = unfold answered outcome accepted isRefused eventsOf shown in
           steps (Abstract.step (Move.answered v signed) split) refl (finish-sees _ (answered-becomes m h v others view clear seen .machine))
 
-      go : (q : Place) → holder h 0 (m .tokens) ≡ q → isRefused (outcome m (answered m v q) .reply) ≡ false → Locked (outcome m (answered m v q))
+      go : (q : Place) → holder h 0 (m .tokens) ≡ q → isRefused (outcome m (answered m v q) .reply) ≡ false
+          → Locked (outcome m (answered m v q))
       go places.Nowhere e r = unfold answered outcome isRefused in clash refl r
       go (places.At p) e r = found p (find-pending p h K (holder-called h (m .tokens) p e))
 
@@ -240,7 +242,8 @@ module _ (lim : Limits) (d : Dag) (M : Labels) (bodies : ℕ → Exp) (fits : Fi
       locked (steps st e sn′) f = first st e (f _ sn′)
 
   -- on a dag that breaks a rule every call is refused
-  no-events : dagHolds d ≡ false → {m end : Machine} {cs : List Call} {es : List Event} {fine : Bool} → Passage lim d m cs es fine end → es ≡ []
+  no-events : dagHolds d ≡ false → {m end : Machine} {cs : List Call} {es : List Event} {fine : Bool} → Passage lim d m cs es fine end
+      → es ≡ []
   no-events e Passage.none = refl
   no-events e (Passage.refused no′ p) = no-events e p
   no-events e (Passage.accepted {m = m} {c = c} ok p) = clash (accepted-dag lim d m c ok) e

@@ -15,7 +15,8 @@ use Rattle.job.specs.Node.{Node, Dag, bodyAt}
 use Rattle.model.specs.Machine.Blank.{tokenAt, cellAt}
 use Rattle.model.specs.Machine.State.{isLive}
 use Rattle.model.specs.Machine.InUse.{tokensUsed, cellsUsed}
-use Rattle.model.specs.Machine.Update.{withNode, withBinding, inCell, withState, withTables, withOrders, withCounts, put, enqueue, newToken, newCell}
+use Rattle.model.specs.Machine.Update.{withNode, withBinding, inCell, withState, withTables, withOrders, withCounts, put, enqueue}
+use Rattle.model.specs.Machine.Update.{newToken, newCell}
 use Rattle.model.specs.Machine.Step.{formalsBound, forked, split, entered}
 use Rattle.calculus.specs.Expression.{Exp}
 use Rattle.calculus.specs.Allowed.{nextHandle}
@@ -33,7 +34,8 @@ use Rattle.model.proofs.Machine.Marks.{Free, free-inside}
 use Rattle.simulation.proofs.Machine as Abstract
 use Rattle.simulation.proofs.Machine.{Binding, Frame, frame, at, running, Store, named, actsAt}
 use Rattle.model.proofs.Sees.Labels.{Labels, nodeMeant, programOf, Fresh, Follows, Enters}
-use Rattle.model.proofs.Sees.View.{held, World, Unset, absent, ready, CellSeen, CellsSeen, below, celled, calledBy, PlaceSeen, TokenSeen, sees, Kept, place-keep}
+use Rattle.model.proofs.Sees.View.{held, World, Unset, absent, ready, CellSeen, CellsSeen, below, celled, calledBy, PlaceSeen}
+use Rattle.model.proofs.Sees.View.{TokenSeen, sees, Kept, place-keep}
 use Rattle.model.proofs.Sees.Sees.{world, sees-tables, UsedToken, UsedCell, cells-of, used-closed}
 use Rattle.model.proofs.Sees.Slots.{formals-seen}
 use Rattle.model.proofs.Sees.Others.{acting-inside, cell-later, twoWritten, two-first, two-kept, both-core, new-core}
@@ -129,7 +131,8 @@ module _ (d : Dag) (M : Labels) (bodies : ℕ → Exp) (m : Machine) {name place
       caller = unfold withNode withState in place-as {t = withNode k t} {u = u} refl refl refl refl (place-to f still)
 
       inside : p < length (made u w .tokens)
-      inside = let z : length (made u w .tokens) ≡ length (m .tokens) = made-kept u w .size in let y = acting-inside (A .others) in omega arith
+      inside = let z : length (made u w .tokens) ≡ length (m .tokens) = made-kept u w .size in let y = acting-inside (A .others) in
+          omega arith
 
       callee : TokenSeen (made u w) M w
           (running (at (bodyAt d e .root) (map (named B) (reverse (map (paramMeant (M .scope n)) ps))) (frame k B U ∷ F) U) v)
@@ -203,7 +206,8 @@ module _ (d : Dag) (M : Labels) (bodies : ℕ → Exp) (m : Machine) {name place
 
         still : PlaceSeen W′ M t n B F U
         still =
-            place-keep (two-kept (A .others) (acting-used A) q free u w cs name′ place′ cells parents) (used-closed W) (acting-fits A) (A .place)
+            place-keep (two-kept (A .others) (acting-used A) q free u w cs name′ place′ cells parents) (used-closed W) (acting-fits A)
+            (A .place)
 
         unset : σ new ≡ none
         unset = A .others .clean new (omega arith)

@@ -23,7 +23,8 @@ use Rattle.model.proofs.Machine.Inside.{Fits}
 use Rattle.simulation.proofs.Machine as Abstract
 use Rattle.simulation.proofs.Machine.{Binding, Frame, running}
 use Rattle.model.proofs.Sees.Labels.{Labels, Fresh, Follows}
-use Rattle.model.proofs.Sees.View.{World, Nested, cellsOfCaller, HeldSeen, absent, present, StateSeen, ready, CellsSeen, BindingSeen, SlotsSeen, FramesSeen, PlaceSeen}
+use Rattle.model.proofs.Sees.View.{World, Nested, cellsOfCaller, HeldSeen, absent, present, StateSeen, ready, CellsSeen, BindingSeen}
+use Rattle.model.proofs.Sees.View.{SlotsSeen, FramesSeen, PlaceSeen}
 use Rattle.model.proofs.Sees.Slots.{withSlot, slot-same, slot-other, slots-bind, slots-drop}
 
 -- a value that must be there, or need not
@@ -63,7 +64,14 @@ module _ {d : Dag} {M : Labels} {W : World} where
       → Follows d M n k (M .scope n) (M .nest n) → PlaceSeen W M t n B F U → PlaceSeen W M (withNode k t) k B F U
   unfolding withNode
   place-to f v =
-      record { node = refl; binds = slots-at (sym (f .scope)) (v .binds); caller = v .caller; cell = v .cell; nested = nested-next f (v .nested) }
+      record {
+        node = refl;
+        binds = slots-at (sym (f .scope)) (v .binds);
+        caller = v .caller;
+        cell = v .cell;
+        nested = nested-next f
+            (v .nested);
+      }
 
   pub place-bind : {t : Token} {n k x : ℕ} {B : List Binding} {F : List Frame} {U : List ℕ} {s : Slot} {b : Binding}
       → x < 8 → Fresh x (M .scope n) → Follows d M n k (x ∷ M .scope n) (M .nest n) → BindingSeen W s b
@@ -92,7 +100,8 @@ module _ {d : Dag} {M : Labels} {W : World} where
       }
 
 pub place-as : {W : World} {M : Labels} {t u : Token} {n : ℕ} {B : List Binding} {F : List Frame} {U : List ℕ}
-    → t .node ≡ u .node → t .binds ≡ u .binds → t .caller ≡ u .caller → t .cell ≡ u .cell → PlaceSeen W M t n B F U → PlaceSeen W M u n B F U
+    → t .node ≡ u .node → t .binds ≡ u .binds → t .caller ≡ u .caller → t .cell ≡ u .cell → PlaceSeen W M t n B F U
+    → PlaceSeen W M u n B F U
 place-as {W} {M} {n = n} {B = B} {F = F} {U = U} a b c e v =
     record {
       node = sym a ∙ v .node;

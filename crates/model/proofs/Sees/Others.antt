@@ -1,5 +1,5 @@
--- A step writes the place of the token that acts and at most one place that was not in use: the other tokens are seen as before, and each live
--- token is still listed once. By what is kept for views, and by counting. Assumes nothing.
+-- A step writes the place of the token that acts and at most one place that was not in use: the other tokens are seen as before, and each
+-- live token is still listed once. By what is kept for views, and by counting. Assumes nothing.
 use mathlib.Core.Path.{_≡_, refl, sym, _∙_, ap, subst}
 use mathlib.Core.Bool.{Bool, true, false}
 use mathlib.Core.List.{List, [], _∷_, _++_}
@@ -24,7 +24,8 @@ use Rattle.simulation.proofs.Machine as Abstract
 use Rattle.simulation.proofs.Shuffle.{Split, first, later}
 use Rattle.model.proofs.Sees.Labels.{Labels}
 use Rattle.model.proofs.Sees.View.{World, CellSeen, TokenSeen, TokensSeen, nobody, also, Kept, token-keep, tokens-map, tokens-append}
-use Rattle.model.proofs.Sees.Sees.{Core, token-live, live-inside, UsedToken, UsedCell, tokens-of, used-fits, used-closed, token-used, token-at}
+use Rattle.model.proofs.Sees.Sees.{Core, token-live, live-inside, UsedToken, UsedCell, tokens-of, used-fits, used-closed, token-used}
+use Rattle.model.proofs.Sees.Sees.{token-at}
 
 pub count-append : (r : ℕ) (A B : List ℕ) → count r (A ++ B) ≡ count r A + count r B
 unfolding count
@@ -67,7 +68,8 @@ module _ (M : Labels) (W : World) where
       go true e f =
           let i = eqb-eq p q e in
           foundAt first
-          (spot {Before = []} {Behind = B} (ap (λ r. r ∷ B) (sym i)) (subst (λ r. TokenSeen W M (tokenAt (W .tokens) r) y) (sym i) v) nobody s)
+          (spot {Before = []} {Behind = B} (ap (λ r. r ∷ B) (sym i)) (subst (λ r. TokenSeen W M (tokenAt (W .tokens) r) y) (sym i) v) nobody
+          s)
       go false e f = at-later v (f (let z : 0 < once (eqb p q) + count p B = l in let i : once (eqb p q) ≡ 0 = rw e refl in omega arith))
 
   -- found by the abstract machine's token
@@ -117,7 +119,8 @@ spot-token (spot e v l r) = v
 pub record Rewrites (W W′ : World) (p : ℕ) (N : List ℕ) : Type 0 where
   pub kept : Kept (UsedToken W) (UsedCell W) W W′
   pub others : (r : ℕ) → UsedToken W r → (r ≡ p → ⊥) → tokenAt (W′ .tokens) r ≡ tokenAt (W .tokens) r
-  pub live : (r : ℕ) → once (isLive (tokenAt (W′ .tokens) r .state)) + once (eqb r p) ≡ once (isLive (tokenAt (W .tokens) r .state)) + count r N
+  pub live : (r : ℕ)
+      → once (isLive (tokenAt (W′ .tokens) r .state)) + once (eqb r p) ≡ once (isLive (tokenAt (W .tokens) r .state)) + count r N
   pub store : (n : ℕ) → W′ .store n ≡ W .store n
   pub new : W .new ≤ W′ .new
 
@@ -219,7 +222,8 @@ module _ {M : Labels} {W : World} {p : ℕ} {L R : List Abstract.Token} (o : Oth
     where
       go : Dec (r ≡ p) → alive (tokenAt (set (W .tokens) p u) r) + once (eqb r p) ≡ alive (tokenAt (W .tokens) r) + count r N
       go (yes e) =
-          let i : tokenAt (set (W .tokens) p u) r ≡ u = ap (tokenAt (set (W .tokens) p u)) e ∙ token-same (W .tokens) p u (acting-inside o) in
+          let i : tokenAt (set (W .tokens) p u) r ≡ u = ap (tokenAt (set (W .tokens) p u)) e
+          ∙ token-same (W .tokens) p u (acting-inside o) in
           let a : alive (tokenAt (set (W .tokens) p u) r) ≡ alive u = ap alive i in
           let b : alive (tokenAt (W .tokens) r) ≡ 1 = ap (λ i. alive (tokenAt (W .tokens) i)) e ∙ ap once (acting-live o) in
           let c : once (eqb r p) ≡ 1 = ap once (ap (eqb r) (sym e) ∙ eqb-same r) in
@@ -233,7 +237,14 @@ module _ {M : Labels} {W : World} {p : ℕ} {L R : List Abstract.Token} (o : Oth
 
   one-rewrites : (N : List ℕ) → ((r : ℕ) → (r ≡ p → ⊥) → count r N ≡ 0) → count p N ≡ alive u → Rewrites W (oneWritten W p u) p N
   one-rewrites N h k =
-      record { kept = one-kept; others = λ r i n. token-other (W .tokens) p r u n; live = one-live N h k; store = λ n. refl; new = omega arith }
+      record {
+        kept = one-kept;
+        others = λ r i n. token-other (W .tokens) p r u n;
+        live = one-live N h k;
+        store = λ n. refl;
+        new =
+            omega arith;
+      }
 
   -- the token ends
   pub ends-core : isLive (u .state) ≡ false → Core M (oneWritten W p u) (o .before ++ ([] ++ o .behind)) (L ++ ([] ++ R))
@@ -321,7 +332,14 @@ module _ {M : Labels} {W : World} {p : ℕ} {L R : List Abstract.Token} (o : Oth
     two-rewrites : (N : List ℕ) → isLive (w .state) ≡ true → ((r : ℕ) → (r ≡ p → ⊥) → count r N ≡ once (eqb r q)) → count p N ≡ alive u
         → Rewrites W W′ p N
     two-rewrites N l h k =
-        record { kept = two-kept; others = λ r i n. two-other r n (used-other r i); live = two-live N l h k; store = λ n. refl; new = omega arith }
+        record {
+          kept = two-kept;
+          others = λ r i n. two-other r n (used-other r i);
+          live = two-live N l h k;
+          store = λ n. refl;
+          new =
+              omega arith;
+        }
 
     apart : once (eqb p q) ≡ 0
     apart = ap once (ne-eqb p q (used-other p used))

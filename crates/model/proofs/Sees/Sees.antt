@@ -1,5 +1,5 @@
--- A machine is seen as a state of the abstract machine: each live token once, and a cell that has no name yet unset. The tokens that are seen
--- are active, so what they name is in use, and blanking the rest keeps the view. Assumes nothing.
+-- A machine is seen as a state of the abstract machine: each live token once, and a cell that has no name yet unset. The tokens that are
+-- seen are active, so what they name is in use, and blanking the rest keeps the view. Assumes nothing.
 use mathlib.Core.Path.{_≡_, refl, sym, _∙_, ap, subst}
 use mathlib.Core.Logic.{_⊎_, inl, inr}
 use mathlib.Core.Bool.{Bool, true, false}
@@ -31,7 +31,8 @@ use Rattle.simulation.proofs.Machine as Abstract
 use Rattle.simulation.proofs.Machine.{Store, state}
 use Rattle.simulation.proofs.Store.{_∈_}
 use Rattle.model.proofs.Sees.Labels.{Labels}
-use Rattle.model.proofs.Sees.View.{held, World, CellSeen, CellsSeen, root, below, StateSeen, ready, waiting, called, Unset, TokenSeen, sees, TokensSeen, nobody, also, Kept, Closed, token-keep, tokens-map}
+use Rattle.model.proofs.Sees.View.{held, World, CellSeen, CellsSeen, root, below, StateSeen, ready, waiting, called, Unset}
+use Rattle.model.proofs.Sees.View.{TokenSeen, sees, TokensSeen, nobody, also, Kept, Closed, token-keep, tokens-map}
 
 -- A: the places of the live tokens, in the order of S
 pub record Core (M : Labels) (W : World) (A : List ℕ) (S : List Abstract.Token) : Type 0 where
@@ -81,7 +82,8 @@ module _ {W : World} where
   not-under-set un v =
       up-fails (λ c k. isSet k) (length (W .cells)) (λ c n s m. unset-cell (cellAt (W .cells) c) (sym (s .value) ∙ un n m)) v
 
-pub state-live : {M : Labels} {n : ℕ} {K : Abstract.Place} {s : State} {w : Held} {x : Abstract.Token} → StateSeen M n K s w x → isLive s ≡ true
+pub state-live : {M : Labels} {n : ℕ} {K : Abstract.Place} {s : State} {w : Held} {x : Abstract.Token} → StateSeen M n K s w x
+    → isLive s ≡ true
 unfolding isLive
 state-live (ready v) = refl
 state-live (waiting e v) = refl

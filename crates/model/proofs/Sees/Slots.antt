@@ -1,5 +1,6 @@
--- What instructions do to bindings, seen as the abstract machine's list of them: a new binder's slot is its head, a variable is found at its
--- position in the scope, a call's formals are the parameters' bindings in reverse. By recursion on the scope or the parameters. Assumes nothing.
+-- What instructions do to bindings, seen as the abstract machine's list of them: a new binder's slot is its head, a variable is found at
+-- its position in the scope, a call's formals are the parameters' bindings in reverse. By recursion on the scope or the parameters. Assumes
+-- nothing.
 use mathlib.Core.Path.{_≡_, refl, sym, _∙_, ap, subst}
 use mathlib.Core.Bool.{Bool, true, false}
 use mathlib.Core.List.{List, [], _∷_, _++_, map, reverse, reverseAux, tail, List·Memᴰ·head, List·Memᴰ·tail, List·Memᴰ·not-nil}
@@ -65,7 +66,8 @@ module _ {W : World} where
   bindings-tail : {bs : List Bind} {x : ℕ} {all scope : List ℕ} {B : List Binding}
       → all ≡ x ∷ scope → BindingsSeen W bs all B → BindingsSeen W bs scope (tail B)
   bindings-tail e nothing = let z : _≡_ {A = ℕ} 0 1 = cc in absurd (omega arith)
-  bindings-tail {bs} {scope = scope} e (binds {scope = ys} {B = B} v r) = subst (λ i. BindingsSeen W bs i B) (let z : ys ≡ scope = cc in z) r
+  bindings-tail {bs} {scope = scope} e (binds {scope = ys} {B = B} v r) = subst (λ i. BindingsSeen W bs i B) (let z : ys ≡ scope = cc in
+      z) r
 
   -- a binder's slot made empty
   pub slots-drop : {bs : List Bind} {x : ℕ} {all scope : List ℕ} {B : List Binding}
@@ -124,7 +126,8 @@ module _ {W : World} {bs : List Bind} {scope : List ℕ} {B : List Binding} (vie
   cell-case helds.Nothing c l = refl
   cell-case (helds.Value v) c l = found-more v l
 
-  slot-case : {s : Slot} {b : Binding} (l : LookUpResult) → BindingSeen W s b → inFront (valueIn (W .store) b) (found l) ≡ found (slotCase s l)
+  slot-case : {s : Slot} {b : Binding} (l : LookUpResult) → BindingSeen W s b
+      → inFront (valueIn (W .store) b) (found l) ≡ found (slotCase s l)
   slot-case l (valued {v = v}) = found-more v l
   slot-case l (celled {c = c} (below s v)) = rw (s .value) (cell-case (cellAt (W .cells) c .value) c l)
 
@@ -134,7 +137,8 @@ module _ {W : World} {bs : List Bind} {scope : List ℕ} {B : List Binding} (vie
   unfolding valuesIn look paramMeant
   values-seen All.none = refl
   values-seen (more {xs = ps} (GoodParam.variable {x = x} i) a) =
-      ap (inFront (valueIn (W .store) (bindingAt B (position x scope)))) (values-seen a) ∙ slot-case (look (W .cells) bs ps) (variable-seen x i views)
+      ap (inFront (valueIn (W .store) (bindingAt B (position x scope)))) (values-seen a)
+      ∙ slot-case (look (W .cells) bs ps) (variable-seen x i views)
   values-seen (more {xs = ps} (GoodParam.constant {v = v} f) a) =
       ap (inFront (some v)) (values-seen a) ∙ found-more v (look (W .cells) bs ps)
 
@@ -158,7 +162,8 @@ module _ {W : World} {bs : List Bind} {scope : List ℕ} {B : List Binding} (vie
       (let e : suc n + length ps ≡ n + suc (length ps) = omega arith in e)
       (formals-from full (suc n) (paramMeant scope p ∷ acc)
       (binds (subst (λ s. BindingSeen W s (named B (paramMeant scope p))) (sym first) (passed-seen g)) v)
-      (λ i l. subst (λ k. slotAt full k ≡ slotAt (map (passed bs) ps) i) (let e : n + suc i ≡ suc n + i = omega arith in e) (h (suc i) (omega arith)))
+      (λ i l. subst (λ k. slotAt full k ≡ slotAt (map (passed bs) ps) i) (let e : n + suc i ≡ suc n + i = omega arith in
+      e) (h (suc i) (omega arith)))
       a)
     where
       first : slotAt full n ≡ passed bs p .slot

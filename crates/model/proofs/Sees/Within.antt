@@ -1,5 +1,5 @@
--- The machine's test of being within a cell says whether the cell's name is among those that are seen above. The test looks at as many cells as
--- the table has, and that is enough: a chain that is seen ends, so no cell comes twice in it. Assumes nothing.
+-- The machine's test of being within a cell says whether the cell's name is among those that are seen above. The test looks at as many
+-- cells as the table has, and that is enough: a chain that is seen ends, so no cell comes twice in it. Assumes nothing.
 use mathlib.Core.Path.{_≡_, refl, sym, _∙_, ap, subst}
 use mathlib.Core.Bool.{Bool, true, false}
 use mathlib.Core.List.{List, [], _∷_, _++_, List·Memᴰ·head}

@@ -1,7 +1,8 @@
 -- The sizes of the tables and the limits that refuse. Assumes nothing: these are definitions.
 use Prim.Native.Nat.{ℕ}
 
--- (docs/DECISIONS.md, "Sizes and limits") how many places the tables of tokens and cells have; with how many tokens or cells in use, and after how many outside calls, a step is refused
+-- (docs/DECISIONS.md, "Sizes and limits") how many places the tables of tokens and cells have; with how many tokens or cells in use, and
+-- after how many outside calls, a step is refused
 pub record Limits : Type 0 where
   pub tokenPlaces : ℕ
   pub cellPlaces : ℕ

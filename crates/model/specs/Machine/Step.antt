@@ -1,5 +1,5 @@
--- Document 01: one step, and house order where the place is 0. One clause for each instruction; a branch that a test excludes gives the plainest
--- value (docs/DECISIONS.md, "Branches that a test excludes"). Assumes nothing: these are definitions.
+-- Document 01: one step, and house order where the place is 0. One clause for each instruction; a branch that a test excludes gives the
+-- plainest value (docs/DECISIONS.md, "Branches that a test excludes"). Assumes nothing: these are definitions.
 use mathlib.Core.Bool.{Bool, true, false}
 use mathlib.Core.List.{List, [], _∷_, _++_, map}
 use Prim.Native.Nat.{ℕ, suc}

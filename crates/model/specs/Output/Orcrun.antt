@@ -39,7 +39,8 @@ pub data Turn : Type 0 where
   over : List Line → Turn
 
 module _ (lim : Limits) (most : ℕ) (d : Dag) where
-  -- (docs/DECISIONS.md, "`limit` before any refusal") "It runs house order"; "a refused step ends the run"; "with 100,000 steps made and a token ready: `limit`, then `end`"
+  -- (docs/DECISIONS.md, "`limit` before any refusal") "It runs house order"; "a refused step ends the run"; "with 100,000 steps made and a
+  -- token ready: `limit`, then `end`"
   unfoldable pub stepTurn : Standing → Turn
   stepTurn s =
       elim (ltb (s .steps) most) [

@@ -22,7 +22,8 @@ module _ (R : Runner) where
       → Allowed (meaning p) (eventsFrom R paper (construct p) (started R paper (construct p)) calls)
 
   -- "Middle part: for each accepted table and each list allowed for it there are numbers of tokens, cells and calls such that, with
-  -- these or any larger ones in place of 64, 32 and 1,000,000, .. some run of that table without refused calls has exactly this event list."
+  -- these or any larger ones in place of 64, 32 and 1,000,000, .. some run of that table without refused calls has exactly this event
+  -- list."
   abbrev pub Shown : Program → List Event → (tokens cells calls : ℕ) → Type 0
   Shown p events t c k =
       (calls : List Call)

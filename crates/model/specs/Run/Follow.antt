@@ -1,4 +1,5 @@
--- A ready token, followed by its position in the queue from call to call (docs/DECISIONS.md, "Following a token"). Assumes nothing: these are definitions.
+-- A ready token, followed by its position in the queue from call to call (docs/DECISIONS.md, "Following a token"). Assumes nothing: these
+-- are definitions.
 use mathlib.Core.Path.{_≡_}
 use mathlib.Core.Bool.{Bool, true, false}
 use mathlib.Core.List.{List, [], _∷_}
@@ -45,7 +46,8 @@ unfoldable pub frontEnds : Dag → Machine → ℕ → Bool
 frontEnds d m k = let t = queuedToken m 0 in endsToken m (cellSet (nodeAt d (t .node)) t) (queuedToken m k)
 
 -- what becomes of the token at a position, in an accepted step that takes the first: "it acts in the step that takes it;
--- it is pruned when another token's choke ends it"; else as many stand before it as before, but for the one that acted and those that were pruned
+-- it is pruned when another token's choke ends it"; else as many stand before it as before, but for the one that acted and those that were
+-- pruned
 pub data Fate : Type 0 where
   acts : Fate
   falls : Fate

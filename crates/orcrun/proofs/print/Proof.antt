@@ -63,7 +63,8 @@ part-write-piece-end : tie.Need-part-write-piece-end Inv-loop μ-loop
 part-write-piece-end c = search needs
 
 write-piece-requires-2 : tie.Need-write-piece-requires-2 Inv-loop μ-loop
-write-piece-requires-2 c κs = piece-last (c .before .before .before .loop .inv .3) (let room = c .before .before .before .loop .inv .1 in omega arith)
+write-piece-requires-2 c κs = piece-last (c .before .before .before .loop .inv .3) (let room = c .before .before .before .loop .inv .1 in
+    omega arith)
 
 same-length : tie.Need-same-length Inv-loop μ-loop
 same-length c = search needs

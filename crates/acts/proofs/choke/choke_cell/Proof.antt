@@ -30,13 +30,19 @@ marked-end-requires c κs = search needs
 sub-written : tie.Need-sub-written
 sub-written c =
     let acting = c .before .before .before .before .before .before .before .before .before .before .before .pre .is in
-    let k = choke-cell _ _ _ _ _ acting (c .before .before .before .before .before .before .before .before .wide .ensures ∙ c .before .before .before .before .before .before .before .before .before .cell .ensures _ (acting .taking .lawful .holds .codes)) in
+    let k = choke-cell _ _ _ _ _ acting
+    (c .before .before .before .before .before .before .before .before .wide .ensures
+    ∙ c .before .before .before .before .before .before .before .before .before .cell .ensures _
+    (acting .taking .lawful .holds .codes)) in
     omega (arith, k .0)
 
 written-requires : tie.Need-written-requires
 written-requires c κs =
     let acting = c .before .before .before .before .before .before .before .before .before .before .before .pre .is in
-    let k = choke-cell _ _ _ _ _ acting (c .before .before .before .before .before .before .before .before .wide .ensures ∙ c .before .before .before .before .before .before .before .before .before .cell .ensures _ (acting .taking .lawful .holds .codes)) in
+    let k = choke-cell _ _ _ _ _ acting
+    (c .before .before .before .before .before .before .before .before .wide .ensures
+    ∙ c .before .before .before .before .before .before .before .before .before .cell .ensures _
+    (acting .taking .lawful .holds .codes)) in
     (k .1, c .before .marked-end .ensures .0)
 
 sweep-to-requires : tie.Need-sweep-to-requires
@@ -48,13 +54,22 @@ plain-requires c κs = search needs
 returns : tie.Need-returns
 returns c = λ m a.
     let holds = a .taking .lawful .holds in
-    let k = choke-cell _ _ _ _ m a (c .before .before .before .before .before .before .before .before .before .before .before .before .before .before .wide .ensures ∙ c .before .before .before .before .before .before .before .before .before .before .before .before .before .before .before .cell .ensures m (holds .codes)) in
-    let v = tokenAt (m .tokens) (c .before .before .before .before .before .before .before .before .before .before .before .before .before .before .before .before .before .args .p) .value in
+    let k = choke-cell _ _ _ _ m a
+    (c .before .before .before .before .before .before .before .before .before .before .before .before .before .before .wide .ensures
+    ∙ c .before .before .before .before .before .before .before .before .before .before .before .before .before .before .before
+    .cell .ensures m (holds .codes)) in
+    let v = tokenAt (m .tokens)
+    (c .before .before .before .before .before .before .before .before .before .before .before .before .before .before .before .before
+    .before .args .p) .value in
     let none = c .before .before .before .before .before .before .before .marked-end .ensures .1 in
     gives-swept _ replies.Done _ (choke-step _ _ _ _ m _ (k .2) a) (c .plain .ensures)
     (c .before .sweep-to .ensures _
-    (c .before .before .before .before .before .written .ensures m v holds (λ i from to. free-token (a .taking .lawful) i (none i from to)) (record { queued = a .taking .queued; room = room _ m (a .taking .lawful .rules) })
-    (sym (c .before .before .before .before .before .before .before .before .before .before .before .before .value-kind .ensures m (holds .codes))) (sym (c .before .before .before .before .before .before .before .before .before .before .value .ensures m (holds .codes)))) (choke-vacant (a .taking) _ v (k .2)))
+    (c .before .before .before .before .before .written .ensures m v holds (λ i from to. free-token (a .taking .lawful) i (none i from to))
+    (record { queued = a .taking .queued; room = room _ m (a .taking .lawful .rules) })
+    (sym (c .before .before .before .before .before .before .before .before .before .before .before .before .value-kind .ensures m
+    (holds .codes)))
+    (sym (c .before .before .before .before .before .before .before .before .before .before .value .ensures m (holds .codes))))
+    (choke-vacant (a .taking) _ v (k .2)))
 
 pub choke-cell-spec : {M : Type 1} → statement M
 choke-cell-spec =

@@ -19,7 +19,9 @@ plain-requires : tie.Need-plain-requires
 plain-requires c κs = search needs
 
 returns : tie.Need-returns
-returns c = λ m dag a. gives-swept _ _ _ refl (c .plain .ensures) (c .before .sweep .ensures _ (c .before .before .before .before .before .before .written .ensures m (a .lawful .holds) (a .queued)) (end-vacant a))
+returns c = λ m dag a. gives-swept _ _ _ refl (c .plain .ensures)
+    (c .before .sweep .ensures _ (c .before .before .before .before .before .before .written .ensures m (a .lawful .holds) (a .queued))
+    (end-vacant a))
 
 element-write-tokens : tie.Need-element-write-tokens
 element-write-tokens c = search needs
@@ -28,7 +30,9 @@ plain-requires-2 : tie.Need-plain-requires-2
 plain-requires-2 c κs = search needs
 
 returns-2 : tie.Need-returns-2
-returns-2 c = λ m dag a. end-gives a _ _ (c .plain2 .ensures) (c .before .before .before .before .names .ensures m (a .lawful .holds .codes) (c .before .if1 .left)) (c .before .before .written .ensures m (a .lawful .holds) (a .queued))
+returns-2 c = λ m dag a. end-gives a _ _ (c .plain2 .ensures)
+    (c .before .before .before .before .names .ensures m (a .lawful .holds .codes) (c .before .if1 .left))
+    (c .before .before .written .ensures m (a .lawful .holds) (a .queued))
 
 pub end-spec : {M : Type 1} → statement M
 end-spec =

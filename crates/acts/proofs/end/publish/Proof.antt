@@ -22,7 +22,9 @@ end-requires c κs = token-inside (c .before .before .before .before .before .be
 returns : tie.Need-returns
 returns c = λ m a.
     let fits : SFits w32 (c .before .before .before .before .signed .result) = search needs in
-    let same = publish-reply _ _ _ _ (value-range (a .taking)) (c .before .before .before .before .before .value .ensures m (a .taking .lawful .holds .codes)) (c .before .before .before .before .signed .ensures) (toZ-ofZ fits) in
+    let same = publish-reply _ _ _ _ (value-range (a .taking))
+    (c .before .before .before .before .before .value .ensures m (a .taking .lawful .holds .codes))
+    (c .before .before .before .before .signed .ensures) (toZ-ofZ fits) in
     gives-as (reply-as _ (publish-step _ _ _ _ m a) same) (c .end .ensures m _ (a .taking))
 
 pub publish-spec : {M : Type 1} → statement M

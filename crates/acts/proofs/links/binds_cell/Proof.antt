@@ -33,10 +33,16 @@ loop-less : tie.Need-loop-less Inv-loop μ-loop
 loop-less c = search needs
 
 loop-again : tie.Need-loop-again Inv-loop μ-loop
-loop-again c = (search needs, λ m h. no-cell-more (tokenAt (m .tokens) (c .before .before .before .before .args .p) .binds) (c .before .before .before .loop .x) (c .before .before .before .loop .inv .1 m h) (no-cell _ _ (c .before .bind-kind .ensures m h) (c .if1 .left)))
+loop-again c = (
+  search needs,
+  λ m h. no-cell-more (tokenAt (m .tokens) (c .before .before .before .before .args .p) .binds)
+      (c .before .before .before .loop .x) (c .before .before .before .loop .inv .1 m h)
+      (no-cell _ _ (c .before .bind-kind .ensures m h) (c .if1 .left)),
+)
 
 returns-2 : tie.Need-returns-2 Inv-loop μ-loop
-returns-2 c = λ m h e. no-cell-all (tokenAt (m .tokens) (c .before .before .args .p) .binds) (c .before .loop .x) (h .shaped .binds _) (omega arith) (c .before .loop .inv .1 m h)
+returns-2 c = λ m h e. no-cell-all (tokenAt (m .tokens) (c .before .before .args .p) .binds) (c .before .loop .x) (h .shaped .binds _)
+    (omega arith) (c .before .loop .inv .1 m h)
 
 pub binds-cell-spec : {M : Type 1} → statement M
 binds-cell-spec =

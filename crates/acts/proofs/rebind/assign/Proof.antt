@@ -31,13 +31,24 @@ dag-word-requires-2 : tie.Need-dag-word-requires-2
 dag-word-requires-2 c κs = let l = row-fits (c .before .before .before .before .before .before .before .pre .is) in omega arith
 
 rebind-requires : tie.Need-rebind-requires
-rebind-requires c κs = let l = assign-numbers _ _ (row (c .before .before .before .before .before .before .before .before .pre .is)) .0 in (token-inside (c .before .before .before .before .before .before .before .before .pre .is .taking), (let e = c .before .before .before .before .before .before .wide .ensures in let f = c .before .before .before .before .before .before .before .dag-word .ensures in omega arith))
+rebind-requires c κs = let l = assign-numbers _ _ (row (c .before .before .before .before .before .before .before .before .pre .is)) .0 in (
+  token-inside (c .before .before .before .before .before .before .before .before .pre .is .taking),
+  (let e = c .before .before .before .before .before .before .wide .ensures in
+      let f = c .before .before .before .before .before .before .before .dag-word .ensures in omega arith),
+)
 
 returns : tie.Need-returns
 returns c = λ m a.
-    let s = slots.Value (valueOf (tokenAt (m .tokens) (c .before .before .before .before .before .before .before .before .before .args .p) .value)) in
-    let number = sym (c .before .before .before .before .before .value .ensures m (a .taking .lawful .holds .codes) ∙ value-bits (tokenAt (m .tokens) (c .before .before .before .before .before .before .before .before .before .args .p) .value)) in
-    gives-as (assign-step _ _ _ _ m a ∙ rebound-as m _ _ s (sym (c .before .before .before .before .before .before .before .wide .ensures ∙ c .before .before .before .before .before .before .before .before .dag-word .ensures)) (sym (c .before .dag-word2 .ensures)))
+    let s = slots.Value
+    (valueOf (tokenAt (m .tokens) (c .before .before .before .before .before .before .before .before .before .args .p) .value)) in
+    let number = sym
+    (c .before .before .before .before .before .value .ensures m (a .taking .lawful .holds .codes)
+    ∙ value-bits (tokenAt (m .tokens) (c .before .before .before .before .before .before .before .before .before .args .p) .value))
+    in
+    gives-as (assign-step _ _ _ _ m a
+    ∙ rebound-as m _ _ s
+    (sym (c .before .before .before .before .before .before .before .wide .ensures
+    ∙ c .before .before .before .before .before .before .before .before .dag-word .ensures)) (sym (c .before .dag-word2 .ensures)))
     (c .rebind .ensures m _ s (a .taking) (value-no-cell _) refl number)
 
 pub assign-spec : {M : Type 1} → statement M

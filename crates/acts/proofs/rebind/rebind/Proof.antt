@@ -20,13 +20,18 @@ plain-requires : tie.Need-plain-requires
 plain-requires c κs = search needs
 
 returns : tie.Need-returns
-returns c = λ m dag s a n e f. gives-swept _ replies.Done _ refl (c .plain .ensures) (c .before .sweep .ensures _ (c .before .before .before .before .before .before .written .ensures m s (a .lawful .holds) (a .queued) e f) (rebind-vacant a _ _ s))
+returns c = λ m dag s a n e f. gives-swept _ replies.Done _ refl (c .plain .ensures)
+    (c .before .sweep .ensures _
+    (c .before .before .before .before .before .before .written .ensures m s (a .lawful .holds) (a .queued) e f)
+    (rebind-vacant a _ _ s))
 
 plain-requires-2 : tie.Need-plain-requires-2
 plain-requires-2 c κs = search needs
 
 returns-2 : tie.Need-returns-2
-returns-2 c = λ m dag s a n e f. rebind-gives a _ _ s _ (c .plain2 .ensures) (no-cell _ _ (c .before .before .before .before .bind-kind .ensures m (a .lawful .holds .codes)) (c .before .if1 .left)) n (c .before .before .written .ensures m s (a .lawful .holds) (a .queued) e f)
+returns-2 c = λ m dag s a n e f. rebind-gives a _ _ s _ (c .plain2 .ensures)
+    (no-cell _ _ (c .before .before .before .before .bind-kind .ensures m (a .lawful .holds .codes)) (c .before .if1 .left)) n
+    (c .before .before .written .ensures m s (a .lawful .holds) (a .queued) e f)
 
 pub rebind-spec : {M : Type 1} → statement M
 rebind-spec =

@@ -26,11 +26,18 @@ dag-word-requires-2 : tie.Need-dag-word-requires-2
 dag-word-requires-2 c κs = let l = row-fits (c .before .before .before .before .before .pre .is) in omega arith
 
 rebind-requires : tie.Need-rebind-requires
-rebind-requires c κs = let l = remove-numbers _ _ (row (c .before .before .before .before .before .before .pre .is)) .0 in (token-inside (c .before .before .before .before .before .before .pre .is .taking), (let e = c .before .before .before .before .wide .ensures in let f = c .before .before .before .before .before .dag-word .ensures in omega arith))
+rebind-requires c κs = let l = remove-numbers _ _ (row (c .before .before .before .before .before .before .pre .is)) .0 in (
+  token-inside (c .before .before .before .before .before .before .pre .is .taking),
+  (let e = c .before .before .before .before .wide .ensures in let f = c .before .before .before .before .before .dag-word .ensures in
+      omega arith),
+)
 
 returns : tie.Need-returns
 returns c = λ m a.
-    gives-as (remove-step _ _ _ _ m a ∙ rebound-as m _ _ slots.Empty (sym (c .before .before .before .before .before .wide .ensures ∙ c .before .before .before .before .before .before .dag-word .ensures)) (sym (c .before .dag-word2 .ensures)))
+    gives-as (remove-step _ _ _ _ m a
+    ∙ rebound-as m _ _ slots.Empty
+    (sym (c .before .before .before .before .before .wide .ensures
+    ∙ c .before .before .before .before .before .before .dag-word .ensures)) (sym (c .before .dag-word2 .ensures)))
     (c .rebind .ensures m _ slots.Empty (a .taking) empty-no-cell refl refl)
 
 pub remove-spec : {M : Type 1} → statement M

@@ -42,10 +42,12 @@ add-dag-word-2 : tie.Need-add-dag-word-2
 add-dag-word-2 c = search needs
 
 dag-word-requires-2 : tie.Need-dag-word-requires-2
-dag-word-requires-2 c κs = let l = row-fits (c .before .before .before .before .before .before .before .before .before .pre .0 .is .acting) in omega arith
+dag-word-requires-2 c κs = let l = row-fits (c .before .before .before .before .before .before .before .before .before .pre .0 .is .acting)
+    in omega arith
 
 reply-requires : tie.Need-reply-requires
-reply-requires c κs = token-inside (c .before .before .before .before .before .before .before .before .before .before .pre .0 .is .acting .taking)
+reply-requires c κs = token-inside
+    (c .before .before .before .before .before .before .before .before .before .before .pre .0 .is .acting .taking)
 
 plain-requires : tie.Need-plain-requires
 plain-requires c κs = search needs
@@ -64,10 +66,14 @@ returns c = λ m k.
     let g : SFits w32 (getD vs 1 (pos 0)) = search needs in
     let v = c .before .before .before .before .before .before .v .given in
     let h : SFits w32 (v .0 .0) = search needs in
-    let back = reply-back _ _ (rw (toZ-ofZ f, toZ-ofZ g) at (c .before .before .before .before .before .before .before .before .builtin .ensures)) in
-    let reply = replied-by (k .values) vs (s .pre .1) (k .padded) (c .before .before .before .before .before .before .before .before .before .dag-word .ensures) back (v .1) in
-    reply-gives (k .acting .taking) (v .0 .0) _ _ _ (says _ _ _ _ m k (gives (v .0 .0)) (s .pre .1) reply) (c .before .before .dag-word2 .ensures) (c .plain .ensures)
-    (c .before .reply .ensures m (helds.Value (v .0 .0)) (k .acting .taking .lawful .holds) (k .acting .taking .queued) refl (sym (rw (toZ-ofZ h) at (c .before .before .before .unsigned .ensures))))
+    let back = reply-back _ _
+    (rw (toZ-ofZ f, toZ-ofZ g) at (c .before .before .before .before .before .before .before .before .builtin .ensures)) in
+    let reply = replied-by (k .values) vs (s .pre .1) (k .padded)
+    (c .before .before .before .before .before .before .before .before .before .dag-word .ensures) back (v .1) in
+    reply-gives (k .acting .taking) (v .0 .0) _ _ _ (says _ _ _ _ m k (gives (v .0 .0)) (s .pre .1) reply)
+    (c .before .before .dag-word2 .ensures) (c .plain .ensures)
+    (c .before .reply .ensures m (helds.Value (v .0 .0)) (k .acting .taking .lawful .holds) (k .acting .taking .queued) refl
+    (sym (rw (toZ-ofZ h) at (c .before .before .before .unsigned .ensures))))
 
 returns-2 : tie.Need-returns-2
 returns-2 c = λ m k.
@@ -76,7 +82,9 @@ returns-2 c = λ m k.
     let f : SFits w32 (getD vs 0 (pos 0)) = search needs in
     let g : SFits w32 (getD vs 1 (pos 0)) = search needs in
     let back = reply-back _ _ (rw (toZ-ofZ f, toZ-ofZ g) at (c .before .before .before .before .before .before .builtin .ensures)) in
-    let reply = replied-by (k .values) vs (s .pre .1) (k .padded) (c .before .before .before .before .before .before .before .dag-word .ensures) back (c .before .before .before .before .enum-told .given .1) in
+    let reply = replied-by (k .values) vs (s .pre .1) (k .padded)
+    (c .before .before .before .before .before .before .before .dag-word .ensures) back
+    (c .before .before .before .before .enum-told .given .1) in
     gives-as (says _ _ _ _ m k silent (s .pre .1) reply ∙ silent-ends m _ _ _) (c .end .ensures m _ (k .acting .taking))
 
 pub built-in-spec : {M : Type 1} → statement M

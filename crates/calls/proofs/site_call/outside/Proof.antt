@@ -36,7 +36,8 @@ dag-word-requires-2 : tie.Need-dag-word-requires-2
 dag-word-requires-2 c κs = let l = row-fits (c .before .before .before .before .before .before .pre .is .acting) in omega arith
 
 cast-site : tie.Need-cast-site
-cast-site c = let l = site-number _ _ (row (c .before .before .before .before .before .before .before .pre .is .acting)) in omega (arith, c .dag-word2 .ensures)
+cast-site c = let l = site-number _ _ (row (c .before .before .before .before .before .before .before .pre .is .acting)) in
+    omega (arith, c .dag-word2 .ensures)
 
 add-dag-word-3 : tie.Need-add-dag-word-3
 add-dag-word-3 c = search needs
@@ -45,12 +46,14 @@ dag-word-requires-3 : tie.Need-dag-word-requires-3
 dag-word-requires-3 c κs = let l = row-fits (c .before .before .before .before .before .before .before .pre .is .acting) in omega arith
 
 cast-count : tie.Need-cast-count
-cast-count c = let l = site-params _ _ (row (c .before .before .before .before .before .before .before .before .pre .is .acting)) .few in omega (arith, c .dag-word3 .ensures)
+cast-count c = let l = site-params _ _ (row (c .before .before .before .before .before .before .before .before .pre .is .acting)) .few in
+    omega (arith, c .dag-word3 .ensures)
 
 returns-2 : tie.Need-returns-2
 returns-2 c = λ m k l.
     let e = c .before .before .before .before .before .before .calls-made .ensures m (k .acting .taking .lawful .holds .codes) in
-    call-gives (k .acting .taking) _ _ _ _ _ _ (k .values) _ (calls-out _ _ _ _ m k l (omega arith)) e (c .before .dag-word2 .ensures) (c .before .before .before .dag-word .ensures) (c .dag-word3 .ensures ∙ values-count k) refl (k .padded)
+    call-gives (k .acting .taking) _ _ _ _ _ _ (k .values) _ (calls-out _ _ _ _ m k l (omega arith)) e (c .before .dag-word2 .ensures)
+    (c .before .before .before .dag-word .ensures) (c .dag-word3 .ensures ∙ values-count k) refl (k .padded)
     (c .before .before .call-out .ensures m (k .acting .taking .lawful .holds) (k .acting .taking .queued))
 
 pub outside-spec : {M : Type 1} → statement M

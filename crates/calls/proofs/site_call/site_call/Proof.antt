@@ -21,9 +21,11 @@ plain-requires c κs = search needs
 returns : tie.Need-returns
 returns c = λ m a.
     let facts = look-facts _ m (a .taking .lawful .rules) _ (token-inside (a .taking)) in
-    let found = look-waits _ _ (c .before .before .before .before .look-up .ensures m (a .taking .lawful .holds .codes) facts) (c .before .before .before .if1 .taken) in
+    let found = look-waits _ _ (c .before .before .before .before .look-up .ensures m (a .taking .lawful .holds .codes) facts)
+    (c .before .before .before .if1 .taken) in
     wait-gives (a .taking) _ _ (waits-at _ _ _ _ m a _ found) (c .plain .ensures)
-    (c .before .wait .ensures m (a .taking .lawful .holds) (a .taking .queued) (waits-room _ m (a .taking .lawful .rules) _ (a .taking .queued)))
+    (c .before .wait .ensures m (a .taking .lawful .holds) (a .taking .queued)
+    (waits-room _ m (a .taking .lawful .rules) _ (a .taking .queued)))
 
 add-dag-word : tie.Need-add-dag-word
 add-dag-word c = search needs
@@ -33,23 +35,44 @@ dag-word-requires c κs = let l = row-fits (c .before .before .before .before .p
 
 built-in-requires : tie.Need-built-in-requires
 built-in-requires c κs = let a = c .before .before .before .before .before .before .before .before .before .pre .is in
-    let facts = look-facts _ _ (a .taking .lawful .rules) _ (token-inside (a .taking)) in
-    (record { machine = c .before .before .before .before .before .before .before .before .before .pre .machine; is = values-of _ a (c .before .before .before .before .before .before .before .look-up .ensures _ (a .taking .lawful .holds .codes) facts) (c .before .before .before .before .before .before .if1 .left) }, (let e = c .before .before .before .before .dag-word .ensures in let l = c .before .before .before .if2 .taken in omega arith))
+    let facts = look-facts _ _ (a .taking .lawful .rules) _ (token-inside (a .taking)) in (
+      record {
+        machine = c .before .before .before .before .before .before .before .before .before .pre .machine;
+        is = values-of _ a
+            (c .before .before .before .before .before .before .before .look-up .ensures _ (a .taking .lawful .holds .codes) facts)
+            (c .before .before .before .before .before .before .if1 .left);
+      },
+      (let e = c .before .before .before .before .dag-word .ensures in
+          let l = c .before .before .before .if2 .taken in omega arith),
+    )
 
 returns-2 : tie.Need-returns-2
 returns-2 c = λ m a.
     let facts = look-facts _ m (a .taking .lawful .rules) _ (token-inside (a .taking)) in
-    c .built-in .ensures m (values-of _ a (c .before .before .before .before .before .before .before .before .look-up .ensures m (a .taking .lawful .holds .codes) facts) (c .before .before .before .before .before .before .before .if1 .left))
+    c .built-in .ensures m
+    (values-of _ a
+    (c .before .before .before .before .before .before .before .before .look-up .ensures m (a .taking .lawful .holds .codes) facts)
+    (c .before .before .before .before .before .before .before .if1 .left))
 
 outside-requires : tie.Need-outside-requires
 outside-requires c κs = let a = c .before .before .before .before .before .before .before .before .before .pre .is in
     let facts = look-facts _ _ (a .taking .lawful .rules) _ (token-inside (a .taking)) in
-    record { machine = c .before .before .before .before .before .before .before .before .before .pre .machine; is = values-of _ a (c .before .before .before .before .before .before .before .look-up .ensures _ (a .taking .lawful .holds .codes) facts) (c .before .before .before .before .before .before .if1 .left) }
+    record {
+      machine = c .before .before .before .before .before .before .before .before .before .pre .machine;
+      is = values-of _ a
+          (c .before .before .before .before .before .before .before .look-up .ensures _ (a .taking .lawful .holds .codes) facts)
+          (c .before .before .before .before .before .before .if1 .left);
+    }
 
 returns-3 : tie.Need-returns-3
 returns-3 c = λ m a.
     let facts = look-facts _ m (a .taking .lawful .rules) _ (token-inside (a .taking)) in
-    c .outside .ensures m (values-of _ a (c .before .before .before .before .before .before .before .before .look-up .ensures m (a .taking .lawful .holds .codes) facts) (c .before .before .before .before .before .before .before .if1 .left)) (let e = c .before .before .before .before .before .dag-word .ensures in let l = c .before .before .before .before .if2 .left in omega arith)
+    c .outside .ensures m
+    (values-of _ a
+    (c .before .before .before .before .before .before .before .before .look-up .ensures m (a .taking .lawful .holds .codes) facts)
+    (c .before .before .before .before .before .before .before .if1 .left))
+    (let e = c .before .before .before .before .before .dag-word .ensures in let l = c .before .before .before .before .if2 .left in
+    omega arith)
 
 pub site-call-spec : {M : Type 1} → statement M
 site-call-spec =

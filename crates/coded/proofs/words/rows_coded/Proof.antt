@@ -21,8 +21,11 @@ loop-holds c = (search needs, refl)
 loop-again : tie.Need-loop-again Inv-loop μ-loop
 loop-again c =
     let place3 = c .before .before .before in
-    let l = place3 .loop in
-    (search needs, table-on rowCoded 24 64 _ (l .p) _ (l .inv .1) (search needs) (omega arith) (sym (c .before .row-coded .ensures) ∙ c .if1 .taken))
+    let l = place3 .loop in (
+      search needs,
+      table-on rowCoded 24 64 _ (l .p) _ (l .inv .1) (search needs) (omega arith)
+          (sym (c .before .row-coded .ensures) ∙ c .if1 .taken),
+    )
 
 returns : tie.Need-returns Inv-loop μ-loop
 returns c =

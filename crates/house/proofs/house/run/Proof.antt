@@ -16,7 +16,18 @@ start-requires : tie.Need-start-requires
 start-requires c κs = search needs
 
 run-turns-requires : tie.Need-run-turns-requires
-run-turns-requires c κs = (((c .before .before .before .before .before .before .before .before .before .before .before .before .before .before .pre .0), (c .before .before .before .before .before .before .before .before .before .before .before .before .before .before .pre .1), lawful-start _ (c .before .before .before .before .before .before .before .before .before .before .before .before .before .before .pre .0) (c .before .before .before .before .before .before .before .before .before .before .whole .ensures) (c .before .before .before .before .before .start .ensures)), started-callees (replicate 64 false) _ (c .before .before .before .before .before .before .before .before .before .before .before .before .before .before .pre .0))
+run-turns-requires c κs = (
+  (
+    (c .before .before .before .before .before .before .before .before .before .before .before .before .before .before .pre .0),
+    (c .before .before .before .before .before .before .before .before .before .before .before .before .before .before .pre .1),
+    lawful-start _
+        (c .before .before .before .before .before .before .before .before .before .before .before .before .before .before .pre .0)
+        (c .before .before .before .before .before .before .before .before .before .before .whole .ensures)
+        (c .before .before .before .before .before .start .ensures),
+  ),
+  started-callees (replicate 64 false) _
+      (c .before .before .before .before .before .before .before .before .before .before .before .before .before .before .pre .0),
+)
 
 same-length : tie.Need-same-length
 same-length c = search needs

@@ -18,7 +18,8 @@ abbrev μ-loop : tie.MeasureT-loop
     (100000 - steps) + (length rest - at)
 
 loop-holds : tie.Need-loop-holds Inv-loop μ-loop
-loop-holds c = (lent-begins _ _ _ _ ((c .before .before .args .shared .now)) ((c .before .before .pre .0)) ((c .before .before .pre .1)), refl)
+loop-holds c =
+    (lent-begins _ _ _ _ ((c .before .before .args .shared .now)) ((c .before .before .pre .0)) ((c .before .before .pre .1)), refl)
 
 queued-requires : tie.Need-queued-requires Inv-loop μ-loop
 queued-requires c κs = search needs
@@ -37,7 +38,8 @@ returns c =
     let shown = c .before .before in
     let test = shown .before .before in
     let queue = test .before .before in
-    lent-last _ _ _ _ (queue .before .before .loop .inv .0) _ (queue .queued .ensures) (test .before .if1 .taken) (test .if2 .taken) (shown .show-last .ensures)
+    lent-last _ _ _ _ (queue .before .before .loop .inv .0) _ (queue .queued .ensures) (test .before .if1 .taken) (test .if2 .taken)
+    (shown .show-last .ensures)
 
 deliver-turn-requires : tie.Need-deliver-turn-requires Inv-loop μ-loop
 deliver-turn-requires c κs =
@@ -59,7 +61,8 @@ loop-less c =
     let turn = c .before .before in
     let test = turn .before .before .before .before in
     let queue = test .before .before in
-    lent-delivers-less _ _ _ _ (queue .before .before .loop .inv .0) _ (queue .queued .ensures) (test .before .if1 .taken) (test .if2 .left) _
+    lent-delivers-less _ _ _ _ (queue .before .before .loop .inv .0) _ (queue .queued .ensures) (test .before .if1 .taken)
+    (test .if2 .left) _
     (turn .deliver-turn .ensures)
 
 loop-again : tie.Need-loop-again Inv-loop μ-loop
@@ -83,7 +86,8 @@ returns-2 c =
     let shown = c .before .before in
     let test = shown .before .before in
     let queue = test .before .before in
-    lent-limit _ _ _ _ (queue .before .before .loop .inv .0) _ (queue .queued .ensures) (test .before .if1 .left) (test .if3 .taken) (shown .show-limit .ensures)
+    lent-limit _ _ _ _ (queue .before .before .loop .inv .0) _ (queue .queued .ensures) (test .before .if1 .left) (test .if3 .taken)
+    (shown .show-limit .ensures)
 
 step-turn-requires : tie.Need-step-turn-requires Inv-loop μ-loop
 step-turn-requires c κs =
@@ -112,7 +116,8 @@ returns-3 c =
     let turn = over .before .before .before in
     let test = turn .before .before .before .before .before .before in
     let queue = test .before .before in
-    lent-ends _ _ _ _ (queue .before .before .loop .inv .0) _ (queue .queued .ensures) (test .before .if1 .left) (test .if3 .left) _ (turn .step-turn .ensures)
+    lent-ends _ _ _ _ (queue .before .before .loop .inv .0) _ (queue .queued .ensures) (test .before .if1 .left) (test .if3 .left) _
+    (turn .step-turn .ensures)
     (over .if4 .taken) (shown .show-end .ensures)
 
 add-steps : tie.Need-add-steps Inv-loop μ-loop
@@ -126,7 +131,8 @@ loop-less-2 c =
     let turn = c .before .before .before in
     let test = turn .before .before .before .before .before .before in
     let queue = test .before .before in
-    lent-steps-less _ _ _ _ (queue .before .before .loop .inv .0) _ (queue .queued .ensures) (test .before .if1 .left) (test .if3 .left) _ (turn .step-turn .ensures)
+    lent-steps-less _ _ _ _ (queue .before .before .loop .inv .0) _ (queue .queued .ensures) (test .before .if1 .left) (test .if3 .left) _
+    (turn .step-turn .ensures)
     (c .if4 .left)
 
 loop-again-2 : tie.Need-loop-again-2 Inv-loop μ-loop
@@ -134,7 +140,8 @@ loop-again-2 c =
     let turn = c .before .before .before in
     let test = turn .before .before .before .before .before .before in
     let queue = test .before .before in (
-      lent-steps _ _ _ _ (queue .before .before .loop .inv .0) _ (queue .queued .ensures) (test .before .if1 .left) (test .if3 .left) _ (turn .step-turn .ensures)
+      lent-steps _ _ _ _ (queue .before .before .loop .inv .0) _ (queue .queued .ensures) (test .before .if1 .left) (test .if3 .left) _
+          (turn .step-turn .ensures)
           (c .if4 .left),
       search needs,
     )

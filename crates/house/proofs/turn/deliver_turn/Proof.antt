@@ -1,4 +1,5 @@
--- `turn::deliver_turn` meets its contract: what was delivered is the turn's outcome, and has a line only if it was refused. Assumes nothing.
+-- `turn::deliver_turn` meets its contract: what was delivered is the turn's outcome, and has a line only if it was refused. Assumes
+-- nothing.
 use mathlib.Core.Bool.{true, false}
 use mathlib.Core.Path.{refl}
 use borrow.Author.Needs.{needs}
@@ -27,7 +28,8 @@ returns c = λ m dag cells shared lawful one e.
     let answered = c .before in
     let none = answered .before .before .few-or-all .ensures .1 in
     let turned =
-    turn-answers _ _ _ _ _ _ (answered .deliver .ensures) m dag _ cells shared lawful (λ i from to. free-token lawful i (none i from to)) one e in
+    turn-answers _ _ _ _ _ _ (answered .deliver .ensures) m dag _ cells shared lawful
+    (λ i from to. free-token lawful i (none i from to)) one e in
     turned-shows (by-handle true turned (c .if1 .taken)) (over-empty _ e _) (shows-as (silent _ _ refl .0) (shows-none _ _ _)) (omega arith)
 
 number-of-requires : tie.Need-number-of-requires
@@ -47,7 +49,8 @@ returns-2 c = λ m dag cells shared lawful one e.
     let answered = number .before .before in
     let none = answered .before .before .few-or-all .ensures .1 in
     let turned =
-    turn-answers _ _ _ _ _ _ (answered .deliver .ensures) m dag _ cells shared lawful (λ i from to. free-token lawful i (none i from to)) one e in
+    turn-answers _ _ _ _ _ _ (answered .deliver .ensures) m dag _ cells shared lawful
+    (λ i from to. free-token lawful i (none i from to)) one e in
     let line = shown .show-refused .ensures in
     turned-shows (by-handle false turned (number .before .if1 .left)) (over-empty _ e _)
     (shows-as (tells-refusal _ _ _ refusals.NotOpen refl (number .number-of .ensures)) (line .0)) (line .1)

@@ -18,7 +18,9 @@ plain-requires : tie.Need-plain-requires
 plain-requires c κs = search needs
 
 returns : tie.Need-returns
-returns c = start-gave _ _ _ _ _ (sym (c .before .before .before .before .if1 .taken) ∙ c .before .before .before .before .before .dag-holds .ensures) refl (c .before .start .ensures) (c .plain .ensures)
+returns c = start-gave _ _ _ _ _
+    (sym (c .before .before .before .before .if1 .taken) ∙ c .before .before .before .before .before .dag-holds .ensures) refl
+    (c .before .start .ensures) (c .plain .ensures)
 
 plain-requires-2 : tie.Need-plain-requires-2
 plain-requires-2 c κs = search needs

@@ -25,17 +25,35 @@ plain-requires-2 : tie.Need-plain-requires-2
 plain-requires-2 c κs = search needs
 
 returns-2 : tie.Need-returns-2
-returns-2 c = let a = c .before .before .before .before .before .before .is-lawful .ensures .1 (granted _ (c .before .before .before .before .before .if1 .left)) in
-    step-no-token _ _ a _ _ (let e = c .before .before .before .queued .ensures _ (a .holds .codes) in let f = c .before .before .wide .ensures in omega arith) (c .plain2 .ensures)
+returns-2 c = let a = c .before .before .before .before .before .before .is-lawful .ensures .1
+    (granted _ (c .before .before .before .before .before .if1 .left)) in
+    step-no-token _ _ a _ _ (let e = c .before .before .before .queued .ensures _ (a .holds .codes) in
+    let f = c .before .before .wide .ensures in omega arith) (c .plain2 .ensures)
 
 step-requires : tie.Need-step-requires
-step-requires c κs = let a = c .before .before .before .before .before .before .before .before .before .is-lawful .ensures .1 (granted _ (c .before .before .before .before .before .before .before .before .if1 .left)) in
-    record { machine = _; is = record { lawful = a; queued = (let e = c .before .before .before .before .before .before .queued .ensures _ (a .holds .codes) in let f = c .before .before .before .before .before .wide .ensures in omega arith) } }
+step-requires c κs = let a = c .before .before .before .before .before .before .before .before .before .is-lawful .ensures .1
+    (granted _ (c .before .before .before .before .before .before .before .before .if1 .left)) in
+    record {
+      machine = _;
+      is =
+          record {
+            lawful = a;
+            queued = (let e = c .before .before .before .before .before .before .queued .ensures _ (a .holds .codes) in
+                let f = c .before .before .before .before .before .wide .ensures in omega arith);
+          };
+    }
 
 returns-3 : tie.Need-returns-3
-returns-3 c = let a = c .before .before .before .before .before .before .before .before .before .before .is-lawful .ensures .1 (granted _ (c .before .before .before .before .before .before .before .before .before .if1 .left)) in
+returns-3 c = let a = c .before .before .before .before .before .before .before .before .before .before .is-lawful .ensures .1
+    (granted _ (c .before .before .before .before .before .before .before .before .before .if1 .left)) in
     step-gives _ _ a _ _
-    (c .step .ensures _ (record { lawful = a; queued = (let e = c .before .before .before .before .before .before .before .queued .ensures _ (a .holds .codes) in let f = c .before .before .before .before .before .before .wide .ensures in omega arith) })
+    (c .step .ensures _
+    (record {
+      lawful = a;
+      queued =
+          (let e = c .before .before .before .before .before .before .before .queued .ensures _ (a .holds .codes) in
+          let f = c .before .before .before .before .before .before .wide .ensures in omega arith);
+    })
     (all-shared a) .gives)
 
 pub step-spec : {M : Type 1} → statement M

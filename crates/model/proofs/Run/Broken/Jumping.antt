@@ -1,6 +1,6 @@
 -- The last part of demand 3 is false of the machine in which a woken token goes to the front of the queue and not to its back. Of
--- (let(x) | let(2)) <x< let(1) the token at let(2) stands behind the one at choke, so that none would be before it after the choke; but let(x)
--- waits for x, and in this machine it wakes before let(2). Assumes nothing.
+-- (let(x) | let(2)) <x< let(1) the token at let(2) stands behind the one at choke, so that none would be before it after the choke; but
+-- let(x) waits for x, and in this machine it wakes before let(2). Assumes nothing.
 use mathlib.Core.Path.{_≡_, refl, subst}
 use mathlib.Core.Bool.{Bool, false, not}
 use mathlib.Core.List.{List, [], _∷_, _++_}

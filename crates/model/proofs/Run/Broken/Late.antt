@@ -1,6 +1,6 @@
--- The first part of demand 3 is false of the machine that takes an answer after its call was pruned: a handle that was given and is no longer open
--- is accepted, and changes nothing. In the run that document 01 prints, the answers (1, 42) and (0, 7) are then both taken, but the 42 prunes
--- call 0. Assumes nothing.
+-- The first part of demand 3 is false of the machine that takes an answer after its call was pruned: a handle that was given and is no
+-- longer open is accepted, and changes nothing. In the run that document 01 prints, the answers (1, 42) and (0, 7) are then both taken, but
+-- the 42 prunes call 0. Assumes nothing.
 use mathlib.Core.Path.{_≡_, refl}
 use mathlib.Core.Bool.{Bool, true, false}
 use mathlib.Core.List.{List, [], _∷_, _++_}

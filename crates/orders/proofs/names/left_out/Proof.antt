@@ -1,4 +1,5 @@
--- `names::left_out` meets its contract. The loop's invariant: the names, with the carried one among them, are those at the start and a zero. Assumes nothing.
+-- `names::left_out` meets its contract. The loop's invariant: the names, with the carried one among them, are those at the start and a
+-- zero. Assumes nothing.
 use mathlib.Core.Path.{_≡_, refl, _∙_}
 use Prim.Native.Nat.{_≤_, _-_}
 use native.Mathlib.Omega.{arith}
@@ -45,7 +46,8 @@ loop-again c =
       search needs,
       search needs,
       drop-set-lt (s .count) (l .names) (l .i - 1) (l .carried) (omega arith) ∙ l .inv .3,
-      carries-next (s .names .now) (l .names) (s .count) (l .i) (l .carried) (omega arith) (l .inv .1) (let p = (c .before .before .before .pre) in omega arith) (l .inv .4),
+      carries-next (s .names .now) (l .names) (s .count) (l .i) (l .carried) (omega arith) (l .inv .1)
+          (let p = (c .before .before .before .pre) in omega arith) (l .inv .4),
     )
 
 same-length : tie.Need-same-length Inv-loop μ-loop
@@ -56,7 +58,8 @@ returns c rest =
     let l = (c .before .loop) in
     let s = (c .before .before .args) in
     let p = (c .before .before .pre) in
-    carries-last (s .names .now) (l .names) (s .count) (l .i) (l .carried) (s .index) (omega arith) (p .0) (p .1) (p .2) (l .inv .2) (l .inv .3 ∙ rest) (l .inv .4)
+    carries-last (s .names .now) (l .names) (s .count) (l .i) (l .carried) (s .index) (omega arith) (p .0) (p .1) (p .2) (l .inv .2)
+    (l .inv .3 ∙ rest) (l .inv .4)
 
 pub left-out-spec : {M : Type 1} → statement M
 left-out-spec =

@@ -1,4 +1,5 @@
--- `place::nearest` meets its contract. The loop's invariant: `best` is the distance of the nearest of the places looked at. Assumes nothing.
+-- `place::nearest` meets its contract. The loop's invariant: `best` is the distance of the nearest of the places looked at. Assumes
+-- nothing.
 use mathlib.Core.Logic.{⊎-elim}
 use Prim.Native.Nat.{_-_, _≤_}
 use borrow.Author.Needs.{needs}
@@ -42,7 +43,8 @@ loop-again c =
     )
 
 returns : tie.Need-returns Inv-loop μ-loop
-returns c = λ last e. nearest-full _ (search needs) _ _ _ (search needs) (c .before .before .loop .inv .1) (search needs) last e (c .if2 .taken)
+returns c = λ last e. nearest-full _ (search needs) _ _ _ (search needs) (c .before .before .loop .inv .1) (search needs) last e
+    (c .if2 .taken)
 
 add-result : tie.Need-add-result Inv-loop μ-loop
 add-result c = search needs
@@ -51,7 +53,8 @@ cast-result : tie.Need-cast-result Inv-loop μ-loop
 cast-result c = search needs
 
 returns-2 : tie.Need-returns-2 Inv-loop μ-loop
-returns-2 c = λ last e. nearest-place _ (search needs) _ _ _ (search needs) (c .before .before .loop .inv .1) (search needs) last e (c .if2 .left)
+returns-2 c = λ last e. nearest-place _ (search needs) _ _ _ (search needs) (c .before .before .loop .inv .1) (search needs) last e
+    (c .if2 .left)
 
 pub nearest-spec : {M : Type 1} → statement M
 nearest-spec =

@@ -21,7 +21,10 @@ blank-requires c κs = search needs
 returns : tie.Need-returns
 returns c = λ m h.
     let k = h .codes in
-    row-ends m (c .before .before .before .before .before .before .before .args .c) (c .before .before .before .before .before .before .before .args .p) (c .before .before .before .is-within .result) (c .before .before .before .is-within .ensures m _ k (sym (c .before .before .before .before .before .cell .ensures m k))) (c .before .before .if1 .taken) (c .blank .ensures m h)
+    row-ends m (c .before .before .before .before .before .before .before .args .c)
+    (c .before .before .before .before .before .before .before .args .p) (c .before .before .before .is-within .result)
+    (c .before .before .before .is-within .ensures m _ k (sym (c .before .before .before .before .before .cell .ensures m k)))
+    (c .before .before .if1 .taken) (c .blank .ensures m h)
 
 state-requires : tie.Need-state-requires
 state-requires c κs = search needs
@@ -39,20 +42,36 @@ returns-2 : tie.Need-returns-2
 returns-2 c = λ m h.
     let k = h .codes in
     let p = c .before .before .before .before .before .before .before .before .before .before .before .before .before .before .args .p in
-    row-wakes m (c .before .before .before .before .before .before .before .before .before .before .before .before .before .before .args .c) p (c .before .before .before .before .before .before .before .before .before .before .is-within .result) (c .before .before .before .before .before .before .before .before .before .before .is-within .ensures m _ k (sym (c .before .before .before .before .before .before .before .before .before .before .before .before .cell .ensures m k)))
-    (c .before .before .before .before .before .before .before .state .result) (c .before .before .before .before .before .before .before .state .ensures m k) (c .before .before .before .before .before .before .before .before .before .if1 .left) (c .before .before .before .wide .result) (c .before .before .before .wide .ensures ∙ c .before .before .before .before .state-number .ensures m k) (c .before .before .before .before .before .before .if2 .taken) (c .before .before .if3 .taken)
+    row-wakes m (c .before .before .before .before .before .before .before .before .before .before .before .before .before .before .args .c)
+    p (c .before .before .before .before .before .before .before .before .before .before .is-within .result)
+    (c .before .before .before .before .before .before .before .before .before .before .is-within .ensures m _ k
+    (sym (c .before .before .before .before .before .before .before .before .before .before .before .before .cell .ensures m k)))
+    (c .before .before .before .before .before .before .before .state .result)
+    (c .before .before .before .before .before .before .before .state .ensures m k)
+    (c .before .before .before .before .before .before .before .before .before .if1 .left) (c .before .before .before .wide .result)
+    (c .before .before .before .wide .ensures ∙ c .before .before .before .before .state-number .ensures m k)
+    (c .before .before .before .before .before .before .if2 .taken) (c .before .before .if3 .taken)
     (c .set-state .ensures m (tokenAt (m .tokens) p) states.Ready (subst (Holds _) (sym (put-self m p)) h) refl refl)
 
 returns-3 : tie.Need-returns-3
 returns-3 c = λ m h.
     let k = h .codes in
-    row-passes m (c .before .before .before .before .before .before .before .before .before .before .before .before .args .c) (c .before .before .before .before .before .before .before .before .before .before .before .before .args .p) (c .before .before .before .before .before .before .before .before .is-within .result) (c .before .before .before .before .before .before .before .before .is-within .ensures m _ k (sym (c .before .before .before .before .before .before .before .before .before .before .cell .ensures m k)))
-    (c .before .before .before .before .before .state .result) (c .before .before .before .before .before .state .ensures m k) (c .before .before .before .before .before .before .before .if1 .left) (c .before .wide .result) (c .before .wide .ensures ∙ c .before .before .state-number .ensures m k) (λ _ s. c .if3 .left s) h
+    row-passes m (c .before .before .before .before .before .before .before .before .before .before .before .before .args .c)
+    (c .before .before .before .before .before .before .before .before .before .before .before .before .args .p)
+    (c .before .before .before .before .before .before .before .before .is-within .result)
+    (c .before .before .before .before .before .before .before .before .is-within .ensures m _ k
+    (sym (c .before .before .before .before .before .before .before .before .before .before .cell .ensures m k)))
+    (c .before .before .before .before .before .state .result) (c .before .before .before .before .before .state .ensures m k)
+    (c .before .before .before .before .before .before .before .if1 .left) (c .before .wide .result)
+    (c .before .wide .ensures ∙ c .before .before .state-number .ensures m k) (λ _ s. c .if3 .left s) h
 
 returns-4 : tie.Need-returns-4
 returns-4 c = λ m h.
     let k = h .codes in
-    row-passes m (c .before .before .before .before .before .before .before .before .args .c) (c .before .before .before .before .before .before .before .before .args .p) (c .before .before .before .before .is-within .result) (c .before .before .before .before .is-within .ensures m _ k (sym (c .before .before .before .before .before .before .cell .ensures m k)))
+    row-passes m (c .before .before .before .before .before .before .before .before .args .c)
+    (c .before .before .before .before .before .before .before .before .args .p) (c .before .before .before .before .is-within .result)
+    (c .before .before .before .before .is-within .ensures m _ k
+    (sym (c .before .before .before .before .before .before .cell .ensures m k)))
     (c .before .state .result) (c .before .state .ensures m k) (c .before .before .before .if1 .left) _ refl (λ s _. c .if2 .left s) h
 
 pub choke-row-spec : {M : Type 1} → statement M

@@ -29,7 +29,12 @@ loop-less : tie.Need-loop-less Inv-loop μ-loop
 loop-less c = search needs
 
 loop-again : tie.Need-loop-again Inv-loop μ-loop
-loop-again c = (search needs, λ m h. subst (Holds _) (rows-more (c .before .before .before .before .args .c) m (c .before .before .before .loop .p) (omega (arith, h .codes .shaped .tokens))) (c .choke-row .ensures _ (c .before .before .before .loop .inv .1 m h)))
+loop-again c = (
+  search needs,
+  λ m h. subst (Holds _)
+      (rows-more (c .before .before .before .before .args .c) m (c .before .before .before .loop .p)
+      (omega (arith, h .codes .shaped .tokens))) (c .choke-row .ensures _ (c .before .before .before .loop .inv .1 m h)),
+)
 
 returns : tie.Need-returns Inv-loop μ-loop
 returns c =

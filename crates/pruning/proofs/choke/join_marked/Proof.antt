@@ -11,10 +11,13 @@ join-requires : tie.Need-join-requires
 join-requires c κs = search needs
 
 returns : tie.Need-returns
-returns c = λ m h l. joins m (c .before .before .before .before .before .args .marks .now) (c .before .before .before .before .before .args .name) (c .before .before .before .is-marked .result) (c .before .before .before .is-marked .ensures) (c .before .before .if1 .taken) (c .join .ensures m h l)
+returns c = λ m h l. joins m (c .before .before .before .before .before .args .marks .now)
+    (c .before .before .before .before .before .args .name) (c .before .before .before .is-marked .result)
+    (c .before .before .before .is-marked .ensures) (c .before .before .if1 .taken) (c .join .ensures m h l)
 
 returns-2 : tie.Need-returns-2
-returns-2 c = λ m h l. stays-out m (c .before .before .before .args .marks .now) (c .before .before .before .args .name) (c .before .is-marked .result) (c .before .is-marked .ensures) (c .if1 .left) h
+returns-2 c = λ m h l. stays-out m (c .before .before .before .args .marks .now) (c .before .before .before .args .name)
+    (c .before .is-marked .result) (c .before .is-marked .ensures) (c .if1 .left) h
 
 pub join-marked-spec : {M : Type 1} → statement M
 join-marked-spec = tie.close (tie.spec is-marked-requires join-requires returns returns-2)

@@ -58,7 +58,8 @@ returns c =
     let l = c .before .loop in
     let start = c .before .before in
     let over : l .p ≡ start .args .end = omega arith in
-    kinds-rest m (start .args .kind) (l .p) _ (h .shaped .tokens) (start .pre .0) (omega arith) (λ i from. blank i (omega arith)) (l .inv .1 m h none)
+    kinds-rest m (start .args .kind) (l .p) _ (h .shaped .tokens) (start .pre .0) (omega arith) (λ i from. blank i (omega arith))
+    (l .inv .1 m h none)
 
 pub mark-state-spec : {M : Type 1} → statement M
 mark-state-spec =

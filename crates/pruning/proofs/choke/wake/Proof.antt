@@ -15,7 +15,9 @@ use Rattle.pruning.proofs.choke.wake.Statement.{statement}
 use Rattle.pruning.proofs.choke.wake.Tie as tie
 
 abbrev Inv-loop : tie.InvT-loop
-Inv-loop w₀ ready count i₀ w i = (i ≤ count) × ((m : Machine) → Holds w₀ m → m .queued + m .waiting ≤ 64 → Holds w (withOrders (queueOf m ++ markedOf ready (take i (waitsOf m))) (waitsOf m) m))
+Inv-loop w₀ ready count i₀ w i = (i ≤ count)
+    × ((m : Machine) → Holds w₀ m → m .queued + m .waiting ≤ 64
+    → Holds w (withOrders (queueOf m ++ markedOf ready (take i (waitsOf m))) (waitsOf m) m))
 
 abbrev μ-loop : tie.MeasureT-loop
 μ-loop w₀ ready count i₀ w i = count - i
@@ -27,7 +29,8 @@ wide-requires : tie.Need-wide-requires Inv-loop μ-loop
 wide-requires c κs = search needs
 
 returns : tie.Need-returns Inv-loop μ-loop
-returns c = λ m h l. absurd (omega (arith, c .before .wide .ensures, c .before .before .waiting .ensures m (h .codes), waits-fit h, h .ordered .waiting))
+returns c = λ m h l. absurd
+    (omega (arith, c .before .wide .ensures, c .before .before .waiting .ensures m (h .codes), waits-fit h, h .ordered .waiting))
 
 loop-holds : tie.Need-loop-holds Inv-loop μ-loop
 loop-holds c = (search needs, λ m h l. woken-none m h (c .before .before .before .before .args .ready .now))
@@ -50,7 +53,12 @@ loop-again c = (
   λ m h l.
       let marks = c .before .before .before .before .before .before .before .before .before .before .args .ready .now in
       let i = c .before .before .before .before .before .loop .i in
-      let small : i < m .waiting = omega (arith, c .before .before .before .before .before .before .before .wide .ensures, c .before .before .before .before .before .before .before .before .waiting .ensures m (h .codes)) in
+      let small : i < m .waiting =
+      omega (
+        arith,
+        c .before .before .before .before .before .before .before .wide .ensures,
+        c .before .before .before .before .before .before .before .before .waiting .ensures m (h .codes),
+      ) in
       let k = c .before .before .before .before .before .loop .inv .1 m h l in
       woken-more m h marks i small l _ (c .before .before .wait-name .ensures (woken m h marks i) (k .codes))
       (c .join-marked .ensures (woken m h marks i) k (woken-room m h marks i small l)),
@@ -58,8 +66,11 @@ loop-again c = (
 
 returns-2 : tie.Need-returns-2 Inv-loop μ-loop
 returns-2 c = λ m h l.
-    let done : m .waiting ≤ c .before .loop .i = omega (arith, c .before .before .before .wide .ensures, c .before .before .before .before .waiting .ensures m (h .codes)) in
-    subst (Holds (c .before .loop .w)) (woken-all m h (c .before .before .before .before .before .before .args .ready .now) (c .before .loop .i) done) (c .before .loop .inv .1 m h l)
+    let done : m .waiting ≤ c .before .loop .i =
+    omega (arith, c .before .before .before .wide .ensures, c .before .before .before .before .waiting .ensures m (h .codes)) in
+    subst (Holds (c .before .loop .w))
+    (woken-all m h (c .before .before .before .before .before .before .args .ready .now) (c .before .loop .i) done)
+    (c .before .loop .inv .1 m h l)
 
 pub wake-spec : {M : Type 1} → statement M
 wake-spec =

@@ -17,7 +17,8 @@ abbrev Inv-loop : tie.InvT-loop
 Inv-loop w start marks₀ q₀ n₀ marks q n =
     (n ≤ 64)
     × (length marks ≡ 64)
-    × ((m : Machine) → Codes w m → callersMarked m (placeFrom start) marks₀ ≡ walk (λ (t : Token). t .caller) blankToken (m .tokens) (64 - n) (placeFrom q) marks)
+    × ((m : Machine) → Codes w m
+    → callersMarked m (placeFrom start) marks₀ ≡ walk (λ (t : Token). t .caller) blankToken (m .tokens) (64 - n) (placeFrom q) marks)
 
 abbrev μ-loop : tie.MeasureT-loop
 μ-loop w start marks₀ q₀ n₀ marks q n = 64 - n

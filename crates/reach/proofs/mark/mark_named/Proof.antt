@@ -19,7 +19,8 @@ Inv-loop w p marks₀ x₀ marks x =
     × (length marks ≡ 32)
     × ((m : Machine)
     → Codes w m
-    → cellsMarked m (map boundCell (tokenAt (m .tokens) p .binds)) marks₀ ≡ cellsMarked m (map boundCell (drop x (tokenAt (m .tokens) p .binds))) marks)
+    → cellsMarked m (map boundCell (tokenAt (m .tokens) p .binds)) marks₀
+    ≡ cellsMarked m (map boundCell (drop x (tokenAt (m .tokens) p .binds))) marks)
 
 abbrev μ-loop : tie.MeasureT-loop
 μ-loop w p marks₀ x₀ marks x = 8 - x
@@ -68,7 +69,8 @@ returns c =
     let l = c .before .loop in
     sym
     (named-first m (h .shaped .cells) _ _ _ _
-    (c .before .before .before .before .before .before .wide .ensures ∙ c .before .before .before .before .before .before .before .cell .ensures m h)
+    (c .before .before .before .before .before .before .wide .ensures
+    ∙ c .before .before .before .before .before .before .before .cell .ensures m h)
     (c .before .before .before .before .mark-parents .ensures m h)
     ∙ (l .inv .2 m h ∙ named-last m _ (l .x) _ (h .shaped .binds _) (search needs)))
 

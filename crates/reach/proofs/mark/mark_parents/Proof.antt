@@ -17,7 +17,8 @@ abbrev Inv-loop : tie.InvT-loop
 Inv-loop w start marks₀ q₀ n₀ marks q n =
     (n ≤ 32)
     × (length marks ≡ 32)
-    × ((m : Machine) → Codes w m → parentsMarked m (placeFrom start) marks₀ ≡ walk (λ (k : Cell). k .parent) blankCell (m .cells) (32 - n) (placeFrom q) marks)
+    × ((m : Machine) → Codes w m
+    → parentsMarked m (placeFrom start) marks₀ ≡ walk (λ (k : Cell). k .parent) blankCell (m .cells) (32 - n) (placeFrom q) marks)
 
 abbrev μ-loop : tie.MeasureT-loop
 μ-loop w start marks₀ q₀ n₀ marks q n = 32 - n

@@ -11,7 +11,8 @@ use Rattle.reach.proofs.under_set.under_set.Statement.{statement}
 use Rattle.reach.proofs.under_set.under_set.Tie as tie
 
 abbrev Inv-loop : tie.InvT-loop
-Inv-loop w start q₀ n₀ q n = (n ≤ 32) × ((m : Machine) → Codes w m → underSet (m .cells) (placeFrom start) ≡ climb (m .cells) (32 - n) (placeFrom q))
+Inv-loop w start q₀ n₀ q n = (n ≤ 32)
+    × ((m : Machine) → Codes w m → underSet (m .cells) (placeFrom start) ≡ climb (m .cells) (32 - n) (placeFrom q))
 
 abbrev μ-loop : tie.MeasureT-loop
 μ-loop w start q₀ n₀ q n = 32 - n

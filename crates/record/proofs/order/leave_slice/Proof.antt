@@ -39,7 +39,8 @@ same-length : tie.Need-same-length
 same-length c = search needs
 
 returns : tie.Need-returns
-returns c = λ m h l. leave-put h _ _ _ (c .before .before .before .before .before .before .wide .ensures ∙ queued-word (h .codes)) (search needs) (c .before .before .left-out .ensures)
+returns c = λ m h l. leave-put h _ _ _ (c .before .before .before .before .before .before .wide .ensures ∙ queued-word (h .codes))
+    (search needs) (c .before .before .left-out .ensures)
 
 returns-2 : tie.Need-returns-2
 returns-2 c = λ m h l. absurd (omega (arith, queued-word (h .codes), c .before .before .wide .ensures))

@@ -36,7 +36,8 @@ same-length : tie.Need-same-length
 same-length c = search needs
 
 returns : tie.Need-returns
-returns c = λ m h. retain-waits-put h _ _ _ _ (c .before .before .before .before .before .wide .ensures ∙ waiting-word (h .codes)) (c .before .before .retained .ensures)
+returns c = λ m h. retain-waits-put h _ _ _ _ (c .before .before .before .before .before .wide .ensures ∙ waiting-word (h .codes))
+    (c .before .before .retained .ensures)
 
 returns-2 : tie.Need-returns-2
 returns-2 c = λ m h. absurd (omega (arith, waiting-word (h .codes), waits-fit h, h .ordered .waiting, c .before .wide .ensures))

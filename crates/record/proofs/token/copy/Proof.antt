@@ -14,7 +14,8 @@ use Rattle.record.proofs.token.copy.Tie as tie
 
 abbrev Inv-loop : tie.InvT-loop
 Inv-loop w₀ from place a b i₀ w i =
-    (i ≤ 24) × (a ≡ 24 * from) × (b ≡ 24 * place) × ((m : Machine) → Codes w₀ m → w ≡ paste w₀ (24 * place) (rowOf (tokenAt (m .tokens) from)) i)
+    (i ≤ 24) × (a ≡ 24 * from) × (b ≡ 24 * place)
+    × ((m : Machine) → Codes w₀ m → w ≡ paste w₀ (24 * place) (rowOf (tokenAt (m .tokens) from)) i)
 
 abbrev μ-loop : tie.MeasureT-loop
 μ-loop w₀ from place a b i₀ w i = 24 - i
@@ -26,7 +27,13 @@ mul-b : tie.Need-mul-b Inv-loop μ-loop
 mul-b c = search needs
 
 loop-holds : tie.Need-loop-holds Inv-loop μ-loop
-loop-holds c = (search needs, search needs, search needs, λ m h. paste-zero (c .args .w .now) (24 * c .args .place) (rowOf (tokenAt (m .tokens) (c .args .from))))
+loop-holds c = (
+  search needs,
+  search needs,
+  search needs,
+  λ m h. paste-zero (c .args .w .now) (24 * c .args .place)
+      (rowOf (tokenAt (m .tokens) (c .args .from))),
+)
 
 add-v : tie.Need-add-v Inv-loop μ-loop
 add-v c = search needs
@@ -58,7 +65,8 @@ loop-again c =
     (search needs, search needs, search needs, λ m h. copy-on h _ _ _ (search needs) (search needs) (search needs) _ (l .inv .3 m h))
 
 returns : tie.Need-returns Inv-loop μ-loop
-returns c m h = row-done h _ (c .before .loop .i) _ _ (search needs) (h .codes .shaped .binds _) (omega arith) (c .before .loop .inv .3 m (h .codes))
+returns c m h = row-done h _ (c .before .loop .i) _ _ (search needs) (h .codes .shaped .binds _) (omega arith)
+    (c .before .loop .inv .3 m (h .codes))
 
 pub copy-spec : {M : Type 1} → statement M
 copy-spec =

@@ -56,7 +56,8 @@ loop-again c =
 returns : tie.Need-returns Inv-loop μ-loop
 returns c m t h b e =
     row-done h _ (c .before .loop .i) t _ (search needs) b (omega arith)
-    (c .before .loop .inv .2 m (h .codes) (ap length e ∙ row-wide t) ∙ ap (λ r. paste (c .before .before .args .w .now) (24 * c .before .before .args .p) r (c .before .loop .i)) e)
+    (c .before .loop .inv .2 m (h .codes) (ap length e ∙ row-wide t)
+    ∙ ap (λ r. paste (c .before .before .args .w .now) (24 * c .before .before .args .p) r (c .before .loop .i)) e)
 
 pub write-spec : {M : Type 1} → statement M
 write-spec =

@@ -29,7 +29,16 @@ caller-requires : tie.Need-caller-requires Inv-loop μ-loop
 caller-requires c κs = search needs
 
 returns : tie.Need-returns Inv-loop μ-loop
-returns c = λ m h. record { some = λ e. (c .before .before .before .loop .i, place-of _ _ _ (c .before .caller .ensures m h) (c .if1 .taken ∙ c .before .before .before .loop .inv .1)); none = λ e. clash refl e }
+returns c = λ m h.
+    record {
+      some =
+          λ e. (
+            c .before .before .before .loop .i,
+            place-of _ _ _ (c .before .caller .ensures m h)
+                (c .if1 .taken ∙ c .before .before .before .loop .inv .1),
+          );
+      none = λ e. clash refl e;
+    }
 
 add-i : tie.Need-add-i Inv-loop μ-loop
 add-i c = search needs
@@ -47,7 +56,12 @@ loop-again c = (
 )
 
 returns-2 : tie.Need-returns-2 Inv-loop μ-loop
-returns-2 c = λ m h. record { some = λ e. clash e refl; none = λ e. none-all m _ (c .before .loop .i) (omega (arith, h .shaped .tokens)) (c .before .loop .inv .2 m h) }
+returns-2 c =
+    λ m h. record {
+      some = λ e. clash e refl;
+      none = λ e. none-all m _ (c .before .loop .i) (omega (arith, h .shaped .tokens))
+          (c .before .loop .inv .2 m h);
+    }
 
 pub is-caller-spec : {M : Type 1} → statement M
 is-caller-spec =

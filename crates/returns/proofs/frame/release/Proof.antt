@@ -18,7 +18,8 @@ element-write-tokens : tie.Need-element-write-tokens
 element-write-tokens c = search needs
 
 returns-2 : tie.Need-returns-2
-returns-2 c = λ o h n. alone (c .before .before .before .is-still-caller .ensures o (h .codes) n .none (c .before .before .if1 .left)) (c .blank .ensures o h) refl
+returns-2 c = λ o h n. alone (c .before .before .before .is-still-caller .ensures o (h .codes) n .none (c .before .before .if1 .left))
+    (c .blank .ensures o h) refl
 
 pub release-spec : {M : Type 1} → statement M
 release-spec =

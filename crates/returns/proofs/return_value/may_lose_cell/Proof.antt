@@ -16,7 +16,13 @@ binds-cell-requires : tie.Need-binds-cell-requires
 binds-cell-requires c κs = search needs
 
 returns : tie.Need-returns
-returns c = λ m h e. record { cell = same-place _ _ (sym (c .before .before .before .cell .ensures m h) ∙ (c .before .if1 .taken ∙ c .before .before .cell2 .ensures m h)); binds = c .binds-cell .ensures m h e }
+returns c = λ m h e.
+    record {
+      cell = same-place _ _
+          (sym (c .before .before .before .cell .ensures m h) ∙ (c .before .if1 .taken ∙ c .before .before .cell2 .ensures m h));
+      binds =
+          c .binds-cell .ensures m h e;
+    }
 
 returns-2 : tie.Need-returns-2
 returns-2 c = λ m h e. clash refl e

@@ -25,7 +25,8 @@ returns-2 c =
     λ m h.
     let t = tokenAt (m .tokens) (place7 .args .p) in
     both
-    (ap not (place2 .under-set .ensures m h ∙ ap (underSet (m .cells)) (ap placeFrom (place3 .wide .ensures ∙ place4 .cell .ensures m h) ∙ placed (t .cell)))
+    (ap not (place2 .under-set .ensures m h
+    ∙ ap (underSet (m .cells)) (ap placeFrom (place3 .wide .ensures ∙ place4 .cell .ensures m h) ∙ placed (t .cell)))
     ∙ busy (m .cells) t (place6 .state .ensures m h) (place5 .if1 .left))
     (c .waits-at-unset .ensures m (t .state) h (place6 .state .ensures m h) (c .before .state-number .ensures m h))
 

@@ -37,7 +37,8 @@ returns-2 c =
     let args = place3 .before .args in
     let inside = leb (place2 .parent .result) 32 in
     let words = c .before .cell-coded2 .ensures in (
-      λ e. sym words ∙ first-true (c .before .cell-coded2 .result) inside (first-true (c .before .cell-coded2 .result && inside) (c .chain-ends .result) e),
+      λ e. sym words ∙ first-true (c .before .cell-coded2 .result) inside
+          (first-true (c .before .cell-coded2 .result && inside) (c .chain-ends .result) e),
       λ d m h.
           let k = cellAt (m .cells) (args .c) in
           let above = place2 .parent .ensures m (h .codes) in

@@ -36,7 +36,8 @@ loop-again c =
     let place4 = place3 .before in
     let now = place3 .loop in (
       search needs,
-      λ e. below-more _ _ (now .inv .1 (first-true (now .ok) (c .cell-holds .result) e)) (c .cell-holds .ensures .0 (second-true (now .ok) (c .cell-holds .result) e)),
+      λ e. below-more _ _ (now .inv .1 (first-true (now .ok) (c .cell-holds .result) e))
+          (c .cell-holds .ensures .0 (second-true (now .ok) (c .cell-holds .result) e)),
       λ d m h l.
           pass-turn (cellRule d (m .cells)) cellIsBlank (place4 .args .used .now) (m .cells) (now .i) blankCell (omega arith)
           (omega (arith, h .codes .shaped .cells))

@@ -27,8 +27,11 @@ loop-again c =
     let place4 = place2 .before .before in
     let start = place4 .args in
     let list = start .list .now in
-    let now = place2 .loop in
-    (search needs, all-turn (λ (h : ℕ). not (eqb h (getD list (start .i) 0))) list (now .j) 0 (omega (arith, place4 .pre .1)) (now .inv .1) refl)
+    let now = place2 .loop in (
+      search needs,
+      all-turn (λ (h : ℕ). not (eqb h (getD list (start .i) 0))) list (now .j) 0 (omega (arith, place4 .pre .1))
+          (now .inv .1) refl,
+    )
 
 returns : tie.Need-returns Inv-loop μ-loop
 returns c =

@@ -53,7 +53,8 @@ returns-2 c =
           let h = decoded k in
           let long = k .shaped .tokens in
           let short = k .shaped .cells in
-          rules-are d m long short (sym (place13 .dag-holds .ensures) ∙ not-false _ (place12 .if1 .left)) e f (queue .counts) (waits .counts) (queue .ok)
+          rules-are d m long short (sym (place13 .dag-holds .ensures) ∙ not-false _ (place12 .if1 .left)) e f (queue .counts)
+          (waits .counts) (queue .ok)
           (waits .ok)
           (place2 .tokens-hold .ensures .1 m h (tokens-marked d m long short e))
           (c .before .cells-hold .ensures .1 d m h (cells-marked d m long short f))

@@ -37,7 +37,8 @@ returns-2 c =
     let ranged = place3 .token-in-range .result in
     let placed = c .before .at-node .result in
     let words = place4 .token-coded .ensures in (
-      λ e. sym words ∙ first-true coded ranged (first-true (coded && ranged) placed (first-true (coded && ranged && placed) (c .is-free .result) e)),
+      λ e. sym words
+          ∙ first-true coded ranged (first-true (coded && ranged) placed (first-true (coded && ranged && placed) (c .is-free .result) e)),
       λ m h.
           let t = tokenAt (m .tokens) (start .p) in
           let d = dagOf (start .dag .now) in

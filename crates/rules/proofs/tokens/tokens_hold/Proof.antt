@@ -82,14 +82,18 @@ loop-again c =
           ⊎-elim
           (λ w.
           w .10
-          ∙ used-turn (dagOf (args .dag .now)) m (args .used .now) queue waits (now .i) (omega arith) inside (now .inv .4 m h l) (w .0 .taken)
+          ∙ used-turn (dagOf (args .dag .now)) m (args .used .now) queue waits (now .i) (omega arith) inside (now .inv .4 m h l)
+          (w .0 .taken)
           (w .2 .ensures .1 m h)
           (w .5 .ensures
-          ∙ ap (λ k. eqb (getD queue (now .i) 0) (once (eqb k 1)) and eqb (getD waits (now .i) 0) (once (eqb k 2))) (w .1 .ensures m (h .codes))))
+          ∙ ap (λ k. eqb (getD queue (now .i) 0) (once (eqb k 1)) and eqb (getD waits (now .i) 0) (once (eqb k 2)))
+          (w .1 .ensures m (h .codes))))
           (λ w.
           w .6
-          ∙ vacant-turn (dagOf (args .dag .now)) m (args .used .now) queue waits (now .i) (omega arith) inside (now .inv .4 m h l) (w .0 .left)
-          (token-blank (dagOf (args .dag .now)) m (tokenAt (m .tokens) (now .i)) (h .codes .shaped .binds (now .i)) (place3 .before .before .pre .1))
+          ∙ vacant-turn (dagOf (args .dag .now)) m (args .used .now) queue waits (now .i) (omega arith) inside (now .inv .4 m h l)
+          (w .0 .left)
+          (token-blank (dagOf (args .dag .now)) m (tokenAt (m .tokens) (now .i)) (h .codes .shaped .binds (now .i))
+          (place3 .before .before .pre .1))
           (w .3 .ensures .1 m (h .codes)))
           (c .if1 .came),
       λ m h e.
@@ -99,7 +103,8 @@ loop-again c =
           let f = first-true (now .ok && w .2 .result) (w .5 .result) (sym (w .10) ∙ e) in
           ap (take (c .if1 .count)) (w .8)
           ∙ handle-more (m .tokens) (now .handles) (now .count) (now .i) blankToken inside room
-          (now .inv .5 m h (first-true (now .ok) (w .2 .result) f)) (w .6 .ensures m (h .codes)) (w .1 .ensures m (h .codes)) (c .if1 .count)
+          (now .inv .5 m h (first-true (now .ok) (w .2 .result) f)) (w .6 .ensures m (h .codes)) (w .1 .ensures m (h .codes))
+          (c .if1 .count)
           (w .9 ∙ ap (λ k. now .count + k) (w .7 .ensures .0)))
           (λ w.
           let f = sym (w .6) ∙ e in
@@ -122,7 +127,8 @@ returns c =
           where-true (last .ok) (c .all-differ .result) (differ (openHandles (m .tokens)))
           (λ e. c .all-differ .ensures ∙ ap differ (last .inv .5 m h e ∙ ap openHandles (take-all (last .i) (m .tokens) over)))
           ∙ ap (λ b. b and differ (openHandles (m .tokens)))
-          (last .inv .4 m h l ∙ seen-done (dagOf (args .dag .now)) m (args .used .now) (args .queue .now) (args .waits .now) (last .i) over),
+          (last .inv .4 m h l ∙ seen-done (dagOf (args .dag .now)) m (args .used .now) (args .queue .now) (args .waits .now)
+          (last .i) over),
     )
 
 pub tokens-hold-spec : {M : Type 1} → statement M

@@ -59,7 +59,9 @@ slice-aggregate-put-table : tie.Need-slice-aggregate-put-table
 slice-aggregate-put-table c = search needs
 
 cast-put-table : tie.Need-cast-put-table
-cast-put-table c = let small = entry-small _ _ (c .before .before .before .before .before .before .before .before .before .before .table-end .ensures) _ _ (sym (c .before .before .answer .given .1) ∙ (c .before .before .before .before .load .ensures .0)) in search needs
+cast-put-table c = let small = entry-small _ _
+    (c .before .before .before .before .before .before .before .before .before .before .table-end .ensures) _ _
+    (sym (c .before .before .answer .given .1) ∙ (c .before .before .before .before .load .ensures .0)) in search needs
 
 put-table-requires : tie.Need-put-table-requires
 put-table-requires c κs = search needs

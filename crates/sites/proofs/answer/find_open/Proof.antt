@@ -60,8 +60,10 @@ loop-again c = (
   λ m h.
       let n = c .next-called2 .ensures .2 m h in
       let on =
-      holder-on _ (c .before .before .before .before .loop .p) (m .tokens) blankToken (omega (arith, h .shaped .tokens)) (c .before .before .before .before .loop .inv .1 m h .0)
-      (sym (open-called _ _ _ _ refl (c .before .before .state-number .ensures m h) (c .before .before .before .before .loop .inv .1 m h .1 (omega arith))) ∙ ne-eqb _ _ (c .before .if1 .left)) in
+      holder-on _ (c .before .before .before .before .loop .p) (m .tokens) blankToken (omega (arith, h .shaped .tokens))
+      (c .before .before .before .before .loop .inv .1 m h .0)
+      (sym (open-called _ _ _ _ refl (c .before .before .state-number .ensures m h)
+      (c .before .before .before .before .loop .inv .1 m h .1 (omega arith))) ∙ ne-eqb _ _ (c .before .if1 .left)) in
       (on ∙ n .passes _, n .called),
 )
 

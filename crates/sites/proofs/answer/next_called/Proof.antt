@@ -26,7 +26,15 @@ state-requires : tie.Need-state-requires Inv-loop μ-loop
 state-requires c κs = search needs
 
 returns : tie.Need-returns Inv-loop μ-loop
-returns c = (search needs, search needs, λ m h. record { passes = c .before .before .before .loop .inv .2 m h; called = λ l. sym (c .before .state .ensures m h) ∙ c .if1 .taken })
+returns c = (
+  search needs,
+  search needs,
+  λ m h. record {
+    passes = c .before .before .before .loop .inv .2 m h;
+    called = λ l. sym (c .before .state .ensures m h)
+        ∙ c .if1 .taken;
+  },
+)
 
 add-p : tie.Need-add-p Inv-loop μ-loop
 add-p c = search needs
@@ -40,7 +48,8 @@ loop-again c = (
   search needs,
   search needs,
   λ m h g.
-      holder-on g (c .before .before .before .loop .p) (m .tokens) blankToken (omega (arith, h .shaped .tokens)) (c .before .before .before .loop .inv .2 m h g)
+      holder-on g (c .before .before .before .loop .p) (m .tokens) blankToken (omega (arith, h .shaped .tokens))
+      (c .before .before .before .loop .inv .2 m h g)
       (sym (open-not-called g _ _ _ (c .before .state .ensures m h) refl (c .if1 .left))),
 )
 

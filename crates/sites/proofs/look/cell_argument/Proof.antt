@@ -22,7 +22,9 @@ value-kind-requires : tie.Need-value-kind-requires
 value-kind-requires c κs = search needs
 
 returns-2 : tie.Need-returns-2
-returns-2 c = λ m h l r. cell-unset _ _ _ (c .before .value-kind .ensures m h ∙ ap (λ i. heldKind (cellAt (m .cells) i .value)) (c .before .before .before .wide .ensures)) (c .if2 .taken)
+returns-2 c = λ m h l r. cell-unset _ _ _
+    (c .before .value-kind .ensures m h ∙ ap (λ i. heldKind (cellAt (m .cells) i .value)) (c .before .before .before .wide .ensures))
+    (c .if2 .taken)
 
 value-requires : tie.Need-value-requires
 value-requires c κs = search needs
@@ -35,8 +37,11 @@ returns-3 c = λ m h l r.
     let f : SFits w32 (c .signed .result) = search needs in
     rw (toZ-ofZ f)
     (ap arguments.Value (c .signed .ensures)
-    ∙ cell-set _ _ _ (c .before .before .before .value-kind .ensures m h ∙ ap (λ i. heldKind (cellAt (m .cells) i .value)) (c .before .before .before .before .before .wide .ensures)) _ (c .before .before .if2 .left)
-    (c .before .value .ensures m h ∙ ap (λ i. heldNumber (cellAt (m .cells) i .value)) (c .before .before .before .before .before .wide .ensures)) r)
+    ∙ cell-set _ _ _
+    (c .before .before .before .value-kind .ensures m h ∙ ap (λ i. heldKind (cellAt (m .cells) i .value))
+    (c .before .before .before .before .before .wide .ensures)) _ (c .before .before .if2 .left)
+    (c .before .value .ensures m h ∙ ap (λ i. heldNumber (cellAt (m .cells) i .value))
+    (c .before .before .before .before .before .wide .ensures)) r)
 
 pub cell-argument-spec : {M : Type 1} → statement M
 cell-argument-spec =

@@ -12,14 +12,16 @@ use Rattle.model.specs.declared.record.Machine.{Machine}
 use Rattle.model.specs.Machine.Blank.{tokenAt}
 use Rattle.record.specs.Holds.{Codes}
 use Rattle.sites.proofs.Params.{params-count}
-use Rattle.sites.proofs.LookUps.{filled-more, looking-on, look-up-unset, look-up-nothing, look-up-all, param-here, param-there, param-small, param-in-range, Filled, Looking, behind-none}
+use Rattle.sites.proofs.LookUps.{filled-more, looking-on, look-up-unset, look-up-nothing, look-up-all, param-here, param-there}
+use Rattle.sites.proofs.LookUps.{param-small, param-in-range, Filled, Looking, behind-none}
 use Rattle.sites.specs.Looking.{paramFound, LookFacts}
 use Rattle.sites.specs.Row.{paramsAt}
 use Rattle.sites.proofs.look.look_up.Statement.{statement}
 use Rattle.sites.proofs.look.look_up.Tie as tie
 
 abbrev Inv-loop : tie.InvT-loop
-Inv-loop w dag p at count values₀ i₀ values i = (i ≤ count) × Filled i values × ((m : Machine) → Codes w m → LookFacts m p → Looking (m .cells) (tokenAt (m .tokens) p .binds) (paramsAt dag at) i values)
+Inv-loop w dag p at count values₀ i₀ values i = (i ≤ count) × Filled i values
+    × ((m : Machine) → Codes w m → LookFacts m p → Looking (m .cells) (tokenAt (m .tokens) p .binds) (paramsAt dag at) i values)
 
 abbrev μ-loop : tie.MeasureT-loop
 μ-loop w dag p at count values₀ i₀ values i = count - i
@@ -75,8 +77,10 @@ returns c = λ m h f.
     let i = c .before .before .before .before .before .loop .i in
     let l : i < getD (a .dag .now) (a .at + 3) 0 = omega (arith, c .before .before .before .before .before .before .wide .ensures) in
     let bs = tokenAt (m .tokens) (a .p) .binds in
-    look-up-unset (m .cells) bs (paramsAt (a .dag .now) (a .at)) i _ (c .before .before .before .before .before .loop .inv .2 m h f) (c .before .before .before .before .before .loop .inv .1) (variable 0) _ (param-there (a .dag .now) (a .at) i o l)
-    (ap (paramFound (m .cells) bs) (sym (param-here (a .dag .now) (a .at) i o l)) ∙ sym (c .before .before .before .param-argument .ensures m h f) ∙ c .before .c .given .1)
+    look-up-unset (m .cells) bs (paramsAt (a .dag .now) (a .at)) i _ (c .before .before .before .before .before .loop .inv .2 m h f)
+    (c .before .before .before .before .before .loop .inv .1) (variable 0) _ (param-there (a .dag .now) (a .at) i o l)
+    (ap (paramFound (m .cells) bs) (sym (param-here (a .dag .now) (a .at) i o l))
+    ∙ sym (c .before .before .before .param-argument .ensures m h f) ∙ c .before .c .given .1)
 
 enum-told : tie.Need-enum-told Inv-loop μ-loop
 enum-told c = search needs
@@ -88,9 +92,11 @@ returns-2 c = λ m h f.
     let i = c .before .before .before .before .loop .i in
     let l : i < getD (a .dag .now) (a .at + 3) 0 = omega (arith, c .before .before .before .before .before .wide .ensures) in
     let bs = tokenAt (m .tokens) (a .p) .binds in
-    look-up-nothing (m .cells) bs (paramsAt (a .dag .now) (a .at)) i _ (c .before .before .before .before .loop .inv .2 m h f) (c .before .before .before .before .loop .inv .1) (variable 0) (param-there (a .dag .now) (a .at) i o l)
+    look-up-nothing (m .cells) bs (paramsAt (a .dag .now) (a .at)) i _ (c .before .before .before .before .loop .inv .2 m h f)
+    (c .before .before .before .before .loop .inv .1) (variable 0) (param-there (a .dag .now) (a .at) i o l)
     (omega (arith, param-small (a .dag .now) (a .at) i o l))
-    (ap (paramFound (m .cells) bs) (sym (param-here (a .dag .now) (a .at) i o l)) ∙ sym (c .before .before .param-argument .ensures m h f) ∙ c .enum-told .given .1)
+    (ap (paramFound (m .cells) bs) (sym (param-here (a .dag .now) (a .at) i o l)) ∙ sym (c .before .before .param-argument .ensures m h f)
+    ∙ c .enum-told .given .1)
 
 add-i : tie.Need-add-i Inv-loop μ-loop
 add-i c = search needs
@@ -110,9 +116,11 @@ loop-again c =
       filled-more i _ _ (param-small (a .dag .now) (a .at) i o l) (c .before .before .before .before .before .loop .inv .1),
       λ m h f.
           let bs = tokenAt (m .tokens) (a .p) .binds in
-          looking-on (m .cells) bs (paramsAt (a .dag .now) (a .at)) i _ (c .before .before .before .before .before .loop .inv .2 m h f) (c .before .before .before .before .before .loop .inv .1) (variable 0) _ (param-there (a .dag .now) (a .at) i o l)
+          looking-on (m .cells) bs (paramsAt (a .dag .now) (a .at)) i _ (c .before .before .before .before .before .loop .inv .2 m h f)
+          (c .before .before .before .before .before .loop .inv .1) (variable 0) _ (param-there (a .dag .now) (a .at) i o l)
           (param-small (a .dag .now) (a .at) i o l)
-          (ap (paramFound (m .cells) bs) (sym (param-here (a .dag .now) (a .at) i o l)) ∙ sym (c .before .before .before .param-argument .ensures m h f) ∙ c .before .v .given .1),
+          (ap (paramFound (m .cells) bs) (sym (param-here (a .dag .now) (a .at) i o l))
+          ∙ sym (c .before .before .before .param-argument .ensures m h f) ∙ c .before .v .given .1),
     )
 
 returns-3 : tie.Need-returns-3 Inv-loop μ-loop
@@ -121,7 +129,8 @@ returns-3 c = λ m h f.
     let o = c .before .before .before .before .pre .1 in
     let i = c .before .loop .i in
     let n = params-count (a .dag .now) (a .at) (o .size) (o .inside) (o .few) in
-    look-up-all (m .cells) (tokenAt (m .tokens) (a .p) .binds) (paramsAt (a .dag .now) (a .at)) i _ (c .before .loop .inv .2 m h f) (c .before .loop .inv .1)
+    look-up-all (m .cells) (tokenAt (m .tokens) (a .p) .binds) (paramsAt (a .dag .now) (a .at)) i _ (c .before .loop .inv .2 m h f)
+    (c .before .loop .inv .1)
     (omega (arith, c .before .before .wide .ensures)) (omega (arith, c .before .before .wide .ensures, o .few))
 
 pub look-up-spec : {M : Type 1} → statement M

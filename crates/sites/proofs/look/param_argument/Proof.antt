@@ -30,10 +30,15 @@ wide-requires : tie.Need-wide-requires
 wide-requires c κs = search needs
 
 variable-argument-requires : tie.Need-variable-argument-requires
-variable-argument-requires c κs = (search needs, subst (λ x. x < 8) (sym (c .wide .ensures)) (variable-below _ _ (c .before .before .before .before .pre .2) (param-variable _ _ (c .before .if1 .taken))))
+variable-argument-requires c κs = (
+  search needs,
+  subst (λ x. x < 8) (sym (c .wide .ensures))
+      (variable-below _ _ (c .before .before .before .before .pre .2) (param-variable _ _ (c .before .if1 .taken))),
+)
 
 returns : tie.Need-returns
-returns c = λ m h o. found-variable (m .cells) _ _ _ _ _ (c .before .before .if1 .taken) (c .before .wide .ensures) (c .variable-argument .ensures m h o)
+returns c = λ m h o. found-variable (m .cells) _ _ _ _ _ (c .before .before .if1 .taken) (c .before .wide .ensures)
+    (c .variable-argument .ensures m h o)
 
 signed-requires : tie.Need-signed-requires
 signed-requires c κs = search needs

@@ -16,7 +16,8 @@ bind-number-requires : tie.Need-bind-number-requires
 bind-number-requires c κs = search needs
 
 returns : tie.Need-returns
-returns c = λ m h o. variable-empty m _ _ _ _ o (c .before .before .bind-kind .ensures m h) (c .before .bind-number .ensures m h) (c .if1 .taken)
+returns c = λ m h o. variable-empty m _ _ _ _ o (c .before .before .bind-kind .ensures m h) (c .before .bind-number .ensures m h)
+    (c .if1 .taken)
 
 signed-requires : tie.Need-signed-requires
 signed-requires c κs = search needs
@@ -24,13 +25,17 @@ signed-requires c κs = search needs
 returns-2 : tie.Need-returns-2
 returns-2 c = λ m h o.
     let f : SFits w32 (c .signed .result) = search needs in
-    rw (toZ-ofZ f) (ap arguments.Value (c .signed .ensures) ∙ variable-value m _ _ _ _ o (c .before .before .before .before .bind-kind .ensures m h) (c .before .before .before .bind-number .ensures m h) (c .before .if2 .taken))
+    rw (toZ-ofZ f)
+    (ap arguments.Value (c .signed .ensures) ∙ variable-value m _ _ _ _ o (c .before .before .before .before .bind-kind .ensures m h)
+    (c .before .before .before .bind-number .ensures m h) (c .before .if2 .taken))
 
 cell-argument-requires : tie.Need-cell-argument-requires
 cell-argument-requires c κs = search needs
 
 returns-3 : tie.Need-returns-3
-returns-3 c = λ m h o. variable-cell m _ _ _ _ o (c .before .before .before .before .bind-kind .ensures m h) (c .before .before .before .bind-number .ensures m h) _ (c .before .before .if1 .left) (c .before .if2 .left) (c .cell-argument .ensures m h)
+returns-3 c = λ m h o. variable-cell m _ _ _ _ o (c .before .before .before .before .bind-kind .ensures m h)
+    (c .before .before .before .bind-number .ensures m h) _ (c .before .before .if1 .left) (c .before .if2 .left)
+    (c .cell-argument .ensures m h)
 
 pub variable-argument-spec : {M : Type 1} → statement M
 variable-argument-spec =

@@ -24,19 +24,22 @@ sub-under-2 : tie.Need-sub-under-2
 sub-under-2 c =
     let v = c .before .fits .v in
     let k = rw (toZ-ofZ v) at (c .if1 .taken) in
-    simp (toZ-ofZ v, toZ-ofZ (sfits-widen {w′ = w64} tt v), toZ-ofZ (negative-fits (c .before .args .v) v k)) (negative-some (c .before .args .v) k)
+    simp (toZ-ofZ v, toZ-ofZ (sfits-widen {w′ = w64} tt v), toZ-ofZ (negative-fits (c .before .args .v) v k))
+    (negative-some (c .before .args .v) k)
 
 sub-result : tie.Need-sub-result
 sub-result c =
     let v = c .before .fits .v in
     let k = rw (toZ-ofZ v) at (c .if1 .taken) in
-    simp (toZ-ofZ v, toZ-ofZ (sfits-widen {w′ = w64} tt v), toZ-ofZ (negative-fits (c .before .args .v) v k)) (let f = negative-cast (c .before .args .v) v k .1 .fits in omega arith)
+    simp (toZ-ofZ v, toZ-ofZ (sfits-widen {w′ = w64} tt v), toZ-ofZ (negative-fits (c .before .args .v) v k))
+    (let f = negative-cast (c .before .args .v) v k .1 .fits in omega arith)
 
 returns : tie.Need-returns
 returns c =
     let v = c .before .fits .v in
     let k = rw (toZ-ofZ v) at (c .if1 .taken) in
-    simp (toZ-ofZ v, toZ-ofZ (sfits-widen {w′ = w64} tt v), toZ-ofZ (negative-fits (c .before .args .v) v k)) (negative-bits (c .before .args .v) k)
+    simp (toZ-ofZ v, toZ-ofZ (sfits-widen {w′ = w64} tt v), toZ-ofZ (negative-fits (c .before .args .v) v k))
+    (negative-bits (c .before .args .v) k)
 
 cast-result : tie.Need-cast-result
 cast-result c =

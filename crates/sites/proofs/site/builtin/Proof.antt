@@ -42,13 +42,15 @@ returns-2 : tie.Need-returns-2
 returns-2 c =
     let s = c .before .before .before in
     c .zero-if .ensures
-    ∙ ap siteReplyOf (says-ift _ (s .args .a) (s .args .b) _ (c .before .before .match .keys2) (c .before .equal .ensures ∙ rw (toZ-ofZ (s .fits .a))))
+    ∙ ap siteReplyOf
+    (says-ift _ (s .args .a) (s .args .b) _ (c .before .before .match .keys2) (c .before .equal .ensures ∙ rw (toZ-ofZ (s .fits .a))))
 
 returns-3 : tie.Need-returns-3
 returns-3 c =
     let s = c .before .before .before in
     c .zero-if2 .ensures
-    ∙ ap siteReplyOf (says-iff _ (s .args .a) (s .args .b) _ (c .before .before .match .keys3) (c .before .equal2 .ensures ∙ rw (toZ-ofZ (s .fits .a))))
+    ∙ ap siteReplyOf
+    (says-iff _ (s .args .a) (s .args .b) _ (c .before .before .match .keys3) (c .before .equal2 .ensures ∙ rw (toZ-ofZ (s .fits .a))))
 
 returns-4 : tie.Need-returns-4
 returns-4 c = ap siteReplyOf (says-signal _ (c .before .args .a) (c .before .args .b) (c .match .keys4))
@@ -56,7 +58,8 @@ returns-4 c = ap siteReplyOf (says-signal _ (c .before .args .a) (c .before .arg
 returns-5 : tie.Need-returns-5
 returns-5 c =
     let s = c .before .before in
-    c .sum .ensures ∙ rw (toZ-ofZ (s .fits .a), toZ-ofZ (s .fits .b)) (ap siteReplyOf (says-add _ (s .args .a) (s .args .b) (c .before .match .keys5)))
+    c .sum .ensures ∙ rw (toZ-ofZ (s .fits .a), toZ-ofZ (s .fits .b))
+    (ap siteReplyOf (says-add _ (s .args .a) (s .args .b) (c .before .match .keys5)))
 
 returns-6 : tie.Need-returns-6
 returns-6 c =

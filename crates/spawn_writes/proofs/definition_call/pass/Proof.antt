@@ -1,4 +1,5 @@
--- `definition_call::pass` meets its contract: each writer's contract, one behind the other, leads to the record of the definition. Assumes nothing.
+-- `definition_call::pass` meets its contract: each writer's contract, one behind the other, leads to the record of the definition. Assumes
+-- nothing.
 use Rattle.sites.proofs.Params.{below, slot-variable, slot-constant}
 use Rattle.writes.proofs.Writes.{put-other, carry-slot}
 use Rattle.sites.proofs.Params.{slot-variable, slot-constant}
@@ -18,10 +19,19 @@ wide-requires : tie.Need-wide-requires
 wide-requires c κs = search needs
 
 bind-kind-requires : tie.Need-bind-kind-requires
-bind-kind-requires c κs = (search needs, below (c .before .before .before .args .kind) (c .before .before .before .args .number) (c .before .before .before .pre .3) (c .before .before .if1 .taken) (c .before .wide .ensures))
+bind-kind-requires c κs = (
+  search needs,
+  below (c .before .before .before .args .kind) (c .before .before .before .args .number)
+      (c .before .before .before .pre .3) (c .before .before .if1 .taken) (c .before .wide .ensures),
+)
 
 bind-number-requires : tie.Need-bind-number-requires
-bind-number-requires c κs = (search needs, below (c .before .before .before .before .before .args .kind) (c .before .before .before .before .before .args .number) (c .before .before .before .before .before .pre .3) (c .before .before .before .before .if1 .taken) (c .before .before .before .wide .ensures))
+bind-number-requires c κs = (
+  search needs,
+  below (c .before .before .before .before .before .args .kind) (c .before .before .before .before .before .args .number)
+      (c .before .before .before .before .before .pre .3) (c .before .before .before .before .if1 .taken)
+      (c .before .before .before .wide .ensures),
+)
 
 set-bind-requires : tie.Need-set-bind-requires
 set-bind-requires c κs = search needs
@@ -32,9 +42,12 @@ returns c = λ m t h n.
     let bs = tokenAt (m .tokens) (a .p) .binds in
     let here = ap (λ (u : Token). slotAt (u .binds) (a .number)) (put-other m (a .new) (a .p) t n) in
     let x = c .before .before .before .before .before .before .wide .ensures in
-    let kind = c .before .before .before .before .bind-kind .ensures _ (h .codes) ∙ ap (λ i. slotKind (slotAt (tokenAt (put (a .new) t m .tokens) (a .p) .binds) i)) x ∙ ap slotKind here in
-    let number = c .before .before .bind-number .ensures _ (h .codes) ∙ ap (λ i. slotNumber (slotAt (tokenAt (put (a .new) t m .tokens) (a .p) .binds) i)) x ∙ ap slotNumber here in
-    carry-slot m (a .new) (a .i) t (slot-variable bs (a .kind) (a .number) (c .before .before .before .before .before .before .before .if1 .taken))
+    let kind = c .before .before .before .before .bind-kind .ensures _ (h .codes)
+    ∙ ap (λ i. slotKind (slotAt (tokenAt (put (a .new) t m .tokens) (a .p) .binds) i)) x ∙ ap slotKind here in
+    let number = c .before .before .bind-number .ensures _ (h .codes)
+    ∙ ap (λ i. slotNumber (slotAt (tokenAt (put (a .new) t m .tokens) (a .p) .binds) i)) x ∙ ap slotNumber here in
+    carry-slot m (a .new) (a .i) t
+    (slot-variable bs (a .kind) (a .number) (c .before .before .before .before .before .before .before .if1 .taken))
     (c .set-bind .ensures m t (slotAt bs (a .number)) h (sym kind) (sym number))
 
 set-bind-requires-2 : tie.Need-set-bind-requires-2

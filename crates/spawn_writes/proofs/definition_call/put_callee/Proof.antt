@@ -1,4 +1,5 @@
--- `definition_call::put_callee` meets its contract: each writer's contract, one behind the other, leads to the record of the definition. Assumes nothing.
+-- `definition_call::put_callee` meets its contract: each writer's contract, one behind the other, leads to the record of the definition.
+-- Assumes nothing.
 use Rattle.writes.proofs.Writes.{begins}
 use Rattle.model.specs.declared.token.State.the-variants as states
 use Rattle.model.specs.declared.token.Place.the-variants as places
@@ -34,9 +35,11 @@ returns : tie.Need-returns
 unfolding withNode withState
 returns c = λ m q h n blank e.
     let a = c .before .before .before .before .before .before .before .before .before .before .args in
-    let passed = c .before .before .before .before .before .before .before .before .pass-all .ensures m (begins m (a .new) blankToken blank h) n in
+    let passed = c .before .before .before .before .before .before .before .before .pass-all .ensures m
+    (begins m (a .new) blankToken blank h) n in
     let ready = c .before .before .before .before .before .before .set-state .ensures m _ states.Ready passed refl refl in
-    let called = c .before .before .set-caller .ensures m _ (places.At (a .p)) (c .before .before .before .before .set-node .ensures m _ ready) refl in
+    let called = c .before .before .set-caller .ensures m _ (places.At (a .p))
+    (c .before .before .before .before .set-node .ensures m _ ready) refl in
     c .set-cell .ensures m _ q called e
 
 pub put-callee-spec : {M : Type 1} → statement M

@@ -1,4 +1,5 @@
--- `definition_call::written` meets its contract: each writer's contract, one behind the other, leads to the record of the definition. Assumes nothing.
+-- `definition_call::written` meets its contract: each writer's contract, one behind the other, leads to the record of the definition.
+-- Assumes nothing.
 use Rattle.writes.proofs.Writes.{begins, carry-binding, put-same, put-other, queued-taken}
 use Rattle.sites.specs.Row.{callee, paramsAt}
 use Rattle.record.specs.Fields.{dequeued}
@@ -48,11 +49,20 @@ returns c = λ m h q n blank.
     let rest = dequeued m (a .place) in
     let gone = queued-taken (a .place) h q in
     let u = withNode (a .next) (withState states.Frame t) in
-    let framed = c .before .before .before .before .before .before .set-node .ensures rest _ (c .before .before .before .before .before .before .before .before .set-state .ensures rest t states.Frame (begins rest (a .p) t refl (c .before .before .before .before .before .before .before .before .before .before .leave .ensures m h q)) refl refl) in
+    let framed = c .before .before .before .before .before .before .set-node .ensures rest _
+    (c .before .before .before .before .before .before .before .before .set-state .ensures rest t states.Frame
+    (begins rest (a .p) t refl
+    (c .before .before .before .before .before .before .before .before .before .before .leave .ensures m h q)) refl refl) in
     let vacant = put-other rest (a .p) (a .new) u (λ e. n (sym e)) ∙ blank in
-    let called = c .before .before .before .before .put-callee .ensures (put (a .p) u rest) (t .cell) framed n vacant (sym (c .before .before .before .before .before .before .before .before .before .before .before .before .cell .ensures m (h .codes))) in
-    let bound = carry-binding (λ bs. put (a .new) (callee (a .p) (t .cell) bs (a .root) (paramsAt (a .dag .now) (a .at))) (put (a .p) u rest))
-    (ap (λ (x : Token). x .binds) (put-same rest (a .p) u framed (c .before .before .before .before .before .before .before .before .before .before .before .before .before .before .pre .0))) called in
+    let called = c .before .before .before .before .put-callee .ensures (put (a .p) u rest) (t .cell) framed n vacant
+    (sym (c .before .before .before .before .before .before .before .before .before .before .before .before .cell .ensures m
+    (h .codes))) in
+    let bound = carry-binding
+    (λ bs. put (a .new) (callee (a .p) (t .cell) bs (a .root) (paramsAt (a .dag .now) (a .at))) (put (a .p) u rest))
+    (ap (λ (x : Token). x .binds)
+    (put-same rest (a .p) u framed
+    (c .before .before .before .before .before .before .before .before .before .before .before .before .before .before .pre .0)))
+    called in
     c .join .ensures _ (c .before .before .set-last-token .ensures _ bound) (omega (arith, queue-fits h, h .ordered .queued))
 
 pub written-spec : {M : Type 1} → statement M

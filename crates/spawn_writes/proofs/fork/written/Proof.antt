@@ -46,10 +46,15 @@ returns c = λ m h q room.
     let t = tokenAt (m .tokens) (a .p) in
     let rest = dequeued m (a .place) in
     let gone = queued-taken (a .place) h q in
-    let left = c .before .before .before .before .before .before .before .before .before .before .set-node .ensures rest t (begins rest (a .p) t refl (c .before .before .before .before .before .before .before .before .before .before .before .before .leave .ensures m h q)) in
+    let left = c .before .before .before .before .before .before .before .before .before .before .set-node .ensures rest t
+    (begins rest (a .p) t refl
+    (c .before .before .before .before .before .before .before .before .before .before .before .before .leave .ensures m h q)) in
     let copied = carry (λ u. put (a .new) u (put (a .p) (withNode (a .left) t) rest))
-    (put-same rest (a .p) (withNode (a .left) t) left (c .before .before .before .before .before .before .before .before .before .before .before .before .before .before .pre .0)) (c .before .before .before .before .before .before .before .before .copy .ensures _ left) in
-    let right = c .before .before .before .before .before .before .set-node2 .ensures (put (a .p) (withNode (a .left) t) rest) (withNode (a .left) t) copied in
+    (put-same rest (a .p) (withNode (a .left) t) left
+    (c .before .before .before .before .before .before .before .before .before .before .before .before .before .before .pre .0))
+    (c .before .before .before .before .before .before .before .before .copy .ensures _ left) in
+    let right = c .before .before .before .before .before .before .set-node2 .ensures (put (a .p) (withNode (a .left) t) rest)
+    (withNode (a .left) t) copied in
     let counted = c .before .before .before .before .set-last-token .ensures _ right in
     let joined = c .before .before .join .ensures _ counted (omega arith) in
     c .join2 .ensures _ joined (omega (arith, queued-joined (a .p) counted))

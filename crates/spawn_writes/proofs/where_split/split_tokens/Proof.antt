@@ -1,4 +1,5 @@
--- `where_split::split_tokens` meets its contract: each writer's contract, one behind the other, leads to the record of the definition. Assumes nothing.
+-- `where_split::split_tokens` meets its contract: each writer's contract, one behind the other, leads to the record of the definition.
+-- Assumes nothing.
 use mathlib.Core.Path.{refl, subst}
 use Rattle.record.specs.Holds.{Holds}
 use Rattle.model.specs.declared.token.Place.the-variants as places
@@ -39,11 +40,14 @@ unfolding withNode inCell
 returns c = λ m h n.
     let a = c .before .before .before .before .before .before .before .before .before .before .args in
     let t = tokenAt (m .tokens) (a .p) in
-    let right = c .before .before .before .before .set-cell .ensures m _ (places.At (a .c)) (c .before .before .before .before .before .before .set-node .ensures m t (c .before .before .before .before .before .before .before .before .copy .ensures m h)) refl in
+    let right = c .before .before .before .before .set-cell .ensures m _ (places.At (a .c))
+    (c .before .before .before .before .before .before .set-node .ensures m t
+    (c .before .before .before .before .before .before .before .before .copy .ensures m h)) refl in
     let v = inCell (a .c) (withNode (a .right) t) in
     let u = withNode (a .left) (withBinding (a .x) (slots.Cell (a .c)) t) in
     let there = begins (put (a .new) v m) (a .p) t (put-other m (a .new) (a .p) v n) right in
-    let left = c .set-node2 .ensures (put (a .new) v m) _ (c .before .before .set-bind .ensures (put (a .new) v m) t (slots.Cell (a .c)) there refl refl) in
+    let left = c .set-node2 .ensures (put (a .new) v m) _
+    (c .before .before .set-bind .ensures (put (a .new) v m) t (slots.Cell (a .c)) there refl refl) in
     subst (Holds _) (put-comm m (a .p) (a .new) u v n) left
 
 pub split-tokens-spec : {M : Type 1} → statement M

@@ -1,4 +1,5 @@
--- `where_split::written` meets its contract: each writer's contract, one behind the other, leads to the record of the definition. Assumes nothing.
+-- `where_split::written` meets its contract: each writer's contract, one behind the other, leads to the record of the definition. Assumes
+-- nothing.
 use mathlib.Core.Path.{sym}
 use native.Mathlib.Omega.{arith}
 use Rattle.model.specs.Machine.Blank.{tokenAt}
@@ -47,10 +48,15 @@ join-requires-2 c κs = search needs
 returns : tie.Need-returns
 unfolding put withTables withCounts withOrders newToken newCell
 returns c = λ m h q room n.
-    let a = c .before .before .before .before .before .before .before .before .before .before .before .before .before .before .before .before .args in
+    let a = c .before .before .before .before .before .before .before .before .before .before .before .before .before .before .before
+    .before .args in
     let gone = queued-taken (a .place) h q in
-    let split = c .before .before .before .before .before .before .before .before .before .before .split-tokens .ensures _ (c .before .before .before .before .before .before .before .before .before .before .before .before .leave .ensures m h q) n in
-    let opened = c .before .before .before .before .before .before .put-unset .ensures _ (tokenAt (m .tokens) (a .p) .cell) (c .before .before .before .before .before .before .before .before .set-last-token .ensures _ split) (sym (c .before .before .before .before .before .before .before .before .before .before .before .before .before .before .cell .ensures m (h .codes))) in
+    let split = c .before .before .before .before .before .before .before .before .before .before .split-tokens .ensures _
+    (c .before .before .before .before .before .before .before .before .before .before .before .before .leave .ensures m h q) n in
+    let opened = c .before .before .before .before .before .before .put-unset .ensures _ (tokenAt (m .tokens) (a .p) .cell)
+    (c .before .before .before .before .before .before .before .before .set-last-token .ensures _ split)
+    (sym (c .before .before .before .before .before .before .before .before .before .before .before .before .before .before .cell
+    .ensures m (h .codes))) in
     let counted = c .before .before .before .before .set-last-cell .ensures _ opened in
     let joined = c .before .before .join .ensures _ counted (omega arith) in
     c .join2 .ensures _ joined (omega (arith, queued-joined (a .p) counted))

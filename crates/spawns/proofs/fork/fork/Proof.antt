@@ -16,7 +16,8 @@ plain-requires : tie.Need-plain-requires
 plain-requires c κs = search needs
 
 returns : tie.Need-returns
-returns c = λ m a. fork-refused _ _ _ _ m a (c .before .before .next-token .ensures) (c .before .before .before .last-token .ensures m (a .taking .lawful .holds .codes)) _ (search needs) (c .plain .ensures)
+returns c = λ m a. fork-refused _ _ _ _ m a (c .before .before .next-token .ensures)
+    (c .before .before .before .last-token .ensures m (a .taking .lawful .holds .codes)) _ (search needs) (c .plain .ensures)
 
 add-dag-word : tie.Need-add-dag-word
 add-dag-word c = search needs
@@ -43,7 +44,8 @@ returns-2 : tie.Need-returns-2
 returns-2 c = λ m a.
     let next = c .before .before .before .before .before .before .next-token .ensures in
     let last = c .before .before .before .before .before .before .before .last-token .ensures m (a .taking .lawful .holds .codes) in
-    fork-gives _ _ _ _ m a next last _ _ _ (c .before .before .before .dag-word .ensures) (c .before .before .dag-word2 .ensures) (search needs) (c .plain2 .ensures)
+    fork-gives _ _ _ _ m a next last _ _ _ (c .before .before .before .dag-word .ensures) (c .before .before .dag-word2 .ensures)
+    (search needs) (c .plain2 .ensures)
     (c .before .written .ensures m (a .taking .lawful .holds) (a .taking .queued) (queue-open (a .taking) next last (search needs)))
 
 pub fork-spec : {M : Type 1} → statement M

@@ -46,7 +46,8 @@ loop-again c =
           let long = h .codes .shaped .cells in
           subst (Holds _) (cells-next _ m (l .c) (start .pre .1) long _ (search needs) refl)
           (c .keep-cell .ensures _ (l .inv .1 m h v)
-          (λ e. cell-there _ m (l .c) (start .pre .1) long (search needs) ∙ v (l .c) (search needs) (any-default marks (l .c) true false (search needs) ∙ e))),
+          (λ e. cell-there _ m (l .c) (start .pre .1) long (search needs)
+          ∙ v (l .c) (search needs) (any-default marks (l .c) true false (search needs) ∙ e))),
     )
 
 renew-requires : tie.Need-renew-requires Inv-loop μ-loop
@@ -63,7 +64,8 @@ returns c =
       c .before .before .renew .ensures,
       λ m h v.
           subst (Holds _)
-          (cells-last _ m (l .c) (start .pre .1) (h .codes .shaped .cells) (search needs) (λ i from to. v i to (start .pre .3 i (omega arith) to)))
+          (cells-last _ m (l .c) (start .pre .1) (h .codes .shaped .cells) (search needs)
+          (λ i from to. v i to (start .pre .3 i (omega arith) to)))
           (l .inv .1 m h v),
     )
 

@@ -46,7 +46,8 @@ loop-again c =
           let long = h .codes .shaped .tokens in
           subst (Holds _) (tokens-next _ m (l .p) (start .pre .1) long _ (search needs) refl)
           (c .keep-token .ensures _ (l .inv .1 m h v)
-          (λ e. token-there _ m (l .p) (start .pre .1) long (search needs) ∙ v (l .p) (search needs) (any-default marks (l .p) true false (search needs) ∙ e))),
+          (λ e. token-there _ m (l .p) (start .pre .1) long (search needs)
+          ∙ v (l .p) (search needs) (any-default marks (l .p) true false (search needs) ∙ e))),
     )
 
 returns : tie.Need-returns Inv-loop μ-loop
@@ -56,7 +57,8 @@ returns c =
     let start = c .before .before .before .before in
     let over : l .p ≡ start .args .end = search needs in
     subst (Holds _)
-    (tokens-last _ m (l .p) (start .pre .1) (h .codes .shaped .tokens) (search needs) (λ i from to. v i to (start .pre .3 i (omega arith) to)))
+    (tokens-last _ m (l .p) (start .pre .1) (h .codes .shaped .tokens) (search needs)
+    (λ i from to. v i to (start .pre .3 i (omega arith) to)))
     (l .inv .1 m h v)
 
 pub keep-tokens-spec : {M : Type 1} → statement M

@@ -26,7 +26,8 @@ returns : tie.Need-returns
 returns c =
     let fits : SFits w32 (c .before .before .signed .result) = search needs in
     let second = c .before .before .before in
-    delivered _ _ _ _ _ _ _ _ _ _ (c .resume .ensures) (toZ-ofZ fits) (second .before .word-at .ensures) (c .before .before .signed .ensures)
+    delivered _ _ _ _ _ _ _ _ _ _ (c .resume .ensures) (toZ-ofZ fits) (second .before .word-at .ensures)
+    (c .before .before .signed .ensures)
     (second .word-at2 .ensures)
 
 pub deliver-spec : {M : Type 1} → statement M

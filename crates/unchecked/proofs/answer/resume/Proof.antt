@@ -1,4 +1,5 @@
--- `answer::resume` meets its contract: a handle that no call was given is not open, and any other is where a token holds it. Assumes nothing.
+-- `answer::resume` meets its contract: a handle that no call was given is not open, and any other is where a token holds it. Assumes
+-- nothing.
 use Rattle.unchecked.proofs.Whole.{answer-unknown, answer-gives}
 use native.Mathlib.Omega.{arith}
 use mir.Syntax.{w32}

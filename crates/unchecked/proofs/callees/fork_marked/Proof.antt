@@ -12,7 +12,8 @@ fork-requires : tie.Need-fork-requires
 fork-requires c κs = search needs
 
 returns : tie.Need-returns
-returns c = λ m a one. fork-leaves (c .before .before .before .before .before .before .before .args .shared .now) _ a one (c .fork .ensures m a) (c .before .before .before .before .share-caller .ensures m (a .taking .lawful .holds .codes))
+returns c = λ m a one. fork-leaves (c .before .before .before .before .before .before .before .args .shared .now) _ a one
+    (c .fork .ensures m a) (c .before .before .before .before .share-caller .ensures m (a .taking .lawful .holds .codes))
 
 pub fork-marked-spec : {M : Type 1} → statement M
 fork-marked-spec = tie.close (tie.spec share-caller-requires fork-requires returns)

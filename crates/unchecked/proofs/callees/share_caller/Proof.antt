@@ -21,10 +21,12 @@ same-length : tie.Need-same-length
 same-length c = search needs
 
 returns : tie.Need-returns
-returns c = λ m h. shared-at _ _ _ ((c .before .before .wide .ensures) ∙ (c .before .before .before .caller .ensures) m h) (c .before .if1 .taken)
+returns c = λ m h. shared-at _ _ _ ((c .before .before .wide .ensures) ∙ (c .before .before .before .caller .ensures) m h)
+    (c .before .if1 .taken)
 
 returns-2 : tie.Need-returns-2
-returns-2 c = λ m h. shared-far _ _ _ ((c .before .before .wide .ensures) ∙ (c .before .before .before .caller .ensures) m h) (c .if2 .left) ((c .before .before .before .before .before .pre .1))
+returns-2 c = λ m h. shared-far _ _ _ ((c .before .before .wide .ensures) ∙ (c .before .before .before .caller .ensures) m h) (c .if2 .left)
+    ((c .before .before .before .before .before .pre .1))
 
 returns-3 : tie.Need-returns-3
 returns-3 c = λ m h. shared-none _ _ _ ((c .before .wide .ensures) ∙ (c .before .before .caller .ensures) m h) (c .if1 .left)

@@ -12,7 +12,8 @@ where-split-requires : tie.Need-where-split-requires
 where-split-requires c κs = search needs
 
 returns : tie.Need-returns
-returns c = λ m a one. where-leaves (c .before .before .before .before .before .before .before .args .shared .now) _ a one (c .where-split .ensures m a) (c .before .before .before .before .share-caller .ensures m (a .taking .lawful .holds .codes))
+returns c = λ m a one. where-leaves (c .before .before .before .before .before .before .before .args .shared .now) _ a one
+    (c .where-split .ensures m a) (c .before .before .before .before .share-caller .ensures m (a .taking .lawful .holds .codes))
 
 pub where-marked-spec : {M : Type 1} → statement M
 where-marked-spec = tie.close (tie.spec share-caller-requires where-split-requires returns)

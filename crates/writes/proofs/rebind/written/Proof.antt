@@ -1,4 +1,5 @@
--- `rebind::written` meets its contract: each writer's contract, one behind the other, leads to the record of the definition. Assumes nothing.
+-- `rebind::written` meets its contract: each writer's contract, one behind the other, leads to the record of the definition. Assumes
+-- nothing.
 use Rattle.record.proofs.Shape.{queue-fits}
 use mathlib.Core.Path.{refl}
 use native.Mathlib.Omega.{arith}
@@ -33,7 +34,10 @@ returns c = λ m s h q e f.
     let fits = h .codes in
     let t = tokenAt (m .tokens) (a .p) in
     let first = begins (dequeued m (a .place)) (a .p) t refl (c .before .before .before .before .before .before .leave .ensures m h q) in
-    c .join .ensures _ (c .before .before .set-node .ensures (dequeued m (a .place)) _ (c .before .before .before .before .set-bind .ensures (dequeued m (a .place)) t s first e f)) (omega (arith, queue-fits h, h .ordered .queued))
+    c .join .ensures _
+    (c .before .before .set-node .ensures (dequeued m (a .place)) _
+    (c .before .before .before .before .set-bind .ensures (dequeued m (a .place)) t s first e f))
+    (omega (arith, queue-fits h, h .ordered .queued))
 
 pub written-spec : {M : Type 1} → statement M
 written-spec =

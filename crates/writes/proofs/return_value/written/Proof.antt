@@ -1,4 +1,5 @@
--- `return_value::written` meets its contract: each writer's contract, one behind the other, leads to the record of the definition. Assumes nothing.
+-- `return_value::written` meets its contract: each writer's contract, one behind the other, leads to the record of the definition. Assumes
+-- nothing.
 use Rattle.record.proofs.Shape.{queue-fits}
 use mathlib.Core.Path.{refl, sym}
 use native.Mathlib.Omega.{arith}
@@ -43,9 +44,14 @@ returns c = λ m h q.
     let rest = dequeued m (a .place) in
     let f = tokenAt (m .tokens) (a .f) in
     let v = tokenAt (m .tokens) (a .p) .value in
-    let copied = c .before .before .before .before .before .before .copy .ensures rest (c .before .before .before .before .before .before .before .before .leave .ensures m h q) in
-    let valued = c .before .before .before .before .set-value .ensures rest f v copied (sym (c .before .before .before .before .before .before .before .before .before .before .before .before .value-kind .ensures m (h .codes))) (sym (c .before .before .before .before .before .before .before .before .before .before .value .ensures m (h .codes))) in
-    c .join .ensures _ (c .before .before .set-state .ensures rest _ states.Ready valued refl refl) (omega (arith, queue-fits h, h .ordered .queued))
+    let copied = c .before .before .before .before .before .before .copy .ensures rest
+    (c .before .before .before .before .before .before .before .before .leave .ensures m h q) in
+    let valued = c .before .before .before .before .set-value .ensures rest f v copied
+    (sym (c .before .before .before .before .before .before .before .before .before .before .before .before .value-kind .ensures m
+    (h .codes))) (sym
+    (c .before .before .before .before .before .before .before .before .before .before .value .ensures m (h .codes))) in
+    c .join .ensures _ (c .before .before .set-state .ensures rest _ states.Ready valued refl refl)
+    (omega (arith, queue-fits h, h .ordered .queued))
 
 pub written-spec : {M : Type 1} → statement M
 written-spec =

@@ -1,4 +1,5 @@
--- `site_call::call_out` meets its contract: each writer's contract, one behind the other, leads to the record of the definition. Assumes nothing.
+-- `site_call::call_out` meets its contract: each writer's contract, one behind the other, leads to the record of the definition. Assumes
+-- nothing.
 use Rattle.writes.proofs.Writes.{begins, counted}
 use Rattle.record.specs.Fields.{dequeued}
 use Rattle.model.specs.declared.token.State.the-variants as states
@@ -30,7 +31,8 @@ returns c = λ m h q.
     let a = c .before .before .before .before .before .before .before .before .args in
     let t = tokenAt (m .tokens) (a .p) in
     let rest = dequeued m (a .place) in
-    let out = c .before .before .before .before .set-state .ensures rest t (states.Called (a .handle)) (begins rest (a .p) t refl (c .before .before .before .before .before .before .leave .ensures m h q)) refl refl in
+    let out = c .before .before .before .before .set-state .ensures rest t (states.Called (a .handle))
+    (begins rest (a .p) t refl (c .before .before .before .before .before .before .leave .ensures m h q)) refl refl in
     counted (a .handle) (m .lasttoken) (m .lastcell) _ (c .set-calls-made .ensures _ (c .before .before .set-node .ensures rest _ out))
 
 pub call-out-spec : {M : Type 1} → statement M

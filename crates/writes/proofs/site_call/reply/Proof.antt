@@ -1,4 +1,5 @@
--- `site_call::reply` meets its contract: each writer's contract, one behind the other, leads to the record of the definition. Assumes nothing.
+-- `site_call::reply` meets its contract: each writer's contract, one behind the other, leads to the record of the definition. Assumes
+-- nothing.
 use native.Mathlib.Omega.{arith}
 use Rattle.writes.proofs.Writes.{begins, queued-taken}
 use Rattle.record.proofs.Shape.{queue-fits}
@@ -32,7 +33,8 @@ returns c = λ m v h q e f.
     let t = tokenAt (m .tokens) (a .p) in
     let rest = dequeued m (a .place) in
     let gone = queued-taken (a .place) h q in
-    let valued = c .before .before .before .before .set-value .ensures rest t v (begins rest (a .p) t refl (c .before .before .before .before .before .before .leave .ensures m h q)) e f in
+    let valued = c .before .before .before .before .set-value .ensures rest t v
+    (begins rest (a .p) t refl (c .before .before .before .before .before .before .leave .ensures m h q)) e f in
     c .join .ensures _ (c .before .before .set-node .ensures rest _ valued) (omega (arith, queue-fits h, h .ordered .queued))
 
 pub reply-spec : {M : Type 1} → statement M

@@ -1,4 +1,5 @@
--- `site_call::wait` meets its contract: each writer's contract, one behind the other, leads to the record of the definition. Assumes nothing.
+-- `site_call::wait` meets its contract: each writer's contract, one behind the other, leads to the record of the definition. Assumes
+-- nothing.
 use native.Mathlib.Omega.{arith}
 use Rattle.writes.proofs.Writes.{begins, waiting-taken}
 use Rattle.record.specs.Fields.{dequeued}
@@ -29,7 +30,9 @@ returns c = λ m h q room.
     let t = tokenAt (m .tokens) (a .p) in
     let rest = dequeued m (a .place) in
     let same = waiting-taken (a .place) h in
-    c .delay .ensures _ (c .before .before .set-state .ensures rest t (states.Waiting (a .c)) (begins rest (a .p) t refl (c .before .before .before .before .leave .ensures m h q)) refl refl) (omega arith)
+    c .delay .ensures _
+    (c .before .before .set-state .ensures rest t (states.Waiting (a .c))
+    (begins rest (a .p) t refl (c .before .before .before .before .leave .ensures m h q)) refl refl) (omega arith)
 
 pub wait-spec : {M : Type 1} → statement M
 wait-spec =
