@@ -35,8 +35,8 @@ use Rattle.model.specs.declared.token.Slot.the-variants as slots
 use Rattle.model.specs.declared.token.State.the-variants as states
 use Rattle.model.specs.declared.token.Token.{Token}
 use Rattle.model.proofs.Keeps.Facts.{blank-at}
-use Rattle.model.proofs.Machine.Writes.{Choked, ends, wakes, stays, choked-cases}
-use Rattle.record.specs.Fields.{dequeued}
+use Rattle.model.proofs.Machine.WrittenTokens.{Choked, ends, wakes, stays, choked-cases}
+use Rattle.record.specs.Changes.{dequeued}
 use Rattle.sites.specs.Row.{nodeIn, paramsAt}
 use Rattle.acts.specs.Acting.{Acting}
 use Rattle.acts.specs.SharedFrames.{NamesAsCaller, OneCallee, callerShared}

@@ -1,7 +1,7 @@
 -- Laws of the instructions.
 pub mod Outcomes
 pub mod Vacancy
-pub mod Instructions
-pub mod Ending
+pub mod StepAtNode
+pub mod EndRebind
 pub mod SharedFrames
 pub mod CalleeSteps

@@ -30,12 +30,12 @@ use Rattle.model.proofs.Sees.Lockstep.{at-node}
 use Rattle.model.proofs.Run.Queue.{queue-rules-hold}
 use Rattle.demand3.proofs.Carried.{Carried}
 use Rattle.demand3.proofs.NotRule.{at-rule, ready-not-blank}
-use Rattle.record.specs.Fields.{dequeued}
+use Rattle.record.specs.Changes.{dequeued}
 use Rattle.record.specs.Holds.{Holds}
 use Rattle.acts.specs.Acting.{Lawful, Taking, Acting, CallersAreFrames, Gives, plain}
 use Rattle.sites.specs.Row.{NodeRow, nodeIn}
-use Rattle.sites.proofs.Facts.{tokens-size}
-use Rattle.sites.proofs.Rows.{node-is, row-inside}
+use Rattle.sites.proofs.RuleFacts.{tokens-size}
+use Rattle.sites.proofs.RowKinds.{node-is, row-inside}
 
 -- an accepted call after which blanking changes nothing
 pub gives-whole : {x : Outcome} {m : Machine} (o : Machine) (reply : Reply) (vs : List ℤ) {ws : List ℕ} {used cells : List Bool}

@@ -20,7 +20,7 @@ use Rattle.model.specs.declared.token.Token.{Token}
 use Rattle.job.proofs.Test.{clash}
 use Rattle.model.proofs.Keeps.Facts.{blank-at}
 use Rattle.model.proofs.Machine.InUse.{token-outside}
-use Rattle.model.proofs.Machine.Kept.{kept-marked, kept-free}
+use Rattle.model.proofs.Machine.Blanking.{kept-marked, kept-free}
 use Rattle.model.proofs.Sees.Others.{token-same, token-other}
 use Rattle.model.proofs.Keeps.Clean.{tokensOf}
 use Rattle.acts.specs.Acting.{Lawful}

@@ -16,8 +16,8 @@ use Rattle.model.specs.Machine.Update.{withTables, withOrders}
 use Rattle.model.specs.Machine.Step.{afterChoke}
 use Rattle.model.specs.declared.token.Held.{Held}
 use Rattle.model.specs.declared.token.Place.the-variants as places
-use Rattle.record.specs.Fields.{dequeued}
-use Rattle.model.proofs.Machine.Writes.{choked-blank}
+use Rattle.record.specs.Changes.{dequeued}
+use Rattle.model.proofs.Machine.WrittenTokens.{choked-blank}
 use Rattle.model.proofs.Machine.Choke.{choke-at}
 use Rattle.job.proofs.Test.{clash}
 use Rattle.model.proofs.Machine.Rules.{ready-live, each-rule-holds}

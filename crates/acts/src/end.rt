@@ -1,7 +1,7 @@
 // Stop, publish, a silent site: "the token ends".
 ghost use Prim.Native.Nat.{_<_};
 ghost use Rattle.model.specs.declared.record.Machine.{Machine};
-ghost use Rattle.record.specs.Fields.{dequeued};
+ghost use Rattle.record.specs.Changes.{dequeued};
 ghost use Rattle.model.specs.Machine.Blank.{blankToken};
 ghost use Rattle.model.specs.Machine.Update.{put};
 ghost use Rattle.job.specs.Words.{dagOf};

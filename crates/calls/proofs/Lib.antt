@@ -1,2 +1,2 @@
 -- Laws of the site call.
-pub mod Calling
+pub mod SiteCall

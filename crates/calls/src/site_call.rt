@@ -7,7 +7,7 @@ ghost use Rattle.job.specs.Words.{dagOf};
 ghost use Rattle.model.specs.Machine.Limits.{paper};
 ghost use Rattle.model.specs.Machine.Step as Step;
 ghost use Rattle.acts.specs.Acting.{SomeMachine, Acting, Gives};
-ghost use Rattle.calls.specs.Evaluated.{Evaluated};
+ghost use Rattle.calls.specs.SiteCall.{Evaluated};
 use acts::end::end;
 use acts::report::plain;
 use job::dag::CALL_LIMIT;

@@ -1,4 +1,4 @@
 -- Laws of the tests that tell whether words are a record's.
-pub mod Coding
-pub mod Testing
-pub mod Rows
+pub mod IsRecord
+pub mod WordTests
+pub mod IsRecordRows

@@ -1,3 +1,3 @@
 -- When words are a record's, and the tests that tell.
-pub mod Record
+pub mod IsRecord
 pub mod WordTests

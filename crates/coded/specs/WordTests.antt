@@ -5,7 +5,7 @@ use Prim.Native.Nat.{ℕ, zero, suc, _+_, _*_}
 use lib.ListN.{getD, take, drop}
 use lib.Dec.{eqb}
 use Rattle.job.specs.Test.{_and_}
-use Rattle.record.specs.Words.{cellsStart}
+use Rattle.record.specs.Layout.{cellsStart}
 
 abbrev pub stateCoded : (kind number : ℕ) → Bool
 stateCoded zero n = eqb n 0

@@ -1,3 +1,3 @@
 -- Laws of the tests of a dag's words.
-pub mod Rows
-pub mod Array
+pub mod NodeWords
+pub mod Dag

@@ -1,2 +1,2 @@
 -- When a node's words keep the index rules, row by row.
-pub mod NodeWordRules
+pub mod NodeWords

@@ -1,7 +1,7 @@
 // The index rules of one node of a dag: of its row of twelve words.
 ghost use mathlib.Core.Path.{_≡_};
 ghost use lib.ListN.{length, drop};
-ghost use Rattle.dag_rules.specs.NodeWordRules.{pairHolds, paramWordsHold, headHolds, countOf, rowHolds};
+ghost use Rattle.dag_rules.specs.NodeWords.{pairHolds, paramWordsHold, headHolds, countOf, rowHolds};
 use job::dag::ASSIGN;
 use job::dag::CALL;
 use job::dag::CHOKE;

@@ -34,18 +34,18 @@ use Rattle.model.specs.declared.cell.Cell.{Cell}
 use Rattle.model.specs.declared.record.Machine.{Machine}
 use Rattle.model.specs.declared.reply.Outcome.{Outcome}
 use Rattle.job.proofs.Test.{lt-ltb}
-use Rattle.simulation.proofs.Machine as Abstract
-use Rattle.simulation.proofs.Machine.{Binding, Frame, at, running, Store, state, labelOf, after, effect, Move}
+use Rattle.simulation.proofs.AbstractMachine as Abstract
+use Rattle.simulation.proofs.AbstractMachine.{Binding, Frame, at, running, Store, state, labelOf, after, effect, Move}
 use Rattle.simulation.proofs.Shuffle.{Split, first, later}
 use Rattle.model.proofs.Sees.Labels.{Labels, nodeMeant, programOf, FlowAt, Flow}
 use Rattle.model.proofs.Sees.View.{World, Unset, PlaceSeen, TokenSeen, Kept, token-keep, tokens-map}
-use Rattle.model.proofs.Sees.Sees.{Core, world, Sees, seenAs, finish-sees, UsedToken, UsedCell, used-closed, used-fits, token-used}
+use Rattle.model.proofs.Sees.Seen.{Core, world, Sees, seenAs, finish-sees, UsedToken, UsedCell, used-closed, used-fits, token-used}
 use Rattle.model.proofs.Sees.Slots.{found, values-seen}
 use Rattle.model.proofs.Sees.Others.{Others, acting-inside, cell-later}
 use Rattle.model.proofs.Sees.Agrees.{Acting}
 use Rattle.demand3.proofs.Room.{Room, Accepted, act-accepted}
-use Rattle.model.proofs.Sees.Answering.{answered-becomes}
-use Rattle.demand3.proofs.Turn.{Turn, is-ready, is-waiting, is-called, turn, queue-index, open-holder}
+use Rattle.model.proofs.Sees.AnswerAgrees.{answered-becomes}
+use Rattle.demand3.proofs.Counterpart.{Turn, is-ready, is-waiting, is-called, turn, queue-index, open-holder}
 use Rattle.model.proofs.Run.Passage.{eventsBy}
 use Rattle.model.proofs.Sees.Lockstep.{Fitting, at-node, shown-by, takes-agrees}
 

@@ -15,13 +15,13 @@ use Rattle.model.specs.declared.token.Token.{Token}
 use Rattle.model.specs.declared.record.Machine.{Machine}
 use Rattle.job.proofs.Test.{all-at}
 use Rattle.model.proofs.Machine.Rules.{each-rule-holds}
-use Rattle.simulation.proofs.Machine as Abstract
+use Rattle.simulation.proofs.AbstractMachine as Abstract
 use Rattle.model.proofs.Sees.Labels.{Labels, Flow}
-use Rattle.model.proofs.Sees.Sees.{live-inside}
+use Rattle.model.proofs.Sees.Seen.{live-inside}
 use Rattle.demand3.proofs.Room.{Room}
 use Rattle.demand3.proofs.Back.{Blocked, Ready}
-use Rattle.demand3.proofs.Looking.{look-blocked}
-use Rattle.model.proofs.Keeps.Tables.{Awaits}
+use Rattle.demand3.proofs.LookedUp.{look-blocked}
+use Rattle.model.proofs.Keeps.TableFacts.{Awaits}
 use Rattle.demand3.proofs.Reached.{Reached, Roomy, reached-rules}
 use Rattle.demand3.proofs.NotRule.{at-rule}
 

@@ -35,17 +35,17 @@ use Rattle.job.proofs.Test.{clash}
 use Rattle.model.proofs.Machine.Marks.{Free, marks-same, marks-added, marks-removed}
 use Rattle.model.proofs.Machine.Rules.{EachRuleHolds, each-rule-holds}
 use Rattle.model.proofs.Machine.Inside.{Fits, fits-blank, With, tokens-inside, cells-inside}
-use Rattle.model.proofs.Machine.Writes.{fits-same, fits-binding}
+use Rattle.model.proofs.Machine.WrittenTokens.{fits-same, fits-binding}
 use Rattle.model.proofs.Machine.Used.{Used, UsedCell, InsideUsed, used-fits, used-parent, tokens-size, cells-size, live-used}
-use Rattle.model.proofs.Machine.Acting.{callee, write-inside, fork-inside, call-inside, split-inside}
-use Rattle.model.proofs.Sees.Sees.{live-inside}
-use Rattle.model.proofs.Sees.Answering.{holder-called}
+use Rattle.model.proofs.Machine.ActingInside.{callee, write-inside, fork-inside, call-inside, split-inside}
+use Rattle.model.proofs.Sees.Seen.{live-inside}
+use Rattle.model.proofs.Sees.AnswerAgrees.{holder-called}
 use Rattle.model.proofs.Sees.Lockstep.{Fitting}
 use Rattle.model.proofs.Sees.Others.{token-same, token-other}
 use Rattle.model.proofs.Keeps.Clean.{Clean, tokensOf, cellsOf}
 use Rattle.demand3.proofs.Unblanked.{Adds, token-stays, cell-stays, adds-clean, clean-whole, rules-clean}
 use Rattle.demand3.proofs.Unblanked.{keep-adds, same-adds, end-adds, fork-adds, call-adds, split-adds}
-use Rattle.demand3.proofs.Instructions.{taken, acting-live, place-free, cell-free}
+use Rattle.demand3.proofs.UnblankedInstructions.{taken, acting-live, place-free, cell-free}
 use Rattle.demand3.proofs.Framed.{Framed}
 
 -- blanking changes nothing, and these tokens and cells are in use

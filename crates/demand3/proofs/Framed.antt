@@ -19,11 +19,11 @@ use Rattle.model.proofs.Machine.Reach.{Names, names-nowhere}
 use Rattle.model.proofs.Machine.InUse.{token-outside}
 use Rattle.model.proofs.Machine.Inside.{active-live}
 use Rattle.model.proofs.Machine.Used.{Used}
-use Rattle.simulation.proofs.Machine as Abstract
-use Rattle.simulation.proofs.Machine.{Frame}
+use Rattle.simulation.proofs.AbstractMachine as Abstract
+use Rattle.simulation.proofs.AbstractMachine.{Frame}
 use Rattle.model.proofs.Sees.Labels.{Labels}
 use Rattle.model.proofs.Sees.View.{World, FramesSeen, TokenSeen, sees, FrameSeen, frameAt, frame-seen}
-use Rattle.model.proofs.Sees.Sees.{Core, Sees, seenAs, UsedToken, tokens-of, token-at, live-listed}
+use Rattle.model.proofs.Sees.Seen.{Core, Sees, seenAs, UsedToken, tokens-of, token-at, live-listed}
 use Rattle.demand3.proofs.Runs.{InRun, seenWith}
 
 -- the caller of a token in use is a frame

@@ -25,16 +25,16 @@ use Rattle.model.specs.declared.record.Machine.{Machine}
 use Rattle.job.proofs.Test.{lt-ltb}
 use Rattle.job.proofs.Accepted.{accepted-well-formed}
 use Rattle.job.proofs.DagHolds.{construct-holds}
-use Rattle.model.proofs.Machine.Started.{start-machine}
-use Rattle.model.proofs.Machine.Begin.{start-one-token, start-no-cell}
+use Rattle.model.proofs.Machine.StartAccepted.{start-machine}
+use Rattle.model.proofs.Machine.StartUsed.{start-one-token, start-no-cell}
 use Rattle.demand3.proofs.Larger.{UsedAtMost, step-adds, answer-adds}
-use Rattle.simulation.proofs.Machine as Abstract
-use Rattle.simulation.proofs.Machine.{startAt, handleOf}
-use Rattle.demand3.proofs.Complete.{complete}
+use Rattle.simulation.proofs.AbstractMachine as Abstract
+use Rattle.simulation.proofs.AbstractMachine.{startAt, handleOf}
+use Rattle.demand3.proofs.ProgramComplete.{complete}
 use Rattle.model.proofs.Sees.Labels.{Labels, programOf, Flow}
 use Rattle.model.proofs.Sees.Labelling.{labelsOf}
 use Rattle.model.proofs.Sees.Flowing.{construct-flows}
-use Rattle.model.proofs.Sees.Sees.{Sees, seenAs}
+use Rattle.model.proofs.Sees.Seen.{Sees, seenAs}
 use Rattle.demand3.proofs.Room.{Room}
 use Rattle.demand3.proofs.Following.{stepsOf, Keeps, Does, does, run-followed}
 use Rattle.model.proofs.Run.Passage.{Passage, passed}

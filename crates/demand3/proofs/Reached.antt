@@ -39,31 +39,31 @@ use Rattle.model.specs.declared.token.Token.{Token}
 use Rattle.model.specs.declared.record.Machine.{Machine}
 use Rattle.model.specs.declared.reply.Outcome.{Outcome}
 use Rattle.job.proofs.Test.{clash, false-of, ltb-lt}
-use Rattle.job.proofs.Rules.{dag-rules, node-rules}
+use Rattle.job.proofs.DagRules.{dag-rules, node-rules}
 use Rattle.model.proofs.Machine.Marks.{Marked, free-inside}
 use Rattle.model.proofs.Machine.InUse.{tokens-used, cells-used}
 use Rattle.model.proofs.Machine.Refused.{After, after-outcome, step-accepted, AnswerAccepted, answer-accepted}
-use Rattle.simulation.proofs.Machine as Abstract
-use Rattle.simulation.proofs.Machine.{Store, startAt}
+use Rattle.simulation.proofs.AbstractMachine as Abstract
+use Rattle.simulation.proofs.AbstractMachine.{Store, startAt}
 use Rattle.model.proofs.Sees.Labels.{Labels, programOf, Flow}
 use Rattle.model.proofs.Sees.View.{World, CellsSeen}
-use Rattle.model.proofs.Sees.Sees.{world, Sees, seenAs, live-inside, token-at, token-used, live-listed}
+use Rattle.model.proofs.Sees.Seen.{world, Sees, seenAs, live-inside, token-at, token-used, live-listed}
 use Rattle.model.proofs.Sees.Others.{token-same}
 use Rattle.model.proofs.Sees.Agrees.{Shows}
-use Rattle.model.proofs.Sees.Acts.{taken, take-ready}
-use Rattle.model.proofs.Sees.Acts as Acts
-use Rattle.model.proofs.Sees.Answering.{holder-called, Pending, pending, find-pending, answered-becomes}
-use Rattle.model.proofs.Sees.Begin.{start-machine-sees}
+use Rattle.model.proofs.Sees.ActsAgree.{taken, take-ready}
+use Rattle.model.proofs.Sees.ActsAgree as Acts
+use Rattle.model.proofs.Sees.AnswerAgrees.{holder-called, Pending, pending, find-pending, answered-becomes}
+use Rattle.model.proofs.Sees.StartSeen.{start-machine-sees}
 use Rattle.model.proofs.Sees.Lockstep as Lockstep
 use Rattle.model.proofs.Run.Passage.{eventsBy}
 use Rattle.model.proofs.Sees.Lockstep.{free-token, free-cell, takes-agrees, Steps, steps, call-locks}
-use Rattle.model.proofs.Keeps.Lines.{Lines, Taken, take-out, taken-ready, lines-new}
+use Rattle.model.proofs.Keeps.NamedOnce.{Lines, Taken, take-out, taken-ready, lines-new}
 use Rattle.model.proofs.Keeps.Orders.{queue-is, waits-are, orders-put, orders-enqueue}
-use Rattle.model.proofs.Keeps.Tables.{Idle, idle-holds, tables-write}
+use Rattle.model.proofs.Keeps.TableFacts.{Idle, idle-holds, tables-write}
 use Rattle.model.proofs.Keeps.Facts.{Facts, start-facts, LiveUsed, finish-facts}
-use Rattle.demand3.proofs.Acts.{Vacant, acted}
+use Rattle.demand3.proofs.ActsKeep.{Vacant, acted}
 use Rattle.model.proofs.Keeps.Clean.{Clean, finish-clean, start-clean}
-use Rattle.demand3.proofs.Rules.{slot-inside, cells-range, rules-hold}
+use Rattle.demand3.proofs.RulesKept.{slot-inside, cells-range, rules-hold}
 
 pub record Reached (lim : Limits) (d : Dag) (M : Labels) (m : Machine) (s : Abstract.State) : Type 0 where
   pub view : Sees M m s

@@ -22,8 +22,8 @@ use Rattle.model.specs.declared.record.Machine.{Machine}
 use Rattle.model.specs.declared.reply.Refusal.{Refusal}
 use Rattle.model.specs.declared.reply.Refusal.the-variants as refusals
 use Rattle.job.proofs.Test.{clash, lt-ltb}
-use Rattle.simulation.proofs.Machine as Abstract
-use Rattle.simulation.proofs.Machine.{Binding, Frame}
+use Rattle.simulation.proofs.AbstractMachine as Abstract
+use Rattle.simulation.proofs.AbstractMachine.{Binding, Frame}
 use Rattle.model.proofs.Sees.Labels.{Labels, FlowAt}
 use Rattle.model.proofs.Sees.View.{World, Nested, hasCaller, cellsOfCaller, CellsSeen, root, below, FramesSeen, outermost, calledBy}
 use Rattle.model.proofs.Sees.Agrees.{Acting}

@@ -35,12 +35,12 @@ use Rattle.job.proofs.Test.{clash, false-of, eqb-eq, and-left, and-right, all-a
 use Rattle.model.proofs.Machine.Marks.{Marked, Free, free-inside}
 use Rattle.model.proofs.Machine.Reach.{Names, names-nowhere}
 use Rattle.model.proofs.Machine.InUse.{CellsIn}
-use Rattle.model.proofs.Machine.Kept.{kept-whole}
+use Rattle.model.proofs.Machine.Blanking.{kept-whole}
 use Rattle.model.proofs.Machine.Rules.{EachRuleHolds, each-rule-holds}
 use Rattle.model.proofs.Machine.Inside.{Fits, live-active, active-live}
 use Rattle.model.proofs.Machine.Used.{Used, UsedCell, used-fits, used-parent, lives-active, live-used}
 use Rattle.model.proofs.Run.Chain.{unsetCell, blank-cell-clear, new-cell-clear}
-use Rattle.model.proofs.Sees.Sees.{live-inside}
+use Rattle.model.proofs.Sees.Seen.{live-inside}
 use Rattle.model.proofs.Sees.Others.{token-same, token-other}
 use Rattle.model.proofs.Keeps.Clean.{Clean, tokensOf, cellsOf}
 

@@ -1,6 +1,6 @@
 -- Laws of a house run: its records, and its turns one behind the other.
-pub mod Reached
+pub mod HouseRecords
 pub mod HouseTurns
-pub mod Going
-pub mod Turning
-pub mod Lent
+pub mod HouseGoing
+pub mod TurnReport
+pub mod HouseLent

@@ -1,3 +1,3 @@
 -- What is known of a dag that was loaded, and what a turn leaves.
-pub mod Accepted
+pub mod LoadedDag
 pub mod TurnLeaves

@@ -11,7 +11,7 @@ ghost use Rattle.model.specs.Machine.Start as Start;
 ghost use Rattle.acts.specs.Acting.{Lawful};
 ghost use Rattle.acts.specs.SharedFrames.{OneCallee};
 ghost use Rattle.lines.specs.Shown.{ShowsBytes};
-ghost use Rattle.house.specs.Accepted.{Accepted};
+ghost use Rattle.house.specs.LoadedDag.{Accepted};
 use crate::turn::deliver_turn;
 use crate::turn::step_turn;
 use job::dag::GOAL;

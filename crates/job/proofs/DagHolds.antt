@@ -13,10 +13,10 @@ use Rattle.job.specs.Node.{Node, Dag, paramHolds, paramsHold, isNode, no
 use Rattle.job.specs.Construct.{own, nodeCount, root, ownNodes, nodesOf, nextLeft, nextRight, constructFrom, construct}
 use Rattle.job.proofs.Test.{lt-ltb, le-leb, and-both, all-nil, all-cons, all-append, All-all, All-map}
 use Rattle.job.proofs.All.{All-member, All-at}
-use Rattle.job.proofs.Scope.{Slots, levels-slots, left-slots, right-slots}
+use Rattle.job.proofs.ScopeSlots.{Slots, levels-slots, left-slots, right-slots}
 use Rattle.job.proofs.WellFormed.{takes-site, site-few}
 use Rattle.job.proofs.Size.{nodes-append-length, nodes-few}
-use Rattle.job.proofs.Rules.{DagRules, rules-dag}
+use Rattle.job.proofs.DagRules.{DagRules, rules-dag}
 
 -- an expression is entered at one of its own nodes
 pub root-from : (e : Exp) (n : ℕ) → n ≤ root e n

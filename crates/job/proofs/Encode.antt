@@ -15,7 +15,7 @@ use Rattle.job.specs.WellFormed.{GoodParam, SiteTakes, Good, GoodDefinit
 use Rattle.job.proofs.All.{All-append, All-member, All-at}
 use Rattle.job.proofs.Number.{Byte, bytes-are, unsigned-below}
 use Rattle.job.proofs.Entry.{Short, low-of, high-of}
-use Rattle.job.proofs.Scope.{Slots, levels-slots, left-slots, right-slots}
+use Rattle.job.proofs.ScopeSlots.{Slots, levels-slots, left-slots, right-slots}
 use Rattle.job.proofs.WellFormed.{CallRuleHolds, Names, site-few, call-holds, other-holds}
 
 -- the definitions that a table may have

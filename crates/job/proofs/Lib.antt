@@ -7,7 +7,7 @@ pub mod Site
 pub mod Entry
 pub mod Position
 pub mod Read
-pub mod Scope
+pub mod ScopeSlots
 pub mod WellFormed
 pub mod Prefix
 pub mod Encode
@@ -17,10 +17,10 @@ pub mod FoundExpression
 pub mod EncodeRead
 pub mod Accepted
 pub mod Size
-pub mod Rules
+pub mod DagRules
 pub mod DagHolds
 pub mod Laid
-pub mod Decode
+pub mod Words
 pub mod DeclinedAt
 pub mod Lists
 pub mod Both

@@ -1,2 +1,2 @@
 -- Laws of the public calls.
-pub mod Giving
+pub mod PublicCalls

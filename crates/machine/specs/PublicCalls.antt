@@ -15,9 +15,9 @@ use Rattle.model.specs.declared.reply.Outcome.{Outcome}
 use Rattle.model.specs.declared.reply.Refusal.the-variants as refusals
 use Rattle.model.specs.declared.reply.Reply.{Reply}
 use Rattle.model.specs.declared.reply.Report.{Report}
-use Rattle.record.specs.Decode.{machineOf}
-use Rattle.record.specs.Words.{wordsOf}
-use Rattle.coded.specs.Record.{isRecord}
+use Rattle.record.specs.LayoutDecoded.{machineOf}
+use Rattle.record.specs.Layout.{wordsOf}
+use Rattle.coded.specs.IsRecord.{isRecord}
 
 -- a reply, the values beside it, and the words of the record after the call
 pub record Result : Type 0 where

@@ -1,6 +1,6 @@
 -- What a record of a run has beside its view: orders, tables, and blank places where nothing is in use.
-pub mod Lines
+pub mod NamedOnce
 pub mod Orders
-pub mod Tables
+pub mod TableFacts
 pub mod Facts
 pub mod Clean

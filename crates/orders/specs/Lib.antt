@@ -1,2 +1,2 @@
 -- An order that keeps only the marked ones of its names.
-pub mod Retaining
+pub mod NamesRetained

@@ -4,7 +4,7 @@ ghost use mathlib.Core.Bool.{false};
 ghost use Prim.Native.Nat.{_<_, _≤_, _-_};
 ghost use lib.ListN.{length, getD, take, drop, replicate};
 ghost use Rattle.job.specs.Test.{padded, without};
-ghost use Rattle.orders.specs.Retaining.{Retained};
+ghost use Rattle.orders.specs.NamesRetained.{Retained};
 use job::wide::wide;
 
 // An order with the name at an index left out: from the back, each name goes one place to the front. (Most orders are short, and a loop

@@ -1,3 +1,3 @@
 -- Laws of the loops that look for a place.
-pub mod Placing
-pub mod Nearest
+pub mod PlaceSearch
+pub mod PlaceNearest

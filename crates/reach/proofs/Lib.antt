@@ -1,7 +1,7 @@
 -- Laws of the loops that mark.
-pub mod Lists
-pub mod Links
-pub mod Chains
-pub mod Climbing
-pub mod Marking
-pub mod Weights
+pub mod ListLoops
+pub mod PlaceNumber
+pub mod MarkChain
+pub mod UnderSet
+pub mod UsedMarking
+pub mod MarksEnd

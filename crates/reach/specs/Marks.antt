@@ -16,7 +16,7 @@ use Rattle.model.specs.declared.record.Machine.{Machine}
 use Rattle.model.specs.declared.token.Place.{Place}
 use Rattle.model.specs.declared.token.Place.the-variants as places
 use Rattle.model.specs.declared.token.Token.{Token}
-use Rattle.record.specs.Fields.{storeCell}
+use Rattle.record.specs.Changes.{storeCell}
 
 -- the chain of callers from a place, and the chains of parents from one place and from some
 abbrev pub callersMarked : Machine → Place → List Bool → List Bool

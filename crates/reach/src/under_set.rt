@@ -2,7 +2,7 @@
 ghost use mathlib.Core.Path.{_≡_};
 ghost use Rattle.model.specs.Machine.Active.{underSet};
 ghost use Rattle.model.specs.declared.record.Machine.{Machine};
-ghost use Rattle.record.specs.Decode.{placeFrom};
+ghost use Rattle.record.specs.LayoutDecoded.{placeFrom};
 ghost use Rattle.record.specs.Holds.{Codes};
 use job::wide::wide;
 use model::record::Machine;

@@ -12,11 +12,11 @@ use Rattle.model.specs.declared.token.Held.the-variants as helds
 use Rattle.model.specs.declared.token.Place.{Place}
 use Rattle.model.specs.declared.cell.Cell.{Cell}
 use Rattle.model.specs.declared.record.Machine.{Machine}
-use Rattle.record.specs.Fields.{storeCell, unsetCell, setCell}
-use Rattle.record.specs.Words.{cellRow, wordsOf, countWords, parts, placeNumber, heldKind, heldNumber}
+use Rattle.record.specs.Changes.{storeCell, unsetCell, setCell}
+use Rattle.record.specs.Layout.{cellRow, wordsOf, countWords, parts, placeNumber, heldKind, heldNumber}
 use Rattle.record.specs.Holds.{Codes, Holds}
-use Rattle.record.proofs.Parts as parts-laws
-use Rattle.record.proofs.Shape.{shaped, tables-hold}
+use Rattle.record.proofs.LayoutParts as parts-laws
+use Rattle.record.proofs.HoldsShape.{shaped, tables-hold}
 
 module _ {ws : List ℕ} {m : Machine} (h : Codes ws m) (c : ℕ) (l : c < 32) where
   abbrev k : Cell

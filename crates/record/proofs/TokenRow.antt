@@ -14,12 +14,12 @@ use Rattle.model.specs.declared.token.Place.{Place}
 use Rattle.model.specs.declared.token.State.{State}
 use Rattle.model.specs.declared.token.Token.{Token}
 use Rattle.model.specs.declared.record.Machine.{Machine}
-use Rattle.record.specs.Fields.{withCaller, withCell}
-use Rattle.record.specs.Words.{rowOf, wordsOf, countWords, parts, slotKind, slotNumber, stateKind, stateNumber, placeNumber, heldKind}
-use Rattle.record.specs.Words.{heldNumber}
+use Rattle.record.specs.Changes.{withCaller, withCell}
+use Rattle.record.specs.Layout.{rowOf, wordsOf, countWords, parts, slotKind, slotNumber, stateKind, stateNumber, placeNumber, heldKind}
+use Rattle.record.specs.Layout.{heldNumber}
 use Rattle.record.specs.Holds.{Codes, Holds}
-use Rattle.record.proofs.Parts as parts-laws
-use Rattle.record.proofs.Shape.{shaped, tables-hold, binds-after}
+use Rattle.record.proofs.LayoutParts as parts-laws
+use Rattle.record.proofs.HoldsShape.{shaped, tables-hold, binds-after}
 
 -- a slot's kind and number in the row
 slot-kind : (t : Token) (x : ℕ) → x < 8 → getD (rowOf t) (8 + 2 * x) 0 ≡ slotKind (slotAt (t .binds) x)

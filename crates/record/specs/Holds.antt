@@ -7,7 +7,7 @@ use Rattle.job.specs.Test.{padded}
 use Rattle.model.specs.Machine.Blank.{tokenAt}
 use Rattle.model.specs.Machine.Update.{queueOf, waitsOf}
 use Rattle.model.specs.declared.record.Machine.{Machine}
-use Rattle.record.specs.Words.{wordsOf}
+use Rattle.record.specs.Layout.{wordsOf}
 
 -- tables, orders and bindings are as long as the paper says
 pub record Shaped (m : Machine) : Type 0 where

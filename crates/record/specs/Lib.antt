@@ -1,5 +1,5 @@
 -- The record as words: the layout, and what words hold.
-pub mod Words
-pub mod Decode
-pub mod Fields
+pub mod Layout
+pub mod LayoutDecoded
+pub mod Changes
 pub mod Holds

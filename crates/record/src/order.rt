@@ -7,7 +7,7 @@ ghost use Rattle.job.specs.Test.{filter};
 ghost use Rattle.model.specs.Machine.Update.{enqueue, withOrders, queueOf, waitsOf};
 ghost use Rattle.model.specs.declared.record.Machine.{Machine};
 ghost use Rattle.record.specs.Holds.{Codes, Holds};
-ghost use Rattle.record.specs.Fields.{dequeued, delayed};
+ghost use Rattle.record.specs.Changes.{dequeued, delayed};
 use crate::layout::QUEUE_LENGTH;
 use crate::layout::QUEUE_START;
 use crate::layout::WAITS_LENGTH;

@@ -3,7 +3,7 @@ ghost use mathlib.Core.Path.{_≡_};
 ghost use lib.ListN.{length, replicate};
 ghost use Rattle.model.specs.Machine.Limits.{paper};
 ghost use Rattle.model.specs.Machine.Start.{startMachine};
-ghost use Rattle.record.specs.Words.{wordsOf};
+ghost use Rattle.record.specs.Layout.{wordsOf};
 use crate::layout::LAST_CELL;
 use crate::layout::QUEUE_LENGTH;
 use crate::layout::READY_STATE;

@@ -1,4 +1,4 @@
 -- Laws of a return: the search for a token that names the frame, and what is in use after it.
-pub mod Callers
-pub mod Returning
+pub mod FrameCallers
+pub mod ReturnValue
 pub mod ReturnCallees

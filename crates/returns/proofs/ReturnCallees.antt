@@ -22,17 +22,17 @@ use Rattle.model.specs.declared.token.State.the-variants as states
 use Rattle.model.specs.declared.token.Token.{Token}
 use Rattle.job.proofs.Test.{clash}
 use Rattle.model.proofs.Machine.Inside.{active-live}
-use Rattle.model.proofs.Machine.Kept.{kept-free}
+use Rattle.model.proofs.Machine.Blanking.{kept-free}
 use Rattle.model.proofs.Machine.Used.{Used}
 use Rattle.model.proofs.Keeps.Clean.{tokensOf}
 use Rattle.model.proofs.Sees.Others.{token-other}
 use Rattle.demand3.proofs.Returned.{Returns}
-use Rattle.record.specs.Fields.{dequeued}
+use Rattle.record.specs.Changes.{dequeued}
 use Rattle.acts.specs.Acting.{Acting}
 use Rattle.acts.specs.SharedFrames.{NamesAsCaller, OneCallee, Alone, callerShared, returnShared}
 use Rattle.acts.proofs.SharedFrames.{unshared, blank-names, callees-kept, swept-callees, swept-names, put-names}
-use Rattle.acts.proofs.Instructions.{return-step}
-use Rattle.returns.proofs.Returning.{returns}
+use Rattle.acts.proofs.StepAtNode.{return-step}
+use Rattle.returns.proofs.ReturnValue.{returns}
 
 module _ {ws dag : List ℕ} {used cells : List Bool} {place p at : ℕ} {m : Machine} (a : Acting ws used cells dag place p at 8 m)
     (f : ℕ) (few : f < 64) (caller : tokenAt (m .tokens) p .caller ≡ places.At f) where

@@ -1,5 +1,5 @@
 -- Laws of the tests of a token and of a cell.
-pub mod Fields
-pub mod Blanks
-pub mod Chains
-pub mod Nodes
+pub mod Range
+pub mod Blank
+pub mod Chain
+pub mod Node

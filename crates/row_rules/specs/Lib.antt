@@ -1,3 +1,3 @@
 -- What the contracts of the tests cite.
 pub mod ValuesFit
-pub mod Rules
+pub mod RowRules

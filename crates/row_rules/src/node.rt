@@ -11,7 +11,7 @@ ghost use Rattle.model.specs.Machine.Blank.{tokenAt, isBound, slotAt};
 ghost use Rattle.model.specs.Machine.Rules.{namesFrame, notEmpty, valueIfReady, nodeRule, atNode};
 ghost use Rattle.model.specs.declared.record.Machine.{Machine};
 ghost use Rattle.record.specs.Holds.{Codes};
-ghost use Rattle.row_rules.specs.Rules.{pairBound};
+ghost use Rattle.row_rules.specs.RowRules.{pairBound};
 use job::dag::ASSIGN;
 use job::dag::CALL;
 use job::dag::CHOKE;

@@ -9,7 +9,7 @@ ghost use Rattle.model.specs.declared.record.Machine.{Machine};
 ghost use Rattle.model.specs.declared.token.Bind.{Bind};
 ghost use Rattle.model.specs.declared.token.State.{State};
 ghost use Rattle.record.specs.Holds.{Codes};
-ghost use Rattle.record.specs.Words.{stateKind, stateNumber};
+ghost use Rattle.record.specs.Layout.{stateKind, stateNumber};
 ghost use Rattle.row_rules.specs.ValuesFit.{ValuesFit};
 use job::dag::CALL_LIMIT;
 use model::record::Machine;

@@ -1,8 +1,8 @@
 -- Laws of the tests of a whole record; beside them stand the proofs of its functions.
-pub mod Gathered
-pub mod Orders
-pub mod Rest
-pub mod Rows
+pub mod Handles
+pub mod Order
+pub mod RestBlank
+pub mod RulesRows
 pub mod OneRow
-pub mod Record
-pub mod Decoding
+pub mod RulesGrouped
+pub mod RulesDecoded

@@ -27,8 +27,8 @@ use Rattle.model.specs.declared.cell.Cell.{Cell}
 use Rattle.model.specs.declared.record.Machine.{Machine}
 use Rattle.job.proofs.Test.{clash, and-left, and-right, and-both, eqb-eq, ltb-lt, lt-ltb, le-not-ltb}
 use Rattle.job.proofs.Both.{and-true}
-use Rattle.row_rules.specs.Rules.{tokenRule, cellRule}
-use Rattle.row_rules.proofs.Chains.{ends-nowhere}
+use Rattle.row_rules.specs.RowRules.{tokenRule, cellRule}
+use Rattle.row_rules.proofs.Chain.{ends-nowhere}
 
 -- fields that hold nothing are in range
 slot-blank : (s : Slot) → not (isBound s) ≡ true → slotInRange 32 s ≡ true

@@ -6,7 +6,7 @@ use lib.ListN.{getD}
 use lib.Dec.{eqb}
 use Rattle.job.specs.Test.{_and_, once}
 use Rattle.model.specs.declared.token.Token.{Token}
-use Rattle.record.specs.Words.{stateKind}
+use Rattle.record.specs.Layout.{stateKind}
 
 -- a token in the state of that kind is named once, any other never
 abbrev pub namedAs : (kind : ℕ) → (counts : List ℕ) → ℕ → Token → Bool

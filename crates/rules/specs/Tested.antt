@@ -7,9 +7,9 @@ use Rattle.job.specs.Words.{dagOf}
 use Rattle.model.specs.Machine.InUse.{tokensUsed, cellsUsed}
 use Rattle.model.specs.Machine.Limits.{paper}
 use Rattle.model.specs.Machine.Rules.{rulesHold}
-use Rattle.record.specs.Decode.{machineOf}
+use Rattle.record.specs.LayoutDecoded.{machineOf}
 use Rattle.record.specs.Holds.{Codes}
-use Rattle.coded.specs.Record.{isRecord}
+use Rattle.coded.specs.IsRecord.{isRecord}
 
 -- words that pass are a record's; of words that are a record's, with the marks of what is in use, the result says whether the rules hold
 pub record Tested (ws dag : List ℕ) (tokens cells : List Bool) (r : Bool) : Type 0 where

@@ -13,7 +13,7 @@ ghost use Rattle.model.specs.declared.record.Machine.{Machine};
 ghost use Rattle.record.specs.Holds.{Codes};
 ghost use Rattle.coded.specs.WordTests.{tokenCoded};
 ghost use Rattle.row_rules.specs.ValuesFit.{ValuesFit};
-ghost use Rattle.row_rules.specs.Rules.{tokenRule};
+ghost use Rattle.row_rules.specs.RowRules.{tokenRule};
 ghost use Rattle.rules.specs.OrderCounts.{namedByBoth};
 use crate::handles::all_differ;
 use crate::order::counts_agree;

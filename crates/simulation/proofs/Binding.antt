@@ -9,7 +9,7 @@ use lib.IntN.{ℤ, pos}
 use Rattle.calculus.specs.Expression.{Param, Substitution, raise, lift, substParam, innermost, formals}
 use Rattle.calculus.specs.Rewriting.{paramValues}
 use Rattle.calculus.proofs.Substitution.{_after_, itself, bound}
-use Rattle.simulation.proofs.Machine.{Binding, Store, withSet, bindingAt, named, valueIn, inFront, valuesIn}
+use Rattle.simulation.proofs.AbstractMachine.{Binding, Store, withSet, bindingAt, named, valueIn, inFront, valuesIn}
 use Rattle.simulation.proofs.Store.{_∈_, set-same, set-keeps}
 
 -- the cell at an index of the list

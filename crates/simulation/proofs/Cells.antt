@@ -8,7 +8,7 @@ use mathlib.Core.Option.{none}
 use Prim.Native.Nat.{ℕ, suc, _<_, _≤_}
 use native.Mathlib.Omega.{arith}
 use lib.IntN.{ℤ}
-use Rattle.simulation.proofs.Machine.{Store, withSet}
+use Rattle.simulation.proofs.AbstractMachine.{Store, withSet}
 use Rattle.simulation.proofs.Store.{_∈_, _∉_, set-other}
 
 abbrev pub Within : List ℕ → List ℕ → Type 0

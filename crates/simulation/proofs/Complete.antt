@@ -9,12 +9,12 @@ use Rattle.calculus.specs.Expression.{Exp}
 use Rattle.calculus.specs.Rewriting.{Rewrites}
 use Rattle.calculus.specs.Allowed.{Configuration, nextHandle, shown, CanShow}
 use Rattle.simulation.proofs.Shuffle.{Split}
-use Rattle.simulation.proofs.Machine.{Node, Program, at, Token, Store, Effect, Move, effect, State, state, handleOf, after, labelOf}
-use Rattle.simulation.proofs.Machine.{Step, step, Run, rests}
+use Rattle.simulation.proofs.AbstractMachine.{Node, Program, at, Token, Store, Effect, Move, effect, State, state, handleOf, after, labelOf}
+use Rattle.simulation.proofs.AbstractMachine.{Step, step, Run, rests}
 use Rattle.simulation.proofs.Cells.{tidy-grown}
 use Rattle.simulation.proofs.Coded.{Bodies}
 use Rattle.simulation.proofs.Ready.{Quiet, done, quiet, Ready, ready, rep-ready}
-use Rattle.simulation.proofs.Whole.{Stands, stands, follows}
+use Rattle.simulation.proofs.RunsSound.{Stands, stands, follows}
 
 module _ (G : Program) where
   -- a step with a known effect

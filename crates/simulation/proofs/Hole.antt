@@ -12,7 +12,7 @@ use Rattle.calculus.specs.Event.{Event, Label, silently, showing}
 use Rattle.calculus.specs.Expression.{Exp, Substitution, lift, subst, innermost}
 use Rattle.calculus.specs.Rewriting.{NotPublishing, Rewrites}
 use Rattle.simulation.proofs.Shuffle.{Mix, mix-swap, mix-unit}
-use Rattle.simulation.proofs.Machine.{Program, Place, above, Token, Store, withSet, outOf}
+use Rattle.simulation.proofs.AbstractMachine.{Program, Place, above, Token, Store, withSet, outOf}
 use Rattle.simulation.proofs.Store.{_∉_}
 use Rattle.simulation.proofs.Cells.{Parts, parts-swap, parts-move, not-in-cons, Tidy, tidy-part, tidy-under, tidy-left, tidy-right}
 use Rattle.simulation.proofs.Binding.{env-set}

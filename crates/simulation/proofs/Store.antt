@@ -11,7 +11,7 @@ use lib.IntN.{ℤ}
 use Rattle.job.specs.Test.{_or_, any, filter, All, more}
 use Rattle.job.proofs.WellFormed.{member-any}
 use Rattle.job.proofs.Test.{eqb-same, ne-eqb}
-use Rattle.simulation.proofs.Machine.{Token, Store, chosen, withSet, cellsOf, isOutOf, outOf}
+use Rattle.simulation.proofs.AbstractMachine.{Token, Store, chosen, withSet, cellsOf, isOutOf, outOf}
 
 abbrev pub _∈_ : ℕ → List ℕ → Type 0
 c ∈ C = List·Memᴰ c C

@@ -1,13 +1,13 @@
 -- Laws that the proofs of the functions cite.
-pub mod Signed
-pub mod Bits
-pub mod Sites
-pub mod Tables
-pub mod Counting
-pub mod Facts
-pub mod Holders
-pub mod Params
-pub mod Nodes
-pub mod Rows
-pub mod LookUps
-pub mod Calls
+pub mod NumberSigned
+pub mod NumberBits
+pub mod SiteBuiltins
+pub mod TableLoops
+pub mod OrderCounting
+pub mod RuleFacts
+pub mod Answer
+pub mod LookParams
+pub mod RowNode
+pub mod RowKinds
+pub mod Look
+pub mod SiteCalls

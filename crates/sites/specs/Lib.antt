@@ -1,5 +1,5 @@
 -- What the contracts of this crate cite, over the definitions of crate `model` and the words of crate `record`.
 pub mod Row
-pub mod Looking
-pub mod Answering
-pub mod SiteReplies
+pub mod Look
+pub mod Answer
+pub mod SiteReply

@@ -5,7 +5,7 @@ ghost use Rattle.model.specs.Machine.Answer.{holder};
 ghost use Rattle.model.specs.declared.record.Machine.{Machine};
 ghost use Rattle.record.specs.Holds.{Codes};
 ghost use Rattle.reach.specs.Marks.{BlankFrom};
-ghost use Rattle.sites.specs.Answering.{placeBelow, NextCalled, Answered};
+ghost use Rattle.sites.specs.Answer.{placeBelow, NextCalled, Answered};
 use crate::number::unsigned;
 use model::record::Machine;
 use record::layout::CALLED_STATE;

@@ -10,7 +10,7 @@ ghost use Rattle.model.specs.Machine.Rules.{heldInRange};
 ghost use Rattle.model.specs.Machine.Step.{look};
 ghost use Rattle.model.specs.declared.record.Machine.{Machine};
 ghost use Rattle.record.specs.Holds.{Codes};
-ghost use Rattle.sites.specs.Looking.{heldFound, foundOf, paramFound, lookUpOf, LookFacts};
+ghost use Rattle.sites.specs.Look.{heldFound, foundOf, paramFound, lookUpOf, LookFacts};
 ghost use Rattle.sites.specs.Row.{paramsAt, ParamsHold};
 use crate::number::signed;
 use job::dag::PARAMETER_COUNT;

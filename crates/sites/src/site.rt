@@ -6,7 +6,7 @@ ghost use lib.Signed.{ltZ};
 ghost use Rattle.job.specs.Number.{equalZ};
 ghost use Rattle.job.specs.Site as Site;
 ghost use Rattle.job.specs.Site.{gives};
-ghost use Rattle.sites.specs.SiteReplies.{siteReplyOf};
+ghost use Rattle.sites.specs.SiteReply.{siteReplyOf};
 
 pub enum SiteReply {
     Gives(i32),

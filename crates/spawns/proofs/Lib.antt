@@ -1,2 +1,2 @@
 -- Laws of the instructions that make a token.
-pub mod Making
+pub mod Spawning

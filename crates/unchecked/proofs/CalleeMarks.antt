@@ -18,7 +18,7 @@ use Rattle.model.specs.declared.token.Place.{Place}
 use Rattle.model.specs.declared.token.Place.the-variants as places
 use Rattle.job.proofs.Test.{clash}
 use Rattle.demand3.proofs.Unblanked.{rules-clean}
-use Rattle.record.specs.Words.{placeNumber}
+use Rattle.record.specs.Layout.{placeNumber}
 use Rattle.acts.specs.Acting.{Taking, Acting, CallersAreFrames, Gives}
 use Rattle.acts.specs.SharedFrames.{NamesAsCaller, OneCallee, callerShared, returnShared, Stepped}
 use Rattle.acts.proofs.SharedFrames.{blank-names}

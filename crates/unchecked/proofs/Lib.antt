@@ -1,4 +1,4 @@
 -- Laws of the calls that do not test again.
-pub mod Unknown
-pub mod Whole
+pub mod AnswerUnknown
+pub mod WholeCall
 pub mod CalleeMarks

@@ -13,10 +13,10 @@ use Rattle.model.specs.declared.record.Machine.{Machine}
 use Rattle.model.proofs.Sees.Others.{token-same, token-other}
 use Rattle.model.specs.declared.token.Slot.{Slot}
 use Rattle.model.specs.declared.token.Bind.{Bind}
-use Rattle.record.specs.Fields.{dequeued, withBinds}
+use Rattle.record.specs.Changes.{dequeued, withBinds}
 use Rattle.record.specs.Holds.{Holds}
-use Rattle.orders.proofs.Padded.{length-without}
-use Rattle.record.proofs.Shape.{shaped}
+use Rattle.orders.proofs.NamesPadded.{length-without}
+use Rattle.record.proofs.HoldsShape.{shaped}
 use Rattle.record.proofs.TokenRow.{put-self}
 
 -- how long the queue is

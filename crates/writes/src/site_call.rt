@@ -7,9 +7,9 @@ ghost use Rattle.model.specs.Machine.Update.{withNode, withState, withValue, pu
 ghost use Rattle.model.specs.declared.record.Machine.{Machine};
 ghost use Rattle.model.specs.declared.token.Held.{Held};
 ghost use Rattle.model.specs.declared.token.State.the-variants as states;
-ghost use Rattle.record.specs.Fields.{dequeued, delayed};
+ghost use Rattle.record.specs.Changes.{dequeued, delayed};
 ghost use Rattle.record.specs.Holds.{Holds};
-ghost use Rattle.record.specs.Words.{heldKind, heldNumber};
+ghost use Rattle.record.specs.Layout.{heldKind, heldNumber};
 use model::record::Machine;
 use record::count::set_calls_made;
 use record::layout::CALLED_STATE;

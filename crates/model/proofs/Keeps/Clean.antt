@@ -25,7 +25,7 @@ use Rattle.job.proofs.Test.{clash, false-of, and-both}
 use Rattle.model.proofs.Machine.Marks.{Marked, Free, free-inside, marks-same}
 use Rattle.model.proofs.Machine.Reach.{Names}
 use Rattle.model.proofs.Machine.InUse.{CellsIn, TokensUsed, CellsUsed, tokens-used, cells-used, blank-inactive}
-use Rattle.model.proofs.Machine.Kept.{length-kept, kept-marked, kept-free}
+use Rattle.model.proofs.Machine.Blanking.{length-kept, kept-marked, kept-free}
 use Rattle.model.proofs.Machine.Used.{Used, UsedCell, used-fits, used-parent}
 use Rattle.model.proofs.Sees.Others.{token-other}
 use Rattle.model.proofs.Keeps.Facts.{blank-at}

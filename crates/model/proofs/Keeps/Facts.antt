@@ -26,11 +26,11 @@ use Rattle.model.proofs.Machine.Rules.{ready-live}
 use Rattle.job.proofs.Test.{eqb-same, ne-eqb}
 use Rattle.model.proofs.Machine.Marks.{Marked}
 use Rattle.model.proofs.Machine.InUse.{tokens-used}
-use Rattle.model.proofs.Machine.Kept.{length-kept, kept-marked, kept-cases}
+use Rattle.model.proofs.Machine.Blanking.{length-kept, kept-marked, kept-cases}
 use Rattle.model.proofs.Sees.Others.{token-same, token-other}
-use Rattle.model.proofs.Keeps.Lines.{Names, Lines}
+use Rattle.model.proofs.Keeps.NamedOnce.{Names, Lines}
 use Rattle.model.proofs.Keeps.Orders.{Orders}
-use Rattle.model.proofs.Keeps.Tables.{Tables, TokenHolds, Idle, idle-holds, blank-holds, unbound-fit, tables-write, tables-swept}
+use Rattle.model.proofs.Keeps.TableFacts.{Tables, TokenHolds, Idle, idle-holds, blank-holds, unbound-fit, tables-write, tables-swept}
 
 pub record Facts (lim : Limits) (d : Dag) (m : Machine) : Type 0 where
   pub tokenPlaces : length (m .tokens) ≡ lim .tokenPlaces

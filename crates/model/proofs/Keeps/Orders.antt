@@ -13,7 +13,7 @@ use Rattle.model.specs.Machine.Update.{withTables, withOrders, withCount
 use Rattle.model.specs.declared.token.Token.{Token}
 use Rattle.model.specs.declared.cell.Cell.{Cell}
 use Rattle.model.specs.declared.record.Machine.{Machine}
-use Rattle.model.proofs.Keeps.Lines.{Lines, line-names}
+use Rattle.model.proofs.Keeps.NamedOnce.{Lines, line-names}
 
 pub record Orders (m : Machine) (q w : List ℕ) : Type 0 where
   pub queue : m .queue ≡ padded 0 (length (m .tokens)) q

@@ -21,7 +21,7 @@ use Rattle.job.proofs.Test.{clash}
 use Rattle.model.proofs.Machine.Marks.{Marked}
 use Rattle.model.proofs.Machine.Reach.{Names, names-nowhere}
 use Rattle.model.proofs.Machine.InUse.{CellsIn, cells-in-blank, cells-in-map, tokens-used, cells-used}
-use Rattle.model.proofs.Machine.Kept.{kept-cases, length-kept}
+use Rattle.model.proofs.Machine.Blanking.{kept-cases, length-kept}
 
 -- a token names places of Q and cells of R only
 pub record Fits (Q R : ℕ → Type 0) (t : Token) : Type 0 where

@@ -29,9 +29,9 @@ use Rattle.model.specs.declared.reply.Outcome.{Outcome}
 use Rattle.model.proofs.Machine.Refused.{After, after-outcome, StepAccepted, step-accepted, AnswerAccepted, answer-accepted}
 use Rattle.model.proofs.Machine.Rules.{EachRuleHolds, each-rule-holds, names-once, order-names, ready-live}
 use Rattle.model.proofs.Machine.Inside.{inside-put}
-use Rattle.model.proofs.Machine.Writes.{fits-same}
+use Rattle.model.proofs.Machine.WrittenTokens.{fits-same}
 use Rattle.model.proofs.Machine.Used.{Within, Used, used-fits, live-used, inside-old, none-new}
-use Rattle.model.proofs.Machine.Acts.{acted}
+use Rattle.model.proofs.Machine.ActsWithin.{acted}
 
 open-live : (h : ℕ) (s : State) → any (eqb h) (handleOf s) ≡ true → isLive s ≡ true
 unfolding any handleOf isLive

@@ -21,7 +21,7 @@ use Rattle.model.proofs.Machine.Inside.{live-active}
 use Rattle.model.proofs.Machine.Rules.{ready-live}
 use Rattle.model.proofs.Machine.Marks.{Marked}
 use Rattle.model.proofs.Machine.InUse.{tokens-used}
-use Rattle.model.proofs.Machine.Kept.{kept-marked}
+use Rattle.model.proofs.Machine.Blanking.{kept-marked}
 use Rattle.model.proofs.Run.Queue.{QueueRulesHold}
 use Rattle.model.proofs.Run.Chain.{unsetCell, new-cell-clear}
 

@@ -21,8 +21,8 @@ use Rattle.model.specs.Run.Demand3.{Last}
 use Rattle.model.specs.declared.record.Machine.{Machine}
 use Rattle.model.proofs.Run.Passage.{Passage, passage, refused-leaves}
 use Rattle.model.proofs.Run.Survivors.{survivors-bound, fate-stays}
-use Rattle.model.proofs.Run.Passing.{step-stands}
-use Rattle.model.proofs.Run.Answering.{answer-stands}
+use Rattle.model.proofs.Run.StepStands.{step-stands}
+use Rattle.model.proofs.Run.AnswerStands.{answer-stands}
 
 front-acts : (d : Dag) (m : Machine) → fate d m 0 ≡ acts
 unfolding fate

@@ -8,10 +8,10 @@ use Rattle.job.specs.Construct.{construct}
 use Rattle.calculus.specs.Event.{Event}
 use Rattle.calculus.specs.Allowed.{Allowed}
 use Rattle.calculus.specs.Meaning.{meaning}
-use Rattle.simulation.proofs.Machine.{State, Run, startAt}
-use Rattle.model.proofs.Sees.Coded.{abstractOf, goal-coded, bodies-coded}
+use Rattle.simulation.proofs.AbstractMachine.{State, Run, startAt}
+use Rattle.model.proofs.Sees.CodedProgram.{abstractOf, goal-coded, bodies-coded}
 use Rattle.model.proofs.Sees.Closed.{goal-closed}
-use Rattle.simulation.proofs.Whole.{zeros, Stands, start-stands, run-sound}
+use Rattle.simulation.proofs.RunsSound.{zeros, Stands, start-stands, run-sound}
 
 module _ (p : Program) (wf : WellFormed p) where
   -- the first state stands for the goal, which has no variables

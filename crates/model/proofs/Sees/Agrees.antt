@@ -16,11 +16,11 @@ use Rattle.model.specs.declared.token.Token.{Token}
 use Rattle.model.specs.declared.record.Machine.{Machine}
 use Rattle.model.specs.declared.reply.Refusal.{Refusal}
 use Rattle.model.proofs.Machine.Inside.{Fits}
-use Rattle.simulation.proofs.Machine as Abstract
-use Rattle.simulation.proofs.Machine.{Binding, Frame, at, running, Store, makes}
+use Rattle.simulation.proofs.AbstractMachine as Abstract
+use Rattle.simulation.proofs.AbstractMachine.{Binding, Frame, at, running, Store, makes}
 use Rattle.model.proofs.Sees.Labels.{Labels}
 use Rattle.model.proofs.Sees.View.{World, HeldSeen, Unset, PlaceSeen, TokenSeen, sees}
-use Rattle.model.proofs.Sees.Sees.{world, Sees, sees-tables, UsedToken, UsedCell, used-fits, token-used}
+use Rattle.model.proofs.Sees.Seen.{world, Sees, sees-tables, UsedToken, UsedCell, used-fits, token-used}
 use Rattle.model.proofs.Sees.Others.{Others, ends-core, goes-core}
 use Rattle.model.proofs.Sees.Moving.{ready-seen}
 

@@ -11,7 +11,7 @@ use Rattle.job.specs.Node.{Node, Dag, nodeAt, bodyAt}
 use Rattle.job.specs.WellFormed.{GoodParam}
 use Rattle.calculus.specs.Meaning.{paramMeant}
 use Rattle.calculus.specs.Expression.{Exp}
-use Rattle.simulation.proofs.Machine as Abstract
+use Rattle.simulation.proofs.AbstractMachine as Abstract
 
 -- the variables in scope, the innermost binder's first; in how many right sides of prunes of its own body a node stands;
 -- whether a token there has a value; whether it is a definition's

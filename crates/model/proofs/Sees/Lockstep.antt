@@ -42,15 +42,15 @@ use Rattle.model.proofs.Machine.Rules.{EachRuleHolds, each-rule-holds, 
 use Rattle.model.proofs.Machine.Refused.{StepAccepted, step-accepted, AnswerAccepted, answer-accepted}
 use Rattle.model.proofs.Run.Passage.{eventsBy, Passage, passage}
 use Rattle.model.proofs.Run.Queue.{queue-rules-hold, tokens-sized, lasttoken-inside}
-use Rattle.simulation.proofs.Machine as Abstract
-use Rattle.simulation.proofs.Machine.{Binding, Frame, at, Store, state, labelOf, after, Move, startAt}
+use Rattle.simulation.proofs.AbstractMachine as Abstract
+use Rattle.simulation.proofs.AbstractMachine.{Binding, Frame, at, Store, state, labelOf, after, Move, startAt}
 use Rattle.model.proofs.Sees.Labels.{Labels, programOf, Flow}
 use Rattle.model.proofs.Sees.View.{World}
-use Rattle.model.proofs.Sees.Sees.{world, Sees, seenAs, finish-sees}
+use Rattle.model.proofs.Sees.Seen.{world, Sees, seenAs, finish-sees}
 use Rattle.model.proofs.Sees.Agrees.{Acting, Shows, Agrees}
-use Rattle.model.proofs.Sees.Acts.{Taken, taken, take-ready, act-agrees}
-use Rattle.model.proofs.Sees.Answering.{holder-called, Pending, pending, find-pending, answered-becomes}
-use Rattle.model.proofs.Sees.Begin.{start-sees}
+use Rattle.model.proofs.Sees.ActsAgree.{Taken, taken, take-ready, act-agrees}
+use Rattle.model.proofs.Sees.AnswerAgrees.{holder-called, Pending, pending, find-pending, answered-becomes}
+use Rattle.model.proofs.Sees.StartSeen.{start-sees}
 
 -- tables at least as large as the limits
 pub record Fitting (lim : Limits) : Type 0 where

@@ -20,8 +20,8 @@ use Rattle.model.specs.declared.token.State.the-variants as states
 use Rattle.model.specs.declared.token.Token.{Token}
 use Rattle.job.proofs.Test.{clash}
 use Rattle.model.proofs.Machine.Inside.{Fits}
-use Rattle.simulation.proofs.Machine as Abstract
-use Rattle.simulation.proofs.Machine.{Binding, Frame, running}
+use Rattle.simulation.proofs.AbstractMachine as Abstract
+use Rattle.simulation.proofs.AbstractMachine.{Binding, Frame, running}
 use Rattle.model.proofs.Sees.Labels.{Labels, Fresh, Follows}
 use Rattle.model.proofs.Sees.View.{World, Nested, cellsOfCaller, HeldSeen, absent, present, StateSeen, ready, CellsSeen, BindingSeen}
 use Rattle.model.proofs.Sees.View.{SlotsSeen, FramesSeen, PlaceSeen}

@@ -20,12 +20,12 @@ use Rattle.model.specs.declared.cell.Cell.{Cell}
 use Rattle.job.proofs.Test.{clash, false-of, eqb-eq, eqb-same, ne-eqb}
 use Rattle.model.proofs.Machine.Marks.{Free, free-inside}
 use Rattle.model.proofs.Machine.Inside.{Fits}
-use Rattle.simulation.proofs.Machine as Abstract
+use Rattle.simulation.proofs.AbstractMachine as Abstract
 use Rattle.simulation.proofs.Shuffle.{Split, first, later}
 use Rattle.model.proofs.Sees.Labels.{Labels}
 use Rattle.model.proofs.Sees.View.{World, CellSeen, TokenSeen, TokensSeen, nobody, also, Kept, token-keep, tokens-map, tokens-append}
-use Rattle.model.proofs.Sees.Sees.{Core, token-live, live-inside, UsedToken, UsedCell, tokens-of, used-fits, used-closed, token-used}
-use Rattle.model.proofs.Sees.Sees.{token-at}
+use Rattle.model.proofs.Sees.Seen.{Core, token-live, live-inside, UsedToken, UsedCell, tokens-of, used-fits, used-closed, token-used}
+use Rattle.model.proofs.Sees.Seen.{token-at}
 
 pub count-append : (r : ℕ) (A B : List ℕ) → count r (A ++ B) ≡ count r A + count r B
 unfolding count

@@ -25,7 +25,7 @@ use Rattle.model.specs.declared.token.Bind.{Bind}
 use Rattle.model.specs.declared.token.Held.{Held}
 use Rattle.model.specs.declared.token.Held.the-variants as helds
 use Rattle.job.proofs.Test.{eqb-eq, eqb-ne}
-use Rattle.simulation.proofs.Machine.{Binding, bindingAt, named, valueIn, inFront, valuesIn}
+use Rattle.simulation.proofs.AbstractMachine.{Binding, bindingAt, named, valueIn, inFront, valuesIn}
 use Rattle.simulation.proofs.Store.{_∈_}
 use Rattle.calculus.specs.Expression as Calculus
 use Rattle.model.proofs.Sees.Labels.{Fresh}

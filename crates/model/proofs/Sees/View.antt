@@ -24,8 +24,8 @@ use Rattle.model.specs.declared.cell.Cell.{Cell}
 use Rattle.job.proofs.Test.{eqb-same}
 use Rattle.model.proofs.Machine.Reach.{Names}
 use Rattle.model.proofs.Machine.Inside.{Fits}
-use Rattle.simulation.proofs.Machine as Abstract
-use Rattle.simulation.proofs.Machine.{Binding, Frame, frame, at, running, Store}
+use Rattle.simulation.proofs.AbstractMachine as Abstract
+use Rattle.simulation.proofs.AbstractMachine.{Binding, Frame, frame, at, running, Store}
 use Rattle.simulation.proofs.Store.{_∈_}
 use Rattle.model.proofs.Sees.Labels.{Labels, Fresh}
 

@@ -1,9 +1,9 @@
 -- `choke::choke_cell` meets its contract: each way out is how the definition's step ends there. Assumes nothing.
 use Rattle.acts.proofs.Vacancy.{free-token, choke-vacant}
-use Rattle.acts.proofs.Ending.{choke-cell}
-use Rattle.acts.proofs.Instructions.{choke-step}
+use Rattle.acts.proofs.EndRebind.{choke-cell}
+use Rattle.acts.proofs.StepAtNode.{choke-step}
 use Rattle.acts.proofs.Outcomes.{token-inside, gives-swept}
-use Rattle.sites.proofs.Facts.{room}
+use Rattle.sites.proofs.RuleFacts.{room}
 use Rattle.model.specs.declared.reply.Reply.the-variants as replies
 use Rattle.model.specs.Machine.Blank.{tokenAt}
 use mathlib.Core.Path.{sym, _∙_}

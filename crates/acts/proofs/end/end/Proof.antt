@@ -1,5 +1,5 @@
 -- `end::end` meets its contract: each way out is how the definition's step ends there. Assumes nothing.
-use Rattle.acts.proofs.Ending.{end-vacant, end-gives}
+use Rattle.acts.proofs.EndRebind.{end-vacant, end-gives}
 use Rattle.acts.proofs.Outcomes.{gives-swept}
 use mathlib.Core.Path.{refl}
 use borrow.Author.Needs.{needs}

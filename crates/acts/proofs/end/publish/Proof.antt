@@ -1,10 +1,10 @@
 -- `end::publish` meets its contract: each way out is how the definition's step ends there. Assumes nothing.
-use Rattle.acts.proofs.Ending.{publish-reply, reply-as}
+use Rattle.acts.proofs.EndRebind.{publish-reply, reply-as}
 use mir.Syntax.{w32}
 use mir.Val.{SFits}
 use mir.Facts.{toZ-ofZ}
-use Rattle.acts.proofs.Ending.{gives-as, value-range}
-use Rattle.acts.proofs.Instructions.{publish-step}
+use Rattle.acts.proofs.EndRebind.{gives-as, value-range}
+use Rattle.acts.proofs.StepAtNode.{publish-step}
 use Rattle.acts.proofs.Outcomes.{token-inside}
 use borrow.Author.Needs.{needs}
 use Rattle.acts.proofs.end.publish.Statement.{statement}

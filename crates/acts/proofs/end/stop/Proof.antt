@@ -1,6 +1,6 @@
 -- `end::stop` meets its contract: each way out is how the definition's step ends there. Assumes nothing.
-use Rattle.acts.proofs.Ending.{gives-as}
-use Rattle.acts.proofs.Instructions.{stop-step}
+use Rattle.acts.proofs.EndRebind.{gives-as}
+use Rattle.acts.proofs.StepAtNode.{stop-step}
 use Rattle.acts.proofs.Outcomes.{token-inside}
 use Rattle.acts.proofs.end.stop.Statement.{statement}
 use Rattle.acts.proofs.end.stop.Tie as tie

@@ -1,5 +1,5 @@
 -- `links::binds_cell` meets its contract: each way out is how the definition's step ends there. Assumes nothing.
-use Rattle.acts.proofs.Ending.{NoCellBelow, no-cell-more, no-cell-all, no-cell}
+use Rattle.acts.proofs.EndRebind.{NoCellBelow, no-cell-more, no-cell-all, no-cell}
 use Rattle.record.specs.Holds.{Codes}
 use Rattle.job.proofs.Test.{clash}
 use Rattle.model.specs.declared.record.Machine.{Machine}

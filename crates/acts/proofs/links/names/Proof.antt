@@ -1,5 +1,5 @@
 -- `links::names` meets its contract: each way out is how the definition's step ends there. Assumes nothing.
-use Rattle.acts.proofs.Ending.{no-place}
+use Rattle.acts.proofs.EndRebind.{no-place}
 use Rattle.job.proofs.Test.{clash}
 use mathlib.Core.Path.{refl}
 use borrow.Author.Needs.{needs}

@@ -1,7 +1,7 @@
 -- `rebind::assign` meets its contract: each way out is how the definition's step ends there. Assumes nothing.
-use Rattle.acts.proofs.Ending.{gives-as, rebound-as, value-bits, value-no-cell}
-use Rattle.acts.proofs.Instructions.{assign-step}
-use Rattle.sites.proofs.Rows.{assign-numbers}
+use Rattle.acts.proofs.EndRebind.{gives-as, rebound-as, value-bits, value-no-cell}
+use Rattle.acts.proofs.StepAtNode.{assign-step}
+use Rattle.sites.proofs.RowKinds.{assign-numbers}
 use Rattle.acts.proofs.Outcomes.{row, row-fits, token-inside}
 use Rattle.model.specs.Machine.Blank.{tokenAt}
 use Rattle.model.specs.Machine.Step.{valueOf}

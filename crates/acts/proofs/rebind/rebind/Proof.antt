@@ -1,5 +1,5 @@
 -- `rebind::rebind` meets its contract: each way out is how the definition's step ends there. Assumes nothing.
-use Rattle.acts.proofs.Ending.{rebind-vacant, rebind-gives, no-cell}
+use Rattle.acts.proofs.EndRebind.{rebind-vacant, rebind-gives, no-cell}
 use Rattle.acts.proofs.Outcomes.{gives-swept}
 use Rattle.model.specs.declared.reply.Reply.the-variants as replies
 use mathlib.Core.Path.{refl}

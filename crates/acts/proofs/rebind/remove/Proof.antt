@@ -1,7 +1,7 @@
 -- `rebind::remove` meets its contract: each way out is how the definition's step ends there. Assumes nothing.
-use Rattle.acts.proofs.Ending.{gives-as, rebound-as, empty-no-cell}
-use Rattle.acts.proofs.Instructions.{remove-step}
-use Rattle.sites.proofs.Rows.{remove-numbers}
+use Rattle.acts.proofs.EndRebind.{gives-as, rebound-as, empty-no-cell}
+use Rattle.acts.proofs.StepAtNode.{remove-step}
+use Rattle.sites.proofs.RowKinds.{remove-numbers}
 use Rattle.acts.proofs.Outcomes.{row, row-fits, token-inside}
 use Rattle.model.specs.declared.token.Slot.the-variants as slots
 use mathlib.Core.Path.{refl, sym, _∙_}

@@ -1,9 +1,9 @@
 -- `site_call::built_in` meets its contract: each way out is how the definition's step ends there. Assumes nothing.
-use Rattle.calls.proofs.Calling.{replied-by}
-use Rattle.acts.proofs.Ending.{gives-as}
-use Rattle.calls.proofs.Calling.{reply-gives, says, silent-ends}
+use Rattle.calls.proofs.SiteCall.{replied-by}
+use Rattle.acts.proofs.EndRebind.{gives-as}
+use Rattle.calls.proofs.SiteCall.{reply-gives, says, silent-ends}
 use Rattle.acts.proofs.Outcomes.{row-fits, token-inside}
-use Rattle.sites.proofs.Calls.{reply-back}
+use Rattle.sites.proofs.SiteCalls.{reply-back}
 use Rattle.model.specs.declared.token.Held.the-variants as helds
 use Rattle.job.specs.Site.{gives, silent}
 use mir.Syntax.{w32}

@@ -1,7 +1,7 @@
 -- `site_call::outside` meets its contract: each way out is how the definition's step ends there. Assumes nothing.
-use Rattle.calls.proofs.Calling.{call-gives, calls-out, calls-no-more, values-count}
+use Rattle.calls.proofs.SiteCall.{call-gives, calls-out, calls-no-more, values-count}
 use Rattle.acts.proofs.Outcomes.{row, row-fits, token-inside, gives-refused}
-use Rattle.sites.proofs.Rows.{site-number, site-params}
+use Rattle.sites.proofs.RowKinds.{site-number, site-params}
 use Rattle.model.specs.declared.reply.Refusal.the-variants as refusals
 use mathlib.Core.Path.{refl, _∙_}
 use native.Mathlib.Omega.{arith}

@@ -1,9 +1,9 @@
 -- `site_call::site_call` meets its contract: each way out is how the definition's step ends there. Assumes nothing.
-use Rattle.calls.proofs.Calling.{wait-gives, waits-at, values-of}
+use Rattle.calls.proofs.SiteCall.{wait-gives, waits-at, values-of}
 use Rattle.acts.proofs.Outcomes.{row, row-fits, token-inside}
-use Rattle.sites.proofs.LookUps.{look-waits}
-use Rattle.sites.proofs.Facts.{look-facts, waits-room}
-use Rattle.sites.proofs.Rows.{site-params}
+use Rattle.sites.proofs.Look.{look-waits}
+use Rattle.sites.proofs.RuleFacts.{look-facts, waits-room}
+use Rattle.sites.proofs.RowKinds.{site-params}
 use native.Mathlib.Omega.{arith}
 use borrow.Author.Needs.{needs}
 use Rattle.calls.proofs.site_call.site_call.Statement.{statement}

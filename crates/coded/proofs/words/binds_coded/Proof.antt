@@ -3,7 +3,7 @@ use mathlib.Core.Path.{_≡_, ap}
 use Prim.Native.Nat.{_+_, _*_, _-_, _≤_}
 use native.Mathlib.Omega.{arith}
 use lib.ListN.{drop}
-use Rattle.coded.proofs.Testing.{slots-on, slots-fail, slots-end}
+use Rattle.coded.proofs.WordTests.{slots-on, slots-fail, slots-end}
 use Rattle.coded.specs.WordTests.{bindsCoded}
 use borrow.Author.Needs.{needs}
 use Rattle.coded.proofs.words.binds_coded.Statement.{statement}

@@ -1,5 +1,5 @@
 -- `words::cell_row_coded` meets its contract: the value, then the word that is always 0. Assumes nothing.
-use Rattle.coded.proofs.Testing.{cell-rest, cell-held}
+use Rattle.coded.proofs.WordTests.{cell-rest, cell-held}
 use borrow.Author.Needs.{needs}
 use Rattle.coded.proofs.words.cell_row_coded.Statement.{statement}
 use Rattle.coded.proofs.words.cell_row_coded.Tie as tie

@@ -1,5 +1,5 @@
 -- `words::held_coded` meets its contract: kind by kind. Assumes nothing.
-use Rattle.coded.proofs.Testing.{held-none, held-some}
+use Rattle.coded.proofs.WordTests.{held-none, held-some}
 use borrow.Author.Needs.{needs}
 use Rattle.coded.proofs.words.held_coded.Statement.{statement}
 use Rattle.coded.proofs.words.held_coded.Tie as tie

@@ -3,8 +3,8 @@
 use mathlib.Core.Path.{refl, sym, _∙_}
 use native.Mathlib.Omega.{arith}
 use Rattle.job.proofs.Test.{clash}
-use Rattle.coded.proofs.Coding.{coded-record, record-codes}
-use Rattle.coded.proofs.Testing.{all-coded, not-coded}
+use Rattle.coded.proofs.IsRecord.{coded-record, record-codes}
+use Rattle.coded.proofs.WordTests.{all-coded, not-coded}
 use borrow.Author.Needs.{needs}
 use Rattle.coded.proofs.words.is_coded.Statement.{statement}
 use Rattle.coded.proofs.words.is_coded.Tie as tie

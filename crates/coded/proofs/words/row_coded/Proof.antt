@@ -1,5 +1,5 @@
 -- `words::row_coded` meets its contract: field by field. Assumes nothing.
-use Rattle.coded.proofs.Testing.{row-rest, row-spare, row-held, row-state}
+use Rattle.coded.proofs.WordTests.{row-rest, row-spare, row-held, row-state}
 use borrow.Author.Needs.{needs}
 use Rattle.coded.proofs.words.row_coded.Statement.{statement}
 use Rattle.coded.proofs.words.row_coded.Tie as tie

@@ -4,7 +4,7 @@ use Prim.Native.Nat.{_*_, _-_, _≤_}
 use native.Mathlib.Omega.{arith}
 use lib.ListN.{drop}
 use Rattle.coded.specs.WordTests.{tableCoded, rowCoded}
-use Rattle.coded.proofs.Testing.{table-on, table-fail, table-end}
+use Rattle.coded.proofs.WordTests.{table-on, table-fail, table-end}
 use borrow.Author.Needs.{needs}
 use Rattle.coded.proofs.words.rows_coded.Statement.{statement}
 use Rattle.coded.proofs.words.rows_coded.Tie as tie

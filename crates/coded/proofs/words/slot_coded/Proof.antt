@@ -1,5 +1,5 @@
 -- `words::slot_coded` meets its contract: kind by kind. Assumes nothing.
-use Rattle.coded.proofs.Testing.{slot-none, slot-some}
+use Rattle.coded.proofs.WordTests.{slot-none, slot-some}
 use borrow.Author.Needs.{needs}
 use Rattle.coded.proofs.words.slot_coded.Statement.{statement}
 use Rattle.coded.proofs.words.slot_coded.Tie as tie

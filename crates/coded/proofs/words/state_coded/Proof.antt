@@ -1,5 +1,5 @@
 -- `words::state_coded` meets its contract: kind by kind. Assumes nothing.
-use Rattle.coded.proofs.Testing.{state-plain, state-never}
+use Rattle.coded.proofs.WordTests.{state-plain, state-never}
 use borrow.Author.Needs.{needs}
 use Rattle.coded.proofs.words.state_coded.Statement.{statement}
 use Rattle.coded.proofs.words.state_coded.Tie as tie

@@ -1,7 +1,7 @@
 -- `words::whole` meets its contract: there are 1,797 words, and each has 32 bits. Assumes nothing.
 use native.Mathlib.Omega.{arith}
-use Rattle.coded.proofs.Coding.{record-codes}
-use Rattle.coded.proofs.Rows.{all-coded-record}
+use Rattle.coded.proofs.IsRecord.{record-codes}
+use Rattle.coded.proofs.IsRecordRows.{all-coded-record}
 use borrow.Author.Needs.{needs}
 use Rattle.coded.proofs.words.whole.Statement.{statement}
 use Rattle.coded.proofs.words.whole.Tie as tie

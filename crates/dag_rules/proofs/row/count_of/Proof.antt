@@ -1,8 +1,8 @@
 -- `row::count_of` meets its contract, kind by kind. Assumes nothing.
 use mathlib.Core.Path.{sym}
-use Rattle.dag_rules.specs.NodeWordRules.{countOf}
+use Rattle.dag_rules.specs.NodeWords.{countOf}
 use Rattle.job.proofs.Both.{NoneBelow, none-below}
-use Rattle.dag_rules.proofs.Rows.{count-past}
+use Rattle.dag_rules.proofs.NodeWords.{count-past}
 use Rattle.dag_rules.proofs.row.count_of.Statement.{statement}
 use Rattle.dag_rules.proofs.row.count_of.Tie as tie
 

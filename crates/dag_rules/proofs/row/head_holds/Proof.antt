@@ -1,8 +1,8 @@
 -- `row::head_holds` meets its contract, kind by kind. Assumes nothing.
 use mathlib.Core.Path.{sym}
-use Rattle.dag_rules.specs.NodeWordRules.{headHolds}
+use Rattle.dag_rules.specs.NodeWords.{headHolds}
 use Rattle.job.proofs.Both.{both-is, three-are, NoneBelow, none-below}
-use Rattle.dag_rules.proofs.Rows.{head-past}
+use Rattle.dag_rules.proofs.NodeWords.{head-past}
 use borrow.Author.Needs.{needs}
 use Rattle.dag_rules.proofs.row.head_holds.Statement.{statement}
 use Rattle.dag_rules.proofs.row.head_holds.Tie as tie

@@ -1,7 +1,7 @@
 -- `row::pair_holds` meets its contract: the words are those of a parameter, or 0. Assumes nothing.
 use mathlib.Core.Path.{sym}
 use Rattle.job.proofs.Both.{both-is, either-is}
-use Rattle.dag_rules.proofs.Rows.{pair-named, pair-unnamed}
+use Rattle.dag_rules.proofs.NodeWords.{pair-named, pair-unnamed}
 use Rattle.dag_rules.proofs.row.pair_holds.Statement.{statement}
 use Rattle.dag_rules.proofs.row.pair_holds.Tie as tie
 

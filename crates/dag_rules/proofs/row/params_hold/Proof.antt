@@ -1,7 +1,7 @@
 -- `row::params_hold` meets its contract, pair by pair. Assumes nothing.
 use mathlib.Core.Path.{sym, _∙_}
 use Rattle.job.proofs.Both.{four}
-use Rattle.dag_rules.proofs.Rows.{params-are}
+use Rattle.dag_rules.proofs.NodeWords.{params-are}
 use borrow.Author.Needs.{needs}
 use Rattle.dag_rules.proofs.row.params_hold.Statement.{statement}
 use Rattle.dag_rules.proofs.row.params_hold.Tie as tie

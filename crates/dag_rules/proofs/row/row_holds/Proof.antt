@@ -1,7 +1,7 @@
 -- `row::row_holds` meets its contract: the head and the parameters' words. Assumes nothing.
 use mathlib.Core.Path.{ap, _∙_}
 use lib.ListN.{drop}
-use Rattle.dag_rules.specs.NodeWordRules.{rowHolds, paramWordsHold}
+use Rattle.dag_rules.specs.NodeWords.{rowHolds, paramWordsHold}
 use Rattle.job.proofs.Both.{both}
 use borrow.Author.Needs.{needs}
 use Rattle.dag_rules.proofs.row.row_holds.Statement.{statement}

@@ -2,7 +2,7 @@
 use mathlib.Core.Bool.{false}
 use borrow.Author.Needs.{needs}
 use lib.ListN.{replicate}
-use Rattle.house.proofs.Lent.{lawful-start, started-callees}
+use Rattle.house.proofs.HouseLent.{lawful-start, started-callees}
 use Rattle.house.proofs.house.run.Statement.{statement}
 use Rattle.house.proofs.house.run.Tie as tie
 

@@ -12,7 +12,7 @@ use Rattle.lines.proofs.Telling.{tells-refusal}
 use Rattle.model.specs.declared.reply.Refusal.the-variants as refusals
 use Rattle.turns.proofs.TurnCases.{over-empty}
 use Rattle.turns.proofs.TurnGives.{turn-answers}
-use Rattle.house.proofs.Turning.{silent, turned-shows, by-handle}
+use Rattle.house.proofs.TurnReport.{silent, turned-shows, by-handle}
 use Rattle.house.proofs.turn.deliver_turn.Statement.{statement}
 use Rattle.house.proofs.turn.deliver_turn.Tie as tie
 

@@ -5,7 +5,7 @@ use native.Mathlib.Omega.{arith}
 use Rattle.lines.proofs.Showing.{shows-none, shows-as}
 use Rattle.turns.proofs.TurnCases.{over-ready}
 use Rattle.turns.proofs.TurnGives.{turn-steps}
-use Rattle.house.proofs.Turning.{silent, turned-shows}
+use Rattle.house.proofs.TurnReport.{silent, turned-shows}
 use Rattle.house.proofs.turn.step_turn.Statement.{statement}
 use Rattle.house.proofs.turn.step_turn.Tie as tie
 

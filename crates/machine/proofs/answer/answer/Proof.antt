@@ -1,5 +1,5 @@
 -- `answer::answer` meets its contract: each way out is how the definition's call ends there. Assumes nothing.
-use Rattle.machine.proofs.Giving.{denied, granted, answer-rule, answer-gives}
+use Rattle.machine.proofs.PublicCalls.{denied, granted, answer-rule, answer-gives}
 use mir.Syntax.{w32}
 use mir.Val.{SFits}
 use mir.Facts.{toZ-ofZ}

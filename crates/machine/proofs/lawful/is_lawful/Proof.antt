@@ -1,6 +1,6 @@
 -- `lawful::is_lawful` meets its contract: the marks are those of the record that the words are, if they are one. Assumes nothing.
-use Rattle.machine.proofs.Giving.{both-tested}
-use Rattle.record.proofs.Ruled.{rules-hold-words}
+use Rattle.machine.proofs.PublicCalls.{both-tested}
+use Rattle.record.proofs.HoldsRuled.{rules-hold-words}
 use Rattle.model.specs.Machine.Limits.{paper}
 use mathlib.Core.Path.{sym, _∙_}
 use borrow.Author.Needs.{needs}

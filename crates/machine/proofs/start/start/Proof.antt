@@ -1,5 +1,5 @@
 -- `start::start` meets its contract: each way out is how the definition's call ends there. Assumes nothing.
-use Rattle.machine.proofs.Giving.{start-gave, start-refused}
+use Rattle.machine.proofs.PublicCalls.{start-gave, start-refused}
 use mathlib.Core.Path.{refl, sym, _∙_}
 use borrow.Author.Needs.{needs}
 use Rattle.machine.proofs.start.start.Statement.{statement}

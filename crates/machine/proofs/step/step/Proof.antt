@@ -1,5 +1,5 @@
 -- `step::step` meets its contract: each way out is how the definition's call ends there. Assumes nothing.
-use Rattle.machine.proofs.Giving.{denied, granted, step-rule, step-gives, step-no-token}
+use Rattle.machine.proofs.PublicCalls.{denied, granted, step-rule, step-gives, step-no-token}
 use native.Mathlib.Omega.{arith}
 use Rattle.acts.proofs.SharedFrames.{all-shared}
 use borrow.Author.Needs.{needs}

@@ -5,7 +5,7 @@ use Prim.Native.Nat.{_≤_, _-_}
 use native.Mathlib.Omega.{arith}
 use lib.ListN.{length, drop}
 use lib.Seq.{drop-set-lt}
-use Rattle.orders.proofs.Padded.{Carries, carries-first, carries-next, carries-last}
+use Rattle.orders.proofs.NamesPadded.{Carries, carries-first, carries-next, carries-last}
 use borrow.Author.Needs.{needs}
 use Rattle.orders.proofs.names.left_out.Statement.{statement}
 use Rattle.orders.proofs.names.left_out.Tie as tie

@@ -4,7 +4,7 @@ use borrow.Author.Needs.{needs}
 use native.Mathlib.Omega.{arith}
 use Prim.Native.Nat.{_-_}
 use lib.ListN.{length-set}
-use Rattle.orders.proofs.Retaining.{TurnLeaves, turned-first, turned-drops, turned-keeps, retained-all}
+use Rattle.orders.proofs.NamesRetained.{TurnLeaves, turned-first, turned-drops, turned-keeps, retained-all}
 use Rattle.orders.proofs.names.retained.Statement.{statement}
 use Rattle.orders.proofs.names.retained.Tie as tie
 

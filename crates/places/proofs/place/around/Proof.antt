@@ -1,6 +1,6 @@
 -- `place::around` meets its contract, by cases. Assumes nothing.
 use borrow.Author.Needs.{needs}
-use Rattle.places.proofs.Placing.{around-inside, around-outside}
+use Rattle.places.proofs.PlaceSearch.{around-inside, around-outside}
 use Rattle.places.proofs.place.around.Statement.{statement}
 use Rattle.places.proofs.place.around.Tie as tie
 

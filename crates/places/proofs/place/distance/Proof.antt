@@ -1,8 +1,8 @@
 -- `place::distance` meets its contract, by cases. Assumes nothing.
 use borrow.Author.Needs.{needs}
 use native.Mathlib.Omega.{arith}
-use Rattle.reach.proofs.Weights.{byte-small}
-use Rattle.places.proofs.Nearest.{mark-true, mark-false}
+use Rattle.reach.proofs.MarksEnd.{byte-small}
+use Rattle.places.proofs.PlaceNearest.{mark-true, mark-false}
 use Rattle.places.proofs.place.distance.Statement.{statement}
 use Rattle.places.proofs.place.distance.Tie as tie
 

@@ -3,7 +3,7 @@
 use mathlib.Core.Logic.{⊎-elim}
 use Prim.Native.Nat.{_-_, _≤_}
 use borrow.Author.Needs.{needs}
-use Rattle.places.proofs.Nearest.{Nearest, nearest-none, nearest-taken, nearest-passed, nearest-full, nearest-place}
+use Rattle.places.proofs.PlaceNearest.{Nearest, nearest-none, nearest-taken, nearest-passed, nearest-full, nearest-place}
 use Rattle.places.proofs.place.nearest.Statement.{statement}
 use Rattle.places.proofs.place.nearest.Tie as tie
 

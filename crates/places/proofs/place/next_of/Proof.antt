@@ -3,7 +3,7 @@ use mathlib.Core.Path.{_≡_}
 use Prim.Native.Nat.{_-_, _≤_}
 use borrow.Author.Needs.{needs}
 use Rattle.reach.specs.Marks.{nextOr}
-use Rattle.places.proofs.Placing.{seek, place-first, place-none, place-found, place-next}
+use Rattle.places.proofs.PlaceSearch.{seek, place-first, place-none, place-found, place-next}
 use Rattle.places.proofs.place.next_of.Statement.{statement}
 use Rattle.places.proofs.place.next_of.Tie as tie
 

@@ -1,7 +1,7 @@
 -- `place::next_token` meets its contract: one of the next two places, or the nearest. Assumes nothing.
 use borrow.Author.Needs.{needs}
 use native.Mathlib.Omega.{arith}
-use Rattle.places.proofs.Placing.{place-one, place-two}
+use Rattle.places.proofs.PlaceSearch.{place-one, place-two}
 use Rattle.places.proofs.place.next_token.Statement.{statement}
 use Rattle.places.proofs.place.next_token.Tie as tie
 

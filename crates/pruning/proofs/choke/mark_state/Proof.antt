@@ -9,10 +9,10 @@ use lib.ListN.{replicate}
 use Rattle.model.specs.Machine.Blank.{blankToken, tokenAt}
 use Rattle.model.specs.declared.record.Machine.{Machine}
 use Rattle.model.specs.declared.token.Token.{Token}
-use Rattle.record.specs.Words.{stateKind}
+use Rattle.record.specs.Layout.{stateKind}
 use Rattle.record.specs.Holds.{Codes}
-use Rattle.sites.proofs.Tables.{Mapping, mapping-none, mapping-more}
-use Rattle.pruning.proofs.Chokes.{kinds-rest}
+use Rattle.sites.proofs.TableLoops.{Mapping, mapping-none, mapping-more}
+use Rattle.pruning.proofs.Choke.{kinds-rest}
 use Rattle.pruning.proofs.choke.mark_state.Statement.{statement}
 use Rattle.pruning.proofs.choke.mark_state.Tie as tie
 

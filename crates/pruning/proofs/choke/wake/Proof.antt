@@ -7,10 +7,10 @@ use native.Mathlib.Omega.{arith}
 use lib.ListN.{take}
 use Rattle.model.specs.declared.record.Machine.{Machine}
 use Rattle.model.specs.Machine.Update.{withOrders, queueOf, waitsOf}
-use Rattle.record.proofs.Shape.{waits-fit}
-use Rattle.orders.specs.Retaining.{markedOf}
+use Rattle.record.proofs.HoldsShape.{waits-fit}
+use Rattle.orders.specs.NamesRetained.{markedOf}
 use Rattle.record.specs.Holds.{Holds}
-use Rattle.pruning.proofs.Chokes.{woken, woken-none, woken-all, woken-room, woken-more}
+use Rattle.pruning.proofs.Choke.{woken, woken-none, woken-all, woken-room, woken-more}
 use Rattle.pruning.proofs.choke.wake.Statement.{statement}
 use Rattle.pruning.proofs.choke.wake.Tie as tie
 

@@ -1,7 +1,7 @@
 -- `mark::active` meets its contract: the state's number says whether the token is live, and then its cell decides. Assumes nothing.
 use mathlib.Core.Path.{_∙_}
 use borrow.Author.Needs.{needs}
-use Rattle.reach.proofs.Climbing.{not-blank, not-frame, by-cell}
+use Rattle.reach.proofs.UnderSet.{not-blank, not-frame, by-cell}
 use Rattle.reach.proofs.mark.active.Statement.{statement}
 use Rattle.reach.proofs.mark.active.Tie as tie
 

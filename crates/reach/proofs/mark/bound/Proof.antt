@@ -1,7 +1,7 @@
 -- `mark::bound` meets its contract, by the kind of the binding. Assumes nothing.
 use mathlib.Core.Path.{_∙_}
 use borrow.Author.Needs.{needs}
-use Rattle.reach.proofs.Marking.{bound-none, bound-cell}
+use Rattle.reach.proofs.UsedMarking.{bound-none, bound-cell}
 use Rattle.reach.proofs.mark.bound.Statement.{statement}
 use Rattle.reach.proofs.mark.bound.Tie as tie
 

@@ -1,7 +1,7 @@
 -- `mark::mark_active` meets its contract, by the answer whether the token is active. Assumes nothing.
 use mathlib.Core.Path.{_∙_}
 use borrow.Author.Needs.{needs}
-use Rattle.reach.proofs.Marking.{active-marks, inactive-marks}
+use Rattle.reach.proofs.UsedMarking.{active-marks, inactive-marks}
 use Rattle.reach.proofs.mark.mark_active.Statement.{statement}
 use Rattle.reach.proofs.mark.mark_active.Tie as tie
 

@@ -1,7 +1,7 @@
 -- `mark::mark_held` meets its contract, by cases. Assumes nothing.
 use mathlib.Core.Path.{_∙_}
 use borrow.Author.Needs.{needs}
-use Rattle.reach.proofs.Marking.{held-marks, idle-marks}
+use Rattle.reach.proofs.UsedMarking.{held-marks, idle-marks}
 use Rattle.reach.proofs.mark.mark_held.Statement.{statement}
 use Rattle.reach.proofs.mark.mark_held.Tie as tie
 

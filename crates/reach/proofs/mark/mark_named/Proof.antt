@@ -9,7 +9,7 @@ use Rattle.model.specs.Machine.InUse.{boundCell}
 use Rattle.model.specs.declared.record.Machine.{Machine}
 use Rattle.record.specs.Holds.{Codes}
 use Rattle.reach.specs.Marks.{cellsMarked}
-use Rattle.reach.proofs.Marking.{named-first, named-next, named-last}
+use Rattle.reach.proofs.UsedMarking.{named-first, named-next, named-last}
 use Rattle.reach.proofs.mark.mark_named.Statement.{statement}
 use Rattle.reach.proofs.mark.mark_named.Tie as tie
 

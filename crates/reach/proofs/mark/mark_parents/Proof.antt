@@ -6,10 +6,10 @@ use lib.ListN.{length, length-set}
 use Rattle.model.specs.Machine.Blank.{blankCell, cellAt}
 use Rattle.model.specs.declared.cell.Cell.{Cell}
 use Rattle.model.specs.declared.record.Machine.{Machine}
-use Rattle.record.specs.Decode.{placeFrom}
+use Rattle.record.specs.LayoutDecoded.{placeFrom}
 use Rattle.record.specs.Holds.{Codes}
 use Rattle.reach.specs.Marks.{parentsMarked}
-use Rattle.reach.proofs.Chains.{walk, chain-ends, chain-outside, chain-met, chain-on, chain-over}
+use Rattle.reach.proofs.MarkChain.{walk, chain-ends, chain-outside, chain-met, chain-on, chain-over}
 use Rattle.reach.proofs.mark.mark_parents.Statement.{statement}
 use Rattle.reach.proofs.mark.mark_parents.Tie as tie
 

@@ -4,7 +4,7 @@ use mathlib.Core.Path.{sym, _≡_, refl}
 use Prim.Native.Nat.{_-_, _≤_}
 use borrow.Author.Needs.{needs}
 use lib.ListN.{getD-replicate, length, take, replicate, length-set, length-replicate}
-use Rattle.reach.proofs.Lists.{fill-more, fill-all}
+use Rattle.reach.proofs.ListLoops.{fill-more, fill-all}
 use Rattle.reach.proofs.marks.clear.Statement.{statement}
 use Rattle.reach.proofs.marks.clear.Tie as tie
 

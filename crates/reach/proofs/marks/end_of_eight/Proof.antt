@@ -1,6 +1,6 @@
 -- `marks::end_of_eight` meets its contract: the number is compared with powers of 256. Assumes nothing.
 use native.Mathlib.Omega.{arith}
-use Rattle.reach.proofs.Weights.{unmarked-light}
+use Rattle.reach.proofs.MarksEnd.{unmarked-light}
 use Rattle.reach.proofs.marks.end_of_eight.Statement.{statement}
 use Rattle.reach.proofs.marks.end_of_eight.Tie as tie
 

@@ -1,7 +1,7 @@
 -- `marks::first_eight` meets its contract: its two numbers of four marks are one of eight. Assumes nothing.
 use borrow.Author.Needs.{needs}
 use native.Mathlib.Omega.{arith}
-use Rattle.reach.proofs.Weights.{eight-weight}
+use Rattle.reach.proofs.MarksEnd.{eight-weight}
 use Rattle.reach.proofs.marks.first_eight.Statement.{statement}
 use Rattle.reach.proofs.marks.first_eight.Tie as tie
 

@@ -2,7 +2,7 @@
 use mathlib.Core.Path.{refl}
 use borrow.Author.Needs.{needs}
 use native.Mathlib.Omega.{arith}
-use Rattle.reach.proofs.Weights.{byte-small}
+use Rattle.reach.proofs.MarksEnd.{byte-small}
 use Rattle.reach.proofs.marks.four.Statement.{statement}
 use Rattle.reach.proofs.marks.four.Tie as tie
 

@@ -8,7 +8,7 @@ use lib.ListN.{length, length-replicate}
 use Rattle.model.specs.Machine.InUse.{usedCells}
 use Rattle.model.specs.declared.record.Machine.{Machine}
 use Rattle.record.specs.Holds.{Codes}
-use Rattle.reach.proofs.Marking.{cellsLeft, cells-first, cells-next, cells-last}
+use Rattle.reach.proofs.UsedMarking.{cellsLeft, cells-first, cells-next, cells-last}
 use Rattle.reach.proofs.marks.mark_cells.Statement.{statement}
 use Rattle.reach.proofs.marks.mark_cells.Tie as tie
 

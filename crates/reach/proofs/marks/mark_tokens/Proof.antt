@@ -8,7 +8,7 @@ use lib.ListN.{length, length-replicate}
 use Rattle.model.specs.Machine.InUse.{tokensUsed}
 use Rattle.model.specs.declared.record.Machine.{Machine}
 use Rattle.record.specs.Holds.{Codes}
-use Rattle.reach.proofs.Marking.{callersLeft, callers-first, callers-next, callers-last}
+use Rattle.reach.proofs.UsedMarking.{callersLeft, callers-first, callers-next, callers-last}
 use Rattle.reach.proofs.marks.mark_tokens.Statement.{statement}
 use Rattle.reach.proofs.marks.mark_tokens.Tie as tie
 

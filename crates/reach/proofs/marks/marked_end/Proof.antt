@@ -3,7 +3,7 @@ use mathlib.Core.Path.{subst}
 use borrow.Author.Needs.{needs}
 use native.Mathlib.Omega.{arith}
 use Rattle.reach.specs.Marks.{UnmarkedFrom}
-use Rattle.reach.proofs.Weights.{unmarked-few}
+use Rattle.reach.proofs.MarksEnd.{unmarked-few}
 use Rattle.reach.proofs.marks.marked_end.Statement.{statement}
 use Rattle.reach.proofs.marks.marked_end.Tie as tie
 

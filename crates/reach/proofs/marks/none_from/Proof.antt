@@ -6,7 +6,7 @@ use native.Mathlib.Omega.{arith}
 use borrow.Author.Needs.{needs}
 use borrow.Author.Tests.{not-true}
 use Rattle.reach.specs.Marks.{UnmarkedFrom}
-use Rattle.reach.proofs.Marking.{unmarked-more}
+use Rattle.reach.proofs.UsedMarking.{unmarked-more}
 use Rattle.reach.proofs.marks.none_from.Statement.{statement}
 use Rattle.reach.proofs.marks.none_from.Tie as tie
 

@@ -4,9 +4,9 @@ use Prim.Native.Nat.{_-_, _≤_}
 use borrow.Author.Needs.{needs}
 use Rattle.model.specs.Machine.Active.{underSet}
 use Rattle.model.specs.declared.record.Machine.{Machine}
-use Rattle.record.specs.Decode.{placeFrom}
+use Rattle.record.specs.LayoutDecoded.{placeFrom}
 use Rattle.record.specs.Holds.{Codes}
-use Rattle.reach.proofs.Climbing.{climb, climb-under, climb-ends, climb-outside, climb-found, climb-on, climb-over}
+use Rattle.reach.proofs.UnderSet.{climb, climb-under, climb-ends, climb-outside, climb-found, climb-on, climb-over}
 use Rattle.reach.proofs.under_set.under_set.Statement.{statement}
 use Rattle.reach.proofs.under_set.under_set.Tie as tie
 

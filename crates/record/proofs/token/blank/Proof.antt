@@ -1,7 +1,7 @@
 -- `token::blank` meets its contract: 24 words of 0 are the row of a blank token. Assumes nothing.
 use borrow.Author.Needs.{needs}
 use mathlib.Core.Path.{refl}
-use Rattle.record.specs.Words.{rowOf}
+use Rattle.record.specs.Layout.{rowOf}
 use Rattle.model.specs.Machine.Blank.{blankToken, slotAt}
 use Rattle.record.proofs.token.blank.Statement.{statement}
 use Rattle.record.proofs.token.blank.Tie as tie

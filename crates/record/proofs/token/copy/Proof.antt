@@ -5,9 +5,9 @@ use native.Mathlib.Omega.{arith}
 use lib.Seq.{paste, paste-zero}
 use Rattle.model.specs.Machine.Blank.{tokenAt}
 use Rattle.model.specs.declared.record.Machine.{Machine}
-use Rattle.record.specs.Words.{rowOf}
+use Rattle.record.specs.Layout.{rowOf}
 use Rattle.record.specs.Holds.{Codes}
-use Rattle.record.proofs.Copying.{copy-on, row-done}
+use Rattle.record.proofs.TokenCopying.{copy-on, row-done}
 use borrow.Author.Needs.{needs}
 use Rattle.record.proofs.token.copy.Statement.{statement}
 use Rattle.record.proofs.token.copy.Tie as tie

@@ -4,9 +4,9 @@ use Prim.Native.Nat.{_-_, _*_, _≤_}
 use native.Mathlib.Omega.{arith}
 use lib.ListN.{length}
 use lib.Seq.{paste, paste-zero}
-use Rattle.record.proofs.Copying.{row-on, row-done}
-use Rattle.record.proofs.Parts.{row-wide}
-use Rattle.record.proofs.Counts.{words-long}
+use Rattle.record.proofs.TokenCopying.{row-on, row-done}
+use Rattle.record.proofs.LayoutParts.{row-wide}
+use Rattle.record.proofs.Count.{words-long}
 use Rattle.model.specs.declared.record.Machine.{Machine}
 use Rattle.record.specs.Holds.{Codes}
 use borrow.Author.Needs.{needs}

@@ -6,7 +6,7 @@ use borrow.Author.Needs.{needs}
 use Rattle.model.specs.declared.record.Machine.{Machine}
 use Rattle.job.proofs.Test.{clash}
 use Rattle.record.specs.Holds.{Codes}
-use Rattle.returns.proofs.Callers.{NoneBelow, none-more, none-all, place-of, not-place}
+use Rattle.returns.proofs.FrameCallers.{NoneBelow, none-more, none-all, place-of, not-place}
 use Rattle.returns.proofs.frame.is_caller.Statement.{statement}
 use Rattle.returns.proofs.frame.is_caller.Tie as tie
 

@@ -2,7 +2,7 @@
 use mathlib.Core.Path.{refl, sym, _∙_}
 use borrow.Author.Needs.{needs}
 use Rattle.job.proofs.Test.{clash}
-use Rattle.returns.proofs.Callers.{same-place}
+use Rattle.returns.proofs.FrameCallers.{same-place}
 use Rattle.returns.proofs.return_value.may_lose_cell.Statement.{statement}
 use Rattle.returns.proofs.return_value.may_lose_cell.Tie as tie
 

@@ -3,11 +3,11 @@ use mathlib.Core.Path.{_∙_}
 use native.Mathlib.Omega.{arith}
 use borrow.Author.Needs.{needs}
 use Rattle.model.specs.declared.reply.Reply.the-variants as replies
-use Rattle.acts.proofs.Ending.{return-caller, return-vacant}
-use Rattle.acts.proofs.Instructions.{return-step}
+use Rattle.acts.proofs.EndRebind.{return-caller, return-vacant}
+use Rattle.acts.proofs.StepAtNode.{return-step}
 use Rattle.acts.proofs.Outcomes.{token-inside, gives-swept}
 use Rattle.returns.proofs.ReturnCallees.{nobody}
-use Rattle.returns.proofs.Returning.{released-swept}
+use Rattle.returns.proofs.ReturnValue.{released-swept}
 use Rattle.returns.proofs.return_value.return_value.Statement.{statement}
 use Rattle.returns.proofs.return_value.return_value.Tie as tie
 

@@ -3,9 +3,9 @@ use mathlib.Core.Bool.{not}
 use mathlib.Core.Path.{_∙_, ap}
 use Rattle.model.specs.Machine.Blank.{tokenAt}
 use Rattle.model.specs.Machine.Active.{underSet}
-use Rattle.record.specs.Decode.{placeFrom}
-use Rattle.row_rules.proofs.Fields.{placed}
-use Rattle.row_rules.proofs.Chains.{idle, busy}
+use Rattle.record.specs.LayoutDecoded.{placeFrom}
+use Rattle.row_rules.proofs.Range.{placed}
+use Rattle.row_rules.proofs.Chain.{idle, busy}
 use Rattle.job.proofs.Both.{both}
 use borrow.Author.Needs.{needs}
 use Rattle.row_rules.proofs.chain.is_free.Statement.{statement}

@@ -1,8 +1,8 @@
 -- `chain::waits_at_unset` meets its contract: past the cells nothing is set. Assumes nothing.
 use mathlib.Core.Path.{_∙_, ap}
 use Rattle.model.specs.Machine.Blank.{cellAt}
-use Rattle.record.specs.Words.{heldKind}
-use Rattle.row_rules.proofs.Chains.{waits-past, waits-read, waits-not}
+use Rattle.record.specs.Layout.{heldKind}
+use Rattle.row_rules.proofs.Chain.{waits-past, waits-read, waits-not}
 use borrow.Author.Needs.{needs}
 use Rattle.row_rules.proofs.chain.waits_at_unset.Statement.{statement}
 use Rattle.row_rules.proofs.chain.waits_at_unset.Tie as tie

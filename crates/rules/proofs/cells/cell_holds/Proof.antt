@@ -6,13 +6,13 @@ use lib.Dec.{leb}
 use borrow.Author.Tests.{not-true, not-false}
 use Rattle.model.specs.Machine.Rules.{chainEnds}
 use Rattle.model.specs.Machine.Blank.{cellAt, cellIsBlank}
-use Rattle.record.specs.Decode.{placeFrom}
+use Rattle.record.specs.LayoutDecoded.{placeFrom}
 use Rattle.rules.proofs.OneRow.{cell-blank, cell-in}
-use Rattle.rules.proofs.Rest.{marked-one, other-one, first-true}
-use Rattle.row_rules.proofs.Fields.{place-in, placed}
-use Rattle.coded.proofs.Rows.{codes-cell}
+use Rattle.rules.proofs.RestBlank.{marked-one, other-one, first-true}
+use Rattle.row_rules.proofs.Range.{place-in, placed}
+use Rattle.coded.proofs.IsRecordRows.{codes-cell}
 use Rattle.job.proofs.Both.{both}
-use Rattle.row_rules.specs.Rules.{cellRule}
+use Rattle.row_rules.specs.RowRules.{cellRule}
 use borrow.Author.Needs.{needs}
 use Rattle.rules.proofs.cells.cell_holds.Statement.{statement}
 use Rattle.rules.proofs.cells.cell_holds.Tie as tie

@@ -7,8 +7,8 @@ use lib.ListN.{length}
 use Rattle.model.specs.declared.record.Machine.{Machine}
 use Rattle.model.specs.Machine.Blank.{blankCell, cellAt, cellIsBlank}
 use Rattle.job.specs.Node.{Dag}
-use Rattle.rules.proofs.Rest.{passed, pass-turn, pass-done, first-true, second-true}
-use Rattle.row_rules.specs.Rules.{cellRule}
+use Rattle.rules.proofs.RestBlank.{passed, pass-turn, pass-done, first-true, second-true}
+use Rattle.row_rules.specs.RowRules.{cellRule}
 use Rattle.row_rules.specs.ValuesFit.{ValuesFit}
 use Rattle.coded.specs.WordTests.{cellAtCoded}
 use borrow.Author.Count.{below-more}

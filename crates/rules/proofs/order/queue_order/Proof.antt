@@ -2,8 +2,8 @@
 use mathlib.Core.Path.{_∙_, ap}
 use Rattle.model.specs.Machine.Rules.{namesOnce}
 use Rattle.model.specs.Machine.State.{isReady}
-use Rattle.record.proofs.Queue.{queue-word}
-use Rattle.row_rules.proofs.Fields.{ready-is}
+use Rattle.record.proofs.Order.{queue-word}
+use Rattle.row_rules.proofs.Range.{ready-is}
 use borrow.Author.Needs.{needs}
 use Rattle.rules.proofs.order.queue_order.Statement.{statement}
 use Rattle.rules.proofs.order.queue_order.Tie as tie

@@ -2,8 +2,8 @@
 use mathlib.Core.Path.{_∙_, ap}
 use Rattle.model.specs.Machine.Rules.{namesOnce}
 use Rattle.model.specs.Machine.State.{isWaiting}
-use Rattle.record.proofs.Queue.{wait-word}
-use Rattle.row_rules.proofs.Fields.{waiting-is}
+use Rattle.record.proofs.Order.{wait-word}
+use Rattle.row_rules.proofs.Range.{waiting-is}
 use borrow.Author.Needs.{needs}
 use Rattle.rules.proofs.order.wait_order.Statement.{statement}
 use Rattle.rules.proofs.order.wait_order.Tie as tie

@@ -4,10 +4,10 @@ use mathlib.Core.Path.{refl, sym, _∙_}
 use borrow.Author.Tests.{not-true, not-false}
 use Rattle.job.specs.Words.{dagOf}
 use Rattle.job.proofs.Test.{clash}
-use Rattle.record.specs.Decode.{machineOf}
-use Rattle.rules.proofs.Record.{dag-breaks, tokens-marked, cells-marked, rules-are}
-use Rattle.rules.proofs.Rest.{first-true, second-true}
-use Rattle.rules.proofs.Decoding.{decoded}
+use Rattle.record.specs.LayoutDecoded.{machineOf}
+use Rattle.rules.proofs.RulesGrouped.{dag-breaks, tokens-marked, cells-marked, rules-are}
+use Rattle.rules.proofs.RestBlank.{first-true, second-true}
+use Rattle.rules.proofs.RulesDecoded.{decoded}
 use borrow.Author.Needs.{needs}
 use Rattle.rules.proofs.rules.rules_hold.Statement.{statement}
 use Rattle.rules.proofs.rules.rules_hold.Tie as tie

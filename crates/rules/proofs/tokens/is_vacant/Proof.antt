@@ -2,7 +2,7 @@
 use mathlib.Core.Bool.{_&&_}
 use lib.Dec.{eqb}
 use Rattle.job.proofs.Both.{both, both-is}
-use Rattle.rules.proofs.Rest.{second-true}
+use Rattle.rules.proofs.RestBlank.{second-true}
 use borrow.Author.Needs.{needs}
 use Rattle.rules.proofs.tokens.is_vacant.Statement.{statement}
 use Rattle.rules.proofs.tokens.is_vacant.Tie as tie

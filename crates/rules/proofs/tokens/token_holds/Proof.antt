@@ -5,11 +5,11 @@ use native.Mathlib.Omega.{arith}
 use Rattle.model.specs.Machine.Blank.{tokenAt}
 use Rattle.job.specs.Words.{dagOf}
 use Rattle.rules.proofs.OneRow.{node-past, node-in}
-use Rattle.rules.proofs.Rest.{first-true}
-use Rattle.coded.proofs.Rows.{codes-token}
+use Rattle.rules.proofs.RestBlank.{first-true}
+use Rattle.coded.proofs.IsRecordRows.{codes-token}
 use Rattle.job.proofs.Both.{three}
 use Rattle.job.proofs.Test.{clash}
-use Rattle.dag_rules.proofs.Array.{nodes-length}
+use Rattle.dag_rules.proofs.Dag.{nodes-length}
 use borrow.Author.Needs.{needs}
 use Rattle.rules.proofs.tokens.token_holds.Statement.{statement}
 use Rattle.rules.proofs.tokens.token_holds.Tie as tie

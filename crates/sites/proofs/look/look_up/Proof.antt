@@ -11,10 +11,10 @@ use Rattle.job.specs.Syntax.{variable}
 use Rattle.model.specs.declared.record.Machine.{Machine}
 use Rattle.model.specs.Machine.Blank.{tokenAt}
 use Rattle.record.specs.Holds.{Codes}
-use Rattle.sites.proofs.Params.{params-count}
-use Rattle.sites.proofs.LookUps.{filled-more, looking-on, look-up-unset, look-up-nothing, look-up-all, param-here, param-there}
-use Rattle.sites.proofs.LookUps.{param-small, param-in-range, Filled, Looking, behind-none}
-use Rattle.sites.specs.Looking.{paramFound, LookFacts}
+use Rattle.sites.proofs.LookParams.{params-count}
+use Rattle.sites.proofs.Look.{filled-more, looking-on, look-up-unset, look-up-nothing, look-up-all, param-here, param-there}
+use Rattle.sites.proofs.Look.{param-small, param-in-range, Filled, Looking, behind-none}
+use Rattle.sites.specs.Look.{paramFound, LookFacts}
 use Rattle.sites.specs.Row.{paramsAt}
 use Rattle.sites.proofs.look.look_up.Statement.{statement}
 use Rattle.sites.proofs.look.look_up.Tie as tie

@@ -4,7 +4,7 @@ use native.Mathlib.Omega.{arith}
 use Prim.Native.Nat.{_-_, _<_, _^_}
 use mir.Facts.{toZ-pos, toZ-ofZ}
 use mir.Syntax.{w32}
-use Rattle.sites.proofs.Signed.{under, under-fits, signed-lower, signed-upper}
+use Rattle.sites.proofs.NumberSigned.{under, under-fits, signed-lower, signed-upper}
 use Rattle.sites.proofs.number.signed.Statement.{statement}
 use Rattle.sites.proofs.number.signed.Tie as tie
 

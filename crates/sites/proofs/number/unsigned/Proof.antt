@@ -2,7 +2,7 @@
 use native.Mathlib.Omega.{arith}
 use mir.Facts.{toZ-ofZ, sfits-widen}
 use mir.Syntax.{w64}
-use Rattle.sites.proofs.Bits.{negative-fits, negative-cast, negative-some, negative-bits, positive-cast, positive-bits}
+use Rattle.sites.proofs.NumberBits.{negative-fits, negative-cast, negative-some, negative-bits, positive-cast, positive-bits}
 use Rattle.sites.proofs.number.unsigned.Statement.{statement}
 use Rattle.sites.proofs.number.unsigned.Tie as tie
 

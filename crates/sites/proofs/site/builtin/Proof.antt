@@ -3,8 +3,8 @@ use mathlib.Core.Path.{_≡_, ap, _∙_}
 use borrow.Author.Needs.{needs}
 use native.Mathlib.Omega.{arith}
 use mir.Facts.{toZ-ofZ}
-use Rattle.sites.proofs.Sites.{says-let, says-ift, says-iff, says-signal, says-add, says-less, says-equal}
-use Rattle.sites.specs.SiteReplies.{siteReplyOf}
+use Rattle.sites.proofs.SiteBuiltins.{says-let, says-ift, says-iff, says-signal, says-add, says-less, says-equal}
+use Rattle.sites.specs.SiteReply.{siteReplyOf}
 use Rattle.sites.proofs.site.builtin.Statement.{statement}
 use Rattle.sites.proofs.site.builtin.Tie as tie
 

@@ -1,5 +1,5 @@
 -- `site::equal` meets its contract: by the laws that it cites. Assumes nothing.
-use Rattle.sites.proofs.Signed.{equal-bits}
+use Rattle.sites.proofs.NumberSigned.{equal-bits}
 use Rattle.sites.proofs.site.equal.Statement.{statement}
 use Rattle.sites.proofs.site.equal.Tie as tie
 

@@ -7,9 +7,9 @@ use mir.Syntax.{w32, w64}
 use mir.Val.{toZ, ofZ}
 use mir.Facts.{toZ-ofZ, sfits-widen}
 use Rattle.job.specs.Number.{fits}
-use Rattle.sites.specs.SiteReplies.{siteReplyOf}
-use Rattle.sites.proofs.Signed.{back-from-64, sum-fits-64, too-low, too-high, between, fits-32}
-use Rattle.sites.proofs.Sites.{sum-gives, sum-silent}
+use Rattle.sites.specs.SiteReply.{siteReplyOf}
+use Rattle.sites.proofs.NumberSigned.{back-from-64, sum-fits-64, too-low, too-high, between, fits-32}
+use Rattle.sites.proofs.SiteBuiltins.{sum-gives, sum-silent}
 use Rattle.sites.proofs.site.sum.Statement.{statement}
 use Rattle.sites.proofs.site.sum.Tie as tie
 

@@ -1,9 +1,9 @@
 -- `definition_call::pass` meets its contract: each writer's contract, one behind the other, leads to the record of the definition. Assumes
 -- nothing.
-use Rattle.sites.proofs.Params.{below, slot-variable, slot-constant}
+use Rattle.sites.proofs.LookParams.{below, slot-variable, slot-constant}
 use Rattle.writes.proofs.Writes.{put-other, carry-slot}
-use Rattle.sites.proofs.Params.{slot-variable, slot-constant}
-use Rattle.record.specs.Words.{slotKind, slotNumber}
+use Rattle.sites.proofs.LookParams.{slot-variable, slot-constant}
+use Rattle.record.specs.Layout.{slotKind, slotNumber}
 use Rattle.job.proofs.Number.{unsigned-signed}
 use Rattle.model.specs.declared.token.Token.{Token}
 use Rattle.model.specs.declared.token.Slot.the-variants as slots

@@ -1,10 +1,10 @@
 -- `definition_call::pass_all` meets its contract: each writer's contract, one behind the other, leads to the record of the definition.
 -- Assumes nothing.
 use Rattle.writes.proofs.Writes.{carry-binds}
-use Rattle.sites.proofs.Params.{param-holds, param-bound, params-bound, none-bound}
+use Rattle.sites.proofs.LookParams.{param-holds, param-bound, params-bound, none-bound}
 use Rattle.sites.specs.Row.{paramsAt}
 use Rattle.record.specs.Holds.{Holds}
-use Rattle.record.specs.Fields.{withBinds}
+use Rattle.record.specs.Changes.{withBinds}
 use Rattle.model.specs.declared.record.Machine.{Machine}
 use Rattle.model.specs.Machine.Update.{put, withBinding}
 use Rattle.model.specs.Machine.Step.{formalsBound}

@@ -2,8 +2,8 @@
 -- Assumes nothing.
 use Rattle.writes.proofs.Writes.{begins, carry-binding, put-same, put-other, queued-taken}
 use Rattle.sites.specs.Row.{callee, paramsAt}
-use Rattle.record.specs.Fields.{dequeued}
-use Rattle.record.proofs.Shape.{queue-fits}
+use Rattle.record.specs.Changes.{dequeued}
+use Rattle.record.proofs.HoldsShape.{queue-fits}
 use Rattle.model.specs.declared.token.Token.{Token}
 use Rattle.model.specs.declared.token.State.the-variants as states
 use Rattle.model.specs.Machine.Update.{put, withNode, withState, newToken, withTables, withOrders, withCounts}

@@ -1,7 +1,7 @@
 -- `fork::written` meets its contract: each writer's contract, one behind the other, leads to the record of the definition. Assumes nothing.
 use mathlib.Core.Path.{refl}
 use native.Mathlib.Omega.{arith}
-use Rattle.record.specs.Fields.{dequeued}
+use Rattle.record.specs.Changes.{dequeued}
 use Rattle.model.specs.Machine.Blank.{tokenAt}
 use Rattle.model.specs.Machine.Update.{put, withNode, withTables, withCounts, withOrders, newToken}
 use Rattle.writes.proofs.Writes.{begins, carry, put-same, queued-taken, queued-joined}

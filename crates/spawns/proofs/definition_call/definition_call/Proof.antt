@@ -1,6 +1,6 @@
 -- `definition_call::definition_call` meets its contract: each way out is how the definition's step ends there. Assumes nothing.
-use Rattle.spawns.proofs.Making.{call-gives, call-refused, new-apart, new-blank}
-use Rattle.sites.proofs.Rows.{call-root, call-params}
+use Rattle.spawns.proofs.Spawning.{call-gives, call-refused, new-apart, new-blank}
+use Rattle.sites.proofs.RowKinds.{call-root, call-params}
 use Rattle.acts.proofs.Outcomes.{row, row-fits, token-inside}
 use mathlib.Core.Path.{_∙_}
 use native.Mathlib.Omega.{arith}

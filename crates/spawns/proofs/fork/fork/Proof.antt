@@ -1,6 +1,6 @@
 -- `fork::fork` meets its contract: each way out is how the definition's step ends there. Assumes nothing.
 use native.Mathlib.Omega.{arith}
-use Rattle.spawns.proofs.Making.{fork-gives, fork-refused, queue-open}
+use Rattle.spawns.proofs.Spawning.{fork-gives, fork-refused, queue-open}
 use Rattle.acts.proofs.Outcomes.{row-fits, token-inside}
 use borrow.Author.Needs.{needs}
 use Rattle.spawns.proofs.fork.fork.Statement.{statement}

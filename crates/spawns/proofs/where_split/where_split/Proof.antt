@@ -1,6 +1,6 @@
 -- `where_split::where_split` meets its contract: each way out is how the definition's step ends there. Assumes nothing.
-use Rattle.spawns.proofs.Making.{where-gives, where-refused, where-refused-cell, queue-open, new-apart}
-use Rattle.sites.proofs.Rows.{where-numbers}
+use Rattle.spawns.proofs.Spawning.{where-gives, where-refused, where-refused-cell, queue-open, new-apart}
+use Rattle.sites.proofs.RowKinds.{where-numbers}
 use Rattle.acts.proofs.Outcomes.{row, row-fits, token-inside}
 use mathlib.Core.Path.{_∙_}
 use native.Mathlib.Omega.{arith}

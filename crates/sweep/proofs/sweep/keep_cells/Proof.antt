@@ -7,8 +7,8 @@ use borrow.Author.Needs.{needs}
 use Rattle.model.specs.declared.record.Machine.{Machine}
 use Rattle.record.specs.Holds.{Holds}
 use Rattle.reach.specs.Marks.{FreeCells}
-use Rattle.sweep.proofs.Keeping.{cellsKept, cells-first, cell-there, cells-next, cells-last}
-use Rattle.reach.proofs.Lists.{any-default}
+use Rattle.sweep.proofs.Sweep.{cellsKept, cells-first, cell-there, cells-next, cells-last}
+use Rattle.reach.proofs.ListLoops.{any-default}
 use Rattle.sweep.proofs.sweep.keep_cells.Statement.{statement}
 use Rattle.sweep.proofs.sweep.keep_cells.Tie as tie
 

@@ -4,7 +4,7 @@ use mathlib.Core.Path.{_≡_, refl}
 use Prim.Native.Nat.{_-_, _≤_}
 use borrow.Author.Needs.{needs}
 use lib.ListN.{length, take, length-set}
-use Rattle.reach.proofs.Lists.{fill-more, fill-all}
+use Rattle.reach.proofs.ListLoops.{fill-more, fill-all}
 use Rattle.sweep.proofs.sweep.renew.Statement.{statement}
 use Rattle.sweep.proofs.sweep.renew.Tie as tie
 

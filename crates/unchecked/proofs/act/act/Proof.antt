@@ -1,8 +1,8 @@
 -- `unchecked::act` meets its contract: each way out is how the definition's call ends there. Assumes nothing.
 use Prim.Native.Nat.{_<_}
-use Rattle.sites.proofs.Rows.{kind-below, node-holds, last-kind}
+use Rattle.sites.proofs.RowKinds.{kind-below, node-holds, last-kind}
 use Rattle.unchecked.proofs.CalleeMarks.{stop-leaves, site-leaves, assign-leaves, remove-leaves, choke-leaves, publish-leaves}
-use Rattle.unchecked.proofs.Whole.{of-kind}
+use Rattle.unchecked.proofs.WholeCall.{of-kind}
 use Rattle.acts.proofs.Outcomes.{row, row-fits}
 use mathlib.Core.Path.{sym, subst}
 use native.Mathlib.Omega.{arith}

@@ -1,6 +1,6 @@
 -- `answer::answer` meets its contract: its report is the one of a handle that was open, or was not. Assumes nothing.
 use mathlib.Core.Bool.{true, false}
-use Rattle.unchecked.proofs.Whole.{reported}
+use Rattle.unchecked.proofs.WholeCall.{reported}
 use mir.Facts.{toZ-ofZ}
 use mir.Syntax.{w32}
 use mir.Val.{SFits}

@@ -1,6 +1,6 @@
 -- `answer::resume` meets its contract: a handle that no call was given is not open, and any other is where a token holds it. Assumes
 -- nothing.
-use Rattle.unchecked.proofs.Whole.{answer-unknown, answer-gives}
+use Rattle.unchecked.proofs.WholeCall.{answer-unknown, answer-gives}
 use native.Mathlib.Omega.{arith}
 use mir.Syntax.{w32}
 use mir.Val.{SFits}

@@ -2,7 +2,7 @@
 use mathlib.Core.Bool.{true, false}
 use borrow.Author.Needs.{needs}
 use native.Mathlib.Omega.{arith}
-use Rattle.reach.proofs.Lists.{any-default}
+use Rattle.reach.proofs.ListLoops.{any-default}
 use Rattle.unchecked.proofs.callees.is_shared.Statement.{statement}
 use Rattle.unchecked.proofs.callees.is_shared.Tie as tie
 

@@ -3,7 +3,7 @@ use mathlib.Core.Path.{refl, sym, _∙_}
 use borrow.Author.Needs.{needs}
 use native.Mathlib.Omega.{arith}
 use Rattle.job.proofs.Test.{clash}
-use Rattle.acts.proofs.Ending.{return-caller}
+use Rattle.acts.proofs.EndRebind.{return-caller}
 use Rattle.acts.proofs.Outcomes.{token-inside}
 use Rattle.returns.proofs.ReturnCallees.{alone-of}
 use Rattle.unchecked.proofs.CalleeMarks.{return-leaves, return-marked, return-unmarked}

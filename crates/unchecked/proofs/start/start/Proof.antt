@@ -2,7 +2,7 @@
 use mathlib.Core.Bool.{true}
 use mathlib.Core.Path.{_∙_, ap}
 use lib.ListN.{set}
-use Rattle.unchecked.proofs.Whole.{start-holds, start-tokens, start-cells}
+use Rattle.unchecked.proofs.WholeCall.{start-holds, start-tokens, start-cells}
 use borrow.Author.Needs.{needs}
 use Rattle.unchecked.proofs.start.start.Statement.{statement}
 use Rattle.unchecked.proofs.start.start.Tie as tie

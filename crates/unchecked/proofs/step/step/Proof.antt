@@ -1,6 +1,6 @@
 -- `unchecked::step` meets its contract: each way out is how the definition's call ends there. Assumes nothing.
 use Prim.Native.Nat.{_+_, _*_}
-use Rattle.unchecked.proofs.Whole.{place-inside, taking-of, acting-of}
+use Rattle.unchecked.proofs.WholeCall.{place-inside, taking-of, acting-of}
 use Rattle.acts.proofs.Outcomes.{token-inside}
 use mathlib.Core.Path.{ap, _∙_}
 use borrow.Author.Needs.{needs}

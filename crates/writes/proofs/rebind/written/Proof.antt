@@ -1,9 +1,9 @@
 -- `rebind::written` meets its contract: each writer's contract, one behind the other, leads to the record of the definition. Assumes
 -- nothing.
-use Rattle.record.proofs.Shape.{queue-fits}
+use Rattle.record.proofs.HoldsShape.{queue-fits}
 use mathlib.Core.Path.{refl}
 use native.Mathlib.Omega.{arith}
-use Rattle.record.specs.Fields.{dequeued}
+use Rattle.record.specs.Changes.{dequeued}
 use Rattle.model.specs.Machine.Blank.{tokenAt}
 use Rattle.model.specs.Machine.Update.{put, withTables, withOrders}
 use Rattle.writes.proofs.Writes.{begins, queued-taken}

@@ -1,7 +1,7 @@
 -- `site_call::call_out` meets its contract: each writer's contract, one behind the other, leads to the record of the definition. Assumes
 -- nothing.
 use Rattle.writes.proofs.Writes.{begins, counted}
-use Rattle.record.specs.Fields.{dequeued}
+use Rattle.record.specs.Changes.{dequeued}
 use Rattle.model.specs.declared.token.State.the-variants as states
 use Rattle.model.specs.Machine.Update.{put, withTables, withOrders}
 use Rattle.model.specs.Machine.Blank.{tokenAt}

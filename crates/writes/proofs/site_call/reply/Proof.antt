@@ -2,8 +2,8 @@
 -- nothing.
 use native.Mathlib.Omega.{arith}
 use Rattle.writes.proofs.Writes.{begins, queued-taken}
-use Rattle.record.proofs.Shape.{queue-fits}
-use Rattle.record.specs.Fields.{dequeued}
+use Rattle.record.proofs.HoldsShape.{queue-fits}
+use Rattle.record.specs.Changes.{dequeued}
 use Rattle.model.specs.Machine.Update.{put, withTables, withOrders}
 use Rattle.model.specs.Machine.Blank.{tokenAt}
 use mathlib.Core.Path.{refl}

@@ -2,7 +2,7 @@
 -- nothing.
 use native.Mathlib.Omega.{arith}
 use Rattle.writes.proofs.Writes.{begins, waiting-taken}
-use Rattle.record.specs.Fields.{dequeued}
+use Rattle.record.specs.Changes.{dequeued}
 use Rattle.model.specs.declared.token.State.the-variants as states
 use Rattle.model.specs.Machine.Update.{put, withTables, withOrders}
 use Rattle.model.specs.Machine.Blank.{tokenAt}

@@ -1,0 +1,358 @@
+-- Two lines of places, the queue and the wait order: each ready, or waiting, token stands in its line once. That is what the index rules
+-- ask of the orders, since such a line is no longer than the table; and each kind of step keeps it, by counting. Assumes nothing.
+use mathlib.Core.Path.{_≡_, refl, sym, _∙_, ap, subst}
+use mathlib.Core.Bool.{Bool, true, false}
+use mathlib.Core.List.{List, [], _∷_, _++_, map}
+use Prim.Native.Nat.{ℕ, zero, suc, _+_, _-_, _<_, _≤_}
+use native.Mathlib.Decide.{ℕ-discrete, decLt}
+use native.Mathlib.Omega.{arith}
+use lib.ListN.{length, getD, set, take, drop, replicate, length-append, length-replicate, length-set}
+use lib.Seq.{getD-set-other, take-append-seam}
+use lib.Dec.{eqb, ltb}
+use Rattle.job.specs.Test.{all, allFrom, filter, padded, count, once, without}
+use Rattle.model.specs.Machine.Blank.{blankToken, tokenAt}
+use Rattle.model.specs.Machine.Active.{within}
+use Rattle.model.specs.Machine.InUse.{marked}
+use Rattle.model.specs.Machine.Rules.{namesOnce}
+use Rattle.model.specs.Machine.State.{isReady, isWaiting, waitsAt}
+use Rattle.model.specs.Machine.Update.{withState}
+use Rattle.model.specs.Machine.Step.{chokeToken}
+use Rattle.model.specs.declared.token.State.{State}
+use Rattle.model.specs.declared.token.State.the-variants as states
+use Rattle.model.specs.declared.token.Token.{Token}
+use Rattle.model.specs.declared.cell.Cell.{Cell}
+use Rattle.job.proofs.Test.{clash, false-of, eqb-same, eqb-eq, eq-eqb, ne-eqb, lt-ltb, le-leb, and-both, all-head, all-tail}
+use Rattle.model.proofs.Machine.Marks.{Free, marked-le-length, marked-set-free}
+use Rattle.model.proofs.Machine.InUse.{token-outside}
+use Rattle.model.proofs.Machine.Rules.{ready-state}
+use Rattle.model.proofs.Sees.Others.{count-append, token-same, token-other}
+use Rattle.model.proofs.Machine.Choke.{choke-at, choke-ends}
+use Rattle.model.proofs.Sees.ChokeAgrees.{woken, choke-spares}
+
+-- counting
+count-here : (r : ℕ) (l : List ℕ) → count r (r ∷ l) ≡ suc (count r l)
+unfolding count
+count-here r l = rw (eqb-same r) (omega arith)
+
+count-more : (r x : ℕ) (l : List ℕ) → count r l ≤ count r (x ∷ l)
+unfolding count
+count-more r x l = omega arith
+
+once-small : (b : Bool) → once b ≤ 1
+once-small true = omega arith
+once-small false = omega arith
+
+once-true : (b : Bool) → 0 < once b → b ≡ true
+once-true true l = refl
+once-true false l = absurd (omega arith)
+
+-- a line in which no place stands twice takes a free mark for each of its places
+fills : (marks : List Bool) (l : List ℕ) → ((r : ℕ) → count r l ≤ 1) → ((r : ℕ) → 0 < count r l → Free marks r)
+    → length l + marked marks ≤ length marks
+fills marks [] h f = let z = marked-le-length marks in omega arith
+fills marks (x ∷ l) h f =
+    let one = marked-set-free marks x (f x (let z = count-here x l in omega arith)) in
+    let size = length-set marks x true in
+    let more = fills (set marks x true) l (λ r. let z = h r in let y = count-more r x l in omega arith) (λ r k. still r k) in
+    omega arith
+  where
+    still : (r : ℕ) → 0 < count r l → Free (set marks x true) r
+    still r k = getD-set-other marks x r true true apart ∙ f r (let y = count-more r x l in omega arith)
+      where
+        apart : r ≡ x → ⊥
+        apart e =
+            let z : 0 < count x l = subst (λ i. 0 < count i l) e k in let y = count-here x l in let w = h x in omega arith
+
+none-free : (n r : ℕ) → r < n → Free (replicate n false) r
+none-free zero r l = absurd (omega arith)
+none-free (suc n) zero l = refl
+none-free (suc n) (suc r) l = none-free n r (omega arith)
+
+-- tests of a line, from its counts and back
+all-counted : (test : ℕ → Bool) (l : List ℕ) → ((r : ℕ) → 0 < count r l → test r ≡ true) → all test l ≡ true
+unfolding all
+all-counted test [] h = refl
+all-counted test (x ∷ l) h =
+    and-both (h x (let z = count-here x l in omega arith)) (all-counted test l (λ r k. h r (let z = count-more r x l in omega arith)))
+
+counted-tested : (test : ℕ → Bool) (l : List ℕ) → all test l ≡ true → (r : ℕ) → 0 < count r l → test r ≡ true
+unfolding count
+counted-tested test [] e r k = absurd (omega arith)
+counted-tested test (x ∷ l) e r k = go (eqb r x) refl (λ j. counted-tested test l (all-tail test x l e) r j)
+  where
+    go : (b : Bool) → eqb r x ≡ b → (0 < count r l → test r ≡ true) → test r ≡ true
+    go true f g = ap test (eqb-eq r x f) ∙ all-head test x l e
+    go false f g = g (let z : once (eqb r x) ≡ 0 = ap once f in omega arith)
+
+all-from-at : {A : Type 0} (test : ℕ → A → Bool) (n : ℕ) (xs : List A) (d : A)
+    → ((i : ℕ) → i < length xs → test (n + i) (getD xs i d) ≡ true) → allFrom test n xs ≡ true
+unfolding allFrom
+all-from-at test n [] d h = refl
+all-from-at test n (x ∷ xs) d h =
+    and-both (subst (λ k. test k x ≡ true) (let z : n + 0 ≡ n = omega arith in z) (h 0 (omega arith)))
+    (all-from-at test (suc n) xs d
+    (λ i k. subst (λ j. test j (getD xs i d) ≡ true) (let z : n + suc i ≡ suc n + i = omega arith in z) (h (suc i) (omega arith))))
+
+all-zero : (n : ℕ) → all (eqb 0) (replicate n 0) ≡ true
+unfolding all
+all-zero zero = refl
+all-zero (suc n) = and-both (eqb-same 0) (all-zero n)
+
+drop-seam : (l r : List ℕ) → drop (length l) (l ++ r) ≡ r
+drop-seam [] r = refl
+drop-seam (x ∷ l) r = drop-seam l r
+
+-- a line names each token of a kind once
+abbrev pub Names : (State → Bool) → List Token → List ℕ → Type 0
+Names of ts l = (r : ℕ) → count r l ≡ once (of (tokenAt ts r .state))
+
+module _ (of : State → Bool) (none : of states.Blank ≡ false) (ts : List Token) where
+  outside : (r : ℕ) → length ts ≤ r → once (of (tokenAt ts r .state)) ≡ 0
+  outside r l = ap (λ (t : Token). once (of (t .state))) (token-outside ts r l) ∙ ap once none
+
+  module _ (l : List ℕ) (h : Names of ts l) where
+    inside : (r : ℕ) → 0 < count r l → r < length ts
+    inside r k = go (decLt r (length ts))
+      where
+        go : Dec (r < length ts) → r < length ts
+        go (yes i) = i
+        go (no f) = let z = outside r (omega arith) in let y = h r in absurd (omega arith)
+
+    short : length l ≤ length ts
+    short =
+        let z = length-replicate (length ts) false in
+        let y =
+        fills (replicate (length ts) false) l (λ r. let a = h r in let b = once-small (of (tokenAt ts r .state)) in omega arith)
+        (λ r k. none-free (length ts) r (inside r k)) in
+        omega arith
+
+    pub line-names : namesOnce of ts (padded 0 (length ts) l) (length l) ≡ true
+    unfolding namesOnce padded tokenAt
+    line-names =
+        let rest : List ℕ = replicate (length ts - length l) 0 in
+        let room = l ++ rest in
+        let few = short in
+        let joined = length-append l rest in
+        let behind = length-replicate {A = ℕ} (length ts - length l) 0 in
+        let line : take (length l) room ≡ l = take-append-seam l rest in
+        and-both (eq-eqb _ _ (let z : length room ≡ length ts = omega arith in z))
+        (and-both (le-leb _ _ (let z : length l ≤ length room = omega arith in z))
+        (and-both (subst (λ x. all (λ (p : ℕ). ltb p (length ts)) x ≡ true) (sym line)
+        (all-counted _ l (λ r k. lt-ltb r (length ts) (inside r k))))
+        (and-both
+        (subst (λ x. allFrom (λ p (t : Token). eqb (count p x) (once (of (t .state)))) 0 ts ≡ true) (sym line)
+        (all-from-at _ 0 ts blankToken (λ i k. eq-eqb _ _ (ap (λ x. count x l) (let z : 0 + i ≡ i = omega arith in z) ∙ h i))))
+        (subst (λ x. all (eqb 0) x ≡ true) (sym (drop-seam l rest)) (all-zero (length ts - length l))))))
+
+-- both lines
+pub record Lines (ts : List Token) (queue waits : List ℕ) : Type 0 where
+  pub ready : Names isReady ts queue
+  pub waiting : Names isWaiting ts waits
+
+-- both lines, with p taken from the queue
+pub record Taken (ts : List Token) (p : ℕ) (queue waits : List ℕ) : Type 0 where
+  pub ready : (r : ℕ) → count r queue + once (eqb r p) ≡ once (isReady (tokenAt ts r .state))
+  pub waiting : Names isWaiting ts waits
+
+count-without : (l : List ℕ) (i r : ℕ) → i < length l → count r (without i l) + once (eqb r (getD l i 0)) ≡ count r l
+unfolding count without
+count-without [] i r h = absurd (omega arith)
+count-without (x ∷ l) zero r h = omega arith
+count-without (x ∷ l) (suc i) r h = let a = count-without l i r (omega arith) in omega arith
+
+pub take-out : {ts : List Token} {queue waits : List ℕ} (i : ℕ) → i < length queue → Lines ts queue waits
+    → Taken ts (getD queue i 0) (without i queue) waits
+take-out {queue = queue} i h l = record { ready = λ r. count-without queue i r h ∙ l .ready r; waiting = l .waiting }
+
+-- a place is written: its count is what the token asks, the others' counts are what they were
+written-names : (of : State → Bool) (ts : List Token) (p : ℕ) (u : Token) (l : List ℕ) → p < length ts → count p l ≡ once (of (u .state))
+    → ((r : ℕ) → (r ≡ p → ⊥) → count r l ≡ once (of (tokenAt ts r .state))) → Names of (set ts p u) l
+written-names of ts p u l i here there r = go (ℕ-discrete r p)
+  where
+    go : Dec (r ≡ p) → count r l ≡ once (of (tokenAt (set ts p u) r .state))
+    go (yes e) =
+        subst (λ x. count x l ≡ once (of (tokenAt (set ts p u) x .state))) (sym e)
+        (here ∙ ap (λ (t : Token). once (of (t .state))) (sym (token-same ts p u i)))
+    go (no n) = there r n ∙ ap (λ (t : Token). once (of (t .state))) (sym (token-other ts p r u n))
+
+-- how often r stands in a line with p put at its back
+count-back : (r : ℕ) (l : List ℕ) (p : ℕ) → count r (l ++ (p ∷ [])) ≡ count r l + once (eqb r p)
+unfolding count
+count-back r l p = let z = count-append r l (p ∷ []) in omega arith
+
+back-same : (p : ℕ) (l : List ℕ) (b : Bool) → count p l ≡ 0 → b ≡ true → count p (l ++ (p ∷ [])) ≡ once b
+back-same p l b e f =
+    let x = count-back p l p in let y : once b ≡ 1 = ap once f in let z : once (eqb p p) ≡ 1 = ap once (eqb-same p) in omega arith
+
+back-other : (r p : ℕ) (l : List ℕ) (n : ℕ) → (r ≡ p → ⊥) → count r l ≡ n → count r (l ++ (p ∷ [])) ≡ n
+back-other r p l n f e = let x = count-back r l p in let z : once (eqb r p) ≡ 0 = ap once (ne-eqb r p f) in omega arith
+
+-- the token that was taken is ready, so it is in the table
+module _ {ts : List Token} {p : ℕ} {queue waits : List ℕ} (l : Taken ts p queue waits) where
+  pub taken-ready : tokenAt ts p .state ≡ states.Ready
+  taken-ready =
+      ready-state _
+      (once-true _ (let a = l .ready p in let c : once (eqb p p) ≡ 1 = ap once (eqb-same p) in omega arith))
+
+  pub taken-inside : p < length ts
+  unfolding isReady
+  taken-inside = go (decLt p (length ts))
+    where
+      go : Dec (p < length ts) → p < length ts
+      go (yes i) = i
+      go (no n) =
+          clash (ap isReady taken-ready) (ap (λ (t : Token). isReady (t .state)) (token-outside ts p (omega arith)))
+
+-- it is written
+module _ {ts : List Token} {p : ℕ} {queue waits : List ℕ} (l : Taken ts p queue waits) where
+  abbrev i : p < length ts
+  i = taken-inside l
+
+  abbrev ready : tokenAt ts p .state ≡ states.Ready
+  ready = taken-ready l
+
+  not-queued : count p queue ≡ 0
+  unfolding isReady
+  not-queued =
+      let a = l .ready p in
+      let b : once (isReady (tokenAt ts p .state)) ≡ 1 = ap (λ s. once (isReady s)) ready in
+      let c : once (eqb p p) ≡ 1 = ap once (eqb-same p) in
+      omega arith
+
+  not-waiting : count p waits ≡ 0
+  unfolding isWaiting
+  not-waiting = l .waiting p ∙ ap (λ s. once (isWaiting s)) ready
+
+  others-ready : (r : ℕ) → (r ≡ p → ⊥) → count r queue ≡ once (isReady (tokenAt ts r .state))
+  others-ready r n = let a = l .ready r in let c : once (eqb r p) ≡ 0 = ap once (ne-eqb r p n) in omega arith
+
+  -- it ends, becomes a frame or is called out
+  pub lines-gone : (u : Token) → isReady (u .state) ≡ false → isWaiting (u .state) ≡ false → Lines (set ts p u) queue waits
+  lines-gone u a b =
+      record {
+        ready = written-names isReady ts p u queue i (not-queued ∙ sym (ap once a)) others-ready;
+        waiting = written-names isWaiting ts p u waits i (not-waiting ∙ sym (ap once b)) (λ r n. l .waiting r);
+      }
+
+  -- it goes to the back of the queue
+  pub lines-back : (u : Token) → u .state ≡ states.Ready → Lines (set ts p u) (queue ++ (p ∷ [])) waits
+  unfolding isReady isWaiting
+  lines-back u e =
+      record {
+        ready =
+            written-names isReady ts p u (queue ++ (p ∷ [])) i (back-same p queue _ not-queued (ap isReady e))
+            (λ r n. back-other r p queue _ n (others-ready r n));
+        waiting = written-names isWaiting ts p u waits i (not-waiting ∙ sym (ap (λ s. once (isWaiting s)) e)) (λ r n. l .waiting r);
+      }
+
+  -- it waits
+  pub lines-wait : (u : Token) (c : ℕ) → u .state ≡ states.Waiting c → Lines (set ts p u) queue (waits ++ (p ∷ []))
+  unfolding isReady isWaiting
+  lines-wait u c e =
+      record {
+        ready = written-names isReady ts p u queue i (not-queued ∙ sym (ap (λ s. once (isReady s)) e)) others-ready;
+        waiting =
+            written-names isWaiting ts p u (waits ++ (p ∷ [])) i (back-same p waits _ not-waiting (ap isWaiting e))
+            (λ r n. back-other r p waits _ n (l .waiting r));
+      }
+
+-- a ready token is put at the back, at a place that was in neither line
+pub lines-new : {ts : List Token} {queue waits : List ℕ} (q : ℕ) (u : Token) → q < length ts
+    → isReady (tokenAt ts q .state) ≡ false → isWaiting (tokenAt ts q .state) ≡ false → u .state ≡ states.Ready
+    → Lines ts queue waits → Lines (set ts q u) (queue ++ (q ∷ [])) waits
+unfolding isReady isWaiting
+lines-new {ts} {queue} {waits} q u i nr nw e l =
+    record {
+      ready =
+          written-names isReady ts q u (queue ++ (q ∷ [])) i (back-same q queue _ (l .ready q ∙ ap once nr) (ap isReady e))
+          (λ r n. back-other r q queue _ n (l .ready r));
+      waiting = written-names isWaiting ts q u waits i (l .waiting q ∙ ap once nw ∙ sym (ap (λ s. once (isWaiting s)) e))
+          (λ r n. l .waiting r);
+    }
+
+-- a line filtered
+count-kept : (test : ℕ → Bool) (r : ℕ) (l : List ℕ) → test r ≡ true → count r (filter test l) ≡ count r l
+unfolding filter count
+count-kept test r [] e = refl
+count-kept test r (x ∷ l) e = go (test x) refl (count-kept test r l e)
+  where
+    go : (b : Bool) → test x ≡ b → count r (filter test l) ≡ count r l
+        → count r (elim b as (λ b. List ℕ) [ true ↦ x ∷ filter test l | false ↦ filter test l ]) ≡ once (eqb r x) + count r l
+    go true q h = omega arith
+    go false q h = let y : once (eqb r x) ≡ 0 = ap once (ne-eqb r x (λ z. clash (ap test (sym z) ∙ e) q)) in omega arith
+
+count-dropped : (test : ℕ → Bool) (r : ℕ) (l : List ℕ) → test r ≡ false → count r (filter test l) ≡ 0
+unfolding filter count
+count-dropped test r [] e = refl
+count-dropped test r (x ∷ l) e = go (test x) refl (count-dropped test r l e)
+  where
+    go : (b : Bool) → test x ≡ b → count r (filter test l) ≡ 0
+        → count r (elim b as (λ b. List ℕ) [ true ↦ x ∷ filter test l | false ↦ filter test l ]) ≡ 0
+    go true q h = let y : once (eqb r x) ≡ 0 = ap once (ne-eqb r x (λ z. clash (ap test z ∙ q) e)) in omega arith
+    go false q h = h
+
+count-filter : (test : ℕ → Bool) (r : ℕ) (l : List ℕ) → (test r ≡ true → count r l ≡ 1) → count r (filter test l) ≡ once (test r)
+count-filter test r l h = go (test r) refl
+  where
+    go : (b : Bool) → test r ≡ b → count r (filter test l) ≡ once b
+    go true e = count-kept test r l e ∙ h e
+    go false e = count-dropped test r l e
+
+-- a choke: who is ready then was ready or waiting, who waits then waited
+woken-ready : (c : ℕ) (s : State) (t : Token) → t .state ≡ s → isReady (woken (waitsAt c s) t .state) ≡ true
+    → once (isReady s) + once (isWaiting s) ≡ 1
+unfolding woken waitsAt isReady isWaiting withState
+woken-ready c states.Blank t e h = clash h (ap isReady e)
+woken-ready c states.Ready t e h = refl
+woken-ready c (states.Waiting b) t e h = refl
+woken-ready c (states.Called g) t e h = clash h (ap isReady e)
+woken-ready c states.Frame t e h = clash h (ap isReady e)
+
+woken-waiting : (b : Bool) (t : Token) → isWaiting (woken b t .state) ≡ true → isWaiting (t .state) ≡ true
+unfolding woken isWaiting withState
+woken-waiting true t h = clash h refl
+woken-waiting false t h = h
+
+module _ (ts : List Token) (cs : List Cell) (c p : ℕ) (queue waits : List ℕ) (l : Taken ts p queue waits)
+    (own : within cs c (tokenAt ts p .cell) ≡ true) where
+  abbrev then : List Token
+  then = map (chokeToken cs c) ts
+
+  spared : (of : State → Bool) → of states.Blank ≡ false → (r : ℕ) → of (tokenAt then r .state) ≡ true
+      → within cs c (tokenAt ts r .cell) ≡ false
+  spared of none r e =
+      false-of _ (λ x. clash e (ap (λ (t : Token). of (t .state)) (choke-at cs c ts r ∙ choke-ends cs c (tokenAt ts r) x) ∙ none))
+
+  spared-at : (r : ℕ) → within cs c (tokenAt ts r .cell) ≡ false → tokenAt then r ≡ woken (waitsAt c (tokenAt ts r .state)) (tokenAt ts r)
+  spared-at r x = choke-at cs c ts r ∙ choke-spares cs c (tokenAt ts r) x
+
+  pub lines-choke :
+      Lines then (filter (λ (r : ℕ). isReady (tokenAt then r .state)) (queue ++ waits))
+      (filter (λ (r : ℕ). isWaiting (tokenAt then r .state)) waits)
+  unfolding isReady isWaiting
+  lines-choke =
+      record {
+        ready =
+            λ r.
+            count-filter (λ (r : ℕ). isReady (tokenAt then r .state)) r (queue ++ waits)
+            (λ e.
+            let x = spared isReady refl r e in
+            let a = woken-ready c (tokenAt ts r .state) (tokenAt ts r) refl
+            (ap (λ (t : Token). isReady (t .state)) (sym (spared-at r x)) ∙ e) in
+            let apart : once (eqb r p) ≡ 0 = ap once (ne-eqb r p (λ z. clash own (ap (λ y. within cs c (tokenAt ts y .cell)) (sym z) ∙ x)))
+            in
+            let b = l .ready r in
+            let d = l .waiting r in
+            let f = count-append r queue waits in
+            omega arith);
+        waiting =
+            λ r.
+            count-filter (λ (r : ℕ). isWaiting (tokenAt then r .state)) r waits
+            (λ e.
+            let x = spared isWaiting refl r e in
+            let w = ap (λ (t : Token). isWaiting (t .state)) (sym (spared-at r x)) ∙ e in
+            let a : once (isWaiting (tokenAt ts r .state)) ≡ 1 = ap once (woken-waiting (waitsAt c (tokenAt ts r .state)) (tokenAt ts r) w)
+            in
+            let d = l .waiting r in
+            omega arith);
+      }

@@ -1,0 +1,108 @@
+-- Every instruction of a ready token agrees with the abstract machine's: one clause for each node. The same lemma serves both directions,
+-- since it speaks of the machine before blanking and of whatever is not refused. Assumes nothing.
+use mathlib.Core.Path.{_≡_, refl, ap, subst}
+use mathlib.Core.Bool.{true}
+use mathlib.Core.List.{List}
+use Prim.Native.Nat.{ℕ}
+use native.Mathlib.Omega.{arith}
+use lib.IntN.{ℤ}
+use Rattle.job.specs.Node.{Node, Dag, bodyAt}
+use Rattle.model.specs.Machine.Limits.{Limits}
+use Rattle.model.specs.Machine.Blank.{tokenAt}
+use Rattle.model.specs.Machine.State.{isLive}
+use Rattle.model.specs.Machine.InUse.{tokensUsed, cellsUsed}
+use Rattle.model.specs.Machine.FreePlace.{nextPlace}
+use Rattle.model.specs.Machine.Reply.{unless}
+use Rattle.model.specs.Machine.Update.{withOrders}
+use Rattle.model.specs.Machine.Step.{forked, split, entered, hasTokenPlace, hasCellPlace, act}
+use Rattle.calculus.specs.Expression.{Exp}
+use Rattle.model.specs.declared.token.Held.{Held}
+use Rattle.model.specs.declared.token.State.{State}
+use Rattle.model.specs.declared.token.State.the-variants as states
+use Rattle.model.specs.declared.token.Token.{Token}
+use Rattle.model.specs.declared.record.Machine.{Machine}
+use Rattle.model.specs.declared.reply.Refusal.the-variants as refusals
+use Rattle.model.proofs.Machine.Marks.{Free}
+use Rattle.simulation.proofs.AbstractMachine as Abstract
+use Rattle.simulation.proofs.AbstractMachine.{Binding, Frame, at, running, Store, actsAt}
+use Rattle.simulation.proofs.Shuffle.{Split}
+use Rattle.model.proofs.Sees.Labels.{Labels, nodeMeant, programOf, FlowAt}
+use Rattle.model.proofs.Sees.View.{World, HeldSeen, StateSeen, ready, waiting, called, TokenSeen, sees}
+use Rattle.model.proofs.Sees.Seen.{Core, world, live-listed}
+use Rattle.model.proofs.Sees.Others.{Others, FoundAt, foundAt, find-place, others, spot-token}
+use Rattle.model.proofs.Sees.Agrees.{Acting, shows-unless, Agrees}
+use Rattle.model.proofs.Sees.OnePlace.{stop-agrees, publish-agrees, assign-agrees, remove-agrees, return-agrees, site-agrees}
+use Rattle.model.proofs.Sees.NewPlace.{fork-agrees, call-agrees, where-agrees}
+use Rattle.model.proofs.Sees.ChokeAgrees.{choke-agrees}
+
+-- a ready token at place p, found among the abstract machine's tokens
+pub data Taken (M : Labels) (W : World) (p : ℕ) (S : List Abstract.Token) : Type 0 where
+  taken : {L R : List Abstract.Token} {n : ℕ} {B : List Binding} {F : List Frame} {U : List ℕ} {v : ℤ}
+      → Split (running (at n B F U) v) S L R → Acting M W p L R n B F U v → Taken M W p S
+
+ready-is : {M : Labels} {n : ℕ} {K : Abstract.Place} {s : State} {w : Held} {x : Abstract.Token}
+    → s ≡ states.Ready → StateSeen M n K s w x → (v : ℤ) × (x ≡ running K v) × HeldSeen (M .value n) w v
+ready-is e (ready {v = v} h) = (v, refl, h)
+ready-is e (waiting f h) = let z : _≡_ {A = ℕ} 0 1 = cc in absurd (omega arith)
+ready-is e called = let z : _≡_ {A = ℕ} 0 1 = cc in absurd (omega arith)
+
+take-token : {M : Labels} {W : World} {p : ℕ} {S L R : List Abstract.Token} {x : Abstract.Token}
+    → tokenAt (W .tokens) p .state ≡ states.Ready → Split x S L R → Others M W p L R → TokenSeen W M (tokenAt (W .tokens) p) x
+    → Taken M W p S
+take-token {S = S} {L = L} {R = R} e i o (sees z un st) =
+    let r = ready-is e st in
+    taken (subst (λ x. Split x S L R) (r .1) i) (record { others = o; place = z; clear = un; value = r .2; state = e })
+
+pub take-ready : {M : Labels} {W : World} {A : List ℕ} {S : List Abstract.Token} (p : ℕ)
+    → Core M W A S → tokenAt (W .tokens) p .state ≡ states.Ready → Taken M W p S
+unfolding isLive
+take-ready {M} {W} {A} {S} p K e = go (find-place M W p (live-listed p K (ap isLive e)) (K .seen))
+  where
+    go : FoundAt M W p A S → Taken M W p S
+    go (foundAt i s) = take-token e i (others K s) (spot-token s)
+
+-- what each node does; the machine that acts is `before` with its orders changed
+module _ (lim : Limits) (d : Dag) (M : Labels) (bodies : ℕ → Exp) (before : Machine) (queue waits : List ℕ)
+    {name place : ℕ → ℕ} {σ : Store} {new p : ℕ}
+    {L R : List Abstract.Token} {n : ℕ} {B : List Binding} {F : List Frame} {U : List ℕ} {v : ℤ}
+    (A : Acting M (world (before .tokens) (before .cells) name place σ new) p L R n B F U v)
+    (token : hasTokenPlace lim before ≡ true → Free (tokensUsed before) (nextPlace (tokensUsed before) (before .lasttoken)))
+    (cell : hasCellPlace lim before ≡ true → Free (cellsUsed before) (nextPlace (cellsUsed before) (before .lastcell))) where
+  abbrev W : World
+  W = world (before .tokens) (before .cells) name place σ new
+
+  abbrev t : Token
+  t = tokenAt (before .tokens) p
+
+  abbrev m : Machine
+  m = withOrders queue waits before
+
+  abbrev q : ℕ
+  q = nextPlace (tokensUsed before) (before .lasttoken)
+
+  abbrev c : ℕ
+  c = nextPlace (cellsUsed before) (before .lastcell)
+
+  pub act-agrees : {N : Node} → FlowAt d M n N
+      → Agrees M W L R (before .calls) (act lim d before m p t N)
+      (actsAt (programOf d M bodies) σ new (before .calls) (nodeMeant (M .scope n) N) (at n B F U) v)
+  unfolding act withOrders
+  act-agrees FlowAt.stop = stop-agrees d M bodies m A
+  act-agrees (FlowAt.site {s = s} e good f) = site-agrees d M bodies m A lim s f e good
+  act-agrees (FlowAt.call {e = e} {ps = ps} {k = k} x good f enters) =
+      shows-unless _ (hasTokenPlace lim before) refusals.TokenLimit (entered m p t q (bodyAt d e .root) ps k)
+      (λ ok. call-agrees d M bodies m A q (token ok) good f enters)
+  act-agrees (FlowAt.fork {l = l} {r = r} a b f g) =
+      shows-unless _ (hasTokenPlace lim before) refusals.TokenLimit (forked m p t q l r)
+      (λ ok. fork-agrees d M bodies m A q (token ok) a b f g)
+  act-agrees (FlowAt.assign e l g f) = assign-agrees d M bodies m A e l g f
+  act-agrees (FlowAt.remove e l x g f) = remove-agrees d M bodies m A e l x g f
+  act-agrees (FlowAt.where' {x = x} {l = l} {r = r} a b i fresh f g) =
+      shows-unless _ (hasTokenPlace lim before) refusals.TokenLimit
+      (unless (hasCellPlace lim before) refusals.CellLimit (split m p t q c x l r))
+      (λ ok.
+      shows-unless _ (hasCellPlace lim before) refusals.CellLimit (split m p t q c x l r)
+      (λ too. where-agrees d M bodies m A q (token ok) c (cell too) a b i fresh f g))
+  act-agrees (FlowAt.choke e x) = choke-agrees d M bodies m A e
+  act-agrees (FlowAt.return e z x) = return-agrees d M bodies m A e z
+  act-agrees (FlowAt.publish e) = publish-agrees d M bodies m A e

@@ -1,0 +1,120 @@
+-- A blank token's words are 0, and no other token's: field by field. Assumes nothing.
+use mathlib.Core.Path.{_≡_, refl, sym, _∙_, ap, ap₂}
+use mathlib.Core.Bool.{Bool, true, not}
+use mathlib.Core.List.{List}
+use Prim.Native.Nat.{ℕ, zero, suc, _+_, _-_, _*_, _<_}
+use native.Mathlib.Omega.{arith}
+use lib.Dec.{eqb}
+use lib.ListN.{length, take, drop, length-drop}
+use lib.Seq.{ext-getD, getD-drop, getD-take, length-take-le}
+use Rattle.model.specs.declared.token.Slot.the-variants as slots
+use Rattle.model.specs.declared.token.Held.the-variants as helds
+use Rattle.model.specs.declared.token.Place.the-variants as places
+use Rattle.model.specs.declared.token.State.the-variants as states
+use Rattle.job.specs.Test.{_and_, all}
+use Rattle.model.specs.Machine.Blank.{empty, slotAt, isBound, isPlace, hasValue, tokenIsBlank}
+use Rattle.model.specs.Machine.State.{isBlankState}
+use Rattle.model.specs.declared.token.Slot.{Slot}
+use Rattle.model.specs.declared.token.Bind.{Bind}
+use Rattle.model.specs.declared.token.Held.{Held}
+use Rattle.model.specs.declared.token.Place.{Place}
+use Rattle.model.specs.declared.token.State.{State}
+use Rattle.model.specs.declared.token.Token.{Token}
+use Rattle.job.proofs.Test.{ne-eqb, eqb-eq, all-at, and-left, and-right, and-both}
+use Rattle.record.specs.Layout.{rowOf, placeNumber, stateKind, stateNumber, heldKind, heldNumber, slotKind, slotNumber}
+use Rattle.job.proofs.Lists.{table, listed, same-when}
+use Rattle.model.specs.Machine.Blank.{tokenAt}
+use Rattle.model.specs.declared.record.Machine.{Machine}
+use Rattle.record.specs.Holds.{Codes}
+use Rattle.record.proofs.Count.{words-long}
+use Rattle.record.proofs.LayoutParts.{row-wide}
+use Rattle.record.proofs.TokenRow.{token-word}
+use Rattle.coded.specs.WordTests.{tokenCoded}
+use Rattle.coded.proofs.WordTests.{zero-row}
+
+state-zero : (s : State) (b : Bool) → (eqb 0 (stateKind s) and eqb 0 (stateNumber s) and b) ≡ (isBlankState s and b)
+unfolding isBlankState _and_
+state-zero states.Blank b = refl
+state-zero states.Ready b = refl
+state-zero (states.Waiting c) b = refl
+state-zero (states.Called h) b = refl
+state-zero states.Frame b = refl
+
+held-zero : (v : Held) (b : Bool) → (eqb 0 (heldKind v) and eqb 0 (heldNumber v) and b) ≡ (not (hasValue v) and b)
+unfolding hasValue _and_
+held-zero helds.Nothing b = refl
+held-zero (helds.Value v) b = refl
+
+slot-zero : (s : Slot) {a b : Bool} → a ≡ b → (eqb 0 (slotKind s) and eqb 0 (slotNumber s) and a) ≡ (not (isBound s) and b)
+unfolding isBound _and_
+slot-zero slots.Empty e = e
+slot-zero (slots.Value v) e = refl
+slot-zero (slots.Cell c) e = refl
+
+place-zero : (q : Place) → eqb 0 (placeNumber q) ≡ not (isPlace q)
+unfolding isPlace
+place-zero places.Nowhere = refl
+place-zero (places.At p) = ne-eqb 0 (p + 1) (λ e. omega arith)
+
+zero-same : (n : ℕ) → eqb 0 n ≡ eqb n 0
+zero-same zero = refl
+zero-same (suc n) = ne-eqb 0 (suc n) (λ e. omega arith) ∙ sym (ne-eqb (suc n) 0 (λ e. omega arith))
+
+-- the slots' words
+abbrev slotZero : Slot → Bool → Bool
+slotZero s b = eqb 0 (slotKind s) and eqb 0 (slotNumber s) and b
+
+slots-zero : (bs : List Bind) → length bs ≡ 8
+    → slotZero (slotAt bs 0) (slotZero (slotAt bs 1) (slotZero (slotAt bs 2) (slotZero (slotAt bs 3)
+    (slotZero (slotAt bs 4) (slotZero (slotAt bs 5) (slotZero (slotAt bs 6) (slotZero (slotAt bs 7) true)))))))
+    ≡ all (λ (b : Bind). not (isBound (b .slot))) bs
+unfolding all table slotAt
+slots-zero bs l =
+    slot-zero (slotAt bs 0) (slot-zero (slotAt bs 1) (slot-zero (slotAt bs 2) (slot-zero (slotAt bs 3)
+    (slot-zero (slotAt bs 4) (slot-zero (slotAt bs 5) (slot-zero (slotAt bs 6) (slot-zero (slotAt bs 7) refl)))))))
+    ∙ sym (ap (all (λ (b : Bind). not (isBound (b .slot)))) (listed empty 8 bs l))
+
+-- a word that is always 0
+spare : (b : Bool) → (true and b) ≡ b
+unfolding _and_
+spare b = refl
+
+reordered : (a n p c v s : Bool) → (a and n and p and c and v and s) ≡ (a and n and s and v and p and c)
+reordered a n p c v s =
+    same-when _ _ (λ e. search (and-left, and-right, and-both) depth 9) (λ e. search (and-left, and-right, and-both) depth 9)
+
+pub row-zero : (t : Token) → length (t .binds) ≡ 8 → all (eqb 0) (rowOf t) ≡ tokenIsBlank t
+unfolding rowOf all tokenIsBlank
+row-zero t l =
+    state-zero (t .state) _
+    ∙ ap (_and_ (isBlankState (t .state)))
+    (ap₂ _and_ (zero-same (t .node))
+    (ap₂ _and_ (place-zero (t .caller))
+    (ap₂ _and_ (place-zero (t .cell))
+    (held-zero (t .value) _ ∙ ap (_and_ (not (hasValue (t .value)))) (spare _ ∙ slots-zero (t .binds) l)))))
+    ∙ reordered _ _ _ _ _ _
+
+-- the words of a place, from its first on
+module _ (ws : List ℕ) (p : ℕ) where
+  abbrev pub zeroRow : Bool
+  zeroRow = all (eqb 0) (take (24 * p + 24 - 24 * p) (drop (24 * p) ws))
+
+  as-row : zeroRow ≡ all (eqb 0) (take 24 (drop (24 * p) ws))
+  as-row = let e : 24 * p + 24 - 24 * p ≡ 24 = omega arith in ap (λ n. all (eqb 0) (take n (drop (24 * p) ws))) e
+
+  pub zero-coded : length ws ≡ 1797 → p < 64 → zeroRow ≡ true → tokenCoded ws p ≡ true
+  zero-coded long l e =
+      let size : length (take 24 (drop (24 * p) ws)) ≡ 24 = length-take-le 24 (drop (24 * p) ws) (omega (arith, length-drop (24 * p) ws)) in
+      zero-row ws (24 * p) (λ k b.
+      sym (getD-take 24 (drop (24 * p) ws) k 0 b ∙ getD-drop (24 * p) ws k 0)
+      ∙ sym (eqb-eq 0 _ (all-at (eqb 0) (take 24 (drop (24 * p) ws)) k 0 (sym as-row ∙ e) (omega arith))))
+
+  pub zero-blank : p < 64 → (m : Machine) → Codes ws m → zeroRow ≡ tokenIsBlank (tokenAt (m .tokens) p)
+  zero-blank l m h =
+      let t = tokenAt (m .tokens) p in
+      let size : length (take 24 (drop (24 * p) ws)) ≡ 24 = length-take-le 24 (drop (24 * p) ws)
+      (omega (arith, length-drop (24 * p) ws, words-long h)) in
+      as-row
+      ∙ ap (all (eqb 0)) (ext-getD 0 (take 24 (drop (24 * p) ws)) (rowOf t) (size ∙ sym (row-wide t))
+      (λ k b. getD-take 24 (drop (24 * p) ws) k 0 (omega arith) ∙ getD-drop (24 * p) ws k 0 ∙ token-word h p l k (omega arith)))
+      ∙ row-zero t (h .shaped .binds p)

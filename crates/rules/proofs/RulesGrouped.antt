@@ -1,0 +1,106 @@
+-- The rules of a dag and a record, regrouped: the tables' first, then the others. Assumes nothing.
+use mathlib.Core.Path.{_≡_, sym, _∙_, ap, ap₂}
+use mathlib.Core.Bool.{Bool, true, false, _&&_}
+use mathlib.Core.List.{List}
+use lib.ListN.{length}
+use lib.Dec.{ltb, leb}
+use Prim.Native.Nat.{ℕ}
+use Rattle.job.specs.Test.{_and_, all, allFrom, differ}
+use Rattle.job.specs.Node.{Dag, dagHolds}
+use Rattle.model.specs.Machine.Limits.{paper}
+use Rattle.model.specs.Machine.Blank.{tokenIsBlank, cellIsBlank}
+use Rattle.model.specs.Machine.InUse.{tokensUsed, cellsUsed}
+use Rattle.model.specs.Machine.Rules.{sizesInRange, tokenInRange, cellInRange, machineHolds, rulesHold}
+use Rattle.model.specs.Machine.State.{isReady, isWaiting}
+use Rattle.model.specs.Machine.Rules.{namesOnce, chainEnds, chainsEnd, notUnderSet, openHandles, waitsAtUnset, atNode, restIsBlank}
+use Rattle.model.specs.declared.token.Token.{Token}
+use Rattle.model.specs.declared.cell.Cell.{Cell}
+use Rattle.model.specs.declared.record.Machine.{Machine}
+use Rattle.job.proofs.Test.{and-left, and-right, and-both}
+use Rattle.model.proofs.Machine.InUse.{tokens-used, cells-used}
+use Rattle.job.proofs.Lists.{same-when}
+use Rattle.job.proofs.Both.{both, both-is}
+use Rattle.row_rules.specs.RowRules.{tokenRule, cellRule}
+use Rattle.rules.specs.OrderCounts.{namedAs, namedByBoth}
+use Rattle.rules.proofs.RestBlank.{all-both}
+use Rattle.rules.proofs.RulesRows.{from-both}
+
+-- the tests in the code's order and in the sentence's; each order is tested in two parts
+regrouped : (s r cr ce tu h tw ta tb cb a b q w : Bool)
+    → ((((((((r and ta and tu and tw) and tb) and (a and b)) and h) and ((cr and ce) and cb)) and s) and (q and w)))
+    ≡ (s and r and cr and (a and q) and ce and tu and h and (b and w) and tw and ta and tb and cb)
+regrouped s r cr ce tu h tw ta tb cb a b q w =
+    same-when _ _ (λ e. search (and-left, and-right, and-both) depth 16) (λ e. search (and-left, and-right, and-both) depth 16)
+
+with-orders : (s r cr ce tu h tw ta tb cb a b q w queue waits : Bool) → (a and q) ≡ queue → (b and w) ≡ waits
+    → ((((((((r and ta and tu and tw) and tb) and (a and b)) and h) and ((cr and ce) and cb)) and s) and (q and w)))
+    ≡ (s and r and cr and queue and ce and tu and h and waits and tw and ta and tb and cb)
+with-orders s r cr ce tu h tw ta tb cb a b q w queue waits e f =
+    regrouped s r cr ce tu h tw ta tb cb a b q w
+    ∙ ap₂ (λ x y. s and r and cr and x and ce and tu and h and y and tw and ta and tb and cb) e f
+
+module _ (d : Dag) (m : Machine) where
+  -- the dag's rules first
+  pub dag-breaks : dagHolds d ≡ false → false ≡ rulesHold paper d m
+  unfolding rulesHold _and_
+  dag-breaks e = rw e
+
+  dag-keeps : dagHolds d ≡ true → machineHolds paper d m ≡ rulesHold paper d m
+  unfolding rulesHold _and_
+  dag-keeps e = rw e
+
+  -- rule by rule
+  token-rules : all (tokenRule d m) (m .tokens)
+      ≡ (all (tokenInRange paper d (m .calls)) (m .tokens) and all (atNode d (m .tokens)) (m .tokens)
+      and all (notUnderSet (m .cells)) (m .tokens) and all (λ (t : Token). waitsAtUnset (m .cells) (t .state)) (m .tokens))
+  token-rules =
+      all-both (tokenInRange paper d (m .calls)) _ (m .tokens)
+      ∙ ap (_and_ (all (tokenInRange paper d (m .calls)) (m .tokens)))
+      (all-both (atNode d (m .tokens)) _ (m .tokens)
+      ∙ ap (_and_ (all (atNode d (m .tokens)) (m .tokens)))
+      (all-both (notUnderSet (m .cells)) (λ (t : Token). waitsAtUnset (m .cells) (t .state)) (m .tokens)))
+
+  module _ (tokens : length (m .tokens) ≡ 64) (cells : length (m .cells) ≡ 32) where
+    cell-rules : all (cellRule d (m .cells)) (m .cells) ≡ (all (cellInRange paper) (m .cells) and chainsEnd (m .cells))
+    unfolding chainsEnd
+    cell-rules =
+        all-both (cellInRange paper) (λ (c : Cell). chainEnds (m .cells) 32 (c .parent)) (m .cells)
+        ∙ ap (λ n. all (cellInRange paper) (m .cells) and all (λ (c : Cell). chainEnds (m .cells) n (c .parent)) (m .cells)) (sym cells)
+
+    sizes-parts : sizesInRange paper m ≡ (leb (m .calls) 1000000 and ltb (m .lasttoken) 64 and ltb (m .lastcell) 32)
+    unfolding sizesInRange _and_
+    sizes-parts = rw (tokens, cells)
+
+    -- how many marks there are
+    pub tokens-marked : {used : List Bool} → used ≡ tokensUsed m → length used ≡ 64
+    tokens-marked e = ap length e ∙ tokens-used (m .tokens) (m .cells) .size ∙ tokens
+
+    pub cells-marked : {used : List Bool} → used ≡ cellsUsed m → length used ≡ 32
+    cells-marked e = ap length e ∙ cells-used (tokensUsed m) (m .tokens) (m .cells) (tokens-used (m .tokens) (m .cells) .size) .size ∙ cells
+
+    -- all results together
+    pub rules-are : dagHolds d ≡ true → {used marks : List Bool} → used ≡ tokensUsed m → marks ≡ cellsUsed m
+        → (queue waits : List ℕ) (queued waited : Bool) {first second sizes : Bool}
+        → first
+        ≡ (((all (tokenRule d m) (m .tokens) and restIsBlank tokenIsBlank used (m .tokens)) and allFrom (namedByBoth queue waits) 0
+        (m .tokens))
+        and differ (openHandles (m .tokens)))
+        → second ≡ (all (cellRule d (m .cells)) (m .cells) and restIsBlank cellIsBlank marks (m .cells))
+        → sizes ≡ (leb (m .calls) 1000000 and ltb (m .lasttoken) 64 and ltb (m .lastcell) 32)
+        → (allFrom (namedAs 1 queue) 0 (m .tokens) and queued) ≡ namesOnce isReady (m .tokens) (m .queue) (m .queued)
+        → (allFrom (namedAs 2 waits) 0 (m .tokens) and waited) ≡ namesOnce isWaiting (m .tokens) (m .waits) (m .waiting)
+        → (first && second && sizes && (queued && waited)) ≡ rulesHold paper d m
+    unfolding machineHolds
+    rules-are holds e f queue waits queued waited firsts seconds sized queues delays =
+        both
+        (both
+        (both
+        (firsts
+        ∙ ap₂ (λ x y. (x and y) and differ (openHandles (m .tokens)))
+        (ap₂ _and_ token-rules (ap (λ us. restIsBlank tokenIsBlank us (m .tokens)) e))
+        (from-both (namedAs 1 queue) (namedAs 2 waits) 0 (m .tokens)))
+        (seconds ∙ ap₂ _and_ cell-rules (ap (λ us. restIsBlank cellIsBlank us (m .cells)) f)))
+        (sized ∙ sym sizes-parts))
+        (both-is queued waited)
+        ∙ with-orders _ _ _ _ _ _ _ _ _ _ _ _ _ _ _ _ queues delays
+        ∙ dag-keeps holds
