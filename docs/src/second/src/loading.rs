@@ -24,7 +24,8 @@ const NODES_SHOWN: usize = 8;
 pub struct Sample {
     pub name: String,
     pub bytes: Vec<u8>,
-    /// The first line printed of it, as the paper says or as worked out by hand.
+    /// The first line printed of it: as the paper says, as worked out by hand, or as an earlier
+    /// reader, which is gone, said of `shapes::small` and `damaged::short`.
     pub line: String,
 }
 
