@@ -27,6 +27,27 @@ pub fn any_case(random: &mut Random) -> Vec<u8> {
     }
 }
 
+/// Tables without answers, most of them small and none large.
+pub fn tables(seed: u64, count: usize) -> Vec<Vec<u8>> {
+    let mut random = Random::new(seed);
+    (0..count).map(|_| small_table(&mut random)).collect()
+}
+
+fn small_table(random: &mut Random) -> Vec<u8> {
+    loop {
+        let table = match random.below(100) {
+            0..=44 => program(random).bytes(),
+            45..=89 => damaged_table(random),
+            90..=94 => clash_case(random),
+            _ => random_bytes(random),
+        };
+        // 20 entries, or 60.
+        if table.len() <= 104 || table.len() <= 304 && random.percent(20) {
+            return table;
+        }
+    }
+}
+
 // Valid cases.
 
 fn valid_case(random: &mut Random) -> Vec<u8> {
@@ -333,6 +354,15 @@ fn append_piece(random: &mut Random, bytes: &mut Vec<u8>) {
 // Damaged cases.
 
 fn damaged_case(random: &mut Random) -> Vec<u8> {
+    let mut bytes = damaged_table(random);
+    if random.percent(30) {
+        append_record(&mut bytes, 0, value(random));
+        append_piece(random, &mut bytes);
+    }
+    bytes
+}
+
+fn damaged_table(random: &mut Random) -> Vec<u8> {
     let program = program(random);
     let mut damaged =
         Damaged { definitions: program.definitions.len() as u16, rows: program.rows() };
@@ -347,10 +377,6 @@ fn damaged_case(random: &mut Random) -> Vec<u8> {
     let mut bytes = encode(damaged.definitions, &damaged.rows);
     if target == 1 || random.percent(3) {
         bytes.truncate(random.below(bytes.len()));
-    }
-    if random.percent(30) {
-        append_record(&mut bytes, 0, value(random));
-        append_piece(random, &mut bytes);
     }
     bytes
 }

@@ -5,7 +5,8 @@
 //! `syntax`, `random` and `generator` make others by chance, `cases` keeps all of them in one file;
 //! `coverage` and `report` tell what they reach. `words` and `layout` have dags and records as
 //! words, `memory` as bytes, with the calls on them; `trials` is a list of lawful and broken ones,
-//! `outcome` what the calls on them print.
+//! `outcome` what the calls on them print. `loading` is a list of tables, and what `load` says of
+//! each.
 
 pub mod cases;
 pub mod coverage;
@@ -14,6 +15,7 @@ pub mod edges;
 pub mod generator;
 pub mod layout;
 pub mod lines;
+pub mod loading;
 pub mod machine;
 pub mod memory;
 pub mod outcome;

@@ -1,0 +1,66 @@
+//! `tables --write FILE`: writes the tables to load, each behind its length.
+//! `tables --lines FILE`: what the program of crate `tables` prints for such a file.
+//! `tables --small FILE DIRECTORY`: writes those of its tables that have a small dag into files of
+//! a directory, so few to a file that the program prints all their words.
+//! `tables --names`: the names of the tables that have one, in the order of the file.
+
+use second::{cases, loading};
+use std::fs;
+use std::io::{self, Write};
+use std::path::Path;
+use std::process::ExitCode;
+
+const USAGE: &str = "usage: tables --write FILE | --lines FILE | --small FILE DIRECTORY | --names";
+
+fn main() -> ExitCode {
+    let arguments: Vec<String> = std::env::args().skip(1).collect();
+    let words: Vec<&str> = arguments.iter().map(String::as_str).collect();
+    let done = match words[..] {
+        ["--write", file] => write(file),
+        ["--lines", file] => lines(file),
+        ["--small", file, directory] => small(file, Path::new(directory)),
+        ["--names"] => names(),
+        _ => Err(io::Error::other(USAGE)),
+    };
+    match done {
+        Ok(()) => ExitCode::SUCCESS,
+        Err(error) => {
+            eprintln!("tables: {error}");
+            ExitCode::FAILURE
+        }
+    }
+}
+
+fn write(file: &str) -> io::Result<()> {
+    let bytes = loading::file(&loading::tables(loading::SEED, loading::COUNT));
+    if bytes.len() > loading::MOST_BYTES {
+        return Err(io::Error::other(format!("{} bytes are more than are read", bytes.len())));
+    }
+    fs::write(file, bytes)
+}
+
+fn lines(file: &str) -> io::Result<()> {
+    let bytes = fs::read(file)?;
+    io::stdout().write_all(loading::lines(&split(&bytes)?).as_bytes())
+}
+
+fn small(file: &str, directory: &Path) -> io::Result<()> {
+    let bytes = fs::read(file)?;
+    fs::create_dir_all(directory)?;
+    for (number, file) in loading::shown_whole(&split(&bytes)?).iter().enumerate() {
+        fs::write(directory.join(number.to_string()), file)?;
+    }
+    Ok(())
+}
+
+fn names() -> io::Result<()> {
+    let mut out = io::BufWriter::new(io::stdout().lock());
+    for sample in loading::named() {
+        writeln!(out, "{}", sample.name)?;
+    }
+    out.flush()
+}
+
+fn split(file: &[u8]) -> io::Result<Vec<&[u8]>> {
+    cases::split(file).ok_or_else(|| io::Error::other("the file is cut short"))
+}
