@@ -1,4 +1,4 @@
-// Loads each table of standard input and prints what came back; of the first three also the words of the dag. A table stands behind its
+// Loads each table of standard input and prints what came back, of an accepted one also the words of its dag. A table stands behind its
 // length, 4 bytes, the lowest first; there are at most 65,536 bytes in all.
 use job::dag::DEFINITION_COUNT;
 use job::dag::DEFINITIONS_START;
@@ -52,7 +52,7 @@ fn head(dag: &[u32; WORDS]) {
 
 // The words of so many nodes.
 fn rows(dag: &[u32; WORDS], nodes: usize)
-    requires { ⌜ nodes ≤ 8 ⌝ }
+    requires { ⌜ nodes ≤ 1022 ⌝ }
 {
     let mut i = 0;
     while i < nodes {
@@ -63,7 +63,7 @@ fn rows(dag: &[u32; WORDS], nodes: usize)
     }
 }
 
-fn show(table: &[u8], dag: &mut [u32; WORDS], whole: bool) {
+fn show(table: &[u8], dag: &mut [u32; WORDS]) {
     let answer = table::load(table, dag);
     match answer {
         Loaded::Refused(n, e) => {
@@ -76,11 +76,9 @@ fn show(table: &[u8], dag: &mut [u32; WORDS], whole: bool) {
             text(b"dag");
             number(nodes as u64);
             text(b"\n");
-            if whole {
-                if nodes <= 8 {
-                    head(dag);
-                    rows(dag, nodes);
-                }
+            if nodes <= 1022 {
+                head(dag);
+                rows(dag, nodes);
             }
         }
     }
@@ -97,7 +95,6 @@ fn show_all(input: &[u8], n: usize)
 {
     let mut dag = [0u32; WORDS];
     let mut at = 0;
-    let mut i: usize = 0;
     while at + 4 <= n {
         let from = at + 4;
         let size = four_bytes(input[at], input[at + 1], input[at + 2], input[at + 3]);
@@ -106,9 +103,8 @@ fn show_all(input: &[u8], n: usize)
             return;
         }
         let to = from + size;
-        show(&input[from..to], &mut dag, i < 3);
+        show(&input[from..to], &mut dag);
         at = to;
-        i += 1;
     }
 }
 

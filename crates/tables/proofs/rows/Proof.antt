@@ -1,11 +1,11 @@
--- `rows` is safe and ends: at most eight rows lie in the array, and fewer are left with each turn. Assumes nothing.
+-- `rows` is safe and ends: at most 1,022 rows lie in the array, and fewer are left with each turn. Assumes nothing.
 use Prim.Native.Nat.{_-_, _≤_}
 use borrow.Author.Needs.{needs}
 use Rattle.tables.proofs.rows.Statement.{statement}
 use Rattle.tables.proofs.rows.Tie as tie
 
 abbrev Inv-loop : tie.InvT-loop
-Inv-loop dag nodes i₀ t4 i = nodes ≤ 8
+Inv-loop dag nodes i₀ t4 i = nodes ≤ 1022
 
 abbrev μ-loop : tie.MeasureT-loop
 μ-loop dag nodes i₀ t4 i = nodes - i

@@ -6,10 +6,10 @@ use Rattle.tables.proofs.show_all.Statement.{statement}
 use Rattle.tables.proofs.show_all.Tie as tie
 
 abbrev Inv-loop : tie.InvT-loop
-Inv-loop input n dag₀ at₀ i₀ t9 dag at i = (at ≤ n) × (i ≤ at) × (n ≤ length input) × (n ≤ 65536)
+Inv-loop input n dag₀ at₀ t8 dag at = (at ≤ n) × (n ≤ length input) × (n ≤ 65536)
 
 abbrev μ-loop : tie.MeasureT-loop
-μ-loop input n dag₀ at₀ i₀ t9 dag at i = n - at
+μ-loop input n dag₀ at₀ t8 dag at = n - at
 
 loop-holds : tie.Need-loop-holds Inv-loop μ-loop
 loop-holds c = search needs
@@ -71,9 +71,6 @@ part-show-end c = search needs
 show-requires : tie.Need-show-requires Inv-loop μ-loop
 show-requires c κs = search needs
 
-add-i : tie.Need-add-i Inv-loop μ-loop
-add-i c = search needs
-
 loop-less : tie.Need-loop-less Inv-loop μ-loop
 loop-less c = search needs
 
@@ -109,7 +106,6 @@ show-all-spec =
     part-show-start
     part-show-end
     show-requires
-    add-i
     loop-less
     loop-again
     returns-2)

@@ -1,8 +1,7 @@
 //! Tables to load: named ones, then some made by chance from a seed, and what `load` says of each.
 //!
 //! Of an accepted table it says the number of nodes, of any other the number and the entry of the
-//! refusal. The words of a dag are printed for the first tables of a file only, and for small dags;
-//! so the first three named tables have every kind of node between them.
+//! refusal; then the words of the dag.
 
 mod damaged;
 mod places;
@@ -15,11 +14,8 @@ use crate::{cases, dag, generator, table, words};
 pub const SEED: u64 = 1;
 pub const COUNT: usize = 200;
 
-/// How many bytes the program of crate `tables` reads; of how many tables, and of which, it prints
-/// the words.
+/// How many bytes the program of crate `tables` reads.
 pub const MOST_BYTES: usize = 65_536;
-const TABLES_SHOWN: usize = 3;
-const NODES_SHOWN: usize = 8;
 
 pub struct Sample {
     pub name: String,
@@ -50,18 +46,7 @@ pub fn tables(seed: u64, count: usize) -> Vec<Vec<u8>> {
 
 /// What the program prints for these tables, in this order.
 pub fn lines(tables: &[&[u8]]) -> String {
-    let shown = |(number, bytes): (usize, &&[u8])| load(bytes, number < TABLES_SHOWN);
-    tables.iter().enumerate().map(shown).collect()
-}
-
-/// Those of the tables whose dags are small, as files of so many that all their words are printed.
-pub fn shown_whole(tables: &[&[u8]]) -> Vec<Vec<u8>> {
-    let is_small = |bytes: &[u8]| match table::read(bytes) {
-        Ok(table) => dag::build(&table).nodes.len() <= NODES_SHOWN,
-        Err(_) => false,
-    };
-    let small: Vec<&[u8]> = tables.iter().copied().filter(|bytes| is_small(bytes)).collect();
-    small.chunks(TABLES_SHOWN).map(file).collect()
+    tables.iter().map(|bytes| load(bytes)).collect()
 }
 
 /// Tables one behind the other, each behind its length.
@@ -71,19 +56,17 @@ pub fn file<T: AsRef<[u8]>>(tables: &[T]) -> Vec<u8> {
     bytes
 }
 
-fn load(bytes: &[u8], shown: bool) -> String {
+fn load(bytes: &[u8]) -> String {
     let table = match table::read(bytes) {
         Ok(table) => table,
         Err(refusal) => return format!("refused {} {}\n", refusal.number, refusal.entry),
     };
     let dag = dag::build(&table);
     let mut lines = format!("dag {}\n", dag.nodes.len());
-    if shown && dag.nodes.len() <= NODES_SHOWN {
-        let words = words::write(&dag);
-        lines += &line("head", &words[..3 + 2 * dag.definitions.len()]);
-        for row in words[words::HEAD..].chunks(words::ROW).take(dag.nodes.len()) {
-            lines += &line("node", row);
-        }
+    let words = words::write(&dag);
+    lines += &line("head", &words[..3 + 2 * dag.definitions.len()]);
+    for row in words[words::HEAD..].chunks(words::ROW).take(dag.nodes.len()) {
+        lines += &line("node", row);
     }
     lines
 }

@@ -1,16 +1,13 @@
 //! `tables --write FILE`: writes the tables to load, each behind its length.
 //! `tables --lines FILE`: what the program of crate `tables` prints for such a file.
-//! `tables --small FILE DIRECTORY`: writes those of its tables that have a small dag into files of
-//! a directory, so few to a file that the program prints all their words.
 //! `tables --names`: the names of the tables that have one, in the order of the file.
 
 use second::{cases, loading};
 use std::fs;
 use std::io::{self, Write};
-use std::path::Path;
 use std::process::ExitCode;
 
-const USAGE: &str = "usage: tables --write FILE | --lines FILE | --small FILE DIRECTORY | --names";
+const USAGE: &str = "usage: tables --write FILE | --lines FILE | --names";
 
 fn main() -> ExitCode {
     let arguments: Vec<String> = std::env::args().skip(1).collect();
@@ -18,7 +15,6 @@ fn main() -> ExitCode {
     let done = match words[..] {
         ["--write", file] => write(file),
         ["--lines", file] => lines(file),
-        ["--small", file, directory] => small(file, Path::new(directory)),
         ["--names"] => names(),
         _ => Err(io::Error::other(USAGE)),
     };
@@ -42,15 +38,6 @@ fn write(file: &str) -> io::Result<()> {
 fn lines(file: &str) -> io::Result<()> {
     let bytes = fs::read(file)?;
     io::stdout().write_all(loading::lines(&split(&bytes)?).as_bytes())
-}
-
-fn small(file: &str, directory: &Path) -> io::Result<()> {
-    let bytes = fs::read(file)?;
-    fs::create_dir_all(directory)?;
-    for (number, file) in loading::shown_whole(&split(&bytes)?).iter().enumerate() {
-        fs::write(directory.join(number.to_string()), file)?;
-    }
-    Ok(())
 }
 
 fn names() -> io::Result<()> {
