@@ -34,7 +34,6 @@ use Rattle.model.specs.declared.token.Place.the-variants as places
 use Rattle.model.specs.declared.token.Slot.the-variants as slots
 use Rattle.model.specs.declared.token.State.the-variants as states
 use Rattle.model.specs.declared.token.Token.{Token}
-use Rattle.model.proofs.Keeps.Facts.{blank-at}
 use Rattle.model.proofs.Machine.WrittenTokens.{Choked, ends, wakes, stays, choked-cases}
 use Rattle.record.specs.Changes.{dequeued}
 use Rattle.sites.specs.Row.{nodeIn, paramsAt}
@@ -43,6 +42,7 @@ use Rattle.acts.specs.SharedFrames.{NamesAsCaller, OneCallee, callerShar
 use Rattle.acts.proofs.Outcomes.{step-is}
 use Rattle.acts.proofs.SharedFrames.{nowhere-at, blank-names, unshared, NoNewCallee, callees-kept, After, effect-callees}
 use Rattle.acts.proofs.SharedFrames.{swept-callees, put-names, put-callees, blank-callees}
+use Rattle.job.proofs.Lists.{replicate-at}
 
 -- a choked token has the caller that it had, or none
 choked-names : (cs : List Cell) (c f : ℕ) (t : Token) → chokeToken cs c t .caller ≡ places.At f → t .caller ≡ places.At f
@@ -283,4 +283,4 @@ start-callees s goal f i j e a b = go (put-names (blankMachine paper) 0 (startTo
   where
     go : ((i ≡ 0) × (startToken goal .caller ≡ places.At f)) ⊎ ((i ≡ 0 → ⊥) × NamesAsCaller (blankMachine paper) f i) → i ≡ j
     go (inl w) = absurd (nowhere-at f (w .1))
-    go (inr w) = absurd (blank-names (blankMachine paper) f i (blank-at 64 i blankToken) (w .1))
+    go (inr w) = absurd (blank-names (blankMachine paper) f i (replicate-at 64 i blankToken) (w .1))

@@ -18,13 +18,12 @@ use Rattle.model.specs.declared.token.Place.{Place}
 use Rattle.model.specs.declared.token.Place.the-variants as places
 use Rattle.model.specs.declared.token.Token.{Token}
 use Rattle.job.proofs.Test.{clash}
-use Rattle.model.proofs.Keeps.Facts.{blank-at}
-use Rattle.model.proofs.Machine.InUse.{token-outside}
 use Rattle.model.proofs.Machine.Blanking.{kept-marked, kept-free}
-use Rattle.model.proofs.Sees.Others.{token-same, token-other}
 use Rattle.model.proofs.Keeps.Clean.{tokensOf}
 use Rattle.acts.specs.Acting.{Lawful}
 use Rattle.acts.specs.SharedFrames.{NamesAsCaller, OneCallee, callerShared}
+use Rattle.job.proofs.Lists.{replicate-at}
+use Rattle.model.proofs.Machine.TableRows.{token-same, token-other, token-outside}
 
 pub nowhere-at : (f : ℕ) → places.Nowhere ≡ places.At f → ⊥
 nowhere-at f e = let z : _≡_ {A = ℕ} 0 1 = cc in absurd (omega arith)
@@ -122,4 +121,4 @@ module _ (s : List Bool) (m n : Machine) (same : n .tokens ≡ m .tokens) (p : �
 
 -- where every place is marked nothing is asked
 pub all-shared : {ws dag : List ℕ} {used cells : List Bool} {m : Machine} → Lawful ws used cells dag m → OneCallee (replicate 64 true) m
-all-shared l f i j e a b = clash (blank-at 64 f true) e
+all-shared l f i j e a b = clash (replicate-at 64 f true) e

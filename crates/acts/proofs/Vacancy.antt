@@ -22,12 +22,12 @@ use Rattle.model.proofs.Machine.Choke.{choke-at}
 use Rattle.job.proofs.Test.{clash}
 use Rattle.model.proofs.Machine.Rules.{ready-live, each-rule-holds}
 use Rattle.model.proofs.Machine.Used.{Used, live-used}
-use Rattle.model.proofs.Sees.Others.{token-other}
 use Rattle.model.proofs.Keeps.Clean.{Clean, cellsOf}
 use Rattle.demand3.proofs.Unblanked.{rules-clean}
 use Rattle.reach.specs.Marks.{Vacant}
 use Rattle.acts.specs.Acting.{Lawful, Taking}
 use Rattle.acts.proofs.Outcomes.{token-ready}
+use Rattle.model.proofs.Machine.TableRows.{token-other}
 
 module _ {ws dag : List ℕ} {used cells : List Bool} {m : Machine} (a : Lawful ws used cells dag m) where
   pub clean : Clean m

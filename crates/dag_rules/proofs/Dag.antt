@@ -3,48 +3,18 @@
 use mathlib.Core.Path.{_≡_, refl, sym, _∙_, ap, ap₂}
 use mathlib.Core.Bool.{true, false}
 use mathlib.Core.List.{List}
-use Prim.Native.Nat.{ℕ, zero, suc, _+_, _-_, _*_, _<_, _≤_}
+use Prim.Native.Nat.{ℕ, _+_, _-_, _*_, _<_, _≤_}
 use native.Mathlib.Omega.{arith}
 use lib.ListN.{length, getD, take, drop, length-drop}
 use lib.Seq.{drop-drop, getD-drop, length-take-le}
 use lib.Dec.{ltb, leb}
 use Rattle.job.specs.Test.{_and_, all}
 use Rattle.job.specs.Node.{Node, Body, nodeAt, nodeHolds, bodyHolds, isNode, dagHolds}
-use Rattle.job.specs.Words.{nodeBy, decodedNode, nodesFrom, bodiesFrom, dagOf}
+use Rattle.job.specs.Words.{nodeBy, decodedNode, dagOf}
 use Rattle.job.proofs.Test.{le-leb, lt-not-leb, and-right, all-at}
 use Rattle.dag_rules.specs.NodeWords.{rowHolds}
 use Rattle.dag_rules.proofs.NodeWords.{node-row, row-node}
-
-length-nodesFrom : (n : ℕ) (ws : List ℕ) → length (nodesFrom n ws) ≡ n
-unfolding nodesFrom
-length-nodesFrom zero ws = refl
-length-nodesFrom (suc n) ws = ap suc (length-nodesFrom n (drop 12 ws))
-
-node-from : (n i : ℕ) (ws : List ℕ) → i < n → getD (nodesFrom n ws) i Node.unknown ≡ decodedNode (take 12 (drop (12 * i) ws))
-unfolding nodesFrom
-node-from zero i ws l = absurd (omega arith)
-node-from (suc n) zero ws l = refl
-node-from (suc n) (suc i) ws l =
-    let e : 12 + 12 * i ≡ 12 * suc i = omega arith in
-    node-from n i (drop 12 ws) (omega arith) ∙ ap (λ xs. decodedNode (take 12 xs)) (drop-drop (12 * i) 12 ws ∙ ap (λ k. drop k ws) e)
-
-length-bodiesFrom : (n : ℕ) (ws : List ℕ) → length (bodiesFrom n ws) ≡ n
-unfolding bodiesFrom
-length-bodiesFrom zero ws = refl
-length-bodiesFrom (suc n) ws = ap suc (length-bodiesFrom n (drop 2 ws))
-
-body-from : (n i : ℕ) (ws : List ℕ) (d : Body) → i < n
-    → getD (bodiesFrom n ws) i d ≡ record { root = getD ws (2 * i) 0; formals = getD ws (2 * i + 1) 0 }
-unfolding bodiesFrom
-body-from zero i ws d l = absurd (omega arith)
-body-from (suc n) zero ws d l = refl
-body-from (suc n) (suc i) ws d l =
-    let e : 2 + 2 * i ≡ 2 * suc i = omega arith in
-    let f : 2 + (2 * i + 1) ≡ 2 * suc i + 1 = omega arith in
-    body-from n i (drop 2 ws) d (omega arith)
-    ∙ ap₂ (λ r k. record { root = r; formals = k })
-    (getD-drop 2 ws (2 * i) 0 ∙ ap (λ k. getD ws k 0) e)
-    (getD-drop 2 ws (2 * i + 1) 0 ∙ ap (λ k. getD ws k 0) f)
+use Rattle.job.proofs.Words.{length-nodesFrom, length-bodiesFrom, node-from, body-from}
 
 module _ (ws : List ℕ) where
   pub nodes-length : length (dagOf ws .nodes) ≡ getD ws 0 0

@@ -37,7 +37,6 @@ use Rattle.model.specs.declared.reply.Refusal.the-variants as refusals
 use Rattle.job.proofs.Test.{clash, eqb-same, ltb-lt, and-left, and-right}
 use Rattle.job.proofs.DagRules.{body-rules}
 use Rattle.model.proofs.Machine.Refused.{After, after-unless}
-use Rattle.model.proofs.Sees.Others.{token-other}
 use Rattle.model.proofs.Keeps.NamedOnce.{Lines, Taken, taken-ready, taken-inside, lines-gone, lines-back, lines-wait, lines-new, lines-choke}
 use Rattle.model.proofs.Keeps.Orders.{Orders, queue-is, waits-are, orders-with, orders-counts}
 use Rattle.model.proofs.Keeps.Orders.{orders-put, orders-enqueue, orders-token, orders-cell}
@@ -46,6 +45,7 @@ use Rattle.demand3.proofs.LookedUp.{look-unset}
 use Rattle.model.proofs.Keeps.TableFacts.{BindsFit, binds-written, formals-fit, Awaits, awaits-as, TokenHolds, Tables, Idle}
 use Rattle.model.proofs.Keeps.TableFacts.{idle-holds, blank-holds, tables-write, tables-wait, tables-call, tables-cell, tables-choke}
 use Rattle.model.proofs.Keeps.Facts.{Facts}
+use Rattle.model.proofs.Machine.TableRows.{token-other}
 
 not-live-ready : (s : State) → isLive s ≡ false → isReady s ≡ false
 unfolding isLive isReady

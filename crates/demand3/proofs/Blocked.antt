@@ -17,13 +17,13 @@ use Rattle.job.proofs.Test.{all-at}
 use Rattle.model.proofs.Machine.Rules.{each-rule-holds}
 use Rattle.simulation.proofs.AbstractMachine as Abstract
 use Rattle.model.proofs.Sees.Labels.{Labels, Flow}
-use Rattle.model.proofs.Sees.Seen.{live-inside}
 use Rattle.demand3.proofs.Room.{Room}
 use Rattle.demand3.proofs.Back.{Blocked, Ready}
 use Rattle.demand3.proofs.LookedUp.{look-blocked}
 use Rattle.model.proofs.Keeps.TableFacts.{Awaits}
 use Rattle.demand3.proofs.Reached.{Reached, Roomy, reached-rules}
 use Rattle.demand3.proofs.NotRule.{at-rule}
+use Rattle.model.proofs.Machine.TableRows.{live-inside}
 
 module _ (lim : Limits) (d : Dag) (M : Labels) (room : Roomy lim) (flow : Flow d M) (dag : dagHolds d ≡ true) where
   pub waiting-blocked : {m : Machine} {s : Abstract.State} → Reached lim d M m s → (p c : ℕ)

@@ -38,15 +38,14 @@ use Rattle.model.proofs.Machine.Inside.{Fits, fits-blank, With, tokens-inside, 
 use Rattle.model.proofs.Machine.WrittenTokens.{fits-same, fits-binding}
 use Rattle.model.proofs.Machine.Used.{Used, UsedCell, InsideUsed, used-fits, used-parent, tokens-size, cells-size, live-used}
 use Rattle.model.proofs.Machine.ActingInside.{callee, write-inside, fork-inside, call-inside, split-inside}
-use Rattle.model.proofs.Sees.Seen.{live-inside}
 use Rattle.model.proofs.Sees.AnswerAgrees.{holder-called}
 use Rattle.model.proofs.Sees.Lockstep.{Fitting}
-use Rattle.model.proofs.Sees.Others.{token-same, token-other}
 use Rattle.model.proofs.Keeps.Clean.{Clean, tokensOf, cellsOf}
 use Rattle.demand3.proofs.Unblanked.{Adds, token-stays, cell-stays, adds-clean, clean-whole, rules-clean}
 use Rattle.demand3.proofs.Unblanked.{keep-adds, same-adds, end-adds, fork-adds, call-adds, split-adds}
 use Rattle.demand3.proofs.UnblankedInstructions.{taken, acting-live, place-free, cell-free}
 use Rattle.demand3.proofs.Framed.{Framed}
+use Rattle.model.proofs.Machine.TableRows.{token-same, token-other, live-inside}
 
 -- blanking changes nothing, and these tokens and cells are in use
 pub record Carried (o : Machine) (used usedCells : List Bool) : Type 0 where

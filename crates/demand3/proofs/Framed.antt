@@ -16,7 +16,6 @@ use Rattle.model.specs.declared.token.State.the-variants as states
 use Rattle.model.specs.declared.token.Token.{Token}
 use Rattle.model.specs.declared.record.Machine.{Machine}
 use Rattle.model.proofs.Machine.Reach.{Names, names-nowhere}
-use Rattle.model.proofs.Machine.InUse.{token-outside}
 use Rattle.model.proofs.Machine.Inside.{active-live}
 use Rattle.model.proofs.Machine.Used.{Used}
 use Rattle.simulation.proofs.AbstractMachine as Abstract
@@ -25,6 +24,7 @@ use Rattle.model.proofs.Sees.Labels.{Labels}
 use Rattle.model.proofs.Sees.View.{World, FramesSeen, TokenSeen, sees, FrameSeen, frameAt, frame-seen}
 use Rattle.model.proofs.Sees.Seen.{Core, Sees, seenAs, UsedToken, tokens-of, token-at, live-listed}
 use Rattle.demand3.proofs.Runs.{InRun, seenWith}
+use Rattle.model.proofs.Machine.TableRows.{token-outside}
 
 -- the caller of a token in use is a frame
 abbrev pub Framed : Machine → Type 0

@@ -47,8 +47,7 @@ use Rattle.simulation.proofs.AbstractMachine as Abstract
 use Rattle.simulation.proofs.AbstractMachine.{Store, startAt}
 use Rattle.model.proofs.Sees.Labels.{Labels, programOf, Flow}
 use Rattle.model.proofs.Sees.View.{World, CellsSeen}
-use Rattle.model.proofs.Sees.Seen.{world, Sees, seenAs, live-inside, token-at, token-used, live-listed}
-use Rattle.model.proofs.Sees.Others.{token-same}
+use Rattle.model.proofs.Sees.Seen.{world, Sees, seenAs, token-at, token-used, live-listed}
 use Rattle.model.proofs.Sees.Agrees.{Shows}
 use Rattle.model.proofs.Sees.ActsAgree.{taken, take-ready}
 use Rattle.model.proofs.Sees.ActsAgree as Acts
@@ -64,6 +63,7 @@ use Rattle.model.proofs.Keeps.Facts.{Facts, start-facts, LiveUsed, finish-facts
 use Rattle.demand3.proofs.ActsKeep.{Vacant, acted}
 use Rattle.model.proofs.Keeps.Clean.{Clean, finish-clean, start-clean}
 use Rattle.demand3.proofs.RulesKept.{slot-inside, cells-range, rules-hold}
+use Rattle.model.proofs.Machine.TableRows.{token-same, live-inside}
 
 pub record Reached (lim : Limits) (d : Dag) (M : Labels) (m : Machine) (s : Abstract.State) : Type 0 where
   pub view : Sees M m s

@@ -22,18 +22,17 @@ use Rattle.model.specs.declared.record.Machine.{Machine}
 use Rattle.job.proofs.Test.{clash}
 use Rattle.model.proofs.Machine.Marks.{Free, marks-same, marks-removed}
 use Rattle.model.proofs.Machine.Reach.{Names}
-use Rattle.model.proofs.Machine.InUse.{CellsIn, token-outside}
+use Rattle.model.proofs.Machine.InUse.{CellsIn}
 use Rattle.model.proofs.Machine.Blanking.{length-kept, kept-marked, kept-free, kept-whole}
 use Rattle.model.proofs.Machine.Rules.{EachRuleHolds, each-rule-holds}
 use Rattle.model.proofs.Machine.Inside.{Fits, active-live, tokens-inside, cells-inside}
 use Rattle.model.proofs.Machine.WrittenTokens.{fits-same}
 use Rattle.model.proofs.Machine.Used.{Used, UsedCell, InsideUsed, used-fits, used-parent, tokens-size, cells-size, lives-active, live-used}
 use Rattle.model.proofs.Machine.ActingInside.{write-inside}
-use Rattle.model.proofs.Sees.Seen.{live-inside}
-use Rattle.model.proofs.Sees.Others.{token-same, token-other}
 use Rattle.model.proofs.Keeps.Clean.{Clean, tokensOf, cellsOf}
 use Rattle.demand3.proofs.Unblanked.{active-clear, clear-used, clean-whole, rules-clean}
 use Rattle.demand3.proofs.Carried.{Carried, BindsNoCell}
+use Rattle.model.proofs.Machine.TableRows.{token-same, token-other, token-outside, live-inside}
 
 -- the token at p, whose caller is the frame at f, is written anew as u, with the frame's links
 pub record Returns (m o : Machine) (p f : ℕ) (u : Token) : Type 0 where

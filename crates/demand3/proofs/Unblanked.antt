@@ -13,7 +13,7 @@ use Rattle.job.specs.Test.{all}
 use Rattle.job.specs.Node.{Dag}
 use Rattle.model.specs.Machine.Limits.{Limits}
 use Rattle.model.specs.Machine.Blank.{empty, blankToken, blankCell, tokenAt, cellAt, slotAt, isBound, hasValue, isPlace}
-use Rattle.model.specs.Machine.State.{isBlankState, isLive}
+use Rattle.model.specs.Machine.State.{isLive}
 use Rattle.model.specs.Machine.Blank.{tokenIsBlank, cellIsBlank}
 use Rattle.model.specs.Machine.Active.{isSet, underSet, isActive}
 use Rattle.model.specs.Machine.InUse.{tokensUsed, cellsUsed, sweep}
@@ -26,8 +26,6 @@ use Rattle.model.specs.declared.token.Held.{Held}
 use Rattle.model.specs.declared.token.Held.the-variants as helds
 use Rattle.model.specs.declared.token.Place.{Place}
 use Rattle.model.specs.declared.token.Place.the-variants as places
-use Rattle.model.specs.declared.token.State.{State}
-use Rattle.model.specs.declared.token.State.the-variants as states
 use Rattle.model.specs.declared.token.Token.{Token}
 use Rattle.model.specs.declared.cell.Cell.{Cell}
 use Rattle.model.specs.declared.record.Machine.{Machine}
@@ -35,14 +33,13 @@ use Rattle.job.proofs.Test.{clash, false-of, eqb-eq, and-left, and-right, all-a
 use Rattle.model.proofs.Machine.Marks.{Marked, Free, free-inside}
 use Rattle.model.proofs.Machine.Reach.{Names, names-nowhere}
 use Rattle.model.proofs.Machine.InUse.{CellsIn}
-use Rattle.model.proofs.Machine.Blanking.{kept-whole}
+use Rattle.model.proofs.Machine.Blanking.{kept-whole, state-blank}
 use Rattle.model.proofs.Machine.Rules.{EachRuleHolds, each-rule-holds}
 use Rattle.model.proofs.Machine.Inside.{Fits, live-active, active-live}
 use Rattle.model.proofs.Machine.Used.{Used, UsedCell, used-fits, used-parent, lives-active, live-used}
 use Rattle.model.proofs.Run.Chain.{unsetCell, blank-cell-clear, new-cell-clear}
-use Rattle.model.proofs.Sees.Seen.{live-inside}
-use Rattle.model.proofs.Sees.Others.{token-same, token-other}
 use Rattle.model.proofs.Keeps.Clean.{Clean, tokensOf, cellsOf}
+use Rattle.model.proofs.Machine.TableRows.{token-same, token-other, live-inside}
 
 -- blanking changes nothing
 abbrev pub Whole : Machine → Type 0
@@ -65,14 +62,6 @@ nothing : (v : Held) → not (hasValue v) ≡ true → v ≡ helds.Nothing
 unfolding hasValue
 nothing helds.Nothing e = refl
 nothing (helds.Value v) e = clash e refl
-
-state-blank : (s : State) → isBlankState s ≡ true → s ≡ states.Blank
-unfolding isBlankState
-state-blank states.Blank e = refl
-state-blank states.Ready e = clash e refl
-state-blank (states.Waiting c) e = clash e refl
-state-blank (states.Called h) e = clash e refl
-state-blank states.Frame e = clash e refl
 
 slot-empty : (s : Slot) → not (isBound s) ≡ true → s ≡ slots.Empty
 unfolding isBound

@@ -18,11 +18,6 @@ use Rattle.job.specs.Read.{readExp}
 abbrev pub operandAt : List ℕ → ℕ → ℕ
 operandAt os at = number (take 4 (drop (4 * at) os))
 
-pub entries-length : (ks os : List ℕ) → length (entries ks os) ≡ length ks
-unfolding entries
-entries-length [] os = refl
-entries-length (k ∷ ks) os = ap suc (entries-length ks (drop 4 os))
-
 -- past the last entry there is none, before it there is the one of its kind byte and its operand
 pub entries-end : (ks os : List ℕ) (at : ℕ) → length ks ≤ at → drop at (entries ks os) ≡ []
 unfolding entries

@@ -1,14 +1,14 @@
 -- From tests to facts and back: laws of the Boolean tests that definitions use. Assumes nothing.
 use mathlib.Core.Path.{_≡_, refl}
 use mathlib.Core.Logic.{_⊎_, inl, inr}
-use mathlib.Core.Bool.{Bool, true, false}
+use mathlib.Core.Bool.{Bool, true, false, not}
 use mathlib.Core.List.{List, [], _∷_, _++_}
 use Prim.Native.Nat.{ℕ, zero, suc, _+_, _<_, _≤_}
 use native.Mathlib.Decide.{decLt}
 use native.Mathlib.Omega.{arith}
 use lib.ListN.{length, getD}
 use lib.Dec.{T, ltb, leb, eqb, eqb→eq, eqb-refl, ltb→lt, lt→ltb, leb→le, le→leb}
-use Rattle.job.specs.Test.{_and_, _or_, all, All, none, more, same}
+use Rattle.job.specs.Test.{_and_, _or_, all, All, none, more, once, count, same}
 
 -- a test does not both hold and fail
 pub clash : {A : Type 0} {b : Bool} → b ≡ true → b ≡ false → A
@@ -172,3 +172,30 @@ same-eq [] (y ∷ ys) e = clash e refl
 same-eq (x ∷ xs) [] e = clash e refl
 same-eq (x ∷ xs) (y ∷ ys) e =
     let p = eqb-eq x y (and-left (eqb x y) (same xs ys) e) in let q = same-eq xs ys (and-right (eqb x y) (same xs ys) e) in cc
+
+pub not-true : (b : Bool) → not b ≡ true → b ≡ false
+not-true true e = clash e refl
+not-true false e = refl
+
+pub not-false : (b : Bool) → not b ≡ false → b ≡ true
+not-false true e = refl
+not-false false e = clash refl e
+
+-- 1 for true, 0 for false
+pub once-true : (b : Bool) → 0 < once b → b ≡ true
+once-true true l = refl
+once-true false l = absurd (omega arith)
+
+pub once-small : (b : Bool) → once b ≤ 1
+once-small true = omega arith
+once-small false = omega arith
+
+-- counting
+pub count-append : (n : ℕ) (xs ys : List ℕ) → count n (xs ++ ys) ≡ count n xs + count n ys
+unfolding count
+count-append n [] ys = omega arith
+count-append n (x ∷ xs) ys = let z : count n (xs ++ ys) ≡ count n xs + count n ys = count-append n xs ys in omega arith
+
+pub count-more : (n x : ℕ) (xs : List ℕ) → count n xs ≤ count n (x ∷ xs)
+unfolding count
+count-more n x xs = omega arith

@@ -6,8 +6,8 @@ use mathlib.Core.Bool.{true}
 use mathlib.Core.List.{List, [], _∷_, _++_, append-assoc}
 use Prim.Native.Nat.{ℕ, zero, suc, _+_, _-_, _*_, _≤_, _<_}
 use native.Mathlib.Omega.{arith}
-use lib.ListN.{length, length-append}
-use lib.Seq.{sets, length-sets, take-at, drop-at}
+use lib.ListN.{length, getD, take, drop, length-append}
+use lib.Seq.{sets, length-sets, take-at, drop-at, drop-drop, getD-drop}
 use lib.Dec.{ltb, leb}
 use Rattle.job.specs.Test.{_and_, all, same}
 use Rattle.job.specs.Site.{siteTakes}
@@ -151,3 +151,35 @@ decode-written d ws e l =
 -- the words that a dag leaves alone: between its head and the nodes, and past its last node
 abbrev pub Outside : Dag → ℕ → Type 0
 Outside d i = ((3 + 2 * length (d .bodies) ≤ i) × (i < headWords)) ⊎ (headWords + 12 * length (d .nodes) ≤ i)
+
+-- the nodes and the bodies that words decode to, one by one
+pub length-nodesFrom : (n : ℕ) (ws : List ℕ) → length (nodesFrom n ws) ≡ n
+unfolding nodesFrom
+length-nodesFrom zero ws = refl
+length-nodesFrom (suc n) ws = ap suc (length-nodesFrom n (drop 12 ws))
+
+pub length-bodiesFrom : (n : ℕ) (ws : List ℕ) → length (bodiesFrom n ws) ≡ n
+unfolding bodiesFrom
+length-bodiesFrom zero ws = refl
+length-bodiesFrom (suc n) ws = ap suc (length-bodiesFrom n (drop 2 ws))
+
+pub node-from : (n i : ℕ) (ws : List ℕ) → i < n → getD (nodesFrom n ws) i Node.unknown ≡ decodedNode (take 12 (drop (12 * i) ws))
+unfolding nodesFrom
+node-from zero i ws l = absurd (omega arith)
+node-from (suc n) zero ws l = refl
+node-from (suc n) (suc i) ws l =
+    let e : 12 + 12 * i ≡ 12 * suc i = omega arith in
+    node-from n i (drop 12 ws) (omega arith) ∙ ap (λ xs. decodedNode (take 12 xs)) (drop-drop (12 * i) 12 ws ∙ ap (λ k. drop k ws) e)
+
+pub body-from : (n i : ℕ) (ws : List ℕ) (d : Body) → i < n
+    → getD (bodiesFrom n ws) i d ≡ record { root = getD ws (2 * i) 0; formals = getD ws (2 * i + 1) 0 }
+unfolding bodiesFrom
+body-from zero i ws d l = absurd (omega arith)
+body-from (suc n) zero ws d l = refl
+body-from (suc n) (suc i) ws d l =
+    let e : 2 + 2 * i ≡ 2 * suc i = omega arith in
+    let f : 2 + (2 * i + 1) ≡ 2 * suc i + 1 = omega arith in
+    body-from n i (drop 2 ws) d (omega arith)
+    ∙ ap₂ (λ r k. record { root = r; formals = k })
+    (getD-drop 2 ws (2 * i) 0 ∙ ap (λ k. getD ws k 0) e)
+    (getD-drop 2 ws (2 * i + 1) 0 ∙ ap (λ k. getD ws k 0) f)

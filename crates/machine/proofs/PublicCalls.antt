@@ -1,7 +1,7 @@
 -- How a public call ends: refused by a test, with every word as it was; or as the call on a lawful record does, whose words are all given.
 -- Assumes nothing.
 use mathlib.Core.Path.{_≡_, refl, sym, ap, subst, _∙_}
-use mathlib.Core.Bool.{Bool, true, false, not}
+use mathlib.Core.Bool.{Bool, true, false}
 use mathlib.Core.List.{List, []}
 use Prim.Native.Nat.{ℕ, _≤_}
 use lib.ListN.{getD}
@@ -31,15 +31,6 @@ use Rattle.coded.specs.IsRecord.{isRecord}
 use Rattle.acts.specs.Acting.{Lawful, Gives, plain}
 use Rattle.acts.proofs.Outcomes.{gives-refused}
 use Rattle.machine.specs.PublicCalls.{HasResult, after, ofRecord, startOn, stepOn, answerOn}
-
--- a test that is denied
-pub denied : (b : Bool) → not b ≡ true → b ≡ false
-denied true e = clash e refl
-denied false e = refl
-
-pub granted : (b : Bool) → not b ≡ false → b ≡ true
-granted true e = refl
-granted false e = clash refl e
 
 -- words that pass are a record's, and of a record's words the rules decide
 pub both-tested : (b recorded rules : Bool) → (b ≡ true → recorded ≡ true) → (recorded ≡ true → b ≡ rules) → b ≡ (recorded and rules)

@@ -1,5 +1,6 @@
 -- Laws of the machine's definitions, specs/Machine.
 pub mod Marks
+pub mod TableRows
 pub mod Reach
 pub mod InUse
 pub mod Blanking

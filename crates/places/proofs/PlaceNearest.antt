@@ -11,8 +11,8 @@ use lib.ListN.{length, getD}
 use Rattle.model.specs.Machine.FreePlace.{around}
 use Rattle.model.proofs.Machine.Marks.{Marked, Free, free-inside}
 use Rattle.reach.specs.Marks.{nextOr}
-use Rattle.reach.proofs.ListLoops.{any-default}
 use Rattle.places.proofs.PlaceSearch.{around-inside, around-outside, seek, seek-free, seek-used, seek-all, place-first}
+use Rattle.job.proofs.Lists.{getD-any}
 
 abbrev pub distance : ℕ → ℕ → ℕ
 distance first i = (i + 64 - first) % 64
@@ -89,7 +89,7 @@ module _ (marks : List Bool) (long : length marks ≡ 64) where
         (used : getD marks i false ≡ true → d ≡ 64 + distance first i)
         (free : getD marks i false ≡ false → d ≡ distance first i) where
       same-mark : getD marks i true ≡ getD marks i false
-      same-mark = any-default marks i true false (omega arith)
+      same-mark = getD-any marks i true false (omega arith)
 
       least-of : next ≤ best → next ≤ d → (j : ℕ) → j < i + 1 → Free marks j → next ≤ distance first j
       least-of h g j k f = go (ℕ-discrete j i)

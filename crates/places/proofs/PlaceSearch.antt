@@ -15,7 +15,7 @@ use Rattle.model.specs.Machine.FreePlace.{around, freeFrom, nextPlace}
 use Rattle.job.proofs.Test.{clash, ltb-lt}
 use Rattle.model.proofs.Machine.Marks.{Marked, Free, free-inside, marked-all, some-free}
 use Rattle.reach.specs.Marks.{nextOr}
-use Rattle.reach.proofs.ListLoops.{any-default}
+use Rattle.job.proofs.Lists.{getD-any}
 
 pub around-inside : (n p : ℕ) → p < n → p ≡ around n p
 unfolding around
@@ -175,7 +175,7 @@ module _ (marks : List Bool) where
         turn = place ∙ ap (λ n. around n p) (sym long)
 
         mark-at : (b : Bool) → getD marks q false ≡ b → getD marks q true ≡ b
-        mark-at b e = any-default marks q true false (omega arith) ∙ e
+        mark-at b e = getD-any marks q true false (omega arith) ∙ e
 
         pub place-found : not (getD marks q false) ≡ true → q ≡ end
         place-found e = sym (here ∙ seek-free size (size - (k + 1)) p q turn (mark-at false (not-true _ e)))

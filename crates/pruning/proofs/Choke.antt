@@ -27,19 +27,20 @@ use Rattle.model.specs.declared.record.Machine.{Machine}
 use Rattle.job.proofs.Test.{eq-eqb, ne-eqb}
 use Rattle.model.proofs.Machine.Choke.{choke-at}
 use Rattle.model.proofs.Machine.WrittenTokens.{choked-blank}
-use Rattle.model.proofs.Keeps.Orders.{queue-is, waits-are, orders-with}
+use Rattle.model.proofs.Keeps.Orders.{waits-are, orders-with}
 use Rattle.record.specs.LayoutDecoded.{placeFrom}
 use Rattle.record.specs.Changes.{dequeued, storeCell, setCell}
 use Rattle.record.specs.Holds.{Holds}
 use Rattle.orders.specs.NamesRetained.{markedOf}
 use Rattle.record.specs.Layout.{stateKind, stateNumber, placeNumber}
 use Rattle.orders.proofs.NamesPadded.{length-without}
-use Rattle.record.proofs.TokenRow.{put-self}
+use Rattle.record.proofs.TokenRow.{put-self, ready-kind, waiting-kind}
 use Rattle.orders.proofs.NamesRetained.{filter-one, filter-append, filter-short, filter-same}
 use Rattle.pruning.specs.Choke.{rowsChoked, reordered, ChokeFacts}
 use Rattle.reach.specs.Marks.{BlankFrom}
 use Rattle.reach.proofs.ListLoops.{drop-next, steady}
 use Rattle.sites.proofs.TableLoops.{Mapping, mapping-more, mapping-at, mapping-end, map-append}
+use Rattle.model.proofs.Run.Bystander.{queue-orders}
 
 -- the walk up, so many links, from the place that has a number
 abbrev pub walk : List Cell → ℕ → ℕ → ℕ → Bool
@@ -230,9 +231,6 @@ orders-again {ws} {m} h =
           lastcell = m .lastcell;
         }
 
-queue-back : (q w : List ℕ) (m : Machine) → queueOf (withOrders q w m) ≡ q
-queue-back q w m = queue-is (orders-with q w m)
-
 waits-back : (q w : List ℕ) (m : Machine) → waitsOf (withOrders q w m) ≡ w
 waits-back q w m = waits-are (orders-with q w m)
 
@@ -293,27 +291,10 @@ module _ {ws : List ℕ} (m : Machine) (h : Holds ws m) (marks : List Bool) wher
         ∙ ap (λ x. filter f (take i w ++ (x ∷ []))) (name-is p e)
         ∙ ap (filter f) (sym (take-suc w i 0 (omega arith)) ∙ ap (λ n. take n w) (sym (add-one i))) in
         let names : queueOf (woken i) ++ markedOf marks (p ∷ []) ≡ q ++ markedOf marks (take (i + 1) w) =
-        ap (λ x. x ++ markedOf marks (p ∷ [])) (queue-back (q ++ markedOf marks (take i w)) w m)
+        ap (λ x. x ++ markedOf marks (p ∷ [])) (queue-orders (q ++ markedOf marks (take i w)) w m)
         ∙ append-assoc q (markedOf marks (take i w)) (markedOf marks (p ∷ []))
         ∙ ap (_++_ q) more in
         subst (Holds xs) (ap₂ (λ a b. withOrders a b m) names (waits-back (q ++ markedOf marks (take i w)) w m)) k
-
--- the orders by the tokens' states
-ready-kind : (s : State) → eqb (stateKind s) 1 ≡ isReady s
-unfolding isReady
-ready-kind states.Blank = refl
-ready-kind states.Ready = refl
-ready-kind (states.Waiting c) = refl
-ready-kind (states.Called h) = refl
-ready-kind states.Frame = refl
-
-waiting-kind : (s : State) → eqb (stateKind s) 2 ≡ isWaiting s
-unfolding isWaiting
-waiting-kind states.Blank = refl
-waiting-kind states.Ready = refl
-waiting-kind (states.Waiting c) = refl
-waiting-kind (states.Called h) = refl
-waiting-kind states.Frame = refl
 
 -- the queue without those that are not ready, with those that waited, and the wait order without those that do not wait
 abbrev pub first : Machine → (ready : List Bool) → Machine
@@ -352,13 +333,13 @@ module _ (m : Machine) (ready waiting : List Bool)
       let one = first m ready in
       let two = second m ready in
       let front : queueOf one ++ markedOf ready (waitsOf one) ≡ filter (λ (p : ℕ). isReady (tokenAt (m .tokens) p .state)) (q ++ w) =
-      ap₂ (λ a b. a ++ markedOf ready b) (queue-back (markedOf ready q) w m) (waits-back (markedOf ready q) w m)
+      ap₂ (λ a b. a ++ markedOf ready b) (queue-orders (markedOf ready q) w m) (waits-back (markedOf ready q) w m)
       ∙ sym (filter-append (λ (p : ℕ). getD ready p false) q w)
       ∙ ready-same (q ++ w) in
       let back : waitsOf two ≡ w = waits-back (queueOf one ++ markedOf ready (waitsOf one)) (waitsOf one) one
       ∙ waits-back (markedOf ready q) w m in
       ap₂ (λ a b. withOrders a (markedOf waiting b) m)
-      (queue-back (queueOf one ++ markedOf ready (waitsOf one)) (waitsOf one) one ∙ front) back
+      (queue-orders (queueOf one ++ markedOf ready (waitsOf one)) (waitsOf one) one ∙ front) back
       ∙ ap (λ b. withOrders (filter (λ (p : ℕ). isReady (tokenAt (m .tokens) p .state)) (q ++ w)) b m) (waiting-same w)
 
 pub first-room : {ws : List ℕ} {m : Machine} → Holds ws m → (ready : List Bool) → m .queued + m .waiting ≤ 64

@@ -13,8 +13,8 @@ use Rattle.model.specs.declared.token.Place.the-variants as places
 use Rattle.model.proofs.Machine.Marks.{Marked, Free, marked-outside}
 use Rattle.record.specs.LayoutDecoded.{placeFrom}
 use Rattle.record.specs.Layout.{placeNumber}
-use Rattle.reach.proofs.ListLoops.{any-default}
 use Rattle.reach.proofs.PlaceNumber.{place-from, place-at, place-none}
+use Rattle.job.proofs.Lists.{getD-any}
 
 module _ {A : Type 0} (link : A → Place) (blank : A) (xs : List A) where
   abbrev pub walk : ℕ → Place → List Bool → List Bool
@@ -47,7 +47,7 @@ module _ {A : Type 0} (link : A → Place) (blank : A) (xs : List A) where
     chain-outside f h = chain-stops f (marked-outside marks (q - 1) (omega arith))
 
     pub chain-met : q ≢ 0 → q - 1 < size → getD marks (q - 1) false ≡ true → marks ≡ end
-    chain-met f h e = chain-stops f (any-default marks (q - 1) true false (omega arith) ∙ e)
+    chain-met f h e = chain-stops f (getD-any marks (q - 1) true false (omega arith) ∙ e)
 
     pub chain-over : size ≤ k → marks ≡ end
     unfolding markChain
@@ -65,7 +65,7 @@ module _ {A : Type 0} (link : A → Place) (blank : A) (xs : List A) where
         let z : size - k ≡ suc (size - (k + 1)) = omega arith in
         left
         ∙ ap₂ (λ n p. walk n p marks) z (place-at q f)
-        ∙ walk-goes (size - (k + 1)) (q - 1) marks (any-default marks (q - 1) true false (omega arith) ∙ e)
+        ∙ walk-goes (size - (k + 1)) (q - 1) marks (getD-any marks (q - 1) true false (omega arith) ∙ e)
         ∙ ap (λ p. walk (size - (k + 1)) p (set marks (q - 1) true)) (sym (place-from r _ g))
 
   -- marking from one list of places and then from another

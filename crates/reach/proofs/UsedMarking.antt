@@ -25,9 +25,10 @@ use Rattle.model.specs.declared.token.Token.{Token}
 use Rattle.record.specs.LayoutDecoded.{placeFrom}
 use Rattle.record.specs.Layout.{placeNumber, slotKind, slotNumber}
 use Rattle.reach.specs.Marks.{callersMarked, parentsMarked, cellsMarked, activeMarked, heldMarked, BlankFrom, UnmarkedFrom}
-use Rattle.reach.proofs.ListLoops.{any-default, drop-next, steady}
+use Rattle.reach.proofs.ListLoops.{drop-next, steady}
 use Rattle.reach.proofs.PlaceNumber.{place-from}
 use Rattle.reach.proofs.MarkChain.{chains-append, chains-nowhere}
+use Rattle.job.proofs.Lists.{getD-any}
 
 -- a token's turn, by the code's answer
 module _ (m : Machine) (p : ℕ) (marks : List Bool) (b : Bool) (e : b ≡ isActive (m .cells) (tokenAt (m .tokens) p)) where
@@ -205,4 +206,4 @@ pub unmarked-more : (marks : List Bool) (from i : ℕ) (found : Bool) → i < le
     → (found || getD marks i false) ≡ false → UnmarkedFrom marks from (i + 1)
 unmarked-more marks from i true l none e k h b = absurd (true≢false e)
 unmarked-more marks from i false l none e k h b =
-    below-more (λ j. from ≤ j → getD marks j true ≡ false) i (λ j b f. none refl j f b) (λ f. any-default marks i true false l ∙ e) k b h
+    below-more (λ j. from ≤ j → getD marks j true ≡ false) i (λ j b f. none refl j f b) (λ f. getD-any marks i true false l ∙ e) k b h

@@ -9,12 +9,13 @@ use Rattle.job.specs.Syntax.{Exp, Definition, Program}
 use Rattle.job.specs.Entry.{entries}
 use Rattle.job.specs.Read.{Got, got, readExp, readEntries}
 use Rattle.job.specs.Construct.{nodeCount, construct}
-use Rattle.job.proofs.Position.{entries-length, exp-from}
+use Rattle.job.proofs.Position.{exp-from}
 use Rattle.reader.specs.Checked.{entriesFrom}
 use Rattle.reader.specs.DefinitionList.{readDefinitionList, definitionListNodes}
 use Rattle.reader.proofs.Few.{read-few}
 use Rattle.reader.proofs.NodeCount.{construct-length}
 use Rattle.reader.proofs.ProgramParts.{all-defined, Parted, parted}
+use Rattle.job.proofs.Entry.{length-entries}
 
 -- n definitions with these nodes end at entry `at`, a goal with so many nodes, joins and parameters behind them at entry `end`
 count : (n at end nodes goal joins params : ℕ) → (n ≡ 0 → at ≡ 0) → nodes + 2 * n + 2 * 0 ≤ 2 * at → end ≡ at + 1 + 2 * joins + params
@@ -33,7 +34,7 @@ module _ (ks os : List ℕ) (l : length ks ≤ 512) (n : ℕ) where
       let last = exp-from (entries ks os) 24 [] (ds .next) (entriesFrom ks os (ds .next)) g refl r .last in
       rw (construct-length (record { definitions = ds .value; goal = g .value }))
       (count n (ds .next) (g .next) (definitionListNodes (ds .value)) (nodeCount (g .value)) (s .joins) (s .params)
-      (f .none) (f .few) (s .ends) (s .few) (omega (arith, entries-length ks os)))
+      (f .none) (f .few) (s .ends) (s .few) (omega (arith, length-entries ks os)))
 
   pub nodes-at-most : (p : Got Program) → readEntries n (entries ks os) ≡ got p → length (construct (p .value) .nodes) ≤ 1022
   nodes-at-most p r =

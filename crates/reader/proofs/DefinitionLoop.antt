@@ -11,13 +11,14 @@ use Rattle.job.specs.Number.{number}
 use Rattle.job.specs.Syntax.{Exp, Definition, levels, formalsOf}
 use Rattle.job.specs.Entry.{entries, kindOf}
 use Rattle.job.specs.Read.{Got, Read, got, refused, _>>=_, gives, need, entryAt, readExp, isDefinition, readDefinition}
-use Rattle.job.proofs.Position.{entries-end, entries-at, entries-length, bind-got, refused-got, exp-from}
+use Rattle.job.proofs.Position.{entries-end, entries-at, bind-got, refused-got, exp-from}
 use Rattle.reader.specs.Checked.{entriesFrom, checked}
 use Rattle.reader.specs.DefinitionList.{readDefinitionList, definitionNodes, definitionListNodes, definitionSizes, checkedDefinition, formalsRead, sizesRead, DefinitionsHold}
 use Rattle.reader.specs.declared.checked.Checked.{Checked}
 use Rattle.reader.specs.declared.checked.Checked.the-variants.{Next, Refused}
 use Rattle.reader.proofs.Onward.{checked-refused, checked-next}
 use Rattle.reader.proofs.Few.{read-few}
+use Rattle.job.proofs.Entry.{length-entries}
 
 -- a definition that was read from entry `at` on
 pub record Defined (ks os : List ℕ) (at : ℕ) (g : Got Definition) : Type 0 where
@@ -35,7 +36,7 @@ body-defined ks os at b l r =
     let f = exp-from (entries ks os) 24 scope (suc at) (entriesFrom ks os (suc at)) b refl r in
     let small = read-few ks os 24 scope (suc at) b r .few in
     let last = f .last in
-    record { rest = f .rest; last = omega (arith, entries-length ks os); here = l; formals = refl; few = omega arith }
+    record { rest = f .rest; last = omega (arith, length-entries ks os); here = l; formals = refl; few = omega arith }
 
 pub defined : (ks os : List ℕ) (at : ℕ) (g : Got Definition) → readDefinition at (entriesFrom ks os at) ≡ got g → Defined ks os at g
 unfolding readDefinition entryAt _>>=_

@@ -9,12 +9,13 @@ use Rattle.job.specs.Syntax.{Param, Join, par, seq, prune, Exp, stop, site, cal
 use Rattle.job.specs.Entry.{Entry, entries, low, high, EntryKind, kindOf}
 use Rattle.job.specs.Read.{Got, Read, got, refused, _>>=_, need, entryAt, readParamList, readCall, readJoin, readExp}
 use Rattle.job.specs.Construct.{own, nodeCount}
-use Rattle.job.proofs.Position.{entries-length, entry-from, params-from, exp-from}
+use Rattle.job.proofs.Position.{entry-from, params-from, exp-from}
 use Rattle.reader.specs.Checked.{entriesFrom, checkedExp, checkedNodes}
 use Rattle.reader.specs.declared.checked.Checked.{Checked}
 use Rattle.reader.specs.declared.checked.Checked.the-variants.{Next, Refused}
 use Rattle.reader.proofs.Opened.{readKind, exp-opened}
 use Rattle.reader.proofs.Onward.{checked-next}
+use Rattle.job.proofs.Entry.{length-entries}
 
 -- P holds of what was read, if anything was
 data Each {A : Type 0} (P : Got A → Type 0) : Read A → Type 0 where
@@ -133,7 +134,7 @@ module _ (ks os : List ℕ) (left : ℕ) (scope : List ℕ) (e : ℕ) (q : Check
       let x = a .2 in
       let y = a .3 in
       let last = f .last in
-      (omega arith, omega (arith, entries-length ks os))
+      (omega arith, omega (arith, length-entries ks os))
 
   module _ (l : length ks ≤ 512) where
     pub sum-few : (n m d : ℕ) → n ≤ 3 → q ≡ Next m d → n + d < 4096

@@ -20,6 +20,9 @@ use Rattle.record.specs.Layout.{heldNumber}
 use Rattle.record.specs.Holds.{Codes, Holds}
 use Rattle.record.proofs.LayoutParts as parts-laws
 use Rattle.record.proofs.HoldsShape.{shaped, tables-hold, binds-after}
+use Rattle.model.specs.Machine.State.{isReady, isWaiting}
+use lib.Dec.{eqb}
+use Rattle.model.specs.declared.token.State.the-variants as states
 
 -- a slot's kind and number in the row
 slot-kind : (t : Token) (x : ℕ) → x < 8 → getD (rowOf t) (8 + 2 * x) 0 ≡ slotKind (slotAt (t .binds) x)
@@ -225,3 +228,20 @@ module _ {ws : List ℕ} (m : Machine) (t : Token) (p : ℕ) (h : Holds ws (put 
       (words-put (8 + 2 * x) (9 + 2 * x) k n (withBinding x s t) (omega arith) (omega arith)
       (length-set (t .binds) x (record { slot = s }) ∙ own-binds)
       (bound t x k n s i own-binds e f))
+
+-- a state by its number
+pub ready-kind : (s : State) → eqb (stateKind s) 1 ≡ isReady s
+unfolding isReady
+ready-kind states.Blank = refl
+ready-kind states.Ready = refl
+ready-kind (states.Waiting c) = refl
+ready-kind (states.Called h) = refl
+ready-kind states.Frame = refl
+
+pub waiting-kind : (s : State) → eqb (stateKind s) 2 ≡ isWaiting s
+unfolding isWaiting
+waiting-kind states.Blank = refl
+waiting-kind states.Ready = refl
+waiting-kind (states.Waiting c) = refl
+waiting-kind (states.Called h) = refl
+waiting-kind states.Frame = refl

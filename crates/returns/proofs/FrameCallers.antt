@@ -9,9 +9,9 @@ use Rattle.model.specs.declared.record.Machine.{Machine}
 use Rattle.model.specs.declared.token.Place.{Place}
 use Rattle.model.specs.declared.token.Place.the-variants as places
 use Rattle.model.specs.declared.token.Token.{Token}
-use Rattle.model.proofs.Machine.InUse.{token-outside}
 use Rattle.record.specs.Layout.{placeNumber}
 use Rattle.acts.specs.SharedFrames.{NamesAsCaller}
+use Rattle.model.proofs.Machine.TableRows.{token-outside}
 
 -- a place by its number
 pub place-of : (q : Place) (f n : ℕ) → n ≡ placeNumber q → n ≡ f + 1 → q ≡ places.At f

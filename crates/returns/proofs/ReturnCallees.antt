@@ -25,7 +25,6 @@ use Rattle.model.proofs.Machine.Inside.{active-live}
 use Rattle.model.proofs.Machine.Blanking.{kept-free}
 use Rattle.model.proofs.Machine.Used.{Used}
 use Rattle.model.proofs.Keeps.Clean.{tokensOf}
-use Rattle.model.proofs.Sees.Others.{token-other}
 use Rattle.demand3.proofs.Returned.{Returns}
 use Rattle.record.specs.Changes.{dequeued}
 use Rattle.acts.specs.Acting.{Acting}
@@ -33,6 +32,7 @@ use Rattle.acts.specs.SharedFrames.{NamesAsCaller, OneCallee, Alone, callerShar
 use Rattle.acts.proofs.SharedFrames.{unshared, blank-names, callees-kept, swept-callees, swept-names, put-names}
 use Rattle.acts.proofs.StepAtNode.{return-step}
 use Rattle.returns.proofs.ReturnValue.{returns}
+use Rattle.model.proofs.Machine.TableRows.{token-other}
 
 module _ {ws dag : List ℕ} {used cells : List Bool} {place p at : ℕ} {m : Machine} (a : Acting ws used cells dag place p at 8 m)
     (f : ℕ) (few : f < 64) (caller : tokenAt (m .tokens) p .caller ≡ places.At f) where

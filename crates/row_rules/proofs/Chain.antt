@@ -5,11 +5,11 @@ use mathlib.Core.List.{List}
 use Prim.Native.Nat.{ℕ, zero, suc, _+_, _-_, _<_, _≤_}
 use native.Mathlib.Omega.{arith}
 use lib.Dec.{eqb}
-use lib.ListN.{length, List·getD-eq-default}
+use lib.ListN.{length}
 use Rattle.model.specs.declared.token.Place.the-variants as places
 use Rattle.model.specs.declared.token.State.the-variants as states
 use Rattle.job.specs.Test.{_and_}
-use Rattle.model.specs.Machine.Blank.{cellAt, blankCell, hasValue, isPlace}
+use Rattle.model.specs.Machine.Blank.{cellAt, hasValue, isPlace}
 use Rattle.model.specs.Machine.Active.{isSet, underSet}
 use Rattle.model.specs.Machine.State.{isLive}
 use Rattle.model.specs.Machine.Rules.{chainEnds, notUnderSet, waitsAtUnset}
@@ -20,11 +20,7 @@ use Rattle.model.specs.declared.cell.Cell.{Cell}
 use Rattle.job.proofs.Test.{clash}
 use Rattle.record.specs.Layout.{stateKind, stateNumber, heldKind}
 use Rattle.row_rules.proofs.Range.{held-none}
-
--- a place past the cells has a blank cell
-cell-past : (cs : List Cell) (c : ℕ) → length cs ≤ c → cellAt cs c ≡ blankCell
-unfolding cellAt
-cell-past cs c l = List·getD-eq-default cs blankCell l
+use Rattle.model.proofs.Machine.TableRows.{cell-outside}
 
 -- "each parent chain ends"
 pub ends-nowhere : (cs : List Cell) (n : ℕ) → chainEnds cs n places.Nowhere ≡ true
@@ -47,7 +43,7 @@ module _ (cs : List Cell) (q : Place) (i : ℕ) (long : length cs ≡ 32) where
 
     pub ends-past : 32 ≤ c → true ≡ chainEnds cs (32 - i) q
     ends-past l =
-        sym (ends-on ∙ ap (λ (k : Cell). chainEnds cs (32 - (i + 1)) (k .parent)) (cell-past cs c (omega arith))
+        sym (ends-on ∙ ap (λ (k : Cell). chainEnds cs (32 - (i + 1)) (k .parent)) (cell-outside cs c (omega arith))
         ∙ ends-nowhere cs (32 - (i + 1)))
 
 -- the cell at which a token waits
@@ -65,7 +61,7 @@ module _ (cs : List Cell) (long : length cs ≡ 32) (k n : ℕ) (s : State) (kin
 
   pub waits-past : k ≡ 2 → 32 ≤ n → true ≡ waitsAtUnset cs s
   unfolding hasValue
-  waits-past e l = sym (waits-there e ∙ ap (λ (c : Cell). not (hasValue (c .value))) (cell-past cs n (omega arith)))
+  waits-past e l = sym (waits-there e ∙ ap (λ (c : Cell). not (hasValue (c .value))) (cell-outside cs n (omega arith)))
 
   pub waits-read : k ≡ 2 → {v : ℕ} → v ≡ heldKind (cellAt cs n .value) → eqb v 0 ≡ waitsAtUnset cs s
   waits-read e f = ap (λ i. eqb i 0) f ∙ held-none (cellAt cs n .value) ∙ sym (waits-there e)

@@ -3,7 +3,6 @@ use mathlib.Core.Path.{_≡_, refl, sym, _∙_, ap}
 use mathlib.Core.Bool.{true, false, not, _||_}
 use Prim.Native.Nat.{ℕ, zero, suc, _+_, _-_, _<_, _≤_}
 use native.Mathlib.Decide.{decLt}
-use native.Mathlib.Numerals.{add-one}
 use native.Mathlib.Omega.{arith}
 use lib.IntN.{ℤ}
 use lib.Dec.{eqb, ltb, leb}
@@ -13,7 +12,7 @@ use Rattle.model.specs.declared.token.Place.the-variants as places
 use Rattle.model.specs.declared.token.State.the-variants as states
 use Rattle.job.specs.Number.{fits}
 use Rattle.model.specs.Machine.Blank.{isBound, isPlace, hasValue}
-use Rattle.model.specs.Machine.State.{isBlankState, isReady, isWaiting, isFrame}
+use Rattle.model.specs.Machine.State.{isBlankState, isFrame}
 use Rattle.model.specs.Machine.Rules.{placeInRange, slotInRange, stateInRange}
 use Rattle.model.specs.declared.token.Slot.{Slot}
 use Rattle.model.specs.declared.token.Held.{Held}
@@ -22,12 +21,6 @@ use Rattle.model.specs.declared.token.State.{State}
 use Rattle.job.proofs.Test.{lt-ltb, le-not-ltb, le-leb, lt-not-leb, ne-eqb}
 use Rattle.record.specs.LayoutDecoded.{placeFrom}
 use Rattle.record.specs.Layout.{placeNumber, stateKind, stateNumber, heldKind, slotKind, slotNumber}
-
--- places
-pub placed : (q : Place) → placeFrom (placeNumber q) ≡ q
-unfolding placeFrom
-placed places.Nowhere = refl
-placed (places.At p) = ap placeFrom (add-one p)
 
 pub no-place : {n : ℕ} → n ≡ 0 → placeFrom n ≡ places.Nowhere
 unfolding placeFrom
@@ -100,22 +93,6 @@ blank-is states.Ready = refl
 blank-is (states.Waiting c) = refl
 blank-is (states.Called h) = refl
 blank-is states.Frame = refl
-
-pub ready-is : (s : State) → eqb (stateKind s) 1 ≡ isReady s
-unfolding isReady
-ready-is states.Blank = refl
-ready-is states.Ready = refl
-ready-is (states.Waiting c) = refl
-ready-is (states.Called h) = refl
-ready-is states.Frame = refl
-
-pub waiting-is : (s : State) → eqb (stateKind s) 2 ≡ isWaiting s
-unfolding isWaiting
-waiting-is states.Blank = refl
-waiting-is states.Ready = refl
-waiting-is (states.Waiting c) = refl
-waiting-is (states.Called h) = refl
-waiting-is states.Frame = refl
 
 pub frame-is : (s : State) → eqb (stateKind s) 4 ≡ isFrame s
 unfolding isFrame

@@ -20,7 +20,7 @@ use Rattle.model.specs.declared.token.Token.{Token}
 use Rattle.record.specs.Layout.{stateKind, stateNumber}
 use Rattle.job.proofs.Both.{both, regroup}
 use Rattle.job.proofs.Test.{and-left, eq-eqb, ne-eqb}
-use Rattle.rules.proofs.OneRow.{state-blank}
+use Rattle.model.proofs.Machine.Blanking.{state-blank}
 
 handles-more : (ts : List Token) (i : ℕ) (d : Token) → i < length ts
     → openHandles (take (suc i) ts) ≡ openHandles (take i ts) ++ handleOf (getD ts i d .state)

@@ -9,7 +9,6 @@ use lib.ListN.{length}
 use Rattle.model.specs.declared.token.Slot.the-variants as slots
 use Rattle.model.specs.declared.token.Held.the-variants as helds
 use Rattle.model.specs.declared.token.Place.the-variants as places
-use Rattle.model.specs.declared.token.State.the-variants as states
 use Rattle.job.specs.Test.{_and_, all}
 use Rattle.job.specs.Node.{Dag, isNode, dagHolds}
 use Rattle.model.specs.Machine.Limits.{paper}
@@ -21,7 +20,6 @@ use Rattle.model.specs.declared.token.Slot.{Slot}
 use Rattle.model.specs.declared.token.Bind.{Bind}
 use Rattle.model.specs.declared.token.Held.{Held}
 use Rattle.model.specs.declared.token.Place.{Place}
-use Rattle.model.specs.declared.token.State.{State}
 use Rattle.model.specs.declared.token.Token.{Token}
 use Rattle.model.specs.declared.cell.Cell.{Cell}
 use Rattle.model.specs.declared.record.Machine.{Machine}
@@ -29,6 +27,7 @@ use Rattle.job.proofs.Test.{clash, and-left, and-right, and-both, eqb-eq, ltb-l
 use Rattle.job.proofs.Both.{and-true}
 use Rattle.row_rules.specs.RowRules.{tokenRule, cellRule}
 use Rattle.row_rules.proofs.Chain.{ends-nowhere}
+use Rattle.model.proofs.Machine.Blanking.{state-blank}
 
 -- fields that hold nothing are in range
 slot-blank : (s : Slot) → not (isBound s) ≡ true → slotInRange 32 s ≡ true
@@ -52,14 +51,6 @@ place-blank : (n : ℕ) (q : Place) → not (isPlace q) ≡ true → placeInRang
 unfolding isPlace placeInRange
 place-blank n places.Nowhere e = refl
 place-blank n (places.At p) e = clash e refl
-
-pub state-blank : (s : State) → isBlankState s ≡ true → s ≡ states.Blank
-unfolding isBlankState
-state-blank states.Blank e = refl
-state-blank states.Ready e = clash e refl
-state-blank (states.Waiting c) e = clash e refl
-state-blank (states.Called h) e = clash e refl
-state-blank states.Frame e = clash e refl
 
 ends-none : (cs : List Cell) (n : ℕ) (q : Place) → not (isPlace q) ≡ true → chainEnds cs n q ≡ true
 unfolding isPlace

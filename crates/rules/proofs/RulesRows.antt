@@ -20,8 +20,8 @@ use Rattle.record.specs.Layout.{stateKind}
 use Rattle.row_rules.specs.RowRules.{tokenRule}
 use Rattle.rules.specs.OrderCounts.{namedByBoth}
 use Rattle.rules.proofs.Order.{from-turn}
-use Rattle.rules.proofs.OneRow.{state-blank}
 use Rattle.rules.proofs.RestBlank.{passed, pass-turn, marked-one, other-one}
+use Rattle.model.proofs.Machine.Blanking.{state-blank}
 
 module _ (d : Dag) (m : Machine) (used : List Bool) (queue waits : List ℕ) where
   abbrev rule : Token → Bool

@@ -16,7 +16,7 @@ use Rattle.job.specs.Node.{Dag}
 use Rattle.model.specs.Machine.Limits.{paper}
 use Rattle.model.specs.Machine.Blank.{blankToken, tokenAt, isPlace}
 use Rattle.model.specs.Machine.Rules.{rulesHold}
-use Rattle.model.specs.Machine.State.{isReady, handleOf}
+use Rattle.model.specs.Machine.State.{handleOf}
 use Rattle.model.specs.Machine.Reply.{refuses, moves}
 use Rattle.model.specs.Machine.Update.{withValue, withState, put, enqueue}
 use Rattle.model.specs.Machine.Answer.{holder, answered}
@@ -36,6 +36,7 @@ use Rattle.reach.specs.Marks.{BlankFrom}
 use Rattle.reach.proofs.ListLoops.{steady}
 use Rattle.sites.specs.Answer.{placeBelow, answeredBy, Answered}
 use Rattle.sites.proofs.RuleFacts.{tokens-size, queue-room}
+use Rattle.model.proofs.Run.AnswerStands.{handle-busy}
 
 -- a turn of the search
 module _ (h i : ℕ) (ts : List Token) (d : Token) (l : i < length ts) {x : Place} (so-far : x ≡ holder h i (drop i ts)) where
@@ -63,15 +64,6 @@ holder-blank h end ts l inside blank =
     (λ i from to. holder-on h i ts blankToken (omega arith) refl (ap (λ (t : Token). any (eqb h) (handleOf (t .state))) (blank i from to)))
     ∙ holder-none h 64 ts (omega arith) refl
 
--- the token under a handle is not ready
-open-waits : (h : ℕ) (s : State) → any (eqb h) (handleOf s) ≡ true → isReady s ≡ false
-unfolding any handleOf isReady
-open-waits h states.Blank e = refl
-open-waits h states.Ready e = clash e refl
-open-waits h (states.Waiting c) e = refl
-open-waits h (states.Called g) e = refl
-open-waits h states.Frame e = refl
-
 module _ (d : Dag) (m : Machine) (k : rulesHold paper d m ≡ true) (h p : ℕ) (e : holder h 0 (m .tokens) ≡ places.At p) where
   -- the token
   open-at : any (eqb h) (handleOf (tokenAt (m .tokens) p .state)) ≡ true
@@ -93,7 +85,7 @@ module _ (d : Dag) (m : Machine) (k : rulesHold paper d m ≡ true) (h p : ℕ) 
           (ap (λ (t : Token). any (eqb h) (handleOf (t .state))) (List·getD-eq-default (m .tokens) blankToken {n = p} (omega arith)))
 
   pub open-room : m .queued < 64
-  open-room = queue-room d m k p open-inside (open-waits h _ open-at)
+  open-room = queue-room d m k p open-inside (handle-busy h _ open-at)
 
 or-nothing : (b : Bool) → b ≡ (b or false)
 unfolding _or_

@@ -17,10 +17,7 @@ use Rattle.model.specs.declared.token.Slot.the-variants as slots
 use Rattle.model.specs.declared.token.Bind.{Bind}
 use Rattle.job.proofs.Test.{ne-eqb, ltb-lt, all-at}
 use Rattle.sites.specs.Row.{rowAt, paramsAt, ParamsHold}
-
-map-append : {A B : Type 0} (f : A → B) (xs ys : List A) → map f (xs ++ ys) ≡ map f xs ++ map f ys
-map-append f [] ys = refl
-map-append f (x ∷ xs) ys = ap (_∷_ (f x)) (map-append f xs ys)
+use Rattle.sites.proofs.TableLoops.{map-append}
 
 -- a parameter by its kind
 pub param-variable : (k w : ℕ) → k ≡ 7 → paramOf k w ≡ variable w

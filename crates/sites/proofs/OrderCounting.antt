@@ -2,7 +2,7 @@
 -- Assumes nothing.
 use mathlib.Core.Path.{_≡_, refl, sym, ap, _∙_}
 use mathlib.Core.Bool.{true}
-use mathlib.Core.List.{List, [], _∷_, _++_}
+use mathlib.Core.List.{List, [], _∷_}
 use Prim.Native.Nat.{ℕ, zero, suc, _+_, _<_, _≤_}
 use native.Mathlib.Decide.{ℕ-discrete, decLt}
 use native.Mathlib.Omega.{arith}
@@ -77,8 +77,3 @@ module _ (n : ℕ) (xs : List ℕ) (below : all (λ (p : ℕ). ltb p n) xs ≡ t
 
   pub names-fewer : (q : ℕ) → q < n → count q xs ≡ 0 → length xs < n
   names-fewer q l e = let z = total-length n xs below in let y = total-fewer n xs q single l e in omega arith
-
-pub count-append : (p : ℕ) (xs ys : List ℕ) → count p (xs ++ ys) ≡ count p xs + count p ys
-unfolding count
-count-append p [] ys = omega arith
-count-append p (x ∷ xs) ys = let z = count-append p xs ys in omega arith

@@ -3,7 +3,7 @@
 use mathlib.Core.Path.{_≡_, refl, ap, ap₂, subst, _∙_}
 use mathlib.Core.Bool.{Bool, true, false}
 use mathlib.Core.List.{List}
-use Prim.Native.Nat.{ℕ, zero, suc, _+_, _*_, _<_, _≤_}
+use Prim.Native.Nat.{ℕ, _+_, _*_, _<_, _≤_}
 use native.Mathlib.Omega.{arith}
 use lib.ListN.{length, getD, take, drop}
 use lib.Seq.{drop-drop, getD-drop}
@@ -14,19 +14,7 @@ use Rattle.job.proofs.Test.{clash, and-left, ltb-lt, same-eq}
 use Rattle.job.proofs.DagRules.{dag-rules, node-rules, body-rules}
 use Rattle.sites.specs.Row.{rowOf, rowAt, paramsAt, nodeOfKind, nodeIn}
 use Rattle.sites.proofs.LookParams.{row-word}
-
-pub nodes-count : (n : ℕ) (ws : List ℕ) → length (nodesFrom n ws) ≡ n
-unfolding nodesFrom
-nodes-count zero ws = refl
-nodes-count (suc n) ws = ap suc (nodes-count n (drop 12 ws))
-
-node-from : (n i : ℕ) (ws : List ℕ) → i < n → getD (nodesFrom n ws) i Node.unknown ≡ decodedNode (rowAt ws (12 * i))
-unfolding nodesFrom
-node-from zero i ws l = absurd (omega arith)
-node-from (suc n) zero ws l = refl
-node-from (suc n) (suc i) ws l =
-    let next : 12 + 12 * i ≡ 12 * suc i = omega arith in
-    node-from n i (drop 12 ws) (omega arith) ∙ ap (λ xs. decodedNode (take 12 xs)) (drop-drop (12 * i) 12 ws ∙ ap (λ k. drop k ws) next)
+use Rattle.job.proofs.Words.{length-nodesFrom, length-bodiesFrom, node-from, body-from}
 
 holds-by-kind : (d : Dag) (row : List ℕ) → nodeHolds d (decodedNode row) ≡ true → decodedNode row ≡ nodeBy row
 unfolding decodedNode nodeHolds
@@ -55,7 +43,7 @@ module _ (ws : List ℕ) (i : ℕ) (k : dagHolds (dagOf ws) ≡ true) (l : i < l
   read-of : nodeAt (dagOf ws) i ≡ decodedNode (rowAt ws (rowOf i))
   unfolding nodeAt dagOf
   read-of =
-      let n : length (nodesFrom (getD ws 0 0) (drop headWords ws)) ≡ getD ws 0 0 = nodes-count (getD ws 0 0) (drop headWords ws) in
+      let n : length (nodesFrom (getD ws 0 0) (drop headWords ws)) ≡ getD ws 0 0 = length-nodesFrom (getD ws 0 0) (drop headWords ws) in
       node-from (getD ws 0 0) i (drop headWords ws) (omega arith) ∙ ap (λ xs. decodedNode (take 12 xs)) (drop-drop (12 * i) headWords ws)
 
   decoded-holds : nodeHolds (dagOf ws) (decodedNode (rowAt ws (rowOf i))) ≡ true
@@ -80,20 +68,6 @@ node-of-kind ws at kind e =
     ∙ ap₂ (λ x y. nodeOfKind (getD ws (at + 1) 0) (getD ws (at + 2) 0) x (paramsFrom x (drop 4 row)) y) (row-word ws at 3 (omega arith))
     (row-word ws at 0 (omega arith) ∙ ap (λ n. getD ws n 0) start ∙ e)
 
--- where a definition's body begins
-bodies-count : (n : ℕ) (ws : List ℕ) → length (bodiesFrom n ws) ≡ n
-unfolding bodiesFrom
-bodies-count zero ws = refl
-bodies-count (suc n) ws = ap suc (bodies-count n (drop 2 ws))
-
-body-from : (n i : ℕ) (ws : List ℕ) (d : Body) → i < n → getD (bodiesFrom n ws) i d .root ≡ getD ws (2 * i) 0
-unfolding bodiesFrom
-body-from zero i ws d l = absurd (omega arith)
-body-from (suc n) zero ws d l = refl
-body-from (suc n) (suc i) ws d l =
-    let next : 2 + 2 * i ≡ 2 * suc i = omega arith in
-    body-from n i (drop 2 ws) d (omega arith) ∙ getD-drop 2 ws (2 * i) 0 ∙ ap (λ k. getD ws k 0) next
-
 module _ (ws : List ℕ) (i : ℕ) (k : dagHolds (dagOf ws) ≡ true) (l : i < length (dagOf ws .bodies)) where
   pub body-few : i < 32
   body-few = let f : length (dagOf ws .bodies) ≤ 32 = dag-rules (dagOf ws) k .bodies-few in omega arith
@@ -101,8 +75,8 @@ module _ (ws : List ℕ) (i : ℕ) (k : dagHolds (dagOf ws) ≡ true) (l : i < l
   pub root-read : bodyAt (dagOf ws) i .root ≡ getD ws (3 + 2 * i) 0
   unfolding bodyAt dagOf
   root-read =
-      let n : length (bodiesFrom (getD ws 1 0) (drop 3 ws)) ≡ getD ws 1 0 = bodies-count (getD ws 1 0) (drop 3 ws) in
-      body-from (getD ws 1 0) i (drop 3 ws) _ (omega arith) ∙ getD-drop 3 ws (2 * i) 0
+      let n : length (bodiesFrom (getD ws 1 0) (drop 3 ws)) ≡ getD ws 1 0 = length-bodiesFrom (getD ws 1 0) (drop 3 ws) in
+      ap (λ (b : Body). b .root) (body-from (getD ws 1 0) i (drop 3 ws) _ (omega arith)) ∙ getD-drop 3 ws (2 * i) 0
 
   pub root-few : getD ws (3 + 2 * i) 0 < 1022
   unfolding bodyHolds isNode

@@ -19,10 +19,10 @@ use Rattle.model.specs.declared.token.State.{State}
 use Rattle.model.specs.declared.token.State.the-variants as states
 use Rattle.model.specs.declared.cell.Cell.{Cell}
 use Rattle.model.specs.declared.record.Machine.{Machine}
-use Rattle.job.proofs.Test.{and-left, and-right, eqb-eq, all-at, all-head, all-tail, all-nil, all-cons, all-append}
+use Rattle.job.proofs.Test.{and-left, and-right, eqb-eq, all-at, all-head, all-tail, all-nil, all-cons, all-append, count-append}
 use Rattle.model.proofs.Machine.Rules.{EachRuleHolds, each-rule-holds, NamesOnce, names-once}
 use Rattle.sites.specs.Look.{LookFacts}
-use Rattle.sites.proofs.OrderCounting.{names-few, names-fewer, count-append}
+use Rattle.sites.proofs.OrderCounting.{names-few, names-fewer}
 
 all-implied : {A : Type 0} (f g : A → Bool) → ((x : A) → f x ≡ true → g x ≡ true) → (xs : List A) → all f xs ≡ true → all g xs ≡ true
 all-implied f g h [] e = all-nil g

@@ -20,7 +20,8 @@ use Rattle.record.proofs.TokenRow.{put-self}
 use Rattle.record.proofs.CellRow.{put-self as put-cell-self}
 use Rattle.record.specs.Changes.{storeCell}
 use Rattle.reach.specs.Marks.{BlankFrom, sweptToken, sweptCell, tokensSwept, cellsSwept}
-use Rattle.reach.proofs.ListLoops.{any-default, steady}
+use Rattle.reach.proofs.ListLoops.{steady}
+use Rattle.job.proofs.Lists.{getD-any}
 
 module _ {A : Type 0} (blank : A) (marks : List Bool) (xs : List A) where
   -- done up to i
@@ -57,7 +58,7 @@ module _ {A : Type 0} (blank : A) (marks : List Bool) (xs : List A) where
           (drop (suc i) xs) blank i before-long
 
       mark-at : (x : Bool) → getD marks i false ≡ x → getD marks i true ≡ x
-      mark-at x e = any-default marks i true false (omega arith) ∙ e
+      mark-at x e = getD-any marks i true false (omega arith) ∙ e
 
       pub keeps : getD marks i false ≡ true → partly i ≡ partly (i + 1)
       keeps e = partly-held ∙ ap held (sym (kept-marked blank marks xs i (omega arith) (mark-at true e))) ∙ sym partly-next

@@ -28,7 +28,6 @@ use Rattle.model.specs.declared.token.Place.{Place}
 use Rattle.model.specs.declared.token.Place.the-variants as places
 use Rattle.model.specs.declared.token.Token.{Token}
 use Rattle.job.proofs.Test.{clash}
-use Rattle.model.proofs.Keeps.Facts.{blank-at}
 use Rattle.demand3.proofs.Carried.{Carried, answered-carried}
 use Rattle.record.specs.Layout.{wordsOf}
 use Rattle.record.specs.Holds.{Holds}
@@ -40,6 +39,7 @@ use Rattle.unchecked.proofs.AnswerUnknown.{unknown-handle}
 use Rattle.reach.specs.Marks.{BlankFrom}
 use Rattle.acts.specs.Acting.{Lawful, QueueHasToken, Taking, Acting, Gives, answerReport}
 use Rattle.acts.proofs.Outcomes.{gives-whole, gives-refused}
+use Rattle.job.proofs.Lists.{replicate-at}
 
 -- the token that acts
 module _ {ws dag : List ℕ} {used cells : List Bool} {place : ℕ} {m : Machine} (r : QueueHasToken ws used cells dag place m) where
@@ -119,7 +119,7 @@ start-holds goal e =
                   waits = refl;
                   binds =
                       binds-after (replicate 64 blankToken) 0 (startToken goal) refl
-                      (λ i. ap (λ (t : Token). length (t .binds)) (blank-at 64 i blankToken));
+                      (λ i. ap (λ (t : Token). length (t .binds)) (replicate-at 64 i blankToken));
                 };
           };
       ordered = record { queue = refl; queued = refl; waits = refl; waiting = refl };

@@ -10,7 +10,6 @@ use Rattle.model.specs.Machine.Blank.{tokenAt}
 use Rattle.model.specs.Machine.Update.{put, withBinding, withTables, withCounts, withOrders, queueOf, enqueue}
 use Rattle.model.specs.declared.token.Token.{Token}
 use Rattle.model.specs.declared.record.Machine.{Machine}
-use Rattle.model.proofs.Sees.Others.{token-same, token-other}
 use Rattle.model.specs.declared.token.Slot.{Slot}
 use Rattle.model.specs.declared.token.Bind.{Bind}
 use Rattle.record.specs.Changes.{dequeued, withBinds}
@@ -18,6 +17,7 @@ use Rattle.record.specs.Holds.{Holds}
 use Rattle.orders.proofs.NamesPadded.{length-without}
 use Rattle.record.proofs.HoldsShape.{shaped}
 use Rattle.record.proofs.TokenRow.{put-self}
+use Rattle.model.proofs.Machine.TableRows.{token-same, token-other}
 
 -- how long the queue is
 pub queued-taken : {ws : List ℕ} {m : Machine} (place : ℕ) → Holds ws m → place < m .queued → suc (dequeued m place .queued) ≡ m .queued

@@ -27,8 +27,8 @@ use Rattle.model.proofs.Machine.Reach.{Names}
 use Rattle.model.proofs.Machine.InUse.{CellsIn, TokensUsed, CellsUsed, tokens-used, cells-used, blank-inactive}
 use Rattle.model.proofs.Machine.Blanking.{length-kept, kept-marked, kept-free}
 use Rattle.model.proofs.Machine.Used.{Used, UsedCell, used-fits, used-parent}
-use Rattle.model.proofs.Sees.Others.{token-other}
-use Rattle.model.proofs.Keeps.Facts.{blank-at}
+use Rattle.job.proofs.Lists.{replicate-at}
+use Rattle.model.proofs.Machine.TableRows.{token-other}
 
 pub record Clean (m : Machine) : Type 0 where
   pub tokens : (p : ℕ) → Free (tokensUsed m) p → tokenAt (m .tokens) p ≡ blankToken
@@ -202,11 +202,11 @@ module _ (m : Machine) where
 -- the start, whose token is in use
 pub start-clean : (lim : Limits) (goal : ℕ) → Marked (tokensUsed (startMachine lim goal)) 0 → Clean (startMachine lim goal)
 unfolding tokenAt cellAt
-start-clean lim goal u = record { tokens = λ p e. go p e (ℕ-discrete p 0); cells = λ c e. blank-at (lim .cellPlaces) c blankCell }
+start-clean lim goal u = record { tokens = λ p e. go p e (ℕ-discrete p 0); cells = λ c e. replicate-at (lim .cellPlaces) c blankCell }
   where
     m : Machine
     m = startMachine lim goal
 
     go : (p : ℕ) → Free (tokensUsed m) p → Dec (p ≡ 0) → getD (m .tokens) p blankToken ≡ blankToken
     go p e (yes f) = clash (subst (Marked (tokensUsed m)) (sym f) u) e
-    go p e (no n) = token-other (replicate (lim .tokenPlaces) blankToken) 0 p (startToken goal) n ∙ blank-at (lim .tokenPlaces) p blankToken
+    go p e (no n) = token-other (replicate (lim .tokenPlaces) blankToken) 0 p (startToken goal) n ∙ replicate-at (lim .tokenPlaces) p blankToken

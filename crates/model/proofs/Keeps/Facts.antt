@@ -27,10 +27,11 @@ use Rattle.job.proofs.Test.{eqb-same, ne-eqb}
 use Rattle.model.proofs.Machine.Marks.{Marked}
 use Rattle.model.proofs.Machine.InUse.{tokens-used}
 use Rattle.model.proofs.Machine.Blanking.{length-kept, kept-marked, kept-cases}
-use Rattle.model.proofs.Sees.Others.{token-same, token-other}
 use Rattle.model.proofs.Keeps.NamedOnce.{Names, Lines}
 use Rattle.model.proofs.Keeps.Orders.{Orders}
 use Rattle.model.proofs.Keeps.TableFacts.{Tables, TokenHolds, Idle, idle-holds, blank-holds, unbound-fit, tables-write, tables-swept}
+use Rattle.job.proofs.Lists.{replicate-at}
+use Rattle.model.proofs.Machine.TableRows.{token-same, token-other}
 
 pub record Facts (lim : Limits) (d : Dag) (m : Machine) : Type 0 where
   pub tokenPlaces : length (m .tokens) ≡ lim .tokenPlaces
@@ -48,11 +49,6 @@ pub record Facts (lim : Limits) (d : Dag) (m : Machine) : Type 0 where
 replicate-front : (n : ℕ) → 0 < n → replicate {A = ℕ} n 0 ≡ 0 ∷ replicate (n - 1) 0
 replicate-front zero l = absurd (omega arith)
 replicate-front (suc n) l = ap (λ k. 0 ∷ replicate k 0) (let z : n ≡ suc n - 1 = omega arith in z)
-
-pub blank-at : {A : Type 0} (n i : ℕ) (x : A) → getD (replicate n x) i x ≡ x
-blank-at zero i x = refl
-blank-at (suc n) zero x = refl
-blank-at (suc n) (suc i) x = blank-at n i x
 
 module _ (lim : Limits) (d : Dag) (some : 0 < lim .tokenPlaces) (cell : 0 < lim .cellPlaces) (goal : d .goal < length (d .nodes)) where
   abbrev begins : Machine
@@ -82,7 +78,7 @@ module _ (lim : Limits) (d : Dag) (some : 0 < lim .tokenPlaces) (cell : 0 < lim 
 
   other : (r : ℕ) → tokenAt (begins .tokens) (suc r) ≡ blankToken
   unfolding tokenAt
-  other r = token-other blanks 0 (suc r) (startToken (d .goal)) (λ e. omega arith) ∙ blank-at (lim .tokenPlaces) (suc r) blankToken
+  other r = token-other blanks 0 (suc r) (startToken (d .goal)) (λ e. omega arith) ∙ replicate-at (lim .tokenPlaces) (suc r) blankToken
 
   -- a test of the start's tokens
   at-start : (of : State → Bool) (n : ℕ → ℕ) → n 0 ≡ once (of states.Ready) → ((r : ℕ) → n (suc r) ≡ once (of states.Blank))
@@ -105,11 +101,11 @@ module _ (lim : Limits) (d : Dag) (some : 0 < lim .tokenPlaces) (cell : 0 < lim 
   blank-tables =
       record {
         tokens =
-            λ p. subst (TokenHolds d (begins .cells) 0) (sym (blank-at (lim .tokenPlaces) p blankToken)) (blank-holds (omega arith));
-        cells = λ c. ap (λ (k : Cell). heldInRange (k .value)) (blank-at (lim .cellPlaces) c blankCell);
+            λ p. subst (TokenHolds d (begins .cells) 0) (sym (replicate-at (lim .tokenPlaces) p blankToken)) (blank-holds (omega arith));
+        cells = λ c. ap (λ (k : Cell). heldInRange (k .value)) (replicate-at (lim .cellPlaces) c blankCell);
         apart =
             λ p q h e f.
-            let y : states.Blank ≡ states.Called h = sym (ap (λ (t : Token). t .state) (blank-at (lim .tokenPlaces) p blankToken)) ∙ e in
+            let y : states.Blank ≡ states.Called h = sym (ap (λ (t : Token). t .state) (replicate-at (lim .tokenPlaces) p blankToken)) ∙ e in
             let z : _≡_ {A = ℕ} 0 1 = cc in
             absurd (omega arith);
       }

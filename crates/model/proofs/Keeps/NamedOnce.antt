@@ -21,30 +21,18 @@ use Rattle.model.specs.declared.token.State.{State}
 use Rattle.model.specs.declared.token.State.the-variants as states
 use Rattle.model.specs.declared.token.Token.{Token}
 use Rattle.model.specs.declared.cell.Cell.{Cell}
-use Rattle.job.proofs.Test.{clash, false-of, eqb-same, eqb-eq, eq-eqb, ne-eqb, lt-ltb, le-leb, and-both, all-head, all-tail}
+use Rattle.job.proofs.Test.{clash, false-of, eqb-same, eqb-eq, eq-eqb, ne-eqb, lt-ltb, le-leb, and-both, all-head, all-tail, once-true}
 use Rattle.model.proofs.Machine.Marks.{Free, marked-le-length, marked-set-free}
-use Rattle.model.proofs.Machine.InUse.{token-outside}
 use Rattle.model.proofs.Machine.Rules.{ready-state}
-use Rattle.model.proofs.Sees.Others.{count-append, token-same, token-other}
 use Rattle.model.proofs.Machine.Choke.{choke-at, choke-ends}
 use Rattle.model.proofs.Sees.ChokeAgrees.{woken, choke-spares}
+use Rattle.job.proofs.Test.{once-small, count-append, count-more}
+use Rattle.model.proofs.Machine.TableRows.{token-same, token-other, token-outside}
 
 -- counting
 count-here : (r : ℕ) (l : List ℕ) → count r (r ∷ l) ≡ suc (count r l)
 unfolding count
 count-here r l = rw (eqb-same r) (omega arith)
-
-count-more : (r x : ℕ) (l : List ℕ) → count r l ≤ count r (x ∷ l)
-unfolding count
-count-more r x l = omega arith
-
-once-small : (b : Bool) → once b ≤ 1
-once-small true = omega arith
-once-small false = omega arith
-
-once-true : (b : Bool) → 0 < once b → b ≡ true
-once-true true l = refl
-once-true false l = absurd (omega arith)
 
 -- a line in which no place stands twice takes a free mark for each of its places
 fills : (marks : List Bool) (l : List ℕ) → ((r : ℕ) → count r l ≤ 1) → ((r : ℕ) → 0 < count r l → Free marks r)

@@ -35,9 +35,8 @@ use Rattle.model.proofs.Machine.Blanking.{length-kept, kept-cases}
 use Rattle.model.proofs.Machine.Inside.{written}
 use Rattle.model.proofs.Machine.WrittenTokens.{Choked, ends, wakes, stays, choked-cases}
 use Rattle.model.proofs.Sees.Slots.{unbound-empty}
-use Rattle.model.proofs.Sees.Others.{token-same, token-other}
-use Rattle.model.proofs.Run.Chain.{cell-same, cell-other}
 use Rattle.model.proofs.Machine.Choke.{choke-at}
+use Rattle.model.proofs.Machine.TableRows.{token-same, token-other, cell-same, cell-other}
 
 -- the values that variables are bound to
 abbrev pub BindsFit : List Bind → Type 0

@@ -5,10 +5,10 @@ use mathlib.Core.Logic.{_⊎_, inl, inr}
 use mathlib.Core.Bool.{Bool, true, false}
 use mathlib.Core.List.{List, [], _∷_, map, List·Memᴰ, List·Memᴰ·head, List·Memᴰ·tail, List·Memᴰ·not-nil}
 use mathlib.Core.List.{List·Memᴰ·append-cases, Memᴰ·append-left, Memᴰ·append-right}
-use Prim.Native.Nat.{ℕ, zero, suc, _+_, _<_, _≤_}
+use Prim.Native.Nat.{ℕ, zero, suc, _+_, _<_}
 use native.Mathlib.Decide.{decLt}
 use native.Mathlib.Omega.{arith}
-use lib.ListN.{length, replicate, List·getD-eq-default}
+use lib.ListN.{length, replicate}
 use Rattle.model.specs.Machine.Blank.{empty, blankToken, blankCell, tokenAt, cellAt, slotAt}
 use Rattle.model.specs.Machine.Active.{isActive}
 use Rattle.model.specs.Machine.State.{isLive}
@@ -23,15 +23,7 @@ use Rattle.model.specs.declared.cell.Cell.{Cell}
 use Rattle.job.proofs.Test.{clash}
 use Rattle.model.proofs.Machine.Marks.{Marked}
 use Rattle.model.proofs.Machine.Reach.{Names, names-nowhere, Reached, reached-law}
-
--- behind the end of a table all is blank
-pub token-outside : (ts : List Token) (i : ℕ) → length ts ≤ i → tokenAt ts i ≡ blankToken
-unfolding tokenAt
-token-outside ts i l = List·getD-eq-default ts blankToken l
-
-pub cell-outside : (cs : List Cell) (c : ℕ) → length cs ≤ c → cellAt cs c ≡ blankCell
-unfolding cellAt
-cell-outside cs c l = List·getD-eq-default cs blankCell l
+use Rattle.model.proofs.Machine.TableRows.{token-outside, cell-outside}
 
 pub blank-inactive : (cs : List Cell) → isActive cs blankToken ≡ false
 unfolding isActive isLive

@@ -12,6 +12,7 @@ use lib.ListN.{length, getD, set, replicate, length-set, List·getD-eq-default}
 use lib.Seq.{getD-set-same, getD-set-other, ext-getD}
 use Rattle.model.specs.Machine.InUse.{marked}
 use Rattle.job.proofs.Test.{clash, false-of}
+use Rattle.job.proofs.Lists.{same-when}
 
 abbrev pub Marked : List Bool → ℕ → Type 0
 Marked marks i = getD marks i true ≡ true
@@ -133,22 +134,16 @@ marked-no-place [] h = refl
 marked-no-place (true ∷ marks) h = absurd (h 0 (omega arith) refl)
 marked-no-place (false ∷ marks) h = marked-no-place marks (λ i l m. h (suc i) (omega arith) m)
 
--- marks are equal where each has the other's: as they are, with a place marked, with a place taken out
-same-test : (a b : Bool) → (a ≡ true → b ≡ true) → (b ≡ true → a ≡ true) → a ≡ b
-same-test true b f g = sym (f refl)
-same-test false true f g = g refl
-same-test false false f g = refl
-
 module _ (new old : List Bool) (size : length new ≡ length old) where
   pub marks-same : ((i : ℕ) → i < length new → Marked new i → Marked old i) → ((i : ℕ) → i < length old → Marked old i → Marked new i)
       → new ≡ old
-  marks-same f g = ext-getD true new old size (λ i l. same-test _ _ (f i l) (g i (omega arith)))
+  marks-same f g = ext-getD true new old size (λ i l. same-when _ _ (f i l) (g i (omega arith)))
 
   pub marks-added : (q : ℕ) → ((i : ℕ) → i < length new → Marked new i → Marked old i ⊎ (i ≡ q))
       → ((i : ℕ) → i < length old → Marked old i → Marked new i) → Marked new q → new ≡ set old q true
   marks-added q f g here =
       ext-getD true new (set old q true) (size ∙ sym (length-set old q true))
-      (λ i l. same-test _ _ (λ m. into i (f i l m)) (λ m. back i l (mark-inverse old q i m)))
+      (λ i l. same-when _ _ (λ m. into i (f i l m)) (λ m. back i l (mark-inverse old q i m)))
     where
       into : (i : ℕ) → Marked old i ⊎ (i ≡ q) → Marked (set old q true) i
       into i (inl m) = mark-mono old q i m
@@ -167,4 +162,4 @@ module _ (new old : List Bool) (size : length new ≡ length old) where
           false-of _ (λ m. f i l m .1 e)
           ∙ sym (ap (λ j. getD (set old p false) j true) e ∙ getD-set-same old p false true (let z : i ≡ p = e in omega arith))
       at i l (no n) =
-          same-test _ _ (λ m. f i l m .0) (λ m. g i (omega arith) m n) ∙ sym (getD-set-other old p i false true n)
+          same-when _ _ (λ m. f i l m .0) (λ m. g i (omega arith) m n) ∙ sym (getD-set-other old p i false true n)

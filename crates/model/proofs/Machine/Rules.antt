@@ -1,7 +1,7 @@
 -- What the index rules say, rule by rule: the test of all of them is taken apart, and the tests of the orders are turned into facts on the
 -- places they name. Assumes nothing.
 use mathlib.Core.Path.{_≡_, refl, ap, subst}
-use mathlib.Core.Bool.{Bool, true, false}
+use mathlib.Core.Bool.{Bool, true}
 use mathlib.Core.List.{List, [], _∷_}
 use Prim.Native.Nat.{ℕ, zero, suc, _+_, _<_, _≤_}
 use native.Mathlib.Omega.{arith}
@@ -20,7 +20,7 @@ use Rattle.model.specs.declared.token.State.{State}
 use Rattle.model.specs.declared.token.State.the-variants as states
 use Rattle.model.specs.declared.token.Token.{Token}
 use Rattle.model.specs.declared.record.Machine.{Machine}
-use Rattle.job.proofs.Test.{clash, and-left, and-right, all-at, eqb-eq, eqb-same, leb-le, ltb-lt}
+use Rattle.job.proofs.Test.{clash, and-left, and-right, all-at, eqb-eq, eqb-same, leb-le, ltb-lt, once-true}
 
 both : (a b : Bool) → (a and b) ≡ true → (a ≡ true) × (b ≡ true)
 both a b e = (and-left a b e, and-right a b e)
@@ -120,10 +120,6 @@ unfolding count
 count-at [] k l = absurd (omega arith)
 count-at (x ∷ xs) zero l = rw (eqb-same x) (omega arith)
 count-at (x ∷ xs) (suc k) l = let z = count-at xs k (omega arith) in omega arith
-
-once-true : (b : Bool) → 0 < once b → b ≡ true
-once-true true l = refl
-once-true false l = absurd (omega arith)
 
 -- each place that the order names is in the table, and the token there is of the kind
 module _ (of : State → Bool) (ts : List Token) (array : List ℕ) (n : ℕ) (o : NamesOnce of ts array n) (k : ℕ) (l : k < n) where

@@ -28,14 +28,10 @@ use Rattle.model.proofs.Machine.Refused.{StartCases, start-cases}
 use Rattle.model.proofs.Machine.Inside.{Inside, With, fits-blank, tokens-inside, cells-inside, inside-token}
 use Rattle.model.proofs.Machine.WrittenTokens.{fits-same}
 use Rattle.model.proofs.Machine.Used.{Within}
+use Rattle.job.proofs.Lists.{replicate-at}
 
 None : ℕ → Type 0
 None i = ⊥
-
-blank-at : {A : Type 0} (n i : ℕ) (x : A) → getD (replicate n x) i x ≡ x
-blank-at zero i x = refl
-blank-at (suc n) zero x = refl
-blank-at (suc n) (suc i) x = blank-at n i x
 
 -- a blank record is inside no place at all
 blank-inside : (n k : ℕ) → Inside n k None None (replicate n blankToken) (replicate k blankCell)
@@ -44,7 +40,7 @@ blank-inside n k =
     record {
       tokens = length-replicate n blankToken;
       cells = length-replicate k blankCell;
-      live = λ i e. clash e (ap (λ (t : Token). isLive (t .state)) (blank-at n i blankToken));
+      live = λ i e. clash e (ap (λ (t : Token). isLive (t .state)) (replicate-at n i blankToken));
       fits = λ i l x. absurd x;
       parent = λ c l x. absurd x;
     }

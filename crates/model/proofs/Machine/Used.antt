@@ -1,10 +1,9 @@
 -- A record that keeps the rules is inside what it uses (Inside); so a record that is inside that, or one place more, has no more in use, or
 -- one more, and stays within the limits that were tested. Assumes nothing.
-use mathlib.Core.Path.{_≡_, refl, sym, _∙_, ap}
+use mathlib.Core.Path.{_≡_, refl, sym, _∙_}
 use mathlib.Core.Bool.{Bool, true, false, not}
 use mathlib.Core.List.{List}
-use Prim.Native.Nat.{ℕ, suc, _<_, _≤_}
-use native.Mathlib.Decide.{decLt}
+use Prim.Native.Nat.{ℕ, suc, _≤_}
 use native.Mathlib.Omega.{arith}
 use lib.ListN.{length}
 use Rattle.job.specs.Node.{Dag}
@@ -18,25 +17,17 @@ use Rattle.model.specs.Machine.Step.{hasTokenPlace, hasCellPlace}
 use Rattle.model.specs.declared.token.Token.{Token}
 use Rattle.model.specs.declared.cell.Cell.{Cell}
 use Rattle.model.specs.declared.record.Machine.{Machine}
-use Rattle.job.proofs.Test.{clash, all-at, ltb-lt}
+use Rattle.job.proofs.Test.{all-at, ltb-lt}
 use Rattle.model.proofs.Machine.Marks.{Marked, marked-inside, marked-inside-one}
 use Rattle.model.proofs.Machine.Reach.{Names}
-use Rattle.model.proofs.Machine.InUse.{token-outside, tokens-used, cells-used}
+use Rattle.model.proofs.Machine.InUse.{tokens-used, cells-used}
 use Rattle.model.proofs.Machine.Rules.{EachRuleHolds}
 use Rattle.model.proofs.Machine.Inside.{Fits, Inside, With, tokens-inside, cells-inside, inside-finish}
+use Rattle.model.proofs.Machine.TableRows.{live-inside}
 
 -- in use: no more than the limits
 abbrev pub Within : Limits → Machine → Type 0
 Within lim m = (marked (tokensUsed m) ≤ lim .tokens) × (marked (cellsUsed m) ≤ lim .cells)
-
--- live tokens are in the table
-live-inside : (ts : List Token) (i : ℕ) → isLive (tokenAt ts i .state) ≡ true → i < length ts
-unfolding isLive
-live-inside ts i e = go (decLt i (length ts))
-  where
-    go : Dec (i < length ts) → i < length ts
-    go (yes l) = l
-    go (no f) = clash e (ap (λ (t : Token). isLive (t .state)) (token-outside ts i (omega arith)))
 
 live-active : (cs : List Cell) (t : Token) → notUnderSet cs t ≡ true → isLive (t .state) ≡ true → isActive cs t ≡ true
 unfolding notUnderSet isActive

@@ -112,7 +112,7 @@ choked-cases cs c t = go (within cs c (t .cell)) (waitsAt c (t .state)) refl
     go false true e = wakes e
     go false false e = stays
 
-waiting-live : (c : ℕ) (s : State) → waitsAt c s ≡ true → isLive s ≡ true
+pub waiting-live : (c : ℕ) (s : State) → waitsAt c s ≡ true → isLive s ≡ true
 unfolding waitsAt isLive
 waiting-live c states.Blank e = e
 waiting-live c states.Ready e = refl

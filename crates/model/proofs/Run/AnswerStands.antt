@@ -32,7 +32,7 @@ use Rattle.model.proofs.Run.Queue.{QueueRulesHold, queue-rules-hold}
 use Rattle.model.proofs.Run.Bystander.{Untouched, untouched-enqueue, untouched-put, queued-unharmed, untouched-stands}
 
 -- a token with a handle is not ready
-handle-busy : (h : ℕ) (s : State) → any (eqb h) (handleOf s) ≡ true → isReady s ≡ false
+pub handle-busy : (h : ℕ) (s : State) → any (eqb h) (handleOf s) ≡ true → isReady s ≡ false
 unfolding any handleOf isReady
 handle-busy h states.Blank e = refl
 handle-busy h states.Ready e = clash e refl

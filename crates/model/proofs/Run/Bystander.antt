@@ -5,8 +5,8 @@ use mathlib.Core.Bool.{true, false}
 use mathlib.Core.List.{List, [], _∷_, _++_}
 use Prim.Native.Nat.{ℕ, _<_}
 use native.Mathlib.Omega.{arith}
-use lib.ListN.{length, getD, set, length-append, length-take, List·getD-append}
-use lib.Seq.{getD-set-other, getD-take, take-append-seam}
+use lib.ListN.{length, getD, length-append, length-take, List·getD-append}
+use lib.Seq.{getD-take, take-append-seam}
 use Rattle.job.specs.Test.{padded}
 use Rattle.model.specs.Machine.Blank.{blankToken, tokenAt}
 use Rattle.model.specs.Machine.Active.{underSet, isActive}
@@ -24,6 +24,7 @@ use Rattle.model.proofs.Machine.InUse.{tokens-used}
 use Rattle.model.proofs.Machine.Blanking.{kept-marked}
 use Rattle.model.proofs.Run.Queue.{QueueRulesHold}
 use Rattle.model.proofs.Run.Chain.{unsetCell, new-cell-clear}
+use Rattle.model.proofs.Machine.TableRows.{token-other}
 
 -- the token u is at place p and not under a set cell
 pub record Unharmed (u : Token) (p : ℕ) (m : Machine) : Type 0 where
@@ -36,10 +37,6 @@ pub record Untouched (u : Token) (p k : ℕ) (m : Machine) : Type 0 where
   pub place : getD (queueOf m) k 0 ≡ p
   pub unharmed : Unharmed u p m
 
-token-other : (ts : List Token) (p q : ℕ) (t : Token) → (p ≡ q → ⊥) → tokenAt (set ts q t) p ≡ tokenAt ts p
-unfolding tokenAt
-token-other ts p q t n = getD-set-other ts q p t blankToken n
-
 module _ {u : Token} {p : ℕ} where
   pub unharmed-orders : (q w : List ℕ) (m : Machine) → Unharmed u p m → Unharmed u p (withOrders q w m)
   unfolding withOrders
@@ -47,7 +44,7 @@ module _ {u : Token} {p : ℕ} where
 
   pub unharmed-put : (q : ℕ) (t : Token) (m : Machine) → (p ≡ q → ⊥) → Unharmed u p m → Unharmed u p (put q t m)
   unfolding put withTables
-  unharmed-put q t m n h = record { token = token-other (m .tokens) p q t n ∙ h .token; clear = h .clear }
+  unharmed-put q t m n h = record { token = token-other (m .tokens) q p t n ∙ h .token; clear = h .clear }
 
   pub unharmed-counts : (n a c : ℕ) (m : Machine) → Unharmed u p m → Unharmed u p (withCounts n a c m)
   unfolding withCounts

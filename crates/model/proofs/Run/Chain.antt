@@ -7,7 +7,7 @@ use Prim.Native.Nat.{ℕ, zero, suc, _<_}
 use native.Mathlib.Decide.{decLt, ℕ-discrete}
 use native.Mathlib.Omega.{arith}
 use lib.ListN.{length, set, length-set}
-use lib.Seq.{getD-set-same, getD-set-other, set-out}
+use lib.Seq.{set-out}
 use lib.Dec.{eqb}
 use Rattle.model.specs.Machine.Blank.{blankCell, cellAt, hasValue}
 use Rattle.model.specs.Machine.Active.{isSet, upward, underSet, within}
@@ -16,6 +16,7 @@ use Rattle.model.specs.declared.token.Place.{Place}
 use Rattle.model.specs.declared.token.Place.the-variants as places
 use Rattle.model.specs.declared.cell.Cell.{Cell}
 use Rattle.job.proofs.Test.{clash, eqb-ne}
+use Rattle.model.proofs.Machine.TableRows.{cell-same, cell-other}
 
 -- a test that fails all the way up a chain fails at each cell of it, and back
 module _ (test : ℕ → Cell → Bool) (cs : List Cell) where
@@ -63,14 +64,6 @@ module _ (test : ℕ → Cell → Bool) (cs : List Cell) where
 
 abbrev setTest : ℕ → Cell → Bool
 setTest c k = isSet k
-
-pub cell-other : (cs : List Cell) (c b : ℕ) (k : Cell) → (b ≡ c → ⊥) → cellAt (set cs c k) b ≡ cellAt cs b
-unfolding cellAt
-cell-other cs c b k n = getD-set-other cs c b k blankCell n
-
-pub cell-same : (cs : List Cell) (c : ℕ) (k : Cell) → c < length cs → cellAt (set cs c k) c ≡ k
-unfolding cellAt
-cell-same cs c k l = getD-set-same cs c k blankCell l
 
 abbrev pub unsetCell : Place → Cell
 unsetCell q = record { parent = q; value = helds.Nothing }

@@ -1,7 +1,7 @@
 -- The queue of a machine that keeps the rules names tokens that are ready and not under a set cell, and the one at its front stands
 -- nowhere else in it: the rules test that it names each ready token once. Assumes nothing.
-use mathlib.Core.Path.{_≡_, refl, sym, _∙_, subst}
-use mathlib.Core.Bool.{Bool, true, false, not}
+use mathlib.Core.Path.{_≡_, sym, _∙_, subst}
+use mathlib.Core.Bool.{Bool, true, false}
 use mathlib.Core.List.{List, [], _∷_}
 use Prim.Native.Nat.{ℕ, suc, _≤_, _<_}
 use native.Mathlib.Omega.{arith}
@@ -21,16 +21,12 @@ use Rattle.model.specs.declared.cell.Cell.{Cell}
 use Rattle.model.specs.declared.record.Machine.{Machine}
 use Rattle.model.proofs.Machine.Rules.{EachRuleHolds, each-rule-holds, NamesOnce, names-once, order-inside, order-names, count-at}
 use Rattle.model.proofs.Machine.Rules.{ready-live}
-use Rattle.job.proofs.Test.{clash, eqb-eq, eqb-same, ltb-lt, and-left, and-right, all-at}
+use Rattle.job.proofs.Test.{eqb-eq, eqb-same, ltb-lt, and-left, and-right, all-at, not-true, once-small}
 
 -- what stands in a list is counted
 count-head : (n : ℕ) (q : List ℕ) → count n (n ∷ q) ≡ suc (count n q)
 unfolding count
 count-head n q = rw (eqb-same n) (omega arith)
-
-count-more : (n x : ℕ) (q : List ℕ) → count n q ≤ count n (x ∷ q)
-unfolding count
-count-more n x q = omega arith
 
 -- what stands at the front and again behind is counted twice
 counted-twice : (q : List ℕ) (k : ℕ) → suc k < length q → getD q 0 0 ≡ getD q (suc k) 0 → 1 < count (getD q (suc k) 0) q
@@ -39,9 +35,8 @@ counted-twice (x ∷ q) k l e =
     subst (λ n. 1 < count n (x ∷ q)) e
     (let z = count-head x q in let c = subst (λ n. 0 < count n q) (sym e) (count-at q k (omega arith)) in omega arith)
 
-once-small : (b : Bool) → 1 < once b → ⊥
-once-small true l = omega arith
-once-small false l = omega arith
+once-twice : (b : Bool) → 1 < once b → ⊥
+once-twice b l = let z = once-small b in omega arith
 
 -- an order that names each token of a kind once has its front nowhere else
 module _ (of : State → Bool) (ts : List Token) (array : List ℕ) (n : ℕ) (o : NamesOnce of ts array n) where
@@ -56,14 +51,10 @@ module _ (of : State → Bool) (ts : List Token) (array : List ℕ) (n : ℕ) (o
 
   order-front : (k : ℕ) → suc k < n → getD array 0 0 ≡ getD array (suc k) 0 → ⊥
   order-front k l e =
-      once-small (of (tokenAt ts (getD array (suc k) 0) .state))
+      once-twice (of (tokenAt ts (getD array (suc k) 0) .state))
       (subst (λ c. 1 < c) (o .counts (getD array (suc k) 0) (order-inside of ts array n o (suc k) l))
       (subst (λ p. 1 < count p order) (order-at (suc k) l)
       (counted-twice order k (let z = order-length in omega arith) (order-at 0 (omega arith) ∙ (e ∙ sym (order-at (suc k) l))))))
-
-not-true : (b : Bool) → not b ≡ true → b ≡ false
-not-true true e = clash e refl
-not-true false e = refl
 
 -- what the rules say of the queue
 pub record QueueRulesHold (m : Machine) : Type 0 where

@@ -35,7 +35,7 @@ use Rattle.model.specs.declared.cell.Cell.{Cell}
 use Rattle.model.specs.declared.record.Machine.{Machine}
 use Rattle.model.specs.declared.reply.Refusal.the-variants as refusals
 use Rattle.model.specs.declared.reply.Outcome.{Outcome}
-use Rattle.job.proofs.Test.{clash, ltb-lt}
+use Rattle.job.proofs.Test.{clash, ltb-lt, not-false}
 use Rattle.model.proofs.Machine.InUse.{tokens-used}
 use Rattle.model.proofs.Machine.Places.{next-place-free}
 use Rattle.model.proofs.Machine.Refused.{After, after-unless, after-outcome, StepAccepted, step-accepted}
@@ -54,10 +54,6 @@ spares-all :
     → frontEnds d m i ≡ false
 unfolding frontEnds endsToken
 spares-all d m e i = ap (λ q. endsToken m q (queuedToken m i)) e
-
-not-false : (b : Bool) → not b ≡ false → b ≡ true
-not-false true e = refl
-not-false false e = clash refl e
 
 -- the queue without its front
 without-front : (xs : List ℕ) (k : ℕ) → getD (without 0 xs) k 0 ≡ getD xs (suc k) 0

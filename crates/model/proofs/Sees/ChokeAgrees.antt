@@ -26,7 +26,7 @@ use Rattle.model.specs.declared.token.State.the-variants as states
 use Rattle.model.specs.declared.token.Token.{Token}
 use Rattle.model.specs.declared.cell.Cell.{Cell}
 use Rattle.model.specs.declared.record.Machine.{Machine}
-use Rattle.job.proofs.Test.{clash, ne-eqb}
+use Rattle.job.proofs.Test.{clash, ne-eqb, not-true, count-append}
 use Rattle.model.proofs.Machine.Choke.{choke-at, choke-ends}
 use Rattle.simulation.proofs.AbstractMachine as Abstract
 use Rattle.simulation.proofs.AbstractMachine.{Binding, Frame, at, Store, withSet, isOutOf, outOf, actsAt}
@@ -36,11 +36,12 @@ use Rattle.model.proofs.Sees.View.{held, World, Nested, StateSeen, read
 use Rattle.model.proofs.Sees.View.{PlaceSeen, TokenSeen, sees, TokensSeen, nobody, also, FrameSeen, frameAt, frame-seen, Kept}
 use Rattle.model.proofs.Sees.View.{Closed, place-keep, tokens-append}
 use Rattle.model.proofs.Sees.Seen.{Core, world, sees-tables}
-use Rattle.model.proofs.Sees.Others.{Others, count-append}
-use Rattle.model.proofs.Run.Chain.{cell-same, cell-other}
+use Rattle.model.proofs.Sees.Others.{Others}
 use Rattle.model.proofs.Sees.WithinSeen.{not-any, any-first, any-rest, within-seen}
 use Rattle.model.proofs.Sees.Moving.{value-there, value-optional, place-as}
 use Rattle.model.proofs.Sees.Agrees.{Acting, Shows, Agrees}
+use Rattle.model.proofs.Machine.WrittenTokens.{waiting-live}
+use Rattle.model.proofs.Machine.TableRows.{cell-same, cell-other}
 
 unfoldable pub woken : Bool → Token → Token
 woken b t = elim b [ true ↦ withState states.Ready t | false ↦ t ]
@@ -49,20 +50,12 @@ pub choke-spares : (cs : List Cell) (c : ℕ) (t : Token) → within cs c (t .ce
 unfolding chokeToken woken
 choke-spares cs c t e = rw (e, chokeToken) refl
 
-waits-live : (c : ℕ) (s : State) → waitsAt c s ≡ true → isLive s ≡ true
-unfolding waitsAt isLive
-waits-live c states.Blank e = e
-waits-live c states.Ready e = refl
-waits-live c (states.Waiting b) e = refl
-waits-live c (states.Called h) e = refl
-waits-live c states.Frame e = e
-
 woken-live : (c : ℕ) (t : Token) → isLive (woken (waitsAt c (t .state)) t .state) ≡ isLive (t .state)
 unfolding woken withState isLive
 woken-live c t = go (waitsAt c (t .state)) refl
   where
     go : (b : Bool) → waitsAt c (t .state) ≡ b → isLive (woken b t .state) ≡ isLive (t .state)
-    go true e = sym (waits-live c (t .state) e)
+    go true e = sym (waiting-live c (t .state) e)
     go false e = refl
 
 woken-frame : (c : ℕ) (t : Token) → t .state ≡ states.Frame → woken (waitsAt c (t .state)) t ≡ t
@@ -211,10 +204,6 @@ module _ (M : Labels) (W : World) (c i : ℕ) (s : CellSeen W c i) (w : Held) (v
   abbrev stays : ℕ → Bool
   stays r = not (inCell (tokenAt (W .tokens) r))
 
-  not-not : (b : Bool) → not b ≡ true → b ≡ false
-  not-not true f = clash f refl
-  not-not false f = refl
-
   choke-tokens : {A : List ℕ} {S : List Abstract.Token} → TokensSeen W M A S → TokensSeen chokedWorld M (filter stays A) (outOf i S)
   unfolding filter
   choke-tokens nobody = nobody
@@ -225,7 +214,7 @@ module _ (M : Labels) (W : World) (c i : ℕ) (s : CellSeen W c i) (w : Held) (v
           → TokensSeen chokedWorld M
           (elim a as (λ b. List ℕ) [ true ↦ p ∷ filter stays A | false ↦ filter stays A ])
           (elim b as (λ b. List Abstract.Token) [ true ↦ x ∷ outOf i S | false ↦ outOf i S ])
-      go true true f g h = also (token-spared p (not-not _ f) z) h
+      go true true f g h = also (token-spared p (not-true _ f) z) h
       go true false f g h = clash refl g
       go false true f g h = clash g refl
       go false false f g h = h

@@ -28,7 +28,6 @@ use Rattle.model.specs.declared.token.State.the-variants as states
 use Rattle.model.specs.declared.token.Token.{Token}
 use Rattle.model.specs.declared.cell.Cell.{Cell}
 use Rattle.model.specs.declared.record.Machine.{Machine}
-use Rattle.model.proofs.Run.Chain.{cell-same, cell-other}
 use Rattle.job.proofs.Test.{clash, eqb-same, ne-eqb}
 use Rattle.model.proofs.Machine.Marks.{Free, free-inside}
 use Rattle.simulation.proofs.AbstractMachine as Abstract
@@ -41,6 +40,7 @@ use Rattle.model.proofs.Sees.Slots.{formals-seen}
 use Rattle.model.proofs.Sees.Others.{acting-inside, cell-later, twoWritten, two-first, two-kept, both-core, new-core}
 use Rattle.model.proofs.Sees.Moving.{value-optional, ready-seen, slots-at, place-to, place-bind, place-as}
 use Rattle.model.proofs.Sees.Agrees.{Acting, acting-used, acting-fits, Shows, Agrees}
+use Rattle.model.proofs.Machine.TableRows.{cell-same, cell-other}
 
 -- a function with the value v at c
 unfoldable changed : (ℕ → ℕ) → (c v : ℕ) → ℕ → ℕ

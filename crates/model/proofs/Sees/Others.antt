@@ -8,37 +8,28 @@ use Prim.Native.Nat.{ℕ, suc, _+_, _<_, _≤_}
 use native.Mathlib.Decide.{ℕ-discrete, decLt}
 use native.Mathlib.Omega.{arith}
 use lib.ListN.{length, set, length-set}
-use lib.Seq.{getD-set-same, getD-set-other}
 use lib.Dec.{eqb}
 use Rattle.job.specs.Test.{count, once}
-use Rattle.model.specs.Machine.Blank.{blankToken, tokenAt, cellAt}
+use Rattle.model.specs.Machine.Blank.{tokenAt, cellAt}
 use Rattle.model.specs.Machine.State.{isLive}
 use Rattle.model.specs.Machine.InUse.{usedTokens}
 use Rattle.model.specs.declared.token.State.the-variants as states
 use Rattle.model.specs.declared.token.Token.{Token}
 use Rattle.model.specs.declared.cell.Cell.{Cell}
-use Rattle.job.proofs.Test.{clash, false-of, eqb-eq, eqb-same, ne-eqb}
+use Rattle.job.proofs.Test.{clash, false-of, eqb-eq, eqb-same, ne-eqb, once-true, count-append}
 use Rattle.model.proofs.Machine.Marks.{Free, free-inside}
 use Rattle.model.proofs.Machine.Inside.{Fits}
 use Rattle.simulation.proofs.AbstractMachine as Abstract
 use Rattle.simulation.proofs.Shuffle.{Split, first, later}
 use Rattle.model.proofs.Sees.Labels.{Labels}
 use Rattle.model.proofs.Sees.View.{World, CellSeen, TokenSeen, TokensSeen, nobody, also, Kept, token-keep, tokens-map, tokens-append}
-use Rattle.model.proofs.Sees.Seen.{Core, token-live, live-inside, UsedToken, UsedCell, tokens-of, used-fits, used-closed, token-used}
+use Rattle.model.proofs.Sees.Seen.{Core, token-live, UsedToken, UsedCell, tokens-of, used-fits, used-closed, token-used}
 use Rattle.model.proofs.Sees.Seen.{token-at}
-
-pub count-append : (r : ℕ) (A B : List ℕ) → count r (A ++ B) ≡ count r A + count r B
-unfolding count
-count-append r [] B = omega arith
-count-append r (x ∷ A) B = let z : count r (A ++ B) ≡ count r A + count r B = count-append r A B in omega arith
+use Rattle.model.proofs.Machine.TableRows.{token-same, token-other, live-inside}
 
 once-le : (b : Bool) → once b ≤ 1
 once-le true = omega arith
 once-le false = omega arith
-
-once-true : (b : Bool) → 0 < once b → b ≡ true
-once-true true l = refl
-once-true false l = absurd (omega arith)
 
 -- the token x at place p of the list A, with those before and behind it
 module _ (M : Labels) (W : World) where
@@ -163,15 +154,6 @@ module _ {M : Labels} {W : World} {p : ℕ} {L R : List Abstract.Token} (o : Oth
               omega arith;
           clean = λ n l. c .store n ∙ o .clean n (let z : W .new ≤ W′ .new = c .new in omega arith);
         }
-
--- tables after a write
-pub token-same : (ts : List Token) (p : ℕ) (u : Token) → p < length ts → tokenAt (set ts p u) p ≡ u
-unfolding tokenAt
-token-same ts p u l = getD-set-same ts p u blankToken l
-
-pub token-other : (ts : List Token) (p r : ℕ) (u : Token) → (r ≡ p → ⊥) → tokenAt (set ts p u) r ≡ tokenAt ts r
-unfolding tokenAt
-token-other ts p r u n = getD-set-other ts p r u blankToken n
 
 abbrev alive : Token → ℕ
 alive t = once (isLive (t .state))

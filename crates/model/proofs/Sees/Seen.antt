@@ -22,9 +22,9 @@ use Rattle.model.specs.declared.token.State.{State}
 use Rattle.model.specs.declared.token.Token.{Token}
 use Rattle.model.specs.declared.cell.Cell.{Cell}
 use Rattle.model.specs.declared.record.Machine.{Machine}
-use Rattle.job.proofs.Test.{clash, eqb-eq}
+use Rattle.job.proofs.Test.{eqb-eq}
 use Rattle.model.proofs.Machine.Marks.{Marked}
-use Rattle.model.proofs.Machine.InUse.{TokensUsed, tokens-used, CellsUsed, cells-used, token-outside}
+use Rattle.model.proofs.Machine.InUse.{TokensUsed, tokens-used, CellsUsed, cells-used}
 use Rattle.model.proofs.Machine.Inside.{Fits}
 use Rattle.model.proofs.Machine.Blanking.{length-kept, kept-marked, kept-cases}
 use Rattle.simulation.proofs.AbstractMachine as Abstract
@@ -96,14 +96,6 @@ module _ {W : World} {M : Labels} where
   pub token-active : {t : Token} {x : Abstract.Token} → TokenSeen W M t x → isActive (W .cells) t ≡ true
   unfolding isActive
   token-active (sees v un s) = rw (state-live s, not-under-set un (v .cell), isActive) refl
-
-pub live-inside : (ts : List Token) (p : ℕ) → isLive (tokenAt ts p .state) ≡ true → p < length ts
-unfolding isLive
-live-inside ts p e = go (decLt p (length ts))
-  where
-    go : Dec (p < length ts) → p < length ts
-    go (yes l) = l
-    go (no n) = clash e (ap (λ (t : Token). isLive (t .state)) (token-outside ts p (omega arith)))
 
 -- in use, as the machine finds it
 abbrev pub tokenMarks : World → List Bool

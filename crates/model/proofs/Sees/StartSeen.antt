@@ -23,13 +23,12 @@ use Rattle.model.proofs.Sees.View.{World, absent, ready, root, nothing,
 use Rattle.model.proofs.Sees.View.{also}
 use Rattle.model.proofs.Sees.Seen.{world, Sees, seenAs}
 use Rattle.model.proofs.Sees.Slots.{unbound-empty}
-use Rattle.model.proofs.Sees.Others.{token-same, token-other}
+use Rattle.model.proofs.Machine.TableRows.{token-same, token-other}
+use Rattle.job.proofs.Lists.{replicate-at}
 
 blank-at : (n i : ℕ) → tokenAt (replicate n blankToken) i ≡ blankToken
 unfolding tokenAt
-blank-at zero i = refl
-blank-at (suc n) zero = refl
-blank-at (suc n) (suc i) = blank-at n i
+blank-at n i = replicate-at n i blankToken
 
 module _ (lim : Limits) (d : Dag) (M : Labels) (flow : Flow d M) (some : 0 < lim .tokenPlaces) where
   abbrev m : Machine

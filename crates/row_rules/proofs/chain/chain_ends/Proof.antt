@@ -5,11 +5,12 @@ use Rattle.model.specs.declared.record.Machine.{Machine}
 use Rattle.model.specs.Machine.Rules.{chainEnds}
 use Rattle.record.specs.Holds.{Codes}
 use Rattle.record.specs.LayoutDecoded.{placeFrom}
-use Rattle.row_rules.proofs.Range.{placed, no-place, at-place, nowhere}
+use Rattle.row_rules.proofs.Range.{no-place, at-place, nowhere}
 use Rattle.row_rules.proofs.Chain.{ends-stop, ends-past, ends-on, ends-last}
 use borrow.Author.Needs.{needs}
 use Rattle.row_rules.proofs.chain.chain_ends.Statement.{statement}
 use Rattle.row_rules.proofs.chain.chain_ends.Tie as tie
+use Rattle.reach.proofs.PlaceNumber.{place-back}
 
 abbrev Inv-loop : tie.InvT-loop
 Inv-loop w place here₀ i₀ here i =
@@ -42,7 +43,7 @@ loop-again c =
           now .inv .1 m h
           ∙ ends-on (m .cells) _ (now .i) (h .shaped .cells) _
           (at-place (now .here) _ (place3 .if1 .left) (ap (λ n. n - 1) (c .before .wide .ensures))) (search needs)
-          ∙ ap (chainEnds (m .cells) (32 - (now .i + 1))) (sym (ap placeFrom (c .parent .ensures m h) ∙ placed _)),
+          ∙ ap (chainEnds (m .cells) (32 - (now .i + 1))) (sym (ap placeFrom (c .parent .ensures m h) ∙ place-back _)),
     )
 
 returns-3 : tie.Need-returns-3 Inv-loop μ-loop

@@ -4,12 +4,12 @@ use mathlib.Core.Path.{_∙_, ap}
 use Rattle.model.specs.Machine.Blank.{tokenAt}
 use Rattle.model.specs.Machine.Active.{underSet}
 use Rattle.record.specs.LayoutDecoded.{placeFrom}
-use Rattle.row_rules.proofs.Range.{placed}
 use Rattle.row_rules.proofs.Chain.{idle, busy}
 use Rattle.job.proofs.Both.{both}
 use borrow.Author.Needs.{needs}
 use Rattle.row_rules.proofs.chain.is_free.Statement.{statement}
 use Rattle.row_rules.proofs.chain.is_free.Tie as tie
+use Rattle.reach.proofs.PlaceNumber.{place-back}
 
 returns : tie.Need-returns
 returns c = λ m h. idle (m .cells) (tokenAt (m .tokens) (c .before .before .args .p)) (c .before .state .ensures m h) (c .if1 .taken)
@@ -26,7 +26,7 @@ returns-2 c =
     let t = tokenAt (m .tokens) (place7 .args .p) in
     both
     (ap not (place2 .under-set .ensures m h
-    ∙ ap (underSet (m .cells)) (ap placeFrom (place3 .wide .ensures ∙ place4 .cell .ensures m h) ∙ placed (t .cell)))
+    ∙ ap (underSet (m .cells)) (ap placeFrom (place3 .wide .ensures ∙ place4 .cell .ensures m h) ∙ place-back (t .cell)))
     ∙ busy (m .cells) t (place6 .state .ensures m h) (place5 .if1 .left))
     (c .waits-at-unset .ensures m (t .state) h (place6 .state .ensures m h) (c .before .state-number .ensures m h))
 

@@ -9,13 +9,14 @@ use Rattle.model.specs.Machine.Blank.{cellAt, cellIsBlank}
 use Rattle.record.specs.LayoutDecoded.{placeFrom}
 use Rattle.rules.proofs.OneRow.{cell-blank, cell-in}
 use Rattle.rules.proofs.RestBlank.{marked-one, other-one, first-true}
-use Rattle.row_rules.proofs.Range.{place-in, placed}
+use Rattle.row_rules.proofs.Range.{place-in}
 use Rattle.coded.proofs.IsRecordRows.{codes-cell}
 use Rattle.job.proofs.Both.{both}
 use Rattle.row_rules.specs.RowRules.{cellRule}
 use borrow.Author.Needs.{needs}
 use Rattle.rules.proofs.cells.cell_holds.Statement.{statement}
 use Rattle.rules.proofs.cells.cell_holds.Tie as tie
+use Rattle.reach.proofs.PlaceNumber.{place-back}
 
 returns : tie.Need-returns
 returns c =
@@ -44,7 +45,7 @@ returns-2 c =
           let above = place2 .parent .ensures m (h .codes) in
           ap (λ (b : Bool). b && inside && c .chain-ends .result) (words ∙ codes-cell (h .codes) (args .c) (search needs))
           ∙ both (ap (λ n. leb n 32) above ∙ place-in 32 (k .parent) ∙ cell-in d (m .cells) k (h .cells (args .c)))
-          (c .chain-ends .ensures m (h .codes) ∙ ap (chainEnds (m .cells) 32) (ap placeFrom above ∙ placed (k .parent)))
+          (c .chain-ends .ensures m (h .codes) ∙ ap (chainEnds (m .cells) 32) (ap placeFrom above ∙ place-back (k .parent)))
           ∙ marked-one {used = args .used} (cellRule d (m .cells) k) (cellIsBlank k) (not-false _ (place3 .if1 .left)),
     )
 

@@ -8,9 +8,9 @@ use Rattle.model.specs.declared.record.Machine.{Machine}
 use Rattle.record.specs.Holds.{Holds}
 use Rattle.reach.specs.Marks.{FreeCells}
 use Rattle.sweep.proofs.Sweep.{cellsKept, cells-first, cell-there, cells-next, cells-last}
-use Rattle.reach.proofs.ListLoops.{any-default}
 use Rattle.sweep.proofs.sweep.keep_cells.Statement.{statement}
 use Rattle.sweep.proofs.sweep.keep_cells.Tie as tie
+use Rattle.job.proofs.Lists.{getD-any}
 
 abbrev Inv-loop : tie.InvT-loop
 Inv-loop w₀ marks used end c₀ w c = (c ≤ end) × ((m : Machine) → Holds w₀ m → FreeCells m marks → Holds w (cellsKept used m c))
@@ -47,7 +47,7 @@ loop-again c =
           subst (Holds _) (cells-next _ m (l .c) (start .pre .1) long _ (search needs) refl)
           (c .keep-cell .ensures _ (l .inv .1 m h v)
           (λ e. cell-there _ m (l .c) (start .pre .1) long (search needs)
-          ∙ v (l .c) (search needs) (any-default marks (l .c) true false (search needs) ∙ e))),
+          ∙ v (l .c) (search needs) (getD-any marks (l .c) true false (search needs) ∙ e))),
     )
 
 renew-requires : tie.Need-renew-requires Inv-loop μ-loop

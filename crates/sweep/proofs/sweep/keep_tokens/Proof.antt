@@ -8,9 +8,9 @@ use Rattle.model.specs.declared.record.Machine.{Machine}
 use Rattle.record.specs.Holds.{Holds}
 use Rattle.reach.specs.Marks.{FreeTokens}
 use Rattle.sweep.proofs.Sweep.{tokensKept, tokens-first, token-there, tokens-next, tokens-last}
-use Rattle.reach.proofs.ListLoops.{any-default}
 use Rattle.sweep.proofs.sweep.keep_tokens.Statement.{statement}
 use Rattle.sweep.proofs.sweep.keep_tokens.Tie as tie
+use Rattle.job.proofs.Lists.{getD-any}
 
 abbrev Inv-loop : tie.InvT-loop
 Inv-loop w₀ marks used end p₀ w p = (p ≤ end) × ((m : Machine) → Holds w₀ m → FreeTokens m marks → Holds w (tokensKept used m p))
@@ -47,7 +47,7 @@ loop-again c =
           subst (Holds _) (tokens-next _ m (l .p) (start .pre .1) long _ (search needs) refl)
           (c .keep-token .ensures _ (l .inv .1 m h v)
           (λ e. token-there _ m (l .p) (start .pre .1) long (search needs)
-          ∙ v (l .p) (search needs) (any-default marks (l .p) true false (search needs) ∙ e))),
+          ∙ v (l .p) (search needs) (getD-any marks (l .p) true false (search needs) ∙ e))),
     )
 
 returns : tie.Need-returns Inv-loop μ-loop
