@@ -21,7 +21,6 @@ use Rattle.model.specs.declared.token.Token.{Token}
 use Rattle.model.specs.declared.record.Machine.{Machine}
 use Rattle.job.proofs.Test.{clash}
 use Rattle.model.proofs.Machine.Marks.{Free, marks-same, marks-removed}
-use Rattle.model.proofs.Machine.Reach.{Names}
 use Rattle.model.proofs.Machine.InUse.{CellsIn}
 use Rattle.model.proofs.Machine.Blanking.{length-kept, kept-marked, kept-free, kept-whole}
 use Rattle.model.proofs.Machine.Rules.{EachRuleHolds, each-rule-holds}
@@ -29,7 +28,7 @@ use Rattle.model.proofs.Machine.Inside.{Fits, active-live, tokens-inside, cells
 use Rattle.model.proofs.Machine.WrittenTokens.{fits-same}
 use Rattle.model.proofs.Machine.Used.{Used, UsedCell, InsideUsed, used-fits, used-parent, tokens-size, cells-size, lives-active, live-used}
 use Rattle.model.proofs.Machine.ActingInside.{write-inside}
-use Rattle.model.proofs.Keeps.Clean.{Clean, tokensOf, cellsOf}
+use Rattle.model.proofs.Keeps.Clean.{along-callers, along-parents, Clean, tokensOf, cellsOf}
 use Rattle.demand3.proofs.Unblanked.{active-clear, clear-used, clean-whole, rules-clean}
 use Rattle.demand3.proofs.Carried.{Carried, BindsNoCell}
 use Rattle.model.proofs.Machine.TableRows.{token-same, token-other, token-outside, live-inside}
@@ -102,15 +101,10 @@ module _ (lim : Limits) (d : Dag) (m : Machine) (holds : rulesHold lim d m ≡ t
   token-cells = record { cell = λ c e. frame-names .cells .cell c (sym cell ∙ e); binds = λ x c e. absurd (binds x c e) }
 
   -- all tokens but the frame stay in use
-  Both : ℕ → Type 0
-  Both i = Used m i × ((i ≡ f → ⊥) → Used o i)
-
-  tokens-stay : (i : ℕ) → i < length (m .tokens) → Used m i → Both i
-  unfolding Both
-  tokens-stay =
-      tokensOf m .least Both
-      (λ i e. (tokensOf m .active i e, λ n. active i e (ℕ-discrete i p)))
-      (λ i l b j e. (tokensOf m .caller i (b .0) j e, λ n. named i b j e n (ℕ-discrete i p) (ℕ-discrete i f)))
+  stays : (i : ℕ) → i < length (m .tokens) → Used m i → (i ≡ f → ⊥) → Used o i
+  stays =
+      along-callers m (λ i. (i ≡ f → ⊥) → Used o i) (λ i e n. active i e (ℕ-discrete i p))
+      (λ i v b j e n. named i b j e n (ℕ-discrete i p) (ℕ-discrete i f))
     where
       active : (i : ℕ) → isActive (m .cells) (tokenAt (m .tokens) i) ≡ true → Dec (i ≡ p) → Used o i
       active i e (yes q) = subst (Used o) (sym q) token-used
@@ -118,40 +112,25 @@ module _ (lim : Limits) (d : Dag) (m : Machine) (holds : rulesHold lim d m ≡ t
           let w = tokenAt (m .tokens) i in
           clear-used o i w (row i n) (active-live (m .cells) w e) (same-under (w .cell) (active-clear (m .cells) w e))
 
-      named : (i : ℕ) → Used m i × ((i ≡ f → ⊥) → Used o i) → (j : ℕ) → tokenAt (m .tokens) i .caller ≡ places.At j → (j ≡ f → ⊥)
+      named : (i : ℕ) → ((i ≡ f → ⊥) → Used o i) → (j : ℕ) → tokenAt (m .tokens) i .caller ≡ places.At j → (j ≡ f → ⊥)
           → Dec (i ≡ p) → Dec (i ≡ f) → Used o j
       named i b j e n (yes q) a =
           let w : places.At f ≡ places.At j = sym (r .caller) ∙ ap (λ k. tokenAt (m .tokens) k .caller) (sym q) ∙ e in
           let z : j ≡ f = cc in
           absurd (n z)
       named i b j e n (no a) (yes q) = frame-names .caller j (ap (λ k. tokenAt (m .tokens) k .caller) (sym q) ∙ e)
-      named i b j e n (no a) (no c) = used-fits o i (b .1 c) .caller j (ap (λ (w : Token). w .caller) (row i a) ∙ e)
-
-  stays : (i : ℕ) → i < length (m .tokens) → Used m i → (i ≡ f → ⊥) → Used o i
-  unfolding Both
-  stays i l w = tokens-stay i l w .1
+      named i b j e n (no a) (no c) = used-fits o i (b c) .caller j (ap (λ (w : Token). w .caller) (row i a) ∙ e)
 
   -- and all cells
-  BothCells : ℕ → Type 0
-  BothCells c = UsedCell m c × UsedCell o c
-
-  cells-stay : (c : ℕ) → c < length (m .cells) → UsedCell m c → BothCells c
-  unfolding BothCells
-  cells-stay = cellsOf m .least BothCells named parents
+  cells-stay : (c : ℕ) → c < length (m .cells) → UsedCell m c → UsedCell o c
+  cells-stay =
+      along-parents m (UsedCell o) (λ i l w. there i l w (ℕ-discrete i p) (ℕ-discrete i f))
+      (λ c w v j e. used-parent o c v j (ap (λ cs. cellAt cs c .parent) (r .cells) ∙ e))
     where
       there : (i : ℕ) → i < length (m .tokens) → Used m i → Dec (i ≡ p) → Dec (i ≡ f) → CellsIn (UsedCell o) (tokenAt (m .tokens) i)
       there i l w (yes q) a = subst (λ k. CellsIn (UsedCell o) (tokenAt (m .tokens) k)) (sym q) token-cells
       there i l w (no a) (yes q) = subst (λ k. CellsIn (UsedCell o) (tokenAt (m .tokens) k)) (sym q) (frame-names .cells)
       there i l w (no a) (no c) = subst (CellsIn (UsedCell o)) (row i a) (used-fits o i (stays i l w c) .cells)
-
-      named : (i : ℕ) → i < length (m .tokens) → Used m i → CellsIn BothCells (tokenAt (m .tokens) i)
-      named i l w =
-          let before = cellsOf m .named i w in
-          let after = there i l w (ℕ-discrete i p) (ℕ-discrete i f) in
-          record { cell = λ c e. (before .cell c e, after .cell c e); binds = λ x c e. (before .binds x c e, after .binds x c e) }
-
-      parents : (c : ℕ) → c < length (m .cells) → BothCells c → Names BothCells (cellAt (m .cells) c .parent)
-      parents c l b j e = (used-parent m c (b .0) j e, used-parent o c (b .1) j (ap (λ cs. cellAt cs c .parent) (r .cells) ∙ e))
 
   -- nothing else is in use
   within : InsideUsed m (Used m) (UsedCell m) (o .tokens) (o .cells)
@@ -166,10 +145,9 @@ module _ (lim : Limits) (d : Dag) (m : Machine) (holds : rulesHold lim d m ≡ t
   inside i l = let z = tokensOf m .size in omega arith
 
   pub returned-cells : cellsUsed o ≡ cellsUsed m
-  unfolding BothCells
   returned-cells =
       marks-same (cellsUsed o) (cellsUsed m) (cells-size m o (ap length (r .cells))) (cells-inside within)
-      (λ c l w. cells-stay c (let z = cellsOf m .size in omega arith) w .1)
+      (λ c l w. cells-stay c (let z = cellsOf m .size in omega arith) w)
 
   cells-clean : (c : ℕ) → Free (cellsUsed o) c → cellAt (o .cells) c ≡ blankCell
   cells-clean c e = ap (λ cs. cellAt cs c) (r .cells) ∙ clean .cells c (ap (λ us. getD us c true) (sym returned-cells) ∙ e)

@@ -31,14 +31,13 @@ use Rattle.model.specs.declared.cell.Cell.{Cell}
 use Rattle.model.specs.declared.record.Machine.{Machine}
 use Rattle.job.proofs.Test.{clash, false-of, eqb-eq, and-left, and-right, all-at, all-head, all-tail}
 use Rattle.model.proofs.Machine.Marks.{Marked, Free, free-inside}
-use Rattle.model.proofs.Machine.Reach.{Names, names-nowhere}
-use Rattle.model.proofs.Machine.InUse.{CellsIn}
+use Rattle.model.proofs.Machine.Reach.{names-nowhere}
 use Rattle.model.proofs.Machine.Blanking.{kept-whole, state-blank}
 use Rattle.model.proofs.Machine.Rules.{EachRuleHolds, each-rule-holds}
 use Rattle.model.proofs.Machine.Inside.{Fits, live-active, active-live}
 use Rattle.model.proofs.Machine.Used.{Used, UsedCell, used-fits, used-parent, lives-active, live-used}
 use Rattle.model.proofs.Run.Chain.{unsetCell, blank-cell-clear, new-cell-clear}
-use Rattle.model.proofs.Keeps.Clean.{Clean, tokensOf, cellsOf}
+use Rattle.model.proofs.Keeps.Clean.{along-callers, along-parents, Clean, tokensOf, cellsOf}
 use Rattle.model.proofs.Machine.TableRows.{token-same, token-other, live-inside}
 
 -- blanking changes nothing
@@ -197,41 +196,14 @@ module _ {m o : Machine} {p : ℕ} (a : Adds m o p) where
       go (yes f) = subst (λ j. Fits (Used o) (UsedCell o) (tokenAt (m .tokens) j)) (sym f) (a .names)
       go (no n) = subst (Fits (Used o) (UsedCell o)) (row-stays i u n) (used-fits o i (w n))
 
-  Both : ℕ → Type 0
-  Both i = Used m i × ((i ≡ p → ⊥) → Used o i)
-
-  tokens-stay : (i : ℕ) → i < length (m .tokens) → Used m i → Both i
-  unfolding Both
-  tokens-stay =
-      tokensOf m .least Both
-      (λ i e. (tokensOf m .active i e, active-used i e))
-      (λ i l b j e. (tokensOf m .caller i (b .0) j e, λ n. names-used i (b .0) (b .1) .caller j e))
-
-  BothCells : ℕ → Type 0
-  BothCells c = UsedCell m c × UsedCell o c
-
-  cells-stay : (c : ℕ) → c < length (m .cells) → UsedCell m c → BothCells c
-  unfolding Both BothCells
-  cells-stay = cellsOf m .least BothCells named parents
-    where
-      named : (i : ℕ) → i < length (m .tokens) → Used m i → CellsIn BothCells (tokenAt (m .tokens) i)
-      named i l u =
-          let here = cellsOf m .named i u in
-          let there = names-used i u (tokens-stay i l u .1) .cells in
-          record { cell = λ c e. (here .cell c e, there .cell c e); binds = λ x c e. (here .binds x c e, there .binds x c e) }
-
-      parents : (c : ℕ) → c < length (m .cells) → BothCells c → Names BothCells (cellAt (m .cells) c .parent)
-      parents c l b j e =
-          (used-parent m c (b .0) j e, used-parent o c (b .1) j (ap (λ (k : Cell). k .parent) (used-same (a .cell c) (b .0)) ∙ e))
-
   -- what was in use stays in use
   pub token-stays : (i : ℕ) → i < length (m .tokens) → Used m i → (i ≡ p → ⊥) → Used o i
-  unfolding Both
-  token-stays i l u = tokens-stay i l u .1
+  token-stays = along-callers m (λ i. (i ≡ p → ⊥) → Used o i) active-used (λ i u w j e n. names-used i u w .caller j e)
 
   pub cell-stays : (c : ℕ) → c < length (m .cells) → UsedCell m c → UsedCell o c
-  unfolding BothCells
-  cell-stays c l u = cells-stay c l u .1
+  cell-stays =
+      along-parents m (UsedCell o) (λ i l u. names-used i u (token-stays i l u) .cells)
+      (λ c u v j e. used-parent o c v j (ap (λ (k : Cell). k .parent) (used-same (a .cell c) u) ∙ e))
 
   was-free : (i : ℕ) → (i ≡ p → ⊥) → Free (tokensUsed o) i → Free (tokensUsed m) i
   was-free i n e =

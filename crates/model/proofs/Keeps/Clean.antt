@@ -9,7 +9,7 @@ use native.Mathlib.Omega.{arith}
 use lib.ListN.{length, getD, replicate}
 use Rattle.job.specs.Test.{_and_, all}
 use Rattle.model.specs.Machine.Limits.{Limits}
-use Rattle.model.specs.Machine.Blank.{blankToken, blankCell, tokenAt, cellAt, slotAt, isBound}
+use Rattle.model.specs.Machine.Blank.{blankToken, blankCell, tokenAt, cellAt, isBound}
 use Rattle.model.specs.Machine.Blank.{hasValue, isPlace, tokenIsBlank, cellIsBlank}
 use Rattle.model.specs.Machine.State.{isBlankState, isLive}
 use Rattle.model.specs.Machine.Active.{isSet, upward, underSet, isActive}
@@ -57,6 +57,26 @@ module _ (m : Machine) where
 
   pub cellsOf : CellsUsed (tokensUsed m) (m .tokens) (m .cells) (cellsUsed m)
   cellsOf = cells-used (tokensUsed m) (m .tokens) (m .cells) (tokens-used (m .tokens) (m .cells) .size)
+
+  -- what holds of the active tokens and goes from each token in use to its caller holds of every token in use; of cells likewise
+  pub along-callers : (Q : ℕ → Type 0) → ((i : ℕ) → isActive (m .cells) (tokenAt (m .tokens) i) ≡ true → Q i)
+      → ((i : ℕ) → Used m i → Q i → Names Q (tokenAt (m .tokens) i .caller)) → (i : ℕ) → i < length (m .tokens) → Used m i → Q i
+  along-callers Q first next i l u =
+      tokensOf .least (λ j. Used m j × Q j)
+      (λ j e. (tokensOf .active j e, first j e))
+      (λ j k b c e. (tokensOf .caller j (b .0) c e, next j (b .0) (b .1) c e))
+      i l u .1
+
+  pub along-parents : (Q : ℕ → Type 0) → ((i : ℕ) → i < length (m .tokens) → Used m i → CellsIn Q (tokenAt (m .tokens) i))
+      → ((c : ℕ) → UsedCell m c → Q c → Names Q (cellAt (m .cells) c .parent)) → (c : ℕ) → c < length (m .cells) → UsedCell m c → Q c
+  along-parents Q first next c l u =
+      cellsOf .least (λ b. UsedCell m b × Q b)
+      (λ i k w.
+      let here = cellsOf .named i w in
+      let there = first i k w in
+      record { cell = λ b e. (here .cell b e, there .cell b e); binds = λ x b e. (here .binds x b e, there .binds x b e) })
+      (λ b k x j e. (cellsOf .parent b (x .0) j e, next b (x .0) (x .1) j e))
+      c l u .1
 
   pub clean-tokens : Clean m → restIsBlank tokenIsBlank (tokensUsed m) (m .tokens) ≡ true
   unfolding tokenAt
@@ -111,41 +131,21 @@ module _ (m : Machine) where
       same : (t : Token) → Names (UsedCell m) (t .cell) → isActive (then .cells) t ≡ isActive (m .cells) t
       same t h = unfold isActive in ap (λ b. elim (isLive (t .state)) [ true ↦ not b | false ↦ false ]) (under-stays (t .cell) h)
 
-  Both : ℕ → Type 0
-  Both i = Used m i × Used (sweep m) i
-
-  tokens-stay : (i : ℕ) → i < length (m .tokens) → Used m i → Both i
-  unfolding Both
+  tokens-stay : (i : ℕ) → i < length (m .tokens) → Used m i → Used then i
   tokens-stay =
-      tokensOf m .least Both
-      (λ i e. let u = tokensOf m .active i e in (u, tokensOf then .active i (active-stays i u e)))
-      (λ i l b j e.
-      (tokensOf m .caller i (b .0) j e, tokensOf then .caller i (b .1) j (ap (λ (t : Token). t .caller) (token-stays i (b .0)) ∙ e)))
+      along-callers m (Used then)
+      (λ i e. tokensOf then .active i (active-stays i (tokensOf m .active i e) e))
+      (λ i u v j e. tokensOf then .caller i v j (ap (λ (t : Token). t .caller) (token-stays i u) ∙ e))
 
-  BothCells : ℕ → Type 0
-  BothCells c = UsedCell m c × UsedCell (sweep m) c
-
-  cells-stay : (c : ℕ) → c < length (m .cells) → UsedCell m c → BothCells c
-  unfolding Both BothCells
-  cells-stay = cellsOf m .least BothCells named parents
-    where
-      named : (i : ℕ) → i < length (m .tokens) → Used m i → CellsIn BothCells (tokenAt (m .tokens) i)
-      named i l u =
-          let e = token-stays i u in
-          let here = cellsOf m .named i u in
-          let there = cellsOf then .named i (tokens-stay i l u .1) in
-          record {
-            cell = λ c f. (here .cell c f, there .cell c (ap (λ (t : Token). t .cell) e ∙ f));
-            binds = λ x c f. (here .binds x c f, there .binds x c (ap (λ (t : Token). slotAt (t .binds) x) e ∙ f));
-          }
-
-      parents : (c : ℕ) → c < length (m .cells) → BothCells c → Names BothCells (cellAt (m .cells) c .parent)
-      parents c l b a e =
-          (cellsOf m .parent c (b .0) a e, cellsOf then .parent c (b .1) a (ap (λ (k : Cell). k .parent) (cell-stays c (b .0)) ∙ e))
+  cells-stay : (c : ℕ) → c < length (m .cells) → UsedCell m c → UsedCell then c
+  cells-stay =
+      along-parents m (UsedCell then)
+      (λ i l u. subst (CellsIn (UsedCell then)) (token-stays i u) (cellsOf then .named i (tokens-stay i l u)))
+      (λ c u v j e. cellsOf then .parent c v j (ap (λ (k : Cell). k .parent) (cell-stays c u) ∙ e))
 
   -- "The rest is blank after each accepted call"
   pub finish-clean : Clean (sweep m)
-  unfolding sweep tokenAt cellAt Both BothCells
+  unfolding sweep tokenAt cellAt
   finish-clean =
       record {
         tokens =
@@ -153,13 +153,13 @@ module _ (m : Machine) where
             let l = free-inside (tokensUsed then) p e in
             let s = tokensOf then .size in
             let k = length-kept blankToken (tokensUsed m) (m .tokens) in
-            kept-free blankToken (tokensUsed m) (m .tokens) p (false-of _ (λ u. clash (tokens-stay p (omega arith) u .1) e));
+            kept-free blankToken (tokensUsed m) (m .tokens) p (false-of _ (λ u. clash (tokens-stay p (omega arith) u) e));
         cells =
             λ c e.
             let l = free-inside (cellsUsed then) c e in
             let s = cellsOf then .size in
             let k = length-kept blankCell (cellsUsed m) (m .cells) in
-            kept-free blankCell (cellsUsed m) (m .cells) c (false-of _ (λ u. clash (cells-stay c (omega arith) u .1) e));
+            kept-free blankCell (cellsUsed m) (m .cells) c (false-of _ (λ u. clash (cells-stay c (omega arith) u) e));
       }
 
   -- what is in use afterwards was in use before, as what is active afterwards was not made blank
@@ -182,22 +182,22 @@ module _ (m : Machine) where
 
   -- blanking changes nothing of what is in use
   pub finish-tokens : tokensUsed (sweep m) ≡ tokensUsed m
-  unfolding sweep Both
+  unfolding sweep
   finish-tokens =
       let k = length-kept blankToken (tokensUsed m) (m .tokens) in
       let a = tokensOf then .size in
       let b = tokensOf m .size in
       marks-same (tokensUsed then) (tokensUsed m) (omega arith) (λ i l u. tokens-were i (omega arith) u)
-      (λ i l u. tokens-stay i (omega arith) u .1)
+      (λ i l u. tokens-stay i (omega arith) u)
 
   pub finish-cells : cellsUsed (sweep m) ≡ cellsUsed m
-  unfolding sweep BothCells
+  unfolding sweep
   finish-cells =
       let k = length-kept blankCell (cellsUsed m) (m .cells) in
       let a = cellsOf then .size in
       let b = cellsOf m .size in
       marks-same (cellsUsed then) (cellsUsed m) (omega arith) (λ c l u. cells-were c (omega arith) u)
-      (λ c l u. cells-stay c (omega arith) u .1)
+      (λ c l u. cells-stay c (omega arith) u)
 
 -- the start, whose token is in use
 pub start-clean : (lim : Limits) (goal : ℕ) → Marked (tokensUsed (startMachine lim goal)) 0 → Clean (startMachine lim goal)
