@@ -36,7 +36,7 @@ use Rattle.record.specs.Holds.{Holds}
 use Rattle.sites.specs.Row.{paramsAt}
 use Rattle.sites.specs.Look.{lookUpOf}
 use Rattle.sites.specs.declared.look.LookUp.{LookUp}
-use Rattle.sites.proofs.Look.{look-values, look-below, look-count}
+use Rattle.sites.proofs.LookLaws.{look-values, look-below, look-count}
 use Rattle.sites.proofs.RuleFacts.{look-facts}
 use Rattle.sites.proofs.LookParams.{params-count}
 use Rattle.sites.proofs.RowKinds.{site-params}

@@ -1,3 +1,3 @@
 -- Laws of the tests of a dag's words.
 pub mod NodeWords
-pub mod Dag
+pub mod DagLaws

@@ -1,4 +1,4 @@
 -- Laws of an order in an array.
 pub mod NamesPadded
 pub mod NamesRetained
-pub mod Zero
+pub mod ZeroLaws

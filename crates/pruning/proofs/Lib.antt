@@ -1,2 +1,2 @@
 -- Laws of a choke's loops.
-pub mod Choke
+pub mod ChokeLaws

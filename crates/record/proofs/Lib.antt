@@ -4,8 +4,8 @@ pub mod LayoutParts
 pub mod HoldsShape
 pub mod TokenRow
 pub mod CellRow
-pub mod Count
-pub mod Order
+pub mod CountLaws
+pub mod OrderLaws
 pub mod TokenCopying
-pub mod Start
+pub mod StartLaws
 pub mod HoldsRuled

@@ -16,7 +16,7 @@ use Rattle.record.specs.Holds.{Codes, Holds}
 use Rattle.record.proofs.LayoutTable.{get-behind}
 use Rattle.record.proofs.LayoutParts.{row-wide}
 use Rattle.record.proofs.TokenRow.{token-word, row-put}
-use Rattle.record.proofs.Count.{words-long}
+use Rattle.record.proofs.CountLaws.{words-long}
 
 module _ (d : List ℕ) (at : ℕ) (s : List ℕ) (n k : ℕ) (inside : at + n ≤ length d) (some : n ≤ length s) where
   pub paste-before : k < at → getD (paste d at s n) k 0 ≡ getD d k 0

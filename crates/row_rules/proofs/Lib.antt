@@ -1,5 +1,5 @@
 -- Laws of the tests of a token and of a cell.
-pub mod Range
-pub mod Blank
-pub mod Chain
-pub mod Node
+pub mod RangeLaws
+pub mod BlankLaws
+pub mod ChainLaws
+pub mod NodeLaws

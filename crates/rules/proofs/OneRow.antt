@@ -26,7 +26,7 @@ use Rattle.model.specs.declared.record.Machine.{Machine}
 use Rattle.job.proofs.Test.{clash, and-left, and-right, and-both, eqb-eq, ltb-lt, lt-ltb, le-not-ltb}
 use Rattle.job.proofs.Both.{and-true}
 use Rattle.row_rules.specs.RowRules.{tokenRule, cellRule}
-use Rattle.row_rules.proofs.Chain.{ends-nowhere}
+use Rattle.row_rules.proofs.ChainLaws.{ends-nowhere}
 use Rattle.model.proofs.Machine.Blanking.{state-blank}
 
 -- fields that hold nothing are in range

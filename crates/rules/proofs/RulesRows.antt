@@ -19,7 +19,7 @@ use Rattle.job.proofs.Test.{and-left}
 use Rattle.record.specs.Layout.{stateKind}
 use Rattle.row_rules.specs.RowRules.{tokenRule}
 use Rattle.rules.specs.OrderCounts.{namedByBoth}
-use Rattle.rules.proofs.Order.{from-turn}
+use Rattle.rules.proofs.OrderCounts.{from-turn}
 use Rattle.rules.proofs.RestBlank.{passed, pass-turn, marked-one, other-one}
 use Rattle.model.proofs.Machine.Blanking.{state-blank}
 

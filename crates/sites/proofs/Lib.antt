@@ -5,9 +5,9 @@ pub mod SiteBuiltins
 pub mod TableLoops
 pub mod OrderCounting
 pub mod RuleFacts
-pub mod Answer
+pub mod AnswerLaws
 pub mod LookParams
 pub mod RowNode
 pub mod RowKinds
-pub mod Look
+pub mod LookLaws
 pub mod SiteCalls

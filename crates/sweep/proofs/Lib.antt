@@ -1,2 +1,2 @@
 -- Laws of the loops that make blank.
-pub mod Sweep
+pub mod SweepLaws

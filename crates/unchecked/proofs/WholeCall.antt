@@ -34,7 +34,7 @@ use Rattle.record.specs.Holds.{Holds}
 use Rattle.record.proofs.HoldsShape.{binds-after, queue-fits}
 use Rattle.sites.specs.Answer.{answeredBy, Answered}
 use Rattle.sites.specs.Row.{rowOf}
-use Rattle.sites.proofs.Answer.{answered-moves, answered-refuses}
+use Rattle.sites.proofs.AnswerLaws.{answered-moves, answered-refuses}
 use Rattle.unchecked.proofs.AnswerUnknown.{unknown-handle}
 use Rattle.reach.specs.Marks.{BlankFrom}
 use Rattle.acts.specs.Acting.{Lawful, QueueHasToken, Taking, Acting, Gives, answerReport}

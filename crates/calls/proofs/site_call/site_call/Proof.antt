@@ -1,7 +1,7 @@
 -- `site_call::site_call` meets its contract: each way out is how the definition's step ends there. Assumes nothing.
 use Rattle.calls.proofs.SiteCall.{wait-gives, waits-at, values-of}
 use Rattle.acts.proofs.Outcomes.{row, row-fits, token-inside}
-use Rattle.sites.proofs.Look.{look-waits}
+use Rattle.sites.proofs.LookLaws.{look-waits}
 use Rattle.sites.proofs.RuleFacts.{look-facts, waits-room}
 use Rattle.sites.proofs.RowKinds.{site-params}
 use native.Mathlib.Omega.{arith}

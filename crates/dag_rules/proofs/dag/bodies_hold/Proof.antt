@@ -6,7 +6,7 @@ use lib.ListN.{take, getD}
 use Rattle.job.specs.Test.{all}
 use Rattle.job.specs.Node.{Body, bodyHolds}
 use Rattle.job.specs.Words.{dagOf}
-use Rattle.dag_rules.proofs.Dag.{bodies-length, body-holds-at}
+use Rattle.dag_rules.proofs.DagLaws.{bodies-length, body-holds-at}
 use Rattle.job.proofs.Both.{both-is}
 use Rattle.job.proofs.Loop.{all-turn, done}
 use borrow.Author.Needs.{needs}

@@ -7,7 +7,7 @@ use Rattle.job.specs.Test.{all}
 use Rattle.job.specs.Node.{Node, nodeHolds}
 use Rattle.job.specs.Words.{dagOf}
 use Rattle.dag_rules.specs.NodeWords.{rowHolds}
-use Rattle.dag_rules.proofs.Dag.{nodes-length, node-holds-at, row-part}
+use Rattle.dag_rules.proofs.DagLaws.{nodes-length, node-holds-at, row-part}
 use Rattle.job.proofs.Loop.{all-turn, done}
 use borrow.Author.Needs.{needs}
 use Rattle.dag_rules.proofs.dag.nodes_hold.Statement.{statement}

@@ -1,6 +1,6 @@
 -- `dag::words_hold` meets its contract: each answer is that of the rule which decides. Assumes nothing.
 use mathlib.Core.Path.{refl, sym, _∙_}
-use Rattle.dag_rules.proofs.Dag.{many-nodes, many-bodies, holds-by-parts}
+use Rattle.dag_rules.proofs.DagLaws.{many-nodes, many-bodies, holds-by-parts}
 use Rattle.job.proofs.Both.{three}
 use borrow.Author.Needs.{needs}
 use Rattle.dag_rules.proofs.dag.words_hold.Statement.{statement}

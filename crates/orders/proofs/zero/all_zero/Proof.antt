@@ -3,7 +3,7 @@ use mathlib.Core.Path.{_≡_, _∙_, ap}
 use Prim.Native.Nat.{_-_, _≤_}
 use native.Mathlib.Omega.{arith}
 use lib.Dec.{eqb}
-use Rattle.orders.proofs.Zero.{zeroTo, zero-none, zero-turn}
+use Rattle.orders.proofs.ZeroLaws.{zeroTo, zero-none, zero-turn}
 use borrow.Author.Needs.{needs}
 use Rattle.orders.proofs.zero.all_zero.Statement.{statement}
 use Rattle.orders.proofs.zero.all_zero.Tie as tie

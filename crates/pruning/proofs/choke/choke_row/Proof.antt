@@ -5,7 +5,7 @@ use Rattle.model.specs.Machine.Blank.{tokenAt}
 use Rattle.model.specs.declared.token.State.the-variants as states
 use Rattle.record.proofs.TokenRow.{put-self}
 use Rattle.record.specs.Holds.{Holds}
-use Rattle.pruning.proofs.Choke.{row-ends, row-wakes, row-passes}
+use Rattle.pruning.proofs.ChokeLaws.{row-ends, row-wakes, row-passes}
 use Rattle.pruning.proofs.choke.choke_row.Statement.{statement}
 use Rattle.pruning.proofs.choke.choke_row.Tie as tie
 

@@ -5,7 +5,7 @@ use native.Mathlib.Omega.{arith}
 use Prim.Native.Nat.{_≤_, _-_}
 use Rattle.model.specs.declared.record.Machine.{Machine}
 use Rattle.record.specs.Holds.{Holds}
-use Rattle.pruning.proofs.Choke.{rows-none, rows-more, rows-rest}
+use Rattle.pruning.proofs.ChokeLaws.{rows-none, rows-more, rows-rest}
 use Rattle.pruning.specs.Choke.{rowsChoked}
 use Rattle.pruning.proofs.choke.choke_rows.Statement.{statement}
 use Rattle.pruning.proofs.choke.choke_rows.Tie as tie

@@ -6,7 +6,7 @@ use Prim.Native.Nat.{_-_, _≤_}
 use native.Mathlib.Omega.{arith}
 use Rattle.model.specs.declared.record.Machine.{Machine}
 use Rattle.record.specs.Holds.{Codes}
-use Rattle.pruning.proofs.Choke.{walk, walk-starts, walk-out, walk-root, walk-found, walk-on, walk-outside}
+use Rattle.pruning.proofs.ChokeLaws.{walk, walk-starts, walk-out, walk-root, walk-found, walk-on, walk-outside}
 use Rattle.pruning.proofs.choke.is_within.Statement.{statement}
 use Rattle.pruning.proofs.choke.is_within.Tie as tie
 

@@ -1,6 +1,6 @@
 -- A name that is not marked leaves the orders as they are. Assumes nothing.
 use borrow.Author.Needs.{needs}
-use Rattle.pruning.proofs.Choke.{joins, stays-out}
+use Rattle.pruning.proofs.ChokeLaws.{joins, stays-out}
 use Rattle.pruning.proofs.choke.join_marked.Statement.{statement}
 use Rattle.pruning.proofs.choke.join_marked.Tie as tie
 

@@ -12,7 +12,7 @@ use Rattle.model.specs.declared.token.Token.{Token}
 use Rattle.record.specs.Layout.{stateKind}
 use Rattle.record.specs.Holds.{Codes}
 use Rattle.sites.proofs.TableLoops.{Mapping, mapping-none, mapping-more}
-use Rattle.pruning.proofs.Choke.{kinds-rest}
+use Rattle.pruning.proofs.ChokeLaws.{kinds-rest}
 use Rattle.pruning.proofs.choke.mark_state.Statement.{statement}
 use Rattle.pruning.proofs.choke.mark_state.Tie as tie
 

@@ -4,7 +4,7 @@ use mathlib.Core.List.{List}
 use mathlib.Core.Path.{_≡_, refl, subst}
 use borrow.Author.Needs.{needs}
 use Rattle.record.specs.Holds.{Holds}
-use Rattle.pruning.proofs.Choke.{first, second, first-room, reorder-is}
+use Rattle.pruning.proofs.ChokeLaws.{first, second, first-room, reorder-is}
 use Rattle.pruning.proofs.choke.reorder.Statement.{statement}
 use Rattle.pruning.proofs.choke.reorder.Tie as tie
 

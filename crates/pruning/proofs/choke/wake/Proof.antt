@@ -10,7 +10,7 @@ use Rattle.model.specs.Machine.Update.{withOrders, queueOf, waitsOf}
 use Rattle.record.proofs.HoldsShape.{waits-fit}
 use Rattle.orders.specs.NamesRetained.{markedOf}
 use Rattle.record.specs.Holds.{Holds}
-use Rattle.pruning.proofs.Choke.{woken, woken-none, woken-all, woken-room, woken-more}
+use Rattle.pruning.proofs.ChokeLaws.{woken, woken-none, woken-all, woken-room, woken-more}
 use Rattle.pruning.proofs.choke.wake.Statement.{statement}
 use Rattle.pruning.proofs.choke.wake.Tie as tie
 

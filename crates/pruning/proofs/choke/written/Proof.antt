@@ -4,7 +4,7 @@ use borrow.Author.Needs.{needs}
 use Rattle.model.specs.Machine.Update.{withTables, withOrders}
 use Rattle.record.specs.Holds.{Holds}
 use Rattle.record.specs.Changes.{dequeued}
-use Rattle.pruning.proofs.Choke.{taken-room, rows-blank, choke-is}
+use Rattle.pruning.proofs.ChokeLaws.{taken-room, rows-blank, choke-is}
 use Rattle.pruning.specs.Choke.{rowsChoked}
 use Rattle.pruning.proofs.choke.written.Statement.{statement}
 use Rattle.pruning.proofs.choke.written.Tie as tie

@@ -1,6 +1,6 @@
 -- `count::calls_made` meets its contract: the word that it reads is the count. Assumes nothing.
 use borrow.Author.Needs.{needs}
-use Rattle.record.proofs.Count.{calls-word}
+use Rattle.record.proofs.CountLaws.{calls-word}
 use Rattle.record.proofs.count.calls_made.Statement.{statement}
 use Rattle.record.proofs.count.calls_made.Tie as tie
 

@@ -1,6 +1,6 @@
 -- `count::last_cell` meets its contract: the word that it reads is the count. Assumes nothing.
 use borrow.Author.Needs.{needs}
-use Rattle.record.proofs.Count.{last-cell-word}
+use Rattle.record.proofs.CountLaws.{last-cell-word}
 use Rattle.record.proofs.count.last_cell.Statement.{statement}
 use Rattle.record.proofs.count.last_cell.Tie as tie
 

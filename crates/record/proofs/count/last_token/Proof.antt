@@ -1,6 +1,6 @@
 -- `count::last_token` meets its contract: the word that it reads is the count. Assumes nothing.
 use borrow.Author.Needs.{needs}
-use Rattle.record.proofs.Count.{last-token-word}
+use Rattle.record.proofs.CountLaws.{last-token-word}
 use Rattle.record.proofs.count.last_token.Statement.{statement}
 use Rattle.record.proofs.count.last_token.Tie as tie
 

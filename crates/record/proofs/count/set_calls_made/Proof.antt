@@ -1,6 +1,6 @@
 -- `count::set_calls_made` meets its contract: the counts with this word are those of the record so changed. Assumes nothing.
 use borrow.Author.Needs.{needs}
-use Rattle.record.proofs.Count.{calls-put}
+use Rattle.record.proofs.CountLaws.{calls-put}
 use Rattle.record.proofs.count.set_calls_made.Statement.{statement}
 use Rattle.record.proofs.count.set_calls_made.Tie as tie
 

@@ -1,6 +1,6 @@
 -- `count::set_last_cell` meets its contract: the counts with this word are those of the record so changed. Assumes nothing.
 use borrow.Author.Needs.{needs}
-use Rattle.record.proofs.Count.{last-cell-put}
+use Rattle.record.proofs.CountLaws.{last-cell-put}
 use Rattle.record.proofs.count.set_last_cell.Statement.{statement}
 use Rattle.record.proofs.count.set_last_cell.Tie as tie
 

@@ -1,6 +1,6 @@
 -- `count::set_last_token` meets its contract: the counts with this word are those of the record so changed. Assumes nothing.
 use borrow.Author.Needs.{needs}
-use Rattle.record.proofs.Count.{last-token-put}
+use Rattle.record.proofs.CountLaws.{last-token-put}
 use Rattle.record.proofs.count.set_last_token.Statement.{statement}
 use Rattle.record.proofs.count.set_last_token.Tie as tie
 

@@ -2,8 +2,8 @@
 use borrow.Author.Needs.{needs}
 use mathlib.Core.Path.{_∙_}
 use native.Mathlib.Omega.{arith}
-use Rattle.record.proofs.Count.{waiting-word}
-use Rattle.record.proofs.Order.{delay-put}
+use Rattle.record.proofs.CountLaws.{waiting-word}
+use Rattle.record.proofs.OrderLaws.{delay-put}
 use Rattle.record.proofs.order.delay.Statement.{statement}
 use Rattle.record.proofs.order.delay.Tie as tie
 

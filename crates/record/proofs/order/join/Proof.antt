@@ -2,8 +2,8 @@
 use borrow.Author.Needs.{needs}
 use mathlib.Core.Path.{_∙_}
 use native.Mathlib.Omega.{arith}
-use Rattle.record.proofs.Count.{queued-word}
-use Rattle.record.proofs.Order.{join-put}
+use Rattle.record.proofs.CountLaws.{queued-word}
+use Rattle.record.proofs.OrderLaws.{join-put}
 use Rattle.record.proofs.order.join.Statement.{statement}
 use Rattle.record.proofs.order.join.Tie as tie
 

@@ -2,9 +2,9 @@
 use borrow.Author.Needs.{needs}
 use mathlib.Core.Path.{_∙_}
 use native.Mathlib.Omega.{arith}
-use Rattle.record.proofs.Count.{queued-word}
+use Rattle.record.proofs.CountLaws.{queued-word}
 use Rattle.record.proofs.HoldsShape.{queue-fits}
-use Rattle.record.proofs.Order.{leave-put}
+use Rattle.record.proofs.OrderLaws.{leave-put}
 use Rattle.record.proofs.order.leave_slice.Statement.{statement}
 use Rattle.record.proofs.order.leave_slice.Tie as tie
 

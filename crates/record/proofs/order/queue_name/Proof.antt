@@ -1,6 +1,6 @@
 -- `order::queue_name` meets its contract: the word that it reads is the name. Assumes nothing.
 use borrow.Author.Needs.{needs}
-use Rattle.record.proofs.Order.{queue-word}
+use Rattle.record.proofs.OrderLaws.{queue-word}
 use Rattle.record.proofs.order.queue_name.Statement.{statement}
 use Rattle.record.proofs.order.queue_name.Tie as tie
 

@@ -1,6 +1,6 @@
 -- `order::queued` meets its contract: the word that it reads is the count. Assumes nothing.
 use borrow.Author.Needs.{needs}
-use Rattle.record.proofs.Count.{queued-word}
+use Rattle.record.proofs.CountLaws.{queued-word}
 use Rattle.record.proofs.order.queued.Statement.{statement}
 use Rattle.record.proofs.order.queued.Tie as tie
 

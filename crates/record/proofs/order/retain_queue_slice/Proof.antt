@@ -2,9 +2,9 @@
 use mathlib.Core.Path.{_∙_}
 use borrow.Author.Needs.{needs}
 use native.Mathlib.Omega.{arith}
-use Rattle.record.proofs.Order.{retain-queue-put}
+use Rattle.record.proofs.OrderLaws.{retain-queue-put}
 use Rattle.record.proofs.HoldsShape.{queue-fits}
-use Rattle.record.proofs.Count.{queued-word}
+use Rattle.record.proofs.CountLaws.{queued-word}
 use Rattle.record.proofs.order.retain_queue_slice.Statement.{statement}
 use Rattle.record.proofs.order.retain_queue_slice.Tie as tie
 

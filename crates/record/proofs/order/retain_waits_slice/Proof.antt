@@ -2,9 +2,9 @@
 use mathlib.Core.Path.{_∙_}
 use borrow.Author.Needs.{needs}
 use native.Mathlib.Omega.{arith}
-use Rattle.record.proofs.Order.{retain-waits-put}
+use Rattle.record.proofs.OrderLaws.{retain-waits-put}
 use Rattle.record.proofs.HoldsShape.{waits-fit}
-use Rattle.record.proofs.Count.{waiting-word}
+use Rattle.record.proofs.CountLaws.{waiting-word}
 use Rattle.record.proofs.order.retain_waits_slice.Statement.{statement}
 use Rattle.record.proofs.order.retain_waits_slice.Tie as tie
 

@@ -1,6 +1,6 @@
 -- `order::wait_name` meets its contract: the word that it reads is the name. Assumes nothing.
 use borrow.Author.Needs.{needs}
-use Rattle.record.proofs.Order.{wait-word}
+use Rattle.record.proofs.OrderLaws.{wait-word}
 use Rattle.record.proofs.order.wait_name.Statement.{statement}
 use Rattle.record.proofs.order.wait_name.Tie as tie
 

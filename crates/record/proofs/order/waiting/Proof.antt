@@ -1,6 +1,6 @@
 -- `order::waiting` meets its contract: the word that it reads is the count. Assumes nothing.
 use borrow.Author.Needs.{needs}
-use Rattle.record.proofs.Count.{waiting-word}
+use Rattle.record.proofs.CountLaws.{waiting-word}
 use Rattle.record.proofs.order.waiting.Statement.{statement}
 use Rattle.record.proofs.order.waiting.Tie as tie
 

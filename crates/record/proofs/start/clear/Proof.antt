@@ -4,7 +4,7 @@ use mathlib.Core.Path.{_≡_, refl}
 use lib.ListN.{length, take, replicate, length-set}
 use native.Mathlib.Omega.{arith}
 use borrow.Author.Needs.{needs}
-use Rattle.record.proofs.Start.{cleared-on, cleared}
+use Rattle.record.proofs.StartLaws.{cleared-on, cleared}
 use Rattle.record.proofs.start.clear.Statement.{statement}
 use Rattle.record.proofs.start.clear.Tie as tie
 

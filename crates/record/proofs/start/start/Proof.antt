@@ -1,5 +1,5 @@
 -- `start::start` meets its contract: all words are 0, and four are written. Assumes nothing.
-use Rattle.record.proofs.Start.{started}
+use Rattle.record.proofs.StartLaws.{started}
 use borrow.Author.Needs.{needs}
 use Rattle.record.proofs.start.start.Statement.{statement}
 use Rattle.record.proofs.start.start.Tie as tie

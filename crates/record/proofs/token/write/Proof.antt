@@ -6,7 +6,7 @@ use lib.ListN.{length}
 use lib.Seq.{paste, paste-zero}
 use Rattle.record.proofs.TokenCopying.{row-on, row-done}
 use Rattle.record.proofs.LayoutParts.{row-wide}
-use Rattle.record.proofs.Count.{words-long}
+use Rattle.record.proofs.CountLaws.{words-long}
 use Rattle.model.specs.declared.record.Machine.{Machine}
 use Rattle.record.specs.Holds.{Codes}
 use borrow.Author.Needs.{needs}

@@ -2,7 +2,7 @@
 use mathlib.Core.Path.{_∙_, ap}
 use lib.Dec.{eqb}
 use Rattle.model.specs.Machine.Blank.{cellIsBlank}
-use Rattle.row_rules.proofs.Range.{place-none, held-none}
+use Rattle.row_rules.proofs.RangeLaws.{place-none, held-none}
 use Rattle.job.proofs.Both.{both}
 use borrow.Author.Needs.{needs}
 use Rattle.row_rules.proofs.blank.cell_is_blank.Statement.{statement}

@@ -1,5 +1,5 @@
 -- `blank::token_is_blank` meets its contract: the words of its place are all 0. Assumes nothing.
-use Rattle.row_rules.proofs.Blank.{zero-coded, zero-blank}
+use Rattle.row_rules.proofs.BlankLaws.{zero-coded, zero-blank}
 use mathlib.Core.Path.{sym, _∙_}
 use borrow.Author.Needs.{needs}
 use Rattle.row_rules.proofs.blank.token_is_blank.Statement.{statement}

@@ -5,8 +5,8 @@ use Rattle.model.specs.declared.record.Machine.{Machine}
 use Rattle.model.specs.Machine.Rules.{chainEnds}
 use Rattle.record.specs.Holds.{Codes}
 use Rattle.record.specs.LayoutDecoded.{placeFrom}
-use Rattle.row_rules.proofs.Range.{no-place, at-place, nowhere}
-use Rattle.row_rules.proofs.Chain.{ends-stop, ends-past, ends-on, ends-last}
+use Rattle.row_rules.proofs.RangeLaws.{no-place, at-place, nowhere}
+use Rattle.row_rules.proofs.ChainLaws.{ends-stop, ends-past, ends-on, ends-last}
 use borrow.Author.Needs.{needs}
 use Rattle.row_rules.proofs.chain.chain_ends.Statement.{statement}
 use Rattle.row_rules.proofs.chain.chain_ends.Tie as tie

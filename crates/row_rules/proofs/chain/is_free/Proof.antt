@@ -4,7 +4,7 @@ use mathlib.Core.Path.{_∙_, ap}
 use Rattle.model.specs.Machine.Blank.{tokenAt}
 use Rattle.model.specs.Machine.Active.{underSet}
 use Rattle.record.specs.LayoutDecoded.{placeFrom}
-use Rattle.row_rules.proofs.Chain.{idle, busy}
+use Rattle.row_rules.proofs.ChainLaws.{idle, busy}
 use Rattle.job.proofs.Both.{both}
 use borrow.Author.Needs.{needs}
 use Rattle.row_rules.proofs.chain.is_free.Statement.{statement}

@@ -2,7 +2,7 @@
 use mathlib.Core.Path.{_∙_, ap}
 use Rattle.model.specs.Machine.Blank.{cellAt}
 use Rattle.record.specs.Layout.{heldKind}
-use Rattle.row_rules.proofs.Chain.{waits-past, waits-read, waits-not}
+use Rattle.row_rules.proofs.ChainLaws.{waits-past, waits-read, waits-not}
 use borrow.Author.Needs.{needs}
 use Rattle.row_rules.proofs.chain.waits_at_unset.Statement.{statement}
 use Rattle.row_rules.proofs.chain.waits_at_unset.Tie as tie

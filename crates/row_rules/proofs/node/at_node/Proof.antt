@@ -5,8 +5,8 @@ use native.Mathlib.Omega.{arith}
 use Rattle.model.specs.Machine.Rules.{nodeRule}
 use Rattle.model.specs.Machine.Blank.{tokenAt}
 use Rattle.job.specs.Words.{nodeBy}
-use Rattle.row_rules.proofs.Node.{nodes-few, at-none, at-row}
-use Rattle.dag_rules.proofs.Dag.{row-part}
+use Rattle.row_rules.proofs.NodeLaws.{nodes-few, at-none, at-row}
+use Rattle.dag_rules.proofs.DagLaws.{row-part}
 use borrow.Author.Needs.{needs}
 use Rattle.row_rules.proofs.node.at_node.Statement.{statement}
 use Rattle.row_rules.proofs.node.at_node.Tie as tie

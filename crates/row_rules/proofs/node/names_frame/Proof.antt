@@ -1,6 +1,6 @@
 -- `node::names_frame` meets its contract: past the tokens there is no frame. Assumes nothing.
 use mathlib.Core.Path.{_∙_}
-use Rattle.row_rules.proofs.Node.{no-caller, caller-past, caller-read}
+use Rattle.row_rules.proofs.NodeLaws.{no-caller, caller-past, caller-read}
 use borrow.Author.Needs.{needs}
 use Rattle.row_rules.proofs.node.names_frame.Statement.{statement}
 use Rattle.row_rules.proofs.node.names_frame.Tie as tie

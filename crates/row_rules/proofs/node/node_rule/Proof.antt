@@ -3,8 +3,8 @@ use mathlib.Core.Path.{_∙_, ap}
 use lib.Dec.{ltb}
 use Rattle.model.specs.Machine.Rules.{nodeRule}
 use Rattle.job.specs.Words.{nodeBy}
-use Rattle.row_rules.proofs.Node.{rule-past}
-use Rattle.row_rules.proofs.Range.{place-is}
+use Rattle.row_rules.proofs.NodeLaws.{rule-past}
+use Rattle.row_rules.proofs.RangeLaws.{place-is}
 use Rattle.job.proofs.Both.{both, NoneBelow, none-below}
 use borrow.Author.Needs.{needs}
 use Rattle.row_rules.proofs.node.node_rule.Statement.{statement}

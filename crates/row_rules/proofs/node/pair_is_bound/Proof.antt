@@ -1,7 +1,7 @@
 -- `node::pair_is_bound` meets its contract: only a variable can be empty. Assumes nothing.
 use mathlib.Core.Path.{_∙_}
 use Rattle.model.specs.Machine.Blank.{tokenAt}
-use Rattle.row_rules.proofs.Node.{bound-pair, free-pair}
+use Rattle.row_rules.proofs.NodeLaws.{bound-pair, free-pair}
 use borrow.Author.Needs.{needs}
 use Rattle.row_rules.proofs.node.pair_is_bound.Statement.{statement}
 use Rattle.row_rules.proofs.node.pair_is_bound.Tie as tie

@@ -1,6 +1,6 @@
 -- `node::params_are_bound` meets its contract: pair by pair. Assumes nothing.
 use mathlib.Core.Path.{sym, _∙_}
-use Rattle.row_rules.proofs.Node.{params-bound}
+use Rattle.row_rules.proofs.NodeLaws.{params-bound}
 use Rattle.job.proofs.Both.{four}
 use borrow.Author.Needs.{needs}
 use Rattle.row_rules.proofs.node.params_are_bound.Statement.{statement}

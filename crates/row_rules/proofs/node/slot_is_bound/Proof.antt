@@ -2,8 +2,8 @@
 use mathlib.Core.Path.{_∙_, ap}
 use lib.Dec.{ltb}
 use Rattle.model.specs.Machine.Blank.{isBound, slotAt, tokenAt}
-use Rattle.row_rules.proofs.Node.{slot-past}
-use Rattle.row_rules.proofs.Range.{slot-bound}
+use Rattle.row_rules.proofs.NodeLaws.{slot-past}
+use Rattle.row_rules.proofs.RangeLaws.{slot-bound}
 use borrow.Author.Needs.{needs}
 use Rattle.row_rules.proofs.node.slot_is_bound.Statement.{statement}
 use Rattle.row_rules.proofs.node.slot_is_bound.Tie as tie

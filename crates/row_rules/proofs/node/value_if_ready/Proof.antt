@@ -3,7 +3,7 @@ use mathlib.Core.Bool.{not, _||_}
 use mathlib.Core.Path.{_∙_, ap, ap₂}
 use lib.Dec.{eqb, ltb}
 use Rattle.model.specs.Machine.Rules.{valueIfReady}
-use Rattle.row_rules.proofs.Range.{held-is}
+use Rattle.row_rules.proofs.RangeLaws.{held-is}
 use Rattle.job.proofs.Both.{either-is}
 use borrow.Author.Needs.{needs}
 use Rattle.row_rules.proofs.node.value_if_ready.Statement.{statement}

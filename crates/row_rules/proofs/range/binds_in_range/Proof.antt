@@ -11,7 +11,7 @@ use Rattle.model.specs.Machine.Rules.{slotInRange}
 use Rattle.model.specs.Machine.Blank.{empty, tokenAt, slotAt}
 use Rattle.job.specs.Test.{all}
 use Rattle.job.proofs.Loop.{all-turn, done}
-use Rattle.row_rules.proofs.Range.{slot-in}
+use Rattle.row_rules.proofs.RangeLaws.{slot-in}
 use Rattle.row_rules.specs.ValuesFit.{ValuesFit}
 use borrow.Author.Needs.{needs}
 use Rattle.row_rules.proofs.range.binds_in_range.Statement.{statement}

@@ -1,5 +1,5 @@
 -- `range::state_in_range` meets its contract: kind by kind. Assumes nothing.
-use Rattle.row_rules.proofs.Range.{waits-in, called-in, other-in}
+use Rattle.row_rules.proofs.RangeLaws.{waits-in, called-in, other-in}
 use borrow.Author.Needs.{needs}
 use Rattle.row_rules.proofs.range.state_in_range.Statement.{statement}
 use Rattle.row_rules.proofs.range.state_in_range.Tie as tie

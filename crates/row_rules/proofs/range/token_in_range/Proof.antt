@@ -4,7 +4,7 @@ use mathlib.Core.Path.{_∙_, ap}
 use lib.Dec.{leb}
 use Rattle.model.specs.Machine.Blank.{tokenAt}
 use Rattle.model.specs.Machine.Rules.{stateInRange}
-use Rattle.row_rules.proofs.Range.{place-in}
+use Rattle.row_rules.proofs.RangeLaws.{place-in}
 use Rattle.job.proofs.Both.{both, three, and-assoc}
 use borrow.Author.Needs.{needs}
 use Rattle.row_rules.proofs.range.token_in_range.Statement.{statement}

@@ -9,7 +9,7 @@ use Rattle.model.specs.Machine.Blank.{cellAt, cellIsBlank}
 use Rattle.record.specs.LayoutDecoded.{placeFrom}
 use Rattle.rules.proofs.OneRow.{cell-blank, cell-in}
 use Rattle.rules.proofs.RestBlank.{marked-one, other-one, first-true}
-use Rattle.row_rules.proofs.Range.{place-in}
+use Rattle.row_rules.proofs.RangeLaws.{place-in}
 use Rattle.coded.proofs.IsRecordRows.{codes-cell}
 use Rattle.job.proofs.Both.{both}
 use Rattle.row_rules.specs.RowRules.{cellRule}

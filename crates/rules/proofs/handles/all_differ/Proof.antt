@@ -4,7 +4,7 @@ use Prim.Native.Nat.{ℕ, _-_, _≤_}
 use native.Mathlib.Omega.{arith}
 use lib.ListN.{take}
 use Rattle.job.specs.Test.{differ}
-use Rattle.rules.proofs.Handles.{differ-turn}
+use Rattle.rules.proofs.HandlesLaws.{differ-turn}
 use borrow.Author.Needs.{needs}
 use Rattle.rules.proofs.handles.all_differ.Statement.{statement}
 use Rattle.rules.proofs.handles.all_differ.Tie as tie

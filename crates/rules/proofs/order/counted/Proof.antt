@@ -5,7 +5,7 @@ use Prim.Native.Nat.{ℕ, _-_, _≤_, _<_}
 use native.Mathlib.Omega.{arith}
 use lib.ListN.{length, getD, take, length-set, getD-replicate}
 use Rattle.job.specs.Test.{count}
-use Rattle.rules.proofs.Order.{count-few, none-counted, count-turn}
+use Rattle.rules.proofs.OrderCounts.{count-few, none-counted, count-turn}
 use Rattle.row_rules.specs.RowRules.{NamesAt}
 use borrow.Author.Needs.{needs}
 use Rattle.rules.proofs.order.counted.Statement.{statement}

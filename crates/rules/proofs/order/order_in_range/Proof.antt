@@ -5,7 +5,7 @@ use native.Mathlib.Omega.{arith}
 use lib.ListN.{getD}
 use borrow.Author.Count.{below-more}
 use Rattle.job.proofs.Test.{clash}
-use Rattle.rules.proofs.Order.{wild, tame}
+use Rattle.rules.proofs.OrderCounts.{wild, tame}
 use borrow.Author.Needs.{needs}
 use Rattle.rules.proofs.order.order_in_range.Statement.{statement}
 use Rattle.rules.proofs.order.order_in_range.Tie as tie

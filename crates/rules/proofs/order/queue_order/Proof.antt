@@ -2,7 +2,7 @@
 use mathlib.Core.Path.{_∙_, ap}
 use Rattle.model.specs.Machine.Rules.{namesOnce}
 use Rattle.model.specs.Machine.State.{isReady}
-use Rattle.record.proofs.Order.{queue-word}
+use Rattle.record.proofs.OrderLaws.{queue-word}
 use borrow.Author.Needs.{needs}
 use Rattle.rules.proofs.order.queue_order.Statement.{statement}
 use Rattle.rules.proofs.order.queue_order.Tie as tie

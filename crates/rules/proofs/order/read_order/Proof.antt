@@ -6,7 +6,7 @@ use borrow.Author.Tests.{not-true, not-false}
 use Rattle.job.specs.Test.{_and_, allFrom}
 use Rattle.model.specs.Machine.Rules.{namesOnce}
 use Rattle.rules.specs.OrderCounts.{namedAs}
-use Rattle.rules.proofs.Order.{order-long, order-wild, order-counted}
+use Rattle.rules.proofs.OrderCounts.{order-long, order-wild, order-counted}
 use Rattle.job.proofs.Both.{and-false}
 use borrow.Author.Needs.{needs}
 use Rattle.rules.proofs.order.read_order.Statement.{statement}

@@ -2,7 +2,7 @@
 use mathlib.Core.Path.{_∙_, ap}
 use lib.Dec.{eqb}
 use Rattle.job.specs.Test.{all}
-use Rattle.rules.proofs.Order.{rest-names}
+use Rattle.rules.proofs.OrderCounts.{rest-names}
 use borrow.Author.Needs.{needs}
 use Rattle.rules.proofs.order.rest_is_zero.Statement.{statement}
 use Rattle.rules.proofs.order.rest_is_zero.Tie as tie

@@ -2,7 +2,7 @@
 use mathlib.Core.Path.{_∙_, ap}
 use Rattle.model.specs.Machine.Rules.{namesOnce}
 use Rattle.model.specs.Machine.State.{isWaiting}
-use Rattle.record.proofs.Order.{wait-word}
+use Rattle.record.proofs.OrderLaws.{wait-word}
 use borrow.Author.Needs.{needs}
 use Rattle.rules.proofs.order.wait_order.Statement.{statement}
 use Rattle.rules.proofs.order.wait_order.Tie as tie

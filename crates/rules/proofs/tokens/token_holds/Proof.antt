@@ -9,7 +9,7 @@ use Rattle.rules.proofs.RestBlank.{first-true}
 use Rattle.coded.proofs.IsRecordRows.{codes-token}
 use Rattle.job.proofs.Both.{three}
 use Rattle.job.proofs.Test.{clash}
-use Rattle.dag_rules.proofs.Dag.{nodes-length}
+use Rattle.dag_rules.proofs.DagLaws.{nodes-length}
 use borrow.Author.Needs.{needs}
 use Rattle.rules.proofs.tokens.token_holds.Statement.{statement}
 use Rattle.rules.proofs.tokens.token_holds.Tie as tie

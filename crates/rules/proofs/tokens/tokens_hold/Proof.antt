@@ -16,7 +16,7 @@ use Rattle.job.specs.Words.{dagOf}
 use Rattle.job.proofs.Test.{and-right}
 use Rattle.coded.specs.WordTests.{tokenCoded}
 use Rattle.row_rules.specs.ValuesFit.{ValuesFit}
-use Rattle.rules.proofs.Handles.{handle-more, blank-more}
+use Rattle.rules.proofs.HandlesLaws.{handle-more, blank-more}
 use Rattle.rules.proofs.OneRow.{token-blank}
 use Rattle.rules.proofs.RestBlank.{first-true, second-true, where-true}
 use Rattle.rules.proofs.RulesRows.{seen, seen-none, used-turn, vacant-turn, seen-done}

@@ -1,6 +1,6 @@
 -- `input::table_end` meets its contract. Assumes nothing.
 use borrow.Author.Needs.{needs}
-use Rattle.run.proofs.Input.{table-all, table-cut, table-there}
+use Rattle.run.proofs.InputLaws.{table-all, table-cut, table-there}
 use Rattle.run.proofs.input.table_end.Statement.{statement}
 use Rattle.run.proofs.input.table_end.Tie as tie
 

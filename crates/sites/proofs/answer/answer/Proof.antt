@@ -10,7 +10,7 @@ use Rattle.model.specs.declared.token.Held.the-variants as helds
 use Rattle.model.specs.Machine.Blank.{tokenAt}
 use Rattle.record.proofs.TokenRow.{put-self}
 use Rattle.record.specs.Holds.{Holds}
-use Rattle.sites.proofs.Answer.{not-answered, is-answered}
+use Rattle.sites.proofs.AnswerLaws.{not-answered, is-answered}
 use Rattle.sites.proofs.answer.answer.Statement.{statement}
 use Rattle.sites.proofs.answer.answer.Tie as tie
 

@@ -10,7 +10,7 @@ use Rattle.model.specs.Machine.Blank.{blankToken, tokenAt}
 use Rattle.job.proofs.Test.{eq-eqb, ne-eqb}
 use Rattle.record.specs.Holds.{Codes}
 use Rattle.record.specs.Layout.{stateKind}
-use Rattle.sites.proofs.Answer.{holder-found, holder-on, holder-blank, open-called, place-there, place-none}
+use Rattle.sites.proofs.AnswerLaws.{holder-found, holder-on, holder-blank, open-called, place-there, place-none}
 use Rattle.sites.proofs.answer.find_open.Statement.{statement}
 use Rattle.sites.proofs.answer.find_open.Tie as tie
 

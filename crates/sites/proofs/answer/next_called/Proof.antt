@@ -8,7 +8,7 @@ use Rattle.model.specs.declared.record.Machine.{Machine}
 use Rattle.model.specs.Machine.Answer.{holder}
 use Rattle.model.specs.Machine.Blank.{blankToken, tokenAt}
 use Rattle.record.specs.Holds.{Codes}
-use Rattle.sites.proofs.Answer.{holder-on, open-not-called}
+use Rattle.sites.proofs.AnswerLaws.{holder-on, open-not-called}
 use Rattle.sites.proofs.answer.next_called.Statement.{statement}
 use Rattle.sites.proofs.answer.next_called.Tie as tie
 

@@ -7,7 +7,7 @@ use mir.Val.{SFits}
 use mir.Facts.{toZ-ofZ}
 use Rattle.model.specs.Machine.Blank.{cellAt}
 use Rattle.record.specs.Layout.{heldKind, heldNumber}
-use Rattle.sites.proofs.Look.{cell-unset, cell-set}
+use Rattle.sites.proofs.LookLaws.{cell-unset, cell-set}
 use Rattle.sites.specs.declared.look.Argument.the-variants as arguments
 use Rattle.sites.proofs.look.cell_argument.Statement.{statement}
 use Rattle.sites.proofs.look.cell_argument.Tie as tie

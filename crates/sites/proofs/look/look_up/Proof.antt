@@ -12,8 +12,8 @@ use Rattle.model.specs.declared.record.Machine.{Machine}
 use Rattle.model.specs.Machine.Blank.{tokenAt}
 use Rattle.record.specs.Holds.{Codes}
 use Rattle.sites.proofs.LookParams.{params-count}
-use Rattle.sites.proofs.Look.{filled-more, looking-on, look-up-unset, look-up-nothing, look-up-all, param-here, param-there}
-use Rattle.sites.proofs.Look.{param-small, param-in-range, Filled, Looking, behind-none}
+use Rattle.sites.proofs.LookLaws.{filled-more, looking-on, look-up-unset, look-up-nothing, look-up-all, param-here, param-there}
+use Rattle.sites.proofs.LookLaws.{param-small, param-in-range, Filled, Looking, behind-none}
 use Rattle.sites.specs.Look.{paramFound, LookFacts}
 use Rattle.sites.specs.Row.{paramsAt}
 use Rattle.sites.proofs.look.look_up.Statement.{statement}

@@ -5,7 +5,7 @@ use Prim.Native.Nat.{_<_}
 use mir.Syntax.{w32}
 use mir.Val.{SFits}
 use mir.Facts.{toZ-ofZ}
-use Rattle.sites.proofs.Look.{found-variable, found-constant}
+use Rattle.sites.proofs.LookLaws.{found-variable, found-constant}
 use Rattle.sites.proofs.LookParams.{param-variable, variable-below}
 use Rattle.sites.specs.declared.look.Argument.the-variants as arguments
 use Rattle.sites.proofs.look.param_argument.Statement.{statement}

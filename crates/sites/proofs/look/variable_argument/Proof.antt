@@ -4,7 +4,7 @@ use borrow.Author.Needs.{needs}
 use mir.Syntax.{w32}
 use mir.Val.{SFits}
 use mir.Facts.{toZ-ofZ}
-use Rattle.sites.proofs.Look.{variable-empty, variable-value, variable-cell}
+use Rattle.sites.proofs.LookLaws.{variable-empty, variable-value, variable-cell}
 use Rattle.sites.specs.declared.look.Argument.the-variants as arguments
 use Rattle.sites.proofs.look.variable_argument.Statement.{statement}
 use Rattle.sites.proofs.look.variable_argument.Tie as tie

@@ -3,7 +3,7 @@ use mathlib.Core.Path.{subst, refl}
 use borrow.Author.Needs.{needs}
 use Rattle.model.specs.declared.token.Place.the-variants as places
 use Rattle.record.specs.Holds.{Holds}
-use Rattle.sweep.proofs.Sweep.{cell-used, cell-blanked, cell-vacant}
+use Rattle.sweep.proofs.SweepLaws.{cell-used, cell-blanked, cell-vacant}
 use Rattle.sweep.proofs.sweep.keep_cell.Statement.{statement}
 use Rattle.sweep.proofs.sweep.keep_cell.Tie as tie
 

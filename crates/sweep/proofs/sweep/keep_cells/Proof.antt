@@ -7,7 +7,7 @@ use borrow.Author.Needs.{needs}
 use Rattle.model.specs.declared.record.Machine.{Machine}
 use Rattle.record.specs.Holds.{Holds}
 use Rattle.reach.specs.Marks.{FreeCells}
-use Rattle.sweep.proofs.Sweep.{cellsKept, cells-first, cell-there, cells-next, cells-last}
+use Rattle.sweep.proofs.SweepLaws.{cellsKept, cells-first, cell-there, cells-next, cells-last}
 use Rattle.sweep.proofs.sweep.keep_cells.Statement.{statement}
 use Rattle.sweep.proofs.sweep.keep_cells.Tie as tie
 use Rattle.job.proofs.Lists.{getD-any}

@@ -2,7 +2,7 @@
 use mathlib.Core.Path.{subst}
 use borrow.Author.Needs.{needs}
 use Rattle.record.specs.Holds.{Holds}
-use Rattle.sweep.proofs.Sweep.{token-used, token-blanked, token-vacant}
+use Rattle.sweep.proofs.SweepLaws.{token-used, token-blanked, token-vacant}
 use Rattle.sweep.proofs.sweep.keep_token.Statement.{statement}
 use Rattle.sweep.proofs.sweep.keep_token.Tie as tie
 

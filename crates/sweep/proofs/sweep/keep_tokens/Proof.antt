@@ -7,7 +7,7 @@ use borrow.Author.Needs.{needs}
 use Rattle.model.specs.declared.record.Machine.{Machine}
 use Rattle.record.specs.Holds.{Holds}
 use Rattle.reach.specs.Marks.{FreeTokens}
-use Rattle.sweep.proofs.Sweep.{tokensKept, tokens-first, token-there, tokens-next, tokens-last}
+use Rattle.sweep.proofs.SweepLaws.{tokensKept, tokens-first, token-there, tokens-next, tokens-last}
 use Rattle.sweep.proofs.sweep.keep_tokens.Statement.{statement}
 use Rattle.sweep.proofs.sweep.keep_tokens.Tie as tie
 use Rattle.job.proofs.Lists.{getD-any}

@@ -2,7 +2,7 @@
 use mathlib.Core.Path.{_∙_, subst}
 use borrow.Author.Needs.{needs}
 use Rattle.record.specs.Holds.{Holds}
-use Rattle.sweep.proofs.Sweep.{cells-swept}
+use Rattle.sweep.proofs.SweepLaws.{cells-swept}
 use Rattle.sweep.proofs.sweep.sweep_cells.Statement.{statement}
 use Rattle.sweep.proofs.sweep.sweep_cells.Tie as tie
 

@@ -5,7 +5,7 @@ use Rattle.model.specs.Machine.Update.{withTables}
 use Rattle.model.proofs.Keeps.Clean.{finish-tokens, finish-cells}
 use Rattle.record.specs.Holds.{Holds}
 use Rattle.reach.specs.Marks.{BlankFrom, tokensSwept}
-use Rattle.sweep.proofs.Sweep.{tokens-swept, swept, swept-blank, reach-kept}
+use Rattle.sweep.proofs.SweepLaws.{tokens-swept, swept, swept-blank, reach-kept}
 use Rattle.sweep.proofs.sweep.sweep_to.Statement.{statement}
 use Rattle.sweep.proofs.sweep.sweep_to.Tie as tie
 

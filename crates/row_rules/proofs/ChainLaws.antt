@@ -19,7 +19,7 @@ use Rattle.model.specs.declared.token.Token.{Token}
 use Rattle.model.specs.declared.cell.Cell.{Cell}
 use Rattle.job.proofs.Test.{clash}
 use Rattle.record.specs.Layout.{stateKind, stateNumber, heldKind}
-use Rattle.row_rules.proofs.Range.{held-none}
+use Rattle.row_rules.proofs.RangeLaws.{held-none}
 use Rattle.model.proofs.Machine.TableRows.{cell-outside}
 
 -- "each parent chain ends"

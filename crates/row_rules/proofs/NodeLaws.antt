@@ -20,10 +20,10 @@ use Rattle.model.specs.declared.token.Token.{Token}
 use Rattle.job.proofs.Test.{clash, lt-ltb, le-not-ltb, and-left, leb-le, eq-eqb, ne-eqb}
 use Rattle.record.specs.Layout.{placeNumber, stateKind}
 use Rattle.job.proofs.Lists.{table, listed}
-use Rattle.dag_rules.proofs.Dag.{node-by-kind, nodes-length}
+use Rattle.dag_rules.proofs.DagLaws.{node-by-kind, nodes-length}
 use Rattle.job.proofs.Both.{and-true}
 use Rattle.row_rules.specs.RowRules.{pairBound}
-use Rattle.row_rules.proofs.Range.{blank-is, frame-is}
+use Rattle.row_rules.proofs.RangeLaws.{blank-is, frame-is}
 
 -- past the eight slots nothing is bound
 pub slot-past : (bs : List Bind) (x : ℕ) → length bs ≡ 8 → 8 ≤ x → false ≡ isBound (slotAt bs x)

@@ -26,7 +26,7 @@ use Rattle.job.proofs.Lists.{table, listed, same-when}
 use Rattle.model.specs.Machine.Blank.{tokenAt}
 use Rattle.model.specs.declared.record.Machine.{Machine}
 use Rattle.record.specs.Holds.{Codes}
-use Rattle.record.proofs.Count.{words-long}
+use Rattle.record.proofs.CountLaws.{words-long}
 use Rattle.record.proofs.LayoutParts.{row-wide}
 use Rattle.record.proofs.TokenRow.{token-word}
 use Rattle.coded.specs.WordTests.{tokenCoded}
