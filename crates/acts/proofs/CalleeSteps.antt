@@ -1,4 +1,5 @@
--- Each step keeps one callee at most for a place that is not marked. Assumes nothing.
+-- Each step keeps one callee at most for a place that is not marked. By the clause of the node: no other row is written than those that it
+-- names. Assumes nothing.
 use mathlib.Core.Path.{_≡_, refl, sym, _∙_, ap, subst}
 use mathlib.Core.Logic.{_⊎_, inl, inr}
 use mathlib.Core.Bool.{Bool, true, false}

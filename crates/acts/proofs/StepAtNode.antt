@@ -1,4 +1,5 @@
--- What a step does at each kind of node, by the words of the node's row. Assumes nothing.
+-- What a step does at each kind of node, by the words of the node's row. The tests have passed, so the definition comes to the clause of
+-- the node. Assumes nothing.
 use mathlib.Core.Path.{_≡_, refl, sym, ap, ap₂, _∙_}
 use mathlib.Core.Bool.{Bool, true, false}
 use mathlib.Core.List.{List, []}

@@ -1,4 +1,5 @@
--- The site call and the choke: how the step ends, by what was found of the parameters and what the site says. Assumes nothing.
+-- The site call and the choke: how the step ends, by what was found of the parameters and what the site says. By the cases of the
+-- definition, in their order. Assumes nothing.
 use mathlib.Core.Path.{_≡_, refl, sym, ap, ap₂, subst, subst₂, _∙_}
 use mathlib.Core.Bool.{Bool, true, false}
 use mathlib.Core.List.{List, [], _∷_}

@@ -1,4 +1,4 @@
--- The tests of words, one after the other. Assumes nothing.
+-- The tests of words, one after the other. Each is the conjunction of its fields, tested in the order of the row. Assumes nothing.
 use mathlib.Core.Path.{_≡_, refl, sym, ap, ap₂, _∙_}
 use mathlib.Core.Bool.{Bool, true, false}
 use mathlib.Core.List.{List}

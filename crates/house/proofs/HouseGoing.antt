@@ -1,4 +1,5 @@
--- A run that is under way: what was printed and what the turns left will print are the run's lines. Assumes nothing.
+-- A run that is under way: what was printed and what the turns left will print are the run's lines. Each turn prints its lines and leaves
+-- the rest, so the two together stay the same. Assumes nothing.
 use mathlib.Core.Path.{_≡_, refl, sym, _∙_, ap, subst}
 use mathlib.Core.Logic.{_⊎_, inl, inr}
 use mathlib.Core.Bool.{Bool, true, false}

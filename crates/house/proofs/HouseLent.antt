@@ -1,5 +1,5 @@
--- A run that is under way on lent words: they hold one of the run's records, and the marks are that record's.
--- So each turn's report is that of the definition's turn. Assumes nothing.
+-- A run that is under way on lent words: they hold one of the run's records, and the marks are that record's. So each turn's report is that
+-- of the definition's turn. Each turn keeps it, by what its call leaves. Assumes nothing.
 use mathlib.Core.Path.{_≡_, refl, sym, _∙_, subst}
 use mathlib.Core.Bool.{Bool, true, false}
 use mathlib.Core.List.{List, [], _∷_}

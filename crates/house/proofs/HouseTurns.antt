@@ -1,4 +1,4 @@
--- The turns of a run: what each is, by the tests that lead to it. Assumes nothing.
+-- The turns of a run: what each is, by the tests that lead to it. By the definition, test by test. Assumes nothing.
 use mathlib.Core.Path.{_≡_, refl, sym, _∙_, ap}
 use mathlib.Core.Bool.{Bool, true, false}
 use mathlib.Core.List.{List, [], _∷_, _++_}

@@ -1,4 +1,5 @@
--- A turn's report and its line are the outcome's: the reply says whether there is a line, and whether the run is over. Assumes nothing.
+-- A turn's report and its line are the outcome's: the reply says whether there is a line, and whether the run is over. By the cases of a
+-- reply. Assumes nothing.
 use mathlib.Core.Path.{_≡_, refl, _∙_, ap, ap₂, subst}
 use mathlib.Core.Bool.{Bool, false}
 use mathlib.Core.List.{List, []}

@@ -1,4 +1,4 @@
--- A property of each element, over the parts of a list and over joined lists. Assumes nothing.
+-- A property of each element, over the parts of a list and over joined lists. By induction over the list. Assumes nothing.
 use mathlib.Core.Path.{sym, subst}
 use mathlib.Core.List.{List, _++_, map, List·Memᴰ, List·Memᴰ·head, List·Memᴰ·tail}
 use Prim.Native.Nat.{ℕ, zero, suc, _<_}

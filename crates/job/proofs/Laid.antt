@@ -1,4 +1,5 @@
--- Words set in a list: those outside stay, and two runs that do not meet stand where they were set. Assumes nothing.
+-- Words set in a list: those outside stay, and two runs that do not meet stand where they were set. By the laws of lists, index by index.
+-- Assumes nothing.
 use mathlib.Core.Path.{_≡_, refl, sym, _∙_, ap}
 use mathlib.Core.List.{List, [], _∷_, _++_, append-assoc}
 use Prim.Native.Nat.{ℕ, suc, _+_, _-_, _≤_, _<_}

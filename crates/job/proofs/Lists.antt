@@ -1,4 +1,4 @@
--- A list as the table of what is read from it, and two tests that say the same. Assumes nothing.
+-- A list as the table of what is read from it, and two tests that say the same. By induction over the list. Assumes nothing.
 use mathlib.Core.Path.{_≡_, refl, sym, ap}
 use mathlib.Core.Bool.{Bool, true, false}
 use mathlib.Core.List.{List, [], _∷_}

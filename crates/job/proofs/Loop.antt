@@ -1,4 +1,5 @@
--- Loops that test each element of a list: what the flag says before, during and after them. Assumes nothing.
+-- Loops that test each element of a list: what the flag says before, during and after them. By induction over the list, from its end.
+-- Assumes nothing.
 use mathlib.Core.Path.{_≡_, sym, _∙_, ap}
 use mathlib.Core.Bool.{Bool, _&&_}
 use mathlib.Core.List.{List, [], _∷_, map}

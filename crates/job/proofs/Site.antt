@@ -1,4 +1,4 @@
--- Which sites a call may name, range by range. Assumes nothing.
+-- Which sites a call may name, range by range. By the tests of the definition. Assumes nothing.
 use mathlib.Core.Path.{_≡_, refl}
 use mathlib.Core.Bool.{Bool, true, false}
 use Prim.Native.Nat.{ℕ, _<_, _≤_}

@@ -1,4 +1,4 @@
--- A run of stores may be cut anywhere: one run after another is the run of both. Assumes nothing.
+-- A run of stores may be cut anywhere: one run after another is the run of both. By induction over the words. Assumes nothing.
 use Prim.Native.Nat.{ℕ, suc, _+_}
 use mathlib.Core.Path.{_≡_, _∙_}
 use mathlib.Core.List.{List, [], _∷_, _++_}

@@ -1,4 +1,4 @@
--- From tests to facts and back: laws of the Boolean tests that definitions use. Assumes nothing.
+-- From tests to facts and back: laws of the Boolean tests that definitions use. By cases. Assumes nothing.
 use mathlib.Core.Path.{_≡_, refl}
 use mathlib.Core.Logic.{_⊎_, inl, inr}
 use mathlib.Core.Bool.{Bool, true, false, not}

@@ -1,4 +1,4 @@
--- Laws of runs.
+-- Laws of runs: each file says why its laws are true.
 pub mod Computing
 pub mod Queue
 pub mod Survivors

@@ -1,4 +1,4 @@
--- The concrete machine and the abstract machine.
+-- The concrete machine seen as the abstract machine, instruction by instruction, and so run by run.
 pub mod Labels
 pub mod Each
 pub mod Labelling

@@ -1,4 +1,4 @@
--- Words are all 0 exactly when their bits put together are 0. Assumes nothing.
+-- Words are all 0 exactly when their bits put together are 0. A number or another is 0 only if both are. Assumes nothing.
 use mathlib.Core.Path.{_≡_, sym, ap, _∙_}
 use mathlib.Core.Bool.{Bool, true}
 use mathlib.Core.List.{List}

@@ -1,4 +1,5 @@
--- A cell's row: what its words say of the cell, and what writing them makes of it. Assumes nothing.
+-- A cell's row: what its words say of the cell, and what writing them makes of it. Four words of the table, each at its index of the row.
+-- Assumes nothing.
 use mathlib.Core.Path.{_≡_, refl, sym, ap, ap₂, subst, _∙_}
 use mathlib.Core.List.{List}
 use Prim.Native.Nat.{ℕ, _+_, _-_, _*_, _<_}

@@ -1,4 +1,5 @@
--- The counts of a record: what their words say, and what writing one makes of it. Assumes nothing.
+-- The counts of a record: what their words say, and what writing one makes of it. Each stands at its own index behind the tables and the
+-- orders. Assumes nothing.
 use mathlib.Core.Path.{_≡_, ap, _∙_}
 use mathlib.Core.List.{List}
 use Prim.Native.Nat.{ℕ, _+_, _-_}

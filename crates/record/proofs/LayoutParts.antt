@@ -1,4 +1,5 @@
--- The five parts of the words: what is read and written in one of them. Assumes nothing.
+-- The five parts of the words: what is read and written in one of them. They stand one behind the other, so an index is in one of them
+-- only. Assumes nothing.
 use mathlib.Core.Path.{_≡_, refl, sym, ap, ap₂, _∙_}
 use mathlib.Core.List.{List, _++_, append-assoc}
 use Prim.Native.Nat.{ℕ, _+_, _-_, _*_, _<_}

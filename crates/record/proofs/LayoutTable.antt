@@ -1,4 +1,5 @@
--- Rows of one width, one behind the other: what is read and written in one of them. Assumes nothing.
+-- Rows of one width, one behind the other: what is read and written in one of them. By induction over the rows: one row of so many words is
+-- taken away with each. Assumes nothing.
 use mathlib.Core.Path.{_≡_, sym, ap, ap₂, _∙_}
 use mathlib.Core.List.{List, [], _∷_, _++_, append-assoc}
 use Prim.Native.Nat.{ℕ, zero, suc, _+_, _-_, _*_, _<_}

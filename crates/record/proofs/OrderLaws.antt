@@ -1,4 +1,5 @@
--- The queue and the wait order: what their words say, and what a name that joins or leaves makes of them. Assumes nothing.
+-- The queue and the wait order: what their words say, and what a name that joins or leaves makes of them. An order is the first names of
+-- its array, so both are changes of a list. Assumes nothing.
 use mathlib.Core.Path.{_≡_, sym, ap, ap₂, _∙_}
 use mathlib.Core.Bool.{Bool, false}
 use mathlib.Core.List.{List, [], _∷_, _++_}

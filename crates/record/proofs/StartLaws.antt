@@ -1,4 +1,4 @@
--- The words of a start: all of them cleared, then four written. Assumes nothing.
+-- The words of a start: all of them cleared, then four written. The others are those of a blank record, which are 0. Assumes nothing.
 use mathlib.Core.Path.{_≡_, refl, sym, ap, subst, _∙_}
 use mathlib.Core.List.{List, [], _∷_, _++_}
 use Prim.Native.Nat.{ℕ, zero, suc, _+_, _<_}

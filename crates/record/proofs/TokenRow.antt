@@ -1,4 +1,5 @@
--- A token's row: what its words say of the token, and what writing one word or two of them makes of it. Assumes nothing.
+-- A token's row: what its words say of the token, and what writing one word or two of them makes of it. Twenty-four words of the table,
+-- each at its index of the row. Assumes nothing.
 use mathlib.Core.Path.{_≡_, refl, sym, ap, ap₂, subst, _∙_}
 use mathlib.Core.List.{List, [], _∷_}
 use Prim.Native.Nat.{ℕ, zero, suc, _+_, _-_, _*_, _<_}

@@ -1,4 +1,4 @@
--- The search for a token that names the one at f as its caller, place by place. Assumes nothing.
+-- The search for a token that names the one at f as its caller, place by place. By induction over the places looked at. Assumes nothing.
 use mathlib.Core.Path.{_≡_, refl, sym, ap, _∙_}
 use Prim.Native.Nat.{ℕ, _+_, _<_, _≤_}
 use native.Mathlib.Decide.{ℕ-discrete, decLt}

@@ -1,4 +1,4 @@
--- A chain of cells, followed link by link with as many links left as are left of the loop. Assumes nothing.
+-- A chain of cells, followed link by link with as many links left as are left of the loop. By induction over the links. Assumes nothing.
 use mathlib.Core.Path.{_≡_, refl, sym, _∙_, ap}
 use mathlib.Core.Bool.{true, false, not, _||_}
 use mathlib.Core.List.{List}

@@ -1,4 +1,4 @@
--- The rules of a token at its node, from the words of the node's row. Assumes nothing.
+-- The rules of a token at its node, from the words of the node's row. By the kind of the node, which chooses the rule. Assumes nothing.
 use mathlib.Core.Path.{_≡_, refl, sym, _∙_, ap}
 use mathlib.Core.Bool.{Bool, true, false, _&&_}
 use mathlib.Core.List.{List, [], _∷_}

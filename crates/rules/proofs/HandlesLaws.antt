@@ -1,4 +1,5 @@
--- Open handles, gathered in one pass and compared pair by pair. Assumes nothing.
+-- Open handles, gathered in one pass and compared pair by pair. By induction over the handles: each is compared with those behind it.
+-- Assumes nothing.
 use mathlib.Core.Path.{_≡_, refl, sym, _∙_, ap, ap₂}
 use mathlib.Core.Bool.{Bool, true, false, not, _&&_}
 use mathlib.Core.List.{List, [], _∷_, _++_, append-nil, append-assoc}

@@ -1,4 +1,4 @@
--- One pass over a table: each element keeps its rules, and one that is not marked is blank. Assumes nothing.
+-- One pass over a table: each element keeps its rules, and one that is not marked is blank. By induction over the table. Assumes nothing.
 use mathlib.Core.Path.{_≡_, refl, sym, _∙_, ap, ap₂}
 use mathlib.Core.Bool.{Bool, true, false, _&&_, _||_}
 use mathlib.Core.List.{List, [], _∷_}

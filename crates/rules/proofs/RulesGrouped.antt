@@ -1,4 +1,4 @@
--- The rules of a dag and a record, regrouped: the tables' first, then the others. Assumes nothing.
+-- The rules of a dag and a record, regrouped: the tables' first, then the others. A conjunction may be taken in any order. Assumes nothing.
 use mathlib.Core.Path.{_≡_, sym, _∙_, ap, ap₂}
 use mathlib.Core.Bool.{Bool, true, false, _&&_}
 use mathlib.Core.List.{List}

@@ -1,4 +1,5 @@
--- One look at each row: its rules, whether it is in use or blank, and what the orders name, row after row. Assumes nothing.
+-- One look at each row: its rules, whether it is in use or blank, and what the orders name, row after row. By induction over the rows: the
+-- test of one comes before those behind it. Assumes nothing.
 use mathlib.Core.Path.{_≡_, refl, sym, _∙_, ap}
 use mathlib.Core.Bool.{Bool, true, false, _&&_, _||_}
 use mathlib.Core.List.{List, [], _∷_}

@@ -1,4 +1,4 @@
--- Where an input's table ends. Assumes nothing.
+-- Where an input's table ends. By the definition of the length that N gives. Assumes nothing.
 use mathlib.Core.Path.{_≡_, refl, sym}
 use mathlib.Core.List.{List}
 use Prim.Native.Nat.{ℕ, _+_, _*_, _<_, _≤_}

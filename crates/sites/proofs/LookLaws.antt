@@ -1,4 +1,5 @@
--- Looking up parameters one by one: what is found so far stands in front of what the rest gives. Assumes nothing.
+-- Looking up parameters one by one: what is found so far stands in front of what the rest gives. By induction over the parameters that are
+-- left. Assumes nothing.
 use mathlib.Core.Path.{_≡_, refl, sym, ap, ap₂, subst, _∙_}
 use mathlib.Core.Bool.{true}
 use mathlib.Core.List.{List, [], _∷_, _++_, append-assoc, append-nil}

@@ -1,4 +1,4 @@
--- The parameters in a node's row, one by one, and the formals that they bind. Assumes nothing.
+-- The parameters in a node's row, one by one, and the formals that they bind. By induction over the parameters. Assumes nothing.
 use mathlib.Core.Path.{_≡_, refl, sym, ap, ap₂, subst, _∙_}
 use mathlib.Core.Bool.{true}
 use mathlib.Core.List.{List, [], _∷_, _++_, map}

@@ -1,4 +1,4 @@
--- A signed number's 32 bits. Assumes nothing.
+-- A signed number's 32 bits. By cases: a number of 0 or more is its bits, one below 0 its distance from 2 ^ 32. Assumes nothing.
 use mathlib.Core.Path.{_≡_, refl}
 use mathlib.Core.Bool.{true, false}
 use Prim.Native.Nat.{ℕ, _-_, _≤_, _^_}

@@ -1,4 +1,4 @@
--- A turn by whether the queue is empty. Assumes nothing.
+-- A turn by whether the queue is empty. The definition makes the same tests, in the same order. Assumes nothing.
 use mathlib.Core.Path.{_≡_, refl, sym, _∙_}
 use mathlib.Core.Logic.{_⊎_, inl, inr}
 use mathlib.Core.Bool.{Bool, true, false}

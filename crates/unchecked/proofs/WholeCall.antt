@@ -1,4 +1,5 @@
--- A whole call: the token that a step takes and the node at which it acts; how an answer ends; the words of a start. Assumes nothing.
+-- A whole call: the token that a step takes and the node at which it acts; how an answer ends; the words of a start. The tests before it
+-- have left one case of the definition. Assumes nothing.
 use mathlib.Core.Path.{_≡_, refl, sym, ap, subst, _∙_}
 use mathlib.Core.Bool.{Bool, true, false}
 use mathlib.Core.List.{List, []}

@@ -1,4 +1,5 @@
--- What a few writes, one behind the other, make of a record: the tokens that they name, and the length of the queue. Assumes nothing.
+-- What a few writes, one behind the other, make of a record: the tokens that they name, and the length of the queue. A write changes one
+-- row or one order and leaves the others. Assumes nothing.
 use mathlib.Core.Path.{_≡_, sym, ap, subst, _∙_}
 use mathlib.Core.List.{List, [], _∷_}
 use Prim.Native.Nat.{ℕ, suc, _+_, _-_, _<_}

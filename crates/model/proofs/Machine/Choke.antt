@@ -1,4 +1,4 @@
--- What a choke does to one token. Assumes nothing.
+-- What a choke does to one token. By the tests that its definition makes. Assumes nothing.
 use mathlib.Core.Path.{_≡_, refl, sym, _∙_, ap}
 use mathlib.Core.Bool.{true}
 use mathlib.Core.List.{List, map}

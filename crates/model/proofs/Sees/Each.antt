@@ -1,5 +1,5 @@
--- A property of each element of a list together with its index, counted from n: of two lists it holds of one after the other. Assumes
--- nothing.
+-- A property of each element of a list together with its index, counted from n: of two lists it holds of one after the other. By induction
+-- over the list. Assumes nothing.
 use mathlib.Core.Path.{_≡_, ap, subst}
 use mathlib.Core.List.{List, [], _∷_, _++_}
 use Prim.Native.Nat.{ℕ, zero, suc, _+_, _<_}

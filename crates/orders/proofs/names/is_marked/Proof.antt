@@ -1,4 +1,4 @@
--- A place beyond the marks is not marked. Assumes nothing.
+-- A place beyond the marks is not marked. The test of the place comes first, so no mark is read there. Assumes nothing.
 use mathlib.Core.Bool.{false}
 use mathlib.Core.Path.{sym, ap}
 use borrow.Author.Needs.{needs}

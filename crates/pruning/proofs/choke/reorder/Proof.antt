@@ -1,4 +1,5 @@
--- The ready names of the queue, then those of the wait order, are the ready names of both in order. Assumes nothing.
+-- The ready names of the queue, then those of the wait order, are the ready names of both in order. A filter of two lists, one behind the
+-- other, is the filter of each. Assumes nothing.
 use mathlib.Core.Bool.{Bool}
 use mathlib.Core.List.{List}
 use mathlib.Core.Path.{_≡_, refl, subst}

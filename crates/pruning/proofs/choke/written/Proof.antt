@@ -1,4 +1,4 @@
--- The four changes one after the other are the definition's choke. Assumes nothing.
+-- The four changes one after the other are the definition's choke. Each writer leaves what the next one is asked for. Assumes nothing.
 use mathlib.Core.Path.{subst}
 use borrow.Author.Needs.{needs}
 use Rattle.model.specs.Machine.Update.{withTables, withOrders}

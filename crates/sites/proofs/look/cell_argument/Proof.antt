@@ -1,4 +1,5 @@
--- A cell's words say whether it is set and to what; its value is signed 32-bit. Assumes nothing.
+-- A cell's words say whether it is set and to what; its value is signed 32-bit. By whether it is set, which its words give. Assumes
+-- nothing.
 use mathlib.Core.Path.{ap, _∙_}
 use borrow.Author.Needs.{needs}
 use native.Mathlib.Omega.{arith}

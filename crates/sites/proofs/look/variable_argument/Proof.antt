@@ -1,4 +1,5 @@
--- A variable's words say what it is bound to; a bound cell is a cell of the table. Assumes nothing.
+-- A variable's words say what it is bound to; a bound cell is a cell of the table. By the kind of the slot, which its words give. Assumes
+-- nothing.
 use mathlib.Core.Path.{ap, _∙_}
 use borrow.Author.Needs.{needs}
 use mir.Syntax.{w32}
