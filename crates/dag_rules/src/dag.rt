@@ -5,6 +5,9 @@ ghost use lib.ListN.{length, getD};
 ghost use Rattle.job.specs.Test.{all};
 ghost use Rattle.job.specs.Node.{nodeHolds, bodyHolds, dagHolds};
 ghost use Rattle.job.specs.Words.{dagOf};
+use job::bounds::DEFINITION_LIMIT;
+use job::bounds::NODE_LIMIT;
+use job::bounds::PARAMETER_LIMIT;
 use crate::row::row_holds;
 use job::dag::DEFINITION_COUNT;
 use job::dag::DEFINITIONS_START;
@@ -25,7 +28,7 @@ fn bodies_hold(dag: &[u32]) -> bool
     let mut i = 0;
     while i < bodies {
         let at = DEFINITIONS_START + 2 * i;
-        let holds = (dag[at] < nodes) & (dag[at + 1] <= 4);
+        let holds = (dag[at] < nodes) & (dag[at + 1] <= PARAMETER_LIMIT);
         ok = ok & holds;
         i += 1;
     }
@@ -56,10 +59,10 @@ fn words_hold(dag: &[u32]) -> bool
     requires { ⌜ length (now dag) ≡ 12331 ⌝ }
     ensures { λ r. ⌜ r ≡ dagHolds (dagOf (now (dag .entry))) ⌝ }
 {
-    if 1022 < dag[NODE_COUNT] {
+    if NODE_LIMIT < dag[NODE_COUNT] {
         return false;
     }
-    if 32 < dag[DEFINITION_COUNT] {
+    if DEFINITION_LIMIT < dag[DEFINITION_COUNT] {
         return false;
     }
     (dag[GOAL] < dag[NODE_COUNT]) & bodies_hold(dag) & nodes_hold(dag)

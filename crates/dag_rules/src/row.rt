@@ -2,6 +2,8 @@
 ghost use mathlib.Core.Path.{_≡_};
 ghost use lib.ListN.{length, drop};
 ghost use Rattle.dag_rules.specs.NodeWords.{pairHolds, paramWordsHold, headHolds, countOf, rowHolds};
+use job::bounds::PARAMETER_LIMIT;
+use job::bounds::SCOPE_LIMIT;
 use job::dag::ASSIGN;
 use job::dag::CALL;
 use job::dag::CHOKE;
@@ -24,7 +26,7 @@ fn pair_holds(named: bool, kind: u32, word: u32) -> bool
     ensures { λ r. ⌜ r ≡ pairHolds named kind word ⌝ }
 {
     if named {
-        return ((kind == VARIABLE) & (word < 8)) | (kind == CONSTANT);
+        return ((kind == VARIABLE) & (word < SCOPE_LIMIT)) | (kind == CONSTANT);
     }
     (kind == 0) & (word == 0)
 }
@@ -58,15 +60,15 @@ fn head_holds(nodes: u32, bodies: u32, kind: u32, a: u32, b: u32, c: u32) -> boo
     ensures { λ r. ⌜ r ≡ headHolds nodes bodies kind a b c ⌝ }
 {
     let unused = (a == 0) & (b == 0) & (c == 0);
-    let slot = (a < 8) & (b < nodes) & (c == 0);
+    let slot = (a < SCOPE_LIMIT) & (b < nodes) & (c == 0);
     match kind {
         STOP => unused,
         SITE => takes(a, c) & (b < nodes),
-        CALL => (a < bodies) & (c <= 4) & (b < nodes),
+        CALL => (a < bodies) & (c <= PARAMETER_LIMIT) & (b < nodes),
         FORK => (a < nodes) & (b < nodes) & (c == 0),
         ASSIGN => slot,
         REMOVE => slot,
-        WHERE => (c < 8) & (a < nodes) & (b < nodes),
+        WHERE => (c < SCOPE_LIMIT) & (a < nodes) & (b < nodes),
         CHOKE => unused,
         RETURN => unused,
         PUBLISH => unused,

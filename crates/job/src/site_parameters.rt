@@ -1,4 +1,5 @@
 // The sites' parameter counts.
+use crate::bounds::PARAMETER_LIMIT;
 ghost use mathlib.Core.Path.{_≡_};
 ghost use Rattle.job.specs.Site.{siteTakes};
 
@@ -22,5 +23,5 @@ pub fn takes(site: u32, count: u32) -> bool
     if 1023 < site {
         return false;
     }
-    count <= 4
+    count <= PARAMETER_LIMIT
 }
