@@ -1,3 +1,3 @@
 // The index rules of a dag, tested on any words.
 pub mod dag;
-mod row;
+mod node_words;

@@ -11,7 +11,7 @@ ghost use Rattle.model.specs.declared.record.Machine.{Machine};
 ghost use Rattle.coded.specs.WordTests.{cellAtCoded};
 ghost use Rattle.row_rules.specs.ValuesFit.{ValuesFit};
 ghost use Rattle.row_rules.specs.RowRules.{cellRule};
-use coded::words::cell_coded;
+use coded::word_tests::cell_coded;
 use model::record::Machine;
 use record::cell::parent;
 use record::layout::CELL_PLACE_COUNT;

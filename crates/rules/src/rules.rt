@@ -4,7 +4,7 @@ use crate::cells::cells_hold;
 use crate::order::queue_order;
 use crate::order::wait_order;
 use crate::tokens::tokens_hold;
-use coded::words::whole;
+use coded::word_tests::whole;
 use dag_rules::dag::dag_holds;
 use job::dag::WORDS;
 use model::record::Machine;

@@ -17,7 +17,7 @@ ghost use Rattle.row_rules.specs.RowRules.{tokenRule};
 ghost use Rattle.rules.specs.OrderCounts.{namedByBoth};
 use crate::handles::all_differ;
 use crate::order::counts_agree;
-use coded::words::token_coded;
+use coded::word_tests::token_coded;
 use job::dag::NODE_COUNT;
 use job::wide::wide;
 use model::record::Machine;

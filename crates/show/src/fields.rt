@@ -1,6 +1,6 @@
 // A record as lines. Of a record every field is shown that is not blank; of words that are no record's every one that is not 0.
 ghost use Prim.Native.Nat.{_<_};
-use coded::words::is_record;
+use coded::word_tests::is_record;
 use console::print::number;
 use console::print::put;
 use console::print::value;

@@ -23,6 +23,7 @@ use Rattle.job.proofs.Test.{and-left, and-right, eqb-eq, all-at, all-head, all-
 use Rattle.model.proofs.Machine.Rules.{EachRuleHolds, each-rule-holds, NamesOnce, names-once}
 use Rattle.sites.specs.Look.{LookFacts}
 use Rattle.sites.proofs.OrderCounting.{names-few, names-fewer}
+use Rattle.job.proofs.Test.{once-small}
 
 all-implied : {A : Type 0} (f g : A → Bool) → ((x : A) → f x ≡ true → g x ≡ true) → (xs : List A) → all f xs ≡ true → all g xs ≡ true
 all-implied f g h [] e = all-nil g
@@ -35,10 +36,6 @@ never-both states.Ready = omega arith
 never-both (states.Waiting c) = omega arith
 never-both (states.Called h) = omega arith
 never-both states.Frame = omega arith
-
-once-few : (b : Bool) → once b ≤ 1
-once-few true = omega arith
-once-few false = omega arith
 
 module _ (d : Dag) (m : Machine) (k : rulesHold paper d m ≡ true) where
   holds : EachRuleHolds paper d m
@@ -109,13 +106,10 @@ module _ (d : Dag) (m : Machine) (k : rulesHold paper d m ≡ true) where
       names-fewer 64 xs queue-below
       (λ p l.
       let x : count p xs ≡ once (isReady (tokenAt (m .tokens) p .state)) = queue-counts p l in
-      let y = once-few (isReady (tokenAt (m .tokens) p .state)) in
+      let y = once-small (isReady (tokenAt (m .tokens) p .state)) in
       omega arith)
       q l c in
       omega arith
-
-  -- the token at a place of the queue
-  module _ (place : ℕ) (l : place < m .queued) where
 
   -- a token's own ranges
   pub token-range : (p : ℕ) → p < 64 → tokenInRange paper d (m .calls) (tokenAt (m .tokens) p) ≡ true
