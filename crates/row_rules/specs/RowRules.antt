@@ -21,8 +21,8 @@ tokenRule d m t =
     tokenInRange paper d (m .calls) t and atNode d (m .tokens) t and notUnderSet (m .cells) t and waitsAtUnset (m .cells) (t .state)
 
 -- in range, with a parent chain that ends
-abbrev pub cellRule : Dag → List Cell → Cell → Bool
-cellRule d cs c = cellInRange paper c and chainEnds cs 32 (c .parent)
+abbrev pub cellRule : List Cell → Cell → Bool
+cellRule cs c = cellInRange paper c and chainEnds cs 32 (c .parent)
 
 -- "at a call no empty variable", at the two words of one parameter
 abbrev pub pairBound : List Bind → Bool → (kind word : ℕ) → Bool

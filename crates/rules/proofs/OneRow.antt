@@ -98,8 +98,8 @@ module _ (d : Dag) (m : Machine) (t : Token) (eight : length (t .binds) ≡ 8) w
   unfolding tokenInRange isNode _and_
   node-in e l f = rw (lt-ltb (t .node) (length (d .nodes)) (omega arith), eight, f)
 
-module _ (d : Dag) (cs : List Cell) (c : Cell) where
-  pub cell-blank : cellIsBlank c ≡ true → cellRule d cs c ≡ true
+module _ (cs : List Cell) (c : Cell) where
+  pub cell-blank : cellIsBlank c ≡ true → cellRule cs c ≡ true
   unfolding cellIsBlank cellInRange
   cell-blank e =
       let none = and-left (not (isPlace (c .parent))) _ e in

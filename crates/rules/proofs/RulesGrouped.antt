@@ -61,7 +61,7 @@ module _ (d : Dag) (m : Machine) where
       (all-both (notUnderSet (m .cells)) (λ (t : Token). waitsAtUnset (m .cells) (t .state)) (m .tokens)))
 
   module _ (tokens : length (m .tokens) ≡ 64) (cells : length (m .cells) ≡ 32) where
-    cell-rules : all (cellRule d (m .cells)) (m .cells) ≡ (all (cellInRange paper) (m .cells) and chainsEnd (m .cells))
+    cell-rules : all (cellRule (m .cells)) (m .cells) ≡ (all (cellInRange paper) (m .cells) and chainsEnd (m .cells))
     unfolding chainsEnd
     cell-rules =
         all-both (cellInRange paper) (λ (c : Cell). chainEnds (m .cells) 32 (c .parent)) (m .cells)
@@ -85,7 +85,7 @@ module _ (d : Dag) (m : Machine) where
         ≡ (((all (tokenRule d m) (m .tokens) and restIsBlank tokenIsBlank used (m .tokens)) and allFrom (namedByBoth queue waits) 0
         (m .tokens))
         and differ (openHandles (m .tokens)))
-        → second ≡ (all (cellRule d (m .cells)) (m .cells) and restIsBlank cellIsBlank marks (m .cells))
+        → second ≡ (all (cellRule (m .cells)) (m .cells) and restIsBlank cellIsBlank marks (m .cells))
         → sizes ≡ (leb (m .calls) 1000000 and ltb (m .lasttoken) 64 and ltb (m .lastcell) 32)
         → (allFrom (namedAs 1 queue) 0 (m .tokens) and queued) ≡ namesOnce isReady (m .tokens) (m .queue) (m .queued)
         → (allFrom (namedAs 2 waits) 0 (m .tokens) and waited) ≡ namesOnce isWaiting (m .tokens) (m .waits) (m .waiting)

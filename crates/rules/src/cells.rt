@@ -4,7 +4,6 @@ ghost use mathlib.Core.Bool.{true, _||_};
 ghost use Prim.Native.Nat.{ℕ, _<_};
 ghost use lib.ListN.{length};
 ghost use Rattle.job.specs.Test.{_and_, all};
-ghost use Rattle.job.specs.Node.{Dag};
 ghost use Rattle.model.specs.Machine.Blank.{cellAt, cellIsBlank};
 ghost use Rattle.model.specs.Machine.Rules.{restIsBlank};
 ghost use Rattle.model.specs.declared.record.Machine.{Machine};
@@ -22,8 +21,8 @@ use row_rules::chain::chain_ends;
 fn cell_holds(w: &[u32; Machine::WORDS], c: usize, used: bool) -> bool
     requires { ⌜ c < 32 ⌝ }
     ensures { λ r. ⌜ (r ≡ true → cellAtCoded (now (w .entry)) c ≡ true)
-        × ((d : Dag) (m : Machine) → ValuesFit (now (w .entry)) m
-        → r ≡ (cellRule d (m .cells) (cellAt (m .cells) c) and (used || cellIsBlank (cellAt (m .cells) c)))) ⌝ }
+        × ((m : Machine) → ValuesFit (now (w .entry)) m
+        → r ≡ (cellRule (m .cells) (cellAt (m .cells) c) and (used || cellIsBlank (cellAt (m .cells) c)))) ⌝ }
 {
     if !used {
         return cell_coded(w, c) & cell_is_blank(w, c);
@@ -34,8 +33,8 @@ fn cell_holds(w: &[u32; Machine::WORDS], c: usize, used: bool) -> bool
 
 pub fn cells_hold(w: &[u32; Machine::WORDS], used: &[bool; Machine::CELLS]) -> bool
     ensures { λ r. ⌜ (r ≡ true → (c : ℕ) → c < 32 → cellAtCoded (now (w .entry)) c ≡ true)
-        × ((d : Dag) (m : Machine) → ValuesFit (now (w .entry)) m → length (now (used .entry)) ≡ 32
-        → r ≡ (all (cellRule d (m .cells)) (m .cells) and restIsBlank cellIsBlank (now (used .entry)) (m .cells))) ⌝ }
+        × ((m : Machine) → ValuesFit (now (w .entry)) m → length (now (used .entry)) ≡ 32
+        → r ≡ (all (cellRule (m .cells)) (m .cells) and restIsBlank cellIsBlank (now (used .entry)) (m .cells))) ⌝ }
 {
     let mut ok = true;
     let mut i: usize = 0;

@@ -38,6 +38,20 @@ pub data Turn : Type 0 where
   on : List Line → Standing → Turn
   over : List Line → Turn
 
+-- "with the queue empty it delivers a record": "handle and signed value, each little-endian"; a refused answer doesn't end the run
+unfoldable pub deliverTurn : Limits → Dag → Standing → Turn
+deliverTurn lim d s =
+    let o = answer lim d (s .machine) (number (take 4 (s .rest))) (signed (number (take 4 (drop 4 (s .rest))))) in
+    on (reportedLines (o .reply) (o .values)) (record { machine = o .machine; steps = s .steps; rest = drop 8 (s .rest) })
+
+-- (docs/DECISIONS.md, "`short`") "A trailing piece prints `short`"; "last .. `end` and accepted steps"
+unfoldable pub lastTurn : Standing → Turn
+lastTurn s =
+    elim (eqb (length (s .rest)) 0) [
+      | true ↦ over (end (s .steps) ∷ [])
+      | false ↦ over (short ∷ end (s .steps) ∷ [])
+    ]
+
 module _ (lim : Limits) (most : ℕ) (d : Dag) where
   -- (docs/DECISIONS.md, "`limit` before any refusal") "It runs house order"; "a refused step ends the run"; "with 100,000 steps made and a
   -- token ready: `limit`, then `end`"
@@ -54,25 +68,11 @@ module _ (lim : Limits) (most : ℕ) (d : Dag) where
             ])
       ]
 
-  -- "with the queue empty it delivers a record": "handle and signed value, each little-endian"; a refused answer doesn't end the run
-  unfoldable pub deliverTurn : Standing → Turn
-  deliverTurn s =
-      let o = answer lim d (s .machine) (number (take 4 (s .rest))) (signed (number (take 4 (drop 4 (s .rest))))) in
-      on (reportedLines (o .reply) (o .values)) (record { machine = o .machine; steps = s .steps; rest = drop 8 (s .rest) })
-
-  -- (docs/DECISIONS.md, "`short`") "A trailing piece prints `short`"; "last .. `end` and accepted steps"
-  unfoldable pub lastTurn : Standing → Turn
-  lastTurn s =
-      elim (eqb (length (s .rest)) 0) [
-        | true ↦ over (end (s .steps) ∷ [])
-        | false ↦ over (short ∷ end (s .steps) ∷ [])
-      ]
-
   unfoldable pub turn : Standing → Turn
   turn s =
       elim (eqb (s .machine .queued) 0) [
         | false ↦ stepTurn s
-        | true ↦ elim (leb 8 (length (s .rest))) [ true ↦ deliverTurn s | false ↦ lastTurn s ]
+        | true ↦ elim (leb 8 (length (s .rest))) [ true ↦ deliverTurn lim d s | false ↦ lastTurn s ]
       ]
 
   -- so many turns at most

@@ -23,12 +23,12 @@ returns c =
     let args = c .before .before .before .args in
     let words = c .before .cell-coded .ensures in (
       λ e. sym words ∙ first-true (c .before .cell-coded .result) (c .cell-is-blank .result) e,
-      λ d m h.
+      λ m h.
           let k = cellAt (m .cells) (args .c) in
           ap (λ (b : Bool). b && c .cell-is-blank .result) (words ∙ codes-cell (h .codes) (args .c) (search needs))
           ∙ c .cell-is-blank .ensures m (h .codes)
-          ∙ other-one {used = args .used} (cellRule d (m .cells) k) (cellIsBlank k) (not-true _ (c .before .before .if1 .taken))
-          (cell-blank d (m .cells) k),
+          ∙ other-one {used = args .used} (cellRule (m .cells) k) (cellIsBlank k) (not-true _ (c .before .before .if1 .taken))
+          (cell-blank (m .cells) k),
     )
 
 returns-2 : tie.Need-returns-2
@@ -40,13 +40,13 @@ returns-2 c =
     let words = c .before .cell-coded2 .ensures in (
       λ e. sym words ∙ first-true (c .before .cell-coded2 .result) inside
           (first-true (c .before .cell-coded2 .result && inside) (c .chain-ends .result) e),
-      λ d m h.
+      λ m h.
           let k = cellAt (m .cells) (args .c) in
           let above = place2 .parent .ensures m (h .codes) in
           ap (λ (b : Bool). b && inside && c .chain-ends .result) (words ∙ codes-cell (h .codes) (args .c) (search needs))
-          ∙ both (ap (λ n. leb n 32) above ∙ place-in 32 (k .parent) ∙ cell-in d (m .cells) k (h .cells (args .c)))
+          ∙ both (ap (λ n. leb n 32) above ∙ place-in 32 (k .parent) ∙ cell-in (m .cells) k (h .cells (args .c)))
           (c .chain-ends .ensures m (h .codes) ∙ ap (chainEnds (m .cells) 32) (ap placeFrom above ∙ place-back (k .parent)))
-          ∙ marked-one {used = args .used} (cellRule d (m .cells) k) (cellIsBlank k) (not-false _ (place3 .if1 .left)),
+          ∙ marked-one {used = args .used} (cellRule (m .cells) k) (cellIsBlank k) (not-false _ (place3 .if1 .left)),
     )
 
 pub cell-holds-spec : {M : Type 1} → statement M

@@ -6,7 +6,6 @@ use native.Mathlib.Omega.{arith}
 use lib.ListN.{length}
 use Rattle.model.specs.declared.record.Machine.{Machine}
 use Rattle.model.specs.Machine.Blank.{blankCell, cellAt, cellIsBlank}
-use Rattle.job.specs.Node.{Dag}
 use Rattle.rules.proofs.RestBlank.{passed, pass-turn, pass-done, first-true, second-true}
 use Rattle.row_rules.specs.RowRules.{cellRule}
 use Rattle.row_rules.specs.ValuesFit.{ValuesFit}
@@ -20,14 +19,14 @@ abbrev Inv-loop : tie.InvT-loop
 Inv-loop w used ok₀ i₀ ok i =
     (i ≤ 32)
     × (ok ≡ true → (c : ℕ) → c < i → cellAtCoded w c ≡ true)
-    × ((d : Dag) (m : Machine) → ValuesFit w m → length used ≡ 32 → ok ≡ passed (cellRule d (m .cells)) cellIsBlank used (m .cells) i)
+    × ((m : Machine) → ValuesFit w m → length used ≡ 32 → ok ≡ passed (cellRule (m .cells)) cellIsBlank used (m .cells) i)
 
 abbrev μ-loop : tie.MeasureT-loop
 μ-loop w used ok₀ i₀ ok i = 32 - i
 
 loop-holds : tie.Need-loop-holds Inv-loop μ-loop
 unfolding Rattle.job.specs.Test.all Rattle.model.specs.Machine.Rules.restIsBlank Rattle.job.specs.Test._and_
-loop-holds c = (search needs, λ e k l. absurd (omega arith), λ d m h l. search needs)
+loop-holds c = (search needs, λ e k l. absurd (omega arith), λ m h l. search needs)
 
 loop-again : tie.Need-loop-again Inv-loop μ-loop
 unfolding cellAt
@@ -38,19 +37,19 @@ loop-again c =
       search needs,
       λ e. below-more _ _ (now .inv .1 (first-true (now .ok) (c .cell-holds .result) e))
           (c .cell-holds .ensures .0 (second-true (now .ok) (c .cell-holds .result) e)),
-      λ d m h l.
-          pass-turn (cellRule d (m .cells)) cellIsBlank (place4 .args .used .now) (m .cells) (now .i) blankCell (omega arith)
+      λ m h l.
+          pass-turn (cellRule (m .cells)) cellIsBlank (place4 .args .used .now) (m .cells) (now .i) blankCell (omega arith)
           (omega (arith, h .codes .shaped .cells))
-          (now .inv .2 d m h l) (c .cell-holds .ensures .1 d m h),
+          (now .inv .2 m h l) (c .cell-holds .ensures .1 m h),
     )
 
 returns : tie.Need-returns Inv-loop μ-loop
 returns c =
     let last = c .before .loop in (
       λ e k l. last .inv .1 e k (omega arith),
-      λ d m h l.
-          pass-done (cellRule d (m .cells)) cellIsBlank (c .before .before .args .used .now) (m .cells) (last .i)
-          (omega (arith, h .codes .shaped .cells)) (last .inv .2 d m h l),
+      λ m h l.
+          pass-done (cellRule (m .cells)) cellIsBlank (c .before .before .args .used .now) (m .cells) (last .i)
+          (omega (arith, h .codes .shaped .cells)) (last .inv .2 m h l),
     )
 
 pub cells-hold-spec : {M : Type 1} → statement M

@@ -57,7 +57,7 @@ returns-2 c =
           (waits .counts) (queue .ok)
           (waits .ok)
           (place2 .tokens-hold .ensures .1 m h (tokens-marked d m long short e))
-          (c .before .cells-hold .ensures .1 d m h (cells-marked d m long short f))
+          (c .before .cells-hold .ensures .1 m h (cells-marked d m long short f))
           (c .sizes-in-range .ensures m k) (place11 .queue-order .ensures m k) (place10 .wait-order .ensures m k);
     }
 
