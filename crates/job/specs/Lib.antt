@@ -1,6 +1,7 @@
 -- "The job table", "What the runner hands back when it declines" (1 to 8) and "From entries to dag". Read in this order.
 pub mod Test
 pub mod Number
+pub mod Decimal
 pub mod Site
 pub mod Syntax
 pub mod Notation

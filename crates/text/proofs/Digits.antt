@@ -9,7 +9,7 @@ use native.Mathlib.Omega.{arith}
 use lib.ListN.{length, set, length-append}
 use mir.Syntax.{w32}
 use mir.Val.{Fits}
-use Rattle.model.specs.Output.Line.{digits, decimal}
+use Rattle.job.specs.Decimal.{digits, decimal}
 use Rattle.job.proofs.Test.{lt-ltb, le-not-ltb}
 use Rattle.text.specs.Written.{Written}
 use Rattle.text.proofs.Writing.{none-written, one-written, then-written, written-as}

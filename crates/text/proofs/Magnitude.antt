@@ -13,7 +13,7 @@ use lib.Signed.{ltZ, nonNeg}
 use mir.Syntax.{w32, w64}
 use mir.Val.{SFits, Fits}
 use borrow.Author.Tests.{ltb-true}
-use Rattle.model.specs.Output.Line.{ascii, decimal, signedDecimal}
+use Rattle.job.specs.Decimal.{ascii, decimal, signedDecimal}
 use Rattle.text.specs.Written.{Written}
 use Rattle.text.proofs.Writing.{one-written, then-written, written-as}
 

@@ -8,7 +8,8 @@ use native.Mathlib.Omega.{arith}
 use lib.IntN.{ℤ}
 use lib.ListN.{length, take, getD}
 use lib.Seq.{take-suc}
-use Rattle.model.specs.Output.Line.{ascii, signedDecimal, lineOf}
+use Rattle.job.specs.Decimal.{ascii, signedDecimal}
+use Rattle.model.specs.Output.Line.{lineOf}
 use Rattle.text.specs.Written.{Written, spaced, allSpaced, lineFeed}
 use Rattle.text.proofs.Writing.{then-written, written-as}
 

@@ -4,7 +4,7 @@ use mathlib.Core.List.{List, [], _∷_, _++_}
 use Prim.Native.Nat.{ℕ, _+_, _≤_}
 use lib.ListN.{length}
 use lib.Seq.{sets}
-use Rattle.model.specs.Output.Line.{ascii}
+use Rattle.job.specs.Decimal.{ascii}
 
 -- `bytes`, at most so many of them, are written into the buffer `before` from `at` on; it is `after` then
 pub record Written (most : ℕ) (before : List ℕ) (at : ℕ) (bytes after : List ℕ) (next : ℕ) : Type 0 where

@@ -1,7 +1,7 @@
 // A number in base ten.
 ghost use Prim.Native.Nat.{_+_, _≤_};
 ghost use lib.ListN.{length};
-ghost use Rattle.model.specs.Output.Line.{digits, decimal};
+ghost use Rattle.job.specs.Decimal.{digits, decimal};
 ghost use Rattle.text.specs.Written.{Written};
 
 // So many digits at most: the front ones first, then the last.

@@ -3,7 +3,8 @@ use crate::word;
 ghost use Prim.Native.Nat.{_+_, _≤_};
 ghost use mathlib.Core.List.{[], _∷_};
 ghost use lib.ListN.{length, take};
-ghost use Rattle.model.specs.Output.Line.{textOf, lineOf, decimal, call, publish, refused, table, end, limit, short, long};
+ghost use Rattle.job.specs.Decimal.{decimal};
+ghost use Rattle.model.specs.Output.Line.{textOf, lineOf, call, publish, refused, table, end, limit, short, long};
 ghost use Rattle.text.specs.Written.{Written};
 
 // No line is longer: `few` of each contract.

@@ -4,7 +4,7 @@ ghost use mathlib.Core.Path.{_≡_};
 ghost use Prim.Native.Nat.{_+_, _≤_};
 ghost use lib.ListN.{length};
 ghost use lib.IntN.{natAbs};
-ghost use Rattle.model.specs.Output.Line.{signedDecimal};
+ghost use Rattle.job.specs.Decimal.{signedDecimal};
 ghost use Rattle.text.specs.Written.{Written};
 
 // (the least number's magnitude is no i32)

@@ -4,7 +4,7 @@ use crate::signed;
 ghost use Prim.Native.Nat.{_+_, _≤_};
 ghost use mathlib.Core.List.{map};
 ghost use lib.ListN.{length, take};
-ghost use Rattle.model.specs.Output.Line.{decimal, signedDecimal};
+ghost use Rattle.job.specs.Decimal.{decimal, signedDecimal};
 ghost use Rattle.text.specs.Written.{Written, spaced, allSpaced, lineFeed};
 
 pub fn put_word(buffer: &mut [u8], at: usize, word: &[u8]) -> usize

@@ -2,7 +2,8 @@
 use borrow.Author.Needs.{needs}
 use native.Mathlib.Omega.{arith}
 use mathlib.Core.List.{map}
-use Rattle.model.specs.Output.Line.{ascii, textOf}
+use Rattle.job.specs.Decimal.{ascii}
+use Rattle.model.specs.Output.Line.{textOf}
 use Rattle.text.proofs.Writing.{then-written, written-as}
 use Rattle.text.proofs.Parts.{two-spaced}
 use Rattle.text.proofs.line.put_call.Statement.{statement}

@@ -2,7 +2,7 @@
 use borrow.Author.Needs.{needs}
 use native.Mathlib.Omega.{arith}
 use mathlib.Core.List.{[]}
-use Rattle.model.specs.Output.Line.{decimal}
+use Rattle.job.specs.Decimal.{decimal}
 use Rattle.text.specs.Written.{allSpaced}
 use Rattle.text.proofs.Writing.{then-written, written-as}
 use Rattle.text.proofs.Parts.{one-spaced}

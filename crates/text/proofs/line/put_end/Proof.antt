@@ -1,6 +1,7 @@
 -- `line::put_end` meets its contract: its line is a word and a number. Assumes nothing.
 use borrow.Author.Needs.{needs}
-use Rattle.model.specs.Output.Line.{ascii, textOf}
+use Rattle.job.specs.Decimal.{ascii}
+use Rattle.model.specs.Output.Line.{textOf}
 use Rattle.text.proofs.line.put_end.Statement.{statement}
 use Rattle.text.proofs.line.put_end.Tie as tie
 

@@ -2,7 +2,8 @@
 use borrow.Author.Needs.{needs}
 use native.Mathlib.Omega.{arith}
 use mathlib.Core.Path.{refl}
-use Rattle.model.specs.Output.Line.{ascii, lineOf, textOf}
+use Rattle.job.specs.Decimal.{ascii}
+use Rattle.model.specs.Output.Line.{lineOf, textOf}
 use Rattle.text.proofs.Writing.{written-as}
 use Rattle.text.proofs.line.put_limit.Statement.{statement}
 use Rattle.text.proofs.line.put_limit.Tie as tie

@@ -3,7 +3,8 @@ use borrow.Author.Needs.{needs}
 use native.Mathlib.Omega.{arith}
 use mathlib.Core.Path.{refl}
 use mir.Facts.{toZ-ofZ}
-use Rattle.model.specs.Output.Line.{ascii, lineOf, textOf}
+use Rattle.job.specs.Decimal.{ascii}
+use Rattle.model.specs.Output.Line.{lineOf, textOf}
 use Rattle.text.specs.Written.{spaced, lineFeed}
 use Rattle.text.proofs.Writing.{then-written, written-as}
 use Rattle.text.proofs.line.put_publish.Statement.{statement}

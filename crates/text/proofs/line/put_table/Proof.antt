@@ -2,7 +2,8 @@
 use borrow.Author.Needs.{needs}
 use native.Mathlib.Omega.{arith}
 use mathlib.Core.List.{[]}
-use Rattle.model.specs.Output.Line.{ascii, textOf, decimal}
+use Rattle.job.specs.Decimal.{ascii, decimal}
+use Rattle.model.specs.Output.Line.{textOf}
 use Rattle.text.specs.Written.{allSpaced}
 use Rattle.text.proofs.Writing.{then-written, written-as}
 use Rattle.text.proofs.Parts.{two-spaced}

@@ -1,6 +1,6 @@
 -- `word::put_feed` meets its contract: the line feed is one byte. Assumes nothing.
 use borrow.Author.Needs.{needs}
-use Rattle.model.specs.Output.Line.{ascii}
+use Rattle.job.specs.Decimal.{ascii}
 use Rattle.text.specs.Written.{lineFeed}
 use Rattle.text.proofs.Writing.{one-written}
 use Rattle.text.proofs.word.put_feed.Statement.{statement}

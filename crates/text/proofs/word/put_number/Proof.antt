@@ -1,7 +1,7 @@
 -- `word::put_number` meets its contract: a space, and then the number. Assumes nothing.
 use borrow.Author.Needs.{needs}
 use lib.ListN.{length-set}
-use Rattle.model.specs.Output.Line.{ascii}
+use Rattle.job.specs.Decimal.{ascii}
 use Rattle.text.specs.Written.{spaced}
 use Rattle.text.proofs.Writing.{one-written, then-written, written-length}
 use Rattle.text.proofs.word.put_number.Statement.{statement}

@@ -2,7 +2,7 @@
 use borrow.Author.Needs.{needs}
 use lib.ListN.{length-set}
 use mir.Facts.{toZ-ofZ}
-use Rattle.model.specs.Output.Line.{ascii}
+use Rattle.job.specs.Decimal.{ascii}
 use Rattle.text.specs.Written.{spaced}
 use Rattle.text.proofs.Writing.{one-written, then-written, written-length}
 use Rattle.text.proofs.word.put_value.Statement.{statement}

@@ -9,7 +9,7 @@ use lib.ListN.{length, take, getD}
 use mir.Syntax.{w32}
 use mir.Val.{SFits}
 use mir.Facts.{toZ-ofZ}
-use Rattle.model.specs.Output.Line.{signedDecimal}
+use Rattle.job.specs.Decimal.{signedDecimal}
 use Rattle.text.specs.Written.{Written, allSpaced}
 use Rattle.text.proofs.Writing.{none-written, written-as}
 use Rattle.text.proofs.Parts.{values-written}
