@@ -5,7 +5,7 @@ use mathlib.Core.List.{List, [], _∷_, _++_, append-assoc, append-nil}
 use Prim.Native.Nat.{ℕ}
 use Rattle.job.specs.Decimal.{ascii}
 use Rattle.model.specs.Output.Line.{Line, lineOf, textOf, textOfAll}
-use Rattle.lines.specs.Word.{spaced, allSpaced, lineFeed}
+use Rattle.lines.specs.WordBytes.{spaced, allSpaced, lineFeed}
 
 -- the words of a line
 

@@ -11,7 +11,7 @@ use lib.Seq.{take-suc, take-all}
 use Rattle.job.specs.Decimal.{signedDecimal}
 use Rattle.decimal.specs.Written.{Written}
 use Rattle.decimal.proofs.Written.{one-written, then-written, written-as}
-use Rattle.lines.specs.Word.{spaced, allSpaced}
+use Rattle.lines.specs.WordBytes.{spaced, allSpaced}
 
 -- a loop's turn: one more byte of a word
 pub word-more : (word : List ℕ) (before middle : List ℕ) (at to i : ℕ) → i < length word → Written i before at (take i word) middle to

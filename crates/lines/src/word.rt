@@ -4,7 +4,7 @@ ghost use mathlib.Core.List.{map};
 ghost use lib.ListN.{length, take};
 ghost use Rattle.job.specs.Decimal.{decimal, signedDecimal};
 ghost use Rattle.decimal.specs.Written.{Written};
-ghost use Rattle.lines.specs.Word.{spaced, allSpaced, lineFeed};
+ghost use Rattle.lines.specs.WordBytes.{spaced, allSpaced, lineFeed};
 use decimal::signed;
 use decimal::unsigned;
 

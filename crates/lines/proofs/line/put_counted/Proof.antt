@@ -2,7 +2,7 @@
 use borrow.Author.Needs.{needs}
 use native.Mathlib.Omega.{arith}
 use mathlib.Core.List.{[]}
-use Rattle.lines.specs.Word.{allSpaced}
+use Rattle.lines.specs.WordBytes.{allSpaced}
 use Rattle.decimal.proofs.Written.{then-written, written-as}
 use Rattle.lines.proofs.LineParts.{one-spaced}
 use Rattle.lines.proofs.line.put_counted.Statement.{statement}

@@ -5,7 +5,7 @@ use mathlib.Core.Path.{refl}
 use mir.Facts.{toZ-ofZ}
 use Rattle.job.specs.Decimal.{ascii}
 use Rattle.model.specs.Output.Line.{lineOf, textOf}
-use Rattle.lines.specs.Word.{spaced, lineFeed}
+use Rattle.lines.specs.WordBytes.{spaced, lineFeed}
 use Rattle.decimal.proofs.Written.{then-written, written-as}
 use Rattle.lines.proofs.line.put_publish.Statement.{statement}
 use Rattle.lines.proofs.line.put_publish.Tie as tie

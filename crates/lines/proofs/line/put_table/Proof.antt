@@ -4,7 +4,7 @@ use native.Mathlib.Omega.{arith}
 use mathlib.Core.List.{[]}
 use Rattle.job.specs.Decimal.{ascii}
 use Rattle.model.specs.Output.Line.{textOf}
-use Rattle.lines.specs.Word.{allSpaced}
+use Rattle.lines.specs.WordBytes.{allSpaced}
 use Rattle.decimal.proofs.Written.{then-written, written-as}
 use Rattle.lines.proofs.LineParts.{two-spaced}
 use Rattle.lines.proofs.line.put_table.Statement.{statement}

@@ -1,7 +1,7 @@
 -- `word::put_feed` meets its contract: the line feed is one byte. Assumes nothing.
 use borrow.Author.Needs.{needs}
 use Rattle.job.specs.Decimal.{ascii}
-use Rattle.lines.specs.Word.{lineFeed}
+use Rattle.lines.specs.WordBytes.{lineFeed}
 use Rattle.decimal.proofs.Written.{one-written}
 use Rattle.lines.proofs.word.put_feed.Statement.{statement}
 use Rattle.lines.proofs.word.put_feed.Tie as tie

@@ -4,7 +4,7 @@ use mathlib.Core.Path.{_∙_}
 use lib.ListN.{length-set}
 use Rattle.job.specs.Decimal.{ascii}
 use Rattle.decimal.proofs.UnsignedDigits.{decimal-few}
-use Rattle.lines.specs.Word.{spaced}
+use Rattle.lines.specs.WordBytes.{spaced}
 use Rattle.decimal.proofs.Written.{one-written, then-written, written-length}
 use Rattle.lines.proofs.word.put_number.Statement.{statement}
 use Rattle.lines.proofs.word.put_number.Tie as tie

@@ -5,7 +5,7 @@ use lib.ListN.{length-set}
 use mir.Facts.{toZ-ofZ}
 use Rattle.job.specs.Decimal.{ascii}
 use Rattle.decimal.proofs.SignedDigits.{signed-few}
-use Rattle.lines.specs.Word.{spaced}
+use Rattle.lines.specs.WordBytes.{spaced}
 use Rattle.decimal.proofs.Written.{one-written, then-written, written-length}
 use Rattle.lines.proofs.word.put_value.Statement.{statement}
 use Rattle.lines.proofs.word.put_value.Tie as tie

@@ -10,7 +10,7 @@ use mir.Syntax.{w32}
 use mir.Val.{SFits}
 use mir.Facts.{toZ-ofZ}
 use Rattle.job.specs.Decimal.{signedDecimal}
-use Rattle.lines.specs.Word.{allSpaced}
+use Rattle.lines.specs.WordBytes.{allSpaced}
 use Rattle.decimal.proofs.Written.{none-written, written-as}
 use Rattle.lines.proofs.WordParts.{values-written}
 use Rattle.lines.proofs.word.put_value_list.Statement.{statement}
@@ -40,9 +40,10 @@ returns-2 c =
     let put1 = c .before .before .before in
     let start = put1 .before .before .before .before .before in
     let values = start .args .t3 in
+    let four : length values ≡ 4 = search needs in
     let none = none-written (start .args .buffer .now) (start .args .at) in
     let fits1 : SFits w32 (getD values 0 (pos 0)) = record { sfits = put1 .before .put-value-arg2 .given } in
-    let w1 = values-written values (pos 0) _ _ _ _ _ _ 0 (search needs) none (rw (toZ-ofZ fits1) at (put1 .put-value .ensures)) in
+    let w1 = values-written values (pos 0) _ _ _ _ _ _ 0 (omega arith) none (rw (toZ-ofZ fits1) at (put1 .put-value .ensures)) in
     let count : 1 ≡ start .args .count = sym (c .if2 .taken) in
     written-as w1 (ap (λ (n : ℕ). allSpaced (map signedDecimal (take n values))) count) (omega arith)
 
@@ -62,11 +63,12 @@ returns-3 c =
     let put1 = put2 .before .before .before .before .before .before in
     let start = put1 .before .before .before .before .before in
     let values = start .args .t3 in
+    let four : length values ≡ 4 = search needs in
     let none = none-written (start .args .buffer .now) (start .args .at) in
     let fits1 : SFits w32 (getD values 0 (pos 0)) = record { sfits = put1 .before .put-value-arg2 .given } in
-    let w1 = values-written values (pos 0) _ _ _ _ _ _ 0 (search needs) none (rw (toZ-ofZ fits1) at (put1 .put-value .ensures)) in
+    let w1 = values-written values (pos 0) _ _ _ _ _ _ 0 (omega arith) none (rw (toZ-ofZ fits1) at (put1 .put-value .ensures)) in
     let fits2 : SFits w32 (getD values 1 (pos 0)) = record { sfits = put2 .before .put-value-arg4 .given } in
-    let w2 = values-written values (pos 0) _ _ _ _ _ _ 1 (search needs) w1 (rw (toZ-ofZ fits2) at (put2 .put-value2 .ensures)) in
+    let w2 = values-written values (pos 0) _ _ _ _ _ _ 1 (omega arith) w1 (rw (toZ-ofZ fits2) at (put2 .put-value2 .ensures)) in
     let count : 2 ≡ start .args .count = sym (c .if3 .taken) in
     written-as w2 (ap (λ (n : ℕ). allSpaced (map signedDecimal (take n values))) count) (omega arith)
 
@@ -87,13 +89,14 @@ returns-4 c =
     let put1 = put2 .before .before .before .before .before .before in
     let start = put1 .before .before .before .before .before in
     let values = start .args .t3 in
+    let four : length values ≡ 4 = search needs in
     let none = none-written (start .args .buffer .now) (start .args .at) in
     let fits1 : SFits w32 (getD values 0 (pos 0)) = record { sfits = put1 .before .put-value-arg2 .given } in
-    let w1 = values-written values (pos 0) _ _ _ _ _ _ 0 (search needs) none (rw (toZ-ofZ fits1) at (put1 .put-value .ensures)) in
+    let w1 = values-written values (pos 0) _ _ _ _ _ _ 0 (omega arith) none (rw (toZ-ofZ fits1) at (put1 .put-value .ensures)) in
     let fits2 : SFits w32 (getD values 1 (pos 0)) = record { sfits = put2 .before .put-value-arg4 .given } in
-    let w2 = values-written values (pos 0) _ _ _ _ _ _ 1 (search needs) w1 (rw (toZ-ofZ fits2) at (put2 .put-value2 .ensures)) in
+    let w2 = values-written values (pos 0) _ _ _ _ _ _ 1 (omega arith) w1 (rw (toZ-ofZ fits2) at (put2 .put-value2 .ensures)) in
     let fits3 : SFits w32 (getD values 2 (pos 0)) = record { sfits = put3 .before .put-value-arg6 .given } in
-    let w3 = values-written values (pos 0) _ _ _ _ _ _ 2 (search needs) w2 (rw (toZ-ofZ fits3) at (put3 .put-value3 .ensures)) in
+    let w3 = values-written values (pos 0) _ _ _ _ _ _ 2 (omega arith) w2 (rw (toZ-ofZ fits3) at (put3 .put-value3 .ensures)) in
     let count : 3 ≡ start .args .count = sym (c .if4 .taken) in
     written-as w3 (ap (λ (n : ℕ). allSpaced (map signedDecimal (take n values))) count) (omega arith)
 
