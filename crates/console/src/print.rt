@@ -1,6 +1,6 @@
 // Bytes and numbers on standard output.
+use decimal::signed::put_signed;
 use libc::STDOUT_FILENO;
-use text::signed::put_signed;
 
 pub fn put(s: &[u8]) {
     io::write_all(STDOUT_FILENO, s);
@@ -18,13 +18,13 @@ fn put_first(digits: &[u8], n: usize) {
     }
 }
 
-fn put_digits(digits: &[u8; 80], n: usize) {
+fn put_digits(digits: &[u8; 11], n: usize) {
     put_first(digits, n);
 }
 
 pub fn value(v: i32) {
     put(b" ");
-    let mut digits = [0u8; 80];
+    let mut digits = [0u8; 11];
     let n = put_signed(&mut digits, 0, v);
     put_digits(&digits, n);
 }

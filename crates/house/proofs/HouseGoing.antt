@@ -19,11 +19,11 @@ use Rattle.model.specs.declared.record.Machine.{Machine}
 use Rattle.model.specs.declared.reply.Outcome.{Outcome}
 use Rattle.house.specs.LoadedDag.{Accepted}
 use Rattle.house.specs.TurnLeaves.{linesFrom}
-use Rattle.lines.specs.Ending.{lastLines}
+use Rattle.lines.specs.LastLines.{lastLines}
 use Rattle.lines.specs.Shown.{ShowsBytes}
 use Rattle.turns.specs.Turn.{isLast, isLimit, isOver, turnOutcome, nextAt, nextSteps}
-use Rattle.lines.proofs.Showing.{shows-none, shows-then, shows-as}
-use Rattle.lines.proofs.Telling.{text-append}
+use Rattle.lines.proofs.ShownBytes.{shows-none, shows-then, shows-as}
+use Rattle.lines.proofs.LineParts.{text-append}
 use Rattle.house.proofs.HouseRecords.{Reached, reached-start, reached-by-step, reached-by-answer}
 use Rattle.turns.proofs.TurnCases.{empty-or-ready, last-is, not-last, limit-is, not-limit, over-is, not-over, turn-empty, turn-ready}
 use Rattle.turns.proofs.TurnCases.{at-empty, at-ready, steps-empty, steps-ready}

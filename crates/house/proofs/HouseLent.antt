@@ -22,7 +22,7 @@ use Rattle.acts.proofs.CalleeSteps.{start-callees}
 use Rattle.house.specs.LoadedDag.{Accepted}
 use Rattle.house.specs.TurnLeaves.{TurnLeaves, goesOn}
 use Rattle.house.specs.declared.turn.TurnEnd.{TurnEnd}
-use Rattle.lines.specs.Ending.{lastLines}
+use Rattle.lines.specs.LastLines.{lastLines}
 use Rattle.lines.specs.Shown.{ShowsBytes}
 use Rattle.turns.specs.Turn.{isLast, isLimit, turnOutcome}
 use Rattle.turns.proofs.TurnCases.{last-empty, last-ready, limit-empty, limit-ready, at-empty, at-ready, steps-empty, steps-ready}

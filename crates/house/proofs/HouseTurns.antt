@@ -18,7 +18,7 @@ use Rattle.model.specs.Machine.Answer as Answer
 use Rattle.model.specs.declared.record.Machine.{Machine}
 use Rattle.model.specs.declared.reply.Outcome.{Outcome}
 use Rattle.job.proofs.Test.{eq-eqb, ne-eqb, lt-ltb, le-not-ltb, le-leb, lt-not-leb}
-use Rattle.lines.specs.Ending.{lastLines}
+use Rattle.lines.specs.LastLines.{lastLines}
 use Rattle.house.specs.TurnLeaves.{linesFrom}
 
 -- where a run stands with the records from `at` on not delivered

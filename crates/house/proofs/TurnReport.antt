@@ -17,7 +17,7 @@ use Rattle.model.specs.declared.reply.Report.{Report}
 use Rattle.acts.specs.Acting.{answerReport}
 use Rattle.acts.specs.SharedFrames.{Stepped}
 use Rattle.lines.specs.Shown.{ShowsBytes}
-use Rattle.lines.proofs.Showing.{shows-as}
+use Rattle.lines.proofs.ShownBytes.{shows-as}
 use Rattle.turns.specs.Turn.{hasLine, isOver}
 use Rattle.house.specs.TurnLeaves.{TurnLeaves}
 

@@ -2,6 +2,7 @@
 pub mod Bounds
 pub mod Test
 pub mod Number
+pub mod Decimal
 pub mod Site
 pub mod Syntax
 pub mod Notation

@@ -1,3 +1,6 @@
--- Laws of lines: what an output shows of them, and the line of a reply.
-pub mod Showing
-pub mod Telling
+-- Laws that the proofs of the code cite.
+pub mod WordParts
+pub mod LineParts
+pub mod ShownBytes
+pub mod ReportLines
+pub mod LastLines

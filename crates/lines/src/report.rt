@@ -2,15 +2,15 @@
 ghost use mathlib.Core.Path.{_≡_};
 ghost use Prim.Native.Nat.{_+_, _≤_, min};
 ghost use lib.ListN.{take};
-ghost use Rattle.model.specs.Output.Line.{publish, call, refused, textOf, textOfAll};
-ghost use Rattle.model.specs.Output.Orcrun.{reportedLines};
+ghost use Rattle.model.specs.Output.Line.{publish, call, refused, textOf};
 ghost use Rattle.model.specs.Machine.Reply.{numberOf};
+ghost use Rattle.lines.specs.Report.{replyText};
 ghost use Rattle.lines.specs.Shown.{ShowsBytes};
+use crate::line;
 use crate::shown::has_room;
 use crate::shown::show_front;
 use model::reply::Refusal;
 use model::reply::Reply;
-use text::line;
 
 pub fn number_of(refusal: Refusal) -> u8
     ensures { λ r. ⌜ r ≡ numberOf refusal ⌝ }
@@ -37,7 +37,8 @@ fn at_most_four(count: u8) -> usize
 
 fn show_publish(v: i32, output: &mut [u8], from: usize, total: usize) -> usize
     requires { ⌜ total + 80 ≤ 1000000000 ⌝ }
-    ensures { λ r. ⌜ ShowsBytes (now (output .entry)) from total (textOf (publish v)) (now (output .exit)) r × (r ≤ total + 80) ⌝ }
+    ensures { λ r. ⌜ ShowsBytes (now (output .entry)) from total (textOf (publish v)) (now (output .exit)) r ⌝ }
+    ensures { λ r. ⌜ r ≤ total + 80 ⌝ }
 {
     if has_room(output, from, total) {
         return from + line::put_publish(output, total - from, v);
@@ -57,7 +58,8 @@ fn show_call(
     total: usize,
 ) -> usize
     requires { ⌜ (total + 80 ≤ 1000000000) × (count ≤ 4) ⌝ }
-    ensures { λ r. ⌜ ShowsBytes (now (output .entry)) from total (textOf (call handle site (take count values))) (now (output .exit)) r × (r ≤ total + 80) ⌝ }
+    ensures { λ r. ⌜ ShowsBytes (now (output .entry)) from total (textOf (call handle site (take count values))) (now (output .exit)) r ⌝ }
+    ensures { λ r. ⌜ r ≤ total + 80 ⌝ }
 {
     if has_room(output, from, total) {
         return from + line::put_call(output, total - from, handle, site, values, count);
@@ -69,7 +71,8 @@ fn show_call(
 
 pub fn show_refused(number: u8, output: &mut [u8], from: usize, total: usize) -> usize
     requires { ⌜ total + 80 ≤ 1000000000 ⌝ }
-    ensures { λ r. ⌜ ShowsBytes (now (output .entry)) from total (textOf (refused number)) (now (output .exit)) r × (r ≤ total + 80) ⌝ }
+    ensures { λ r. ⌜ ShowsBytes (now (output .entry)) from total (textOf (refused number)) (now (output .exit)) r ⌝ }
+    ensures { λ r. ⌜ r ≤ total + 80 ⌝ }
 {
     if has_room(output, from, total) {
         return from + line::put_refused(output, total - from, number);
@@ -88,7 +91,7 @@ pub fn show_reply(
     total: usize,
 ) -> usize
     requires { ⌜ total + 80 ≤ 1000000000 ⌝ }
-    ensures { λ r. ⌜ ShowsBytes (now (output .entry)) from total (textOfAll (reportedLines reply values)) (now (output .exit)) r ⌝ }
+    ensures { λ r. ⌜ ShowsBytes (now (output .entry)) from total (replyText reply values) (now (output .exit)) r ⌝ }
     ensures { λ r. ⌜ r ≤ total + 80 ⌝ }
 {
     match reply {

@@ -4,7 +4,7 @@ ghost use mathlib.Core.Bool.{true};
 ghost use Prim.Native.Nat.{_+_, _-_, _≤_};
 ghost use lib.ListN.{length, take};
 ghost use Rattle.lines.specs.Shown.{ShowsBytes, withByte};
-use text::line::LONGEST;
+use crate::line::LONGEST;
 
 // Is there room for a whole line behind the first `total` bytes? Then it is put there at once, without a buffer.
 pub fn has_room(output: &[u8], from: usize, total: usize) -> bool

@@ -4,10 +4,10 @@ use Prim.Native.Nat.{ℕ}
 use Prim.Native.String.{String}
 use lib.IntN.{ℤ, pos}
 use Rattle.job.specs.Number.{bytes, unsigned}
+use Rattle.job.specs.Decimal.{ascii}
 use Rattle.job.specs.Syntax.{stop, call}
 use Rattle.job.specs.Encode.{encode}
 use Rattle.job.specs.Notation.{_∣_, _>[_]>_, _<[_]<_, v, #, let′, signal, add, goal, calling}
-use Rattle.model.specs.Output.Line.{ascii}
 
 -- an answer's 8 bytes
 abbrev pub answering : ℕ → ℤ → List ℕ

@@ -8,10 +8,10 @@ use crate::input::table_end;
 use house::house::run;
 use house::house::whole;
 use job::dag::WORDS;
+use lines::line;
 use lines::shown::show_front;
 use loader::table::Loaded;
 use loader::table::load;
-use text::line;
 
 // Runs the job of an input and stores what it prints from byte `from` on, as many bytes as the output has room for. Answers how many bytes
 // it prints in all. The dag's words are room that the caller lends, whatever they hold: those that the table's dag does not use stay.

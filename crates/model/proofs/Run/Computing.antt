@@ -18,8 +18,8 @@ unfolding Rattle.job.specs.Construct.own Rattle.job.specs.Construct.nodeCount 
     Rattle.job.specs.Words.nodeWords Rattle.job.specs.Words.paramOf Rattle.job.specs.Words.paramsFrom Rattle.job.specs.Words.nodeBy
     Rattle.job.specs.Words.decodedNode Rattle.job.specs.Words.nodesFrom Rattle.job.specs.Words.bodiesFrom Rattle.job.specs.Words.dagOf
     Rattle.job.specs.Words.rowsOfNodes Rattle.job.specs.Words.bodyWords Rattle.job.specs.Words.written
-    Rattle.model.specs.Output.Line.ascii Rattle.model.specs.Output.Line.digits Rattle.model.specs.Output.Line.decimal
-    Rattle.model.specs.Output.Line.signedDecimal Rattle.model.specs.Output.Line.lineOf
+    Rattle.job.specs.Decimal.ascii Rattle.job.specs.Decimal.digits Rattle.job.specs.Decimal.decimal
+    Rattle.job.specs.Decimal.signedDecimal Rattle.model.specs.Output.Line.lineOf
     Rattle.model.specs.Output.Line.textOf Rattle.model.specs.Output.Line.textOfAll
     Rattle.model.specs.Output.Orcrun.reportedLines Rattle.model.specs.Output.Orcrun.stepTurn
     Rattle.model.specs.Output.Orcrun.deliverTurn Rattle.model.specs.Output.Orcrun.lastTurn

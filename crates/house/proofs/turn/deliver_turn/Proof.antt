@@ -7,8 +7,8 @@ use native.Mathlib.Omega.{arith}
 use Rattle.job.specs.Test.{padded}
 use Rattle.turns.specs.Turn.{hasLine}
 use Rattle.acts.proofs.Vacancy.{free-token}
-use Rattle.lines.proofs.Showing.{shows-none, shows-as}
-use Rattle.lines.proofs.Telling.{tells-refusal}
+use Rattle.lines.proofs.ShownBytes.{shows-none, shows-as}
+use Rattle.lines.proofs.ReportLines.{tells-refusal}
 use Rattle.model.specs.declared.reply.Refusal.the-variants as refusals
 use Rattle.turns.proofs.TurnCases.{over-empty}
 use Rattle.turns.proofs.TurnGives.{turn-answers}

@@ -2,7 +2,7 @@
 use mathlib.Core.Path.{sym, _∙_}
 use borrow.Author.Needs.{needs}
 use native.Mathlib.Omega.{arith}
-use Rattle.lines.proofs.Showing.{shows-none, shows-as}
+use Rattle.lines.proofs.ShownBytes.{shows-none, shows-as}
 use Rattle.turns.proofs.TurnCases.{over-ready}
 use Rattle.turns.proofs.TurnGives.{turn-steps}
 use Rattle.house.proofs.TurnReport.{silent, turned-shows}

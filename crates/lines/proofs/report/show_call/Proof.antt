@@ -1,7 +1,7 @@
 -- `report::show_call` meets its contract: the line is put where it is shown, or the line in the buffer is shown. Assumes nothing.
 use borrow.Author.Needs.{needs}
 use native.Mathlib.Omega.{arith}
-use Rattle.lines.proofs.Showing.{shows-put, shows-line, front-few, full, blank-line}
+use Rattle.lines.proofs.ShownBytes.{shows-put, shows-line, front-few, full, blank-line}
 use Rattle.lines.proofs.report.show_call.Statement.{statement}
 use Rattle.lines.proofs.report.show_call.Tie as tie
 

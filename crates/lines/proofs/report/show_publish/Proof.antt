@@ -4,7 +4,7 @@ use mir.Syntax.{w32}
 use mir.Val.{SFits}
 use borrow.Author.Needs.{needs}
 use native.Mathlib.Omega.{arith}
-use Rattle.lines.proofs.Showing.{shows-put, shows-line, front-few, full, blank-line}
+use Rattle.lines.proofs.ShownBytes.{shows-put, shows-line, front-few, full, blank-line}
 use Rattle.lines.proofs.report.show_publish.Statement.{statement}
 use Rattle.lines.proofs.report.show_publish.Tie as tie
 

@@ -1,12 +1,11 @@
 -- `report::show_reply` meets its contract: case by case. Assumes nothing.
-use mathlib.Core.List.{[]}
 use mir.Facts.{toZ-ofZ}
 use mir.Syntax.{w32}
 use mir.Val.{SFits}
 use borrow.Author.Needs.{needs}
 use native.Mathlib.Omega.{arith}
-use Rattle.lines.proofs.Showing.{shows-as, shows-none}
-use Rattle.lines.proofs.Telling.{tells-done, tells-waits, tells-publish, tells-call, tells-refusal}
+use Rattle.lines.proofs.ShownBytes.{shows-as, shows-none}
+use Rattle.lines.proofs.ReportLines.{tells-done, tells-waits, tells-publish, tells-call, tells-refusal}
 use Rattle.lines.proofs.report.show_reply.Statement.{statement}
 use Rattle.lines.proofs.report.show_reply.Tie as tie
 
@@ -61,7 +60,9 @@ same-length-2 c = search needs
 returns-4 : tie.Need-returns-4
 returns-4 c =
     let line = c .before .before .show-call .ensures in
-    (shows-as (tells-call _ _ _ _ _ _ (search needs) (c .before .before .before .before .before .before .reply2 .given .1) (c .before .before .before .before .at-most-four .ensures)) (line .0), line .1)
+    let counted = c .before .before .before .before in
+    let called = counted .before .before .reply2 .given .1 in
+    (shows-as (tells-call _ _ _ _ _ _ (search needs) called (counted .at-most-four .ensures)) (line .0), line .1)
 
 same-length-3 : tie.Need-same-length-3
 same-length-3 c = search needs
@@ -69,7 +70,9 @@ same-length-3 c = search needs
 returns-5 : tie.Need-returns-5
 returns-5 c =
     let line = c .before .before .show-refused .ensures in
-    (shows-as (tells-refusal _ _ _ _ (c .before .before .before .before .before .before .reply3 .given .1) (c .before .before .before .before .number-of .ensures)) (line .0), line .1)
+    let numbered = c .before .before .before .before in
+    let refused = numbered .before .before .reply3 .given .1 in
+    (shows-as (tells-refusal _ _ _ _ refused (numbered .number-of .ensures)) (line .0), line .1)
 
 pub show-reply-spec : {M : Type 1} → statement M
 show-reply-spec =

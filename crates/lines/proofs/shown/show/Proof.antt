@@ -4,7 +4,7 @@ use Prim.Native.Nat.{_-_, _≤_}
 use lib.ListN.{length, take}
 use borrow.Author.Needs.{needs}
 use Rattle.lines.specs.Shown.{showing}
-use Rattle.lines.proofs.Showing.{showing-length, line-more, line-shown}
+use Rattle.lines.proofs.ShownBytes.{showing-length, line-more, line-shown}
 use Rattle.lines.proofs.shown.show.Statement.{statement}
 use Rattle.lines.proofs.shown.show.Tie as tie
 

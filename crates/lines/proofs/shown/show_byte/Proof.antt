@@ -1,6 +1,6 @@
 -- `shown::show_byte` meets its contract: the byte is before the part that is shown, in it, or behind it. Assumes nothing.
 use borrow.Author.Needs.{needs}
-use Rattle.lines.proofs.Showing.{placed-before, placed-inside, placed-behind}
+use Rattle.lines.proofs.ShownBytes.{placed-before, placed-inside, placed-behind}
 use Rattle.lines.proofs.shown.show_byte.Statement.{statement}
 use Rattle.lines.proofs.shown.show_byte.Tie as tie
 

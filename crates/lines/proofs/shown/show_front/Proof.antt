@@ -1,6 +1,6 @@
 -- `shown::show_front` meets its contract. Assumes nothing.
 use borrow.Author.Needs.{needs}
-use Rattle.lines.proofs.Showing.{shows-as, front-part}
+use Rattle.lines.proofs.ShownBytes.{shows-as, front-part}
 use Rattle.lines.proofs.shown.show_front.Statement.{statement}
 use Rattle.lines.proofs.shown.show_front.Tie as tie
 

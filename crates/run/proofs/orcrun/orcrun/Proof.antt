@@ -2,8 +2,8 @@
 use borrow.Author.Needs.{needs}
 use mathlib.Core.Path.{sym, _∙_}
 use Rattle.model.specs.Output.Line.{long}
-use Rattle.lines.proofs.Showing.{shown-all, shows-as, shows-line, front-few, full, blank-line}
-use Rattle.lines.proofs.Telling.{text-one}
+use Rattle.lines.proofs.ShownBytes.{shown-all, shows-as, shows-line, front-few, full, blank-line}
+use Rattle.lines.proofs.LineParts.{text-one}
 use Rattle.run.proofs.OrcrunLaws.{inside, entry-small, run-accepted, whole-long, whole-table, whole-run, dag-long, dag-loaded}
 use Rattle.run.proofs.orcrun.orcrun.Statement.{statement}
 use Rattle.run.proofs.orcrun.orcrun.Tie as tie

@@ -1,0 +1,4 @@
+-- Laws that the proofs of the code cite.
+pub mod Written
+pub mod UnsignedDigits
+pub mod SignedDigits

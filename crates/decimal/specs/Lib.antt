@@ -1,0 +1,2 @@
+-- What writing bytes into a buffer means.
+pub mod Written

@@ -1,2 +1,0 @@
--- What writing bytes into the buffer means.
-pub mod Written
