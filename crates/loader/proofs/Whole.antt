@@ -13,7 +13,7 @@ use Rattle.job.specs.Construct.{nodeCount, root, construct}
 use Rattle.job.specs.Words.{written}
 use Rattle.job.specs.Read.{Got, Read, got, readExp, readEntries}
 use Rattle.reader.specs.Checked.{Parts, entriesFrom}
-use Rattle.reader.specs.DefinitionList.{readDefinitionList, definitionListNodes, definitionSizes, Leads}
+use Rattle.reader.specs.DefinitionList.{readDefinitionList, definitionListNodes, definitionSizes}
 use Rattle.reader.proofs.NodeCount.{construct-length}
 use Rattle.reader.proofs.ProgramParts.{AllDefined, all-defined, Parted, parted}
 use Rattle.reader.proofs.AtMost.{nodes-at-most}
@@ -21,7 +21,7 @@ use Rattle.compiler.specs.Compiled.{reading}
 use Rattle.compiler.specs.Body.{Sunk, sunk, BodyAccepted, compiledWithSink, storedBody}
 use Rattle.compiler.specs.declared.expression.Compiled.{Compiled}
 use Rattle.compiler.proofs.Reread.{reread}
-use Rattle.loader.specs.Stored.{DefinitionsRead, definitions, Accepts, accepts, placeBehind, storedDefinitions, storedProgram}
+use Rattle.loader.specs.Stored.{Leads, DefinitionsRead, definitions, Accepts, accepts, placeBehind, storedDefinitions, storedProgram}
 use Rattle.loader.specs.declared.program.Place.{Place}
 use Rattle.loader.proofs.Before.{all-words}
 

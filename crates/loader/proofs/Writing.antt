@@ -16,7 +16,7 @@ use Rattle.job.specs.Read.{Got, Read, got, _>>=_, gives, need, entryAt, readExp
 use Rattle.job.proofs.Test.{leb-le}
 use Rattle.job.proofs.Position.{operandAt, entries-at, bind-got}
 use Rattle.reader.specs.Checked.{Parts, entriesFrom}
-use Rattle.reader.specs.DefinitionList.{readDefinitionList, definitionNodes, definitionListNodes, definitionSizes, Leads}
+use Rattle.reader.specs.DefinitionList.{readDefinitionList, definitionNodes, definitionListNodes, definitionSizes}
 use Rattle.reader.proofs.DefinitionLoop.{Defined, defined}
 use Rattle.reader.proofs.ProgramParts.{same-got}
 use Rattle.compiler.specs.Compiled.{reading}
@@ -24,7 +24,7 @@ use Rattle.compiler.specs.Body.{Sunk, sunk, BodyAccepted, compiledWithSink, sto
 use Rattle.compiler.specs.declared.expression.Compiled.{Compiled}
 use Rattle.compiler.proofs.Heads.{test-holds}
 use Rattle.compiler.proofs.Reread.{reread}
-use Rattle.loader.specs.Stored.{DefinitionsRead, definitions, nodesBefore, bodiesBefore, placeBehind, wordsBefore, storedDefinitions}
+use Rattle.loader.specs.Stored.{Leads, DefinitionsRead, definitions, nodesBefore, bodiesBefore, placeBehind, wordsBefore, storedDefinitions}
 use Rattle.loader.specs.declared.program.Place.{Place}
 use Rattle.loader.proofs.Before.{count-append, one-more}
 

@@ -4,16 +4,20 @@ use mathlib.Core.Path.{_≡_}
 use mathlib.Core.Bool.{false}
 use mathlib.Core.List.{List, [], _∷_, _++_}
 use Prim.Native.Nat.{ℕ, _+_, _<_}
-use lib.ListN.{length}
+use lib.ListN.{length, take}
 use lib.Seq.{sets}
 use Rattle.job.specs.Syntax.{Definition, Program}
 use Rattle.job.specs.Node.{Node, Body}
 use Rattle.job.specs.Construct.{nodeCount, root, nodesOf, construct}
 use Rattle.job.specs.Words.{headWords, rowsOfNodes, bodyWords, written}
 use Rattle.job.specs.Read.{Got, Read, got, refused}
-use Rattle.reader.specs.DefinitionList.{definitionNodes, definitionListNodes, definitionSizes, Leads}
+use Rattle.reader.specs.DefinitionList.{definitionNodes, definitionListNodes, definitionSizes}
 use Rattle.compiler.specs.Body.{sinkOf}
 use Rattle.loader.specs.declared.program.Place.{Place}
+
+-- these words stand at the front of the array
+abbrev pub Leads : (words array : List ℕ) → Type 0
+Leads words array = take (length words) array ≡ words
 
 -- what is asked of the definitions: they were read, their nodes leave a place of the dag's 1,022, and their sizes are known
 pub data DefinitionsRead : Read (List Definition) → (sizes : List ℕ) → Type 0 where

@@ -17,3 +17,4 @@ pub mod NodeCount
 pub mod ProgramParts
 pub mod Programs
 pub mod AtMost
+pub mod TableLaws

@@ -10,7 +10,7 @@ use Rattle.job.specs.Entry.{Entry}
 use Rattle.job.specs.Read.{Got, Read, got, refused, _>>=_, gives, readExp, readDefinition, readProgram, leftovers, definitionsHold, readEntries}
 use Rattle.job.proofs.Position.{bind-got}
 use Rattle.reader.specs.Checked.{entriesFrom}
-use Rattle.reader.specs.DefinitionList.{readDefinitionList, definitionListNodes}
+use Rattle.reader.specs.DefinitionList.{readDefinitionList, definitionListNodes, andThen, definitionsFound}
 use Rattle.reader.proofs.DefinitionLoop.{Defined, defined}
 
 -- a goal behind its definitions; a definition in front of a program, and in front of others
@@ -75,6 +75,18 @@ all-defined ks os (suc n) e l q g r =
     let ds = bind-got (readDefinitionList n (d .0 .next) (d .0 .rest)) _ g (d .2) in
     let fs = all-defined ks os n (d .0 .next) (d .0 .rest) (f .rest) (ds .0) (ds .1) in
     same-got (AllDefined ks os (suc n) e) _ g (ds .2) (one-more ks os n e (d .0) (ds .0) f fs)
+
+-- where all are read, all are found
+pub all-found : (n e : ℕ) (es : List Entry) (g : Got (List Definition)) → readDefinitionList n e es ≡ got g → definitionsFound n e es ≡ g .value
+unfolding readDefinitionList definitionsFound andThen
+all-found zero e es g r = cc
+all-found (suc n) e es g r =
+    let d = bind-got (readDefinition e es) _ g r in
+    let ds = bind-got (readDefinitionList n (d .0 .next) (d .0 .rest)) _ g (d .2) in
+    let z : g .value ≡ d .0 .value ∷ ds .0 .value = cc in
+    ap (λ r. andThen r (λ d. definitionsFound n (d .next) (d .rest))) (d .1)
+    ∙ ap (λ ds. d .0 .value ∷ ds) (all-found n (d .0 .next) (d .0 .rest) (ds .0) (ds .1))
+    ∙ sym z
 
 -- the tests behind a program that was read
 unfoldable pub tests : List Entry → Got Program → Read Program

@@ -4,18 +4,20 @@ use mathlib.Core.List.{List, []}
 use Prim.Native.Nat.{ℕ, _+_, _<_, _≤_}
 use native.Mathlib.Omega.{arith}
 use lib.ListN.{length, take, length-map}
+use lib.Seq.{sets, length-sets}
 use Rattle.job.specs.Syntax.{Definition, Program, formalsOf, levels}
 use Rattle.job.specs.Entry.{Entry, entries}
-use Rattle.job.specs.Read.{Got, Read, got, refused, _>>=_, gives, need, readExp, leftovers, definitionsHold, readEntries}
+use Rattle.job.specs.Read.{Got, Read, got, refused, _>>=_, need, readExp, leftovers, definitionsHold, readEntries}
 use Rattle.job.specs.Construct.{nodeCount, construct}
+use Rattle.job.proofs.Stores.{take-sets}
 use Rattle.job.proofs.Position.{entries-end, entries-at, exp-from}
 use Rattle.reader.specs.Checked.{entriesFrom, checked, checkedTest, checkedExp, checkedProgram, afterwards}
-use Rattle.reader.specs.DefinitionList.{readDefinitionList, definitionListNodes, formalsRead, sizesRead, programSizes, Leads, DefinitionsHold}
+use Rattle.reader.specs.DefinitionList.{readDefinitionList, definitionListNodes, definitionsFound, DefinitionsHold}
 use Rattle.reader.specs.declared.checked.Checked.{Checked}
 use Rattle.reader.specs.declared.checked.Checked.the-variants.{Next, Refused}
 use Rattle.reader.proofs.Onward.{checked-refused, checked-next}
 use Rattle.reader.proofs.Few.{next-few}
-use Rattle.reader.proofs.ProgramParts.{whole, goalRead, AllDefined, all-defined, tests, entries-opened, parted}
+use Rattle.reader.proofs.ProgramParts.{whole, goalRead, AllDefined, all-defined, all-found, tests, entries-opened}
 use Rattle.reader.proofs.NodeCount.{construct-length}
 
 module _ (ks os : List ℕ) (at : ℕ) where
@@ -46,7 +48,7 @@ tests-all es p =
     (tests-answer nodes calls (got p)
     ∙ ap (λ m. afterwards (checkedTest calls) (Next (p .next) m)) (construct-length (p .value)))
 
-module _ (ks os : List ℕ) (n : ℕ) (d : Checked) (fs ss : List ℕ) (found : DefinitionsHold (readDefinitionList n 0 (entries ks os)) d fs ss) where
+module _ (ks os : List ℕ) (n : ℕ) (d : Checked) (fs₀ fs ss₀ ss : List ℕ) (found : DefinitionsHold n (entries ks os) d fs₀ fs ss₀ ss) where
   -- the code's answer
   abbrev Answers : Checked → Type 0
   Answers r = r ≡ checkedProgram (readEntries n (entries ks os))
@@ -57,17 +59,8 @@ module _ (ks os : List ℕ) (n : ℕ) (d : Checked) (fs ss : List ℕ) (found : 
       let r = checked-refused definitionListNodes (readDefinitionList n 0 (entries ks os)) k e (sym (found .answers) ∙ h) in
       sym (ap checkedProgram (entries-opened n (entries ks os) ∙ ap (λ r. r >>= goalRead >>= tests (entries ks os)) r))
 
-  -- the sizes of the definitions are those of the program's
-  pub program-sizes : Leads (programSizes (readEntries n (entries ks os))) ss
-  unfolding programSizes sizesRead
-  program-sizes = go (readEntries n (entries ks os)) refl
-    where
-      go : (r : Read Program) → readEntries n (entries ks os) ≡ r → Leads (programSizes r) ss
-      go (refused k e) r = refl
-      go (got p) r =
-          let t = parted n (entries ks os) p r in
-          let same = ap (λ p. programSizes (gives p 0 [])) (t .value) ∙ ap sizesRead (sym (t .read-definitions)) in
-          rw same (found .counted)
+  pub formals-long : length fs₀ ≡ 32 → length fs ≡ 32
+  formals-long l = ap length (found .counts) ∙ length-sets fs₀ 0 (formalsOf (definitionsFound n 0 (entries ks os))) ∙ l
 
   module _ (at before : ℕ) (h : d ≡ Next at before) where
     first : (a : Got (List Definition)) × (readDefinitionList n 0 (entries ks os) ≡ got a) × (a .next ≡ at) × (definitionListNodes (a .value) ≡ before)
@@ -101,11 +94,13 @@ module _ (ks os : List ℕ) (n : ℕ) (d : Checked) (fs ss : List ℕ) (found : 
         ∙ ap₂ (λ i l. readExp 24 [] i l >>= whole (first .0 .value) >>= tests (entries ks os)) (first .2)
         (facts .rest ∙ ap (λ i. entriesFrom ks os i) (first .2))
 
-    counts : take n fs ≡ formalsOf (first .0 .value)
-    unfolding formalsRead
-    counts =
-        let many = ap (λ r. length (formalsRead r)) (first .1) ∙ length-map (first .0 .value) (λ d. d .formals) ∙ facts .many in
-        ap (λ i. take i fs) (sym many) ∙ found .counts ∙ ap formalsRead (first .1)
+    counts : n ≤ 32 → length fs₀ ≡ 32 → take n fs ≡ formalsOf (first .0 .value)
+    counts l m =
+        let ws = formalsOf (first .0 .value) in
+        let many : length ws ≡ n = length-map (first .0 .value) (λ d. d .formals) ∙ facts .many in
+        let stored : fs ≡ sets fs₀ 0 ws =
+        found .counts ∙ ap (λ ds. sets fs₀ 0 (formalsOf ds)) (all-found n 0 (entries ks os) (first .0) (first .1)) in
+        ap₂ take (sym many) stored ∙ take-sets fs₀ ws (omega arith)
 
     module _ (q : Checked) (eq : q ≡ checkedExp (readExp 24 (levels 0) at (entriesFrom ks os at))) where
       pub goal-refused : (k e : ℕ) → q ≡ Refused k e → Answers (Refused k e)
@@ -114,12 +109,12 @@ module _ (ks os : List ℕ) (n : ℕ) (d : Checked) (fs ss : List ℕ) (found : 
           let r = checked-refused nodeCount (readExp 24 (levels 0) at (entriesFrom ks os at)) k e (sym eq ∙ w) in
           sym (ap checkedProgram (goal ∙ ap (λ r. r >>= whole (first .0 .value) >>= tests (entries ks os)) r))
 
-      pub program-done : (end nodes : ℕ) (u v x r : Checked) → q ≡ Next end nodes
+      pub program-done : n ≤ 32 → length fs₀ ≡ 32 → (end nodes : ℕ) (u v x r : Checked) → q ≡ Next end nodes
           → u ≡ checkedTest (leftovers end (entriesFrom ks os end))
           → v ≡ checkedTest (definitionsHold (take n fs) 0 (entries ks os)) → x ≡ afterwards v (Next end (before + nodes + 1))
           → r ≡ afterwards u x → Answers r
       unfolding whole _>>=_
-      program-done end nodes u v x r w eu ev ex er =
+      program-done l m end nodes u v x r w eu ev ex er =
           let ds = first .0 .value in
           let a = checked-next nodeCount (readExp 24 (levels 0) at (entriesFrom ks os at)) end nodes (sym eq ∙ w) in
           let f = exp-from (entries ks os) 24 (levels 0) at (entriesFrom ks os at) (a .0) refl (a .1) in
@@ -132,4 +127,4 @@ module _ (ks os : List ℕ) (n : ℕ) (d : Checked) (fs ss : List ℕ) (found : 
           ∙ tests-all (entries ks os) (record { value = record { definitions = ds; goal = a .0 .value }; next = a .0 .next; rest = a .0 .rest })
           ∙ ap₂ afterwards
           (ap₂ (λ i l. checkedTest (leftovers i l)) (a .2) (f .rest ∙ ap (λ i. entriesFrom ks os i) (a .2)))
-          (ap₂ afterwards (ap (λ fs. checkedTest (definitionsHold fs 0 (entries ks os))) (sym counts)) (ap₂ (λ i k. Next i k) (a .2) sum)))
+          (ap₂ afterwards (ap (λ fs. checkedTest (definitionsHold fs 0 (entries ks os))) (sym (counts l m))) (ap₂ (λ i k. Next i k) (a .2) sum)))

@@ -1,11 +1,11 @@
--- The definitions of a program, as one reading, and what the code keeps of them. Assumes nothing: these are definitions.
+-- The definitions of a program, as one reading, and those of them that come before the first refusal. Assumes nothing: these are definitions.
 use mathlib.Core.Path.{_≡_}
 use mathlib.Core.List.{List, [], _∷_, map}
 use Prim.Native.Nat.{ℕ, zero, suc, _+_}
-use lib.ListN.{length, take}
-use Rattle.job.specs.Syntax.{Definition, Program, formalsOf}
+use lib.Seq.{sets}
+use Rattle.job.specs.Syntax.{Definition, formalsOf}
 use Rattle.job.specs.Entry.{Entry}
-use Rattle.job.specs.Read.{Read, got, refused, _>>=_, gives, readDefinition}
+use Rattle.job.specs.Read.{Got, Read, got, refused, _>>=_, gives, readDefinition}
 use Rattle.job.specs.Construct.{nodeCount}
 use Rattle.reader.specs.Checked.{checked}
 use Rattle.reader.specs.declared.checked.Checked.{Checked}
@@ -36,27 +36,17 @@ checkedDefinitionList = checked definitionListNodes
 abbrev pub definitionSizes : List Definition → List ℕ
 definitionSizes ds = map definitionNodes ds
 
--- the counts of formals and the sizes, where the definitions were read
-unfoldable pub formalsRead : Read (List Definition) → List ℕ
-formalsRead (got g) = formalsOf (g .value)
-formalsRead (refused n e) = []
+-- of so many definitions from entry e on, those that are read before the first refusal
+unfoldable pub andThen : Read Definition → (Got Definition → List Definition) → List Definition
+andThen (got d) others = d .value ∷ others d
+andThen (refused n e) others = []
 
-unfoldable pub sizesRead : Read (List Definition) → List ℕ
-sizesRead (got g) = definitionSizes (g .value)
-sizesRead (refused n e) = []
+unfoldable pub definitionsFound : ℕ → ℕ → List Entry → List Definition
+definitionsFound zero e es = []
+definitionsFound (suc n) e es = andThen (readDefinition e es) (λ d. definitionsFound n (d .next) (d .rest))
 
--- the sizes of the definitions of a program that was read
-unfoldable pub programSizes : Read Program → List ℕ
-programSizes (got p) = definitionSizes (p .value .definitions)
-programSizes (refused n e) = []
-
--- these words stand at the front of the array
-abbrev pub Leads : (words array : List ℕ) → Type 0
-Leads words array = take (length words) array ≡ words
-
--- the answer, and the counts of formals and the sizes at the front of their arrays
-pub record DefinitionsHold (r : Read (List Definition)) (a : Checked) (formals sizes : List ℕ) : Type 0 where
-  pub answers : a ≡ checkedDefinitionList r
-  pub counts : Leads (formalsRead r) formals
-  pub counted : Leads (sizesRead r) sizes
-  pub long : length formals ≡ 32
+-- the answer for so many definitions, and the counts of formals and the sizes of those that are found, stored at the front of their arrays
+pub record DefinitionsHold (count : ℕ) (es : List Entry) (a : Checked) (formals₀ formals sizes₀ sizes : List ℕ) : Type 0 where
+  pub answers : a ≡ checkedDefinitionList (readDefinitionList count 0 es)
+  pub counts : formals ≡ sets formals₀ 0 (formalsOf (definitionsFound count 0 es))
+  pub counted : sizes ≡ sets sizes₀ 0 (definitionSizes (definitionsFound count 0 es))

@@ -3,3 +3,4 @@ pub mod Checked
 pub mod Fault
 pub mod Join
 pub mod DefinitionList
+pub mod Table

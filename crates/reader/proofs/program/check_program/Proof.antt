@@ -1,7 +1,7 @@
 -- `program::check_program` meets its contract: there is a law for each way out, and the nodes are few enough for their sum to fit. Assumes nothing.
 use borrow.Author.Needs.{needs, fits-under}
 use mir.Syntax.{w64}
-use Rattle.reader.proofs.Programs.{program-refused, program-sizes, goal-refused, all-few, sum-few, program-done}
+use Rattle.reader.proofs.Programs.{program-refused, formals-long, goal-refused, all-few, sum-few, program-done}
 use Rattle.reader.proofs.program.check_program.Statement.{statement}
 use Rattle.reader.proofs.program.check_program.Tie as tie
 
@@ -27,7 +27,7 @@ check-end-requires : tie.Need-check-end-requires
 check-end-requires c κs = search needs
 
 check-calls-requires : tie.Need-check-calls-requires
-check-calls-requires c κs = search needs
+check-calls-requires c κs = (search needs, (search formals-long, search needs))
 
 add-t24 : tie.Need-add-t24
 add-t24 c = fits-under w64 _ 4096 (search sum-few) tt
@@ -42,13 +42,13 @@ after-requires-2 : tie.Need-after-requires-2
 after-requires-2 c κs = search needs
 
 returns : tie.Need-returns
-returns c = (search program-refused, search program-sizes)
+returns c = (search program-refused, search needs)
 
 returns-2 : tie.Need-returns-2
-returns-2 c = (search goal-refused, search program-sizes)
+returns-2 c = (search goal-refused, search needs)
 
 returns-3 : tie.Need-returns-3
-returns-3 c = (search program-done, search program-sizes)
+returns-3 c = (search (program-done, needs), search needs)
 
 pub check-program-spec : {M : Type 1} → statement M
 check-program-spec =
