@@ -17,18 +17,13 @@ use Rattle.job.proofs.Position.{operandAt, entries-at, entries-end, bind-got, r
 use Rattle.reader.specs.Join.{either, joinOf}
 use Rattle.compiler.proofs.Reread.{reread}
 
--- at most eight variables are in scope in either side
-pub record Few (j : Join) (scope : List ℕ) : Type 0 where
-  pub left : length (scopeLeft j scope) ≤ 8
-  pub right : length (scopeRight j scope) ≤ 8
-
 module _ (side : List ℕ → ℕ → List Entry → Read Exp) (scope : List ℕ) (o e : ℕ) (l : List Entry) (g : Got Exp) where
   -- by kind byte and operand; e is the next entry, l what stands from there on
   pub data Head : ℕ → Type 0 where
     halts : gives stop e l ≡ got g → Head 0
     names : readCall (site (low o)) (high o) scope e l ≡ got g → Head 1
     calls : readCall (call (low o)) (high o) scope e l ≡ got g → Head 2
-    joins : {k : ℕ} → 3 ≤ k → Few (joinOf k (length scope)) scope → readJoin side (joinOf k (length scope)) scope e l ≡ got g → Head k
+    joins : {k : ℕ} → 3 ≤ k → (4 ≤ k → length scope < 8) → readJoin side (joinOf k (length scope)) scope e l ≡ got g → Head k
 
 pub test-holds : (b : Bool) (n e : ℕ) (x : Got (Unit {0})) → need b n e ≡ got x → b ≡ true
 unfolding need
@@ -59,27 +54,26 @@ module _ (left : ℕ) (scope : List ℕ) (o e : ℕ) (l : List Entry) (g : Got E
   unfolding readExp entryAt _>>=_ shape
   tested k r = r
 
-  module _ (few : length scope ≤ 8) where
-    by-shape : (k : ℕ) → (not (isBinder (kindOf k)) or ltb (length scope) 8) ≡ true → shape (readExp left) (kindOf k) o scope e l ≡ got g
-        → Head (readExp left) scope o (suc e) l g k
-    unfolding kindOf isBinder shape _or_ joinOf either scopeLeft scopeRight
-    by-shape zero b r = halts r
-    by-shape (suc zero) b r = names r
-    by-shape (suc (suc zero)) b r = calls r
-    by-shape (suc (suc (suc zero))) b r = joins {k = 3} (omega arith) (record { left = few; right = few }) r
-    by-shape (suc (suc (suc (suc zero)))) b r = joins {k = 4} (omega arith) (record { left = few; right = ltb-lt (length scope) 8 b }) r
-    by-shape (suc (suc (suc (suc (suc zero))))) b r = joins {k = 5} (omega arith) (record { left = ltb-lt (length scope) 8 b; right = few }) r
-    by-shape (suc (suc (suc (suc (suc (suc zero)))))) b r = refused-got r
-    by-shape (suc (suc (suc (suc (suc (suc (suc zero))))))) b r = refused-got r
-    by-shape (suc (suc (suc (suc (suc (suc (suc (suc zero)))))))) b r = refused-got r
-    by-shape (suc (suc (suc (suc (suc (suc (suc (suc (suc k))))))))) b r = refused-got r
+  by-shape : (k : ℕ) → (not (isBinder (kindOf k)) or ltb (length scope) 8) ≡ true → shape (readExp left) (kindOf k) o scope e l ≡ got g
+      → Head (readExp left) scope o (suc e) l g k
+  unfolding kindOf isBinder shape _or_ joinOf either
+  by-shape zero b r = halts r
+  by-shape (suc zero) b r = names r
+  by-shape (suc (suc zero)) b r = calls r
+  by-shape (suc (suc (suc zero))) b r = joins {k = 3} (omega arith) (λ h. absurd (omega arith)) r
+  by-shape (suc (suc (suc (suc zero)))) b r = joins {k = 4} (omega arith) (λ h. ltb-lt (length scope) 8 b) r
+  by-shape (suc (suc (suc (suc (suc zero))))) b r = joins {k = 5} (omega arith) (λ h. ltb-lt (length scope) 8 b) r
+  by-shape (suc (suc (suc (suc (suc (suc zero)))))) b r = refused-got r
+  by-shape (suc (suc (suc (suc (suc (suc (suc zero))))))) b r = refused-got r
+  by-shape (suc (suc (suc (suc (suc (suc (suc (suc zero)))))))) b r = refused-got r
+  by-shape (suc (suc (suc (suc (suc (suc (suc (suc (suc k))))))))) b r = refused-got r
 
-    by-kind : (k : ℕ) → readExp (suc left) scope e (entry k o ∷ l) ≡ got g → Head (readExp left) scope o (suc e) l g k
-    by-kind k r =
-        let a = bind-got (need (isExpression (kindOf k)) 3 e) _ g (tested k r) in
-        let b = bind-got (need (rowHolds (kindOf k) o) 4 e) _ g (a .2) in
-        let c = bind-got (need (not (isBinder (kindOf k)) or ltb (length scope) 8) 7 e) _ g (b .2) in
-        by-shape k (test-holds _ 7 e (c .0) (c .1)) (c .2)
+  by-kind : (k : ℕ) → readExp (suc left) scope e (entry k o ∷ l) ≡ got g → Head (readExp left) scope o (suc e) l g k
+  by-kind k r =
+      let a = bind-got (need (isExpression (kindOf k)) 3 e) _ g (tested k r) in
+      let b = bind-got (need (rowHolds (kindOf k) o) 4 e) _ g (a .2) in
+      let c = bind-got (need (not (isBinder (kindOf k)) or ltb (length scope) 8) 7 e) _ g (b .2) in
+      by-shape k (test-holds _ 7 e (c .0) (c .1)) (c .2)
 
 none-here : {A : Type 0} (left : ℕ) (scope : List ℕ) (e : ℕ) (g : Got Exp) → readExp left scope e [] ≡ got g → A
 unfolding readExp entryAt _>>=_
@@ -100,10 +94,10 @@ pub record Headed (left : ℕ) (ks os : List ℕ) (scope : List ℕ) (at : ℕ) 
   pub here : at < length ks
   pub head : Head (readExp (left - 1)) scope (operandAt os at) (suc at) (drop (suc at) (entries ks os)) g (getD ks at 0)
 
-pub headed : (left : ℕ) (ks os : List ℕ) (scope : List ℕ) (at : ℕ) (g : Got Exp) → length scope ≤ 8
+pub headed : (left : ℕ) (ks os : List ℕ) (scope : List ℕ) (at : ℕ) (g : Got Exp)
     → readExp left scope at (drop at (entries ks os)) ≡ got g → Headed left ks os scope at g
-headed zero ks os scope at g few r = too-deep scope at _ g r
-headed (suc left) ks os scope at g few r = go (decLt at (length ks))
+headed zero ks os scope at g r = too-deep scope at _ g r
+headed (suc left) ks os scope at g r = go (decLt at (length ks))
   where
     go : Dec (at < length ks) → Headed (suc left) ks os scope at g
     go (yes l) =
@@ -112,7 +106,7 @@ headed (suc left) ks os scope at g few r = go (decLt at (length ks))
           deep = omega arith;
           here = l;
           head = subst (λ m. Head (readExp m) scope (operandAt os at) (suc at) (drop (suc at) (entries ks os)) g (getD ks at 0)) (sym z)
-              (by-kind left scope (operandAt os at) at _ g few (getD ks at 0) (reread (readExp (suc left)) refl refl (entries-at ks os at l) r));
+              (by-kind left scope (operandAt os at) at _ g (getD ks at 0) (reread (readExp (suc left)) refl refl (entries-at ks os at l) r));
         }
     go (no f) = none-here (suc left) scope at g (reread (readExp (suc left)) refl refl (entries-end ks os at (omega arith)) r)
 
@@ -121,7 +115,7 @@ module _ {side : List ℕ → ℕ → List Entry → Read Exp} {scope : List ℕ
   stops (halts r) z = (cc, (cc))
   stops (names r) z = absurd (omega arith)
   stops (calls r) z = absurd (omega arith)
-  stops (joins m few r) z = absurd (omega arith)
+  stops (joins m room r) z = absurd (omega arith)
 
 -- a call: its parameters
 pub record Called (scope : List ℕ) (o e : ℕ) (l : List Entry) (g : Got Exp) (k : ℕ) : Type 0 where
@@ -133,7 +127,6 @@ pub record Called (scope : List ℕ) (o e : ℕ) (l : List Entry) (g : Got Exp) 
 -- a join: its two sides
 pub record Joined (side : List ℕ → ℕ → List Entry → Read Exp) (scope : List ℕ) (e : ℕ) (l : List Entry) (g : Got Exp) (j : Join)
     : Type 0 where
-  pub few : Few j scope
   pub left : Got Exp
   pub right : Got Exp
   pub read-left : side (scopeLeft j scope) e l ≡ got left
@@ -151,15 +144,21 @@ module _ {side : List ℕ → ℕ → List Entry → Read Exp} {scope : List ℕ
   called (calls r) f m =
       let b = bind-got (readParamList (high o) scope e l) _ g r in
       record { params = b .0; read = b .1; next = cc; which = inr (refl, (cc)) }
-  called (joins n few r) f m = absurd (omega arith)
+  called (joins n room r) f m = absurd (omega arith)
+
+  pub head-room : {k : ℕ} → Head side scope o e l g k → 4 ≤ k → length scope < 8
+  head-room (halts r) m = absurd (omega arith)
+  head-room (names r) m = absurd (omega arith)
+  head-room (calls r) m = absurd (omega arith)
+  head-room (joins n room r) m = room m
 
   pub joined : {k : ℕ} → Head side scope o e l g k → 3 ≤ k → Joined side scope e l g (joinOf k (length scope))
   unfolding readJoin
   joined (halts r) m = absurd (omega arith)
   joined (names r) m = absurd (omega arith)
   joined (calls r) m = absurd (omega arith)
-  joined (joins {k = k} n few r) m =
+  joined (joins {k = k} n room r) m =
       let j = joinOf k (length scope) in
       let a = bind-got (side (scopeLeft j scope) e l) _ g r in
       let b = bind-got (side (scopeRight j scope) (a .0 .next) (a .0 .rest)) _ g (a .2) in
-      record { few = few; left = a .0; right = b .0; read-left = a .1; read-right = b .1; value = cc; next = cc }
+      record { left = a .0; right = b .0; read-left = a .1; read-right = b .1; value = cc; next = cc }

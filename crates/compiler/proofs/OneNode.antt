@@ -8,7 +8,7 @@ use native.Mathlib.Omega.{arith}
 use lib.ListN.{length, getD, drop}
 use lib.Seq.{sets}
 use Rattle.job.specs.Entry.{entries, low, high}
-use Rattle.job.specs.Syntax.{Param, Exp, stop, site, call, levels}
+use Rattle.job.specs.Syntax.{Param, Exp, stop, site, call}
 use Rattle.job.specs.Node.{Node}
 use Rattle.job.specs.Construct.{nodeCount, root, nodesOf}
 use Rattle.job.specs.Words.{headWords, paramWords, nodeWords, rowsOfNodes}
@@ -44,33 +44,33 @@ row-alone : (e : Exp) (n k : ℕ) (x : Node) → nodesOf e n k ≡ x ∷ [] → 
 unfolding rowsOfNodes
 row-alone e n k x p = sym (append-nil (nodeWords x)) ∙ ap rowsOfNodes (sym p)
 
-module _ {left : ℕ} {ks os : List ℕ} {s at n : ℕ} (t : Taken left ks os s at n) where
+module _ {left : ℕ} {ks os scope : List ℕ} {at n : ℕ} (t : Taken left ks os scope at n) where
   single-done : {x : Node} (k a : ℕ) (c : Compiled) (w d d' : List ℕ) → Single (t .it .value) n k x → a ≡ t .it .next → w ≡ nodeWords x
-      → c ≡ record { at = a; node = n + 1; root = n } → d' ≡ sets d (headWords + 12 * n) w → Done left ks os s at n k c d d'
+      → c ≡ record { at = a; node = n + 1; root = n } → d' ≡ sets d (headWords + 12 * n) w → Done left ks os scope at n k c d d'
   single-done {x = x} k a c w d d' i q ew ec ed =
       done t k c d d' (ec ∙ same q (ap (λ m. n + m) (sym (i .size-one))) (sym (i .root-first)))
       (ed ∙ ap (λ v. sets d (headWords + 12 * n) v) (ew ∙ row-alone (t .it .value) n k x (i .nodes-one)))
 
   pub stop-done : (k : ℕ) (c : Compiled) (d d' : List ℕ) → getD ks at 0 ≡ 0 → c ≡ record { at = at + 1; node = n + 1; root = n }
-      → d' ≡ sets d (headWords + 12 * n) (words 0 0 0 0) → Done left ks os s at n k c d d'
+      → d' ≡ sets d (headWords + 12 * n) (words 0 0 0 0) → Done left ks os scope at n k c d d'
   unfolding nodeWords paramWords
   stop-done k c d d' z ec ed =
       let v = stops (t .head) z in
       single-done k (at + 1) c _ d d' (single-stop n k (v .0)) (add-one at ∙ sym (v .1)) refl ec ed
 
   module _ (small : (i : ℕ) → getD os i 0 < 256) (k0 : getD ks at 0 ≡ 0 → ⊥) (k3 : getD ks at 0 < 3) where
-    its : Called (levels s) (operandAt os at) (suc at) (drop (suc at) (entries ks os)) (t .it) (getD ks at 0)
+    its : Called scope (operandAt os at) (suc at) (drop (suc at) (entries ks os)) (t .it) (getD ks at 0)
     its = called (t .head) k0 k3
 
-    ended : Ended ks os (operand-small os small) (levels s) (high (operandAt os at)) (suc at) (its .params)
-    ended = params-end ks os (operand-small os small) (levels s) (high (operandAt os at)) (suc at) (its .params) (t .here) (its .read)
+    ended : Ended ks os (operand-small os small) scope (high (operandAt os at)) (suc at) (its .params)
+    ended = params-end ks os (operand-small os small) scope (high (operandAt os at)) (suc at) (its .params) (t .here) (its .read)
 
     pub call-room : at + 1 + high (operandAt os at) ≤ length ks
     call-room = let e = ended .inside in omega arith
 
     pub call-done : (k o : ℕ) (c : Compiled) (d d' : List ℕ) → o ≡ operandAt os at
         → c ≡ record { at = at + 1 + high o; node = n + 1; root = n } → d' ≡ sets d (headWords + 12 * n) (callNodeWords ks os at k)
-        → Done left ks os s at n k c d d'
+        → Done left ks os scope at n k c d d'
     call-done k o c d d' eo ec ed = go (its .which)
       where
         behind : at + 1 + high o ≡ t .it .next
@@ -82,10 +82,10 @@ module _ {left : ℕ} {ks os : List ℕ} {s at n : ℕ} (t : Taken left ks os s 
 
         go : ((getD ks at 0 ≡ 1) × (t .it .value ≡ site (low (operandAt os at)) (its .params .value)))
             ⊎ ((getD ks at 0 ≡ 2) × (t .it .value ≡ call (low (operandAt os at)) (its .params .value)))
-            → Done left ks os s at n k c d d'
+            → Done left ks os scope at n k c d d'
         go (inl v) =
-            let e = site-words ks os (operand-small os small) (levels s) at k (its .params) (its .read) (t .here) (v .0) in
+            let e = site-words ks os (operand-small os small) scope at k (its .params) (its .read) (t .here) (v .0) in
             single-done k _ c _ d d' (single-site n k (v .1)) behind (sym e) ec ed
         go (inr v) =
-            let e = call-words ks os (operand-small os small) (levels s) at k (its .params) (its .read) (t .here) (v .0) in
+            let e = call-words ks os (operand-small os small) scope at k (its .params) (its .read) (t .here) (v .0) in
             single-done k _ c _ d d' (single-call n k (v .1)) behind (sym e) ec ed

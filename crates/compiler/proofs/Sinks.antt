@@ -14,6 +14,7 @@ use Rattle.job.specs.Read.{Got, Read, got}
 use Rattle.compiler.specs.Compiled.{reading, Accepted, compiled, stored}
 use Rattle.compiler.specs.Body.{sinkOf, Sunk, sunk, BodyAccepted, compiledWithSink, storedBody}
 use Rattle.compiler.specs.declared.expression.Compiled.{Compiled}
+use Rattle.reader.specs.declared.scope.Scope.{Scope}
 use Rattle.job.proofs.Stores.{sets-append}
 use Rattle.compiler.proofs.Rows.{rows-append, rows-length}
 use Rattle.compiler.proofs.OwnRows.{words}
@@ -30,28 +31,28 @@ unfolding sinkOf nodeWords paramWords
 sink-definition goal a d d' g e = rw g e
 
 -- what is read
-record Read-body (ks os : List ℕ) (s at n sink : ℕ) : Type 0 where
+record Read-body (ks os scope : List ℕ) (at n sink : ℕ) : Type 0 where
   it : Got Exp
-  read : reading 24 ks os s at ≡ got it
+  read : reading 24 ks os scope at ≡ got it
   ends : sink ≡ n + nodeCount (it .value)
 
 view : (p : Read Exp) (n sink : ℕ) → Sunk p n sink → (g : Got Exp) × (p ≡ got g) × (sink ≡ n + nodeCount (g .value))
 view (got g) n sink (sunk e) = (g, refl, e)
 
-module _ {ks os : List ℕ} {s at n sink : ℕ} (b : BodyAccepted ks os s at n sink) where
-  taken : Read-body ks os s at n sink
-  taken = let v = view (reading 24 ks os s at) n sink (b .sinks) in record { it = v .0; read = v .1; ends = v .2 }
+module _ {ks os : List ℕ} {s : Scope} {at n sink : ℕ} {scope : List ℕ} (b : BodyAccepted ks os s at n sink scope) where
+  taken : Read-body ks os scope at n sink
+  taken = let v = view (reading 24 ks os scope at) n sink (b .sinks) in record { it = v .0; read = v .1; ends = v .2 }
 
-  pub body-accepted : Accepted 24 ks os s at n
+  pub body-accepted : Accepted 24 ks os s at n scope
   body-accepted =
       let e = taken .ends in
       let l = b .below in
-      accept 24 ks os s at n (taken .it) (b .parts) (b .scoped) (taken .read) (omega arith)
+      accept 24 ks os s at n scope (taken .it) (b .parts) (b .means) (taken .read) (omega arith)
 
-  pub body-done : (c : Compiled) (goal : Bool) (d d1 d2 : List ℕ) → c ≡ compiled (reading 24 ks os s at) n
-      → d1 ≡ stored (reading 24 ks os s at) n sink d → d2 ≡ sets d1 (headWords + 12 * sink) (nodeWords (sinkOf goal))
-      → (_≡_ {A = Compiled} (record { at = c .at; node = sink + 1; root = c .root }) (compiledWithSink (reading 24 ks os s at) n))
-      × (d2 ≡ storedBody (reading 24 ks os s at) goal n d)
+  pub body-done : (c : Compiled) (goal : Bool) (d d1 d2 : List ℕ) → c ≡ compiled (reading 24 ks os scope at) n
+      → d1 ≡ stored (reading 24 ks os scope at) n sink d → d2 ≡ sets d1 (headWords + 12 * sink) (nodeWords (sinkOf goal))
+      → (_≡_ {A = Compiled} (record { at = c .at; node = sink + 1; root = c .root }) (compiledWithSink (reading 24 ks os scope at) n))
+      × (d2 ≡ storedBody (reading 24 ks os scope at) goal n d)
   unfolding rowsOfNodes
   body-done c goal d d1 d2 ec e1 e2 =
       let g = taken .it in

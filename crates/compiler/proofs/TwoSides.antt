@@ -1,19 +1,18 @@
 -- A join's nodes are its own, then f's, then g's: what is stored and given for a join, whose sides are compiled first, is that of the join
 -- which is read. Assumes nothing.
 use Prim.Native.Nat.{ℕ, suc, _+_, _*_, _-_, _≤_}
-use mathlib.Core.Path.{_≡_, refl, sym, ap, ap₂, subst, _∙_}
+use mathlib.Core.Path.{_≡_, refl, sym, ap, ap₂, _∙_}
 use mathlib.Core.List.{List}
 use native.Mathlib.Numerals.{add-one}
 use native.Mathlib.Omega.{arith}
 use lib.ListN.{length, getD, drop}
 use lib.Seq.{sets}
 use Rattle.job.specs.Entry.{entries}
-use Rattle.job.specs.Syntax.{Join, levels}
+use Rattle.job.specs.Syntax.{Join, scopeLeft, scopeRight}
 use Rattle.job.specs.Construct.{own, nodeCount, root, firstLeft, firstRight, nextLeft, nextRight, ownNodes, nodesOf}
 use Rattle.job.specs.Words.{headWords, rowsOfNodes}
 use Rattle.job.specs.Read.{got, readExp}
 use Rattle.job.proofs.Position.{exp-from}
-use Rattle.reader.proofs.Scope.{levels-length}
 use Rattle.reader.specs.Join.{joinOf}
 use Rattle.compiler.specs.Join.{IsLeft, IsRight, joinRoot}
 use Rattle.compiler.specs.Compiled.{reading, Accepted, compiled, stored}
@@ -24,15 +23,20 @@ use Rattle.compiler.proofs.Rows.{own-some, size-some, root-join, join-r
 use Rattle.compiler.proofs.Heads.{Joined, joined}
 use Rattle.compiler.proofs.Taking.{accept, same, Taken, Done, done}
 
-module _ {left : ℕ} {ks os : List ℕ} {s at n : ℕ} (t : Taken left ks os s at n) (k3 : 3 ≤ getD ks at 0) where
+module _ {left : ℕ} {ks os scope : List ℕ} {at n : ℕ} (t : Taken left ks os scope at n) (k3 : 3 ≤ getD ks at 0) where
   abbrev the-join : Join
-  the-join = joinOf (getD ks at 0) s
+  the-join = joinOf (getD ks at 0) (length scope)
+
+  -- the variables in scope in its sides
+  abbrev inLeft : List ℕ
+  inLeft = scopeLeft the-join scope
+
+  abbrev inRight : List ℕ
+  inRight = scopeRight the-join scope
 
   -- its two sides, as they are read
-  sides : Joined (readExp (left - 1)) (levels s) (suc at) (drop (suc at) (entries ks os)) (t .it) (joinOf (getD ks at 0) s)
-  sides =
-      subst (λ m. Joined (readExp (left - 1)) (levels s) (suc at) (drop (suc at) (entries ks os)) (t .it) (joinOf (getD ks at 0) m))
-      (levels-length s) (joined (t .head) k3)
+  sides : Joined (readExp (left - 1)) scope (suc at) (drop (suc at) (entries ks os)) (t .it) the-join
+  sides = joined (t .head) k3
 
   whole : nodeCount (t .it .value) ≡ own the-join + nodeCount (sides .left .value) + nodeCount (sides .right .value)
   unfolding nodeCount
@@ -47,22 +51,20 @@ module _ {left : ℕ} {ks os : List ℕ} {s at n : ℕ} (t : Taken left ks os s 
       let f = t .fits in
       omega arith
 
-  module _ (k : ℕ) {l : ExpressionPlan} (el : IsLeft the-join s n k l) where
-    read-left : reading (left - 1) ks os (l .scope) (at + 1) ≡ got (sides .left)
+  module _ (k : ℕ) {l : ExpressionPlan} (el : IsLeft the-join scope n k l) where
+    read-left : reading (left - 1) ks os inLeft (at + 1) ≡ got (sides .left)
     read-left =
         let e = sym (add-one at) in
-        reread (readExp (left - 1)) (sym (el .scoped)) e (ap (λ m. drop m (entries ks os)) e) (sides .read-left)
+        reread (readExp (left - 1)) refl e (ap (λ m. drop m (entries ks os)) e) (sides .read-left)
 
-    pub accept-left : Accepted (left - 1) ks os (l .scope) (at + 1) (l .first)
+    pub accept-left : Accepted (left - 1) ks os (l .scope) (at + 1) (l .first) inLeft
     accept-left =
-        let a = sym (levels-length (l .scope)) ∙ ap length (el .scoped) in
-        let b = sides .few .left in
         let c = el .begins in
         let w = whole in
         let f = t .fits in
-        accept (left - 1) ks os (l .scope) (at + 1) (l .first) (sides .left) (t .parts) (omega arith) read-left (omega arith)
+        accept (left - 1) ks os (l .scope) (at + 1) (l .first) inLeft (sides .left) (t .parts) (el .scoped) read-left (omega arith)
 
-    module _ {c : Compiled} (ec : c ≡ compiled (reading (left - 1) ks os (l .scope) (at + 1)) (l .first)) where
+    module _ {c : Compiled} (ec : c ≡ compiled (reading (left - 1) ks os inLeft (at + 1)) (l .first)) where
       given : c ≡ compiled (got (sides .left)) (firstLeft the-join n)
       given = ec ∙ ap₂ (λ r m. compiled r m) read-left (el .begins)
 
@@ -72,24 +74,22 @@ module _ {left : ℕ} {ks os : List ℕ} {s at n : ℕ} (t : Taken left ks os s 
       root-left : c .root ≡ root (sides .left .value) (firstLeft the-join n)
       root-left = ap (λ (x : Compiled). x .root) given
 
-      module _ {r : ExpressionPlan} (er : IsRight the-join s n (c .node) k r) where
-        read-right : reading (left - 1) ks os (r .scope) (c .at) ≡ got (sides .right)
+      module _ {r : ExpressionPlan} (er : IsRight the-join scope n (c .node) k r) where
+        read-right : reading (left - 1) ks os inRight (c .at) ≡ got (sides .right)
         read-right =
             let rest = exp-from (entries ks os) (left - 1) _ (suc at) _ (sides .left) refl (sides .read-left) .rest in
             let e = sym (ap (λ (x : Compiled). x .at) given) in
-            reread (readExp (left - 1)) (sym (er .scoped)) e (rest ∙ ap (λ m. drop m (entries ks os)) e) (sides .read-right)
+            reread (readExp (left - 1)) refl e (rest ∙ ap (λ m. drop m (entries ks os)) e) (sides .read-right)
 
-        pub accept-right : Accepted (left - 1) ks os (r .scope) (c .at) (r .first)
+        pub accept-right : Accepted (left - 1) ks os (r .scope) (c .at) (r .first) inRight
         accept-right =
-            let a = sym (levels-length (r .scope)) ∙ ap length (er .scoped) in
-            let b = sides .few .right in
             let e = er .begins in
             let h = node-left in
             let w = whole in
             let f = t .fits in
-            accept (left - 1) ks os (r .scope) (c .at) (r .first) (sides .right) (t .parts) (omega arith) read-right (omega arith)
+            accept (left - 1) ks os (r .scope) (c .at) (r .first) inRight (sides .right) (t .parts) (er .scoped) read-right (omega arith)
 
-        module _ {q : Compiled} (eq : q ≡ compiled (reading (left - 1) ks os (r .scope) (c .at)) (r .first)) where
+        module _ {q : Compiled} (eq : q ≡ compiled (reading (left - 1) ks os inRight (c .at)) (r .first)) where
           last : q ≡ compiled (got (sides .right)) (firstRight the-join (sides .left .value) n)
           last = eq ∙ ap₂ (λ r m. compiled r m) read-right (er .begins ∙ node-left)
 
@@ -103,12 +103,12 @@ module _ {left : ℕ} {ks os : List ℕ} {s at n : ℕ} (t : Taken left ks os s 
               (e ∙ ap (λ m. joinRoot the-join n m) root-left ∙ sym (root-join the-join (sides .left .value) (sides .right .value) n)
               ∙ ap (λ y. root y n) (sym (sides .value)))
 
-          pub join-done : (x : ℕ) (d d1 d2 d3 : List ℕ) → x ≡ joinRoot the-join n (c .root)
-              → d1 ≡ stored (reading (left - 1) ks os (l .scope) (at + 1)) (l .first) (l .next) d
-              → d2 ≡ stored (reading (left - 1) ks os (r .scope) (c .at)) (r .first) (r .next) d1
-              → d3 ≡ sets d2 (headWords + 12 * n) (rowsOfNodes (ownNodes the-join (c .root) (q .root) k))
-              → Done left ks os s at n k (record { at = q .at; node = q .node; root = x }) d d3
-          join-done x d d1 d2 d3 ex e1 e2 e3 =
+          pub join-done : (y : ℕ) → y ≡ length scope → (x : ℕ) (d d1 d2 d3 : List ℕ) → x ≡ joinRoot (joinOf (getD ks at 0) y) n (c .root)
+              → d1 ≡ stored (reading (left - 1) ks os inLeft (at + 1)) (l .first) (l .next) d
+              → d2 ≡ stored (reading (left - 1) ks os inRight (c .at)) (r .first) (r .next) d1
+              → d3 ≡ sets d2 (headWords + 12 * n) (rowsOfNodes (ownNodes (joinOf (getD ks at 0) y) (c .root) (q .root) k))
+              → Done left ks os scope at n k (record { at = q .at; node = q .node; root = x }) d d3
+          join-done y ey x d d1 d2 d3 ex e1 e2 e3 =
               let j = the-join in
               let f = sides .left .value in
               let g = sides .right .value in
@@ -118,7 +118,8 @@ module _ {left : ℕ} {ks os : List ℕ} {s at n : ℕ} (t : Taken left ks os s 
               let b : d2 ≡ sets d1 (headWords + 12 * firstRight j f n) (rowsOfNodes (nodesOf g (firstRight j f n) (nextRight j n k))) =
               e2 ∙ ap (λ r'. stored r' (r .first) (r .next) d1) read-right
               ∙ ap₂ (λ m i. sets d1 (headWords + 12 * m) (rowsOfNodes (nodesOf g m i))) (er .begins ∙ node-left) (er .goes) in
-              let c : d3 ≡ sets d2 (headWords + 12 * n) (rowsOfNodes (ownNodes j (root f (firstLeft j n)) (root g (firstRight j f n)) k)) =
-              e3 ∙ ap₂ (λ m i. sets d2 (headWords + 12 * n) (rowsOfNodes (ownNodes j m i k))) root-left (ap (λ (y : Compiled). y .root) last) in
-              done t k _ d d3 (result x ex)
-              (c ∙ rw (b, a) (join-rows j f g n k d) ∙ ap (λ y. sets d (headWords + 12 * n) (rowsOfNodes (nodesOf y n k))) (sym (sides .value)))
+              let o : d3 ≡ sets d2 (headWords + 12 * n) (rowsOfNodes (ownNodes j (root f (firstLeft j n)) (root g (firstRight j f n)) k)) =
+              e3 ∙ ap (λ y. sets d2 (headWords + 12 * n) (rowsOfNodes (ownNodes (joinOf (getD ks at 0) y) (c .root) (q .root) k))) ey
+              ∙ ap₂ (λ m i. sets d2 (headWords + 12 * n) (rowsOfNodes (ownNodes j m i k))) root-left (ap (λ (y : Compiled). y .root) last) in
+              done t k _ d d3 (result x (ex ∙ ap (λ y. joinRoot (joinOf (getD ks at 0) y) n (c .root)) ey))
+              (o ∙ rw (b, a) (join-rows j f g n k d) ∙ ap (λ y. sets d (headWords + 12 * n) (rowsOfNodes (nodesOf y n k))) (sym (sides .value)))

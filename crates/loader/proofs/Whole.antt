@@ -13,6 +13,8 @@ use Rattle.job.specs.Construct.{nodeCount, root, construct}
 use Rattle.job.specs.Words.{written}
 use Rattle.job.specs.Read.{Got, Read, got, readExp, readEntries}
 use Rattle.reader.specs.Checked.{Parts, entriesFrom}
+use Rattle.reader.specs.Scope.{Means}
+use Rattle.reader.specs.declared.scope.Scope.{Scope}
 use Rattle.reader.specs.DefinitionList.{readDefinitionList, definitionListNodes, definitionSizes}
 use Rattle.reader.proofs.NodeCount.{construct-length}
 use Rattle.reader.proofs.ProgramParts.{AllDefined, all-defined, Parted, parted}
@@ -68,23 +70,23 @@ module _ (ks os : List ℕ) (n nodes : ℕ) (ss : List ℕ) (ok : Accepts (readE
     first : r .node ≡ definitionListNodes (its .definitions .value)
     first = ap (λ (p : Place). p .node) given
 
-    read : reading 24 ks os 0 (r .at) ≡ got (its .goal)
+    read : reading 24 ks os (levels 0) (r .at) ≡ got (its .goal)
     unfolding levels
     read = reread (readExp 24) refl (sym at) (facts .rest ∙ ap (λ m. entriesFrom ks os m) (sym at)) (its .read-goal)
 
-    pub goal-read : BodyAccepted ks os 0 (r .at) (r .node) (nodes - 1)
-    goal-read =
-        let m = most in
+    pub goal-read : (s : Scope) → Means s (levels 0) → BodyAccepted ks os s (r .at) (r .node) (nodes - 1) (levels 0)
+    goal-read s m =
+        let h = most in
         let f = first in
         let a = all in
         record {
           parts = parts;
-          scoped = omega arith;
+          means = m;
           below = omega arith;
           sinks = subst (λ q. Sunk q (r .node) (nodes - 1)) (sym read) (sunk (omega arith));
         }
 
-    module _ (c : Compiled) (ec : c ≡ compiledWithSink (reading 24 ks os 0 (r .at)) (r .node)) where
+    module _ (c : Compiled) (ec : c ≡ compiledWithSink (reading 24 ks os (levels 0) (r .at)) (r .node)) where
       goal : c ≡ compiledWithSink (got (its .goal)) (r .node)
       goal = ec ∙ ap (λ q. compiledWithSink q (r .node)) read
 
@@ -95,7 +97,7 @@ module _ (ks os : List ℕ) (n nodes : ℕ) (ss : List ℕ) (ok : Accepts (readE
       nodes-fit = let e = ends in let m = most in omega arith
 
       pub program-done : (ws l1 l2 l3 : List ℕ) → l1 ≡ storedDefinitions (readDefinitionList n 0 (entries ks os)) ws
-          → l2 ≡ storedBody (reading 24 ks os 0 (r .at)) true (r .node) l1 → l3 ≡ sets l2 0 (c .node ∷ n ∷ c .root ∷ [])
+          → l2 ≡ storedBody (reading 24 ks os (levels 0) (r .at)) true (r .node) l1 → l3 ≡ sets l2 0 (c .node ∷ n ∷ c .root ∷ [])
           → l3 ≡ storedProgram (readEntries n (entries ks os)) ws
       unfolding construct
       program-done ws l1 l2 l3 e1 e2 e3 =

@@ -16,6 +16,8 @@ use Rattle.job.specs.Read.{Got, Read, got, _>>=_, gives, need, entryAt, readExp
 use Rattle.job.proofs.Test.{leb-le}
 use Rattle.job.proofs.Position.{operandAt, entries-at, bind-got}
 use Rattle.reader.specs.Checked.{Parts, entriesFrom}
+use Rattle.reader.specs.Scope.{Means}
+use Rattle.reader.specs.declared.scope.Scope.{Scope}
 use Rattle.reader.specs.DefinitionList.{readDefinitionList, definitionNodes, definitionListNodes, definitionSizes}
 use Rattle.reader.proofs.DefinitionLoop.{Defined, defined}
 use Rattle.reader.proofs.ProgramParts.{same-got}
@@ -175,25 +177,27 @@ module _ (count : ℕ) (ks os ws ss l : List ℕ) (at node i : ℕ) (g : Writing
     turn-some = let k = size in omega arith
 
     module _ (o : ℕ) (eo : o ≡ operandAt os at) where
-      read : reading 24 ks os o (at + 1) ≡ got (its .body)
+      read : reading 24 ks os (levels o) (at + 1) ≡ got (its .body)
       read =
           let e = sym (add-one at) in
           reread (readExp 24) (ap levels (sym eo)) e (ap (λ m. drop m (entries ks os)) e) (its .read)
 
-      pub turn-read : Parts ks os → BodyAccepted ks os o (at + 1) node (node + getD ss i 0 - 1)
-      turn-read p =
-          let s = its .small in
+      pub turn-formals : o ≤ 8
+      turn-formals = let s = its .small in omega arith
+
+      pub turn-read : Parts ks os → (s : Scope) → Means s (levels o) → BodyAccepted ks os s (at + 1) node (node + getD ss i 0 - 1) (levels o)
+      turn-read p s m =
           let k = size in
           let r = room in
           record {
             parts = p;
-            scoped = omega arith;
+            means = m;
             below = omega arith;
             sinks = subst (λ r. Sunk r node (node + getD ss i 0 - 1)) (sym read) (sunk (omega arith));
           }
 
-      pub turn-more : count ≤ 32 → (c : Compiled) (l1 l2 : List ℕ) → c ≡ compiledWithSink (reading 24 ks os o (at + 1)) node
-          → l1 ≡ storedBody (reading 24 ks os o (at + 1)) false node l → l2 ≡ sets l1 (3 + 2 * i) (c .root ∷ o ∷ [])
+      pub turn-more : count ≤ 32 → (c : Compiled) (l1 l2 : List ℕ) → c ≡ compiledWithSink (reading 24 ks os (levels o) (at + 1)) node
+          → l1 ≡ storedBody (reading 24 ks os (levels o) (at + 1)) false node l → l2 ≡ sets l1 (3 + 2 * i) (c .root ∷ o ∷ [])
           → Writing count ks os ws ss l2 (c .at) (c .node) (i + 1)
       unfolding definitionListNodes
       turn-more k c l1 l2 ec e1 e2 =

@@ -3,11 +3,10 @@ use mathlib.Core.Path.{_≡_, refl, sym, _∙_, ap, ap₂}
 use mathlib.Core.List.{List, _∷_}
 use Prim.Native.Nat.{ℕ, zero, suc, _+_, _*_, _-_, _/_, _<_, _≤_}
 use native.Mathlib.Omega.{arith}
-use native.Mathlib.Decide.{decLt}
 use native.Mathlib.Numerals.{add-one}
 use lib.ListN.{length, getD, take, drop}
 use Rattle.job.specs.Number.{number}
-use Rattle.job.specs.Syntax.{Param, Join, par, seq, prune, Exp, site, call, join, levels, scopeLeft, scopeRight}
+use Rattle.job.specs.Syntax.{Param, Join, Exp, site, call, join, scopeLeft, scopeRight}
 use Rattle.job.specs.Entry.{Entry, entry, entries, low, high, kindOf}
 use Rattle.job.specs.Read.{Got, Read, got, refused, _>>=_, gives, entryAt, readParamList, readCall, readJoin, readExp}
 use Rattle.job.specs.Construct.{own, nodeCount}
@@ -18,12 +17,10 @@ use Rattle.reader.specs.Join.{either, joinOf, JoinHolds}
 use Rattle.reader.specs.declared.checked.Checked.{Checked}
 use Rattle.reader.specs.declared.checked.Checked.the-variants.{Next, Refused}
 use Rattle.reader.specs.declared.expression.Sides.{Sides}
-use Rattle.reader.proofs.Scope.{levels-length}
 use Rattle.reader.proofs.Row.{up-to-five}
 use Rattle.reader.proofs.Opened.{readKind, exp-refused, exp-kind, sound}
 use Rattle.reader.proofs.Few.{own-few}
 use Rattle.reader.proofs.Onward.{bind-refused, checked-next}
-use Rattle.reader.proofs.JoinSides.{join-par}
 
 -- the answer for a call is that for its parameters, with one node
 call-answer : (h : List Param → Exp) → ((ps : List Param) → nodeCount (h ps) ≡ 1) → (n : ℕ) (scope : List ℕ) (e : ℕ) (es : List Entry)
@@ -44,40 +41,16 @@ call-kind side scope e i es (suc zero) o f l = call-answer (λ ps. site (low o) 
 call-kind side scope e i es (suc (suc zero)) o f l = call-answer (λ ps. call (low o) ps) (λ ps. refl) (high o) scope i es
 call-kind side scope e i es (suc (suc (suc k))) o f l = absurd (omega arith)
 
-join-kind : (side : List ℕ → ℕ → List Entry → Read Exp) (s e i : ℕ) (es : List Entry) (k o : ℕ)
-    → k ≤ 5 → 3 ≤ k → readKind side (levels s) e i es (kindOf k) o ≡ readJoin side (joinOf k s) (levels s) i es
+join-kind : (side : List ℕ → ℕ → List Entry → Read Exp) (scope : List ℕ) (e i : ℕ) (es : List Entry) (k o : ℕ)
+    → k ≤ 5 → 3 ≤ k → readKind side scope e i es (kindOf k) o ≡ readJoin side (joinOf k (length scope)) scope i es
 unfolding readKind kindOf joinOf either
-join-kind side s e i es k o =
-    up-to-five (λ k. 3 ≤ k → readKind side (levels s) e i es (kindOf k) o ≡ readJoin side (joinOf k s) (levels s) i es)
+join-kind side scope e i es k o =
+    up-to-five (λ k. 3 ≤ k → readKind side scope e i es (kindOf k) o ≡ readJoin side (joinOf k (length scope)) scope i es)
     (λ l. absurd (omega arith)) (λ l. absurd (omega arith)) (λ l. absurd (omega arith))
-    (λ l. refl) (λ l. rw (levels-length s)) (λ l. rw (levels-length s)) k
+    (λ l. refl) (λ l. refl) (λ l. refl) k
 
--- a side has at most one variable more, and none more in a parallel
-side-fits : (k s n : ℕ) (scope : Join → List ℕ → List ℕ) → ((j : Join) → length (scope j (levels s)) ≤ suc s) → scope par (levels s) ≡ levels s
-    → s ≤ 8 → 3 ≤ k → (4 ≤ k → s < 8) → levels n ≡ scope (joinOf k s) (levels s) → n ≤ 8
-side-fits k s n scope most none l m room e = go (decLt 3 k)
-  where
-    long : n ≡ length (scope (joinOf k s) (levels s))
-    long = sym (levels-length n) ∙ ap length e
-
-    go : Dec (3 < k) → n ≤ 8
-    go (yes h) = let x = room h in let y = most (joinOf k s) in let z = long in omega arith
-    go (no h) =
-        let x : k ≡ 3 = omega arith in
-        let y : n ≡ s = long ∙ ap (λ j. length (scope j (levels s))) (join-par k s x) ∙ ap length none ∙ levels-length s in
-        omega arith
-
-left-most : (s : ℕ) (j : Join) → length (scopeLeft j (levels s)) ≤ suc s
-unfolding scopeLeft
-left-most s par = omega (arith, levels-length s)
-left-most s (seq x) = omega (arith, levels-length s)
-left-most s (prune x) = omega (arith, levels-length s)
-
-right-most : (s : ℕ) (j : Join) → length (scopeRight j (levels s)) ≤ suc s
-unfolding scopeRight
-right-most s par = omega (arith, levels-length s)
-right-most s (seq x) = omega (arith, levels-length s)
-right-most s (prune x) = omega (arith, levels-length s)
+pub own-fits : (k : ℕ) (scope : List ℕ) (sd : Sides) → JoinHolds k scope sd → sd .nodes ≤ 3
+own-fits k scope sd h = let x = h .nodes in omega (arith, own-few (joinOf k (length scope)))
 
 -- the second side of a join, behind the first
 second : (List ℕ → ℕ → List Entry → Read Exp) → Join → List ℕ → Got Exp → Read Exp
@@ -93,21 +66,21 @@ second-answer side j scope f = go (side scope (f .next) (f .rest))
     go (got g) = refl
     go (refused n e) = refl
 
-module _ (ks os : List ℕ) (left s at : ℕ) where
+module _ (ks os : List ℕ) (left : ℕ) (scope : List ℕ) (at : ℕ) where
   -- the code's answer
   abbrev Answers : Checked → Type 0
-  Answers r = r ≡ checkedExp (readExp left (levels s) at (entriesFrom ks os at))
+  Answers r = r ≡ checkedExp (readExp left scope at (entriesFrom ks os at))
 
   pub exp-end : length ks ≤ at → Answers (Refused 5 at)
   unfolding readExp entryAt _>>=_ checked
   exp-end l = go left
     where
-      go : (left : ℕ) → Refused 5 at ≡ checkedExp (readExp left (levels s) at (entriesFrom ks os at))
+      go : (left : ℕ) → Refused 5 at ≡ checkedExp (readExp left scope at (entriesFrom ks os at))
       go zero = rw (entries-end ks os at l)
       go (suc left) = rw (entries-end ks os at l)
 
   module _ (l : at < length ks) (o : ℕ) (eo : o ≡ number (take 4 (drop (4 * at) os))) (n : ℕ)
-      (en : n ≡ expressionFault left s (kindOf (getD ks at 0)) o) where
+      (en : n ≡ expressionFault left scope (kindOf (getD ks at 0)) o) where
     behind : List Entry
     behind = drop (suc at) (entries ks os)
 
@@ -117,12 +90,12 @@ module _ (ks os : List ℕ) (left s at : ℕ) where
 
     pub exp-fault : (n ≡ 0 → ⊥) → Answers (Refused n at)
     unfolding checked
-    exp-fault f = rw (here, exp-refused s at (getD ks at 0) o behind left n en f)
+    exp-fault f = rw (here, exp-refused scope at (getD ks at 0) o behind left n en f)
 
     module _ (z : n ≡ 0) where
-      by-kind : readExp left (levels s) at (entriesFrom ks os at)
-          ≡ readKind (readExp (left - 1)) (levels s) at (suc at) behind (kindOf (getD ks at 0)) o
-      by-kind = rw here (exp-kind s at (getD ks at 0) o behind left (sym en ∙ z))
+      by-kind : readExp left scope at (entriesFrom ks os at)
+          ≡ readKind (readExp (left - 1)) scope at (suc at) behind (kindOf (getD ks at 0)) o
+      by-kind = rw here (exp-kind scope at (getD ks at 0) o behind left (sym en ∙ z))
 
       pub exp-stop : getD ks at 0 ≡ 0 → Answers (Next (at + 1) 1)
       unfolding kindOf readKind checked nodeCount
@@ -130,60 +103,51 @@ module _ (ks os : List ℕ) (left s at : ℕ) where
 
       module _ (f : getD ks at 0 ≡ 0 → ⊥) where
         pub exp-call : (q r : Checked) → getD ks at 0 < 3
-            → q ≡ checkedParamList (readParamList (o / 65536) (levels s) (at + 1) (entriesFrom ks os (at + 1)))
+            → q ≡ checkedParamList (readParamList (o / 65536) scope (at + 1) (entriesFrom ks os (at + 1)))
             → r ≡ more 1 q → Answers r
         unfolding behind
         exp-call q r k eq er =
             er
-            ∙ ap (more 1) (eq ∙ ap (λ i. checkedParamList (readParamList (o / 65536) (levels s) i (entriesFrom ks os i))) (add-one at))
-            ∙ sym (ap checkedExp by-kind ∙ call-kind (readExp (left - 1)) (levels s) at (suc at) behind (getD ks at 0) o f k)
+            ∙ ap (more 1) (eq ∙ ap (λ i. checkedParamList (readParamList (o / 65536) scope i (entriesFrom ks os i))) (add-one at))
+            ∙ sym (ap checkedExp by-kind ∙ call-kind (readExp (left - 1)) scope at (suc at) behind (getD ks at 0) o f k)
 
-        module _ (k3 : 3 ≤ getD ks at 0) (sd : Sides) (sides : JoinHolds (getD ks at 0) s sd) where
-          pub left-fits : s ≤ 8 → sd .left ≤ 8
-          unfolding scopeLeft
-          left-fits m =
-              let x = sound left s (getD ks at 0) o (sym en ∙ z) in
-              side-fits (getD ks at 0) s (sd .left) scopeLeft (left-most s) refl m k3 (x .room) (sides .left)
+        module _ (k3 : 3 ≤ getD ks at 0) (sd : Sides) (sides : JoinHolds (getD ks at 0) scope sd) where
+          -- the join, and the variables in scope in its sides
+          abbrev its : Join
+          its = joinOf (getD ks at 0) (length scope)
 
-          pub right-fits : s ≤ 8 → sd .right ≤ 8
-          unfolding scopeRight
-          right-fits m =
-              let x = sound left s (getD ks at 0) o (sym en ∙ z) in
-              side-fits (getD ks at 0) s (sd .right) scopeRight (right-most s) refl m k3 (x .room) (sides .right)
+          abbrev inLeft : List ℕ
+          inLeft = scopeLeft its scope
 
-          pub own-fits : sd .nodes ≤ 3
-          own-fits = let x = sides .nodes in omega (arith, own-few (joinOf (getD ks at 0) s))
+          abbrev inRight : List ℕ
+          inRight = scopeRight its scope
 
-          by-join : readExp left (levels s) at (entriesFrom ks os at)
-              ≡ (readExp (left - 1) (levels (sd .left)) (at + 1) (entriesFrom ks os (at + 1))
-              >>= second (readExp (left - 1)) (joinOf (getD ks at 0) s) (levels (sd .right)))
+          by-join : readExp left scope at (entriesFrom ks os at)
+              ≡ (readExp (left - 1) inLeft (at + 1) (entriesFrom ks os (at + 1)) >>= second (readExp (left - 1)) its inRight)
           unfolding second behind readJoin
           by-join =
-              let j = joinOf (getD ks at 0) s in
               let side = readExp (left - 1) in
-              let x = sound left s (getD ks at 0) o (sym en ∙ z) in
+              let x = sound left scope (getD ks at 0) o (sym en ∙ z) in
               by-kind
-              ∙ join-kind side s at (suc at) behind (getD ks at 0) o (x .kind) k3
-              ∙ ap₂ (λ a b. side a (suc at) behind >>= second side j b) (sym (sides .left)) (sym (sides .right))
-              ∙ ap (λ i. side (levels (sd .left)) i (entriesFrom ks os i) >>= second side j (levels (sd .right))) (sym (add-one at))
+              ∙ join-kind side scope at (suc at) behind (getD ks at 0) o (x .kind) k3
+              ∙ ap (λ i. side inLeft i (entriesFrom ks os i) >>= second side its inRight) (sym (add-one at))
 
-          module _ (q : Checked) (eq : q ≡ checkedExp (readExp (left - 1) (levels (sd .left)) (at + 1) (entriesFrom ks os (at + 1)))) where
+          module _ (q : Checked) (eq : q ≡ checkedExp (readExp (left - 1) inLeft (at + 1) (entriesFrom ks os (at + 1)))) where
             pub exp-left : (n e : ℕ) → q ≡ Refused n e → Answers (Refused n e)
             exp-left n e h = rw by-join (bind-refused nodeCount _ nodeCount (second _ _ _) n e (sym eq ∙ h))
 
             pub exp-join : (m d : ℕ) (z r : Checked) → q ≡ Next m d
-                → z ≡ checkedExp (readExp (left - 1) (levels (sd .right)) m (entriesFrom ks os m)) → r ≡ more (sd .nodes + d) z → Answers r
+                → z ≡ checkedExp (readExp (left - 1) inRight m (entriesFrom ks os m)) → r ≡ more (sd .nodes + d) z → Answers r
             unfolding _>>=_
             exp-join m d z r h ez er =
-                let j = joinOf (getD ks at 0) s in
                 let side = readExp (left - 1) in
                 let es = entries ks os in
-                let a = checked-next nodeCount (side (levels (sd .left)) (at + 1) (entriesFrom ks os (at + 1))) m d (sym eq ∙ h) in
-                let f = exp-from es (left - 1) (levels (sd .left)) (at + 1) (entriesFrom ks os (at + 1)) (a .0) refl (a .1) in
-                let x : own j + nodeCount (a .0 .value) ≡ sd .nodes + d = ap₂ (λ i k. i + k) (sym (sides .nodes)) (a .3) in
+                let a = checked-next nodeCount (side inLeft (at + 1) (entriesFrom ks os (at + 1))) m d (sym eq ∙ h) in
+                let f = exp-from es (left - 1) inLeft (at + 1) (entriesFrom ks os (at + 1)) (a .0) refl (a .1) in
+                let x : own its + nodeCount (a .0 .value) ≡ sd .nodes + d = ap₂ (λ i k. i + k) (sym (sides .nodes)) (a .3) in
                 er
                 ∙ ap (more (sd .nodes + d)) ez
-                ∙ sym (ap checkedExp (by-join ∙ ap (λ r. r >>= second side j (levels (sd .right))) (a .1))
-                ∙ second-answer side j (levels (sd .right)) (a .0)
-                ∙ ap (λ n. more n (checkedExp (side (levels (sd .right)) (a .0 .next) (a .0 .rest)))) x
-                ∙ ap₂ (λ i l. more (sd .nodes + d) (checkedExp (side (levels (sd .right)) i l))) (a .2) (f .rest ∙ ap (λ i. drop i es) (a .2)))
+                ∙ sym (ap checkedExp (by-join ∙ ap (λ r. r >>= second side its inRight) (a .1))
+                ∙ second-answer side its inRight (a .0)
+                ∙ ap (λ n. more n (checkedExp (side inRight (a .0 .next) (a .0 .rest)))) x
+                ∙ ap₂ (λ i l. more (sd .nodes + d) (checkedExp (side inRight i l))) (a .2) (f .rest ∙ ap (λ i. drop i es) (a .2)))

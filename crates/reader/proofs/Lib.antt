@@ -1,6 +1,6 @@
 -- Laws that the proofs of the code cite.
 pub mod Word
-pub mod Scope
+pub mod ScopeLaws
 pub mod Row
 pub mod Answer
 pub mod EntryFault

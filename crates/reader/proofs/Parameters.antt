@@ -7,18 +7,18 @@ use native.Mathlib.Omega.{arith}
 use native.Mathlib.Decide.{decLt, ℕ-discrete}
 use native.Mathlib.Numerals.{add-one}
 use lib.ListN.{length, getD, take, drop}
-use lib.Dec.{ltb}
+use lib.Dec.{eqb}
+use Rattle.job.specs.Test.{any}
 use Rattle.job.specs.Number.{number}
-use Rattle.job.specs.Syntax.{Param, variable, levels}
+use Rattle.job.specs.Syntax.{Param, variable}
 use Rattle.job.specs.Entry.{Entry, entry, entries, kindOf}
 use Rattle.job.specs.Read.{Got, Read, got, refused, _>>=_, gives, need, entryAt, readParam, readParamList}
-use Rattle.job.proofs.Test.{eq-eqb, ne-eqb, lt-ltb, le-not-ltb}
+use Rattle.job.proofs.Test.{eq-eqb, ne-eqb}
 use Rattle.job.proofs.Position.{entries-end, entries-at, param-from}
 use Rattle.reader.specs.Checked.{entriesFrom, checked, checkedParamList, checkedNodes}
 use Rattle.reader.specs.Fault.{unless, parameterFault}
 use Rattle.reader.specs.declared.checked.Checked.{Checked}
 use Rattle.reader.specs.declared.checked.Checked.the-variants.{Next, Refused}
-use Rattle.reader.proofs.Scope.{scope-test}
 use Rattle.reader.proofs.Row.{by-kind}
 use Rattle.reader.proofs.Onward.{same-nodes}
 
@@ -30,10 +30,10 @@ other-kind scope e k o es =
     (λ a b. refl) (λ a b. refl) (λ a b. refl) (λ a b. refl) (λ a b. refl) (λ a b. refl) (λ a b. refl)
     (λ a b. absurd (b refl)) (λ a b. absurd (a refl)) (λ k a b. refl) k
 
-module _ (ks os : List ℕ) (s at : ℕ) where
+module _ (ks os scope : List ℕ) (at : ℕ) where
   -- the code's answer
   abbrev Refuses : ℕ → Type 0
-  Refuses r = r ≡ parameterFault s (entriesFrom ks os at)
+  Refuses r = r ≡ parameterFault scope (entriesFrom ks os at)
 
   pub param-end : length ks ≤ at → Refuses 5
   unfolding parameterFault
@@ -49,85 +49,89 @@ module _ (ks os : List ℕ) (s at : ℕ) where
       unfolding parameterFault unless
       param-other g = rw (entries-at ks os at l, ne-eqb (getD ks at 0) 8 f, ne-eqb (getD ks at 0) 7 g)
 
-      module _ (k : getD ks at 0 ≡ 7) (o : ℕ) (eo : o ≡ number (take 4 (drop (4 * at) os))) where
-        pub param-in : o < s → Refuses 0
+      module _ (k : getD ks at 0 ≡ 7) (o : ℕ) (eo : o ≡ number (take 4 (drop (4 * at) os))) (b : Bool) (eb : b ≡ any (eqb o) scope) where
+        named : parameterFault scope (entriesFrom ks os at) ≡ unless b 7 0
         unfolding parameterFault unless
-        param-in m = rw (entries-at ks os at l, ne-eqb (getD ks at 0) 8 f, eq-eqb (getD ks at 0) 7 k, ← eo, lt-ltb o s m)
+        named = rw (entries-at ks os at l, ne-eqb (getD ks at 0) 8 f, eq-eqb (getD ks at 0) 7 k, ← eo, ← eb)
 
-        pub param-out : s ≤ o → Refuses 7
-        unfolding parameterFault unless
-        param-out m = rw (entries-at ks os at l, ne-eqb (getD ks at 0) 8 f, eq-eqb (getD ks at 0) 7 k, ← eo, le-not-ltb o s m)
+        pub param-in : b ≡ true → Refuses 0
+        unfolding unless
+        param-in h = sym (named ∙ rw h)
+
+        pub param-out : b ≡ false → Refuses 7
+        unfolding unless
+        param-out h = sym (named ∙ rw h)
 
 -- what the fault says of a parameter's reading: with none it is read, and is one entry
 data Judged (e n : ℕ) : Read Param → Type 0 where
   refuses : (n ≡ 0 → ⊥) → Judged e n (refused n e)
   takes : {p : Got Param} → n ≡ 0 → p .next ≡ suc e → Judged e n (got p)
 
-judged-entry : (s e k o : ℕ) (es : List Entry) → Judged e (parameterFault s (entry k o ∷ es)) (readParam (levels s) e (entry k o ∷ es))
+judged-entry : (scope : List ℕ) (e k o : ℕ) (es : List Entry) → Judged e (parameterFault scope (entry k o ∷ es)) (readParam scope e (entry k o ∷ es))
 unfolding readParam entryAt kindOf need _>>=_ parameterFault unless
-judged-entry s e k o es = go (ℕ-discrete k 8) (ℕ-discrete k 7)
+judged-entry scope e k o es = go (ℕ-discrete k 8) (ℕ-discrete k 7)
   where
     seven : (b : Bool) → Judged e (unless b 7 0) (need b 7 e >>= (λ _. gives (variable o) (suc e) es))
     seven true = takes refl refl
     seven false = refuses (λ z. omega arith)
 
-    go : Dec (k ≡ 8) → Dec (k ≡ 7) → Judged e (parameterFault s (entry k o ∷ es)) (readParam (levels s) e (entry k o ∷ es))
+    go : Dec (k ≡ 8) → Dec (k ≡ 7) → Judged e (parameterFault scope (entry k o ∷ es)) (readParam scope e (entry k o ∷ es))
     go (yes h) d = rw h (takes refl refl)
-    go (no f) (yes h) = rw (h, scope-test o s) (seven (ltb o s))
-    go (no f) (no g) = rw (other-kind (levels s) e k o es f g, ne-eqb k 8 f, ne-eqb k 7 g) (refuses (λ z. omega arith))
+    go (no f) (yes h) = rw h (seven (any (eqb o) scope))
+    go (no f) (no g) = rw (other-kind scope e k o es f g, ne-eqb k 8 f, ne-eqb k 7 g) (refuses (λ z. omega arith))
 
-judged : (s e : ℕ) (es : List Entry) → Judged e (parameterFault s es) (readParam (levels s) e es)
+judged : (scope : List ℕ) (e : ℕ) (es : List Entry) → Judged e (parameterFault scope es) (readParam scope e es)
 unfolding readParam entryAt _>>=_ parameterFault
-judged s e [] = refuses (λ z. omega arith)
-judged s e (x ∷ es) = judged-entry s e (x .kind) (x .operand) es
+judged scope e [] = refuses (λ z. omega arith)
+judged scope e (x ∷ es) = judged-entry scope e (x .kind) (x .operand) es
 
 -- the parameters behind the first
 rest : ℕ → List ℕ → Got Param → Read (List Param)
 rest n scope p = readParamList n scope (p .next) (p .rest) >>= (λ ps. gives (p .value ∷ ps .value) (ps .next) (ps .rest))
 
 -- the loop's invariant: what is left from entry e on decides
-abbrev pub Left : (ks os : List ℕ) (count s at e left : ℕ) → Type 0
-Left ks os count s at e left =
-    checkedParamList (readParamList count (levels s) at (entriesFrom ks os at))
-    ≡ checkedParamList (readParamList left (levels s) e (entriesFrom ks os e))
+abbrev pub Left : (ks os scope : List ℕ) (count at e left : ℕ) → Type 0
+Left ks os scope count at e left =
+    checkedParamList (readParamList count scope at (entriesFrom ks os at))
+    ≡ checkedParamList (readParamList left scope e (entriesFrom ks os e))
 
-module _ (ks os : List ℕ) (count s at e left : ℕ) (g : Left ks os count s at e left) where
+module _ (ks os scope : List ℕ) (count at e left : ℕ) (g : Left ks os scope count at e left) where
   abbrev Answered : Checked → Type 0
-  Answered r = r ≡ checkedParamList (readParamList count (levels s) at (entriesFrom ks os at))
+  Answered r = r ≡ checkedParamList (readParamList count scope at (entriesFrom ks os at))
 
   pub params-end : left ≤ 0 → Answered (Next e 0)
   unfolding readParamList checked
   params-end z = let y : left ≡ 0 = omega arith in sym (g ∙ rw y)
 
-  module _ (l : 0 < left) (n : ℕ) (en : n ≡ parameterFault s (entriesFrom ks os e)) where
-    opened : readParamList left (levels s) e (entriesFrom ks os e) ≡ (readParam (levels s) e (entriesFrom ks os e) >>= rest (left - 1) (levels s))
+  module _ (l : 0 < left) (n : ℕ) (en : n ≡ parameterFault scope (entriesFrom ks os e)) where
+    opened : readParamList left scope e (entriesFrom ks os e) ≡ (readParam scope e (entriesFrom ks os e) >>= rest (left - 1) scope)
     unfolding rest readParamList
-    opened = let z : left ≡ suc (left - 1) = omega arith in ap (λ k. readParamList k (levels s) e (entriesFrom ks os e)) z
+    opened = let z : left ≡ suc (left - 1) = omega arith in ap (λ k. readParamList k scope e (entriesFrom ks os e)) z
 
-    it : Judged e n (readParam (levels s) e (entriesFrom ks os e))
-    it = subst (λ n. Judged e n (readParam (levels s) e (entriesFrom ks os e))) (sym en) (judged s e (entriesFrom ks os e))
+    it : Judged e n (readParam scope e (entriesFrom ks os e))
+    it = subst (λ n. Judged e n (readParam scope e (entriesFrom ks os e))) (sym en) (judged scope e (entriesFrom ks os e))
 
     pub params-refused : (n ≡ 0 → ⊥) → Answered (Refused n e)
     unfolding checked _>>=_
-    params-refused f = sym (g ∙ ap checkedParamList opened ∙ go (readParam (levels s) e (entriesFrom ks os e)) it)
+    params-refused f = sym (g ∙ ap checkedParamList opened ∙ go (readParam scope e (entriesFrom ks os e)) it)
       where
-        go : (r : Read Param) → Judged e n r → checkedParamList (r >>= rest (left - 1) (levels s)) ≡ Refused n e
+        go : (r : Read Param) → Judged e n r → checkedParamList (r >>= rest (left - 1) scope) ≡ Refused n e
         go (refused m i) (refuses h) = refl
         go (got p) (takes z h) = absurd (f z)
 
-    pub params-more : n ≡ 0 → Left ks os count s at (e + 1) (left - 1)
+    pub params-more : n ≡ 0 → Left ks os scope count at (e + 1) (left - 1)
     unfolding rest _>>=_
-    params-more z = g ∙ ap checkedParamList opened ∙ go (readParam (levels s) e (entriesFrom ks os e)) refl it
+    params-more z = g ∙ ap checkedParamList opened ∙ go (readParam scope e (entriesFrom ks os e)) refl it
       where
-        go : (r : Read Param) → readParam (levels s) e (entriesFrom ks os e) ≡ r → Judged e n r
-            → checkedParamList (r >>= rest (left - 1) (levels s))
-            ≡ checkedParamList (readParamList (left - 1) (levels s) (e + 1) (entriesFrom ks os (e + 1)))
+        go : (r : Read Param) → readParam scope e (entriesFrom ks os e) ≡ r → Judged e n r
+            → checkedParamList (r >>= rest (left - 1) scope)
+            ≡ checkedParamList (readParamList (left - 1) scope (e + 1) (entriesFrom ks os (e + 1)))
         go (refused m i) q (refuses h) = absurd (h z)
         go (got p) q (takes y h) =
-            let b = param-from (entries ks os) (levels s) e (entriesFrom ks os e) p refl q in
+            let b = param-from (entries ks os) scope e (entriesFrom ks os e) p refl q in
             let i = h ∙ sym (add-one e) in
-            same-nodes (λ ps. 0) (λ ps. 0) (λ ps. p .value ∷ ps) (λ ps. refl) (readParamList (left - 1) (levels s) (p .next) (p .rest))
-            ∙ ap₂ (λ i l. checkedParamList (readParamList (left - 1) (levels s) i l)) i (b .rest ∙ ap (λ i. drop i (entries ks os)) i)
+            same-nodes (λ ps. 0) (λ ps. 0) (λ ps. p .value ∷ ps) (λ ps. refl) (readParamList (left - 1) scope (p .next) (p .rest))
+            ∙ ap₂ (λ i l. checkedParamList (readParamList (left - 1) scope i l)) i (b .rest ∙ ap (λ i. drop i (entries ks os)) i)
 
     -- a parameter that is read is an entry
     pub params-fit : length ks ≤ 512 → n ≡ 0 → e + 1 < 4096
@@ -135,7 +139,7 @@ module _ (ks os : List ℕ) (count s at e left : ℕ) (g : Left ks os count s at
       where
         go : Dec (e < length ks) → e + 1 < 4096
         go (yes m) = omega arith
-        go (no f) = let y : 5 ≡ n = param-end ks os s e (omega arith) ∙ sym en in absurd (omega arith)
+        go (no f) = let y : 5 ≡ n = param-end ks os scope e (omega arith) ∙ sym en in absurd (omega arith)
 
 -- parameters make no node
 pub params-nodes : (q : Checked) (r : Read (List Param)) → q ≡ checkedParamList r → checkedNodes q < 4096

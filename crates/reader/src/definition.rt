@@ -3,6 +3,7 @@ use crate::checked;
 use crate::checked::Checked;
 use crate::entry;
 use crate::expression;
+use crate::scope;
 ghost use mathlib.Core.Path.{_≡_};
 ghost use Prim.Native.Nat.{_≤_};
 ghost use Rattle.job.specs.Entry.{entries};
@@ -25,10 +26,9 @@ fn check_definition(kinds: &[u8], operands: &[u8], at: usize) -> Checked
     if 4 < formals {
         return Checked::Refused(4, at);
     }
-    checked::add_nodes(
-        expression::check_expression(kinds, operands, expression::DEPTH, formals as usize, at + 1),
-        1,
-    )
+    let scope = scope::of_formals(formals);
+    let body = expression::check_expression(kinds, operands, expression::DEPTH, scope, at + 1);
+    checked::add_nodes(body, 1)
 }
 
 // So many definitions, from the first entry on. The count of formals and the number of nodes, its sink included, of each that is read before

@@ -6,4 +6,5 @@ pub mod entry;
 pub mod expression;
 mod parameter;
 mod program;
+pub mod scope;
 pub mod table;

@@ -4,6 +4,7 @@ use crate::checked;
 use crate::checked::Checked;
 use crate::definition;
 use crate::expression;
+use crate::scope;
 ghost use mathlib.Core.Path.{_≡_};
 ghost use Prim.Native.Nat.{_≤_};
 ghost use lib.Seq.{sets};
@@ -42,7 +43,8 @@ pub fn check_program(
     match found {
         Checked::Refused(n, e) => Checked::Refused(n, e),
         Checked::Next(at, before) => {
-            let goal = expression::check_expression(kinds, operands, expression::DEPTH, 0, at);
+            let scope = scope::of_formals(0);
+            let goal = expression::check_expression(kinds, operands, expression::DEPTH, scope, at);
             match goal {
                 Checked::Refused(n, e) => Checked::Refused(n, e),
                 Checked::Next(end, nodes) => {

@@ -4,9 +4,6 @@ use Rattle.compiler.proofs.OwnRows.{own-par, own-seq, own-prune}
 use Rattle.compiler.proofs.join.put_own.Statement.{statement}
 use Rattle.compiler.proofs.join.put_own.Tie as tie
 
-cast-x : tie.Need-cast-x
-cast-x c = search needs
-
 put-requires : tie.Need-put-requires
 put-requires c κs = search needs
 
@@ -54,7 +51,6 @@ pub put-own-spec : {M : Type 1} → statement M
 put-own-spec =
     tie.close
     (tie.spec
-    cast-x
     put-requires
     returns
     put-requires-2
