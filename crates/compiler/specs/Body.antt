@@ -1,5 +1,5 @@
--- What compiling a body gives and stores: "a definition's body goes toward return, the goal toward publish", "a body's sink follows its last
--- entry". Assumes nothing: these are definitions.
+-- What compiling a body gives and stores: "a definition's body goes toward return, the goal toward publish", "a body's sink follows its
+-- last entry". Assumes nothing: these are definitions.
 use mathlib.Core.Path.{_≡_}
 use mathlib.Core.Bool.{Bool, true, false}
 use mathlib.Core.List.{List, [], _∷_, _++_}
@@ -13,7 +13,7 @@ use Rattle.job.specs.Read.{Got, Read, got, refused}
 use Rattle.reader.specs.Checked.{Parts}
 use Rattle.reader.specs.Scope.{Means}
 use Rattle.reader.specs.declared.scope.Scope.{Scope}
-use Rattle.compiler.specs.Compiled.{reading}
+use Rattle.compiler.specs.ExpressionCompiled.{reading}
 use Rattle.compiler.specs.declared.expression.Compiled.{Compiled}
 
 -- the sink of the goal, or of a definition

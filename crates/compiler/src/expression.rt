@@ -1,7 +1,7 @@
 // "Compile an expression toward a next node."
 ghost use mathlib.Core.Path.{_≡_};
 ghost use Prim.Native.Nat.{_+_, _<_};
-ghost use Rattle.compiler.specs.Compiled.{AcceptedInSome, WhereAccepted, compiled, stored};
+ghost use Rattle.compiler.specs.ExpressionCompiled.{AcceptedInSome, WhereAccepted, compiled, stored};
 use crate::call::put_call;
 use crate::join::join_root;
 use crate::join::put_own;

@@ -1,5 +1,5 @@
--- Decoding the words of a dag gives the dag back, and writing a dag leaves every other word as it was: a row's twelve words determine its node,
--- and the head and the rows stand side by side in the array. Assumes nothing.
+-- Decoding the words of a dag gives the dag back, and writing a dag leaves every other word as it was: a row's twelve words determine its
+-- node, and the head and the rows stand side by side in the array. Assumes nothing.
 use mathlib.Core.Path.{_≡_, refl, _∙_, ap, ap₂}
 use mathlib.Core.Logic.{_⊎_, inl, inr}
 use mathlib.Core.Bool.{true, false}
@@ -15,14 +15,15 @@ use Rattle.job.specs.Number.{Signed32, fits, signed, unsigned}
 use Rattle.job.specs.Site.{siteTakes}
 use Rattle.job.specs.Syntax.{Param, variable, constant}
 use Rattle.job.specs.Node.{Node, Body, Dag, paramHolds, paramsHold, isNode, nodeHolds, dagHolds}
-use Rattle.job.specs.Words.{paramWords, nodeWords, paramOf, paramsFrom, nodeBy, decodedNode, nodesFrom, bodiesFrom, headWords, arrayWords, dagOf, rowsOfNodes, bodyWords, written}
+use Rattle.job.specs.Words.{paramWords, nodeWords, paramOf, paramsFrom, nodeBy, decodedNode, nodesFrom}
+use Rattle.job.specs.Words.{bodiesFrom, headWords, arrayWords, dagOf, rowsOfNodes, bodyWords, written}
 use Rattle.job.proofs.Laid.{Laid, laid, getD-sets-before, getD-sets-after}
 use Rattle.job.proofs.Rules.{DagRules, dag-rules}
 use Rattle.job.proofs.Number.{signed-unsigned}
 use Rattle.job.proofs.Test.{clash, ltb-lt, leb-le, le-not-ltb, and-left, and-right, all-head, all-tail, same-refl}
 
 -- parameters
-param-words-length : (n : ℕ) (ps : List Param) → length (paramWords n ps) ≡ 2 * n
+pub param-words-length : (n : ℕ) (ps : List Param) → length (paramWords n ps) ≡ 2 * n
 unfolding paramWords
 param-words-length zero ps = refl
 param-words-length (suc n) [] = omega (arith, param-words-length n [])
@@ -92,7 +93,8 @@ rows-length d (n ∷ ns) e =
     let rest = rows-length d ns (all-tail (nodeHolds d) n ns e) in
     simp length-append (omega arith)
 
-pub rows-back : (d : Dag) (ns : List Node) (rest : List ℕ) → all (nodeHolds d) ns ≡ true → nodesFrom (length ns) (rowsOfNodes ns ++ rest) ≡ ns
+pub rows-back : (d : Dag) (ns : List Node) (rest : List ℕ) → all (nodeHolds d) ns ≡ true
+    → nodesFrom (length ns) (rowsOfNodes ns ++ rest) ≡ ns
 unfolding rowsOfNodes nodesFrom
 rows-back d [] rest e = refl
 rows-back d (n ∷ ns) rest e =
@@ -122,7 +124,8 @@ unfolding headOf
 head-length d = omega (arith, body-words-length (d .bodies))
 
 -- the dag that words laid out so hold
-laid-back : (d : Dag) {ws : List ℕ} → all (nodeHolds d) (d .nodes) ≡ true → Laid (headOf d) (rowsOfNodes (d .nodes)) ws headWords → dagOf ws ≡ d
+laid-back : (d : Dag) {ws : List ℕ} → all (nodeHolds d) (d .nodes) ≡ true → Laid (headOf d) (rowsOfNodes (d .nodes)) ws headWords
+    → dagOf ws ≡ d
 unfolding dagOf headOf
 laid-back d {ws} e r =
     let rest = rowsOfNodes (d .nodes) ++ r .after in

@@ -21,6 +21,7 @@ pub mod Rules
 pub mod DagHolds
 pub mod Laid
 pub mod Decode
+pub mod NodeRows
 pub mod DeclinedAt
 pub mod Lists
 pub mod Both

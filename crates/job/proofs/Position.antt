@@ -3,20 +3,18 @@
 use mathlib.Core.Path.{_≡_, refl, sym, _∙_, ap, subst}
 use mathlib.Core.Bool.{Bool, true, false}
 use mathlib.Core.List.{List, [], _∷_}
-use Prim.Native.Nat.{ℕ, zero, suc, _+_, _*_, _<_, _≤_}
+use Prim.Native.Nat.{ℕ, zero, suc, _+_, _*_, _^_, _<_, _≤_}
+use native.Mathlib.Nat.{add-zero}
 use native.Mathlib.Omega.{arith}
 use lib.ListN.{length, getD, take, drop}
-use lib.Seq.{drop-drop}
+use lib.Seq.{drop-drop, getD-drop}
 use lib.Dec.{eqb}
 use Rattle.job.specs.Test.{any}
 use Rattle.job.specs.Number.{number, signed}
 use Rattle.job.specs.Syntax.{Param, variable, constant, Join, par, seq, prune, Exp, stop, site, call, scopeLeft, scopeRight}
-use Rattle.job.specs.Entry.{Entry, entry, entries, low, high, EntryKind, kindOf}
-use Rattle.job.specs.Read.{Got, Read, got, refused, _>>=_, gives, need, entryAt, readParam, readParamList, readCall, readJoin, readExp}
-
--- the operand at an index
-abbrev pub operandAt : List ℕ → ℕ → ℕ
-operandAt os at = number (take 4 (drop (4 * at) os))
+use Rattle.job.specs.Entry.{Entry, entry, entries, operandAt, low, high, EntryKind, kindOf}
+use Rattle.job.specs.Read.{Got, Read, got, refused, _>>=_, gives, need, entryAt, readParam, readParamList}
+use Rattle.job.specs.Read.{readCall, readJoin, readExp}
 
 pub entries-length : (ks os : List ℕ) → length (entries ks os) ≡ length ks
 unfolding entries
@@ -41,6 +39,29 @@ entries-at (k ∷ ks) os (suc at) l =
     ∙ ap (λ o. entry (getD ks at 0) (number (take 4 o)) ∷ drop (suc at) (entries ks (drop 4 os)))
     (drop-drop (4 * at) 4 os ∙ ap (λ n. drop n os) (let z : 4 + 4 * at ≡ 4 * suc at = omega arith in z))
 
+-- an operand's four bytes are less than 2 to the 32
+four-bytes : (l : List ℕ) → number (take 4 l) ≡ getD l 0 0 + getD l 1 0 * 256 + getD l 2 0 * 65536 + getD l 3 0 * 16777216
+unfolding number
+four-bytes [] = refl
+four-bytes (a ∷ []) = omega arith
+four-bytes (a ∷ b ∷ []) = omega arith
+four-bytes (a ∷ b ∷ c ∷ []) = omega arith
+four-bytes (a ∷ b ∷ c ∷ d ∷ l) = omega arith
+
+operand-bytes : (os : List ℕ) (at : ℕ)
+    → operandAt os at
+    ≡ getD os (4 * at) 0 + getD os (4 * at + 1) 0 * 256 + getD os (4 * at + 2) 0 * 65536 + getD os (4 * at + 3) 0 * 16777216
+operand-bytes os at = four-bytes (drop (4 * at) os) ∙ simp (getD-drop, add-zero)
+
+pub operand-small : (os : List ℕ) → ((i : ℕ) → getD os i 0 < 256) → (at : ℕ) → operandAt os at < 2 ^ 32
+operand-small os b at =
+    let a0 = b (4 * at) in
+    let a1 = b (4 * at + 1) in
+    let a2 = b (4 * at + 2) in
+    let a3 = b (4 * at + 3) in
+    let z = operand-bytes os at in
+    omega arith
+
 -- what was read from index e of the entries es on ends at a later index, and the rest is what stands there
 pub record From {A : Type 0} (es : List Entry) (e : ℕ) (g : Got A) : Type 0 where
   pub rest : g .rest ≡ drop (g .next) es
@@ -56,6 +77,19 @@ bind-got (refused n k) f b e = let z : _≡_ {A = ℕ} 0 1 = cc in absurd (omega
 
 pub refused-got : {A B : Type 0} {n e : ℕ} {g : Got A} → _≡_ {A = Read A} (refused n e) (got g) → B
 refused-got e = let z : _≡_ {A = ℕ} 0 1 = cc in absurd (omega arith)
+
+pub test-holds : (b : Bool) (n e : ℕ) (x : Got (Unit {0})) → need b n e ≡ got x → b ≡ true
+unfolding need
+test-holds true n e x r = refl
+test-holds false n e x r = refused-got r
+
+pub same-got : {A : Type 0} (P : Got A → Type 0) (g h : Got A) → got g ≡ got h → P g → P h
+same-got P g h e p = let z : g ≡ h = cc in subst P z p
+
+-- a reading from the same place, with the same variables in scope, is the same
+pub reread : {A : Type 0} (f : List ℕ → ℕ → List Entry → Read A) {s s' : List ℕ} {e e' : ℕ} {l l' : List Entry} {g : Got A}
+    → s ≡ s' → e ≡ e' → l ≡ l' → f s e l ≡ got g → f s' e' l' ≡ got g
+reread f p q r h = cc
 
 module _ (es : List Entry) where
   drop-one : (e : ℕ) (x : Entry) (l : List Entry) (ys : List Entry) → x ∷ l ≡ drop e ys → (l ≡ drop (suc e) ys) × (e < length ys)
@@ -87,7 +121,8 @@ module _ (es : List Entry) where
   pub param-from : (scope : List ℕ) (e : ℕ) (l : List Entry) (g : Got Param)
       → l ≡ drop e es → readParam scope e l ≡ got g → From es e g
   unfolding readParam
-  param-from scope e l g q r = let b = bind-got (entryAt e l) _ g r in kind-from (b .0) (entered l (b .0) q (b .1)) (kindOf (b .0 .value .kind)) (b .2)
+  param-from scope e l g q r = let b = bind-got (entryAt e l) _ g r in
+      kind-from (b .0) (entered l (b .0) q (b .1)) (kindOf (b .0 .value .kind)) (b .2)
     where
       kept : (x : Got Entry) → From es e x → (p : Param) → gives p (x .next) (x .rest) ≡ got g → From es e g
       kept x f p r = moved (cc) (cc) f
@@ -101,7 +136,8 @@ module _ (es : List Entry) where
             | EntryKind.seq ↦ refused 3 e
             | EntryKind.prune ↦ refused 3 e
             | EntryKind.definition ↦ refused 3 e
-            | EntryKind.variable ↦ need (any (eqb (x .value .operand)) scope) 7 e >>= (λ _. gives (variable (x .value .operand)) (x .next) (x .rest))
+            | EntryKind.variable ↦ need (any (eqb (x .value .operand)) scope) 7 e
+                >>= (λ _. gives (variable (x .value .operand)) (x .next) (x .rest))
             | EntryKind.constant ↦ gives (constant (signed (x .value .operand))) (x .next) (x .rest)
             | EntryKind.unknown ↦ refused 3 e
           ]) ≡ got g → From es e g
@@ -117,7 +153,10 @@ module _ (es : List Entry) where
       kind-from x f EntryKind.unknown r = refused-got r
 
   here : {A : Type 0} (a : A) (e : ℕ) (l : List Entry) → l ≡ drop e es → e ≤ length es → (g : Got A) → gives a e l ≡ got g → From es e g
-  here a e l q m g r = record { rest = (let z : l ≡ g .rest = cc in let y : e ≡ g .next = cc in sym z ∙ (q ∙ ap (λ n. drop n es) y)); next = (let y : e ≡ g .next = cc in omega arith); last = (let y : e ≡ g .next = cc in omega arith) }
+  here a e l q m g r =
+      let z : l ≡ g .rest = cc in
+      let y : e ≡ g .next = cc in
+      record { rest = sym z ∙ (q ∙ ap (λ n. drop n es) y); next = omega arith; last = omega arith }
 
   pub params-from : (n : ℕ) (scope : List ℕ) (e : ℕ) (l : List Entry) (g : Got (List Param))
       → l ≡ drop e es → e ≤ length es → readParamList n scope e l ≡ got g → From es e g
@@ -177,11 +216,17 @@ module _ (es : List Entry) where
             | EntryKind.unknown ↦ refused 3 e
           ]) ≡ got g → From es e g
       kind-from x f EntryKind.stop reads r = moved (cc) (cc) f
-      kind-from x f EntryKind.site reads r = onward f (call-from (λ ps. site (low (x .value .operand)) ps) (high (x .value .operand)) scope (x .next) (x .rest) g (f .rest) (f .last) r)
-      kind-from x f EntryKind.call reads r = onward f (call-from (λ ps. call (low (x .value .operand)) ps) (high (x .value .operand)) scope (x .next) (x .rest) g (f .rest) (f .last) r)
+      kind-from x f EntryKind.site reads r =
+          onward f (call-from (λ ps. site (low (x .value .operand)) ps) (high (x .value .operand)) scope (x .next) (x .rest) g (f .rest)
+          (f .last) r)
+      kind-from x f EntryKind.call reads r =
+          onward f (call-from (λ ps. call (low (x .value .operand)) ps) (high (x .value .operand)) scope (x .next) (x .rest) g (f .rest)
+          (f .last) r)
       kind-from x f EntryKind.par reads r = onward f (join-from (readExp left) reads par scope (x .next) (x .rest) g (f .rest) r)
-      kind-from x f EntryKind.seq reads r = onward f (join-from (readExp left) reads (seq (length scope)) scope (x .next) (x .rest) g (f .rest) r)
-      kind-from x f EntryKind.prune reads r = onward f (join-from (readExp left) reads (prune (length scope)) scope (x .next) (x .rest) g (f .rest) r)
+      kind-from x f EntryKind.seq reads r =
+          onward f (join-from (readExp left) reads (seq (length scope)) scope (x .next) (x .rest) g (f .rest) r)
+      kind-from x f EntryKind.prune reads r =
+          onward f (join-from (readExp left) reads (prune (length scope)) scope (x .next) (x .rest) g (f .rest) r)
       kind-from x f EntryKind.definition reads r = refused-got r
       kind-from x f EntryKind.variable reads r = refused-got r
       kind-from x f EntryKind.constant reads r = refused-got r

@@ -9,8 +9,8 @@ ghost use Prim.Native.Nat.{_≤_};
 ghost use Rattle.job.specs.Entry.{entries};
 ghost use Rattle.job.specs.Read.{readEntries};
 ghost use Rattle.reader.specs.Checked.{Parts};
-ghost use Rattle.reader.specs.DefinitionList.{readDefinitionList};
-ghost use Rattle.loader.specs.Stored.{DefinitionsRead, Accepts, placeBehind, storedDefinitions, storedProgram};
+ghost use Rattle.reader.specs.Definition.{readDefinitionList};
+ghost use Rattle.loader.specs.ProgramStored.{DefinitionsRead, Accepts, placeBehind, storedDefinitions, storedProgram};
 
 // The first entry and the first node behind what is compiled.
 pub struct Place {

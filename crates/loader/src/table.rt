@@ -6,7 +6,7 @@ use reader::table::check_table;
 use reader::table::half;
 ghost use mathlib.Core.Path.{_≡_};
 ghost use Rattle.job.specs.Read.{readTable};
-ghost use Rattle.loader.specs.Loaded.{loaded, loadedWords};
+ghost use Rattle.loader.specs.TableLoaded.{loaded, loadedWords};
 
 // The number of nodes of the dag that was written; or a refusal's number and entry.
 pub enum Loaded {

@@ -1,59 +1,72 @@
 -- The loop over the definitions: those that are done stand in front of what is left to read, and what is kept of them at the front of the
 -- arrays. Assumes nothing.
-use mathlib.Core.Path.{_≡_, refl, sym, _∙_, ap, ap₂, subst}
+use mathlib.Core.Path.{_≡_, refl, sym, _∙_, ap, ap₂}
 use mathlib.Core.List.{List, [], _∷_, _++_, map, append-assoc, append-nil}
 use Prim.Native.Nat.{ℕ, suc, _+_, _*_, _-_, _<_, _≤_}
 use native.Mathlib.Nat.{zero-add}
 use native.Mathlib.Omega.{arith}
 use native.Mathlib.Decide.{decLt}
-use lib.ListN.{length, getD, take, drop, set, length-append, length-map}
+use lib.ListN.{length, getD, drop, set, length-append, length-map}
 use lib.Seq.{sets}
-use Rattle.job.specs.Number.{number}
 use Rattle.job.specs.Syntax.{Exp, Definition, levels, formalsOf}
-use Rattle.job.specs.Entry.{entries, kindOf}
+use Rattle.job.specs.Entry.{entries, operandAt, EntryKind, kindOf, rowHolds}
 use Rattle.job.specs.Read.{Got, Read, got, refused, _>>=_, gives, need, entryAt, readExp, isDefinition, readDefinition}
+use Rattle.job.proofs.Test.{leb-le}
 use Rattle.job.proofs.Stores.{sets-append}
-use Rattle.job.proofs.Position.{entries-end, entries-at, entries-length, bind-got, refused-got, exp-from}
+use Rattle.job.proofs.Position.{entries-end, entries-at, entries-length, bind-got, refused-got, same-got, test-holds, exp-from}
 use Rattle.reader.specs.Checked.{entriesFrom, checked}
-use Rattle.reader.specs.DefinitionList.{readDefinitionList, definitionNodes, definitionListNodes, definitionSizes, checkedDefinition, checkedDefinitionList}
-use Rattle.reader.specs.DefinitionList.{andThen, definitionsFound, DefinitionsHold}
+use Rattle.reader.specs.Definition.{readDefinitionList, definitionNodes, definitionListNodes, definitionSizes, checkedDefinition}
+use Rattle.reader.specs.Definition.{checkedDefinitionList, andThen, definitionsFound, DefinitionsHold}
 use Rattle.reader.specs.declared.checked.Checked.{Checked}
 use Rattle.reader.specs.declared.checked.Checked.the-variants.{Next, Refused}
-use Rattle.reader.proofs.Onward.{checked-refused, checked-next}
-use Rattle.reader.proofs.Few.{read-few}
+use Rattle.reader.proofs.CheckedLaws.{checked-refused, checked-next}
+use Rattle.reader.proofs.ExpressionNodes.{read-few}
 
--- a definition that was read from entry `at` on
+-- a definition that was read from entry `at` on, and its body
 pub record Defined (ks os : List ℕ) (at : ℕ) (g : Got Definition) : Type 0 where
+  pub body : Got Exp
+  pub read : readExp 24 (levels (operandAt os at)) (suc at) (entriesFrom ks os (suc at)) ≡ got body
+  pub value : g .value ≡ record { formals = operandAt os at; body = body .value }
+  pub next : g .next ≡ body .next
   pub rest : g .rest ≡ entriesFrom ks os (g .next)
   pub last : g .next ≤ length ks
   pub here : at < length ks
-  pub formals : g .value .formals ≡ number (take 4 (drop (4 * at) os))
+  pub small : operandAt os at ≤ 4
   pub few : definitionNodes (g .value) + 2 + 2 * at ≤ 2 * g .next
 
-body-defined : (ks os : List ℕ) (at : ℕ) (b : Got Exp) → at < length ks
-    → readExp 24 (levels (number (take 4 (drop (4 * at) os)))) (suc at) (entriesFrom ks os (suc at)) ≡ got b
-    → Defined ks os at (record { value = record { formals = number (take 4 (drop (4 * at) os)); body = b .value }; next = b .next; rest = b .rest })
-body-defined ks os at b l r =
-    let scope = levels (number (take 4 (drop (4 * at) os))) in
+body-defined : (ks os : List ℕ) (at : ℕ) (b : Got Exp) → at < length ks → operandAt os at ≤ 4
+    → readExp 24 (levels (operandAt os at)) (suc at) (entriesFrom ks os (suc at)) ≡ got b
+    → Defined ks os at (record { value = record { formals = operandAt os at; body = b .value }; next = b .next; rest = b .rest })
+body-defined ks os at b l m r =
+    let scope = levels (operandAt os at) in
     let f = exp-from (entries ks os) 24 scope (suc at) (entriesFrom ks os (suc at)) b refl r in
-    let small = read-few ks os 24 scope (suc at) b r .few in
+    let few = read-few ks os 24 scope (suc at) b r .few in
     let last = f .last in
-    record { rest = f .rest; last = omega (arith, entries-length ks os); here = l; formals = refl; few = omega arith }
+    record {
+      body = b;
+      read = r;
+      value = refl;
+      next = refl;
+      rest = f .rest;
+      last = omega (arith, entries-length ks os);
+      here = l;
+      small = m;
+      few = omega arith;
+    }
 
 pub defined : (ks os : List ℕ) (at : ℕ) (g : Got Definition) → readDefinition at (entriesFrom ks os at) ≡ got g → Defined ks os at g
-unfolding readDefinition entryAt _>>=_
+unfolding readDefinition entryAt rowHolds _>>=_
 defined ks os at g r = go (decLt at (length ks))
   where
-    same : (h : Got Definition) → got h ≡ got g → Defined ks os at h → Defined ks os at g
-    same h e d = let z : h ≡ g = cc in subst (Defined ks os at) z d
-
     go : Dec (at < length ks) → Defined ks os at g
     go (no f) = refused-got (ap (readDefinition at) (sym (entries-end ks os at (omega arith))) ∙ r)
     go (yes l) =
-        let a = bind-got (need (isDefinition (kindOf (getD ks at 0))) 3 at) _ g (ap (readDefinition at) (sym (entries-at ks os at l)) ∙ r) in
-        let b = bind-got (need _ 4 at) _ g (a .2) in
-        let c = bind-got (readExp 24 _ (suc at) (drop (suc at) (entries ks os))) _ g (b .2) in
-        same _ (c .2) (body-defined ks os at (c .0) l (c .1))
+        let o = operandAt os at in
+        let a =
+        bind-got (need (isDefinition (kindOf (getD ks at 0))) 3 at) _ g (ap (readDefinition at) (sym (entries-at ks os at l)) ∙ r) in
+        let b = bind-got (need (rowHolds EntryKind.definition o) 4 at) _ g (a .2) in
+        let c = bind-got (readExp 24 (levels o) (suc at) (drop (suc at) (entries ks os))) _ g (b .2) in
+        same-got (Defined ks os at) _ g (c .2) (body-defined ks os at (c .0) l (leb-le o 4 (test-holds _ 4 at (b .0) (b .1))) (c .1))
 
 -- definitions in front of those that a reading gives
 pub prefixed : List Definition → Read (List Definition) → Read (List Definition)
@@ -80,7 +93,8 @@ map-more f [] d = refl
 map-more f (x ∷ ds) d = ap (λ l. f x ∷ l) (map-more f ds d)
 
 -- one more number is kept behind those that are done
-kept-more : (f : Definition → ℕ) (ds : List Definition) (d : Definition) (l₀ l : List ℕ) (i x : ℕ) → length ds ≡ i → l ≡ sets l₀ 0 (map f ds)
+kept-more : (f : Definition → ℕ) (ds : List Definition) (d : Definition) (l₀ l : List ℕ) (i x : ℕ) → length ds ≡ i
+    → l ≡ sets l₀ 0 (map f ds)
     → x ≡ f d → set l i x ≡ sets l₀ 0 (map f (ds ++ (d ∷ [])))
 kept-more f ds d l₀ l i x many e ex =
     ap₂ (λ l x. set l i x) e ex
@@ -155,7 +169,8 @@ module _ (count : ℕ) (ks os fs₀ ss₀ fs ss : List ℕ) (at nodes i : ℕ) (
     left : count - i ≡ suc (count - (i + 1))
     left = omega arith
 
-    opened : readDefinitionList count 0 (entries ks os) ≡ prefixed (g .done) (readDefinition at (entriesFrom ks os at) >>= tail (count - (i + 1)))
+    opened : readDefinitionList count 0 (entries ks os)
+        ≡ prefixed (g .done) (readDefinition at (entriesFrom ks os at) >>= tail (count - (i + 1)))
     unfolding readDefinitionList tail
     opened = g .rest ∙ ap (λ k. prefixed (g .done) (readDefinitionList k at (entriesFrom ks os at))) left
 
@@ -199,7 +214,7 @@ module _ (count : ℕ) (ks os fs₀ ss₀ fs ss : List ℕ) (at nodes i : ℕ) (
       pub reading-size : length ks ≤ 512 → d < 4096
       reading-size k = let x = reading-fits k in omega arith
 
-      pub reading-more : (o : ℕ) → o ≡ number (take 4 (drop (4 * at) os)) → count ≤ 32
+      pub reading-more : (o : ℕ) → o ≡ operandAt os at → count ≤ 32
           → Reading count ks os fs₀ ss₀ (set fs i o) (set ss i d) m (nodes + d) (i + 1)
       unfolding tail _>>=_ andThen
       reading-more o eo k =
@@ -228,6 +243,8 @@ module _ (count : ℕ) (ks os fs₀ ss₀ fs ss : List ℕ) (at nodes i : ℕ) (
             placed = omega (arith, nodes-more (g .done) new, g .placed);
             few = omega arith;
             last = omega arith;
-            counts = kept-more (λ d. d .formals) (g .done) new fs₀ fs i o (g .many) (g .counts) (eo ∙ sym (facts .formals));
+            counts =
+                kept-more (λ d. d .formals) (g .done) new fs₀ fs i o (g .many) (g .counts)
+                (eo ∙ sym (ap (λ (d : Definition). d .formals) (facts .value)));
             counted = kept-more definitionNodes (g .done) new ss₀ ss i d (g .many) (g .counted) (sym v);
           }

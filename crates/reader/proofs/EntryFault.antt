@@ -6,14 +6,14 @@ use native.Mathlib.Omega.{arith}
 use mathlib.Core.List.{List}
 use lib.ListN.{length}
 use lib.Dec.{ltb}
+use borrow.Author.Tests.{not-true, not-false}
 use Rattle.job.specs.Test.{_or_}
 use Rattle.job.specs.Entry.{kindOf, rowHolds, isBinder}
-use borrow.Author.Tests.{not-true, not-false}
 use Rattle.job.proofs.Test.{lt-ltb, le-not-ltb}
 use Rattle.reader.specs.Scope.{Means}
 use Rattle.reader.specs.declared.scope.Scope.{Scope}
-use Rattle.reader.specs.Fault.{unless, expressionFault}
-use Rattle.reader.proofs.Row.{is-expression, no-expression, is-binder, no-binder}
+use Rattle.reader.specs.EntryFault.{unless, expressionFault}
+use Rattle.reader.proofs.EntryKinds.{is-expression, no-expression, is-binder, no-binder}
 
 module _ (k o left : ℕ) (s : Scope) (scope : List ℕ) (m : Means s scope) where
   pub fault-3 : 5 < k → 3 ≡ expressionFault left scope (kindOf k) o
@@ -44,7 +44,8 @@ module _ (k o left : ℕ) (s : Scope) (scope : List ℕ) (m : Means s scope) whe
         unfolding expressionFault unless
         deeper = go left f
           where
-            go : (left : ℕ) → (left ≡ 0 → ⊥) → expressionFault left scope (kindOf k) o ≡ unless (not (isBinder (kindOf k)) or ltb (length scope) 8) 7 0
+            go : (left : ℕ) → (left ≡ 0 → ⊥)
+                → expressionFault left scope (kindOf k) o ≡ unless (not (isBinder (kindOf k)) or ltb (length scope) 8) 7 0
             go zero f = absurd (f refl)
             go (suc left) f = rw (is-expression k l, ← row, not-false r e)
 

@@ -14,18 +14,18 @@ use Rattle.job.specs.Number.{number}
 use Rattle.job.specs.Syntax.{Program}
 use Rattle.job.specs.Entry.{entries}
 use Rattle.job.specs.Construct.{construct}
-use Rattle.job.specs.Read.{Got, Read, got, refused, _>>=_, gives, need, readEntries, sizeD, sizeN, tableLength, readBytes}
-use Rattle.job.specs.Read.{Answer, accepted, declined, readerAnswer, readTable}
+use Rattle.job.specs.Read.{Got, Read, got, refused, _>>=_, gives, need, readEntries, sizeD, sizeN, tableLength, readBytes, Answer, accepted}
+use Rattle.job.specs.Read.{declined, readerAnswer, readTable}
 use Rattle.job.proofs.Test.{eqb-eq, eq-eqb, ne-eqb, leb-le, le-leb, lt-not-leb, and-left, and-right}
 use Rattle.job.proofs.Read.{Yields, something, yields-need, yields-map, yields-itself}
 use Rattle.reader.specs.Checked.{checkedProgram}
-use Rattle.reader.specs.DefinitionList.{definitionSizes, definitionsFound}
+use Rattle.reader.specs.Definition.{definitionSizes, definitionsFound}
 use Rattle.reader.specs.Table.{tested, readSizes, tableEntries, whereSized, sizesKept}
 use Rattle.reader.specs.declared.checked.Checked.{Checked}
 use Rattle.reader.specs.declared.checked.Checked.the-variants.{Next, Refused}
 use Rattle.reader.specs.declared.table.Tested.{Tested}
 use Rattle.reader.specs.declared.table.Tested.the-variants.{Accepted, Declined}
-use Rattle.reader.proofs.Onward.{checked-refused, checked-next}
+use Rattle.reader.proofs.CheckedLaws.{checked-refused, checked-next}
 use Rattle.reader.proofs.ProgramParts.{parted, all-found}
 
 -- two bytes at an index
@@ -113,7 +113,9 @@ module _ (t s : List ℕ) where
             read = rw (bytes-opened t, sized)
 
             answer : q ≡ checkedProgram (readEntries (sizeD t) (tableEntries t))
-            answer = eq ∙ ap₂ (λ c es. checkedProgram (readEntries c es)) (sym (definition-count t l c ec)) (part-entries t n (entry-count t l n en))
+            answer =
+                eq ∙ ap₂ (λ c es. checkedProgram (readEntries c es)) (sym (definition-count t l c ec))
+                (part-entries t n (entry-count t l n en))
 
             kept : s1 ≡ sets s 0 (sizesKept t)
             unfolding sizesKept whereSized

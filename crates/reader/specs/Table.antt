@@ -7,7 +7,7 @@ use Rattle.job.specs.Test.{_and_}
 use Rattle.job.specs.Entry.{Entry, entries}
 use Rattle.job.specs.Read.{Read, got, refused, _>>=_, need, sizeD, sizeN, tableLength, Answer, accepted, declined}
 use Rattle.job.specs.Construct.{construct}
-use Rattle.reader.specs.DefinitionList.{definitionSizes, definitionsFound}
+use Rattle.reader.specs.Definition.{definitionSizes, definitionsFound}
 use Rattle.reader.specs.declared.table.Tested.{Tested}
 use Rattle.reader.specs.declared.table.Tested.the-variants.{Accepted, Declined}
 

@@ -9,7 +9,7 @@ ghost use Prim.Native.Nat.{_≤_};
 ghost use Rattle.job.specs.Entry.{entries};
 ghost use Rattle.job.specs.Read.{readDefinition};
 ghost use Rattle.reader.specs.Checked.{Parts, entriesFrom};
-ghost use Rattle.reader.specs.DefinitionList.{checkedDefinition, DefinitionsHold};
+ghost use Rattle.reader.specs.Definition.{checkedDefinition, DefinitionsHold};
 
 // The definition from entry `at` on.
 fn check_definition(kinds: &[u8], operands: &[u8], at: usize) -> Checked
@@ -31,8 +31,8 @@ fn check_definition(kinds: &[u8], operands: &[u8], at: usize) -> Checked
     checked::add_nodes(body, 1)
 }
 
-// So many definitions, from the first entry on. The count of formals and the number of nodes, its sink included, of each that is read before
-// the first refusal are kept.
+// So many definitions, from the first entry on. The count of formals and the number of nodes, its sink included, of each that is read
+// before the first refusal are kept.
 pub fn check_definitions(
     kinds: &[u8],
     operands: &[u8],

@@ -5,9 +5,9 @@ ghost use mathlib.Core.Path.{_≡_};
 ghost use Prim.Native.Nat.{_+_, _*_, _<_, _≤_};
 ghost use lib.ListN.{length, take, drop};
 ghost use Rattle.job.specs.Number.{number};
-ghost use Rattle.job.specs.Entry.{kindOf, rowHolds};
+ghost use Rattle.job.specs.Entry.{operandAt, kindOf, rowHolds};
 ghost use Rattle.reader.specs.Scope.{ForEvery};
-ghost use Rattle.reader.specs.Fault.{expressionFault};
+ghost use Rattle.reader.specs.EntryFault.{expressionFault};
 
 // Four bytes, the lowest first.
 fn word(a: u8, b: u8, c: u8, d: u8) -> u32
@@ -27,7 +27,7 @@ pub fn word_at(bytes: &[u8], i: usize) -> u32
 // The operand of entry `at`.
 pub fn operand(operands: &[u8], at: usize) -> u32
     requires { ⌜ (at < 512) × (4 * at + 4 ≤ length (now operands)) ⌝ }
-    ensures { λ r. ⌜ r ≡ number (take 4 (drop (4 * at) (now (operands .entry)))) ⌝ }
+    ensures { λ r. ⌜ r ≡ operandAt (now (operands .entry)) at ⌝ }
 {
     word_at(operands, 4 * at)
 }

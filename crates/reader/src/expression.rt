@@ -10,7 +10,7 @@ ghost use Prim.Native.Nat.{_<_, _≤_};
 ghost use Rattle.job.specs.Read.{readExp};
 ghost use Rattle.reader.specs.Checked.{Parts, entriesFrom, checkedExp};
 ghost use Rattle.reader.specs.Scope.{Scoped, ForEvery};
-ghost use Rattle.reader.specs.Join.{JoinHolds};
+ghost use Rattle.reader.specs.ExpressionSides.{JoinHolds};
 
 // "Depth ends at 24".
 pub const DEPTH: usize = 24;
@@ -58,7 +58,8 @@ pub fn check_expression(
     at: usize,
 ) -> Checked
     requires { ⌜ Parts (now kinds) (now operands) × Scoped scope ⌝ }
-    ensures { λ r. ⌜ ForEvery scope (λ l. r ≡ checkedExp (readExp left l at (entriesFrom (now (kinds .entry)) (now (operands .entry)) at))) ⌝ }
+    ensures { λ r. ⌜ ForEvery scope
+        (λ l. r ≡ checkedExp (readExp left l at (entriesFrom (now (kinds .entry)) (now (operands .entry)) at))) ⌝ }
 {
     if kinds.len() <= at {
         return Checked::Refused(5, at);

@@ -7,7 +7,7 @@ ghost use mathlib.Core.Path.{_≡_};
 ghost use Rattle.job.specs.Read.{readParamList};
 ghost use Rattle.reader.specs.Checked.{Parts, entriesFrom, checkedParamList};
 ghost use Rattle.reader.specs.Scope.{Scoped, ForEvery};
-ghost use Rattle.reader.specs.Fault.{parameterFault};
+ghost use Rattle.reader.specs.EntryFault.{parameterFault};
 
 // The number that refuses the parameter at entry `at`, or 0.
 fn parameter_fault(kinds: &[u8], operands: &[u8], scope: Scope, at: usize) -> u8
@@ -40,7 +40,8 @@ pub fn check_parameters(
     at: usize,
 ) -> Checked
     requires { ⌜ Parts (now kinds) (now operands) × Scoped scope ⌝ }
-    ensures { λ r. ⌜ ForEvery scope (λ l. r ≡ checkedParamList (readParamList count l at (entriesFrom (now (kinds .entry)) (now (operands .entry)) at))) ⌝ }
+    ensures { λ r. ⌜ ForEvery scope
+        (λ l. r ≡ checkedParamList (readParamList count l at (entriesFrom (now (kinds .entry)) (now (operands .entry)) at))) ⌝ }
 {
     let mut next = at;
     let mut left = count;

@@ -11,7 +11,7 @@ ghost use lib.Seq.{sets};
 ghost use Rattle.job.specs.Entry.{entries};
 ghost use Rattle.job.specs.Read.{leftovers, readEntries};
 ghost use Rattle.reader.specs.Checked.{Parts, entriesFrom, checkedTest, checkedProgram};
-ghost use Rattle.reader.specs.DefinitionList.{definitionsFound, definitionSizes};
+ghost use Rattle.reader.specs.Definition.{definitionsFound, definitionSizes};
 
 // Does the table end at entry `at`?
 fn check_end(kinds: &[u8], operands: &[u8], at: usize) -> Checked

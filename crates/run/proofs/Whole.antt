@@ -18,7 +18,7 @@ use Rattle.job.proofs.Test.{leb-le, le-leb, not-leb-lt, lt-not-leb}
 use Rattle.job.proofs.Accepted.{accepted-well-formed}
 use Rattle.model.proofs.Machine.Started.{words-construct}
 use Rattle.job.proofs.DeclinedAt.{declined-at}
-use Rattle.loader.specs.Loaded.{loaded, loadedWords}
+use Rattle.loader.specs.TableLoaded.{loaded, loadedWords}
 use Rattle.loader.specs.declared.table.Loaded.the-variants.{Dag, Refused}
 use Rattle.run.specs.Input.{tableEnd, dagAfter}
 use Rattle.house.specs.Accepted.{Accepted}
@@ -36,7 +36,8 @@ accepted-of (declined m e) k q = let z : _≡_ {A = ℕ} 0 1 = cc in absurd (ome
 
 module _ (s : List ℕ) where
   -- "the first 4 + 5N bytes, or all if there are fewer"
-  cut : (b : Bool) → leb (tableLength s) (length s) ≡ b → (take (tableEnd s) s ≡ take (tableLength s) s) × (drop (tableEnd s) s ≡ drop (tableLength s) s)
+  cut : (b : Bool) → leb (tableLength s) (length s) ≡ b
+      → (take (tableEnd s) s ≡ take (tableLength s) s) × (drop (tableEnd s) s ≡ drop (tableLength s) s)
   unfolding tableEnd
   cut true e = rw (e, tableEnd) (refl, refl)
   cut false e =

@@ -1,6 +1,6 @@
 -- `body::compile_body` meets its contract: the body's rows are stored, then its sink's behind them. Assumes nothing.
 use borrow.Author.Needs.{needs}
-use Rattle.compiler.proofs.Sinks.{body-accepted, body-done}
+use Rattle.compiler.proofs.BodySink.{body-accepted, body-done}
 use Rattle.compiler.proofs.body.compile_body.Statement.{statement}
 use Rattle.compiler.proofs.body.compile_body.Tie as tie
 

@@ -5,9 +5,9 @@ use borrow.Fn.Kinds.{In}
 use borrow.Fn.PlainCycle.{Measures, is, falls, and}
 use borrow.Author.Needs.{needs}
 use native.Mathlib.Omega.{arith}
-use Rattle.compiler.proofs.Taking.{taken, binder-room}
-use Rattle.compiler.proofs.OneNode.{stop-done, call-room, call-done}
-use Rattle.compiler.proofs.TwoSides.{own-room, accept-left, accept-right, join-done}
+use Rattle.compiler.proofs.ExpressionTaking.{taken, binder-room}
+use Rattle.compiler.proofs.ExpressionNode.{stop-done, call-room, call-done}
+use Rattle.compiler.proofs.ExpressionJoin.{own-room, accept-left, accept-right, join-done}
 use Rattle.compiler.proofs.expression.compile_expression.Reads as reads
 use Rattle.compiler.proofs.expression.compile_expression.Kinds as kinds
 use Rattle.compiler.proofs.expression.+compile_expression.Lts-compile_expression as lts
@@ -84,7 +84,8 @@ put-call-requires t c κs =
       search needs,
       (
         start .pre .1 .1 .low,
-        call-room (taken (start .pre .1 .1)) (λ i. omega (arith, known .shared-slice-known2 .given i)) (call .before .if1 .left) (call .if2 .taken),
+        call-room (taken (start .pre .1 .1)) (λ i. omega (arith, known .shared-slice-known2 .given i)) (call .before .if1 .left)
+            (call .if2 .taken),
       ),
     )
 
@@ -141,8 +142,10 @@ compile-expression-requires-2 t c κs =
     let start = test .before .before .before .before .before in
     let a = start .pre .1 .1 in
     let in-left = l .left-plan .ensures _ (a .means) in
-    let given = f .compile-expression .ensures _ (accept-left (taken a) (test .if2 .left) _ in-left) in
-    (omega (arith, start .pre .0, a .deep), (_, accept-right (taken a) (test .if2 .left) _ in-left (given .0) (r .right-plan .ensures _ (a .means))))
+    let given = f .compile-expression .ensures _ (accept-left (taken a) (test .if2 .left) _ in-left) in (
+      omega (arith, start .pre .0, a .deep),
+      (_, accept-right (taken a) (test .if2 .left) _ in-left (given .0) (r .right-plan .ensures _ (a .means))),
+    )
 
 put-own-requires : (t : ℕ) → lts.Need-put-own-requires (claims t) (At t) reads.Post
 put-own-requires t c κs =

@@ -1,7 +1,7 @@
 -- `plan::left_plan` meets its contract: a law for each kind of join. Assumes nothing.
 use borrow.Author.Needs.{needs}
 use native.Mathlib.Omega.{arith}
-use Rattle.compiler.proofs.Plans.{left-par, left-seq, left-prune}
+use Rattle.compiler.proofs.PlanLaws.{left-par, left-seq, left-prune}
 use Rattle.compiler.proofs.plan.left_plan.Statement.{statement}
 use Rattle.compiler.proofs.plan.left_plan.Tie as tie
 

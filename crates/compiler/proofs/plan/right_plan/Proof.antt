@@ -1,7 +1,7 @@
 -- `plan::right_plan` meets its contract: a law for each kind of join. Assumes nothing.
 use borrow.Author.Needs.{needs}
 use native.Mathlib.Omega.{arith}
-use Rattle.compiler.proofs.Plans.{right-par, right-seq, right-prune}
+use Rattle.compiler.proofs.PlanLaws.{right-par, right-seq, right-prune}
 use Rattle.compiler.proofs.plan.right_plan.Statement.{statement}
 use Rattle.compiler.proofs.plan.right_plan.Tie as tie
 

@@ -1,13 +1,13 @@
 -- `program::compile_program` meets its contract: the definitions, then the goal, then the head. Assumes nothing.
 use borrow.Author.Needs.{needs, fits-under}
 use mir.Syntax.{w32}
-use Rattle.loader.proofs.Whole.{some-nodes, definitions-read, goal-read, nodes-fit, program-done}
+use Rattle.loader.proofs.ProgramWhole.{some-nodes, definitions-read, goal-read, nodes-fit, program-done}
 use Rattle.loader.proofs.program.compile_program.Statement.{statement}
 use Rattle.loader.proofs.program.compile_program.Tie as tie
 
 compile-definitions-requires : tie.Need-compile-definitions-requires
 compile-definitions-requires c κs =
-    let pre = c .before .before .before .pre in (pre .0, (pre .1 .0, definitions-read _ _ _ _ _ (pre .1 .1) (pre .0)))
+    let pre = c .before .before .before .pre in (pre .0, (pre .1 .0, definitions-read _ _ _ _ _ (pre .1 .1) (pre .0) (pre .1 .0)))
 
 of-formals-requires : tie.Need-of-formals-requires
 of-formals-requires c κs = search needs
@@ -19,7 +19,7 @@ compile-body-requires : tie.Need-compile-body-requires
 compile-body-requires c κs =
     let definitions = c .before .before in
     let pre = definitions .before .before .before .before .pre in
-    (_, goal-read _ _ _ _ _ (pre .1 .1) (pre .0) _ (definitions .compile-definitions .ensures .0) _ (c .of-formals .ensures))
+    (_, goal-read _ _ _ _ _ (pre .1 .1) (pre .0) (pre .1 .0) _ (definitions .compile-definitions .ensures .0) _ (c .of-formals .ensures))
 
 cast-put-sizes : tie.Need-cast-put-sizes
 cast-put-sizes c =
@@ -28,8 +28,9 @@ cast-put-sizes c =
     let definitions = formals .before .before in
     let pre = definitions .before .before .before .before .pre in
     let place = definitions .compile-definitions .ensures .0 in
-    let given = goal .compile-body .ensures _ (goal-read _ _ _ _ _ (pre .1 .1) (pre .0) _ place _ (formals .of-formals .ensures)) in
-    fits-under w32 _ 4096 (nodes-fit _ _ _ _ _ (pre .1 .1) (pre .0) _ place _ (given .0)) tt
+    let given =
+    goal .compile-body .ensures _ (goal-read _ _ _ _ _ (pre .1 .1) (pre .0) (pre .1 .0) _ place _ (formals .of-formals .ensures)) in
+    fits-under w32 _ 4096 (nodes-fit _ _ _ _ _ (pre .1 .1) (pre .0) (pre .1 .0) _ place _ (given .0)) tt
 
 cast-put-sizes-2 : tie.Need-cast-put-sizes-2
 cast-put-sizes-2 c = search needs
@@ -44,8 +45,10 @@ returns c =
     let definitions = formals .before .before in
     let pre = definitions .before .before .before .before .pre in
     let place = definitions .compile-definitions .ensures .0 in
-    let given = goal .compile-body .ensures _ (goal-read _ _ _ _ _ (pre .1 .1) (pre .0) _ place _ (formals .of-formals .ensures)) in
-    program-done _ _ _ _ _ (pre .1 .1) (pre .0) _ place _ (given .0) _ _ _ _ (definitions .compile-definitions .ensures .1) (given .1)
+    let given =
+    goal .compile-body .ensures _ (goal-read _ _ _ _ _ (pre .1 .1) (pre .0) (pre .1 .0) _ place _ (formals .of-formals .ensures)) in
+    program-done _ _ _ _ _ (pre .1 .1) (pre .0) (pre .1 .0) _ place _ (given .0) _ _ _ _ (definitions .compile-definitions .ensures .1)
+    (given .1)
     (c .put-sizes .ensures)
 
 pub compile-program-spec : {M : Type 1} → statement M

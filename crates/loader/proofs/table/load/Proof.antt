@@ -2,7 +2,7 @@
 -- Assumes nothing.
 use mathlib.Core.Path.{refl}
 use borrow.Author.Needs.{needs}
-use Rattle.loader.proofs.Tables.{load-refused, load-long, load-even, load-few, load-definitions, load-accepts, load-done}
+use Rattle.loader.proofs.TableLoad.{load-refused, load-long, load-even, load-few, load-definitions, load-accepts, load-done}
 use Rattle.loader.proofs.table.load.Statement.{statement}
 use Rattle.loader.proofs.table.load.Tie as tie
 
@@ -88,8 +88,10 @@ compile-program-requires c κs =
     let f = load-few _ _ (answer .before .before .check-table .ensures .0) _ (answer .answer2 .given .1) _ (n .half2 .ensures .0) in (
       search needs,
       (
-        load-definitions _ _ (answer .before .before .check-table .ensures .0) _ (answer .answer2 .given .1) _ (n .half2 .ensures .0) _ (d .half .ensures .0),
-        load-accepts _ _ (answer .before .before .check-table .ensures .0) _ (answer .answer2 .given .1) _ (n .half2 .ensures .0) _ (d .half .ensures .0) _ _ refl (check .check-table .ensures .1),
+        load-definitions _ _ (answer .before .before .check-table .ensures .0) _ (answer .answer2 .given .1) _ (n .half2 .ensures .0) _
+            (d .half .ensures .0),
+        load-accepts _ _ (answer .before .before .check-table .ensures .0) _ (answer .answer2 .given .1) _ (n .half2 .ensures .0) _
+            (d .half .ensures .0) _ _ refl (check .check-table .ensures .1),
       ),
     )
 
@@ -103,7 +105,8 @@ returns-2 c =
     let n = c .before .before .before .before .before in
     let d = n .before .before .before in
     let answer = d .before .before .before .before in
-    load-done _ _ (answer .before .before .check-table .ensures .0) _ (answer .answer2 .given .1) _ (n .half2 .ensures .0) _ (d .half .ensures .0) _ _ (c .compile-program .ensures)
+    load-done _ _ (answer .before .before .check-table .ensures .0) _ (answer .answer2 .given .1) _ (n .half2 .ensures .0) _
+    (d .half .ensures .0) _ _ (c .compile-program .ensures)
 
 pub load-spec : {M : Type 1} → statement M
 load-spec =

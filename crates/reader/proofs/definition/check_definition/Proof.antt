@@ -1,8 +1,8 @@
 -- `definition::check_definition` meets its contract: there is a law for each way out of the tests. Assumes nothing.
 use borrow.Author.Needs.{needs}
 use native.Mathlib.Omega.{arith}
-use Rattle.reader.proofs.Definitions.{definition-end, definition-other, definition-row, definition-body}
-use Rattle.reader.proofs.Few.{nodes-few}
+use Rattle.reader.proofs.DefinitionLaws.{definition-end, definition-other, definition-row, definition-body}
+use Rattle.reader.proofs.ExpressionNodes.{nodes-few}
 use Rattle.reader.proofs.definition.check_definition.Statement.{statement}
 use Rattle.reader.proofs.definition.check_definition.Tie as tie
 

@@ -9,7 +9,8 @@ use Rattle.reader.proofs.definition.check_definitions.Statement.{statem
 use Rattle.reader.proofs.definition.check_definitions.Tie as tie
 
 abbrev Inv-loop : tie.InvT-loop
-Inv-loop kinds operands count formals₀ sizes₀ at₀ nodes₀ i₀ formals sizes at nodes i = Reading count kinds operands formals₀ sizes₀ formals sizes at nodes i
+Inv-loop kinds operands count formals₀ sizes₀ at₀ nodes₀ i₀ formals sizes at nodes i =
+    Reading count kinds operands formals₀ sizes₀ formals sizes at nodes i
 
 abbrev μ-loop : tie.MeasureT-loop
 μ-loop kinds operands count formals₀ sizes₀ at₀ nodes₀ i₀ formals sizes at nodes i = count - i

@@ -5,10 +5,10 @@ use borrow.Fn.Kinds.{In}
 use borrow.Fn.PlainCycle.{Measures, is, falls, and}
 use borrow.Author.Needs.{needs, fits-under}
 use mir.Syntax.{w64}
-use Rattle.reader.proofs.Few.{sum-few, nodes-few}
-use Rattle.reader.proofs.Opened.{binder-room, depth-left, depth-falls}
-use Rattle.reader.proofs.Expressions.{exp-end, exp-fault, exp-stop, exp-call, own-fits, exp-left, exp-join}
-use Rattle.reader.proofs.Parameters.{params-nodes}
+use Rattle.reader.proofs.ExpressionNodes.{sum-few, nodes-few}
+use Rattle.reader.proofs.ExpressionOpened.{binder-room, depth-left, depth-falls}
+use Rattle.reader.proofs.ExpressionLaws.{exp-end, exp-fault, exp-stop, exp-call, own-fits, exp-left, exp-join}
+use Rattle.reader.proofs.ParameterLaws.{params-nodes}
 use Rattle.reader.proofs.expression.check_expression.Reads as reads
 use Rattle.reader.proofs.expression.check_expression.Kinds as kinds
 use Rattle.reader.proofs.expression.+check_expression.Lts-check_expression as lts
@@ -132,8 +132,13 @@ module _ (t : ℕ) where
       let sides = c .before .before .before .before in
       let fault = sides .before .before .before .before in
       let w = fault .before .before .before .before .before .before .pre .1 .1 in
-      let f = fault .fault .ensures (w .0) (w .1) in
-      (search depth-falls, (fault .before .before .before .before .before .before .pre .1 .0, (_, sides .sides-of .ensures (w .0) (w .1) .right)))
+      let f = fault .fault .ensures (w .0) (w .1) in (
+        search depth-falls,
+        (
+          fault .before .before .before .before .before .before .pre .1 .0,
+          (_, sides .sides-of .ensures (w .0) (w .1) .right),
+        ),
+      )
 
   add-add-nodes : lts.Need-add-add-nodes (claims t) (starts t) reads.Post
   add-add-nodes c =
@@ -169,7 +174,8 @@ module _ (t : ℕ) where
       let join = sides .before in
       let fault = join .before .before .before in
       let here = fault .before .before .before in
-      exp-left _ _ _ _ _ (here .if1 .left) _ (fault .before .operand .ensures) _ (fault .fault .ensures l m) (join .before .before .if2 .left)
+      exp-left _ _ _ _ _ (here .if1 .left) _ (fault .before .operand .ensures) _ (fault .fault .ensures l m)
+      (join .before .before .if2 .left)
       (join .before .if3 .left) (join .if4 .left) _ (sides .sides-of .ensures l m) _
       (first .check-expression .ensures _ (sides .sides-of .ensures l m .left)) _ _ (c .before .first .given .1)
 
@@ -182,8 +188,10 @@ module _ (t : ℕ) where
       let fault = join .before .before .before in
       let here = fault .before .before .before in
       let j = sides .sides-of .ensures l m in
-      exp-join _ _ _ _ _ (here .if1 .left) _ (fault .before .operand .ensures) _ (fault .fault .ensures l m) (join .before .before .if2 .left)
-      (join .before .if3 .left) (join .if4 .left) _ j _ (first .check-expression .ensures _ (j .left)) _ _ _ _ (second .before .before .first2 .given .1)
+      exp-join _ _ _ _ _ (here .if1 .left) _ (fault .before .operand .ensures) _ (fault .fault .ensures l m)
+      (join .before .before .if2 .left)
+      (join .before .if3 .left) (join .if4 .left) _ j _ (first .check-expression .ensures _ (j .left)) _ _ _ _
+      (second .before .before .first2 .given .1)
       (second .check-expression2 .ensures _ (j .right)) (c .add-nodes2 .ensures)
 
 pub +check-expression-spec : {M : Type 1} → statement M

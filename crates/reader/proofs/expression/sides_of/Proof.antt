@@ -1,6 +1,6 @@
 -- `expression::sides_of` meets its contract: there is a law for each kind of join. Assumes nothing.
 use native.Mathlib.Omega.{arith}
-use Rattle.reader.proofs.JoinSides.{sides-par, sides-seq, sides-prune}
+use Rattle.reader.proofs.ExpressionSides.{sides-par, sides-seq, sides-prune}
 use Rattle.reader.proofs.expression.sides_of.Statement.{statement}
 use Rattle.reader.proofs.expression.sides_of.Tie as tie
 

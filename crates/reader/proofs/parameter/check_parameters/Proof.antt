@@ -4,7 +4,7 @@ use mathlib.Core.Path.{refl}
 use borrow.Author.Needs.{needs, fits-under}
 use mir.Syntax.{w64}
 use Rattle.reader.specs.Scope.{ForEvery}
-use Rattle.reader.proofs.Parameters.{Left, params-end, params-refused, params-more, params-fit}
+use Rattle.reader.proofs.ParameterLaws.{Left, params-end, params-refused, params-more, params-fit}
 use Rattle.reader.proofs.parameter.check_parameters.Statement.{statement}
 use Rattle.reader.proofs.parameter.check_parameters.Tie as tie
 
@@ -21,7 +21,8 @@ parameter-fault-requires : tie.Need-parameter-fault-requires Inv-loop μ-loop
 parameter-fault-requires c κs = search needs
 
 returns : tie.Need-returns Inv-loop μ-loop
-returns c = λ l m. let g = c .before .before .before .loop .inv l m in let f = c .before .parameter-fault .ensures l m in search params-refused
+returns c = λ l m. let g = c .before .before .before .loop .inv l m in let f = c .before .parameter-fault .ensures l m in
+    search params-refused
 
 add-next : tie.Need-add-next Inv-loop μ-loop
 add-next c =
@@ -38,7 +39,8 @@ loop-less : tie.Need-loop-less Inv-loop μ-loop
 loop-less c = search needs
 
 loop-again : tie.Need-loop-again Inv-loop μ-loop
-loop-again c = λ l m. let g = c .before .before .before .loop .inv l m in let f = c .before .parameter-fault .ensures l m in search params-more
+loop-again c = λ l m. let g = c .before .before .before .loop .inv l m in let f = c .before .parameter-fault .ensures l m in
+    search params-more
 
 returns-2 : tie.Need-returns-2 Inv-loop μ-loop
 returns-2 c = λ l m. let g = c .before .loop .inv l m in search params-end

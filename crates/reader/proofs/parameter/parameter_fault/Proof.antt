@@ -1,6 +1,6 @@
 -- `parameter::parameter_fault` meets its contract: there is a law for each way out of the tests. Assumes nothing.
 use borrow.Author.Needs.{needs}
-use Rattle.reader.proofs.Parameters.{param-end, param-constant, param-other, param-in, param-out}
+use Rattle.reader.proofs.ParameterLaws.{param-end, param-constant, param-other, param-in, param-out}
 use Rattle.reader.proofs.parameter.parameter_fault.Statement.{statement}
 use Rattle.reader.proofs.parameter.parameter_fault.Tie as tie
 

@@ -1,8 +1,9 @@
--- `program::check_program` meets its contract: there is a law for each way out, and the nodes are few enough for their sum to fit. Assumes nothing.
+-- `program::check_program` meets its contract: there is a law for each way out, and the nodes are few enough for their sum to fit. Assumes
+-- nothing.
 use mathlib.Core.Path.{refl}
 use borrow.Author.Needs.{needs, fits-under}
 use mir.Syntax.{w64}
-use Rattle.reader.proofs.Programs.{program-refused, formals-long, goal-refused, all-few, sum-few, program-done}
+use Rattle.reader.proofs.ProgramLaws.{program-refused, formals-long, goal-refused, all-few, sum-few, program-done}
 use Rattle.reader.proofs.program.check_program.Statement.{statement}
 use Rattle.reader.proofs.program.check_program.Tie as tie
 
@@ -42,7 +43,8 @@ add-t25 c =
     let q = goal .check-expression .ensures _ (goal .before .of-formals .ensures) in
     let few = definitions .before .before .before .before .before .pre .0 .few in
     fits-under w64 _ 4096
-    (sum-few _ _ _ _ _ _ _ _ (definitions .check-definitions .ensures) _ _ (found .found2 .given .1) _ _ _ q _ _ (last .goal2 .given .1) few) tt
+    (sum-few _ _ _ _ _ _ _ _ (definitions .check-definitions .ensures) _ _ (found .found2 .given .1) _ _ _ q _ _
+    (last .goal2 .given .1) few) tt
 
 add-t26 : tie.Need-add-t26
 add-t26 c =
@@ -53,7 +55,8 @@ add-t26 c =
     let q = goal .check-expression .ensures _ (goal .before .of-formals .ensures) in
     let few = definitions .before .before .before .before .before .pre .0 .few in
     fits-under w64 _ 4096
-    (all-few _ _ _ _ _ _ _ _ (definitions .check-definitions .ensures) _ _ (found .found2 .given .1) _ _ _ q _ _ (last .goal2 .given .1) few) tt
+    (all-few _ _ _ _ _ _ _ _ (definitions .check-definitions .ensures) _ _ (found .found2 .given .1) _ _ _ q _ _
+    (last .goal2 .given .1) few) tt
 
 after-requires : tie.Need-after-requires
 after-requires c κs = search needs
@@ -65,7 +68,8 @@ returns : tie.Need-returns
 returns c = (search program-refused, search needs)
 
 returns-2 : tie.Need-returns-2
-returns-2 c = let goal = c .before .before .before in let q = goal .check-expression .ensures _ (goal .before .of-formals .ensures) in (search goal-refused, search needs)
+returns-2 c = let goal = c .before .before .before in let q = goal .check-expression .ensures _ (goal .before .of-formals .ensures) in
+    (search goal-refused, search needs)
 
 returns-3 : tie.Need-returns-3
 returns-3 c =

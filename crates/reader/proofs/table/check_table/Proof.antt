@@ -1,6 +1,8 @@
--- `table::check_table` meets its contract: a law for each refusal by the sizes, and the two parts are those of the definitions. Assumes nothing.
+-- `table::check_table` meets its contract: a law for each refusal by the sizes, and the two parts are those of the definitions. Assumes
+-- nothing.
 use borrow.Author.Needs.{needs}
-use Rattle.reader.proofs.TableLaws.{table-short, table-uneven, table-definitions, table-empty, table-long, table-refused, table-accepted}
+use Rattle.reader.proofs.TableLaws.{table-short, table-uneven, table-definitions, table-empty, table-long}
+use Rattle.reader.proofs.TableLaws.{table-refused, table-accepted}
 use Rattle.reader.proofs.table.check_table.Statement.{statement}
 use Rattle.reader.proofs.table.check_table.Tie as tie
 
@@ -42,7 +44,8 @@ returns-3 c =
     let even = c .before in
     let n = even .before in
     let d = n .before .before .before in
-    table-definitions _ _ _ (d .before .before .before .if1 .left) (n .half2 .ensures .0) _ (d .half .ensures .0) (even .if2 .left) (c .if3 .taken)
+    table-definitions _ _ _ (d .before .before .before .if1 .left) (n .half2 .ensures .0) _ (d .half .ensures .0) (even .if2 .left)
+    (c .if3 .taken)
 
 returns-4 : tie.Need-returns-4
 returns-4 c =
@@ -50,7 +53,8 @@ returns-4 c =
     let even = few .before in
     let n = even .before in
     let d = n .before .before .before in
-    table-empty _ _ _ (d .before .before .before .if1 .left) (n .half2 .ensures .0) _ (d .half .ensures .0) (even .if2 .left) (few .if3 .left)
+    table-empty _ _ _ (d .before .before .before .if1 .left) (n .half2 .ensures .0) _ (d .half .ensures .0) (even .if2 .left)
+    (few .if3 .left)
     (c .if4 .taken)
 
 returns-5 : tie.Need-returns-5
@@ -60,7 +64,8 @@ returns-5 c =
     let even = few .before in
     let n = even .before in
     let d = n .before .before .before in
-    table-long _ _ _ (d .before .before .before .if1 .left) (n .half2 .ensures .0) _ (d .half .ensures .0) (even .if2 .left) (few .if3 .left)
+    table-long _ _ _ (d .before .before .before .if1 .left) (n .half2 .ensures .0) _ (d .half .ensures .0) (even .if2 .left)
+    (few .if3 .left)
     (some .if4 .left) (c .if5 .taken)
 
 add-e : tie.Need-add-e
@@ -102,8 +107,10 @@ returns-6 c =
     let even = few .before in
     let n = even .before in
     let d = n .before .before .before in
-    table-refused _ _ _ (d .before .before .before .if1 .left) (n .half2 .ensures .0) _ (d .half .ensures .0) (even .if2 .left) (few .if3 .left)
-    (some .if4 .left) (last .if5 .left) _ (check .check-program .ensures .0) _ (check .check-program .ensures .1) _ _ (c .before .answer .given .1)
+    table-refused _ _ _ (d .before .before .before .if1 .left) (n .half2 .ensures .0) _ (d .half .ensures .0) (even .if2 .left)
+    (few .if3 .left)
+    (some .if4 .left) (last .if5 .left) _ (check .check-program .ensures .0) _ (check .check-program .ensures .1) _ _
+    (c .before .answer .given .1)
 
 returns-7 : tie.Need-returns-7
 returns-7 c =
@@ -114,8 +121,10 @@ returns-7 c =
     let even = few .before in
     let n = even .before in
     let d = n .before .before .before in
-    table-accepted _ _ _ (d .before .before .before .if1 .left) (n .half2 .ensures .0) _ (d .half .ensures .0) (even .if2 .left) (few .if3 .left)
-    (some .if4 .left) (last .if5 .left) _ (check .check-program .ensures .0) _ (check .check-program .ensures .1) _ _ (c .before .answer2 .given .1)
+    table-accepted _ _ _ (d .before .before .before .if1 .left) (n .half2 .ensures .0) _ (d .half .ensures .0) (even .if2 .left)
+    (few .if3 .left)
+    (some .if4 .left) (last .if5 .left) _ (check .check-program .ensures .0) _ (check .check-program .ensures .1) _ _
+    (c .before .answer2 .given .1)
 
 pub check-table-spec : {M : Type 1} → statement M
 check-table-spec =

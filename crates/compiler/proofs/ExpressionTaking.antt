@@ -4,18 +4,17 @@ use mathlib.Core.Path.{_≡_, refl, sym, ap, subst, _∙_}
 use mathlib.Core.List.{List}
 use native.Mathlib.Omega.{arith}
 use lib.ListN.{length, getD, drop}
-use Rattle.job.specs.Entry.{entries}
+use Rattle.job.specs.Entry.{entries, operandAt}
 use Rattle.job.specs.Syntax.{Exp}
 use Rattle.job.specs.Construct.{nodeCount}
 use Rattle.job.specs.Read.{Got, Read, got, readExp}
-use Rattle.job.proofs.Position.{operandAt}
+use Rattle.job.proofs.Size.{size-some}
 use Rattle.reader.specs.Checked.{Parts}
 use Rattle.reader.specs.Scope.{Means}
 use Rattle.reader.specs.declared.scope.Scope.{Scope}
-use Rattle.compiler.specs.Compiled.{reading, NodesFit, room, Accepted, compiled, stored}
+use Rattle.compiler.specs.ExpressionCompiled.{reading, NodesFit, room, Accepted, compiled, stored}
 use Rattle.compiler.specs.declared.expression.Compiled.{Compiled}
-use Rattle.compiler.proofs.Rows.{size-some}
-use Rattle.compiler.proofs.Heads.{Head, headed, head-room}
+use Rattle.compiler.proofs.ExpressionHeads.{Head, headed, head-room}
 
 room-got : (p : Read Exp) (n : ℕ) → NodesFit p n → (g : Got Exp) × (p ≡ got g) × (n + nodeCount (g .value) ≤ 1022)
 room-got (got g) n (room h) = (g, refl, h)
@@ -49,7 +48,8 @@ pub record Taken (left : ℕ) (ks os scope : List ℕ) (at n : ℕ) : Type 0 whe
   pub fits : n + nodeCount (it .value) ≤ 1022
   pub head : Head (readExp (left - 1)) scope (operandAt os at) (suc at) (drop (suc at) (entries ks os)) it (getD ks at 0)
 
-pub taken : {left : ℕ} {ks os : List ℕ} {s : Scope} {at n : ℕ} {scope : List ℕ} → Accepted left ks os s at n scope → Taken left ks os scope at n
+pub taken : {left : ℕ} {ks os : List ℕ} {s : Scope} {at n : ℕ} {scope : List ℕ} → Accepted left ks os s at n scope
+    → Taken left ks os scope at n
 taken {left} {ks} {os} {s} {at} {n} {scope} acc =
     let v = room-got (reading left ks os scope at) n (acc .fits) in
     let t = headed left ks os scope at (v .0) (v .1) in

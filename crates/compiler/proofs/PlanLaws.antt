@@ -7,9 +7,9 @@ use Rattle.job.specs.Syntax.{Join, scopeLeft, scopeRight}
 use Rattle.job.specs.Construct.{own, nextLeft, nextRight}
 use Rattle.reader.specs.Scope.{Means}
 use Rattle.reader.specs.declared.scope.Scope.{Scope}
-use Rattle.reader.specs.Join.{joinOf}
-use Rattle.reader.proofs.JoinSides.{join-par, join-seq, join-prune}
-use Rattle.compiler.specs.Join.{IsLeft, IsRight, joinRoot}
+use Rattle.reader.specs.ExpressionSides.{joinOf}
+use Rattle.reader.proofs.ExpressionSides.{join-par, join-seq, join-prune}
+use Rattle.compiler.specs.Plan.{IsLeft, IsRight}
 
 -- a binder's number is the length of the scope
 module _ (kind : ℕ) (s : Scope) (scope : List ℕ) (mean : Means s scope) (n k : ℕ) where
@@ -45,16 +45,3 @@ module _ (kind : ℕ) (s : Scope) (scope : List ℕ) (mean : Means s scope) (n k
     pub right-prune : (kind ≡ 3 → ⊥) → (kind ≡ 4 → ⊥) → IsRight its scope n m k (record { scope = s; first = m; next = n + 2 })
     unfolding scopeRight nextRight
     right-prune f e = rw (join-prune kind (length scope) f e) (record { scoped = mean; begins = refl; goes = refl })
-
-module _ (kind s n k : ℕ) where
-  pub root-par : kind ≡ 3 → n ≡ joinRoot (joinOf kind s) n k
-  unfolding joinRoot
-  root-par e = rw (join-par kind s e) refl
-
-  pub root-seq : (kind ≡ 3 → ⊥) → kind ≡ 4 → k ≡ joinRoot (joinOf kind s) n k
-  unfolding joinRoot
-  root-seq f e = rw (join-seq kind s e) refl
-
-  pub root-prune : (kind ≡ 3 → ⊥) → (kind ≡ 4 → ⊥) → n ≡ joinRoot (joinOf kind s) n k
-  unfolding joinRoot
-  root-prune f e = rw (join-prune kind s f e) refl

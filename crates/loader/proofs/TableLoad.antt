@@ -1,5 +1,5 @@
--- A table that was tested: a refusal writes nothing; where it is accepted, its two parts and the sizes that were kept are what compiling its
--- program asks for. Assumes nothing.
+-- A table that was tested: a refusal writes nothing; where it is accepted, its two parts and the sizes that were kept are what compiling
+-- its program asks for. Assumes nothing.
 use Prim.Native.Nat.{ℕ, _+_, _*_, _-_, _≤_}
 use mathlib.Core.Path.{_≡_, sym, ap, ap₂, subst, _∙_}
 use mathlib.Core.List.{List}
@@ -12,14 +12,14 @@ use Rattle.job.specs.Construct.{construct}
 use Rattle.job.specs.Read.{Got, got, readEntries, readTable, accepted}
 use Rattle.job.proofs.Stores.{take-sets}
 use Rattle.job.proofs.Accepted.{accepted-well-formed}
-use Rattle.reader.specs.DefinitionList.{definitionNodes, definitionSizes}
+use Rattle.reader.specs.Definition.{definitionNodes, definitionSizes}
 use Rattle.reader.specs.Table.{tested, sizesKept}
 use Rattle.reader.specs.declared.table.Tested.{Tested}
 use Rattle.reader.specs.declared.table.Tested.the-variants.{Accepted, Declined}
 use Rattle.reader.proofs.TableLaws as tables
 use Rattle.reader.proofs.TableLaws.{definition-count, entry-count, part-entries, table-declined, table-read}
-use Rattle.loader.specs.Loaded.{loaded, loadedWords}
-use Rattle.loader.specs.Stored.{Leads, Accepts, accepts, storedProgram}
+use Rattle.loader.specs.TableLoaded.{loaded, loadedWords}
+use Rattle.loader.specs.ProgramStored.{Leads, Accepts, accepts, storedProgram}
 use Rattle.loader.specs.declared.table.Loaded.{Loaded}
 use Rattle.loader.specs.declared.table.Loaded.the-variants.{Dag, Refused}
 

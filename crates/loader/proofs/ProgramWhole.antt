@@ -9,29 +9,32 @@ use lib.ListN.{length}
 use lib.Seq.{sets}
 use Rattle.job.specs.Syntax.{Program, levels}
 use Rattle.job.specs.Entry.{entries}
-use Rattle.job.specs.Construct.{nodeCount, root, construct}
+use Rattle.job.specs.Construct.{nodeCount, construct}
 use Rattle.job.specs.Words.{written}
 use Rattle.job.specs.Read.{Got, Read, got, readExp, readEntries}
+use Rattle.job.proofs.EncodeRead.{entries-well-formed}
+use Rattle.job.proofs.Size.{nodes-few}
+use Rattle.job.proofs.Position.{reread, entries-length}
 use Rattle.reader.specs.Checked.{Parts, entriesFrom}
 use Rattle.reader.specs.Scope.{Means}
 use Rattle.reader.specs.declared.scope.Scope.{Scope}
-use Rattle.reader.specs.DefinitionList.{readDefinitionList, definitionListNodes, definitionSizes}
-use Rattle.reader.proofs.NodeCount.{construct-length}
+use Rattle.reader.specs.Definition.{readDefinitionList, definitionListNodes, definitionSizes}
+use Rattle.reader.proofs.ProgramNodes.{construct-length}
 use Rattle.reader.proofs.ProgramParts.{AllDefined, all-defined, Parted, parted}
-use Rattle.reader.proofs.AtMost.{nodes-at-most}
-use Rattle.compiler.specs.Compiled.{reading}
+use Rattle.compiler.specs.ExpressionCompiled.{reading}
 use Rattle.compiler.specs.Body.{Sunk, sunk, BodyAccepted, compiledWithSink, storedBody}
 use Rattle.compiler.specs.declared.expression.Compiled.{Compiled}
-use Rattle.compiler.proofs.Reread.{reread}
-use Rattle.loader.specs.Stored.{Leads, DefinitionsRead, definitions, Accepts, accepts, placeBehind, storedDefinitions, storedProgram}
+use Rattle.loader.specs.ProgramStored.{Leads, DefinitionsRead, definitions, Accepts, accepts, placeBehind, storedDefinitions}
+use Rattle.loader.specs.ProgramStored.{storedProgram}
 use Rattle.loader.specs.declared.program.Place.{Place}
-use Rattle.loader.proofs.Before.{all-words}
+use Rattle.loader.proofs.ProgramWords.{all-words}
 
 view : (r : Read Program) (nodes : ℕ) (ss : List ℕ) → Accepts r nodes ss
     → (p : Got Program) × (r ≡ got p) × (nodes ≡ length (construct (p .value) .nodes)) × Leads (definitionSizes (p .value .definitions)) ss
 view (got p) nodes ss (accepts h k) = (p, refl, h, k)
 
-module _ (ks os : List ℕ) (n nodes : ℕ) (ss : List ℕ) (ok : Accepts (readEntries n (entries ks os)) nodes ss) (parts : Parts ks os) where
+module _ (ks os : List ℕ) (n nodes : ℕ) (ss : List ℕ) (ok : Accepts (readEntries n (entries ks os)) nodes ss) (parts : Parts ks os)
+    (many : n ≤ 32) where
   it : (p : Got Program) × (readEntries n (entries ks os) ≡ got p) × (nodes ≡ length (construct (p .value) .nodes))
       × Leads (definitionSizes (p .value .definitions)) ss
   it = view (readEntries n (entries ks os)) nodes ss ok
@@ -47,7 +50,13 @@ module _ (ks os : List ℕ) (n nodes : ℕ) (ss : List ℕ) (ok : Accepts (readE
       construct-length (it .0 .value) ∙ ap (λ (p : Program). definitionListNodes (p .definitions) + (nodeCount (p .goal) + 1)) (its .value)
 
   most : definitionListNodes (its .definitions .value) + (nodeCount (its .goal .value) + 1) ≤ 1022
-  most = let a = nodes-at-most ks os (parts .few) n (it .0) (it .1) in let b = counted in omega arith
+  most =
+      let few = entries-length ks os in
+      let read = parts .few in
+      let w = entries-well-formed n (entries ks os) (it .0) many (omega arith) (it .1) in
+      let a = nodes-few (it .0 .value) w in
+      let b = counted in
+      omega arith
 
   all : nodes ≡ definitionListNodes (its .definitions .value) + (nodeCount (its .goal .value) + 1)
   all = it .2 ∙ counted
@@ -58,7 +67,8 @@ module _ (ks os : List ℕ) (n nodes : ℕ) (ss : List ℕ) (ok : Accepts (readE
   pub definitions-read : DefinitionsRead (readDefinitionList n 0 (entries ks os)) ss
   definitions-read =
       subst (λ r. DefinitionsRead r ss) (sym (its .read-definitions))
-      (definitions (let m = most in omega arith) (subst (λ (p : Program). Leads (definitionSizes (p .definitions)) ss) (its .value) (it .3)))
+      (definitions (let m = most in omega arith)
+      (subst (λ (p : Program). Leads (definitionSizes (p .definitions)) ss) (its .value) (it .3)))
 
   module _ (r : Place) (er : r ≡ placeBehind (readDefinitionList n 0 (entries ks os))) where
     given : r ≡ placeBehind (got (its .definitions))

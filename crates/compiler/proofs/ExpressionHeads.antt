@@ -1,21 +1,21 @@
 -- What an accepted expression is, by the kind byte of its first entry. Assumes nothing.
 use Prim.Native.Nat.{ℕ, zero, suc, _-_, _<_, _≤_}
-use mathlib.Core.Path.{_≡_, refl, sym, subst}
+use mathlib.Core.Path.{_≡_, refl, sym, subst, _∙_}
 use mathlib.Core.Logic.{_⊎_, inl, inr}
-use mathlib.Core.Bool.{Bool, true, false, not}
+use mathlib.Core.Bool.{true, not}
 use mathlib.Core.List.{List, [], _∷_}
 use native.Mathlib.Decide.{decLt}
 use native.Mathlib.Omega.{arith}
 use lib.ListN.{length, getD, drop}
 use lib.Dec.{ltb}
 use Rattle.job.specs.Test.{_or_}
-use Rattle.job.specs.Entry.{Entry, entry, entries, low, high, EntryKind, kindOf, isExpression, rowHolds, isBinder}
-use Rattle.job.specs.Syntax.{Param, Join, par, seq, prune, Exp, stop, site, call, join, scopeLeft, scopeRight}
-use Rattle.job.specs.Read.{Got, Read, got, refused, _>>=_, gives, need, entryAt, readParamList, readCall, readJoin, readExp}
+use Rattle.job.specs.Entry.{Entry, entry, entries, low, high, kindOf, isExpression, rowHolds, isBinder, operandAt}
+use Rattle.job.specs.Syntax.{Param, Join, Exp, stop, site, call, join, scopeLeft, scopeRight}
+use Rattle.job.specs.Read.{Got, Read, got, _>>=_, gives, need, entryAt, readParamList, readCall, readJoin, readExp}
 use Rattle.job.proofs.Test.{ltb-lt}
-use Rattle.job.proofs.Position.{operandAt, entries-at, entries-end, bind-got, refused-got}
-use Rattle.reader.specs.Join.{either, joinOf}
-use Rattle.compiler.proofs.Reread.{reread}
+use Rattle.job.proofs.Position.{entries-at, entries-end, bind-got, refused-got, reread, test-holds}
+use Rattle.reader.specs.ExpressionSides.{either, joinOf}
+use Rattle.reader.proofs.ExpressionOpened.{readKind, exp-opened}
 
 module _ (side : List ℕ → ℕ → List Entry → Read Exp) (scope : List ℕ) (o e : ℕ) (l : List Entry) (g : Got Exp) where
   -- by kind byte and operand; e is the next entry, l what stands from there on
@@ -25,55 +25,28 @@ module _ (side : List ℕ → ℕ → List Entry → Read Exp) (scope : List ℕ
     calls : readCall (call (low o)) (high o) scope e l ≡ got g → Head 2
     joins : {k : ℕ} → 3 ≤ k → (4 ≤ k → length scope < 8) → readJoin side (joinOf k (length scope)) scope e l ≡ got g → Head k
 
-pub test-holds : (b : Bool) (n e : ℕ) (x : Got (Unit {0})) → need b n e ≡ got x → b ≡ true
-unfolding need
-test-holds true n e x r = refl
-test-holds false n e x r = refused-got r
-
--- an expression whose first entry has this kind, once the tests of that entry hold
-unfoldable shape : (List ℕ → ℕ → List Entry → Read Exp) → EntryKind → (o : ℕ) → List ℕ → (e : ℕ) → List Entry → Read Exp
-shape side k o scope e l =
-    elim k as (λ k. Read Exp) [
-      | EntryKind.stop ↦ gives stop (suc e) l
-      | EntryKind.site ↦ readCall (site (low o)) (high o) scope (suc e) l
-      | EntryKind.call ↦ readCall (call (low o)) (high o) scope (suc e) l
-      | EntryKind.par ↦ readJoin side par scope (suc e) l
-      | EntryKind.seq ↦ readJoin side (seq (length scope)) scope (suc e) l
-      | EntryKind.prune ↦ readJoin side (prune (length scope)) scope (suc e) l
-      | EntryKind.definition ↦ refused 3 e
-      | EntryKind.variable ↦ refused 3 e
-      | EntryKind.constant ↦ refused 3 e
-      | EntryKind.unknown ↦ refused 3 e
-    ]
-
 module _ (left : ℕ) (scope : List ℕ) (o e : ℕ) (l : List Entry) (g : Got Exp) where
-  tested : (k : ℕ) → readExp (suc left) scope e (entry k o ∷ l) ≡ got g
-      → (need (isExpression (kindOf k)) 3 e >>= (λ _. need (rowHolds (kindOf k) o) 4 e
-      >>= (λ _. need (not (isBinder (kindOf k)) or ltb (length scope) 8) 7 e >>= (λ _. shape (readExp left) (kindOf k) o scope e l))))
-      ≡ got g
-  unfolding readExp entryAt _>>=_ shape
-  tested k r = r
-
-  by-shape : (k : ℕ) → (not (isBinder (kindOf k)) or ltb (length scope) 8) ≡ true → shape (readExp left) (kindOf k) o scope e l ≡ got g
+  by-read-kind : (k : ℕ) → (not (isBinder (kindOf k)) or ltb (length scope) 8) ≡ true
+      → readKind (readExp left) scope e (suc e) l (kindOf k) o ≡ got g
       → Head (readExp left) scope o (suc e) l g k
-  unfolding kindOf isBinder shape _or_ joinOf either
-  by-shape zero b r = halts r
-  by-shape (suc zero) b r = names r
-  by-shape (suc (suc zero)) b r = calls r
-  by-shape (suc (suc (suc zero))) b r = joins {k = 3} (omega arith) (λ h. absurd (omega arith)) r
-  by-shape (suc (suc (suc (suc zero)))) b r = joins {k = 4} (omega arith) (λ h. ltb-lt (length scope) 8 b) r
-  by-shape (suc (suc (suc (suc (suc zero))))) b r = joins {k = 5} (omega arith) (λ h. ltb-lt (length scope) 8 b) r
-  by-shape (suc (suc (suc (suc (suc (suc zero)))))) b r = refused-got r
-  by-shape (suc (suc (suc (suc (suc (suc (suc zero))))))) b r = refused-got r
-  by-shape (suc (suc (suc (suc (suc (suc (suc (suc zero)))))))) b r = refused-got r
-  by-shape (suc (suc (suc (suc (suc (suc (suc (suc (suc k))))))))) b r = refused-got r
+  unfolding kindOf isBinder readKind _or_ joinOf either
+  by-read-kind zero b r = halts r
+  by-read-kind (suc zero) b r = names r
+  by-read-kind (suc (suc zero)) b r = calls r
+  by-read-kind (suc (suc (suc zero))) b r = joins {k = 3} (omega arith) (λ h. absurd (omega arith)) r
+  by-read-kind (suc (suc (suc (suc zero)))) b r = joins {k = 4} (omega arith) (λ h. ltb-lt (length scope) 8 b) r
+  by-read-kind (suc (suc (suc (suc (suc zero))))) b r = joins {k = 5} (omega arith) (λ h. ltb-lt (length scope) 8 b) r
+  by-read-kind (suc (suc (suc (suc (suc (suc zero)))))) b r = refused-got r
+  by-read-kind (suc (suc (suc (suc (suc (suc (suc zero))))))) b r = refused-got r
+  by-read-kind (suc (suc (suc (suc (suc (suc (suc (suc zero)))))))) b r = refused-got r
+  by-read-kind (suc (suc (suc (suc (suc (suc (suc (suc (suc k))))))))) b r = refused-got r
 
   by-kind : (k : ℕ) → readExp (suc left) scope e (entry k o ∷ l) ≡ got g → Head (readExp left) scope o (suc e) l g k
   by-kind k r =
-      let a = bind-got (need (isExpression (kindOf k)) 3 e) _ g (tested k r) in
+      let a = bind-got (need (isExpression (kindOf k)) 3 e) _ g (sym (exp-opened left scope e (entry k o) l) ∙ r) in
       let b = bind-got (need (rowHolds (kindOf k) o) 4 e) _ g (a .2) in
       let c = bind-got (need (not (isBinder (kindOf k)) or ltb (length scope) 8) 7 e) _ g (b .2) in
-      by-shape k (test-holds _ 7 e (c .0) (c .1)) (c .2)
+      by-read-kind k (test-holds _ 7 e (c .0) (c .1)) (c .2)
 
 none-here : {A : Type 0} (left : ℕ) (scope : List ℕ) (e : ℕ) (g : Got Exp) → readExp left scope e [] ≡ got g → A
 unfolding readExp entryAt _>>=_
@@ -106,7 +79,8 @@ headed (suc left) ks os scope at g r = go (decLt at (length ks))
           deep = omega arith;
           here = l;
           head = subst (λ m. Head (readExp m) scope (operandAt os at) (suc at) (drop (suc at) (entries ks os)) g (getD ks at 0)) (sym z)
-              (by-kind left scope (operandAt os at) at _ g (getD ks at 0) (reread (readExp (suc left)) refl refl (entries-at ks os at l) r));
+              (by-kind left scope (operandAt os at) at _ g (getD ks at 0)
+              (reread (readExp (suc left)) refl refl (entries-at ks os at l) r));
         }
     go (no f) = none-here (suc left) scope at g (reread (readExp (suc left)) refl refl (entries-end ks os at (omega arith)) r)
 

@@ -8,44 +8,24 @@ use native.Mathlib.Nat.{sub-zero}
 use native.Mathlib.Omega.{arith}
 use lib.ListN.{length, getD, drop, length-append, length-map}
 use lib.Seq.{sets, getD-take}
-use Rattle.job.specs.Syntax.{Exp, Definition, levels}
-use Rattle.job.specs.Entry.{entries, EntryKind, kindOf, rowHolds}
-use Rattle.job.specs.Construct.{nodeCount, root}
+use Rattle.job.specs.Syntax.{Definition, levels}
+use Rattle.job.specs.Entry.{entries, operandAt}
+use Rattle.job.specs.Construct.{nodeCount}
 use Rattle.job.specs.Words.{rowsOfNodes, bodyWords}
-use Rattle.job.specs.Read.{Got, Read, got, _>>=_, gives, need, entryAt, readExp, isDefinition, readDefinition}
-use Rattle.job.proofs.Test.{leb-le}
-use Rattle.job.proofs.Position.{operandAt, entries-at, bind-got}
+use Rattle.job.specs.Read.{Got, Read, got, _>>=_, gives, readExp, readDefinition}
+use Rattle.job.proofs.Position.{bind-got, reread}
 use Rattle.reader.specs.Checked.{Parts, entriesFrom}
 use Rattle.reader.specs.Scope.{Means}
 use Rattle.reader.specs.declared.scope.Scope.{Scope}
-use Rattle.reader.specs.DefinitionList.{readDefinitionList, definitionNodes, definitionListNodes, definitionSizes}
+use Rattle.reader.specs.Definition.{readDefinitionList, definitionNodes, definitionListNodes, definitionSizes}
 use Rattle.reader.proofs.DefinitionLoop.{Defined, defined}
-use Rattle.reader.proofs.ProgramParts.{same-got}
-use Rattle.compiler.specs.Compiled.{reading}
+use Rattle.compiler.specs.ExpressionCompiled.{reading}
 use Rattle.compiler.specs.Body.{Sunk, sunk, BodyAccepted, compiledWithSink, storedBody}
 use Rattle.compiler.specs.declared.expression.Compiled.{Compiled}
-use Rattle.compiler.proofs.Heads.{test-holds}
-use Rattle.compiler.proofs.Reread.{reread}
-use Rattle.loader.specs.Stored.{Leads, DefinitionsRead, definitions, nodesBefore, bodiesBefore, placeBehind, wordsBefore, storedDefinitions}
+use Rattle.loader.specs.ProgramStored.{Leads, DefinitionsRead, definitions, nodesBefore, bodiesBefore, placeBehind, wordsBefore}
+use Rattle.loader.specs.ProgramStored.{storedDefinitions}
 use Rattle.loader.specs.declared.program.Place.{Place}
-use Rattle.loader.proofs.Before.{count-append, one-more}
-
--- the body of a definition that is read from entry `at` on
-record BodyOf (ks os : List ℕ) (at : ℕ) (g : Got Definition) : Type 0 where
-  body : Got Exp
-  read : readExp 24 (levels (operandAt os at)) (suc at) (entriesFrom ks os (suc at)) ≡ got body
-  value : g .value ≡ record { formals = operandAt os at; body = body .value }
-  next : g .next ≡ body .next
-  small : operandAt os at ≤ 4
-
-body-of : (ks os : List ℕ) (at : ℕ) (g : Got Definition) → at < length ks → readDefinition at (entriesFrom ks os at) ≡ got g → BodyOf ks os at g
-unfolding readDefinition entryAt _>>=_ rowHolds
-body-of ks os at g l r =
-    let a = bind-got (need (isDefinition (kindOf (getD ks at 0))) 3 at) _ g (ap (readDefinition at) (sym (entries-at ks os at l)) ∙ r) in
-    let b = bind-got (need (rowHolds EntryKind.definition (operandAt os at)) 4 at) _ g (a .2) in
-    let c = bind-got (readExp 24 (levels (operandAt os at)) (suc at) (drop (suc at) (entries ks os))) _ g (b .2) in
-    same-got (BodyOf ks os at) _ g (c .2)
-    (record { body = c .0; read = c .1; value = refl; next = refl; small = leb-le (operandAt os at) 4 (test-holds _ 4 at (b .0) (b .1)) })
+use Rattle.loader.proofs.ProgramWords.{count-append, one-more}
 
 -- the loop's invariant: `done` are stored, `left` is read from entry `at` on, and both are all
 pub record Writing (count : ℕ) (ks os ws ss l : List ℕ) (at node i : ℕ) : Type 0 where
@@ -131,11 +111,8 @@ module _ (count : ℕ) (ks os ws ss l : List ℕ) (at node i : ℕ) (g : Writing
     facts : Defined ks os at (turn .new)
     facts = defined ks os at (turn .new) (turn .read-new)
 
-    its : BodyOf ks os at (turn .new)
-    its = body-of ks os at (turn .new) (facts .here) (turn .read-new)
-
     -- its size, off the array: its nodes and its sink
-    size : getD ss i 0 ≡ 1 + nodeCount (its .body .value)
+    size : getD ss i 0 ≡ 1 + nodeCount (facts .body .value)
     size =
         let all : definitionSizes (g .all .value) ≡ definitionSizes (g .done ++ (turn .new .value ∷ turn .others .value)) =
         ap definitionSizes (sym (g .whole) ∙ ap (λ ds. g .done ++ ds) (turn .value)) in
@@ -145,7 +122,7 @@ module _ (count : ℕ) (ks os ws ss l : List ℕ) (at node i : ℕ) (g : Writing
         ∙ ap (λ ns. getD ns i 0) (g .sized ∙ all)
         ∙ ap (λ m. getD (definitionSizes (g .done ++ (turn .new .value ∷ turn .others .value))) m 0) (sym (g .many))
         ∙ at-end definitionNodes (g .done) (turn .others .value) (turn .new .value)
-        ∙ ap definitionNodes (its .value)
+        ∙ ap definitionNodes (facts .value)
 
     pub turn-below : length ks ≤ 512 → at < 512
     turn-below k = let x = facts .here in omega arith
@@ -156,13 +133,13 @@ module _ (count : ℕ) (ks os ws ss l : List ℕ) (at node i : ℕ) (g : Writing
     pub turn-within : length os ≡ 4 * length ks → 4 * at + 4 ≤ length os
     turn-within k = let x = facts .here in omega arith
 
-    room : node + nodeCount (its .body .value) < 1022
+    room : node + nodeCount (facts .body .value) < 1022
     unfolding definitionListNodes
     room =
         let a = count-append (g .done) (g .left .value) in
         let b = ap definitionListNodes (g .whole) in
         let c = ap definitionListNodes (turn .value) in
-        let d = ap (λ (d : Definition). nodeCount (d .body)) (its .value) in
+        let d = ap (λ (d : Definition). nodeCount (d .body)) (facts .value) in
         let p = g .placed in
         let f = g .fits in
         omega arith
@@ -177,15 +154,16 @@ module _ (count : ℕ) (ks os ws ss l : List ℕ) (at node i : ℕ) (g : Writing
     turn-some = let k = size in omega arith
 
     module _ (o : ℕ) (eo : o ≡ operandAt os at) where
-      read : reading 24 ks os (levels o) (at + 1) ≡ got (its .body)
+      read : reading 24 ks os (levels o) (at + 1) ≡ got (facts .body)
       read =
           let e = sym (add-one at) in
-          reread (readExp 24) (ap levels (sym eo)) e (ap (λ m. drop m (entries ks os)) e) (its .read)
+          reread (readExp 24) (ap levels (sym eo)) e (ap (λ m. drop m (entries ks os)) e) (facts .read)
 
       pub turn-formals : o ≤ 8
-      turn-formals = let s = its .small in omega arith
+      turn-formals = let s = facts .small in omega arith
 
-      pub turn-read : Parts ks os → (s : Scope) → Means s (levels o) → BodyAccepted ks os s (at + 1) node (node + getD ss i 0 - 1) (levels o)
+      pub turn-read : Parts ks os → (s : Scope) → Means s (levels o)
+          → BodyAccepted ks os s (at + 1) node (node + getD ss i 0 - 1) (levels o)
       turn-read p s m =
           let k = size in
           let r = room in
@@ -201,11 +179,11 @@ module _ (count : ℕ) (ks os ws ss l : List ℕ) (at node i : ℕ) (g : Writing
           → Writing count ks os ws ss l2 (c .at) (c .node) (i + 1)
       unfolding definitionListNodes
       turn-more k c l1 l2 ec e1 e2 =
-          let d : Definition = record { formals = o; body = its .body .value } in
-          let b = its .body in
-          let same : turn .new .value ≡ d = its .value ∙ ap (λ m. record { formals = m; body = b .value }) (sym eo) in
+          let d : Definition = record { formals = o; body = facts .body .value } in
+          let b = facts .body in
+          let same : turn .new .value ≡ d = facts .value ∙ ap (λ m. record { formals = m; body = b .value }) (sym eo) in
           let given : c ≡ compiledWithSink (got b) node = ec ∙ ap (λ r. compiledWithSink r node) read in
-          let e : turn .new .next ≡ c .at = its .next ∙ sym (ap (λ (x : Compiled). x .at) given) in
+          let e : turn .new .next ≡ c .at = facts .next ∙ sym (ap (λ (x : Compiled). x .at) given) in
           let n : c .node ≡ suc (node + nodeCount (b .value)) = ap (λ (x : Compiled). x .node) given in
           let p = g .placed in
           record {

@@ -12,13 +12,13 @@ use Rattle.job.specs.Construct.{nodeCount, construct}
 use Rattle.job.proofs.Stores.{take-sets}
 use Rattle.job.proofs.Position.{entries-end, entries-at, exp-from}
 use Rattle.reader.specs.Checked.{entriesFrom, checked, checkedTest, checkedExp, checkedProgram, afterwards}
-use Rattle.reader.specs.DefinitionList.{readDefinitionList, definitionListNodes, definitionsFound, DefinitionsHold}
+use Rattle.reader.specs.Definition.{readDefinitionList, definitionListNodes, definitionsFound, DefinitionsHold}
 use Rattle.reader.specs.declared.checked.Checked.{Checked}
 use Rattle.reader.specs.declared.checked.Checked.the-variants.{Next, Refused}
-use Rattle.reader.proofs.Onward.{checked-refused, checked-next}
-use Rattle.reader.proofs.Few.{next-few}
+use Rattle.reader.proofs.CheckedLaws.{checked-refused, checked-next}
+use Rattle.reader.proofs.ExpressionNodes.{next-few}
 use Rattle.reader.proofs.ProgramParts.{whole, goalRead, AllDefined, all-defined, all-found, tests, entries-opened}
-use Rattle.reader.proofs.NodeCount.{construct-length}
+use Rattle.reader.proofs.ProgramNodes.{construct-length}
 
 module _ (ks os : List ℕ) (at : ℕ) where
   pub end-left : at < length ks → Refused 5 at ≡ checkedTest (leftovers at (entriesFrom ks os at))
@@ -29,7 +29,8 @@ module _ (ks os : List ℕ) (at : ℕ) where
   unfolding leftovers need checked
   end-none l = rw (entries-end ks os at l)
 
-tests-answer : {A : Type 0} (f : A → ℕ) (r : Read (Unit {0})) (s : Read A) → checked f (r >>= (λ _. s)) ≡ afterwards (checkedTest r) (checked f s)
+tests-answer : {A : Type 0} (f : A → ℕ) (r : Read (Unit {0})) (s : Read A)
+    → checked f (r >>= (λ _. s)) ≡ afterwards (checkedTest r) (checked f s)
 unfolding _>>=_ checked afterwards
 tests-answer f (got g) s = refl
 tests-answer f (refused n e) s = refl
@@ -63,7 +64,8 @@ module _ (ks os : List ℕ) (n : ℕ) (d : Checked) (fs₀ fs ss₀ ss : List �
   formals-long l = ap length (found .counts) ∙ length-sets fs₀ 0 (formalsOf (definitionsFound n 0 (entries ks os))) ∙ l
 
   module _ (at before : ℕ) (h : d ≡ Next at before) where
-    first : (a : Got (List Definition)) × (readDefinitionList n 0 (entries ks os) ≡ got a) × (a .next ≡ at) × (definitionListNodes (a .value) ≡ before)
+    first : (a : Got (List Definition)) × (readDefinitionList n 0 (entries ks os) ≡ got a) × (a .next ≡ at)
+        × (definitionListNodes (a .value) ≡ before)
     first = checked-next definitionListNodes (readDefinitionList n 0 (entries ks os)) at before (sym (found .answers) ∙ h)
 
     facts : AllDefined ks os n 0 (first .0)
@@ -86,7 +88,8 @@ module _ (ks os : List ℕ) (n : ℕ) (d : Checked) (fs₀ fs ss₀ ss : List �
       sum-few l = let x = all-few l in omega arith
 
     -- what is left when the definitions are read
-    goal : readEntries n (entries ks os) ≡ (readExp 24 (levels 0) at (entriesFrom ks os at) >>= whole (first .0 .value) >>= tests (entries ks os))
+    goal : readEntries n (entries ks os)
+        ≡ (readExp 24 (levels 0) at (entriesFrom ks os at) >>= whole (first .0 .value) >>= tests (entries ks os))
     unfolding goalRead levels _>>=_
     goal =
         entries-opened n (entries ks os)
@@ -124,7 +127,9 @@ module _ (ks os : List ℕ) (n : ℕ) (d : Checked) (fs₀ fs ss₀ ss : List �
           er
           ∙ ap₂ afterwards eu (ex ∙ ap (λ v. afterwards v (Next end (before + nodes + 1))) ev)
           ∙ sym (ap checkedProgram (goal ∙ ap (λ r. r >>= whole ds >>= tests (entries ks os)) (a .1))
-          ∙ tests-all (entries ks os) (record { value = record { definitions = ds; goal = a .0 .value }; next = a .0 .next; rest = a .0 .rest })
+          ∙ tests-all (entries ks os)
+          (record { value = record { definitions = ds; goal = a .0 .value }; next = a .0 .next; rest = a .0 .rest })
           ∙ ap₂ afterwards
           (ap₂ (λ i l. checkedTest (leftovers i l)) (a .2) (f .rest ∙ ap (λ i. entriesFrom ks os i) (a .2)))
-          (ap₂ afterwards (ap (λ fs. checkedTest (definitionsHold fs 0 (entries ks os))) (sym (counts l m))) (ap₂ (λ i k. Next i k) (a .2) sum)))
+          (ap₂ afterwards (ap (λ fs. checkedTest (definitionsHold fs 0 (entries ks os))) (sym (counts l m)))
+          (ap₂ (λ i k. Next i k) (a .2) sum)))

@@ -1,26 +1,25 @@
 -- What is answered for an expression, at each outcome of the code's tests. Assumes nothing.
 use mathlib.Core.Path.{_≡_, refl, sym, _∙_, ap, ap₂}
 use mathlib.Core.List.{List, _∷_}
-use Prim.Native.Nat.{ℕ, zero, suc, _+_, _*_, _-_, _/_, _<_, _≤_}
+use Prim.Native.Nat.{ℕ, zero, suc, _+_, _-_, _/_, _<_, _≤_}
 use native.Mathlib.Omega.{arith}
 use native.Mathlib.Numerals.{add-one}
-use lib.ListN.{length, getD, take, drop}
-use Rattle.job.specs.Number.{number}
+use lib.ListN.{length, getD, drop}
 use Rattle.job.specs.Syntax.{Param, Join, Exp, site, call, join, scopeLeft, scopeRight}
-use Rattle.job.specs.Entry.{Entry, entry, entries, low, high, kindOf}
+use Rattle.job.specs.Entry.{Entry, entry, entries, low, high, kindOf, operandAt}
 use Rattle.job.specs.Read.{Got, Read, got, refused, _>>=_, gives, entryAt, readParamList, readCall, readJoin, readExp}
 use Rattle.job.specs.Construct.{own, nodeCount}
 use Rattle.job.proofs.Position.{entries-end, entries-at, exp-from}
+use Rattle.job.proofs.Size.{own-few}
 use Rattle.reader.specs.Checked.{entriesFrom, checked, checkedParamList, checkedExp, more}
-use Rattle.reader.specs.Fault.{expressionFault}
-use Rattle.reader.specs.Join.{either, joinOf, JoinHolds}
+use Rattle.reader.specs.EntryFault.{expressionFault}
+use Rattle.reader.specs.ExpressionSides.{either, joinOf, JoinHolds}
 use Rattle.reader.specs.declared.checked.Checked.{Checked}
 use Rattle.reader.specs.declared.checked.Checked.the-variants.{Next, Refused}
 use Rattle.reader.specs.declared.expression.Sides.{Sides}
-use Rattle.reader.proofs.Row.{up-to-five}
-use Rattle.reader.proofs.Opened.{readKind, exp-refused, exp-kind, sound}
-use Rattle.reader.proofs.Few.{own-few}
-use Rattle.reader.proofs.Onward.{bind-refused, checked-next}
+use Rattle.reader.proofs.EntryKinds.{up-to-five}
+use Rattle.reader.proofs.ExpressionOpened.{readKind, exp-refused, exp-kind, sound}
+use Rattle.reader.proofs.CheckedLaws.{bind-refused, checked-next}
 
 -- the answer for a call is that for its parameters, with one node
 call-answer : (h : List Param → Exp) → ((ps : List Param) → nodeCount (h ps) ≡ 1) → (n : ℕ) (scope : List ℕ) (e : ℕ) (es : List Entry)
@@ -34,7 +33,8 @@ call-answer h one n scope e es = go (readParamList n scope e es)
 
 -- kinds 1 and 2 are calls, kinds 3 to 5 are joins
 call-kind : (side : List ℕ → ℕ → List Entry → Read Exp) (scope : List ℕ) (e i : ℕ) (es : List Entry) (k o : ℕ)
-    → (k ≡ 0 → ⊥) → k < 3 → checkedExp (readKind side scope e i es (kindOf k) o) ≡ more 1 (checkedParamList (readParamList (high o) scope i es))
+    → (k ≡ 0 → ⊥) → k < 3 → checkedExp (readKind side scope e i es (kindOf k) o)
+    ≡ more 1 (checkedParamList (readParamList (high o) scope i es))
 unfolding readKind kindOf nodeCount
 call-kind side scope e i es zero o f l = absurd (f refl)
 call-kind side scope e i es (suc zero) o f l = call-answer (λ ps. site (low o) ps) (λ ps. refl) (high o) scope i es
@@ -62,7 +62,8 @@ unfolding second _>>=_ checked more nodeCount
 second-answer side j scope f = go (side scope (f .next) (f .rest))
   where
     go : (r : Read Exp)
-        → checkedExp (r >>= (λ g. gives (join j (f .value) (g .value)) (g .next) (g .rest))) ≡ more (own j + nodeCount (f .value)) (checkedExp r)
+        → checkedExp (r >>= (λ g. gives (join j (f .value) (g .value)) (g .next) (g .rest)))
+        ≡ more (own j + nodeCount (f .value)) (checkedExp r)
     go (got g) = refl
     go (refused n e) = refl
 
@@ -79,7 +80,7 @@ module _ (ks os : List ℕ) (left : ℕ) (scope : List ℕ) (at : ℕ) where
       go zero = rw (entries-end ks os at l)
       go (suc left) = rw (entries-end ks os at l)
 
-  module _ (l : at < length ks) (o : ℕ) (eo : o ≡ number (take 4 (drop (4 * at) os))) (n : ℕ)
+  module _ (l : at < length ks) (o : ℕ) (eo : o ≡ operandAt os at) (n : ℕ)
       (en : n ≡ expressionFault left scope (kindOf (getD ks at 0)) o) where
     behind : List Entry
     behind = drop (suc at) (entries ks os)

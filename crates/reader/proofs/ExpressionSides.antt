@@ -9,7 +9,7 @@ use Rattle.job.specs.Construct.{own}
 use Rattle.job.proofs.Test.{eq-eqb, ne-eqb}
 use Rattle.reader.specs.Scope.{Means}
 use Rattle.reader.specs.declared.scope.Scope.{Scope}
-use Rattle.reader.specs.Join.{either, joinOf, JoinHolds}
+use Rattle.reader.specs.ExpressionSides.{either, joinOf, JoinHolds}
 
 module _ (k s : ℕ) where
   pub join-par : k ≡ 3 → joinOf k s ≡ par

@@ -10,10 +10,10 @@ use lib.Seq.{length-take-le, getD-take}
 use lib.Dec.{eqb}
 use borrow.Author.Tests.{not-true, not-false}
 use Rattle.job.specs.Test.{_and_, _or_}
-use Rattle.job.specs.Entry.{entry, entries}
+use Rattle.job.specs.Entry.{entry, entries, operandAt}
 use Rattle.job.specs.Read.{_>>=_, need, callHolds, definitionsHold}
 use Rattle.job.proofs.Test.{ne-eqb, lt-ltb, le-not-ltb}
-use Rattle.job.proofs.Position.{operandAt, entries-end, entries-at}
+use Rattle.job.proofs.Position.{entries-end, entries-at}
 use Rattle.reader.specs.Checked.{entriesFrom, checked, checkedTest}
 use Rattle.reader.specs.declared.checked.Checked.the-variants.{Next, Refused}
 
@@ -45,7 +45,8 @@ module _ (fs ks os : List ℕ) where
 
     module _ (l : i < length ks) where
       opened : definitionsHold fs 0 (entries ks os)
-          ≡ (need (callHolds fs (entry (getD ks i 0) (operandAt os i))) 8 i >>= (λ _. definitionsHold fs (suc i) (entriesFrom ks os (suc i))))
+          ≡ (need (callHolds fs (entry (getD ks i 0) (operandAt os i))) 8 i
+          >>= (λ _. definitionsHold fs (suc i) (entriesFrom ks os (suc i))))
       unfolding definitionsHold
       opened = g ∙ rw (entries-at ks os i l)
 

@@ -2,21 +2,20 @@
 use mathlib.Core.Path.{_≡_, refl, sym, _∙_, ap}
 use mathlib.Core.Bool.{false}
 use mathlib.Core.List.{List}
-use Prim.Native.Nat.{ℕ, _+_, _*_, _<_, _≤_}
+use Prim.Native.Nat.{ℕ, _+_, _<_, _≤_}
 use native.Mathlib.Numerals.{add-one}
-use lib.ListN.{length, getD, take, drop}
+use lib.ListN.{length, getD}
 use lib.Dec.{leb}
-use Rattle.job.specs.Number.{number}
 use Rattle.job.specs.Syntax.{Exp, Definition, levels}
-use Rattle.job.specs.Entry.{kindOf, rowHolds}
+use Rattle.job.specs.Entry.{kindOf, rowHolds, operandAt}
 use Rattle.job.specs.Read.{Got, Read, got, refused, _>>=_, gives, need, entryAt, readExp, isDefinition, readDefinition}
 use Rattle.job.proofs.Test.{le-leb, lt-not-leb}
 use Rattle.job.proofs.Position.{entries-end, entries-at}
 use Rattle.reader.specs.Checked.{entriesFrom, checked, checkedExp, more}
-use Rattle.reader.specs.DefinitionList.{checkedDefinition}
+use Rattle.reader.specs.Definition.{checkedDefinition}
 use Rattle.reader.specs.declared.checked.Checked.{Checked}
 use Rattle.reader.specs.declared.checked.Checked.the-variants.{Refused}
-use Rattle.reader.proofs.Row.{by-kind}
+use Rattle.reader.proofs.EntryKinds.{by-kind}
 
 -- an entry of another kind is no definition
 other-kind : (k : ℕ) → (k ≡ 6 → ⊥) → isDefinition (kindOf k) ≡ false
@@ -48,7 +47,7 @@ module _ (ks os : List ℕ) (at : ℕ) where
     unfolding readDefinition entryAt need _>>=_ checked
     definition-other f = rw (entries-at ks os at l, other-kind (getD ks at 0) f)
 
-    module _ (k : getD ks at 0 ≡ 6) (o : ℕ) (eo : o ≡ number (take 4 (drop (4 * at) os))) where
+    module _ (k : getD ks at 0 ≡ 6) (o : ℕ) (eo : o ≡ operandAt os at) where
       opened : readDefinition at (entriesFrom ks os at)
           ≡ (need (leb o 4) 4 at >>= (λ _. readExp 24 (levels o) (at + 1) (entriesFrom ks os (at + 1)) >>= define o))
       unfolding readDefinition entryAt need isDefinition kindOf rowHolds define _>>=_
@@ -63,4 +62,5 @@ module _ (ks os : List ℕ) (at : ℕ) where
       unfolding need _>>=_
       definition-body m q r eq er =
           er ∙ ap (more 1) eq
-          ∙ sym (ap checkedDefinition (opened ∙ rw (le-leb o 4 m)) ∙ body-answer o (readExp 24 (levels o) (at + 1) (entriesFrom ks os (at + 1))))
+          ∙ sym (ap checkedDefinition (opened ∙ rw (le-leb o 4 m))
+          ∙ body-answer o (readExp 24 (levels o) (at + 1) (entriesFrom ks os (at + 1))))

@@ -11,14 +11,14 @@ use Rattle.job.specs.Syntax.{Exp}
 use Rattle.job.specs.Construct.{nodeCount, root, nodesOf}
 use Rattle.job.specs.Words.{headWords, paramWords, nodeWords, rowsOfNodes}
 use Rattle.job.specs.Read.{Got, Read, got}
-use Rattle.compiler.specs.Compiled.{reading, Accepted, compiled, stored}
+use Rattle.job.proofs.Stores.{sets-append}
+use Rattle.job.proofs.NodeRows.{rows-append, rows-length}
+use Rattle.reader.specs.declared.scope.Scope.{Scope}
+use Rattle.compiler.specs.ExpressionCompiled.{reading, Accepted, compiled, stored}
 use Rattle.compiler.specs.Body.{sinkOf, Sunk, sunk, BodyAccepted, compiledWithSink, storedBody}
 use Rattle.compiler.specs.declared.expression.Compiled.{Compiled}
-use Rattle.reader.specs.declared.scope.Scope.{Scope}
-use Rattle.job.proofs.Stores.{sets-append}
-use Rattle.compiler.proofs.Rows.{rows-append, rows-length}
-use Rattle.compiler.proofs.OwnRows.{words}
-use Rattle.compiler.proofs.Taking.{accept, same}
+use Rattle.compiler.proofs.JoinLaws.{words}
+use Rattle.compiler.proofs.ExpressionTaking.{accept, same}
 
 pub sink-goal : (goal : Bool) (a : ℕ) (d d' : List ℕ) → goal ≡ true → d' ≡ sets d a (words 9 0 0 0)
     → d' ≡ sets d a (nodeWords (sinkOf goal))

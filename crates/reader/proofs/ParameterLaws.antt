@@ -2,25 +2,24 @@
 use mathlib.Core.Path.{_≡_, refl, sym, _∙_, ap, ap₂, subst}
 use mathlib.Core.Bool.{Bool, true, false}
 use mathlib.Core.List.{List, [], _∷_}
-use Prim.Native.Nat.{ℕ, suc, _+_, _*_, _-_, _<_, _≤_}
+use Prim.Native.Nat.{ℕ, suc, _+_, _-_, _<_, _≤_}
 use native.Mathlib.Omega.{arith}
 use native.Mathlib.Decide.{decLt, ℕ-discrete}
 use native.Mathlib.Numerals.{add-one}
-use lib.ListN.{length, getD, take, drop}
+use lib.ListN.{length, getD, drop}
 use lib.Dec.{eqb}
 use Rattle.job.specs.Test.{any}
-use Rattle.job.specs.Number.{number}
 use Rattle.job.specs.Syntax.{Param, variable}
-use Rattle.job.specs.Entry.{Entry, entry, entries, kindOf}
+use Rattle.job.specs.Entry.{Entry, entry, entries, kindOf, operandAt}
 use Rattle.job.specs.Read.{Got, Read, got, refused, _>>=_, gives, need, entryAt, readParam, readParamList}
 use Rattle.job.proofs.Test.{eq-eqb, ne-eqb}
 use Rattle.job.proofs.Position.{entries-end, entries-at, param-from}
 use Rattle.reader.specs.Checked.{entriesFrom, checked, checkedParamList, checkedNodes}
-use Rattle.reader.specs.Fault.{unless, parameterFault}
+use Rattle.reader.specs.EntryFault.{unless, parameterFault}
 use Rattle.reader.specs.declared.checked.Checked.{Checked}
 use Rattle.reader.specs.declared.checked.Checked.the-variants.{Next, Refused}
-use Rattle.reader.proofs.Row.{by-kind}
-use Rattle.reader.proofs.Onward.{same-nodes}
+use Rattle.reader.proofs.EntryKinds.{by-kind}
+use Rattle.reader.proofs.CheckedLaws.{same-nodes}
 
 -- an entry of another kind is no parameter
 other-kind : (scope : List ℕ) (e k o : ℕ) (es : List Entry) → (k ≡ 8 → ⊥) → (k ≡ 7 → ⊥) → readParam scope e (entry k o ∷ es) ≡ refused 3 e
@@ -49,7 +48,7 @@ module _ (ks os scope : List ℕ) (at : ℕ) where
       unfolding parameterFault unless
       param-other g = rw (entries-at ks os at l, ne-eqb (getD ks at 0) 8 f, ne-eqb (getD ks at 0) 7 g)
 
-      module _ (k : getD ks at 0 ≡ 7) (o : ℕ) (eo : o ≡ number (take 4 (drop (4 * at) os))) (b : Bool) (eb : b ≡ any (eqb o) scope) where
+      module _ (k : getD ks at 0 ≡ 7) (o : ℕ) (eo : o ≡ operandAt os at) (b : Bool) (eb : b ≡ any (eqb o) scope) where
         named : parameterFault scope (entriesFrom ks os at) ≡ unless b 7 0
         unfolding parameterFault unless
         named = rw (entries-at ks os at l, ne-eqb (getD ks at 0) 8 f, eq-eqb (getD ks at 0) 7 k, ← eo, ← eb)
@@ -67,7 +66,8 @@ data Judged (e n : ℕ) : Read Param → Type 0 where
   refuses : (n ≡ 0 → ⊥) → Judged e n (refused n e)
   takes : {p : Got Param} → n ≡ 0 → p .next ≡ suc e → Judged e n (got p)
 
-judged-entry : (scope : List ℕ) (e k o : ℕ) (es : List Entry) → Judged e (parameterFault scope (entry k o ∷ es)) (readParam scope e (entry k o ∷ es))
+judged-entry : (scope : List ℕ) (e k o : ℕ) (es : List Entry)
+    → Judged e (parameterFault scope (entry k o ∷ es)) (readParam scope e (entry k o ∷ es))
 unfolding readParam entryAt kindOf need _>>=_ parameterFault unless
 judged-entry scope e k o es = go (ℕ-discrete k 8) (ℕ-discrete k 7)
   where

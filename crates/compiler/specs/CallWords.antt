@@ -4,8 +4,7 @@ use mathlib.Core.List.{List, [], _∷_}
 use Prim.Native.Nat.{ℕ, zero, suc, _+_}
 use lib.ListN.{getD}
 use lib.Dec.{ltb}
-use Rattle.job.specs.Entry.{low, high}
-use Rattle.job.proofs.Position.{operandAt}
+use Rattle.job.specs.Entry.{low, high, operandAt}
 
 -- the word of a parameter that is there, else 0
 unfoldable pub wordIf : Bool → ℕ → ℕ

@@ -7,19 +7,18 @@ use native.Mathlib.Numerals.{add-one}
 use native.Mathlib.Omega.{arith}
 use lib.ListN.{length, getD, drop}
 use lib.Seq.{sets}
-use Rattle.job.specs.Entry.{entries, low, high}
+use Rattle.job.specs.Entry.{entries, low, high, operandAt}
 use Rattle.job.specs.Syntax.{Param, Exp, stop, site, call}
 use Rattle.job.specs.Node.{Node}
 use Rattle.job.specs.Construct.{nodeCount, root, nodesOf}
 use Rattle.job.specs.Words.{headWords, paramWords, nodeWords, rowsOfNodes}
-use Rattle.job.proofs.Position.{operandAt}
-use Rattle.compiler.specs.Call.{callNodeWords}
+use Rattle.job.proofs.Position.{operand-small}
+use Rattle.compiler.specs.CallWords.{callNodeWords}
 use Rattle.compiler.specs.declared.expression.Compiled.{Compiled}
-use Rattle.compiler.proofs.Operand.{operand-small}
 use Rattle.compiler.proofs.CallNode.{Ended, params-end, site-words, call-words}
-use Rattle.compiler.proofs.OwnRows.{words}
-use Rattle.compiler.proofs.Heads.{stops, Called, called}
-use Rattle.compiler.proofs.Taking.{same, Taken, Done, done}
+use Rattle.compiler.proofs.JoinLaws.{words}
+use Rattle.compiler.proofs.ExpressionHeads.{stops, Called, called}
+use Rattle.compiler.proofs.ExpressionTaking.{same, Taken, Done, done}
 
 -- an expression that is the one node x, toward k
 record Single (e : Exp) (n k : ℕ) (x : Node) : Type 0 where

@@ -1,8 +1,9 @@
--- What the two sides of a join are compiled with. (`joinOf` of crate `reader` is the join of a kind byte.) Assumes nothing: these are definitions.
+-- What the two sides of a join are compiled with. (`joinOf` of crate `reader` is the join of a kind byte.) Assumes nothing: these are
+-- definitions.
 use mathlib.Core.Path.{_≡_}
 use mathlib.Core.List.{List}
 use Prim.Native.Nat.{ℕ}
-use Rattle.job.specs.Syntax.{Join, par, seq, prune, scopeLeft, scopeRight}
+use Rattle.job.specs.Syntax.{Join, scopeLeft, scopeRight}
 use Rattle.job.specs.Construct.{firstLeft, nextLeft, nextRight}
 use Rattle.reader.specs.Scope.{Means}
 use Rattle.compiler.specs.declared.plan.ExpressionPlan.{ExpressionPlan}
@@ -19,9 +20,3 @@ IsLeft j scope n k r = IsPlan r (scopeLeft j scope) (firstLeft j n) (nextLeft j 
 
 abbrev pub IsRight : (j : Join) → (scope : List ℕ) → (n m k : ℕ) → ExpressionPlan → Type 0
 IsRight j scope n m k r = IsPlan r (scopeRight j scope) m (nextRight j n k)
-
--- where a join is entered: n is its first node, l the root of its f
-unfoldable pub joinRoot : Join → (n l : ℕ) → ℕ
-joinRoot par n l = n
-joinRoot (seq x) n l = l
-joinRoot (prune x) n l = n

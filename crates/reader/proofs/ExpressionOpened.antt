@@ -1,5 +1,5 @@
--- An expression's reading, opened at its first entry: the tests for 3, 4 and 7 (or 6), then what its kind asks for. So where an entry
--- is refused by itself the reading is refused with that number, and where it is not, the kind's reading is all that is left. Assumes nothing.
+-- An expression's reading, opened at its first entry: the tests for 3, 4 and 7 (or 6), then what its kind asks for. So where an entry is
+-- refused by itself the reading is refused with that number, and where it is not, the kind's reading is all that is left. Assumes nothing.
 use mathlib.Core.Path.{_≡_, refl, sym, _∙_, ap}
 use mathlib.Core.Bool.{Bool, true, false, not}
 use mathlib.Core.List.{List, _∷_}
@@ -15,8 +15,8 @@ use Rattle.job.specs.Read.{Read, refused, _>>=_, gives, need, entryAt, readCall
 use Rattle.job.proofs.Test.{clash, ltb-lt}
 use Rattle.reader.specs.Scope.{Means}
 use Rattle.reader.specs.declared.scope.Scope.{Scope}
-use Rattle.reader.specs.Fault.{unless, expressionFault}
-use Rattle.reader.proofs.Row.{no-expression, is-binder}
+use Rattle.reader.specs.EntryFault.{unless, expressionFault}
+use Rattle.reader.proofs.EntryKinds.{no-expression, is-binder}
 
 -- what the kind of entry e asks for, where the entries from i on are left
 unfoldable pub readKind : (List ℕ → ℕ → List Entry → Read Exp) → List ℕ → ℕ → ℕ → List Entry → EntryKind → ℕ → Read Exp
@@ -75,12 +75,14 @@ module _ (scope : List ℕ) (e k o : ℕ) (es : List Entry) where
   unfolding readExp entryAt need _>>=_ expressionFault unless
   exp-refused zero n q f = go (isExpression (kindOf k)) (rowHolds (kindOf k) o) q
     where
-      go : (a b : Bool) → n ≡ unless a 3 (unless b 4 6) → _≡_ {A = Read Exp} (need a 3 e >>= (λ _. need b 4 e >>= (λ _. refused 6 e))) (refused n e)
+      go : (a b : Bool) → n ≡ unless a 3 (unless b 4 6)
+          → _≡_ {A = Read Exp} (need a 3 e >>= (λ _. need b 4 e >>= (λ _. refused 6 e))) (refused n e)
       go true true q = ap (λ n. refused n e) (sym q)
       go true false q = ap (λ n. refused n e) (sym q)
       go false b q = ap (λ n. refused n e) (sym q)
   exp-refused (suc left) n q f =
-      exp-opened left scope e (entry k o) es ∙ go (isExpression (kindOf k)) (rowHolds (kindOf k) o) (not (isBinder (kindOf k)) or ltb (length scope) 8) q
+      exp-opened left scope e (entry k o) es
+      ∙ go (isExpression (kindOf k)) (rowHolds (kindOf k) o) (not (isBinder (kindOf k)) or ltb (length scope) 8) q
     where
       go : (a b c : Bool) → n ≡ unless a 3 (unless b 4 (unless c 7 0))
           → (need a 3 e
@@ -128,7 +130,8 @@ sound zero scope k o q = absurd (go (isExpression (kindOf k)) (rowHolds (kindOf 
     go true true q = omega arith
     go true false q = omega arith
     go false b q = omega arith
-sound (suc left) scope k o q = go (isExpression (kindOf k)) (rowHolds (kindOf k) o) (not (isBinder (kindOf k)) or ltb (length scope) 8) refl refl q
+sound (suc left) scope k o q =
+    go (isExpression (kindOf k)) (rowHolds (kindOf k) o) (not (isBinder (kindOf k)) or ltb (length scope) 8) refl refl q
   where
     small : isExpression (kindOf k) ≡ true → Dec (5 < k) → k ≤ 5
     small e (yes l) = clash e (no-expression k l)

@@ -1,7 +1,7 @@
 -- The words of some definitions and of one more: its rows stand behind theirs, and so do its two words of the head. The construction is the
 -- definitions' nodes, then the goal's. Assumes nothing.
 use Prim.Native.Nat.{ℕ, suc, _+_, _*_, _<_}
-use mathlib.Core.Path.{_≡_, refl, sym, ap, ap₂, _∙_}
+use mathlib.Core.Path.{_≡_, refl, sym, ap, _∙_}
 use mathlib.Core.Bool.{true, false}
 use mathlib.Core.List.{List, [], _∷_, _++_, append-assoc, append-nil}
 use native.Mathlib.Nat.{add-zero}
@@ -12,12 +12,12 @@ use Rattle.job.specs.Syntax.{Exp, Definition}
 use Rattle.job.specs.Node.{Node, Body, Dag}
 use Rattle.job.specs.Construct.{nodeCount, root, nodesOf, constructFrom}
 use Rattle.job.specs.Words.{headWords, paramWords, nodeWords, rowsOfNodes, bodyWords, written}
-use Rattle.reader.specs.DefinitionList.{definitionNodes, definitionListNodes}
+use Rattle.job.proofs.Decode.{body-words-length}
+use Rattle.job.proofs.Stores.{sets-append, sets-swap}
+use Rattle.job.proofs.NodeRows.{rows-append, rows-length}
+use Rattle.reader.specs.Definition.{definitionNodes, definitionListNodes}
 use Rattle.compiler.specs.Body.{sinkOf}
-use Rattle.job.proofs.Stores.{sets-append}
-use Rattle.compiler.proofs.Stores.{sets-swap}
-use Rattle.compiler.proofs.Rows.{rows-append, rows-length}
-use Rattle.loader.specs.Stored.{nodesBefore, bodiesBefore, wordsBefore}
+use Rattle.loader.specs.ProgramStored.{nodesBefore, bodiesBefore, wordsBefore}
 
 -- one list of definitions behind another
 pub count-append : (a b : List Definition) → definitionListNodes (a ++ b) ≡ definitionListNodes a + definitionListNodes b
@@ -51,11 +51,6 @@ unfolding bodiesBefore
 bodies-length n [] = refl
 bodies-length n (d ∷ ds) = ap suc (bodies-length (n + definitionNodes d) ds)
 
-words-length : (bs : List Body) → length (bodyWords bs) ≡ 2 * length bs
-unfolding bodyWords
-words-length [] = refl
-words-length (b ∷ bs) = omega (arith, words-length bs)
-
 return-length : length (nodeWords (sinkOf false)) ≡ 12
 unfolding sinkOf nodeWords paramWords
 return-length = refl
@@ -79,7 +74,8 @@ behind done ws l l1 X n placed e e1 =
     e1 ∙ rw (e, r) (sym (sets-append Y headWords R X))
 
 -- the rows and the head's words of one definition, stored behind those of others
-pub one-more : (done : List Definition) (d : Definition) (ws l l1 l2 : List ℕ) (i n : ℕ) → length done ≡ i → n ≡ definitionListNodes done → i < 32
+pub one-more : (done : List Definition) (d : Definition) (ws l l1 l2 : List ℕ) (i n : ℕ) → length done ≡ i → n ≡ definitionListNodes done
+    → i < 32
     → l ≡ wordsBefore done ws
     → l1 ≡ sets l (headWords + 12 * n) (rowsOfNodes (nodesOf (d .body) n (n + nodeCount (d .body)) ++ (sinkOf false ∷ [])))
     → l2 ≡ sets l1 (3 + 2 * i) (root (d .body) n ∷ d .formals ∷ [])
@@ -91,7 +87,7 @@ one-more done d ws l l1 l2 i n many placed few e e1 e2 =
     let P : List ℕ = root (d .body) n ∷ d .formals ∷ [] in
     let X : List ℕ = rowsOfNodes (nodesOf (d .body) n (n + nodeCount (d .body)) ++ (sinkOf false ∷ [])) in
     let Y : List ℕ = sets ws 3 B in
-    let b : 3 + 2 * i ≡ 3 + length B = omega (arith, words-length (bodiesBefore 0 done), bodies-length 0 done) in
+    let b : 3 + 2 * i ≡ 3 + length B = omega (arith, body-words-length (bodiesBefore 0 done), bodies-length 0 done) in
     let z : 0 + definitionListNodes done ≡ n = omega arith in
     let rows : rowsOfNodes (nodesBefore 0 (done ++ (d ∷ []))) ≡ R ++ X =
     ap rowsOfNodes (nodes-append 0 done (d ∷ [])) ∙ rows-append (nodesBefore 0 done) _ ∙ ap (λ w. R ++ w) (rw (z, append-nil)) in
@@ -126,7 +122,8 @@ construct-split n m (d ∷ ds) g e =
     ap (ahead n d) (construct-split (suc (n + nodeCount (d .body))) m ds g (omega arith))
     ∙ ap (λ k. ahead n d (split k m ds g)) z
     ∙ ap (λ ns. dag ns (record { root = root (d .body) n; formals = d .formals } ∷ bodiesBefore later ds) (root g m))
-    (regroup (nodesOf (d .body) n (n + nodeCount (d .body))) (nodesBefore later ds) (nodesOf g m (m + nodeCount g) ++ (sinkOf true ∷ [])) Node.return)
+    (regroup (nodesOf (d .body) n (n + nodeCount (d .body))) (nodesBefore later ds)
+    (nodesOf g m (m + nodeCount g) ++ (sinkOf true ∷ [])) Node.return)
 
 -- the goal's rows behind the definitions', and the head's first three words: the dag is written
 pub all-words : (ds : List Definition) (g : Exp) (ws l l1 l2 : List ℕ) (m a b c : ℕ) → m ≡ definitionListNodes ds → l ≡ wordsBefore ds ws
@@ -144,7 +141,8 @@ all-words ds g ws l l1 l2 m a b c placed e e1 e2 ea eb ec =
     let f : l1 ≡ sets Y headWords (R ++ X) = behind ds ws l l1 X m placed e e1 in
     let h : l2 ≡ sets (sets Y 0 H) headWords (R ++ X) = e2 ∙ rw f (sets-swap Y 0 headWords H (R ++ X) (omega arith)) in
     let i : sets Y 0 H ≡ sets ws 0 (H ++ B) = sets-swap ws 0 3 H B (omega arith) ∙ sym (sets-append ws 0 H B) in
-    let rows : rowsOfNodes (constructFrom 0 ds g .nodes) ≡ R ++ X = ap (λ (d : Dag). rowsOfNodes (d .nodes)) s ∙ rows-append (nodesBefore 0 ds) _ in
+    let rows : rowsOfNodes (constructFrom 0 ds g .nodes) ≡ R ++ X = ap (λ (d : Dag). rowsOfNodes (d .nodes)) s
+    ∙ rows-append (nodesBefore 0 ds) _ in
     let bodies : constructFrom 0 ds g .bodies ≡ bodiesBefore 0 ds = ap (λ (d : Dag). d .bodies) s in
     let goal : constructFrom 0 ds g .goal ≡ c = ap (λ (d : Dag). d .goal) s ∙ sym ec in
     let count : length (constructFrom 0 ds g .bodies) ≡ b = ap length bodies ∙ bodies-length 0 ds ∙ sym eb in

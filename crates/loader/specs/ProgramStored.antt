@@ -11,7 +11,7 @@ use Rattle.job.specs.Node.{Node, Body}
 use Rattle.job.specs.Construct.{nodeCount, root, nodesOf, construct}
 use Rattle.job.specs.Words.{headWords, rowsOfNodes, bodyWords, written}
 use Rattle.job.specs.Read.{Got, Read, got, refused}
-use Rattle.reader.specs.DefinitionList.{definitionNodes, definitionListNodes, definitionSizes}
+use Rattle.reader.specs.Definition.{definitionNodes, definitionListNodes, definitionSizes}
 use Rattle.compiler.specs.Body.{sinkOf}
 use Rattle.loader.specs.declared.program.Place.{Place}
 
@@ -21,7 +21,8 @@ Leads words array = take (length words) array ≡ words
 
 -- what is asked of the definitions: they were read, their nodes leave a place of the dag's 1,022, and their sizes are known
 pub data DefinitionsRead : Read (List Definition) → (sizes : List ℕ) → Type 0 where
-  definitions : {g : Got (List Definition)} {sizes : List ℕ} → definitionListNodes (g .value) < 1022 → Leads (definitionSizes (g .value)) sizes
+  definitions : {g : Got (List Definition)} {sizes : List ℕ} → definitionListNodes (g .value) < 1022
+      → Leads (definitionSizes (g .value)) sizes
       → DefinitionsRead (got g) sizes
 
 -- what is asked of the program: it was read, and its number of nodes and the sizes of its definitions are known

@@ -1,4 +1,5 @@
--- The definitions of a program, as one reading, and those of them that come before the first refusal. Assumes nothing: these are definitions.
+-- The definitions of a program, as one reading, and those of them that come before the first refusal. Assumes nothing: these are
+-- definitions.
 use mathlib.Core.Path.{_≡_}
 use mathlib.Core.List.{List, [], _∷_, map}
 use Prim.Native.Nat.{ℕ, zero, suc, _+_}

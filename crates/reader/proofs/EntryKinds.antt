@@ -35,7 +35,8 @@ is-expression = up-to-five (λ k. isExpression (kindOf k) ≡ true) refl refl re
 pub no-expression : (k : ℕ) → 5 < k → isExpression (kindOf k) ≡ false
 unfolding kindOf isExpression
 no-expression =
-    by-kind (λ k. 5 < k → isExpression (kindOf k) ≡ false) (λ l. absurd (omega arith)) (λ l. absurd (omega arith)) (λ l. absurd (omega arith))
+    by-kind (λ k. 5 < k → isExpression (kindOf k) ≡ false) (λ l. absurd (omega arith)) (λ l. absurd (omega arith))
+    (λ l. absurd (omega arith))
     (λ l. absurd (omega arith)) (λ l. absurd (omega arith)) (λ l. absurd (omega arith)) (λ l. refl) (λ l. refl) (λ l. refl) (λ k l. refl)
 
 pub is-binder : (k : ℕ) → k ≤ 5 → 4 ≤ k → isBinder (kindOf k) ≡ true

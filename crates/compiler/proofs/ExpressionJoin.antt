@@ -2,26 +2,59 @@
 -- which is read. Assumes nothing.
 use Prim.Native.Nat.{ℕ, suc, _+_, _*_, _-_, _≤_}
 use mathlib.Core.Path.{_≡_, refl, sym, ap, ap₂, _∙_}
-use mathlib.Core.List.{List}
+use mathlib.Core.List.{List, _++_, append-assoc}
 use native.Mathlib.Numerals.{add-one}
 use native.Mathlib.Omega.{arith}
 use lib.ListN.{length, getD, drop}
 use lib.Seq.{sets}
 use Rattle.job.specs.Entry.{entries}
-use Rattle.job.specs.Syntax.{Join, scopeLeft, scopeRight}
+use Rattle.job.specs.Syntax.{Join, par, seq, prune, Exp, join, scopeLeft, scopeRight}
 use Rattle.job.specs.Construct.{own, nodeCount, root, firstLeft, firstRight, nextLeft, nextRight, ownNodes, nodesOf}
 use Rattle.job.specs.Words.{headWords, rowsOfNodes}
 use Rattle.job.specs.Read.{got, readExp}
-use Rattle.job.proofs.Position.{exp-from}
-use Rattle.reader.specs.Join.{joinOf}
-use Rattle.compiler.specs.Join.{IsLeft, IsRight, joinRoot}
-use Rattle.compiler.specs.Compiled.{reading, Accepted, compiled, stored}
+use Rattle.job.proofs.Stores.{sets-append, sets-swap}
+use Rattle.job.proofs.NodeRows.{own-rows-length, rows-append, rows-length}
+use Rattle.job.proofs.Position.{exp-from, reread}
+use Rattle.job.proofs.Size.{own-some, size-some}
+use Rattle.reader.specs.ExpressionSides.{joinOf}
+use Rattle.compiler.specs.Plan.{IsLeft, IsRight}
+use Rattle.compiler.specs.JoinRoot.{joinRoot}
+use Rattle.compiler.specs.ExpressionCompiled.{reading, Accepted, compiled, stored}
 use Rattle.compiler.specs.declared.plan.ExpressionPlan.{ExpressionPlan}
 use Rattle.compiler.specs.declared.expression.Compiled.{Compiled}
-use Rattle.compiler.proofs.Reread.{reread}
-use Rattle.compiler.proofs.Rows.{own-some, size-some, root-join, join-rows}
-use Rattle.compiler.proofs.Heads.{Joined, joined}
-use Rattle.compiler.proofs.Taking.{accept, same, Taken, Done, done}
+use Rattle.compiler.proofs.ExpressionHeads.{Joined, joined}
+use Rattle.compiler.proofs.ExpressionTaking.{accept, same, Taken, Done, done}
+
+root-join : (j : Join) (f g : Exp) (n : ℕ) → root (join j f g) n ≡ joinRoot j n (root f (firstLeft j n))
+unfolding root joinRoot own
+root-join par f g n = refl
+root-join (seq x) f g n = refl
+root-join (prune x) f g n = refl
+
+-- f's rows, then g's, then the join's own
+join-rows : (j : Join) (f g : Exp) (n k : ℕ) (d : List ℕ) →
+    sets
+    (sets (sets d (headWords + 12 * firstLeft j n) (rowsOfNodes (nodesOf f (firstLeft j n) (nextLeft j n k))))
+    (headWords + 12 * firstRight j f n) (rowsOfNodes (nodesOf g (firstRight j f n) (nextRight j n k))))
+    (headWords + 12 * n) (rowsOfNodes (ownNodes j (root f (firstLeft j n)) (root g (firstRight j f n)) k))
+    ≡ sets d (headWords + 12 * n) (rowsOfNodes (nodesOf (join j f g) n k))
+unfolding nodesOf
+join-rows j f g n k d =
+    let F : List ℕ = rowsOfNodes (nodesOf f (firstLeft j n) (nextLeft j n k)) in
+    let G : List ℕ = rowsOfNodes (nodesOf g (firstRight j f n) (nextRight j n k)) in
+    let H : List ℕ = rowsOfNodes (ownNodes j (root f (firstLeft j n)) (root g (firstRight j f n)) k) in
+    let at : ℕ = headWords + 12 * n in
+    let h : length H ≡ 12 * own j = own-rows-length j _ _ k in
+    let l : length F ≡ 12 * nodeCount f = rows-length f _ _ in
+    let a : headWords + 12 * firstLeft j n ≡ at + length H = omega arith in
+    let b : headWords + 12 * firstRight j f n ≡ at + length H + length F = omega arith in
+    let e : rowsOfNodes (nodesOf (join j f g) n k) ≡ H ++ (F ++ G) = simp (rows-append, append-assoc) in
+    sets-swap _ at (headWords + 12 * firstRight j f n) H G (omega arith)
+    ∙ ap (λ (m : List ℕ). sets m (headWords + 12 * firstRight j f n) G) (sets-swap d at (headWords + 12 * firstLeft j n) H F (omega arith))
+    ∙ sym (ap (λ (w : List ℕ). sets d at w) e
+    ∙ sets-append d at H (F ++ G)
+    ∙ sets-append _ (at + length H) F G
+    ∙ rw (← b, ← a))
 
 module _ {left : ℕ} {ks os scope : List ℕ} {at n : ℕ} (t : Taken left ks os scope at n) (k3 : 3 ≤ getD ks at 0) where
   abbrev the-join : Join
@@ -120,6 +153,8 @@ module _ {left : ℕ} {ks os scope : List ℕ} {at n : ℕ} (t : Taken left ks o
               ∙ ap₂ (λ m i. sets d1 (headWords + 12 * m) (rowsOfNodes (nodesOf g m i))) (er .begins ∙ node-left) (er .goes) in
               let o : d3 ≡ sets d2 (headWords + 12 * n) (rowsOfNodes (ownNodes j (root f (firstLeft j n)) (root g (firstRight j f n)) k)) =
               e3 ∙ ap (λ y. sets d2 (headWords + 12 * n) (rowsOfNodes (ownNodes (joinOf (getD ks at 0) y) (c .root) (q .root) k))) ey
-              ∙ ap₂ (λ m i. sets d2 (headWords + 12 * n) (rowsOfNodes (ownNodes j m i k))) root-left (ap (λ (y : Compiled). y .root) last) in
+              ∙ ap₂ (λ m i. sets d2 (headWords + 12 * n) (rowsOfNodes (ownNodes j m i k))) root-left
+              (ap (λ (y : Compiled). y .root) last) in
               done t k _ d d3 (result x (ex ∙ ap (λ y. joinRoot (joinOf (getD ks at 0) y) n (c .root)) ey))
-              (o ∙ rw (b, a) (join-rows j f g n k d) ∙ ap (λ y. sets d (headWords + 12 * n) (rowsOfNodes (nodesOf y n k))) (sym (sides .value)))
+              (o ∙ rw (b, a) (join-rows j f g n k d)
+              ∙ ap (λ y. sets d (headWords + 12 * n) (rowsOfNodes (nodesOf y n k))) (sym (sides .value)))

@@ -6,11 +6,10 @@ use native.Mathlib.Numerals.{add-one}
 use lib.ListN.{getD}
 use lib.Seq.{sets}
 use lib.Dec.{ltb}
-use Rattle.job.specs.Entry.{low, high}
+use Rattle.job.specs.Entry.{low, high, operandAt}
 use Rattle.job.proofs.Test.{lt-ltb, le-not-ltb}
-use Rattle.job.proofs.Position.{operandAt}
-use Rattle.compiler.specs.Call.{wordIf, placeWords, callNodeWords}
-use Rattle.compiler.proofs.Stores.{in-fours}
+use Rattle.compiler.specs.CallWords.{wordIf, placeWords, callNodeWords}
+use Rattle.compiler.proofs.StoreLaws.{in-fours}
 
 -- a word of a place
 pub word-there : (i n w : ℕ) → i < n → w ≡ wordIf (ltb i n) w

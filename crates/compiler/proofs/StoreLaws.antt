@@ -1,25 +1,11 @@
--- Runs of stores at different places may be made in either order. So a list of rows may be stored row by row, and a later row before an earlier
--- one; and a row in fours. Assumes nothing.
-use Prim.Native.Nat.{ℕ, suc, _+_, _<_, _≤_}
-use mathlib.Core.Path.{_≡_, refl, sym, ap, _∙_}
+-- A row's twelve words may be stored in fours, since one run of stores after another is the run of both. Assumes nothing.
+use Prim.Native.Nat.{ℕ, suc, _+_, _<_}
+use mathlib.Core.Path.{_≡_, sym, ap, _∙_}
 use mathlib.Core.List.{List, [], _∷_, _++_}
 use native.Mathlib.Omega.{arith}
-use lib.ListN.{length, getD, drop, set}
-use lib.Seq.{sets, drop-cons, drop-length, set-comm}
+use lib.ListN.{length, getD, drop}
+use lib.Seq.{sets, drop-cons, drop-length}
 use Rattle.job.proofs.Stores.{sets-append}
-
--- one store below a run of stores
-set-sets : (l : List ℕ) (i j x : ℕ) (b : List ℕ) → i < j → set (sets l j b) i x ≡ sets (set l i x) j b
-set-sets l i j x [] h = refl
-set-sets l i j x (y ∷ b) h =
-    set-sets (set l j y) i (suc j) x b (omega arith)
-    ∙ ap (λ (m : List ℕ). sets m (suc j) b) (set-comm l j i y x (λ e. omega arith))
-
-pub sets-swap : (l : List ℕ) (i j : ℕ) (a b : List ℕ) → i + length a ≤ j → sets (sets l j b) i a ≡ sets (sets l i a) j b
-sets-swap l i j [] b h = refl
-sets-swap l i j (x ∷ a) b h =
-    ap (λ (m : List ℕ). sets m (suc i) a) (set-sets l i j x b (omega arith))
-    ∙ sets-swap (set l i x) (suc i) j a b (omega arith)
 
 -- a row's twelve words, stored in fours
 pub in-fours : (l d1 d2 d3 : List ℕ) (i a b c d e f g h p q r s : ℕ) → d1 ≡ sets l i (a ∷ b ∷ c ∷ d ∷ [])
