@@ -11,15 +11,14 @@ use lib.ListN.{length, getD, drop}
 use lib.Dec.{ltb}
 use lib.IntN.{pos, negsuc}
 use Rattle.job.specs.Number.{signed, unsigned}
-use Rattle.job.specs.Entry.{Entry, entry, entries, low, high, kindOf}
+use Rattle.job.specs.Entry.{Entry, entry, entries, low, high, kindOf, operandAt}
 use Rattle.job.specs.Syntax.{Param, variable, constant}
 use Rattle.job.specs.Node.{Node}
 use Rattle.job.specs.Words.{paramWords, nodeWords}
 use Rattle.job.specs.Read.{Got, got, _>>=_, gives, need, entryAt, readParam, readParamList}
 use Rattle.job.proofs.Test.{not-ltb-le, ltb-lt}
-use Rattle.job.proofs.Position.{operandAt, entries-at, entries-end, bind-got, refused-got}
-use Rattle.compiler.specs.Call.{wordIf, placeWords, callNodeWords}
-use Rattle.compiler.proofs.Reread.{reread}
+use Rattle.job.proofs.Position.{entries-at, entries-end, bind-got, refused-got, reread}
+use Rattle.compiler.specs.CallWords.{wordIf, placeWords, callNodeWords}
 
 signed-unsigned : (n : ℕ) → n < 2 ^ 32 → unsigned (signed n) ≡ n
 unfolding signed unsigned
@@ -85,7 +84,8 @@ module _ (ks os : List ℕ) (small : (at : ℕ) → operandAt os at < 2 ^ 32) (s
           let t = drop (suc e) (entries ks os) in
           let p = bind-got (readParam scope e (drop e (entries ks os))) _ g r in
           let k : Taken (getD ks e 0) (operandAt os e) e t (p .0) =
-          param-taken scope e (operandAt os e) t (p .0) (small e) (getD ks e 0) (reread readParam refl refl (entries-at ks os e l) (p .1)) in
+          param-taken scope e (operandAt os e) t (p .0) (small e) (getD ks e 0)
+          (reread readParam refl refl (entries-at ks os e l) (p .1)) in
           let ps = bind-got (readParamList n scope (p .0 .next) (p .0 .rest)) _ g (p .2) in
           record {
             here = l;
@@ -131,7 +131,8 @@ module _ (ks os : List ℕ) (small : (at : ℕ) → operandAt os at < 2 ^ 32) (s
       go : ((h : Got (List Param)) → readParamList (n - suc i) scope (at + suc i) (drop (at + suc i) (entries ks os)) ≡ got h
           → paramWords w (h .value) ≡ placeWords w (suc i) n ks os at)
           → (b : Bool) → ltb i n ≡ b
-          → paramWords (suc w) (g .value) ≡ wordIf b (getD ks (at + i) 0) ∷ wordIf b (operandAt os (at + i)) ∷ placeWords w (suc i) n ks os at
+          → paramWords (suc w) (g .value)
+          ≡ wordIf b (getD ks (at + i) 0) ∷ wordIf b (operandAt os (at + i)) ∷ placeWords w (suc i) n ks os at
       go ih true e =
           let l : i < n = ltb-lt i n e in
           let a : n - i ≡ suc (n - suc i) = omega arith in
@@ -150,7 +151,8 @@ module _ (ks os : List ℕ) (small : (at : ℕ) → operandAt os at < 2 ^ 32) (s
           let h : Got (List Param) = record { value = []; next = at + suc i; rest = drop (at + suc i) (entries ks os) } in
           ap (λ ps. paramWords (suc w) ps) v ∙ ap (λ ws. 0 ∷ 0 ∷ ws) (ih h (rw b refl))
 
-  module _ (at k : ℕ) (g : Got (List Param)) (r : readParamList (high (operandAt os at)) scope (suc at) (drop (suc at) (entries ks os)) ≡ got g)
+  module _ (at k : ℕ) (g : Got (List Param))
+      (r : readParamList (high (operandAt os at)) scope (suc at) (drop (suc at) (entries ks os)) ≡ got g)
       (l : at < length ks) where
     four-places : paramWords 4 (g .value) ≡ placeWords 4 0 (high (operandAt os at)) ks os (at + 1)
     four-places =

@@ -1,14 +1,11 @@
 -- Laws that the compiler's proofs share, from the dag's words to whole expressions.
-pub mod Stores
-pub mod Operand
-pub mod Reread
-pub mod Places
+pub mod StoreLaws
+pub mod CallPlaces
 pub mod CallNode
-pub mod Plans
-pub mod OwnRows
-pub mod Rows
-pub mod Heads
-pub mod Taking
-pub mod OneNode
-pub mod TwoSides
-pub mod Sinks
+pub mod PlanLaws
+pub mod JoinLaws
+pub mod ExpressionHeads
+pub mod ExpressionTaking
+pub mod ExpressionNode
+pub mod ExpressionJoin
+pub mod BodySink

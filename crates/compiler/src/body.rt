@@ -3,8 +3,7 @@ ghost use mathlib.Core.Path.{_≡_};
 ghost use Prim.Native.Nat.{_+_, _*_, _<_};
 ghost use lib.Seq.{sets};
 ghost use Rattle.job.specs.Words.{headWords, nodeWords};
-ghost use Rattle.compiler.specs.Compiled.{reading};
-ghost use Rattle.compiler.specs.Body.{sinkOf, BodyAccepted, compiledWithSink, storedBody};
+ghost use Rattle.compiler.specs.Body.{sinkOf, BodyAcceptedInSome, WhereBodyAccepted, compiledWithSink, storedBody};
 use crate::expression::Compiled;
 use crate::expression::compile_expression;
 use crate::plan::ExpressionPlan;
@@ -12,6 +11,7 @@ use crate::store::put;
 use job::dag::PUBLISH;
 use job::dag::RETURN;
 use job::dag::WORDS;
+use reader::scope::Scope;
 
 // Stores the sink of the goal, or of a definition.
 fn put_sink(dag: &mut [u32; WORDS], sink: usize, goal: bool)
@@ -30,16 +30,15 @@ pub fn compile_body(
     kinds: &[u8],
     operands: &[u8],
     dag: &mut [u32; WORDS],
-    scope: usize,
+    scope: Scope,
     at: usize,
     node: usize,
     sink: usize,
     goal: bool,
 ) -> Compiled
-    requires { ⌜ BodyAccepted (now kinds) (now operands) scope at node sink ⌝ }
-    ensures { λ r. ⌜ r ≡ compiledWithSink (reading 24 (now (kinds .entry)) (now (operands .entry)) scope at) node ⌝ }
-    ensures { λ _. ⌜ now (dag .exit) ≡ storedBody (reading 24 (now (kinds .entry)) (now (operands .entry)) scope at)
-        goal node (now (dag .entry)) ⌝ }
+    requires { ⌜ BodyAcceptedInSome (now kinds) (now operands) scope at node sink ⌝ }
+    ensures { λ r. ⌜ WhereBodyAccepted (now (kinds .entry)) (now (operands .entry)) scope at node sink
+        (λ e. (r ≡ compiledWithSink e node) × (now (dag .exit) ≡ storedBody e goal node (now (dag .entry)))) ⌝ }
 {
     let plan = ExpressionPlan {
         scope: scope,

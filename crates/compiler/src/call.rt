@@ -6,9 +6,9 @@ ghost use lib.Seq.{sets};
 ghost use lib.Dec.{ltb};
 ghost use Rattle.job.specs.Entry.{high};
 ghost use Rattle.job.specs.Words.{headWords, arrayWords};
-ghost use Rattle.job.proofs.Position.{operandAt};
+ghost use Rattle.job.specs.Entry.{operandAt};
 ghost use Rattle.reader.specs.Checked.{Parts};
-ghost use Rattle.compiler.specs.Call.{wordIf, placeWords, callNodeWords};
+ghost use Rattle.compiler.specs.CallWords.{wordIf, placeWords, callNodeWords};
 use crate::store::put_four;
 use job::dag::HEAD_WORDS;
 use job::dag::ROW_WORDS;
@@ -50,7 +50,8 @@ fn put_places(
 )
     requires { ⌜ Parts (now kinds) (now operands) ⌝ }
     requires { ⌜ (word + 4 ≤ arrayWords) × (i < 4) × (at + count ≤ length (now kinds)) ⌝ }
-    ensures { λ _. ⌜ now (dag .exit) ≡ sets (now (dag .entry)) word (placeWords 2 i count (now (kinds .entry)) (now (operands .entry)) at) ⌝ }
+    ensures { λ _. ⌜ now (dag .exit)
+        ≡ sets (now (dag .entry)) word (placeWords 2 i count (now (kinds .entry)) (now (operands .entry)) at) ⌝ }
 {
     put_four(
         dag,

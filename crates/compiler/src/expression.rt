@@ -1,7 +1,7 @@
 // "Compile an expression toward a next node."
 ghost use mathlib.Core.Path.{_≡_};
 ghost use Prim.Native.Nat.{_+_, _<_};
-ghost use Rattle.compiler.specs.Compiled.{Accepted, reading, compiled, stored};
+ghost use Rattle.compiler.specs.ExpressionCompiled.{AcceptedInSome, WhereAccepted, compiled, stored};
 use crate::call::put_call;
 use crate::join::join_root;
 use crate::join::put_own;
@@ -41,10 +41,9 @@ pub fn compile_expression(
     at: usize,
     plan: ExpressionPlan,
 ) -> Compiled
-    requires { ⌜ Accepted left (now kinds) (now operands) (plan .scope) at (plan .first) ⌝ }
-    ensures { λ r. ⌜ r ≡ compiled (reading left (now (kinds .entry)) (now (operands .entry)) (plan .scope) at) (plan .first) ⌝ }
-    ensures { λ _. ⌜ now (dag .exit) ≡ stored (reading left (now (kinds .entry)) (now (operands .entry)) (plan .scope) at)
-        (plan .first) (plan .next) (now (dag .entry)) ⌝ }
+    requires { ⌜ AcceptedInSome left (now kinds) (now operands) (plan .scope) at (plan .first) ⌝ }
+    ensures { λ r. ⌜ WhereAccepted left (now (kinds .entry)) (now (operands .entry)) (plan .scope) at (plan .first)
+        (λ e. (r ≡ compiled e (plan .first)) × (now (dag .exit) ≡ stored e (plan .first) (plan .next) (now (dag .entry)))) ⌝ }
 {
     let kind = kinds[at];
     if kind == 0 {

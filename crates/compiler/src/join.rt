@@ -4,8 +4,8 @@ ghost use Prim.Native.Nat.{_+_, _*_, _<_, _≤_};
 ghost use lib.Seq.{sets};
 ghost use Rattle.job.specs.Construct.{ownNodes};
 ghost use Rattle.job.specs.Words.{headWords, rowsOfNodes};
-ghost use Rattle.reader.specs.Join.{joinOf};
-ghost use Rattle.compiler.specs.Join.{joinRoot};
+ghost use Rattle.reader.specs.ExpressionSides.{joinOf};
+ghost use Rattle.compiler.specs.JoinRoot.{joinRoot};
 use crate::plan::ExpressionPlan;
 use crate::store::put;
 use job::dag::ASSIGN;
@@ -18,7 +18,7 @@ use job::dag::WORDS;
 // The join's root, where `left` is that of its f: a sequence is entered at its f.
 pub fn join_root(kind: u8, plan: ExpressionPlan, left: u32) -> u32
     requires { ⌜ plan .first < 1022 ⌝ }
-    ensures { λ r. ⌜ r ≡ joinRoot (joinOf kind (plan .scope)) (plan .first) left ⌝ }
+    ensures { λ r. ⌜ r ≡ joinRoot (joinOf kind (plan .scope .count)) (plan .first) left ⌝ }
 {
     let first = plan.first as u32;
     if kind == 3 {
@@ -32,11 +32,12 @@ pub fn join_root(kind: u8, plan: ExpressionPlan, left: u32) -> u32
 
 // Stores the join's own nodes: `left` and `right` are the roots of its sides.
 pub fn put_own(dag: &mut [u32; WORDS], kind: u8, plan: ExpressionPlan, left: u32, right: u32)
-    requires { ⌜ (plan .scope ≤ 8) × (plan .first + 3 ≤ 1022) ⌝ }
+    requires { ⌜ plan .first + 3 ≤ 1022 ⌝ }
     ensures { λ _. ⌜ now (dag .exit) ≡ sets (now (dag .entry)) (headWords + 12 * plan .first)
-        (rowsOfNodes (ownNodes (joinOf kind (plan .scope)) left right (plan .next))) ⌝ }
+        (rowsOfNodes (ownNodes (joinOf kind (plan .scope .count)) left right (plan .next))) ⌝ }
 {
-    let x = plan.scope as u32;
+    let scope = plan.scope;
+    let x = scope.count;
     let node = plan.first;
     let next = plan.next;
     if kind == 3 {

@@ -1,36 +1,42 @@
 // How an expression is compiled, and how the two sides of a join are.
+use reader::scope;
+use reader::scope::Scope;
 ghost use Prim.Native.Nat.{_<_, _≤_};
-ghost use Rattle.reader.specs.Join.{joinOf};
-ghost use Rattle.compiler.specs.Join.{IsLeft, IsRight};
+ghost use lib.ListN.{length};
+ghost use Rattle.reader.specs.Scope.{ForEvery};
+ghost use Rattle.reader.specs.ExpressionSides.{joinOf};
+ghost use Rattle.compiler.specs.Plan.{IsLeft, IsRight};
 
-// The number of variables in scope, the expression's first node, and the node toward which it goes.
+// The variables in scope, the expression's first node, and the node toward which it goes.
 pub struct ExpressionPlan {
-    pub scope: usize,
+    pub scope: Scope,
     pub first: usize,
     pub next: u32,
 }
 
 // f's nodes follow the join's own: "f toward assign(x)", "left is f toward remove(x)".
 pub fn left_plan(kind: u8, plan: ExpressionPlan) -> ExpressionPlan
-    requires { ⌜ (plan .scope ≤ 8) × (plan .first < 1022) ⌝ }
-    ensures { λ r. ⌜ IsLeft (joinOf kind (plan .scope)) (plan .scope) (plan .first) (plan .next) r ⌝ }
+    requires { ⌜ (plan .first < 1022) × (3 ≤ kind) × (4 ≤ kind → plan .scope .count < 8) ⌝ }
+    ensures { λ r. ⌜ ForEvery (plan .scope) (λ l. IsLeft (joinOf kind (length l)) l (plan .first) (plan .next) r) ⌝ }
 {
+    let scope = plan.scope;
     if kind == 3 {
         return ExpressionPlan {
-            scope: plan.scope,
+            scope: scope,
             first: plan.first + 1,
             next: plan.next,
         };
     }
     if kind == 4 {
         return ExpressionPlan {
-            scope: plan.scope,
+            scope: scope,
             first: plan.first + 2,
             next: plan.first as u32,
         };
     }
+    let inner = scope::bind(scope, scope.count);
     ExpressionPlan {
-        scope: plan.scope + 1,
+        scope: inner,
         first: plan.first + 3,
         next: plan.first as u32 + 1,
     }
@@ -38,25 +44,27 @@ pub fn left_plan(kind: u8, plan: ExpressionPlan) -> ExpressionPlan
 
 // g's nodes follow f's, and so begin at `first`: "g toward remove(x)", "right is g toward choke".
 pub fn right_plan(kind: u8, plan: ExpressionPlan, first: usize) -> ExpressionPlan
-    requires { ⌜ (plan .scope ≤ 8) × (plan .first < 1022) ⌝ }
-    ensures { λ r. ⌜ IsRight (joinOf kind (plan .scope)) (plan .scope) (plan .first) first (plan .next) r ⌝ }
+    requires { ⌜ (plan .first < 1022) × (3 ≤ kind) × (4 ≤ kind → plan .scope .count < 8) ⌝ }
+    ensures { λ r. ⌜ ForEvery (plan .scope) (λ l. IsRight (joinOf kind (length l)) l (plan .first) first (plan .next) r) ⌝ }
 {
+    let scope = plan.scope;
     if kind == 3 {
         return ExpressionPlan {
-            scope: plan.scope,
+            scope: scope,
             first: first,
             next: plan.next,
         };
     }
     if kind == 4 {
+        let inner = scope::bind(scope, scope.count);
         return ExpressionPlan {
-            scope: plan.scope + 1,
+            scope: inner,
             first: first,
             next: plan.first as u32 + 1,
         };
     }
     ExpressionPlan {
-        scope: plan.scope,
+        scope: scope,
         first: first,
         next: plan.first as u32 + 2,
     }

@@ -14,8 +14,8 @@ use Rattle.job.specs.Syntax.{Definition, Program, formalsOf, levels}
 use Rattle.job.specs.Entry.{Entry, entry, entries, EntryKind, kindOf, rowHolds}
 use Rattle.job.specs.Encode.{encodeExp, encodeDefinitions, encodeEntries, operandBytes, encode}
 use Rattle.job.specs.WellFormed.{Good, GoodDefinition, WellFormed}
-use Rattle.job.specs.Read.{Got, _>>=_, entryAt, need, isDefinition, readDefinition, readProgram, leftovers, callHolds}
-use Rattle.job.specs.Read.{definitionsHold}
+use Rattle.job.specs.Read.{Got, got, _>>=_, entryAt, need, isDefinition, readDefinition, readProgram, leftovers}
+use Rattle.job.specs.Read.{callHolds, definitionsHold}
 use Rattle.job.specs.Read.{readEntries, sizeD, sizeN, tableLength, readBytes}
 use Rattle.job.proofs.All.{All-drop}
 use Rattle.job.proofs.Test.{eqb-eq, leb-le, and-left, and-right, clash}
@@ -111,6 +111,23 @@ entries-found n es =
     yields-bind _ (holds-found (formalsOf (p .value .definitions)) 0 es) λ _ holds.
     something (record { program = yields-got (program-found _ n 0 es holds) is; ends = ends })
 
+module _ {n : ℕ} {es : List Entry} {g : Got Program} (found : FoundEntries n es g) where
+  entries-exact : length (encodeEntries (g .value)) ≡ length es
+  entries-exact =
+      let begun = begins-length (found .program .begins) in
+      let ended : length (g .rest) ≡ 0 = ap length (found .ends) in
+      omega arith
+
+  found-well-formed : n ≤ 32 → length es ≤ 512 → WellFormed (g .value)
+  found-well-formed d m =
+      let D = found .program .count in
+      let N = entries-exact in
+      record { definitions = omega arith; entries = omega arith; bodies = found .program .bodies; goal = found .program .goal }
+
+pub entries-well-formed : (n : ℕ) (es : List Entry) (g : Got Program) → n ≤ 32 → length es ≤ 512 → readEntries n es ≡ got g
+    → WellFormed (g .value)
+entries-well-formed n es g d m r = found-well-formed (yields-got (entries-found n es) r) d m
+
 pub record FoundBytes (b : List ℕ) (g : Got Program) : Type 0 where
   pub well-formed : WellFormed (g .value)
   pub exact : All Byte b → b ≡ encode (g .value)
@@ -126,17 +143,16 @@ module _ (b : List ℕ) (four : 4 ≤ length b) (total : length b ≡ tableLengt
   module _ (g : Got Program) (found : FoundEntries (sizeD b) (entries (kindPart b) (operandPart b)) g) where
     entry-count : length (encodeEntries (g .value)) ≡ sizeN b
     entry-count =
-        let begun = begins-length (found .program .begins) in
-        let ended : length (g .rest) ≡ 0 = ap length (found .ends) in
         let read = length-entries (kindPart b) (operandPart b) in
         let kinds = length-kind-part in
+        let exact = entries-exact found in
         omega arith
 
-    found-well-formed : sizeD b ≤ 32 → sizeN b ≤ 512 → WellFormed (g .value)
-    found-well-formed d n =
-        let D = found .program .count in
-        let N = entry-count in
-        record { definitions = omega arith; entries = omega arith; bodies = found .program .bodies; goal = found .program .goal }
+    found-here : sizeD b ≤ 32 → sizeN b ≤ 512 → WellFormed (g .value)
+    found-here d n =
+        let read = length-entries (kindPart b) (operandPart b) in
+        let kinds = length-kind-part in
+        found-well-formed found d (omega arith)
 
     found-exact : All Byte b → b ≡ encode (g .value)
     unfolding encode
@@ -164,5 +180,5 @@ bytes-found b =
     let d = leb-le (sizeD b) 32 (and-left _ _ sizes) in
     let n = leb-le (sizeN b) 512 (and-right (leb 1 (sizeN b)) _ (and-right (leb (sizeD b) 32) _ sizes)) in
     yields-map
-    (λ g h. record { well-formed = found-well-formed b four total g h d n; exact = found-exact b four total g h })
+    (λ g h. record { well-formed = found-here b four total g h d n; exact = found-exact b four total g h })
     (entries-found (sizeD b) (entries (kindPart b) (operandPart b)))

@@ -21,6 +21,7 @@ pub mod DagRules
 pub mod DagHolds
 pub mod Laid
 pub mod Words
+pub mod NodeRows
 pub mod DeclinedAt
 pub mod Lists
 pub mod Both

@@ -1,6 +1,6 @@
--- How many nodes a construction makes: an expression as many as its size, a program of 512 entries at most 1,022.
--- A join makes at most three nodes of its own and stands over two operands, so j joins make at most 4j + 1 nodes and take at least 2j + 1
--- entries. Assumes nothing.
+-- How many nodes a construction makes: an expression as many as its size, a program of 512 entries at most 1,022. A join makes at most
+-- three nodes of its own and stands over two operands, so j joins make at most 4j + 1 nodes and take at least 2j + 1 entries. Assumes
+-- nothing.
 use mathlib.Core.Path.{_≡_, refl}
 use mathlib.Core.List.{List, [], _∷_, _++_}
 use Prim.Native.Nat.{ℕ, suc, _+_, _*_, _≤_}
@@ -34,6 +34,19 @@ nodes-length (join j f g) n k =
 pub nodes-append-length : (e : Exp) (n k : ℕ) (ns : List Node) → length (nodesOf e n k ++ ns) ≡ nodeCount e + length ns
 nodes-append-length e n k ns = simp (length-append, nodes-length)
 
+pub own-some : (j : Join) → 1 ≤ own j
+unfolding own
+own-some par = omega arith
+own-some (seq x) = omega arith
+own-some (prune x) = omega arith
+
+pub size-some : (e : Exp) → 1 ≤ nodeCount e
+unfolding nodeCount
+size-some stop = omega arith
+size-some (site s ps) = omega arith
+size-some (call d ps) = omega arith
+size-some (join j f g) = let z = size-some f in omega arith
+
 -- how many joins an expression has
 unfoldable pub joins : Exp → ℕ
 joins stop = 0
@@ -41,7 +54,7 @@ joins (site s ps) = 0
 joins (call d ps) = 0
 joins (join j f g) = 1 + joins f + joins g
 
-own-few : (j : Join) → own j ≤ 3
+pub own-few : (j : Join) → own j ≤ 3
 unfolding own
 own-few par = omega arith
 own-few (seq x) = omega arith

@@ -1,7 +1,7 @@
 -- The entries of a table: "N kind bytes, then N operands of 4 bytes". Assumes nothing: these are definitions.
 use mathlib.Core.Bool.{Bool, true, false}
 use mathlib.Core.List.{List, [], _∷_}
-use Prim.Native.Nat.{ℕ, _/_, _%_}
+use Prim.Native.Nat.{ℕ, _*_, _/_, _%_}
 use lib.ListN.{getD, take, drop}
 use lib.Dec.{eqb, leb}
 use Rattle.job.specs.Bounds.{parameterLimit}
@@ -20,6 +20,10 @@ entry k o = record { kind = k; operand = o }
 unfoldable pub entries : List ℕ → List ℕ → List Entry
 entries [] os = []
 entries (k ∷ ks) os = entry k (number (take 4 os)) ∷ entries ks (drop 4 os)
+
+-- the operand at an index of the operand part
+abbrev pub operandAt : List ℕ → ℕ → ℕ
+operandAt os at = number (take 4 (drop (4 * at) os))
 
 -- "low 16 bits site, high 16 bits parameter count"
 abbrev pub low : ℕ → ℕ

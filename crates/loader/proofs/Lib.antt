@@ -1,5 +1,5 @@
 -- Laws that the loader's proofs share: the definitions, the program, the table.
-pub mod Before
-pub mod Writing
-pub mod Whole
-pub mod Tables
+pub mod ProgramWords
+pub mod ProgramDefinitions
+pub mod ProgramWhole
+pub mod TableLoad

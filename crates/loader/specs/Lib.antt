@@ -1,3 +1,3 @@
--- What the loader gives and stores, in the words of the definitions of `model`.
-pub mod Loaded
-pub mod Stored
+-- What the loader gives and stores, in the words of the definitions of `job`.
+pub mod TableLoaded
+pub mod ProgramStored

@@ -3,13 +3,14 @@ use crate::head;
 use compiler::body;
 use job::dag::WORDS;
 use reader::entry;
+use reader::scope;
 ghost use mathlib.Core.Path.{_≡_};
 ghost use Prim.Native.Nat.{_≤_};
 ghost use Rattle.job.specs.Entry.{entries};
 ghost use Rattle.job.specs.Read.{readEntries};
 ghost use Rattle.reader.specs.Checked.{Parts};
-ghost use Rattle.reader.specs.DefinitionList.{readDefinitionList};
-ghost use Rattle.loader.specs.Stored.{DefinitionsRead, Accepts, placeBehind, storedDefinitions, storedProgram};
+ghost use Rattle.reader.specs.Definition.{readDefinitionList};
+ghost use Rattle.loader.specs.ProgramStored.{DefinitionsRead, Accepts, placeBehind, storedDefinitions, storedProgram};
 
 // The first entry and the first node behind what is compiled.
 pub struct Place {
@@ -42,7 +43,7 @@ fn compile_definitions(
             kinds,
             operands,
             dag,
-            formals as usize,
+            scope::of_formals(formals),
             at + 1,
             node,
             sink,
@@ -77,7 +78,7 @@ pub fn compile_program(
         kinds,
         operands,
         dag,
-        0,
+        scope::of_formals(0),
         before.at,
         before.node,
         nodes - 1,

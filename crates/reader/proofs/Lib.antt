@@ -1,19 +1,18 @@
--- Laws that the proofs of the code cite.
-pub mod Word
-pub mod Scope
-pub mod Row
-pub mod Answer
+-- Laws that the proofs of the code cite, by the source file whose code they are about.
+pub mod EntryWord
+pub mod EntryKinds
+pub mod ScopeLaws
 pub mod EntryFault
-pub mod Onward
-pub mod Parameters
-pub mod JoinSides
-pub mod Opened
-pub mod Few
-pub mod Expressions
-pub mod Calling
-pub mod Definitions
+pub mod CheckedLaws
+pub mod ParameterLaws
+pub mod ExpressionSides
+pub mod ExpressionOpened
+pub mod ExpressionNodes
+pub mod ExpressionLaws
+pub mod CallsLaws
+pub mod DefinitionLaws
 pub mod DefinitionLoop
-pub mod NodeCount
 pub mod ProgramParts
-pub mod Programs
-pub mod AtMost
+pub mod ProgramNodes
+pub mod ProgramLaws
+pub mod TableLaws

@@ -1,16 +1,17 @@
 -- A program is read in parts: its definitions, its goal, then the tests of the whole table. Where the definitions end, how many there are,
 -- and how few nodes they have. Assumes nothing.
-use mathlib.Core.Path.{_≡_, refl, sym, _∙_, ap, subst}
+use mathlib.Core.Path.{_≡_, refl, sym, _∙_, ap}
 use mathlib.Core.List.{List, [], _∷_}
 use Prim.Native.Nat.{ℕ, zero, suc, _+_, _*_, _≤_}
 use native.Mathlib.Omega.{arith}
 use lib.ListN.{length}
 use Rattle.job.specs.Syntax.{Exp, Definition, Program, formalsOf}
 use Rattle.job.specs.Entry.{Entry}
-use Rattle.job.specs.Read.{Got, Read, got, refused, _>>=_, gives, readExp, readDefinition, readProgram, leftovers, definitionsHold, readEntries}
-use Rattle.job.proofs.Position.{bind-got}
+use Rattle.job.specs.Read.{Got, Read, got, refused, _>>=_, gives, readExp, readDefinition, readProgram, leftovers, definitionsHold}
+use Rattle.job.specs.Read.{readEntries}
+use Rattle.job.proofs.Position.{bind-got, same-got}
 use Rattle.reader.specs.Checked.{entriesFrom}
-use Rattle.reader.specs.DefinitionList.{readDefinitionList, definitionListNodes}
+use Rattle.reader.specs.Definition.{readDefinitionList, definitionListNodes, andThen, definitionsFound}
 use Rattle.reader.proofs.DefinitionLoop.{Defined, defined}
 
 -- a goal behind its definitions; a definition in front of a program, and in front of others
@@ -44,7 +45,8 @@ program-split (suc n) e es = go (readDefinition e es) (program-split n)
     go : (r : Read Definition) → ((e : ℕ) (es : List Entry) → readProgram n e es ≡ (readDefinitionList n e es >>= goalRead))
         → (r >>= (λ d. readProgram n (d .next) (d .rest) >>= ahead (d .value)))
         ≡ (r >>= (λ d. readDefinitionList n (d .next) (d .rest) >>= more (d .value)) >>= goalRead)
-    go (got d) same = ap (λ r. r >>= ahead (d .value)) (same (d .next) (d .rest)) ∙ rest (d .value) (readDefinitionList n (d .next) (d .rest))
+    go (got d) same = ap (λ r. r >>= ahead (d .value)) (same (d .next) (d .rest))
+        ∙ rest (d .value) (readDefinitionList n (d .next) (d .rest))
     go (refused k i) same = refl
 
 -- definitions that were read from entry e on
@@ -52,29 +54,39 @@ pub record AllDefined (ks os : List ℕ) (n e : ℕ) (g : Got (List Definition))
   pub rest : g .rest ≡ entriesFrom ks os (g .next)
   pub many : length (g .value) ≡ n
   pub few : definitionListNodes (g .value) + 2 * n + 2 * e ≤ 2 * g .next
-  pub none : n ≡ 0 → g .next ≡ e
 
-pub same-got : {A : Type 0} (P : Got A → Type 0) (g h : Got A) → got g ≡ got h → P g → P h
-same-got P g h e p = let z : g ≡ h = cc in subst P z p
-
-one-more : (ks os : List ℕ) (n e : ℕ) (d : Got Definition) (ds : Got (List Definition)) → Defined ks os e d → AllDefined ks os n (d .next) ds
+one-more : (ks os : List ℕ) (n e : ℕ) (d : Got Definition) (ds : Got (List Definition)) → Defined ks os e d
+    → AllDefined ks os n (d .next) ds
     → AllDefined ks os (suc n) e (record { value = d .value ∷ ds .value; next = ds .next; rest = ds .rest })
 unfolding definitionListNodes
 one-more ks os n e d ds f fs =
-    let x = f .few in let y = fs .few in record { rest = fs .rest; many = ap suc (fs .many); few = omega arith; none = λ z. absurd (omega arith) }
+    let x = f .few in let y = fs .few in record { rest = fs .rest; many = ap suc (fs .many); few = omega arith }
 
 pub all-defined : (ks os : List ℕ) (n e : ℕ) (l : List Entry) → l ≡ entriesFrom ks os e → (g : Got (List Definition))
     → readDefinitionList n e l ≡ got g → AllDefined ks os n e g
 unfolding readDefinitionList definitionListNodes
 all-defined ks os zero e l q g r =
     same-got (AllDefined ks os 0 e) (record { value = []; next = e; rest = l }) g r
-    (record { rest = q; many = refl; few = omega arith; none = λ z. refl })
+    (record { rest = q; many = refl; few = omega arith })
 all-defined ks os (suc n) e l q g r =
     let d = bind-got (readDefinition e l) _ g r in
     let f = defined ks os e (d .0) (ap (readDefinition e) (sym q) ∙ d .1) in
     let ds = bind-got (readDefinitionList n (d .0 .next) (d .0 .rest)) _ g (d .2) in
     let fs = all-defined ks os n (d .0 .next) (d .0 .rest) (f .rest) (ds .0) (ds .1) in
     same-got (AllDefined ks os (suc n) e) _ g (ds .2) (one-more ks os n e (d .0) (ds .0) f fs)
+
+-- where all are read, all are found
+pub all-found : (n e : ℕ) (es : List Entry) (g : Got (List Definition)) → readDefinitionList n e es ≡ got g
+    → definitionsFound n e es ≡ g .value
+unfolding readDefinitionList definitionsFound andThen
+all-found zero e es g r = cc
+all-found (suc n) e es g r =
+    let d = bind-got (readDefinition e es) _ g r in
+    let ds = bind-got (readDefinitionList n (d .0 .next) (d .0 .rest)) _ g (d .2) in
+    let z : g .value ≡ d .0 .value ∷ ds .0 .value = cc in
+    ap (λ r. andThen r (λ d. definitionsFound n (d .next) (d .rest))) (d .1)
+    ∙ ap (λ ds. d .0 .value ∷ ds) (all-found n (d .0 .next) (d .0 .rest) (ds .0) (ds .1))
+    ∙ sym z
 
 -- the tests behind a program that was read
 unfoldable pub tests : List Entry → Got Program → Read Program

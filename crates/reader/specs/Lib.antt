@@ -1,5 +1,7 @@
--- The reader's answers, in the words of the definitions of `model`.
+-- The reader's answers, in the words of the definitions of `job`.
 pub mod Checked
-pub mod Fault
-pub mod Join
-pub mod DefinitionList
+pub mod Scope
+pub mod EntryFault
+pub mod ExpressionSides
+pub mod Definition
+pub mod Table

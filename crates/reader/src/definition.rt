@@ -3,13 +3,13 @@ use crate::checked;
 use crate::checked::Checked;
 use crate::entry;
 use crate::expression;
+use crate::scope;
 ghost use mathlib.Core.Path.{_≡_};
 ghost use Prim.Native.Nat.{_≤_};
-ghost use lib.ListN.{length};
 ghost use Rattle.job.specs.Entry.{entries};
 ghost use Rattle.job.specs.Read.{readDefinition};
 ghost use Rattle.reader.specs.Checked.{Parts, entriesFrom};
-ghost use Rattle.reader.specs.DefinitionList.{checkedDefinition, readDefinitionList, DefinitionsHold};
+ghost use Rattle.reader.specs.Definition.{checkedDefinition, DefinitionsHold};
 
 // The definition from entry `at` on.
 fn check_definition(kinds: &[u8], operands: &[u8], at: usize) -> Checked
@@ -26,13 +26,13 @@ fn check_definition(kinds: &[u8], operands: &[u8], at: usize) -> Checked
     if 4 < formals {
         return Checked::Refused(4, at);
     }
-    checked::add_nodes(
-        expression::check_expression(kinds, operands, expression::DEPTH, formals as usize, at + 1),
-        1,
-    )
+    let scope = scope::of_formals(formals);
+    let body = expression::check_expression(kinds, operands, expression::DEPTH, scope, at + 1);
+    checked::add_nodes(body, 1)
 }
 
-// So many definitions, from the first entry on. The count of formals and the number of nodes of each, its sink included, are kept.
+// So many definitions, from the first entry on. The count of formals and the number of nodes, its sink included, of each that is read
+// before the first refusal are kept.
 pub fn check_definitions(
     kinds: &[u8],
     operands: &[u8],
@@ -41,9 +41,9 @@ pub fn check_definitions(
     sizes: &mut [u32; 32],
 ) -> Checked
     requires { ⌜ Parts (now kinds) (now operands) ⌝ }
-    requires { ⌜ (count ≤ 32) × (length (now formals) ≡ 32) × (length (now sizes) ≡ 32) ⌝ }
-    ensures { λ r. ⌜ DefinitionsHold (readDefinitionList count 0 (entries (now (kinds .entry)) (now (operands .entry)))) r
-        (now (formals .exit)) (now (sizes .exit)) ⌝ }
+    requires { ⌜ count ≤ 32 ⌝ }
+    ensures { λ r. ⌜ DefinitionsHold count (entries (now (kinds .entry)) (now (operands .entry))) r
+        (now (formals .entry)) (now (formals .exit)) (now (sizes .entry)) (now (sizes .exit)) ⌝ }
 {
     let mut at = 0;
     let mut nodes = 0;

@@ -1,11 +1,13 @@
 // One entry: its operand, its row, and what refuses it where an expression is read.
+use crate::scope::Scope;
 use job::site_parameters;
 ghost use mathlib.Core.Path.{_≡_};
 ghost use Prim.Native.Nat.{_+_, _*_, _<_, _≤_};
 ghost use lib.ListN.{length, take, drop};
 ghost use Rattle.job.specs.Number.{number};
-ghost use Rattle.job.specs.Entry.{kindOf, rowHolds};
-ghost use Rattle.reader.specs.Fault.{expressionFault};
+ghost use Rattle.job.specs.Entry.{operandAt, kindOf, rowHolds};
+ghost use Rattle.reader.specs.Scope.{ForEvery};
+ghost use Rattle.reader.specs.EntryFault.{expressionFault};
 
 // Four bytes, the lowest first.
 fn word(a: u8, b: u8, c: u8, d: u8) -> u32
@@ -25,7 +27,7 @@ pub fn word_at(bytes: &[u8], i: usize) -> u32
 // The operand of entry `at`.
 pub fn operand(operands: &[u8], at: usize) -> u32
     requires { ⌜ (at < 512) × (4 * at + 4 ≤ length (now operands)) ⌝ }
-    ensures { λ r. ⌜ r ≡ number (take 4 (drop (4 * at) (now (operands .entry)))) ⌝ }
+    ensures { λ r. ⌜ r ≡ operandAt (now (operands .entry)) at ⌝ }
 {
     word_at(operands, 4 * at)
 }
@@ -44,9 +46,9 @@ pub fn row_holds(kind: u8, operand: u32) -> bool
     operand == 0
 }
 
-// The number that refuses an expression's entry by itself, or 0: so many levels of depth are left, so many variables in scope.
-pub fn fault(kind: u8, operand: u32, left: usize, scope: usize) -> u8
-    ensures { λ r. ⌜ r ≡ expressionFault left scope (kindOf kind) operand ⌝ }
+// The number that refuses an expression's entry by itself, or 0: so many levels of depth are left.
+pub fn fault(kind: u8, operand: u32, left: usize, scope: Scope) -> u8
+    ensures { λ r. ⌜ ForEvery scope (λ l. r ≡ expressionFault left l (kindOf kind) operand) ⌝ }
 {
     if 5 < kind {
         return 3;
@@ -60,7 +62,7 @@ pub fn fault(kind: u8, operand: u32, left: usize, scope: usize) -> u8
     if kind < 4 {
         return 0;
     }
-    if 7 < scope {
+    if 7 < scope.count {
         return 7;
     }
     0

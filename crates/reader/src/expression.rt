@@ -3,27 +3,29 @@ use crate::checked;
 use crate::checked::Checked;
 use crate::entry;
 use crate::parameter;
+use crate::scope;
+use crate::scope::Scope;
 ghost use mathlib.Core.Path.{_≡_};
-ghost use Prim.Native.Nat.{_≤_};
-ghost use Rattle.job.specs.Syntax.{levels};
+ghost use Prim.Native.Nat.{_<_, _≤_};
 ghost use Rattle.job.specs.Read.{readExp};
 ghost use Rattle.reader.specs.Checked.{Parts, entriesFrom, checkedExp};
-ghost use Rattle.reader.specs.Join.{JoinHolds};
+ghost use Rattle.reader.specs.Scope.{Scoped, ForEvery};
+ghost use Rattle.reader.specs.ExpressionSides.{JoinHolds};
 
 // "Depth ends at 24".
 pub const DEPTH: usize = 24;
 
-// How many variables are in scope in a join's left and right side, and the nodes that the join makes itself.
+// The scopes of a join's left and right side, and the nodes that the join makes itself.
 pub struct Sides {
-    pub left: usize,
-    pub right: usize,
+    pub left: Scope,
+    pub right: Scope,
     pub nodes: usize,
 }
 
-// The sides of a join of this kind (3, 4 or 5), where so many variables are in scope.
-pub fn sides_of(kind: u8, scope: usize) -> Sides
-    requires { ⌜ scope ≤ 8 ⌝ }
-    ensures { λ r. ⌜ JoinHolds kind scope r ⌝ }
+// The sides of a join of this kind (3, 4 or 5): a binder takes the next number.
+pub fn sides_of(kind: u8, scope: Scope) -> Sides
+    requires { ⌜ (3 ≤ kind) × (4 ≤ kind → scope .count < 8) ⌝ }
+    ensures { λ r. ⌜ ForEvery scope (λ l. JoinHolds kind l r) ⌝ }
 {
     if kind == 3 {
         return Sides {
@@ -32,30 +34,32 @@ pub fn sides_of(kind: u8, scope: usize) -> Sides
             nodes: 1,
         };
     }
+    let inner = scope::bind(scope, scope.count);
     if kind == 4 {
         return Sides {
             left: scope,
-            right: scope + 1,
+            right: inner,
             nodes: 2,
         };
     }
     Sides {
-        left: scope + 1,
+        left: inner,
         right: scope,
         nodes: 3,
     }
 }
 
-// The expression from entry `at` on, where so many levels of depth are left and so many variables in scope.
+// The expression from entry `at` on, where so many levels of depth are left.
 pub fn check_expression(
     kinds: &[u8],
     operands: &[u8],
     left: usize,
-    scope: usize,
+    scope: Scope,
     at: usize,
 ) -> Checked
-    requires { ⌜ Parts (now kinds) (now operands) × (scope ≤ 8) ⌝ }
-    ensures { λ r. ⌜ r ≡ checkedExp (readExp left (levels scope) at (entriesFrom (now (kinds .entry)) (now (operands .entry)) at)) ⌝ }
+    requires { ⌜ Parts (now kinds) (now operands) × Scoped scope ⌝ }
+    ensures { λ r. ⌜ ForEvery scope
+        (λ l. r ≡ checkedExp (readExp left l at (entriesFrom (now (kinds .entry)) (now (operands .entry)) at))) ⌝ }
 {
     if kinds.len() <= at {
         return Checked::Refused(5, at);

@@ -1,8 +1,10 @@
 // The reader of a job table: it checks the entries, and finds what is read or the refusal's number and entry.
 mod calls;
-pub mod checked;
+mod checked;
 mod definition;
 pub mod entry;
 pub mod expression;
 mod parameter;
-pub mod program;
+mod program;
+pub mod scope;
+pub mod table;

@@ -1,16 +1,18 @@
 // The parameters of a call.
 use crate::checked::Checked;
 use crate::entry;
+use crate::scope;
+use crate::scope::Scope;
 ghost use mathlib.Core.Path.{_≡_};
-ghost use Rattle.job.specs.Syntax.{levels};
 ghost use Rattle.job.specs.Read.{readParamList};
 ghost use Rattle.reader.specs.Checked.{Parts, entriesFrom, checkedParamList};
-ghost use Rattle.reader.specs.Fault.{parameterFault};
+ghost use Rattle.reader.specs.Scope.{Scoped, ForEvery};
+ghost use Rattle.reader.specs.EntryFault.{parameterFault};
 
-// The number that refuses the parameter at entry `at`, or 0: so many variables are in scope.
-fn parameter_fault(kinds: &[u8], operands: &[u8], scope: usize, at: usize) -> u8
+// The number that refuses the parameter at entry `at`, or 0.
+fn parameter_fault(kinds: &[u8], operands: &[u8], scope: Scope, at: usize) -> u8
     requires { ⌜ Parts (now kinds) (now operands) ⌝ }
-    ensures { λ r. ⌜ r ≡ parameterFault scope (entriesFrom (now (kinds .entry)) (now (operands .entry)) at) ⌝ }
+    ensures { λ r. ⌜ ForEvery scope (λ l. r ≡ parameterFault l (entriesFrom (now (kinds .entry)) (now (operands .entry)) at)) ⌝ }
 {
     if kinds.len() <= at {
         return 5;
@@ -23,7 +25,7 @@ fn parameter_fault(kinds: &[u8], operands: &[u8], scope: usize, at: usize) -> u8
         return 3;
     }
     let variable = entry::operand(operands, at);
-    if (variable as usize) < scope {
+    if scope::is_bound(scope, variable) {
         return 0;
     }
     7
@@ -34,11 +36,12 @@ pub fn check_parameters(
     kinds: &[u8],
     operands: &[u8],
     count: usize,
-    scope: usize,
+    scope: Scope,
     at: usize,
 ) -> Checked
-    requires { ⌜ Parts (now kinds) (now operands) ⌝ }
-    ensures { λ r. ⌜ r ≡ checkedParamList (readParamList count (levels scope) at (entriesFrom (now (kinds .entry)) (now (operands .entry)) at)) ⌝ }
+    requires { ⌜ Parts (now kinds) (now operands) × Scoped scope ⌝ }
+    ensures { λ r. ⌜ ForEvery scope
+        (λ l. r ≡ checkedParamList (readParamList count l at (entriesFrom (now (kinds .entry)) (now (operands .entry)) at))) ⌝ }
 {
     let mut next = at;
     let mut left = count;

@@ -1,16 +1,17 @@
-// The whole table: definitions, goal, leftovers, calls.
+// A table's entries: definitions, goal, leftovers, calls.
 use crate::calls;
 use crate::checked;
 use crate::checked::Checked;
 use crate::definition;
 use crate::expression;
+use crate::scope;
 ghost use mathlib.Core.Path.{_≡_};
 ghost use Prim.Native.Nat.{_≤_};
-ghost use lib.ListN.{length};
+ghost use lib.Seq.{sets};
 ghost use Rattle.job.specs.Entry.{entries};
 ghost use Rattle.job.specs.Read.{leftovers, readEntries};
 ghost use Rattle.reader.specs.Checked.{Parts, entriesFrom, checkedTest, checkedProgram};
-ghost use Rattle.reader.specs.DefinitionList.{programSizes, Leads};
+ghost use Rattle.reader.specs.Definition.{definitionsFound, definitionSizes};
 
 // Does the table end at entry `at`?
 fn check_end(kinds: &[u8], operands: &[u8], at: usize) -> Checked
@@ -23,8 +24,8 @@ fn check_end(kinds: &[u8], operands: &[u8], at: usize) -> Checked
     Checked::Next(at, 0)
 }
 
-// The entries of a table with so many definitions: the first entry behind them and the number of nodes, or the refusal. The sizes of an
-// accepted program's definitions are kept, so that no body is walked again to count it.
+// The entries of a table with so many definitions: the first entry behind them and the number of nodes, or the refusal. The sizes of its
+// definitions are kept, so that no body is walked again to count it.
 pub fn check_program(
     kinds: &[u8],
     operands: &[u8],
@@ -32,17 +33,18 @@ pub fn check_program(
     sizes: &mut [u32; 32],
 ) -> Checked
     requires { ⌜ Parts (now kinds) (now operands) ⌝ }
-    requires { ⌜ (definitions ≤ 32) × (length (now sizes) ≡ 32) ⌝ }
+    requires { ⌜ definitions ≤ 32 ⌝ }
     ensures { λ r. ⌜ r ≡ checkedProgram (readEntries definitions (entries (now (kinds .entry)) (now (operands .entry)))) ⌝ }
-    ensures { λ _. ⌜ Leads (programSizes (readEntries definitions (entries (now (kinds .entry)) (now (operands .entry)))))
-        (now (sizes .exit)) ⌝ }
+    ensures { λ _. ⌜ now (sizes .exit) ≡ sets (now (sizes .entry)) 0
+        (definitionSizes (definitionsFound definitions 0 (entries (now (kinds .entry)) (now (operands .entry))))) ⌝ }
 {
     let mut formals = [0u32; 32];
     let found = definition::check_definitions(kinds, operands, definitions, &mut formals, sizes);
     match found {
         Checked::Refused(n, e) => Checked::Refused(n, e),
         Checked::Next(at, before) => {
-            let goal = expression::check_expression(kinds, operands, expression::DEPTH, 0, at);
+            let scope = scope::of_formals(0);
+            let goal = expression::check_expression(kinds, operands, expression::DEPTH, scope, at);
             match goal {
                 Checked::Refused(n, e) => Checked::Refused(n, e),
                 Checked::Next(end, nodes) => {

@@ -6,7 +6,7 @@ use native.Mathlib.Omega.{arith}
 use lib.ListN.{length, getD}
 use Rattle.job.specs.Read.{tableLength}
 use Rattle.job.proofs.Test.{le-leb, lt-not-leb}
-use Rattle.loader.proofs.Tables.{half-at}
+use Rattle.reader.proofs.TableLaws.{half-at}
 use Rattle.run.specs.Input.{tableEnd}
 
 ends-all : (s : List ℕ) → length s < tableLength s → length s ≡ tableEnd s

@@ -18,7 +18,7 @@ use Rattle.job.proofs.Test.{leb-le, le-leb, not-leb-lt, lt-not-leb}
 use Rattle.job.proofs.Accepted.{accepted-well-formed}
 use Rattle.model.proofs.Machine.StartAccepted.{words-construct}
 use Rattle.job.proofs.DeclinedAt.{declined-at}
-use Rattle.loader.specs.Loaded.{loaded, loadedWords}
+use Rattle.loader.specs.TableLoaded.{loaded, loadedWords}
 use Rattle.loader.specs.declared.table.Loaded.the-variants.{Dag, Refused}
 use Rattle.run.specs.Input.{tableEnd, dagAfter}
 use Rattle.house.specs.LoadedDag.{Accepted}

@@ -5,7 +5,7 @@ use Prim.Native.Nat.{ℕ}
 use lib.ListN.{length, take}
 use lib.Dec.{leb}
 use Rattle.job.specs.Read.{tableLength, readTable}
-use Rattle.loader.specs.Loaded.{loadedWords}
+use Rattle.loader.specs.TableLoaded.{loadedWords}
 
 -- "the first 4 + 5N bytes, or all if there are fewer"
 unfoldable pub tableEnd : List ℕ → ℕ

@@ -1,7 +1,7 @@
 // The parts of an input: "a table (the first 4 + 5N bytes, or all if there are fewer), then 8-byte records".
 ghost use mathlib.Core.Path.{_≡_};
 ghost use Rattle.run.specs.Input.{tableEnd};
-use loader::table::half;
+use reader::table::half;
 
 // Where the table ends.
 pub fn table_end(input: &[u8]) -> usize

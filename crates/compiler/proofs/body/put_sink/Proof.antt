@@ -1,6 +1,6 @@
 -- `body::put_sink` meets its contract: by whether it is the goal's. Assumes nothing.
 use borrow.Author.Needs.{needs}
-use Rattle.compiler.proofs.Sinks.{sink-goal, sink-definition}
+use Rattle.compiler.proofs.BodySink.{sink-goal, sink-definition}
 use Rattle.compiler.proofs.body.put_sink.Statement.{statement}
 use Rattle.compiler.proofs.body.put_sink.Tie as tie
 

@@ -2,7 +2,7 @@
 use borrow.Author.Needs.{needs}
 use Prim.Native.Nat.{_+_}
 use native.Mathlib.Omega.{arith}
-use Rattle.compiler.proofs.Places.{word-there, word-absent}
+use Rattle.compiler.proofs.CallPlaces.{word-there, word-absent}
 use Rattle.compiler.proofs.call.kind_word.Statement.{statement}
 use Rattle.compiler.proofs.call.kind_word.Tie as tie
 

@@ -1,7 +1,7 @@
 -- `call::operand_word` meets its contract: by whether the parameter is there. Assumes nothing.
 use borrow.Author.Needs.{needs}
 use mathlib.Core.Path.{_∙_}
-use Rattle.compiler.proofs.Places.{word-there, word-absent}
+use Rattle.compiler.proofs.CallPlaces.{word-there, word-absent}
 use Rattle.compiler.proofs.call.operand_word.Statement.{statement}
 use Rattle.compiler.proofs.call.operand_word.Tie as tie
 

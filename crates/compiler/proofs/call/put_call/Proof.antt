@@ -1,7 +1,7 @@
 -- `call::put_call` meets its contract: the first four words, and the places by twos. Assumes nothing.
 use borrow.Author.Needs.{needs}
 use native.Mathlib.Omega.{arith}
-use Rattle.compiler.proofs.Places.{call-stored}
+use Rattle.compiler.proofs.CallPlaces.{call-stored}
 use Rattle.compiler.proofs.call.put_call.Statement.{statement}
 use Rattle.compiler.proofs.call.put_call.Tie as tie
 

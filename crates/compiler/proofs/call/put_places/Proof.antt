@@ -1,6 +1,6 @@
 -- `call::put_places` meets its contract: the words are those that were called for. Assumes nothing.
 use borrow.Author.Needs.{needs}
-use Rattle.compiler.proofs.Places.{places-stored}
+use Rattle.compiler.proofs.CallPlaces.{places-stored}
 use Rattle.compiler.proofs.call.put_places.Statement.{statement}
 use Rattle.compiler.proofs.call.put_places.Tie as tie
 

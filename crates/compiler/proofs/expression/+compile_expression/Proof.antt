@@ -5,9 +5,9 @@ use borrow.Fn.Kinds.{In}
 use borrow.Fn.PlainCycle.{Measures, is, falls, and}
 use borrow.Author.Needs.{needs}
 use native.Mathlib.Omega.{arith}
-use Rattle.compiler.proofs.Taking.{taken}
-use Rattle.compiler.proofs.OneNode.{stop-done, call-room, call-done}
-use Rattle.compiler.proofs.TwoSides.{own-room, accept-left, accept-right, join-done}
+use Rattle.compiler.proofs.ExpressionTaking.{taken, binder-room}
+use Rattle.compiler.proofs.ExpressionNode.{stop-done, call-room, call-done}
+use Rattle.compiler.proofs.ExpressionJoin.{own-room, accept-left, accept-right, join-done}
 use Rattle.compiler.proofs.expression.compile_expression.Reads as reads
 use Rattle.compiler.proofs.expression.compile_expression.Kinds as kinds
 use Rattle.compiler.proofs.expression.+compile_expression.Lts-compile_expression as lts
@@ -67,9 +67,8 @@ single-requires : (t : ℕ) → lts.Need-single-requires (claims t) (At t) reads
 single-requires t c κs = search needs
 
 returns : (t : ℕ) → lts.Need-returns (claims t) (At t) reads.Post
-returns t c =
-    let start = c .before .before .before .before .before .before .before in
-    stop-done (taken (start .pre .1)) _ _ _ _ (c .before .before .before .if1 .taken) (c .single .ensures) (c .before .put .ensures)
+returns t c = λ l a.
+    stop-done (taken a) _ _ _ _ (c .before .before .before .if1 .taken) (c .single .ensures) (c .before .put .ensures)
 
 operand-requires : (t : ℕ) → lts.Need-operand-requires (claims t) (At t) reads.Post
 operand-requires t c κs = search needs
@@ -84,8 +83,9 @@ put-call-requires t c κs =
     let start = known .before .before in (
       search needs,
       (
-        start .pre .1 .low,
-        call-room (taken (start .pre .1)) (λ i. omega (arith, known .shared-slice-known2 .given i)) (call .before .if1 .left) (call .if2 .taken),
+        start .pre .1 .1 .low,
+        call-room (taken (start .pre .1 .1)) (λ i. omega (arith, known .shared-slice-known2 .given i)) (call .before .if1 .left)
+            (call .if2 .taken),
       ),
     )
 
@@ -99,17 +99,17 @@ single-requires-2 : (t : ℕ) → lts.Need-single-requires-2 (claims t) (At t) r
 single-requires-2 t c κs = search needs
 
 returns-2 : (t : ℕ) → lts.Need-returns-2 (claims t) (At t) reads.Post
-returns-2 t c =
+returns-2 t c = λ l a.
     let stored = c .before in
     let head = stored .before .before in
     let call = head .before in
     let known = call .before .before .before in
-    let start = known .before .before in
-    call-done (taken (start .pre .1)) (λ i. omega (arith, known .shared-slice-known2 .given i)) (call .before .if1 .left) (call .if2 .taken)
+    call-done (taken a) (λ i. omega (arith, known .shared-slice-known2 .given i)) (call .before .if1 .left) (call .if2 .taken)
     _ _ _ _ _ (head .operand .ensures) (c .single2 .ensures) (stored .put-call .ensures)
 
 left-plan-requires : (t : ℕ) → lts.Need-left-plan-requires (claims t) (At t) reads.Post
-left-plan-requires t c κs = search needs
+left-plan-requires t c κs =
+    let a = c .before .before .before .before .before .pre .1 .1 in (a .low, c .if2 .left, λ b. binder-room a b)
 
 sub-compile-expression : (t : ℕ) → lts.Need-sub-compile-expression (claims t) (At t) reads.Post
 sub-compile-expression t c = search needs
@@ -121,10 +121,14 @@ compile-expression-requires : (t : ℕ) → lts.Need-compile-expression-requires
 compile-expression-requires t c κs =
     let test = c .before .before in
     let start = test .before .before .before .before .before in
-    (omega arith, accept-left (taken (start .pre .1)) (test .if2 .left) _ (c .before .left-plan .ensures))
+    let a = start .pre .1 .1 in
+    (omega arith, (_, accept-left (taken a) (test .if2 .left) _ (c .before .left-plan .ensures _ (a .means))))
 
 right-plan-requires : (t : ℕ) → lts.Need-right-plan-requires (claims t) (At t) reads.Post
-right-plan-requires t c κs = search needs
+right-plan-requires t c κs =
+    let test = c .before .before .before in
+    let a = test .before .before .before .before .before .pre .1 .1 in
+    (a .low, test .if2 .left, λ b. binder-room a b)
 
 sub-compile-expression-2 : (t : ℕ) → lts.Need-sub-compile-expression-2 (claims t) (At t) reads.Post
 sub-compile-expression-2 t c = search needs
@@ -135,33 +139,38 @@ compile-expression-requires-2 t c κs =
     let f = r .before in
     let l = f .before .before in
     let test = l .before in
-    let start = test .before .before .before .before .before in (
-      omega arith,
-      accept-right (taken (start .pre .1)) (test .if2 .left) _ (l .left-plan .ensures) (f .compile-expression .ensures .0) (r .right-plan .ensures),
+    let start = test .before .before .before .before .before in
+    let a = start .pre .1 .1 in
+    let in-left = l .left-plan .ensures _ (a .means) in
+    let given = f .compile-expression .ensures _ (accept-left (taken a) (test .if2 .left) _ in-left) in (
+      omega (arith, start .pre .0, a .deep),
+      (_, accept-right (taken a) (test .if2 .left) _ in-left (given .0) (r .right-plan .ensures _ (a .means))),
     )
 
 put-own-requires : (t : ℕ) → lts.Need-put-own-requires (claims t) (At t) reads.Post
 put-own-requires t c κs =
     let test = c .before .before .before .before .before .before .before in
     let start = test .before .before .before .before .before in
-    (start .pre .1 .scoped, own-room (taken (start .pre .1)) (test .if2 .left))
+    own-room (taken (start .pre .1 .1)) (test .if2 .left)
 
 join-root-requires : (t : ℕ) → lts.Need-join-root-requires (claims t) (At t) reads.Post
 join-root-requires t c κs =
-    c .before .before .before .before .before .before .before .before .before .before .before .before .before .pre .1 .low
+    c .before .before .before .before .before .before .before .before .before .before .before .before .before .pre .1 .1 .low
 
 returns-3 : (t : ℕ) → lts.Need-returns-3 (claims t) (At t) reads.Post
-returns-3 t c =
+returns-3 t c = λ l' a.
     let own = c .before in
     let g = own .before .before in
     let r = g .before .before in
     let f = r .before in
     let l = f .before .before in
     let test = l .before in
-    let start = test .before .before .before .before .before in
-    join-done (taken (start .pre .1)) (test .if2 .left) _ (l .left-plan .ensures) (f .compile-expression .ensures .0) (r .right-plan .ensures)
-    (g .compile-expression2 .ensures .0) _ _ _ _ _ (c .join-root .ensures) (f .compile-expression .ensures .1) (g .compile-expression2 .ensures .1)
-    (own .put-own .ensures)
+    let in-left = l .left-plan .ensures _ (a .means) in
+    let in-right = r .right-plan .ensures _ (a .means) in
+    let first = f .compile-expression .ensures _ (accept-left (taken a) (test .if2 .left) _ in-left) in
+    let second = g .compile-expression2 .ensures _ (accept-right (taken a) (test .if2 .left) _ in-left (first .0) in-right) in
+    join-done (taken a) (test .if2 .left) _ in-left (first .0) in-right (second .0) _ (a .means .counted) _ _ _ _ _ (c .join-root .ensures)
+    (first .1) (second .1) (own .put-own .ensures)
 
 pub +compile-expression-spec : {M : Type 1} → statement M
 +compile-expression-spec = close μ λ t. lts.spec (claims t)

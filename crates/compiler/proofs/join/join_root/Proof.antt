@@ -1,6 +1,6 @@
 -- `join::join_root` meets its contract: a law for each kind of join. Assumes nothing.
 use borrow.Author.Needs.{needs}
-use Rattle.compiler.proofs.Plans.{root-par, root-seq, root-prune}
+use Rattle.compiler.proofs.JoinLaws.{root-par, root-seq, root-prune}
 use Rattle.compiler.proofs.join.join_root.Statement.{statement}
 use Rattle.compiler.proofs.join.join_root.Tie as tie
 

@@ -1,11 +1,8 @@
 -- `join::put_own` meets its contract: a law for each kind of join. Assumes nothing.
 use borrow.Author.Needs.{needs}
-use Rattle.compiler.proofs.OwnRows.{own-par, own-seq, own-prune}
+use Rattle.compiler.proofs.JoinLaws.{own-par, own-seq, own-prune}
 use Rattle.compiler.proofs.join.put_own.Statement.{statement}
 use Rattle.compiler.proofs.join.put_own.Tie as tie
-
-cast-x : tie.Need-cast-x
-cast-x c = search needs
 
 put-requires : tie.Need-put-requires
 put-requires c κs = search needs
@@ -48,13 +45,13 @@ returns-3 c =
     let remove = c .before .before in
     let spawn = remove .before .before in
     let test = spawn .before .before in
-    own-prune _ _ _ _ _ _ _ _ _ _ (test .before .if1 .left) (test .if2 .left) (spawn .put4 .ensures) (remove .put5 .ensures) (c .put6 .ensures)
+    own-prune _ _ _ _ _ _ _ _ _ _ (test .before .if1 .left) (test .if2 .left) (spawn .put4 .ensures) (remove .put5 .ensures)
+    (c .put6 .ensures)
 
 pub put-own-spec : {M : Type 1} → statement M
 put-own-spec =
     tie.close
     (tie.spec
-    cast-x
     put-requires
     returns
     put-requires-2

@@ -1,6 +1,6 @@
 -- `store::put` meets its contract: three runs of four words are the row. Assumes nothing.
 use borrow.Author.Needs.{needs}
-use Rattle.compiler.proofs.Stores.{put-done}
+use Rattle.compiler.proofs.StoreLaws.{put-done}
 use Rattle.compiler.proofs.store.put.Statement.{statement}
 use Rattle.compiler.proofs.store.put.Tie as tie
 

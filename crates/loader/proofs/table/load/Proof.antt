@@ -1,126 +1,133 @@
--- `table::load` meets its contract: a law for each refusal by the sizes, and the two parts are those of the definitions. Assumes nothing.
+-- `table::load` meets its contract: a refusal writes nothing, and an accepted table has the sizes and the parts that are taken from it.
+-- Assumes nothing.
+use mathlib.Core.Path.{refl}
 use borrow.Author.Needs.{needs}
-use Rattle.loader.proofs.Tables.{table-short, table-uneven, table-definitions, table-empty, table-long, table-done}
+use Rattle.loader.proofs.TableLoad.{load-refused, load-long, load-even, load-few, load-definitions, load-accepts, load-done}
 use Rattle.loader.proofs.table.load.Statement.{statement}
 use Rattle.loader.proofs.table.load.Tie as tie
 
-returns : tie.Need-returns
-returns c = table-short _ _ (c .if1 .taken)
+check-table-requires : tie.Need-check-table-requires
+check-table-requires c κs = search needs
+
+enum-known-answer : tie.Need-enum-known-answer
+enum-known-answer c = search needs
+
+enum-known-answer-2 : tie.Need-enum-known-answer-2
+enum-known-answer-2 c = search needs
 
 shared-slice-read-half : tie.Need-shared-slice-read-half
-shared-slice-read-half c = search needs
+shared-slice-read-half c =
+    let answer = c .before .before in
+    let l = load-long _ _ (answer .before .before .check-table .ensures .0) _ (answer .answer2 .given .1) in
+    search needs
 
 shared-slice-read-half-2 : tie.Need-shared-slice-read-half-2
-shared-slice-read-half-2 c = search needs
+shared-slice-read-half-2 c =
+    let answer = c .before .before .before in
+    let l = load-long _ _ (answer .before .before .check-table .ensures .0) _ (answer .answer2 .given .1) in
+    search needs
 
 half-requires : tie.Need-half-requires
 half-requires c κs = search needs
 
 shared-slice-read-half-3 : tie.Need-shared-slice-read-half-3
-shared-slice-read-half-3 c = search needs
+shared-slice-read-half-3 c =
+    let answer = c .before .before .before .before .before in
+    let l = load-long _ _ (answer .before .before .check-table .ensures .0) _ (answer .answer2 .given .1) in
+    search needs
 
 shared-slice-read-half-4 : tie.Need-shared-slice-read-half-4
-shared-slice-read-half-4 c = search needs
+shared-slice-read-half-4 c =
+    let answer = c .before .before .before .before .before .before in
+    let l = load-long _ _ (answer .before .before .check-table .ensures .0) _ (answer .answer2 .given .1) in
+    search needs
 
 half-requires-2 : tie.Need-half-requires-2
 half-requires-2 c κs = search needs
 
-mul-if2 : tie.Need-mul-if2
-mul-if2 c = search needs
-
-add-if2 : tie.Need-add-if2
-add-if2 c = search needs
-
-returns-2 : tie.Need-returns-2
-returns-2 c =
-    let n = c .before in
-    let d = n .before .before .before in
-    table-uneven _ _ _ (d .before .before .before .if1 .left) (n .half2 .ensures .0) (c .if2 .taken)
-
-returns-3 : tie.Need-returns-3
-returns-3 c =
-    let even = c .before in
-    let n = even .before in
-    let d = n .before .before .before in
-    table-definitions _ _ _ (d .before .before .before .if1 .left) (n .half2 .ensures .0) _ (d .half .ensures .0) (even .if2 .left) (c .if3 .taken)
-
-returns-4 : tie.Need-returns-4
-returns-4 c =
-    let few = c .before in
-    let even = few .before in
-    let n = even .before in
-    let d = n .before .before .before in
-    table-empty _ _ _ (d .before .before .before .if1 .left) (n .half2 .ensures .0) _ (d .half .ensures .0) (even .if2 .left) (few .if3 .left)
-    (c .if4 .taken)
-
-returns-5 : tie.Need-returns-5
-returns-5 c =
-    let some = c .before in
-    let few = some .before in
-    let even = few .before in
-    let n = even .before in
-    let d = n .before .before .before in
-    table-long _ _ _ (d .before .before .before .if1 .left) (n .half2 .ensures .0) _ (d .half .ensures .0) (even .if2 .left) (few .if3 .left)
-    (some .if4 .left) (c .if5 .taken)
-
 add-e : tie.Need-add-e
 add-e c = search needs
 
-sub-load-parts : tie.Need-sub-load-parts
-sub-load-parts c = search needs
+sub-compile-program : tie.Need-sub-compile-program
+sub-compile-program c = search needs
 
-part-load-parts-start : tie.Need-part-load-parts-start
-part-load-parts-start c = search needs
+part-compile-program-start : tie.Need-part-compile-program-start
+part-compile-program-start c = search needs
 
-part-load-parts-end : tie.Need-part-load-parts-end
-part-load-parts-end c = search needs
+part-compile-program-end : tie.Need-part-compile-program-end
+part-compile-program-end c =
+    let n = c in
+    let answer = n .before .before .before .before .before .before .before in
+    let l = load-even _ _ (answer .before .before .check-table .ensures .0) _ (answer .answer2 .given .1) _ (n .half2 .ensures .0) in
+    search needs
 
-sub-load-parts-2 : tie.Need-sub-load-parts-2
-sub-load-parts-2 c = search needs
+sub-compile-program-2 : tie.Need-sub-compile-program-2
+sub-compile-program-2 c =
+    let n = c .before in
+    let answer = n .before .before .before .before .before .before .before in
+    let l = load-even _ _ (answer .before .before .check-table .ensures .0) _ (answer .answer2 .given .1) _ (n .half2 .ensures .0) in
+    search needs
 
-part-load-parts-start-2 : tie.Need-part-load-parts-start-2
-part-load-parts-start-2 c = search needs
+part-compile-program-start-2 : tie.Need-part-compile-program-start-2
+part-compile-program-start-2 c =
+    let n = c .before in
+    let answer = n .before .before .before .before .before .before .before in
+    let l = load-even _ _ (answer .before .before .check-table .ensures .0) _ (answer .answer2 .given .1) _ (n .half2 .ensures .0) in
+    search needs
 
-part-load-parts-end-2 : tie.Need-part-load-parts-end-2
-part-load-parts-end-2 c = search needs
+part-compile-program-end-2 : tie.Need-part-compile-program-end-2
+part-compile-program-end-2 c = search needs
 
-load-parts-requires : tie.Need-load-parts-requires
-load-parts-requires c κs = search needs
-
-returns-6 : tie.Need-returns-6
-returns-6 c =
-    let last = c .before .before .before .before in
-    let some = last .before in
-    let few = some .before in
-    let even = few .before in
-    let n = even .before in
+compile-program-requires : tie.Need-compile-program-requires
+compile-program-requires c κs =
+    let n = c .before .before .before .before in
     let d = n .before .before .before in
-    table-done _ _ _ (d .before .before .before .if1 .left) (n .half2 .ensures .0) _ (d .half .ensures .0) (even .if2 .left) (few .if3 .left)
-    (some .if4 .left) (last .if5 .left) _ _ (c .load-parts .ensures)
+    let answer = d .before .before .before .before in
+    let check = answer .before .before in
+    let l = load-even _ _ (answer .before .before .check-table .ensures .0) _ (answer .answer2 .given .1) _ (n .half2 .ensures .0) in
+    let f = load-few _ _ (answer .before .before .check-table .ensures .0) _ (answer .answer2 .given .1) _ (n .half2 .ensures .0) in (
+      search needs,
+      (
+        load-definitions _ _ (answer .before .before .check-table .ensures .0) _ (answer .answer2 .given .1) _ (n .half2 .ensures .0) _
+            (d .half .ensures .0),
+        load-accepts _ _ (answer .before .before .check-table .ensures .0) _ (answer .answer2 .given .1) _ (n .half2 .ensures .0) _
+            (d .half .ensures .0) _ _ refl (check .check-table .ensures .1),
+      ),
+    )
+
+returns : tie.Need-returns
+returns c =
+    let answer = c .before in
+    load-refused _ _ (answer .before .before .check-table .ensures .0) _ _ (answer .answer .given .1) _
+
+returns-2 : tie.Need-returns-2
+returns-2 c =
+    let n = c .before .before .before .before .before in
+    let d = n .before .before .before in
+    let answer = d .before .before .before .before in
+    load-done _ _ (answer .before .before .check-table .ensures .0) _ (answer .answer2 .given .1) _ (n .half2 .ensures .0) _
+    (d .half .ensures .0) _ _ (c .compile-program .ensures)
 
 pub load-spec : {M : Type 1} → statement M
 load-spec =
     tie.close
     (tie.spec
-    returns
+    check-table-requires
+    enum-known-answer
+    enum-known-answer-2
     shared-slice-read-half
     shared-slice-read-half-2
     half-requires
     shared-slice-read-half-3
     shared-slice-read-half-4
     half-requires-2
-    mul-if2
-    add-if2
-    returns-2
-    returns-3
-    returns-4
-    returns-5
     add-e
-    sub-load-parts
-    part-load-parts-start
-    part-load-parts-end
-    sub-load-parts-2
-    part-load-parts-start-2
-    part-load-parts-end-2
-    load-parts-requires
-    returns-6)
+    sub-compile-program
+    part-compile-program-start
+    part-compile-program-end
+    sub-compile-program-2
+    part-compile-program-start-2
+    part-compile-program-end-2
+    compile-program-requires
+    returns
+    returns-2)

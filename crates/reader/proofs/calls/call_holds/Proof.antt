@@ -1,6 +1,6 @@
 -- `calls::call_holds` meets its contract: there is a law for each way out of the tests. Assumes nothing.
 use borrow.Author.Needs.{needs}
-use Rattle.reader.proofs.Calling.{call-missing, call-counted}
+use Rattle.reader.proofs.CallsLaws.{call-missing, call-counted}
 use Rattle.reader.proofs.calls.call_holds.Statement.{statement}
 use Rattle.reader.proofs.calls.call_holds.Tie as tie
 

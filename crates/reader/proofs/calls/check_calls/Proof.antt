@@ -3,7 +3,7 @@ use Prim.Native.Nat.{_-_, _≤_}
 use mathlib.Core.Logic.{⊎-elim}
 use lib.ListN.{length, take}
 use borrow.Author.Needs.{needs}
-use Rattle.reader.proofs.Calling.{Scanning, scan-start, scan-end, scan-past, scan-more, scan-refused}
+use Rattle.reader.proofs.CallsLaws.{Scanning, scan-start, scan-end, scan-past, scan-more, scan-refused}
 use Rattle.reader.proofs.calls.check_calls.Statement.{statement}
 use Rattle.reader.proofs.calls.check_calls.Tie as tie
 

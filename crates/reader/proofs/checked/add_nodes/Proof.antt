@@ -1,7 +1,7 @@
 -- `checked::add_nodes` meets its contract: the answer's variant decides, and two numbers below 4096 have a sum that fits. Assumes nothing.
 use borrow.Author.Needs.{needs}
 use native.Mathlib.Omega.{arith}
-use Rattle.reader.proofs.Answer.{nodes-next, more-next, more-refused}
+use Rattle.reader.proofs.CheckedLaws.{nodes-next, more-next, more-refused}
 use Rattle.reader.proofs.checked.add_nodes.Statement.{statement}
 use Rattle.reader.proofs.checked.add_nodes.Tie as tie
 

@@ -1,6 +1,6 @@
 -- `checked::after` meets its contract: the first answer's variant decides. Assumes nothing.
 use borrow.Author.Needs.{needs}
-use Rattle.reader.proofs.Answer.{after-refused, after-next}
+use Rattle.reader.proofs.CheckedLaws.{after-refused, after-next}
 use Rattle.reader.proofs.checked.after.Statement.{statement}
 use Rattle.reader.proofs.checked.after.Tie as tie
 

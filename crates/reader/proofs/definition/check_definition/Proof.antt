@@ -1,8 +1,8 @@
 -- `definition::check_definition` meets its contract: there is a law for each way out of the tests. Assumes nothing.
 use borrow.Author.Needs.{needs}
 use native.Mathlib.Omega.{arith}
-use Rattle.reader.proofs.Definitions.{definition-end, definition-other, definition-row, definition-body}
-use Rattle.reader.proofs.Few.{nodes-few}
+use Rattle.reader.proofs.DefinitionLaws.{definition-end, definition-other, definition-row, definition-body}
+use Rattle.reader.proofs.ExpressionNodes.{nodes-few}
 use Rattle.reader.proofs.definition.check_definition.Statement.{statement}
 use Rattle.reader.proofs.definition.check_definition.Tie as tie
 
@@ -21,20 +21,20 @@ operand-requires c κs = search needs
 returns-3 : tie.Need-returns-3
 returns-3 c = search definition-row
 
-cast-check-expression : tie.Need-cast-check-expression
-cast-check-expression c = search needs
+of-formals-requires : tie.Need-of-formals-requires
+of-formals-requires c κs = search needs
 
 add-check-expression : tie.Need-add-check-expression
 add-check-expression c = search needs
 
 check-expression-requires : tie.Need-check-expression-requires
-check-expression-requires c κs = search needs
+check-expression-requires c κs = (search needs, (_, c .of-formals .ensures))
 
 add-nodes-requires : tie.Need-add-nodes-requires
-add-nodes-requires c κs = (search nodes-few, omega arith)
+add-nodes-requires c κs = let q = c .check-expression .ensures _ (c .before .of-formals .ensures) in (search nodes-few, omega arith)
 
 returns-4 : tie.Need-returns-4
-returns-4 c = search definition-body
+returns-4 c = let q = c .before .check-expression .ensures _ (c .before .before .of-formals .ensures) in search definition-body
 
 pub check-definition-spec : {M : Type 1} → statement M
 check-definition-spec =
@@ -45,7 +45,7 @@ check-definition-spec =
     returns-2
     operand-requires
     returns-3
-    cast-check-expression
+    of-formals-requires
     add-check-expression
     check-expression-requires
     add-nodes-requires

@@ -1,5 +1,5 @@
 -- `definition::check_definitions` meets its contract. The loop's invariant: what is done stands in front of what is left to read, and the
--- counts of formals and the sizes so far are at the front of the arrays. Assumes nothing.
+-- counts of formals and the sizes so far are stored at the front of the arrays. Assumes nothing.
 use Prim.Native.Nat.{_-_}
 use borrow.Author.Needs.{needs, fits-under}
 use mir.Syntax.{w32, w64}
@@ -9,7 +9,8 @@ use Rattle.reader.proofs.definition.check_definitions.Statement.{statem
 use Rattle.reader.proofs.definition.check_definitions.Tie as tie
 
 abbrev Inv-loop : tie.InvT-loop
-Inv-loop kinds operands count formals₀ sizes₀ at₀ nodes₀ i₀ formals sizes at nodes i = Reading count kinds operands formals sizes at nodes i
+Inv-loop kinds operands count formals₀ sizes₀ at₀ nodes₀ i₀ formals sizes at nodes i =
+    Reading count kinds operands formals₀ sizes₀ formals sizes at nodes i
 
 abbrev μ-loop : tie.MeasureT-loop
 μ-loop kinds operands count formals₀ sizes₀ at₀ nodes₀ i₀ formals sizes at nodes i = count - i

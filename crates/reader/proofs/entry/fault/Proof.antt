@@ -5,25 +5,25 @@ use Rattle.reader.proofs.entry.fault.Statement.{statement}
 use Rattle.reader.proofs.entry.fault.Tie as tie
 
 returns : tie.Need-returns
-returns c = search fault-3
+returns c = λ l m. search fault-3
 
 row-holds-requires : tie.Need-row-holds-requires
 row-holds-requires c κs = search needs
 
 returns-2 : tie.Need-returns-2
-returns-2 c = search fault-4
+returns-2 c = λ l m. search fault-4
 
 returns-3 : tie.Need-returns-3
-returns-3 c = search fault-6
+returns-3 c = λ l m. search fault-6
 
 returns-4 : tie.Need-returns-4
-returns-4 c = search fault-none
+returns-4 c = λ l m. search fault-none
 
 returns-5 : tie.Need-returns-5
-returns-5 c = search fault-7
+returns-5 c = λ l m. search fault-7
 
 returns-6 : tie.Need-returns-6
-returns-6 c = search fault-room
+returns-6 c = λ l m. search fault-room
 
 pub fault-spec : {M : Type 1} → statement M
 fault-spec =

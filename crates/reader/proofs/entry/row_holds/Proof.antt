@@ -2,7 +2,7 @@
 use borrow.Author.Needs.{needs}
 use mathlib.Core.Path.{sym, _∙_}
 use native.Mathlib.Omega.{arith}
-use Rattle.reader.proofs.Row.{row-site, row-call, row-zero}
+use Rattle.reader.proofs.EntryKinds.{row-site, row-call, row-zero}
 use Rattle.reader.proofs.entry.row_holds.Statement.{statement}
 use Rattle.reader.proofs.entry.row_holds.Tie as tie
 

@@ -1,6 +1,6 @@
 -- `entry::word_at` meets its contract: its four bytes lie within the bytes, and their number is the lowest byte first. Assumes nothing.
 use borrow.Author.Needs.{needs}
-use Rattle.reader.proofs.Word.{number-at}
+use Rattle.reader.proofs.EntryWord.{number-at}
 use Rattle.reader.proofs.entry.word_at.Statement.{statement}
 use Rattle.reader.proofs.entry.word_at.Tie as tie
 

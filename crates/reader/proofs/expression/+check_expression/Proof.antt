@@ -5,10 +5,10 @@ use borrow.Fn.Kinds.{In}
 use borrow.Fn.PlainCycle.{Measures, is, falls, and}
 use borrow.Author.Needs.{needs, fits-under}
 use mir.Syntax.{w64}
-use Rattle.reader.proofs.Few.{sum-few, nodes-few}
-use Rattle.reader.proofs.Opened.{depth-left, depth-falls}
-use Rattle.reader.proofs.Expressions.{exp-end, exp-fault, exp-stop, exp-call, left-fits, right-fits, own-fits, exp-left, exp-join}
-use Rattle.reader.proofs.Parameters.{params-nodes}
+use Rattle.reader.proofs.ExpressionNodes.{sum-few, nodes-few}
+use Rattle.reader.proofs.ExpressionOpened.{binder-room, depth-left, depth-falls}
+use Rattle.reader.proofs.ExpressionLaws.{exp-end, exp-fault, exp-stop, exp-call, own-fits, exp-left, exp-join}
+use Rattle.reader.proofs.ParameterLaws.{params-nodes}
 use Rattle.reader.proofs.expression.check_expression.Reads as reads
 use Rattle.reader.proofs.expression.check_expression.Kinds as kinds
 use Rattle.reader.proofs.expression.+check_expression.Lts-check_expression as lts
@@ -48,7 +48,7 @@ claims t = (
 
 module _ (t : ℕ) where
   returns : lts.Need-returns (claims t) (starts t) reads.Post
-  returns c = search exp-end
+  returns c = λ l m. search exp-end
 
   shared-slice-read-kind : lts.Need-shared-slice-read-kind (claims t) (starts t) reads.Post
   shared-slice-read-kind c = search needs
@@ -60,13 +60,13 @@ module _ (t : ℕ) where
   fault-requires c κs = search needs
 
   returns-2 : lts.Need-returns-2 (claims t) (starts t) reads.Post
-  returns-2 c = search exp-fault
+  returns-2 c = λ l m. let f = c .before .fault .ensures l m in search exp-fault
 
   add-t23 : lts.Need-add-t23 (claims t) (starts t) reads.Post
   add-t23 c = search needs
 
   returns-3 : lts.Need-returns-3 (claims t) (starts t) reads.Post
-  returns-3 c = search exp-stop
+  returns-3 c = λ l m. let f = c .before .before .fault .ensures l m in search exp-stop
 
   cast-check-parameters : lts.Need-cast-check-parameters (claims t) (starts t) reads.Post
   cast-check-parameters c = search needs
@@ -78,22 +78,41 @@ module _ (t : ℕ) where
   check-parameters-requires c κs = search needs
 
   add-nodes-requires : lts.Need-add-nodes-requires (claims t) (starts t) reads.Post
-  add-nodes-requires c κs = (search params-nodes, omega arith)
+  add-nodes-requires c κs =
+      let w = c .before .before .before .before .before .before .before .before .before .before .pre .1 .1 in
+      let q = c .check-parameters .ensures (w .0) (w .1) in
+      (search params-nodes, omega arith)
 
   returns-4 : lts.Need-returns-4 (claims t) (starts t) reads.Post
-  returns-4 c = search exp-call
+  returns-4 c = λ l m.
+      let params = c .before in
+      let f = params .before .before .before .before .fault .ensures l m in
+      let q = params .check-parameters .ensures l m in
+      search exp-call
 
   sides-of-requires : lts.Need-sides-of-requires (claims t) (starts t) reads.Post
-  sides-of-requires c κs = search needs
+  sides-of-requires c κs =
+      let fault = c .before .before .before in
+      let w = fault .before .before .before .before .before .before .pre .1 .1 in
+      let f = fault .fault .ensures (w .0) (w .1) in
+      (search needs, λ b. search binder-room)
 
   sub-check-expression : lts.Need-sub-check-expression (claims t) (starts t) reads.Post
-  sub-check-expression c = search depth-left
+  sub-check-expression c =
+      let fault = c .before .before .before .before in
+      let w = fault .before .before .before .before .before .before .pre .1 .1 in
+      let f = fault .fault .ensures (w .0) (w .1) in
+      search depth-left
 
   add-check-expression : lts.Need-add-check-expression (claims t) (starts t) reads.Post
   add-check-expression c = search needs
 
   check-expression-requires : lts.Need-check-expression-requires (claims t) (starts t) reads.Post
-  check-expression-requires c κs = (search depth-falls, (search needs, search left-fits))
+  check-expression-requires c κs =
+      let fault = c .before .before .before .before in
+      let w = fault .before .before .before .before .before .before .pre .1 .1 in
+      let f = fault .fault .ensures (w .0) (w .1) in
+      (search depth-falls, (search needs, (_, c .sides-of .ensures (w .0) (w .1) .left)))
 
   enum-known-first : lts.Need-enum-known-first (claims t) (starts t) reads.Post
   enum-known-first c = search needs
@@ -102,22 +121,78 @@ module _ (t : ℕ) where
   enum-known-first-2 c = search needs
 
   sub-check-expression-2 : lts.Need-sub-check-expression-2 (claims t) (starts t) reads.Post
-  sub-check-expression-2 c = search depth-left
+  sub-check-expression-2 c =
+      let fault = c .before .before .before .before .before .before .before .before in
+      let w = fault .before .before .before .before .before .before .pre .1 .1 in
+      let f = fault .fault .ensures (w .0) (w .1) in
+      search depth-left
 
   check-expression-requires-2 : lts.Need-check-expression-requires-2 (claims t) (starts t) reads.Post
-  check-expression-requires-2 c κs = (search depth-falls, (search needs, search right-fits))
+  check-expression-requires-2 c κs =
+      let sides = c .before .before .before .before in
+      let fault = sides .before .before .before .before in
+      let w = fault .before .before .before .before .before .before .pre .1 .1 in
+      let f = fault .fault .ensures (w .0) (w .1) in (
+        search depth-falls,
+        (
+          fault .before .before .before .before .before .before .pre .1 .0,
+          (_, sides .sides-of .ensures (w .0) (w .1) .right),
+        ),
+      )
 
   add-add-nodes : lts.Need-add-add-nodes (claims t) (starts t) reads.Post
-  add-add-nodes c = fits-under w64 _ 4096 (search (sum-few, own-fits)) tt
+  add-add-nodes c =
+      let told = c .before .before .before in
+      let first = told .before .before in
+      let sides = first .before in
+      let fault = sides .before .before .before .before in
+      let start = fault .before .before .before .before .before .before in
+      let w = start .pre .1 .1 in
+      let j = sides .sides-of .ensures (w .0) (w .1) in
+      let q = first .check-expression .ensures _ (j .left) in
+      fits-under w64 _ 4096 (sum-few _ _ _ _ _ _ q (start .pre .1 .0 .few) _ _ _ (own-fits _ _ _ j) (told .first2 .given .1)) tt
 
   add-nodes-requires-2 : lts.Need-add-nodes-requires-2 (claims t) (starts t) reads.Post
-  add-nodes-requires-2 c κs = (search nodes-few, search (sum-few, own-fits))
+  add-nodes-requires-2 c κs =
+      let second = c .before in
+      let told = second .before .before in
+      let first = told .before .before in
+      let sides = first .before in
+      let fault = sides .before .before .before .before in
+      let start = fault .before .before .before .before .before .before in
+      let w = start .pre .1 .1 in
+      let j = sides .sides-of .ensures (w .0) (w .1) in
+      let q = first .check-expression .ensures _ (j .left) in
+      let r = second .check-expression2 .ensures _ (j .right) in
+      let few = start .pre .1 .0 .few in
+      (nodes-few _ _ _ _ _ _ r few, sum-few _ _ _ _ _ _ q few _ _ _ (own-fits _ _ _ j) (told .first2 .given .1))
 
   returns-5 : lts.Need-returns-5 (claims t) (starts t) reads.Post
-  returns-5 c = search exp-left
+  returns-5 c = λ l m.
+      let first = c .before .before .before in
+      let sides = first .before in
+      let join = sides .before in
+      let fault = join .before .before .before in
+      let here = fault .before .before .before in
+      exp-left _ _ _ _ _ (here .if1 .left) _ (fault .before .operand .ensures) _ (fault .fault .ensures l m)
+      (join .before .before .if2 .left)
+      (join .before .if3 .left) (join .if4 .left) _ (sides .sides-of .ensures l m) _
+      (first .check-expression .ensures _ (sides .sides-of .ensures l m .left)) _ _ (c .before .first .given .1)
 
   returns-6 : lts.Need-returns-6 (claims t) (starts t) reads.Post
-  returns-6 c = search exp-join
+  returns-6 c = λ l m.
+      let second = c .before .before in
+      let first = second .before .before .before .before in
+      let sides = first .before in
+      let join = sides .before in
+      let fault = join .before .before .before in
+      let here = fault .before .before .before in
+      let j = sides .sides-of .ensures l m in
+      exp-join _ _ _ _ _ (here .if1 .left) _ (fault .before .operand .ensures) _ (fault .fault .ensures l m)
+      (join .before .before .if2 .left)
+      (join .before .if3 .left) (join .if4 .left) _ j _ (first .check-expression .ensures _ (j .left)) _ _ _ _
+      (second .before .before .first2 .given .1)
+      (second .check-expression2 .ensures _ (j .right)) (c .add-nodes2 .ensures)
 
 pub +check-expression-spec : {M : Type 1} → statement M
 +check-expression-spec = close measure λ t. lts.spec (claims t) (starts t) reads.Post

@@ -1,5 +1,5 @@
 -- `program::check_end` meets its contract: there is an entry at the index, or none. Assumes nothing.
-use Rattle.reader.proofs.Programs.{end-left, end-none}
+use Rattle.reader.proofs.ProgramLaws.{end-left, end-none}
 use Rattle.reader.proofs.program.check_end.Statement.{statement}
 use Rattle.reader.proofs.program.check_end.Tie as tie
 

@@ -1,0 +1,36 @@
+-- What the test of a table answers, and what it keeps of the definitions. Assumes nothing: these are definitions.
+use mathlib.Core.List.{List, []}
+use Prim.Native.Nat.{ℕ, _+_}
+use lib.ListN.{length, take, drop}
+use lib.Dec.{leb, eqb}
+use Rattle.job.specs.Test.{_and_}
+use Rattle.job.specs.Entry.{Entry, entries}
+use Rattle.job.specs.Read.{Read, got, refused, _>>=_, need, sizeD, sizeN, tableLength, Answer, accepted, declined}
+use Rattle.job.specs.Construct.{construct}
+use Rattle.reader.specs.Definition.{definitionSizes, definitionsFound}
+use Rattle.reader.specs.declared.table.Tested.{Tested}
+use Rattle.reader.specs.declared.table.Tested.the-variants.{Accepted, Declined}
+
+-- the number of nodes of an accepted table's dag; or the refusal
+unfoldable pub tested : Answer → Tested
+tested (accepted p) = Accepted (length (construct p .nodes))
+tested (declined n e) = Declined n e
+
+-- the tests of the length and of the two sizes: 1, then 2
+unfoldable pub readSizes : List ℕ → Read (Unit {0})
+readSizes b = do
+  _ ← need (leb 4 (length b)) 1 0
+  _ ← need (eqb (length b) (tableLength b)) 1 0
+  need (leb (sizeD b) 32 and leb 1 (sizeN b) and leb (sizeN b) 512) 2 0
+
+-- the entries of a table of these sizes
+abbrev pub tableEntries : List ℕ → List Entry
+tableEntries b = entries (take (sizeN b) (drop 4 b)) (drop (4 + sizeN b) b)
+
+-- the numbers of nodes of the definitions, sinks included, that are read before the first refusal
+unfoldable pub whereSized : Read (Unit {0}) → List ℕ → List ℕ
+whereSized (got u) ns = ns
+whereSized (refused n e) ns = []
+
+unfoldable pub sizesKept : List ℕ → List ℕ
+sizesKept b = whereSized (readSizes b) (definitionSizes (definitionsFound (sizeD b) 0 (tableEntries b)))
