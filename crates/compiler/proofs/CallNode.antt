@@ -9,8 +9,7 @@ use native.Mathlib.Nat.{sub-zero}
 use native.Mathlib.Omega.{arith}
 use lib.ListN.{length, getD, drop}
 use lib.Dec.{ltb}
-use lib.IntN.{pos, negsuc}
-use Rattle.job.specs.Number.{signed, unsigned}
+use Rattle.job.specs.Number.{signed}
 use Rattle.job.specs.Entry.{Entry, entry, entries, low, high, kindOf, operandAt}
 use Rattle.job.specs.Syntax.{Param, variable, constant}
 use Rattle.job.specs.Node.{Node}
@@ -19,14 +18,7 @@ use Rattle.job.specs.Read.{Got, got, _>>=_, gives, need, entryAt, readParam, re
 use Rattle.job.proofs.Test.{not-ltb-le, ltb-lt}
 use Rattle.job.proofs.Position.{entries-at, entries-end, bind-got, refused-got, reread}
 use Rattle.compiler.specs.CallWords.{wordIf, placeWords, callNodeWords}
-
-signed-unsigned : (n : ℕ) → n < 2 ^ 32 → unsigned (signed n) ≡ n
-unfolding signed unsigned
-signed-unsigned n l = go (ltb n (2 ^ 31)) refl
-  where
-    go : (b : Bool) → ltb n (2 ^ 31) ≡ b → unsigned (elim b [ true ↦ pos n | false ↦ negsuc (2 ^ 32 - 1 - n) ]) ≡ n
-    go true e = refl
-    go false e = omega arith
+use Rattle.job.proofs.Number.{unsigned-signed}
 
 -- a parameter that is read from an entry
 record Taken (k o e : ℕ) (t : List Entry) (p : Got Param) : Type 0 where
@@ -45,7 +37,7 @@ module _ (scope : List ℕ) (e o : ℕ) (t : List Entry) (p : Got Param) (l : o 
   unfolding paramWords
   taken-constant r =
       let z : p .value ≡ constant (signed o) = cc in
-      record { next = cc; rest = cc; words = λ w ps. rw (z, signed-unsigned o l) refl }
+      record { next = cc; rest = cc; words = λ w ps. rw (z, unsigned-signed o l) refl }
 
   param-taken : (k : ℕ) → readParam scope e (entry k o ∷ t) ≡ got p → Taken k o e t p
   unfolding readParam entryAt kindOf _>>=_

@@ -26,3 +26,4 @@ pub mod DeclinedAt
 pub mod Lists
 pub mod Both
 pub mod Loop
+pub mod Casts

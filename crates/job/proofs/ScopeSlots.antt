@@ -1,7 +1,9 @@
 -- The variables in scope are below 8, since a binder's number is the length of the scope. Assumes nothing.
+use mathlib.Core.Path.{_≡_, refl, ap}
 use mathlib.Core.List.{List}
 use Prim.Native.Nat.{ℕ, zero, suc, _≤_, _<_}
 use native.Mathlib.Omega.{arith}
+use lib.ListN.{length}
 use Rattle.job.specs.Test.{All, none, more}
 use Rattle.job.specs.Syntax.{Join, levels, scopeLeft, scopeRight}
 use Rattle.job.specs.WellFormed.{GoodJoin}
@@ -26,3 +28,8 @@ unfolding scopeRight
 right-slots GoodJoin.par s = s
 right-slots (GoodJoin.seq l) s = more l s
 right-slots (GoodJoin.prune l) s = s
+
+pub levels-length : (n : ℕ) → length (levels n) ≡ n
+unfolding levels
+levels-length zero = refl
+levels-length (suc n) = ap suc (levels-length n)

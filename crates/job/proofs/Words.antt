@@ -15,8 +15,8 @@ use Rattle.job.specs.Syntax.{Param, variable, constant}
 use Rattle.job.specs.Node.{Node, Body, Dag, paramHolds, paramsHold, isNode, nodeHolds, dagHolds}
 use Rattle.job.specs.Words.{paramWords, nodeWords, paramOf, paramsFrom, nodeBy, decodedNode, nodesFrom}
 use Rattle.job.specs.Words.{bodiesFrom, headWords, arrayWords, dagOf, rowsOfNodes, bodyWords, written}
-use Rattle.job.proofs.Laid.{Laid, laid, getD-sets-before, getD-sets-after}
-use Rattle.job.proofs.DagRules.{DagRules, dag-rules}
+use Rattle.job.proofs.Laid.{Laid, laid}
+use Rattle.job.proofs.DagRules.{dag-rules}
 use Rattle.job.proofs.Number.{signed-unsigned}
 use Rattle.job.proofs.Test.{clash, leb-le, and-left, and-right, all-head, all-tail, same-refl}
 

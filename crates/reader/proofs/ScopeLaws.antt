@@ -7,7 +7,6 @@ use Prim.Native.Nat.{ℕ, zero, suc, _+_, _*_, _-_, _/_, _%_, _^_, _<_, _≤_}
 use native.Mathlib.Omega.{arith}
 use native.Mathlib.Decide.{decLt}
 use native.Mathlib.Numerals.{add-one}
-use lib.ListN.{length}
 use lib.Bits.{bitOr, or-shr, or-mod}
 use lib.Dec.{eqb, ltb, leb}
 use Rattle.job.specs.Test.{_and_, _or_, all, any}
@@ -15,11 +14,7 @@ use Rattle.job.specs.Syntax.{levels}
 use Rattle.job.proofs.Test.{eqb-eq, ne-eqb, lt-ltb, ltb-lt, leb-le, and-left, and-right, all-head, all-tail, all-cons}
 use Rattle.reader.specs.Scope.{isSet, Means}
 use Rattle.reader.specs.declared.scope.Scope.{Scope}
-
-levels-length : (n : ℕ) → length (levels n) ≡ n
-unfolding levels
-levels-length zero = refl
-levels-length (suc n) = ap suc (levels-length n)
+use Rattle.job.proofs.ScopeSlots.{levels-length}
 
 -- a test of each number below n
 below : ℕ → (ℕ → Bool) → Bool

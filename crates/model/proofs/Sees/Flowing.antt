@@ -19,6 +19,7 @@ use Rattle.model.proofs.Sees.Labels.{Labels, Fresh, Follows, Enters, Fl
 use Rattle.model.proofs.Sees.Each.{Each, each-head, each-tail, each-from, each-append, three-each, each-at}
 use Rattle.model.proofs.Sees.Labelling.{Label, plain, nestRight, ownLabels, expLabels, programLabels, labelsOf}
 use Rattle.model.proofs.Sees.Labelling.{Has, Labelled, join-labelled, here-labelled, then-labelled, labelled-whole}
+use Rattle.job.proofs.ScopeSlots.{levels-length}
 
 -- each variable in scope is below the next one's number
 abbrev pub Below : List ℕ → Type 0
@@ -26,11 +27,6 @@ Below scope = All (λ x. x < length scope) scope
 
 below-more : {scope : List ℕ} → Below scope → Below (length scope ∷ scope)
 below-more {scope} b = more {x = length scope} (omega arith) (All-map (λ x l. omega arith) b)
-
-levels-length : (n : ℕ) → length (levels n) ≡ n
-unfolding levels
-levels-length zero = refl
-levels-length (suc n) = ap suc (levels-length n)
 
 pub levels-below : (n : ℕ) → Below (levels n)
 unfolding levels

@@ -2,9 +2,10 @@
 use mir.Facts.{toZ-ofZ, sfits-widen}
 use mir.Syntax.{w64}
 use borrow.Author.Needs.{needs}
-use Rattle.decimal.proofs.SignedDigits.{negative-fits, negative-cast, negative-magnitude, positive-cast}
+use Rattle.decimal.proofs.SignedDigits.{negative-magnitude}
 use Rattle.decimal.proofs.signed.magnitude.Statement.{statement}
 use Rattle.decimal.proofs.signed.magnitude.Tie as tie
+use Rattle.job.proofs.Casts.{negative-fits, negative-cast, positive-cast}
 
 cast-result : tie.Need-cast-result
 cast-result c = rw (toZ-ofZ (c .before .fits .v)) (sfits-widen tt (c .before .fits .v))

@@ -2,9 +2,10 @@
 use native.Mathlib.Omega.{arith}
 use mir.Facts.{toZ-ofZ, sfits-widen}
 use mir.Syntax.{w64}
-use Rattle.sites.proofs.NumberBits.{negative-fits, negative-cast, negative-some, negative-bits, positive-cast, positive-bits}
+use Rattle.sites.proofs.NumberBits.{negative-some, negative-bits, positive-bits}
 use Rattle.sites.proofs.number.unsigned.Statement.{statement}
 use Rattle.sites.proofs.number.unsigned.Tie as tie
+use Rattle.job.proofs.Casts.{negative-fits, negative-cast, positive-cast}
 
 cast-under : tie.Need-cast-under
 cast-under c = rw (toZ-ofZ (c .before .fits .v)) (sfits-widen tt (c .before .fits .v))
