@@ -8,6 +8,7 @@ use crate::expression::Compiled;
 use crate::expression::compile_expression;
 use crate::plan::ExpressionPlan;
 use crate::store::put;
+use job::bounds::DEPTH_LIMIT;
 use job::dag::PUBLISH;
 use job::dag::RETURN;
 use job::dag::WORDS;
@@ -45,7 +46,7 @@ pub fn compile_body(
         first: node,
         next: sink as u32,
     };
-    let body = compile_expression(kinds, operands, dag, 24, at, plan);
+    let body = compile_expression(kinds, operands, dag, DEPTH_LIMIT, at, plan);
     put_sink(dag, sink, goal);
     Compiled {
         at: body.at,

@@ -37,7 +37,8 @@ use Rattle.model.specs.declared.reply.Refusal.the-variants as refusals
 use Rattle.job.proofs.Test.{clash, eqb-same, ltb-lt, and-left, and-right}
 use Rattle.job.proofs.DagRules.{body-rules}
 use Rattle.model.proofs.Machine.Refused.{After, after-unless}
-use Rattle.model.proofs.Keeps.NamedOnce.{Lines, Taken, taken-ready, taken-inside, lines-gone, lines-back, lines-wait, lines-new, lines-choke}
+use Rattle.model.proofs.Keeps.NamedOnce.{Lines, Taken, taken-ready, taken-inside, lines-gone, lines-back, lines-wait, lines-new}
+use Rattle.model.proofs.Keeps.NamedOnce.{lines-choke}
 use Rattle.model.proofs.Keeps.Orders.{Orders, queue-is, waits-are, orders-with, orders-counts}
 use Rattle.model.proofs.Keeps.Orders.{orders-put, orders-enqueue, orders-token, orders-cell}
 use Rattle.demand3.proofs.Values.{held-fits, LookUpFits, found, look-fits, ReplyFits, gives-fits, nothing, builtin-fits}

@@ -297,9 +297,6 @@ module _ (lim : Limits) (d : Dag) (m : Machine) (holds : rulesHold lim d m ≡ t
     pub same-adds : isLive (u .state) ≡ true → u .caller ≡ t .caller → u .cell ≡ t .cell → u .binds ≡ t .binds → Adds m o p × Used o p
     same-adds alive caller cell binds = keep-adds alive caller cell (λ x c e. ap (λ bs. slotAt bs x) binds ∙ e)
 
-    pub same-links : isLive (u .state) ≡ true → u .caller ≡ t .caller → u .cell ≡ t .cell → u .binds ≡ t .binds → sweep o ≡ o
-    same-links alive caller cell binds = whole o (same-adds alive caller cell binds .0)
-
     -- stop, publish: a token that named nothing is blank
     pub end-adds : u ≡ blankToken → t .caller ≡ places.Nowhere → t .cell ≡ places.Nowhere
         → ((x c : ℕ) → slotAt (t .binds) x ≡ slots.Cell c → ⊥) → Adds m o p

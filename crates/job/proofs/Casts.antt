@@ -1,4 +1,5 @@
--- A signed 32-bit number cast to its bits: below 0 its opposite fits, and the others are their own magnitude. By cases of the sign. Assumes nothing.
+-- A signed 32-bit number cast to its bits: below 0 its opposite fits, and the others are their own magnitude. By cases of the sign. Assumes
+-- nothing.
 use mathlib.Core.Path.{_≡_}
 use mathlib.Core.Bool.{true, false}
 use Prim.Native.Nat.{ℕ}

@@ -27,7 +27,3 @@ module _ {A : Type 0} (p : A → Bool) where
   pub all-turn : (xs : List A) (i : ℕ) (d : A) {ok b : Bool}
       → i < length xs → ok ≡ all p (take i xs) → b ≡ p (getD xs i d) → (ok && b) ≡ all p (take (i + 1) xs)
   all-turn xs i d l e f = both e f ∙ rw add-one (sym (all-more xs i d l))
-
--- what owning a struct tells of the length of a field that is an array: the relation stands at `map` over the list
-pub mapped : {A B : Type 0} (f : A → B) (l : List A) (n : ℕ) → length (map f l) ≡ n → length l ≡ n
-mapped f l n p = sym (length-map l f) ∙ p

@@ -1,6 +1,7 @@
 // An accepted program: the bodies of its definitions, its goal, and the dag's head.
 use crate::head;
 use compiler::body;
+use job::bounds::DEFINITIONS;
 use job::dag::WORDS;
 use reader::entry;
 use reader::scope;
@@ -24,7 +25,7 @@ fn compile_definitions(
     operands: &[u8],
     dag: &mut [u32; WORDS],
     count: usize,
-    sizes: &[u32; 32],
+    sizes: &[u32; DEFINITIONS],
 ) -> Place
     requires { ⌜ Parts (now kinds) (now operands) ⌝ }
     requires { ⌜ count ≤ 32 ⌝ }
@@ -64,7 +65,7 @@ pub fn compile_program(
     operands: &[u8],
     dag: &mut [u32; WORDS],
     count: usize,
-    sizes: &[u32; 32],
+    sizes: &[u32; DEFINITIONS],
     nodes: usize,
 )
     requires { ⌜ Parts (now kinds) (now operands) ⌝ }

@@ -53,12 +53,12 @@ module _ (k o left : ℕ) (s : Scope) (scope : List ℕ) (m : Means s scope) whe
         unfolding unless _or_
         fault-none b = sym (deeper ∙ rw (no-binder k b))
 
-        pub fault-7 : 4 ≤ k → 7 < s .count → 7 ≡ expressionFault left scope (kindOf k) o
+        pub fault-7 : 4 ≤ k → 8 ≤ s .count → 7 ≡ expressionFault left scope (kindOf k) o
         unfolding unless _or_
         fault-7 b n =
             let h : 8 ≤ length scope = omega (arith, m .counted) in sym (deeper ∙ rw (is-binder k l b, le-not-ltb (length scope) 8 h))
 
-        pub fault-room : 4 ≤ k → s .count ≤ 7 → 0 ≡ expressionFault left scope (kindOf k) o
+        pub fault-room : 4 ≤ k → s .count < 8 → 0 ≡ expressionFault left scope (kindOf k) o
         unfolding unless _or_
         fault-room b n =
             let h : length scope < 8 = omega (arith, m .counted) in sym (deeper ∙ rw (is-binder k l b, lt-ltb (length scope) 8 h))

@@ -94,10 +94,10 @@ or-bit a b y =
     ∙ or-digit (a / 2 ^ y % 2) (b / 2 ^ y % 2) (omega arith) (omega arith)
 
 module _ (s : Scope) (scope : List ℕ) (m : Means s scope) (x : ℕ) where
-  pub bound-in : x ≤ 7 → isSet (s .bound) x ≡ any (eqb x) scope
+  pub bound-in : x < 8 → isSet (s .bound) x ≡ any (eqb x) scope
   bound-in l = m .bits x (omega arith)
 
-  pub bound-out : 7 < x → false ≡ any (eqb x) scope
+  pub bound-out : 8 ≤ x → false ≡ any (eqb x) scope
   unfolding any _or_
   bound-out l = sym (go scope (m .small))
     where

@@ -4,6 +4,9 @@ use crate::checked::Checked;
 use crate::entry;
 use crate::expression;
 use crate::scope;
+use job::bounds::DEFINITIONS;
+use job::bounds::DEPTH_LIMIT;
+use job::bounds::PARAMETER_LIMIT;
 ghost use mathlib.Core.Path.{_≡_};
 ghost use Prim.Native.Nat.{_≤_};
 ghost use Rattle.job.specs.Entry.{entries};
@@ -23,11 +26,11 @@ fn check_definition(kinds: &[u8], operands: &[u8], at: usize) -> Checked
         return Checked::Refused(3, at);
     }
     let formals = entry::operand(operands, at);
-    if 4 < formals {
+    if PARAMETER_LIMIT < formals {
         return Checked::Refused(4, at);
     }
     let scope = scope::of_formals(formals);
-    let body = expression::check_expression(kinds, operands, expression::DEPTH, scope, at + 1);
+    let body = expression::check_expression(kinds, operands, DEPTH_LIMIT, scope, at + 1);
     checked::add_nodes(body, 1)
 }
 
@@ -37,8 +40,8 @@ pub fn check_definitions(
     kinds: &[u8],
     operands: &[u8],
     count: usize,
-    formals: &mut [u32; 32],
-    sizes: &mut [u32; 32],
+    formals: &mut [u32; DEFINITIONS],
+    sizes: &mut [u32; DEFINITIONS],
 ) -> Checked
     requires { ⌜ Parts (now kinds) (now operands) ⌝ }
     requires { ⌜ count ≤ 32 ⌝ }

@@ -1,5 +1,7 @@
 // One entry: its operand, its row, and what refuses it where an expression is read.
 use crate::scope::Scope;
+use job::bounds::PARAMETER_LIMIT;
+use job::bounds::SCOPE_LIMIT;
 use job::site_parameters;
 ghost use mathlib.Core.Path.{_≡_};
 ghost use Prim.Native.Nat.{_+_, _*_, _<_, _≤_};
@@ -41,7 +43,7 @@ pub fn row_holds(kind: u8, operand: u32) -> bool
         return site_parameters::takes(operand % 65536, operand / 65536);
     }
     if kind == 2 {
-        return operand / 65536 <= 4;
+        return operand / 65536 <= PARAMETER_LIMIT;
     }
     operand == 0
 }
@@ -62,7 +64,7 @@ pub fn fault(kind: u8, operand: u32, left: usize, scope: Scope) -> u8
     if kind < 4 {
         return 0;
     }
-    if 7 < scope.count {
+    if SCOPE_LIMIT <= scope.count {
         return 7;
     }
     0

@@ -12,9 +12,6 @@ ghost use Rattle.reader.specs.Checked.{Parts, entriesFrom, checkedExp};
 ghost use Rattle.reader.specs.Scope.{Scoped, ForEvery};
 ghost use Rattle.reader.specs.ExpressionSides.{JoinHolds};
 
-// "Depth ends at 24".
-pub const DEPTH: usize = 24;
-
 // The scopes of a join's left and right side, and the nodes that the join makes itself.
 pub struct Sides {
     pub left: Scope,

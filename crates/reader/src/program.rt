@@ -5,6 +5,8 @@ use crate::checked::Checked;
 use crate::definition;
 use crate::expression;
 use crate::scope;
+use job::bounds::DEFINITIONS;
+use job::bounds::DEPTH_LIMIT;
 ghost use mathlib.Core.Path.{_≡_};
 ghost use Prim.Native.Nat.{_≤_};
 ghost use lib.Seq.{sets};
@@ -30,7 +32,7 @@ pub fn check_program(
     kinds: &[u8],
     operands: &[u8],
     definitions: usize,
-    sizes: &mut [u32; 32],
+    sizes: &mut [u32; DEFINITIONS],
 ) -> Checked
     requires { ⌜ Parts (now kinds) (now operands) ⌝ }
     requires { ⌜ definitions ≤ 32 ⌝ }
@@ -38,13 +40,13 @@ pub fn check_program(
     ensures { λ _. ⌜ now (sizes .exit) ≡ sets (now (sizes .entry)) 0
         (definitionSizes (definitionsFound definitions 0 (entries (now (kinds .entry)) (now (operands .entry))))) ⌝ }
 {
-    let mut formals = [0u32; 32];
+    let mut formals = [0u32; DEFINITIONS];
     let found = definition::check_definitions(kinds, operands, definitions, &mut formals, sizes);
     match found {
         Checked::Refused(n, e) => Checked::Refused(n, e),
         Checked::Next(at, before) => {
             let scope = scope::of_formals(0);
-            let goal = expression::check_expression(kinds, operands, expression::DEPTH, scope, at);
+            let goal = expression::check_expression(kinds, operands, DEPTH_LIMIT, scope, at);
             match goal {
                 Checked::Refused(n, e) => Checked::Refused(n, e),
                 Checked::Next(end, nodes) => {

@@ -1,4 +1,5 @@
 // The variables in scope.
+use job::bounds::SCOPE_LIMIT;
 ghost use mathlib.Core.Path.{_≡_};
 ghost use mathlib.Core.List.{_∷_};
 ghost use Prim.Native.Nat.{_<_, _≤_};
@@ -28,7 +29,7 @@ pub fn of_formals(n: u32) -> Scope
 pub fn is_bound(scope: Scope, x: u32) -> bool
     ensures { λ r. ⌜ ForEvery scope (λ l. r ≡ any (eqb x) l) ⌝ }
 {
-    if 7 < x {
+    if SCOPE_LIMIT <= x {
         return false;
     }
     (scope.bound >> x) % 2 == 1

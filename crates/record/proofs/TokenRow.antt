@@ -16,7 +16,8 @@ use Rattle.model.specs.declared.token.State.{State}
 use Rattle.model.specs.declared.token.Token.{Token}
 use Rattle.model.specs.declared.record.Machine.{Machine}
 use Rattle.record.specs.Changes.{withCaller, withCell}
-use Rattle.record.specs.Layout.{rowOf, wordsOf, countWords, parts, slotKind, slotNumber, stateKind, stateNumber, placeNumber, heldKind}
+use Rattle.record.specs.Layout.{rowOf, wordsOf, countWords, parts, slotKind, slotNumber, stateKind, stateNumber, placeNumber}
+use Rattle.record.specs.Layout.{heldKind}
 use Rattle.record.specs.Layout.{heldNumber}
 use Rattle.record.specs.Holds.{Codes, Holds}
 use Rattle.record.proofs.LayoutParts as parts-laws

@@ -13,7 +13,8 @@ use Rattle.calculus.specs.Event.{Label, silently}
 use Rattle.calculus.specs.Expression.{Param, Exp, Substitution, substParam, subst, formals}
 use Rattle.calculus.specs.Rewriting.{paramValues, silence, calling, Rewrites}
 use Rattle.job.proofs.Test.{and-left, leb-le, le-not-ltb}
-use Rattle.simulation.proofs.AbstractMachine.{Node, Program, Binding, Frame, Place, at, running, Store, acts, act, asksSite, callsSite}
+use Rattle.simulation.proofs.AbstractMachine.{Node, Program, Binding, Frame, Place, at, running, Store, acts, act, asksSite}
+use Rattle.simulation.proofs.AbstractMachine.{callsSite}
 use Rattle.simulation.proofs.AbstractMachine.{replies}
 use Rattle.simulation.proofs.Cells.{grows-all}
 use Rattle.simulation.proofs.Binding.{Env, Unset, env-formals, values-agree}

@@ -9,7 +9,8 @@ use Rattle.calculus.specs.Expression.{Exp}
 use Rattle.calculus.specs.Rewriting.{Rewrites}
 use Rattle.calculus.specs.Allowed.{Configuration, nextHandle, shown, CanShow}
 use Rattle.simulation.proofs.Shuffle.{Split}
-use Rattle.simulation.proofs.AbstractMachine.{Node, Program, at, Token, Store, Effect, Move, effect, State, state, handleOf, after, labelOf}
+use Rattle.simulation.proofs.AbstractMachine.{Node, Program, at, Token, Store, Effect, Move, effect, State, state, handleOf, after}
+use Rattle.simulation.proofs.AbstractMachine.{labelOf}
 use Rattle.simulation.proofs.AbstractMachine.{Step, step, Run, rests}
 use Rattle.simulation.proofs.Cells.{tidy-grown}
 use Rattle.simulation.proofs.Coded.{Bodies}

@@ -11,7 +11,8 @@ use Rattle.job.specs.Site.{BuiltinReply, gives, silent, isBuiltin, isOutside, b
 use Rattle.calculus.specs.Expression.{Param, Exp, Substitution, lift, substParam, subst}
 use Rattle.calculus.specs.Rewriting.{paramValues, silence, answering, Rewrites}
 use Rattle.simulation.proofs.Shuffle.{Split, first, later, pair, split-none, gap-alone, found, either-side}
-use Rattle.simulation.proofs.AbstractMachine.{Node, Program, Binding, Frame, Place, at, above, Token, running, Store, asksSite, Move, acts}
+use Rattle.simulation.proofs.AbstractMachine.{Node, Program, Binding, Frame, Place, at, above, Token, running, Store, asksSite, Move}
+use Rattle.simulation.proofs.AbstractMachine.{acts}
 use Rattle.simulation.proofs.AbstractMachine.{answered}
 use Rattle.simulation.proofs.Cells.{parts-swap, parts-move, parts-alone, parts-own, parts-none, grows-all, grows-new, Tidy}
 use Rattle.simulation.proofs.Binding.{Env, Unset, env-cell, values-agree}

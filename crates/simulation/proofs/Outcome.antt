@@ -10,7 +10,8 @@ use Rattle.calculus.specs.Expression.{Exp, Substitution, lift, subst, innermost
 use Rattle.calculus.specs.Rewriting.{NotPublishing, silence, Rewrites}
 use Rattle.calculus.proofs.Substitution.{bound, innermost-lift}
 use Rattle.simulation.proofs.Shuffle.{Mix, mix-filter, mix-unit, mix-middle, mix-swap, Gap}
-use Rattle.simulation.proofs.AbstractMachine.{Node, Program, Binding, Frame, Place, at, above, Token, running, Store, withSet, isOutOf}
+use Rattle.simulation.proofs.AbstractMachine.{Node, Program, Binding, Frame, Place, at, above, Token, running, Store, withSet}
+use Rattle.simulation.proofs.AbstractMachine.{isOutOf}
 use Rattle.simulation.proofs.AbstractMachine.{outOf, Effect, Move, acts, actsAt, act, effect}
 use Rattle.simulation.proofs.Store.{_∈_, _∉_}
 use Rattle.simulation.proofs.Cells.{Parts, parts-alone, Grows, grows-within, grows-from, grown, whole-grows, not-in-append, Tidy}

@@ -9,7 +9,8 @@ use Rattle.calculus.specs.Event.{Event, Label, silently, showing}
 use Rattle.calculus.specs.Expression.{Exp, Substitution, lift, subst}
 use Rattle.calculus.specs.Rewriting.{answering, Rewrites}
 use Rattle.simulation.proofs.Shuffle.{Split, first, Mix, mix-swap, mix-nothing, pair, Kept, kept, keeps}
-use Rattle.simulation.proofs.AbstractMachine.{Program, Binding, Frame, Place, at, above, Token, running, Store, Effect, Move, acts, answered}
+use Rattle.simulation.proofs.AbstractMachine.{Program, Binding, Frame, Place, at, above, Token, running, Store, Effect, Move, acts}
+use Rattle.simulation.proofs.AbstractMachine.{answered}
 use Rattle.simulation.proofs.AbstractMachine.{effect}
 use Rattle.simulation.proofs.Cells.{Parts, parts-swap, parts-move, parts-alone, parts-own, parts-none, Grows, grows-all, grows-new}
 use Rattle.simulation.proofs.Cells.{grows-then, grown, whole-grows, Tidy, tidy-grown}

@@ -13,7 +13,8 @@ use Rattle.job.specs.Site.{isBuiltin, isOutside}
 use Rattle.calculus.specs.Expression.{Param, Exp, Substitution, lift, subst}
 use Rattle.calculus.proofs.Substitution.{_after_, subst-after, lift-after, subst-itself}
 use Rattle.simulation.proofs.Shuffle.{Mix, mix-all}
-use Rattle.simulation.proofs.AbstractMachine.{Node, Program, Binding, Frame, frame, Place, at, above, Token, running, calledOut, cellsOf}
+use Rattle.simulation.proofs.AbstractMachine.{Node, Program, Binding, Frame, frame, Place, at, above, Token, running, calledOut}
+use Rattle.simulation.proofs.AbstractMachine.{cellsOf}
 use Rattle.simulation.proofs.AbstractMachine.{Store, withSet, outOf}
 use Rattle.simulation.proofs.Store.{_∈_, _∉_, all-stay, all-end}
 use Rattle.simulation.proofs.Cells.{Within, Parts, parts-within, not-in-cons}

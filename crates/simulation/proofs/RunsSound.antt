@@ -10,7 +10,8 @@ use Rattle.calculus.specs.Event.{Event, Label}
 use Rattle.calculus.specs.Expression.{Exp, Substitution, subst}
 use Rattle.calculus.specs.Expression as Calculus
 use Rattle.calculus.specs.Allowed.{nextHandle, shown, CanShow}
-use Rattle.simulation.proofs.AbstractMachine.{Node, Program, at, Token, Store, Effect, Move, effect, State, state, handleOf, after, labelOf}
+use Rattle.simulation.proofs.AbstractMachine.{Node, Program, at, Token, Store, Effect, Move, effect, State, state, handleOf, after}
+use Rattle.simulation.proofs.AbstractMachine.{labelOf}
 use Rattle.simulation.proofs.AbstractMachine.{Step, step, Run, rests, startAt}
 use Rattle.simulation.proofs.Cells.{apart-none, Tidy, tidy-grown, tidy-set}
 use Rattle.simulation.proofs.Binding as Binding

@@ -209,4 +209,5 @@ start-clean lim goal u = record { tokens = λ p e. go p e (ℕ-discrete p 0); ce
 
     go : (p : ℕ) → Free (tokensUsed m) p → Dec (p ≡ 0) → getD (m .tokens) p blankToken ≡ blankToken
     go p e (yes f) = clash (subst (Marked (tokensUsed m)) (sym f) u) e
-    go p e (no n) = token-other (replicate (lim .tokenPlaces) blankToken) 0 p (startToken goal) n ∙ replicate-at (lim .tokenPlaces) p blankToken
+    go p e (no n) = token-other (replicate (lim .tokenPlaces) blankToken) 0 p (startToken goal) n
+        ∙ replicate-at (lim .tokenPlaces) p blankToken

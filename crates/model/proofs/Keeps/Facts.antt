@@ -105,7 +105,8 @@ module _ (lim : Limits) (d : Dag) (some : 0 < lim .tokenPlaces) (cell : 0 < lim 
         cells = λ c. ap (λ (k : Cell). heldInRange (k .value)) (replicate-at (lim .cellPlaces) c blankCell);
         apart =
             λ p q h e f.
-            let y : states.Blank ≡ states.Called h = sym (ap (λ (t : Token). t .state) (replicate-at (lim .tokenPlaces) p blankToken)) ∙ e in
+            let y : states.Blank ≡ states.Called h = sym (ap (λ (t : Token). t .state) (replicate-at (lim .tokenPlaces) p blankToken))
+            ∙ e in
             let z : _≡_ {A = ℕ} 0 1 = cc in
             absurd (omega arith);
       }

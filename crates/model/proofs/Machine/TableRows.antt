@@ -1,5 +1,5 @@
--- The tables of tokens and cells, row by row: a row that was written is what was written, the others are as before, and behind the end all is
--- blank, so a live token is inside. By the laws of lists. Assumes nothing.
+-- The tables of tokens and cells, row by row: a row that was written is what was written, the others are as before, and behind the end all
+-- is blank, so a live token is inside. By the laws of lists. Assumes nothing.
 use mathlib.Core.Path.{_≡_, ap}
 use mathlib.Core.Bool.{true}
 use mathlib.Core.List.{List}

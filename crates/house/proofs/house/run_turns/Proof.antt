@@ -4,7 +4,8 @@ use native.Mathlib.Omega.{arith}
 use mathlib.Core.Path.{_≡_, refl}
 use Prim.Native.Nat.{_+_, _-_}
 use lib.ListN.{length}
-use Rattle.house.proofs.HouseLent.{Lent, lent-begins, lent-last, lent-there, lent-delivers, lent-delivers-less, lent-limit, lent-ready}
+use Rattle.house.proofs.HouseLent.{Lent, lent-begins, lent-last, lent-there, lent-delivers, lent-delivers-less, lent-limit}
+use Rattle.house.proofs.HouseLent.{lent-ready}
 use Rattle.house.proofs.HouseLent.{lent-few, lent-ends, lent-steps, lent-steps-less}
 use Rattle.house.proofs.house.run_turns.Statement.{statement}
 use Rattle.house.proofs.house.run_turns.Tie as tie
