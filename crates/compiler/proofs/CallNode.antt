@@ -17,7 +17,7 @@ use Rattle.job.specs.Words.{paramWords, nodeWords}
 use Rattle.job.specs.Read.{Got, got, _>>=_, gives, need, entryAt, readParam, readParamList}
 use Rattle.job.proofs.Test.{not-ltb-le, ltb-lt}
 use Rattle.job.proofs.Position.{entries-at, entries-end, bind-got, refused-got, reread}
-use Rattle.compiler.specs.CallWords.{wordIf, placeWords, callNodeWords}
+use Rattle.compiler.specs.CallNodeWords.{wordIf, placeWords, callNodeWords}
 use Rattle.job.proofs.Number.{unsigned-signed}
 
 -- a parameter that is read from an entry

@@ -8,7 +8,7 @@ use lib.Seq.{sets}
 use lib.Dec.{ltb}
 use Rattle.job.specs.Entry.{low, high, operandAt}
 use Rattle.job.proofs.Test.{lt-ltb, le-not-ltb}
-use Rattle.compiler.specs.CallWords.{wordIf, placeWords, callNodeWords}
+use Rattle.compiler.specs.CallNodeWords.{wordIf, placeWords, callNodeWords}
 use Rattle.compiler.proofs.StoreLaws.{in-fours}
 
 -- a word of a place

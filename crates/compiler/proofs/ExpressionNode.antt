@@ -13,7 +13,7 @@ use Rattle.job.specs.Node.{Node}
 use Rattle.job.specs.Construct.{nodeCount, root, nodesOf}
 use Rattle.job.specs.Words.{headWords, paramWords, nodeWords, rowsOfNodes}
 use Rattle.job.proofs.Position.{operand-small}
-use Rattle.compiler.specs.CallWords.{callNodeWords}
+use Rattle.compiler.specs.CallNodeWords.{callNodeWords}
 use Rattle.compiler.specs.declared.expression.Compiled.{Compiled}
 use Rattle.compiler.proofs.CallNode.{Ended, params-end, site-words, call-words}
 use Rattle.compiler.proofs.JoinLaws.{words}

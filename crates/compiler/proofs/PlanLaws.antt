@@ -9,7 +9,7 @@ use Rattle.reader.specs.Scope.{Means}
 use Rattle.reader.specs.declared.scope.Scope.{Scope}
 use Rattle.reader.specs.ExpressionSides.{joinOf}
 use Rattle.reader.proofs.ExpressionSides.{join-par, join-seq, join-prune}
-use Rattle.compiler.specs.Plan.{IsLeft, IsRight}
+use Rattle.compiler.specs.PlanSides.{IsLeft, IsRight}
 
 -- a binder's number is the length of the scope
 module _ (kind : ℕ) (s : Scope) (scope : List ℕ) (mean : Means s scope) (n k : ℕ) where

@@ -1,6 +1,6 @@
 -- What the compiler writes, said of a reading. Assumes nothing: these are definitions.
-pub mod CallWords
-pub mod Plan
+pub mod CallNodeWords
+pub mod PlanSides
 pub mod JoinRoot
 pub mod ExpressionCompiled
 pub mod Body

@@ -8,7 +8,7 @@ ghost use Rattle.job.specs.Entry.{high};
 ghost use Rattle.job.specs.Words.{headWords, arrayWords};
 ghost use Rattle.job.specs.Entry.{operandAt};
 ghost use Rattle.reader.specs.Checked.{Parts};
-ghost use Rattle.compiler.specs.CallWords.{wordIf, placeWords, callNodeWords};
+ghost use Rattle.compiler.specs.CallNodeWords.{wordIf, placeWords, callNodeWords};
 use crate::store::put_four;
 use job::dag::HEAD_WORDS;
 use job::dag::ROW_WORDS;

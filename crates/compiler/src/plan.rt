@@ -5,7 +5,7 @@ ghost use Prim.Native.Nat.{_<_, _≤_};
 ghost use lib.ListN.{length};
 ghost use Rattle.reader.specs.Scope.{ForEvery};
 ghost use Rattle.reader.specs.ExpressionSides.{joinOf};
-ghost use Rattle.compiler.specs.Plan.{IsLeft, IsRight};
+ghost use Rattle.compiler.specs.PlanSides.{IsLeft, IsRight};
 
 // The variables in scope, the expression's first node, and the node toward which it goes.
 pub struct ExpressionPlan {

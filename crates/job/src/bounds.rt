@@ -12,7 +12,7 @@ pub const DEPTH_LIMIT: usize = 24;
 // "D is 0 to 32." (also as the size of an array)
 pub const DEFINITION_LIMIT: u32 = 32;
 
-pub const DEFINITIONS: usize = 32;
+pub const MOST_DEFINITIONS: usize = 32;
 
 // "N is 1 to 512."
 pub const ENTRY_LIMIT: usize = 512;

@@ -1,7 +1,7 @@
 // An accepted program: the bodies of its definitions, its goal, and the dag's head.
 use crate::head;
 use compiler::body;
-use job::bounds::DEFINITIONS;
+use job::bounds::MOST_DEFINITIONS;
 use job::dag::WORDS;
 use reader::entry;
 use reader::scope;
@@ -25,7 +25,7 @@ fn compile_definitions(
     operands: &[u8],
     dag: &mut [u32; WORDS],
     count: usize,
-    sizes: &[u32; DEFINITIONS],
+    sizes: &[u32; MOST_DEFINITIONS],
 ) -> Place
     requires { ⌜ Parts (now kinds) (now operands) ⌝ }
     requires { ⌜ count ≤ 32 ⌝ }
@@ -65,7 +65,7 @@ pub fn compile_program(
     operands: &[u8],
     dag: &mut [u32; WORDS],
     count: usize,
-    sizes: &[u32; DEFINITIONS],
+    sizes: &[u32; MOST_DEFINITIONS],
     nodes: usize,
 )
     requires { ⌜ Parts (now kinds) (now operands) ⌝ }

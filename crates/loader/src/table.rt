@@ -1,6 +1,6 @@
 // A job table, tested, then compiled.
 use crate::program;
-use job::bounds::DEFINITIONS;
+use job::bounds::MOST_DEFINITIONS;
 use job::dag::WORDS;
 use reader::table::Tested;
 use reader::table::check_table;
@@ -20,7 +20,7 @@ pub fn load(table: &[u8], dag: &mut [u32; WORDS]) -> Loaded
     ensures { λ r. ⌜ r ≡ loaded (readTable (now (table .entry))) ⌝ }
     ensures { λ _. ⌜ now (dag .exit) ≡ loadedWords (readTable (now (table .entry))) (now (dag .entry)) ⌝ }
 {
-    let mut sizes = [0u32; DEFINITIONS];
+    let mut sizes = [0u32; MOST_DEFINITIONS];
     let answer = check_table(table, &mut sizes);
     match answer {
         Tested::Declined(n, e) => Loaded::Refused(n, e),

@@ -12,7 +12,7 @@ use lib.Dec.{eqb, ltb, leb}
 use Rattle.job.specs.Test.{_and_, _or_, all, any}
 use Rattle.job.specs.Syntax.{levels}
 use Rattle.job.proofs.Test.{eqb-eq, ne-eqb, lt-ltb, ltb-lt, leb-le, and-left, and-right, all-head, all-tail, all-cons}
-use Rattle.reader.specs.Scope.{isSet, Means}
+use Rattle.reader.specs.Scope.{hasBit, Means}
 use Rattle.reader.specs.declared.scope.Scope.{Scope}
 use Rattle.job.proofs.ScopeSlots.{levels-length}
 
@@ -51,12 +51,12 @@ unfolding below _and_
 shifted-some x l = leb-le 1 (1 * 2 ^ x % 2 ^ 32) (below-at 9 (λ x. leb 1 (1 * 2 ^ x % 2 ^ 32)) refl x (omega arith))
 
 -- the formals: the lowest n bits
-formals-bits : (n x : ℕ) → n ≤ 8 → x < 8 → isSet (2 ^ n - 1) x ≡ any (eqb x) (levels n)
+formals-bits : (n x : ℕ) → n ≤ 8 → x < 8 → hasBit (2 ^ n - 1) x ≡ any (eqb x) (levels n)
 unfolding below agree levels any _and_ _or_
 formals-bits n x m l =
     agree-eq _ _
-    (below-at 8 (λ x. agree (isSet (2 ^ n - 1) x) (any (eqb x) (levels n)))
-    (below-at 9 (λ n. below 8 (λ x. agree (isSet (2 ^ n - 1) x) (any (eqb x) (levels n)))) refl n (omega arith)) x l)
+    (below-at 8 (λ x. agree (hasBit (2 ^ n - 1) x) (any (eqb x) (levels n)))
+    (below-at 9 (λ n. below 8 (λ x. agree (hasBit (2 ^ n - 1) x) (any (eqb x) (levels n)))) refl n (omega arith)) x l)
 
 formals-small : (n : ℕ) → n ≤ 8 → all (λ x. ltb x 8) (levels n) ≡ true
 unfolding below levels all _and_
@@ -66,16 +66,16 @@ pub formals-mean : (n : ℕ) → n ≤ 8 → Means (record { bound = 1 * 2 ^ n %
 formals-mean n m = record {
   counted = sym (levels-length n);
   small = formals-small n m;
-  bits = λ x l. ap (λ b. isSet (b - 1) x) (shifted n m) ∙ formals-bits n x m l;
+  bits = λ x l. ap (λ b. hasBit (b - 1) x) (shifted n m) ∙ formals-bits n x m l;
 }
 
 -- one number alone is one bit
-one-bit : (x y : ℕ) → x < 8 → y < 8 → isSet (2 ^ x) y ≡ eqb y x
+one-bit : (x y : ℕ) → x < 8 → y < 8 → hasBit (2 ^ x) y ≡ eqb y x
 unfolding below agree _and_
 one-bit x y l m =
     agree-eq _ _
-    (below-at 8 (λ y. agree (isSet (2 ^ x) y) (eqb y x))
-    (below-at 8 (λ x. below 8 (λ y. agree (isSet (2 ^ x) y) (eqb y x))) refl x l) y m)
+    (below-at 8 (λ y. agree (hasBit (2 ^ x) y) (eqb y x))
+    (below-at 8 (λ x. below 8 (λ y. agree (hasBit (2 ^ x) y) (eqb y x))) refl x l) y m)
 
 -- a bit of two numbers' bits put together
 or-digit : (p q : ℕ) → p < 2 → q < 2 → eqb (bitOr p q) 1 ≡ (eqb q 1 or eqb p 1)
@@ -88,13 +88,13 @@ or-digit zero (suc (suc q)) l m = absurd (omega arith)
 or-digit (suc zero) (suc (suc q)) l m = absurd (omega arith)
 or-digit (suc (suc p)) q l m = absurd (omega arith)
 
-or-bit : (a b y : ℕ) → isSet (bitOr a b) y ≡ (isSet b y or isSet a y)
+or-bit : (a b y : ℕ) → hasBit (bitOr a b) y ≡ (hasBit b y or hasBit a y)
 or-bit a b y =
     ap (λ n. eqb n 1) (ap (λ n. n % 2) (or-shr a b y) ∙ or-mod (a / 2 ^ y) (b / 2 ^ y) 1)
     ∙ or-digit (a / 2 ^ y % 2) (b / 2 ^ y % 2) (omega arith) (omega arith)
 
 module _ (s : Scope) (scope : List ℕ) (m : Means s scope) (x : ℕ) where
-  pub bound-in : x < 8 → isSet (s .bound) x ≡ any (eqb x) scope
+  pub bound-in : x < 8 → hasBit (s .bound) x ≡ any (eqb x) scope
   bound-in l = m .bits x (omega arith)
 
   pub bound-out : 8 ≤ x → false ≡ any (eqb x) scope
@@ -113,7 +113,7 @@ module _ (s : Scope) (scope : List ℕ) (m : Means s scope) (x : ℕ) where
     counted = add-one (s .count) ∙ ap suc (m .counted);
     small = all-cons (λ x. ltb x 8) x scope (lt-ltb x 8 l) (m .small);
     bits = λ y k.
-        ap (λ b. isSet (bitOr (s .bound) b) y) (shifted x (omega arith))
+        ap (λ b. hasBit (bitOr (s .bound) b) y) (shifted x (omega arith))
         ∙ or-bit (s .bound) (2 ^ x) y
         ∙ ap₂ _or_ (one-bit x y l k) (m .bits y k);
   }

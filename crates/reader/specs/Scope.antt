@@ -9,18 +9,18 @@ use Rattle.job.specs.Test.{all, any}
 use Rattle.reader.specs.declared.scope.Scope.{Scope}
 
 -- bit x of a number
-abbrev pub isSet : (bound x : ℕ) → Bool
-isSet bound x = eqb (bound / 2 ^ x % 2) 1
+abbrev pub hasBit : (bound x : ℕ) → Bool
+hasBit bound x = eqb (bound / 2 ^ x % 2) 1
 
 -- as many variables, each below 8, and bit x is set exactly if x is one of them
 pub record Means (s : Scope) (scope : List ℕ) : Type 0 where
   pub counted : s .count ≡ length scope
   pub small : all (λ x. ltb x 8) scope ≡ true
-  pub bits : (x : ℕ) → x < 8 → isSet (s .bound) x ≡ any (eqb x) scope
+  pub bits : (x : ℕ) → x < 8 → hasBit (s .bound) x ≡ any (eqb x) scope
 
 -- the scope of some list
-abbrev pub Scoped : Scope → Type 0
-Scoped s = (scope : List ℕ) × Means s scope
+abbrev pub HasMeaning : Scope → Type 0
+HasMeaning s = (scope : List ℕ) × Means s scope
 
 -- what holds of every list that a scope means
 abbrev pub ForEvery : Scope → (List ℕ → Type 0) → Type 0

@@ -1,7 +1,7 @@
 // Calls of definitions: each names one that there is, with as many parameters as it has formals.
 use crate::checked::Checked;
 use crate::entry;
-use job::bounds::DEFINITIONS;
+use job::bounds::MOST_DEFINITIONS;
 ghost use mathlib.Core.Path.{_≡_};
 ghost use Prim.Native.Nat.{_≤_};
 ghost use lib.ListN.{length, take};
@@ -10,7 +10,7 @@ ghost use Rattle.job.specs.Read.{callHolds, definitionsHold};
 ghost use Rattle.reader.specs.Checked.{Parts, checkedTest};
 
 // May a call with this operand stand beside `count` definitions with these counts of formals?
-fn call_holds(operand: u32, formals: &[u32; DEFINITIONS], count: usize) -> bool
+fn call_holds(operand: u32, formals: &[u32; MOST_DEFINITIONS], count: usize) -> bool
     requires { ⌜ (length (now formals) ≡ 32) × (count ≤ 32) ⌝ }
     ensures { λ r. ⌜ r ≡ callHolds (take count (now (formals .entry))) (entry 2 operand) ⌝ }
 {
@@ -25,7 +25,7 @@ fn call_holds(operand: u32, formals: &[u32; DEFINITIONS], count: usize) -> bool
 pub fn check_calls(
     kinds: &[u8],
     operands: &[u8],
-    formals: &[u32; DEFINITIONS],
+    formals: &[u32; MOST_DEFINITIONS],
     count: usize,
 ) -> Checked
     requires { ⌜ Parts (now kinds) (now operands) ⌝ }

@@ -4,8 +4,8 @@ use crate::checked::Checked;
 use crate::entry;
 use crate::expression;
 use crate::scope;
-use job::bounds::DEFINITIONS;
 use job::bounds::DEPTH_LIMIT;
+use job::bounds::MOST_DEFINITIONS;
 use job::bounds::PARAMETER_LIMIT;
 ghost use mathlib.Core.Path.{_≡_};
 ghost use Prim.Native.Nat.{_≤_};
@@ -40,8 +40,8 @@ pub fn check_definitions(
     kinds: &[u8],
     operands: &[u8],
     count: usize,
-    formals: &mut [u32; DEFINITIONS],
-    sizes: &mut [u32; DEFINITIONS],
+    formals: &mut [u32; MOST_DEFINITIONS],
+    sizes: &mut [u32; MOST_DEFINITIONS],
 ) -> Checked
     requires { ⌜ Parts (now kinds) (now operands) ⌝ }
     requires { ⌜ count ≤ 32 ⌝ }

@@ -9,7 +9,7 @@ ghost use mathlib.Core.Path.{_≡_};
 ghost use Prim.Native.Nat.{_<_, _≤_};
 ghost use Rattle.job.specs.Read.{readExp};
 ghost use Rattle.reader.specs.Checked.{Parts, entriesFrom, checkedExp};
-ghost use Rattle.reader.specs.Scope.{Scoped, ForEvery};
+ghost use Rattle.reader.specs.Scope.{HasMeaning, ForEvery};
 ghost use Rattle.reader.specs.ExpressionSides.{JoinHolds};
 
 // The scopes of a join's left and right side, and the nodes that the join makes itself.
@@ -54,7 +54,7 @@ pub fn check_expression(
     scope: Scope,
     at: usize,
 ) -> Checked
-    requires { ⌜ Parts (now kinds) (now operands) × Scoped scope ⌝ }
+    requires { ⌜ Parts (now kinds) (now operands) × HasMeaning scope ⌝ }
     ensures { λ r. ⌜ ForEvery scope
         (λ l. r ≡ checkedExp (readExp left l at (entriesFrom (now (kinds .entry)) (now (operands .entry)) at))) ⌝ }
 {

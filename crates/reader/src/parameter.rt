@@ -6,7 +6,7 @@ use crate::scope::Scope;
 ghost use mathlib.Core.Path.{_≡_};
 ghost use Rattle.job.specs.Read.{readParamList};
 ghost use Rattle.reader.specs.Checked.{Parts, entriesFrom, checkedParamList};
-ghost use Rattle.reader.specs.Scope.{Scoped, ForEvery};
+ghost use Rattle.reader.specs.Scope.{HasMeaning, ForEvery};
 ghost use Rattle.reader.specs.EntryFault.{parameterFault};
 
 // The number that refuses the parameter at entry `at`, or 0.
@@ -39,7 +39,7 @@ pub fn check_parameters(
     scope: Scope,
     at: usize,
 ) -> Checked
-    requires { ⌜ Parts (now kinds) (now operands) × Scoped scope ⌝ }
+    requires { ⌜ Parts (now kinds) (now operands) × HasMeaning scope ⌝ }
     ensures { λ r. ⌜ ForEvery scope
         (λ l. r ≡ checkedParamList (readParamList count l at (entriesFrom (now (kinds .entry)) (now (operands .entry)) at))) ⌝ }
 {

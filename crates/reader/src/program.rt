@@ -5,8 +5,8 @@ use crate::checked::Checked;
 use crate::definition;
 use crate::expression;
 use crate::scope;
-use job::bounds::DEFINITIONS;
 use job::bounds::DEPTH_LIMIT;
+use job::bounds::MOST_DEFINITIONS;
 ghost use mathlib.Core.Path.{_≡_};
 ghost use Prim.Native.Nat.{_≤_};
 ghost use lib.Seq.{sets};
@@ -32,7 +32,7 @@ pub fn check_program(
     kinds: &[u8],
     operands: &[u8],
     definitions: usize,
-    sizes: &mut [u32; DEFINITIONS],
+    sizes: &mut [u32; MOST_DEFINITIONS],
 ) -> Checked
     requires { ⌜ Parts (now kinds) (now operands) ⌝ }
     requires { ⌜ definitions ≤ 32 ⌝ }
@@ -40,7 +40,7 @@ pub fn check_program(
     ensures { λ _. ⌜ now (sizes .exit) ≡ sets (now (sizes .entry)) 0
         (definitionSizes (definitionsFound definitions 0 (entries (now (kinds .entry)) (now (operands .entry))))) ⌝ }
 {
-    let mut formals = [0u32; DEFINITIONS];
+    let mut formals = [0u32; MOST_DEFINITIONS];
     let found = definition::check_definitions(kinds, operands, definitions, &mut formals, sizes);
     match found {
         Checked::Refused(n, e) => Checked::Refused(n, e),

@@ -1,8 +1,8 @@
 // The whole table: its length and its sizes, then its entries.
 use crate::checked::Checked;
 use crate::program;
-use job::bounds::DEFINITIONS;
 use job::bounds::ENTRY_LIMIT;
+use job::bounds::MOST_DEFINITIONS;
 ghost use mathlib.Core.Path.{_≡_};
 ghost use Prim.Native.Nat.{_+_, _*_, _<_};
 ghost use lib.Seq.{sets};
@@ -23,7 +23,7 @@ pub fn half(low: u8, high: u8) -> usize
 }
 
 // Tests a table. The numbers of nodes of the definitions that are read before the first refusal are kept.
-pub fn check_table(table: &[u8], sizes: &mut [u32; DEFINITIONS]) -> Tested
+pub fn check_table(table: &[u8], sizes: &mut [u32; MOST_DEFINITIONS]) -> Tested
     ensures { λ r. ⌜ r ≡ tested (readTable (now (table .entry))) ⌝ }
     ensures { λ _. ⌜ now (sizes .exit) ≡ sets (now (sizes .entry)) 0 (sizesKept (now (table .entry))) ⌝ }
 {
@@ -35,7 +35,7 @@ pub fn check_table(table: &[u8], sizes: &mut [u32; DEFINITIONS]) -> Tested
     if table.len() != 4 + 5 * n {
         return Tested::Declined(1, 0);
     }
-    if DEFINITIONS < definitions {
+    if MOST_DEFINITIONS < definitions {
         return Tested::Declined(2, 0);
     }
     if n < 1 {
