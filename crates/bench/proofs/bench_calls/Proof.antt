@@ -34,13 +34,4 @@ returns c = search needs
 pub bench-calls-spec : {M : Type 1} → statement M
 bench-calls-spec =
     tie.close
-    (tie.spec
-    Inv-loop
-    μ-loop
-    load-requires
-    loop-holds
-    calls-requires
-    add-i
-    loop-less
-    loop-again
-    returns)
+    (tie.spec Inv-loop μ-loop load-requires loop-holds calls-requires add-i loop-less loop-again returns)

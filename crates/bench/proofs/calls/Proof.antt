@@ -52,19 +52,5 @@ returns-2 c = search needs
 pub calls-spec : {M : Type 1} → statement M
 calls-spec =
     tie.close
-    (tie.spec
-    Inv-loop
-    μ-loop
-    start-requires
-    loop-holds
-    queued-requires
-    step-requires
-    returns
-    mul-answer
-    shared-slice-read-answer
-    answer-requires
-    add-at
-    add-n
-    loop-less
-    loop-again
-    returns-2)
+    (tie.spec Inv-loop μ-loop start-requires loop-holds queued-requires step-requires returns mul-answer shared-slice-read-answer
+    answer-requires add-at add-n loop-less loop-again returns-2)

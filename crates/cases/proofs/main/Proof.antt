@@ -42,15 +42,5 @@ returns-2 c = search needs
 pub main-spec : {M : Type 1} → statement M
 main-spec =
     tie.close
-    (tie.spec
-    Inv-loop
-    μ-loop
-    loop-holds
-    slice-aggregate-next
-    slice-aggregate-next-2
-    next-requires
-    add-number
-    loop-less
-    loop-again
-    returns
+    (tie.spec Inv-loop μ-loop loop-holds slice-aggregate-next slice-aggregate-next-2 next-requires add-number loop-less loop-again returns
     returns-2)

@@ -58,20 +58,5 @@ returns c = search needs
 pub show-spec : {M : Type 1} → statement M
 show-spec =
     tie.close
-    (tie.spec
-    Inv-loop
-    μ-loop
-    orcrun-requires
-    loop-holds
-    write-all-requires
-    sub-left
-    add-from
-    orcrun-requires-2
-    loop-less
-    loop-again
-    sub-write-all
-    part-write-all-start
-    part-write-all-end
-    write-all-requires-2
-    same-length
-    returns)
+    (tie.spec Inv-loop μ-loop orcrun-requires loop-holds write-all-requires sub-left add-from orcrun-requires-2 loop-less loop-again
+    sub-write-all part-write-all-start part-write-all-end write-all-requires-2 same-length returns)

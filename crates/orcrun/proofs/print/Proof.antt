@@ -75,20 +75,5 @@ returns c = search needs
 pub print-spec : {M : Type 1} → statement M
 print-spec =
     tie.close
-    (tie.spec
-    Inv-loop
-    μ-loop
-    orcrun-requires
-    loop-holds
-    write-piece-requires
-    sub-left
-    add-from
-    orcrun-requires-2
-    loop-less
-    loop-again
-    sub-write-piece
-    part-write-piece-start
-    part-write-piece-end
-    write-piece-requires-2
-    same-length
-    returns)
+    (tie.spec Inv-loop μ-loop orcrun-requires loop-holds write-piece-requires sub-left add-from orcrun-requires-2 loop-less loop-again
+    sub-write-piece part-write-piece-start part-write-piece-end write-piece-requires-2 same-length returns)

@@ -40,15 +40,5 @@ returns-2 c = search needs
 pub main-spec : {M : Type 1} → statement M
 main-spec =
     tie.close
-    (tie.spec
-    Inv-loop
-    μ-loop
-    large-buffer-requires
-    slice-aggregate-case
-    loop-holds
-    next-requires
-    returns
-    add-counter
-    loop-less
-    loop-again
+    (tie.spec Inv-loop μ-loop large-buffer-requires slice-aggregate-case loop-holds next-requires returns add-counter loop-less loop-again
     returns-2)

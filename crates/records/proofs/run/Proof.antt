@@ -65,23 +65,5 @@ returns-3 c = search needs
 pub run-spec : {M : Type 1} → statement M
 run-spec =
     tie.close
-    (tie.spec
-    Inv-loop
-    μ-loop
-    returns
-    shared-slice-read-behind-name
-    behind-name-requires
-    returns-2
-    loop-holds
-    sub-loop
-    read-row-requires
-    put-dag-requires
-    put-record-requires
-    sub-called
-    part-called-start
-    part-called-end
-    called-requires
-    add-at
-    loop-less
-    loop-again
-    returns-3)
+    (tie.spec Inv-loop μ-loop returns shared-slice-read-behind-name behind-name-requires returns-2 loop-holds sub-loop read-row-requires
+    put-dag-requires put-record-requires sub-called part-called-start part-called-end called-requires add-at loop-less loop-again returns-3)

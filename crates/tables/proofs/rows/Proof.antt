@@ -46,17 +46,5 @@ returns c = search needs
 pub rows-spec : {M : Type 1} → statement M
 rows-spec =
     tie.close
-    (tie.spec
-    Inv-loop
-    μ-loop
-    loop-holds
-    slice-aggregate-text
-    text-requires
-    mul-at
-    add-at
-    add-words
-    words-requires
-    add-i
-    loop-less
-    loop-again
-    returns)
+    (tie.spec Inv-loop μ-loop loop-holds slice-aggregate-text text-requires mul-at add-at add-words words-requires add-i loop-less
+    loop-again returns)

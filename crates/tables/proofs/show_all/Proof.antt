@@ -83,29 +83,6 @@ returns-2 c = search needs
 pub show-all-spec : {M : Type 1} → statement M
 show-all-spec =
     tie.close
-    (tie.spec
-    Inv-loop
-    μ-loop
-    loop-holds
-    add-loop
-    add-from
-    shared-slice-read-four-bytes
-    add-four-bytes
-    shared-slice-read-four-bytes-2
-    add-four-bytes-2
-    shared-slice-read-four-bytes-3
-    add-four-bytes-3
-    shared-slice-read-four-bytes-4
-    four-bytes-requires
-    sub-if1
-    slice-aggregate-text
-    text-requires
-    returns
-    add-to
-    sub-show
-    part-show-start
-    part-show-end
-    show-requires
-    loop-less
-    loop-again
-    returns-2)
+    (tie.spec Inv-loop μ-loop loop-holds add-loop add-from shared-slice-read-four-bytes add-four-bytes shared-slice-read-four-bytes-2
+    add-four-bytes-2 shared-slice-read-four-bytes-3 add-four-bytes-3 shared-slice-read-four-bytes-4 four-bytes-requires sub-if1
+    slice-aggregate-text text-requires returns add-to sub-show part-show-start part-show-end show-requires loop-less loop-again returns-2)

@@ -43,16 +43,5 @@ returns c = search needs
 pub words-spec : {M : Type 1} → statement M
 words-spec =
     tie.close
-    (tie.spec
-    Inv-loop
-    μ-loop
-    loop-holds
-    mul-word
-    element-copy-out-word
-    word-requires
-    add-i
-    loop-less
-    loop-again
-    slice-aggregate-text
-    text-requires
-    returns)
+    (tie.spec Inv-loop μ-loop loop-holds mul-word element-copy-out-word word-requires add-i loop-less loop-again slice-aggregate-text
+    text-requires returns)

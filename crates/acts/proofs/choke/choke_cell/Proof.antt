@@ -74,14 +74,5 @@ returns c = λ m a.
 pub choke-cell-spec : {M : Type 1} → statement M
 choke-cell-spec =
     tie.close
-    (tie.spec
-    cell-requires
-    wide-requires
-    value-kind-requires
-    value-requires
-    marked-end-requires
-    sub-written
-    written-requires
-    sweep-to-requires
-    plain-requires
-    returns)
+    (tie.spec cell-requires wide-requires value-kind-requires value-requires marked-end-requires sub-written written-requires
+    sweep-to-requires plain-requires returns)

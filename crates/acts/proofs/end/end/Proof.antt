@@ -37,12 +37,4 @@ returns-2 c = λ m dag a. end-gives a _ _ (c .plain2 .ensures)
 pub end-spec : {M : Type 1} → statement M
 end-spec =
     tie.close
-    (tie.spec
-    names-requires
-    written-requires
-    sweep-requires
-    plain-requires
-    returns
-    element-write-tokens
-    plain-requires-2
-    returns-2)
+    (tie.spec names-requires written-requires sweep-requires plain-requires returns element-write-tokens plain-requires-2 returns-2)

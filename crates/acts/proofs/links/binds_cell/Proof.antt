@@ -47,13 +47,4 @@ returns-2 c = λ m h e. no-cell-all (tokenAt (m .tokens) (c .before .before .arg
 pub binds-cell-spec : {M : Type 1} → statement M
 binds-cell-spec =
     tie.close
-    (tie.spec
-    Inv-loop
-    μ-loop
-    loop-holds
-    bind-kind-requires
-    returns
-    add-x
-    loop-less
-    loop-again
-    returns-2)
+    (tie.spec Inv-loop μ-loop loop-holds bind-kind-requires returns add-x loop-less loop-again returns-2)

@@ -54,12 +54,4 @@ returns c = λ m a.
 pub assign-spec : {M : Type 1} → statement M
 assign-spec =
     tie.close
-    (tie.spec
-    add-dag-word
-    dag-word-requires
-    wide-requires
-    value-requires
-    add-dag-word-2
-    dag-word-requires-2
-    rebind-requires
-    returns)
+    (tie.spec add-dag-word dag-word-requires wide-requires value-requires add-dag-word-2 dag-word-requires-2 rebind-requires returns)

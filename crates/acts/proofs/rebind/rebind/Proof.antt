@@ -36,11 +36,4 @@ returns-2 c = λ m dag s a n e f. rebind-gives a _ _ s _ (c .plain2 .ensures)
 pub rebind-spec : {M : Type 1} → statement M
 rebind-spec =
     tie.close
-    (tie.spec
-    bind-kind-requires
-    written-requires
-    sweep-requires
-    plain-requires
-    returns
-    plain-requires-2
-    returns-2)
+    (tie.spec bind-kind-requires written-requires sweep-requires plain-requires returns plain-requires-2 returns-2)

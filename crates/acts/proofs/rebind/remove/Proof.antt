@@ -43,11 +43,4 @@ returns c = λ m a.
 pub remove-spec : {M : Type 1} → statement M
 remove-spec =
     tie.close
-    (tie.spec
-    add-dag-word
-    dag-word-requires
-    wide-requires
-    add-dag-word-2
-    dag-word-requires-2
-    rebind-requires
-    returns)
+    (tie.spec add-dag-word dag-word-requires wide-requires add-dag-word-2 dag-word-requires-2 rebind-requires returns)

@@ -59,17 +59,5 @@ returns-2 c = λ m k l.
 pub outside-spec : {M : Type 1} → statement M
 outside-spec =
     tie.close
-    (tie.spec
-    calls-made-requires
-    plain-requires
-    returns
-    add-dag-word
-    dag-word-requires
-    call-out-requires
-    add-dag-word-2
-    dag-word-requires-2
-    cast-site
-    add-dag-word-3
-    dag-word-requires-3
-    cast-count
-    returns-2)
+    (tie.spec calls-made-requires plain-requires returns add-dag-word dag-word-requires call-out-requires add-dag-word-2 dag-word-requires-2
+    cast-site add-dag-word-3 dag-word-requires-3 cast-count returns-2)

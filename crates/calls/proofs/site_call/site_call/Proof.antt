@@ -77,14 +77,5 @@ returns-3 c = λ m a.
 pub site-call-spec : {M : Type 1} → statement M
 site-call-spec =
     tie.close
-    (tie.spec
-    look-up-requires
-    wait-requires
-    plain-requires
-    returns
-    add-dag-word
-    dag-word-requires
-    built-in-requires
-    returns-2
-    outside-requires
-    returns-3)
+    (tie.spec look-up-requires wait-requires plain-requires returns add-dag-word dag-word-requires built-in-requires returns-2
+    outside-requires returns-3)

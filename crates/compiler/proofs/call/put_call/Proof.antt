@@ -54,18 +54,5 @@ returns c =
 pub put-call-spec : {M : Type 1} → statement M
 put-call-spec =
     tie.close
-    (tie.spec
-    operand-requires
-    cast-n
-    mul-base
-    add-base
-    shared-slice-read-put-four
-    cast-put-four
-    put-four-requires
-    add-put-places
-    add-put-places-2
-    put-places-requires
-    add-put-places-3
-    add-put-places-4
-    put-places-requires-2
-    returns)
+    (tie.spec operand-requires cast-n mul-base add-base shared-slice-read-put-four cast-put-four put-four-requires add-put-places
+    add-put-places-2 put-places-requires add-put-places-3 add-put-places-4 put-places-requires-2 returns)

@@ -37,12 +37,5 @@ returns c =
 pub put-places-spec : {M : Type 1} → statement M
 put-places-spec =
     tie.close
-    (tie.spec
-    kind-word-requires
-    operand-word-requires
-    add-kind-word
-    kind-word-requires-2
-    add-operand-word
-    operand-word-requires-2
-    put-four-requires
-    returns)
+    (tie.spec kind-word-requires operand-word-requires add-kind-word kind-word-requires-2 add-operand-word operand-word-requires-2
+    put-four-requires returns)

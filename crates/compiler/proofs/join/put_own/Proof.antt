@@ -51,16 +51,5 @@ returns-3 c =
 pub put-own-spec : {M : Type 1} → statement M
 put-own-spec =
     tie.close
-    (tie.spec
-    put-requires
-    returns
-    put-requires-2
-    add-put
-    put-requires-3
-    returns-2
-    put-requires-4
-    add-put-2
-    put-requires-5
-    add-put-3
-    put-requires-6
-    returns-3)
+    (tie.spec put-requires returns put-requires-2 add-put put-requires-3 returns-2 put-requires-4 add-put-2 put-requires-5 add-put-3
+    put-requires-6 returns-3)

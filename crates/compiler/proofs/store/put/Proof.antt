@@ -71,24 +71,6 @@ returns c =
 pub put-spec : {M : Type 1} → statement M
 put-spec =
     tie.close
-    (tie.spec
-    mul-base
-    add-base
-    array-read-put-four
-    array-read-put-four-2
-    array-read-put-four-3
-    array-read-put-four-4
-    put-four-requires
-    add-put-four
-    array-read-put-four-5
-    array-read-put-four-6
-    array-read-put-four-7
-    array-read-put-four-8
-    put-four-requires-2
-    add-put-four-2
-    array-read-put-four-9
-    array-read-put-four-10
-    array-read-put-four-11
-    array-read-put-four-12
-    put-four-requires-3
-    returns)
+    (tie.spec mul-base add-base array-read-put-four array-read-put-four-2 array-read-put-four-3 array-read-put-four-4 put-four-requires
+    add-put-four array-read-put-four-5 array-read-put-four-6 array-read-put-four-7 array-read-put-four-8 put-four-requires-2 add-put-four-2
+    array-read-put-four-9 array-read-put-four-10 array-read-put-four-11 array-read-put-four-12 put-four-requires-3 returns)

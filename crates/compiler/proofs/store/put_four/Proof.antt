@@ -43,16 +43,5 @@ returns c = rw (add-one, add-two, add-three)
 pub put-four-spec : {M : Type 1} → statement M
 put-four-spec =
     tie.close
-    (tie.spec
-    mul-dag
-    element-write-dag
-    add-dag
-    mul-dag-2
-    element-write-dag-2
-    add-dag-2
-    mul-dag-3
-    element-write-dag-3
-    add-dag-3
-    mul-dag-4
-    element-write-dag-4
-    returns)
+    (tie.spec mul-dag element-write-dag add-dag mul-dag-2 element-write-dag-2 add-dag-2 mul-dag-3 element-write-dag-3 add-dag-3 mul-dag-4
+    element-write-dag-4 returns)

@@ -29,10 +29,4 @@ returns c = search needs
 pub value-spec : {M : Type 1} → statement M
 value-spec =
     tie.close
-    (tie.spec
-    slice-aggregate-put
-    put-requires
-    slice-aggregate-put-signed
-    put-signed-requires
-    put-digits-requires
-    returns)
+    (tie.spec slice-aggregate-put put-requires slice-aggregate-put-signed put-signed-requires put-digits-requires returns)

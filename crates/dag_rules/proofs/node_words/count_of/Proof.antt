@@ -25,8 +25,4 @@ returns-4 c = sym (count-past _ _ (none-below 3 _ (c .match .rest)))
 pub count-of-spec : {M : Type 1} → statement M
 count-of-spec =
     tie.close
-    (tie.spec
-    returns
-    returns-2
-    returns-3
-    returns-4)
+    (tie.spec returns returns-2 returns-3 returns-4)

@@ -14,6 +14,4 @@ returns-2 c = rw (c .if1 .left, both-is) (sym (pair-unnamed _ _))
 pub pair-holds-spec : {M : Type 1} → statement M
 pair-holds-spec =
     tie.close
-    (tie.spec
-    returns
-    returns-2)
+    (tie.spec returns returns-2)

@@ -68,14 +68,5 @@ returns-2 c =
 pub put-signed-spec : {M : Type 1} → statement M
 put-signed-spec =
     tie.close
-    (tie.spec
-    slice-write-buffer
-    add-put-decimal
-    magnitude-requires
-    put-decimal-requires
-    same-length
-    returns
-    magnitude-requires-2
-    put-decimal-requires-2
-    same-length-2
-    returns-2)
+    (tie.spec slice-write-buffer add-put-decimal magnitude-requires put-decimal-requires same-length returns magnitude-requires-2
+    put-decimal-requires-2 same-length-2 returns-2)

@@ -69,23 +69,6 @@ returns-3 c = search decimal-one
 pub put-decimal-spec : {M : Type 1} → statement M
 put-decimal-spec =
     tie.close
-    (tie.spec
-    put-digits-requires
-    same-length
-    returns
-    cast-buffer
-    add-buffer
-    slice-write-buffer
-    cast-buffer-2
-    add-buffer-2
-    add-buffer-3
-    slice-write-buffer-2
-    add-result
-    same-length-2
-    returns-2
-    cast-buffer-3
-    add-buffer-4
-    slice-write-buffer-3
-    add-result-2
-    same-length-3
+    (tie.spec put-digits-requires same-length returns cast-buffer add-buffer slice-write-buffer cast-buffer-2 add-buffer-2 add-buffer-3
+    slice-write-buffer-2 add-result same-length-2 returns-2 cast-buffer-3 add-buffer-4 slice-write-buffer-3 add-result-2 same-length-3
     returns-3)

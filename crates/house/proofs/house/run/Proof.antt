@@ -38,10 +38,4 @@ returns c = search needs
 pub run-spec : {M : Type 1} → statement M
 run-spec =
     tie.close
-    (tie.spec
-    whole-requires
-    element-copy-out-start
-    start-requires
-    run-turns-requires
-    same-length
-    returns)
+    (tie.spec whole-requires element-copy-out-start start-requires run-turns-requires same-length returns)

@@ -150,26 +150,6 @@ loop-again-2 c =
 pub run-turns-spec : {M : Type 1} → statement M
 run-turns-spec =
     tie.close
-    (tie.spec
-    Inv-loop
-    μ-loop
-    loop-holds
-    queued-requires
-    sub-left
-    show-last-requires
-    same-length
-    returns
-    deliver-turn-requires
-    add-at
-    loop-less
-    loop-again
-    show-limit-requires
-    same-length-2
-    returns-2
-    step-turn-requires
-    show-end-requires
-    same-length-3
-    returns-3
-    add-steps
-    loop-less-2
-    loop-again-2)
+    (tie.spec Inv-loop μ-loop loop-holds queued-requires sub-left show-last-requires same-length returns deliver-turn-requires add-at
+    loop-less loop-again show-limit-requires same-length-2 returns-2 step-turn-requires show-end-requires same-length-3 returns-3 add-steps
+    loop-less-2 loop-again-2)

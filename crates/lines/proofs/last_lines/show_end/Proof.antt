@@ -61,16 +61,5 @@ returns-2 c =
 pub show-end-spec : {M : Type 1} → statement M
 show-end-spec =
     tie.close
-    (tie.spec
-    has-room-requires
-    sub-put-end
-    put-end-requires
-    add-result
-    same-length
-    returns
-    slice-aggregate-put-end
-    put-end-requires-2
-    slice-aggregate-show-front
-    show-front-requires
-    same-length-2
-    returns-2)
+    (tie.spec has-room-requires sub-put-end put-end-requires add-result same-length returns slice-aggregate-put-end put-end-requires-2
+    slice-aggregate-show-front show-front-requires same-length-2 returns-2)

@@ -55,14 +55,5 @@ returns-2 c =
 pub show-last-spec : {M : Type 1} → statement M
 show-last-spec =
     tie.close
-    (tie.spec
-    show-end-requires
-    same-length
-    returns
-    slice-aggregate-put-short
-    put-short-requires
-    slice-aggregate-show-front
-    show-front-requires
-    show-end-requires-2
-    same-length-2
-    returns-2)
+    (tie.spec show-end-requires same-length returns slice-aggregate-put-short put-short-requires slice-aggregate-show-front
+    show-front-requires show-end-requires-2 same-length-2 returns-2)

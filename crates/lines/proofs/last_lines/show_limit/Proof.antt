@@ -43,11 +43,5 @@ returns c =
 pub show-limit-spec : {M : Type 1} → statement M
 show-limit-spec =
     tie.close
-    (tie.spec
-    slice-aggregate-put-limit
-    put-limit-requires
-    slice-aggregate-show-front
-    show-front-requires
-    show-end-requires
-    same-length
+    (tie.spec slice-aggregate-put-limit put-limit-requires slice-aggregate-show-front show-front-requires show-end-requires same-length
     returns)

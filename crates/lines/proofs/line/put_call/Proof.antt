@@ -45,12 +45,5 @@ returns c =
 pub put-call-spec : {M : Type 1} → statement M
 put-call-spec =
     tie.close
-    (tie.spec
-    slice-aggregate-put-word
-    put-word-requires
-    put-number-requires
-    put-number-requires-2
-    put-value-list-requires
-    put-feed-requires
-    same-length
-    returns)
+    (tie.spec slice-aggregate-put-word put-word-requires put-number-requires put-number-requires-2 put-value-list-requires put-feed-requires
+    same-length returns)

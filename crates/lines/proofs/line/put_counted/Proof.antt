@@ -32,9 +32,4 @@ returns c =
 pub put-counted-spec : {M : Type 1} → statement M
 put-counted-spec =
     tie.close
-    (tie.spec
-    put-word-requires
-    put-number-requires
-    put-feed-requires
-    same-length
-    returns)
+    (tie.spec put-word-requires put-number-requires put-feed-requires same-length returns)

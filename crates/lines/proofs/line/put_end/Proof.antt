@@ -21,8 +21,4 @@ returns c = c .before .before .put-counted .ensures
 pub put-end-spec : {M : Type 1} → statement M
 put-end-spec =
     tie.close
-    (tie.spec
-    slice-aggregate-put-counted
-    put-counted-requires
-    same-length
-    returns)
+    (tie.spec slice-aggregate-put-counted put-counted-requires same-length returns)

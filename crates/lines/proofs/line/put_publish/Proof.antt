@@ -37,10 +37,4 @@ returns c =
 pub put-publish-spec : {M : Type 1} → statement M
 put-publish-spec =
     tie.close
-    (tie.spec
-    slice-aggregate-put-word
-    put-word-requires
-    put-value-requires
-    put-feed-requires
-    same-length
-    returns)
+    (tie.spec slice-aggregate-put-word put-word-requires put-value-requires put-feed-requires same-length returns)

@@ -42,11 +42,4 @@ returns c =
 pub put-table-spec : {M : Type 1} → statement M
 put-table-spec =
     tie.close
-    (tie.spec
-    slice-aggregate-put-word
-    put-word-requires
-    put-number-requires
-    put-number-requires-2
-    put-feed-requires
-    same-length
-    returns)
+    (tie.spec slice-aggregate-put-word put-word-requires put-number-requires put-number-requires-2 put-feed-requires same-length returns)

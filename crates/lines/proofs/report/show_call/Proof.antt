@@ -65,16 +65,5 @@ returns-2 c =
 pub show-call-spec : {M : Type 1} → statement M
 show-call-spec =
     tie.close
-    (tie.spec
-    has-room-requires
-    sub-put-call
-    put-call-requires
-    add-result
-    same-length
-    returns
-    slice-aggregate-put-call
-    put-call-requires-2
-    slice-aggregate-show-front
-    show-front-requires
-    same-length-2
-    returns-2)
+    (tie.spec has-room-requires sub-put-call put-call-requires add-result same-length returns slice-aggregate-put-call put-call-requires-2
+    slice-aggregate-show-front show-front-requires same-length-2 returns-2)

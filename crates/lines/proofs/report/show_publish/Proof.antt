@@ -70,16 +70,5 @@ returns-2 c =
 pub show-publish-spec : {M : Type 1} → statement M
 show-publish-spec =
     tie.close
-    (tie.spec
-    has-room-requires
-    sub-put-publish
-    put-publish-requires
-    add-result
-    same-length
-    returns
-    slice-aggregate-put-publish
-    put-publish-requires-2
-    slice-aggregate-show-front
-    show-front-requires
-    same-length-2
-    returns-2)
+    (tie.spec has-room-requires sub-put-publish put-publish-requires add-result same-length returns slice-aggregate-put-publish
+    put-publish-requires-2 slice-aggregate-show-front show-front-requires same-length-2 returns-2)

@@ -65,16 +65,5 @@ returns-2 c =
 pub show-refused-spec : {M : Type 1} → statement M
 show-refused-spec =
     tie.close
-    (tie.spec
-    has-room-requires
-    sub-put-refused
-    put-refused-requires
-    add-result
-    same-length
-    returns
-    slice-aggregate-put-refused
-    put-refused-requires-2
-    slice-aggregate-show-front
-    show-front-requires
-    same-length-2
-    returns-2)
+    (tie.spec has-room-requires sub-put-refused put-refused-requires add-result same-length returns slice-aggregate-put-refused
+    put-refused-requires-2 slice-aggregate-show-front show-front-requires same-length-2 returns-2)

@@ -77,22 +77,6 @@ returns-5 c =
 pub show-reply-spec : {M : Type 1} → statement M
 show-reply-spec =
     tie.close
-    (tie.spec
-    enum-told
-    enum-told-2
-    enum-known-reply
-    show-publish-requires
-    enum-known-reply-2
-    at-most-four-requires
-    show-call-requires
-    enum-known-reply-3
-    number-of-requires
-    show-refused-requires
-    returns
-    returns-2
-    same-length
-    returns-3
-    same-length-2
-    returns-4
-    same-length-3
-    returns-5)
+    (tie.spec enum-told enum-told-2 enum-known-reply show-publish-requires enum-known-reply-2 at-most-four-requires show-call-requires
+    enum-known-reply-3 number-of-requires show-refused-requires returns returns-2 same-length returns-3 same-length-2 returns-4
+    same-length-3 returns-5)

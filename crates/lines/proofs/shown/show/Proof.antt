@@ -48,16 +48,5 @@ returns c = search line-shown
 pub show-spec : {M : Type 1} → statement M
 show-spec =
     tie.close
-    (tie.spec
-    Inv-loop
-    μ-loop
-    loop-holds
-    add-show-byte
-    shared-slice-read-show-byte
-    show-byte-requires
-    add-i
-    loop-less
-    loop-again
-    add-result
-    same-length
-    returns)
+    (tie.spec Inv-loop μ-loop loop-holds add-show-byte shared-slice-read-show-byte show-byte-requires add-i loop-less loop-again add-result
+    same-length returns)

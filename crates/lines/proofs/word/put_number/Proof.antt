@@ -28,9 +28,4 @@ returns c = then-written (one-written _ _ 32) (c .before .before .put-decimal .e
 pub put-number-spec : {M : Type 1} → statement M
 put-number-spec =
     tie.close
-    (tie.spec
-    slice-write-buffer
-    add-put-decimal
-    put-decimal-requires
-    same-length
-    returns)
+    (tie.spec slice-write-buffer add-put-decimal put-decimal-requires same-length returns)

@@ -34,9 +34,4 @@ returns c =
 pub put-value-spec : {M : Type 1} → statement M
 put-value-spec =
     tie.close
-    (tie.spec
-    slice-write-buffer
-    add-put-signed
-    put-signed-requires
-    same-length
-    returns)
+    (tie.spec slice-write-buffer add-put-signed put-signed-requires same-length returns)

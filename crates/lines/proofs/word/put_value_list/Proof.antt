@@ -135,21 +135,6 @@ returns-5 c =
 pub put-value-list-spec : {M : Type 1} → statement M
 put-value-list-spec =
     tie.close
-    (tie.spec
-    returns
-    array-copy-out-put-value
-    put-value-requires
-    same-length
-    returns-2
-    array-copy-out-put-value-2
-    put-value-requires-2
-    same-length-2
-    returns-3
-    array-copy-out-put-value-3
-    put-value-requires-3
-    same-length-3
-    returns-4
-    array-copy-out-put-value-4
-    put-value-requires-4
-    same-length-4
-    returns-5)
+    (tie.spec returns array-copy-out-put-value put-value-requires same-length returns-2 array-copy-out-put-value-2 put-value-requires-2
+    same-length-2 returns-3 array-copy-out-put-value-3 put-value-requires-3 same-length-3 returns-4 array-copy-out-put-value-4
+    put-value-requires-4 same-length-4 returns-5)

@@ -45,15 +45,4 @@ returns c = search word-written
 pub put-word-spec : {M : Type 1} → statement M
 put-word-spec =
     tie.close
-    (tie.spec
-    Inv-loop
-    μ-loop
-    loop-holds
-    shared-slice-read-buffer
-    slice-write-buffer
-    add-to
-    add-i
-    loop-less
-    loop-again
-    same-length
-    returns)
+    (tie.spec Inv-loop μ-loop loop-holds shared-slice-read-buffer slice-write-buffer add-to add-i loop-less loop-again same-length returns)

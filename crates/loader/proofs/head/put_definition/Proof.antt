@@ -31,12 +31,4 @@ returns c = rw add-one
 pub put-definition-spec : {M : Type 1} → statement M
 put-definition-spec =
     tie.close
-    (tie.spec
-    mul-at
-    add-at
-    mul-dag
-    element-write-dag
-    add-dag
-    mul-dag-2
-    element-write-dag-2
-    returns)
+    (tie.spec mul-at add-at mul-dag element-write-dag add-dag mul-dag-2 element-write-dag-2 returns)

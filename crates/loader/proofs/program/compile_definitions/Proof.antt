@@ -81,21 +81,5 @@ returns c = writing-end _ _ _ _ _ _ _ _ _ (c .before .loop .inv) (c .loop-test .
 pub compile-definitions-spec : {M : Type 1} → statement M
 compile-definitions-spec =
     tie.close
-    (tie.spec
-    Inv-loop
-    μ-loop
-    loop-holds
-    operand-requires
-    mul-sink
-    element-copy-out-sink
-    cast-sink
-    add-sink
-    sub-sink
-    of-formals-requires
-    add-compile-body
-    compile-body-requires
-    put-definition-requires
-    add-i
-    loop-less
-    loop-again
-    returns)
+    (tie.spec Inv-loop μ-loop loop-holds operand-requires mul-sink element-copy-out-sink cast-sink add-sink sub-sink of-formals-requires
+    add-compile-body compile-body-requires put-definition-requires add-i loop-less loop-again returns)

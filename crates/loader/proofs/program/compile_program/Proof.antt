@@ -54,12 +54,5 @@ returns c =
 pub compile-program-spec : {M : Type 1} → statement M
 compile-program-spec =
     tie.close
-    (tie.spec
-    compile-definitions-requires
-    of-formals-requires
-    sub-compile-body
-    compile-body-requires
-    cast-put-sizes
-    cast-put-sizes-2
-    put-sizes-requires
-    returns)
+    (tie.spec compile-definitions-requires of-formals-requires sub-compile-body compile-body-requires cast-put-sizes cast-put-sizes-2
+    put-sizes-requires returns)

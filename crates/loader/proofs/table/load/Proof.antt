@@ -111,23 +111,7 @@ returns-2 c =
 pub load-spec : {M : Type 1} → statement M
 load-spec =
     tie.close
-    (tie.spec
-    check-table-requires
-    enum-known-answer
-    enum-known-answer-2
-    shared-slice-read-half
-    shared-slice-read-half-2
-    half-requires
-    shared-slice-read-half-3
-    shared-slice-read-half-4
-    half-requires-2
-    add-e
-    sub-compile-program
-    part-compile-program-start
-    part-compile-program-end
-    sub-compile-program-2
-    part-compile-program-start-2
-    part-compile-program-end-2
-    compile-program-requires
-    returns
+    (tie.spec check-table-requires enum-known-answer enum-known-answer-2 shared-slice-read-half shared-slice-read-half-2 half-requires
+    shared-slice-read-half-3 shared-slice-read-half-4 half-requires-2 add-e sub-compile-program part-compile-program-start
+    part-compile-program-end sub-compile-program-2 part-compile-program-start-2 part-compile-program-end-2 compile-program-requires returns
     returns-2)

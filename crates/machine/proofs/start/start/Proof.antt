@@ -31,11 +31,4 @@ returns-2 c = start-refused _ _ _ (sym (c .before .if1 .left) ∙ c .before .bef
 pub start-spec : {M : Type 1} → statement M
 start-spec =
     tie.close
-    (tie.spec
-    dag-holds-requires
-    element-copy-out-start
-    start-requires
-    plain-requires
-    returns
-    plain-requires-2
-    returns-2)
+    (tie.spec dag-holds-requires element-copy-out-start start-requires plain-requires returns plain-requires-2 returns-2)

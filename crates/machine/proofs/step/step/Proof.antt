@@ -60,13 +60,4 @@ returns-3 c = let a = c .before .before .before .before .before .before .before 
 pub step-spec : {M : Type 1} → statement M
 step-spec =
     tie.close
-    (tie.spec
-    is-lawful-requires
-    plain-requires
-    returns
-    queued-requires
-    wide-requires
-    plain-requires-2
-    returns-2
-    step-requires
-    returns-3)
+    (tie.spec is-lawful-requires plain-requires returns queued-requires wide-requires plain-requires-2 returns-2 step-requires returns-3)

@@ -64,16 +64,5 @@ returns c rest =
 pub left-out-spec : {M : Type 1} → statement M
 left-out-spec =
     tie.close
-    (tie.spec
-    Inv-loop
-    μ-loop
-    loop-holds
-    sub-i
-    mul-here
-    slice-read-here
-    mul-names
-    slice-write-names
-    loop-less
-    loop-again
-    same-length
+    (tie.spec Inv-loop μ-loop loop-holds sub-i mul-here slice-read-here mul-names slice-write-names loop-less loop-again same-length
     returns)

@@ -65,20 +65,5 @@ returns c = retained-all (c .before .loop .inv) (omega arith) (omega arith) (ome
 pub retained-spec : {M : Type 1} → statement M
 retained-spec =
     tie.close
-    (tie.spec
-    Inv-loop
-    μ-loop
-    loop-holds
-    mul-name
-    slice-read-name
-    mul-names
-    slice-write-names
-    is-marked-requires
-    mul-names-2
-    slice-write-names-2
-    add-n
-    add-i
-    loop-less
-    loop-again
-    same-length
-    returns)
+    (tie.spec Inv-loop μ-loop loop-holds mul-name slice-read-name mul-names slice-write-names is-marked-requires mul-names-2
+    slice-write-names-2 add-n add-i loop-less loop-again same-length returns)

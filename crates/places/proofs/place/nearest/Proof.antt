@@ -59,17 +59,5 @@ returns-2 c = λ last e. nearest-place _ (search needs) _ _ _ (search needs) (c 
 pub nearest-spec : {M : Type 1} → statement M
 nearest-spec =
     tie.close
-    (tie.spec
-    Inv-loop
-    μ-loop
-    loop-holds
-    cast-distance
-    shared-slice-read-distance
-    distance-requires
-    add-i
-    loop-less
-    loop-again
-    returns
-    add-result
-    cast-result
-    returns-2)
+    (tie.spec Inv-loop μ-loop loop-holds cast-distance shared-slice-read-distance distance-requires add-i loop-less loop-again returns
+    add-result cast-result returns-2)

@@ -49,17 +49,5 @@ returns-2 c = search (needs, place-none)
 pub next-of-spec : {M : Type 1} → statement M
 next-of-spec =
     tie.close
-    (tie.spec
-    Inv-loop
-    μ-loop
-    wide-requires
-    add-p
-    loop-holds
-    around-requires
-    shared-slice-read-if1
-    returns
-    add-p-2
-    add-n
-    loop-less
-    loop-again
-    returns-2)
+    (tie.spec Inv-loop μ-loop wide-requires add-p loop-holds around-requires shared-slice-read-if1 returns add-p-2 add-n loop-less
+    loop-again returns-2)

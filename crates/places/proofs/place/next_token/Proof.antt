@@ -50,16 +50,5 @@ returns-3 c = c .nearest .ensures _ (cc)
 pub next-token-spec : {M : Type 1} → statement M
 next-token-spec =
     tie.close
-    (tie.spec
-    wide-requires
-    add-around
-    around-requires
-    shared-slice-read-if1
-    returns
-    add-around-2
-    around-requires-2
-    shared-slice-read-if2
-    returns-2
-    cast-nearest
-    nearest-requires
-    returns-3)
+    (tie.spec wide-requires add-around around-requires shared-slice-read-if1 returns add-around-2 around-requires-2 shared-slice-read-if2
+    returns-2 cast-nearest nearest-requires returns-3)

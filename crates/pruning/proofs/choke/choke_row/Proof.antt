@@ -77,15 +77,5 @@ returns-4 c = λ m h.
 pub choke-row-spec : {M : Type 1} → statement M
 choke-row-spec =
     tie.close
-    (tie.spec
-    cell-requires
-    is-within-requires
-    blank-requires
-    returns
-    state-requires
-    state-number-requires
-    wide-requires
-    set-state-requires
-    returns-2
-    returns-3
-    returns-4)
+    (tie.spec cell-requires is-within-requires blank-requires returns state-requires state-number-requires wide-requires set-state-requires
+    returns-2 returns-3 returns-4)

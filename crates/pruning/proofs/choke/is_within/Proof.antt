@@ -64,17 +64,5 @@ returns-4 c = λ m q h e. walk-out (m .cells) _ _ _ (omega (arith, c .loop-test 
 pub is-within-spec : {M : Type 1} → statement M
 is-within-spec =
     tie.close
-    (tie.spec
-    Inv-loop
-    μ-loop
-    loop-holds
-    returns
-    wide-requires
-    sub-b
-    returns-2
-    returns-3
-    parent-requires
-    sub-left
-    loop-less
-    loop-again
+    (tie.spec Inv-loop μ-loop loop-holds returns wide-requires sub-b returns-2 returns-3 parent-requires sub-left loop-less loop-again
     returns-4)

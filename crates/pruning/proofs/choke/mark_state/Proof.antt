@@ -64,13 +64,4 @@ returns c =
 pub mark-state-spec : {M : Type 1} → statement M
 mark-state-spec =
     tie.close
-    (tie.spec
-    Inv-loop
-    μ-loop
-    loop-holds
-    state-requires
-    element-write-marks
-    add-p
-    loop-less
-    loop-again
-    returns)
+    (tie.spec Inv-loop μ-loop loop-holds state-requires element-write-marks add-p loop-less loop-again returns)

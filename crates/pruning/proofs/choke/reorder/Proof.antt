@@ -43,10 +43,4 @@ returns c = λ m h blank l.
 pub reorder-spec : {M : Type 1} → statement M
 reorder-spec =
     tie.close
-    (tie.spec
-    mark-state-requires
-    mark-state-requires-2
-    retain-queue-requires
-    wake-requires
-    retain-waits-requires
-    returns)
+    (tie.spec mark-state-requires mark-state-requires-2 retain-queue-requires wake-requires retain-waits-requires returns)

@@ -75,16 +75,5 @@ returns-2 c = λ m h l.
 pub wake-spec : {M : Type 1} → statement M
 wake-spec =
     tie.close
-    (tie.spec
-    Inv-loop
-    μ-loop
-    waiting-requires
-    wide-requires
-    returns
-    loop-holds
-    wait-name-requires
-    join-marked-requires
-    add-i
-    loop-less
-    loop-again
-    returns-2)
+    (tie.spec Inv-loop μ-loop waiting-requires wide-requires returns loop-holds wait-name-requires join-marked-requires add-i loop-less
+    loop-again returns-2)

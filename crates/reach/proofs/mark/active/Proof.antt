@@ -32,11 +32,4 @@ returns-3 c =
 pub active-spec : {M : Type 1} → statement M
 active-spec =
     tie.close
-    (tie.spec
-    state-requires
-    returns
-    returns-2
-    cell-requires
-    wide-requires
-    under-set-requires
-    returns-3)
+    (tie.spec state-requires returns returns-2 cell-requires wide-requires under-set-requires returns-3)

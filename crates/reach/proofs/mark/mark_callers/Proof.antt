@@ -91,23 +91,5 @@ returns-4 c = λ m h. let l = c .before .loop in chain-over _ _ _ 64 (l .n) (l .
 pub mark-callers-spec : {M : Type 1} → statement M
 mark-callers-spec =
     tie.close
-    (tie.spec
-    Inv-loop
-    μ-loop
-    loop-holds
-    same-length
-    returns
-    sub-p
-    same-length-2
-    returns-2
-    slice-read-if3
-    same-length-3
-    returns-3
-    slice-write-marks
-    caller-requires
-    wide-requires
-    add-n
-    loop-less
-    loop-again
-    same-length-4
-    returns-4)
+    (tie.spec Inv-loop μ-loop loop-holds same-length returns sub-p same-length-2 returns-2 slice-read-if3 same-length-3 returns-3
+    slice-write-marks caller-requires wide-requires add-n loop-less loop-again same-length-4 returns-4)

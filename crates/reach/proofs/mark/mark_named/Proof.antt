@@ -77,17 +77,5 @@ returns c =
 pub mark-named-spec : {M : Type 1} → statement M
 mark-named-spec =
     tie.close
-    (tie.spec
-    Inv-loop
-    μ-loop
-    cell-requires
-    wide-requires
-    mark-parents-requires
-    loop-holds
-    bound-requires
-    mark-parents-requires-2
-    add-x
-    loop-less
-    loop-again
-    same-length
-    returns)
+    (tie.spec Inv-loop μ-loop cell-requires wide-requires mark-parents-requires loop-holds bound-requires mark-parents-requires-2 add-x
+    loop-less loop-again same-length returns)

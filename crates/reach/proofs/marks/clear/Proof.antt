@@ -45,13 +45,4 @@ returns c = let l = c .before .loop in fill-all _ (l .marks) _ (l .i) (length-re
 pub clear-spec : {M : Type 1} → statement M
 clear-spec =
     tie.close
-    (tie.spec
-    Inv-loop
-    μ-loop
-    loop-holds
-    slice-write-marks
-    add-i
-    loop-less
-    loop-again
-    same-length
-    returns)
+    (tie.spec Inv-loop μ-loop loop-holds slice-write-marks add-i loop-less loop-again same-length returns)

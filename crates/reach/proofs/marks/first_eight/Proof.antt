@@ -51,17 +51,6 @@ returns c =
 pub first-eight-spec : {M : Type 1} → statement M
 first-eight-spec =
     tie.close
-    (tie.spec
-    shared-slice-read-four
-    shared-slice-read-four-2
-    shared-slice-read-four-3
-    shared-slice-read-four-4
-    four-requires
-    shared-slice-read-four-5
-    shared-slice-read-four-6
-    shared-slice-read-four-7
-    shared-slice-read-four-8
-    four-requires-2
-    mul-result
-    add-result
-    returns)
+    (tie.spec shared-slice-read-four shared-slice-read-four-2 shared-slice-read-four-3 shared-slice-read-four-4 four-requires
+    shared-slice-read-four-5 shared-slice-read-four-6 shared-slice-read-four-7 shared-slice-read-four-8 four-requires-2 mul-result
+    add-result returns)

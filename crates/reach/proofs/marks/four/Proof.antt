@@ -42,15 +42,5 @@ returns c = (refl, omega (arith, byte-small (c .args .a), byte-small (c .args .b
 pub four-spec : {M : Type 1} → statement M
 four-spec =
     tie.close
-    (tie.spec
-    cast-result
-    cast-result-2
-    cast-result-3
-    cast-result-4
-    mul-result
-    add-result
-    mul-result-2
-    add-result-2
-    mul-result-3
-    add-result-3
-    returns)
+    (tie.spec cast-result cast-result-2 cast-result-3 cast-result-4 mul-result add-result mul-result-2 add-result-2 mul-result-3
+    add-result-3 returns)

@@ -68,15 +68,5 @@ returns c =
 pub mark-cells-spec : {M : Type 1} → statement M
 mark-cells-spec =
     tie.close
-    (tie.spec
-    Inv-loop
-    μ-loop
-    clear-requires
-    loop-holds
-    shared-slice-read-mark-held
-    mark-held-requires
-    add-p
-    loop-less
-    loop-again
-    same-length
-    returns)
+    (tie.spec Inv-loop μ-loop clear-requires loop-holds shared-slice-read-mark-held mark-held-requires add-p loop-less loop-again
+    same-length returns)

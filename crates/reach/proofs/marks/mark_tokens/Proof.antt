@@ -60,14 +60,4 @@ returns c =
 pub mark-tokens-spec : {M : Type 1} → statement M
 mark-tokens-spec =
     tie.close
-    (tie.spec
-    Inv-loop
-    μ-loop
-    clear-requires
-    loop-holds
-    mark-active-requires
-    add-p
-    loop-less
-    loop-again
-    same-length
-    returns)
+    (tie.spec Inv-loop μ-loop clear-requires loop-holds mark-active-requires add-p loop-less loop-again same-length returns)

@@ -41,12 +41,4 @@ returns c =
 pub none-from-spec : {M : Type 1} → statement M
 none-from-spec =
     tie.close
-    (tie.spec
-    Inv-loop
-    μ-loop
-    loop-holds
-    shared-slice-read-found
-    add-i
-    loop-less
-    loop-again
-    returns)
+    (tie.spec Inv-loop μ-loop loop-holds shared-slice-read-found add-i loop-less loop-again returns)

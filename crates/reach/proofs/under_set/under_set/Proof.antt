@@ -73,18 +73,5 @@ returns-4 c = λ m h. let l = c .before .loop in climb-over (m .cells) 32 (l .n)
 pub under-set-spec : {M : Type 1} → statement M
 under-set-spec =
     tie.close
-    (tie.spec
-    Inv-loop
-    μ-loop
-    loop-holds
-    returns
-    sub-c
-    returns-2
-    value-kind-requires
-    returns-3
-    parent-requires
-    wide-requires
-    add-n
-    loop-less
-    loop-again
-    returns-4)
+    (tie.spec Inv-loop μ-loop loop-holds returns sub-c returns-2 value-kind-requires returns-3 parent-requires wide-requires add-n loop-less
+    loop-again returns-4)

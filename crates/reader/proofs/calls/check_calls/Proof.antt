@@ -43,15 +43,5 @@ returns-2 c = search scan-end
 pub check-calls-spec : {M : Type 1} → statement M
 check-calls-spec =
     tie.close
-    (tie.spec
-    Inv-loop
-    μ-loop
-    loop-holds
-    shared-slice-read-if1
-    operand-requires
-    call-holds-requires
-    returns
-    add-i
-    loop-less
-    loop-again
+    (tie.spec Inv-loop μ-loop loop-holds shared-slice-read-if1 operand-requires call-holds-requires returns add-i loop-less loop-again
     returns-2)

@@ -39,14 +39,5 @@ returns-4 c = let q = c .before .check-expression .ensures _ (c .before .before 
 pub check-definition-spec : {M : Type 1} → statement M
 check-definition-spec =
     tie.close
-    (tie.spec
-    returns
-    shared-slice-read-if2
-    returns-2
-    operand-requires
-    returns-3
-    of-formals-requires
-    add-check-expression
-    check-expression-requires
-    add-nodes-requires
-    returns-4)
+    (tie.spec returns shared-slice-read-if2 returns-2 operand-requires returns-3 of-formals-requires add-check-expression
+    check-expression-requires add-nodes-requires returns-4)

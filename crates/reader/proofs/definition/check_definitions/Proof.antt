@@ -66,22 +66,5 @@ returns-2 c = search reading-end
 pub check-definitions-spec : {M : Type 1} → statement M
 check-definitions-spec =
     tie.close
-    (tie.spec
-    Inv-loop
-    μ-loop
-    loop-holds
-    check-definition-requires
-    enum-known-definition
-    returns
-    enum-known-definition-2
-    operand-requires
-    mul-formals
-    element-write-formals
-    cast-sizes
-    mul-sizes
-    element-write-sizes
-    add-nodes
-    add-i
-    loop-less
-    loop-again
-    returns-2)
+    (tie.spec Inv-loop μ-loop loop-holds check-definition-requires enum-known-definition returns enum-known-definition-2 operand-requires
+    mul-formals element-write-formals cast-sizes mul-sizes element-write-sizes add-nodes add-i loop-less loop-again returns-2)

@@ -34,13 +34,5 @@ returns c = search number-at
 pub word-at-spec : {M : Type 1} → statement M
 word-at-spec =
     tie.close
-    (tie.spec
-    shared-slice-read-word
-    add-word
-    shared-slice-read-word-2
-    add-word-2
-    shared-slice-read-word-3
-    add-word-3
-    shared-slice-read-word-4
-    word-requires
-    returns)
+    (tie.spec shared-slice-read-word add-word shared-slice-read-word-2 add-word-2 shared-slice-read-word-3 add-word-3
+    shared-slice-read-word-4 word-requires returns)

@@ -89,20 +89,5 @@ returns-3 c =
 pub check-program-spec : {M : Type 1} → statement M
 check-program-spec =
     tie.close
-    (tie.spec
-    check-definitions-requires
-    enum-known-found
-    enum-known-found-2
-    of-formals-requires
-    check-expression-requires
-    enum-known-goal
-    enum-known-goal-2
-    check-end-requires
-    check-calls-requires
-    add-t25
-    add-t26
-    after-requires
-    after-requires-2
-    returns
-    returns-2
-    returns-3)
+    (tie.spec check-definitions-requires enum-known-found enum-known-found-2 of-formals-requires check-expression-requires enum-known-goal
+    enum-known-goal-2 check-end-requires check-calls-requires add-t25 add-t26 after-requires after-requires-2 returns returns-2 returns-3)

@@ -129,29 +129,7 @@ returns-7 c =
 pub check-table-spec : {M : Type 1} → statement M
 check-table-spec =
     tie.close
-    (tie.spec
-    returns
-    shared-slice-read-half
-    shared-slice-read-half-2
-    half-requires
-    shared-slice-read-half-3
-    shared-slice-read-half-4
-    half-requires-2
-    mul-if2
-    add-if2
-    returns-2
-    returns-3
-    returns-4
-    returns-5
-    add-e
-    sub-check-program
-    part-check-program-start
-    part-check-program-end
-    sub-check-program-2
-    part-check-program-start-2
-    part-check-program-end-2
-    check-program-requires
-    enum-known-answer
-    enum-known-answer-2
-    returns-6
-    returns-7)
+    (tie.spec returns shared-slice-read-half shared-slice-read-half-2 half-requires shared-slice-read-half-3 shared-slice-read-half-4
+    half-requires-2 mul-if2 add-if2 returns-2 returns-3 returns-4 returns-5 add-e sub-check-program part-check-program-start
+    part-check-program-end sub-check-program-2 part-check-program-start-2 part-check-program-end-2 check-program-requires enum-known-answer
+    enum-known-answer-2 returns-6 returns-7)

@@ -52,19 +52,5 @@ returns c = λ m q h e. unset-put h _ (search needs) _ q e
 pub put-unset-spec : {M : Type 1} → statement M
 put-unset-spec =
     tie.close
-    (tie.spec
-    mul-w
-    add-w
-    mul-w-2
-    element-write-w
-    mul-w-3
-    add-w-2
-    add-w-3
-    mul-w-4
-    element-write-w-2
-    mul-w-5
-    add-w-4
-    add-w-5
-    mul-w-6
-    element-write-w-3
-    returns)
+    (tie.spec mul-w add-w mul-w-2 element-write-w mul-w-3 add-w-2 add-w-3 mul-w-4 element-write-w-2 mul-w-5 add-w-4 add-w-5 mul-w-6
+    element-write-w-3 returns)

@@ -40,15 +40,4 @@ returns c = λ m v h e f. set-put h _ (search needs) _ _ v e f
 pub set-value-spec : {M : Type 1} → statement M
 set-value-spec =
     tie.close
-    (tie.spec
-    mul-w
-    add-w
-    add-w-2
-    mul-w-2
-    element-write-w
-    mul-w-3
-    add-w-3
-    add-w-4
-    mul-w-4
-    element-write-w-2
-    returns)
+    (tie.spec mul-w add-w add-w-2 mul-w-2 element-write-w mul-w-3 add-w-3 add-w-4 mul-w-4 element-write-w-2 returns)

@@ -40,14 +40,4 @@ returns-2 c = λ m h l. absurd (omega (arith, waiting-word (h .codes), c .before
 pub delay-spec : {M : Type 1} → statement M
 delay-spec =
     tie.close
-    (tie.spec
-    element-copy-out-wide
-    wide-requires
-    add-w
-    mul-w
-    element-write-w
-    cast-w
-    add-w-2
-    element-write-w-2
-    returns
-    returns-2)
+    (tie.spec element-copy-out-wide wide-requires add-w mul-w element-write-w cast-w add-w-2 element-write-w-2 returns returns-2)

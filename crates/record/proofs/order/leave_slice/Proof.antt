@@ -51,17 +51,5 @@ returns-3 c = λ m h l. absurd (omega (arith, queued-word (h .codes), queue-fits
 pub leave-slice-spec : {M : Type 1} → statement M
 leave-slice-spec =
     tie.close
-    (tie.spec
-    slice-read-wide
-    wide-requires
-    sub-left-out
-    part-left-out-start
-    part-left-out-end
-    left-out-requires
-    cast-w
-    sub-w
-    slice-write-w
-    same-length
-    returns
-    returns-2
-    returns-3)
+    (tie.spec slice-read-wide wide-requires sub-left-out part-left-out-start part-left-out-end left-out-requires cast-w sub-w slice-write-w
+    same-length returns returns-2 returns-3)

@@ -45,15 +45,5 @@ returns-2 c = λ m h. absurd (omega (arith, queued-word (h .codes), queue-fits h
 pub retain-queue-slice-spec : {M : Type 1} → statement M
 retain-queue-slice-spec =
     tie.close
-    (tie.spec
-    slice-read-wide
-    wide-requires
-    sub-retained
-    part-retained-start
-    part-retained-end
-    retained-requires
-    cast-w
-    slice-write-w
-    same-length
-    returns
-    returns-2)
+    (tie.spec slice-read-wide wide-requires sub-retained part-retained-start part-retained-end retained-requires cast-w slice-write-w
+    same-length returns returns-2)

@@ -45,15 +45,5 @@ returns-2 c = λ m h. absurd (omega (arith, waiting-word (h .codes), waits-fit h
 pub retain-waits-slice-spec : {M : Type 1} → statement M
 retain-waits-slice-spec =
     tie.close
-    (tie.spec
-    slice-read-wide
-    wide-requires
-    sub-retained
-    part-retained-start
-    part-retained-end
-    retained-requires
-    cast-w
-    slice-write-w
-    same-length
-    returns
-    returns-2)
+    (tie.spec slice-read-wide wide-requires sub-retained part-retained-start part-retained-end retained-requires cast-w slice-write-w
+    same-length returns returns-2)

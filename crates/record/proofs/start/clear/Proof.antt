@@ -41,14 +41,4 @@ returns c = let l = c .before .loop in cleared (l .w) (l .i) (l .inv .1) (omega 
 pub clear-spec : {M : Type 1} → statement M
 clear-spec =
     tie.close
-    (tie.spec
-    Inv-loop
-    μ-loop
-    loop-holds
-    mul-w
-    slice-write-w
-    add-i
-    loop-less
-    loop-again
-    same-length
-    returns)
+    (tie.spec Inv-loop μ-loop loop-holds mul-w slice-write-w add-i loop-less loop-again same-length returns)

@@ -25,10 +25,4 @@ returns c = started _ _ (c .clear .ensures)
 pub start-spec : {M : Type 1} → statement M
 start-spec =
     tie.close
-    (tie.spec
-    clear-requires
-    element-write-w
-    element-write-w-2
-    element-write-w-3
-    element-write-w-4
-    returns)
+    (tie.spec clear-requires element-write-w element-write-w-2 element-write-w-3 element-write-w-4 returns)

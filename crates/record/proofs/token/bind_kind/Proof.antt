@@ -28,11 +28,4 @@ returns c = λ m h. bind-kind-word h _ (search needs) _ (search needs)
 pub bind-kind-spec : {M : Type 1} → statement M
 bind-kind-spec =
     tie.close
-    (tie.spec
-    mul-result
-    add-result
-    mul-result-2
-    add-result-2
-    mul-result-3
-    element-copy-out-result
-    returns)
+    (tie.spec mul-result add-result mul-result-2 add-result-2 mul-result-3 element-copy-out-result returns)

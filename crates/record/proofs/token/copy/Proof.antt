@@ -71,19 +71,5 @@ returns c m h = row-done h _ (c .before .loop .i) _ _ (search needs) (h .codes .
 pub copy-spec : {M : Type 1} → statement M
 copy-spec =
     tie.close
-    (tie.spec
-    Inv-loop
-    μ-loop
-    mul-a
-    mul-b
-    loop-holds
-    add-v
-    mul-v
-    element-copy-out-v
-    add-w
-    mul-w
-    element-write-w
-    add-i
-    loop-less
-    loop-again
+    (tie.spec Inv-loop μ-loop mul-a mul-b loop-holds add-v mul-v element-copy-out-v add-w mul-w element-write-w add-i loop-less loop-again
     returns)

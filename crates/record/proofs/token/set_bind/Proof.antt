@@ -46,17 +46,4 @@ returns c = λ m t s h e f. bind-put m t _ h (search needs) _ _ _ s (search need
 pub set-bind-spec : {M : Type 1} → statement M
 set-bind-spec =
     tie.close
-    (tie.spec
-    mul-w
-    add-w
-    mul-w-2
-    add-w-2
-    mul-w-3
-    element-write-w
-    mul-w-4
-    add-w-3
-    mul-w-5
-    add-w-4
-    mul-w-6
-    element-write-w-2
-    returns)
+    (tie.spec mul-w add-w mul-w-2 add-w-2 mul-w-3 element-write-w mul-w-4 add-w-3 mul-w-5 add-w-4 mul-w-6 element-write-w-2 returns)

@@ -34,13 +34,4 @@ returns c = λ m t v h e f. value-put m t _ h (search needs) _ _ v e f
 pub set-value-spec : {M : Type 1} → statement M
 set-value-spec =
     tie.close
-    (tie.spec
-    mul-w
-    add-w
-    mul-w-2
-    element-write-w
-    mul-w-3
-    add-w-2
-    mul-w-4
-    element-write-w-2
-    returns)
+    (tie.spec mul-w add-w mul-w-2 element-write-w mul-w-3 add-w-2 mul-w-4 element-write-w-2 returns)

@@ -62,17 +62,4 @@ returns c m t h b e =
 pub write-spec : {M : Type 1} → statement M
 write-spec =
     tie.close
-    (tie.spec
-    Inv-loop
-    μ-loop
-    mul-at
-    loop-holds
-    mul-v
-    element-copy-out-v
-    add-w
-    mul-w
-    element-write-w
-    add-i
-    loop-less
-    loop-again
-    returns)
+    (tie.spec Inv-loop μ-loop mul-at loop-holds mul-v element-copy-out-v add-w mul-w element-write-w add-i loop-less loop-again returns)

@@ -66,15 +66,4 @@ returns-2 c =
 pub is-caller-spec : {M : Type 1} → statement M
 is-caller-spec =
     tie.close
-    (tie.spec
-    Inv-loop
-    μ-loop
-    cast-number
-    add-number
-    loop-holds
-    caller-requires
-    returns
-    add-i
-    loop-less
-    loop-again
-    returns-2)
+    (tie.spec Inv-loop μ-loop cast-number add-number loop-holds caller-requires returns add-i loop-less loop-again returns-2)

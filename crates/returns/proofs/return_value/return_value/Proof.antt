@@ -78,15 +78,5 @@ returns-2 c = λ m a alone.
 pub return-value-spec : {M : Type 1} → statement M
 return-value-spec =
     tie.close
-    (tie.spec
-    caller-requires
-    wide-requires
-    sub-f
-    may-lose-cell-requires
-    written-requires
-    sweep-requires
-    plain-requires
-    returns
-    release-requires
-    plain-requires-2
-    returns-2)
+    (tie.spec caller-requires wide-requires sub-f may-lose-cell-requires written-requires sweep-requires plain-requires returns
+    release-requires plain-requires-2 returns-2)

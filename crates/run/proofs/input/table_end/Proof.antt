@@ -31,12 +31,4 @@ returns-3 c = search table-there
 pub table-end-spec : {M : Type 1} → statement M
 table-end-spec =
     tie.close
-    (tie.spec
-    returns
-    shared-slice-read-half
-    shared-slice-read-half-2
-    half-requires
-    mul-end
-    add-end
-    returns-2
-    returns-3)
+    (tie.spec returns shared-slice-read-half shared-slice-read-half-2 half-requires mul-end add-end returns-2 returns-3)

@@ -132,31 +132,7 @@ returns-3 c =
 pub orcrun-spec : {M : Type 1} → statement M
 orcrun-spec =
     tie.close
-    (tie.spec
-    slice-aggregate-put-long
-    put-long-requires
-    slice-aggregate-show-front
-    show-front-requires
-    same-length
-    returns
-    table-end-requires
-    whole-requires
-    sub-load
-    part-load-start
-    part-load-end
-    load-requires
-    enum-known-answer
-    slice-aggregate-put-table
-    cast-put-table
-    put-table-requires
-    slice-aggregate-show-front-2
-    show-front-requires-2
-    enum-told
-    sub-run
-    part-run-start
-    part-run-end
-    run-requires
-    same-length-2
-    returns-2
-    same-length-3
-    returns-3)
+    (tie.spec slice-aggregate-put-long put-long-requires slice-aggregate-show-front show-front-requires same-length returns
+    table-end-requires whole-requires sub-load part-load-start part-load-end load-requires enum-known-answer slice-aggregate-put-table
+    cast-put-table put-table-requires slice-aggregate-show-front-2 show-front-requires-2 enum-told sub-run part-run-start part-run-end
+    run-requires same-length-2 returns-2 same-length-3 returns-3)

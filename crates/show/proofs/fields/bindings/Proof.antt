@@ -37,14 +37,4 @@ returns c = search needs
 pub bindings-spec : {M : Type 1} → statement M
 bindings-spec =
     tie.close
-    (tie.spec
-    Inv-loop
-    μ-loop
-    loop-holds
-    bind-kind-requires
-    bind-number-requires
-    slot-requires
-    add-x
-    loop-less
-    loop-again
-    returns)
+    (tie.spec Inv-loop μ-loop loop-holds bind-kind-requires bind-number-requires slot-requires add-x loop-less loop-again returns)

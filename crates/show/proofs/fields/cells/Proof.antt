@@ -34,13 +34,4 @@ returns c = search needs
 pub cells-spec : {M : Type 1} → statement M
 cells-spec =
     tie.close
-    (tie.spec
-    Inv-loop
-    μ-loop
-    loop-holds
-    cell-is-blank-requires
-    show-cell-requires
-    add-c
-    loop-less
-    loop-again
-    returns)
+    (tie.spec Inv-loop μ-loop loop-holds cell-is-blank-requires show-cell-requires add-c loop-less loop-again returns)

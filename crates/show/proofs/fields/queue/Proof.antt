@@ -61,22 +61,5 @@ returns c = search needs
 pub queue-spec : {M : Type 1} → statement M
 queue-spec =
     tie.close
-    (tie.spec
-    Inv-loop
-    μ-loop
-    queued-requires
-    slice-aggregate-put
-    put-requires
-    cast-number
-    number-requires
-    slice-aggregate-put-2
-    put-requires-2
-    loop-holds
-    queue-name-requires
-    name-requires
-    add-i
-    loop-less
-    loop-again
-    slice-aggregate-put-3
-    put-requires-3
-    returns)
+    (tie.spec Inv-loop μ-loop queued-requires slice-aggregate-put put-requires cast-number number-requires slice-aggregate-put-2
+    put-requires-2 loop-holds queue-name-requires name-requires add-i loop-less loop-again slice-aggregate-put-3 put-requires-3 returns)

@@ -34,13 +34,4 @@ returns c = search needs
 pub tokens-spec : {M : Type 1} → statement M
 tokens-spec =
     tie.close
-    (tie.spec
-    Inv-loop
-    μ-loop
-    loop-holds
-    token-is-blank-requires
-    show-token-requires
-    add-p
-    loop-less
-    loop-again
-    returns)
+    (tie.spec Inv-loop μ-loop loop-holds token-is-blank-requires show-token-requires add-p loop-less loop-again returns)

@@ -49,18 +49,5 @@ returns c = search needs
 pub words-spec : {M : Type 1} → statement M
 words-spec =
     tie.close
-    (tie.spec
-    Inv-loop
-    μ-loop
-    slice-aggregate-put
-    put-requires
-    loop-holds
-    mul-word
-    element-copy-out-word
-    word-requires
-    add-i
-    loop-less
-    loop-again
-    slice-aggregate-put-2
-    put-requires-2
-    returns)
+    (tie.spec Inv-loop μ-loop slice-aggregate-put put-requires loop-holds mul-word element-copy-out-word word-requires add-i loop-less
+    loop-again slice-aggregate-put-2 put-requires-2 returns)

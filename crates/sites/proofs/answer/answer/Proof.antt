@@ -53,12 +53,4 @@ returns-2 c =
 pub answer-spec : {M : Type 1} → statement M
 answer-spec =
     tie.close
-    (tie.spec
-    find-open-requires
-    returns
-    unsigned-requires
-    set-value-requires
-    set-state-requires
-    cast-join
-    join-requires
-    returns-2)
+    (tie.spec find-open-requires returns unsigned-requires set-value-requires set-state-requires cast-join join-requires returns-2)

@@ -82,15 +82,5 @@ returns-2 c = (
 pub find-open-spec : {M : Type 1} → statement M
 find-open-spec =
     tie.close
-    (tie.spec
-    Inv-loop
-    μ-loop
-    next-called-requires
-    loop-holds
-    state-number-requires
-    returns
-    add-next-called
-    next-called-requires-2
-    loop-less
-    loop-again
-    returns-2)
+    (tie.spec Inv-loop μ-loop next-called-requires loop-holds state-number-requires returns add-next-called next-called-requires-2 loop-less
+    loop-again returns-2)

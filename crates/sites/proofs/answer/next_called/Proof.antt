@@ -59,13 +59,4 @@ returns-2 c = (search needs, search needs, λ m h. record { passes = c .before .
 pub next-called-spec : {M : Type 1} → statement M
 next-called-spec =
     tie.close
-    (tie.spec
-    Inv-loop
-    μ-loop
-    loop-holds
-    state-requires
-    returns
-    add-p
-    loop-less
-    loop-again
-    returns-2)
+    (tie.spec Inv-loop μ-loop loop-holds state-requires returns add-p loop-less loop-again returns-2)

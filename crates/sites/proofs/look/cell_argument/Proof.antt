@@ -47,11 +47,4 @@ returns-3 c = λ m h l r.
 pub cell-argument-spec : {M : Type 1} → statement M
 cell-argument-spec =
     tie.close
-    (tie.spec
-    wide-requires
-    returns
-    value-kind-requires
-    returns-2
-    value-requires
-    signed-requires
-    returns-3)
+    (tie.spec wide-requires returns value-kind-requires returns-2 value-requires signed-requires returns-3)

@@ -136,26 +136,6 @@ returns-3 c = λ m h f.
 pub look-up-spec : {M : Type 1} → statement M
 look-up-spec =
     tie.close
-    (tie.spec
-    Inv-loop
-    μ-loop
-    add-wide
-    mul-wide
-    element-copy-out-wide
-    wide-requires
-    loop-holds
-    add-param-argument
-    mul-param-argument
-    add-param-argument-2
-    param-argument-requires
-    enum-known-v
-    mul-values
-    array-set-from-values
-    enum-known-c
-    returns
-    enum-told
-    returns-2
-    add-i
-    loop-less
-    loop-again
-    returns-3)
+    (tie.spec Inv-loop μ-loop add-wide mul-wide element-copy-out-wide wide-requires loop-holds add-param-argument mul-param-argument
+    add-param-argument-2 param-argument-requires enum-known-v mul-values array-set-from-values enum-known-c returns enum-told returns-2
+    add-i loop-less loop-again returns-3)

@@ -51,14 +51,5 @@ returns-2 c = λ m h o.
 pub param-argument-spec : {M : Type 1} → statement M
 param-argument-spec =
     tie.close
-    (tie.spec
-    add-word
-    mul-word
-    element-copy-out-word
-    mul-if1
-    element-copy-out-if1
-    wide-requires
-    variable-argument-requires
-    returns
-    signed-requires
-    returns-2)
+    (tie.spec add-word mul-word element-copy-out-word mul-if1 element-copy-out-if1 wide-requires variable-argument-requires returns
+    signed-requires returns-2)

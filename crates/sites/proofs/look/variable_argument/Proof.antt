@@ -41,11 +41,4 @@ returns-3 c = λ m h o. variable-cell m _ _ _ _ o (c .before .before .before .be
 pub variable-argument-spec : {M : Type 1} → statement M
 variable-argument-spec =
     tie.close
-    (tie.spec
-    bind-kind-requires
-    bind-number-requires
-    returns
-    signed-requires
-    returns-2
-    cell-argument-requires
-    returns-3)
+    (tie.spec bind-kind-requires bind-number-requires returns signed-requires returns-2 cell-argument-requires returns-3)

@@ -55,12 +55,4 @@ returns-2 c =
 pub unsigned-spec : {M : Type 1} → statement M
 unsigned-spec =
     tie.close
-    (tie.spec
-    cast-under
-    sub-under
-    cast-under-2
-    sub-under-2
-    sub-result
-    returns
-    cast-result
-    returns-2)
+    (tie.spec cast-under sub-under cast-under-2 sub-under-2 sub-result returns cast-result returns-2)

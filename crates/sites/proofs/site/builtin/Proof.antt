@@ -81,20 +81,5 @@ returns-7 c =
 pub builtin-spec : {M : Type 1} → statement M
 builtin-spec =
     tie.close
-    (tie.spec
-    equal-requires
-    zero-if-requires
-    equal-requires-2
-    zero-if-requires-2
-    sum-requires
-    less-requires
-    truth-requires
-    equal-requires-3
-    truth-requires-2
-    returns
-    returns-2
-    returns-3
-    returns-4
-    returns-5
-    returns-6
-    returns-7)
+    (tie.spec equal-requires zero-if-requires equal-requires-2 zero-if-requires-2 sum-requires less-requires truth-requires equal-requires-3
+    truth-requires-2 returns returns-2 returns-3 returns-4 returns-5 returns-6 returns-7)

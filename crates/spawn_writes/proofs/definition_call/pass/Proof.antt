@@ -62,11 +62,4 @@ returns-2 c = λ m t h n.
 pub pass-spec : {M : Type 1} → statement M
 pass-spec =
     tie.close
-    (tie.spec
-    wide-requires
-    bind-kind-requires
-    bind-number-requires
-    set-bind-requires
-    returns
-    set-bind-requires-2
-    returns-2)
+    (tie.spec wide-requires bind-kind-requires bind-number-requires set-bind-requires returns set-bind-requires-2 returns-2)

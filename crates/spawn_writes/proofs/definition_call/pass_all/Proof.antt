@@ -102,23 +102,5 @@ returns c = λ m h n. let l = c .before .loop in let a = c .before .before .befo
 pub pass-all-spec : {M : Type 1} → statement M
 pass-all-spec =
     tie.close
-    (tie.spec
-    Inv-loop
-    μ-loop
-    add-dag-word
-    dag-word-requires
-    wide-requires
-    loop-holds
-    add-dag-word-2
-    mul-dag-word
-    add-dag-word-3
-    dag-word-requires-2
-    add-dag-word-4
-    mul-dag-word-2
-    add-dag-word-5
-    dag-word-requires-3
-    pass-requires
-    add-i
-    loop-less
-    loop-again
-    returns)
+    (tie.spec Inv-loop μ-loop add-dag-word dag-word-requires wide-requires loop-holds add-dag-word-2 mul-dag-word add-dag-word-3
+    dag-word-requires-2 add-dag-word-4 mul-dag-word-2 add-dag-word-5 dag-word-requires-3 pass-requires add-i loop-less loop-again returns)

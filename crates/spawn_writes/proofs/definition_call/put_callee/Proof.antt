@@ -45,12 +45,5 @@ returns c = λ m q h n blank e.
 pub put-callee-spec : {M : Type 1} → statement M
 put-callee-spec =
     tie.close
-    (tie.spec
-    pass-all-requires
-    set-state-requires
-    set-node-requires
-    cast-set-caller
-    add-set-caller
-    set-caller-requires
-    set-cell-requires
+    (tie.spec pass-all-requires set-state-requires set-node-requires cast-set-caller add-set-caller set-caller-requires set-cell-requires
     returns)

@@ -68,14 +68,5 @@ returns c = λ m h q n blank.
 pub written-spec : {M : Type 1} → statement M
 written-spec =
     tie.close
-    (tie.spec
-    cell-requires
-    leave-requires
-    set-state-requires
-    set-node-requires
-    put-callee-requires
-    cast-set-last-token
-    set-last-token-requires
-    cast-join
-    join-requires
-    returns)
+    (tie.spec cell-requires leave-requires set-state-requires set-node-requires put-callee-requires cast-set-last-token
+    set-last-token-requires cast-join join-requires returns)

@@ -62,15 +62,5 @@ returns c = λ m h q room.
 pub written-spec : {M : Type 1} → statement M
 written-spec =
     tie.close
-    (tie.spec
-    leave-requires
-    set-node-requires
-    copy-requires
-    set-node-requires-2
-    cast-set-last-token
-    set-last-token-requires
-    cast-join
-    join-requires
-    cast-join-2
-    join-requires-2
-    returns)
+    (tie.spec leave-requires set-node-requires copy-requires set-node-requires-2 cast-set-last-token set-last-token-requires cast-join
+    join-requires cast-join-2 join-requires-2 returns)

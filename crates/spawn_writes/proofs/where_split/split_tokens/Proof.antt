@@ -53,13 +53,5 @@ returns c = λ m h n.
 pub split-tokens-spec : {M : Type 1} → statement M
 split-tokens-spec =
     tie.close
-    (tie.spec
-    copy-requires
-    set-node-requires
-    cast-set-cell
-    add-set-cell
-    set-cell-requires
-    cast-set-bind
-    set-bind-requires
-    set-node-requires-2
-    returns)
+    (tie.spec copy-requires set-node-requires cast-set-cell add-set-cell set-cell-requires cast-set-bind set-bind-requires
+    set-node-requires-2 returns)

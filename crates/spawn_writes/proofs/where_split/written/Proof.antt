@@ -64,17 +64,5 @@ returns c = λ m h q room n.
 pub written-spec : {M : Type 1} → statement M
 written-spec =
     tie.close
-    (tie.spec
-    cell-requires
-    leave-requires
-    split-tokens-requires
-    cast-set-last-token
-    set-last-token-requires
-    put-unset-requires
-    cast-set-last-cell
-    set-last-cell-requires
-    cast-join
-    join-requires
-    cast-join-2
-    join-requires-2
-    returns)
+    (tie.spec cell-requires leave-requires split-tokens-requires cast-set-last-token set-last-token-requires put-unset-requires
+    cast-set-last-cell set-last-cell-requires cast-join join-requires cast-join-2 join-requires-2 returns)

@@ -77,20 +77,5 @@ returns-2 c = λ m a.
 pub definition-call-spec : {M : Type 1} → statement M
 definition-call-spec =
     tie.close
-    (tie.spec
-    last-token-requires
-    next-token-requires
-    plain-requires
-    returns
-    add-dag-word
-    dag-word-requires
-    wide-requires
-    mul-dag-word
-    add-dag-word-2
-    dag-word-requires-2
-    add-dag-word-3
-    dag-word-requires-3
-    written-requires
-    element-write-tokens
-    plain-requires-2
-    returns-2)
+    (tie.spec last-token-requires next-token-requires plain-requires returns add-dag-word dag-word-requires wide-requires mul-dag-word
+    add-dag-word-2 dag-word-requires-2 add-dag-word-3 dag-word-requires-3 written-requires element-write-tokens plain-requires-2 returns-2)

@@ -51,16 +51,5 @@ returns-2 c = λ m a.
 pub fork-spec : {M : Type 1} → statement M
 fork-spec =
     tie.close
-    (tie.spec
-    last-token-requires
-    next-token-requires
-    plain-requires
-    returns
-    add-dag-word
-    dag-word-requires
-    add-dag-word-2
-    dag-word-requires-2
-    written-requires
-    element-write-tokens
-    plain-requires-2
-    returns-2)
+    (tie.spec last-token-requires next-token-requires plain-requires returns add-dag-word dag-word-requires add-dag-word-2
+    dag-word-requires-2 written-requires element-write-tokens plain-requires-2 returns-2)

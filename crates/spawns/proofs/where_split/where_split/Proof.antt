@@ -105,24 +105,6 @@ returns-3 c = λ m a.
 pub where-split-spec : {M : Type 1} → statement M
 where-split-spec =
     tie.close
-    (tie.spec
-    last-token-requires
-    next-token-requires
-    plain-requires
-    returns
-    last-cell-requires
-    next-cell-requires
-    plain-requires-2
-    returns-2
-    add-dag-word
-    dag-word-requires
-    wide-requires
-    add-dag-word-2
-    dag-word-requires-2
-    add-dag-word-3
-    dag-word-requires-3
-    written-requires
-    element-write-tokens
-    element-write-cells
-    plain-requires-3
-    returns-3)
+    (tie.spec last-token-requires next-token-requires plain-requires returns last-cell-requires next-cell-requires plain-requires-2
+    returns-2 add-dag-word dag-word-requires wide-requires add-dag-word-2 dag-word-requires-2 add-dag-word-3 dag-word-requires-3
+    written-requires element-write-tokens element-write-cells plain-requires-3 returns-3)

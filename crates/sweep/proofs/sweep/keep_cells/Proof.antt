@@ -72,16 +72,5 @@ returns c =
 pub keep-cells-spec : {M : Type 1} → statement M
 keep-cells-spec =
     tie.close
-    (tie.spec
-    Inv-loop
-    μ-loop
-    loop-holds
-    slice-read-keep-cell
-    shared-slice-read-keep-cell
-    keep-cell-requires
-    add-c
-    loop-less
-    loop-again
-    renew-requires
-    same-length
-    returns)
+    (tie.spec Inv-loop μ-loop loop-holds slice-read-keep-cell shared-slice-read-keep-cell keep-cell-requires add-c loop-less loop-again
+    renew-requires same-length returns)

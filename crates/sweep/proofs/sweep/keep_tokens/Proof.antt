@@ -64,14 +64,5 @@ returns c =
 pub keep-tokens-spec : {M : Type 1} → statement M
 keep-tokens-spec =
     tie.close
-    (tie.spec
-    Inv-loop
-    μ-loop
-    loop-holds
-    shared-slice-read-keep-token
-    shared-slice-read-keep-token-2
-    keep-token-requires
-    add-p
-    loop-less
-    loop-again
-    returns)
+    (tie.spec Inv-loop μ-loop loop-holds shared-slice-read-keep-token shared-slice-read-keep-token-2 keep-token-requires add-p loop-less
+    loop-again returns)

@@ -31,10 +31,4 @@ returns c =
 pub sweep-cells-spec : {M : Type 1} → statement M
 sweep-cells-spec =
     tie.close
-    (tie.spec
-    slice-aggregate-mark-cells
-    mark-cells-requires
-    marked-end-requires
-    slice-aggregate-keep-cells
-    keep-cells-requires
-    returns)
+    (tie.spec slice-aggregate-mark-cells mark-cells-requires marked-end-requires slice-aggregate-keep-cells keep-cells-requires returns)

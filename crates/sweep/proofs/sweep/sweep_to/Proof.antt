@@ -50,12 +50,5 @@ returns c =
 pub sweep-to-spec : {M : Type 1} → statement M
 sweep-to-spec =
     tie.close
-    (tie.spec
-    slice-aggregate-mark-tokens
-    mark-tokens-requires
-    slice-aggregate-keep-tokens
-    keep-tokens-requires
-    sweep-cells-requires
-    slice-aggregate-renew
-    renew-requires
-    returns)
+    (tie.spec slice-aggregate-mark-tokens mark-tokens-requires slice-aggregate-keep-tokens keep-tokens-requires sweep-cells-requires
+    slice-aggregate-renew renew-requires returns)

@@ -33,10 +33,4 @@ returns c =
 pub deliver-spec : {M : Type 1} → statement M
 deliver-spec =
     tie.close
-    (tie.spec
-    word-at-requires
-    add-word-at
-    word-at-requires-2
-    signed-requires
-    resume-requires
-    returns)
+    (tie.spec word-at-requires add-word-at word-at-requires-2 signed-requires resume-requires returns)

@@ -168,25 +168,6 @@ returns-10 c = λ m a one. let b = of-kind 9 (sym (c .before .before .before .be
 pub act-spec : {M : Type 1} → statement M
 act-spec =
     tie.close
-    (tie.spec
-    dag-word-requires
-    stop-requires
-    site-call-requires
-    call-marked-requires
-    fork-marked-requires
-    assign-requires
-    remove-requires
-    where-marked-requires
-    choke-cell-requires
-    return-marked-requires
-    publish-requires
-    returns
-    returns-2
-    returns-3
-    returns-4
-    returns-5
-    returns-6
-    returns-7
-    returns-8
-    returns-9
-    returns-10)
+    (tie.spec dag-word-requires stop-requires site-call-requires call-marked-requires fork-marked-requires assign-requires remove-requires
+    where-marked-requires choke-cell-requires return-marked-requires publish-requires returns returns-2 returns-3 returns-4 returns-5
+    returns-6 returns-7 returns-8 returns-9 returns-10)

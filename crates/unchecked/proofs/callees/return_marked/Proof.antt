@@ -73,13 +73,5 @@ returns-2 c = λ m a one.
 pub return-marked-spec : {M : Type 1} → statement M
 return-marked-spec =
     tie.close
-    (tie.spec
-    caller-requires
-    wide-requires
-    sub-f
-    is-shared-requires
-    share-caller-requires
-    return-value-requires
-    returns
-    return-value-requires-2
-    returns-2)
+    (tie.spec caller-requires wide-requires sub-f is-shared-requires share-caller-requires return-value-requires returns
+    return-value-requires-2 returns-2)

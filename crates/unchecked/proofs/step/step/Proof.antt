@@ -50,12 +50,4 @@ returns c = λ m r one. let codes = r .lawful .holds .codes in
 pub step-spec : {M : Type 1} → statement M
 step-spec =
     tie.close
-    (tie.spec
-    queue-name-requires
-    wide-requires
-    node-requires
-    wide-requires-2
-    mul-at
-    add-at
-    act-requires
-    returns)
+    (tie.spec queue-name-requires wide-requires node-requires wide-requires-2 mul-at add-at act-requires returns)

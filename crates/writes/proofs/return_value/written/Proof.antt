@@ -56,13 +56,5 @@ returns c = λ m h q.
 pub written-spec : {M : Type 1} → statement M
 written-spec =
     tie.close
-    (tie.spec
-    value-kind-requires
-    value-requires
-    leave-requires
-    copy-requires
-    set-value-requires
-    set-state-requires
-    cast-join
-    join-requires
+    (tie.spec value-kind-requires value-requires leave-requires copy-requires set-value-requires set-state-requires cast-join join-requires
     returns)

@@ -38,10 +38,4 @@ returns c = λ m h q.
 pub call-out-spec : {M : Type 1} → statement M
 call-out-spec =
     tie.close
-    (tie.spec
-    leave-requires
-    set-state-requires
-    set-node-requires
-    add-set-calls-made
-    set-calls-made-requires
-    returns)
+    (tie.spec leave-requires set-state-requires set-node-requires add-set-calls-made set-calls-made-requires returns)
