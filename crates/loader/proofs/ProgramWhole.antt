@@ -23,7 +23,7 @@ use Rattle.reader.specs.Definition.{readDefinitionList, definitionListNodes, de
 use Rattle.reader.proofs.ProgramNodes.{construct-length}
 use Rattle.reader.proofs.ProgramParts.{AllDefined, all-defined, Parted, parted}
 use Rattle.compiler.specs.ExpressionCompiled.{reading}
-use Rattle.compiler.specs.Body.{Sunk, sunk, BodyAccepted, compiledWithSink, storedBody}
+use Rattle.compiler.specs.Body.{Sunk, sunk, BodyAccepted, WhereBodyAccepted, compiledWithSink, storedBody}
 use Rattle.compiler.specs.declared.expression.Compiled.{Compiled}
 use Rattle.loader.specs.ProgramStored.{Leads, DefinitionsRead, definitions, Accepts, accepts, placeBehind, storedDefinitions}
 use Rattle.loader.specs.ProgramStored.{storedProgram}
@@ -85,36 +85,39 @@ module _ (ks os : List ℕ) (n nodes : ℕ) (ss : List ℕ) (ok : Accepts (readE
     unfolding levels
     read = reread (readExp 24) refl (sym at) (facts .rest ∙ ap (λ m. entriesFrom ks os m) (sym at)) (its .read-goal)
 
-    pub goal-read : (s : Scope) → Means s (levels 0) → BodyAccepted ks os s (r .at) (r .node) (nodes - 1) (levels 0)
-    goal-read s m =
-        let h = most in
-        let f = first in
-        let a = all in
-        record {
-          parts = parts;
-          means = m;
-          below = omega arith;
-          sinks = subst (λ q. Sunk q (r .node) (nodes - 1)) (sym read) (sunk (omega arith));
-        }
+    module _ (s : Scope) (mean : Means s (levels 0)) where
+      pub goal-read : BodyAccepted ks os s (r .at) (r .node) (nodes - 1) (levels 0)
+      goal-read =
+          let h = most in
+          let f = first in
+          let a = all in
+          record {
+            parts = parts;
+            means = mean;
+            below = omega arith;
+            sinks = subst (λ q. Sunk q (r .node) (nodes - 1)) (sym read) (sunk (omega arith));
+          }
 
-    module _ (c : Compiled) (ec : c ≡ compiledWithSink (reading 24 ks os (levels 0) (r .at)) (r .node)) where
-      goal : c ≡ compiledWithSink (got (its .goal)) (r .node)
-      goal = ec ∙ ap (λ q. compiledWithSink q (r .node)) read
+      -- the goal, compiled
+      module _ (c : Compiled) (l1 l2 : List ℕ)
+          (w : WhereBodyAccepted ks os s (r .at) (r .node) (nodes - 1)
+          (λ e. (c ≡ compiledWithSink e (r .node)) × (l2 ≡ storedBody e true (r .node) l1))) where
+        goal : c ≡ compiledWithSink (got (its .goal)) (r .node)
+        goal = w (levels 0) goal-read .0 ∙ ap (λ q. compiledWithSink q (r .node)) read
 
-      ends : c .node ≡ definitionListNodes (its .definitions .value) + (nodeCount (its .goal .value) + 1)
-      ends = let e = ap (λ (x : Compiled). x .node) goal in let f = first in omega arith
+        ends : c .node ≡ definitionListNodes (its .definitions .value) + (nodeCount (its .goal .value) + 1)
+        ends = let e = ap (λ (x : Compiled). x .node) goal in let f = first in omega arith
 
-      pub nodes-fit : c .node < 4096
-      nodes-fit = let e = ends in let m = most in omega arith
+        pub nodes-fit : c .node < 4096
+        nodes-fit = let e = ends in let m = most in omega arith
 
-      pub program-done : (ws l1 l2 l3 : List ℕ) → l1 ≡ storedDefinitions (readDefinitionList n 0 (entries ks os)) ws
-          → l2 ≡ storedBody (reading 24 ks os (levels 0) (r .at)) true (r .node) l1 → l3 ≡ sets l2 0 (c .node ∷ n ∷ c .root ∷ [])
-          → l3 ≡ storedProgram (readEntries n (entries ks os)) ws
-      unfolding construct
-      program-done ws l1 l2 l3 e1 e2 e3 =
-          let same = its .value in
-          all-words (its .definitions .value) (its .goal .value) ws l1 l2 l3 (r .node) (c .node) n (c .root) first
-          (e1 ∙ ap (λ q. storedDefinitions q ws) (its .read-definitions))
-          (e2 ∙ ap (λ q. storedBody q true (r .node) l1) read) e3
-          (ends ∙ sym counted ∙ ap (λ p. length (construct p .nodes)) same) (sym (facts .many)) (ap (λ (x : Compiled). x .root) goal)
-          ∙ sym (ap (λ q. storedProgram q ws) (it .1) ∙ ap (λ p. written (construct p) ws) same)
+        pub program-done : (ws l3 : List ℕ) → l1 ≡ storedDefinitions (readDefinitionList n 0 (entries ks os)) ws
+            → l3 ≡ sets l2 0 (c .node ∷ n ∷ c .root ∷ []) → l3 ≡ storedProgram (readEntries n (entries ks os)) ws
+        unfolding construct
+        program-done ws l3 e1 e3 =
+            let same = its .value in
+            all-words (its .definitions .value) (its .goal .value) ws l1 l2 l3 (r .node) (c .node) n (c .root) first
+            (e1 ∙ ap (λ q. storedDefinitions q ws) (its .read-definitions))
+            (w (levels 0) goal-read .1 ∙ ap (λ q. storedBody q true (r .node) l1) read) e3
+            (ends ∙ sym counted ∙ ap (λ p. length (construct p .nodes)) same) (sym (facts .many)) (ap (λ (x : Compiled). x .root) goal)
+            ∙ sym (ap (λ q. storedProgram q ws) (it .1) ∙ ap (λ p. written (construct p) ws) same)

@@ -20,18 +20,18 @@ use Rattle.reader.proofs.TableLaws as tables
 use Rattle.reader.proofs.TableLaws.{definition-count, entry-count, part-entries, table-declined, table-read}
 use Rattle.loader.specs.TableLoaded.{loaded, loadedWords}
 use Rattle.loader.specs.ProgramStored.{Leads, Accepts, accepts, storedProgram}
-use Rattle.loader.specs.declared.table.Loaded.{Loaded}
 use Rattle.loader.specs.declared.table.Loaded.the-variants.{Dag, Refused}
 
 module _ (t : List ℕ) (r : Tested) (er : r ≡ tested (readTable t)) where
-  -- what was loaded, and the words behind it
-  abbrev Loads : Loaded → (d d1 : List ℕ) → Type 0
-  Loads l d d1 = (l ≡ loaded (readTable t)) × (d1 ≡ loadedWords (readTable t) d)
+  module _ (k e : ℕ) (h : r ≡ Declined k e) where
+    pub refused-answer : Refused k e ≡ loaded (readTable t)
+    unfolding loaded
+    refused-answer = rw (table-declined t r er k e h)
 
-  -- "A refusal leaves machine and dag as before the call"
-  pub load-refused : (k e : ℕ) → r ≡ Declined k e → (d : List ℕ) → Loads (Refused k e) d d
-  unfolding loaded loadedWords
-  load-refused k e h d = let z = table-declined t r er k e h in (rw z, rw z)
+    -- "A refusal leaves machine and dag as before the call"
+    pub refused-words : (d : List ℕ) → d ≡ loadedWords (readTable t) d
+    unfolding loadedWords
+    refused-words d = rw (table-declined t r er k e h)
 
   module _ (k : ℕ) (h : r ≡ Accepted k) where
     it : (p : Got Program) × (readTable t ≡ accepted (p .value)) × (length (construct (p .value) .nodes) ≡ k) × tables.Accepts t p
@@ -67,7 +67,7 @@ module _ (t : List ℕ) (r : Tested) (er : r ≡ tested (readTable t)) where
 
         pub load-done : (d d1 : List ℕ)
             → d1 ≡ storedProgram (readEntries c (entries (take (4 + n - 4) (drop 4 t)) (take (length t - (4 + n)) (drop (4 + n) t)))) d
-            → Loads (Dag k) d d1
+            → (Dag k ≡ loaded (readTable t)) × (d1 ≡ loadedWords (readTable t) d)
         unfolding loaded loadedWords
         load-done d d1 e = (
           sym (ap loaded (it .1) ∙ ap Dag (it .2)),

@@ -28,9 +28,8 @@ cast-put-sizes c =
     let definitions = formals .before .before in
     let pre = definitions .before .before .before .before .pre in
     let place = definitions .compile-definitions .ensures .0 in
-    let given =
-    goal .compile-body .ensures _ (goal-read _ _ _ _ _ (pre .1 .1) (pre .0) (pre .1 .0) _ place _ (formals .of-formals .ensures)) in
-    fits-under w32 _ 4096 (nodes-fit _ _ _ _ _ (pre .1 .1) (pre .0) (pre .1 .0) _ place _ (given .0)) tt
+    fits-under w32 _ 4096
+    (nodes-fit _ _ _ _ _ (pre .1 .1) (pre .0) (pre .1 .0) _ place _ (formals .of-formals .ensures) _ _ _ (goal .compile-body .ensures)) tt
 
 cast-put-sizes-2 : tie.Need-cast-put-sizes-2
 cast-put-sizes-2 c = search needs
@@ -39,17 +38,7 @@ put-sizes-requires : tie.Need-put-sizes-requires
 put-sizes-requires c κs = search needs
 
 returns : tie.Need-returns
-returns c =
-    let goal = c .before .before .before in
-    let formals = goal .before in
-    let definitions = formals .before .before in
-    let pre = definitions .before .before .before .before .pre in
-    let place = definitions .compile-definitions .ensures .0 in
-    let given =
-    goal .compile-body .ensures _ (goal-read _ _ _ _ _ (pre .1 .1) (pre .0) (pre .1 .0) _ place _ (formals .of-formals .ensures)) in
-    program-done _ _ _ _ _ (pre .1 .1) (pre .0) (pre .1 .0) _ place _ (given .0) _ _ _ _ (definitions .compile-definitions .ensures .1)
-    (given .1)
-    (c .put-sizes .ensures)
+returns c = search program-done
 
 pub compile-program-spec : {M : Type 1} → statement M
 compile-program-spec =

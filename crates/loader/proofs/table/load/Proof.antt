@@ -2,7 +2,7 @@
 -- Assumes nothing.
 use mathlib.Core.Path.{refl}
 use borrow.Author.Needs.{needs}
-use Rattle.loader.proofs.TableLoad.{load-refused, load-long, load-even, load-few, load-definitions, load-accepts, load-done}
+use Rattle.loader.proofs.TableLoad.{refused-answer, refused-words, load-long, load-even, load-few, load-definitions, load-accepts, load-done}
 use Rattle.loader.proofs.table.load.Statement.{statement}
 use Rattle.loader.proofs.table.load.Tie as tie
 
@@ -96,9 +96,7 @@ compile-program-requires c κs =
     )
 
 returns : tie.Need-returns
-returns c =
-    let answer = c .before in
-    load-refused _ _ (answer .before .before .check-table .ensures .0) _ _ (answer .answer .given .1) _
+returns c = (search refused-answer, search refused-words)
 
 returns-2 : tie.Need-returns-2
 returns-2 c =
