@@ -2,7 +2,8 @@
 -- Assumes nothing.
 use mathlib.Core.Path.{refl}
 use borrow.Author.Needs.{needs}
-use Rattle.loader.proofs.TableLoad.{refused-answer, refused-words, load-long, load-even, load-few, load-definitions, load-accepts, load-done}
+use Rattle.loader.proofs.TableLoad.{refused-answer, refused-words, load-long, load-even, load-few, load-definitions, load-accepts}
+use Rattle.loader.proofs.TableLoad.{load-done}
 use Rattle.loader.proofs.table.load.Statement.{statement}
 use Rattle.loader.proofs.table.load.Tie as tie
 
