@@ -6,6 +6,7 @@ pub mod Chain
 pub mod Bystander
 pub mod ChokeStands
 pub mod Passage
+pub mod RunWithin
 pub mod StepStands
 pub mod AnswerStands
 pub mod Last

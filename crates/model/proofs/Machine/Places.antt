@@ -3,7 +3,7 @@
 use mathlib.Core.Path.{_≡_, refl, sym, _∙_, ap, subst}
 use mathlib.Core.Bool.{Bool, true, false}
 use mathlib.Core.List.{List}
-use Prim.Native.Nat.{ℕ, zero, suc, _+_, _<_, _≤_}
+use Prim.Native.Nat.{ℕ, zero, suc, _+_, _-_, _<_, _≤_}
 use native.Mathlib.Decide.{decLt}
 use native.Mathlib.Omega.{arith}
 use lib.ListN.{length, getD}
@@ -74,3 +74,59 @@ next-place-free marks last l h = let x = some-free marks h in go (x .0) (x .1) (
     go : (j : ℕ) → Free marks j → j < length marks → Dec (last < j) → Free marks (freeFrom marks (length marks) (suc last))
     go j f k (yes x) = ahead marks (length marks) (suc last) j f k (omega arith) (omega arith)
     go j f k (no x) = behind marks (length marks) (suc last) j f k (omega arith) (omega arith)
+
+-- "the next place not in use before the call, after the last one given, round from the end to 0": the places after p, one after the other
+unfoldable pub placeAfter : (size p i : ℕ) → ℕ
+placeAfter size p zero = around size (suc p)
+placeAfter size p (suc i) = placeAfter size (around size (suc p)) i
+
+module _ (marks : List Bool) where
+  -- the search finds the first of them that is free, or all that it looked at are in use
+  pub data Searched (p n : ℕ) : Type 0 where
+    at : (k : ℕ) → freeFrom marks n (suc p) ≡ placeAfter (length marks) p k
+        → ((i : ℕ) → i < k → Marked marks (placeAfter (length marks) p i)) → Searched p n
+    none : freeFrom marks n (suc p) ≡ 0 → ((i : ℕ) → i < n → Marked marks (placeAfter (length marks) p i)) → Searched p n
+
+  searched : (n p : ℕ) → Searched p n
+  unfolding freeFrom placeAfter
+  searched zero p = none refl (λ i l. absurd (omega arith))
+  searched (suc n) p = go (getD marks q true) refl (searched n q)
+    where
+      q : ℕ
+      q = around (length marks) (suc p)
+
+      before : {k : ℕ} → Marked marks q → ((i : ℕ) → i < k → Marked marks (placeAfter (length marks) q i))
+          → (i : ℕ) → i < suc k → Marked marks (placeAfter (length marks) p i)
+      before m f zero l = unfold placeAfter in m
+      before m f (suc i) l = unfold placeAfter in f i (omega arith)
+
+      look : (b : Bool) → getD marks q true ≡ b → freeFrom marks (suc n) (suc p) ≡ elim b as (λ b. ℕ) [ true ↦ freeFrom marks n (suc q) | false ↦ q ]
+      look b e = unfold freeFrom in ap (λ b. elim b as (λ b. ℕ) [ true ↦ freeFrom marks n (suc q) | false ↦ q ]) e
+
+      go : (b : Bool) → getD marks q true ≡ b → Searched q n → Searched p (suc n)
+      go false e x = at 0 (look false e ∙ sym (unfold placeAfter in refl)) (λ i l. absurd (omega arith))
+      go true e (at k r f) = at (suc k) (look true e ∙ r ∙ sym (unfold placeAfter in refl)) (before e f)
+      go true e (none r f) = none (look true e ∙ r) (before e f)
+
+  -- after as many places as are left the search is at 0
+  wraps : (j p : ℕ) → suc p + j ≡ length marks → placeAfter (length marks) p j ≡ 0
+  unfolding placeAfter
+  wraps zero p e = around-outside (length marks) (suc p) (omega arith)
+  wraps (suc j) p e =
+      ap (λ q. placeAfter (length marks) q j) (around-inside (length marks) (suc p) (omega arith)) ∙ wraps j (suc p) (omega arith)
+
+  -- where some place is free, every place that is passed over was in use
+  pub next-place-first : (last : ℕ) → last < length marks → marked marks < length marks
+      → (k : ℕ) × (nextPlace marks last ≡ placeAfter (length marks) last k)
+      × ((i : ℕ) → i < k → Marked marks (placeAfter (length marks) last i))
+  unfolding nextPlace
+  next-place-first last l some = go (searched (length marks) last)
+    where
+      go : Searched last (length marks)
+          → (k : ℕ) × (freeFrom marks (length marks) (suc last) ≡ placeAfter (length marks) last k)
+          × ((i : ℕ) → i < k → Marked marks (placeAfter (length marks) last i))
+      go (at k e f) = (k, e, f)
+      go (none e f) =
+          let j : ℕ = length marks - suc last in
+          clash (ap (λ q. getD marks q true) (sym (wraps j last (omega arith))) ∙ f j (omega arith))
+          (ap (λ q. getD marks q true) (sym e) ∙ unfold nextPlace in next-place-free marks last l some)
