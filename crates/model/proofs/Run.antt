@@ -7,6 +7,7 @@ pub mod Bystander
 pub mod ChokeStands
 pub mod Passage
 pub mod RunWithin
+pub mod Printing
 pub mod StepStands
 pub mod AnswerStands
 pub mod Last

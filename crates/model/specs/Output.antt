@@ -1,3 +1,4 @@
 -- "`orcrun` and its lines".
 pub mod Line
 pub mod Orcrun
+pub mod Printed

@@ -100,7 +100,8 @@ module _ (marks : List Bool) where
       before m f zero l = unfold placeAfter in m
       before m f (suc i) l = unfold placeAfter in f i (omega arith)
 
-      look : (b : Bool) → getD marks q true ≡ b → freeFrom marks (suc n) (suc p) ≡ elim b as (λ b. ℕ) [ true ↦ freeFrom marks n (suc q) | false ↦ q ]
+      look : (b : Bool) → getD marks q true ≡ b
+          → freeFrom marks (suc n) (suc p) ≡ elim b as (λ b. ℕ) [ true ↦ freeFrom marks n (suc q) | false ↦ q ]
       look b e = unfold freeFrom in ap (λ b. elim b as (λ b. ℕ) [ true ↦ freeFrom marks n (suc q) | false ↦ q ]) e
 
       go : (b : Bool) → getD marks q true ≡ b → Searched q n → Searched p (suc n)
