@@ -23,3 +23,4 @@ pub mod Larger
 pub mod ProgramComplete
 pub mod Middle
 pub mod Demand3
+pub mod LoadedDemand3

@@ -20,12 +20,12 @@ use Rattle.calculus.specs.Expression.{Exp}
 use Rattle.calculus.specs.Allowed.{nextHandle}
 use Rattle.calculus.specs.Meaning.{meaning}
 use Rattle.model.specs.Run.Call.{Call, step, answer, runner, outcomeOf, noneRefused, eventsFrom}
-use Rattle.model.specs.Run.Demand3.{Shown, Middle}
+use Rattle.model.specs.Run.Demand3.{Starts, Shown, Middle}
 use Rattle.model.specs.declared.record.Machine.{Machine}
 use Rattle.job.proofs.Test.{lt-ltb}
 use Rattle.job.proofs.Accepted.{accepted-well-formed}
 use Rattle.job.proofs.DagHolds.{construct-holds}
-use Rattle.model.proofs.Machine.StartAccepted.{start-machine}
+use Rattle.model.proofs.Machine.StartAccepted.{start-machine, accepted-starts}
 use Rattle.model.proofs.Machine.StartUsed.{start-one-token, start-no-cell}
 use Rattle.demand3.proofs.Larger.{UsedAtMost, step-adds, answer-adds}
 use Rattle.simulation.proofs.AbstractMachine as Abstract
@@ -121,7 +121,7 @@ module _ (lim : Limits) (d : Dag) (M : Labels) (bodies : ℕ → Exp) (room : Ro
 
 module _ (p : Program) (w : WellFormed p) {events : List Event} {s : Abstract.State}
     (r : Abstract.Run (programOf (construct p) (labelsOf p) (meaning p .body)) (startAt (construct p .goal)) events s) where
-  shown-at : (t c k : ℕ) → suc (stepsOf r) ≤ t → suc (stepsOf r) ≤ c → stepsOf r ≤ k → Shown runner p events t c k
+  shown-at : (t c k : ℕ) → suc (stepsOf r) ≤ t → suc (stepsOf r) ≤ c → stepsOf r ≤ k → Shown runner p (construct p) events t c k
   shown-at t c k at ac ak =
       from (start-machine lim p w)
       (run-followed lim d M bodies (fitting t c k) flow (Spare lim d M bodies room flow dag) (spare-keeps lim d M bodies room flow dag) m r
@@ -161,9 +161,9 @@ module _ (p : Program) (w : WellFormed p) {events : List Event} {s : Abstract.St
           record { state = startAt (d .goal); reached = begun; tokens = omega arith; cells = omega arith; calls = omega arith }
 
       from : {o : Machine} → o ≡ m → Does lim d M bodies m events
-          → (calls : List Call) × (noneRefused runner lim d o calls ≡ true) × (eventsFrom runner lim d o calls ≡ events)
-      from e (does {cs = calls} {end = end} p) =
-          let z = passed lim d (subst (λ o. Passage lim d o calls events true end) (sym e) p) in (calls, z .clear, z .shows)
+          → Starts runner p d lim × (calls : List Call) × (noneRefused runner lim d o calls ≡ true) × (eventsFrom runner lim d o calls ≡ events)
+      from e (does {cs = calls} {end = end} x) =
+          let z = passed lim d (subst (λ o. Passage lim d o calls events true end) (sym e) x) in (accepted-starts lim p w, calls, z .clear, z .shows)
 
 pub allowed-lists-are-shown : Middle runner
 allowed-lists-are-shown table p e events allowed =

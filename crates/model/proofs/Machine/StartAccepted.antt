@@ -1,7 +1,7 @@
 -- A well-formed program begins: the start accepts its dag, also read back from the words that it was written to.
 -- The dag keeps the index rules, and the start tests nothing else. Assumes nothing.
 use mathlib.Core.Path.{_≡_, ap}
-use mathlib.Core.Bool.{true}
+use mathlib.Core.Bool.{true, false}
 use mathlib.Core.List.{List, []}
 use Prim.Native.Nat.{ℕ}
 use lib.ListN.{length}
@@ -11,7 +11,7 @@ use Rattle.job.specs.Node.{Dag, dagHolds}
 use Rattle.job.specs.Construct.{construct}
 use Rattle.job.specs.Words.{arrayWords, dagOf, written}
 use Rattle.model.specs.Machine.Limits.{Limits}
-use Rattle.model.specs.Machine.Reply.{reportValues}
+use Rattle.model.specs.Machine.Reply.{reportValues, isRefused}
 use Rattle.model.specs.Machine.Start.{start, startMachine}
 use Rattle.model.specs.declared.reply.Outcome.{Outcome}
 use Rattle.model.specs.declared.reply.Reply.the-variants as replies
@@ -30,6 +30,10 @@ start-begins lim p w = start-begun lim (construct p) (construct-holds p w)
 
 pub start-accepts : (lim : Limits) (p : Program) → WellFormed p → start lim (construct p) .reply ≡ replies.Done
 start-accepts lim p w = ap (λ o. o .reply) (start-begins lim p w)
+
+pub accepted-starts : (lim : Limits) (p : Program) → WellFormed p → isRefused (start lim (construct p) .reply) ≡ false
+unfolding isRefused
+accepted-starts lim p w = ap isRefused (start-accepts lim p w)
 
 pub start-machine : (lim : Limits) (p : Program) → WellFormed p → start lim (construct p) .machine ≡ startMachine lim (construct p .goal)
 start-machine lim p w = ap (λ o. o .machine) (start-begins lim p w)

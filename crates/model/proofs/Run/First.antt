@@ -1,9 +1,8 @@
 -- Demand 3, first part: each run's event list is allowed for its table. A run is in lock step with a run of the abstract machine, and what
 -- that shows is allowed. Assumes nothing.
 use mathlib.Core.List.{List}
-use native.Mathlib.Omega.{arith}
 use Rattle.job.specs.Construct.{construct}
-use Rattle.model.specs.Machine.Limits.{paper}
+use Rattle.model.specs.Machine.Limits.{limits}
 use Rattle.calculus.specs.Event.{Event}
 use Rattle.calculus.specs.Allowed.{Allowed}
 use Rattle.calculus.specs.Meaning.{meaning}
@@ -14,18 +13,18 @@ use Rattle.job.proofs.Accepted.{accepted-well-formed}
 use Rattle.model.proofs.Run.Sound.{sound}
 use Rattle.model.proofs.Sees.Labelling.{labelsOf}
 use Rattle.model.proofs.Sees.Flowing.{construct-flows}
-use Rattle.model.proofs.Sees.Lockstep.{Fitting, Shown, shows, run-shown}
+use Rattle.model.proofs.Sees.Lockstep.{fitting, Shown, shows, run-shown}
+use Rattle.model.proofs.Machine.StartAccepted.{accepted-starts}
 
 pub runs-are-allowed : First runner
-runs-are-allowed table p e calls =
-    allowed (run-shown paper (construct p) (labelsOf p) (meaning p .body) fitting (construct-flows p w) (omega arith) calls)
+runs-are-allowed table p e t c k some = (
+  accepted-starts (limits t c k) p w,
+  λ calls. allowed (run-shown (limits t c k) (construct p) (labelsOf p) (meaning p .body) (fitting t c k) (construct-flows p w) some calls),
+)
   where
     w : WellFormed p
     w = accepted-well-formed table p e
 
-    fitting : Fitting paper
-    fitting = record { tokens = omega arith; cells = omega arith }
-
-    allowed : {es : List Event} → Shown paper (construct p) (labelsOf p) (meaning p .body) fitting (construct-flows p w) es
+    allowed : {es : List Event} → Shown (limits t c k) (construct p) (labelsOf p) (meaning p .body) (fitting t c k) (construct-flows p w) es
         → Allowed (meaning p) es
     allowed (shows r) = sound p w r

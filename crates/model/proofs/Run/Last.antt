@@ -23,6 +23,8 @@ use Rattle.model.proofs.Run.Passage.{Passage, passage, refused-leaves}
 use Rattle.model.proofs.Run.Survivors.{survivors-bound, fate-stays}
 use Rattle.model.proofs.Run.StepStands.{step-stands}
 use Rattle.model.proofs.Run.AnswerStands.{answer-stands}
+use Rattle.job.proofs.Accepted.{accepted-well-formed}
+use Rattle.model.proofs.Machine.StartAccepted.{accepted-starts}
 
 front-acts : (d : Dag) (m : Machine) → fate d m 0 ≡ acts
 unfolding fate
@@ -79,5 +81,7 @@ module _ (lim : Limits) (d : Dag) (fits : lim .tokens ≤ lim .tokenPlaces) wher
 
 -- "Last part: .. at most k later steps have been accepted."
 pub house-order-is-fair : Last runner
-house-order-is-fair table p read earlier later house k l =
-    follow paper (construct p) (omega arith) house (passage paper (construct p) later _) k l
+house-order-is-fair table p read = (
+  accepted-starts paper p (accepted-well-formed table p read),
+  λ earlier later house k l. follow paper (construct p) (omega arith) house (passage paper (construct p) later _) k l,
+)

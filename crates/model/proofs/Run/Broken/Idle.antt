@@ -89,6 +89,6 @@ unfolding computing
 idle-is-incomplete middle =
     let m = middle (encode one-signal) one-signal refl (Event.publish (pos 0) ∷ []) signal-published in
     let shown = m .3 (m .0) (m .1) (m .2) (omega arith) (omega arith) (omega arith) in
-    let nothing = start-shows-nothing (m .0) (m .1) (m .2) (shown .0) in
-    let published = shown .2 in
+    let nothing = start-shows-nothing (m .0) (m .1) (m .2) (shown .1) in
+    let published = shown .3 in
     let z : _≡_ {A = ℕ} 0 1 = cc in omega arith

@@ -75,5 +75,5 @@ overtaken s = let z : _≡_ {A = ℕ} 0 2 = s .place in omega arith
 pub jumping-is-unfair : Last jumping → ⊥
 unfolding computing outcomeOf machineAfter jumpingStep wokenFirst fate survivors frontEnds endsToken cellSet
 jumping-is-unfair last =
-    let followed = last (encode overtaking) overtaking refl (house 5) (Call.step 0 ∷ []) (House.front House.none) 1 (omega arith) in
+    let followed = last (encode overtaking) overtaking refl .1 (house 5) (Call.step 0 ∷ []) (House.front House.none) 1 (omega arith) in
     not-followed jumping paper (construct overtaking) refl refl overtaken (followed .1)
