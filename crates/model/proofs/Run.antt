@@ -11,6 +11,8 @@ pub mod Printing
 pub mod Numbers
 pub mod StepStands
 pub mod AnswerStands
+pub mod FrontEnds
+pub mod OnePosition
 pub mod Last
 pub mod Sound
 pub mod First

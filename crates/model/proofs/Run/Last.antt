@@ -21,6 +21,7 @@ use Rattle.model.specs.Run.Demand3.{Last}
 use Rattle.model.specs.declared.record.Machine.{Machine}
 use Rattle.model.proofs.Run.Passage.{Passage, passage, refused-leaves}
 use Rattle.model.proofs.Run.Survivors.{survivors-bound, fate-stays}
+use Rattle.model.proofs.Run.FrontEnds.{fate-acts, fate-falls, step-acts, step-ends}
 use Rattle.model.proofs.Run.StepStands.{step-stands}
 use Rattle.model.proofs.Run.AnswerStands.{answer-stands}
 use Rattle.job.proofs.Accepted.{accepted-well-formed}
@@ -53,8 +54,8 @@ module _ (lim : Limits) (d : Dag) (fits : lim .tokens ≤ lim .tokenPlaces) wher
           )
 
       by-fate : (k : ℕ) → k < m .queued → (f : Fate) → fate d m k ≡ f → Fair m k (Call.step 0 ∷ calls)
-      by-fate k l acts e = (0, Followed.acted ok e, omega arith)
-      by-fate k l falls e = (0, Followed.pruned ok e, omega arith)
+      by-fate k l acts e = (0, Followed.acted ok e (step-acts lim d m k ok (fate-acts d m k e)), omega arith)
+      by-fate k l falls e = (0, Followed.pruned ok e (step-ends lim d m k ok (fate-falls d m k e)), omega arith)
       by-fate zero l (stays k′) e = let z : _≡_ {A = ℕ} 0 1 = cc (front-acts d m) in absurd (omega arith)
       by-fate (suc k) l (stays k′) e = behind k k′ l e
 

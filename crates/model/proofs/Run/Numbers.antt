@@ -2,20 +2,19 @@
 -- decide: each is computed, and compared with what the sentence says. Assumes nothing.
 use mathlib.Core.Path.{_≡_, refl}
 use mathlib.Core.List.{List, [], _∷_, map}
-use Prim.Native.Nat.{ℕ}
-use lib.IntN.{ℤ, pos, negsuc}
+use lib.IntN.{pos, negsuc}
 use Rattle.job.specs.Decimal.{ascii}
-use Rattle.job.specs.Syntax.{constant, Exp, stop, site, Program}
+use Rattle.job.specs.Syntax.{constant, Exp, stop, site}
 use Rattle.job.specs.Encode.{encode}
 use Rattle.job.specs.Construct.{construct}
 use Rattle.job.specs.Node.{Dag}
-use Rattle.job.specs.Notation.{_∣_, _<[_]<_, v, let′, signal, goal, calling}
+use Rattle.job.specs.Notation.{_∣_, _<[_]<_, signal, goal, calling}
 use Rattle.model.specs.Machine.Limits.{Limits, limits, paper}
 use Rattle.model.specs.Machine.Blank.{blankMachine}
 use Rattle.model.specs.Machine.Start.{start}
 use Rattle.model.specs.Machine.Step.{step}
 use Rattle.model.specs.Machine.Answer.{answer}
-use Rattle.model.specs.Output.Line.{Line, refused, textOfAll}
+use Rattle.model.specs.Output.Line.{refused, textOfAll}
 use Rattle.model.specs.Output.Orcrun.{reportedLines, inputLines}
 use Rattle.model.specs.declared.record.Machine.{Machine}
 use Rattle.model.specs.declared.reply.Outcome.{Outcome}

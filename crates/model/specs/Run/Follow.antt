@@ -9,9 +9,10 @@ use lib.IntN.{ℤ}
 use Rattle.job.specs.Number.{Signed32}
 use Rattle.job.specs.Node.{Node, Dag, nodeAt}
 use Rattle.model.specs.Machine.Limits.{Limits}
-use Rattle.model.specs.Machine.Blank.{tokenAt}
+use Rattle.model.specs.Machine.Blank.{blankToken, tokenAt}
 use Rattle.model.specs.Machine.Active.{within}
-use Rattle.model.specs.Machine.Reply.{isRefused}
+use Rattle.model.specs.Machine.Reply.{outcome, isRefused}
+use Rattle.model.specs.Machine.Step.{takes}
 use Rattle.model.specs.Run.Call.{Call, step, answer, Runner, outcomeOf}
 use Rattle.model.specs.declared.token.Place.{Place}
 use Rattle.model.specs.declared.token.Place.the-variants as places
@@ -84,11 +85,14 @@ module _ (R : Runner) (lim : Limits) (d : Dag) where
     -- a refused step
     refused : {m : Machine} {k : ℕ} {cs : List Call}
         → isRefused (outcomeOf R lim d m (step 0) .reply) ≡ true → Followed m k (step 0 ∷ cs) 0
-    -- an accepted step that takes it, or that ends it
+    -- an accepted step that takes it: what the step does is this token's act
     acted : {m : Machine} {k : ℕ} {cs : List Call}
-        → isRefused (outcomeOf R lim d m (step 0) .reply) ≡ false → fate d m k ≡ acts → Followed m k (step 0 ∷ cs) 0
+        → isRefused (outcomeOf R lim d m (step 0) .reply) ≡ false → fate d m k ≡ acts
+        → outcomeOf R lim d m (step 0) ≡ outcome m (takes lim d m k) → Followed m k (step 0 ∷ cs) 0
+    -- an accepted step that ends it: its place is blank afterwards
     pruned : {m : Machine} {k : ℕ} {cs : List Call}
-        → isRefused (outcomeOf R lim d m (step 0) .reply) ≡ false → fate d m k ≡ falls → Followed m k (step 0 ∷ cs) 0
+        → isRefused (outcomeOf R lim d m (step 0) .reply) ≡ false → fate d m k ≡ falls
+        → tokenAt (outcomeOf R lim d m (step 0) .machine .tokens) (getD (m .queue) k 0) ≡ blankToken → Followed m k (step 0 ∷ cs) 0
     -- an accepted step that leaves it in the queue
     passed : {m : Machine} {k k′ n : ℕ} {cs : List Call}
         → isRefused (outcomeOf R lim d m (step 0) .reply) ≡ false → fate d m k ≡ stays k′

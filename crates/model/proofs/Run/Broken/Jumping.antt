@@ -54,8 +54,8 @@ module _ (R : Runner) (lim : Limits) (d : Dag) where
       → (Stands m k (outcomeOf R lim d m (Call.step 0) .machine) k′ → ⊥)
       → Followed R lim d m k (Call.step 0 ∷ later) n → ⊥
   not-followed ok f lost (Followed.refused e) = clash e ok
-  not-followed ok f lost (Followed.acted e g) = let z : _≡_ {A = ℕ} 0 1 = cc in omega arith
-  not-followed ok f lost (Followed.pruned e g) = let z : _≡_ {A = ℕ} 0 1 = cc in omega arith
+  not-followed ok f lost (Followed.acted e g x) = let z : _≡_ {A = ℕ} 0 1 = cc in omega arith
+  not-followed ok f lost (Followed.pruned e g x) = let z : _≡_ {A = ℕ} 0 1 = cc in omega arith
   not-followed {m} {k} {k′} ok f lost (Followed.passed {k′ = j} e g s rest) =
       let same : j ≡ k′ = cc in lost (subst (λ i. Stands m k (outcomeOf R lim d m (Call.step 0) .machine) i) same s)
 
