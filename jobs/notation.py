@@ -1,8 +1,8 @@
 """Tables as text, and text as tables: docs/GUIDE.md, "A table as text", has the notation.
 
-`text_of` writes a table's text, `table_of` reads a text's table; each is the other's inverse. A table outside the written grammar raises
-`Declined` with number and entry, as `orcrun` prints them; a text outside the notation raises `Outside` with the place of the first byte that
-in no text follows those before it.
+`text_of` writes a table's text, `table_of` reads a text's table; each is the other's inverse. A table outside the written grammar
+raises `Declined` with number and entry, as `orcrun` prints them; a text outside the notation raises `Outside` with the place of the first
+byte that in no text follows those before it.
 """
 
 import struct
@@ -128,9 +128,9 @@ def text_of(job):
 class Text:
     """A text read from the front to entries.
 
-    The number of `(f<v1<g)` stands behind f, in which it is in scope: until it is read, f may have one variable more in scope than the bracket.
-    So `spans` has, for each side that is open, outermost first, the least and the greatest number that may be in scope there, and the least and
-    the greatest by which it may exceed the one before."""
+    The number of `(f<v1<g)` stands behind f, in which it is in scope: until it is read, f may have one variable more in scope than the
+    bracket. So `spans` has, for each side that is open, outermost first, the least and the greatest number that may be in scope there, and
+    the least and the greatest by which it may exceed the one before."""
 
     def __init__(self, text):
         self.text = text
