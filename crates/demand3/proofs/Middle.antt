@@ -20,7 +20,7 @@ use Rattle.calculus.specs.Expression.{Exp}
 use Rattle.calculus.specs.Allowed.{nextHandle}
 use Rattle.calculus.specs.Meaning.{meaning}
 use Rattle.model.specs.Run.Call.{Call, step, answer, runner, outcomeOf, noneRefused, eventsFrom}
-use Rattle.model.specs.Run.Demand3.{Starts, Shown, Middle}
+use Rattle.model.specs.Run.Demand3.{Begins, Shown, Middle}
 use Rattle.model.specs.declared.record.Machine.{Machine}
 use Rattle.job.proofs.Test.{lt-ltb}
 use Rattle.job.proofs.Accepted.{accepted-well-formed}
@@ -161,7 +161,7 @@ module _ (p : Program) (w : WellFormed p) {events : List Event} {s : Abstract.St
           record { state = startAt (d .goal); reached = begun; tokens = omega arith; cells = omega arith; calls = omega arith }
 
       from : {o : Machine} → o ≡ m → Does lim d M bodies m events
-          → Starts runner p d lim × (calls : List Call) × (noneRefused runner lim d o calls ≡ true) × (eventsFrom runner lim d o calls ≡ events)
+          → Begins runner p d lim × (calls : List Call) × (noneRefused runner lim d o calls ≡ true) × (eventsFrom runner lim d o calls ≡ events)
       from e (does {cs = calls} {end = end} x) =
           let z = passed lim d (subst (λ o. Passage lim d o calls events true end) (sym e) x) in (accepted-starts lim p w, calls, z .clear, z .shows)
 

@@ -18,14 +18,14 @@ use Rattle.model.specs.Run.Follow.{House, Followed}
 -- The three parts of a program, on a dag
 module _ (R : Runner) (p : Program) (d : Dag) where
   -- the start of a run is accepted
-  abbrev pub Starts : Limits → Type 0
-  Starts lim = isRefused (R .start lim d .reply) ≡ false
+  abbrev pub Begins : Limits → Type 0
+  Begins lim = isRefused (R .start lim d .reply) ≡ false
 
   -- "First part: each run's event list is allowed for its table": with any numbers of tokens, cells and calls, if there is a token
   abbrev pub FirstOn : Type 0
   FirstOn =
       (t c k : ℕ) → 1 ≤ t
-      → Starts (limits t c k)
+      → Begins (limits t c k)
       × ((calls : List Call) → Allowed (meaning p) (eventsFrom R (limits t c k) d (started R (limits t c k) d) calls))
 
   -- "Middle part: for each accepted table and each list allowed for it there are numbers of tokens, cells and calls such that, with
@@ -33,7 +33,7 @@ module _ (R : Runner) (p : Program) (d : Dag) where
   -- list."
   abbrev pub Shown : List Event → (tokens cells calls : ℕ) → Type 0
   Shown events t c k =
-      Starts (limits t c k)
+      Begins (limits t c k)
       × (calls : List Call)
       × (noneRefused R (limits t c k) d (started R (limits t c k) d) calls ≡ true)
       × (eventsFrom R (limits t c k) d (started R (limits t c k) d) calls ≡ events)
@@ -47,7 +47,7 @@ module _ (R : Runner) (p : Program) (d : Dag) where
   -- place 0. .. While neither has happened and no later step was refused, at most k later steps have been accepted."
   abbrev pub LastOn : Type 0
   LastOn =
-      Starts paper
+      Begins paper
       × ((earlier later : List Call) → House later
       → (k : ℕ) → k < machineAfter R paper d (started R paper d) earlier .queued
       → (n : ℕ) × Followed R paper d (machineAfter R paper d (started R paper d) earlier) k later n × (n ≤ k))
