@@ -1,5 +1,5 @@
--- Demand 3 on the words that `load` writes for an accepted table, whatever the array held before: all three parts, since the words decode to the
--- dag of the construction. Assumes nothing.
+-- Demand 3 on the words that `load` writes for an accepted table, whatever the array held before: all three parts, since the words decode
+-- to the dag of the construction. Assumes nothing.
 use mathlib.Core.Path.{_≡_, sym, subst}
 use mathlib.Core.List.{List}
 use Prim.Native.Nat.{ℕ}

@@ -161,9 +161,11 @@ module _ (p : Program) (w : WellFormed p) {events : List Event} {s : Abstract.St
           record { state = startAt (d .goal); reached = begun; tokens = omega arith; cells = omega arith; calls = omega arith }
 
       from : {o : Machine} → o ≡ m → Does lim d M bodies m events
-          → Begins runner p d lim × (calls : List Call) × (noneRefused runner lim d o calls ≡ true) × (eventsFrom runner lim d o calls ≡ events)
+          → Begins runner p d lim × (calls : List Call) × (noneRefused runner lim d o calls ≡ true)
+          × (eventsFrom runner lim d o calls ≡ events)
       from e (does {cs = calls} {end = end} x) =
-          let z = passed lim d (subst (λ o. Passage lim d o calls events true end) (sym e) x) in (accepted-starts lim p w, calls, z .clear, z .shows)
+          let z = passed lim d (subst (λ o. Passage lim d o calls events true end) (sym e) x) in
+          (accepted-starts lim p w, calls, z .clear, z .shows)
 
 pub allowed-lists-are-shown : Middle runner
 allowed-lists-are-shown table p e events allowed =

@@ -1,5 +1,5 @@
--- What a run of `orcrun` prints, said by the calls that it makes: their lines, then how it ends. Nothing here speaks of turns. Assumes nothing:
--- these are definitions.
+-- What a run of `orcrun` prints, said by the calls that it makes: their lines, then how it ends. Nothing here speaks of turns. Assumes
+-- nothing: these are definitions.
 use mathlib.Core.Path.{_≡_}
 use mathlib.Core.Bool.{true, false}
 use mathlib.Core.List.{List, [], _∷_, _++_}
@@ -29,11 +29,12 @@ module _ (lim : Limits) (d : Dag) where
       elim (isRefused (o .reply)) as (λ b. ℕ) [ true ↦ rest | false ↦ suc rest ]
   acceptedSteps m (answer h v fits ∷ cs) = acceptedSteps (outcomeOf runner lim d m (answer h v fits) .machine) cs
 
-  -- the calls that `orcrun` makes: "it runs house order; with the queue empty it delivers a record", handle and signed value; what is left of
-  -- the records' bytes behind them
+  -- the calls that `orcrun` makes: "it runs house order; with the queue empty it delivers a record", handle and signed value; what is left
+  -- of the records' bytes behind them
   pub data HouseCalls : Machine → (bytes : List ℕ) → List Call → (left : List ℕ) → Type 0 where
     none : {m : Machine} {bytes : List ℕ} → HouseCalls m bytes [] bytes
-    steps : {m : Machine} {bytes left : List ℕ} {cs : List Call} → 0 < m .queued → isRefused (outcomeOf runner lim d m (step 0) .reply) ≡ false
+    steps : {m : Machine} {bytes left : List ℕ} {cs : List Call} → 0 < m .queued
+        → isRefused (outcomeOf runner lim d m (step 0) .reply) ≡ false
         → HouseCalls (outcomeOf runner lim d m (step 0) .machine) bytes cs left → HouseCalls m bytes (step 0 ∷ cs) left
     delivers : {m : Machine} {bytes left : List ℕ} {cs : List Call} (fits : Signed32 (signed (number (take 4 (drop 4 bytes)))))
         → m .queued ≡ 0 → 8 ≤ length bytes
@@ -52,7 +53,8 @@ module _ (lim : Limits) (d : Dag) where
     shortened : m .queued ≡ 0 → 0 < bytes → bytes < 8 → Ends most m steps bytes (short ∷ [])
     finished : m .queued ≡ 0 → bytes ≡ 0 → Ends most m steps bytes []
 
-  -- The lines of a run from a machine on, with these bytes of records: those of its calls, how it ends, and "last .. `end` and accepted steps"
+  -- The lines of a run from a machine on, with these bytes of records: those of its calls, how it ends, and "last .. `end` and accepted
+  -- steps"
   pub record Printed (most : ℕ) (m : Machine) (bytes : List ℕ) (lines : List Line) : Type 0 where
     pub calls : List Call
     pub left : List ℕ

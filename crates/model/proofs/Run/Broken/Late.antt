@@ -71,4 +71,5 @@ late-events = refl
 pub late-is-not-allowed : First late → ⊥
 unfolding computing
 late-is-not-allowed first =
-    no-answer-to-pruned-call (pos 7) .not-then (rw late-events at (first (encode first-answer) first-answer refl 64 32 1000000 (omega arith) .1 late-calls))
+    no-answer-to-pruned-call (pos 7) .not-then
+    (rw late-events at (first (encode first-answer) first-answer refl 64 32 1000000 (omega arith) .1 late-calls))
