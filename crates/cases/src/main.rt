@@ -1,19 +1,16 @@
 // Runs each stored input as `orcrun` runs its own, and prints a line `case` with its number and then what the run prints. On standard input
 // an input stands behind its length, 4 bytes, the lowest first.
 use job::dag::WORDS;
+use job::wide::wide;
 use libc::STDIN_FILENO;
 use libc::STDOUT_FILENO;
+use reader::entry::four_bytes;
 use run::orcrun::orcrun;
 ghost use Prim.Native.Nat.{_≤_, _<_};
 ghost use lib.ListN.{length};
 
 // No more inputs than this, so that the program ends on any standard input.
 const MOST: u64 = 100000;
-
-// Four bytes, the lowest first.
-fn four_bytes(a: u8, b: u8, c: u8, d: u8) -> usize {
-    a as usize + 256 * (b as usize + 256 * (c as usize + 256 * d as usize))
-}
 
 fn least(a: usize, b: usize) -> usize
     ensures { λ r. ⌜ r ≤ b ⌝ }
@@ -51,7 +48,10 @@ fn next(number: u64, input: &mut [u8], dag: &mut [u32; WORDS], output: &mut [u8]
     if io::read_full(STDIN_FILENO, &mut size) < 4 {
         return false;
     }
-    let n = least(four_bytes(size[0], size[1], size[2], size[3]), input.len());
+    let n = least(
+        wide(four_bytes(size[0], size[1], size[2], size[3])),
+        input.len(),
+    );
     if io::read_full(STDIN_FILENO, &mut input[0..n]) < n {
         return false;
     }

@@ -12,7 +12,7 @@ ghost use Rattle.reader.specs.Scope.{ForEvery};
 ghost use Rattle.reader.specs.EntryFault.{expressionFault};
 
 // Four bytes, the lowest first.
-fn word(a: u8, b: u8, c: u8, d: u8) -> u32
+pub fn four_bytes(a: u8, b: u8, c: u8, d: u8) -> u32
     ensures { λ r. ⌜ r ≡ a + 256 * (b + 256 * (c + 256 * d)) ⌝ }
 {
     a as u32 + 256 * (b as u32 + 256 * (c as u32 + 256 * d as u32))
@@ -23,7 +23,7 @@ pub fn word_at(bytes: &[u8], i: usize) -> u32
     requires { ⌜ i + 4 ≤ length (now bytes) ⌝ }
     ensures { λ r. ⌜ r ≡ number (take 4 (drop i (now (bytes .entry)))) ⌝ }
 {
-    word(bytes[i], bytes[i + 1], bytes[i + 2], bytes[i + 3])
+    four_bytes(bytes[i], bytes[i + 1], bytes[i + 2], bytes[i + 3])
 }
 
 // The operand of entry `at`.

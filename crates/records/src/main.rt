@@ -5,7 +5,6 @@ ghost use Prim.Native.Nat.{_≤_};
 mod row;
 
 use crate::row::Row;
-use crate::row::four_bytes;
 use crate::row::read_row;
 use console::print::number;
 use console::print::put;
@@ -16,6 +15,7 @@ use machine::start::start;
 use machine::step::step;
 use model::record::Machine;
 use model::reply::Report;
+use reader::entry::four_bytes;
 use show::fields::record;
 use sites::number::signed;
 

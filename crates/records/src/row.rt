@@ -1,4 +1,5 @@
 // A case's rows: eight bytes that set one word, or make one call (docs/src/README.md, "Records as bytes").
+use reader::entry::four_bytes;
 ghost use Prim.Native.Nat.{_+_, _≤_};
 ghost use lib.ListN.{length};
 
@@ -12,11 +13,6 @@ pub struct Row {
 
 fn two_bytes(a: u8, b: u8) -> usize {
     a as usize + 256 * (b as usize)
-}
-
-// Four bytes, the lowest first.
-pub fn four_bytes(a: u8, b: u8, c: u8, d: u8) -> u32 {
-    a as u32 + 256 * (b as u32 + 256 * (c as u32 + 256 * (d as u32)))
 }
 
 fn small(b: u8) -> usize {

@@ -5,10 +5,12 @@ use job::dag::DEFINITIONS_START;
 use job::dag::HEAD_WORDS;
 use job::dag::ROW_WORDS;
 use job::dag::WORDS;
+use job::wide::wide;
 use libc::STDIN_FILENO;
 use libc::STDOUT_FILENO;
 use loader::table;
 use loader::table::Loaded;
+use reader::entry::four_bytes;
 ghost use Prim.Native.Nat.{_+_, _≤_};
 ghost use lib.ListN.{length};
 
@@ -23,10 +25,6 @@ fn number(n: u64) {
 
 fn word(w: u32) {
     number(w as u64);
-}
-
-fn wide(w: u32) -> usize {
-    w as usize
 }
 
 // The words from one index to another, on a line.
@@ -84,11 +82,6 @@ fn show(table: &[u8], dag: &mut [u32; WORDS]) {
     }
 }
 
-// Four bytes, the lowest first.
-fn four_bytes(a: u8, b: u8, c: u8, d: u8) -> usize {
-    a as usize + 256 * (b as usize + 256 * (c as usize + 256 * d as usize))
-}
-
 fn show_all(input: &[u8], n: usize)
     requires { ⌜ n ≤ length (now input) ⌝ }
     requires { ⌜ n ≤ 65536 ⌝ }
@@ -97,7 +90,7 @@ fn show_all(input: &[u8], n: usize)
     let mut at = 0;
     while at + 4 <= n {
         let from = at + 4;
-        let size = four_bytes(input[at], input[at + 1], input[at + 2], input[at + 3]);
+        let size = wide(four_bytes(input[at], input[at + 1], input[at + 2], input[at + 3]));
         if n - from < size {
             text(b"short\n");
             return;

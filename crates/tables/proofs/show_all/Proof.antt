@@ -44,6 +44,9 @@ shared-slice-read-four-bytes-4 c = search needs
 four-bytes-requires : tie.Need-four-bytes-requires Inv-loop μ-loop
 four-bytes-requires c κs = search needs
 
+wide-requires : tie.Need-wide-requires Inv-loop μ-loop
+wide-requires c κs = search needs
+
 sub-if1 : tie.Need-sub-if1 Inv-loop μ-loop
 sub-if1 c = search needs
 
@@ -84,5 +87,6 @@ pub show-all-spec : {M : Type 1} → statement M
 show-all-spec =
     tie.close
     (tie.spec Inv-loop μ-loop loop-holds add-loop add-from shared-slice-read-four-bytes add-four-bytes shared-slice-read-four-bytes-2
-    add-four-bytes-2 shared-slice-read-four-bytes-3 add-four-bytes-3 shared-slice-read-four-bytes-4 four-bytes-requires sub-if1
-    slice-aggregate-text text-requires returns add-to sub-show part-show-start part-show-end show-requires loop-less loop-again returns-2)
+    add-four-bytes-2 shared-slice-read-four-bytes-3 add-four-bytes-3 shared-slice-read-four-bytes-4 four-bytes-requires wide-requires
+    sub-if1 slice-aggregate-text text-requires returns add-to sub-show part-show-start part-show-end show-requires loop-less loop-again
+    returns-2)

@@ -6,9 +6,10 @@
 //! `coverage` and `report` tell what they reach. `words` and `layout` have dags and records as
 //! words, `memory` as bytes, with the calls on them; `trials` is a list of lawful and broken ones,
 //! `outcome` what the calls on them print. `loading` is a list of tables, and what `load` says of
-//! each.
+//! each. `command` is what the programs have in common.
 
 pub mod cases;
+pub mod command;
 pub mod coverage;
 pub mod dag;
 pub mod edges;

@@ -4,29 +4,29 @@ use Rattle.reader.proofs.EntryWord.{number-at}
 use Rattle.reader.proofs.entry.word_at.Statement.{statement}
 use Rattle.reader.proofs.entry.word_at.Tie as tie
 
-shared-slice-read-word : tie.Need-shared-slice-read-word
-shared-slice-read-word c = search needs
+shared-slice-read-four-bytes : tie.Need-shared-slice-read-four-bytes
+shared-slice-read-four-bytes c = search needs
 
-add-word : tie.Need-add-word
-add-word c = search needs
+add-four-bytes : tie.Need-add-four-bytes
+add-four-bytes c = search needs
 
-shared-slice-read-word-2 : tie.Need-shared-slice-read-word-2
-shared-slice-read-word-2 c = search needs
+shared-slice-read-four-bytes-2 : tie.Need-shared-slice-read-four-bytes-2
+shared-slice-read-four-bytes-2 c = search needs
 
-add-word-2 : tie.Need-add-word-2
-add-word-2 c = search needs
+add-four-bytes-2 : tie.Need-add-four-bytes-2
+add-four-bytes-2 c = search needs
 
-shared-slice-read-word-3 : tie.Need-shared-slice-read-word-3
-shared-slice-read-word-3 c = search needs
+shared-slice-read-four-bytes-3 : tie.Need-shared-slice-read-four-bytes-3
+shared-slice-read-four-bytes-3 c = search needs
 
-add-word-3 : tie.Need-add-word-3
-add-word-3 c = search needs
+add-four-bytes-3 : tie.Need-add-four-bytes-3
+add-four-bytes-3 c = search needs
 
-shared-slice-read-word-4 : tie.Need-shared-slice-read-word-4
-shared-slice-read-word-4 c = search needs
+shared-slice-read-four-bytes-4 : tie.Need-shared-slice-read-four-bytes-4
+shared-slice-read-four-bytes-4 c = search needs
 
-word-requires : tie.Need-word-requires
-word-requires c κs = search needs
+four-bytes-requires : tie.Need-four-bytes-requires
+four-bytes-requires c κs = search needs
 
 returns : tie.Need-returns
 returns c = search number-at
@@ -34,5 +34,5 @@ returns c = search number-at
 pub word-at-spec : {M : Type 1} → statement M
 word-at-spec =
     tie.close
-    (tie.spec shared-slice-read-word add-word shared-slice-read-word-2 add-word-2 shared-slice-read-word-3 add-word-3
-    shared-slice-read-word-4 word-requires returns)
+    (tie.spec shared-slice-read-four-bytes add-four-bytes shared-slice-read-four-bytes-2 add-four-bytes-2 shared-slice-read-four-bytes-3 add-four-bytes-3
+    shared-slice-read-four-bytes-4 four-bytes-requires returns)

@@ -4,25 +4,16 @@
 
 use second::memory::Case;
 use second::trials::{self, Trial};
-use second::{cases, outcome};
+use second::{cases, command, outcome};
 use std::io::{self, Write};
 use std::process::ExitCode;
 
 fn main() -> ExitCode {
-    let arguments: Vec<String> = std::env::args().skip(1).collect();
-    let words: Vec<&str> = arguments.iter().map(String::as_str).collect();
-    let done = match words[..] {
+    command::run("records", |words| match *words {
         ["--write", file] => write(file),
         ["--lines", file] => lines(file),
         _ => Err(io::Error::other("usage: records --write FILE | --lines FILE")),
-    };
-    match done {
-        Ok(()) => ExitCode::SUCCESS,
-        Err(error) => {
-            eprintln!("records: {error}");
-            ExitCode::FAILURE
-        }
-    }
+    })
 }
 
 fn write(file: &str) -> io::Result<()> {
@@ -40,7 +31,7 @@ fn write(file: &str) -> io::Result<()> {
 
 fn lines(file: &str) -> io::Result<()> {
     let bytes = std::fs::read(file)?;
-    let stored = cases::split(&bytes).ok_or_else(|| io::Error::other("the file is cut short"))?;
+    let stored = command::split(&bytes)?;
     let mut out = io::BufWriter::new(io::stdout().lock());
     let mut trials = trials::all().into_iter();
     for bytes in stored {

@@ -1,25 +1,16 @@
 //! `second`: standard input to orcrun's lines.
 //! `second --cases FILE`: the lines of each case of a file, after a line `case` and its number.
 
-use second::{cases, lines};
+use second::{command, lines};
 use std::io::{self, Read, Write};
 use std::process::ExitCode;
 
 fn main() -> ExitCode {
-    let arguments: Vec<String> = std::env::args().skip(1).collect();
-    let words: Vec<&str> = arguments.iter().map(String::as_str).collect();
-    let done = match words[..] {
+    command::run("second", |words| match *words {
         [] => run_standard_input(),
         ["--cases", file] => run_cases(file),
         _ => Err(io::Error::other("usage: second [--cases FILE]")),
-    };
-    match done {
-        Ok(()) => ExitCode::SUCCESS,
-        Err(error) => {
-            eprintln!("second: {error}");
-            ExitCode::FAILURE
-        }
-    }
+    })
 }
 
 fn run_standard_input() -> io::Result<()> {
@@ -31,12 +22,8 @@ fn run_standard_input() -> io::Result<()> {
 
 fn run_cases(file: &str) -> io::Result<()> {
     let mut out = io::BufWriter::new(io::stdout().lock());
-    for (number, case) in split(&std::fs::read(file)?)?.iter().enumerate() {
+    for (number, case) in command::split(&std::fs::read(file)?)?.iter().enumerate() {
         write!(out, "case {number}\n{}", lines::orcrun(case))?;
     }
     out.flush()
-}
-
-fn split(file: &[u8]) -> io::Result<Vec<&[u8]>> {
-    cases::split(file).ok_or_else(|| io::Error::other("the file of cases is cut short"))
 }

@@ -2,7 +2,7 @@
 //! `tables --lines FILE`: what the program of crate `tables` prints for such a file.
 //! `tables --names`: the names of the tables that have one, in the order of the file.
 
-use second::{cases, loading};
+use second::{command, loading};
 use std::fs;
 use std::io::{self, Write};
 use std::process::ExitCode;
@@ -10,21 +10,12 @@ use std::process::ExitCode;
 const USAGE: &str = "usage: tables --write FILE | --lines FILE | --names";
 
 fn main() -> ExitCode {
-    let arguments: Vec<String> = std::env::args().skip(1).collect();
-    let words: Vec<&str> = arguments.iter().map(String::as_str).collect();
-    let done = match words[..] {
+    command::run("tables", |words| match *words {
         ["--write", file] => write(file),
         ["--lines", file] => lines(file),
         ["--names"] => names(),
         _ => Err(io::Error::other(USAGE)),
-    };
-    match done {
-        Ok(()) => ExitCode::SUCCESS,
-        Err(error) => {
-            eprintln!("tables: {error}");
-            ExitCode::FAILURE
-        }
-    }
+    })
 }
 
 fn write(file: &str) -> io::Result<()> {
@@ -37,7 +28,7 @@ fn write(file: &str) -> io::Result<()> {
 
 fn lines(file: &str) -> io::Result<()> {
     let bytes = fs::read(file)?;
-    io::stdout().write_all(loading::lines(&split(&bytes)?).as_bytes())
+    io::stdout().write_all(loading::lines(&command::split(&bytes)?).as_bytes())
 }
 
 fn names() -> io::Result<()> {
@@ -46,8 +37,4 @@ fn names() -> io::Result<()> {
         writeln!(out, "{}", sample.name)?;
     }
     out.flush()
-}
-
-fn split(file: &[u8]) -> io::Result<Vec<&[u8]>> {
-    cases::split(file).ok_or_else(|| io::Error::other("the file is cut short"))
 }
