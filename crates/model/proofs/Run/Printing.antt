@@ -33,17 +33,18 @@ module _ (lim : Limits) (most : ℕ) (d : Dag) where
     left : List ℕ
     before : List Line
     made : HouseCalls lim d (s .machine) (s .rest) calls left
+    few : s .steps + acceptedSteps lim d (s .machine) calls ≤ most
     ends : Ends lim d most (machineAfter runner lim d (s .machine) calls) (s .steps + acceptedSteps lim d (s .machine) calls)
         (length left) before
     prints : lines ≡ callLines lim d (s .machine) calls ++ (before ++ (end (s .steps + acceptedSteps lim d (s .machine) calls) ∷ []))
 
   -- no call is made
-  stops : (s : Standing) (before : List Line) → Ends lim d most (s .machine) (s .steps) (length (s .rest)) before
+  stops : (s : Standing) (before : List Line) → s .steps ≤ most → Ends lim d most (s .machine) (s .steps) (length (s .rest)) before
       → From s (before ++ (end (s .steps) ∷ []))
   unfolding callLines acceptedSteps machineAfter
-  stops s before e =
+  stops s before few e =
       let z : s .steps + 0 ≡ s .steps = omega arith in
-      record { calls = []; left = s .rest; before = before; made = HouseCalls.none; ends = rw z e; prints = rw z refl }
+      record { calls = []; left = s .rest; before = before; made = HouseCalls.none; few = omega arith; ends = rw z e; prints = rw z refl }
 
   -- a turn, by its tests
   module _ (s : Standing) where
@@ -112,6 +113,7 @@ module _ (lim : Limits) (most : ℕ) (d : Dag) where
         left = f .left;
         before = f .before;
         made = HouseCalls.steps q ok (f .made);
+        few = rw (ok, acceptedSteps, sym z) (f .few);
         ends = rw (ok, acceptedSteps, sym z) (f .ends);
         prints = rw (ok, acceptedSteps, sym z) (ap (λ xs. lines ++ xs) (f .prints) ∙ sym (append-assoc lines _ _));
       }
@@ -127,6 +129,7 @@ module _ (lim : Limits) (most : ℕ) (d : Dag) where
         left = f .left;
         before = f .before;
         made = HouseCalls.delivers (signed-fits _) q l (f .made);
+        few = f .few;
         ends = f .ends;
         prints = ap (λ xs. lines ++ xs) (f .prints) ∙ sym (append-assoc lines _ _);
       }
@@ -149,7 +152,7 @@ module _ (lim : Limits) (most : ℕ) (d : Dag) where
       step-by q k (inl no′) f =
           lines-over n s (turn-refused s q k no′)
           (subst (λ xs. From s (xs ++ (end (s .steps) ∷ []))) one
-          (stops s (callLines lim d (s .machine) (step 0 ∷ [])) (Ends.refused (some-ready _ q) k (unfold outcomeOf in no′))))
+          (stops s (callLines lim d (s .machine) (step 0 ∷ [])) few (Ends.refused (some-ready _ q) k (unfold outcomeOf in no′))))
         where
           one : callLines lim d (s .machine) (step 0 ∷ []) ≡ reportedLines (o s .reply) (o s .values)
           one = unfold callLines outcomeOf in append-nil (reportedLines (o s .reply) (o s .values))
@@ -160,9 +163,9 @@ module _ (lim : Limits) (most : ℕ) (d : Dag) where
           → Further → From s (turnLines lim most d (suc n) s)
       go (no q) (yes k) x y f = step-by q k (holds-or-fails (isRefused (o s .reply))) f
       go (no q) (no k) x y f =
-          lines-over n s (turn-limit s q (omega arith)) (stops s (limit ∷ []) (Ends.limited (some-ready _ q) (omega arith)))
-      go (yes q) k (yes x) (yes y) f = lines-over n s (turn-end s q y) (stops s [] (Ends.finished q y))
-      go (yes q) k (yes x) (no y) f = lines-over n s (turn-short s q x y) (stops s (short ∷ []) (Ends.shortened q (some-ready _ y) x))
+          lines-over n s (turn-limit s q (omega arith)) (stops s (limit ∷ []) few (Ends.limited (some-ready _ q) (omega arith)))
+      go (yes q) k (yes x) (yes y) f = lines-over n s (turn-end s q y) (stops s [] few (Ends.finished q y))
+      go (yes q) k (yes x) (no y) f = lines-over n s (turn-short s q x y) (stops s (short ∷ []) few (Ends.shortened q (some-ready _ y) x))
       go (yes q) k (no x) y f =
           let z = length-drop 8 (s .rest) in
           lines-on n s (turn-deliver s q (omega arith)) (after-answer s q (omega arith) (f (delivered s) few (omega arith)))
@@ -185,6 +188,7 @@ run-prints lim most d bytes = whole (from lim most d (most + length bytes + 1) f
           left = f .left;
           before = f .before;
           made = f .made;
+          few = let l = f .few in omega arith;
           ends = subst (λ n. Ends lim d most (machineAfter runner lim d (started runner lim d) (f .calls)) n (length (f .left)) (f .before))
               z (f .ends);
           prints =

@@ -60,5 +60,6 @@ module _ (lim : Limits) (d : Dag) where
     pub left : List ℕ
     pub before : List Line
     pub made : HouseCalls m bytes calls left
+    pub few : acceptedSteps m calls ≤ most
     pub ends : Ends most (machineAfter runner lim d m calls) (acceptedSteps m calls) (length left) before
     pub prints : lines ≡ callLines m calls ++ (before ++ (end (acceptedSteps m calls) ∷ []))
