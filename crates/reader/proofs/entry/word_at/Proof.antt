@@ -34,5 +34,6 @@ returns c = search number-at
 pub word-at-spec : {M : Type 1} → statement M
 word-at-spec =
     tie.close
-    (tie.spec shared-slice-read-four-bytes add-four-bytes shared-slice-read-four-bytes-2 add-four-bytes-2 shared-slice-read-four-bytes-3 add-four-bytes-3
+    (tie.spec shared-slice-read-four-bytes add-four-bytes shared-slice-read-four-bytes-2 add-four-bytes-2 shared-slice-read-four-bytes-3
+    add-four-bytes-3
     shared-slice-read-four-bytes-4 four-bytes-requires returns)
