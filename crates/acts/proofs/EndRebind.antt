@@ -10,7 +10,7 @@ use lib.ListN.{length, set, List·getD-eq-default}
 use lib.Dec.{eqb}
 use lib.IntN.{ℤ}
 use Rattle.job.specs.Number.{unsigned, signed}
-use Rattle.job.specs.Test.{_and_, all}
+use Rattle.job.specs.Test.{_and_, forAll}
 use Rattle.job.specs.Node.{isNode}
 use Rattle.job.specs.Words.{dagOf}
 use Rattle.model.specs.Machine.Blank.{blankToken, empty, isPlace, tokenAt, slotAt}
@@ -157,7 +157,7 @@ module _ {ws dag : List ℕ} {used cells : List Bool} {place p : ℕ} {m : Machi
   value-range =
       let u = tokenAt (m .tokens) p in
       and-left _ _
-      (and-right (all (λ (b : Bind). slotInRange 32 (b .slot)) (u .binds)) _
+      (and-right (forAll (λ (b : Bind). slotInRange 32 (b .slot)) (u .binds)) _
       (and-right (eqb (length (u .binds)) 8) _ (and-right (isNode (dagOf dag) (u .node)) _ range)))
 
   rest : (placeInRange 64 (tokenAt (m .tokens) p .caller)
@@ -166,7 +166,7 @@ module _ {ws dag : List ℕ} {used cells : List Bool} {place p : ℕ} {m : Machi
   rest =
       let u = tokenAt (m .tokens) p in
       and-right (heldInRange (u .value)) _
-      (and-right (all (λ (b : Bind). slotInRange 32 (b .slot)) (u .binds)) _
+      (and-right (forAll (λ (b : Bind). slotInRange 32 (b .slot)) (u .binds)) _
       (and-right (eqb (length (u .binds)) 8) _ (and-right (isNode (dagOf dag) (u .node)) _ range)))
 
   pub caller-range : placeInRange 64 (tokenAt (m .tokens) p .caller) ≡ true

@@ -7,7 +7,7 @@ use Prim.Native.Nat.{ℕ}
 use lib.IntN.{pos}
 use Rattle.job.specs.Syntax as Job
 use Rattle.job.specs.Syntax.{Program}
-use Rattle.job.specs.Notation.{_∣_, _>[_]>_, _<[_]<_, v, #, let′}
+use Rattle.job.specs.Notation.{_∥_, _>[_]>_, _<[_]<_, v, #, let′}
 use Rattle.calculus.specs.Meaning.{meaning}
 use Rattle.calculus.specs.Event.{silently}
 use Rattle.calculus.specs.Expression.{value, variable, Exp, site, call, par, seq, prune}
@@ -45,7 +45,7 @@ further-out =
     defining
     1
     (ask 17 >[ 1 ]> let′ (v 0))
-    (((E (v 0 ∷ []) ∣ E (v 1 ∷ [])) <[ 1 ]< ask 16) <[ 0 ]< ask 18)
+    (((E (v 0 ∷ []) ∥ E (v 1 ∷ [])) <[ 1 ]< ask 16) <[ 0 ]< ask 18)
 
 pub further-out-goal :
     meaning further-out .goal ≡ prune (prune (par (call 0 (variable 1 ∷ [])) (call 0 (variable 0 ∷ []))) (site 16 [])) (site 18 [])
@@ -103,7 +103,7 @@ two-binders-entered h g = prune-left entered
 
 -- 4. A call inside the body: E(x) = 17() >z> (E(z) | E(x)), goal E(5). Its parameters are replaced as a site's are.
 abbrev pub calls-itself : Program
-calls-itself = defining 1 (ask 17 >[ 1 ]> (E (v 1 ∷ []) ∣ E (v 0 ∷ []))) (E (# 5 ∷ []))
+calls-itself = defining 1 (ask 17 >[ 1 ]> (E (v 1 ∷ []) ∥ E (v 0 ∷ []))) (E (# 5 ∷ []))
 
 -- z stays z: with 5 put for variable 0 under z's binder too, E(z) would become E(5)
 pub calls-itself-entered : (h : ℕ)

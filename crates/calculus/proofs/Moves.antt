@@ -1,6 +1,6 @@
 -- All moves of an expression, by computation. `every` asks a test of each move: where it says true, the test holds of every rewriting, and
 -- where it says false, it fails of some rewriting. True because `every` has the same cases as `Rewrites`. Assumes nothing.
-use mathlib.Core.Path.{_≡_, refl, subst as along}
+use mathlib.Core.Path.{_≡_, refl, subst}
 use mathlib.Core.Logic.{_⊎_, inl, inr}
 use mathlib.Core.Bool.{Bool, true, false}
 use mathlib.Core.List.{List}
@@ -11,7 +11,7 @@ use Rattle.job.specs.Test.{_and_}
 use Rattle.job.specs.Number.{fits}
 use Rattle.job.specs.Site.{BuiltinReply, gives, silent, isBuiltin, isOutside, builtin}
 use Rattle.calculus.specs.Event.{Event, publish, answer, Label, silently, showing}
-use Rattle.calculus.specs.Expression.{Param, Exp, stop, site, call, par, seq, prune, pending, hand, subst, innermost, formals}
+use Rattle.calculus.specs.Expression.{Param, Exp, stop, site, call, par, seq, prune, pending, hand, substitute, innermost, formals}
 use Rattle.calculus.specs.Rewriting.{NotPublishing, silence, calling, answering, paramValues, Rewrites}
 use Rattle.calculus.specs.Rewriting.{builtin-gives, builtin-silent, outside-call, answered, published, entered}
 use Rattle.calculus.specs.Rewriting.{par-left, par-right, seq-acts, seq-publishes, prune-left, prune-right, prune-publishes}
@@ -78,18 +78,18 @@ module _ (body : ℕ → Exp) (h : ℕ) where
   unfoldable pub every : ℤ → Exp → Tests → Bool
   every w stop p = true
   every w (site s ps) p = everyOfSite s (paramValues ps) p
-  every w (call d ps) p = p silently (subst (formals ps) (body d))
+  every w (call d ps) p = p silently (substitute (formals ps) (body d))
   every w (par f g) p = every w f (λ a f′. p a (par f′ g)) and every w g (λ a g′. p a (par f g′))
-  every w (seq f g) p = every w f (sorted (λ v f′. p silently (par (seq f′ g) (subst (innermost v) g))) (λ a f′. p a (seq f′ g)))
+  every w (seq f g) p = every w f (sorted (λ v f′. p silently (par (seq f′ g) (substitute (innermost v) g))) (λ a f′. p a (seq f′ g)))
   every w (prune f g) p =
-      every w f (λ a f′. p a (prune f′ g)) and every w g (sorted (λ v g′. p silently (subst (innermost v) f)) (λ a g′. p a (prune f g′)))
+      every w f (λ a f′. p a (prune f′ g)) and every w g (sorted (λ v g′. p silently (substitute (innermost v) f)) (λ a g′. p a (prune f g′)))
   every w (pending k) p = fits w implies p (showing (answer k w)) (hand w)
   every w (hand v) p = p (showing (publish v)) stop
 
   site-builtin : (s : ℕ) (vs : List ℤ) (p : Tests) (r : BuiltinReply)
       → isBuiltin s ≡ true → builtin s vs ≡ r → everyOfSite s (some vs) p ≡ true → afterReply r (p silently) ≡ true
   unfolding everyOfSite
-  site-builtin s vs p r b e t = along (λ x. afterReply x (p silently) ≡ true) e (under _ _ b (and-left _ _ t))
+  site-builtin s vs p r b e t = subst (λ x. afterReply x (p silently) ≡ true) e (under _ _ b (and-left _ _ t))
 
   site-outside : (s : ℕ) (vs : List ℤ) (p : Tests)
       → isOutside s ≡ true → everyOfSite s (some vs) p ≡ true → p (showing (Event.call h s vs)) (pending h) ≡ true
@@ -100,10 +100,10 @@ module _ (body : ℕ → Exp) (h : ℕ) where
   pub every-move : {f f′ : Exp} {a : Label} (w : ℤ) (p : Tests) → Rewrites body h f a f′ → Within w a → every w f p ≡ true → p a f′ ≡ true
   unfolding every afterReply sorted
   every-move w p (builtin-gives {s = s} {vs = vs} {v = v} e b r) i t =
-      site-builtin s vs p (gives v) b r (along (λ x. everyOfSite s x p ≡ true) e t)
+      site-builtin s vs p (gives v) b r (subst (λ x. everyOfSite s x p ≡ true) e t)
   every-move w p (builtin-silent {s = s} {vs = vs} e b r) i t =
-      site-builtin s vs p silent b r (along (λ x. everyOfSite s x p ≡ true) e t)
-  every-move w p (outside-call {s = s} {vs = vs} e b) i t = site-outside s vs p b (along (λ x. everyOfSite s x p ≡ true) e t)
+      site-builtin s vs p silent b r (subst (λ x. everyOfSite s x p ≡ true) e t)
+  every-move w p (outside-call {s = s} {vs = vs} e b) i t = site-outside s vs p b (subst (λ x. everyOfSite s x p ≡ true) e t)
   every-move w p (answered fit) in-answering t = under _ _ fit t
   every-move w p published i t = t
   every-move w p entered i t = t
@@ -158,7 +158,7 @@ module _ (body : ℕ → Exp) (h : ℕ) where
   unfolding every
   some-move w stop p t = clash refl t
   some-move w (site s ps) p t = site-failing s ps p (paramValues ps) refl t
-  some-move w (call d ps) p t = record { label = silently; left = subst (formals ps) (body d); move = entered; fails = t }
+  some-move w (call d ps) p t = record { label = silently; left = substitute (formals ps) (body d); move = entered; fails = t }
   some-move w (par f g) p t =
       elim (and-fails _ _ t) [
         | inl l ↦ let x = some-move w f _ l in
@@ -172,7 +172,7 @@ module _ (body : ℕ → Exp) (h : ℕ) where
       _
       _
       (λ a f′ r y t. record { label = a; left = seq f′ g; move = seq-acts r y; fails = t })
-      (λ v f′ r t. record { label = silently; left = par (seq f′ g) (subst (innermost v) g); move = seq-publishes r; fails = t })
+      (λ v f′ r t. record { label = silently; left = par (seq f′ g) (substitute (innermost v) g); move = seq-publishes r; fails = t })
       (x .label)
       (x .left)
       (x .move)
@@ -187,7 +187,7 @@ module _ (body : ℕ → Exp) (h : ℕ) where
             _
             _
             (λ a g′ r y t. record { label = a; left = prune f g′; move = prune-right r y; fails = t })
-            (λ v g′ r t. record { label = silently; left = subst (innermost v) f; move = prune-publishes r; fails = t })
+            (λ v g′ r t. record { label = silently; left = substitute (innermost v) f; move = prune-publishes r; fails = t })
             (x .label)
             (x .left)
             (x .move)

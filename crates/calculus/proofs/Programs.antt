@@ -3,7 +3,7 @@
 use mathlib.Core.List.{List, [], _∷_}
 use Prim.Native.Nat.{ℕ}
 use Rattle.job.specs.Syntax.{Param, Exp, stop, site, call, Program}
-use Rattle.job.specs.Notation.{_∣_, _>[_]>_, _<[_]<_, v, #, let′, signal, add, goal, calling}
+use Rattle.job.specs.Notation.{_∥_, _>[_]>_, _<[_]<_, v, #, let′, signal, add, goal, calling}
 
 -- calls of sites with no, one and two parameters
 abbrev pub ask : ℕ → Exp
@@ -52,15 +52,15 @@ overflow = goal (add (# 2147483647) (# 1))
 
 -- (let(1) | let(2)) >x> let(x)
 abbrev pub every-value : Program
-every-value = goal ((let′ (# 1) ∣ let′ (# 2)) >[ 0 ]> let′ (v 0))
+every-value = goal ((let′ (# 1) ∥ let′ (# 2)) >[ 0 ]> let′ (v 0))
 
 -- let(x) <x< (let(1) | let(2))
 abbrev pub first-value : Program
-first-value = goal (let′ (v 0) <[ 0 ]< (let′ (# 1) ∣ let′ (# 2)))
+first-value = goal (let′ (v 0) <[ 0 ]< (let′ (# 1) ∥ let′ (# 2)))
 
 -- let(x) <x< (16(5) | 17()), the run that document 01 prints
 abbrev pub first-answer : Program
-first-answer = goal (let′ (v 0) <[ 0 ]< (tell 16 (# 5) ∣ ask 17))
+first-answer = goal (let′ (v 0) <[ 0 ]< (tell 16 (# 5) ∥ ask 17))
 
 -- 17(x) <x< 16()
 abbrev pub pass-on : Program
@@ -68,15 +68,15 @@ pass-on = goal (tell 17 (v 0) <[ 0 ]< ask 16)
 
 -- "(M() | N(x)) < x < g": (18() | 17(x)) <x< 16()
 abbrev pub one-suspended : Program
-one-suspended = goal ((ask 18 ∣ tell 17 (v 0)) <[ 0 ]< ask 16)
+one-suspended = goal ((ask 18 ∥ tell 17 (v 0)) <[ 0 ]< ask 16)
 
 -- "(CNN(d) | BBC(d)) >x> Email(address, x)": (16() | 17()) >x> 18(7, x)
 abbrev pub mail-each : Program
-mail-each = goal ((ask 16 ∣ ask 17) >[ 0 ]> tell-both 18 (# 7) (v 0))
+mail-each = goal ((ask 16 ∥ ask 17) >[ 0 ]> tell-both 18 (# 7) (v 0))
 
 -- "Email(address, x) <x< (CNN(d) | BBC(d))": 18(7, x) <x< (16() | 17())
 abbrev pub mail-once : Program
-mail-once = goal (tell-both 18 (# 7) (v 0) <[ 0 ]< (ask 16 ∣ ask 17))
+mail-once = goal (tell-both 18 (# 7) (v 0) <[ 0 ]< (ask 16 ∥ ask 17))
 
 -- "((u, v) <u< M()) <v< N()", with the sum for the pair: (add(u, w) <u< 16()) <w< 17(); w is 0 and u is 1
 abbrev pub fork-join : Program
@@ -84,21 +84,21 @@ fork-join = goal ((add (v 1) (v 0) <[ 1 ]< ask 16) <[ 0 ]< ask 17)
 
 -- "x <x< (M() | Rwait(10) ≫ 0)": let(x) <x< (16() | (17(10) >y> let(0)))
 abbrev pub timeout : Program
-timeout = goal (let′ (v 0) <[ 0 ]< (ask 16 ∣ (tell 17 (# 10) >[ 0 ]> let′ (# 0))))
+timeout = goal (let′ (v 0) <[ 0 ]< (ask 16 ∥ (tell 17 (# 10) >[ 0 ]> let′ (# 0))))
 
 -- the truth of either of two answers: ((let(z) <z< ((ift(x) >s> let(1)) | (ift(y) >s> let(1)))) <x< 16()) <y< 17()
 abbrev pub parallel-or : Program
 parallel-or =
     goal
-    (((let′ (v 2) <[ 2 ]< ((ift (v 1) >[ 2 ]> let′ (# 1)) ∣ (ift (v 0) >[ 2 ]> let′ (# 1)))) <[ 1 ]< ask 16) <[ 0 ]< ask 17)
+    (((let′ (v 2) <[ 2 ]< ((ift (v 1) >[ 2 ]> let′ (# 1)) ∥ (ift (v 0) >[ 2 ]> let′ (# 1)))) <[ 1 ]< ask 16) <[ 0 ]< ask 17)
 
 -- "Metronome() = signal | (Rwait(1) ≫ Metronome())", with site 16 for Rwait
 abbrev pub metronome : Program
-metronome = calling (signal ∣ (tell 16 (# 1) >[ 0 ]> E []))
+metronome = calling (signal ∥ (tell 16 (# 1) >[ 0 ]> E []))
 
 -- "Function calls non-strict": E(x) = let(1) | 17(x), goal E(x) <x< 16()
 abbrev pub not-strict : Program
-not-strict = defining 1 (let′ (# 1) ∣ tell 17 (v 0)) (E (v 0 ∷ []) <[ 0 ]< ask 16)
+not-strict = defining 1 (let′ (# 1) ∥ tell 17 (v 0)) (E (v 0 ∷ []) <[ 0 ]< ask 16)
 
 -- E(x) = 17() >z> let(x), goal let(4) >a> (E(y) <y< 16()). Formals count from 0: x is 0 and z is 1; in the goal a is 0 and y is 1, as z is.
 abbrev pub same-number : Program

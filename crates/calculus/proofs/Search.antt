@@ -1,7 +1,7 @@
 -- Whether a list is allowed, by computation: `misses` tries every rewriting, each as far as it shows the list's next event. Where it finds
 -- none that leads on, the list is not allowed; where it finds one to the list's end, it is. True because `every` looks at all moves.
 -- Assumes nothing.
-use mathlib.Core.Path.{_≡_, refl, sym, subst as along}
+use mathlib.Core.Path.{_≡_, refl, sym, subst}
 use mathlib.Core.Bool.{Bool, true, false}
 use mathlib.Core.List.{List, [], _∷_}
 use Prim.Native.Nat.{ℕ, zero, suc}
@@ -127,7 +127,7 @@ module _ (body : ℕ → Exp) where
   onward {h = h} {e = e} {es = es} m rest silently {f′} r t = then {a = silently} r (rest h f′ (e ∷ es) t)
   onward {h = h} {f = f} {e = e} {es = es} m rest (showing e′) {f′} r t =
       let y = implies-fails _ _ t in
-      along
+      subst
       (λ x. CanShow body (record { exp = f; handle = h }) (x ∷ es))
       (sym (sameEvent-eq e e′ (y .0)))
       (then {a = showing e′} r (rest _ f′ es (y .1)))

@@ -7,7 +7,7 @@ use Prim.Native.Nat.{ℕ, zero, suc, _<_}
 use native.Mathlib.Omega.{arith}
 use lib.IntN.{ℤ}
 use Rattle.calculus.specs.Expression.{Param, value, variable, Exp, stop, site, call, par, seq, prune, pending, hand, Substitution}
-use Rattle.calculus.specs.Expression.{raise, lift, substParam, subst, innermost}
+use Rattle.calculus.specs.Expression.{raise, lift, substParam, substitute, innermost}
 
 infixr 40 _after_
 -- first ρ, then θ
@@ -36,16 +36,16 @@ substParams-after : (θ ρ : Substitution) (ps : List Param) → map (substParam
 substParams-after θ ρ [] = refl
 substParams-after θ ρ (p ∷ ps) = ap₂ _∷_ (substParam-after θ ρ p) (substParams-after θ ρ ps)
 
-pub subst-after : (θ ρ : Substitution) (e : Exp) → subst θ (subst ρ e) ≡ subst (θ after ρ) e
-unfolding subst
+pub subst-after : (θ ρ : Substitution) (e : Exp) → substitute θ (substitute ρ e) ≡ substitute (θ after ρ) e
+unfolding substitute
 subst-after θ ρ stop = refl
 subst-after θ ρ (site s ps) = ap (site s) (substParams-after θ ρ ps)
 subst-after θ ρ (call d ps) = ap (call d) (substParams-after θ ρ ps)
 subst-after θ ρ (par f g) = ap₂ par (subst-after θ ρ f) (subst-after θ ρ g)
 subst-after θ ρ (seq f g) =
-    ap₂ seq (subst-after θ ρ f) (subst-after (lift θ) (lift ρ) g ∙ ap (λ τ. subst τ g) (lift-after θ ρ))
+    ap₂ seq (subst-after θ ρ f) (subst-after (lift θ) (lift ρ) g ∙ ap (λ τ. substitute τ g) (lift-after θ ρ))
 subst-after θ ρ (prune f g) =
-    ap₂ prune (subst-after (lift θ) (lift ρ) f ∙ ap (λ τ. subst τ f) (lift-after θ ρ)) (subst-after θ ρ g)
+    ap₂ prune (subst-after (lift θ) (lift ρ) f ∙ ap (λ τ. substitute τ f) (lift-after θ ρ)) (subst-after θ ρ g)
 subst-after θ ρ (pending h) = refl
 subst-after θ ρ (hand v) = refl
 
@@ -67,14 +67,14 @@ lift-itself = fun-ext go
     go zero = refl
     go (suc i) = refl
 
-pub subst-itself : (e : Exp) → subst itself e ≡ e
-unfolding subst
+pub subst-itself : (e : Exp) → substitute itself e ≡ e
+unfolding substitute
 subst-itself stop = refl
 subst-itself (site s ps) = ap (site s) (substParams-itself ps)
 subst-itself (call d ps) = ap (call d) (substParams-itself ps)
 subst-itself (par f g) = ap₂ par (subst-itself f) (subst-itself g)
-subst-itself (seq f g) = ap₂ seq (subst-itself f) (ap (λ τ. subst τ g) lift-itself ∙ subst-itself g)
-subst-itself (prune f g) = ap₂ prune (ap (λ τ. subst τ f) lift-itself ∙ subst-itself f) (subst-itself g)
+subst-itself (seq f g) = ap₂ seq (subst-itself f) (ap (λ τ. substitute τ g) lift-itself ∙ subst-itself g)
+subst-itself (prune f g) = ap₂ prune (ap (λ τ. substitute τ f) lift-itself ∙ subst-itself f) (subst-itself g)
 subst-itself (pending h) = refl
 subst-itself (hand v) = refl
 
@@ -88,9 +88,9 @@ unfolding substParam innermost raise
 innermost-raise v (value w) = refl
 innermost-raise v (variable i) = refl
 
-pub innermost-lift : (v : ℤ) (ρ : Substitution) (e : Exp) → subst (innermost v) (subst (lift ρ) e) ≡ subst (bound v ρ) e
+pub innermost-lift : (v : ℤ) (ρ : Substitution) (e : Exp) → substitute (innermost v) (substitute (lift ρ) e) ≡ substitute (bound v ρ) e
 unfolding lift innermost substParam
-innermost-lift v ρ e = subst-after (innermost v) (lift ρ) e ∙ ap (λ τ. subst τ e) (fun-ext go)
+innermost-lift v ρ e = subst-after (innermost v) (lift ρ) e ∙ ap (λ τ. substitute τ e) (fun-ext go)
   where
     go : (i : ℕ) → (innermost v after lift ρ) i ≡ bound v ρ i
     go zero = refl

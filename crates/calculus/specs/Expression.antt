@@ -40,15 +40,15 @@ unfoldable pub substParam : Substitution → Param → Param
 substParam σ (value v) = value v
 substParam σ (variable i) = σ i
 
-unfoldable pub subst : Substitution → Exp → Exp
-subst σ stop = stop
-subst σ (site s ps) = site s (map (substParam σ) ps)
-subst σ (call d ps) = call d (map (substParam σ) ps)
-subst σ (par f g) = par (subst σ f) (subst σ g)
-subst σ (seq f g) = seq (subst σ f) (subst (lift σ) g)
-subst σ (prune f g) = prune (subst (lift σ) f) (subst σ g)
-subst σ (pending h) = pending h
-subst σ (hand v) = hand v
+unfoldable pub substitute : Substitution → Exp → Exp
+substitute σ stop = stop
+substitute σ (site s ps) = site s (map (substParam σ) ps)
+substitute σ (call d ps) = call d (map (substParam σ) ps)
+substitute σ (par f g) = par (substitute σ f) (substitute σ g)
+substitute σ (seq f g) = seq (substitute σ f) (substitute (lift σ) g)
+substitute σ (prune f g) = prune (substitute (lift σ) f) (substitute σ g)
+substitute σ (pending h) = pending h
+substitute σ (hand v) = hand v
 
 -- v for the innermost variable; the others are one binder nearer
 unfoldable pub innermost : ℤ → Substitution

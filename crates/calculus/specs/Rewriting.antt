@@ -8,7 +8,7 @@ use lib.IntN.{ℤ}
 use Rattle.job.specs.Number.{Signed32}
 use Rattle.job.specs.Site.{gives, silent, isBuiltin, isOutside, builtin}
 use Rattle.calculus.specs.Event.{Event, Label, silently, showing}
-use Rattle.calculus.specs.Expression.{Param, value, variable, Exp, stop, site, call, par, seq, prune, pending, hand, subst, innermost}
+use Rattle.calculus.specs.Expression.{Param, value, variable, Exp, stop, site, call, par, seq, prune, pending, hand, substitute, innermost}
 use Rattle.calculus.specs.Expression.{formals}
 
 -- every label but publishing
@@ -40,16 +40,16 @@ module _ (body : ℕ → Exp) (h : ℕ) where
     -- ".. that publishes once and becomes stop."
     published : {v : ℤ} → Rewrites (hand v) (showing (Event.publish v)) stop
     -- "E(P) silently becomes its body with P for the formals, no name caught."
-    entered : {d : ℕ} {ps : List Param} → Rewrites (call d ps) silently (subst (formals ps) (body d))
+    entered : {d : ℕ} {ps : List Param} → Rewrites (call d ps) silently (substitute (formals ps) (body d))
     -- "f | g acts as either side."
     par-left : {f f′ g : Exp} {a : Label} → Rewrites f a f′ → Rewrites (par f g) a (par f′ g)
     par-right : {f g g′ : Exp} {a : Label} → Rewrites g a g′ → Rewrites (par f g) a (par f g′)
     -- "f >x> g acts as f, but where f publishes v it silently becomes (f' >x> g) | g with v for x."
     seq-acts : {f f′ g : Exp} {a : Label} → Rewrites f a f′ → NotPublishing a → Rewrites (seq f g) a (seq f′ g)
     seq-publishes : {f f′ g : Exp} {v : ℤ}
-        → Rewrites f (showing (Event.publish v)) f′ → Rewrites (seq f g) silently (par (seq f′ g) (subst (innermost v) g))
+        → Rewrites f (showing (Event.publish v)) f′ → Rewrites (seq f g) silently (par (seq f′ g) (substitute (innermost v) g))
     -- "f <x< g acts as f or as g, but where g publishes v it silently becomes f with v for x."
     prune-left : {f f′ g : Exp} {a : Label} → Rewrites f a f′ → Rewrites (prune f g) a (prune f′ g)
     prune-right : {f g g′ : Exp} {a : Label} → Rewrites g a g′ → NotPublishing a → Rewrites (prune f g) a (prune f g′)
     prune-publishes : {f g g′ : Exp} {v : ℤ}
-        → Rewrites g (showing (Event.publish v)) g′ → Rewrites (prune f g) silently (subst (innermost v) f)
+        → Rewrites g (showing (Event.publish v)) g′ → Rewrites (prune f g) silently (substitute (innermost v) f)

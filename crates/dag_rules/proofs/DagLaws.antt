@@ -8,7 +8,7 @@ use native.Mathlib.Omega.{arith}
 use lib.ListN.{length, getD, take, drop, length-drop}
 use lib.Seq.{drop-drop, getD-drop, length-take-le}
 use lib.Dec.{ltb, leb}
-use Rattle.job.specs.Test.{_and_, all}
+use Rattle.job.specs.Test.{_and_, forAll}
 use Rattle.job.specs.Node.{Node, Body, nodeAt, nodeHolds, bodyHolds, isNode, dagHolds}
 use Rattle.job.specs.Words.{nodeBy, decodedNode, dagOf}
 use Rattle.job.proofs.Test.{le-leb, lt-not-leb, and-right, all-at}
@@ -69,11 +69,11 @@ module _ (ws : List ℕ) where
 
   pub holds-by-parts : getD ws 0 0 ≤ 1022 → getD ws 1 0 ≤ 32
       → dagHolds (dagOf ws)
-      ≡ (ltb (getD ws 2 0) (getD ws 0 0) and all (bodyHolds (dagOf ws)) (dagOf ws .bodies) and all (nodeHolds (dagOf ws)) (dagOf ws .nodes))
+      ≡ (ltb (getD ws 2 0) (getD ws 0 0) and forAll (bodyHolds (dagOf ws)) (dagOf ws .bodies) and forAll (nodeHolds (dagOf ws)) (dagOf ws .nodes))
   unfolding dagHolds isNode _and_
   holds-by-parts m l =
       rw (nodes-length, bodies-length, le-leb (getD ws 0 0) 1022 m, le-leb (getD ws 1 0) 32 l)
-      (ap (λ g. ltb g (getD ws 0 0) and all (bodyHolds (dagOf ws)) (dagOf ws .bodies) and all (nodeHolds (dagOf ws)) (dagOf ws .nodes))
+      (ap (λ g. ltb g (getD ws 0 0) and forAll (bodyHolds (dagOf ws)) (dagOf ws .bodies) and forAll (nodeHolds (dagOf ws)) (dagOf ws .nodes))
       goal-is)
 
   -- in a dag whose rules hold the node is the one that the row would be by its kind
@@ -85,7 +85,7 @@ module _ (ws : List ℕ) where
       let first = and-right (leb (length (d .nodes)) 1022) _ e in
       let second = and-right (leb (length (d .bodies)) 32) _ first in
       let third = and-right (isNode d (d .goal)) _ second in
-      let holds : all (nodeHolds d) (d .nodes) ≡ true = and-right (all (bodyHolds d) (d .bodies)) _ third in
+      let holds : forAll (nodeHolds d) (d .nodes) ≡ true = and-right (forAll (bodyHolds d) (d .bodies)) _ third in
       let here : nodeHolds d (decodedNode row) ≡ true =
       ap (nodeHolds d) (sym (node-row-at i l)) ∙ all-at (nodeHolds d) (d .nodes) i Node.unknown holds (omega (arith, nodes-length)) in
       node-row-at i l ∙ row-node d row here

@@ -8,7 +8,7 @@ use native.Mathlib.Decide.{decLt}
 use native.Mathlib.Omega.{arith}
 use lib.ListN.{length, getD, drop, List·getD-eq-default}
 use lib.Dec.{ltb, leb, eqb}
-use Rattle.job.specs.Test.{_and_, _or_, all, same}
+use Rattle.job.specs.Test.{_and_, _or_, forAll, same}
 use Rattle.job.specs.Number.{signed}
 use Rattle.job.specs.Site.{siteTakes}
 use Rattle.job.specs.Syntax.{Param, variable, constant}
@@ -34,12 +34,12 @@ pairwise false q s k a = refl
 -- a place in use, and one behind the last
 used : (n m k w : ℕ) (ws : List ℕ) (p : Param) → paramOf k w ≡ p
     → paramWordsHold (suc n) (suc m) (k ∷ w ∷ ws) ≡ pairHolds true k w and paramWordsHold n m ws
-unfolding paramWordsHold paramWords paramsFrom paramHolds all same
+unfolding paramWordsHold paramWords paramsFrom paramHolds forAll same
 used n m k w ws (variable x) e = rw e (pairwise _ _ _ _ _)
 used n m k w ws (constant v) e = rw e (pairwise _ _ _ _ _)
 
 unused : (n k w : ℕ) (ws : List ℕ) → paramWordsHold (suc n) 0 (k ∷ w ∷ ws) ≡ pairHolds false k w and paramWordsHold n 0 ws
-unfolding paramWordsHold paramWords paramsFrom all same _and_
+unfolding paramWordsHold paramWords paramsFrom forAll same _and_
 unused n k w ws = pairwise (eqb k 0) (eqb w 0) (same ws (paramWords n [])) true true
 
 -- one place after the other
@@ -59,7 +59,7 @@ pair-then n j c k w ws = go (decLt j c)
 
 -- the two words at a place
 pair-by : (k w : ℕ) (p : Param) → paramOf k w ≡ p → pairHolds true k w ≡ same (k ∷ w ∷ []) (paramWords 1 (p ∷ [])) and paramHolds p
-unfolding paramWordsHold paramsFrom all
+unfolding paramWordsHold paramsFrom forAll
 pair-by k w p e = rw e (ap (λ b. same (k ∷ w ∷ []) (paramWords 1 (p ∷ [])) and b) (and-true (paramHolds p)))
 
 pub pair-named : (k w : ℕ) → w < 2 ^ 32 → pairHolds true k w ≡ (eqb k 7 and ltb w 8) or eqb k 8
@@ -75,7 +75,7 @@ pair-named k w l = go (eqb k 7) refl
         ∙ rw (unsigned-signed w l, eqb-same w, signed-fits w) (and-true _ ∙ and-true _)
 
 pub pair-unnamed : (k w : ℕ) → pairHolds false k w ≡ eqb k 0 and eqb w 0
-unfolding paramWordsHold paramWords paramsFrom all same
+unfolding paramWordsHold paramWords paramsFrom forAll same
 pair-unnamed k w = and-true _ ∙ ap (λ b. eqb k 0 and b) (and-true (eqb w 0))
 
 -- the node that a row would be
@@ -188,7 +188,7 @@ takes-few s c next = go (siteTakes s c) refl
 row-by : (d : Dag) (k a b c : ℕ) (rest : List ℕ) → length rest ≡ 8
     → (same (k ∷ a ∷ b ∷ c ∷ rest) (nodeWords (nodeBy (k ∷ a ∷ b ∷ c ∷ rest))) and nodeHolds d (nodeBy (k ∷ a ∷ b ∷ c ∷ rest)))
     ≡ rowHolds (length (d .nodes)) (length (d .bodies)) (k ∷ a ∷ b ∷ c ∷ rest)
-unfolding same nodeWords nodeBy nodeHolds isNode rowHolds headHolds countOf paramWordsHold paramsFrom all _and_
+unfolding same nodeWords nodeBy nodeHolds isNode rowHolds headHolds countOf paramWordsHold paramsFrom forAll _and_
 row-by d zero a b c rest len = rest-last (eqb a 0) (eqb b 0) (eqb c 0) (same rest (paramWords 4 []))
 row-by d (suc zero) a b c rest len =
     rw (eqb-same a, eqb-same b)
@@ -225,7 +225,7 @@ unfolding countOf
 count-past k c l = rw List·getD-eq-default
 
 no-more : (c : ℕ) → paramWordsHold 0 c [] ≡ true
-unfolding paramWordsHold paramWords paramsFrom all same _and_
+unfolding paramWordsHold paramWords paramsFrom forAll same _and_
 no-more zero = refl
 no-more (suc c) = refl
 

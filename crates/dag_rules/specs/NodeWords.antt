@@ -5,14 +5,14 @@ use mathlib.Core.List.{List, [], _∷_}
 use Prim.Native.Nat.{ℕ}
 use lib.ListN.{getD, drop}
 use lib.Dec.{ltb, leb, eqb}
-use Rattle.job.specs.Test.{_and_, all, same, once}
+use Rattle.job.specs.Test.{_and_, forAll, same, once}
 use Rattle.job.specs.Site.{siteTakes}
 use Rattle.job.specs.Node.{paramHolds}
 use Rattle.job.specs.Words.{paramWords, paramsFrom}
 
 -- words at the places of n parameters, of which so many are in use: those of the parameters that they would be, whose rules hold
 unfoldable pub paramWordsHold : (n count : ℕ) → List ℕ → Bool
-paramWordsHold n count ws = let ps = paramsFrom count ws in same ws (paramWords n ps) and all paramHolds ps
+paramWordsHold n count ws = let ps = paramsFrom count ws in same ws (paramWords n ps) and forAll paramHolds ps
 
 -- the two words at one place
 abbrev pub pairHolds : Bool → (kind word : ℕ) → Bool

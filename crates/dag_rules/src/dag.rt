@@ -2,7 +2,7 @@
 ghost use mathlib.Core.Path.{_≡_};
 ghost use Prim.Native.Nat.{_≤_};
 ghost use lib.ListN.{length, getD};
-ghost use Rattle.job.specs.Test.{all};
+ghost use Rattle.job.specs.Test.{forAll};
 ghost use Rattle.job.specs.Node.{nodeHolds, bodyHolds, dagHolds};
 ghost use Rattle.job.specs.Words.{dagOf};
 use crate::node_words::row_holds;
@@ -20,7 +20,7 @@ use job::dag::WORDS;
 // Where each definition's body begins, and its count of formals.
 fn bodies_hold(dag: &[u32]) -> bool
     requires { ⌜ (length (now dag) ≡ 12331) × (getD (now dag) 1 0 ≤ 32) ⌝ }
-    ensures { λ r. ⌜ r ≡ all (bodyHolds (dagOf (now (dag .entry)))) (dagOf (now (dag .entry)) .bodies) ⌝ }
+    ensures { λ r. ⌜ r ≡ forAll (bodyHolds (dagOf (now (dag .entry)))) (dagOf (now (dag .entry)) .bodies) ⌝ }
 {
     let nodes = dag[NODE_COUNT];
     let bodies = dag[DEFINITION_COUNT] as usize;
@@ -38,7 +38,7 @@ fn bodies_hold(dag: &[u32]) -> bool
 // The rows of the nodes.
 fn nodes_hold(dag: &[u32]) -> bool
     requires { ⌜ (length (now dag) ≡ 12331) × (getD (now dag) 0 0 ≤ 1022) ⌝ }
-    ensures { λ r. ⌜ r ≡ all (nodeHolds (dagOf (now (dag .entry)))) (dagOf (now (dag .entry)) .nodes) ⌝ }
+    ensures { λ r. ⌜ r ≡ forAll (nodeHolds (dagOf (now (dag .entry)))) (dagOf (now (dag .entry)) .nodes) ⌝ }
 {
     let nodes = dag[NODE_COUNT];
     let bodies = dag[DEFINITION_COUNT];

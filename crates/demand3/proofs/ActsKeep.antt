@@ -8,7 +8,7 @@ use native.Mathlib.Omega.{arith}
 use lib.ListN.{length, set, length-set, length-map}
 use lib.Dec.{ltb, eqb}
 use lib.IntN.{ℤ}
-use Rattle.job.specs.Test.{all, All, filter}
+use Rattle.job.specs.Test.{forAll, All, select}
 use Rattle.job.specs.Number.{Signed32}
 use Rattle.job.specs.Site.{BuiltinReply, isBuiltin, builtin}
 use Rattle.job.specs.Syntax.{Param}
@@ -195,7 +195,7 @@ module _ (lim : Limits) (d : Dag) (m : Machine) (F : Facts lim d m) (some : 0 < 
           tables = both-written (ahead l il refl refl refl s) s (ahead r ir refl refl refl s) s;
         }
 
-    entered : (root : ℕ) (ps : List Param) (k : ℕ) → root < length (d .nodes) → all paramHolds ps ≡ true → k < length (d .nodes)
+    entered : (root : ℕ) (ps : List Param) (k : ℕ) → root < length (d .nodes) → forAll paramHolds ps ≡ true → k < length (d .nodes)
         → Keeps (Step.entered at p acting q root ps k)
     unfolding
         After Step.entered Update.enqueue Update.newToken Update.put Update.withTables withOrders Update.withCounts Update.withNode
@@ -332,7 +332,7 @@ module _ (lim : Limits) (d : Dag) (m : Machine) (F : Facts lim d m) (some : 0 < 
   -- "the first unset cell makes the token wait there"
   module _ (named : (x c : ℕ) → slotAt (acting .binds) x ≡ slots.Cell c → c < length (m .cells))
       (s : ℕ) (ps : List Param) (k : ℕ) (node : nodeAt d (acting .node) ≡ Node.site s ps k)
-      (holds : all paramHolds ps ≡ true) (next : k < length (d .nodes)) where
+      (holds : forAll paramHolds ps ≡ true) (next : k < length (d .nodes)) where
     called : (vs : List ℤ) → All Signed32 vs → (b : Bool)
         → Keeps
         (elim b [
@@ -394,10 +394,10 @@ module _ (lim : Limits) (d : Dag) (m : Machine) (F : Facts lim d m) (some : 0 < 
       ts = map (chokeToken (m .cells) c) (m .tokens)
 
       readyOf : List ℕ → List ℕ
-      readyOf l = filter (λ (r : ℕ). isReady (tokenAt ts r .state)) l
+      readyOf l = select (λ (r : ℕ). isReady (tokenAt ts r .state)) l
 
       waitingOf : List ℕ → List ℕ
-      waitingOf l = filter (λ (r : ℕ). isWaiting (tokenAt ts r .state)) l
+      waitingOf l = select (λ (r : ℕ). isWaiting (tokenAt ts r .state)) l
 
       k : Cell
       k = record { parent = cellAt (m .cells) c .parent; value = acting .value }
@@ -412,7 +412,7 @@ module _ (lim : Limits) (d : Dag) (m : Machine) (F : Facts lim d m) (some : 0 < 
     unfolding isNode
     node-inside k e = ltb-lt k (length (d .nodes)) e
 
-    params : (ps : List Param) → paramsHold ps ≡ true → all paramHolds ps ≡ true
+    params : (ps : List Param) → paramsHold ps ≡ true → forAll paramHolds ps ≡ true
     unfolding paramsHold
     params ps e = and-right _ _ e
 

@@ -10,7 +10,7 @@ use lib.ListN.{length, getD, take, length-take}
 use lib.Seq.{getD-take}
 use lib.Dec.{eqb}
 use lib.IntN.{ℤ}
-use Rattle.job.specs.Test.{_or_, any, count, once, differ}
+use Rattle.job.specs.Test.{_or_, forSome, occurrences, once, differ}
 use Rattle.job.specs.Node.{Dag}
 use Rattle.model.specs.Machine.Limits.{Limits}
 use Rattle.model.specs.Machine.Blank.{tokenAt}
@@ -70,15 +70,15 @@ turn {M} {W} {A} {L = L} {R = R} {x = x} K i = go (find-token M W i (K .seen))
     go (foundOf s) = turn-token (others K s) (spot-token s)
 
 -- a ready token stands in the queue
-index-of : (p : ℕ) (xs : List ℕ) → 0 < count p xs → (k : ℕ) × (k < length xs) × (getD xs k 0 ≡ p)
-unfolding count
+index-of : (p : ℕ) (xs : List ℕ) → 0 < occurrences p xs → (k : ℕ) × (k < length xs) × (getD xs k 0 ≡ p)
+unfolding occurrences
 index-of p [] l = absurd (omega arith)
 index-of p (x ∷ xs) l = go (eqb p x) refl (λ i. index-of p xs i)
   where
     Index : List ℕ → Type 0
     Index ys = (k : ℕ) × (k < length ys) × (getD ys k 0 ≡ p)
 
-    go : (b : Bool) → eqb p x ≡ b → (0 < count p xs → Index xs) → Index (x ∷ xs)
+    go : (b : Bool) → eqb p x ≡ b → (0 < occurrences p xs → Index xs) → Index (x ∷ xs)
     go true e f = (0, omega arith, sym (eqb-eq p x e))
     go false e f = let r = f (let z : once (eqb p x) ≡ 0 = ap once e in omega arith) in (suc (r .0), (let z = r .1 in omega arith), r .2)
 
@@ -99,25 +99,25 @@ queue-index lim d m holds p l e =
     (names-once isReady (m .tokens) (m .queue) (m .queued) (each-rule-holds lim d m holds .queue)) l (ap isReady e)
 
 -- the holder of an open handle: no other token has it
-any-append-left : (test : ℕ → Bool) (xs ys : List ℕ) → any test xs ≡ true → any test (xs ++ ys) ≡ true
-unfolding any _or_
+any-append-left : (test : ℕ → Bool) (xs ys : List ℕ) → forSome test xs ≡ true → forSome test (xs ++ ys) ≡ true
+unfolding forSome _or_
 any-append-left test [] ys e = clash e refl
 any-append-left test (x ∷ xs) ys e = go (test x) e (λ f. any-append-left test xs ys f)
   where
-    go : (b : Bool) → (b or any test xs) ≡ true → (any test xs ≡ true → any test (xs ++ ys) ≡ true) → (b or any test (xs ++ ys)) ≡ true
+    go : (b : Bool) → (b or forSome test xs) ≡ true → (forSome test xs ≡ true → forSome test (xs ++ ys) ≡ true) → (b or forSome test (xs ++ ys)) ≡ true
     go true f g = refl
     go false f g = g f
 
-any-append-right : (test : ℕ → Bool) (xs ys : List ℕ) → any test ys ≡ true → any test (xs ++ ys) ≡ true
-unfolding any
+any-append-right : (test : ℕ → Bool) (xs ys : List ℕ) → forSome test ys ≡ true → forSome test (xs ++ ys) ≡ true
+unfolding forSome
 any-append-right test [] ys e = e
 any-append-right test (x ∷ xs) ys e = or-right (test x) (any-append-right test xs ys e)
 
-has-handle : (h : ℕ) (s : State) → s ≡ states.Called h → any (eqb h) (handleOf s) ≡ true
-unfolding any handleOf
-has-handle h s e = ap (λ s. any (eqb h) (handleOf s)) e ∙ or-left false (eqb-same h)
+has-handle : (h : ℕ) (s : State) → s ≡ states.Called h → forSome (eqb h) (handleOf s) ≡ true
+unfolding forSome handleOf
+has-handle h s e = ap (λ s. forSome (eqb h) (handleOf s)) e ∙ or-left false (eqb-same h)
 
-handle-open : (h : ℕ) (ts : List Token) (p : ℕ) → tokenAt ts p .state ≡ states.Called h → any (eqb h) (openHandles ts) ≡ true
+handle-open : (h : ℕ) (ts : List Token) (p : ℕ) → tokenAt ts p .state ≡ states.Called h → forSome (eqb h) (openHandles ts) ≡ true
 unfolding openHandles tokenAt
 handle-open h [] p e = let z : _≡_ {A = ℕ} 0 1 = cc in absurd (omega arith)
 handle-open h (t ∷ ts) zero e = any-append-left (eqb h) (handleOf (t .state)) (openHandles ts) (has-handle h (t .state) e)
@@ -131,7 +131,7 @@ differ-behind (states.Waiting c) hs e = e
 differ-behind (states.Called h) hs e = and-right _ _ e
 differ-behind states.Frame hs e = e
 
-differ-first : (h : ℕ) (hs : List ℕ) → differ (h ∷ hs) ≡ true → any (eqb h) hs ≡ true → ⊥
+differ-first : (h : ℕ) (hs : List ℕ) → differ (h ∷ hs) ≡ true → forSome (eqb h) hs ≡ true → ⊥
 unfolding differ
 differ-first h hs e f = clash (and-left _ _ e) (ap not f)
 
@@ -145,11 +145,11 @@ holder-finds h i (t ∷ ts) zero u e = go _ (has-handle h (t .state) e)
     go true x = ap places.At (let z : i ≡ i + 0 = omega arith in z)
     go false x = clash x refl
 holder-finds h i (t ∷ ts) (suc p) u e =
-    go (any (eqb h) (handleOf (t .state))) refl
+    go (forSome (eqb h) (handleOf (t .state))) refl
     (holder-finds h (suc i) ts p (differ-behind (t .state) (openHandles ts) u) e
     ∙ ap places.At (let z : suc i + p ≡ i + suc p = omega arith in z))
   where
-    go : (b : Bool) → any (eqb h) (handleOf (t .state)) ≡ b → holder h (suc i) ts ≡ places.At (i + suc p)
+    go : (b : Bool) → forSome (eqb h) (handleOf (t .state)) ≡ b → holder h (suc i) ts ≡ places.At (i + suc p)
         → elim b as (λ b. Place) [ true ↦ places.At i | false ↦ holder h (suc i) ts ] ≡ places.At (i + suc p)
     go true x r =
         absurd

@@ -6,7 +6,7 @@ use mathlib.Core.List.{List, [], _∷_, List·Memᴰ, List·Memᴰ·head, List·
 use Prim.Native.Nat.{ℕ}
 use native.Mathlib.Omega.{arith}
 use lib.IntN.{ℤ}
-use Rattle.job.specs.Test.{all}
+use Rattle.job.specs.Test.{forAll}
 use Rattle.job.specs.Syntax.{Param, variable, constant}
 use Rattle.model.specs.Machine.Blank.{cellAt, slotAt, isBound}
 use Rattle.model.specs.Machine.Rules.{notEmpty}
@@ -88,7 +88,7 @@ module _ (cs : List Cell) (bs : List Bind) where
   -- a parameter bound to an unset cell
   pub look-blocked : (ps : List Param) (x c : ℕ) → List·Memᴰ (variable x) ps → slotAt bs x ≡ slots.Cell c
       → cellAt cs c .value ≡ helds.Nothing
-      → all (notEmpty bs) ps ≡ true → Unset (look cs bs ps)
+      → forAll (notEmpty bs) ps ≡ true → Unset (look cs bs ps)
   unfolding look notEmpty
   look-blocked [] x c m s w k = absurd (List·Memᴰ·not-nil m)
   look-blocked (constant v ∷ ps) x c (List·Memᴰ·head e) s w k = let z : _≡_ {A = ℕ} 0 1 = cc in absurd (omega arith)

@@ -11,7 +11,7 @@ use native.Mathlib.Omega.{arith}
 use lib.ListN.{length, getD, length-append}
 use lib.Dec.{eqb}
 use lib.IntN.{ℤ}
-use Rattle.job.specs.Test.{_and_, _or_, all, any, All, none, more, differ}
+use Rattle.job.specs.Test.{_and_, _or_, forAll, forSome, All, none, more, differ}
 use Rattle.job.specs.Number.{fits}
 use Rattle.job.specs.Syntax.{Param}
 use Rattle.job.specs.Node.{Node, Dag, nodeAt, isNode, dagHolds}
@@ -55,20 +55,20 @@ use Rattle.model.proofs.Keeps.Facts.{Facts}
 use Rattle.model.proofs.Keeps.Clean.{Clean, clean-tokens, clean-cells}
 
 -- "open handles differ"
-handle-there : (h : ℕ) (ts : List Token) → any (eqb h) (openHandles ts) ≡ true → (q : ℕ) × (getD ts q blankToken .state ≡ states.Called h)
-unfolding any openHandles handleOf _or_
+handle-there : (h : ℕ) (ts : List Token) → forSome (eqb h) (openHandles ts) ≡ true → (q : ℕ) × (getD ts q blankToken .state ≡ states.Called h)
+unfolding forSome openHandles handleOf _or_
 handle-there h [] e = clash e refl
 handle-there h (t ∷ ts) e = go (t .state) refl e (λ x. let y = handle-there h ts x in (suc (y .0), y .1))
   where
     Found : Type 0
     Found = (q : ℕ) × (getD (t ∷ ts) q blankToken .state ≡ states.Called h)
 
-    here : (g : ℕ) (b : Bool) → t .state ≡ states.Called g → eqb h g ≡ b → (b or any (eqb h) (openHandles ts)) ≡ true
-        → (any (eqb h) (openHandles ts) ≡ true → Found) → Found
+    here : (g : ℕ) (b : Bool) → t .state ≡ states.Called g → eqb h g ≡ b → (b or forSome (eqb h) (openHandles ts)) ≡ true
+        → (forSome (eqb h) (openHandles ts) ≡ true → Found) → Found
     here g true s e x f = (0, s ∙ ap states.Called (sym (eqb-eq h g e)))
     here g false s e x f = f x
 
-    go : (s : State) → t .state ≡ s → any (eqb h) (handleOf s ++ openHandles ts) ≡ true → (any (eqb h) (openHandles ts) ≡ true → Found)
+    go : (s : State) → t .state ≡ s → forSome (eqb h) (handleOf s ++ openHandles ts) ≡ true → (forSome (eqb h) (openHandles ts) ≡ true → Found)
         → Found
     go states.Blank s x f = f x
     go states.Ready s x f = f x
@@ -140,7 +140,7 @@ module _ {W : World} where
       go (inr l) = l
 
   binds-range : {bs : List Bind} {scope : List ℕ} {B : List Binding} → SlotsSeen W bs scope B → BindsFit bs
-      → all (λ (b : Bind). slotInRange (length (W .cells)) (b .slot)) bs ≡ true
+      → forAll (λ (b : Bind). slotInRange (length (W .cells)) (b .slot)) bs ≡ true
   unfolding slotAt
   binds-range {bs} s f = all-from _ bs empty (λ x l. slot-range _ _ (f x) (slot-inside s x))
 
@@ -170,8 +170,8 @@ module _ (d : Dag) (M : Labels) (W : World) where
 
   params-bound : {bs : List Bind} {scope : List ℕ} {B : List Binding} {ps : List Param} → BindingsSeen W bs scope B
       → All (GoodParam scope) ps
-      → all (notEmpty bs) ps ≡ true
-  unfolding all notEmpty _and_
+      → forAll (notEmpty bs) ps ≡ true
+  unfolding forAll notEmpty _and_
   params-bound v none = refl
   params-bound v (more (GoodParam.variable {x = x} m) r) = and-both (slot-bound (variable-seen x m v)) (params-bound v r)
   params-bound v (more (GoodParam.constant f) r) = params-bound v r
@@ -231,7 +231,7 @@ module _ (lim : Limits) (d : Dag) (M : Labels) (flow : Flow d M) (dag : dagHolds
 
   -- a test of each token: it is in use and so stands somewhere, or it is blank
   each-token : (test : Token → Bool) → test blankToken ≡ true → ((p : ℕ) → Standing M W p → test (tok p) ≡ true)
-      → all test (m .tokens) ≡ true
+      → forAll test (m .tokens) ≡ true
   unfolding tokenAt
   each-token test e h = all-from test (m .tokens) blankToken (λ p l. go p l (getD (tokensUsed m) p true) refl)
     where
@@ -240,7 +240,7 @@ module _ (lim : Limits) (d : Dag) (M : Labels) (flow : Flow d M) (dag : dagHolds
       go p l false u = ap test (clean .tokens p u) ∙ e
 
   each-cell : (test : Cell → Bool) → test blankCell ≡ true → ((c : ℕ) → Named M W c → test (cellAt (m .cells) c) ≡ true)
-      → all test (m .cells) ≡ true
+      → forAll test (m .cells) ≡ true
   unfolding cellAt
   each-cell test e h = all-from test (m .cells) blankCell (λ c l. go c l (getD (cellsUsed m) c true) refl)
     where
@@ -265,14 +265,14 @@ module _ (lim : Limits) (d : Dag) (M : Labels) (flow : Flow d M) (dag : dagHolds
       ranges c t = unfold isNode in
           isNode d (tok p .node)
           and eqb (length (tok p .binds)) 8
-          and all (λ (b : Bind). slotInRange c (b .slot)) (tok p .binds)
+          and forAll (λ (b : Bind). slotInRange c (b .slot)) (tok p .binds)
           and heldInRange (tok p .value)
           and placeInRange t (tok p .caller)
           and placeInRange c (tok p .cell)
           and stateInRange c (m .calls) (tok p .state)
 
   blank-range : tokenInRange lim d (m .calls) blankToken ≡ true
-  unfolding tokenInRange isNode slotInRange heldInRange placeInRange stateInRange all _and_
+  unfolding tokenInRange isNode slotInRange heldInRange placeInRange stateInRange forAll _and_
   blank-range = rw (lt-ltb 0 (length (d .nodes)) some) refl
 
   cell-range : (c : ℕ) → Named M W c → cellInRange lim (cellAt (m .cells) c) ≡ true

@@ -9,7 +9,7 @@ use native.Mathlib.Decide.{ℕ-discrete}
 use native.Mathlib.Omega.{arith}
 use lib.ListN.{length, getD, set, replicate, length-set}
 use lib.Seq.{getD-set-other}
-use Rattle.job.specs.Test.{all}
+use Rattle.job.specs.Test.{forAll}
 use Rattle.job.specs.Node.{Dag}
 use Rattle.model.specs.Machine.Limits.{Limits}
 use Rattle.model.specs.Machine.Blank.{empty, blankToken, blankCell, tokenAt, cellAt, slotAt, isBound, hasValue, isPlace}
@@ -68,7 +68,7 @@ slot-empty slots.Empty e = refl
 slot-empty (slots.Value v) e = clash e refl
 slot-empty (slots.Cell c) e = clash e refl
 
-binds-empty : (bs : List Bind) → all (λ (b : Bind). not (isBound (b .slot))) bs ≡ true → bs ≡ replicate (length bs) empty
+binds-empty : (bs : List Bind) → forAll (λ (b : Bind). not (isBound (b .slot))) bs ≡ true → bs ≡ replicate (length bs) empty
 binds-empty [] e = refl
 binds-empty (b ∷ bs) e =
     ap₂ (λ (s : Slot) (r : List Bind). record { slot = s } ∷ r) (slot-empty (b .slot) (all-head _ b bs e))

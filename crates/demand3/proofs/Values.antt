@@ -5,9 +5,9 @@ use mathlib.Core.Bool.{Bool, true, false}
 use mathlib.Core.List.{List, [], _∷_}
 use Prim.Native.Nat.{ℕ, zero, suc}
 use lib.IntN.{ℤ, pos, _+ℤ_}
-use Rattle.job.specs.Test.{all, All, none, more}
+use Rattle.job.specs.Test.{forAll, All, none, more}
 use Rattle.job.specs.Number.{fits, Signed32}
-use Rattle.job.specs.Site.{BuiltinReply, gives, silent, at, zeroIf, truth, sum, builtin}
+use Rattle.job.specs.Site.{BuiltinReply, gives, silent, at, zeroIf, truth, sumReply, builtin}
 use Rattle.job.specs.Syntax.{Param, variable, constant}
 use Rattle.job.specs.Node.{paramHolds}
 use Rattle.model.specs.Machine.Blank.{cellAt, slotAt}
@@ -60,7 +60,7 @@ module _ (cs : List Cell) (bs : List Bind)
   slot-fits x (slots.Value v) e l f = then-fits v (bound x v e) f
   slot-fits x (slots.Cell c) e l f = cell-fits c (cellAt cs c .value) refl l f
 
-  pub look-fits : (ps : List Param) → all paramHolds ps ≡ true → LookUpFits (look cs bs ps)
+  pub look-fits : (ps : List Param) → forAll paramHolds ps ≡ true → LookUpFits (look cs bs ps)
   unfolding look paramHolds
   look-fits [] e = found none
   look-fits (constant v ∷ ps) e = then-fits v (all-head paramHolds _ ps e) (look-fits ps (all-tail paramHolds _ ps e))
@@ -81,8 +81,8 @@ unfolding truth fits
 truth-fits true = gives-fits refl
 truth-fits false = gives-fits refl
 
-sum-fits : (a b : ℤ) → ReplyFits (sum a b)
-unfolding sum
+sum-fits : (a b : ℤ) → ReplyFits (sumReply a b)
+unfolding sumReply
 sum-fits a b = go (fits (a +ℤ b)) refl
   where
     go : (t : Bool) → fits (a +ℤ b) ≡ t → ReplyFits (elim t [ true ↦ gives (a +ℤ b) | false ↦ silent ])

@@ -1,5 +1,4 @@
--- The code's `&` and `|` are the definitions' `and` and `or`, since they have the same tables; and what else of `and` and `or` the laws
--- need. Assumes nothing.
+-- The code's `&` and `|` are the definitions' `and` and `or`, and what else of `and` and `or` the laws need. Assumes nothing.
 use mathlib.Core.Path.{_≡_, refl}
 use mathlib.Core.Bool.{Bool, true, false, _&&_, _||_}
 use Prim.Native.Nat.{ℕ, zero, suc, _≤_}
@@ -36,13 +35,11 @@ or-false false = refl
 
 pub both-is : (a b : Bool) → (a && b) ≡ (a and b)
 unfolding _and_
-both-is true b = refl
-both-is false b = refl
+both-is a b = refl
 
 pub either-is : (a b : Bool) → (a || b) ≡ (a or b)
 unfolding _or_
-either-is true b = refl
-either-is false b = refl
+either-is a b = refl
 
 pub three-are : (a b c : Bool) → (a && b && c) ≡ (a and b and c)
 unfolding _and_

@@ -6,7 +6,7 @@ use mathlib.Core.List.{List, [], _∷_}
 use Prim.Native.Nat.{ℕ, suc, _+_, _≤_, _<_}
 use native.Mathlib.Omega.{arith}
 use lib.ListN.{length, getD, length-map}
-use Rattle.job.specs.Test.{_and_, all, All, none, more}
+use Rattle.job.specs.Test.{_and_, forAll, All, none, more}
 use Rattle.job.specs.Syntax.{Param, Join, Exp, Definition, Program, formalsOf}
 use Rattle.job.specs.WellFormed.{GoodParam, GoodJoin, Good, GoodDefinition, WellFormed}
 use Rattle.job.specs.Node.{Node, Dag, paramHolds, paramsHold, isNode, nodeHolds, bodyHolds, dagHolds}
@@ -65,12 +65,12 @@ module _ (d : Dag) (formals : List ℕ) (counted : length formals ≡ length (d 
   unfolding isNode
   is-node k l = lt-ltb k (length (d .nodes)) l
 
-  only-node-holds : (x : Node) → nodeHolds d x ≡ true → all (nodeHolds d) (x ∷ []) ≡ true
+  only-node-holds : (x : Node) → nodeHolds d x ≡ true → forAll (nodeHolds d) (x ∷ []) ≡ true
   only-node-holds x e = all-cons (nodeHolds d) x [] e (all-nil (nodeHolds d))
 
   -- the nodes that a join makes itself
   own-nodes-hold : {scope : List ℕ} {j : Join} → GoodJoin scope j → (l r k : ℕ)
-      → l < length (d .nodes) → r < length (d .nodes) → k < length (d .nodes) → all (nodeHolds d) (ownNodes j l r k) ≡ true
+      → l < length (d .nodes) → r < length (d .nodes) → k < length (d .nodes) → forAll (nodeHolds d) (ownNodes j l r k) ≡ true
   unfolding ownNodes nodeHolds
   own-nodes-hold GoodJoin.par l r k hl hr hk = only-node-holds _ (and-both (is-node l hl) (is-node r hr))
   own-nodes-hold {scope} (GoodJoin.seq b) l r k hl hr hk =
@@ -83,7 +83,7 @@ module _ (d : Dag) (formals : List ℕ) (counted : length formals ≡ length (d 
 
   -- the nodes of an expression, numbered from n, toward k
   nodes-hold : {left : ℕ} {scope : List ℕ} {e : Exp} → Good formals left scope e → Slots scope → (n k : ℕ)
-      → k < length (d .nodes) → n + nodeCount e ≤ length (d .nodes) → all (nodeHolds d) (nodesOf e n k) ≡ true
+      → k < length (d .nodes) → n + nodeCount e ≤ length (d .nodes) → forAll (nodeHolds d) (nodesOf e n k) ≡ true
   unfolding nodesOf nodeHolds nodeCount
   nodes-hold Good.stop s n k hk fit = only-node-holds _ refl
   nodes-hold (Good.site {s = x} {ps = ps} t a) s n k hk fit =
@@ -104,7 +104,7 @@ module _ (d : Dag) (formals : List ℕ) (counted : length formals ≡ length (d 
 
   -- the nodes of definitions and a goal, numbered from n
   program-nodes-hold : {ds : List Definition} {g : Exp} → All (GoodDefinition formals) ds → Good formals 24 [] g → (n : ℕ)
-      → n + length (constructFrom n ds g .nodes) ≤ length (d .nodes) → all (nodeHolds d) (constructFrom n ds g .nodes) ≡ true
+      → n + length (constructFrom n ds g .nodes) ≤ length (d .nodes) → forAll (nodeHolds d) (constructFrom n ds g .nodes) ≡ true
   unfolding constructFrom nodeHolds
   program-nodes-hold {g = g} none gg n fit =
       let sink = n + nodeCount g in
@@ -119,7 +119,7 @@ module _ (d : Dag) (formals : List ℕ) (counted : length formals ≡ length (d 
       (all-cons (nodeHolds d) _ _ refl (program-nodes-hold hs gg (suc sink) (omega arith)))
 
   bodies-hold : {ds : List Definition} (g : Exp) → All (GoodDefinition formals) ds → (n : ℕ)
-      → n + length (constructFrom n ds g .nodes) ≤ length (d .nodes) → all (bodyHolds d) (constructFrom n ds g .bodies) ≡ true
+      → n + length (constructFrom n ds g .nodes) ≤ length (d .nodes) → forAll (bodyHolds d) (constructFrom n ds g .bodies) ≡ true
   unfolding constructFrom bodyHolds
   bodies-hold g none n fit = all-nil (bodyHolds d)
   bodies-hold g (more {x = x} {xs = xs} h hs) n fit =

@@ -4,7 +4,7 @@ use mathlib.Core.Bool.{true}
 use Prim.Native.Nat.{ℕ, _≤_, _<_}
 use lib.ListN.{length}
 use lib.Dec.{leb}
-use Rattle.job.specs.Test.{_and_, all}
+use Rattle.job.specs.Test.{_and_, forAll}
 use Rattle.job.specs.Node.{Node, Dag, nodeAt, bodyAt, isNode, nodeHolds, bodyHolds, dagHolds}
 use Rattle.job.proofs.Test.{lt-ltb, ltb-lt, le-leb, leb-le, and-left, and-right, and-both, all-at}
 
@@ -12,8 +12,8 @@ pub record DagRules (d : Dag) : Type 0 where
   pub nodes-few : length (d .nodes) ≤ 1022
   pub bodies-few : length (d .bodies) ≤ 32
   pub goal : d .goal < length (d .nodes)
-  pub bodies : all (bodyHolds d) (d .bodies) ≡ true
-  pub nodes : all (nodeHolds d) (d .nodes) ≡ true
+  pub bodies : forAll (bodyHolds d) (d .bodies) ≡ true
+  pub nodes : forAll (nodeHolds d) (d .nodes) ≡ true
 
 pub dag-rules : (d : Dag) → dagHolds d ≡ true → DagRules d
 unfolding dagHolds isNode
@@ -21,8 +21,8 @@ dag-rules d e =
     let ns = leb (length (d .nodes)) 1022 in
     let bs = leb (length (d .bodies)) 32 in
     let g = isNode d (d .goal) in
-    let bodies = all (bodyHolds d) (d .bodies) in
-    let nodes = all (nodeHolds d) (d .nodes) in
+    let bodies = forAll (bodyHolds d) (d .bodies) in
+    let nodes = forAll (nodeHolds d) (d .nodes) in
     let e₁ = and-right ns (bs and g and bodies and nodes) e in
     let e₂ = and-right bs (g and bodies and nodes) e₁ in
     let e₃ = and-right g (bodies and nodes) e₂ in

@@ -6,7 +6,7 @@ use Prim.Native.Nat.{ℕ, zero, suc, _+_, _≤_}
 use native.Mathlib.Omega.{arith}
 use lib.ListN.{length, take, drop, length-take}
 use lib.Dec.{leb, eqb}
-use Rattle.job.specs.Test.{_and_, any}
+use Rattle.job.specs.Test.{_and_, forSome}
 use Rattle.job.specs.Number.{signed}
 use Rattle.job.specs.Syntax.{Param, variable, constant, Join, par, seq, prune, Exp, stop, site, call, Program, formalsOf, levels}
 use Rattle.job.specs.Syntax.{scopeLeft, scopeRight}
@@ -68,7 +68,7 @@ module _ (m : ℕ) where
             | EntryKind.seq ↦ refused 3 e
             | EntryKind.prune ↦ refused 3 e
             | EntryKind.definition ↦ refused 3 e
-            | EntryKind.variable ↦ need (any (eqb (x .value .operand)) scope) 7 e >>=
+            | EntryKind.variable ↦ need (forSome (eqb (x .value .operand)) scope) 7 e >>=
                 (λ _. gives (variable (x .value .operand)) (x .next) (x .rest))
             | EntryKind.constant ↦ gives (constant (signed (x .value .operand))) (x .next) (x .rest)
             | EntryKind.unknown ↦ refused 3 e

@@ -6,7 +6,7 @@ use mathlib.Core.List.{List, [], _∷_, map}
 use Prim.Native.Nat.{ℕ, zero, suc}
 use lib.ListN.{length}
 use lib.Dec.{leb, eqb}
-use Rattle.job.specs.Test.{_or_, any, All, none, more}
+use Rattle.job.specs.Test.{_or_, forSome, All, none, more}
 use Rattle.job.specs.Number.{signed, unsigned}
 use Rattle.job.specs.Site.{siteTakes}
 use Rattle.job.specs.Syntax.{Param, Join, Exp, scopeLeft, scopeRight}
@@ -28,7 +28,7 @@ record FoundParam (scope : List ℕ) (es : List Entry) (g : Got Param) : Type 0 
   begins : Begins (encodeParam (g .value) ∷ []) es (g .rest)
 
 module _ (scope : List ℕ) (e : ℕ) (x : Entry) (rest : List Entry) where
-  variable-found : x .kind ≡ 7 → any (eqb (x .operand)) scope ≡ true
+  variable-found : x .kind ≡ 7 → forSome (eqb (x .operand)) scope ≡ true
       → FoundParam scope (x ∷ rest) (record { value = Param.variable (x .operand); next = suc e; rest = rest })
   unfolding encodeParam
   variable-found k t =

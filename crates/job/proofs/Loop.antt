@@ -8,7 +8,7 @@ use native.Mathlib.Numerals.{add-one}
 use native.Mathlib.Omega.{arith}
 use lib.ListN.{length, getD, take, length-map}
 use lib.Seq.{take-all}
-use Rattle.job.specs.Test.{_and_, all}
+use Rattle.job.specs.Test.{_and_, forAll}
 use Rattle.job.proofs.Both.{both, and-true, and-assoc}
 
 -- after the last turn a test of the first elements is one of all
@@ -18,12 +18,12 @@ done test xs i l e = e ∙ ap test (take-all i xs l)
 
 -- the same test of each element
 module _ {A : Type 0} (p : A → Bool) where
-  pub all-more : (xs : List A) (i : ℕ) (d : A) → i < length xs → all p (take (suc i) xs) ≡ (all p (take i xs) and p (getD xs i d))
-  unfolding all _and_
+  pub all-more : (xs : List A) (i : ℕ) (d : A) → i < length xs → forAll p (take (suc i) xs) ≡ (forAll p (take i xs) and p (getD xs i d))
+  unfolding forAll _and_
   all-more [] i d l = absurd (omega arith)
   all-more (x ∷ xs) zero d l = and-true (p x)
   all-more (x ∷ xs) (suc i) d l = ap (_and_ (p x)) (all-more xs i d (omega arith)) ∙ sym (and-assoc (p x) _ _)
 
   pub all-turn : (xs : List A) (i : ℕ) (d : A) {ok b : Bool}
-      → i < length xs → ok ≡ all p (take i xs) → b ≡ p (getD xs i d) → (ok && b) ≡ all p (take (i + 1) xs)
+      → i < length xs → ok ≡ forAll p (take i xs) → b ≡ p (getD xs i d) → (ok && b) ≡ forAll p (take (i + 1) xs)
   all-turn xs i d l e f = both e f ∙ rw add-one (sym (all-more xs i d l))

@@ -9,7 +9,7 @@ use native.Mathlib.Omega.{arith}
 use lib.ListN.{length, getD, take, drop}
 use lib.Seq.{drop-drop, getD-drop}
 use lib.Dec.{eqb}
-use Rattle.job.specs.Test.{any}
+use Rattle.job.specs.Test.{forSome}
 use Rattle.job.specs.Number.{number, signed}
 use Rattle.job.specs.Syntax.{Param, variable, constant, Join, par, seq, prune, Exp, stop, site, call, scopeLeft, scopeRight}
 use Rattle.job.specs.Entry.{Entry, entry, entries, operandAt, low, high, EntryKind, kindOf}
@@ -131,7 +131,7 @@ module _ (es : List Entry) where
             | EntryKind.seq ↦ refused 3 e
             | EntryKind.prune ↦ refused 3 e
             | EntryKind.definition ↦ refused 3 e
-            | EntryKind.variable ↦ need (any (eqb (x .value .operand)) scope) 7 e
+            | EntryKind.variable ↦ need (forSome (eqb (x .value .operand)) scope) 7 e
                 >>= (λ _. gives (variable (x .value .operand)) (x .next) (x .rest))
             | EntryKind.constant ↦ gives (constant (signed (x .value .operand))) (x .next) (x .rest)
             | EntryKind.unknown ↦ refused 3 e

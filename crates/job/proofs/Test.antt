@@ -8,7 +8,7 @@ use native.Mathlib.Decide.{decLt}
 use native.Mathlib.Omega.{arith}
 use lib.ListN.{length, getD}
 use lib.Dec.{T, ltb, leb, eqb, eqb→eq, eqb-refl, ltb→lt, lt→ltb, leb→le, le→leb}
-use Rattle.job.specs.Test.{_and_, _or_, all, All, none, more, once, count, same}
+use Rattle.job.specs.Test.{_and_, _or_, forAll, All, none, more, once, occurrences, same}
 
 -- a test does not both hold and fail
 pub clash : {A : Type 0} {b : Bool} → b ≡ true → b ≡ false → A
@@ -106,52 +106,52 @@ unfolding _or_
 or-cases true b e = inl refl
 or-cases false b e = inr e
 
--- `all`
+-- `forAll`
 module _ {A : Type 0} (p : A → Bool) where
-  pub all-nil : all p [] ≡ true
-  unfolding all
+  pub all-nil : forAll p [] ≡ true
+  unfolding forAll
   all-nil = refl
 
-  pub all-cons : (x : A) (xs : List A) → p x ≡ true → all p xs ≡ true → all p (x ∷ xs) ≡ true
-  unfolding all
+  pub all-cons : (x : A) (xs : List A) → p x ≡ true → forAll p xs ≡ true → forAll p (x ∷ xs) ≡ true
+  unfolding forAll
   all-cons x xs e f = and-both e f
 
-  pub all-head : (x : A) (xs : List A) → all p (x ∷ xs) ≡ true → p x ≡ true
-  unfolding all
-  all-head x xs e = and-left (p x) (all p xs) e
+  pub all-head : (x : A) (xs : List A) → forAll p (x ∷ xs) ≡ true → p x ≡ true
+  unfolding forAll
+  all-head x xs e = and-left (p x) (forAll p xs) e
 
-  pub all-tail : (x : A) (xs : List A) → all p (x ∷ xs) ≡ true → all p xs ≡ true
-  unfolding all
-  all-tail x xs e = and-right (p x) (all p xs) e
+  pub all-tail : (x : A) (xs : List A) → forAll p (x ∷ xs) ≡ true → forAll p xs ≡ true
+  unfolding forAll
+  all-tail x xs e = and-right (p x) (forAll p xs) e
 
-  pub all-append : (xs ys : List A) → all p xs ≡ true → all p ys ≡ true → all p (xs ++ ys) ≡ true
+  pub all-append : (xs ys : List A) → forAll p xs ≡ true → forAll p ys ≡ true → forAll p (xs ++ ys) ≡ true
   all-append [] ys e f = f
   all-append (x ∷ xs) ys e f = all-cons x (xs ++ ys) (all-head x xs e) (all-append xs ys (all-tail x xs e) f)
 
-  pub all-append-left : (xs ys : List A) → all p (xs ++ ys) ≡ true → all p xs ≡ true
+  pub all-append-left : (xs ys : List A) → forAll p (xs ++ ys) ≡ true → forAll p xs ≡ true
   all-append-left [] ys e = all-nil
   all-append-left (x ∷ xs) ys e = all-cons x xs (all-head x (xs ++ ys) e) (all-append-left xs ys (all-tail x (xs ++ ys) e))
 
-  pub all-append-right : (xs ys : List A) → all p (xs ++ ys) ≡ true → all p ys ≡ true
+  pub all-append-right : (xs ys : List A) → forAll p (xs ++ ys) ≡ true → forAll p ys ≡ true
   all-append-right [] ys e = e
   all-append-right (x ∷ xs) ys e = all-append-right xs ys (all-tail x (xs ++ ys) e)
 
   -- what a test of all says at an index, and back
-  pub all-at : (xs : List A) (i : ℕ) (d : A) → all p xs ≡ true → i < length xs → p (getD xs i d) ≡ true
+  pub all-at : (xs : List A) (i : ℕ) (d : A) → forAll p xs ≡ true → i < length xs → p (getD xs i d) ≡ true
   all-at [] i d e l = absurd (omega arith)
   all-at (x ∷ xs) zero d e l = all-head x xs e
   all-at (x ∷ xs) (suc i) d e l = all-at xs i d (all-tail x xs e) (omega arith)
 
-  pub all-from : (xs : List A) (d : A) → ((i : ℕ) → i < length xs → p (getD xs i d) ≡ true) → all p xs ≡ true
+  pub all-from : (xs : List A) (d : A) → ((i : ℕ) → i < length xs → p (getD xs i d) ≡ true) → forAll p xs ≡ true
   all-from [] d h = all-nil
   all-from (x ∷ xs) d h = all-cons x xs (h 0 (omega arith)) (all-from xs d (λ i l. h (suc i) (omega arith)))
 
   -- a test of all, and a property of all
-  pub all-All : (xs : List A) → all p xs ≡ true → All (λ x. p x ≡ true) xs
+  pub all-All : (xs : List A) → forAll p xs ≡ true → All (λ x. p x ≡ true) xs
   all-All [] e = none
   all-All (x ∷ xs) e = more (all-head x xs e) (all-All xs (all-tail x xs e))
 
-  pub All-all : (xs : List A) → All (λ x. p x ≡ true) xs → all p xs ≡ true
+  pub All-all : (xs : List A) → All (λ x. p x ≡ true) xs → forAll p xs ≡ true
   All-all [] a = all-nil
   All-all (x ∷ xs) (more e es) = all-cons x xs e (All-all xs es)
 
@@ -191,11 +191,11 @@ once-small true = omega arith
 once-small false = omega arith
 
 -- counting
-pub count-append : (n : ℕ) (xs ys : List ℕ) → count n (xs ++ ys) ≡ count n xs + count n ys
-unfolding count
+pub count-append : (n : ℕ) (xs ys : List ℕ) → occurrences n (xs ++ ys) ≡ occurrences n xs + occurrences n ys
+unfolding occurrences
 count-append n [] ys = omega arith
-count-append n (x ∷ xs) ys = let z : count n (xs ++ ys) ≡ count n xs + count n ys = count-append n xs ys in omega arith
+count-append n (x ∷ xs) ys = let z : occurrences n (xs ++ ys) ≡ occurrences n xs + occurrences n ys = count-append n xs ys in omega arith
 
-pub count-more : (n x : ℕ) (xs : List ℕ) → count n xs ≤ count n (x ∷ xs)
-unfolding count
+pub count-more : (n x : ℕ) (xs : List ℕ) → occurrences n xs ≤ occurrences n (x ∷ xs)
+unfolding occurrences
 count-more n x xs = omega arith

@@ -8,7 +8,7 @@ use Prim.Native.Nat.{ℕ, _<_, _≤_}
 use native.Mathlib.Omega.{arith}
 use lib.ListN.{length, getD}
 use lib.Dec.{eqb, ltb, leb}
-use Rattle.job.specs.Test.{_and_, _or_, all, any}
+use Rattle.job.specs.Test.{_and_, _or_, forAll, forSome}
 use Rattle.job.specs.Site.{builtinCounts, siteTakes, isBuiltin, isOutside}
 use Rattle.job.specs.WellFormed.{SiteTakes, builtin, outside}
 use Rattle.job.specs.Entry.{Entry, low, high}
@@ -18,18 +18,18 @@ use Rattle.job.proofs.Test.{all-at, and-left, and-right, and-both, or-l
 
 -- a variable in scope
 
-pub any-member : (x : ℕ) (scope : List ℕ) → any (eqb x) scope ≡ true → List·Memᴰ x scope
-unfolding any
+pub any-member : (x : ℕ) (scope : List ℕ) → forSome (eqb x) scope ≡ true → List·Memᴰ x scope
+unfolding forSome
 any-member x [] e = clash e refl
-any-member x (y ∷ scope) e = go (or-cases (eqb x y) (any (eqb x) scope) e) (any-member x scope)
+any-member x (y ∷ scope) e = go (or-cases (eqb x y) (forSome (eqb x) scope) e) (any-member x scope)
   where
-    go : (eqb x y ≡ true) ⊎ (any (eqb x) scope ≡ true) → (any (eqb x) scope ≡ true → List·Memᴰ x scope) → List·Memᴰ x (y ∷ scope)
+    go : (eqb x y ≡ true) ⊎ (forSome (eqb x) scope ≡ true) → (forSome (eqb x) scope ≡ true → List·Memᴰ x scope) → List·Memᴰ x (y ∷ scope)
     go (inl h) below = List·Memᴰ·head (eqb-eq x y h)
     go (inr h) below = List·Memᴰ·tail (below h)
 
-pub member-any : {x : ℕ} {scope : List ℕ} → List·Memᴰ x scope → any (eqb x) scope ≡ true
-unfolding any
-member-any {x} (List·Memᴰ·head {x = y} {xs = scope} e) = or-left (any (eqb x) scope) (eq-eqb x y e)
+pub member-any : {x : ℕ} {scope : List ℕ} → List·Memᴰ x scope → forSome (eqb x) scope ≡ true
+unfolding forSome
+member-any {x} (List·Memᴰ·head {x = y} {xs = scope} e) = or-left (forSome (eqb x) scope) (eq-eqb x y e)
 member-any {x} (List·Memᴰ·tail {x = y} m) = or-right (eqb x y) (member-any m)
 
 -- a site that takes n parameters
@@ -54,7 +54,7 @@ takes-site {s} {n} (outside l m k) =
 
 -- a call has at most 4 parameters
 pub site-few : {s n : ℕ} → SiteTakes s n → n ≤ 4
-unfolding all _and_
+unfolding forAll _and_
 site-few {s} (builtin l e) =
     let few : getD builtinCounts s 0 ≤ 4 = leb-le (getD builtinCounts s 0) 4 (all-at (λ c. leb c 4) builtinCounts s 0 refl l) in omega arith
 site-few (outside l u f) = f

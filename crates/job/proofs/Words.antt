@@ -9,7 +9,7 @@ use native.Mathlib.Omega.{arith}
 use lib.ListN.{length, getD, take, drop, length-append}
 use lib.Seq.{sets, length-sets, take-at, drop-at, drop-drop, getD-drop}
 use lib.Dec.{ltb, leb}
-use Rattle.job.specs.Test.{_and_, all, same}
+use Rattle.job.specs.Test.{_and_, forAll, same}
 use Rattle.job.specs.Site.{siteTakes}
 use Rattle.job.specs.Syntax.{Param, variable, constant}
 use Rattle.job.specs.Node.{Node, Body, Dag, paramHolds, paramsHold, isNode, nodeHolds, dagHolds}
@@ -28,7 +28,7 @@ param-words-length (suc n) [] = omega (arith, param-words-length n [])
 param-words-length (suc n) (variable x ∷ ps) = omega (arith, param-words-length n ps)
 param-words-length (suc n) (constant v ∷ ps) = omega (arith, param-words-length n ps)
 
-params-back : (n : ℕ) (ps : List Param) → length ps ≤ n → all paramHolds ps ≡ true → paramsFrom (length ps) (paramWords n ps) ≡ ps
+params-back : (n : ℕ) (ps : List Param) → length ps ≤ n → forAll paramHolds ps ≡ true → paramsFrom (length ps) (paramWords n ps) ≡ ps
 unfolding paramWords paramsFrom paramOf paramHolds
 params-back n [] l e = refl
 params-back zero (p ∷ ps) l e = absurd (omega arith)
@@ -41,7 +41,7 @@ params-back (suc n) (constant v ∷ ps) l e =
 params-read-back : (ps : List Param) → paramsHold ps ≡ true → paramsFrom (length ps) (paramWords 4 ps) ≡ ps
 unfolding paramsHold
 params-read-back ps e =
-    params-back 4 ps (leb-le (length ps) 4 (and-left _ (all paramHolds ps) e)) (and-right (leb (length ps) 4) _ e)
+    params-back 4 ps (leb-le (length ps) 4 (and-left _ (forAll paramHolds ps) e)) (and-right (leb (length ps) 4) _ e)
 
 -- nodes
 pub node-words-length : (d : Dag) (n : Node) → nodeHolds d n ≡ true → length (nodeWords n) ≡ 12
@@ -83,7 +83,7 @@ node-back d n e =
     let words : same (nodeWords n) (nodeWords (nodeBy (nodeWords n))) ≡ true = rw by (same-refl (nodeWords n)) in
     rw (words, decodedNode) by
 
-pub rows-length : (d : Dag) (ns : List Node) → all (nodeHolds d) ns ≡ true → length (rowsOfNodes ns) ≡ 12 * length ns
+pub rows-length : (d : Dag) (ns : List Node) → forAll (nodeHolds d) ns ≡ true → length (rowsOfNodes ns) ≡ 12 * length ns
 unfolding rowsOfNodes
 rows-length d [] e = refl
 rows-length d (n ∷ ns) e =
@@ -91,7 +91,7 @@ rows-length d (n ∷ ns) e =
     let rest = rows-length d ns (all-tail (nodeHolds d) n ns e) in
     simp length-append (omega arith)
 
-pub rows-back : (d : Dag) (ns : List Node) (rest : List ℕ) → all (nodeHolds d) ns ≡ true
+pub rows-back : (d : Dag) (ns : List Node) (rest : List ℕ) → forAll (nodeHolds d) ns ≡ true
     → nodesFrom (length ns) (rowsOfNodes ns ++ rest) ≡ ns
 unfolding rowsOfNodes nodesFrom
 rows-back d [] rest e = refl
@@ -122,7 +122,7 @@ unfolding headOf
 head-length d = omega (arith, body-words-length (d .bodies))
 
 -- the dag that words laid out so hold
-laid-back : (d : Dag) {ws : List ℕ} → all (nodeHolds d) (d .nodes) ≡ true → Laid (headOf d) (rowsOfNodes (d .nodes)) ws headWords
+laid-back : (d : Dag) {ws : List ℕ} → forAll (nodeHolds d) (d .nodes) ≡ true → Laid (headOf d) (rowsOfNodes (d .nodes)) ws headWords
     → dagOf ws ≡ d
 unfolding dagOf headOf
 laid-back d {ws} e r =

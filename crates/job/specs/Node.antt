@@ -5,7 +5,7 @@ use Prim.Native.Nat.{ℕ}
 use lib.ListN.{length, getD}
 use lib.Dec.{ltb, leb}
 use Rattle.job.specs.Bounds.{parameterLimit, scopeLimit, definitionLimit, nodeLimit}
-use Rattle.job.specs.Test.{_and_, all}
+use Rattle.job.specs.Test.{_and_, forAll}
 use Rattle.job.specs.Number.{fits}
 use Rattle.job.specs.Site.{siteTakes}
 use Rattle.job.specs.Syntax.{Param, variable, constant}
@@ -46,7 +46,7 @@ paramHolds (variable x) = ltb x scopeLimit
 paramHolds (constant v) = fits v
 
 unfoldable pub paramsHold : List Param → Bool
-paramsHold ps = leb (length ps) parameterLimit and all paramHolds ps
+paramsHold ps = leb (length ps) parameterLimit and forAll paramHolds ps
 
 module _ (d : Dag) where
   unfoldable pub isNode : ℕ → Bool
@@ -74,5 +74,5 @@ dagHolds d =
     leb (length (d .nodes)) nodeLimit
     and leb (length (d .bodies)) definitionLimit
     and isNode d (d .goal)
-    and all (bodyHolds d) (d .bodies)
-    and all (nodeHolds d) (d .nodes)
+    and forAll (bodyHolds d) (d .bodies)
+    and forAll (nodeHolds d) (d .nodes)

@@ -4,12 +4,12 @@ use Prim.Native.Nat.{ℕ}
 use lib.IntN.{pos}
 use Rattle.job.specs.Syntax.{Param, variable, constant, par, seq, prune, Exp, site, call, join, Program}
 
--- f ∣ g, f >[ x ]> g, f <[ x ]< g, where x is the variable's number
-infixr 20 _∣_
+-- f ∥ g, f >[ x ]> g, f <[ x ]< g, where x is the variable's number
+infixr 20 _∥_
 infixr 22 _>[_]>_
 infixl 21 _<[_]<_
-abbrev pub _∣_ : Exp → Exp → Exp
-f ∣ g = join par f g
+abbrev pub _∥_ : Exp → Exp → Exp
+f ∥ g = join par f g
 
 abbrev pub _>[_]>_ : Exp → ℕ → Exp → Exp
 f >[ x ]> g = join (seq x) f g

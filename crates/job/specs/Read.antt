@@ -5,7 +5,7 @@ use Prim.Native.Nat.{ℕ, zero, suc, _+_, _*_}
 use lib.ListN.{length, getD, take, drop}
 use lib.Dec.{ltb, leb, eqb}
 use Rattle.job.specs.Bounds.{scopeLimit, depthLimit, definitionLimit, entryLimit}
-use Rattle.job.specs.Test.{_and_, _or_, any}
+use Rattle.job.specs.Test.{_and_, _or_, forSome}
 use Rattle.job.specs.Number.{number, signed}
 use Rattle.job.specs.Syntax.{Param, variable, constant, Join, par, seq, prune, Exp, stop, site, call, join, Definition, Program}
 use Rattle.job.specs.Syntax.{formalsOf, levels, scopeLeft, scopeRight}
@@ -52,7 +52,7 @@ readParam scope e es = do
     | EntryKind.seq ↦ refused 3 e
     | EntryKind.prune ↦ refused 3 e
     | EntryKind.definition ↦ refused 3 e
-    | EntryKind.variable ↦ need (any (eqb o) scope) 7 e >>= (λ _. gives (variable o) (x .next) (x .rest))
+    | EntryKind.variable ↦ need (forSome (eqb o) scope) 7 e >>= (λ _. gives (variable o) (x .next) (x .rest))
     | EntryKind.constant ↦ gives (constant (signed o)) (x .next) (x .rest)
     | EntryKind.unknown ↦ refused 3 e
   ]

@@ -37,8 +37,8 @@ truth true = pos 1
 truth false = pos 0
 
 -- "the sum, or is silent if it leaves signed 32 bits"
-unfoldable pub sum : ℤ → ℤ → BuiltinReply
-sum a b = let s = a +ℤ b in elim (fits s) [ true ↦ gives s | false ↦ silent ]
+unfoldable pub sumReply : ℤ → ℤ → BuiltinReply
+sumReply a b = let s = a +ℤ b in elim (fits s) [ true ↦ gives s | false ↦ silent ]
 
 -- "0 let (1), 1 ift (1), 2 iff (1), 3 signal (0), 4 add (2), 5 less (2), 6 equal (2)"
 abbrev pub builtinTable : List Builtin
@@ -47,7 +47,7 @@ builtinTable =
     ∷ record { count = 1; reply = λ vs. zeroIf (notZero (at vs 0)) }
     ∷ record { count = 1; reply = λ vs. zeroIf (equalZ (at vs 0) (pos 0)) }
     ∷ record { count = 0; reply = λ vs. gives (pos 0) }
-    ∷ record { count = 2; reply = λ vs. sum (at vs 0) (at vs 1) }
+    ∷ record { count = 2; reply = λ vs. sumReply (at vs 0) (at vs 1) }
     ∷ record { count = 2; reply = λ vs. gives (truth (ltZ (at vs 0) (at vs 1))) }
     ∷ record { count = 2; reply = λ vs. gives (truth (equalZ (at vs 0) (at vs 1))) }
     ∷ []

@@ -1,27 +1,27 @@
--- Boolean tests, over lists of any length. Assumes nothing: these are definitions.
-use mathlib.Core.Bool.{Bool, true, false, not}
+-- Boolean tests, over lists of any length. What the library says in another shape or order has a name of its own here (docs/DECISIONS.md,
+-- "Names beside the library's"). Assumes nothing: these are definitions.
+use mathlib.Core.Bool.{Bool, true, false, not, _&&_, _||_}
 use mathlib.Core.List.{List, [], _∷_, _++_}
 use Prim.Native.Nat.{ℕ, zero, suc, _+_, _-_}
 use lib.ListN.{length, replicate}
 use lib.Dec.{eqb}
 
+-- the library's `&&` and `||`, which stay folded under these names, so that a law about them can find the two sides
 infixr 30 _and_
 infixr 25 _or_
 unfoldable pub _and_ : Bool → Bool → Bool
-true and b = b
-false and b = false
+a and b = a && b
 
 unfoldable pub _or_ : Bool → Bool → Bool
-true or b = true
-false or b = b
+a or b = a || b
 
-unfoldable pub all : {A : Type 0} → (A → Bool) → List A → Bool
-all p [] = true
-all p (x ∷ xs) = p x and all p xs
+unfoldable pub forAll : {A : Type 0} → (A → Bool) → List A → Bool
+forAll p [] = true
+forAll p (x ∷ xs) = p x and forAll p xs
 
-unfoldable pub any : {A : Type 0} → (A → Bool) → List A → Bool
-any p [] = false
-any p (x ∷ xs) = p x or any p xs
+unfoldable pub forSome : {A : Type 0} → (A → Bool) → List A → Bool
+forSome p [] = false
+forSome p (x ∷ xs) = p x or forSome p xs
 
 -- a property of each element
 pub data All {A : Type 0} (P : A → Type 0) : List A → Type 0 where
@@ -33,9 +33,9 @@ unfoldable pub allFrom : {A : Type 0} → (ℕ → A → Bool) → ℕ → List 
 allFrom p i [] = true
 allFrom p i (x ∷ xs) = p i x and allFrom p (suc i) xs
 
-unfoldable pub filter : {A : Type 0} → (A → Bool) → List A → List A
-filter p [] = []
-filter p (x ∷ xs) = let r = filter p xs in elim (p x) [ true ↦ x ∷ r | false ↦ r ]
+unfoldable pub select : {A : Type 0} → (A → Bool) → List A → List A
+select p [] = []
+select p (x ∷ xs) = let r = select p xs in elim (p x) [ true ↦ x ∷ r | false ↦ r ]
 
 -- 1 for true, 0 for false
 abbrev pub once : Bool → ℕ
@@ -43,14 +43,14 @@ once true = 1
 once false = 0
 
 -- how often a number stands in a list
-unfoldable pub count : ℕ → List ℕ → ℕ
-count n [] = 0
-count n (x ∷ xs) = once (eqb n x) + count n xs
+unfoldable pub occurrences : ℕ → List ℕ → ℕ
+occurrences n [] = 0
+occurrences n (x ∷ xs) = once (eqb n x) + occurrences n xs
 
 -- no number stands twice
 unfoldable pub differ : List ℕ → Bool
 differ [] = true
-differ (x ∷ xs) = not (any (eqb x) xs) and differ xs
+differ (x ∷ xs) = not (forSome (eqb x) xs) and differ xs
 
 -- two lists of numbers are the same
 unfoldable pub same : List ℕ → List ℕ → Bool

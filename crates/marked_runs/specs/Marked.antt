@@ -7,7 +7,7 @@ use Rattle.job.specs.Number.{bytes, unsigned}
 use Rattle.job.specs.Decimal.{ascii}
 use Rattle.job.specs.Syntax.{stop, call}
 use Rattle.job.specs.Encode.{encode}
-use Rattle.job.specs.Notation.{_∣_, _>[_]>_, _<[_]<_, v, #, let′, signal, add, goal, calling}
+use Rattle.job.specs.Notation.{_∥_, _>[_]>_, _<[_]<_, v, #, let′, signal, add, goal, calling}
 
 -- an answer's 8 bytes
 abbrev pub answering : ℕ → ℤ → List ℕ
@@ -37,8 +37,8 @@ markedRuns =
     ∷ caseOf (encode (goal (let′ (v 0) <[ 0 ]< stop))) "end 3\n"
     ∷ caseOf (encode (goal (add (# 2147483647) (# 1)))) "end 1\n"
     ∷ caseOf (encode (goal (add (# 2147483646) (# 1)))) "publish 2147483647\nend 2\n"
-    ∷ caseOf (encode (goal ((let′ (# 1) ∣ let′ (# 2)) >[ 0 ]> let′ (v 0)))) "publish 1\npublish 2\nend 11\n"
-    ∷ caseOf (encode (goal (let′ (v 0) <[ 0 ]< (let′ (# 1) ∣ let′ (# 2))))) "publish 1\nend 9\n"
+    ∷ caseOf (encode (goal ((let′ (# 1) ∥ let′ (# 2)) >[ 0 ]> let′ (v 0)))) "publish 1\npublish 2\nend 11\n"
+    ∷ caseOf (encode (goal (let′ (v 0) <[ 0 ]< (let′ (# 1) ∥ let′ (# 2))))) "publish 1\nend 9\n"
     -- E() = E(), goal E()
     ∷ caseOf (encode (calling (call 0 []))) "refused 10\nend 63\n"
     -- W() = stop <x< W(), goal W()

@@ -8,60 +8,60 @@ use native.Mathlib.Numerals.{add-one}
 use native.Mathlib.Omega.{arith}
 use lib.ListN.{length, getD, set, take, drop, replicate, length-append, length-set}
 use lib.Seq.{take-suc, drop-cons, length-take-le, getD-at, set-at, set-append-left}
-use Rattle.job.specs.Test.{filter, padded}
+use Rattle.job.specs.Test.{select, padded}
 use Rattle.orders.specs.NamesRetained.{markedOf, Retained}
 use Rattle.orders.proofs.NamesPadded.{put-behind}
 use Rattle.orders.proofs.NamesPadded.{padded-long}
 
 -- a filter takes the elements one by one
 module _ {A : Type 0} (f : A → Bool) where
-  pub filter-append : (xs ys : List A) → filter f (xs ++ ys) ≡ filter f xs ++ filter f ys
-  unfolding filter
+  pub filter-append : (xs ys : List A) → select f (xs ++ ys) ≡ select f xs ++ select f ys
+  unfolding select
   filter-append [] ys = refl
   filter-append (x ∷ xs) ys = go (f x) (filter-append xs ys)
     where
       go :
           (b : Bool)
-          → filter f (xs ++ ys) ≡ filter f xs ++ filter f ys
-          → elim b [ true ↦ x ∷ filter f (xs ++ ys) | false ↦ filter f (xs ++ ys) ]
-          ≡ elim b [ true ↦ x ∷ filter f xs | false ↦ filter f xs ] ++ filter f ys
+          → select f (xs ++ ys) ≡ select f xs ++ select f ys
+          → elim b [ true ↦ x ∷ select f (xs ++ ys) | false ↦ select f (xs ++ ys) ]
+          ≡ elim b [ true ↦ x ∷ select f xs | false ↦ select f xs ] ++ select f ys
       go true e = ap (_∷_ x) e
       go false e = e
 
-  pub filter-short : (xs : List A) → length (filter f xs) ≤ length xs
-  unfolding filter
+  pub filter-short : (xs : List A) → length (select f xs) ≤ length xs
+  unfolding select
   filter-short [] = omega arith
   filter-short (x ∷ xs) = go (f x) (filter-short xs)
     where
-      go : (b : Bool) → length (filter f xs) ≤ length xs
-          → length {A = A} (elim b [ true ↦ x ∷ filter f xs | false ↦ filter f xs ]) ≤ suc (length xs)
+      go : (b : Bool) → length (select f xs) ≤ length xs
+          → length {A = A} (elim b [ true ↦ x ∷ select f xs | false ↦ select f xs ]) ≤ suc (length xs)
       go true l = omega arith
       go false l = omega arith
 
-  pub filter-one : (x : A) (b : Bool) → f x ≡ b → filter f (x ∷ []) ≡ elim b [ true ↦ x ∷ [] | false ↦ [] ]
-  unfolding filter
-  filter-one x b e = rw (e, filter)
+  pub filter-one : (x : A) (b : Bool) → f x ≡ b → select f (x ∷ []) ≡ elim b [ true ↦ x ∷ [] | false ↦ [] ]
+  unfolding select
+  filter-one x b e = rw (e, select)
 
   -- one element more
   pub filter-keeps : (xs : List A) (i : ℕ) (d : A) → i < length xs → f (getD xs i d) ≡ true
-      → filter f (take (i + 1) xs) ≡ filter f (take i xs) ++ (getD xs i d ∷ [])
+      → select f (take (i + 1) xs) ≡ select f (take i xs) ++ (getD xs i d ∷ [])
   filter-keeps xs i d l e =
-      ap (λ n. filter f (take n xs)) (add-one i)
-      ∙ ap (filter f) (take-suc xs i d l)
+      ap (λ n. select f (take n xs)) (add-one i)
+      ∙ ap (select f) (take-suc xs i d l)
       ∙ filter-append (take i xs) (getD xs i d ∷ [])
-      ∙ ap (_++_ (filter f (take i xs))) (filter-one (getD xs i d) true e)
+      ∙ ap (_++_ (select f (take i xs))) (filter-one (getD xs i d) true e)
 
   pub filter-drops : (xs : List A) (i : ℕ) (d : A) → i < length xs → f (getD xs i d) ≡ false
-      → filter f (take (i + 1) xs) ≡ filter f (take i xs)
+      → select f (take (i + 1) xs) ≡ select f (take i xs)
   filter-drops xs i d l e =
-      ap (λ n. filter f (take n xs)) (add-one i)
-      ∙ ap (filter f) (take-suc xs i d l)
+      ap (λ n. select f (take n xs)) (add-one i)
+      ∙ ap (select f) (take-suc xs i d l)
       ∙ filter-append (take i xs) (getD xs i d ∷ [])
-      ∙ ap (_++_ (filter f (take i xs))) (filter-one (getD xs i d) false e)
-      ∙ append-nil (filter f (take i xs))
+      ∙ ap (_++_ (select f (take i xs))) (filter-one (getD xs i d) false e)
+      ∙ append-nil (select f (take i xs))
 
-pub filter-same : {A : Type 0} (f g : A → Bool) (xs : List A) → ((x : A) → f x ≡ g x) → filter f xs ≡ filter g xs
-unfolding filter
+pub filter-same : {A : Type 0} (f g : A → Bool) (xs : List A) → ((x : A) → f x ≡ g x) → select f xs ≡ select g xs
+unfolding select
 filter-same f g [] e = refl
 filter-same {A} f g (x ∷ xs) e = ap₂ (λ (b : Bool) (ys : List A). elim b as (λ b. List A) [ true ↦ x ∷ ys | false ↦ ys ]) (e x)
     (filter-same f g xs e)
@@ -151,7 +151,7 @@ pub record TurnLeaves (names : List ℕ) (count : ℕ) (marks : List Bool) (i : 
   pub array : after ≡ turned names marks i
 
 pub turned-first : (names : List ℕ) (count : ℕ) (marks : List Bool) → TurnLeaves names count marks 0 names 0
-unfolding filter padded
+unfolding select padded
 turned-first names count marks = record { below = omega arith; few = omega arith; size = refl; number = refl; array = refl }
 
 module _ {names after : List ℕ} {count i n : ℕ} {marks : List Bool} (t : TurnLeaves names count marks i after n) where

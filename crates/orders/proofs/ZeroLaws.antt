@@ -9,7 +9,7 @@ use lib.Bits.{bitOr, or-zero-l, or-add-and, and-le-r}
 use lib.Dec.{eqb}
 use lib.ListN.{length, getD, take, drop, length-drop}
 use lib.Seq.{getD-drop}
-use Rattle.job.specs.Test.{_and_, all}
+use Rattle.job.specs.Test.{_and_, forAll}
 use Rattle.job.proofs.Test.{ne-eqb}
 use Rattle.job.proofs.Loop.{all-more}
 
@@ -24,10 +24,10 @@ or-none a b = go (ℕ-discrete a 0) (ℕ-discrete b 0)
 
 module _ (words : List ℕ) (from : ℕ) where
   abbrev pub zeroTo : ℕ → Bool
-  zeroTo i = all (eqb 0) (take (i - from) (drop from words))
+  zeroTo i = forAll (eqb 0) (take (i - from) (drop from words))
 
   pub zero-none : true ≡ zeroTo from
-  unfolding all
+  unfolding forAll
   zero-none = let e : from - from ≡ 0 = omega arith in rw e
 
   pub zero-turn : (i bits : ℕ) → from ≤ i → i < length words → eqb bits 0 ≡ zeroTo i → eqb (bitOr bits (getD words i 0)) 0 ≡ zeroTo (i + 1)

@@ -4,11 +4,11 @@ use mathlib.Core.Bool.{Bool, false}
 use mathlib.Core.List.{List}
 use Prim.Native.Nat.{ℕ, _-_, _≤_}
 use lib.ListN.{length, getD, take, drop, replicate}
-use Rattle.job.specs.Test.{padded, filter}
+use Rattle.job.specs.Test.{padded, select}
 
 -- those of some names whose place is marked
 abbrev pub markedOf : List Bool → List ℕ → List ℕ
-markedOf marks names = filter (λ (p : ℕ). getD marks p false) names
+markedOf marks names = select (λ (p : ℕ). getD marks p false) names
 
 -- the array and the number of names afterwards
 pub record Retained (names : List ℕ) (count : ℕ) (marks : List Bool) (after : List ℕ) (n : ℕ) : Type 0 where

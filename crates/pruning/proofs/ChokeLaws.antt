@@ -10,7 +10,7 @@ use lib.ListN.{length, getD, set, take, drop, replicate, getD-replicate, length-
 use lib.ListN.{List·getD-eq-default}
 use lib.Seq.{take-suc, take-all, append-snoc, length-take-le}
 use lib.Dec.{eqb}
-use Rattle.job.specs.Test.{filter, padded}
+use Rattle.job.specs.Test.{select, padded}
 use Rattle.model.specs.Machine.Blank.{blankToken, blankCell, tokenAt, cellAt}
 use Rattle.model.specs.Machine.Active.{upward, within}
 use Rattle.model.specs.Machine.State.{isReady, isWaiting, waitsAt}
@@ -253,7 +253,7 @@ module _ {ws : List ℕ} (m : Machine) (h : Holds ws m) (marks : List Bool) wher
   woken i = withOrders (queueOf m ++ markedOf marks (take i (waitsOf m))) (waitsOf m) m
 
   pub woken-none : Holds ws (woken 0)
-  unfolding filter
+  unfolding select
   woken-none =
       subst (λ xs. Holds ws (withOrders xs (waitsOf m) m)) (sym (append-nil (queueOf m))) (subst (Holds ws) (sym (orders-again h)) h)
 
@@ -286,10 +286,10 @@ module _ {ws : List ℕ} (m : Machine) (h : Holds ws m) (marks : List Bool) wher
         let w = waitsOf m in
         let n = h .ordered .waiting in
         let f : ℕ → Bool = λ (p : ℕ). getD marks p false in
-        let more : filter f (take i w) ++ filter f (p ∷ []) ≡ filter f (take (i + 1) w) =
+        let more : select f (take i w) ++ select f (p ∷ []) ≡ select f (take (i + 1) w) =
         sym (filter-append f (take i w) (p ∷ []))
-        ∙ ap (λ x. filter f (take i w ++ (x ∷ []))) (name-is p e)
-        ∙ ap (filter f) (sym (take-suc w i 0 (omega arith)) ∙ ap (λ n. take n w) (sym (add-one i))) in
+        ∙ ap (λ x. select f (take i w ++ (x ∷ []))) (name-is p e)
+        ∙ ap (select f) (sym (take-suc w i 0 (omega arith)) ∙ ap (λ n. take n w) (sym (add-one i))) in
         let names : queueOf (woken i) ++ markedOf marks (p ∷ []) ≡ q ++ markedOf marks (take (i + 1) w) =
         ap (λ x. x ++ markedOf marks (p ∷ [])) (queue-orders (q ++ markedOf marks (take i w)) w m)
         ∙ append-assoc q (markedOf marks (take i w)) (markedOf marks (p ∷ []))
@@ -311,14 +311,14 @@ third m ready waiting =
 module _ (m : Machine) (ready waiting : List Bool)
     (er : ready ≡ map (λ (t : Token). eqb (stateKind (t .state)) 1) (m .tokens))
     (ew : waiting ≡ map (λ (t : Token). eqb (stateKind (t .state)) 2) (m .tokens)) where
-  ready-same : (xs : List ℕ) → markedOf ready xs ≡ filter (λ (p : ℕ). isReady (tokenAt (m .tokens) p .state)) xs
+  ready-same : (xs : List ℕ) → markedOf ready xs ≡ select (λ (p : ℕ). isReady (tokenAt (m .tokens) p .state)) xs
   unfolding tokenAt
   ready-same xs =
       filter-same _ _ xs
       (λ p. ap (λ r. getD r p false) er ∙ List·getD-map (λ (t : Token). eqb (stateKind (t .state)) 1) (m .tokens) p blankToken
       ∙ ready-kind _)
 
-  waiting-same : (xs : List ℕ) → markedOf waiting xs ≡ filter (λ (p : ℕ). isWaiting (tokenAt (m .tokens) p .state)) xs
+  waiting-same : (xs : List ℕ) → markedOf waiting xs ≡ select (λ (p : ℕ). isWaiting (tokenAt (m .tokens) p .state)) xs
   unfolding tokenAt
   waiting-same xs =
       filter-same _ _ xs
@@ -332,7 +332,7 @@ module _ (m : Machine) (ready waiting : List Bool)
       let w = waitsOf m in
       let one = first m ready in
       let two = second m ready in
-      let front : queueOf one ++ markedOf ready (waitsOf one) ≡ filter (λ (p : ℕ). isReady (tokenAt (m .tokens) p .state)) (q ++ w) =
+      let front : queueOf one ++ markedOf ready (waitsOf one) ≡ select (λ (p : ℕ). isReady (tokenAt (m .tokens) p .state)) (q ++ w) =
       ap₂ (λ a b. a ++ markedOf ready b) (queue-orders (markedOf ready q) w m) (waits-back (markedOf ready q) w m)
       ∙ sym (filter-append (λ (p : ℕ). getD ready p false) q w)
       ∙ ready-same (q ++ w) in
@@ -340,7 +340,7 @@ module _ (m : Machine) (ready waiting : List Bool)
       ∙ waits-back (markedOf ready q) w m in
       ap₂ (λ a b. withOrders a (markedOf waiting b) m)
       (queue-orders (queueOf one ++ markedOf ready (waitsOf one)) (waitsOf one) one ∙ front) back
-      ∙ ap (λ b. withOrders (filter (λ (p : ℕ). isReady (tokenAt (m .tokens) p .state)) (q ++ w)) b m) (waiting-same w)
+      ∙ ap (λ b. withOrders (select (λ (p : ℕ). isReady (tokenAt (m .tokens) p .state)) (q ++ w)) b m) (waiting-same w)
 
 pub first-room : {ws : List ℕ} {m : Machine} → Holds ws m → (ready : List Bool) → m .queued + m .waiting ≤ 64
     → first m ready .queued + first m ready .waiting ≤ 64

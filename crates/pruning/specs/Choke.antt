@@ -2,7 +2,7 @@
 use mathlib.Core.List.{_++_, map}
 use Prim.Native.Nat.{ℕ, _+_, _<_, _≤_}
 use lib.ListN.{take, drop}
-use Rattle.job.specs.Test.{filter}
+use Rattle.job.specs.Test.{select}
 use Rattle.model.specs.Machine.Blank.{tokenAt}
 use Rattle.model.specs.Machine.State.{isReady, isWaiting}
 use Rattle.model.specs.Machine.Update.{withTables, withOrders, queueOf, waitsOf}
@@ -17,8 +17,8 @@ rowsChoked c p m = withTables (map (chokeToken (m .cells) c) (take p (m .tokens)
 abbrev pub reordered : Machine → Machine
 reordered m =
     withOrders
-    (filter (λ (p : ℕ). isReady (tokenAt (m .tokens) p .state)) (queueOf m ++ waitsOf m))
-    (filter (λ (p : ℕ). isWaiting (tokenAt (m .tokens) p .state)) (waitsOf m))
+    (select (λ (p : ℕ). isReady (tokenAt (m .tokens) p .state)) (queueOf m ++ waitsOf m))
+    (select (λ (p : ℕ). isWaiting (tokenAt (m .tokens) p .state)) (waitsOf m))
     m
 
 -- the queue has a name at the place, and room for those that wait

@@ -8,7 +8,7 @@ use native.Mathlib.Decide.{decLt, ℕ-discrete}
 use native.Mathlib.Numerals.{add-one}
 use lib.ListN.{length, getD, drop}
 use lib.Dec.{eqb}
-use Rattle.job.specs.Test.{any}
+use Rattle.job.specs.Test.{forSome}
 use Rattle.job.specs.Syntax.{Param, variable}
 use Rattle.job.specs.Entry.{Entry, entry, entries, kindOf, operandAt}
 use Rattle.job.specs.Read.{Got, Read, got, refused, _>>=_, gives, need, entryAt, readParam, readParamList}
@@ -48,7 +48,7 @@ module _ (ks os scope : List ℕ) (at : ℕ) where
       unfolding parameterFault unless
       param-other g = rw (entries-at ks os at l, ne-eqb (getD ks at 0) 8 f, ne-eqb (getD ks at 0) 7 g)
 
-      module _ (k : getD ks at 0 ≡ 7) (o : ℕ) (eo : o ≡ operandAt os at) (b : Bool) (eb : b ≡ any (eqb o) scope) where
+      module _ (k : getD ks at 0 ≡ 7) (o : ℕ) (eo : o ≡ operandAt os at) (b : Bool) (eb : b ≡ forSome (eqb o) scope) where
         named : parameterFault scope (entriesFrom ks os at) ≡ unless b 7 0
         unfolding parameterFault unless
         named = rw (entries-at ks os at l, ne-eqb (getD ks at 0) 8 f, eq-eqb (getD ks at 0) 7 k, ← eo, ← eb)
@@ -77,7 +77,7 @@ judged-entry scope e k o es = go (ℕ-discrete k 8) (ℕ-discrete k 7)
 
     go : Dec (k ≡ 8) → Dec (k ≡ 7) → Judged e (parameterFault scope (entry k o ∷ es)) (readParam scope e (entry k o ∷ es))
     go (yes h) d = rw h (takes refl refl)
-    go (no f) (yes h) = rw h (seven (any (eqb o) scope))
+    go (no f) (yes h) = rw h (seven (forSome (eqb o) scope))
     go (no f) (no g) = rw (other-kind scope e k o es f g, ne-eqb k 8 f, ne-eqb k 7 g) (refuses (λ z. omega arith))
 
 judged : (scope : List ℕ) (e : ℕ) (es : List Entry) → Judged e (parameterFault scope es) (readParam scope e es)

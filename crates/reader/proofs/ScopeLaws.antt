@@ -9,7 +9,7 @@ use native.Mathlib.Decide.{decLt}
 use native.Mathlib.Numerals.{add-one}
 use lib.Bits.{bitOr, or-shr, or-mod}
 use lib.Dec.{eqb, ltb, leb}
-use Rattle.job.specs.Test.{_and_, _or_, all, any}
+use Rattle.job.specs.Test.{_and_, _or_, forAll, forSome}
 use Rattle.job.specs.Syntax.{levels}
 use Rattle.job.proofs.Test.{eqb-eq, ne-eqb, lt-ltb, ltb-lt, leb-le, and-left, and-right, all-head, all-tail, all-cons}
 use Rattle.reader.specs.Scope.{hasBit, Means}
@@ -51,16 +51,16 @@ unfolding below _and_
 shifted-some x l = leb-le 1 (1 * 2 ^ x % 2 ^ 32) (below-at 9 (λ x. leb 1 (1 * 2 ^ x % 2 ^ 32)) refl x (omega arith))
 
 -- the formals: the lowest n bits
-formals-bits : (n x : ℕ) → n ≤ 8 → x < 8 → hasBit (2 ^ n - 1) x ≡ any (eqb x) (levels n)
-unfolding below agree levels any _and_ _or_
+formals-bits : (n x : ℕ) → n ≤ 8 → x < 8 → hasBit (2 ^ n - 1) x ≡ forSome (eqb x) (levels n)
+unfolding below agree levels forSome _and_ _or_
 formals-bits n x m l =
     agree-eq _ _
-    (below-at 8 (λ x. agree (hasBit (2 ^ n - 1) x) (any (eqb x) (levels n)))
-    (below-at 9 (λ n. below 8 (λ x. agree (hasBit (2 ^ n - 1) x) (any (eqb x) (levels n)))) refl n (omega arith)) x l)
+    (below-at 8 (λ x. agree (hasBit (2 ^ n - 1) x) (forSome (eqb x) (levels n)))
+    (below-at 9 (λ n. below 8 (λ x. agree (hasBit (2 ^ n - 1) x) (forSome (eqb x) (levels n)))) refl n (omega arith)) x l)
 
-formals-small : (n : ℕ) → n ≤ 8 → all (λ x. ltb x 8) (levels n) ≡ true
-unfolding below levels all _and_
-formals-small n m = below-at 9 (λ n. all (λ x. ltb x 8) (levels n)) refl n (omega arith)
+formals-small : (n : ℕ) → n ≤ 8 → forAll (λ x. ltb x 8) (levels n) ≡ true
+unfolding below levels forAll _and_
+formals-small n m = below-at 9 (λ n. forAll (λ x. ltb x 8) (levels n)) refl n (omega arith)
 
 pub formals-mean : (n : ℕ) → n ≤ 8 → Means (record { bound = 1 * 2 ^ n % 2 ^ 32 - 1; count = n }) (levels n)
 formals-mean n m = record {
@@ -94,21 +94,21 @@ or-bit a b y =
     ∙ or-digit (a / 2 ^ y % 2) (b / 2 ^ y % 2) (omega arith) (omega arith)
 
 module _ (s : Scope) (scope : List ℕ) (m : Means s scope) (x : ℕ) where
-  pub bound-in : x < 8 → hasBit (s .bound) x ≡ any (eqb x) scope
+  pub bound-in : x < 8 → hasBit (s .bound) x ≡ forSome (eqb x) scope
   bound-in l = m .bits x (omega arith)
 
-  pub bound-out : 8 ≤ x → false ≡ any (eqb x) scope
-  unfolding any _or_
+  pub bound-out : 8 ≤ x → false ≡ forSome (eqb x) scope
+  unfolding forSome _or_
   bound-out l = sym (go scope (m .small))
     where
-      go : (ys : List ℕ) → all (λ x. ltb x 8) ys ≡ true → any (eqb x) ys ≡ false
+      go : (ys : List ℕ) → forAll (λ x. ltb x 8) ys ≡ true → forSome (eqb x) ys ≡ false
       go [] h = refl
       go (y ∷ ys) h =
           let z = ltb-lt y 8 (all-head (λ x. ltb x 8) y ys h) in
           rw (ne-eqb x y (λ e. omega arith)) (go ys (all-tail (λ x. ltb x 8) y ys h))
 
   pub bind-means : x < 8 → Means (record { bound = bitOr (s .bound) (1 * 2 ^ x % 2 ^ 32); count = s .count + 1 }) (x ∷ scope)
-  unfolding any
+  unfolding forSome
   bind-means l = record {
     counted = add-one (s .count) ∙ ap suc (m .counted);
     small = all-cons (λ x. ltb x 8) x scope (lt-ltb x 8 l) (m .small);

@@ -5,7 +5,7 @@ use mathlib.Core.List.{List, [], _∷_}
 use Prim.Native.Nat.{ℕ, zero, suc}
 use lib.ListN.{length}
 use lib.Dec.{eqb, ltb}
-use Rattle.job.specs.Test.{_or_, any}
+use Rattle.job.specs.Test.{_or_, forSome}
 use Rattle.job.specs.Entry.{Entry, EntryKind, isExpression, rowHolds, isBinder}
 
 -- this number, unless the test holds
@@ -23,4 +23,4 @@ expressionFault (suc left) scope k o =
 unfoldable pub parameterFault : List ℕ → List Entry → ℕ
 parameterFault scope [] = 5
 parameterFault scope (x ∷ es) =
-    unless (eqb (x .kind) 8) (unless (eqb (x .kind) 7) 3 (unless (any (eqb (x .operand)) scope) 7 0)) 0
+    unless (eqb (x .kind) 8) (unless (eqb (x .kind) 7) 3 (unless (forSome (eqb (x .operand)) scope) 7 0)) 0

@@ -5,7 +5,7 @@ use mathlib.Core.List.{List}
 use Prim.Native.Nat.{ℕ, _/_, _%_, _^_, _<_}
 use lib.ListN.{length}
 use lib.Dec.{eqb, ltb}
-use Rattle.job.specs.Test.{all, any}
+use Rattle.job.specs.Test.{forAll, forSome}
 use Rattle.reader.specs.declared.scope.Scope.{Scope}
 
 -- bit x of a number
@@ -15,8 +15,8 @@ hasBit bound x = eqb (bound / 2 ^ x % 2) 1
 -- as many variables, each below 8, and bit x is set exactly if x is one of them
 pub record Means (s : Scope) (scope : List ℕ) : Type 0 where
   pub counted : s .count ≡ length scope
-  pub small : all (λ x. ltb x 8) scope ≡ true
-  pub bits : (x : ℕ) → x < 8 → hasBit (s .bound) x ≡ any (eqb x) scope
+  pub small : forAll (λ x. ltb x 8) scope ≡ true
+  pub bits : (x : ℕ) → x < 8 → hasBit (s .bound) x ≡ forSome (eqb x) scope
 
 -- the scope of some list
 abbrev pub HasMeaning : Scope → Type 0

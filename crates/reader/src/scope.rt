@@ -4,7 +4,7 @@ ghost use mathlib.Core.Path.{_≡_};
 ghost use mathlib.Core.List.{_∷_};
 ghost use Prim.Native.Nat.{_<_, _≤_};
 ghost use lib.Dec.{eqb};
-ghost use Rattle.job.specs.Test.{any};
+ghost use Rattle.job.specs.Test.{forSome};
 ghost use Rattle.job.specs.Syntax.{levels};
 ghost use Rattle.reader.specs.Scope.{Means, ForEvery};
 
@@ -27,7 +27,7 @@ pub fn of_formals(n: u32) -> Scope
 
 // Is this number bound?
 pub fn is_bound(scope: Scope, x: u32) -> bool
-    ensures { λ r. ⌜ ForEvery scope (λ l. r ≡ any (eqb x) l) ⌝ }
+    ensures { λ r. ⌜ ForEvery scope (λ l. r ≡ forSome (eqb x) l) ⌝ }
 {
     if SCOPE_LIMIT <= x {
         return false;

@@ -8,7 +8,7 @@ use native.Mathlib.Omega.{arith}
 use lib.Dec.{eqb}
 use lib.ListN.{length, take, drop, replicate, length-drop}
 use lib.Seq.{length-take-le}
-use Rattle.job.specs.Test.{_and_, all, padded}
+use Rattle.job.specs.Test.{_and_, forAll, padded}
 use Rattle.job.specs.Node.{Dag}
 use Rattle.model.specs.Machine.Limits.{Limits}
 use Rattle.model.specs.Machine.Rules.{namesOnce, rulesHold}
@@ -22,8 +22,8 @@ use Rattle.model.proofs.Machine.Rules.{each-rule-holds, NamesOnce, names-once}
 use Rattle.record.specs.Holds.{Codes, Ordered, Holds}
 use Rattle.orders.proofs.NamesPadded.{padded-front}
 
-zeros : (xs : List ℕ) → all (eqb 0) xs ≡ true → xs ≡ replicate (length xs) 0
-unfolding all
+zeros : (xs : List ℕ) → forAll (eqb 0) xs ≡ true → xs ≡ replicate (length xs) 0
+unfolding forAll
 zeros [] e = refl
 zeros (x ∷ xs) e = ap₂ _∷_ (sym (eqb-eq 0 x (and-left _ _ e))) (zeros xs (and-right _ _ e))
 

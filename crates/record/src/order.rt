@@ -3,7 +3,7 @@ ghost use mathlib.Core.Path.{_≡_};
 ghost use mathlib.Core.Bool.{false};
 ghost use Prim.Native.Nat.{ℕ, _<_, _-_};
 ghost use lib.ListN.{length, getD};
-ghost use Rattle.job.specs.Test.{filter};
+ghost use Rattle.job.specs.Test.{select};
 ghost use Rattle.model.specs.Machine.Update.{enqueue, withOrders, queueOf, waitsOf};
 ghost use Rattle.model.specs.declared.record.Machine.{Machine};
 ghost use Rattle.record.specs.Holds.{Codes, Holds};
@@ -92,7 +92,7 @@ fn retain_queue_slice(w: &mut [u32], keep: &[bool])
     requires { ⌜ length (now w) ≡ 1797 ⌝ }
     ensures { λ _.
         ⌜ ((m : Machine) → Holds (now (w .entry)) m
-        → Holds (now (w .exit)) (withOrders (filter (λ (p : ℕ). getD (now (keep .entry)) p false) (queueOf m)) (waitsOf m) m)) ⌝ }
+        → Holds (now (w .exit)) (withOrders (select (λ (p : ℕ). getD (now (keep .entry)) p false) (queueOf m)) (waitsOf m) m)) ⌝ }
 {
     let count = wide(w[QUEUE_LENGTH]);
     if count <= Machine::TOKENS {
@@ -105,7 +105,7 @@ fn retain_queue_slice(w: &mut [u32], keep: &[bool])
 pub fn retain_queue(w: &mut [u32; Machine::WORDS], keep: &[bool; Machine::TOKENS])
     ensures { λ _.
         ⌜ ((m : Machine) → Holds (now (w .entry)) m
-        → Holds (now (w .exit)) (withOrders (filter (λ (p : ℕ). getD (now (keep .entry)) p false) (queueOf m)) (waitsOf m) m)) ⌝ }
+        → Holds (now (w .exit)) (withOrders (select (λ (p : ℕ). getD (now (keep .entry)) p false) (queueOf m)) (waitsOf m) m)) ⌝ }
 {
     retain_queue_slice(w, keep);
 }
@@ -114,7 +114,7 @@ fn retain_waits_slice(w: &mut [u32], keep: &[bool])
     requires { ⌜ length (now w) ≡ 1797 ⌝ }
     ensures { λ _.
         ⌜ ((m : Machine) → Holds (now (w .entry)) m
-        → Holds (now (w .exit)) (withOrders (queueOf m) (filter (λ (p : ℕ). getD (now (keep .entry)) p false) (waitsOf m)) m)) ⌝ }
+        → Holds (now (w .exit)) (withOrders (queueOf m) (select (λ (p : ℕ). getD (now (keep .entry)) p false) (waitsOf m)) m)) ⌝ }
 {
     let count = wide(w[WAITS_LENGTH]);
     if count <= Machine::TOKENS {
@@ -127,7 +127,7 @@ fn retain_waits_slice(w: &mut [u32], keep: &[bool])
 pub fn retain_waits(w: &mut [u32; Machine::WORDS], keep: &[bool; Machine::TOKENS])
     ensures { λ _.
         ⌜ ((m : Machine) → Holds (now (w .entry)) m
-        → Holds (now (w .exit)) (withOrders (queueOf m) (filter (λ (p : ℕ). getD (now (keep .entry)) p false) (waitsOf m)) m)) ⌝ }
+        → Holds (now (w .exit)) (withOrders (queueOf m) (select (λ (p : ℕ). getD (now (keep .entry)) p false) (waitsOf m)) m)) ⌝ }
 {
     retain_waits_slice(w, keep);
 }

@@ -11,7 +11,7 @@ use Rattle.model.specs.declared.token.Slot.the-variants as slots
 use Rattle.model.specs.declared.token.Held.the-variants as helds
 use Rattle.model.specs.declared.token.Place.the-variants as places
 use Rattle.model.specs.declared.token.State.the-variants as states
-use Rattle.job.specs.Test.{_and_, all}
+use Rattle.job.specs.Test.{_and_, forAll}
 use Rattle.model.specs.Machine.Blank.{empty, slotAt, isBound, isPlace, hasValue, tokenIsBlank}
 use Rattle.model.specs.Machine.State.{isBlankState}
 use Rattle.model.specs.declared.token.Slot.{Slot}
@@ -67,12 +67,12 @@ slotZero s b = eqb 0 (slotKind s) and eqb 0 (slotNumber s) and b
 slots-zero : (bs : List Bind) → length bs ≡ 8
     → slotZero (slotAt bs 0) (slotZero (slotAt bs 1) (slotZero (slotAt bs 2) (slotZero (slotAt bs 3)
     (slotZero (slotAt bs 4) (slotZero (slotAt bs 5) (slotZero (slotAt bs 6) (slotZero (slotAt bs 7) true)))))))
-    ≡ all (λ (b : Bind). not (isBound (b .slot))) bs
-unfolding all table slotAt
+    ≡ forAll (λ (b : Bind). not (isBound (b .slot))) bs
+unfolding forAll table slotAt
 slots-zero bs l =
     slot-zero (slotAt bs 0) (slot-zero (slotAt bs 1) (slot-zero (slotAt bs 2) (slot-zero (slotAt bs 3)
     (slot-zero (slotAt bs 4) (slot-zero (slotAt bs 5) (slot-zero (slotAt bs 6) (slot-zero (slotAt bs 7) refl)))))))
-    ∙ sym (ap (all (λ (b : Bind). not (isBound (b .slot)))) (listed empty 8 bs l))
+    ∙ sym (ap (forAll (λ (b : Bind). not (isBound (b .slot)))) (listed empty 8 bs l))
 
 -- a word that is always 0
 spare : (b : Bool) → (true and b) ≡ b
@@ -83,8 +83,8 @@ reordered : (a n p c v s : Bool) → (a and n and p and c and v and s) ≡ (a an
 reordered a n p c v s =
     same-when _ _ (λ e. search (and-left, and-right, and-both) depth 9) (λ e. search (and-left, and-right, and-both) depth 9)
 
-pub row-zero : (t : Token) → length (t .binds) ≡ 8 → all (eqb 0) (rowOf t) ≡ tokenIsBlank t
-unfolding rowOf all tokenIsBlank
+pub row-zero : (t : Token) → length (t .binds) ≡ 8 → forAll (eqb 0) (rowOf t) ≡ tokenIsBlank t
+unfolding rowOf forAll tokenIsBlank
 row-zero t l =
     state-zero (t .state) _
     ∙ ap (_and_ (isBlankState (t .state)))
@@ -97,10 +97,10 @@ row-zero t l =
 -- the words of a place, from its first on
 module _ (ws : List ℕ) (p : ℕ) where
   abbrev pub zeroRow : Bool
-  zeroRow = all (eqb 0) (take (24 * p + 24 - 24 * p) (drop (24 * p) ws))
+  zeroRow = forAll (eqb 0) (take (24 * p + 24 - 24 * p) (drop (24 * p) ws))
 
-  as-row : zeroRow ≡ all (eqb 0) (take 24 (drop (24 * p) ws))
-  as-row = let e : 24 * p + 24 - 24 * p ≡ 24 = omega arith in ap (λ n. all (eqb 0) (take n (drop (24 * p) ws))) e
+  as-row : zeroRow ≡ forAll (eqb 0) (take 24 (drop (24 * p) ws))
+  as-row = let e : 24 * p + 24 - 24 * p ≡ 24 = omega arith in ap (λ n. forAll (eqb 0) (take n (drop (24 * p) ws))) e
 
   pub zero-coded : length ws ≡ 1797 → p < 64 → zeroRow ≡ true → tokenCoded ws p ≡ true
   zero-coded long l e =
@@ -115,6 +115,6 @@ module _ (ws : List ℕ) (p : ℕ) where
       let size : length (take 24 (drop (24 * p) ws)) ≡ 24 = length-take-le 24 (drop (24 * p) ws)
       (omega (arith, length-drop (24 * p) ws, words-long h)) in
       as-row
-      ∙ ap (all (eqb 0)) (ext-getD 0 (take 24 (drop (24 * p) ws)) (rowOf t) (size ∙ sym (row-wide t))
+      ∙ ap (forAll (eqb 0)) (ext-getD 0 (take 24 (drop (24 * p) ws)) (rowOf t) (size ∙ sym (row-wide t))
       (λ k b. getD-take 24 (drop (24 * p) ws) k 0 (omega arith) ∙ getD-drop (24 * p) ws k 0 ∙ token-word h p l k (omega arith)))
       ∙ row-zero t (h .shaped .binds p)

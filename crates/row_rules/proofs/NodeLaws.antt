@@ -8,7 +8,7 @@ use native.Mathlib.Omega.{arith}
 use lib.ListN.{length, getD, take, drop, List·getD-eq-default}
 use lib.Dec.{ltb, leb, eqb}
 use Rattle.model.specs.declared.token.Place.the-variants as places
-use Rattle.job.specs.Test.{_and_, all}
+use Rattle.job.specs.Test.{_and_, forAll}
 use Rattle.job.specs.Node.{dagHolds, nodeAt}
 use Rattle.job.specs.Words.{nodeBy, paramOf, paramsFrom, dagOf}
 use Rattle.model.specs.Machine.Blank.{empty, blankToken, slotAt, tokenAt, isBound}
@@ -35,54 +35,54 @@ slot-past bs x long l =
 -- a parameter's two words
 module _ (bs : List Bind) (k w : ℕ) where
   pub bound-pair : (named : Bool) → (named && eqb k 7) ≡ true → isBound (slotAt bs w) ≡ pairBound bs named k w
-  unfolding paramsFrom paramOf all notEmpty
+  unfolding paramsFrom paramOf forAll notEmpty
   bound-pair true e = rw (e, paramOf) (sym (and-true _))
   bound-pair false e = clash e refl
 
   pub free-pair : (named : Bool) → (named && eqb k 7) ≡ false → true ≡ pairBound bs named k w
-  unfolding paramsFrom paramOf all notEmpty _and_
+  unfolding paramsFrom paramOf forAll notEmpty _and_
   free-pair true e = rw (e, paramOf)
   free-pair false e = refl
 
 module _ (bs : List Bind) where
   bound-then : (j c k w : ℕ) (ws : List ℕ)
-      → all (notEmpty bs) (paramsFrom (c - j) (k ∷ w ∷ ws)) ≡ pairBound bs (ltb j c) k w and all (notEmpty bs) (paramsFrom (c - (j + 1)) ws)
-  unfolding paramsFrom all
+      → forAll (notEmpty bs) (paramsFrom (c - j) (k ∷ w ∷ ws)) ≡ pairBound bs (ltb j c) k w and forAll (notEmpty bs) (paramsFrom (c - (j + 1)) ws)
+  unfolding paramsFrom forAll
   bound-then j c k w ws = go (decLt j c)
     where
       go : Dec (j < c)
-          → all (notEmpty bs) (paramsFrom (c - j) (k ∷ w ∷ ws))
-          ≡ pairBound bs (ltb j c) k w and all (notEmpty bs) (paramsFrom (c - (j + 1)) ws)
+          → forAll (notEmpty bs) (paramsFrom (c - j) (k ∷ w ∷ ws))
+          ≡ pairBound bs (ltb j c) k w and forAll (notEmpty bs) (paramsFrom (c - (j + 1)) ws)
       go (yes l) =
           let e : c - j ≡ suc (c - (j + 1)) = omega arith in
           rw (e, lt-ltb j c l)
-          (ap (λ b. b and all (notEmpty bs) (paramsFrom (c - (j + 1)) ws)) (sym (and-true (notEmpty bs (paramOf k w)))))
+          (ap (λ b. b and forAll (notEmpty bs) (paramsFrom (c - (j + 1)) ws)) (sym (and-true (notEmpty bs (paramOf k w)))))
       go (no f) =
           let e : c - j ≡ 0 = omega arith in
           let g : c - (j + 1) ≡ 0 = omega arith in
           rw (e, g, le-not-ltb j c (omega arith)) (sym (and-true true))
 
-  none-left : (c : ℕ) → all (notEmpty bs) (paramsFrom c []) ≡ true
-  unfolding paramsFrom all
+  none-left : (c : ℕ) → forAll (notEmpty bs) (paramsFrom c []) ≡ true
+  unfolding paramsFrom forAll
   none-left zero = refl
   none-left (suc c) = refl
 
   four-bound : (c k₁ w₁ k₂ w₂ k₃ w₃ k₄ w₄ : ℕ)
-      → all (notEmpty bs) (paramsFrom c (k₁ ∷ w₁ ∷ k₂ ∷ w₂ ∷ k₃ ∷ w₃ ∷ k₄ ∷ w₄ ∷ []))
+      → forAll (notEmpty bs) (paramsFrom c (k₁ ∷ w₁ ∷ k₂ ∷ w₂ ∷ k₃ ∷ w₃ ∷ k₄ ∷ w₄ ∷ []))
       ≡ (pairBound bs (ltb 0 c) k₁ w₁ and pairBound bs (ltb 1 c) k₂ w₂ and pairBound bs (ltb 2 c) k₃ w₃ and pairBound bs (ltb 3 c) k₄ w₄)
   four-bound c k₁ w₁ k₂ w₂ k₃ w₃ k₄ w₄ =
       let e : c ≡ c - 0 = omega arith in
-      ap (λ (n : ℕ). all (notEmpty bs) (paramsFrom n (k₁ ∷ w₁ ∷ k₂ ∷ w₂ ∷ k₃ ∷ w₃ ∷ k₄ ∷ w₄ ∷ []))) e
+      ap (λ (n : ℕ). forAll (notEmpty bs) (paramsFrom n (k₁ ∷ w₁ ∷ k₂ ∷ w₂ ∷ k₃ ∷ w₃ ∷ k₄ ∷ w₄ ∷ []))) e
       ∙ rw (bound-then 0 c k₁ w₁, bound-then 1 c k₂ w₂, bound-then 2 c k₃ w₃, bound-then 3 c k₄ w₄, none-left (c - 4), and-true)
 
   pub params-bound : (ws : List ℕ) → length ws ≡ 12 → (c : ℕ)
-      → all (notEmpty bs) (paramsFrom c (drop 4 ws))
+      → forAll (notEmpty bs) (paramsFrom c (drop 4 ws))
       ≡ (pairBound bs (ltb 0 c) (getD ws 4 0) (getD ws 5 0)
       and pairBound bs (ltb 1 c) (getD ws 6 0) (getD ws 7 0)
       and pairBound bs (ltb 2 c) (getD ws 8 0) (getD ws 9 0)
       and pairBound bs (ltb 3 c) (getD ws 10 0) (getD ws 11 0))
   unfolding table
-  params-bound ws len c = ap (λ xs. all (notEmpty bs) (paramsFrom c (drop 4 xs))) (listed 0 12 ws len) ∙ four-bound c _ _ _ _ _ _ _ _
+  params-bound ws len c = ap (λ xs. forAll (notEmpty bs) (paramsFrom c (drop 4 xs))) (listed 0 12 ws len) ∙ four-bound c _ _ _ _ _ _ _ _
 
 -- the frame that a token names
 module _ (ts : List Token) (long : length ts ≡ 64) (q : Place) {n : ℕ} (number : n ≡ placeNumber q) where

@@ -5,7 +5,7 @@ use mathlib.Core.List.{List, [], _∷_}
 use mathlib.Core.Path.{_≡_}
 use Prim.Native.Nat.{ℕ, _+_, _<_}
 use lib.ListN.{length, getD}
-use Rattle.job.specs.Test.{_and_, all, once}
+use Rattle.job.specs.Test.{_and_, forAll, once}
 use Rattle.job.specs.Node.{Dag}
 use Rattle.job.specs.Words.{paramsFrom}
 use Rattle.model.specs.Machine.Limits.{paper}
@@ -26,7 +26,7 @@ cellRule cs c = cellInRange paper c and chainEnds cs 32 (c .parent)
 
 -- "at a call no empty variable", at the two words of one parameter
 abbrev pub pairBound : List Bind → Bool → (kind word : ℕ) → Bool
-pairBound binds named k w = all (notEmpty binds) (paramsFrom (once named) (k ∷ w ∷ []))
+pairBound binds named k w = forAll (notEmpty binds) (paramsFrom (once named) (k ∷ w ∷ []))
 
 -- the 64 words from an index on are these names
 pub record NamesAt (ws : List ℕ) (at : ℕ) (names : List ℕ) : Type 0 where

@@ -4,7 +4,7 @@ ghost use mathlib.Core.Path.{_≡_};
 ghost use mathlib.Core.Bool.{true};
 ghost use Prim.Native.Nat.{_<_};
 ghost use lib.ListN.{length, getD, drop};
-ghost use Rattle.job.specs.Test.{all};
+ghost use Rattle.job.specs.Test.{forAll};
 ghost use Rattle.job.specs.Node.{dagHolds};
 ghost use Rattle.job.specs.Words.{dagOf, nodeBy, paramsFrom};
 ghost use Rattle.model.specs.Machine.Blank.{tokenAt, isBound, slotAt};
@@ -63,7 +63,7 @@ fn params_are_bound(w: &[u32; Machine::WORDS], p: usize, row: &[u32]) -> bool
     requires { ⌜ (p < 64) × (length (now row) ≡ 12) ⌝ }
     ensures { λ r.
         ⌜ ((m : Machine) → Codes (now (w .entry)) m
-        → r ≡ all (notEmpty (tokenAt (m .tokens) p .binds)) (paramsFrom (getD (now (row .entry)) 3 0) (drop 4 (now (row .entry))))) ⌝ }
+        → r ≡ forAll (notEmpty (tokenAt (m .tokens) p .binds)) (paramsFrom (getD (now (row .entry)) 3 0) (drop 4 (now (row .entry))))) ⌝ }
 {
     let count = row[PARAMETER_COUNT];
     let first = pair_is_bound(w, p, 0 < count, row[4], row[5]);

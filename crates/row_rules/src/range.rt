@@ -2,7 +2,7 @@
 ghost use mathlib.Core.Path.{_≡_};
 ghost use Prim.Native.Nat.{_<_};
 ghost use lib.Dec.{leb, ltb};
-ghost use Rattle.job.specs.Test.{_and_, all};
+ghost use Rattle.job.specs.Test.{_and_, forAll};
 ghost use Rattle.model.specs.Machine.Blank.{tokenAt};
 ghost use Rattle.model.specs.Machine.Rules.{placeInRange, slotInRange, stateInRange};
 ghost use Rattle.model.specs.declared.record.Machine.{Machine};
@@ -33,7 +33,7 @@ fn binds_in_range(w: &[u32; Machine::WORDS], p: usize) -> bool
     requires { ⌜ p < 64 ⌝ }
     ensures { λ r.
         ⌜ ((m : Machine) → ValuesFit (now (w .entry)) m
-        → r ≡ all (λ (b : Bind). slotInRange 32 (b .slot)) (tokenAt (m .tokens) p .binds)) ⌝ }
+        → r ≡ forAll (λ (b : Bind). slotInRange 32 (b .slot)) (tokenAt (m .tokens) p .binds)) ⌝ }
 {
     let mut ok = true;
     let mut x: usize = 0;
@@ -60,7 +60,7 @@ pub fn token_in_range(w: &[u32; Machine::WORDS], p: usize) -> bool
     requires { ⌜ p < 64 ⌝ }
     ensures { λ r.
         ⌜ ((m : Machine) → ValuesFit (now (w .entry)) m
-        → r ≡ (all (λ (b : Bind). slotInRange 32 (b .slot)) (tokenAt (m .tokens) p .binds) and placeInRange 64
+        → r ≡ (forAll (λ (b : Bind). slotInRange 32 (b .slot)) (tokenAt (m .tokens) p .binds) and placeInRange 64
         (tokenAt (m .tokens) p .caller) and placeInRange 32 (tokenAt (m .tokens) p .cell) and stateInRange 32 (m .calls)
         (tokenAt (m .tokens) p .state))) ⌝ }
 {

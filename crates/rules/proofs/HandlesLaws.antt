@@ -12,7 +12,7 @@ use lib.ListN.{length, getD, take, set}
 use lib.Seq.{take-suc, take-suc-set, take-set-le}
 use lib.Dec.{eqb}
 use Rattle.model.specs.declared.token.State.the-variants as states
-use Rattle.job.specs.Test.{_and_, _or_, all, any, differ, once}
+use Rattle.job.specs.Test.{_and_, _or_, forAll, forSome, differ, once}
 use Rattle.model.specs.Machine.Rules.{openHandles}
 use Rattle.model.specs.Machine.Blank.{tokenIsBlank}
 use Rattle.model.specs.Machine.State.{isBlankState, handleOf}
@@ -86,8 +86,8 @@ blank-more ts i d l e so-far =
     rw (add-one i) (so-far ∙ sym (handles-more ts i d l ∙ ap (_++_ (openHandles (take i ts))) none ∙ append-nil (openHandles (take i ts))))
 
 -- numbers differ when each is none of those before it
-any-last : (p : ℕ → Bool) (xs : List ℕ) (y : ℕ) → not (any p (xs ++ (y ∷ []))) ≡ (not (any p xs) and not (p y))
-unfolding any _and_ _or_
+any-last : (p : ℕ → Bool) (xs : List ℕ) (y : ℕ) → not (forSome p (xs ++ (y ∷ []))) ≡ (not (forSome p xs) and not (p y))
+unfolding forSome _and_ _or_
 any-last p [] y = go (p y)
   where
     go : (b : Bool) → not (b or false) ≡ (true and not b)
@@ -95,16 +95,16 @@ any-last p [] y = go (p y)
     go false = refl
 any-last p (x ∷ xs) y = go (p x) (any-last p xs y)
   where
-    go : (b : Bool) → not (any p (xs ++ (y ∷ []))) ≡ (not (any p xs) and not (p y))
-        → not (b or any p (xs ++ (y ∷ []))) ≡ (not (b or any p xs) and not (p y))
+    go : (b : Bool) → not (forSome p (xs ++ (y ∷ []))) ≡ (not (forSome p xs) and not (p y))
+        → not (b or forSome p (xs ++ (y ∷ []))) ≡ (not (b or forSome p xs) and not (p y))
     go true e = refl
     go false e = e
 
-differ-last : (xs : List ℕ) (y : ℕ) → differ (xs ++ (y ∷ [])) ≡ (differ xs and all (λ (x : ℕ). not (eqb x y)) xs)
-unfolding differ any all _and_
+differ-last : (xs : List ℕ) (y : ℕ) → differ (xs ++ (y ∷ [])) ≡ (differ xs and forAll (λ (x : ℕ). not (eqb x y)) xs)
+unfolding differ forSome forAll _and_
 differ-last [] y = refl
-differ-last (x ∷ xs) y = ap₂ _and_ (any-last (eqb x) xs y) (differ-last xs y) ∙ regroup (not (any (eqb x) xs)) (not (eqb x y)) (differ xs) _
+differ-last (x ∷ xs) y = ap₂ _and_ (any-last (eqb x) xs y) (differ-last xs y) ∙ regroup (not (forSome (eqb x) xs)) (not (eqb x y)) (differ xs) _
 
 pub differ-turn : (xs : List ℕ) (i : ℕ) {ok b : Bool} → i < length xs → ok ≡ differ (take i xs)
-    → b ≡ all (λ (x : ℕ). not (eqb x (getD xs i 0))) (take i xs) → (ok && b) ≡ differ (take (i + 1) xs)
+    → b ≡ forAll (λ (x : ℕ). not (eqb x (getD xs i 0))) (take i xs) → (ok && b) ≡ differ (take (i + 1) xs)
 differ-turn xs i l e f = both e f ∙ sym (rw add-one (ap differ (take-suc xs i 0 l) ∙ differ-last (take i xs) (getD xs i 0)))

@@ -9,7 +9,7 @@ use lib.ListN.{length}
 use Rattle.model.specs.declared.token.Slot.the-variants as slots
 use Rattle.model.specs.declared.token.Held.the-variants as helds
 use Rattle.model.specs.declared.token.Place.the-variants as places
-use Rattle.job.specs.Test.{_and_, all}
+use Rattle.job.specs.Test.{_and_, forAll}
 use Rattle.job.specs.Node.{Dag, isNode, dagHolds}
 use Rattle.model.specs.Machine.Limits.{paper}
 use Rattle.model.specs.Machine.Blank.{isBound, hasValue, isPlace, tokenIsBlank, cellIsBlank}
@@ -36,9 +36,9 @@ slot-blank slots.Empty e = refl
 slot-blank (slots.Value v) e = clash e refl
 slot-blank (slots.Cell c) e = clash e refl
 
-slots-blank : (bs : List Bind) → all (λ (b : Bind). not (isBound (b .slot))) bs ≡ true
-    → all (λ (b : Bind). slotInRange 32 (b .slot)) bs ≡ true
-unfolding all
+slots-blank : (bs : List Bind) → forAll (λ (b : Bind). not (isBound (b .slot))) bs ≡ true
+    → forAll (λ (b : Bind). slotInRange 32 (b .slot)) bs ≡ true
+unfolding forAll
 slots-blank [] e = refl
 slots-blank (b ∷ bs) e = and-both (slot-blank (b .slot) (and-left _ _ e)) (slots-blank bs (and-right _ _ e))
 
@@ -72,7 +72,7 @@ module _ (d : Dag) (m : Machine) (t : Token) (eight : length (t .binds) ≡ 8) w
   token-blank holds e =
       let rest1 = and-right (isBlankState (t .state)) _ e in
       let rest2 = and-right (eqb (t .node) 0) _ rest1 in
-      let rest3 = and-right (all (λ (b : Bind). not (isBound (b .slot))) (t .binds)) _ rest2 in
+      let rest3 = and-right (forAll (λ (b : Bind). not (isBound (b .slot))) (t .binds)) _ rest2 in
       let rest4 = and-right (not (hasValue (t .value))) _ rest3 in
       let state = state-blank (t .state) (and-left (isBlankState (t .state)) _ e) in
       let node : t .node ≡ 0 = eqb-eq (t .node) 0 (and-left (eqb (t .node) 0) _ rest1) in
@@ -93,7 +93,7 @@ module _ (d : Dag) (m : Machine) (t : Token) (eight : length (t .binds) ≡ 8) w
 
   pub node-in : {n : ℕ} → n ≡ t .node → n < length (d .nodes) → heldInRange (t .value) ≡ true
       → tokenInRange paper d (m .calls) t
-      ≡ (all (λ (b : Bind). slotInRange 32 (b .slot)) (t .binds)
+      ≡ (forAll (λ (b : Bind). slotInRange 32 (b .slot)) (t .binds)
       and placeInRange 64 (t .caller) and placeInRange 32 (t .cell) and stateInRange 32 (m .calls) (t .state))
   unfolding tokenInRange isNode _and_
   node-in e l f = rw (lt-ltb (t .node) (length (d .nodes)) (omega arith), eight, f)

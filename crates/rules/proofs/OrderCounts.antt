@@ -10,7 +10,7 @@ use native.Mathlib.Omega.{arith}
 use lib.ListN.{length, getD, take, drop, set, replicate, length-drop, length-replicate, getD-replicate, List·getD-eq-default}
 use lib.Seq.{getD-set-same, getD-set-other, getD-drop, length-take-le, getD-take, ext-getD}
 use lib.Dec.{ltb, eqb}
-use Rattle.job.specs.Test.{_and_, all, allFrom, count, once}
+use Rattle.job.specs.Test.{_and_, forAll, allFrom, occurrences, once}
 use Rattle.model.specs.Machine.Rules.{namesOnce}
 use Rattle.model.specs.declared.token.State.{State}
 use Rattle.model.specs.declared.token.Token.{Token}
@@ -21,24 +21,24 @@ use Rattle.row_rules.specs.RowRules.{NamesAt}
 use Rattle.rules.specs.OrderCounts.{namedAs}
 
 -- counts
-pub count-most : (p : ℕ) (xs : List ℕ) → count p xs ≤ length xs
-unfolding count
+pub count-most : (p : ℕ) (xs : List ℕ) → occurrences p xs ≤ length xs
+unfolding occurrences
 count-most p [] = omega arith
 count-most p (x ∷ xs) = go (eqb p x) (count-most p xs)
   where
-    go : (b : Bool) → count p xs ≤ length xs → once b + count p xs ≤ suc (length xs)
+    go : (b : Bool) → occurrences p xs ≤ length xs → once b + occurrences p xs ≤ suc (length xs)
     go true l = omega arith
     go false l = omega arith
 
-count-more : (p : ℕ) (xs : List ℕ) (i : ℕ) → i < length xs → count p (take (suc i) xs) ≡ count p (take i xs) + once (eqb p (getD xs i 0))
-unfolding count
+count-more : (p : ℕ) (xs : List ℕ) (i : ℕ) → i < length xs → occurrences p (take (suc i) xs) ≡ occurrences p (take i xs) + once (eqb p (getD xs i 0))
+unfolding occurrences
 count-more p [] i l = absurd (omega arith)
 count-more p (x ∷ xs) zero l = omega arith
 count-more p (x ∷ xs) (suc i) l = let e = count-more p xs i (omega arith) in omega arith
 
 -- the names among the words
 module _ {ws array : List ℕ} {at : ℕ} (h : NamesAt ws at array) (n i : ℕ) (m : n ≤ 64) (l : i < n) where
-  pub wild : 64 ≤ getD ws (at + i) 0 → false ≡ all (λ (p : ℕ). ltb p 64) (take n array)
+  pub wild : 64 ≤ getD ws (at + i) 0 → false ≡ forAll (λ (p : ℕ). ltb p 64) (take n array)
   wild w =
       let long : length (take n array) ≡ n = length-take-le n array (omega (arith, h .long)) in
       sym (false-of _ (λ e.
@@ -46,7 +46,7 @@ module _ {ws array : List ℕ} {at : ℕ} (h : NamesAt ws at array) (n i : ℕ) 
       omega (arith, h .words i (omega arith), getD-take n array i 0 l)))
 
 pub tame : {ws array : List ℕ} {at : ℕ} → NamesAt ws at array → (n : ℕ) → n ≤ 64 → ((i : ℕ) → i < n → getD ws (at + i) 0 < 64)
-    → true ≡ all (λ (p : ℕ). ltb p 64) (take n array)
+    → true ≡ forAll (λ (p : ℕ). ltb p 64) (take n array)
 tame {ws} {array} {at} h n m f =
     let long : length (take n array) ≡ n = length-take-le n array (omega (arith, h .long)) in
     sym (all-from (λ (p : ℕ). ltb p 64) (take n array) 0 (λ i l.
@@ -54,15 +54,15 @@ tame {ws} {array} {at} h n m f =
     lt-ltb (getD (take n array) i 0) 64 (omega (arith, h .words i (omega arith), getD-take n array i 0 (omega arith)))))
 
 module _ (array counts : List ℕ) (i : ℕ) (long : length counts ≡ 64) (l : i < length array)
-    (so-far : (p : ℕ) → p < 64 → getD counts p 0 ≡ count p (take i array)) where
+    (so-far : (p : ℕ) → p < 64 → getD counts p 0 ≡ occurrences p (take i array)) where
   pub count-turn : (q : ℕ) → q < 64 → getD array i 0 ≡ q → (p : ℕ) → p < 64
-      → getD (set counts q (getD counts q 0 + 1)) p 0 ≡ count p (take (i + 1) array)
+      → getD (set counts q (getD counts q 0 + 1)) p 0 ≡ occurrences p (take (i + 1) array)
   count-turn q b e p m = go (ℕ-discrete p q)
     where
-      more : count p (take (i + 1) array) ≡ count p (take i array) + once (eqb p q)
+      more : occurrences p (take (i + 1) array) ≡ occurrences p (take i array) + once (eqb p q)
       more = rw (add-one, sym e) (count-more p array i l)
 
-      go : Dec (p ≡ q) → getD (set counts q (getD counts q 0 + 1)) p 0 ≡ count p (take (i + 1) array)
+      go : Dec (p ≡ q) → getD (set counts q (getD counts q 0 + 1)) p 0 ≡ occurrences p (take (i + 1) array)
       go (yes f) =
           ap (λ k. getD (set counts q (getD counts q 0 + 1)) k 0) f
           ∙ getD-set-same counts q (getD counts q 0 + 1) 0 (omega arith)
@@ -128,14 +128,14 @@ module _ (of : State → Bool) (ts : List Token) (array : List ℕ) (n : ℕ) (t
   unfolding namesOnce _and_
   order-long l = rw (tokens, long, lt-not-leb n 64 l)
 
-  pub order-wild : n ≤ 64 → all (λ (p : ℕ). ltb p 64) (take n array) ≡ false → false ≡ namesOnce of ts array n
+  pub order-wild : n ≤ 64 → forAll (λ (p : ℕ). ltb p 64) (take n array) ≡ false → false ≡ namesOnce of ts array n
   unfolding namesOnce _and_
   order-wild l e = rw (tokens, long, le-leb n 64 l, e)
 
   agree : (kind : ℕ) → ((s : State) → eqb (stateKind s) kind ≡ of s)
-      → (counts : ℕ → ℕ) (j : ℕ) (us : List Token) → ((p : ℕ) → j ≤ p → p < j + length us → counts p ≡ count p (take n array))
+      → (counts : ℕ → ℕ) (j : ℕ) (us : List Token) → ((p : ℕ) → j ≤ p → p < j + length us → counts p ≡ occurrences p (take n array))
       → allFrom (λ p (t : Token). eqb (counts p) (once (eqb (stateKind (t .state)) kind))) j us
-      ≡ allFrom (λ p (t : Token). eqb (count p (take n array)) (once (of (t .state)))) j us
+      ≡ allFrom (λ p (t : Token). eqb (occurrences p (take n array)) (once (of (t .state)))) j us
   unfolding allFrom
   agree kind g counts j [] h = refl
   agree kind g counts j (t ∷ us) h =
@@ -143,10 +143,10 @@ module _ (of : State → Bool) (ts : List Token) (array : List ℕ) (n : ℕ) (t
       (agree kind g counts (suc j) us (λ p l m. h p (omega arith) (omega arith)))
 
   pub order-counted : (kind : ℕ) → ((s : State) → eqb (stateKind s) kind ≡ of s)
-      → (counts : List ℕ) → n ≤ 64 → all (λ (p : ℕ). ltb p 64) (take n array) ≡ true
-      → ((p : ℕ) → p < 64 → getD counts p 0 ≡ count p (take n array))
-      → (allFrom (namedAs kind counts) 0 ts and all (eqb 0) (drop n array)) ≡ namesOnce of ts array n
+      → (counts : List ℕ) → n ≤ 64 → forAll (λ (p : ℕ). ltb p 64) (take n array) ≡ true
+      → ((p : ℕ) → p < 64 → getD counts p 0 ≡ occurrences p (take n array))
+      → (allFrom (namedAs kind counts) 0 ts and forAll (eqb 0) (drop n array)) ≡ namesOnce of ts array n
   unfolding namesOnce _and_
   order-counted kind g counts l e h =
       rw (tokens, long, le-leb n 64 l, e)
-      (ap (λ b. b and all (eqb 0) (drop n array)) (agree kind g (λ p. getD counts p 0) 0 ts (λ p z m. h p (omega arith))))
+      (ap (λ b. b and forAll (eqb 0) (drop n array)) (agree kind g (λ p. getD counts p 0) 0 ts (λ p z m. h p (omega arith))))

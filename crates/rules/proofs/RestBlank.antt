@@ -7,7 +7,7 @@ use native.Mathlib.Numerals.{add-one}
 use native.Mathlib.Omega.{arith}
 use lib.ListN.{length, getD, take}
 use lib.Seq.{take-all}
-use Rattle.job.specs.Test.{_and_, all}
+use Rattle.job.specs.Test.{_and_, forAll}
 use Rattle.model.specs.Machine.Rules.{restIsBlank}
 use Rattle.job.proofs.Test.{clash}
 use Rattle.job.proofs.Both.{both, and-true, and-false, and-assoc, regroup}
@@ -27,15 +27,15 @@ rest-more blank (false ∷ marks) (x ∷ xs) (suc i) d m l =
 module _ {A : Type 0} (rule blank : A → Bool) (marks : List Bool) (xs : List A) where
   -- the first i pass
   abbrev pub passed : ℕ → Bool
-  passed i = all rule (take i xs) and restIsBlank blank marks (take i xs)
+  passed i = forAll rule (take i xs) and restIsBlank blank marks (take i xs)
 
   pub pass-turn : (i : ℕ) (d : A) {ok b : Bool} → i < length marks → i < length xs → ok ≡ passed i
       → b ≡ (rule (getD xs i d) and (getD marks i false || blank (getD xs i d))) → (ok && b) ≡ passed (i + 1)
   pass-turn i d m l e f =
       both e f ∙ sym (rw add-one (ap₂ _and_ (all-more rule xs i d l) (rest-more blank marks xs i d m l) ∙ regroup _ _ _ _))
 
-  pub pass-done : (i : ℕ) {ok : Bool} → length xs ≤ i → ok ≡ passed i → ok ≡ (all rule xs and restIsBlank blank marks xs)
-  pass-done i l e = e ∙ ap (λ ys. all rule ys and restIsBlank blank marks ys) (take-all i xs l)
+  pub pass-done : (i : ℕ) {ok : Bool} → length xs ≤ i → ok ≡ passed i → ok ≡ (forAll rule xs and restIsBlank blank marks xs)
+  pass-done i l e = e ∙ ap (λ ys. forAll rule ys and restIsBlank blank marks ys) (take-all i xs l)
 
 -- an element that is marked is tested for the rules, any other for being blank
 pub marked-one : {used : Bool} (a b : Bool) → used ≡ true → a ≡ (a and (used || b))
@@ -50,10 +50,10 @@ other-one a b e f = go b f ∙ sym (ap (λ (u : Bool). a and (u || b)) e)
     go false f = sym (and-false a)
 
 -- rules that are tested together
-pub all-both : {A : Type 0} (p q : A → Bool) (xs : List A) → all (λ x. p x and q x) xs ≡ (all p xs and all q xs)
-unfolding all _and_
+pub all-both : {A : Type 0} (p q : A → Bool) (xs : List A) → forAll (λ x. p x and q x) xs ≡ (forAll p xs and forAll q xs)
+unfolding forAll _and_
 all-both p q [] = refl
-all-both p q (x ∷ xs) = ap (_and_ (p x and q x)) (all-both p q xs) ∙ regroup (p x) (q x) (all p xs) (all q xs)
+all-both p q (x ∷ xs) = ap (_and_ (p x and q x)) (all-both p q xs) ∙ regroup (p x) (q x) (forAll p xs) (forAll q xs)
 
 -- a test that comes first: it holds where all hold, and where it holds the others decide
 pub first-true : (a b : Bool) → (a && b) ≡ true → a ≡ true

@@ -5,7 +5,7 @@ use mathlib.Core.List.{List}
 use lib.ListN.{length}
 use lib.Dec.{ltb, leb}
 use Prim.Native.Nat.{ℕ}
-use Rattle.job.specs.Test.{_and_, all, allFrom, differ}
+use Rattle.job.specs.Test.{_and_, forAll, allFrom, differ}
 use Rattle.job.specs.Node.{Dag, dagHolds}
 use Rattle.model.specs.Machine.Limits.{paper}
 use Rattle.model.specs.Machine.Blank.{tokenIsBlank, cellIsBlank}
@@ -50,22 +50,22 @@ module _ (d : Dag) (m : Machine) where
   dag-keeps e = rw e
 
   -- rule by rule
-  token-rules : all (tokenRule d m) (m .tokens)
-      ≡ (all (tokenInRange paper d (m .calls)) (m .tokens) and all (atNode d (m .tokens)) (m .tokens)
-      and all (notUnderSet (m .cells)) (m .tokens) and all (λ (t : Token). waitsAtUnset (m .cells) (t .state)) (m .tokens))
+  token-rules : forAll (tokenRule d m) (m .tokens)
+      ≡ (forAll (tokenInRange paper d (m .calls)) (m .tokens) and forAll (atNode d (m .tokens)) (m .tokens)
+      and forAll (notUnderSet (m .cells)) (m .tokens) and forAll (λ (t : Token). waitsAtUnset (m .cells) (t .state)) (m .tokens))
   token-rules =
       all-both (tokenInRange paper d (m .calls)) _ (m .tokens)
-      ∙ ap (_and_ (all (tokenInRange paper d (m .calls)) (m .tokens)))
+      ∙ ap (_and_ (forAll (tokenInRange paper d (m .calls)) (m .tokens)))
       (all-both (atNode d (m .tokens)) _ (m .tokens)
-      ∙ ap (_and_ (all (atNode d (m .tokens)) (m .tokens)))
+      ∙ ap (_and_ (forAll (atNode d (m .tokens)) (m .tokens)))
       (all-both (notUnderSet (m .cells)) (λ (t : Token). waitsAtUnset (m .cells) (t .state)) (m .tokens)))
 
   module _ (tokens : length (m .tokens) ≡ 64) (cells : length (m .cells) ≡ 32) where
-    cell-rules : all (cellRule (m .cells)) (m .cells) ≡ (all (cellInRange paper) (m .cells) and chainsEnd (m .cells))
+    cell-rules : forAll (cellRule (m .cells)) (m .cells) ≡ (forAll (cellInRange paper) (m .cells) and chainsEnd (m .cells))
     unfolding chainsEnd
     cell-rules =
         all-both (cellInRange paper) (λ (c : Cell). chainEnds (m .cells) 32 (c .parent)) (m .cells)
-        ∙ ap (λ n. all (cellInRange paper) (m .cells) and all (λ (c : Cell). chainEnds (m .cells) n (c .parent)) (m .cells)) (sym cells)
+        ∙ ap (λ n. forAll (cellInRange paper) (m .cells) and forAll (λ (c : Cell). chainEnds (m .cells) n (c .parent)) (m .cells)) (sym cells)
 
     sizes-parts : sizesInRange paper m ≡ (leb (m .calls) 1000000 and ltb (m .lasttoken) 64 and ltb (m .lastcell) 32)
     unfolding sizesInRange _and_
@@ -82,10 +82,10 @@ module _ (d : Dag) (m : Machine) where
     pub rules-are : dagHolds d ≡ true → {used marks : List Bool} → used ≡ tokensUsed m → marks ≡ cellsUsed m
         → (queue waits : List ℕ) (queued waited : Bool) {first second sizes : Bool}
         → first
-        ≡ (((all (tokenRule d m) (m .tokens) and restIsBlank tokenIsBlank used (m .tokens)) and allFrom (namedByBoth queue waits) 0
+        ≡ (((forAll (tokenRule d m) (m .tokens) and restIsBlank tokenIsBlank used (m .tokens)) and allFrom (namedByBoth queue waits) 0
         (m .tokens))
         and differ (openHandles (m .tokens)))
-        → second ≡ (all (cellRule (m .cells)) (m .cells) and restIsBlank cellIsBlank marks (m .cells))
+        → second ≡ (forAll (cellRule (m .cells)) (m .cells) and restIsBlank cellIsBlank marks (m .cells))
         → sizes ≡ (leb (m .calls) 1000000 and ltb (m .lasttoken) 64 and ltb (m .lastcell) 32)
         → (allFrom (namedAs 1 queue) 0 (m .tokens) and queued) ≡ namesOnce isReady (m .tokens) (m .queue) (m .queued)
         → (allFrom (namedAs 2 waits) 0 (m .tokens) and waited) ≡ namesOnce isWaiting (m .tokens) (m .waits) (m .waiting)

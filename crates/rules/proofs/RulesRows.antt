@@ -8,7 +8,7 @@ use lib.Dec.{eqb}
 use lib.ListN.{length, getD, take}
 use lib.Seq.{take-all}
 use Rattle.model.specs.declared.token.State.the-variants as states
-use Rattle.job.specs.Test.{_and_, all, allFrom, once}
+use Rattle.job.specs.Test.{_and_, forAll, allFrom, once}
 use Rattle.job.specs.Node.{Dag}
 use Rattle.model.specs.Machine.Blank.{blankToken, tokenAt, tokenIsBlank}
 use Rattle.model.specs.Machine.Rules.{restIsBlank}
@@ -36,7 +36,7 @@ module _ (d : Dag) (m : Machine) (used : List Bool) (queue waits : List ℕ) whe
   seen i = passed rule tokenIsBlank used (m .tokens) i and named i
 
   pub seen-none : true ≡ seen 0
-  unfolding all allFrom restIsBlank _and_
+  unfolding forAll allFrom restIsBlank _and_
   seen-none = refl
 
   seen-turn : (i : ℕ) {ok b a : Bool} → i < length used → i < length (m .tokens) → ok ≡ seen i
@@ -87,9 +87,9 @@ module _ (d : Dag) (m : Machine) (used : List Bool) (queue waits : List ℕ) whe
       grouped false b c = refl
 
   pub seen-done : (i : ℕ) → length (m .tokens) ≤ i
-      → seen i ≡ ((all rule (m .tokens) and restIsBlank tokenIsBlank used (m .tokens)) and allFrom (namedByBoth queue waits) 0 (m .tokens))
+      → seen i ≡ ((forAll rule (m .tokens) and restIsBlank tokenIsBlank used (m .tokens)) and allFrom (namedByBoth queue waits) 0 (m .tokens))
   seen-done i l =
-      ap (λ (ts : List Token). (all rule ts and restIsBlank tokenIsBlank used ts) and allFrom (namedByBoth queue waits) 0 ts)
+      ap (λ (ts : List Token). (forAll rule ts and restIsBlank tokenIsBlank used ts) and allFrom (namedByBoth queue waits) 0 ts)
       (take-all i (m .tokens) l)
 
 -- two tests of each element with its index

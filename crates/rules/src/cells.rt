@@ -3,7 +3,7 @@ ghost use mathlib.Core.Path.{_≡_};
 ghost use mathlib.Core.Bool.{true, _||_};
 ghost use Prim.Native.Nat.{ℕ, _<_};
 ghost use lib.ListN.{length};
-ghost use Rattle.job.specs.Test.{_and_, all};
+ghost use Rattle.job.specs.Test.{_and_, forAll};
 ghost use Rattle.model.specs.Machine.Blank.{cellAt, cellIsBlank};
 ghost use Rattle.model.specs.Machine.Rules.{restIsBlank};
 ghost use Rattle.model.specs.declared.record.Machine.{Machine};
@@ -34,7 +34,7 @@ fn cell_holds(w: &[u32; Machine::WORDS], c: usize, used: bool) -> bool
 pub fn cells_hold(w: &[u32; Machine::WORDS], used: &[bool; Machine::CELLS]) -> bool
     ensures { λ r. ⌜ (r ≡ true → (c : ℕ) → c < 32 → cellAtCoded (now (w .entry)) c ≡ true)
         × ((m : Machine) → ValuesFit (now (w .entry)) m → length (now (used .entry)) ≡ 32
-        → r ≡ (all (cellRule (m .cells)) (m .cells) and restIsBlank cellIsBlank (now (used .entry)) (m .cells))) ⌝ }
+        → r ≡ (forAll (cellRule (m .cells)) (m .cells) and restIsBlank cellIsBlank (now (used .entry)) (m .cells))) ⌝ }
 {
     let mut ok = true;
     let mut i: usize = 0;

@@ -4,12 +4,12 @@ ghost use mathlib.Core.Bool.{not};
 ghost use Prim.Native.Nat.{ℕ, _≤_, _<_};
 ghost use lib.ListN.{length, getD, take};
 ghost use lib.Dec.{eqb};
-ghost use Rattle.job.specs.Test.{all, differ};
+ghost use Rattle.job.specs.Test.{forAll, differ};
 
 // Is the number at i none of those before it?
 fn is_new(list: &[u32], i: usize) -> bool
     requires { ⌜ (i < 64) × (length (now list) ≡ 64) ⌝ }
-    ensures { λ r. ⌜ r ≡ all (λ (h : ℕ). not (eqb h (getD (now (list .entry)) i 0))) (take i (now (list .entry))) ⌝ }
+    ensures { λ r. ⌜ r ≡ forAll (λ (h : ℕ). not (eqb h (getD (now (list .entry)) i 0))) (take i (now (list .entry))) ⌝ }
 {
     let handle = list[i];
     let mut ok = true;

@@ -5,7 +5,7 @@ ghost use mathlib.Core.List.{List};
 ghost use Prim.Native.Nat.{ℕ, _≤_, _<_, _+_};
 ghost use lib.ListN.{getD, take, drop};
 ghost use lib.Dec.{ltb, eqb};
-ghost use Rattle.job.specs.Test.{_and_, all, allFrom, count, once};
+ghost use Rattle.job.specs.Test.{_and_, forAll, allFrom, occurrences, once};
 ghost use Rattle.model.specs.Machine.Rules.{namesOnce};
 ghost use Rattle.model.specs.Machine.State.{isReady, isWaiting};
 ghost use Rattle.model.specs.declared.record.Machine.{Machine};
@@ -30,7 +30,7 @@ fn order_in_range(w: &[u32; Machine::WORDS], at: usize, n: usize) -> bool
     requires { ⌜ (n ≤ 64) × (at ≤ 1728) ⌝ }
     ensures { λ r.
         ⌜ (r ≡ true → (i : ℕ) → i < n → getD (now (w .entry)) (at + i) 0 < 64) × ((names : List ℕ) → NamesAt (now (w .entry)) at names
-        → r ≡ all (λ (p : ℕ). ltb p 64) (take n names)) ⌝ }
+        → r ≡ forAll (λ (p : ℕ). ltb p 64) (take n names)) ⌝ }
 {
     let mut i: usize = 0;
     while i < n {
@@ -45,7 +45,7 @@ fn order_in_range(w: &[u32; Machine::WORDS], at: usize, n: usize) -> bool
 // Is what stands behind the order 0?
 fn rest_is_zero(w: &[u32; Machine::WORDS], at: usize, n: usize) -> bool
     requires { ⌜ (n ≤ 64) × (at ≤ 1728) ⌝ }
-    ensures { λ r. ⌜ ((names : List ℕ) → NamesAt (now (w .entry)) at names → r ≡ all (eqb 0) (drop n names)) ⌝ }
+    ensures { λ r. ⌜ ((names : List ℕ) → NamesAt (now (w .entry)) at names → r ≡ forAll (eqb 0) (drop n names)) ⌝ }
 {
     all_zero(w, at + n, at + Machine::TOKENS)
 }
@@ -53,7 +53,7 @@ fn rest_is_zero(w: &[u32; Machine::WORDS], at: usize, n: usize) -> bool
 // How often each place stands in the order.
 fn counted(w: &[u32; Machine::WORDS], at: usize, n: usize) -> [u8; Machine::TOKENS]
     requires { ⌜ (n ≤ 64) × (at ≤ 1728) × ((i : ℕ) → i < n → getD (now w) (at + i) 0 < 64) ⌝ }
-    ensures { λ r. ⌜ ((names : List ℕ) → NamesAt (now (w .entry)) at names → (p : ℕ) → p < 64 → getD r p 0 ≡ count p (take n names)) ⌝ }
+    ensures { λ r. ⌜ ((names : List ℕ) → NamesAt (now (w .entry)) at names → (p : ℕ) → p < 64 → getD r p 0 ≡ occurrences p (take n names)) ⌝ }
 {
     let mut counts = [0u8; Machine::TOKENS];
     let mut i: usize = 0;

@@ -8,7 +8,7 @@ use Prim.Native.Nat.{ℕ, suc}
 use lib.ListN.{getD}
 use lib.Dec.{eqb}
 use lib.IntN.{ℤ, pos}
-use Rattle.job.specs.Test.{any, filter}
+use Rattle.job.specs.Test.{forSome, select}
 use Rattle.job.specs.Number.{Signed32}
 use Rattle.job.specs.Site.{BuiltinReply, gives, silent, isBuiltin, builtin}
 use Rattle.calculus.specs.Event.{Event, Label, silently, showing}
@@ -73,10 +73,10 @@ withSet σ c v b = chosen (eqb b c) v (σ b)
 
 -- the tokens that are not under the cell
 abbrev pub isOutOf : ℕ → Token → Bool
-isOutOf c t = not (any (eqb c) (cellsOf t))
+isOutOf c t = not (forSome (eqb c) (cellsOf t))
 
 abbrev pub outOf : ℕ → List Token → List Token
-outOf c S = filter (isOutOf c) S
+outOf c S = select (isOutOf c) S
 
 -- the binding that a parameter names, and the values of parameters, where they have them
 abbrev pub bindingAt : List Binding → ℕ → Binding

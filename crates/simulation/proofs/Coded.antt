@@ -10,7 +10,7 @@ use lib.Dec.{leb}
 use lib.IntN.{ℤ}
 use Rattle.job.specs.Site.{isBuiltin, isOutside}
 use Rattle.calculus.specs.Event.{Label, silently}
-use Rattle.calculus.specs.Expression.{Param, Exp, Substitution, substParam, subst, formals}
+use Rattle.calculus.specs.Expression.{Param, Exp, Substitution, substParam, substitute, formals}
 use Rattle.calculus.specs.Rewriting.{paramValues, silence, calling, Rewrites}
 use Rattle.job.proofs.Test.{and-left, leb-le, le-not-ltb}
 use Rattle.simulation.proofs.AbstractMachine.{Node, Program, Binding, Frame, Place, at, running, Store, acts, act, asksSite}
@@ -63,7 +63,7 @@ module _ (G : Program) (σ : Store) (new h : ℕ) where
 
     pub call-outcome : {C : List ℕ} {d : ℕ} → Laid G Node.return (G .body d) (G .entry d) → G .node n ≡ Node.call d ps k
         → Outcome G σ new h Γ (Exp.call d (map (substParam ρ) ps)) K [] [] C (running (at n B F U) w) acts
-        silently (subst (formals (map (substParam ρ) ps)) (G .body d))
+        silently (substitute (formals (map (substParam ρ) ps)) (G .body d))
     call-outcome b e =
         makes (act-at G σ new h w refl e) silence (once Rewrites.entered)
         (Rep.code (formals (map (substParam ρ) ps)) (b .laid) (env-formals env ps) (returns (b .at-sink) l)) grows-all

@@ -1,7 +1,7 @@
 -- Completeness of runs: what rewritings of an expression show, a run of the abstract machine shows from any state that stands for it. By
 -- recursion on the rewritings. Assumes nothing.
 use mathlib.Core.Path.{_≡_, sym, _∙_, ap}
-use mathlib.Core.Path.{subst as along}
+use mathlib.Core.Path.{subst}
 use mathlib.Core.List.{List, []}
 use Prim.Native.Nat.{ℕ}
 use Rattle.calculus.specs.Event.{Event, Label}
@@ -21,7 +21,7 @@ module _ (G : Program) where
   -- a step with a known effect
   step-by : {S X Y : List Token} {σ : Store} {new h : ℕ} {t : Token} {x : Effect} (m : Move t)
       → Split t S X Y → effect G σ new h t m ≡ x → Step G (state S σ new h) (labelOf x) (after X Y σ new h x)
-  step-by {S} {X} {Y} {σ} {new} {h} m z q = along (λ x. Step G (state S σ new h) (labelOf x) (after X Y σ new h x)) q (step m z)
+  step-by {S} {X} {Y} {σ} {new} {h} m z q = subst (λ x. Step G (state S σ new h) (labelOf x) (after X Y σ new h x)) q (step m z)
 
   -- quiet moves in front of a run
   quiet-run : {σ : Store} {h new new₁ : ℕ} {S S₁ : List Token} {es : List Event} {u : State}
@@ -44,7 +44,7 @@ module _ (G : Program) (sink : ℕ) (bodies : Bodies G) (is-publish : G .node si
       go (ready {S₁ = S₁} {X} {Y} {new₁ = new₁} {t = u} {m = m} q l g z o) =
           let f = follows G sink is-publish (tidy-grown t l g) o in
           let y = effect G σ new₁ h u m in
-          reaches q (along (λ b. Step G (state S₁ σ new₁ h) b (after X Y σ new₁ h y)) (f .label) (step m z)) (f .handle) (f .standing)
+          reaches q (subst (λ b. Step G (state S₁ σ new₁ h) b (after X Y σ new₁ h y)) (f .label) (step m z)) (f .handle) (f .standing)
 
   abbrev Shown : State → List Event → Type 0
   Shown s es = (u : State) × Run G s es u
@@ -58,4 +58,4 @@ module _ (G : Program) (sink : ℕ) (bodies : Bodies G) (is-publish : G .node si
       → Stands G sink (c .exp) s → handleOf s ≡ c .handle → CanShow (G .body) c es → (u : State) × Run G s es u
   run-complete {s = s} t q CanShow.ends = (s, rests)
   run-complete {c} t q (CanShow.then {a = a} {f = f} x r) =
-      link q (λ s′ k t′. run-complete t′ k r) (step-complete t (along (λ k. Rewrites (G .body) k (c .exp) a f) (sym q) x))
+      link q (λ s′ k t′. run-complete t′ k r) (step-complete t (subst (λ k. Rewrites (G .body) k (c .exp) a f) (sym q) x))

@@ -2,14 +2,14 @@
 -- what stands for the whole; and the whole acts as its filling does, but where it catches what the filling publishes. By cases on the
 -- operator. Assumes nothing.
 use mathlib.Core.Path.{_≡_, refl, sym}
-use mathlib.Core.Path.{subst as along}
+use mathlib.Core.Path.{subst}
 use mathlib.Core.List.{List, [], _∷_, List·Memᴰ·head, List·Memᴰ·tail}
 use mathlib.Core.Option.{none}
 use Prim.Native.Nat.{ℕ}
 use lib.IntN.{ℤ}
-use Rattle.job.specs.Test.{filter}
+use Rattle.job.specs.Test.{select}
 use Rattle.calculus.specs.Event.{Event, Label, silently, showing}
-use Rattle.calculus.specs.Expression.{Exp, Substitution, lift, subst, innermost}
+use Rattle.calculus.specs.Expression.{Exp, Substitution, lift, substitute, innermost}
 use Rattle.calculus.specs.Rewriting.{NotPublishing, Rewrites}
 use Rattle.simulation.proofs.Shuffle.{Mix, mix-swap, mix-unit}
 use Rattle.simulation.proofs.AbstractMachine.{Program, Place, above, Token, Store, withSet, outOf}
@@ -39,19 +39,19 @@ module _ (G : Program) where
     par-right : {f : Exp} {Z : List Token} {D : List ℕ} → Rep G σ Γ f K Z D → Hole σ Γ K free Γ K Z D (λ g. Exp.par f g)
     seq : {ρ : Substitution} {g : Exp} {L : Place} → Then G σ Γ ρ g K L
         → Hole σ Γ K
-        (catching (λ v f. Exp.par (Exp.seq f (subst (lift ρ) g)) (subst (innermost v) (subst (lift ρ) g))))
-        Γ L [] [] (λ f. Exp.seq f (subst (lift ρ) g))
+        (catching (λ v f. Exp.par (Exp.seq f (substitute (lift ρ) g)) (substitute (innermost v) (substitute (lift ρ) g))))
+        Γ L [] [] (λ f. Exp.seq f (substitute (lift ρ) g))
     prune-left : {c : ℕ} {g : Exp} {L : Place} {Z : List Token} {D : List ℕ} → c ∉ D → Chokes G c (above K) L → Rep G σ Γ g L Z D
         → Hole σ Γ K free (c ∷ Γ) K Z (c ∷ D) (λ f. Exp.prune f g)
     prune-right : {c : ℕ} {f : Exp} {L : Place} {Z : List Token} {D : List ℕ} → c ∉ D → Chokes G c (above K) L → Rep G σ (c ∷ Γ) f K Z D
-        → Hole σ Γ K (catching (λ v g. subst (innermost v) f)) Γ L Z (c ∷ D) (λ g. Exp.prune f g)
+        → Hole σ Γ K (catching (λ v g. substitute (innermost v) f)) Γ L Z (c ∷ D) (λ g. Exp.prune f g)
 
   pub fill : {σ : Store} {Γ Δ C D E : List ℕ} {K L : Place} {gate : Gate} {plug : Exp → Exp} {f : Exp} {S Z Q : List Token}
       → Hole σ Γ K gate Δ L Z D plug → Parts C D E → Mix S Z Q → Rep G σ Δ f L S C → Rep G σ Γ (plug f) K Q E
   fill (par-left g) p mx r = Rep.par p mx r g
   fill (par-right f) p mx r = Rep.par (parts-swap p) (mix-swap mx) f r
   fill {σ} {Γ} {E = E} {K} {f = f} (seq {ρ = ρ} {g = g} t) p mx r =
-      along (λ Q. Rep G σ Γ (Exp.seq f (subst (lift ρ) g)) K Q E) (mix-unit mx) (Rep.seq ρ t (rep-more G (p .in-left) r))
+      subst (λ Q. Rep G σ Γ (Exp.seq f (substitute (lift ρ) g)) K Q E) (mix-unit mx) (Rep.seq ρ t (rep-more G (p .in-left) r))
   fill (prune-left n ch g) p mx r = Rep.prune n p mx ch r g
   fill (prune-right n ch f) p mx r =
       Rep.prune (λ m. p .apart _ m (List·Memᴰ·head refl)) (parts-move n p) (mix-swap mx) ch f r
@@ -79,7 +79,7 @@ module _ (G : Program) where
   -- the other side's tokens are not under a cell of the hole's
   pub hole-stays : {σ : Store} {Γ Δ D : List ℕ} {K L : Place} {gate : Gate} {plug : Exp → Exp} {Z : List Token} (c : ℕ)
       → c ∉ D → c ∉ above K → Hole σ Γ K gate Δ L Z D plug → outOf c Z ≡ Z
-  unfolding filter
+  unfolding select
   hole-stays c n u (par-left g) = rep-stays G c n u g
   hole-stays c n u (par-right f) = rep-stays G c n u f
   hole-stays c n u (seq t) = refl

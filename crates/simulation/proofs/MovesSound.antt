@@ -8,7 +8,7 @@ use mathlib.Core.Option.{Option, some, none}
 use Prim.Native.Nat.{ℕ}
 use lib.IntN.{ℤ}
 use Rattle.job.specs.Site.{BuiltinReply, gives, silent, isBuiltin, isOutside, builtin}
-use Rattle.calculus.specs.Expression.{Param, Exp, Substitution, lift, substParam, subst}
+use Rattle.calculus.specs.Expression.{Param, Exp, Substitution, lift, substParam, substitute}
 use Rattle.calculus.specs.Rewriting.{paramValues, silence, answering, Rewrites}
 use Rattle.simulation.proofs.Shuffle.{Split, first, later, pair, split-none, gap-alone, found, either-side}
 use Rattle.simulation.proofs.AbstractMachine.{Node, Program, Binding, Frame, Place, at, above, Token, running, Store, asksSite, Move}
@@ -25,12 +25,12 @@ module _ (G : Program) (σ : Store) (new h : ℕ) where
   -- a call with all values rewrites; one without stays
   site-moves : {Γ C U : List ℕ} {K : Place} {n k s : ℕ} {ps : List Param} {B : List Binding} {F : List Frame} (w : ℤ) (ρ : Substitution)
       → Unset σ Γ → (isBuiltin s ≡ true) ⊎ (isOutside s ≡ true) → G .node n ≡ Node.site s ps k → Env σ Γ ρ B → Leads G (at k B F U) K
-      → Moves G σ new h Γ (subst ρ (Exp.site s ps)) K [] [] C (running (at n B F U) w) acts
-  unfolding subst
+      → Moves G σ new h Γ (substitute ρ (Exp.site s ps)) K [] [] C (running (at n B F U) w) acts
+  unfolding substitute
   site-moves {Γ} {C} {U} {K} {n} {k} {s} {ps} {B} {F} w ρ u known e env l = go (paramValues (map (substParam ρ) ps)) refl
     where
       Goal : Type 0
-      Goal = Moves G σ new h Γ (subst ρ (Exp.site s ps)) K [] [] C (running (at n B F U) w) acts
+      Goal = Moves G σ new h Γ (substitute ρ (Exp.site s ps)) K [] [] C (running (at n B F U) w) acts
 
       ask : (vs : List ℤ) (x : BuiltinReply) → paramValues (map (substParam ρ) ps) ≡ some vs → isBuiltin s ≡ true → builtin s vs ≡ x → Goal
       ask vs (gives v) p b q = moves (site-outcome G σ new h w env l u e (Rewrites.builtin-gives p b q))
@@ -51,8 +51,8 @@ module _ (G : Program) (σ : Store) (new h : ℕ) where
   -- code that has not begun
   code-moves : {Γ C U : List ℕ} {K : Place} {e : Exp} {n k : ℕ} {B : List Binding} {F : List Frame} (w : ℤ) (ρ : Substitution)
       → Bodies G → Tidy σ new Γ (above K) C → Code G e n k → Env σ Γ ρ B → Leads G (at k B F U) K
-      → Moves G σ new h Γ (subst ρ e) K [] [] C (running (at n B F U) w) acts
-  unfolding subst
+      → Moves G σ new h Γ (substitute ρ e) K [] [] C (running (at n B F U) w) acts
+  unfolding substitute
   code-moves w ρ bs t (Code.stop e) env l = moves (makes (act-at G σ new h w refl e) silence same Rep.stop grows-all)
   code-moves w ρ bs t (Code.site known e) env l = site-moves w ρ (λ c m. t .left c m .unset) known e env l
   code-moves w ρ bs t (Code.call {d = d} d< e) env l = moves (call-outcome G σ new h w env l (bs d d<) e)

@@ -1,12 +1,12 @@
 -- What a token's move does to the expression that its list of tokens stands for, and that this goes through a hole: what a token does in a
 -- part, it does in the whole. Another side is untouched, since its cells are others. Assumes nothing.
 use mathlib.Core.Path.{_≡_, refl, sym, _∙_, ap}
-use mathlib.Core.Path.{subst as along}
+use mathlib.Core.Path.{subst}
 use mathlib.Core.List.{List, [], _∷_, _++_, List·Memᴰ·head, List·Memᴰ·tail}
 use Prim.Native.Nat.{ℕ, suc}
 use lib.IntN.{ℤ}
 use Rattle.calculus.specs.Event.{Event, Label, silently, showing}
-use Rattle.calculus.specs.Expression.{Exp, Substitution, lift, subst, innermost}
+use Rattle.calculus.specs.Expression.{Exp, Substitution, lift, substitute, innermost}
 use Rattle.calculus.specs.Rewriting.{NotPublishing, silence, Rewrites}
 use Rattle.calculus.proofs.Substitution.{bound, innermost-lift}
 use Rattle.simulation.proofs.Shuffle.{Mix, mix-filter, mix-unit, mix-middle, mix-swap, Gap}
@@ -58,12 +58,12 @@ module _ (G : Program) (σ : Store) (new h : ℕ) where
   -- where f publishes into f >x> g, a token begins g with the value bound
   sequel : {Γ C E : List ℕ} {K L T : Place} {X Y X₁ Y₁ : List Token} {ρ : Substitution} {e f g : Exp} (w : ℤ)
       → T ≡ L → Grows new (suc new) E C → Gap X₁ Y₁ [] X Y → Then G σ Γ ρ g K L → Rep G σ Γ f L (X₁ ++ Y₁) C
-      → Rewrites (G .body) h e silently (Exp.par (Exp.seq f (subst (lift ρ) g)) (subst (innermost w) (subst (lift ρ) g)))
-      → Outcome Γ e K X Y E (running T w) acts silently (Exp.par (Exp.seq f (subst (lift ρ) g)) (subst (innermost w) (subst (lift ρ) g)))
+      → Rewrites (G .body) h e silently (Exp.par (Exp.seq f (substitute (lift ρ) g)) (substitute (innermost w) (substitute (lift ρ) g)))
+      → Outcome Γ e K X Y E (running T w) acts silently (Exp.par (Exp.seq f (substitute (lift ρ) g)) (substitute (innermost w) (substitute (lift ρ) g)))
   sequel {Γ} {C} {K = K} {X = X} {Y} {X₁} {Y₁} {ρ} {f = f} {g} w q i gap (then {b = b} {B = B} {F = F} {U = U} a d r env l) rf s =
       let began : List Token = running (at b (Binding.value w ∷ B) F U) w ∷ [] in
       makes (act-at w q a) silence (once s)
-      (along (λ Q. Rep G σ Γ (Exp.par (Exp.seq f (subst (lift ρ) g)) (subst (innermost w) (subst (lift ρ) g))) K Q C)
+      (subst (λ Q. Rep G σ Γ (Exp.par (Exp.seq f (substitute (lift ρ) g)) (substitute (innermost w) (substitute (lift ρ) g))) K Q C)
       (mix-unit (gap .filled began))
       (Rep.par parts-alone (mix-middle X₁ began Y₁) (Rep.seq ρ (then a d r env l) rf)
       (rw (innermost-lift w ρ g) (Rep.code (bound w ρ) d (env-value env w) (removes r l)))))
@@ -72,16 +72,16 @@ module _ (G : Program) (σ : Store) (new h : ℕ) where
   -- where g publishes into f <x< g, the cell is set, all tokens of g end, and those of f stay
   pruned : {Γ C C₁ D E : List ℕ} {c : ℕ} {K L T : Place} {X Y X₁ Y₁ Z : List Token} {e f g : Exp} (w : ℤ)
       → T ≡ L → Parts C (c ∷ D) E → Tidy σ new Γ (above K) E → Gap X₁ Y₁ Z X Y → c ∉ D → Chokes G c (above K) L
-      → Rep G σ (c ∷ Γ) f K Z D → Rep G σ Γ g L (X₁ ++ Y₁) C₁ → Rewrites (G .body) h e silently (subst (innermost w) f)
-      → Outcome Γ e K X Y E (running T w) acts silently (subst (innermost w) f)
+      → Rep G σ (c ∷ Γ) f K Z D → Rep G σ Γ g L (X₁ ++ Y₁) C₁ → Rewrites (G .body) h e silently (substitute (innermost w) f)
+      → Outcome Γ e K X Y E (running T w) acts silently (substitute (innermost w) f)
   pruned {Γ} {D = D} {c = c} {K = K} {X = X} {Y} {X₁} {Y₁} {Z} {f = f} w q p t gap n (chokes ec) rf rg s =
       let own = p .in-right c (List·Memᴰ·head refl) in
       let stay : outOf c Z ≡ Z = rep-stays G c n (t .not-over c own) rf in
       let gone : outOf c (X₁ ++ Y₁) ≡ [] = rep-ends G c (List·Memᴰ·head refl) rg in
       let mixed : Mix (outOf c Z) (outOf c (X₁ ++ Y₁)) (outOf c (X ++ Y)) = mix-filter (isOutOf c) (mix-swap (gap .filled [])) in
-      let left : Z ≡ outOf c (X ++ Y) = sym stay ∙ mix-unit (along (λ x. Mix (outOf c Z) x (outOf c (X ++ Y))) gone mixed) in
+      let left : Z ≡ outOf c (X ++ Y) = sym stay ∙ mix-unit (subst (λ x. Mix (outOf c Z) x (outOf c (X ++ Y))) gone mixed) in
       sets (act-at w q ec) own n (once s)
-      (along (λ x. Rep G (withSet σ c w) Γ (subst (innermost w) f) K x D) left
+      (subst (λ x. Rep G (withSet σ c w) Γ (substitute (innermost w) f) K x D) left
       (rep-changed G (change-innermost σ c w (t .own c own .unset)) rf))
       (grows-within (λ b m. p .in-right b (List·Memᴰ·tail m)))
 
@@ -90,7 +90,7 @@ module _ (G : Program) (σ : Store) (new h : ℕ) where
       → Hole G σ Γ K gate Δ L Z D plug → Parts C D E → Tidy σ new Γ (above K) E → Gap X₁ Y₁ Z X Y
       → (c : ℕ) → c ∈ C → Mix (outOf c (X₁ ++ Y₁)) Z (outOf c (X ++ Y))
   other-stays {X = X} {Y} {X₁} {Y₁} H p t gap c m =
-      along (λ z. Mix (outOf c (X₁ ++ Y₁)) z (outOf c (X ++ Y)))
+      subst (λ z. Mix (outOf c (X₁ ++ Y₁)) z (outOf c (X ++ Y)))
       (hole-stays G c (p .apart c m) (t .not-over c (p .in-left c m)) H)
       (mix-filter (isOutOf c) (gap .filled []))
 

@@ -6,7 +6,7 @@ use Prim.Native.Nat.{ℕ, suc, _≤_}
 use native.Mathlib.Omega.{arith}
 use lib.IntN.{ℤ}
 use Rattle.calculus.specs.Event.{Event, Label, silently, showing}
-use Rattle.calculus.specs.Expression.{Exp, Substitution, lift, subst}
+use Rattle.calculus.specs.Expression.{Exp, Substitution, lift, substitute}
 use Rattle.calculus.specs.Rewriting.{answering, Rewrites}
 use Rattle.simulation.proofs.Shuffle.{Split, first, Mix, mix-swap, mix-nothing, pair, Kept, kept, keeps}
 use Rattle.simulation.proofs.AbstractMachine.{Program, Binding, Frame, Place, at, above, Token, running, Store, Effect, Move, acts}
@@ -86,8 +86,8 @@ module _ (G : Program) (σ : Store) (h : ℕ) where
   code-ready : {Γ C U : List ℕ} {K : Place} {e e′ : Exp} {a : Label} {n k new : ℕ} {B : List Binding} {F : List Frame} (w : ℤ)
       (ρ : Substitution)
       → Bodies G → Tidy σ new Γ (above K) C → Code G e n k → Env σ Γ ρ B → Leads G (at k B F U) K
-      → Rewrites (G .body) h (subst ρ e) a e′ → Ready Γ (subst ρ e) K (running (at n B F U) w ∷ []) C new a e′
-  unfolding subst
+      → Rewrites (G .body) h (substitute ρ e) a e′ → Ready Γ (substitute ρ e) K (running (at n B F U) w ∷ []) C new a e′
+  unfolding substitute
   code-ready w ρ bs t (Code.stop e) env l s = no-stop s
   code-ready {new = new} w ρ bs t (Code.site known e) env l s =
       ready-now first (site-outcome G σ new h w env l (λ c m. t .left c m .unset) e s)

@@ -1,7 +1,7 @@
 -- The relation between expressions and tokens: `Rep σ Γ e K S C` says that the tokens S stand for e, whose values go to the place K. It is
 -- kept where values are put in for cells, and it tells which tokens are under which cells. By recursion on the relation. Assumes nothing.
 use mathlib.Core.Path.{_≡_, refl, sym}
-use mathlib.Core.Path.{subst as along}
+use mathlib.Core.Path.{subst}
 use mathlib.Core.Logic.{_⊎_}
 use mathlib.Core.Bool.{true}
 use mathlib.Core.List.{List, [], _∷_, List·Memᴰ·head, List·Memᴰ·tail}
@@ -10,7 +10,7 @@ use Prim.Native.Nat.{ℕ, _<_}
 use lib.IntN.{ℤ}
 use Rattle.job.specs.Test.{All, more}
 use Rattle.job.specs.Site.{isBuiltin, isOutside}
-use Rattle.calculus.specs.Expression.{Param, Exp, Substitution, lift, subst}
+use Rattle.calculus.specs.Expression.{Param, Exp, Substitution, lift, substitute}
 use Rattle.calculus.proofs.Substitution.{_after_, subst-after, lift-after, subst-itself}
 use Rattle.simulation.proofs.Shuffle.{Mix, mix-all}
 use Rattle.simulation.proofs.AbstractMachine.{Node, Program, Binding, Frame, frame, Place, at, above, Token, running, calledOut}
@@ -58,11 +58,11 @@ module _ (G : Program) where
     hand : {Γ C : List ℕ} {K L : Place} {v : ℤ} → Leads L K → Rep σ Γ (Exp.hand v) K (running L v ∷ []) C
     pending : {Γ C : List ℕ} {K L : Place} {h : ℕ} → Leads L K → Rep σ Γ (Exp.pending h) K (calledOut h L ∷ []) C
     code : {Γ C : List ℕ} {K : Place} {e : Exp} {n k : ℕ} {B : List Binding} {F : List Frame} {U : List ℕ} {v : ℤ} (ρ : Substitution)
-        → Code e n k → Env σ Γ ρ B → Leads (at k B F U) K → Rep σ Γ (subst ρ e) K (running (at n B F U) v ∷ []) C
+        → Code e n k → Env σ Γ ρ B → Leads (at k B F U) K → Rep σ Γ (substitute ρ e) K (running (at n B F U) v ∷ []) C
     par : {Γ C D E : List ℕ} {K : Place} {f g : Exp} {S T Q : List Token}
         → Parts C D E → Mix S T Q → Rep σ Γ f K S C → Rep σ Γ g K T D → Rep σ Γ (Exp.par f g) K Q E
     seq : {Γ C : List ℕ} {K L : Place} {f g : Exp} {S : List Token} (ρ : Substitution)
-        → Then σ Γ ρ g K L → Rep σ Γ f L S C → Rep σ Γ (Exp.seq f (subst (lift ρ) g)) K S C
+        → Then σ Γ ρ g K L → Rep σ Γ f L S C → Rep σ Γ (Exp.seq f (substitute (lift ρ) g)) K S C
     prune : {Γ C D E : List ℕ} {c : ℕ} {K L : Place} {f g : Exp} {S T Q : List Token}
         → c ∉ D → Parts C (c ∷ D) E → Mix S T Q → Chokes c (above K) L
         → Rep σ (c ∷ Γ) f K S C → Rep σ Γ g L T D → Rep σ Γ (Exp.prune f g) K Q E
@@ -73,8 +73,8 @@ module _ (G : Program) where
 
   -- tokens, place and cells stay where the expression is substituted
   pub rep-changed : {θ : Substitution} {σ τ : Store} {Γ Δ C : List ℕ} {e : Exp} {K : Place} {S : List Token}
-      → Change θ σ Γ τ Δ → Rep σ Γ e K S C → Rep τ Δ (subst θ e) K S C
-  unfolding subst
+      → Change θ σ Γ τ Δ → Rep σ Γ e K S C → Rep τ Δ (substitute θ e) K S C
+  unfolding substitute
   rep-changed m stop = stop
   rep-changed m (hand l) = hand l
   rep-changed m (pending l) = pending l
@@ -88,7 +88,7 @@ module _ (G : Program) where
   pub rep-set : {σ : Store} {Γ C : List ℕ} {e : Exp} {K : Place} {S : List Token} (c : ℕ) (v : ℤ)
       → σ c ≡ none → Rep σ Γ e K S C → Rep (withSet σ c v) Γ e K S C
   rep-set {σ} {Γ} {C} {e} {K} {S} c v n r =
-      along (λ x. Rep (withSet σ c v) Γ x K S C) (subst-itself e) (rep-changed (change-set σ c v n) r)
+      subst (λ x. Rep (withSet σ c v) Γ x K S C) (subst-itself e) (rep-changed (change-set σ c v n) r)
 
   -- more cells may be set aside
   pub rep-more : {σ : Store} {Γ C D : List ℕ} {e : Exp} {K : Place} {S : List Token} → Within C D → Rep σ Γ e K S C → Rep σ Γ e K S D
@@ -107,13 +107,13 @@ module _ (G : Program) where
 
   -- what holds of the cells above the second place holds of those above the first
   leads-cells : {K L : Place} (P : List ℕ → Type 0) → Leads L K → P (above K) → P (above L)
-  leads-cells P l u = along P (sym (leads-above l)) u
+  leads-cells P l u = subst P (sym (leads-above l)) u
 
   -- on the right side of a prune, under its cell
   pub leads-under-new : {c k : ℕ} {B : List Binding} {F : List Frame} {U : List ℕ} {K : Place} (new : ℕ)
       → Leads (at k B F U) K → Leads (at c B F (new ∷ U)) (at c B F (new ∷ above K))
   leads-under-new {c} {B = B} {F} {U} new l =
-      along (λ x. Leads (at c B F (new ∷ U)) (at c B F (new ∷ x))) (leads-above l) here
+      subst (λ x. Leads (at c B F (new ∷ U)) (at c B F (new ∷ x))) (leads-above l) here
 
   pub then-above : {σ : Store} {Γ : List ℕ} {ρ : Substitution} {g : Exp} {K L : Place} → Then σ Γ ρ g K L → above L ≡ above K
   then-above (then a c r env l) = leads-above l

@@ -1,13 +1,13 @@
 -- Soundness of runs: what a run of the abstract machine shows from a state that stands for an expression, rewritings of it show. By
 -- recursion on the run. Assumes nothing.
 use mathlib.Core.Path.{_≡_, refl, sym, _∙_, ap}
-use mathlib.Core.Path.{subst as along}
+use mathlib.Core.Path.{subst}
 use mathlib.Core.List.{List, [], List·Memᴰ·not-nil}
 use Prim.Native.Nat.{ℕ}
 use native.Mathlib.Omega.{arith}
 use lib.IntN.{pos}
 use Rattle.calculus.specs.Event.{Event, Label}
-use Rattle.calculus.specs.Expression.{Exp, Substitution, subst}
+use Rattle.calculus.specs.Expression.{Exp, Substitution, substitute}
 use Rattle.calculus.specs.Expression as Calculus
 use Rattle.calculus.specs.Allowed.{nextHandle, shown, CanShow}
 use Rattle.simulation.proofs.AbstractMachine.{Node, Program, at, Token, Store, Effect, Move, effect, State, state, handleOf, after}
@@ -42,16 +42,16 @@ module _ (G : Program) (sink : ℕ) where
       → Follows σ new h X Y (effect G σ new h t m) e a e′
   unfolding nextHandle
   follows {σ} {new} {h} {X} {Y} {e = e} {e′} {a} is-publish t (publishes {w = w} q s r g) =
-      along (λ x. Follows σ new h X Y x e a e′) (sym (act-at G σ new h w q is-publish))
+      subst (λ x. Follows σ new h X Y x e a e′) (sym (act-at G σ new h w q is-publish))
       (record { label = refl; rewritten = once s; standing = stands (tidy-grown t (omega arith) g) r; handle = refl })
   follows {σ} {new} {h} {X} {Y} {e = e} {e′} {a} is-publish t (makes q n s r g) =
-      along (λ x. Follows σ new h X Y x e a e′) (sym q)
+      subst (λ x. Follows σ new h X Y x e a e′) (sym q)
       (record { label = refl; rewritten = s; standing = stands (tidy-grown t (omega arith) g) r; handle = refl })
   follows {σ} {new} {h} {X} {Y} {e = e} {e′} {a} is-publish t (sets {v = v} q m n s r g) =
-      along (λ x. Follows σ new h X Y x e a e′) (sym q)
+      subst (λ x. Follows σ new h X Y x e a e′) (sym q)
       (record { label = refl; rewritten = s; standing = stands (tidy-set v t m n g) r; handle = refl })
 
-  pub start-stands : {goal : Exp} {n : ℕ} → Code G goal n sink → Stands (subst zeros goal) (startAt n)
+  pub start-stands : {goal : Exp} {n : ℕ} → Code G goal n sink → Stands (substitute zeros goal) (startAt n)
   start-stands c =
       stands {C = []}
       (record {
@@ -81,7 +81,7 @@ module _ (G : Program) (sink : ℕ) where
             let f = follows is-publish t o in
             record {
               exp = e′;
-              by = along (λ b. AtMost G h e b e′) (sym (f .label)) (f .rewritten);
+              by = subst (λ b. AtMost G h e b e′) (sym (f .label)) (f .rewritten);
               standing = f .standing;
               handle = f .handle ∙ ap (λ b. nextHandle b h) (sym (f .label));
             }
@@ -91,9 +91,9 @@ module _ (G : Program) (sink : ℕ) where
         → AtMost G h e a f → k ≡ nextHandle a h → CanShow (G .body) (record { exp = f; handle = k }) es
         → CanShow (G .body) (record { exp = e; handle = h }) (shown a es)
     unfolding shown nextHandle
-    in-front {f = f} {es = es} same q r = along (λ x. CanShow (G .body) (record { exp = f; handle = x }) es) q r
+    in-front {f = f} {es = es} same q r = subst (λ x. CanShow (G .body) (record { exp = f; handle = x }) es) q r
     in-front {f = f} {es = es} (once s) q r =
-        CanShow.then s (along (λ x. CanShow (G .body) (record { exp = f; handle = x }) es) q r)
+        CanShow.then s (subst (λ x. CanShow (G .body) (record { exp = f; handle = x }) es) q r)
 
     pub run-sound : {e : Exp} {s s′ : State} {es : List Event}
         → Stands e s → Run G s es s′ → CanShow (G .body) (record { exp = e; handle = handleOf s }) es

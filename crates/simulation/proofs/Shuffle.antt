@@ -3,7 +3,7 @@
 use mathlib.Core.Path.{_≡_, refl, ap}
 use mathlib.Core.Bool.{Bool, true, false}
 use mathlib.Core.List.{List, [], _∷_, _++_}
-use Rattle.job.specs.Test.{filter, All, none, more}
+use Rattle.job.specs.Test.{select, All, none, more}
 
 -- the list is L, then x, then R
 pub data Split {A : Type 0} (x : A) : List A → List A → List A → Type 0 where
@@ -52,8 +52,8 @@ module _ {A : Type 0} where
   mix-if true x m = left m
   mix-if false x m = m
 
-  pub mix-filter : (p : A → Bool) {S T Q : List A} → Mix S T Q → Mix (filter p S) (filter p T) (filter p Q)
-  unfolding filter
+  pub mix-filter : (p : A → Bool) {S T Q : List A} → Mix S T Q → Mix (select p S) (select p T) (select p Q)
+  unfolding select
   mix-filter p empty = empty
   mix-filter p (left {x = x} m) = mix-if (p x) x (mix-filter p m)
   mix-filter p (right {x = x} m) = mix-swap (mix-if (p x) x (mix-swap (mix-filter p m)))

@@ -8,7 +8,7 @@ use Prim.Native.Nat.{ℕ}
 use native.Mathlib.Omega.{arith}
 use lib.Dec.{eqb}
 use lib.IntN.{ℤ}
-use Rattle.job.specs.Test.{_or_, any, filter, All, more}
+use Rattle.job.specs.Test.{_or_, forSome, select, All, more}
 use Rattle.job.proofs.WellFormed.{member-any}
 use Rattle.job.proofs.Test.{eqb-same, ne-eqb}
 use Rattle.simulation.proofs.AbstractMachine.{Token, Store, chosen, withSet, cellsOf, isOutOf, outOf}
@@ -34,28 +34,28 @@ not-both p q = let z : _≡_ {A = ℕ} 0 1 = cc in omega arith
 pub set-keeps : (σ : Store) (c b : ℕ) (v : ℤ) {w : ℤ} → σ c ≡ none → σ b ≡ some w → withSet σ c v b ≡ some w
 set-keeps σ c b v n s = set-other σ c b v (λ p. not-both (ap σ p ∙ n) s) ∙ s
 
-any-none : (c : ℕ) (l : List ℕ) → c ∉ l → any (eqb c) l ≡ false
-unfolding any _or_
+any-none : (c : ℕ) (l : List ℕ) → c ∉ l → forSome (eqb c) l ≡ false
+unfolding forSome _or_
 any-none c [] n = refl
 any-none c (b ∷ l) n = rw (ne-eqb c b (λ p. n (List·Memᴰ·head p))) (any-none c l (λ m. n (List·Memᴰ·tail m)))
 
 module _ {A : Type 0} (p : A → Bool) where
-  filter-yes : (x : A) (xs : List A) → p x ≡ true → filter p (x ∷ xs) ≡ x ∷ filter p xs
-  unfolding filter
-  filter-yes x xs e = rw (e, filter)
+  filter-yes : (x : A) (xs : List A) → p x ≡ true → select p (x ∷ xs) ≡ x ∷ select p xs
+  unfolding select
+  filter-yes x xs e = rw (e, select)
 
-  filter-no : (x : A) (xs : List A) → p x ≡ false → filter p (x ∷ xs) ≡ filter p xs
-  unfolding filter
-  filter-no x xs e = rw (e, filter)
+  filter-no : (x : A) (xs : List A) → p x ≡ false → select p (x ∷ xs) ≡ select p xs
+  unfolding select
+  filter-no x xs e = rw (e, select)
 
 -- tokens that are not under the cell stay, those under it end
 pub all-stay : {c : ℕ} {S : List Token} → All (λ t. c ∉ cellsOf t) S → outOf c S ≡ S
-unfolding filter
+unfolding select
 all-stay All.none = refl
 all-stay {c} (more {x = t} {xs = S} n a) =
     filter-yes (isOutOf c) t S (ap not (any-none c (cellsOf t) n)) ∙ ap (_∷_ t) (all-stay a)
 
 pub all-end : {c : ℕ} {S : List Token} → All (λ t. c ∈ cellsOf t) S → outOf c S ≡ []
-unfolding filter
+unfolding select
 all-end All.none = refl
 all-end {c} (more {x = t} {xs = S} m a) = filter-no (isOutOf c) t S (ap not (member-any m)) ∙ all-end a

@@ -11,7 +11,7 @@ use lib.ListN.{length, getD, drop, drop-of-length-le, List·getD-eq-default}
 use lib.Seq.{drop-cons}
 use lib.Dec.{eqb}
 use lib.IntN.{ℤ}
-use Rattle.job.specs.Test.{any, _or_}
+use Rattle.job.specs.Test.{forSome, _or_}
 use Rattle.job.specs.Node.{Dag}
 use Rattle.model.specs.Machine.Limits.{paper}
 use Rattle.model.specs.Machine.Blank.{blankToken, tokenAt, isPlace}
@@ -40,15 +40,15 @@ use Rattle.model.proofs.Run.AnswerStands.{handle-busy}
 
 -- a turn of the search
 module _ (h i : ℕ) (ts : List Token) (d : Token) (l : i < length ts) {x : Place} (so-far : x ≡ holder h i (drop i ts)) where
-  turn : (b : Bool) → any (eqb h) (handleOf (getD ts i d .state)) ≡ b
+  turn : (b : Bool) → forSome (eqb h) (handleOf (getD ts i d .state)) ≡ b
       → x ≡ elim b [ true ↦ places.At i | false ↦ holder h (suc i) (drop (suc i) ts) ]
   unfolding holder
   turn b e = so-far ∙ ap (holder h i) (drop-cons ts i d l) ∙ rw (e, holder)
 
-  pub holder-found : any (eqb h) (handleOf (getD ts i d .state)) ≡ true → x ≡ places.At i
+  pub holder-found : forSome (eqb h) (handleOf (getD ts i d .state)) ≡ true → x ≡ places.At i
   holder-found e = turn true e
 
-  pub holder-on : any (eqb h) (handleOf (getD ts i d .state)) ≡ false → x ≡ holder h (i + 1) (drop (i + 1) ts)
+  pub holder-on : forSome (eqb h) (handleOf (getD ts i d .state)) ≡ false → x ≡ holder h (i + 1) (drop (i + 1) ts)
   holder-on e = turn false e ∙ ap (λ k. holder h k (drop k ts)) (sym (add-one i))
 
 pub holder-none : (h i : ℕ) (ts : List Token) → length ts ≤ i → {x : Place} → x ≡ holder h i (drop i ts) → x ≡ places.Nowhere
@@ -58,22 +58,22 @@ holder-none h i ts l e = e ∙ ap (holder h i) (drop-of-length-le ts {i = i} l)
 -- no blank token is under a handle
 pub holder-blank : (h end : ℕ) (ts : List Token) → length ts ≡ 64 → end ≤ 64 → ((i : ℕ) → end ≤ i → i < 64 → tokenAt ts i ≡ blankToken)
     → holder h end (drop end ts) ≡ places.Nowhere
-unfolding tokenAt any handleOf
+unfolding tokenAt forSome handleOf
 holder-blank h end ts l inside blank =
     steady (λ (i : ℕ). holder h i (drop i ts)) end 64 inside
-    (λ i from to. holder-on h i ts blankToken (omega arith) refl (ap (λ (t : Token). any (eqb h) (handleOf (t .state))) (blank i from to)))
+    (λ i from to. holder-on h i ts blankToken (omega arith) refl (ap (λ (t : Token). forSome (eqb h) (handleOf (t .state))) (blank i from to)))
     ∙ holder-none h 64 ts (omega arith) refl
 
 module _ (d : Dag) (m : Machine) (k : rulesHold paper d m ≡ true) (h p : ℕ) (e : holder h 0 (m .tokens) ≡ places.At p) where
   -- the token
-  open-at : any (eqb h) (handleOf (tokenAt (m .tokens) p .state)) ≡ true
+  open-at : forSome (eqb h) (handleOf (tokenAt (m .tokens) p .state)) ≡ true
   open-at =
       let (i, a, b) = holder-holds h 0 (m .tokens) p e in
       let same : i ≡ p = omega arith in
-      subst (λ q. any (eqb h) (handleOf (tokenAt (m .tokens) q .state)) ≡ true) same b
+      subst (λ q. forSome (eqb h) (handleOf (tokenAt (m .tokens) q .state)) ≡ true) same b
 
   open-inside : p < 64
-  unfolding tokenAt any handleOf
+  unfolding tokenAt forSome handleOf
   open-inside = go (decLt p (length (m .tokens)))
     where
       n : length (m .tokens) ≡ 64
@@ -82,7 +82,7 @@ module _ (d : Dag) (m : Machine) (k : rulesHold paper d m ≡ true) (h p : ℕ) 
       go : Dec (p < length (m .tokens)) → p < 64
       go (yes l) = let z = n in omega arith
       go (no f) = clash open-at
-          (ap (λ (t : Token). any (eqb h) (handleOf (t .state))) (List·getD-eq-default (m .tokens) blankToken {n = p} (omega arith)))
+          (ap (λ (t : Token). forSome (eqb h) (handleOf (t .state))) (List·getD-eq-default (m .tokens) blankToken {n = p} (omega arith)))
 
   pub open-room : m .queued < 64
   open-room = queue-room d m k p open-inside (handle-busy h _ open-at)
@@ -94,22 +94,22 @@ or-nothing false = refl
 
 -- the test of one token by its words
 module _ (h k n : ℕ) (s : State) (ek : k ≡ stateKind s) (en : n ≡ stateNumber s) where
-  pub open-called : k ≡ 3 → eqb h n ≡ any (eqb h) (handleOf s)
-  unfolding any handleOf
+  pub open-called : k ≡ 3 → eqb h n ≡ forSome (eqb h) (handleOf s)
+  unfolding forSome handleOf
   open-called = go s ek en
     where
-      go : (s : State) → k ≡ stateKind s → n ≡ stateNumber s → k ≡ 3 → eqb h n ≡ any (eqb h) (handleOf s)
+      go : (s : State) → k ≡ stateKind s → n ≡ stateNumber s → k ≡ 3 → eqb h n ≡ forSome (eqb h) (handleOf s)
       go states.Blank ek en e = absurd (omega arith)
       go states.Ready ek en e = absurd (omega arith)
       go (states.Waiting c) ek en e = absurd (omega arith)
       go (states.Called g) ek en e = ap (eqb h) en ∙ or-nothing (eqb h g)
       go states.Frame ek en e = absurd (omega arith)
 
-  pub open-not-called : (k ≡ 3 → ⊥) → false ≡ any (eqb h) (handleOf s)
-  unfolding any handleOf
+  pub open-not-called : (k ≡ 3 → ⊥) → false ≡ forSome (eqb h) (handleOf s)
+  unfolding forSome handleOf
   open-not-called = go s ek
     where
-      go : (s : State) → k ≡ stateKind s → (k ≡ 3 → ⊥) → false ≡ any (eqb h) (handleOf s)
+      go : (s : State) → k ≡ stateKind s → (k ≡ 3 → ⊥) → false ≡ forSome (eqb h) (handleOf s)
       go states.Blank ek f = refl
       go states.Ready ek f = refl
       go (states.Waiting c) ek f = refl

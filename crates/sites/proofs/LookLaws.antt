@@ -10,7 +10,7 @@ use native.Mathlib.Omega.{arith}
 use lib.ListN.{length, getD, set, take, drop, replicate, drop-of-length-le, List·getD-eq-default}
 use lib.Seq.{take-suc-set, drop-cons, drop-set-lt}
 use lib.IntN.{ℤ, pos}
-use Rattle.job.specs.Test.{all, padded}
+use Rattle.job.specs.Test.{forAll, padded}
 use Rattle.job.specs.Number.{signed}
 use Rattle.job.specs.Syntax.{Param, variable, constant}
 use Rattle.job.specs.Node.{paramHolds}
@@ -78,7 +78,7 @@ slot-cell cs n (slots.Value v) f g e r = absurd (g refl)
 slot-cell cs n (slots.Cell c) f g e r =
     (subst (λ i. i < 32) (sym e) (ltb-lt c 32 r), ap (λ i. heldFound i (cellAt cs i .value)) e)
 
-slot-in-range : (bs : List Bind) (x : ℕ) → all (λ (b : Bind). slotInRange 32 (b .slot)) bs ≡ true → slotInRange 32 (slotAt bs x) ≡ true
+slot-in-range : (bs : List Bind) (x : ℕ) → forAll (λ (b : Bind). slotInRange 32 (b .slot)) bs ≡ true → slotInRange 32 (slotAt bs x) ≡ true
 unfolding slotAt slotInRange
 slot-in-range bs x e = go (decLt x (length bs))
   where
@@ -86,7 +86,7 @@ slot-in-range bs x e = go (decLt x (length bs))
     go (yes l) = all-at (λ (b : Bind). slotInRange 32 (b .slot)) bs x empty e l
     go (no f) = ap (λ (b : Bind). slotInRange 32 (b .slot)) (List·getD-eq-default bs empty {n = x} (omega arith))
 
-cell-in-range : (cs : List Cell) (c : ℕ) → all (λ (c : Cell). heldInRange (c .value)) cs ≡ true → heldInRange (cellAt cs c .value) ≡ true
+cell-in-range : (cs : List Cell) (c : ℕ) → forAll (λ (c : Cell). heldInRange (c .value)) cs ≡ true → heldInRange (cellAt cs c .value) ≡ true
 unfolding cellAt heldInRange
 cell-in-range cs c e = go (decLt c (length cs))
   where
@@ -267,7 +267,7 @@ after-count n (arguments.Value v) (unset c) vs f g e = let z : _≡_ {A = ℕ} 0
 after-count n (arguments.Unset c) l vs f g e = let z : _≡_ {A = ℕ} 0 1 = cc in absurd (omega arith)
 after-count n arguments.Nothing l vs f g e = absurd (f refl)
 
-pub look-count : (cs : List Cell) (bs : List Bind) (ps : List Param) (vs : List ℤ) → all (notEmpty bs) ps ≡ true → look cs bs ps ≡ values vs
+pub look-count : (cs : List Cell) (bs : List Bind) (ps : List Param) (vs : List ℤ) → forAll (notEmpty bs) ps ≡ true → look cs bs ps ≡ values vs
     → length vs ≡ length ps
 unfolding look
 look-count cs bs [] vs e f = let z : vs ≡ [] = cc in ap length z
@@ -300,7 +300,7 @@ slot-below cs slots.Empty d r e = let z : _≡_ {A = ℕ} 0 1 = cc in absurd (om
 slot-below cs (slots.Value v) d r e = let z : _≡_ {A = ℕ} 0 1 = cc in absurd (omega arith)
 slot-below cs (slots.Cell c) d r e = subst (λ i. i < 32) (held-below c d (cellAt cs c .value) e) (ltb-lt c 32 r)
 
-module _ (cs : List Cell) (bs : List Bind) (r : all (λ (b : Bind). slotInRange 32 (b .slot)) bs ≡ true) where
+module _ (cs : List Cell) (bs : List Bind) (r : forAll (λ (b : Bind). slotInRange 32 (b .slot)) bs ≡ true) where
   param-below : (q : Param) (d : ℕ) → paramFound cs bs q ≡ arguments.Unset d → d < 32
   unfolding paramFound
   param-below (constant v) d e = let z : _≡_ {A = ℕ} 0 1 = cc in absurd (omega arith)

@@ -8,16 +8,16 @@ use native.Mathlib.Decide.{ℕ-discrete, decLt}
 use native.Mathlib.Omega.{arith}
 use lib.ListN.{length}
 use lib.Dec.{ltb, eqb}
-use Rattle.job.specs.Test.{all, count, once}
+use Rattle.job.specs.Test.{forAll, occurrences, once}
 use Rattle.job.proofs.Test.{all-head, all-tail, eq-eqb, ne-eqb, lt-ltb, le-not-ltb}
 
 -- how often the numbers below n stand in a list, all together
 total : ℕ → List ℕ → ℕ
 total zero xs = 0
-total (suc n) xs = total n xs + count n xs
+total (suc n) xs = total n xs + occurrences n xs
 
 total-none : (n : ℕ) → total n [] ≡ 0
-unfolding total count
+unfolding total occurrences
 total-none zero = refl
 total-none (suc n) = let z = total-none n in omega arith
 
@@ -42,11 +42,11 @@ once-cases n x = go (ℕ-discrete n x) (decLt x n)
         omega arith
 
 total-cons : (n x : ℕ) (xs : List ℕ) → total n (x ∷ xs) ≡ once (ltb x n) + total n xs
-unfolding total count
+unfolding total occurrences
 total-cons zero x xs = let z : once (ltb x 0) ≡ 0 = ap once (le-not-ltb x 0 (omega arith)) in omega arith
 total-cons (suc n) x xs = let z = total-cons n x xs in let y = once-cases n x in omega arith
 
-total-length : (n : ℕ) (xs : List ℕ) → all (λ (p : ℕ). ltb p n) xs ≡ true → total n xs ≡ length xs
+total-length : (n : ℕ) (xs : List ℕ) → forAll (λ (p : ℕ). ltb p n) xs ≡ true → total n xs ≡ length xs
 total-length n [] e = total-none n
 total-length n (x ∷ xs) e =
     let z = total-length n xs (all-tail (λ (p : ℕ). ltb p n) x xs e) in
@@ -54,26 +54,26 @@ total-length n (x ∷ xs) e =
     let o : once (ltb x n) ≡ 1 = ap once (all-head (λ (p : ℕ). ltb p n) x xs e) in
     omega arith
 
-total-few : (n : ℕ) (xs : List ℕ) → ((p : ℕ) → p < n → count p xs ≤ 1) → total n xs ≤ n
+total-few : (n : ℕ) (xs : List ℕ) → ((p : ℕ) → p < n → occurrences p xs ≤ 1) → total n xs ≤ n
 unfolding total
 total-few zero xs h = omega arith
 total-few (suc n) xs h = let z = total-few n xs (λ p l. h p (omega arith)) in let y = h n (omega arith) in omega arith
 
-total-fewer : (n : ℕ) (xs : List ℕ) (q : ℕ) → ((p : ℕ) → p < n → count p xs ≤ 1) → q < n → count q xs ≡ 0 → total n xs < n
+total-fewer : (n : ℕ) (xs : List ℕ) (q : ℕ) → ((p : ℕ) → p < n → occurrences p xs ≤ 1) → q < n → occurrences q xs ≡ 0 → total n xs < n
 unfolding total
 total-fewer zero xs q h l e = absurd (omega arith)
 total-fewer (suc n) xs q h l e = go (ℕ-discrete q n) (λ k. total-fewer n xs q (λ p l. h p (omega arith)) k e)
   where
-    go : Dec (q ≡ n) → (q < n → total n xs < n) → total n xs + count n xs < suc n
+    go : Dec (q ≡ n) → (q < n → total n xs < n) → total n xs + occurrences n xs < suc n
     go (yes s) f =
         let z = total-few n xs (λ p l. h p (omega arith)) in
-        let y : count n xs ≡ 0 = ap (λ p. count p xs) (sym s) ∙ e in
+        let y : occurrences n xs ≡ 0 = ap (λ p. occurrences p xs) (sym s) ∙ e in
         omega arith
     go (no g) f = let z = f (omega arith) in let y = h n (omega arith) in omega arith
 
-module _ (n : ℕ) (xs : List ℕ) (below : all (λ (p : ℕ). ltb p n) xs ≡ true) (single : (p : ℕ) → p < n → count p xs ≤ 1) where
+module _ (n : ℕ) (xs : List ℕ) (below : forAll (λ (p : ℕ). ltb p n) xs ≡ true) (single : (p : ℕ) → p < n → occurrences p xs ≤ 1) where
   pub names-few : length xs ≤ n
   names-few = let z = total-length n xs below in let y = total-few n xs single in omega arith
 
-  pub names-fewer : (q : ℕ) → q < n → count q xs ≡ 0 → length xs < n
+  pub names-fewer : (q : ℕ) → q < n → occurrences q xs ≡ 0 → length xs < n
   names-fewer q l e = let z = total-length n xs below in let y = total-fewer n xs q single l e in omega arith

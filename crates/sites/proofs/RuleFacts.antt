@@ -8,7 +8,7 @@ use native.Mathlib.Omega.{arith}
 use lib.ListN.{length, take, length-append}
 use lib.Seq.{length-take-le}
 use lib.Dec.{ltb, eqb}
-use Rattle.job.specs.Test.{all, count, once}
+use Rattle.job.specs.Test.{forAll, occurrences, once}
 use Rattle.job.specs.Node.{Dag, isNode}
 use Rattle.model.specs.Machine.Limits.{paper}
 use Rattle.model.specs.Machine.Blank.{blankToken, tokenAt}
@@ -25,7 +25,7 @@ use Rattle.sites.specs.Look.{LookFacts}
 use Rattle.sites.proofs.OrderCounting.{names-few, names-fewer}
 use Rattle.job.proofs.Test.{once-small}
 
-all-implied : {A : Type 0} (f g : A → Bool) → ((x : A) → f x ≡ true → g x ≡ true) → (xs : List A) → all f xs ≡ true → all g xs ≡ true
+all-implied : {A : Type 0} (f g : A → Bool) → ((x : A) → f x ≡ true → g x ≡ true) → (xs : List A) → forAll f xs ≡ true → forAll g xs ≡ true
 all-implied f g h [] e = all-nil g
 all-implied f g h (x ∷ xs) e = all-cons g x xs (h x (all-head f x xs e)) (all-implied f g h xs (all-tail f x xs e))
 
@@ -55,16 +55,16 @@ module _ (d : Dag) (m : Machine) (k : rulesHold paper d m ≡ true) where
   waits : NamesOnce isWaiting (m .tokens) (m .waits) (m .waiting)
   waits = names-once isWaiting (m .tokens) (m .waits) (m .waiting) (holds .waits)
 
-  below : (of : State → Bool) (array : List ℕ) (n : ℕ) → NamesOnce of (m .tokens) array n → all (λ (p : ℕ). ltb p 64) (take n array) ≡ true
-  below of array n o = subst (λ i. all (λ (p : ℕ). ltb p i) (take n array) ≡ true) tokens-size (o .inside)
+  below : (of : State → Bool) (array : List ℕ) (n : ℕ) → NamesOnce of (m .tokens) array n → forAll (λ (p : ℕ). ltb p 64) (take n array) ≡ true
+  below of array n o = subst (λ i. forAll (λ (p : ℕ). ltb p i) (take n array) ≡ true) tokens-size (o .inside)
 
-  pub queue-below : all (λ (p : ℕ). ltb p 64) (take (m .queued) (m .queue)) ≡ true
+  pub queue-below : forAll (λ (p : ℕ). ltb p 64) (take (m .queued) (m .queue)) ≡ true
   queue-below = below isReady (m .queue) (m .queued) queue
 
-  pub waits-below : all (λ (p : ℕ). ltb p 64) (take (m .waiting) (m .waits)) ≡ true
+  pub waits-below : forAll (λ (p : ℕ). ltb p 64) (take (m .waiting) (m .waits)) ≡ true
   waits-below = below isWaiting (m .waits) (m .waiting) waits
 
-  queue-counts : (p : ℕ) → p < 64 → count p (take (m .queued) (m .queue)) ≡ once (isReady (tokenAt (m .tokens) p .state))
+  queue-counts : (p : ℕ) → p < 64 → occurrences p (take (m .queued) (m .queue)) ≡ once (isReady (tokenAt (m .tokens) p .state))
   queue-counts p l = let t : length (m .tokens) ≡ 64 = tokens-size in queue .counts p (omega arith)
 
   -- an order's length
@@ -86,9 +86,9 @@ module _ (d : Dag) (m : Machine) (k : rulesHold paper d m ≡ true) where
       let few : length (q ++ w) ≤ 64 =
       names-few 64 (q ++ w) (all-append (λ (p : ℕ). ltb p 64) q w queue-below waits-below)
       (λ p l.
-      let c : count p (q ++ w) ≡ count p q + count p w = count-append p q w in
-      let x : count p q ≡ once (isReady (tokenAt (m .tokens) p .state)) = queue-counts p l in
-      let y : count p w ≡ once (isWaiting (tokenAt (m .tokens) p .state)) = waits .counts p (omega arith) in
+      let c : occurrences p (q ++ w) ≡ occurrences p q + occurrences p w = count-append p q w in
+      let x : occurrences p q ≡ once (isReady (tokenAt (m .tokens) p .state)) = queue-counts p l in
+      let y : occurrences p w ≡ once (isWaiting (tokenAt (m .tokens) p .state)) = waits .counts p (omega arith) in
       let z = never-both (tokenAt (m .tokens) p .state) in
       omega arith) in
       omega arith
@@ -101,11 +101,11 @@ module _ (d : Dag) (m : Machine) (k : rulesHold paper d m ≡ true) where
   queue-room q l e =
       let xs = take (m .queued) (m .queue) in
       let a : m .queued ≡ length xs = queue-length in
-      let c : count q xs ≡ 0 = queue-counts q l ∙ ap once e in
+      let c : occurrences q xs ≡ 0 = queue-counts q l ∙ ap once e in
       let few : length xs < 64 =
       names-fewer 64 xs queue-below
       (λ p l.
-      let x : count p xs ≡ once (isReady (tokenAt (m .tokens) p .state)) = queue-counts p l in
+      let x : occurrences p xs ≡ once (isReady (tokenAt (m .tokens) p .state)) = queue-counts p l in
       let y = once-small (isReady (tokenAt (m .tokens) p .state)) in
       omega arith)
       q l c in

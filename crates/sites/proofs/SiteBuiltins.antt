@@ -10,13 +10,13 @@ use Rattle.job.specs.Number.{fits, equalZ}
 use Rattle.job.specs.Site as Site
 use Rattle.job.specs.Site.{BuiltinReply, gives, silent, at, builtin, zeroIf, notZero, truth}
 
-pub sum-gives : (a b : ℤ) → fits (a +ℤ b) ≡ true → Site.sum a b ≡ gives (a +ℤ b)
-unfolding Site.sum
-sum-gives a b e = rw (e, Site.sum)
+pub sum-gives : (a b : ℤ) → fits (a +ℤ b) ≡ true → Site.sumReply a b ≡ gives (a +ℤ b)
+unfolding Site.sumReply
+sum-gives a b e = rw (e, Site.sumReply)
 
-pub sum-silent : (a b : ℤ) → fits (a +ℤ b) ≡ false → Site.sum a b ≡ silent
-unfolding Site.sum
-sum-silent a b e = rw (e, Site.sum)
+pub sum-silent : (a b : ℤ) → fits (a +ℤ b) ≡ false → Site.sumReply a b ≡ silent
+unfolding Site.sumReply
+sum-silent a b e = rw (e, Site.sumReply)
 
 not-zero : (v : ℤ) → not (equalZ v (pos 0)) ≡ notZero v
 unfolding notZero
@@ -46,7 +46,7 @@ module _ (s : ℕ) (a b : ℤ) where
   unfolding builtin
   says-signal e = rw e
 
-  pub says-add : s ≡ 4 → Site.sum a b ≡ says
+  pub says-add : s ≡ 4 → Site.sumReply a b ≡ says
   unfolding builtin
   says-add e = rw e
 

@@ -3,7 +3,7 @@ use mathlib.Core.Path.{_≡_}
 use mathlib.Core.Bool.{true}
 use mathlib.Core.List.{List, []}
 use Prim.Native.Nat.{ℕ}
-use Rattle.job.specs.Test.{all}
+use Rattle.job.specs.Test.{forAll}
 use Rattle.job.specs.Syntax.{Param, variable, constant}
 use Rattle.model.specs.Machine.Blank.{tokenAt, cellAt, slotAt}
 use Rattle.model.specs.Machine.Rules.{slotInRange, heldInRange}
@@ -46,5 +46,5 @@ lookUpOf (unset c) = record { unset = c; values = reportValues [] }
 
 -- the token's variables and the cells have values and places in range
 pub record LookFacts (m : Machine) (p : ℕ) : Type 0 where
-  pub slots : all (λ (b : Bind). slotInRange 32 (b .slot)) (tokenAt (m .tokens) p .binds) ≡ true
-  pub cells : all (λ (c : Cell). heldInRange (c .value)) (m .cells) ≡ true
+  pub slots : forAll (λ (b : Bind). slotInRange 32 (b .slot)) (tokenAt (m .tokens) p .binds) ≡ true
+  pub cells : forAll (λ (c : Cell). heldInRange (c .value)) (m .cells) ≡ true

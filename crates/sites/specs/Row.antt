@@ -4,7 +4,7 @@ use mathlib.Core.Bool.{true}
 use mathlib.Core.List.{List, [], _∷_}
 use Prim.Native.Nat.{ℕ, _+_, _*_, _<_, _≤_}
 use lib.ListN.{length, getD, take, drop}
-use Rattle.job.specs.Test.{all}
+use Rattle.job.specs.Test.{forAll}
 use Rattle.job.specs.Node.{Node, dagHolds, paramHolds}
 use Rattle.job.specs.Syntax.{Param}
 use Rattle.model.specs.Machine.Step.{formalsBound}
@@ -40,7 +40,7 @@ pub record ParamsHold (ws : List ℕ) (at : ℕ) : Type 0 where
   pub size : length ws ≡ 12331
   pub inside : at + 12 ≤ 12331
   pub few : getD ws (at + 3) 0 ≤ 4
-  pub hold : all paramHolds (paramsAt ws at) ≡ true
+  pub hold : forAll paramHolds (paramsAt ws at) ≡ true
 
 -- the nodes that have some numbers, by kind
 abbrev pub nodesByKind : (a b c : ℕ) → List Param → List Node

@@ -47,7 +47,7 @@ fn equal(a: i32, b: i32) -> bool
 
 // "the sum, or is silent if it leaves signed 32 bits"
 fn sum(a: i32, b: i32) -> SiteReply
-    ensures { λ r. ⌜ r ≡ siteReplyOf (Site.sum a b) ⌝ }
+    ensures { λ r. ⌜ r ≡ siteReplyOf (Site.sumReply a b) ⌝ }
 {
     let s = (a as i64) + (b as i64);
     if s < -2147483648 {

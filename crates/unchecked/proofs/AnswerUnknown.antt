@@ -6,7 +6,7 @@ use Prim.Native.Nat.{ℕ, suc, _≤_}
 use native.Mathlib.Omega.{arith}
 use lib.Dec.{eqb}
 use Rattle.job.specs.Node.{Dag}
-use Rattle.job.specs.Test.{_or_, all, any}
+use Rattle.job.specs.Test.{_or_, forAll, forSome}
 use Rattle.model.specs.Machine.Answer.{holder}
 use Rattle.model.specs.Machine.Limits.{paper}
 use Rattle.model.specs.Machine.Rules.{stateInRange, tokenInRange, rulesHold}
@@ -19,8 +19,8 @@ use Rattle.model.specs.declared.token.Token.{Token}
 use Rattle.job.proofs.Test.{and-right, all-head, all-tail, ltb-lt, ne-eqb}
 use Rattle.model.proofs.Machine.Rules.{each-rule-holds}
 
-not-open : (h calls : ℕ) (s : State) → stateInRange 32 calls s ≡ true → calls ≤ h → any (eqb h) (handleOf s) ≡ false
-unfolding any handleOf stateInRange _or_
+not-open : (h calls : ℕ) (s : State) → stateInRange 32 calls s ≡ true → calls ≤ h → forSome (eqb h) (handleOf s) ≡ false
+unfolding forSome handleOf stateInRange _or_
 not-open h calls states.Blank e l = refl
 not-open h calls states.Ready e l = refl
 not-open h calls (states.Waiting c) e l = refl
@@ -32,7 +32,7 @@ module _ (d : Dag) (calls h : ℕ) (l : calls ≤ h) where
   unfolding tokenInRange
   state-range t e = and-right _ _ (and-right _ _ (and-right _ _ (and-right _ _ (and-right _ _ (and-right _ _ e)))))
 
-  none-open : (i : ℕ) (ts : List Token) → all (tokenInRange paper d calls) ts ≡ true → holder h i ts ≡ places.Nowhere
+  none-open : (i : ℕ) (ts : List Token) → forAll (tokenInRange paper d calls) ts ≡ true → holder h i ts ≡ places.Nowhere
   unfolding holder
   none-open i [] e = refl
   none-open i (t ∷ ts) e =

@@ -7,7 +7,7 @@ use Prim.Native.Nat.{ℕ, zero, suc, _<_}
 use native.Mathlib.Decide.{ℕ-discrete}
 use native.Mathlib.Omega.{arith}
 use lib.ListN.{length, getD, replicate}
-use Rattle.job.specs.Test.{_and_, all}
+use Rattle.job.specs.Test.{_and_, forAll}
 use Rattle.model.specs.Machine.Limits.{Limits}
 use Rattle.model.specs.Machine.Blank.{blankToken, blankCell, tokenAt, cellAt, isBound}
 use Rattle.model.specs.Machine.Blank.{hasValue, isPlace, tokenIsBlank, cellIsBlank}
@@ -44,7 +44,7 @@ rest-blank test (true ∷ marks) (x ∷ xs) b l h = rest-blank test marks xs b (
 rest-blank test (false ∷ marks) (x ∷ xs) b l h = and-both (h 0 refl) (rest-blank test marks xs b (omega arith) (λ i e. h (suc i) e))
 
 blank-token : tokenIsBlank blankToken ≡ true
-unfolding tokenIsBlank isBlankState all isBound hasValue isPlace _and_
+unfolding tokenIsBlank isBlankState forAll isBound hasValue isPlace _and_
 blank-token = refl
 
 blank-cell : cellIsBlank blankCell ≡ true

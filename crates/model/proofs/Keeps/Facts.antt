@@ -9,7 +9,7 @@ use Prim.Native.Nat.{ℕ, zero, suc, _-_, _<_, _≤_}
 use native.Mathlib.Omega.{arith}
 use lib.ListN.{length, getD, replicate, length-set, length-replicate}
 use lib.Dec.{eqb}
-use Rattle.job.specs.Test.{padded, count, once}
+use Rattle.job.specs.Test.{padded, occurrences, once}
 use Rattle.job.specs.Node.{Dag}
 use Rattle.model.specs.Machine.Limits.{Limits}
 use Rattle.model.specs.Machine.Blank.{blankToken, blankCell, tokenAt, cellAt}
@@ -87,13 +87,13 @@ module _ (lim : Limits) (d : Dag) (some : 0 < lim .tokenPlaces) (cell : 0 < lim 
   at-start of n a b (suc r) = b r ∙ ap (λ (t : Token). once (of (t .state))) (sym (other r))
 
   start-lines : Lines (begins .tokens) (0 ∷ []) []
-  unfolding count isReady isWaiting
+  unfolding occurrences isReady isWaiting
   start-lines =
       record {
         ready =
-            at-start isReady (λ r. count r (0 ∷ [])) (let z : once (eqb 0 0) ≡ 1 = ap once (eqb-same 0) in omega arith)
+            at-start isReady (λ r. occurrences r (0 ∷ [])) (let z : once (eqb 0 0) ≡ 1 = ap once (eqb-same 0) in omega arith)
             (λ r. let z : once (eqb (suc r) 0) ≡ 0 = ap once (ne-eqb (suc r) 0 (λ e. omega arith)) in omega arith);
-        waiting = at-start isWaiting (λ r. count r []) refl (λ r. refl);
+        waiting = at-start isWaiting (λ r. occurrences r []) refl (λ r. refl);
       }
 
   blank-tables : Tables d blanks (begins .cells) 0
@@ -158,7 +158,7 @@ module _ {lim : Limits} {d : Dag} {m : Machine} (F : Facts lim d m) (live : Live
       at t = once (of (t .state))
 
       go : (b : Bool) → of (getD (m .tokens) r blankToken .state) ≡ b → (now ≡ getD (m .tokens) r blankToken) ⊎ (now ≡ blankToken)
-          → count r l ≡ at now
+          → occurrences r l ≡ at now
       go true e x =
           h r ∙ ap at (sym (kept-marked blankToken used (m .tokens) r (tokens-used (m .tokens) (m .cells) .size) (live r (lives _ e))))
       go false e (inl x) = h r ∙ ap at (sym x)

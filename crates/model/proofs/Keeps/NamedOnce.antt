@@ -9,7 +9,7 @@ use native.Mathlib.Omega.{arith}
 use lib.ListN.{length, getD, set, take, drop, replicate, length-append, length-replicate, length-set}
 use lib.Seq.{getD-set-other, take-append-seam}
 use lib.Dec.{eqb, ltb}
-use Rattle.job.specs.Test.{all, allFrom, filter, padded, count, once, without}
+use Rattle.job.specs.Test.{forAll, allFrom, select, padded, occurrences, once, without}
 use Rattle.model.specs.Machine.Blank.{blankToken, tokenAt}
 use Rattle.model.specs.Machine.Active.{within}
 use Rattle.model.specs.Machine.InUse.{marked}
@@ -30,12 +30,12 @@ use Rattle.job.proofs.Test.{once-small, count-append, count-more}
 use Rattle.model.proofs.Machine.TableRows.{token-same, token-other, token-outside}
 
 -- counting
-count-here : (r : ℕ) (l : List ℕ) → count r (r ∷ l) ≡ suc (count r l)
-unfolding count
+count-here : (r : ℕ) (l : List ℕ) → occurrences r (r ∷ l) ≡ suc (occurrences r l)
+unfolding occurrences
 count-here r l = rw (eqb-same r) (omega arith)
 
 -- a line in which no place stands twice takes a free mark for each of its places
-fills : (marks : List Bool) (l : List ℕ) → ((r : ℕ) → count r l ≤ 1) → ((r : ℕ) → 0 < count r l → Free marks r)
+fills : (marks : List Bool) (l : List ℕ) → ((r : ℕ) → occurrences r l ≤ 1) → ((r : ℕ) → 0 < occurrences r l → Free marks r)
     → length l + marked marks ≤ length marks
 fills marks [] h f = let z = marked-le-length marks in omega arith
 fills marks (x ∷ l) h f =
@@ -44,12 +44,12 @@ fills marks (x ∷ l) h f =
     let more = fills (set marks x true) l (λ r. let z = h r in let y = count-more r x l in omega arith) (λ r k. still r k) in
     omega arith
   where
-    still : (r : ℕ) → 0 < count r l → Free (set marks x true) r
+    still : (r : ℕ) → 0 < occurrences r l → Free (set marks x true) r
     still r k = getD-set-other marks x r true true apart ∙ f r (let y = count-more r x l in omega arith)
       where
         apart : r ≡ x → ⊥
         apart e =
-            let z : 0 < count x l = subst (λ i. 0 < count i l) e k in let y = count-here x l in let w = h x in omega arith
+            let z : 0 < occurrences x l = subst (λ i. 0 < occurrences i l) e k in let y = count-here x l in let w = h x in omega arith
 
 none-free : (n r : ℕ) → r < n → Free (replicate n false) r
 none-free zero r l = absurd (omega arith)
@@ -57,18 +57,18 @@ none-free (suc n) zero l = refl
 none-free (suc n) (suc r) l = none-free n r (omega arith)
 
 -- tests of a line, from its counts and back
-all-counted : (test : ℕ → Bool) (l : List ℕ) → ((r : ℕ) → 0 < count r l → test r ≡ true) → all test l ≡ true
-unfolding all
+all-counted : (test : ℕ → Bool) (l : List ℕ) → ((r : ℕ) → 0 < occurrences r l → test r ≡ true) → forAll test l ≡ true
+unfolding forAll
 all-counted test [] h = refl
 all-counted test (x ∷ l) h =
     and-both (h x (let z = count-here x l in omega arith)) (all-counted test l (λ r k. h r (let z = count-more r x l in omega arith)))
 
-counted-tested : (test : ℕ → Bool) (l : List ℕ) → all test l ≡ true → (r : ℕ) → 0 < count r l → test r ≡ true
-unfolding count
+counted-tested : (test : ℕ → Bool) (l : List ℕ) → forAll test l ≡ true → (r : ℕ) → 0 < occurrences r l → test r ≡ true
+unfolding occurrences
 counted-tested test [] e r k = absurd (omega arith)
 counted-tested test (x ∷ l) e r k = go (eqb r x) refl (λ j. counted-tested test l (all-tail test x l e) r j)
   where
-    go : (b : Bool) → eqb r x ≡ b → (0 < count r l → test r ≡ true) → test r ≡ true
+    go : (b : Bool) → eqb r x ≡ b → (0 < occurrences r l → test r ≡ true) → test r ≡ true
     go true f g = ap test (eqb-eq r x f) ∙ all-head test x l e
     go false f g = g (let z : once (eqb r x) ≡ 0 = ap once f in omega arith)
 
@@ -81,8 +81,8 @@ all-from-at test n (x ∷ xs) d h =
     (all-from-at test (suc n) xs d
     (λ i k. subst (λ j. test j (getD xs i d) ≡ true) (let z : n + suc i ≡ suc n + i = omega arith in z) (h (suc i) (omega arith))))
 
-all-zero : (n : ℕ) → all (eqb 0) (replicate n 0) ≡ true
-unfolding all
+all-zero : (n : ℕ) → forAll (eqb 0) (replicate n 0) ≡ true
+unfolding forAll
 all-zero zero = refl
 all-zero (suc n) = and-both (eqb-same 0) (all-zero n)
 
@@ -92,14 +92,14 @@ drop-seam (x ∷ l) r = drop-seam l r
 
 -- a line names each token of a kind once
 abbrev pub Names : (State → Bool) → List Token → List ℕ → Type 0
-Names of ts l = (r : ℕ) → count r l ≡ once (of (tokenAt ts r .state))
+Names of ts l = (r : ℕ) → occurrences r l ≡ once (of (tokenAt ts r .state))
 
 module _ (of : State → Bool) (none : of states.Blank ≡ false) (ts : List Token) where
   outside : (r : ℕ) → length ts ≤ r → once (of (tokenAt ts r .state)) ≡ 0
   outside r l = ap (λ (t : Token). once (of (t .state))) (token-outside ts r l) ∙ ap once none
 
   module _ (l : List ℕ) (h : Names of ts l) where
-    inside : (r : ℕ) → 0 < count r l → r < length ts
+    inside : (r : ℕ) → 0 < occurrences r l → r < length ts
     inside r k = go (decLt r (length ts))
       where
         go : Dec (r < length ts) → r < length ts
@@ -125,12 +125,12 @@ module _ (of : State → Bool) (none : of states.Blank ≡ false) (ts : List Tok
         let line : take (length l) room ≡ l = take-append-seam l rest in
         and-both (eq-eqb _ _ (let z : length room ≡ length ts = omega arith in z))
         (and-both (le-leb _ _ (let z : length l ≤ length room = omega arith in z))
-        (and-both (subst (λ x. all (λ (p : ℕ). ltb p (length ts)) x ≡ true) (sym line)
+        (and-both (subst (λ x. forAll (λ (p : ℕ). ltb p (length ts)) x ≡ true) (sym line)
         (all-counted _ l (λ r k. lt-ltb r (length ts) (inside r k))))
         (and-both
-        (subst (λ x. allFrom (λ p (t : Token). eqb (count p x) (once (of (t .state)))) 0 ts ≡ true) (sym line)
-        (all-from-at _ 0 ts blankToken (λ i k. eq-eqb _ _ (ap (λ x. count x l) (let z : 0 + i ≡ i = omega arith in z) ∙ h i))))
-        (subst (λ x. all (eqb 0) x ≡ true) (sym (drop-seam l rest)) (all-zero (length ts - length l))))))
+        (subst (λ x. allFrom (λ p (t : Token). eqb (occurrences p x) (once (of (t .state)))) 0 ts ≡ true) (sym line)
+        (all-from-at _ 0 ts blankToken (λ i k. eq-eqb _ _ (ap (λ x. occurrences x l) (let z : 0 + i ≡ i = omega arith in z) ∙ h i))))
+        (subst (λ x. forAll (eqb 0) x ≡ true) (sym (drop-seam l rest)) (all-zero (length ts - length l))))))
 
 -- both lines
 pub record Lines (ts : List Token) (queue waits : List ℕ) : Type 0 where
@@ -139,11 +139,11 @@ pub record Lines (ts : List Token) (queue waits : List ℕ) : Type 0 where
 
 -- both lines, with p taken from the queue
 pub record Taken (ts : List Token) (p : ℕ) (queue waits : List ℕ) : Type 0 where
-  pub ready : (r : ℕ) → count r queue + once (eqb r p) ≡ once (isReady (tokenAt ts r .state))
+  pub ready : (r : ℕ) → occurrences r queue + once (eqb r p) ≡ once (isReady (tokenAt ts r .state))
   pub waiting : Names isWaiting ts waits
 
-count-without : (l : List ℕ) (i r : ℕ) → i < length l → count r (without i l) + once (eqb r (getD l i 0)) ≡ count r l
-unfolding count without
+count-without : (l : List ℕ) (i r : ℕ) → i < length l → occurrences r (without i l) + once (eqb r (getD l i 0)) ≡ occurrences r l
+unfolding occurrences without
 count-without [] i r h = absurd (omega arith)
 count-without (x ∷ l) zero r h = omega arith
 count-without (x ∷ l) (suc i) r h = let a = count-without l i r (omega arith) in omega arith
@@ -153,26 +153,26 @@ pub take-out : {ts : List Token} {queue waits : List ℕ} (i : ℕ) → i < leng
 take-out {queue = queue} i h l = record { ready = λ r. count-without queue i r h ∙ l .ready r; waiting = l .waiting }
 
 -- a place is written: its count is what the token asks, the others' counts are what they were
-written-names : (of : State → Bool) (ts : List Token) (p : ℕ) (u : Token) (l : List ℕ) → p < length ts → count p l ≡ once (of (u .state))
-    → ((r : ℕ) → (r ≡ p → ⊥) → count r l ≡ once (of (tokenAt ts r .state))) → Names of (set ts p u) l
+written-names : (of : State → Bool) (ts : List Token) (p : ℕ) (u : Token) (l : List ℕ) → p < length ts → occurrences p l ≡ once (of (u .state))
+    → ((r : ℕ) → (r ≡ p → ⊥) → occurrences r l ≡ once (of (tokenAt ts r .state))) → Names of (set ts p u) l
 written-names of ts p u l i here there r = go (ℕ-discrete r p)
   where
-    go : Dec (r ≡ p) → count r l ≡ once (of (tokenAt (set ts p u) r .state))
+    go : Dec (r ≡ p) → occurrences r l ≡ once (of (tokenAt (set ts p u) r .state))
     go (yes e) =
-        subst (λ x. count x l ≡ once (of (tokenAt (set ts p u) x .state))) (sym e)
+        subst (λ x. occurrences x l ≡ once (of (tokenAt (set ts p u) x .state))) (sym e)
         (here ∙ ap (λ (t : Token). once (of (t .state))) (sym (token-same ts p u i)))
     go (no n) = there r n ∙ ap (λ (t : Token). once (of (t .state))) (sym (token-other ts p r u n))
 
 -- how often r stands in a line with p put at its back
-count-back : (r : ℕ) (l : List ℕ) (p : ℕ) → count r (l ++ (p ∷ [])) ≡ count r l + once (eqb r p)
-unfolding count
+count-back : (r : ℕ) (l : List ℕ) (p : ℕ) → occurrences r (l ++ (p ∷ [])) ≡ occurrences r l + once (eqb r p)
+unfolding occurrences
 count-back r l p = let z = count-append r l (p ∷ []) in omega arith
 
-back-same : (p : ℕ) (l : List ℕ) (b : Bool) → count p l ≡ 0 → b ≡ true → count p (l ++ (p ∷ [])) ≡ once b
+back-same : (p : ℕ) (l : List ℕ) (b : Bool) → occurrences p l ≡ 0 → b ≡ true → occurrences p (l ++ (p ∷ [])) ≡ once b
 back-same p l b e f =
     let x = count-back p l p in let y : once b ≡ 1 = ap once f in let z : once (eqb p p) ≡ 1 = ap once (eqb-same p) in omega arith
 
-back-other : (r p : ℕ) (l : List ℕ) (n : ℕ) → (r ≡ p → ⊥) → count r l ≡ n → count r (l ++ (p ∷ [])) ≡ n
+back-other : (r p : ℕ) (l : List ℕ) (n : ℕ) → (r ≡ p → ⊥) → occurrences r l ≡ n → occurrences r (l ++ (p ∷ [])) ≡ n
 back-other r p l n f e = let x = count-back r l p in let z : once (eqb r p) ≡ 0 = ap once (ne-eqb r p f) in omega arith
 
 -- the token that was taken is ready, so it is in the table
@@ -199,7 +199,7 @@ module _ {ts : List Token} {p : ℕ} {queue waits : List ℕ} (l : Taken ts p qu
   abbrev ready : tokenAt ts p .state ≡ states.Ready
   ready = taken-ready l
 
-  not-queued : count p queue ≡ 0
+  not-queued : occurrences p queue ≡ 0
   unfolding isReady
   not-queued =
       let a = l .ready p in
@@ -207,11 +207,11 @@ module _ {ts : List Token} {p : ℕ} {queue waits : List ℕ} (l : Taken ts p qu
       let c : once (eqb p p) ≡ 1 = ap once (eqb-same p) in
       omega arith
 
-  not-waiting : count p waits ≡ 0
+  not-waiting : occurrences p waits ≡ 0
   unfolding isWaiting
   not-waiting = l .waiting p ∙ ap (λ s. once (isWaiting s)) ready
 
-  others-ready : (r : ℕ) → (r ≡ p → ⊥) → count r queue ≡ once (isReady (tokenAt ts r .state))
+  others-ready : (r : ℕ) → (r ≡ p → ⊥) → occurrences r queue ≡ once (isReady (tokenAt ts r .state))
   others-ready r n = let a = l .ready r in let c : once (eqb r p) ≡ 0 = ap once (ne-eqb r p n) in omega arith
 
   -- it ends, becomes a frame or is called out
@@ -259,30 +259,30 @@ lines-new {ts} {queue} {waits} q u i nr nw e l =
     }
 
 -- a line filtered
-count-kept : (test : ℕ → Bool) (r : ℕ) (l : List ℕ) → test r ≡ true → count r (filter test l) ≡ count r l
-unfolding filter count
+count-kept : (test : ℕ → Bool) (r : ℕ) (l : List ℕ) → test r ≡ true → occurrences r (select test l) ≡ occurrences r l
+unfolding select occurrences
 count-kept test r [] e = refl
 count-kept test r (x ∷ l) e = go (test x) refl (count-kept test r l e)
   where
-    go : (b : Bool) → test x ≡ b → count r (filter test l) ≡ count r l
-        → count r (elim b as (λ b. List ℕ) [ true ↦ x ∷ filter test l | false ↦ filter test l ]) ≡ once (eqb r x) + count r l
+    go : (b : Bool) → test x ≡ b → occurrences r (select test l) ≡ occurrences r l
+        → occurrences r (elim b as (λ b. List ℕ) [ true ↦ x ∷ select test l | false ↦ select test l ]) ≡ once (eqb r x) + occurrences r l
     go true q h = omega arith
     go false q h = let y : once (eqb r x) ≡ 0 = ap once (ne-eqb r x (λ z. clash (ap test (sym z) ∙ e) q)) in omega arith
 
-count-dropped : (test : ℕ → Bool) (r : ℕ) (l : List ℕ) → test r ≡ false → count r (filter test l) ≡ 0
-unfolding filter count
+count-dropped : (test : ℕ → Bool) (r : ℕ) (l : List ℕ) → test r ≡ false → occurrences r (select test l) ≡ 0
+unfolding select occurrences
 count-dropped test r [] e = refl
 count-dropped test r (x ∷ l) e = go (test x) refl (count-dropped test r l e)
   where
-    go : (b : Bool) → test x ≡ b → count r (filter test l) ≡ 0
-        → count r (elim b as (λ b. List ℕ) [ true ↦ x ∷ filter test l | false ↦ filter test l ]) ≡ 0
+    go : (b : Bool) → test x ≡ b → occurrences r (select test l) ≡ 0
+        → occurrences r (elim b as (λ b. List ℕ) [ true ↦ x ∷ select test l | false ↦ select test l ]) ≡ 0
     go true q h = let y : once (eqb r x) ≡ 0 = ap once (ne-eqb r x (λ z. clash (ap test z ∙ q) e)) in omega arith
     go false q h = h
 
-count-filter : (test : ℕ → Bool) (r : ℕ) (l : List ℕ) → (test r ≡ true → count r l ≡ 1) → count r (filter test l) ≡ once (test r)
+count-filter : (test : ℕ → Bool) (r : ℕ) (l : List ℕ) → (test r ≡ true → occurrences r l ≡ 1) → occurrences r (select test l) ≡ once (test r)
 count-filter test r l h = go (test r) refl
   where
-    go : (b : Bool) → test r ≡ b → count r (filter test l) ≡ once b
+    go : (b : Bool) → test r ≡ b → occurrences r (select test l) ≡ once b
     go true e = count-kept test r l e ∙ h e
     go false e = count-dropped test r l e
 
@@ -315,8 +315,8 @@ module _ (ts : List Token) (cs : List Cell) (c p : ℕ) (queue waits : List ℕ)
   spared-at r x = choke-at cs c ts r ∙ choke-spares cs c (tokenAt ts r) x
 
   pub lines-choke :
-      Lines then (filter (λ (r : ℕ). isReady (tokenAt then r .state)) (queue ++ waits))
-      (filter (λ (r : ℕ). isWaiting (tokenAt then r .state)) waits)
+      Lines then (select (λ (r : ℕ). isReady (tokenAt then r .state)) (queue ++ waits))
+      (select (λ (r : ℕ). isWaiting (tokenAt then r .state)) waits)
   unfolding isReady isWaiting
   lines-choke =
       record {

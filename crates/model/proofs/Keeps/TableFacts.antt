@@ -11,7 +11,7 @@ use native.Mathlib.Omega.{arith}
 use lib.ListN.{length, getD, set, drop, length-set}
 use lib.Seq.{getD-drop}
 use lib.IntN.{ℤ}
-use Rattle.job.specs.Test.{all}
+use Rattle.job.specs.Test.{forAll}
 use Rattle.job.specs.Number.{Signed32}
 use Rattle.job.specs.Syntax.{Param, variable, constant}
 use Rattle.job.specs.Node.{Node, Dag, nodeAt, paramHolds}
@@ -63,11 +63,11 @@ unfolding passed paramHolds
 passed-fits bs f (variable x) k v e = f x v e
 passed-fits bs f (constant w) k v e = subst Signed32 (let z : w ≡ v = cc in z) k
 
-pub formals-fit : (bs : List Bind) (ps : List Param) → all paramHolds ps ≡ true → BindsFit bs → BindsFit (formalsBound bs ps)
+pub formals-fit : (bs : List Bind) (ps : List Param) → forAll paramHolds ps ≡ true → BindsFit bs → BindsFit (formalsBound bs ps)
 unfolding formalsBound slotAt
 formals-fit bs ps k f y v e = go (length ps) ps k y e
   where
-    go : (n : ℕ) (ps : List Param) → all paramHolds ps ≡ true → (y : ℕ)
+    go : (n : ℕ) (ps : List Param) → forAll paramHolds ps ≡ true → (y : ℕ)
         → getD (map (passed bs) ps ++ drop n unbound) y empty .slot ≡ slots.Value v → Signed32 v
     go n [] k y e = unbound-fit (n + y) v (ap (λ (b : Bind). b .slot) (sym (getD-drop n unbound y empty)) ∙ e)
     go n (p ∷ ps) k zero e = passed-fits bs f p (all-head paramHolds p ps k) v e

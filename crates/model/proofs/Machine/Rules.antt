@@ -8,7 +8,7 @@ use native.Mathlib.Omega.{arith}
 use lib.ListN.{length, getD, take, drop}
 use lib.Seq.{getD-take, length-take-le}
 use lib.Dec.{ltb, eqb}
-use Rattle.job.specs.Test.{_and_, all, allFrom, count, once, differ}
+use Rattle.job.specs.Test.{_and_, forAll, allFrom, occurrences, once, differ}
 use Rattle.job.specs.Node.{Dag, dagHolds}
 use Rattle.model.specs.Machine.Limits.{Limits}
 use Rattle.model.specs.Machine.Blank.{blankToken, tokenAt, tokenIsBlank, cellIsBlank}
@@ -29,15 +29,15 @@ both a b e = (and-left a b e, and-right a b e)
 pub record EachRuleHolds (lim : Limits) (d : Dag) (m : Machine) : Type 0 where
   pub dag : dagHolds d ≡ true
   pub sizes : rules.sizesInRange lim m ≡ true
-  pub tokens : all (rules.tokenInRange lim d (m .calls)) (m .tokens) ≡ true
-  pub cells : all (rules.cellInRange lim) (m .cells) ≡ true
+  pub tokens : forAll (rules.tokenInRange lim d (m .calls)) (m .tokens) ≡ true
+  pub cells : forAll (rules.cellInRange lim) (m .cells) ≡ true
   pub queue : namesOnce isReady (m .tokens) (m .queue) (m .queued) ≡ true
   pub chains : rules.chainsEnd (m .cells) ≡ true
-  pub under : all (rules.notUnderSet (m .cells)) (m .tokens) ≡ true
+  pub under : forAll (rules.notUnderSet (m .cells)) (m .tokens) ≡ true
   pub handles : differ (rules.openHandles (m .tokens)) ≡ true
   pub waits : namesOnce isWaiting (m .tokens) (m .waits) (m .waiting) ≡ true
-  pub unset : all (λ (t : Token). rules.waitsAtUnset (m .cells) (t .state)) (m .tokens) ≡ true
-  pub nodes : all (rules.atNode d (m .tokens)) (m .tokens) ≡ true
+  pub unset : forAll (λ (t : Token). rules.waitsAtUnset (m .cells) (t .state)) (m .tokens) ≡ true
+  pub nodes : forAll (rules.atNode d (m .tokens)) (m .tokens) ≡ true
   pub blankTokens : restIsBlank tokenIsBlank (tokensUsed m) (m .tokens) ≡ true
   pub blankCells : restIsBlank cellIsBlank (cellsUsed m) (m .cells) ≡ true
 
@@ -76,9 +76,9 @@ each-rule-holds lim d m e =
 pub record NamesOnce (of : State → Bool) (ts : List Token) (array : List ℕ) (n : ℕ) : Type 0 where
   pub size : length array ≡ length ts
   pub fits : n ≤ length array
-  pub inside : all (λ (p : ℕ). ltb p (length ts)) (take n array) ≡ true
-  pub counts : (p : ℕ) → p < length ts → count p (take n array) ≡ once (of (tokenAt ts p .state))
-  pub rest : all (eqb 0) (drop n array) ≡ true
+  pub inside : forAll (λ (p : ℕ). ltb p (length ts)) (take n array) ≡ true
+  pub counts : (p : ℕ) → p < length ts → occurrences p (take n array) ≡ once (of (tokenAt ts p .state))
+  pub rest : forAll (eqb 0) (drop n array) ≡ true
 
 all-from-at :
     {A : Type 0} (test : ℕ → A → Bool) (i : ℕ) (xs : List A) (k : ℕ) (x : A)
@@ -108,15 +108,15 @@ names-once of ts array n e =
     }
   where
     test : ℕ → Token → Bool
-    test p t = eqb (count p (take n array)) (once (of (t .state)))
+    test p t = eqb (occurrences p (take n array)) (once (of (t .state)))
 
     at : (p : ℕ) → p < length ts → allFrom test 0 ts ≡ true → test p (getD ts p blankToken) ≡ true
     at p l h = subst (λ i. test i (getD ts p blankToken) ≡ true) (let z : 0 + p ≡ p = omega arith in
         z) (all-from-at test 0 ts p blankToken h l)
 
 -- what stands in a list is counted there
-pub count-at : (xs : List ℕ) (k : ℕ) → k < length xs → 0 < count (getD xs k 0) xs
-unfolding count
+pub count-at : (xs : List ℕ) (k : ℕ) → k < length xs → 0 < occurrences (getD xs k 0) xs
+unfolding occurrences
 count-at [] k l = absurd (omega arith)
 count-at (x ∷ xs) zero l = rw (eqb-same x) (omega arith)
 count-at (x ∷ xs) (suc k) l = let z = count-at xs k (omega arith) in omega arith
@@ -137,7 +137,7 @@ module _ (of : State → Bool) (ts : List Token) (array : List ℕ) (n : ℕ) (o
   order-names =
       once-true _
       (subst (λ i. 0 < i) (o .counts (getD array k 0) order-inside)
-      (subst (λ p. 0 < count p (take n array)) at-take (count-at (take n array) k short)))
+      (subst (λ p. 0 < occurrences p (take n array)) at-take (count-at (take n array) k short)))
 
 -- what a ready token's state is
 pub ready-state : (s : State) → isReady s ≡ true → s ≡ states.Ready

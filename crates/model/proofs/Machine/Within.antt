@@ -8,7 +8,7 @@ use native.Mathlib.Omega.{arith}
 use lib.ListN.{getD}
 use lib.Dec.{eqb}
 use lib.IntN.{ℤ}
-use Rattle.job.specs.Test.{any, without}
+use Rattle.job.specs.Test.{forSome, without}
 use Rattle.job.specs.Node.{Dag, nodeAt}
 use Rattle.model.specs.Machine.Limits.{Limits}
 use Rattle.model.specs.Machine.Blank.{tokenAt}
@@ -33,8 +33,8 @@ use Rattle.model.proofs.Machine.WrittenTokens.{fits-same}
 use Rattle.model.proofs.Machine.Used.{Within, Used, used-fits, live-used, inside-old, none-new}
 use Rattle.model.proofs.Machine.ActsWithin.{acted}
 
-open-live : (h : ℕ) (s : State) → any (eqb h) (handleOf s) ≡ true → isLive s ≡ true
-unfolding any handleOf isLive
+open-live : (h : ℕ) (s : State) → forSome (eqb h) (handleOf s) ≡ true → isLive s ≡ true
+unfolding forSome handleOf isLive
 open-live h states.Blank e = e
 open-live h states.Ready e = refl
 open-live h (states.Waiting c) e = refl
@@ -45,19 +45,19 @@ open-live h states.Frame e = e
 pub holder-holds :
     (h i : ℕ) (ts : List Token) (p : ℕ)
     → holder h i ts ≡ places.At p
-    → (k : ℕ) × (p ≡ i + k) × (any (eqb h) (handleOf (tokenAt ts k .state)) ≡ true)
+    → (k : ℕ) × (p ≡ i + k) × (forSome (eqb h) (handleOf (tokenAt ts k .state)) ≡ true)
 unfolding holder tokenAt
 holder-holds h i [] p e = let z : _≡_ {A = ℕ} 0 1 = cc in absurd (omega arith)
-holder-holds h i (t ∷ ts) p e = go (any (eqb h) (handleOf (t .state))) refl e (λ x. holder-holds h (suc i) ts p x)
+holder-holds h i (t ∷ ts) p e = go (forSome (eqb h) (handleOf (t .state))) refl e (λ x. holder-holds h (suc i) ts p x)
   where
     Holds : Type 0
-    Holds = (k : ℕ) × (p ≡ i + k) × (any (eqb h) (handleOf (tokenAt (t ∷ ts) k .state)) ≡ true)
+    Holds = (k : ℕ) × (p ≡ i + k) × (forSome (eqb h) (handleOf (tokenAt (t ∷ ts) k .state)) ≡ true)
 
     go :
         (b : Bool)
-        → any (eqb h) (handleOf (t .state)) ≡ b
+        → forSome (eqb h) (handleOf (t .state)) ≡ b
         → elim b as (λ b. Place) [ true ↦ places.At i | false ↦ holder h (suc i) ts ] ≡ places.At p
-        → (holder h (suc i) ts ≡ places.At p → (k : ℕ) × (p ≡ suc i + k) × (any (eqb h) (handleOf (tokenAt ts k .state)) ≡ true))
+        → (holder h (suc i) ts ≡ places.At p → (k : ℕ) × (p ≡ suc i + k) × (forSome (eqb h) (handleOf (tokenAt ts k .state)) ≡ true))
         → Holds
     go true x y f = (0, (let z : i ≡ p = cc in omega arith), x)
     go false x y f = let (k, a, b) = f y in (suc k, omega arith, b)
@@ -102,7 +102,7 @@ module _ (lim : Limits) (d : Dag) (m : Machine) where
   answered-within v handle (places.At p) e rules old =
       none-new lim d m old _ (inside-put (inside-old lim d m rules) p _ inUse (fits-same refl refl refl (used-fits m p inUse)))
     where
-      found : (k : ℕ) × (p ≡ 0 + k) × (any (eqb handle) (handleOf (tokenAt (m .tokens) k .state)) ≡ true)
+      found : (k : ℕ) × (p ≡ 0 + k) × (forSome (eqb handle) (handleOf (tokenAt (m .tokens) k .state)) ≡ true)
       found = holder-holds handle 0 (m .tokens) p e
 
       same : found .0 ≡ p

@@ -10,7 +10,7 @@ use lib.ListN.{getD, length-take}
 use lib.Seq.{getD-take}
 use lib.Dec.{eqb}
 use lib.IntN.{ℤ}
-use Rattle.job.specs.Test.{any}
+use Rattle.job.specs.Test.{forSome}
 use Rattle.job.specs.Node.{Dag}
 use Rattle.model.specs.Machine.Limits.{Limits}
 use Rattle.model.specs.Machine.Blank.{blankToken, tokenAt}
@@ -32,8 +32,8 @@ use Rattle.model.proofs.Run.Queue.{QueueRulesHold, queue-rules-hold}
 use Rattle.model.proofs.Run.Bystander.{Untouched, untouched-enqueue, untouched-put, queued-unharmed, untouched-stands}
 
 -- a token with a handle is not ready
-pub handle-busy : (h : ℕ) (s : State) → any (eqb h) (handleOf s) ≡ true → isReady s ≡ false
-unfolding any handleOf isReady
+pub handle-busy : (h : ℕ) (s : State) → forSome (eqb h) (handleOf s) ≡ true → isReady s ≡ false
+unfolding forSome handleOf isReady
 handle-busy h states.Blank e = refl
 handle-busy h states.Ready e = clash e refl
 handle-busy h (states.Waiting c) e = refl
@@ -46,7 +46,7 @@ holder-busy :
     → (j : ℕ) × (q ≡ i + j) × (isReady (tokenAt ts j .state) ≡ false)
 unfolding holder tokenAt
 holder-busy h i [] q e = let z : _≡_ {A = ℕ} 0 1 = cc in absurd (omega arith)
-holder-busy h i (t ∷ ts) q e = go (any (eqb h) (handleOf (t .state))) refl e (λ x. holder-busy h (suc i) ts q x)
+holder-busy h i (t ∷ ts) q e = go (forSome (eqb h) (handleOf (t .state))) refl e (λ x. holder-busy h (suc i) ts q x)
   where
     Busy : Type 0
     Busy = (j : ℕ) × (q ≡ i + j) × (isReady (getD (t ∷ ts) j blankToken .state) ≡ false)
@@ -55,7 +55,7 @@ holder-busy h i (t ∷ ts) q e = go (any (eqb h) (handleOf (t .state))) refl e (
     later (j, x, r) = (suc j, (let z : q ≡ i + suc j = omega arith in z), r)
 
     go :
-        (b : Bool) → any (eqb h) (handleOf (t .state)) ≡ b
+        (b : Bool) → forSome (eqb h) (handleOf (t .state)) ≡ b
         → elim b as (λ b. Place) [ true ↦ places.At i | false ↦ holder h (suc i) ts ] ≡ places.At q
         → (holder h (suc i) ts ≡ places.At q → (j : ℕ) × (q ≡ suc i + j) × (isReady (getD ts j blankToken .state) ≡ false))
         → Busy

@@ -6,7 +6,7 @@ use mathlib.Core.List.{List, [], _∷_, _++_, map}
 use Prim.Native.Nat.{ℕ, zero, suc, _<_}
 use native.Mathlib.Omega.{arith}
 use lib.ListN.{length, getD, set}
-use Rattle.job.specs.Test.{filter}
+use Rattle.job.specs.Test.{select}
 use Rattle.model.specs.Machine.Blank.{blankToken, tokenAt, cellAt}
 use Rattle.model.specs.Machine.Active.{within}
 use Rattle.model.specs.Machine.State.{isReady, waitsAt}
@@ -60,7 +60,7 @@ module _ (c : ℕ) (m : Machine) where
   readyThen p = isReady (tokenAt chokedTokens p .state)
 
   abbrev pub queueThen : List ℕ
-  queueThen = filter (λ (p : ℕ). isReady (tokenAt (map (chokeToken (m .cells) c) (m .tokens)) p .state)) (queueOf m ++ waitsOf m)
+  queueThen = select (λ (p : ℕ). isReady (tokenAt (map (chokeToken (m .cells) c) (m .tokens)) p .state)) (queueOf m ++ waitsOf m)
 
   choked-token : (p : ℕ) → p < length (m .tokens) → tokenAt chokedTokens p ≡ chokeToken (m .cells) c (tokenAt (m .tokens) p)
   unfolding tokenAt

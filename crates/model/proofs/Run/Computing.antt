@@ -77,9 +77,9 @@ unfolding Rattle.job.specs.Construct.own Rattle.job.specs.Construct.nodeCount 
     Rattle.model.specs.Machine.Step.act Rattle.model.specs.Machine.Step.takes Rattle.model.specs.Machine.Step.step
     Rattle.job.specs.Number.number Rattle.job.specs.Number.bytes Rattle.job.specs.Number.signed Rattle.job.specs.Number.unsigned
     Rattle.job.specs.Number.fits Rattle.job.specs.Number.equalZ Rattle.job.specs.Site.zeroIf Rattle.job.specs.Site.notZero
-    Rattle.job.specs.Site.truth Rattle.job.specs.Site.sum Rattle.job.specs.Site.isBuiltin Rattle.job.specs.Site.isOutside
+    Rattle.job.specs.Site.truth Rattle.job.specs.Site.sumReply Rattle.job.specs.Site.isBuiltin Rattle.job.specs.Site.isOutside
     Rattle.job.specs.Site.siteTakes Rattle.job.specs.Site.builtin Rattle.job.specs.Test._and_ Rattle.job.specs.Test._or_
-    Rattle.job.specs.Test.all Rattle.job.specs.Test.any Rattle.job.specs.Test.allFrom Rattle.job.specs.Test.filter
-    Rattle.job.specs.Test.count Rattle.job.specs.Test.differ Rattle.job.specs.Test.same Rattle.job.specs.Test.padded
+    Rattle.job.specs.Test.forAll Rattle.job.specs.Test.forSome Rattle.job.specs.Test.allFrom Rattle.job.specs.Test.select
+    Rattle.job.specs.Test.occurrences Rattle.job.specs.Test.differ Rattle.job.specs.Test.same Rattle.job.specs.Test.padded
     Rattle.job.specs.Test.without
 computing = tt

@@ -8,7 +8,7 @@ use Rattle.job.specs.Syntax.{constant, Exp, stop, site}
 use Rattle.job.specs.Encode.{encode}
 use Rattle.job.specs.Construct.{construct}
 use Rattle.job.specs.Node.{Dag}
-use Rattle.job.specs.Notation.{_∣_, _<[_]<_, signal, goal, calling}
+use Rattle.job.specs.Notation.{_∥_, _<[_]<_, signal, goal, calling}
 use Rattle.model.specs.Machine.Limits.{Limits, limits, paper}
 use Rattle.model.specs.Machine.Blank.{blankMachine}
 use Rattle.model.specs.Machine.Start.{start}
@@ -40,7 +40,7 @@ refusals =
     -- "9: no token at that queue place"
     step paper (dagOfGoal stop) (first paper stop) 1
     -- "10: fork, where or definition call with 64 tokens in use", here with 1
-    ∷ step (limits 1 1 1) (dagOfGoal (signal ∣ signal)) (first (limits 1 1 1) (signal ∣ signal)) 0
+    ∷ step (limits 1 1 1) (dagOfGoal (signal ∥ signal)) (first (limits 1 1 1) (signal ∥ signal)) 0
     -- "11: where with 32 cells in use", here with none
     ∷ step noCells (dagOfGoal (stop <[ 0 ]< stop)) (first noCells (stop <[ 0 ]< stop)) 0
     -- "12: answer to a handle that is not open"

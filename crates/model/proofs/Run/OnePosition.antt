@@ -9,7 +9,7 @@ use native.Mathlib.Omega.{arith}
 use lib.ListN.{length, getD, take}
 use lib.Seq.{length-take-le, getD-take}
 use lib.Dec.{eqb}
-use Rattle.job.specs.Test.{count, once}
+use Rattle.job.specs.Test.{occurrences, once}
 use Rattle.job.specs.Node.{Dag}
 use Rattle.model.specs.Machine.Limits.{Limits}
 use Rattle.model.specs.Machine.Blank.{tokenAt}
@@ -21,25 +21,25 @@ use Rattle.model.proofs.Machine.Rules.{each-rule-holds, NamesOnce, name
 use Rattle.model.proofs.Machine.TableRows.{live-inside}
 
 -- a number that is counted stands somewhere, and one that stands at two indices is counted twice
-count-index : (n : ℕ) (xs : List ℕ) → 0 < count n xs → (i : ℕ) × (i < length xs) × (getD xs i 0 ≡ n)
-unfolding count
+count-index : (n : ℕ) (xs : List ℕ) → 0 < occurrences n xs → (i : ℕ) × (i < length xs) × (getD xs i 0 ≡ n)
+unfolding occurrences
 count-index n [] l = absurd (omega arith)
 count-index n (x ∷ xs) l = go (ℕ-discrete n x) (count-index n xs)
   where
-    go : Dec (n ≡ x) → (0 < count n xs → (i : ℕ) × (i < length xs) × (getD xs i 0 ≡ n))
+    go : Dec (n ≡ x) → (0 < occurrences n xs → (i : ℕ) × (i < length xs) × (getD xs i 0 ≡ n))
         → (i : ℕ) × (i < length (x ∷ xs)) × (getD (x ∷ xs) i 0 ≡ n)
     go (yes e) f = (0, omega arith, sym e)
     go (no e) f =
         let z : once (eqb n x) ≡ 0 = ap once (ne-eqb n x e) in let r = f (omega arith) in let k = r .1 in (suc (r .0), omega arith, r .2)
 
-count-at : (xs : List ℕ) (i : ℕ) → i < length xs → 0 < count (getD xs i 0) xs
-unfolding count
+count-at : (xs : List ℕ) (i : ℕ) → i < length xs → 0 < occurrences (getD xs i 0) xs
+unfolding occurrences
 count-at [] i l = absurd (omega arith)
 count-at (x ∷ xs) zero l = let z : once (eqb x x) ≡ 1 = ap once (eqb-same x) in omega arith
 count-at (x ∷ xs) (suc i) l = let z = count-at xs i (omega arith) in omega arith
 
-count-two : (xs : List ℕ) (i j : ℕ) → i < j → j < length xs → getD xs i 0 ≡ getD xs j 0 → 1 < count (getD xs j 0) xs
-unfolding count
+count-two : (xs : List ℕ) (i j : ℕ) → i < j → j < length xs → getD xs i 0 ≡ getD xs j 0 → 1 < occurrences (getD xs j 0) xs
+unfolding occurrences
 count-two [] i j a l e = absurd (omega arith)
 count-two (x ∷ xs) i zero a l e = absurd (omega arith)
 count-two (x ∷ xs) zero (suc j) a l e =
@@ -58,7 +58,7 @@ module _ (lim : Limits) (d : Dag) (m : Machine) (rules : rulesHold lim d m ≡ t
   long : length order ≡ m .queued
   long = length-take-le (m .queued) (m .queue) (names .fits)
 
-  once-named : count p order ≡ 1
+  once-named : occurrences p order ≡ 1
   once-named = names .counts p (live-inside (m .tokens) p (ready-live _ ready)) ∙ ap once ready
 
   at : (k : ℕ) → k < m .queued → getD order k 0 ≡ getD (m .queue) k 0
@@ -68,8 +68,8 @@ module _ (lim : Limits) (d : Dag) (m : Machine) (rules : rulesHold lim d m ≡ t
   apart i j a l e f =
       let here : getD order j 0 ≡ p = at j l ∙ f in
       let there : getD order i 0 ≡ p = at i (omega arith) ∙ e in
-      let z : 1 < count (getD order j 0) order = count-two order i j a (omega (arith, long)) (there ∙ sym here) in
-      let y : count (getD order j 0) order ≡ 1 = ap (λ n. count n order) here ∙ once-named in
+      let z : 1 < occurrences (getD order j 0) order = count-two order i j a (omega (arith, long)) (there ∙ sym here) in
+      let y : occurrences (getD order j 0) order ≡ 1 = ap (λ n. occurrences n order) here ∙ once-named in
       omega arith
 
   pub one-position : (k : ℕ) × (k < m .queued) × (getD (m .queue) k 0 ≡ p) × ((j : ℕ) → j < m .queued → getD (m .queue) j 0 ≡ p → j ≡ k)

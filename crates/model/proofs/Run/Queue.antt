@@ -7,7 +7,7 @@ use Prim.Native.Nat.{ℕ, suc, _≤_, _<_}
 use native.Mathlib.Omega.{arith}
 use lib.ListN.{length, getD, take}
 use lib.Seq.{getD-take, length-take-le}
-use Rattle.job.specs.Test.{count, once}
+use Rattle.job.specs.Test.{occurrences, once}
 use Rattle.job.specs.Node.{Dag}
 use Rattle.model.specs.Machine.Limits.{Limits}
 use Rattle.model.specs.Machine.Blank.{blankToken, tokenAt}
@@ -24,16 +24,16 @@ use Rattle.model.proofs.Machine.Rules.{ready-live}
 use Rattle.job.proofs.Test.{eqb-eq, eqb-same, ltb-lt, and-left, and-right, all-at, not-true, once-small}
 
 -- what stands in a list is counted
-count-head : (n : ℕ) (q : List ℕ) → count n (n ∷ q) ≡ suc (count n q)
-unfolding count
+count-head : (n : ℕ) (q : List ℕ) → occurrences n (n ∷ q) ≡ suc (occurrences n q)
+unfolding occurrences
 count-head n q = rw (eqb-same n) (omega arith)
 
 -- what stands at the front and again behind is counted twice
-counted-twice : (q : List ℕ) (k : ℕ) → suc k < length q → getD q 0 0 ≡ getD q (suc k) 0 → 1 < count (getD q (suc k) 0) q
+counted-twice : (q : List ℕ) (k : ℕ) → suc k < length q → getD q 0 0 ≡ getD q (suc k) 0 → 1 < occurrences (getD q (suc k) 0) q
 counted-twice [] k l e = absurd (omega arith)
 counted-twice (x ∷ q) k l e =
-    subst (λ n. 1 < count n (x ∷ q)) e
-    (let z = count-head x q in let c = subst (λ n. 0 < count n q) (sym e) (count-at q k (omega arith)) in omega arith)
+    subst (λ n. 1 < occurrences n (x ∷ q)) e
+    (let z = count-head x q in let c = subst (λ n. 0 < occurrences n q) (sym e) (count-at q k (omega arith)) in omega arith)
 
 once-twice : (b : Bool) → 1 < once b → ⊥
 once-twice b l = let z = once-small b in omega arith
@@ -53,7 +53,7 @@ module _ (of : State → Bool) (ts : List Token) (array : List ℕ) (n : ℕ) (o
   order-front k l e =
       once-twice (of (tokenAt ts (getD array (suc k) 0) .state))
       (subst (λ c. 1 < c) (o .counts (getD array (suc k) 0) (order-inside of ts array n o (suc k) l))
-      (subst (λ p. 1 < count p order) (order-at (suc k) l)
+      (subst (λ p. 1 < occurrences p order) (order-at (suc k) l)
       (counted-twice order k (let z = order-length in omega arith) (order-at 0 (omega arith) ∙ (e ∙ sym (order-at (suc k) l))))))
 
 -- what the rules say of the queue

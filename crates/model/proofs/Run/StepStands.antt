@@ -11,7 +11,7 @@ use lib.ListN.{length, getD, take, length-append, length-take, List·getD-append
 use lib.Seq.{getD-take}
 use lib.Dec.{ltb}
 use lib.IntN.{ℤ}
-use Rattle.job.specs.Test.{filter, without}
+use Rattle.job.specs.Test.{select, without}
 use Rattle.job.specs.Site.{BuiltinReply, gives, silent, isBuiltin, builtin}
 use Rattle.job.specs.Syntax.{Param}
 use Rattle.job.specs.Node.{Node, Dag, nodeAt}
@@ -267,7 +267,7 @@ module _ (lim : Limits) (d : Dag) (m : Machine) (h : QueueRulesHold m) (k : ℕ)
         here : among (readyThen c taken) both k ≡ k′
         here = sym position ∙ s
 
-        found : Behind (filter (readyThen c taken) (take k both)) (queueThen c taken) (getD both k 0)
+        found : Behind (select (readyThen c taken) (take k both)) (queueThen c taken) (getD both k 0)
         found = filter-finds (readyThen c taken) both k both-long (not-false _ (sym (both-ended k (omega arith)) ∙ f))
 
   -- any instruction: at choke by its own law, else no cell is set and the token watched moves up by one

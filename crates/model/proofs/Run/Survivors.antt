@@ -7,39 +7,39 @@ use mathlib.Core.List.{List, [], _∷_}
 use Prim.Native.Nat.{ℕ, zero, suc, _+_, _≤_, _<_}
 use native.Mathlib.Omega.{arith}
 use lib.ListN.{length, getD, take}
-use Rattle.job.specs.Test.{filter}
+use Rattle.job.specs.Test.{select}
 use Rattle.job.specs.Node.{Dag}
 use Rattle.model.specs.Run.Follow.{frontEnds, survivors, Fate, falls, stays, fate}
 use Rattle.model.specs.declared.record.Machine.{Machine}
 use Rattle.job.proofs.Test.{holds-or-fails}
 
 -- what a filter leaves of a list, and where
-filter-yes : {A : Type 0} (f : A → Bool) (x : A) (xs : List A) → f x ≡ true → filter f (x ∷ xs) ≡ x ∷ filter f xs
-unfolding filter
-filter-yes f x xs e = rw (e, filter)
+filter-yes : {A : Type 0} (f : A → Bool) (x : A) (xs : List A) → f x ≡ true → select f (x ∷ xs) ≡ x ∷ select f xs
+unfolding select
+filter-yes f x xs e = rw (e, select)
 
-filter-no : {A : Type 0} (f : A → Bool) (x : A) (xs : List A) → f x ≡ false → filter f (x ∷ xs) ≡ filter f xs
-unfolding filter
-filter-no f x xs e = rw (e, filter)
+filter-no : {A : Type 0} (f : A → Bool) (x : A) (xs : List A) → f x ≡ false → select f (x ∷ xs) ≡ select f xs
+unfolding select
+filter-no f x xs e = rw (e, select)
 
 -- the position that the k-th of a list has among those that pass
 abbrev pub among : (ℕ → Bool) → List ℕ → ℕ → ℕ
-among f xs k = length (filter f (take k xs))
+among f xs k = length (select f (take k xs))
 
 -- behind the numbers of ys, zs has x
 pub record Behind (ys zs : List ℕ) (x : ℕ) : Type 0 where
   pub inside : length ys < length zs
   pub found : getD zs (length ys) 0 ≡ x
 
-filter-nil : (f : ℕ → Bool) → filter f [] ≡ []
-unfolding filter
+filter-nil : (f : ℕ → Bool) → select f [] ≡ []
+unfolding select
 filter-nil f = refl
 
 pub filter-finds :
     (f : ℕ → Bool) (xs : List ℕ) (k : ℕ)
     → k < length xs
     → f (getD xs k 0) ≡ true
-    → Behind (filter f (take k xs)) (filter f xs) (getD xs k 0)
+    → Behind (select f (take k xs)) (select f xs) (getD xs k 0)
 filter-finds f [] k l e = absurd (omega arith)
 filter-finds f (x ∷ xs) zero l e =
     subst₂ (λ ys zs. Behind ys zs x) (sym (filter-nil f)) (sym (filter-yes f x xs e)) (record { inside = omega arith; found = refl })
@@ -47,8 +47,8 @@ filter-finds f (x ∷ xs) (suc k) l e = go (holds-or-fails (f x)) (filter-finds 
   where
     go :
         (f x ≡ true) ⊎ (f x ≡ false)
-        → Behind (filter f (take k xs)) (filter f xs) (getD xs k 0)
-        → Behind (filter f (x ∷ take k xs)) (filter f (x ∷ xs)) (getD xs k 0)
+        → Behind (select f (take k xs)) (select f xs) (getD xs k 0)
+        → Behind (select f (x ∷ take k xs)) (select f (x ∷ xs)) (getD xs k 0)
     go (inl p) r =
         subst₂ (λ ys zs. Behind ys zs (getD xs k 0)) (sym (filter-yes f x (take k xs) p)) (sym (filter-yes f x xs p))
         (record { inside = omega (arith, r .inside); found = r .found })
@@ -95,7 +95,7 @@ module _ (d : Dag) (m : Machine) where
       later : (j : ℕ) → j < n → frontEnds d m (suc i + j) ≡ not (f (getD xs j 0))
       later j k = subst (λ k. frontEnds d m k ≡ not (f (getD xs j 0))) (omega arith) (h (suc j) (omega arith))
 
-      go : (b : Bool) → f x ≡ b → survivors d m (suc i) n ≡ among f xs n → survivors d m i (suc n) ≡ length (filter f (x ∷ take n xs))
+      go : (b : Bool) → f x ≡ b → survivors d m (suc i) n ≡ among f xs n → survivors d m i (suc n) ≡ length (select f (x ∷ take n xs))
       go true e r = spared-one i n (front ∙ ap not e) ∙ (ap suc r ∙ ap length (sym (filter-yes f x (take n xs) e)))
       go false e r = ended-one i n (front ∙ ap not e) ∙ (r ∙ ap length (sym (filter-no f x (take n xs) e)))
 

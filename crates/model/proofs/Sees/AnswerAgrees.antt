@@ -9,7 +9,7 @@ use native.Mathlib.Omega.{arith}
 use lib.ListN.{getD}
 use lib.Dec.{eqb}
 use lib.IntN.{ℤ}
-use Rattle.job.specs.Test.{any}
+use Rattle.job.specs.Test.{forSome}
 use Rattle.model.specs.Machine.Blank.{blankToken, tokenAt}
 use Rattle.model.specs.Machine.State.{isLive, handleOf}
 use Rattle.model.specs.Machine.Update.{withValue, withState, withTables, withOrders, put, enqueue}
@@ -36,8 +36,8 @@ use Rattle.model.proofs.Sees.Moving.{place-as, fits-as}
 use Rattle.model.proofs.Sees.Agrees.{Becomes, goes-becomes}
 
 -- the holder of a handle is called out under it
-pub holds-handle : (h : ℕ) (s : State) → any (eqb h) (handleOf s) ≡ true → s ≡ states.Called h
-unfolding any handleOf
+pub holds-handle : (h : ℕ) (s : State) → forSome (eqb h) (handleOf s) ≡ true → s ≡ states.Called h
+unfolding forSome handleOf
 holds-handle h states.Blank e = clash e refl
 holds-handle h states.Ready e = clash e refl
 holds-handle h (states.Waiting c) e = clash e refl
@@ -52,7 +52,7 @@ holder-from : (h i : ℕ) (ts : List Token) (p : ℕ) → holder h i ts ≡ plac
     → (j : ℕ) × (p ≡ i + j) × (tokenAt ts j .state ≡ states.Called h)
 unfolding holder tokenAt
 holder-from h i [] p e = let z : _≡_ {A = ℕ} 0 1 = cc in absurd (omega arith)
-holder-from h i (t ∷ ts) p e = go (any (eqb h) (handleOf (t .state))) refl e (λ x. holder-from h (suc i) ts p x)
+holder-from h i (t ∷ ts) p e = go (forSome (eqb h) (handleOf (t .state))) refl e (λ x. holder-from h (suc i) ts p x)
   where
     Holding : Type 0
     Holding = (j : ℕ) × (p ≡ i + j) × (getD (t ∷ ts) j blankToken .state ≡ states.Called h)
@@ -60,7 +60,7 @@ holder-from h i (t ∷ ts) p e = go (any (eqb h) (handleOf (t .state))) refl e (
     later : (j : ℕ) × (p ≡ suc i + j) × (getD ts j blankToken .state ≡ states.Called h) → Holding
     later (j, x, r) = (suc j, (let z : p ≡ i + suc j = omega arith in z), r)
 
-    go : (b : Bool) → any (eqb h) (handleOf (t .state)) ≡ b
+    go : (b : Bool) → forSome (eqb h) (handleOf (t .state)) ≡ b
         → elim b as (λ b. Place) [ true ↦ places.At i | false ↦ holder h (suc i) ts ] ≡ places.At p
         → (holder h (suc i) ts ≡ places.At p → (j : ℕ) × (p ≡ suc i + j) × (getD ts j blankToken .state ≡ states.Called h))
         → Holding

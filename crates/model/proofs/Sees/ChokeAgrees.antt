@@ -10,7 +10,7 @@ use native.Mathlib.Omega.{arith}
 use lib.ListN.{length, set, length-set, length-map}
 use lib.Dec.{eqb}
 use lib.IntN.{ℤ}
-use Rattle.job.specs.Test.{count, once, any, filter}
+use Rattle.job.specs.Test.{occurrences, once, forSome, select}
 use Rattle.job.specs.Node.{Node, Dag}
 use Rattle.model.specs.Machine.Blank.{tokenAt, cellAt}
 use Rattle.model.specs.Machine.Active.{within}
@@ -71,23 +71,23 @@ woken-state c called e = clash e refl
 
 -- which places stay in a list
 module _ (test : ℕ → Bool) (r : ℕ) where
-  filtered-out : (A : List ℕ) → test r ≡ false → count r (filter test A) ≡ 0
-  unfolding count filter
+  filtered-out : (A : List ℕ) → test r ≡ false → occurrences r (select test A) ≡ 0
+  unfolding occurrences select
   filtered-out [] e = refl
   filtered-out (p ∷ A) e = go (test p) refl (filtered-out A e)
     where
-      go : (b : Bool) → test p ≡ b → count r (filter test A) ≡ 0
-          → count r (elim b as (λ b. List ℕ) [ true ↦ p ∷ filter test A | false ↦ filter test A ]) ≡ 0
+      go : (b : Bool) → test p ≡ b → occurrences r (select test A) ≡ 0
+          → occurrences r (elim b as (λ b. List ℕ) [ true ↦ p ∷ select test A | false ↦ select test A ]) ≡ 0
       go true q h = let y : once (eqb r p) ≡ 0 = ap once (ne-eqb r p (λ x. clash (ap test x ∙ q) e)) in omega arith
       go false q h = h
 
-  filtered-in : (A : List ℕ) → test r ≡ true → count r (filter test A) ≡ count r A
-  unfolding count filter
+  filtered-in : (A : List ℕ) → test r ≡ true → occurrences r (select test A) ≡ occurrences r A
+  unfolding occurrences select
   filtered-in [] e = refl
   filtered-in (p ∷ A) e = go (test p) refl (filtered-in A e)
     where
-      go : (b : Bool) → test p ≡ b → count r (filter test A) ≡ count r A
-          → count r (elim b as (λ b. List ℕ) [ true ↦ p ∷ filter test A | false ↦ filter test A ]) ≡ once (eqb r p) + count r A
+      go : (b : Bool) → test p ≡ b → occurrences r (select test A) ≡ occurrences r A
+          → occurrences r (elim b as (λ b. List ℕ) [ true ↦ p ∷ select test A | false ↦ select test A ]) ≡ once (eqb r p) + occurrences r A
       go true q h = omega arith
       go false q h = let y : once (eqb r p) ≡ 0 = ap once (ne-eqb r p (λ x. clash e (ap test x ∙ q))) in omega arith
 
@@ -156,9 +156,9 @@ module _ (M : Labels) (W : World) (c i : ℕ) (s : CellSeen W c i) (w : Held) (v
       }
 
   -- the frame of a token outside is outside
-  frame-outside : {n : ℕ} {U : List ℕ} {F : List Frame} (q : ℕ) → any (eqb i) U ≡ false → Nested M n U F → FrameSeen W M q F → Outside q
+  frame-outside : {n : ℕ} {U : List ℕ} {F : List Frame} (q : ℕ) → forSome (eqb i) U ≡ false → Nested M n U F → FrameSeen W M q F → Outside q
   frame-outside q f o (frameAt {U = U} l z b) =
-      within-seen s (b .cell) ∙ any-rest (eqb i) (o .own) U (ap (any (eqb i)) (sym (o .parts)) ∙ f)
+      within-seen s (b .cell) ∙ any-rest (eqb i) (o .own) U (ap (forSome (eqb i)) (sym (o .parts)) ∙ f)
 
   choke-closed : Closed M Outside (λ b. Unit) W
   choke-closed =
@@ -198,21 +198,21 @@ module _ (M : Labels) (W : World) (c i : ℕ) (s : CellSeen W c i) (w : Held) (v
   state-cells (waiting f z) = refl
   state-cells called = refl
 
-  same-end : {t : Token} {x : Abstract.Token} → TokenSeen W M t x → inCell t ≡ any (eqb i) (Abstract.cellsOf x)
-  same-end (sees z un st) = within-seen s (z .cell) ∙ ap (any (eqb i)) (sym (state-cells st))
+  same-end : {t : Token} {x : Abstract.Token} → TokenSeen W M t x → inCell t ≡ forSome (eqb i) (Abstract.cellsOf x)
+  same-end (sees z un st) = within-seen s (z .cell) ∙ ap (forSome (eqb i)) (sym (state-cells st))
 
   abbrev stays : ℕ → Bool
   stays r = not (inCell (tokenAt (W .tokens) r))
 
-  choke-tokens : {A : List ℕ} {S : List Abstract.Token} → TokensSeen W M A S → TokensSeen chokedWorld M (filter stays A) (outOf i S)
-  unfolding filter
+  choke-tokens : {A : List ℕ} {S : List Abstract.Token} → TokensSeen W M A S → TokensSeen chokedWorld M (select stays A) (outOf i S)
+  unfolding select
   choke-tokens nobody = nobody
   choke-tokens (also {p = p} {x = x} {A = A} {S = S} z r) =
       go (stays p) (isOutOf i x) refl (ap not (same-end z)) (choke-tokens r)
     where
-      go : (a b : Bool) → stays p ≡ a → a ≡ b → TokensSeen chokedWorld M (filter stays A) (outOf i S)
+      go : (a b : Bool) → stays p ≡ a → a ≡ b → TokensSeen chokedWorld M (select stays A) (outOf i S)
           → TokensSeen chokedWorld M
-          (elim a as (λ b. List ℕ) [ true ↦ p ∷ filter stays A | false ↦ filter stays A ])
+          (elim a as (λ b. List ℕ) [ true ↦ p ∷ select stays A | false ↦ select stays A ])
           (elim b as (λ b. List Abstract.Token) [ true ↦ x ∷ outOf i S | false ↦ outOf i S ])
       go true true f g h = also (token-spared p (not-true _ f) z) h
       go true false f g h = clash refl g
@@ -220,7 +220,7 @@ module _ (M : Labels) (W : World) (c i : ℕ) (s : CellSeen W c i) (w : Held) (v
       go false false f g h = h
 
   module _ {p : ℕ} {L R : List Abstract.Token} (o : Others M W p L R) (ends : inCell (tokenAt (W .tokens) p) ≡ true) where
-    choke-each : (r : ℕ) → count r (filter stays (o .before ++ o .behind)) ≡ once (isLive (tokenAt (chokedWorld .tokens) r .state))
+    choke-each : (r : ℕ) → occurrences r (select stays (o .before ++ o .behind)) ≡ once (isLive (tokenAt (chokedWorld .tokens) r .state))
     unfolding isLive
     choke-each r = go (inCell (tokenAt (W .tokens) r)) refl
       where
@@ -228,7 +228,7 @@ module _ (M : Labels) (W : World) (c i : ℕ) (s : CellSeen W c i) (w : Held) (v
         alive t = once (isLive (t .state))
 
         go : (b : Bool) → inCell (tokenAt (W .tokens) r) ≡ b
-            → count r (filter stays (o .before ++ o .behind)) ≡ once (isLive (tokenAt (chokedWorld .tokens) r .state))
+            → occurrences r (select stays (o .before ++ o .behind)) ≡ once (isLive (tokenAt (chokedWorld .tokens) r .state))
         go true f =
             filtered-out stays r (o .before ++ o .behind) (ap not f)
             ∙ sym (ap alive (choke-at (W .cells) c (W .tokens) r ∙ choke-ends (W .cells) c (tokenAt (W .tokens) r) f))
@@ -241,7 +241,7 @@ module _ (M : Labels) (W : World) (c i : ℕ) (s : CellSeen W c i) (w : Held) (v
             let k = filtered-in stays r (o .before ++ o .behind) (ap not f) in
             omega arith
 
-    pub choke-core : Core M chokedWorld (filter stays (o .before ++ o .behind)) (outOf i (L ++ R))
+    pub choke-core : Core M chokedWorld (select stays (o .before ++ o .behind)) (outOf i (L ++ R))
     choke-core =
         record {
           seen = choke-tokens (tokens-append (o .lefts) (o .rights));

@@ -41,8 +41,8 @@ params-fixed ρ s (more p ps) = ap₂ _∷_ (param-fixed ρ s p) (params-fixed �
 
 -- an expression's variables are those in its scope
 pub exp-fixed : {formals : List ℕ} {left : ℕ} {scope : List ℕ} {e : Exp} (ρ : Substitution)
-    → Spares (length scope) ρ → Good formals left scope e → Calculus.subst ρ (expMeant scope e) ≡ expMeant scope e
-unfolding Calculus.subst expMeant joinMeant scopeLeft scopeRight
+    → Spares (length scope) ρ → Good formals left scope e → Calculus.substitute ρ (expMeant scope e) ≡ expMeant scope e
+unfolding Calculus.substitute expMeant joinMeant scopeLeft scopeRight
 exp-fixed ρ s Good.stop = refl
 exp-fixed ρ s (Good.site {s = n} t ps) = ap (Calculus.site n) (params-fixed ρ s ps)
 exp-fixed ρ s (Good.call {d = n} l t ps) = ap (Calculus.call n) (params-fixed ρ s ps)
@@ -50,6 +50,6 @@ exp-fixed ρ s (Good.join GoodJoin.par f g) = ap₂ Calculus.par (exp-fixed ρ s
 exp-fixed ρ s (Good.join (GoodJoin.seq l) f g) = ap₂ Calculus.seq (exp-fixed ρ s f) (exp-fixed (lift ρ) (spares-lift ρ s) g)
 exp-fixed ρ s (Good.join (GoodJoin.prune l) f g) = ap₂ Calculus.prune (exp-fixed (lift ρ) (spares-lift ρ s) f) (exp-fixed ρ s g)
 
-pub goal-closed : (p : Program) → WellFormed p → (ρ : Substitution) → Calculus.subst ρ (meaning p .goal) ≡ meaning p .goal
+pub goal-closed : (p : Program) → WellFormed p → (ρ : Substitution) → Calculus.substitute ρ (meaning p .goal) ≡ meaning p .goal
 unfolding meaning
 goal-closed p w ρ = exp-fixed ρ (λ i l. absurd (omega arith)) (w .goal)

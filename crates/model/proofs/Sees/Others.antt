@@ -9,7 +9,7 @@ use native.Mathlib.Decide.{ℕ-discrete, decLt}
 use native.Mathlib.Omega.{arith}
 use lib.ListN.{length, set, length-set}
 use lib.Dec.{eqb}
-use Rattle.job.specs.Test.{count, once}
+use Rattle.job.specs.Test.{occurrences, once}
 use Rattle.model.specs.Machine.Blank.{tokenAt, cellAt}
 use Rattle.model.specs.Machine.State.{isLive}
 use Rattle.model.specs.Machine.InUse.{usedTokens}
@@ -50,18 +50,18 @@ module _ (M : Labels) (W : World) where
       → TokenSeen W M (tokenAt (W .tokens) q) y → FoundAt p A S → FoundAt p (q ∷ A) (y ∷ S)
   at-later v (foundAt s x) = foundAt (later s) (spot-later v x)
 
-  pub find-place : (p : ℕ) {A : List ℕ} {S : List Abstract.Token} → 0 < count p A → TokensSeen W M A S → FoundAt p A S
-  unfolding count
+  pub find-place : (p : ℕ) {A : List ℕ} {S : List Abstract.Token} → 0 < occurrences p A → TokensSeen W M A S → FoundAt p A S
+  unfolding occurrences
   find-place p l nobody = absurd (omega arith)
   find-place p l (also {p = q} {x = y} {A = B} {S = S} v s) = go (eqb p q) refl (λ k. find-place p k s)
     where
-      go : (b : Bool) → eqb p q ≡ b → (0 < count p B → FoundAt p B S) → FoundAt p (q ∷ B) (y ∷ S)
+      go : (b : Bool) → eqb p q ≡ b → (0 < occurrences p B → FoundAt p B S) → FoundAt p (q ∷ B) (y ∷ S)
       go true e f =
           let i = eqb-eq p q e in
           foundAt first
           (spot {Before = []} {Behind = B} (ap (λ r. r ∷ B) (sym i)) (subst (λ r. TokenSeen W M (tokenAt (W .tokens) r) y) (sym i) v) nobody
           s)
-      go false e f = at-later v (f (let z : 0 < once (eqb p q) + count p B = l in let i : once (eqb p q) ≡ 0 = rw e refl in omega arith))
+      go false e f = at-later v (f (let z : 0 < once (eqb p q) + occurrences p B = l in let i : once (eqb p q) ≡ 0 = rw e refl in omega arith))
 
   -- found by the abstract machine's token
   pub data FoundOf (x : Abstract.Token) (A : List ℕ) (L R : List Abstract.Token) : Type 0 where
@@ -81,12 +81,12 @@ pub record Others (M : Labels) (W : World) (p : ℕ) (L R : List Abstract.Token)
   pub behind : List ℕ
   pub lefts : TokensSeen W M before L
   pub rights : TokensSeen W M behind R
-  pub each : (r : ℕ) → count r before + (once (eqb r p) + count r behind) ≡ once (isLive (tokenAt (W .tokens) r .state))
+  pub each : (r : ℕ) → occurrences r before + (once (eqb r p) + occurrences r behind) ≡ once (isLive (tokenAt (W .tokens) r .state))
   pub clean : (n : ℕ) → W .new ≤ n → W .store n ≡ none
 
 pub others : {M : Labels} {W : World} {A : List ℕ} {S : List Abstract.Token} {p : ℕ} {x : Abstract.Token} {L R : List Abstract.Token}
     → Core M W A S → Spot M W p x A L R → Others M W p L R
-unfolding count
+unfolding occurrences
 others {A = A} {p = p} K (spot {Before = A₁} {Behind = A₂} e v l r) =
     record {
       before = A₁;
@@ -96,7 +96,7 @@ others {A = A} {p = p} K (spot {Before = A₁} {Behind = A₂} e v l r) =
       each =
           λ i.
           let a = count-append i A₁ (p ∷ A₂) in
-          let b : count i A ≡ count i (A₁ ++ (p ∷ A₂)) = ap (count i) e in
+          let b : occurrences i A ≡ occurrences i (A₁ ++ (p ∷ A₂)) = ap (occurrences i) e in
           let c = K .each i in
           omega arith;
       clean = K .clean;
@@ -111,7 +111,7 @@ pub record Rewrites (W W′ : World) (p : ℕ) (N : List ℕ) : Type 0 where
   pub kept : Kept (UsedToken W) (UsedCell W) W W′
   pub others : (r : ℕ) → UsedToken W r → (r ≡ p → ⊥) → tokenAt (W′ .tokens) r ≡ tokenAt (W .tokens) r
   pub live : (r : ℕ)
-      → once (isLive (tokenAt (W′ .tokens) r .state)) + once (eqb r p) ≡ once (isLive (tokenAt (W .tokens) r .state)) + count r N
+      → once (isLive (tokenAt (W′ .tokens) r .state)) + once (eqb r p) ≡ once (isLive (tokenAt (W .tokens) r .state)) + occurrences r N
   pub store : (n : ℕ) → W′ .store n ≡ W .store n
   pub new : W .new ≤ W′ .new
 
@@ -123,7 +123,7 @@ module _ {M : Labels} {W : World} {p : ℕ} {L R : List Abstract.Token} (o : Oth
   acting-inside = live-inside (W .tokens) p acting-live
 
   -- who is listed is not at p
-  listed-other : (r : ℕ) → 0 < count r (o .before) + count r (o .behind) → r ≡ p → ⊥
+  listed-other : (r : ℕ) → 0 < occurrences r (o .before) + occurrences r (o .behind) → r ≡ p → ⊥
   listed-other r l e =
       let z = o .each r in
       let y : once (eqb r p) ≡ 1 = ap once (ap (λ i. eqb r i) (sym e) ∙ eqb-same r) in
@@ -131,7 +131,7 @@ module _ {M : Labels} {W : World} {p : ℕ} {L R : List Abstract.Token} (o : Oth
       omega arith
 
   module _ {W′ : World} {N : List ℕ} (c : Rewrites W W′ p N) where
-    still : {A : List ℕ} {S : List Abstract.Token} → ((r : ℕ) → 0 < count r A → r ≡ p → ⊥) → TokensSeen W M A S → TokensSeen W′ M A S
+    still : {A : List ℕ} {S : List Abstract.Token} → ((r : ℕ) → 0 < occurrences r A → r ≡ p → ⊥) → TokensSeen W M A S → TokensSeen W′ M A S
     still ne =
         tokens-map
         (λ r x l v.
@@ -167,9 +167,9 @@ module _ {M : Labels} {W : World} {p : ℕ} {L R : List Abstract.Token} (o : Oth
 -- each live token is in use
 live-used : {M : Labels} {W : World} {p : ℕ} {L R : List Abstract.Token} → Others M W p L R → UsedToken W p
     → (r : ℕ) → isLive (tokenAt (W .tokens) r .state) ≡ true → UsedToken W r
-live-used {W = W} {p = p} o u r e = go (decLt 0 (count r (o .before))) (decLt 0 (count r (o .behind)))
+live-used {W = W} {p = p} o u r e = go (decLt 0 (occurrences r (o .before))) (decLt 0 (occurrences r (o .behind)))
   where
-    go : Dec (0 < count r (o .before)) → Dec (0 < count r (o .behind)) → UsedToken W r
+    go : Dec (0 < occurrences r (o .before)) → Dec (0 < occurrences r (o .behind)) → UsedToken W r
     go (yes l) x = token-used W r (token-at r l (o .lefts) .1)
     go (no n) (yes l) = token-used W r (token-at r l (o .rights) .1)
     go (no n) (no k) =
@@ -198,18 +198,18 @@ module _ {M : Labels} {W : World} {p : ℕ} {L R : List Abstract.Token} (o : Oth
         parents = λ c i. refl;
       }
 
-  one-live : (N : List ℕ) → ((r : ℕ) → (r ≡ p → ⊥) → count r N ≡ 0) → count p N ≡ alive u
-      → (r : ℕ) → alive (tokenAt (set (W .tokens) p u) r) + once (eqb r p) ≡ alive (tokenAt (W .tokens) r) + count r N
+  one-live : (N : List ℕ) → ((r : ℕ) → (r ≡ p → ⊥) → occurrences r N ≡ 0) → occurrences p N ≡ alive u
+      → (r : ℕ) → alive (tokenAt (set (W .tokens) p u) r) + once (eqb r p) ≡ alive (tokenAt (W .tokens) r) + occurrences r N
   one-live N h k r = go (ℕ-discrete r p)
     where
-      go : Dec (r ≡ p) → alive (tokenAt (set (W .tokens) p u) r) + once (eqb r p) ≡ alive (tokenAt (W .tokens) r) + count r N
+      go : Dec (r ≡ p) → alive (tokenAt (set (W .tokens) p u) r) + once (eqb r p) ≡ alive (tokenAt (W .tokens) r) + occurrences r N
       go (yes e) =
           let i : tokenAt (set (W .tokens) p u) r ≡ u = ap (tokenAt (set (W .tokens) p u)) e
           ∙ token-same (W .tokens) p u (acting-inside o) in
           let a : alive (tokenAt (set (W .tokens) p u) r) ≡ alive u = ap alive i in
           let b : alive (tokenAt (W .tokens) r) ≡ 1 = ap (λ i. alive (tokenAt (W .tokens) i)) e ∙ ap once (acting-live o) in
           let c : once (eqb r p) ≡ 1 = ap once (ap (eqb r) (sym e) ∙ eqb-same r) in
-          let f : count r N ≡ alive u = ap (λ i. count i N) e ∙ k in
+          let f : occurrences r N ≡ alive u = ap (λ i. occurrences i N) e ∙ k in
           omega arith
       go (no n) =
           let a : alive (tokenAt (set (W .tokens) p u) r) ≡ alive (tokenAt (W .tokens) r) = ap alive (token-other (W .tokens) p r u n) in
@@ -217,7 +217,7 @@ module _ {M : Labels} {W : World} {p : ℕ} {L R : List Abstract.Token} (o : Oth
           let f = h r n in
           omega arith
 
-  one-rewrites : (N : List ℕ) → ((r : ℕ) → (r ≡ p → ⊥) → count r N ≡ 0) → count p N ≡ alive u → Rewrites W (oneWritten W p u) p N
+  one-rewrites : (N : List ℕ) → ((r : ℕ) → (r ≡ p → ⊥) → occurrences r N ≡ 0) → occurrences p N ≡ alive u → Rewrites W (oneWritten W p u) p N
   one-rewrites N h k =
       record {
         kept = one-kept;
@@ -230,13 +230,13 @@ module _ {M : Labels} {W : World} {p : ℕ} {L R : List Abstract.Token} (o : Oth
 
   -- the token ends
   pub ends-core : isLive (u .state) ≡ false → Core M (oneWritten W p u) (o .before ++ ([] ++ o .behind)) (L ++ ([] ++ R))
-  unfolding count
+  unfolding occurrences
   ends-core e = rewritten o (one-rewrites [] (λ r n. refl) (sym (ap once e))) nobody
 
   -- the token goes on as u
   pub goes-core : {x : Abstract.Token} → Fits (UsedToken W) (UsedCell W) u → TokenSeen W M u x
       → Core M (oneWritten W p u) (o .before ++ ((p ∷ []) ++ o .behind)) (L ++ ((x ∷ []) ++ R))
-  unfolding count
+  unfolding occurrences
   goes-core {x} f v =
       rewritten o
       (one-rewrites (p ∷ []) (λ r n. let z : once (eqb r p) ≡ 0 = ap once (ne-eqb r p n) in omega arith)
@@ -286,16 +286,16 @@ module _ {M : Labels} {W : World} {p : ℕ} {L R : List Abstract.Token} (o : Oth
           parents = parents;
         }
 
-    two-live : (N : List ℕ) → isLive (w .state) ≡ true → ((r : ℕ) → (r ≡ p → ⊥) → count r N ≡ once (eqb r q)) → count p N ≡ alive u
-        → (r : ℕ) → alive (tokenAt (W′ .tokens) r) + once (eqb r p) ≡ alive (tokenAt (W .tokens) r) + count r N
+    two-live : (N : List ℕ) → isLive (w .state) ≡ true → ((r : ℕ) → (r ≡ p → ⊥) → occurrences r N ≡ once (eqb r q)) → occurrences p N ≡ alive u
+        → (r : ℕ) → alive (tokenAt (W′ .tokens) r) + once (eqb r p) ≡ alive (tokenAt (W .tokens) r) + occurrences r N
     two-live N l h k r = go (ℕ-discrete r p) (ℕ-discrete r q)
       where
-        go : Dec (r ≡ p) → Dec (r ≡ q) → alive (tokenAt (W′ .tokens) r) + once (eqb r p) ≡ alive (tokenAt (W .tokens) r) + count r N
+        go : Dec (r ≡ p) → Dec (r ≡ q) → alive (tokenAt (W′ .tokens) r) + once (eqb r p) ≡ alive (tokenAt (W .tokens) r) + occurrences r N
         go (yes e) x =
             let a : alive (tokenAt (W′ .tokens) r) ≡ alive u = ap alive (ap (tokenAt (W′ .tokens)) e ∙ two-first) in
             let b : alive (tokenAt (W .tokens) r) ≡ 1 = ap (λ i. alive (tokenAt (W .tokens) i)) e ∙ ap once (acting-live o) in
             let c : once (eqb r p) ≡ 1 = ap once (ap (eqb r) (sym e) ∙ eqb-same r) in
-            let f : count r N ≡ alive u = ap (λ i. count i N) e ∙ k in
+            let f : occurrences r N ≡ alive u = ap (λ i. occurrences i N) e ∙ k in
             omega arith
         go (no n) (yes e) =
             let a : alive (tokenAt (W′ .tokens) r) ≡ 1 = ap alive (ap (tokenAt (W′ .tokens)) e ∙ two-second) ∙ ap once l in
@@ -311,7 +311,7 @@ module _ {M : Labels} {W : World} {p : ℕ} {L R : List Abstract.Token} (o : Oth
             let f = h r n in
             omega arith
 
-    two-rewrites : (N : List ℕ) → isLive (w .state) ≡ true → ((r : ℕ) → (r ≡ p → ⊥) → count r N ≡ once (eqb r q)) → count p N ≡ alive u
+    two-rewrites : (N : List ℕ) → isLive (w .state) ≡ true → ((r : ℕ) → (r ≡ p → ⊥) → occurrences r N ≡ once (eqb r q)) → occurrences p N ≡ alive u
         → Rewrites W W′ p N
     two-rewrites N l h k =
         record {
@@ -329,7 +329,7 @@ module _ {M : Labels} {W : World} {p : ℕ} {L R : List Abstract.Token} (o : Oth
     -- both go on
     pub both-core : {x y : Abstract.Token} → TokenSeen W′ M u x → TokenSeen W′ M w y
         → Core M W′ (o .before ++ ((p ∷ q ∷ []) ++ o .behind)) (L ++ ((x ∷ y ∷ []) ++ R))
-    unfolding count
+    unfolding occurrences
     both-core {x} {y} a b =
         rewritten o
         (two-rewrites (p ∷ q ∷ []) (token-live b) (λ r n. let c : once (eqb r p) ≡ 0 = ap once (ne-eqb r p n) in omega arith)
@@ -339,7 +339,7 @@ module _ {M : Labels} {W : World} {p : ℕ} {L R : List Abstract.Token} (o : Oth
     -- only the new one goes on
     pub new-core : {y : Abstract.Token} → isLive (u .state) ≡ false → TokenSeen W′ M w y
         → Core M W′ (o .before ++ ((q ∷ []) ++ o .behind)) (L ++ ((y ∷ []) ++ R))
-    unfolding count
+    unfolding occurrences
     new-core {y} l b =
         rewritten o
         (two-rewrites (q ∷ []) (token-live b) (λ r n. omega arith) (let e = apart in let f : alive u ≡ 0 = ap once l in omega arith))

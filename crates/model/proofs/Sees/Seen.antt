@@ -10,7 +10,7 @@ use native.Mathlib.Decide.{decLt}
 use native.Mathlib.Omega.{arith}
 use lib.ListN.{length, getD}
 use lib.Dec.{eqb}
-use Rattle.job.specs.Test.{count, once}
+use Rattle.job.specs.Test.{occurrences, once}
 use Rattle.model.specs.Machine.Blank.{blankToken, blankCell, tokenAt, cellAt, hasValue}
 use Rattle.model.specs.Machine.Active.{isSet, upward, underSet, isActive}
 use Rattle.model.specs.Machine.State.{isLive}
@@ -37,7 +37,7 @@ use Rattle.model.proofs.Sees.View.{TokenSeen, sees, TokensSeen, nobody,
 -- A: the places of the live tokens, in the order of S
 pub record Core (M : Labels) (W : World) (A : List ℕ) (S : List Abstract.Token) : Type 0 where
   pub seen : TokensSeen W M A S
-  pub each : (r : ℕ) → count r A ≡ once (isLive (tokenAt (W .tokens) r .state))
+  pub each : (r : ℕ) → occurrences r A ≡ once (isLive (tokenAt (W .tokens) r .state))
   pub clean : (n : ℕ) → W .new ≤ n → W .store n ≡ none
 
 abbrev pub world : List Token → List Cell → (name place : ℕ → ℕ) → Store → ℕ → World
@@ -127,22 +127,22 @@ module _ (W : World) where
   token-used p v = tokens-of .active p (token-active v)
 
 -- the token at a place of the list
-pub token-at : {M : Labels} {W : World} (p : ℕ) {A : List ℕ} {S : List Abstract.Token} → 0 < count p A → TokensSeen W M A S
+pub token-at : {M : Labels} {W : World} (p : ℕ) {A : List ℕ} {S : List Abstract.Token} → 0 < occurrences p A → TokensSeen W M A S
     → (x : Abstract.Token) × TokenSeen W M (tokenAt (W .tokens) p) x
-unfolding count
+unfolding occurrences
 token-at p l nobody = absurd (omega arith)
 token-at {M} {W} p l (also {p = q} {x = x} {A = B} v r) = go (eqb p q) refl (λ k. token-at p k r)
   where
     Found : Type 0
     Found = (x : Abstract.Token) × TokenSeen W M (tokenAt (W .tokens) p) x
 
-    go : (b : Bool) → eqb p q ≡ b → (0 < count p B → Found) → Found
+    go : (b : Bool) → eqb p q ≡ b → (0 < occurrences p B → Found) → Found
     go true e f = (x, subst (λ i. TokenSeen W M (tokenAt (W .tokens) i) x) (sym (eqb-eq p q e)) v)
-    go false e f = f (let z : 0 < once (eqb p q) + count p B = l in let y : once (eqb p q) ≡ 0 = rw e refl in omega arith)
+    go false e f = f (let z : 0 < once (eqb p q) + occurrences p B = l in let y : once (eqb p q) ≡ 0 = rw e refl in omega arith)
 
 -- each live token is listed
 pub live-listed : {M : Labels} {W : World} {A : List ℕ} {S : List Abstract.Token} (p : ℕ)
-    → Core M W A S → isLive (tokenAt (W .tokens) p .state) ≡ true → 0 < count p A
+    → Core M W A S → isLive (tokenAt (W .tokens) p .state) ≡ true → 0 < occurrences p A
 live-listed {W = W} p K e = let z = K .each p in let y : once (isLive (tokenAt (W .tokens) p .state)) ≡ 1 = ap once e in omega arith
 
 -- what is not in use made blank
@@ -190,12 +190,12 @@ module _ (W : World) where
       subst (λ t. TokenSeen (swept W) M t x) (sym (swept-token p u)) (token-keep swept-kept (used-closed W) (used-fits W p u) (λ c e. e) v)
 
   module _ {M : Labels} {A : List ℕ} {S : List Abstract.Token} (K : Core M W A S) where
-    listed-used : (r : ℕ) → 0 < count r A → UsedToken W r
+    listed-used : (r : ℕ) → 0 < occurrences r A → UsedToken W r
     listed-used r l = token-used W r (token-at r l (K .seen) .1)
 
-    swept-each : (r : ℕ) → count r A ≡ once (isLive (tokenAt (swept W .tokens) r .state))
+    swept-each : (r : ℕ) → occurrences r A ≡ once (isLive (tokenAt (swept W .tokens) r .state))
     unfolding tokenAt isLive
-    swept-each r = go (decLt 0 (count r A)) (kept-cases blankToken (tokenMarks W) (W .tokens) r)
+    swept-each r = go (decLt 0 (occurrences r A)) (kept-cases blankToken (tokenMarks W) (W .tokens) r)
       where
         live : Token → ℕ
         live t = once (isLive (t .state))
@@ -203,10 +203,10 @@ module _ (W : World) where
         now : Token
         now = getD (swept W .tokens) r blankToken
 
-        go : Dec (0 < count r A) → (now ≡ getD (W .tokens) r blankToken) ⊎ (now ≡ blankToken) → count r A ≡ live now
+        go : Dec (0 < occurrences r A) → (now ≡ getD (W .tokens) r blankToken) ⊎ (now ≡ blankToken) → occurrences r A ≡ live now
         go (yes l) x = K .each r ∙ ap live (sym (swept-token r (listed-used r l)))
         go (no n) (inl e) = K .each r ∙ ap live (sym e)
-        go (no n) (inr e) = let z : count r A ≡ 0 = omega arith in z ∙ ap live (sym e)
+        go (no n) (inr e) = let z : occurrences r A ≡ 0 = omega arith in z ∙ ap live (sym e)
 
     -- blanking keeps what is seen
     pub swept-core : Core M (swept W) A S

@@ -8,7 +8,7 @@ use native.Mathlib.Omega.{arith}
 use lib.ListN.{replicate, length-replicate}
 use lib.Dec.{eqb}
 use lib.IntN.{pos}
-use Rattle.job.specs.Test.{count, once}
+use Rattle.job.specs.Test.{occurrences, once}
 use Rattle.job.specs.Node.{Dag, dagHolds}
 use Rattle.model.specs.Machine.Limits.{Limits}
 use Rattle.model.specs.Machine.Blank.{unbound, blankToken, tokenAt}
@@ -67,8 +67,8 @@ module _ (lim : Limits) (d : Dag) (M : Labels) (flow : Flow d M) (some : 0 < lim
       subst (λ t. TokenSeen W M t (running (at (d .goal) [] [] []) (pos 0))) (sym first-place)
       (sees start-place (λ c i. refl) (ready (absent (flow .goal-value))))
 
-  each : (r : ℕ) → count r (0 ∷ []) ≡ once (isLive (tokenAt (m .tokens) r .state))
-  unfolding count isLive
+  each : (r : ℕ) → occurrences r (0 ∷ []) ≡ once (isLive (tokenAt (m .tokens) r .state))
+  unfolding occurrences isLive
   each zero =
       let a : once (eqb 0 0) ≡ 1 = ap once (eqb-same 0) in
       let b : once (isLive (tokenAt (m .tokens) 0 .state)) ≡ 1 = ap (λ (t : Token). once (isLive (t .state))) first-place in

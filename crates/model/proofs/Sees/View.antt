@@ -8,7 +8,7 @@ use Prim.Native.Nat.{ℕ, _<_}
 use native.Mathlib.Omega.{arith}
 use lib.ListN.{length}
 use lib.IntN.{ℤ}
-use Rattle.job.specs.Test.{count}
+use Rattle.job.specs.Test.{occurrences}
 use Rattle.model.specs.Machine.Blank.{tokenAt, cellAt, slotAt}
 use Rattle.model.specs.declared.token.Slot.{Slot}
 use Rattle.model.specs.declared.token.Slot.the-variants as slots
@@ -202,17 +202,17 @@ module _ {M : Labels} {Q R : ℕ → Type 0} {O W : World} (K : Kept Q R O W) (Z
   token-keep h f (sees v u s) = sees (place-keep h v) (λ c m. f c (u c m)) s
 
 -- lists of tokens
-count-here : (p : ℕ) (A : List ℕ) → 0 < count p (p ∷ A)
-unfolding count
+count-here : (p : ℕ) (A : List ℕ) → 0 < occurrences p (p ∷ A)
+unfolding occurrences
 count-here p A = rw (eqb-same p) (omega arith)
 
-count-there : (r p : ℕ) (A : List ℕ) → 0 < count r A → 0 < count r (p ∷ A)
-unfolding count
+count-there : (r p : ℕ) (A : List ℕ) → 0 < occurrences r A → 0 < occurrences r (p ∷ A)
+unfolding occurrences
 count-there r p A l = omega arith
 
 module _ {M : Labels} {O W : World} where
   pub tokens-map : {A : List ℕ} {S : List Abstract.Token}
-      → ((p : ℕ) (x : Abstract.Token) → 0 < count p A → TokenSeen O M (tokenAt (O .tokens) p) x → TokenSeen W M (tokenAt (W .tokens) p) x)
+      → ((p : ℕ) (x : Abstract.Token) → 0 < occurrences p A → TokenSeen O M (tokenAt (O .tokens) p) x → TokenSeen W M (tokenAt (W .tokens) p) x)
       → TokensSeen O M A S → TokensSeen W M A S
   tokens-map h nobody = nobody
   tokens-map h (also {p = p} {x = x} {A = A} v r) = also (h p x (count-here p A) v) (tokens-map (λ q y l. h q y (count-there q p A l)) r)

@@ -9,7 +9,7 @@ use native.Mathlib.Omega.{arith}
 use lib.ListN.{length, set, replicate, length-set, length-replicate}
 use lib.Seq.{getD-set-other}
 use lib.Dec.{eqb}
-use Rattle.job.specs.Test.{_or_, any}
+use Rattle.job.specs.Test.{_or_, forSome}
 use Rattle.model.specs.Machine.Blank.{cellAt}
 use Rattle.model.specs.Machine.Active.{upward, within}
 use Rattle.model.specs.Machine.InUse.{marked}
@@ -22,18 +22,18 @@ use Rattle.simulation.proofs.Store.{_∉_}
 use Rattle.model.proofs.Sees.View.{World, CellSeen, CellsSeen, root, below}
 
 -- names in a list
-pub not-any : (n : ℕ) (U : List ℕ) → any (eqb n) U ≡ false → n ∉ U
+pub not-any : (n : ℕ) (U : List ℕ) → forSome (eqb n) U ≡ false → n ∉ U
 not-any n U e m = clash (member-any m) e
 
-pub any-first : (n : ℕ) (U : List ℕ) → any (eqb n) (n ∷ U) ≡ true
+pub any-first : (n : ℕ) (U : List ℕ) → forSome (eqb n) (n ∷ U) ≡ true
 any-first n U = member-any (List·Memᴰ·head refl)
 
-pub any-rest : (test : ℕ → Bool) (C D : List ℕ) → any test (C ++ D) ≡ false → any test D ≡ false
-unfolding any _or_
+pub any-rest : (test : ℕ → Bool) (C D : List ℕ) → forSome test (C ++ D) ≡ false → forSome test D ≡ false
+unfolding forSome _or_
 any-rest test [] D e = e
 any-rest test (c ∷ C) D e = go (test c) e (λ f. any-rest test C D f)
   where
-    go : (b : Bool) → (b or any test (C ++ D)) ≡ false → (any test (C ++ D) ≡ false → any test D ≡ false) → any test D ≡ false
+    go : (b : Bool) → (b or forSome test (C ++ D)) ≡ false → (forSome test (C ++ D) ≡ false → forSome test D ≡ false) → forSome test D ≡ false
     go true x f = clash refl x
     go false x f = f x
 
@@ -89,8 +89,8 @@ module _ {W : World} where
       go (no e) = ne-eqb c b e ∙ sym (ne-eqb n i (λ f. e (sym (s .place) ∙ (ap (W .place) f ∙ t .place))))
 
   within-up : {c n : ℕ} → CellSeen W c n → (k : ℕ) {q : Place} {U : List ℕ} → length U ≤ k
-      → CellsSeen W q U → upward (λ b j. eqb c b) (W .cells) k q ≡ any (eqb n) U
-  unfolding upward any _or_
+      → CellsSeen W q U → upward (λ b j. eqb c b) (W .cells) k q ≡ forSome (eqb n) U
+  unfolding upward forSome _or_
   within-up s zero l root = refl
   within-up s zero l (below t v) = absurd (omega arith)
   within-up s (suc k) l root = refl
@@ -99,12 +99,12 @@ module _ {W : World} where
       rest : Bool
       rest = upward (λ b j. eqb c b) (W .cells) k (cellAt (W .cells) b .parent)
 
-      go : (x y : Bool) → x ≡ y → rest ≡ any (eqb n) U → elim x as (λ x. Bool) [ true ↦ true | false ↦ rest ] ≡ (y or any (eqb n) U)
+      go : (x y : Bool) → x ≡ y → rest ≡ forSome (eqb n) U → elim x as (λ x. Bool) [ true ↦ true | false ↦ rest ] ≡ (y or forSome (eqb n) U)
       go true true e f = refl
       go true false e f = clash refl e
       go false true e f = clash e refl
       go false false e f = f
 
-  pub within-seen : {c n : ℕ} {q : Place} {U : List ℕ} → CellSeen W c n → CellsSeen W q U → within (W .cells) c q ≡ any (eqb n) U
+  pub within-seen : {c n : ℕ} {q : Place} {U : List ℕ} → CellSeen W c n → CellsSeen W q U → within (W .cells) c q ≡ forSome (eqb n) U
   unfolding within
   within-seen s v = within-up s (length (W .cells)) (chain-short v) v

@@ -4,7 +4,7 @@ use mathlib.Core.List.{List, [], _∷_}
 use Prim.Native.Nat.{ℕ, suc}
 use lib.Dec.{eqb}
 use lib.IntN.{ℤ}
-use Rattle.job.specs.Test.{any}
+use Rattle.job.specs.Test.{forSome}
 use Rattle.job.specs.Node.{Dag}
 use Rattle.model.specs.Machine.Limits.{Limits}
 use Rattle.model.specs.Machine.Blank.{tokenAt}
@@ -24,7 +24,7 @@ use Rattle.model.specs.declared.reply.Outcome.{Outcome}
 -- the place of the token called out under a handle; places are counted from i
 unfoldable pub holder : (handle i : ℕ) → List Token → Place
 holder h i [] = places.Nowhere
-holder h i (t ∷ ts) = elim (any (eqb h) (handleOf (t .state))) [ true ↦ places.At i | false ↦ holder h (suc i) ts ]
+holder h i (t ∷ ts) = elim (forSome (eqb h) (handleOf (t .state))) [ true ↦ places.At i | false ↦ holder h (suc i) ts ]
 
 -- "An answer gives its token the value and makes it ready"; "12: answer to a handle that is not open"
 unfoldable pub answered : Machine → ℤ → Place → Effect

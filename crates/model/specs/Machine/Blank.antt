@@ -5,7 +5,7 @@ use Prim.Native.Nat.{ℕ}
 use lib.ListN.{getD, replicate}
 use lib.Dec.{eqb}
 use Rattle.job.specs.Bounds.{scopeLimit}
-use Rattle.job.specs.Test.{_and_, all}
+use Rattle.job.specs.Test.{_and_, forAll}
 use Rattle.model.specs.Machine.State.{isBlankState}
 use Rattle.model.specs.Machine.Limits.{Limits}
 use Rattle.model.specs.declared.token.Slot.{Slot}
@@ -83,7 +83,7 @@ unfoldable pub tokenIsBlank : Token → Bool
 tokenIsBlank t =
     isBlankState (t .state)
     and eqb (t .node) 0
-    and all (λ (b : Bind). not (isBound (b .slot))) (t .binds)
+    and forAll (λ (b : Bind). not (isBound (b .slot))) (t .binds)
     and not (hasValue (t .value))
     and not (isPlace (t .caller))
     and not (isPlace (t .cell))

@@ -5,7 +5,7 @@ use Prim.Native.Nat.{ℕ, zero, suc}
 use lib.ListN.{length, take, drop}
 use lib.Dec.{ltb, leb, eqb}
 use Rattle.job.specs.Bounds.{scopeLimit}
-use Rattle.job.specs.Test.{_and_, _or_, all, allFrom, count, once, differ}
+use Rattle.job.specs.Test.{_and_, _or_, forAll, allFrom, occurrences, once, differ}
 use Rattle.job.specs.Number.{fits}
 use Rattle.job.specs.Syntax.{Param, variable, constant}
 use Rattle.job.specs.Node.{Node, Dag, nodeAt, isNode, dagHolds}
@@ -53,7 +53,7 @@ unfoldable pub tokenInRange : Limits → Dag → (calls : ℕ) → Token → Boo
 tokenInRange lim d calls t =
     isNode d (t .node)
     and eqb (length (t .binds)) scopeLimit
-    and all (λ (b : Bind). slotInRange (lim .cellPlaces) (b .slot)) (t .binds)
+    and forAll (λ (b : Bind). slotInRange (lim .cellPlaces) (b .slot)) (t .binds)
     and heldInRange (t .value)
     and placeInRange (lim .tokenPlaces) (t .caller)
     and placeInRange (lim .cellPlaces) (t .cell)
@@ -78,9 +78,9 @@ namesOnce of ts array n =
     let order = take n array in
     eqb (length array) (length ts)
     and leb n (length array)
-    and all (λ (p : ℕ). ltb p (length ts)) order
-    and allFrom (λ p (t : Token). eqb (count p order) (once (of (t .state)))) 0 ts
-    and all (eqb 0) (drop n array)
+    and forAll (λ (p : ℕ). ltb p (length ts)) order
+    and allFrom (λ p (t : Token). eqb (occurrences p order) (once (of (t .state)))) 0 ts
+    and forAll (eqb 0) (drop n array)
 
 -- "each parent chain ends": within as many links as there are cells
 unfoldable pub chainEnds : List Cell → ℕ → Place → Bool
@@ -88,7 +88,7 @@ chainEnds cs zero q = not (isPlace q)
 chainEnds cs (suc n) q = elim q [ places.Nowhere ↦ true | places.At c ↦ chainEnds cs n (cellAt cs c .parent) ]
 
 unfoldable pub chainsEnd : List Cell → Bool
-chainsEnd cs = all (λ (c : Cell). chainEnds cs (length cs) (c .parent)) cs
+chainsEnd cs = forAll (λ (c : Cell). chainEnds cs (length cs) (c .parent)) cs
 
 -- "no ready, waiting or called-out token is under a set cell"
 unfoldable pub notUnderSet : List Cell → Token → Bool
@@ -121,8 +121,8 @@ valueIfReady t = not (isReady (t .state)) or hasValue (t .value)
 
 unfoldable pub nodeRule : List Token → Token → Node → Bool
 nodeRule ts t Node.stop = true
-nodeRule ts t (Node.site s ps k) = all (notEmpty (t .binds)) ps
-nodeRule ts t (Node.call e ps k) = all (notEmpty (t .binds)) ps
+nodeRule ts t (Node.site s ps k) = forAll (notEmpty (t .binds)) ps
+nodeRule ts t (Node.call e ps k) = forAll (notEmpty (t .binds)) ps
 nodeRule ts t (Node.fork l r) = true
 nodeRule ts t (Node.assign x k) = valueIfReady t
 nodeRule ts t (Node.remove x k) = valueIfReady t
@@ -148,21 +148,21 @@ machineHolds lim d m =
     let used = tokensUsed m in
     -- "kinds, sites, counts, nodes, slots, tokens and cells named lie in their ranges"
     sizesInRange lim m
-    and all (tokenInRange lim d (m .calls)) (m .tokens)
-    and all (cellInRange lim) (m .cells)
+    and forAll (tokenInRange lim d (m .calls)) (m .tokens)
+    and forAll (cellInRange lim) (m .cells)
     -- "the queue names each ready token once and nothing else"
     and namesOnce isReady (m .tokens) (m .queue) (m .queued)
     -- "each parent chain ends"
     and chainsEnd (m .cells)
     -- "no ready, waiting or called-out token is under a set cell"
-    and all (notUnderSet (m .cells)) (m .tokens)
+    and forAll (notUnderSet (m .cells)) (m .tokens)
     -- "open handles differ and are below the call count" (the second is among the ranges)
     and differ (openHandles (m .tokens))
     -- "the wait order names each waiting token once, at an unset cell"
     and namesOnce isWaiting (m .tokens) (m .waits) (m .waiting)
-    and all (λ (t : Token). waitsAtUnset (m .cells) (t .state)) (m .tokens)
+    and forAll (λ (t : Token). waitsAtUnset (m .cells) (t .state)) (m .tokens)
     -- "a token at return names a frame, at choke a cell, at a call no empty variable; a ready token at assign, remove, .. has a value"
-    and all (atNode d (m .tokens)) (m .tokens)
+    and forAll (atNode d (m .tokens)) (m .tokens)
     -- "what is not in use is blank"
     and restIsBlank tokenIsBlank used (m .tokens)
     and restIsBlank cellIsBlank (usedCells used (m .tokens) (m .cells)) (m .cells)

@@ -6,7 +6,7 @@ use Prim.Native.Nat.{ℕ, suc}
 use lib.ListN.{length, getD, set, drop}
 use lib.Dec.{ltb}
 use lib.IntN.{ℤ, pos}
-use Rattle.job.specs.Test.{filter, without}
+use Rattle.job.specs.Test.{select, without}
 use Rattle.job.specs.Site.{BuiltinReply, gives, silent, isBuiltin, builtin}
 use Rattle.job.specs.Syntax.{Param, variable, constant}
 use Rattle.job.specs.Node.{Node, Dag, nodeAt, bodyAt}
@@ -82,8 +82,8 @@ afterChoke c v m =
     let ts = map (chokeToken (m .cells) c) (m .tokens) in
     let cs = set (m .cells) c (record { parent = cellAt (m .cells) c .parent; value = v }) in
     withOrders
-    (filter (λ (p : ℕ). isReady (tokenAt ts p .state)) (queueOf m ++ waitsOf m))
-    (filter (λ (p : ℕ). isWaiting (tokenAt ts p .state)) (waitsOf m))
+    (select (λ (p : ℕ). isReady (tokenAt ts p .state)) (queueOf m ++ waitsOf m))
+    (select (λ (p : ℕ). isWaiting (tokenAt ts p .state)) (waitsOf m))
     (withTables ts cs m)
 
 -- What each node does. The token t at place p acts; m is the machine with p taken from its queue

@@ -3,7 +3,7 @@ use mathlib.Core.Path.{_≡_, sym, _∙_}
 use Prim.Native.Nat.{_-_, _≤_, _<_}
 use native.Mathlib.Omega.{arith}
 use lib.ListN.{take, getD}
-use Rattle.job.specs.Test.{all}
+use Rattle.job.specs.Test.{forAll}
 use Rattle.job.specs.Node.{Body, bodyHolds}
 use Rattle.job.specs.Words.{dagOf}
 use Rattle.dag_rules.proofs.DagLaws.{bodies-length, body-holds-at}
@@ -14,13 +14,13 @@ use Rattle.dag_rules.proofs.dag.bodies_hold.Statement.{statement}
 use Rattle.dag_rules.proofs.dag.bodies_hold.Tie as tie
 
 abbrev Inv-loop : tie.InvT-loop
-Inv-loop dag nodes bodies ok₀ i₀ ok i = (i ≤ bodies) × (ok ≡ all (bodyHolds (dagOf dag)) (take i (dagOf dag .bodies)))
+Inv-loop dag nodes bodies ok₀ i₀ ok i = (i ≤ bodies) × (ok ≡ forAll (bodyHolds (dagOf dag)) (take i (dagOf dag .bodies)))
 
 abbrev μ-loop : tie.MeasureT-loop
 μ-loop dag nodes bodies ok₀ i₀ ok i = bodies - i
 
 loop-holds : tie.Need-loop-holds Inv-loop μ-loop
-unfolding all
+unfolding forAll
 loop-holds c = search needs
 
 loop-again : tie.Need-loop-again Inv-loop μ-loop
@@ -40,7 +40,7 @@ returns : tie.Need-returns Inv-loop μ-loop
 returns c =
     let place4 = c .before .before .before .before in
     let dag = place4 .args .dag .now in
-    done (all (bodyHolds (dagOf dag))) (dagOf dag .bodies) (c .before .loop .i) (omega (arith, bodies-length dag)) (c .before .loop .inv .1)
+    done (forAll (bodyHolds (dagOf dag))) (dagOf dag .bodies) (c .before .loop .i) (omega (arith, bodies-length dag)) (c .before .loop .inv .1)
 
 pub bodies-hold-spec : {M : Type 1} → statement M
 bodies-hold-spec =

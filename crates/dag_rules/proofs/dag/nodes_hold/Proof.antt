@@ -3,7 +3,7 @@ use mathlib.Core.Path.{_≡_, sym, _∙_, ap}
 use Prim.Native.Nat.{_+_, _-_, _*_, _≤_, _<_}
 use native.Mathlib.Omega.{arith}
 use lib.ListN.{take, getD}
-use Rattle.job.specs.Test.{all}
+use Rattle.job.specs.Test.{forAll}
 use Rattle.job.specs.Node.{Node, nodeHolds}
 use Rattle.job.specs.Words.{dagOf}
 use Rattle.dag_rules.specs.NodeWords.{rowHolds}
@@ -14,13 +14,13 @@ use Rattle.dag_rules.proofs.dag.nodes_hold.Statement.{statement}
 use Rattle.dag_rules.proofs.dag.nodes_hold.Tie as tie
 
 abbrev Inv-loop : tie.InvT-loop
-Inv-loop dag nodes bodies count ok₀ i₀ ok i = (i ≤ count) × (ok ≡ all (nodeHolds (dagOf dag)) (take i (dagOf dag .nodes)))
+Inv-loop dag nodes bodies count ok₀ i₀ ok i = (i ≤ count) × (ok ≡ forAll (nodeHolds (dagOf dag)) (take i (dagOf dag .nodes)))
 
 abbrev μ-loop : tie.MeasureT-loop
 μ-loop dag nodes bodies count ok₀ i₀ ok i = count - i
 
 loop-holds : tie.Need-loop-holds Inv-loop μ-loop
-unfolding all
+unfolding forAll
 loop-holds c = search needs
 
 loop-again : tie.Need-loop-again Inv-loop μ-loop
@@ -41,7 +41,7 @@ returns : tie.Need-returns Inv-loop μ-loop
 returns c =
     let place5 = c .before .before .before .before .before in
     let dag = place5 .args .dag .now in
-    done (all (nodeHolds (dagOf dag))) (dagOf dag .nodes) (c .before .loop .i) (omega (arith, nodes-length dag)) (c .before .loop .inv .1)
+    done (forAll (nodeHolds (dagOf dag))) (dagOf dag .nodes) (c .before .loop .i) (omega (arith, nodes-length dag)) (c .before .loop .inv .1)
 
 pub nodes-hold-spec : {M : Type 1} → statement M
 nodes-hold-spec =

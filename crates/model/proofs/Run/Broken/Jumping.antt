@@ -6,7 +6,7 @@ use mathlib.Core.Bool.{Bool, false, not}
 use mathlib.Core.List.{List, [], _∷_, _++_}
 use Prim.Native.Nat.{ℕ}
 use native.Mathlib.Omega.{arith}
-use Rattle.job.specs.Test.{filter}
+use Rattle.job.specs.Test.{select}
 use Rattle.job.specs.Syntax.{Program}
 use Rattle.job.specs.Encode.{encode}
 use Rattle.job.specs.Node.{Dag}
@@ -19,7 +19,7 @@ use Rattle.model.specs.Machine.Start as Start
 use Rattle.model.specs.Machine.Step as Step
 use Rattle.model.specs.Machine.Update.{queueOf, waitsOf, withOrders}
 use Rattle.model.specs.Machine.Answer as Answer
-use Rattle.job.specs.Notation.{_∣_, _<[_]<_, v, #, let′, goal}
+use Rattle.job.specs.Notation.{_∥_, _<[_]<_, v, #, let′, goal}
 use Rattle.model.specs.Run.Call.{Call, Runner, outcomeOf, machineAfter}
 use Rattle.model.specs.Run.Follow.{fate, stays, survivors, frontEnds, endsToken, cellSet, Stands, House, Followed}
 use Rattle.model.specs.Run.Demand3.{Last}
@@ -34,7 +34,7 @@ unfoldable pub wokenFirst : (before after : Machine) → Machine
 wokenFirst before after =
     let woken : ℕ → Bool = λ p. isWaiting (tokenAt (before .tokens) p .state) in
     withOrders
-    (filter woken (queueOf after) ++ filter (λ (p : ℕ). not (woken p)) (queueOf after))
+    (select woken (queueOf after) ++ select (λ (p : ℕ). not (woken p)) (queueOf after))
     (waitsOf after)
     after
 
@@ -61,7 +61,7 @@ module _ (R : Runner) (lim : Limits) (d : Dag) where
 
 -- (let(x) | let(2)) <x< let(1)
 abbrev pub overtaking : Program
-overtaking = goal ((let′ (v 0) ∣ let′ (# 2)) <[ 0 ]< let′ (# 1))
+overtaking = goal ((let′ (v 0) ∥ let′ (# 2)) <[ 0 ]< let′ (# 1))
 
 -- after five steps the queue has the token at choke, then the one that has the 2; let(x) waits
 abbrev choking : Machine

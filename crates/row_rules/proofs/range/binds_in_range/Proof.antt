@@ -9,7 +9,7 @@ use Rattle.model.specs.declared.token.Bind.{Bind}
 use Rattle.model.specs.declared.record.Machine.{Machine}
 use Rattle.model.specs.Machine.Rules.{slotInRange}
 use Rattle.model.specs.Machine.Blank.{empty, tokenAt, slotAt}
-use Rattle.job.specs.Test.{all}
+use Rattle.job.specs.Test.{forAll}
 use Rattle.job.proofs.Loop.{all-turn, done}
 use Rattle.row_rules.proofs.RangeLaws.{slot-in}
 use Rattle.row_rules.specs.ValuesFit.{ValuesFit}
@@ -19,13 +19,13 @@ use Rattle.row_rules.proofs.range.binds_in_range.Tie as tie
 
 abbrev Inv-loop : tie.InvT-loop
 Inv-loop w p ok₀ x₀ ok x =
-    (x ≤ 8) × ((m : Machine) → ValuesFit w m → ok ≡ all (λ (b : Bind). slotInRange 32 (b .slot)) (take x (tokenAt (m .tokens) p .binds)))
+    (x ≤ 8) × ((m : Machine) → ValuesFit w m → ok ≡ forAll (λ (b : Bind). slotInRange 32 (b .slot)) (take x (tokenAt (m .tokens) p .binds)))
 
 abbrev μ-loop : tie.MeasureT-loop
 μ-loop w p ok₀ x₀ ok x = 8 - x
 
 loop-holds : tie.Need-loop-holds Inv-loop μ-loop
-unfolding all
+unfolding forAll
 loop-holds c = search needs
 
 loop-again : tie.Need-loop-again Inv-loop μ-loop
@@ -48,7 +48,7 @@ returns c =
     let last = c .before .loop in
     let p = c .before .before .args .p in
     λ m h.
-    done (all (λ (b : Bind). slotInRange 32 (b .slot))) (tokenAt (m .tokens) p .binds) (last .x)
+    done (forAll (λ (b : Bind). slotInRange 32 (b .slot))) (tokenAt (m .tokens) p .binds) (last .x)
     (omega (arith, h .codes .shaped .binds p)) (last .inv .1 m h)
 
 pub binds-in-range-spec : {M : Type 1} → statement M

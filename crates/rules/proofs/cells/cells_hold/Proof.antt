@@ -25,7 +25,7 @@ abbrev μ-loop : tie.MeasureT-loop
 μ-loop w used ok₀ i₀ ok i = 32 - i
 
 loop-holds : tie.Need-loop-holds Inv-loop μ-loop
-unfolding Rattle.job.specs.Test.all Rattle.model.specs.Machine.Rules.restIsBlank Rattle.job.specs.Test._and_
+unfolding Rattle.job.specs.Test.forAll Rattle.model.specs.Machine.Rules.restIsBlank Rattle.job.specs.Test._and_
 loop-holds c = (search needs, λ e k l. absurd (omega arith), λ m h l. search needs)
 
 loop-again : tie.Need-loop-again Inv-loop μ-loop

@@ -5,20 +5,20 @@ use Prim.Native.Nat.{ℕ, _-_, _≤_}
 use native.Mathlib.Omega.{arith}
 use lib.Dec.{eqb}
 use lib.ListN.{getD, take}
-use Rattle.job.specs.Test.{all}
+use Rattle.job.specs.Test.{forAll}
 use Rattle.job.proofs.Loop.{all-turn}
 use borrow.Author.Needs.{needs}
 use Rattle.rules.proofs.handles.is_new.Statement.{statement}
 use Rattle.rules.proofs.handles.is_new.Tie as tie
 
 abbrev Inv-loop : tie.InvT-loop
-Inv-loop list i handle ok₀ j₀ ok j = (j ≤ i) × (ok ≡ all (λ (h : ℕ). not (eqb h (getD list i 0))) (take j list))
+Inv-loop list i handle ok₀ j₀ ok j = (j ≤ i) × (ok ≡ forAll (λ (h : ℕ). not (eqb h (getD list i 0))) (take j list))
 
 abbrev μ-loop : tie.MeasureT-loop
 μ-loop list i handle ok₀ j₀ ok j = i - j
 
 loop-holds : tie.Need-loop-holds Inv-loop μ-loop
-unfolding all
+unfolding forAll
 loop-holds c = search needs
 
 loop-again : tie.Need-loop-again Inv-loop μ-loop
@@ -39,7 +39,7 @@ returns c =
     let start = place3 .args in
     let end : c .before .loop .j ≡ start .i = omega arith in
     c .before .loop .inv .1
-    ∙ ap (λ (k : ℕ). all (λ (h : ℕ). not (eqb h (getD (start .list .now) (start .i) 0))) (take k (start .list .now))) end
+    ∙ ap (λ (k : ℕ). forAll (λ (h : ℕ). not (eqb h (getD (start .list .now) (start .i) 0))) (take k (start .list .now))) end
 
 pub is-new-spec : {M : Type 1} → statement M
 is-new-spec =

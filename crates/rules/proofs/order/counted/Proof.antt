@@ -4,7 +4,7 @@ use mathlib.Core.Path.{_≡_, refl, sym, _∙_, ap}
 use Prim.Native.Nat.{ℕ, _-_, _≤_, _<_}
 use native.Mathlib.Omega.{arith}
 use lib.ListN.{length, getD, take, length-set, getD-replicate}
-use Rattle.job.specs.Test.{count}
+use Rattle.job.specs.Test.{occurrences}
 use Rattle.rules.proofs.OrderCounts.{count-few, none-counted, count-turn}
 use Rattle.row_rules.specs.RowRules.{NamesAt}
 use borrow.Author.Needs.{needs}
@@ -13,13 +13,13 @@ use Rattle.rules.proofs.order.counted.Tie as tie
 
 abbrev Inv-loop : tie.InvT-loop
 Inv-loop w at n counts₀ i₀ counts i = (i ≤ n) × (length counts ≡ 64) × ((p : ℕ) → getD counts p 0 ≤ i)
-    × ((names : List ℕ) → NamesAt w at names → (p : ℕ) → p < 64 → getD counts p 0 ≡ count p (take i names))
+    × ((names : List ℕ) → NamesAt w at names → (p : ℕ) → p < 64 → getD counts p 0 ≡ occurrences p (take i names))
 
 abbrev μ-loop : tie.MeasureT-loop
 μ-loop w at n counts₀ i₀ counts i = n - i
 
 loop-holds : tie.Need-loop-holds Inv-loop μ-loop
-unfolding count
+unfolding occurrences
 loop-holds c = (search needs, refl, none-counted, λ names h p l. getD-replicate 64 p 0 0 l)
 
 array-read-c : tie.Need-array-read-c Inv-loop μ-loop
@@ -58,7 +58,7 @@ returns : tie.Need-returns Inv-loop μ-loop
 returns c =
     let last = c .before .loop in
     let end : last .i ≡ c .before .before .args .n = omega arith in
-    λ names h p l. last .inv .3 names h p l ∙ ap (λ (k : ℕ). count p (take k names)) end
+    λ names h p l. last .inv .3 names h p l ∙ ap (λ (k : ℕ). occurrences p (take k names)) end
 
 pub counted-spec : {M : Type 1} → statement M
 counted-spec =
