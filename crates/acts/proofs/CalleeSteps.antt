@@ -28,7 +28,6 @@ use Rattle.model.specs.Machine.Step.{LookUpResult, values, unset, chokeToken, a
 use Rattle.model.specs.declared.cell.Cell.{Cell}
 use Rattle.model.specs.declared.record.Machine.{Machine}
 use Rattle.model.specs.declared.reply.Outcome.{Outcome}
-use Rattle.model.specs.declared.reply.Refusal.the-variants as refusals
 use Rattle.model.specs.declared.token.Held.the-variants as helds
 use Rattle.model.specs.declared.token.Place.{Place}
 use Rattle.model.specs.declared.token.Place.the-variants as places
@@ -94,7 +93,7 @@ module _ (s : List Bool) {ws dag : List ℕ} {used cells : List Bool} {place p a
   site-callees site next (unset c) = unfold After Step.waited withOrders in anew _ (unfold withState in refl)
   site-callees site next (values vs) = go (isBuiltin site)
     where
-      out : (b : Bool) → After (NoNewCallee s m) (unless b refusals.CallLimit (Step.calledOut n p t site vs next))
+      out : (b : Bool) → After (NoNewCallee s m) (unless b 13 (Step.calledOut n p t site vs next))
       out true = unfold unless After Step.calledOut withCounts in anew _ (unfold withNode withState in refl)
       out false = unfold unless After in tt
 
@@ -102,7 +101,7 @@ module _ (s : List Bool) {ws dag : List ℕ} {used cells : List Bool} {place p a
           → After (NoNewCallee s m)
           (elim b [
             | true ↦ Step.replied n p t next (builtin site vs)
-            | false ↦ unless (ltb (n .calls) (paper .calls)) refusals.CallLimit (Step.calledOut n p t site vs next)
+            | false ↦ unless (ltb (n .calls) (paper .calls)) 13 (Step.calledOut n p t site vs next)
           ])
       go true = replied-callees next (builtin site vs)
       go false = out _
@@ -174,7 +173,7 @@ module _ (s : List Bool) (dag : List ℕ) (place p at : ℕ) (m : Machine) where
     where
       go : (b : Bool)
           → After (NoNewCallee (u s m p) m)
-          (unless b refusals.TokenLimit
+          (unless b 10
           (Step.forked (dequeued m place) p (tokenAt (m .tokens) p) (Step.tokenPlace m) (getD dag (at + 1) 0) (getD dag (at + 2) 0)))
       go true =
           unfold unless After Step.forked enqueue withOrders newToken withCounts in
@@ -189,8 +188,8 @@ module _ (s : List Bool) (dag : List ℕ) (place p at : ℕ) (m : Machine) where
     where
       go : (b c : Bool)
           → After (NoNewCallee (u s m p) m)
-          (unless b refusals.TokenLimit
-          (unless c refusals.CellLimit
+          (unless b 10
+          (unless c 11
           (Step.split (dequeued m place) p (tokenAt (m .tokens) p) (Step.tokenPlace m) (Step.cellPlace m) (getD dag (at + 3) 0)
           (getD dag (at + 1) 0) (getD dag (at + 2) 0))))
       go true true =
@@ -252,7 +251,7 @@ module _ (s : List Bool) (dag : List ℕ) (place p at : ℕ) (m : Machine) where
   call-keeps ws used cells a none one = subst (λ (o : Outcome). OneCallee (set s p false) (o .machine)) (sym (step-is a))
       (go (Step.hasTokenPlace paper m))
     where
-      go : (b : Bool) → OneCallee (set s p false) (outcome m (unless b refusals.TokenLimit entering) .machine)
+      go : (b : Bool) → OneCallee (set s p false) (outcome m (unless b 10 entering) .machine)
       go true =
           swept-callees (set s p false) _
           (called s m p none one (dequeued m place) _ _ (withNode (getD dag (at + 2) 0) (withState states.Frame (tokenAt (m .tokens) p)))
@@ -273,7 +272,7 @@ answer-keeps s d m h v one = effect-callees s m _ (tested (rulesHold paper d m))
         put-callees s m m refl p (withState states.Ready (withValue (helds.Value v) (tokenAt (m .tokens) p)))
         (λ f e. unfold withState withValue in e)
 
-    tested : (b : Bool) → After (NoNewCallee s m) (unless b refusals.Rule (Answer.answered m v (holder h 0 (m .tokens))))
+    tested : (b : Bool) → After (NoNewCallee s m) (unless b 14 (Answer.answered m v (holder h 0 (m .tokens))))
     tested true = unfold unless in given _
     tested false = unfold unless After in tt
 

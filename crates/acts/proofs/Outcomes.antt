@@ -12,14 +12,13 @@ use Rattle.job.specs.Words.{dagOf}
 use Rattle.model.specs.Machine.Blank.{blankToken, tokenAt}
 use Rattle.model.specs.Machine.InUse.{tokensUsed, cellsUsed, sweep}
 use Rattle.model.specs.Machine.Limits.{paper}
-use Rattle.model.specs.Machine.Reply.{reportValues, accepted, outcome, unless, refuses}
+use Rattle.model.specs.Machine.Reply.{reportValues, accepted, outcome, unless, refuses, refusalOf}
 use Rattle.model.specs.Machine.Rules.{nodeRule, atNode}
 use Rattle.model.specs.Machine.State.{isReady}
 use Rattle.model.specs.Machine.Step as Step
 use Rattle.model.specs.Machine.Step.{act, takes}
 use Rattle.model.specs.declared.record.Machine.{Machine}
 use Rattle.model.specs.declared.reply.Outcome.{Outcome}
-use Rattle.model.specs.declared.reply.Refusal.{Refusal}
 use Rattle.model.specs.declared.reply.Reply.{Reply}
 use Rattle.model.specs.declared.reply.Reply.the-variants as replies
 use Rattle.model.specs.declared.reply.Report.{Report}
@@ -74,10 +73,10 @@ gives-swept {x} o reply {ws} r e f h =
     }
 
 -- a refused call
-pub gives-refused : {x : Outcome} {ws dag : List ℕ} {used cells : List Bool} {m : Machine} (why : Refusal) (r : Report)
-    → Lawful ws used cells dag m → x ≡ outcome m (refuses why) → r ≡ plain (replies.Refused why) → Gives x m ws used cells r
+pub gives-refused : {x : Outcome} {ws dag : List ℕ} {used cells : List Bool} {m : Machine} (number : ℕ) (r : Report)
+    → Lawful ws used cells dag m → x ≡ outcome m (refuses number) → r ≡ plain (replies.Refused (refusalOf number)) → Gives x m ws used cells r
 unfolding outcome
-gives-refused {x} {ws} why r a e f =
+gives-refused {x} {ws} number r a e f =
     let after : x .machine ≡ _ = ap (λ (y : Outcome). y .machine) e in
     record {
       reply = ap (λ (y : Report). y .reply) f ∙ ap (λ (y : Outcome). y .reply) (sym e);

@@ -19,7 +19,6 @@ use Rattle.model.specs.Machine.Update.{withNode, withState, withValue, withBind
 use Rattle.model.specs.Machine.Step.{act, valueOf}
 use Rattle.model.specs.Machine.Step.{hasTokenPlace, hasCellPlace, callSite, look}
 use Rattle.model.specs.declared.record.Machine.{Machine}
-use Rattle.model.specs.declared.reply.Refusal.the-variants as refusals
 use Rattle.model.specs.declared.reply.Reply.the-variants as replies
 use Rattle.model.specs.declared.token.Place.the-variants as places
 use Rattle.model.specs.declared.token.Slot.the-variants as slots
@@ -155,18 +154,18 @@ module _ (dag : List ℕ) (place p at : ℕ) (m : Machine) where
   fork-step new room e a =
       step-is a
       ∙ ap (λ b. outcome m
-      (unless b refusals.TokenLimit (Step.forked (dequeued m place) p t (nextPlace (tokensUsed m) (m .lasttoken)) (word 1) (word 2))))
+      (unless b 10 (Step.forked (dequeued m place) p t (nextPlace (tokensUsed m) (m .lasttoken)) (word 1) (word 2))))
       room
       ∙ ap (λ q. accepted replies.Done []
       (enqueue q (enqueue p (newToken q (withNode (word 2) t) (put p (withNode (word 1) t) (dequeued m place)))))) (sym e)
 
   pub fork-full : {ws : List ℕ} {used cells : List Bool} → hasTokenPlace paper m ≡ false → Acting ws used cells dag place p at 3 m
-      → Step.step paper (dagOf dag) m place ≡ outcome m (refuses refusals.TokenLimit)
+      → Step.step paper (dagOf dag) m place ≡ outcome m (refuses 10)
   unfolding act outcome unless
   fork-full full a =
       step-is a
       ∙ ap (λ b. outcome m
-      (unless b refusals.TokenLimit (Step.forked (dequeued m place) p t (nextPlace (tokensUsed m) (m .lasttoken)) (word 1) (word 2))))
+      (unless b 10 (Step.forked (dequeued m place) p t (nextPlace (tokensUsed m) (m .lasttoken)) (word 1) (word 2))))
       full
 
   pub call-step : {ws : List ℕ} {used cells : List Bool} → (new : ℕ) → hasTokenPlace paper m ≡ true
@@ -181,7 +180,7 @@ module _ (dag : List ℕ) (place p at : ℕ) (m : Machine) where
       let root = bodyAt (dagOf dag) (word 1) .root in
       step-is a
       ∙ ap (λ b. outcome m
-      (unless b refusals.TokenLimit
+      (unless b 10
       (Step.entered (dequeued m place) p t (nextPlace (tokensUsed m) (m .lasttoken)) root (paramsAt dag at) (word 2)))) room
       ∙ ap
       (λ q.
@@ -190,13 +189,13 @@ module _ (dag : List ℕ) (place p at : ℕ) (m : Machine) where
       (put p (withNode (word 2) (withState states.Frame t)) (dequeued m place))))) (sym e)
 
   pub call-full : {ws : List ℕ} {used cells : List Bool} → hasTokenPlace paper m ≡ false → Acting ws used cells dag place p at 2 m
-      → Step.step paper (dagOf dag) m place ≡ outcome m (refuses refusals.TokenLimit)
+      → Step.step paper (dagOf dag) m place ≡ outcome m (refuses 10)
   unfolding act outcome unless
   call-full full a =
       let root = bodyAt (dagOf dag) (word 1) .root in
       step-is a
       ∙ ap (λ b. outcome m
-      (unless b refusals.TokenLimit
+      (unless b 10
       (Step.entered (dequeued m place) p t (nextPlace (tokensUsed m) (m .lasttoken)) root (paramsAt dag at) (word 2)))) full
 
   abbrev splitting : (new c : ℕ) → Machine
@@ -218,12 +217,12 @@ module _ (dag : List ℕ) (place p at : ℕ) (m : Machine) where
       step-is a
       ∙ ap₂
       (λ b g. outcome m
-      (unless b refusals.TokenLimit (unless g refusals.CellLimit (Step.split (dequeued m place) p t q k (word 3) (word 1) (word 2)))))
+      (unless b 10 (unless g 11 (Step.split (dequeued m place) p t q k (word 3) (word 1) (word 2)))))
       room below
       ∙ ap₂ (λ q k. accepted replies.Done [] (splitting q k)) (sym e) (sym f)
 
   pub where-full : {ws : List ℕ} {used cells : List Bool} → hasTokenPlace paper m ≡ false → Acting ws used cells dag place p at 6 m
-      → Step.step paper (dagOf dag) m place ≡ outcome m (refuses refusals.TokenLimit)
+      → Step.step paper (dagOf dag) m place ≡ outcome m (refuses 10)
   unfolding act outcome unless
   where-full full a =
       let q = nextPlace (tokensUsed m) (m .lasttoken) in
@@ -232,12 +231,12 @@ module _ (dag : List ℕ) (place p at : ℕ) (m : Machine) where
       ∙ ap
       (λ b.
       outcome m
-      (unless b refusals.TokenLimit
-      (unless (hasCellPlace paper m) refusals.CellLimit (Step.split (dequeued m place) p t q k (word 3) (word 1) (word 2))))) full
+      (unless b 10
+      (unless (hasCellPlace paper m) 11 (Step.split (dequeued m place) p t q k (word 3) (word 1) (word 2))))) full
 
   pub where-cells-full : {ws : List ℕ} {used cells : List Bool} → hasTokenPlace paper m ≡ true → hasCellPlace paper m ≡ false
       → Acting ws used cells dag place p at 6 m
-      → Step.step paper (dagOf dag) m place ≡ outcome m (refuses refusals.CellLimit)
+      → Step.step paper (dagOf dag) m place ≡ outcome m (refuses 11)
   unfolding act outcome unless
   where-cells-full room full a =
       let q = nextPlace (tokensUsed m) (m .lasttoken) in
@@ -245,5 +244,5 @@ module _ (dag : List ℕ) (place p at : ℕ) (m : Machine) where
       step-is a
       ∙ ap₂
       (λ b g. outcome m
-      (unless b refusals.TokenLimit (unless g refusals.CellLimit (Step.split (dequeued m place) p t q k (word 3) (word 1) (word 2)))))
+      (unless b 10 (unless g 11 (Step.split (dequeued m place) p t q k (word 3) (word 1) (word 2)))))
       room full

@@ -26,7 +26,6 @@ use Rattle.model.specs.declared.reply.Outcome.{Outcome}
 use Rattle.model.specs.declared.reply.Reply.{Reply}
 use Rattle.model.specs.declared.reply.Report.{Report}
 use Rattle.model.specs.declared.reply.Reply.the-variants as replies
-use Rattle.model.specs.declared.reply.Refusal.the-variants as refusals
 use Rattle.model.specs.declared.token.Held.the-variants as helds
 use Rattle.model.specs.declared.token.State.the-variants as states
 use Rattle.model.specs.declared.token.Token.{Token}
@@ -117,7 +116,7 @@ module _ (dag : List ℕ) (place p from : ℕ) (m : Machine) where
         (elim b [
           | true ↦ Step.replied (dequeued m place) p mine (word 2) (builtin (word 1) (k .values))
           | false ↦
-              unless (ltb (dequeued m place .calls) 1000000) refusals.CallLimit
+              unless (ltb (dequeued m place .calls) 1000000) 13
               (Step.calledOut (dequeued m place) p mine (word 1) (k .values) (word 2))
         ])
 
@@ -139,15 +138,15 @@ module _ (dag : List ℕ) (place p from : ℕ) (m : Machine) where
     calls-out l f =
         at-site
         ∙ ap by-site (le-not-ltb (word 1) 7 l)
-        ∙ ap (λ b. outcome m (unless b refusals.CallLimit (Step.calledOut (dequeued m place) p mine (word 1) (k .values) (word 2))))
+        ∙ ap (λ b. outcome m (unless b 13 (Step.calledOut (dequeued m place) p mine (word 1) (k .values) (word 2))))
         (lt-ltb (m .calls) 1000000 f)
 
-    pub calls-no-more : 7 ≤ word 1 → 1000000 ≤ m .calls → Step.step paper (dagOf dag) m place ≡ outcome m (refuses refusals.CallLimit)
+    pub calls-no-more : 7 ≤ word 1 → 1000000 ≤ m .calls → Step.step paper (dagOf dag) m place ≡ outcome m (refuses 13)
     unfolding by-site isBuiltin unless withOrders
     calls-no-more l f =
         at-site
         ∙ ap by-site (le-not-ltb (word 1) 7 l)
-        ∙ ap (λ b. outcome m (unless b refusals.CallLimit (Step.calledOut (dequeued m place) p mine (word 1) (k .values) (word 2))))
+        ∙ ap (λ b. outcome m (unless b 13 (Step.calledOut (dequeued m place) p mine (word 1) (k .values) (word 2))))
         (le-not-ltb (m .calls) 1000000 f)
 
 -- all values were found

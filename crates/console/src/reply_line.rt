@@ -4,17 +4,11 @@ use crate::print::put;
 use crate::print::value;
 use model::reply::Refusal;
 use model::reply::Reply;
+use model::reply::number_of;
 
 fn refusal(r: Refusal) {
     put(b"refused");
-    match r {
-        Refusal::NoToken => number(9),
-        Refusal::TokenLimit => number(10),
-        Refusal::CellLimit => number(11),
-        Refusal::NotOpen => number(12),
-        Refusal::CallLimit => number(13),
-        Refusal::Rule => number(14),
-    }
+    number(number_of(r) as u64);
 }
 
 // The values beside a reply, where not all are 0.

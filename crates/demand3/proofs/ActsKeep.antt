@@ -33,7 +33,6 @@ use Rattle.model.specs.declared.token.State.the-variants as states
 use Rattle.model.specs.declared.token.Token.{Token}
 use Rattle.model.specs.declared.cell.Cell.{Cell}
 use Rattle.model.specs.declared.record.Machine.{Machine}
-use Rattle.model.specs.declared.reply.Refusal.the-variants as refusals
 use Rattle.job.proofs.Test.{clash, eqb-same, ltb-lt, and-left, and-right}
 use Rattle.job.proofs.DagRules.{body-rules}
 use Rattle.model.proofs.Machine.Refused.{After, after-unless}
@@ -337,7 +336,7 @@ module _ (lim : Limits) (d : Dag) (m : Machine) (F : Facts lim d m) (some : 0 < 
         → Keeps
         (elim b [
           | true ↦ Step.replied at p acting k (builtin s vs)
-          | false ↦ unless (ltb (at .calls) (lim .calls)) refusals.CallLimit (Step.calledOut at p acting s vs k)
+          | false ↦ unless (ltb (at .calls) (lim .calls)) 13 (Step.calledOut at p acting s vs k)
         ])
     unfolding withOrders
     called vs a true = replied k next (builtin-fits s a)

@@ -16,7 +16,6 @@ use Rattle.model.specs.Machine.Answer.{holder, answered, answer}
 use Rattle.model.specs.declared.token.Token.{Token}
 use Rattle.model.specs.declared.record.Machine.{Machine}
 use Rattle.model.specs.declared.reply.Refusal.{Refusal}
-use Rattle.model.specs.declared.reply.Refusal.the-variants as refusals
 use Rattle.model.specs.declared.reply.Outcome.{Outcome}
 use Rattle.job.proofs.Test.{clash, ltb-lt, lt-ltb}
 use Rattle.model.proofs.Machine.Within.{step-within, answer-within}
@@ -34,15 +33,15 @@ same-rules lim t c d m = refl
 same-answer : (lim : Limits) (t c : ℕ) (d : Dag) (m : Machine) (h : ℕ) (v : ℤ) → answer (allowing lim t c) d m h v ≡ answer lim d m h v
 unfolding answer
 same-answer lim t c d m h v =
-    ap (λ b. outcome m (unless b refusals.Rule (answered m v (holder h 0 (m .tokens))))) (same-rules lim t c d m)
+    ap (λ b. outcome m (unless b 14 (answered m v (holder h 0 (m .tokens))))) (same-rules lim t c d m)
 
 -- a call that the test did not refuse is the same under a test that holds as well
-unless-same : (m : Machine) (b b′ : Bool) (r : Refusal) (e e′ : Effect)
+unless-same : (m : Machine) (b b′ : Bool) (n : ℕ) (e e′ : Effect)
     → (b ≡ true → b′ ≡ true) → (isRefused (outcome m e .reply) ≡ false → e′ ≡ e)
-    → isRefused (outcome m (unless b r e) .reply) ≡ false → unless b′ r e′ ≡ unless b r e
+    → isRefused (outcome m (unless b n e) .reply) ≡ false → unless b′ n e′ ≡ unless b n e
 unfolding unless outcome isRefused
-unless-same m true b′ r e e′ f g ok = rw (f refl) (g ok)
-unless-same m false b′ r e e′ f g ok = clash refl ok
+unless-same m true b′ n e e′ f g ok = rw (f refl) (g ok)
+unless-same m false b′ n e e′ f g ok = clash refl ok
 
 module _ (lim : Limits) (t c : ℕ) (d : Dag) (m : Machine)
     (token-too : hasTokenPlace lim m ≡ true → hasTokenPlace (allowing lim t c) m ≡ true)

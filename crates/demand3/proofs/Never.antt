@@ -14,7 +14,7 @@ use Rattle.model.specs.Machine.Limits.{Limits}
 use Rattle.model.specs.Machine.Rules.{rulesHold}
 use Rattle.calculus.specs.Meaning.{meaning}
 use Rattle.model.specs.Run.Call.{Call, runner, outcomeOf, machineAfter, started}
-use Rattle.model.specs.declared.reply.Refusal.the-variants as refusals
+use Rattle.model.specs.Machine.Reply.{refusalOf}
 use Rattle.model.specs.declared.reply.Reply.the-variants as replies
 use Rattle.job.proofs.DagHolds.{construct-holds}
 use Rattle.job.proofs.Accepted.{accepted-well-formed}
@@ -45,6 +45,6 @@ module _ (lim : Limits) (room : Roomy lim) (table : List ℕ) (p : Program) (rea
   -- no call of a run is refused with 14
   pub never-14 : (earlier : List Call) (c : Call)
       → outcomeOf runner lim (construct p) (machineAfter runner lim (construct p) (started runner lim (construct p)) earlier) c .reply
-      ≡ replies.Refused refusals.Rule
+      ≡ replies.Refused (refusalOf 14)
       → ⊥
   never-14 earlier c = not-rule lim d _ (run-rules earlier) c

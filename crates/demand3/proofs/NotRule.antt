@@ -14,7 +14,7 @@ use Rattle.model.specs.Machine.Limits.{Limits}
 use Rattle.model.specs.Machine.Blank.{blankToken, tokenAt, isPlace}
 use Rattle.model.specs.Machine.State.{isBlankState, isReady}
 use Rattle.model.specs.Machine.Rules.{namesFrame, nodeRule, atNode, rulesHold}
-use Rattle.model.specs.Machine.Reply.{Effect, moves, waits, publishes, calls, refuses, unless, accepted, outcome}
+use Rattle.model.specs.Machine.Reply.{Effect, moves, waits, publishes, calls, refuses, unless, accepted, outcome, refusalOf}
 use Rattle.model.specs.Machine.Step as Step
 use Rattle.model.specs.Machine.Step.{LookUpResult, values, unset, act, takes}
 use Rattle.model.specs.Machine.Answer as Answer
@@ -41,12 +41,12 @@ NotRule (moves m) = Unit
 NotRule (waits m) = Unit
 NotRule (publishes v m) = Unit
 NotRule (calls h s vs m) = Unit
-NotRule (refuses r) = r ≡ refusals.Rule → ⊥
+NotRule (refuses n) = refusalOf n ≡ refusals.Rule → ⊥
 
-unless-not : (b : Bool) (r : Refusal) (e : Effect) → (r ≡ refusals.Rule → ⊥) → (b ≡ true → NotRule e) → NotRule (unless b r e)
+unless-not : (b : Bool) (n : ℕ) (e : Effect) → (refusalOf n ≡ refusals.Rule → ⊥) → (b ≡ true → NotRule e) → NotRule (unless b n e)
 unfolding unless NotRule
-unless-not true r e n f = f refl
-unless-not false r e n f = n
+unless-not true n e other f = f refl
+unless-not false n e other f = other
 
 outcome-not : (m : Machine) (e : Effect) → NotRule e → outcome m e .reply ≡ replies.Refused refusals.Rule → ⊥
 unfolding NotRule outcome accepted
@@ -54,7 +54,7 @@ outcome-not m (moves o) n e = let z : _≡_ {A = ℕ} 0 1 = cc in omega arith
 outcome-not m (waits o) n e = let z : _≡_ {A = ℕ} 0 1 = cc in omega arith
 outcome-not m (publishes v o) n e = let z : _≡_ {A = ℕ} 0 1 = cc in omega arith
 outcome-not m (calls h s vs o) n e = let z : _≡_ {A = ℕ} 0 1 = cc in omega arith
-outcome-not m (refuses r) n e = n (let z : r ≡ refusals.Rule = cc in z)
+outcome-not m (refuses k) n e = n (let z : refusalOf k ≡ refusals.Rule = cc in z)
 
 token-limit : refusals.TokenLimit ≡ refusals.Rule → ⊥
 token-limit e = let z : _≡_ {A = ℕ} 0 1 = cc in omega arith
@@ -87,7 +87,7 @@ module _ (lim : Limits) (d : Dag) (before m : Machine) (p : ℕ) (t : Token) whe
           → NotRule
           (elim b [
             | true ↦ Step.replied m p t k (builtin s vs)
-            | false ↦ unless (ltb (m .calls) (lim .calls)) refusals.CallLimit (Step.calledOut m p t s vs k)
+            | false ↦ unless (ltb (m .calls) (lim .calls)) 13 (Step.calledOut m p t s vs k)
           ])
       go true = replied-not k (builtin s vs)
       go false = unless-not _ _ _ call-limit (λ e. tt)
@@ -151,7 +151,7 @@ module _ (lim : Limits) (d : Dag) (m : Machine) (holds : rulesHold lim d m ≡ t
       t : Token
       t = tokenAt (m .tokens) p
 
-  tested : (e : Effect) → NotRule e → NotRule (unless (rulesHold lim d m) refusals.Rule e)
+  tested : (e : Effect) → NotRule e → NotRule (unless (rulesHold lim d m) 14 e)
   unfolding unless
   tested e n = rw (holds, unless) n
 
@@ -165,5 +165,5 @@ module _ (lim : Limits) (d : Dag) (m : Machine) (holds : rulesHold lim d m ≡ t
   unfolding outcomeOf Step.step Answer.answer
   not-rule (step k) =
       outcome-not m _
-      (tested _ (unless-not (ltb k (m .queued)) refusals.NoToken (takes lim d m k) no-token (λ l. takes-not k (ltb-lt k (m .queued) l))))
+      (tested _ (unless-not (ltb k (m .queued)) 9 (takes lim d m k) no-token (λ l. takes-not k (ltb-lt k (m .queued) l))))
   not-rule (answer h v fits) = outcome-not m _ (tested _ (answered-not v (holder h 0 (m .tokens))))

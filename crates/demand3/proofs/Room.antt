@@ -20,7 +20,6 @@ use Rattle.model.specs.declared.token.Place.the-variants as places
 use Rattle.model.specs.declared.token.Token.{Token}
 use Rattle.model.specs.declared.record.Machine.{Machine}
 use Rattle.model.specs.declared.reply.Refusal.{Refusal}
-use Rattle.model.specs.declared.reply.Refusal.the-variants as refusals
 use Rattle.job.proofs.Test.{clash, lt-ltb}
 use Rattle.simulation.proofs.AbstractMachine as Abstract
 use Rattle.simulation.proofs.AbstractMachine.{Binding, Frame}
@@ -36,7 +35,7 @@ pub record Room (lim : Limits) (d : Dag) (m : Machine) : Type 0 where
 abbrev pub Accepted : Machine → Effect → Type 0
 Accepted before e = isRefused (outcome before e .reply) ≡ false
 
-accepted-unless : (before : Machine) (b : Bool) (r : Refusal) (e : Effect) → b ≡ true → Accepted before e → Accepted before (unless b r e)
+accepted-unless : (before : Machine) (b : Bool) (n : ℕ) (e : Effect) → b ≡ true → Accepted before e → Accepted before (unless b n e)
 unfolding unless
 accepted-unless before true r e t a = a
 accepted-unless before false r e t a = clash t refl
@@ -74,11 +73,11 @@ module _ (lim : Limits) (d : Dag) (before m : Machine) (room : Room lim d before
       go : (b : Bool) → Accepted before
           (elim b as (λ b. Effect) [
             | true ↦ replied m p t k (builtin s vs)
-            | false ↦ unless (ltb (m .calls) (lim .calls)) refusals.CallLimit (calledOut m p t s vs k)
+            | false ↦ unless (ltb (m .calls) (lim .calls)) 13 (calledOut m p t s vs k)
           ])
       go true = replied-accepted k (builtin s vs)
       go false =
-          accepted-unless before (ltb (m .calls) (lim .calls)) refusals.CallLimit (calledOut m p t s vs k)
+          accepted-unless before (ltb (m .calls) (lim .calls)) 13 (calledOut m p t s vs k)
           (lt-ltb (m .calls) (lim .calls) (let z : before .calls < lim .calls = room .calls in omega arith)) refl
 
   chokes-accepted : (q : Place) → (c : ℕ) × (q ≡ places.At c) → Accepted before (chokeAt m t q)
@@ -98,12 +97,12 @@ unfolding act goesOn forked split entered outcome accepted isRefused
 act-accepted lim d before m room same A FlowAt.stop = refl
 act-accepted lim d before m room same {W} {p} A (FlowAt.site {s = s} {ps = ps} {k = k} e good f) =
     site-accepted lim d before m room same p (tokenAt (W .tokens) p) s k (look (m .cells) (tokenAt (W .tokens) p .binds) ps)
-act-accepted lim d before m room same A (FlowAt.call x good f enters) = accepted-unless before _ refusals.TokenLimit _ (room .tokens) refl
-act-accepted lim d before m room same A (FlowAt.fork a b f g) = accepted-unless before _ refusals.TokenLimit _ (room .tokens) refl
+act-accepted lim d before m room same A (FlowAt.call x good f enters) = accepted-unless before _ 10 _ (room .tokens) refl
+act-accepted lim d before m room same A (FlowAt.fork a b f g) = accepted-unless before _ 10 _ (room .tokens) refl
 act-accepted lim d before m room same A (FlowAt.assign e l g f) = refl
 act-accepted lim d before m room same A (FlowAt.remove e l x g f) = refl
 act-accepted lim d before m room same A (FlowAt.where' a b i fresh f g) =
-    accepted-unless before _ refusals.TokenLimit _ (room .tokens) (accepted-unless before _ refusals.CellLimit _ (room .cells) refl)
+    accepted-unless before _ 10 _ (room .tokens) (accepted-unless before _ 11 _ (room .cells) refl)
 act-accepted lim d before m room same {W} {p} A (FlowAt.choke e x) =
     chokes-accepted lim d before m room same p (tokenAt (W .tokens) p) (tokenAt (W .tokens) p .cell)
     (some-cell (under-cell x (A .place .nested)) (A .place .cell))

@@ -3,27 +3,13 @@ ghost use mathlib.Core.Path.{_≡_};
 ghost use Prim.Native.Nat.{_+_, _≤_, min};
 ghost use lib.ListN.{take};
 ghost use Rattle.model.specs.Output.Line.{publish, call, refused, textOf};
-ghost use Rattle.model.specs.Machine.Reply.{numberOf};
 ghost use Rattle.lines.specs.Report.{replyText};
 ghost use Rattle.lines.specs.Shown.{ShowsBytes};
 use crate::line;
 use crate::shown::has_room;
 use crate::shown::show_front;
-use model::reply::Refusal;
 use model::reply::Reply;
-
-pub fn number_of(refusal: Refusal) -> u8
-    ensures { λ r. ⌜ r ≡ numberOf refusal ⌝ }
-{
-    match refusal {
-        Refusal::NoToken => 9,
-        Refusal::TokenLimit => 10,
-        Refusal::CellLimit => 11,
-        Refusal::NotOpen => 12,
-        Refusal::CallLimit => 13,
-        Refusal::Rule => 14,
-    }
-}
+use model::reply::number_of;
 
 // (There are four values beside a reply.)
 fn at_most_four(count: u8) -> usize

@@ -12,14 +12,13 @@ use Rattle.model.specs.Machine.Blank.{blankMachine}
 use Rattle.job.specs.Words.{dagOf}
 use Rattle.model.specs.Machine.Answer as Answer
 use Rattle.model.specs.Machine.Limits.{paper}
-use Rattle.model.specs.Machine.Reply.{Effect, outcome, unless, refuses, isRefused, reportValues}
+use Rattle.model.specs.Machine.Reply.{Effect, outcome, unless, refuses, refusalOf, isRefused, reportValues}
 use Rattle.model.specs.Machine.Rules.{rulesHold}
 use Rattle.model.specs.Machine.Start as Start
 use Rattle.model.specs.Machine.Start.{startMachine}
 use Rattle.model.specs.Machine.Step as Step
 use Rattle.model.specs.declared.record.Machine.{Machine}
 use Rattle.model.specs.declared.reply.Outcome.{Outcome}
-use Rattle.model.specs.declared.reply.Refusal.{Refusal}
 use Rattle.model.specs.declared.reply.Refusal.the-variants as refusals
 use Rattle.model.specs.declared.reply.Reply.the-variants as replies
 use Rattle.model.specs.declared.reply.Report.{Report}
@@ -40,8 +39,8 @@ both-tested true false rules f g = clash (f refl) refl
 both-tested false false rules f g = refl
 
 -- a refused call leaves every word
-module _ (ws : List ℕ) (why : Refusal) (r : Report) (e : r ≡ plain (replies.Refused why)) where
-  pub gave-refused : (o : Outcome) (m : Machine) → o ≡ outcome m (refuses why) → HasResult (after ws o) r ws
+module _ (ws : List ℕ) (number : ℕ) (r : Report) (e : r ≡ plain (replies.Refused (refusalOf number))) where
+  pub gave-refused : (o : Outcome) (m : Machine) → o ≡ outcome m (refuses number) → HasResult (after ws o) r ws
   unfolding after outcome isRefused
   gave-refused o m f =
       subst (λ x. HasResult (after ws x) r ws) (sym f)
@@ -50,10 +49,10 @@ module _ (ws : List ℕ) (why : Refusal) (r : Report) (e : r ≡ plain (replies.
 -- 14, for words that are no record's or that break an index rule
 module _ (dag ws : List ℕ) (effect : Effect) where
   abbrev o : Outcome
-  o = outcome (machineOf ws) (unless (rulesHold paper (dagOf dag) (machineOf ws)) refusals.Rule effect)
+  o = outcome (machineOf ws) (unless (rulesHold paper (dagOf dag) (machineOf ws)) 14 effect)
 
   broken : (a b : Bool) → isRecord ws ≡ a → rulesHold paper (dagOf dag) (machineOf ws) ≡ b → (a and b) ≡ false
-      → ofRecord ws o ≡ outcome (machineOf ws) (refuses refusals.Rule)
+      → ofRecord ws o ≡ outcome (machineOf ws) (refuses 14)
   unfolding ofRecord unless _and_
   broken true true e f g = clash refl g
   broken true false e f g = rw (e, f, ofRecord, unless)
@@ -61,7 +60,7 @@ module _ (dag ws : List ℕ) (effect : Effect) where
 
   pub gave-rule : (b : Bool) (r : Report) → b ≡ (isRecord ws and rulesHold paper (dagOf dag) (machineOf ws)) → b ≡ false
       → r ≡ plain (replies.Refused refusals.Rule) → HasResult (after ws (ofRecord ws o)) r ws
-  gave-rule b r e f g = gave-refused ws refusals.Rule r g (ofRecord ws o) (machineOf ws) (broken _ _ refl refl (sym e ∙ f))
+  gave-rule b r e f g = gave-refused ws 14 r g (ofRecord ws o) (machineOf ws) (broken _ _ refl refl (sym e ∙ f))
 
 -- a call on a lawful record
 module _ {ws dag : List ℕ} {used cells : List Bool} (a : Lawful ws used cells dag (machineOf ws)) where
@@ -75,7 +74,7 @@ module _ {ws dag : List ℕ} {used cells : List Bool} (a : Lawful ws used cells 
   unfolding after ofRecord
   gave-gives effect {xs} r g =
       let x = outcome (machineOf ws) effect in
-      subst (λ b. HasResult (after ws (elim b as (λ _. Outcome) [ true ↦ x | false ↦ outcome (machineOf ws) (refuses refusals.Rule) ])) r
+      subst (λ b. HasResult (after ws (elim b as (λ _. Outcome) [ true ↦ x | false ↦ outcome (machineOf ws) (refuses 14) ])) r
       xs) (sym is-record)
       (record { reply = g .reply; values = g .values; words = g .holds .codes .words ∙ words-after (isRefused (x .reply)) refl })
     where
@@ -118,7 +117,7 @@ module _ (dag ws : List ℕ) where
     unfolding stepOn Step.step unless
     step-no-token place r l e =
         step-gives place r
-        (gives-refused refusals.NoToken r a (rw (a .rules, le-not-ltb place (machineOf ws .queued) l, unless)) e)
+        (gives-refused 9 r a (rw (a .rules, le-not-ltb place (machineOf ws .queued) l, unless)) e)
 
 -- the start
 begun : (d : Dag) → true ≡ dagHolds d

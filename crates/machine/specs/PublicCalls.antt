@@ -12,7 +12,6 @@ use Rattle.model.specs.Machine.Reply.{outcome, refuses, isRefused}
 use Rattle.model.specs.Machine.Start as Start
 use Rattle.model.specs.Machine.Step as Step
 use Rattle.model.specs.declared.reply.Outcome.{Outcome}
-use Rattle.model.specs.declared.reply.Refusal.the-variants as refusals
 use Rattle.model.specs.declared.reply.Reply.{Reply}
 use Rattle.model.specs.declared.reply.Report.{Report}
 use Rattle.record.specs.LayoutDecoded.{machineOf}
@@ -32,7 +31,7 @@ after ws o =
 
 -- words that are no record's break the index rules: 14
 unfoldable pub ofRecord : List ℕ → Outcome → Outcome
-ofRecord ws o = elim (isRecord ws) [ true ↦ o | false ↦ outcome (machineOf ws) (refuses refusals.Rule) ]
+ofRecord ws o = elim (isRecord ws) [ true ↦ o | false ↦ outcome (machineOf ws) (refuses 14) ]
 
 -- "The start tests 14"
 unfoldable pub startOn : (dag ws : List ℕ) → Result

@@ -6,6 +6,7 @@ pub mod InUse
 pub mod Blanking
 pub mod Places
 pub mod Refused
+pub mod RefusalNumbers
 pub mod Rules
 pub mod Inside
 pub mod WrittenTokens

@@ -1,7 +1,9 @@
 // What start, step and answer hand back.
+ghost use mathlib.Core.Path.{_≡_};
+ghost use Rattle.model.specs.Machine.Reply.{numberOf};
 use crate::record::Machine;
 
-// Why a call was declined. specs/Machine/Reply.antt gives each its number in document 01.
+// Why a call was declined.
 pub enum Refusal {
     NoToken,
     TokenLimit,
@@ -9,6 +11,20 @@ pub enum Refusal {
     NotOpen,
     CallLimit,
     Rule,
+}
+
+// Document 01's number.
+pub fn number_of(refusal: Refusal) -> u8
+    ensures { λ r. ⌜ r ≡ numberOf refusal ⌝ }
+{
+    match refusal {
+        Refusal::NoToken => 9,
+        Refusal::TokenLimit => 10,
+        Refusal::CellLimit => 11,
+        Refusal::NotOpen => 12,
+        Refusal::CallLimit => 13,
+        Refusal::Rule => 14,
+    }
 }
 
 // What a call did. `Called` has the handle, the site and the number of parameter values.

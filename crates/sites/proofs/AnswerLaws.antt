@@ -27,7 +27,6 @@ use Rattle.model.specs.declared.token.State.{State}
 use Rattle.model.specs.declared.token.State.the-variants as states
 use Rattle.model.specs.declared.token.Token.{Token}
 use Rattle.model.specs.declared.record.Machine.{Machine}
-use Rattle.model.specs.declared.reply.Refusal.the-variants as refusals
 use Rattle.job.proofs.Test.{clash, lt-ltb, le-not-ltb}
 use Rattle.model.proofs.Machine.Within.{holder-holds}
 use Rattle.record.specs.Holds.{Codes, Holds}
@@ -131,7 +130,7 @@ unfolding answered answeredBy isPlace
 answered-moves m v places.Nowhere e = clash e refl
 answered-moves m v (places.At p) e = refl
 
-pub answered-refuses : (m : Machine) (v : ℤ) (q : Place) → isPlace q ≡ false → answered m v q ≡ refuses refusals.NotOpen
+pub answered-refuses : (m : Machine) (v : ℤ) (q : Place) → isPlace q ≡ false → answered m v q ≡ refuses 12
 unfolding answered isPlace
 answered-refuses m v places.Nowhere e = refl
 answered-refuses m v (places.At p) e = clash refl e

@@ -100,7 +100,7 @@ module _ (dag : List ℕ) (place p at : ℕ) (m : Machine) where
     pub fork-refused : (r : Report) → 64 ≤ new → r ≡ plain (replies.Refused refusals.TokenLimit)
         → Gives (Step.step paper (dagOf dag) m place) m ws used cells r
     fork-refused r l e =
-        gives-refused refusals.TokenLimit r (a .taking .lawful) (fork-full dag place p at m (token-full (a .taking .lawful) next given l) a)
+        gives-refused 10 r (a .taking .lawful) (fork-full dag place p at m (token-full (a .taking .lawful) next given l) a)
         e
 
   module _ {ws : List ℕ} {used cells : List Bool} (a : Acting ws used cells dag place p at 2 m) {new last : ℕ}
@@ -131,7 +131,7 @@ module _ (dag : List ℕ) (place p at : ℕ) (m : Machine) where
     pub call-refused : (r : Report) → 64 ≤ new → r ≡ plain (replies.Refused refusals.TokenLimit)
         → Gives (Step.step paper (dagOf dag) m place) m ws used cells r
     call-refused r l e =
-        gives-refused refusals.TokenLimit r (a .taking .lawful) (call-full dag place p at m (token-full (a .taking .lawful) next given l) a)
+        gives-refused 10 r (a .taking .lawful) (call-full dag place p at m (token-full (a .taking .lawful) next given l) a)
         e
 
   module _ {ws : List ℕ} {used cells : List Bool} (a : Acting ws used cells dag place p at 6 m) {new last : ℕ}
@@ -139,7 +139,7 @@ module _ (dag : List ℕ) (place p at : ℕ) (m : Machine) where
     pub where-refused : (r : Report) → 64 ≤ new → r ≡ plain (replies.Refused refusals.TokenLimit)
         → Gives (Step.step paper (dagOf dag) m place) m ws used cells r
     where-refused r l e =
-        gives-refused refusals.TokenLimit r (a .taking .lawful)
+        gives-refused 10 r (a .taking .lawful)
         (where-full dag place p at m (token-full (a .taking .lawful) next given l) a) e
 
     module _ {c lastc : ℕ} (nextc : c ≡ nextOr 32 cells lastc) (givenc : lastc ≡ m .lastcell) where
@@ -147,7 +147,7 @@ module _ (dag : List ℕ) (place p at : ℕ) (m : Machine) where
           → Gives (Step.step paper (dagOf dag) m place) m ws used cells r
       where-refused-cell r l n e =
           let y = token-room (a .taking .lawful) next given l in
-          gives-refused refusals.CellLimit r (a .taking .lawful)
+          gives-refused 11 r (a .taking .lawful)
           (where-cells-full dag place p at m (y .0) (cell-full (a .taking .lawful) nextc givenc n) a) e
 
       abbrev splits : (x left right : ℕ) → Machine

@@ -23,7 +23,6 @@ use Rattle.model.specs.Machine.Update.{queueOf, waitsOf}
 use Rattle.model.specs.declared.record.Machine.{Machine}
 use Rattle.model.specs.declared.reply.Outcome.{Outcome}
 use Rattle.model.specs.declared.reply.Report.{Report}
-use Rattle.model.specs.declared.reply.Refusal.the-variants as refusals
 use Rattle.model.specs.declared.reply.Reply.the-variants as replies
 use Rattle.model.specs.declared.token.Place.{Place}
 use Rattle.model.specs.declared.token.Place.the-variants as places
@@ -72,7 +71,7 @@ module _ {ws dag : List ℕ} {used cells : List Bool} {m : Machine} (a : Lawful 
   unfolding isPlace
   answer-unknown l =
       let none = ap isPlace (unknown-handle (dagOf dag) m handle (a .rules) l) in
-      gives-refused refusals.NotOpen _ a (tested ∙ ap (outcome m) (answered-refuses m v _ none)) refl
+      gives-refused 12 _ a (tested ∙ ap (outcome m) (answered-refuses m v _ none)) refl
 
 -- an answer
 module _ {ws after dag : List ℕ} {used cells : List Bool} {m : Machine} (a : Lawful ws used cells dag m) (handle : ℕ) (v : ℤ) (b : Bool)
@@ -97,7 +96,7 @@ module _ {ws after dag : List ℕ} {used cells : List Bool} {m : Machine} (a : L
       go false e =
           let none = sym (k .says m (a .holds) blank) ∙ e in
           subst (λ x. Gives (Answer.answer paper (dagOf dag) m handle v) m x used cells (answerReport false)) (sym (k .stays e))
-          (gives-refused refusals.NotOpen _ a (tested a handle v ∙ ap (outcome m) (answered-refuses m v _ none)) refl)
+          (gives-refused 12 _ a (tested a handle v ∙ ap (outcome m) (answered-refuses m v _ none)) refl)
 
 -- its report, by whether the handle was open
 pub reported : {o : Outcome} {m : Machine} {ws : List ℕ} {used cells : List Bool} (x : Bool) {b : Bool} {r : Report}

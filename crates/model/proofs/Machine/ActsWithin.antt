@@ -22,7 +22,6 @@ use Rattle.model.specs.declared.token.Place.the-variants as places
 use Rattle.model.specs.declared.token.State.the-variants as states
 use Rattle.model.specs.declared.token.Token.{Token}
 use Rattle.model.specs.declared.record.Machine.{Machine}
-use Rattle.model.specs.declared.reply.Refusal.the-variants as refusals
 use Rattle.model.proofs.Machine.Reach.{Names}
 use Rattle.model.proofs.Machine.Refused.{After, after-unless}
 use Rattle.model.proofs.Machine.Rules.{EachRuleHolds}
@@ -102,7 +101,7 @@ module _
             → WithinAfter
             (elim b [
               | true ↦ Step.replied at p acting next (builtin s vs)
-              | false ↦ unless (ltb (at .calls) (lim .calls)) refusals.CallLimit (Step.calledOut at p acting s vs next)
+              | false ↦ unless (ltb (at .calls) (lim .calls)) 13 (Step.calledOut at p acting s vs next)
             ])
         go true = replied next (builtin s vs)
         go false = after-unless _ _ _ _ (λ e. calledOut s vs next)

@@ -40,12 +40,12 @@ outcome-refused m (publishes v o) h = clash h refl
 outcome-refused m (calls n s vs o) h = clash h refl
 outcome-refused m (refuses r) h = refl
 
-unless-accepted : (m : Machine) (b : Bool) (r : Refusal) (e : Effect) → isRefused (outcome m (unless b r e) .reply) ≡ false → b ≡ true
+unless-accepted : (m : Machine) (b : Bool) (n : ℕ) (e : Effect) → isRefused (outcome m (unless b n e) .reply) ≡ false → b ≡ true
 unfolding unless outcome isRefused
 unless-accepted m true r e h = refl
 unless-accepted m false r e h = clash refl h
 
-unless-true : (b : Bool) (r : Refusal) (e : Effect) → b ≡ true → unless b r e ≡ e
+unless-true : (b : Bool) (n : ℕ) (e : Effect) → b ≡ true → unless b n e ≡ e
 unfolding unless
 unless-true true r e h = refl
 unless-true false r e h = clash h refl
@@ -58,7 +58,7 @@ After P (publishes v o) = P o
 After P (calls n s vs o) = P o
 After P (refuses r) = Unit
 
-pub after-unless : (P : Machine → Type 0) (b : Bool) (r : Refusal) (e : Effect) → (b ≡ true → After P e) → After P (unless b r e)
+pub after-unless : (P : Machine → Type 0) (b : Bool) (n : ℕ) (e : Effect) → (b ≡ true → After P e) → After P (unless b n e)
 unfolding After unless
 after-unless P true r e h = h refl
 after-unless P false r e h = tt
@@ -138,21 +138,21 @@ unfolding step
 step-accepted lim d m place a = record { holds = k; queued = ltb-lt place (m .queued) q; does = ap (outcome m) (tested ∙ there) }
   where
     inner : Effect
-    inner = unless (ltb place (m .queued)) refusals.NoToken (takes lim d m place)
+    inner = unless (ltb place (m .queued)) 9 (takes lim d m place)
 
     k : rulesHold lim d m ≡ true
-    k = unless-accepted m (rulesHold lim d m) refusals.Rule inner a
+    k = unless-accepted m (rulesHold lim d m) 14 inner a
 
-    tested : unless (rulesHold lim d m) refusals.Rule inner ≡ inner
-    tested = unless-true (rulesHold lim d m) refusals.Rule inner k
+    tested : unless (rulesHold lim d m) 14 inner ≡ inner
+    tested = unless-true (rulesHold lim d m) 14 inner k
 
     q : ltb place (m .queued) ≡ true
     q =
-        unless-accepted m (ltb place (m .queued)) refusals.NoToken (takes lim d m place)
+        unless-accepted m (ltb place (m .queued)) 9 (takes lim d m place)
         (subst (λ e. isRefused (outcome m e .reply) ≡ false) tested a)
 
     there : inner ≡ takes lim d m place
-    there = unless-true (ltb place (m .queued)) refusals.NoToken (takes lim d m place) q
+    there = unless-true (ltb place (m .queued)) 9 (takes lim d m place) q
 
 -- "An answer tests 14, 12"
 pub record AnswerAccepted (lim : Limits) (d : Dag) (m : Machine) (handle : ℕ) (value : ℤ) : Type 0 where
@@ -164,10 +164,10 @@ pub answer-accepted :
     → isRefused (answer lim d m handle value .reply) ≡ false
     → AnswerAccepted lim d m handle value
 unfolding answer
-answer-accepted lim d m h v a = record { holds = k; does = ap (outcome m) (unless-true (rulesHold lim d m) refusals.Rule inner k) }
+answer-accepted lim d m h v a = record { holds = k; does = ap (outcome m) (unless-true (rulesHold lim d m) 14 inner k) }
   where
     inner : Effect
     inner = answered m v (holder h 0 (m .tokens))
 
     k : rulesHold lim d m ≡ true
-    k = unless-accepted m (rulesHold lim d m) refusals.Rule inner a
+    k = unless-accepted m (rulesHold lim d m) 14 inner a

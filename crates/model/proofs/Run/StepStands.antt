@@ -33,7 +33,6 @@ use Rattle.model.specs.declared.token.Place.the-variants as places
 use Rattle.model.specs.declared.token.Token.{Token}
 use Rattle.model.specs.declared.cell.Cell.{Cell}
 use Rattle.model.specs.declared.record.Machine.{Machine}
-use Rattle.model.specs.declared.reply.Refusal.the-variants as refusals
 use Rattle.model.specs.declared.reply.Outcome.{Outcome}
 use Rattle.job.proofs.Test.{clash, ltb-lt, not-false}
 use Rattle.model.proofs.Machine.InUse.{tokens-used}
@@ -171,11 +170,11 @@ module _ (lim : Limits) (d : Dag) (m : Machine) (h : QueueRulesHold m) (k : ℕ)
           → Leaves
           (elim b as (λ b. Effect) [
             | true ↦ replied taken front actor next (builtin s vs)
-            | false ↦ unless (ltb (taken .calls) (lim .calls)) refusals.CallLimit (calledOut taken front actor s vs next)
+            | false ↦ unless (ltb (taken .calls) (lim .calls)) 13 (calledOut taken front actor s vs next)
           ])
       go true = after-replied next (builtin s vs)
       go false =
-          after-unless (Untouched watched place k) (ltb (taken .calls) (lim .calls)) refusals.CallLimit
+          after-unless (Untouched watched place k) (ltb (taken .calls) (lim .calls)) 13
           (calledOut taken front actor s vs next)
           (λ e. after-called s vs next)
 

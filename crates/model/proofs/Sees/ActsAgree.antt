@@ -21,7 +21,6 @@ use Rattle.model.specs.declared.token.State.{State}
 use Rattle.model.specs.declared.token.State.the-variants as states
 use Rattle.model.specs.declared.token.Token.{Token}
 use Rattle.model.specs.declared.record.Machine.{Machine}
-use Rattle.model.specs.declared.reply.Refusal.the-variants as refusals
 use Rattle.model.proofs.Machine.Marks.{Free}
 use Rattle.simulation.proofs.AbstractMachine as Abstract
 use Rattle.simulation.proofs.AbstractMachine.{Binding, Frame, at, running, Store, actsAt}
@@ -90,18 +89,18 @@ module _ (lim : Limits) (d : Dag) (M : Labels) (bodies : ℕ → Exp) (before : 
   act-agrees FlowAt.stop = stop-agrees d M bodies m A
   act-agrees (FlowAt.site {s = s} e good f) = site-agrees d M bodies m A lim s f e good
   act-agrees (FlowAt.call {e = e} {ps = ps} {k = k} x good f enters) =
-      shows-unless _ (hasTokenPlace lim before) refusals.TokenLimit (entered m p t q (bodyAt d e .root) ps k)
+      shows-unless _ (hasTokenPlace lim before) 10 (entered m p t q (bodyAt d e .root) ps k)
       (λ ok. call-agrees d M bodies m A q (token ok) good f enters)
   act-agrees (FlowAt.fork {l = l} {r = r} a b f g) =
-      shows-unless _ (hasTokenPlace lim before) refusals.TokenLimit (forked m p t q l r)
+      shows-unless _ (hasTokenPlace lim before) 10 (forked m p t q l r)
       (λ ok. fork-agrees d M bodies m A q (token ok) a b f g)
   act-agrees (FlowAt.assign e l g f) = assign-agrees d M bodies m A e l g f
   act-agrees (FlowAt.remove e l x g f) = remove-agrees d M bodies m A e l x g f
   act-agrees (FlowAt.where' {x = x} {l = l} {r = r} a b i fresh f g) =
-      shows-unless _ (hasTokenPlace lim before) refusals.TokenLimit
-      (unless (hasCellPlace lim before) refusals.CellLimit (split m p t q c x l r))
+      shows-unless _ (hasTokenPlace lim before) 10
+      (unless (hasCellPlace lim before) 11 (split m p t q c x l r))
       (λ ok.
-      shows-unless _ (hasCellPlace lim before) refusals.CellLimit (split m p t q c x l r)
+      shows-unless _ (hasCellPlace lim before) 11 (split m p t q c x l r)
       (λ too. where-agrees d M bodies m A q (token ok) c (cell too) a b i fresh f g))
   act-agrees (FlowAt.choke e x) = choke-agrees d M bodies m A e
   act-agrees (FlowAt.return e z x) = return-agrees d M bodies m A e z

@@ -58,7 +58,7 @@ Shows P (publishes v m) = P (showing (Event.publish v)) m
 Shows P (calls h s vs m) = P (showing (Event.call h s vs)) m
 Shows P (refuses r) = Unit
 
-pub shows-unless : (P : Label → Machine → Type 0) (b : Bool) (r : Refusal) (e : Effect) → (b ≡ true → Shows P e) → Shows P (unless b r e)
+pub shows-unless : (P : Label → Machine → Type 0) (b : Bool) (n : ℕ) (e : Effect) → (b ≡ true → Shows P e) → Shows P (unless b n e)
 unfolding Shows unless
 shows-unless P true r e f = f refl
 shows-unless P false r e f = tt

@@ -30,7 +30,6 @@ use Rattle.model.specs.declared.token.Place.the-variants as places
 use Rattle.model.specs.declared.token.State.the-variants as states
 use Rattle.model.specs.declared.token.Token.{Token}
 use Rattle.model.specs.declared.record.Machine.{Machine}
-use Rattle.model.specs.declared.reply.Refusal.the-variants as refusals
 use Rattle.simulation.proofs.AbstractMachine as Abstract
 use Rattle.simulation.proofs.AbstractMachine.{Binding, Frame, at, running, Store, actsAt}
 use Rattle.simulation.proofs.Store.{_∈_}
@@ -151,11 +150,11 @@ module _ (d : Dag) (M : Labels) (bodies : ℕ → Exp) (m : Machine) {name place
         go : (b : Bool) → Agrees M W L R (m .calls)
             (elim b [
               | true ↦ replied m p t k (builtin s vs)
-              | false ↦ unless (ltb (m .calls) (lim .calls)) refusals.CallLimit (calledOut m p t s vs k)
+              | false ↦ unless (ltb (m .calls) (lim .calls)) 13 (calledOut m p t s vs k)
             ])
             (Abstract.callsSite (m .calls) s vs b (at k B F U))
         go true = replied-agrees (builtin s vs)
-        go false = shows-unless _ (ltb (m .calls) (lim .calls)) refusals.CallLimit (calledOut m p t s vs k) (λ i. called-agrees vs)
+        go false = shows-unless _ (ltb (m .calls) (lim .calls)) 13 (calledOut m p t s vs k) (λ i. called-agrees vs)
 
     pub site-agrees : {ps : List Param} → M .value n ≡ false → All (GoodParam (M .scope n)) ps
         → Agrees M W L R (m .calls) (callSite lim m p t s k (look (m .cells) (t .binds) ps)) (does (Node.site s ps k))

@@ -18,7 +18,6 @@ use Rattle.model.specs.declared.token.Place.the-variants as places
 use Rattle.model.specs.declared.token.State.the-variants as states
 use Rattle.model.specs.declared.token.Token.{Token}
 use Rattle.model.specs.declared.record.Machine.{Machine}
-use Rattle.model.specs.declared.reply.Refusal.the-variants as refusals
 use Rattle.model.specs.declared.reply.Outcome.{Outcome}
 
 -- the place of the token called out under a handle; places are counted from i
@@ -28,10 +27,10 @@ holder h i (t ∷ ts) = elim (forSome (eqb h) (handleOf (t .state))) [ true ↦ 
 
 -- "An answer gives its token the value and makes it ready"; "12: answer to a handle that is not open"
 unfoldable pub answered : Machine → ℤ → Place → Effect
-answered m v places.Nowhere = refuses refusals.NotOpen
+answered m v places.Nowhere = refuses 12
 answered m v (places.At p) =
     moves (enqueue p (put p (withState states.Ready (withValue (helds.Value v) (tokenAt (m .tokens) p))) m))
 
 -- "An answer tests 14, 12"
 unfoldable pub answer : Limits → Dag → Machine → (handle : ℕ) → (value : ℤ) → Outcome
-answer lim d m h v = outcome m (unless (rulesHold lim d m) refusals.Rule (answered m v (holder h 0 (m .tokens))))
+answer lim d m h v = outcome m (unless (rulesHold lim d m) 14 (answered m v (holder h 0 (m .tokens))))

@@ -30,7 +30,6 @@ use Rattle.model.specs.declared.token.State.the-variants as states
 use Rattle.model.specs.declared.token.Token.{Token}
 use Rattle.model.specs.declared.cell.Cell.{Cell}
 use Rattle.model.specs.declared.record.Machine.{Machine}
-use Rattle.model.specs.declared.reply.Refusal.the-variants as refusals
 use Rattle.model.specs.declared.reply.Outcome.{Outcome}
 
 -- "parameters in order": all their values, or the first unset cell
@@ -143,12 +142,12 @@ module _ (m : Machine) (p : ℕ) (t : Token) where
 
   -- "return: the place takes a copy of the frame with the value". (The test for 14 leaves no token without a frame.)
   unfoldable pub returned : Place → Effect
-  returned places.Nowhere = refuses refusals.Rule
+  returned places.Nowhere = refuses 14
   returned (places.At f) = goesOn m p (withState states.Ready (withValue (t .value) (tokenAt (m .tokens) f)))
 
 -- "choke: set the cell; .." (The test for 14 leaves no token without a cell.)
 unfoldable pub chokeAt : Machine → Token → Place → Effect
-chokeAt m t places.Nowhere = refuses refusals.Rule
+chokeAt m t places.Nowhere = refuses 14
 chokeAt m t (places.At c) = moves (afterChoke c (t .value) m)
 
 abbrev pub tokenPlace : Machine → ℕ
@@ -164,7 +163,7 @@ module _ (lim : Limits) where
   callSite m p t s k (values vs) =
       elim (isBuiltin s) [
         | true ↦ replied m p t k (builtin s vs)
-        | false ↦ unless (ltb (m .calls) (lim .calls)) refusals.CallLimit (calledOut m p t s vs k)
+        | false ↦ unless (ltb (m .calls) (lim .calls)) 13 (calledOut m p t s vs k)
       ]
 
   -- "10: fork, where or definition call with 64 tokens in use", "11: where with 32 cells in use": `before` is the machine before the call
@@ -180,19 +179,19 @@ module _ (lim : Limits) (d : Dag) where
   act before m p t Node.stop = moves (ended m p)
   act before m p t Node.publish = publishes (valueOf (t .value)) (ended m p)
   act before m p t (Node.fork l r) =
-      unless (hasTokenPlace lim before) refusals.TokenLimit (forked m p t (tokenPlace before) l r)
+      unless (hasTokenPlace lim before) 10 (forked m p t (tokenPlace before) l r)
   act before m p t (Node.assign x k) = goesOn m p (withNode k (withBinding x (slots.Value (valueOf (t .value))) t))
   act before m p t (Node.remove x k) = goesOn m p (withNode k (withBinding x slots.Empty t))
   act before m p t (Node.where' x l r) =
-      unless (hasTokenPlace lim before) refusals.TokenLimit
-      (unless (hasCellPlace lim before) refusals.CellLimit (split m p t (tokenPlace before) (cellPlace before) x l r))
+      unless (hasTokenPlace lim before) 10
+      (unless (hasCellPlace lim before) 11 (split m p t (tokenPlace before) (cellPlace before) x l r))
   act before m p t (Node.site s ps k) = callSite lim m p t s k (look (m .cells) (t .binds) ps)
   act before m p t (Node.call e ps k) =
-      unless (hasTokenPlace lim before) refusals.TokenLimit (entered m p t (tokenPlace before) (bodyAt d e .root) ps k)
+      unless (hasTokenPlace lim before) 10 (entered m p t (tokenPlace before) (bodyAt d e .root) ps k)
   act before m p t Node.return = returned m p t (t .caller)
   act before m p t Node.choke = chokeAt m t (t .cell)
   -- the test for 14 leaves no such node
-  act before m p t Node.unknown = refuses refusals.Rule
+  act before m p t Node.unknown = refuses 14
 
   -- the token that the queue has at a place acts
   unfoldable pub takes : Machine → (place : ℕ) → Effect
@@ -205,4 +204,4 @@ module _ (lim : Limits) (d : Dag) where
   unfoldable pub step : Machine → (place : ℕ) → Outcome
   step m place =
       let effect = takes m place in
-      outcome m (unless (rulesHold lim d m) refusals.Rule (unless (ltb place (m .queued)) refusals.NoToken effect))
+      outcome m (unless (rulesHold lim d m) 14 (unless (ltb place (m .queued)) 9 effect))

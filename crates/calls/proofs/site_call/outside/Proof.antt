@@ -2,7 +2,6 @@
 use Rattle.calls.proofs.SiteCall.{call-gives, calls-out, calls-no-more, values-count}
 use Rattle.acts.proofs.Outcomes.{row, row-fits, token-inside, gives-refused}
 use Rattle.sites.proofs.RowKinds.{site-number, site-params}
-use Rattle.model.specs.declared.reply.Refusal.the-variants as refusals
 use mathlib.Core.Path.{refl, _∙_}
 use native.Mathlib.Omega.{arith}
 use borrow.Author.Needs.{needs}
@@ -18,7 +17,7 @@ plain-requires c κs = search needs
 returns : tie.Need-returns
 returns c = λ m k l.
     let e = c .before .before .calls-made .ensures m (k .acting .taking .lawful .holds .codes) in
-    gives-refused refusals.CallLimit _ (k .acting .taking .lawful) (calls-no-more _ _ _ _ m k l (omega arith)) (c .plain .ensures)
+    gives-refused 13 _ (k .acting .taking .lawful) (calls-no-more _ _ _ _ m k l (omega arith)) (c .plain .ensures)
 
 add-dag-word : tie.Need-add-dag-word
 add-dag-word c = search needs

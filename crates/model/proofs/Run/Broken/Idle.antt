@@ -27,7 +27,6 @@ use Rattle.model.specs.Run.Demand3.{Middle}
 use Rattle.model.specs.declared.token.Place.the-variants as places
 use Rattle.model.specs.declared.record.Machine.{Machine}
 use Rattle.model.specs.declared.reply.Refusal.{Refusal}
-use Rattle.model.specs.declared.reply.Refusal.the-variants as refusals
 use Rattle.model.specs.declared.reply.Reply.the-variants as replies
 use Rattle.model.specs.declared.reply.Outcome.{Outcome}
 use Rattle.calculus.proofs.Computing.{meant, rewritten}
@@ -54,17 +53,17 @@ start-holds-no-handle h goal zero = refl
 start-holds-no-handle h goal (suc n) = blank-holds-no-handle h 1 n
 
 -- what is refused is refused whatever the test says
-refuses-either-way : (b : Bool) (r s : Refusal) → (q : Refusal) × (unless b r (refuses s) ≡ refuses q)
+refuses-either-way : (b : Bool) (r s : ℕ) → (q : ℕ) × (unless b r (refuses s) ≡ refuses q)
 unfolding unless
 refuses-either-way true r s = (s, refl)
 refuses-either-way false r s = (r, refl)
 
 module _ (lim : Limits) (d : Dag) (m : Machine) (closed : (h : ℕ) → holder h 0 (m .tokens) ≡ places.Nowhere) where
   -- an answer is refused, as not open if not for a rule
-  answer-refused : (h : ℕ) (v : ℤ) → (q : Refusal) × (Answer.answer lim d m h v ≡ outcome m (refuses q))
+  answer-refused : (h : ℕ) (v : ℤ) → (q : ℕ) × (Answer.answer lim d m h v ≡ outcome m (refuses q))
   unfolding Answer.answer answered
   answer-refused h v =
-      let r = refuses-either-way (rulesHold lim d m) refusals.Rule refusals.NotOpen in (r .0, rw (closed h) (ap (outcome m) (r .1)))
+      let r = refuses-either-way (rulesHold lim d m) 14 12 in (r .0, rw (closed h) (ap (outcome m) (r .1)))
 
   -- so the machine stays, and no call shows anything
   shows-nothing : (calls : List Call) → eventsFrom idle lim d m calls ≡ []

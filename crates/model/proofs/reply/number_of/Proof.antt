@@ -1,8 +1,8 @@
--- `report::number_of` meets its contract: case by case. Assumes nothing.
+-- `reply::number_of` meets its contract: case by case. Assumes nothing.
 use borrow.Author.Needs.{needs}
 use Rattle.model.specs.Machine.Reply.{numberOf}
-use Rattle.lines.proofs.report.number_of.Statement.{statement}
-use Rattle.lines.proofs.report.number_of.Tie as tie
+use Rattle.model.proofs.reply.number_of.Statement.{statement}
+use Rattle.model.proofs.reply.number_of.Tie as tie
 
 enum-told : tie.Need-enum-told
 enum-told c = search needs
