@@ -31,12 +31,6 @@ two-spaced word a b ws = ap (λ (l : List ℕ). word ++ spaced l) (one-spaced a 
 
 -- lines one behind the other
 
-pub text-append : (ls ms : List Line) → textOfAll (ls ++ ms) ≡ textOfAll ls ++ textOfAll ms
-unfolding textOfAll
-text-append [] ms = refl
-text-append (l ∷ ls) ms =
-    ap (λ (u : List ℕ). textOf l ++ u) (text-append ls ms) ∙ sym (append-assoc (textOf l) (textOfAll ls) (textOfAll ms))
-
 pub text-one : (l : Line) → textOf l ≡ textOfAll (l ∷ [])
 unfolding textOfAll
 text-one l = sym (append-nil (textOf l))

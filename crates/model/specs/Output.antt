@@ -2,3 +2,4 @@
 pub mod Line
 pub mod Orcrun
 pub mod Printed
+pub mod Grammar

@@ -1,0 +1,163 @@
+-- Every byte that `orcrun` prints is of a line of the grammar, and the lines stand in its order: line by line, from what is printed. Assumes
+-- nothing.
+use mathlib.Core.Path.{_≡_, refl, sym, _∙_, ap, subst}
+use mathlib.Core.Bool.{Bool, true, false}
+use mathlib.Core.List.{List, [], _∷_, _++_, map, append-assoc, append-nil}
+use mathlib.Core.Logic.{_⊎_, inl, inr}
+use Prim.Native.Nat.{ℕ, zero, suc, _+_, _/_, _%_, _<_, _≤_}
+use native.Mathlib.Decide.{decLt}
+use native.Mathlib.Omega.{arith}
+use lib.ListN.{length, take, drop}
+use lib.Dec.{ltb}
+use lib.IntN.{ℤ, pos, negsuc}
+use Rattle.job.specs.Test.{All, none, more}
+use Rattle.job.specs.Decimal.{ascii, digits, decimal, signedDecimal}
+use Rattle.job.specs.Node.{Dag}
+use Rattle.job.specs.Read.{tableLength, Answer, accepted, declined, readTable}
+use Rattle.job.specs.Construct.{construct}
+use Rattle.model.specs.Machine.Limits.{Limits, paper}
+use Rattle.model.specs.Machine.Reply.{isRefused}
+use Rattle.model.specs.Output.Line.{Line, call, publish, refused, end, lineOf, textOf, textOfAll}
+use Rattle.model.specs.Output.Orcrun.{reportedLines, orcrun}
+use Rattle.model.specs.Output.Printed.{callLines, acceptedSteps, Ends, Printed}
+use Rattle.model.specs.Output.Grammar.{Numeral, SignedNumeral, restOfLine, IsLine, IsLines, IsNotice, IsOutput}
+use Rattle.model.specs.Run.Call.{Call, runner, outcomeOf, started}
+use Rattle.model.specs.declared.record.Machine.{Machine}
+use Rattle.model.specs.declared.reply.Reply.{Reply}
+use Rattle.model.specs.declared.reply.Reply.the-variants as replies
+use Rattle.job.proofs.Test.{lt-ltb, le-not-ltb}
+use Rattle.model.proofs.Run.Printing.{orcrun-long, orcrun-declines, orcrun-prints}
+
+-- numerals
+digits-numeral : (k n : ℕ) → Numeral (digits (suc k) n)
+unfolding digits
+digits-numeral zero n = go (decLt n 10)
+  where
+    go : Dec (n < 10) → Numeral (elim (ltb n 10) as (λ b. List ℕ) [ true ↦ (48 + n) ∷ [] | false ↦ [] ++ ((48 + n % 10) ∷ []) ])
+    go (yes l) = rw (lt-ltb n 10 l) (Numeral.last l)
+    go (no l) = rw (le-not-ltb n 10 (omega arith)) (Numeral.last {d = n % 10} (omega arith))
+digits-numeral (suc k) n = go (decLt n 10) (digits-numeral k (n / 10))
+  where
+    go : Dec (n < 10) → Numeral (digits (suc k) (n / 10))
+        → Numeral (elim (ltb n 10) as (λ b. List ℕ) [ true ↦ (48 + n) ∷ [] | false ↦ digits (suc k) (n / 10) ++ ((48 + n % 10) ∷ []) ])
+    go (yes l) h = rw (lt-ltb n 10 l) (Numeral.last l)
+    go (no l) h = rw (le-not-ltb n 10 (omega arith)) (Numeral.more {d = n % 10} h (omega arith))
+
+decimal-numeral : (n : ℕ) → Numeral (decimal n)
+unfolding decimal
+decimal-numeral n = digits-numeral 19 n
+
+signed-numeral : (v : ℤ) → SignedNumeral (signedDecimal v)
+unfolding signedDecimal
+signed-numeral (pos n) = SignedNumeral.positive (decimal-numeral n)
+signed-numeral (negsuc n) = SignedNumeral.negative (decimal-numeral (suc n))
+
+all-signed : (vs : List ℤ) → All SignedNumeral (map signedDecimal vs)
+all-signed [] = none
+all-signed (v ∷ vs) = more (signed-numeral v) (all-signed vs)
+
+-- a line is its word and what stands behind it
+line-rest : (word : List ℕ) (ws : List (List ℕ)) → lineOf word ws ≡ word ++ restOfLine ws
+unfolding lineOf restOfLine
+line-rest word [] = refl
+line-rest word (w ∷ ws) = append-assoc word (ascii " ") _ ∙ ap (λ bytes. word ++ (ascii " " ++ bytes)) (line-rest w ws)
+
+pub text-append : (a b : List Line) → textOfAll (a ++ b) ≡ textOfAll a ++ textOfAll b
+unfolding textOfAll
+text-append [] b = refl
+text-append (l ∷ a) b = ap (λ bytes. textOf l ++ bytes) (text-append a b) ∙ sym (append-assoc (textOf l) _ _)
+
+lines-append : {a b : List ℕ} → IsLines a → IsLines b → IsLines (a ++ b)
+lines-append IsLines.none h = h
+lines-append (IsLines.line {l} {ls} x xs) h = subst IsLines (sym (append-assoc l ls _)) (IsLines.line x (lines-append xs h))
+
+one-line : (l : Line) → IsLine (textOf l) → IsLines (textOfAll (l ∷ []))
+unfolding textOfAll
+one-line l h = IsLines.line h IsLines.none
+
+reported : (r : Reply) (vs : List ℤ) → IsLines (textOfAll (reportedLines r vs))
+unfolding reportedLines textOf textOfAll
+reported replies.Done vs = IsLines.none
+reported replies.Waits vs = IsLines.none
+reported (replies.Published v) vs =
+    one-line (publish v) (subst IsLine (sym (line-rest _ _)) (IsLine.publish (signed-numeral v)))
+reported (replies.Called h s n) vs =
+    one-line (call h s (take n vs))
+    (subst IsLine (sym (line-rest _ _)) (IsLine.call (decimal-numeral h) (decimal-numeral s) (all-signed (take n vs))))
+reported (replies.Refused r) vs = one-line (refused _) (subst IsLine (sym (line-rest _ _)) (IsLine.refused (decimal-numeral _)))
+
+module _ (lim : Limits) (d : Dag) where
+  called : (m : Machine) (cs : List Call) → IsLines (textOfAll (callLines lim d m cs))
+  unfolding callLines textOfAll
+  called m [] = IsLines.none
+  called m (c ∷ cs) =
+      let o = outcomeOf runner lim d m c in
+      subst IsLines (sym (text-append (reportedLines (o .reply) (o .values)) _))
+      (lines-append (reported (o .reply) (o .values)) (called (o .machine) cs))
+
+  -- how a run ends: the lines of a refused step, or a notice
+  record Ending (bytes : List ℕ) : Type 0 where
+    ls : List ℕ
+    notice : List ℕ
+    is-lines : IsLines ls
+    is-notice : IsNotice notice
+    both : bytes ≡ ls ++ notice
+
+  ending : {most : ℕ} {m : Machine} {steps bytes : ℕ} {before : List Line} → Ends lim d most m steps bytes before → Ending (textOfAll before)
+  unfolding textOfAll textOf lineOf ascii
+  ending {m = m} (Ends.refused q l e) =
+      record { ls = _; notice = []; is-lines = called m _; is-notice = IsNotice.none; both = sym (append-nil _) }
+  ending (Ends.limited q e) = record { ls = []; notice = _; is-lines = IsLines.none; is-notice = IsNotice.limit; both = refl }
+  ending (Ends.shortened q l h) = record { ls = []; notice = _; is-lines = IsLines.none; is-notice = IsNotice.short; both = refl }
+  ending (Ends.finished q e) = record { ls = []; notice = []; is-lines = IsLines.none; is-notice = IsNotice.none; both = refl }
+
+  end-text : (n : ℕ) → textOfAll (end n ∷ []) ≡ ascii "end" ++ restOfLine (decimal n ∷ [])
+  unfolding textOfAll textOf
+  end-text n = append-nil _ ∙ line-rest _ _
+
+  printed : {most : ℕ} {m : Machine} {bytes : List ℕ} {lines : List Line} → Printed lim d most m bytes lines → IsOutput (textOfAll lines)
+  printed {m = m} {lines = lines} p = go (ending (p .ends))
+    where
+      n : ℕ
+      n = acceptedSteps lim d m (p .calls)
+
+      first : List ℕ
+      first = textOfAll (callLines lim d m (p .calls))
+
+      go : Ending (textOfAll (p .before)) → IsOutput (textOfAll lines)
+      go e =
+          subst IsOutput (sym text) (IsOutput.run (lines-append (called m (p .calls)) (e .is-lines)) (e .is-notice) (decimal-numeral n))
+        where
+          last : List ℕ
+          last = ascii "end" ++ restOfLine (decimal n ∷ [])
+
+          text : textOfAll lines ≡ (first ++ e .ls) ++ (e .notice ++ last)
+          text =
+              ap textOfAll (p .prints)
+              ∙ text-append (callLines lim d m (p .calls)) _
+              ∙ ap (λ bytes. first ++ bytes)
+              (text-append (p .before) _
+              ∙ ap (λ bytes. textOfAll (p .before) ++ bytes) (end-text n)
+              ∙ ap (λ bytes. bytes ++ last) (e .both)
+              ∙ append-assoc (e .ls) (e .notice) last)
+              ∙ sym (append-assoc first (e .ls) _)
+
+-- "else the line `long` only"
+long-output : IsOutput (textOfAll (Line.long ∷ []))
+unfolding textOfAll textOf lineOf ascii
+long-output = IsOutput.long
+
+table-output : (n e : ℕ) → IsOutput (textOfAll (Line.table n e ∷ []))
+unfolding textOfAll textOf
+table-output n e =
+    subst IsOutput (sym (append-nil _ ∙ line-rest _ _)) (IsOutput.table (decimal-numeral n) (decimal-numeral e))
+
+-- what the program prints, whatever stands on its input
+pub orcrun-output : (input : List ℕ) → IsOutput (orcrun input)
+orcrun-output input = go (decLt 65536 (length input)) (readTable (take (tableLength input) input)) refl
+  where
+    go : Dec (65536 < length input) → (r : Answer) → readTable (take (tableLength input) input) ≡ r → IsOutput (orcrun input)
+    go (yes l) r e = subst IsOutput (sym (orcrun-long input l)) long-output
+    go (no l) (declined n at) e = subst IsOutput (sym (orcrun-declines input n at (omega arith) e)) (table-output n at)
+    go (no l) (accepted p) e =
+        let x = orcrun-prints input p (omega arith) e in subst IsOutput (sym (x .2)) (printed paper (construct p) (x .1))
