@@ -10,10 +10,10 @@ use Rattle.job.specs.Test.{_and_, any}
 use Rattle.job.specs.Number.{signed}
 use Rattle.job.specs.Syntax.{Param, variable, constant, Join, par, seq, prune, Exp, stop, site, call, Program, formalsOf, levels}
 use Rattle.job.specs.Syntax.{scopeLeft, scopeRight}
-use Rattle.job.specs.Entry.{Entry, entries, low, high, EntryKind, kindOf}
+use Rattle.job.specs.Entry.{Entry, entries, low, high, EntryKind, kindOf, sizeD, sizeN}
 use Rattle.job.specs.Read.{Got, Read, got, refused, _>>=_, gives, need, entryAt, readParam, readParamList, readCall, readJoin}
 use Rattle.job.specs.Read.{readExp}
-use Rattle.job.specs.Read.{readDefinition, readProgram, leftovers, callHolds, definitionsHold, readEntries, sizeD, sizeN, readBytes}
+use Rattle.job.specs.Read.{readDefinition, readProgram, leftovers, callHolds, definitionsHold, readEntries, readBytes}
 use Rattle.job.specs.Read.{declined, readerAnswer, readTable}
 use Rattle.job.proofs.Test.{and-right, leb-le}
 use Rattle.job.proofs.Entry.{length-entries}

@@ -11,12 +11,12 @@ use lib.Dec.{leb}
 use Rattle.job.specs.Test.{All, none, more}
 use Rattle.job.specs.Number.{bytes}
 use Rattle.job.specs.Syntax.{Definition, Program, formalsOf, levels}
-use Rattle.job.specs.Entry.{Entry, entry, entries, EntryKind, kindOf, rowHolds}
+use Rattle.job.specs.Entry.{Entry, entry, entries, EntryKind, kindOf, rowHolds, sizeD, sizeN, tableLength}
 use Rattle.job.specs.Encode.{encodeExp, encodeDefinitions, encodeEntries, operandBytes, encode}
 use Rattle.job.specs.WellFormed.{Good, GoodDefinition, WellFormed}
 use Rattle.job.specs.Read.{Got, got, _>>=_, entryAt, need, isDefinition, readDefinition, readProgram, leftovers}
 use Rattle.job.specs.Read.{callHolds, definitionsHold}
-use Rattle.job.specs.Read.{readEntries, sizeD, sizeN, tableLength, readBytes}
+use Rattle.job.specs.Read.{readEntries, readBytes}
 use Rattle.job.proofs.All.{All-drop}
 use Rattle.job.proofs.Test.{eqb-eq, leb-le, and-left, and-right, clash}
 use Rattle.job.proofs.Number.{Byte}

@@ -23,6 +23,7 @@ pub mod Laid
 pub mod Words
 pub mod NodeRows
 pub mod DeclinedAt
+pub mod Filling
 pub mod Lists
 pub mod Both
 pub mod Loop

@@ -9,12 +9,12 @@ use lib.ListN.{length, length-append, length-map}
 use lib.Dec.{leb}
 use Rattle.job.specs.Test.{_or_, All, none, more}
 use Rattle.job.specs.Syntax.{Param, Join, Exp, Definition, Program, scopeLeft, scopeRight}
-use Rattle.job.specs.Entry.{Entry, entry, entries, kindOf, isExpression, rowHolds, isBinder}
+use Rattle.job.specs.Entry.{Entry, entry, entries, kindOf, isExpression, rowHolds, isBinder, sizeD, sizeN, tableLength}
 use Rattle.job.specs.Encode.{encodeParam, encodeJoin, encodeExp, encodeDefinitions, encodeEntries, operandBytes, encode}
 use Rattle.job.specs.WellFormed.{GoodParam, GoodJoin, Good, GoodDefinition, WellFormed}
 use Rattle.job.specs.Read.{Read, _>>=_, entryAt, need, readParam, readParamList, readCall, readJoin, readExp}
 use Rattle.job.specs.Read.{isDefinition, readDefinition, readProgram, leftovers, definitionsHold, readEntries}
-use Rattle.job.specs.Read.{sizeD, sizeN, tableLength, readBytes}
+use Rattle.job.specs.Read.{readBytes}
 use Rattle.job.proofs.Test.{eq-eqb, lt-ltb, le-leb, and-both, All-map}
 use Rattle.job.proofs.Number.{signed-unsigned}
 use Rattle.job.proofs.Entry.{low-of, high-of, kindBytes, length-operand-bytes, entries-encoded}
