@@ -2,7 +2,7 @@
 -- operand, and an operand is its low and its high 16 bits. Assumes nothing.
 use mathlib.Core.Path.{_≡_, refl, _∙_, ap, ap₂}
 use mathlib.Core.List.{List, [], _∷_, _++_, map}
-use Prim.Native.Nat.{ℕ, zero, suc, _+_, _*_, _^_, _<_}
+use Prim.Native.Nat.{ℕ, zero, suc, _+_, _-_, _*_, _^_, _<_}
 use native.Mathlib.Omega.{arith}
 use lib.ListN.{length, drop, length-append, length-drop, take-append-drop}
 use lib.Seq.{take-at, drop-at}
@@ -19,7 +19,7 @@ entry-of x k o p q = ap₂ entry p q
 
 -- the kind of a number
 
--- the number of a kind: an unknown one has any
+-- the number of a kind: an unknown one has any from 9 on
 abbrev pub kindNumber : EntryKind → ℕ → ℕ
 kindNumber EntryKind.stop n = 0
 kindNumber EntryKind.site n = 1
@@ -30,7 +30,7 @@ kindNumber EntryKind.prune n = 5
 kindNumber EntryKind.definition n = 6
 kindNumber EntryKind.variable n = 7
 kindNumber EntryKind.constant n = 8
-kindNumber EntryKind.unknown n = n
+kindNumber EntryKind.unknown n = 9 + (n - 9)
 
 own-number : (n : ℕ) → n ≡ kindNumber (kindOf n) n
 unfolding kindOf
@@ -43,7 +43,7 @@ own-number (suc (suc (suc (suc (suc zero))))) = refl
 own-number (suc (suc (suc (suc (suc (suc zero)))))) = refl
 own-number (suc (suc (suc (suc (suc (suc (suc zero))))))) = refl
 own-number (suc (suc (suc (suc (suc (suc (suc (suc zero)))))))) = refl
-own-number (suc (suc (suc (suc (suc (suc (suc (suc (suc n))))))))) = refl
+own-number (suc (suc (suc (suc (suc (suc (suc (suc (suc n))))))))) = omega arith
 
 pub kind-number : (n : ℕ) (k : EntryKind) → kindOf n ≡ k → n ≡ kindNumber k n
 kind-number n k e = own-number n ∙ ap (λ (k : EntryKind). kindNumber k n) e

@@ -8,10 +8,10 @@ use native.Mathlib.Decide.{decLt}
 use native.Mathlib.Omega.{arith}
 use lib.ListN.{length}
 use Rattle.job.specs.Entry.{Entry, sizeD, sizeN, tableEntries}
-use Rattle.job.specs.Declined.{Position, Fault, wrong-kind, wrong-operand, too-deep, out-of-scope, no-room, Breaks, Keeps, followedBy}
-use Rattle.job.specs.Declined.{Fills, none, next, wholeTable, formalsIn, Undefined, FirstAt, here, later}
+use Rattle.job.specs.Declined.{Position, Breaks, Keeps, followedBy, Fills, none, next, wholeTable, formalsIn, Undefined, FirstAt, here, later}
 use Rattle.job.specs.Declined.{DeclinedEntries, runs-out, breaks, remain, undefined}
 use Rattle.job.specs.Declined.{LengthHolds, SizesHold, Declined, wrong-length, wrong-sizes, wrong-entries}
+use Rattle.job.proofs.Faults.{fault-known}
 
 -- the same number and entry
 pub record Same (n e m f : ℕ) : Type 0 where
@@ -19,13 +19,6 @@ pub record Same (n e m f : ℕ) : Type 0 where
   pub entry : e ≡ f
 
 -- an entry has one number
-
-fault-some : {p : Position} {x : Entry} {n : ℕ} → Fault p x n → 3 ≤ n
-fault-some (wrong-kind f) = omega arith
-fault-some (wrong-operand f) = omega arith
-fault-some (too-deep l) = omega arith
-fault-some (out-of-scope k f) = omega arith
-fault-some (no-room l k s) = omega arith
 
 breaks-same : {p : Position} {x : Entry} {n m : ℕ} → Breaks p x n → Breaks p x m → n ≡ m
 breaks-same {n = n} {m = m} a b = go (decLt n m) (decLt m n)
@@ -88,7 +81,7 @@ module _ (D : ℕ) where
   stage : {es : List Entry} {n e : ℕ} → DeclinedEntries D es n e → Stage es n e
   stage {es} (runs-out f) = rw append-nil at (stopped [] f short (omega arith))
   stage (breaks {before = before} {x = x} after {n = n} q f b) =
-      let l : 3 ≤ n = fault-some (b .fault) in
+      let l : 3 ≤ n = fault-known (b .fault) in
       subst (λ (es : List Entry). Stage es n (length before)) (sym q) (stopped (x ∷ after) f (broken b) (omega arith))
   stage (remain {before = before} x after q f) =
       subst (λ (es : List Entry). Stage es 5 (length before)) (sym q) (stopped (x ∷ after) f long (omega arith))

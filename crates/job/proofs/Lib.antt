@@ -23,7 +23,9 @@ pub mod Laid
 pub mod Words
 pub mod NodeRows
 pub mod DeclinedAt
+pub mod Faults
 pub mod Filling
+pub mod DeclinedReads
 pub mod Lists
 pub mod Both
 pub mod Loop
