@@ -11,12 +11,14 @@ use Rattle.job.specs.Test.{_or_, any}
 use Rattle.job.specs.Syntax.{Param, Join, Exp, Definition, Program, formalsOf, levels, scopeLeft, scopeRight}
 use Rattle.job.specs.Entry.{Entry, low, high, EntryKind, kindOf, isExpression, rowHolds, isBinder}
 use Rattle.job.specs.Read.{Got, Read, _>>=_, entryAt, need, readParam, readParamList, readCall, readJoin, readExp}
+use Rattle.job.specs.Read.{isDefinition, readDefinition, readProgram, leftovers, callHolds, definitionsHold, readEntries, readBytes}
 use Rattle.job.specs.Declined.{Position, definition, expression, parameter, MayStand, Breaks, Keeps, sides, behind, followedBy}
 use Rattle.job.specs.Declined.{Fills, none, next, wholeTable, formalsIn, DeclinedEntries, runs-out, breaks, remain}
-use Rattle.job.proofs.Test.{eqb-eq, ne-eqb, ltb-lt, not-ltb-le, clash}
-use Rattle.job.proofs.Entry.{kind-number}
+use Rattle.job.proofs.Test.{eq-eqb, ne-eqb, ltb-lt, not-ltb-le, clash}
+use Rattle.job.proofs.Entry.{kind-number, expression-number}
 use Rattle.job.proofs.Read.{Says, reads, refuses, says-need, says-bind}
 use Rattle.job.proofs.WellFormed.{any-member, member-any}
+use Rattle.job.proofs.EncodeRead.{definition-kind}
 use Rattle.job.proofs.Faults.{breaks-kind, breaks-operand, keeps-definition, breaks-depth, breaks-binder, keeps-expression}
 use Rattle.job.proofs.Faults.{breaks-variable, keeps-parameter}
 
@@ -40,6 +42,10 @@ formals-more (y ∷ es) x = go (eqb (y .kind) 6) _ _ _ (formals-more es x)
 formals-other : (x : Entry) → (x .kind ≡ 6 → ⊥) → formalsIn (x ∷ []) ≡ []
 unfolding formalsIn
 formals-other x f = rw (ne-eqb (x .kind) 6 f, formalsIn)
+
+formals-one : (x : Entry) → x .kind ≡ 6 → formalsIn (x ∷ []) ≡ x .operand ∷ []
+unfolding formalsIn
+formals-one x k = rw (eq-eqb (x .kind) 6 k, formalsIn)
 
 module _ (D : ℕ) (es : List Entry) where
   abbrev Declines : (number entry : ℕ) → Type 0
@@ -137,3 +143,136 @@ module _ (D : ℕ) (es : List Entry) where
       says-bind _ (param-says fs _ scope e rest a) λ p b.
       says-bind _ (params-say n fs ps scope (p .next) (p .rest) b) λ _ c.
       reads c
+
+  call-says : (h : List Param → Exp) (n : ℕ) (fs : List ℕ) (ps : List Position) (scope : List ℕ) (e : ℕ) (rest : List Entry)
+      → At fs (replicate n (parameter scope) ++ ps) e rest → Leaves fs ps (readCall h n scope e rest)
+  unfolding readCall
+  call-says h n fs ps scope e rest a = says-bind _ (params-say n fs ps scope e rest a) λ _ b. reads b
+
+  -- expressions: where so many levels are left, the depth is 25 less these
+
+  abbrev Sound : (left d : ℕ) → Type 0
+  Sound left d = (fs : List ℕ) (ps : List Position) (scope : List ℕ) (e : ℕ) (rest : List Entry)
+      → At fs (expression d scope ∷ ps) e rest → Leaves fs ps (readExp left scope e rest)
+
+  join-says : (left d : ℕ) → Sound left (suc d) → (j : Join) (fs : List ℕ) (ps : List Position) (scope : List ℕ) (e : ℕ) (rest : List Entry)
+      → At fs (sides d scope j ++ ps) e rest → Leaves fs ps (readJoin (readExp left) j scope e rest)
+  unfolding readJoin
+  join-says left d below j fs ps scope e rest a =
+      says-bind _ (below fs _ (scopeLeft j scope) e rest a) λ f b.
+      says-bind _ (below fs ps (scopeRight j scope) (f .next) (f .rest) b) λ _ c.
+      reads c
+
+  module _ {fs : List ℕ} {ps : List Position} {d : ℕ} {scope : List ℕ} {e : ℕ} {x : Entry} {rest : List Entry}
+      (a : At fs (expression d scope ∷ ps) e (x ∷ rest)) where
+    module _ (k : EntryKind) (q : kindOf (x .kind) ≡ k) where
+      -- the tests of kind and operand, and what follows them
+      tests-say : {A : Type 0} {P : Got A → Type 0} (r : Read A) → (x .kind ≤ 5 → rowHolds k (x .operand) ≡ true → Says P Declines r)
+          → Says P Declines (need (isExpression k) 3 e >>= (λ _. need (rowHolds k (x .operand)) 4 e >>= (λ _. r)))
+      unfolding MayStand
+      tests-say r h =
+          let six : isExpression k ≡ ltb (x .kind) 6 = ap isExpression (sym q) ∙ expression-number (x .kind) in
+          says-need (isExpression k) 3 e _
+          (λ f. let l = not-ltb-le (x .kind) 6 (sym six ∙ f) in at-break a (breaks-kind (λ (s : x .kind ≤ 5). omega arith)))
+          (λ t. let l = ltb-lt (x .kind) 6 (sym six ∙ t) in
+          says-need (rowHolds k (x .operand)) 4 e r (λ f. at-break a (breaks-operand (omega arith) (rw q f))) (h (omega arith)))
+
+      module _ (stands : x .kind ≤ 5) (row : rowHolds k (x .operand) ≡ true) where
+        depth-out : 24 < d → Declines 6 e
+        unfolding MayStand
+        depth-out l = at-break a (breaks-depth stands (rw q row) l)
+
+        module _ (shallow : d ≤ 24) where
+          binder-out : 4 ≤ x .kind → ltb (length scope) 8 ≡ false → Declines 7 e
+          unfolding MayStand
+          binder-out l t = at-break a (breaks-binder stands (rw q row) shallow l stands (not-ltb-le (length scope) 8 t))
+
+          expression-begun : (4 ≤ x .kind → ltb (length scope) 8 ≡ true) → At fs (behind d scope k (x .operand) ++ ps) (suc e) rest
+          unfolding MayStand followedBy
+          expression-begun t =
+              rw q at (onward-other a (λ s. omega arith)
+              (keeps-expression stands (rw q row) shallow (λ l. ltb-lt (length scope) 8 (t l))))
+
+    module _ (left : ℕ) (deep : left + d ≡ 24) (below : Sound left (suc d)) where
+      exp-at : (k : EntryKind) → kindOf (x .kind) ≡ k → Leaves fs ps (readExp (suc left) scope e (x ∷ rest))
+      unfolding readExp _>>=_ entryAt need kindOf isBinder _or_ behind
+      exp-at EntryKind.stop q =
+          let n : x .kind ≡ 0 = kind-number _ _ q in
+          rw (q, readExp) (tests-say _ q _ λ s t. reads (expression-begun _ q s t (omega arith) (λ l. absurd (omega arith))))
+      exp-at EntryKind.site q =
+          let n : x .kind ≡ 1 = kind-number _ _ q in
+          rw (q, readExp) (tests-say _ q _ λ s t.
+          call-says _ _ fs ps scope (suc e) rest (expression-begun _ q s t (omega arith) (λ l. absurd (omega arith))))
+      exp-at EntryKind.call q =
+          let n : x .kind ≡ 2 = kind-number _ _ q in
+          rw (q, readExp) (tests-say _ q _ λ s t.
+          call-says _ _ fs ps scope (suc e) rest (expression-begun _ q s t (omega arith) (λ l. absurd (omega arith))))
+      exp-at EntryKind.par q =
+          let n : x .kind ≡ 3 = kind-number _ _ q in
+          rw (q, readExp) (tests-say _ q _ λ s t.
+          join-says left d below Join.par fs ps scope (suc e) rest (expression-begun _ q s t (omega arith) (λ l. absurd (omega arith))))
+      exp-at EntryKind.seq q =
+          let n : x .kind ≡ 4 = kind-number _ _ q in
+          rw (q, readExp) (tests-say _ q _ λ s t.
+          says-need _ 7 e _ (binder-out _ q s t (omega arith) (omega arith)) λ u.
+          join-says left d below (Join.seq _) fs ps scope (suc e) rest (expression-begun _ q s t (omega arith) (λ _. u)))
+      exp-at EntryKind.prune q =
+          let n : x .kind ≡ 5 = kind-number _ _ q in
+          rw (q, readExp) (tests-say _ q _ λ s t.
+          says-need _ 7 e _ (binder-out _ q s t (omega arith) (omega arith)) λ u.
+          join-says left d below (Join.prune _) fs ps scope (suc e) rest (expression-begun _ q s t (omega arith) (λ _. u)))
+      -- the test for 3 leaves none of these
+      exp-at EntryKind.definition q = let n : x .kind ≡ 6 = kind-number _ _ q in rw (q, readExp) (tests-say _ q _ λ s t. absurd (omega arith))
+      exp-at EntryKind.variable q = let n : x .kind ≡ 7 = kind-number _ _ q in rw (q, readExp) (tests-say _ q _ λ s t. absurd (omega arith))
+      exp-at EntryKind.constant q = let n : x .kind ≡ 8 = kind-number _ _ q in rw (q, readExp) (tests-say _ q _ λ s t. absurd (omega arith))
+      exp-at EntryKind.unknown q =
+          let n : x .kind ≡ 9 + (x .kind - 9) = kind-number _ _ q in rw (q, readExp) (tests-say _ q _ λ s t. absurd (omega arith))
+
+  exp-says : (left d : ℕ) → left + d ≡ 25 → Sound left d
+  unfolding readExp _>>=_ entryAt
+  exp-says zero d deep fs ps scope e [] a = refuses (at-end a)
+  exp-says zero d deep fs ps scope e (x ∷ rest) a = tests-say a _ refl _ λ s t. refuses (depth-out a _ refl s t (omega arith))
+  exp-says (suc left) d deep fs ps scope e [] a = refuses (at-end a)
+  exp-says (suc left) d deep fs ps scope e (x ∷ rest) a =
+      exp-at a left (omega arith) (exp-says left (suc d) (omega arith)) (kindOf (x .kind)) refl
+
+  -- definitions and the goal
+
+  module _ {fs : List ℕ} {ps : List Position} {e : ℕ} {x : Entry} {rest : List Entry} (a : At fs (definition ∷ ps) e (x ∷ rest)) where
+    no-definition : isDefinition (kindOf (x .kind)) ≡ false → Declines 3 e
+    unfolding MayStand isDefinition kindOf
+    no-definition f = at-break a (breaks-kind (λ (s : x .kind ≡ 6). clash (ap (λ (n : ℕ). isDefinition (kindOf n)) s) f))
+
+    module _ (six : x .kind ≡ 6) where
+      definition-row : rowHolds (kindOf (x .kind)) (x .operand) ≡ rowHolds EntryKind.definition (x .operand)
+      unfolding kindOf
+      definition-row = ap (λ (n : ℕ). rowHolds (kindOf n) (x .operand)) six
+
+      formals-out : rowHolds EntryKind.definition (x .operand) ≡ false → Declines 4 e
+      unfolding MayStand
+      formals-out f = at-break a (breaks-operand six (definition-row ∙ f))
+
+      definition-begun : rowHolds EntryKind.definition (x .operand) ≡ true
+          → At (fs ++ (x .operand ∷ [])) (expression 1 (levels (x .operand)) ∷ ps) (suc e) rest
+      unfolding MayStand followedBy
+      definition-begun t = rw (formals-one x six) at (onward a (keeps-definition six (definition-row ∙ t)))
+
+  definition-says : (fs : List ℕ) (ps : List Position) (e : ℕ) (rest : List Entry) → At fs (definition ∷ ps) e rest
+      → Says (λ (g : Got Definition). At (fs ++ (g .value .formals ∷ [])) ps (g .next) (g .rest)) Declines (readDefinition e rest)
+  unfolding readDefinition _>>=_ entryAt
+  definition-says fs ps e [] a = refuses (at-end a)
+  definition-says fs ps e (x ∷ rest) a =
+      says-need (isDefinition (kindOf (x .kind))) 3 e _ (no-definition a) λ t.
+      let six = definition-kind (x .kind) t in
+      says-need (rowHolds EntryKind.definition (x .operand)) 4 e _ (formals-out a six) λ u.
+      says-bind _ (exp-says 24 1 refl _ ps (levels (x .operand)) (suc e) rest (definition-begun a six u)) λ _ b.
+      reads b
+
+  program-says : (n : ℕ) (fs : List ℕ) (e : ℕ) (rest : List Entry) → At fs (wholeTable n) e rest
+      → Says (λ (g : Got Program). At (fs ++ formalsOf (g .value .definitions)) [] (g .next) (g .rest)) Declines (readProgram n e rest)
+  unfolding readProgram wholeTable
+  program-says zero fs e rest a = says-bind _ (exp-says 24 1 refl fs [] [] e rest a) λ _ b. reads (rw append-nil b)
+  program-says (suc n) fs e rest a =
+      says-bind _ (definition-says fs (wholeTable n) e rest a) λ d b.
+      says-bind _ (program-says n _ (d .next) (d .rest) b) λ _ c.
+      reads (rw append-assoc at c)

@@ -34,7 +34,7 @@ record FoundDefinition (formals : List ℕ) (es : List Entry) (g : Got Definitio
   good : GoodDefinition formals (g .value)
   begins : Begins (entry 6 (g .value .formals) ∷ encodeExp (g .value .body)) es (g .rest)
 
-definition-kind : (n : ℕ) → isDefinition (kindOf n) ≡ true → n ≡ 6
+pub definition-kind : (n : ℕ) → isDefinition (kindOf n) ≡ true → n ≡ 6
 unfolding isDefinition
 definition-kind n t = go (kindOf n) refl t
   where

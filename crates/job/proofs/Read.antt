@@ -57,6 +57,11 @@ module _ {A : Type 0} {P : Got A → Type 0} {Q : (number entry : ℕ) → Type 
   says-bind f (reads {g = g} h) k = k g h
   says-bind f (refuses q) k = refuses q
 
+  pub says-map : {P′ : Got A → Type 0} {Q′ : (number entry : ℕ) → Type 0} {r : Read A}
+      → ((g : Got A) → P g → P′ g) → ((n e : ℕ) → Q n e → Q′ n e) → Says P Q r → Says P′ Q′ r
+  says-map f h (reads {g = g} p) = reads (f g p)
+  says-map f h (refuses {n = n} {e = e} q) = refuses (h n e q)
+
 -- a reading that succeeds
 
 pub data Gives {A : Type 0} (a : A) (rest : List Entry) : Read A → Type 0 where
