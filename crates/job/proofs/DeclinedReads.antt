@@ -1,26 +1,33 @@
 -- The reader goes through the positions of a table in prefix order: what it reads fills them, and where it refuses, its number is the
 -- entry's first fault, since its tests come in the order of the numbers. Assumes nothing.
 use mathlib.Core.Path.{_≡_, refl, sym, _∙_, ap, subst}
-use mathlib.Core.Bool.{Bool, true, false}
+use mathlib.Core.Logic.{_⊎_, inl, inr}
+use mathlib.Core.Bool.{Bool, true, false, not}
 use mathlib.Core.List.{List, [], _∷_, _++_, append-assoc, append-nil}
 use Prim.Native.Nat.{ℕ, zero, suc, _+_, _-_, _≤_, _<_}
+use native.Mathlib.Decide.{decLt}
 use native.Mathlib.Omega.{arith}
 use lib.ListN.{length, replicate, length-append}
-use lib.Dec.{eqb, ltb}
-use Rattle.job.specs.Test.{_or_, any}
+use lib.Dec.{eqb, ltb, leb}
+use Rattle.job.specs.Test.{_and_, _or_, any}
 use Rattle.job.specs.Syntax.{Param, Join, Exp, Definition, Program, formalsOf, levels, scopeLeft, scopeRight}
 use Rattle.job.specs.Entry.{Entry, low, high, EntryKind, kindOf, isExpression, rowHolds, isBinder}
-use Rattle.job.specs.Read.{Got, Read, _>>=_, entryAt, need, readParam, readParamList, readCall, readJoin, readExp}
+use Rattle.job.specs.Entry.{sizeD, sizeN, tableLength, tableEntries}
+use Rattle.job.specs.Read.{Got, Read, got, _>>=_, entryAt, need, readParam, readParamList, readCall, readJoin, readExp}
 use Rattle.job.specs.Read.{isDefinition, readDefinition, readProgram, leftovers, callHolds, definitionsHold, readEntries, readBytes}
 use Rattle.job.specs.Declined.{Position, definition, expression, parameter, MayStand, Breaks, Keeps, sides, behind, followedBy}
-use Rattle.job.specs.Declined.{Fills, none, next, wholeTable, formalsIn, DeclinedEntries, runs-out, breaks, remain}
-use Rattle.job.proofs.Test.{eq-eqb, ne-eqb, ltb-lt, not-ltb-le, clash}
+use Rattle.job.specs.Declined.{Fills, none, next, wholeTable, formalsIn, Undefined, missing, differs, FirstAt, here, later}
+use Rattle.job.specs.Declined.{DeclinedEntries, runs-out, breaks, remain, undefined}
+use Rattle.job.specs.Declined.{LengthHolds, SizesHold, Declined, wrong-length, wrong-sizes, wrong-entries}
+use Rattle.job.proofs.Test.{eqb-eq, eq-eqb, ne-eqb, eqb-ne, ltb-lt, not-ltb-le, leb-le, le-leb, not-leb-lt}
+use Rattle.job.proofs.Test.{and-left, and-right, and-both, holds-or-fails, clash}
 use Rattle.job.proofs.Entry.{kind-number, expression-number}
-use Rattle.job.proofs.Read.{Says, reads, refuses, says-need, says-bind}
-use Rattle.job.proofs.WellFormed.{any-member, member-any}
+use Rattle.job.proofs.Read.{Says, reads, refuses, says-need, says-bind, says-map}
+use Rattle.job.proofs.WellFormed.{any-member, member-any, holds-names, call-holds, other-holds}
 use Rattle.job.proofs.EncodeRead.{definition-kind}
 use Rattle.job.proofs.Faults.{breaks-kind, breaks-operand, keeps-definition, breaks-depth, breaks-binder, keeps-expression}
 use Rattle.job.proofs.Faults.{breaks-variable, keeps-parameter}
+use Rattle.job.proofs.Filling.{first-within, Complete, Fits}
 
 -- one entry more
 
@@ -276,3 +283,93 @@ module _ (D : ℕ) (es : List Entry) where
       says-bind _ (definition-says fs (wholeTable n) e rest a) λ d b.
       says-bind _ (program-says n _ (d .next) (d .rest) b) λ _ c.
       reads (rw append-assoc at c)
+
+  leftovers-say : (fs : List ℕ) (e : ℕ) (rest : List Entry) → At fs [] e rest → Says (λ _. rest ≡ []) Declines (leftovers e rest)
+  unfolding leftovers need
+  leftovers-say fs e [] a = reads refl
+  leftovers-say fs e (x ∷ rest) a = refuses (subst (Declines 5) (a .count) (remain x rest (a .split) (a .fills)))
+
+  -- where nothing is left, all entries are read
+  module _ {fs : List ℕ} {e : ℕ} (a : At fs [] e []) where
+    all-read : a .front ≡ es
+    all-read = sym (a .split ∙ append-nil (a .front))
+
+    all-filled : Fills (wholeTable D) es []
+    all-filled = subst (λ (l : List Entry). Fills (wholeTable D) l []) all-read (a .fills)
+
+    all-formals : fs ≡ formalsIn es
+    all-formals = sym (a .formals-read) ∙ ap formalsIn all-read
+
+-- calls
+
+module _ (formals : List ℕ) (x : Entry) where
+  holds-defined : callHolds formals x ≡ true → Undefined formals x → ⊥
+  holds-defined t (missing k l) = let z = holds-names formals x k t .defined in omega arith
+  holds-defined t (differs k l f) = f (holds-names formals x k t .count)
+
+  fails-undefined : callHolds formals x ≡ false → Undefined formals x
+  fails-undefined f = go (holds-or-fails (eqb (x .kind) 2)) (decLt (low (x .operand)) (length formals))
+    where
+      go : (eqb (x .kind) 2 ≡ true) ⊎ (eqb (x .kind) 2 ≡ false) → Dec (low (x .operand) < length formals) → Undefined formals x
+      go (inr t) d = clash (other-holds formals x (ap not t)) f
+      go (inl t) (no g) = missing (eqb-eq (x .kind) 2 t) (omega arith)
+      go (inl t) (yes l) =
+          differs (eqb-eq (x .kind) 2 t) l (λ c. clash (call-holds formals x (record { defined = l; count = c })) f)
+
+-- Q of the first call that is undefined, if there is one
+calls-say : (formals : List ℕ) (Q : (number entry : ℕ) → Type 0) (e : ℕ) (es : List Entry)
+    → ((i at : ℕ) → e + i ≡ at → FirstAt (Undefined formals) es i → Q 8 at)
+    → Says (λ _. (i : ℕ) → FirstAt (Undefined formals) es i → ⊥) Q (definitionsHold formals e es)
+unfolding definitionsHold need
+calls-say formals Q e [] h = reads (λ i d. let l = first-within d in omega arith)
+calls-say formals Q e (x ∷ es) h =
+    says-need (callHolds formals x) 8 e _ (λ f. h 0 e (omega arith) (here (fails-undefined formals x f))) λ t.
+    let fine = holds-defined formals x t in
+    says-map (λ _ rest. nowhere fine rest) (λ _ _ q. q) (calls-say formals Q (suc e) es (λ i at c d. h (suc i) at (omega arith) (later fine d)))
+  where
+    nowhere : (Undefined formals x → ⊥) → ((i : ℕ) → FirstAt (Undefined formals) es i → ⊥) → (i : ℕ)
+        → FirstAt (Undefined formals) (x ∷ es) i → ⊥
+    nowhere f rest i (here u) = f u
+    nowhere f rest i (later {i = j} _ d) = rest j d
+
+-- the entries and the bytes of a table
+
+entries-say : (D : ℕ) (es : List Entry) → Says (λ _. Complete D es) (DeclinedEntries D es) (readEntries D es)
+unfolding readEntries formalsIn
+entries-say D es =
+    says-bind _ (program-says D es D [] 0 es start) λ p a.
+    says-bind _ (leftovers-say D es _ (p .next) (p .rest) a) λ _ ended.
+    finish p (subst (At D es (formalsOf (p .value .definitions)) [] (p .next)) ended a)
+  where
+    start : At D es [] (wholeTable D) 0 es
+    start = unfold formalsIn in record { front = []; split = refl; count = refl; formals-read = refl; fills = none }
+
+    finish : (p : Got Program) → At D es (formalsOf (p .value .definitions)) [] (p .next) []
+        → Says (λ _. Complete D es) (DeclinedEntries D es) (definitionsHold (formalsOf (p .value .definitions)) 0 es >>= (λ _. got p))
+    finish p a =
+        says-bind _ (calls-say _ (DeclinedEntries D es) 0 es
+        (λ i at c d. let z : i ≡ at = omega arith in
+        subst (DeclinedEntries D es 8) z (undefined (all-filled D es a) (rw (all-formals D es a) at d)))) λ _ h.
+        reads (record { fills = all-filled D es a; defined = rw (all-formals D es a) at h })
+
+pub bytes-say : (b : List ℕ) → Says (λ _. Fits b) (Declined b) (readBytes b)
+unfolding readBytes
+bytes-say b =
+    says-need _ 1 0 _ (λ f. wrong-length (λ h. let z = not-leb-lt 4 (length b) f in let l = h .sizes in omega arith)) λ l.
+    says-need _ 1 0 _ (λ f. wrong-length (λ h. eqb-ne (length b) (tableLength b) f (h .total))) λ t.
+    let full : LengthHolds b = record { sizes = leb-le 4 (length b) l; total = eqb-eq (length b) (tableLength b) t } in
+    says-need _ 2 0 _ (λ f. wrong-sizes full (λ h. clash (sizes-test h) f)) λ s.
+    says-map (λ _ c. record { length-holds = full; sizes-hold = test-sizes s; complete = c }) (λ _ _ d. wrong-entries full (test-sizes s) d)
+    (entries-say (sizeD b) (tableEntries b))
+  where
+    sizes-test : SizesHold b → (leb (sizeD b) 32 and leb 1 (sizeN b) and leb (sizeN b) 512) ≡ true
+    sizes-test h = and-both (le-leb (sizeD b) 32 (h .definitions)) (and-both (le-leb 1 (sizeN b) (h .some)) (le-leb (sizeN b) 512 (h .entries)))
+
+    test-sizes : (leb (sizeD b) 32 and leb 1 (sizeN b) and leb (sizeN b) 512) ≡ true → SizesHold b
+    test-sizes s =
+        let counts = and-right (leb (sizeD b) 32) _ s in
+        record {
+          definitions = leb-le (sizeD b) 32 (and-left _ _ s);
+          some = leb-le 1 (sizeN b) (and-left _ _ counts);
+          entries = leb-le (sizeN b) 512 (and-right (leb 1 (sizeN b)) _ counts);
+        }

@@ -61,6 +61,10 @@ first-same (here p) (later f d) = absurd (f p)
 first-same (later f d) (here q) = absurd (f q)
 first-same (later f d) (later g c) = ap suc (first-same d c)
 
+pub first-within : {P : Entry → Type 0} {es : List Entry} {i : ℕ} → FirstAt P es i → i < length es
+first-within (here p) = omega arith
+first-within (later f d) = let l = first-within d in omega arith
+
 -- the entries of a table
 
 -- they fill all positions, and each call names a definition with as many formals
