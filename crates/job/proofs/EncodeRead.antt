@@ -55,8 +55,8 @@ definition-found : (formals : List ℕ) (e : ℕ) (es : List Entry) → All (Cal
 unfolding readDefinition _>>=_ entryAt rowHolds
 definition-found formals e [] holds = nothing
 definition-found formals e (x ∷ rest) (more _ holds) =
-    yields-need _ 3 e _ λ k.
-    yields-need (leb (x .operand) 4) 4 e _ λ l.
+    yields-need _ _ e _ λ k.
+    yields-need (leb (x .operand) 4) _ e _ λ l.
     yields-bind _ (exp-found formals 24 (levels (x .operand)) (suc e) rest holds) λ b h.
     something (record {
       good = record { count = leb-le _ 4 l; body = h .good };
@@ -96,7 +96,7 @@ holds-found : (formals : List ℕ) (e : ℕ) (es : List Entry) → Yields (λ _.
 unfolding definitionsHold need
 holds-found formals e [] = something none
 holds-found formals e (x ∷ es) =
-    yields-need (callHolds formals x) 8 e _ λ t.
+    yields-need (callHolds formals x) _ _ _ λ t.
     yields-map (λ _ ts. more t ts) (holds-found formals (suc e) es)
 
 record FoundEntries (n : ℕ) (es : List Entry) (g : Got Program) : Type 0 where
@@ -172,9 +172,9 @@ module _ (b : List ℕ) (four : 4 ≤ length b) (total : length b ≡ tableLengt
 pub bytes-found : (b : List ℕ) → Yields (FoundBytes b) (readBytes b)
 unfolding readBytes
 bytes-found b =
-    yields-need _ 1 0 _ λ l.
-    yields-need _ 1 0 _ λ e.
-    yields-need _ 2 0 _ λ sizes.
+    yields-need _ _ 0 _ λ l.
+    yields-need _ _ 0 _ λ e.
+    yields-need _ _ 0 _ λ sizes.
     let four = leb-le 4 (length b) l in
     let total = eqb-eq (length b) (tableLength b) e in
     let d = leb-le (sizeD b) 32 (and-left _ _ sizes) in
