@@ -64,6 +64,7 @@ pub declined-exactly : (b : List ℕ) → All (λ x. x < 256) b → ReaderDeclin
 declined-exactly b all =
     ((λ d p w e. declined-not-accepted b p (d .0) (d .1) (d .2) (accepted-exactly b p all .1 (w, e))), λ none. go none (one-reply b))
   where
-    go : ((p : Program) → WellFormed p → b ≡ encode p → ⊥) → ((p : Program) × (readTable b ≡ accepted p)) ⊎ ReaderDeclines b → ReaderDeclines b
+    go : ((p : Program) → WellFormed p → b ≡ encode p → ⊥) → ((p : Program) × (readTable b ≡ accepted p)) ⊎ ReaderDeclines b
+        → ReaderDeclines b
     go none (inl h) = let k = accepted-exactly b (h .0) all .0 (h .1) in absurd (none (h .0) (k .0) (k .1))
     go none (inr d) = d

@@ -14,8 +14,10 @@ use Rattle.job.proofs.DeclinedExactly.{declined-if}
 
 entries-within : {D : ℕ} {es : List Entry} {n e : ℕ} → DeclinedEntries D es n e → e ≤ length es
 entries-within (runs-out f) = omega arith
-entries-within (breaks {before = before} {x = x} after q f b) = let z = ap length q in let s = length-append before (x ∷ after) in omega arith
-entries-within (remain {before = before} x after q f) = let z = ap length q in let s = length-append before (x ∷ after) in omega arith
+entries-within (breaks {before = before} {x = x} after q f b) =
+    let z = ap length q in let s = length-append before (x ∷ after) in omega arith
+entries-within (remain {before = before} x after q f) =
+    let z = ap length q in let s = length-append before (x ∷ after) in omega arith
 entries-within (undefined f d) = let l = first-within d in omega arith
 
 declined-within : (b : List ℕ) (n e : ℕ) → Declined b n e → e ≤ 512

@@ -1,5 +1,5 @@
--- "Given exactly if", for 1 to 8: the reader hands back a number and an entry exactly if they are given by document 01's words alone, and of
--- any bytes exactly one thing holds. The reader has one reply, each reply is right, and no two are right at once. Assumes nothing.
+-- "Given exactly if", for 1 to 8: the reader hands back a number and an entry exactly if document 01 gives them, and of any bytes exactly
+-- one thing holds. The reader has one reply, it is right, and no two are right at once. Assumes nothing.
 use mathlib.Core.Path.{_≡_, refl, _∙_, ap₂, subst}
 use mathlib.Core.List.{List}
 use Prim.Native.Nat.{ℕ, _<_}
@@ -8,10 +8,10 @@ use Rattle.job.specs.Syntax.{Program}
 use Rattle.job.specs.Encode.{encode}
 use Rattle.job.specs.WellFormed.{WellFormed}
 use Rattle.job.specs.Declined.{Declined}
-use Rattle.job.specs.Read.{Read, got, refused, readBytes, Answer, accepted, declined, readerAnswer, readTable}
+use Rattle.job.specs.Read.{Read, Answer, accepted, declined, readerAnswer, readTable}
 use Rattle.job.proofs.Read.{Says, reads, refuses}
 use Rattle.job.proofs.Accepted.{accepted-exactly, declined-not-accepted}
-use Rattle.job.proofs.Filling.{Same, Fits, declined-same, fits-not-declined}
+use Rattle.job.proofs.Filling.{Fits, declined-same, fits-not-declined}
 use Rattle.job.proofs.DeclinedReads.{bytes-say}
 
 -- what holds of any bytes: they are one program's, or one number and one entry are given

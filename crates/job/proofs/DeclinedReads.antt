@@ -1,33 +1,32 @@
 -- The reader goes through the positions of a table in prefix order: what it reads fills them, and where it refuses, its number is the
 -- entry's first fault, since its tests come in the order of the numbers. Assumes nothing.
 use mathlib.Core.Path.{_≡_, refl, sym, _∙_, ap, subst}
-use mathlib.Core.Logic.{_⊎_, inl, inr}
-use mathlib.Core.Bool.{Bool, true, false, not}
+use mathlib.Core.Bool.{Bool, true, false}
 use mathlib.Core.List.{List, [], _∷_, _++_, append-assoc, append-nil}
 use Prim.Native.Nat.{ℕ, zero, suc, _+_, _-_, _≤_, _<_}
-use native.Mathlib.Decide.{decLt}
 use native.Mathlib.Omega.{arith}
 use lib.ListN.{length, replicate, length-append}
 use lib.Dec.{eqb, ltb, leb}
 use Rattle.job.specs.Test.{_and_, _or_, any}
 use Rattle.job.specs.Syntax.{Param, Join, Exp, Definition, Program, formalsOf, levels, scopeLeft, scopeRight}
-use Rattle.job.specs.Entry.{Entry, low, high, EntryKind, kindOf, isExpression, rowHolds, isBinder}
+use Rattle.job.specs.Entry.{Entry, EntryKind, kindOf, isExpression, rowHolds, isBinder}
 use Rattle.job.specs.Entry.{sizeD, sizeN, tableLength, tableEntries}
 use Rattle.job.specs.Read.{Got, Read, got, _>>=_, entryAt, need, readParam, readParamList, readCall, readJoin, readExp}
-use Rattle.job.specs.Read.{isDefinition, readDefinition, readProgram, leftovers, callHolds, definitionsHold, readEntries, readBytes}
+use Rattle.job.specs.Read.{isDefinition, readDefinition, readProgram, leftovers, definitionsHold, readEntries, readBytes}
 use Rattle.job.specs.Declined.{Position, definition, expression, parameter, MayStand, Breaks, Keeps, sides, behind, followedBy}
-use Rattle.job.specs.Declined.{Fills, none, next, wholeTable, formalsIn, Undefined, missing, differs, FirstAt, here, later}
+use Rattle.job.specs.Declined.{Fills, none, next, wholeTable, formalsIn}
 use Rattle.job.specs.Declined.{DeclinedEntries, runs-out, breaks, remain, undefined}
 use Rattle.job.specs.Declined.{LengthHolds, SizesHold, Declined, wrong-length, wrong-sizes, wrong-entries}
 use Rattle.job.proofs.Test.{eqb-eq, eq-eqb, ne-eqb, eqb-ne, ltb-lt, not-ltb-le, leb-le, le-leb, not-leb-lt}
-use Rattle.job.proofs.Test.{and-left, and-right, and-both, holds-or-fails, clash}
+use Rattle.job.proofs.Test.{and-left, and-right, and-both, clash}
 use Rattle.job.proofs.Entry.{kind-number, expression-number}
 use Rattle.job.proofs.Read.{Says, reads, refuses, says-need, says-bind, says-map}
-use Rattle.job.proofs.WellFormed.{any-member, member-any, holds-names, call-holds, other-holds}
+use Rattle.job.proofs.WellFormed.{any-member, member-any}
 use Rattle.job.proofs.EncodeRead.{definition-kind}
 use Rattle.job.proofs.Faults.{breaks-kind, breaks-operand, keeps-definition, breaks-depth, breaks-binder, keeps-expression}
 use Rattle.job.proofs.Faults.{breaks-variable, keeps-parameter}
-use Rattle.job.proofs.Filling.{first-within, Complete, Fits}
+use Rattle.job.proofs.Filling.{Complete, Fits}
+use Rattle.job.proofs.UndefinedCalls.{calls-say}
 
 -- one entry more
 
@@ -229,9 +228,12 @@ module _ (D : ℕ) (es : List Entry) where
           says-need _ 7 e _ (binder-out _ q s t (omega arith) (omega arith)) λ u.
           join-says left d below (Join.prune _) fs ps scope (suc e) rest (expression-begun _ q s t (omega arith) (λ _. u)))
       -- the test for 3 leaves none of these
-      exp-at EntryKind.definition q = let n : x .kind ≡ 6 = kind-number _ _ q in rw (q, readExp) (tests-say _ q _ λ s t. absurd (omega arith))
-      exp-at EntryKind.variable q = let n : x .kind ≡ 7 = kind-number _ _ q in rw (q, readExp) (tests-say _ q _ λ s t. absurd (omega arith))
-      exp-at EntryKind.constant q = let n : x .kind ≡ 8 = kind-number _ _ q in rw (q, readExp) (tests-say _ q _ λ s t. absurd (omega arith))
+      exp-at EntryKind.definition q =
+          let n : x .kind ≡ 6 = kind-number _ _ q in rw (q, readExp) (tests-say _ q _ λ s t. absurd (omega arith))
+      exp-at EntryKind.variable q =
+          let n : x .kind ≡ 7 = kind-number _ _ q in rw (q, readExp) (tests-say _ q _ λ s t. absurd (omega arith))
+      exp-at EntryKind.constant q =
+          let n : x .kind ≡ 8 = kind-number _ _ q in rw (q, readExp) (tests-say _ q _ λ s t. absurd (omega arith))
       exp-at EntryKind.unknown q =
           let n : x .kind ≡ 9 + (x .kind - 9) = kind-number _ _ q in rw (q, readExp) (tests-say _ q _ λ s t. absurd (omega arith))
 
@@ -300,38 +302,6 @@ module _ (D : ℕ) (es : List Entry) where
     all-formals : fs ≡ formalsIn es
     all-formals = sym (a .formals-read) ∙ ap formalsIn all-read
 
--- calls
-
-module _ (formals : List ℕ) (x : Entry) where
-  holds-defined : callHolds formals x ≡ true → Undefined formals x → ⊥
-  holds-defined t (missing k l) = let z = holds-names formals x k t .defined in omega arith
-  holds-defined t (differs k l f) = f (holds-names formals x k t .count)
-
-  fails-undefined : callHolds formals x ≡ false → Undefined formals x
-  fails-undefined f = go (holds-or-fails (eqb (x .kind) 2)) (decLt (low (x .operand)) (length formals))
-    where
-      go : (eqb (x .kind) 2 ≡ true) ⊎ (eqb (x .kind) 2 ≡ false) → Dec (low (x .operand) < length formals) → Undefined formals x
-      go (inr t) d = clash (other-holds formals x (ap not t)) f
-      go (inl t) (no g) = missing (eqb-eq (x .kind) 2 t) (omega arith)
-      go (inl t) (yes l) =
-          differs (eqb-eq (x .kind) 2 t) l (λ c. clash (call-holds formals x (record { defined = l; count = c })) f)
-
--- Q of the first call that is undefined, if there is one
-calls-say : (formals : List ℕ) (Q : (number entry : ℕ) → Type 0) (e : ℕ) (es : List Entry)
-    → ((i at : ℕ) → e + i ≡ at → FirstAt (Undefined formals) es i → Q 8 at)
-    → Says (λ _. (i : ℕ) → FirstAt (Undefined formals) es i → ⊥) Q (definitionsHold formals e es)
-unfolding definitionsHold need
-calls-say formals Q e [] h = reads (λ i d. let l = first-within d in omega arith)
-calls-say formals Q e (x ∷ es) h =
-    says-need (callHolds formals x) 8 e _ (λ f. h 0 e (omega arith) (here (fails-undefined formals x f))) λ t.
-    let fine = holds-defined formals x t in
-    says-map (λ _ rest. nowhere fine rest) (λ _ _ q. q) (calls-say formals Q (suc e) es (λ i at c d. h (suc i) at (omega arith) (later fine d)))
-  where
-    nowhere : (Undefined formals x → ⊥) → ((i : ℕ) → FirstAt (Undefined formals) es i → ⊥) → (i : ℕ)
-        → FirstAt (Undefined formals) (x ∷ es) i → ⊥
-    nowhere f rest i (here u) = f u
-    nowhere f rest i (later {i = j} _ d) = rest j d
-
 -- the entries and the bytes of a table
 
 entries-say : (D : ℕ) (es : List Entry) → Says (λ _. Complete D es) (DeclinedEntries D es) (readEntries D es)
@@ -363,7 +333,8 @@ bytes-say b =
     (entries-say (sizeD b) (tableEntries b))
   where
     sizes-test : SizesHold b → (leb (sizeD b) 32 and leb 1 (sizeN b) and leb (sizeN b) 512) ≡ true
-    sizes-test h = and-both (le-leb (sizeD b) 32 (h .definitions)) (and-both (le-leb 1 (sizeN b) (h .some)) (le-leb (sizeN b) 512 (h .entries)))
+    sizes-test h =
+        and-both (le-leb (sizeD b) 32 (h .definitions)) (and-both (le-leb 1 (sizeN b) (h .some)) (le-leb (sizeN b) 512 (h .entries)))
 
     test-sizes : (leb (sizeD b) 32 and leb 1 (sizeN b) and leb (sizeN b) 512) ≡ true → SizesHold b
     test-sizes s =

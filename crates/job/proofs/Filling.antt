@@ -7,8 +7,9 @@ use native.Mathlib.Nat.{add-zero, suc-add, zero-add}
 use native.Mathlib.Decide.{decLt}
 use native.Mathlib.Omega.{arith}
 use lib.ListN.{length}
-use Rattle.job.specs.Entry.{Entry, sizeD, sizeN, tableEntries}
-use Rattle.job.specs.Declined.{Position, Breaks, Keeps, followedBy, Fills, none, next, wholeTable, formalsIn, Undefined, FirstAt, here, later}
+use Rattle.job.specs.Entry.{Entry, sizeD, tableEntries}
+use Rattle.job.specs.Declined.{Position, Breaks, Keeps, followedBy, Fills, none, next}
+use Rattle.job.specs.Declined.{wholeTable, formalsIn, Undefined, FirstAt, here, later}
 use Rattle.job.specs.Declined.{DeclinedEntries, runs-out, breaks, remain, undefined}
 use Rattle.job.specs.Declined.{LengthHolds, SizesHold, Declined, wrong-length, wrong-sizes, wrong-entries}
 use Rattle.job.proofs.Faults.{fault-known}

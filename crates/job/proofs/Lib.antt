@@ -24,6 +24,7 @@ pub mod Words
 pub mod NodeRows
 pub mod Faults
 pub mod Filling
+pub mod UndefinedCalls
 pub mod DeclinedReads
 pub mod DeclinedExactly
 pub mod DeclinedAt
