@@ -127,7 +127,7 @@ module _ (D : ℕ) (es : List Entry) where
     param-at EntryKind.variable q =
         let n : x .kind ≡ 7 = kind-number _ _ q in
         let known : (7 ≤ x .kind) × (x .kind ≤ 8) = (omega arith, omega arith) in
-        rw (q, readParam) (says-need _ 7 e _ (variable-out known (rw q) n) (λ t. reads (parameter-filled known (rw q) (λ _. t))))
+        rw (q, readParam) (says-need _ _ e _ (variable-out known (rw q) n) (λ t. reads (parameter-filled known (rw q) (λ _. t))))
     param-at EntryKind.constant q =
         let n : x .kind ≡ 8 = kind-number _ _ q in
         rw (q, readParam) (reads (parameter-filled (omega arith, omega arith) (rw q) (λ k. absurd (omega arith))))
@@ -220,12 +220,12 @@ module _ (D : ℕ) (es : List Entry) where
       exp-at EntryKind.seq q =
           let n : x .kind ≡ 4 = kind-number _ _ q in
           rw (q, readExp) (tests-say _ q _ λ s t.
-          says-need _ 7 e _ (binder-out _ q s t (omega arith) (omega arith)) λ u.
+          says-need _ _ e _ (binder-out _ q s t (omega arith) (omega arith)) λ u.
           join-says left d below (Join.seq _) fs ps scope (suc e) rest (expression-begun _ q s t (omega arith) (λ _. u)))
       exp-at EntryKind.prune q =
           let n : x .kind ≡ 5 = kind-number _ _ q in
           rw (q, readExp) (tests-say _ q _ λ s t.
-          says-need _ 7 e _ (binder-out _ q s t (omega arith) (omega arith)) λ u.
+          says-need _ _ e _ (binder-out _ q s t (omega arith) (omega arith)) λ u.
           join-says left d below (Join.prune _) fs ps scope (suc e) rest (expression-begun _ q s t (omega arith) (λ _. u)))
       -- the test for 3 leaves none of these
       exp-at EntryKind.definition q =
@@ -271,9 +271,9 @@ module _ (D : ℕ) (es : List Entry) where
   unfolding readDefinition _>>=_ entryAt
   definition-says fs ps e [] a = refuses (at-end a)
   definition-says fs ps e (x ∷ rest) a =
-      says-need (isDefinition (kindOf (x .kind))) 3 e _ (no-definition a) λ t.
+      says-need (isDefinition (kindOf (x .kind))) _ e _ (no-definition a) λ t.
       let six = definition-kind (x .kind) t in
-      says-need (rowHolds EntryKind.definition (x .operand)) 4 e _ (formals-out a six) λ u.
+      says-need (rowHolds EntryKind.definition (x .operand)) _ e _ (formals-out a six) λ u.
       says-bind _ (exp-says 24 1 refl _ ps (levels (x .operand)) (suc e) rest (definition-begun a six u)) λ _ b.
       reads b
 
@@ -325,10 +325,10 @@ entries-say D es =
 pub bytes-say : (b : List ℕ) → Says (λ _. Fits b) (Declined b) (readBytes b)
 unfolding readBytes
 bytes-say b =
-    says-need _ 1 0 _ (λ f. wrong-length (λ h. let z = not-leb-lt 4 (length b) f in let l = h .sizes in omega arith)) λ l.
-    says-need _ 1 0 _ (λ f. wrong-length (λ h. eqb-ne (length b) (tableLength b) f (h .total))) λ t.
+    says-need _ _ 0 _ (λ f. wrong-length (λ h. let z = not-leb-lt 4 (length b) f in let l = h .sizes in omega arith)) λ l.
+    says-need _ _ 0 _ (λ f. wrong-length (λ h. eqb-ne (length b) (tableLength b) f (h .total))) λ t.
     let full : LengthHolds b = record { sizes = leb-le 4 (length b) l; total = eqb-eq (length b) (tableLength b) t } in
-    says-need _ 2 0 _ (λ f. wrong-sizes full (λ h. clash (sizes-test h) f)) λ s.
+    says-need _ _ 0 _ (λ f. wrong-sizes full (λ h. clash (sizes-test h) f)) λ s.
     says-map (λ _ c. record { length-holds = full; sizes-hold = test-sizes s; complete = c }) (λ _ _ d. wrong-entries full (test-sizes s) d)
     (entries-say (sizeD b) (tableEntries b))
   where
