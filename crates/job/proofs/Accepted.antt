@@ -45,14 +45,14 @@ accepted-exactly b p all =
 
 -- one reply
 
-abbrev pub Declined : List ℕ → Type 0
-Declined b = (n : ℕ) × (e : ℕ) × (readTable b ≡ declined n e)
+abbrev pub ReaderDeclines : List ℕ → Type 0
+ReaderDeclines b = (n : ℕ) × (e : ℕ) × (readTable b ≡ declined n e)
 
 -- every list has a reply, and not both
-pub one-reply : (b : List ℕ) → ((p : Program) × (readTable b ≡ accepted p)) ⊎ Declined b
+pub one-reply : (b : List ℕ) → ((p : Program) × (readTable b ≡ accepted p)) ⊎ ReaderDeclines b
 one-reply b = go (readTable b) refl
   where
-    go : (a : Answer) → readTable b ≡ a → ((p : Program) × (readTable b ≡ accepted p)) ⊎ Declined b
+    go : (a : Answer) → readTable b ≡ a → ((p : Program) × (readTable b ≡ accepted p)) ⊎ ReaderDeclines b
     go (accepted p) h = inl (p, h)
     go (declined n e) h = inr (n, e, h)
 
@@ -60,10 +60,11 @@ pub declined-not-accepted : (b : List ℕ) (p : Program) (n e : ℕ) → readTab
 declined-not-accepted b p n e h k = let z : _≡_ {A = ℕ} 0 1 = cc in absurd (omega arith)
 
 -- a list of bytes is declined exactly when it encodes no well-formed program
-pub declined-exactly : (b : List ℕ) → All (λ x. x < 256) b → Declined b ↔ ((p : Program) → WellFormed p → b ≡ encode p → ⊥)
+pub declined-exactly : (b : List ℕ) → All (λ x. x < 256) b → ReaderDeclines b ↔ ((p : Program) → WellFormed p → b ≡ encode p → ⊥)
 declined-exactly b all =
     ((λ d p w e. declined-not-accepted b p (d .0) (d .1) (d .2) (accepted-exactly b p all .1 (w, e))), λ none. go none (one-reply b))
   where
-    go : ((p : Program) → WellFormed p → b ≡ encode p → ⊥) → ((p : Program) × (readTable b ≡ accepted p)) ⊎ Declined b → Declined b
+    go : ((p : Program) → WellFormed p → b ≡ encode p → ⊥) → ((p : Program) × (readTable b ≡ accepted p)) ⊎ ReaderDeclines b
+        → ReaderDeclines b
     go none (inl h) = let k = accepted-exactly b (h .0) all .0 (h .1) in absurd (none (h .0) (k .0) (k .1))
     go none (inr d) = d

@@ -11,12 +11,12 @@ use lib.Dec.{leb}
 use Rattle.job.specs.Test.{All, none, more}
 use Rattle.job.specs.Number.{bytes}
 use Rattle.job.specs.Syntax.{Definition, Program, formalsOf, levels}
-use Rattle.job.specs.Entry.{Entry, entry, entries, EntryKind, kindOf, rowHolds}
+use Rattle.job.specs.Entry.{Entry, entry, entries, EntryKind, kindOf, rowHolds, sizeD, sizeN, tableLength}
 use Rattle.job.specs.Encode.{encodeExp, encodeDefinitions, encodeEntries, operandBytes, encode}
 use Rattle.job.specs.WellFormed.{Good, GoodDefinition, WellFormed}
 use Rattle.job.specs.Read.{Got, got, _>>=_, entryAt, need, isDefinition, readDefinition, readProgram, leftovers}
 use Rattle.job.specs.Read.{callHolds, definitionsHold}
-use Rattle.job.specs.Read.{readEntries, sizeD, sizeN, tableLength, readBytes}
+use Rattle.job.specs.Read.{readEntries, readBytes}
 use Rattle.job.proofs.All.{All-drop}
 use Rattle.job.proofs.Test.{eqb-eq, leb-le, and-left, and-right, clash}
 use Rattle.job.proofs.Number.{Byte}
@@ -34,7 +34,7 @@ record FoundDefinition (formals : List ℕ) (es : List Entry) (g : Got Definitio
   good : GoodDefinition formals (g .value)
   begins : Begins (entry 6 (g .value .formals) ∷ encodeExp (g .value .body)) es (g .rest)
 
-definition-kind : (n : ℕ) → isDefinition (kindOf n) ≡ true → n ≡ 6
+pub definition-kind : (n : ℕ) → isDefinition (kindOf n) ≡ true → n ≡ 6
 unfolding isDefinition
 definition-kind n t = go (kindOf n) refl t
   where
@@ -55,8 +55,8 @@ definition-found : (formals : List ℕ) (e : ℕ) (es : List Entry) → All (Cal
 unfolding readDefinition _>>=_ entryAt rowHolds
 definition-found formals e [] holds = nothing
 definition-found formals e (x ∷ rest) (more _ holds) =
-    yields-need _ 3 e _ λ k.
-    yields-need (leb (x .operand) 4) 4 e _ λ l.
+    yields-need _ _ e _ λ k.
+    yields-need (leb (x .operand) 4) _ e _ λ l.
     yields-bind _ (exp-found formals 24 (levels (x .operand)) (suc e) rest holds) λ b h.
     something (record {
       good = record { count = leb-le _ 4 l; body = h .good };
@@ -96,7 +96,7 @@ holds-found : (formals : List ℕ) (e : ℕ) (es : List Entry) → Yields (λ _.
 unfolding definitionsHold need
 holds-found formals e [] = something none
 holds-found formals e (x ∷ es) =
-    yields-need (callHolds formals x) 8 e _ λ t.
+    yields-need (callHolds formals x) _ _ _ λ t.
     yields-map (λ _ ts. more t ts) (holds-found formals (suc e) es)
 
 record FoundEntries (n : ℕ) (es : List Entry) (g : Got Program) : Type 0 where
@@ -172,9 +172,9 @@ module _ (b : List ℕ) (four : 4 ≤ length b) (total : length b ≡ tableLengt
 pub bytes-found : (b : List ℕ) → Yields (FoundBytes b) (readBytes b)
 unfolding readBytes
 bytes-found b =
-    yields-need _ 1 0 _ λ l.
-    yields-need _ 1 0 _ λ e.
-    yields-need _ 2 0 _ λ sizes.
+    yields-need _ _ 0 _ λ l.
+    yields-need _ _ 0 _ λ e.
+    yields-need _ _ 0 _ λ sizes.
     let four = leb-le 4 (length b) l in
     let total = eqb-eq (length b) (tableLength b) e in
     let d = leb-le (sizeD b) 32 (and-left _ _ sizes) in

@@ -1,16 +1,18 @@
 -- Entries and their bytes, there and back, and the parts of an operand: each entry is its kind byte and the 4 bytes of its
 -- operand, and an operand is its low and its high 16 bits. Assumes nothing.
-use mathlib.Core.Path.{_≡_, refl, _∙_, ap, ap₂}
+use mathlib.Core.Path.{_≡_, refl, sym, _∙_, ap, ap₂}
 use mathlib.Core.List.{List, [], _∷_, _++_, map}
-use Prim.Native.Nat.{ℕ, zero, suc, _+_, _*_, _^_, _<_}
+use Prim.Native.Nat.{ℕ, zero, suc, _+_, _-_, _*_, _^_, _<_}
 use native.Mathlib.Omega.{arith}
 use lib.ListN.{length, drop, length-append, length-drop, take-append-drop}
 use lib.Seq.{take-at, drop-at}
+use lib.Dec.{ltb}
 use Rattle.job.specs.Test.{All, none, more}
 use Rattle.job.specs.Number.{number, bytes}
-use Rattle.job.specs.Entry.{Entry, entry, entries, low, high, EntryKind, kindOf}
+use Rattle.job.specs.Entry.{Entry, entry, entries, low, high, EntryKind, kindOf, isExpression}
 use Rattle.job.specs.Encode.{operandBytes}
 use Rattle.job.proofs.All.{All-drop}
+use Rattle.job.proofs.Test.{le-not-ltb}
 use Rattle.job.proofs.Number.{Byte, length-bytes, number-bytes, bytes-front, front-below}
 
 -- an entry of this kind and operand
@@ -19,7 +21,7 @@ entry-of x k o p q = ap₂ entry p q
 
 -- the kind of a number
 
--- the number of a kind: an unknown one has any
+-- the number of a kind: an unknown one has any from 9 on
 abbrev pub kindNumber : EntryKind → ℕ → ℕ
 kindNumber EntryKind.stop n = 0
 kindNumber EntryKind.site n = 1
@@ -30,7 +32,7 @@ kindNumber EntryKind.prune n = 5
 kindNumber EntryKind.definition n = 6
 kindNumber EntryKind.variable n = 7
 kindNumber EntryKind.constant n = 8
-kindNumber EntryKind.unknown n = n
+kindNumber EntryKind.unknown n = 9 + (n - 9)
 
 own-number : (n : ℕ) → n ≡ kindNumber (kindOf n) n
 unfolding kindOf
@@ -43,10 +45,25 @@ own-number (suc (suc (suc (suc (suc zero))))) = refl
 own-number (suc (suc (suc (suc (suc (suc zero)))))) = refl
 own-number (suc (suc (suc (suc (suc (suc (suc zero))))))) = refl
 own-number (suc (suc (suc (suc (suc (suc (suc (suc zero)))))))) = refl
-own-number (suc (suc (suc (suc (suc (suc (suc (suc (suc n))))))))) = refl
+own-number (suc (suc (suc (suc (suc (suc (suc (suc (suc n))))))))) = omega arith
 
 pub kind-number : (n : ℕ) (k : EntryKind) → kindOf n ≡ k → n ≡ kindNumber k n
 kind-number n k e = own-number n ∙ ap (λ (k : EntryKind). kindNumber k n) e
+
+-- the kinds of expressions are 0 to 5
+pub expression-number : (n : ℕ) → isExpression (kindOf n) ≡ ltb n 6
+unfolding kindOf isExpression
+expression-number zero = refl
+expression-number (suc zero) = refl
+expression-number (suc (suc zero)) = refl
+expression-number (suc (suc (suc zero))) = refl
+expression-number (suc (suc (suc (suc zero)))) = refl
+expression-number (suc (suc (suc (suc (suc zero))))) = refl
+expression-number (suc (suc (suc (suc (suc (suc zero)))))) = refl
+expression-number (suc (suc (suc (suc (suc (suc (suc zero))))))) = refl
+expression-number (suc (suc (suc (suc (suc (suc (suc (suc zero)))))))) = refl
+expression-number (suc (suc (suc (suc (suc (suc (suc (suc (suc n))))))))) =
+    sym (le-not-ltb (suc (suc (suc (suc (suc (suc (suc (suc (suc n))))))))) 6 (omega arith))
 
 -- the two halves of an operand
 

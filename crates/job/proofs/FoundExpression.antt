@@ -53,7 +53,7 @@ module _ (scope : List ℕ) (e : ℕ) (x : Entry) (rest : List Entry) where
   param-at EntryKind.seq q = rw (q, readParam) nothing
   param-at EntryKind.prune q = rw (q, readParam) nothing
   param-at EntryKind.definition q = rw (q, readParam) nothing
-  param-at EntryKind.variable q = rw (q, readParam) (yields-need _ 7 e _ λ t. something (variable-found (kind-number _ _ q) t))
+  param-at EntryKind.variable q = rw (q, readParam) (yields-need _ _ e _ λ t. something (variable-found (kind-number _ _ q) t))
   param-at EntryKind.constant q = rw (q, readParam) (something (constant-found (kind-number _ _ q)))
   param-at EntryKind.unknown q = rw (q, readParam) nothing
 
@@ -131,17 +131,17 @@ module _ (formals : List ℕ) (left : ℕ) (scope : List ℕ) (e : ℕ) (x : Ent
     exp-at : (k : EntryKind) → kindOf (x .kind) ≡ k → All (CallRuleHolds formals) (x ∷ rest)
         → Yields (FoundExp formals (suc left) scope (x ∷ rest)) (readExp (suc left) scope e (x ∷ rest))
     unfolding readExp _>>=_ entryAt need kindOf isExpression rowHolds isBinder _or_ encodeJoin
-    exp-at EntryKind.stop q holds = rw (q, readExp) (yields-need _ 4 e _ λ t. something (stop-found (kind-number _ _ q) t))
-    exp-at EntryKind.site q holds = rw (q, readExp) (yields-need _ 4 e _ λ t. site-found (kind-number _ _ q) t)
+    exp-at EntryKind.stop q holds = rw (q, readExp) (yields-need _ _ e _ λ t. something (stop-found (kind-number _ _ q) t))
+    exp-at EntryKind.site q holds = rw (q, readExp) (yields-need _ _ e _ λ t. site-found (kind-number _ _ q) t)
     exp-at EntryKind.call q (more t holds) =
-        rw (q, readExp) (yields-need (leb (high (x .operand)) 4) 4 e _ λ _. call-found (kind-number _ _ q) t)
+        rw (q, readExp) (yields-need (leb (high (x .operand)) 4) _ e _ λ _. call-found (kind-number _ _ q) t)
     exp-at EntryKind.par q (more _ holds) =
-        rw (q, readExp) (yields-need _ 4 e _ λ t. join-found Join.par GoodJoin.par (bare-entry (kind-number _ _ q) t) holds)
+        rw (q, readExp) (yields-need _ _ e _ λ t. join-found Join.par GoodJoin.par (bare-entry (kind-number _ _ q) t) holds)
     exp-at EntryKind.seq q (more _ holds) =
-        rw (q, readExp) (yields-need _ 4 e _ λ t. yields-need _ 7 e _ λ l.
+        rw (q, readExp) (yields-need _ _ e _ λ t. yields-need _ _ e _ λ l.
         join-found (Join.seq _) (GoodJoin.seq (ltb-lt _ 8 l)) (bare-entry (kind-number _ _ q) t) holds)
     exp-at EntryKind.prune q (more _ holds) =
-        rw (q, readExp) (yields-need _ 4 e _ λ t. yields-need _ 7 e _ λ l.
+        rw (q, readExp) (yields-need _ _ e _ λ t. yields-need _ _ e _ λ l.
         join-found (Join.prune _) (GoodJoin.prune (ltb-lt _ 8 l)) (bare-entry (kind-number _ _ q) t) holds)
     exp-at EntryKind.definition q holds = rw (q, readExp) nothing
     exp-at EntryKind.variable q holds = rw (q, readExp) nothing
@@ -151,7 +151,7 @@ module _ (formals : List ℕ) (left : ℕ) (scope : List ℕ) (e : ℕ) (x : Ent
 pub exp-found : (formals : List ℕ) (left : ℕ) → Sound formals left
 unfolding readExp _>>=_ entryAt
 exp-found formals zero scope e [] holds = nothing
-exp-found formals zero scope e (x ∷ rest) holds = yields-need _ 3 e _ λ _. yields-need _ 4 e _ λ _. nothing
+exp-found formals zero scope e (x ∷ rest) holds = yields-need _ _ e _ λ _. yields-need _ _ e _ λ _. nothing
 exp-found formals (suc left) scope e [] holds = nothing
 exp-found formals (suc left) scope e (x ∷ rest) holds =
     exp-at formals left scope e x rest (exp-found formals left) (kindOf (x .kind)) refl holds

@@ -22,6 +22,11 @@ pub mod DagHolds
 pub mod Laid
 pub mod Words
 pub mod NodeRows
+pub mod Faults
+pub mod Filling
+pub mod UndefinedCalls
+pub mod DeclinedReads
+pub mod DeclinedExactly
 pub mod DeclinedAt
 pub mod Lists
 pub mod Both

@@ -39,6 +39,29 @@ pub yields-itself : {A : Type 0} (r : Read A) → Yields (λ g. r ≡ got g) r
 yields-itself (got g) = something refl
 yields-itself (refused n e) = nothing
 
+-- what holds of all that is read, and of each refusal
+
+pub data Says {A : Type 0} (P : Got A → Type 0) (Q : (number entry : ℕ) → Type 0) : Read A → Type 0 where
+  reads : {g : Got A} → P g → Says P Q (got g)
+  refuses : {n e : ℕ} → Q n e → Says P Q (refused n e)
+
+module _ {A : Type 0} {P : Got A → Type 0} {Q : (number entry : ℕ) → Type 0} where
+  pub says-need : (b : Bool) (n e : ℕ) (r : Read A) → (b ≡ false → Q n e) → (b ≡ true → Says P Q r) → Says P Q (need b n e >>= (λ _. r))
+  unfolding need _>>=_
+  says-need true n e r f h = h refl
+  says-need false n e r f h = refuses (f refl)
+
+  pub says-bind : {B : Type 0} {R : Got B → Type 0} {r : Read B} (f : Got B → Read A)
+      → Says R Q r → ((b : Got B) → R b → Says P Q (f b)) → Says P Q (r >>= f)
+  unfolding _>>=_
+  says-bind f (reads {g = g} h) k = k g h
+  says-bind f (refuses q) k = refuses q
+
+  pub says-map : {P′ : Got A → Type 0} {Q′ : (number entry : ℕ) → Type 0} {r : Read A}
+      → ((g : Got A) → P g → P′ g) → ((n e : ℕ) → Q n e → Q′ n e) → Says P Q r → Says P′ Q′ r
+  says-map f h (reads {g = g} p) = reads (f g p)
+  says-map f h (refuses {n = n} {e = e} q) = refuses (h n e q)
+
 -- a reading that succeeds
 
 pub data Gives {A : Type 0} (a : A) (rest : List Entry) : Read A → Type 0 where

@@ -9,12 +9,12 @@ use lib.ListN.{length, length-append, length-map}
 use lib.Dec.{leb}
 use Rattle.job.specs.Test.{_or_, All, none, more}
 use Rattle.job.specs.Syntax.{Param, Join, Exp, Definition, Program, scopeLeft, scopeRight}
-use Rattle.job.specs.Entry.{Entry, entry, entries, kindOf, isExpression, rowHolds, isBinder}
+use Rattle.job.specs.Entry.{Entry, entry, entries, kindOf, isExpression, rowHolds, isBinder, sizeD, sizeN, tableLength}
 use Rattle.job.specs.Encode.{encodeParam, encodeJoin, encodeExp, encodeDefinitions, encodeEntries, operandBytes, encode}
 use Rattle.job.specs.WellFormed.{GoodParam, GoodJoin, Good, GoodDefinition, WellFormed}
 use Rattle.job.specs.Read.{Read, _>>=_, entryAt, need, readParam, readParamList, readCall, readJoin, readExp}
 use Rattle.job.specs.Read.{isDefinition, readDefinition, readProgram, leftovers, definitionsHold, readEntries}
-use Rattle.job.specs.Read.{sizeD, sizeN, tableLength, readBytes}
+use Rattle.job.specs.Read.{readBytes}
 use Rattle.job.proofs.Test.{eq-eqb, lt-ltb, le-leb, and-both, All-map}
 use Rattle.job.proofs.Number.{signed-unsigned}
 use Rattle.job.proofs.Entry.{low-of, high-of, kindBytes, length-operand-bytes, entries-encoded}
@@ -28,7 +28,7 @@ use Rattle.job.proofs.Encode.{Few, Fine, site-small, call-small, call-c
 param-read : {scope : List ℕ} {p : Param} (e : ℕ) (rest : List Entry) → GoodParam scope p
     → Gives p rest (readParam scope e (encodeParam p ∷ rest))
 unfolding readParam encodeParam entryAt _>>=_ kindOf
-param-read e rest (GoodParam.variable m) = gives-need _ 7 e (member-any m) given
+param-read e rest (GoodParam.variable m) = gives-need _ _ e (member-any m) given
 param-read e rest (GoodParam.constant {v = v} f) = rw (signed-unsigned v f) given
 
 params-read : {scope : List ℕ} {ps : List Param} (e : ℕ) (rest : List Entry) → All (GoodParam scope) ps
@@ -64,17 +64,17 @@ module _ {formals : List ℕ} (few : Few formals) where
   exp-read Good.stop e rest = given
   exp-read (Good.site {s = s} {ps = ps} t good) e rest =
       let l : s < 65536 = site-small t in
-      rw (low-of s (length ps) l, high-of s (length ps) l) (gives-need _ 4 e (takes-site t) (call-read (Exp.site s) (suc e) rest good))
+      rw (low-of s (length ps) l, high-of s (length ps) l) (gives-need _ _ e (takes-site t) (call-read (Exp.site s) (suc e) rest good))
   exp-read (Good.call {d = d} {ps = ps} l c good) e rest =
       let b : d < 65536 = call-small few d l in
       let t : leb (length ps) 4 ≡ true = le-leb _ 4 (call-count few d (length ps) l c) in
-      rw (low-of d (length ps) b, high-of d (length ps) b) (gives-need _ 4 e t (call-read (Exp.call d) (suc e) rest good))
+      rw (low-of d (length ps) b, high-of d (length ps) b) (gives-need _ _ e t (call-read (Exp.call d) (suc e) rest good))
   exp-read (Good.join {f = f} {g = g} GoodJoin.par hf hg) e rest =
       join-read _ Join.par _ f g (suc e) rest (exp-read hf) (exp-read hg)
   exp-read (Good.join {f = f} {g = g} (GoodJoin.seq l) hf hg) e rest =
-      gives-need _ 7 e (lt-ltb _ 8 l) (join-read _ (Join.seq _) _ f g (suc e) rest (exp-read hf) (exp-read hg))
+      gives-need _ _ e (lt-ltb _ 8 l) (join-read _ (Join.seq _) _ f g (suc e) rest (exp-read hf) (exp-read hg))
   exp-read (Good.join {f = f} {g = g} (GoodJoin.prune l) hf hg) e rest =
-      gives-need _ 7 e (lt-ltb _ 8 l) (join-read _ (Join.prune _) _ f g (suc e) rest (exp-read hf) (exp-read hg))
+      gives-need _ _ e (lt-ltb _ 8 l) (join-read _ (Join.prune _) _ f g (suc e) rest (exp-read hf) (exp-read hg))
 
   -- definitions and programs
 
@@ -82,7 +82,7 @@ module _ {formals : List ℕ} (few : Few formals) where
       → Gives d rest (readDefinition e (entry 6 (d .formals) ∷ encodeExp (d .body) ++ rest))
   unfolding readDefinition entryAt _>>=_ need kindOf isDefinition rowHolds
   definition-read {d} good e rest =
-      gives-need _ 4 e (le-leb (d .formals) 4 (good .count)) (gives-bind _ (exp-read (good .body) (suc e) rest) λ n. given)
+      gives-need _ _ e (le-leb (d .formals) 4 (good .count)) (gives-bind _ (exp-read (good .body) (suc e) rest) λ n. given)
 
   pub program-read : {ds : List Definition} {goal : Exp} → All (GoodDefinition formals) ds → Good formals 24 [] goal
       → (e : ℕ) (rest : List Entry)
@@ -102,7 +102,7 @@ module _ {formals : List ℕ} (few : Few formals) where
 holds-read : {formals : List ℕ} {es : List Entry} → All (Fine formals) es → (e : ℕ) → Gives tt [] (definitionsHold formals e es)
 unfolding definitionsHold need
 holds-read none e = given
-holds-read (more h hs) e = gives-need _ 8 e (h .holds) (holds-read hs (suc e))
+holds-read (more h hs) e = gives-need _ _ _ (h .holds) (holds-read hs (suc e))
 
 pub entries-read : {p : Program} → WellFormed p → Gives p [] (readEntries (length (p .definitions)) (encodeEntries p))
 unfolding readEntries encodeEntries leftovers need
@@ -127,9 +127,9 @@ sizes-read : {p : Program} (b : List ℕ) → 4 ≤ length b → length b ≡ ta
     → Gives p [] (readEntries (sizeD b) (entries (kindPart b) (operandPart b))) → Gives p [] (readBytes b)
 unfolding readBytes
 sizes-read b l e d n m h =
-    gives-need _ 1 0 (le-leb 4 (length b) l)
-    (gives-need _ 1 0 (eq-eqb (length b) (tableLength b) e)
-    (gives-need _ 2 0 (and-both (le-leb (sizeD b) 32 d) (and-both (le-leb 1 (sizeN b) n) (le-leb (sizeN b) 512 m))) h))
+    gives-need _ _ 0 (le-leb 4 (length b) l)
+    (gives-need _ _ 0 (eq-eqb (length b) (tableLength b) e)
+    (gives-need _ _ 0 (and-both (le-leb (sizeD b) 32 d) (and-both (le-leb 1 (sizeN b) n) (le-leb (sizeN b) 512 m))) h))
 
 module _ {p : Program} (w : WellFormed p) where
   entry-limit : length (encodeEntries p) < 65536

@@ -8,7 +8,7 @@ use lib.ListN.{length, take, drop, length-append, length-drop, take-append-drop}
 use lib.Seq.{take-add, take-at, drop-at, drop-drop}
 use Rattle.job.specs.Test.{All}
 use Rattle.job.specs.Number.{bytes}
-use Rattle.job.specs.Read.{sizeD, sizeN}
+use Rattle.job.specs.Entry.{sizeD, sizeN}
 use Rattle.job.proofs.All.{All-drop}
 use Rattle.job.proofs.Number.{Byte, number-bytes, bytes-front}
 

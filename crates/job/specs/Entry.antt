@@ -1,11 +1,10 @@
 -- The entries of a table: "N kind bytes, then N operands of 4 bytes". Assumes nothing: these are definitions.
 use mathlib.Core.Bool.{Bool, true, false}
 use mathlib.Core.List.{List, [], _∷_}
-use Prim.Native.Nat.{ℕ, _*_, _/_, _%_}
+use Prim.Native.Nat.{ℕ, _+_, _*_, _/_, _%_}
 use lib.ListN.{getD, take, drop}
 use lib.Dec.{eqb, leb}
 use Rattle.job.specs.Bounds.{parameterLimit}
-use Rattle.job.specs.Test.{_and_}
 use Rattle.job.specs.Number.{number}
 use Rattle.job.specs.Site.{siteTakes}
 
@@ -80,3 +79,18 @@ isBinder definition = false
 isBinder variable = false
 isBinder constant = false
 isBinder unknown = false
+
+-- "Bytes 0-1: D, the number of definitions. Bytes 2-3: N, the number of entries"
+abbrev pub sizeD : List ℕ → ℕ
+sizeD b = number (take 2 b)
+
+abbrev pub sizeN : List ℕ → ℕ
+sizeN b = number (take 2 (drop 2 b))
+
+-- "the length is 4 + 5N"
+abbrev pub tableLength : List ℕ → ℕ
+tableLength b = 4 + 5 * sizeN b
+
+-- "then N kind bytes, then N operands of 4 bytes"
+abbrev pub tableEntries : List ℕ → List Entry
+tableEntries b = entries (take (sizeN b) (drop 4 b)) (drop (4 + sizeN b) b)

@@ -9,6 +9,7 @@ pub mod Notation
 pub mod Entry
 pub mod Encode
 pub mod WellFormed
+pub mod Declined
 pub mod Read
 pub mod Node
 pub mod Construct

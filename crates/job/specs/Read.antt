@@ -1,15 +1,16 @@
 -- The reader's answer for any list of bytes: the program, or number and entry. Assumes nothing: these are definitions.
 use mathlib.Core.Bool.{Bool, true, false, not}
 use mathlib.Core.List.{List, [], _∷_}
-use Prim.Native.Nat.{ℕ, zero, suc, _+_, _*_}
-use lib.ListN.{length, getD, take, drop}
+use Prim.Native.Nat.{ℕ, zero, suc}
+use lib.ListN.{length, getD}
 use lib.Dec.{ltb, leb, eqb}
 use Rattle.job.specs.Bounds.{scopeLimit, depthLimit, definitionLimit, entryLimit}
 use Rattle.job.specs.Test.{_and_, _or_, forSome}
-use Rattle.job.specs.Number.{number, signed}
+use Rattle.job.specs.Number.{signed}
 use Rattle.job.specs.Syntax.{Param, variable, constant, Join, par, seq, prune, Exp, stop, site, call, join, Definition, Program}
 use Rattle.job.specs.Syntax.{formalsOf, levels, scopeLeft, scopeRight}
-use Rattle.job.specs.Entry.{Entry, entries, low, high, EntryKind, kindOf, isExpression, rowHolds, isBinder}
+use Rattle.job.specs.Entry.{Entry, low, high, EntryKind, kindOf, isExpression, rowHolds, isBinder}
+use Rattle.job.specs.Entry.{sizeD, sizeN, tableLength, tableEntries}
 
 -- what was read, the number of the first entry that was not, and the entries from there on
 pub record Got (A : Type 0) : Type 0 where
@@ -160,24 +161,13 @@ readEntries D es = do
   _ ← definitionsHold (formalsOf (p .value .definitions)) 0 es
   got p
 
--- "Bytes 0-1: D, the number of definitions. Bytes 2-3: N, the number of entries"
-abbrev pub sizeD : List ℕ → ℕ
-sizeD b = number (take 2 b)
-
-abbrev pub sizeN : List ℕ → ℕ
-sizeN b = number (take 2 (drop 2 b))
-
--- "the length is 4 + 5N"
-abbrev pub tableLength : List ℕ → ℕ
-tableLength b = 4 + 5 * sizeN b
-
 -- "Order: 1 (N is read only with 4 bytes present), 2; then entry by entry .." (docs/DECISIONS.md, "Length and N")
 unfoldable pub readBytes : List ℕ → Read Program
 readBytes b = do
   _ ← need (leb 4 (length b)) 1 0
   _ ← need (eqb (length b) (tableLength b)) 1 0
   _ ← need (leb (sizeD b) definitionLimit and leb 1 (sizeN b) and leb (sizeN b) entryLimit) 2 0
-  readEntries (sizeD b) (entries (take (sizeN b) (drop 4 b)) (drop (4 + sizeN b) b))
+  readEntries (sizeD b) (tableEntries b)
 
 -- the reader's answer
 pub data Answer : Type 0 where

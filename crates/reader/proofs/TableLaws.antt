@@ -12,9 +12,9 @@ use lib.Dec.{leb, eqb}
 use Rattle.job.specs.Test.{_and_}
 use Rattle.job.specs.Number.{number}
 use Rattle.job.specs.Syntax.{Program}
-use Rattle.job.specs.Entry.{entries}
+use Rattle.job.specs.Entry.{entries, sizeD, sizeN, tableLength}
 use Rattle.job.specs.Construct.{construct}
-use Rattle.job.specs.Read.{Got, Read, got, refused, _>>=_, gives, need, readEntries, sizeD, sizeN, tableLength, readBytes, Answer, accepted}
+use Rattle.job.specs.Read.{Got, Read, got, refused, _>>=_, gives, need, readEntries, readBytes, Answer, accepted}
 use Rattle.job.specs.Read.{declined, readerAnswer, readTable}
 use Rattle.job.proofs.Test.{eqb-eq, eq-eqb, ne-eqb, leb-le, le-leb, lt-not-leb, and-left, and-right}
 use Rattle.job.proofs.Read.{Yields, something, yields-need, yields-map, yields-itself}

@@ -4,8 +4,8 @@ use Prim.Native.Nat.{ℕ, _+_}
 use lib.ListN.{length, take, drop}
 use lib.Dec.{leb, eqb}
 use Rattle.job.specs.Test.{_and_}
-use Rattle.job.specs.Entry.{Entry, entries}
-use Rattle.job.specs.Read.{Read, got, refused, _>>=_, need, sizeD, sizeN, tableLength, Answer, accepted, declined}
+use Rattle.job.specs.Entry.{Entry, entries, sizeD, sizeN, tableLength}
+use Rattle.job.specs.Read.{Read, got, refused, _>>=_, need, Answer, accepted, declined}
 use Rattle.job.specs.Construct.{construct}
 use Rattle.reader.specs.Definition.{definitionSizes, definitionsFound}
 use Rattle.reader.specs.declared.table.Tested.{Tested}

@@ -4,7 +4,7 @@ use mathlib.Core.List.{List}
 use Prim.Native.Nat.{ℕ, _+_, _*_, _<_, _≤_}
 use native.Mathlib.Omega.{arith}
 use lib.ListN.{length, getD}
-use Rattle.job.specs.Read.{tableLength}
+use Rattle.job.specs.Entry.{tableLength}
 use Rattle.job.proofs.Test.{le-leb, lt-not-leb}
 use Rattle.reader.proofs.TableLaws.{half-at}
 use Rattle.run.specs.Input.{tableEnd}

@@ -8,7 +8,8 @@ use lib.ListN.{length, take, drop, drop-of-length-le, length-drop}
 use lib.Seq.{take-all}
 use lib.Dec.{leb}
 use Rattle.job.specs.Syntax.{Program}
-use Rattle.job.specs.Read.{tableLength, Answer, accepted, declined, readTable}
+use Rattle.job.specs.Entry.{tableLength}
+use Rattle.job.specs.Read.{Answer, accepted, declined, readTable}
 use Rattle.job.specs.Construct.{construct}
 use Rattle.job.specs.Words.{dagOf}
 use Rattle.model.specs.Output.Line.{textOfAll, table, long}

@@ -4,7 +4,8 @@ use mathlib.Core.List.{List}
 use Prim.Native.Nat.{ℕ}
 use lib.ListN.{length, take}
 use lib.Dec.{leb}
-use Rattle.job.specs.Read.{tableLength, readTable}
+use Rattle.job.specs.Entry.{tableLength}
+use Rattle.job.specs.Read.{readTable}
 use Rattle.loader.specs.TableLoaded.{loadedWords}
 
 -- "the first 4 + 5N bytes, or all if there are fewer"

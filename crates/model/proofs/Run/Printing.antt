@@ -11,7 +11,8 @@ use lib.ListN.{length, take, drop, length-drop}
 use Rattle.job.specs.Number.{number, signed}
 use Rattle.job.specs.Node.{Dag}
 use Rattle.job.specs.Syntax.{Program}
-use Rattle.job.specs.Read.{tableLength, accepted, declined, readTable}
+use Rattle.job.specs.Entry.{tableLength}
+use Rattle.job.specs.Read.{accepted, declined, readTable}
 use Rattle.job.specs.Construct.{construct}
 use Rattle.model.specs.Machine.Limits.{Limits, paper}
 use Rattle.model.specs.Machine.Reply.{isRefused}

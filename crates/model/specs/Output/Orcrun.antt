@@ -7,7 +7,8 @@ use lib.Dec.{ltb, leb, eqb}
 use lib.IntN.{ℤ}
 use Rattle.job.specs.Number.{number, signed}
 use Rattle.job.specs.Node.{Dag}
-use Rattle.job.specs.Read.{tableLength, Answer, accepted, declined, readTable}
+use Rattle.job.specs.Entry.{tableLength}
+use Rattle.job.specs.Read.{Answer, accepted, declined, readTable}
 use Rattle.job.specs.Construct.{construct}
 use Rattle.model.specs.Machine.Limits.{Limits, paper}
 use Rattle.model.specs.Machine.Reply.{numberOf, isRefused}
