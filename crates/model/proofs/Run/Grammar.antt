@@ -13,14 +13,15 @@ use lib.IntN.{ℤ, pos, negsuc}
 use Rattle.job.specs.Test.{All, none, more}
 use Rattle.job.specs.Decimal.{ascii, digits, decimal, signedDecimal}
 use Rattle.job.specs.Node.{Dag}
-use Rattle.job.specs.Read.{tableLength, Answer, accepted, declined, readTable}
+use Rattle.job.specs.Entry.{tableLength}
+use Rattle.job.specs.Read.{Answer, accepted, declined, readTable}
 use Rattle.job.specs.Construct.{construct}
 use Rattle.model.specs.Machine.Limits.{Limits, paper}
 use Rattle.model.specs.Machine.Reply.{isRefused}
 use Rattle.model.specs.Output.Line.{Line, call, publish, refused, end, lineOf, textOf, textOfAll}
 use Rattle.model.specs.Output.Orcrun.{reportedLines, orcrun}
 use Rattle.model.specs.Output.Printed.{callLines, acceptedSteps, Ends, Printed}
-use Rattle.model.specs.Output.Grammar.{Numeral, SignedNumeral, restOfLine, IsLine, IsLines, IsNotice, IsOutput}
+use Rattle.model.specs.Output.Grammar.{Numeral, SignedNumeral, restOfLine, ReplyLine, LineSequence, OneNotice, WholeOutput}
 use Rattle.model.specs.Run.Call.{Call, runner, outcomeOf, started}
 use Rattle.model.specs.declared.record.Machine.{Machine}
 use Rattle.model.specs.declared.reply.Reply.{Reply}
@@ -67,55 +68,55 @@ unfolding textOfAll
 text-append [] b = refl
 text-append (l ∷ a) b = ap (λ bytes. textOf l ++ bytes) (text-append a b) ∙ sym (append-assoc (textOf l) _ _)
 
-lines-append : {a b : List ℕ} → IsLines a → IsLines b → IsLines (a ++ b)
-lines-append IsLines.none h = h
-lines-append (IsLines.line {l} {ls} x xs) h = subst IsLines (sym (append-assoc l ls _)) (IsLines.line x (lines-append xs h))
+lines-append : {a b : List ℕ} → LineSequence a → LineSequence b → LineSequence (a ++ b)
+lines-append LineSequence.none h = h
+lines-append (LineSequence.line {l} {ls} x xs) h = subst LineSequence (sym (append-assoc l ls _)) (LineSequence.line x (lines-append xs h))
 
-one-line : (l : Line) → IsLine (textOf l) → IsLines (textOfAll (l ∷ []))
+one-line : (l : Line) → ReplyLine (textOf l) → LineSequence (textOfAll (l ∷ []))
 unfolding textOfAll
-one-line l h = IsLines.line h IsLines.none
+one-line l h = LineSequence.line h LineSequence.none
 
-reported : (r : Reply) (vs : List ℤ) → IsLines (textOfAll (reportedLines r vs))
+reported : (r : Reply) (vs : List ℤ) → LineSequence (textOfAll (reportedLines r vs))
 unfolding reportedLines textOf textOfAll
-reported replies.Done vs = IsLines.none
-reported replies.Waits vs = IsLines.none
+reported replies.Done vs = LineSequence.none
+reported replies.Waits vs = LineSequence.none
 reported (replies.Published v) vs =
-    one-line (publish v) (subst IsLine (sym (line-rest _ _)) (IsLine.publish (signed-numeral v)))
+    one-line (publish v) (subst ReplyLine (sym (line-rest _ _)) (ReplyLine.publish (signed-numeral v)))
 reported (replies.Called h s n) vs =
     one-line (call h s (take n vs))
-    (subst IsLine (sym (line-rest _ _)) (IsLine.call (decimal-numeral h) (decimal-numeral s) (all-signed (take n vs))))
-reported (replies.Refused r) vs = one-line (refused _) (subst IsLine (sym (line-rest _ _)) (IsLine.refused (decimal-numeral _)))
+    (subst ReplyLine (sym (line-rest _ _)) (ReplyLine.call (decimal-numeral h) (decimal-numeral s) (all-signed (take n vs))))
+reported (replies.Refused r) vs = one-line (refused _) (subst ReplyLine (sym (line-rest _ _)) (ReplyLine.refused (decimal-numeral _)))
 
 module _ (lim : Limits) (d : Dag) where
-  called : (m : Machine) (cs : List Call) → IsLines (textOfAll (callLines lim d m cs))
+  called : (m : Machine) (cs : List Call) → LineSequence (textOfAll (callLines lim d m cs))
   unfolding callLines textOfAll
-  called m [] = IsLines.none
+  called m [] = LineSequence.none
   called m (c ∷ cs) =
       let o = outcomeOf runner lim d m c in
-      subst IsLines (sym (text-append (reportedLines (o .reply) (o .values)) _))
+      subst LineSequence (sym (text-append (reportedLines (o .reply) (o .values)) _))
       (lines-append (reported (o .reply) (o .values)) (called (o .machine) cs))
 
   -- how a run ends: the lines of a refused step, or a notice
   record Ending (bytes : List ℕ) : Type 0 where
     ls : List ℕ
     notice : List ℕ
-    is-lines : IsLines ls
-    is-notice : IsNotice notice
+    is-lines : LineSequence ls
+    is-notice : OneNotice notice
     both : bytes ≡ ls ++ notice
 
   ending : {most : ℕ} {m : Machine} {steps bytes : ℕ} {before : List Line} → Ends lim d most m steps bytes before → Ending (textOfAll before)
   unfolding textOfAll textOf lineOf ascii
   ending {m = m} (Ends.refused q l e) =
-      record { ls = _; notice = []; is-lines = called m _; is-notice = IsNotice.none; both = sym (append-nil _) }
-  ending (Ends.limited q e) = record { ls = []; notice = _; is-lines = IsLines.none; is-notice = IsNotice.limit; both = refl }
-  ending (Ends.shortened q l h) = record { ls = []; notice = _; is-lines = IsLines.none; is-notice = IsNotice.short; both = refl }
-  ending (Ends.finished q e) = record { ls = []; notice = []; is-lines = IsLines.none; is-notice = IsNotice.none; both = refl }
+      record { ls = _; notice = []; is-lines = called m _; is-notice = OneNotice.none; both = sym (append-nil _) }
+  ending (Ends.limited q e) = record { ls = []; notice = _; is-lines = LineSequence.none; is-notice = OneNotice.limit; both = refl }
+  ending (Ends.shortened q l h) = record { ls = []; notice = _; is-lines = LineSequence.none; is-notice = OneNotice.short; both = refl }
+  ending (Ends.finished q e) = record { ls = []; notice = []; is-lines = LineSequence.none; is-notice = OneNotice.none; both = refl }
 
   end-text : (n : ℕ) → textOfAll (end n ∷ []) ≡ ascii "end" ++ restOfLine (decimal n ∷ [])
   unfolding textOfAll textOf
   end-text n = append-nil _ ∙ line-rest _ _
 
-  printed : {most : ℕ} {m : Machine} {bytes : List ℕ} {lines : List Line} → Printed lim d most m bytes lines → IsOutput (textOfAll lines)
+  printed : {most : ℕ} {m : Machine} {bytes : List ℕ} {lines : List Line} → Printed lim d most m bytes lines → WholeOutput (textOfAll lines)
   printed {m = m} {lines = lines} p = go (ending (p .ends))
     where
       n : ℕ
@@ -124,9 +125,9 @@ module _ (lim : Limits) (d : Dag) where
       first : List ℕ
       first = textOfAll (callLines lim d m (p .calls))
 
-      go : Ending (textOfAll (p .before)) → IsOutput (textOfAll lines)
+      go : Ending (textOfAll (p .before)) → WholeOutput (textOfAll lines)
       go e =
-          subst IsOutput (sym text) (IsOutput.run (lines-append (called m (p .calls)) (e .is-lines)) (e .is-notice) (decimal-numeral n))
+          subst WholeOutput (sym text) (WholeOutput.run (lines-append (called m (p .calls)) (e .is-lines)) (e .is-notice) (decimal-numeral n))
         where
           last : List ℕ
           last = ascii "end" ++ restOfLine (decimal n ∷ [])
@@ -143,21 +144,21 @@ module _ (lim : Limits) (d : Dag) where
               ∙ sym (append-assoc first (e .ls) _)
 
 -- "else the line `long` only"
-long-output : IsOutput (textOfAll (Line.long ∷ []))
+long-output : WholeOutput (textOfAll (Line.long ∷ []))
 unfolding textOfAll textOf lineOf ascii
-long-output = IsOutput.long
+long-output = WholeOutput.long
 
-table-output : (n e : ℕ) → IsOutput (textOfAll (Line.table n e ∷ []))
+table-output : (n e : ℕ) → WholeOutput (textOfAll (Line.table n e ∷ []))
 unfolding textOfAll textOf
 table-output n e =
-    subst IsOutput (sym (append-nil _ ∙ line-rest _ _)) (IsOutput.table (decimal-numeral n) (decimal-numeral e))
+    subst WholeOutput (sym (append-nil _ ∙ line-rest _ _)) (WholeOutput.table (decimal-numeral n) (decimal-numeral e))
 
 -- what the program prints, whatever stands on its input
-pub orcrun-output : (input : List ℕ) → IsOutput (orcrun input)
+pub orcrun-output : (input : List ℕ) → WholeOutput (orcrun input)
 orcrun-output input = go (decLt 65536 (length input)) (readTable (take (tableLength input) input)) refl
   where
-    go : Dec (65536 < length input) → (r : Answer) → readTable (take (tableLength input) input) ≡ r → IsOutput (orcrun input)
-    go (yes l) r e = subst IsOutput (sym (orcrun-long input l)) long-output
-    go (no l) (declined n at) e = subst IsOutput (sym (orcrun-declines input n at (omega arith) e)) (table-output n at)
+    go : Dec (65536 < length input) → (r : Answer) → readTable (take (tableLength input) input) ≡ r → WholeOutput (orcrun input)
+    go (yes l) r e = subst WholeOutput (sym (orcrun-long input l)) long-output
+    go (no l) (declined n at) e = subst WholeOutput (sym (orcrun-declines input n at (omega arith) e)) (table-output n at)
     go (no l) (accepted p) e =
-        let x = orcrun-prints input p (omega arith) e in subst IsOutput (sym (x .2)) (printed paper (construct p) (x .1))
+        let x = orcrun-prints input p (omega arith) e in subst WholeOutput (sym (x .2)) (printed paper (construct p) (x .1))

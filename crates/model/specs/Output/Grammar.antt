@@ -21,25 +21,25 @@ restOfLine [] = ascii "\n"
 restOfLine (w ∷ ws) = ascii " " ++ (w ++ restOfLine ws)
 
 -- "`call` handle site parameters; `publish` value; `refused` number"
-pub data IsLine : List ℕ → Type 0 where
-  call : {h s : List ℕ} {vs : List (List ℕ)} → Numeral h → Numeral s → All SignedNumeral vs → IsLine (ascii "call" ++ restOfLine (h ∷ s ∷ vs))
-  publish : {v : List ℕ} → SignedNumeral v → IsLine (ascii "publish" ++ restOfLine (v ∷ []))
-  refused : {n : List ℕ} → Numeral n → IsLine (ascii "refused" ++ restOfLine (n ∷ []))
+pub data ReplyLine : List ℕ → Type 0 where
+  call : {h s : List ℕ} {vs : List (List ℕ)} → Numeral h → Numeral s → All SignedNumeral vs → ReplyLine (ascii "call" ++ restOfLine (h ∷ s ∷ vs))
+  publish : {v : List ℕ} → SignedNumeral v → ReplyLine (ascii "publish" ++ restOfLine (v ∷ []))
+  refused : {n : List ℕ} → Numeral n → ReplyLine (ascii "refused" ++ restOfLine (n ∷ []))
 
 -- such lines, one after another
-pub data IsLines : List ℕ → Type 0 where
-  none : IsLines []
-  line : {l ls : List ℕ} → IsLine l → IsLines ls → IsLines (l ++ ls)
+pub data LineSequence : List ℕ → Type 0 where
+  none : LineSequence []
+  line : {l ls : List ℕ} → ReplyLine l → LineSequence ls → LineSequence (l ++ ls)
 
 -- "with 100,000 steps made and a token ready: `limit`"; "a trailing piece prints `short`"; at most one of them
-pub data IsNotice : List ℕ → Type 0 where
-  none : IsNotice []
-  limit : IsNotice (ascii "limit\n")
-  short : IsNotice (ascii "short\n")
+pub data OneNotice : List ℕ → Type 0 where
+  none : OneNotice []
+  limit : OneNotice (ascii "limit\n")
+  short : OneNotice (ascii "short\n")
 
 -- "else the line `long` only"; "`table` number entry"; "last, except after `table` or `long`, `end` and accepted steps"
-pub data IsOutput : List ℕ → Type 0 where
-  long : IsOutput (ascii "long\n")
-  table : {n e : List ℕ} → Numeral n → Numeral e → IsOutput (ascii "table" ++ restOfLine (n ∷ e ∷ []))
-  run : {ls notice n : List ℕ} → IsLines ls → IsNotice notice → Numeral n
-      → IsOutput (ls ++ (notice ++ (ascii "end" ++ restOfLine (n ∷ []))))
+pub data WholeOutput : List ℕ → Type 0 where
+  long : WholeOutput (ascii "long\n")
+  table : {n e : List ℕ} → Numeral n → Numeral e → WholeOutput (ascii "table" ++ restOfLine (n ∷ e ∷ []))
+  run : {ls notice n : List ℕ} → LineSequence ls → OneNotice notice → Numeral n
+      → WholeOutput (ls ++ (notice ++ (ascii "end" ++ restOfLine (n ∷ []))))
