@@ -17,7 +17,7 @@ use Rattle.job.proofs.NodeRows.{own-rows-length, rows-append, rows-length}
 use Rattle.job.proofs.Position.{exp-from, reread}
 use Rattle.job.proofs.Size.{own-some, size-some}
 use Rattle.reader.specs.ExpressionSides.{joinOf}
-use Rattle.compiler.specs.PlanSides.{IsLeft, IsRight}
+use Rattle.compiler.specs.PlanSides.{PlansLeft, PlansRight}
 use Rattle.compiler.specs.JoinRoot.{joinRoot}
 use Rattle.compiler.specs.ExpressionCompiled.{reading, Accepted, compiled, stored}
 use Rattle.compiler.specs.declared.plan.ExpressionPlan.{ExpressionPlan}
@@ -84,7 +84,7 @@ module _ {left : ℕ} {ks os scope : List ℕ} {at n : ℕ} (t : Taken left ks o
       let f = t .fits in
       omega arith
 
-  module _ (k : ℕ) {l : ExpressionPlan} (el : IsLeft the-join scope n k l) where
+  module _ (k : ℕ) {l : ExpressionPlan} (el : PlansLeft the-join scope n k l) where
     read-left : reading (left - 1) ks os inLeft (at + 1) ≡ got (sides .left)
     read-left =
         let e = sym (add-one at) in
@@ -107,7 +107,7 @@ module _ {left : ℕ} {ks os scope : List ℕ} {at n : ℕ} (t : Taken left ks o
       root-left : c .root ≡ root (sides .left .value) (firstLeft the-join n)
       root-left = ap (λ (x : Compiled). x .root) given
 
-      module _ {r : ExpressionPlan} (er : IsRight the-join scope n (c .node) k r) where
+      module _ {r : ExpressionPlan} (er : PlansRight the-join scope n (c .node) k r) where
         read-right : reading (left - 1) ks os inRight (c .at) ≡ got (sides .right)
         read-right =
             let rest = exp-from (entries ks os) (left - 1) _ (suc at) _ (sides .left) refl (sides .read-left) .rest in

@@ -9,7 +9,7 @@ use Rattle.reader.specs.Scope.{Means}
 use Rattle.reader.specs.declared.scope.Scope.{Scope}
 use Rattle.reader.specs.ExpressionSides.{joinOf}
 use Rattle.reader.proofs.ExpressionSides.{join-par, join-seq, join-prune}
-use Rattle.compiler.specs.PlanSides.{IsLeft, IsRight}
+use Rattle.compiler.specs.PlanSides.{PlansLeft, PlansRight}
 
 -- a binder's number is the length of the scope
 module _ (kind : ℕ) (s : Scope) (scope : List ℕ) (mean : Means s scope) (n k : ℕ) where
@@ -19,29 +19,29 @@ module _ (kind : ℕ) (s : Scope) (scope : List ℕ) (mean : Means s scope) (n k
   inner : (t : Scope) → Means t (s .count ∷ scope) → Means t (length scope ∷ scope)
   inner t h = subst (λ x. Means t (x ∷ scope)) (mean .counted) h
 
-  pub left-par : kind ≡ 3 → IsLeft its scope n k (record { scope = s; first = n + 1; next = k })
+  pub left-par : kind ≡ 3 → PlansLeft its scope n k (record { scope = s; first = n + 1; next = k })
   unfolding scopeLeft own nextLeft
   left-par e = rw (join-par kind (length scope) e) (record { scoped = mean; begins = refl; goes = refl })
 
-  pub left-seq : (kind ≡ 3 → ⊥) → kind ≡ 4 → IsLeft its scope n k (record { scope = s; first = n + 2; next = n })
+  pub left-seq : (kind ≡ 3 → ⊥) → kind ≡ 4 → PlansLeft its scope n k (record { scope = s; first = n + 2; next = n })
   unfolding scopeLeft own nextLeft
   left-seq f e = rw (join-seq kind (length scope) e) (record { scoped = mean; begins = refl; goes = refl })
 
   pub left-prune : (kind ≡ 3 → ⊥) → (kind ≡ 4 → ⊥) → (t : Scope) → Means t (s .count ∷ scope)
-      → IsLeft its scope n k (record { scope = t; first = n + 3; next = n + 1 })
+      → PlansLeft its scope n k (record { scope = t; first = n + 3; next = n + 1 })
   unfolding scopeLeft own nextLeft
   left-prune f e t h = rw (join-prune kind (length scope) f e) (record { scoped = inner t h; begins = refl; goes = refl })
 
   module _ (m : ℕ) where
-    pub right-par : kind ≡ 3 → IsRight its scope n m k (record { scope = s; first = m; next = k })
+    pub right-par : kind ≡ 3 → PlansRight its scope n m k (record { scope = s; first = m; next = k })
     unfolding scopeRight nextRight
     right-par e = rw (join-par kind (length scope) e) (record { scoped = mean; begins = refl; goes = refl })
 
     pub right-seq : (kind ≡ 3 → ⊥) → kind ≡ 4 → (t : Scope) → Means t (s .count ∷ scope)
-        → IsRight its scope n m k (record { scope = t; first = m; next = n + 1 })
+        → PlansRight its scope n m k (record { scope = t; first = m; next = n + 1 })
     unfolding scopeRight nextRight
     right-seq f e t h = rw (join-seq kind (length scope) e) (record { scoped = inner t h; begins = refl; goes = refl })
 
-    pub right-prune : (kind ≡ 3 → ⊥) → (kind ≡ 4 → ⊥) → IsRight its scope n m k (record { scope = s; first = m; next = n + 2 })
+    pub right-prune : (kind ≡ 3 → ⊥) → (kind ≡ 4 → ⊥) → PlansRight its scope n m k (record { scope = s; first = m; next = n + 2 })
     unfolding scopeRight nextRight
     right-prune f e = rw (join-prune kind (length scope) f e) (record { scoped = mean; begins = refl; goes = refl })

@@ -15,8 +15,8 @@ pub record IsPlan (r : ExpressionPlan) (scope : List ℕ) (first next : ℕ) : T
   pub goes : r .next ≡ next
 
 -- f and g of a join whose nodes are numbered from n toward k; g's nodes are numbered from m
-abbrev pub IsLeft : (j : Join) → (scope : List ℕ) → (n k : ℕ) → ExpressionPlan → Type 0
-IsLeft j scope n k r = IsPlan r (scopeLeft j scope) (firstLeft j n) (nextLeft j n k)
+abbrev pub PlansLeft : (j : Join) → (scope : List ℕ) → (n k : ℕ) → ExpressionPlan → Type 0
+PlansLeft j scope n k r = IsPlan r (scopeLeft j scope) (firstLeft j n) (nextLeft j n k)
 
-abbrev pub IsRight : (j : Join) → (scope : List ℕ) → (n m k : ℕ) → ExpressionPlan → Type 0
-IsRight j scope n m k r = IsPlan r (scopeRight j scope) m (nextRight j n k)
+abbrev pub PlansRight : (j : Join) → (scope : List ℕ) → (n m k : ℕ) → ExpressionPlan → Type 0
+PlansRight j scope n m k r = IsPlan r (scopeRight j scope) m (nextRight j n k)

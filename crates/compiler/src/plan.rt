@@ -5,7 +5,7 @@ ghost use Prim.Native.Nat.{_<_, _≤_};
 ghost use lib.ListN.{length};
 ghost use Rattle.reader.specs.Scope.{ForEvery};
 ghost use Rattle.reader.specs.ExpressionSides.{joinOf};
-ghost use Rattle.compiler.specs.PlanSides.{IsLeft, IsRight};
+ghost use Rattle.compiler.specs.PlanSides.{PlansLeft, PlansRight};
 
 // The variables in scope, the expression's first node, and the node toward which it goes.
 pub struct ExpressionPlan {
@@ -17,7 +17,7 @@ pub struct ExpressionPlan {
 // f's nodes follow the join's own: "f toward assign(x)", "left is f toward remove(x)".
 pub fn left_plan(kind: u8, plan: ExpressionPlan) -> ExpressionPlan
     requires { ⌜ (plan .first < 1022) × (3 ≤ kind) × (4 ≤ kind → plan .scope .count < 8) ⌝ }
-    ensures { λ r. ⌜ ForEvery (plan .scope) (λ l. IsLeft (joinOf kind (length l)) l (plan .first) (plan .next) r) ⌝ }
+    ensures { λ r. ⌜ ForEvery (plan .scope) (λ l. PlansLeft (joinOf kind (length l)) l (plan .first) (plan .next) r) ⌝ }
 {
     let scope = plan.scope;
     if kind == 3 {
@@ -45,7 +45,7 @@ pub fn left_plan(kind: u8, plan: ExpressionPlan) -> ExpressionPlan
 // g's nodes follow f's, and so begin at `first`: "g toward remove(x)", "right is g toward choke".
 pub fn right_plan(kind: u8, plan: ExpressionPlan, first: usize) -> ExpressionPlan
     requires { ⌜ (plan .first < 1022) × (3 ≤ kind) × (4 ≤ kind → plan .scope .count < 8) ⌝ }
-    ensures { λ r. ⌜ ForEvery (plan .scope) (λ l. IsRight (joinOf kind (length l)) l (plan .first) first (plan .next) r) ⌝ }
+    ensures { λ r. ⌜ ForEvery (plan .scope) (λ l. PlansRight (joinOf kind (length l)) l (plan .first) first (plan .next) r) ⌝ }
 {
     let scope = plan.scope;
     if kind == 3 {

@@ -1,13 +1,13 @@
 // A number in base ten.
 ghost use Prim.Native.Nat.{_+_, _≤_};
 ghost use lib.ListN.{length};
-ghost use Rattle.job.specs.Decimal.{digits, decimal};
+ghost use Rattle.job.specs.Decimal.{decimalDigits, decimal};
 ghost use Rattle.decimal.specs.Written.{Written};
 
 // So many digits at most: the front ones first, then the last.
 fn put_digits(buffer: &mut [u8], at: usize, most: usize, n: u32) -> usize
-    requires { ⌜ at + length (digits most n) ≤ length (now buffer) ⌝ }
-    ensures { λ r. ⌜ Written most (now (buffer .entry)) at (digits most n) (now (buffer .exit)) r ⌝ }
+    requires { ⌜ at + length (decimalDigits most n) ≤ length (now buffer) ⌝ }
+    ensures { λ r. ⌜ Written most (now (buffer .entry)) at (decimalDigits most n) (now (buffer .exit)) r ⌝ }
 {
     if most == 0 {
         return at;

@@ -10,7 +10,7 @@ use lib.ListN.{length, getD, take, length-take}
 use lib.Seq.{getD-take}
 use lib.Dec.{eqb}
 use lib.IntN.{ℤ}
-use Rattle.job.specs.Test.{_or_, forSome, occurrences, once, differ}
+use Rattle.job.specs.Test.{_or_, forSome, occurrences, once, distinct}
 use Rattle.job.specs.Node.{Dag}
 use Rattle.model.specs.Machine.Limits.{Limits}
 use Rattle.model.specs.Machine.Blank.{tokenAt}
@@ -123,19 +123,19 @@ handle-open h [] p e = let z : _≡_ {A = ℕ} 0 1 = cc in absurd (omega arith)
 handle-open h (t ∷ ts) zero e = any-append-left (eqb h) (handleOf (t .state)) (openHandles ts) (has-handle h (t .state) e)
 handle-open h (t ∷ ts) (suc p) e = any-append-right (eqb h) (handleOf (t .state)) (openHandles ts) (handle-open h ts p e)
 
-differ-behind : (s : State) (hs : List ℕ) → differ (handleOf s ++ hs) ≡ true → differ hs ≡ true
-unfolding handleOf differ
+differ-behind : (s : State) (hs : List ℕ) → distinct (handleOf s ++ hs) ≡ true → distinct hs ≡ true
+unfolding handleOf distinct
 differ-behind states.Blank hs e = e
 differ-behind states.Ready hs e = e
 differ-behind (states.Waiting c) hs e = e
 differ-behind (states.Called h) hs e = and-right _ _ e
 differ-behind states.Frame hs e = e
 
-differ-first : (h : ℕ) (hs : List ℕ) → differ (h ∷ hs) ≡ true → forSome (eqb h) hs ≡ true → ⊥
-unfolding differ
+differ-first : (h : ℕ) (hs : List ℕ) → distinct (h ∷ hs) ≡ true → forSome (eqb h) hs ≡ true → ⊥
+unfolding distinct
 differ-first h hs e f = clash (and-left _ _ e) (ap not f)
 
-pub holder-finds : (h i : ℕ) (ts : List Token) (p : ℕ) → differ (openHandles ts) ≡ true → tokenAt ts p .state ≡ states.Called h
+pub holder-finds : (h i : ℕ) (ts : List Token) (p : ℕ) → distinct (openHandles ts) ≡ true → tokenAt ts p .state ≡ states.Called h
     → holder h i ts ≡ places.At (i + p)
 unfolding holder tokenAt openHandles handleOf
 holder-finds h i [] p u e = let z : _≡_ {A = ℕ} 0 1 = cc in absurd (omega arith)
@@ -153,7 +153,7 @@ holder-finds h i (t ∷ ts) (suc p) u e =
         → elim b as (λ b. Place) [ true ↦ places.At i | false ↦ holder h (suc i) ts ] ≡ places.At (i + suc p)
     go true x r =
         absurd
-        (differ-first h (openHandles ts) (ap (λ s. differ (handleOf s ++ openHandles ts)) (sym (holds-handle h (t .state) x)) ∙ u)
+        (differ-first h (openHandles ts) (ap (λ s. distinct (handleOf s ++ openHandles ts)) (sym (holds-handle h (t .state) x)) ∙ u)
         (handle-open h ts p e))
     go false x r = r
 

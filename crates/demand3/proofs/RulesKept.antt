@@ -11,7 +11,7 @@ use native.Mathlib.Omega.{arith}
 use lib.ListN.{length, getD, length-append}
 use lib.Dec.{eqb}
 use lib.IntN.{ℤ}
-use Rattle.job.specs.Test.{_and_, _or_, forAll, forSome, All, none, more, differ}
+use Rattle.job.specs.Test.{_and_, _or_, forAll, forSome, All, none, more, distinct}
 use Rattle.job.specs.Number.{fits}
 use Rattle.job.specs.Syntax.{Param}
 use Rattle.job.specs.Node.{Node, Dag, nodeAt, isNode, dagHolds}
@@ -78,13 +78,13 @@ handle-there h (t ∷ ts) e = go (t .state) refl e (λ x. let y = handle-there h
 
 handles-differ : (ts : List Token)
     → ((p q h : ℕ) → getD ts p blankToken .state ≡ states.Called h → getD ts q blankToken .state ≡ states.Called h → p ≡ q)
-    → differ (openHandles ts) ≡ true
-unfolding differ openHandles handleOf
+    → distinct (openHandles ts) ≡ true
+unfolding distinct openHandles handleOf
 handles-differ [] f = refl
 handles-differ (t ∷ ts) f = go (t .state) refl
     (handles-differ ts (λ p q h a b. let z : suc p ≡ suc q = f (suc p) (suc q) h a b in omega arith))
   where
-    go : (s : State) → t .state ≡ s → differ (openHandles ts) ≡ true → differ (handleOf s ++ openHandles ts) ≡ true
+    go : (s : State) → t .state ≡ s → distinct (openHandles ts) ≡ true → distinct (handleOf s ++ openHandles ts) ≡ true
     go states.Blank s x = x
     go states.Ready s x = x
     go (states.Waiting c) s x = x

@@ -14,13 +14,13 @@ ascii Text.[] = []
 ascii (Text._∷_ c s) = code c ∷ ascii s
 
 -- a number in base ten, without leading zeros; so many digits at most
-unfoldable pub digits : ℕ → ℕ → List ℕ
-digits zero n = []
-digits (suc k) n = elim (ltb n 10) [ true ↦ (48 + n) ∷ [] | false ↦ digits k (n / 10) ++ ((48 + n % 10) ∷ []) ]
+unfoldable pub decimalDigits : ℕ → ℕ → List ℕ
+decimalDigits zero n = []
+decimalDigits (suc k) n = elim (ltb n 10) [ true ↦ (48 + n) ∷ [] | false ↦ decimalDigits k (n / 10) ++ ((48 + n % 10) ∷ []) ]
 
 -- (20 digits hold every number below 2^64)
 unfoldable pub decimal : ℕ → List ℕ
-decimal n = digits 20 n
+decimal n = decimalDigits 20 n
 
 -- with a minus sign where it is negative
 unfoldable pub signedDecimal : ℤ → List ℕ

@@ -48,9 +48,9 @@ occurrences n [] = 0
 occurrences n (x ∷ xs) = once (eqb n x) + occurrences n xs
 
 -- no number stands twice
-unfoldable pub differ : List ℕ → Bool
-differ [] = true
-differ (x ∷ xs) = not (forSome (eqb x) xs) and differ xs
+unfoldable pub distinct : List ℕ → Bool
+distinct [] = true
+distinct (x ∷ xs) = not (forSome (eqb x) xs) and distinct xs
 
 -- two lists of numbers are the same
 unfoldable pub same : List ℕ → List ℕ → Bool

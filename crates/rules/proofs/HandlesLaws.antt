@@ -12,7 +12,7 @@ use lib.ListN.{length, getD, take, set}
 use lib.Seq.{take-suc, take-suc-set, take-set-le}
 use lib.Dec.{eqb}
 use Rattle.model.specs.declared.token.State.the-variants as states
-use Rattle.job.specs.Test.{_and_, _or_, forAll, forSome, differ, once}
+use Rattle.job.specs.Test.{_and_, _or_, forAll, forSome, distinct, once}
 use Rattle.model.specs.Machine.Rules.{openHandles}
 use Rattle.model.specs.Machine.Blank.{tokenIsBlank}
 use Rattle.model.specs.Machine.State.{isBlankState, handleOf}
@@ -100,11 +100,11 @@ any-last p (x ∷ xs) y = go (p x) (any-last p xs y)
     go true e = refl
     go false e = e
 
-differ-last : (xs : List ℕ) (y : ℕ) → differ (xs ++ (y ∷ [])) ≡ (differ xs and forAll (λ (x : ℕ). not (eqb x y)) xs)
-unfolding differ forSome forAll _and_
+differ-last : (xs : List ℕ) (y : ℕ) → distinct (xs ++ (y ∷ [])) ≡ (distinct xs and forAll (λ (x : ℕ). not (eqb x y)) xs)
+unfolding distinct forSome forAll _and_
 differ-last [] y = refl
-differ-last (x ∷ xs) y = ap₂ _and_ (any-last (eqb x) xs y) (differ-last xs y) ∙ regroup (not (forSome (eqb x) xs)) (not (eqb x y)) (differ xs) _
+differ-last (x ∷ xs) y = ap₂ _and_ (any-last (eqb x) xs y) (differ-last xs y) ∙ regroup (not (forSome (eqb x) xs)) (not (eqb x y)) (distinct xs) _
 
-pub differ-turn : (xs : List ℕ) (i : ℕ) {ok b : Bool} → i < length xs → ok ≡ differ (take i xs)
-    → b ≡ forAll (λ (x : ℕ). not (eqb x (getD xs i 0))) (take i xs) → (ok && b) ≡ differ (take (i + 1) xs)
-differ-turn xs i l e f = both e f ∙ sym (rw add-one (ap differ (take-suc xs i 0 l) ∙ differ-last (take i xs) (getD xs i 0)))
+pub differ-turn : (xs : List ℕ) (i : ℕ) {ok b : Bool} → i < length xs → ok ≡ distinct (take i xs)
+    → b ≡ forAll (λ (x : ℕ). not (eqb x (getD xs i 0))) (take i xs) → (ok && b) ≡ distinct (take (i + 1) xs)
+differ-turn xs i l e f = both e f ∙ sym (rw add-one (ap distinct (take-suc xs i 0 l) ∙ differ-last (take i xs) (getD xs i 0)))

@@ -5,7 +5,7 @@ use mathlib.Core.List.{List}
 use lib.ListN.{length}
 use lib.Dec.{ltb, leb}
 use Prim.Native.Nat.{ℕ}
-use Rattle.job.specs.Test.{_and_, forAll, allFrom, differ}
+use Rattle.job.specs.Test.{_and_, forAll, allFrom, distinct}
 use Rattle.job.specs.Node.{Dag, dagHolds}
 use Rattle.model.specs.Machine.Limits.{paper}
 use Rattle.model.specs.Machine.Blank.{tokenIsBlank, cellIsBlank}
@@ -84,7 +84,7 @@ module _ (d : Dag) (m : Machine) where
         → first
         ≡ (((forAll (tokenRule d m) (m .tokens) and restIsBlank tokenIsBlank used (m .tokens)) and allFrom (namedByBoth queue waits) 0
         (m .tokens))
-        and differ (openHandles (m .tokens)))
+        and distinct (openHandles (m .tokens)))
         → second ≡ (forAll (cellRule (m .cells)) (m .cells) and restIsBlank cellIsBlank marks (m .cells))
         → sizes ≡ (leb (m .calls) 1000000 and ltb (m .lasttoken) 64 and ltb (m .lastcell) 32)
         → (allFrom (namedAs 1 queue) 0 (m .tokens) and queued) ≡ namesOnce isReady (m .tokens) (m .queue) (m .queued)
@@ -96,7 +96,7 @@ module _ (d : Dag) (m : Machine) where
         (both
         (both
         (firsts
-        ∙ ap₂ (λ x y. (x and y) and differ (openHandles (m .tokens)))
+        ∙ ap₂ (λ x y. (x and y) and distinct (openHandles (m .tokens)))
         (ap₂ _and_ token-rules (ap (λ us. restIsBlank tokenIsBlank us (m .tokens)) e))
         (from-both (namedAs 1 queue) (namedAs 2 waits) 0 (m .tokens)))
         (seconds ∙ ap₂ _and_ cell-rules (ap (λ us. restIsBlank cellIsBlank us (m .cells)) f)))

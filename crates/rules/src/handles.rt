@@ -4,7 +4,7 @@ ghost use mathlib.Core.Bool.{not};
 ghost use Prim.Native.Nat.{ℕ, _≤_, _<_};
 ghost use lib.ListN.{length, getD, take};
 ghost use lib.Dec.{eqb};
-ghost use Rattle.job.specs.Test.{forAll, differ};
+ghost use Rattle.job.specs.Test.{forAll, distinct};
 
 // Is the number at i none of those before it?
 fn is_new(list: &[u32], i: usize) -> bool
@@ -24,7 +24,7 @@ fn is_new(list: &[u32], i: usize) -> bool
 // Do the first so many numbers differ?
 pub fn all_differ(list: &[u32], count: usize) -> bool
     requires { ⌜ (count ≤ 64) × (length (now list) ≡ 64) ⌝ }
-    ensures { λ r. ⌜ r ≡ differ (take count (now (list .entry))) ⌝ }
+    ensures { λ r. ⌜ r ≡ distinct (take count (now (list .entry))) ⌝ }
 {
     let mut ok = true;
     let mut i: usize = 0;

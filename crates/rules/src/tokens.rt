@@ -4,7 +4,7 @@ ghost use mathlib.Core.Bool.{true};
 ghost use Prim.Native.Nat.{ℕ, _<_, _≤_};
 ghost use lib.Dec.{eqb};
 ghost use lib.ListN.{length};
-ghost use Rattle.job.specs.Test.{_and_, forAll, allFrom, differ, once};
+ghost use Rattle.job.specs.Test.{_and_, forAll, allFrom, distinct, once};
 ghost use Rattle.job.specs.Node.{dagHolds};
 ghost use Rattle.job.specs.Words.{dagOf};
 ghost use Rattle.model.specs.Machine.Blank.{tokenAt, tokenIsBlank};
@@ -71,7 +71,7 @@ pub fn tokens_hold(
     ensures { λ r. ⌜ (r ≡ true → (p : ℕ) → p < 64 → tokenCoded (now (w .entry)) p ≡ true)
         × ((m : Machine) → ValuesFit (now (w .entry)) m → length (now (used .entry)) ≡ 64
         → r ≡ (((forAll (tokenRule (dagOf (now (dag .entry))) m) (m .tokens) and restIsBlank tokenIsBlank (now (used .entry)) (m .tokens))
-        and allFrom (namedByBoth (now (queue .entry)) (now (waits .entry))) 0 (m .tokens)) and differ (openHandles (m .tokens)))) ⌝ }
+        and allFrom (namedByBoth (now (queue .entry)) (now (waits .entry))) 0 (m .tokens)) and distinct (openHandles (m .tokens)))) ⌝ }
 {
     let mut handles = [0u32; Machine::TOKENS];
     let mut count: usize = 0;

@@ -8,7 +8,7 @@ use native.Mathlib.Omega.{arith}
 use lib.ListN.{length, getD, take, drop}
 use lib.Seq.{getD-take, length-take-le}
 use lib.Dec.{ltb, eqb}
-use Rattle.job.specs.Test.{_and_, forAll, allFrom, occurrences, once, differ}
+use Rattle.job.specs.Test.{_and_, forAll, allFrom, occurrences, once, distinct}
 use Rattle.job.specs.Node.{Dag, dagHolds}
 use Rattle.model.specs.Machine.Limits.{Limits}
 use Rattle.model.specs.Machine.Blank.{blankToken, tokenAt, tokenIsBlank, cellIsBlank}
@@ -34,7 +34,7 @@ pub record EachRuleHolds (lim : Limits) (d : Dag) (m : Machine) : Type 0 where
   pub queue : namesOnce isReady (m .tokens) (m .queue) (m .queued) ≡ true
   pub chains : rules.chainsEnd (m .cells) ≡ true
   pub under : forAll (rules.notUnderSet (m .cells)) (m .tokens) ≡ true
-  pub handles : differ (rules.openHandles (m .tokens)) ≡ true
+  pub handles : distinct (rules.openHandles (m .tokens)) ≡ true
   pub waits : namesOnce isWaiting (m .tokens) (m .waits) (m .waiting) ≡ true
   pub unset : forAll (λ (t : Token). rules.waitsAtUnset (m .cells) (t .state)) (m .tokens) ≡ true
   pub nodes : forAll (rules.atNode d (m .tokens)) (m .tokens) ≡ true

@@ -18,7 +18,7 @@ unfolding Rattle.job.specs.Construct.own Rattle.job.specs.Construct.nodeCount 
     Rattle.job.specs.Words.nodeWords Rattle.job.specs.Words.paramOf Rattle.job.specs.Words.paramsFrom Rattle.job.specs.Words.nodeBy
     Rattle.job.specs.Words.decodedNode Rattle.job.specs.Words.nodesFrom Rattle.job.specs.Words.bodiesFrom Rattle.job.specs.Words.dagOf
     Rattle.job.specs.Words.rowsOfNodes Rattle.job.specs.Words.bodyWords Rattle.job.specs.Words.written
-    Rattle.job.specs.Decimal.ascii Rattle.job.specs.Decimal.digits Rattle.job.specs.Decimal.decimal
+    Rattle.job.specs.Decimal.ascii Rattle.job.specs.Decimal.decimalDigits Rattle.job.specs.Decimal.decimal
     Rattle.job.specs.Decimal.signedDecimal Rattle.model.specs.Output.Line.lineOf
     Rattle.model.specs.Output.Line.textOf Rattle.model.specs.Output.Line.textOfAll
     Rattle.model.specs.Output.Orcrun.reportedLines Rattle.model.specs.Output.Orcrun.stepTurn
@@ -80,6 +80,6 @@ unfolding Rattle.job.specs.Construct.own Rattle.job.specs.Construct.nodeCount 
     Rattle.job.specs.Site.truth Rattle.job.specs.Site.sumReply Rattle.job.specs.Site.isBuiltin Rattle.job.specs.Site.isOutside
     Rattle.job.specs.Site.siteTakes Rattle.job.specs.Site.builtin Rattle.job.specs.Test._and_ Rattle.job.specs.Test._or_
     Rattle.job.specs.Test.forAll Rattle.job.specs.Test.forSome Rattle.job.specs.Test.allFrom Rattle.job.specs.Test.select
-    Rattle.job.specs.Test.occurrences Rattle.job.specs.Test.differ Rattle.job.specs.Test.same Rattle.job.specs.Test.padded
+    Rattle.job.specs.Test.occurrences Rattle.job.specs.Test.distinct Rattle.job.specs.Test.same Rattle.job.specs.Test.padded
     Rattle.job.specs.Test.without
 computing = tt

@@ -11,7 +11,7 @@ use lib.ListN.{length, take, drop}
 use lib.Dec.{ltb}
 use lib.IntN.{ℤ, pos, negsuc}
 use Rattle.job.specs.Test.{All, none, more}
-use Rattle.job.specs.Decimal.{ascii, digits, decimal, signedDecimal}
+use Rattle.job.specs.Decimal.{ascii, decimalDigits, decimal, signedDecimal}
 use Rattle.job.specs.Node.{Dag}
 use Rattle.job.specs.Entry.{tableLength}
 use Rattle.job.specs.Read.{Answer, accepted, declined, readTable}
@@ -30,8 +30,8 @@ use Rattle.job.proofs.Test.{lt-ltb, le-not-ltb}
 use Rattle.model.proofs.Run.Printing.{orcrun-long, orcrun-declines, orcrun-prints}
 
 -- numerals
-digits-numeral : (k n : ℕ) → Numeral (digits (suc k) n)
-unfolding digits
+digits-numeral : (k n : ℕ) → Numeral (decimalDigits (suc k) n)
+unfolding decimalDigits
 digits-numeral zero n = go (decLt n 10)
   where
     go : Dec (n < 10) → Numeral (elim (ltb n 10) as (λ b. List ℕ) [ true ↦ (48 + n) ∷ [] | false ↦ [] ++ ((48 + n % 10) ∷ []) ])
@@ -39,8 +39,8 @@ digits-numeral zero n = go (decLt n 10)
     go (no l) = rw (le-not-ltb n 10 (omega arith)) (Numeral.last {d = n % 10} (omega arith))
 digits-numeral (suc k) n = go (decLt n 10) (digits-numeral k (n / 10))
   where
-    go : Dec (n < 10) → Numeral (digits (suc k) (n / 10))
-        → Numeral (elim (ltb n 10) as (λ b. List ℕ) [ true ↦ (48 + n) ∷ [] | false ↦ digits (suc k) (n / 10) ++ ((48 + n % 10) ∷ []) ])
+    go : Dec (n < 10) → Numeral (decimalDigits (suc k) (n / 10))
+        → Numeral (elim (ltb n 10) as (λ b. List ℕ) [ true ↦ (48 + n) ∷ [] | false ↦ decimalDigits (suc k) (n / 10) ++ ((48 + n % 10) ∷ []) ])
     go (yes l) h = rw (lt-ltb n 10 l) (Numeral.last l)
     go (no l) h = rw (le-not-ltb n 10 (omega arith)) (Numeral.more {d = n % 10} h (omega arith))
 

@@ -5,7 +5,7 @@ use Prim.Native.Nat.{ℕ, zero, suc}
 use lib.ListN.{length, take, drop}
 use lib.Dec.{ltb, leb, eqb}
 use Rattle.job.specs.Bounds.{scopeLimit}
-use Rattle.job.specs.Test.{_and_, _or_, forAll, allFrom, occurrences, once, differ}
+use Rattle.job.specs.Test.{_and_, _or_, forAll, allFrom, occurrences, once, distinct}
 use Rattle.job.specs.Number.{fits}
 use Rattle.job.specs.Syntax.{Param, variable, constant}
 use Rattle.job.specs.Node.{Node, Dag, nodeAt, isNode, dagHolds}
@@ -157,7 +157,7 @@ machineHolds lim d m =
     -- "no ready, waiting or called-out token is under a set cell"
     and forAll (notUnderSet (m .cells)) (m .tokens)
     -- "open handles differ and are below the call count" (the second is among the ranges)
-    and differ (openHandles (m .tokens))
+    and distinct (openHandles (m .tokens))
     -- "the wait order names each waiting token once, at an unset cell"
     and namesOnce isWaiting (m .tokens) (m .waits) (m .waiting)
     and forAll (λ (t : Token). waitsAtUnset (m .cells) (t .state)) (m .tokens)

@@ -3,20 +3,20 @@ use mathlib.Core.Path.{_≡_, _∙_, ap}
 use Prim.Native.Nat.{ℕ, _-_, _≤_}
 use native.Mathlib.Omega.{arith}
 use lib.ListN.{take}
-use Rattle.job.specs.Test.{differ}
+use Rattle.job.specs.Test.{distinct}
 use Rattle.rules.proofs.HandlesLaws.{differ-turn}
 use borrow.Author.Needs.{needs}
 use Rattle.rules.proofs.handles.all_differ.Statement.{statement}
 use Rattle.rules.proofs.handles.all_differ.Tie as tie
 
 abbrev Inv-loop : tie.InvT-loop
-Inv-loop list count ok₀ i₀ ok i = (i ≤ count) × (ok ≡ differ (take i list))
+Inv-loop list count ok₀ i₀ ok i = (i ≤ count) × (ok ≡ distinct (take i list))
 
 abbrev μ-loop : tie.MeasureT-loop
 μ-loop list count ok₀ i₀ ok i = count - i
 
 loop-holds : tie.Need-loop-holds Inv-loop μ-loop
-unfolding differ
+unfolding distinct
 loop-holds c = search needs
 
 loop-again : tie.Need-loop-again Inv-loop μ-loop
@@ -31,7 +31,7 @@ returns c =
     let place3 = c .before .before .before in
     let start = place3 .args in
     let end : c .before .loop .i ≡ start .count = omega arith in
-    c .before .loop .inv .1 ∙ ap (λ (k : ℕ). differ (take k (start .list .now))) end
+    c .before .loop .inv .1 ∙ ap (λ (k : ℕ). distinct (take k (start .list .now))) end
 
 pub all-differ-spec : {M : Type 1} → statement M
 all-differ-spec =

@@ -11,7 +11,7 @@ use lib.Seq.{take-all}
 use Rattle.model.specs.declared.record.Machine.{Machine}
 use Rattle.model.specs.Machine.Blank.{blankToken, tokenAt}
 use Rattle.model.specs.Machine.Rules.{openHandles}
-use Rattle.job.specs.Test.{_and_, once, differ}
+use Rattle.job.specs.Test.{_and_, once, distinct}
 use Rattle.job.specs.Words.{dagOf}
 use Rattle.job.proofs.Test.{and-right}
 use Rattle.coded.specs.WordTests.{tokenCoded}
@@ -124,9 +124,9 @@ returns c =
       λ e p l. last .inv .3 (first-true (last .ok) (c .all-differ .result) e) p (omega arith),
       λ m h l.
           let over : length (m .tokens) ≤ last .i = omega (arith, h .codes .shaped .tokens) in
-          where-true (last .ok) (c .all-differ .result) (differ (openHandles (m .tokens)))
-          (λ e. c .all-differ .ensures ∙ ap differ (last .inv .5 m h e ∙ ap openHandles (take-all (last .i) (m .tokens) over)))
-          ∙ ap (λ b. b and differ (openHandles (m .tokens)))
+          where-true (last .ok) (c .all-differ .result) (distinct (openHandles (m .tokens)))
+          (λ e. c .all-differ .ensures ∙ ap distinct (last .inv .5 m h e ∙ ap openHandles (take-all (last .i) (m .tokens) over)))
+          ∙ ap (λ b. b and distinct (openHandles (m .tokens)))
           (last .inv .4 m h l ∙ seen-done (dagOf (args .dag .now)) m (args .used .now) (args .queue .now) (args .waits .now)
           (last .i) over),
     )
