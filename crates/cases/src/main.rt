@@ -4,8 +4,8 @@ use job::dag::WORDS;
 use job::wide::wide;
 use libc::STDIN_FILENO;
 use libc::STDOUT_FILENO;
+use program::pieces::print;
 use reader::entry::four_bytes;
-use run::orcrun::orcrun;
 ghost use Prim.Native.Nat.{_≤_, _<_};
 ghost use lib.ListN.{length};
 
@@ -24,23 +24,7 @@ fn head(number: u64) {
     io::write_all(STDOUT_FILENO, b"\n");
 }
 
-// Prints what the run prints, in pieces as long as `output`.
-fn show(input: &[u8], dag: &mut [u32; WORDS], output: &mut [u8])
-    requires { ⌜ 0 < length (now output) ⌝ }
-{
-    let room = output.len();
-    let mut from = 0;
-    let mut left = orcrun(input, 0, dag, output);
-    while room < left {
-        io::write_all(STDOUT_FILENO, output);
-        left -= room;
-        from += room;
-        orcrun(input, from, dag, output);
-    }
-    io::write_all(STDOUT_FILENO, &output[0..left]);
-}
-
-// Reads an input and shows its run. Answers false where none is left.
+// Reads an input and prints its run. Answers false where none is left.
 fn next(number: u64, input: &mut [u8], dag: &mut [u32; WORDS], output: &mut [u8]) -> bool
     requires { ⌜ 0 < length (now output) ⌝ }
 {
@@ -56,7 +40,7 @@ fn next(number: u64, input: &mut [u8], dag: &mut [u32; WORDS], output: &mut [u8]
         return false;
     }
     head(number);
-    show(&input[0..n], dag, output);
+    print(&input[0..n], dag, output);
     true
 }
 
