@@ -1,5 +1,5 @@
-// The program: standard input, one run, standard output. `orcrun` and `orcrun_long` call `standard::run_input` and nothing else, `cases` prints
-// by `pieces::print`.
-pub mod pieces;
+// The program: standard input, one run, standard output. `orcrun` and `orcrun_long` call `standard::run_input` and nothing else; `cases`
+// prints by `output::print_run`.
+pub mod output;
 pub mod standard;
-pub mod written;
+mod written;

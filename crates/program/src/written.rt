@@ -11,14 +11,14 @@ pub struct Written {
     bytes: usize,
 }
 
-pub fn nothing() -> Written
+pub(crate) fn nothing() -> Written
     ensures { λ r. ⌜ r .bytes ≡ 0 ⌝ }
 {
     Written { bytes: 0 }
 }
 
 // Writes the piece of what the run prints that comes next.
-pub fn write_piece(written: Written, piece: &[u8], input: &[u8]) -> Written
+pub(crate) fn write_piece(written: Written, piece: &[u8], input: &[u8]) -> Written
     requires { ⌜ now piece ≡ take (length (now piece)) (drop (written .bytes) (orcrun (now input))) ⌝ }
     requires { ⌜ (written .bytes + length (now piece)) < 18446744073709551616 ⌝ }
     ensures { λ r. ⌜ r .bytes ≡ written .bytes + length (now (piece .entry)) ⌝ }

@@ -10,7 +10,7 @@ ghost use lib.ListN.{length};
 ghost use Rattle.model.specs.Output.Orcrun.{orcrun};
 
 // Prints what the run prints. A run that prints more than one piece is run again for the next.
-pub fn print(input: &[u8], dag: &mut [u32; WORDS], output: &mut [u8]) -> Written
+fn print(input: &[u8], dag: &mut [u32; WORDS], output: &mut [u8]) -> Written
     requires { ⌜ 0 < length (now output) ⌝ }
     ensures { λ r. ⌜ r .bytes ≡ length (orcrun (now (input .entry))) ⌝ }
 {
@@ -25,4 +25,20 @@ pub fn print(input: &[u8], dag: &mut [u32; WORDS], output: &mut [u8]) -> Written
         orcrun(input, from, dag, output);
     }
     write_piece(written, &output[0..left], input)
+}
+
+// Room for the lines of nearly every run: 256 KiB.
+fn output_buffer() -> [u8; 262144]
+    ensures { λ r. ⌜ length r ≡ 262144 ⌝ }
+{
+    [0; 262144]
+}
+
+// Runs the job of an input and prints its lines, all of them.
+pub fn print_run(input: &[u8]) -> Written
+    ensures { λ r. ⌜ r .bytes ≡ length (orcrun (now (input .entry))) ⌝ }
+{
+    let mut output = output_buffer();
+    let mut dag = [0u32; WORDS];
+    print(input, &mut dag, &mut output)
 }

@@ -7,8 +7,8 @@ use lib.ListN.{length}
 use Rattle.model.specs.Output.Orcrun.{orcrun}
 use Rattle.lines.specs.Shown.{Piece}
 use Rattle.run.proofs.Pieces.{piece-shown, piece-full, piece-last}
-use Rattle.program.proofs.pieces.print.Statement.{statement}
-use Rattle.program.proofs.pieces.print.Tie as tie
+use Rattle.program.proofs.output.print.Statement.{statement}
+use Rattle.program.proofs.output.print.Tie as tie
 
 abbrev Inv-loop : tie.InvT-loop
 Inv-loop input dag₀ output₀ room from₀ left₀ written₀ dag output from left written =
