@@ -28,7 +28,7 @@ pub fn binds_cell(w: &[u32; Machine::WORDS], p: usize) -> bool
 }
 
 // Does it name a caller, a cell or a bound cell?
-pub fn names(w: &[u32; Machine::WORDS], p: usize) -> bool
+pub(crate) fn names(w: &[u32; Machine::WORDS], p: usize) -> bool
     requires { ⌜ p < 64 ⌝ }
     ensures { λ r. ⌜ ((m : Machine) → Codes (now (w .entry)) m → r ≡ false → NoLinks (tokenAt (m .tokens) p)) ⌝ }
 {

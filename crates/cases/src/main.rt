@@ -1,13 +1,11 @@
 // Runs each stored input as `orcrun` runs its own, and prints a line `case` with its number and then what the run prints. On standard input
 // an input stands behind its length, 4 bytes, the lowest first.
-use job::dag::WORDS;
 use job::wide::wide;
 use libc::STDIN_FILENO;
 use libc::STDOUT_FILENO;
+use program::output::print_run;
 use reader::entry::four_bytes;
-use run::orcrun::orcrun;
-ghost use Prim.Native.Nat.{_≤_, _<_};
-ghost use lib.ListN.{length};
+ghost use Prim.Native.Nat.{_≤_};
 
 // No more inputs than this, so that the program ends on any standard input.
 const MOST: u64 = 100000;
@@ -24,26 +22,8 @@ fn head(number: u64) {
     io::write_all(STDOUT_FILENO, b"\n");
 }
 
-// Prints what the run prints, in pieces as long as `output`.
-fn show(input: &[u8], dag: &mut [u32; WORDS], output: &mut [u8])
-    requires { ⌜ 0 < length (now output) ⌝ }
-{
-    let room = output.len();
-    let mut from = 0;
-    let mut left = orcrun(input, 0, dag, output);
-    while room < left {
-        io::write_all(STDOUT_FILENO, output);
-        left -= room;
-        from += room;
-        orcrun(input, from, dag, output);
-    }
-    io::write_all(STDOUT_FILENO, &output[0..left]);
-}
-
-// Reads an input and shows its run. Answers false where none is left.
-fn next(number: u64, input: &mut [u8], dag: &mut [u32; WORDS], output: &mut [u8]) -> bool
-    requires { ⌜ 0 < length (now output) ⌝ }
-{
+// Reads an input and prints its run. Answers false where none is left.
+fn next(number: u64, input: &mut [u8]) -> bool {
     let mut size = [0u8; 4];
     if io::read_full(STDIN_FILENO, &mut size) < 4 {
         return false;
@@ -56,18 +36,16 @@ fn next(number: u64, input: &mut [u8], dag: &mut [u32; WORDS], output: &mut [u8]
         return false;
     }
     head(number);
-    show(&input[0..n], dag, output);
+    print_run(&input[0..n]);
     true
 }
 
 fn main() {
     // One byte more than a run may have.
     let mut input = [0u8; 65537];
-    let mut output = [0u8; 65536];
-    let mut dag = [0u32; WORDS];
     let mut number = 0;
     while number < MOST {
-        if next(number, &mut input, &mut dag, &mut output) {
+        if next(number, &mut input) {
             number += 1;
         } else {
             return;

@@ -64,7 +64,7 @@ fn put_places(
 }
 
 // "low 16 bits site, high 16 bits parameter count", or the same of a definition: stores the node of the call at `at`.
-pub fn put_call(
+pub(crate) fn put_call(
     kinds: &[u8],
     operands: &[u8],
     dag: &mut [u32; WORDS],

@@ -33,7 +33,7 @@ fn single(at: usize, node: usize) -> Compiled
 }
 
 // Stores the nodes of the expression at entry `at`. So many levels of depth are left.
-pub fn compile_expression(
+pub(crate) fn compile_expression(
     kinds: &[u8],
     operands: &[u8],
     dag: &mut [u32; WORDS],

@@ -16,7 +16,7 @@ use job::dag::WHERE;
 use job::dag::WORDS;
 
 // The join's root, where `left` is that of its f: a sequence is entered at its f.
-pub fn join_root(kind: u8, plan: ExpressionPlan, left: u32) -> u32
+pub(crate) fn join_root(kind: u8, plan: ExpressionPlan, left: u32) -> u32
     requires { ⌜ plan .first < 1022 ⌝ }
     ensures { λ r. ⌜ r ≡ joinRoot (joinOf kind (plan .scope .count)) (plan .first) left ⌝ }
 {
@@ -31,7 +31,7 @@ pub fn join_root(kind: u8, plan: ExpressionPlan, left: u32) -> u32
 }
 
 // Stores the join's own nodes: `left` and `right` are the roots of its sides.
-pub fn put_own(dag: &mut [u32; WORDS], kind: u8, plan: ExpressionPlan, left: u32, right: u32)
+pub(crate) fn put_own(dag: &mut [u32; WORDS], kind: u8, plan: ExpressionPlan, left: u32, right: u32)
     requires { ⌜ plan .first + 3 ≤ 1022 ⌝ }
     ensures { λ _. ⌜ now (dag .exit) ≡ sets (now (dag .entry)) (headWords + 12 * plan .first)
         (rowsOfNodes (ownNodes (joinOf kind (plan .scope .count)) left right (plan .next))) ⌝ }

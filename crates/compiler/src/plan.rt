@@ -8,14 +8,14 @@ ghost use Rattle.reader.specs.ExpressionSides.{joinOf};
 ghost use Rattle.compiler.specs.PlanSides.{PlansLeft, PlansRight};
 
 // The variables in scope, the expression's first node, and the node toward which it goes.
-pub struct ExpressionPlan {
+pub(crate) struct ExpressionPlan {
     pub scope: Scope,
     pub first: usize,
     pub next: u32,
 }
 
 // f's nodes follow the join's own: "f toward assign(x)", "left is f toward remove(x)".
-pub fn left_plan(kind: u8, plan: ExpressionPlan) -> ExpressionPlan
+pub(crate) fn left_plan(kind: u8, plan: ExpressionPlan) -> ExpressionPlan
     requires { ⌜ (plan .first < 1022) × (3 ≤ kind) × (4 ≤ kind → plan .scope .count < 8) ⌝ }
     ensures { λ r. ⌜ ForEvery (plan .scope) (λ l. PlansLeft (joinOf kind (length l)) l (plan .first) (plan .next) r) ⌝ }
 {
@@ -43,7 +43,7 @@ pub fn left_plan(kind: u8, plan: ExpressionPlan) -> ExpressionPlan
 }
 
 // g's nodes follow f's, and so begin at `first`: "g toward remove(x)", "right is g toward choke".
-pub fn right_plan(kind: u8, plan: ExpressionPlan, first: usize) -> ExpressionPlan
+pub(crate) fn right_plan(kind: u8, plan: ExpressionPlan, first: usize) -> ExpressionPlan
     requires { ⌜ (plan .first < 1022) × (3 ≤ kind) × (4 ≤ kind → plan .scope .count < 8) ⌝ }
     ensures { λ r. ⌜ ForEvery (plan .scope) (λ l. PlansRight (joinOf kind (length l)) l (plan .first) first (plan .next) r) ⌝ }
 {

@@ -9,7 +9,7 @@ use job::dag::ROW_WORDS;
 use job::dag::WORDS;
 
 // Stores four words, from word `at` on.
-pub fn put_four(dag: &mut [u32; WORDS], at: usize, a: u32, b: u32, c: u32, d: u32)
+pub(crate) fn put_four(dag: &mut [u32; WORDS], at: usize, a: u32, b: u32, c: u32, d: u32)
     requires { ⌜ at + 4 ≤ arrayWords ⌝ }
     ensures { λ _. ⌜ now (dag .exit) ≡ sets (now (dag .entry)) at (a ∷ b ∷ c ∷ d ∷ []) ⌝ }
 {
@@ -21,7 +21,7 @@ pub fn put_four(dag: &mut [u32; WORDS], at: usize, a: u32, b: u32, c: u32, d: u3
 
 // The nodes' rows begin behind the dag's head of 67 words. No loop copies the words: by wide reads it would wait for them to be put
 // together.
-pub fn put(dag: &mut [u32; WORDS], node: usize, words: [u32; ROW_WORDS])
+pub(crate) fn put(dag: &mut [u32; WORDS], node: usize, words: [u32; ROW_WORDS])
     requires { ⌜ node < 1022 ⌝ }
     ensures { λ _. ⌜ now (dag .exit) ≡ sets (now (dag .entry)) (headWords + 12 * node) words ⌝ }
 {

@@ -77,7 +77,7 @@ fn head_holds(nodes: u32, bodies: u32, kind: u32, a: u32, b: u32, c: u32) -> boo
 }
 
 // The twelve words of a node.
-pub fn row_holds(row: &[u32], nodes: u32, bodies: u32) -> bool
+pub(crate) fn row_holds(row: &[u32], nodes: u32, bodies: u32) -> bool
     requires { ⌜ length (now row) ≡ 12 ⌝ }
     ensures { λ r. ⌜ r ≡ rowHolds nodes bodies (now (row .entry)) ⌝ }
 {

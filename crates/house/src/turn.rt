@@ -24,13 +24,13 @@ use turns::reply::is_refused;
 use unchecked::step::step;
 
 // How many bytes are printed, and whether the run is over.
-pub struct TurnEnd {
+pub(crate) struct TurnEnd {
     pub total: usize,
     pub over: bool,
 }
 
 // "With the queue empty it delivers a record"; a refused answer doesn't end the run.
-pub fn deliver_turn(
+pub(crate) fn deliver_turn(
     w: &mut [u32; Machine::WORDS],
     tokens: &[bool; Machine::TOKENS],
     rest: &[u8],
@@ -53,7 +53,7 @@ pub fn deliver_turn(
 }
 
 // "It runs house order"; "a refused step ends the run".
-pub fn step_turn(
+pub(crate) fn step_turn(
     w: &mut [u32; Machine::WORDS],
     tokens: &mut [bool; Machine::TOKENS],
     cells: &mut [bool; Machine::CELLS],

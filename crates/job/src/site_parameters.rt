@@ -4,7 +4,7 @@ ghost use mathlib.Core.Path.{_≡_};
 ghost use Rattle.job.specs.Site.{siteTakes};
 
 // "Each built-in site has a fixed parameter count": let, ift, iff, signal, add, less, equal.
-pub const BUILTIN_COUNTS: [u32; 7] = [1, 1, 1, 0, 2, 2, 2];
+const BUILTIN_COUNTS: [u32; 7] = [1, 1, 1, 0, 2, 2, 2];
 
 // The built-in sites have the numbers below this one.
 pub const BUILTIN_LIMIT: u32 = 7;

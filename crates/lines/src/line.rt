@@ -8,10 +8,10 @@ ghost use Rattle.model.specs.Output.Line.{textOf, lineOf, call, publish, refuse
 ghost use Rattle.decimal.specs.Written.{Written};
 
 // No line is longer: `few` of each contract.
-pub const LONGEST: usize = 80;
+pub(crate) const LONGEST: usize = 80;
 
 // (the first `count` of the values)
-pub fn put_call(
+pub(crate) fn put_call(
     buffer: &mut [u8],
     at: usize,
     handle: u32,
@@ -29,7 +29,7 @@ pub fn put_call(
     word::put_feed(buffer, to)
 }
 
-pub fn put_publish(buffer: &mut [u8], at: usize, v: i32) -> usize
+pub(crate) fn put_publish(buffer: &mut [u8], at: usize, v: i32) -> usize
     requires { ⌜ at + 80 ≤ length (now buffer) ⌝ }
     ensures { λ r. ⌜ Written 80 (now (buffer .entry)) at (textOf (publish v)) (now (buffer .exit)) r ⌝ }
 {
@@ -48,14 +48,14 @@ fn put_counted(buffer: &mut [u8], at: usize, first: &[u8], n: u32) -> usize
     word::put_feed(buffer, to)
 }
 
-pub fn put_refused(buffer: &mut [u8], at: usize, n: u8) -> usize
+pub(crate) fn put_refused(buffer: &mut [u8], at: usize, n: u8) -> usize
     requires { ⌜ at + 80 ≤ length (now buffer) ⌝ }
     ensures { λ r. ⌜ Written 80 (now (buffer .entry)) at (textOf (refused n)) (now (buffer .exit)) r ⌝ }
 {
     put_counted(buffer, at, b"refused", n as u32)
 }
 
-pub fn put_end(buffer: &mut [u8], at: usize, steps: u32) -> usize
+pub(crate) fn put_end(buffer: &mut [u8], at: usize, steps: u32) -> usize
     requires { ⌜ at + 80 ≤ length (now buffer) ⌝ }
     ensures { λ r. ⌜ Written 80 (now (buffer .entry)) at (textOf (end steps)) (now (buffer .exit)) r ⌝ }
 {
@@ -72,14 +72,14 @@ pub fn put_table(buffer: &mut [u8], at: usize, n: u8, entry: u32) -> usize
     word::put_feed(buffer, to)
 }
 
-pub fn put_limit(buffer: &mut [u8], at: usize) -> usize
+pub(crate) fn put_limit(buffer: &mut [u8], at: usize) -> usize
     requires { ⌜ at + 80 ≤ length (now buffer) ⌝ }
     ensures { λ r. ⌜ Written 80 (now (buffer .entry)) at (textOf limit) (now (buffer .exit)) r ⌝ }
 {
     word::put_word(buffer, at, b"limit\n")
 }
 
-pub fn put_short(buffer: &mut [u8], at: usize) -> usize
+pub(crate) fn put_short(buffer: &mut [u8], at: usize) -> usize
     requires { ⌜ at + 80 ≤ length (now buffer) ⌝ }
     ensures { λ r. ⌜ Written 80 (now (buffer .entry)) at (textOf short) (now (buffer .exit)) r ⌝ }
 {

@@ -7,7 +7,7 @@ ghost use Rattle.lines.specs.Shown.{ShowsBytes, withByte};
 use crate::line::LONGEST;
 
 // Is there room for a whole line behind the first `total` bytes? Then it is put there at once, without a buffer.
-pub fn has_room(output: &[u8], from: usize, total: usize) -> bool
+pub(crate) fn has_room(output: &[u8], from: usize, total: usize) -> bool
     requires { ⌜ total + 80 ≤ 1000000000 ⌝ }
     ensures { λ r. ⌜ (r ≡ true → (from ≤ total) × (total - from + 80 ≤ length (now (output .entry)))) ⌝ }
 {

@@ -8,7 +8,7 @@ ghost use Rattle.lines.specs.WordBytes.{spaced, allSpaced, lineFeed};
 use decimal::signed;
 use decimal::unsigned;
 
-pub fn put_word(buffer: &mut [u8], at: usize, word: &[u8]) -> usize
+pub(crate) fn put_word(buffer: &mut [u8], at: usize, word: &[u8]) -> usize
     requires { ⌜ at + length (now word) ≤ length (now buffer) ⌝ }
     ensures { λ r. ⌜ Written (length (now (word .entry))) (now (buffer .entry)) at (now (word .entry)) (now (buffer .exit)) r ⌝ }
 {
@@ -22,7 +22,7 @@ pub fn put_word(buffer: &mut [u8], at: usize, word: &[u8]) -> usize
     to
 }
 
-pub fn put_number(buffer: &mut [u8], at: usize, n: u32) -> usize
+pub(crate) fn put_number(buffer: &mut [u8], at: usize, n: u32) -> usize
     requires { ⌜ at + 11 ≤ length (now buffer) ⌝ }
     ensures { λ r. ⌜ Written 11 (now (buffer .entry)) at (spaced (decimal n)) (now (buffer .exit)) r ⌝ }
 {
@@ -30,7 +30,7 @@ pub fn put_number(buffer: &mut [u8], at: usize, n: u32) -> usize
     unsigned::put_decimal(buffer, at + 1, n)
 }
 
-pub fn put_value(buffer: &mut [u8], at: usize, v: i32) -> usize
+pub(crate) fn put_value(buffer: &mut [u8], at: usize, v: i32) -> usize
     requires { ⌜ at + 12 ≤ length (now buffer) ⌝ }
     ensures { λ r. ⌜ Written 12 (now (buffer .entry)) at (spaced (signedDecimal v)) (now (buffer .exit)) r ⌝ }
 {
@@ -39,7 +39,7 @@ pub fn put_value(buffer: &mut [u8], at: usize, v: i32) -> usize
 }
 
 // As many of the values as `count` says. Each is read by itself, so that the array is not copied.
-pub fn put_value_list(buffer: &mut [u8], at: usize, values: [i32; 4], count: usize) -> usize
+pub(crate) fn put_value_list(buffer: &mut [u8], at: usize, values: [i32; 4], count: usize) -> usize
     requires { ⌜ (at + 48 ≤ length (now buffer)) × (count ≤ 4) ⌝ }
     ensures { λ r. ⌜ Written 48 (now (buffer .entry)) at (allSpaced (map signedDecimal (take count values))) (now (buffer .exit)) r ⌝ }
 {
@@ -61,7 +61,7 @@ pub fn put_value_list(buffer: &mut [u8], at: usize, values: [i32; 4], count: usi
     put_value(buffer, three, values[3])
 }
 
-pub fn put_feed(buffer: &mut [u8], at: usize) -> usize
+pub(crate) fn put_feed(buffer: &mut [u8], at: usize) -> usize
     requires { ⌜ at + 1 ≤ length (now buffer) ⌝ }
     ensures { λ r. ⌜ Written 1 (now (buffer .entry)) at lineFeed (now (buffer .exit)) r ⌝ }
 {

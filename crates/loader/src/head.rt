@@ -10,7 +10,7 @@ use job::dag::NODE_COUNT;
 use job::dag::WORDS;
 
 // Stores the two words of definition `i`.
-pub fn put_definition(dag: &mut [u32; WORDS], i: usize, root: u32, formals: u32)
+pub(crate) fn put_definition(dag: &mut [u32; WORDS], i: usize, root: u32, formals: u32)
     requires { ⌜ i < 32 ⌝ }
     ensures { λ _. ⌜ now (dag .exit) ≡ sets (now (dag .entry)) (3 + 2 * i) (root ∷ formals ∷ []) ⌝ }
 {
@@ -20,7 +20,7 @@ pub fn put_definition(dag: &mut [u32; WORDS], i: usize, root: u32, formals: u32)
 }
 
 // Stores the first three words.
-pub fn put_sizes(dag: &mut [u32; WORDS], nodes: u32, definitions: u32, goal: u32)
+pub(crate) fn put_sizes(dag: &mut [u32; WORDS], nodes: u32, definitions: u32, goal: u32)
     ensures { λ _. ⌜ now (dag .exit) ≡ sets (now (dag .entry)) 0 (nodes ∷ definitions ∷ goal ∷ []) ⌝ }
 {
     dag[NODE_COUNT] = nodes;

@@ -14,7 +14,7 @@ ghost use Rattle.reader.specs.Definition.{readDefinitionList};
 ghost use Rattle.loader.specs.ProgramStored.{DefinitionsRead, Accepts, placeBehind, storedDefinitions, storedProgram};
 
 // The first entry and the first node behind what is compiled.
-pub struct Place {
+pub(crate) struct Place {
     pub at: usize,
     pub node: usize,
 }
@@ -60,7 +60,7 @@ fn compile_definitions(
 
 // Stores the dag of a program with so many definitions, whose sizes and number of nodes its check found: each body is walked twice,
 // checked and compiled.
-pub fn compile_program(
+pub(crate) fn compile_program(
     kinds: &[u8],
     operands: &[u8],
     dag: &mut [u32; WORDS],

@@ -21,7 +21,7 @@ fn whole(dag: &[u32])
 {}
 
 // "14: dag or machine record breaks an index rule." Where none does, the marks say what is in use.
-pub fn is_lawful(
+pub(crate) fn is_lawful(
     w: &[u32; Machine::WORDS],
     dag: &[u32; WORDS],
     tokens: &mut [bool; Machine::TOKENS],

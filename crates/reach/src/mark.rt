@@ -90,7 +90,7 @@ fn active(w: &[u32; Machine::WORDS], p: usize) -> bool
 }
 
 // Marks an active token and what it reaches by its callers.
-pub fn mark_active(w: &[u32; Machine::WORDS], p: usize, marks: &mut [bool])
+pub(crate) fn mark_active(w: &[u32; Machine::WORDS], p: usize, marks: &mut [bool])
     requires { ⌜ (p < 64) × (length (now marks) ≡ 64) ⌝ }
     ensures { λ _. ⌜ ((m : Machine) → Codes (now (w .entry)) m → now (marks .exit) ≡ activeMarked m p (now (marks .entry))) ⌝ }
 {
@@ -127,7 +127,7 @@ fn mark_named(w: &[u32; Machine::WORDS], p: usize, marks: &mut [bool])
 }
 
 // The same for a token that is in use.
-pub fn mark_held(w: &[u32; Machine::WORDS], p: usize, used: bool, marks: &mut [bool])
+pub(crate) fn mark_held(w: &[u32; Machine::WORDS], p: usize, used: bool, marks: &mut [bool])
     requires { ⌜ (p < 64) × (length (now marks) ≡ 32) ⌝ }
     ensures { λ _. ⌜ ((m : Machine) → Codes (now (w .entry)) m → now (marks .exit) ≡ heldMarked m p used (now (marks .entry))) ⌝ }
 {

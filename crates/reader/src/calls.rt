@@ -22,7 +22,7 @@ fn call_holds(operand: u32, formals: &[u32; MOST_DEFINITIONS], count: usize) -> 
 }
 
 // The first call that may not. Entries of other kinds are passed by, and their operands not read.
-pub fn check_calls(
+pub(crate) fn check_calls(
     kinds: &[u8],
     operands: &[u8],
     formals: &[u32; MOST_DEFINITIONS],

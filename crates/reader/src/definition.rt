@@ -36,7 +36,7 @@ fn check_definition(kinds: &[u8], operands: &[u8], at: usize) -> Checked
 
 // So many definitions, from the first entry on. The count of formals and the number of nodes, its sink included, of each that is read
 // before the first refusal are kept.
-pub fn check_definitions(
+pub(crate) fn check_definitions(
     kinds: &[u8],
     operands: &[u8],
     count: usize,

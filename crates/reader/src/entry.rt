@@ -35,7 +35,7 @@ pub fn operand(operands: &[u8], at: usize) -> u32
 }
 
 // Does the operand of an expression's entry keep to its row of the table?
-pub fn row_holds(kind: u8, operand: u32) -> bool
+fn row_holds(kind: u8, operand: u32) -> bool
     requires { ⌜ kind < 6 ⌝ }
     ensures { λ r. ⌜ r ≡ rowHolds (kindOf kind) operand ⌝ }
 {
@@ -49,7 +49,7 @@ pub fn row_holds(kind: u8, operand: u32) -> bool
 }
 
 // The number that refuses an expression's entry by itself, or 0: so many levels of depth are left.
-pub fn fault(kind: u8, operand: u32, left: usize, scope: Scope) -> u8
+pub(crate) fn fault(kind: u8, operand: u32, left: usize, scope: Scope) -> u8
     ensures { λ r. ⌜ ForEvery scope (λ l. r ≡ expressionFault left l (kindOf kind) operand) ⌝ }
 {
     if 5 < kind {

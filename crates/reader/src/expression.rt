@@ -13,14 +13,14 @@ ghost use Rattle.reader.specs.Scope.{HasMeaning, ForEvery};
 ghost use Rattle.reader.specs.ExpressionSides.{JoinHolds};
 
 // The scopes of a join's left and right side, and the nodes that the join makes itself.
-pub struct Sides {
+struct Sides {
     pub left: Scope,
     pub right: Scope,
     pub nodes: usize,
 }
 
 // The sides of a join of this kind (3, 4 or 5): a binder takes the next number.
-pub fn sides_of(kind: u8, scope: Scope) -> Sides
+fn sides_of(kind: u8, scope: Scope) -> Sides
     requires { ⌜ (3 ≤ kind) × (4 ≤ kind → scope .count < 8) ⌝ }
     ensures { λ r. ⌜ ForEvery scope (λ l. JoinHolds kind l r) ⌝ }
 {
@@ -47,7 +47,7 @@ pub fn sides_of(kind: u8, scope: Scope) -> Sides
 }
 
 // The expression from entry `at` on, where so many levels of depth are left.
-pub fn check_expression(
+pub(crate) fn check_expression(
     kinds: &[u8],
     operands: &[u8],
     left: usize,

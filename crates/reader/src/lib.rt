@@ -3,7 +3,7 @@ mod calls;
 mod checked;
 mod definition;
 pub mod entry;
-pub mod expression;
+mod expression;
 mod parameter;
 mod program;
 pub mod scope;

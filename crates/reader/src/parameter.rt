@@ -32,7 +32,7 @@ fn parameter_fault(kinds: &[u8], operands: &[u8], scope: Scope, at: usize) -> u8
 }
 
 // So many parameters from entry `at` on.
-pub fn check_parameters(
+pub(crate) fn check_parameters(
     kinds: &[u8],
     operands: &[u8],
     count: usize,

@@ -28,7 +28,7 @@ fn check_end(kinds: &[u8], operands: &[u8], at: usize) -> Checked
 
 // The entries of a table with so many definitions: the first entry behind them and the number of nodes, or the refusal. The sizes of its
 // definitions are kept, so that no body is walked again to count it.
-pub fn check_program(
+pub(crate) fn check_program(
     kinds: &[u8],
     operands: &[u8],
     definitions: usize,

@@ -26,7 +26,7 @@ pub fn of_formals(n: u32) -> Scope
 }
 
 // Is this number bound?
-pub fn is_bound(scope: Scope, x: u32) -> bool
+pub(crate) fn is_bound(scope: Scope, x: u32) -> bool
     ensures { λ r. ⌜ ForEvery scope (λ l. r ≡ forSome (eqb x) l) ⌝ }
 {
     if SCOPE_LIMIT <= x {

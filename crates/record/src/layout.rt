@@ -10,11 +10,11 @@ pub const TOKEN_WORDS: usize = 24;
 
 pub const TOKEN_STATE_NUMBER: usize = 1;
 
-pub const TOKEN_NODE: usize = 2;
+pub(crate) const TOKEN_NODE: usize = 2;
 
-pub const TOKEN_CALLER: usize = 3;
+pub(crate) const TOKEN_CALLER: usize = 3;
 
-pub const TOKEN_CELL: usize = 4;
+pub(crate) const TOKEN_CELL: usize = 4;
 
 pub const TOKEN_VALUE_KIND: usize = 5;
 
@@ -24,7 +24,7 @@ pub const TOKEN_UNUSED: usize = 7;
 
 pub const TOKEN_BIND_KIND: usize = 8;
 
-pub const TOKEN_BIND_NUMBER: usize = 9;
+pub(crate) const TOKEN_BIND_NUMBER: usize = 9;
 
 // The words of a cell: parent, whether it has a value, the value, 0.
 pub const CELL_WORDS: usize = 4;
@@ -44,13 +44,13 @@ pub const WAITS_START: usize = 1728;
 
 pub const QUEUE_LENGTH: usize = 1792;
 
-pub const WAITS_LENGTH: usize = 1793;
+pub(crate) const WAITS_LENGTH: usize = 1793;
 
-pub const CALL_COUNT: usize = 1794;
+pub(crate) const CALL_COUNT: usize = 1794;
 
-pub const LAST_TOKEN: usize = 1795;
+pub(crate) const LAST_TOKEN: usize = 1795;
 
-pub const LAST_CELL: usize = 1796;
+pub(crate) const LAST_CELL: usize = 1796;
 
 // A token's state.
 pub const BLANK_STATE: u32 = 0;

@@ -4,7 +4,7 @@ ghost use Prim.Native.Nat.{_+_, _≤_};
 ghost use lib.ListN.{length};
 
 // What it does, the place, which word is set, and the number that is put there.
-pub struct Row {
+pub(crate) struct Row {
     pub what: u8,
     pub place: usize,
     pub which: usize,
@@ -19,7 +19,7 @@ fn small(b: u8) -> usize {
     b as usize
 }
 
-pub fn read_row(case: &[u8], at: usize) -> Row
+pub(crate) fn read_row(case: &[u8], at: usize) -> Row
     requires { ⌜ at + 8 ≤ length (now case) ⌝ }
 {
     Row {

@@ -38,7 +38,7 @@ fn is_still_caller(w: &[u32; Machine::WORDS], f: usize, shared: bool) -> bool
 }
 
 // The frame at f goes out of use, unless a token still names it.
-pub fn release(
+pub(crate) fn release(
     w: &mut [u32; Machine::WORDS],
     tokens: &mut [bool; Machine::TOKENS],
     f: usize,

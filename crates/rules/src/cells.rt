@@ -31,7 +31,7 @@ fn cell_holds(w: &[u32; Machine::WORDS], c: usize, used: bool) -> bool
     cell_coded(w, c) & (above <= CELL_PLACE_COUNT) & chain_ends(w, above)
 }
 
-pub fn cells_hold(w: &[u32; Machine::WORDS], used: &[bool; Machine::CELLS]) -> bool
+pub(crate) fn cells_hold(w: &[u32; Machine::WORDS], used: &[bool; Machine::CELLS]) -> bool
     ensures { λ r. ⌜ (r ≡ true → (c : ℕ) → c < 32 → cellAtCoded (now (w .entry)) c ≡ true)
         × ((m : Machine) → ValuesFit (now (w .entry)) m → length (now (used .entry)) ≡ 32
         → r ≡ (forAll (cellRule (m .cells)) (m .cells) and restIsBlank cellIsBlank (now (used .entry)) (m .cells))) ⌝ }

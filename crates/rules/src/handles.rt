@@ -22,7 +22,7 @@ fn is_new(list: &[u32], i: usize) -> bool
 }
 
 // Do the first so many numbers differ?
-pub fn all_differ(list: &[u32], count: usize) -> bool
+pub(crate) fn all_differ(list: &[u32], count: usize) -> bool
     requires { ⌜ (count ≤ 64) × (length (now list) ≡ 64) ⌝ }
     ensures { λ r. ⌜ r ≡ distinct (take count (now (list .entry))) ⌝ }
 {

@@ -67,7 +67,7 @@ fn counted(w: &[u32; Machine::WORDS], at: usize, n: usize) -> [u8; Machine::TOKE
 }
 
 // An order: is it one of places, with 0 behind its last name, and how often does it name each place?
-pub struct Order {
+pub(crate) struct Order {
     pub ok: bool,
     pub counts: [u8; Machine::TOKENS],
 }
@@ -102,7 +102,7 @@ fn read_order(w: &[u32; Machine::WORDS], at: usize, names: u32) -> Order
 }
 
 // The queue names the ready tokens.
-pub fn queue_order(w: &[u32; Machine::WORDS]) -> Order
+pub(crate) fn queue_order(w: &[u32; Machine::WORDS]) -> Order
     ensures { λ r. ⌜ ((m : Machine) → Codes (now (w .entry)) m
         → (allFrom (namedAs 1 (r .counts)) 0 (m .tokens) and r .ok) ≡ namesOnce isReady (m .tokens) (m .queue) (m .queued)) ⌝ }
 {
@@ -110,7 +110,7 @@ pub fn queue_order(w: &[u32; Machine::WORDS]) -> Order
 }
 
 // The wait order names the waiting ones.
-pub fn wait_order(w: &[u32; Machine::WORDS]) -> Order
+pub(crate) fn wait_order(w: &[u32; Machine::WORDS]) -> Order
     ensures { λ r. ⌜ ((m : Machine) → Codes (now (w .entry)) m
         → (allFrom (namedAs 2 (r .counts)) 0 (m .tokens) and r .ok) ≡ namesOnce isWaiting (m .tokens) (m .waits) (m .waiting)) ⌝ }
 {
@@ -124,7 +124,7 @@ fn one_if(b: bool) -> u8
 }
 
 // Is a place named so often by the queue and by the wait order as a token in that state asks?
-pub fn counts_agree(kind: u32, queue: u8, waits: u8) -> bool
+pub(crate) fn counts_agree(kind: u32, queue: u8, waits: u8) -> bool
     ensures { λ r. ⌜ r ≡ (eqb queue (once (eqb kind 1)) and eqb waits (once (eqb kind 2))) ⌝ }
 {
     (queue == one_if(kind == READY_STATE)) & (waits == one_if(kind == WAITING_STATE))

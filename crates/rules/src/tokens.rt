@@ -60,7 +60,7 @@ fn handles_of(kind: u32) -> usize
 }
 
 // The marks say which tokens are in use, the counts how often the orders name each place. Open handles are gathered on the way.
-pub fn tokens_hold(
+pub(crate) fn tokens_hold(
     w: &[u32; Machine::WORDS],
     used: &[bool; Machine::TOKENS],
     dag: &[u32],

@@ -4,7 +4,7 @@ ghost use Rattle.run.specs.Input.{tableEnd};
 use reader::table::half;
 
 // Where the table ends.
-pub fn table_end(input: &[u8]) -> usize
+pub(crate) fn table_end(input: &[u8]) -> usize
     ensures { λ r. ⌜ r ≡ tableEnd (now (input .entry)) ⌝ }
 {
     let size = input.len();

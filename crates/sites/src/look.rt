@@ -26,7 +26,7 @@ use record::layout::VALUE_SLOT;
 use record::token;
 
 // An argument: the parameter's value, or the unset cell where it is to come from.
-pub enum Argument {
+enum Argument {
     Value(i32),
     Unset(u32),
     Nothing,

@@ -32,7 +32,7 @@ use record::token::node;
 use writes::dag::dag_word;
 
 // The token at p acts at its node, whose row begins at the word `at`.
-pub fn act(
+pub(crate) fn act(
     w: &mut [u32; Machine::WORDS],
     tokens: &mut [bool; Machine::TOKENS],
     cells: &mut [bool; Machine::CELLS],

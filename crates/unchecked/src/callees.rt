@@ -45,7 +45,7 @@ fn is_shared(shared: &[bool], f: usize) -> bool
     shared[f]
 }
 
-pub fn fork_marked(
+pub(crate) fn fork_marked(
     w: &mut [u32; Machine::WORDS],
     tokens: &mut [bool; Machine::TOKENS],
     cells: &mut [bool; Machine::CELLS],
@@ -65,7 +65,7 @@ pub fn fork_marked(
     fork(w, tokens, cells, dag, place, p, at)
 }
 
-pub fn where_marked(
+pub(crate) fn where_marked(
     w: &mut [u32; Machine::WORDS],
     tokens: &mut [bool; Machine::TOKENS],
     cells: &mut [bool; Machine::CELLS],
@@ -86,7 +86,7 @@ pub fn where_marked(
 }
 
 // Nobody named the token before it became a frame.
-pub fn call_marked(
+pub(crate) fn call_marked(
     w: &mut [u32; Machine::WORDS],
     tokens: &mut [bool; Machine::TOKENS],
     cells: &mut [bool; Machine::CELLS],
@@ -107,7 +107,7 @@ pub fn call_marked(
 }
 
 // A frame that stays behind names its caller beside the token that took its links.
-pub fn return_marked(
+pub(crate) fn return_marked(
     w: &mut [u32; Machine::WORDS],
     tokens: &mut [bool; Machine::TOKENS],
     cells: &mut [bool; Machine::CELLS],

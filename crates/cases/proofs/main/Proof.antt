@@ -1,4 +1,4 @@
--- `main` is safe and ends: the arrays keep their lengths, and each turn takes one of the inputs that it may still take. Assumes nothing.
+-- `main` is safe and ends: the array keeps its length, and each turn takes one of the inputs that it may still take. Assumes nothing.
 use mathlib.Core.Path.{_≡_}
 use Prim.Native.Nat.{_-_}
 use lib.ListN.{length}
@@ -7,19 +7,16 @@ use Rattle.cases.proofs.main.Statement.{statement}
 use Rattle.cases.proofs.main.Tie as tie
 
 abbrev Inv-loop : tie.InvT-loop
-Inv-loop input₀ output₀ dag₀ number₀ input output dag number = (length input ≡ 65537) × (length output ≡ 65536)
+Inv-loop input₀ number₀ input number = length input ≡ 65537
 
 abbrev μ-loop : tie.MeasureT-loop
-μ-loop input₀ output₀ dag₀ number₀ input output dag number = 100000 - number
+μ-loop input₀ number₀ input number = 100000 - number
 
 loop-holds : tie.Need-loop-holds Inv-loop μ-loop
 loop-holds c = search needs
 
 slice-aggregate-next : tie.Need-slice-aggregate-next Inv-loop μ-loop
 slice-aggregate-next c = search needs
-
-slice-aggregate-next-2 : tie.Need-slice-aggregate-next-2 Inv-loop μ-loop
-slice-aggregate-next-2 c = search needs
 
 next-requires : tie.Need-next-requires Inv-loop μ-loop
 next-requires c κs = search needs
@@ -42,5 +39,5 @@ returns-2 c = search needs
 pub main-spec : {M : Type 1} → statement M
 main-spec =
     tie.close
-    (tie.spec Inv-loop μ-loop loop-holds slice-aggregate-next slice-aggregate-next-2 next-requires add-number loop-less loop-again returns
+    (tie.spec Inv-loop μ-loop loop-holds slice-aggregate-next next-requires add-number loop-less loop-again returns
     returns-2)

@@ -2,12 +2,14 @@
 //!
 //! They come first in the stored file, in this order, and are the same for every seed.
 
+mod programs;
 mod runs;
 mod steps;
 mod tables;
 
 use crate::syntax::{append_record, Expr, Param, Program};
 
+pub use programs::{programs, ROOM};
 pub use steps::exact_steps;
 pub use tables::full_prunes;
 

@@ -1,7 +1,7 @@
 //! Edge cases print what the paper says, or what was worked out by hand.
 
-use second::edges::{edges, exact_steps};
-use second::lines::orcrun;
+use second::edges::{edges, exact_steps, programs, ROOM};
+use second::lines::{orcrun, MOST_INPUT};
 use std::collections::BTreeSet;
 
 #[test]
@@ -9,6 +9,20 @@ fn lines() {
     for edge in edges() {
         assert_eq!(orcrun(&edge.input), edge.lines, "{}", edge.name);
     }
+}
+
+/// One program prints more than it has room for, and its second piece is no part of the first. The
+/// other's input is a run but for its last byte.
+#[test]
+fn stored_programs() {
+    let programs = programs();
+    for program in &programs {
+        assert_eq!(orcrun(&program.input), program.lines, "{}", program.name);
+    }
+    let (first, second) = programs[0].lines.split_at(ROOM);
+    assert!(!second.is_empty() && !first.contains(second));
+    let run = orcrun(&programs[1].input[..MOST_INPUT]);
+    assert!(run.starts_with("call 0 16\n") && programs[1].input.len() == MOST_INPUT + 1);
 }
 
 #[test]

@@ -1,0 +1,3 @@
+-- Laws of the timed calls.
+pub mod Calling
+pub mod LoadedTable

@@ -1,0 +1,2 @@
+-- What the timed calls give.
+pub mod Timed

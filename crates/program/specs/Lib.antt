@@ -1,0 +1,2 @@
+-- What the program reads.
+pub mod Input
