@@ -74,7 +74,8 @@ gives-swept {x} o reply {ws} r e f h =
 
 -- a refused call
 pub gives-refused : {x : Outcome} {ws dag : List ℕ} {used cells : List Bool} {m : Machine} (number : ℕ) (r : Report)
-    → Lawful ws used cells dag m → x ≡ outcome m (refuses number) → r ≡ plain (replies.Refused (refusalOf number)) → Gives x m ws used cells r
+    → Lawful ws used cells dag m → x ≡ outcome m (refuses number) → r ≡ plain (replies.Refused (refusalOf number))
+    → Gives x m ws used cells r
 unfolding outcome
 gives-refused {x} {ws} number r a e f =
     let after : x .machine ≡ _ = ap (λ (y : Outcome). y .machine) e in

@@ -40,7 +40,8 @@ pub calls-all : (dag handles : List ℕ) (most : ℕ) (ws : List ℕ) → Left d
 calls-all dag handles most ws = let z : most - 0 ≡ most = omega arith in ap (λ (k : ℕ). callsFrom dag handles k 0 0 ws) z
 
 -- what a start leaves is where a round begins
-pub in-round : (dag handles : List ℕ) (most : ℕ) (before ws : List ℕ) (r : Report) → HasResult (startOn dag before) r ws → {n : ℕ} {xs : List ℕ}
+pub in-round : (dag handles : List ℕ) (most : ℕ) (before ws : List ℕ) (r : Report) → HasResult (startOn dag before) r ws
+    → {n : ℕ} {xs : List ℕ}
     → (n ≡ callsFrom dag handles most 0 0 ws .count) × (xs ≡ callsFrom dag handles most 0 0 ws .words)
     → (n ≡ oneRound dag handles most before .count) × (xs ≡ oneRound dag handles most before .words)
 unfolding oneRound
@@ -58,7 +59,8 @@ module _ (dag handles : List ℕ) (made : Made) where
       let f = sym (ap (λ (k : ℕ). callsFrom dag handles k n at ws) z) ∙ e in
       (ap (λ (x : Made). x .count) f, ap (λ (x : Made). x .words) f)
 
-  module _ (most n at : ℕ) (ws : List ℕ) (l : n < most) (e : Left dag handles made most n at ws) (q : ℕ) (is : q ≡ machineOf ws .queued) where
+  module _ (most n at : ℕ) (ws : List ℕ) (l : n < most) (e : Left dag handles made most n at ws) (q : ℕ)
+      (is : q ≡ machineOf ws .queued) where
     here : callsFrom dag handles (suc (most - suc n)) n at ws ≡ made
     here = let z : most - n ≡ suc (most - suc n) = omega arith in sym (ap (λ (k : ℕ). callsFrom dag handles k n at ws) z) ∙ e
 
@@ -72,7 +74,8 @@ module _ (dag handles : List ℕ) (made : Made) where
         (ap (λ (x : Made). x .count) f, ap (λ (x : Made). x .words) f)
 
     -- a step
-    pub call-stepped : 0 < q → (r : Report) (next xs : List ℕ) → HasResult (stepOn dag ws 0) r next → (m a : ℕ) → m ≡ suc n → a ≡ at → xs ≡ next
+    pub call-stepped : 0 < q → (r : Report) (next xs : List ℕ) → HasResult (stepOn dag ws 0) r next → (m a : ℕ) → m ≡ suc n → a ≡ at
+        → xs ≡ next
         → Left dag handles made most m a xs
     call-stepped some r next xs result m a c d f =
         subst (λ (x : ℕ). Left dag handles made most x a xs) (sym c)

@@ -82,7 +82,8 @@ module _ (body : ℕ → Exp) (h : ℕ) where
   every w (par f g) p = every w f (λ a f′. p a (par f′ g)) and every w g (λ a g′. p a (par f g′))
   every w (seq f g) p = every w f (sorted (λ v f′. p silently (par (seq f′ g) (substitute (innermost v) g))) (λ a f′. p a (seq f′ g)))
   every w (prune f g) p =
-      every w f (λ a f′. p a (prune f′ g)) and every w g (sorted (λ v g′. p silently (substitute (innermost v) f)) (λ a g′. p a (prune f g′)))
+      every w f (λ a f′. p a (prune f′ g)) and every w g (sorted (λ v g′. p silently (substitute (innermost v) f))
+      (λ a g′. p a (prune f g′)))
   every w (pending k) p = fits w implies p (showing (answer k w)) (hand w)
   every w (hand v) p = p (showing (publish v)) stop
 

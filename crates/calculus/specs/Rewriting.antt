@@ -8,7 +8,8 @@ use lib.IntN.{ℤ}
 use Rattle.job.specs.Number.{Signed32}
 use Rattle.job.specs.Site.{gives, silent, isBuiltin, isOutside, builtin}
 use Rattle.calculus.specs.Event.{Event, Label, silently, showing}
-use Rattle.calculus.specs.Expression.{Param, value, variable, Exp, stop, site, call, par, seq, prune, pending, hand, substitute, innermost}
+use Rattle.calculus.specs.Expression.{Param, value, variable, Exp, stop, site, call, par, seq, prune, pending, hand}
+use Rattle.calculus.specs.Expression.{substitute, innermost}
 use Rattle.calculus.specs.Expression.{formals}
 
 -- every label but publishing

@@ -69,11 +69,13 @@ module _ (ws : List ℕ) where
 
   pub holds-by-parts : getD ws 0 0 ≤ 1022 → getD ws 1 0 ≤ 32
       → dagHolds (dagOf ws)
-      ≡ (ltb (getD ws 2 0) (getD ws 0 0) and forAll (bodyHolds (dagOf ws)) (dagOf ws .bodies) and forAll (nodeHolds (dagOf ws)) (dagOf ws .nodes))
+      ≡ (ltb (getD ws 2 0) (getD ws 0 0) and forAll (bodyHolds (dagOf ws)) (dagOf ws .bodies) and forAll (nodeHolds (dagOf ws))
+      (dagOf ws .nodes))
   unfolding dagHolds isNode _and_
   holds-by-parts m l =
       rw (nodes-length, bodies-length, le-leb (getD ws 0 0) 1022 m, le-leb (getD ws 1 0) 32 l)
-      (ap (λ g. ltb g (getD ws 0 0) and forAll (bodyHolds (dagOf ws)) (dagOf ws .bodies) and forAll (nodeHolds (dagOf ws)) (dagOf ws .nodes))
+      (ap (λ g. ltb g (getD ws 0 0) and forAll (bodyHolds (dagOf ws)) (dagOf ws .bodies) and forAll (nodeHolds (dagOf ws))
+      (dagOf ws .nodes))
       goal-is)
 
   -- in a dag whose rules hold the node is the one that the row would be by its kind

@@ -104,7 +104,8 @@ unfolding forSome _or_
 any-append-left test [] ys e = clash e refl
 any-append-left test (x ∷ xs) ys e = go (test x) e (λ f. any-append-left test xs ys f)
   where
-    go : (b : Bool) → (b or forSome test xs) ≡ true → (forSome test xs ≡ true → forSome test (xs ++ ys) ≡ true) → (b or forSome test (xs ++ ys)) ≡ true
+    go : (b : Bool) → (b or forSome test xs) ≡ true → (forSome test xs ≡ true → forSome test (xs ++ ys) ≡ true)
+        → (b or forSome test (xs ++ ys)) ≡ true
     go true f g = refl
     go false f g = g f
 

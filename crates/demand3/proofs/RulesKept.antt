@@ -55,7 +55,8 @@ use Rattle.model.proofs.Keeps.Facts.{Facts}
 use Rattle.model.proofs.Keeps.Clean.{Clean, clean-tokens, clean-cells}
 
 -- "open handles differ"
-handle-there : (h : ℕ) (ts : List Token) → forSome (eqb h) (openHandles ts) ≡ true → (q : ℕ) × (getD ts q blankToken .state ≡ states.Called h)
+handle-there : (h : ℕ) (ts : List Token) → forSome (eqb h) (openHandles ts) ≡ true
+    → (q : ℕ) × (getD ts q blankToken .state ≡ states.Called h)
 unfolding forSome openHandles handleOf _or_
 handle-there h [] e = clash e refl
 handle-there h (t ∷ ts) e = go (t .state) refl e (λ x. let y = handle-there h ts x in (suc (y .0), y .1))
@@ -68,7 +69,8 @@ handle-there h (t ∷ ts) e = go (t .state) refl e (λ x. let y = handle-there h
     here g true s e x f = (0, s ∙ ap states.Called (sym (eqb-eq h g e)))
     here g false s e x f = f x
 
-    go : (s : State) → t .state ≡ s → forSome (eqb h) (handleOf s ++ openHandles ts) ≡ true → (forSome (eqb h) (openHandles ts) ≡ true → Found)
+    go : (s : State) → t .state ≡ s → forSome (eqb h) (handleOf s ++ openHandles ts) ≡ true
+        → (forSome (eqb h) (openHandles ts) ≡ true → Found)
         → Found
     go states.Blank s x f = f x
     go states.Ready s x f = f x

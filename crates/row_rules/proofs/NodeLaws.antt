@@ -46,7 +46,8 @@ module _ (bs : List Bind) (k w : ℕ) where
 
 module _ (bs : List Bind) where
   bound-then : (j c k w : ℕ) (ws : List ℕ)
-      → forAll (notEmpty bs) (paramsFrom (c - j) (k ∷ w ∷ ws)) ≡ pairBound bs (ltb j c) k w and forAll (notEmpty bs) (paramsFrom (c - (j + 1)) ws)
+      → forAll (notEmpty bs) (paramsFrom (c - j) (k ∷ w ∷ ws))
+      ≡ pairBound bs (ltb j c) k w and forAll (notEmpty bs) (paramsFrom (c - (j + 1)) ws)
   unfolding paramsFrom forAll
   bound-then j c k w ws = go (decLt j c)
     where

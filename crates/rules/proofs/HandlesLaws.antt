@@ -103,7 +103,8 @@ any-last p (x ∷ xs) y = go (p x) (any-last p xs y)
 differ-last : (xs : List ℕ) (y : ℕ) → distinct (xs ++ (y ∷ [])) ≡ (distinct xs and forAll (λ (x : ℕ). not (eqb x y)) xs)
 unfolding distinct forSome forAll _and_
 differ-last [] y = refl
-differ-last (x ∷ xs) y = ap₂ _and_ (any-last (eqb x) xs y) (differ-last xs y) ∙ regroup (not (forSome (eqb x) xs)) (not (eqb x y)) (distinct xs) _
+differ-last (x ∷ xs) y = ap₂ _and_ (any-last (eqb x) xs y) (differ-last xs y)
+    ∙ regroup (not (forSome (eqb x) xs)) (not (eqb x y)) (distinct xs) _
 
 pub differ-turn : (xs : List ℕ) (i : ℕ) {ok b : Bool} → i < length xs → ok ≡ distinct (take i xs)
     → b ≡ forAll (λ (x : ℕ). not (eqb x (getD xs i 0))) (take i xs) → (ok && b) ≡ distinct (take (i + 1) xs)

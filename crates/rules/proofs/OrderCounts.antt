@@ -30,7 +30,8 @@ count-most p (x ∷ xs) = go (eqb p x) (count-most p xs)
     go true l = omega arith
     go false l = omega arith
 
-count-more : (p : ℕ) (xs : List ℕ) (i : ℕ) → i < length xs → occurrences p (take (suc i) xs) ≡ occurrences p (take i xs) + once (eqb p (getD xs i 0))
+count-more : (p : ℕ) (xs : List ℕ) (i : ℕ) → i < length xs → occurrences p (take (suc i) xs)
+    ≡ occurrences p (take i xs) + once (eqb p (getD xs i 0))
 unfolding occurrences
 count-more p [] i l = absurd (omega arith)
 count-more p (x ∷ xs) zero l = omega arith

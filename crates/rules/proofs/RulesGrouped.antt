@@ -65,7 +65,8 @@ module _ (d : Dag) (m : Machine) where
     unfolding chainsEnd
     cell-rules =
         all-both (cellInRange paper) (λ (c : Cell). chainEnds (m .cells) 32 (c .parent)) (m .cells)
-        ∙ ap (λ n. forAll (cellInRange paper) (m .cells) and forAll (λ (c : Cell). chainEnds (m .cells) n (c .parent)) (m .cells)) (sym cells)
+        ∙ ap (λ n. forAll (cellInRange paper) (m .cells) and forAll (λ (c : Cell). chainEnds (m .cells) n (c .parent)) (m .cells))
+        (sym cells)
 
     sizes-parts : sizesInRange paper m ≡ (leb (m .calls) 1000000 and ltb (m .lasttoken) 64 and ltb (m .lastcell) 32)
     unfolding sizesInRange _and_

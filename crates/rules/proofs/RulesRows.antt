@@ -87,7 +87,8 @@ module _ (d : Dag) (m : Machine) (used : List Bool) (queue waits : List ℕ) whe
       grouped false b c = refl
 
   pub seen-done : (i : ℕ) → length (m .tokens) ≤ i
-      → seen i ≡ ((forAll rule (m .tokens) and restIsBlank tokenIsBlank used (m .tokens)) and allFrom (namedByBoth queue waits) 0 (m .tokens))
+      → seen i ≡ ((forAll rule (m .tokens) and restIsBlank tokenIsBlank used (m .tokens)) and allFrom (namedByBoth queue waits) 0
+      (m .tokens))
   seen-done i l =
       ap (λ (ts : List Token). (forAll rule ts and restIsBlank tokenIsBlank used ts) and allFrom (namedByBoth queue waits) 0 ts)
       (take-all i (m .tokens) l)

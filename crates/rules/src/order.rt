@@ -53,7 +53,8 @@ fn rest_is_zero(w: &[u32; Machine::WORDS], at: usize, n: usize) -> bool
 // How often each place stands in the order.
 fn counted(w: &[u32; Machine::WORDS], at: usize, n: usize) -> [u8; Machine::TOKENS]
     requires { ⌜ (n ≤ 64) × (at ≤ 1728) × ((i : ℕ) → i < n → getD (now w) (at + i) 0 < 64) ⌝ }
-    ensures { λ r. ⌜ ((names : List ℕ) → NamesAt (now (w .entry)) at names → (p : ℕ) → p < 64 → getD r p 0 ≡ occurrences p (take n names)) ⌝ }
+    ensures { λ r. ⌜ ((names : List ℕ) → NamesAt (now (w .entry)) at names → (p : ℕ) → p < 64
+        → getD r p 0 ≡ occurrences p (take n names)) ⌝ }
 {
     let mut counts = [0u8; Machine::TOKENS];
     let mut i: usize = 0;

@@ -59,7 +59,8 @@ module _ (G : Program) (σ : Store) (new h : ℕ) where
   sequel : {Γ C E : List ℕ} {K L T : Place} {X Y X₁ Y₁ : List Token} {ρ : Substitution} {e f g : Exp} (w : ℤ)
       → T ≡ L → Grows new (suc new) E C → Gap X₁ Y₁ [] X Y → Then G σ Γ ρ g K L → Rep G σ Γ f L (X₁ ++ Y₁) C
       → Rewrites (G .body) h e silently (Exp.par (Exp.seq f (substitute (lift ρ) g)) (substitute (innermost w) (substitute (lift ρ) g)))
-      → Outcome Γ e K X Y E (running T w) acts silently (Exp.par (Exp.seq f (substitute (lift ρ) g)) (substitute (innermost w) (substitute (lift ρ) g)))
+      → Outcome Γ e K X Y E (running T w) acts silently (Exp.par (Exp.seq f (substitute (lift ρ) g))
+      (substitute (innermost w) (substitute (lift ρ) g)))
   sequel {Γ} {C} {K = K} {X = X} {Y} {X₁} {Y₁} {ρ} {f = f} {g} w q i gap (then {b = b} {B = B} {F = F} {U = U} a d r env l) rf s =
       let began : List Token = running (at b (Binding.value w ∷ B) F U) w ∷ [] in
       makes (act-at w q a) silence (once s)

@@ -60,7 +60,8 @@ pub holder-blank : (h end : ℕ) (ts : List Token) → length ts ≡ 64 → end 
 unfolding tokenAt forSome handleOf
 holder-blank h end ts l inside blank =
     steady (λ (i : ℕ). holder h i (drop i ts)) end 64 inside
-    (λ i from to. holder-on h i ts blankToken (omega arith) refl (ap (λ (t : Token). forSome (eqb h) (handleOf (t .state))) (blank i from to)))
+    (λ i from to. holder-on h i ts blankToken (omega arith) refl
+    (ap (λ (t : Token). forSome (eqb h) (handleOf (t .state))) (blank i from to)))
     ∙ holder-none h 64 ts (omega arith) refl
 
 module _ (d : Dag) (m : Machine) (k : rulesHold paper d m ≡ true) (h p : ℕ) (e : holder h 0 (m .tokens) ≡ places.At p) where

@@ -267,7 +267,8 @@ after-count n (arguments.Value v) (unset c) vs f g e = let z : _≡_ {A = ℕ} 0
 after-count n (arguments.Unset c) l vs f g e = let z : _≡_ {A = ℕ} 0 1 = cc in absurd (omega arith)
 after-count n arguments.Nothing l vs f g e = absurd (f refl)
 
-pub look-count : (cs : List Cell) (bs : List Bind) (ps : List Param) (vs : List ℤ) → forAll (notEmpty bs) ps ≡ true → look cs bs ps ≡ values vs
+pub look-count : (cs : List Cell) (bs : List Bind) (ps : List Param) (vs : List ℤ) → forAll (notEmpty bs) ps ≡ true
+    → look cs bs ps ≡ values vs
     → length vs ≡ length ps
 unfolding look
 look-count cs bs [] vs e f = let z : vs ≡ [] = cc in ap length z

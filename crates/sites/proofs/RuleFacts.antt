@@ -55,7 +55,8 @@ module _ (d : Dag) (m : Machine) (k : rulesHold paper d m ≡ true) where
   waits : NamesOnce isWaiting (m .tokens) (m .waits) (m .waiting)
   waits = names-once isWaiting (m .tokens) (m .waits) (m .waiting) (holds .waits)
 
-  below : (of : State → Bool) (array : List ℕ) (n : ℕ) → NamesOnce of (m .tokens) array n → forAll (λ (p : ℕ). ltb p 64) (take n array) ≡ true
+  below : (of : State → Bool) (array : List ℕ) (n : ℕ) → NamesOnce of (m .tokens) array n
+      → forAll (λ (p : ℕ). ltb p 64) (take n array) ≡ true
   below of array n o = subst (λ i. forAll (λ (p : ℕ). ltb p i) (take n array) ≡ true) tokens-size (o .inside)
 
   pub queue-below : forAll (λ (p : ℕ). ltb p 64) (take (m .queued) (m .queue)) ≡ true

@@ -57,10 +57,10 @@ loop-again c =
     let ready = c .before .ready .ensures in (
       omega arith,
       ⊎-elim
-          (λ w. call-stepped _ _ _ _ _ _ _ (omega arith) (loop .loop .inv .1) _ ready (w .0 .taken) _ _ _ (w .2 .ensures) _ _ (omega arith) (w .4)
-          (w .3))
-          (λ w. call-answered _ _ _ _ _ _ _ (omega arith) (loop .loop .inv .1) _ ready (w .0 .left) (w .1 .left) _ _ _ (w .4 .ensures) _ _ (omega arith)
-          (omega (arith, w .6)) (w .5))
+          (λ w. call-stepped _ _ _ _ _ _ _ (omega arith) (loop .loop .inv .1) _ ready (w .0 .taken) _ _ _ (w .2 .ensures) _ _
+          (omega arith) (w .4) (w .3))
+          (λ w. call-answered _ _ _ _ _ _ _ (omega arith) (loop .loop .inv .1) _ ready (w .0 .left) (w .1 .left) _ _ _ (w .4 .ensures) _ _
+          (omega arith) (omega (arith, w .6)) (w .5))
           (c .if1 .came),
     )
 

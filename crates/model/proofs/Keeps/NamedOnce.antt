@@ -153,7 +153,8 @@ pub take-out : {ts : List Token} {queue waits : List ℕ} (i : ℕ) → i < leng
 take-out {queue = queue} i h l = record { ready = λ r. count-without queue i r h ∙ l .ready r; waiting = l .waiting }
 
 -- a place is written: its count is what the token asks, the others' counts are what they were
-written-names : (of : State → Bool) (ts : List Token) (p : ℕ) (u : Token) (l : List ℕ) → p < length ts → occurrences p l ≡ once (of (u .state))
+written-names : (of : State → Bool) (ts : List Token) (p : ℕ) (u : Token) (l : List ℕ) → p < length ts
+    → occurrences p l ≡ once (of (u .state))
     → ((r : ℕ) → (r ≡ p → ⊥) → occurrences r l ≡ once (of (tokenAt ts r .state))) → Names of (set ts p u) l
 written-names of ts p u l i here there r = go (ℕ-discrete r p)
   where
@@ -279,7 +280,8 @@ count-dropped test r (x ∷ l) e = go (test x) refl (count-dropped test r l e)
     go true q h = let y : once (eqb r x) ≡ 0 = ap once (ne-eqb r x (λ z. clash (ap test z ∙ q) e)) in omega arith
     go false q h = h
 
-count-filter : (test : ℕ → Bool) (r : ℕ) (l : List ℕ) → (test r ≡ true → occurrences r l ≡ 1) → occurrences r (select test l) ≡ once (test r)
+count-filter : (test : ℕ → Bool) (r : ℕ) (l : List ℕ) → (test r ≡ true → occurrences r l ≡ 1)
+    → occurrences r (select test l) ≡ once (test r)
 count-filter test r l h = go (test r) refl
   where
     go : (b : Bool) → test r ≡ b → occurrences r (select test l) ≡ once b

@@ -1,5 +1,5 @@
--- Document 01's numbers and the enum's cases are one to one: the definitions refuse by number, the code hands back a case, and neither loses
--- anything. Assumes nothing.
+-- Document 01's numbers and the enum's cases are one to one: the definitions refuse by number, the code hands back a case, and neither
+-- loses anything. Assumes nothing.
 use mathlib.Core.Path.{_≡_, refl, subst}
 use Prim.Native.Nat.{ℕ, zero, suc, _+_, _-_, _≤_}
 use native.Mathlib.Omega.{arith}

@@ -1,5 +1,5 @@
--- Every byte that `orcrun` prints is of a line of the grammar, and the lines stand in its order: line by line, from what is printed. Assumes
--- nothing.
+-- Every byte that `orcrun` prints is of a line of the grammar, and the lines stand in its order: line by line, from what is printed.
+-- Assumes nothing.
 use mathlib.Core.Path.{_≡_, refl, sym, _∙_, ap, subst}
 use mathlib.Core.Bool.{Bool, true, false}
 use mathlib.Core.List.{List, [], _∷_, _++_, map, append-assoc, append-nil}
@@ -40,7 +40,10 @@ digits-numeral zero n = go (decLt n 10)
 digits-numeral (suc k) n = go (decLt n 10) (digits-numeral k (n / 10))
   where
     go : Dec (n < 10) → Numeral (decimalDigits (suc k) (n / 10))
-        → Numeral (elim (ltb n 10) as (λ b. List ℕ) [ true ↦ (48 + n) ∷ [] | false ↦ decimalDigits (suc k) (n / 10) ++ ((48 + n % 10) ∷ []) ])
+        → Numeral (elim (ltb n 10) as (λ b. List ℕ) [
+          | true ↦ (48 + n) ∷ []
+          | false ↦ decimalDigits (suc k) (n / 10) ++ ((48 + n % 10) ∷ [])
+        ])
     go (yes l) h = rw (lt-ltb n 10 l) (Numeral.last l)
     go (no l) h = rw (le-not-ltb n 10 (omega arith)) (Numeral.more {d = n % 10} h (omega arith))
 
@@ -104,7 +107,8 @@ module _ (lim : Limits) (d : Dag) where
     is-notice : OneNotice notice
     both : bytes ≡ ls ++ notice
 
-  ending : {most : ℕ} {m : Machine} {steps bytes : ℕ} {before : List Line} → Ends lim d most m steps bytes before → Ending (textOfAll before)
+  ending : {most : ℕ} {m : Machine} {steps bytes : ℕ} {before : List Line} → Ends lim d most m steps bytes before
+      → Ending (textOfAll before)
   unfolding textOfAll textOf lineOf ascii
   ending {m = m} (Ends.refused q l e) =
       record { ls = _; notice = []; is-lines = called m _; is-notice = OneNotice.none; both = sym (append-nil _) }
@@ -127,7 +131,8 @@ module _ (lim : Limits) (d : Dag) where
 
       go : Ending (textOfAll (p .before)) → WholeOutput (textOfAll lines)
       go e =
-          subst WholeOutput (sym text) (WholeOutput.run (lines-append (called m (p .calls)) (e .is-lines)) (e .is-notice) (decimal-numeral n))
+          subst WholeOutput (sym text) (WholeOutput.run (lines-append (called m (p .calls)) (e .is-lines)) (e .is-notice)
+          (decimal-numeral n))
         where
           last : List ℕ
           last = ascii "end" ++ restOfLine (decimal n ∷ [])

@@ -61,7 +61,8 @@ module _ (M : Labels) (W : World) where
           foundAt first
           (spot {Before = []} {Behind = B} (ap (λ r. r ∷ B) (sym i)) (subst (λ r. TokenSeen W M (tokenAt (W .tokens) r) y) (sym i) v) nobody
           s)
-      go false e f = at-later v (f (let z : 0 < once (eqb p q) + occurrences p B = l in let i : once (eqb p q) ≡ 0 = rw e refl in omega arith))
+      go false e f =
+          at-later v (f (let z : 0 < once (eqb p q) + occurrences p B = l in let i : once (eqb p q) ≡ 0 = rw e refl in omega arith))
 
   -- found by the abstract machine's token
   pub data FoundOf (x : Abstract.Token) (A : List ℕ) (L R : List Abstract.Token) : Type 0 where
@@ -217,7 +218,8 @@ module _ {M : Labels} {W : World} {p : ℕ} {L R : List Abstract.Token} (o : Oth
           let f = h r n in
           omega arith
 
-  one-rewrites : (N : List ℕ) → ((r : ℕ) → (r ≡ p → ⊥) → occurrences r N ≡ 0) → occurrences p N ≡ alive u → Rewrites W (oneWritten W p u) p N
+  one-rewrites : (N : List ℕ) → ((r : ℕ) → (r ≡ p → ⊥) → occurrences r N ≡ 0) → occurrences p N ≡ alive u
+      → Rewrites W (oneWritten W p u) p N
   one-rewrites N h k =
       record {
         kept = one-kept;
@@ -286,7 +288,8 @@ module _ {M : Labels} {W : World} {p : ℕ} {L R : List Abstract.Token} (o : Oth
           parents = parents;
         }
 
-    two-live : (N : List ℕ) → isLive (w .state) ≡ true → ((r : ℕ) → (r ≡ p → ⊥) → occurrences r N ≡ once (eqb r q)) → occurrences p N ≡ alive u
+    two-live : (N : List ℕ) → isLive (w .state) ≡ true → ((r : ℕ) → (r ≡ p → ⊥) → occurrences r N ≡ once (eqb r q))
+        → occurrences p N ≡ alive u
         → (r : ℕ) → alive (tokenAt (W′ .tokens) r) + once (eqb r p) ≡ alive (tokenAt (W .tokens) r) + occurrences r N
     two-live N l h k r = go (ℕ-discrete r p) (ℕ-discrete r q)
       where
@@ -311,7 +314,8 @@ module _ {M : Labels} {W : World} {p : ℕ} {L R : List Abstract.Token} (o : Oth
             let f = h r n in
             omega arith
 
-    two-rewrites : (N : List ℕ) → isLive (w .state) ≡ true → ((r : ℕ) → (r ≡ p → ⊥) → occurrences r N ≡ once (eqb r q)) → occurrences p N ≡ alive u
+    two-rewrites : (N : List ℕ) → isLive (w .state) ≡ true → ((r : ℕ) → (r ≡ p → ⊥) → occurrences r N ≡ once (eqb r q))
+        → occurrences p N ≡ alive u
         → Rewrites W W′ p N
     two-rewrites N l h k =
         record {

@@ -212,7 +212,8 @@ count-there r p A l = omega arith
 
 module _ {M : Labels} {O W : World} where
   pub tokens-map : {A : List ℕ} {S : List Abstract.Token}
-      → ((p : ℕ) (x : Abstract.Token) → 0 < occurrences p A → TokenSeen O M (tokenAt (O .tokens) p) x → TokenSeen W M (tokenAt (W .tokens) p) x)
+      → ((p : ℕ) (x : Abstract.Token) → 0 < occurrences p A → TokenSeen O M (tokenAt (O .tokens) p) x
+      → TokenSeen W M (tokenAt (W .tokens) p) x)
       → TokensSeen O M A S → TokensSeen W M A S
   tokens-map h nobody = nobody
   tokens-map h (also {p = p} {x = x} {A = A} v r) = also (h p x (count-here p A) v) (tokens-map (λ q y l. h q y (count-there q p A l)) r)

@@ -33,7 +33,8 @@ unfolding forSome _or_
 any-rest test [] D e = e
 any-rest test (c ∷ C) D e = go (test c) e (λ f. any-rest test C D f)
   where
-    go : (b : Bool) → (b or forSome test (C ++ D)) ≡ false → (forSome test (C ++ D) ≡ false → forSome test D ≡ false) → forSome test D ≡ false
+    go : (b : Bool) → (b or forSome test (C ++ D)) ≡ false → (forSome test (C ++ D) ≡ false → forSome test D ≡ false)
+        → forSome test D ≡ false
     go true x f = clash refl x
     go false x f = f x
 

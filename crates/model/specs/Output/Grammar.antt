@@ -22,7 +22,8 @@ restOfLine (w ∷ ws) = ascii " " ++ (w ++ restOfLine ws)
 
 -- "`call` handle site parameters; `publish` value; `refused` number"
 pub data ReplyLine : List ℕ → Type 0 where
-  call : {h s : List ℕ} {vs : List (List ℕ)} → Numeral h → Numeral s → All SignedNumeral vs → ReplyLine (ascii "call" ++ restOfLine (h ∷ s ∷ vs))
+  call : {h s : List ℕ} {vs : List (List ℕ)} → Numeral h → Numeral s → All SignedNumeral vs
+      → ReplyLine (ascii "call" ++ restOfLine (h ∷ s ∷ vs))
   publish : {v : List ℕ} → SignedNumeral v → ReplyLine (ascii "publish" ++ restOfLine (v ∷ []))
   refused : {n : List ℕ} → Numeral n → ReplyLine (ascii "refused" ++ restOfLine (n ∷ []))
 

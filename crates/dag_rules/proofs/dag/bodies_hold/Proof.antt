@@ -40,7 +40,8 @@ returns : tie.Need-returns Inv-loop μ-loop
 returns c =
     let place4 = c .before .before .before .before in
     let dag = place4 .args .dag .now in
-    done (forAll (bodyHolds (dagOf dag))) (dagOf dag .bodies) (c .before .loop .i) (omega (arith, bodies-length dag)) (c .before .loop .inv .1)
+    done (forAll (bodyHolds (dagOf dag))) (dagOf dag .bodies) (c .before .loop .i) (omega (arith, bodies-length dag))
+    (c .before .loop .inv .1)
 
 pub bodies-hold-spec : {M : Type 1} → statement M
 bodies-hold-spec =

@@ -41,7 +41,8 @@ returns : tie.Need-returns Inv-loop μ-loop
 returns c =
     let place5 = c .before .before .before .before .before in
     let dag = place5 .args .dag .now in
-    done (forAll (nodeHolds (dagOf dag))) (dagOf dag .nodes) (c .before .loop .i) (omega (arith, nodes-length dag)) (c .before .loop .inv .1)
+    done (forAll (nodeHolds (dagOf dag))) (dagOf dag .nodes) (c .before .loop .i) (omega (arith, nodes-length dag))
+    (c .before .loop .inv .1)
 
 pub nodes-hold-spec : {M : Type 1} → statement M
 nodes-hold-spec =

@@ -1,4 +1,5 @@
--- `print` is safe and ends; each piece that it hands on is the next of what the run prints, and together they are all of it. Assumes nothing.
+-- `print` is safe and ends; each piece that it hands on is the next of what the run prints, and together they are all of it. Assumes
+-- nothing.
 use borrow.Author.Needs.{needs}
 use native.Mathlib.Omega.{arith}
 use mathlib.Core.Path.{_≡_}
@@ -88,5 +89,5 @@ returns c = search needs
 pub print-spec : {M : Type 1} → statement M
 print-spec =
     tie.close
-    (tie.spec Inv-loop μ-loop orcrun-requires nothing-requires loop-holds write-piece-requires sub-left add-from orcrun-requires-2 loop-less loop-again
-    sub-write-piece part-write-piece-start part-write-piece-end write-piece-requires-2 same-length returns)
+    (tie.spec Inv-loop μ-loop orcrun-requires nothing-requires loop-holds write-piece-requires sub-left add-from orcrun-requires-2 loop-less
+    loop-again sub-write-piece part-write-piece-start part-write-piece-end write-piece-requires-2 same-length returns)
