@@ -4,16 +4,15 @@ use mathlib.Core.Path.{_≡_, refl, sym, ap, ap₂, subst, _∙_}
 use mathlib.Core.Bool.{Bool, true, false}
 use mathlib.Core.List.{List, []}
 use Prim.Native.Nat.{ℕ, _+_, _-_, _<_, _≤_}
-use native.Mathlib.Decide.{ℕ-discrete, decLt}
 use native.Mathlib.Omega.{arith}
-use lib.ListN.{length, set, List·getD-eq-default}
+use lib.ListN.{length, set}
 use lib.Dec.{eqb}
 use lib.IntN.{ℤ}
 use Rattle.job.specs.Number.{unsigned, signed}
 use Rattle.job.specs.Test.{_and_, forAll}
 use Rattle.job.specs.Node.{isNode}
 use Rattle.job.specs.Words.{dagOf}
-use Rattle.model.specs.Machine.Blank.{blankToken, empty, isPlace, tokenAt, slotAt}
+use Rattle.model.specs.Machine.Blank.{blankToken, isPlace, tokenAt, slotAt}
 use Rattle.model.specs.Machine.InUse.{tokensUsed, cellsUsed, sweep}
 use Rattle.model.specs.Machine.Limits.{paper}
 use Rattle.model.specs.Machine.Reply.{accepted}
@@ -42,7 +41,7 @@ use Rattle.record.specs.Holds.{Holds}
 use Rattle.record.specs.Layout.{slotKind, heldNumber, placeNumber}
 use Rattle.reach.specs.Marks.{Vacant}
 use Rattle.acts.specs.Acting.{Acting, Taking, Gives, plain}
-use Rattle.acts.specs.Links.{NoLinks, BindsNoCell}
+use Rattle.acts.specs.Links.{NoLinks}
 use Rattle.acts.proofs.Outcomes.{gives-whole, token-inside, node-rule}
 use Rattle.sites.proofs.RuleFacts.{token-range}
 use Rattle.acts.proofs.Vacancy.{vacant-row}
@@ -108,28 +107,6 @@ no-cell s k e n c f = n (e ∙ ap slotKind f)
 pub gives-as : {x y : Outcome} {m : Machine} {ws : List ℕ} {used cells : List Bool} {r : Report} → y ≡ x → Gives x m ws used cells r
     → Gives y m ws used cells r
 gives-as {x} {y} {m} {ws} {used} {cells} {r} e g = subst (λ o. Gives o m ws used cells r) (sym e) g
-
--- no variable below x is bound to a cell, and then none at all
-abbrev pub NoCellBelow : List Bind → ℕ → Type 0
-NoCellBelow bs x = (y c : ℕ) → y < x → slotAt bs y ≡ slots.Cell c → ⊥
-
-pub no-cell-more : (bs : List Bind) (x : ℕ) → NoCellBelow bs x → ((c : ℕ) → slotAt bs x ≡ slots.Cell c → ⊥) → NoCellBelow bs (x + 1)
-no-cell-more bs x none here y c l e = go (ℕ-discrete y x)
-  where
-    go : Dec (y ≡ x) → ⊥
-    go (yes f) = here c (ap (slotAt bs) (sym f) ∙ e)
-    go (no n) = none y c (omega arith) e
-
-pub no-cell-all : (bs : List Bind) (x : ℕ) → length bs ≡ 8 → 8 ≤ x → NoCellBelow bs x → BindsNoCell bs
-unfolding slotAt
-no-cell-all bs x l m none y c e = go (decLt y x)
-  where
-    outside : 8 ≤ y → slots.Empty ≡ slots.Cell c
-    outside k = sym (ap (λ (b : Bind). b .slot) (List·getD-eq-default bs empty {n = y} (omega arith))) ∙ e
-
-    go : Dec (y < x) → ⊥
-    go (yes k) = none y c k e
-    go (no k) = let f = outside (omega arith) in let z : _≡_ {A = ℕ} 0 1 = cc in omega arith
 
 -- a place's number is 0 for none
 pub no-place : (q : Place) (n : ℕ) → n ≡ placeNumber q → n ≡ 0 → q ≡ places.Nowhere

@@ -1,12 +1,22 @@
 -- What a token names. Assumes nothing: these are definitions.
 use mathlib.Core.Path.{_≡_}
+use mathlib.Core.Bool.{Bool}
 use mathlib.Core.List.{List}
 use Prim.Native.Nat.{ℕ}
-use Rattle.model.specs.Machine.Blank.{slotAt}
+use Rattle.job.specs.Test.{forSome}
+use Rattle.model.specs.Machine.Blank.{isPlace, slotAt}
+use Rattle.model.specs.Machine.InUse.{boundCell}
 use Rattle.model.specs.declared.token.Slot.the-variants as slots
 use Rattle.model.specs.declared.token.Bind.{Bind}
 use Rattle.model.specs.declared.token.Place.the-variants as places
 use Rattle.model.specs.declared.token.Token.{Token}
+
+-- is a variable bound to a cell?
+abbrev pub toCell : Bind → Bool
+toCell b = isPlace (boundCell b)
+
+abbrev pub bindsCell : List Bind → Bool
+bindsCell bs = forSome toCell bs
 
 -- no variable is bound to a cell
 abbrev pub BindsNoCell : List Bind → Type 0

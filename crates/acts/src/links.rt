@@ -5,7 +5,7 @@ ghost use Prim.Native.Nat.{_<_};
 ghost use Rattle.model.specs.Machine.Blank.{tokenAt};
 ghost use Rattle.model.specs.declared.record.Machine.{Machine};
 ghost use Rattle.record.specs.Holds.{Codes};
-ghost use Rattle.acts.specs.Links.{NoLinks, BindsNoCell};
+ghost use Rattle.acts.specs.Links.{NoLinks, bindsCell};
 use model::record::Machine;
 use record::layout::CELL_SLOT;
 use record::token::bind_kind;
@@ -15,7 +15,7 @@ use record::token::cell;
 // Does the token at p bind a cell?
 pub fn binds_cell(w: &[u32; Machine::WORDS], p: usize) -> bool
     requires { ⌜ p < 64 ⌝ }
-    ensures { λ r. ⌜ ((m : Machine) → Codes (now (w .entry)) m → r ≡ false → BindsNoCell (tokenAt (m .tokens) p .binds)) ⌝ }
+    ensures { λ r. ⌜ ((m : Machine) → Codes (now (w .entry)) m → r ≡ bindsCell (tokenAt (m .tokens) p .binds)) ⌝ }
 {
     let mut x: usize = 0;
     while x < 8 {

@@ -1,13 +1,12 @@
 -- The loops that mark from each active token, from each cell that a token names, and from those of each token in use: what a turn leaves to
 -- do. Each is one element of the list that the definition goes through. Assumes nothing.
 use mathlib.Core.Path.{_≡_, refl, sym, _∙_, ap, ap₂}
-use mathlib.Core.Bool.{Bool, true, false, _||_, true≢false}
+use mathlib.Core.Bool.{Bool, true, false}
 use mathlib.Core.Logic.{_≢_}
 use mathlib.Core.List.{List, _∷_, map}
 use Prim.Native.Nat.{ℕ, suc, _+_, _-_, _≤_, _<_}
 use native.Mathlib.Numerals.{add-one}
 use native.Mathlib.Omega.{arith}
-use borrow.Author.Count.{below-more}
 use lib.ListN.{length, getD, drop, replicate, drop-of-length-le}
 use Rattle.model.specs.Machine.Active.{isActive}
 use Rattle.model.specs.Machine.State.{isLive}
@@ -24,11 +23,10 @@ use Rattle.model.specs.declared.token.Slot.the-variants as slots
 use Rattle.model.specs.declared.token.Token.{Token}
 use Rattle.record.specs.LayoutDecoded.{placeFrom}
 use Rattle.record.specs.Layout.{placeNumber, slotKind, slotNumber}
-use Rattle.reach.specs.Marks.{callersMarked, parentsMarked, cellsMarked, activeMarked, heldMarked, BlankFrom, UnmarkedFrom}
+use Rattle.reach.specs.Marks.{callersMarked, parentsMarked, cellsMarked, activeMarked, heldMarked, BlankFrom}
 use Rattle.reach.proofs.ListLoops.{drop-next, steady}
 use Rattle.reach.proofs.PlaceNumber.{place-from}
 use Rattle.reach.proofs.MarkChain.{chains-append, chains-nowhere}
-use Rattle.job.proofs.Lists.{getD-any}
 
 -- a token's turn, by the code's answer
 module _ (m : Machine) (p : ℕ) (marks : List Bool) (b : Bool) (e : b ≡ isActive (m .cells) (tokenAt (m .tokens) p)) where
@@ -200,10 +198,3 @@ cells-last m used p marks s l h blank =
     (λ i from to. cells-next m used i marks s l to
     ∙ ap (cellsLeft m used (i + 1)) (held-blank m i (getD used i false) marks (blank i from to)))
     ∙ cells-end m used marks l
-
--- the loop that looks for a mark: where none was found before i and there is none at i, there is none before i + 1
-pub unmarked-more : (marks : List Bool) (from i : ℕ) (found : Bool) → i < length marks → (found ≡ false → UnmarkedFrom marks from i)
-    → (found || getD marks i false) ≡ false → UnmarkedFrom marks from (i + 1)
-unmarked-more marks from i true l none e k h b = absurd (true≢false e)
-unmarked-more marks from i false l none e k h b =
-    below-more (λ j. from ≤ j → getD marks j true ≡ false) i (λ j b f. none refl j f b) (λ f. getD-any marks i true false l ∙ e) k b h

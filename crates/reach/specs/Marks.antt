@@ -1,11 +1,12 @@
 -- Marks of what is in use, as they are made, kept and looked through. Assumes nothing: these are definitions.
 use mathlib.Core.Path.{_≡_}
-use mathlib.Core.Bool.{Bool, true, false}
+use mathlib.Core.Bool.{Bool, true, false, not}
 use mathlib.Core.List.{List, [], _∷_}
 use Prim.Native.Nat.{ℕ, zero, suc, _+_, _*_, _≤_, _<_}
-use lib.ListN.{getD}
-use lib.Dec.{ltb}
+use lib.ListN.{length, getD, drop}
+use lib.Dec.{eqb, ltb}
 use mir.Val.{boolByte}
+use Rattle.job.specs.Test.{forAll}
 use Rattle.model.specs.Machine.Active.{isActive}
 use Rattle.model.specs.Machine.Blank.{blankToken, blankCell, tokenAt, cellAt}
 use Rattle.model.specs.Machine.InUse.{markChain, markFromEach, cellsOf, tokensUsed, usedCells, marked, restBlanked}
@@ -69,6 +70,26 @@ abbrev pub weight : (n : ℕ) → List Bool → ℕ
 weight zero marks = 0
 weight (suc n) [] = 0
 weight (suc n) (b ∷ marks) = boolByte b + 256 * weight n marks
+
+-- is no place from this one on marked?
+abbrev pub noneFrom : List Bool → (from : ℕ) → Bool
+noneFrom marks from = forAll not (drop from marks)
+
+-- the few first places, where no other is marked, or all of them
+unfoldable pub fewOrAll : List Bool → ℕ
+fewOrAll marks = elim (noneFrom marks 8) [ true ↦ 8 | false ↦ length marks ]
+
+-- where eight marks end, from their number: 1 to 4, or 8 where one of the last four is a mark
+unfoldable pub endOfEight : ℕ → ℕ
+endOfEight n =
+    elim (ltb n 65536) [
+      | true ↦ elim (ltb n 256) [ true ↦ 1 | false ↦ 2 ]
+      | false ↦ elim (ltb n 4294967296) [ true ↦ elim (ltb n 16777216) [ true ↦ 3 | false ↦ 4 ] | false ↦ 8 ]
+    ]
+
+-- the end of the marks where they are few, else that of all places
+unfoldable pub markedEnd : List Bool → ℕ
+markedEnd marks = elim (eqb (fewOrAll marks) 8) [ true ↦ endOfEight (weight 8 marks) | false ↦ fewOrAll marks ]
 
 abbrev pub BlankFrom : Machine → (end : ℕ) → Type 0
 BlankFrom m end = (i : ℕ) → end ≤ i → i < 64 → tokenAt (m .tokens) i ≡ blankToken

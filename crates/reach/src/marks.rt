@@ -8,7 +8,7 @@ ghost use mir.Val.{boolByte};
 ghost use Rattle.model.specs.Machine.InUse.{tokensUsed, usedCells};
 ghost use Rattle.model.specs.declared.record.Machine.{Machine};
 ghost use Rattle.record.specs.Holds.{Codes};
-ghost use Rattle.reach.specs.Marks.{BlankFrom, UnmarkedFrom, weight};
+ghost use Rattle.reach.specs.Marks.{BlankFrom, UnmarkedFrom, weight, noneFrom, fewOrAll, endOfEight, markedEnd};
 use crate::mark::mark_active;
 use crate::mark::mark_held;
 use model::record::Machine;
@@ -28,7 +28,7 @@ pub fn clear(marks: &mut [bool], size: usize)
 // Is no place from this one on marked? Every mark is read, so that many are read at once.
 fn none_from(marks: &[bool], from: usize, size: usize) -> bool
     requires { ⌜ (length (now marks) ≡ size) × (from ≤ size) ⌝ }
-    ensures { λ r. ⌜ (r ≡ true → UnmarkedFrom (now (marks .entry)) from size) ⌝ }
+    ensures { λ r. ⌜ r ≡ noneFrom (now (marks .entry)) from ⌝ }
 {
     let mut found = false;
     let mut i = from;
@@ -43,6 +43,7 @@ fn none_from(marks: &[bool], from: usize, size: usize) -> bool
 pub fn few_or_all(marks: &[bool], size: usize) -> usize
     requires { ⌜ (length (now marks) ≡ size) × (8 ≤ size) ⌝ }
     ensures { λ r. ⌜ (r ≤ size) × UnmarkedFrom (now (marks .entry)) r size ⌝ }
+    ensures { λ r. ⌜ r ≡ fewOrAll (now (marks .entry)) ⌝ }
 {
     if none_from(marks, 8, size) {
         return 8;
@@ -68,7 +69,7 @@ fn first_eight(marks: &[bool]) -> u64
 
 // Where eight marks end, or somewhat behind it, from that number.
 fn end_of_eight(number: u64) -> usize
-    ensures { λ r. ⌜ (r ≤ 8) × ((marks : List Bool) → 8 ≤ length marks → number ≡ weight 8 marks → UnmarkedFrom marks r 8) ⌝ }
+    ensures { λ r. ⌜ r ≡ endOfEight number ⌝ }
 {
     if number < 65536 {
         if number < 256 {
@@ -89,6 +90,7 @@ fn end_of_eight(number: u64) -> usize
 pub fn marked_end(marks: &[bool], size: usize) -> usize
     requires { ⌜ (length (now marks) ≡ size) × (8 ≤ size) ⌝ }
     ensures { λ r. ⌜ (r ≤ size) × UnmarkedFrom (now (marks .entry)) r size ⌝ }
+    ensures { λ r. ⌜ r ≡ markedEnd (now (marks .entry)) ⌝ }
 {
     let end = few_or_all(marks, size);
     if end == 8 {

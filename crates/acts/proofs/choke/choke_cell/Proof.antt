@@ -43,10 +43,10 @@ written-requires c κs =
     (c .before .before .before .before .before .before .before .before .wide .ensures
     ∙ c .before .before .before .before .before .before .before .before .before .cell .ensures _
     (acting .taking .lawful .holds .codes)) in
-    (k .1, c .before .marked-end .ensures .0)
+    (k .1, c .before .marked-end .ensures .0 .0)
 
 sweep-to-requires : tie.Need-sweep-to-requires
-sweep-to-requires c κs = c .before .before .before .before .before .marked-end .ensures
+sweep-to-requires c κs = c .before .before .before .before .before .marked-end .ensures .0
 
 plain-requires : tie.Need-plain-requires
 plain-requires c κs = search needs
@@ -61,7 +61,7 @@ returns c = λ m a.
     let v = tokenAt (m .tokens)
     (c .before .before .before .before .before .before .before .before .before .before .before .before .before .before .before .before
     .before .args .p) .value in
-    let none = c .before .before .before .before .before .before .before .marked-end .ensures .1 in
+    let none = c .before .before .before .before .before .before .before .marked-end .ensures .0 .1 in
     gives-swept _ replies.Done _ (choke-step _ _ _ _ m _ (k .2) a) (c .plain .ensures)
     (c .before .sweep-to .ensures _
     (c .before .before .before .before .before .written .ensures m v holds (λ i from to. free-token (a .taking .lawful) i (none i from to))

@@ -1,7 +1,8 @@
 -- `links::names` meets its contract: each way out is how the definition's step ends there. Assumes nothing.
 use Rattle.acts.proofs.EndRebind.{no-place}
+use Rattle.acts.proofs.LinksBound.{binds-none}
 use Rattle.job.proofs.Test.{clash}
-use mathlib.Core.Path.{refl}
+use mathlib.Core.Path.{refl, sym, _∙_}
 use borrow.Author.Needs.{needs}
 use Rattle.acts.proofs.links.names.Statement.{statement}
 use Rattle.acts.proofs.links.names.Tie as tie
@@ -21,7 +22,7 @@ returns c = λ m h e.
       caller = no-place _ _ (c .before .before .before .before .caller .ensures m h) (c .before .before .before .if1 .taken);
       cell =
           no-place _ _ (c .before .before .cell .ensures m h) (c .before .if2 .taken);
-      binds = c .binds-cell .ensures m h e;
+      binds = binds-none _ (sym (c .binds-cell .ensures m h) ∙ e);
     }
 
 returns-2 : tie.Need-returns-2

@@ -26,7 +26,7 @@ returns : tie.Need-returns
 unfolding hasLine
 returns c = λ m dag cells shared lawful one e.
     let answered = c .before in
-    let none = answered .before .before .few-or-all .ensures .1 in
+    let none = answered .before .before .few-or-all .ensures .0 .1 in
     let turned =
     turn-answers _ _ _ _ _ _ (answered .deliver .ensures) m dag _ cells shared lawful
     (λ i from to. free-token lawful i (none i from to)) one e in
@@ -47,7 +47,7 @@ returns-2 c = λ m dag cells shared lawful one e.
     let shown = c .before .before in
     let number = shown .before .before in
     let answered = number .before .before in
-    let none = answered .before .before .few-or-all .ensures .1 in
+    let none = answered .before .before .few-or-all .ensures .0 .1 in
     let turned =
     turn-answers _ _ _ _ _ _ (answered .deliver .ensures) m dag _ cells shared lawful
     (λ i from to. free-token lawful i (none i from to)) one e in

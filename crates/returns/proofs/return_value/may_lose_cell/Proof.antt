@@ -2,6 +2,7 @@
 use mathlib.Core.Path.{refl, sym, _∙_}
 use borrow.Author.Needs.{needs}
 use Rattle.job.proofs.Test.{clash}
+use Rattle.acts.proofs.LinksBound.{binds-none}
 use Rattle.returns.proofs.FrameCallers.{same-place}
 use Rattle.returns.proofs.return_value.may_lose_cell.Statement.{statement}
 use Rattle.returns.proofs.return_value.may_lose_cell.Tie as tie
@@ -21,7 +22,7 @@ returns c = λ m h e.
       cell = same-place _ _
           (sym (c .before .before .before .cell .ensures m h) ∙ (c .before .if1 .taken ∙ c .before .before .cell2 .ensures m h));
       binds =
-          c .binds-cell .ensures m h e;
+          binds-none _ (sym (c .binds-cell .ensures m h) ∙ e);
     }
 
 returns-2 : tie.Need-returns-2
