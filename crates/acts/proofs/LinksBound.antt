@@ -1,46 +1,22 @@
 -- Whether a variable is bound to a cell: slot by slot, as the loop of `binds_cell` looks, and what it means where none is. Assumes nothing.
 use mathlib.Core.Path.{_≡_, refl, sym, _∙_, ap}
-use mathlib.Core.Bool.{Bool, true, false}
-use mathlib.Core.List.{List, [], _∷_}
-use Prim.Native.Nat.{ℕ, zero, suc, _+_, _≤_, _<_}
+use mathlib.Core.Bool.{true, false}
+use mathlib.Core.List.{List}
+use Prim.Native.Nat.{ℕ, _+_, _≤_, _<_}
 use native.Mathlib.Decide.{decLt}
 use native.Mathlib.Numerals.{add-one}
 use native.Mathlib.Omega.{arith}
 use lib.ListN.{length, getD, take, List·getD-eq-default}
 use lib.Seq.{take-all}
-use Rattle.job.specs.Test.{_or_, forSome}
 use Rattle.model.specs.Machine.Blank.{empty, isPlace, slotAt}
 use Rattle.model.specs.Machine.InUse.{boundCell}
 use Rattle.model.specs.declared.token.Bind.{Bind}
 use Rattle.model.specs.declared.token.Slot.{Slot}
 use Rattle.model.specs.declared.token.Slot.the-variants as slots
 use Rattle.record.specs.Layout.{slotKind}
+use Rattle.job.proofs.Loop.{some-at, none-before}
 use Rattle.job.proofs.Test.{clash}
 use Rattle.acts.specs.Links.{BindsNoCell, toCell, bindsCell}
-
--- a test of some element: at an index, and before the next one
-module _ {A : Type 0} (p : A → Bool) where
-  some-at : (xs : List A) (i : ℕ) (d : A) → i < length xs → p (getD xs i d) ≡ true → forSome p xs ≡ true
-  unfolding forSome _or_
-  some-at [] i d l e = absurd (omega arith)
-  some-at (x ∷ xs) zero d l e = rw e refl
-  some-at (x ∷ xs) (suc i) d l e = go (p x) (some-at xs i d (omega arith) e)
-    where
-      go : (b : Bool) → forSome p xs ≡ true → (b or forSome p xs) ≡ true
-      go true f = refl
-      go false f = f
-
-  none-before : (xs : List A) (i : ℕ) (d : A) → i < length xs → forSome p (take i xs) ≡ false → p (getD xs i d) ≡ false
-      → forSome p (take (suc i) xs) ≡ false
-  unfolding forSome _or_
-  none-before [] i d l e f = absurd (omega arith)
-  none-before (x ∷ xs) zero d l e f = rw f refl
-  none-before (x ∷ xs) (suc i) d l e f = go (p x) e (λ g. none-before xs i d (omega arith) g f)
-    where
-      go : (b : Bool) → (b or forSome p (take i xs)) ≡ false → (forSome p (take i xs) ≡ false → forSome p (take (suc i) xs) ≡ false)
-          → (b or forSome p (take (suc i) xs)) ≡ false
-      go true g h = g
-      go false g h = h g
 
 -- a slot by its kind
 is-cell : (b : Bind) (k : ℕ) → k ≡ slotKind (b .slot) → k ≡ 2 → toCell b ≡ true

@@ -11,15 +11,15 @@ use Rattle.loader.specs.declared.table.Loaded.the-variants.{Dag, Refused}
 use Rattle.model.specs.Machine.Limits.{paper}
 use Rattle.model.specs.Machine.Start.{startMachine}
 use Rattle.record.specs.Holds.{Holds}
-use Rattle.bench.specs.Timed.{nodeCount, wordsOfStart}
+use Rattle.bench.specs.Timed.{answerNodes, wordsOfStart}
 
-pub count-accepted : (a : Answer) (k : ℕ) → Dag k ≡ loaded a → k ≡ nodeCount a
-unfolding loaded nodeCount
+pub count-accepted : (a : Answer) (k : ℕ) → Dag k ≡ loaded a → k ≡ answerNodes a
+unfolding loaded answerNodes
 count-accepted (accepted p) k q = cc
 count-accepted (declined n e) k q = let z : _≡_ {A = ℕ} 0 1 = cc in absurd (omega arith)
 
-pub count-refused : (a : Answer) (n e : ℕ) → Refused n e ≡ loaded a → 0 ≡ nodeCount a
-unfolding loaded nodeCount
+pub count-refused : (a : Answer) (n e : ℕ) → Refused n e ≡ loaded a → 0 ≡ answerNodes a
+unfolding loaded answerNodes
 count-refused (accepted p) n e q = let z : _≡_ {A = ℕ} 0 1 = cc in absurd (omega arith)
 count-refused (declined m k) n e q = refl
 

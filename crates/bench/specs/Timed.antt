@@ -15,9 +15,9 @@ use Rattle.record.specs.LayoutDecoded.{machineOf}
 use Rattle.machine.specs.PublicCalls.{startOn, stepOn, answerOn}
 
 -- the number of nodes; 0 for a refused table
-unfoldable pub nodeCount : Answer → ℕ
-nodeCount (accepted p) = length (construct p .nodes)
-nodeCount (declined n e) = 0
+unfoldable pub answerNodes : Answer → ℕ
+answerNodes (accepted p) = length (construct p .nodes)
+answerNodes (declined n e) = 0
 
 -- the words of a start at the goal of a dag, which is not tested
 unfoldable pub wordsOfStart : (dag : List ℕ) → List ℕ

@@ -7,7 +7,7 @@ ghost use Rattle.model.specs.Output.Orcrun.{orcrun};
 ghost use Rattle.lines.specs.Shown.{shown};
 ghost use Rattle.record.specs.LayoutDecoded.{machineOf};
 ghost use Rattle.run.specs.Input.{dagAfter};
-ghost use Rattle.bench.specs.Timed.{nodeCount, wordsOfStart, oneRound, roundsFrom};
+ghost use Rattle.bench.specs.Timed.{answerNodes, wordsOfStart, oneRound, roundsFrom};
 use job::dag::GOAL;
 use job::dag::WORDS;
 use loader::table::Loaded;
@@ -71,7 +71,7 @@ pub extern "C" fn bench_calls(table: &[u8], handles: &[u32], most: u32, rounds: 
 // Loads a table. Answers the number of its nodes, or 0.
 #[no_mangle]
 pub extern "C" fn bench_load(table: &[u8], dag: &mut [u32; WORDS]) -> usize
-    ensures { λ r. ⌜ r ≡ nodeCount (readTable (now (table .entry))) ⌝ }
+    ensures { λ r. ⌜ r ≡ answerNodes (readTable (now (table .entry))) ⌝ }
     ensures { λ _. ⌜ now (dag .exit) ≡ loadedWords (readTable (now (table .entry))) (now (dag .entry)) ⌝ }
 {
     match load(table, dag) {
@@ -87,7 +87,7 @@ pub extern "C" fn bench_start(
     dag: &mut [u32; WORDS],
     words: &mut [u32; Machine::WORDS],
 ) -> usize
-    ensures { λ r. ⌜ r ≡ nodeCount (readTable (now (table .entry))) ⌝ }
+    ensures { λ r. ⌜ r ≡ answerNodes (readTable (now (table .entry))) ⌝ }
     ensures { λ _. ⌜ now (dag .exit) ≡ loadedWords (readTable (now (table .entry))) (now (dag .entry)) ⌝ }
     ensures { λ _. ⌜ now (words .exit) ≡ wordsOfStart (loadedWords (readTable (now (table .entry))) (now (dag .entry))) ⌝ }
 {

@@ -10,7 +10,7 @@ use Rattle.job.specs.Syntax.{Program}
 use Rattle.job.specs.Encode.{encode}
 use Rattle.job.specs.WellFormed.{WellFormed}
 use Rattle.job.specs.Read.{Read, got, refused, readBytes, Answer, accepted, declined, readerAnswer, readTable}
-use Rattle.job.proofs.Read.{Yields, something, Gives, given}
+use Rattle.job.proofs.Read.{Yields, reads, Gives, given}
 use Rattle.job.proofs.EncodeRead.{FoundBytes, bytes-found}
 use Rattle.job.proofs.ReadEncode.{bytes-read}
 
@@ -24,7 +24,7 @@ unfolding readTable readerAnswer
 accepted-found b p e = go (readBytes b) (bytes-found b) e
   where
     go : (r : Read Program) → Yields (FoundBytes b) r → readerAnswer r ≡ accepted p → Accepted b p
-    go (got g) (something f) e =
+    go (got g) (reads f) e =
         let z : g .value ≡ p = cc in subst (Accepted b) z (record { well-formed = f .well-formed; exact = f .exact })
     go (refused m n) h e = let z : _≡_ {A = ℕ} 0 1 = cc in absurd (omega arith)
 

@@ -22,7 +22,7 @@ use Rattle.job.proofs.Test.{eqb-eq, leb-le, and-left, and-right, clash}
 use Rattle.job.proofs.Number.{Byte}
 use Rattle.job.proofs.Entry.{entry-of, kind-number, kindBytes}
 use Rattle.job.proofs.Entry.{length-entries, kind-bytes-entries, operand-bytes-entries, entries-short}
-use Rattle.job.proofs.Read.{Yields, something, nothing, yields-got, yields-need, yields-bind, yields-map, yields-itself}
+use Rattle.job.proofs.Read.{Yields, reads, refuses, says-bind, yields-got, yields-need, yields-map, yields-itself}
 use Rattle.job.proofs.WellFormed.{CallRuleHolds}
 use Rattle.job.proofs.Prefix.{Begins, next, begins-append, begins-rest, begins-length, begins-exact}
 use Rattle.job.proofs.Table.{kindPart, operandPart, table-parts}
@@ -53,12 +53,12 @@ definition-kind n t = go (kindOf n) refl t
 definition-found : (formals : List ℕ) (e : ℕ) (es : List Entry) → All (CallRuleHolds formals) es
     → Yields (FoundDefinition formals es) (readDefinition e es)
 unfolding readDefinition _>>=_ entryAt rowHolds
-definition-found formals e [] holds = nothing
+definition-found formals e [] holds = (refuses tt)
 definition-found formals e (x ∷ rest) (more _ holds) =
     yields-need _ _ e _ λ k.
     yields-need (leb (x .operand) 4) _ e _ λ l.
-    yields-bind _ (exp-found formals 24 (levels (x .operand)) (suc e) rest holds) λ b h.
-    something (record {
+    says-bind _ (exp-found formals 24 (levels (x .operand)) (suc e) rest holds) λ b h.
+    reads (record {
       good = record { count = leb-le _ 4 l; body = h .good };
       begins = next (λ s. entry-of x 6 _ (definition-kind _ k) refl) (h .begins);
     })
@@ -73,12 +73,12 @@ pub program-found : (formals : List ℕ) (n e : ℕ) (es : List Entry) → All (
     → Yields (FoundProgram formals n es) (readProgram n e es)
 unfolding readProgram encodeEntries encodeDefinitions
 program-found formals zero e es holds =
-    yields-bind _ (exp-found formals 24 [] e es holds) λ g h.
-    something (record { count = refl; bodies = none; goal = h .good; begins = h .begins })
+    says-bind _ (exp-found formals 24 [] e es holds) λ g h.
+    reads (record { count = refl; bodies = none; goal = h .good; begins = h .begins })
 program-found formals (suc n) e es holds =
-    yields-bind _ (definition-found formals e es holds) λ d h.
-    yields-bind _ (program-found formals n (d .next) (d .rest) (begins-rest (h .begins) holds)) λ p hs.
-    something (record {
+    says-bind _ (definition-found formals e es holds) λ d h.
+    says-bind _ (program-found formals n (d .next) (d .rest) (begins-rest (h .begins) holds)) λ p hs.
+    reads (record {
       count = ap suc (hs .count);
       bodies = more (h .good) (hs .bodies);
       goal = hs .goal;
@@ -89,12 +89,12 @@ program-found formals (suc n) e es holds =
 
 leftovers-found : (e : ℕ) (es : List Entry) → Yields (λ _. es ≡ []) (leftovers e es)
 unfolding leftovers need
-leftovers-found e [] = something refl
-leftovers-found e (x ∷ es) = nothing
+leftovers-found e [] = reads refl
+leftovers-found e (x ∷ es) = (refuses tt)
 
 holds-found : (formals : List ℕ) (e : ℕ) (es : List Entry) → Yields (λ _. All (CallRuleHolds formals) es) (definitionsHold formals e es)
 unfolding definitionsHold need
-holds-found formals e [] = something none
+holds-found formals e [] = reads none
 holds-found formals e (x ∷ es) =
     yields-need (callHolds formals x) _ _ _ λ t.
     yields-map (λ _ ts. more t ts) (holds-found formals (suc e) es)
@@ -106,10 +106,10 @@ record FoundEntries (n : ℕ) (es : List Entry) (g : Got Program) : Type 0 where
 entries-found : (n : ℕ) (es : List Entry) → Yields (FoundEntries n es) (readEntries n es)
 unfolding readEntries
 entries-found n es =
-    yields-bind _ (yields-itself (readProgram n 0 es)) λ p is.
-    yields-bind _ (leftovers-found (p .next) (p .rest)) λ _ ends.
-    yields-bind _ (holds-found (formalsOf (p .value .definitions)) 0 es) λ _ holds.
-    something (record { program = yields-got (program-found _ n 0 es holds) is; ends = ends })
+    says-bind _ (yields-itself (readProgram n 0 es)) λ p is.
+    says-bind _ (leftovers-found (p .next) (p .rest)) λ _ ends.
+    says-bind _ (holds-found (formalsOf (p .value .definitions)) 0 es) λ _ holds.
+    reads (record { program = yields-got (program-found _ n 0 es holds) is; ends = ends })
 
 module _ {n : ℕ} {es : List Entry} {g : Got Program} (found : FoundEntries n es g) where
   entries-exact : length (encodeEntries (g .value)) ≡ length es

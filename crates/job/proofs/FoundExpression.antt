@@ -17,7 +17,7 @@ use Rattle.job.specs.Read.{Got, _>>=_, entryAt, need, readParam, readPar
 use Rattle.job.proofs.Test.{eqb-eq, ltb-lt}
 use Rattle.job.proofs.Number.{signed-fits, unsigned-signed}
 use Rattle.job.proofs.Entry.{entry-of, kind-number, halves, Short}
-use Rattle.job.proofs.Read.{Yields, something, nothing, yields-need, yields-bind}
+use Rattle.job.proofs.Read.{Yields, reads, refuses, says-bind, yields-need}
 use Rattle.job.proofs.WellFormed.{any-member, site-takes, CallRuleHolds, holds-names}
 use Rattle.job.proofs.Prefix.{Begins, done, next, begins-one, begins-append, begins-rest}
 
@@ -46,20 +46,20 @@ module _ (scope : List ℕ) (e : ℕ) (x : Entry) (rest : List Entry) where
 
   param-at : (k : EntryKind) → kindOf (x .kind) ≡ k → Yields (FoundParam scope (x ∷ rest)) (readParam scope e (x ∷ rest))
   unfolding readParam _>>=_ entryAt kindOf
-  param-at EntryKind.stop q = rw (q, readParam) nothing
-  param-at EntryKind.site q = rw (q, readParam) nothing
-  param-at EntryKind.call q = rw (q, readParam) nothing
-  param-at EntryKind.par q = rw (q, readParam) nothing
-  param-at EntryKind.seq q = rw (q, readParam) nothing
-  param-at EntryKind.prune q = rw (q, readParam) nothing
-  param-at EntryKind.definition q = rw (q, readParam) nothing
-  param-at EntryKind.variable q = rw (q, readParam) (yields-need _ _ e _ λ t. something (variable-found (kind-number _ _ q) t))
-  param-at EntryKind.constant q = rw (q, readParam) (something (constant-found (kind-number _ _ q)))
-  param-at EntryKind.unknown q = rw (q, readParam) nothing
+  param-at EntryKind.stop q = rw (q, readParam) (refuses tt)
+  param-at EntryKind.site q = rw (q, readParam) (refuses tt)
+  param-at EntryKind.call q = rw (q, readParam) (refuses tt)
+  param-at EntryKind.par q = rw (q, readParam) (refuses tt)
+  param-at EntryKind.seq q = rw (q, readParam) (refuses tt)
+  param-at EntryKind.prune q = rw (q, readParam) (refuses tt)
+  param-at EntryKind.definition q = rw (q, readParam) (refuses tt)
+  param-at EntryKind.variable q = rw (q, readParam) (yields-need _ _ e _ λ t. reads (variable-found (kind-number _ _ q) t))
+  param-at EntryKind.constant q = rw (q, readParam) (reads (constant-found (kind-number _ _ q)))
+  param-at EntryKind.unknown q = rw (q, readParam) (refuses tt)
 
 param-found : (scope : List ℕ) (e : ℕ) (es : List Entry) → Yields (FoundParam scope es) (readParam scope e es)
 unfolding readParam _>>=_ entryAt
-param-found scope e [] = nothing
+param-found scope e [] = (refuses tt)
 param-found scope e (x ∷ rest) = param-at scope e x rest (kindOf (x .kind)) refl
 
 record FoundParams (n : ℕ) (scope : List ℕ) (es : List Entry) (g : Got (List Param)) : Type 0 where
@@ -69,11 +69,11 @@ record FoundParams (n : ℕ) (scope : List ℕ) (es : List Entry) (g : Got (List
 
 params-found : (n : ℕ) (scope : List ℕ) (e : ℕ) (es : List Entry) → Yields (FoundParams n scope es) (readParamList n scope e es)
 unfolding readParamList
-params-found zero scope e es = something (record { good = none; count = refl; begins = done })
+params-found zero scope e es = reads (record { good = none; count = refl; begins = done })
 params-found (suc n) scope e es =
-    yields-bind _ (param-found scope e es) λ p h.
-    yields-bind _ (params-found n scope (p .next) (p .rest)) λ ps hs.
-    something (record { good = more (h .good) (hs .good); count = ap suc (hs .count); begins = begins-append (h .begins) (hs .begins) })
+    says-bind _ (param-found scope e es) λ p h.
+    says-bind _ (params-found n scope (p .next) (p .rest)) λ ps hs.
+    reads (record { good = more (h .good) (hs .good); count = ap suc (hs .count); begins = begins-append (h .begins) (hs .begins) })
 
 -- expressions
 
@@ -101,8 +101,8 @@ module _ (formals : List ℕ) (left : ℕ) (scope : List ℕ) (e : ℕ) (x : Ent
       (readCall (Exp.site (low (x .operand))) (high (x .operand)) scope (suc e) rest)
   unfolding encodeExp readCall
   site-found k t =
-      yields-bind _ (params-found (high (x .operand)) scope (suc e) rest) λ ps h.
-      something (record {
+      says-bind _ (params-found (high (x .operand)) scope (suc e) rest) λ ps h.
+      reads (record {
         good = Good.site (subst (SiteTakes (low (x .operand))) (sym (h .count)) (site-takes _ _ t)) (h .good);
         begins = next (λ s. entry-of x 1 _ k (halves (x .operand) _ (h .count))) (h .begins);
       })
@@ -113,8 +113,8 @@ module _ (formals : List ℕ) (left : ℕ) (scope : List ℕ) (e : ℕ) (x : Ent
   unfolding encodeExp readCall
   call-found k t =
       let names = holds-names formals x k t in
-      yields-bind _ (params-found (high (x .operand)) scope (suc e) rest) λ ps h.
-      something (record {
+      says-bind _ (params-found (high (x .operand)) scope (suc e) rest) λ ps h.
+      reads (record {
         good = Good.call (names .defined) (h .count ∙ names .count) (h .good);
         begins = next (λ s. entry-of x 2 _ k (halves (x .operand) _ (h .count))) (h .begins);
       })
@@ -124,14 +124,14 @@ module _ (formals : List ℕ) (left : ℕ) (scope : List ℕ) (e : ℕ) (x : Ent
         → Yields (FoundExp formals (suc left) scope (x ∷ rest)) (readJoin (readExp left) j scope (suc e) rest)
     unfolding encodeExp readJoin
     join-found j b k holds =
-        yields-bind _ (below (scopeLeft j scope) (suc e) rest holds) λ f hf.
-        yields-bind _ (below (scopeRight j scope) (f .next) (f .rest) (begins-rest (hf .begins) holds)) λ g hg.
-        something (record { good = Good.join b (hf .good) (hg .good); begins = next (λ s. k) (begins-append (hf .begins) (hg .begins)) })
+        says-bind _ (below (scopeLeft j scope) (suc e) rest holds) λ f hf.
+        says-bind _ (below (scopeRight j scope) (f .next) (f .rest) (begins-rest (hf .begins) holds)) λ g hg.
+        reads (record { good = Good.join b (hf .good) (hg .good); begins = next (λ s. k) (begins-append (hf .begins) (hg .begins)) })
 
     exp-at : (k : EntryKind) → kindOf (x .kind) ≡ k → All (CallRuleHolds formals) (x ∷ rest)
         → Yields (FoundExp formals (suc left) scope (x ∷ rest)) (readExp (suc left) scope e (x ∷ rest))
     unfolding readExp _>>=_ entryAt need kindOf isExpression rowHolds isBinder _or_ encodeJoin
-    exp-at EntryKind.stop q holds = rw (q, readExp) (yields-need _ _ e _ λ t. something (stop-found (kind-number _ _ q) t))
+    exp-at EntryKind.stop q holds = rw (q, readExp) (yields-need _ _ e _ λ t. reads (stop-found (kind-number _ _ q) t))
     exp-at EntryKind.site q holds = rw (q, readExp) (yields-need _ _ e _ λ t. site-found (kind-number _ _ q) t)
     exp-at EntryKind.call q (more t holds) =
         rw (q, readExp) (yields-need (leb (high (x .operand)) 4) _ e _ λ _. call-found (kind-number _ _ q) t)
@@ -143,15 +143,15 @@ module _ (formals : List ℕ) (left : ℕ) (scope : List ℕ) (e : ℕ) (x : Ent
     exp-at EntryKind.prune q (more _ holds) =
         rw (q, readExp) (yields-need _ _ e _ λ t. yields-need _ _ e _ λ l.
         join-found (Join.prune _) (GoodJoin.prune (ltb-lt _ 8 l)) (bare-entry (kind-number _ _ q) t) holds)
-    exp-at EntryKind.definition q holds = rw (q, readExp) nothing
-    exp-at EntryKind.variable q holds = rw (q, readExp) nothing
-    exp-at EntryKind.constant q holds = rw (q, readExp) nothing
-    exp-at EntryKind.unknown q holds = rw (q, readExp) nothing
+    exp-at EntryKind.definition q holds = rw (q, readExp) (refuses tt)
+    exp-at EntryKind.variable q holds = rw (q, readExp) (refuses tt)
+    exp-at EntryKind.constant q holds = rw (q, readExp) (refuses tt)
+    exp-at EntryKind.unknown q holds = rw (q, readExp) (refuses tt)
 
 pub exp-found : (formals : List ℕ) (left : ℕ) → Sound formals left
 unfolding readExp _>>=_ entryAt
-exp-found formals zero scope e [] holds = nothing
-exp-found formals zero scope e (x ∷ rest) holds = yields-need _ _ e _ λ _. yields-need _ _ e _ λ _. nothing
-exp-found formals (suc left) scope e [] holds = nothing
+exp-found formals zero scope e [] holds = (refuses tt)
+exp-found formals zero scope e (x ∷ rest) holds = yields-need _ _ e _ λ _. yields-need _ _ e _ λ _. (refuses tt)
+exp-found formals (suc left) scope e [] holds = (refuses tt)
 exp-found formals (suc left) scope e (x ∷ rest) holds =
     exp-at formals left scope e x rest (exp-found formals left) (kindOf (x .kind)) refl holds

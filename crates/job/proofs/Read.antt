@@ -1,5 +1,6 @@
--- Readings in steps, both ways. `Yields P r`: if r reads anything, then P holds of it. `Gives a rest r`: r reads a and leaves
--- rest. Each follows a reading step by step, because each step either refuses or hands on what it read. Assumes nothing.
+-- Readings in steps, both ways. `Says P Q r`: if r reads anything, then P holds of it, and if it refuses, then Q of number and entry;
+-- `Yields P r`: the first alone. `Gives a rest r`: r reads a and leaves rest. Each follows a reading step by step, because each step
+-- either refuses or hands on what it read. Assumes nothing.
 use mathlib.Core.Path.{_≡_, refl, subst}
 use mathlib.Core.Bool.{Bool, true, false}
 use mathlib.Core.List.{List}
@@ -7,37 +8,6 @@ use Prim.Native.Nat.{ℕ}
 use native.Mathlib.Omega.{arith}
 use Rattle.job.specs.Entry.{Entry}
 use Rattle.job.specs.Read.{Got, Read, got, refused, _>>=_, need}
-
--- what holds of all that is read
-
-pub data Yields {A : Type 0} (P : Got A → Type 0) : Read A → Type 0 where
-  something : {g : Got A} → P g → Yields P (got g)
-  nothing : {n e : ℕ} → Yields P (refused n e)
-
-module _ {A : Type 0} {P : Got A → Type 0} where
-  pub yields-got : {r : Read A} {g : Got A} → Yields P r → r ≡ got g → P g
-  yields-got {g = g} (something {g = f} p) e = let z : f ≡ g = cc in subst P z p
-  yields-got nothing e = let z : _≡_ {A = ℕ} 0 1 = cc in absurd (omega arith)
-
-  pub yields-need : (b : Bool) (n e : ℕ) (r : Read A) → (b ≡ true → Yields P r) → Yields P (need b n e >>= (λ _. r))
-  unfolding need _>>=_
-  yields-need true n e r h = h refl
-  yields-need false n e r h = nothing
-
-  pub yields-bind : {B : Type 0} {Q : Got B → Type 0} {r : Read B} (f : Got B → Read A)
-      → Yields Q r → ((b : Got B) → Q b → Yields P (f b)) → Yields P (r >>= f)
-  unfolding _>>=_
-  yields-bind f (something {g = g} q) h = h g q
-  yields-bind f nothing h = nothing
-
-pub yields-map : {A : Type 0} {P Q : Got A → Type 0} {r : Read A} → ((g : Got A) → P g → Q g) → Yields P r → Yields Q r
-yields-map f (something {g = g} p) = something (f g p)
-yields-map f nothing = nothing
-
--- what is read is what is read
-pub yields-itself : {A : Type 0} (r : Read A) → Yields (λ g. r ≡ got g) r
-yields-itself (got g) = something refl
-yields-itself (refused n e) = nothing
 
 -- what holds of all that is read, and of each refusal
 
@@ -61,6 +31,27 @@ module _ {A : Type 0} {P : Got A → Type 0} {Q : (number entry : ℕ) → Type 
       → ((g : Got A) → P g → P′ g) → ((n e : ℕ) → Q n e → Q′ n e) → Says P Q r → Says P′ Q′ r
   says-map f h (reads {g = g} p) = reads (f g p)
   says-map f h (refuses {n = n} {e = e} q) = refuses (h n e q)
+
+-- what holds of all that is read, whatever is refused
+
+abbrev pub Yields : {A : Type 0} → (Got A → Type 0) → Read A → Type 0
+Yields P r = Says P (λ n e. Unit {0}) r
+
+module _ {A : Type 0} {P : Got A → Type 0} where
+  pub yields-got : {r : Read A} {g : Got A} → Yields P r → r ≡ got g → P g
+  yields-got {g = g} (reads {g = f} p) e = let z : f ≡ g = cc in subst P z p
+  yields-got (refuses q) e = let z : _≡_ {A = ℕ} 0 1 = cc in absurd (omega arith)
+
+  pub yields-need : (b : Bool) (n e : ℕ) (r : Read A) → (b ≡ true → Yields P r) → Yields P (need b n e >>= (λ _. r))
+  yields-need b n e r h = says-need b n e r (λ _. tt) h
+
+pub yields-map : {A : Type 0} {P Q : Got A → Type 0} {r : Read A} → ((g : Got A) → P g → Q g) → Yields P r → Yields Q r
+yields-map f h = says-map f (λ n e u. u) h
+
+-- what is read is what is read
+pub yields-itself : {A : Type 0} (r : Read A) → Yields (λ g. r ≡ got g) r
+yields-itself (got g) = reads refl
+yields-itself (refused n e) = refuses tt
 
 -- a reading that succeeds
 

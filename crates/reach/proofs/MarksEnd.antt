@@ -1,5 +1,5 @@
--- Where marks end. The loop that looks for one says of the places before its own what the test of a list does; eight marks are a number, and
--- where it is below a power of 256, the marks from there on are none. Assumes nothing.
+-- Where marks end. The loop that looks for one says of the places before its own what the test of a list does; eight marks are a number,
+-- and where it is below a power of 256, the marks from there on are none. Assumes nothing.
 use mathlib.Core.Path.{_≡_, refl, sym, _∙_, ap, subst}
 use mathlib.Core.Bool.{Bool, true, false, not, _&&_, _||_}
 use mathlib.Core.List.{List, [], _∷_}

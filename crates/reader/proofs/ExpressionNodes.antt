@@ -9,7 +9,7 @@ use Rattle.job.specs.Entry.{Entry, entries, low, high, EntryKind, kindOf}
 use Rattle.job.specs.Read.{Got, Read, got, _>>=_, entryAt, readParamList, readCall, readJoin, readExp}
 use Rattle.job.specs.Construct.{nodeCount}
 use Rattle.job.proofs.Size.{own-few}
-use Rattle.job.proofs.Read.{Yields, something, nothing, yields-got, yields-need, yields-bind, yields-map, yields-itself}
+use Rattle.job.proofs.Read.{Yields, reads, refuses, says-bind, yields-got, yields-need, yields-map, yields-itself}
 use Rattle.job.proofs.Position.{entry-from, params-from, exp-from}
 use Rattle.job.proofs.Entry.{length-entries}
 use Rattle.reader.specs.Checked.{entriesFrom, checkedExp, checkedNodes}
@@ -31,9 +31,9 @@ module _ (es : List Entry) where
       → l ≡ drop (suc e) es → suc e ≤ length es → Yields (Small e) (readCall h n scope (suc e) l)
   unfolding readCall
   call-few h one n scope e l q m =
-      yields-bind _ (yields-itself (readParamList n scope (suc e) l)) λ g r.
+      says-bind _ (yields-itself (readParamList n scope (suc e) l)) λ g r.
       let k = params-from es n scope (suc e) l g q m r .next in
-      something (record { few = omega (arith, one (g .value)) })
+      reads (record { few = omega (arith, one (g .value)) })
 
   abbrev Sides : (List ℕ → ℕ → List Entry → Read Exp) → Type 0
   Sides side = (scope : List ℕ) (e : ℕ) (l : List Entry) → l ≡ drop e es → Yields (Kept e) (side scope e l)
@@ -42,24 +42,24 @@ module _ (es : List Entry) where
       → l ≡ drop (suc e) es → Yields (Small e) (readJoin side j scope (suc e) l)
   unfolding readJoin nodeCount
   join-few side few j scope e l q =
-      yields-bind _ (few (scopeLeft j scope) (suc e) l q) λ f a.
-      yields-bind _ (few (scopeRight j scope) (f .next) (f .rest) (a .1)) λ g b.
-      something (record { few = omega (arith, own-few j, a .0 .few, b .0 .few) })
+      says-bind _ (few (scopeLeft j scope) (suc e) l q) λ f a.
+      says-bind _ (few (scopeRight j scope) (f .next) (f .rest) (a .1)) λ g b.
+      reads (record { few = omega (arith, own-few j, a .0 .few, b .0 .few) })
 
   kind-few : (side : List ℕ → ℕ → List Entry → Read Exp) → Sides side → (scope : List ℕ) (e : ℕ) (l : List Entry)
       → l ≡ drop (suc e) es → suc e ≤ length es → (k : EntryKind) (o : ℕ) → Yields (Small e) (readKind side scope e (suc e) l k o)
   unfolding readKind nodeCount
   kind-few side few scope e l q m EntryKind.stop o =
-      something {g = record { value = stop; next = suc e; rest = l }} (record { few = omega arith })
+      reads {g = record { value = stop; next = suc e; rest = l }} (record { few = omega arith })
   kind-few side few scope e l q m EntryKind.site o = call-few (λ ps. site (low o) ps) (λ ps. refl) (high o) scope e l q m
   kind-few side few scope e l q m EntryKind.call o = call-few (λ ps. call (low o) ps) (λ ps. refl) (high o) scope e l q m
   kind-few side few scope e l q m EntryKind.par o = join-few side few par scope e l q
   kind-few side few scope e l q m EntryKind.seq o = join-few side few (seq (length scope)) scope e l q
   kind-few side few scope e l q m EntryKind.prune o = join-few side few (prune (length scope)) scope e l q
-  kind-few side few scope e l q m EntryKind.definition o = nothing
-  kind-few side few scope e l q m EntryKind.variable o = nothing
-  kind-few side few scope e l q m EntryKind.constant o = nothing
-  kind-few side few scope e l q m EntryKind.unknown o = nothing
+  kind-few side few scope e l q m EntryKind.definition o = (refuses tt)
+  kind-few side few scope e l q m EntryKind.variable o = (refuses tt)
+  kind-few side few scope e l q m EntryKind.constant o = (refuses tt)
+  kind-few side few scope e l q m EntryKind.unknown o = (refuses tt)
 
   with-rest : (left : ℕ) (scope : List ℕ) (e : ℕ) (l : List Entry) → l ≡ drop e es
       → Yields (Small e) (readExp left scope e l) → Yields (Kept e) (readExp left scope e l)
@@ -68,9 +68,9 @@ module _ (es : List Entry) where
 
   exp-few : (left : ℕ) (scope : List ℕ) (e : ℕ) (l : List Entry) → l ≡ drop e es → Yields (Small e) (readExp left scope e l)
   unfolding readExp entryAt _>>=_
-  exp-few zero scope e [] q = nothing
-  exp-few zero scope e (x ∷ l) q = yields-need _ 3 e _ λ _. yields-need _ 4 e _ λ _. nothing
-  exp-few (suc left) scope e [] q = nothing
+  exp-few zero scope e [] q = (refuses tt)
+  exp-few zero scope e (x ∷ l) q = yields-need _ 3 e _ λ _. yields-need _ 4 e _ λ _. (refuses tt)
+  exp-few (suc left) scope e [] q = (refuses tt)
   exp-few (suc left) scope e (x ∷ l) q =
       let f = entry-from es e (x ∷ l) (record { value = x; next = suc e; rest = l }) q refl in
       let sides : Sides (readExp left) = λ scope e l q. with-rest left scope e l q (exp-few left scope e l q) in

@@ -12,15 +12,15 @@ use lib.Dec.{leb, eqb}
 use Rattle.job.specs.Test.{_and_}
 use Rattle.job.specs.Number.{number}
 use Rattle.job.specs.Syntax.{Program}
-use Rattle.job.specs.Entry.{entries, sizeD, sizeN, tableLength}
+use Rattle.job.specs.Entry.{entries, sizeD, sizeN, tableLength, tableEntries}
 use Rattle.job.specs.Construct.{construct}
 use Rattle.job.specs.Read.{Got, Read, got, refused, _>>=_, gives, need, readEntries, readBytes, Answer, accepted}
 use Rattle.job.specs.Read.{declined, readerAnswer, readTable}
 use Rattle.job.proofs.Test.{eqb-eq, eq-eqb, ne-eqb, leb-le, le-leb, lt-not-leb, and-left, and-right}
-use Rattle.job.proofs.Read.{Yields, something, yields-need, yields-map, yields-itself}
+use Rattle.job.proofs.Read.{Yields, reads, yields-need, yields-map, yields-itself}
 use Rattle.reader.specs.Checked.{checkedProgram}
 use Rattle.reader.specs.Definition.{definitionSizes, definitionsFound}
-use Rattle.reader.specs.Table.{tested, readSizes, tableEntries, whereSized, sizesKept}
+use Rattle.reader.specs.Table.{tested, readSizes, whereSized, sizesKept}
 use Rattle.reader.specs.declared.checked.Checked.{Checked}
 use Rattle.reader.specs.declared.checked.Checked.the-variants.{Next, Refused}
 use Rattle.reader.specs.declared.table.Tested.{Tested}
@@ -193,5 +193,5 @@ module _ (t : List ℕ) (r : Tested) (er : r ≡ tested (readTable t)) where
     where
       go : (b : Read Program) → readBytes t ≡ b → Yields (Accepts t) b → tested (readerAnswer b) ≡ Accepted k
           → (p : Got Program) × (readTable t ≡ accepted (p .value)) × (length (construct (p .value) .nodes) ≡ k) × Accepts t p
-      go (got p) e (something a) q = (p, ap readerAnswer e, (cc), a)
+      go (got p) e (reads a) q = (p, ap readerAnswer e, (cc), a)
       go (refused n i) e y q = let z : _≡_ {A = ℕ} 0 1 = cc in absurd (omega arith)

@@ -1,10 +1,10 @@
 -- What the test of a table answers, and what it keeps of the definitions. Assumes nothing: these are definitions.
 use mathlib.Core.List.{List, []}
-use Prim.Native.Nat.{ℕ, _+_}
-use lib.ListN.{length, take, drop}
+use Prim.Native.Nat.{ℕ}
+use lib.ListN.{length}
 use lib.Dec.{leb, eqb}
 use Rattle.job.specs.Test.{_and_}
-use Rattle.job.specs.Entry.{Entry, entries, sizeD, sizeN, tableLength}
+use Rattle.job.specs.Entry.{sizeD, sizeN, tableLength, tableEntries}
 use Rattle.job.specs.Read.{Read, got, refused, _>>=_, need, Answer, accepted, declined}
 use Rattle.job.specs.Construct.{construct}
 use Rattle.reader.specs.Definition.{definitionSizes, definitionsFound}
@@ -22,10 +22,6 @@ readSizes b = do
   _ ← need (leb 4 (length b)) 1 0
   _ ← need (eqb (length b) (tableLength b)) 1 0
   need (leb (sizeD b) 32 and leb 1 (sizeN b) and leb (sizeN b) 512) 2 0
-
--- the entries of a table of these sizes
-abbrev pub tableEntries : List ℕ → List Entry
-tableEntries b = entries (take (sizeN b) (drop 4 b)) (drop (4 + sizeN b) b)
 
 -- the numbers of nodes of the definitions, sinks included, that are read before the first refusal
 unfoldable pub whereSized : Read (Unit {0}) → List ℕ → List ℕ

@@ -1,13 +1,12 @@
 -- Every byte that `orcrun` prints is of a line of the grammar, and the lines stand in its order: line by line, from what is printed.
 -- Assumes nothing.
 use mathlib.Core.Path.{_≡_, refl, sym, _∙_, ap, subst}
-use mathlib.Core.Bool.{Bool, true, false}
+use mathlib.Core.Bool.{true, false}
 use mathlib.Core.List.{List, [], _∷_, _++_, map, append-assoc, append-nil}
-use mathlib.Core.Logic.{_⊎_, inl, inr}
-use Prim.Native.Nat.{ℕ, zero, suc, _+_, _/_, _%_, _<_, _≤_}
+use Prim.Native.Nat.{ℕ, zero, suc, _+_, _/_, _%_, _<_}
 use native.Mathlib.Decide.{decLt}
 use native.Mathlib.Omega.{arith}
-use lib.ListN.{length, take, drop}
+use lib.ListN.{length, take}
 use lib.Dec.{ltb}
 use lib.IntN.{ℤ, pos, negsuc}
 use Rattle.job.specs.Test.{All, none, more}
@@ -17,12 +16,11 @@ use Rattle.job.specs.Entry.{tableLength}
 use Rattle.job.specs.Read.{Answer, accepted, declined, readTable}
 use Rattle.job.specs.Construct.{construct}
 use Rattle.model.specs.Machine.Limits.{Limits, paper}
-use Rattle.model.specs.Machine.Reply.{isRefused}
 use Rattle.model.specs.Output.Line.{Line, call, publish, refused, end, lineOf, textOf, textOfAll}
 use Rattle.model.specs.Output.Orcrun.{reportedLines, orcrun}
 use Rattle.model.specs.Output.Printed.{callLines, acceptedSteps, Ends, Printed}
 use Rattle.model.specs.Output.Grammar.{Numeral, SignedNumeral, restOfLine, ReplyLine, LineSequence, OneNotice, WholeOutput}
-use Rattle.model.specs.Run.Call.{Call, runner, outcomeOf, started}
+use Rattle.model.specs.Run.Call.{Call, runner, outcomeOf}
 use Rattle.model.specs.declared.record.Machine.{Machine}
 use Rattle.model.specs.declared.reply.Reply.{Reply}
 use Rattle.model.specs.declared.reply.Reply.the-variants as replies

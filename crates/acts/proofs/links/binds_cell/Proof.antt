@@ -28,7 +28,8 @@ bind-kind-requires : tie.Need-bind-kind-requires Inv-loop μ-loop
 bind-kind-requires c κs = search needs
 
 returns : tie.Need-returns Inv-loop μ-loop
-returns c = λ m h. cell-found _ (h .shaped .binds _) (c .before .before .before .loop .x) _ (omega arith) (c .before .bind-kind .ensures m h) (c .if1 .taken)
+returns c = λ m h. cell-found _ (h .shaped .binds _) (c .before .before .before .loop .x) _ (omega arith)
+    (c .before .bind-kind .ensures m h) (c .if1 .taken)
 
 add-x : tie.Need-add-x Inv-loop μ-loop
 add-x c = search needs
