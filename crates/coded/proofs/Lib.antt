@@ -2,3 +2,4 @@
 pub mod IsRecord
 pub mod WordTests
 pub mod IsRecordRows
+pub mod RecordRead

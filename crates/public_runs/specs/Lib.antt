@@ -1,0 +1,2 @@
+-- Runs by the public calls.
+pub mod PublicRun
