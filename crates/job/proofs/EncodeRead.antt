@@ -56,7 +56,7 @@ unfolding readDefinition _>>=_ entryAt rowHolds
 definition-found formals e [] holds = (refuses tt)
 definition-found formals e (x ∷ rest) (more _ holds) =
     yields-need _ _ e _ λ k.
-    yields-need (leb (x .operand) 4) _ e _ λ l.
+    yields-need (rowHolds EntryKind.definition (x .operand)) _ e _ λ l.
     says-bind _ (exp-found formals 24 (levels (x .operand)) (suc e) rest holds) λ b h.
     reads (record {
       good = record { count = leb-le _ 4 l; body = h .good };

@@ -9,6 +9,7 @@ pub mod Position
 pub mod Read
 pub mod ScopeSlots
 pub mod WellFormed
+pub mod RowBroken
 pub mod Prefix
 pub mod Encode
 pub mod Table

@@ -5,11 +5,10 @@ use mathlib.Core.Bool.{true}
 use mathlib.Core.List.{List, [], _∷_, _++_, map, append-assoc, append-nil}
 use Prim.Native.Nat.{ℕ, suc, _+_, _*_, _<_, _≤_}
 use native.Mathlib.Omega.{arith}
-use lib.ListN.{length, length-append, length-map}
-use lib.Dec.{leb}
+use lib.ListN.{length, getD, length-append, length-map}
 use Rattle.job.specs.Test.{_or_, All, none, more}
 use Rattle.job.specs.Syntax.{Param, Join, Exp, Definition, Program, scopeLeft, scopeRight}
-use Rattle.job.specs.Entry.{Entry, entry, entries, kindOf, isExpression, rowHolds, isBinder, sizeD, sizeN, tableLength}
+use Rattle.job.specs.Entry.{Entry, entry, entries, high, kindOf, isExpression, rowHolds, isBinder, sizeD, sizeN, tableLength}
 use Rattle.job.specs.Encode.{encodeParam, encodeJoin, encodeExp, encodeDefinitions, encodeEntries, operandBytes, encode}
 use Rattle.job.specs.WellFormed.{GoodParam, GoodJoin, Good, GoodDefinition, WellFormed}
 use Rattle.job.specs.Read.{Read, _>>=_, entryAt, need, readParam, readParamList, readCall, readJoin, readExp}
@@ -20,6 +19,7 @@ use Rattle.job.proofs.Number.{signed-unsigned}
 use Rattle.job.proofs.Entry.{low-of, high-of, kindBytes, length-operand-bytes, entries-encoded}
 use Rattle.job.proofs.Read.{Gives, given, gives-need, gives-bind}
 use Rattle.job.proofs.WellFormed.{member-any, takes-site}
+use Rattle.job.proofs.RowBroken.{call-row}
 use Rattle.job.proofs.Table.{kindPart, operandPart, size-definitions, size-entries, length-table, kind-part, operand-part}
 use Rattle.job.proofs.Encode.{Few, Fine, site-small, call-small, call-count, program-few, program-fine}
 
@@ -58,6 +58,17 @@ join-read side j scope f g e rest hf hg =
     rw append-assoc (gives-bind _ (hf e (encodeExp g ++ rest)) λ n. gives-bind _ (hg n rest) λ m. given)
 
 module _ {formals : List ℕ} (few : Few formals) where
+  -- a definition call, which keeps to its row since no definition has more than 4 formals
+  call-entry-read : (left : ℕ) {scope : List ℕ} {d : ℕ} {ps : List Param} → d < length formals → length ps ≡ getD formals d 0
+      → All (GoodParam scope) ps → (e : ℕ) (rest : List Entry)
+      → Gives (Exp.call d ps) rest (readExp (suc left) scope e (encodeExp (Exp.call d ps) ++ rest))
+  unfolding readExp encodeExp entryAt _>>=_ need kindOf isExpression isBinder _or_
+  call-entry-read left {d = d} {ps = ps} l c good e rest =
+      let b : d < 65536 = call-small few d l in
+      let few-enough : high (d + 65536 * length ps) ≤ 4 = rw (high-of d (length ps) b) (call-count few d (length ps) l c) in
+      gives-need _ _ e (call-row (d + 65536 * length ps) few-enough)
+      (rw (low-of d (length ps) b, high-of d (length ps) b) (call-read (Exp.call d) (suc e) rest good))
+
   exp-read : {left : ℕ} {scope : List ℕ} {x : Exp} → Good formals left scope x → (e : ℕ) (rest : List Entry)
       → Gives x rest (readExp left scope e (encodeExp x ++ rest))
   unfolding readExp encodeExp encodeJoin entryAt _>>=_ need kindOf isExpression rowHolds isBinder _or_
@@ -65,10 +76,7 @@ module _ {formals : List ℕ} (few : Few formals) where
   exp-read (Good.site {s = s} {ps = ps} t good) e rest =
       let l : s < 65536 = site-small t in
       rw (low-of s (length ps) l, high-of s (length ps) l) (gives-need _ _ e (takes-site t) (call-read (Exp.site s) (suc e) rest good))
-  exp-read (Good.call {d = d} {ps = ps} l c good) e rest =
-      let b : d < 65536 = call-small few d l in
-      let t : leb (length ps) 4 ≡ true = le-leb _ 4 (call-count few d (length ps) l c) in
-      rw (low-of d (length ps) b, high-of d (length ps) b) (gives-need _ _ e t (call-read (Exp.call d) (suc e) rest good))
+  exp-read (Good.call {left = left} l c good) e rest = call-entry-read left l c good e rest
   exp-read (Good.join {f = f} {g = g} GoodJoin.par hf hg) e rest =
       join-read _ Join.par _ f g (suc e) rest (exp-read hf) (exp-read hg)
   exp-read (Good.join {f = f} {g = g} (GoodJoin.seq l) hf hg) e rest =

@@ -5,9 +5,9 @@ use mathlib.Core.List.{List, [], _∷_, _++_, List·Memᴰ}
 use Prim.Native.Nat.{ℕ, suc, _≤_, _<_}
 use lib.ListN.{length, getD, replicate}
 use lib.Dec.{eqb}
-use Rattle.job.specs.Bounds.{scopeLimit, depthLimit, definitionLimit, entryLimit}
+use Rattle.job.specs.Bounds.{parameterLimit, scopeLimit, depthLimit, definitionLimit, entryLimit}
 use Rattle.job.specs.Syntax.{Join, par, seq, prune, levels, scopeLeft, scopeRight}
-use Rattle.job.specs.Entry.{Entry, low, high, EntryKind, kindOf, rowHolds, sizeD, sizeN, tableLength, tableEntries}
+use Rattle.job.specs.Entry.{Entry, low, high, EntryKind, kindOf, sizeD, sizeN, tableLength, tableEntries}
 
 -- what is to stand at an entry: a definition, an expression at a depth, a parameter; the last two where these variables are in scope
 pub data Position : Type 0 where
@@ -21,12 +21,40 @@ MayStand definition kind = kind ≡ 6
 MayStand (expression depth scope) kind = kind ≤ 5
 MayStand (parameter scope) kind = (7 ≤ kind) × (kind ≤ 8)
 
--- what is wrong with an entry that stands there, by number (docs/DECISIONS.md, "What breaks a row", "Depth")
+-- "Each built-in site has a fixed parameter count: 0 let (1), 1 ift (1), 2 iff (1), 3 signal (0), 4 add (2), 5 less (2), 6 equal (2)"
+pub data OwnCount : (site count : ℕ) → Type 0 where
+  let' : OwnCount 0 1
+  ift : OwnCount 1 1
+  iff : OwnCount 2 1
+  signal : OwnCount 3 0
+  add : OwnCount 4 2
+  less : OwnCount 5 2
+  equal : OwnCount 6 2
+
+-- an operand that breaks its row, by the kind's number (docs/DECISIONS.md, "What breaks a row"). Rows 7 and 8 take any operand; an unknown
+-- kind has no row, and 3 comes first.
+pub data RowBroken : (kind operand : ℕ) → Type 0 where
+  -- the rows whose operand is 0
+  stop-operand : {o : ℕ} → (o ≡ 0 → ⊥) → RowBroken 0 o
+  par-operand : {o : ℕ} → (o ≡ 0 → ⊥) → RowBroken 3 o
+  seq-operand : {o : ℕ} → (o ≡ 0 → ⊥) → RowBroken 4 o
+  prune-operand : {o : ℕ} → (o ≡ 0 → ⊥) → RowBroken 5 o
+  -- "low 16 bits site, high 16 bits parameter count": "Counts are at most 4", "site unknown, or built-in count wrong"
+  site-count : {o : ℕ} → parameterLimit < high o → RowBroken 1 o
+  site-unknown : {o : ℕ} → 7 ≤ low o → low o ≤ 15 → RowBroken 1 o
+  site-beyond : {o : ℕ} → 1023 < low o → RowBroken 1 o
+  builtin-count : {o : ℕ} → low o ≤ 6 → (OwnCount (low o) (high o) → ⊥) → RowBroken 1 o
+  -- "low 16 bits definition, high 16 bits count"
+  call-count : {o : ℕ} → parameterLimit < high o → RowBroken 2 o
+  -- "count of formals, 0 to 4"
+  formals-count : {o : ℕ} → parameterLimit < o → RowBroken 6 o
+
+-- what is wrong with an entry that stands there, by number (docs/DECISIONS.md, "Depth")
 pub data Fault : (p : Position) (x : Entry) (number : ℕ) → Type 0 where
   -- "3: kind unknown, or not one that may stand here"
   wrong-kind : {p : Position} {x : Entry} → (MayStand p (x .kind) → ⊥) → Fault p x 3
   -- "4: operand breaks its row, site unknown, or built-in count wrong"
-  wrong-operand : {p : Position} {x : Entry} → rowHolds (kindOf (x .kind)) (x .operand) ≡ false → Fault p x 4
+  wrong-operand : {p : Position} {x : Entry} → RowBroken (x .kind) (x .operand) → Fault p x 4
   -- "6: depth 25": "depth ends at 24; parameters add none"
   too-deep : {d : ℕ} {scope : List ℕ} {x : Entry} → depthLimit < d → Fault (expression d scope) x 6
   -- "7: variable out of scope, or a binder where 8 are in scope": the binders are kinds 4 and 5
