@@ -10,6 +10,7 @@ pub mod Read
 pub mod ScopeSlots
 pub mod WellFormed
 pub mod RowBroken
+pub mod Sizes
 pub mod Prefix
 pub mod Encode
 pub mod Table

@@ -1,7 +1,6 @@
 -- Reading the encoding of a well-formed program gives that program: at each entry the reader's tests are conditions that the
 -- program keeps, and what it takes from the entry is what was put there. Assumes nothing.
 use mathlib.Core.Path.{_≡_, _∙_, ap₂}
-use mathlib.Core.Bool.{true}
 use mathlib.Core.List.{List, [], _∷_, _++_, map, append-assoc, append-nil}
 use Prim.Native.Nat.{ℕ, suc, _+_, _*_, _<_, _≤_}
 use native.Mathlib.Omega.{arith}
@@ -14,12 +13,13 @@ use Rattle.job.specs.WellFormed.{GoodParam, GoodJoin, Good, GoodDefiniti
 use Rattle.job.specs.Read.{Read, _>>=_, entryAt, need, readParam, readParamList, readCall, readJoin, readExp}
 use Rattle.job.specs.Read.{isDefinition, readDefinition, readProgram, leftovers, definitionsHold, readEntries}
 use Rattle.job.specs.Read.{readBytes}
-use Rattle.job.proofs.Test.{eq-eqb, lt-ltb, le-leb, and-both, All-map}
+use Rattle.job.proofs.Test.{lt-ltb, le-leb, All-map}
 use Rattle.job.proofs.Number.{signed-unsigned}
 use Rattle.job.proofs.Entry.{low-of, high-of, kindBytes, length-operand-bytes, entries-encoded}
 use Rattle.job.proofs.Read.{Gives, given, gives-need, gives-bind}
 use Rattle.job.proofs.WellFormed.{member-any, takes-site}
 use Rattle.job.proofs.RowBroken.{call-row}
+use Rattle.job.proofs.Sizes.{LengthAndSizes, sizes-pass}
 use Rattle.job.proofs.Table.{kindPart, operandPart, size-definitions, size-entries, length-table, kind-part, operand-part}
 use Rattle.job.proofs.Encode.{Few, Fine, site-small, call-small, call-count, program-few, program-fine}
 
@@ -133,11 +133,13 @@ exp-some (Exp.join j f g) = omega arith
 -- a table whose sizes are in range is read by its entries
 sizes-read : {p : Program} (b : List ℕ) → 4 ≤ length b → length b ≡ tableLength b → sizeD b ≤ 32 → 1 ≤ sizeN b → sizeN b ≤ 512
     → Gives p [] (readEntries (sizeD b) (entries (kindPart b) (operandPart b))) → Gives p [] (readBytes b)
-unfolding readBytes
+unfolding readBytes _>>=_
 sizes-read b l e d n m h =
-    gives-need _ _ 0 (le-leb 4 (length b) l)
-    (gives-need _ _ 0 (eq-eqb (length b) (tableLength b) e)
-    (gives-need _ _ 0 (and-both (le-leb (sizeD b) 32 d) (and-both (le-leb 1 (sizeN b) n) (le-leb (sizeN b) 512 m))) h))
+    let sized : LengthAndSizes b = record {
+      length-holds = record { sizes = l; total = e };
+      sizes-hold = record { definitions = d; some = n; entries = m };
+    } in
+    rw (sizes-pass b sized) h
 
 module _ {p : Program} (w : WellFormed p) where
   entry-limit : length (encodeEntries p) < 65536

@@ -161,12 +161,17 @@ readEntries D es = do
   _ ← definitionsHold (formalsOf (p .value .definitions)) 0 es
   got p
 
--- "Order: 1 (N is read only with 4 bytes present), 2; then entry by entry .." (docs/DECISIONS.md, "Length and N")
-unfoldable pub readBytes : List ℕ → Read Program
-readBytes b = do
+-- "Order: 1 (N is read only with 4 bytes present), 2" (docs/DECISIONS.md, "Length and N")
+unfoldable pub readSizes : List ℕ → Read (Unit {0})
+readSizes b = do
   _ ← need (leb 4 (length b)) 1 0
   _ ← need (eqb (length b) (tableLength b)) 1 0
-  _ ← need (leb (sizeD b) definitionLimit and leb 1 (sizeN b) and leb (sizeN b) entryLimit) 2 0
+  need (leb (sizeD b) definitionLimit and leb 1 (sizeN b) and leb (sizeN b) entryLimit) 2 0
+
+-- "then entry by entry .."
+unfoldable pub readBytes : List ℕ → Read Program
+readBytes b = do
+  _ ← readSizes b
   readEntries (sizeD b) (tableEntries b)
 
 -- the reader's answer
