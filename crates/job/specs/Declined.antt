@@ -51,13 +51,13 @@ pub data RowBroken : (kind operand : ℕ) → Type 0 where
 
 -- what is wrong with an entry that stands there, by number (docs/DECISIONS.md, "Depth")
 pub data Fault : (p : Position) (x : Entry) (number : ℕ) → Type 0 where
-  -- "3: kind unknown, or not one that may stand here"
+  -- 3: "kind unknown, or not one that may stand here"
   wrong-kind : {p : Position} {x : Entry} → (MayStand p (x .kind) → ⊥) → Fault p x 3
-  -- "4: operand breaks its row, site unknown, or built-in count wrong"
+  -- 4: "operand breaks its row, site unknown, or built-in count wrong"
   wrong-operand : {p : Position} {x : Entry} → RowBroken (x .kind) (x .operand) → Fault p x 4
-  -- "6: depth 25": "depth ends at 24; parameters add none"
+  -- 6: "depth 25": "depth ends at 24; parameters add none"
   too-deep : {d : ℕ} {scope : List ℕ} {x : Entry} → depthLimit < d → Fault (expression d scope) x 6
-  -- "7: variable out of scope, or a binder where 8 are in scope": the binders are kinds 4 and 5
+  -- 7: "variable out of scope, or a binder where 8 are in scope": the binders are kinds 4 and 5
   out-of-scope : {scope : List ℕ} {x : Entry} → x .kind ≡ 7 → (List·Memᴰ (x .operand) scope → ⊥) → Fault (parameter scope) x 7
   no-room : {d : ℕ} {scope : List ℕ} {x : Entry}
       → 4 ≤ x .kind → x .kind ≤ 5 → scopeLimit ≤ length scope → Fault (expression d scope) x 7
@@ -110,7 +110,7 @@ unfoldable pub formalsIn : List Entry → List ℕ
 formalsIn [] = []
 formalsIn (x ∷ es) = let fs = formalsIn es in elim (eqb (x .kind) 6) [ true ↦ x .operand ∷ fs | false ↦ fs ]
 
--- "8: definition missing, or its count of formals differs", of an entry of kind 2
+-- 8: "definition missing, or its count of formals differs", of an entry of kind 2
 pub data Undefined (formals : List ℕ) (x : Entry) : Type 0 where
   missing : x .kind ≡ 2 → length formals ≤ low (x .operand) → Undefined formals x
   differs : x .kind ≡ 2 → low (x .operand) < length formals → (high (x .operand) ≡ getD formals (low (x .operand)) 0 → ⊥)
@@ -123,12 +123,12 @@ pub data FirstAt (P : Entry → Type 0) : List Entry → (index : ℕ) → Type 
 
 -- "then entry by entry 5, 3, 4, 6, 7; leftovers; then 8"
 pub data DeclinedEntries (D : ℕ) (es : List Entry) : (number entry : ℕ) → Type 0 where
-  -- "5: entries run out (entry N)"
+  -- 5: "entries run out (entry N)"
   runs-out : {p : Position} {ps : List Position} → Fills (wholeTable D) es (p ∷ ps) → DeclinedEntries D es 5 (length es)
   -- 3, 4, 6 or 7 at the first entry that has a fault
   breaks : {before : List Entry} {x : Entry} (after : List Entry) {p : Position} {ps : List Position} {n : ℕ}
       → es ≡ before ++ (x ∷ after) → Fills (wholeTable D) before (p ∷ ps) → Breaks p x n → DeclinedEntries D es n (length before)
-  -- "5: .. or remain after the goal (first unread)"
+  -- 5: ".. or remain after the goal (first unread)"
   remain : {before : List Entry} (x : Entry) (after : List Entry)
       → es ≡ before ++ (x ∷ after) → Fills (wholeTable D) before [] → DeclinedEntries D es 5 (length before)
   -- "then 8 at its first entry"
@@ -145,10 +145,10 @@ pub record SizesHold (b : List ℕ) : Type 0 where
   pub some : 1 ≤ sizeN b
   pub entries : sizeN b ≤ entryLimit
 
--- "Order: 1, 2; then entry by entry .." (docs/DECISIONS.md, "Length and N", "Given exactly if")
+-- "Order: 1 .., 2; then entry by entry .." (docs/DECISIONS.md, "Length and N", "Given exactly if")
 pub data Declined (b : List ℕ) : (number entry : ℕ) → Type 0 where
-  -- "1: fewer than 4 bytes, or length is not 4 + 5N"
+  -- 1: "fewer than 4 bytes, or length is not 4 + 5N"
   wrong-length : (LengthHolds b → ⊥) → Declined b 1 0
-  -- "2: D or N outside its range"
+  -- 2: "D or N outside its range"
   wrong-sizes : LengthHolds b → (SizesHold b → ⊥) → Declined b 2 0
   wrong-entries : {n e : ℕ} → LengthHolds b → SizesHold b → DeclinedEntries (sizeD b) (tableEntries b) n e → Declined b n e

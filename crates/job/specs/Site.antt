@@ -23,7 +23,7 @@ pub record Builtin : Type 0 where
 abbrev pub at : List ℤ → ℕ → ℤ
 at vs i = getD vs i (pos 0)
 
--- "gives 0 if .., else silent"
+-- "gives 0 if ..; else silent"
 unfoldable pub zeroIf : Bool → BuiltinReply
 zeroIf true = gives (pos 0)
 zeroIf false = silent
