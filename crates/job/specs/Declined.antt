@@ -84,6 +84,7 @@ behind depth scope EntryKind.call o = replicate (high o) (parameter scope)
 behind depth scope EntryKind.par o = sides depth scope par
 behind depth scope EntryKind.seq o = sides depth scope (seq (length scope))
 behind depth scope EntryKind.prune o = sides depth scope (prune (length scope))
+-- (3 is tested first, so an expression is none of these)
 behind depth scope EntryKind.definition o = []
 behind depth scope EntryKind.variable o = []
 behind depth scope EntryKind.constant o = []
