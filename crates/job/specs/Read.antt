@@ -22,6 +22,7 @@ pub data Read (A : Type 0) : Type 0 where
   got : Got A → Read A
   refused : (number entry : ℕ) → Read A
 
+-- one reading, then the next; `do` below takes what has this name (docs/DECISIONS.md, "Names beside the library's")
 infixl 10 _>>=_
 unfoldable pub _>>=_ : {A B : Type 0} → Read A → (Got A → Read B) → Read B
 got a >>= f = f a
