@@ -26,7 +26,7 @@ use Rattle.model.proofs.Machine.Marks.{Free, marked-le-length, marked-s
 use Rattle.model.proofs.Machine.Rules.{ready-state}
 use Rattle.model.proofs.Machine.Choke.{choke-at, choke-ends}
 use Rattle.model.proofs.Sees.ChokeAgrees.{woken, choke-spares}
-use Rattle.job.proofs.Test.{once-small, count-append, count-more}
+use Rattle.job.proofs.Test.{once-small, occurrences-append, occurrences-more}
 use Rattle.model.proofs.Machine.TableRows.{token-same, token-other, token-outside}
 
 -- counting
@@ -41,11 +41,11 @@ fills marks [] h f = let z = marked-le-length marks in omega arith
 fills marks (x ∷ l) h f =
     let one = marked-set-free marks x (f x (let z = count-here x l in omega arith)) in
     let size = length-set marks x true in
-    let more = fills (set marks x true) l (λ r. let z = h r in let y = count-more r x l in omega arith) (λ r k. still r k) in
+    let more = fills (set marks x true) l (λ r. let z = h r in let y = occurrences-more r x l in omega arith) (λ r k. still r k) in
     omega arith
   where
     still : (r : ℕ) → 0 < occurrences r l → Free (set marks x true) r
-    still r k = getD-set-other marks x r true true apart ∙ f r (let y = count-more r x l in omega arith)
+    still r k = getD-set-other marks x r true true apart ∙ f r (let y = occurrences-more r x l in omega arith)
       where
         apart : r ≡ x → ⊥
         apart e =
@@ -61,7 +61,7 @@ all-counted : (test : ℕ → Bool) (l : List ℕ) → ((r : ℕ) → 0 < occurr
 unfolding forAll
 all-counted test [] h = refl
 all-counted test (x ∷ l) h =
-    and-both (h x (let z = count-here x l in omega arith)) (all-counted test l (λ r k. h r (let z = count-more r x l in omega arith)))
+    and-both (h x (let z = count-here x l in omega arith)) (all-counted test l (λ r k. h r (let z = occurrences-more r x l in omega arith)))
 
 counted-tested : (test : ℕ → Bool) (l : List ℕ) → forAll test l ≡ true → (r : ℕ) → 0 < occurrences r l → test r ≡ true
 unfolding occurrences
@@ -167,7 +167,7 @@ written-names of ts p u l i here there r = go (ℕ-discrete r p)
 -- how often r stands in a line with p put at its back
 count-back : (r : ℕ) (l : List ℕ) (p : ℕ) → occurrences r (l ++ (p ∷ [])) ≡ occurrences r l + once (eqb r p)
 unfolding occurrences
-count-back r l p = let z = count-append r l (p ∷ []) in omega arith
+count-back r l p = let z = occurrences-append r l (p ∷ []) in omega arith
 
 back-same : (p : ℕ) (l : List ℕ) (b : Bool) → occurrences p l ≡ 0 → b ≡ true → occurrences p (l ++ (p ∷ [])) ≡ once b
 back-same p l b e f =
@@ -333,7 +333,7 @@ module _ (ts : List Token) (cs : List Cell) (c p : ℕ) (queue waits : List ℕ)
             in
             let b = l .ready r in
             let d = l .waiting r in
-            let f = count-append r queue waits in
+            let f = occurrences-append r queue waits in
             omega arith);
         waiting =
             λ r.

@@ -26,7 +26,7 @@ use Rattle.model.specs.declared.token.State.the-variants as states
 use Rattle.model.specs.declared.token.Token.{Token}
 use Rattle.model.specs.declared.cell.Cell.{Cell}
 use Rattle.model.specs.declared.record.Machine.{Machine}
-use Rattle.job.proofs.Test.{clash, ne-eqb, not-true, count-append}
+use Rattle.job.proofs.Test.{clash, ne-eqb, not-true, occurrences-append}
 use Rattle.model.proofs.Machine.Choke.{choke-at, choke-ends}
 use Rattle.simulation.proofs.AbstractMachine as Abstract
 use Rattle.simulation.proofs.AbstractMachine.{Binding, Frame, at, Store, withSet, isOutOf, outOf, actsAt}
@@ -233,7 +233,7 @@ module _ (M : Labels) (W : World) (c i : ℕ) (s : CellSeen W c i) (w : Held) (v
             filtered-out stays r (o .before ++ o .behind) (ap not f)
             ∙ sym (ap alive (choke-at (W .cells) c (W .tokens) r ∙ choke-ends (W .cells) c (tokenAt (W .tokens) r) f))
         go false f =
-            let a = count-append r (o .before) (o .behind) in
+            let a = occurrences-append r (o .before) (o .behind) in
             let b = o .each r in
             let g : once (eqb r p) ≡ 0 = ap once (ne-eqb r p (λ x. clash (ap (λ y. inCell (tokenAt (W .tokens) y)) x ∙ ends) f)) in
             let h : alive (tokenAt (chokedWorld .tokens) r) ≡ alive (tokenAt (W .tokens) r) =
