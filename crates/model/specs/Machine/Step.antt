@@ -103,11 +103,8 @@ module _ (m : Machine) (p : ℕ) (t : Token) where
   -- "left binds x to the new cell; right is new and belongs to it"; the cell is at place c
   unfoldable pub split : (q c x left right : ℕ) → Effect
   split q c x l r =
-      moves
-      (enqueue q
-      (enqueue p
-      (newCell c (record { parent = t .cell; value = helds.Nothing })
-      (newToken q (inCell c (withNode r t)) (put p (withNode l (withBinding x (slots.Cell c) t)) m)))))
+      let sides = newToken q (inCell c (withNode r t)) (put p (withNode l (withBinding x (slots.Cell c) t)) m) in
+      moves (enqueue q (enqueue p (newCell c (record { parent = t .cell; value = helds.Nothing }) sides)))
 
   -- "the token becomes a frame at next, the callee is new, in the token's cell, with no value and only its formals bound"
   unfoldable pub entered : (q root : ℕ) → List Param → (next : ℕ) → Effect
