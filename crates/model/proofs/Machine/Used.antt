@@ -11,7 +11,7 @@ use Rattle.model.specs.Machine.Limits.{Limits}
 use Rattle.model.specs.Machine.Blank.{blankToken, tokenAt, cellAt}
 use Rattle.model.specs.Machine.Active.{isActive, underSet}
 use Rattle.model.specs.Machine.State.{isLive}
-use Rattle.model.specs.Machine.InUse.{tokensUsed, cellsUsed, marked, sweep}
+use Rattle.model.specs.Machine.InUse.{tokensUsed, cellsUsed, marked, Within, sweep}
 use Rattle.model.specs.Machine.Rules.{notUnderSet}
 use Rattle.model.specs.Machine.Step.{hasTokenPlace, hasCellPlace}
 use Rattle.model.specs.declared.token.Token.{Token}
@@ -24,10 +24,6 @@ use Rattle.model.proofs.Machine.InUse.{tokens-used, cells-used}
 use Rattle.model.proofs.Machine.Rules.{EachRuleHolds}
 use Rattle.model.proofs.Machine.Inside.{Fits, Inside, With, tokens-inside, cells-inside, inside-finish}
 use Rattle.model.proofs.Machine.TableRows.{live-inside}
-
--- in use: no more than the limits
-abbrev pub Within : Limits → Machine → Type 0
-Within lim m = (marked (tokensUsed m) ≤ lim .tokens) × (marked (cellsUsed m) ≤ lim .cells)
 
 live-active : (cs : List Cell) (t : Token) → notUnderSet cs t ≡ true → isLive (t .state) ≡ true → isActive cs t ≡ true
 unfolding notUnderSet isActive
