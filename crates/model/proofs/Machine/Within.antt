@@ -1,4 +1,4 @@
--- "Tokens and cells in use stay within the limits after any accepted call from a record within them", for tables of any size and any
+-- Tokens and cells in use stay within the limits after any accepted call from a record within them, for tables of any size and any
 -- limits: the token that acts, or is answered, is alive, so it is in use and all that it names. Assumes nothing.
 use mathlib.Core.Path.{_≡_, refl, sym, subst}
 use mathlib.Core.Bool.{Bool, true, false}

@@ -39,7 +39,7 @@ noDag = record { nodes = []; bodies = []; goal = 0 }
 -- refused calls, each under document 01's words
 abbrev pub refusals : List Outcome
 refusals =
-    -- "9: no token at that queue place"
+    -- "9: no ready token at the chosen place of the queue"
     step paper (dagOfGoal stop) (first paper stop) 1
     -- "10: fork, where or definition call with 64 tokens in use", here with 1
     ∷ step (limits 1 1 1) (dagOfGoal (signal ∥ signal)) (first (limits 1 1 1) (signal ∥ signal)) 0

@@ -1,4 +1,4 @@
--- "Tokens and cells in use stay within the limits": after any list of calls on the start, for any limits with a token. The start is within
+-- Tokens and cells in use stay within the limits after any list of calls on the start, for any limits with a token. The start is within
 -- them, a refused call changes nothing, and an accepted one was tested. Assumes nothing.
 use mathlib.Core.Path.{_≡_}
 use mathlib.Core.Bool.{Bool, false}
