@@ -94,6 +94,7 @@ chainsEnd cs = forAll (λ (c : Cell). chainEnds cs (length cs) (c .parent)) cs
 unfoldable pub notUnderSet : List Cell → Token → Bool
 notUnderSet cs t = elim (isLive (t .state)) [ true ↦ not (underSet cs (t .cell)) | false ↦ true ]
 
+-- document 01: open handles. Those of all tokens that are called out
 unfoldable pub openHandles : List Token → List ℕ
 openHandles [] = []
 openHandles (t ∷ ts) = handleOf (t .state) ++ openHandles ts
