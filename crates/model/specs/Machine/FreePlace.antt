@@ -9,7 +9,7 @@ use lib.Dec.{ltb}
 unfoldable pub around : ℕ → ℕ → ℕ
 around n p = elim (ltb p n) as (λ b. ℕ) [ true ↦ p | false ↦ 0 ]
 
--- the first place from p on that is not marked; so many are looked at
+-- the first place from p on that is not marked; so many are looked at. (The tests for 10 and 11 leave one that is not.)
 unfoldable pub freeFrom : List Bool → ℕ → ℕ → ℕ
 freeFrom marks zero p = 0
 freeFrom marks (suc n) p =

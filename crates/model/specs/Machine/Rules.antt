@@ -131,6 +131,7 @@ nodeRule ts t (Node.where' x l r) = true
 nodeRule ts t Node.choke = isPlace (t .cell) and valueIfReady t
 nodeRule ts t Node.return = namesFrame ts (t .caller) and valueIfReady t
 nodeRule ts t Node.publish = valueIfReady t
+-- the dag's own rules leave no such node: it is 14 there
 nodeRule ts t Node.unknown = true
 
 -- a blank token is at no node
