@@ -217,6 +217,6 @@ module _ (W : World) where
           clean = K .clean;
         }
 
-pub finish-sees : {M : Labels} (m : Machine) {s : Abstract.State} → Sees M m s → Sees M (sweep m) s
+pub sweep-sees : {M : Labels} (m : Machine) {s : Abstract.State} → Sees M m s → Sees M (sweep m) s
 unfolding sweep
-finish-sees m (seenAs name place A K) = seenAs name place A (swept-core _ K)
+sweep-sees m (seenAs name place A K) = seenAs name place A (swept-core _ K)
