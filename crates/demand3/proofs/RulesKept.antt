@@ -19,7 +19,7 @@ use Rattle.job.specs.WellFormed.{GoodParam}
 use Rattle.model.specs.Machine.Limits.{Limits}
 use Rattle.model.specs.Machine.Blank.{empty, blankToken, blankCell, tokenAt, cellAt, slotAt, isBound, hasValue, isPlace}
 use Rattle.model.specs.Machine.State.{isBlankState, isLive, isReady, isFrame, handleOf}
-use Rattle.model.specs.Machine.Active.{isSet, underSet}
+use Rattle.model.specs.Machine.Active.{cellIsSet, underSet}
 use Rattle.model.specs.Machine.InUse.{tokensUsed, cellsUsed}
 use Rattle.model.specs.Machine.Rules.{heldInRange, placeInRange, slotInRange, stateInRange, tokenInRange, cellInRange, sizesInRange}
 use Rattle.model.specs.Machine.Rules.{chainEnds, chainsEnd, notUnderSet, openHandles, waitsAtUnset, namesFrame}
@@ -215,8 +215,8 @@ value-there e (ready present) = refl
 value-there e (waiting f v) = refl
 value-there e called = refl
 
-unset-if : (k : Cell) → k .value ≡ helds.Nothing → isSet k ≡ false
-unfolding isSet hasValue
+unset-if : (k : Cell) → k .value ≡ helds.Nothing → cellIsSet k ≡ false
+unfolding cellIsSet hasValue
 unset-if k e = ap hasValue e
 
 module _ (lim : Limits) (d : Dag) (M : Labels) (flow : Flow d M) (dag : dagHolds d ≡ true) (some : 0 < length (d .nodes))

@@ -12,7 +12,7 @@ use Rattle.model.specs.Machine.Limits.{Limits}
 use Rattle.model.specs.Machine.Blank.{blankToken, blankCell, tokenAt, cellAt, isBound}
 use Rattle.model.specs.Machine.Blank.{hasValue, isPlace, tokenIsBlank, cellIsBlank}
 use Rattle.model.specs.Machine.State.{isBlankState, isLive}
-use Rattle.model.specs.Machine.Active.{isSet, upward, underSet, isActive}
+use Rattle.model.specs.Machine.Active.{cellIsSet, upward, underSet, isActive}
 use Rattle.model.specs.Machine.InUse.{tokensUsed, cellsUsed, sweep}
 use Rattle.model.specs.Machine.Rules.{restIsBlank}
 use Rattle.model.specs.Machine.Start.{startToken, startMachine}
@@ -121,8 +121,8 @@ module _ (m : Machine) where
   under-stays : (q : Place) → Names (UsedCell m) q → underSet (then .cells) q ≡ underSet (m .cells) q
   unfolding sweep underSet
   under-stays q h =
-      ap (λ n. upward (λ c k. isSet k) (then .cells) n q) (length-kept blankCell (cellsUsed m) (m .cells))
-      ∙ upward-stays (λ c k. isSet k) (length (m .cells)) q h
+      ap (λ n. upward (λ c k. cellIsSet k) (then .cells) n q) (length-kept blankCell (cellsUsed m) (m .cells))
+      ∙ upward-stays (λ c k. cellIsSet k) (length (m .cells)) q h
 
   active-stays : (i : ℕ) → Used m i → isActive (m .cells) (tokenAt (m .tokens) i) ≡ true
       → isActive (then .cells) (tokenAt (then .tokens) i) ≡ true

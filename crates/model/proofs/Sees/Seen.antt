@@ -12,7 +12,7 @@ use lib.ListN.{length, getD}
 use lib.Dec.{eqb}
 use Rattle.job.specs.Test.{occurrences, once}
 use Rattle.model.specs.Machine.Blank.{blankToken, blankCell, tokenAt, cellAt, hasValue}
-use Rattle.model.specs.Machine.Active.{isSet, upward, underSet, isActive}
+use Rattle.model.specs.Machine.Active.{cellIsSet, upward, underSet, isActive}
 use Rattle.model.specs.Machine.State.{isLive}
 use Rattle.model.specs.Machine.InUse.{usedTokens, usedCells, restBlanked, sweep}
 use Rattle.model.specs.declared.token.Held.{Held}
@@ -58,8 +58,8 @@ sees-tables {M} {m} {ts} {cs} {S} {σ} {new} name place A et ec eh K =
     (subst (λ cs. Core M (world ts cs name place σ new) A S) (sym ec) K)))
 
 -- a token that is seen is active: it is live, and no cell above it is set
-unset-cell : (c : Cell) → held (c .value) ≡ none → isSet c ≡ false
-unfolding isSet hasValue
+unset-cell : (c : Cell) → held (c .value) ≡ none → cellIsSet c ≡ false
+unfolding cellIsSet hasValue
 unset-cell c e = go (c .value) e
   where
     go : (h : Held) → held h ≡ none → hasValue h ≡ false
@@ -80,7 +80,7 @@ module _ {W : World} where
   pub not-under-set : {q : Place} {U : List ℕ} → Unset (W .store) U → CellsSeen W q U → underSet (W .cells) q ≡ false
   unfolding underSet
   not-under-set un v =
-      up-fails (λ c k. isSet k) (length (W .cells)) (λ c n s m. unset-cell (cellAt (W .cells) c) (sym (s .value) ∙ un n m)) v
+      up-fails (λ c k. cellIsSet k) (length (W .cells)) (λ c n s m. unset-cell (cellAt (W .cells) c) (sym (s .value) ∙ un n m)) v
 
 pub state-live : {M : Labels} {n : ℕ} {K : Abstract.Place} {s : State} {w : Held} {x : Abstract.Token} → StateSeen M n K s w x
     → isLive s ≡ true

@@ -12,7 +12,7 @@ use Rattle.job.specs.Node.{Node, Dag, nodeAt, isNode, dagHolds}
 use Rattle.model.specs.Machine.Limits.{Limits}
 use Rattle.model.specs.Machine.Blank.{tokenAt, cellAt, slotAt, isBound, hasValue, isPlace, tokenIsBlank, cellIsBlank}
 use Rattle.model.specs.Machine.State.{isBlankState, isReady, isWaiting, isFrame, isLive, handleOf}
-use Rattle.model.specs.Machine.Active.{isSet, underSet}
+use Rattle.model.specs.Machine.Active.{cellIsSet, underSet}
 use Rattle.model.specs.Machine.InUse.{tokensUsed, usedCells}
 use Rattle.model.specs.declared.token.Slot.{Slot}
 use Rattle.model.specs.declared.token.Slot.the-variants as slots
@@ -103,7 +103,7 @@ openHandles (t ∷ ts) = handleOf (t .state) ++ openHandles ts
 unfoldable pub waitsAtUnset : List Cell → State → Bool
 waitsAtUnset cs states.Blank = true
 waitsAtUnset cs states.Ready = true
-waitsAtUnset cs (states.Waiting c) = not (isSet (cellAt cs c))
+waitsAtUnset cs (states.Waiting c) = not (cellIsSet (cellAt cs c))
 waitsAtUnset cs (states.Called h) = true
 waitsAtUnset cs states.Frame = true
 
