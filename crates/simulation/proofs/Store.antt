@@ -34,28 +34,28 @@ not-both p q = let z : _≡_ {A = ℕ} 0 1 = cc in omega arith
 pub set-keeps : (σ : Store) (c b : ℕ) (v : ℤ) {w : ℤ} → σ c ≡ none → σ b ≡ some w → withSet σ c v b ≡ some w
 set-keeps σ c b v n s = set-other σ c b v (λ p. not-both (ap σ p ∙ n) s) ∙ s
 
-any-none : (c : ℕ) (l : List ℕ) → c ∉ l → forSome (eqb c) l ≡ false
+some-none : (c : ℕ) (l : List ℕ) → c ∉ l → forSome (eqb c) l ≡ false
 unfolding forSome _or_
-any-none c [] n = refl
-any-none c (b ∷ l) n = rw (ne-eqb c b (λ p. n (List·Memᴰ·head p))) (any-none c l (λ m. n (List·Memᴰ·tail m)))
+some-none c [] n = refl
+some-none c (b ∷ l) n = rw (ne-eqb c b (λ p. n (List·Memᴰ·head p))) (some-none c l (λ m. n (List·Memᴰ·tail m)))
 
 module _ {A : Type 0} (p : A → Bool) where
-  filter-yes : (x : A) (xs : List A) → p x ≡ true → select p (x ∷ xs) ≡ x ∷ select p xs
+  select-yes : (x : A) (xs : List A) → p x ≡ true → select p (x ∷ xs) ≡ x ∷ select p xs
   unfolding select
-  filter-yes x xs e = rw (e, select)
+  select-yes x xs e = rw (e, select)
 
-  filter-no : (x : A) (xs : List A) → p x ≡ false → select p (x ∷ xs) ≡ select p xs
+  select-no : (x : A) (xs : List A) → p x ≡ false → select p (x ∷ xs) ≡ select p xs
   unfolding select
-  filter-no x xs e = rw (e, select)
+  select-no x xs e = rw (e, select)
 
 -- tokens that are not under the cell stay, those under it end
 pub all-stay : {c : ℕ} {S : List Token} → All (λ t. c ∉ cellsOf t) S → outOf c S ≡ S
 unfolding select
 all-stay All.none = refl
 all-stay {c} (more {x = t} {xs = S} n a) =
-    filter-yes (isOutOf c) t S (ap not (any-none c (cellsOf t) n)) ∙ ap (_∷_ t) (all-stay a)
+    select-yes (isOutOf c) t S (ap not (some-none c (cellsOf t) n)) ∙ ap (_∷_ t) (all-stay a)
 
 pub all-end : {c : ℕ} {S : List Token} → All (λ t. c ∈ cellsOf t) S → outOf c S ≡ []
 unfolding select
 all-end All.none = refl
-all-end {c} (more {x = t} {xs = S} m a) = filter-no (isOutOf c) t S (ap not (member-any m)) ∙ all-end a
+all-end {c} (more {x = t} {xs = S} m a) = select-no (isOutOf c) t S (ap not (member-any m)) ∙ all-end a

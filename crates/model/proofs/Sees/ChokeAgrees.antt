@@ -37,7 +37,7 @@ use Rattle.model.proofs.Sees.View.{PlaceSeen, TokenSeen, sees, TokensSe
 use Rattle.model.proofs.Sees.View.{Closed, place-keep, tokens-append}
 use Rattle.model.proofs.Sees.Seen.{Core, world, sees-tables}
 use Rattle.model.proofs.Sees.Others.{Others}
-use Rattle.model.proofs.Sees.WithinSeen.{not-any, any-first, any-rest, within-seen}
+use Rattle.model.proofs.Sees.WithinSeen.{not-any, some-first, some-rest, within-seen}
 use Rattle.model.proofs.Sees.Moving.{value-there, value-optional, place-as}
 use Rattle.model.proofs.Sees.Agrees.{Acting, Shows, Agrees}
 use Rattle.model.proofs.Machine.WrittenTokens.{waiting-live}
@@ -158,7 +158,7 @@ module _ (M : Labels) (W : World) (c i : ℕ) (s : CellSeen W c i) (w : Held) (v
   -- the frame of a token outside is outside
   frame-outside : {n : ℕ} {U : List ℕ} {F : List Frame} (q : ℕ) → forSome (eqb i) U ≡ false → Nested M n U F → FrameSeen W M q F → Outside q
   frame-outside q f o (frameAt {U = U} l z b) =
-      within-seen s (b .cell) ∙ any-rest (eqb i) (o .own) U (ap (forSome (eqb i)) (sym (o .parts)) ∙ f)
+      within-seen s (b .cell) ∙ some-rest (eqb i) (o .own) U (ap (forSome (eqb i)) (sym (o .parts)) ∙ f)
 
   choke-closed : Closed M Outside (λ b. Unit) W
   choke-closed =
@@ -269,7 +269,7 @@ module _ (d : Dag) (M : Labels) (bodies : ℕ → Exp) (m : Machine) {name place
       }
     where
       ends : within (m .cells) c (t .cell) ≡ true
-      ends = ap (within (m .cells) c) f ∙ (within-seen s (below s z) ∙ any-first i X)
+      ends = ap (within (m .cells) c) f ∙ (within-seen s (below s z) ∙ some-first i X)
 
   pub choke-agrees : M .value n ≡ true
       → Agrees M W L R (m .calls) (chokeAt m t (t .cell))

@@ -25,13 +25,13 @@ use Rattle.model.proofs.Sees.View.{World, CellSeen, CellsSeen, root, be
 pub not-any : (n : ℕ) (U : List ℕ) → forSome (eqb n) U ≡ false → n ∉ U
 not-any n U e m = clash (member-any m) e
 
-pub any-first : (n : ℕ) (U : List ℕ) → forSome (eqb n) (n ∷ U) ≡ true
-any-first n U = member-any (List·Memᴰ·head refl)
+pub some-first : (n : ℕ) (U : List ℕ) → forSome (eqb n) (n ∷ U) ≡ true
+some-first n U = member-any (List·Memᴰ·head refl)
 
-pub any-rest : (test : ℕ → Bool) (C D : List ℕ) → forSome test (C ++ D) ≡ false → forSome test D ≡ false
+pub some-rest : (test : ℕ → Bool) (C D : List ℕ) → forSome test (C ++ D) ≡ false → forSome test D ≡ false
 unfolding forSome _or_
-any-rest test [] D e = e
-any-rest test (c ∷ C) D e = go (test c) e (λ f. any-rest test C D f)
+some-rest test [] D e = e
+some-rest test (c ∷ C) D e = go (test c) e (λ f. some-rest test C D f)
   where
     go : (b : Bool) → (b or forSome test (C ++ D)) ≡ false → (forSome test (C ++ D) ≡ false → forSome test D ≡ false)
         → forSome test D ≡ false
