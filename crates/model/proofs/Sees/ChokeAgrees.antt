@@ -30,7 +30,7 @@ use Rattle.job.proofs.Test.{clash, ne-eqb, not-true, count-append}
 use Rattle.model.proofs.Machine.Choke.{choke-at, choke-ends}
 use Rattle.simulation.proofs.AbstractMachine as Abstract
 use Rattle.simulation.proofs.AbstractMachine.{Binding, Frame, at, Store, withSet, isOutOf, outOf, actsAt}
-use Rattle.simulation.proofs.Store.{_∈_, set-same, set-other}
+use Rattle.simulation.proofs.Store.{_is-in_, set-same, set-other}
 use Rattle.model.proofs.Sees.Labels.{Labels, nodeMeant, programOf}
 use Rattle.model.proofs.Sees.View.{held, World, Nested, StateSeen, ready, waiting, called, Unset, CellSeen, CellsSeen, root, below}
 use Rattle.model.proofs.Sees.View.{PlaceSeen, TokenSeen, sees, TokensSeen, nobody, also, FrameSeen, frameAt, frame-seen, Kept}
@@ -185,10 +185,10 @@ module _ (M : Labels) (W : World) (c i : ℕ) (s : CellSeen W c i) (w : Held) (v
       subst (λ t. TokenSeen chokedWorld M t x) (sym (spared p o))
       (token-woken (waitsAt c (tokenAt (W .tokens) p .state)) refl
       (place-keep choke-kept choke-closed (choke-closed .token p o z) z)
-      (λ k m. set-other (W .store) i k v (λ f. clear (subst (λ y. y ∈ U) f m)) ∙ un k m)
+      (λ k m. set-other (W .store) i k v (λ f. clear (subst (λ y. y is-in U) f m)) ∙ un k m)
       st)
     where
-      clear : i ∈ U → ⊥
+      clear : i is-in U → ⊥
       clear = not-any i U (sym (within-seen s (z .cell)) ∙ o)
 
   -- the abstract machine ends the same tokens

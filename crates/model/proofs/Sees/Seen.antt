@@ -29,7 +29,7 @@ use Rattle.model.proofs.Machine.Inside.{Fits}
 use Rattle.model.proofs.Machine.Blanking.{length-kept, kept-marked, kept-cases}
 use Rattle.simulation.proofs.AbstractMachine as Abstract
 use Rattle.simulation.proofs.AbstractMachine.{Store, state}
-use Rattle.simulation.proofs.Store.{_∈_}
+use Rattle.simulation.proofs.Store.{_is-in_}
 use Rattle.model.proofs.Sees.Labels.{Labels}
 use Rattle.model.proofs.Sees.View.{held, World, CellSeen, CellsSeen, root, below, StateSeen, ready, waiting, called, Unset}
 use Rattle.model.proofs.Sees.View.{TokenSeen, sees, TokensSeen, nobody, also, Kept, Closed, token-keep, tokens-map}
@@ -69,7 +69,7 @@ unset-cell c e = go (c .value) e
 module _ {W : World} where
   -- a test that fails at each cell from a place upward
   pub up-fails : (test : ℕ → Cell → Bool) (k : ℕ) {q : Place} {U : List ℕ}
-      → ((c n : ℕ) → CellSeen W c n → n ∈ U → test c (cellAt (W .cells) c) ≡ false)
+      → ((c n : ℕ) → CellSeen W c n → n is-in U → test c (cellAt (W .cells) c) ≡ false)
       → CellsSeen W q U → upward test (W .cells) k q ≡ false
   unfolding upward
   up-fails test zero h v = refl

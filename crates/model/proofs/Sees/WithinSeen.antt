@@ -18,11 +18,11 @@ use Rattle.model.specs.declared.token.Place.the-variants as places
 use Rattle.job.proofs.WellFormed.{member-any}
 use Rattle.job.proofs.Test.{clash, eq-eqb, ne-eqb}
 use Rattle.model.proofs.Machine.Marks.{Free, marked-le-length, marked-set-free}
-use Rattle.simulation.proofs.Store.{_∉_}
+use Rattle.simulation.proofs.Store.{_not-in_}
 use Rattle.model.proofs.Sees.View.{World, CellSeen, CellsSeen, root, below}
 
 -- names in a list
-pub not-any : (n : ℕ) (U : List ℕ) → forSome (eqb n) U ≡ false → n ∉ U
+pub not-any : (n : ℕ) (U : List ℕ) → forSome (eqb n) U ≡ false → n not-in U
 not-any n U e m = clash (member-any m) e
 
 pub some-first : (n : ℕ) (U : List ℕ) → forSome (eqb n) (n ∷ U) ≡ true
