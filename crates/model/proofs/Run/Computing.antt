@@ -27,7 +27,7 @@ unfolding Rattle.job.specs.Construct.own Rattle.job.specs.Construct.nodeCount 
     Rattle.model.specs.Output.Orcrun.turn Rattle.model.specs.Output.Orcrun.turnLines
     Rattle.model.specs.Output.Orcrun.runLines Rattle.model.specs.Output.Orcrun.tableLines
     Rattle.model.specs.Output.Orcrun.inputLines Rattle.model.specs.Output.Orcrun.orcrun
-    Rattle.model.specs.Machine.Active.isSet Rattle.model.specs.Machine.Active.upward
+    Rattle.model.specs.Machine.Active.cellIsSet Rattle.model.specs.Machine.Active.upward
     Rattle.model.specs.Machine.Active.underSet Rattle.model.specs.Machine.Active.within
     Rattle.model.specs.Machine.State.isLive Rattle.model.specs.Machine.Active.isActive
     Rattle.model.specs.Machine.Answer.holder Rattle.model.specs.Machine.Answer.answered
