@@ -2,7 +2,7 @@
 -- stops at one before it. Assumes nothing.
 use mathlib.Core.Path.{_≡_, refl, sym, _∙_, ap, subst}
 use mathlib.Core.Bool.{Bool, true, false}
-use mathlib.Core.List.{List}
+use mathlib.Core.List.{List, [], _∷_}
 use Prim.Native.Nat.{ℕ, zero, suc, _+_, _-_, _<_, _≤_}
 use native.Mathlib.Decide.{decLt}
 use native.Mathlib.Omega.{arith}
@@ -62,6 +62,11 @@ module _ (marks : List Bool) where
           (Free marks)
           (sym (free-from n q 0 (around-outside (length marks) q (omega arith))))
           (look-free n 0 (λ m. ahead n 1 j f l (later 0 j m f (omega arith)) (omega arith)))
+
+-- "after the last one given": with places 0 and 2 free and 1 the last one given it is 2, not the lowest
+pub next-not-lowest : nextPlace (false ∷ true ∷ false ∷ []) 1 ≡ 2
+unfolding nextPlace freeFrom around
+next-not-lowest = refl
 
 pub next-place-free :
     (marks : List Bool) (last : ℕ)
