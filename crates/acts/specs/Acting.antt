@@ -8,11 +8,10 @@ use Rattle.job.specs.Words.{dagOf}
 use Rattle.model.specs.Machine.Blank.{tokenAt}
 use Rattle.model.specs.Machine.InUse.{tokensUsed, cellsUsed}
 use Rattle.model.specs.Machine.Limits.{paper}
-use Rattle.model.specs.Machine.Reply.{reportValues}
+use Rattle.model.specs.Machine.Reply.{reportValues, refusalOf}
 use Rattle.model.specs.Machine.Rules.{rulesHold}
 use Rattle.model.specs.declared.record.Machine.{Machine}
 use Rattle.model.specs.declared.reply.Outcome.{Outcome}
-use Rattle.model.specs.declared.reply.Refusal.the-variants as refusals
 use Rattle.model.specs.declared.reply.Reply.{Reply}
 use Rattle.model.specs.declared.reply.Reply.the-variants as replies
 use Rattle.model.specs.declared.reply.Report.{Report}
@@ -75,4 +74,4 @@ plain r = record { reply = r; values = reportValues [] }
 -- an answer's, by whether its handle was open
 abbrev pub answerReport : Bool → Report
 answerReport true = plain replies.Done
-answerReport false = plain (replies.Refused refusals.NotOpen)
+answerReport false = plain (replies.Refused (refusalOf 12))

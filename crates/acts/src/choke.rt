@@ -16,7 +16,7 @@ use record::cell;
 use record::token;
 use sweep::sweep::sweep_to;
 
-// "A token at choke names a cell."
+// "choke: set the cell; ..": "a token .. at choke [names] a cell".
 pub fn choke_cell(
     w: &mut [u32; Machine::WORDS],
     tokens: &mut [bool; Machine::TOKENS],

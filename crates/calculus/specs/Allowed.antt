@@ -35,6 +35,6 @@ pub data CanShow (body : ℕ → Exp) : Configuration → List Event → Type 0 
       → CanShow body (record { exp = f; handle = nextHandle a (c .handle) }) es
       → CanShow body c (shown a es)
 
--- "A list is allowed exactly when finitely many of these rewritings .. from the table's goal, show it"
+-- document 01: allowed. "A list is allowed exactly when finitely many of these rewritings .. from the table's goal, show it"
 abbrev pub Allowed : Goal → List Event → Type 0
 Allowed g es = CanShow (g .body) (record { exp = g .goal; handle = zero }) es

@@ -18,8 +18,9 @@ pub data Exp : Type 0 where
   par : (f g : Exp) → Exp
   seq : (f g : Exp) → Exp
   prune : (f g : Exp) → Exp
-  -- an open call, by its handle; a value in hand
+  -- document 01: open call. It is named by its handle
   pending : (handle : ℕ) → Exp
+  -- document 01: value in hand
   hand : (v : ℤ) → Exp
 
 -- what stands for each variable
@@ -55,6 +56,6 @@ unfoldable pub innermost : ℤ → Substitution
 innermost v zero = value v
 innermost v (suc i) = variable i
 
--- P for the formals: the last formal is the innermost variable
+-- P for the formals: the last formal is the innermost variable (8 leaves no call with fewer parameters than formals)
 unfoldable pub formals : List Param → Substitution
 formals ps i = getD (reverse ps) i (value (pos 0))

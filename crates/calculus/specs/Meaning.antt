@@ -8,7 +8,7 @@ use Rattle.job.specs.Syntax.{Definition, Program, levels, scopeLeft, scopeRight
 use Rattle.calculus.specs.Expression as Calculus
 use Rattle.calculus.specs.Allowed.{Goal}
 
--- how many binders stand between a variable and its own: its position in the scope
+-- how many binders stand between a variable and its own: its position in the scope (7 leaves no variable that is not in scope)
 unfoldable pub position : ℕ → List ℕ → ℕ
 position x [] = 0
 position x (y ∷ scope) = elim (eqb x y) [ true ↦ 0 | false ↦ suc (position x scope) ]
@@ -28,7 +28,7 @@ expMeant scope (Job.site s ps) = Calculus.site s (map (paramMeant scope) ps)
 expMeant scope (Job.call d ps) = Calculus.call d (map (paramMeant scope) ps)
 expMeant scope (Job.join j f g) = joinMeant j (expMeant (scopeLeft j scope) f) (expMeant (scopeRight j scope) g)
 
--- the body of definition d. (An accepted table calls no other than its own.)
+-- the body of definition d (8 leaves no call of one that is missing)
 unfoldable pub bodyMeant : List Definition → ℕ → Calculus.Exp
 bodyMeant [] d = Calculus.stop
 bodyMeant (e ∷ es) zero = expMeant (levels (e .formals)) (e .body)

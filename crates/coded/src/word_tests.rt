@@ -1,4 +1,4 @@
-// Are words those of a record? "Words that are not those of their decoding are no record."
+// Are words those of a record? Words that are not those of their decoding are no record (docs/DECISIONS.md, "Words that are no record's").
 ghost use mathlib.Core.Path.{_≡_};
 ghost use mathlib.Core.Bool.{true};
 ghost use Prim.Native.Nat.{_<_, _≤_, _+_};

@@ -39,7 +39,7 @@ use Rattle.simulation.proofs.AbstractMachine.{Binding, Frame, at, running, Stor
 use Rattle.simulation.proofs.Shuffle.{Split, first, later}
 use Rattle.model.proofs.Sees.Labels.{Labels, nodeMeant, programOf, FlowAt, Flow}
 use Rattle.model.proofs.Sees.View.{World, Unset, PlaceSeen, TokenSeen, Kept, token-keep, tokens-map}
-use Rattle.model.proofs.Sees.Seen.{Core, world, Sees, seenAs, finish-sees, UsedToken, UsedCell, used-closed, used-fits, token-used}
+use Rattle.model.proofs.Sees.Seen.{Core, world, Sees, seenAs, sweep-sees, UsedToken, UsedCell, used-closed, used-fits, token-used}
 use Rattle.model.proofs.Sees.Slots.{found, values-seen}
 use Rattle.model.proofs.Sees.Others.{Others, acting-inside, cell-later}
 use Rattle.model.proofs.Sees.Agrees.{Acting}
@@ -182,7 +182,7 @@ module _ (lim : Limits) (d : Dag) (M : Labels) (bodies : ℕ → Exp) (fits : Fi
       (subst
       (λ (o : Outcome). Sees M (o .machine)
       (after L R σ new (m .calls) (Abstract.makes (showing (Event.answer h w)) (running (at n B F U) w ∷ []))))
-      (sym does) (finish-sees _ (answered-becomes m h w o z un seen .machine)))
+      (sym does) (sweep-sees _ (answered-becomes m h w o z un seen .machine)))
 
   follow : {L R : List Abstract.Token} {x : Abstract.Token} (move : Move x) → Split x S L R → Turn M W L R x
       → FollowedBy L R (effect G σ new (m .calls) x move)

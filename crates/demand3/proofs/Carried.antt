@@ -14,7 +14,7 @@ use Rattle.job.specs.Syntax.{Param}
 use Rattle.job.specs.Node.{Dag}
 use Rattle.model.specs.Machine.Limits.{Limits}
 use Rattle.model.specs.Machine.Blank.{empty, blankToken, tokenAt, slotAt, hasValue}
-use Rattle.model.specs.Machine.Active.{isSet}
+use Rattle.model.specs.Machine.Active.{cellIsSet}
 use Rattle.model.specs.Machine.State.{isLive}
 use Rattle.model.specs.Machine.InUse.{tokensUsed, cellsUsed, sweep}
 use Rattle.model.specs.Machine.FreePlace.{nextPlace}
@@ -224,7 +224,7 @@ module _ (lim : Limits) (d : Dag) (m : Machine) (holds : rulesHold lim d m ≡ t
           (newCell c (record { parent = t .cell; value = helds.Nothing })
           (newToken q (inCell c (withNode right t)) (put p (withNode left (withBinding x (slots.Cell c) t)) (taken m place))))))
           (set (tokensUsed m) q true) (set (cellsUsed m) c true)
-      unfolding withOrders withCounts put withTables enqueue newToken newCell withNode inCell withBinding isSet hasValue
+      unfolding withOrders withCounts put withTables enqueue newToken newCell withNode inCell withBinding cellIsSet hasValue
       split-carried below c cell x left right =
           both-carried clean q c (split-inside lim d m rules p used q c x left right)
           (split-adds lim d m holds p live _ q (withNode left (withBinding x (slots.Cell c) t)) (inCell c (withNode right t)) refl free c

@@ -99,20 +99,20 @@ queue-index lim d m holds p l e =
     (names-once isReady (m .tokens) (m .queue) (m .queued) (each-rule-holds lim d m holds .queue)) l (ap isReady e)
 
 -- the holder of an open handle: no other token has it
-any-append-left : (test : ℕ → Bool) (xs ys : List ℕ) → forSome test xs ≡ true → forSome test (xs ++ ys) ≡ true
+some-append-left : (test : ℕ → Bool) (xs ys : List ℕ) → forSome test xs ≡ true → forSome test (xs ++ ys) ≡ true
 unfolding forSome _or_
-any-append-left test [] ys e = clash e refl
-any-append-left test (x ∷ xs) ys e = go (test x) e (λ f. any-append-left test xs ys f)
+some-append-left test [] ys e = clash e refl
+some-append-left test (x ∷ xs) ys e = go (test x) e (λ f. some-append-left test xs ys f)
   where
     go : (b : Bool) → (b or forSome test xs) ≡ true → (forSome test xs ≡ true → forSome test (xs ++ ys) ≡ true)
         → (b or forSome test (xs ++ ys)) ≡ true
     go true f g = refl
     go false f g = g f
 
-any-append-right : (test : ℕ → Bool) (xs ys : List ℕ) → forSome test ys ≡ true → forSome test (xs ++ ys) ≡ true
+some-append-right : (test : ℕ → Bool) (xs ys : List ℕ) → forSome test ys ≡ true → forSome test (xs ++ ys) ≡ true
 unfolding forSome
-any-append-right test [] ys e = e
-any-append-right test (x ∷ xs) ys e = or-right (test x) (any-append-right test xs ys e)
+some-append-right test [] ys e = e
+some-append-right test (x ∷ xs) ys e = or-right (test x) (some-append-right test xs ys e)
 
 has-handle : (h : ℕ) (s : State) → s ≡ states.Called h → forSome (eqb h) (handleOf s) ≡ true
 unfolding forSome handleOf
@@ -121,8 +121,8 @@ has-handle h s e = ap (λ s. forSome (eqb h) (handleOf s)) e ∙ or-left false (
 handle-open : (h : ℕ) (ts : List Token) (p : ℕ) → tokenAt ts p .state ≡ states.Called h → forSome (eqb h) (openHandles ts) ≡ true
 unfolding openHandles tokenAt
 handle-open h [] p e = let z : _≡_ {A = ℕ} 0 1 = cc in absurd (omega arith)
-handle-open h (t ∷ ts) zero e = any-append-left (eqb h) (handleOf (t .state)) (openHandles ts) (has-handle h (t .state) e)
-handle-open h (t ∷ ts) (suc p) e = any-append-right (eqb h) (handleOf (t .state)) (openHandles ts) (handle-open h ts p e)
+handle-open h (t ∷ ts) zero e = some-append-left (eqb h) (handleOf (t .state)) (openHandles ts) (has-handle h (t .state) e)
+handle-open h (t ∷ ts) (suc p) e = some-append-right (eqb h) (handleOf (t .state)) (openHandles ts) (handle-open h ts p e)
 
 differ-behind : (s : State) (hs : List ℕ) → distinct (handleOf s ++ hs) ≡ true → distinct hs ≡ true
 unfolding handleOf distinct

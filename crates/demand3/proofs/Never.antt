@@ -1,16 +1,20 @@
 -- "14: dag or machine record breaks an index rule" is never the reply to a call of a run: every record of a run on an accepted table is
 -- reached, so it keeps the rules, and a call on such a record is not refused with 14. For all limits with tables that have a place and are
--- no smaller than the limits, in particular the paper's. Assumes nothing.
+-- no smaller than the limits, in particular the paper's. By the same rules each ready token of such a record has one position in the queue.
+-- Assumes nothing.
 use mathlib.Core.Path.{_≡_}
 use mathlib.Core.Bool.{true}
 use mathlib.Core.List.{List}
-use Prim.Native.Nat.{ℕ}
+use Prim.Native.Nat.{ℕ, _<_}
+use lib.ListN.{getD}
 use Rattle.job.specs.Syntax.{Program}
 use Rattle.job.specs.Read.{readTable, accepted}
 use Rattle.job.specs.WellFormed.{WellFormed}
 use Rattle.job.specs.Node.{Dag}
 use Rattle.job.specs.Construct.{construct}
 use Rattle.model.specs.Machine.Limits.{Limits}
+use Rattle.model.specs.Machine.Blank.{tokenAt}
+use Rattle.model.specs.Machine.State.{isReady}
 use Rattle.model.specs.Machine.Rules.{rulesHold}
 use Rattle.calculus.specs.Meaning.{meaning}
 use Rattle.model.specs.Run.Call.{Call, runner, outcomeOf, machineAfter, started}
@@ -20,6 +24,7 @@ use Rattle.job.proofs.DagHolds.{construct-holds}
 use Rattle.job.proofs.Accepted.{accepted-well-formed}
 use Rattle.model.proofs.Sees.Labelling.{labelsOf}
 use Rattle.model.proofs.Sees.Flowing.{construct-flows}
+use Rattle.model.proofs.Run.OnePosition.{one-position}
 use Rattle.demand3.proofs.Reached.{Roomy}
 use Rattle.demand3.proofs.Runs.{InRun, run-in-run, in-run-rules}
 use Rattle.demand3.proofs.NotRule.{not-rule}
@@ -41,6 +46,14 @@ module _ (lim : Limits) (room : Roomy lim) (table : List ℕ) (p : Program) (rea
       → rulesHold lim (construct p) (machineAfter runner lim (construct p) (started runner lim (construct p)) calls) ≡ true
   run-rules calls = in-run-rules lim d (labelsOf p) room (construct-flows p good) (construct-holds p good) (meaning p .body)
       (run-reached calls)
+
+  -- each ready token of a record of a run stands at exactly one position of the queue
+  pub run-one-position : (calls : List Call) (place : ℕ)
+      → let m = machineAfter runner lim (construct p) (started runner lim (construct p)) calls in
+      isReady (tokenAt (m .tokens) place .state) ≡ true
+      → (k : ℕ) × (k < m .queued) × (getD (m .queue) k 0 ≡ place)
+      × ((j : ℕ) → j < m .queued → getD (m .queue) j 0 ≡ place → j ≡ k)
+  run-one-position calls place ready = one-position lim d _ (run-rules calls) place ready
 
   -- no call of a run is refused with 14
   pub never-14 : (earlier : List Call) (c : Call)

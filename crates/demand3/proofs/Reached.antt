@@ -59,9 +59,9 @@ use Rattle.model.proofs.Sees.Lockstep.{free-token, free-cell, takes-agrees, Ste
 use Rattle.model.proofs.Keeps.NamedOnce.{Lines, Taken, take-out, taken-ready, lines-new}
 use Rattle.model.proofs.Keeps.Orders.{queue-is, waits-are, orders-put, orders-enqueue}
 use Rattle.model.proofs.Keeps.TableFacts.{Idle, idle-holds, tables-write}
-use Rattle.model.proofs.Keeps.Facts.{Facts, start-facts, LiveUsed, finish-facts}
+use Rattle.model.proofs.Keeps.Facts.{Facts, start-facts, LiveUsed, sweep-facts}
 use Rattle.demand3.proofs.ActsKeep.{Vacant, acted}
-use Rattle.model.proofs.Keeps.Clean.{Clean, finish-clean, start-clean}
+use Rattle.model.proofs.Keeps.Clean.{Clean, sweep-clean, start-clean}
 use Rattle.demand3.proofs.RulesKept.{slot-inside, cells-range, rules-hold}
 use Rattle.model.proofs.Machine.TableRows.{token-same, live-inside}
 
@@ -164,7 +164,7 @@ module _ (lim : Limits) (d : Dag) (M : Labels) (room : Roomy lim) (flow : Flow d
   Left m = Facts lim d m × Clean m
 
   finished : (o : Machine) → Facts lim d o × LiveUsed o → Left (sweep o)
-  finished o x = (finish-facts (x .0) (x .1) some, finish-clean o)
+  finished o x = (sweep-facts (x .0) (x .1) some, sweep-clean o)
 
   module _ (bodies : ℕ → Exp) where
     -- what an instruction leaves, before blanking

@@ -19,7 +19,7 @@ use Rattle.job.specs.WellFormed.{GoodParam}
 use Rattle.model.specs.Machine.Limits.{Limits}
 use Rattle.model.specs.Machine.Blank.{empty, blankToken, blankCell, tokenAt, cellAt, slotAt, isBound, hasValue, isPlace}
 use Rattle.model.specs.Machine.State.{isBlankState, isLive, isReady, isFrame, handleOf}
-use Rattle.model.specs.Machine.Active.{isSet, underSet}
+use Rattle.model.specs.Machine.Active.{cellIsSet, underSet}
 use Rattle.model.specs.Machine.InUse.{tokensUsed, cellsUsed}
 use Rattle.model.specs.Machine.Rules.{heldInRange, placeInRange, slotInRange, stateInRange, tokenInRange, cellInRange, sizesInRange}
 use Rattle.model.specs.Machine.Rules.{chainEnds, chainsEnd, notUnderSet, openHandles, waitsAtUnset, namesFrame}
@@ -40,7 +40,7 @@ use Rattle.model.proofs.Machine.Rules.{ready-live}
 use Rattle.job.proofs.Test.{clash, false-of, eqb-eq, eq-eqb, lt-ltb, le-leb, and-both, all-from}
 use Rattle.simulation.proofs.AbstractMachine as Abstract
 use Rattle.simulation.proofs.AbstractMachine.{Binding, Frame, Store}
-use Rattle.simulation.proofs.Store.{_∉_}
+use Rattle.simulation.proofs.Store.{_not-in_}
 use Rattle.model.proofs.Sees.Labels.{Labels, Flow, FlowAt}
 use Rattle.model.proofs.Sees.View.{World, cellsOfCaller, hasCaller, Nested, absent, present, StateSeen, ready, waiting}
 use Rattle.model.proofs.Sees.View.{called, CellsSeen, root, below, BindingSeen, valued, celled, BindingsSeen, binds}
@@ -120,15 +120,15 @@ module _ {W : World} where
 
   -- a bound cell is that of a variable in scope
   bound-inside : {bs : List Bind} {scope : List ℕ} {B : List Binding} (x c : ℕ) → slotAt bs x ≡ slots.Cell c
-      → BindingsSeen W bs scope B → (x ∉ scope) ⊎ (c < length (W .cells))
+      → BindingsSeen W bs scope B → (x not-in scope) ⊎ (c < length (W .cells))
   bound-inside x c e BindingsSeen.nothing = inl List·Memᴰ·not-nil
   bound-inside {bs} x c e (binds {x = y} {scope = scope} v r) = go (ℕ-discrete x y) (bound-inside x c e r)
     where
-      neither : (x ≡ y → ⊥) → x ∉ scope → x ∉ (y ∷ scope)
+      neither : (x ≡ y → ⊥) → x not-in scope → x not-in (y ∷ scope)
       neither n f (List·Memᴰ·head e) = n e
       neither n f (List·Memᴰ·tail m) = f m
 
-      go : Dec (x ≡ y) → (x ∉ scope) ⊎ (c < length (W .cells)) → (x ∉ (y ∷ scope)) ⊎ (c < length (W .cells))
+      go : Dec (x ≡ y) → (x not-in scope) ⊎ (c < length (W .cells)) → (x not-in (y ∷ scope)) ⊎ (c < length (W .cells))
       go (yes f) i = inr (binding-inside c (ap (slotAt bs) (sym f) ∙ e) v)
       go (no n) (inl f) = inl (neither n f)
       go (no n) (inr l) = inr l
@@ -137,7 +137,7 @@ module _ {W : World} where
       → (x c : ℕ) → slotAt bs x ≡ slots.Cell c → c < length (W .cells)
   slot-inside {scope = scope} s x c e = go (bound-inside x c e (s .views))
     where
-      go : (x ∉ scope) ⊎ (c < length (W .cells)) → c < length (W .cells)
+      go : (x not-in scope) ⊎ (c < length (W .cells)) → c < length (W .cells)
       go (inl f) = let i : slots.Empty ≡ slots.Cell c = sym (s .rest x f) ∙ e in let z : _≡_ {A = ℕ} 0 1 = cc in absurd (omega arith)
       go (inr l) = l
 
@@ -215,8 +215,8 @@ value-there e (ready present) = refl
 value-there e (waiting f v) = refl
 value-there e called = refl
 
-unset-if : (k : Cell) → k .value ≡ helds.Nothing → isSet k ≡ false
-unfolding isSet hasValue
+unset-if : (k : Cell) → k .value ≡ helds.Nothing → cellIsSet k ≡ false
+unfolding cellIsSet hasValue
 unset-if k e = ap hasValue e
 
 module _ (lim : Limits) (d : Dag) (M : Labels) (flow : Flow d M) (dag : dagHolds d ≡ true) (some : 0 < length (d .nodes))

@@ -15,7 +15,7 @@ use Rattle.model.specs.Machine.Limits.{Limits}
 use Rattle.model.specs.Machine.Blank.{empty, blankToken, blankCell, tokenAt, cellAt, slotAt, isBound, hasValue, isPlace}
 use Rattle.model.specs.Machine.State.{isLive}
 use Rattle.model.specs.Machine.Blank.{tokenIsBlank, cellIsBlank}
-use Rattle.model.specs.Machine.Active.{isSet, underSet, isActive}
+use Rattle.model.specs.Machine.Active.{cellIsSet, underSet, isActive}
 use Rattle.model.specs.Machine.InUse.{tokensUsed, cellsUsed, sweep}
 use Rattle.model.specs.Machine.Rules.{tokenInRange, restIsBlank, rulesHold}
 use Rattle.model.specs.Machine.Update.{withTables}
@@ -374,7 +374,7 @@ module _ (lim : Limits) (d : Dag) (m : Machine) (holds : rulesHold lim d m ≡ t
     -- where: v is in the new cell k at c, below t's; it has t's other links, and the token keeps t's cell
     module _
         (c : ℕ) (k : Cell) (cells : o .cells ≡ set (m .cells) c k) (vacant : Free (cellsUsed m) c) (parent : k .parent ≡ t .cell)
-        (unset : isSet k ≡ false)
+        (unset : cellIsSet k ≡ false)
       where
         clear-still : (r : Place) → underSet (m .cells) r ≡ false → underSet (o .cells) r ≡ false
         clear-still r e =
@@ -382,7 +382,7 @@ module _ (lim : Limits) (d : Dag) (m : Machine) (holds : rulesHold lim d m ≡ t
             (new-cell-clear (m .cells) c (t .cell) r e under-none)
           where
             below : k ≡ unsetCell (t .cell)
-            below = unfold isSet in let value = nothing (k .value) (ap not unset) in λ i. record { parent = parent i; value = value i }
+            below = unfold cellIsSet in let value = nothing (k .value) (ap not unset) in λ i. record { parent = parent i; value = value i }
 
         new-row : UsedCell o c → (b : ℕ) → AsBefore (cellAt (o .cells) b) (cellAt (m .cells) b) (cellsUsed m) (cellsUsed o) b
         unfolding cellAt

@@ -11,7 +11,7 @@ use Rattle.job.specs.Syntax.{Param}
 use Rattle.job.specs.Node.{Dag}
 use Rattle.model.specs.Machine.Limits.{Limits}
 use Rattle.model.specs.Machine.Blank.{tokenAt, hasValue}
-use Rattle.model.specs.Machine.Active.{isSet}
+use Rattle.model.specs.Machine.Active.{cellIsSet}
 use Rattle.model.specs.Machine.State.{isLive}
 use Rattle.model.specs.Machine.InUse.{tokensUsed, cellsUsed}
 use Rattle.model.specs.Machine.FreePlace.{nextPlace}
@@ -77,7 +77,7 @@ module _ (lim : Limits) (d : Dag) (m : Machine) (holds : rulesHold lim d m ≡ t
           (enqueue p
           (newCell c (record { parent = t .cell; value = helds.Nothing })
           (newToken q (inCell c (withNode right t)) (put p (withNode left (withBinding x (slots.Cell c) t)) (taken m place))))))
-      unfolding withOrders withCounts put withTables enqueue newToken newCell withNode inCell withBinding isSet hasValue
+      unfolding withOrders withCounts put withTables enqueue newToken newCell withNode inCell withBinding cellIsSet hasValue
       split-whole below c cell x left right =
           split-links lim d m holds p acting-live _ q (withNode left (withBinding x (slots.Cell c) t))
           (inCell c (withNode right t)) refl place-free c

@@ -24,7 +24,7 @@ use Rattle.model.proofs.Machine.InUse.{CellsIn, active-inside}
 use Rattle.model.proofs.Machine.Inside.{active-live}
 use Rattle.simulation.proofs.AbstractMachine as Abstract
 use Rattle.simulation.proofs.AbstractMachine.{Binding, Frame}
-use Rattle.simulation.proofs.Store.{_∈_, _∉_}
+use Rattle.simulation.proofs.Store.{_is-in_, _not-in_}
 use Rattle.model.proofs.Sees.Labels.{Labels}
 use Rattle.model.proofs.Sees.View.{World, CellsSeen, root, below, BindingSeen, valued, celled, SlotsSeen, PlaceSeen, TokenSeen, sees}
 use Rattle.model.proofs.Sees.View.{FrameSeen, frameAt, frame-seen}
@@ -43,15 +43,15 @@ frame-not-blank : (s : State) → s ≡ states.Frame → isBlankState s ≡ fals
 unfolding isBlankState
 frame-not-blank s e = ap isBlankState e
 
-member-or-not : (x : ℕ) (l : List ℕ) → (x ∈ l) ⊎ (x ∉ l)
+member-or-not : (x : ℕ) (l : List ℕ) → (x is-in l) ⊎ (x not-in l)
 member-or-not x [] = inr List·Memᴰ·not-nil
 member-or-not x (y ∷ l) = go (ℕ-discrete x y) (member-or-not x l)
   where
-    neither : (x ≡ y → ⊥) → x ∉ l → x ∉ (y ∷ l)
+    neither : (x ≡ y → ⊥) → x not-in l → x not-in (y ∷ l)
     neither n f (List·Memᴰ·head e) = n e
     neither n f (List·Memᴰ·tail m) = f m
 
-    go : Dec (x ≡ y) → (x ∈ l) ⊎ (x ∉ l) → (x ∈ (y ∷ l)) ⊎ (x ∉ (y ∷ l))
+    go : Dec (x ≡ y) → (x is-in l) ⊎ (x not-in l) → (x is-in (y ∷ l)) ⊎ (x not-in (y ∷ l))
     go (yes e) r = inl (List·Memᴰ·head e)
     go (no n) (inl m) = inl (List·Memᴰ·tail m)
     go (no n) (inr f) = inr (neither n f)
@@ -88,7 +88,7 @@ module _ (M : Labels) (W : World) where
       → Named c
   slot-named {bs} {scope} s x c e = go (member-or-not x scope)
     where
-      go : (x ∈ scope) ⊎ (x ∉ scope) → Named c
+      go : (x is-in scope) ⊎ (x not-in scope) → Named c
       go (inl m) = binding-named c e (variable-seen x m (s .views))
       go (inr f) = let i : slots.Empty ≡ slots.Cell c = sym (s .rest x f) ∙ e in let z : _≡_ {A = ℕ} 0 1 = cc in absurd (omega arith)
 

@@ -5,21 +5,13 @@ use mathlib.Core.List.{List}
 use Prim.Native.Nat.{ℕ, _<_}
 use Rattle.job.specs.Test.{All}
 use Rattle.job.specs.Syntax.{Program}
-use Rattle.job.specs.Encode.{encode}
-use Rattle.job.specs.WellFormed.{WellFormed}
 use Rattle.job.specs.Declined.{Declined}
+use Rattle.job.specs.OneReply.{OneReply, program, refusal}
 use Rattle.job.specs.Read.{Read, Answer, accepted, declined, readerAnswer, readTable}
 use Rattle.job.proofs.Read.{Says, reads, refuses}
 use Rattle.job.proofs.Accepted.{accepted-exactly, declined-not-accepted}
 use Rattle.job.proofs.Filling.{Fits, declined-same, fits-not-declined}
 use Rattle.job.proofs.DeclinedReads.{bytes-say}
-
--- what holds of any bytes: they are one program's, or one number and one entry are given
-pub data OneReply (b : List ℕ) : Type 0 where
-  program : (p : Program) → WellFormed p → b ≡ encode p
-      → ((q : Program) → WellFormed q → b ≡ encode q → q ≡ p) → ((n e : ℕ) → Declined b n e → ⊥) → OneReply b
-  refusal : (n e : ℕ) → Declined b n e
-      → ((m f : ℕ) → Declined b m f → (m ≡ n) × (f ≡ e)) → ((p : Program) → WellFormed p → b ≡ encode p → ⊥) → OneReply b
 
 -- the reader's reply, and what it says
 data Replies (b : List ℕ) : Answer → Type 0 where

@@ -6,19 +6,19 @@ use mathlib.Core.List.{List, [], _∷_, _++_, append-assoc, append-nil}
 use Prim.Native.Nat.{ℕ, zero, suc, _+_, _-_, _≤_, _<_}
 use native.Mathlib.Omega.{arith}
 use lib.ListN.{length, replicate, length-append}
-use lib.Dec.{eqb, ltb, leb}
+use lib.Dec.{eqb, ltb}
 use Rattle.job.specs.Test.{_and_, _or_, forSome}
 use Rattle.job.specs.Syntax.{Param, Join, Exp, Definition, Program, formalsOf, levels, scopeLeft, scopeRight}
 use Rattle.job.specs.Entry.{Entry, EntryKind, kindOf, isExpression, rowHolds, isBinder}
-use Rattle.job.specs.Entry.{sizeD, sizeN, tableLength, tableEntries}
+use Rattle.job.specs.Entry.{sizeD, tableEntries}
 use Rattle.job.specs.Read.{Got, Read, got, _>>=_, entryAt, need, readParam, readParamList, readCall, readJoin, readExp}
 use Rattle.job.specs.Read.{isDefinition, readDefinition, readProgram, leftovers, definitionsHold, readEntries, readBytes}
 use Rattle.job.specs.Declined.{Position, definition, expression, parameter, MayStand, Breaks, Keeps, sides, behind, followedBy}
 use Rattle.job.specs.Declined.{Fills, none, next, wholeTable, formalsIn}
 use Rattle.job.specs.Declined.{DeclinedEntries, runs-out, breaks, remain, undefined}
-use Rattle.job.specs.Declined.{LengthHolds, SizesHold, Declined, wrong-length, wrong-sizes, wrong-entries}
-use Rattle.job.proofs.Test.{eqb-eq, eq-eqb, ne-eqb, eqb-ne, ltb-lt, not-ltb-le, leb-le, le-leb, not-leb-lt}
-use Rattle.job.proofs.Test.{and-left, and-right, and-both, clash}
+use Rattle.job.specs.Declined.{Declined, wrong-entries}
+use Rattle.job.proofs.Test.{eq-eqb, ne-eqb, ltb-lt, not-ltb-le}
+use Rattle.job.proofs.Test.{clash}
 use Rattle.job.proofs.Entry.{kind-number, expression-number}
 use Rattle.job.proofs.Read.{Says, reads, refuses, says-need, says-bind, says-map}
 use Rattle.job.proofs.WellFormed.{any-member, member-any}
@@ -27,6 +27,7 @@ use Rattle.job.proofs.Faults.{breaks-kind, breaks-operand, keeps-defini
 use Rattle.job.proofs.Faults.{breaks-variable, keeps-parameter}
 use Rattle.job.proofs.Filling.{Complete, Fits}
 use Rattle.job.proofs.UndefinedCalls.{calls-say}
+use Rattle.job.proofs.Sizes.{sizes-say}
 
 -- one entry more
 
@@ -325,22 +326,6 @@ entries-say D es =
 pub bytes-say : (b : List ℕ) → Says (λ _. Fits b) (Declined b) (readBytes b)
 unfolding readBytes
 bytes-say b =
-    says-need _ _ 0 _ (λ f. wrong-length (λ h. let z = not-leb-lt 4 (length b) f in let l = h .sizes in omega arith)) λ l.
-    says-need _ _ 0 _ (λ f. wrong-length (λ h. eqb-ne (length b) (tableLength b) f (h .total))) λ t.
-    let full : LengthHolds b = record { sizes = leb-le 4 (length b) l; total = eqb-eq (length b) (tableLength b) t } in
-    says-need _ _ 0 _ (λ f. wrong-sizes full (λ h. clash (sizes-test h) f)) λ s.
-    says-map (λ _ c. record { length-holds = full; sizes-hold = test-sizes s; complete = c }) (λ _ _ d. wrong-entries full (test-sizes s) d)
+    says-bind _ (sizes-say b) λ _ h.
+    says-map (λ _ c. record { sized = h; complete = c }) (λ _ _ d. wrong-entries (h .length-holds) (h .sizes-hold) d)
     (entries-say (sizeD b) (tableEntries b))
-  where
-    sizes-test : SizesHold b → (leb (sizeD b) 32 and leb 1 (sizeN b) and leb (sizeN b) 512) ≡ true
-    sizes-test h =
-        and-both (le-leb (sizeD b) 32 (h .definitions)) (and-both (le-leb 1 (sizeN b) (h .some)) (le-leb (sizeN b) 512 (h .entries)))
-
-    test-sizes : (leb (sizeD b) 32 and leb 1 (sizeN b) and leb (sizeN b) 512) ≡ true → SizesHold b
-    test-sizes s =
-        let counts = and-right (leb (sizeD b) 32) _ s in
-        record {
-          definitions = leb-le (sizeD b) 32 (and-left _ _ s);
-          some = leb-le 1 (sizeN b) (and-left _ _ counts);
-          entries = leb-le (sizeN b) 512 (and-right (leb 1 (sizeN b)) _ counts);
-        }

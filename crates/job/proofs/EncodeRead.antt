@@ -7,7 +7,6 @@ use Prim.Native.Nat.{ℕ, zero, suc, _+_, _*_, _≤_}
 use native.Mathlib.Omega.{arith}
 use lib.ListN.{length, drop, length-drop}
 use lib.Seq.{length-take-le}
-use lib.Dec.{leb}
 use Rattle.job.specs.Test.{All, none, more}
 use Rattle.job.specs.Number.{bytes}
 use Rattle.job.specs.Syntax.{Definition, Program, formalsOf, levels}
@@ -18,7 +17,7 @@ use Rattle.job.specs.Read.{Got, got, _>>=_, entryAt, need, isDefinition,
 use Rattle.job.specs.Read.{callHolds, definitionsHold}
 use Rattle.job.specs.Read.{readEntries, readBytes}
 use Rattle.job.proofs.All.{All-drop}
-use Rattle.job.proofs.Test.{eqb-eq, leb-le, and-left, and-right, clash}
+use Rattle.job.proofs.Test.{leb-le, clash}
 use Rattle.job.proofs.Number.{Byte}
 use Rattle.job.proofs.Entry.{entry-of, kind-number, kindBytes}
 use Rattle.job.proofs.Entry.{length-entries, kind-bytes-entries, operand-bytes-entries, entries-short}
@@ -26,6 +25,7 @@ use Rattle.job.proofs.Read.{Yields, reads, refuses, says-bind, yields-g
 use Rattle.job.proofs.WellFormed.{CallRuleHolds}
 use Rattle.job.proofs.Prefix.{Begins, next, begins-append, begins-rest, begins-length, begins-exact}
 use Rattle.job.proofs.Table.{kindPart, operandPart, table-parts}
+use Rattle.job.proofs.Sizes.{sizes-found}
 use Rattle.job.proofs.FoundExpression.{exp-found}
 
 -- definitions and programs
@@ -56,7 +56,7 @@ unfolding readDefinition _>>=_ entryAt rowHolds
 definition-found formals e [] holds = (refuses tt)
 definition-found formals e (x ∷ rest) (more _ holds) =
     yields-need _ _ e _ λ k.
-    yields-need (leb (x .operand) 4) _ e _ λ l.
+    yields-need (rowHolds EntryKind.definition (x .operand)) _ e _ λ l.
     says-bind _ (exp-found formals 24 (levels (x .operand)) (suc e) rest holds) λ b h.
     reads (record {
       good = record { count = leb-le _ 4 l; body = h .good };
@@ -172,13 +172,11 @@ module _ (b : List ℕ) (four : 4 ≤ length b) (total : length b ≡ tableLengt
 pub bytes-found : (b : List ℕ) → Yields (FoundBytes b) (readBytes b)
 unfolding readBytes
 bytes-found b =
-    yields-need _ _ 0 _ λ l.
-    yields-need _ _ 0 _ λ e.
-    yields-need _ _ 0 _ λ sizes.
-    let four = leb-le 4 (length b) l in
-    let total = eqb-eq (length b) (tableLength b) e in
-    let d = leb-le (sizeD b) 32 (and-left _ _ sizes) in
-    let n = leb-le (sizeN b) 512 (and-right (leb 1 (sizeN b)) _ (and-right (leb (sizeD b) 32) _ sizes)) in
+    says-bind _ (sizes-found b) λ _ sized.
+    let four = sized .length-holds .sizes in
+    let total = sized .length-holds .total in
+    let d = sized .sizes-hold .definitions in
+    let n = sized .sizes-hold .entries in
     yields-map
     (λ g h. record { well-formed = found-here b four total g h d n; exact = found-exact b four total g h })
     (entries-found (sizeD b) (entries (kindPart b) (operandPart b)))

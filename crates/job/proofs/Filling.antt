@@ -11,7 +11,8 @@ use Rattle.job.specs.Entry.{Entry, sizeD, tableEntries}
 use Rattle.job.specs.Declined.{Position, Breaks, Keeps, followedBy, Fills, none, next}
 use Rattle.job.specs.Declined.{wholeTable, formalsIn, Undefined, FirstAt, here, later}
 use Rattle.job.specs.Declined.{DeclinedEntries, runs-out, breaks, remain, undefined}
-use Rattle.job.specs.Declined.{LengthHolds, SizesHold, Declined, wrong-length, wrong-sizes, wrong-entries}
+use Rattle.job.specs.Declined.{Declined, wrong-length, wrong-sizes, wrong-entries}
+use Rattle.job.proofs.Sizes.{LengthAndSizes}
 use Rattle.job.proofs.Faults.{fault-known}
 
 -- the same number and entry
@@ -105,8 +106,7 @@ module _ (D : ℕ) where
 -- the bytes of a table
 
 pub record Fits (b : List ℕ) : Type 0 where
-  pub length-holds : LengthHolds b
-  pub sizes-hold : SizesHold b
+  pub sized : LengthAndSizes b
   pub complete : Complete (sizeD b) (tableEntries b)
 
 pub declined-same : {b : List ℕ} {n e m f : ℕ} → Declined b n e → Declined b m f → Same n e m f
@@ -121,6 +121,6 @@ declined-same (wrong-entries l s d) (wrong-sizes _ worse) = absurd (worse s)
 declined-same {b} (wrong-entries l s d) (wrong-entries _ _ c) = stage-same (sizeD b) (stage (sizeD b) d) (stage (sizeD b) c)
 
 pub fits-not-declined : {b : List ℕ} {n e : ℕ} → Fits b → Declined b n e → ⊥
-fits-not-declined h (wrong-length bad) = bad (h .length-holds)
-fits-not-declined h (wrong-sizes _ bad) = bad (h .sizes-hold)
+fits-not-declined h (wrong-length bad) = bad (h .sized .length-holds)
+fits-not-declined h (wrong-sizes _ bad) = bad (h .sized .sizes-hold)
 fits-not-declined {b} h (wrong-entries _ _ d) = complete-stage (sizeD b) (h .complete) (stage (sizeD b) d)

@@ -5,7 +5,7 @@ use mathlib.Core.Bool.{true}
 use mathlib.Core.List.{List, [], _∷_, map}
 use Prim.Native.Nat.{ℕ, zero, suc}
 use lib.ListN.{length}
-use lib.Dec.{leb, eqb}
+use lib.Dec.{eqb}
 use Rattle.job.specs.Test.{_or_, forSome, All, none, more}
 use Rattle.job.specs.Number.{signed, unsigned}
 use Rattle.job.specs.Site.{siteTakes}
@@ -128,13 +128,18 @@ module _ (formals : List ℕ) (left : ℕ) (scope : List ℕ) (e : ℕ) (x : Ent
         says-bind _ (below (scopeRight j scope) (f .next) (f .rest) (begins-rest (hf .begins) holds)) λ g hg.
         reads (record { good = Good.join b (hf .good) (hg .good); begins = next (λ s. k) (begins-append (hf .begins) (hg .begins)) })
 
+    -- the row of a definition call says less than the rule for 8
+    call-at : kindOf (x .kind) ≡ EntryKind.call → CallRuleHolds formals x
+        → Yields (FoundExp formals (suc left) scope (x ∷ rest)) (readExp (suc left) scope e (x ∷ rest))
+    unfolding readExp _>>=_ entryAt need isExpression isBinder _or_
+    call-at q t = rw (q, readExp) (yields-need (rowHolds EntryKind.call (x .operand)) _ e _ λ _. call-found (kind-number _ _ q) t)
+
     exp-at : (k : EntryKind) → kindOf (x .kind) ≡ k → All (CallRuleHolds formals) (x ∷ rest)
         → Yields (FoundExp formals (suc left) scope (x ∷ rest)) (readExp (suc left) scope e (x ∷ rest))
     unfolding readExp _>>=_ entryAt need kindOf isExpression rowHolds isBinder _or_ encodeJoin
     exp-at EntryKind.stop q holds = rw (q, readExp) (yields-need _ _ e _ λ t. reads (stop-found (kind-number _ _ q) t))
     exp-at EntryKind.site q holds = rw (q, readExp) (yields-need _ _ e _ λ t. site-found (kind-number _ _ q) t)
-    exp-at EntryKind.call q (more t holds) =
-        rw (q, readExp) (yields-need (leb (high (x .operand)) 4) _ e _ λ _. call-found (kind-number _ _ q) t)
+    exp-at EntryKind.call q (more t holds) = call-at q t
     exp-at EntryKind.par q (more _ holds) =
         rw (q, readExp) (yields-need _ _ e _ λ t. join-found Join.par GoodJoin.par (bare-entry (kind-number _ _ q) t) holds)
     exp-at EntryKind.seq q (more _ holds) =

@@ -9,6 +9,8 @@ pub mod Position
 pub mod Read
 pub mod ScopeSlots
 pub mod WellFormed
+pub mod RowBroken
+pub mod Sizes
 pub mod Prefix
 pub mod Encode
 pub mod Table

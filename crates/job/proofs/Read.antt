@@ -3,7 +3,7 @@
 -- either refuses or hands on what it read. Assumes nothing.
 use mathlib.Core.Path.{_≡_, refl, subst}
 use mathlib.Core.Bool.{Bool, true, false}
-use mathlib.Core.List.{List}
+use mathlib.Core.List.{List, []}
 use Prim.Native.Nat.{ℕ}
 use native.Mathlib.Omega.{arith}
 use Rattle.job.specs.Entry.{Entry}
@@ -31,6 +31,13 @@ module _ {A : Type 0} {P : Got A → Type 0} {Q : (number entry : ℕ) → Type 
       → ((g : Got A) → P g → P′ g) → ((n e : ℕ) → Q n e → Q′ n e) → Says P Q r → Says P′ Q′ r
   says-map f h (reads {g = g} p) = reads (f g p)
   says-map f h (refuses {n = n} {e = e} q) = refuses (h n e q)
+
+-- a test by itself
+pub says-test : {P : Got (Unit {0}) → Type 0} {Q : (number entry : ℕ) → Type 0} (b : Bool) (n e : ℕ)
+    → (b ≡ false → Q n e) → (b ≡ true → P (record { value = tt; next = e; rest = [] })) → Says P Q (need b n e)
+unfolding need
+says-test true n e f h = reads (h refl)
+says-test false n e f h = refuses (f refl)
 
 -- what holds of all that is read, whatever is refused
 

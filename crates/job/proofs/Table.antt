@@ -12,7 +12,7 @@ use Rattle.job.specs.Entry.{sizeD, sizeN}
 use Rattle.job.proofs.All.{All-drop}
 use Rattle.job.proofs.Number.{Byte, number-bytes, bytes-front}
 
--- "bytes 0-1: D; bytes 2-3: N; then N kind bytes, then N operands of 4 bytes"
+-- "Bytes 0-1: D, .. Bytes 2-3: N, .. Then N kind bytes, then N operands of 4 bytes"
 abbrev pub table : (D N : ℕ) (ks os : List ℕ) → List ℕ
 table D N ks os = bytes 2 D ++ bytes 2 N ++ ks ++ os
 

@@ -191,11 +191,11 @@ once-small true = omega arith
 once-small false = omega arith
 
 -- counting
-pub count-append : (n : ℕ) (xs ys : List ℕ) → occurrences n (xs ++ ys) ≡ occurrences n xs + occurrences n ys
+pub occurrences-append : (n : ℕ) (xs ys : List ℕ) → occurrences n (xs ++ ys) ≡ occurrences n xs + occurrences n ys
 unfolding occurrences
-count-append n [] ys = omega arith
-count-append n (x ∷ xs) ys = let z : occurrences n (xs ++ ys) ≡ occurrences n xs + occurrences n ys = count-append n xs ys in omega arith
+occurrences-append n [] ys = omega arith
+occurrences-append n (x ∷ xs) ys = omega (arith, occurrences-append n xs ys)
 
-pub count-more : (n x : ℕ) (xs : List ℕ) → occurrences n xs ≤ occurrences n (x ∷ xs)
+pub occurrences-more : (n x : ℕ) (xs : List ℕ) → occurrences n xs ≤ occurrences n (x ∷ xs)
 unfolding occurrences
-count-more n x xs = omega arith
+occurrences-more n x xs = omega arith

@@ -5,9 +5,9 @@ use mathlib.Core.List.{List, [], _∷_, _++_, List·Memᴰ}
 use Prim.Native.Nat.{ℕ, suc, _≤_, _<_}
 use lib.ListN.{length, getD, replicate}
 use lib.Dec.{eqb}
-use Rattle.job.specs.Bounds.{scopeLimit, depthLimit, definitionLimit, entryLimit}
+use Rattle.job.specs.Bounds.{parameterLimit, scopeLimit, depthLimit, definitionLimit, entryLimit}
 use Rattle.job.specs.Syntax.{Join, par, seq, prune, levels, scopeLeft, scopeRight}
-use Rattle.job.specs.Entry.{Entry, low, high, EntryKind, kindOf, rowHolds, sizeD, sizeN, tableLength, tableEntries}
+use Rattle.job.specs.Entry.{Entry, low, high, EntryKind, kindOf, sizeD, sizeN, tableLength, tableEntries}
 
 -- what is to stand at an entry: a definition, an expression at a depth, a parameter; the last two where these variables are in scope
 pub data Position : Type 0 where
@@ -21,15 +21,43 @@ MayStand definition kind = kind ≡ 6
 MayStand (expression depth scope) kind = kind ≤ 5
 MayStand (parameter scope) kind = (7 ≤ kind) × (kind ≤ 8)
 
--- what is wrong with an entry that stands there, by number (docs/DECISIONS.md, "What breaks a row", "Depth")
+-- "Each built-in site has a fixed parameter count: 0 let (1), 1 ift (1), 2 iff (1), 3 signal (0), 4 add (2), 5 less (2), 6 equal (2)"
+pub data OwnCount : (site count : ℕ) → Type 0 where
+  let' : OwnCount 0 1
+  ift : OwnCount 1 1
+  iff : OwnCount 2 1
+  signal : OwnCount 3 0
+  add : OwnCount 4 2
+  less : OwnCount 5 2
+  equal : OwnCount 6 2
+
+-- an operand that breaks its row, by the kind's number (docs/DECISIONS.md, "What breaks a row"). Rows 7 and 8 take any operand; an unknown
+-- kind has no row, and 3 comes first.
+pub data RowBroken : (kind operand : ℕ) → Type 0 where
+  -- the rows whose operand is 0
+  stop-operand : {o : ℕ} → (o ≡ 0 → ⊥) → RowBroken 0 o
+  par-operand : {o : ℕ} → (o ≡ 0 → ⊥) → RowBroken 3 o
+  seq-operand : {o : ℕ} → (o ≡ 0 → ⊥) → RowBroken 4 o
+  prune-operand : {o : ℕ} → (o ≡ 0 → ⊥) → RowBroken 5 o
+  -- "low 16 bits site, high 16 bits parameter count": "Counts are at most 4", "site unknown, or built-in count wrong"
+  site-count : {o : ℕ} → parameterLimit < high o → RowBroken 1 o
+  site-unknown : {o : ℕ} → 7 ≤ low o → low o ≤ 15 → RowBroken 1 o
+  site-beyond : {o : ℕ} → 1023 < low o → RowBroken 1 o
+  builtin-count : {o : ℕ} → low o ≤ 6 → (OwnCount (low o) (high o) → ⊥) → RowBroken 1 o
+  -- "low 16 bits definition, high 16 bits count"
+  call-count : {o : ℕ} → parameterLimit < high o → RowBroken 2 o
+  -- "count of formals, 0 to 4"
+  formals-count : {o : ℕ} → parameterLimit < o → RowBroken 6 o
+
+-- what is wrong with an entry that stands there, by number (docs/DECISIONS.md, "Depth")
 pub data Fault : (p : Position) (x : Entry) (number : ℕ) → Type 0 where
-  -- "3: kind unknown, or not one that may stand here"
+  -- 3: "kind unknown, or not one that may stand here"
   wrong-kind : {p : Position} {x : Entry} → (MayStand p (x .kind) → ⊥) → Fault p x 3
-  -- "4: operand breaks its row, site unknown, or built-in count wrong"
-  wrong-operand : {p : Position} {x : Entry} → rowHolds (kindOf (x .kind)) (x .operand) ≡ false → Fault p x 4
-  -- "6: depth 25": "depth ends at 24; parameters add none"
+  -- 4: "operand breaks its row, site unknown, or built-in count wrong"
+  wrong-operand : {p : Position} {x : Entry} → RowBroken (x .kind) (x .operand) → Fault p x 4
+  -- 6: "depth 25": "depth ends at 24; parameters add none"
   too-deep : {d : ℕ} {scope : List ℕ} {x : Entry} → depthLimit < d → Fault (expression d scope) x 6
-  -- "7: variable out of scope, or a binder where 8 are in scope": the binders are kinds 4 and 5
+  -- 7: "variable out of scope, or a binder where 8 are in scope": the binders are kinds 4 and 5
   out-of-scope : {scope : List ℕ} {x : Entry} → x .kind ≡ 7 → (List·Memᴰ (x .operand) scope → ⊥) → Fault (parameter scope) x 7
   no-room : {d : ℕ} {scope : List ℕ} {x : Entry}
       → 4 ≤ x .kind → x .kind ≤ 5 → scopeLimit ≤ length scope → Fault (expression d scope) x 7
@@ -56,6 +84,7 @@ behind depth scope EntryKind.call o = replicate (high o) (parameter scope)
 behind depth scope EntryKind.par o = sides depth scope par
 behind depth scope EntryKind.seq o = sides depth scope (seq (length scope))
 behind depth scope EntryKind.prune o = sides depth scope (prune (length scope))
+-- (3 is tested first, so an expression is none of these)
 behind depth scope EntryKind.definition o = []
 behind depth scope EntryKind.variable o = []
 behind depth scope EntryKind.constant o = []
@@ -82,7 +111,7 @@ unfoldable pub formalsIn : List Entry → List ℕ
 formalsIn [] = []
 formalsIn (x ∷ es) = let fs = formalsIn es in elim (eqb (x .kind) 6) [ true ↦ x .operand ∷ fs | false ↦ fs ]
 
--- "8: definition missing, or its count of formals differs", of an entry of kind 2
+-- 8: "definition missing, or its count of formals differs", of an entry of kind 2
 pub data Undefined (formals : List ℕ) (x : Entry) : Type 0 where
   missing : x .kind ≡ 2 → length formals ≤ low (x .operand) → Undefined formals x
   differs : x .kind ≡ 2 → low (x .operand) < length formals → (high (x .operand) ≡ getD formals (low (x .operand)) 0 → ⊥)
@@ -95,12 +124,12 @@ pub data FirstAt (P : Entry → Type 0) : List Entry → (index : ℕ) → Type 
 
 -- "then entry by entry 5, 3, 4, 6, 7; leftovers; then 8"
 pub data DeclinedEntries (D : ℕ) (es : List Entry) : (number entry : ℕ) → Type 0 where
-  -- "5: entries run out (entry N)"
+  -- 5: "entries run out (entry N)"
   runs-out : {p : Position} {ps : List Position} → Fills (wholeTable D) es (p ∷ ps) → DeclinedEntries D es 5 (length es)
   -- 3, 4, 6 or 7 at the first entry that has a fault
   breaks : {before : List Entry} {x : Entry} (after : List Entry) {p : Position} {ps : List Position} {n : ℕ}
       → es ≡ before ++ (x ∷ after) → Fills (wholeTable D) before (p ∷ ps) → Breaks p x n → DeclinedEntries D es n (length before)
-  -- "5: .. or remain after the goal (first unread)"
+  -- 5: ".. or remain after the goal (first unread)"
   remain : {before : List Entry} (x : Entry) (after : List Entry)
       → es ≡ before ++ (x ∷ after) → Fills (wholeTable D) before [] → DeclinedEntries D es 5 (length before)
   -- "then 8 at its first entry"
@@ -117,10 +146,10 @@ pub record SizesHold (b : List ℕ) : Type 0 where
   pub some : 1 ≤ sizeN b
   pub entries : sizeN b ≤ entryLimit
 
--- "Order: 1, 2; then entry by entry .." (docs/DECISIONS.md, "Length and N", "Given exactly if")
+-- "Order: 1 .., 2; then entry by entry .." (docs/DECISIONS.md, "Length and N", "Given exactly if")
 pub data Declined (b : List ℕ) : (number entry : ℕ) → Type 0 where
-  -- "1: fewer than 4 bytes, or length is not 4 + 5N"
+  -- 1: "fewer than 4 bytes, or length is not 4 + 5N"
   wrong-length : (LengthHolds b → ⊥) → Declined b 1 0
-  -- "2: D or N outside its range"
+  -- 2: "D or N outside its range"
   wrong-sizes : LengthHolds b → (SizesHold b → ⊥) → Declined b 2 0
   wrong-entries : {n e : ℕ} → LengthHolds b → SizesHold b → DeclinedEntries (sizeD b) (tableEntries b) n e → Declined b n e

@@ -33,7 +33,7 @@ unfoldable pub operandBytes : List Entry → List ℕ
 operandBytes [] = []
 operandBytes (x ∷ es) = bytes 4 (x .operand) ++ operandBytes es
 
--- "bytes 0-1: D; bytes 2-3: N; then N kind bytes, then N operands of 4 bytes"
+-- "Bytes 0-1: D, .. Bytes 2-3: N, .. Then N kind bytes, then N operands of 4 bytes"
 unfoldable pub encode : Program → List ℕ
 encode p =
     let es = encodeEntries p in

@@ -65,6 +65,7 @@ rowHolds prune o = eqb o 0
 rowHolds definition o = leb o parameterLimit
 rowHolds variable o = true
 rowHolds constant o = true
+-- (no row: 3 is tested first)
 rowHolds unknown o = false
 
 -- the kinds that bind a variable

@@ -10,6 +10,7 @@ pub mod Entry
 pub mod Encode
 pub mod WellFormed
 pub mod Declined
+pub mod OneReply
 pub mod Read
 pub mod Node
 pub mod Construct

@@ -34,13 +34,14 @@ pub record Dag : Type 0 where
   pub bodies : List Body
   pub goal : ℕ
 
+-- the node and the body of a number (past the last one the test 14 leaves none to be asked for)
 unfoldable pub nodeAt : Dag → ℕ → Node
 nodeAt d i = getD (d .nodes) i Node.unknown
 
 unfoldable pub bodyAt : Dag → ℕ → Body
 bodyAt d i = getD (d .bodies) i (record { root = 0; formals = 0 })
 
--- Index rules of a dag: "kinds, sites, counts, nodes, slots .. named lie in their ranges, a built-in with its own count"
+-- document 01: index rules. Of a dag: "kinds, sites, counts, nodes, slots .. named lie in their ranges, a built-in with its own count"
 unfoldable pub paramHolds : Param → Bool
 paramHolds (variable x) = ltb x scopeLimit
 paramHolds (constant v) = fits v

@@ -22,6 +22,7 @@ pub data Read (A : Type 0) : Type 0 where
   got : Got A → Read A
   refused : (number entry : ℕ) → Read A
 
+-- one reading, then the next; `do` below takes what has this name (docs/DECISIONS.md, "Names beside the library's")
 infixl 10 _>>=_
 unfoldable pub _>>=_ : {A B : Type 0} → Read A → (Got A → Read B) → Read B
 got a >>= f = f a
@@ -35,12 +36,12 @@ unfoldable pub need : Bool → ℕ → ℕ → Read (Unit {0})
 need true n e = gives tt e []
 need false n e = refused n e
 
--- entry e: "5: entries run out (entry N)"
+-- entry e, or 5: "entries run out (entry N)"
 unfoldable pub entryAt : ℕ → List Entry → Read Entry
 entryAt e [] = refused 5 e
 entryAt e (x ∷ es) = gives x (suc e) es
 
--- a parameter, where these variables are in scope: "3: kind unknown, or not one that may stand here", "7: variable out of scope"
+-- a parameter, where these variables are in scope; or 3, "kind unknown, or not one that may stand here", or 7, "variable out of scope"
 unfoldable pub readParam : List ℕ → ℕ → List Entry → Read Param
 readParam scope e es = do
   x ← entryAt e es
@@ -79,7 +80,7 @@ readJoin side j scope e es = do
   gives (join j (f .value) (g .value)) (g .next) (g .rest)
 
 -- an expression from entry e on (docs/DECISIONS.md, "Order at one entry", "Depth"): so many levels of depth are left, these variables are
--- in scope. "Entry by entry 5, 3, 4, 6, 7": "6: depth 25", "7: .. a binder where 8 are in scope"
+-- in scope. "Entry by entry 5, 3, 4, 6, 7": 6 is "depth 25", 7 "a binder where 8 are in scope"
 unfoldable pub readExp : ℕ → List ℕ → ℕ → List Entry → Read Exp
 readExp zero scope e es = do
   x ← entryAt e es
@@ -138,12 +139,12 @@ readProgram (suc n) e es = do
   p ← readProgram n (d .next) (d .rest)
   gives (record { definitions = d .value ∷ p .value .definitions; goal = p .value .goal }) (p .next) (p .rest)
 
--- "5: .. or remain after the goal (first unread)"
+-- 5: ".. or remain after the goal (first unread)"
 unfoldable pub leftovers : ℕ → List Entry → Read (Unit {0})
 leftovers e [] = need true 5 e
 leftovers e (x ∷ es) = refused 5 e
 
--- "8: definition missing, or its count of formals differs"
+-- 8: "definition missing, or its count of formals differs"
 unfoldable pub callHolds : List ℕ → Entry → Bool
 callHolds formals x =
     not (eqb (x .kind) 2)
@@ -161,12 +162,17 @@ readEntries D es = do
   _ ← definitionsHold (formalsOf (p .value .definitions)) 0 es
   got p
 
--- "Order: 1 (N is read only with 4 bytes present), 2; then entry by entry .." (docs/DECISIONS.md, "Length and N")
-unfoldable pub readBytes : List ℕ → Read Program
-readBytes b = do
+-- "Order: 1 (N is read only with 4 bytes present), 2" (docs/DECISIONS.md, "Length and N")
+unfoldable pub readSizes : List ℕ → Read (Unit {0})
+readSizes b = do
   _ ← need (leb 4 (length b)) 1 0
   _ ← need (eqb (length b) (tableLength b)) 1 0
-  _ ← need (leb (sizeD b) definitionLimit and leb 1 (sizeN b) and leb (sizeN b) entryLimit) 2 0
+  need (leb (sizeD b) definitionLimit and leb 1 (sizeN b) and leb (sizeN b) entryLimit) 2 0
+
+-- "then entry by entry .."
+unfoldable pub readBytes : List ℕ → Read Program
+readBytes b = do
+  _ ← readSizes b
   readEntries (sizeD b) (tableEntries b)
 
 -- the reader's answer

@@ -19,11 +19,11 @@ pub record Builtin : Type 0 where
   pub count : ℕ
   pub reply : List ℤ → BuiltinReply
 
--- the parameter's value at an index
+-- the parameter's value at an index (a built-in has as many as it asks for: 4 of a table and 14 of a dag test its count)
 abbrev pub at : List ℤ → ℕ → ℤ
 at vs i = getD vs i (pos 0)
 
--- "gives 0 if .., else silent"
+-- "gives 0 if ..; else silent"
 unfoldable pub zeroIf : Bool → BuiltinReply
 zeroIf true = gives (pos 0)
 zeroIf false = silent

@@ -3,7 +3,7 @@ use mathlib.Core.List.{List, [], _∷_, map}
 use Prim.Native.Nat.{ℕ, zero, suc}
 use lib.IntN.{ℤ}
 
--- "variable parameter: its number"; "constant parameter: signed 32-bit value"
+-- "variable parameter", by "its number"; "constant parameter", a "signed 32-bit value"
 pub data Param : Type 0 where
   variable : ℕ → Param
   constant : ℤ → Param

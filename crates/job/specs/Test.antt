@@ -37,7 +37,7 @@ unfoldable pub select : {A : Type 0} → (A → Bool) → List A → List A
 select p [] = []
 select p (x ∷ xs) = let r = select p xs in elim (p x) [ true ↦ x ∷ r | false ↦ r ]
 
--- 1 for true, 0 for false
+-- 1 for true, 0 for false: the library's `toNat`, over the native numbers
 abbrev pub once : Bool → ℕ
 once true = 1
 once false = 0
@@ -63,7 +63,7 @@ same (x ∷ xs) (y ∷ ys) = eqb x y and same xs ys
 unfoldable pub padded : {A : Type 0} → A → ℕ → List A → List A
 padded d n xs = xs ++ replicate (n - length xs) d
 
--- the list with the element at an index left out
+-- the list with the element at an index left out: the library's `eraseIdx`, over the native numbers
 unfoldable pub without : {A : Type 0} → ℕ → List A → List A
 without i [] = []
 without zero (x ∷ xs) = xs

@@ -25,7 +25,7 @@ use Rattle.compiler.specs.declared.expression.Compiled.{Compiled}
 use Rattle.loader.specs.ProgramStored.{Leads, DefinitionsRead, definitions, nodesBefore, bodiesBefore, placeBehind, wordsBefore}
 use Rattle.loader.specs.ProgramStored.{storedDefinitions}
 use Rattle.loader.specs.declared.program.Place.{Place}
-use Rattle.loader.proofs.ProgramWords.{count-append, one-more}
+use Rattle.loader.proofs.ProgramWords.{definition-list-nodes-append, one-more}
 
 -- the loop's invariant: `done` are stored, `left` is read from entry `at` on, and both are all
 pub record Writing (count : ℕ) (ks os ws ss l : List ℕ) (at node i : ℕ) : Type 0 where
@@ -136,7 +136,7 @@ module _ (count : ℕ) (ks os ws ss l : List ℕ) (at node i : ℕ) (g : Writing
     room : node + nodeCount (facts .body .value) < 1022
     unfolding definitionListNodes
     room =
-        let a = count-append (g .done) (g .left .value) in
+        let a = definition-list-nodes-append (g .done) (g .left .value) in
         let b = ap definitionListNodes (g .whole) in
         let c = ap definitionListNodes (turn .value) in
         let d = ap (λ (d : Definition). nodeCount (d .body)) (facts .value) in
@@ -200,7 +200,7 @@ module _ (count : ℕ) (ks os ws ss l : List ℕ) (at node i : ℕ) (g : Writing
             ends = sym (turn .next) ∙ g .ends;
             many = simp length-append (omega (arith, g .many));
             most = omega arith;
-            placed = omega (arith, count-append (g .done) (d ∷ []));
+            placed = omega (arith, definition-list-nodes-append (g .done) (d ∷ []));
             words = one-more (g .done) d ws l l1 l2 i node (g .many) (g .placed) (omega arith) (g .words)
                 (e1 ∙ ap (λ r. storedBody r false node l) read)
                 (e2 ∙ ap (λ m. sets l1 (3 + 2 * i) (m ∷ o ∷ [])) (ap (λ (x : Compiled). x .root) given));

@@ -20,10 +20,10 @@ use Rattle.compiler.specs.Body.{sinkOf}
 use Rattle.loader.specs.ProgramStored.{nodesBefore, bodiesBefore, wordsBefore}
 
 -- one list of definitions behind another
-pub count-append : (a b : List Definition) → definitionListNodes (a ++ b) ≡ definitionListNodes a + definitionListNodes b
+pub definition-list-nodes-append : (a b : List Definition) → definitionListNodes (a ++ b) ≡ definitionListNodes a + definitionListNodes b
 unfolding definitionListNodes
-count-append [] b = omega arith
-count-append (d ∷ a) b = omega (arith, count-append a b)
+definition-list-nodes-append [] b = omega arith
+definition-list-nodes-append (d ∷ a) b = omega (arith, definition-list-nodes-append a b)
 
 nodes-append : (n : ℕ) (a b : List Definition) → nodesBefore n (a ++ b) ≡ nodesBefore n a ++ nodesBefore (n + definitionListNodes a) b
 unfolding nodesBefore definitionListNodes

@@ -122,7 +122,7 @@ module _ (dag ws : List ℕ) where
 -- the start
 begun : (d : Dag) → true ≡ dagHolds d
     → Start.start paper d ≡ record { reply = replies.Done; values = reportValues []; machine = startMachine paper (d .goal) }
-unfolding Start.start
+unfolding Start.start outcome
 begun d e =
     ap
     (λ b.
@@ -134,7 +134,7 @@ begun d e =
 
 not-begun : (d : Dag) → false ≡ dagHolds d
     → Start.start paper d ≡ record { reply = replies.Refused refusals.Rule; values = reportValues []; machine = blankMachine paper }
-unfolding Start.start
+unfolding Start.start outcome
 not-begun d e =
     ap
     (λ b.

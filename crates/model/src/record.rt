@@ -33,7 +33,7 @@ impl Machine {
     pub const WORDS: usize = 1797;
 
     // The record of a start: one ready token, at place 0 and at the goal's first node.
-    pub fn start(goal: u16) -> Machine
+    pub(crate) fn start(goal: u16) -> Machine
         ensures { λ r. ⌜ r ≡ startMachine paper goal ⌝ }
     {
         let blank = Token {

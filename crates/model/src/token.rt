@@ -24,7 +24,7 @@ pub enum Place {
     At(u8),
 }
 
-// `Waiting` names the cell at which the token waits, `Called` the handle of its open call.
+// Document 01: ready, waiting, called-out, frame. `Waiting` names the cell at which the token waits, `Called` the handle of its open call.
 pub enum State {
     Blank,
     Ready,

@@ -15,10 +15,10 @@ use Rattle.orders.proofs.NamesPadded.{padded-long}
 
 -- a filter takes the elements one by one
 module _ {A : Type 0} (f : A → Bool) where
-  pub filter-append : (xs ys : List A) → select f (xs ++ ys) ≡ select f xs ++ select f ys
+  pub select-append : (xs ys : List A) → select f (xs ++ ys) ≡ select f xs ++ select f ys
   unfolding select
-  filter-append [] ys = refl
-  filter-append (x ∷ xs) ys = go (f x) (filter-append xs ys)
+  select-append [] ys = refl
+  select-append (x ∷ xs) ys = go (f x) (select-append xs ys)
     where
       go :
           (b : Bool)
@@ -28,19 +28,19 @@ module _ {A : Type 0} (f : A → Bool) where
       go true e = ap (_∷_ x) e
       go false e = e
 
-  pub filter-short : (xs : List A) → length (select f xs) ≤ length xs
+  pub select-short : (xs : List A) → length (select f xs) ≤ length xs
   unfolding select
-  filter-short [] = omega arith
-  filter-short (x ∷ xs) = go (f x) (filter-short xs)
+  select-short [] = omega arith
+  select-short (x ∷ xs) = go (f x) (select-short xs)
     where
       go : (b : Bool) → length (select f xs) ≤ length xs
           → length {A = A} (elim b [ true ↦ x ∷ select f xs | false ↦ select f xs ]) ≤ suc (length xs)
       go true l = omega arith
       go false l = omega arith
 
-  pub filter-one : (x : A) (b : Bool) → f x ≡ b → select f (x ∷ []) ≡ elim b [ true ↦ x ∷ [] | false ↦ [] ]
+  pub select-one : (x : A) (b : Bool) → f x ≡ b → select f (x ∷ []) ≡ elim b [ true ↦ x ∷ [] | false ↦ [] ]
   unfolding select
-  filter-one x b e = rw (e, select)
+  select-one x b e = rw (e, select)
 
   -- one element more
   pub filter-keeps : (xs : List A) (i : ℕ) (d : A) → i < length xs → f (getD xs i d) ≡ true
@@ -48,23 +48,23 @@ module _ {A : Type 0} (f : A → Bool) where
   filter-keeps xs i d l e =
       ap (λ n. select f (take n xs)) (add-one i)
       ∙ ap (select f) (take-suc xs i d l)
-      ∙ filter-append (take i xs) (getD xs i d ∷ [])
-      ∙ ap (_++_ (select f (take i xs))) (filter-one (getD xs i d) true e)
+      ∙ select-append (take i xs) (getD xs i d ∷ [])
+      ∙ ap (_++_ (select f (take i xs))) (select-one (getD xs i d) true e)
 
   pub filter-drops : (xs : List A) (i : ℕ) (d : A) → i < length xs → f (getD xs i d) ≡ false
       → select f (take (i + 1) xs) ≡ select f (take i xs)
   filter-drops xs i d l e =
       ap (λ n. select f (take n xs)) (add-one i)
       ∙ ap (select f) (take-suc xs i d l)
-      ∙ filter-append (take i xs) (getD xs i d ∷ [])
-      ∙ ap (_++_ (select f (take i xs))) (filter-one (getD xs i d) false e)
+      ∙ select-append (take i xs) (getD xs i d ∷ [])
+      ∙ ap (_++_ (select f (take i xs))) (select-one (getD xs i d) false e)
       ∙ append-nil (select f (take i xs))
 
-pub filter-same : {A : Type 0} (f g : A → Bool) (xs : List A) → ((x : A) → f x ≡ g x) → select f xs ≡ select g xs
+pub select-same : {A : Type 0} (f g : A → Bool) (xs : List A) → ((x : A) → f x ≡ g x) → select f xs ≡ select g xs
 unfolding select
-filter-same f g [] e = refl
-filter-same {A} f g (x ∷ xs) e = ap₂ (λ (b : Bool) (ys : List A). elim b as (λ b. List A) [ true ↦ x ∷ ys | false ↦ ys ]) (e x)
-    (filter-same f g xs e)
+select-same f g [] e = refl
+select-same {A} f g (x ∷ xs) e = ap₂ (λ (b : Bool) (ys : List A). elim b as (λ b. List A) [ true ↦ x ∷ ys | false ↦ ys ]) (e x)
+    (select-same f g xs e)
 
 zero-behind : (n : ℕ) (rest : List ℕ) → replicate n 0 ++ (0 ∷ rest) ≡ 0 ∷ (replicate n 0 ++ rest)
 zero-behind zero rest = refl
@@ -85,7 +85,7 @@ module _ (names : List ℕ) (marks : List Bool) where
 
   pub front-short : (i : ℕ) → i ≤ length names → length (front i) ≤ i
   front-short i l =
-      let a = filter-short (λ (p : ℕ). getD marks p false) (take i names) in let b = length-take-le i names l in omega arith
+      let a = select-short (λ (p : ℕ). getD marks p false) (take i names) in let b = length-take-le i names l in omega arith
 
   module _ (i : ℕ) (l : i < length names) where
     kept : List ℕ

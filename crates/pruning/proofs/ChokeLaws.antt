@@ -2,7 +2,7 @@
 -- Assumes nothing.
 use mathlib.Core.Path.{_≡_, refl, sym, ap, ap₂, subst, _∙_}
 use mathlib.Core.Bool.{Bool, true, false}
-use mathlib.Core.List.{List, [], _∷_, _++_, map, append-assoc, append-nil}
+use mathlib.Core.List.{List, [], _∷_, _++_, map, append-assoc, append-nil, map-append}
 use Prim.Native.Nat.{ℕ, zero, suc, _+_, _-_, _<_, _≤_}
 use native.Mathlib.Numerals.{add-one}
 use native.Mathlib.Omega.{arith}
@@ -35,11 +35,11 @@ use Rattle.orders.specs.NamesRetained.{markedOf}
 use Rattle.record.specs.Layout.{stateKind, stateNumber, placeNumber}
 use Rattle.orders.proofs.NamesPadded.{length-without}
 use Rattle.record.proofs.TokenRow.{put-self, ready-kind, waiting-kind}
-use Rattle.orders.proofs.NamesRetained.{filter-one, filter-append, filter-short, filter-same}
+use Rattle.orders.proofs.NamesRetained.{select-one, select-append, select-short, select-same}
 use Rattle.pruning.specs.Choke.{rowsChoked, reordered, ChokeFacts}
 use Rattle.reach.specs.Marks.{BlankFrom}
 use Rattle.reach.proofs.ListLoops.{drop-next, steady}
-use Rattle.sites.proofs.TableLoops.{Mapping, mapping-more, mapping-at, mapping-end, map-append}
+use Rattle.sites.proofs.TableLoops.{Mapping, mapping-more, mapping-at, mapping-end}
 use Rattle.model.proofs.Run.Bystander.{queue-orders}
 
 -- the walk up, so many links, from the place that has a number
@@ -239,12 +239,12 @@ module _ {ws : List ℕ} (m : Machine) (marks : List Bool) (p : ℕ) (b : Bool) 
   pub joins : b ≡ true → Holds ws (enqueue p m) → Holds ws (withOrders (queueOf m ++ markedOf marks (p ∷ [])) (waitsOf m) m)
   unfolding enqueue
   joins f h = subst (λ xs. Holds ws (withOrders (queueOf m ++ xs) (waitsOf m) m))
-      (sym (filter-one (λ (p : ℕ). getD marks p false) p true (sym e ∙ f))) h
+      (sym (select-one (λ (p : ℕ). getD marks p false) p true (sym e ∙ f))) h
 
   pub stays-out : b ≡ false → Holds ws m → Holds ws (withOrders (queueOf m ++ markedOf marks (p ∷ [])) (waitsOf m) m)
   stays-out f h =
       subst (λ xs. Holds ws (withOrders xs (waitsOf m) m))
-      (sym (append-nil (queueOf m)) ∙ ap (_++_ (queueOf m)) (sym (filter-one (λ (p : ℕ). getD marks p false) p false (sym e ∙ f))))
+      (sym (append-nil (queueOf m)) ∙ ap (_++_ (queueOf m)) (sym (select-one (λ (p : ℕ). getD marks p false) p false (sym e ∙ f))))
       (subst (Holds ws) (sym (orders-again h)) h)
 
 -- the wait order's marked names join the queue, one by one
@@ -270,7 +270,7 @@ module _ {ws : List ℕ} (m : Machine) (h : Holds ws m) (marks : List Bool) wher
         let n = h .ordered .waiting in
         let k = h .ordered .queued in
         let a = length-append (queueOf m) found in
-        let s = filter-short (λ (p : ℕ). getD marks p false) (take i (waitsOf m)) in
+        let s = select-short (λ (p : ℕ). getD marks p false) (take i (waitsOf m)) in
         let t = length-take-le i (waitsOf m) (omega arith) in
         omega arith
 
@@ -287,7 +287,7 @@ module _ {ws : List ℕ} (m : Machine) (h : Holds ws m) (marks : List Bool) wher
         let n = h .ordered .waiting in
         let f : ℕ → Bool = λ (p : ℕ). getD marks p false in
         let more : select f (take i w) ++ select f (p ∷ []) ≡ select f (take (i + 1) w) =
-        sym (filter-append f (take i w) (p ∷ []))
+        sym (select-append f (take i w) (p ∷ []))
         ∙ ap (λ x. select f (take i w ++ (x ∷ []))) (name-is p e)
         ∙ ap (select f) (sym (take-suc w i 0 (omega arith)) ∙ ap (λ n. take n w) (sym (add-one i))) in
         let names : queueOf (woken i) ++ markedOf marks (p ∷ []) ≡ q ++ markedOf marks (take (i + 1) w) =
@@ -314,14 +314,14 @@ module _ (m : Machine) (ready waiting : List Bool)
   ready-same : (xs : List ℕ) → markedOf ready xs ≡ select (λ (p : ℕ). isReady (tokenAt (m .tokens) p .state)) xs
   unfolding tokenAt
   ready-same xs =
-      filter-same _ _ xs
+      select-same _ _ xs
       (λ p. ap (λ r. getD r p false) er ∙ List·getD-map (λ (t : Token). eqb (stateKind (t .state)) 1) (m .tokens) p blankToken
       ∙ ready-kind _)
 
   waiting-same : (xs : List ℕ) → markedOf waiting xs ≡ select (λ (p : ℕ). isWaiting (tokenAt (m .tokens) p .state)) xs
   unfolding tokenAt
   waiting-same xs =
-      filter-same _ _ xs
+      select-same _ _ xs
       (λ p. ap (λ r. getD r p false) ew ∙ List·getD-map (λ (t : Token). eqb (stateKind (t .state)) 2) (m .tokens) p blankToken
       ∙ waiting-kind _)
 
@@ -334,7 +334,7 @@ module _ (m : Machine) (ready waiting : List Bool)
       let two = second m ready in
       let front : queueOf one ++ markedOf ready (waitsOf one) ≡ select (λ (p : ℕ). isReady (tokenAt (m .tokens) p .state)) (q ++ w) =
       ap₂ (λ a b. a ++ markedOf ready b) (queue-orders (markedOf ready q) w m) (waits-back (markedOf ready q) w m)
-      ∙ sym (filter-append (λ (p : ℕ). getD ready p false) q w)
+      ∙ sym (select-append (λ (p : ℕ). getD ready p false) q w)
       ∙ ready-same (q ++ w) in
       let back : waitsOf two ≡ w = waits-back (queueOf one ++ markedOf ready (waitsOf one)) (waitsOf one) one
       ∙ waits-back (markedOf ready q) w m in
@@ -346,7 +346,7 @@ pub first-room : {ws : List ℕ} {m : Machine} → Holds ws m → (ready : List 
     → first m ready .queued + first m ready .waiting ≤ 64
 unfolding withOrders
 first-room {ws} {m} h ready l =
-    let a = filter-short (λ (p : ℕ). getD ready p false) (queueOf m) in
+    let a = select-short (λ (p : ℕ). getD ready p false) (queueOf m) in
     let b = h .ordered .queued in
     let d = h .ordered .waiting in
     omega arith

@@ -7,7 +7,7 @@ use mathlib.Core.List.{List}
 use Prim.Native.Nat.{ℕ, zero, suc, _+_, _-_, _≤_, _<_}
 use native.Mathlib.Omega.{arith}
 use lib.ListN.{length}
-use Rattle.model.specs.Machine.Active.{isSet, upward, underSet, isActive}
+use Rattle.model.specs.Machine.Active.{cellIsSet, upward, underSet, isActive}
 use Rattle.model.specs.Machine.State.{isLive}
 use Rattle.model.specs.Machine.Blank.{cellAt, hasValue}
 use Rattle.model.specs.declared.cell.Cell.{Cell}
@@ -35,7 +35,7 @@ held-some (helds.Value v) f = refl
 
 module _ (cs : List Cell) where
   abbrev pub climb : ℕ → Place → Bool
-  climb n q = upward (λ c k. isSet k) cs n q
+  climb n q = upward (λ c k. cellIsSet k) cs n q
 
   pub climb-under : (size : ℕ) (q : Place) → length cs ≡ size → underSet cs q ≡ climb size q
   unfolding underSet
@@ -46,19 +46,19 @@ module _ (cs : List Cell) where
   climb-nowhere zero = refl
   climb-nowhere (suc n) = refl
 
-  climb-stops : (n c : ℕ) → isSet (cellAt cs c) ≡ true → climb (suc n) (places.At c) ≡ true
+  climb-stops : (n c : ℕ) → cellIsSet (cellAt cs c) ≡ true → climb (suc n) (places.At c) ≡ true
   unfolding upward
   climb-stops n c e = rw (e, upward)
 
-  climb-goes : (n c : ℕ) → isSet (cellAt cs c) ≡ false → climb (suc n) (places.At c) ≡ climb n (cellAt cs c .parent)
+  climb-goes : (n c : ℕ) → cellIsSet (cellAt cs c) ≡ false → climb (suc n) (places.At c) ≡ climb n (cellAt cs c .parent)
   unfolding upward
   climb-goes n c e = rw (e, upward)
 
   climb-outer : (n c : ℕ) → length cs ≤ c → climb n (places.At c) ≡ false
-  unfolding upward isSet hasValue
+  unfolding upward cellIsSet hasValue
   climb-outer zero c l = refl
   climb-outer (suc n) c l =
-      let o = cell-outside cs c l in climb-goes n c (ap isSet o) ∙ ap (λ (k : Cell). climb n (k .parent)) o ∙ climb-nowhere n
+      let o = cell-outside cs c l in climb-goes n c (ap cellIsSet o) ∙ ap (λ (k : Cell). climb n (k .parent)) o ∙ climb-nowhere n
 
   -- k cells are looked at, and the place with the number q is next
   module _ (size k q : ℕ) (end : Bool) (long : length cs ≡ size) (left : end ≡ climb (size - k) (placeFrom q)) where
@@ -77,11 +77,11 @@ module _ (cs : List Cell) where
       here = let z : size - k ≡ suc (size - (k + 1)) = omega arith in left ∙ ap₂ climb z (place-at q f)
 
       pub climb-found : v ≢ 0 → true ≡ end
-      unfolding isSet
+      unfolding cellIsSet
       climb-found g = sym (here ∙ climb-stops (size - (k + 1)) (q - 1) (held-some (cellAt cs (q - 1) .value) (λ z. g (e ∙ z))))
 
       pub climb-on : (r : ℕ) → v ≡ 0 → r ≡ placeNumber (cellAt cs (q - 1) .parent) → end ≡ climb (size - (k + 1)) (placeFrom r)
-      unfolding isSet
+      unfolding cellIsSet
       climb-on r g p =
           here
           ∙ climb-goes (size - (k + 1)) (q - 1) (held-none (cellAt cs (q - 1) .value) (sym e ∙ g))

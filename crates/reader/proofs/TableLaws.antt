@@ -2,25 +2,25 @@
 -- left is the answer for its entries. Assumes nothing.
 use Prim.Native.Nat.{ℕ, suc, _+_, _*_, _-_, _<_, _≤_}
 use mathlib.Core.Path.{_≡_, refl, sym, ap, ap₂, _∙_}
-use mathlib.Core.Bool.{Bool, true, false}
 use mathlib.Core.List.{List, []}
 use native.Mathlib.Numerals.{add-one}
 use native.Mathlib.Omega.{arith}
 use lib.ListN.{length, getD, take, drop, length-drop}
 use lib.Seq.{sets, drop-cons, take-all}
-use lib.Dec.{leb, eqb}
+use lib.Dec.{leb}
 use Rattle.job.specs.Test.{_and_}
 use Rattle.job.specs.Number.{number}
 use Rattle.job.specs.Syntax.{Program}
 use Rattle.job.specs.Entry.{entries, sizeD, sizeN, tableLength, tableEntries}
 use Rattle.job.specs.Construct.{construct}
-use Rattle.job.specs.Read.{Got, Read, got, refused, _>>=_, gives, need, readEntries, readBytes, Answer, accepted}
+use Rattle.job.specs.Read.{Got, Read, got, refused, _>>=_, gives, need, readEntries, readSizes, readBytes, Answer, accepted}
 use Rattle.job.specs.Read.{declined, readerAnswer, readTable}
-use Rattle.job.proofs.Test.{eqb-eq, eq-eqb, ne-eqb, leb-le, le-leb, lt-not-leb, and-left, and-right}
-use Rattle.job.proofs.Read.{Yields, reads, yields-need, yields-map, yields-itself}
+use Rattle.job.proofs.Test.{eq-eqb, ne-eqb, le-leb, lt-not-leb}
+use Rattle.job.proofs.Read.{Yields, reads, says-bind, yields-map, yields-itself}
+use Rattle.job.proofs.Sizes.{sizes-found, sizes-pass}
 use Rattle.reader.specs.Checked.{checkedProgram}
 use Rattle.reader.specs.Definition.{definitionSizes, definitionsFound}
-use Rattle.reader.specs.Table.{tested, readSizes, whereSized, sizesKept}
+use Rattle.reader.specs.Table.{tested, whereSized, sizesKept}
 use Rattle.reader.specs.declared.checked.Checked.{Checked}
 use Rattle.reader.specs.declared.checked.Checked.the-variants.{Next, Refused}
 use Rattle.reader.specs.declared.table.Tested.{Tested}
@@ -48,18 +48,6 @@ module _ (t : List ℕ) where
       ap₂ (λ k os. entries (take k (drop 4 t)) os) a (take-all (length t - (4 + n)) (drop (4 + n) t) (omega (arith, length-drop (4 + n) t)))
       ∙ ap (λ n. entries (take n (drop 4 t)) (drop (4 + n) t)) (sym e)
 
--- a table is read by its sizes, then by its entries
-bytes-opened : (t : List ℕ) → readBytes t ≡ (readSizes t >>= (λ _. readEntries (sizeD t) (tableEntries t)))
-unfolding readBytes readSizes need _>>=_
-bytes-opened t = go (leb 4 (length t)) (eqb (length t) (tableLength t)) (leb (sizeD t) 32 and leb 1 (sizeN t) and leb (sizeN t) 512)
-  where
-    go : (a b c : Bool)
-        → (need a 1 0 >>= (λ _. need b 1 0 >>= (λ _. need c 2 0 >>= (λ _. readEntries (sizeD t) (tableEntries t)))))
-        ≡ ((need a 1 0 >>= (λ _. need b 1 0 >>= (λ _. need c 2 0))) >>= (λ _. readEntries (sizeD t) (tableEntries t)))
-    go true true c = refl
-    go true false c = refl
-    go false b c = refl
-
 module _ (t s : List ℕ) where
   -- the code's answer, and what it keeps
   abbrev Tests : Tested → List ℕ → Type 0
@@ -67,8 +55,8 @@ module _ (t s : List ℕ) where
 
   -- a table that is declined by its sizes
   decline : (k : ℕ) → readSizes t ≡ refused k 0 → Tests (Declined k 0) s
-  unfolding readTable readerAnswer tested sizesKept whereSized _>>=_
-  decline k h = (rw (bytes-opened t, h), rw h)
+  unfolding readTable readBytes readerAnswer tested sizesKept whereSized _>>=_
+  decline k h = (rw h, rw h)
 
   pub table-short : length t < 4 → Tests (Declined 1 0) s
   unfolding readSizes need _>>=_
@@ -109,8 +97,8 @@ module _ (t s : List ℕ) where
             sized = ranges ∙ rw (le-leb c 32 f, le-leb 1 n z, le-leb n 512 m)
 
             read : readBytes t ≡ readEntries (sizeD t) (tableEntries t)
-            unfolding _>>=_
-            read = rw (bytes-opened t, sized)
+            unfolding readBytes _>>=_
+            read = rw sized
 
             answer : q ≡ checkedProgram (readEntries (sizeD t) (tableEntries t))
             answer =
@@ -154,25 +142,18 @@ kept-all t u p s r =
     rw s (ap definitionSizes (all-found (sizeD t) 0 (tableEntries t) (parts .definitions) (parts .read-definitions)
     ∙ ap (λ (p : Program). p .definitions) (sym (parts .value))))
 
-sizes-hold : (t : List ℕ) → leb 4 (length t) ≡ true → eqb (length t) (tableLength t) ≡ true
-    → (leb (sizeD t) 32 and leb 1 (sizeN t) and leb (sizeN t) 512) ≡ true → readSizes t ≡ gives tt 0 []
-unfolding readSizes need _>>=_
-sizes-hold t l e s = rw (l, e, s)
-
 bytes-accepted : (t : List ℕ) → Yields (Accepts t) (readBytes t)
 unfolding readBytes
 bytes-accepted t =
-    yields-need _ 1 0 _ λ l.
-    yields-need _ 1 0 _ λ e.
-    yields-need _ 2 0 _ λ sizes.
+    says-bind _ (sizes-found t) λ _ sized.
     yields-map
     (λ p r. record {
-      long = leb-le 4 (length t) l;
-      even = eqb-eq (length t) (tableLength t) e;
-      definitions = leb-le (sizeD t) 32 (and-left _ _ sizes);
-      few = leb-le (sizeN t) 512 (and-right (leb 1 (sizeN t)) _ (and-right (leb (sizeD t) 32) _ sizes));
+      long = sized .length-holds .sizes;
+      even = sized .length-holds .total;
+      definitions = sized .sizes-hold .definitions;
+      few = sized .sizes-hold .entries;
       read = r;
-      kept = kept-all t _ p (sizes-hold t l e sizes) r;
+      kept = kept-all t _ p (sizes-pass t sized) r;
     })
     (yields-itself (readEntries (sizeD t) (tableEntries t)))
 

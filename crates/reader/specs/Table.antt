@@ -2,10 +2,8 @@
 use mathlib.Core.List.{List, []}
 use Prim.Native.Nat.{ℕ}
 use lib.ListN.{length}
-use lib.Dec.{leb, eqb}
-use Rattle.job.specs.Test.{_and_}
-use Rattle.job.specs.Entry.{sizeD, sizeN, tableLength, tableEntries}
-use Rattle.job.specs.Read.{Read, got, refused, _>>=_, need, Answer, accepted, declined}
+use Rattle.job.specs.Entry.{sizeD, tableEntries}
+use Rattle.job.specs.Read.{Read, got, refused, readSizes, Answer, accepted, declined}
 use Rattle.job.specs.Construct.{construct}
 use Rattle.reader.specs.Definition.{definitionSizes, definitionsFound}
 use Rattle.reader.specs.declared.table.Tested.{Tested}
@@ -15,13 +13,6 @@ use Rattle.reader.specs.declared.table.Tested.the-variants.{Accepted, De
 unfoldable pub tested : Answer → Tested
 tested (accepted p) = Accepted (length (construct p .nodes))
 tested (declined n e) = Declined n e
-
--- the tests of the length and of the two sizes: 1, then 2
-unfoldable pub readSizes : List ℕ → Read (Unit {0})
-readSizes b = do
-  _ ← need (leb 4 (length b)) 1 0
-  _ ← need (eqb (length b) (tableLength b)) 1 0
-  need (leb (sizeD b) 32 and leb 1 (sizeN b) and leb (sizeN b) 512) 2 0
 
 -- the numbers of nodes of the definitions, sinks included, that are read before the first refusal
 unfoldable pub whereSized : Read (Unit {0}) → List ℕ → List ℕ

@@ -14,7 +14,7 @@ use Rattle.record.specs.Changes.{dequeued, delayed}
 use Rattle.record.specs.Layout.{wordsOf, countWords, parts}
 use Rattle.record.specs.Holds.{Codes, Holds}
 use Rattle.orders.specs.NamesRetained.{markedOf, Retained}
-use Rattle.orders.proofs.NamesRetained.{filter-short}
+use Rattle.orders.proofs.NamesRetained.{select-short}
 use Rattle.orders.proofs.NamesPadded.{put-behind, length-without}
 use Rattle.record.proofs.LayoutParts as parts-laws
 use Rattle.record.proofs.HoldsShape.{shaped, orders-hold, queue-fits, waits-fit}
@@ -136,7 +136,7 @@ module _ {ws : List ℕ} {m : Machine} (h : Holds ws m) where
 
   -- the names that are marked stay
   kept-few : (marks : List Bool) (xs : List ℕ) → length xs ≤ 64 → length (markedOf marks xs) ≤ 64
-  kept-few marks xs l = let a = filter-short (λ (p : ℕ). getD marks p false) xs in omega arith
+  kept-few marks xs l = let a = select-short (λ (p : ℕ). getD marks p false) xs in omega arith
 
   module _ (n count : ℕ) (x : List ℕ) (marks : List Bool) where
     pub retain-queue-put : count ≡ m .queued → Retained (take 64 (drop 1664 ws)) count marks x n

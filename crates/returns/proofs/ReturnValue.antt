@@ -19,7 +19,7 @@ use Rattle.model.specs.declared.token.State.{State}
 use Rattle.model.specs.declared.token.State.the-variants as states
 use Rattle.model.specs.declared.token.Token.{Token}
 use Rattle.job.proofs.Test.{clash, and-left}
-use Rattle.model.proofs.Keeps.Clean.{finish-tokens, finish-cells}
+use Rattle.model.proofs.Keeps.Clean.{sweep-tokens, sweep-cells}
 use Rattle.demand3.proofs.UnblankedInstructions.{acting-live}
 use Rattle.demand3.proofs.Returned.{Returns, returned-cells, returned-shared, returned-tokens, returned-swept}
 use Rattle.record.specs.Changes.{dequeued}
@@ -83,7 +83,7 @@ module _ {ws dag : List ℕ} {used cells : List Bool} {place p at : ℕ} {m : Ma
         e
             ∙ (ap (λ us. set us f false) (a .taking .lawful .marks .tokens)
             ∙ (sym (returned-tokens paper (dagOf dag) m rules after p f written returns (s .cell) (s .binds) n)
-            ∙ sym (finish-tokens after))),
+            ∙ sym (sweep-tokens after))),
         a .taking .lawful .marks .cells
-            ∙ (sym (returned-cells paper (dagOf dag) m rules after p f written returns (s .cell) (s .binds)) ∙ sym (finish-cells after)),
+            ∙ (sym (returned-cells paper (dagOf dag) m rules after p f written returns (s .cell) (s .binds)) ∙ sym (sweep-cells after)),
       )

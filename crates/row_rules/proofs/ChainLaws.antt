@@ -10,7 +10,7 @@ use Rattle.model.specs.declared.token.Place.the-variants as places
 use Rattle.model.specs.declared.token.State.the-variants as states
 use Rattle.job.specs.Test.{_and_}
 use Rattle.model.specs.Machine.Blank.{cellAt, hasValue, isPlace}
-use Rattle.model.specs.Machine.Active.{isSet, underSet}
+use Rattle.model.specs.Machine.Active.{cellIsSet, underSet}
 use Rattle.model.specs.Machine.State.{isLive}
 use Rattle.model.specs.Machine.Rules.{chainEnds, notUnderSet, waitsAtUnset}
 use Rattle.model.specs.declared.token.Place.{Place}
@@ -49,7 +49,7 @@ module _ (cs : List Cell) (q : Place) (i : ℕ) (long : length cs ≡ 32) where
 -- the cell at which a token waits
 module _ (cs : List Cell) (long : length cs ≡ 32) (k n : ℕ) (s : State) (kind : k ≡ stateKind s) (number : n ≡ stateNumber s) where
   waits-there : k ≡ 2 → waitsAtUnset cs s ≡ not (hasValue (cellAt cs n .value))
-  unfolding waitsAtUnset isSet
+  unfolding waitsAtUnset cellIsSet
   waits-there e = go s kind number
     where
       go : (s : State) → k ≡ stateKind s → n ≡ stateNumber s → waitsAtUnset cs s ≡ not (hasValue (cellAt cs n .value))

@@ -86,14 +86,14 @@ blank-more ts i d l e so-far =
     rw (add-one i) (so-far ∙ sym (handles-more ts i d l ∙ ap (_++_ (openHandles (take i ts))) none ∙ append-nil (openHandles (take i ts))))
 
 -- numbers differ when each is none of those before it
-any-last : (p : ℕ → Bool) (xs : List ℕ) (y : ℕ) → not (forSome p (xs ++ (y ∷ []))) ≡ (not (forSome p xs) and not (p y))
+some-last : (p : ℕ → Bool) (xs : List ℕ) (y : ℕ) → not (forSome p (xs ++ (y ∷ []))) ≡ (not (forSome p xs) and not (p y))
 unfolding forSome _and_ _or_
-any-last p [] y = go (p y)
+some-last p [] y = go (p y)
   where
     go : (b : Bool) → not (b or false) ≡ (true and not b)
     go true = refl
     go false = refl
-any-last p (x ∷ xs) y = go (p x) (any-last p xs y)
+some-last p (x ∷ xs) y = go (p x) (some-last p xs y)
   where
     go : (b : Bool) → not (forSome p (xs ++ (y ∷ []))) ≡ (not (forSome p xs) and not (p y))
         → not (b or forSome p (xs ++ (y ∷ []))) ≡ (not (b or forSome p xs) and not (p y))
@@ -103,7 +103,7 @@ any-last p (x ∷ xs) y = go (p x) (any-last p xs y)
 differ-last : (xs : List ℕ) (y : ℕ) → distinct (xs ++ (y ∷ [])) ≡ (distinct xs and forAll (λ (x : ℕ). not (eqb x y)) xs)
 unfolding distinct forSome forAll _and_
 differ-last [] y = refl
-differ-last (x ∷ xs) y = ap₂ _and_ (any-last (eqb x) xs y) (differ-last xs y)
+differ-last (x ∷ xs) y = ap₂ _and_ (some-last (eqb x) xs y) (differ-last xs y)
     ∙ regroup (not (forSome (eqb x) xs)) (not (eqb x y)) (distinct xs) _
 
 pub differ-turn : (xs : List ℕ) (i : ℕ) {ok b : Bool} → i < length xs → ok ≡ distinct (take i xs)

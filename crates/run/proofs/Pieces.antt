@@ -50,7 +50,7 @@ piece-last {text} {output} {from} {left} p l =
     ∙ take-all (length (p .before)) (drop from text) (omega arith)
     ∙ sym (take-all (length (take (left - 0) output)) (drop from text) (omega arith))
 
--- "the bytes of the whole run, one piece after another"
+-- one piece after another, these are the bytes of the whole run
 pub pieces-are : (n room from : ℕ) (text : List ℕ) → inPieces n room from text ≡ drop from text
 unfolding inPieces
 pieces-are zero room from text = refl

@@ -10,7 +10,7 @@ use Rattle.calculus.specs.Expression.{Param, Substitution, raise, lift, substPa
 use Rattle.calculus.specs.Rewriting.{paramValues}
 use Rattle.calculus.proofs.Substitution.{_after_, itself, bound}
 use Rattle.simulation.proofs.AbstractMachine.{Binding, Store, withSet, bindingAt, named, valueIn, inFront, valuesIn}
-use Rattle.simulation.proofs.Store.{_∈_, set-same, set-keeps}
+use Rattle.simulation.proofs.Store.{_is-in_, set-same, set-keeps}
 
 -- the cell at an index of the list
 pub data At : List ℕ → ℕ → ℕ → Type 0 where
@@ -136,9 +136,9 @@ valuesOf-cons (Param.value v) ps = go (paramValues ps)
 valuesOf-cons (Param.variable i) ps = refl
 
 abbrev pub Unset : Store → List ℕ → Type 0
-Unset σ Γ = (c : ℕ) → c ∈ Γ → σ c ≡ none
+Unset σ Γ = (c : ℕ) → c is-in Γ → σ c ≡ none
 
-at-member : {Γ : List ℕ} {j c : ℕ} → At Γ j c → c ∈ Γ
+at-member : {Γ : List ℕ} {j c : ℕ} → At Γ j c → c is-in Γ
 at-member here = List·Memᴰ·head refl
 at-member (there a) = List·Memᴰ·tail (at-member a)
 

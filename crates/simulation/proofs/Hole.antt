@@ -13,7 +13,7 @@ use Rattle.calculus.specs.Expression.{Exp, Substitution, lift, substitute, inne
 use Rattle.calculus.specs.Rewriting.{NotPublishing, Rewrites}
 use Rattle.simulation.proofs.Shuffle.{Mix, mix-swap, mix-unit}
 use Rattle.simulation.proofs.AbstractMachine.{Program, Place, above, Token, Store, withSet, outOf}
-use Rattle.simulation.proofs.Store.{_∉_}
+use Rattle.simulation.proofs.Store.{_not-in_}
 use Rattle.simulation.proofs.Cells.{Parts, parts-swap, parts-move, not-in-cons, Tidy, tidy-part, tidy-under, tidy-left, tidy-right}
 use Rattle.simulation.proofs.Binding.{env-set}
 use Rattle.simulation.proofs.Relation.{Then, then, Chokes, Rep, rep-set, rep-more, rep-stays, then-above, chokes-above}
@@ -41,9 +41,10 @@ module _ (G : Program) where
         → Hole σ Γ K
         (catching (λ v f. Exp.par (Exp.seq f (substitute (lift ρ) g)) (substitute (innermost v) (substitute (lift ρ) g))))
         Γ L [] [] (λ f. Exp.seq f (substitute (lift ρ) g))
-    prune-left : {c : ℕ} {g : Exp} {L : Place} {Z : List Token} {D : List ℕ} → c ∉ D → Chokes G c (above K) L → Rep G σ Γ g L Z D
+    prune-left : {c : ℕ} {g : Exp} {L : Place} {Z : List Token} {D : List ℕ} → c not-in D → Chokes G c (above K) L → Rep G σ Γ g L Z D
         → Hole σ Γ K free (c ∷ Γ) K Z (c ∷ D) (λ f. Exp.prune f g)
-    prune-right : {c : ℕ} {f : Exp} {L : Place} {Z : List Token} {D : List ℕ} → c ∉ D → Chokes G c (above K) L → Rep G σ (c ∷ Γ) f K Z D
+    prune-right : {c : ℕ} {f : Exp} {L : Place} {Z : List Token} {D : List ℕ} → c not-in D → Chokes G c (above K) L
+        → Rep G σ (c ∷ Γ) f K Z D
         → Hole σ Γ K (catching (λ v g. substitute (innermost v) f)) Γ L Z (c ∷ D) (λ g. Exp.prune f g)
 
   pub fill : {σ : Store} {Γ Δ C D E : List ℕ} {K L : Place} {gate : Gate} {plug : Exp → Exp} {f : Exp} {S Z Q : List Token}
@@ -78,7 +79,7 @@ module _ (G : Program) where
 
   -- the other side's tokens are not under a cell of the hole's
   pub hole-stays : {σ : Store} {Γ Δ D : List ℕ} {K L : Place} {gate : Gate} {plug : Exp → Exp} {Z : List Token} (c : ℕ)
-      → c ∉ D → c ∉ above K → Hole σ Γ K gate Δ L Z D plug → outOf c Z ≡ Z
+      → c not-in D → c not-in above K → Hole σ Γ K gate Δ L Z D plug → outOf c Z ≡ Z
   unfolding select
   hole-stays c n u (par-left g) = rep-stays G c n u g
   hole-stays c n u (par-right f) = rep-stays G c n u f

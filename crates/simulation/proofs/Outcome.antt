@@ -13,7 +13,7 @@ use Rattle.simulation.proofs.Shuffle.{Mix, mix-filter, mix-unit, mix-mi
 use Rattle.simulation.proofs.AbstractMachine.{Node, Program, Binding, Frame, Place, at, above, Token, running, Store, withSet}
 use Rattle.simulation.proofs.AbstractMachine.{isOutOf}
 use Rattle.simulation.proofs.AbstractMachine.{outOf, Effect, Move, acts, actsAt, act, effect}
-use Rattle.simulation.proofs.Store.{_∈_, _∉_}
+use Rattle.simulation.proofs.Store.{_is-in_, _not-in_}
 use Rattle.simulation.proofs.Cells.{Parts, parts-alone, Grows, grows-within, grows-from, grown, whole-grows, not-in-append, Tidy}
 use Rattle.simulation.proofs.Binding.{change-innermost, env-value}
 use Rattle.simulation.proofs.Relation.{Then, then, Chokes, chokes, removes, Rep, rep-changed, rep-ends, rep-stays}
@@ -41,7 +41,7 @@ module _ (G : Program) (σ : Store) (new h : ℕ) where
         → Grows new (suc new) C C₁
         → Outcome Γ e K X Y C t m a e′
     sets : {t : Token} {m : Move t} {c : ℕ} {v : ℤ} {e′ : Exp} {C₁ : List ℕ}
-        → effect G σ new h t m ≡ Effect.sets c v → c ∈ C → c ∉ C₁ → AtMost G h e silently e′
+        → effect G σ new h t m ≡ Effect.sets c v → c is-in C → c not-in C₁ → AtMost G h e silently e′
         → Rep G (withSet σ c v) Γ e′ K (outOf c (X ++ Y)) C₁ → Grows new (suc new) C C₁
         → Outcome Γ e K X Y C t m silently e′
 
@@ -72,7 +72,7 @@ module _ (G : Program) (σ : Store) (new h : ℕ) where
 
   -- where g publishes into f <x< g, the cell is set, all tokens of g end, and those of f stay
   pruned : {Γ C C₁ D E : List ℕ} {c : ℕ} {K L T : Place} {X Y X₁ Y₁ Z : List Token} {e f g : Exp} (w : ℤ)
-      → T ≡ L → Parts C (c ∷ D) E → Tidy σ new Γ (above K) E → Gap X₁ Y₁ Z X Y → c ∉ D → Chokes G c (above K) L
+      → T ≡ L → Parts C (c ∷ D) E → Tidy σ new Γ (above K) E → Gap X₁ Y₁ Z X Y → c not-in D → Chokes G c (above K) L
       → Rep G σ (c ∷ Γ) f K Z D → Rep G σ Γ g L (X₁ ++ Y₁) C₁ → Rewrites (G .body) h e silently (substitute (innermost w) f)
       → Outcome Γ e K X Y E (running T w) acts silently (substitute (innermost w) f)
   pruned {Γ} {D = D} {c = c} {K = K} {X = X} {Y} {X₁} {Y₁} {Z} {f = f} w q p t gap n (chokes ec) rf rg s =
@@ -89,7 +89,7 @@ module _ (G : Program) (σ : Store) (new h : ℕ) where
   -- where an own cell of the filling is set, the other side of the hole stays
   other-stays : {Γ Δ C D E : List ℕ} {K L : Place} {gate : Gate} {plug : Exp → Exp} {Z X Y X₁ Y₁ : List Token}
       → Hole G σ Γ K gate Δ L Z D plug → Parts C D E → Tidy σ new Γ (above K) E → Gap X₁ Y₁ Z X Y
-      → (c : ℕ) → c ∈ C → Mix (outOf c (X₁ ++ Y₁)) Z (outOf c (X ++ Y))
+      → (c : ℕ) → c is-in C → Mix (outOf c (X₁ ++ Y₁)) Z (outOf c (X ++ Y))
   other-stays {X = X} {Y} {X₁} {Y₁} H p t gap c m =
       subst (λ z. Mix (outOf c (X₁ ++ Y₁)) z (outOf c (X ++ Y)))
       (hole-stays G c (p .apart c m) (t .not-over c (p .in-left c m)) H)

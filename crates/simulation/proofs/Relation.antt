@@ -16,7 +16,7 @@ use Rattle.simulation.proofs.Shuffle.{Mix, mix-all}
 use Rattle.simulation.proofs.AbstractMachine.{Node, Program, Binding, Frame, frame, Place, at, above, Token, running, calledOut}
 use Rattle.simulation.proofs.AbstractMachine.{cellsOf}
 use Rattle.simulation.proofs.AbstractMachine.{Store, withSet, outOf}
-use Rattle.simulation.proofs.Store.{_∈_, _∉_, all-stay, all-end}
+use Rattle.simulation.proofs.Store.{_is-in_, _not-in_, all-stay, all-end}
 use Rattle.simulation.proofs.Cells.{Within, Parts, parts-within, not-in-cons}
 use Rattle.simulation.proofs.Binding.{Env, Change, change-lift, change-set, env-changed}
 
@@ -64,7 +64,7 @@ module _ (G : Program) where
     seq : {Γ C : List ℕ} {K L : Place} {f g : Exp} {S : List Token} (ρ : Substitution)
         → Then σ Γ ρ g K L → Rep σ Γ f L S C → Rep σ Γ (Exp.seq f (substitute (lift ρ) g)) K S C
     prune : {Γ C D E : List ℕ} {c : ℕ} {K L : Place} {f g : Exp} {S T Q : List Token}
-        → c ∉ D → Parts C (c ∷ D) E → Mix S T Q → Chokes c (above K) L
+        → c not-in D → Parts C (c ∷ D) E → Mix S T Q → Chokes c (above K) L
         → Rep σ (c ∷ Γ) f K S C → Rep σ Γ g L T D → Rep σ Γ (Exp.prune f g) K Q E
 
   then-changed : {θ ρ : Substitution} {σ τ : Store} {Γ Δ : List ℕ} {g : Exp} {K L : Place}
@@ -123,11 +123,11 @@ module _ (G : Program) where
 
   -- no token is under a cell that K is not under and that is not set aside
   rep-out : {σ : Store} {Γ C : List ℕ} {e : Exp} {K : Place} {S : List Token} (c : ℕ)
-      → c ∉ C → c ∉ above K → Rep σ Γ e K S C → All (λ t. c ∉ cellsOf t) S
+      → c not-in C → c not-in above K → Rep σ Γ e K S C → All (λ t. c not-in cellsOf t) S
   rep-out c n u stop = All.none
-  rep-out c n u (hand l) = more (leads-cells (λ U. c ∉ U) l u) All.none
-  rep-out c n u (pending l) = more (leads-cells (λ U. c ∉ U) l u) All.none
-  rep-out c n u (code ρ d env l) = more (leads-cells (λ U. c ∉ U) l u) All.none
+  rep-out c n u (hand l) = more (leads-cells (λ U. c not-in U) l u) All.none
+  rep-out c n u (pending l) = more (leads-cells (λ U. c not-in U) l u) All.none
+  rep-out c n u (code ρ d env l) = more (leads-cells (λ U. c not-in U) l u) All.none
   rep-out c n u (par p mx f g) = mix-all mx (rep-out c (λ m. n (p .in-left c m)) u f) (rep-out c (λ m. n (p .in-right c m)) u g)
   rep-out c n u (seq ρ t f) = rep-out c n (rw (then-above t) u) f
   rep-out c n u (prune k p mx ch f g) =
@@ -138,18 +138,19 @@ module _ (G : Program) where
 
   -- all tokens are under each cell that K is under
   rep-under : {σ : Store} {Γ C : List ℕ} {e : Exp} {K : Place} {S : List Token} (c : ℕ)
-      → c ∈ above K → Rep σ Γ e K S C → All (λ t. c ∈ cellsOf t) S
+      → c is-in above K → Rep σ Γ e K S C → All (λ t. c is-in cellsOf t) S
   rep-under c u stop = All.none
-  rep-under c u (hand l) = more (leads-cells (λ U. c ∈ U) l u) All.none
-  rep-under c u (pending l) = more (leads-cells (λ U. c ∈ U) l u) All.none
-  rep-under c u (code ρ d env l) = more (leads-cells (λ U. c ∈ U) l u) All.none
+  rep-under c u (hand l) = more (leads-cells (λ U. c is-in U) l u) All.none
+  rep-under c u (pending l) = more (leads-cells (λ U. c is-in U) l u) All.none
+  rep-under c u (code ρ d env l) = more (leads-cells (λ U. c is-in U) l u) All.none
   rep-under c u (par p mx f g) = mix-all mx (rep-under c u f) (rep-under c u g)
   rep-under c u (seq ρ t f) = rep-under c (rw (then-above t) u) f
   rep-under c u (prune k p mx ch f g) = mix-all mx (rep-under c u f) (rep-under c (rw (chokes-above ch) (List·Memᴰ·tail u)) g)
 
   pub rep-stays : {σ : Store} {Γ C : List ℕ} {e : Exp} {K : Place} {S : List Token} (c : ℕ)
-      → c ∉ C → c ∉ above K → Rep σ Γ e K S C → outOf c S ≡ S
+      → c not-in C → c not-in above K → Rep σ Γ e K S C → outOf c S ≡ S
   rep-stays c n u r = all-stay (rep-out c n u r)
 
-  pub rep-ends : {σ : Store} {Γ C : List ℕ} {e : Exp} {K : Place} {S : List Token} (c : ℕ) → c ∈ above K → Rep σ Γ e K S C → outOf c S ≡ []
+  pub rep-ends : {σ : Store} {Γ C : List ℕ} {e : Exp} {K : Place} {S : List Token} (c : ℕ) → c is-in above K → Rep σ Γ e K S C
+      → outOf c S ≡ []
   rep-ends c u r = all-end (rep-under c u r)

@@ -13,14 +13,14 @@ use Rattle.job.proofs.WellFormed.{member-any}
 use Rattle.job.proofs.Test.{eqb-same, ne-eqb}
 use Rattle.simulation.proofs.AbstractMachine.{Token, Store, chosen, withSet, cellsOf, isOutOf, outOf}
 
-abbrev pub _∈_ : ℕ → List ℕ → Type 0
-c ∈ C = List·Memᴰ c C
+abbrev pub _is-in_ : ℕ → List ℕ → Type 0
+c is-in C = List·Memᴰ c C
 
-abbrev pub _∉_ : ℕ → List ℕ → Type 0
-c ∉ C = c ∈ C → ⊥
+abbrev pub _not-in_ : ℕ → List ℕ → Type 0
+c not-in C = c is-in C → ⊥
 
-infix 20 _∈_
-infix 20 _∉_
+infix 20 _is-in_
+infix 20 _not-in_
 pub set-same : (σ : Store) (c : ℕ) (v : ℤ) → withSet σ c v c ≡ some v
 set-same σ c v = ap (λ b. chosen b v (σ c)) (eqb-same c)
 
@@ -34,28 +34,28 @@ not-both p q = let z : _≡_ {A = ℕ} 0 1 = cc in omega arith
 pub set-keeps : (σ : Store) (c b : ℕ) (v : ℤ) {w : ℤ} → σ c ≡ none → σ b ≡ some w → withSet σ c v b ≡ some w
 set-keeps σ c b v n s = set-other σ c b v (λ p. not-both (ap σ p ∙ n) s) ∙ s
 
-any-none : (c : ℕ) (l : List ℕ) → c ∉ l → forSome (eqb c) l ≡ false
+some-none : (c : ℕ) (l : List ℕ) → c not-in l → forSome (eqb c) l ≡ false
 unfolding forSome _or_
-any-none c [] n = refl
-any-none c (b ∷ l) n = rw (ne-eqb c b (λ p. n (List·Memᴰ·head p))) (any-none c l (λ m. n (List·Memᴰ·tail m)))
+some-none c [] n = refl
+some-none c (b ∷ l) n = rw (ne-eqb c b (λ p. n (List·Memᴰ·head p))) (some-none c l (λ m. n (List·Memᴰ·tail m)))
 
 module _ {A : Type 0} (p : A → Bool) where
-  filter-yes : (x : A) (xs : List A) → p x ≡ true → select p (x ∷ xs) ≡ x ∷ select p xs
+  select-yes : (x : A) (xs : List A) → p x ≡ true → select p (x ∷ xs) ≡ x ∷ select p xs
   unfolding select
-  filter-yes x xs e = rw (e, select)
+  select-yes x xs e = rw (e, select)
 
-  filter-no : (x : A) (xs : List A) → p x ≡ false → select p (x ∷ xs) ≡ select p xs
+  select-no : (x : A) (xs : List A) → p x ≡ false → select p (x ∷ xs) ≡ select p xs
   unfolding select
-  filter-no x xs e = rw (e, select)
+  select-no x xs e = rw (e, select)
 
 -- tokens that are not under the cell stay, those under it end
-pub all-stay : {c : ℕ} {S : List Token} → All (λ t. c ∉ cellsOf t) S → outOf c S ≡ S
+pub all-stay : {c : ℕ} {S : List Token} → All (λ t. c not-in cellsOf t) S → outOf c S ≡ S
 unfolding select
 all-stay All.none = refl
 all-stay {c} (more {x = t} {xs = S} n a) =
-    filter-yes (isOutOf c) t S (ap not (any-none c (cellsOf t) n)) ∙ ap (_∷_ t) (all-stay a)
+    select-yes (isOutOf c) t S (ap not (some-none c (cellsOf t) n)) ∙ ap (_∷_ t) (all-stay a)
 
-pub all-end : {c : ℕ} {S : List Token} → All (λ t. c ∈ cellsOf t) S → outOf c S ≡ []
+pub all-end : {c : ℕ} {S : List Token} → All (λ t. c is-in cellsOf t) S → outOf c S ≡ []
 unfolding select
 all-end All.none = refl
-all-end {c} (more {x = t} {xs = S} m a) = filter-no (isOutOf c) t S (ap not (member-any m)) ∙ all-end a
+all-end {c} (more {x = t} {xs = S} m a) = select-no (isOutOf c) t S (ap not (member-any m)) ∙ all-end a

@@ -1,7 +1,7 @@
 -- The parameters in a node's row, one by one, and the formals that they bind. By induction over the parameters. Assumes nothing.
 use mathlib.Core.Path.{_≡_, refl, sym, ap, ap₂, subst, _∙_}
 use mathlib.Core.Bool.{true}
-use mathlib.Core.List.{List, [], _∷_, _++_, map}
+use mathlib.Core.List.{List, [], _∷_, _++_, map, map-append}
 use Prim.Native.Nat.{ℕ, zero, suc, _+_, _-_, _*_, _≤_, _<_}
 use native.Mathlib.Numerals.{add-one}
 use native.Mathlib.Omega.{arith}
@@ -17,7 +17,6 @@ use Rattle.model.specs.declared.token.Slot.the-variants as slots
 use Rattle.model.specs.declared.token.Bind.{Bind}
 use Rattle.job.proofs.Test.{ne-eqb, ltb-lt, all-at}
 use Rattle.sites.specs.Row.{rowAt, paramsAt, ParamsHold}
-use Rattle.sites.proofs.TableLoops.{map-append}
 
 -- a parameter by its kind
 pub param-variable : (k w : ℕ) → k ≡ 7 → paramOf k w ≡ variable w

@@ -19,7 +19,7 @@ use Rattle.model.specs.declared.token.State.{State}
 use Rattle.model.specs.declared.token.State.the-variants as states
 use Rattle.model.specs.declared.cell.Cell.{Cell}
 use Rattle.model.specs.declared.record.Machine.{Machine}
-use Rattle.job.proofs.Test.{and-left, and-right, eqb-eq, all-at, all-head, all-tail, all-nil, all-cons, all-append, count-append}
+use Rattle.job.proofs.Test.{and-left, and-right, eqb-eq, all-at, all-head, all-tail, all-nil, all-cons, all-append, occurrences-append}
 use Rattle.model.proofs.Machine.Rules.{EachRuleHolds, each-rule-holds, NamesOnce, names-once}
 use Rattle.sites.specs.Look.{LookFacts}
 use Rattle.sites.proofs.OrderCounting.{names-few, names-fewer}
@@ -87,7 +87,7 @@ module _ (d : Dag) (m : Machine) (k : rulesHold paper d m ≡ true) where
       let few : length (q ++ w) ≤ 64 =
       names-few 64 (q ++ w) (all-append (λ (p : ℕ). ltb p 64) q w queue-below waits-below)
       (λ p l.
-      let c : occurrences p (q ++ w) ≡ occurrences p q + occurrences p w = count-append p q w in
+      let c : occurrences p (q ++ w) ≡ occurrences p q + occurrences p w = occurrences-append p q w in
       let x : occurrences p q ≡ once (isReady (tokenAt (m .tokens) p .state)) = queue-counts p l in
       let y : occurrences p w ≡ once (isWaiting (tokenAt (m .tokens) p .state)) = waits .counts p (omega arith) in
       let z = never-both (tokenAt (m .tokens) p .state) in

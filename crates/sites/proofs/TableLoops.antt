@@ -1,16 +1,12 @@
 -- Reading and writing tables: within a table the default is never read, and a loop that writes f of each element comes to `map f`. Assumes
 -- nothing.
 use mathlib.Core.Path.{_≡_, refl, sym, ap, ap₂, _∙_}
-use mathlib.Core.List.{List, [], _∷_, _++_, map, append-nil}
+use mathlib.Core.List.{List, [], _∷_, _++_, map, append-nil, map-append}
 use Prim.Native.Nat.{ℕ, suc, _+_, _-_, _<_, _≤_}
 use native.Mathlib.Numerals.{add-one}
 use native.Mathlib.Omega.{arith}
 use lib.ListN.{length, getD, set, take, drop, length-map, drop-of-length-le}
 use lib.Seq.{take-suc, drop-cons, set-at, getD-at, append-snoc, length-take-le, take-all}
-
-pub map-append : {A B : Type 0} (f : A → B) (xs ys : List A) → map f (xs ++ ys) ≡ map f xs ++ map f ys
-map-append f [] ys = refl
-map-append f (x ∷ xs) ys = ap (_∷_ (f x)) (map-append f xs ys)
 
 -- a loop that has written f of the first i elements of a list over those of another
 pub record Mapping {A B : Type 0} (f : A → B) (xs : List A) (old : List B) (i : ℕ) (out : List B) : Type 0 where

@@ -13,7 +13,7 @@ pub enum SiteReply {
     Silent,
 }
 
-// "gives 0 if .., else silent"
+// "gives 0 if ..; else silent"
 fn zero_if(test: bool) -> SiteReply
     ensures { λ r. ⌜ r ≡ siteReplyOf (Site.zeroIf test) ⌝ }
 {

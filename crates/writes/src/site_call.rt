@@ -22,7 +22,7 @@ use record::token::set_state;
 use record::token::set_value;
 use sites::number::unsigned;
 
-// "The token waits there": at the cell c.
+// "the first unset cell makes the token wait there": at the cell c.
 pub fn wait(w: &mut [u32; Machine::WORDS], place: usize, p: usize, c: u32)
     requires { ⌜ p < 64 ⌝ }
     ensures { λ _.

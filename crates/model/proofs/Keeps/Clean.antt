@@ -12,7 +12,7 @@ use Rattle.model.specs.Machine.Limits.{Limits}
 use Rattle.model.specs.Machine.Blank.{blankToken, blankCell, tokenAt, cellAt, isBound}
 use Rattle.model.specs.Machine.Blank.{hasValue, isPlace, tokenIsBlank, cellIsBlank}
 use Rattle.model.specs.Machine.State.{isBlankState, isLive}
-use Rattle.model.specs.Machine.Active.{isSet, upward, underSet, isActive}
+use Rattle.model.specs.Machine.Active.{cellIsSet, upward, underSet, isActive}
 use Rattle.model.specs.Machine.InUse.{tokensUsed, cellsUsed, sweep}
 use Rattle.model.specs.Machine.Rules.{restIsBlank}
 use Rattle.model.specs.Machine.Start.{startToken, startMachine}
@@ -121,8 +121,8 @@ module _ (m : Machine) where
   under-stays : (q : Place) → Names (UsedCell m) q → underSet (then .cells) q ≡ underSet (m .cells) q
   unfolding sweep underSet
   under-stays q h =
-      ap (λ n. upward (λ c k. isSet k) (then .cells) n q) (length-kept blankCell (cellsUsed m) (m .cells))
-      ∙ upward-stays (λ c k. isSet k) (length (m .cells)) q h
+      ap (λ n. upward (λ c k. cellIsSet k) (then .cells) n q) (length-kept blankCell (cellsUsed m) (m .cells))
+      ∙ upward-stays (λ c k. cellIsSet k) (length (m .cells)) q h
 
   active-stays : (i : ℕ) → Used m i → isActive (m .cells) (tokenAt (m .tokens) i) ≡ true
       → isActive (then .cells) (tokenAt (then .tokens) i) ≡ true
@@ -144,9 +144,9 @@ module _ (m : Machine) where
       (λ c u v j e. cellsOf then .parent c v j (ap (λ (k : Cell). k .parent) (cell-stays c u) ∙ e))
 
   -- "The rest is blank after each accepted call"
-  pub finish-clean : Clean (sweep m)
+  pub sweep-clean : Clean (sweep m)
   unfolding sweep tokenAt cellAt
-  finish-clean =
+  sweep-clean =
       record {
         tokens =
             λ p e.
@@ -181,18 +181,18 @@ module _ (m : Machine) where
       (λ c l u. subst (λ (k : Cell). Names (UsedCell m) (k .parent)) (sym (cell-stays c u)) (cellsOf m .parent c u))
 
   -- blanking changes nothing of what is in use
-  pub finish-tokens : tokensUsed (sweep m) ≡ tokensUsed m
+  pub sweep-tokens : tokensUsed (sweep m) ≡ tokensUsed m
   unfolding sweep
-  finish-tokens =
+  sweep-tokens =
       let k = length-kept blankToken (tokensUsed m) (m .tokens) in
       let a = tokensOf then .size in
       let b = tokensOf m .size in
       marks-same (tokensUsed then) (tokensUsed m) (omega arith) (λ i l u. tokens-were i (omega arith) u)
       (λ i l u. tokens-stay i (omega arith) u)
 
-  pub finish-cells : cellsUsed (sweep m) ≡ cellsUsed m
+  pub sweep-cells : cellsUsed (sweep m) ≡ cellsUsed m
   unfolding sweep
-  finish-cells =
+  sweep-cells =
       let k = length-kept blankCell (cellsUsed m) (m .cells) in
       let a = cellsOf then .size in
       let b = cellsOf m .size in

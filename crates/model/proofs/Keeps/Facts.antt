@@ -164,9 +164,9 @@ module _ {lim : Limits} {d : Dag} {m : Machine} (F : Facts lim d m) (live : Live
       go false e (inl x) = h r ∙ ap at (sym x)
       go false e (inr x) = h r ∙ (ap once (e ∙ sym none) ∙ ap at (sym x))
 
-  pub finish-facts : 0 < length (d .nodes) → Facts lim d (sweep m)
+  pub sweep-facts : 0 < length (d .nodes) → Facts lim d (sweep m)
   unfolding sweep isReady isWaiting
-  finish-facts some =
+  sweep-facts some =
       let lt = length-kept blankToken used (m .tokens) in
       let lc = length-kept blankCell (cellsUsed m) (m .cells) in
       record {

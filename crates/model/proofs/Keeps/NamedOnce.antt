@@ -23,33 +23,28 @@ use Rattle.model.specs.declared.token.Token.{Token}
 use Rattle.model.specs.declared.cell.Cell.{Cell}
 use Rattle.job.proofs.Test.{clash, false-of, eqb-same, eqb-eq, eq-eqb, ne-eqb, lt-ltb, le-leb, and-both, all-head, all-tail, once-true}
 use Rattle.model.proofs.Machine.Marks.{Free, marked-le-length, marked-set-free}
-use Rattle.model.proofs.Machine.Rules.{ready-state}
+use Rattle.model.proofs.Machine.Rules.{occurrences-here, ready-state}
 use Rattle.model.proofs.Machine.Choke.{choke-at, choke-ends}
 use Rattle.model.proofs.Sees.ChokeAgrees.{woken, choke-spares}
-use Rattle.job.proofs.Test.{once-small, count-append, count-more}
+use Rattle.job.proofs.Test.{once-small, occurrences-append, occurrences-more}
 use Rattle.model.proofs.Machine.TableRows.{token-same, token-other, token-outside}
-
--- counting
-count-here : (r : ℕ) (l : List ℕ) → occurrences r (r ∷ l) ≡ suc (occurrences r l)
-unfolding occurrences
-count-here r l = rw (eqb-same r) (omega arith)
 
 -- a line in which no place stands twice takes a free mark for each of its places
 fills : (marks : List Bool) (l : List ℕ) → ((r : ℕ) → occurrences r l ≤ 1) → ((r : ℕ) → 0 < occurrences r l → Free marks r)
     → length l + marked marks ≤ length marks
 fills marks [] h f = let z = marked-le-length marks in omega arith
 fills marks (x ∷ l) h f =
-    let one = marked-set-free marks x (f x (let z = count-here x l in omega arith)) in
+    let one = marked-set-free marks x (f x (let z = occurrences-here x l in omega arith)) in
     let size = length-set marks x true in
-    let more = fills (set marks x true) l (λ r. let z = h r in let y = count-more r x l in omega arith) (λ r k. still r k) in
+    let more = fills (set marks x true) l (λ r. let z = h r in let y = occurrences-more r x l in omega arith) (λ r k. still r k) in
     omega arith
   where
     still : (r : ℕ) → 0 < occurrences r l → Free (set marks x true) r
-    still r k = getD-set-other marks x r true true apart ∙ f r (let y = count-more r x l in omega arith)
+    still r k = getD-set-other marks x r true true apart ∙ f r (let y = occurrences-more r x l in omega arith)
       where
         apart : r ≡ x → ⊥
         apart e =
-            let z : 0 < occurrences x l = subst (λ i. 0 < occurrences i l) e k in let y = count-here x l in let w = h x in omega arith
+            let z : 0 < occurrences x l = subst (λ i. 0 < occurrences i l) e k in let y = occurrences-here x l in let w = h x in omega arith
 
 none-free : (n r : ℕ) → r < n → Free (replicate n false) r
 none-free zero r l = absurd (omega arith)
@@ -61,7 +56,7 @@ all-counted : (test : ℕ → Bool) (l : List ℕ) → ((r : ℕ) → 0 < occurr
 unfolding forAll
 all-counted test [] h = refl
 all-counted test (x ∷ l) h =
-    and-both (h x (let z = count-here x l in omega arith)) (all-counted test l (λ r k. h r (let z = count-more r x l in omega arith)))
+    and-both (h x (let z = occurrences-here x l in omega arith)) (all-counted test l (λ r k. h r (let z = occurrences-more r x l in omega arith)))
 
 counted-tested : (test : ℕ → Bool) (l : List ℕ) → forAll test l ≡ true → (r : ℕ) → 0 < occurrences r l → test r ≡ true
 unfolding occurrences
@@ -142,15 +137,15 @@ pub record Taken (ts : List Token) (p : ℕ) (queue waits : List ℕ) : Type 0 w
   pub ready : (r : ℕ) → occurrences r queue + once (eqb r p) ≡ once (isReady (tokenAt ts r .state))
   pub waiting : Names isWaiting ts waits
 
-count-without : (l : List ℕ) (i r : ℕ) → i < length l → occurrences r (without i l) + once (eqb r (getD l i 0)) ≡ occurrences r l
+occurrences-without : (l : List ℕ) (i r : ℕ) → i < length l → occurrences r (without i l) + once (eqb r (getD l i 0)) ≡ occurrences r l
 unfolding occurrences without
-count-without [] i r h = absurd (omega arith)
-count-without (x ∷ l) zero r h = omega arith
-count-without (x ∷ l) (suc i) r h = let a = count-without l i r (omega arith) in omega arith
+occurrences-without [] i r h = absurd (omega arith)
+occurrences-without (x ∷ l) zero r h = omega arith
+occurrences-without (x ∷ l) (suc i) r h = let a = occurrences-without l i r (omega arith) in omega arith
 
 pub take-out : {ts : List Token} {queue waits : List ℕ} (i : ℕ) → i < length queue → Lines ts queue waits
     → Taken ts (getD queue i 0) (without i queue) waits
-take-out {queue = queue} i h l = record { ready = λ r. count-without queue i r h ∙ l .ready r; waiting = l .waiting }
+take-out {queue = queue} i h l = record { ready = λ r. occurrences-without queue i r h ∙ l .ready r; waiting = l .waiting }
 
 -- a place is written: its count is what the token asks, the others' counts are what they were
 written-names : (of : State → Bool) (ts : List Token) (p : ℕ) (u : Token) (l : List ℕ) → p < length ts
@@ -165,16 +160,16 @@ written-names of ts p u l i here there r = go (ℕ-discrete r p)
     go (no n) = there r n ∙ ap (λ (t : Token). once (of (t .state))) (sym (token-other ts p r u n))
 
 -- how often r stands in a line with p put at its back
-count-back : (r : ℕ) (l : List ℕ) (p : ℕ) → occurrences r (l ++ (p ∷ [])) ≡ occurrences r l + once (eqb r p)
+occurrences-back : (r : ℕ) (l : List ℕ) (p : ℕ) → occurrences r (l ++ (p ∷ [])) ≡ occurrences r l + once (eqb r p)
 unfolding occurrences
-count-back r l p = let z = count-append r l (p ∷ []) in omega arith
+occurrences-back r l p = let z = occurrences-append r l (p ∷ []) in omega arith
 
 back-same : (p : ℕ) (l : List ℕ) (b : Bool) → occurrences p l ≡ 0 → b ≡ true → occurrences p (l ++ (p ∷ [])) ≡ once b
 back-same p l b e f =
-    let x = count-back p l p in let y : once b ≡ 1 = ap once f in let z : once (eqb p p) ≡ 1 = ap once (eqb-same p) in omega arith
+    let x = occurrences-back p l p in let y : once b ≡ 1 = ap once f in let z : once (eqb p p) ≡ 1 = ap once (eqb-same p) in omega arith
 
 back-other : (r p : ℕ) (l : List ℕ) (n : ℕ) → (r ≡ p → ⊥) → occurrences r l ≡ n → occurrences r (l ++ (p ∷ [])) ≡ n
-back-other r p l n f e = let x = count-back r l p in let z : once (eqb r p) ≡ 0 = ap once (ne-eqb r p f) in omega arith
+back-other r p l n f e = let x = occurrences-back r l p in let z : once (eqb r p) ≡ 0 = ap once (ne-eqb r p f) in omega arith
 
 -- the token that was taken is ready, so it is in the table
 module _ {ts : List Token} {p : ℕ} {queue waits : List ℕ} (l : Taken ts p queue waits) where
@@ -260,33 +255,33 @@ lines-new {ts} {queue} {waits} q u i nr nw e l =
     }
 
 -- a line filtered
-count-kept : (test : ℕ → Bool) (r : ℕ) (l : List ℕ) → test r ≡ true → occurrences r (select test l) ≡ occurrences r l
+occurrences-kept : (test : ℕ → Bool) (r : ℕ) (l : List ℕ) → test r ≡ true → occurrences r (select test l) ≡ occurrences r l
 unfolding select occurrences
-count-kept test r [] e = refl
-count-kept test r (x ∷ l) e = go (test x) refl (count-kept test r l e)
+occurrences-kept test r [] e = refl
+occurrences-kept test r (x ∷ l) e = go (test x) refl (occurrences-kept test r l e)
   where
     go : (b : Bool) → test x ≡ b → occurrences r (select test l) ≡ occurrences r l
         → occurrences r (elim b as (λ b. List ℕ) [ true ↦ x ∷ select test l | false ↦ select test l ]) ≡ once (eqb r x) + occurrences r l
     go true q h = omega arith
     go false q h = let y : once (eqb r x) ≡ 0 = ap once (ne-eqb r x (λ z. clash (ap test (sym z) ∙ e) q)) in omega arith
 
-count-dropped : (test : ℕ → Bool) (r : ℕ) (l : List ℕ) → test r ≡ false → occurrences r (select test l) ≡ 0
+occurrences-dropped : (test : ℕ → Bool) (r : ℕ) (l : List ℕ) → test r ≡ false → occurrences r (select test l) ≡ 0
 unfolding select occurrences
-count-dropped test r [] e = refl
-count-dropped test r (x ∷ l) e = go (test x) refl (count-dropped test r l e)
+occurrences-dropped test r [] e = refl
+occurrences-dropped test r (x ∷ l) e = go (test x) refl (occurrences-dropped test r l e)
   where
     go : (b : Bool) → test x ≡ b → occurrences r (select test l) ≡ 0
         → occurrences r (elim b as (λ b. List ℕ) [ true ↦ x ∷ select test l | false ↦ select test l ]) ≡ 0
     go true q h = let y : once (eqb r x) ≡ 0 = ap once (ne-eqb r x (λ z. clash (ap test z ∙ q) e)) in omega arith
     go false q h = h
 
-count-filter : (test : ℕ → Bool) (r : ℕ) (l : List ℕ) → (test r ≡ true → occurrences r l ≡ 1)
+occurrences-select : (test : ℕ → Bool) (r : ℕ) (l : List ℕ) → (test r ≡ true → occurrences r l ≡ 1)
     → occurrences r (select test l) ≡ once (test r)
-count-filter test r l h = go (test r) refl
+occurrences-select test r l h = go (test r) refl
   where
     go : (b : Bool) → test r ≡ b → occurrences r (select test l) ≡ once b
-    go true e = count-kept test r l e ∙ h e
-    go false e = count-dropped test r l e
+    go true e = occurrences-kept test r l e ∙ h e
+    go false e = occurrences-dropped test r l e
 
 -- a choke: who is ready then was ready or waiting, who waits then waited
 woken-ready : (c : ℕ) (s : State) (t : Token) → t .state ≡ s → isReady (woken (waitsAt c s) t .state) ≡ true
@@ -324,7 +319,7 @@ module _ (ts : List Token) (cs : List Cell) (c p : ℕ) (queue waits : List ℕ)
       record {
         ready =
             λ r.
-            count-filter (λ (r : ℕ). isReady (tokenAt then r .state)) r (queue ++ waits)
+            occurrences-select (λ (r : ℕ). isReady (tokenAt then r .state)) r (queue ++ waits)
             (λ e.
             let x = spared isReady refl r e in
             let a = woken-ready c (tokenAt ts r .state) (tokenAt ts r) refl
@@ -333,11 +328,11 @@ module _ (ts : List Token) (cs : List Cell) (c p : ℕ) (queue waits : List ℕ)
             in
             let b = l .ready r in
             let d = l .waiting r in
-            let f = count-append r queue waits in
+            let f = occurrences-append r queue waits in
             omega arith);
         waiting =
             λ r.
-            count-filter (λ (r : ℕ). isWaiting (tokenAt then r .state)) r waits
+            occurrences-select (λ (r : ℕ). isWaiting (tokenAt then r .state)) r waits
             (λ e.
             let x = spared isWaiting refl r e in
             let w = ap (λ (t : Token). isWaiting (t .state)) (sym (spared-at r x)) ∙ e in

@@ -11,7 +11,7 @@ use Rattle.job.specs.Syntax.{Param}
 use Rattle.job.specs.Node.{Node, Dag}
 use Rattle.model.specs.Machine.Limits.{Limits}
 use Rattle.model.specs.Machine.Blank.{blankToken, tokenAt}
-use Rattle.model.specs.Machine.InUse.{sweep}
+use Rattle.model.specs.Machine.InUse.{sweep, Within}
 use Rattle.model.specs.Machine.Reply.{Effect, unless}
 use Rattle.model.specs.Machine.Update as Update
 use Rattle.model.specs.Machine.Step as Step
@@ -28,7 +28,7 @@ use Rattle.model.proofs.Machine.Rules.{EachRuleHolds}
 use Rattle.model.proofs.Machine.Inside.{Fits, fits-blank, inside-map, inside-set}
 use Rattle.model.proofs.Machine.WrittenTokens.{fits-same, fits-value, fits-empty}
 use Rattle.model.proofs.Machine.WrittenTokens.{choked-cases, choked-blank, choked-live, choked-fits}
-use Rattle.model.proofs.Machine.Used.{Within, Used, UsedCell, used-fits, used-parent, inside-old, none-new, token-new, both-new}
+use Rattle.model.proofs.Machine.Used.{Used, UsedCell, used-fits, used-parent, inside-old, none-new, token-new, both-new}
 use Rattle.model.proofs.Machine.ActingInside.{write-inside, fork-inside, call-inside, split-inside}
 
 -- The token at a place p in use acts; only the tables matter, so the orders may be any

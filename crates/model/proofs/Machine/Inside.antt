@@ -113,12 +113,12 @@ inside-less {n} {k} {Q} {R} {ts} {cs} us ds a b f g h =
     parent c x (inl e) = subst (λ (a : Cell). Names R (a .parent)) (sym e) x
     parent c x (inr e) = subst (λ (a : Cell). Names R (a .parent)) (sym e) (names-nowhere R)
 
-pub inside-finish :
+pub inside-sweep :
     {n k : ℕ} {Q R : ℕ → Type 0} (m : Machine)
     → Inside n k Q R (m .tokens) (m .cells)
     → Inside n k Q R (sweep m .tokens) (sweep m .cells)
 unfolding sweep tokenAt cellAt
-inside-finish m h =
+inside-sweep m h =
     inside-less (restBlanked blankToken (tokensUsed m) (m .tokens)) (restBlanked blankCell (cellsUsed m) (m .cells))
     (length-kept blankToken (tokensUsed m) (m .tokens))
     (length-kept blankCell (cellsUsed m) (m .cells))

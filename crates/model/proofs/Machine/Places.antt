@@ -8,7 +8,7 @@ use native.Mathlib.Decide.{decLt}
 use native.Mathlib.Omega.{arith}
 use lib.ListN.{length, getD}
 use Rattle.model.specs.Machine.InUse.{marked}
-use Rattle.model.specs.Machine.FreePlace.{around, freeFrom, nextPlace}
+use Rattle.model.specs.Machine.FreePlace.{around, freeFrom, nextPlace, placeAfter}
 use Rattle.job.proofs.Test.{clash, lt-ltb, le-not-ltb}
 use Rattle.model.proofs.Machine.Marks.{Marked, Free, free-inside, some-free}
 
@@ -75,11 +75,6 @@ next-place-free marks last l h = let x = some-free marks h in go (x .0) (x .1) (
     go j f k (yes x) = ahead marks (length marks) (suc last) j f k (omega arith) (omega arith)
     go j f k (no x) = behind marks (length marks) (suc last) j f k (omega arith) (omega arith)
 
--- "the next place not in use before the call, after the last one given, round from the end to 0": the places after p, one after the other
-unfoldable pub placeAfter : (size p i : ℕ) → ℕ
-placeAfter size p zero = around size (suc p)
-placeAfter size p (suc i) = placeAfter size (around size (suc p)) i
-
 module _ (marks : List Bool) where
   -- the search finds the first of them that is free, or all that it looked at are in use
   pub data Searched (p n : ℕ) : Type 0 where
@@ -119,7 +114,7 @@ module _ (marks : List Bool) where
   -- where some place is free, every place that is passed over was in use
   pub next-place-first : (last : ℕ) → last < length marks → marked marks < length marks
       → (k : ℕ) × (nextPlace marks last ≡ placeAfter (length marks) last k)
-      × ((i : ℕ) → i < k → Marked marks (placeAfter (length marks) last i))
+      × ((i : ℕ) → i < k → getD marks (placeAfter (length marks) last i) true ≡ true)
   unfolding nextPlace
   next-place-first last l some = go (searched (length marks) last)
     where

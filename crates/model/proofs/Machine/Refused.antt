@@ -14,13 +14,12 @@ use Rattle.model.specs.Machine.Blank.{blankMachine}
 use Rattle.model.specs.Machine.InUse.{sweep}
 use Rattle.model.specs.Machine.Rules.{rulesHold}
 use Rattle.model.specs.Machine.Reply.{Effect, moves, waits, publishes, calls, refuses, accepted, outcome, unless, reportValues}
-use Rattle.model.specs.Machine.Reply.{isRefused}
+use Rattle.model.specs.Machine.Reply.{refusalOf, isRefused}
 use Rattle.model.specs.Machine.Start.{start, startMachine}
 use Rattle.model.specs.Machine.Step.{step, takes}
 use Rattle.model.specs.Machine.Answer.{answer, answered, holder}
 use Rattle.model.specs.declared.record.Machine.{Machine}
 use Rattle.model.specs.declared.reply.Refusal.{Refusal}
-use Rattle.model.specs.declared.reply.Refusal.the-variants as refusals
 use Rattle.model.specs.declared.reply.Reply.{Reply}
 use Rattle.model.specs.declared.reply.Reply.the-variants as replies
 use Rattle.model.specs.declared.reply.Outcome.{Outcome}
@@ -97,13 +96,13 @@ abbrev pub begun : Limits → Dag → Outcome
 begun lim d = record { reply = replies.Done; values = reportValues []; machine = startMachine lim (d .goal) }
 
 abbrev pub notBegun : Limits → Outcome
-notBegun lim = record { reply = replies.Refused refusals.Rule; values = reportValues []; machine = blankMachine lim }
+notBegun lim = record { reply = replies.Refused (refusalOf 14); values = reportValues []; machine = blankMachine lim }
 
 abbrev pub StartCases : Limits → Dag → Outcome → Type 0
 StartCases lim d o = ((dagHolds d ≡ true) × (o ≡ begun lim d)) ⊎ ((dagHolds d ≡ false) × (o ≡ notBegun lim))
 
 pub start-cases : (lim : Limits) (d : Dag) → StartCases lim d (start lim d)
-unfolding start
+unfolding start outcome
 start-cases lim d = go (dagHolds d) refl
   where
     go : (b : Bool) → dagHolds d ≡ b → StartCases lim d (elim b [ true ↦ begun lim d | false ↦ notBegun lim ])

@@ -115,11 +115,15 @@ names-once of ts array n e =
         z) (all-from-at test 0 ts p blankToken h l)
 
 -- what stands in a list is counted there
-pub count-at : (xs : List ℕ) (k : ℕ) → k < length xs → 0 < occurrences (getD xs k 0) xs
+pub occurrences-here : (n : ℕ) (xs : List ℕ) → occurrences n (n ∷ xs) ≡ suc (occurrences n xs)
 unfolding occurrences
-count-at [] k l = absurd (omega arith)
-count-at (x ∷ xs) zero l = rw (eqb-same x) (omega arith)
-count-at (x ∷ xs) (suc k) l = let z = count-at xs k (omega arith) in omega arith
+occurrences-here n xs = rw (eqb-same n) (omega arith)
+
+pub occurrences-at : (xs : List ℕ) (k : ℕ) → k < length xs → 0 < occurrences (getD xs k 0) xs
+unfolding occurrences
+occurrences-at [] k l = absurd (omega arith)
+occurrences-at (x ∷ xs) zero l = rw (eqb-same x) (omega arith)
+occurrences-at (x ∷ xs) (suc k) l = let z = occurrences-at xs k (omega arith) in omega arith
 
 -- each place that the order names is in the table, and the token there is of the kind
 module _ (of : State → Bool) (ts : List Token) (array : List ℕ) (n : ℕ) (o : NamesOnce of ts array n) (k : ℕ) (l : k < n) where
@@ -137,7 +141,7 @@ module _ (of : State → Bool) (ts : List Token) (array : List ℕ) (n : ℕ) (o
   order-names =
       once-true _
       (subst (λ i. 0 < i) (o .counts (getD array k 0) order-inside)
-      (subst (λ p. 0 < occurrences p (take n array)) at-take (count-at (take n array) k short)))
+      (subst (λ p. 0 < occurrences p (take n array)) at-take (occurrences-at (take n array) k short)))
 
 -- what a ready token's state is
 pub ready-state : (s : State) → isReady s ≡ true → s ≡ states.Ready

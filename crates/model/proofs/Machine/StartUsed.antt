@@ -13,7 +13,7 @@ use Rattle.model.specs.Machine.Limits.{Limits}
 use Rattle.model.specs.Machine.Blank.{blankToken, blankCell, blankMachine, tokenAt}
 use Rattle.model.specs.Machine.Active.{isActive, underSet, upward}
 use Rattle.model.specs.Machine.State.{isLive}
-use Rattle.model.specs.Machine.InUse.{tokensUsed, cellsUsed, marked}
+use Rattle.model.specs.Machine.InUse.{tokensUsed, cellsUsed, marked, Within}
 use Rattle.model.specs.Machine.Start.{start, startToken, startMachine}
 use Rattle.model.specs.declared.token.Place.the-variants as places
 use Rattle.model.specs.declared.token.Token.{Token}
@@ -27,7 +27,6 @@ use Rattle.model.proofs.Machine.InUse.{tokens-used, cells-used}
 use Rattle.model.proofs.Machine.Refused.{StartCases, start-cases}
 use Rattle.model.proofs.Machine.Inside.{Inside, With, fits-blank, tokens-inside, cells-inside, inside-token}
 use Rattle.model.proofs.Machine.WrittenTokens.{fits-same}
-use Rattle.model.proofs.Machine.Used.{Within}
 use Rattle.job.proofs.Lists.{replicate-at}
 
 None : ℕ → Type 0

@@ -11,7 +11,7 @@ use Rattle.model.specs.Machine.Limits.{Limits}
 use Rattle.model.specs.Machine.Blank.{blankToken, tokenAt, cellAt}
 use Rattle.model.specs.Machine.Active.{isActive, underSet}
 use Rattle.model.specs.Machine.State.{isLive}
-use Rattle.model.specs.Machine.InUse.{tokensUsed, cellsUsed, marked, sweep}
+use Rattle.model.specs.Machine.InUse.{tokensUsed, cellsUsed, marked, Within, sweep}
 use Rattle.model.specs.Machine.Rules.{notUnderSet}
 use Rattle.model.specs.Machine.Step.{hasTokenPlace, hasCellPlace}
 use Rattle.model.specs.declared.token.Token.{Token}
@@ -22,12 +22,8 @@ use Rattle.model.proofs.Machine.Marks.{Marked, marked-inside, marked-in
 use Rattle.model.proofs.Machine.Reach.{Names}
 use Rattle.model.proofs.Machine.InUse.{tokens-used, cells-used}
 use Rattle.model.proofs.Machine.Rules.{EachRuleHolds}
-use Rattle.model.proofs.Machine.Inside.{Fits, Inside, With, tokens-inside, cells-inside, inside-finish}
+use Rattle.model.proofs.Machine.Inside.{Fits, Inside, With, tokens-inside, cells-inside, inside-sweep}
 use Rattle.model.proofs.Machine.TableRows.{live-inside}
-
--- in use: no more than the limits
-abbrev pub Within : Limits → Machine → Type 0
-Within lim m = (marked (tokensUsed m) ≤ lim .tokens) × (marked (cellsUsed m) ≤ lim .cells)
 
 live-active : (cs : List Cell) (t : Token) → notUnderSet cs t ≡ true → isLive (t .state) ≡ true → isActive cs t ≡ true
 unfolding notUnderSet isActive
@@ -110,7 +106,7 @@ module _ (lim : Limits) (d : Dag) (m : Machine) (rules : EachRuleHolds lim d m) 
 module _ (lim : Limits) (d : Dag) (m : Machine) (old : Within lim m) where
   pub none-new : (o : Machine) → InsideUsed m (Used m) (UsedCell m) (o .tokens) (o .cells) → Within lim (sweep o)
   none-new o h =
-      let f = inside-finish o h in
+      let f = inside-sweep o h in
       let x = tokens-same m (sweep o) f in
       let y = cells-same m (sweep o) f in
       let z = old .0 in
@@ -124,7 +120,7 @@ module _ (lim : Limits) (d : Dag) (m : Machine) (old : Within lim m) where
       → Within lim (sweep o)
   unfolding hasTokenPlace
   token-new o q t h =
-      let f = inside-finish o h in
+      let f = inside-sweep o h in
       let x = tokens-one m (sweep o) q f in
       let y = cells-same m (sweep o) f in
       let z = ltb-lt (marked (tokensUsed m)) (lim .tokens) t in
@@ -139,7 +135,7 @@ module _ (lim : Limits) (d : Dag) (m : Machine) (old : Within lim m) where
       → Within lim (sweep o)
   unfolding hasTokenPlace hasCellPlace
   both-new o q c t k h =
-      let f = inside-finish o h in
+      let f = inside-sweep o h in
       let x = tokens-one m (sweep o) q f in
       let y = cells-one m (sweep o) c f in
       let z = ltb-lt (marked (tokensUsed m)) (lim .tokens) t in

@@ -1,4 +1,4 @@
--- "Tokens and cells in use stay within the limits after any accepted call from a record within them", for tables of any size and any
+-- Tokens and cells in use stay within the limits after any accepted call from a record within them, for tables of any size and any
 -- limits: the token that acts, or is answered, is alive, so it is in use and all that it names. Assumes nothing.
 use mathlib.Core.Path.{_≡_, refl, sym, subst}
 use mathlib.Core.Bool.{Bool, true, false}
@@ -13,7 +13,7 @@ use Rattle.job.specs.Node.{Dag, nodeAt}
 use Rattle.model.specs.Machine.Limits.{Limits}
 use Rattle.model.specs.Machine.Blank.{tokenAt}
 use Rattle.model.specs.Machine.State.{isLive, isReady, handleOf}
-use Rattle.model.specs.Machine.InUse.{sweep}
+use Rattle.model.specs.Machine.InUse.{sweep, Within}
 use Rattle.model.specs.Machine.Reply.{isRefused}
 use Rattle.model.specs.Machine.Update as Update
 use Rattle.model.specs.Machine.Update.{queueOf, waitsOf}
@@ -30,7 +30,7 @@ use Rattle.model.proofs.Machine.Refused.{After, after-outcome, StepAcce
 use Rattle.model.proofs.Machine.Rules.{EachRuleHolds, each-rule-holds, names-once, order-names, ready-live}
 use Rattle.model.proofs.Machine.Inside.{inside-put}
 use Rattle.model.proofs.Machine.WrittenTokens.{fits-same}
-use Rattle.model.proofs.Machine.Used.{Within, Used, used-fits, live-used, inside-old, none-new}
+use Rattle.model.proofs.Machine.Used.{Used, used-fits, live-used, inside-old, none-new}
 use Rattle.model.proofs.Machine.ActsWithin.{acted}
 
 open-live : (h : ℕ) (s : State) → forSome (eqb h) (handleOf s) ≡ true → isLive s ≡ true

@@ -114,9 +114,9 @@ module _ {u : Token} {p : ℕ} (ready : isReady (u .state) ≡ true) where
       (subst (λ (t : Token). isActive (m .cells) t ≡ true) (sym (h .token))
       (live-active (m .cells) u (ready-live (u .state) ready) (h .clear)))
 
-  pub unharmed-finish : (m : Machine) → Unharmed u p m → tokenAt (sweep m .tokens) p ≡ u
+  pub unharmed-sweep : (m : Machine) → Unharmed u p m → tokenAt (sweep m .tokens) p ≡ u
   unfolding sweep tokenAt
-  unharmed-finish m h =
+  unharmed-sweep m h =
       kept-marked blankToken (tokensUsed m) (m .tokens) p (tokens-used (m .tokens) (m .cells) .size) (unharmed-marked m h) ∙ h .token
 
 -- the token at a position of the queue, unharmed by the rules; and standing, once it is untouched
@@ -133,7 +133,7 @@ untouched-stands m k after k′ r h =
     record {
       queued = inside;
       place = named;
-      token = subst (λ p. tokenAt (sweep after .tokens) p ≡ queuedToken m k) (sym named) (unharmed-finish r after (h .unharmed));
+      token = subst (λ p. tokenAt (sweep after .tokens) p ≡ queuedToken m k) (sym named) (unharmed-sweep r after (h .unharmed));
     }
   where
     inside : k′ < after .queued

@@ -10,7 +10,7 @@ use lib.ListN.{length, set, length-set}
 use lib.Seq.{set-out}
 use lib.Dec.{eqb}
 use Rattle.model.specs.Machine.Blank.{blankCell, cellAt, hasValue}
-use Rattle.model.specs.Machine.Active.{isSet, upward, underSet, within}
+use Rattle.model.specs.Machine.Active.{cellIsSet, upward, underSet, within}
 use Rattle.model.specs.declared.token.Held.the-variants as helds
 use Rattle.model.specs.declared.token.Place.{Place}
 use Rattle.model.specs.declared.token.Place.the-variants as places
@@ -63,13 +63,13 @@ module _ (test : ℕ → Cell → Bool) (cs : List Cell) where
       up-at n c (cellAt cs c) refl (up-here (suc n) c e) (up-less n (cellAt cs c .parent) (up-further (suc n) c e))
 
 abbrev setTest : ℕ → Cell → Bool
-setTest c k = isSet k
+setTest c k = cellIsSet k
 
 abbrev pub unsetCell : Place → Cell
 unsetCell q = record { parent = q; value = helds.Nothing }
 
-unset-cell : (q : Place) → isSet (unsetCell q) ≡ false
-unfolding isSet hasValue
+unset-cell : (q : Place) → cellIsSet (unsetCell q) ≡ false
+unfolding cellIsSet hasValue
 unset-cell q = refl
 
 -- a blank cell is under none

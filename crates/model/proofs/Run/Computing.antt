@@ -13,7 +13,8 @@ unfolding Rattle.job.specs.Construct.own Rattle.job.specs.Construct.nodeCount 
     Rattle.job.specs.Read.entryAt Rattle.job.specs.Read.readParam Rattle.job.specs.Read.readParamList Rattle.job.specs.Read.readCall
     Rattle.job.specs.Read.readJoin Rattle.job.specs.Read.readExp Rattle.job.specs.Read.isDefinition Rattle.job.specs.Read.readDefinition
     Rattle.job.specs.Read.readProgram Rattle.job.specs.Read.leftovers Rattle.job.specs.Read.callHolds Rattle.job.specs.Read.definitionsHold
-    Rattle.job.specs.Read.readEntries Rattle.job.specs.Read.readBytes Rattle.job.specs.Read.readerAnswer Rattle.job.specs.Read.readTable
+    Rattle.job.specs.Read.readEntries Rattle.job.specs.Read.readSizes Rattle.job.specs.Read.readBytes
+    Rattle.job.specs.Read.readerAnswer Rattle.job.specs.Read.readTable
     Rattle.job.specs.Syntax.levels Rattle.job.specs.Syntax.scopeLeft Rattle.job.specs.Syntax.scopeRight Rattle.job.specs.Words.paramWords
     Rattle.job.specs.Words.nodeWords Rattle.job.specs.Words.paramOf Rattle.job.specs.Words.paramsFrom Rattle.job.specs.Words.nodeBy
     Rattle.job.specs.Words.decodedNode Rattle.job.specs.Words.nodesFrom Rattle.job.specs.Words.bodiesFrom Rattle.job.specs.Words.dagOf
@@ -26,7 +27,7 @@ unfolding Rattle.job.specs.Construct.own Rattle.job.specs.Construct.nodeCount 
     Rattle.model.specs.Output.Orcrun.turn Rattle.model.specs.Output.Orcrun.turnLines
     Rattle.model.specs.Output.Orcrun.runLines Rattle.model.specs.Output.Orcrun.tableLines
     Rattle.model.specs.Output.Orcrun.inputLines Rattle.model.specs.Output.Orcrun.orcrun
-    Rattle.model.specs.Machine.Active.isSet Rattle.model.specs.Machine.Active.upward
+    Rattle.model.specs.Machine.Active.cellIsSet Rattle.model.specs.Machine.Active.upward
     Rattle.model.specs.Machine.Active.underSet Rattle.model.specs.Machine.Active.within
     Rattle.model.specs.Machine.State.isLive Rattle.model.specs.Machine.Active.isActive
     Rattle.model.specs.Machine.Answer.holder Rattle.model.specs.Machine.Answer.answered

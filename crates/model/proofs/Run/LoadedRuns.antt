@@ -1,6 +1,6 @@
 -- The words that a table's dag is written as stand for the dag: the start on them is accepted, and whatever is called from there has the
 -- outcomes of the run of which demand 3 speaks, since the words decode to the construction. Assumes nothing.
-use mathlib.Core.Path.{_≡_, ap}
+use mathlib.Core.Path.{_≡_, _∙_, ap}
 use mathlib.Core.List.{List}
 use Prim.Native.Nat.{ℕ}
 use lib.ListN.{length}
@@ -14,6 +14,7 @@ use Rattle.model.specs.Machine.Start.{start}
 use Rattle.model.specs.Run.Call.{Call, runner, outcomeOf, machineAfter, eventsFrom, started}
 use Rattle.model.specs.declared.record.Machine.{Machine}
 use Rattle.model.specs.declared.reply.Reply.the-variants as replies
+use Rattle.model.specs.declared.reply.Outcome.{Outcome}
 use Rattle.job.proofs.Accepted.{accepted-well-formed}
 use Rattle.model.proofs.Machine.StartAccepted.{start-accepts, words-construct}
 
@@ -28,8 +29,8 @@ module _ (table : List ℕ) (p : Program) (read : readTable table ≡ accepted p
   pub loaded-starts : start paper (dagOf loaded) ≡ start paper (construct p)
   loaded-starts = ap (start paper) same
 
-  pub loaded-accepts : start paper (construct p) .reply ≡ replies.Done
-  loaded-accepts = start-accepts paper p (accepted-well-formed table p read)
+  pub loaded-accepts : start paper (dagOf loaded) .reply ≡ replies.Done
+  loaded-accepts = ap (λ (o : Outcome). o .reply) loaded-starts ∙ start-accepts paper p (accepted-well-formed table p read)
 
   pub loaded-calls : (m : Machine) (c : Call) → outcomeOf runner paper (dagOf loaded) m c ≡ outcomeOf runner paper (construct p) m c
   loaded-calls m c = ap (λ (d : Dag). outcomeOf runner paper d m c) same

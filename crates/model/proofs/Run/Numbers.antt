@@ -11,12 +11,14 @@ use Rattle.job.specs.Node.{Dag}
 use Rattle.job.specs.Notation.{_∥_, _<[_]<_, signal, goal, calling}
 use Rattle.model.specs.Machine.Limits.{Limits, limits, paper}
 use Rattle.model.specs.Machine.Blank.{blankMachine}
+use Rattle.model.specs.Machine.Reply.{refusalOf}
 use Rattle.model.specs.Machine.Start.{start}
 use Rattle.model.specs.Machine.Step.{step}
 use Rattle.model.specs.Machine.Answer.{answer}
 use Rattle.model.specs.Output.Line.{refused, textOfAll}
 use Rattle.model.specs.Output.Orcrun.{reportedLines, inputLines}
 use Rattle.model.specs.declared.record.Machine.{Machine}
+use Rattle.model.specs.declared.reply.Reply.the-variants as replies
 use Rattle.model.specs.declared.reply.Outcome.{Outcome}
 use Rattle.model.proofs.Run.Computing.{computing}
 
@@ -37,7 +39,7 @@ noDag = record { nodes = []; bodies = []; goal = 0 }
 -- refused calls, each under document 01's words
 abbrev pub refusals : List Outcome
 refusals =
-    -- "9: no token at that queue place"
+    -- "9: no ready token at the chosen place of the queue"
     step paper (dagOfGoal stop) (first paper stop) 1
     -- "10: fork, where or definition call with 64 tokens in use", here with 1
     ∷ step (limits 1 1 1) (dagOfGoal (signal ∥ signal)) (first (limits 1 1 1) (signal ∥ signal)) 0
@@ -58,6 +60,15 @@ pub numbers :
     ≡ map (λ n. refused n ∷ []) (9 ∷ 10 ∷ 11 ∷ 12 ∷ 13 ∷ 14 ∷ 14 ∷ 14 ∷ [])
 unfolding computing
 numbers = refl
+
+-- "A step tests 14, 9, then 10, 11 or 13": with both tables full a where is refused with 10, here with 1 token and no cell
+abbrev pub bothFull : Limits
+bothFull = record { tokenPlaces = 1; cellPlaces = 1; tokens = 1; cells = 0; calls = 1 }
+
+pub ten-before-eleven :
+    step bothFull (dagOfGoal (stop <[ 0 ]< stop)) (first bothFull (stop <[ 0 ]< stop)) 0 .reply ≡ replies.Refused (refusalOf 10)
+unfolding computing
+ten-before-eleven = refl
 
 -- the values beside a reply: those of an outside call in order, then zeros; all zeros beside another reply
 pub values-of-a-call :

@@ -16,15 +16,15 @@ use Rattle.model.specs.Machine.Blank.{tokenAt}
 use Rattle.model.specs.Machine.Rules.{rulesHold}
 use Rattle.model.specs.Machine.State.{isReady}
 use Rattle.model.specs.declared.record.Machine.{Machine}
-use Rattle.job.proofs.Test.{eq-eqb, eqb-same, ne-eqb}
-use Rattle.model.proofs.Machine.Rules.{each-rule-holds, NamesOnce, names-once, ready-live}
+use Rattle.job.proofs.Test.{eq-eqb, ne-eqb}
+use Rattle.model.proofs.Machine.Rules.{each-rule-holds, NamesOnce, names-once, occurrences-at, ready-live}
 use Rattle.model.proofs.Machine.TableRows.{live-inside}
 
 -- a number that is counted stands somewhere, and one that stands at two indices is counted twice
-count-index : (n : ℕ) (xs : List ℕ) → 0 < occurrences n xs → (i : ℕ) × (i < length xs) × (getD xs i 0 ≡ n)
+occurrences-index : (n : ℕ) (xs : List ℕ) → 0 < occurrences n xs → (i : ℕ) × (i < length xs) × (getD xs i 0 ≡ n)
 unfolding occurrences
-count-index n [] l = absurd (omega arith)
-count-index n (x ∷ xs) l = go (ℕ-discrete n x) (count-index n xs)
+occurrences-index n [] l = absurd (omega arith)
+occurrences-index n (x ∷ xs) l = go (ℕ-discrete n x) (occurrences-index n xs)
   where
     go : Dec (n ≡ x) → (0 < occurrences n xs → (i : ℕ) × (i < length xs) × (getD xs i 0 ≡ n))
         → (i : ℕ) × (i < length (x ∷ xs)) × (getD (x ∷ xs) i 0 ≡ n)
@@ -32,20 +32,14 @@ count-index n (x ∷ xs) l = go (ℕ-discrete n x) (count-index n xs)
     go (no e) f =
         let z : once (eqb n x) ≡ 0 = ap once (ne-eqb n x e) in let r = f (omega arith) in let k = r .1 in (suc (r .0), omega arith, r .2)
 
-count-at : (xs : List ℕ) (i : ℕ) → i < length xs → 0 < occurrences (getD xs i 0) xs
+occurrences-two : (xs : List ℕ) (i j : ℕ) → i < j → j < length xs → getD xs i 0 ≡ getD xs j 0 → 1 < occurrences (getD xs j 0) xs
 unfolding occurrences
-count-at [] i l = absurd (omega arith)
-count-at (x ∷ xs) zero l = let z : once (eqb x x) ≡ 1 = ap once (eqb-same x) in omega arith
-count-at (x ∷ xs) (suc i) l = let z = count-at xs i (omega arith) in omega arith
-
-count-two : (xs : List ℕ) (i j : ℕ) → i < j → j < length xs → getD xs i 0 ≡ getD xs j 0 → 1 < occurrences (getD xs j 0) xs
-unfolding occurrences
-count-two [] i j a l e = absurd (omega arith)
-count-two (x ∷ xs) i zero a l e = absurd (omega arith)
-count-two (x ∷ xs) zero (suc j) a l e =
+occurrences-two [] i j a l e = absurd (omega arith)
+occurrences-two (x ∷ xs) i zero a l e = absurd (omega arith)
+occurrences-two (x ∷ xs) zero (suc j) a l e =
     let z : once (eqb (getD xs j 0) x) ≡ 1 = ap once (eq-eqb (getD xs j 0) x (sym e)) in
-    let y = count-at xs j (omega arith) in omega arith
-count-two (x ∷ xs) (suc i) (suc j) a l e = let z = count-two xs i j (omega arith) (omega arith) e in omega arith
+    let y = occurrences-at xs j (omega arith) in omega arith
+occurrences-two (x ∷ xs) (suc i) (suc j) a l e = let z = occurrences-two xs i j (omega arith) (omega arith) e in omega arith
 
 module _ (lim : Limits) (d : Dag) (m : Machine) (rules : rulesHold lim d m ≡ true) (p : ℕ)
     (ready : isReady (tokenAt (m .tokens) p .state) ≡ true) where
@@ -68,13 +62,13 @@ module _ (lim : Limits) (d : Dag) (m : Machine) (rules : rulesHold lim d m ≡ t
   apart i j a l e f =
       let here : getD order j 0 ≡ p = at j l ∙ f in
       let there : getD order i 0 ≡ p = at i (omega arith) ∙ e in
-      let z : 1 < occurrences (getD order j 0) order = count-two order i j a (omega (arith, long)) (there ∙ sym here) in
+      let z : 1 < occurrences (getD order j 0) order = occurrences-two order i j a (omega (arith, long)) (there ∙ sym here) in
       let y : occurrences (getD order j 0) order ≡ 1 = ap (λ n. occurrences n order) here ∙ once-named in
       omega arith
 
   pub one-position : (k : ℕ) × (k < m .queued) × (getD (m .queue) k 0 ≡ p) × ((j : ℕ) → j < m .queued → getD (m .queue) j 0 ≡ p → j ≡ k)
   one-position =
-      let found = count-index p order (let z = once-named in omega arith) in
+      let found = occurrences-index p order (let z = once-named in omega arith) in
       let k : ℕ = found .0 in
       let l : k < m .queued = omega (arith, long, found .1) in
       let e : getD (m .queue) k 0 ≡ p = sym (at k l) ∙ found .2 in

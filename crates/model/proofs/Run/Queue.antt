@@ -19,21 +19,16 @@ use Rattle.model.specs.declared.token.State.{State}
 use Rattle.model.specs.declared.token.Token.{Token}
 use Rattle.model.specs.declared.cell.Cell.{Cell}
 use Rattle.model.specs.declared.record.Machine.{Machine}
-use Rattle.model.proofs.Machine.Rules.{EachRuleHolds, each-rule-holds, NamesOnce, names-once, order-inside, order-names, count-at}
-use Rattle.model.proofs.Machine.Rules.{ready-live}
-use Rattle.job.proofs.Test.{eqb-eq, eqb-same, ltb-lt, and-left, and-right, all-at, not-true, once-small}
-
--- what stands in a list is counted
-count-head : (n : ℕ) (q : List ℕ) → occurrences n (n ∷ q) ≡ suc (occurrences n q)
-unfolding occurrences
-count-head n q = rw (eqb-same n) (omega arith)
+use Rattle.model.proofs.Machine.Rules.{EachRuleHolds, each-rule-holds, NamesOnce, names-once, order-inside, order-names}
+use Rattle.model.proofs.Machine.Rules.{occurrences-here, occurrences-at, ready-live}
+use Rattle.job.proofs.Test.{eqb-eq, ltb-lt, and-left, and-right, all-at, not-true, once-small}
 
 -- what stands at the front and again behind is counted twice
 counted-twice : (q : List ℕ) (k : ℕ) → suc k < length q → getD q 0 0 ≡ getD q (suc k) 0 → 1 < occurrences (getD q (suc k) 0) q
 counted-twice [] k l e = absurd (omega arith)
 counted-twice (x ∷ q) k l e =
     subst (λ n. 1 < occurrences n (x ∷ q)) e
-    (let z = count-head x q in let c = subst (λ n. 0 < occurrences n q) (sym e) (count-at q k (omega arith)) in omega arith)
+    (let z = occurrences-here x q in let c = subst (λ n. 0 < occurrences n q) (sym e) (occurrences-at q k (omega arith)) in omega arith)
 
 once-twice : (b : Bool) → 1 < once b → ⊥
 once-twice b l = let z = once-small b in omega arith

@@ -1,4 +1,4 @@
--- "Tokens and cells in use stay within the limits": after any list of calls on the start, for any limits with a token. The start is within
+-- Tokens and cells in use stay within the limits after any list of calls on the start, for any limits with a token. The start is within
 -- them, a refused call changes nothing, and an accepted one was tested. Assumes nothing.
 use mathlib.Core.Path.{_≡_}
 use mathlib.Core.Bool.{Bool, false}
@@ -6,11 +6,11 @@ use mathlib.Core.List.{List}
 use Prim.Native.Nat.{_≤_}
 use Rattle.job.specs.Node.{Dag}
 use Rattle.model.specs.Machine.Limits.{Limits}
+use Rattle.model.specs.Machine.InUse.{Within}
 use Rattle.model.specs.Machine.Reply.{isRefused}
 use Rattle.calculus.specs.Event.{Event}
 use Rattle.model.specs.Run.Call.{Call, step, answer, runner, outcomeOf, machineAfter, started}
 use Rattle.model.specs.declared.record.Machine.{Machine}
-use Rattle.model.proofs.Machine.Used.{Within}
 use Rattle.model.proofs.Machine.Within.{step-within, answer-within}
 use Rattle.model.proofs.Machine.StartUsed.{start-within}
 use Rattle.model.proofs.Run.Passage.{Passage, passage}

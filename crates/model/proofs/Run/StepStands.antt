@@ -39,7 +39,7 @@ use Rattle.model.proofs.Machine.InUse.{tokens-used}
 use Rattle.model.proofs.Machine.Places.{next-place-free}
 use Rattle.model.proofs.Machine.Refused.{After, after-unless, after-outcome, StepAccepted, step-accepted}
 use Rattle.model.proofs.Run.Queue.{QueueRulesHold, queue-rules-hold, tokens-sized, lasttoken-inside}
-use Rattle.model.proofs.Run.Survivors.{among, Behind, filter-finds, survivors-all, survivors-pass, fate-stays}
+use Rattle.model.proofs.Run.Survivors.{among, Behind, select-finds, survivors-all, survivors-pass, fate-stays}
 use Rattle.model.proofs.Run.ChokeStands.{readyThen, queueThen, within-ready, untouched-choked}
 use Rattle.model.proofs.Run.Bystander.{Unharmed, Untouched, queue-orders, untouched-orders, untouched-waits, untouched-enqueue}
 use Rattle.model.proofs.Run.Bystander.{untouched-put, untouched-counts, untouched-token, untouched-cell, unharmed-marked}
@@ -267,7 +267,7 @@ module _ (lim : Limits) (d : Dag) (m : Machine) (h : QueueRulesHold m) (k : ℕ)
         here = sym position ∙ s
 
         found : Behind (select (readyThen c taken) (take k both)) (queueThen c taken) (getD both k 0)
-        found = filter-finds (readyThen c taken) both k both-long (not-false _ (sym (both-ended k (omega arith)) ∙ f))
+        found = select-finds (readyThen c taken) both k both-long (not-false _ (sym (both-ended k (omega arith)) ∙ f))
 
   -- any instruction: at choke by its own law, else no cell is set and the token watched moves up by one
   module _ (fits : lim .tokens ≤ lim .tokenPlaces) (holds : rulesHold lim d m ≡ true) where

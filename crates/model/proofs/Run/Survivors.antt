@@ -14,13 +14,13 @@ use Rattle.model.specs.declared.record.Machine.{Machine}
 use Rattle.job.proofs.Test.{holds-or-fails}
 
 -- what a filter leaves of a list, and where
-filter-yes : {A : Type 0} (f : A → Bool) (x : A) (xs : List A) → f x ≡ true → select f (x ∷ xs) ≡ x ∷ select f xs
+select-yes : {A : Type 0} (f : A → Bool) (x : A) (xs : List A) → f x ≡ true → select f (x ∷ xs) ≡ x ∷ select f xs
 unfolding select
-filter-yes f x xs e = rw (e, select)
+select-yes f x xs e = rw (e, select)
 
-filter-no : {A : Type 0} (f : A → Bool) (x : A) (xs : List A) → f x ≡ false → select f (x ∷ xs) ≡ select f xs
+select-no : {A : Type 0} (f : A → Bool) (x : A) (xs : List A) → f x ≡ false → select f (x ∷ xs) ≡ select f xs
 unfolding select
-filter-no f x xs e = rw (e, select)
+select-no f x xs e = rw (e, select)
 
 -- the position that the k-th of a list has among those that pass
 abbrev pub among : (ℕ → Bool) → List ℕ → ℕ → ℕ
@@ -31,29 +31,29 @@ pub record Behind (ys zs : List ℕ) (x : ℕ) : Type 0 where
   pub inside : length ys < length zs
   pub found : getD zs (length ys) 0 ≡ x
 
-filter-nil : (f : ℕ → Bool) → select f [] ≡ []
+select-nil : (f : ℕ → Bool) → select f [] ≡ []
 unfolding select
-filter-nil f = refl
+select-nil f = refl
 
-pub filter-finds :
+pub select-finds :
     (f : ℕ → Bool) (xs : List ℕ) (k : ℕ)
     → k < length xs
     → f (getD xs k 0) ≡ true
     → Behind (select f (take k xs)) (select f xs) (getD xs k 0)
-filter-finds f [] k l e = absurd (omega arith)
-filter-finds f (x ∷ xs) zero l e =
-    subst₂ (λ ys zs. Behind ys zs x) (sym (filter-nil f)) (sym (filter-yes f x xs e)) (record { inside = omega arith; found = refl })
-filter-finds f (x ∷ xs) (suc k) l e = go (holds-or-fails (f x)) (filter-finds f xs k (omega arith) e)
+select-finds f [] k l e = absurd (omega arith)
+select-finds f (x ∷ xs) zero l e =
+    subst₂ (λ ys zs. Behind ys zs x) (sym (select-nil f)) (sym (select-yes f x xs e)) (record { inside = omega arith; found = refl })
+select-finds f (x ∷ xs) (suc k) l e = go (holds-or-fails (f x)) (select-finds f xs k (omega arith) e)
   where
     go :
         (f x ≡ true) ⊎ (f x ≡ false)
         → Behind (select f (take k xs)) (select f xs) (getD xs k 0)
         → Behind (select f (x ∷ take k xs)) (select f (x ∷ xs)) (getD xs k 0)
     go (inl p) r =
-        subst₂ (λ ys zs. Behind ys zs (getD xs k 0)) (sym (filter-yes f x (take k xs) p)) (sym (filter-yes f x xs p))
+        subst₂ (λ ys zs. Behind ys zs (getD xs k 0)) (sym (select-yes f x (take k xs) p)) (sym (select-yes f x xs p))
         (record { inside = omega (arith, r .inside); found = r .found })
     go (inr p) r =
-        subst₂ (λ ys zs. Behind ys zs (getD xs k 0)) (sym (filter-no f x (take k xs) p)) (sym (filter-no f x xs p)) r
+        subst₂ (λ ys zs. Behind ys zs (getD xs k 0)) (sym (select-no f x (take k xs) p)) (sym (select-no f x xs p)) r
 
 -- survivors: at most as many as were counted; all of them if none is ended; those that pass a test, if it tells who is ended
 module _ (d : Dag) (m : Machine) where
@@ -85,7 +85,7 @@ module _ (d : Dag) (m : Machine) where
       (f : ℕ → Bool) (i : ℕ) (xs : List ℕ) (n : ℕ) → n ≤ length xs
       → ((j : ℕ) → j < n → frontEnds d m (i + j) ≡ not (f (getD xs j 0)))
       → survivors d m i n ≡ among f xs n
-  survivors-pass f i xs zero l h = survivors-none i ∙ ap length (sym (filter-nil f))
+  survivors-pass f i xs zero l h = survivors-none i ∙ ap length (sym (select-nil f))
   survivors-pass f i [] (suc n) l h = absurd (omega arith)
   survivors-pass f i (x ∷ xs) (suc n) l h = go (f x) refl (survivors-pass f (suc i) xs n (omega arith) later)
     where
@@ -96,8 +96,8 @@ module _ (d : Dag) (m : Machine) where
       later j k = subst (λ k. frontEnds d m k ≡ not (f (getD xs j 0))) (omega arith) (h (suc j) (omega arith))
 
       go : (b : Bool) → f x ≡ b → survivors d m (suc i) n ≡ among f xs n → survivors d m i (suc n) ≡ length (select f (x ∷ take n xs))
-      go true e r = spared-one i n (front ∙ ap not e) ∙ (ap suc r ∙ ap length (sym (filter-yes f x (take n xs) e)))
-      go false e r = ended-one i n (front ∙ ap not e) ∙ (r ∙ ap length (sym (filter-no f x (take n xs) e)))
+      go true e r = spared-one i n (front ∙ ap not e) ∙ (ap suc r ∙ ap length (sym (select-yes f x (take n xs) e)))
+      go false e r = ended-one i n (front ∙ ap not e) ∙ (r ∙ ap length (sym (select-no f x (take n xs) e)))
 
   -- what it says of a token that it stays
   pub fate-stays : (k k′ : ℕ) → fate d m (suc k) ≡ stays k′ → (frontEnds d m (suc k) ≡ false) × (survivors d m 1 k ≡ k′)

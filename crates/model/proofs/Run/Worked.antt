@@ -1,5 +1,5 @@
--- Runs by computation, for rules that the marked runs do not show: a definition call does not wait, a handle is not given again, and a
--- callee has only its formals bound. Assumes nothing.
+-- Runs by computation, for rules that the marked runs do not show: a definition call does not wait, a handle is not given again, a callee
+-- has only its formals bound, and what else is named below. Each is true because the checker works the run out. Assumes nothing.
 use mathlib.Core.Path.{_≡_, refl}
 use mathlib.Core.List.{List, [], _∷_, _++_}
 use Prim.Native.Nat.{ℕ, _<_}
@@ -7,17 +7,23 @@ use native.Mathlib.Omega.{arith}
 use lib.ListN.{replicate}
 use lib.IntN.{pos}
 use Rattle.job.specs.Number.{Signed32, fits}
-use Rattle.job.specs.Syntax.{Program}
+use Rattle.job.specs.Syntax.{Program, stop}
 use Rattle.job.specs.Construct.{construct}
+use Rattle.job.specs.Notation.{_∥_, _<[_]<_, v, goal}
 use Rattle.model.specs.Machine.Limits.{paper}
-use Rattle.model.specs.Machine.Blank.{empty}
+use Rattle.model.specs.Machine.Blank.{empty, tokenAt}
+use Rattle.model.specs.Machine.Update.{queueOf}
 use Rattle.calculus.specs.Event.{Event}
 use Rattle.model.specs.Run.Call.{Call, Runner, runner, outcomeOf, eventsOf, eventsFrom, machineAfter, started}
 use Rattle.model.specs.Run.Follow.{queuedToken}
 use Rattle.model.specs.declared.token.Slot.the-variants as slots
+use Rattle.model.specs.declared.token.Held.the-variants as helds
+use Rattle.model.specs.declared.token.Place.the-variants as places
+use Rattle.model.specs.declared.token.State.the-variants as states
+use Rattle.model.specs.declared.token.Token.{Token}
 use Rattle.model.specs.declared.record.Machine.{Machine}
 use Rattle.job.proofs.Test.{lt-ltb}
-use Rattle.calculus.proofs.Programs.{mail-once, not-strict, same-number}
+use Rattle.calculus.proofs.Programs.{ask, tell, mail-once, not-strict, same-number}
 use Rattle.model.proofs.Run.Computing.{computing}
 
 -- so many steps in house order
@@ -65,3 +71,44 @@ pub callee-has-its-formals :
     queuedToken (after runner same-number (house 4)) 1 .binds ≡ record { slot = slots.Cell 0 } ∷ replicate 7 empty
 unfolding computing outcomeOf machineAfter
 callee-has-its-formals = refl
+
+-- "waiters become ready, longest wait first". (17(x) | 18(x)) <x< 16(): 18(x), which is at the higher place, waits before 17(x) does
+pub longest-wait-first :
+    events runner (goal ((tell 17 (v 0) ∥ tell 18 (v 0)) <[ 0 ]< ask 16))
+    (house 2 ++ (Call.step 2 ∷ Call.step 1 ∷ Call.step 0 ∷ answering 0 6 (omega arith) ∷ house 3))
+    ≡ Event.call 0 16 [] ∷ Event.answer 0 (pos 6) ∷ Event.call 1 18 (pos 6 ∷ []) ∷ Event.call 2 17 (pos 6 ∷ []) ∷ []
+unfolding computing outcomeOf eventsOf eventsFrom
+longest-wait-first = refl
+
+-- "A ready token goes to the back of the queue, left before right", at where: 17() <x< 16()
+pub left-before-right :
+    events runner (goal (ask 17 <[ 0 ]< ask 16)) (house 3) ≡ Event.call 0 17 [] ∷ Event.call 1 16 [] ∷ []
+unfolding computing outcomeOf eventsOf eventsFrom
+left-before-right = refl
+
+-- "A new record takes the next place not in use before the call, after the last one given". (stop <x< stop) | (stop <x< stop): the left
+-- where is given token 2 and cell 0, which are blank again before the right one acts; it is given token 3 and cell 1
+abbrev pub afterTwoPrunes : Machine
+afterTwoPrunes =
+    after runner (goal ((stop <[ 0 ]< stop) ∥ (stop <[ 0 ]< stop)))
+    (house 2 ++ (Call.step 1 ∷ Call.step 1 ∷ Call.step 0 ∷ []))
+
+pub after-the-last-given : (queueOf afterTwoPrunes ≡ 1 ∷ 3 ∷ []) × (tokenAt (afterTwoPrunes .tokens) 3 .cell ≡ places.At 1)
+unfolding computing outcomeOf machineAfter
+after-the-last-given = (refl, refl)
+
+-- "What a line does not name is copied from the token acted on", on the run of `callee-has-its-formals`: the token at E(y) has the value 4
+-- and keeps it as a frame; so does the right side at 16() when it is called out
+abbrev frameLeft : Token
+frameLeft = tokenAt (after runner same-number (house 4) .tokens) 0
+
+abbrev tokenCalledOut : Token
+tokenCalledOut = tokenAt (after runner same-number (house 5) .tokens) 1
+
+pub frame-keeps-its-value : (frameLeft .state ≡ states.Frame) × (frameLeft .value ≡ helds.Value (pos 4))
+unfolding computing outcomeOf machineAfter
+frame-keeps-its-value = (refl, refl)
+
+pub called-out-keeps-its-value : (tokenCalledOut .state ≡ states.Called 0) × (tokenCalledOut .value ≡ helds.Value (pos 4))
+unfolding computing outcomeOf machineAfter
+called-out-keeps-its-value = (refl, refl)

@@ -26,18 +26,18 @@ use Rattle.model.specs.declared.token.State.the-variants as states
 use Rattle.model.specs.declared.token.Token.{Token}
 use Rattle.model.specs.declared.cell.Cell.{Cell}
 use Rattle.model.specs.declared.record.Machine.{Machine}
-use Rattle.job.proofs.Test.{clash, ne-eqb, not-true, count-append}
+use Rattle.job.proofs.Test.{clash, ne-eqb, not-true, occurrences-append}
 use Rattle.model.proofs.Machine.Choke.{choke-at, choke-ends}
 use Rattle.simulation.proofs.AbstractMachine as Abstract
 use Rattle.simulation.proofs.AbstractMachine.{Binding, Frame, at, Store, withSet, isOutOf, outOf, actsAt}
-use Rattle.simulation.proofs.Store.{_∈_, set-same, set-other}
+use Rattle.simulation.proofs.Store.{_is-in_, set-same, set-other}
 use Rattle.model.proofs.Sees.Labels.{Labels, nodeMeant, programOf}
 use Rattle.model.proofs.Sees.View.{held, World, Nested, StateSeen, ready, waiting, called, Unset, CellSeen, CellsSeen, root, below}
 use Rattle.model.proofs.Sees.View.{PlaceSeen, TokenSeen, sees, TokensSeen, nobody, also, FrameSeen, frameAt, frame-seen, Kept}
 use Rattle.model.proofs.Sees.View.{Closed, place-keep, tokens-append}
 use Rattle.model.proofs.Sees.Seen.{Core, world, sees-tables}
 use Rattle.model.proofs.Sees.Others.{Others}
-use Rattle.model.proofs.Sees.WithinSeen.{not-any, any-first, any-rest, within-seen}
+use Rattle.model.proofs.Sees.WithinSeen.{not-any, some-first, some-rest, within-seen}
 use Rattle.model.proofs.Sees.Moving.{value-there, value-optional, place-as}
 use Rattle.model.proofs.Sees.Agrees.{Acting, Shows, Agrees}
 use Rattle.model.proofs.Machine.WrittenTokens.{waiting-live}
@@ -158,7 +158,7 @@ module _ (M : Labels) (W : World) (c i : ℕ) (s : CellSeen W c i) (w : Held) (v
   -- the frame of a token outside is outside
   frame-outside : {n : ℕ} {U : List ℕ} {F : List Frame} (q : ℕ) → forSome (eqb i) U ≡ false → Nested M n U F → FrameSeen W M q F → Outside q
   frame-outside q f o (frameAt {U = U} l z b) =
-      within-seen s (b .cell) ∙ any-rest (eqb i) (o .own) U (ap (forSome (eqb i)) (sym (o .parts)) ∙ f)
+      within-seen s (b .cell) ∙ some-rest (eqb i) (o .own) U (ap (forSome (eqb i)) (sym (o .parts)) ∙ f)
 
   choke-closed : Closed M Outside (λ b. Unit) W
   choke-closed =
@@ -185,10 +185,10 @@ module _ (M : Labels) (W : World) (c i : ℕ) (s : CellSeen W c i) (w : Held) (v
       subst (λ t. TokenSeen chokedWorld M t x) (sym (spared p o))
       (token-woken (waitsAt c (tokenAt (W .tokens) p .state)) refl
       (place-keep choke-kept choke-closed (choke-closed .token p o z) z)
-      (λ k m. set-other (W .store) i k v (λ f. clear (subst (λ y. y ∈ U) f m)) ∙ un k m)
+      (λ k m. set-other (W .store) i k v (λ f. clear (subst (λ y. y is-in U) f m)) ∙ un k m)
       st)
     where
-      clear : i ∈ U → ⊥
+      clear : i is-in U → ⊥
       clear = not-any i U (sym (within-seen s (z .cell)) ∙ o)
 
   -- the abstract machine ends the same tokens
@@ -233,7 +233,7 @@ module _ (M : Labels) (W : World) (c i : ℕ) (s : CellSeen W c i) (w : Held) (v
             filtered-out stays r (o .before ++ o .behind) (ap not f)
             ∙ sym (ap alive (choke-at (W .cells) c (W .tokens) r ∙ choke-ends (W .cells) c (tokenAt (W .tokens) r) f))
         go false f =
-            let a = count-append r (o .before) (o .behind) in
+            let a = occurrences-append r (o .before) (o .behind) in
             let b = o .each r in
             let g : once (eqb r p) ≡ 0 = ap once (ne-eqb r p (λ x. clash (ap (λ y. inCell (tokenAt (W .tokens) y)) x ∙ ends) f)) in
             let h : alive (tokenAt (chokedWorld .tokens) r) ≡ alive (tokenAt (W .tokens) r) =
@@ -269,7 +269,7 @@ module _ (d : Dag) (M : Labels) (bodies : ℕ → Exp) (m : Machine) {name place
       }
     where
       ends : within (m .cells) c (t .cell) ≡ true
-      ends = ap (within (m .cells) c) f ∙ (within-seen s (below s z) ∙ any-first i X)
+      ends = ap (within (m .cells) c) f ∙ (within-seen s (below s z) ∙ some-first i X)
 
   pub choke-agrees : M .value n ≡ true
       → Agrees M W L R (m .calls) (chokeAt m t (t .cell))

@@ -46,7 +46,7 @@ use Rattle.simulation.proofs.AbstractMachine as Abstract
 use Rattle.simulation.proofs.AbstractMachine.{Binding, Frame, at, Store, state, labelOf, after, Move, startAt}
 use Rattle.model.proofs.Sees.Labels.{Labels, programOf, Flow}
 use Rattle.model.proofs.Sees.View.{World}
-use Rattle.model.proofs.Sees.Seen.{world, Sees, seenAs, finish-sees}
+use Rattle.model.proofs.Sees.Seen.{world, Sees, seenAs, sweep-sees}
 use Rattle.model.proofs.Sees.Agrees.{Acting, Shows, Agrees}
 use Rattle.model.proofs.Sees.ActsAgree.{Taken, taken, take-ready, act-agrees}
 use Rattle.model.proofs.Sees.AnswerAgrees.{holder-called, Pending, pending, find-pending, answered-becomes}
@@ -113,10 +113,10 @@ module _ (M : Labels) (W : World) (L R : List Abstract.Token) (h : ℕ) (x : Abs
       → (eventsBy (step place) (outcome before e) ≡ shown (labelOf x) [])
       × Sees M (outcome before e .machine) (after L R (W .store) (W .new) h x)
   unfolding Shows outcome accepted eventsOf isRefused shown
-  shown-by (moves m) b ok = (ap (λ a. shown a []) (sym (b .label)), finish-sees m (b .machine))
-  shown-by (waits m) b ok = (ap (λ a. shown a []) (sym (b .label)), finish-sees m (b .machine))
-  shown-by (publishes v m) b ok = (ap (λ a. shown a []) (sym (b .label)), finish-sees m (b .machine))
-  shown-by (calls k s vs m) b ok = (called-shows place k s vs m ∙ ap (λ a. shown a []) (sym (b .label)), finish-sees m (b .machine))
+  shown-by (moves m) b ok = (ap (λ a. shown a []) (sym (b .label)), sweep-sees m (b .machine))
+  shown-by (waits m) b ok = (ap (λ a. shown a []) (sym (b .label)), sweep-sees m (b .machine))
+  shown-by (publishes v m) b ok = (ap (λ a. shown a []) (sym (b .label)), sweep-sees m (b .machine))
+  shown-by (calls k s vs m) b ok = (called-shows place k s vs m ∙ ap (λ a. shown a []) (sym (b .label)), sweep-sees m (b .machine))
   shown-by (refuses r) b ok = clash refl ok
 
 module _ (lim : Limits) (d : Dag) (M : Labels) (bodies : ℕ → Exp) (fits : Fitting lim) (flow : Flow d M) where
@@ -193,7 +193,7 @@ module _ (lim : Limits) (d : Dag) (M : Labels) (bodies : ℕ → Exp) (fits : Fi
 
       found : (p : ℕ) → Pending M W p h S → Locked (outcome m (answered m v (places.At p)))
       found p (pending split others view clear seen) = unfold answered outcome accepted isRefused eventsOf shown in
-          steps (Abstract.step (Move.answered v signed) split) refl (finish-sees _ (answered-becomes m h v others view clear seen .machine))
+          steps (Abstract.step (Move.answered v signed) split) refl (sweep-sees _ (answered-becomes m h v others view clear seen .machine))
 
       go : (q : Place) → holder h 0 (m .tokens) ≡ q → isRefused (outcome m (answered m v q) .reply) ≡ false
           → Locked (outcome m (answered m v q))

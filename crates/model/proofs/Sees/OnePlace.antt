@@ -32,7 +32,7 @@ use Rattle.model.specs.declared.token.Token.{Token}
 use Rattle.model.specs.declared.record.Machine.{Machine}
 use Rattle.simulation.proofs.AbstractMachine as Abstract
 use Rattle.simulation.proofs.AbstractMachine.{Binding, Frame, at, running, Store, actsAt}
-use Rattle.simulation.proofs.Store.{_∈_}
+use Rattle.simulation.proofs.Store.{_is-in_}
 use Rattle.model.proofs.Sees.Labels.{Labels, nodeMeant, programOf, Fresh, Follows}
 use Rattle.model.proofs.Sees.View.{World, cellsOfCaller, present, waiting, called, valued, BindingSeen, FrameSeen, frameAt}
 use Rattle.model.proofs.Sees.View.{frame-seen, TokenSeen, sees}
@@ -110,7 +110,7 @@ module _ (d : Dag) (M : Labels) (bodies : ℕ → Exp) (m : Machine) {name place
       goes-becomes m (A .others) _ silently _ refl refl refl
       (fits-as {t = tokenAt (m .tokens) f} refl refl refl (used-fits W f (tokens-of W .caller p (acting-used A) f c)))
       (sees (place-as {t = tokenAt (m .tokens) f} refl refl refl refl b)
-      (λ i h. A .clear i (subst (λ U. i ∈ U) (sym z) h))
+      (λ i h. A .clear i (subst (λ U. i is-in U) (sym z) h))
       (ready-seen refl (value-held (value-there e (A .value)))))
 
   pub return-agrees : M .value n ≡ true → M .nest n ≡ 0 → Agrees M W L R (m .calls) (returned m p t (t .caller)) (does Node.return)

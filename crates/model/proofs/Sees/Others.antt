@@ -16,7 +16,7 @@ use Rattle.model.specs.Machine.InUse.{usedTokens}
 use Rattle.model.specs.declared.token.State.the-variants as states
 use Rattle.model.specs.declared.token.Token.{Token}
 use Rattle.model.specs.declared.cell.Cell.{Cell}
-use Rattle.job.proofs.Test.{clash, false-of, eqb-eq, eqb-same, ne-eqb, once-true, count-append}
+use Rattle.job.proofs.Test.{clash, false-of, eqb-eq, eqb-same, ne-eqb, once-true, occurrences-append}
 use Rattle.model.proofs.Machine.Marks.{Free, free-inside}
 use Rattle.model.proofs.Machine.Inside.{Fits}
 use Rattle.simulation.proofs.AbstractMachine as Abstract
@@ -96,7 +96,7 @@ others {A = A} {p = p} K (spot {Before = A₁} {Behind = A₂} e v l r) =
       rights = r;
       each =
           λ i.
-          let a = count-append i A₁ (p ∷ A₂) in
+          let a = occurrences-append i A₁ (p ∷ A₂) in
           let b : occurrences i A ≡ occurrences i (A₁ ++ (p ∷ A₂)) = ap (occurrences i) e in
           let c = K .each i in
           omega arith;
@@ -148,8 +148,8 @@ module _ {M : Labels} {W : World} {p : ℕ} {L R : List Abstract.Token} (o : Oth
               (tokens-append v (still (λ r l. listed-other r (omega arith)) (o .rights)));
           each =
               λ r.
-              let a = count-append r (o .before) (N ++ o .behind) in
-              let b = count-append r N (o .behind) in
+              let a = occurrences-append r (o .before) (N ++ o .behind) in
+              let b = occurrences-append r N (o .behind) in
               let z = o .each r in
               let y = c .live r in
               omega arith;

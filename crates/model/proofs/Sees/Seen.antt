@@ -12,7 +12,7 @@ use lib.ListN.{length, getD}
 use lib.Dec.{eqb}
 use Rattle.job.specs.Test.{occurrences, once}
 use Rattle.model.specs.Machine.Blank.{blankToken, blankCell, tokenAt, cellAt, hasValue}
-use Rattle.model.specs.Machine.Active.{isSet, upward, underSet, isActive}
+use Rattle.model.specs.Machine.Active.{cellIsSet, upward, underSet, isActive}
 use Rattle.model.specs.Machine.State.{isLive}
 use Rattle.model.specs.Machine.InUse.{usedTokens, usedCells, restBlanked, sweep}
 use Rattle.model.specs.declared.token.Held.{Held}
@@ -29,7 +29,7 @@ use Rattle.model.proofs.Machine.Inside.{Fits}
 use Rattle.model.proofs.Machine.Blanking.{length-kept, kept-marked, kept-cases}
 use Rattle.simulation.proofs.AbstractMachine as Abstract
 use Rattle.simulation.proofs.AbstractMachine.{Store, state}
-use Rattle.simulation.proofs.Store.{_∈_}
+use Rattle.simulation.proofs.Store.{_is-in_}
 use Rattle.model.proofs.Sees.Labels.{Labels}
 use Rattle.model.proofs.Sees.View.{held, World, CellSeen, CellsSeen, root, below, StateSeen, ready, waiting, called, Unset}
 use Rattle.model.proofs.Sees.View.{TokenSeen, sees, TokensSeen, nobody, also, Kept, Closed, token-keep, tokens-map}
@@ -58,8 +58,8 @@ sees-tables {M} {m} {ts} {cs} {S} {σ} {new} name place A et ec eh K =
     (subst (λ cs. Core M (world ts cs name place σ new) A S) (sym ec) K)))
 
 -- a token that is seen is active: it is live, and no cell above it is set
-unset-cell : (c : Cell) → held (c .value) ≡ none → isSet c ≡ false
-unfolding isSet hasValue
+unset-cell : (c : Cell) → held (c .value) ≡ none → cellIsSet c ≡ false
+unfolding cellIsSet hasValue
 unset-cell c e = go (c .value) e
   where
     go : (h : Held) → held h ≡ none → hasValue h ≡ false
@@ -69,7 +69,7 @@ unset-cell c e = go (c .value) e
 module _ {W : World} where
   -- a test that fails at each cell from a place upward
   pub up-fails : (test : ℕ → Cell → Bool) (k : ℕ) {q : Place} {U : List ℕ}
-      → ((c n : ℕ) → CellSeen W c n → n ∈ U → test c (cellAt (W .cells) c) ≡ false)
+      → ((c n : ℕ) → CellSeen W c n → n is-in U → test c (cellAt (W .cells) c) ≡ false)
       → CellsSeen W q U → upward test (W .cells) k q ≡ false
   unfolding upward
   up-fails test zero h v = refl
@@ -80,7 +80,7 @@ module _ {W : World} where
   pub not-under-set : {q : Place} {U : List ℕ} → Unset (W .store) U → CellsSeen W q U → underSet (W .cells) q ≡ false
   unfolding underSet
   not-under-set un v =
-      up-fails (λ c k. isSet k) (length (W .cells)) (λ c n s m. unset-cell (cellAt (W .cells) c) (sym (s .value) ∙ un n m)) v
+      up-fails (λ c k. cellIsSet k) (length (W .cells)) (λ c n s m. unset-cell (cellAt (W .cells) c) (sym (s .value) ∙ un n m)) v
 
 pub state-live : {M : Labels} {n : ℕ} {K : Abstract.Place} {s : State} {w : Held} {x : Abstract.Token} → StateSeen M n K s w x
     → isLive s ≡ true
@@ -217,6 +217,6 @@ module _ (W : World) where
           clean = K .clean;
         }
 
-pub finish-sees : {M : Labels} (m : Machine) {s : Abstract.State} → Sees M m s → Sees M (sweep m) s
+pub sweep-sees : {M : Labels} (m : Machine) {s : Abstract.State} → Sees M m s → Sees M (sweep m) s
 unfolding sweep
-finish-sees m (seenAs name place A K) = seenAs name place A (swept-core _ K)
+sweep-sees m (seenAs name place A K) = seenAs name place A (swept-core _ K)

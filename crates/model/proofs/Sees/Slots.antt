@@ -26,7 +26,7 @@ use Rattle.model.specs.declared.token.Held.{Held}
 use Rattle.model.specs.declared.token.Held.the-variants as helds
 use Rattle.job.proofs.Test.{eqb-eq, eqb-ne}
 use Rattle.simulation.proofs.AbstractMachine.{Binding, bindingAt, named, valueIn, inFront, valuesIn}
-use Rattle.simulation.proofs.Store.{_∈_}
+use Rattle.simulation.proofs.Store.{_is-in_}
 use Rattle.calculus.specs.Expression as Calculus
 use Rattle.model.proofs.Sees.Labels.{Fresh}
 use Rattle.model.proofs.Sees.View.{held, World, below, BindingSeen, valued, celled, BindingsSeen, nothing, binds, SlotsSeen}
@@ -90,13 +90,13 @@ module _ {W : World} where
 
   -- a variable is at its position in the scope
   pub variable-seen : {bs : List Bind} {scope : List ℕ} {B : List Binding} (x : ℕ)
-      → x ∈ scope → BindingsSeen W bs scope B → BindingSeen W (slotAt bs x) (bindingAt B (position x scope))
+      → x is-in scope → BindingsSeen W bs scope B → BindingSeen W (slotAt bs x) (bindingAt B (position x scope))
   unfolding position
   variable-seen x m nothing = absurd (List·Memᴰ·not-nil m)
   variable-seen {bs} x m (binds {x = y} {scope = scope} {b = b} {B = B} v r) = go (eqb x y) refl m (λ i. variable-seen x i r)
     where
-      go : (t : Bool) → eqb x y ≡ t → x ∈ (y ∷ scope)
-          → (x ∈ scope → BindingSeen W (slotAt bs x) (bindingAt B (position x scope)))
+      go : (t : Bool) → eqb x y ≡ t → x is-in (y ∷ scope)
+          → (x is-in scope → BindingSeen W (slotAt bs x) (bindingAt B (position x scope)))
           → BindingSeen W (slotAt bs x) (bindingAt (b ∷ B) (elim t as (λ t. ℕ) [ true ↦ 0 | false ↦ suc (position x scope) ]))
       go true e i f = subst (λ z. BindingSeen W (slotAt bs z) b) (sym (eqb-eq x y e)) v
       go false e (List·Memᴰ·head p) f = absurd (eqb-ne x y e p)
@@ -175,12 +175,12 @@ unbound-empty zero x = refl
 unbound-empty (suc n) zero = refl
 unbound-empty (suc n) (suc x) = unbound-empty n x
 
-levels-member : (n x : ℕ) → x < n → x ∈ levels n
+levels-member : (n x : ℕ) → x < n → x is-in levels n
 unfolding levels
 levels-member zero x l = absurd (omega arith)
 levels-member (suc n) x l = go (ℕ-discrete x n) (λ k. levels-member n x k)
   where
-    go : Dec (x ≡ n) → (x < n → x ∈ levels n) → x ∈ (n ∷ levels n)
+    go : Dec (x ≡ n) → (x < n → x is-in levels n) → x is-in (n ∷ levels n)
     go (yes e) f = List·Memᴰ·head e
     go (no e) f = List·Memᴰ·tail (f (omega arith))
 

@@ -26,7 +26,7 @@ use Rattle.model.proofs.Machine.Reach.{Names}
 use Rattle.model.proofs.Machine.Inside.{Fits}
 use Rattle.simulation.proofs.AbstractMachine as Abstract
 use Rattle.simulation.proofs.AbstractMachine.{Binding, Frame, frame, at, running, Store}
-use Rattle.simulation.proofs.Store.{_∈_}
+use Rattle.simulation.proofs.Store.{_is-in_}
 use Rattle.model.proofs.Sees.Labels.{Labels, Fresh}
 
 abbrev pub held : Held → Option ℤ
@@ -70,7 +70,7 @@ pub data StateSeen (M : Labels) (n : ℕ) (K : Abstract.Place) : State → Held 
   called : {h : ℕ} {w : Held} → StateSeen M n K (states.Called h) w (Abstract.calledOut h K)
 
 abbrev pub Unset : Store → List ℕ → Type 0
-Unset σ U = (c : ℕ) → c ∈ U → σ c ≡ none
+Unset σ U = (c : ℕ) → c is-in U → σ c ≡ none
 
 module _ (W : World) where
   -- the cell at place c has the name n
@@ -202,13 +202,13 @@ module _ {M : Labels} {Q R : ℕ → Type 0} {O W : World} (K : Kept Q R O W) (Z
   token-keep h f (sees v u s) = sees (place-keep h v) (λ c m. f c (u c m)) s
 
 -- lists of tokens
-count-here : (p : ℕ) (A : List ℕ) → 0 < occurrences p (p ∷ A)
+occurrences-first : (p : ℕ) (A : List ℕ) → 0 < occurrences p (p ∷ A)
 unfolding occurrences
-count-here p A = rw (eqb-same p) (omega arith)
+occurrences-first p A = rw (eqb-same p) (omega arith)
 
-count-there : (r p : ℕ) (A : List ℕ) → 0 < occurrences r A → 0 < occurrences r (p ∷ A)
+occurrences-there : (r p : ℕ) (A : List ℕ) → 0 < occurrences r A → 0 < occurrences r (p ∷ A)
 unfolding occurrences
-count-there r p A l = omega arith
+occurrences-there r p A l = omega arith
 
 module _ {M : Labels} {O W : World} where
   pub tokens-map : {A : List ℕ} {S : List Abstract.Token}
@@ -216,7 +216,8 @@ module _ {M : Labels} {O W : World} where
       → TokenSeen W M (tokenAt (W .tokens) p) x)
       → TokensSeen O M A S → TokensSeen W M A S
   tokens-map h nobody = nobody
-  tokens-map h (also {p = p} {x = x} {A = A} v r) = also (h p x (count-here p A) v) (tokens-map (λ q y l. h q y (count-there q p A l)) r)
+  tokens-map h (also {p = p} {x = x} {A = A} v r) =
+      also (h p x (occurrences-first p A) v) (tokens-map (λ q y l. h q y (occurrences-there q p A l)) r)
 
 pub tokens-append : {M : Labels} {W : World} {A B : List ℕ} {S T : List Abstract.Token}
     → TokensSeen W M A S → TokensSeen W M B T → TokensSeen W M (A ++ B) (S ++ T)

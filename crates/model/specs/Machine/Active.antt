@@ -12,8 +12,8 @@ use Rattle.model.specs.declared.token.Token.{Token}
 use Rattle.model.specs.declared.cell.Cell.{Cell}
 
 -- a cell is set once it has a value
-unfoldable pub isSet : Cell → Bool
-isSet c = hasValue (c .value)
+unfoldable pub cellIsSet : Cell → Bool
+cellIsSet c = hasValue (c .value)
 
 -- does a test hold of the cell at a place or of one of its ancestors; so many of them are looked at
 unfoldable pub upward : (ℕ → Cell → Bool) → List Cell → ℕ → Place → Bool
@@ -27,7 +27,7 @@ upward test cs (suc n) q =
 
 -- "[a] set cell among their cell and its ancestors"
 unfoldable pub underSet : List Cell → Place → Bool
-underSet cs q = upward (λ c k. isSet k) cs (length cs) q
+underSet cs q = upward (λ c k. cellIsSet k) cs (length cs) q
 
 -- is a place the cell c or one of its descendants
 unfoldable pub within : List Cell → ℕ → Place → Bool

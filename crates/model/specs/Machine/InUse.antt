@@ -2,8 +2,9 @@
 use mathlib.Core.Path.{_≡_}
 use mathlib.Core.Bool.{Bool, true, false}
 use mathlib.Core.List.{List, [], _∷_, _++_, map}
-use Prim.Native.Nat.{ℕ, zero, suc}
+use Prim.Native.Nat.{ℕ, zero, suc, _≤_}
 use lib.ListN.{length, getD, set, replicate}
+use Rattle.model.specs.Machine.Limits.{Limits}
 use Rattle.model.specs.Machine.Blank.{blankToken, blankCell, tokenAt, cellAt, slotAt}
 use Rattle.model.specs.Machine.Active.{isActive}
 use Rattle.model.specs.declared.token.Slot.the-variants as slots
@@ -86,6 +87,10 @@ unfoldable pub marked : List Bool → ℕ
 marked [] = 0
 marked (true ∷ marks) = suc (marked marks)
 marked (false ∷ marks) = marked marks
+
+-- "Tokens in use: at most 64. Cells in use: at most 32", with other limits in their place too
+abbrev pub Within : Limits → Machine → Type 0
+Within lim m = (marked (tokensUsed m) ≤ lim .tokens) × (marked (cellsUsed m) ≤ lim .cells)
 
 -- the table with what is not marked made blank
 unfoldable pub restBlanked : {A : Type 0} → A → List Bool → List A → List A

@@ -46,7 +46,7 @@ reportValues vs = padded (pos 0) parameterLimit vs
 unfoldable pub accepted : Reply → List ℤ → Machine → Outcome
 accepted r vs m = record { reply = r; values = reportValues vs; machine = sweep m }
 
--- the outcome of a call on the machine `before`: an accepted one ends in `finish`; "a refusal leaves machine and dag as before the call"
+-- the outcome of a call on the machine `before`: an accepted one ends in `sweep`; "a refusal leaves machine and dag as before the call"
 unfoldable pub outcome : (before : Machine) → Effect → Outcome
 outcome before (moves m) = accepted replies.Done [] m
 outcome before (waits m) = accepted replies.Waits [] m

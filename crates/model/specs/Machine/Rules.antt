@@ -12,7 +12,7 @@ use Rattle.job.specs.Node.{Node, Dag, nodeAt, isNode, dagHolds}
 use Rattle.model.specs.Machine.Limits.{Limits}
 use Rattle.model.specs.Machine.Blank.{tokenAt, cellAt, slotAt, isBound, hasValue, isPlace, tokenIsBlank, cellIsBlank}
 use Rattle.model.specs.Machine.State.{isBlankState, isReady, isWaiting, isFrame, isLive, handleOf}
-use Rattle.model.specs.Machine.Active.{isSet, underSet}
+use Rattle.model.specs.Machine.Active.{cellIsSet, underSet}
 use Rattle.model.specs.Machine.InUse.{tokensUsed, usedCells}
 use Rattle.model.specs.declared.token.Slot.{Slot}
 use Rattle.model.specs.declared.token.Slot.the-variants as slots
@@ -94,6 +94,7 @@ chainsEnd cs = forAll (λ (c : Cell). chainEnds cs (length cs) (c .parent)) cs
 unfoldable pub notUnderSet : List Cell → Token → Bool
 notUnderSet cs t = elim (isLive (t .state)) [ true ↦ not (underSet cs (t .cell)) | false ↦ true ]
 
+-- document 01: open handles. Those of all tokens that are called out
 unfoldable pub openHandles : List Token → List ℕ
 openHandles [] = []
 openHandles (t ∷ ts) = handleOf (t .state) ++ openHandles ts
@@ -102,7 +103,7 @@ openHandles (t ∷ ts) = handleOf (t .state) ++ openHandles ts
 unfoldable pub waitsAtUnset : List Cell → State → Bool
 waitsAtUnset cs states.Blank = true
 waitsAtUnset cs states.Ready = true
-waitsAtUnset cs (states.Waiting c) = not (isSet (cellAt cs c))
+waitsAtUnset cs (states.Waiting c) = not (cellIsSet (cellAt cs c))
 waitsAtUnset cs (states.Called h) = true
 waitsAtUnset cs states.Frame = true
 
@@ -130,6 +131,7 @@ nodeRule ts t (Node.where' x l r) = true
 nodeRule ts t Node.choke = isPlace (t .cell) and valueIfReady t
 nodeRule ts t Node.return = namesFrame ts (t .caller) and valueIfReady t
 nodeRule ts t Node.publish = valueIfReady t
+-- the dag's own rules leave no such node: it is 14 there
 nodeRule ts t Node.unknown = true
 
 -- a blank token is at no node

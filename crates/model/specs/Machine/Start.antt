@@ -6,7 +6,7 @@ use lib.ListN.{set, replicate}
 use Rattle.job.specs.Node.{Dag, dagHolds}
 use Rattle.model.specs.Machine.Limits.{Limits}
 use Rattle.model.specs.Machine.Blank.{unbound, blankToken, blankCell, blankMachine}
-use Rattle.model.specs.Machine.Reply.{reportValues, refusalOf}
+use Rattle.model.specs.Machine.Reply.{reportValues, refuses, outcome}
 use Rattle.model.specs.declared.token.Held.the-variants as helds
 use Rattle.model.specs.declared.token.Place.the-variants as places
 use Rattle.model.specs.declared.token.State.the-variants as states
@@ -47,5 +47,5 @@ unfoldable pub start : Limits → Dag → Outcome
 start lim d =
     elim (dagHolds d) [
       | true ↦ record { reply = replies.Done; values = reportValues []; machine = startMachine lim (d .goal) }
-      | false ↦ record { reply = replies.Refused (refusalOf 14); values = reportValues []; machine = blankMachine lim }
+      | false ↦ outcome (blankMachine lim) (refuses 14)
     ]

@@ -13,6 +13,7 @@ isBlankState (states.Waiting c) = false
 isBlankState (states.Called h) = false
 isBlankState states.Frame = false
 
+-- document 01: ready. The queue names each such token
 unfoldable pub isReady : State → Bool
 isReady states.Blank = false
 isReady states.Ready = true
@@ -20,6 +21,7 @@ isReady (states.Waiting c) = false
 isReady (states.Called h) = false
 isReady states.Frame = false
 
+-- document 01: waiting. The wait order names each such token
 unfoldable pub isWaiting : State → Bool
 isWaiting states.Blank = false
 isWaiting states.Ready = false
@@ -27,6 +29,7 @@ isWaiting (states.Waiting c) = true
 isWaiting (states.Called h) = false
 isWaiting states.Frame = false
 
+-- document 01: frame. What a token becomes at a definition call
 unfoldable pub isFrame : State → Bool
 isFrame states.Blank = false
 isFrame states.Ready = false

@@ -103,11 +103,8 @@ module _ (m : Machine) (p : ℕ) (t : Token) where
   -- "left binds x to the new cell; right is new and belongs to it"; the cell is at place c
   unfoldable pub split : (q c x left right : ℕ) → Effect
   split q c x l r =
-      moves
-      (enqueue q
-      (enqueue p
-      (newCell c (record { parent = t .cell; value = helds.Nothing })
-      (newToken q (inCell c (withNode r t)) (put p (withNode l (withBinding x (slots.Cell c) t)) m)))))
+      let sides = newToken q (inCell c (withNode r t)) (put p (withNode l (withBinding x (slots.Cell c) t)) m) in
+      moves (enqueue q (enqueue p (newCell c (record { parent = t .cell; value = helds.Nothing }) sides)))
 
   -- "the token becomes a frame at next, the callee is new, in the token's cell, with no value and only its formals bound"
   unfoldable pub entered : (q root : ℕ) → List Param → (next : ℕ) → Effect
@@ -157,7 +154,8 @@ abbrev pub cellPlace : Machine → ℕ
 cellPlace before = nextPlace (cellsUsed before) (before .lastcell)
 
 module _ (lim : Limits) where
-  -- "13: outside call, all values there, after 1,000,000 such calls"
+  -- "13: outside call, all values there, after 1,000,000 such calls". (A site that is no built-in is an outside site: the test for 14
+  -- leaves no other.)
   unfoldable pub callSite : Machine → ℕ → Token → (site next : ℕ) → LookUpResult → Effect
   callSite m p t s k (unset c) = waited m p t c
   callSite m p t s k (values vs) =
@@ -193,7 +191,7 @@ module _ (lim : Limits) (d : Dag) where
   -- the test for 14 leaves no such node
   act before m p t Node.unknown = refuses 14
 
-  -- the token that the queue has at a place acts
+  -- the token that the queue has at a place acts. (The test for 9 leaves no place behind the queue.)
   unfoldable pub takes : Machine → (place : ℕ) → Effect
   takes m place =
       let p = getD (m .queue) place 0 in

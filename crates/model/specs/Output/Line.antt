@@ -17,7 +17,7 @@ unfoldable pub lineOf : List ℕ → List (List ℕ) → List ℕ
 lineOf word [] = word ++ ascii "\n"
 lineOf word (w ∷ ws) = word ++ ascii " " ++ lineOf w ws
 
--- "Lines: `call` handle site parameters; `publish` value; `refused` number; `table` number entry; .. `end` and accepted steps"
+-- "Lines: `call` handle site parameters; `publish` value; `refused` number ..; `table` number entry; last, .. `end` and accepted steps"
 unfoldable pub textOf : Line → List ℕ
 textOf (call h s vs) = lineOf (ascii "call") (decimal h ∷ decimal s ∷ map signedDecimal vs)
 textOf (publish v) = lineOf (ascii "publish") (signedDecimal v ∷ [])

@@ -81,7 +81,7 @@ module _ (lim : Limits) (most : ℕ) (d : Dag) where
   turnLines zero s = []
   turnLines (suc n) s = elim (turn s) [ over ls ↦ ls | on ls s′ ↦ ls ++ turnLines n s′ ]
 
--- each turn makes a step, or takes a record, or is the last
+-- each turn makes a step, or takes a record, or is the last. (An accepted table's start is accepted: its reply is not looked at.)
 unfoldable pub runLines : Limits → (most : ℕ) → Dag → List ℕ → List Line
 runLines lim most d rest =
     turnLines lim most d (most + length rest + 1) (record { machine = start lim d .machine; steps = 0; rest = rest })

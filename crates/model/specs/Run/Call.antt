@@ -52,6 +52,7 @@ module _ (R : Runner) (lim : Limits) (d : Dag) where
   machineAfter m [] = m
   machineAfter m (c ∷ cs) = machineAfter (outcomeOf m c .machine) cs
 
+  -- document 01: event list. "read from calls and replies alone, in order"
   unfoldable pub eventsFrom : Machine → List Call → List Event
   eventsFrom m [] = []
   eventsFrom m (c ∷ cs) =

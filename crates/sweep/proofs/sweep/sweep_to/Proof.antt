@@ -2,7 +2,7 @@
 use mathlib.Core.Path.{_∙_, subst, sym}
 use borrow.Author.Needs.{needs}
 use Rattle.model.specs.Machine.Update.{withTables}
-use Rattle.model.proofs.Keeps.Clean.{finish-tokens, finish-cells}
+use Rattle.model.proofs.Keeps.Clean.{sweep-tokens, sweep-cells}
 use Rattle.record.specs.Holds.{Holds}
 use Rattle.reach.specs.Marks.{BlankFrom, tokensSwept}
 use Rattle.sweep.proofs.SweepLaws.{tokens-swept, swept, swept-blank, reach-kept}
@@ -43,8 +43,8 @@ returns c =
     let first = subst (Holds _) (tokens-swept m _ used) (kept .keep-tokens .ensures m h (v .tokens)) in
     let then = cells .sweep-cells .ensures (tokensSwept m) first (swept-blank m (start .args .end) none) (v .cells) in (
       subst (Holds _) (swept m _ used) (then .0),
-      c .renew .ensures ∙ used ∙ sym (finish-tokens m),
-      then .1 ∙ (reach-kept m _ used ∙ sym (finish-cells m)),
+      c .renew .ensures ∙ used ∙ sym (sweep-tokens m),
+      then .1 ∙ (reach-kept m _ used ∙ sym (sweep-cells m)),
     )
 
 pub sweep-to-spec : {M : Type 1} → statement M
