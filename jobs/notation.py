@@ -1,12 +1,15 @@
 """Tables as text, and text as tables: docs/GUIDE.md, "A table as text", has the notation.
 
 `text_of` writes a table's text, `table_of` reads a text's table; each is the other's inverse. A table outside the written grammar
-raises `Declined` with number and entry, as `orcrun` prints them; a text outside the notation raises `Outside` with the place of the first
-byte that in no text follows those before it.
+raises `Declined` with number and entry, as `orcrun` prints them, and with the place in its text where it has one; a text outside the
+notation raises `Outside` with the place of the first byte that in no text follows those before it.
 """
 
 import struct
 
+# The most bytes of a job, and of a table's definitions and entries.
+LONGEST, DEFINITIONS, ENTRIES = 65536, 32, 512
+BYTES = b"\n(),-/0123456789<=>acdgloprstv|"
 BUILT_IN = (1, 1, 1, 0, 2, 2, 2)
 JOINS = {3: "|", 4: ">v{}>", 5: "<v{}<"}
 
@@ -106,7 +109,7 @@ class Entries:
 
 
 def text_of_entries(d, rows):
-    if d > 32 or not 1 <= len(rows) <= 512:
+    if d > DEFINITIONS or not 1 <= len(rows) <= ENTRIES:
         raise Declined(2, 0)
     entries = Entries(rows)
     text = "orc\n" + "".join(entries.definition(number) for number in range(d))
@@ -136,7 +139,13 @@ class Text:
         self.text = text
         self.at = 0
         self.rows = []
+        self.places = []
         self.spans = []
+
+    def add(self, place, row):
+        """An entry, and where it begins. The row of one whose end is not read yet is set later."""
+        self.rows.append(row)
+        self.places.append(place)
 
     def take(self, *choices):
         """The choice that comes next. None of them begins another."""
@@ -175,13 +184,14 @@ class Text:
                 return count
             if begin == b",":
                 begin = self.take(*begins)
+            start = self.at - 1
             if begin == b"v":
-                self.rows.append((7, self.number(0xFFFFFFFF)))
+                self.add(start, (7, self.number(0xFFFFFFFF)))
             elif begin == b"-":
-                self.rows.append((8, -self.number(0x80000000, b"123456789")))
+                self.add(start, (8, -self.number(0x80000000, b"123456789")))
             else:
-                self.at -= 1
-                self.rows.append((8, self.number(0x7FFFFFFF)))
+                self.at = start
+                self.add(start, (8, self.number(0x7FFFFFFF)))
             count += 1
 
     def narrow(self, low, high):
@@ -207,7 +217,7 @@ class Text:
 
     def bracket(self, depth):
         row = len(self.rows)
-        self.rows.append(None)
+        self.add(self.at - 1, None)
         low, high = self.spans[-1][:2]
         f_low, f_high = self.side(low, high + 1, 0, 1, depth)
         low, high = self.spans[-1][:2]
@@ -220,17 +230,18 @@ class Text:
         self.take(b")")
 
     def expression(self, depth):
+        start = self.at
         begins = [b"stop", *(b"%c%d" % (letter, digit) for letter in b"sd" for digit in range(10))]
         begin = self.take(*begins, *([b"("] if depth < 24 else []))
         if begin == b"stop":
-            self.rows.append((0, 0))
+            self.add(start, (0, 0))
         elif begin == b"(":
             self.bracket(depth)
         else:
             self.at -= 1
             row = len(self.rows)
             number = self.number(0xFFFF)
-            self.rows.append(None)
+            self.add(start, None)
             self.rows[row] = (1 if begin[:1] == b"s" else 2, number | self.parameters() << 16)
 
     def body(self, formals):
@@ -242,21 +253,52 @@ class Text:
         """The number of definitions."""
         self.take(b"orc\n")
         d = 0
+        start = self.at
         while self.take(b"d%d/" % d, b"goal=") != b"goal=":
             formals = self.number(0xFFFFFFFF)
             self.take(b"=")
-            self.rows.append((6, formals))
+            self.add(start, (6, formals))
             self.body(formals)
             d += 1
+            start = self.at
         self.body(0)
         if self.at < len(self.text):
             raise Outside(self.at)
         return d
+
+    def place(self, number, entry):
+        """Where a declined entry begins; with 2 the first definition or entry that is one too many."""
+        if number == 2:
+            definitions = [place for place, (kind, _) in zip(self.places, self.rows) if kind == 6]
+            return min(definitions[DEFINITIONS:] + self.places[ENTRIES:])
+        return self.places[entry]
 
 
 def table_of(text):
     """The table of a text."""
     reader = Text(text)
     d = reader.whole()
-    text_of_entries(d, [(kind, operand & 0xFFFFFFFF) for kind, operand in reader.rows])
+    try:
+        text_of_entries(d, [(kind, operand & 0xFFFFFFFF) for kind, operand in reader.rows])
+    except Declined as declined:
+        raise Declined(*declined.args, reader.place(*declined.args)) from None
     return encode(d, reader.rows)
+
+
+def may_follow(before):
+    """The bytes that in some text follow these, as the reader itself says."""
+
+    def follows(byte):
+        try:
+            Text(before + bytes([byte])).whole()
+        except Outside as outside:
+            return len(before) < outside.args[0]
+        return True
+
+    return bytes(filter(follows, BYTES))
+
+
+def write_out(written):
+    """Bytes to standard output, at once: a write that fails raises here, and not when the program ends."""
+    with open(1, "wb", closefd=False) as out:
+        out.write(written)
