@@ -32,8 +32,9 @@ impl Machine {
     // The words of a record: crate `record` says which stands where.
     pub const WORDS: usize = 1797;
 
-    // The record of a start: one ready token, at place 0 and at the goal's first node.
-    pub(crate) fn start(goal: u16) -> Machine
+    // The record of a start: one ready token, at place 0 and at the goal's first node. The other crates work on a record's words, and
+    // crate `record` writes those of a start.
+    fn start(goal: u16) -> Machine
         ensures { λ r. ⌜ r ≡ startMachine paper goal ⌝ }
     {
         let blank = Token {
