@@ -56,7 +56,8 @@ all-counted : (test : ℕ → Bool) (l : List ℕ) → ((r : ℕ) → 0 < occurr
 unfolding forAll
 all-counted test [] h = refl
 all-counted test (x ∷ l) h =
-    and-both (h x (let z = occurrences-here x l in omega arith)) (all-counted test l (λ r k. h r (let z = occurrences-more r x l in omega arith)))
+    and-both (h x (let z = occurrences-here x l in omega arith))
+    (all-counted test l (λ r k. h r (let z = occurrences-more r x l in omega arith)))
 
 counted-tested : (test : ℕ → Bool) (l : List ℕ) → forAll test l ≡ true → (r : ℕ) → 0 < occurrences r l → test r ≡ true
 unfolding occurrences
