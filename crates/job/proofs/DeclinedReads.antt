@@ -7,7 +7,7 @@ use Prim.Native.Nat.{ℕ, zero, suc, _+_, _-_, _≤_, _<_}
 use native.Mathlib.Omega.{arith}
 use lib.ListN.{length, replicate, length-append}
 use lib.Dec.{eqb, ltb}
-use Rattle.job.specs.Test.{_and_, _or_, forSome}
+use Rattle.job.specs.Test.{_or_, forSome}
 use Rattle.job.specs.Syntax.{Param, Join, Exp, Definition, Program, formalsOf, levels, scopeLeft, scopeRight}
 use Rattle.job.specs.Entry.{Entry, EntryKind, kindOf, isExpression, rowHolds, isBinder}
 use Rattle.job.specs.Entry.{sizeD, tableEntries}
