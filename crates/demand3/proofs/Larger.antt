@@ -15,7 +15,6 @@ use Rattle.model.specs.Machine.Step.{LookUpResult, values, unset, callSite, has
 use Rattle.model.specs.Machine.Answer.{holder, answered, answer}
 use Rattle.model.specs.declared.token.Token.{Token}
 use Rattle.model.specs.declared.record.Machine.{Machine}
-use Rattle.model.specs.declared.reply.Refusal.{Refusal}
 use Rattle.model.specs.declared.reply.Outcome.{Outcome}
 use Rattle.job.proofs.Test.{clash, ltb-lt, lt-ltb}
 use Rattle.model.proofs.Machine.Within.{step-within, answer-within}

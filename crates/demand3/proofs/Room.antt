@@ -19,7 +19,6 @@ use Rattle.model.specs.declared.token.Place.{Place}
 use Rattle.model.specs.declared.token.Place.the-variants as places
 use Rattle.model.specs.declared.token.Token.{Token}
 use Rattle.model.specs.declared.record.Machine.{Machine}
-use Rattle.model.specs.declared.reply.Refusal.{Refusal}
 use Rattle.job.proofs.Test.{clash, lt-ltb}
 use Rattle.simulation.proofs.AbstractMachine as Abstract
 use Rattle.simulation.proofs.AbstractMachine.{Binding, Frame}

@@ -21,7 +21,7 @@ use Rattle.job.proofs.Test.{eq-eqb, ne-eqb, ltb-lt, not-ltb-le}
 use Rattle.job.proofs.Test.{clash}
 use Rattle.job.proofs.Entry.{kind-number, expression-number}
 use Rattle.job.proofs.Read.{Says, reads, refuses, says-need, says-bind, says-map}
-use Rattle.job.proofs.WellFormed.{any-member, member-any}
+use Rattle.job.proofs.WellFormed.{some-member, member-some}
 use Rattle.job.proofs.EncodeRead.{definition-kind}
 use Rattle.job.proofs.Faults.{breaks-kind, breaks-operand, keeps-definition, breaks-depth, breaks-binder, keeps-expression}
 use Rattle.job.proofs.Faults.{breaks-variable, keeps-parameter}
@@ -109,12 +109,12 @@ module _ (D : ℕ) (es : List Entry) where
     module _ (known : (7 ≤ x .kind) × (x .kind ≤ 8)) (row : rowHolds (kindOf (x .kind)) (x .operand) ≡ true) where
       variable-out : x .kind ≡ 7 → forSome (eqb (x .operand)) scope ≡ false → Declines 7 e
       unfolding MayStand
-      variable-out k f = at-break a (breaks-variable known row k (λ m. clash (member-any m) f))
+      variable-out k f = at-break a (breaks-variable known row k (λ m. clash (member-some m) f))
 
       parameter-filled : (x .kind ≡ 7 → forSome (eqb (x .operand)) scope ≡ true) → At fs ps (suc e) rest
       unfolding MayStand followedBy
       parameter-filled t =
-          onward-other a (λ s. omega arith) (keeps-parameter known row (λ k. any-member (x .operand) scope (t k)))
+          onward-other a (λ s. omega arith) (keeps-parameter known row (λ k. some-member (x .operand) scope (t k)))
 
     param-at : (k : EntryKind) → kindOf (x .kind) ≡ k → Leaves fs ps (readParam scope e (x ∷ rest))
     unfolding readParam _>>=_ entryAt kindOf rowHolds

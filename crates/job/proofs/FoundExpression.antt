@@ -18,7 +18,7 @@ use Rattle.job.proofs.Test.{eqb-eq, ltb-lt}
 use Rattle.job.proofs.Number.{signed-fits, unsigned-signed}
 use Rattle.job.proofs.Entry.{entry-of, kind-number, halves, Short}
 use Rattle.job.proofs.Read.{Yields, reads, refuses, says-bind, yields-need}
-use Rattle.job.proofs.WellFormed.{any-member, site-takes, CallRuleHolds, holds-names}
+use Rattle.job.proofs.WellFormed.{some-member, site-takes, CallRuleHolds, holds-names}
 use Rattle.job.proofs.Prefix.{Begins, done, next, begins-one, begins-append, begins-rest}
 
 -- parameters
@@ -33,7 +33,7 @@ module _ (scope : List ℕ) (e : ℕ) (x : Entry) (rest : List Entry) where
   unfolding encodeParam
   variable-found k t =
       let same : x ≡ entry 7 (x .operand) = entry-of x 7 _ k refl in
-      record { good = GoodParam.variable (any-member (x .operand) scope t); begins = begins-one (λ _. same) }
+      record { good = GoodParam.variable (some-member (x .operand) scope t); begins = begins-one (λ _. same) }
 
   -- (the bits of a constant are 32 where its operand has 4 bytes)
   constant-found : x .kind ≡ 8

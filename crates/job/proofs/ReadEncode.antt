@@ -17,7 +17,7 @@ use Rattle.job.proofs.Test.{lt-ltb, le-leb, All-map}
 use Rattle.job.proofs.Number.{signed-unsigned}
 use Rattle.job.proofs.Entry.{low-of, high-of, kindBytes, length-operand-bytes, entries-encoded}
 use Rattle.job.proofs.Read.{Gives, given, gives-need, gives-bind}
-use Rattle.job.proofs.WellFormed.{member-any, takes-site}
+use Rattle.job.proofs.WellFormed.{member-some, takes-site}
 use Rattle.job.proofs.RowBroken.{call-row}
 use Rattle.job.proofs.Sizes.{LengthAndSizes, sizes-pass}
 use Rattle.job.proofs.Table.{kindPart, operandPart, size-definitions, size-entries, length-table, kind-part, operand-part}
@@ -28,7 +28,7 @@ use Rattle.job.proofs.Encode.{Few, Fine, site-small, call-small, call-c
 param-read : {scope : List ℕ} {p : Param} (e : ℕ) (rest : List Entry) → GoodParam scope p
     → Gives p rest (readParam scope e (encodeParam p ∷ rest))
 unfolding readParam encodeParam entryAt _>>=_ kindOf
-param-read e rest (GoodParam.variable m) = gives-need _ _ e (member-any m) given
+param-read e rest (GoodParam.variable m) = gives-need _ _ e (member-some m) given
 param-read e rest (GoodParam.constant {v = v} f) = rw (signed-unsigned v f) given
 
 params-read : {scope : List ℕ} {ps : List Param} (e : ℕ) (rest : List Entry) → All (GoodParam scope) ps

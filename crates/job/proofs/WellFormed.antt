@@ -18,19 +18,19 @@ use Rattle.job.proofs.Test.{all-at, and-left, and-right, and-both, or-l
 
 -- a variable in scope
 
-pub any-member : (x : ℕ) (scope : List ℕ) → forSome (eqb x) scope ≡ true → List·Memᴰ x scope
+pub some-member : (x : ℕ) (scope : List ℕ) → forSome (eqb x) scope ≡ true → List·Memᴰ x scope
 unfolding forSome
-any-member x [] e = clash e refl
-any-member x (y ∷ scope) e = go (or-cases (eqb x y) (forSome (eqb x) scope) e) (any-member x scope)
+some-member x [] e = clash e refl
+some-member x (y ∷ scope) e = go (or-cases (eqb x y) (forSome (eqb x) scope) e) (some-member x scope)
   where
     go : (eqb x y ≡ true) ⊎ (forSome (eqb x) scope ≡ true) → (forSome (eqb x) scope ≡ true → List·Memᴰ x scope) → List·Memᴰ x (y ∷ scope)
     go (inl h) below = List·Memᴰ·head (eqb-eq x y h)
     go (inr h) below = List·Memᴰ·tail (below h)
 
-pub member-any : {x : ℕ} {scope : List ℕ} → List·Memᴰ x scope → forSome (eqb x) scope ≡ true
+pub member-some : {x : ℕ} {scope : List ℕ} → List·Memᴰ x scope → forSome (eqb x) scope ≡ true
 unfolding forSome
-member-any {x} (List·Memᴰ·head {x = y} {xs = scope} e) = or-left (forSome (eqb x) scope) (eq-eqb x y e)
-member-any {x} (List·Memᴰ·tail {x = y} m) = or-right (eqb x y) (member-any m)
+member-some {x} (List·Memᴰ·head {x = y} {xs = scope} e) = or-left (forSome (eqb x) scope) (eq-eqb x y e)
+member-some {x} (List·Memᴰ·tail {x = y} m) = or-right (eqb x y) (member-some m)
 
 -- a site that takes n parameters
 

@@ -12,7 +12,7 @@ use Rattle.job.specs.Syntax.{Definition, levels}
 use Rattle.job.specs.Entry.{entries, operandAt}
 use Rattle.job.specs.Construct.{nodeCount}
 use Rattle.job.specs.Words.{rowsOfNodes, bodyWords}
-use Rattle.job.specs.Read.{Got, Read, got, _>>=_, gives, readExp, readDefinition}
+use Rattle.job.specs.Read.{Got, Read, got, gives, readExp, readDefinition}
 use Rattle.job.proofs.Position.{bind-got, reread}
 use Rattle.reader.specs.Checked.{Parts, entriesFrom}
 use Rattle.reader.specs.Scope.{Means}

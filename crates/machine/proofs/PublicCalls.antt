@@ -2,19 +2,17 @@
 -- Assumes nothing.
 use mathlib.Core.Path.{_≡_, refl, sym, ap, subst, _∙_}
 use mathlib.Core.Bool.{Bool, true, false}
-use mathlib.Core.List.{List, []}
+use mathlib.Core.List.{List}
 use Prim.Native.Nat.{ℕ, _≤_}
 use lib.ListN.{getD}
 use lib.IntN.{ℤ}
 use Rattle.job.specs.Test.{_and_, same}
-use Rattle.job.specs.Node.{Dag, dagHolds}
-use Rattle.model.specs.Machine.Blank.{blankMachine}
+use Rattle.job.specs.Node.{dagHolds}
 use Rattle.job.specs.Words.{dagOf}
 use Rattle.model.specs.Machine.Answer as Answer
 use Rattle.model.specs.Machine.Limits.{paper}
-use Rattle.model.specs.Machine.Reply.{Effect, outcome, unless, refuses, refusalOf, isRefused, reportValues}
+use Rattle.model.specs.Machine.Reply.{Effect, outcome, unless, refuses, refusalOf, isRefused}
 use Rattle.model.specs.Machine.Rules.{rulesHold}
-use Rattle.model.specs.Machine.Start as Start
 use Rattle.model.specs.Machine.Start.{startMachine}
 use Rattle.model.specs.Machine.Step as Step
 use Rattle.model.specs.declared.record.Machine.{Machine}
@@ -23,7 +21,7 @@ use Rattle.model.specs.declared.reply.Refusal.the-variants as refusals
 use Rattle.model.specs.declared.reply.Reply.the-variants as replies
 use Rattle.model.specs.declared.reply.Report.{Report}
 use Rattle.job.proofs.Test.{clash, same-refl, le-not-ltb}
-use Rattle.model.proofs.Machine.Refused.{outcome-refused}
+use Rattle.model.proofs.Machine.Refused.{start-begun, start-not-begun, outcome-refused}
 use Rattle.record.specs.LayoutDecoded.{machineOf}
 use Rattle.record.specs.Layout.{wordsOf}
 use Rattle.coded.specs.IsRecord.{isRecord}
@@ -120,36 +118,12 @@ module _ (dag ws : List ℕ) where
         (gives-refused 9 r a (rw (a .rules, le-not-ltb place (machineOf ws .queued) l, unless)) e)
 
 -- the start
-begun : (d : Dag) → true ≡ dagHolds d
-    → Start.start paper d ≡ record { reply = replies.Done; values = reportValues []; machine = startMachine paper (d .goal) }
-unfolding Start.start outcome
-begun d e =
-    ap
-    (λ b.
-    elim b as (λ _. Outcome) [
-      | true ↦ record { reply = replies.Done; values = reportValues []; machine = startMachine paper (d .goal) }
-      | false ↦ record { reply = replies.Refused refusals.Rule; values = reportValues []; machine = blankMachine paper }
-    ])
-    (sym e)
-
-not-begun : (d : Dag) → false ≡ dagHolds d
-    → Start.start paper d ≡ record { reply = replies.Refused refusals.Rule; values = reportValues []; machine = blankMachine paper }
-unfolding Start.start outcome
-not-begun d e =
-    ap
-    (λ b.
-    elim b as (λ _. Outcome) [
-      | true ↦ record { reply = replies.Done; values = reportValues []; machine = startMachine paper (d .goal) }
-      | false ↦ record { reply = replies.Refused refusals.Rule; values = reportValues []; machine = blankMachine paper }
-    ])
-    (sym e)
-
 pub start-gave : (dag ws xs : List ℕ) (goal : ℕ) (r : Report) → true ≡ dagHolds (dagOf dag) → goal ≡ getD dag 2 0
     → xs ≡ wordsOf (startMachine paper goal)
     → r ≡ plain replies.Done → HasResult (startOn dag ws) r xs
 unfolding startOn after dagOf isRefused
 start-gave dag ws xs goal r e f g h =
-    subst (λ o. HasResult (after ws o) r xs) (sym (begun (dagOf dag) e))
+    subst (λ o. HasResult (after ws o) r xs) (sym (start-begun paper (dagOf dag) (sym e)))
     (record {
       reply = ap (λ (y : Report). y .reply) h;
       values = ap (λ (y : Report). y .values) h;
@@ -160,5 +134,5 @@ pub start-refused : (dag ws : List ℕ) (r : Report) → false ≡ dagHolds (dag
     → HasResult (startOn dag ws) r ws
 unfolding startOn after isRefused
 start-refused dag ws r e h =
-    subst (λ o. HasResult (after ws o) r ws) (sym (not-begun (dagOf dag) e))
+    subst (λ o. HasResult (after ws o) r ws) (sym (start-not-begun paper (dagOf dag) (sym e)))
     (record { reply = ap (λ (y : Report). y .reply) h; values = ap (λ (y : Report). y .values) h; words = refl })

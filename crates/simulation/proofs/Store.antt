@@ -9,7 +9,7 @@ use native.Mathlib.Omega.{arith}
 use lib.Dec.{eqb}
 use lib.IntN.{ℤ}
 use Rattle.job.specs.Test.{_or_, forSome, select, All, more}
-use Rattle.job.proofs.WellFormed.{member-any}
+use Rattle.job.proofs.WellFormed.{member-some}
 use Rattle.job.proofs.Test.{eqb-same, ne-eqb}
 use Rattle.simulation.proofs.AbstractMachine.{Token, Store, chosen, withSet, cellsOf, isOutOf, outOf}
 
@@ -58,4 +58,4 @@ all-stay {c} (more {x = t} {xs = S} n a) =
 pub all-end : {c : ℕ} {S : List Token} → All (λ t. c is-in cellsOf t) S → outOf c S ≡ []
 unfolding select
 all-end All.none = refl
-all-end {c} (more {x = t} {xs = S} m a) = select-no (isOutOf c) t S (ap not (member-any m)) ∙ all-end a
+all-end {c} (more {x = t} {xs = S} m a) = select-no (isOutOf c) t S (ap not (member-some m)) ∙ all-end a

@@ -1,5 +1,5 @@
 -- `bench_calls` ends, since fewer rounds are left with each turn; each turn makes the definition's next round. Assumes nothing.
-use mathlib.Core.Path.{_≡_, ap}
+use mathlib.Core.Path.{ap}
 use Prim.Native.Nat.{_-_, _≤_}
 use borrow.Author.Needs.{needs}
 use native.Mathlib.Omega.{arith}

@@ -1,10 +1,9 @@
 -- `calls` ends, since fewer calls are left with each turn; each turn makes the definition's next call. Assumes nothing.
 use mathlib.Core.Logic.{⊎-elim}
-use mathlib.Core.Path.{_≡_, ap, _∙_, refl}
-use Prim.Native.Nat.{ℕ, _-_, _≤_}
+use Prim.Native.Nat.{_-_, _≤_}
 use borrow.Author.Needs.{needs}
 use native.Mathlib.Omega.{arith}
-use Rattle.bench.specs.Timed.{callsFrom, oneRound}
+use Rattle.bench.specs.Timed.{callsFrom}
 use Rattle.bench.proofs.Calling.{Left, calls-all, in-round, calls-over, handles-over, call-stepped, call-answered}
 use Rattle.bench.proofs.calls.Statement.{statement}
 use Rattle.bench.proofs.calls.Tie as tie

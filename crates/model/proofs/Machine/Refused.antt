@@ -23,7 +23,7 @@ use Rattle.model.specs.declared.reply.Refusal.{Refusal}
 use Rattle.model.specs.declared.reply.Reply.{Reply}
 use Rattle.model.specs.declared.reply.Reply.the-variants as replies
 use Rattle.model.specs.declared.reply.Outcome.{Outcome}
-use Rattle.job.proofs.Test.{clash, ltb-lt}
+use Rattle.job.proofs.Test.{clash, holds-or-fails, ltb-lt}
 
 -- the reply says whether the call was refused
 pub refused-is : (r : Reply) (why : Refusal) → r ≡ replies.Refused why → isRefused r ≡ true
@@ -98,16 +98,23 @@ begun lim d = record { reply = replies.Done; values = reportValues []; machine =
 abbrev pub notBegun : Limits → Outcome
 notBegun lim = record { reply = replies.Refused (refusalOf 14); values = reportValues []; machine = blankMachine lim }
 
+pub start-begun : (lim : Limits) (d : Dag) → dagHolds d ≡ true → start lim d ≡ begun lim d
+unfolding start
+start-begun lim d e = rw (e, start)
+
+pub start-not-begun : (lim : Limits) (d : Dag) → dagHolds d ≡ false → start lim d ≡ notBegun lim
+unfolding start outcome
+start-not-begun lim d e = rw (e, start)
+
 abbrev pub StartCases : Limits → Dag → Outcome → Type 0
 StartCases lim d o = ((dagHolds d ≡ true) × (o ≡ begun lim d)) ⊎ ((dagHolds d ≡ false) × (o ≡ notBegun lim))
 
 pub start-cases : (lim : Limits) (d : Dag) → StartCases lim d (start lim d)
-unfolding start outcome
-start-cases lim d = go (dagHolds d) refl
+start-cases lim d = go (holds-or-fails (dagHolds d))
   where
-    go : (b : Bool) → dagHolds d ≡ b → StartCases lim d (elim b [ true ↦ begun lim d | false ↦ notBegun lim ])
-    go true e = inl (e, refl)
-    go false e = inr (e, refl)
+    go : (dagHolds d ≡ true) ⊎ (dagHolds d ≡ false) → StartCases lim d (start lim d)
+    go (inl e) = inl (e, start-begun lim d e)
+    go (inr e) = inr (e, start-not-begun lim d e)
 
 -- a refused start hands back the blank record
 pub start-refused :

@@ -1,31 +1,23 @@
 -- A well-formed program begins: the start accepts its dag, also read back from the words that it was written to.
 -- The dag keeps the index rules, and the start tests nothing else. Assumes nothing.
 use mathlib.Core.Path.{_≡_, ap}
-use mathlib.Core.Bool.{true, false}
-use mathlib.Core.List.{List, []}
+use mathlib.Core.Bool.{false}
+use mathlib.Core.List.{List}
 use Prim.Native.Nat.{ℕ}
 use lib.ListN.{length}
 use Rattle.job.specs.Syntax.{Program}
 use Rattle.job.specs.WellFormed.{WellFormed}
-use Rattle.job.specs.Node.{Dag, dagHolds}
 use Rattle.job.specs.Construct.{construct}
 use Rattle.job.specs.Words.{arrayWords, dagOf, written}
 use Rattle.model.specs.Machine.Limits.{Limits}
-use Rattle.model.specs.Machine.Reply.{reportValues, isRefused}
+use Rattle.model.specs.Machine.Reply.{isRefused}
 use Rattle.model.specs.Machine.Start.{start, startMachine}
-use Rattle.model.specs.declared.reply.Outcome.{Outcome}
 use Rattle.model.specs.declared.reply.Reply.the-variants as replies
 use Rattle.job.proofs.DagHolds.{construct-holds}
+use Rattle.model.proofs.Machine.Refused.{begun, start-begun}
 use Rattle.job.proofs.Words.{decode-written}
 
-abbrev pub begun : Limits → ℕ → Outcome
-begun lim goal = record { reply = replies.Done; values = reportValues []; machine = startMachine lim goal }
-
-pub start-begun : (lim : Limits) (d : Dag) → dagHolds d ≡ true → start lim d ≡ begun lim (d .goal)
-unfolding start
-start-begun lim d e = rw (e, start)
-
-pub start-begins : (lim : Limits) (p : Program) → WellFormed p → start lim (construct p) ≡ begun lim (construct p .goal)
+pub start-begins : (lim : Limits) (p : Program) → WellFormed p → start lim (construct p) ≡ begun lim (construct p)
 start-begins lim p w = start-begun lim (construct p) (construct-holds p w)
 
 pub start-accepts : (lim : Limits) (p : Program) → WellFormed p → start lim (construct p) .reply ≡ replies.Done

@@ -37,7 +37,7 @@ use Rattle.model.proofs.Sees.View.{PlaceSeen, TokenSeen, sees, TokensSe
 use Rattle.model.proofs.Sees.View.{Closed, place-keep, tokens-append}
 use Rattle.model.proofs.Sees.Seen.{Core, world, sees-tables}
 use Rattle.model.proofs.Sees.Others.{Others}
-use Rattle.model.proofs.Sees.WithinSeen.{not-any, some-first, some-rest, within-seen}
+use Rattle.model.proofs.Sees.WithinSeen.{not-some, some-first, some-rest, within-seen}
 use Rattle.model.proofs.Sees.Moving.{value-there, value-optional, place-as}
 use Rattle.model.proofs.Sees.Agrees.{Acting, Shows, Agrees}
 use Rattle.model.proofs.Machine.WrittenTokens.{waiting-live}
@@ -189,7 +189,7 @@ module _ (M : Labels) (W : World) (c i : ℕ) (s : CellSeen W c i) (w : Held) (v
       st)
     where
       clear : i is-in U → ⊥
-      clear = not-any i U (sym (within-seen s (z .cell)) ∙ o)
+      clear = not-some i U (sym (within-seen s (z .cell)) ∙ o)
 
   -- the abstract machine ends the same tokens
   state-cells : {n : ℕ} {B : List Binding} {F : List Frame} {U : List ℕ} {t : State} {h : Held} {x : Abstract.Token}

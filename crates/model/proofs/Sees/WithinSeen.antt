@@ -15,18 +15,18 @@ use Rattle.model.specs.Machine.Active.{upward, within}
 use Rattle.model.specs.Machine.InUse.{marked}
 use Rattle.model.specs.declared.token.Place.{Place}
 use Rattle.model.specs.declared.token.Place.the-variants as places
-use Rattle.job.proofs.WellFormed.{member-any}
+use Rattle.job.proofs.WellFormed.{member-some}
 use Rattle.job.proofs.Test.{clash, eq-eqb, ne-eqb}
 use Rattle.model.proofs.Machine.Marks.{Free, marked-le-length, marked-set-free}
 use Rattle.simulation.proofs.Store.{_not-in_}
 use Rattle.model.proofs.Sees.View.{World, CellSeen, CellsSeen, root, below}
 
 -- names in a list
-pub not-any : (n : ℕ) (U : List ℕ) → forSome (eqb n) U ≡ false → n not-in U
-not-any n U e m = clash (member-any m) e
+pub not-some : (n : ℕ) (U : List ℕ) → forSome (eqb n) U ≡ false → n not-in U
+not-some n U e m = clash (member-some m) e
 
 pub some-first : (n : ℕ) (U : List ℕ) → forSome (eqb n) (n ∷ U) ≡ true
-some-first n U = member-any (List·Memᴰ·head refl)
+some-first n U = member-some (List·Memᴰ·head refl)
 
 pub some-rest : (test : ℕ → Bool) (C D : List ℕ) → forSome test (C ++ D) ≡ false → forSome test D ≡ false
 unfolding forSome _or_

@@ -26,7 +26,6 @@ use Rattle.model.specs.Run.Call.{Call, Runner, outcomeOf, eventsOf, even
 use Rattle.model.specs.Run.Demand3.{Middle}
 use Rattle.model.specs.declared.token.Place.the-variants as places
 use Rattle.model.specs.declared.record.Machine.{Machine}
-use Rattle.model.specs.declared.reply.Refusal.{Refusal}
 use Rattle.model.specs.declared.reply.Reply.the-variants as replies
 use Rattle.model.specs.declared.reply.Outcome.{Outcome}
 use Rattle.calculus.proofs.Computing.{meant, rewritten}
