@@ -199,10 +199,6 @@ run-prints lim most d bytes = whole (from lim most d (most + length bytes + 1) f
 
 -- the program: an input that is too long, a table that is declined, a run
 module _ (input : List ℕ) where
-  pub orcrun-long : 65536 < length input → orcrun input ≡ textOfAll (long ∷ [])
-  unfolding orcrun inputLines
-  orcrun-long l = rw (lt-not-leb (length input) 65536 l, inputLines) refl
-
   pub orcrun-declines : (n e : ℕ) → length input ≤ 65536 → readTable (take (tableLength input) input) ≡ declined n e
       → orcrun input ≡ textOfAll (Line.table n e ∷ [])
   unfolding orcrun inputLines tableLines
@@ -218,3 +214,7 @@ module _ (input : List ℕ) where
     run-prints paper 100000 (construct p) (drop (tableLength input) input),
     rw (le-leb (length input) 65536 l, r, inputLines, tableLines) refl,
   )
+
+  pub orcrun-long : 65536 < length input → orcrun input ≡ textOfAll (long ∷ [])
+  unfolding orcrun inputLines
+  orcrun-long l = rw (lt-not-leb (length input) 65536 l, inputLines) refl
