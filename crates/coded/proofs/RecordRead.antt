@@ -13,8 +13,7 @@ use Rattle.job.specs.Test.{forAll, same}
 use Rattle.job.specs.Node.{Dag}
 use Rattle.model.specs.Machine.Blank.{empty, slotAt}
 use Rattle.model.specs.Machine.Limits.{Limits, paper}
-use Rattle.model.specs.Machine.State.{isReady, isWaiting}
-use Rattle.model.specs.Machine.Rules.{heldInRange, slotInRange, tokenInRange, cellInRange, sizesInRange, rulesHold}
+use Rattle.model.specs.Machine.Rules.{heldInRange, slotInRange, tokenInRange, cellInRange, rulesHold}
 use Rattle.model.specs.declared.token.Slot.{Slot}
 use Rattle.model.specs.declared.token.Slot.the-variants as slots
 use Rattle.model.specs.declared.token.Bind.{Bind}
@@ -30,7 +29,7 @@ use Rattle.model.specs.declared.record.Machine.{Machine}
 use Rattle.job.proofs.Test.{and-left, and-right, eqb-eq, all-at, same-refl}
 use Rattle.job.proofs.Lists.{table, listed}
 use Rattle.job.proofs.Number.{signed-unsigned}
-use Rattle.model.proofs.Machine.Rules.{each-rule-holds, names-once}
+use Rattle.model.proofs.Machine.Rules.{each-rule-holds, tokens-sized, cells-sized, queue-sized, waits-sized}
 use Rattle.record.specs.Layout.{rowOf, cellRow, tableWords, wordsOf, parts, countWords}
 use Rattle.record.specs.Layout.{slotKind, slotNumber, stateKind, stateNumber, placeNumber, heldKind, heldNumber}
 use Rattle.record.specs.LayoutDecoded.{machineOf, tableFrom, tokenFrom, cellFrom, bindsFrom, placeFrom, heldFrom, slotFrom, stateFrom}
@@ -142,18 +141,16 @@ same-fields t s q n w k a p c = cc
 -- a record that keeps the rules
 module _ (d : Dag) (m : Machine) (holds : rulesHold paper d m ≡ true) where
   tokens-64 : length (m .tokens) ≡ 64
-  unfolding sizesInRange
-  tokens-64 = eqb-eq (length (m .tokens)) 64 (and-left _ _ (each-rule-holds paper d m holds .sizes))
+  tokens-64 = tokens-sized paper d m holds
 
   cells-32 : length (m .cells) ≡ 32
-  unfolding sizesInRange
-  cells-32 = eqb-eq (length (m .cells)) 32 (and-left _ _ (and-right _ _ (each-rule-holds paper d m holds .sizes)))
+  cells-32 = cells-sized paper d m holds
 
   queue-64 : length (m .queue) ≡ 64
-  queue-64 = names-once isReady (m .tokens) (m .queue) (m .queued) (each-rule-holds paper d m holds .queue) .size ∙ tokens-64
+  queue-64 = queue-sized paper d m holds
 
   waits-64 : length (m .waits) ≡ 64
-  waits-64 = names-once isWaiting (m .tokens) (m .waits) (m .waiting) (each-rule-holds paper d m holds .waits) .size ∙ tokens-64
+  waits-64 = waits-sized paper d m holds
 
   tokens-read : machineOf (wordsOf m) .tokens ≡ m .tokens
   unfolding machineOf wordsOf parts

@@ -8,6 +8,7 @@ pub mod ActsKeep
 pub mod NotRule
 pub mod Reached
 pub mod Runs
+pub mod ProgramRuns
 pub mod Never
 pub mod Unblanked
 pub mod UnblankedInstructions

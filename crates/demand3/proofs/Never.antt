@@ -2,7 +2,7 @@
 -- reached, so it keeps the rules, and a call on such a record is not refused with 14. For all limits with tables that have a place and are
 -- no smaller than the limits, in particular the paper's. By the same rules each ready token of such a record has one position in the queue.
 -- Assumes nothing.
-use mathlib.Core.Path.{_≡_}
+use mathlib.Core.Path.{_≡_, refl}
 use mathlib.Core.Bool.{true}
 use mathlib.Core.List.{List}
 use Prim.Native.Nat.{ℕ, _<_}
@@ -16,17 +16,15 @@ use Rattle.model.specs.Machine.Limits.{Limits}
 use Rattle.model.specs.Machine.Blank.{tokenAt}
 use Rattle.model.specs.Machine.State.{isReady}
 use Rattle.model.specs.Machine.Rules.{rulesHold}
-use Rattle.calculus.specs.Meaning.{meaning}
 use Rattle.model.specs.Run.Call.{Call, runner, outcomeOf, machineAfter, started}
 use Rattle.model.specs.Machine.Reply.{refusalOf}
 use Rattle.model.specs.declared.reply.Reply.the-variants as replies
-use Rattle.job.proofs.DagHolds.{construct-holds}
 use Rattle.job.proofs.Accepted.{accepted-well-formed}
 use Rattle.model.proofs.Sees.Labelling.{labelsOf}
-use Rattle.model.proofs.Sees.Flowing.{construct-flows}
 use Rattle.model.proofs.Run.OnePosition.{one-position}
 use Rattle.demand3.proofs.Reached.{Roomy}
-use Rattle.demand3.proofs.Runs.{InRun, run-in-run, in-run-rules}
+use Rattle.demand3.proofs.Runs.{InRun}
+use Rattle.demand3.proofs.ProgramRuns.{calls-of-run, rules-of-run}
 use Rattle.demand3.proofs.NotRule.{not-rule}
 
 -- a run on an accepted table
@@ -39,13 +37,12 @@ module _ (lim : Limits) (room : Roomy lim) (table : List ℕ) (p : Program) (rea
 
   pub run-reached : (calls : List Call)
       → InRun lim (construct p) (labelsOf p) (machineAfter runner lim (construct p) (started runner lim (construct p)) calls)
-  run-reached calls = run-in-run lim d (labelsOf p) room (construct-flows p good) (construct-holds p good) (meaning p .body) calls
+  run-reached calls = calls-of-run lim room p good d refl calls
 
   -- the index rules hold of every record of a run
   pub run-rules : (calls : List Call)
       → rulesHold lim (construct p) (machineAfter runner lim (construct p) (started runner lim (construct p)) calls) ≡ true
-  run-rules calls = in-run-rules lim d (labelsOf p) room (construct-flows p good) (construct-holds p good) (meaning p .body)
-      (run-reached calls)
+  run-rules calls = rules-of-run lim room p good d refl (run-reached calls)
 
   -- each ready token of a record of a run stands at exactly one position of the queue
   pub run-one-position : (calls : List Call) (place : ℕ)

@@ -9,7 +9,7 @@ use Prim.Native.Nat.{ℕ, _≤_, _<_}
 use native.Mathlib.Omega.{arith}
 use lib.ListN.{length}
 use Rattle.job.specs.Syntax.{Program}
-use Rattle.job.specs.Node.{Dag, dagHolds}
+use Rattle.job.specs.Node.{Dag}
 use Rattle.job.specs.Read.{readTable, accepted}
 use Rattle.job.specs.WellFormed.{WellFormed}
 use Rattle.job.specs.Construct.{construct}
@@ -29,14 +29,10 @@ use Rattle.model.specs.declared.record.Machine.{Machine}
 use Rattle.model.specs.declared.reply.Outcome.{Outcome}
 use Rattle.model.specs.declared.reply.Reply.the-variants as replies
 use Rattle.job.proofs.Accepted.{accepted-well-formed}
-use Rattle.job.proofs.DagHolds.{construct-holds}
 use Rattle.model.proofs.Machine.StartAccepted.{words-construct}
 use Rattle.model.proofs.Run.Passage.{refused-leaves}
-use Rattle.model.proofs.Sees.Labels.{Flow}
-use Rattle.model.proofs.Sees.Labelling.{labelsOf}
-use Rattle.model.proofs.Sees.Flowing.{construct-flows}
 use Rattle.demand3.proofs.Reached.{paper-roomy}
-use Rattle.demand3.proofs.Runs.{InRun, run-in-run, call-in-run, in-run-rules}
+use Rattle.demand3.proofs.ProgramRuns.{OfRun, call-of-run, calls-of-run, rules-of-run}
 use Rattle.demand3.proofs.NotRule.{not-rule}
 use Rattle.demand3.proofs.LoadedDemand3.{loaded-first, loaded-last}
 use Rattle.record.specs.Layout.{wordsOf}
@@ -78,37 +74,31 @@ module _ (dag : List ℕ) (m : Machine) (holds : rulesHold paper (dagOf dag) m �
 
 -- calls, one after another, from a record of a run
 module _ (dag : List ℕ) (p : Program) (good : WellFormed p) (same : dagOf dag ≡ construct p) where
-  holds : dagHolds (dagOf dag) ≡ true
-  holds = ap dagHolds same ∙ construct-holds p good
+  abbrev Reached : Machine → Type 0
+  Reached m = OfRun paper paper-roomy p good (dagOf dag) same m
 
-  flows : Flow (dagOf dag) (labelsOf p)
-  flows = subst (λ (d : Dag). Flow d (labelsOf p)) (sym same) (construct-flows p good)
+  next : (m : Machine) (c : Call) → Reached m → Reached (outcomeOf runner paper (dagOf dag) m c .machine)
+  next m c r = call-of-run paper paper-roomy p good (dagOf dag) same m c r
 
-  abbrev OfRun : Machine → Type 0
-  OfRun m = InRun paper (dagOf dag) (labelsOf p) m
+  lawful : {m : Machine} → Reached m → rulesHold paper (dagOf dag) m ≡ true
+  lawful r = rules-of-run paper paper-roomy p good (dagOf dag) same r
 
-  call-of-run : (m : Machine) (c : Call) → OfRun m → OfRun (outcomeOf runner paper (dagOf dag) m c .machine)
-  call-of-run m c r = call-in-run paper (dagOf dag) (labelsOf p) paper-roomy flows holds (meaning p .body) m c r
-
-  rules-of-run : {m : Machine} → OfRun m → rulesHold paper (dagOf dag) m ≡ true
-  rules-of-run r = in-run-rules paper (dagOf dag) (labelsOf p) paper-roomy flows holds (meaning p .body) r
-
-  words-follow : (calls : List Call) (m : Machine) → OfRun m
+  words-follow : (calls : List Call) (m : Machine) → Reached m
       → wordsAfter dag (wordsOf m) calls ≡ wordsOf (machineAfter runner paper (dagOf dag) m calls)
   unfolding wordsAfter machineAfter inWords
   words-follow [] m r = refl
   words-follow (c ∷ cs) m r =
-      ap (λ (x : Result). wordsAfter dag (x .words) cs) (call-on-words dag m (rules-of-run r) c)
-      ∙ words-follow cs (outcomeOf runner paper (dagOf dag) m c .machine) (call-of-run m c r)
+      ap (λ (x : Result). wordsAfter dag (x .words) cs) (call-on-words dag m (lawful r) c)
+      ∙ words-follow cs (outcomeOf runner paper (dagOf dag) m c .machine) (next m c r)
 
-  events-follow : (calls : List Call) (m : Machine) → OfRun m
+  events-follow : (calls : List Call) (m : Machine) → Reached m
       → eventList dag (wordsOf m) calls ≡ eventsFrom runner paper (dagOf dag) m calls
   unfolding eventList eventsFrom inWords
   events-follow [] m r = refl
   events-follow (c ∷ cs) m r =
       let o : Outcome = outcomeOf runner paper (dagOf dag) m c in
-      ap (λ (x : Result). eventsOf c (x .reply) (x .values) ++ eventList dag (x .words) cs) (call-on-words dag m (rules-of-run r) c)
-      ∙ ap (λ es. eventsOf c (o .reply) (o .values) ++ es) (events-follow cs (o .machine) (call-of-run m c r))
+      ap (λ (x : Result). eventsOf c (x .reply) (x .values) ++ eventList dag (x .words) cs) (call-on-words dag m (lawful r) c)
+      ∙ ap (λ es. eventsOf c (o .reply) (o .values) ++ es) (events-follow cs (o .machine) (next m c r))
 
 -- An accepted table, loaded into an array of words, whatever that held; and the words that are lent for the record, whatever they hold
 module _ (table : List ℕ) (p : Program) (read : readTable table ≡ accepted p) (array : List ℕ) (sized : length array ≡ arrayWords)
@@ -129,8 +119,8 @@ module _ (table : List ℕ) (p : Program) (read : readTable table ≡ accepted p
   abbrev recordAfter : List Call → Machine
   recordAfter calls = machineAfter runner paper d (started runner paper d) calls
 
-  of-run : (calls : List Call) → OfRun dag p good same (recordAfter calls)
-  of-run calls = run-in-run paper d (labelsOf p) paper-roomy (flows dag p good same) (holds dag p good same) (meaning p .body) calls
+  reached : (calls : List Call) → Reached dag p good same (recordAfter calls)
+  reached calls = calls-of-run paper paper-roomy p good d same calls
 
   -- the start is accepted, and leaves the words of the run's first record
   pub public-start : startOn dag lent ≡ inWords (start paper d)
@@ -150,17 +140,17 @@ module _ (table : List ℕ) (p : Program) (read : readTable table ≡ accepted p
   unfolding inWords machineAfter
   public-words calls =
       ap (λ (x : Result). wordsAfter dag (x .words) calls) public-start
-      ∙ words-follow dag p good same calls (started runner paper d) (of-run [])
+      ∙ words-follow dag p good same calls (started runner paper d) (reached [])
 
   pub public-record : (calls : List Call) → machineOf (wordsAfter dag (startOn dag lent .words) calls) ≡ recordAfter calls
   public-record calls =
-      ap machineOf (public-words calls) ∙ record-read d (recordAfter calls) (rules-of-run dag p good same (of-run calls))
+      ap machineOf (public-words calls) ∙ record-read d (recordAfter calls) (lawful dag p good same (reached calls))
 
   pub public-call : (calls : List Call) (c : Call)
       → resultOf dag (wordsAfter dag (startOn dag lent .words) calls) c ≡ inWords (outcomeOf runner paper d (recordAfter calls) c)
   public-call calls c =
       ap (λ ws. resultOf dag ws c) (public-words calls)
-      ∙ call-on-words dag (recordAfter calls) (rules-of-run dag p good same (of-run calls)) c
+      ∙ call-on-words dag (recordAfter calls) (lawful dag p good same (reached calls)) c
 
   -- "First part: each run's event list is allowed for its table"
   pub public-first : (calls : List Call) → Allowed (meaning p) (eventList dag (startOn dag lent .words) calls)
@@ -168,7 +158,7 @@ module _ (table : List ℕ) (p : Program) (read : readTable table ≡ accepted p
   public-first calls =
       subst (Allowed (meaning p))
       (sym (ap (λ (x : Result). eventList dag (x .words) calls) public-start
-      ∙ events-follow dag p good same calls (started runner paper d) (of-run [])))
+      ∙ events-follow dag p good same calls (started runner paper d) (reached [])))
       (loaded-first table p read array sized 64 32 1000000 (omega arith) .1 calls)
 
   -- "Last part: .. Take any moment of a run and a token then ready with k others before it in the queue, .."
@@ -184,5 +174,5 @@ module _ (table : List ℕ) (p : Program) (read : readTable table ≡ accepted p
       → resultOf dag (wordsAfter dag (startOn dag lent .words) calls) c .reply ≡ replies.Refused (refusalOf 14) → ⊥
   unfolding inWords
   public-never-14 calls c e =
-      not-rule paper d (recordAfter calls) (rules-of-run dag p good same (of-run calls)) c
+      not-rule paper d (recordAfter calls) (lawful dag p good same (reached calls)) c
       (sym (ap (λ (x : Result). x .reply) (public-call calls c)) ∙ e)

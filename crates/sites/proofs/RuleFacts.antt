@@ -13,14 +13,14 @@ use Rattle.job.specs.Node.{Dag, isNode}
 use Rattle.model.specs.Machine.Limits.{paper}
 use Rattle.model.specs.Machine.Blank.{blankToken, tokenAt}
 use Rattle.model.specs.Machine.Rules as rules
-use Rattle.model.specs.Machine.Rules.{rulesHold, tokenInRange, cellInRange, sizesInRange}
+use Rattle.model.specs.Machine.Rules.{rulesHold, tokenInRange, cellInRange}
 use Rattle.model.specs.Machine.State.{isReady, isWaiting}
 use Rattle.model.specs.declared.token.State.{State}
 use Rattle.model.specs.declared.token.State.the-variants as states
 use Rattle.model.specs.declared.cell.Cell.{Cell}
 use Rattle.model.specs.declared.record.Machine.{Machine}
-use Rattle.job.proofs.Test.{and-left, and-right, eqb-eq, all-at, all-head, all-tail, all-nil, all-cons, all-append, occurrences-append}
-use Rattle.model.proofs.Machine.Rules.{EachRuleHolds, each-rule-holds, NamesOnce, names-once}
+use Rattle.job.proofs.Test.{and-left, and-right, all-at, all-head, all-tail, all-nil, all-cons, all-append, occurrences-append}
+use Rattle.model.proofs.Machine.Rules.{EachRuleHolds, each-rule-holds, NamesOnce, names-once, tokens-sized, cells-sized}
 use Rattle.sites.specs.Look.{LookFacts}
 use Rattle.sites.proofs.OrderCounting.{names-few, names-fewer}
 use Rattle.job.proofs.Test.{once-small}
@@ -42,12 +42,10 @@ module _ (d : Dag) (m : Machine) (k : rulesHold paper d m ≡ true) where
   holds = each-rule-holds paper d m k
 
   pub tokens-size : length (m .tokens) ≡ 64
-  unfolding sizesInRange
-  tokens-size = eqb-eq (length (m .tokens)) 64 (and-left _ _ (holds .sizes))
+  tokens-size = tokens-sized paper d m k
 
   pub cells-size : length (m .cells) ≡ 32
-  unfolding sizesInRange
-  cells-size = eqb-eq (length (m .cells)) 32 (and-left _ _ (and-right (eqb (length (m .tokens)) 64) _ (holds .sizes)))
+  cells-size = cells-sized paper d m k
 
   queue : NamesOnce isReady (m .tokens) (m .queue) (m .queued)
   queue = names-once isReady (m .tokens) (m .queue) (m .queued) (holds .queue)

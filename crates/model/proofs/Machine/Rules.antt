@@ -1,6 +1,6 @@
 -- What the index rules say, rule by rule: the test of all of them is taken apart, and the tests of the orders are turned into facts on the
 -- places they name. Assumes nothing.
-use mathlib.Core.Path.{_≡_, refl, ap, subst}
+use mathlib.Core.Path.{_≡_, refl, _∙_, ap, subst}
 use mathlib.Core.Bool.{Bool, true}
 use mathlib.Core.List.{List, [], _∷_}
 use Prim.Native.Nat.{ℕ, zero, suc, _+_, _<_, _≤_}
@@ -142,6 +142,33 @@ module _ (of : State → Bool) (ts : List Token) (array : List ℕ) (n : ℕ) (o
       once-true _
       (subst (λ i. 0 < i) (o .counts (getD array k 0) order-inside)
       (subst (λ p. 0 < occurrences p (take n array)) at-take (occurrences-at (take n array) k short)))
+
+-- how many places there are, and that the last ones given are among them
+module _ (lim : Limits) (d : Dag) (m : Machine) (holds : rulesHold lim d m ≡ true) where
+  each : EachRuleHolds lim d m
+  each = each-rule-holds lim d m holds
+
+  pub tokens-sized : length (m .tokens) ≡ lim .tokenPlaces
+  unfolding rules.sizesInRange
+  tokens-sized = eqb-eq _ _ (and-left _ _ (each .sizes))
+
+  pub cells-sized : length (m .cells) ≡ lim .cellPlaces
+  unfolding rules.sizesInRange
+  cells-sized = eqb-eq _ _ (and-left _ _ (and-right _ _ (each .sizes)))
+
+  pub lasttoken-inside : m .lasttoken < lim .tokenPlaces
+  unfolding rules.sizesInRange
+  lasttoken-inside = ltb-lt _ _ (and-left _ _ (and-right _ _ (and-right _ _ (and-right _ _ (each .sizes)))))
+
+  pub lastcell-inside : m .lastcell < lim .cellPlaces
+  unfolding rules.sizesInRange
+  lastcell-inside = ltb-lt _ _ (and-right _ _ (and-right _ _ (and-right _ _ (and-right _ _ (each .sizes)))))
+
+  pub queue-sized : length (m .queue) ≡ lim .tokenPlaces
+  queue-sized = names-once isReady (m .tokens) (m .queue) (m .queued) (each .queue) .size ∙ tokens-sized
+
+  pub waits-sized : length (m .waits) ≡ lim .tokenPlaces
+  waits-sized = names-once isWaiting (m .tokens) (m .waits) (m .waiting) (each .waits) .size ∙ tokens-sized
 
 -- what a ready token's state is
 pub ready-state : (s : State) → isReady s ≡ true → s ≡ states.Ready

@@ -13,7 +13,7 @@ use Rattle.model.specs.Machine.Limits.{Limits}
 use Rattle.model.specs.Machine.Blank.{blankToken, tokenAt}
 use Rattle.model.specs.Machine.Active.{underSet}
 use Rattle.model.specs.Machine.State.{isReady}
-use Rattle.model.specs.Machine.Rules.{notUnderSet, sizesInRange, rulesHold}
+use Rattle.model.specs.Machine.Rules.{notUnderSet, rulesHold}
 use Rattle.model.specs.Run.Follow.{queuedToken}
 use Rattle.model.specs.declared.token.State.{State}
 use Rattle.model.specs.declared.token.Token.{Token}
@@ -21,7 +21,7 @@ use Rattle.model.specs.declared.cell.Cell.{Cell}
 use Rattle.model.specs.declared.record.Machine.{Machine}
 use Rattle.model.proofs.Machine.Rules.{EachRuleHolds, each-rule-holds, NamesOnce, names-once, order-inside, order-names}
 use Rattle.model.proofs.Machine.Rules.{occurrences-here, occurrences-at, ready-live}
-use Rattle.job.proofs.Test.{eqb-eq, ltb-lt, and-left, and-right, all-at, not-true, once-small}
+use Rattle.job.proofs.Test.{all-at, not-true, once-small}
 
 -- what stands at the front and again behind is counted twice
 counted-twice : (q : List ℕ) (k : ℕ) → suc k < length q → getD q 0 0 ≡ getD q (suc k) 0 → 1 < occurrences (getD q (suc k) 0) q
@@ -89,12 +89,3 @@ module _ (lim : Limits) (d : Dag) (m : Machine) (holds : rulesHold lim d m ≡ t
 
       ready : (k : ℕ) → k < m .queued → isReady (queuedToken m k .state) ≡ true
       ready = order-names isReady (m .tokens) (m .queue) (m .queued) names
-
-  -- how many places there are, and that the last one given is one of them
-  pub tokens-sized : length (m .tokens) ≡ lim .tokenPlaces
-  unfolding sizesInRange
-  tokens-sized = eqb-eq _ _ (and-left _ _ (rules .sizes))
-
-  pub lasttoken-inside : m .lasttoken < lim .tokenPlaces
-  unfolding sizesInRange
-  lasttoken-inside = ltb-lt _ _ (and-left _ _ (and-right _ _ (and-right _ _ (and-right _ _ (rules .sizes)))))

@@ -38,7 +38,8 @@ use Rattle.job.proofs.Test.{clash, ltb-lt, not-false}
 use Rattle.model.proofs.Machine.InUse.{tokens-used}
 use Rattle.model.proofs.Machine.Places.{next-place-free}
 use Rattle.model.proofs.Machine.Refused.{After, after-unless, after-outcome, StepAccepted, step-accepted}
-use Rattle.model.proofs.Run.Queue.{QueueRulesHold, queue-rules-hold, tokens-sized, lasttoken-inside}
+use Rattle.model.proofs.Machine.Rules.{tokens-sized, lasttoken-inside}
+use Rattle.model.proofs.Run.Queue.{QueueRulesHold, queue-rules-hold}
 use Rattle.model.proofs.Run.Survivors.{among, Behind, select-finds, survivors-all, survivors-pass, fate-stays}
 use Rattle.model.proofs.Run.ChokeStands.{readyThen, queueThen, within-ready, untouched-choked}
 use Rattle.model.proofs.Run.Bystander.{Unharmed, Untouched, queue-orders, untouched-orders, untouched-waits, untouched-enqueue}

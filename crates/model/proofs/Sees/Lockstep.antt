@@ -17,7 +17,7 @@ use Rattle.model.specs.Machine.Limits.{Limits, limits}
 use Rattle.model.specs.Machine.Blank.{blankToken, tokenAt}
 use Rattle.model.specs.Machine.InUse.{tokensUsed, cellsUsed, marked}
 use Rattle.model.specs.Machine.FreePlace.{nextPlace}
-use Rattle.model.specs.Machine.Rules.{tokenInRange, sizesInRange, rulesHold}
+use Rattle.model.specs.Machine.Rules.{tokenInRange, rulesHold}
 use Rattle.model.specs.Machine.Reply.{Effect, moves, waits, publishes, calls, refuses, accepted, outcome, isRefused}
 use Rattle.model.specs.Machine.Step as Step
 use Rattle.model.specs.Machine.Update.{withOrders, queueOf, waitsOf}
@@ -34,14 +34,15 @@ use Rattle.model.specs.declared.token.State.{State}
 use Rattle.model.specs.declared.record.Machine.{Machine}
 use Rattle.model.specs.declared.reply.Reply.the-variants as replies
 use Rattle.model.specs.declared.reply.Outcome.{Outcome}
-use Rattle.job.proofs.Test.{clash, holds-or-fails, and-left, and-right, all-at, ltb-lt, eqb-eq}
+use Rattle.job.proofs.Test.{clash, holds-or-fails, and-left, all-at, ltb-lt}
 use Rattle.model.proofs.Machine.Marks.{Free}
 use Rattle.model.proofs.Machine.InUse.{tokens-used, cells-used}
 use Rattle.model.proofs.Machine.Places.{next-place-free}
 use Rattle.model.proofs.Machine.Rules.{EachRuleHolds, each-rule-holds, ready-state}
+use Rattle.model.proofs.Machine.Rules.{tokens-sized, cells-sized, lasttoken-inside, lastcell-inside}
 use Rattle.model.proofs.Machine.Refused.{StepAccepted, step-accepted, AnswerAccepted, answer-accepted}
 use Rattle.model.proofs.Run.Passage.{eventsBy, Passage, passage}
-use Rattle.model.proofs.Run.Queue.{queue-rules-hold, tokens-sized, lasttoken-inside}
+use Rattle.model.proofs.Run.Queue.{queue-rules-hold}
 use Rattle.simulation.proofs.AbstractMachine as Abstract
 use Rattle.simulation.proofs.AbstractMachine.{Binding, Frame, at, Store, state, labelOf, after, Move, startAt}
 use Rattle.model.proofs.Sees.Labels.{Labels, programOf, Flow}
@@ -65,14 +66,6 @@ module _ (lim : Limits) (d : Dag) (m : Machine) (holds : rulesHold lim d m ≡ t
   rules : EachRuleHolds lim d m
   rules = each-rule-holds lim d m holds
 
-  cells-sized : length (m .cells) ≡ lim .cellPlaces
-  unfolding sizesInRange
-  cells-sized = eqb-eq _ _ (and-left _ _ (and-right _ _ (rules .sizes)))
-
-  lastcell-inside : m .lastcell < lim .cellPlaces
-  unfolding sizesInRange
-  lastcell-inside = ltb-lt _ _ (and-right _ _ (and-right _ _ (and-right _ _ (and-right _ _ (rules .sizes)))))
-
   pub free-token : Fitting lim → hasTokenPlace lim m ≡ true → Free (tokensUsed m) (nextPlace (tokensUsed m) (m .lasttoken))
   unfolding hasTokenPlace
   free-token fits e =
@@ -88,8 +81,8 @@ module _ (lim : Limits) (d : Dag) (m : Machine) (holds : rulesHold lim d m ≡ t
   free-cell fits e =
       let few = ltb-lt (marked (cellsUsed m)) (lim .cells) e in
       let size = cells-used (tokensUsed m) (m .tokens) (m .cells) (tokens-used (m .tokens) (m .cells) .size) .size in
-      let places = cells-sized in
-      let last = lastcell-inside in
+      let places = cells-sized lim d m holds in
+      let last = lastcell-inside lim d m holds in
       let room : lim .cells ≤ lim .cellPlaces = fits .cells in
       next-place-free (cellsUsed m) (m .lastcell) (omega arith) (omega arith)
 
