@@ -8,6 +8,8 @@ pub data Event : Type 0 where
   publish : ℤ → Event
   call : (handle site : ℕ) → List ℤ → Event
   answer : (handle : ℕ) → ℤ → Event
+  -- document 02, request 1: "A run's calls now hold clock moves; an accepted one is an event (its time)"
+  move : (time : ℕ) → Event
 
 pub data Label : Type 0 where
   silently : Label

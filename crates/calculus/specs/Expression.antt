@@ -20,6 +20,8 @@ pub data Exp : Type 0 where
   prune : (f g : Exp) → Exp
   -- document 01: open call. It is named by its handle
   pending : (handle : ℕ) → Exp
+  -- document 02, request 1: a call of rwait, whose due time is fixed
+  due : (time : ℕ) → Exp
   -- document 01: value in hand
   hand : (v : ℤ) → Exp
 
@@ -49,6 +51,7 @@ substitute σ (par f g) = par (substitute σ f) (substitute σ g)
 substitute σ (seq f g) = seq (substitute σ f) (substitute (lift σ) g)
 substitute σ (prune f g) = prune (substitute (lift σ) f) (substitute σ g)
 substitute σ (pending h) = pending h
+substitute σ (due d) = due d
 substitute σ (hand v) = hand v
 
 -- v for the innermost variable; the others are one binder nearer

@@ -3,16 +3,16 @@ use mathlib.Core.Path.{_≡_}
 use mathlib.Core.Bool.{true}
 use mathlib.Core.List.{List, [], _∷_}
 use mathlib.Core.Option.{Option, some, none}
-use Prim.Native.Nat.{ℕ}
-use lib.IntN.{ℤ}
+use Prim.Native.Nat.{ℕ, _≤_}
+use lib.IntN.{ℤ, pos}
 use Rattle.job.specs.Number.{Signed32}
-use Rattle.job.specs.Site.{gives, silent, isBuiltin, isOutside, builtin}
+use Rattle.job.specs.Site.{gives, silent, later, dueTime, isBuiltin, isOutside, builtin}
 use Rattle.calculus.specs.Event.{Event, Label, silently, showing}
-use Rattle.calculus.specs.Expression.{Param, value, variable, Exp, stop, site, call, par, seq, prune, pending, hand}
+use Rattle.calculus.specs.Expression.{Param, value, variable, Exp, stop, site, call, par, seq, prune, pending, due, hand}
 use Rattle.calculus.specs.Expression.{substitute, innermost}
 use Rattle.calculus.specs.Expression.{formals}
 
--- every label but publishing
+-- every label of a rewriting but publishing. (A move of the clock is no rewriting.)
 pub data NotPublishing : Label → Type 0 where
   silence : NotPublishing silently
   calling : {h s : ℕ} {vs : List ℤ} → NotPublishing (showing (Event.call h s vs))
@@ -24,8 +24,8 @@ paramValues [] = some []
 paramValues (value v ∷ ps) = elim (paramValues ps) [ none ↦ none | some vs ↦ some (v ∷ vs) ]
 paramValues (variable i ∷ ps) = none
 
--- f becomes f′ with this label; `body` has the definitions, and h is the next handle
-module _ (body : ℕ → Exp) (h : ℕ) where
+-- f becomes f′ with this label; `body` has the definitions, h is the next handle, and `now` the time
+module _ (body : ℕ → Exp) (h now : ℕ) where
   pub data Rewrites : Exp → Label → Exp → Type 0 where
     -- "A built-in call with all values silently becomes its value in hand, .."
     builtin-gives : {s : ℕ} {ps : List Param} {vs : List ℤ} {v : ℤ}
@@ -33,6 +33,16 @@ module _ (body : ℕ → Exp) (h : ℕ) where
     -- ".. or stop where it is silent."
     builtin-silent : {s : ℕ} {ps : List Param} {vs : List ℤ}
         → paramValues ps ≡ some vs → isBuiltin s ≡ true → builtin s vs ≡ silent → Rewrites (site s ps) silently stop
+    -- document 02, request 1: "It silently fixes rwait's due time at the call, .."
+    builtin-later : {s d : ℕ} {ps : List Param} {vs : List ℤ} {t : ℤ}
+        → paramValues ps ≡ some vs → isBuiltin s ≡ true → builtin s vs ≡ later t → dueTime now t ≡ some d
+        → Rewrites (site s ps) silently (due d)
+    -- ".. answers it with 0 once that clock has reached it, .."
+    fell-due : {d : ℕ} → d ≤ now → Rewrites (due d) silently (hand (pos 0))
+    -- ".. and makes it stop where it is silent or never falls due."
+    builtin-never : {s : ℕ} {ps : List Param} {vs : List ℤ} {t : ℤ}
+        → paramValues ps ≡ some vs → isBuiltin s ≡ true → builtin s vs ≡ later t → dueTime now t ≡ none
+        → Rewrites (site s ps) silently stop
     -- "An outside call with all values becomes an open call; .."
     outside-call : {s : ℕ} {ps : List Param} {vs : List ℤ}
         → paramValues ps ≡ some vs → isOutside s ≡ true → Rewrites (site s ps) (showing (Event.call h s vs)) (pending h)

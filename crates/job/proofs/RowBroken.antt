@@ -10,7 +10,7 @@ use lib.ListN.{getD}
 use Rattle.job.specs.Site.{builtinCounts, siteTakes, isBuiltin, isOutside}
 use Rattle.job.specs.Test.{_and_, _or_}
 use Rattle.job.specs.Entry.{low, high, EntryKind, kindOf, rowHolds}
-use Rattle.job.specs.Declined.{OwnCount, let', ift, iff, signal, add, less, equal}
+use Rattle.job.specs.Declined.{OwnCount, let', ift, iff, signal, add, less, equal, rwait}
 use Rattle.job.specs.Declined.{RowBroken, stop-operand, par-operand, seq-operand, prune-operand}
 use Rattle.job.specs.Declined.{site-count, site-unknown, site-beyond, builtin-count, call-count, formals-count}
 use Rattle.job.proofs.Test.{eqb-eq, ne-eqb, eqb-ne, lt-not-leb, not-leb-lt, clash, false-of, holds-or-fails}
@@ -28,8 +28,9 @@ own-takes signal = refl
 own-takes add = refl
 own-takes less = refl
 own-takes equal = refl
+own-takes rwait = refl
 
-count-own : (s n : ℕ) → s < 7 → n ≡ getD builtinCounts s 0 → OwnCount s n
+count-own : (s n : ℕ) → s < 8 → n ≡ getD builtinCounts s 0 → OwnCount s n
 count-own zero n l e = rw e let'
 count-own (suc zero) n l e = rw e ift
 count-own (suc (suc zero)) n l e = rw e iff
@@ -37,24 +38,25 @@ count-own (suc (suc (suc zero))) n l e = rw e signal
 count-own (suc (suc (suc (suc zero)))) n l e = rw e add
 count-own (suc (suc (suc (suc (suc zero))))) n l e = rw e less
 count-own (suc (suc (suc (suc (suc (suc zero)))))) n l e = rw e equal
-count-own (suc (suc (suc (suc (suc (suc (suc s))))))) n l e = absurd (omega arith)
+count-own (suc (suc (suc (suc (suc (suc (suc zero))))))) n l e = rw e rwait
+count-own (suc (suc (suc (suc (suc (suc (suc (suc s)))))))) n l e = absurd (omega arith)
 
-takes-own : (s n : ℕ) → s < 7 → siteTakes s n ≡ true → OwnCount s n
+takes-own : (s n : ℕ) → s < 8 → siteTakes s n ≡ true → OwnCount s n
 takes-own s n l t = count-own s n l (eqb-eq n _ (sym (takes-builtin s n l) ∙ t))
 
 -- a site call's row, from the test that fails
 site-breaks : (o : ℕ) → siteTakes (low o) (high o) ≡ false → RowBroken 1 o
-site-breaks o f = builtin (decLt (low o) 7)
+site-breaks o f = builtin (decLt (low o) 8)
   where
     outside : 16 ≤ low o → Dec (1023 < low o) → RowBroken 1 o
     outside l (yes m) = site-beyond m
     outside l (no m) = site-count (not-leb-lt (high o) 4 (sym (takes-outside (low o) (high o) l (omega arith)) ∙ f))
 
-    unknown : 7 ≤ low o → Dec (low o < 16) → RowBroken 1 o
+    unknown : 8 ≤ low o → Dec (low o < 16) → RowBroken 1 o
     unknown l (yes m) = site-unknown l (omega arith)
     unknown l (no m) = outside (omega arith) (decLt 1023 (low o))
 
-    builtin : Dec (low o < 7) → RowBroken 1 o
+    builtin : Dec (low o < 8) → RowBroken 1 o
     builtin (yes l) = builtin-count {o = o} (omega arith) (λ c. clash (own-takes c) f)
     builtin (no l) = unknown (omega arith) (decLt (low o) 16)
 

@@ -15,18 +15,18 @@ or-false true = refl
 or-false false = refl
 
 module _ (s n : ℕ) where
-  pub takes-builtin : s < 7 → siteTakes s n ≡ eqb n (getD builtinCounts s 0)
+  pub takes-builtin : s < 8 → siteTakes s n ≡ eqb n (getD builtinCounts s 0)
   unfolding siteTakes isBuiltin isOutside _and_
-  takes-builtin l = rw (lt-ltb s 7 l, lt-not-leb 16 s (omega arith)) (or-false _)
+  takes-builtin l = rw (lt-ltb s 8 l, lt-not-leb 16 s (omega arith)) (or-false _)
 
-  pub takes-unknown : 7 ≤ s → s < 16 → siteTakes s n ≡ false
+  pub takes-unknown : 8 ≤ s → s < 16 → siteTakes s n ≡ false
   unfolding siteTakes isBuiltin isOutside _and_ _or_
-  takes-unknown l m = rw (le-not-ltb s 7 l, lt-not-leb 16 s m)
+  takes-unknown l m = rw (le-not-ltb s 8 l, lt-not-leb 16 s m)
 
-  pub takes-far : 7 ≤ s → 1023 < s → siteTakes s n ≡ false
+  pub takes-far : 8 ≤ s → 1023 < s → siteTakes s n ≡ false
   unfolding siteTakes isBuiltin isOutside _and_ _or_
-  takes-far l m = rw (le-not-ltb s 7 l, le-leb 16 s (omega arith), lt-not-leb s 1023 m)
+  takes-far l m = rw (le-not-ltb s 8 l, le-leb 16 s (omega arith), lt-not-leb s 1023 m)
 
   pub takes-outside : 16 ≤ s → s ≤ 1023 → siteTakes s n ≡ leb n 4
   unfolding siteTakes isBuiltin isOutside _and_ _or_
-  takes-outside l m = rw (le-not-ltb s 7 (omega arith), le-leb 16 s l, le-leb s 1023 m)
+  takes-outside l m = rw (le-not-ltb s 8 (omega arith), le-leb 16 s l, le-leb s 1023 m)

@@ -38,8 +38,8 @@ pub site-takes : (s n : ℕ) → siteTakes s n ≡ true → SiteTakes s n
 unfolding siteTakes isBuiltin isOutside
 site-takes s n e = go (or-cases _ _ e)
   where
-    go : ((ltb s 7 and eqb n (getD builtinCounts s 0)) ≡ true) ⊎ (((leb 16 s and leb s 1023) and leb n 4) ≡ true) → SiteTakes s n
-    go (inl h) = builtin (ltb-lt s 7 (and-left (ltb s 7) _ h)) (eqb-eq n (getD builtinCounts s 0) (and-right (ltb s 7) _ h))
+    go : ((ltb s 8 and eqb n (getD builtinCounts s 0)) ≡ true) ⊎ (((leb 16 s and leb s 1023) and leb n 4) ≡ true) → SiteTakes s n
+    go (inl h) = builtin (ltb-lt s 8 (and-left (ltb s 8) _ h)) (eqb-eq n (getD builtinCounts s 0) (and-right (ltb s 8) _ h))
     go (inr h) =
         let range = and-left (leb 16 s and leb s 1023) (leb n 4) h in
         outside (leb-le 16 s (and-left (leb 16 s) (leb s 1023) range))
@@ -48,7 +48,7 @@ site-takes s n e = go (or-cases _ _ e)
 
 pub takes-site : {s n : ℕ} → SiteTakes s n → siteTakes s n ≡ true
 unfolding siteTakes isBuiltin isOutside
-takes-site {s} {n} (builtin l e) = or-left (isOutside s and leb n 4) (and-both (lt-ltb s 7 l) (eq-eqb n (getD builtinCounts s 0) e))
+takes-site {s} {n} (builtin l e) = or-left (isOutside s and leb n 4) (and-both (lt-ltb s 8 l) (eq-eqb n (getD builtinCounts s 0) e))
 takes-site {s} {n} (outside l m k) =
     or-right (isBuiltin s and eqb n (getD builtinCounts s 0)) (and-both (and-both (le-leb 16 s l) (le-leb s 1023 m)) (le-leb n 4 k))
 

@@ -30,6 +30,7 @@ pub data OwnCount : (site count : ℕ) → Type 0 where
   add : OwnCount 4 2
   less : OwnCount 5 2
   equal : OwnCount 6 2
+  rwait : OwnCount 7 1
 
 -- an operand that breaks its row, by the kind's number (docs/DECISIONS.md, "What breaks a row"). Rows 7 and 8 take any operand; an unknown
 -- kind has no row, and 3 comes first.
@@ -41,9 +42,9 @@ pub data RowBroken : (kind operand : ℕ) → Type 0 where
   prune-operand : {o : ℕ} → (o ≡ 0 → ⊥) → RowBroken 5 o
   -- "low 16 bits site, high 16 bits parameter count": "Counts are at most 4", "site unknown, or built-in count wrong"
   site-count : {o : ℕ} → parameterLimit < high o → RowBroken 1 o
-  site-unknown : {o : ℕ} → 7 ≤ low o → low o ≤ 15 → RowBroken 1 o
+  site-unknown : {o : ℕ} → 8 ≤ low o → low o ≤ 15 → RowBroken 1 o
   site-beyond : {o : ℕ} → 1023 < low o → RowBroken 1 o
-  builtin-count : {o : ℕ} → low o ≤ 6 → (OwnCount (low o) (high o) → ⊥) → RowBroken 1 o
+  builtin-count : {o : ℕ} → low o ≤ 7 → (OwnCount (low o) (high o) → ⊥) → RowBroken 1 o
   -- "low 16 bits definition, high 16 bits count"
   call-count : {o : ℕ} → parameterLimit < high o → RowBroken 2 o
   -- "count of formals, 0 to 4"
