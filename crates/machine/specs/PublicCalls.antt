@@ -7,6 +7,7 @@ use Prim.Native.Nat.{ℕ}
 use lib.IntN.{ℤ}
 use Rattle.job.specs.Words.{dagOf}
 use Rattle.model.specs.Machine.Answer as Answer
+use Rattle.model.specs.Machine.Clock as Clock
 use Rattle.model.specs.Machine.Limits.{paper}
 use Rattle.model.specs.Machine.Reply.{outcome, refuses, isRefused}
 use Rattle.model.specs.Machine.Start as Start
@@ -44,6 +45,10 @@ stepOn dag ws place = after ws (ofRecord ws (Step.step paper (dagOf dag) (machin
 -- "An answer tests 14, 12"
 unfoldable pub answerOn : (dag ws : List ℕ) → (handle : ℕ) → (value : ℤ) → Result
 answerOn dag ws handle v = after ws (ofRecord ws (Answer.answer paper (dagOf dag) (machineOf ws) handle v))
+
+-- document 02, request 1: "Checks: 15, .. after 14"
+unfoldable pub advanceOn : (dag ws : List ℕ) → (time : ℕ) → Result
+advanceOn dag ws time = after ws (ofRecord ws (Clock.advance paper (dagOf dag) (machineOf ws) time))
 
 -- a call's report and the words after it are these
 pub record HasResult (g : Result) (r : Report) (ws : List ℕ) : Type 0 where

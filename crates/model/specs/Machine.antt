@@ -1,4 +1,4 @@
--- "One step", the index rules and the refusals 9 to 14.
+-- "One step", the index rules and the refusals 9 to 15.
 pub mod Limits
 pub mod State
 pub mod Blank
@@ -11,3 +11,4 @@ pub mod Reply
 pub mod Start
 pub mod Step
 pub mod Answer
+pub mod Clock

@@ -10,8 +10,8 @@ use crate::token::Slot;
 use crate::token::State;
 use crate::token::Token;
 
-// `queue` and `waits` are in use up to `queued` and `waiting`; `lasttoken` and `lastcell` are the
-// last places given.
+// `queue`, `waits` and `timers` are in use up to `queued`, `waiting` and `timed`; `lasttoken` and `lastcell` are the last places given.
+// `timers` is the order of call of the tokens that are due later, and `clock` the present time.
 pub struct Machine {
     pub tokens: [Token; Machine::TOKENS],
     pub cells: [Cell; Machine::CELLS],
@@ -22,6 +22,9 @@ pub struct Machine {
     pub calls: u32,
     pub lasttoken: u8,
     pub lastcell: u8,
+    pub timers: [u8; Machine::TOKENS],
+    pub timed: usize,
+    pub clock: u32,
 }
 
 impl Machine {
@@ -30,7 +33,7 @@ impl Machine {
     // "Cells in use: at most 32."
     pub const CELLS: usize = 32;
     // The words of a record: crate `record` says which stands where.
-    pub const WORDS: usize = 1797;
+    pub const WORDS: usize = 1863;
 
     // The record of a start: one ready token, at place 0 and at the goal's first node. The other crates work on a record's words, and
     // crate `record` writes those of a start.
@@ -69,6 +72,9 @@ impl Machine {
             calls: 0,
             lasttoken: 0,
             lastcell,
+            timers: [0; Machine::TOKENS],
+            timed: 0,
+            clock: 0,
         }
     }
 }

@@ -1,4 +1,4 @@
-// What start, step and answer hand back.
+// What start, step, answer and advance hand back.
 ghost use mathlib.Core.Path.{_≡_};
 ghost use Rattle.model.specs.Machine.Reply.{numberOf};
 use crate::record::Machine;
@@ -11,9 +11,10 @@ pub enum Refusal {
     NotOpen,
     CallLimit,
     Rule,
+    WrongTime,
 }
 
-// Document 01's number.
+// Document 01's number; 15 is document 02's.
 pub fn number_of(refusal: Refusal) -> u8
     ensures { λ r. ⌜ r ≡ numberOf refusal ⌝ }
 {
@@ -24,6 +25,7 @@ pub fn number_of(refusal: Refusal) -> u8
         Refusal::NotOpen => 12,
         Refusal::CallLimit => 13,
         Refusal::Rule => 14,
+        Refusal::WrongTime => 15,
     }
 }
 

@@ -25,11 +25,13 @@ pub enum Place {
 }
 
 // Document 01: ready, waiting, called-out, frame. `Waiting` names the cell at which the token waits, `Called` the handle of its open call.
+// Document 02, request 1: due later. `Due` has the due time.
 pub enum State {
     Blank,
     Ready,
     Waiting(u8),
     Called(u32),
+    Due(u32),
     Frame,
 }
 

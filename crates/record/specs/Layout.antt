@@ -1,4 +1,4 @@
--- The machine record as 1,797 words of 32 bits. Assumes nothing: these are definitions.
+-- The machine record as 1,863 words of 32 bits. Assumes nothing: these are definitions.
 --
 -- | words        | what stands there                                                                        |
 -- |--------------|------------------------------------------------------------------------------------------|
@@ -9,9 +9,11 @@
 -- | 1792, 1793   | how many names the queue has, and the wait order                                         |
 -- | 1794         | outside calls made                                                                       |
 -- | 1795, 1796   | the place last given to a token, and to a cell                                           |
+-- | 1797 to 1860 | the order of call: the places of the tokens that are due later, first call first, then 0 |
+-- | 1861, 1862   | how many names the order of call has, and the clock                                      |
 --
--- A token: state (0 blank, 1 ready, 2 waiting, 3 called out, 4 frame); the cell at which it waits, or the handle of its open call, else 0;
--- node; caller and cell (place + 1, 0 for none); 1 if it has a value, else 0; the value; 0; and for each of eight variables what it is
+-- A token: state (0 blank, 1 ready, 2 waiting, 3 called out, 4 due later, 5 frame); the cell at which it waits, the handle of its open call,
+-- or its due time, else 0; node; caller and cell (place + 1, 0 for none); 1 if it has a value, else 0; the value; 0; and for each of eight variables what it is
 -- bound to (0 empty, 1 value, 2 cell) and the value or the cell's place. A cell: parent (place + 1, 0 for none); 1 if it is set, else 0;
 -- its value; 0. A value is its 32 bits.
 use mathlib.Core.List.{List, [], _∷_, _++_}
@@ -43,19 +45,24 @@ waitsStart = 1728
 abbrev pub countsStart : ℕ
 countsStart = 1792
 
+abbrev pub timersStart : ℕ
+timersStart = 1797
+
 -- each field as words
 abbrev pub stateKind : State → ℕ
 stateKind states.Blank = 0
 stateKind states.Ready = 1
 stateKind (states.Waiting c) = 2
 stateKind (states.Called h) = 3
-stateKind states.Frame = 4
+stateKind (states.Due d) = 4
+stateKind states.Frame = 5
 
 abbrev pub stateNumber : State → ℕ
 stateNumber states.Blank = 0
 stateNumber states.Ready = 0
 stateNumber (states.Waiting c) = c
 stateNumber (states.Called h) = h
+stateNumber (states.Due d) = d
 stateNumber states.Frame = 0
 
 abbrev pub placeNumber : Place → ℕ
@@ -122,9 +129,13 @@ tableWords f (x ∷ xs) = f x ++ tableWords f xs
 unfoldable pub countWords : Machine → List ℕ
 countWords m = m .queued ∷ m .waiting ∷ m .calls ∷ m .lasttoken ∷ m .lastcell ∷ []
 
--- the five parts in a row
-unfoldable pub parts : List Token → List Cell → (queue waits countWords : List ℕ) → List ℕ
-parts ts cs q w k = tableWords rowOf ts ++ (tableWords cellRow cs ++ (q ++ (w ++ k)))
+-- how many names the order of call has, and the clock
+unfoldable pub clockWords : Machine → List ℕ
+clockWords m = m .timed ∷ m .clock ∷ []
+
+-- the seven parts in a row
+unfoldable pub parts : List Token → List Cell → (queue waits countWords timers clockWords : List ℕ) → List ℕ
+parts ts cs q w k l c = tableWords rowOf ts ++ (tableWords cellRow cs ++ (q ++ (w ++ (k ++ (l ++ c)))))
 
 unfoldable pub wordsOf : Machine → List ℕ
-wordsOf m = parts (m .tokens) (m .cells) (m .queue) (m .waits) (countWords m)
+wordsOf m = parts (m .tokens) (m .cells) (m .queue) (m .waits) (countWords m) (m .timers) (clockWords m)

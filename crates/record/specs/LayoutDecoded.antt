@@ -15,14 +15,15 @@ use Rattle.model.specs.declared.token.State.the-variants as states
 use Rattle.model.specs.declared.token.Token.{Token}
 use Rattle.model.specs.declared.cell.Cell.{Cell}
 use Rattle.model.specs.declared.record.Machine.{Machine}
-use Rattle.record.specs.Layout.{cellsStart, queueStart, waitsStart, countsStart}
+use Rattle.record.specs.Layout.{cellsStart, queueStart, waitsStart, countsStart, timersStart}
 
 unfoldable pub stateFrom : ℕ → ℕ → State
 stateFrom zero n = states.Blank
 stateFrom (suc zero) n = states.Ready
 stateFrom (suc (suc zero)) n = states.Waiting n
 stateFrom (suc (suc (suc zero))) n = states.Called n
-stateFrom (suc (suc (suc (suc k)))) n = states.Frame
+stateFrom (suc (suc (suc (suc zero)))) n = states.Due n
+stateFrom (suc (suc (suc (suc (suc k))))) n = states.Frame
 
 unfoldable pub placeFrom : ℕ → Place
 placeFrom zero = places.Nowhere
@@ -73,4 +74,7 @@ machineOf ws =
       calls = getD ws 1794 0;
       lasttoken = getD ws 1795 0;
       lastcell = getD ws 1796 0;
+      timers = take 64 (drop timersStart ws);
+      timed = getD ws 1861 0;
+      clock = getD ws 1862 0;
     }

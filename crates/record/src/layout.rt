@@ -1,4 +1,4 @@
-// Where the words of a record stand: tokens, cells, queue, wait order, counts. specs/Words.antt has the same table.
+// Where the words of a record stand: tokens, cells, queue, wait order, counts, order of call, clock. specs/Words.antt has the same table.
 
 // How many places there are, as a word of a record is held to them: a place is named by a smaller number.
 pub const TOKEN_PLACE_COUNT: u32 = 64;
@@ -52,6 +52,12 @@ pub(crate) const LAST_TOKEN: usize = 1795;
 
 pub(crate) const LAST_CELL: usize = 1796;
 
+pub const TIMERS_START: usize = 1797;
+
+pub const TIMERS_LENGTH: usize = 1861;
+
+pub const CLOCK: usize = 1862;
+
 // A token's state.
 pub const BLANK_STATE: u32 = 0;
 
@@ -61,7 +67,9 @@ pub const WAITING_STATE: u32 = 2;
 
 pub const CALLED_STATE: u32 = 3;
 
-pub const FRAME_STATE: u32 = 4;
+pub const DUE_STATE: u32 = 4;
+
+pub const FRAME_STATE: u32 = 5;
 
 // What a variable is bound to.
 pub const EMPTY_SLOT: u32 = 0;

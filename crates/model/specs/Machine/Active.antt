@@ -33,6 +33,7 @@ underSet cs q = upward (λ c k. cellIsSet k) cs (length cs) q
 unfoldable pub within : List Cell → ℕ → Place → Bool
 within cs c q = upward (λ b k. eqb c b) cs (length cs) q
 
--- "Active tokens are ready, waiting or called-out, with no set cell among their cell and its ancestors"
+-- "Active tokens are ready, waiting or called-out, with no set cell among their cell and its ancestors"; document 02, request 1: "A token
+-- due later is active"
 unfoldable pub isActive : List Cell → Token → Bool
 isActive cs t = elim (isLive (t .state)) [ true ↦ not (underSet cs (t .cell)) | false ↦ false ]

@@ -54,6 +54,9 @@ blankMachine lim =
       calls = 0;
       lasttoken = 0;
       lastcell = 0;
+      timers = replicate (lim .tokenPlaces) 0;
+      timed = 0;
+      clock = 0;
     }
 
 -- what stands at a place of a table

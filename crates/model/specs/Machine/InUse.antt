@@ -113,4 +113,7 @@ sweep m =
       calls = m .calls;
       lasttoken = m .lasttoken;
       lastcell = m .lastcell;
+      timers = m .timers;
+      timed = m .timed;
+      clock = m .clock;
     }

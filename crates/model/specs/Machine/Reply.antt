@@ -14,7 +14,7 @@ use Rattle.model.specs.declared.reply.Reply.{Reply}
 use Rattle.model.specs.declared.reply.Reply.the-variants as replies
 use Rattle.model.specs.declared.reply.Outcome.{Outcome}
 
--- an accepted call, with the machine before blanking; or a refused one, by document 01's number
+-- an accepted call, with the machine before blanking; or a refused one, by its number
 pub data Effect : Type 0 where
   moves : Machine → Effect
   waits : Machine → Effect
@@ -22,7 +22,7 @@ pub data Effect : Type 0 where
   calls : (handle site : ℕ) → List ℤ → Machine → Effect
   refuses : (number : ℕ) → Effect
 
--- document 01's number for each case of the enum
+-- document 01's number for each case of the enum; 15 is document 02's
 unfoldable pub numberOf : Refusal → ℕ
 numberOf refusals.NoToken = 9
 numberOf refusals.TokenLimit = 10
@@ -30,11 +30,19 @@ numberOf refusals.CellLimit = 11
 numberOf refusals.NotOpen = 12
 numberOf refusals.CallLimit = 13
 numberOf refusals.Rule = 14
+numberOf refusals.WrongTime = 15
 
--- the case that a number from 9 to 14 is handed back as. (Definitions refuse with no other number.)
+-- the case that a number from 9 to 15 is handed back as. (Definitions refuse with no other number.)
 abbrev pub refusalTable : List Refusal
 refusalTable =
-    refusals.NoToken ∷ refusals.TokenLimit ∷ refusals.CellLimit ∷ refusals.NotOpen ∷ refusals.CallLimit ∷ refusals.Rule ∷ []
+    refusals.NoToken
+    ∷ refusals.TokenLimit
+    ∷ refusals.CellLimit
+    ∷ refusals.NotOpen
+    ∷ refusals.CallLimit
+    ∷ refusals.Rule
+    ∷ refusals.WrongTime
+    ∷ []
 
 abbrev pub refusalOf : ℕ → Refusal
 refusalOf n = getD refusalTable (n - 9) refusals.Rule

@@ -7,11 +7,12 @@ use lib.Dec.{ltb, leb, eqb}
 use Rattle.job.specs.Bounds.{scopeLimit}
 use Rattle.job.specs.Test.{_and_, _or_, forAll, allFrom, occurrences, once, distinct}
 use Rattle.job.specs.Number.{fits}
+use Rattle.job.specs.Site.{lastTime}
 use Rattle.job.specs.Syntax.{Param, variable, constant}
 use Rattle.job.specs.Node.{Node, Dag, nodeAt, isNode, dagHolds}
 use Rattle.model.specs.Machine.Limits.{Limits}
 use Rattle.model.specs.Machine.Blank.{tokenAt, cellAt, slotAt, isBound, hasValue, isPlace, tokenIsBlank, cellIsBlank}
-use Rattle.model.specs.Machine.State.{isBlankState, isReady, isWaiting, isFrame, isLive, handleOf}
+use Rattle.model.specs.Machine.State.{isBlankState, isReady, isWaiting, isFrame, isDue, isLive, handleOf}
 use Rattle.model.specs.Machine.Active.{cellIsSet, underSet}
 use Rattle.model.specs.Machine.InUse.{tokensUsed, usedCells}
 use Rattle.model.specs.declared.token.Slot.{Slot}
@@ -47,6 +48,7 @@ stateInRange cells calls states.Blank = true
 stateInRange cells calls states.Ready = true
 stateInRange cells calls (states.Waiting c) = ltb c cells
 stateInRange cells calls (states.Called h) = ltb h calls
+stateInRange cells calls (states.Due d) = true
 stateInRange cells calls states.Frame = true
 
 unfoldable pub tokenInRange : Limits → Dag → (calls : ℕ) → Token → Bool
@@ -90,7 +92,7 @@ chainEnds cs (suc n) q = elim q [ places.Nowhere ↦ true | places.At c ↦ chai
 unfoldable pub chainsEnd : List Cell → Bool
 chainsEnd cs = forAll (λ (c : Cell). chainEnds cs (length cs) (c .parent)) cs
 
--- "no ready, waiting or called-out token is under a set cell"
+-- "no ready, waiting or called-out token is under a set cell"; document 02, request 1: nor one due later
 unfoldable pub notUnderSet : List Cell → Token → Bool
 notUnderSet cs t = elim (isLive (t .state)) [ true ↦ not (underSet cs (t .cell)) | false ↦ true ]
 
@@ -105,6 +107,7 @@ waitsAtUnset cs states.Blank = true
 waitsAtUnset cs states.Ready = true
 waitsAtUnset cs (states.Waiting c) = not (cellIsSet (cellAt cs c))
 waitsAtUnset cs (states.Called h) = true
+waitsAtUnset cs (states.Due d) = true
 waitsAtUnset cs states.Frame = true
 
 -- "a token at return names a frame, at choke a cell, at a call no empty variable"
@@ -145,6 +148,25 @@ restIsBlank isBlank [] (x ∷ xs) = isBlank x and restIsBlank isBlank [] xs
 restIsBlank isBlank (true ∷ marks) (x ∷ xs) = restIsBlank isBlank marks xs
 restIsBlank isBlank (false ∷ marks) (x ∷ xs) = isBlank x and restIsBlank isBlank marks xs
 
+-- document 02, request 1: "a due time not above it or past 2147483647"
+unfoldable pub dueInRange : (clock : ℕ) → State → Bool
+dueInRange clock states.Blank = true
+dueInRange clock states.Ready = true
+dueInRange clock (states.Waiting c) = true
+dueInRange clock (states.Called h) = true
+dueInRange clock (states.Due d) = ltb clock d and leb d lastTime
+dueInRange clock states.Frame = true
+
+-- document 02, request 1: "14 also: [a token due later] under a set cell" (that one is `notUnderSet`), ..
+unfoldable pub clockHolds : Machine → Bool
+clockHolds m =
+    -- ".. a clock outside its range, .."
+    leb (m .clock) lastTime
+    -- ".. a due time not above it or past 2147483647, .."
+    and forAll (λ (t : Token). dueInRange (m .clock) (t .state)) (m .tokens)
+    -- ".. or an order of call that names such tokens other than once each"
+    and namesOnce isDue (m .tokens) (m .timers) (m .timed)
+
 unfoldable pub machineHolds : Limits → Dag → Machine → Bool
 machineHolds lim d m =
     let used = tokensUsed m in
@@ -156,7 +178,7 @@ machineHolds lim d m =
     and namesOnce isReady (m .tokens) (m .queue) (m .queued)
     -- "each parent chain ends"
     and chainsEnd (m .cells)
-    -- "no ready, waiting or called-out token is under a set cell"
+    -- "no ready, waiting or called-out token is under a set cell", nor a token due later
     and forAll (notUnderSet (m .cells)) (m .tokens)
     -- "open handles differ and are below the call count" (the second is among the ranges)
     and distinct (openHandles (m .tokens))
@@ -168,6 +190,8 @@ machineHolds lim d m =
     -- "what is not in use is blank"
     and restIsBlank tokenIsBlank used (m .tokens)
     and restIsBlank cellIsBlank (usedCells used (m .tokens) (m .cells)) (m .cells)
+    -- document 02, request 1
+    and clockHolds m
 
 -- "14: dag or machine record breaks an index rule"
 unfoldable pub rulesHold : Limits → Dag → Machine → Bool

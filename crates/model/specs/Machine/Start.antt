@@ -27,7 +27,8 @@ startToken goal =
       state = states.Ready;
     }
 
--- "the starting token is at 0, the first cell takes 0": the last cell place given is the last one there is (docs/DECISIONS.md, "Places")
+-- "the starting token is at 0, the first cell takes 0": the last cell place given is the last one there is (docs/DECISIONS.md, "Places");
+-- document 02, request 1: "The machine gains a clock from 0"
 abbrev pub startMachine : Limits → ℕ → Machine
 startMachine lim goal =
     record {
@@ -40,6 +41,9 @@ startMachine lim goal =
       calls = 0;
       lasttoken = 0;
       lastcell = lim .cellPlaces - 1;
+      timers = replicate (lim .tokenPlaces) 0;
+      timed = 0;
+      clock = 0;
     }
 
 -- "The start tests 14": the dag's rules. A refused start hands back the blank record (docs/DECISIONS.md, "The start", "A refused start")

@@ -2,23 +2,24 @@
 -- plainest value (docs/DECISIONS.md, "Branches that a test excludes"). Assumes nothing: these are definitions.
 use mathlib.Core.Bool.{Bool, true, false}
 use mathlib.Core.List.{List, [], _∷_, _++_, map}
+use mathlib.Core.Option.{Option, some, none}
 use Prim.Native.Nat.{ℕ, suc}
 use lib.ListN.{length, getD, set, drop}
 use lib.Dec.{ltb}
 use lib.IntN.{ℤ, pos}
 use Rattle.job.specs.Test.{select, without}
-use Rattle.job.specs.Site.{BuiltinReply, gives, silent, isBuiltin, builtin}
+use Rattle.job.specs.Site.{BuiltinReply, gives, silent, later, dueTime, isBuiltin, builtin}
 use Rattle.job.specs.Syntax.{Param, variable, constant}
 use Rattle.job.specs.Node.{Node, Dag, nodeAt, bodyAt}
 use Rattle.model.specs.Machine.Limits.{Limits}
 use Rattle.model.specs.Machine.Update.{withNode, withBinding, withValue, inCell, withState, withTables, withOrders, withCounts}
-use Rattle.model.specs.Machine.Update.{queueOf, waitsOf, put, enqueue, newToken, newCell}
+use Rattle.model.specs.Machine.Update.{withTimers, queueOf, waitsOf, timersOf, put, enqueue, newToken, newCell}
 use Rattle.model.specs.Machine.Blank.{unbound, blankToken, tokenAt, cellAt, slotAt}
 use Rattle.model.specs.Machine.Active.{within}
 use Rattle.model.specs.Machine.InUse.{tokensUsed, cellsUsed, marked}
 use Rattle.model.specs.Machine.FreePlace.{nextPlace}
 use Rattle.model.specs.Machine.Rules.{rulesHold}
-use Rattle.model.specs.Machine.State.{isReady, isWaiting, waitsAt}
+use Rattle.model.specs.Machine.State.{isReady, isWaiting, isDue, waitsAt}
 use Rattle.model.specs.Machine.Reply.{Effect, moves, waits, publishes, calls, refuses, unless, outcome}
 use Rattle.model.specs.declared.token.Slot.the-variants as slots
 use Rattle.model.specs.declared.token.Bind.{Bind}
@@ -75,7 +76,8 @@ chokeToken cs c t =
       | false ↦ elim (waitsAt c (t .state)) [ true ↦ withState states.Ready t | false ↦ t ]
     ]
 
--- the machine after a choke: the queue has those that are still ready, then the woken ones, "longest wait first"
+-- the machine after a choke: the queue has those that are still ready, then the woken ones, "longest wait first"; the wait order and the
+-- order of call have those that still wait, that are still due
 unfoldable pub afterChoke : ℕ → Held → Machine → Machine
 afterChoke c v m =
     let ts = map (chokeToken (m .cells) c) (m .tokens) in
@@ -83,7 +85,7 @@ afterChoke c v m =
     withOrders
     (select (λ (p : ℕ). isReady (tokenAt ts p .state)) (queueOf m ++ waitsOf m))
     (select (λ (p : ℕ). isWaiting (tokenAt ts p .state)) (waitsOf m))
-    (withTables ts cs m)
+    (withTimers (select (λ (p : ℕ). isDue (tokenAt ts p .state)) (timersOf m)) (withTables ts cs m))
 
 -- What each node does. The token t at place p acts; m is the machine with p taken from its queue
 module _ (m : Machine) (p : ℕ) where
@@ -126,10 +128,21 @@ module _ (m : Machine) (p : ℕ) (t : Token) where
   unfoldable pub waited : ℕ → Effect
   waited c = waits (withOrders (queueOf m) (waitsOf m ++ (p ∷ [])) (put p (withState (states.Waiting c) t) m))
 
+  -- document 02, request 1: a call that falls due at this time, or never. "With t = 0 the token joins the back of the queue in the call's own
+  -- step, with value 0"; else it is due later, at the next node, and the last in the order of call
+  unfoldable pub deferred : (next : ℕ) → (due : Option ℕ) → Effect
+  deferred k none = moves (ended m p)
+  deferred k (some due) =
+      elim (ltb (m .clock) due) [
+        | false ↦ goesOn m p (withNode k (withValue (helds.Value (pos 0)) t))
+        | true ↦ moves (withTimers (timersOf m ++ (p ∷ [])) (put p (withNode k (withState (states.Due due) t)) m))
+      ]
+
   -- "a built-in replies and the token goes on, or it is silent and the token ends"
   unfoldable pub replied : (next : ℕ) → BuiltinReply → Effect
   replied k (gives v) = goesOn m p (withNode k (withValue (helds.Value v) t))
   replied k silent = moves (ended m p)
+  replied k (later time) = deferred k (dueTime (m .clock) time)
 
   -- "an outside call takes the next handle (from 0), and the token is called out at the next node"
   unfoldable pub calledOut : (site : ℕ) → List ℤ → (next : ℕ) → Effect

@@ -1,4 +1,4 @@
--- A token, a machine with a field or two changed; a name put into the queue. Step and answer say what they do in these. Assumes nothing:
+-- A token, a machine with a field or two changed; a name put into the queue. Step, answer and clock move say what they do in these. Assumes nothing:
 -- these are definitions.
 use mathlib.Core.List.{List, [], _∷_, _++_}
 use Prim.Native.Nat.{ℕ}
@@ -50,6 +50,9 @@ withTables ts cs m =
       calls = m .calls;
       lasttoken = m .lasttoken;
       lastcell = m .lastcell;
+      timers = m .timers;
+      timed = m .timed;
+      clock = m .clock;
     }
 
 unfoldable pub withOrders : (queue waits : List ℕ) → Machine → Machine
@@ -64,6 +67,9 @@ withOrders q w m =
       calls = m .calls;
       lasttoken = m .lasttoken;
       lastcell = m .lastcell;
+      timers = m .timers;
+      timed = m .timed;
+      clock = m .clock;
     }
 
 unfoldable pub withCounts : (calls lasttoken lastcell : ℕ) → Machine → Machine
@@ -78,14 +84,55 @@ withCounts n p c m =
       calls = n;
       lasttoken = p;
       lastcell = c;
+      timers = m .timers;
+      timed = m .timed;
+      clock = m .clock;
     }
 
--- the queue, and the wait order, longest wait first
+-- (document 02, request 1) the order of call; the clock
+unfoldable pub withTimers : List ℕ → Machine → Machine
+withTimers l m =
+    record {
+      tokens = m .tokens;
+      cells = m .cells;
+      queue = m .queue;
+      queued = m .queued;
+      waits = m .waits;
+      waiting = m .waiting;
+      calls = m .calls;
+      lasttoken = m .lasttoken;
+      lastcell = m .lastcell;
+      timers = padded 0 (length (m .tokens)) l;
+      timed = length l;
+      clock = m .clock;
+    }
+
+unfoldable pub withClock : (time : ℕ) → Machine → Machine
+withClock time m =
+    record {
+      tokens = m .tokens;
+      cells = m .cells;
+      queue = m .queue;
+      queued = m .queued;
+      waits = m .waits;
+      waiting = m .waiting;
+      calls = m .calls;
+      lasttoken = m .lasttoken;
+      lastcell = m .lastcell;
+      timers = m .timers;
+      timed = m .timed;
+      clock = time;
+    }
+
+-- the queue; the wait order, longest wait first; the order of call, first call first
 unfoldable pub queueOf : Machine → List ℕ
 queueOf m = take (m .queued) (m .queue)
 
 unfoldable pub waitsOf : Machine → List ℕ
 waitsOf m = take (m .waiting) (m .waits)
+
+unfoldable pub timersOf : Machine → List ℕ
+timersOf m = take (m .timed) (m .timers)
 
 unfoldable pub put : ℕ → Token → Machine → Machine
 put p t m = withTables (set (m .tokens) p t) (m .cells) m

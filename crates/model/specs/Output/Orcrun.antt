@@ -15,10 +15,12 @@ use Rattle.model.specs.Machine.Reply.{numberOf, isRefused}
 use Rattle.model.specs.Machine.Start.{start}
 use Rattle.model.specs.Machine.Step.{step}
 use Rattle.model.specs.Machine.Answer.{answer}
+use Rattle.model.specs.Machine.Clock.{advance}
 use Rattle.model.specs.Output.Line.{Line, call, publish, refused, table, end, limit, short, long, textOfAll}
 use Rattle.model.specs.declared.record.Machine.{Machine}
 use Rattle.model.specs.declared.reply.Reply.{Reply}
 use Rattle.model.specs.declared.reply.Reply.the-variants as replies
+use Rattle.model.specs.declared.reply.Outcome.{Outcome}
 
 -- the lines of a reply, with the values beside it
 unfoldable pub reportedLines : Reply → (values : List ℤ) → List Line
@@ -39,10 +41,20 @@ pub data Turn : Type 0 where
   on : List Line → Standing → Turn
   over : List Line → Turn
 
--- "with the queue empty it delivers a record": "handle and signed value, each little-endian"; a refused answer doesn't end the run
+-- document 02, request 1: "a record with handle 4294967295 names the time"
+abbrev pub clockHandle : ℕ
+clockHandle = 4294967295
+
+-- a record, its handle and its value as a number below 4294967296: a clock move or an answer. (A negative value is a number above
+-- 2147483647, so that a clock move to it is 15.)
+unfoldable pub delivered : Limits → Dag → Machine → (handle value : ℕ) → Outcome
+delivered lim d m h v = elim (eqb h clockHandle) [ true ↦ advance lim d m v | false ↦ answer lim d m h (signed v) ]
+
+-- "with the queue empty it delivers a record": "handle and signed value, each little-endian"; a refused answer doesn't end the run, nor does a
+-- refused clock move
 unfoldable pub deliverTurn : Limits → Dag → Standing → Turn
 deliverTurn lim d s =
-    let o = answer lim d (s .machine) (number (take 4 (s .rest))) (signed (number (take 4 (drop 4 (s .rest))))) in
+    let o = delivered lim d (s .machine) (number (take 4 (s .rest))) (number (take 4 (drop 4 (s .rest)))) in
     on (reportedLines (o .reply) (o .values)) (record { machine = o .machine; steps = s .steps; rest = drop 8 (s .rest) })
 
 -- (docs/DECISIONS.md, "`short`") "A trailing piece prints `short`"; "last .. `end` and accepted steps"

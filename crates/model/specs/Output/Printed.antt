@@ -10,8 +10,8 @@ use Rattle.job.specs.Node.{Dag}
 use Rattle.model.specs.Machine.Limits.{Limits}
 use Rattle.model.specs.Machine.Reply.{isRefused}
 use Rattle.model.specs.Output.Line.{Line, end, limit, short}
-use Rattle.model.specs.Output.Orcrun.{reportedLines}
-use Rattle.model.specs.Run.Call.{Call, step, answer, runner, outcomeOf, machineAfter}
+use Rattle.model.specs.Output.Orcrun.{reportedLines, clockHandle}
+use Rattle.model.specs.Run.Call.{Call, step, answer, advance, runner, outcomeOf, machineAfter}
 use Rattle.model.specs.declared.record.Machine.{Machine}
 
 module _ (lim : Limits) (d : Dag) where
@@ -28,6 +28,7 @@ module _ (lim : Limits) (d : Dag) where
       let rest = acceptedSteps (o .machine) cs in
       elim (isRefused (o .reply)) as (λ b. ℕ) [ true ↦ rest | false ↦ suc rest ]
   acceptedSteps m (answer h v fits ∷ cs) = acceptedSteps (outcomeOf runner lim d m (answer h v fits) .machine) cs
+  acceptedSteps m (advance time ∷ cs) = acceptedSteps (outcomeOf runner lim d m (advance time) .machine) cs
 
   -- the calls that `orcrun` makes: "it runs house order; with the queue empty it delivers a record", handle and signed value; what is left
   -- of the records' bytes behind them
@@ -37,10 +38,15 @@ module _ (lim : Limits) (d : Dag) where
         → isRefused (outcomeOf runner lim d m (step 0) .reply) ≡ false
         → HouseCalls (outcomeOf runner lim d m (step 0) .machine) bytes cs left → HouseCalls m bytes (step 0 ∷ cs) left
     delivers : {m : Machine} {bytes left : List ℕ} {cs : List Call} (fits : Signed32 (signed (number (take 4 (drop 4 bytes)))))
-        → m .queued ≡ 0 → 8 ≤ length bytes
+        → m .queued ≡ 0 → 8 ≤ length bytes → (number (take 4 bytes) ≡ clockHandle → ⊥)
         → HouseCalls (outcomeOf runner lim d m (answer (number (take 4 bytes)) (signed (number (take 4 (drop 4 bytes)))) fits) .machine)
         (drop 8 bytes) cs left
         → HouseCalls m bytes (answer (number (take 4 bytes)) (signed (number (take 4 (drop 4 bytes)))) fits ∷ cs) left
+    -- document 02, request 1: "a record with handle 4294967295 names the time"
+    ticks : {m : Machine} {bytes left : List ℕ} {cs : List Call}
+        → m .queued ≡ 0 → 8 ≤ length bytes → number (take 4 bytes) ≡ clockHandle
+        → HouseCalls (outcomeOf runner lim d m (advance (number (take 4 (drop 4 bytes)))) .machine) (drop 8 bytes) cs left
+        → HouseCalls m bytes (advance (number (take 4 (drop 4 bytes))) ∷ cs) left
 
   -- how a run ends, after so many accepted steps and with so many bytes left: the lines before the last
   pub data Ends (most : ℕ) (m : Machine) (steps bytes : ℕ) : List Line → Type 0 where

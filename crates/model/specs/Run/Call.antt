@@ -11,6 +11,7 @@ use Rattle.model.specs.Machine.Reply.{isRefused}
 use Rattle.model.specs.Machine.Start as Start
 use Rattle.model.specs.Machine.Step as Step
 use Rattle.model.specs.Machine.Answer as Answer
+use Rattle.model.specs.Machine.Clock as Clock
 use Rattle.calculus.specs.Event.{Event}
 use Rattle.model.specs.declared.record.Machine.{Machine}
 use Rattle.model.specs.declared.reply.Reply.{Reply}
@@ -21,19 +22,23 @@ use Rattle.model.specs.declared.reply.Outcome.{Outcome}
 pub data Call : Type 0 where
   step : (place : ℕ) → Call
   answer : (handle : ℕ) (v : ℤ) → Signed32 v → Call
+  -- document 02, request 1: "A run's calls now hold clock moves"
+  advance : (time : ℕ) → Call
 
--- what runs: the three calls of a machine. Demand 3 is stated over these, so that it can be tried on wrong ones
+-- what runs: the calls of a machine. Demand 3 is stated over these, so that it can be tried on wrong ones
 pub record Runner : Type 0 where
   pub start : Limits → Dag → Outcome
   pub step : Limits → Dag → Machine → (place : ℕ) → Outcome
   pub answer : Limits → Dag → Machine → (handle : ℕ) → (value : ℤ) → Outcome
+  pub advance : Limits → Dag → Machine → (time : ℕ) → Outcome
 
--- the machine of document 01
+-- the machine of document 01, with the clock of document 02
 abbrev pub runner : Runner
-runner = record { start = Start.start; step = Step.step; answer = Answer.answer }
+runner = record { start = Start.start; step = Step.step; answer = Answer.answer; advance = Clock.advance }
 
 -- what a call and its reply give: "an outside call gives handle, site and parameter values, a publish step its value,
--- an accepted answer its handle and value; other accepted steps and all refused calls give nothing"
+-- an accepted answer its handle and value; other accepted steps and all refused calls give nothing"; document 02, request 1: "an accepted
+-- [clock move] is an event (its time)"
 unfoldable pub eventsOf : Call → Reply → (values : List ℤ) → List Event
 eventsOf (step place) replies.Done vs = []
 eventsOf (step place) replies.Waits vs = []
@@ -41,11 +46,13 @@ eventsOf (step place) (replies.Published v) vs = Event.publish v ∷ []
 eventsOf (step place) (replies.Called h s n) vs = Event.call h s (take n vs) ∷ []
 eventsOf (step place) (replies.Refused r) vs = []
 eventsOf (answer h v fits) r vs = elim (isRefused r) [ true ↦ [] | false ↦ Event.answer h v ∷ [] ]
+eventsOf (advance time) r vs = elim (isRefused r) [ true ↦ [] | false ↦ Event.move time ∷ [] ]
 
 module _ (R : Runner) (lim : Limits) (d : Dag) where
   unfoldable pub outcomeOf : Machine → Call → Outcome
   outcomeOf m (step place) = R .step lim d m place
   outcomeOf m (answer h v fits) = R .answer lim d m h v
+  outcomeOf m (advance time) = R .advance lim d m time
 
   -- "each later one [gets] the record that the call before returned, or left when refused"
   unfoldable pub machineAfter : Machine → List Call → Machine

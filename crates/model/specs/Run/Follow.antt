@@ -13,7 +13,7 @@ use Rattle.model.specs.Machine.Blank.{blankToken, tokenAt}
 use Rattle.model.specs.Machine.Active.{within}
 use Rattle.model.specs.Machine.Reply.{outcome, isRefused}
 use Rattle.model.specs.Machine.Step.{takes}
-use Rattle.model.specs.Run.Call.{Call, step, answer, Runner, outcomeOf}
+use Rattle.model.specs.Run.Call.{Call, step, answer, advance, Runner, outcomeOf}
 use Rattle.model.specs.declared.token.Place.{Place}
 use Rattle.model.specs.declared.token.Place.the-variants as places
 use Rattle.model.specs.declared.token.Token.{Token}
@@ -75,6 +75,7 @@ pub data House : List Call → Type 0 where
   none : House []
   front : {cs : List Call} → House cs → House (step 0 ∷ cs)
   between : {h : ℕ} {v : ℤ} {fits : Signed32 v} {cs : List Call} → House cs → House (answer h v fits ∷ cs)
+  ticking : {time : ℕ} {cs : List Call} → House cs → House (advance time ∷ cs)
 
 -- The token at position k of m's queue, followed through later calls until it acts or is pruned, or a step is refused.
 -- In each case it is where the position says, and n counts the accepted steps while neither has happened
@@ -102,3 +103,7 @@ module _ (R : Runner) (lim : Limits) (d : Dag) where
     between : {m : Machine} {k n : ℕ} {h : ℕ} {v : ℤ} {fits : Signed32 v} {cs : List Call}
         → Stands m k (outcomeOf R lim d m (answer h v fits) .machine) k
         → Followed (outcomeOf R lim d m (answer h v fits) .machine) k cs n → Followed m k (answer h v fits ∷ cs) n
+    -- a clock move, accepted or not
+    ticking : {m : Machine} {k n : ℕ} {time : ℕ} {cs : List Call}
+        → Stands m k (outcomeOf R lim d m (advance time) .machine) k
+        → Followed (outcomeOf R lim d m (advance time) .machine) k cs n → Followed m k (advance time ∷ cs) n
