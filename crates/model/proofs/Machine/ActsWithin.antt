@@ -2,21 +2,23 @@
 -- places that it was tested for. Assumes nothing.
 use mathlib.Core.Path.{_≡_, refl}
 use mathlib.Core.Bool.{Bool, true, false}
-use mathlib.Core.List.{List}
+use mathlib.Core.List.{List, [], _∷_, _++_}
+use mathlib.Core.Option.{Option, some, none}
 use Prim.Native.Nat.{ℕ}
 use lib.Dec.{ltb}
-use lib.IntN.{ℤ}
-use Rattle.job.specs.Site.{BuiltinReply, gives, silent, isBuiltin, builtin}
+use lib.IntN.{ℤ, pos}
+use Rattle.job.specs.Site.{BuiltinReply, gives, silent, later, dueTime, isBuiltin, builtin}
 use Rattle.job.specs.Syntax.{Param}
 use Rattle.job.specs.Node.{Node, Dag}
 use Rattle.model.specs.Machine.Limits.{Limits}
 use Rattle.model.specs.Machine.Blank.{blankToken, tokenAt}
 use Rattle.model.specs.Machine.InUse.{sweep, Within}
-use Rattle.model.specs.Machine.Reply.{Effect, unless}
+use Rattle.model.specs.Machine.Reply.{Effect, moves, unless}
 use Rattle.model.specs.Machine.Update as Update
 use Rattle.model.specs.Machine.Step as Step
 use Rattle.model.specs.Machine.Update.{withOrders}
 use Rattle.model.specs.Machine.Step.{LookUpResult, values, unset, hasTokenPlace, hasCellPlace, chokeToken, act}
+use Rattle.model.specs.declared.token.Held.the-variants as helds
 use Rattle.model.specs.declared.token.Place.{Place}
 use Rattle.model.specs.declared.token.Place.the-variants as places
 use Rattle.model.specs.declared.token.State.the-variants as states
@@ -82,10 +84,30 @@ module _
         none-new lim d m old _
         (write-inside lim d m rules p inUse (Update.withState (states.Waiting c) acting) (fits-same refl refl refl acts))
 
+    deferred : (next : ℕ) (due : Option ℕ) → WithinAfter (Step.deferred at p acting next due)
+    unfolding After Step.deferred Step.goesOn Update.enqueue Update.put Update.withTables Update.withTimers withOrders Update.withNode
+        Update.withState Update.withValue
+    deferred next none = ended
+    deferred next (some due) = go (ltb (at .clock) due)
+      where
+        go :
+            (b : Bool)
+            → WithinAfter
+            (elim b [
+              | false ↦ Step.goesOn at p (Update.withNode next (Update.withValue (helds.Value (pos 0)) acting))
+              | true ↦
+                  moves
+                  (Update.withTimers (Update.timersOf at ++ (p ∷ []))
+                  (Update.put p (Update.withNode next (Update.withState (states.Due due) acting)) at))
+            ])
+        go false = goes-on _ (fits-same refl refl refl acts)
+        go true = none-new lim d m old _ (write-inside lim d m rules p inUse _ (fits-same refl refl refl acts))
+
     replied : (next : ℕ) (s : BuiltinReply) → WithinAfter (Step.replied at p acting next s)
     unfolding After Step.replied Update.withNode Update.withValue
     replied next (gives v) = goes-on _ (fits-same refl refl refl acts)
     replied next silent = ended
+    replied next (later t) = deferred next (dueTime (at .clock) t)
 
     calledOut : (s : ℕ) (vs : List ℤ) (next : ℕ) → WithinAfter (Step.calledOut at p acting s vs next)
     unfolding After Step.calledOut Update.put Update.withTables withOrders Update.withCounts Update.withNode Update.withState
@@ -112,7 +134,7 @@ module _
     returned (places.At f) n = goes-on _ (fits-same refl refl refl (used-fits m f (n f refl)))
 
     chokes : (c : Place) → Names (UsedCell m) c → WithinAfter (Step.chokeAt at acting c)
-    unfolding After Step.chokeAt Step.afterChoke Update.withTables withOrders
+    unfolding After Step.chokeAt Step.afterChoke Update.withTables Update.withTimers withOrders
     chokes places.Nowhere n = tt
     chokes (places.At c) n =
         none-new lim d m old _

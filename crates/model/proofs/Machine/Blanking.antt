@@ -76,4 +76,5 @@ state-blank states.Blank e = refl
 state-blank states.Ready e = clash e refl
 state-blank (states.Waiting c) e = clash e refl
 state-blank (states.Called h) e = clash e refl
+state-blank (states.Due d) e = clash e refl
 state-blank states.Frame e = clash e refl

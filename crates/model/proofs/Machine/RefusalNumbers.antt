@@ -15,9 +15,10 @@ case-of-number refusals.CellLimit = refl
 case-of-number refusals.NotOpen = refl
 case-of-number refusals.CallLimit = refl
 case-of-number refusals.Rule = refl
+case-of-number refusals.WrongTime = refl
 
 -- counted from 9
-from-nine : (k : ℕ) → k ≤ 5 → numberOf (refusalOf (9 + k)) ≡ 9 + k
+from-nine : (k : ℕ) → k ≤ 6 → numberOf (refusalOf (9 + k)) ≡ 9 + k
 unfolding numberOf
 from-nine zero l = refl
 from-nine (suc zero) l = refl
@@ -25,8 +26,9 @@ from-nine (suc (suc zero)) l = refl
 from-nine (suc (suc (suc zero))) l = refl
 from-nine (suc (suc (suc (suc zero)))) l = refl
 from-nine (suc (suc (suc (suc (suc zero))))) l = refl
-from-nine (suc (suc (suc (suc (suc (suc k)))))) l = absurd (omega arith)
+from-nine (suc (suc (suc (suc (suc (suc zero)))))) l = refl
+from-nine (suc (suc (suc (suc (suc (suc (suc k))))))) l = absurd (omega arith)
 
-pub number-of-case : (n : ℕ) → 9 ≤ n → n ≤ 14 → numberOf (refusalOf n) ≡ n
+pub number-of-case : (n : ℕ) → 9 ≤ n → n ≤ 15 → numberOf (refusalOf n) ≡ n
 number-of-case n l h =
     let z : 9 + (n - 9) ≡ n = omega arith in subst (λ k. numberOf (refusalOf k) ≡ k) z (from-nine (n - 9) (omega arith))

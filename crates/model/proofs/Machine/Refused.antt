@@ -17,6 +17,7 @@ use Rattle.model.specs.Machine.Reply.{Effect, moves, waits, publishes, c
 use Rattle.model.specs.Machine.Reply.{refusalOf, isRefused}
 use Rattle.model.specs.Machine.Start.{start, startMachine}
 use Rattle.model.specs.Machine.Step.{step, takes}
+use Rattle.model.specs.Machine.Clock.{takesTime, advanced, advance}
 use Rattle.model.specs.Machine.Answer.{answer, answered, holder}
 use Rattle.model.specs.declared.record.Machine.{Machine}
 use Rattle.model.specs.declared.reply.Refusal.{Refusal}
@@ -90,6 +91,13 @@ pub answer-refused :
     → answer lim d m handle value .machine ≡ m
 unfolding answer
 answer-refused lim d m h v r e = outcome-refused m _ (refused-is _ r e)
+
+pub advance-refused :
+    (lim : Limits) (d : Dag) (m : Machine) (time : ℕ) (r : Refusal)
+    → advance lim d m time .reply ≡ replies.Refused r
+    → advance lim d m time .machine ≡ m
+unfolding advance
+advance-refused lim d m time r e = outcome-refused m _ (refused-is _ r e)
 
 -- the two outcomes of a start
 abbrev pub begun : Limits → Dag → Outcome
@@ -177,3 +185,33 @@ answer-accepted lim d m h v a = record { holds = k; does = ap (outcome m) (unles
 
     k : rulesHold lim d m ≡ true
     k = unless-accepted m (rulesHold lim d m) 14 inner a
+
+-- a clock move tests 14, 15: where it is accepted the rules held, and the time is one that the clock takes
+pub record AdvanceAccepted (lim : Limits) (d : Dag) (m : Machine) (time : ℕ) : Type 0 where
+  pub holds : rulesHold lim d m ≡ true
+  pub takes : takesTime m time ≡ true
+  pub does : advance lim d m time ≡ outcome m (moves (advanced m time))
+
+pub advance-accepted :
+    (lim : Limits) (d : Dag) (m : Machine) (time : ℕ)
+    → isRefused (advance lim d m time .reply) ≡ false
+    → AdvanceAccepted lim d m time
+unfolding advance
+advance-accepted lim d m time a = record { holds = k; takes = q; does = ap (outcome m) (tested ∙ there) }
+  where
+    inner : Effect
+    inner = unless (takesTime m time) 15 (moves (advanced m time))
+
+    k : rulesHold lim d m ≡ true
+    k = unless-accepted m (rulesHold lim d m) 14 inner a
+
+    tested : unless (rulesHold lim d m) 14 inner ≡ inner
+    tested = unless-true (rulesHold lim d m) 14 inner k
+
+    q : takesTime m time ≡ true
+    q =
+        unless-accepted m (takesTime m time) 15 (moves (advanced m time))
+        (subst (λ e. isRefused (outcome m e .reply) ≡ false) tested a)
+
+    there : inner ≡ moves (advanced m time)
+    there = unless-true (takesTime m time) 15 (moves (advanced m time)) q

@@ -7,12 +7,13 @@ use Prim.Native.Nat.{ℕ, zero, suc, _+_, _<_, _≤_}
 use native.Mathlib.Omega.{arith}
 use lib.ListN.{length, getD, take, drop}
 use lib.Seq.{getD-take, length-take-le}
-use lib.Dec.{ltb, eqb}
+use lib.Dec.{ltb, leb, eqb}
 use Rattle.job.specs.Test.{_and_, forAll, allFrom, occurrences, once, distinct}
+use Rattle.job.specs.Site.{lastTime}
 use Rattle.job.specs.Node.{Dag, dagHolds}
 use Rattle.model.specs.Machine.Limits.{Limits}
 use Rattle.model.specs.Machine.Blank.{blankToken, tokenAt, tokenIsBlank, cellIsBlank}
-use Rattle.model.specs.Machine.State.{isLive, isReady, isWaiting}
+use Rattle.model.specs.Machine.State.{isLive, isReady, isWaiting, isDue}
 use Rattle.model.specs.Machine.InUse.{tokensUsed, cellsUsed}
 use Rattle.model.specs.Machine.Rules as rules
 use Rattle.model.specs.Machine.Rules.{namesOnce, restIsBlank, machineHolds, rulesHold}
@@ -40,9 +41,12 @@ pub record EachRuleHolds (lim : Limits) (d : Dag) (m : Machine) : Type 0 where
   pub nodes : forAll (rules.atNode d (m .tokens)) (m .tokens) ≡ true
   pub blankTokens : restIsBlank tokenIsBlank (tokensUsed m) (m .tokens) ≡ true
   pub blankCells : restIsBlank cellIsBlank (cellsUsed m) (m .cells) ≡ true
+  pub clock : leb (m .clock) lastTime ≡ true
+  pub dues : forAll (λ (t : Token). rules.dueInRange (m .clock) (t .state)) (m .tokens) ≡ true
+  pub timers : namesOnce isDue (m .tokens) (m .timers) (m .timed) ≡ true
 
 pub each-rule-holds : (lim : Limits) (d : Dag) (m : Machine) → rulesHold lim d m ≡ true → EachRuleHolds lim d m
-unfolding rulesHold machineHolds
+unfolding rulesHold machineHolds rules.clockHolds
 each-rule-holds lim d m e =
     let dag = both _ _ e in
     let sizes = both _ _ (dag .1) in
@@ -56,6 +60,9 @@ each-rule-holds lim d m e =
     let unset = both _ _ (waits .1) in
     let nodes = both _ _ (unset .1) in
     let blanks = both _ _ (nodes .1) in
+    let blankCells = both _ _ (blanks .1) in
+    let clock = both _ _ (blankCells .1) in
+    let dues = both _ _ (clock .1) in
     record {
       dag = dag .0;
       sizes = sizes .0;
@@ -69,7 +76,10 @@ each-rule-holds lim d m e =
       unset = unset .0;
       nodes = nodes .0;
       blankTokens = blanks .0;
-      blankCells = blanks .1;
+      blankCells = blankCells .0;
+      clock = clock .0;
+      dues = dues .0;
+      timers = dues .1;
     }
 
 -- an order that names each token of a kind once
@@ -170,6 +180,9 @@ module _ (lim : Limits) (d : Dag) (m : Machine) (holds : rulesHold lim d m ≡ t
   pub waits-sized : length (m .waits) ≡ lim .tokenPlaces
   waits-sized = names-once isWaiting (m .tokens) (m .waits) (m .waiting) (each .waits) .size ∙ tokens-sized
 
+  pub timers-sized : length (m .timers) ≡ lim .tokenPlaces
+  timers-sized = names-once isDue (m .tokens) (m .timers) (m .timed) (each .timers) .size ∙ tokens-sized
+
 -- what a ready token's state is
 pub ready-state : (s : State) → isReady s ≡ true → s ≡ states.Ready
 unfolding isReady
@@ -177,6 +190,7 @@ ready-state states.Blank e = clash e refl
 ready-state states.Ready e = refl
 ready-state (states.Waiting c) e = clash e refl
 ready-state (states.Called h) e = clash e refl
+ready-state (states.Due d) e = clash e refl
 ready-state states.Frame e = clash e refl
 
 pub ready-live : (s : State) → isReady s ≡ true → isLive s ≡ true

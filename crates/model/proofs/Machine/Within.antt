@@ -14,11 +14,12 @@ use Rattle.model.specs.Machine.Limits.{Limits}
 use Rattle.model.specs.Machine.Blank.{tokenAt}
 use Rattle.model.specs.Machine.State.{isLive, isReady, handleOf}
 use Rattle.model.specs.Machine.InUse.{sweep, Within}
-use Rattle.model.specs.Machine.Reply.{isRefused}
+use Rattle.model.specs.Machine.Reply.{moves, isRefused}
 use Rattle.model.specs.Machine.Update as Update
 use Rattle.model.specs.Machine.Update.{queueOf, waitsOf}
 use Rattle.model.specs.Machine.Step.{takes, step}
 use Rattle.model.specs.Machine.Answer.{holder, answered, answer}
+use Rattle.model.specs.Machine.Clock.{wokenBy, advanced, advance}
 use Rattle.model.specs.declared.token.Place.{Place}
 use Rattle.model.specs.declared.token.Place.the-variants as places
 use Rattle.model.specs.declared.token.State.{State}
@@ -27,9 +28,10 @@ use Rattle.model.specs.declared.token.Token.{Token}
 use Rattle.model.specs.declared.record.Machine.{Machine}
 use Rattle.model.specs.declared.reply.Outcome.{Outcome}
 use Rattle.model.proofs.Machine.Refused.{After, after-outcome, StepAccepted, step-accepted, AnswerAccepted, answer-accepted}
+use Rattle.model.proofs.Machine.Refused.{AdvanceAccepted, advance-accepted}
 use Rattle.model.proofs.Machine.Rules.{EachRuleHolds, each-rule-holds, names-once, order-names, ready-live}
-use Rattle.model.proofs.Machine.Inside.{inside-put}
-use Rattle.model.proofs.Machine.WrittenTokens.{fits-same}
+use Rattle.model.proofs.Machine.Inside.{inside-put, inside-map}
+use Rattle.model.proofs.Machine.WrittenTokens.{fits-same, woken-blank, woken-live, woken-fits}
 use Rattle.model.proofs.Machine.Used.{Used, used-fits, live-used, inside-old, none-new}
 use Rattle.model.proofs.Machine.ActsWithin.{acted}
 
@@ -39,6 +41,7 @@ open-live h states.Blank e = e
 open-live h states.Ready e = refl
 open-live h (states.Waiting c) e = refl
 open-live h (states.Called g) e = refl
+open-live h (states.Due d) e = refl
 open-live h states.Frame e = e
 
 -- the token under a handle is called out under it
@@ -124,3 +127,21 @@ module _ (lim : Limits) (d : Dag) (m : Machine) where
     where
       a : AnswerAccepted lim d m handle value
       a = answer-accepted lim d m handle value e
+
+  -- a clock move: a token that wakes was alive, and names what it named
+  pub advance-within :
+      (time : ℕ)
+      → Within lim m
+      → isRefused (advance lim d m time .reply) ≡ false
+      → Within lim (advance lim d m time .machine)
+  unfolding After advanced Update.withClock Update.withTimers Update.withOrders Update.withTables
+  advance-within time old e =
+      subst (λ (o : Outcome). Within lim (o .machine)) (sym (a .does))
+      (after-outcome (λ o. Within lim (sweep o)) (Within lim) (λ o x. x) m (moves (advanced m time))
+      (none-new lim d m old _
+      (inside-map (inside-old lim d m (each-rule-holds lim d m (a .holds))) (wokenBy time) (woken-blank time) (woken-live time)
+      (woken-fits time)))
+      (subst (λ (o : Outcome). isRefused (o .reply) ≡ false) (a .does) e))
+    where
+      a : AdvanceAccepted lim d m time
+      a = advance-accepted lim d m time e

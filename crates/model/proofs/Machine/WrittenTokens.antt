@@ -1,4 +1,4 @@
--- The tokens that a step writes name nothing but what the token acted on names, and the cell that is bound: by their definitions, field by
+-- The tokens that a step, or a clock move, writes name nothing but what the token acted on names, and the cell that is bound: by their definitions, field by
 -- field. Assumes nothing.
 use mathlib.Core.Path.{_≡_, refl, sym, _∙_, ap}
 use mathlib.Core.Logic.{_⊎_, inl, inr}
@@ -8,16 +8,18 @@ use Prim.Native.Nat.{ℕ, zero, suc, _+_}
 use native.Mathlib.Omega.{arith}
 use lib.ListN.{length, getD, set, drop}
 use lib.Seq.{getD-drop}
-use lib.IntN.{ℤ}
+use lib.IntN.{ℤ, pos}
 use Rattle.job.specs.Syntax.{Param, variable, constant}
 use Rattle.model.specs.Machine.Blank.{empty, unbound, blankToken, slotAt}
 use Rattle.model.specs.Machine.Active.{within}
-use Rattle.model.specs.Machine.State.{isLive, waitsAt}
-use Rattle.model.specs.Machine.Update.{withBinding, withState}
+use Rattle.model.specs.Machine.State.{isLive, isDueBy, waitsAt}
+use Rattle.model.specs.Machine.Update.{withBinding, withValue, withState}
 use Rattle.model.specs.Machine.Step.{passed, formalsBound, chokeToken}
+use Rattle.model.specs.Machine.Clock.{wokenBy}
 use Rattle.model.specs.declared.token.Slot.{Slot}
 use Rattle.model.specs.declared.token.Slot.the-variants as slots
 use Rattle.model.specs.declared.token.Bind.{Bind}
+use Rattle.model.specs.declared.token.Held.the-variants as helds
 use Rattle.model.specs.declared.token.State.{State}
 use Rattle.model.specs.declared.token.State.the-variants as states
 use Rattle.model.specs.declared.token.Token.{Token}
@@ -118,6 +120,7 @@ waiting-live c states.Blank e = e
 waiting-live c states.Ready e = refl
 waiting-live c (states.Waiting b) e = refl
 waiting-live c (states.Called h) e = refl
+waiting-live c (states.Due d) e = refl
 waiting-live c states.Frame e = e
 
 pub choked-blank : (cs : List Cell) (c : ℕ) → chokeToken cs c blankToken ≡ blankToken
@@ -140,3 +143,48 @@ unfolding withState
 choked-fits {Q} {R} ends f = fits-blank Q R
 choked-fits (wakes w) f = fits-same refl refl refl f
 choked-fits stays f = f
+
+-- a token at a time: it wakes if it is due by then
+pub data Woken (time : ℕ) (t : Token) : Token → Type 0 where
+  wakes : isDueBy time (t .state) ≡ true → Woken time t (withState states.Ready (withValue (helds.Value (pos 0)) t))
+  stays : isDueBy time (t .state) ≡ false → Woken time t t
+
+pub woken-cases : (time : ℕ) (t : Token) → Woken time t (wokenBy time t)
+unfolding wokenBy
+woken-cases time t = go (isDueBy time (t .state)) refl
+  where
+    go :
+        (b : Bool)
+        → isDueBy time (t .state) ≡ b
+        → Woken time t (elim b [ true ↦ withState states.Ready (withValue (helds.Value (pos 0)) t) | false ↦ t ])
+    go true e = wakes e
+    go false e = stays e
+
+pub due-live : (time : ℕ) (s : State) → isDueBy time s ≡ true → isLive s ≡ true
+unfolding isDueBy isLive
+due-live time states.Blank e = e
+due-live time states.Ready e = refl
+due-live time (states.Waiting b) e = refl
+due-live time (states.Called h) e = refl
+due-live time (states.Due d) e = refl
+due-live time states.Frame e = e
+
+pub woken-blank : (time : ℕ) → wokenBy time blankToken ≡ blankToken
+unfolding wokenBy isDueBy
+woken-blank time = refl
+
+-- what was not alive is not alive after a clock move
+pub woken-live : (time : ℕ) (t : Token) → isLive (wokenBy time t .state) ≡ true → isLive (t .state) ≡ true
+woken-live time t = go (woken-cases time t)
+  where
+    go : {u : Token} → Woken time t u → isLive (u .state) ≡ true → isLive (t .state) ≡ true
+    go (wakes w) e = due-live time (t .state) w
+    go (stays w) e = e
+
+pub woken-fits : {Q R : ℕ → Type 0} (time : ℕ) (t : Token) → Fits Q R t → Fits Q R (wokenBy time t)
+unfolding withState withValue
+woken-fits {Q} {R} time t f = go (woken-cases time t)
+  where
+    go : {u : Token} → Woken time t u → Fits Q R u
+    go (wakes w) = fits-same refl refl refl f
+    go (stays w) = f

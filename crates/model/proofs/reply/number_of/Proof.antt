@@ -22,6 +22,9 @@ enum-told-5 c = search needs
 enum-told-6 : tie.Need-enum-told-6
 enum-told-6 c = search needs
 
+enum-told-7 : tie.Need-enum-told-7
+enum-told-7 c = search needs
+
 returns : tie.Need-returns
 unfolding numberOf
 returns c = search needs
@@ -46,8 +49,12 @@ returns-6 : tie.Need-returns-6
 unfolding numberOf
 returns-6 c = search needs
 
+returns-7 : tie.Need-returns-7
+unfolding numberOf
+returns-7 c = search needs
+
 pub number-of-spec : {M : Type 1} → statement M
 number-of-spec =
     tie.close
-    (tie.spec enum-told enum-told-2 enum-told-3 enum-told-4 enum-told-5 enum-told-6 returns returns-2 returns-3 returns-4 returns-5
-    returns-6)
+    (tie.spec enum-told enum-told-2 enum-told-3 enum-told-4 enum-told-5 enum-told-6 enum-told-7 returns returns-2 returns-3 returns-4
+    returns-5 returns-6 returns-7)
