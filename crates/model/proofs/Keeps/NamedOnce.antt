@@ -1,6 +1,6 @@
--- Three lines of places, the queue, the wait order and the order of call: each token that is ready, that waits, that is due later stands in
--- its line once. That is what the index rules ask of the orders, since such a line is no longer than the table; and each kind of step keeps it,
--- by counting. Assumes nothing.
+-- Three lines of places, the queue, the wait order and the order of call: each token that is ready, that waits, that is due later stands
+-- in its line once. That is what the index rules ask of the orders, since such a line is no longer than the table; and each kind of step
+-- keeps it, by counting. Assumes nothing.
 use mathlib.Core.Path.{_≡_, refl, sym, _∙_, ap, subst}
 use mathlib.Core.Bool.{Bool, true, false}
 use mathlib.Core.List.{List, [], _∷_, _++_, map}
@@ -25,6 +25,7 @@ use Rattle.model.specs.declared.cell.Cell.{Cell}
 use Rattle.job.proofs.Test.{clash, false-of, eqb-same, eqb-eq, eq-eqb, ne-eqb, lt-ltb, le-leb, and-both, all-head, all-tail, once-true}
 use Rattle.model.proofs.Machine.Marks.{Free, marked-le-length, marked-set-free}
 use Rattle.model.proofs.Machine.Rules.{occurrences-here, ready-state}
+use Rattle.model.proofs.Machine.Selected.{occurrences-select}
 use Rattle.model.proofs.Machine.Choke.{choke-at, choke-ends, woken, choke-spares}
 use Rattle.job.proofs.Test.{once-small, occurrences-append, occurrences-more}
 use Rattle.model.proofs.Machine.TableRows.{token-same, token-other, token-outside}
@@ -278,35 +279,6 @@ lines-new {ts} {queue} {waits} {timers} q u i nr nw nd e l =
       waiting = stays-out isWaiting ts q u waits i nw (l .waiting) (ap isWaiting e);
       due = stays-out isDue ts q u timers i nd (l .due) (ap isDue e);
     }
-
--- a line filtered
-pub occurrences-kept : (test : ℕ → Bool) (r : ℕ) (l : List ℕ) → test r ≡ true → occurrences r (select test l) ≡ occurrences r l
-unfolding select occurrences
-occurrences-kept test r [] e = refl
-occurrences-kept test r (x ∷ l) e = go (test x) refl (occurrences-kept test r l e)
-  where
-    go : (b : Bool) → test x ≡ b → occurrences r (select test l) ≡ occurrences r l
-        → occurrences r (elim b as (λ b. List ℕ) [ true ↦ x ∷ select test l | false ↦ select test l ]) ≡ once (eqb r x) + occurrences r l
-    go true q h = omega arith
-    go false q h = let y : once (eqb r x) ≡ 0 = ap once (ne-eqb r x (λ z. clash (ap test (sym z) ∙ e) q)) in omega arith
-
-pub occurrences-dropped : (test : ℕ → Bool) (r : ℕ) (l : List ℕ) → test r ≡ false → occurrences r (select test l) ≡ 0
-unfolding select occurrences
-occurrences-dropped test r [] e = refl
-occurrences-dropped test r (x ∷ l) e = go (test x) refl (occurrences-dropped test r l e)
-  where
-    go : (b : Bool) → test x ≡ b → occurrences r (select test l) ≡ 0
-        → occurrences r (elim b as (λ b. List ℕ) [ true ↦ x ∷ select test l | false ↦ select test l ]) ≡ 0
-    go true q h = let y : once (eqb r x) ≡ 0 = ap once (ne-eqb r x (λ z. clash (ap test z ∙ q) e)) in omega arith
-    go false q h = h
-
-pub occurrences-select : (test : ℕ → Bool) (r : ℕ) (l : List ℕ) → (test r ≡ true → occurrences r l ≡ 1)
-    → occurrences r (select test l) ≡ once (test r)
-occurrences-select test r l h = go (test r) refl
-  where
-    go : (b : Bool) → test r ≡ b → occurrences r (select test l) ≡ once b
-    go true e = occurrences-kept test r l e ∙ h e
-    go false e = occurrences-dropped test r l e
 
 -- a choke: who is ready then was ready or waiting, who waits then waited
 woken-ready : (c : ℕ) (s : State) (t : Token) → t .state ≡ s → isReady (woken (waitsAt c s) t .state) ≡ true

@@ -1,5 +1,5 @@
--- What the orders of a machine, the queue, the wait order and the order of call, are after each way to write it: the lists that were put in,
--- padded with 0. With lines that name each token of their kind once, that is what the index rules ask of the orders. Assumes nothing.
+-- What the orders of a machine, the queue, the wait order and the order of call, are after each way to write it: the lists that were put
+-- in, padded with 0. With lines that name each token of their kind once, that is what the index rules ask of the orders. Assumes nothing.
 use mathlib.Core.Path.{_≡_, refl, sym, _∙_, ap, subst}
 use mathlib.Core.Bool.{Bool, true, false}
 use mathlib.Core.List.{List, [], _∷_, _++_}
