@@ -38,6 +38,7 @@ handle-busy h states.Blank e = refl
 handle-busy h states.Ready e = clash e refl
 handle-busy h (states.Waiting c) e = refl
 handle-busy h (states.Called n) e = refl
+handle-busy h (states.Due d) e = refl
 handle-busy h states.Frame e = refl
 
 -- the holder of a handle, counted from i, is at a place j places on and is not ready

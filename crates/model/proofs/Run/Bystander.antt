@@ -12,7 +12,8 @@ use Rattle.model.specs.Machine.Blank.{blankToken, tokenAt}
 use Rattle.model.specs.Machine.Active.{underSet, isActive}
 use Rattle.model.specs.Machine.InUse.{tokensUsed, sweep}
 use Rattle.model.specs.Machine.State.{isReady}
-use Rattle.model.specs.Machine.Update.{withTables, withOrders, withCounts, queueOf, waitsOf, put, enqueue, newToken, newCell}
+use Rattle.model.specs.Machine.Update.{withTables, withOrders, withCounts, withTimers, withClock, queueOf, waitsOf}
+use Rattle.model.specs.Machine.Update.{put, enqueue, newToken, newCell}
 use Rattle.model.specs.Run.Follow.{Stands, queuedToken}
 use Rattle.model.specs.declared.token.Place.{Place}
 use Rattle.model.specs.declared.token.Token.{Token}
@@ -50,6 +51,10 @@ module _ {u : Token} {p : ℕ} where
   unfolding withCounts
   unharmed-counts n a c m h = record { token = h .token; clear = h .clear }
 
+  pub unharmed-timers : (l : List ℕ) (m : Machine) → Unharmed u p m → Unharmed u p (withTimers l m)
+  unfolding withTimers
+  unharmed-timers l m h = record { token = h .token; clear = h .clear }
+
   pub unharmed-cell :
       (c : ℕ) (above : Place) (m : Machine)
       → underSet (m .cells) above ≡ false
@@ -79,13 +84,31 @@ module _ {u : Token} {p k : ℕ} where
   untouched-waits w m h = untouched-orders (queueOf m) w m (h .queued) (h .place) (h .unharmed)
 
   -- others go to the back
+  pub untouched-joined :
+      (qs w : List ℕ) (m : Machine) → Untouched u p k m → Untouched u p k (withOrders (queueOf m ++ qs) w m)
+  untouched-joined qs w m h =
+      untouched-orders (queueOf m ++ qs) w m
+      (let z = length-append (queueOf m) qs in let l = h .queued in omega arith)
+      (List·getD-append (queueOf m) qs 0 k (h .queued) ∙ h .place)
+      (h .unharmed)
+
   pub untouched-enqueue : (q : ℕ) (m : Machine) → Untouched u p k m → Untouched u p k (enqueue q m)
   unfolding enqueue
-  untouched-enqueue q m h =
-      untouched-orders (queueOf m ++ (q ∷ [])) (waitsOf m) m
-      (let z = length-append (queueOf m) (q ∷ []) in let l = h .queued in omega arith)
-      (List·getD-append (queueOf m) (q ∷ []) 0 k (h .queued) ∙ h .place)
-      (h .unharmed)
+  untouched-enqueue q m h = untouched-joined (q ∷ []) (waitsOf m) m h
+
+  -- the order of call and the clock change nothing of it
+  pub untouched-timers : (l : List ℕ) (m : Machine) → Untouched u p k m → Untouched u p k (withTimers l m)
+  unfolding withTimers queueOf
+  untouched-timers l m h = record { queued = h .queued; place = h .place; unharmed = unharmed-timers l m (h .unharmed) }
+
+  pub untouched-clock : (time : ℕ) (m : Machine) → Untouched u p k m → Untouched u p k (withClock time m)
+  unfolding withClock queueOf
+  untouched-clock time m h =
+      record {
+        queued = h .queued;
+        place = h .place;
+        unharmed = record { token = h .unharmed .token; clear = h .unharmed .clear };
+      }
 
   pub untouched-put : (q : ℕ) (t : Token) (m : Machine) → (p ≡ q → ⊥) → Untouched u p k m → Untouched u p k (put q t m)
   unfolding put withTables queueOf
