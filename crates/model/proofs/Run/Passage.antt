@@ -79,6 +79,13 @@ module _ (lim : Limits) (d : Dag) where
           (subst (λ m′. Passage m (c ∷ cs) (shown m′) false (end m′)) (sym (refused-leaves m c no′)) (refused no′ (rest m)))
       go false ok rest = accepted ok (rest (o .machine))
 
+  -- the calls behind the first are one, accepted or not as it may be
+  pub passage-behind : {m end : Machine} {c : Call} {cs : List Call} {es : List Event} {fine : Bool} → Passage m (c ∷ cs) es fine end
+      → (es′ : List Event) × (fine′ : Bool) × Passage (outcomeOf runner lim d m c .machine) cs es′ fine′ end
+  passage-behind (refused {m = m} {end = end} {c = c} {cs = cs} {es = es} {fine = fine} no′ p) =
+      (es, fine, subst (λ m′. Passage m′ cs es fine end) (sym (refused-leaves m c no′)) p)
+  passage-behind (accepted {es = es} {fine = fine} ok p) = (es, fine, p)
+
   -- and what a passage says of them is so
   pub record Passed (m : Machine) (cs : List Call) (es : List Event) (fine : Bool) (end : Machine) : Type 0 where
     pub shows : eventsFrom runner lim d m cs ≡ es
