@@ -34,7 +34,7 @@ use Rattle.job.proofs.Test.{eqb-ne, all-head, all-tail}
 use Rattle.model.proofs.Machine.Blanking.{length-kept, kept-cases}
 use Rattle.model.proofs.Machine.Inside.{written}
 use Rattle.model.proofs.Machine.WrittenTokens.{Choked, ends, wakes, stays, choked-cases}
-use Rattle.model.proofs.Sees.Slots.{unbound-empty}
+use Rattle.model.proofs.Machine.InUse.{unbound-empty}
 use Rattle.model.proofs.Machine.Choke.{choke-at}
 use Rattle.model.proofs.Machine.TableRows.{token-same, token-other, cell-same, cell-other}
 

@@ -27,7 +27,7 @@ use Rattle.model.specs.declared.token.Token.{Token}
 use Rattle.model.specs.declared.cell.Cell.{Cell}
 use Rattle.model.specs.declared.record.Machine.{Machine}
 use Rattle.job.proofs.Test.{clash, ne-eqb, not-true, occurrences-append}
-use Rattle.model.proofs.Machine.Choke.{choke-at, choke-ends}
+use Rattle.model.proofs.Machine.Choke.{choke-at, choke-ends, woken, choke-spares}
 use Rattle.simulation.proofs.AbstractMachine as Abstract
 use Rattle.simulation.proofs.AbstractMachine.{Binding, Frame, at, Store, withSet, isOutOf, outOf, actsAt}
 use Rattle.simulation.proofs.Store.{_is-in_, set-same, set-other}
@@ -42,13 +42,6 @@ use Rattle.model.proofs.Sees.Moving.{value-there, value-optional, place
 use Rattle.model.proofs.Sees.Agrees.{Acting, Shows, Agrees}
 use Rattle.model.proofs.Machine.WrittenTokens.{waiting-live}
 use Rattle.model.proofs.Machine.TableRows.{cell-same, cell-other}
-
-unfoldable pub woken : Bool → Token → Token
-woken b t = elim b [ true ↦ withState states.Ready t | false ↦ t ]
-
-pub choke-spares : (cs : List Cell) (c : ℕ) (t : Token) → within cs c (t .cell) ≡ false → chokeToken cs c t ≡ woken (waitsAt c (t .state)) t
-unfolding chokeToken woken
-choke-spares cs c t e = rw (e, chokeToken) refl
 
 woken-live : (c : ℕ) (t : Token) → isLive (woken (waitsAt c (t .state)) t .state) ≡ isLive (t .state)
 unfolding woken withState isLive
