@@ -104,6 +104,10 @@ module _ (lim : Limits) (d : Dag) (M : Labels) (bodies : ℕ → Exp) (fits : Fi
   abbrev G : Abstract.Program
   G = programOf d M bodies
 
+  -- what the abstract machine's token does
+  abbrev acts : Abstract.Place → ℤ → Abstract.Effect
+  acts K v = Abstract.act G (m .clock) σ new (m .calls) K v
+
   flow-at : {n : ℕ} {B : List Binding} {F : List Frame} {U : List ℕ} (p : ℕ) → p < length (m .tokens)
       → PlaceSeen W M (tokenAt (m .tokens) p) n B F U → FlowAt d M n (nodeAt d n)
   flow-at {n} p l z = flow .at n (subst (λ i. i < length (d .nodes)) (z .node) (at-node lim d m (ok .holds) p l))
@@ -111,33 +115,34 @@ module _ (lim : Limits) (d : Dag) (M : Labels) (bodies : ℕ → Exp) (fits : Fi
   -- a waiting token stays
   idle : {n : ℕ} {B : List Binding} {F : List Frame} {U : List ℕ} {v : ℤ} (p : ℕ) → p < length (m .tokens) → Blocked d m p
       → PlaceSeen W M (tokenAt (m .tokens) p) n B F U
-      → Abstract.act G (m .clock) σ new (m .calls) (at n B F U) v ≡ Abstract.makes silently (running (at n B F U) v ∷ [])
+      → acts (at n B F U) v ≡ Abstract.makes silently (running (at n B F U) v ∷ [])
   idle {n} {B} {F} {U} {v} p l b z = go (nodeAt d n) (ap (nodeAt d) (sym (z .node)) ∙ b .node) (flow-at p l z)
     where
       asks : Option (List ℤ) → Abstract.Effect
       asks o = Abstract.asksSite (m .clock) (m .calls) (b .site) (running (at n B F U) v) o (at (b .next) B F U)
 
+      does : Node → Abstract.Effect
+      does N = Abstract.actsAt G (m .clock) σ new (m .calls) (nodeMeant (M .scope n) N) (at n B F U) v
+
       at-site : FlowAt d M n (Node.site (b .site) (b .params) (b .next))
-          → Abstract.actsAt G (m .clock) σ new (m .calls) (nodeMeant (M .scope n) (Node.site (b .site) (b .params) (b .next))) (at n B F U) v
-          ≡ Abstract.makes silently (running (at n B F U) v ∷ [])
+          → does (Node.site (b .site) (b .params) (b .next)) ≡ Abstract.makes silently (running (at n B F U) v ∷ [])
       at-site (FlowAt.site e good f) = unfold nodeMeant in ap asks (values-seen (z .binds .views) good ∙ ap found (b .finds))
 
       go : (N : Node) → N ≡ Node.site (b .site) (b .params) (b .next) → FlowAt d M n N
-          → Abstract.actsAt G (m .clock) σ new (m .calls) (nodeMeant (M .scope n) N) (at n B F U) v
-          ≡ Abstract.makes silently (running (at n B F U) v ∷ [])
-      go N e f =
-          ap (λ N. Abstract.actsAt G (m .clock) σ new (m .calls) (nodeMeant (M .scope n) N) (at n B F U) v) e ∙ at-site (subst (FlowAt d M n) e f)
+          → does N ≡ Abstract.makes silently (running (at n B F U) v ∷ [])
+      go N e f = ap does e ∙ at-site (subst (FlowAt d M n) e f)
 
   abbrev FollowedBy : (L R : List Abstract.Token) → Abstract.Effect → Type 0
   FollowedBy L R x = Followed lim d M m (labelOf x) (after L R (m .clock) σ new (m .calls) x)
 
   follow-waiting : {L R : List Abstract.Token} {n : ℕ} {B : List Binding} {F : List Frame} {U : List ℕ} {v : ℤ} (p : ℕ)
       → Split (running (at n B F U) v) S L R → p < length (m .tokens) → Blocked d m p → PlaceSeen W M (tokenAt (m .tokens) p) n B F U
-      → FollowedBy L R (Abstract.act G (m .clock) σ new (m .calls) (at n B F U) v)
+      → FollowedBy L R (acts (at n B F U) v)
   unfolding nextHandle
   follow-waiting {L} {R} {v = v} p split l b z =
       subst (FollowedBy L R) (sym (idle {v = v} p l b z))
-      (stays refl (subst (λ S. Sees M m (state S σ (suc new) (m .calls) (m .clock))) (split-whole split) (seenAs name place A (skip-name K))))
+      (stays refl
+      (subst (λ S. Sees M m (state S σ (suc new) (m .calls) (m .clock))) (split-whole split) (seenAs name place A (skip-name K))))
 
   step-does : (k : ℕ) → k < m .queued → Step.step lim d m k ≡ outcome m (takes lim d m k)
   unfolding Step.step unless
@@ -152,19 +157,19 @@ module _ (lim : Limits) (d : Dag) (M : Labels) (bodies : ℕ → Exp) (fits : Fi
         (flow-at (getD (m .queue) k 0) (acting-inside (acting .others)) (acting .place)))
 
     ready-at : (k : ℕ) → k < m .queued → Acting M W (getD (m .queue) k 0) L R n B F U v
-        → FollowedBy L R (Abstract.act G (m .clock) σ new (m .calls) (at n B F U) v)
+        → FollowedBy L R (acts (at n B F U) v)
     unfolding outcomeOf
     ready-at k l acting =
         let o = step-does k l in
         let fine = takes-accepted k l acting in
         let both =
-        shown-by M W L R (m .clock) (m .calls) (Abstract.act G (m .clock) σ new (m .calls) (at n B F U) v) k m (takes lim d m k)
+        shown-by M W L R (m .clock) (m .calls) (acts (at n B F U) v) k m (takes lim d m k)
         (takes-agrees lim d M bodies fits flow m k (ok .holds) l acting) fine in
         calls (step k) (ap (λ (o : Outcome). isRefused (o .reply)) o ∙ fine) (ap (eventsBy (step k)) o ∙ both .0)
-        (subst (λ (o : Outcome). Sees M (o .machine) (after L R (m .clock) σ new (m .calls) (Abstract.act G (m .clock) σ new (m .calls) (at n B F U) v))) (sym o)
+        (subst (λ (o : Outcome). Sees M (o .machine) (after L R (m .clock) σ new (m .calls) (acts (at n B F U) v))) (sym o)
         (both .1))
 
-    follow-ready : (p : ℕ) → Acting M W p L R n B F U v → FollowedBy L R (Abstract.act G (m .clock) σ new (m .calls) (at n B F U) v)
+    follow-ready : (p : ℕ) → Acting M W p L R n B F U v → FollowedBy L R (acts (at n B F U) v)
     follow-ready p acting =
         let i = queue-index lim d m (ok .holds) p (acting-inside (acting .others)) (acting .state) in
         ready-at (i .0) (i .1) (subst (λ p. Acting M W p L R n B F U v) (sym (i .2)) acting)
