@@ -12,6 +12,7 @@ pub mod Grammar
 pub mod Numbers
 pub mod StepStands
 pub mod AnswerStands
+pub mod ClockStands
 pub mod FrontEnds
 pub mod OnePosition
 pub mod Last
