@@ -20,5 +20,6 @@ pub mod Sound
 pub mod First
 pub mod LoadedRuns
 pub mod Worked
+pub mod ClockRuns
 pub mod Broken
 pub mod ReadTables
