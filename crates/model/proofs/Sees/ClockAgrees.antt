@@ -4,11 +4,10 @@ use mathlib.Core.Path.{_≡_, refl, sym, _∙_, ap, subst}
 use mathlib.Core.Bool.{Bool, true, false}
 use mathlib.Core.List.{List, map}
 use Prim.Native.Nat.{ℕ}
-use lib.ListN.{getD, length-map, List·getD-map}
-use lib.Dec.{leb}
+use lib.ListN.{length-map}
 use lib.IntN.{pos}
 use Rattle.job.specs.Test.{once}
-use Rattle.model.specs.Machine.Blank.{blankToken, tokenAt}
+use Rattle.model.specs.Machine.Blank.{tokenAt}
 use Rattle.model.specs.Machine.State.{isLive, isDueBy}
 use Rattle.model.specs.Machine.Update.{withValue, withState, withTables, withOrders, withTimers, withClock}
 use Rattle.model.specs.Machine.Clock.{wokenBy, advanced}
@@ -19,7 +18,8 @@ use Rattle.model.specs.declared.token.State.the-variants as states
 use Rattle.model.specs.declared.token.Token.{Token}
 use Rattle.model.specs.declared.record.Machine.{Machine}
 use Rattle.job.proofs.Test.{clash}
-use Rattle.model.proofs.Machine.WrittenTokens.{woken-blank, due-live}
+use Rattle.model.proofs.Machine.WrittenTokens.{due-live}
+use Rattle.model.proofs.Machine.Clock.{woken-at}
 use Rattle.simulation.proofs.AbstractMachine as Abstract
 use Rattle.simulation.proofs.AbstractMachine.{Store, state, wokenIf, wake}
 use Rattle.model.proofs.Sees.Labels.{Labels}
@@ -71,10 +71,6 @@ module _ (time : ℕ) where
       go true e = sym (due-live time (t .state) e)
       go false e = refl
 
-  pub woken-at : (ts : List Token) (r : ℕ) → tokenAt (map (wokenBy time) ts) r ≡ wokenBy time (tokenAt ts r)
-  unfolding tokenAt
-  woken-at ts r = ap (getD (map (wokenBy time) ts) r) (sym (woken-blank time)) ∙ List·getD-map (wokenBy time) ts r blankToken
-
   -- cells and frames stay
   module _ (M : Labels) (W : World) where
     abbrev later : World
@@ -92,7 +88,7 @@ module _ (time : ℕ) where
     kept =
         record {
           size = length-map (W .tokens) (wokenBy time);
-          frames = λ q u e. woken-at (W .tokens) q ∙ woken-frame (tokenAt (W .tokens) q) e;
+          frames = λ q u e. woken-at time (W .tokens) q ∙ woken-frame (tokenAt (W .tokens) q) e;
           cells = λ c n u s. record { inside = s .inside; old = s .old; name = s .name; place = s .place; value = s .value };
           parents = λ c u. refl;
         }
@@ -108,7 +104,7 @@ module _ (time : ℕ) where
     tokens-wake nobody = nobody
     tokens-wake (also {p = p} {x = x} v r) =
         also
-        (subst (λ t. TokenSeen later M t (wake time x)) (sym (woken-at (W .tokens) p))
+        (subst (λ t. TokenSeen later M t (wake time x)) (sym (woken-at time (W .tokens) p))
         (token-wakes
         (token-keep kept closed (record { caller = λ q e. tt; cells = record { cell = λ c e. tt; binds = λ x c e. tt } }) (λ c e. e) v)))
         (tokens-wake r)
@@ -120,7 +116,7 @@ module _ (time : ℕ) where
           each =
               λ r.
               K .each r
-              ∙ ap once (sym (ap (λ (t : Token). isLive (t .state)) (woken-at (W .tokens) r) ∙ woken-alive (tokenAt (W .tokens) r)));
+              ∙ ap once (sym (ap (λ (t : Token). isLive (t .state)) (woken-at time (W .tokens) r) ∙ woken-alive (tokenAt (W .tokens) r)));
           clean = K .clean;
         }
 
