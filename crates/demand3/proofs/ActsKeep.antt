@@ -3,7 +3,6 @@
 use mathlib.Core.Path.{_≡_, refl, sym, _∙_, ap, subst}
 use mathlib.Core.Bool.{Bool, true, false}
 use mathlib.Core.List.{List, [], _∷_, _++_, map}
-use mathlib.Core.Option.{Option}
 use Prim.Native.Nat.{ℕ, zero, suc, _<_, _≤_}
 use native.Mathlib.Omega.{arith}
 use lib.ListN.{length, set, length-set, length-map}
@@ -19,7 +18,7 @@ use Rattle.model.specs.Machine.Blank.{blankToken, tokenAt, cellAt, slotAt}
 use Rattle.model.specs.Machine.Active.{upward, within}
 use Rattle.model.specs.Machine.State.{isLive, isReady, isWaiting, isDue}
 use Rattle.model.specs.Machine.Rules.{heldInRange}
-use Rattle.model.specs.Machine.Reply.{Effect, moves, unless}
+use Rattle.model.specs.Machine.Reply.{Effect, unless}
 use Rattle.model.specs.Machine.Update as Update
 use Rattle.model.specs.Machine.Step as Step
 use Rattle.model.specs.Machine.Step.{LookUpResult, values, unset, look, hasTokenPlace, hasCellPlace, tokenPlace}
@@ -37,6 +36,7 @@ use Rattle.model.specs.declared.record.Machine.{Machine}
 use Rattle.job.proofs.Test.{clash, eqb-same, ltb-lt, and-left, and-right}
 use Rattle.job.proofs.DagRules.{body-rules}
 use Rattle.model.proofs.Machine.Refused.{After, after-unless}
+use Rattle.model.proofs.Machine.Deferred.{deferred-cases}
 use Rattle.model.proofs.Keeps.NamedOnce.{Lines, Taken, taken-ready, taken-inside, lines-gone, lines-back, lines-wait, lines-new}
 use Rattle.model.proofs.Keeps.NamedOnce.{lines-later, lines-choke}
 use Rattle.model.proofs.Keeps.Orders.{Orders, queue-is, waits-are, orders-with, orders-counts, orders-timers}
@@ -374,29 +374,17 @@ module _ (lim : Limits) (d : Dag) (m : Machine) (F : Facts lim d m) (some : 0 < 
       u : Token
       u = Update.withNode k (Update.withState (states.Due due) acting)
 
-  deferred : (k : ℕ) → k < length (d .nodes) → (t : ℤ) (due : Option ℕ) → dueTime (m .clock) t ≡ due
-      → Keeps (Step.deferred at p acting k due)
-  unfolding After Step.deferred withOrders
-  deferred k l t Option.none e = ended
-  deferred k l t (Option.some due) e = go (ltb (m .clock) due) refl
-    where
-      go : (b : Bool) → ltb (m .clock) due ≡ b
-          → Keeps
-          (elim b [
-            | false ↦ Step.goesOn at p (Update.withNode k (Update.withValue (helds.Value (pos 0)) acting))
-            | true ↦
-                moves
-                (Update.withTimers (timersOf at ++ (p ∷ []))
-                (Update.put p (Update.withNode k (Update.withState (states.Due due) acting)) at))
-          ])
-      go false f = replies k l (pos 0) zero-fits
-      go true f = later k l due (ltb-lt _ _ f) (due-last (m .clock) t due e)
+  deferred : (k : ℕ) → k < length (d .nodes) → (t : ℤ) → Keeps (Step.deferred at p acting k (dueTime (m .clock) t))
+  unfolding After withOrders
+  deferred k l t =
+      deferred-cases at p acting k (λ o e. dueTime (m .clock) t ≡ o → Keeps e) (λ e. ended) (λ due i e. replies k l (pos 0) zero-fits)
+      (λ due i e. later k l due i (due-last (m .clock) t due e)) (dueTime (m .clock) t) refl
 
   replied : (k : ℕ) → k < length (d .nodes) → {s : BuiltinReply} → ReplyFits s → Keeps (Step.replied at p acting k s)
   unfolding After Step.replied withOrders
   replied k l (gives-fits {v = v} e) = replies k l v e
   replied k l nothing = ended
-  replied k l (later-fits {t = t}) = deferred k l t (dueTime (m .clock) t) refl
+  replied k l (later-fits {t = t}) = deferred k l t
 
   calledOut : (s : ℕ) (vs : List ℤ) (k : ℕ) → m .calls < lim .calls → k < length (d .nodes) → Keeps (Step.calledOut at p acting s vs k)
   unfolding After Step.calledOut Update.put Update.withTables withOrders Update.withCounts Update.withNode Update.withState isReady

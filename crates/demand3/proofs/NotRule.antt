@@ -2,13 +2,12 @@
 -- a frame and at choke without a cell, and the rules leave none of these. Assumes nothing.
 use mathlib.Core.Path.{_≡_, refl}
 use mathlib.Core.Bool.{Bool, true, false}
-use mathlib.Core.List.{List, [], _∷_, _++_}
-use mathlib.Core.Option.{Option, some, none}
+use mathlib.Core.List.{List}
 use Prim.Native.Nat.{ℕ, _<_}
 use native.Mathlib.Omega.{arith}
 use lib.ListN.{getD}
 use lib.Dec.{ltb}
-use lib.IntN.{ℤ, pos}
+use lib.IntN.{ℤ}
 use Rattle.job.specs.Site.{BuiltinReply, gives, silent, later, isBuiltin, builtin, dueTime}
 use Rattle.job.specs.Node.{Node, Dag, nodeAt, nodeHolds}
 use Rattle.model.specs.Machine.Limits.{Limits}
@@ -16,14 +15,12 @@ use Rattle.model.specs.Machine.Blank.{blankToken, tokenAt, isPlace}
 use Rattle.model.specs.Machine.State.{isBlankState, isReady}
 use Rattle.model.specs.Machine.Rules.{namesFrame, nodeRule, atNode, rulesHold}
 use Rattle.model.specs.Machine.Reply.{Effect, moves, waits, publishes, calls, refuses, unless, accepted, outcome, refusalOf}
-use Rattle.model.specs.Machine.Update.{withNode, withValue, withState, withTimers, timersOf, put}
 use Rattle.model.specs.Machine.Step as Step
 use Rattle.model.specs.Machine.Step.{LookUpResult, values, unset, act, takes}
 use Rattle.model.specs.Machine.Answer as Answer
 use Rattle.model.specs.Machine.Answer.{holder, answered}
 use Rattle.model.specs.Machine.Clock as Clock
 use Rattle.model.specs.Run.Call.{Call, step, answer, advance, runner, outcomeOf}
-use Rattle.model.specs.declared.token.Held.the-variants as helds
 use Rattle.model.specs.declared.token.Place.{Place}
 use Rattle.model.specs.declared.token.Place.the-variants as places
 use Rattle.model.specs.declared.token.State.{State}
@@ -35,6 +32,7 @@ use Rattle.model.specs.declared.reply.Reply.the-variants as replies
 use Rattle.job.proofs.Test.{clash, ltb-lt, and-left, all-at}
 use Rattle.job.proofs.DagRules.{node-rules}
 use Rattle.model.proofs.Machine.Rules.{EachRuleHolds, each-rule-holds}
+use Rattle.model.proofs.Machine.Deferred.{deferred-cases}
 use Rattle.model.proofs.Run.Queue.{QueueRulesHold, queue-rules-hold}
 use Rattle.model.proofs.Sees.Lockstep.{at-node}
 
@@ -79,25 +77,11 @@ wrong-time e = let z : _≡_ {A = ℕ} 0 1 = cc in omega arith
 
 -- instructions
 module _ (lim : Limits) (d : Dag) (before m : Machine) (p : ℕ) (t : Token) where
-  deferred-not : (k : ℕ) (due : Option ℕ) → NotRule (Step.deferred m p t k due)
-  unfolding NotRule Step.deferred Step.goesOn
-  deferred-not k none = tt
-  deferred-not k (some due) = go (ltb (m .clock) due)
-    where
-      go : (b : Bool)
-          → NotRule
-          (elim b [
-            | false ↦ Step.goesOn m p (withNode k (withValue (helds.Value (pos 0)) t))
-            | true ↦ moves (withTimers (timersOf m ++ (p ∷ [])) (put p (withNode k (withState (states.Due due) t)) m))
-          ])
-      go false = tt
-      go true = tt
-
   replied-not : (k : ℕ) (s : BuiltinReply) → NotRule (Step.replied m p t k s)
   unfolding NotRule Step.replied Step.goesOn
   replied-not k (gives v) = tt
   replied-not k silent = tt
-  replied-not k (later time) = deferred-not k (dueTime (m .clock) time)
+  replied-not k (later time) = deferred-cases m p t k (λ o e. NotRule e) tt (λ due l. tt) (λ due l. tt) (dueTime (m .clock) time)
 
   site-not : (s k : ℕ) (l : LookUpResult) → NotRule (Step.callSite lim m p t s k l)
   unfolding NotRule Step.callSite Step.waited Step.calledOut
