@@ -1,28 +1,28 @@
 -- Each instruction keeps the facts: what it writes is a token whose fields come from the one that acts, from its node or from a frame, and
--- the orders gain the places that become ready or wait. Stated of the machine before blanking. Assumes nothing.
+-- the orders gain the places that become ready, wait or are due later. Stated of the machine before blanking. Assumes nothing.
 use mathlib.Core.Path.{_≡_, refl, sym, _∙_, ap, subst}
 use mathlib.Core.Bool.{Bool, true, false}
 use mathlib.Core.List.{List, [], _∷_, _++_, map}
-use Prim.Native.Nat.{ℕ, zero, suc, _<_}
+use Prim.Native.Nat.{ℕ, zero, suc, _<_, _≤_}
 use native.Mathlib.Omega.{arith}
 use lib.ListN.{length, set, length-set, length-map}
 use lib.Dec.{ltb, eqb}
-use lib.IntN.{ℤ}
+use lib.IntN.{ℤ, pos}
 use Rattle.job.specs.Test.{forAll, All, select}
 use Rattle.job.specs.Number.{Signed32}
-use Rattle.job.specs.Site.{BuiltinReply, isBuiltin, builtin}
+use Rattle.job.specs.Site.{BuiltinReply, isBuiltin, builtin, lastTime, dueTime}
 use Rattle.job.specs.Syntax.{Param}
 use Rattle.job.specs.Node.{Node, Dag, nodeAt, bodyAt, paramHolds, paramsHold, isNode, nodeHolds, bodyHolds, dagHolds}
 use Rattle.model.specs.Machine.Limits.{Limits}
 use Rattle.model.specs.Machine.Blank.{blankToken, tokenAt, cellAt, slotAt}
 use Rattle.model.specs.Machine.Active.{upward, within}
-use Rattle.model.specs.Machine.State.{isLive, isReady, isWaiting}
+use Rattle.model.specs.Machine.State.{isLive, isReady, isWaiting, isDue}
 use Rattle.model.specs.Machine.Rules.{heldInRange}
 use Rattle.model.specs.Machine.Reply.{Effect, unless}
 use Rattle.model.specs.Machine.Update as Update
 use Rattle.model.specs.Machine.Step as Step
 use Rattle.model.specs.Machine.Step.{LookUpResult, values, unset, look, hasTokenPlace, hasCellPlace, tokenPlace}
-use Rattle.model.specs.Machine.Update.{withOrders, queueOf, waitsOf}
+use Rattle.model.specs.Machine.Update.{withOrders, queueOf, waitsOf, timersOf}
 use Rattle.model.specs.Machine.Step.{cellPlace, chokeToken, act}
 use Rattle.model.specs.declared.token.Slot.the-variants as slots
 use Rattle.model.specs.declared.token.Held.the-variants as helds
@@ -36,14 +36,19 @@ use Rattle.model.specs.declared.record.Machine.{Machine}
 use Rattle.job.proofs.Test.{clash, eqb-same, ltb-lt, and-left, and-right}
 use Rattle.job.proofs.DagRules.{body-rules}
 use Rattle.model.proofs.Machine.Refused.{After, after-unless}
+use Rattle.model.proofs.Machine.Deferred.{deferred-cases}
 use Rattle.model.proofs.Keeps.NamedOnce.{Lines, Taken, taken-ready, taken-inside, lines-gone, lines-back, lines-wait, lines-new}
-use Rattle.model.proofs.Keeps.NamedOnce.{lines-choke}
-use Rattle.model.proofs.Keeps.Orders.{Orders, queue-is, waits-are, orders-with, orders-counts}
+use Rattle.model.proofs.Keeps.NamedOnce.{lines-later, lines-choke}
+use Rattle.model.proofs.Keeps.Orders.{Orders, queue-is, waits-are, orders-with, orders-counts, orders-timers}
 use Rattle.model.proofs.Keeps.Orders.{orders-put, orders-enqueue, orders-token, orders-cell}
-use Rattle.demand3.proofs.Values.{held-fits, LookUpFits, found, look-fits, ReplyFits, gives-fits, nothing, builtin-fits}
+use Rattle.model.proofs.Keeps.Orders.{Timers, timers-are, timers-with, timers-orders, timers-counts}
+use Rattle.model.proofs.Keeps.Orders.{timers-put, timers-enqueue, timers-token, timers-cell}
+use Rattle.demand3.proofs.Values.{zero-fits, held-fits, LookUpFits, found, look-fits, ReplyFits, gives-fits, nothing}
+use Rattle.demand3.proofs.Values.{later-fits, builtin-fits, due-last}
 use Rattle.demand3.proofs.LookedUp.{look-unset}
 use Rattle.model.proofs.Keeps.TableFacts.{BindsFit, binds-written, formals-fit, Awaits, awaits-as, TokenHolds, Tables, Idle}
-use Rattle.model.proofs.Keeps.TableFacts.{idle-holds, blank-holds, tables-write, tables-wait, tables-call, tables-cell, tables-choke}
+use Rattle.model.proofs.Keeps.TableFacts.{idle-holds, blank-holds, tables-write, tables-wait, tables-later, tables-call, tables-cell}
+use Rattle.model.proofs.Keeps.TableFacts.{tables-choke}
 use Rattle.model.proofs.Keeps.Facts.{Facts}
 use Rattle.model.proofs.Machine.TableRows.{token-other}
 
@@ -53,6 +58,7 @@ not-live-ready states.Blank e = refl
 not-live-ready states.Ready e = e
 not-live-ready (states.Waiting c) e = refl
 not-live-ready (states.Called h) e = refl
+not-live-ready (states.Due d) e = refl
 not-live-ready states.Frame e = refl
 
 not-live-waiting : (s : State) → isLive s ≡ false → isWaiting s ≡ false
@@ -61,7 +67,17 @@ not-live-waiting states.Blank e = refl
 not-live-waiting states.Ready e = refl
 not-live-waiting (states.Waiting c) e = e
 not-live-waiting (states.Called h) e = refl
+not-live-waiting (states.Due d) e = refl
 not-live-waiting states.Frame e = refl
+
+not-live-due : (s : State) → isLive s ≡ false → isDue s ≡ false
+unfolding isLive isDue
+not-live-due states.Blank e = refl
+not-live-due states.Ready e = refl
+not-live-due (states.Waiting c) e = refl
+not-live-due (states.Called h) e = refl
+not-live-due (states.Due d) e = e
+not-live-due states.Frame e = refl
 
 -- a cell is within itself
 own-within : (cs : List Cell) (c : ℕ) → c < length cs → within cs c (places.At c) ≡ true
@@ -77,9 +93,9 @@ pub record Vacant (m : Machine) (q : ℕ) : Type 0 where
   pub inside : q < length (m .tokens)
   pub dead : isLive (tokenAt (m .tokens) q .state) ≡ false
 
--- The token at p acts, taken from the queue of m; its orders are then `queue` and `waits`
+-- The token at p acts, taken from the queue of m; its orders are then `queue`, `waits` and the order of call
 module _ (lim : Limits) (d : Dag) (m : Machine) (F : Facts lim d m) (some : 0 < length (d .nodes))
-    (queue waits : List ℕ) (p : ℕ) (T : Taken (m .tokens) p queue waits) where
+    (queue waits : List ℕ) (p : ℕ) (T : Taken (m .tokens) p queue waits (F .timers)) where
   abbrev pub acting : Token
   acting = tokenAt (m .tokens) p
 
@@ -90,7 +106,7 @@ module _ (lim : Limits) (d : Dag) (m : Machine) (F : Facts lim d m) (some : 0 < 
   Keeps = After (Facts lim d)
 
   abbrev Good : Token → Type 0
-  Good u = TokenHolds d (m .cells) (m .calls) u
+  Good u = TokenHolds d (m .cells) (m .calls) (m .clock) u
 
   inside : p < length (m .tokens)
   inside = taken-inside T
@@ -100,6 +116,9 @@ module _ (lim : Limits) (d : Dag) (m : Machine) (F : Facts lim d m) (some : 0 < 
 
   begun : Orders at queue waits
   begun = orders-with queue waits m
+
+  timed : Timers at (F .timers)
+  timed = timers-orders (F .timed) queue waits
 
   -- the token, with a node, a value and bindings of another, ready or a frame
   going : {u : Token} → u .node < length (d .nodes) → heldInRange (u .value) ≡ true → BindsFit (u .binds) → Idle (u .state) → Good u
@@ -119,7 +138,10 @@ module _ (lim : Limits) (d : Dag) (m : Machine) (F : Facts lim d m) (some : 0 < 
         lastcell = F .lastcell;
         queue = queue ++ (p ∷ []);
         waits = waits;
+        timers = F .timers;
         orders = orders-enqueue (orders-put begun p u) p;
+        timed = timers-enqueue (timers-put timed p u) p;
+        clock = F .clock;
         lines = lines-back T u s;
         tables = tables-write (F .tables) p u inside k (ready-idle s);
       }
@@ -131,7 +153,7 @@ module _ (lim : Limits) (d : Dag) (m : Machine) (F : Facts lim d m) (some : 0 < 
       going (subst (λ j. j < length (d .nodes)) (sym n) l) (ap heldInRange v ∙ was .value) (subst BindsFit (sym b) (was .binds)) i
 
   pub ended : Facts lim d (Step.ended at p)
-  unfolding Step.ended Update.put Update.withTables withOrders isReady isWaiting
+  unfolding Step.ended Update.put Update.withTables withOrders isReady isWaiting isDue
   ended =
       record {
         tokenPlaces = length-set (m .tokens) p blankToken ∙ F .tokenPlaces;
@@ -141,8 +163,11 @@ module _ (lim : Limits) (d : Dag) (m : Machine) (F : Facts lim d m) (some : 0 < 
         lastcell = F .lastcell;
         queue = queue;
         waits = waits;
+        timers = F .timers;
         orders = orders-put begun p blankToken;
-        lines = lines-gone T blankToken refl refl;
+        timed = timers-put timed p blankToken;
+        clock = F .clock;
+        lines = lines-gone T blankToken refl refl refl;
         tables = tables-write (F .tables) p blankToken inside (blank-holds some) Idle.blank;
       }
 
@@ -164,15 +189,16 @@ module _ (lim : Limits) (d : Dag) (m : Machine) (F : Facts lim d m) (some : 0 < 
     given : q < lim .tokenPlaces
     given = let z = F .tokenPlaces in let y = v .inside in omega arith
 
-    second : (u : Token) {a b : List ℕ} (w : Token) → w .state ≡ states.Ready → Lines (set (m .tokens) p u) a b
-        → Lines (set (set (m .tokens) p u) q w) (a ++ (q ∷ [])) b
+    second : (u : Token) {a b c : List ℕ} (w : Token) → w .state ≡ states.Ready → Lines (set (m .tokens) p u) a b c
+        → Lines (set (set (m .tokens) p u) q w) (a ++ (q ∷ [])) b c
     second u w s l =
         lines-new q w (still-inside u)
         (ap (λ (t : Token). isReady (t .state)) (still u) ∙ not-live-ready _ (v .dead))
-        (ap (λ (t : Token). isWaiting (t .state)) (still u) ∙ not-live-waiting _ (v .dead)) s l
+        (ap (λ (t : Token). isWaiting (t .state)) (still u) ∙ not-live-waiting _ (v .dead))
+        (ap (λ (t : Token). isDue (t .state)) (still u) ∙ not-live-due _ (v .dead)) s l
 
     both-written : {u w : Token} → Good u → Idle (u .state) → Good w → Idle (w .state)
-        → Tables d (set (set (m .tokens) p u) q w) (m .cells) (m .calls)
+        → Tables d (set (set (m .tokens) p u) q w) (m .cells) (m .calls) (m .clock)
     both-written {u} {w} a i b j = tables-write (tables-write (F .tables) p u inside a i) q w (still-inside u) b j
 
     forked : (l r : ℕ) → l < length (d .nodes) → r < length (d .nodes) → Keeps (Step.forked at p acting q l r)
@@ -187,8 +213,12 @@ module _ (lim : Limits) (d : Dag) (m : Machine) (F : Facts lim d m) (some : 0 < 
           lastcell = F .lastcell;
           queue = (queue ++ (p ∷ [])) ++ (q ∷ []);
           waits = waits;
+          timers = F .timers;
           orders = orders-enqueue
               (orders-enqueue (orders-token (orders-put begun p (Update.withNode l acting)) q (Update.withNode r acting)) p) q;
+          timed = timers-enqueue
+              (timers-enqueue (timers-token (timers-put timed p (Update.withNode l acting)) q (Update.withNode r acting)) p) q;
+          clock = F .clock;
           lines = second (Update.withNode l acting) (Update.withNode r acting) (taken-ready T)
               (lines-back T (Update.withNode l acting) (taken-ready T));
           tables = both-written (ahead l il refl refl refl s) s (ahead r ir refl refl refl s) s;
@@ -199,7 +229,7 @@ module _ (lim : Limits) (d : Dag) (m : Machine) (F : Facts lim d m) (some : 0 < 
     unfolding
         After Step.entered Update.enqueue Update.newToken Update.put Update.withTables withOrders Update.withCounts Update.withNode
         Update.withState
-        isReady isWaiting heldInRange
+        isReady isWaiting isDue heldInRange
     entered root ps k ir holds ik =
         record {
           tokenPlaces = sizes _ _;
@@ -209,8 +239,11 @@ module _ (lim : Limits) (d : Dag) (m : Machine) (F : Facts lim d m) (some : 0 < 
           lastcell = F .lastcell;
           queue = queue ++ (q ∷ []);
           waits = waits;
+          timers = F .timers;
           orders = orders-enqueue (orders-token (orders-put begun p frame) q callee) q;
-          lines = second frame callee refl (lines-gone T frame refl refl);
+          timed = timers-enqueue (timers-token (timers-put timed p frame) q callee) q;
+          clock = F .clock;
+          lines = second frame callee refl (lines-gone T frame refl refl refl);
           tables =
               both-written (ahead k ik refl refl refl Idle.frame) Idle.frame
               (going ir refl (formals-fit (acting .binds) ps holds (was .binds)) Idle.ready) Idle.ready;
@@ -244,7 +277,10 @@ module _ (lim : Limits) (d : Dag) (m : Machine) (F : Facts lim d m) (some : 0 < 
           lastcell = let z = F .cellPlaces in omega arith;
           queue = (queue ++ (p ∷ [])) ++ (q ∷ []);
           waits = waits;
+          timers = F .timers;
           orders = orders-enqueue (orders-enqueue (orders-cell (orders-token (orders-put begun p left) q right) c own) p) q;
+          timed = timers-enqueue (timers-enqueue (timers-cell (timers-token (timers-put timed p left) q right) c own) p) q;
+          clock = F .clock;
           lines = second left right (taken-ready T) (lines-back T left (taken-ready T));
           tables =
               tables-cell
@@ -277,10 +313,13 @@ module _ (lim : Limits) (d : Dag) (m : Machine) (F : Facts lim d m) (some : 0 < 
         lastcell = F .lastcell;
         queue = queueOf at;
         waits = waitsOf at ++ (p ∷ []);
+        timers = F .timers;
         orders = orders-with (queueOf at) (waitsOf at ++ (p ∷ [])) (Update.put p u at);
+        timed = timers-orders (timers-put timed p u) (queueOf at) (waitsOf at ++ (p ∷ []));
+        clock = F .clock;
         lines =
-            subst (λ q. Lines (set (m .tokens) p u) q (waitsOf at ++ (p ∷ []))) (sym (queue-is begun))
-            (subst (λ w. Lines (set (m .tokens) p u) queue (w ++ (p ∷ []))) (sym (waits-are begun)) (lines-wait T u c refl));
+            subst (λ q. Lines (set (m .tokens) p u) q (waitsOf at ++ (p ∷ [])) (F .timers)) (sym (queue-is begun))
+            (subst (λ w. Lines (set (m .tokens) p u) queue (w ++ (p ∷ [])) (F .timers)) (sym (waits-are begun)) (lines-wait T u c refl));
         tables =
             tables-wait (F .tables) p u inside c refl
             (record {
@@ -289,20 +328,67 @@ module _ (lim : Limits) (d : Dag) (m : Machine) (F : Facts lim d m) (some : 0 < 
               binds = was .binds;
               waits = λ a e. subst (Awaits d (m .cells) u) (let z : c ≡ a = cc in z) (awaits-as refl refl refl (b .unset) b);
               called = λ h e. let z : _≡_ {A = ℕ} 0 1 = cc in absurd (omega arith);
+              due = λ time e. let z : _≡_ {A = ℕ} 0 1 = cc in absurd (omega arith);
             });
       }
     where
       u : Token
       u = Update.withState (states.Waiting c) acting
 
+  -- "With t = 0 the token joins the back of the queue"; else it is due later
+  replies : (k : ℕ) → k < length (d .nodes) → (v : ℤ) → Signed32 v
+      → Keeps (Step.goesOn at p (Update.withNode k (Update.withValue (helds.Value v) acting)))
+  unfolding Update.withNode Update.withValue heldInRange
+  replies k l v e = goes-on _ (going l e (was .binds) (ready-idle (taken-ready T))) (taken-ready T)
+
+  later : (k : ℕ) → k < length (d .nodes) → (due : ℕ) → m .clock < due → due ≤ lastTime
+      → Facts lim d
+      (Update.withTimers (timersOf at ++ (p ∷ [])) (Update.put p (Update.withNode k (Update.withState (states.Due due) acting)) at))
+  unfolding Update.put Update.withTables Update.withTimers withOrders Update.withNode Update.withState
+  later k l due after last =
+      record {
+        tokenPlaces = length-set (m .tokens) p u ∙ F .tokenPlaces;
+        cellPlaces = F .cellPlaces;
+        calls = F .calls;
+        lasttoken = F .lasttoken;
+        lastcell = F .lastcell;
+        queue = queue;
+        waits = waits;
+        timers = timersOf at ++ (p ∷ []);
+        orders = orders-timers (orders-put begun p u) (timersOf at ++ (p ∷ []));
+        timed = timers-with (timersOf at ++ (p ∷ [])) (Update.put p u at);
+        lines = subst (λ l. Lines (set (m .tokens) p u) queue waits (l ++ (p ∷ []))) (sym (timers-are timed)) (lines-later T u due refl);
+        clock = F .clock;
+        tables =
+            tables-later (F .tables) p u inside due refl
+            (record {
+              node = l;
+              value = was .value;
+              binds = was .binds;
+              waits = λ c e. let z : _≡_ {A = ℕ} 0 1 = cc in absurd (omega arith);
+              called = λ h e. let z : _≡_ {A = ℕ} 0 1 = cc in absurd (omega arith);
+              due = λ time e. subst (λ i. (m .clock < i) × (i ≤ lastTime)) (let z : due ≡ time = cc in z) (after, last);
+            });
+      }
+    where
+      u : Token
+      u = Update.withNode k (Update.withState (states.Due due) acting)
+
+  deferred : (k : ℕ) → k < length (d .nodes) → (t : ℤ) → Keeps (Step.deferred at p acting k (dueTime (m .clock) t))
+  unfolding After withOrders
+  deferred k l t =
+      deferred-cases at p acting k (λ o e. dueTime (m .clock) t ≡ o → Keeps e) (λ e. ended) (λ due i e. replies k l (pos 0) zero-fits)
+      (λ due i e. later k l due i (due-last (m .clock) t due e)) (dueTime (m .clock) t) refl
+
   replied : (k : ℕ) → k < length (d .nodes) → {s : BuiltinReply} → ReplyFits s → Keeps (Step.replied at p acting k s)
-  unfolding After Step.replied Update.withNode Update.withValue heldInRange
-  replied k l (gives-fits e) = goes-on _ (going l e (was .binds) (ready-idle (taken-ready T))) (taken-ready T)
+  unfolding After Step.replied withOrders
+  replied k l (gives-fits {v = v} e) = replies k l v e
   replied k l nothing = ended
+  replied k l (later-fits {t = t}) = deferred k l t
 
   calledOut : (s : ℕ) (vs : List ℤ) (k : ℕ) → m .calls < lim .calls → k < length (d .nodes) → Keeps (Step.calledOut at p acting s vs k)
   unfolding After Step.calledOut Update.put Update.withTables withOrders Update.withCounts Update.withNode Update.withState isReady
-      isWaiting
+      isWaiting isDue
   calledOut s vs k few l =
       record {
         tokenPlaces = length-set (m .tokens) p u ∙ F .tokenPlaces;
@@ -312,8 +398,11 @@ module _ (lim : Limits) (d : Dag) (m : Machine) (F : Facts lim d m) (some : 0 < 
         lastcell = F .lastcell;
         queue = queue;
         waits = waits;
+        timers = F .timers;
         orders = orders-counts (orders-put begun p u) _ _ _;
-        lines = lines-gone T u refl refl;
+        timed = timers-counts (timers-put timed p u) _ _ _;
+        clock = F .clock;
+        lines = lines-gone T u refl refl refl;
         tables =
             tables-call (F .tables) p u inside refl
             (record {
@@ -322,6 +411,7 @@ module _ (lim : Limits) (d : Dag) (m : Machine) (F : Facts lim d m) (some : 0 < 
               binds = was .binds;
               waits = λ c e. let z : _≡_ {A = ℕ} 0 1 = cc in absurd (omega arith);
               called = λ h e. let z : m .calls ≡ h = cc in omega arith;
+              due = λ time e. let z : _≡_ {A = ℕ} 0 1 = cc in absurd (omega arith);
             });
       }
     where
@@ -370,7 +460,7 @@ module _ (lim : Limits) (d : Dag) (m : Machine) (F : Facts lim d m) (some : 0 < 
       let fr = F .tables .tokens f in goes-on _ (going (fr .node) (was .value) (fr .binds) Idle.ready) refl
 
   chokes : (c : Place) → acting .cell ≡ c → ((b : ℕ) → c ≡ places.At b → b < length (m .cells)) → Keeps (Step.chokeAt at acting c)
-  unfolding After Step.chokeAt Step.afterChoke Update.withTables withOrders
+  unfolding After Step.chokeAt Step.afterChoke Update.withTables Update.withTimers withOrders
   chokes places.Nowhere e i = tt
   chokes (places.At c) e i =
       record {
@@ -381,11 +471,16 @@ module _ (lim : Limits) (d : Dag) (m : Machine) (F : Facts lim d m) (some : 0 < 
         lastcell = F .lastcell;
         queue = readyOf (queueOf at ++ waitsOf at);
         waits = waitingOf (waitsOf at);
-        orders = orders-with _ _ (Update.withTables ts (set (m .cells) c k) at);
+        timers = dueOf (timersOf at);
+        orders = orders-with _ _ (Update.withTimers (dueOf (timersOf at)) tables);
+        timed = timers-orders (timers-with (dueOf (timersOf at)) tables) _ _;
+        clock = F .clock;
         lines =
-            subst (λ q. Lines ts (readyOf (q ++ waitsOf at)) (waitingOf (waitsOf at))) (sym (queue-is begun))
-            (subst (λ w. Lines ts (readyOf (queue ++ w)) (waitingOf w)) (sym (waits-are begun))
-            (lines-choke (m .tokens) (m .cells) c p queue waits T (ap (within (m .cells) c) e ∙ own-within (m .cells) c (i c refl))));
+            subst (λ q. Lines ts (readyOf (q ++ waitsOf at)) (waitingOf (waitsOf at)) (dueOf (timersOf at))) (sym (queue-is begun))
+            (subst (λ w. Lines ts (readyOf (queue ++ w)) (waitingOf w) (dueOf (timersOf at))) (sym (waits-are begun))
+            (subst (λ l. Lines ts (readyOf (queue ++ waits)) (waitingOf waits) (dueOf l)) (sym (timers-are timed))
+            (lines-choke (m .tokens) (m .cells) c p queue waits (F .timers) T
+            (ap (within (m .cells) c) e ∙ own-within (m .cells) c (i c refl)))));
         tables = tables-choke (F .tables) some c k (i c refl) (was .value);
       }
     where
@@ -398,8 +493,14 @@ module _ (lim : Limits) (d : Dag) (m : Machine) (F : Facts lim d m) (some : 0 < 
       waitingOf : List ℕ → List ℕ
       waitingOf l = select (λ (r : ℕ). isWaiting (tokenAt ts r .state)) l
 
+      dueOf : List ℕ → List ℕ
+      dueOf l = select (λ (r : ℕ). isDue (tokenAt ts r .state)) l
+
       k : Cell
       k = record { parent = cellAt (m .cells) c .parent; value = acting .value }
+
+      tables : Machine
+      tables = Update.withTables ts (set (m .cells) c k) at
 
   -- what the node at which the token stands does
   module _ (dag : dagHolds d ≡ true)

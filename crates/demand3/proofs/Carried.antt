@@ -1,13 +1,13 @@
 -- What is in use after an instruction, from what was in use before it: the same, the new places besides, or all but the place of a token
 -- that ended; and blanking changes nothing. What was in use stays (Unblanked), what is in use is inside what was and what is new (Inside),
 -- and marks that agree at each place are equal. Assumes nothing.
-use mathlib.Core.Path.{_≡_, refl, sym, _∙_, ap, subst, subst₂}
+use mathlib.Core.Path.{_≡_, refl, sym, _∙_, ap, subst}
 use mathlib.Core.Bool.{Bool, true, false}
 use mathlib.Core.List.{List}
 use Prim.Native.Nat.{ℕ, _<_}
 use native.Mathlib.Decide.{ℕ-discrete}
 use native.Mathlib.Omega.{arith}
-use lib.ListN.{length, getD, set, length-set}
+use lib.ListN.{length, getD, set, length-set, length-map}
 use lib.Seq.{getD-set-other}
 use lib.IntN.{ℤ}
 use Rattle.job.specs.Syntax.{Param}
@@ -20,9 +20,10 @@ use Rattle.model.specs.Machine.InUse.{tokensUsed, cellsUsed, sweep}
 use Rattle.model.specs.Machine.FreePlace.{nextPlace}
 use Rattle.model.specs.Machine.Rules.{rulesHold}
 use Rattle.model.specs.Machine.Update.{withNode, withBinding, withValue, inCell, withState, withTables, withOrders, withCounts}
-use Rattle.model.specs.Machine.Update.{put, enqueue, newToken, newCell}
+use Rattle.model.specs.Machine.Update.{withTimers, withClock, put, enqueue, newToken, newCell}
 use Rattle.model.specs.Machine.Step.{hasTokenPlace, hasCellPlace}
 use Rattle.model.specs.Machine.Answer.{holder}
+use Rattle.model.specs.Machine.Clock.{wokenBy, advanced}
 use Rattle.model.specs.declared.token.Slot.{Slot}
 use Rattle.model.specs.declared.token.Slot.the-variants as slots
 use Rattle.model.specs.declared.token.Bind.{Bind}
@@ -35,14 +36,16 @@ use Rattle.job.proofs.Test.{clash}
 use Rattle.model.proofs.Machine.Marks.{Free, marks-same, marks-added, marks-removed}
 use Rattle.model.proofs.Machine.Rules.{EachRuleHolds, each-rule-holds}
 use Rattle.model.proofs.Machine.Inside.{Fits, fits-blank, With, tokens-inside, cells-inside}
-use Rattle.model.proofs.Machine.WrittenTokens.{fits-same, fits-binding}
+use Rattle.model.proofs.Machine.WrittenTokens.{fits-same, fits-binding, Woken, wakes, stays, woken-cases, woken-blank, due-live}
+use Rattle.model.proofs.Machine.Clock.{woken-at}
 use Rattle.model.proofs.Machine.Used.{Used, UsedCell, InsideUsed, used-fits, used-parent, tokens-size, cells-size, live-used}
 use Rattle.model.proofs.Machine.ActingInside.{callee, write-inside, fork-inside, call-inside, split-inside}
 use Rattle.model.proofs.Sees.AnswerAgrees.{holder-called}
 use Rattle.model.proofs.Sees.Lockstep.{Fitting}
 use Rattle.model.proofs.Keeps.Clean.{Clean, tokensOf, cellsOf}
 use Rattle.demand3.proofs.Unblanked.{Adds, token-stays, cell-stays, adds-clean, clean-whole, rules-clean}
-use Rattle.demand3.proofs.Unblanked.{keep-adds, same-adds, end-adds, fork-adds, call-adds, split-adds}
+use Rattle.demand3.proofs.Unblanked.{keep-adds, end-adds, fork-adds, call-adds, split-adds}
+use Rattle.demand3.proofs.SameLinks.{Linked, SameLinks, links-tokens, links-cells, links-clean}
 use Rattle.demand3.proofs.UnblankedInstructions.{taken, acting-live, place-free, cell-free}
 use Rattle.demand3.proofs.Framed.{Framed}
 use Rattle.model.proofs.Machine.TableRows.{token-same, token-other, live-inside}
@@ -119,12 +122,27 @@ module _ {m o : Machine} {p : ℕ} (clean : Clean m) where
         cells = cells-added (a .0) c h (a .1 .1 .1);
       }
 
+-- a token that wakes keeps its links
+woken-linked : (time : ℕ) (t : Token) → Linked t (wokenBy time t)
+unfolding withState withValue isLive
+woken-linked time t = go (woken-cases time t)
+  where
+    go : {u : Token} → Woken time t u → Linked t u
+    go (wakes x) = record { live = sym (due-live time (t .state) x); caller = refl; cell = refl; binds = refl }
+    go (stays x) = record { live = refl; caller = refl; cell = refl; binds = refl }
+
 module _ (lim : Limits) (d : Dag) (m : Machine) (holds : rulesHold lim d m ≡ true) where
   rules : EachRuleHolds lim d m
   rules = each-rule-holds lim d m holds
 
   clean : Clean m
   clean = rules-clean lim d m holds
+
+  -- tokens change in what is no link: the marks are the same
+  linked-carried : (o : Machine) → SameLinks m o → ((i : ℕ) → tokenAt (m .tokens) i ≡ blankToken → tokenAt (o .tokens) i ≡ blankToken)
+      → Carried o (tokensUsed m) (cellsUsed m)
+  linked-carried o h blank =
+      record { whole = clean-whole o (links-clean h blank clean); tokens = links-tokens h; cells = links-cells h }
 
   -- a live token goes on as u, with the same links
   module _ (p : ℕ) (live : isLive (tokenAt (m .tokens) p .state) ≡ true) where
@@ -140,11 +158,28 @@ module _ (lim : Limits) (d : Dag) (m : Machine) (holds : rulesHold lim d m ≡ t
     links-carried : (o : Machine) (u : Token) → o .tokens ≡ set (m .tokens) p u → o .cells ≡ m .cells
         → isLive (u .state) ≡ true → u .caller ≡ was .caller → u .cell ≡ was .cell → u .binds ≡ was .binds
         → Carried o (tokensUsed m) (cellsUsed m)
+    unfolding isLive
     links-carried o u tokens cells alive caller cell binds =
-        same-carried clean
-        (subst₂ (InsideUsed m (Used m) (UsedCell m)) (sym tokens) (sym cells)
-        (writes u (fits-same caller cell binds (used-fits m p inUse))))
-        (same-adds lim d m holds p live o u tokens cells alive caller cell binds)
+        linked-carried o
+        (record {
+          tokens = ap length tokens ∙ length-set (m .tokens) p u;
+          cells = cells;
+          row = λ i. row i (ℕ-discrete i p);
+        })
+        (λ i e. other i (λ f. clash live (ap (λ (t : Token). isLive (t .state)) (ap (tokenAt (m .tokens)) (sym f) ∙ e))) ∙ e)
+      where
+        other : (i : ℕ) → (i ≡ p → ⊥) → tokenAt (o .tokens) i ≡ tokenAt (m .tokens) i
+        other i n = ap (λ ts. tokenAt ts i) tokens ∙ token-other (m .tokens) p i u n
+
+        here : tokenAt (o .tokens) p ≡ u
+        here = ap (λ ts. tokenAt ts p) tokens ∙ token-same (m .tokens) p u (live-inside (m .tokens) p live)
+
+        row : (i : ℕ) → Dec (i ≡ p) → Linked (tokenAt (m .tokens) i) (tokenAt (o .tokens) i)
+        row i (yes e) =
+            subst (λ j. Linked (tokenAt (m .tokens) j) (tokenAt (o .tokens) j)) (sym e)
+            (subst (Linked was) (sym here) (record { live = alive ∙ sym live; caller = caller; cell = cell; binds = binds }))
+        row i (no n) =
+            subst (Linked (tokenAt (m .tokens) i)) (sym (other i n)) (record { live = refl; caller = refl; cell = refl; binds = refl })
 
   -- The instructions; the machines are those of Instructions
   module _ (place : ℕ) (queued : place < m .queued) (p : ℕ) (token : p ≡ getD (m .queue) place 0) where
@@ -168,6 +203,11 @@ module _ (lim : Limits) (d : Dag) (m : Machine) (holds : rulesHold lim d m ≡ t
     unfolding withOrders withCounts put withTables withNode withState isLive
     called-carried h next calls lasttoken lastcell = links-carried p live _ (withNode next (withState (states.Called h) t)) refl refl refl
         refl refl refl
+
+    pub deferred-carried : (due next : ℕ) (timers : List ℕ)
+        → Carried (withTimers timers (put p (withNode next (withState (states.Due due) t)) (taken m place))) (tokensUsed m) (cellsUsed m)
+    unfolding withOrders withTimers put withTables withNode withState isLive
+    deferred-carried due next timers = links-carried p live _ (withNode next (withState (states.Due due) t)) refl refl refl refl refl refl
 
     pub replied-carried : (next : ℕ) (v : ℤ)
         → Carried (enqueue p (put p (withNode next (withValue (helds.Value v) t)) (taken m place))) (tokensUsed m) (cellsUsed m)
@@ -293,3 +333,15 @@ module _ (lim : Limits) (d : Dag) (m : Machine) (holds : rulesHold lim d m ≡ t
   answered-carried handle v p found =
       links-carried p (ap isLive (holder-called handle (m .tokens) p found)) _
       (withState states.Ready (withValue (helds.Value v) (tokenAt (m .tokens) p))) refl refl refl refl refl refl
+
+  -- a clock move: a token that wakes keeps its links
+  pub advanced-carried : (time : ℕ) → Carried (advanced m time) (tokensUsed m) (cellsUsed m)
+  unfolding advanced withClock withTimers withOrders withTables
+  advanced-carried time =
+      linked-carried _
+      (record {
+        tokens = length-map (m .tokens) (wokenBy time);
+        cells = refl;
+        row = λ i. subst (Linked (tokenAt (m .tokens) i)) (sym (woken-at time (m .tokens) i)) (woken-linked time (tokenAt (m .tokens) i));
+      })
+      (λ i e. woken-at time (m .tokens) i ∙ (ap (wokenBy time) e ∙ woken-blank time))

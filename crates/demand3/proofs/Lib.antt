@@ -13,6 +13,7 @@ pub mod Never
 pub mod Unblanked
 pub mod UnblankedInstructions
 pub mod Framed
+pub mod SameLinks
 pub mod Carried
 pub mod Returned
 pub mod Room

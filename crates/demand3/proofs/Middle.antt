@@ -19,7 +19,7 @@ use Rattle.calculus.specs.Event.{Event, Label, silently, showing}
 use Rattle.calculus.specs.Expression.{Exp}
 use Rattle.calculus.specs.Allowed.{nextHandle}
 use Rattle.calculus.specs.Meaning.{meaning}
-use Rattle.model.specs.Run.Call.{Call, step, answer, runner, outcomeOf, noneRefused, eventsFrom}
+use Rattle.model.specs.Run.Call.{Call, step, answer, advance, runner, outcomeOf, noneRefused, eventsFrom}
 use Rattle.model.specs.Run.Demand3.{Begins, Shown, Middle}
 use Rattle.model.specs.declared.record.Machine.{Machine}
 use Rattle.job.proofs.Test.{lt-ltb}
@@ -27,7 +27,7 @@ use Rattle.job.proofs.Accepted.{accepted-well-formed}
 use Rattle.job.proofs.DagHolds.{construct-holds}
 use Rattle.model.proofs.Machine.StartAccepted.{start-machine, accepted-starts}
 use Rattle.model.proofs.Machine.StartUsed.{start-one-token, start-no-cell}
-use Rattle.demand3.proofs.Larger.{UsedAtMost, step-adds, answer-adds}
+use Rattle.demand3.proofs.Larger.{UsedAtMost, step-adds, answer-adds, advance-adds}
 use Rattle.simulation.proofs.AbstractMachine as Abstract
 use Rattle.simulation.proofs.AbstractMachine.{startAt, handleOf}
 use Rattle.demand3.proofs.ProgramComplete.{complete}
@@ -49,27 +49,33 @@ next-handle silently h = omega arith
 next-handle (showing (Event.publish v)) h = omega arith
 next-handle (showing (Event.call k s vs)) h = omega arith
 next-handle (showing (Event.answer k v)) h = omega arith
+next-handle (showing (Event.move t)) h = omega arith
 
-handle-after : (L R : List Abstract.Token) (σ : Abstract.Store) (new h : ℕ) (x : Abstract.Effect)
-    → handleOf (Abstract.after L R σ new h x) ≤ suc h
-handle-after L R σ new h (Abstract.makes a N) = next-handle a h
-handle-after L R σ new h (Abstract.sets c v) = omega arith
+handle-after : (L R : List Abstract.Token) (now : ℕ) (σ : Abstract.Store) (new h : ℕ) (x : Abstract.Effect)
+    → handleOf (Abstract.after L R now σ new h x) ≤ suc h
+handle-after L R now σ new h (Abstract.makes a N) = next-handle a h
+handle-after L R now σ new h (Abstract.sets c v) = omega arith
 
 handle-step : {G : Abstract.Program} {s s′ : Abstract.State} {a : Label} → Abstract.Step G s a s′ → handleOf s′ ≤ suc (handleOf s)
-handle-step {G} (Abstract.step {t = t} {L = L} {R = R} {σ = σ} {new = new} {h = h} m split) =
-    handle-after L R σ new h (Abstract.effect G σ new h t m)
+handle-step {G} (Abstract.step {t = t} {L = L} {R = R} {now = now} {σ = σ} {new = new} {h = h} m split) =
+    handle-after L R now σ new h (Abstract.effect G now σ new h t m)
+handle-step (Abstract.ticks l k) = omega arith
 
 -- the next handle is the count of calls
 handle-seen : {M : Labels} {m : Machine} {s : Abstract.State} → Sees M m s → handleOf s ≡ m .calls
 handle-seen (seenAs name place A K) = refl
+
+no-more : (m o : Machine) → UsedAtMost o (marked (tokensUsed m)) (marked (cellsUsed m))
+    → UsedAtMost o (suc (marked (tokensUsed m))) (suc (marked (cellsUsed m)))
+no-more m o x = (let z = x .0 in omega arith, (let z = x .1 in omega arith))
 
 -- what a call adds to those in use
 call-adds : (lim : Limits) (d : Dag) (m : Machine) (c : Call) → isRefused (outcomeOf runner lim d m c .reply) ≡ false
     → UsedAtMost (outcomeOf runner lim d m c .machine) (suc (marked (tokensUsed m))) (suc (marked (cellsUsed m)))
 unfolding outcomeOf
 call-adds lim d m (step k) ok = step-adds lim d m k ok
-call-adds lim d m (answer h v signed) ok = let x = answer-adds lim d m h v ok in
-    (let z = x .0 in omega arith, (let z = x .1 in omega arith))
+call-adds lim d m (answer h v signed) ok = no-more m (outcomeOf runner lim d m (answer h v signed) .machine) (answer-adds lim d m h v ok)
+call-adds lim d m (advance time) ok = no-more m (outcomeOf runner lim d m (advance time) .machine) (advance-adds lim d m time ok)
 
 module _ (lim : Limits) (d : Dag) (M : Labels) (bodies : ℕ → Exp) (room : Roomy lim) (flow : Flow d M) (dag : dagHolds d ≡ true) where
   -- a record of a run with room for n more steps

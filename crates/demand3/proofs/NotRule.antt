@@ -8,7 +8,7 @@ use native.Mathlib.Omega.{arith}
 use lib.ListN.{getD}
 use lib.Dec.{ltb}
 use lib.IntN.{ℤ}
-use Rattle.job.specs.Site.{BuiltinReply, gives, silent, isBuiltin, builtin}
+use Rattle.job.specs.Site.{BuiltinReply, gives, silent, later, isBuiltin, builtin, dueTime}
 use Rattle.job.specs.Node.{Node, Dag, nodeAt, nodeHolds}
 use Rattle.model.specs.Machine.Limits.{Limits}
 use Rattle.model.specs.Machine.Blank.{blankToken, tokenAt, isPlace}
@@ -19,7 +19,8 @@ use Rattle.model.specs.Machine.Step as Step
 use Rattle.model.specs.Machine.Step.{LookUpResult, values, unset, act, takes}
 use Rattle.model.specs.Machine.Answer as Answer
 use Rattle.model.specs.Machine.Answer.{holder, answered}
-use Rattle.model.specs.Run.Call.{Call, step, answer, runner, outcomeOf}
+use Rattle.model.specs.Machine.Clock as Clock
+use Rattle.model.specs.Run.Call.{Call, step, answer, advance, runner, outcomeOf}
 use Rattle.model.specs.declared.token.Place.{Place}
 use Rattle.model.specs.declared.token.Place.the-variants as places
 use Rattle.model.specs.declared.token.State.{State}
@@ -31,6 +32,7 @@ use Rattle.model.specs.declared.reply.Reply.the-variants as replies
 use Rattle.job.proofs.Test.{clash, ltb-lt, and-left, all-at}
 use Rattle.job.proofs.DagRules.{node-rules}
 use Rattle.model.proofs.Machine.Rules.{EachRuleHolds, each-rule-holds}
+use Rattle.model.proofs.Machine.Deferred.{deferred-cases}
 use Rattle.model.proofs.Run.Queue.{QueueRulesHold, queue-rules-hold}
 use Rattle.model.proofs.Sees.Lockstep.{at-node}
 
@@ -70,12 +72,16 @@ no-token e = let z : _≡_ {A = ℕ} 0 1 = cc in omega arith
 not-open : refusals.NotOpen ≡ refusals.Rule → ⊥
 not-open e = let z : _≡_ {A = ℕ} 0 1 = cc in omega arith
 
+wrong-time : refusals.WrongTime ≡ refusals.Rule → ⊥
+wrong-time e = let z : _≡_ {A = ℕ} 0 1 = cc in omega arith
+
 -- instructions
 module _ (lim : Limits) (d : Dag) (before m : Machine) (p : ℕ) (t : Token) where
   replied-not : (k : ℕ) (s : BuiltinReply) → NotRule (Step.replied m p t k s)
   unfolding NotRule Step.replied Step.goesOn
   replied-not k (gives v) = tt
   replied-not k silent = tt
+  replied-not k (later time) = deferred-cases m p t k (λ o e. NotRule e) tt (λ due l. tt) (λ due l. tt) (dueTime (m .clock) time)
 
   site-not : (s k : ℕ) (l : LookUpResult) → NotRule (Step.callSite lim m p t s k l)
   unfolding NotRule Step.callSite Step.waited Step.calledOut
@@ -127,6 +133,7 @@ ready-not-blank states.Blank e = clash e refl
 ready-not-blank states.Ready e = refl
 ready-not-blank (states.Waiting c) e = refl
 ready-not-blank (states.Called h) e = refl
+ready-not-blank (states.Due d) e = refl
 ready-not-blank states.Frame e = refl
 
 module _ (lim : Limits) (d : Dag) (m : Machine) (holds : rulesHold lim d m ≡ true) where
@@ -161,8 +168,9 @@ module _ (lim : Limits) (d : Dag) (m : Machine) (holds : rulesHold lim d m ≡ t
 
   -- no call is refused with 14
   pub not-rule : (c : Call) → outcomeOf runner lim d m c .reply ≡ replies.Refused refusals.Rule → ⊥
-  unfolding outcomeOf Step.step Answer.answer
+  unfolding NotRule outcomeOf Step.step Answer.answer Clock.advance
   not-rule (step k) =
       outcome-not m _
       (tested _ (unless-not (ltb k (m .queued)) 9 (takes lim d m k) no-token (λ l. takes-not k (ltb-lt k (m .queued) l))))
   not-rule (answer h v fits) = outcome-not m _ (tested _ (answered-not v (holder h 0 (m .tokens))))
+  not-rule (advance time) = outcome-not m _ (tested _ (unless-not _ _ _ wrong-time (λ e. tt)))

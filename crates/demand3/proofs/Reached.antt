@@ -1,6 +1,6 @@
 -- What is carried through a run, in one record: the machine is seen as a state of the abstract machine, has the facts, and is blank where
--- it is not in use. It holds of the start and after each accepted step and answer, together with the abstract machine's step; and it gives
--- the index rules. Assumes nothing.
+-- it is not in use. It holds of the start and after each accepted step, answer and clock move, together with the abstract machine's step;
+-- and it gives the index rules. Assumes nothing.
 use mathlib.Core.Path.{_≡_, refl, sym, _∙_, ap, subst}
 use mathlib.Core.Bool.{true, false}
 use mathlib.Core.List.{List, [], _∷_, _++_}
@@ -14,7 +14,7 @@ use Rattle.job.specs.Number.{Signed32}
 use Rattle.job.specs.Node.{Dag, nodeAt, dagHolds}
 use Rattle.model.specs.Machine.Limits.{Limits, limits, paper}
 use Rattle.model.specs.Machine.Blank.{blankToken, tokenAt}
-use Rattle.model.specs.Machine.State.{isLive, isReady, isWaiting}
+use Rattle.model.specs.Machine.State.{isLive, isReady, isWaiting, isDue}
 use Rattle.model.specs.Machine.InUse.{tokensUsed, cellsUsed, sweep}
 use Rattle.model.specs.Machine.Rules.{heldInRange, placeInRange, rulesHold}
 use Rattle.model.specs.Machine.Reply.{Effect, moves, waits, publishes, calls, refuses, isRefused}
@@ -26,10 +26,12 @@ use Rattle.model.specs.Machine.Update.{withValue}
 use Rattle.model.specs.Machine.Step.{hasTokenPlace, hasCellPlace, tokenPlace, cellPlace, takes}
 use Rattle.model.specs.Machine.Answer as Answer
 use Rattle.model.specs.Machine.Answer.{holder, answered}
+use Rattle.model.specs.Machine.Clock as Clock
+use Rattle.model.specs.Machine.Clock.{advanced}
 use Rattle.calculus.specs.Event.{Event, Label}
 use Rattle.calculus.specs.Expression.{Exp}
 use Rattle.calculus.specs.Allowed.{shown}
-use Rattle.model.specs.Run.Call.{Call, step, answer, runner, outcomeOf}
+use Rattle.model.specs.Run.Call.{Call, step, answer, advance, runner, outcomeOf}
 use Rattle.model.specs.declared.token.Held.the-variants as helds
 use Rattle.model.specs.declared.token.Place.{Place}
 use Rattle.model.specs.declared.token.Place.the-variants as places
@@ -42,7 +44,8 @@ use Rattle.job.proofs.Test.{clash, false-of, ltb-lt}
 use Rattle.job.proofs.DagRules.{dag-rules, node-rules}
 use Rattle.model.proofs.Machine.Marks.{Marked, free-inside}
 use Rattle.model.proofs.Machine.InUse.{tokens-used, cells-used}
-use Rattle.model.proofs.Machine.Refused.{After, after-outcome, step-accepted, AnswerAccepted, answer-accepted}
+use Rattle.model.proofs.Machine.Refused.{After, after-outcome, step-accepted, AnswerAccepted, answer-accepted, AdvanceAccepted}
+use Rattle.model.proofs.Machine.Refused.{advance-accepted}
 use Rattle.simulation.proofs.AbstractMachine as Abstract
 use Rattle.simulation.proofs.AbstractMachine.{Store, startAt}
 use Rattle.model.proofs.Sees.Labels.{Labels, programOf, Flow}
@@ -52,14 +55,16 @@ use Rattle.model.proofs.Sees.Agrees.{Shows}
 use Rattle.model.proofs.Sees.ActsAgree.{taken, take-ready}
 use Rattle.model.proofs.Sees.ActsAgree as Acts
 use Rattle.model.proofs.Sees.AnswerAgrees.{holder-called, Pending, pending, find-pending, answered-becomes}
+use Rattle.model.proofs.Sees.ClockAgrees.{advanced-sees}
 use Rattle.model.proofs.Sees.StartSeen.{start-machine-sees}
 use Rattle.model.proofs.Sees.Lockstep as Lockstep
 use Rattle.model.proofs.Run.Passage.{eventsBy}
 use Rattle.model.proofs.Sees.Lockstep.{free-token, free-cell, takes-agrees, Steps, steps, call-locks}
 use Rattle.model.proofs.Keeps.NamedOnce.{Lines, Taken, take-out, taken-ready, lines-new}
-use Rattle.model.proofs.Keeps.Orders.{queue-is, waits-are, orders-put, orders-enqueue}
+use Rattle.model.proofs.Keeps.Orders.{queue-is, waits-are, orders-put, orders-enqueue, timers-put, timers-enqueue}
 use Rattle.model.proofs.Keeps.TableFacts.{Idle, idle-holds, tables-write}
 use Rattle.model.proofs.Keeps.Facts.{Facts, start-facts, LiveUsed, sweep-facts}
+use Rattle.model.proofs.Keeps.Clock.{advanced-facts}
 use Rattle.demand3.proofs.ActsKeep.{Vacant, acted}
 use Rattle.model.proofs.Keeps.Clean.{Clean, sweep-clean, start-clean}
 use Rattle.demand3.proofs.RulesKept.{slot-inside, cells-range, rules-hold}
@@ -108,14 +113,14 @@ after-both P Q (calls h s vs o) x y = (x, y)
 after-both P Q (refuses r) x y = tt
 
 -- the queued token at k, taken
-facts-taken : {lim : Limits} {d : Dag} (m : Machine) → Facts lim d m → (k : ℕ) → k < m .queued
-    → Taken (m .tokens) (getD (m .queue) k 0) (without k (queueOf m)) (waitsOf m)
+facts-taken : {lim : Limits} {d : Dag} (m : Machine) (F : Facts lim d m) (k : ℕ) → k < m .queued
+    → Taken (m .tokens) (getD (m .queue) k 0) (without k (queueOf m)) (waitsOf m) (F .timers)
 unfolding queueOf
 facts-taken m F k l =
-    subst (λ p. Taken (m .tokens) p (without k (queueOf m)) (waitsOf m)) (getD-take (m .queued) (m .queue) k 0 l)
+    subst (λ p. Taken (m .tokens) p (without k (queueOf m)) (waitsOf m) (F .timers)) (getD-take (m .queued) (m .queue) k 0 l)
     (take-out k (subst (λ q. k < length q) (sym (queue-is (F .orders))) (let z = F .orders .queued in omega arith))
-    (subst (λ q. Lines (m .tokens) q (waitsOf m)) (sym (queue-is (F .orders)))
-    (subst (λ w. Lines (m .tokens) (F .queue) w) (sym (waits-are (F .orders))) (F .lines))))
+    (subst (λ q. Lines (m .tokens) q (waitsOf m) (F .timers)) (sym (queue-is (F .orders)))
+    (subst (λ w. Lines (m .tokens) (F .queue) w (F .timers)) (sym (waits-are (F .orders))) (F .lines))))
 
 cell-inside : {W : World} {q : Place} {U : List ℕ} → CellsSeen W q U → (c : ℕ) → q ≡ places.At c → c < length (W .cells)
 unfolding placeInRange
@@ -179,7 +184,7 @@ module _ (lim : Limits) (d : Dag) (M : Labels) (room : Roomy lim) (flow : Flow d
         p : ℕ
         p = getD (m .queue) k 0
 
-        T : Taken (m .tokens) p (without k (queueOf m)) (waitsOf m)
+        T : Taken (m .tokens) p (without k (queueOf m)) (waitsOf m) (F .timers)
         T = facts-taken m F k l
 
         rules : rulesHold lim d m ≡ true
@@ -217,7 +222,7 @@ module _ (lim : Limits) (d : Dag) (M : Labels) (room : Roomy lim) (flow : Flow d
     -- what an answer leaves, before blanking
     answered-facts : (m : Machine) → Facts lim d m → (v : ℤ) → Signed32 v → (p h : ℕ) → tokenAt (m .tokens) p .state ≡ states.Called h
         → Facts lim d (enqueue p (put p (withState states.Ready (withValue (helds.Value v) (tokenAt (m .tokens) p))) m))
-    unfolding enqueue put Update.withTables withOrders withState withValue isLive isReady isWaiting heldInRange
+    unfolding enqueue put Update.withTables withOrders withState withValue isLive isReady isWaiting isDue heldInRange
     answered-facts m F v fits p h e =
         record {
           tokenPlaces = length-set (m .tokens) p u ∙ F .tokenPlaces;
@@ -227,8 +232,11 @@ module _ (lim : Limits) (d : Dag) (M : Labels) (room : Roomy lim) (flow : Flow d
           lastcell = F .lastcell;
           queue = F .queue ++ (p ∷ []);
           waits = F .waits;
+          timers = F .timers;
           orders = orders-enqueue (orders-put (F .orders) p u) p;
-          lines = lines-new p u inside (ap isReady e) (ap isWaiting e) refl (F .lines);
+          timed = timers-enqueue (timers-put (F .timed) p u) p;
+          lines = lines-new p u inside (ap isReady e) (ap isWaiting e) (ap isDue e) refl (F .lines);
+          clock = F .clock;
           tables =
               tables-write (F .tables) p u inside (idle-holds (F .tables .tokens p .node) fits (F .tables .tokens p .binds) Idle.ready)
               Idle.ready;
@@ -284,12 +292,27 @@ module _ (lim : Limits) (d : Dag) (M : Labels) (room : Roomy lim) (flow : Flow d
         go places.Nowhere e = unfold answered After in tt
         go (places.At p) e = from (r .view) p (holder-called h (m .tokens) p e)
 
+    advance-facts : (m : Machine) {s : Abstract.State} → Reached lim d M m s → (time : ℕ)
+        → isRefused (Clock.advance lim d m time .reply) ≡ false → Left (Clock.advance lim d m time .machine)
+    advance-facts m r time ok =
+        subst (λ (o : Outcome). Left (o .machine)) (sym (a .does))
+        (after-outcome (λ o. Facts lim d o × LiveUsed o) Left finished m (moves (advanced m time)) (go (r .view))
+        (subst (λ (o : Outcome). isRefused (o .reply) ≡ false) (a .does) ok))
+      where
+        a : AdvanceAccepted lim d m time
+        a = advance-accepted lim d m time ok
+
+        go : {s : Abstract.State} → Sees M m s → After (λ o. Facts lim d o × LiveUsed o) (moves (advanced m time))
+        go (seenAs name place A K) = unfold After in
+            (advanced-facts m (r .facts) time (a .takes), sees-live (advanced-sees m time K))
+
     pub call-facts : (m : Machine) {s : Abstract.State} → Reached lim d M m s → (c : Call)
         → isRefused (outcomeOf runner lim d m c .reply) ≡ false
         → Facts lim d (outcomeOf runner lim d m c .machine) × Clean (outcomeOf runner lim d m c .machine)
     unfolding outcomeOf
     call-facts m r (step k) ok = step-facts m r k ok
     call-facts m r (answer h v signed) ok = answer-facts m r h v signed ok
+    call-facts m r (advance time) ok = advance-facts m r time ok
 
     pub call-reached : (m : Machine) {s : Abstract.State} → Reached lim d M m s → (c : Call)
         → isRefused (outcomeOf runner lim d m c .reply) ≡ false

@@ -8,7 +8,7 @@ use native.Mathlib.Omega.{arith}
 use lib.ListN.{length}
 use lib.Dec.{ltb}
 use lib.IntN.{ℤ}
-use Rattle.job.specs.Site.{BuiltinReply, gives, silent, isBuiltin, builtin}
+use Rattle.job.specs.Site.{BuiltinReply, gives, silent, later, dueTime, isBuiltin, builtin}
 use Rattle.job.specs.Node.{Node, Dag}
 use Rattle.model.specs.Machine.Limits.{Limits}
 use Rattle.model.specs.Machine.Blank.{tokenAt}
@@ -20,6 +20,7 @@ use Rattle.model.specs.declared.token.Place.the-variants as places
 use Rattle.model.specs.declared.token.Token.{Token}
 use Rattle.model.specs.declared.record.Machine.{Machine}
 use Rattle.job.proofs.Test.{clash, lt-ltb}
+use Rattle.model.proofs.Machine.Deferred.{deferred-cases}
 use Rattle.simulation.proofs.AbstractMachine as Abstract
 use Rattle.simulation.proofs.AbstractMachine.{Binding, Frame}
 use Rattle.model.proofs.Sees.Labels.{Labels, FlowAt}
@@ -63,6 +64,8 @@ module _ (lim : Limits) (d : Dag) (before m : Machine) (room : Room lim d before
   unfolding replied goesOn outcome accepted isRefused
   replied-accepted k (gives v) = refl
   replied-accepted k silent = refl
+  replied-accepted k (later time) =
+      deferred-cases m p t k (λ o e. Accepted before e) refl (λ due l. refl) (λ due l. refl) (dueTime (m .clock) time)
 
   site-accepted : (s k : ℕ) (l : LookUpResult) → Accepted before (callSite lim m p t s k l)
   unfolding callSite waited calledOut outcome accepted isRefused

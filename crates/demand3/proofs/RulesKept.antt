@@ -13,6 +13,7 @@ use lib.Dec.{eqb}
 use lib.IntN.{ℤ}
 use Rattle.job.specs.Test.{_and_, _or_, forAll, forSome, All, none, more, distinct}
 use Rattle.job.specs.Number.{fits}
+use Rattle.job.specs.Site.{lastTime}
 use Rattle.job.specs.Syntax.{Param}
 use Rattle.job.specs.Node.{Node, Dag, nodeAt, isNode, dagHolds}
 use Rattle.job.specs.WellFormed.{GoodParam}
@@ -23,7 +24,7 @@ use Rattle.model.specs.Machine.Active.{cellIsSet, underSet}
 use Rattle.model.specs.Machine.InUse.{tokensUsed, cellsUsed}
 use Rattle.model.specs.Machine.Rules.{heldInRange, placeInRange, slotInRange, stateInRange, tokenInRange, cellInRange, sizesInRange}
 use Rattle.model.specs.Machine.Rules.{chainEnds, chainsEnd, notUnderSet, openHandles, waitsAtUnset, namesFrame}
-use Rattle.model.specs.Machine.Rules.{notEmpty, valueIfReady, nodeRule, atNode, machineHolds, rulesHold}
+use Rattle.model.specs.Machine.Rules.{notEmpty, valueIfReady, nodeRule, atNode, dueInRange, clockHolds, machineHolds, rulesHold}
 use Rattle.model.specs.declared.token.Slot.{Slot}
 use Rattle.model.specs.declared.token.Slot.the-variants as slots
 use Rattle.model.specs.declared.token.Bind.{Bind}
@@ -43,13 +44,13 @@ use Rattle.simulation.proofs.AbstractMachine.{Binding, Frame, Store}
 use Rattle.simulation.proofs.Store.{_not-in_}
 use Rattle.model.proofs.Sees.Labels.{Labels, Flow, FlowAt}
 use Rattle.model.proofs.Sees.View.{World, cellsOfCaller, hasCaller, Nested, absent, present, StateSeen, ready, waiting}
-use Rattle.model.proofs.Sees.View.{called, CellsSeen, root, below, BindingSeen, valued, celled, BindingsSeen, binds}
+use Rattle.model.proofs.Sees.View.{called, due, CellsSeen, root, below, BindingSeen, valued, celled, BindingsSeen, binds}
 use Rattle.model.proofs.Sees.View.{SlotsSeen, FramesSeen, outermost, calledBy, PlaceSeen, TokenSeen, sees}
 use Rattle.model.proofs.Sees.Seen.{Core, world, not-under-set, token-at, live-listed}
 use Rattle.model.proofs.Sees.Slots.{variable-seen}
 use Rattle.demand3.proofs.UsedSeen.{Standing, standing, Named, named, used-stands, used-named}
 use Rattle.model.proofs.Sees.WithinSeen.{chain-short}
-use Rattle.model.proofs.Keeps.Orders.{queue-names, waits-name}
+use Rattle.model.proofs.Keeps.Orders.{queue-names, waits-name, timers-name}
 use Rattle.model.proofs.Keeps.TableFacts.{BindsFit, TokenHolds}
 use Rattle.model.proofs.Keeps.Facts.{Facts}
 use Rattle.model.proofs.Keeps.Clean.{Clean, clean-tokens, clean-cells}
@@ -76,6 +77,7 @@ handle-there h (t ∷ ts) e = go (t .state) refl e (λ x. let y = handle-there h
     go states.Ready s x f = f x
     go (states.Waiting c) s x f = f x
     go (states.Called g) s x f = here g (eqb h g) s refl x f
+    go (states.Due d) s x f = f x
     go states.Frame s x f = f x
 
 handles-differ : (ts : List Token)
@@ -93,6 +95,7 @@ handles-differ (t ∷ ts) f = go (t .state) refl
     go (states.Called h) s x =
         and-both (ap not
         (false-of _ (λ a. let y = handle-there h ts a in let z : 0 ≡ suc (y .0) = f 0 (suc (y .0)) h s (y .1) in omega arith))) x
+    go (states.Due d) s x = x
     go states.Frame s x = x
 
 -- ranges, of what is seen
@@ -153,7 +156,18 @@ state-range cells calls states.Blank a b = refl
 state-range cells calls states.Ready a b = refl
 state-range cells calls (states.Waiting c) a b = lt-ltb _ _ (a c refl)
 state-range cells calls (states.Called h) a b = lt-ltb _ _ (b h refl)
+state-range cells calls (states.Due d) a b = refl
 state-range cells calls states.Frame a b = refl
+
+-- "a due time not above it or past 2147483647"
+due-range : (clock : ℕ) (s : State) → ((time : ℕ) → s ≡ states.Due time → (clock < time) × (time ≤ lastTime)) → dueInRange clock s ≡ true
+unfolding dueInRange
+due-range clock states.Blank f = refl
+due-range clock states.Ready f = refl
+due-range clock (states.Waiting c) f = refl
+due-range clock (states.Called h) f = refl
+due-range clock (states.Due d) f = and-both (lt-ltb _ _ (f d refl .0)) (le-leb _ _ (f d refl .1))
+due-range clock states.Frame f = refl
 
 -- "each parent chain ends"
 chain-ends : {W : World} (n : ℕ) {q : Place} {U : List ℕ} → CellsSeen W q U → length U ≤ n → chainEnds (W .cells) n q ≡ true
@@ -214,6 +228,7 @@ value-there e (ready (absent f)) = clash e f
 value-there e (ready present) = refl
 value-there e (waiting f v) = refl
 value-there e called = refl
+value-there e due = refl
 
 unset-if : (k : Cell) → k .value ≡ helds.Nothing → cellIsSet k ≡ false
 unfolding cellIsSet hasValue
@@ -228,7 +243,7 @@ module _ (lim : Limits) (d : Dag) (M : Labels) (flow : Flow d M) (dag : dagHolds
   abbrev tok : ℕ → Token
   tok p = tokenAt (m .tokens) p
 
-  abbrev good : (p : ℕ) → TokenHolds d (m .cells) (m .calls) (tok p)
+  abbrev good : (p : ℕ) → TokenHolds d (m .cells) (m .calls) (m .clock) (tok p)
   good p = X .tables .tokens p
 
   -- a test of each token: it is in use and so stands somewhere, or it is blank
@@ -328,7 +343,16 @@ module _ (lim : Limits) (d : Dag) (M : Labels) (flow : Flow d M) (dag : dagHolds
       go states.Ready e = refl
       go (states.Waiting c) e = ap not (unset-if (cellAt (m .cells) c) (good p .waits c e .unset))
       go (states.Called h) e = refl
+      go (states.Due d) e = refl
       go states.Frame e = refl
+
+  -- "a clock outside its range, a due time not above it or past 2147483647, or an order of call that names such tokens other than once each"
+  clock-holds : clockHolds m ≡ true
+  unfolding clockHolds tokenAt
+  clock-holds =
+      and-both (le-leb _ _ (X .clock))
+      (and-both (all-from (λ (t : Token). dueInRange (m .clock) (t .state)) (m .tokens) blankToken (λ p l. due-range _ _ (good p .due)))
+      (timers-name (X .timed) (X .lines .due)))
 
   has-value : (p n : ℕ) → tok p .node ≡ n → M .value n ≡ true → valueIfReady (tok p) ≡ true
   unfolding valueIfReady _or_
@@ -372,4 +396,4 @@ module _ (lim : Limits) (d : Dag) (M : Labels) (flow : Flow d M) (dag : dagHolds
       (and-both (waits-name (X .orders) (X .lines))
       (and-both (all-from (λ (t : Token). waitsAtUnset (m .cells) (t .state)) (m .tokens) blankToken (λ p l. at-unset p))
       (and-both (each-token (atNode d (m .tokens)) blank-node at-node)
-      (and-both (clean-tokens m clean) (clean-cells m clean))))))))))))
+      (and-both (clean-tokens m clean) (and-both (clean-cells m clean) clock-holds))))))))))))

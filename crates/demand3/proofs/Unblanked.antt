@@ -293,10 +293,6 @@ module _ (lim : Limits) (d : Dag) (m : Machine) (holds : rulesHold lim d m ≡ t
         used : Used o p
         used = clear-used o p u one-here alive (same-clear o cells (u .cell) (ap (underSet (m .cells)) cell ∙ under-none))
 
-    -- waiting, called out, a built-in's reply, an answer: the token keeps its links
-    pub same-adds : isLive (u .state) ≡ true → u .caller ≡ t .caller → u .cell ≡ t .cell → u .binds ≡ t .binds → Adds m o p × Used o p
-    same-adds alive caller cell binds = keep-adds alive caller cell (λ x c e. ap (λ bs. slotAt bs x) binds ∙ e)
-
     -- stop, publish: a token that named nothing is blank
     pub end-adds : u ≡ blankToken → t .caller ≡ places.Nowhere → t .cell ≡ places.Nowhere
         → ((x c : ℕ) → slotAt (t .binds) x ≡ slots.Cell c → ⊥) → Adds m o p

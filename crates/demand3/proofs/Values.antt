@@ -1,13 +1,16 @@
 -- Values stay signed 32-bit: what a call's parameters give is, if constants, bindings and cells' values are, and so is what a built-in
--- replies, since it replies a parameter, 0, 1 or a sum that it has tested. Assumes nothing.
+-- replies, since it replies a parameter, 0, 1 or a sum that it has tested; and a due time is tested too. Assumes nothing.
 use mathlib.Core.Path.{_≡_, refl, sym, _∙_, ap}
 use mathlib.Core.Bool.{Bool, true, false}
 use mathlib.Core.List.{List, [], _∷_}
-use Prim.Native.Nat.{ℕ, zero, suc}
-use lib.IntN.{ℤ, pos, _+ℤ_}
-use Rattle.job.specs.Test.{forAll, All, none, more}
+use mathlib.Core.Option.{Option, some, none}
+use Prim.Native.Nat.{ℕ, zero, suc, _+_, _≤_}
+use native.Mathlib.Omega.{arith}
+use lib.Dec.{leb}
+use lib.IntN.{ℤ, pos, negsuc, _+ℤ_}
+use Rattle.job.specs.Test.{forAll, All, more}
 use Rattle.job.specs.Number.{fits, Signed32}
-use Rattle.job.specs.Site.{BuiltinReply, gives, silent, at, zeroIf, truth, sumReply, builtin}
+use Rattle.job.specs.Site.{BuiltinReply, gives, silent, later, at, zeroIf, truth, sumReply, builtin, lastTime, dueTime}
 use Rattle.job.specs.Syntax.{Param, variable, constant}
 use Rattle.job.specs.Node.{paramHolds}
 use Rattle.model.specs.Machine.Blank.{cellAt, slotAt}
@@ -19,7 +22,7 @@ use Rattle.model.specs.declared.token.Bind.{Bind}
 use Rattle.model.specs.declared.token.Held.{Held}
 use Rattle.model.specs.declared.token.Held.the-variants as helds
 use Rattle.model.specs.declared.cell.Cell.{Cell}
-use Rattle.job.proofs.Test.{all-head, all-tail}
+use Rattle.job.proofs.Test.{leb-le, all-head, all-tail}
 
 pub zero-fits : Signed32 (pos 0)
 unfolding fits
@@ -56,13 +59,13 @@ module _ (cs : List Cell) (bs : List Bind)
         | slots.Value v ↦ andThen v l
         | slots.Cell c ↦ elim (cellAt cs c .value) [ helds.Nothing ↦ unset c | helds.Value v ↦ andThen v l ]
       ])
-  slot-fits x slots.Empty e l f = found none
+  slot-fits x slots.Empty e l f = found All.none
   slot-fits x (slots.Value v) e l f = then-fits v (bound x v e) f
   slot-fits x (slots.Cell c) e l f = cell-fits c (cellAt cs c .value) refl l f
 
   pub look-fits : (ps : List Param) → forAll paramHolds ps ≡ true → LookUpFits (look cs bs ps)
   unfolding look paramHolds
-  look-fits [] e = found none
+  look-fits [] e = found All.none
   look-fits (constant v ∷ ps) e = then-fits v (all-head paramHolds _ ps e) (look-fits ps (all-tail paramHolds _ ps e))
   look-fits (variable x ∷ ps) e = slot-fits x (slotAt bs x) refl (look cs bs ps) (look-fits ps (all-tail paramHolds _ ps e))
 
@@ -70,6 +73,7 @@ module _ (cs : List Cell) (bs : List Bind)
 pub data ReplyFits : BuiltinReply → Type 0 where
   gives-fits : {v : ℤ} → Signed32 v → ReplyFits (gives v)
   nothing : ReplyFits silent
+  later-fits : {t : ℤ} → ReplyFits (later t)
 
 zero-if-fits : (b : Bool) → ReplyFits (zeroIf b)
 unfolding zeroIf
@@ -90,7 +94,7 @@ sum-fits a b = go (fits (a +ℤ b)) refl
     go false e = nothing
 
 at-fits : {vs : List ℤ} → All Signed32 vs → (i : ℕ) → Signed32 (at vs i)
-at-fits none i = zero-fits
+at-fits All.none i = zero-fits
 at-fits (more e a) zero = e
 at-fits (more e a) (suc i) = at-fits a i
 
@@ -103,4 +107,16 @@ builtin-fits (suc (suc (suc zero))) a = gives-fits zero-fits
 builtin-fits (suc (suc (suc (suc zero)))) a = sum-fits _ _
 builtin-fits (suc (suc (suc (suc (suc zero))))) a = truth-fits _
 builtin-fits (suc (suc (suc (suc (suc (suc zero)))))) a = truth-fits _
-builtin-fits (suc (suc (suc (suc (suc (suc (suc s))))))) a = nothing
+builtin-fits (suc (suc (suc (suc (suc (suc (suc zero))))))) a = later-fits
+builtin-fits (suc (suc (suc (suc (suc (suc (suc (suc s)))))))) a = nothing
+
+-- "With a sum above 2147483647 the call never falls due"
+pub due-last : (now : ℕ) (t : ℤ) (due : ℕ) → dueTime now t ≡ some due → due ≤ lastTime
+unfolding dueTime
+due-last now (pos t) due = go (leb (now + t) lastTime) refl
+  where
+    go : (b : Bool) → leb (now + t) lastTime ≡ b → elim b as (λ b. Option ℕ) [ true ↦ some (now + t) | false ↦ none ] ≡ some due
+        → due ≤ lastTime
+    go true e f = let z : now + t ≡ due = cc in let y = leb-le (now + t) lastTime e in omega arith
+    go false e f = let z : _≡_ {A = ℕ} 0 1 = cc in absurd (omega arith)
+due-last now (negsuc t) due = λ e. let z : _≡_ {A = ℕ} 0 1 = cc in absurd (omega arith)

@@ -12,6 +12,7 @@ pub mod Inside
 pub mod WrittenTokens
 pub mod Selected
 pub mod Clock
+pub mod Deferred
 pub mod Used
 pub mod ActingInside
 pub mod ActsWithin

@@ -2,23 +2,22 @@
 -- places that it was tested for. Assumes nothing.
 use mathlib.Core.Path.{_≡_, refl}
 use mathlib.Core.Bool.{Bool, true, false}
-use mathlib.Core.List.{List, [], _∷_, _++_}
-use mathlib.Core.Option.{Option, some, none}
+use mathlib.Core.List.{List}
+use mathlib.Core.Option.{Option}
 use Prim.Native.Nat.{ℕ}
 use lib.Dec.{ltb}
-use lib.IntN.{ℤ, pos}
+use lib.IntN.{ℤ}
 use Rattle.job.specs.Site.{BuiltinReply, gives, silent, later, dueTime, isBuiltin, builtin}
 use Rattle.job.specs.Syntax.{Param}
 use Rattle.job.specs.Node.{Node, Dag}
 use Rattle.model.specs.Machine.Limits.{Limits}
 use Rattle.model.specs.Machine.Blank.{blankToken, tokenAt}
 use Rattle.model.specs.Machine.InUse.{sweep, Within}
-use Rattle.model.specs.Machine.Reply.{Effect, moves, unless}
+use Rattle.model.specs.Machine.Reply.{Effect, unless}
 use Rattle.model.specs.Machine.Update as Update
 use Rattle.model.specs.Machine.Step as Step
 use Rattle.model.specs.Machine.Update.{withOrders}
 use Rattle.model.specs.Machine.Step.{LookUpResult, values, unset, hasTokenPlace, hasCellPlace, chokeToken, act}
-use Rattle.model.specs.declared.token.Held.the-variants as helds
 use Rattle.model.specs.declared.token.Place.{Place}
 use Rattle.model.specs.declared.token.Place.the-variants as places
 use Rattle.model.specs.declared.token.State.the-variants as states
@@ -29,6 +28,7 @@ use Rattle.model.proofs.Machine.Refused.{After, after-unless}
 use Rattle.model.proofs.Machine.Rules.{EachRuleHolds}
 use Rattle.model.proofs.Machine.Inside.{Fits, fits-blank, inside-map, inside-set}
 use Rattle.model.proofs.Machine.WrittenTokens.{fits-same, fits-value, fits-empty}
+use Rattle.model.proofs.Machine.Deferred.{deferred-cases}
 use Rattle.model.proofs.Machine.WrittenTokens.{choked-cases, choked-blank, choked-live, choked-fits}
 use Rattle.model.proofs.Machine.Used.{Used, UsedCell, used-fits, used-parent, inside-old, none-new, token-new, both-new}
 use Rattle.model.proofs.Machine.ActingInside.{write-inside, fork-inside, call-inside, split-inside}
@@ -85,23 +85,11 @@ module _
         (write-inside lim d m rules p inUse (Update.withState (states.Waiting c) acting) (fits-same refl refl refl acts))
 
     deferred : (next : ℕ) (due : Option ℕ) → WithinAfter (Step.deferred at p acting next due)
-    unfolding After Step.deferred Step.goesOn Update.enqueue Update.put Update.withTables Update.withTimers withOrders Update.withNode
-        Update.withState Update.withValue
-    deferred next none = ended
-    deferred next (some due) = go (ltb (at .clock) due)
-      where
-        go :
-            (b : Bool)
-            → WithinAfter
-            (elim b [
-              | false ↦ Step.goesOn at p (Update.withNode next (Update.withValue (helds.Value (pos 0)) acting))
-              | true ↦
-                  moves
-                  (Update.withTimers (Update.timersOf at ++ (p ∷ []))
-                  (Update.put p (Update.withNode next (Update.withState (states.Due due) acting)) at))
-            ])
-        go false = goes-on _ (fits-same refl refl refl acts)
-        go true = none-new lim d m old _ (write-inside lim d m rules p inUse _ (fits-same refl refl refl acts))
+    unfolding After Step.goesOn Update.enqueue Update.put Update.withTables Update.withTimers withOrders Update.withNode Update.withState
+        Update.withValue
+    deferred next due =
+        deferred-cases at p acting next (λ o e. WithinAfter e) ended (λ t l. goes-on _ (fits-same refl refl refl acts))
+        (λ t l. none-new lim d m old _ (write-inside lim d m rules p inUse _ (fits-same refl refl refl acts))) due
 
     replied : (next : ℕ) (s : BuiltinReply) → WithinAfter (Step.replied at p acting next s)
     unfolding After Step.replied Update.withNode Update.withValue

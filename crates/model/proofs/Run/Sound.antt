@@ -1,5 +1,5 @@
 -- Soundness of the abstract machine: what a run of a well-formed program shows is allowed. Its first state stands for the goal, and each
--- step is at most one rewriting. Assumes nothing.
+-- step is some rewritings or none. Assumes nothing.
 use mathlib.Core.Path.{subst}
 use mathlib.Core.List.{List}
 use Rattle.job.specs.Syntax.{Program}

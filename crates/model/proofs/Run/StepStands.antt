@@ -5,13 +5,13 @@ use mathlib.Core.Path.{_≡_, refl, sym, _∙_, ap, subst}
 use mathlib.Core.Logic.{_⊎_, inl, inr}
 use mathlib.Core.Bool.{Bool, true, false, not}
 use mathlib.Core.List.{List, [], _∷_, _++_}
-use mathlib.Core.Option.{Option, some, none}
+use mathlib.Core.Option.{Option}
 use Prim.Native.Nat.{ℕ, suc, _+_, _≤_, _<_}
 use native.Mathlib.Omega.{arith}
 use lib.ListN.{length, getD, take, length-append, length-take, List·getD-append}
 use lib.Seq.{getD-take}
 use lib.Dec.{ltb}
-use lib.IntN.{ℤ, pos}
+use lib.IntN.{ℤ}
 use Rattle.job.specs.Test.{select, without}
 use Rattle.job.specs.Site.{BuiltinReply, gives, silent, later, dueTime, isBuiltin, builtin}
 use Rattle.job.specs.Syntax.{Param}
@@ -22,23 +22,22 @@ use Rattle.model.specs.Machine.Active.{underSet, within}
 use Rattle.model.specs.Machine.InUse.{tokensUsed, marked}
 use Rattle.model.specs.Machine.FreePlace.{nextPlace}
 use Rattle.model.specs.Machine.Rules.{rulesHold}
-use Rattle.model.specs.Machine.Reply.{Effect, moves, calls, unless, isRefused}
-use Rattle.model.specs.Machine.Update.{withNode, withBinding, withValue, withState, inCell, withTables, withOrders, withCounts}
-use Rattle.model.specs.Machine.Update.{withTimers, queueOf, waitsOf, timersOf, put, newToken}
+use Rattle.model.specs.Machine.Reply.{Effect, calls, unless, isRefused}
+use Rattle.model.specs.Machine.Update.{withNode, withBinding, inCell, withTables, withOrders, withCounts}
+use Rattle.model.specs.Machine.Update.{queueOf, waitsOf, put, newToken}
 use Rattle.model.specs.Machine.Step.{LookUpResult, values, unset, ended, goesOn, forked, split, entered, waited, deferred, replied}
 use Rattle.model.specs.Machine.Step.{calledOut, returned, chokeAt, callSite, hasTokenPlace, act, takes, step}
 use Rattle.model.specs.Run.Follow.{queuedToken, cellSet, endsToken, frontEnds, survivors, stays, fate, Stands}
 use Rattle.model.specs.declared.token.Slot.the-variants as slots
-use Rattle.model.specs.declared.token.Held.the-variants as helds
 use Rattle.model.specs.declared.token.Place.{Place}
 use Rattle.model.specs.declared.token.Place.the-variants as places
-use Rattle.model.specs.declared.token.State.the-variants as states
 use Rattle.model.specs.declared.token.Token.{Token}
 use Rattle.model.specs.declared.cell.Cell.{Cell}
 use Rattle.model.specs.declared.record.Machine.{Machine}
 use Rattle.model.specs.declared.reply.Outcome.{Outcome}
 use Rattle.job.proofs.Test.{clash, ltb-lt, not-false}
 use Rattle.model.proofs.Machine.InUse.{tokens-used}
+use Rattle.model.proofs.Machine.Deferred.{deferred-cases}
 use Rattle.model.proofs.Machine.Places.{next-place-free}
 use Rattle.model.proofs.Machine.Refused.{After, after-unless, after-outcome, StepAccepted, step-accepted}
 use Rattle.model.proofs.Machine.Rules.{tokens-sized, lasttoken-inside}
@@ -156,22 +155,10 @@ module _ (lim : Limits) (d : Dag) (m : Machine) (h : QueueRulesHold m) (k : ℕ)
   after-waited c = untouched-waits (waitsOf taken ++ (front ∷ [])) _ (untouched-put front _ taken apart base)
 
   after-deferred : (next : ℕ) (due : Option ℕ) → Leaves (deferred taken front actor next due)
-  unfolding deferred After
-  after-deferred next none = after-ended
-  after-deferred next (some due) = go (ltb (taken .clock) due)
-    where
-      go :
-          (b : Bool)
-          → Leaves
-          (elim b as (λ b. Effect) [
-            | false ↦ goesOn taken front (withNode next (withValue (helds.Value (pos 0)) actor))
-            | true ↦
-                moves
-                (withTimers (timersOf taken ++ (front ∷ []))
-                (put front (withNode next (withState (states.Due due) actor)) taken))
-          ])
-      go false = after-going _
-      go true = untouched-timers _ _ (untouched-put front _ taken apart base)
+  unfolding After
+  after-deferred next due =
+      deferred-cases taken front actor next (λ o e. Leaves e) after-ended (λ t l. after-going _)
+      (λ t l. untouched-timers _ _ (untouched-put front _ taken apart base)) due
 
   after-replied : (next : ℕ) (s : BuiltinReply) → Leaves (replied taken front actor next s)
   unfolding replied After

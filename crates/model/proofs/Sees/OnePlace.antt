@@ -2,11 +2,11 @@
 -- nothing.
 use mathlib.Core.Path.{_≡_, refl, sym, subst}
 use mathlib.Core.Bool.{Bool, true, false}
-use mathlib.Core.List.{List, [], _∷_, _++_}
-use mathlib.Core.Option.{Option, some, none}
+use mathlib.Core.List.{List, [], _∷_}
+use mathlib.Core.Option.{Option}
 use Prim.Native.Nat.{ℕ, _<_}
 use native.Mathlib.Omega.{arith}
-use lib.ListN.{length}
+use lib.ListN.{length, set}
 use lib.Dec.{ltb}
 use lib.IntN.{ℤ, pos}
 use Rattle.job.specs.Test.{All}
@@ -19,28 +19,30 @@ use Rattle.model.specs.Machine.Blank.{blankToken, tokenAt}
 use Rattle.model.specs.Machine.State.{isLive}
 use Rattle.model.specs.Machine.Reply.{Effect, moves, publishes, unless}
 use Rattle.model.specs.Machine.Update.{withNode, withBinding, withValue, withState, withTables, withOrders, withCounts, withTimers}
-use Rattle.model.specs.Machine.Update.{timersOf, put, enqueue}
+use Rattle.model.specs.Machine.Update.{put, enqueue}
 use Rattle.model.specs.Machine.Step.{LookUpResult, values, unset, look, valueOf, ended, goesOn, waited, replied, calledOut, returned}
 use Rattle.model.specs.Machine.Step.{deferred, callSite}
-use Rattle.calculus.specs.Event.{Event, silently, showing}
+use Rattle.calculus.specs.Event.{Event, Label, silently, showing}
 use Rattle.calculus.specs.Expression.{Exp}
 use Rattle.calculus.specs.Allowed.{nextHandle}
 use Rattle.model.specs.declared.token.Slot.the-variants as slots
+use Rattle.model.specs.declared.token.Held.{Held}
 use Rattle.model.specs.declared.token.Held.the-variants as helds
 use Rattle.model.specs.declared.token.Place.{Place}
 use Rattle.model.specs.declared.token.Place.the-variants as places
+use Rattle.model.specs.declared.token.State.{State}
 use Rattle.model.specs.declared.token.State.the-variants as states
 use Rattle.model.specs.declared.token.Token.{Token}
 use Rattle.model.specs.declared.record.Machine.{Machine}
-use Rattle.job.proofs.Test.{ltb-lt, not-ltb-le, le-leb, lt-not-leb}
-use Rattle.model.proofs.Machine.Inside.{Fits}
+use Rattle.job.proofs.Test.{le-leb, lt-not-leb}
+use Rattle.model.proofs.Machine.Deferred.{atOnce, inTime, deferred-cases}
 use Rattle.simulation.proofs.AbstractMachine as Abstract
 use Rattle.simulation.proofs.AbstractMachine.{Binding, Frame, at, running, Store, actsAt}
 use Rattle.simulation.proofs.Store.{_is-in_}
 use Rattle.model.proofs.Sees.Labels.{Labels, nodeMeant, programOf, Fresh, Follows}
 use Rattle.model.proofs.Sees.View.{World, cellsOfCaller, present, waiting, called, due, valued, BindingSeen, FrameSeen, frameAt}
-use Rattle.model.proofs.Sees.View.{frame-seen, PlaceSeen, TokenSeen, sees}
-use Rattle.model.proofs.Sees.Seen.{world, UsedToken, UsedCell, tokens-of, used-fits}
+use Rattle.model.proofs.Sees.View.{frame-seen, StateSeen, TokenSeen, sees}
+use Rattle.model.proofs.Sees.Seen.{world, tokens-of, used-fits}
 use Rattle.model.proofs.Sees.Slots.{found, values-seen}
 use Rattle.model.proofs.Sees.Moving.{value-there, value-optional, value-held, ready-seen, nested-none, place-to, place-bind}
 use Rattle.model.proofs.Sees.Moving.{place-drop, place-as, fits-as, fits-bind}
@@ -130,56 +132,47 @@ module _ (d : Dag) (M : Labels) (bodies : ℕ → Exp) (m : Machine) {name place
 
   -- site calls
   module _ (lim : Limits) (s : ℕ) {k : ℕ} (f : Follows d M n k (M .scope n) (M .nest n)) where
+    -- the token stands at the next node, in this state and with this value
+    goes-next : (m′ : Machine) (a : Label) (st : State) (w : Held) {x : Abstract.Token}
+        → m′ .tokens ≡ set (m .tokens) p (withNode k (withState st (withValue w t))) → m′ .cells ≡ m .cells
+        → m′ .calls ≡ nextHandle a (m .calls) → m′ .clock ≡ m .clock
+        → StateSeen M k (at k B F U) st w x → Becomes M W L R (m .clock) (m .calls) (Abstract.makes a (x ∷ [])) a m′
+    unfolding withNode withState withValue
+    goes-next m′ a st w et ec eh en seen =
+        goes-becomes m (A .others) m′ a (withNode k (withState st (withValue w t))) et ec eh en
+        (fits-as {t = t} refl refl refl (acting-fits A))
+        (sees (place-as {t = withNode k t} refl refl refl refl (place-to f (A .place))) (A .clear) seen)
+
     -- "With t = 0 the token joins the back of the queue in the call's own step, with value 0": it is due no later than now
     deferred-agrees : (o : Option ℕ)
         → Agrees M W L R (m .clock) (m .calls) (deferred m p t k o) (Abstract.fallsDue (m .clock) o (at k B F U))
-    unfolding Shows deferred goesOn ended enqueue put withTables withTimers withOrders nextHandle isLive withNode withValue withState
-    deferred-agrees none = ends-becomes m (A .others) _ silently blankToken refl refl refl refl refl
-    deferred-agrees (some time) = go (ltb (m .clock) time) refl
+    unfolding Shows goesOn ended enqueue put withTables withTimers withOrders nextHandle isLive withNode withValue withState
+    deferred-agrees o =
+        deferred-cases m p t k (λ o e. Agrees M W L R (m .clock) (m .calls) e (Abstract.fallsDue (m .clock) o (at k B F U)))
+        (ends-becomes m (A .others) _ silently blankToken refl refl refl refl refl)
+        (λ time l.
+        subst (λ b. Goes b time (atOnce m p t k)) (sym (le-leb time (m .clock) l))
+        (goes-next _ silently (t .state) (helds.Value (pos 0)) refl refl refl refl (ready-seen (A .state) present)))
+        (λ time l.
+        subst (λ b. Goes b time (moves (inTime m p t k time))) (sym (lt-not-leb time (m .clock) l))
+        (goes-next _ silently (states.Due time) (t .value) refl refl refl refl due))
+        o
       where
-        there : PlaceSeen W M (withNode k t) k B F U
-        there = place-to f (A .place)
-
-        fits : Fits (UsedToken W) (UsedCell W) t
-        fits = acting-fits A
-
-        Goes : Bool → Effect → Type 0
-        Goes b e = Agrees M W L R (m .clock) (m .calls) e (Abstract.makes silently (Abstract.wokenIf b time (at k B F U) ∷ []))
-
-        go : (b : Bool) → ltb (m .clock) time ≡ b
-            → Agrees M W L R (m .clock) (m .calls)
-            (elim b [
-              | false ↦ goesOn m p (withNode k (withValue (helds.Value (pos 0)) t))
-              | true ↦ moves (withTimers (timersOf m ++ (p ∷ [])) (put p (withNode k (withState (states.Due time) t)) m))
-            ])
-            (Abstract.fallsDue (m .clock) (some time) (at k B F U))
-        go false e =
-            subst (λ b. Goes b (goesOn m p (withNode k (withValue (helds.Value (pos 0)) t))))
-            (sym (le-leb time (m .clock) (not-ltb-le (m .clock) time e)))
-            (goes-becomes m (A .others) _ silently _ refl refl refl refl (fits-as {t = t} refl refl refl fits)
-            (sees (place-as {t = withNode k t} refl refl refl refl there) (A .clear) (ready-seen (A .state) present)))
-        go true e =
-            subst (λ b. Goes b (moves (withTimers (timersOf m ++ (p ∷ [])) (put p (withNode k (withState (states.Due time) t)) m))))
-            (sym (lt-not-leb time (m .clock) (ltb-lt (m .clock) time e)))
-            (goes-becomes m (A .others) _ silently _ refl refl refl refl (fits-as {t = t} refl refl refl fits)
-            (sees (place-as {t = withNode k t} refl refl refl refl there) (A .clear) due))
+        Goes : Bool → ℕ → Effect → Type 0
+        Goes b time e = Agrees M W L R (m .clock) (m .calls) e (Abstract.makes silently (Abstract.wokenIf b time (at k B F U) ∷ []))
 
     replied-agrees : (r : BuiltinReply)
         → Agrees M W L R (m .clock) (m .calls) (replied m p t k r) (Abstract.replies (m .clock) r (at k B F U))
-    unfolding Shows replied goesOn ended enqueue put withTables withOrders nextHandle isLive withNode withValue
+    unfolding Shows replied goesOn ended enqueue put withTables withOrders nextHandle isLive withNode withValue withState
     replied-agrees (later t) = deferred-agrees (dueTime (m .clock) t)
     replied-agrees silent = ends-becomes m (A .others) _ silently blankToken refl refl refl refl refl
-    replied-agrees (gives w) =
-        goes-becomes m (A .others) _ silently _ refl refl refl refl (fits-as {t = t} refl refl refl (acting-fits A))
-        (sees (place-as {t = withNode k t} refl refl refl refl (place-to f (A .place))) (A .clear) (ready-seen (A .state) present))
+    replied-agrees (gives w) = goes-next _ silently (t .state) (helds.Value w) refl refl refl refl (ready-seen (A .state) present)
 
     called-agrees : (vs : List ℤ)
         → Agrees M W L R (m .clock) (m .calls) (calledOut m p t s vs k) (Abstract.callsSite (m .clock) (m .calls) s vs false (at k B F U))
-    unfolding Shows calledOut put withTables withCounts nextHandle withNode withState
+    unfolding Shows calledOut put withTables withCounts nextHandle withNode withState withValue
     called-agrees vs =
-        goes-becomes m (A .others) _ (showing (Event.call (m .calls) s vs)) _ refl refl refl refl
-        (fits-as {t = t} refl refl refl (acting-fits A))
-        (sees (place-as {t = withNode k t} refl refl refl refl (place-to f (A .place))) (A .clear) called)
+        goes-next _ (showing (Event.call (m .calls) s vs)) (states.Called (m .calls)) (t .value) refl refl refl refl called
 
     look-up-agrees : M .value n ≡ false → (l : LookUpResult)
         → Agrees M W L R (m .clock) (m .calls) (callSite lim m p t s k l)
