@@ -21,7 +21,7 @@ fn near(name: &str, edit: Edit) -> Trial {
 
 pub fn list() -> Vec<Trial> {
     let unchanged = near("the record with due tokens that the others change", |_| {});
-    let lists = [times(), orders(), arrays(), set_cells(), at_nodes(), in_use()];
+    let lists = [times(), orders(), arrays(), set_cells(), at_nodes(), in_use(), tests_in_order()];
     std::iter::once(unchanged).chain(lists.into_iter().flatten()).collect()
 }
 
@@ -153,6 +153,20 @@ fn at_nodes() -> Vec<Trial> {
             g.bind(4, 0, Value(1));
         }),
         near("a due token at assign without a value", |g| g.token(4).node = ASSIGN),
+    ]
+}
+
+/// Times that would be refused with 15.
+fn tests_in_order() -> Vec<Trial> {
+    let calls = [Call::Advance(1), Call::Advance(LAST_TIME + 1), Call::Advance(u32::MAX)];
+    let before = |name, edit: Edit| trial(Expected::Broken, name, edited(timed(), edit), &calls);
+    vec![
+        before("14 before 15: the clock", |g| {
+            none_due(g);
+            g.record.clock = LAST_TIME + 1;
+        }),
+        before("14 before 15: a due time", |g| g.due(4, 2)),
+        before("14 before 15: the order of call", |g| g.timers_are(&[4])),
     ]
 }
 
