@@ -2,9 +2,9 @@
 //! a called-out token, or whether a place was given a second time.
 
 use crate::dag::{self, Dag, Node, Parameter};
-use crate::lines::{MOST_INPUT, MOST_STEPS, RECORD};
+use crate::lines::{delivery, Delivery, MOST_INPUT, MOST_STEPS, RECORD};
 use crate::machine::{Machine, Reply};
-use crate::record::{Binding, Record, State};
+use crate::record::{Binding, Record, State, Token, LAST_TIME};
 use crate::sites;
 use crate::table;
 use std::collections::{BTreeMap, BTreeSet};
@@ -15,11 +15,12 @@ pub struct Coverage {
     pub counts: BTreeMap<&'static str, usize>,
 }
 
-pub const HAPPENINGS: [&str; 40] = [
+pub const HAPPENINGS: [&str; 60] = [
     "all 32 cells in use",
     "all 64 tokens in use",
     "answer accepted",
     "answer accepted after one to a later call",
+    "answer accepted while a token is due later",
     "answer refused, answered before",
     "answer refused, call ended by a choke",
     "answer refused, not called yet",
@@ -27,11 +28,24 @@ pub const HAPPENINGS: [&str; 40] = [
     "cell place given again from 0",
     "choke",
     "choke ends a called-out token",
+    "choke ends a due token",
     "choke ends a frame",
     "choke ends a ready token",
     "choke ends a waiting token",
     "choke wakes one token",
     "choke wakes several tokens",
+    "clock move accepted",
+    "clock move refused, back",
+    "clock move refused, out of range",
+    "clock move to one before a due time",
+    "clock move to the last time",
+    "clock move to the present time",
+    "clock move wakes no token",
+    "clock move wakes one token",
+    "clock move wakes several tokens",
+    "clock move wakes several, due at one time",
+    "clock move wakes several, not as they called",
+    "clock move wakes some and leaves some",
     "definition call",
     "definition call passes a set cell",
     "definition call passes an unset cell",
@@ -47,6 +61,12 @@ pub const HAPPENINGS: [&str; 40] = [
     "remove",
     "return",
     "return leaves its frame in use",
+    "rwait, 0",
+    "rwait, due later",
+    "rwait, due later, the clock past 0",
+    "rwait, negative",
+    "rwait, never due",
+    "rwait, waits for its time",
     "set cell stays in use",
     "silent built-in",
     "site call reads a set cell",
@@ -109,10 +129,17 @@ impl Coverage {
                 steps += 1;
             }
             let Some(next) = records.next() else { return "piece with an empty queue" };
-            let word = |at: usize| [next[at], next[at + 1], next[at + 2], next[at + 3]];
-            let (handle, value) = (u32::from_le_bytes(word(0)), i32::from_le_bytes(word(4)));
-            let accepted = machine.answer(&mut record, handle, value).is_ok();
-            self.note_answer(&record, &mut answered, handle, accepted);
+            match delivery(next.try_into().expect("a whole record")) {
+                Delivery::Answer { handle, value } => {
+                    let accepted = machine.answer(&mut record, handle, value).is_ok();
+                    self.note_answer(&record, &mut answered, handle, accepted);
+                }
+                Delivery::Move { time } => {
+                    let before = record.clone();
+                    let accepted = machine.advance(&mut record, time).is_ok();
+                    self.note_move(&before, &record, time, accepted);
+                }
+            }
         }
     }
 
@@ -127,6 +154,8 @@ impl Coverage {
             let later = answered.last().is_some_and(|last| handle < *last);
             self.note("answer accepted");
             self.note_if(later, "answer accepted after one to a later call");
+            let due = !record.timers.is_empty();
+            self.note_if(due, "answer accepted while a token is due later");
             answered.insert(handle);
         } else if handle >= record.calls {
             self.note("answer refused, not called yet");
@@ -135,6 +164,33 @@ impl Coverage {
         } else {
             self.note("answer refused, call ended by a choke");
         }
+    }
+
+    fn note_move(&mut self, before: &Record, after: &Record, time: u32, accepted: bool) {
+        if !accepted {
+            return self.note(match time > LAST_TIME {
+                true => "clock move refused, out of range",
+                false => "clock move refused, back",
+            });
+        }
+        let due = |place: &usize| before.tokens[*place].due_time().expect("a due token");
+        let (woken, left): (Vec<usize>, Vec<usize>) =
+            before.timers.iter().partition(|place| due(place) <= time);
+        let times: Vec<u32> = woken.iter().map(due).collect();
+        self.note("clock move accepted");
+        self.note_if(time == before.clock, "clock move to the present time");
+        self.note_if(time == LAST_TIME, "clock move to the last time");
+        let next = before.timers.iter().any(|place| due(place) == time + 1);
+        self.note_if(next, "clock move to one before a due time");
+        self.note_if(woken.is_empty(), "clock move wakes no token");
+        self.note_if(woken.len() == 1, "clock move wakes one token");
+        self.note_if(woken.len() > 1, "clock move wakes several tokens");
+        let same = times.iter().enumerate().any(|(at, time)| times[..at].contains(time));
+        self.note_if(same, "clock move wakes several, due at one time");
+        let others = after.queue != woken;
+        self.note_if(others, "clock move wakes several, not as they called");
+        let some = !woken.is_empty() && !left.is_empty();
+        self.note_if(some, "clock move wakes some and leaves some");
     }
 
     fn note_step(&mut self, dag: &Dag, before: &Record, reply: &Reply, after: &Record) {
@@ -165,9 +221,11 @@ impl Coverage {
         match reply {
             Reply::Waits => {
                 self.note("wait");
+                self.note_if(site == sites::RWAIT, "rwait, waits for its time");
                 let first = cells_read(before, node).next();
                 return self.note_if(first == Some(true), "wait behind a parameter that is set");
             }
+            _ if site == sites::RWAIT => self.note_rwait(before, node, reply),
             Reply::Ends => self.note("silent built-in"),
             Reply::CallsOut { values, .. } if values.len() == 4 => {
                 self.note("outside call");
@@ -177,6 +235,20 @@ impl Coverage {
             _ => self.note("value from a built-in"),
         }
         self.note_if(reads, "site call reads a set cell");
+    }
+
+    fn note_rwait(&mut self, before: &Record, node: &Node, reply: &Reply) {
+        let token = &before.tokens[before.queue[0]];
+        let negative = value_of(before, token, &node.parameters()[0]).is_some_and(|time| time < 0);
+        match reply {
+            Reply::GoesOn => self.note("rwait, 0"),
+            Reply::Ends if negative => self.note("rwait, negative"),
+            Reply::Ends => self.note("rwait, never due"),
+            _ => {
+                self.note("rwait, due later");
+                self.note_if(before.clock > 0, "rwait, due later, the clock past 0");
+            }
+        }
     }
 
     fn note_definition_call(&mut self, before: &Record, node: &Node) {
@@ -207,6 +279,7 @@ impl Coverage {
             match token.state {
                 State::Ready => self.note_if(ended, "choke ends a ready token"),
                 State::CalledOut(_) => self.note_if(ended, "choke ends a called-out token"),
+                State::Due(_) => self.note_if(ended, "choke ends a due token"),
                 State::Frame => self.note_if(ended, "choke ends a frame"),
                 State::Waiting(_) if ended => self.note("choke ends a waiting token"),
                 State::Waiting(at) => woken += (at == cell) as usize,
@@ -228,4 +301,16 @@ fn cells_read<'a>(record: &'a Record, node: &'a Node) -> impl Iterator<Item = bo
         },
         Parameter::Constant(_) => None,
     })
+}
+
+/// The value of a parameter, if it is there.
+fn value_of(record: &Record, token: &Token, parameter: &Parameter) -> Option<i32> {
+    match *parameter {
+        Parameter::Constant(value) => Some(value),
+        Parameter::Variable(number) => match token.bindings[number] {
+            Binding::Value(value) => Some(value),
+            Binding::Cell(cell) => record.cells[cell].value,
+            Binding::Empty => None,
+        },
+    }
 }

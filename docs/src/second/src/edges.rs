@@ -2,6 +2,7 @@
 //!
 //! They come first in the stored file, in this order, and are the same for every seed.
 
+mod clock;
 mod programs;
 mod runs;
 mod steps;
@@ -32,6 +33,7 @@ pub fn edges() -> Vec<Edge> {
     edges.extend(runs::pieces());
     edges.extend(runs::order());
     edges.extend(runs::full());
+    edges.extend(clock::clock());
     edges.extend(steps::limits());
     edges
 }
@@ -40,7 +42,7 @@ fn edge(name: impl Into<String>, input: Vec<u8>, lines: impl Into<String>) -> Ed
     Edge { name: name.into(), input, lines: lines.into() }
 }
 
-/// A goal without definitions, and answers.
+/// A goal without definitions, and answers or clock moves.
 fn goal(goal: Expr, answers: &[(u32, i32)]) -> Vec<u8> {
     with_answers(Program::new(goal), answers)
 }

@@ -1,15 +1,16 @@
 //! Inputs made by chance from a seed, steered so that every line that can occur does occur.
 //!
-//! A valid case is a program with answers to it: the answers are found by running the program, so
-//! that most of them meet an open handle. A damaged case is a valid one with one or two faults.
+//! A valid case is a program with answers and clock moves to it: they are found by running the
+//! program, so that most of them meet an open handle or a due time. A damaged case is a valid one
+//! with one or two faults.
 
 use crate::dag;
-use crate::lines::MOST_STEPS;
+use crate::lines::{CLOCK, MOST_STEPS};
 use crate::machine::{Machine, Reply};
 use crate::random::Random;
-use crate::record::Record;
+use crate::record::{Record, LAST_TIME};
 use crate::sites::BUILT_IN_COUNTS;
-use crate::syntax::{append_record, encode, fork, prune, sequence};
+use crate::syntax::{append_record, encode, fork, prune, rwait, sequence};
 use crate::syntax::{Expr, Param, Program, Row};
 use crate::table::{self, MOST_DEFINITIONS, MOST_DEPTH, MOST_ENTRIES, MOST_IN_SCOPE};
 
@@ -52,7 +53,7 @@ fn small_table(random: &mut Random) -> Vec<u8> {
 
 fn valid_case(random: &mut Random) -> Vec<u8> {
     let mut bytes = program(random).bytes();
-    append_answers(random, &mut bytes);
+    append_deliveries(random, &mut bytes);
     append_piece(random, &mut bytes);
     bytes
 }
@@ -137,7 +138,7 @@ impl Writer<'_> {
         let f = self.random.between(1, budget);
         let (f, g) = (f.min(budget - 1), (budget - f).max(1));
         let may_bind = (scope as usize) < MOST_IN_SCOPE;
-        match self.random.below(20) {
+        match self.random.below(21) {
             0..=4 => fork(self.expr(depth + 1, scope, f), self.expr(depth + 1, scope, g)),
             5..=10 if may_bind => {
                 sequence(self.expr(depth + 1, scope, f), self.expr(depth + 1, scope + 1, g))
@@ -147,14 +148,16 @@ impl Writer<'_> {
             }
             17 if may_bind => self.race(depth, scope),
             18 if may_bind => self.pass_unset(depth, scope, g),
+            19 => self.alarms(depth, scope),
             _ => self.leaf(scope),
         }
     }
 
     fn leaf(&mut self, scope: u32) -> Expr {
-        match self.random.below(20) {
+        match self.random.below(22) {
             0 => Expr::Stop,
             1..=7 => self.built_in(scope),
+            20..=21 => self.alarm(scope),
             8..=14 => self.outside(scope),
             _ if self.callable > 0 => self.call(scope),
             _ => self.built_in(scope),
@@ -164,6 +167,14 @@ impl Writer<'_> {
     fn built_in(&mut self, scope: u32) -> Expr {
         let site = *self.random.pick(&[0, 0, 0, 0, 1, 2, 3, 4, 4, 5, 6]);
         Expr::Site(site, self.params(scope, BUILT_IN_COUNTS[site as usize]))
+    }
+
+    /// A call of rwait, mostly with a time that comes soon.
+    fn alarm(&mut self, scope: u32) -> Expr {
+        match scope > 0 && self.random.percent(40) {
+            true => rwait(self.param(scope)),
+            false => rwait(Param::Const(time(self.random))),
+        }
     }
 
     fn outside(&mut self, scope: u32) -> Expr {
@@ -197,13 +208,24 @@ impl Writer<'_> {
         }
     }
 
-    /// Two outside calls of which the first to answer wins.
+    /// Two outside calls of which the first to answer wins, or one call and a deadline.
     fn race(&mut self, depth: usize, scope: u32) -> Expr {
         if depth + 2 > MOST_DEPTH {
             return self.leaf(scope);
         }
-        let calls = fork(self.outside(scope), self.outside(scope));
+        let other = match self.random.percent(40) {
+            true => self.alarm(scope),
+            false => self.outside(scope),
+        };
+        let calls = fork(self.outside(scope), other);
         prune(self.leaf(scope + 1), calls)
+    }
+
+    /// Several calls of rwait side by side: some are due at one time, some not as they called.
+    fn alarms(&mut self, depth: usize, scope: u32) -> Expr {
+        let count = self.random.between(2, 4).min(MOST_DEPTH - depth + 1);
+        let one = self.alarm(scope);
+        (1..count).fold(one, |all, _| fork(self.alarm(scope), all))
     }
 
     /// A definition call gets a variable that stays unset for a while.
@@ -288,8 +310,20 @@ fn value(random: &mut Random) -> i32 {
     }
 }
 
-/// Runs the table in house order and appends the answers given where the queue was empty.
-fn append_answers(random: &mut Random, bytes: &mut Vec<u8>) {
+/// Times of rwait: small ones, 0, negative ones, and such that the sum meets the end of the range.
+fn time(random: &mut Random) -> i32 {
+    match random.below(20) {
+        0 => *random.pick(&[i32::MAX, i32::MAX - 1, i32::MAX - 5]),
+        1 => *random.pick(&[-1, -1, -7, i32::MIN]),
+        2..=3 => 0,
+        4 => random.between(6, 1000) as i32,
+        _ => random.between(1, 5) as i32,
+    }
+}
+
+/// Runs the table in house order and appends the answers and clock moves given where the queue was
+/// empty.
+fn append_deliveries(random: &mut Random, bytes: &mut Vec<u8>) {
     let table = table::read(bytes).expect("a valid program has an accepted table");
     let dag = dag::build(&table);
     let machine = Machine::new(&dag);
@@ -302,15 +336,58 @@ fn append_answers(random: &mut Random, bytes: &mut Vec<u8>) {
     let mut steps = 0;
     for _ in 0..random.between(0, most) {
         run_until_empty(&machine, &mut record, &mut steps);
-        let handle = choose_handle(random, &record);
-        let value = value(random);
-        append_record(bytes, handle, value);
-        // A wrong handle is refused and changes nothing; the run goes on.
-        let accepted = machine.answer(&mut record, handle, value).is_ok();
-        // Where no call is open, more of them would all be refused.
-        if !accepted && record.open_handles().is_empty() && random.percent(60) {
+        let idle = record.open_handles().is_empty() && record.timers.is_empty();
+        // A wrong handle or time is refused and changes nothing; the run goes on.
+        if moves_next(random, &record) {
+            let time = choose_time(random, &record);
+            append_record(bytes, CLOCK, time as i32);
+            let _ = machine.advance(&mut record, time);
+        } else {
+            let handle = choose_handle(random, &record);
+            let value = value(random);
+            append_record(bytes, handle, value);
+            let _ = machine.answer(&mut record, handle, value);
+        }
+        // Where no call is open and no token due, nothing that follows would change that.
+        if idle && random.percent(60) {
             return;
         }
+    }
+}
+
+/// Whether a clock move comes next, and not an answer.
+fn moves_next(random: &mut Random, record: &Record) -> bool {
+    match (record.timers.is_empty(), record.open_handles().is_empty()) {
+        (true, _) => random.percent(4),
+        (false, false) => random.percent(45),
+        (false, true) => random.percent(90),
+    }
+}
+
+/// Mostly the time at which a token is due, or near it; else the present time, one before it, one
+/// out of range, or any.
+fn choose_time(random: &mut Random, record: &Record) -> u32 {
+    let due = record.tokens.iter().filter_map(|token| token.due_time());
+    let mut due: Vec<u32> = due.collect();
+    due.sort_unstable();
+    if !due.is_empty() && random.percent(80) {
+        return match random.below(10) {
+            0..=3 => due[0],
+            4..=6 => *random.pick(&due),
+            7 => *random.pick(&due) - 1,
+            8 => random.pick(&due).saturating_add(random.below(3) as u32),
+            _ => due[due.len() - 1],
+        };
+    }
+    match random.below(12) {
+        0..=2 => record.clock,
+        3..=4 => record.clock.saturating_sub(random.between(1, 3) as u32),
+        5 => *random.pick(&[LAST_TIME + 1, u32::MAX, u32::MAX - 1]),
+        6 => record.clock | 1 << 31,
+        7 if random.percent(30) => LAST_TIME,
+        8 if random.percent(30) => LAST_TIME - random.below(5) as u32,
+        9 => random.draw() as u32 >> random.between(8, 28),
+        _ => record.clock.saturating_add(random.between(1, 5) as u32),
     }
 }
 
@@ -393,6 +470,7 @@ fn clash_case(random: &mut Random) -> Vec<u8> {
         (0, 0),
         (0, 1),
         (1, 7),
+        (1, 8),
         (1, 0x0005_0010),
         (2, 0x0005_0000),
         (2, 0),
@@ -554,7 +632,7 @@ fn random_row(random: &mut Random) -> Row {
     let kind = random.below(9) as u8;
     let operand = match kind {
         1 => {
-            let site = random.below(7);
+            let site = random.below(BUILT_IN_COUNTS.len());
             site as u32 | (BUILT_IN_COUNTS[site] as u32) << 16
         }
         2 => random.below(3) as u32 | (random.below(3) as u32) << 16,

@@ -1,9 +1,10 @@
 //! The machine's record as the words that a host lends (docs/DECISIONS.md has the table): 24 for each
-//! token, 4 for each cell, the two orders, and five counts.
+//! token, 4 for each cell, two orders and five counts, then the order of call, its count and the
+//! clock.
 
 use crate::record::{Binding, Cell, Record, State, Token, PAPER};
 
-pub const WORDS: usize = 1797;
+pub const WORDS: usize = 1863;
 pub const TOKEN: usize = 24;
 pub const CELL: usize = 4;
 /// Where the parts begin; the tokens do at 0.
@@ -15,6 +16,9 @@ pub const WAITING: usize = 1793;
 pub const CALLS: usize = 1794;
 pub const LAST_TOKEN: usize = 1795;
 pub const LAST_CELL: usize = 1796;
+pub const TIMERS: usize = 1797;
+pub const TIMED: usize = 1861;
+pub const CLOCK: usize = 1862;
 
 /// An order as it lies in the record: an array of places, and how many of them count.
 #[derive(Clone, Debug, PartialEq, Eq)]
@@ -46,29 +50,32 @@ impl Order {
 /// A record whose orders are the arrays that lie in the words.
 #[derive(Clone, Debug, PartialEq, Eq)]
 pub struct Laid {
-    /// Its own two orders stay empty.
+    /// Its own orders stay empty.
     pub record: Record,
     pub queue: Order,
     pub waits: Order,
+    pub timers: Order,
 }
 
 impl Laid {
     /// Nothing but zeros.
     pub fn blank() -> Laid {
         let record = Record { last_cell: 0, ..Record::blank(&PAPER) };
-        Laid { record, queue: Order::EMPTY, waits: Order::EMPTY }
+        Laid { record, queue: Order::EMPTY, waits: Order::EMPTY, timers: Order::EMPTY }
     }
 
     pub fn of(mut record: Record) -> Laid {
         let queue = Order::of(std::mem::take(&mut record.queue));
         let waits = Order::of(std::mem::take(&mut record.waits));
-        Laid { record, queue, waits }
+        let timers = Order::of(std::mem::take(&mut record.timers));
+        Laid { record, queue, waits, timers }
     }
 
     /// The record with its orders taken from the arrays.
     pub fn taken(&self) -> Option<Record> {
         let (queue, waits) = (self.queue.places()?, self.waits.places()?);
-        Some(Record { queue, waits, ..self.record.clone() })
+        let timers = self.timers.places()?;
+        Some(Record { queue, waits, timers, ..self.record.clone() })
     }
 }
 
@@ -84,16 +91,19 @@ pub fn read(words: &[u32]) -> Laid {
         cells: words[CELLS..QUEUE].chunks(CELL).map(read_cell).collect(),
         queue: vec![],
         waits: vec![],
+        timers: vec![],
         calls: words[CALLS],
         last_token: words[LAST_TOKEN] as usize,
         last_cell: words[LAST_CELL] as usize,
+        clock: words[CLOCK],
     };
     let order = |from: usize, count: usize| {
         let mut order = Order { count: words[count], ..Order::EMPTY };
         order.names.copy_from_slice(&words[from..from + 64]);
         order
     };
-    Laid { record, queue: order(QUEUE, QUEUED), waits: order(WAITS, WAITING) }
+    let (queue, waits) = (order(QUEUE, QUEUED), order(WAITS, WAITING));
+    Laid { record, queue, waits, timers: order(TIMERS, TIMED) }
 }
 
 fn read_token(row: &[u32]) -> Token {
@@ -110,6 +120,7 @@ fn read_token(row: &[u32]) -> Token {
         1 => State::Ready,
         2 => State::Waiting(row[1] as usize),
         3 => State::CalledOut(row[1]),
+        4 => State::Due(row[1]),
         _ => State::Frame,
     };
     let (value, caller, cell) = (value(row[5], row[6]), place(row[3]), place(row[4]));
@@ -130,13 +141,15 @@ fn value(there: u32, word: u32) -> Option<i32> {
 
 /// The words that the record is written as.
 pub fn write(laid: &Laid) -> Vec<u32> {
-    let Laid { record, queue, waits } = laid;
+    let Laid { record, queue, waits, timers } = laid;
     let mut words = Vec::with_capacity(WORDS);
     record.tokens.iter().for_each(|token| words.extend(token_words(token)));
     record.cells.iter().for_each(|cell| words.extend(cell_words(cell)));
     words.extend(queue.names.iter().chain(&waits.names));
     words.extend([queue.count, waits.count, record.calls]);
     words.extend([record.last_token, record.last_cell].map(|place| place as u32));
+    words.extend(timers.names);
+    words.extend([timers.count, record.clock]);
     words
 }
 
@@ -147,7 +160,8 @@ fn token_words(token: &Token) -> [u32; TOKEN] {
         State::Ready => (1, 0),
         State::Waiting(cell) => (2, cell as u32),
         State::CalledOut(handle) => (3, handle),
-        State::Frame => (4, 0),
+        State::Due(time) => (4, time),
+        State::Frame => (5, 0),
     };
     row[2] = token.node as u32;
     (row[3], row[4]) = (place_word(token.caller), place_word(token.cell));

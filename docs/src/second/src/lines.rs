@@ -9,6 +9,24 @@ pub const MOST_INPUT: usize = 65_536;
 pub const MOST_STEPS: u32 = 100_000;
 pub const RECORD: usize = 8;
 
+/// A record with this handle moves the clock.
+pub const CLOCK: u32 = u32::MAX;
+
+/// What a record of the input delivers.
+pub enum Delivery {
+    Answer { handle: u32, value: i32 },
+    Move { time: u32 },
+}
+
+/// Handle and value; of a clock move the value is the time, and has no sign.
+pub fn delivery([a, b, c, d, e, f, g, h]: [u8; RECORD]) -> Delivery {
+    let (handle, value) = (u32::from_le_bytes([a, b, c, d]), [e, f, g, h]);
+    match handle {
+        CLOCK => Delivery::Move { time: u32::from_le_bytes(value) },
+        _ => Delivery::Answer { handle, value: i32::from_le_bytes(value) },
+    }
+}
+
 /// All lines for this input, each with its line feed.
 pub fn orcrun(input: &[u8]) -> String {
     let mut lines = String::new();
@@ -75,11 +93,11 @@ fn report(reply: &Reply, lines: &mut String) {
             say(lines, &format!("call {handle} {site}{values}"));
         }
         Reply::Publishes(value) => say(lines, &format!("publish {value}")),
-        Reply::GoesOn | Reply::Waits | Reply::Ends => {}
+        Reply::GoesOn | Reply::Waits | Reply::FallsDue | Reply::Ends => {}
     }
 }
 
-/// Takes the next record from the input. A refused answer does not end the run.
+/// Takes the next record from the input. A refused answer or clock move does not end the run.
 fn deliver(
     machine: &Machine,
     record: &mut Record,
@@ -93,10 +111,11 @@ fn deliver(
         return false;
     };
     *records = rest;
-    let [a, b, c, d, e, f, g, h] = *next;
-    let handle = u32::from_le_bytes([a, b, c, d]);
-    let value = i32::from_le_bytes([e, f, g, h]);
-    if let Err(refused) = machine.answer(record, handle, value) {
+    let delivered = match delivery(*next) {
+        Delivery::Answer { handle, value } => machine.answer(record, handle, value),
+        Delivery::Move { time } => machine.advance(record, time),
+    };
+    if let Err(refused) = delivered {
         say(lines, &format!("refused {}", refused.number));
     }
     true

@@ -1,10 +1,11 @@
-//! Start, step and answer.
+//! Start, step, answer and clock move.
 //!
 //! A step works on a copy of the record and hands it over only when it is accepted, so a refused
-//! one leaves everything as it was; an answer changes nothing before its tests are done.
+//! one leaves everything as it was; an answer and a clock move change nothing before their tests
+//! are done.
 
 use crate::dag::{Dag, Node, Parameter};
-use crate::record::{Binding, Cell, InUse, Limits, Record, State, Token, PAPER};
+use crate::record::{Binding, Cell, InUse, Limits, Record, State, Token, LAST_TIME, PAPER};
 use crate::rules;
 use crate::sites;
 
@@ -20,6 +21,8 @@ const TOKENS_FULL: Refused = Refused { number: 10, why: "all token places are in
 const CELLS_FULL: Refused = Refused { number: 11, why: "all cell places are in use" };
 const NOT_OPEN: Refused = Refused { number: 12, why: "the handle is not open" };
 const CALLS_FULL: Refused = Refused { number: 13, why: "all outside calls are made" };
+const NOT_AHEAD: Refused =
+    Refused { number: 15, why: "the clock would go back or leave its range" };
 
 /// What an accepted step tells.
 #[derive(Clone, Debug, PartialEq, Eq)]
@@ -27,6 +30,8 @@ pub enum Reply {
     /// The token, or what it became, is ready again.
     GoesOn,
     Waits,
+    /// The token is due later.
+    FallsDue,
     Ends,
     CallsOut {
         handle: u32,
@@ -84,6 +89,28 @@ impl<'a> Machine<'a> {
         let at = record.tokens.iter().position(called).ok_or(NOT_OPEN)?;
         record.tokens[at].value = Some(value);
         make_ready(record, at);
+        record.sweep();
+        Ok(())
+    }
+
+    /// Moves the clock to this time, which may be the present one. Tokens that are now due become
+    /// ready with value 0, by due time, then by order of call.
+    pub fn advance(&self, record: &mut Record, time: u32) -> Result<(), Refused> {
+        self.check_rules(record)?;
+        if time < record.clock || time > LAST_TIME {
+            return Err(NOT_AHEAD);
+        }
+        record.clock = time;
+        let called = std::mem::take(&mut record.timers).into_iter();
+        let by_time = called.map(|at| (record.tokens[at].due_time(), at));
+        let (mut woken, later): (Vec<_>, Vec<_>) = by_time.partition(|(due, _)| *due <= Some(time));
+        record.timers = later.into_iter().map(|(_, at)| at).collect();
+        // The sort is stable: those due at one time stay in the order of call.
+        woken.sort_by_key(|(due, _)| *due);
+        for (_, at) in woken {
+            record.tokens[at].value = Some(0);
+            make_ready(record, at);
+        }
         record.sweep();
         Ok(())
     }
@@ -149,13 +176,11 @@ impl<'a> Machine<'a> {
         if sites::is_outside(site) {
             return self.call_out(record, at, site, values, next);
         }
+        if site == sites::RWAIT {
+            return Ok(rwait(record, at, values[0], next));
+        }
         match sites::built_in(site, &values) {
-            Some(value) => {
-                record.tokens[at].value = Some(value);
-                record.tokens[at].node = next;
-                make_ready(record, at);
-                Ok(Reply::GoesOn)
-            }
+            Some(value) => Ok(give(record, at, value, next)),
             None => {
                 end(record, at);
                 Ok(Reply::Ends)
@@ -203,6 +228,33 @@ fn binding(token: &Token, parameter: &Parameter) -> Binding {
     match *parameter {
         Parameter::Variable(number) => token.bindings[number],
         Parameter::Constant(value) => Binding::Value(value),
+    }
+}
+
+/// A built-in replies at once.
+fn give(record: &mut Record, at: usize, value: i32, next: usize) -> Reply {
+    record.tokens[at].value = Some(value);
+    record.tokens[at].node = next;
+    make_ready(record, at);
+    Reply::GoesOn
+}
+
+/// For 0 it replies at once, for more the token falls due later. It is silent for less, and where
+/// the due time would be out of range.
+fn rwait(record: &mut Record, at: usize, time: i32, next: usize) -> Reply {
+    let due = u32::try_from(time).ok().and_then(|time| record.clock.checked_add(time));
+    match due.filter(|due| *due <= LAST_TIME) {
+        Some(due) if due == record.clock => give(record, at, 0, next),
+        Some(due) => {
+            record.tokens[at].node = next;
+            record.tokens[at].state = State::Due(due);
+            record.timers.push(at);
+            Reply::FallsDue
+        }
+        None => {
+            end(record, at);
+            Reply::Ends
+        }
     }
 }
 
@@ -319,6 +371,7 @@ fn end_under(record: &mut Record, cell: usize) {
     }
     record.queue.retain(|place| !ended.contains(place));
     record.waits.retain(|place| !ended.contains(place));
+    record.timers.retain(|place| !ended.contains(place));
 }
 
 fn wake(record: &mut Record, cell: usize) {

@@ -22,6 +22,7 @@ pub enum Call {
     Start,
     Step(u32),
     Answer(u32, i32),
+    Advance(u32),
 }
 
 /// What a host does: it writes a word, at an index, or makes a call.
@@ -73,6 +74,11 @@ impl Memory {
                 Machine::new(&dag?).answer(&mut record, handle, value)?;
                 (record, Reply::GoesOn)
             }
+            Call::Advance(time) => {
+                let mut record = self.taken()?;
+                Machine::new(&dag?).advance(&mut record, time)?;
+                (record, Reply::GoesOn)
+            }
         };
         self.record = layout::write(&Laid::of(record));
         Ok(reply)
@@ -108,6 +114,7 @@ const RECORD: u8 = 1;
 const START: u8 = 16;
 const STEP: u8 = 17;
 const ANSWER: u8 = 18;
+const ADVANCE: u8 = 19;
 
 impl Row {
     fn bytes(self) -> [u8; 8] {
@@ -119,6 +126,7 @@ impl Row {
             Row::Call(Call::Answer(handle, value)) => {
                 (ANSWER, (handle >> 16) as u8, handle as u16, value as u32)
             }
+            Row::Call(Call::Advance(time)) => (ADVANCE, 0, 0, time),
         };
         let ([a, b], [c, d, e, f]) = (which.to_le_bytes(), number.to_le_bytes());
         [what, place, a, b, c, d, e, f]
@@ -139,6 +147,7 @@ impl Row {
                 let handle = u32::from(place) << 16 | u32::from(which);
                 Row::Call(Call::Answer(handle, number as i32))
             }
+            ADVANCE => Row::Call(Call::Advance(number)),
             _ => return None,
         };
         Some(row)

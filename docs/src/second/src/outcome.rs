@@ -28,12 +28,13 @@ fn called(call: Call) -> String {
         Call::Start => "start".to_string(),
         Call::Step(place) => format!("step {place}"),
         Call::Answer(handle, value) => format!("answer {handle} {value}"),
+        Call::Advance(time) => format!("advance {time}"),
     }
 }
 
 fn replied(reply: &Result<Reply, Refused>) -> String {
     match reply {
-        Ok(Reply::GoesOn | Reply::Ends) => "done".to_string(),
+        Ok(Reply::GoesOn | Reply::FallsDue | Reply::Ends) => "done".to_string(),
         Ok(Reply::Waits) => "waits".to_string(),
         Ok(Reply::Publishes(value)) => format!("publish {value}"),
         Ok(Reply::CallsOut { handle, site, values }) => {
@@ -63,7 +64,7 @@ fn words(words: &[u32]) -> String {
 }
 
 /// Every field that is not blank.
-fn record(Laid { record, queue, waits }: &Laid) -> String {
+fn record(Laid { record, queue, waits, timers }: &Laid) -> String {
     let mut text = String::new();
     for (place, token) in record.tokens.iter().enumerate() {
         if *token != Token::BLANK {
@@ -78,8 +79,9 @@ fn record(Laid { record, queue, waits }: &Laid) -> String {
     }
     text += &order("queue", queue);
     text += &order("waits", waits);
+    text += &order("timers", timers);
     let places = format!("newtoken {} newcell {}", record.last_token, record.last_cell);
-    text + &format!("  calls {} {places}\n", record.calls)
+    text + &format!("  calls {} {places} clock {}\n", record.calls, record.clock)
 }
 
 fn token_fields(token: &Token) -> String {
@@ -88,6 +90,7 @@ fn token_fields(token: &Token) -> String {
         State::Ready => " ready".to_string(),
         State::Waiting(cell) => format!(" waiting {cell}"),
         State::CalledOut(handle) => format!(" called {handle}"),
+        State::Due(time) => format!(" due {time}"),
         State::Frame => " frame".to_string(),
     };
     text += &format!(" node {}", token.node);

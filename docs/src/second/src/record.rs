@@ -1,4 +1,5 @@
-//! The machine's record: tokens, cells, the queue, the wait order, and what is in use.
+//! The machine's record: tokens, cells, the queue, the wait order, the order of call, the clock;
+//! and what is in use.
 
 pub const BINDINGS: usize = 8;
 
@@ -9,6 +10,9 @@ pub struct Limits {
     pub cells: usize,
     pub calls: u32,
 }
+
+/// Where the clock's range ends; it begins at 0.
+pub const LAST_TIME: u32 = 2_147_483_647;
 
 /// The paper's numbers.
 pub const PAPER: Limits = Limits { tokens: 64, cells: 32, calls: 1_000_000 };
@@ -28,6 +32,8 @@ pub enum State {
     Waiting(usize),
     /// Called out under this handle.
     CalledOut(u32),
+    /// Falls due at this time.
+    Due(u32),
     /// Stands for a call until its callee returns.
     Frame,
 }
@@ -53,9 +59,17 @@ impl Token {
         state: State::Blank,
     };
 
-    /// Ready, waiting or called out: these act, now or later.
+    /// Ready, waiting, called out or due later: these act, now or later.
     pub fn is_live(&self) -> bool {
-        matches!(self.state, State::Ready | State::Waiting(_) | State::CalledOut(_))
+        !matches!(self.state, State::Blank | State::Frame)
+    }
+
+    /// The time at which it falls due.
+    pub fn due_time(&self) -> Option<u32> {
+        match self.state {
+            State::Due(time) => Some(time),
+            _ => None,
+        }
     }
 
     /// The cells that the bindings name.
@@ -86,11 +100,15 @@ pub struct Record {
     pub queue: Vec<usize>,
     /// Waiting tokens, the longest wait first.
     pub waits: Vec<usize>,
+    /// Tokens due later, in the order in which they called.
+    pub timers: Vec<usize>,
     /// Outside calls made so far; the next handle.
     pub calls: u32,
     /// The places given last.
     pub last_token: usize,
     pub last_cell: usize,
+    /// The present time.
+    pub clock: u32,
 }
 
 /// Which places are in use.
@@ -115,9 +133,11 @@ impl Record {
             cells: vec![Cell::BLANK; limits.cells],
             queue: Vec::new(),
             waits: Vec::new(),
+            timers: Vec::new(),
             calls: 0,
             last_token: 0,
             last_cell: limits.cells.saturating_sub(1),
+            clock: 0,
         }
     }
 

@@ -8,12 +8,13 @@ use std::fmt;
 
 /// The lines that can occur. 9, 13 and 14 cannot: orcrun takes place 0 of a queue that is not
 /// empty, 100,000 steps make no million calls, and a run keeps the rules.
-const KINDS: [&str; 17] = [
+const KINDS: [&str; 18] = [
     "call",
     "publish",
     "refused 10",
     "refused 11",
     "refused 12",
+    "refused 15",
     "table 1",
     "table 2",
     "table 3",

@@ -3,7 +3,7 @@
 //! The name of the first broken clause tells why a call answers 14.
 
 use crate::dag::{Dag, Node, Parameter};
-use crate::record::{Binding, Cell, Limits, Record, State, Token, BINDINGS};
+use crate::record::{Binding, Cell, Limits, Record, State, Token, BINDINGS, LAST_TIME};
 use crate::sites;
 use crate::table::MOST_DEFINITIONS;
 
@@ -22,9 +22,10 @@ const DAG_RULES: [DagRule; 7] = [
     ("slots", dag_slots),
 ];
 
-const RECORD_RULES: [RecordRule; 14] = [
+const RECORD_RULES: [RecordRule; 17] = [
     ("sizes of the tables", table_sizes),
     ("the call count", call_count),
+    ("the clock", clock_in_range),
     ("nodes of tokens", token_nodes),
     ("tokens named", tokens_named),
     ("cells named", cells_named),
@@ -34,13 +35,15 @@ const RECORD_RULES: [RecordRule; 14] = [
     ("open handles", open_handles),
     ("the wait order names each waiting token once", waits_names_waiting),
     ("waiting at an unset cell", waits_at_unset),
+    ("the order of call names each due token once", timers_name_due),
+    ("due after the clock, and in its range", due_times),
     ("what a token's node needs", nodes_served),
     ("a ready token has the value it needs", values_there),
     ("what is not in use is blank", unused_blank),
 ];
 
 /// So many of them say that what the record names is there.
-const RANGES: usize = 5;
+const RANGES: usize = 6;
 
 /// The first clause that the dag breaks.
 pub fn broken_in_dag(dag: &Dag) -> Option<&'static str> {
@@ -128,13 +131,17 @@ fn call_count(_: &Dag, record: &Record, limits: &Limits) -> bool {
     record.calls <= limits.calls
 }
 
+fn clock_in_range(_: &Dag, record: &Record, _: &Limits) -> bool {
+    record.clock <= LAST_TIME
+}
+
 fn token_nodes(dag: &Dag, record: &Record, _: &Limits) -> bool {
     record.tokens.iter().all(|token| token.node < dag.nodes.len())
 }
 
 fn tokens_named(_: &Dag, record: &Record, limits: &Limits) -> bool {
     let callers = record.tokens.iter().filter_map(|token| token.caller);
-    let orders = record.queue.iter().chain(&record.waits).copied();
+    let orders = record.queue.iter().chain(&record.waits).chain(&record.timers).copied();
     callers.chain(orders).chain([record.last_token]).all(|place| place < limits.tokens)
 }
 
@@ -177,6 +184,15 @@ fn waits_names_waiting(_: &Dag, record: &Record, _: &Limits) -> bool {
 fn waits_at_unset(_: &Dag, record: &Record, _: &Limits) -> bool {
     let unset = |cell: usize| record.cells[cell].value.is_none();
     record.tokens.iter().filter_map(waiting_at).all(unset)
+}
+
+fn timers_name_due(_: &Dag, record: &Record, _: &Limits) -> bool {
+    names_exactly(&record.timers, record, |token| token.due_time().is_some())
+}
+
+fn due_times(_: &Dag, record: &Record, _: &Limits) -> bool {
+    let later = |time: u32| record.clock < time && time <= LAST_TIME;
+    record.tokens.iter().filter_map(Token::due_time).all(later)
 }
 
 /// At return a frame, at choke a cell, at a call no empty variable. A blank token is at no node.

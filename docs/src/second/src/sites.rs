@@ -1,7 +1,10 @@
 //! The sites: which numbers there are, and what the built-in ones give.
 
-/// Parameter counts of the built-in sites: let, ift, iff, signal, add, less, equal.
-pub const BUILT_IN_COUNTS: [usize; 7] = [1, 1, 1, 0, 2, 2, 2];
+/// Parameter counts of the built-in sites: let, ift, iff, signal, add, less, equal, rwait.
+pub const BUILT_IN_COUNTS: [usize; 8] = [1, 1, 1, 0, 2, 2, 2, 1];
+
+/// The built-in that replies with 0 when so much time has passed. The others reply at once.
+pub const RWAIT: u32 = 7;
 
 const FIRST_OUTSIDE: u32 = 16;
 const LAST_OUTSIDE: u32 = 1023;
@@ -29,7 +32,7 @@ pub fn count_fits(site: u32, count: usize) -> bool {
     }
 }
 
-/// What a built-in gives; `None` is silence.
+/// What a built-in other than rwait gives; `None` is silence.
 pub fn built_in(site: u32, values: &[i32]) -> Option<i32> {
     match (site, values) {
         (0, [v]) => Some(*v),

@@ -46,6 +46,10 @@ pub fn give(param: Param) -> Expr {
     Expr::Site(0, vec![param])
 }
 
+pub fn rwait(param: Param) -> Expr {
+    Expr::Site(7, vec![param])
+}
+
 impl Program {
     pub fn new(goal: Expr) -> Program {
         Program { definitions: vec![], goal }
@@ -100,7 +104,7 @@ pub fn encode(definitions: u16, rows: &[Row]) -> Vec<u8> {
     bytes
 }
 
-/// Appends an answer record.
+/// Appends a record: an answer, or with the handle `lines::CLOCK` a clock move.
 pub fn append_record(bytes: &mut Vec<u8>, handle: u32, value: i32) {
     bytes.extend(handle.to_le_bytes());
     bytes.extend(value.to_le_bytes());

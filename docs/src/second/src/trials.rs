@@ -2,9 +2,11 @@
 //! it alone and one that comes as near without breaking it, and lawful calls of every kind; then
 //! words that are no record's, and others that come near.
 
+mod broken_clocks;
 mod broken_dags;
 mod broken_records;
 mod lawful;
+mod moves;
 mod odd_words;
 
 use crate::dag::{Dag, Definition, Node, Parameter};
@@ -51,8 +53,9 @@ impl Trial {
 }
 
 pub fn all() -> Vec<Trial> {
-    let lists = [broken_dags::list(), broken_records::list(), lawful::list(), odd_words::list()];
-    lists.into_iter().flatten().collect()
+    let broken = [broken_dags::list(), broken_records::list(), broken_clocks::list()];
+    let rest = [lawful::list(), moves::list(), odd_words::list()];
+    broken.into_iter().chain(rest).flatten().collect()
 }
 
 /// A dag's words, and a record field by field, in the making.
@@ -62,6 +65,7 @@ struct Draft {
     record: Record,
     queue: Order,
     waits: Order,
+    timers: Order,
 }
 
 type Edit = fn(&mut Draft);
@@ -143,15 +147,27 @@ fn middle() -> Draft {
     draft
 }
 
+/// The same at time 2: token 4, which called first, is due at 9, and token 5 at 7. Token 5 has a
+/// caller, which is a frame, and a value.
+fn timed() -> Draft {
+    let mut draft = middle();
+    *draft.token(4) = Token { node: PUBLISH, state: State::Due(9), ..Token::BLANK };
+    *draft.token(5) = Token { state: State::Due(7), value: Some(6), ..draft.record.tokens[2] };
+    draft.token(5).node = RETURN;
+    draft.record.clock = 2;
+    draft.timers_are(&[4, 5]);
+    draft
+}
+
 impl Draft {
     fn blank() -> Draft {
-        let Laid { record, queue, waits } = Laid::blank();
-        Draft { words: Memory::blank().dag, record, queue, waits }
+        let Laid { record, queue, waits, timers } = Laid::blank();
+        Draft { words: Memory::blank().dag, record, queue, waits, timers }
     }
 
     fn record_words(&self) -> Vec<u32> {
-        let Draft { record, queue, waits, .. } = self.clone();
-        layout::write(&Laid { record, queue, waits })
+        let Draft { record, queue, waits, timers, .. } = self.clone();
+        layout::write(&Laid { record, queue, waits, timers })
     }
 
     /// The rows that set the words, all being 0 before.
@@ -193,6 +209,15 @@ impl Draft {
 
     fn waits_are(&mut self, places: &[u8]) {
         self.waits = Order::of(places.iter().map(|place| *place as usize));
+    }
+
+    fn timers_are(&mut self, places: &[u8]) {
+        self.timers = Order::of(places.iter().map(|place| *place as usize));
+    }
+
+    /// The token falls due at this time.
+    fn due(&mut self, place: usize, time: u32) {
+        self.token(place).state = State::Due(time);
     }
 
     /// The ready token 3 stands at this node, with or without a value.

@@ -79,6 +79,9 @@ fn every_clause_is_broken_alone_by_some_case() {
         "open handles",
         "the wait order names each waiting token once",
         "waiting at an unset cell",
+        "the clock",
+        "the order of call names each due token once",
+        "due after the clock, and in its range",
         "what a token's node needs",
         "a ready token has the value it needs",
         "what is not in use is blank",
@@ -103,7 +106,7 @@ fn is_written_otherwise(words: &[u32], index: usize) -> bool {
 #[test]
 fn every_field_has_a_case_of_words_that_are_no_record() {
     let mut found = BTreeSet::new();
-    for word in [1, 2, 3, 5, u32::MAX] {
+    for word in [1, 2, 3, 6, u32::MAX] {
         for index in 0..layout::WORDS {
             let mut words = vec![0; layout::WORDS];
             words[index] = word;

@@ -4,7 +4,7 @@ use std::ffi::c_void;
 use twin::table::{Dag, WORDS};
 
 /// The words of a record.
-pub const RECORD: usize = 1797;
+pub const RECORD: usize = 1863;
 
 mod linked {
     use super::c_void;

@@ -1,8 +1,11 @@
 //! `orcrun`: from input bytes to output bytes.
 
-use crate::machine::{act, house_answer, Reply};
+use crate::machine::{act, house_advance, house_answer, Reply};
 use crate::record::{Machine, Used};
 use crate::table::{load, Dag};
+
+/// A record with this handle moves the clock.
+const CLOCK: u32 = u32::MAX;
 
 /// The lines printed so far. Bytes that the output has no room for are counted and not stored.
 struct Lines<'a> {
@@ -150,8 +153,11 @@ fn run(machine: &mut Machine, dag: &Dag, mut answers: &[u8], lines: &mut Lines) 
         } else if let Some((record, rest)) = answers.split_first_chunk::<8>() {
             let [a, b, c, d, e, f, g, h] = *record;
             let handle = u32::from_le_bytes([a, b, c, d]);
-            let value = i32::from_le_bytes([e, f, g, h]);
-            lines.reply(house_answer(machine, used.tokens, handle, value));
+            let value = u32::from_le_bytes([e, f, g, h]);
+            lines.reply(match handle {
+                CLOCK => house_advance(machine, value),
+                _ => house_answer(machine, used.tokens, handle, value as i32),
+            });
             answers = rest;
         } else {
             if !answers.is_empty() {

@@ -1,6 +1,7 @@
-//! Start, step and answer.
+//! Start, step, answer and clock move.
 
 use crate::record::{next_place, places, Cell, Machine, Order, Slot, State, Token, Used};
+use crate::record::{LAST_TIME, TOKENS};
 use crate::rules;
 use crate::table::{row_of, Dag, Row};
 
@@ -52,6 +53,48 @@ pub fn house_answer(machine: &mut Machine, used: u64, handle: u32, value: i32) -
     machine.tokens[p].value = Some(value);
     machine.tokens[p].state = State::Ready;
     machine.queue.push(p as u8);
+    Reply::Done
+}
+
+/// The public clock move: tests all index rules first.
+pub fn advance(machine: &mut Machine, dag: &Dag, time: u32) -> Reply {
+    if rules::tested(machine, dag).is_none() {
+        return Refused(14);
+    }
+    house_advance(machine, time)
+}
+
+/// A clock move in a house run: those now due join the queue with value 0, by due time, then by order of call. Nothing is out of reach
+/// after it.
+#[cold]
+pub fn house_advance(machine: &mut Machine, time: u32) -> Reply {
+    if time < machine.clock || time > LAST_TIME {
+        return Refused(15);
+    }
+    machine.clock = time;
+    if machine.timers.count == 0 {
+        return Reply::Done;
+    }
+    // due time, place in the order of call, name
+    let mut due = [(0, 0, 0); TOKENS];
+    let mut count = 0;
+    let mut later = Order::EMPTY;
+    for (call, &name) in machine.timers.names().iter().enumerate() {
+        match machine.tokens[name as usize].state {
+            State::Due(at) if at <= time => {
+                due[count] = (at, call, name);
+                count += 1;
+            }
+            _ => later.push(name),
+        }
+    }
+    due[..count].sort_unstable();
+    for &(_, _, name) in &due[..count] {
+        machine.tokens[name as usize].value = Some(0);
+        machine.tokens[name as usize].state = State::Ready;
+        machine.queue.push(name);
+    }
+    machine.timers = later;
     Reply::Done
 }
 
@@ -238,6 +281,9 @@ fn site(machine: &mut Machine, place: usize, p: u8, row: &Row, used: &mut Used) 
         goes_on(machine, place, p, row[2]);
         return Reply::Done;
     }
+    if row[1] == 7 {
+        return rwait(machine, place, p, values[0], row[2], used);
+    }
     let handle = machine.calls;
     if handle >= 1_000_000 {
         return Refused(13);
@@ -259,6 +305,33 @@ fn builtin(site: u32, a: i32, b: i32) -> Option<i32> {
         5 => Some((a < b) as i32),
         _ => Some((a == b) as i32),
     }
+}
+
+/// For 0 it replies at once, for more the token is due later; it ends for less, and where that would be past the last time. (Marked as
+/// seldom called, as the clock move is, so that the code of other calls stays as it was.)
+#[cold]
+fn rwait(
+    machine: &mut Machine,
+    place: usize,
+    p: u8,
+    time: i32,
+    next: u32,
+    used: &mut Used,
+) -> Reply {
+    let due = machine.clock as i64 + time as i64;
+    if time < 0 || due > LAST_TIME as i64 {
+        return end(machine, place, p, used, Reply::Done);
+    }
+    if time == 0 {
+        machine.tokens[p as usize].value = Some(0);
+        goes_on(machine, place, p, next);
+        return Reply::Done;
+    }
+    machine.queue.remove(place);
+    machine.tokens[p as usize].node = next as u16;
+    machine.tokens[p as usize].state = State::Due(due as u32);
+    machine.timers.push(p);
+    Reply::Done
 }
 
 /// Sets the cell, ends all tokens of it and of its descendants, and wakes those that wait at it.
@@ -287,6 +360,15 @@ fn choke(machine: &mut Machine, place: usize, p: u8, used: &mut Used) -> Reply {
     }
     machine.queue = queue;
     machine.waits = waits;
+    if machine.timers.count > 0 {
+        let mut timers = Order::EMPTY;
+        for &name in machine.timers.names() {
+            if matches!(machine.tokens[name as usize].state, State::Due(_)) {
+                timers.push(name);
+            }
+        }
+        machine.timers = timers;
+    }
     machine.sweep(used);
     Reply::Done
 }

@@ -2,6 +2,8 @@
 
 pub const TOKENS: usize = 64;
 pub const CELLS: usize = 32;
+/// The last time of the clock.
+pub const LAST_TIME: u32 = 2_147_483_647;
 
 #[derive(Clone, Copy, PartialEq, Eq)]
 pub enum Slot {
@@ -16,12 +18,13 @@ pub enum State {
     Ready,
     Waiting(u8),
     Called(u32),
+    Due(u32),
     Frame,
 }
 
 impl State {
     pub fn is_live(self) -> bool {
-        matches!(self, State::Ready | State::Waiting(_) | State::Called(_))
+        !matches!(self, State::Blank | State::Frame)
     }
 }
 
@@ -93,7 +96,7 @@ impl Order {
     }
 }
 
-/// `last_token` and `last_cell` are the last places given.
+/// `last_token` and `last_cell` are the last places given; `timers` names the tokens due later in the order in which they called.
 #[derive(Clone, Copy)]
 pub struct Machine {
     pub tokens: [Token; TOKENS],
@@ -103,6 +106,8 @@ pub struct Machine {
     pub calls: u32,
     pub last_token: u8,
     pub last_cell: u8,
+    pub timers: Order,
+    pub clock: u32,
 }
 
 /// Which tokens and cells are in use, and which tokens more than one may name as its caller: a bit for each place.
@@ -156,6 +161,8 @@ impl Machine {
         calls: 0,
         last_token: 0,
         last_cell: 0,
+        timers: Order::EMPTY,
+        clock: 0,
     };
 
     /// The record of a start, in place: one ready token at the goal's first node.

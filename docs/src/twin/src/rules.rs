@@ -1,6 +1,6 @@
 //! The index rules, on any dag words and any record.
 
-use crate::record::{Cell, Machine, Order, Slot, State, Token, Used, CELLS, TOKENS};
+use crate::record::{Cell, Machine, Order, Slot, State, Token, Used, CELLS, LAST_TIME, TOKENS};
 use crate::table::{row_of, takes, Dag, Row, HEAD, ROW};
 
 fn row_holds(row: &Row, nodes: u32, bodies: u32) -> bool {
@@ -40,7 +40,7 @@ fn in_places(place: Option<u8>, places: usize) -> bool {
     place.is_none_or(|p| (p as usize) < places)
 }
 
-fn token_in_range(token: &Token, nodes: u32, calls: u32) -> bool {
+fn token_in_range(token: &Token, nodes: u32, calls: u32, clock: u32) -> bool {
     (token.node as u32) < nodes
         && in_places(token.caller, TOKENS)
         && in_places(token.cell, CELLS)
@@ -51,17 +51,21 @@ fn token_in_range(token: &Token, nodes: u32, calls: u32) -> bool {
         && match token.state {
             State::Waiting(c) => (c as usize) < CELLS,
             State::Called(h) => h < calls,
+            State::Due(at) => clock < at && at <= LAST_TIME,
             _ => true,
         }
 }
 
 fn in_range(machine: &Machine, nodes: u32) -> bool {
-    machine.calls <= 1_000_000
+    let Machine { calls, clock, .. } = *machine;
+    calls <= 1_000_000
+        && clock <= LAST_TIME
         && (machine.last_token as usize) < TOKENS
         && (machine.last_cell as usize) < CELLS
         && machine.queue.count <= TOKENS
         && machine.waits.count <= TOKENS
-        && machine.tokens.iter().all(|token| token_in_range(token, nodes, machine.calls))
+        && machine.timers.count <= TOKENS
+        && machine.tokens.iter().all(|token| token_in_range(token, nodes, calls, clock))
         && machine.cells.iter().all(|cell| in_places(cell.parent, CELLS))
 }
 
@@ -139,23 +143,23 @@ pub fn tested(machine: &Machine, dag: &Dag) -> Option<Used> {
     }
     let queued = named(&machine.queue)?;
     let waiting = named(&machine.waits)?;
+    let timed = named(&machine.timers)?;
     let used = machine.used(u64::MAX);
     let mut handles = Handles { seen: [0; TOKENS], count: 0 };
     for (p, token) in machine.tokens.iter().enumerate() {
         let bit = |bits: u64| bits >> p & 1 == 1;
+        let unset = || !machine.under_set(token.cell);
         let holds = match token.state {
-            State::Blank => !bit(queued) && !bit(waiting),
-            State::Frame => !bit(queued) && !bit(waiting),
-            State::Ready => bit(queued) && !bit(waiting) && !machine.under_set(token.cell),
+            State::Blank | State::Frame => !bit(queued | waiting | timed),
+            State::Ready => bit(queued) && !bit(waiting | timed) && unset(),
             State::Waiting(c) => {
-                !bit(queued)
-                    && bit(waiting)
-                    && !machine.under_set(token.cell)
+                bit(waiting)
+                    && !bit(queued | timed)
+                    && unset()
                     && machine.cells[c as usize].value.is_none()
             }
-            State::Called(h) => {
-                !bit(queued) && !bit(waiting) && !machine.under_set(token.cell) && handles.add(h)
-            }
+            State::Called(h) => !bit(queued | waiting | timed) && unset() && handles.add(h),
+            State::Due(_) => bit(timed) && !bit(queued | waiting) && unset(),
         };
         let rest = if bit(used.tokens) {
             token.state == State::Blank || node_holds(machine, dag, token)

@@ -18,13 +18,13 @@ pub fn row_of(dag: &Dag, node: u16) -> &Row {
 /// A refused table: number and entry.
 pub type Refused = (u8, usize);
 
-const COUNTS: [u32; 7] = [1, 1, 1, 0, 2, 2, 2];
+const COUNTS: [u32; 8] = [1, 1, 1, 0, 2, 2, 2, 1];
 const DEPTH: usize = 24;
 
 /// May a call with so many parameters name this site?
 pub fn takes(site: u32, count: u32) -> bool {
     match site {
-        0..=6 => COUNTS[site as usize] == count,
+        0..=7 => COUNTS[site as usize] == count,
         16..=1023 => count <= 4,
         _ => false,
     }

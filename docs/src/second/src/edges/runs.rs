@@ -121,7 +121,8 @@ pub fn answers() -> Vec<Edge> {
     let three = || forks(&[16, 17, 18].map(|number| site(number, &[])));
     let calls = "call 0 16\ncall 1 17\ncall 2 18\n";
     let one = |answers: &[(u32, i32)]| goal(site(16, &[]), answers);
-    let high = [1 << 8, 1 << 16, 1 << 24, 1 << 31, u32::MAX].map(|handle| (handle, 1));
+    // One more is the handle of clock moves.
+    let high = [1 << 8, 1 << 16, 1 << 24, 1 << 31, u32::MAX - 1].map(|handle| (handle, 1));
     vec![
         // Two forks, three calls, three publishes.
         edge(
@@ -292,7 +293,7 @@ fn late_answers() -> Edge {
 }
 
 /// Lines of calls under these handles, all with the same rest.
-fn called(handles: Range<u32>, rest: &str) -> String {
+pub fn called(handles: Range<u32>, rest: &str) -> String {
     handles.map(|handle| format!("call {handle} {rest}\n")).collect()
 }
 

@@ -55,7 +55,7 @@ fn operands() -> Vec<Sample> {
     let five: Vec<Row> = [vec![(1, 0x0005_0010)], vec![constant(0); 5]].concat();
     vec![
         refused("stop with an operand", 0, &[(0, 1)], 4, 0),
-        refused("site 7", 0, &site(7, &[]), 4, 0),
+        refused("site 8", 0, &site(8, &[]), 4, 0),
         refused("site 1024", 0, &site(1024, &[]), 4, 0),
         refused("signal with one", 0, &fork(stop(), site(3, &[constant(0)])), 4, 2),
         refused("five formals", 1, &[define(5, stop()), stop()].concat(), 4, 0),
@@ -85,7 +85,7 @@ fn depths() -> Vec<Sample> {
         refused("depth 25", 0, &inside(fork(stop(), stop())), 6, 47),
         refused("depth 25 and 26, sequences", 0, &inside(sequences), 6, 47),
         refused("3 before 6", 0, &inside(fork(vec![(9, 0)], stop())), 3, 47),
-        refused("4 before 6", 0, &inside(fork(site(7, &[]), stop())), 4, 47),
+        refused("4 before 6", 0, &inside(fork(site(8, &[]), stop())), 4, 47),
     ]
 }
 
@@ -135,6 +135,9 @@ pub fn limits() -> Vec<Sample> {
         refused("4 before 7", 0, &right_sides(SEQUENCE, 8, vec![(PRUNE, 1)]), 4, 16),
         refused("5 before 6", 0, &[(FORK, 0); 24], 5, 24),
         refused("7 before a leftover", 0, &[give(0), stop()].concat(), 7, 1),
+        refused("rwait without a parameter", 0, &site(7, &[]), 4, 0),
+        refused("rwait with two", 0, &fork(stop(), site(7, &[constant(1); 2])), 4, 2),
+        refused("site 8 with one", 0, &site(8, &[constant(1)]), 4, 0),
         refused("D = 33 and N = 0", 33, &[], 2, 0),
         refused_bytes("1 before 2", vec![33, 0, 0, 0, 0], 1, 0),
     ]

@@ -96,6 +96,12 @@ pub fn full() -> Vec<Sample> {
         accepted("depth 24, left sides", 1, &[define(1, left_sides), stop()].concat(), 50),
         accepted("8 in scope, prunes", 0, &prunes, 34),
         accepted("four parameters of both kinds", 1, &four, 10),
+        accepted(
+            "rwait of a variable",
+            0,
+            &sequence(site(7, &[constant(-1)]), site(7, &[variable(0)])),
+            5,
+        ),
     ]
 }
 

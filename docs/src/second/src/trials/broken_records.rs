@@ -3,9 +3,10 @@
 use super::*;
 use Binding::{Cell, Empty, Value};
 
-/// A step and an answer, each of which would be accepted on the record that the case changes.
+/// A step, an answer and a clock move, each of which would be accepted on the record that the case
+/// changes.
 fn broken(name: &str, edit: Edit) -> Trial {
-    let calls = [Call::Step(0), Call::Answer(0, 7)];
+    let calls = [Call::Step(0), Call::Answer(0, 7), Call::Advance(0)];
     trial(Expected::Broken, name, edited(middle(), edit), &calls)
 }
 
@@ -174,7 +175,7 @@ fn five_is_set(g: &mut Draft) {
 
 /// The token belongs to the cell, cell 5 being set. Another token has it as its caller, so that it
 /// is in use either way.
-fn belongs(g: &mut Draft, token: usize, cell: usize) {
+pub(super) fn belongs(g: &mut Draft, token: usize, cell: usize) {
     five_is_set(g);
     g.token(token).cell = Some(cell);
     g.token(token).caller = Some(0);

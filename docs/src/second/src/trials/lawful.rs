@@ -19,7 +19,7 @@ fn on_middle(name: &str, calls: &[Call], edit: Edit) -> Trial {
 
 /// One ready token with a value at the first of these nodes; a definition of one formal begins at
 /// the last.
-fn alone(name: &str, calls: &[Call], nodes: &[Node], edit: Edit) -> Trial {
+pub(super) fn alone(name: &str, calls: &[Call], nodes: &[Node], edit: Edit) -> Trial {
     let definitions = vec![Definition { first: nodes.len() - 1, formals: 1 }];
     let dag = Dag { nodes: nodes.to_vec(), definitions, goal: 0 };
     let mut draft = Draft { words: words::write(&dag), ..Draft::blank() };
@@ -201,7 +201,7 @@ fn definitions() -> Vec<Trial> {
 }
 
 /// Token 3 chokes cell 0, in which token 1 is called out; token 2 and others wait.
-fn choking(g: &mut Draft) {
+pub(super) fn choking(g: &mut Draft) {
     g.stands_at(CHOKE, Some(6));
     g.token(3).cell = Some(0);
 }
@@ -256,7 +256,7 @@ fn chokes() -> Vec<Trial> {
 }
 
 /// Every place from 0 on holds a ready token at the node, as many as said.
-fn crowd(g: &mut Draft, count: u8, node: usize) {
+pub(super) fn crowd(g: &mut Draft, count: u8, node: usize) {
     let one = Token { node, value: Some(1), state: State::Ready, ..Token::BLANK };
     g.record.tokens[..count as usize].fill(one);
     g.waits_are(&[]);
@@ -402,7 +402,7 @@ fn odd_records() -> Vec<Trial> {
 }
 
 /// A run: the start on a table's dag, then these calls.
-fn run(name: &str, program: Program, calls: &[Call]) -> Trial {
+pub(super) fn run(name: &str, program: Program, calls: &[Call]) -> Trial {
     let table = table::read(&program.bytes()).expect("a table");
     let draft = Draft { words: words::write(&dag::build(&table)), ..Draft::blank() };
     let calls: Vec<Call> = std::iter::once(Start).chain(calls.iter().copied()).collect();

@@ -3,9 +3,11 @@
 //! within it, and what comes near. Last each word of a record changed in turn, and starts.
 
 use super::*;
-use crate::layout::{CALLS, LAST_CELL, LAST_TOKEN, QUEUE, QUEUED, WAITING, WAITS, WORDS};
+use crate::layout::{CALLS, CLOCK, LAST_CELL, LAST_TOKEN, QUEUE, QUEUED, TIMED, TIMERS, WAITING};
+use crate::layout::{WAITS, WORDS};
+use crate::record::LAST_TIME;
 use Binding::Cell;
-use Call::{Answer, Start, Step};
+use Call::{Advance, Answer, Start, Step};
 
 const MOST: u32 = u32::MAX;
 
@@ -52,27 +54,41 @@ fn on(expected: Expected, name: &str, draft: Draft, words: Words, calls: &[Call]
     rows(expected, name, draft.set().into_iter().chain(words).chain(calls))
 }
 
+/// Each would be accepted on the record that a case changes.
+const BROKEN: [Call; 2] = [Step(0), Answer(0, 7)];
+
+/// The first tests the rules and leaves the record (12).
+const NEAR: [Call; 2] = [Answer(99, 7), Step(0)];
+
 fn broken(name: &str, words: Words) -> Trial {
-    changed(Expected::Broken, name, words, &[Step(0), Answer(0, 7)])
+    changed(Expected::Broken, name, words, &BROKEN)
 }
 
 fn near(name: &str, words: Words) -> Trial {
-    changed(Expected::Near, name, words, &[Answer(99, 7), Step(0)])
+    changed(Expected::Near, name, words, &NEAR)
+}
+
+/// The record with due tokens, of which only token 4 is left: it is due at 9.
+fn one_due() -> Draft {
+    let mut draft = timed();
+    *draft.token(5) = Token::BLANK;
+    draft.timers_are(&[4]);
+    draft
 }
 
 pub fn list() -> Vec<Trial> {
     let no_record = [states(), values(), spares(), bindings(), cells()];
-    let ranges = [tokens_named(), cells_named(), orders(), counts()];
+    let ranges = [tokens_named(), cells_named(), orders(), counts(), times()];
     let rest = [in_turn(), tests_in_order(), starts()];
     no_record.into_iter().chain(ranges).chain(rest).flatten().collect()
 }
 
 fn states() -> Vec<Trial> {
     vec![
-        broken("words: state 5, read as a frame", &[(token(0, STATE), 5)]),
-        broken("words: state 260, which is 4 in its low bits", &[(token(0, STATE), 260)]),
+        broken("words: state 6, read as a frame", &[(token(0, STATE), 6)]),
+        broken("words: state 261, which is 5 in its low bits", &[(token(0, STATE), 261)]),
         broken("words: the largest state", &[(token(0, STATE), MOST)]),
-        near("words: state 4", &[(token(0, STATE), 4)]),
+        near("words: state 5", &[(token(0, STATE), 5)]),
         broken("words: a ready token with a state's number", &[(token(3, NUMBER), 1)]),
         broken("words: a frame with a state's number", &[(token(0, NUMBER), 1)]),
         broken("words: a blank token with a state's number", &[(token(50, NUMBER), 1)]),
@@ -81,6 +97,13 @@ fn states() -> Vec<Trial> {
         near("words: a called-out token with a state's number", {
             &[(token(1, NUMBER), 6), (CALLS, 7)]
         }),
+        on(
+            Expected::Near,
+            "words: a due token with a state's number",
+            one_due(),
+            &[(token(4, NUMBER), 6)],
+            &NEAR,
+        ),
     ]
 }
 
@@ -110,6 +133,13 @@ fn spares() -> Vec<Trial> {
         broken("words: a ready token's spare word", &[(token(3, SPARE), 1)]),
         broken("words: a waiting token's spare word", &[(token(2, SPARE), 1)]),
         broken("words: a called-out token's spare word", &[(token(1, SPARE), 256)]),
+        on(
+            Expected::Broken,
+            "words: a due token's spare word",
+            one_due(),
+            &[(token(4, SPARE), 1)],
+            &BROKEN,
+        ),
         broken("words: a frame's spare word", &[(token(0, SPARE), MOST)]),
         broken("words: a blank token's spare word", &[(token(50, SPARE), 1)]),
         broken("words: the last token's spare word", &[(token(63, SPARE), 1 << 31)]),
@@ -145,11 +175,7 @@ fn five_set() -> Draft {
 
 fn cells() -> Vec<Trial> {
     let five = |expected, name, words: Words| {
-        let calls = if expected == Expected::Near {
-            [Answer(99, 7), Step(0)]
-        } else {
-            [Step(0), Answer(0, 7)]
-        };
+        let calls = if expected == Expected::Near { NEAR } else { BROKEN };
         on(expected, name, five_set(), words, &calls)
     };
     vec![
@@ -210,10 +236,16 @@ fn cells_named() -> Vec<Trial> {
 }
 
 fn orders() -> Vec<Trial> {
+    let orders = [
+        ("queue", middle(), QUEUE, QUEUED, 3),
+        ("waits", middle(), WAITS, WAITING, 2),
+        ("timers", one_due(), TIMERS, TIMED, 4),
+    ];
     let mut list = Vec::new();
-    for (order, names, count, place) in [("queue", QUEUE, QUEUED, 3), ("waits", WAITS, WAITING, 2)]
-    {
+    for (order, draft, names, count, place) in orders {
         let name = |what: &str| format!("words: {order} {what}");
+        let near = |name: &str, words| on(Expected::Near, name, draft.clone(), words, &NEAR);
+        let broken = |name: &str, words| on(Expected::Broken, name, draft.clone(), words, &BROKEN);
         list.extend([
             near(&name("names the place"), &[(names, place)]),
             broken(&name("names 256 more than the place"), &[(names, 256 + place)]),
@@ -244,6 +276,24 @@ fn counts() -> Vec<Trial> {
     ]
 }
 
+/// The clock, and the due time of token 4.
+fn times() -> Vec<Trial> {
+    let near = |name, words| on(Expected::Near, name, one_due(), words, &NEAR);
+    let broken = |name, words| on(Expected::Broken, name, one_due(), words, &BROKEN);
+    vec![
+        broken("words: clock 2147483648, which is 0 but for its sign", &[(CLOCK, LAST_TIME + 1)]),
+        broken("words: the largest clock", &[(CLOCK, MOST)]),
+        near("words: clock 8", &[(CLOCK, 8)]),
+        near("words: clock 0", &[(CLOCK, 0)]),
+        broken("words: due at 2147483657, which is 9 but for its sign", {
+            &[(token(4, NUMBER), LAST_TIME + 10)]
+        }),
+        broken("words: due at the largest", &[(token(4, NUMBER), MOST)]),
+        near("words: due at 2147483647", &[(token(4, NUMBER), LAST_TIME)]),
+        near("words: due at 258, which is the clock in its low bits", &[(token(4, NUMBER), 258)]),
+    ]
+}
+
 /// One ready token at the first of two stops.
 fn at_stop() -> Draft {
     let dag = Dag { nodes: vec![Node::Stop; 2], definitions: vec![], goal: 0 };
@@ -264,8 +314,8 @@ fn each_word(change: fn(u32) -> u32, call: Call) -> Vec<Row> {
 }
 
 /// Fields of the ready token in which 1 is lawful where 0 was: node, caller, cell, valued, eight
-/// variables; and call count, newtoken, newcell.
-const LAWFUL_ONES: usize = 15;
+/// variables; and call count, newtoken, newcell, clock.
+const LAWFUL_ONES: usize = 16;
 
 fn in_turn() -> Vec<Trial> {
     let mut largest = each_word(|_| MOST, Step(0));
@@ -282,7 +332,8 @@ fn tests_in_order() -> Vec<Trial> {
     vec![
         changed(Expected::Broken, "words: 14 before 9", &spare, &[Step(64), Step(MOST)]),
         changed(Expected::Broken, "words: 14 before 12", &spare, &[Answer(1, 7), Answer(99, 7)]),
-        on(Expected::Near, "words: all 0", at_dag(), &[], &[Step(0), Answer(0, 7)]),
+        changed(Expected::Broken, "words: 14 before 15", &spare, &[Advance(1 << 31), Advance(0)]),
+        on(Expected::Near, "words: all 0", at_dag(), &[], &[Step(0), Answer(0, 7), Advance(5)]),
     ]
 }
 

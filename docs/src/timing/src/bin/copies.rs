@@ -1,4 +1,4 @@
-//! `copies`: how many copies of the record a public call of the example makes. A record has 6,168 bytes, 5,632 of them in its
+//! `copies`: how many copies of the record a public call of the example makes. A record has 6,248 bytes, 5,632 of them in its
 //! tokens; every copy of at least 63 tokens is counted. This program has a `memcpy` and a `memmove` of its own, which count.
 
 use std::arch::asm;
