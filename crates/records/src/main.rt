@@ -1,5 +1,5 @@
-// Hands the words of standard input, a dag's and a record's, to start, step and answer, and prints each reply and the record after it. A
-// case stands behind its length, 4 bytes, the lowest first; it is a name behind its length, 1 byte, and rows, done in their order.
+// Hands the words of standard input, a dag's and a record's, to start, step, answer and advance, and prints each reply and the record after it.
+// A case stands behind its length, 4 bytes, the lowest first; it is a name behind its length, 1 byte, and rows, done in their order.
 ghost use Prim.Native.Nat.{_≤_};
 
 mod row;
@@ -10,6 +10,7 @@ use console::print::number;
 use console::print::put;
 use job::dag::WORDS;
 use libc::STDIN_FILENO;
+use machine::advance::advance;
 use machine::answer::answer;
 use machine::start::start;
 use machine::step::step;
@@ -54,6 +55,13 @@ fn answered(w: &mut [u32; Machine::WORDS], dag: &[u32; WORDS], handle: u32, valu
     answer(w, dag, handle, value)
 }
 
+fn advanced(w: &mut [u32; Machine::WORDS], dag: &[u32; WORDS], time: u32) -> Report {
+    put(b"advance");
+    number(time as u64);
+    put(b": ");
+    advance(w, dag, time)
+}
+
 // A handle has three bytes, the highest at the row's place.
 fn handle_of(high: usize, low: usize) -> u32 {
     ((high % 256) * 65536 + low % 65536) as u32
@@ -64,6 +72,7 @@ fn reported(w: &mut [u32; Machine::WORDS], dag: &[u32; WORDS], row: Row) -> Repo
     match what {
         16 => started(w, dag),
         17 => stepped(w, dag, row.number),
+        19 => advanced(w, dag, row.number),
         _ => answered(w, dag, handle_of(row.place, row.which), signed(row.number)),
     }
 }
