@@ -5,6 +5,9 @@ pub const TOKEN_PLACE_COUNT: u32 = 64;
 
 pub const CELL_PLACE_COUNT: u32 = 32;
 
+// The last time that the clock can show, and at which a token can be due.
+pub const LAST_TIME: u32 = 2147483647;
+
 // The words of a token: state, its number, node, caller, cell, whether it has a value, the value, 0, and kind and number of each binding.
 pub const TOKEN_WORDS: usize = 24;
 
