@@ -94,22 +94,25 @@ blank-state states.Blank e = refl
 blank-state states.Ready e = absurd (omega arith)
 blank-state (states.Waiting c) e = absurd (omega arith)
 blank-state (states.Called h) e = absurd (omega arith)
+blank-state (states.Due d) e = absurd (omega arith)
 blank-state states.Frame e = refl
 
-frame-state : (s : State) → stateKind s ≡ 4 → isLive s ≡ false
+frame-state : (s : State) → stateKind s ≡ 5 → isLive s ≡ false
 unfolding isLive
 frame-state states.Blank e = refl
 frame-state states.Ready e = absurd (omega arith)
 frame-state (states.Waiting c) e = absurd (omega arith)
 frame-state (states.Called h) e = absurd (omega arith)
+frame-state (states.Due d) e = absurd (omega arith)
 frame-state states.Frame e = refl
 
-live-state : (s : State) → stateKind s ≢ 0 → stateKind s ≢ 4 → isLive s ≡ true
+live-state : (s : State) → stateKind s ≢ 0 → stateKind s ≢ 5 → isLive s ≡ true
 unfolding isLive
 live-state states.Blank f g = absurd (f refl)
 live-state states.Ready f g = refl
 live-state (states.Waiting c) f g = refl
 live-state (states.Called h) f g = refl
+live-state (states.Due d) f g = refl
 live-state states.Frame f g = absurd (g refl)
 
 module _ (cs : List Cell) (t : Token) (s : ℕ) (e : s ≡ stateKind (t .state)) where
@@ -117,11 +120,11 @@ module _ (cs : List Cell) (t : Token) (s : ℕ) (e : s ≡ stateKind (t .state))
   unfolding isActive
   not-blank z = sym (rw (blank-state (t .state) (sym e ∙ z), isActive))
 
-  pub not-frame : s ≡ 4 → false ≡ isActive cs t
+  pub not-frame : s ≡ 5 → false ≡ isActive cs t
   unfolding isActive
   not-frame z = sym (rw (frame-state (t .state) (sym e ∙ z), isActive))
 
-  pub by-cell : (q : ℕ) (up : Bool) → s ≢ 0 → s ≢ 4 → q ≡ placeNumber (t .cell) → up ≡ underSet cs (placeFrom q) → not up ≡ isActive cs t
+  pub by-cell : (q : ℕ) (up : Bool) → s ≢ 0 → s ≢ 5 → q ≡ placeNumber (t .cell) → up ≡ underSet cs (placeFrom q) → not up ≡ isActive cs t
   unfolding isActive
   by-cell q up f g p u =
       let z : isActive cs t ≡ not (underSet cs (t .cell)) = rw (live-state (t .state) (λ z. f (e ∙ z)) (λ z. g (e ∙ z)), isActive) in

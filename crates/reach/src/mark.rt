@@ -74,7 +74,7 @@ fn mark_parents(w: &[u32; Machine::WORDS], start: usize, marks: &mut [bool])
     }
 }
 
-// "Active tokens are ready, waiting or called-out, with no set cell among their cell and its ancestors"
+// "Active tokens are ready, waiting or called-out, with no set cell among their cell and its ancestors"; so are those due later
 fn active(w: &[u32; Machine::WORDS], p: usize) -> bool
     requires { ⌜ p < 64 ⌝ }
     ensures { λ r. ⌜ ((m : Machine) → Codes (now (w .entry)) m → r ≡ isActive (m .cells) (tokenAt (m .tokens) p)) ⌝ }

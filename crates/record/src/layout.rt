@@ -1,9 +1,12 @@
-// Where the words of a record stand: tokens, cells, queue, wait order, counts, order of call, clock. specs/Words.antt has the same table.
+// Where the words of a record stand: tokens, cells, queue, wait order, counts, order of call, clock. specs/Layout.antt has the same table.
 
 // How many places there are, as a word of a record is held to them: a place is named by a smaller number.
 pub const TOKEN_PLACE_COUNT: u32 = 64;
 
 pub const CELL_PLACE_COUNT: u32 = 32;
+
+// The last time that the clock can show, and at which a token can be due.
+pub const LAST_TIME: u32 = 2147483647;
 
 // The words of a token: state, its number, node, caller, cell, whether it has a value, the value, 0, and kind and number of each binding.
 pub const TOKEN_WORDS: usize = 24;

@@ -38,6 +38,7 @@ state-zero states.Blank b = refl
 state-zero states.Ready b = refl
 state-zero (states.Waiting c) b = refl
 state-zero (states.Called h) b = refl
+state-zero (states.Due d) b = refl
 state-zero states.Frame b = refl
 
 held-zero : (v : Held) (b : Bool) → (eqb 0 (heldKind v) and eqb 0 (heldNumber v) and b) ≡ (not (hasValue v) and b)
@@ -102,7 +103,7 @@ module _ (ws : List ℕ) (p : ℕ) where
   as-row : zeroRow ≡ forAll (eqb 0) (take 24 (drop (24 * p) ws))
   as-row = let e : 24 * p + 24 - 24 * p ≡ 24 = omega arith in ap (λ n. forAll (eqb 0) (take n (drop (24 * p) ws))) e
 
-  pub zero-coded : length ws ≡ 1797 → p < 64 → zeroRow ≡ true → tokenCoded ws p ≡ true
+  pub zero-coded : length ws ≡ 1863 → p < 64 → zeroRow ≡ true → tokenCoded ws p ≡ true
   zero-coded long l e =
       let size : length (take 24 (drop (24 * p) ws)) ≡ 24 = length-take-le 24 (drop (24 * p) ws) (omega (arith, length-drop (24 * p) ws)) in
       zero-row ws (24 * p) (λ k b.

@@ -57,6 +57,7 @@ module _ (cs : List Cell) (long : length cs ≡ 32) (k n : ℕ) (s : State) (kin
       go states.Ready a b = absurd (omega arith)
       go (states.Waiting c) a b = ap (λ i. not (hasValue (cellAt cs i .value))) (sym b)
       go (states.Called h) a b = absurd (omega arith)
+      go (states.Due d) a b = absurd (omega arith)
       go states.Frame a b = absurd (omega arith)
 
   pub waits-past : k ≡ 2 → 32 ≤ n → true ≡ waitsAtUnset cs s
@@ -75,31 +76,34 @@ module _ (cs : List Cell) (long : length cs ≡ 32) (k n : ℕ) (s : State) (kin
       go states.Ready a = refl
       go (states.Waiting c) a = absurd (f a)
       go (states.Called h) a = refl
+      go (states.Due d) a = refl
       go states.Frame a = refl
 
 -- a token that is blank or a frame, and any other
-pub idle : (cs : List Cell) (t : Token) {k : ℕ} → k ≡ stateKind (t .state) → (eqb k 0 || eqb k 4) ≡ true
+pub idle : (cs : List Cell) (t : Token) {k : ℕ} → k ≡ stateKind (t .state) → (eqb k 0 || eqb k 5) ≡ true
     → true ≡ (notUnderSet cs t and waitsAtUnset cs (t .state))
 unfolding notUnderSet _and_ isLive waitsAtUnset
-idle cs t e f = go (t .state) (ap (λ n. eqb n 0 || eqb n 4) (sym e) ∙ f)
+idle cs t e f = go (t .state) (ap (λ n. eqb n 0 || eqb n 5) (sym e) ∙ f)
   where
-    go : (s : State) → (eqb (stateKind s) 0 || eqb (stateKind s) 4) ≡ true
+    go : (s : State) → (eqb (stateKind s) 0 || eqb (stateKind s) 5) ≡ true
         → true ≡ (elim (isLive s) [ true ↦ not (underSet cs (t .cell)) | false ↦ true ]) and waitsAtUnset cs s
     go states.Blank f = refl
     go states.Ready f = clash f refl
     go (states.Waiting c) f = clash f refl
     go (states.Called h) f = clash f refl
+    go (states.Due d) f = clash f refl
     go states.Frame f = refl
 
-pub busy : (cs : List Cell) (t : Token) {k : ℕ} → k ≡ stateKind (t .state) → (eqb k 0 || eqb k 4) ≡ false
+pub busy : (cs : List Cell) (t : Token) {k : ℕ} → k ≡ stateKind (t .state) → (eqb k 0 || eqb k 5) ≡ false
     → not (underSet cs (t .cell)) ≡ notUnderSet cs t
 unfolding notUnderSet isLive
-busy cs t e f = go (t .state) (ap (λ n. eqb n 0 || eqb n 4) (sym e) ∙ f)
+busy cs t e f = go (t .state) (ap (λ n. eqb n 0 || eqb n 5) (sym e) ∙ f)
   where
-    go : (s : State) → (eqb (stateKind s) 0 || eqb (stateKind s) 4) ≡ false
+    go : (s : State) → (eqb (stateKind s) 0 || eqb (stateKind s) 5) ≡ false
         → not (underSet cs (t .cell)) ≡ (elim (isLive s) [ true ↦ not (underSet cs (t .cell)) | false ↦ true ])
     go states.Blank f = clash refl f
     go states.Ready f = refl
     go (states.Waiting c) f = refl
     go (states.Called h) f = refl
+    go (states.Due d) f = refl
     go states.Frame f = clash refl f

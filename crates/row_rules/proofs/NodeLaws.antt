@@ -105,15 +105,15 @@ module _ (ts : List Token) (long : length ts ≡ 64) (q : Place) {n : ℕ} (numb
           let m : length ts ≤ p = omega arith in
           sym (ap (λ (t : Token). isFrame (t .state)) (List·getD-eq-default ts blankToken m))
 
-  pub caller-read : (n ≡ 0 → ⊥) → {k : ℕ} → k ≡ stateKind (tokenAt ts (n - 1) .state) → eqb k 4 ≡ namesFrame ts q
+  pub caller-read : (n ≡ 0 → ⊥) → {k : ℕ} → k ≡ stateKind (tokenAt ts (n - 1) .state) → eqb k 5 ≡ namesFrame ts q
   unfolding namesFrame
   caller-read f {k} e = go q number
     where
-      go : (q : Place) → n ≡ placeNumber q → eqb k 4 ≡ namesFrame ts q
+      go : (q : Place) → n ≡ placeNumber q → eqb k 5 ≡ namesFrame ts q
       go places.Nowhere g = absurd (f g)
       go (places.At p) g =
           let same : n - 1 ≡ p = omega arith in
-          ap (λ i. eqb i 4) e ∙ frame-is _ ∙ ap (λ i. isFrame (tokenAt ts i .state)) same
+          ap (λ i. eqb i 5) e ∙ frame-is _ ∙ ap (λ i. isFrame (tokenAt ts i .state)) same
 
 -- a row of a kind past the last has no rule
 pub rule-past : (ts : List Token) (t : Token) (ws : List ℕ) → 10 ≤ getD ws 0 0 → true ≡ nodeRule ts t (nodeBy ws)

@@ -9,16 +9,20 @@ use Rattle.job.specs.Test.{_and_, forAll, once}
 use Rattle.job.specs.Node.{Dag}
 use Rattle.job.specs.Words.{paramsFrom}
 use Rattle.model.specs.Machine.Limits.{paper}
-use Rattle.model.specs.Machine.Rules.{tokenInRange, cellInRange, atNode, notUnderSet, waitsAtUnset, chainEnds, notEmpty}
+use Rattle.model.specs.Machine.Rules.{tokenInRange, cellInRange, atNode, notUnderSet, waitsAtUnset, dueInRange, chainEnds, notEmpty}
 use Rattle.model.specs.declared.token.Bind.{Bind}
 use Rattle.model.specs.declared.token.Token.{Token}
 use Rattle.model.specs.declared.cell.Cell.{Cell}
 use Rattle.model.specs.declared.record.Machine.{Machine}
 
--- in range, as its node asks, under no set cell, and if it waits, at an unset one
+-- in range, as its node asks, under no set cell, at an unset one if it waits, and later than the clock if it is due
 abbrev pub tokenRule : Dag → Machine → Token → Bool
 tokenRule d m t =
-    tokenInRange paper d (m .calls) t and atNode d (m .tokens) t and notUnderSet (m .cells) t and waitsAtUnset (m .cells) (t .state)
+    tokenInRange paper d (m .calls) t
+    and atNode d (m .tokens) t
+    and notUnderSet (m .cells) t
+    and waitsAtUnset (m .cells) (t .state)
+    and dueInRange (m .clock) (t .state)
 
 -- in range, with a parent chain that ends
 abbrev pub cellRule : List Cell → Cell → Bool

@@ -38,6 +38,7 @@ called-handle states.Blank e = absurd (omega arith)
 called-handle states.Ready e = absurd (omega arith)
 called-handle (states.Waiting c) e = absurd (omega arith)
 called-handle (states.Called h) e = refl
+called-handle (states.Due d) e = absurd (omega arith)
 called-handle states.Frame e = absurd (omega arith)
 
 no-handle : (s : State) → (stateKind s ≡ 3 → ⊥) → handleOf s ≡ []
@@ -46,6 +47,7 @@ no-handle states.Blank f = refl
 no-handle states.Ready f = refl
 no-handle (states.Waiting c) f = refl
 no-handle (states.Called h) f = absurd (f refl)
+no-handle (states.Due d) f = refl
 no-handle states.Frame f = refl
 
 module _ (ts : List Token) (list : List ℕ) (n i : ℕ) (d : Token) (l : i < length ts) (room : n < length list)

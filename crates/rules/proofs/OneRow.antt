@@ -1,6 +1,6 @@
 -- The rules of one token and of one cell: a blank one keeps them all, since a dag has a node and nothing else is named. Assumes nothing.
 use mathlib.Core.Path.{_≡_, refl, sym, _∙_, ap}
-use mathlib.Core.Bool.{true, false, not}
+use mathlib.Core.Bool.{Bool, true, false, not}
 use mathlib.Core.List.{List, [], _∷_}
 use Prim.Native.Nat.{ℕ, _<_, _≤_}
 use native.Mathlib.Omega.{arith}
@@ -15,7 +15,7 @@ use Rattle.model.specs.Machine.Limits.{paper}
 use Rattle.model.specs.Machine.Blank.{isBound, hasValue, isPlace, tokenIsBlank, cellIsBlank}
 use Rattle.model.specs.Machine.State.{isBlankState, isLive}
 use Rattle.model.specs.Machine.Rules.{heldInRange, placeInRange, slotInRange, stateInRange, tokenInRange}
-use Rattle.model.specs.Machine.Rules.{cellInRange, atNode, notUnderSet, waitsAtUnset, chainEnds}
+use Rattle.model.specs.Machine.Rules.{cellInRange, atNode, notUnderSet, waitsAtUnset, dueInRange, chainEnds}
 use Rattle.model.specs.declared.token.Slot.{Slot}
 use Rattle.model.specs.declared.token.Bind.{Bind}
 use Rattle.model.specs.declared.token.Held.{Held}
@@ -24,7 +24,8 @@ use Rattle.model.specs.declared.token.Token.{Token}
 use Rattle.model.specs.declared.cell.Cell.{Cell}
 use Rattle.model.specs.declared.record.Machine.{Machine}
 use Rattle.job.proofs.Test.{clash, and-left, and-right, and-both, eqb-eq, ltb-lt, lt-ltb, le-not-ltb}
-use Rattle.job.proofs.Both.{and-true}
+use Rattle.job.proofs.Lists.{same-when}
+use Rattle.job.proofs.Both.{and-true, and-assoc}
 use Rattle.row_rules.specs.RowRules.{tokenRule, cellRule}
 use Rattle.row_rules.proofs.ChainLaws.{ends-nowhere}
 use Rattle.model.proofs.Machine.Blanking.{state-blank}
@@ -68,7 +69,7 @@ some-node d e =
 
 module _ (d : Dag) (m : Machine) (t : Token) (eight : length (t .binds) ≡ 8) where
   pub token-blank : dagHolds d ≡ true → tokenIsBlank t ≡ true → tokenRule d m t ≡ true
-  unfolding tokenIsBlank tokenInRange isNode atNode notUnderSet waitsAtUnset stateInRange isLive isBlankState
+  unfolding tokenIsBlank tokenInRange isNode atNode notUnderSet waitsAtUnset stateInRange dueInRange isLive isBlankState
   token-blank holds e =
       let rest1 = and-right (isBlankState (t .state)) _ e in
       let rest2 = and-right (eqb (t .node) 0) _ rest1 in
@@ -85,18 +86,36 @@ module _ (d : Dag) (m : Machine) (t : Token) (eight : length (t .binds) ≡ 8) w
       (and-both (place-blank 64 (t .caller) (and-left _ _ rest4))
       (and-both (place-blank 32 (t .cell) (and-right _ _ rest4))
       (ap (stateInRange 32 (m .calls)) state)))))))
-      (and-both (rw (state, atNode)) (and-both (rw (state, notUnderSet)) (ap (waitsAtUnset (m .cells)) state)))
+      (and-both (rw (state, atNode)) (and-both (rw (state, notUnderSet))
+      (and-both (ap (waitsAtUnset (m .cells)) state) (ap (dueInRange (m .clock)) state))))
 
   pub node-past : {n : ℕ} → n ≡ t .node → length (d .nodes) ≤ n → false ≡ tokenRule d m t
   unfolding tokenInRange isNode _and_
   node-past e l = rw (le-not-ltb (t .node) (length (d .nodes)) (omega arith))
 
-  pub node-in : {n : ℕ} → n ≡ t .node → n < length (d .nodes) → heldInRange (t .value) ≡ true
+  fields-in : {n : ℕ} → n ≡ t .node → n < length (d .nodes) → heldInRange (t .value) ≡ true
       → tokenInRange paper d (m .calls) t
       ≡ (forAll (λ (b : Bind). slotInRange 32 (b .slot)) (t .binds)
       and placeInRange 64 (t .caller) and placeInRange 32 (t .cell) and stateInRange 32 (m .calls) (t .state))
   unfolding tokenInRange isNode _and_
-  node-in e l f = rw (lt-ltb (t .node) (length (d .nodes)) (omega arith), eight, f)
+  fields-in e l f = rw (lt-ltb (t .node) (length (d .nodes)) (omega arith), eight, f)
+
+  -- the due time is tested with the fields
+  pub node-in : {n : ℕ} → n ≡ t .node → n < length (d .nodes) → heldInRange (t .value) ≡ true
+      → (forAll (λ (b : Bind). slotInRange 32 (b .slot)) (t .binds)
+      and placeInRange 64 (t .caller)
+      and placeInRange 32 (t .cell)
+      and stateInRange 32 (m .calls) (t .state)
+      and dueInRange (m .clock) (t .state))
+      ≡ (tokenInRange paper d (m .calls) t and dueInRange (m .clock) (t .state))
+  node-in e l f =
+      sym (ap (λ b. b and dueInRange (m .clock) (t .state)) (fields-in e l f)
+      ∙ and-assoc _ _ _
+      ∙ ap (_and_ _) (and-assoc _ _ _ ∙ ap (_and_ _) (and-assoc _ _ _)))
+
+pub due-last : (r u a n w : Bool) → ((r and u) and a and n and w) ≡ (r and a and n and w and u)
+due-last r u a n w =
+    same-when _ _ (λ e. search (and-left, and-right, and-both) depth 9) (λ e. search (and-left, and-right, and-both) depth 9)
 
 module _ (cs : List Cell) (c : Cell) where
   pub cell-blank : cellIsBlank c ≡ true → cellRule cs c ≡ true

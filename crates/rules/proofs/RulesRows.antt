@@ -19,17 +19,17 @@ use Rattle.job.proofs.Both.{both, both-is, and-true, and-false, regroup}
 use Rattle.job.proofs.Test.{and-left}
 use Rattle.record.specs.Layout.{stateKind}
 use Rattle.row_rules.specs.RowRules.{tokenRule}
-use Rattle.rules.specs.OrderCounts.{namedByBoth}
+use Rattle.rules.specs.OrderCounts.{namedByOrders}
 use Rattle.rules.proofs.OrderCounts.{from-turn}
 use Rattle.rules.proofs.RestBlank.{passed, pass-turn, marked-one, other-one}
 use Rattle.model.proofs.Machine.Blanking.{state-blank}
 
-module _ (d : Dag) (m : Machine) (used : List Bool) (queue waits : List ℕ) where
+module _ (d : Dag) (m : Machine) (used : List Bool) (queue waits timers : List ℕ) where
   abbrev rule : Token → Bool
   rule = tokenRule d m
 
   abbrev named : ℕ → Bool
-  named i = allFrom (namedByBoth queue waits) 0 (take i (m .tokens))
+  named i = allFrom (namedByOrders queue waits timers) 0 (take i (m .tokens))
 
   -- the first i pass
   abbrev pub seen : ℕ → Bool
@@ -41,13 +41,13 @@ module _ (d : Dag) (m : Machine) (used : List Bool) (queue waits : List ℕ) whe
 
   seen-turn : (i : ℕ) {ok b a : Bool} → i < length used → i < length (m .tokens) → ok ≡ seen i
       → b ≡ (rule (tokenAt (m .tokens) i) and (getD used i false || tokenIsBlank (tokenAt (m .tokens) i)))
-      → a ≡ namedByBoth queue waits i (tokenAt (m .tokens) i) → (ok && b && a) ≡ seen (i + 1)
+      → a ≡ namedByOrders queue waits timers i (tokenAt (m .tokens) i) → (ok && b && a) ≡ seen (i + 1)
   unfolding tokenAt
   seen-turn i {ok} {b} {a} k l e f g =
       ap (λ (o : Bool). o && b && a) (e ∙ sym (both-is _ _))
       ∙ shuffled (passed rule tokenIsBlank used (m .tokens) i) (named i) b a
       ∙ both (pass-turn rule tokenIsBlank used (m .tokens) i blankToken k l refl f)
-      (from-turn (namedByBoth queue waits) (m .tokens) i blankToken l refl g)
+      (from-turn (namedByOrders queue waits timers) (m .tokens) i blankToken l refl g)
     where
       shuffled : (x y b a : Bool) → ((x && y) && b && a) ≡ ((x && b) && (y && a))
       shuffled true true true a = refl
@@ -58,28 +58,36 @@ module _ (d : Dag) (m : Machine) (used : List Bool) (queue waits : List ℕ) whe
 
   -- a token in use is tested for its rules and its names
   pub used-turn : (i : ℕ) {ok b a : Bool} → i < length used → i < length (m .tokens) → ok ≡ seen i → getD used i false ≡ true
-      → b ≡ rule (tokenAt (m .tokens) i) → a ≡ namedByBoth queue waits i (tokenAt (m .tokens) i) → (ok && b && a) ≡ seen (i + 1)
+      → b ≡ rule (tokenAt (m .tokens) i) → a ≡ namedByOrders queue waits timers i (tokenAt (m .tokens) i) → (ok && b && a) ≡ seen (i + 1)
   used-turn i k l e u f g =
       seen-turn i k l e (f ∙ marked-one {used = getD used i false} (rule (tokenAt (m .tokens) i)) (tokenIsBlank (tokenAt (m .tokens) i)) u)
       g
 
-  -- any other for being blank and named by neither
+  -- any other for being blank and named by none
+  abbrev unnamed : ℕ → Bool
+  unnamed i = eqb (getD queue i 0) 0 and eqb (getD waits i 0) 0 and eqb (getD timers i 0) 0
+
   vacant : (i : ℕ) (t : Token) (b : Bool) → tokenIsBlank t ≡ b
-      → ((eqb (getD queue i 0) 0 and eqb (getD waits i 0) 0) and b) ≡ (b && namedByBoth queue waits i t)
+      → (unnamed i and b) ≡ (b && namedByOrders queue waits timers i t)
   unfolding tokenIsBlank
   vacant i t true e =
       let blank : t .state ≡ states.Blank = state-blank (t .state) (and-left (isBlankState (t .state)) _ e) in
-      and-true (eqb (getD queue i 0) 0 and eqb (getD waits i 0) 0)
-      ∙ ap (λ s. eqb (getD queue i 0) (once (eqb (stateKind s) 1)) and eqb (getD waits i 0) (once (eqb (stateKind s) 2))) (sym blank)
-  vacant i t false e = and-false (eqb (getD queue i 0) 0 and eqb (getD waits i 0) 0)
+      and-true (unnamed i)
+      ∙ ap
+      (λ s.
+      eqb (getD queue i 0) (once (eqb (stateKind s) 1))
+      and eqb (getD waits i 0) (once (eqb (stateKind s) 2))
+      and eqb (getD timers i 0) (once (eqb (stateKind s) 4)))
+      (sym blank)
+  vacant i t false e = and-false (unnamed i)
 
   pub vacant-turn : (i : ℕ) {ok v : Bool} → i < length used → i < length (m .tokens) → ok ≡ seen i → getD used i false ≡ false
       → (tokenIsBlank (tokenAt (m .tokens) i) ≡ true → rule (tokenAt (m .tokens) i) ≡ true)
-      → v ≡ ((eqb (getD queue i 0) 0 and eqb (getD waits i 0) 0) and tokenIsBlank (tokenAt (m .tokens) i)) → (ok && v) ≡ seen (i + 1)
+      → v ≡ (unnamed i and tokenIsBlank (tokenAt (m .tokens) i)) → (ok && v) ≡ seen (i + 1)
   vacant-turn i {ok} {v} k l e u f g =
       let t = tokenAt (m .tokens) i in
       ap (λ (x : Bool). ok && x) (g ∙ vacant i t (tokenIsBlank t) refl)
-      ∙ sym (grouped ok (tokenIsBlank t) (namedByBoth queue waits i t))
+      ∙ sym (grouped ok (tokenIsBlank t) (namedByOrders queue waits timers i t))
       ∙ seen-turn i k l e (other-one {used = getD used i false} (rule t) (tokenIsBlank t) u f) refl
     where
       grouped : (a b c : Bool) → (a && b && c) ≡ (a && (b && c))
@@ -87,10 +95,10 @@ module _ (d : Dag) (m : Machine) (used : List Bool) (queue waits : List ℕ) whe
       grouped false b c = refl
 
   pub seen-done : (i : ℕ) → length (m .tokens) ≤ i
-      → seen i ≡ ((forAll rule (m .tokens) and restIsBlank tokenIsBlank used (m .tokens)) and allFrom (namedByBoth queue waits) 0
+      → seen i ≡ ((forAll rule (m .tokens) and restIsBlank tokenIsBlank used (m .tokens)) and allFrom (namedByOrders queue waits timers) 0
       (m .tokens))
   seen-done i l =
-      ap (λ (ts : List Token). (forAll rule ts and restIsBlank tokenIsBlank used ts) and allFrom (namedByBoth queue waits) 0 ts)
+      ap (λ (ts : List Token). (forAll rule ts and restIsBlank tokenIsBlank used ts) and allFrom (namedByOrders queue waits timers) 0 ts)
       (take-all i (m .tokens) l)
 
 -- two tests of each element with its index

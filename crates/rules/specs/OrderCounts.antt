@@ -12,6 +12,6 @@ use Rattle.record.specs.Layout.{stateKind}
 abbrev pub namedAs : (kind : ℕ) → (counts : List ℕ) → ℕ → Token → Bool
 namedAs kind counts p t = eqb (getD counts p 0) (once (eqb (stateKind (t .state)) kind))
 
--- the queue names the ready ones, the wait order those that wait
-abbrev pub namedByBoth : (queue waits : List ℕ) → ℕ → Token → Bool
-namedByBoth queue waits p t = namedAs 1 queue p t and namedAs 2 waits p t
+-- the queue names the ready ones, the wait order those that wait, the order of call those that are due later
+abbrev pub namedByOrders : (queue waits timers : List ℕ) → ℕ → Token → Bool
+namedByOrders queue waits timers p t = namedAs 1 queue p t and namedAs 2 waits p t and namedAs 4 timers p t

@@ -2,6 +2,7 @@
 ghost use Rattle.rules.specs.Tested.{Tested};
 use crate::cells::cells_hold;
 use crate::order::queue_order;
+use crate::order::timer_order;
 use crate::order::wait_order;
 use crate::tokens::tokens_hold;
 use coded::word_tests::whole;
@@ -25,9 +26,11 @@ pub fn rules_hold(
     }
     let queue = queue_order(w);
     let waits = wait_order(w);
+    let timers = timer_order(w);
     let ready = queue.counts;
     let delayed = waits.counts;
-    let orders = queue.ok & waits.ok;
-    let tables = tokens_hold(w, tokens, dag, &ready, &delayed) & cells_hold(w, cells);
+    let due = timers.counts;
+    let orders = queue.ok & waits.ok & timers.ok;
+    let tables = tokens_hold(w, tokens, dag, &ready, &delayed, &due) & cells_hold(w, cells);
     tables & sizes_in_range(w) & orders
 }

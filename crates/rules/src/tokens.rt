@@ -14,7 +14,7 @@ ghost use Rattle.record.specs.Holds.{Codes};
 ghost use Rattle.coded.specs.WordTests.{tokenCoded};
 ghost use Rattle.row_rules.specs.ValuesFit.{ValuesFit};
 ghost use Rattle.row_rules.specs.RowRules.{tokenRule};
-ghost use Rattle.rules.specs.OrderCounts.{namedByBoth};
+ghost use Rattle.rules.specs.OrderCounts.{namedByOrders};
 use crate::handles::all_differ;
 use crate::order::counts_agree;
 use coded::word_tests::token_coded;
@@ -43,13 +43,14 @@ fn token_holds(w: &[u32; Machine::WORDS], p: usize, dag: &[u32]) -> bool
     token_coded(w, p) & token_in_range(w, p) & at_node(w, p, wide(at), dag) & is_free(w, p)
 }
 
-// A place that is not in use: blank, and named by neither order.
-fn is_vacant(w: &[u32; Machine::WORDS], p: usize, queue: u8, waits: u8) -> bool
+// A place that is not in use: blank, and named by no order.
+fn is_vacant(w: &[u32; Machine::WORDS], p: usize, queue: u8, waits: u8, timers: u8) -> bool
     requires { ⌜ p < 64 ⌝ }
     ensures { λ r. ⌜ (r ≡ true → tokenCoded (now (w .entry)) p ≡ true)
-        × ((m : Machine) → Codes (now (w .entry)) m → r ≡ ((eqb queue 0 and eqb waits 0) and tokenIsBlank (tokenAt (m .tokens) p))) ⌝ }
+        × ((m : Machine) → Codes (now (w .entry)) m
+        → r ≡ ((eqb queue 0 and eqb waits 0 and eqb timers 0) and tokenIsBlank (tokenAt (m .tokens) p))) ⌝ }
 {
-    (queue == 0) & (waits == 0) & token_is_blank(w, p)
+    (queue == 0) & (waits == 0) & (timers == 0) & token_is_blank(w, p)
 }
 
 // How many handles a token in that state has.
@@ -66,12 +67,14 @@ pub(crate) fn tokens_hold(
     dag: &[u32],
     queue: &[u8; Machine::TOKENS],
     waits: &[u8; Machine::TOKENS],
+    timers: &[u8; Machine::TOKENS],
 ) -> bool
     requires { ⌜ (length (now dag) ≡ 12331) × (dagHolds (dagOf (now dag)) ≡ true) ⌝ }
     ensures { λ r. ⌜ (r ≡ true → (p : ℕ) → p < 64 → tokenCoded (now (w .entry)) p ≡ true)
         × ((m : Machine) → ValuesFit (now (w .entry)) m → length (now (used .entry)) ≡ 64
         → r ≡ (((forAll (tokenRule (dagOf (now (dag .entry))) m) (m .tokens) and restIsBlank tokenIsBlank (now (used .entry)) (m .tokens))
-        and allFrom (namedByBoth (now (queue .entry)) (now (waits .entry))) 0 (m .tokens)) and distinct (openHandles (m .tokens)))) ⌝ }
+        and allFrom (namedByOrders (now (queue .entry)) (now (waits .entry)) (now (timers .entry))) 0 (m .tokens))
+        and distinct (openHandles (m .tokens)))) ⌝ }
 {
     let mut handles = [0u32; Machine::TOKENS];
     let mut count: usize = 0;
@@ -80,11 +83,11 @@ pub(crate) fn tokens_hold(
     while i < Machine::TOKENS {
         if used[i] {
             let kind = state(w, i);
-            ok = ok & token_holds(w, i, dag) & counts_agree(kind, queue[i], waits[i]);
+            ok = ok & token_holds(w, i, dag) & counts_agree(kind, queue[i], waits[i], timers[i]);
             handles[count] = state_number(w, i);
             count += handles_of(kind);
         } else {
-            ok = ok & is_vacant(w, i, queue[i], waits[i]);
+            ok = ok & is_vacant(w, i, queue[i], waits[i], timers[i]);
         }
         i += 1;
     }

@@ -4,7 +4,7 @@ use mathlib.Core.Path.{refl, sym, _∙_, ap}
 use native.Mathlib.Omega.{arith}
 use Rattle.model.specs.Machine.Blank.{tokenAt}
 use Rattle.job.specs.Words.{dagOf}
-use Rattle.rules.proofs.OneRow.{node-past, node-in}
+use Rattle.rules.proofs.OneRow.{node-past, node-in, due-last}
 use Rattle.rules.proofs.RestBlank.{first-true}
 use Rattle.coded.proofs.IsRecordRows.{codes-token}
 use Rattle.job.proofs.Both.{three}
@@ -46,9 +46,10 @@ returns-2 c =
           ap (λ (b : Bool). b && ranged && placed && c .is-free .result) (words ∙ codes-token (h .codes) (start .p) (search needs))
           ∙ three
           (place3 .token-in-range .ensures m h
-          ∙ sym (node-in d m t (h .codes .shaped .binds _) node (omega (arith, nodes-length (start .dag .now))) (h .values (start .p))))
+          ∙ node-in d m t (h .codes .shaped .binds _) node (omega (arith, nodes-length (start .dag .now))) (h .values (start .p)))
           (c .before .at-node .ensures m (h .codes) (place2 .wide .ensures ∙ node))
-          (c .is-free .ensures m (h .codes)),
+          (c .is-free .ensures m (h .codes))
+          ∙ due-last _ _ _ _ _,
     )
 
 pub token-holds-spec : {M : Type 1} → statement M

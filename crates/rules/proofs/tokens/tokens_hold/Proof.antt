@@ -26,16 +26,16 @@ use Rattle.rules.proofs.tokens.tokens_hold.Statement.{statement}
 use Rattle.rules.proofs.tokens.tokens_hold.Tie as tie
 
 abbrev Inv-loop : tie.InvT-loop
-Inv-loop w used dag queue waits handles₀ count₀ ok₀ i₀ handles count ok i =
+Inv-loop w used dag queue waits timers handles₀ count₀ ok₀ i₀ handles count ok i =
     (i ≤ 64)
     × (count ≤ i)
     × (length handles ≡ 64)
     × (ok ≡ true → (p : ℕ) → p < i → tokenCoded w p ≡ true)
-    × ((m : Machine) → ValuesFit w m → length used ≡ 64 → ok ≡ seen (dagOf dag) m used queue waits i)
+    × ((m : Machine) → ValuesFit w m → length used ≡ 64 → ok ≡ seen (dagOf dag) m used queue waits timers i)
     × ((m : Machine) → ValuesFit w m → ok ≡ true → take count handles ≡ openHandles (take i (m .tokens)))
 
 abbrev μ-loop : tie.MeasureT-loop
-μ-loop w used dag queue waits handles₀ count₀ ok₀ i₀ handles count ok i = 64 - i
+μ-loop w used dag queue waits timers handles₀ count₀ ok₀ i₀ handles count ok i = 64 - i
 
 loop-holds : tie.Need-loop-holds Inv-loop μ-loop
 unfolding openHandles
@@ -45,7 +45,7 @@ loop-holds c =
       search needs,
       refl,
       λ e p l. absurd (omega arith),
-      λ m h l. seen-none (dagOf (args .dag .now)) m (args .used .now) (args .queue .now) (args .waits .now),
+      λ m h l. seen-none (dagOf (args .dag .now)) m (args .used .now) (args .queue .now) (args .waits .now) (args .timers .now),
       λ m h e. refl,
     )
 
@@ -60,59 +60,64 @@ loop-again c =
     let now = place3 .loop in
     let queue = args .queue .now in
     let waits = args .waits .now in
+    let timers = args .timers .now in
     let room : now .count < length (now .handles) = omega arith in (
       search needs,
       ⊎-elim
-          (λ w. omega (arith, w .7 .ensures .1, w .9))
-          (λ w. omega (arith, w .5)) (c .if1 .came),
+          (λ w. omega (arith, w .8 .ensures .1, w .10))
+          (λ w. omega (arith, w .6)) (c .if1 .came),
       ⊎-elim
-          (λ w. ap length (w .8) ∙ length-set (now .handles) _ _ ∙ now .inv .2)
-          (λ w. ap length (w .4) ∙ now .inv .2) (c .if1 .came),
+          (λ w. ap length (w .9) ∙ length-set (now .handles) _ _ ∙ now .inv .2)
+          (λ w. ap length (w .5) ∙ now .inv .2) (c .if1 .came),
       λ e.
           ⊎-elim
           (λ w.
-          let f = first-true (now .ok && w .2 .result) (w .5 .result) (sym (w .10) ∙ e) in
+          let f = first-true (now .ok && w .2 .result) (w .6 .result) (sym (w .11) ∙ e) in
           below-more _ _ (now .inv .3 (first-true (now .ok) (w .2 .result) f)) (w .2 .ensures .0 (second-true (now .ok) (w .2 .result) f)))
           (λ w.
-          let f = sym (w .6) ∙ e in
-          below-more _ _ (now .inv .3 (first-true (now .ok) (w .3 .result) f)) (w .3 .ensures .0 (second-true (now .ok) (w .3 .result) f)))
+          let f = sym (w .7) ∙ e in
+          below-more _ _ (now .inv .3 (first-true (now .ok) (w .4 .result) f)) (w .4 .ensures .0 (second-true (now .ok) (w .4 .result) f)))
           (c .if1 .came),
       λ m h l.
           let inside : now .i < length (m .tokens) = omega (arith, h .codes .shaped .tokens) in
           ⊎-elim
           (λ w.
-          w .10
-          ∙ used-turn (dagOf (args .dag .now)) m (args .used .now) queue waits (now .i) (omega arith) inside (now .inv .4 m h l)
+          w .11
+          ∙ used-turn (dagOf (args .dag .now)) m (args .used .now) queue waits timers (now .i) (omega arith) inside (now .inv .4 m h l)
           (w .0 .taken)
           (w .2 .ensures .1 m h)
-          (w .5 .ensures
-          ∙ ap (λ k. eqb (getD queue (now .i) 0) (once (eqb k 1)) and eqb (getD waits (now .i) 0) (once (eqb k 2)))
+          (w .6 .ensures
+          ∙ ap
+          (λ k.
+          eqb (getD queue (now .i) 0) (once (eqb k 1))
+          and eqb (getD waits (now .i) 0) (once (eqb k 2))
+          and eqb (getD timers (now .i) 0) (once (eqb k 4)))
           (w .1 .ensures m (h .codes))))
           (λ w.
-          w .6
-          ∙ vacant-turn (dagOf (args .dag .now)) m (args .used .now) queue waits (now .i) (omega arith) inside (now .inv .4 m h l)
+          w .7
+          ∙ vacant-turn (dagOf (args .dag .now)) m (args .used .now) queue waits timers (now .i) (omega arith) inside (now .inv .4 m h l)
           (w .0 .left)
           (token-blank (dagOf (args .dag .now)) m (tokenAt (m .tokens) (now .i)) (h .codes .shaped .binds (now .i))
           (place3 .before .before .pre .1))
-          (w .3 .ensures .1 m (h .codes)))
+          (w .4 .ensures .1 m (h .codes)))
           (c .if1 .came),
       λ m h e.
           let inside : now .i < length (m .tokens) = omega (arith, h .codes .shaped .tokens) in
           ⊎-elim
           (λ w.
-          let f = first-true (now .ok && w .2 .result) (w .5 .result) (sym (w .10) ∙ e) in
-          ap (take (c .if1 .count)) (w .8)
+          let f = first-true (now .ok && w .2 .result) (w .6 .result) (sym (w .11) ∙ e) in
+          ap (take (c .if1 .count)) (w .9)
           ∙ handle-more (m .tokens) (now .handles) (now .count) (now .i) blankToken inside room
-          (now .inv .5 m h (first-true (now .ok) (w .2 .result) f)) (w .6 .ensures m (h .codes)) (w .1 .ensures m (h .codes))
+          (now .inv .5 m h (first-true (now .ok) (w .2 .result) f)) (w .7 .ensures m (h .codes)) (w .1 .ensures m (h .codes))
           (c .if1 .count)
-          (w .9 ∙ ap (λ k. now .count + k) (w .7 .ensures .0)))
+          (w .10 ∙ ap (λ k. now .count + k) (w .8 .ensures .0)))
           (λ w.
-          let f = sym (w .6) ∙ e in
-          let blank = and-right (eqb (getD queue (now .i) 0) 0 and eqb (getD waits (now .i) 0) 0) _
-          (sym (w .3 .ensures .1 m (h .codes)) ∙ second-true (now .ok) (w .3 .result) f) in
-          ap (λ n. take n (c .if1 .handles)) (w .5)
-          ∙ ap (take (now .count)) (w .4)
-          ∙ blank-more (m .tokens) (now .i) blankToken inside blank (now .inv .5 m h (first-true (now .ok) (w .3 .result) f)))
+          let f = sym (w .7) ∙ e in
+          let blank = and-right (eqb (getD queue (now .i) 0) 0 and eqb (getD waits (now .i) 0) 0 and eqb (getD timers (now .i) 0) 0) _
+          (sym (w .4 .ensures .1 m (h .codes)) ∙ second-true (now .ok) (w .4 .result) f) in
+          ap (λ n. take n (c .if1 .handles)) (w .6)
+          ∙ ap (take (now .count)) (w .5)
+          ∙ blank-more (m .tokens) (now .i) blankToken inside blank (now .inv .5 m h (first-true (now .ok) (w .4 .result) f)))
           (c .if1 .came),
     )
 
@@ -127,7 +132,8 @@ returns c =
           where-true (last .ok) (c .all-differ .result) (distinct (openHandles (m .tokens)))
           (λ e. c .all-differ .ensures ∙ ap distinct (last .inv .5 m h e ∙ ap openHandles (take-all (last .i) (m .tokens) over)))
           ∙ ap (λ b. b and distinct (openHandles (m .tokens)))
-          (last .inv .4 m h l ∙ seen-done (dagOf (args .dag .now)) m (args .used .now) (args .queue .now) (args .waits .now)
+          (last .inv .4 m h l
+          ∙ seen-done (dagOf (args .dag .now)) m (args .used .now) (args .queue .now) (args .waits .now) (args .timers .now)
           (last .i) over),
     )
 
@@ -143,12 +149,14 @@ tokens-hold-spec =
     (λ c κs. search needs)
     (λ c. search needs)
     (λ c. search needs)
+    (λ c. search needs)
     (λ c κs. search needs)
     (λ c κs. search needs)
     (λ c. search needs)
     (λ c. search needs)
     (λ c κs. search needs)
     add-count
+    (λ c. search needs)
     (λ c. search needs)
     (λ c. search needs)
     (λ c κs. search needs)
