@@ -14,7 +14,7 @@ use Rattle.model.specs.declared.token.Place.{Place}
 use Rattle.model.specs.declared.cell.Cell.{Cell}
 use Rattle.model.specs.declared.record.Machine.{Machine}
 use Rattle.record.specs.Changes.{storeCell, unsetCell, setCell}
-use Rattle.record.specs.Layout.{cellRow, wordsOf, countWords, parts, placeNumber, heldKind, heldNumber}
+use Rattle.record.specs.Layout.{cellRow, wordsOf, countWords, clockWords, parts, placeNumber, heldKind, heldNumber}
 use Rattle.record.specs.Holds.{Codes, Holds}
 use Rattle.record.proofs.LayoutParts as parts-laws
 use Rattle.record.proofs.HoldsShape.{shaped, tables-hold}
@@ -27,7 +27,7 @@ module _ {ws : List ℕ} {m : Machine} (h : Codes ws m) (c : ℕ) (l : c < 32) w
   unfolding cellAt wordsOf
   cell-word j s =
       ap (λ r. getD r (1536 + 4 * c + j) 0) (h .words)
-      ∙ parts-laws.cells-get _ _ _ _ _ (h .shaped .tokens) (h .shaped .cells) (h .shaped .queue) (h .shaped .waits) c j l s
+      ∙ parts-laws.cells-get (parts-laws.sized (h .shaped)) c j l s
 
   pub parent-word : getD ws (1536 + 4 * c) 0 ≡ placeNumber (k .parent)
   unfolding cellRow
@@ -56,8 +56,8 @@ module _ {ws : List ℕ} (m : Machine) (k : Cell) (c : ℕ) (h : Holds ws (store
   here = getD-set-same (m .cells) c k blankCell (omega (arith, cells-long))
 
   becomes : (x : Cell) {xs : List ℕ}
-      → xs ≡ parts (m .tokens) (set (set (m .cells) c k) c x) (m .queue) (m .waits) (countWords m) → Holds xs (storeCell c x m)
-  unfolding withTables countWords
+      → xs ≡ parts (m .tokens) (set (set (m .cells) c k) c x) (m .queue) (m .waits) (countWords m) (m .timers) (clockWords m) → Holds xs (storeCell c x m)
+  unfolding withTables countWords clockWords
   becomes x {xs} e =
       subst (λ cs. Holds xs (withTables (m .tokens) cs m)) (set-set (m .cells) c k x)
       (tables-hold h (m .tokens) (set (set (m .cells) c k) c x) e (shaped h .tokens)
@@ -65,21 +65,21 @@ module _ {ws : List ℕ} (m : Machine) (k : Cell) (c : ℕ) (h : Holds ws (store
 
   pub parent-put : (n : ℕ) (q : Place) → placeNumber q ≡ n
       → Holds (set ws (1536 + 4 * c) n) (storeCell c (record { parent = q; value = k .value }) m)
-  unfolding withTables wordsOf countWords cellRow
+  unfolding withTables wordsOf countWords clockWords cellRow
   parent-put n q e =
       let z : 1536 + 4 * c ≡ 1536 + 4 * c + 0 = omega arith in
       becomes (record { parent = q; value = k .value })
       (ap₂ (λ r i. set r i n) (h .codes .words) z
-      ∙ parts-laws.cells-set _ _ _ _ _ (shaped h .tokens) (shaped h .cells) (shaped h .queue) (shaped h .waits) c 0 l (omega arith) n
+      ∙ parts-laws.cells-set (parts-laws.sized (shaped h)) c 0 l (omega arith) n
       (record { parent = q; value = k .value }) (ap (λ x. set (cellRow x) 0 n) here ∙ rw (← e)))
 
   pub value-put : (i n : ℕ) (v : Held) → heldKind v ≡ i → heldNumber v ≡ n
       → Holds (set (set ws (1536 + 4 * c + 1) i) (1536 + 4 * c + 2) n) (storeCell c (setCell v k) m)
-  unfolding withTables wordsOf countWords cellRow
+  unfolding withTables wordsOf countWords clockWords cellRow
   value-put i n v e f =
       becomes (setCell v k)
       (ap (λ r. set (set r (1536 + 4 * c + 1) i) (1536 + 4 * c + 2) n) (h .codes .words)
-      ∙ parts-laws.cells-set2 _ _ _ _ _ (shaped h .tokens) (shaped h .cells) (shaped h .queue) (shaped h .waits) c 1 2 i n (setCell v k) l
+      ∙ parts-laws.cells-set2 (parts-laws.sized (shaped h)) c 1 2 i n (setCell v k) l
       (omega arith)
       (omega arith) (ap (λ x. set (set (cellRow x) 1 i) 2 n) here ∙ rw (← e, ← f)))
 

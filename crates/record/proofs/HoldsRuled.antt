@@ -12,8 +12,8 @@ use Rattle.job.specs.Test.{_and_, forAll, padded}
 use Rattle.job.specs.Node.{Dag}
 use Rattle.model.specs.Machine.Limits.{Limits}
 use Rattle.model.specs.Machine.Rules.{namesOnce, rulesHold}
-use Rattle.model.specs.Machine.State.{isReady, isWaiting}
-use Rattle.model.specs.Machine.Update.{queueOf, waitsOf}
+use Rattle.model.specs.Machine.State.{isReady, isWaiting, isDue}
+use Rattle.model.specs.Machine.Update.{queueOf, waitsOf, timersOf}
 use Rattle.model.specs.declared.token.State.{State}
 use Rattle.model.specs.declared.token.Token.{Token}
 use Rattle.model.specs.declared.record.Machine.{Machine}
@@ -43,7 +43,7 @@ module _ (of : State → Bool) (ts : List Token) (array : List ℕ) (n : ℕ) (e
 
 module _ (lim : Limits) (d : Dag) (m : Machine) (holds : rulesHold lim d m ≡ true) where
   pub rules-ordered : Ordered m
-  unfolding queueOf waitsOf
+  unfolding queueOf waitsOf timersOf
   rules-ordered =
       let r = each-rule-holds lim d m holds in
       record {
@@ -51,6 +51,8 @@ module _ (lim : Limits) (d : Dag) (m : Machine) (holds : rulesHold lim d m ≡ t
         queued = count-is isReady (m .tokens) (m .queue) (m .queued) (r .queue);
         waits = padded-is isWaiting (m .tokens) (m .waits) (m .waiting) (r .waits);
         waiting = count-is isWaiting (m .tokens) (m .waits) (m .waiting) (r .waits);
+        timers = padded-is isDue (m .tokens) (m .timers) (m .timed) (r .timers);
+        timed = count-is isDue (m .tokens) (m .timers) (m .timed) (r .timers);
       }
 
   pub rules-hold-words : {ws : List ℕ} → Codes ws m → Holds ws m

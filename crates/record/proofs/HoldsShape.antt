@@ -5,16 +5,15 @@ use mathlib.Core.List.{List, [], _∷_}
 use Prim.Native.Nat.{ℕ, _-_, _<_, _≤_}
 use native.Mathlib.Decide.{ℕ-discrete}
 use native.Mathlib.Omega.{arith}
-use lib.ListN.{length, getD, set, replicate, length-append}
-use lib.Seq.{getD-set-same, getD-set-other}
+use lib.ListN.{length, getD, set, take, replicate, length-append}
+use lib.Seq.{getD-set-same, getD-set-other, take-append-seam}
 use Rattle.job.specs.Test.{padded}
 use Rattle.model.specs.Machine.Blank.{blankToken, tokenAt}
-use Rattle.model.specs.Machine.Update.{withTables, withCounts, withOrders, queueOf, waitsOf}
+use Rattle.model.specs.Machine.Update.{withTables, withCounts, withOrders, withTimers, withClock, queueOf, waitsOf, timersOf}
 use Rattle.model.specs.declared.token.Token.{Token}
 use Rattle.model.specs.declared.cell.Cell.{Cell}
 use Rattle.model.specs.declared.record.Machine.{Machine}
-use Rattle.model.proofs.Keeps.Orders.{Orders, queue-is, waits-are, orders-with, orders-tables, orders-counts}
-use Rattle.record.specs.Layout.{countWords, parts, wordsOf}
+use Rattle.record.specs.Layout.{countWords, clockWords, parts, wordsOf}
 use Rattle.record.specs.Holds.{Shaped, Ordered, Holds}
 use Rattle.orders.proofs.NamesPadded.{padded-long}
 
@@ -22,52 +21,68 @@ padded-short : (xs : List ℕ) (n : ℕ) → length (padded 0 n xs) ≡ n → le
 unfolding padded
 padded-short xs n l = let a = length-append xs (replicate (n - length xs) 0) in omega (arith, a)
 
--- the model's orders, with the names that the record itself has
-pub ordered-of : {m : Machine} {q w : List ℕ} → Orders m q w → Ordered m
-ordered-of {m} {q} {w} o =
-    record {
-      queue = o .queue ∙ ap (padded 0 (length (m .tokens))) (sym (queue-is o));
-      queued = o .queued ∙ ap length (sym (queue-is o));
-      waits = o .waits ∙ ap (padded 0 (length (m .tokens))) (sym (waits-are o));
-      waiting = o .waiting ∙ ap length (sym (waits-are o));
-    }
-
-pub orders-of : {m : Machine} → Ordered m → Orders m (queueOf m) (waitsOf m)
-orders-of o = record { queue = o .queue; queued = o .queued; waits = o .waits; waiting = o .waiting }
+-- the names of an array that was made of them
+names-are : (xs : List ℕ) (n : ℕ) → xs ≡ take (length xs) (padded 0 n xs)
+unfolding padded
+names-are xs n = sym (take-append-seam xs _)
 
 module _ {ws : List ℕ} {m : Machine} (h : Holds ws m) where
   pub shaped : Shaped m
   shaped = h .codes .shaped
 
+  abbrev o : Ordered m
+  o = h .ordered
+
+  fit : (array names : List ℕ) → length array ≡ 64 → array ≡ padded 0 (length (m .tokens)) names → length names ≤ 64
+  fit array names l e =
+      padded-short names 64 (ap (λ n. length (padded 0 n names)) (sym (shaped .tokens)) ∙ ap length (sym e) ∙ l)
+
   pub queue-fits : length (queueOf m) ≤ 64
-  queue-fits =
-      padded-short (queueOf m) 64
-      (ap (λ n. length (padded 0 n (queueOf m))) (sym (shaped .tokens)) ∙ ap length (sym (h .ordered .queue)) ∙ shaped .queue)
+  queue-fits = fit (m .queue) (queueOf m) (shaped .queue) (o .queue)
 
   pub waits-fit : length (waitsOf m) ≤ 64
-  waits-fit =
-      padded-short (waitsOf m) 64
-      (ap (λ n. length (padded 0 n (waitsOf m))) (sym (shaped .tokens)) ∙ ap length (sym (h .ordered .waits)) ∙ shaped .waits)
+  waits-fit = fit (m .waits) (waitsOf m) (shaped .waits) (o .waits)
+
+  pub timers-fit : length (timersOf m) ≤ 64
+  timers-fit = fit (m .timers) (timersOf m) (shaped .timers) (o .timers)
 
   -- other tables
   pub tables-hold : (ts : List Token) (cs : List Cell) {xs : List ℕ}
-      → xs ≡ parts ts cs (m .queue) (m .waits) (countWords m) → length ts ≡ 64 → length cs ≡ 32
+      → xs ≡ parts ts cs (m .queue) (m .waits) (countWords m) (m .timers) (clockWords m) → length ts ≡ 64 → length cs ≡ 32
       → ((p : ℕ) → length (tokenAt ts p .binds) ≡ 8) → Holds xs (withTables ts cs m)
-  unfolding withTables wordsOf countWords
+  unfolding withTables wordsOf countWords clockWords queueOf waitsOf timersOf
   tables-hold ts cs e l k b =
+      let n : length (m .tokens) ≡ length ts = shaped .tokens ∙ sym l in
       record {
         codes =
             record {
               words = e;
-              shaped = record { tokens = l; cells = k; queue = shaped .queue; waits = shaped .waits; binds = b };
+              shaped =
+                  record {
+                    tokens = l;
+                    cells = k;
+                    queue = shaped .queue;
+                    waits = shaped .waits;
+                    timers = shaped .timers;
+                    binds = b;
+                  };
             };
-        ordered = ordered-of (orders-tables (orders-of (h .ordered)) ts cs (l ∙ sym (shaped .tokens)));
+        ordered =
+            record {
+              queue = o .queue ∙ ap (λ i. padded 0 i (queueOf m)) n;
+              queued = o .queued;
+              waits = o .waits ∙ ap (λ i. padded 0 i (waitsOf m)) n;
+              waiting = o .waiting;
+              timers = o .timers ∙ ap (λ i. padded 0 i (timersOf m)) n;
+              timed = o .timed;
+            };
       }
 
   -- other counts
   pub counts-hold : (n p c : ℕ) {xs : List ℕ}
-      → xs ≡ parts (m .tokens) (m .cells) (m .queue) (m .waits) (m .queued ∷ m .waiting ∷ n ∷ p ∷ c ∷ []) → Holds xs (withCounts n p c m)
-  unfolding withCounts wordsOf countWords
+      → xs ≡ parts (m .tokens) (m .cells) (m .queue) (m .waits) (m .queued ∷ m .waiting ∷ n ∷ p ∷ c ∷ []) (m .timers) (clockWords m)
+      → Holds xs (withCounts n p c m)
+  unfolding withCounts wordsOf countWords clockWords queueOf waitsOf timersOf
   counts-hold n p c e =
       record {
         codes =
@@ -79,37 +94,128 @@ module _ {ws : List ℕ} {m : Machine} (h : Holds ws m) where
                     cells = shaped .cells;
                     queue = shaped .queue;
                     waits = shaped .waits;
+                    timers = shaped .timers;
                     binds = shaped .binds;
                   };
             };
-        ordered = ordered-of (orders-counts (orders-of (h .ordered)) n p c);
+        ordered =
+            record {
+              queue = o .queue;
+              queued = o .queued;
+              waits = o .waits;
+              waiting = o .waiting;
+              timers = o .timers;
+              timed = o .timed;
+            };
       }
+
+  -- another time
+  pub clock-holds : (t : ℕ) {xs : List ℕ}
+      → xs ≡ parts (m .tokens) (m .cells) (m .queue) (m .waits) (countWords m) (m .timers) (m .timed ∷ t ∷ []) → Holds xs (withClock t m)
+  unfolding withClock wordsOf countWords clockWords queueOf waitsOf timersOf
+  clock-holds t e =
+      record {
+        codes =
+            record {
+              words = e;
+              shaped =
+                  record {
+                    tokens = shaped .tokens;
+                    cells = shaped .cells;
+                    queue = shaped .queue;
+                    waits = shaped .waits;
+                    timers = shaped .timers;
+                    binds = shaped .binds;
+                  };
+            };
+        ordered =
+            record {
+              queue = o .queue;
+              queued = o .queued;
+              waits = o .waits;
+              waiting = o .waiting;
+              timers = o .timers;
+              timed = o .timed;
+            };
+      }
+
+  -- an order of these names
+  of-names : (xs : List ℕ) → padded 0 64 xs ≡ padded 0 (length (m .tokens)) xs
+  of-names xs = ap (λ k. padded 0 k xs) (sym (shaped .tokens))
+
+  of-size : (xs : List ℕ) → length xs ≤ 64 → length (padded 0 (length (m .tokens)) xs) ≡ 64
+  of-size xs l = ap length (sym (of-names xs)) ∙ padded-long xs 64 l
 
   -- other orders
   pub orders-hold : (q w : List ℕ) {xs : List ℕ} → length q ≤ 64 → length w ≤ 64
-      → xs ≡ parts (m .tokens) (m .cells) (padded 0 64 q) (padded 0 64 w) (length q ∷ length w ∷ m .calls ∷ m .lasttoken ∷ m .lastcell ∷ [])
-      → Holds xs (withOrders q w m)
-  unfolding withOrders wordsOf countWords
+      → xs
+      ≡ parts (m .tokens) (m .cells) (padded 0 64 q) (padded 0 64 w) (length q ∷ length w ∷ m .calls ∷ m .lasttoken ∷ m .lastcell ∷ [])
+      (m .timers) (clockWords m) → Holds xs (withOrders q w m)
+  unfolding withOrders wordsOf countWords clockWords queueOf waitsOf timersOf
   orders-hold q w {xs} a b e =
-      let n = sym (shaped .tokens) in
+      let n = length (m .tokens) in
       record {
         codes =
             record {
               words =
                   e
                   ∙ ap₂
-                  (λ x y. parts (m .tokens) (m .cells) x y (length q ∷ length w ∷ m .calls ∷ m .lasttoken ∷ m .lastcell ∷ []))
-                  (ap (λ k. padded 0 k q) n) (ap (λ k. padded 0 k w) n);
+                  (λ x y.
+                  parts (m .tokens) (m .cells) x y (length q ∷ length w ∷ m .calls ∷ m .lasttoken ∷ m .lastcell ∷ []) (m .timers)
+                  (clockWords m)) (of-names q) (of-names w);
               shaped =
                   record {
                     tokens = shaped .tokens;
                     cells = shaped .cells;
-                    queue = ap (λ k. length (padded 0 k q)) (shaped .tokens) ∙ padded-long q 64 a;
-                    waits = ap (λ k. length (padded 0 k w)) (shaped .tokens) ∙ padded-long w 64 b;
+                    queue = of-size q a;
+                    waits = of-size w b;
+                    timers = shaped .timers;
                     binds = shaped .binds;
                   };
             };
-        ordered = ordered-of (orders-with q w m);
+        ordered =
+            record {
+              queue = ap (padded 0 n) (names-are q n);
+              queued = ap length (names-are q n);
+              waits = ap (padded 0 n) (names-are w n);
+              waiting = ap length (names-are w n);
+              timers = o .timers;
+              timed = o .timed;
+            };
+      }
+
+  -- another order of call
+  pub timers-hold : (l : List ℕ) {xs : List ℕ} → length l ≤ 64
+      → xs ≡ parts (m .tokens) (m .cells) (m .queue) (m .waits) (countWords m) (padded 0 64 l) (length l ∷ m .clock ∷ [])
+      → Holds xs (withTimers l m)
+  unfolding withTimers wordsOf countWords clockWords queueOf waitsOf timersOf
+  timers-hold l a e =
+      let n = length (m .tokens) in
+      record {
+        codes =
+            record {
+              words =
+                  e
+                  ∙ ap (λ x. parts (m .tokens) (m .cells) (m .queue) (m .waits) (countWords m) x (length l ∷ m .clock ∷ [])) (of-names l);
+              shaped =
+                  record {
+                    tokens = shaped .tokens;
+                    cells = shaped .cells;
+                    queue = shaped .queue;
+                    waits = shaped .waits;
+                    timers = of-size l a;
+                    binds = shaped .binds;
+                  };
+            };
+        ordered =
+            record {
+              queue = o .queue;
+              queued = o .queued;
+              waits = o .waits;
+              waiting = o .waiting;
+              timers = ap (padded 0 n) (names-are l n);
+              timed = ap length (names-are l n);
+            };
       }
 
 -- a token in its place

@@ -1,16 +1,19 @@
--- The five parts of the words: what is read and written in one of them. They stand one behind the other, so an index is in one of them
+-- The seven parts of the words: what is read and written in one of them. They stand one behind the other, so an index is in one of them
 -- only. Assumes nothing.
 use mathlib.Core.Path.{_≡_, refl, sym, ap, ap₂, _∙_}
-use mathlib.Core.List.{List, _++_, append-assoc}
+use mathlib.Core.List.{List, [], _++_, append-assoc, append-nil}
 use Prim.Native.Nat.{ℕ, _+_, _-_, _*_, _<_}
 use native.Mathlib.Omega.{arith}
 use lib.ListN.{length, getD, set, take, drop, length-append, length-set, List·getD-append}
-use lib.Seq.{set-append-left, take-at, drop-at, paste, take-append-le, drop-append-le}
+use lib.Seq.{set-append-left, paste, take-append-le, drop-append-le}
 use Rattle.model.specs.Machine.Blank.{blankToken, blankCell}
 use Rattle.model.specs.declared.token.Token.{Token}
 use Rattle.model.specs.declared.cell.Cell.{Cell}
-use Rattle.record.specs.Layout.{rowOf, cellRow, tableWords, parts}
+use Rattle.model.specs.declared.record.Machine.{Machine}
+use Rattle.record.specs.Layout.{rowOf, cellRow, tableWords, parts, countWords, clockWords}
+use Rattle.record.specs.Holds.{Shaped}
 use Rattle.record.proofs.LayoutTable.{rows-length, rows-get, rows-set, rows-set2, rows-paste, get-behind, set-behind}
+use Rattle.record.proofs.LayoutPart.{Stands}
 
 pub row-wide : (t : Token) → length (rowOf t) ≡ 24
 unfolding rowOf
@@ -20,204 +23,212 @@ pub cell-wide : (c : Cell) → length (cellRow c) ≡ 4
 unfolding cellRow
 cell-wide c = refl
 
-module _ (ts : List Token) (cs : List Cell) (q w k : List ℕ) (tl : length ts ≡ 64) (cl : length cs ≡ 32) (ql : length q ≡ 64)
-    (wl : length w ≡ 64) where
-  tokens-long : length (tableWords rowOf ts) ≡ 1536
-  tokens-long = rows-length rowOf 24 row-wide ts ∙ ap (λ n. 24 * n) tl
+-- how long each part is
+pub record Sized (ts : List Token) (cs : List Cell) (q w k l c : List ℕ) : Type 0 where
+  pub tokens : length ts ≡ 64
+  pub cells : length cs ≡ 32
+  pub queue : length q ≡ 64
+  pub waits : length w ≡ 64
+  pub counts : length k ≡ 5
+  pub timers : length l ≡ 64
+  pub clock : length c ≡ 2
 
-  cells-long : length (tableWords cellRow cs) ≡ 128
-  cells-long = rows-length cellRow 4 cell-wide cs ∙ ap (λ n. 4 * n) cl
+pub sized : {m : Machine} → Shaped m
+    → Sized (m .tokens) (m .cells) (m .queue) (m .waits) (countWords m) (m .timers) (clockWords m)
+unfolding countWords clockWords
+sized s =
+    record {
+      tokens = s .tokens;
+      cells = s .cells;
+      queue = s .queue;
+      waits = s .waits;
+      counts = refl;
+      timers = s .timers;
+      clock = refl;
+    }
 
-  -- what stands before the queue and before the counts
-  abbrev front : List ℕ
-  front = tableWords rowOf ts ++ tableWords cellRow cs
+module _ {ts : List Token} {cs : List Cell} {q w k l c : List ℕ} (z : Sized ts cs q w k l c) where
+  abbrev rows : List ℕ
+  rows = tableWords rowOf ts
 
-  pub front-long : length front ≡ 1664
-  front-long = length-append (tableWords rowOf ts) (tableWords cellRow cs) ∙ ap₂ (λ a b. a + b) tokens-long cells-long
+  abbrev cellRows : List ℕ
+  cellRows = tableWords cellRow cs
 
-  pub front-parts : parts ts cs q w k ≡ front ++ (q ++ (w ++ k))
+  tokens-long : length rows ≡ 1536
+  tokens-long = rows-length rowOf 24 row-wide ts ∙ ap (λ n. 24 * n) (z .tokens)
+
+  cells-long : length cellRows ≡ 128
+  cells-long = rows-length cellRow 4 cell-wide cs ∙ ap (λ n. 4 * n) (z .cells)
+
+  further : (xs ys : List ℕ) (n i : ℕ) → length xs ≡ n → length ys ≡ i → length (xs ++ ys) ≡ n + i
+  further xs ys n i a b = length-append xs ys ∙ ap₂ (λ a b. a + b) a b
+
+  -- what stands before the queue, the wait order, the counts, the order of call and the clock
+  abbrev beforeQueue : List ℕ
+  beforeQueue = rows ++ cellRows
+
+  abbrev beforeWaits : List ℕ
+  beforeWaits = beforeQueue ++ q
+
+  abbrev beforeCounts : List ℕ
+  beforeCounts = beforeWaits ++ w
+
+  abbrev beforeTimers : List ℕ
+  beforeTimers = beforeCounts ++ k
+
+  abbrev beforeClock : List ℕ
+  beforeClock = beforeTimers ++ l
+
+  queue-split : (r : List ℕ) → rows ++ (cellRows ++ r) ≡ beforeQueue ++ r
+  queue-split r = sym (append-assoc rows cellRows r)
+
+  waits-split : (r : List ℕ) → rows ++ (cellRows ++ (q ++ r)) ≡ beforeWaits ++ r
+  waits-split r = queue-split (q ++ r) ∙ sym (append-assoc beforeQueue q r)
+
+  counts-split : (r : List ℕ) → rows ++ (cellRows ++ (q ++ (w ++ r))) ≡ beforeCounts ++ r
+  counts-split r = waits-split (w ++ r) ∙ sym (append-assoc beforeWaits w r)
+
+  timers-split : (r : List ℕ) → rows ++ (cellRows ++ (q ++ (w ++ (k ++ r)))) ≡ beforeTimers ++ r
+  timers-split r = counts-split (k ++ r) ∙ sym (append-assoc beforeCounts k r)
+
+  clock-split : (r : List ℕ) → rows ++ (cellRows ++ (q ++ (w ++ (k ++ (l ++ r))))) ≡ beforeClock ++ r
+  clock-split r = timers-split (l ++ r) ∙ sym (append-assoc beforeTimers l r)
+
+  queue-at : length beforeQueue ≡ 1664
+  queue-at = further rows cellRows 1536 128 tokens-long cells-long
+
+  waits-at : length beforeWaits ≡ 1728
+  waits-at = further beforeQueue q 1664 64 queue-at (z .queue)
+
+  counts-at : length beforeCounts ≡ 1792
+  counts-at = further beforeWaits w 1728 64 waits-at (z .waits)
+
+  timers-at : length beforeTimers ≡ 1797
+  timers-at = further beforeCounts k 1792 5 counts-at (z .counts)
+
+  clock-at : length beforeClock ≡ 1861
+  clock-at = further beforeTimers l 1797 64 timers-at (z .timers)
+
+  pub queue-stands : Stands (λ x. parts ts cs x w k l c) 1664
   unfolding parts
-  front-parts = sym (append-assoc (tableWords rowOf ts) (tableWords cellRow cs) (q ++ (w ++ k)))
+  queue-stands = record { before = beforeQueue; after = w ++ (k ++ (l ++ c)); long = queue-at; split = λ x. queue-split _ }
 
-  abbrev before : List ℕ
-  before = (front ++ q) ++ w
+  pub waits-stand : Stands (λ x. parts ts cs q x k l c) 1728
+  unfolding parts
+  waits-stand = record { before = beforeWaits; after = k ++ (l ++ c); long = waits-at; split = λ x. waits-split _ }
 
-  before-long : length before ≡ 1792
-  before-long =
-      length-append (front ++ q) w
-      ∙ ap₂ (λ a b. a + b) (length-append front q ∙ ap₂ (λ a b. a + b) front-long ql) wl
+  pub counts-stand : Stands (λ x. parts ts cs q w x l c) 1792
+  unfolding parts
+  counts-stand = record { before = beforeCounts; after = l ++ c; long = counts-at; split = λ x. counts-split _ }
 
-  before-parts : parts ts cs q w k ≡ before ++ k
-  before-parts = front-parts ∙ sym (append-assoc front q (w ++ k)) ∙ sym (append-assoc (front ++ q) w k)
+  pub timers-stand : Stands (λ x. parts ts cs q w k x c) 1797
+  unfolding parts
+  timers-stand = record { before = beforeTimers; after = c; long = timers-at; split = λ x. timers-split _ }
+
+  pub clock-stands : Stands (λ x. parts ts cs q w k l x) 1861
+  unfolding parts
+  clock-stands =
+      record {
+        before = beforeClock;
+        after = [];
+        long = clock-at;
+        split = λ x. clock-split x ∙ ap (λ r. beforeClock ++ r) (sym (append-nil x));
+      }
+
+  pub parts-long : length (parts ts cs q w k l c) ≡ 1863
+  unfolding parts
+  parts-long = ap length (clock-split c) ∙ further beforeClock c 1861 2 clock-at (z .clock)
+
+  -- what stands behind the tokens and behind the cells
+  abbrev orderWords : List ℕ
+  orderWords = q ++ (w ++ (k ++ (l ++ c)))
 
   -- tokens
-  module _ (p j : ℕ) (l : p < 64) (s : j < 24) where
+  module _ (p j : ℕ) (b : p < 64) (s : j < 24) where
     token-there : p < length ts
-    token-there = omega (arith, tl)
+    token-there = omega (arith, z .tokens)
 
-    pub tokens-get : getD (parts ts cs q w k) (24 * p + j) 0 ≡ getD (rowOf (getD ts p blankToken)) j 0
+    pub tokens-get : getD (parts ts cs q w k l c) (24 * p + j) 0 ≡ getD (rowOf (getD ts p blankToken)) j 0
     unfolding parts
     tokens-get =
-        List·getD-append (tableWords rowOf ts) _ 0 (24 * p + j) (omega (arith, tokens-long))
+        List·getD-append rows _ 0 (24 * p + j) (omega (arith, tokens-long))
         ∙ rows-get rowOf 24 row-wide blankToken ts p j token-there s
 
     pub tokens-set :
         (v : ℕ) (t : Token) → set (rowOf (getD ts p blankToken)) j v ≡ rowOf t
-        → set (parts ts cs q w k) (24 * p + j) v ≡ parts (set ts p t) cs q w k
+        → set (parts ts cs q w k l c) (24 * p + j) v ≡ parts (set ts p t) cs q w k l c
     unfolding parts
     tokens-set v t e =
-        set-append-left (tableWords rowOf ts) _ (24 * p + j) v (omega (arith, tokens-long))
-        ∙ ap (λ r. r ++ (tableWords cellRow cs ++ (q ++ (w ++ k)))) (rows-set rowOf 24 row-wide blankToken ts p j v t token-there s e)
+        set-append-left rows _ (24 * p + j) v (omega (arith, tokens-long))
+        ∙ ap (λ r. r ++ (cellRows ++ orderWords)) (rows-set rowOf 24 row-wide blankToken ts p j v t token-there s e)
 
   -- a whole row is written
-  pub tokens-paste : (p : ℕ) (t : Token) → p < 64 → paste (parts ts cs q w k) (24 * p) (rowOf t) 24 ≡ parts (set ts p t) cs q w k
+  pub tokens-paste : (p : ℕ) (t : Token) → p < 64
+      → paste (parts ts cs q w k l c) (24 * p) (rowOf t) 24 ≡ parts (set ts p t) cs q w k l c
   unfolding parts
-  tokens-paste p t l =
+  tokens-paste p t b =
       ap₂ (λ a b. a ++ take 24 (rowOf t) ++ b)
-      (take-append-le (24 * p) (tableWords rowOf ts) _ (omega (arith, tokens-long)))
-      (drop-append-le (24 * p + 24) (tableWords rowOf ts) _ (omega (arith, tokens-long)))
-      ∙ sym (append-assoc (take (24 * p) (tableWords rowOf ts) ++ take 24 (rowOf t)) (drop (24 * p + 24) (tableWords rowOf ts)) _)
-      ∙ ap (λ r. r ++ (tableWords cellRow cs ++ (q ++ (w ++ k)))) (rows-paste rowOf 24 row-wide ts p t (omega (arith, tl)))
+      (take-append-le (24 * p) rows _ (omega (arith, tokens-long)))
+      (drop-append-le (24 * p + 24) rows _ (omega (arith, tokens-long)))
+      ∙ sym (append-assoc (take (24 * p) rows ++ take 24 (rowOf t)) (drop (24 * p + 24) rows) _)
+      ∙ ap (λ r. r ++ (cellRows ++ orderWords)) (rows-paste rowOf 24 row-wide ts p t (omega (arith, z .tokens)))
 
   -- cells
-  module _ (c j : ℕ) (l : c < 32) (s : j < 4) where
-    cell-there : c < length cs
-    cell-there = omega (arith, cl)
+  module _ (x j : ℕ) (b : x < 32) (s : j < 4) where
+    cell-there : x < length cs
+    cell-there = omega (arith, z .cells)
 
-    cell-index : 1536 + 4 * c + j ≡ 1536 + (4 * c + j)
+    cell-index : 1536 + 4 * x + j ≡ 1536 + (4 * x + j)
     cell-index = omega arith
 
-    pub cells-get : getD (parts ts cs q w k) (1536 + 4 * c + j) 0 ≡ getD (cellRow (getD cs c blankCell)) j 0
+    pub cells-get : getD (parts ts cs q w k l c) (1536 + 4 * x + j) 0 ≡ getD (cellRow (getD cs x blankCell)) j 0
     unfolding parts
     cells-get =
-        ap (λ i. getD (parts ts cs q w k) i 0) cell-index
-        ∙ get-behind (tableWords rowOf ts) _ 1536 tokens-long (4 * c + j) 0
-        ∙ List·getD-append (tableWords cellRow cs) _ 0 (4 * c + j) (omega (arith, cells-long))
-        ∙ rows-get cellRow 4 cell-wide blankCell cs c j cell-there s
+        ap (λ i. getD (parts ts cs q w k l c) i 0) cell-index
+        ∙ get-behind rows _ 1536 tokens-long (4 * x + j) 0
+        ∙ List·getD-append cellRows _ 0 (4 * x + j) (omega (arith, cells-long))
+        ∙ rows-get cellRow 4 cell-wide blankCell cs x j cell-there s
 
     pub cells-set :
-        (v : ℕ) (x : Cell) → set (cellRow (getD cs c blankCell)) j v ≡ cellRow x
-        → set (parts ts cs q w k) (1536 + 4 * c + j) v ≡ parts ts (set cs c x) q w k
+        (v : ℕ) (y : Cell) → set (cellRow (getD cs x blankCell)) j v ≡ cellRow y
+        → set (parts ts cs q w k l c) (1536 + 4 * x + j) v ≡ parts ts (set cs x y) q w k l c
     unfolding parts
-    cells-set v x e =
-        ap (λ i. set (parts ts cs q w k) i v) cell-index
-        ∙ set-behind (tableWords rowOf ts) _ 1536 tokens-long (4 * c + j) v
-        ∙ ap (λ r. tableWords rowOf ts ++ r)
-        (set-append-left (tableWords cellRow cs) _ (4 * c + j) v (omega (arith, cells-long))
-        ∙ ap (λ r. r ++ (q ++ (w ++ k))) (rows-set cellRow 4 cell-wide blankCell cs c j v x cell-there s e))
+    cells-set v y e =
+        ap (λ i. set (parts ts cs q w k l c) i v) cell-index
+        ∙ set-behind rows _ 1536 tokens-long (4 * x + j) v
+        ∙ ap (λ r. rows ++ r)
+        (set-append-left cellRows _ (4 * x + j) v (omega (arith, cells-long))
+        ∙ ap (λ r. r ++ orderWords) (rows-set cellRow 4 cell-wide blankCell cs x j v y cell-there s e))
 
-  -- the queue
-  pub queue-get : (i : ℕ) → i < 64 → getD (parts ts cs q w k) (1664 + i) 0 ≡ getD q i 0
-  queue-get i l =
-      ap (λ r. getD r (1664 + i) 0) front-parts
-      ∙ get-behind front _ 1664 front-long i 0
-      ∙ List·getD-append q _ 0 i (omega (arith, ql))
-
-  pub queue-set : (i v : ℕ) → i < 64 → set (parts ts cs q w k) (1664 + i) v ≡ parts ts cs (set q i v) w k
-  unfolding parts
-  queue-set i v l =
-      ap (λ r. set r (1664 + i) v) front-parts
-      ∙ set-behind front _ 1664 front-long i v
-      ∙ ap (λ r. front ++ r) (set-append-left q _ i v (omega (arith, ql)))
-      ∙ append-assoc (tableWords rowOf ts) (tableWords cellRow cs) (set q i v ++ (w ++ k))
-
-  -- a part is lent and written
-  pub queue-is : take 64 (drop 1664 (parts ts cs q w k)) ≡ q
-  queue-is =
-      ap (λ r. take 64 (drop 1664 r)) front-parts
-      ∙ ap (take 64) (drop-at front (q ++ (w ++ k)) 1664 front-long)
-      ∙ take-at q (w ++ k) 64 ql
-
-  pub queue-lent : (x : List ℕ) → take 1664 (parts ts cs q w k) ++ (x ++ drop 64 (drop 1664 (parts ts cs q w k))) ≡ parts ts cs x w k
-  unfolding parts
-  queue-lent x =
-      ap (λ r. take 1664 r ++ (x ++ drop 64 (drop 1664 r))) front-parts
-      ∙ ap₂ (λ a b. a ++ (x ++ drop 64 b)) (take-at front (q ++ (w ++ k)) 1664 front-long) (drop-at front (q ++ (w ++ k)) 1664 front-long)
-      ∙ ap (λ b. front ++ (x ++ b)) (drop-at q (w ++ k) 64 ql)
-      ∙ append-assoc (tableWords rowOf ts) (tableWords cellRow cs) (x ++ (w ++ k))
-
-  -- the counts
-  pub counts-get : (i : ℕ) → getD (parts ts cs q w k) (1792 + i) 0 ≡ getD k i 0
-  counts-get i = ap (λ r. getD r (1792 + i) 0) before-parts ∙ get-behind before k 1792 before-long i 0
-
-  pub counts-set : (i v : ℕ) → set (parts ts cs q w k) (1792 + i) v ≡ parts ts cs q w (set k i v)
-  unfolding parts
-  counts-set i v =
-      ap (λ r. set r (1792 + i) v) before-parts
-      ∙ set-behind before k 1792 before-long i v
-      ∙ append-assoc (front ++ q) w (set k i v)
-      ∙ append-assoc front q (w ++ set k i v)
-      ∙ append-assoc (tableWords rowOf ts) (tableWords cellRow cs) (q ++ (w ++ set k i v))
-
-  pub parts-long : length (parts ts cs q w k) ≡ 1792 + length k
-  parts-long = ap length before-parts ∙ length-append before k ∙ ap (λ n. n + length k) before-long
-
+  -- two words of a row are written
   pub tokens-set2 :
       (p j i u v : ℕ) (t : Token)
       → p < 64
       → j < 24
       → i < 24
       → set (set (rowOf (getD ts p blankToken)) j u) i v ≡ rowOf t
-      → set (set (parts ts cs q w k) (24 * p + j) u) (24 * p + i) v ≡ parts (set ts p t) cs q w k
+      → set (set (parts ts cs q w k l c) (24 * p + j) u) (24 * p + i) v ≡ parts (set ts p t) cs q w k l c
   unfolding parts
-  tokens-set2 p j i u v t l a b e =
-      ap (λ r. set r (24 * p + i) v) (set-append-left (tableWords rowOf ts) _ (24 * p + j) u (omega (arith, tokens-long)))
-      ∙ set-append-left (set (tableWords rowOf ts) (24 * p + j) u) _ (24 * p + i) v
-      (omega (arith, tokens-long, length-set (tableWords rowOf ts) (24 * p + j) u))
-      ∙ ap (λ r. r ++ (tableWords cellRow cs ++ (q ++ (w ++ k))))
-      (rows-set2 rowOf 24 row-wide blankToken ts p j i u v t (omega (arith, tl)) a b e)
+  tokens-set2 p j i u v t b x y e =
+      ap (λ r. set r (24 * p + i) v) (set-append-left rows _ (24 * p + j) u (omega (arith, tokens-long)))
+      ∙ set-append-left (set rows (24 * p + j) u) _ (24 * p + i) v (omega (arith, tokens-long, length-set rows (24 * p + j) u))
+      ∙ ap (λ r. r ++ (cellRows ++ orderWords))
+      (rows-set2 rowOf 24 row-wide blankToken ts p j i u v t (omega (arith, z .tokens)) x y e)
 
   pub cells-set2 :
-      (c j i u v : ℕ) (x : Cell)
-      → c < 32
+      (x j i u v : ℕ) (y : Cell)
+      → x < 32
       → j < 4
       → i < 4
-      → set (set (cellRow (getD cs c blankCell)) j u) i v ≡ cellRow x
-      → set (set (parts ts cs q w k) (1536 + 4 * c + j) u) (1536 + 4 * c + i) v ≡ parts ts (set cs c x) q w k
+      → set (set (cellRow (getD cs x blankCell)) j u) i v ≡ cellRow y
+      → set (set (parts ts cs q w k l c) (1536 + 4 * x + j) u) (1536 + 4 * x + i) v ≡ parts ts (set cs x y) q w k l c
   unfolding parts
-  cells-set2 c j i u v x l a b e =
-      ap (λ r. set r (1536 + 4 * c + i) v)
-      (ap (λ n. set (parts ts cs q w k) n u) (cell-index c j l a) ∙ set-behind (tableWords rowOf ts) _ 1536 tokens-long (4 * c + j) u)
-      ∙ ap (λ n. set (tableWords rowOf ts ++ set (tableWords cellRow cs ++ (q ++ (w ++ k))) (4 * c + j) u) n v) (cell-index c i l b)
-      ∙ set-behind (tableWords rowOf ts) _ 1536 tokens-long (4 * c + i) v
-      ∙ ap (λ r. tableWords rowOf ts ++ r)
-      (ap (λ r. set r (4 * c + i) v) (set-append-left (tableWords cellRow cs) _ (4 * c + j) u (omega (arith, cells-long)))
-      ∙ set-append-left (set (tableWords cellRow cs) (4 * c + j) u) _ (4 * c + i) v
-      (omega (arith, cells-long, length-set (tableWords cellRow cs) (4 * c + j) u))
-      ∙ ap (λ r. r ++ (q ++ (w ++ k))) (rows-set2 cellRow 4 cell-wide blankCell cs c j i u v x (omega (arith, cl)) a b e))
-
-  -- the wait order
-  ahead-long : length (front ++ q) ≡ 1728
-  ahead-long = length-append front q ∙ ap₂ (λ a b. a + b) front-long ql
-
-  ahead-parts : parts ts cs q w k ≡ (front ++ q) ++ (w ++ k)
-  ahead-parts = front-parts ∙ sym (append-assoc front q (w ++ k))
-
-  behind-parts : (x : List ℕ) → (front ++ q) ++ (x ++ k) ≡ parts ts cs q x k
-  unfolding parts
-  behind-parts x = append-assoc front q (x ++ k) ∙ append-assoc (tableWords rowOf ts) (tableWords cellRow cs) (q ++ (x ++ k))
-
-  pub waits-get : (i : ℕ) → i < 64 → getD (parts ts cs q w k) (1728 + i) 0 ≡ getD w i 0
-  waits-get i l =
-      ap (λ r. getD r (1728 + i) 0) ahead-parts ∙ get-behind (front ++ q) _ 1728 ahead-long i 0
-      ∙ List·getD-append w _ 0 i (omega (arith, wl))
-
-  pub waits-set : (i v : ℕ) → i < 64 → set (parts ts cs q w k) (1728 + i) v ≡ parts ts cs q (set w i v) k
-  waits-set i v l =
-      ap (λ r. set r (1728 + i) v) ahead-parts
-      ∙ set-behind (front ++ q) _ 1728 ahead-long i v
-      ∙ ap (λ r. (front ++ q) ++ r) (set-append-left w _ i v (omega (arith, wl)))
-      ∙ behind-parts (set w i v)
-
-  pub waits-is : take 64 (drop 1728 (parts ts cs q w k)) ≡ w
-  waits-is =
-      ap (λ r. take 64 (drop 1728 r)) ahead-parts
-      ∙ ap (take 64) (drop-at (front ++ q) (w ++ k) 1728 ahead-long)
-      ∙ take-at w k 64 wl
-
-  pub waits-lent : (x : List ℕ) → take 1728 (parts ts cs q w k) ++ (x ++ drop 64 (drop 1728 (parts ts cs q w k))) ≡ parts ts cs q x k
-  waits-lent x =
-      ap (λ r. take 1728 r ++ (x ++ drop 64 (drop 1728 r))) ahead-parts
-      ∙ ap₂ (λ a b. a ++ (x ++ drop 64 b)) (take-at (front ++ q) (w ++ k) 1728 ahead-long) (drop-at (front ++ q) (w ++ k) 1728 ahead-long)
-      ∙ ap (λ b. (front ++ q) ++ (x ++ b)) (drop-at w k 64 wl)
-      ∙ behind-parts x
+  cells-set2 x j i u v y b s t e =
+      ap (λ r. set r (1536 + 4 * x + i) v)
+      (ap (λ n. set (parts ts cs q w k l c) n u) (cell-index x j b s) ∙ set-behind rows _ 1536 tokens-long (4 * x + j) u)
+      ∙ ap (λ n. set (rows ++ set (cellRows ++ orderWords) (4 * x + j) u) n v) (cell-index x i b t)
+      ∙ set-behind rows _ 1536 tokens-long (4 * x + i) v
+      ∙ ap (λ r. rows ++ r)
+      (ap (λ r. set r (4 * x + i) v) (set-append-left cellRows _ (4 * x + j) u (omega (arith, cells-long)))
+      ∙ set-append-left (set cellRows (4 * x + j) u) _ (4 * x + i) v (omega (arith, cells-long, length-set cellRows (4 * x + j) u))
+      ∙ ap (λ r. r ++ orderWords) (rows-set2 cellRow 4 cell-wide blankCell cs x j i u v y (omega (arith, z .cells)) s t e))

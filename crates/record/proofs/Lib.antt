@@ -1,5 +1,6 @@
 -- Laws of the record's words: what a word says of the record, and what writing one does to it.
 pub mod LayoutTable
+pub mod LayoutPart
 pub mod LayoutParts
 pub mod HoldsShape
 pub mod TokenRow

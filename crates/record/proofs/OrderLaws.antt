@@ -1,6 +1,6 @@
--- The queue and the wait order: what their words say, and what a name that joins or leaves makes of them. An order is the first names of
--- its array, so both are changes of a list. Assumes nothing.
-use mathlib.Core.Path.{_≡_, sym, ap, ap₂, _∙_}
+-- The queue, the wait order and the order of call: what their words say, and what a name that joins or leaves makes of them. An order is the
+-- first names of its array, so both are changes of a list; the three differ in where array and number stand. Assumes nothing.
+use mathlib.Core.Path.{_≡_, refl, sym, ap, ap₂, subst, _∙_}
 use mathlib.Core.Bool.{Bool, false}
 use mathlib.Core.List.{List, [], _∷_, _++_}
 use Prim.Native.Nat.{ℕ, _+_, _-_, _<_, _≤_}
@@ -8,153 +8,203 @@ use native.Mathlib.Omega.{arith}
 use lib.ListN.{length, getD, set, take, drop, replicate, length-append}
 use lib.Seq.{drop-append-seam}
 use Rattle.job.specs.Test.{padded, without}
-use Rattle.model.specs.Machine.Update.{withOrders, queueOf, waitsOf, enqueue}
+use Rattle.model.specs.Machine.Update.{withOrders, withTimers, queueOf, waitsOf, timersOf, enqueue}
 use Rattle.model.specs.declared.record.Machine.{Machine}
-use Rattle.record.specs.Changes.{dequeued, delayed}
-use Rattle.record.specs.Layout.{wordsOf, countWords, parts}
+use Rattle.record.specs.Layout.{wordsOf, countWords, clockWords, parts}
 use Rattle.record.specs.Holds.{Codes, Holds}
 use Rattle.orders.specs.NamesRetained.{markedOf, Retained}
 use Rattle.orders.proofs.NamesRetained.{select-short}
-use Rattle.orders.proofs.NamesPadded.{put-behind, length-without}
-use Rattle.record.proofs.LayoutParts as parts-laws
-use Rattle.record.proofs.HoldsShape.{shaped, orders-hold, queue-fits, waits-fit}
-use Rattle.orders.proofs.NamesPadded.{padded-long}
+use Rattle.orders.proofs.NamesPadded.{padded-long, put-behind, length-without}
+use Rattle.record.proofs.LayoutPart.{Stands, part-get, part-set, part-is, part-lent}
+use Rattle.record.proofs.LayoutParts.{Sized, sized, queue-stands, waits-stand, counts-stand, timers-stand, clock-stands}
+use Rattle.record.proofs.HoldsShape.{shaped, orders-hold, timers-hold, queue-fits, waits-fit, timers-fit}
 
 module _ {ws : List ℕ} {m : Machine} (h : Codes ws m) where
   pub queue-word : (i : ℕ) → i < 64 → getD ws (1664 + i) 0 ≡ getD (m .queue) i 0
   unfolding wordsOf
-  queue-word i l =
-      ap (λ r. getD r (1664 + i) 0) (h .words)
-      ∙ parts-laws.queue-get _ _ _ _ _ (h .shaped .tokens) (h .shaped .cells) (h .shaped .queue) (h .shaped .waits) i l
+  queue-word i l = ap (λ r. getD r (1664 + i) 0) (h .words) ∙ part-get (queue-stands (sized (h .shaped))) (m .queue) 64 (h .shaped .queue) i l
 
   pub wait-word : (i : ℕ) → i < 64 → getD ws (1728 + i) 0 ≡ getD (m .waits) i 0
   unfolding wordsOf
-  wait-word i l =
-      ap (λ r. getD r (1728 + i) 0) (h .words)
-      ∙ parts-laws.waits-get _ _ _ _ _ (h .shaped .tokens) (h .shaped .cells) (h .shaped .queue) (h .shaped .waits) i l
+  wait-word i l = ap (λ r. getD r (1728 + i) 0) (h .words) ∙ part-get (waits-stand (sized (h .shaped))) (m .waits) 64 (h .shaped .waits) i l
 
-module _ {ws : List ℕ} {m : Machine} (h : Holds ws m) where
-  -- the record's orders as its words have them
-  pub queue-is : m .queue ≡ padded 0 64 (queueOf m)
-  queue-is = h .ordered .queue ∙ ap (λ n. padded 0 n (queueOf m)) (shaped h .tokens)
+  pub timer-word : (i : ℕ) → i < 64 → getD ws (1797 + i) 0 ≡ getD (m .timers) i 0
+  unfolding wordsOf
+  timer-word i l = ap (λ r. getD r (1797 + i) 0) (h .words) ∙ part-get (timers-stand (sized (h .shaped))) (m .timers) 64 (h .shaped .timers) i l
 
-  pub waits-are : m .waits ≡ padded 0 64 (waitsOf m)
-  waits-are = h .ordered .waits ∙ ap (λ n. padded 0 n (waitsOf m)) (shaped h .tokens)
+-- an order in a record's words: its names, the array at `at` that they stand in, their number at `counted`, and the record with others
+pub record Order (ws names array : List ℕ) (n at counted : ℕ) (changed : List ℕ → Machine) : Type 0 where
+  -- the words with another array and number
+  pub whole : List ℕ → ℕ → List ℕ
+  pub words : ws ≡ whole array n
+  pub stands : Stands (λ x. whole x n) at
+  pub count : (x : List ℕ) (v : ℕ) → length x ≡ 64 → set (whole x n) counted v ≡ whole x v
+  pub array-is : array ≡ padded 0 64 names
+  pub names-are : take n array ≡ names
+  pub number : n ≡ length names
+  pub fits : length names ≤ 64
+  pub holds : (l : List ℕ) → length l ≤ 64 → Holds (whole (padded 0 64 l) (length l)) (changed l)
 
-  -- orders and their counts are written
-  pub orders-put : (q w a b : List ℕ) (i j : ℕ) {xs : List ℕ} → length q ≤ 64 → length w ≤ 64
-      → a ≡ padded 0 64 q → b ≡ padded 0 64 w → i ≡ length q → j ≡ length w
-      → xs ≡ parts (m .tokens) (m .cells) a b (i ∷ j ∷ m .calls ∷ m .lasttoken ∷ m .lastcell ∷ []) → Holds xs (withOrders q w m)
-  orders-put q w a b i j l k ea eb ei ej e = orders-hold h q w l k (e ∙ rw (ea, eb, ei, ej))
+module _ {ws names array : List ℕ} {n at counted : ℕ} {changed : List ℕ → Machine} (o : Order ws names array n at counted changed) where
+  long : length array ≡ 64
+  long = ap length (o .array-is) ∙ padded-long names 64 (o .fits)
 
-  abbrev counting : (i j : ℕ) → List ℕ
-  counting i j = i ∷ j ∷ m .calls ∷ m .lasttoken ∷ m .lastcell ∷ []
-
-  -- other names in the queue, and their number
-  pub queue-put : (q x : List ℕ) (n : ℕ) {xs : List ℕ} → length q ≤ 64 → x ≡ padded 0 64 q → n ≡ length q
-      → xs ≡ parts (m .tokens) (m .cells) x (m .waits) (countWords m) → Holds (set xs 1792 n) (withOrders q (waitsOf m) m)
-  unfolding countWords
-  queue-put q x n l ex en e =
-      orders-put q (waitsOf m) x (m .waits) n (m .waiting) l (waits-fit h) ex waits-are en (h .ordered .waiting)
-      (ap (λ r. set r 1792 n) e
-      ∙ parts-laws.counts-set _ _ x _ _ (shaped h .tokens) (shaped h .cells) (ap length ex ∙ padded-long q 64 l) (shaped h .waits) 0 n)
-
-  pub waits-put : (w x : List ℕ) (n : ℕ) {xs : List ℕ} → length w ≤ 64 → x ≡ padded 0 64 w → n ≡ length w
-      → xs ≡ parts (m .tokens) (m .cells) (m .queue) x (countWords m) → Holds (set xs 1793 n) (withOrders (queueOf m) w m)
-  unfolding countWords
-  waits-put w x n l ex en e =
-      orders-put (queueOf m) w (m .queue) x (m .queued) n (queue-fits h) l queue-is ex (h .ordered .queued) en
-      (ap (λ r. set r 1793 n) e
-      ∙ parts-laws.counts-set _ _ _ x _ (shaped h .tokens) (shaped h .cells) (shaped h .queue) (ap length ex ∙ padded-long w 64 l) 1 n)
+  -- other names, and their number
+  names-put : (l x : List ℕ) (v : ℕ) {xs : List ℕ} → length l ≤ 64 → x ≡ padded 0 64 l → v ≡ length l → xs ≡ o .whole x n
+      → Holds (set xs counted v) (changed l)
+  names-put l x v f ex ev e =
+      subst (λ r. Holds r (changed l))
+      (sym (ap (λ r. set r counted v) e ∙ o .count x v (ap length ex ∙ padded-long l 64 f) ∙ ap₂ (o .whole) ex ev)) (o .holds l f)
 
   -- one name more
-  longer : (xs : List ℕ) (p n : ℕ) → n ≡ length xs → n + 1 ≡ length (xs ++ (p ∷ []))
-  longer xs p n e = omega (arith, length-append xs (p ∷ []))
+  pub name-put : (p i : ℕ) → i ≡ n → i < 64 → Holds (set (set ws (at + i) p) counted (i + 1)) (changed (names ++ (p ∷ [])))
+  name-put p i e l =
+      let f : i ≡ length names = e ∙ o .number in
+      let g : i + 1 ≡ length (names ++ (p ∷ [])) = omega (arith, length-append names (p ∷ [])) in
+      names-put (names ++ (p ∷ [])) (set array i p) (i + 1) (omega arith)
+      (ap₂ (λ r k. set r k p) (o .array-is) f ∙ put-behind names 64 p (omega arith)) g
+      (ap (λ r. set r (at + i) p) (o .words) ∙ part-set (o .stands) array 64 long i p l)
 
-  behind : (array xs : List ℕ) (p n : ℕ) → array ≡ padded 0 64 xs → n ≡ length xs → n < 64 → set array n p ≡ padded 0 64 (xs ++ (p ∷ []))
-  behind array xs p n e f l = ap₂ (λ r k. set r k p) e f ∙ put-behind xs 64 p (omega arith)
+  -- the part of the words that is the array, and the words with another one
+  part : take 64 (drop at ws) ≡ array
+  part = ap (λ r. take 64 (drop at r)) (o .words) ∙ part-is (o .stands) array 64 long
 
-  pub join-put : (p n : ℕ) → n ≡ m .queued → n < 64 → Holds (set (set ws (1664 + n) p) 1792 (n + 1)) (enqueue p m)
-  unfolding enqueue wordsOf
-  join-put p n e l =
-      let f : n ≡ length (queueOf m) = e ∙ h .ordered .queued in
-      let g = longer (queueOf m) p n f in
-      queue-put (queueOf m ++ (p ∷ [])) (set (m .queue) n p) (n + 1) (omega arith) (behind (m .queue) (queueOf m) p n queue-is f l) g
-      (ap (λ r. set r (1664 + n) p) (h .codes .words)
-      ∙ parts-laws.queue-set _ _ _ _ _ (shaped h .tokens) (shaped h .cells) (shaped h .queue) (shaped h .waits) n p l)
+  lent : (x : List ℕ) → take at ws ++ (x ++ drop 64 (drop at ws)) ≡ o .whole x n
+  lent x = ap (λ r. take at r ++ (x ++ drop 64 (drop at r))) (o .words) ∙ part-lent (o .stands) array 64 long x
 
-  pub delay-put : (p n : ℕ) → n ≡ m .waiting → n < 64 → Holds (set (set ws (1728 + n) p) 1793 (n + 1)) (delayed p m)
-  unfolding wordsOf
-  delay-put p n e l =
-      let f : n ≡ length (waitsOf m) = e ∙ h .ordered .waiting in
-      let g = longer (waitsOf m) p n f in
-      waits-put (waitsOf m ++ (p ∷ [])) (set (m .waits) n p) (n + 1) (omega arith) (behind (m .waits) (waitsOf m) p n waits-are f l) g
-      (ap (λ r. set r (1728 + n) p) (h .codes .words)
-      ∙ parts-laws.waits-set _ _ _ _ _ (shaped h .tokens) (shaped h .cells) (shaped h .queue) (shaped h .waits) n p l)
+  -- the names that the part has, and what stands behind them
+  first : (i : ℕ) → i ≡ n → take i (take 64 (drop at ws)) ≡ names
+  first i e = ap₂ take e part ∙ o .names-are
 
-  -- the part of the words that is the queue, and the words with another queue
-  pub queue-part : take 64 (drop 1664 ws) ≡ m .queue
-  unfolding wordsOf
-  queue-part =
-      ap (λ r. take 64 (drop 1664 r)) (h .codes .words)
-      ∙ parts-laws.queue-is _ _ _ _ _ (shaped h .tokens) (shaped h .cells) (shaped h .queue) (shaped h .waits)
-
-  pub queue-lent : (x : List ℕ) → take 1664 ws ++ (x ++ drop 64 (drop 1664 ws)) ≡ parts (m .tokens) (m .cells) x (m .waits) (countWords m)
-  unfolding wordsOf
-  queue-lent x =
-      ap (λ r. take 1664 r ++ (x ++ drop 64 (drop 1664 r))) (h .codes .words)
-      ∙ parts-laws.queue-lent _ _ _ _ _ (shaped h .tokens) (shaped h .cells) (shaped h .queue) (shaped h .waits) x
-
-  pub waits-part : take 64 (drop 1728 ws) ≡ m .waits
-  unfolding wordsOf
-  waits-part =
-      ap (λ r. take 64 (drop 1728 r)) (h .codes .words)
-      ∙ parts-laws.waits-is _ _ _ _ _ (shaped h .tokens) (shaped h .cells) (shaped h .queue) (shaped h .waits)
-
-  pub waits-lent : (x : List ℕ) → take 1728 ws ++ (x ++ drop 64 (drop 1728 ws)) ≡ parts (m .tokens) (m .cells) (m .queue) x (countWords m)
-  unfolding wordsOf
-  waits-lent x =
-      ap (λ r. take 1728 r ++ (x ++ drop 64 (drop 1728 r))) (h .codes .words)
-      ∙ parts-laws.waits-lent _ _ _ _ _ (shaped h .tokens) (shaped h .cells) (shaped h .queue) (shaped h .waits) x
-
-  -- what stands behind the names
-  rest-zero : (array xs : List ℕ) (n : ℕ) → array ≡ padded 0 64 xs → n ≡ length xs → drop n array ≡ replicate (64 - n) 0
+  rest-zero : (i : ℕ) → i ≡ n → drop i (take 64 (drop at ws)) ≡ replicate (64 - i) 0
   unfolding padded
-  rest-zero array xs n e f = ap₂ drop f e ∙ drop-append-seam xs _ ∙ ap (λ k. replicate (64 - k) 0) (sym f)
+  rest-zero i e =
+      let f : i ≡ length names = e ∙ o .number in
+      ap₂ drop f (part ∙ o .array-is) ∙ drop-append-seam names _ ∙ ap (λ k. replicate (64 - k) 0) (sym f)
 
-  pub leave-put : (n index : ℕ) (x : List ℕ) → n ≡ m .queued → index < n
-      → (drop n (take 64 (drop 1664 ws)) ≡ replicate (64 - n) 0 → x ≡ padded 0 64 (without index (take n (take 64 (drop 1664 ws)))))
-      → Holds (set (take 1664 ws ++ (x ++ drop 64 (drop 1664 ws))) 1792 (n - 1)) (dequeued m index)
-  unfolding queueOf
-  leave-put n index x e l f =
-      let long : n ≡ length (queueOf m) = e ∙ h .ordered .queued in
-      let less = length-without index (queueOf m) (omega arith) in
-      let fits = queue-fits h in
-      let zeros = ap (drop n) queue-part ∙ rest-zero (m .queue) (queueOf m) n queue-is long in
-      queue-put (without index (queueOf m)) x (n - 1) (omega arith)
-      (f zeros ∙ ap₂ (λ k r. padded 0 64 (without index (take k r))) e queue-part) (omega arith) (queue-lent x)
+  pub leave-put : (i index : ℕ) (x : List ℕ) → i ≡ n → index < i
+      → (drop i (take 64 (drop at ws)) ≡ replicate (64 - i) 0 → x ≡ padded 0 64 (without index (take i (take 64 (drop at ws)))))
+      → Holds (set (take at ws ++ (x ++ drop 64 (drop at ws))) counted (i - 1)) (changed (without index names))
+  leave-put i index x e l f =
+      let size : i ≡ length names = e ∙ o .number in
+      let less = length-without index names (omega arith) in
+      names-put (without index names) x (i - 1) (omega (arith, less, o .fits))
+      (f (rest-zero i e) ∙ ap (λ r. padded 0 64 (without index r)) (first i e)) (omega arith) (lent x)
 
   -- the names that are marked stay
-  kept-few : (marks : List Bool) (xs : List ℕ) → length xs ≤ 64 → length (markedOf marks xs) ≤ 64
-  kept-few marks xs l = let a = select-short (λ (p : ℕ). getD marks p false) xs in omega arith
+  pub retain-put : (v i : ℕ) (x : List ℕ) (marks : List Bool) → i ≡ n → Retained (take 64 (drop at ws)) i marks x v
+      → Holds (set (take at ws ++ (x ++ drop 64 (drop at ws))) counted v) (changed (markedOf marks names))
+  retain-put v i x marks e r =
+      let few = select-short (λ (p : ℕ). getD marks p false) names in
+      names-put (markedOf marks names) x v (omega (arith, few, o .fits))
+      (r .array (rest-zero i e) ∙ ap (λ xs. padded 0 64 (markedOf marks xs)) (first i e))
+      (r .number ∙ ap (λ xs. length (markedOf marks xs)) (first i e)) (lent x)
 
-  module _ (n count : ℕ) (x : List ℕ) (marks : List Bool) where
-    pub retain-queue-put : count ≡ m .queued → Retained (take 64 (drop 1664 ws)) count marks x n
-        → Holds (set (take 1664 ws ++ (x ++ drop 64 (drop 1664 ws))) 1792 n) (withOrders (markedOf marks (queueOf m)) (waitsOf m) m)
-    unfolding queueOf
-    retain-queue-put e r =
-        let names : take count (take 64 (drop 1664 ws)) ≡ queueOf m = ap₂ take e queue-part in
-        let zeros = ap (drop count) queue-part ∙ rest-zero (m .queue) (queueOf m) count queue-is (e ∙ h .ordered .queued) in
-        queue-put (markedOf marks (queueOf m)) x n (kept-few marks (queueOf m) (queue-fits h))
-        (r .array zeros ∙ ap (λ xs. padded 0 64 (markedOf marks xs)) names) (r .number ∙ ap (λ xs. length (markedOf marks xs)) names)
-        (queue-lent x)
+module _ {ws : List ℕ} {m : Machine} (h : Holds ws m) where
+  abbrev z : Sized (m .tokens) (m .cells) (m .queue) (m .waits) (countWords m) (m .timers) (clockWords m)
+  z = sized (shaped h)
 
-    pub retain-waits-put : count ≡ m .waiting → Retained (take 64 (drop 1728 ws)) count marks x n
-        → Holds (set (take 1728 ws ++ (x ++ drop 64 (drop 1728 ws))) 1793 n) (withOrders (queueOf m) (markedOf marks (waitsOf m)) m)
-    unfolding waitsOf
-    retain-waits-put e r =
-        let names : take count (take 64 (drop 1728 ws)) ≡ waitsOf m = ap₂ take e waits-part in
-        let zeros = ap (drop count) waits-part ∙ rest-zero (m .waits) (waitsOf m) count waits-are (e ∙ h .ordered .waiting) in
-        waits-put (markedOf marks (waitsOf m)) x n (kept-few marks (waitsOf m) (waits-fit h))
-        (r .array zeros ∙ ap (λ xs. padded 0 64 (markedOf marks xs)) names) (r .number ∙ ap (λ xs. length (markedOf marks xs)) names)
-        (waits-lent x)
+  -- the sizes with another array
+  other-queue : (x : List ℕ) → length x ≡ 64 → Sized (m .tokens) (m .cells) x (m .waits) (countWords m) (m .timers) (clockWords m)
+  other-queue x l =
+      record {
+        tokens = z .tokens;
+        cells = z .cells;
+        queue = l;
+        waits = z .waits;
+        counts = z .counts;
+        timers = z .timers;
+        clock = z .clock;
+      }
+
+  other-waits : (x : List ℕ) → length x ≡ 64 → Sized (m .tokens) (m .cells) (m .queue) x (countWords m) (m .timers) (clockWords m)
+  other-waits x l =
+      record {
+        tokens = z .tokens;
+        cells = z .cells;
+        queue = z .queue;
+        waits = l;
+        counts = z .counts;
+        timers = z .timers;
+        clock = z .clock;
+      }
+
+  other-timers : (x : List ℕ) → length x ≡ 64 → Sized (m .tokens) (m .cells) (m .queue) (m .waits) (countWords m) x (clockWords m)
+  other-timers x l =
+      record {
+        tokens = z .tokens;
+        cells = z .cells;
+        queue = z .queue;
+        waits = z .waits;
+        counts = z .counts;
+        timers = l;
+        clock = z .clock;
+      }
+
+  -- the record's orders as its words have them
+  queue-is : m .queue ≡ padded 0 64 (queueOf m)
+  queue-is = h .ordered .queue ∙ ap (λ n. padded 0 n (queueOf m)) (shaped h .tokens)
+
+  waits-are : m .waits ≡ padded 0 64 (waitsOf m)
+  waits-are = h .ordered .waits ∙ ap (λ n. padded 0 n (waitsOf m)) (shaped h .tokens)
+
+  timers-are : m .timers ≡ padded 0 64 (timersOf m)
+  timers-are = h .ordered .timers ∙ ap (λ n. padded 0 n (timersOf m)) (shaped h .tokens)
+
+  abbrev withOrderWords : (q : List ℕ) (n : ℕ) (w : List ℕ) (i : ℕ) → List ℕ
+  withOrderWords q n w i = parts (m .tokens) (m .cells) q w (n ∷ i ∷ m .calls ∷ m .lasttoken ∷ m .lastcell ∷ []) (m .timers) (clockWords m)
+
+  pub queue-order : Order ws (queueOf m) (m .queue) (m .queued) 1664 1792 (λ l. withOrders l (waitsOf m) m)
+  unfolding wordsOf countWords queueOf
+  queue-order =
+      record {
+        whole = λ x n. withOrderWords x n (m .waits) (m .waiting);
+        words = h .codes .words;
+        stands = queue-stands z;
+        count = λ x v l. part-set (counts-stand (other-queue x l)) _ 5 refl 0 v (omega arith);
+        array-is = queue-is;
+        names-are = refl;
+        number = h .ordered .queued;
+        fits = queue-fits h;
+        holds =
+            λ l f.
+            orders-hold h l (waitsOf m) f (waits-fit h)
+            (ap₂ (withOrderWords (padded 0 64 l) (length l)) waits-are (h .ordered .waiting));
+      }
+
+  pub wait-order : Order ws (waitsOf m) (m .waits) (m .waiting) 1728 1793 (λ l. withOrders (queueOf m) l m)
+  unfolding wordsOf countWords waitsOf
+  wait-order =
+      record {
+        whole = λ x n. withOrderWords (m .queue) (m .queued) x n;
+        words = h .codes .words;
+        stands = waits-stand z;
+        count = λ x v l. part-set (counts-stand (other-waits x l)) _ 5 refl 1 v (omega arith);
+        array-is = waits-are;
+        names-are = refl;
+        number = h .ordered .waiting;
+        fits = waits-fit h;
+        holds =
+            λ l f.
+            orders-hold h (queueOf m) l (queue-fits h) f
+            (ap₂ (λ q n. withOrderWords q n (padded 0 64 l) (length l)) queue-is (h .ordered .queued));
+      }
+
+  pub timer-order : Order ws (timersOf m) (m .timers) (m .timed) 1797 1861 (λ l. withTimers l m)
+  unfolding wordsOf clockWords timersOf
+  timer-order =
+      record {
+        whole = λ x n. parts (m .tokens) (m .cells) (m .queue) (m .waits) (countWords m) x (n ∷ m .clock ∷ []);
+        words = h .codes .words;
+        stands = timers-stand z;
+        count = λ x v l. part-set (clock-stands (other-timers x l)) _ 2 refl 0 v (omega arith);
+        array-is = timers-are;
+        names-are = refl;
+        number = h .ordered .timed;
+        fits = timers-fit h;
+        holds = λ l f. timers-hold h l f refl;
+      }
+
+  pub join-put : (p n : ℕ) → n ≡ m .queued → n < 64 → Holds (set (set ws (1664 + n) p) 1792 (n + 1)) (enqueue p m)
+  unfolding enqueue
+  join-put p n e l = name-put queue-order p n e l

@@ -60,7 +60,7 @@ row-done {ws} {m} h place i t w l b e f =
     subst (λ r. Holds r (put place t m)) (sym (f ∙ ap (paste ws (24 * place) (rowOf t)) e)) (row-put h place l t b)
 
 -- a row that is lent
-pub row-on : (ws row w : List ℕ) (p i : ℕ) → length ws ≡ 1797 → length row ≡ 24 → p < 64 → i < 24 → w ≡ paste ws (24 * p) row i
+pub row-on : (ws row w : List ℕ) (p i : ℕ) → length ws ≡ 1863 → length row ≡ 24 → p < 64 → i < 24 → w ≡ paste ws (24 * p) row i
     → set w (24 * p + i) (getD row i 0) ≡ paste ws (24 * p) row (i + 1)
 row-on ws row w p i l r a b e =
     ap (λ x. set x (24 * p + i) (getD row i 0)) e

@@ -16,13 +16,13 @@ use Rattle.model.specs.declared.token.State.{State}
 use Rattle.model.specs.declared.token.Token.{Token}
 use Rattle.model.specs.declared.record.Machine.{Machine}
 use Rattle.record.specs.Changes.{withCaller, withCell}
-use Rattle.record.specs.Layout.{rowOf, wordsOf, countWords, parts, slotKind, slotNumber, stateKind, stateNumber, placeNumber}
+use Rattle.record.specs.Layout.{rowOf, wordsOf, countWords, clockWords, parts, slotKind, slotNumber, stateKind, stateNumber, placeNumber}
 use Rattle.record.specs.Layout.{heldKind}
 use Rattle.record.specs.Layout.{heldNumber}
 use Rattle.record.specs.Holds.{Codes, Holds}
 use Rattle.record.proofs.LayoutParts as parts-laws
 use Rattle.record.proofs.HoldsShape.{shaped, tables-hold, binds-after}
-use Rattle.model.specs.Machine.State.{isReady, isWaiting}
+use Rattle.model.specs.Machine.State.{isReady, isWaiting, isDue}
 use lib.Dec.{eqb}
 use Rattle.model.specs.declared.token.State.the-variants as states
 
@@ -100,7 +100,7 @@ module _ {ws : List ℕ} {m : Machine} (h : Codes ws m) (p : ℕ) (l : p < 64) w
   unfolding tokenAt wordsOf
   token-word j s =
       ap (λ r. getD r (24 * p + j) 0) (h .words)
-      ∙ parts-laws.tokens-get _ _ _ _ _ (h .shaped .tokens) (h .shaped .cells) (h .shaped .queue) (h .shaped .waits) p j l s
+      ∙ parts-laws.tokens-get (parts-laws.sized (h .shaped)) p j l s
 
   pub state-word : getD ws (24 * p) 0 ≡ stateKind (t .state)
   unfolding rowOf
@@ -152,7 +152,7 @@ module _ {ws : List ℕ} {m : Machine} (h : Holds ws m) (p : ℕ) (l : p < 64) w
   row-put t b =
       tables-hold h (set (m .tokens) p t) (m .cells)
       (ap (λ r. paste r (24 * p) (rowOf t) 24) (h .codes .words)
-      ∙ parts-laws.tokens-paste _ _ _ _ _ (shaped h .tokens) (shaped h .cells) (shaped h .queue) (shaped h .waits) p t l)
+      ∙ parts-laws.tokens-paste (parts-laws.sized (shaped h)) p t l)
       (length-set (m .tokens) p t ∙ shaped h .tokens) (shaped h .cells) (binds-after (m .tokens) p t b (shaped h .binds))
 
 -- writing: the token t at p becomes u
@@ -169,8 +169,8 @@ module _ {ws : List ℕ} (m : Machine) (t : Token) (p : ℕ) (h : Holds ws (put 
   own-binds = ap (λ (u : Token). length (u .binds)) (sym here) ∙ shaped h .binds p
 
   becomes : (u : Token) {xs : List ℕ} → length (u .binds) ≡ 8
-      → xs ≡ parts (set (set (m .tokens) p t) p u) (m .cells) (m .queue) (m .waits) (countWords m) → Holds xs (put p u m)
-  unfolding put withTables countWords
+      → xs ≡ parts (set (set (m .tokens) p t) p u) (m .cells) (m .queue) (m .waits) (countWords m) (m .timers) (clockWords m) → Holds xs (put p u m)
+  unfolding put withTables countWords clockWords
   becomes u {xs} b e =
       subst (λ ts. Holds xs (withTables ts (m .cells) m)) (set-set (m .tokens) p t u)
       (tables-hold h (set (set (m .tokens) p t) p u) (m .cells) e
@@ -179,20 +179,20 @@ module _ {ws : List ℕ} (m : Machine) (t : Token) (p : ℕ) (h : Holds ws (put 
 
   pub word-put : (j v : ℕ) (u : Token) → j < 24 → length (u .binds) ≡ 8 → set (rowOf t) j v ≡ rowOf u
       → Holds (set ws (24 * p + j) v) (put p u m)
-  unfolding put withTables wordsOf countWords
+  unfolding put withTables wordsOf countWords clockWords
   word-put j v u s b e =
       becomes u b
       (ap (λ r. set r (24 * p + j) v) (h .codes .words)
-      ∙ parts-laws.tokens-set _ _ _ _ _ (shaped h .tokens) (shaped h .cells) (shaped h .queue) (shaped h .waits) p j l s v u
+      ∙ parts-laws.tokens-set (parts-laws.sized (shaped h)) p j l s v u
       (ap (λ x. set (rowOf x) j v) here ∙ e))
 
   pub words-put : (j k v n : ℕ) (u : Token) → j < 24 → k < 24 → length (u .binds) ≡ 8 → set (set (rowOf t) j v) k n ≡ rowOf u
       → Holds (set (set ws (24 * p + j) v) (24 * p + k) n) (put p u m)
-  unfolding put withTables wordsOf countWords
+  unfolding put withTables wordsOf countWords clockWords
   words-put j k v n u s z b e =
       becomes u b
       (ap (λ r. set (set r (24 * p + j) v) (24 * p + k) n) (h .codes .words)
-      ∙ parts-laws.tokens-set2 _ _ _ _ _ (shaped h .tokens) (shaped h .cells) (shaped h .queue) (shaped h .waits) p j k v n u l s z
+      ∙ parts-laws.tokens-set2 (parts-laws.sized (shaped h)) p j k v n u l s z
       (ap (λ x. set (set (rowOf x) j v) k n) here ∙ e))
 
   pub node-put : (k : ℕ) → Holds (set ws (24 * p + 2) k) (put p (withNode k t) m)
@@ -238,6 +238,7 @@ ready-kind states.Blank = refl
 ready-kind states.Ready = refl
 ready-kind (states.Waiting c) = refl
 ready-kind (states.Called h) = refl
+ready-kind (states.Due d) = refl
 ready-kind states.Frame = refl
 
 pub waiting-kind : (s : State) → eqb (stateKind s) 2 ≡ isWaiting s
@@ -246,4 +247,14 @@ waiting-kind states.Blank = refl
 waiting-kind states.Ready = refl
 waiting-kind (states.Waiting c) = refl
 waiting-kind (states.Called h) = refl
+waiting-kind (states.Due d) = refl
 waiting-kind states.Frame = refl
+
+pub due-kind : (s : State) → eqb (stateKind s) 4 ≡ isDue s
+unfolding isDue
+due-kind states.Blank = refl
+due-kind states.Ready = refl
+due-kind (states.Waiting c) = refl
+due-kind (states.Called h) = refl
+due-kind (states.Due d) = refl
+due-kind states.Frame = refl

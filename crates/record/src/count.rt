@@ -1,9 +1,10 @@
-// The counts of a record: outside calls made, and the places last given to a token and to a cell.
+// The counts of a record: outside calls made, and the places last given to a token and to a cell; and its clock.
 ghost use mathlib.Core.Path.{_≡_};
-ghost use Rattle.model.specs.Machine.Update.{withCounts};
+ghost use Rattle.model.specs.Machine.Update.{withCounts, withClock};
 ghost use Rattle.model.specs.declared.record.Machine.{Machine};
 ghost use Rattle.record.specs.Holds.{Codes, Holds};
 use crate::layout::CALL_COUNT;
+use crate::layout::CLOCK;
 use crate::layout::LAST_CELL;
 use crate::layout::LAST_TOKEN;
 use model::record::Machine;
@@ -42,4 +43,16 @@ pub fn set_last_cell(w: &mut [u32; Machine::WORDS], c: u32)
     ensures { λ _. ⌜ ((m : Machine) → Holds (now (w .entry)) m → Holds (now (w .exit)) (withCounts (m .calls) (m .lasttoken) c m)) ⌝ }
 {
     w[LAST_CELL] = c;
+}
+
+pub fn clock(w: &[u32; Machine::WORDS]) -> u32
+    ensures { λ r. ⌜ ((m : Machine) → Codes (now (w .entry)) m → r ≡ m .clock) ⌝ }
+{
+    w[CLOCK]
+}
+
+pub fn set_clock(w: &mut [u32; Machine::WORDS], time: u32)
+    ensures { λ _. ⌜ ((m : Machine) → Holds (now (w .entry)) m → Holds (now (w .exit)) (withClock time m)) ⌝ }
+{
+    w[CLOCK] = time;
 }

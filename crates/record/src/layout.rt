@@ -1,4 +1,4 @@
-// Where the words of a record stand: tokens, cells, queue, wait order, counts, order of call, clock. specs/Words.antt has the same table.
+// Where the words of a record stand: tokens, cells, queue, wait order, counts, order of call, clock. specs/Layout.antt has the same table.
 
 // How many places there are, as a word of a record is held to them: a place is named by a smaller number.
 pub const TOKEN_PLACE_COUNT: u32 = 64;

@@ -1,15 +1,18 @@
-// The queue and the wait order: the first names of 64 words each, and how many they are. What stands behind them is 0.
+// The queue, the wait order and the order of call: the first names of 64 words each, and how many they are. What stands behind them is 0.
 ghost use mathlib.Core.Path.{_≡_};
 ghost use mathlib.Core.Bool.{false};
+ghost use mathlib.Core.List.{[], _∷_, _++_};
 ghost use Prim.Native.Nat.{ℕ, _<_, _-_};
 ghost use lib.ListN.{length, getD};
-ghost use Rattle.job.specs.Test.{select};
-ghost use Rattle.model.specs.Machine.Update.{enqueue, withOrders, queueOf, waitsOf};
+ghost use Rattle.job.specs.Test.{select, without};
+ghost use Rattle.model.specs.Machine.Update.{enqueue, withOrders, withTimers, queueOf, waitsOf, timersOf};
 ghost use Rattle.model.specs.declared.record.Machine.{Machine};
 ghost use Rattle.record.specs.Holds.{Codes, Holds};
 ghost use Rattle.record.specs.Changes.{dequeued, delayed};
 use crate::layout::QUEUE_LENGTH;
 use crate::layout::QUEUE_START;
+use crate::layout::TIMERS_LENGTH;
+use crate::layout::TIMERS_START;
 use crate::layout::WAITS_LENGTH;
 use crate::layout::WAITS_START;
 use job::wide::wide;
@@ -29,6 +32,12 @@ pub fn waiting(w: &[u32; Machine::WORDS]) -> u32
     w[WAITS_LENGTH]
 }
 
+pub fn timed(w: &[u32; Machine::WORDS]) -> u32
+    ensures { λ r. ⌜ ((m : Machine) → Codes (now (w .entry)) m → r ≡ m .timed) ⌝ }
+{
+    w[TIMERS_LENGTH]
+}
+
 // The place that the queue names at an index.
 pub fn queue_name(w: &[u32; Machine::WORDS], i: usize) -> u32
     requires { ⌜ i < 64 ⌝ }
@@ -43,6 +52,14 @@ pub fn wait_name(w: &[u32; Machine::WORDS], i: usize) -> u32
     ensures { λ r. ⌜ ((m : Machine) → Codes (now (w .entry)) m → r ≡ getD (m .waits) i 0) ⌝ }
 {
     w[WAITS_START + i]
+}
+
+// The place that the order of call names at an index.
+pub fn timer_name(w: &[u32; Machine::WORDS], i: usize) -> u32
+    requires { ⌜ i < 64 ⌝ }
+    ensures { λ r. ⌜ ((m : Machine) → Codes (now (w .entry)) m → r ≡ getD (m .timers) i 0) ⌝ }
+{
+    w[TIMERS_START + i]
 }
 
 // "A ready token goes to the back of the queue." The queue names each ready token once, so there is room; a full one stays as it is.
@@ -67,9 +84,22 @@ pub fn delay(w: &mut [u32; Machine::WORDS], p: u32)
     }
 }
 
+// A token that is due later goes to the back of the order of call.
+pub fn defer(w: &mut [u32; Machine::WORDS], p: u32)
+    ensures { λ _.
+        ⌜ ((m : Machine) → Holds (now (w .entry)) m → m .timed < 64
+        → Holds (now (w .exit)) (withTimers (timersOf m ++ (p ∷ [])) m)) ⌝ }
+{
+    let n = wide(w[TIMERS_LENGTH]);
+    if n < Machine::TOKENS {
+        w[TIMERS_START + n] = p;
+        w[TIMERS_LENGTH] = n as u32 + 1;
+    }
+}
+
 // A part can be lent of a slice, not of an array.
 fn leave_slice(w: &mut [u32], index: usize)
-    requires { ⌜ length (now w) ≡ 1797 ⌝ }
+    requires { ⌜ length (now w) ≡ 1863 ⌝ }
     ensures { λ _. ⌜ ((m : Machine) → Holds (now (w .entry)) m → index < m .queued → Holds (now (w .exit)) (dequeued m index)) ⌝ }
 {
     let count = wide(w[QUEUE_LENGTH]);
@@ -89,7 +119,7 @@ pub fn leave(w: &mut [u32; Machine::WORDS], index: usize)
 }
 
 fn retain_queue_slice(w: &mut [u32], keep: &[bool])
-    requires { ⌜ length (now w) ≡ 1797 ⌝ }
+    requires { ⌜ length (now w) ≡ 1863 ⌝ }
     ensures { λ _.
         ⌜ ((m : Machine) → Holds (now (w .entry)) m
         → Holds (now (w .exit)) (withOrders (select (λ (p : ℕ). getD (now (keep .entry)) p false) (queueOf m)) (waitsOf m) m)) ⌝ }
@@ -111,7 +141,7 @@ pub fn retain_queue(w: &mut [u32; Machine::WORDS], keep: &[bool; Machine::TOKENS
 }
 
 fn retain_waits_slice(w: &mut [u32], keep: &[bool])
-    requires { ⌜ length (now w) ≡ 1797 ⌝ }
+    requires { ⌜ length (now w) ≡ 1863 ⌝ }
     ensures { λ _.
         ⌜ ((m : Machine) → Holds (now (w .entry)) m
         → Holds (now (w .exit)) (withOrders (queueOf m) (select (λ (p : ℕ). getD (now (keep .entry)) p false) (waitsOf m)) m)) ⌝ }
@@ -130,4 +160,50 @@ pub fn retain_waits(w: &mut [u32; Machine::WORDS], keep: &[bool; Machine::TOKENS
         → Holds (now (w .exit)) (withOrders (queueOf m) (select (λ (p : ℕ). getD (now (keep .entry)) p false) (waitsOf m)) m)) ⌝ }
 {
     retain_waits_slice(w, keep);
+}
+
+fn leave_timers_slice(w: &mut [u32], index: usize)
+    requires { ⌜ length (now w) ≡ 1863 ⌝ }
+    ensures { λ _.
+        ⌜ ((m : Machine) → Holds (now (w .entry)) m → index < m .timed
+        → Holds (now (w .exit)) (withTimers (without index (timersOf m)) m)) ⌝ }
+{
+    let count = wide(w[TIMERS_LENGTH]);
+    if count <= Machine::TOKENS {
+        if index < count {
+            left_out(&mut w[TIMERS_START..TIMERS_LENGTH], count, index);
+            w[TIMERS_LENGTH] = count as u32 - 1;
+        }
+    }
+}
+
+// The name at an index leaves the order of call.
+pub fn leave_timers(w: &mut [u32; Machine::WORDS], index: usize)
+    ensures { λ _.
+        ⌜ ((m : Machine) → Holds (now (w .entry)) m → index < m .timed
+        → Holds (now (w .exit)) (withTimers (without index (timersOf m)) m)) ⌝ }
+{
+    leave_timers_slice(w, index);
+}
+
+fn retain_timers_slice(w: &mut [u32], keep: &[bool])
+    requires { ⌜ length (now w) ≡ 1863 ⌝ }
+    ensures { λ _.
+        ⌜ ((m : Machine) → Holds (now (w .entry)) m
+        → Holds (now (w .exit)) (withTimers (select (λ (p : ℕ). getD (now (keep .entry)) p false) (timersOf m)) m)) ⌝ }
+{
+    let count = wide(w[TIMERS_LENGTH]);
+    if count <= Machine::TOKENS {
+        let n = retained(&mut w[TIMERS_START..TIMERS_LENGTH], count, keep);
+        w[TIMERS_LENGTH] = n as u32;
+    }
+}
+
+// The order of call keeps the names that are marked.
+pub fn retain_timers(w: &mut [u32; Machine::WORDS], keep: &[bool; Machine::TOKENS])
+    ensures { λ _.
+        ⌜ ((m : Machine) → Holds (now (w .entry)) m
+        → Holds (now (w .exit)) (withTimers (select (λ (p : ℕ). getD (now (keep .entry)) p false) (timersOf m)) m)) ⌝ }
+{
+    retain_timers_slice(w, keep);
 }

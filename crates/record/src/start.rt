@@ -11,8 +11,8 @@ use model::record::Machine;
 
 // Every word becomes 0.
 fn clear(w: &mut [u32])
-    requires { ⌜ length (now w) ≡ 1797 ⌝ }
-    ensures { λ _. ⌜ now (w .exit) ≡ replicate 1797 0 ⌝ }
+    requires { ⌜ length (now w) ≡ 1863 ⌝ }
+    ensures { λ _. ⌜ now (w .exit) ≡ replicate 1863 0 ⌝ }
 {
     let mut i: usize = 0;
     while i < w.len() {

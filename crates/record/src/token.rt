@@ -31,7 +31,7 @@ pub fn state(w: &[u32; Machine::WORDS], p: usize) -> u32
     w[TOKEN_WORDS * p]
 }
 
-// The cell at which the token waits, or the handle of its open call.
+// The cell at which the token waits, the handle of its open call, or its due time.
 pub fn state_number(w: &[u32; Machine::WORDS], p: usize) -> u32
     requires { ⌜ p < 64 ⌝ }
     ensures { λ r. ⌜ ((m : Machine) → Codes (now (w .entry)) m → r ≡ stateNumber (tokenAt (m .tokens) p .state)) ⌝ }

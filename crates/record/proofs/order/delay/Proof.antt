@@ -3,7 +3,7 @@ use borrow.Author.Needs.{needs}
 use mathlib.Core.Path.{_∙_}
 use native.Mathlib.Omega.{arith}
 use Rattle.record.proofs.CountLaws.{waiting-word}
-use Rattle.record.proofs.OrderLaws.{delay-put}
+use Rattle.record.proofs.OrderLaws.{wait-order, name-put}
 use Rattle.record.proofs.order.delay.Statement.{statement}
 use Rattle.record.proofs.order.delay.Tie as tie
 
@@ -32,7 +32,7 @@ element-write-w-2 : tie.Need-element-write-w-2
 element-write-w-2 c = search needs
 
 returns : tie.Need-returns
-returns c = λ m h l. delay-put h _ _ (c .before .wide .ensures ∙ waiting-word (h .codes)) (search needs)
+returns c = λ m h l. name-put (wait-order h) _ _ (c .before .wide .ensures ∙ waiting-word (h .codes)) (search needs)
 
 returns-2 : tie.Need-returns-2
 returns-2 c = λ m h l. absurd (omega (arith, waiting-word (h .codes), c .before .wide .ensures))

@@ -4,7 +4,7 @@ use mathlib.Core.Path.{_∙_}
 use native.Mathlib.Omega.{arith}
 use Rattle.record.proofs.CountLaws.{queued-word}
 use Rattle.record.proofs.HoldsShape.{queue-fits}
-use Rattle.record.proofs.OrderLaws.{leave-put}
+use Rattle.record.proofs.OrderLaws.{queue-order, leave-put}
 use Rattle.record.proofs.order.leave_slice.Statement.{statement}
 use Rattle.record.proofs.order.leave_slice.Tie as tie
 
@@ -39,7 +39,7 @@ same-length : tie.Need-same-length
 same-length c = search needs
 
 returns : tie.Need-returns
-returns c = λ m h l. leave-put h _ _ _ (c .before .before .before .before .before .before .wide .ensures ∙ queued-word (h .codes))
+returns c = λ m h l. leave-put (queue-order h) _ _ _ (c .before .before .before .before .before .before .wide .ensures ∙ queued-word (h .codes))
     (search needs) (c .before .before .left-out .ensures)
 
 returns-2 : tie.Need-returns-2

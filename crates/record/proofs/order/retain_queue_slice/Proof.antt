@@ -2,7 +2,7 @@
 use mathlib.Core.Path.{_∙_}
 use borrow.Author.Needs.{needs}
 use native.Mathlib.Omega.{arith}
-use Rattle.record.proofs.OrderLaws.{retain-queue-put}
+use Rattle.record.proofs.OrderLaws.{queue-order, retain-put}
 use Rattle.record.proofs.HoldsShape.{queue-fits}
 use Rattle.record.proofs.CountLaws.{queued-word}
 use Rattle.record.proofs.order.retain_queue_slice.Statement.{statement}
@@ -36,7 +36,7 @@ same-length : tie.Need-same-length
 same-length c = search needs
 
 returns : tie.Need-returns
-returns c = λ m h. retain-queue-put h _ _ _ _ (c .before .before .before .before .before .wide .ensures ∙ queued-word (h .codes))
+returns c = λ m h. retain-put (queue-order h) _ _ _ _ (c .before .before .before .before .before .wide .ensures ∙ queued-word (h .codes))
     (c .before .before .retained .ensures)
 
 returns-2 : tie.Need-returns-2

@@ -2,7 +2,7 @@
 use mathlib.Core.Path.{_∙_}
 use borrow.Author.Needs.{needs}
 use native.Mathlib.Omega.{arith}
-use Rattle.record.proofs.OrderLaws.{retain-waits-put}
+use Rattle.record.proofs.OrderLaws.{wait-order, retain-put}
 use Rattle.record.proofs.HoldsShape.{waits-fit}
 use Rattle.record.proofs.CountLaws.{waiting-word}
 use Rattle.record.proofs.order.retain_waits_slice.Statement.{statement}
@@ -36,7 +36,7 @@ same-length : tie.Need-same-length
 same-length c = search needs
 
 returns : tie.Need-returns
-returns c = λ m h. retain-waits-put h _ _ _ _ (c .before .before .before .before .before .wide .ensures ∙ waiting-word (h .codes))
+returns c = λ m h. retain-put (wait-order h) _ _ _ _ (c .before .before .before .before .before .wide .ensures ∙ waiting-word (h .codes))
     (c .before .before .retained .ensures)
 
 returns-2 : tie.Need-returns-2

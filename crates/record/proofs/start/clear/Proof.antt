@@ -9,10 +9,10 @@ use Rattle.record.proofs.start.clear.Statement.{statement}
 use Rattle.record.proofs.start.clear.Tie as tie
 
 abbrev Inv-loop : tie.InvT-loop
-Inv-loop w₀ i₀ w i = (i ≤ 1797) × (length w ≡ 1797) × (take i w ≡ replicate i 0)
+Inv-loop w₀ i₀ w i = (i ≤ 1863) × (length w ≡ 1863) × (take i w ≡ replicate i 0)
 
 abbrev μ-loop : tie.MeasureT-loop
-μ-loop w₀ i₀ w i = 1797 - i
+μ-loop w₀ i₀ w i = 1863 - i
 
 loop-holds : tie.Need-loop-holds Inv-loop μ-loop
 loop-holds c = (search needs, search needs, refl)
