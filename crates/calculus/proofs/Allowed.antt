@@ -4,7 +4,7 @@ use mathlib.Core.Path.{refl}
 use mathlib.Core.List.{List, [], _∷_}
 use Prim.Native.Nat.{ℕ}
 use lib.IntN.{pos}
-use Rattle.calculus.specs.Event.{Event, publish, call, answer, silently, showing}
+use Rattle.calculus.specs.Event.{Event, publish, call, answer, move, silently, showing}
 use Rattle.calculus.specs.Expression.{Exp}
 use Rattle.calculus.specs.Rewriting.{silence, calling, answering, Rewrites, builtin-gives, outside-call, answered, published}
 use Rattle.calculus.specs.Rewriting.{par-left, par-right, seq-acts, seq-publishes, prune-right, prune-publishes}
@@ -14,17 +14,20 @@ use Rattle.calculus.proofs.Computing.{meant, rewritten}
 use Rattle.calculus.proofs.Search.{searching, allowed}
 use Rattle.calculus.proofs.Programs.{largest-sum, every-value, first-value, first-answer, pass-on, one-suspended, mail-each}
 use Rattle.calculus.proofs.Programs.{mail-once, fork-join, timeout, parallel-or, metronome, not-strict, same-number}
+use Rattle.calculus.proofs.Programs.{nothing, no-wait, wait-five, wait-to-the-end, deadline}
 
 -- a silent rewriting, or one that shows an event, in front of others
-quietly : {body : ℕ → Exp} {h : ℕ} {f f′ : Exp} {es : List Event}
-    → Rewrites body h f silently f′ → CanShow body (record { exp = f′; handle = h }) es → CanShow body (record { exp = f; handle = h }) es
+quietly : {body : ℕ → Exp} {h now : ℕ} {f f′ : Exp} {es : List Event}
+    → Rewrites body h now f silently f′
+    → CanShow body (record { exp = f′; handle = h; clock = now }) es
+    → CanShow body (record { exp = f; handle = h; clock = now }) es
 unfolding shown nextHandle
 quietly r s = then {a = silently} r s
 
-openly : {body : ℕ → Exp} {h : ℕ} {f f′ : Exp} {e : Event} {es : List Event}
-    → Rewrites body h f (showing e) f′
-    → CanShow body (record { exp = f′; handle = nextHandle (showing e) h }) es
-    → CanShow body (record { exp = f; handle = h }) (e ∷ es)
+openly : {body : ℕ → Exp} {h now : ℕ} {f f′ : Exp} {e : Event} {es : List Event}
+    → Rewrites body h now f (showing e) f′
+    → CanShow body (record { exp = f′; handle = nextHandle (showing e) h; clock = now }) es
+    → CanShow body (record { exp = f; handle = h; clock = now }) (e ∷ es)
 unfolding shown
 openly r s = then r s
 
@@ -163,3 +166,42 @@ pub right-name :
     Allowed (meaning same-number) (call 0 17 [] ∷ answer 0 (pos 9) ∷ call 1 16 [] ∷ answer 1 (pos 6) ∷ publish (pos 6) ∷ [])
 unfolding meant rewritten searching
 right-name = allowed (meaning same-number) 20 refl
+
+-- rwait(5): 0 at 5
+pub due-at-five : Allowed (meaning wait-five) (move 5 ∷ publish (pos 0) ∷ [])
+unfolding meant rewritten searching
+due-at-five = allowed (meaning wait-five) 20 refl
+
+-- "fixes rwait's due time at the call", which may come before or after a move of the clock
+pub called-first : Allowed (meaning wait-five) (move 3 ∷ move 5 ∷ publish (pos 0) ∷ [])
+unfolding meant rewritten searching
+called-first = allowed (meaning wait-five) 20 refl
+
+pub called-later : Allowed (meaning wait-five) (move 3 ∷ move 8 ∷ publish (pos 0) ∷ [])
+unfolding meant rewritten searching
+called-later = allowed (meaning wait-five) 20 refl
+
+-- rwait(0): nobody need move the clock
+pub due-at-once : Allowed (meaning no-wait) (publish (pos 0) ∷ [])
+unfolding meant rewritten searching
+due-at-once = allowed (meaning no-wait) 20 refl
+
+-- stop: the clock may be moved to the time that it is, and to the last
+pub same-time-again : Allowed (meaning nothing) (move 0 ∷ move 5 ∷ move 5 ∷ move 2147483647 ∷ [])
+unfolding meant rewritten searching
+same-time-again = allowed (meaning nothing) 20 refl
+
+-- rwait(1) >x> rwait(2147483646): due at the last time
+pub due-at-the-end : Allowed (meaning wait-to-the-end) (move 1 ∷ move 2147483647 ∷ publish (pos 0) ∷ [])
+unfolding meant rewritten searching
+due-at-the-end = allowed (meaning wait-to-the-end) 20 refl
+
+-- let(x) <x< (16() | (rwait(10) >y> let(7))): the deadline passes; or the answer comes at that very time, and the wait, though over, is not
+-- taken up first
+pub deadline-passed : Allowed (meaning deadline) (call 0 16 [] ∷ move 10 ∷ publish (pos 7) ∷ [])
+unfolding meant rewritten searching
+deadline-passed = allowed (meaning deadline) 20 refl
+
+pub just-in-time : Allowed (meaning deadline) (call 0 16 [] ∷ move 10 ∷ answer 0 (pos 3) ∷ publish (pos 3) ∷ [])
+unfolding meant rewritten searching
+just-in-time = allowed (meaning deadline) 20 refl

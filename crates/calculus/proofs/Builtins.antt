@@ -4,7 +4,7 @@ use mathlib.Core.List.{List, [], _∷_}
 use Prim.Native.Nat.{ℕ}
 use lib.IntN.{ℤ, pos, negsuc}
 use Rattle.job.specs.Test.{All, none, more}
-use Rattle.job.specs.Site.{BuiltinReply, gives, silent, builtin}
+use Rattle.job.specs.Site.{BuiltinReply, gives, silent, later, builtin}
 use Rattle.calculus.proofs.Computing.{rewritten}
 
 pub record Row : Type 0 where
@@ -47,6 +47,9 @@ rows =
     ∷ row 5 (pos 3 ∷ pos 3 ∷ []) (gives (pos 0))
     ∷ row 6 (pos 3 ∷ pos 3 ∷ []) (gives (pos 1))
     ∷ row 6 (pos 0 ∷ negsuc 0 ∷ []) (gives (pos 0))
+    -- rwait; when that is, and whether it comes, is said by `dueTime`
+    ∷ row 7 (pos 5 ∷ []) (later (pos 5))
+    ∷ row 7 (negsuc 0 ∷ []) (later (negsuc 0))
     ∷ []
 
 pub builtins-say : All (λ (r : Row). builtin (r .site) (r .values) ≡ r .says) rows
@@ -63,4 +66,4 @@ builtins-say =
     (more refl
     (more refl
     (more refl
-    (more refl (more refl (more refl (more refl (more refl (more refl (more refl none)))))))))))))))))
+    (more refl (more refl (more refl (more refl (more refl (more refl (more refl (more refl (more refl none)))))))))))))))))))

@@ -9,8 +9,9 @@ meant = tt
 
 unfoldable pub rewritten : Unit {0}
 unfolding Rattle.job.specs.Test._and_ Rattle.job.specs.Number.fits Rattle.job.specs.Number.equalZ Rattle.job.specs.Site.zeroIf
-    Rattle.job.specs.Site.notZero Rattle.job.specs.Site.truth Rattle.job.specs.Site.sumReply Rattle.job.specs.Site.isBuiltin
-    Rattle.job.specs.Site.isOutside Rattle.job.specs.Site.builtin Rattle.calculus.specs.Expression.raise
+    Rattle.job.specs.Site.notZero Rattle.job.specs.Site.truth Rattle.job.specs.Site.sumReply Rattle.job.specs.Site.dueTime
+    Rattle.job.specs.Site.isBuiltin Rattle.job.specs.Site.isOutside Rattle.job.specs.Site.builtin
+    Rattle.calculus.specs.Expression.raise
     Rattle.calculus.specs.Expression.lift Rattle.calculus.specs.Expression.substParam
     Rattle.calculus.specs.Expression.substitute Rattle.calculus.specs.Expression.innermost
     Rattle.calculus.specs.Expression.formals Rattle.calculus.specs.Rewriting.paramValues

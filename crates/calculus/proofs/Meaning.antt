@@ -29,15 +29,16 @@ same-number-goal = refl
 
 -- The call is entered while y has no value. Its let(x) becomes a let of y, one binder further out than z: variable 1.
 -- Caught, it would be variable 0, the answer of 17: that comes of putting y's number, 1, for x's, since under z 1 is z.
-pub same-number-entered : (h : ℕ) (g : Exp)
+pub same-number-entered : (h now : ℕ) (g : Exp)
     → Rewrites
     (meaning same-number .body)
     h
+    now
     (prune (call 0 (variable 0 ∷ [])) g)
     silently
     (prune (seq (site 17 []) (site 0 (variable 1 ∷ []))) g)
 unfolding meant rewritten
-same-number-entered h g = prune-left entered
+same-number-entered h now g = prune-left entered
 
 -- 2. A parameter from further out: E as before, goal ((E(a) | E(b)) <b< 16()) <a< 18(), where a is 0 and b is 1.
 abbrev pub further-out : Program
@@ -53,15 +54,16 @@ unfolding meant
 further-out-goal = refl
 
 -- a's let becomes variable 2: z and b stand between. Not raised under z, it would be variable 1 and read b.
-pub further-out-entered : (h : ℕ) (f g k : Exp)
+pub further-out-entered : (h now : ℕ) (f g k : Exp)
     → Rewrites
     (meaning further-out .body)
     h
+    now
     (prune (prune (par (call 0 (variable 1 ∷ [])) f) g) k)
     silently
     (prune (prune (par (seq (site 17 []) (site 0 (variable 2 ∷ []))) f) g) k)
 unfolding meant rewritten
-further-out-entered h f g k = prune-left (prune-left (par-left entered))
+further-out-entered h now f g k = prune-left (prune-left (par-left entered))
 
 -- 3. Two formals under two binders, one of each kind.
 -- E(a, b) = 17() >z> (18(z, w, a, b) <w< let(b)), goal E(7, y) <y< 16(): a is 0, b is 1, z is 2 and w is 3; in the goal y is 0.
@@ -87,10 +89,11 @@ two-binders-goal = refl
 
 -- a is 7 and b is y: variable 2 under z and w, variable 1 under z alone. z and w are left as they are.
 -- In the other order of the formals the site would get y and then 7; raised once only, it would read z for y.
-pub two-binders-entered : (h : ℕ) (g : Exp)
+pub two-binders-entered : (h now : ℕ) (g : Exp)
     → Rewrites
     (meaning two-binders .body)
     h
+    now
     (prune (call 0 (value (pos 7) ∷ variable 0 ∷ [])) g)
     silently
     (prune
@@ -99,19 +102,20 @@ pub two-binders-entered : (h : ℕ) (g : Exp)
     (prune (site 18 (variable 1 ∷ variable 0 ∷ value (pos 7) ∷ variable 2 ∷ [])) (site 0 (variable 1 ∷ []))))
     g)
 unfolding meant rewritten
-two-binders-entered h g = prune-left entered
+two-binders-entered h now g = prune-left entered
 
 -- 4. A call inside the body: E(x) = 17() >z> (E(z) | E(x)), goal E(5). Its parameters are replaced as a site's are.
 abbrev pub calls-itself : Program
 calls-itself = defining 1 (ask 17 >[ 1 ]> (E (v 1 ∷ []) ∥ E (v 0 ∷ []))) (E (# 5 ∷ []))
 
 -- z stays z: with 5 put for variable 0 under z's binder too, E(z) would become E(5)
-pub calls-itself-entered : (h : ℕ)
+pub calls-itself-entered : (h now : ℕ)
     → Rewrites
     (meaning calls-itself .body)
     h
+    now
     (meaning calls-itself .goal)
     silently
     (seq (site 17 []) (par (call 0 (variable 0 ∷ [])) (call 0 (value (pos 5) ∷ []))))
 unfolding meant rewritten
-calls-itself-entered h = entered
+calls-itself-entered h now = entered

@@ -6,16 +6,19 @@ use mathlib.Core.Bool.{Bool, true, false}
 use mathlib.Core.List.{List}
 use mathlib.Core.Option.{Option, some, none}
 use Prim.Native.Nat.{ℕ}
-use lib.IntN.{ℤ}
+use lib.Dec.{leb}
+use lib.IntN.{ℤ, pos}
 use Rattle.job.specs.Test.{_and_}
 use Rattle.job.specs.Number.{fits}
-use Rattle.job.specs.Site.{BuiltinReply, gives, silent, isBuiltin, isOutside, builtin}
-use Rattle.calculus.specs.Event.{Event, publish, answer, Label, silently, showing}
-use Rattle.calculus.specs.Expression.{Param, Exp, stop, site, call, par, seq, prune, pending, hand, substitute, innermost, formals}
+use Rattle.job.specs.Site.{BuiltinReply, gives, silent, later, dueTime, isBuiltin, isOutside, builtin}
+use Rattle.calculus.specs.Event.{Event, publish, answer, move, Label, silently, showing}
+use Rattle.calculus.specs.Expression.{Param, Exp, stop, site, call, par, seq, prune, pending, due, hand}
+use Rattle.calculus.specs.Expression.{substitute, innermost, formals}
 use Rattle.calculus.specs.Rewriting.{NotPublishing, silence, calling, answering, paramValues, Rewrites}
-use Rattle.calculus.specs.Rewriting.{builtin-gives, builtin-silent, outside-call, answered, published, entered}
+use Rattle.calculus.specs.Rewriting.{builtin-gives, builtin-silent, builtin-later, builtin-never, fell-due, outside-call, answered}
+use Rattle.calculus.specs.Rewriting.{published, entered}
 use Rattle.calculus.specs.Rewriting.{par-left, par-right, seq-acts, seq-publishes, prune-left, prune-right, prune-publishes}
-use Rattle.job.proofs.Test.{clash, and-left, and-right}
+use Rattle.job.proofs.Test.{clash, and-left, and-right, leb-le, le-leb}
 
 -- a test that is asked only under a condition
 infixr 20 _implies_
@@ -29,7 +32,7 @@ under true b e t = t
 under false b e t = clash e refl
 
 -- where a test fails: which of two, and under which condition
-and-fails : (a b : Bool) → (a and b) ≡ false → (a ≡ false) ⊎ (b ≡ false)
+pub and-fails : (a b : Bool) → (a and b) ≡ false → (a ≡ false) ⊎ (b ≡ false)
 unfolding _and_
 and-fails true b t = inr t
 and-fails false b t = inl refl
@@ -43,10 +46,16 @@ implies-fails false b t = clash refl t
 abbrev pub Tests : Type 0
 Tests = Label → Exp → Bool
 
--- the two ways a built-in call goes on
-unfoldable pub afterReply : BuiltinReply → (Exp → Bool) → Bool
-afterReply (gives v) p = p (hand v)
-afterReply silent p = p stop
+-- what is left of a call of rwait, by its due time
+unfoldable pub afterDue : Option ℕ → (Exp → Bool) → Bool
+afterDue (some d) p = p (due d)
+afterDue none p = p stop
+
+-- the ways a built-in call goes on
+unfoldable pub afterReply : (now : ℕ) → BuiltinReply → (Exp → Bool) → Bool
+afterReply now (gives v) p = p (hand v)
+afterReply now silent p = p stop
+afterReply now (later t) p = afterDue (dueTime now t) p
 
 -- of the moves of f in f >x> g, or of g in f <x< g, publishing goes one way and all else the other
 unfoldable pub sorted : (ℤ → Exp → Bool) → Tests → Tests
@@ -54,6 +63,7 @@ sorted q p silently f = p silently f
 sorted q p (showing (publish v)) f = q v f
 sorted q p (showing (Event.call k s vs)) f = p (showing (Event.call k s vs)) f
 sorted q p (showing (answer k v)) f = p (showing (answer k v)) f
+sorted q p (showing (move t)) f = p (showing (move t)) f
 
 sorted-passes : {a : Label} (q : ℤ → Exp → Bool) (p : Tests) (f : Exp) → NotPublishing a → sorted q p a f ≡ true → p a f ≡ true
 unfolding sorted
@@ -67,12 +77,13 @@ pub data Within (w : ℤ) : Label → Type 0 where
   in-publishing : {v : ℤ} → Within w (showing (publish v))
   in-calling : {k s : ℕ} {vs : List ℤ} → Within w (showing (Event.call k s vs))
   in-answering : {k : ℕ} → Within w (showing (answer k w))
+  in-moving : {t : ℕ} → Within w (showing (move t))
 
-module _ (body : ℕ → Exp) (h : ℕ) where
+module _ (body : ℕ → Exp) (h now : ℕ) where
   unfoldable pub everyOfSite : ℕ → Option (List ℤ) → Tests → Bool
   everyOfSite s none p = true
   everyOfSite s (some vs) p =
-      (isBuiltin s implies afterReply (builtin s vs) (p silently)) and (isOutside s implies p (showing (Event.call h s vs)) (pending h))
+      (isBuiltin s implies afterReply now (builtin s vs) (p silently)) and (isOutside s implies p (showing (Event.call h s vs)) (pending h))
 
   -- a test of every move of an expression, where answers have the value w
   unfoldable pub every : ℤ → Exp → Tests → Bool
@@ -85,12 +96,18 @@ module _ (body : ℕ → Exp) (h : ℕ) where
       every w f (λ a f′. p a (prune f′ g)) and every w g (sorted (λ v g′. p silently (substitute (innermost v) f))
       (λ a g′. p a (prune f g′)))
   every w (pending k) p = fits w implies p (showing (answer k w)) (hand w)
+  every w (due d) p = leb d now implies p silently (hand (pos 0))
   every w (hand v) p = p (showing (publish v)) stop
 
   site-builtin : (s : ℕ) (vs : List ℤ) (p : Tests) (r : BuiltinReply)
-      → isBuiltin s ≡ true → builtin s vs ≡ r → everyOfSite s (some vs) p ≡ true → afterReply r (p silently) ≡ true
+      → isBuiltin s ≡ true → builtin s vs ≡ r → everyOfSite s (some vs) p ≡ true → afterReply now r (p silently) ≡ true
   unfolding everyOfSite
-  site-builtin s vs p r b e t = subst (λ x. afterReply x (p silently) ≡ true) e (under _ _ b (and-left _ _ t))
+  site-builtin s vs p r b e t = subst (λ x. afterReply now x (p silently) ≡ true) e (under _ _ b (and-left _ _ t))
+
+  due-move : {o : Option ℕ} (s : ℕ) (vs : List ℤ) (p : Tests) (t : ℤ)
+      → isBuiltin s ≡ true → builtin s vs ≡ later t → dueTime now t ≡ o → everyOfSite s (some vs) p ≡ true → afterDue o (p silently) ≡ true
+  unfolding afterReply
+  due-move s vs p t b r d e = subst (λ x. afterDue x (p silently) ≡ true) d (site-builtin s vs p (later t) b r e)
 
   site-outside : (s : ℕ) (vs : List ℤ) (p : Tests)
       → isOutside s ≡ true → everyOfSite s (some vs) p ≡ true → p (showing (Event.call h s vs)) (pending h) ≡ true
@@ -98,12 +115,16 @@ module _ (body : ℕ → Exp) (h : ℕ) where
   site-outside s vs p b t = under _ _ b (and-right _ _ t)
 
   -- where `every` says true, the test holds of each rewriting
-  pub every-move : {f f′ : Exp} {a : Label} (w : ℤ) (p : Tests) → Rewrites body h f a f′ → Within w a → every w f p ≡ true → p a f′ ≡ true
-  unfolding every afterReply sorted
+  pub every-move : {f f′ : Exp} {a : Label} (w : ℤ) (p : Tests)
+      → Rewrites body h now f a f′ → Within w a → every w f p ≡ true → p a f′ ≡ true
+  unfolding every afterReply afterDue sorted
   every-move w p (builtin-gives {s = s} {vs = vs} {v = v} e b r) i t =
       site-builtin s vs p (gives v) b r (subst (λ x. everyOfSite s x p ≡ true) e t)
   every-move w p (builtin-silent {s = s} {vs = vs} e b r) i t =
       site-builtin s vs p silent b r (subst (λ x. everyOfSite s x p ≡ true) e t)
+  every-move w p (builtin-later {s = s} {vs = vs} {t = v} e b r d) i t = due-move s vs p v b r d (subst (λ x. everyOfSite s x p ≡ true) e t)
+  every-move w p (builtin-never {s = s} {vs = vs} {t = v} e b r d) i t = due-move s vs p v b r d (subst (λ x. everyOfSite s x p ≡ true) e t)
+  every-move w p (fell-due {d = d} l) i t = under _ _ (le-leb d now l) t
   every-move w p (outside-call {s = s} {vs = vs} e b) i t = site-outside s vs p b (subst (λ x. everyOfSite s x p ≡ true) e t)
   every-move w p (answered fit) in-answering t = under _ _ fit t
   every-move w p published i t = t
@@ -120,15 +141,23 @@ module _ (body : ℕ → Exp) (h : ℕ) where
   pub record Failing (f : Exp) (p : Tests) : Type 0 where
     pub label : Label
     pub left : Exp
-    pub move : Rewrites body h f label left
+    pub move : Rewrites body h now f label left
     pub fails : p label left ≡ false
+
+  due-failing : (s : ℕ) (ps : List Param) (vs : List ℤ) (v : ℤ) (p : Tests) (o : Option ℕ)
+      → paramValues ps ≡ some vs → isBuiltin s ≡ true → builtin s vs ≡ later v → dueTime now v ≡ o → afterDue o (p silently) ≡ false
+      → Failing (site s ps) p
+  unfolding afterDue
+  due-failing s ps vs v p (some d) e b q f t = record { label = silently; left = due d; move = builtin-later e b q f; fails = t }
+  due-failing s ps vs v p none e b q f t = record { label = silently; left = stop; move = builtin-never e b q f; fails = t }
 
   -- a built-in call that fails a test
   reply-failing : (s : ℕ) (ps : List Param) (vs : List ℤ) (p : Tests) (r : BuiltinReply)
-      → paramValues ps ≡ some vs → isBuiltin s ≡ true → builtin s vs ≡ r → afterReply r (p silently) ≡ false → Failing (site s ps) p
+      → paramValues ps ≡ some vs → isBuiltin s ≡ true → builtin s vs ≡ r → afterReply now r (p silently) ≡ false → Failing (site s ps) p
   unfolding afterReply
   reply-failing s ps vs p (gives v) e b q t = record { label = silently; left = hand v; move = builtin-gives e b q; fails = t }
   reply-failing s ps vs p silent e b q t = record { label = silently; left = stop; move = builtin-silent e b q; fails = t }
+  reply-failing s ps vs p (later v) e b q t = due-failing s ps vs v p (dueTime now v) e b q refl t
 
   site-failing : (s : ℕ) (ps : List Param) (p : Tests) (o : Option (List ℤ))
       → paramValues ps ≡ o → everyOfSite s o p ≡ false → Failing (site s ps) p
@@ -137,22 +166,31 @@ module _ (body : ℕ → Exp) (h : ℕ) where
   site-failing s ps p (some vs) e t =
       elim (and-fails _ _ t) [ inl l ↦ by-builtin (implies-fails _ _ l) | inr r ↦ by-call (implies-fails _ _ r) ]
     where
-      by-builtin : (isBuiltin s ≡ true) × (afterReply (builtin s vs) (p silently) ≡ false) → Failing (site s ps) p
+      by-builtin : (isBuiltin s ≡ true) × (afterReply now (builtin s vs) (p silently) ≡ false) → Failing (site s ps) p
       by-builtin (b, l) = reply-failing s ps vs p (builtin s vs) e b refl l
 
       by-call : (isOutside s ≡ true) × (p (showing (Event.call h s vs)) (pending h) ≡ false) → Failing (site s ps) p
       by-call (b, r) = record { label = showing (Event.call h s vs); left = pending h; move = outside-call e b; fails = r }
 
+  -- no rewriting moves the clock
+  no-clock : {f f′ : Exp} {t : ℕ} {A : Type 0} → Rewrites body h now f (showing (move t)) f′ → A
+  no-clock (par-left r) = no-clock r
+  no-clock (par-right r) = no-clock r
+  no-clock (seq-acts r p) = no-clock r
+  no-clock (prune-left r) = no-clock r
+  no-clock (prune-right r p) = no-clock r
+
   -- a failing move inside, sorted, makes one outside if each of the two ways does
   sorted-failing : {f F : Exp} {p : Tests} (q : ℤ → Exp → Bool) (p′ : Tests)
-      → ((a : Label) (f′ : Exp) → Rewrites body h f a f′ → NotPublishing a → p′ a f′ ≡ false → Failing F p)
-      → ((v : ℤ) (f′ : Exp) → Rewrites body h f (showing (publish v)) f′ → q v f′ ≡ false → Failing F p)
-      → (a : Label) (f′ : Exp) → Rewrites body h f a f′ → sorted q p′ a f′ ≡ false → Failing F p
+      → ((a : Label) (f′ : Exp) → Rewrites body h now f a f′ → NotPublishing a → p′ a f′ ≡ false → Failing F p)
+      → ((v : ℤ) (f′ : Exp) → Rewrites body h now f (showing (publish v)) f′ → q v f′ ≡ false → Failing F p)
+      → (a : Label) (f′ : Exp) → Rewrites body h now f a f′ → sorted q p′ a f′ ≡ false → Failing F p
   unfolding sorted
   sorted-failing q p′ passes publishes silently f′ r t = passes silently f′ r silence t
   sorted-failing q p′ passes publishes (showing (publish v)) f′ r t = publishes v f′ r t
   sorted-failing q p′ passes publishes (showing (Event.call k s vs)) f′ r t = passes (showing (Event.call k s vs)) f′ r calling t
   sorted-failing q p′ passes publishes (showing (answer k v)) f′ r t = passes (showing (answer k v)) f′ r answering t
+  sorted-failing q p′ passes publishes (showing (move m)) f′ r t = no-clock r
 
   -- where `every` says false, the test fails of some move
   pub some-move : (w : ℤ) (f : Exp) (p : Tests) → every w f p ≡ false → Failing f p
@@ -196,9 +234,11 @@ module _ (body : ℕ → Exp) (h : ℕ) where
       ]
   some-move w (pending k) p t =
       let y = implies-fails _ _ t in record { label = showing (answer k w); left = hand w; move = answered (y .0); fails = y .1 }
+  some-move w (due d) p t =
+      let y = implies-fails _ _ t in record { label = silently; left = hand (pos 0); move = fell-due (leb-le d now (y .0)); fails = y .1 }
   some-move w (hand v) p t = record { label = showing (publish v); left = stop; move = published; fails = t }
 
 -- a name for all that `every` computes with
 unfoldable pub moving : Unit {0}
-unfolding _implies_ afterReply sorted everyOfSite every
+unfolding _implies_ afterDue afterReply sorted everyOfSite every
 moving = tt

@@ -6,13 +6,14 @@ use mathlib.Core.List.{List, [], _∷_, _++_}
 use Prim.Native.Nat.{ℕ}
 use lib.IntN.{ℤ, pos, negsuc}
 use Rattle.job.specs.Syntax.{Program}
-use Rattle.calculus.specs.Event.{Event, publish, call, answer}
+use Rattle.calculus.specs.Event.{Event, publish, call, answer, move}
 use Rattle.calculus.specs.Allowed.{Allowed}
 use Rattle.calculus.specs.Meaning.{meaning}
 use Rattle.calculus.proofs.Computing.{meant, rewritten}
 use Rattle.calculus.proofs.Search.{misses, searching, allowed, not-allowed}
 use Rattle.calculus.proofs.Programs.{one-value, overflow, every-value, first-value, first-answer, pass-on, one-suspended}
 use Rattle.calculus.proofs.Programs.{mail-each, mail-once, fork-join, timeout, parallel-or, metronome, not-strict, same-number}
+use Rattle.calculus.proofs.Programs.{nothing, wait-five, wait-negative, wait-past-the-end, deadline}
 
 pub record NoNext (p : Program) (es : List Event) (e : Event) : Type 0 where
   pub so-far : Allowed (meaning p) es
@@ -20,8 +21,8 @@ pub record NoNext (p : Program) (es : List Event) (e : Event) : Type 0 where
 
 -- n bounds the rewritings that are tried
 pub no-next : (n : ℕ) {p : Program} {es : List Event} {e : Event}
-    → misses (meaning p .body) true n 0 (meaning p .goal) es ≡ false
-    → misses (meaning p .body) false n 0 (meaning p .goal) (es ++ (e ∷ [])) ≡ true
+    → misses (meaning p .body) true n 0 0 (meaning p .goal) es ≡ false
+    → misses (meaning p .body) false n 0 0 (meaning p .goal) (es ++ (e ∷ [])) ≡ true
     → NoNext p es e
 no-next n {p} s t = record { so-far = allowed (meaning p) n s; not-then = not-allowed (meaning p) n t }
 
@@ -160,3 +161,44 @@ no-name-caught = no-next 20 refl refl
 pub no-other-name : NoNext same-number (call 0 17 [] ∷ answer 0 (pos 9) ∷ call 1 16 [] ∷ answer 1 (pos 6) ∷ []) (publish (pos 4))
 unfolding meant rewritten searching
 no-other-name = no-next 20 refl refl
+
+-- rwait(5): "answers it with 0 once that clock has reached it", so not at 4, not with no move, and with nothing else
+pub no-answer-before-due : NoNext wait-five (move 4 ∷ []) (publish (pos 0))
+unfolding meant rewritten searching
+no-answer-before-due = no-next 20 refl refl
+
+pub no-answer-without-clock : NoNext wait-five [] (publish (pos 0))
+unfolding meant rewritten searching
+no-answer-without-clock = no-next 20 refl refl
+
+pub no-time-answered : NoNext wait-five (move 5 ∷ []) (publish (pos 5))
+unfolding meant rewritten searching
+no-time-answered = no-next 20 refl refl
+
+-- rwait(-1): "negative t is silent"
+pub no-negative-wait : (w : ℤ) → NoNext wait-negative (move 2147483647 ∷ []) (publish w)
+unfolding meant rewritten searching
+no-negative-wait w = no-next 20 refl refl
+
+-- stop: the clock "takes moves to times 0 to 2147483647 and none back"
+pub no-move-back : NoNext nothing (move 5 ∷ []) (move 4)
+unfolding meant rewritten searching
+no-move-back = no-next 20 refl refl
+
+pub no-move-past-the-end : NoNext nothing [] (move 2147483648)
+unfolding meant rewritten searching
+no-move-past-the-end = no-next 20 refl refl
+
+-- rwait(1) >x> rwait(2147483647): "With a sum above 2147483647 the call never falls due"
+pub no-due-past-the-end : (w : ℤ) → NoNext wait-past-the-end (move 1 ∷ move 2147483647 ∷ []) (publish w)
+unfolding meant rewritten searching
+no-due-past-the-end w = no-next 20 refl refl
+
+-- let(x) <x< (16() | (rwait(10) >y> let(7))): no 7 before the deadline, and with the 7 published the answer comes too late
+pub no-early-deadline : NoNext deadline (call 0 16 [] ∷ move 9 ∷ []) (publish (pos 7))
+unfolding meant rewritten searching
+no-early-deadline = no-next 20 refl refl
+
+pub no-answer-after-deadline : (w : ℤ) → NoNext deadline (call 0 16 [] ∷ move 10 ∷ publish (pos 7) ∷ []) (answer 0 w)
+unfolding meant rewritten searching
+no-answer-after-deadline w = no-next 20 refl refl

@@ -2,7 +2,8 @@
 -- own. Assumes nothing: these are definitions.
 use mathlib.Core.List.{List, [], _∷_}
 use Prim.Native.Nat.{ℕ}
-use Rattle.job.specs.Syntax.{Param, Exp, stop, site, call, Program}
+use lib.IntN.{ℤ, pos, negsuc}
+use Rattle.job.specs.Syntax.{Param, constant, Exp, stop, site, call, Program}
 use Rattle.job.specs.Notation.{_∥_, _>[_]>_, _<[_]<_, v, #, let′, signal, add, goal, calling}
 
 -- calls of sites with no, one and two parameters
@@ -17,6 +18,9 @@ tell-both s a b = site s (a ∷ b ∷ [])
 
 abbrev pub ift : Param → Exp
 ift a = site 1 (a ∷ [])
+
+abbrev pub rwait : ℤ → Exp
+rwait t = site 7 (constant t ∷ [])
 
 -- one definition E, with its count of formals, and a goal
 abbrev pub defining : ℕ → Exp → Exp → Program
@@ -82,9 +86,30 @@ mail-once = goal (tell-both 18 (# 7) (v 0) <[ 0 ]< (ask 16 ∥ ask 17))
 abbrev pub fork-join : Program
 fork-join = goal ((add (v 1) (v 0) <[ 1 ]< ask 16) <[ 0 ]< ask 17)
 
--- "x <x< (M() | Rwait(10) ≫ 0)": let(x) <x< (16() | (17(10) >y> let(0)))
+-- "x <x< (M() | Rwait(10) ≫ 0)", with site 17 for Rwait: let(x) <x< (16() | (17(10) >y> let(0)))
 abbrev pub timeout : Program
 timeout = goal (let′ (v 0) <[ 0 ]< (ask 16 ∥ (tell 17 (# 10) >[ 0 ]> let′ (# 0))))
+
+-- rwait(0); rwait(5); rwait(-1)
+abbrev pub no-wait : Program
+no-wait = goal (rwait (pos 0))
+
+abbrev pub wait-five : Program
+wait-five = goal (rwait (pos 5))
+
+abbrev pub wait-negative : Program
+wait-negative = goal (rwait (negsuc 0))
+
+-- rwait(1) >x> rwait(2147483646), which can fall due at the last time; rwait(1) >x> rwait(2147483647), which cannot fall due
+abbrev pub wait-to-the-end : Program
+wait-to-the-end = goal (rwait (pos 1) >[ 0 ]> rwait (pos 2147483646))
+
+abbrev pub wait-past-the-end : Program
+wait-past-the-end = goal (rwait (pos 1) >[ 0 ]> rwait (pos 2147483647))
+
+-- "x <x< (M() | Rwait(10) ≫ 0)", with 7 for the 0: let(x) <x< (16() | (rwait(10) >y> let(7)))
+abbrev pub deadline : Program
+deadline = goal (let′ (v 0) <[ 0 ]< (ask 16 ∥ (rwait (pos 10) >[ 0 ]> let′ (# 7))))
 
 -- the truth of either of two answers: ((let(z) <z< ((ift(x) >s> let(1)) | (ift(y) >s> let(1)))) <x< 16()) <y< 17()
 abbrev pub parallel-or : Program

@@ -6,8 +6,8 @@ use mathlib.Core.List.{List, [], _∷_, map}
 use Prim.Native.Nat.{ℕ, zero, suc, _<_}
 use native.Mathlib.Omega.{arith}
 use lib.IntN.{ℤ}
-use Rattle.calculus.specs.Expression.{Param, value, variable, Exp, stop, site, call, par, seq, prune, pending, hand, Substitution}
-use Rattle.calculus.specs.Expression.{raise, lift, substParam, substitute, innermost}
+use Rattle.calculus.specs.Expression.{Param, value, variable, Exp, stop, site, call, par, seq, prune, pending, due, hand}
+use Rattle.calculus.specs.Expression.{Substitution, raise, lift, substParam, substitute, innermost}
 
 infixr 40 _after_
 -- first ρ, then θ
@@ -47,6 +47,7 @@ subst-after θ ρ (seq f g) =
 subst-after θ ρ (prune f g) =
     ap₂ prune (subst-after (lift θ) (lift ρ) f ∙ ap (λ τ. substitute τ f) (lift-after θ ρ)) (subst-after θ ρ g)
 subst-after θ ρ (pending h) = refl
+subst-after θ ρ (due d) = refl
 subst-after θ ρ (hand v) = refl
 
 -- each variable for itself
@@ -76,6 +77,7 @@ subst-itself (par f g) = ap₂ par (subst-itself f) (subst-itself g)
 subst-itself (seq f g) = ap₂ seq (subst-itself f) (ap (λ τ. substitute τ g) lift-itself ∙ subst-itself g)
 subst-itself (prune f g) = ap₂ prune (ap (λ τ. substitute τ f) lift-itself ∙ subst-itself f) (subst-itself g)
 subst-itself (pending h) = refl
+subst-itself (due d) = refl
 subst-itself (hand v) = refl
 
 -- v for the innermost variable, ρ for the others

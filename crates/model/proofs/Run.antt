@@ -12,6 +12,7 @@ pub mod Grammar
 pub mod Numbers
 pub mod StepStands
 pub mod AnswerStands
+pub mod ClockStands
 pub mod FrontEnds
 pub mod OnePosition
 pub mod Last
@@ -19,5 +20,6 @@ pub mod Sound
 pub mod First
 pub mod LoadedRuns
 pub mod Worked
+pub mod ClockRuns
 pub mod Broken
 pub mod ReadTables

@@ -34,31 +34,32 @@ pub data Lifts : Gate → (Exp → Exp) → Label → Exp → Label → Exp → 
 
 module _ (G : Program) where
   -- in an expression at K, on the left side of Γ: the hole is at L, on the left side of Δ; Z and D are the other side's tokens and cells
-  pub data Hole (σ : Store) (Γ : List ℕ) (K : Place) : Gate → (Δ : List ℕ) (L : Place) → List Token → List ℕ → (Exp → Exp) → Type 0 where
-    par-left : {g : Exp} {Z : List Token} {D : List ℕ} → Rep G σ Γ g K Z D → Hole σ Γ K free Γ K Z D (λ f. Exp.par f g)
-    par-right : {f : Exp} {Z : List Token} {D : List ℕ} → Rep G σ Γ f K Z D → Hole σ Γ K free Γ K Z D (λ g. Exp.par f g)
+  pub data Hole (now : ℕ) (σ : Store) (Γ : List ℕ) (K : Place)
+      : Gate → (Δ : List ℕ) (L : Place) → List Token → List ℕ → (Exp → Exp) → Type 0 where
+    par-left : {g : Exp} {Z : List Token} {D : List ℕ} → Rep G now σ Γ g K Z D → Hole now σ Γ K free Γ K Z D (λ f. Exp.par f g)
+    par-right : {f : Exp} {Z : List Token} {D : List ℕ} → Rep G now σ Γ f K Z D → Hole now σ Γ K free Γ K Z D (λ g. Exp.par f g)
     seq : {ρ : Substitution} {g : Exp} {L : Place} → Then G σ Γ ρ g K L
-        → Hole σ Γ K
+        → Hole now σ Γ K
         (catching (λ v f. Exp.par (Exp.seq f (substitute (lift ρ) g)) (substitute (innermost v) (substitute (lift ρ) g))))
         Γ L [] [] (λ f. Exp.seq f (substitute (lift ρ) g))
-    prune-left : {c : ℕ} {g : Exp} {L : Place} {Z : List Token} {D : List ℕ} → c not-in D → Chokes G c (above K) L → Rep G σ Γ g L Z D
-        → Hole σ Γ K free (c ∷ Γ) K Z (c ∷ D) (λ f. Exp.prune f g)
+    prune-left : {c : ℕ} {g : Exp} {L : Place} {Z : List Token} {D : List ℕ} → c not-in D → Chokes G c (above K) L → Rep G now σ Γ g L Z D
+        → Hole now σ Γ K free (c ∷ Γ) K Z (c ∷ D) (λ f. Exp.prune f g)
     prune-right : {c : ℕ} {f : Exp} {L : Place} {Z : List Token} {D : List ℕ} → c not-in D → Chokes G c (above K) L
-        → Rep G σ (c ∷ Γ) f K Z D
-        → Hole σ Γ K (catching (λ v g. substitute (innermost v) f)) Γ L Z (c ∷ D) (λ g. Exp.prune f g)
+        → Rep G now σ (c ∷ Γ) f K Z D
+        → Hole now σ Γ K (catching (λ v g. substitute (innermost v) f)) Γ L Z (c ∷ D) (λ g. Exp.prune f g)
 
-  pub fill : {σ : Store} {Γ Δ C D E : List ℕ} {K L : Place} {gate : Gate} {plug : Exp → Exp} {f : Exp} {S Z Q : List Token}
-      → Hole σ Γ K gate Δ L Z D plug → Parts C D E → Mix S Z Q → Rep G σ Δ f L S C → Rep G σ Γ (plug f) K Q E
+  pub fill : {now : ℕ} {σ : Store} {Γ Δ C D E : List ℕ} {K L : Place} {gate : Gate} {plug : Exp → Exp} {f : Exp} {S Z Q : List Token}
+      → Hole now σ Γ K gate Δ L Z D plug → Parts C D E → Mix S Z Q → Rep G now σ Δ f L S C → Rep G now σ Γ (plug f) K Q E
   fill (par-left g) p mx r = Rep.par p mx r g
   fill (par-right f) p mx r = Rep.par (parts-swap p) (mix-swap mx) f r
-  fill {σ} {Γ} {E = E} {K} {f = f} (seq {ρ = ρ} {g = g} t) p mx r =
-      subst (λ Q. Rep G σ Γ (Exp.seq f (substitute (lift ρ) g)) K Q E) (mix-unit mx) (Rep.seq ρ t (rep-more G (p .in-left) r))
+  fill {now} {σ} {Γ} {E = E} {K} {f = f} (seq {ρ = ρ} {g = g} t) p mx r =
+      subst (λ Q. Rep G now σ Γ (Exp.seq f (substitute (lift ρ) g)) K Q E) (mix-unit mx) (Rep.seq ρ t (rep-more G (p .in-left) r))
   fill (prune-left n ch g) p mx r = Rep.prune n p mx ch r g
   fill (prune-right n ch f) p mx r =
       Rep.prune (λ m. p .apart _ m (List·Memᴰ·head refl)) (parts-move n p) (mix-swap mx) ch f r
 
-  pub hole-tidy : {σ : Store} {new : ℕ} {Γ Δ C D E : List ℕ} {K L : Place} {gate : Gate} {plug : Exp → Exp} {Z : List Token}
-      → Hole σ Γ K gate Δ L Z D plug → Parts C D E → Tidy σ new Γ (above K) E → Tidy σ new Δ (above L) C
+  pub hole-tidy : {now : ℕ} {σ : Store} {new : ℕ} {Γ Δ C D E : List ℕ} {K L : Place} {gate : Gate} {plug : Exp → Exp} {Z : List Token}
+      → Hole now σ Γ K gate Δ L Z D plug → Parts C D E → Tidy σ new Γ (above K) E → Tidy σ new Δ (above L) C
   hole-tidy (par-left g) p t = tidy-part t (p .in-left)
   hole-tidy (par-right f) p t = tidy-part t (p .in-left)
   hole-tidy (seq h) p t = tidy-under (tidy-part t (p .in-left)) (sym (then-above G h))
@@ -69,8 +70,8 @@ module _ (G : Program) where
       → σ c ≡ none → Then G σ Γ ρ g K L → Then G (withSet σ c v) Γ ρ g K L
   then-set c v u (then a d r env l) = then a d r (env-set c v u env) l
 
-  pub hole-set : {σ : Store} {Γ Δ D : List ℕ} {K L : Place} {gate : Gate} {plug : Exp → Exp} {Z : List Token} (c : ℕ) (v : ℤ)
-      → σ c ≡ none → Hole σ Γ K gate Δ L Z D plug → Hole (withSet σ c v) Γ K gate Δ L Z D plug
+  pub hole-set : {now : ℕ} {σ : Store} {Γ Δ D : List ℕ} {K L : Place} {gate : Gate} {plug : Exp → Exp} {Z : List Token} (c : ℕ) (v : ℤ)
+      → σ c ≡ none → Hole now σ Γ K gate Δ L Z D plug → Hole now (withSet σ c v) Γ K gate Δ L Z D plug
   hole-set c v u (par-left g) = par-left (rep-set G c v u g)
   hole-set c v u (par-right f) = par-right (rep-set G c v u f)
   hole-set c v u (seq t) = seq (then-set c v u t)
@@ -78,8 +79,8 @@ module _ (G : Program) where
   hole-set c v u (prune-right n ch f) = prune-right n ch (rep-set G c v u f)
 
   -- the other side's tokens are not under a cell of the hole's
-  pub hole-stays : {σ : Store} {Γ Δ D : List ℕ} {K L : Place} {gate : Gate} {plug : Exp → Exp} {Z : List Token} (c : ℕ)
-      → c not-in D → c not-in above K → Hole σ Γ K gate Δ L Z D plug → outOf c Z ≡ Z
+  pub hole-stays : {now : ℕ} {σ : Store} {Γ Δ D : List ℕ} {K L : Place} {gate : Gate} {plug : Exp → Exp} {Z : List Token} (c : ℕ)
+      → c not-in D → c not-in above K → Hole now σ Γ K gate Δ L Z D plug → outOf c Z ≡ Z
   unfolding select
   hole-stays c n u (par-left g) = rep-stays G c n u g
   hole-stays c n u (par-right f) = rep-stays G c n u f
@@ -88,14 +89,16 @@ module _ (G : Program) where
       rep-stays G c (λ m. n (List·Memᴰ·tail m)) (rw (chokes-above G ch) (not-in-cons (λ q. n (List·Memᴰ·head q)) u)) g
   hole-stays c n u (prune-right k ch f) = rep-stays G c (λ m. n (List·Memᴰ·tail m)) u f
 
-  pub hole-place : {σ : Store} {Γ Δ D : List ℕ} {K L : Place} {plug : Exp → Exp} {Z : List Token} → Hole σ Γ K free Δ L Z D plug → L ≡ K
+  pub hole-place : {now : ℕ} {σ : Store} {Γ Δ D : List ℕ} {K L : Place} {plug : Exp → Exp} {Z : List Token}
+      → Hole now σ Γ K free Δ L Z D plug → L ≡ K
   hole-place (par-left g) = refl
   hole-place (par-right f) = refl
   hole-place (prune-left n ch g) = refl
 
-  pub hole-acts : {σ : Store} {Γ Δ D : List ℕ} {K L : Place} {gate : Gate} {plug : Exp → Exp} {Z : List Token}
+  pub hole-acts : {now : ℕ} {σ : Store} {Γ Δ D : List ℕ} {K L : Place} {gate : Gate} {plug : Exp → Exp} {Z : List Token}
       {h : ℕ} {a b : Label} {f f′ e : Exp}
-      → Hole σ Γ K gate Δ L Z D plug → Lifts gate plug a f′ b e → Rewrites (G .body) h f a f′ → Rewrites (G .body) h (plug f) b e
+      → Hole now σ Γ K gate Δ L Z D plug → Lifts gate plug a f′ b e → Rewrites (G .body) h now f a f′
+      → Rewrites (G .body) h now (plug f) b e
   hole-acts (par-left g) (acting l) s = Rewrites.par-left s
   hole-acts (par-right f) (acting l) s = Rewrites.par-right s
   hole-acts (seq t) (acting (passing p)) s = Rewrites.seq-acts s p

@@ -2,7 +2,7 @@
 -- shuffle. By recursion on the shuffle. Assumes nothing.
 use mathlib.Core.Path.{_≡_, refl, ap}
 use mathlib.Core.Bool.{Bool, true, false}
-use mathlib.Core.List.{List, [], _∷_, _++_}
+use mathlib.Core.List.{List, [], _∷_, _++_, map}
 use Rattle.job.specs.Test.{select, All, none, more}
 
 -- the list is L, then x, then R
@@ -62,6 +62,11 @@ module _ {A : Type 0} where
   mix-all empty a b = none
   mix-all (left m) (more p a) b = more p (mix-all m a b)
   mix-all (right m) a (more p b) = more p (mix-all m a b)
+
+  pub mix-map : {B : Type 0} (f : A → B) {S T Q : List A} → Mix S T Q → Mix (map f S) (map f T) (map f Q)
+  mix-map f empty = empty
+  mix-map f (left m) = left (mix-map f m)
+  mix-map f (right m) = right (mix-map f m)
 
   pub split-none : {x : A} {L R : List A} {B : Type 0} → Split x [] L R → B
   split-none s = elim s [ ]

@@ -1,17 +1,18 @@
--- Laws of the abstract machine's cells: what a set cell holds, and which tokens its setting ends. By the tests that decide it. Assumes
--- nothing.
+-- Laws of the abstract machine's cells and of its clock: what a set cell holds, which tokens its setting ends, and which tokens wake. By
+-- the tests that decide it. Assumes nothing.
 use mathlib.Core.Path.{_≡_, refl, _∙_, ap}
 use mathlib.Core.Bool.{Bool, true, false, not}
 use mathlib.Core.List.{List, [], _∷_, List·Memᴰ, List·Memᴰ·head, List·Memᴰ·tail}
 use mathlib.Core.Option.{Option, some, none}
-use Prim.Native.Nat.{ℕ}
+use Prim.Native.Nat.{ℕ, _<_, _≤_}
 use native.Mathlib.Omega.{arith}
 use lib.Dec.{eqb}
-use lib.IntN.{ℤ}
+use lib.IntN.{ℤ, pos}
 use Rattle.job.specs.Test.{_or_, forSome, select, All, more}
 use Rattle.job.proofs.WellFormed.{member-some}
-use Rattle.job.proofs.Test.{eqb-same, ne-eqb}
-use Rattle.simulation.proofs.AbstractMachine.{Token, Store, chosen, withSet, cellsOf, isOutOf, outOf}
+use Rattle.job.proofs.Test.{eqb-same, ne-eqb, le-leb, lt-not-leb}
+use Rattle.simulation.proofs.AbstractMachine.{Place, Token, running, dueLater, Store, chosen, withSet, cellsOf, isOutOf}
+use Rattle.simulation.proofs.AbstractMachine.{outOf, wokenIf, wake}
 
 abbrev pub _is-in_ : ℕ → List ℕ → Type 0
 c is-in C = List·Memᴰ c C
@@ -59,3 +60,10 @@ pub all-end : {c : ℕ} {S : List Token} → All (λ t. c is-in cellsOf t) S →
 unfolding select
 all-end All.none = refl
 all-end {c} (more {x = t} {xs = S} m a) = select-no (isOutOf c) t S (ap not (member-some m)) ∙ all-end a
+
+-- a token whose time has come wakes; another stays
+pub wakes-due : {now d : ℕ} (K : Place) → d ≤ now → wake now (dueLater d K) ≡ running K (pos 0)
+wakes-due {now} {d} K l = ap (λ b. wokenIf b d K) (le-leb d now l)
+
+pub stays-due : {now d : ℕ} (K : Place) → now < d → wake now (dueLater d K) ≡ dueLater d K
+stays-due {now} {d} K l = ap (λ b. wokenIf b d K) (lt-not-leb d now l)

@@ -1,13 +1,11 @@
 -- An answer, accepted or not, leaves each token of the queue as it is and at its position: it writes at the place of a token that is called
 -- out, so not ready, and puts it at the back. Assumes nothing.
-use mathlib.Core.Path.{_≡_, refl, sym, subst}
-use mathlib.Core.Logic.{_⊎_, inl, inr}
+use mathlib.Core.Path.{_≡_, refl, subst}
 use mathlib.Core.Bool.{Bool, true, false}
 use mathlib.Core.List.{List, [], _∷_}
 use Prim.Native.Nat.{ℕ, suc, _+_, _<_}
 use native.Mathlib.Omega.{arith}
-use lib.ListN.{getD, length-take}
-use lib.Seq.{getD-take}
+use lib.ListN.{getD}
 use lib.Dec.{eqb}
 use lib.IntN.{ℤ}
 use Rattle.job.specs.Test.{forSome}
@@ -15,8 +13,7 @@ use Rattle.job.specs.Node.{Dag}
 use Rattle.model.specs.Machine.Limits.{Limits}
 use Rattle.model.specs.Machine.Blank.{blankToken, tokenAt}
 use Rattle.model.specs.Machine.State.{handleOf, isReady}
-use Rattle.model.specs.Machine.Reply.{Effect, isRefused}
-use Rattle.model.specs.Machine.Update.{queueOf}
+use Rattle.model.specs.Machine.Reply.{Effect}
 use Rattle.model.specs.Machine.Answer.{holder, answered, answer}
 use Rattle.model.specs.Run.Follow.{queuedToken, Stands}
 use Rattle.model.specs.declared.token.Place.{Place}
@@ -25,11 +22,10 @@ use Rattle.model.specs.declared.token.State.{State}
 use Rattle.model.specs.declared.token.State.the-variants as states
 use Rattle.model.specs.declared.token.Token.{Token}
 use Rattle.model.specs.declared.record.Machine.{Machine}
-use Rattle.model.specs.declared.reply.Outcome.{Outcome}
-use Rattle.job.proofs.Test.{clash, holds-or-fails}
-use Rattle.model.proofs.Machine.Refused.{After, after-outcome, outcome-refused, AnswerAccepted, answer-accepted}
-use Rattle.model.proofs.Run.Queue.{QueueRulesHold, queue-rules-hold}
-use Rattle.model.proofs.Run.Bystander.{Untouched, untouched-enqueue, untouched-put, queued-unharmed, untouched-stands}
+use Rattle.job.proofs.Test.{clash}
+use Rattle.model.proofs.Machine.Refused.{After, outcome-refused, answer-accepted}
+use Rattle.model.proofs.Run.Queue.{QueueRulesHold}
+use Rattle.model.proofs.Run.Bystander.{Untouched, untouched-enqueue, untouched-put, queued-untouched, call-stands}
 
 -- a token with a handle is not ready
 pub handle-busy : (h : ℕ) (s : State) → forSome (eqb h) (handleOf s) ≡ true → isReady s ≡ false
@@ -38,6 +34,7 @@ handle-busy h states.Blank e = refl
 handle-busy h states.Ready e = clash e refl
 handle-busy h (states.Waiting c) e = refl
 handle-busy h (states.Called n) e = refl
+handle-busy h (states.Due d) e = refl
 handle-busy h states.Frame e = refl
 
 -- the holder of a handle, counted from i, is at a place j places on and is not ready
@@ -66,15 +63,6 @@ module _ (m : Machine) (h : QueueRulesHold m) (k : ℕ) (l : k < m .queued) wher
   abbrev Leaves : Effect → Type 0
   Leaves e = After (Untouched (queuedToken m k) (getD (m .queue) k 0) k) e
 
-  before : Untouched (queuedToken m k) (getD (m .queue) k 0) k m
-  unfolding queueOf
-  before =
-      record {
-        queued = let z = length-take (m .queued) (m .queue) in let s = h .short in omega arith;
-        place = getD-take (m .queued) (m .queue) k 0 l;
-        unharmed = queued-unharmed m h k l;
-      }
-
   apart : (handle q : ℕ) → holder handle 0 (m .tokens) ≡ places.At q → getD (m .queue) k 0 ≡ q → ⊥
   apart handle q e p = go (holder-busy handle 0 (m .tokens) q e)
     where
@@ -86,32 +74,14 @@ module _ (m : Machine) (h : QueueRulesHold m) (k : ℕ) (l : k < m .queued) wher
   after-answered : (handle : ℕ) (v : ℤ) (q : Place) → holder handle 0 (m .tokens) ≡ q → Leaves (answered m v q)
   unfolding answered After
   after-answered handle v places.Nowhere e = tt
-  after-answered handle v (places.At q) e = untouched-enqueue q _ (untouched-put q _ m (apart handle q e) before)
+  after-answered handle v (places.At q) e = untouched-enqueue q _ (untouched-put q _ m (apart handle q e) (queued-untouched m h k l))
 
 pub answer-stands :
     (lim : Limits) (d : Dag) (m : Machine) (handle : ℕ) (v : ℤ) (k : ℕ)
     → k < m .queued
     → Stands m k (answer lim d m handle v .machine) k
-answer-stands lim d m handle v k l = go (holds-or-fails (isRefused (o .reply)))
-  where
-    o : Outcome
-    o = answer lim d m handle v
-
-    same : Stands m k m k
-    same = record { queued = l; place = refl; token = refl }
-
-    left : isRefused (o .reply) ≡ true → o .machine ≡ m
-    left e = unfold answer in outcome-refused m _ e
-
-    accepted : isRefused (o .reply) ≡ false → AnswerAccepted lim d m handle v → Stands m k (o .machine) k
-    accepted ok a =
-        let h : QueueRulesHold m = queue-rules-hold lim d m (a .holds) in
-        subst (λ (o : Outcome). Stands m k (o .machine) k) (sym (a .does))
-        (after-outcome (Untouched (queuedToken m k) (getD (m .queue) k 0) k) (λ o. Stands m k o k)
-        (λ o u. untouched-stands m k o k (h .ready k l) u) m (answered m v (holder handle 0 (m .tokens)))
-        (after-answered m h k l handle v (holder handle 0 (m .tokens)) refl)
-        (subst (λ (o : Outcome). isRefused (o .reply) ≡ false) (a .does) ok))
-
-    go : (isRefused (o .reply) ≡ true) ⊎ (isRefused (o .reply) ≡ false) → Stands m k (o .machine) k
-    go (inl e) = subst (λ (o : Machine). Stands m k o k) (sym (left e)) same
-    go (inr ok) = accepted ok (answer-accepted lim d m handle v ok)
+answer-stands lim d m handle v k l =
+    call-stands lim d m k (answer lim d m handle v) (answered m v (holder handle 0 (m .tokens))) l
+    (λ e. unfold answer in outcome-refused m _ e)
+    (λ ok. let a = answer-accepted lim d m handle v ok in (a .holds, a .does))
+    (λ h. after-answered m h k l handle v (holder handle 0 (m .tokens)) refl)

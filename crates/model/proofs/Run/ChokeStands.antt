@@ -21,7 +21,7 @@ use Rattle.model.specs.declared.record.Machine.{Machine}
 use Rattle.job.proofs.Test.{clash}
 use Rattle.model.proofs.Machine.Choke.{choke-ends}
 use Rattle.model.proofs.Run.Chain.{set-cell-clear}
-use Rattle.model.proofs.Run.Bystander.{Unharmed, Untouched, untouched-orders}
+use Rattle.model.proofs.Run.Bystander.{Unharmed, Untouched, unharmed-timers, untouched-orders}
 
 map-at :
     {A B : Type 0} (f : A → B) (xs : List A) (i : ℕ) (a : A) (b : B) → i < length xs → getD (map f xs) i b ≡ f (getD xs i a)
@@ -35,6 +35,7 @@ ready-awake c states.Blank e = refl
 ready-awake c states.Ready e = refl
 ready-awake c (states.Waiting b) e = clash e refl
 ready-awake c (states.Called h) e = refl
+ready-awake c (states.Due d) e = refl
 ready-awake c states.Frame e = refl
 
 module _ (cs : List Cell) (c : ℕ) (t : Token) where
@@ -77,13 +78,13 @@ module _ (c : ℕ) (m : Machine) where
       (v : Held) {u : Token} {p k : ℕ} → p < length (m .tokens) → isReady (u .state) ≡ true → within (m .cells) c (u .cell) ≡ false
       → Unharmed u p m → k < length queueThen → getD queueThen k 0 ≡ p → Untouched u p k (afterChoke c v m)
   unfolding afterChoke
-  untouched-choked v {u} {p} {k} l r w h i e = untouched-orders queueThen _ _ i e unharmed
+  untouched-choked v {u} {p} {k} l r w h i e = untouched-orders queueThen _ _ i e (unharmed-timers _ _ tables)
     where
       cells : List Cell
       cells = set (m .cells) c (record { parent = cellAt (m .cells) c .parent; value = v })
 
-      unharmed : Unharmed u p (withTables chokedTokens cells m)
-      unharmed = unfold withTables in
+      tables : Unharmed u p (withTables chokedTokens cells m)
+      tables = unfold withTables in
           record {
             token = choked-token p l ∙ (ap (chokeToken (m .cells) c) (h .token) ∙ choke-spares (m .cells) c u r w);
             clear = set-cell-clear (m .cells) c _ (u .cell) (h .clear) w;

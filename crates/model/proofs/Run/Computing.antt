@@ -13,16 +13,15 @@ unfolding Rattle.job.specs.Construct.own Rattle.job.specs.Construct.nodeCount 
     Rattle.job.specs.Read.entryAt Rattle.job.specs.Read.readParam Rattle.job.specs.Read.readParamList Rattle.job.specs.Read.readCall
     Rattle.job.specs.Read.readJoin Rattle.job.specs.Read.readExp Rattle.job.specs.Read.isDefinition Rattle.job.specs.Read.readDefinition
     Rattle.job.specs.Read.readProgram Rattle.job.specs.Read.leftovers Rattle.job.specs.Read.callHolds Rattle.job.specs.Read.definitionsHold
-    Rattle.job.specs.Read.readEntries Rattle.job.specs.Read.readSizes Rattle.job.specs.Read.readBytes
-    Rattle.job.specs.Read.readerAnswer Rattle.job.specs.Read.readTable
-    Rattle.job.specs.Syntax.levels Rattle.job.specs.Syntax.scopeLeft Rattle.job.specs.Syntax.scopeRight Rattle.job.specs.Words.paramWords
-    Rattle.job.specs.Words.nodeWords Rattle.job.specs.Words.paramOf Rattle.job.specs.Words.paramsFrom Rattle.job.specs.Words.nodeBy
-    Rattle.job.specs.Words.decodedNode Rattle.job.specs.Words.nodesFrom Rattle.job.specs.Words.bodiesFrom Rattle.job.specs.Words.dagOf
-    Rattle.job.specs.Words.rowsOfNodes Rattle.job.specs.Words.bodyWords Rattle.job.specs.Words.written
+    Rattle.job.specs.Read.readEntries Rattle.job.specs.Read.readSizes Rattle.job.specs.Read.readBytes Rattle.job.specs.Read.readerAnswer
+    Rattle.job.specs.Read.readTable Rattle.job.specs.Syntax.levels Rattle.job.specs.Syntax.scopeLeft Rattle.job.specs.Syntax.scopeRight
+    Rattle.job.specs.Words.paramWords Rattle.job.specs.Words.nodeWords Rattle.job.specs.Words.paramOf Rattle.job.specs.Words.paramsFrom
+    Rattle.job.specs.Words.nodeBy Rattle.job.specs.Words.decodedNode Rattle.job.specs.Words.nodesFrom Rattle.job.specs.Words.bodiesFrom
+    Rattle.job.specs.Words.dagOf Rattle.job.specs.Words.rowsOfNodes Rattle.job.specs.Words.bodyWords Rattle.job.specs.Words.written
     Rattle.job.specs.Decimal.ascii Rattle.job.specs.Decimal.decimalDigits Rattle.job.specs.Decimal.decimal
-    Rattle.job.specs.Decimal.signedDecimal Rattle.model.specs.Output.Line.lineOf
-    Rattle.model.specs.Output.Line.textOf Rattle.model.specs.Output.Line.textOfAll
-    Rattle.model.specs.Output.Orcrun.reportedLines Rattle.model.specs.Output.Orcrun.stepTurn
+    Rattle.job.specs.Decimal.signedDecimal Rattle.model.specs.Output.Line.lineOf Rattle.model.specs.Output.Line.textOf
+    Rattle.model.specs.Output.Line.textOfAll Rattle.model.specs.Output.Orcrun.reportedLines
+    Rattle.model.specs.Output.Orcrun.stepTurn Rattle.model.specs.Output.Orcrun.delivered
     Rattle.model.specs.Output.Orcrun.deliverTurn Rattle.model.specs.Output.Orcrun.lastTurn
     Rattle.model.specs.Output.Orcrun.turn Rattle.model.specs.Output.Orcrun.turnLines
     Rattle.model.specs.Output.Orcrun.runLines Rattle.model.specs.Output.Orcrun.tableLines
@@ -51,19 +50,23 @@ unfolding Rattle.job.specs.Construct.own Rattle.job.specs.Construct.nodeCount 
     Rattle.model.specs.Machine.Rules.tokenInRange Rattle.model.specs.Machine.Rules.cellInRange
     Rattle.model.specs.Machine.Rules.sizesInRange Rattle.model.specs.Machine.State.isReady
     Rattle.model.specs.Machine.State.isWaiting Rattle.model.specs.Machine.State.isFrame
-    Rattle.model.specs.Machine.Rules.namesOnce Rattle.model.specs.Machine.Rules.chainEnds
-    Rattle.model.specs.Machine.Rules.chainsEnd Rattle.model.specs.Machine.Rules.notUnderSet
-    Rattle.model.specs.Machine.State.handleOf Rattle.model.specs.Machine.Rules.openHandles
-    Rattle.model.specs.Machine.Rules.waitsAtUnset Rattle.model.specs.Machine.Rules.namesFrame
-    Rattle.model.specs.Machine.Rules.notEmpty Rattle.model.specs.Machine.Rules.valueIfReady
-    Rattle.model.specs.Machine.Rules.nodeRule Rattle.model.specs.Machine.Rules.atNode
-    Rattle.model.specs.Machine.Rules.restIsBlank Rattle.model.specs.Machine.Rules.machineHolds
-    Rattle.model.specs.Machine.Rules.rulesHold Rattle.model.specs.Machine.Start.start
-    Rattle.model.specs.Machine.Update.withNode Rattle.model.specs.Machine.Update.withBinding
-    Rattle.model.specs.Machine.Update.withValue Rattle.model.specs.Machine.Update.inCell
-    Rattle.model.specs.Machine.Update.withState Rattle.model.specs.Machine.Update.withTables
-    Rattle.model.specs.Machine.Update.withOrders Rattle.model.specs.Machine.Update.withCounts
-    Rattle.model.specs.Machine.Update.queueOf Rattle.model.specs.Machine.Update.waitsOf
+    Rattle.model.specs.Machine.State.isDue Rattle.model.specs.Machine.State.dueTimeOf
+    Rattle.model.specs.Machine.State.isDueBy Rattle.model.specs.Machine.Rules.namesOnce
+    Rattle.model.specs.Machine.Rules.chainEnds Rattle.model.specs.Machine.Rules.chainsEnd
+    Rattle.model.specs.Machine.Rules.notUnderSet Rattle.model.specs.Machine.State.handleOf
+    Rattle.model.specs.Machine.Rules.openHandles Rattle.model.specs.Machine.Rules.waitsAtUnset
+    Rattle.model.specs.Machine.Rules.namesFrame Rattle.model.specs.Machine.Rules.notEmpty
+    Rattle.model.specs.Machine.Rules.valueIfReady Rattle.model.specs.Machine.Rules.nodeRule
+    Rattle.model.specs.Machine.Rules.atNode Rattle.model.specs.Machine.Rules.restIsBlank
+    Rattle.model.specs.Machine.Rules.dueInRange Rattle.model.specs.Machine.Rules.clockHolds
+    Rattle.model.specs.Machine.Rules.machineHolds Rattle.model.specs.Machine.Rules.rulesHold
+    Rattle.model.specs.Machine.Start.start Rattle.model.specs.Machine.Update.withNode
+    Rattle.model.specs.Machine.Update.withBinding Rattle.model.specs.Machine.Update.withValue
+    Rattle.model.specs.Machine.Update.inCell Rattle.model.specs.Machine.Update.withState
+    Rattle.model.specs.Machine.Update.withTables Rattle.model.specs.Machine.Update.withOrders
+    Rattle.model.specs.Machine.Update.withCounts Rattle.model.specs.Machine.Update.withTimers
+    Rattle.model.specs.Machine.Update.withClock Rattle.model.specs.Machine.Update.queueOf
+    Rattle.model.specs.Machine.Update.waitsOf Rattle.model.specs.Machine.Update.timersOf
     Rattle.model.specs.Machine.Update.put Rattle.model.specs.Machine.Update.enqueue
     Rattle.model.specs.Machine.Update.newToken Rattle.model.specs.Machine.Update.newCell
     Rattle.model.specs.Machine.Step.andThen Rattle.model.specs.Machine.Step.look Rattle.model.specs.Machine.Step.passed
@@ -71,16 +74,21 @@ unfolding Rattle.job.specs.Construct.own Rattle.job.specs.Construct.nodeCount 
     Rattle.model.specs.Machine.State.waitsAt Rattle.model.specs.Machine.Step.chokeToken
     Rattle.model.specs.Machine.Step.afterChoke Rattle.model.specs.Machine.Step.ended
     Rattle.model.specs.Machine.Step.goesOn Rattle.model.specs.Machine.Step.forked Rattle.model.specs.Machine.Step.split
-    Rattle.model.specs.Machine.Step.entered Rattle.model.specs.Machine.Step.waited Rattle.model.specs.Machine.Step.replied
+    Rattle.model.specs.Machine.Step.entered Rattle.model.specs.Machine.Step.waited
+    Rattle.model.specs.Machine.Step.deferred Rattle.model.specs.Machine.Step.replied
     Rattle.model.specs.Machine.Step.calledOut Rattle.model.specs.Machine.Step.returned
     Rattle.model.specs.Machine.Step.chokeAt Rattle.model.specs.Machine.Step.callSite
     Rattle.model.specs.Machine.Step.hasTokenPlace Rattle.model.specs.Machine.Step.hasCellPlace
     Rattle.model.specs.Machine.Step.act Rattle.model.specs.Machine.Step.takes Rattle.model.specs.Machine.Step.step
-    Rattle.job.specs.Number.number Rattle.job.specs.Number.bytes Rattle.job.specs.Number.signed Rattle.job.specs.Number.unsigned
-    Rattle.job.specs.Number.fits Rattle.job.specs.Number.equalZ Rattle.job.specs.Site.zeroIf Rattle.job.specs.Site.notZero
-    Rattle.job.specs.Site.truth Rattle.job.specs.Site.sumReply Rattle.job.specs.Site.isBuiltin Rattle.job.specs.Site.isOutside
-    Rattle.job.specs.Site.siteTakes Rattle.job.specs.Site.builtin Rattle.job.specs.Test._and_ Rattle.job.specs.Test._or_
-    Rattle.job.specs.Test.forAll Rattle.job.specs.Test.forSome Rattle.job.specs.Test.allFrom Rattle.job.specs.Test.select
-    Rattle.job.specs.Test.occurrences Rattle.job.specs.Test.distinct Rattle.job.specs.Test.same Rattle.job.specs.Test.padded
-    Rattle.job.specs.Test.without
+    Rattle.model.specs.Machine.Clock.wokenBy Rattle.model.specs.Machine.Clock.insertByTime
+    Rattle.model.specs.Machine.Clock.sortByTime Rattle.model.specs.Machine.Clock.placeDueBy
+    Rattle.model.specs.Machine.Clock.joining Rattle.model.specs.Machine.Clock.staying
+    Rattle.model.specs.Machine.Clock.advanced Rattle.model.specs.Machine.Clock.takesTime
+    Rattle.model.specs.Machine.Clock.advance Rattle.job.specs.Number.number Rattle.job.specs.Number.bytes
+    Rattle.job.specs.Number.signed Rattle.job.specs.Number.unsigned Rattle.job.specs.Number.fits Rattle.job.specs.Number.equalZ
+    Rattle.job.specs.Site.zeroIf Rattle.job.specs.Site.notZero Rattle.job.specs.Site.truth Rattle.job.specs.Site.sumReply
+    Rattle.job.specs.Site.dueTime Rattle.job.specs.Site.isBuiltin Rattle.job.specs.Site.isOutside Rattle.job.specs.Site.siteTakes
+    Rattle.job.specs.Site.builtin Rattle.job.specs.Test._and_ Rattle.job.specs.Test._or_ Rattle.job.specs.Test.forAll
+    Rattle.job.specs.Test.forSome Rattle.job.specs.Test.allFrom Rattle.job.specs.Test.select Rattle.job.specs.Test.occurrences
+    Rattle.job.specs.Test.distinct Rattle.job.specs.Test.same Rattle.job.specs.Test.padded Rattle.job.specs.Test.without
 computing = tt

@@ -12,7 +12,7 @@ use Rattle.model.specs.Machine.Limits.{Limits}
 use Rattle.model.specs.Machine.Blank.{blankToken, tokenAt}
 use Rattle.model.specs.Machine.InUse.{tokensUsed, sweep}
 use Rattle.model.specs.Machine.Reply.{accepted, outcome, isRefused}
-use Rattle.model.specs.Machine.Update.{withOrders, withTables, queueOf, waitsOf}
+use Rattle.model.specs.Machine.Update.{withOrders, withTimers, withTables, queueOf, waitsOf}
 use Rattle.model.specs.Machine.Step.{afterChoke, chokeAt, act, takes, step}
 use Rattle.model.specs.Run.Follow.{queuedToken, cellSet, endsToken, frontEnds, Fate, acts, falls, stays, survivors, fate}
 use Rattle.model.specs.declared.token.Place.{Place}
@@ -65,7 +65,7 @@ module _ (lim : Limits) (d : Dag) (m : Machine) (k : ℕ) where
 
   by-cell : (q : Place) → endsToken m q (queuedToken m k) ≡ true
       → tokenAt (outcome m (chokeAt taken front q) .machine .tokens) place ≡ blankToken
-  unfolding endsToken chokeAt outcome accepted afterChoke withOrders withTables
+  unfolding endsToken chokeAt outcome accepted afterChoke withOrders withTimers withTables
   by-cell places.Nowhere e = clash e refl
   by-cell (places.At c) e = swept-blank _ place (choke-at (m .cells) c (m .tokens) place ∙ choke-ends (m .cells) c (queuedToken m k) e)
 

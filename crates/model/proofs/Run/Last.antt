@@ -1,7 +1,8 @@
 -- Demand 3, last part: while a ready token with k others before it neither acts nor is pruned, "at most k later steps have been accepted",
 -- if every step takes place 0. Each accepted step at place 0 that neither takes nor ends a token leaves it in the queue with
--- fewer others before it, so there are at most as many such steps as stood before it; answers leave it where it was. Assumes nothing.
-use mathlib.Core.Path.{_≡_, refl, sym, subst}
+-- fewer others before it, so there are at most as many such steps as stood before it; answers and clock moves leave it where it was.
+-- Assumes nothing.
+use mathlib.Core.Path.{_≡_, refl}
 use mathlib.Core.Bool.{Bool, false}
 use mathlib.Core.List.{List, _∷_}
 use Prim.Native.Nat.{ℕ, zero, suc, _≤_, _<_}
@@ -14,16 +15,18 @@ use Rattle.model.specs.Machine.Limits.{Limits, paper}
 use Rattle.model.specs.Machine.Reply.{isRefused}
 use Rattle.model.specs.Machine.Step as Step
 use Rattle.model.specs.Machine.Answer as Answer
+use Rattle.model.specs.Machine.Clock as Clock
 use Rattle.calculus.specs.Event.{Event}
 use Rattle.model.specs.Run.Call.{Call, runner, outcomeOf}
 use Rattle.model.specs.Run.Follow.{Fate, acts, falls, stays, fate, House, Followed}
 use Rattle.model.specs.Run.Demand3.{Last}
 use Rattle.model.specs.declared.record.Machine.{Machine}
-use Rattle.model.proofs.Run.Passage.{Passage, passage, refused-leaves}
+use Rattle.model.proofs.Run.Passage.{Passage, passage, passage-behind}
 use Rattle.model.proofs.Run.Survivors.{survivors-bound, fate-stays}
 use Rattle.model.proofs.Run.FrontEnds.{fate-acts, fate-falls, step-acts, step-ends}
 use Rattle.model.proofs.Run.StepStands.{step-stands}
 use Rattle.model.proofs.Run.AnswerStands.{answer-stands}
+use Rattle.model.proofs.Run.ClockStands.{advance-stands}
 use Rattle.job.proofs.Accepted.{accepted-well-formed}
 use Rattle.model.proofs.Machine.StartAccepted.{accepted-starts}
 
@@ -67,18 +70,24 @@ module _ (lim : Limits) (d : Dag) (fits : lim .tokens ≤ lim .tokenPlaces) wher
   after-answer m k h v signed l rest =
       let s = answer-stands lim d m h v k l in let r = rest k (s .queued) in (r .0, Followed.between s (r .1), r .2)
 
+  -- a clock move, accepted or not
+  after-advance : {calls : List Call} (m : Machine) (k time : ℕ) → k < m .queued
+      → ((k′ : ℕ) → k′ < Clock.advance lim d m time .machine .queued → Fair (Clock.advance lim d m time .machine) k′ calls)
+      → Fair m k (Call.advance time ∷ calls)
+  unfolding outcomeOf
+  after-advance m k time l rest =
+      let s = advance-stands lim d m time k l in let r = rest k (s .queued) in (r .0, Followed.ticking s (r .1), r .2)
+
   pub follow : {m end : Machine} {calls : List Call} {es : List Event} {fine : Bool} → House calls → Passage lim d m calls es fine end
       → (k : ℕ) → k < m .queued → Fair m k calls
   unfolding outcomeOf
   follow House.none p k l = (0, Followed.over, omega arith)
   follow (House.front rest) (Passage.refused no′ p) k l = (0, Followed.refused no′, omega arith)
   follow (House.front rest) (Passage.accepted {m = m} ok p) k l = after-step m k l ok (λ k′ l′. follow rest p k′ l′)
-  follow (House.between {h = h} {v = v} {fits = signed} {cs = calls} rest) (Passage.refused {m = m} no′ p) k l =
-      after-answer m k h v signed l
-      (subst (λ (m′ : Machine). (k′ : ℕ) → k′ < m′ .queued → Fair m′ k′ calls) (sym (refused-leaves lim d m (Call.answer h v signed) no′))
-      (λ k′ l′. follow rest p k′ l′))
-  follow (House.between {h = h} {v = v} {fits = signed} rest) (Passage.accepted {m = m} ok p) k l =
-      after-answer m k h v signed l (λ k′ l′. follow rest p k′ l′)
+  follow {m} (House.between {h = h} {v = v} {fits = signed} rest) p k l =
+      after-answer m k h v signed l (λ k′ l′. follow rest (passage-behind lim d p .2) k′ l′)
+  follow {m} (House.ticking {time = time} rest) p k l =
+      after-advance m k time l (λ k′ l′. follow rest (passage-behind lim d p .2) k′ l′)
 
 -- "Last part: .. at most k later steps have been accepted."
 pub house-order-is-fair : Last runner

@@ -1,5 +1,5 @@
--- The numbers of the refusals 9 to 14, the values beside a reply, and the text of `limit`, by small runs that document 01's sentences
--- decide: each is computed, and compared with what the sentence says. Assumes nothing.
+-- The numbers of the refusals 9 to 15, the values beside a reply, and the text of `limit`, by small runs that the papers' sentences decide:
+-- each is computed, and compared with what the sentence says. Assumes nothing.
 use mathlib.Core.Path.{_≡_, refl}
 use mathlib.Core.List.{List, [], _∷_, map}
 use lib.IntN.{pos, negsuc}
@@ -15,6 +15,7 @@ use Rattle.model.specs.Machine.Reply.{refusalOf}
 use Rattle.model.specs.Machine.Start.{start}
 use Rattle.model.specs.Machine.Step.{step}
 use Rattle.model.specs.Machine.Answer.{answer}
+use Rattle.model.specs.Machine.Clock.{advance}
 use Rattle.model.specs.Output.Line.{refused, textOfAll}
 use Rattle.model.specs.Output.Orcrun.{reportedLines, inputLines}
 use Rattle.model.specs.declared.record.Machine.{Machine}
@@ -36,7 +37,7 @@ noCells = record { tokenPlaces = 2; cellPlaces = 1; tokens = 2; cells = 0; calls
 abbrev pub noDag : Dag
 noDag = record { nodes = []; bodies = []; goal = 0 }
 
--- refused calls, each under document 01's words
+-- refused calls, each under its paper's words
 abbrev pub refusals : List Outcome
 refusals =
     -- "9: no ready token at the chosen place of the queue"
@@ -49,15 +50,19 @@ refusals =
     ∷ answer paper (dagOfGoal stop) (first paper stop) 0 (pos 7)
     -- "13: outside call, all values there, after 1,000,000 such calls", here after none
     ∷ step (limits 1 1 0) (dagOfGoal (site 16 [])) (first (limits 1 1 0) (site 16 [])) 0
-    -- "14: dag or machine record breaks an index rule": of each call
+    -- "15, the clock would go back", "or leave its range"
+    ∷ advance paper (dagOfGoal stop) (advance paper (dagOfGoal stop) (first paper stop) 3 .machine) 2
+    ∷ advance paper (dagOfGoal stop) (first paper stop) 2147483648
+    -- "14: dag or machine record breaks an index rule": of each call; "15, .. after 14"
     ∷ start paper noDag
     ∷ step paper noDag (blankMachine paper) 0
     ∷ answer paper noDag (blankMachine paper) 0 (pos 0)
+    ∷ advance paper noDag (blankMachine paper) 2147483648
     ∷ []
 
 pub numbers :
     map (λ (o : Outcome). reportedLines (o .reply) (o .values)) refusals
-    ≡ map (λ n. refused n ∷ []) (9 ∷ 10 ∷ 11 ∷ 12 ∷ 13 ∷ 14 ∷ 14 ∷ 14 ∷ [])
+    ≡ map (λ n. refused n ∷ []) (9 ∷ 10 ∷ 11 ∷ 12 ∷ 13 ∷ 15 ∷ 15 ∷ 14 ∷ 14 ∷ 14 ∷ 14 ∷ [])
 unfolding computing
 numbers = refl
 

@@ -10,8 +10,9 @@ use Rattle.model.specs.Machine.Limits.{Limits}
 use Rattle.model.specs.Machine.Reply.{isRefused}
 use Rattle.model.specs.Machine.Step as Step
 use Rattle.model.specs.Machine.Answer as Answer
+use Rattle.model.specs.Machine.Clock as Clock
 use Rattle.calculus.specs.Event.{Event}
-use Rattle.model.specs.Run.Call.{Call, step, answer, runner, eventsOf, outcomeOf, eventsFrom, noneRefused, machineAfter}
+use Rattle.model.specs.Run.Call.{Call, step, answer, advance, runner, eventsOf, outcomeOf, eventsFrom, noneRefused, machineAfter}
 use Rattle.model.specs.declared.record.Machine.{Machine}
 use Rattle.model.specs.declared.reply.Reply.{Reply}
 use Rattle.model.specs.declared.reply.Reply.the-variants as replies
@@ -31,13 +32,15 @@ refused-shows c (replies.Published v) vs e = clash e refl
 refused-shows c (replies.Called h s n) vs e = clash e refl
 refused-shows (step place) (replies.Refused r) vs e = refl
 refused-shows (answer h v signed) (replies.Refused r) vs e = refl
+refused-shows (advance time) (replies.Refused r) vs e = refl
 
 module _ (lim : Limits) (d : Dag) where
   pub refused-leaves : (m : Machine) (c : Call) → isRefused (outcomeOf runner lim d m c .reply) ≡ true
       → outcomeOf runner lim d m c .machine ≡ m
-  unfolding outcomeOf Step.step Answer.answer
+  unfolding outcomeOf Step.step Answer.answer Clock.advance
   refused-leaves m (step place) e = outcome-refused m _ e
   refused-leaves m (answer h v signed) e = outcome-refused m _ e
+  refused-leaves m (advance time) e = outcome-refused m _ e
 
   -- calls on a machine: what they show, whether none is refused, and where they end
   pub data Passage : Machine → List Call → (events : List Event) → (fine : Bool) → (end : Machine) → Type 0 where
@@ -75,6 +78,13 @@ module _ (lim : Limits) (d : Dag) where
           (sym (refused-shows c (o .reply) (o .values) no′))
           (subst (λ m′. Passage m (c ∷ cs) (shown m′) false (end m′)) (sym (refused-leaves m c no′)) (refused no′ (rest m)))
       go false ok rest = accepted ok (rest (o .machine))
+
+  -- the calls behind the first are one, accepted or not as it may be
+  pub passage-behind : {m end : Machine} {c : Call} {cs : List Call} {es : List Event} {fine : Bool} → Passage m (c ∷ cs) es fine end
+      → (es′ : List Event) × (fine′ : Bool) × Passage (outcomeOf runner lim d m c .machine) cs es′ fine′ end
+  passage-behind (refused {m = m} {end = end} {c = c} {cs = cs} {es = es} {fine = fine} no′ p) =
+      (es, fine, subst (λ m′. Passage m′ cs es fine end) (sym (refused-leaves m c no′)) p)
+  passage-behind (accepted {es = es} {fine = fine} ok p) = (es, fine, p)
 
   -- and what a passage says of them is so
   pub record Passed (m : Machine) (cs : List Call) (es : List Event) (fine : Bool) (end : Machine) : Type 0 where

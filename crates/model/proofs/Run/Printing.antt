@@ -18,11 +18,13 @@ use Rattle.model.specs.Machine.Limits.{Limits, paper}
 use Rattle.model.specs.Machine.Reply.{isRefused}
 use Rattle.model.specs.Machine.Step as Step
 use Rattle.model.specs.Machine.Answer as Answer
+use Rattle.model.specs.Machine.Clock as Clock
 use Rattle.model.specs.Output.Line.{Line, end, limit, short, long, textOfAll}
-use Rattle.model.specs.Output.Orcrun.{Standing, on, over, reportedLines, stepTurn, deliverTurn, lastTurn, turn, turnLines, runLines}
-use Rattle.model.specs.Output.Orcrun.{tableLines, inputLines, orcrun}
+use Rattle.model.specs.Output.Orcrun.{Standing, on, over, reportedLines, clockHandle, delivered, stepTurn, deliverTurn}
+use Rattle.model.specs.Output.Orcrun.{lastTurn, turn, turnLines, runLines, tableLines, inputLines, orcrun}
 use Rattle.model.specs.Output.Printed.{callLines, acceptedSteps, HouseCalls, Ends, Printed}
-use Rattle.model.specs.Run.Call.{Call, step, answer, runner, outcomeOf, machineAfter, started}
+use Rattle.model.specs.Run.Call.{Call, step, answer, advance, runner, outcomeOf, machineAfter, started}
+use Rattle.model.specs.declared.record.Machine.{Machine}
 use Rattle.model.specs.declared.reply.Outcome.{Outcome}
 use Rattle.job.proofs.Number.{signed-fits}
 use Rattle.job.proofs.Test.{holds-or-fails, eq-eqb, ne-eqb, lt-ltb, le-not-ltb, le-leb, lt-not-leb}
@@ -52,8 +54,15 @@ module _ (lim : Limits) (most : ℕ) (d : Dag) where
     abbrev o : Outcome
     o = Step.step lim d (s .machine) 0
 
+    -- the record's handle and value, and what it does
+    abbrev h : ℕ
+    h = number (take 4 (s .rest))
+
+    abbrev v : ℕ
+    v = number (take 4 (drop 4 (s .rest)))
+
     abbrev a : Outcome
-    a = Answer.answer lim d (s .machine) (number (take 4 (s .rest))) (signed (number (take 4 (drop 4 (s .rest)))))
+    a = delivered lim d (s .machine) h v
 
     abbrev stepped : Standing
     stepped = record { machine = o .machine; steps = suc (s .steps); rest = s .rest }
@@ -72,10 +81,10 @@ module _ (lim : Limits) (most : ℕ) (d : Dag) where
     unfolding turn stepTurn
     turn-step q l e = rw (ne-eqb (s .machine .queued) 0 q, lt-ltb (s .steps) most l, e, turn, stepTurn) refl
 
-    abbrev delivered : Standing
-    delivered = record { machine = a .machine; steps = s .steps; rest = drop 8 (s .rest) }
+    abbrev recorded : Standing
+    recorded = record { machine = a .machine; steps = s .steps; rest = drop 8 (s .rest) }
 
-    turn-deliver : s .machine .queued ≡ 0 → 8 ≤ length (s .rest) → turn lim most d s ≡ on (reportedLines (a .reply) (a .values)) delivered
+    turn-deliver : s .machine .queued ≡ 0 → 8 ≤ length (s .rest) → turn lim most d s ≡ on (reportedLines (a .reply) (a .values)) recorded
     unfolding turn deliverTurn
     turn-deliver q l = rw (eq-eqb (s .machine .queued) 0 q, le-leb 8 (length (s .rest)) l, turn) refl
 
@@ -119,21 +128,45 @@ module _ (lim : Limits) (most : ℕ) (d : Dag) where
         prints = rw (ok, acceptedSteps, sym z) (ap (λ xs. lines ++ xs) (f .prints) ∙ sym (append-assoc lines _ _));
       }
 
-  after-answer : (s : Standing) {ls : List Line} → s .machine .queued ≡ 0 → 8 ≤ length (s .rest)
-      → From (delivered s) ls → From s (reportedLines (a s .reply) (a s .values) ++ ls)
-  unfolding callLines acceptedSteps machineAfter outcomeOf
-  after-answer s {ls} q l f =
-      let lines = reportedLines (a s .reply) (a s .values) in
-      let v = signed (number (take 4 (drop 4 (s .rest)))) in
-      record {
-        calls = answer (number (take 4 (s .rest))) v (signed-fits _) ∷ f .calls;
-        left = f .left;
-        before = f .before;
-        made = HouseCalls.delivers (signed-fits _) q l (f .made);
-        few = f .few;
-        ends = f .ends;
-        prints = ap (λ xs. lines ++ xs) (f .prints) ∙ sym (append-assoc lines _ _);
-      }
+  -- a record: a clock move or an answer, by its handle
+  moves-clock : (m : Machine) (h v : ℕ) → h ≡ clockHandle → delivered lim d m h v ≡ Clock.advance lim d m v
+  unfolding delivered
+  moves-clock m h v e = rw (eq-eqb h clockHandle e, delivered) refl
+
+  answers : (m : Machine) (h v : ℕ) → (h ≡ clockHandle → ⊥) → delivered lim d m h v ≡ Answer.answer lim d m h (signed v)
+  unfolding delivered
+  answers m h v n = rw (ne-eqb h clockHandle n, delivered) refl
+
+  after-delivery : (s : Standing) {ls : List Line} (c : Call) → a s ≡ outcomeOf runner lim d (s .machine) c
+      → ((cs : List Call)
+      → acceptedSteps lim d (s .machine) (c ∷ cs) ≡ acceptedSteps lim d (outcomeOf runner lim d (s .machine) c .machine) cs)
+      → ((cs : List Call) (left : List ℕ) → HouseCalls lim d (outcomeOf runner lim d (s .machine) c .machine) (drop 8 (s .rest)) cs left
+      → HouseCalls lim d (s .machine) (s .rest) (c ∷ cs) left)
+      → From (recorded s) ls → From s (reportedLines (a s .reply) (a s .values) ++ ls)
+  unfolding callLines machineAfter
+  after-delivery s {ls} c same no-step made f =
+      let o : Outcome = outcomeOf runner lim d (s .machine) c in
+      let g : From (record { machine = o .machine; steps = s .steps; rest = drop 8 (s .rest) }) ls = rw same at f in
+      let lines = reportedLines (o .reply) (o .values) in
+      rw same
+      (record {
+        calls = c ∷ g .calls;
+        left = g .left;
+        before = g .before;
+        made = made (g .calls) (g .left) (g .made);
+        few = rw (no-step (g .calls)) (g .few);
+        ends = rw (no-step (g .calls)) (g .ends);
+        prints = rw (no-step (g .calls)) (ap (λ xs. lines ++ xs) (g .prints) ∙ sym (append-assoc lines _ _));
+      })
+
+  after-record : (s : Standing) {ls : List Line} → s .machine .queued ≡ 0 → 8 ≤ length (s .rest) → Dec (h s ≡ clockHandle)
+      → From (recorded s) ls → From s (reportedLines (a s .reply) (a s .values) ++ ls)
+  unfolding acceptedSteps outcomeOf
+  after-record s q l (yes e) f =
+      after-delivery s (advance (v s)) (moves-clock (s .machine) (h s) (v s) e) (λ cs. refl) (λ cs left g. HouseCalls.ticks q l e g) f
+  after-record s q l (no n) f =
+      after-delivery s (answer (h s) (signed (v s)) (signed-fits _)) (answers (s .machine) (h s) (v s) n) (λ cs. refl)
+      (λ cs left g. HouseCalls.delivers (signed-fits _) q l n g) f
 
   some-ready : (n : ℕ) → (n ≡ 0 → ⊥) → 0 < n
   some-ready zero q = absurd (q refl)
@@ -169,7 +202,8 @@ module _ (lim : Limits) (most : ℕ) (d : Dag) where
       go (yes q) k (yes x) (no y) f = lines-over n s (turn-short s q x y) (stops s (short ∷ []) few (Ends.shortened q (some-ready _ y) x))
       go (yes q) k (no x) y f =
           let z = length-drop 8 (s .rest) in
-          lines-on n s (turn-deliver s q (omega arith)) (after-answer s q (omega arith) (f (delivered s) few (omega arith)))
+          lines-on n s (turn-deliver s q (omega arith))
+          (after-record s q (omega arith) (ℕ-discrete (h s) clockHandle) (f (recorded s) few (omega arith)))
 
 -- the lines of a run from the start
 pub run-prints : (lim : Limits) (most : ℕ) (d : Dag) (bytes : List ℕ)

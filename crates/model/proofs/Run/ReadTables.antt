@@ -10,6 +10,7 @@ use Rattle.calculus.proofs.Meaning.{further-out, two-binders, calls-itself}
 use Rattle.calculus.proofs.Programs.{nothing, one-signal, nothing-passed, nothing-awaited, one-value, largest-sum, overflow}
 use Rattle.calculus.proofs.Programs.{every-value, first-value, first-answer, pass-on, one-suspended, mail-each, mail-once}
 use Rattle.calculus.proofs.Programs.{fork-join, timeout, parallel-or, metronome, not-strict, same-number, never-ends, ever-deeper}
+use Rattle.calculus.proofs.Programs.{no-wait, wait-five, wait-negative, wait-to-the-end, wait-past-the-end, deadline}
 
 abbrev pub marked : List Program
 marked =
@@ -44,6 +45,10 @@ others =
     ∷ calls-itself
     ∷ []
 
+-- those that call rwait
+abbrev pub waits : List Program
+waits = no-wait ∷ wait-five ∷ wait-negative ∷ wait-to-the-end ∷ wait-past-the-end ∷ deadline ∷ []
+
 pub marked-read : All (λ (p : Program). readTable (encode p) ≡ accepted p) marked
 unfolding computing
 marked-read =
@@ -58,3 +63,7 @@ others-read =
     (more refl
     (more refl
     (more refl (more refl (more refl (more refl (more refl (more refl (more refl (more refl (more refl (more refl none)))))))))))))
+
+pub waits-read : All (λ (p : Program). readTable (encode p) ≡ accepted p) waits
+unfolding computing
+waits-read = more refl (more refl (more refl (more refl (more refl (more refl none)))))

@@ -9,9 +9,9 @@ use Rattle.model.specs.Machine.Limits.{Limits}
 use Rattle.model.specs.Machine.InUse.{Within}
 use Rattle.model.specs.Machine.Reply.{isRefused}
 use Rattle.calculus.specs.Event.{Event}
-use Rattle.model.specs.Run.Call.{Call, step, answer, runner, outcomeOf, machineAfter, started}
+use Rattle.model.specs.Run.Call.{Call, step, answer, advance, runner, outcomeOf, machineAfter, started}
 use Rattle.model.specs.declared.record.Machine.{Machine}
-use Rattle.model.proofs.Machine.Within.{step-within, answer-within}
+use Rattle.model.proofs.Machine.Within.{step-within, answer-within, advance-within}
 use Rattle.model.proofs.Machine.StartUsed.{start-within}
 use Rattle.model.proofs.Run.Passage.{Passage, passage}
 
@@ -21,6 +21,7 @@ module _ (lim : Limits) (d : Dag) where
   unfolding outcomeOf
   call-within m (step place) old ok = step-within lim d m place old ok
   call-within m (answer h v signed) old ok = answer-within lim d m h v old ok
+  call-within m (advance time) old ok = advance-within lim d m time old ok
 
   calls-within : {m end : Machine} {cs : List Call} {es : List Event} {fine : Bool} → Passage lim d m cs es fine end
       → Within lim m → Within lim end

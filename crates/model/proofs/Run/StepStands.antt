@@ -5,14 +5,15 @@ use mathlib.Core.Path.{_≡_, refl, sym, _∙_, ap, subst}
 use mathlib.Core.Logic.{_⊎_, inl, inr}
 use mathlib.Core.Bool.{Bool, true, false, not}
 use mathlib.Core.List.{List, [], _∷_, _++_}
+use mathlib.Core.Option.{Option, some, none}
 use Prim.Native.Nat.{ℕ, suc, _+_, _≤_, _<_}
 use native.Mathlib.Omega.{arith}
 use lib.ListN.{length, getD, take, length-append, length-take, List·getD-append}
 use lib.Seq.{getD-take}
 use lib.Dec.{ltb}
-use lib.IntN.{ℤ}
+use lib.IntN.{ℤ, pos}
 use Rattle.job.specs.Test.{select, without}
-use Rattle.job.specs.Site.{BuiltinReply, gives, silent, isBuiltin, builtin}
+use Rattle.job.specs.Site.{BuiltinReply, gives, silent, later, dueTime, isBuiltin, builtin}
 use Rattle.job.specs.Syntax.{Param}
 use Rattle.job.specs.Node.{Node, Dag, nodeAt}
 use Rattle.model.specs.Machine.Limits.{Limits}
@@ -21,15 +22,17 @@ use Rattle.model.specs.Machine.Active.{underSet, within}
 use Rattle.model.specs.Machine.InUse.{tokensUsed, marked}
 use Rattle.model.specs.Machine.FreePlace.{nextPlace}
 use Rattle.model.specs.Machine.Rules.{rulesHold}
-use Rattle.model.specs.Machine.Reply.{Effect, calls, unless, isRefused}
-use Rattle.model.specs.Machine.Update.{withNode, withBinding, inCell, withTables, withOrders, withCounts, queueOf, waitsOf, put}
-use Rattle.model.specs.Machine.Update.{newToken}
-use Rattle.model.specs.Machine.Step.{LookUpResult, values, unset, ended, goesOn, forked, split, entered, waited, replied, calledOut}
-use Rattle.model.specs.Machine.Step.{returned, chokeAt, callSite, hasTokenPlace, act, takes, step}
+use Rattle.model.specs.Machine.Reply.{Effect, moves, calls, unless, isRefused}
+use Rattle.model.specs.Machine.Update.{withNode, withBinding, withValue, withState, inCell, withTables, withOrders, withCounts}
+use Rattle.model.specs.Machine.Update.{withTimers, queueOf, waitsOf, timersOf, put, newToken}
+use Rattle.model.specs.Machine.Step.{LookUpResult, values, unset, ended, goesOn, forked, split, entered, waited, deferred, replied}
+use Rattle.model.specs.Machine.Step.{calledOut, returned, chokeAt, callSite, hasTokenPlace, act, takes, step}
 use Rattle.model.specs.Run.Follow.{queuedToken, cellSet, endsToken, frontEnds, survivors, stays, fate, Stands}
 use Rattle.model.specs.declared.token.Slot.the-variants as slots
+use Rattle.model.specs.declared.token.Held.the-variants as helds
 use Rattle.model.specs.declared.token.Place.{Place}
 use Rattle.model.specs.declared.token.Place.the-variants as places
+use Rattle.model.specs.declared.token.State.the-variants as states
 use Rattle.model.specs.declared.token.Token.{Token}
 use Rattle.model.specs.declared.cell.Cell.{Cell}
 use Rattle.model.specs.declared.record.Machine.{Machine}
@@ -43,8 +46,8 @@ use Rattle.model.proofs.Run.Queue.{QueueRulesHold, queue-rules-hold}
 use Rattle.model.proofs.Run.Survivors.{among, Behind, select-finds, survivors-all, survivors-pass, fate-stays}
 use Rattle.model.proofs.Run.ChokeStands.{readyThen, queueThen, within-ready, untouched-choked}
 use Rattle.model.proofs.Run.Bystander.{Unharmed, Untouched, queue-orders, untouched-orders, untouched-waits, untouched-enqueue}
-use Rattle.model.proofs.Run.Bystander.{untouched-put, untouched-counts, untouched-token, untouched-cell, unharmed-marked}
-use Rattle.model.proofs.Run.Bystander.{queued-unharmed, untouched-stands}
+use Rattle.model.proofs.Run.Bystander.{untouched-timers, untouched-put, untouched-counts, untouched-token, untouched-cell}
+use Rattle.model.proofs.Run.Bystander.{unharmed-marked, queued-unharmed, untouched-stands}
 
 -- if no cell is set no token is ended
 spares-all :
@@ -152,10 +155,29 @@ module _ (lim : Limits) (d : Dag) (m : Machine) (h : QueueRulesHold m) (k : ℕ)
   unfolding waited queueOf put withTables After
   after-waited c = untouched-waits (waitsOf taken ++ (front ∷ [])) _ (untouched-put front _ taken apart base)
 
+  after-deferred : (next : ℕ) (due : Option ℕ) → Leaves (deferred taken front actor next due)
+  unfolding deferred After
+  after-deferred next none = after-ended
+  after-deferred next (some due) = go (ltb (taken .clock) due)
+    where
+      go :
+          (b : Bool)
+          → Leaves
+          (elim b as (λ b. Effect) [
+            | false ↦ goesOn taken front (withNode next (withValue (helds.Value (pos 0)) actor))
+            | true ↦
+                moves
+                (withTimers (timersOf taken ++ (front ∷ []))
+                (put front (withNode next (withState (states.Due due) actor)) taken))
+          ])
+      go false = after-going _
+      go true = untouched-timers _ _ (untouched-put front _ taken apart base)
+
   after-replied : (next : ℕ) (s : BuiltinReply) → Leaves (replied taken front actor next s)
   unfolding replied After
   after-replied next (gives v) = after-going _
   after-replied next silent = after-ended
+  after-replied next (later time) = after-deferred next (dueTime (taken .clock) time)
 
   after-called : (s : ℕ) (vs : List ℤ) (next : ℕ) → Leaves (calledOut taken front actor s vs next)
   unfolding calledOut After

@@ -1,33 +1,29 @@
 -- The middle part of demand 3 is false of the machine whose steps do nothing. For the goal signal() the list of one publishing is allowed;
--- but in each run of this machine, with whatever limits, the machine stays the started one: a step shows nothing, and no token is called
--- out, so that each answer is refused. Assumes nothing.
+-- but only a step publishes, so that a run of this machine, with whatever limits, shows answers and clock moves alone. Assumes nothing.
 use mathlib.Core.Path.{_≡_, refl, ap}
 use mathlib.Core.Bool.{Bool, true, false}
-use mathlib.Core.List.{List, [], _∷_}
-use Prim.Native.Nat.{ℕ, zero, suc}
+use mathlib.Core.List.{List, [], _∷_, _++_}
+use Prim.Native.Nat.{ℕ}
 use native.Mathlib.Omega.{arith}
-use lib.ListN.{set, replicate}
-use lib.IntN.{ℤ, pos}
+use lib.IntN.{pos}
+use Rattle.job.specs.Test.{_or_, forSome}
 use Rattle.job.specs.Encode.{encode}
 use Rattle.job.specs.Node.{Dag}
 use Rattle.job.specs.Construct.{construct}
-use Rattle.model.specs.Machine.Limits.{Limits, limits}
-use Rattle.model.specs.Machine.Blank.{blankToken}
-use Rattle.model.specs.Machine.Rules.{rulesHold}
-use Rattle.model.specs.Machine.Reply.{reportValues, refuses, unless, outcome, isRefused}
+use Rattle.model.specs.Machine.Limits.{Limits}
+use Rattle.model.specs.Machine.Reply.{reportValues, isRefused}
 use Rattle.model.specs.Machine.Start as Start
-use Rattle.model.specs.Machine.Start.{startToken}
 use Rattle.model.specs.Machine.Answer as Answer
-use Rattle.model.specs.Machine.Answer.{holder, answered}
+use Rattle.model.specs.Machine.Clock as Clock
 use Rattle.calculus.specs.Event.{Event}
 use Rattle.calculus.specs.Allowed.{Allowed}
 use Rattle.calculus.specs.Meaning.{meaning}
-use Rattle.model.specs.Run.Call.{Call, Runner, outcomeOf, eventsOf, eventsFrom, started}
+use Rattle.model.specs.Run.Call.{Call, Runner, outcomeOf, eventsOf, eventsFrom}
 use Rattle.model.specs.Run.Demand3.{Middle}
-use Rattle.model.specs.declared.token.Place.the-variants as places
 use Rattle.model.specs.declared.record.Machine.{Machine}
 use Rattle.model.specs.declared.reply.Reply.the-variants as replies
 use Rattle.model.specs.declared.reply.Outcome.{Outcome}
+use Rattle.job.proofs.Test.{clash}
 use Rattle.calculus.proofs.Computing.{meant, rewritten}
 use Rattle.calculus.proofs.Search.{searching, allowed}
 use Rattle.calculus.proofs.Programs.{one-signal}
@@ -38,55 +34,41 @@ unfoldable pub idleStep : Limits → Dag → Machine → (place : ℕ) → Outco
 idleStep lim d m place = record { reply = replies.Done; values = reportValues []; machine = m }
 
 abbrev pub idle : Runner
-idle = record { start = Start.start; step = idleStep; answer = Answer.answer }
+idle = record { start = Start.start; step = idleStep; answer = Answer.answer; advance = Clock.advance }
 
-blank-holds-no-handle : (h i n : ℕ) → holder h i (replicate n blankToken) ≡ places.Nowhere
-unfolding computing
-blank-holds-no-handle h i zero = refl
-blank-holds-no-handle h i (suc n) = blank-holds-no-handle h (suc i) n
+isPublishing : Event → Bool
+isPublishing (Event.publish v) = true
+isPublishing (Event.call h s vs) = false
+isPublishing (Event.answer h v) = false
+isPublishing (Event.move time) = false
 
--- no token of a started machine is called out
-start-holds-no-handle : (h goal n : ℕ) → holder h 0 (set (replicate n blankToken) 0 (startToken goal)) ≡ places.Nowhere
-unfolding computing
-start-holds-no-handle h goal zero = refl
-start-holds-no-handle h goal (suc n) = blank-holds-no-handle h 1 n
+module _ (lim : Limits) (d : Dag) where
+  -- an event that is no publishing, or none, in front of others
+  one-more : (b : Bool) (e : Event) (es : List Event) → isPublishing e ≡ false → forSome isPublishing es ≡ false
+      → forSome isPublishing (elim b as (λ b. List Event) [ true ↦ [] | false ↦ e ∷ [] ] ++ es) ≡ false
+  unfolding forSome _or_
+  one-more true e es n r = r
+  one-more false e es n r = rw (n, forSome, _or_) r
 
--- what is refused is refused whatever the test says
-refuses-either-way : (b : Bool) (r s : ℕ) → (q : ℕ) × (unless b r (refuses s) ≡ refuses q)
-unfolding unless
-refuses-either-way true r s = (s, refl)
-refuses-either-way false r s = (r, refl)
-
-module _ (lim : Limits) (d : Dag) (m : Machine) (closed : (h : ℕ) → holder h 0 (m .tokens) ≡ places.Nowhere) where
-  -- an answer is refused, as not open if not for a rule
-  answer-refused : (h : ℕ) (v : ℤ) → (q : ℕ) × (Answer.answer lim d m h v ≡ outcome m (refuses q))
-  unfolding Answer.answer answered
-  answer-refused h v =
-      let r = refuses-either-way (rulesHold lim d m) 14 12 in (r .0, rw (closed h) (ap (outcome m) (r .1)))
-
-  -- so the machine stays, and no call shows anything
-  shows-nothing : (calls : List Call) → eventsFrom idle lim d m calls ≡ []
-  unfolding eventsFrom eventsOf outcomeOf idleStep outcome isRefused
-  shows-nothing [] = refl
-  shows-nothing (Call.step place ∷ calls) = shows-nothing calls
-  shows-nothing (Call.answer h v fits ∷ calls) = rw (answer-refused h v .1) (shows-nothing calls)
+  never-publishes : (calls : List Call) (m : Machine) → forSome isPublishing (eventsFrom idle lim d m calls) ≡ false
+  unfolding eventsFrom eventsOf outcomeOf idleStep forSome isPublishing
+  never-publishes [] m = refl
+  never-publishes (Call.step place ∷ calls) m = never-publishes calls m
+  never-publishes (Call.answer h v fits ∷ calls) m =
+      let o : Outcome = Answer.answer lim d m h v in
+      one-more (isRefused (o .reply)) (Event.answer h v) _ refl (never-publishes calls (o .machine))
+  never-publishes (Call.advance time ∷ calls) m =
+      let o : Outcome = Clock.advance lim d m time in
+      one-more (isRefused (o .reply)) (Event.move time) _ refl (never-publishes calls (o .machine))
 
 -- signal() publishes 0
 signal-published : Allowed (meaning one-signal) (Event.publish (pos 0) ∷ [])
 unfolding meant rewritten searching
 signal-published = allowed (meaning one-signal) 20 refl
 
-start-shows-nothing : (t c k : ℕ) (calls : List Call)
-    → eventsFrom idle (limits t c k) (construct one-signal) (started idle (limits t c k) (construct one-signal)) calls ≡ []
-unfolding computing
-start-shows-nothing t c k calls =
-    shows-nothing (limits t c k) (construct one-signal) _ (λ h. start-holds-no-handle h (construct one-signal .goal) t) calls
-
 pub idle-is-incomplete : Middle idle → ⊥
-unfolding computing
+unfolding computing isPublishing
 idle-is-incomplete middle =
     let m = middle (encode one-signal) one-signal refl (Event.publish (pos 0) ∷ []) signal-published in
     let shown = m .3 (m .0) (m .1) (m .2) (omega arith) (omega arith) (omega arith) in
-    let nothing = start-shows-nothing (m .0) (m .1) (m .2) (shown .1) in
-    let published = shown .3 in
-    let z : _≡_ {A = ℕ} 0 1 = cc in omega arith
+    clash (ap (forSome isPublishing) (shown .3)) (never-publishes _ (construct one-signal) (shown .1) _)

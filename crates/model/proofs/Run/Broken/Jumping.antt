@@ -19,6 +19,7 @@ use Rattle.model.specs.Machine.Start as Start
 use Rattle.model.specs.Machine.Step as Step
 use Rattle.model.specs.Machine.Update.{queueOf, waitsOf, withOrders}
 use Rattle.model.specs.Machine.Answer as Answer
+use Rattle.model.specs.Machine.Clock as Clock
 use Rattle.job.specs.Notation.{_∥_, _<[_]<_, v, #, let′, goal}
 use Rattle.model.specs.Run.Call.{Call, Runner, outcomeOf, machineAfter}
 use Rattle.model.specs.Run.Follow.{fate, stays, survivors, frontEnds, endsToken, cellSet, Stands, House, Followed}
@@ -44,7 +45,7 @@ jumpingStep lim d m place =
     let o = Step.step lim d m place in record { reply = o .reply; values = o .values; machine = wokenFirst m (o .machine) }
 
 abbrev pub jumping : Runner
-jumping = record { start = Start.start; step = jumpingStep; answer = Answer.answer }
+jumping = record { start = Start.start; step = jumpingStep; answer = Answer.answer; advance = Clock.advance }
 
 -- a token that a step leaves in the queue is not followed past it, if it does not stand where it should
 module _ (R : Runner) (lim : Limits) (d : Dag) where

@@ -16,6 +16,7 @@ use Rattle.model.specs.Machine.Reply.{reportValues}
 use Rattle.model.specs.Machine.Start as Start
 use Rattle.model.specs.Machine.Step as Step
 use Rattle.model.specs.Machine.Answer as Answer
+use Rattle.model.specs.Machine.Clock as Clock
 use Rattle.calculus.specs.Event.{Event}
 use Rattle.model.specs.Run.Call.{Call, Runner, outcomeOf, eventsOf, eventsFrom}
 use Rattle.model.specs.Run.Demand3.{First}
@@ -38,6 +39,7 @@ isNotOpen refusals.CellLimit = false
 isNotOpen refusals.NotOpen = true
 isNotOpen refusals.CallLimit = false
 isNotOpen refusals.Rule = false
+isNotOpen refusals.WrongTime = false
 
 unfoldable pub saysNotOpen : Reply → Bool
 saysNotOpen replies.Done = false
@@ -56,7 +58,7 @@ lateAnswer lim d m h v =
     ]
 
 abbrev pub late : Runner
-late = record { start = Start.start; step = Step.step; answer = lateAnswer }
+late = record { start = Start.start; step = Step.step; answer = lateAnswer; advance = Clock.advance }
 
 -- where, let(x) waits, fork, both calls; the answer 42; choke, let(x), remove, publish; the late answer 7
 abbrev late-calls : List Call
