@@ -23,7 +23,7 @@ use Rattle.model.specs.declared.cell.Cell.{Cell}
 use Rattle.model.specs.declared.record.Machine.{Machine}
 use Rattle.job.proofs.Test.{clash, eqb-eq, and-left, and-right, and-both, same-eq, same-refl}
 use Rattle.job.proofs.Number.{unsigned-signed}
-use Rattle.record.specs.Layout.{rowOf, cellRow, tableWords, wordsOf, parts, countWords}
+use Rattle.record.specs.Layout.{rowOf, cellRow, tableWords, wordsOf, parts, countWords, clockWords}
 use Rattle.record.specs.Layout.{slotKind, slotNumber, stateKind, stateNumber, placeNumber, heldKind, heldNumber}
 use Rattle.record.specs.LayoutDecoded.{machineOf, tableFrom, tokenFrom, cellFrom, bindsFrom, placeFrom, heldFrom, slotFrom, stateFrom}
 use Rattle.record.specs.Holds.{Codes, Shaped}
@@ -57,8 +57,9 @@ state-back zero n e = (refl, sym (eqb-eq n 0 e))
 state-back (suc zero) n e = (refl, sym (eqb-eq n 0 e))
 state-back (suc (suc zero)) n e = (refl, refl)
 state-back (suc (suc (suc zero))) n e = (refl, refl)
-state-back (suc (suc (suc (suc zero)))) n e = (refl, sym (eqb-eq n 0 e))
-state-back (suc (suc (suc (suc (suc k))))) n e = clash e refl
+state-back (suc (suc (suc (suc zero)))) n e = (refl, refl)
+state-back (suc (suc (suc (suc (suc zero))))) n e = (refl, sym (eqb-eq n 0 e))
+state-back (suc (suc (suc (suc (suc (suc k)))))) n e = clash e refl
 
 held-back : (k n : ℕ) → n < 2 ^ 32 → heldCoded k n ≡ true → (heldKind (heldFrom k n) ≡ k) × (heldNumber (heldFrom k n) ≡ n)
 unfolding heldFrom
@@ -79,6 +80,7 @@ state-passes states.Blank = refl
 state-passes states.Ready = refl
 state-passes (states.Waiting c) = refl
 state-passes (states.Called h) = refl
+state-passes (states.Due d) = refl
 state-passes states.Frame = refl
 
 held-passes : (v : Held) → heldCoded (heldKind v) (heldNumber v) ≡ true
@@ -207,30 +209,38 @@ module _ {A : Type 0} (g : List ℕ → A) (w : ℕ) where
   table-all P d z f (suc n) ws zero = f (take w ws)
   table-all P d z f (suc n) ws (suc p) = table-all P d z f n (drop w ws) p
 
--- all words
-five : (ws : List ℕ) → length ws ≡ 1797
-    → drop 1792 ws ≡ getD ws 1792 0 ∷ getD ws 1793 0 ∷ getD ws 1794 0 ∷ getD ws 1795 0 ∷ getD ws 1796 0 ∷ []
-five ws l =
+-- all words: the counts, and the number of names in the order of call with the clock
+counts-are : (ws : List ℕ) → length ws ≡ 1863
+    → drop 1792 ws ≡ getD ws 1792 0 ∷ getD ws 1793 0 ∷ getD ws 1794 0 ∷ getD ws 1795 0 ∷ getD ws 1796 0 ∷ drop 1797 ws
+counts-are ws l =
     drop-cons ws 1792 0 (omega arith)
     ∙ ap (_∷_ (getD ws 1792 0)) (drop-cons ws 1793 0 (omega arith)
     ∙ ap (_∷_ (getD ws 1793 0)) (drop-cons ws 1794 0 (omega arith)
     ∙ ap (_∷_ (getD ws 1794 0)) (drop-cons ws 1795 0 (omega arith)
-    ∙ ap (_∷_ (getD ws 1795 0)) (drop-cons ws 1796 0 (omega arith)
-    ∙ ap (_∷_ (getD ws 1796 0)) (drop-of-length-le ws {i = 1797} (omega arith))))))
+    ∙ ap (_∷_ (getD ws 1795 0)) (drop-cons ws 1796 0 (omega arith)))))
+
+clock-is : (ws : List ℕ) → length ws ≡ 1863 → drop 1861 ws ≡ getD ws 1861 0 ∷ getD ws 1862 0 ∷ []
+clock-is ws l =
+    drop-cons ws 1861 0 (omega arith)
+    ∙ ap (_∷_ (getD ws 1861 0)) (drop-cons ws 1862 0 (omega arith)
+    ∙ ap (_∷_ (getD ws 1862 0)) (drop-of-length-le ws {i = 1863} (omega arith)))
 
 joined : (n k : ℕ) (ws : List ℕ) → take k (drop n ws) ++ drop (n + k) ws ≡ drop n ws
 joined n k ws = ap (λ r. take k (drop n ws) ++ r) (sym (drop-drop k n ws)) ∙ take-append-drop k (drop n ws)
 
-words-back : (ws : List ℕ) → length ws ≡ 1797 → Small ws → recordCoded ws ≡ true → wordsOf (machineOf ws) ≡ ws
-unfolding wordsOf machineOf parts countWords recordCoded
+words-back : (ws : List ℕ) → length ws ≡ 1863 → Small ws → recordCoded ws ≡ true → wordsOf (machineOf ws) ≡ ws
+unfolding wordsOf machineOf parts countWords clockWords recordCoded
 words-back ws l s e =
     let a = table-back rowOf tokenFrom rowCoded 24 row-back 64 ws (omega arith) s (and-left (tableCoded rowCoded 24 64 ws) _ e) in
     let b = table-back cellRow cellFrom cellCoded 4 cell-back 32 (drop 1536 ws) (omega (arith, length-drop 1536 ws)) (small-drop 1536 ws s)
     (and-right (tableCoded rowCoded 24 64 ws) _ e) in
     let q = take 64 (drop 1664 ws) in
     let w = take 64 (drop 1728 ws) in
+    let g : ℕ → ℕ = λ i. getD ws i 0 in
+    let counts : List ℕ → List ℕ = λ r. g 1792 ∷ g 1793 ∷ g 1794 ∷ g 1795 ∷ g 1796 ∷ r in
+    let k = ap counts (ap (λ r. take 64 (drop 1797 ws) ++ r) (sym (clock-is ws l)) ∙ joined 1797 64 ws) ∙ sym (counts-are ws l) in
     ap₂ (λ x y. x ++ y) a
-    (ap₂ (λ x y. x ++ y) b (ap (λ r. q ++ (w ++ r)) (sym (five ws l)) ∙ ap (λ r. q ++ r) (joined 1728 64 ws) ∙ joined 1664 64 ws)
+    (ap₂ (λ x y. x ++ y) b (ap (λ r. q ++ (w ++ r)) k ∙ ap (λ r. q ++ r) (joined 1728 64 ws) ∙ joined 1664 64 ws)
     ∙ joined 1536 128 ws)
     ∙ take-append-drop 1536 ws
 
@@ -252,7 +262,7 @@ module _ (ws : List ℕ) where
   unfolding machineOf
   cells-32 = table-length cellFrom 4 32 (drop 1536 ws)
 
-  module _ (long : length ws ≡ 1797) where
+  module _ (long : length ws ≡ 1863) where
     pub coded-record : Small ws → recordCoded ws ≡ isRecord ws
     unfolding isRecord
     coded-record s =
@@ -268,6 +278,7 @@ module _ (ws : List ℕ) where
           cells = cells-32;
           queue = length-take-le 64 (drop 1664 ws) (omega (arith, length-drop 1664 ws));
           waits = length-take-le 64 (drop 1728 ws) (omega (arith, length-drop 1728 ws));
+          timers = length-take-le 64 (drop 1797 ws) (omega (arith, length-drop 1797 ws));
           binds = λ p. table-all tokenFrom 24 (λ (t : Token). length (t .binds) ≡ 8) blankToken refl (λ r. refl) 64 ws p;
         }
 

@@ -57,7 +57,7 @@ module _ {ws : List ℕ} {m : Machine} (h : Codes ws m) where
       ap cellCoded (sym (cell-row ws c))
       ∙ table-each cellCoded 4 32 (drop 1536 ws) (and-right (tableCoded rowCoded 24 64 ws) _ passes) c l
 
-pub all-coded-record : (ws : List ℕ) → length ws ≡ 1797 → Small ws → ((p : ℕ) → p < 64 → tokenCoded ws p ≡ true)
+pub all-coded-record : (ws : List ℕ) → length ws ≡ 1863 → Small ws → ((p : ℕ) → p < 64 → tokenCoded ws p ≡ true)
     → ((c : ℕ) → c < 32 → cellAtCoded ws c ≡ true) → isRecord ws ≡ true
 unfolding recordCoded
 all-coded-record ws long small f g =

@@ -29,11 +29,12 @@ use Rattle.model.specs.declared.record.Machine.{Machine}
 use Rattle.job.proofs.Test.{and-left, and-right, eqb-eq, all-at, same-refl}
 use Rattle.job.proofs.Lists.{table, listed}
 use Rattle.job.proofs.Number.{signed-unsigned}
-use Rattle.model.proofs.Machine.Rules.{each-rule-holds, tokens-sized, cells-sized, queue-sized, waits-sized}
-use Rattle.record.specs.Layout.{rowOf, cellRow, tableWords, wordsOf, parts, countWords}
+use Rattle.model.proofs.Machine.Rules.{each-rule-holds, tokens-sized, cells-sized, queue-sized, waits-sized, timers-sized}
+use Rattle.record.specs.Layout.{rowOf, cellRow, tableWords, wordsOf, parts, countWords, clockWords}
 use Rattle.record.specs.Layout.{slotKind, slotNumber, stateKind, stateNumber, placeNumber, heldKind, heldNumber}
 use Rattle.record.specs.LayoutDecoded.{machineOf, tableFrom, tokenFrom, cellFrom, bindsFrom, placeFrom, heldFrom, slotFrom, stateFrom}
-use Rattle.record.proofs.LayoutParts.{row-wide, cell-wide, queue-is, waits-is, counts-get}
+use Rattle.record.proofs.LayoutPart.{part-get, part-is}
+use Rattle.record.proofs.LayoutParts.{Sized, row-wide, cell-wide, queue-stands, waits-stand, counts-stand, timers-stand, clock-stands}
 use Rattle.record.proofs.LayoutTable.{rows-length}
 use Rattle.coded.specs.IsRecord.{isRecord}
 
@@ -49,6 +50,7 @@ state-read states.Blank = refl
 state-read states.Ready = refl
 state-read (states.Waiting c) = refl
 state-read (states.Called h) = refl
+state-read (states.Due d) = refl
 state-read states.Frame = refl
 
 held-read : (v : Held) → heldInRange v ≡ true → heldFrom (heldKind v) (heldNumber v) ≡ v
@@ -129,55 +131,74 @@ module _ {A : Type 0} (f : A → List ℕ) (g : List ℕ → A) (w : ℕ) (wide 
       ∙ table-read xs n rest (omega arith) (and-right _ _ e)))
 
 -- the record of these fields
-fields : List Token → List Cell → List ℕ → ℕ → List ℕ → ℕ → ℕ → ℕ → ℕ → Machine
-fields ts cs q n w k calls p c =
-    record { tokens = ts; cells = cs; queue = q; queued = n; waits = w; waiting = k; calls = calls; lasttoken = p; lastcell = c }
+fields : List Token → List Cell → List ℕ → ℕ → List ℕ → ℕ → ℕ → ℕ → ℕ → List ℕ → ℕ → ℕ → Machine
+fields ts cs q n w k calls p c l d t =
+    record {
+      tokens = ts;
+      cells = cs;
+      queue = q;
+      queued = n;
+      waits = w;
+      waiting = k;
+      calls = calls;
+      lasttoken = p;
+      lastcell = c;
+      timers = l;
+      timed = d;
+      clock = t;
+    }
 
-same-fields : {ts us : List Token} {cs ds : List Cell} {q r w v : List ℕ} {n i k j a b p o c e : ℕ}
-    → ts ≡ us → cs ≡ ds → q ≡ r → n ≡ i → w ≡ v → k ≡ j → a ≡ b → p ≡ o → c ≡ e
-    → fields ts cs q n w k a p c ≡ fields us ds r i v j b o e
-same-fields t s q n w k a p c = cc
+same-fields : {ts us : List Token} {cs ds : List Cell} {q r w v l x : List ℕ} {n i k j a b p o c e d f t u : ℕ}
+    → ts ≡ us → cs ≡ ds → q ≡ r → n ≡ i → w ≡ v → k ≡ j → a ≡ b → p ≡ o → c ≡ e → l ≡ x → d ≡ f → t ≡ u
+    → fields ts cs q n w k a p c l d t ≡ fields us ds r i v j b o e x f u
+same-fields ts cs q n w k a p c l d t = cc
 
 -- a record that keeps the rules
 module _ (d : Dag) (m : Machine) (holds : rulesHold paper d m ≡ true) where
-  tokens-64 : length (m .tokens) ≡ 64
-  tokens-64 = tokens-sized paper d m holds
-
-  cells-32 : length (m .cells) ≡ 32
-  cells-32 = cells-sized paper d m holds
-
-  queue-64 : length (m .queue) ≡ 64
-  queue-64 = queue-sized paper d m holds
-
-  waits-64 : length (m .waits) ≡ 64
-  waits-64 = waits-sized paper d m holds
+  sizes : Sized (m .tokens) (m .cells) (m .queue) (m .waits) (countWords m) (m .timers) (clockWords m)
+  unfolding countWords clockWords
+  sizes =
+      record {
+        tokens = tokens-sized paper d m holds;
+        cells = cells-sized paper d m holds;
+        queue = queue-sized paper d m holds;
+        waits = waits-sized paper d m holds;
+        counts = refl;
+        timers = timers-sized paper d m holds;
+        clock = refl;
+      }
 
   tokens-read : machineOf (wordsOf m) .tokens ≡ m .tokens
   unfolding machineOf wordsOf parts
   tokens-read =
-      table-read rowOf tokenFrom 24 row-wide (tokenInRange paper d (m .calls)) (token-read paper d (m .calls)) (m .tokens) 64 _ tokens-64
-      (each-rule-holds paper d m holds .tokens)
+      table-read rowOf tokenFrom 24 row-wide (tokenInRange paper d (m .calls)) (token-read paper d (m .calls)) (m .tokens) 64 _
+      (sizes .tokens) (each-rule-holds paper d m holds .tokens)
 
   cells-read : machineOf (wordsOf m) .cells ≡ m .cells
   unfolding machineOf wordsOf parts
   cells-read =
-      let long : length (tableWords rowOf (m .tokens)) ≡ 1536 = rows-length rowOf 24 row-wide (m .tokens) ∙ ap (λ n. 24 * n) tokens-64 in
+      let sized = sizes .tokens in
+      let long : length (tableWords rowOf (m .tokens)) ≡ 1536 = rows-length rowOf 24 row-wide (m .tokens) ∙ ap (λ n. 24 * n) sized in
       ap (tableFrom cellFrom 4 32) (drop-at (tableWords rowOf (m .tokens)) _ 1536 long)
-      ∙ table-read cellRow cellFrom 4 cell-wide (cellInRange paper) (cell-read paper) (m .cells) 32 _ cells-32
+      ∙ table-read cellRow cellFrom 4 cell-wide (cellInRange paper) (cell-read paper) (m .cells) 32 _ (sizes .cells)
       (each-rule-holds paper d m holds .cells)
 
-  count-read : (i : ℕ) → getD (wordsOf m) (1792 + i) 0 ≡ getD (countWords m) i 0
+  count-read : (i : ℕ) → i < 5 → getD (wordsOf m) (1792 + i) 0 ≡ getD (countWords m) i 0
   unfolding wordsOf
-  count-read i = counts-get (m .tokens) (m .cells) (m .queue) (m .waits) (countWords m) tokens-64 cells-32 queue-64 waits-64 i
+  count-read i l = part-get (counts-stand sizes) (countWords m) 5 (sizes .counts) i l
+
+  clock-read : (i : ℕ) → i < 2 → getD (wordsOf m) (1861 + i) 0 ≡ getD (clockWords m) i 0
+  unfolding wordsOf
+  clock-read i l = part-get (clock-stands sizes) (clockWords m) 2 (sizes .clock) i l
 
   pub record-read : machineOf (wordsOf m) ≡ m
-  unfolding machineOf wordsOf countWords fields
+  unfolding machineOf wordsOf countWords clockWords fields
   record-read =
       same-fields tokens-read cells-read
-      (queue-is (m .tokens) (m .cells) (m .queue) (m .waits) (countWords m) tokens-64 cells-32 queue-64 waits-64)
-      (count-read 0)
-      (waits-is (m .tokens) (m .cells) (m .queue) (m .waits) (countWords m) tokens-64 cells-32 queue-64 waits-64)
-      (count-read 1) (count-read 2) (count-read 3) (count-read 4)
+      (part-is (queue-stands sizes) (m .queue) 64 (sizes .queue)) (count-read 0 (omega arith))
+      (part-is (waits-stand sizes) (m .waits) 64 (sizes .waits)) (count-read 1 (omega arith))
+      (count-read 2 (omega arith)) (count-read 3 (omega arith)) (count-read 4 (omega arith))
+      (part-is (timers-stand sizes) (m .timers) 64 (sizes .timers)) (clock-read 0 (omega arith)) (clock-read 1 (omega arith))
 
   pub record-is : isRecord (wordsOf m) ≡ true
   unfolding isRecord

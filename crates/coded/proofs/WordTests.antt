@@ -29,21 +29,30 @@ held-some zero n f = absurd (f refl)
 held-some (suc zero) n f = eq-eqb 1 1 refl
 held-some (suc (suc k)) n f = ne-eqb (suc (suc k)) 1 (λ z. omega arith)
 
-pub state-plain : (k n : ℕ) → (k ≡ 2 → ⊥) → (k ≡ 3 → ⊥) → k ≤ 4 → eqb n 0 ≡ stateCoded k n
-state-plain zero n f g l = refl
-state-plain (suc zero) n f g l = refl
-state-plain (suc (suc zero)) n f g l = absurd (f refl)
-state-plain (suc (suc (suc zero))) n f g l = absurd (g refl)
-state-plain (suc (suc (suc (suc zero)))) n f g l = refl
-state-plain (suc (suc (suc (suc (suc k))))) n f g l = absurd (omega arith)
+pub state-plain : (k n : ℕ) → k ≤ 1 → eqb n 0 ≡ stateCoded k n
+state-plain zero n l = refl
+state-plain (suc zero) n l = refl
+state-plain (suc (suc k)) n l = absurd (omega arith)
 
-pub state-never : (k n : ℕ) → 4 < k → false ≡ stateCoded k n
-state-never zero n l = absurd (omega arith)
-state-never (suc zero) n l = absurd (omega arith)
-state-never (suc (suc zero)) n l = absurd (omega arith)
-state-never (suc (suc (suc zero))) n l = absurd (omega arith)
-state-never (suc (suc (suc (suc zero)))) n l = absurd (omega arith)
-state-never (suc (suc (suc (suc (suc k))))) n l = refl
+pub state-numbered : (k n : ℕ) → 1 < k → k ≤ 4 → true ≡ stateCoded k n
+state-numbered zero n l u = absurd (omega arith)
+state-numbered (suc zero) n l u = absurd (omega arith)
+state-numbered (suc (suc zero)) n l u = refl
+state-numbered (suc (suc (suc zero))) n l u = refl
+state-numbered (suc (suc (suc (suc zero)))) n l u = refl
+state-numbered (suc (suc (suc (suc (suc k))))) n l u = absurd (omega arith)
+
+pub state-frame : (k n : ℕ) → k ≡ 5 → eqb n 0 ≡ stateCoded k n
+state-frame k n e = rw e
+
+pub state-never : (k n : ℕ) → 4 < k → (k ≡ 5 → ⊥) → false ≡ stateCoded k n
+state-never zero n l f = absurd (omega arith)
+state-never (suc zero) n l f = absurd (omega arith)
+state-never (suc (suc zero)) n l f = absurd (omega arith)
+state-never (suc (suc (suc zero))) n l f = absurd (omega arith)
+state-never (suc (suc (suc (suc zero)))) n l f = absurd (omega arith)
+state-never (suc (suc (suc (suc (suc zero))))) n l f = absurd (f refl)
+state-never (suc (suc (suc (suc (suc (suc k)))))) n l f = refl
 
 -- the slots from k on
 at-drop : (k j : ℕ) (ws : List ℕ) → getD (drop k ws) j 0 ≡ getD ws (k + j) 0

@@ -13,7 +13,7 @@ use Rattle.coded.specs.WordTests.{tokenCoded, cellAtCoded}
 unfoldable pub isRecord : List ℕ → Bool
 isRecord ws = same ws (wordsOf (machineOf ws))
 
--- what holds of any 1,797 words of 32 bits: a record's words are those of the record that they decode to, and words are a record's if each
+-- what holds of any 1,863 words of 32 bits: a record's words are those of the record that they decode to, and words are a record's if each
 -- token's and each cell's are
 pub record RowByRow (ws : List ℕ) : Type 0 where
   pub codes : isRecord ws ≡ true → Codes ws (machineOf ws)

@@ -12,8 +12,9 @@ stateCoded zero n = eqb n 0
 stateCoded (suc zero) n = eqb n 0
 stateCoded (suc (suc zero)) n = true
 stateCoded (suc (suc (suc zero))) n = true
-stateCoded (suc (suc (suc (suc zero)))) n = eqb n 0
-stateCoded (suc (suc (suc (suc (suc k))))) n = false
+stateCoded (suc (suc (suc (suc zero)))) n = true
+stateCoded (suc (suc (suc (suc (suc zero))))) n = eqb n 0
+stateCoded (suc (suc (suc (suc (suc (suc k)))))) n = false
 
 abbrev pub heldCoded : (kind number : ℕ) → Bool
 heldCoded zero n = eqb n 0

@@ -9,22 +9,22 @@ ghost use Rattle.coded.specs.WordTests.{slotCoded, heldCoded, stateCoded
 ghost use Rattle.coded.specs.WordTests.{cellAtCoded};
 ghost use Rattle.coded.specs.IsRecord.{isRecord, RowByRow};
 use model::record::Machine;
-use record::layout::CALLED_STATE;
 use record::layout::CELL_SLOT;
 use record::layout::CELL_UNUSED;
 use record::layout::CELL_VALUE;
 use record::layout::CELL_VALUE_KIND;
 use record::layout::CELL_WORDS;
 use record::layout::CELLS_START;
+use record::layout::DUE_STATE;
 use record::layout::EMPTY_SLOT;
 use record::layout::FRAME_STATE;
+use record::layout::READY_STATE;
 use record::layout::TOKEN_BIND_KIND;
 use record::layout::TOKEN_STATE_NUMBER;
 use record::layout::TOKEN_UNUSED;
 use record::layout::TOKEN_VALUE;
 use record::layout::TOKEN_VALUE_KIND;
 use record::layout::TOKEN_WORDS;
-use record::layout::WAITING_STATE;
 
 fn word(w: &[u32], i: usize) -> u32
     requires { ⌜ i < length (now w) ⌝ }
@@ -51,16 +51,17 @@ fn held_coded(kind: u32, number: u32) -> bool
     kind == 1
 }
 
+// Waiting, called out and due later have a number of their own; blank, ready and frame have none.
 fn state_coded(kind: u32, number: u32) -> bool
     ensures { λ r. ⌜ r ≡ stateCoded kind number ⌝ }
 {
-    if kind == WAITING_STATE {
+    if kind <= READY_STATE {
+        return number == 0;
+    }
+    if kind <= DUE_STATE {
         return true;
     }
-    if kind == CALLED_STATE {
-        return true;
-    }
-    if kind <= FRAME_STATE {
+    if kind == FRAME_STATE {
         return number == 0;
     }
     false
@@ -108,7 +109,7 @@ pub fn token_coded(w: &[u32; Machine::WORDS], p: usize) -> bool
 }
 
 fn rows_coded(w: &[u32]) -> bool
-    requires { ⌜ length (now w) ≡ 1797 ⌝ }
+    requires { ⌜ length (now w) ≡ 1863 ⌝ }
     ensures { λ r. ⌜ r ≡ tableCoded rowCoded 24 64 (now (w .entry)) ⌝ }
 {
     let mut p: usize = 0;
@@ -143,7 +144,7 @@ pub fn cell_coded(w: &[u32; Machine::WORDS], c: usize) -> bool
 }
 
 fn cells_coded(w: &[u32]) -> bool
-    requires { ⌜ length (now w) ≡ 1797 ⌝ }
+    requires { ⌜ length (now w) ≡ 1863 ⌝ }
     ensures { λ r. ⌜ r ≡ tableCoded cellCoded 4 32 (drop 1536 (now (w .entry))) ⌝ }
 {
     let mut c: usize = 0;
@@ -160,7 +161,7 @@ fn cells_coded(w: &[u32]) -> bool
 
 // Of a slice the number of words is known.
 fn is_coded(w: &[u32]) -> bool
-    requires { ⌜ length (now w) ≡ 1797 ⌝ }
+    requires { ⌜ length (now w) ≡ 1863 ⌝ }
     ensures { λ r. ⌜ (r ≡ isRecord (now (w .entry))) × (r ≡ true → Codes (now (w .entry)) (machineOf (now (w .entry)))) ⌝ }
 {
     let ok = rows_coded(w);
@@ -178,9 +179,9 @@ pub fn is_record(w: &[u32; Machine::WORDS]) -> bool
 
 fn look(w: &[u32]) {}
 
-// Says to the proof that there are 1,797 words of 32 bits.
+// Says to the proof that there are 1,863 words of 32 bits.
 pub fn whole(w: &[u32])
-    requires { ⌜ length (now w) ≡ 1797 ⌝ }
+    requires { ⌜ length (now w) ≡ 1863 ⌝ }
     ensures { λ _. ⌜ RowByRow (now (w .entry)) ⌝ }
 {
     look(w);

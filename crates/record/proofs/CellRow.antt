@@ -56,7 +56,8 @@ module _ {ws : List ℕ} (m : Machine) (k : Cell) (c : ℕ) (h : Holds ws (store
   here = getD-set-same (m .cells) c k blankCell (omega (arith, cells-long))
 
   becomes : (x : Cell) {xs : List ℕ}
-      → xs ≡ parts (m .tokens) (set (set (m .cells) c k) c x) (m .queue) (m .waits) (countWords m) (m .timers) (clockWords m) → Holds xs (storeCell c x m)
+      → xs ≡ parts (m .tokens) (set (set (m .cells) c k) c x) (m .queue) (m .waits) (countWords m) (m .timers) (clockWords m)
+      → Holds xs (storeCell c x m)
   unfolding withTables countWords clockWords
   becomes x {xs} e =
       subst (λ cs. Holds xs (withTables (m .tokens) cs m)) (set-set (m .cells) c k x)

@@ -16,11 +16,15 @@ use Rattle.record.proofs.HoldsShape.{shaped, counts-hold, clock-holds}
 module _ {ws : List ℕ} {m : Machine} (h : Codes ws m) where
   count-word : (i : ℕ) → i < 5 → getD ws (1792 + i) 0 ≡ getD (countWords m) i 0
   unfolding wordsOf
-  count-word i l = ap (λ r. getD r (1792 + i) 0) (h .words) ∙ part-get (counts-stand (sized (h .shaped))) (countWords m) 5 (sized (h .shaped) .counts) i l
+  count-word i l =
+      ap (λ r. getD r (1792 + i) 0) (h .words)
+      ∙ part-get (counts-stand (sized (h .shaped))) (countWords m) 5 (sized (h .shaped) .counts) i l
 
   clock-word-at : (i : ℕ) → i < 2 → getD ws (1861 + i) 0 ≡ getD (clockWords m) i 0
   unfolding wordsOf
-  clock-word-at i l = ap (λ r. getD r (1861 + i) 0) (h .words) ∙ part-get (clock-stands (sized (h .shaped))) (clockWords m) 2 (sized (h .shaped) .clock) i l
+  clock-word-at i l =
+      ap (λ r. getD r (1861 + i) 0) (h .words)
+      ∙ part-get (clock-stands (sized (h .shaped))) (clockWords m) 2 (sized (h .shaped) .clock) i l
 
   pub queued-word : getD ws 1792 0 ≡ m .queued
   unfolding countWords
@@ -61,7 +65,8 @@ module _ {ws : List ℕ} {m : Machine} (h : Holds ws m) where
       ≡ parts (m .tokens) (m .cells) (m .queue) (m .waits) (set (countWords m) i v) (m .timers) (clockWords m)
   unfolding wordsOf
   count-put i v l =
-      ap (λ r. set r (1792 + i) v) (h .codes .words) ∙ part-set (counts-stand (sized (shaped h))) (countWords m) 5 (sized (shaped h) .counts) i v l
+      ap (λ r. set r (1792 + i) v) (h .codes .words)
+      ∙ part-set (counts-stand (sized (shaped h))) (countWords m) 5 (sized (shaped h) .counts) i v l
 
   pub calls-put : (n : ℕ) → Holds (set ws 1794 n) (withCounts n (m .lasttoken) (m .lastcell) m)
   unfolding countWords

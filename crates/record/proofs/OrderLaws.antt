@@ -1,5 +1,5 @@
--- The queue, the wait order and the order of call: what their words say, and what a name that joins or leaves makes of them. An order is the
--- first names of its array, so both are changes of a list; the three differ in where array and number stand. Assumes nothing.
+-- The queue, the wait order and the order of call: what their words say, and what a name that joins or leaves makes of them. An order is
+-- the first names of its array, so both are changes of a list; the three differ in where array and number stand. Assumes nothing.
 use mathlib.Core.Path.{_≡_, refl, sym, ap, ap₂, subst, _∙_}
 use mathlib.Core.Bool.{Bool, false}
 use mathlib.Core.List.{List, [], _∷_, _++_}
@@ -22,15 +22,21 @@ use Rattle.record.proofs.HoldsShape.{shaped, orders-hold, timers-hold, 
 module _ {ws : List ℕ} {m : Machine} (h : Codes ws m) where
   pub queue-word : (i : ℕ) → i < 64 → getD ws (1664 + i) 0 ≡ getD (m .queue) i 0
   unfolding wordsOf
-  queue-word i l = ap (λ r. getD r (1664 + i) 0) (h .words) ∙ part-get (queue-stands (sized (h .shaped))) (m .queue) 64 (h .shaped .queue) i l
+  queue-word i l =
+      ap (λ r. getD r (1664 + i) 0) (h .words)
+      ∙ part-get (queue-stands (sized (h .shaped))) (m .queue) 64 (h .shaped .queue) i l
 
   pub wait-word : (i : ℕ) → i < 64 → getD ws (1728 + i) 0 ≡ getD (m .waits) i 0
   unfolding wordsOf
-  wait-word i l = ap (λ r. getD r (1728 + i) 0) (h .words) ∙ part-get (waits-stand (sized (h .shaped))) (m .waits) 64 (h .shaped .waits) i l
+  wait-word i l =
+      ap (λ r. getD r (1728 + i) 0) (h .words)
+      ∙ part-get (waits-stand (sized (h .shaped))) (m .waits) 64 (h .shaped .waits) i l
 
   pub timer-word : (i : ℕ) → i < 64 → getD ws (1797 + i) 0 ≡ getD (m .timers) i 0
   unfolding wordsOf
-  timer-word i l = ap (λ r. getD r (1797 + i) 0) (h .words) ∙ part-get (timers-stand (sized (h .shaped))) (m .timers) 64 (h .shaped .timers) i l
+  timer-word i l =
+      ap (λ r. getD r (1797 + i) 0) (h .words)
+      ∙ part-get (timers-stand (sized (h .shaped))) (m .timers) 64 (h .shaped .timers) i l
 
 -- an order in a record's words: its names, the array at `at` that they stand in, their number at `counted`, and the record with others
 pub record Order (ws names array : List ℕ) (n at counted : ℕ) (changed : List ℕ → Machine) : Type 0 where

@@ -16,9 +16,8 @@ use Rattle.model.specs.declared.token.State.{State}
 use Rattle.model.specs.declared.token.Token.{Token}
 use Rattle.model.specs.declared.record.Machine.{Machine}
 use Rattle.record.specs.Changes.{withCaller, withCell}
-use Rattle.record.specs.Layout.{rowOf, wordsOf, countWords, clockWords, parts, slotKind, slotNumber, stateKind, stateNumber, placeNumber}
-use Rattle.record.specs.Layout.{heldKind}
-use Rattle.record.specs.Layout.{heldNumber}
+use Rattle.record.specs.Layout.{rowOf, wordsOf, countWords, clockWords, parts}
+use Rattle.record.specs.Layout.{slotKind, slotNumber, stateKind, stateNumber, placeNumber, heldKind, heldNumber}
 use Rattle.record.specs.Holds.{Codes, Holds}
 use Rattle.record.proofs.LayoutParts as parts-laws
 use Rattle.record.proofs.HoldsShape.{shaped, tables-hold, binds-after}
@@ -169,7 +168,8 @@ module _ {ws : List ℕ} (m : Machine) (t : Token) (p : ℕ) (h : Holds ws (put 
   own-binds = ap (λ (u : Token). length (u .binds)) (sym here) ∙ shaped h .binds p
 
   becomes : (u : Token) {xs : List ℕ} → length (u .binds) ≡ 8
-      → xs ≡ parts (set (set (m .tokens) p t) p u) (m .cells) (m .queue) (m .waits) (countWords m) (m .timers) (clockWords m) → Holds xs (put p u m)
+      → xs ≡ parts (set (set (m .tokens) p t) p u) (m .cells) (m .queue) (m .waits) (countWords m) (m .timers) (clockWords m)
+      → Holds xs (put p u m)
   unfolding put withTables countWords clockWords
   becomes u {xs} b e =
       subst (λ ts. Holds xs (withTables ts (m .cells) m)) (set-set (m .tokens) p t u)

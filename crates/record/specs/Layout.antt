@@ -12,10 +12,10 @@
 -- | 1797 to 1860 | the order of call: the places of the tokens that are due later, first call first, then 0 |
 -- | 1861, 1862   | how many names the order of call has, and the clock                                      |
 --
--- A token: state (0 blank, 1 ready, 2 waiting, 3 called out, 4 due later, 5 frame); the cell at which it waits, the handle of its open call,
--- or its due time, else 0; node; caller and cell (place + 1, 0 for none); 1 if it has a value, else 0; the value; 0; and for each of eight variables what it is
--- bound to (0 empty, 1 value, 2 cell) and the value or the cell's place. A cell: parent (place + 1, 0 for none); 1 if it is set, else 0;
--- its value; 0. A value is its 32 bits.
+-- A token: state (0 blank, 1 ready, 2 waiting, 3 called out, 4 due later, 5 frame); the cell at which it waits, the handle of its open
+-- call, or its due time, else 0; node; caller and cell (place + 1, 0 for none); 1 if it has a value, else 0; the value; 0; and for each of
+-- eight variables what it is bound to (0 empty, 1 value, 2 cell) and the value or the cell's place. A cell: parent (place + 1, 0 for none);
+-- 1 if it is set, else 0; its value; 0. A value is its 32 bits.
 use mathlib.Core.List.{List, [], _∷_, _++_}
 use Prim.Native.Nat.{ℕ, _+_}
 use Rattle.job.specs.Number.{unsigned}

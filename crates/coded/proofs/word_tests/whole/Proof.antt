@@ -1,4 +1,4 @@
--- `words::whole` meets its contract: there are 1,797 words, and each has 32 bits. Assumes nothing.
+-- `words::whole` meets its contract: there are 1,863 words, and each has 32 bits. Assumes nothing.
 use native.Mathlib.Omega.{arith}
 use Rattle.coded.proofs.IsRecord.{record-codes}
 use Rattle.coded.proofs.IsRecordRows.{all-coded-record}

@@ -39,7 +39,9 @@ same-length : tie.Need-same-length
 same-length c = search needs
 
 returns : tie.Need-returns
-returns c = λ m h l. leave-put (timer-order h) _ _ _ (c .before .before .before .before .before .before .wide .ensures ∙ timed-word (h .codes))
+returns c =
+    λ m h l.
+    leave-put (timer-order h) _ _ _ (c .before .before .before .before .before .before .wide .ensures ∙ timed-word (h .codes))
     (search needs) (c .before .before .left-out .ensures)
 
 returns-2 : tie.Need-returns-2
