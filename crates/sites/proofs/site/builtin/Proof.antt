@@ -1,7 +1,6 @@
 -- `site::builtin` meets its contract: by the laws that it cites. Assumes nothing.
-use mathlib.Core.Path.{_≡_, ap, _∙_}
+use mathlib.Core.Path.{ap, _∙_}
 use borrow.Author.Needs.{needs}
-use native.Mathlib.Omega.{arith}
 use mir.Facts.{toZ-ofZ}
 use Rattle.sites.proofs.SiteBuiltins.{says-let, says-ift, says-iff, says-signal, says-add, says-less, says-equal, says-rwait, last-site}
 use Rattle.sites.specs.SiteReply.{siteReplyOf}
