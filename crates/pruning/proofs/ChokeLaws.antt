@@ -13,8 +13,8 @@ use lib.Dec.{eqb}
 use Rattle.job.specs.Test.{select, padded}
 use Rattle.model.specs.Machine.Blank.{blankToken, blankCell, tokenAt, cellAt}
 use Rattle.model.specs.Machine.Active.{upward, within}
-use Rattle.model.specs.Machine.State.{isReady, isWaiting, waitsAt}
-use Rattle.model.specs.Machine.Update.{withState, withTables, withOrders, queueOf, waitsOf, put, enqueue}
+use Rattle.model.specs.Machine.State.{isReady, isWaiting, isDue, waitsAt}
+use Rattle.model.specs.Machine.Update.{withState, withTables, withOrders, withTimers, queueOf, waitsOf, timersOf, put, enqueue}
 use Rattle.model.specs.Machine.Step.{chokeToken, afterChoke}
 use Rattle.model.specs.declared.token.Held.{Held}
 use Rattle.model.specs.declared.token.Place.{Place}
@@ -34,12 +34,13 @@ use Rattle.record.specs.Holds.{Holds}
 use Rattle.orders.specs.NamesRetained.{markedOf}
 use Rattle.record.specs.Layout.{stateKind, stateNumber, placeNumber}
 use Rattle.orders.proofs.NamesPadded.{length-without}
-use Rattle.record.proofs.TokenRow.{put-self, ready-kind, waiting-kind}
+use Rattle.record.proofs.TokenRow.{put-self, ready-kind, waiting-kind, due-kind}
 use Rattle.orders.proofs.NamesRetained.{select-one, select-append, select-short, select-same}
-use Rattle.pruning.specs.Choke.{rowsChoked, reordered, ChokeFacts}
+use Rattle.pruning.specs.Choke.{rowsChoked, reordered, stillDue, ChokeFacts}
 use Rattle.reach.specs.Marks.{BlankFrom}
 use Rattle.reach.proofs.ListLoops.{drop-next, steady}
-use Rattle.sites.proofs.TableLoops.{Mapping, mapping-more, mapping-at, mapping-end}
+use Rattle.sites.proofs.TableLoops.{Mapping, mapping-end, rows-all}
+use Rattle.sites.proofs.SameOrders.{orders-again, timers-again}
 use Rattle.model.proofs.Run.Bystander.{queue-orders}
 
 -- the walk up, so many links, from the place that has a number
@@ -105,6 +106,8 @@ waits-by c k n (states.Waiting b) true e f yes' no' = eq-eqb c b (yes' refl .1 �
 waits-by c k n (states.Waiting b) false e f yes' no' = ne-eqb c b (λ s. no' refl e (s ∙ sym f))
 waits-by c k n (states.Called h) true e f yes' no' = let z = yes' refl .0 in absurd (omega arith)
 waits-by c k n (states.Called h) false e f yes' no' = refl
+waits-by c k n (states.Due d) true e f yes' no' = let z = yes' refl .0 in absurd (omega arith)
+waits-by c k n (states.Due d) false e f yes' no' = refl
 waits-by c k n states.Frame true e f yes' no' = let z = yes' refl .0 in absurd (omega arith)
 waits-by c k n states.Frame false e f yes' no' = refl
 
@@ -166,29 +169,13 @@ kinds-rest m kind p marks l some h b o =
     getD-replicate 64 k false false z
     ∙ sym (ap (λ (t : Token). eqb (stateKind (t .state)) kind) (b k from z) ∙ ne-eqb 0 kind (λ e. absurd (omega arith))))
 
--- the rows, one more at each turn
+-- the rows
 module _ (c : ℕ) (m : Machine) where
   abbrev ends : Token → Token
   ends = chokeToken (m .cells) c
 
   abbrev rows : ℕ → List Token
   rows p = map ends (take p (m .tokens)) ++ drop p (m .tokens)
-
-  pub rows-none : rowsChoked c 0 m ≡ m
-  unfolding withTables
-  rows-none = refl
-
-  pub rows-more : (p : ℕ) → p < length (m .tokens)
-      → put p (chokeToken (rowsChoked c p m .cells) c (tokenAt (rowsChoked c p m .tokens) p)) (rowsChoked c p m) ≡ rowsChoked c (p + 1) m
-  unfolding withTables put tokenAt
-  rows-more p l =
-      let o : Mapping ends (m .tokens) (m .tokens) p (rows p) = record { so-far = refl; size = refl } in
-      let same : getD (rows p) p blankToken ≡ getD (m .tokens) p blankToken = mapping-at ends (m .tokens) p (rows p) blankToken o l in
-      ap (λ ts. withTables ts (m .cells) m)
-      (mapping-more ends (m .tokens) (m .tokens) p (rows p) (ends (getD (rows p) p blankToken)) blankToken o l (ap ends same) .so-far)
-
-  pub rows-all : (p : ℕ) → length (m .tokens) ≤ p → rows p ≡ map ends (m .tokens)
-  rows-all p l = mapping-end ends (m .tokens) (m .tokens) p (rows p) (record { so-far = refl; size = refl }) l
 
   -- from p on the tokens are blank
   module _ (long : length (m .tokens) ≡ 64) (p : ℕ) (b : BlankFrom m p) where
@@ -199,37 +186,15 @@ module _ (c : ℕ) (m : Machine) where
         (mapping-rest ends (m .tokens) (m .tokens) blankToken blankToken refl p (rows p) (record { so-far = refl; size = refl })
         (omega arith)
         (λ k from to. let e = b k from (omega arith) in sym (ap ends e ∙ choked-blank (m .cells) c ∙ sym e))
-        ∙ sym (rows-all 64 (omega arith)))
+        ∙ sym (rows-all ends m 64 (omega arith)))
 
     pub rows-blank : BlankFrom (rowsChoked c 64 m) p
     unfolding withTables
     rows-blank i from to =
-        ap (λ ts. tokenAt ts i) (rows-all 64 (omega arith))
+        ap (λ ts. tokenAt ts i) (rows-all ends m 64 (omega arith))
         ∙ choke-at (m .cells) c (m .tokens) i
         ∙ ap ends (b i from to)
         ∙ choked-blank (m .cells) c
-
--- the orders of a record
-pub orders-again : {ws : List ℕ} {m : Machine} → Holds ws m → withOrders (queueOf m) (waitsOf m) m ≡ m
-unfolding withOrders
-orders-again {ws} {m} h =
-    let o = h .ordered in
-    ap₂ (λ a i. made a i (padded 0 (length (m .tokens)) (waitsOf m)) (length (waitsOf m))) (sym (o .queue)) (sym (o .queued))
-    ∙ ap₂ (λ b j. made (m .queue) (m .queued) b j) (sym (o .waits)) (sym (o .waiting))
-  where
-    made : (a : List ℕ) (i : ℕ) (b : List ℕ) (j : ℕ) → Machine
-    made a i b j =
-        record {
-          tokens = m .tokens;
-          cells = m .cells;
-          queue = a;
-          queued = i;
-          waits = b;
-          waiting = j;
-          calls = m .calls;
-          lasttoken = m .lasttoken;
-          lastcell = m .lastcell;
-        }
 
 waits-back : (q w : List ℕ) (m : Machine) → waitsOf (withOrders q w m) ≡ w
 waits-back q w m = waits-are (orders-with q w m)
@@ -308,23 +273,19 @@ abbrev pub third : Machine → (ready waiting : List Bool) → Machine
 third m ready waiting =
     let two = second m ready in withOrders (queueOf two) (markedOf waiting (waitsOf two)) two
 
+-- the names whose tokens' states are of a kind are those that a test of states selects
+pub kind-same : (m : Machine) (kind : ℕ) → eqb 0 kind ≡ false → (test : State → Bool) → ((s : State) → eqb (stateKind s) kind ≡ test s)
+    → (marks : List Bool) → marks ≡ map (λ (t : Token). eqb (stateKind (t .state)) kind) (m .tokens)
+    → (xs : List ℕ) → markedOf marks xs ≡ select (λ (p : ℕ). test (tokenAt (m .tokens) p .state)) xs
+unfolding tokenAt
+kind-same m kind none test same marks e xs =
+    let is : Token → Bool = λ (t : Token). eqb (stateKind (t .state)) kind in
+    select-same _ _ xs
+    (λ p. ap₂ (λ r b. getD r p b) e (sym none) ∙ List·getD-map is (m .tokens) p blankToken ∙ same (tokenAt (m .tokens) p .state))
+
 module _ (m : Machine) (ready waiting : List Bool)
     (er : ready ≡ map (λ (t : Token). eqb (stateKind (t .state)) 1) (m .tokens))
     (ew : waiting ≡ map (λ (t : Token). eqb (stateKind (t .state)) 2) (m .tokens)) where
-  ready-same : (xs : List ℕ) → markedOf ready xs ≡ select (λ (p : ℕ). isReady (tokenAt (m .tokens) p .state)) xs
-  unfolding tokenAt
-  ready-same xs =
-      select-same _ _ xs
-      (λ p. ap (λ r. getD r p false) er ∙ List·getD-map (λ (t : Token). eqb (stateKind (t .state)) 1) (m .tokens) p blankToken
-      ∙ ready-kind _)
-
-  waiting-same : (xs : List ℕ) → markedOf waiting xs ≡ select (λ (p : ℕ). isWaiting (tokenAt (m .tokens) p .state)) xs
-  unfolding tokenAt
-  waiting-same xs =
-      select-same _ _ xs
-      (λ p. ap (λ r. getD r p false) ew ∙ List·getD-map (λ (t : Token). eqb (stateKind (t .state)) 2) (m .tokens) p blankToken
-      ∙ waiting-kind _)
-
   pub reorder-is : third m ready waiting ≡ reordered m
   unfolding withOrders
   reorder-is =
@@ -335,12 +296,12 @@ module _ (m : Machine) (ready waiting : List Bool)
       let front : queueOf one ++ markedOf ready (waitsOf one) ≡ select (λ (p : ℕ). isReady (tokenAt (m .tokens) p .state)) (q ++ w) =
       ap₂ (λ a b. a ++ markedOf ready b) (queue-orders (markedOf ready q) w m) (waits-back (markedOf ready q) w m)
       ∙ sym (select-append (λ (p : ℕ). getD ready p false) q w)
-      ∙ ready-same (q ++ w) in
+      ∙ kind-same m 1 refl isReady ready-kind ready er (q ++ w) in
       let back : waitsOf two ≡ w = waits-back (queueOf one ++ markedOf ready (waitsOf one)) (waitsOf one) one
       ∙ waits-back (markedOf ready q) w m in
       ap₂ (λ a b. withOrders a (markedOf waiting b) m)
       (queue-orders (queueOf one ++ markedOf ready (waitsOf one)) (waitsOf one) one ∙ front) back
-      ∙ ap (λ b. withOrders (select (λ (p : ℕ). isReady (tokenAt (m .tokens) p .state)) (q ++ w)) b m) (waiting-same w)
+      ∙ ap (λ b. withOrders (select (λ (p : ℕ). isReady (tokenAt (m .tokens) p .state)) (q ++ w)) b m) (kind-same m 2 refl isWaiting waiting-kind waiting ew w)
 
 pub first-room : {ws : List ℕ} {m : Machine} → Holds ws m → (ready : List Bool) → m .queued + m .waiting ≤ 64
     → first m ready .queued + first m ready .waiting ≤ 64
@@ -350,6 +311,20 @@ first-room {ws} {m} h ready l =
     let b = h .ordered .queued in
     let d = h .ordered .waiting in
     omega arith
+
+-- the order of call without those that are not due later
+module _ {ws : List ℕ} (m : Machine) where
+  pub none-due : m .timed ≡ 0 → Holds ws m → Holds ws (stillDue m)
+  unfolding timersOf select
+  none-due e h =
+      let none : timersOf m ≡ [] = ap (λ n. take n (m .timers)) e in
+      subst (Holds ws) (sym (ap (λ l. withTimers (select (λ (p : ℕ). isDue (tokenAt (m .tokens) p .state)) l) m) none
+      ∙ ap (λ l. withTimers l m) (sym none)
+      ∙ timers-again h)) h
+
+  pub due-retained : (due : List Bool) → due ≡ map (λ (t : Token). eqb (stateKind (t .state)) 4) (m .tokens)
+      → Holds ws (withTimers (markedOf due (timersOf m)) m) → Holds ws (stillDue m)
+  due-retained due e h = subst (λ l. Holds ws (withTimers l m)) (kind-same m 4 refl isDue due-kind due e (timersOf m)) h
 
 -- the whole of it
 module _ {ws : List ℕ} (m : Machine) (h : Holds ws m) (place c : ℕ) (f : ChokeFacts m place) where
@@ -367,13 +342,14 @@ module _ {ws : List ℕ} (m : Machine) (h : Holds ws m) (place c : ℕ) (f : Cho
   unfolding withOrders
   tokens-there = h .codes .shaped .tokens
 
-  pub choke-is : (v : Held) → reordered (storeCell c (setCell v (cellAt (dequeued m place .cells) c)) (rowsChoked c 64 (dequeued m place)))
+  pub choke-is : (v : Held)
+      → stillDue (reordered (storeCell c (setCell v (cellAt (dequeued m place .cells) c)) (rowsChoked c 64 (dequeued m place))))
       ≡ afterChoke c v (dequeued m place)
-  unfolding afterChoke withTables queueOf waitsOf
+  unfolding afterChoke withTables withOrders withTimers queueOf waitsOf timersOf
   choke-is v =
       let t = dequeued m place in
       let n = tokens-there in
-      ap (λ ts. reordered (withTables ts (set (t .cells) c (setCell v (cellAt (t .cells) c))) t)) (rows-all c t 64 (omega arith))
+      ap (λ ts. stillDue (reordered (withTables ts (set (t .cells) c (setCell v (cellAt (t .cells) c))) t))) (rows-all (chokeToken (t .cells) c) t 64 (omega arith))
 
 -- a row in its place
 module _ {ws : List ℕ} (m : Machine) (c p : ℕ) (b : Bool) (e : b ≡ within (m .cells) c (tokenAt (m .tokens) p .cell)) where

@@ -18,11 +18,12 @@ ghost use Rattle.record.specs.Holds.{Codes, Holds};
 ghost use Rattle.orders.specs.NamesRetained.{markedOf};
 ghost use Rattle.record.specs.Layout.{stateKind, placeNumber, heldKind, heldNumber};
 ghost use Rattle.reach.specs.Marks.{BlankFrom};
-ghost use Rattle.pruning.specs.Choke.{rowsChoked, reordered, ChokeFacts};
+ghost use Rattle.pruning.specs.Choke.{rowsChoked, reordered, stillDue, ChokeFacts};
 use job::wide::wide;
 use model::record::Machine;
 use orders::names::is_marked;
 use record::cell;
+use record::layout::DUE_STATE;
 use record::layout::READY_STATE;
 use record::layout::WAITING_STATE;
 use record::order;
@@ -140,6 +141,19 @@ fn reorder(w: &mut [u32; Machine::WORDS], end: usize)
     order::retain_waits(w, &waiting);
 }
 
+// The order of call keeps the tokens that are still due; it mostly names none.
+fn retain_due(w: &mut [u32; Machine::WORDS], end: usize)
+    requires { ⌜ end ≤ 64 ⌝ }
+    ensures { λ _. ⌜ ((m : Machine) → Holds (now (w .entry)) m → BlankFrom m end → Holds (now (w .exit)) (stillDue m)) ⌝ }
+{
+    if order::timed(w) == 0 {
+        return;
+    }
+    let mut due = [false; Machine::TOKENS];
+    mark_state(w, DUE_STATE, end, &mut due);
+    order::retain_timers(w, &due);
+}
+
 // "Set the cell; all tokens of it and of its descendants end; waiters become ready, longest wait first." From the end on no token is in
 // use.
 pub fn written(
@@ -159,4 +173,5 @@ pub fn written(
     choke_rows(w, c, end);
     cell::set_value(w, c, kind, number);
     reorder(w, end);
+    retain_due(w, end);
 }

@@ -103,6 +103,7 @@ module _ (h k n : ℕ) (s : State) (ek : k ≡ stateKind s) (en : n ≡ stateNum
       go states.Ready ek en e = absurd (omega arith)
       go (states.Waiting c) ek en e = absurd (omega arith)
       go (states.Called g) ek en e = ap (eqb h) en ∙ or-nothing (eqb h g)
+      go (states.Due t) ek en e = absurd (omega arith)
       go states.Frame ek en e = absurd (omega arith)
 
   pub open-not-called : (k ≡ 3 → ⊥) → false ≡ forSome (eqb h) (handleOf s)
@@ -114,6 +115,7 @@ module _ (h k n : ℕ) (s : State) (ek : k ≡ stateKind s) (en : n ≡ stateNum
       go states.Ready ek f = refl
       go (states.Waiting c) ek f = refl
       go (states.Called g) ek f = absurd (f ek)
+      go (states.Due t) ek f = refl
       go states.Frame ek f = refl
 
 -- a number as a place

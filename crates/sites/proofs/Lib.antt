@@ -2,7 +2,9 @@
 pub mod NumberSigned
 pub mod NumberBits
 pub mod SiteBuiltins
+pub mod DueTime
 pub mod TableLoops
+pub mod SameOrders
 pub mod OrderCounting
 pub mod RuleFacts
 pub mod AnswerLaws

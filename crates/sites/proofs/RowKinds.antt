@@ -27,7 +27,7 @@ unfolding siteTakes isBuiltin isOutside
 site-below s n e = go (or-cases _ _ e)
   where
     go : ((isBuiltin s and eqb n (getD builtinCounts s 0)) ≡ true) ⊎ ((isOutside s and leb n 4) ≡ true) → s < 1024
-    go (inl a) = let l = ltb-lt s 7 (and-left _ _ a) in omega arith
+    go (inl a) = let l = ltb-lt s 8 (and-left _ _ a) in omega arith
     go (inr a) = let l = leb-le s 1023 (and-right (leb 16 s) _ (and-left _ _ a)) in omega arith
 
 module _ (ws : List ℕ) (at kind : ℕ) (o : NodeRow ws at kind) where

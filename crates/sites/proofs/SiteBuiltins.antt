@@ -2,13 +2,13 @@
 use mathlib.Core.Path.{_≡_, refl, ap, _∙_}
 use mathlib.Core.Bool.{Bool, true, false, not}
 use mathlib.Core.List.{List, [], _∷_}
-use Prim.Native.Nat.{ℕ, zero, suc, _<_}
+use Prim.Native.Nat.{ℕ, zero, suc, _<_, _≤_}
 use native.Mathlib.Omega.{arith}
 use lib.IntN.{ℤ, pos, _+ℤ_}
 use lib.Signed.{ltZ}
 use Rattle.job.specs.Number.{fits, equalZ}
 use Rattle.job.specs.Site as Site
-use Rattle.job.specs.Site.{BuiltinReply, gives, silent, at, builtin, zeroIf, notZero, truth}
+use Rattle.job.specs.Site.{BuiltinReply, gives, silent, later, at, builtin, zeroIf, notZero, truth}
 
 pub sum-gives : (a b : ℤ) → fits (a +ℤ b) ≡ true → Site.sumReply a b ≡ gives (a +ℤ b)
 unfolding Site.sumReply
@@ -58,8 +58,22 @@ module _ (s : ℕ) (a b : ℤ) where
   unfolding builtin
   says-equal t e f = rw e (ap (λ x. gives (truth x)) f)
 
+  pub says-rwait : s ≡ 7 → later a ≡ says
+  unfolding builtin
+  says-rwait e = rw e
+
+-- the site that is left is the last one
+low-sites : (s : ℕ) → (s ≡ 0 → ⊥) → (s ≡ 1 → ⊥) → (s ≡ 2 → ⊥) → (s ≡ 3 → ⊥) → 4 ≤ s
+low-sites s a b c d = omega arith
+
+from-four : (s : ℕ) → s < 8 → 4 ≤ s → (s ≡ 4 → ⊥) → (s ≡ 5 → ⊥) → (s ≡ 6 → ⊥) → s ≡ 7
+from-four s l low e f g = omega arith
+
+pub last-site : (s : ℕ) → s < 8 → (s ≡ 0 → ⊥) → (s ≡ 1 → ⊥) → (s ≡ 2 → ⊥) → (s ≡ 3 → ⊥) → (s ≡ 4 → ⊥) → (s ≡ 5 → ⊥) → (s ≡ 6 → ⊥) → s ≡ 7
+last-site s l a b c d e f g = from-four s l (low-sites s a b c d) e f g
+
 -- a site says the same to its values and to the first two of them, with 0 where there is none
-pub says-to-two : (s : ℕ) (vs : List ℤ) → s < 7 → builtin s (at vs 0 ∷ at vs 1 ∷ []) ≡ builtin s vs
+pub says-to-two : (s : ℕ) (vs : List ℤ) → s < 8 → builtin s (at vs 0 ∷ at vs 1 ∷ []) ≡ builtin s vs
 unfolding builtin
 says-to-two zero vs l = refl
 says-to-two (suc zero) vs l = refl
@@ -68,4 +82,5 @@ says-to-two (suc (suc (suc zero))) vs l = refl
 says-to-two (suc (suc (suc (suc zero)))) vs l = refl
 says-to-two (suc (suc (suc (suc (suc zero))))) vs l = refl
 says-to-two (suc (suc (suc (suc (suc (suc zero)))))) vs l = refl
-says-to-two (suc (suc (suc (suc (suc (suc (suc n))))))) vs l = absurd (omega arith)
+says-to-two (suc (suc (suc (suc (suc (suc (suc zero))))))) vs l = refl
+says-to-two (suc (suc (suc (suc (suc (suc (suc (suc n)))))))) vs l = absurd (omega arith)

@@ -11,6 +11,7 @@ ghost use Rattle.sites.specs.SiteReply.{siteReplyOf};
 pub enum SiteReply {
     Gives(i32),
     Silent,
+    Later(i32),
 }
 
 // "gives 0 if ..; else silent"
@@ -59,9 +60,9 @@ fn sum(a: i32, b: i32) -> SiteReply
     SiteReply::Gives(s as i32)
 }
 
-// "0 let (1), 1 ift (1), 2 iff (1), 3 signal (0), 4 add (2), 5 less (2), 6 equal (2)". No site has more than two parameters.
+// "0 let (1), 1 ift (1), 2 iff (1), 3 signal (0), 4 add (2), 5 less (2), 6 equal (2)", 7 rwait (1). No site has more than two parameters.
 pub fn builtin(site: u32, a: i32, b: i32) -> SiteReply
-    requires { ⌜ site < 7 ⌝ }
+    requires { ⌜ site < 8 ⌝ }
     ensures { λ r. ⌜ r ≡ siteReplyOf (Site.builtin site (a ∷ b ∷ [])) ⌝ }
 {
     match site {
@@ -71,6 +72,7 @@ pub fn builtin(site: u32, a: i32, b: i32) -> SiteReply
         3 => SiteReply::Gives(0),
         4 => sum(a, b),
         5 => truth(less(a, b)),
-        _ => truth(equal(a, b)),
+        6 => truth(equal(a, b)),
+        _ => SiteReply::Later(a),
     }
 }

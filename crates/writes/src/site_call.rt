@@ -1,9 +1,11 @@
 // Site call: "parameters in order; the first unset cell makes the token wait there. Otherwise a built-in replies and the token goes on, or
-// it is silent and the token ends; an outside call takes the next handle (from 0), and the token is called out at the next node".
+// it is silent and the token ends; an outside call takes the next handle (from 0), and the token is called out at the next node". A call of
+// rwait makes the token due later at the next node.
 ghost use mathlib.Core.Path.{_≡_};
+ghost use mathlib.Core.List.{[], _∷_, _++_};
 ghost use Prim.Native.Nat.{_<_, _+_, suc};
 ghost use Rattle.model.specs.Machine.Blank.{tokenAt};
-ghost use Rattle.model.specs.Machine.Update.{withNode, withState, withValue, put, enqueue, withCounts};
+ghost use Rattle.model.specs.Machine.Update.{withNode, withState, withValue, put, enqueue, withCounts, withTimers, timersOf};
 ghost use Rattle.model.specs.declared.record.Machine.{Machine};
 ghost use Rattle.model.specs.declared.token.Held.{Held};
 ghost use Rattle.model.specs.declared.token.State.the-variants as states;
@@ -13,7 +15,9 @@ ghost use Rattle.record.specs.Layout.{heldKind, heldNumber};
 use model::record::Machine;
 use record::count::set_calls_made;
 use record::layout::CALLED_STATE;
+use record::layout::DUE_STATE;
 use record::layout::WAITING_STATE;
+use record::order::defer;
 use record::order::delay;
 use record::order::join;
 use record::order::leave;
@@ -60,4 +64,19 @@ pub fn call_out(w: &mut [u32; Machine::WORDS], place: usize, p: usize, handle: u
     set_state(w, p, CALLED_STATE, handle);
     set_node(w, p, next);
     set_calls_made(w, handle + 1);
+}
+
+// The token is due later, at this time and at the next node, and the last in the order of call.
+pub fn due_later(w: &mut [u32; Machine::WORDS], place: usize, p: usize, due: u32, next: u32)
+    requires { ⌜ p < 64 ⌝ }
+    ensures { λ _.
+        ⌜ ((m : Machine) → Holds (now (w .entry)) m → place < m .queued → m .timed < 64
+        → Holds (now (w .exit))
+        (withTimers (timersOf (dequeued m place) ++ (p ∷ []))
+        (put p (withNode next (withState (states.Due due) (tokenAt (m .tokens) p))) (dequeued m place)))) ⌝ }
+{
+    leave(w, place);
+    set_state(w, p, DUE_STATE, due);
+    set_node(w, p, next);
+    defer(w, p as u32);
 }

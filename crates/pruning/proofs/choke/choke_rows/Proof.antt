@@ -5,7 +5,10 @@ use native.Mathlib.Omega.{arith}
 use Prim.Native.Nat.{_≤_, _-_}
 use Rattle.model.specs.declared.record.Machine.{Machine}
 use Rattle.record.specs.Holds.{Holds}
-use Rattle.pruning.proofs.ChokeLaws.{rows-none, rows-more, rows-rest}
+use Rattle.model.specs.Machine.Step.{chokeToken}
+use Rattle.model.specs.Machine.Update.{withTables}
+use Rattle.sites.proofs.TableLoops.{rows-none, rows-more}
+use Rattle.pruning.proofs.ChokeLaws.{rows-rest}
 use Rattle.pruning.specs.Choke.{rowsChoked}
 use Rattle.pruning.proofs.choke.choke_rows.Statement.{statement}
 use Rattle.pruning.proofs.choke.choke_rows.Tie as tie
@@ -17,7 +20,7 @@ abbrev μ-loop : tie.MeasureT-loop
 μ-loop w₀ c end p₀ w p = end - p
 
 loop-holds : tie.Need-loop-holds Inv-loop μ-loop
-loop-holds c = (search needs, λ m h. subst (Holds _) (sym (rows-none (c .args .c) m)) h)
+loop-holds c = (search needs, λ m h. subst (Holds _) (sym (rows-none (chokeToken (m .cells) (c .args .c)) m)) h)
 
 choke-row-requires : tie.Need-choke-row-requires Inv-loop μ-loop
 choke-row-requires c κs = search needs
@@ -29,10 +32,11 @@ loop-less : tie.Need-loop-less Inv-loop μ-loop
 loop-less c = search needs
 
 loop-again : tie.Need-loop-again Inv-loop μ-loop
+unfolding withTables
 loop-again c = (
   search needs,
   λ m h. subst (Holds _)
-      (rows-more (c .before .before .before .before .args .c) m (c .before .before .before .loop .p)
+      (rows-more (chokeToken (m .cells) (c .before .before .before .before .args .c)) m (c .before .before .before .loop .p)
       (omega (arith, h .codes .shaped .tokens))) (c .choke-row .ensures _ (c .before .before .before .loop .inv .1 m h)),
 )
 

@@ -1,4 +1,4 @@
--- The four changes one after the other are the definition's choke. Each writer leaves what the next one is asked for. Assumes nothing.
+-- The five changes one after the other are the definition's choke. Each writer leaves what the next one is asked for. Assumes nothing.
 use mathlib.Core.Path.{subst}
 use borrow.Author.Needs.{needs}
 use Rattle.model.specs.Machine.Update.{withTables, withOrders}
@@ -21,18 +21,25 @@ set-value-requires c κs = search needs
 reorder-requires : tie.Need-reorder-requires
 reorder-requires c κs = search needs
 
+retain-due-requires : tie.Need-retain-due-requires
+retain-due-requires c κs = search needs
+
 returns : tie.Need-returns
 unfolding withTables withOrders
 returns c = λ m v h blank f ek en.
-    let place = c .before .before .before .before .before .before .before .before .args .place in
-    let cell = c .before .before .before .before .before .before .before .before .args .c in
-    let one = c .before .before .before .before .before .before .leave .ensures m h (f .queued) in
-    let two = c .before .before .before .before .choke-rows .ensures (dequeued m place) one blank in
-    let three = c .before .before .set-value .ensures (rowsChoked cell 64 (dequeued m place)) v two ek en in
-    let rest = rows-blank cell (dequeued m place) (h .codes .shaped .tokens) _ blank in
-    subst (Holds _) (choke-is m h place cell f v) (c .reorder .ensures _ three rest (taken-room m h place cell f))
+    let fourth = c .before .before in
+    let third = fourth .before .before in
+    let second = third .before .before in
+    let first = second .before .before in
+    let a = first .before .before .args in
+    let one = first .leave .ensures m h (f .queued) in
+    let two = second .choke-rows .ensures (dequeued m (a .place)) one blank in
+    let three = third .set-value .ensures (rowsChoked (a .c) 64 (dequeued m (a .place))) v two ek en in
+    let rest = rows-blank (a .c) (dequeued m (a .place)) (h .codes .shaped .tokens) _ blank in
+    let four = fourth .reorder .ensures _ three rest (taken-room m h (a .place) (a .c) f) in
+    subst (Holds _) (choke-is m h (a .place) (a .c) f v) (c .retain-due .ensures _ four rest)
 
 pub written-spec : {M : Type 1} → statement M
 written-spec =
     tie.close
-    (tie.spec leave-requires choke-rows-requires set-value-requires reorder-requires returns)
+    (tie.spec leave-requires choke-rows-requires set-value-requires reorder-requires retain-due-requires returns)

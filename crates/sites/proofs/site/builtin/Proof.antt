@@ -1,9 +1,8 @@
 -- `site::builtin` meets its contract: by the laws that it cites. Assumes nothing.
-use mathlib.Core.Path.{_≡_, ap, _∙_}
+use mathlib.Core.Path.{ap, _∙_}
 use borrow.Author.Needs.{needs}
-use native.Mathlib.Omega.{arith}
 use mir.Facts.{toZ-ofZ}
-use Rattle.sites.proofs.SiteBuiltins.{says-let, says-ift, says-iff, says-signal, says-add, says-less, says-equal}
+use Rattle.sites.proofs.SiteBuiltins.{says-let, says-ift, says-iff, says-signal, says-add, says-less, says-equal, says-rwait, last-site}
 use Rattle.sites.specs.SiteReply.{siteReplyOf}
 use Rattle.sites.proofs.site.builtin.Statement.{statement}
 use Rattle.sites.proofs.site.builtin.Tie as tie
@@ -72,14 +71,22 @@ returns-6 c =
 returns-7 : tie.Need-returns-7
 returns-7 c =
     let s = c .before .before .before in
-    let r = c .before .before .match .rest in
-    let six : s .args .site ≡ 6 = omega (arith, s .pre, r .1, r .0 .1, r .0 .0 .1, r .0 .0 .0 .1, r .0 .0 .0 .0 .1, r .0 .0 .0 .0 .0 .1) in
     c .truth2 .ensures
     ∙ ap siteReplyOf
-    (says-equal _ (s .args .a) (s .args .b) _ six (c .before .equal3 .ensures ∙ rw (toZ-ofZ (s .fits .a), toZ-ofZ (s .fits .b))))
+    (says-equal _ (s .args .a) (s .args .b) _ (c .before .before .match .keys7)
+    (c .before .equal3 .ensures ∙ rw (toZ-ofZ (s .fits .a), toZ-ofZ (s .fits .b))))
+
+returns-8 : tie.Need-returns-8
+returns-8 c =
+    let s = c .before in
+    let r = c .match .rest in
+    let seven =
+    last-site (s .args .site) (s .pre) (r .0 .0 .0 .0 .0 .0 .1) (r .0 .0 .0 .0 .0 .1) (r .0 .0 .0 .0 .1) (r .0 .0 .0 .1) (r .0 .0 .1) (r .0 .1)
+    (r .1) in
+    rw (toZ-ofZ (s .fits .a)) (ap siteReplyOf (says-rwait _ _ (s .args .b) seven))
 
 pub builtin-spec : {M : Type 1} → statement M
 builtin-spec =
     tie.close
     (tie.spec equal-requires zero-if-requires equal-requires-2 zero-if-requires-2 sum-requires less-requires truth-requires equal-requires-3
-    truth-requires-2 returns returns-2 returns-3 returns-4 returns-5 returns-6 returns-7)
+    truth-requires-2 returns returns-2 returns-3 returns-4 returns-5 returns-6 returns-7 returns-8)
