@@ -10,7 +10,9 @@ import struct
 # The most bytes of a job, and of a table's definitions and entries.
 LONGEST, DEFINITIONS, ENTRIES = 65536, 32, 512
 BYTES = b"\n(),-/0123456789<=>acdgloprstv|"
-BUILT_IN = (1, 1, 1, 0, 2, 2, 2)
+BUILT_IN = (1, 1, 1, 0, 2, 2, 2, 1)
+# A record with this handle names the time.
+CLOCK = 0xFFFFFFFF
 JOINS = {3: "|", 4: ">v{}>", 5: "<v{}<"}
 
 
@@ -46,7 +48,7 @@ def fits(kind, operand):
     """The operand keeps its row of the grammar."""
     low, count = operand & 0xFFFF, operand >> 16
     if kind == 1:
-        return count == BUILT_IN[low] if low < 7 else 16 <= low <= 1023 and count <= 4
+        return count == BUILT_IN[low] if low < len(BUILT_IN) else 16 <= low <= 1023 and count <= 4
     if kind == 2:
         return count <= 4
     if kind == 6:

@@ -1,5 +1,5 @@
--- Where the concrete machine has what the abstract machine's token stands for: a place, ready, waiting or called out; a position of the
--- queue if it is ready, since the queue names each ready token; and the holder of its handle if it is called out, since open handles
+-- Where the concrete machine has what the abstract machine's token stands for: a place, ready, waiting, called out or due later; a position
+-- of the queue if it is ready, since the queue names each ready token; and the holder of its handle if it is called out, since open handles
 -- differ. Assumes nothing.
 use mathlib.Core.Path.{_≡_, refl, sym, _∙_, ap, subst}
 use mathlib.Core.Bool.{Bool, true, false, not}
@@ -30,7 +30,7 @@ use Rattle.simulation.proofs.AbstractMachine as Abstract
 use Rattle.simulation.proofs.AbstractMachine.{Binding, Frame, at, running, state}
 use Rattle.simulation.proofs.Shuffle.{Split}
 use Rattle.model.proofs.Sees.Labels.{Labels}
-use Rattle.model.proofs.Sees.View.{World, HeldSeen, Unset, StateSeen, ready, waiting, called, PlaceSeen, TokenSeen, sees}
+use Rattle.model.proofs.Sees.View.{World, HeldSeen, Unset, StateSeen, ready, waiting, called, due, PlaceSeen, TokenSeen, sees}
 use Rattle.model.proofs.Sees.Seen.{Core}
 use Rattle.model.proofs.Sees.Others.{Others, FoundOf, foundOf, find-token, others, spot-token, acting-inside}
 use Rattle.model.proofs.Sees.Agrees.{Acting}
@@ -47,6 +47,7 @@ pub data Turn (M : Labels) (W : World) (L R : List Abstract.Token) : Abstract.To
       → tokenAt (W .tokens) p .state ≡ states.Called h → Others M W p L R → PlaceSeen W M (tokenAt (W .tokens) p) n B F U
       → Unset (W .store) U → TokenSeen W M (tokenAt (W .tokens) p) (Abstract.calledOut h (at n B F U))
       → Turn M W L R (Abstract.calledOut h (at n B F U))
+  is-due : {time n : ℕ} {B : List Binding} {F : List Frame} {U : List ℕ} → Turn M W L R (Abstract.dueLater time (at n B F U))
 
 turn-of : {M : Labels} {W : World} {p n : ℕ} {B : List Binding} {F : List Frame} {U : List ℕ} {L R : List Abstract.Token}
     {s : State} {w : Held} {x : Abstract.Token}
@@ -57,6 +58,7 @@ turn-of {M} {n = n} es ew o z un seen (ready {v = v} h) =
     is-ready (record { others = o; place = z; clear = un; value = subst (λ w. HeldSeen (M .value n) w v) (sym ew) h; state = es })
 turn-of es ew o z un seen (waiting e h) = is-waiting (acting-inside o) es z
 turn-of es ew o z un seen called = is-called es o z un seen
+turn-of es ew o z un seen due = is-due
 
 turn-token : {M : Labels} {W : World} {p : ℕ} {L R : List Abstract.Token} {x : Abstract.Token}
     → Others M W p L R → TokenSeen W M (tokenAt (W .tokens) p) x → Turn M W L R x
@@ -130,6 +132,7 @@ differ-behind states.Blank hs e = e
 differ-behind states.Ready hs e = e
 differ-behind (states.Waiting c) hs e = e
 differ-behind (states.Called h) hs e = and-right _ _ e
+differ-behind (states.Due d) hs e = e
 differ-behind states.Frame hs e = e
 
 differ-first : (h : ℕ) (hs : List ℕ) → distinct (h ∷ hs) ≡ true → forSome (eqb h) hs ≡ true → ⊥

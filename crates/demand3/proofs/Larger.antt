@@ -1,5 +1,5 @@
 -- Larger limits change nothing that was accepted: an accepted step under some limits is the same step under limits neither of which is
--- smaller. So a step adds at most one token and one cell to those in use, and an answer none. Assumes nothing.
+-- smaller. So a step adds at most one token and one cell to those in use, and an answer or a clock move none. Assumes nothing.
 use mathlib.Core.Path.{_≡_, refl, sym, _∙_, ap, subst}
 use mathlib.Core.Bool.{Bool, true, false}
 use Prim.Native.Nat.{ℕ, suc, _≤_}
@@ -8,23 +8,24 @@ use lib.Dec.{ltb}
 use lib.IntN.{ℤ}
 use Rattle.job.specs.Node.{Node, Dag}
 use Rattle.model.specs.Machine.Limits.{Limits}
-use Rattle.model.specs.Machine.InUse.{marked, tokensUsed, cellsUsed}
+use Rattle.model.specs.Machine.InUse.{marked, tokensUsed, cellsUsed, Within}
 use Rattle.model.specs.Machine.Rules.{tokenInRange, cellInRange, sizesInRange, machineHolds, rulesHold}
-use Rattle.model.specs.Machine.Reply.{Effect, unless, outcome, isRefused}
+use Rattle.model.specs.Machine.Reply.{Effect, moves, unless, outcome, isRefused}
 use Rattle.model.specs.Machine.Step.{LookUpResult, values, unset, callSite, hasTokenPlace, hasCellPlace, act, takes, step}
 use Rattle.model.specs.Machine.Answer.{holder, answered, answer}
+use Rattle.model.specs.Machine.Clock.{takesTime, advanced, advance}
 use Rattle.model.specs.declared.token.Token.{Token}
 use Rattle.model.specs.declared.record.Machine.{Machine}
 use Rattle.model.specs.declared.reply.Outcome.{Outcome}
 use Rattle.job.proofs.Test.{clash, ltb-lt, lt-ltb}
-use Rattle.model.proofs.Machine.Within.{step-within, answer-within}
+use Rattle.model.proofs.Machine.Within.{step-within, answer-within, advance-within}
 
 -- these limits, for as many tokens and cells
 abbrev pub allowing : Limits → (tokens cells : ℕ) → Limits
 allowing lim t c =
     record { tokenPlaces = lim .tokenPlaces; cellPlaces = lim .cellPlaces; tokens = t; cells = c; calls = lim .calls }
 
--- the rules do not speak of these limits, and an answer does not test them
+-- the rules do not speak of these limits, and an answer and a clock move do not test them
 same-rules : (lim : Limits) (t c : ℕ) (d : Dag) (m : Machine) → rulesHold (allowing lim t c) d m ≡ rulesHold lim d m
 unfolding rulesHold machineHolds tokenInRange cellInRange sizesInRange
 same-rules lim t c d m = refl
@@ -33,6 +34,11 @@ same-answer : (lim : Limits) (t c : ℕ) (d : Dag) (m : Machine) (h : ℕ) (v : 
 unfolding answer
 same-answer lim t c d m h v =
     ap (λ b. outcome m (unless b 14 (answered m v (holder h 0 (m .tokens))))) (same-rules lim t c d m)
+
+same-advance : (lim : Limits) (t c : ℕ) (d : Dag) (m : Machine) (time : ℕ) → advance (allowing lim t c) d m time ≡ advance lim d m time
+unfolding advance
+same-advance lim t c d m time =
+    ap (λ b. outcome m (unless b 14 (unless (takesTime m time) 15 (moves (advanced m time))))) (same-rules lim t c d m)
 
 -- a call that the test did not refuse is the same under a test that holds as well
 unless-same : (m : Machine) (b b′ : Bool) (n : ℕ) (e e′ : Effect)
@@ -103,13 +109,21 @@ module _ (lim : Limits) (d : Dag) (m : Machine) where
       (step-within (allowing lim (suc t) (suc c)) d m place (omega arith, omega arith)
       (subst (λ (o : Outcome). isRefused (o .reply) ≡ false) (sym same) ok))
 
-  pub answer-adds : (h : ℕ) (v : ℤ) → isRefused (answer lim d m h v .reply) ≡ false
-      → UsedAtMost (answer lim d m h v .machine) (marked (tokensUsed m)) (marked (cellsUsed m))
-  unfolding answer
-  answer-adds h v ok =
+  -- a call that does not test the limits, and leaves within them what is within them
+  adds-none : (call : Limits → Outcome) → ((t c : ℕ) → call (allowing lim t c) ≡ call lim)
+      → ((at : Limits) → Within at m → isRefused (call at .reply) ≡ false → Within at (call at .machine))
+      → isRefused (call lim .reply) ≡ false → UsedAtMost (call lim .machine) (marked (tokensUsed m)) (marked (cellsUsed m))
+  adds-none call same within ok =
       let t = marked (tokensUsed m) in
       let c = marked (cellsUsed m) in
-      let same = same-answer lim t c d m h v in
-      subst (λ (o : Outcome). UsedAtMost (o .machine) t c) same
-      (answer-within (allowing lim t c) d m h v (omega arith, omega arith)
-      (subst (λ (o : Outcome). isRefused (o .reply) ≡ false) (sym same) ok))
+      subst (λ (o : Outcome). UsedAtMost (o .machine) t c) (same t c)
+      (within (allowing lim t c) (omega arith, omega arith)
+      (subst (λ (o : Outcome). isRefused (o .reply) ≡ false) (sym (same t c)) ok))
+
+  pub answer-adds : (h : ℕ) (v : ℤ) → isRefused (answer lim d m h v .reply) ≡ false
+      → UsedAtMost (answer lim d m h v .machine) (marked (tokensUsed m)) (marked (cellsUsed m))
+  answer-adds h v ok = adds-none (λ at. answer at d m h v) (λ t c. same-answer lim t c d m h v) (λ at. answer-within at d m h v) ok
+
+  pub advance-adds : (time : ℕ) → isRefused (advance lim d m time .reply) ≡ false
+      → UsedAtMost (advance lim d m time .machine) (marked (tokensUsed m)) (marked (cellsUsed m))
+  advance-adds time ok = adds-none (λ at. advance at d m time) (λ t c. same-advance lim t c d m time) (λ at. advance-within at d m time) ok

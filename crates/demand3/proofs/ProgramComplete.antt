@@ -16,4 +16,4 @@ use Rattle.simulation.proofs.Complete.{run-complete}
 module _ (p : Program) (wf : WellFormed p) where
   pub complete : {es : List Event} → Allowed (meaning p) es → (s : State) × Run (abstractOf p) (startAt (construct p .goal)) es s
   complete a =
-      run-complete (abstractOf p) (goal-coded p wf .sink) (bodies-coded p wf) (goal-coded p wf .ending) (first-stands p wf) refl a
+      run-complete (abstractOf p) (goal-coded p wf .sink) (bodies-coded p wf) (goal-coded p wf .ending) (first-stands p wf) refl refl a

@@ -37,6 +37,7 @@ live-not-blank states.Blank e = clash e refl
 live-not-blank states.Ready e = refl
 live-not-blank (states.Waiting c) e = refl
 live-not-blank (states.Called h) e = refl
+live-not-blank (states.Due d) e = refl
 live-not-blank states.Frame e = refl
 
 frame-not-blank : (s : State) → s ≡ states.Frame → isBlankState s ≡ false

@@ -3,4 +3,5 @@ pub mod NamedOnce
 pub mod Orders
 pub mod TableFacts
 pub mod Facts
+pub mod Clock
 pub mod Clean

@@ -10,6 +10,8 @@ pub mod RefusalNumbers
 pub mod Rules
 pub mod Inside
 pub mod WrittenTokens
+pub mod Selected
+pub mod Clock
 pub mod Used
 pub mod ActingInside
 pub mod ActsWithin

@@ -17,5 +17,6 @@ pub mod WithinSeen
 pub mod ChokeAgrees
 pub mod ActsAgree
 pub mod AnswerAgrees
+pub mod ClockAgrees
 pub mod StartSeen
 pub mod Lockstep

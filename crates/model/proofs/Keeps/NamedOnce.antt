@@ -1,5 +1,6 @@
--- Two lines of places, the queue and the wait order: each ready, or waiting, token stands in its line once. That is what the index rules
--- ask of the orders, since such a line is no longer than the table; and each kind of step keeps it, by counting. Assumes nothing.
+-- Three lines of places, the queue, the wait order and the order of call: each token that is ready, that waits, that is due later stands
+-- in its line once. That is what the index rules ask of the orders, since such a line is no longer than the table; and each kind of step
+-- keeps it, by counting. Assumes nothing.
 use mathlib.Core.Path.{_≡_, refl, sym, _∙_, ap, subst}
 use mathlib.Core.Bool.{Bool, true, false}
 use mathlib.Core.List.{List, [], _∷_, _++_, map}
@@ -14,7 +15,7 @@ use Rattle.model.specs.Machine.Blank.{blankToken, tokenAt}
 use Rattle.model.specs.Machine.Active.{within}
 use Rattle.model.specs.Machine.InUse.{marked}
 use Rattle.model.specs.Machine.Rules.{namesOnce}
-use Rattle.model.specs.Machine.State.{isReady, isWaiting, waitsAt}
+use Rattle.model.specs.Machine.State.{isReady, isWaiting, isDue, waitsAt}
 use Rattle.model.specs.Machine.Update.{withState}
 use Rattle.model.specs.Machine.Step.{chokeToken}
 use Rattle.model.specs.declared.token.State.{State}
@@ -24,8 +25,8 @@ use Rattle.model.specs.declared.cell.Cell.{Cell}
 use Rattle.job.proofs.Test.{clash, false-of, eqb-same, eqb-eq, eq-eqb, ne-eqb, lt-ltb, le-leb, and-both, all-head, all-tail, once-true}
 use Rattle.model.proofs.Machine.Marks.{Free, marked-le-length, marked-set-free}
 use Rattle.model.proofs.Machine.Rules.{occurrences-here, ready-state}
-use Rattle.model.proofs.Machine.Choke.{choke-at, choke-ends}
-use Rattle.model.proofs.Sees.ChokeAgrees.{woken, choke-spares}
+use Rattle.model.proofs.Machine.Selected.{occurrences-select}
+use Rattle.model.proofs.Machine.Choke.{choke-at, choke-ends, woken, choke-spares}
 use Rattle.job.proofs.Test.{once-small, occurrences-append, occurrences-more}
 use Rattle.model.proofs.Machine.TableRows.{token-same, token-other, token-outside}
 
@@ -128,15 +129,17 @@ module _ (of : State → Bool) (none : of states.Blank ≡ false) (ts : List Tok
         (all-from-at _ 0 ts blankToken (λ i k. eq-eqb _ _ (ap (λ x. occurrences x l) (let z : 0 + i ≡ i = omega arith in z) ∙ h i))))
         (subst (λ x. forAll (eqb 0) x ≡ true) (sym (drop-seam l rest)) (all-zero (length ts - length l))))))
 
--- both lines
-pub record Lines (ts : List Token) (queue waits : List ℕ) : Type 0 where
+-- the three lines
+pub record Lines (ts : List Token) (queue waits timers : List ℕ) : Type 0 where
   pub ready : Names isReady ts queue
   pub waiting : Names isWaiting ts waits
+  pub due : Names isDue ts timers
 
--- both lines, with p taken from the queue
-pub record Taken (ts : List Token) (p : ℕ) (queue waits : List ℕ) : Type 0 where
+-- the three lines, with p taken from the queue
+pub record Taken (ts : List Token) (p : ℕ) (queue waits timers : List ℕ) : Type 0 where
   pub ready : (r : ℕ) → occurrences r queue + once (eqb r p) ≡ once (isReady (tokenAt ts r .state))
   pub waiting : Names isWaiting ts waits
+  pub due : Names isDue ts timers
 
 occurrences-without : (l : List ℕ) (i r : ℕ) → i < length l → occurrences r (without i l) + once (eqb r (getD l i 0)) ≡ occurrences r l
 unfolding occurrences without
@@ -144,9 +147,10 @@ occurrences-without [] i r h = absurd (omega arith)
 occurrences-without (x ∷ l) zero r h = omega arith
 occurrences-without (x ∷ l) (suc i) r h = let a = occurrences-without l i r (omega arith) in omega arith
 
-pub take-out : {ts : List Token} {queue waits : List ℕ} (i : ℕ) → i < length queue → Lines ts queue waits
-    → Taken ts (getD queue i 0) (without i queue) waits
-take-out {queue = queue} i h l = record { ready = λ r. occurrences-without queue i r h ∙ l .ready r; waiting = l .waiting }
+pub take-out : {ts : List Token} {queue waits timers : List ℕ} (i : ℕ) → i < length queue → Lines ts queue waits timers
+    → Taken ts (getD queue i 0) (without i queue) waits timers
+take-out {queue = queue} i h l =
+    record { ready = λ r. occurrences-without queue i r h ∙ l .ready r; waiting = l .waiting; due = l .due }
 
 -- a place is written: its count is what the token asks, the others' counts are what they were
 written-names : (of : State → Bool) (ts : List Token) (p : ℕ) (u : Token) (l : List ℕ) → p < length ts
@@ -172,8 +176,17 @@ back-same p l b e f =
 back-other : (r p : ℕ) (l : List ℕ) (n : ℕ) → (r ≡ p → ⊥) → occurrences r l ≡ n → occurrences r (l ++ (p ∷ [])) ≡ n
 back-other r p l n f e = let x = occurrences-back r l p in let z : once (eqb r p) ≡ 0 = ap once (ne-eqb r p f) in omega arith
 
+-- a place that is not in a line stays out of it, or goes to its back
+module _ (of : State → Bool) (ts : List Token) (p : ℕ) (u : Token) (l : List ℕ) (i : p < length ts)
+    (out : of (tokenAt ts p .state) ≡ false) (h : Names of ts l) where
+  stays-out : of (u .state) ≡ false → Names of (set ts p u) l
+  stays-out e = written-names of ts p u l i (h p ∙ ap once (out ∙ sym e)) (λ r n. h r)
+
+  goes-back : of (u .state) ≡ true → Names of (set ts p u) (l ++ (p ∷ []))
+  goes-back e = written-names of ts p u (l ++ (p ∷ [])) i (back-same p l _ (h p ∙ ap once out) e) (λ r n. back-other r p l _ n (h r))
+
 -- the token that was taken is ready, so it is in the table
-module _ {ts : List Token} {p : ℕ} {queue waits : List ℕ} (l : Taken ts p queue waits) where
+module _ {ts : List Token} {p : ℕ} {queue waits timers : List ℕ} (l : Taken ts p queue waits timers) where
   pub taken-ready : tokenAt ts p .state ≡ states.Ready
   taken-ready =
       ready-state _
@@ -189,7 +202,7 @@ module _ {ts : List Token} {p : ℕ} {queue waits : List ℕ} (l : Taken ts p qu
           clash (ap isReady taken-ready) (ap (λ (t : Token). isReady (t .state)) (token-outside ts p (omega arith)))
 
 -- it is written
-module _ {ts : List Token} {p : ℕ} {queue waits : List ℕ} (l : Taken ts p queue waits) where
+module _ {ts : List Token} {p : ℕ} {queue waits timers : List ℕ} (l : Taken ts p queue waits timers) (u : Token) where
   abbrev i : p < length ts
   i = taken-inside l
 
@@ -204,85 +217,68 @@ module _ {ts : List Token} {p : ℕ} {queue waits : List ℕ} (l : Taken ts p qu
       let c : once (eqb p p) ≡ 1 = ap once (eqb-same p) in
       omega arith
 
-  not-waiting : occurrences p waits ≡ 0
-  unfolding isWaiting
-  not-waiting = l .waiting p ∙ ap (λ s. once (isWaiting s)) ready
-
   others-ready : (r : ℕ) → (r ≡ p → ⊥) → occurrences r queue ≡ once (isReady (tokenAt ts r .state))
   others-ready r n = let a = l .ready r in let c : once (eqb r p) ≡ 0 = ap once (ne-eqb r p n) in omega arith
 
+  not-ready : isReady (u .state) ≡ false → Names isReady (set ts p u) queue
+  not-ready e = written-names isReady ts p u queue i (not-queued ∙ sym (ap once e)) others-ready
+
+  not-waiting : isWaiting (u .state) ≡ false → Names isWaiting (set ts p u) waits
+  unfolding isWaiting
+  not-waiting = stays-out isWaiting ts p u waits i (ap isWaiting ready) (l .waiting)
+
+  not-due : isDue (u .state) ≡ false → Names isDue (set ts p u) timers
+  unfolding isDue
+  not-due = stays-out isDue ts p u timers i (ap isDue ready) (l .due)
+
   -- it ends, becomes a frame or is called out
-  pub lines-gone : (u : Token) → isReady (u .state) ≡ false → isWaiting (u .state) ≡ false → Lines (set ts p u) queue waits
-  lines-gone u a b =
-      record {
-        ready = written-names isReady ts p u queue i (not-queued ∙ sym (ap once a)) others-ready;
-        waiting = written-names isWaiting ts p u waits i (not-waiting ∙ sym (ap once b)) (λ r n. l .waiting r);
-      }
+  pub lines-gone : isReady (u .state) ≡ false → isWaiting (u .state) ≡ false → isDue (u .state) ≡ false
+      → Lines (set ts p u) queue waits timers
+  lines-gone a b c = record { ready = not-ready a; waiting = not-waiting b; due = not-due c }
 
   -- it goes to the back of the queue
-  pub lines-back : (u : Token) → u .state ≡ states.Ready → Lines (set ts p u) (queue ++ (p ∷ [])) waits
-  unfolding isReady isWaiting
-  lines-back u e =
+  pub lines-back : u .state ≡ states.Ready → Lines (set ts p u) (queue ++ (p ∷ [])) waits timers
+  unfolding isReady isWaiting isDue
+  lines-back e =
       record {
         ready =
             written-names isReady ts p u (queue ++ (p ∷ [])) i (back-same p queue _ not-queued (ap isReady e))
             (λ r n. back-other r p queue _ n (others-ready r n));
-        waiting = written-names isWaiting ts p u waits i (not-waiting ∙ sym (ap (λ s. once (isWaiting s)) e)) (λ r n. l .waiting r);
+        waiting = not-waiting (ap isWaiting e);
+        due = not-due (ap isDue e);
       }
 
   -- it waits
-  pub lines-wait : (u : Token) (c : ℕ) → u .state ≡ states.Waiting c → Lines (set ts p u) queue (waits ++ (p ∷ []))
-  unfolding isReady isWaiting
-  lines-wait u c e =
+  pub lines-wait : (c : ℕ) → u .state ≡ states.Waiting c → Lines (set ts p u) queue (waits ++ (p ∷ [])) timers
+  unfolding isReady isWaiting isDue
+  lines-wait c e =
       record {
-        ready = written-names isReady ts p u queue i (not-queued ∙ sym (ap (λ s. once (isReady s)) e)) others-ready;
-        waiting =
-            written-names isWaiting ts p u (waits ++ (p ∷ [])) i (back-same p waits _ not-waiting (ap isWaiting e))
-            (λ r n. back-other r p waits _ n (l .waiting r));
+        ready = not-ready (ap isReady e);
+        waiting = goes-back isWaiting ts p u waits i (ap isWaiting ready) (l .waiting) (ap isWaiting e);
+        due = not-due (ap isDue e);
       }
 
--- a ready token is put at the back, at a place that was in neither line
-pub lines-new : {ts : List Token} {queue waits : List ℕ} (q : ℕ) (u : Token) → q < length ts
-    → isReady (tokenAt ts q .state) ≡ false → isWaiting (tokenAt ts q .state) ≡ false → u .state ≡ states.Ready
-    → Lines ts queue waits → Lines (set ts q u) (queue ++ (q ∷ [])) waits
-unfolding isReady isWaiting
-lines-new {ts} {queue} {waits} q u i nr nw e l =
+  -- it is due later
+  pub lines-later : (d : ℕ) → u .state ≡ states.Due d → Lines (set ts p u) queue waits (timers ++ (p ∷ []))
+  unfolding isReady isWaiting isDue
+  lines-later d e =
+      record {
+        ready = not-ready (ap isReady e);
+        waiting = not-waiting (ap isWaiting e);
+        due = goes-back isDue ts p u timers i (ap isDue ready) (l .due) (ap isDue e);
+      }
+
+-- a ready token is put at the back, at a place that was in no line
+pub lines-new : {ts : List Token} {queue waits timers : List ℕ} (q : ℕ) (u : Token) → q < length ts
+    → isReady (tokenAt ts q .state) ≡ false → isWaiting (tokenAt ts q .state) ≡ false → isDue (tokenAt ts q .state) ≡ false
+    → u .state ≡ states.Ready → Lines ts queue waits timers → Lines (set ts q u) (queue ++ (q ∷ [])) waits timers
+unfolding isReady isWaiting isDue
+lines-new {ts} {queue} {waits} {timers} q u i nr nw nd e l =
     record {
-      ready =
-          written-names isReady ts q u (queue ++ (q ∷ [])) i (back-same q queue _ (l .ready q ∙ ap once nr) (ap isReady e))
-          (λ r n. back-other r q queue _ n (l .ready r));
-      waiting = written-names isWaiting ts q u waits i (l .waiting q ∙ ap once nw ∙ sym (ap (λ s. once (isWaiting s)) e))
-          (λ r n. l .waiting r);
+      ready = goes-back isReady ts q u queue i nr (l .ready) (ap isReady e);
+      waiting = stays-out isWaiting ts q u waits i nw (l .waiting) (ap isWaiting e);
+      due = stays-out isDue ts q u timers i nd (l .due) (ap isDue e);
     }
-
--- a line filtered
-occurrences-kept : (test : ℕ → Bool) (r : ℕ) (l : List ℕ) → test r ≡ true → occurrences r (select test l) ≡ occurrences r l
-unfolding select occurrences
-occurrences-kept test r [] e = refl
-occurrences-kept test r (x ∷ l) e = go (test x) refl (occurrences-kept test r l e)
-  where
-    go : (b : Bool) → test x ≡ b → occurrences r (select test l) ≡ occurrences r l
-        → occurrences r (elim b as (λ b. List ℕ) [ true ↦ x ∷ select test l | false ↦ select test l ]) ≡ once (eqb r x) + occurrences r l
-    go true q h = omega arith
-    go false q h = let y : once (eqb r x) ≡ 0 = ap once (ne-eqb r x (λ z. clash (ap test (sym z) ∙ e) q)) in omega arith
-
-occurrences-dropped : (test : ℕ → Bool) (r : ℕ) (l : List ℕ) → test r ≡ false → occurrences r (select test l) ≡ 0
-unfolding select occurrences
-occurrences-dropped test r [] e = refl
-occurrences-dropped test r (x ∷ l) e = go (test x) refl (occurrences-dropped test r l e)
-  where
-    go : (b : Bool) → test x ≡ b → occurrences r (select test l) ≡ 0
-        → occurrences r (elim b as (λ b. List ℕ) [ true ↦ x ∷ select test l | false ↦ select test l ]) ≡ 0
-    go true q h = let y : once (eqb r x) ≡ 0 = ap once (ne-eqb r x (λ z. clash (ap test z ∙ q) e)) in omega arith
-    go false q h = h
-
-occurrences-select : (test : ℕ → Bool) (r : ℕ) (l : List ℕ) → (test r ≡ true → occurrences r l ≡ 1)
-    → occurrences r (select test l) ≡ once (test r)
-occurrences-select test r l h = go (test r) refl
-  where
-    go : (b : Bool) → test r ≡ b → occurrences r (select test l) ≡ once b
-    go true e = occurrences-kept test r l e ∙ h e
-    go false e = occurrences-dropped test r l e
 
 -- a choke: who is ready then was ready or waiting, who waits then waited
 woken-ready : (c : ℕ) (s : State) (t : Token) → t .state ≡ s → isReady (woken (waitsAt c s) t .state) ≡ true
@@ -292,14 +288,15 @@ woken-ready c states.Blank t e h = clash h (ap isReady e)
 woken-ready c states.Ready t e h = refl
 woken-ready c (states.Waiting b) t e h = refl
 woken-ready c (states.Called g) t e h = clash h (ap isReady e)
+woken-ready c (states.Due d) t e h = clash h (ap isReady e)
 woken-ready c states.Frame t e h = clash h (ap isReady e)
 
-woken-waiting : (b : Bool) (t : Token) → isWaiting (woken b t .state) ≡ true → isWaiting (t .state) ≡ true
-unfolding woken isWaiting withState
-woken-waiting true t h = clash h refl
-woken-waiting false t h = h
+woken-other : (of : State → Bool) → of states.Ready ≡ false → (b : Bool) (t : Token) → of (woken b t .state) ≡ true → of (t .state) ≡ true
+unfolding woken withState
+woken-other of none true t h = clash h none
+woken-other of none false t h = h
 
-module _ (ts : List Token) (cs : List Cell) (c p : ℕ) (queue waits : List ℕ) (l : Taken ts p queue waits)
+module _ (ts : List Token) (cs : List Cell) (c p : ℕ) (queue waits timers : List ℕ) (l : Taken ts p queue waits timers)
     (own : within cs c (tokenAt ts p .cell) ≡ true) where
   abbrev then : List Token
   then = map (chokeToken cs c) ts
@@ -312,10 +309,21 @@ module _ (ts : List Token) (cs : List Cell) (c p : ℕ) (queue waits : List ℕ)
   spared-at : (r : ℕ) → within cs c (tokenAt ts r .cell) ≡ false → tokenAt then r ≡ woken (waitsAt c (tokenAt ts r .state)) (tokenAt ts r)
   spared-at r x = choke-at cs c ts r ∙ choke-spares cs c (tokenAt ts r) x
 
+  -- a line of those that are of a kind, and that no waking makes so
+  still-names : (of : State → Bool) → of states.Blank ≡ false → of states.Ready ≡ false → (line : List ℕ) → Names of ts line
+      → Names of then (select (λ (r : ℕ). of (tokenAt then r .state)) line)
+  still-names of none unready line h r =
+      occurrences-select (λ (r : ℕ). of (tokenAt then r .state)) r line
+      (λ e.
+      let x = spared of none r e in
+      let w = ap (λ (t : Token). of (t .state)) (sym (spared-at r x)) ∙ e in
+      h r ∙ ap once (woken-other of unready (waitsAt c (tokenAt ts r .state)) (tokenAt ts r) w))
+
   pub lines-choke :
       Lines then (select (λ (r : ℕ). isReady (tokenAt then r .state)) (queue ++ waits))
       (select (λ (r : ℕ). isWaiting (tokenAt then r .state)) waits)
-  unfolding isReady isWaiting
+      (select (λ (r : ℕ). isDue (tokenAt then r .state)) timers)
+  unfolding isReady isWaiting isDue
   lines-choke =
       record {
         ready =
@@ -331,14 +339,6 @@ module _ (ts : List Token) (cs : List Cell) (c p : ℕ) (queue waits : List ℕ)
             let d = l .waiting r in
             let f = occurrences-append r queue waits in
             omega arith);
-        waiting =
-            λ r.
-            occurrences-select (λ (r : ℕ). isWaiting (tokenAt then r .state)) r waits
-            (λ e.
-            let x = spared isWaiting refl r e in
-            let w = ap (λ (t : Token). isWaiting (t .state)) (sym (spared-at r x)) ∙ e in
-            let a : once (isWaiting (tokenAt ts r .state)) ≡ 1 = ap once (woken-waiting (waitsAt c (tokenAt ts r .state)) (tokenAt ts r) w)
-            in
-            let d = l .waiting r in
-            omega arith);
+        waiting = still-names isWaiting refl refl waits (l .waiting);
+        due = still-names isDue refl refl timers (l .due);
       }

@@ -1,6 +1,7 @@
 -- What is asked of the tables of tokens and cells beside their view: nodes in range, values signed 32-bit, open handles below the count of
--- calls and different, and a waiting token at a site call with a parameter bound to the unset cell that it waits at. Each way to write the
--- tables keeps it: one token, an unset cell, a choke, blanking. Assumes nothing.
+-- calls and different, due times above the clock and no later than the last time, and a waiting token at a site call with a parameter bound
+-- to the unset cell that it waits at. Each way to write the tables keeps it: one token, an unset cell, a choke, a clock move, blanking.
+-- Assumes nothing.
 use mathlib.Core.Path.{_≡_, refl, sym, _∙_, ap, subst}
 use mathlib.Core.Logic.{_⊎_, inl, inr}
 use mathlib.Core.Bool.{Bool, true, false}
@@ -12,16 +13,18 @@ use lib.ListN.{length, getD, set, drop, length-set}
 use lib.Seq.{getD-drop}
 use lib.IntN.{ℤ}
 use Rattle.job.specs.Test.{forAll}
-use Rattle.job.specs.Number.{Signed32}
+use Rattle.job.specs.Number.{Signed32, fits}
+use Rattle.job.specs.Site.{lastTime}
 use Rattle.job.specs.Syntax.{Param, variable, constant}
 use Rattle.job.specs.Node.{Node, Dag, nodeAt, paramHolds}
 use Rattle.model.specs.Machine.Blank.{empty, unbound, blankToken, blankCell, tokenAt, cellAt, slotAt}
 use Rattle.model.specs.Machine.Active.{within}
 use Rattle.model.specs.Machine.InUse.{restBlanked}
 use Rattle.model.specs.Machine.Rules.{heldInRange}
-use Rattle.model.specs.Machine.Update.{withState}
+use Rattle.model.specs.Machine.Update.{withValue, withState}
 use Rattle.model.specs.Machine.Step.{passed, formalsBound, chokeToken}
-use Rattle.model.specs.Machine.State.{waitsAt}
+use Rattle.model.specs.Machine.Clock.{wokenBy}
+use Rattle.model.specs.Machine.State.{isDueBy, waitsAt}
 use Rattle.model.specs.declared.token.Slot.{Slot}
 use Rattle.model.specs.declared.token.Slot.the-variants as slots
 use Rattle.model.specs.declared.token.Bind.{Bind}
@@ -30,12 +33,13 @@ use Rattle.model.specs.declared.token.State.{State}
 use Rattle.model.specs.declared.token.State.the-variants as states
 use Rattle.model.specs.declared.token.Token.{Token}
 use Rattle.model.specs.declared.cell.Cell.{Cell}
-use Rattle.job.proofs.Test.{eqb-ne, all-head, all-tail}
+use Rattle.job.proofs.Test.{eqb-ne, not-leb-lt, all-head, all-tail}
 use Rattle.model.proofs.Machine.Blanking.{length-kept, kept-cases}
 use Rattle.model.proofs.Machine.Inside.{written}
-use Rattle.model.proofs.Machine.WrittenTokens.{Choked, ends, wakes, stays, choked-cases}
-use Rattle.model.proofs.Sees.Slots.{unbound-empty}
+use Rattle.model.proofs.Machine.WrittenTokens.{Choked, choked-cases, Woken, woken-cases}
+use Rattle.model.proofs.Machine.InUse.{unbound-empty}
 use Rattle.model.proofs.Machine.Choke.{choke-at}
+use Rattle.model.proofs.Machine.Clock.{woken-at}
 use Rattle.model.proofs.Machine.TableRows.{token-same, token-other, cell-same, cell-other}
 
 -- the values that variables are bound to
@@ -85,23 +89,24 @@ pub record Awaits (d : Dag) (cs : List Cell) (t : Token) (c : ℕ) : Type 0 wher
   pub inside : c < length cs
   pub unset : cellAt cs c .value ≡ helds.Nothing
 
-pub record TokenHolds (d : Dag) (cs : List Cell) (calls : ℕ) (t : Token) : Type 0 where
+pub record TokenHolds (d : Dag) (cs : List Cell) (calls clock : ℕ) (t : Token) : Type 0 where
   pub node : t .node < length (d .nodes)
   pub value : heldInRange (t .value) ≡ true
   pub binds : BindsFit (t .binds)
   pub waits : (c : ℕ) → t .state ≡ states.Waiting c → Awaits d cs t c
   pub called : (h : ℕ) → t .state ≡ states.Called h → h < calls
+  pub due : (time : ℕ) → t .state ≡ states.Due time → (clock < time) × (time ≤ lastTime)
 
 -- no handle is open twice
 abbrev pub Apart : List Token → Type 0
 Apart ts = (p q h : ℕ) → tokenAt ts p .state ≡ states.Called h → tokenAt ts q .state ≡ states.Called h → p ≡ q
 
-pub record Tables (d : Dag) (ts : List Token) (cs : List Cell) (calls : ℕ) : Type 0 where
-  pub tokens : (p : ℕ) → TokenHolds d cs calls (tokenAt ts p)
+pub record Tables (d : Dag) (ts : List Token) (cs : List Cell) (calls clock : ℕ) : Type 0 where
+  pub tokens : (p : ℕ) → TokenHolds d cs calls clock (tokenAt ts p)
   pub cells : (c : ℕ) → heldInRange (cellAt cs c .value) ≡ true
   pub apart : Apart ts
 
--- a token that neither waits nor is called out
+-- a token that neither waits nor is called out nor is due later
 pub data Idle : State → Type 0 where
   blank : Idle states.Blank
   ready : Idle states.Ready
@@ -117,12 +122,25 @@ not-called blank e = let z : _≡_ {A = ℕ} 0 1 = cc in absurd (omega arith)
 not-called ready e = let z : _≡_ {A = ℕ} 0 1 = cc in absurd (omega arith)
 not-called frame e = let z : _≡_ {A = ℕ} 0 1 = cc in absurd (omega arith)
 
-module _ {d : Dag} {cs : List Cell} {calls : ℕ} where
-  pub idle-holds : {t : Token} → t .node < length (d .nodes) → heldInRange (t .value) ≡ true → BindsFit (t .binds) → Idle (t .state)
-      → TokenHolds d cs calls t
-  idle-holds n v b i = record { node = n; value = v; binds = b; waits = λ c e. not-waiting i e; called = λ h e. not-called i e }
+not-due : {A : Type 0} {s : State} {time : ℕ} → Idle s → s ≡ states.Due time → A
+not-due blank e = let z : _≡_ {A = ℕ} 0 1 = cc in absurd (omega arith)
+not-due ready e = let z : _≡_ {A = ℕ} 0 1 = cc in absurd (omega arith)
+not-due frame e = let z : _≡_ {A = ℕ} 0 1 = cc in absurd (omega arith)
 
-  pub blank-holds : 0 < length (d .nodes) → TokenHolds d cs calls blankToken
+module _ {d : Dag} {cs : List Cell} {calls clock : ℕ} where
+  pub idle-holds : {t : Token} → t .node < length (d .nodes) → heldInRange (t .value) ≡ true → BindsFit (t .binds) → Idle (t .state)
+      → TokenHolds d cs calls clock t
+  idle-holds n v b i =
+      record {
+        node = n;
+        value = v;
+        binds = b;
+        waits = λ c e. not-waiting i e;
+        called = λ h e. not-called i e;
+        due = λ time e. not-due i e;
+      }
+
+  pub blank-holds : 0 < length (d .nodes) → TokenHolds d cs calls clock blankToken
   unfolding heldInRange
   blank-holds l = idle-holds l refl unbound-fit blank
 
@@ -143,9 +161,9 @@ awaits-as {d} n b l v k =
     }
 
 -- cells whose unset ones stay unset
-pub token-cells : {d : Dag} {cs cs′ : List Cell} {calls calls′ : ℕ} {t : Token} → length cs′ ≡ length cs → calls ≤ calls′
+pub token-cells : {d : Dag} {cs cs′ : List Cell} {calls calls′ clock : ℕ} {t : Token} → length cs′ ≡ length cs → calls ≤ calls′
     → ((c : ℕ) → t .state ≡ states.Waiting c → c < length cs → cellAt cs c .value ≡ helds.Nothing → cellAt cs′ c .value ≡ helds.Nothing)
-    → TokenHolds d cs calls t → TokenHolds d cs′ calls′ t
+    → TokenHolds d cs calls clock t → TokenHolds d cs′ calls′ clock t
 token-cells l k f t =
     record {
       node = t .node;
@@ -153,9 +171,10 @@ token-cells l k f t =
       binds = t .binds;
       waits = λ c e. let b = t .waits c e in awaits-as refl refl l (f c e (b .inside) (b .unset)) b;
       called = λ h e. let z = t .called h e in omega arith;
+      due = t .due;
     }
 
-module _ {d : Dag} {ts : List Token} {cs : List Cell} {calls : ℕ} (T : Tables d ts cs calls) where
+module _ {d : Dag} {ts : List Token} {cs : List Cell} {calls clock : ℕ} (T : Tables d ts cs calls clock) where
   -- one token is written
   module _ (p : ℕ) (u : Token) (i : p < length ts) where
     at-written : (P : Token → Type 0) (r : ℕ) → P u → ((r ≡ p → ⊥) → P (tokenAt ts r)) → P (tokenAt (set ts p u) r)
@@ -186,31 +205,32 @@ module _ {d : Dag} {ts : List Token} {cs : List Cell} {calls : ℕ} (T : Tables 
         go (no a) (yes b) x y = absurd (f h r (here q b y) a (there r a x))
         go (no a) (no b) x y = T .apart r q h (there r a x) (there q b y)
 
-    pub tables-write : TokenHolds d cs calls u → Idle (u .state) → Tables d (set ts p u) cs calls
+    -- it is not called out
+    tables-other : TokenHolds d cs calls clock u → ((h : ℕ) → u .state ≡ states.Called h → ⊥) → Tables d (set ts p u) cs calls clock
     unfolding Alone
-    tables-write k s =
+    tables-other k s =
         record {
-          tokens = λ r. at-written (TokenHolds d cs calls) r k (λ n. T .tokens r);
+          tokens = λ r. at-written (TokenHolds d cs calls clock) r k (λ n. T .tokens r);
           cells = T .cells;
-          apart = written-apart (λ h q e n f. not-called s e);
+          apart = written-apart (λ h q e n f. s h e);
         }
 
-    pub tables-wait : (c : ℕ) → u .state ≡ states.Waiting c → TokenHolds d cs calls u → Tables d (set ts p u) cs calls
-    unfolding Alone
-    tables-wait c s k =
-        record {
-          tokens = λ r. at-written (TokenHolds d cs calls) r k (λ n. T .tokens r);
-          cells = T .cells;
-          apart = written-apart (λ h q e n f. let z : _≡_ {A = ℕ} 0 1 = cc in absurd (omega arith));
-        }
+    pub tables-write : TokenHolds d cs calls clock u → Idle (u .state) → Tables d (set ts p u) cs calls clock
+    tables-write k s = tables-other k (λ h e. not-called s e)
+
+    pub tables-wait : (c : ℕ) → u .state ≡ states.Waiting c → TokenHolds d cs calls clock u → Tables d (set ts p u) cs calls clock
+    tables-wait c s k = tables-other k (λ h e. let z : _≡_ {A = ℕ} 0 1 = cc in absurd (omega arith))
+
+    pub tables-later : (time : ℕ) → u .state ≡ states.Due time → TokenHolds d cs calls clock u → Tables d (set ts p u) cs calls clock
+    tables-later time s k = tables-other k (λ h e. let z : _≡_ {A = ℕ} 0 1 = cc in absurd (omega arith))
 
     -- "an outside call takes the next handle"
-    pub tables-call : u .state ≡ states.Called calls → TokenHolds d cs (suc calls) u → Tables d (set ts p u) cs (suc calls)
+    pub tables-call : u .state ≡ states.Called calls → TokenHolds d cs (suc calls) clock u → Tables d (set ts p u) cs (suc calls) clock
     unfolding Alone
     tables-call s k =
         record {
           tokens =
-              λ r. at-written (TokenHolds d cs (suc calls)) r k (λ n. token-cells refl (omega arith) (λ c e l v. v) (T .tokens r));
+              λ r. at-written (TokenHolds d cs (suc calls) clock) r k (λ n. token-cells refl (omega arith) (λ c e l v. v) (T .tokens r));
           cells = T .cells;
           apart =
               written-apart
@@ -218,7 +238,7 @@ module _ {d : Dag} {ts : List Token} {cs : List Cell} {calls : ℕ} (T : Tables 
         }
 
   -- an unset cell is written
-  pub tables-cell : (c : ℕ) (k : Cell) → c < length cs → k .value ≡ helds.Nothing → Tables d ts (set cs c k) calls
+  pub tables-cell : (c : ℕ) (k : Cell) → c < length cs → k .value ≡ helds.Nothing → Tables d ts (set cs c k) calls clock
   unfolding heldInRange
   tables-cell c k i e =
       record {
@@ -237,13 +257,13 @@ module _ {d : Dag} {ts : List Token} {cs : List Cell} {calls : ℕ} (T : Tables 
 
   -- blanking
   pub tables-swept : 0 < length (d .nodes) → (used cells : List Bool)
-      → Tables d (restBlanked blankToken used ts) (restBlanked blankCell cells cs) calls
+      → Tables d (restBlanked blankToken used ts) (restBlanked blankCell cells cs) calls clock
   unfolding heldInRange
   tables-swept some used cells =
       record {
         tokens =
             λ p.
-            token-now (λ t. TokenHolds d cs′ calls t) p
+            token-now (λ t. TokenHolds d cs′ calls clock t) p
             (token-cells (length-kept blankCell cells cs) (omega arith) (λ c s l v. cell-now (λ x. x .value ≡ helds.Nothing) c v refl)
             (T .tokens p))
             (blank-holds some);
@@ -284,11 +304,12 @@ module _ {d : Dag} {ts : List Token} {cs : List Cell} {calls : ℕ} (T : Tables 
     unfolding waitsAt
     waits-elsewhere b s e f x = eqb-ne c b (ap (waitsAt c) (sym e) ∙ f) (sym x)
 
-    choked-holds : {t u : Token} → Choked c t u → (waitsAt c (u .state) ≡ false) → TokenHolds d cs calls t → TokenHolds d then calls u
+    choked-holds : {t u : Token} → Choked c t u → (waitsAt c (u .state) ≡ false) → TokenHolds d cs calls clock t
+        → TokenHolds d then calls clock u
     unfolding withState
-    choked-holds ends w t = blank-holds some
-    choked-holds (wakes x) w t = idle-holds (t .node) (t .value) (t .binds) ready
-    choked-holds {t = s} stays w t =
+    choked-holds Choked.ends w t = blank-holds some
+    choked-holds (Choked.wakes x) w t = idle-holds (t .node) (t .value) (t .binds) ready
+    choked-holds {t = s} Choked.stays w t =
         token-cells (length-set cs c k) (omega arith)
         (λ b e l v. ap (λ (x : Cell). x .value) (cell-other cs c b k (waits-elsewhere b (s .state) e w)) ∙ v) t
 
@@ -307,16 +328,16 @@ module _ {d : Dag} {ts : List Token} {cs : List Cell} {calls : ℕ} (T : Tables 
 
     choked-called : {t u : Token} {h : ℕ} → Choked c t u → u .state ≡ states.Called h → t .state ≡ states.Called h
     unfolding withState
-    choked-called ends e = not-called blank e
-    choked-called (wakes x) e = not-called ready e
-    choked-called stays e = e
+    choked-called Choked.ends e = not-called blank e
+    choked-called (Choked.wakes x) e = not-called ready e
+    choked-called Choked.stays e = e
 
-    pub tables-choke : Tables d (map (chokeToken cs c) ts) then calls
+    pub tables-choke : Tables d (map (chokeToken cs c) ts) then calls clock
     tables-choke =
         record {
           tokens =
               λ p.
-              subst (TokenHolds d then calls) (sym (choke-at cs c ts p))
+              subst (TokenHolds d then calls clock) (sym (choke-at cs c ts p))
               (choked-holds (choked-cases cs c (tokenAt ts p)) (none-wait (tokenAt ts p)) (T .tokens p));
           cells = λ b. cell-now b (ℕ-discrete b c);
           apart = λ p q h a b. T .apart p q h (before p h a) (before q h b);
@@ -330,3 +351,40 @@ module _ {d : Dag} {ts : List Token} {cs : List Cell} {calls : ℕ} (T : Tables 
 
         before : (p h : ℕ) → tokenAt (map (chokeToken cs c) ts) p .state ≡ states.Called h → tokenAt ts p .state ≡ states.Called h
         before p h e = choked-called (choked-cases cs c (tokenAt ts p)) (ap (λ (t : Token). t .state) (sym (choke-at cs c ts p)) ∙ e)
+
+  -- a clock move: who is due by the time wakes with value 0, whoever stays due is due after it
+  module _ (time : ℕ) where
+    later-than : (due : ℕ) (s : State) → s ≡ states.Due due → isDueBy time s ≡ false → time < due
+    unfolding isDueBy
+    later-than due s e f = not-leb-lt due time (ap (isDueBy time) (sym e) ∙ f)
+
+    woken-holds : {t u : Token} → Woken time t u → TokenHolds d cs calls clock t → TokenHolds d cs calls time u
+    unfolding withState withValue heldInRange fits
+    woken-holds (Woken.wakes x) t = idle-holds (t .node) refl (t .binds) ready
+    woken-holds {t = s} (Woken.stays x) t =
+        record {
+          node = t .node;
+          value = t .value;
+          binds = t .binds;
+          waits = t .waits;
+          called = t .called;
+          due = λ due e. (later-than due (s .state) e x, t .due due e .1);
+        }
+
+    woken-called : {t u : Token} {h : ℕ} → Woken time t u → u .state ≡ states.Called h → t .state ≡ states.Called h
+    unfolding withState
+    woken-called (Woken.wakes x) e = not-called ready e
+    woken-called (Woken.stays x) e = e
+
+    pub tables-woken : Tables d (map (wokenBy time) ts) cs calls time
+    tables-woken =
+        record {
+          tokens =
+              λ p.
+              subst (TokenHolds d cs calls time) (sym (woken-at time ts p)) (woken-holds (woken-cases time (tokenAt ts p)) (T .tokens p));
+          cells = T .cells;
+          apart = λ p q h a b. T .apart p q h (before p h a) (before q h b);
+        }
+      where
+        before : (p h : ℕ) → tokenAt (map (wokenBy time) ts) p .state ≡ states.Called h → tokenAt ts p .state ≡ states.Called h
+        before p h e = woken-called (woken-cases time (tokenAt ts p)) (ap (λ (t : Token). t .state) (sym (woken-at time ts p)) ∙ e)

@@ -161,11 +161,15 @@ unfolding cellsOf
 of-cells Q t h c (List·Memᴰ·head e) = h .cell c (sym e)
 of-cells Q t h c (List·Memᴰ·tail m) = let y = place-bound (t .binds) c m in h .binds (y .0) c (y .1)
 
-pub slot-unbound : (n x c : ℕ) → slotAt (replicate n empty) x ≡ slots.Cell c → ⊥
+pub unbound-empty : (n x : ℕ) → slotAt (replicate n empty) x ≡ slots.Empty
 unfolding slotAt
-slot-unbound zero x c e = let z : _≡_ {A = ℕ} 0 1 = cc in omega arith
-slot-unbound (suc n) zero c e = let z : _≡_ {A = ℕ} 0 1 = cc in omega arith
-slot-unbound (suc n) (suc x) c e = slot-unbound n x c e
+unbound-empty zero x = refl
+unbound-empty (suc n) zero = refl
+unbound-empty (suc n) (suc x) = unbound-empty n x
+
+pub slot-unbound : (n x c : ℕ) → slotAt (replicate n empty) x ≡ slots.Cell c → ⊥
+slot-unbound n x c e =
+    let y : slots.Empty ≡ slots.Cell c = sym (unbound-empty n x) ∙ e in let z : _≡_ {A = ℕ} 0 1 = cc in omega arith
 
 pub cells-in-blank : (Q : ℕ → Type 0) → CellsIn Q blankToken
 cells-in-blank Q = record { cell = names-nowhere Q; binds = λ x c e. absurd (slot-unbound 8 x c e) }

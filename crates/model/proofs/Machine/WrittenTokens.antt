@@ -1,5 +1,5 @@
--- The tokens that a step, or a clock move, writes name nothing but what the token acted on names, and the cell that is bound: by their definitions, field by
--- field. Assumes nothing.
+-- The tokens that a step, or a clock move, writes name nothing but what the token acted on names, and the cell that is bound: by their
+-- definitions, field by field. Assumes nothing.
 use mathlib.Core.Path.{_≡_, refl, sym, _∙_, ap}
 use mathlib.Core.Logic.{_⊎_, inl, inr}
 use mathlib.Core.Bool.{Bool, true, false}

@@ -1,13 +1,11 @@
 -- A clock move, accepted or not, leaves each token of the queue as it is and at its position: only tokens that are due later wake, and they
 -- go to the back. Assumes nothing.
-use mathlib.Core.Path.{_≡_, refl, sym, _∙_, ap}
+use mathlib.Core.Path.{_≡_, refl, _∙_, ap}
 use mathlib.Core.Bool.{true, false}
 use mathlib.Core.List.{map}
 use Prim.Native.Nat.{ℕ, _<_}
-use lib.ListN.{getD, List·getD-map}
 use Rattle.job.specs.Node.{Dag}
 use Rattle.model.specs.Machine.Limits.{Limits}
-use Rattle.model.specs.Machine.Blank.{blankToken, tokenAt}
 use Rattle.model.specs.Machine.State.{isReady, isDueBy}
 use Rattle.model.specs.Machine.Reply.{moves}
 use Rattle.model.specs.Machine.Update.{withTables, queueOf, waitsOf}
@@ -19,7 +17,7 @@ use Rattle.model.specs.declared.token.Token.{Token}
 use Rattle.model.specs.declared.record.Machine.{Machine}
 use Rattle.job.proofs.Test.{clash}
 use Rattle.model.proofs.Machine.Refused.{After, outcome-refused, advance-accepted}
-use Rattle.model.proofs.Machine.WrittenTokens.{woken-blank}
+use Rattle.model.proofs.Machine.Clock.{woken-at}
 use Rattle.model.proofs.Run.Bystander.{Untouched, untouched-joined, untouched-timers, untouched-clock, queued-untouched}
 use Rattle.model.proofs.Run.Bystander.{call-stands}
 
@@ -39,17 +37,14 @@ ready-not-woken time t r = rw (ready-not-due time (t .state) r, wokenBy)
 
 module _ (time : ℕ) {u : Token} {p k : ℕ} (ready : isReady (u .state) ≡ true) where
   untouched-woken : (m : Machine) → Untouched u p k m → Untouched u p k (withTables (map (wokenBy time) (m .tokens)) (m .cells) m)
-  unfolding withTables queueOf tokenAt
+  unfolding withTables queueOf
   untouched-woken m h =
       record {
         queued = h .queued;
         place = h .place;
         unharmed =
             record {
-              token =
-                  ap (getD (map (wokenBy time) (m .tokens)) p) (sym (woken-blank time))
-                  ∙ (List·getD-map (wokenBy time) (m .tokens) p blankToken
-                  ∙ (ap (wokenBy time) (h .unharmed .token) ∙ ready-not-woken time u ready));
+              token = woken-at time (m .tokens) p ∙ (ap (wokenBy time) (h .unharmed .token) ∙ ready-not-woken time u ready);
               clear = h .unharmed .clear;
             };
       }

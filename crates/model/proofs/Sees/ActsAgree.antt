@@ -26,7 +26,7 @@ use Rattle.simulation.proofs.AbstractMachine as Abstract
 use Rattle.simulation.proofs.AbstractMachine.{Binding, Frame, at, running, Store, actsAt}
 use Rattle.simulation.proofs.Shuffle.{Split}
 use Rattle.model.proofs.Sees.Labels.{Labels, nodeMeant, programOf, FlowAt}
-use Rattle.model.proofs.Sees.View.{World, HeldSeen, StateSeen, ready, waiting, called, TokenSeen, sees}
+use Rattle.model.proofs.Sees.View.{World, HeldSeen, StateSeen, ready, waiting, called, due, TokenSeen, sees}
 use Rattle.model.proofs.Sees.Seen.{Core, world, live-listed}
 use Rattle.model.proofs.Sees.Others.{Others, FoundAt, foundAt, find-place, others, spot-token}
 use Rattle.model.proofs.Sees.Agrees.{Acting, shows-unless, Agrees}
@@ -44,6 +44,7 @@ ready-is : {M : Labels} {n : ℕ} {K : Abstract.Place} {s : State} {w : Held} {x
 ready-is e (ready {v = v} h) = (v, refl, h)
 ready-is e (waiting f h) = let z : _≡_ {A = ℕ} 0 1 = cc in absurd (omega arith)
 ready-is e called = let z : _≡_ {A = ℕ} 0 1 = cc in absurd (omega arith)
+ready-is e due = let z : _≡_ {A = ℕ} 0 1 = cc in absurd (omega arith)
 
 take-token : {M : Labels} {W : World} {p : ℕ} {S L R : List Abstract.Token} {x : Abstract.Token}
     → tokenAt (W .tokens) p .state ≡ states.Ready → Split x S L R → Others M W p L R → TokenSeen W M (tokenAt (W .tokens) p) x
@@ -83,8 +84,8 @@ module _ (lim : Limits) (d : Dag) (M : Labels) (bodies : ℕ → Exp) (before : 
   c = nextPlace (cellsUsed before) (before .lastcell)
 
   pub act-agrees : {N : Node} → FlowAt d M n N
-      → Agrees M W L R (before .calls) (act lim d before m p t N)
-      (actsAt (programOf d M bodies) σ new (before .calls) (nodeMeant (M .scope n) N) (at n B F U) v)
+      → Agrees M W L R (before .clock) (before .calls) (act lim d before m p t N)
+      (actsAt (programOf d M bodies) (before .clock) σ new (before .calls) (nodeMeant (M .scope n) N) (at n B F U) v)
   unfolding act withOrders
   act-agrees FlowAt.stop = stop-agrees d M bodies m A
   act-agrees (FlowAt.site {s = s} e good f) = site-agrees d M bodies m A lim s f e good

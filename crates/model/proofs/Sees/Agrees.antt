@@ -44,10 +44,10 @@ module _ {M : Labels} {W : World} {p : ℕ} {L R : List Abstract.Token} {n : ℕ
   acting-fits = used-fits W p acting-used
 
 -- the machine m is seen as the state after the effect x of a token between L and R, and x has the label a
-pub record Becomes (M : Labels) (W : World) (L R : List Abstract.Token) (h : ℕ) (x : Abstract.Effect) (a : Label)
+pub record Becomes (M : Labels) (W : World) (L R : List Abstract.Token) (now h : ℕ) (x : Abstract.Effect) (a : Label)
     (m : Machine) : Type 0 where
   pub label : Abstract.labelOf x ≡ a
-  pub machine : Sees M m (Abstract.after L R (W .store) (W .new) h x)
+  pub machine : Sees M m (Abstract.after L R now (W .store) (W .new) h x)
 
 -- a property of what an accepted effect shows and of its machine
 unfoldable pub Shows : (Label → Machine → Type 0) → Effect → Type 0
@@ -62,8 +62,8 @@ unfolding Shows unless
 shows-unless P true r e f = f refl
 shows-unless P false r e f = tt
 
-abbrev pub Agrees : Labels → World → (L R : List Abstract.Token) → (h : ℕ) → Effect → Abstract.Effect → Type 0
-Agrees M W L R h e x = Shows (Becomes M W L R h x) e
+abbrev pub Agrees : Labels → World → (L R : List Abstract.Token) → (now h : ℕ) → Effect → Abstract.Effect → Type 0
+Agrees M W L R now h e x = Shows (Becomes M W L R now h x) e
 
 module _ {M : Labels} (m : Machine) {name place : ℕ → ℕ} {σ : Store} {new p : ℕ} {L R : List Abstract.Token}
     (o : Others M (world (m .tokens) (m .cells) name place σ new) p L R) where
@@ -72,14 +72,14 @@ module _ {M : Labels} (m : Machine) {name place : ℕ → ℕ} {σ : Store} {new
 
   -- the token ends
   pub ends-becomes : (m′ : Machine) (a : Label) (u : Token)
-      → m′ .tokens ≡ set (m .tokens) p u → m′ .cells ≡ m .cells → m′ .calls ≡ nextHandle a (m .calls)
-      → isLive (u .state) ≡ false → Becomes M W L R (m .calls) (makes a []) a m′
-  ends-becomes m′ a u et ec eh dead =
-      record { label = refl; machine = sees-tables name place (o .before ++ ([] ++ o .behind)) et ec eh (ends-core o u dead) }
+      → m′ .tokens ≡ set (m .tokens) p u → m′ .cells ≡ m .cells → m′ .calls ≡ nextHandle a (m .calls) → m′ .clock ≡ m .clock
+      → isLive (u .state) ≡ false → Becomes M W L R (m .clock) (m .calls) (makes a []) a m′
+  ends-becomes m′ a u et ec eh en dead =
+      record { label = refl; machine = sees-tables name place (o .before ++ ([] ++ o .behind)) et ec eh en (ends-core o u dead) }
 
   -- the token goes on as u
   pub goes-becomes : (m′ : Machine) (a : Label) (u : Token) {x : Abstract.Token}
-      → m′ .tokens ≡ set (m .tokens) p u → m′ .cells ≡ m .cells → m′ .calls ≡ nextHandle a (m .calls)
-      → Fits (UsedToken W) (UsedCell W) u → TokenSeen W M u x → Becomes M W L R (m .calls) (makes a (x ∷ [])) a m′
-  goes-becomes m′ a u et ec eh f v =
-      record { label = refl; machine = sees-tables name place (o .before ++ ((p ∷ []) ++ o .behind)) et ec eh (goes-core o u f v) }
+      → m′ .tokens ≡ set (m .tokens) p u → m′ .cells ≡ m .cells → m′ .calls ≡ nextHandle a (m .calls) → m′ .clock ≡ m .clock
+      → Fits (UsedToken W) (UsedCell W) u → TokenSeen W M u x → Becomes M W L R (m .clock) (m .calls) (makes a (x ∷ [])) a m′
+  goes-becomes m′ a u et ec eh en f v =
+      record { label = refl; machine = sees-tables name place (o .before ++ ((p ∷ []) ++ o .behind)) et ec eh en (goes-core o u f v) }

@@ -29,7 +29,7 @@ use Rattle.simulation.proofs.AbstractMachine as Abstract
 use Rattle.simulation.proofs.AbstractMachine.{Binding, Frame, at, running, Store, makes}
 use Rattle.simulation.proofs.Shuffle.{Split}
 use Rattle.model.proofs.Sees.Labels.{Labels}
-use Rattle.model.proofs.Sees.View.{World, present, StateSeen, ready, waiting, called, PlaceSeen, Unset, TokenSeen, sees}
+use Rattle.model.proofs.Sees.View.{World, present, StateSeen, ready, waiting, called, due, PlaceSeen, Unset, TokenSeen, sees}
 use Rattle.model.proofs.Sees.Seen.{Core, world, used-fits, token-used, live-listed}
 use Rattle.model.proofs.Sees.Others.{Others, FoundAt, foundAt, find-place, others, spot-token}
 use Rattle.model.proofs.Sees.Moving.{place-as, fits-as}
@@ -41,6 +41,7 @@ unfolding forSome handleOf
 holds-handle h states.Blank e = clash e refl
 holds-handle h states.Ready e = clash e refl
 holds-handle h (states.Waiting c) e = clash e refl
+holds-handle h (states.Due d) e = clash e refl
 holds-handle h states.Frame e = clash e refl
 holds-handle h (states.Called g) e = go (or-cases (eqb h g) false e)
   where
@@ -84,6 +85,7 @@ called-is : {M : Labels} {n : ℕ} {K : Abstract.Place} {s : State} {w : Held} {
     → s ≡ states.Called h → StateSeen M n K s w x → x ≡ Abstract.calledOut h K
 called-is h e (ready v) = let z : _≡_ {A = ℕ} 0 1 = cc in absurd (omega arith)
 called-is h e (waiting f v) = let z : _≡_ {A = ℕ} 0 1 = cc in absurd (omega arith)
+called-is h e due = let z : _≡_ {A = ℕ} 0 1 = cc in absurd (omega arith)
 called-is {K = K} h e (called {h = g}) = ap (λ i. Abstract.calledOut i K) (let z : g ≡ h = cc in z)
 
 pend-token : {M : Labels} {W : World} {p h : ℕ} {S L R : List Abstract.Token} {x : Abstract.Token}
@@ -108,12 +110,12 @@ pub answered-becomes : {M : Labels} (m : Machine) {name place : ℕ → ℕ} {σ
     → PlaceSeen (world (m .tokens) (m .cells) name place σ new) M (tokenAt (m .tokens) p) n B F U
     → Unset σ U
     → TokenSeen (world (m .tokens) (m .cells) name place σ new) M (tokenAt (m .tokens) p) (Abstract.calledOut h (at n B F U))
-    → Becomes M (world (m .tokens) (m .cells) name place σ new) L R (m .calls)
+    → Becomes M (world (m .tokens) (m .cells) name place σ new) L R (m .clock) (m .calls)
     (makes (showing (Event.answer h v)) (running (at n B F U) v ∷ [])) (showing (Event.answer h v))
     (enqueue p (put p (withState states.Ready (withValue (helds.Value v) (tokenAt (m .tokens) p))) m))
 unfolding enqueue put withTables withOrders withState withValue nextHandle
 answered-becomes m {name} {place} {σ} {new} {p} h v o z un seen =
-    goes-becomes m o _ (showing (Event.answer h v)) _ refl refl refl
+    goes-becomes m o _ (showing (Event.answer h v)) _ refl refl refl refl
     (fits-as {t = tokenAt (m .tokens) p} refl refl refl (used-fits W p (token-used W p seen)))
     (sees (place-as {t = tokenAt (m .tokens) p} refl refl refl refl z) un (ready present))
   where

@@ -15,7 +15,7 @@ use Rattle.job.specs.Node.{Node, Dag}
 use Rattle.model.specs.Machine.Blank.{tokenAt, cellAt}
 use Rattle.model.specs.Machine.Active.{within}
 use Rattle.model.specs.Machine.State.{isLive, waitsAt}
-use Rattle.model.specs.Machine.Update.{withState, withTables, withOrders}
+use Rattle.model.specs.Machine.Update.{withState, withTables, withTimers, withOrders}
 use Rattle.model.specs.Machine.Step.{chokeToken, afterChoke, chokeAt}
 use Rattle.calculus.specs.Expression.{Exp}
 use Rattle.model.specs.declared.token.Held.{Held}
@@ -27,14 +27,14 @@ use Rattle.model.specs.declared.token.Token.{Token}
 use Rattle.model.specs.declared.cell.Cell.{Cell}
 use Rattle.model.specs.declared.record.Machine.{Machine}
 use Rattle.job.proofs.Test.{clash, ne-eqb, not-true, occurrences-append}
-use Rattle.model.proofs.Machine.Choke.{choke-at, choke-ends}
+use Rattle.model.proofs.Machine.Choke.{choke-at, choke-ends, woken, choke-spares}
 use Rattle.simulation.proofs.AbstractMachine as Abstract
 use Rattle.simulation.proofs.AbstractMachine.{Binding, Frame, at, Store, withSet, isOutOf, outOf, actsAt}
 use Rattle.simulation.proofs.Store.{_is-in_, set-same, set-other}
 use Rattle.model.proofs.Sees.Labels.{Labels, nodeMeant, programOf}
-use Rattle.model.proofs.Sees.View.{held, World, Nested, StateSeen, ready, waiting, called, Unset, CellSeen, CellsSeen, root, below}
-use Rattle.model.proofs.Sees.View.{PlaceSeen, TokenSeen, sees, TokensSeen, nobody, also, FrameSeen, frameAt, frame-seen, Kept}
-use Rattle.model.proofs.Sees.View.{Closed, place-keep, tokens-append}
+use Rattle.model.proofs.Sees.View.{held, World, Nested, StateSeen, ready, waiting, called, due, Unset, CellSeen, CellsSeen, root}
+use Rattle.model.proofs.Sees.View.{below, PlaceSeen, TokenSeen, sees, TokensSeen, nobody, also, FrameSeen, frameAt, frame-seen}
+use Rattle.model.proofs.Sees.View.{Kept, Closed, place-keep, tokens-append}
 use Rattle.model.proofs.Sees.Seen.{Core, world, sees-tables}
 use Rattle.model.proofs.Sees.Others.{Others}
 use Rattle.model.proofs.Sees.WithinSeen.{not-some, some-first, some-rest, within-seen}
@@ -42,13 +42,6 @@ use Rattle.model.proofs.Sees.Moving.{value-there, value-optional, place
 use Rattle.model.proofs.Sees.Agrees.{Acting, Shows, Agrees}
 use Rattle.model.proofs.Machine.WrittenTokens.{waiting-live}
 use Rattle.model.proofs.Machine.TableRows.{cell-same, cell-other}
-
-unfoldable pub woken : Bool → Token → Token
-woken b t = elim b [ true ↦ withState states.Ready t | false ↦ t ]
-
-pub choke-spares : (cs : List Cell) (c : ℕ) (t : Token) → within cs c (t .cell) ≡ false → chokeToken cs c t ≡ woken (waitsAt c (t .state)) t
-unfolding chokeToken woken
-choke-spares cs c t e = rw (e, chokeToken) refl
 
 woken-live : (c : ℕ) (t : Token) → isLive (woken (waitsAt c (t .state)) t .state) ≡ isLive (t .state)
 unfolding woken withState isLive
@@ -68,6 +61,7 @@ unfolding waitsAt
 woken-state c (ready v) e = ready v
 woken-state c (waiting f v) e = ready (value-optional f v)
 woken-state c called e = clash e refl
+woken-state c due e = clash e refl
 
 -- which places stay in a list
 module _ (test : ℕ → Bool) (r : ℕ) where
@@ -197,6 +191,7 @@ module _ (M : Labels) (W : World) (c i : ℕ) (s : CellSeen W c i) (w : Held) (v
   state-cells (ready z) = refl
   state-cells (waiting f z) = refl
   state-cells called = refl
+  state-cells due = refl
 
   same-end : {t : Token} {x : Abstract.Token} → TokenSeen W M t x → inCell t ≡ forSome (eqb i) (Abstract.cellsOf x)
   same-end (sees z un st) = within-seen s (z .cell) ∙ ap (forSome (eqb i)) (sym (state-cells st))
@@ -259,20 +254,22 @@ module _ (d : Dag) (M : Labels) (bodies : ℕ → Exp) (m : Machine) {name place
   t = tokenAt (m .tokens) p
 
   choke-from : {q : Place} {X : List ℕ} → M .value n ≡ true → t .cell ≡ q → CellsSeen W q X
-      → Agrees M W L R (m .calls) (chokeAt m t q) (Abstract.chokes X v)
-  unfolding Shows chokeAt afterChoke withTables withOrders
+      → Agrees M W L R (m .clock) (m .calls) (chokeAt m t q) (Abstract.chokes X v)
+  unfolding Shows chokeAt afterChoke withTables withTimers withOrders
   choke-from e f root = tt
   choke-from e f (below {c = c} {n = i} {U = X} s z) =
       record {
         label = refl;
-        machine = sees-tables name place _ refl refl refl (choke-core M W c i s (t .value) v (value-there e (A .value)) (A .others) ends);
+        machine =
+            sees-tables name place _ refl refl refl refl
+            (choke-core M W c i s (t .value) v (value-there e (A .value)) (A .others) ends);
       }
     where
       ends : within (m .cells) c (t .cell) ≡ true
       ends = ap (within (m .cells) c) f ∙ (within-seen s (below s z) ∙ some-first i X)
 
   pub choke-agrees : M .value n ≡ true
-      → Agrees M W L R (m .calls) (chokeAt m t (t .cell))
-      (actsAt (programOf d M bodies) σ new (m .calls) (nodeMeant (M .scope n) Node.choke) (at n B F U) v)
+      → Agrees M W L R (m .clock) (m .calls) (chokeAt m t (t .cell))
+      (actsAt (programOf d M bodies) (m .clock) σ new (m .calls) (nodeMeant (M .scope n) Node.choke) (at n B F U) v)
   unfolding nodeMeant
   choke-agrees e = choke-from e refl (A .place .cell)

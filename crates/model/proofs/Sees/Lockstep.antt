@@ -12,6 +12,7 @@ use lib.Seq.{take-append-seam}
 use lib.IntN.{ℤ}
 use Rattle.job.specs.Test.{padded, without}
 use Rattle.job.specs.Number.{Signed32}
+use Rattle.job.specs.Site.{lastTime}
 use Rattle.job.specs.Node.{Dag, nodeAt, isNode, dagHolds}
 use Rattle.model.specs.Machine.Limits.{Limits, limits}
 use Rattle.model.specs.Machine.Blank.{blankToken, tokenAt}
@@ -24,23 +25,26 @@ use Rattle.model.specs.Machine.Update.{withOrders, queueOf, waitsOf}
 use Rattle.model.specs.Machine.Step.{hasTokenPlace, hasCellPlace, takes}
 use Rattle.model.specs.Machine.Answer as Answer
 use Rattle.model.specs.Machine.Answer.{holder, answered}
+use Rattle.model.specs.Machine.Clock as Clock
+use Rattle.model.specs.Machine.Clock.{takesTime}
 use Rattle.calculus.specs.Event.{Event, Label, silently, showing}
 use Rattle.calculus.specs.Expression.{Exp}
 use Rattle.calculus.specs.Allowed.{shown}
-use Rattle.model.specs.Run.Call.{Call, step, answer, runner, eventsOf, outcomeOf, eventsFrom, started}
+use Rattle.model.specs.Run.Call.{Call, step, answer, advance, runner, eventsOf, outcomeOf, eventsFrom, started}
 use Rattle.model.specs.declared.token.Place.{Place}
 use Rattle.model.specs.declared.token.Place.the-variants as places
 use Rattle.model.specs.declared.token.State.{State}
 use Rattle.model.specs.declared.record.Machine.{Machine}
 use Rattle.model.specs.declared.reply.Reply.the-variants as replies
 use Rattle.model.specs.declared.reply.Outcome.{Outcome}
-use Rattle.job.proofs.Test.{clash, holds-or-fails, and-left, all-at, ltb-lt}
+use Rattle.job.proofs.Test.{clash, holds-or-fails, and-left, and-right, all-at, ltb-lt, leb-le}
 use Rattle.model.proofs.Machine.Marks.{Free}
 use Rattle.model.proofs.Machine.InUse.{tokens-used, cells-used}
 use Rattle.model.proofs.Machine.Places.{next-place-free}
 use Rattle.model.proofs.Machine.Rules.{EachRuleHolds, each-rule-holds, ready-state}
 use Rattle.model.proofs.Machine.Rules.{tokens-sized, cells-sized, lasttoken-inside, lastcell-inside}
-use Rattle.model.proofs.Machine.Refused.{StepAccepted, step-accepted, AnswerAccepted, answer-accepted}
+use Rattle.model.proofs.Machine.Refused.{StepAccepted, step-accepted, AnswerAccepted, answer-accepted, AdvanceAccepted}
+use Rattle.model.proofs.Machine.Refused.{advance-accepted}
 use Rattle.model.proofs.Run.Passage.{eventsBy, Passage, passage}
 use Rattle.model.proofs.Run.Queue.{queue-rules-hold}
 use Rattle.simulation.proofs.AbstractMachine as Abstract
@@ -51,6 +55,7 @@ use Rattle.model.proofs.Sees.Seen.{world, Sees, seenAs, sweep-sees}
 use Rattle.model.proofs.Sees.Agrees.{Acting, Shows, Agrees}
 use Rattle.model.proofs.Sees.ActsAgree.{Taken, taken, take-ready, act-agrees}
 use Rattle.model.proofs.Sees.AnswerAgrees.{holder-called, Pending, pending, find-pending, answered-becomes}
+use Rattle.model.proofs.Sees.ClockAgrees.{advanced-sees}
 use Rattle.model.proofs.Sees.StartSeen.{start-sees}
 
 -- tables at least as large as the limits
@@ -100,11 +105,17 @@ called-shows : (place h s : ℕ) (vs : List ℤ) (m : Machine)
 unfolding eventsOf accepted padded
 called-shows place h s vs m = ap (λ ws. Event.call h s ws ∷ []) (take-append-seam vs _)
 
+-- a time that the clock takes
+time-taken : (m : Machine) (time : ℕ) → takesTime m time ≡ true → (m .clock ≤ time) × (time ≤ lastTime)
+unfolding takesTime
+time-taken m time e = (leb-le (m .clock) time (and-left _ _ e), leb-le time lastTime (and-right _ _ e))
+
 -- an outcome shows what its effect does, and its machine is the effect's, blanked
-module _ (M : Labels) (W : World) (L R : List Abstract.Token) (h : ℕ) (x : Abstract.Effect) (place : ℕ) (before : Machine) where
-  pub shown-by : (e : Effect) → Agrees M W L R h e x → isRefused (outcome before e .reply) ≡ false
+module _ (M : Labels) (W : World) (L R : List Abstract.Token) (now h : ℕ) (x : Abstract.Effect) (place : ℕ)
+    (before : Machine) where
+  pub shown-by : (e : Effect) → Agrees M W L R now h e x → isRefused (outcome before e .reply) ≡ false
       → (eventsBy (step place) (outcome before e) ≡ shown (labelOf x) [])
-      × Sees M (outcome before e .machine) (after L R (W .store) (W .new) h x)
+      × Sees M (outcome before e .machine) (after L R now (W .store) (W .new) h x)
   unfolding Shows outcome accepted eventsOf isRefused shown
   shown-by (moves m) b ok = (ap (λ a. shown a []) (sym (b .label)), sweep-sees m (b .machine))
   shown-by (waits m) b ok = (ap (λ a. shown a []) (sym (b .label)), sweep-sees m (b .machine))
@@ -117,12 +128,12 @@ module _ (lim : Limits) (d : Dag) (M : Labels) (bodies : ℕ → Exp) (fits : Fi
   pub takes-agrees : (m : Machine) (k : ℕ) → rulesHold lim d m ≡ true → k < m .queued → {name place : ℕ → ℕ} {σ : Store} {new : ℕ}
       {L R : List Abstract.Token} {n : ℕ} {B : List Binding} {F : List Frame} {U : List ℕ} {v : ℤ}
       → Acting M (world (m .tokens) (m .cells) name place σ new) (getD (m .queue) k 0) L R n B F U v
-      → Agrees M (world (m .tokens) (m .cells) name place σ new) L R (m .calls) (takes lim d m k)
-      (Abstract.act (programOf d M bodies) σ new (m .calls) (at n B F U) v)
+      → Agrees M (world (m .tokens) (m .cells) name place σ new) L R (m .clock) (m .calls) (takes lim d m k)
+      (Abstract.act (programOf d M bodies) (m .clock) σ new (m .calls) (at n B F U) v)
   unfolding takes
   takes-agrees m k holds l {name} {place} {σ} {new} {L} {R} {n} {B} {F} {U} {v} acting =
       subst
-      (λ i. Agrees M W L R (m .calls)
+      (λ i. Agrees M W L R (m .clock) (m .calls)
       (Step.act lim d m (withOrders (without k (queueOf m)) (waitsOf m) m) p (tokenAt (m .tokens) p) (nodeAt d i)) x)
       (sym (acting .place .node))
       (act-agrees lim d M bodies m (without k (queueOf m)) (waitsOf m) acting
@@ -135,7 +146,7 @@ module _ (lim : Limits) (d : Dag) (M : Labels) (bodies : ℕ → Exp) (fits : Fi
       p = getD (m .queue) k 0
 
       x : Abstract.Effect
-      x = Abstract.act (programOf d M bodies) σ new (m .calls) (at n B F U) v
+      x = Abstract.act (programOf d M bodies) (m .clock) σ new (m .calls) (at n B F U) v
 
       there : n < length (d .nodes)
       there = subst (λ i. i < length (d .nodes)) (acting .place .node) (at-node lim d m holds p (queue-rules-hold lim d m holds .named k l))
@@ -144,7 +155,7 @@ module _ (lim : Limits) (d : Dag) (M : Labels) (bodies : ℕ → Exp) (fits : Fi
   pub step-locks : (m : Machine) {s : Abstract.State} → Sees M m s → (place : ℕ) → isRefused (Step.step lim d m place .reply) ≡ false
       → Steps d M bodies s (eventsBy (step place) (Step.step lim d m place)) (Step.step lim d m place .machine)
   step-locks m (seenAs {S = S} {σ = σ} {new = new} name place A K) k ok =
-      subst (λ (o : Outcome). Steps d M bodies (state S σ new (m .calls)) (eventsBy (step k) o) (o .machine)) (sym (a .does))
+      subst (λ (o : Outcome). Steps d M bodies (state S σ new (m .calls) (m .clock)) (eventsBy (step k) o) (o .machine)) (sym (a .does))
       (go (take-ready p K (ready-state _ (queue-rules-hold lim d m (a .holds) .ready k (a .queued)))))
     where
       a : StepAccepted lim d m k
@@ -159,10 +170,11 @@ module _ (lim : Limits) (d : Dag) (M : Labels) (bodies : ℕ → Exp) (fits : Fi
       o : Outcome
       o = outcome m (takes lim d m k)
 
-      go : Taken M W p S → Steps d M bodies (state S σ new (m .calls)) (eventsBy (step k) o) (o .machine)
+      go : Taken M W p S → Steps d M bodies (state S σ new (m .calls) (m .clock)) (eventsBy (step k) o) (o .machine)
       go (taken {L = L} {R = R} {n = n} {B = B} {F = F} {U = U} {v = v} split acting) =
           let both =
-          shown-by M W L R (m .calls) (Abstract.act (programOf d M bodies) σ new (m .calls) (at n B F U) v) k m (takes lim d m k)
+          shown-by M W L R (m .clock) (m .calls) (Abstract.act (programOf d M bodies) (m .clock) σ new (m .calls) (at n B F U) v) k m
+          (takes lim d m k)
           (takes-agrees m k (a .holds) (a .queued) acting)
           (subst (λ (o : Outcome). isRefused (o .reply) ≡ false) (a .does) ok) in
           steps (Abstract.step Move.acts split) (both .0) (both .1)
@@ -176,7 +188,7 @@ module _ (lim : Limits) (d : Dag) (M : Labels) (bodies : ℕ → Exp) (fits : Fi
       (go (holder h 0 (m .tokens)) refl (subst (λ (o : Outcome). isRefused (o .reply) ≡ false) (a .does) ok))
     where
       Locked : Outcome → Type 0
-      Locked o = Steps d M bodies (state S σ new (m .calls)) (eventsBy (answer h v signed) o) (o .machine)
+      Locked o = Steps d M bodies (state S σ new (m .calls) (m .clock)) (eventsBy (answer h v signed) o) (o .machine)
 
       a : AnswerAccepted lim d m h v
       a = answer-accepted lim d m h v ok
@@ -193,11 +205,26 @@ module _ (lim : Limits) (d : Dag) (M : Labels) (bodies : ℕ → Exp) (fits : Fi
       go places.Nowhere e r = unfold answered outcome isRefused in clash refl r
       go (places.At p) e r = found p (find-pending p h K (holder-called h (m .tokens) p e))
 
+  -- an accepted clock move
+  pub advance-locks : (m : Machine) {s : Abstract.State} → Sees M m s → (time : ℕ) → isRefused (Clock.advance lim d m time .reply) ≡ false
+      → Steps d M bodies s (eventsBy (advance time) (Clock.advance lim d m time)) (Clock.advance lim d m time .machine)
+  unfolding outcome accepted isRefused eventsOf shown
+  advance-locks m (seenAs {S = S} {σ = σ} {new = new} name place A K) time ok =
+      subst
+      (λ (o : Outcome). Steps d M bodies (state S σ new (m .calls) (m .clock)) (eventsBy (advance time) o) (o .machine))
+      (sym (a .does))
+      (steps (Abstract.ticks (time-taken m time (a .takes) .0) (time-taken m time (a .takes) .1)) refl
+      (sweep-sees _ (advanced-sees m time K)))
+    where
+      a : AdvanceAccepted lim d m time
+      a = advance-accepted lim d m time ok
+
 -- "14: dag .. breaks an index rule": nothing is accepted on such a dag
 accepted-dag : (lim : Limits) (d : Dag) (m : Machine) (c : Call) → isRefused (outcomeOf runner lim d m c .reply) ≡ false → dagHolds d ≡ true
 unfolding outcomeOf
 accepted-dag lim d m (step place) ok = each-rule-holds lim d m (step-accepted lim d m place ok .holds) .dag
 accepted-dag lim d m (answer h v signed) ok = each-rule-holds lim d m (answer-accepted lim d m h v ok .holds) .dag
+accepted-dag lim d m (advance time) ok = each-rule-holds lim d m (advance-accepted lim d m time ok .holds) .dag
 
 pub shown-append : (a : Label) (es : List Event) → shown a [] ++ es ≡ shown a es
 unfolding shown
@@ -210,6 +237,7 @@ module _ (lim : Limits) (d : Dag) (M : Labels) (bodies : ℕ → Exp) (fits : Fi
   unfolding outcomeOf
   call-locks m sn (step place) ok = step-locks lim d M bodies fits flow m sn place ok
   call-locks m sn (answer h v signed) ok = answer-locks lim d M bodies fits flow m sn h v signed ok
+  call-locks m sn (advance time) ok = advance-locks lim d M bodies fits flow m sn time ok
 
   -- the abstract machine runs from s and shows the events, and m is seen as what it comes to
   pub data Runs (s : Abstract.State) (es : List Event) (m : Machine) : Type 0 where

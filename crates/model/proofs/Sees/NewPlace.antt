@@ -66,7 +66,7 @@ module _ (d : Dag) (M : Labels) (bodies : ℕ → Exp) (m : Machine) {name place
 
   -- what the abstract machine's token does at the node
   abbrev does : Node → Abstract.Effect
-  does N = actsAt (programOf d M bodies) σ new (m .calls) (nodeMeant (M .scope n) N) (at n B F U) v
+  does N = actsAt (programOf d M bodies) (m .clock) σ new (m .calls) (nodeMeant (M .scope n) N) (at n B F U) v
 
   -- without a new cell
   abbrev made : (u w : Token) → World
@@ -80,13 +80,13 @@ module _ (d : Dag) (M : Labels) (bodies : ℕ → Exp) (m : Machine) {name place
 
   pub fork-agrees : {l r : ℕ}
       → M .value l ≡ false → M .value r ≡ false → Follows d M n l (M .scope n) (M .nest n) → Follows d M n r (M .scope n) (M .nest n)
-      → Agrees M W L R (m .calls) (forked m p t q l r) (does (Node.fork l r))
+      → Agrees M W L R (m .clock) (m .calls) (forked m p t q l r) (does (Node.fork l r))
   unfolding Shows forked newToken put enqueue withTables withOrders withCounts nodeMeant nextHandle
   fork-agrees {l} {r} a b f g =
       record {
         label = refl;
         machine =
-            sees-tables name place (A .others .before ++ ((p ∷ q ∷ []) ++ A .others .behind)) refl refl refl
+            sees-tables name place (A .others .before ++ ((p ∷ q ∷ []) ++ A .others .behind)) refl refl refl refl
             (both-core (A .others) (acting-used A) q free (withNode l t) (withNode r t) (m .cells) name place
             (newer (withNode l t) (withNode r t)) (λ c i. refl) (side l a f) (side r b g));
       }
@@ -100,13 +100,13 @@ module _ (d : Dag) (M : Labels) (bodies : ℕ → Exp) (m : Machine) {name place
   -- the caller's frame, and the callee
   pub call-agrees : {e k : ℕ} {ps : List Param}
       → All (GoodParam (M .scope n)) ps → Follows d M n k (M .scope n) (M .nest n) → Enters d M e ps
-      → Agrees M W L R (m .calls) (entered m p t q (bodyAt d e .root) ps k) (does (Node.call e ps k))
+      → Agrees M W L R (m .clock) (m .calls) (entered m p t q (bodyAt d e .root) ps k) (does (Node.call e ps k))
   unfolding Shows entered newToken put enqueue withTables withOrders withCounts nodeMeant nextHandle isLive withNode withState
   call-agrees {e} {k} {ps} good f enters =
       record {
         label = refl;
         machine =
-            sees-tables name place (A .others .before ++ ((q ∷ []) ++ A .others .behind)) refl refl refl
+            sees-tables name place (A .others .before ++ ((q ∷ []) ++ A .others .behind)) refl refl refl refl
             (new-core (A .others) (acting-used A) q free u w (m .cells) name place (newer u w) (λ c i. refl) refl callee);
       }
     where
@@ -154,13 +154,13 @@ module _ (d : Dag) (M : Labels) (bodies : ℕ → Exp) (m : Machine) {name place
     pub where-agrees : {x l r : ℕ}
         → M .value l ≡ false → M .value r ≡ false → x < 8 → Fresh x (M .scope n)
         → Follows d M n l (x ∷ M .scope n) (M .nest n) → Follows d M n r (M .scope n) (suc (M .nest n))
-        → Agrees M W L R (m .calls) (split m p t q c x l r) (does (Node.where' x l r))
+        → Agrees M W L R (m .clock) (m .calls) (split m p t q c x l r) (does (Node.where' x l r))
     unfolding Shows split newToken newCell put enqueue withTables withOrders withCounts nodeMeant nextHandle
     where-agrees {x} {l} {r} a b small fresh f g =
         record {
           label = refl;
           machine =
-              sees-tables name′ place′ (A .others .before ++ ((p ∷ q ∷ []) ++ A .others .behind)) refl refl refl
+              sees-tables name′ place′ (A .others .before ++ ((p ∷ q ∷ []) ++ A .others .behind)) refl refl refl refl
               (both-core (A .others) (acting-used A) q free u w cs name′ place′ cells parents left right);
         }
       where

@@ -2,24 +2,26 @@
 -- nothing.
 use mathlib.Core.Path.{_≡_, refl, sym, subst}
 use mathlib.Core.Bool.{Bool, true, false}
-use mathlib.Core.List.{List, _∷_}
+use mathlib.Core.List.{List, [], _∷_, _++_}
+use mathlib.Core.Option.{Option, some, none}
 use Prim.Native.Nat.{ℕ, _<_}
 use native.Mathlib.Omega.{arith}
 use lib.ListN.{length}
 use lib.Dec.{ltb}
-use lib.IntN.{ℤ}
+use lib.IntN.{ℤ, pos}
 use Rattle.job.specs.Test.{All}
-use Rattle.job.specs.Site.{BuiltinReply, gives, silent, isBuiltin, builtin}
+use Rattle.job.specs.Site.{BuiltinReply, gives, silent, later, dueTime, isBuiltin, builtin}
 use Rattle.job.specs.Syntax.{Param}
 use Rattle.job.specs.WellFormed.{GoodParam}
 use Rattle.job.specs.Node.{Node, Dag}
 use Rattle.model.specs.Machine.Limits.{Limits}
 use Rattle.model.specs.Machine.Blank.{blankToken, tokenAt}
 use Rattle.model.specs.Machine.State.{isLive}
-use Rattle.model.specs.Machine.Reply.{moves, publishes, unless}
-use Rattle.model.specs.Machine.Update.{withNode, withBinding, withValue, withState, withTables, withOrders, withCounts, put, enqueue}
+use Rattle.model.specs.Machine.Reply.{Effect, moves, publishes, unless}
+use Rattle.model.specs.Machine.Update.{withNode, withBinding, withValue, withState, withTables, withOrders, withCounts, withTimers}
+use Rattle.model.specs.Machine.Update.{timersOf, put, enqueue}
 use Rattle.model.specs.Machine.Step.{LookUpResult, values, unset, look, valueOf, ended, goesOn, waited, replied, calledOut, returned}
-use Rattle.model.specs.Machine.Step.{callSite}
+use Rattle.model.specs.Machine.Step.{deferred, callSite}
 use Rattle.calculus.specs.Event.{Event, silently, showing}
 use Rattle.calculus.specs.Expression.{Exp}
 use Rattle.calculus.specs.Allowed.{nextHandle}
@@ -30,13 +32,15 @@ use Rattle.model.specs.declared.token.Place.the-variants as places
 use Rattle.model.specs.declared.token.State.the-variants as states
 use Rattle.model.specs.declared.token.Token.{Token}
 use Rattle.model.specs.declared.record.Machine.{Machine}
+use Rattle.job.proofs.Test.{ltb-lt, not-ltb-le, le-leb, lt-not-leb}
+use Rattle.model.proofs.Machine.Inside.{Fits}
 use Rattle.simulation.proofs.AbstractMachine as Abstract
 use Rattle.simulation.proofs.AbstractMachine.{Binding, Frame, at, running, Store, actsAt}
 use Rattle.simulation.proofs.Store.{_is-in_}
 use Rattle.model.proofs.Sees.Labels.{Labels, nodeMeant, programOf, Fresh, Follows}
-use Rattle.model.proofs.Sees.View.{World, cellsOfCaller, present, waiting, called, valued, BindingSeen, FrameSeen, frameAt}
-use Rattle.model.proofs.Sees.View.{frame-seen, TokenSeen, sees}
-use Rattle.model.proofs.Sees.Seen.{world, tokens-of, used-fits}
+use Rattle.model.proofs.Sees.View.{World, cellsOfCaller, present, waiting, called, due, valued, BindingSeen, FrameSeen, frameAt}
+use Rattle.model.proofs.Sees.View.{frame-seen, PlaceSeen, TokenSeen, sees}
+use Rattle.model.proofs.Sees.Seen.{world, UsedToken, UsedCell, tokens-of, used-fits}
 use Rattle.model.proofs.Sees.Slots.{found, values-seen}
 use Rattle.model.proofs.Sees.Moving.{value-there, value-optional, value-held, ready-seen, nested-none, place-to, place-bind}
 use Rattle.model.proofs.Sees.Moving.{place-drop, place-as, fits-as, fits-bind}
@@ -54,24 +58,26 @@ module _ (d : Dag) (M : Labels) (bodies : ℕ → Exp) (m : Machine) {name place
 
   -- what the abstract machine's token does at the node
   abbrev does : Node → Abstract.Effect
-  does N = actsAt (programOf d M bodies) σ new (m .calls) (nodeMeant (M .scope n) N) (at n B F U) v
+  does N = actsAt (programOf d M bodies) (m .clock) σ new (m .calls) (nodeMeant (M .scope n) N) (at n B F U) v
 
-  pub stop-agrees : Agrees M W L R (m .calls) (moves (ended m p)) (does Node.stop)
+  pub stop-agrees : Agrees M W L R (m .clock) (m .calls) (moves (ended m p)) (does Node.stop)
   unfolding Shows ended put withTables nodeMeant isLive nextHandle
-  stop-agrees = ends-becomes m (A .others) (ended m p) silently blankToken refl refl refl refl
+  stop-agrees = ends-becomes m (A .others) (ended m p) silently blankToken refl refl refl refl refl
 
-  pub publish-agrees : M .value n ≡ true → Agrees M W L R (m .calls) (publishes (valueOf (t .value)) (ended m p)) (does Node.publish)
+  pub publish-agrees : M .value n ≡ true
+      → Agrees M W L R (m .clock) (m .calls) (publishes (valueOf (t .value)) (ended m p)) (does Node.publish)
   unfolding Shows ended put withTables nodeMeant isLive nextHandle valueOf
   publish-agrees e =
-      subst (λ w. Becomes M W L R (m .calls) (does Node.publish) (showing (Event.publish (valueOf w))) (ended m p))
+      subst (λ w. Becomes M W L R (m .clock) (m .calls) (does Node.publish) (showing (Event.publish (valueOf w))) (ended m p))
       (sym (value-there e (A .value)))
-      (ends-becomes m (A .others) (ended m p) (showing (Event.publish v)) blankToken refl refl refl refl)
+      (ends-becomes m (A .others) (ended m p) (showing (Event.publish v)) blankToken refl refl refl refl refl)
 
   pub assign-agrees : {x k : ℕ} → M .value n ≡ true → x < 8 → Fresh x (M .scope n) → Follows d M n k (x ∷ M .scope n) (M .nest n)
-      → Agrees M W L R (m .calls) (goesOn m p (withNode k (withBinding x (slots.Value (valueOf (t .value))) t))) (does (Node.assign x k))
+      → Agrees M W L R (m .clock) (m .calls) (goesOn m p (withNode k (withBinding x (slots.Value (valueOf (t .value))) t)))
+      (does (Node.assign x k))
   unfolding Shows goesOn enqueue put withTables withOrders nodeMeant nextHandle
   assign-agrees {x} {k} e l g f =
-      goes-becomes m (A .others) _ silently u refl refl refl
+      goes-becomes m (A .others) _ silently u refl refl refl refl
       (fits-bind x k _ (let z : length (t .binds) ≡ 8 = A .place .binds .size in omega arith) (λ c q. no-cell q) (acting-fits A)) view
     where
       u : Token
@@ -91,10 +97,10 @@ module _ (d : Dag) (M : Labels) (bodies : ℕ → Exp) (m : Machine) {name place
 
   pub remove-agrees : {x k : ℕ} {scope : List ℕ}
       → M .value n ≡ true → x < 8 → M .scope n ≡ x ∷ scope → Fresh x scope → Follows d M n k scope (M .nest n)
-      → Agrees M W L R (m .calls) (goesOn m p (withNode k (withBinding x slots.Empty t))) (does (Node.remove x k))
+      → Agrees M W L R (m .clock) (m .calls) (goesOn m p (withNode k (withBinding x slots.Empty t))) (does (Node.remove x k))
   unfolding Shows goesOn enqueue put withTables withOrders nodeMeant nextHandle withNode withBinding
   remove-agrees {x} {k} e l q g f =
-      goes-becomes m (A .others) _ silently (withNode k (withBinding x slots.Empty t)) refl refl refl
+      goes-becomes m (A .others) _ silently (withNode k (withBinding x slots.Empty t)) refl refl refl refl
       (fits-bind x k slots.Empty (let z : length (t .binds) ≡ 8 = A .place .binds .size in omega arith) no-cell (acting-fits A))
       (sees (place-drop l q g f (A .place)) (A .clear) (ready-seen (A .state) (value-held (value-there e (A .value)))))
     where
@@ -103,65 +109,102 @@ module _ (d : Dag) (M : Labels) (bodies : ℕ → Exp) (m : Machine) {name place
 
   -- the frame is under the same cells as the token that returns to it
   return-to : {G : List Frame} → M .value n ≡ true → U ≡ cellsOfCaller G → (f : ℕ) → t .caller ≡ places.At f → FrameSeen W M f G
-      → Agrees M W L R (m .calls) (goesOn m p (withState states.Ready (withValue (t .value) (tokenAt (m .tokens) f))))
+      → Agrees M W L R (m .clock) (m .calls) (goesOn m p (withState states.Ready (withValue (t .value) (tokenAt (m .tokens) f))))
       (Abstract.returns G v)
   unfolding Shows goesOn enqueue put withTables withOrders nextHandle withState withValue
   return-to e z f c (frameAt l s b) =
-      goes-becomes m (A .others) _ silently _ refl refl refl
+      goes-becomes m (A .others) _ silently _ refl refl refl refl
       (fits-as {t = tokenAt (m .tokens) f} refl refl refl (used-fits W f (tokens-of W .caller p (acting-used A) f c)))
       (sees (place-as {t = tokenAt (m .tokens) f} refl refl refl refl b)
       (λ i h. A .clear i (subst (λ U. i is-in U) (sym z) h))
       (ready-seen refl (value-held (value-there e (A .value)))))
 
-  pub return-agrees : M .value n ≡ true → M .nest n ≡ 0 → Agrees M W L R (m .calls) (returned m p t (t .caller)) (does Node.return)
+  pub return-agrees : M .value n ≡ true → M .nest n ≡ 0
+      → Agrees M W L R (m .clock) (m .calls) (returned m p t (t .caller)) (does Node.return)
   unfolding returned Shows nodeMeant
   return-agrees e z = go (t .caller) refl
     where
-      go : (q : Place) → t .caller ≡ q → Agrees M W L R (m .calls) (returned m p t q) (does Node.return)
+      go : (q : Place) → t .caller ≡ q → Agrees M W L R (m .clock) (m .calls) (returned m p t q) (does Node.return)
       go places.Nowhere c = tt
       go (places.At f) c = return-to e (nested-none z (A .place .nested)) f c (frame-seen f c (A .place .caller))
 
   -- site calls
   module _ (lim : Limits) (s : ℕ) {k : ℕ} (f : Follows d M n k (M .scope n) (M .nest n)) where
-    replied-agrees : (r : BuiltinReply) → Agrees M W L R (m .calls) (replied m p t k r) (Abstract.replies r (at k B F U))
+    -- "With t = 0 the token joins the back of the queue in the call's own step, with value 0": it is due no later than now
+    deferred-agrees : (o : Option ℕ)
+        → Agrees M W L R (m .clock) (m .calls) (deferred m p t k o) (Abstract.fallsDue (m .clock) o (at k B F U))
+    unfolding Shows deferred goesOn ended enqueue put withTables withTimers withOrders nextHandle isLive withNode withValue withState
+    deferred-agrees none = ends-becomes m (A .others) _ silently blankToken refl refl refl refl refl
+    deferred-agrees (some time) = go (ltb (m .clock) time) refl
+      where
+        there : PlaceSeen W M (withNode k t) k B F U
+        there = place-to f (A .place)
+
+        fits : Fits (UsedToken W) (UsedCell W) t
+        fits = acting-fits A
+
+        Goes : Bool → Effect → Type 0
+        Goes b e = Agrees M W L R (m .clock) (m .calls) e (Abstract.makes silently (Abstract.wokenIf b time (at k B F U) ∷ []))
+
+        go : (b : Bool) → ltb (m .clock) time ≡ b
+            → Agrees M W L R (m .clock) (m .calls)
+            (elim b [
+              | false ↦ goesOn m p (withNode k (withValue (helds.Value (pos 0)) t))
+              | true ↦ moves (withTimers (timersOf m ++ (p ∷ [])) (put p (withNode k (withState (states.Due time) t)) m))
+            ])
+            (Abstract.fallsDue (m .clock) (some time) (at k B F U))
+        go false e =
+            subst (λ b. Goes b (goesOn m p (withNode k (withValue (helds.Value (pos 0)) t))))
+            (sym (le-leb time (m .clock) (not-ltb-le (m .clock) time e)))
+            (goes-becomes m (A .others) _ silently _ refl refl refl refl (fits-as {t = t} refl refl refl fits)
+            (sees (place-as {t = withNode k t} refl refl refl refl there) (A .clear) (ready-seen (A .state) present)))
+        go true e =
+            subst (λ b. Goes b (moves (withTimers (timersOf m ++ (p ∷ [])) (put p (withNode k (withState (states.Due time) t)) m))))
+            (sym (lt-not-leb time (m .clock) (ltb-lt (m .clock) time e)))
+            (goes-becomes m (A .others) _ silently _ refl refl refl refl (fits-as {t = t} refl refl refl fits)
+            (sees (place-as {t = withNode k t} refl refl refl refl there) (A .clear) due))
+
+    replied-agrees : (r : BuiltinReply)
+        → Agrees M W L R (m .clock) (m .calls) (replied m p t k r) (Abstract.replies (m .clock) r (at k B F U))
     unfolding Shows replied goesOn ended enqueue put withTables withOrders nextHandle isLive withNode withValue
-    replied-agrees silent = ends-becomes m (A .others) _ silently blankToken refl refl refl refl
+    replied-agrees (later t) = deferred-agrees (dueTime (m .clock) t)
+    replied-agrees silent = ends-becomes m (A .others) _ silently blankToken refl refl refl refl refl
     replied-agrees (gives w) =
-        goes-becomes m (A .others) _ silently _ refl refl refl (fits-as {t = t} refl refl refl (acting-fits A))
+        goes-becomes m (A .others) _ silently _ refl refl refl refl (fits-as {t = t} refl refl refl (acting-fits A))
         (sees (place-as {t = withNode k t} refl refl refl refl (place-to f (A .place))) (A .clear) (ready-seen (A .state) present))
 
     called-agrees : (vs : List ℤ)
-        → Agrees M W L R (m .calls) (calledOut m p t s vs k) (Abstract.callsSite (m .calls) s vs false (at k B F U))
+        → Agrees M W L R (m .clock) (m .calls) (calledOut m p t s vs k) (Abstract.callsSite (m .clock) (m .calls) s vs false (at k B F U))
     unfolding Shows calledOut put withTables withCounts nextHandle withNode withState
     called-agrees vs =
-        goes-becomes m (A .others) _ (showing (Event.call (m .calls) s vs)) _ refl refl refl
+        goes-becomes m (A .others) _ (showing (Event.call (m .calls) s vs)) _ refl refl refl refl
         (fits-as {t = t} refl refl refl (acting-fits A))
         (sees (place-as {t = withNode k t} refl refl refl refl (place-to f (A .place))) (A .clear) called)
 
     look-up-agrees : M .value n ≡ false → (l : LookUpResult)
-        → Agrees M W L R (m .calls) (callSite lim m p t s k l)
-        (Abstract.asksSite (m .calls) s (running (at n B F U) v) (found l) (at k B F U))
+        → Agrees M W L R (m .clock) (m .calls) (callSite lim m p t s k l)
+        (Abstract.asksSite (m .clock) (m .calls) s (running (at n B F U) v) (found l) (at k B F U))
     unfolding Shows callSite waited put withTables withOrders nextHandle withState
     look-up-agrees e (unset c) =
-        goes-becomes m (A .others) _ silently _ refl refl refl (fits-as {t = t} refl refl refl (acting-fits A))
+        goes-becomes m (A .others) _ silently _ refl refl refl refl (fits-as {t = t} refl refl refl (acting-fits A))
         (sees (place-as {t = t} refl refl refl refl (A .place)) (A .clear) (waiting e (value-optional refl (A .value))))
     look-up-agrees e (values vs) = go (isBuiltin s)
       where
-        go : (b : Bool) → Agrees M W L R (m .calls)
+        go : (b : Bool) → Agrees M W L R (m .clock) (m .calls)
             (elim b [
               | true ↦ replied m p t k (builtin s vs)
               | false ↦ unless (ltb (m .calls) (lim .calls)) 13 (calledOut m p t s vs k)
             ])
-            (Abstract.callsSite (m .calls) s vs b (at k B F U))
+            (Abstract.callsSite (m .clock) (m .calls) s vs b (at k B F U))
         go true = replied-agrees (builtin s vs)
         go false = shows-unless _ (ltb (m .calls) (lim .calls)) 13 (calledOut m p t s vs k) (λ i. called-agrees vs)
 
     pub site-agrees : {ps : List Param} → M .value n ≡ false → All (GoodParam (M .scope n)) ps
-        → Agrees M W L R (m .calls) (callSite lim m p t s k (look (m .cells) (t .binds) ps)) (does (Node.site s ps k))
+        → Agrees M W L R (m .clock) (m .calls) (callSite lim m p t s k (look (m .cells) (t .binds) ps)) (does (Node.site s ps k))
     unfolding nodeMeant
     site-agrees {ps} e good =
         subst
-        (λ o. Agrees M W L R (m .calls) (callSite lim m p t s k (look (m .cells) (t .binds) ps))
-        (Abstract.asksSite (m .calls) s (running (at n B F U) v) o (at k B F U)))
+        (λ o. Agrees M W L R (m .clock) (m .calls) (callSite lim m p t s k (look (m .cells) (t .binds) ps))
+        (Abstract.asksSite (m .clock) (m .calls) s (running (at n B F U) v) o (at k B F U)))
         (sym (values-seen (A .place .binds .views) good))
         (look-up-agrees e (look (m .cells) (t .binds) ps))

@@ -31,7 +31,7 @@ use Rattle.simulation.proofs.AbstractMachine as Abstract
 use Rattle.simulation.proofs.AbstractMachine.{Store, state}
 use Rattle.simulation.proofs.Store.{_is-in_}
 use Rattle.model.proofs.Sees.Labels.{Labels}
-use Rattle.model.proofs.Sees.View.{held, World, CellSeen, CellsSeen, root, below, StateSeen, ready, waiting, called, Unset}
+use Rattle.model.proofs.Sees.View.{held, World, CellSeen, CellsSeen, root, below, StateSeen, ready, waiting, called, due, Unset}
 use Rattle.model.proofs.Sees.View.{TokenSeen, sees, TokensSeen, nobody, also, Kept, Closed, token-keep, tokens-map}
 
 -- A: the places of the live tokens, in the order of S
@@ -45,17 +45,18 @@ world ts cs name place σ new = record { tokens = ts; cells = cs; name = name; p
 
 pub data Sees (M : Labels) (m : Machine) : Abstract.State → Type 0 where
   seenAs : {S : List Abstract.Token} {σ : Store} {new : ℕ} (name place : ℕ → ℕ) (A : List ℕ)
-      → Core M (world (m .tokens) (m .cells) name place σ new) A S → Sees M m (state S σ new (m .calls))
+      → Core M (world (m .tokens) (m .cells) name place σ new) A S → Sees M m (state S σ new (m .calls) (m .clock))
 
 -- a machine that is written out by its tables
-pub sees-tables : {M : Labels} {m : Machine} {ts : List Token} {cs : List Cell} {S : List Abstract.Token} {σ : Store} {new h : ℕ}
-    (name place : ℕ → ℕ) (A : List ℕ) → m .tokens ≡ ts → m .cells ≡ cs → m .calls ≡ h
-    → Core M (world ts cs name place σ new) A S → Sees M m (state S σ new h)
-sees-tables {M} {m} {ts} {cs} {S} {σ} {new} name place A et ec eh K =
-    subst (λ h. Sees M m (state S σ new h)) eh
+pub sees-tables : {M : Labels} {m : Machine} {ts : List Token} {cs : List Cell} {S : List Abstract.Token} {σ : Store}
+    {new h now : ℕ} (name place : ℕ → ℕ) (A : List ℕ) → m .tokens ≡ ts → m .cells ≡ cs → m .calls ≡ h → m .clock ≡ now
+    → Core M (world ts cs name place σ new) A S → Sees M m (state S σ new h now)
+sees-tables {M} {m} {ts} {cs} {S} {σ} {new} {h} name place A et ec eh en K =
+    subst (λ now. Sees M m (state S σ new h now)) en
+    (subst (λ h. Sees M m (state S σ new h (m .clock))) eh
     (seenAs name place A
     (subst (λ ts. Core M (world ts (m .cells) name place σ new) A S) (sym et)
-    (subst (λ cs. Core M (world ts cs name place σ new) A S) (sym ec) K)))
+    (subst (λ cs. Core M (world ts cs name place σ new) A S) (sym ec) K))))
 
 -- a token that is seen is active: it is live, and no cell above it is set
 unset-cell : (c : Cell) → held (c .value) ≡ none → cellIsSet c ≡ false
@@ -88,6 +89,7 @@ unfolding isLive
 state-live (ready v) = refl
 state-live (waiting e v) = refl
 state-live called = refl
+state-live due = refl
 
 module _ {W : World} {M : Labels} where
   pub token-live : {t : Token} {x : Abstract.Token} → TokenSeen W M t x → isLive (t .state) ≡ true

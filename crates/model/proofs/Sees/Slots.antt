@@ -8,7 +8,7 @@ use mathlib.Core.Option.{Option, some, none}
 use Prim.Native.Nat.{ℕ, zero, suc, _+_, _-_, _<_, _≤_}
 use native.Mathlib.Decide.{ℕ-discrete, decLt}
 use native.Mathlib.Omega.{arith}
-use lib.ListN.{length, set, drop, replicate, length-set, length-append, length-drop, length-map, List·getD-append}
+use lib.ListN.{length, set, drop, length-set, length-append, length-drop, length-map, List·getD-append}
 use lib.Seq.{getD-set-same, getD-set-other, getD-append-add, getD-drop}
 use lib.Dec.{eqb}
 use lib.IntN.{ℤ}
@@ -25,6 +25,7 @@ use Rattle.model.specs.declared.token.Bind.{Bind}
 use Rattle.model.specs.declared.token.Held.{Held}
 use Rattle.model.specs.declared.token.Held.the-variants as helds
 use Rattle.job.proofs.Test.{eqb-eq, eqb-ne}
+use Rattle.model.proofs.Machine.InUse.{unbound-empty}
 use Rattle.simulation.proofs.AbstractMachine.{Binding, bindingAt, named, valueIn, inFront, valuesIn}
 use Rattle.simulation.proofs.Store.{_is-in_}
 use Rattle.calculus.specs.Expression as Calculus
@@ -168,12 +169,6 @@ module _ {W : World} {bs : List Bind} {scope : List ℕ} {B : List Binding} (vie
     where
       first : slotAt full n ≡ passed bs p .slot
       first = subst (λ k. slotAt full k ≡ passed bs p .slot) (let e : n + 0 ≡ n = omega arith in e) (h 0 (omega arith))
-
-pub unbound-empty : (n x : ℕ) → slotAt (replicate n empty) x ≡ slots.Empty
-unfolding slotAt
-unbound-empty zero x = refl
-unbound-empty (suc n) zero = refl
-unbound-empty (suc n) (suc x) = unbound-empty n x
 
 levels-member : (n x : ℕ) → x < n → x is-in levels n
 unfolding levels

@@ -22,7 +22,7 @@ use Rattle.model.proofs.Sees.Labels.{Labels, Flow}
 use Rattle.model.proofs.Sees.View.{World, absent, ready, root, nothing, outermost, BindingsSeen, PlaceSeen, TokenSeen, sees, nobody}
 use Rattle.model.proofs.Sees.View.{also}
 use Rattle.model.proofs.Sees.Seen.{world, Sees, seenAs}
-use Rattle.model.proofs.Sees.Slots.{unbound-empty}
+use Rattle.model.proofs.Machine.InUse.{unbound-empty}
 use Rattle.model.proofs.Machine.TableRows.{token-same, token-other}
 use Rattle.job.proofs.Lists.{replicate-at}
 

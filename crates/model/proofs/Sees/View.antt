@@ -63,11 +63,12 @@ pub data HeldSeen (needed : Bool) : Held → ℤ → Type 0 where
   absent : {v : ℤ} → needed ≡ false → HeldSeen needed helds.Nothing v
   present : {v : ℤ} → HeldSeen needed (helds.Value v) v
 
--- a token that is ready, waiting or called out, at node n and place K
+-- a token that is ready, waiting, called out or due later, at node n and place K
 pub data StateSeen (M : Labels) (n : ℕ) (K : Abstract.Place) : State → Held → Abstract.Token → Type 0 where
   ready : {w : Held} {v : ℤ} → HeldSeen (M .value n) w v → StateSeen M n K states.Ready w (running K v)
   waiting : {c : ℕ} {w : Held} {v : ℤ} → M .value n ≡ false → HeldSeen false w v → StateSeen M n K (states.Waiting c) w (running K v)
   called : {h : ℕ} {w : Held} → StateSeen M n K (states.Called h) w (Abstract.calledOut h K)
+  due : {time : ℕ} {w : Held} → StateSeen M n K (states.Due time) w (Abstract.dueLater time K)
 
 abbrev pub Unset : Store → List ℕ → Type 0
 Unset σ U = (c : ℕ) → c is-in U → σ c ≡ none
