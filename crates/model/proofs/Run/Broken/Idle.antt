@@ -5,7 +5,8 @@ use mathlib.Core.Bool.{Bool, true, false}
 use mathlib.Core.List.{List, [], _∷_, _++_}
 use Prim.Native.Nat.{ℕ}
 use native.Mathlib.Omega.{arith}
-use lib.IntN.{pos}
+use lib.IntN.{ℤ, pos}
+use Rattle.job.specs.Number.{Signed32}
 use Rattle.job.specs.Test.{_or_, forSome}
 use Rattle.job.specs.Encode.{encode}
 use Rattle.job.specs.Node.{Dag}
@@ -21,6 +22,7 @@ use Rattle.calculus.specs.Meaning.{meaning}
 use Rattle.model.specs.Run.Call.{Call, Runner, outcomeOf, eventsOf, eventsFrom}
 use Rattle.model.specs.Run.Demand3.{Middle}
 use Rattle.model.specs.declared.record.Machine.{Machine}
+use Rattle.model.specs.declared.reply.Reply.{Reply}
 use Rattle.model.specs.declared.reply.Reply.the-variants as replies
 use Rattle.model.specs.declared.reply.Outcome.{Outcome}
 use Rattle.job.proofs.Test.{clash}
@@ -42,24 +44,35 @@ isPublishing (Event.call h s vs) = false
 isPublishing (Event.answer h v) = false
 isPublishing (Event.move time) = false
 
-module _ (lim : Limits) (d : Dag) where
-  -- an event that is no publishing, or none, in front of others
-  one-more : (b : Bool) (e : Event) (es : List Event) → isPublishing e ≡ false → forSome isPublishing es ≡ false
-      → forSome isPublishing (elim b as (λ b. List Event) [ true ↦ [] | false ↦ e ∷ [] ] ++ es) ≡ false
-  unfolding forSome _or_
-  one-more true e es n r = r
-  one-more false e es n r = rw (n, forSome, _or_) r
+-- what an answer or a clock move shows, in front of others
+module _ (r : Reply) (vs : List ℤ) (es : List Event) (rest : forSome isPublishing es ≡ false) where
+  answer-shows : (h : ℕ) (v : ℤ) (fits : Signed32 v) → forSome isPublishing (eventsOf (Call.answer h v fits) r vs ++ es) ≡ false
+  unfolding eventsOf forSome _or_ isPublishing
+  answer-shows h v fits = go (isRefused r) refl
+    where
+      go : (b : Bool) → isRefused r ≡ b → forSome isPublishing (eventsOf (Call.answer h v fits) r vs ++ es) ≡ false
+      go true e = rw (e, eventsOf) rest
+      go false e = rw (e, eventsOf) rest
 
+  move-shows : (time : ℕ) → forSome isPublishing (eventsOf (Call.advance time) r vs ++ es) ≡ false
+  unfolding eventsOf forSome _or_ isPublishing
+  move-shows time = go (isRefused r) refl
+    where
+      go : (b : Bool) → isRefused r ≡ b → forSome isPublishing (eventsOf (Call.advance time) r vs ++ es) ≡ false
+      go true e = rw (e, eventsOf) rest
+      go false e = rw (e, eventsOf) rest
+
+module _ (lim : Limits) (d : Dag) where
   never-publishes : (calls : List Call) (m : Machine) → forSome isPublishing (eventsFrom idle lim d m calls) ≡ false
-  unfolding eventsFrom eventsOf outcomeOf idleStep forSome isPublishing
+  unfolding eventsFrom eventsOf outcomeOf idleStep forSome
   never-publishes [] m = refl
   never-publishes (Call.step place ∷ calls) m = never-publishes calls m
   never-publishes (Call.answer h v fits ∷ calls) m =
       let o : Outcome = Answer.answer lim d m h v in
-      one-more (isRefused (o .reply)) (Event.answer h v) _ refl (never-publishes calls (o .machine))
+      answer-shows (o .reply) (o .values) _ (never-publishes calls (o .machine)) h v fits
   never-publishes (Call.advance time ∷ calls) m =
       let o : Outcome = Clock.advance lim d m time in
-      one-more (isRefused (o .reply)) (Event.move time) _ refl (never-publishes calls (o .machine))
+      move-shows (o .reply) (o .values) _ (never-publishes calls (o .machine)) time
 
 -- signal() publishes 0
 signal-published : Allowed (meaning one-signal) (Event.publish (pos 0) ∷ [])
