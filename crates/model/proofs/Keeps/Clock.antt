@@ -28,7 +28,7 @@ use Rattle.model.proofs.Keeps.TableFacts.{tables-woken}
 use Rattle.model.proofs.Keeps.Facts.{Facts}
 
 -- a token that is due by a time is due, and so neither ready nor waiting
-due-by-due : (time : ℕ) (s : State) → isDueBy time s ≡ true → (isDue s ≡ true) × (isReady s ≡ false) × (isWaiting s ≡ false)
+pub due-by-due : (time : ℕ) (s : State) → isDueBy time s ≡ true → (isDue s ≡ true) × (isReady s ≡ false) × (isWaiting s ≡ false)
 unfolding isDueBy isDue isReady isWaiting
 due-by-due time states.Blank e = clash e refl
 due-by-due time states.Ready e = clash e refl
