@@ -32,9 +32,8 @@ use Rattle.model.proofs.Machine.WrittenTokens.{woken-blank}
 use Rattle.model.proofs.Machine.Choke.{choke-at, choke-ends}
 use Rattle.model.proofs.Machine.Clock.{woken-at, joining-ascends, joining-stable, join-or-stay, due-joins, later-joins-not}
 use Rattle.model.proofs.Keeps.NamedOnce.{Lines, rules-lines, lines-apart}
-use Rattle.model.proofs.Keeps.Orders.{Orders, queue-is, waits-are, orders-with, orders-timers, orders-clock}
-use Rattle.model.proofs.Keeps.Orders.{Timers, timers-are, timers-with, timers-orders, timers-clock}
-use Rattle.model.proofs.Keeps.Clock.{due-by-due}
+use Rattle.model.proofs.Keeps.Orders.{queue-is, waits-are, orders-with, timers-are, timers-with, timers-orders}
+use Rattle.model.proofs.Keeps.Clock.{due-by-due, advanced-orders, advanced-timers}
 
 -- "names each .. once": no two orders share a name
 pub rules-apart : (lim : Limits) (d : Dag) (m : Machine) → EachRuleHolds lim d m → OrdersApart m
@@ -49,19 +48,6 @@ due-in-time time (states.Waiting c) e l = clash e refl
 due-in-time time (states.Called h) e l = clash e refl
 due-in-time time (states.Due d) e l = le-leb d time l
 due-in-time time states.Frame e l = clash e refl
-
--- the orders after a clock move
-module _ (m : Machine) (time : ℕ) where
-  abbrev ordered : Machine
-  ordered = withOrders (queueOf m ++ joining m time) (waitsOf m) (withTables (map (wokenBy time) (m .tokens)) (m .cells) m)
-
-  advanced-orders : Orders (advanced m time) (queueOf m ++ joining m time) (waitsOf m)
-  unfolding advanced
-  advanced-orders = orders-clock (orders-timers (orders-with (queueOf m ++ joining m time) (waitsOf m) _) (staying m time)) time
-
-  advanced-timers : Timers (advanced m time) (staying m time)
-  unfolding advanced
-  advanced-timers = timers-clock (timers-with (staying m time) ordered) time
 
 module _ (lim : Limits) (d : Dag) (m : Machine) (rules : EachRuleHolds lim d m) (time : ℕ) where
   lines : Lines (m .tokens) (queueOf m) (waitsOf m) (timersOf m)
