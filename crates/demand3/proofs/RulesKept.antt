@@ -346,7 +346,8 @@ module _ (lim : Limits) (d : Dag) (M : Labels) (flow : Flow d M) (dag : dagHolds
       go (states.Due d) e = refl
       go states.Frame e = refl
 
-  -- "a clock outside its range, a due time not above it or past 2147483647, or an order of call that names such tokens other than once each"
+  -- "a clock outside its range, a due time not above it or past 2147483647, or an order of call that names such tokens other than
+  -- once each"
   clock-holds : clockHolds m ≡ true
   unfolding clockHolds tokenAt
   clock-holds =

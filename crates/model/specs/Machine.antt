@@ -12,3 +12,4 @@ pub mod Start
 pub mod Step
 pub mod Answer
 pub mod Clock
+pub mod Waking

@@ -22,13 +22,13 @@ use Rattle.job.proofs.Test.{clash, leb-le, and-right, occurrences-append}
 use Rattle.model.proofs.Machine.WrittenTokens.{Woken, wakes, stays, woken-cases}
 use Rattle.model.proofs.Machine.Clock.{woken-at, due-joins, due-leaves, later-stays, later-joins-not}
 use Rattle.model.proofs.Keeps.NamedOnce.{Lines}
-use Rattle.model.proofs.Keeps.Orders.{Timers, queue-is, waits-are, timers-are, orders-with, orders-timers, orders-clock}
+use Rattle.model.proofs.Keeps.Orders.{Orders, Timers, queue-is, waits-are, timers-are, orders-with, orders-timers, orders-clock}
 use Rattle.model.proofs.Keeps.Orders.{timers-with, timers-clock}
 use Rattle.model.proofs.Keeps.TableFacts.{tables-woken}
 use Rattle.model.proofs.Keeps.Facts.{Facts}
 
 -- a token that is due by a time is due, and so neither ready nor waiting
-due-by-due : (time : ℕ) (s : State) → isDueBy time s ≡ true → (isDue s ≡ true) × (isReady s ≡ false) × (isWaiting s ≡ false)
+pub due-by-due : (time : ℕ) (s : State) → isDueBy time s ≡ true → (isDue s ≡ true) × (isReady s ≡ false) × (isWaiting s ≡ false)
 unfolding isDueBy isDue isReady isWaiting
 due-by-due time states.Blank e = clash e refl
 due-by-due time states.Ready e = clash e refl
@@ -81,18 +81,22 @@ module _ (m : Machine) (time : ℕ) {queue waits timers : List ℕ} (o : Timers 
         due = λ r. counted isDue (occurrences r (staying m time)) r (due-now r (woken-cases time (was r)));
       }
 
+-- the orders after a clock move
+module _ (m : Machine) (time : ℕ) where
+  pub advanced-orders : Orders (advanced m time) (queueOf m ++ joining m time) (waitsOf m)
+  unfolding advanced
+  advanced-orders = orders-clock (orders-timers (orders-with (queueOf m ++ joining m time) (waitsOf m) _) (staying m time)) time
+
+  pub advanced-timers : Timers (advanced m time) (staying m time)
+  unfolding advanced
+  advanced-timers = timers-clock (timers-with (staying m time) _) time
+
 -- "15, the clock would .. leave its range"
 pub takes-last : (m : Machine) (time : ℕ) → takesTime m time ≡ true → time ≤ lastTime
 unfolding takesTime
 takes-last m time e = leb-le time lastTime (and-right _ _ e)
 
 module _ {lim : Limits} {d : Dag} (m : Machine) (F : Facts lim d m) (time : ℕ) where
-  abbrev tables : Machine
-  tables = withTables (map (wokenBy time) (m .tokens)) (m .cells) m
-
-  abbrev ordered : Machine
-  ordered = withOrders (queueOf m ++ joining m time) (waitsOf m) tables
-
   pub advanced-facts : takesTime m time ≡ true → Facts lim d (advanced m time)
   unfolding advanced withClock withTimers withOrders withTables
   advanced-facts e =
@@ -105,8 +109,8 @@ module _ {lim : Limits} {d : Dag} (m : Machine) (F : Facts lim d m) (time : ℕ)
         queue = queueOf m ++ joining m time;
         waits = waitsOf m;
         timers = staying m time;
-        orders = orders-clock (orders-timers (orders-with (queueOf m ++ joining m time) (waitsOf m) tables) (staying m time)) time;
-        timed = timers-clock (timers-with (staying m time) ordered) time;
+        orders = advanced-orders m time;
+        timed = advanced-timers m time;
         lines =
             lines-woken m time (F .timed)
             (subst (λ q. Lines (m .tokens) q (waitsOf m) (F .timers)) (sym (queue-is (F .orders)))

@@ -11,23 +11,26 @@ use lib.ListN.{length, getD, set, take, drop, replicate, length-append, length-r
 use lib.Seq.{getD-set-other, take-append-seam}
 use lib.Dec.{eqb, ltb}
 use Rattle.job.specs.Test.{forAll, allFrom, select, padded, occurrences, once, without}
+use Rattle.job.specs.Node.{Dag}
+use Rattle.model.specs.Machine.Limits.{Limits}
 use Rattle.model.specs.Machine.Blank.{blankToken, tokenAt}
 use Rattle.model.specs.Machine.Active.{within}
 use Rattle.model.specs.Machine.InUse.{marked}
 use Rattle.model.specs.Machine.Rules.{namesOnce}
 use Rattle.model.specs.Machine.State.{isReady, isWaiting, isDue, waitsAt}
-use Rattle.model.specs.Machine.Update.{withState}
+use Rattle.model.specs.Machine.Update.{withState, queueOf, waitsOf, timersOf}
 use Rattle.model.specs.Machine.Step.{chokeToken}
 use Rattle.model.specs.declared.token.State.{State}
 use Rattle.model.specs.declared.token.State.the-variants as states
 use Rattle.model.specs.declared.token.Token.{Token}
 use Rattle.model.specs.declared.cell.Cell.{Cell}
-use Rattle.job.proofs.Test.{clash, false-of, eqb-same, eqb-eq, eq-eqb, ne-eqb, lt-ltb, le-leb, and-both, all-head, all-tail, once-true}
+use Rattle.model.specs.declared.record.Machine.{Machine}
+use Rattle.job.proofs.Test.{clash, false-of, eqb-same, eqb-eq, eq-eqb, ne-eqb, lt-ltb, ltb-lt, le-leb, and-both, all-head, all-tail}
 use Rattle.model.proofs.Machine.Marks.{Free, marked-le-length, marked-set-free}
-use Rattle.model.proofs.Machine.Rules.{occurrences-here, ready-state}
+use Rattle.model.proofs.Machine.Rules.{EachRuleHolds, NamesOnce, names-once, occurrences-here, ready-state}
 use Rattle.model.proofs.Machine.Selected.{occurrences-select}
 use Rattle.model.proofs.Machine.Choke.{choke-at, choke-ends, woken, choke-spares}
-use Rattle.job.proofs.Test.{once-small, occurrences-append, occurrences-more}
+use Rattle.job.proofs.Test.{once-true, once-small, occurrences-append, occurrences-more}
 use Rattle.model.proofs.Machine.TableRows.{token-same, token-other, token-outside}
 
 -- a line in which no place stands twice takes a free mark for each of its places
@@ -129,6 +132,23 @@ module _ (of : State → Bool) (none : of states.Blank ≡ false) (ts : List Tok
         (all-from-at _ 0 ts blankToken (λ i k. eq-eqb _ _ (ap (λ x. occurrences x l) (let z : 0 + i ≡ i = omega arith in z) ∙ h i))))
         (subst (λ x. forAll (eqb 0) x ≡ true) (sym (drop-seam l rest)) (all-zero (length ts - length l))))))
 
+-- what the index rules test of an order, of every place: behind the table there is no token, and no name
+pub names-of : (of : State → Bool) → of states.Blank ≡ false → (ts : List Token) (array : List ℕ) (n : ℕ)
+    → namesOnce of ts array n ≡ true → Names of ts (take n array)
+names-of of none ts array n e r = go (decLt r (length ts))
+  where
+    o : NamesOnce of ts array n
+    o = names-once of ts array n e
+
+    go : Dec (r < length ts) → occurrences r (take n array) ≡ once (of (tokenAt ts r .state))
+    go (yes l) = o .counts r l
+    go (no f) = absent (decLt 0 (occurrences r (take n array))) ∙ sym (outside of none ts r (omega arith))
+      where
+        absent : Dec (0 < occurrences r (take n array)) → occurrences r (take n array) ≡ 0
+        absent (yes l) =
+            absurd (f (ltb-lt r (length ts) (counted-tested (λ (p : ℕ). ltb p (length ts)) (take n array) (o .inside) r l)))
+        absent (no g) = omega arith
+
 -- the three lines
 pub record Lines (ts : List Token) (queue waits timers : List ℕ) : Type 0 where
   pub ready : Names isReady ts queue
@@ -140,6 +160,36 @@ pub record Taken (ts : List Token) (p : ℕ) (queue waits timers : List ℕ) : T
   pub ready : (r : ℕ) → occurrences r queue + once (eqb r p) ≡ once (isReady (tokenAt ts r .state))
   pub waiting : Names isWaiting ts waits
   pub due : Names isDue ts timers
+
+-- a record that keeps the rules has them
+pub rules-lines : (lim : Limits) (d : Dag) (m : Machine) → EachRuleHolds lim d m
+    → Lines (m .tokens) (queueOf m) (waitsOf m) (timersOf m)
+unfolding queueOf waitsOf timersOf isReady isWaiting isDue
+rules-lines lim d m rules =
+    record {
+      ready = names-of isReady refl (m .tokens) (m .queue) (m .queued) (rules .queue);
+      waiting = names-of isWaiting refl (m .tokens) (m .waits) (m .waiting) (rules .waits);
+      due = names-of isDue refl (m .tokens) (m .timers) (m .timed) (rules .timers);
+    }
+
+-- no token is ready, waits and is due later in one, so no place stands in two lines
+kind-apart : (s : State) → once (isReady s) + once (isWaiting s) + once (isDue s) ≤ 1
+unfolding isReady isWaiting isDue
+kind-apart states.Blank = omega arith
+kind-apart states.Ready = omega arith
+kind-apart (states.Waiting c) = omega arith
+kind-apart (states.Called h) = omega arith
+kind-apart (states.Due d) = omega arith
+kind-apart states.Frame = omega arith
+
+pub lines-apart : {ts : List Token} {queue waits timers : List ℕ} → Lines ts queue waits timers
+    → (r : ℕ) → occurrences r queue + occurrences r waits + occurrences r timers ≤ 1
+lines-apart {ts} l r =
+    let a = l .ready r in
+    let b = l .waiting r in
+    let c = l .due r in
+    let k = kind-apart (tokenAt ts r .state) in
+    omega arith
 
 occurrences-without : (l : List ℕ) (i r : ℕ) → i < length l → occurrences r (without i l) + once (eqb r (getD l i 0)) ≡ occurrences r l
 unfolding occurrences without

@@ -10,9 +10,9 @@ use lib.ListN.{getD, List·getD-map}
 use lib.Dec.{leb, eqb}
 use Rattle.job.specs.Test.{select, occurrences, once}
 use Rattle.model.specs.Machine.Blank.{blankToken, tokenAt}
-use Rattle.model.specs.Machine.State.{dueTimeOf}
 use Rattle.model.specs.Machine.Update.{timersOf}
 use Rattle.model.specs.Machine.Clock.{wokenBy, insertByTime, sortByTime, placeDueBy, joining, staying}
+use Rattle.model.specs.Machine.Waking.{Ascending, none, single, next, dueAt, dueThen}
 use Rattle.model.specs.declared.token.Token.{Token}
 use Rattle.model.specs.declared.record.Machine.{Machine}
 use Rattle.job.proofs.Test.{eqb-eq, leb-le, not-leb-lt}
@@ -22,12 +22,6 @@ use Rattle.model.proofs.Machine.WrittenTokens.{woken-blank}
 pub woken-at : (time : ℕ) (ts : List Token) (r : ℕ) → tokenAt (map (wokenBy time) ts) r ≡ wokenBy time (tokenAt ts r)
 unfolding tokenAt
 woken-at time ts r = ap (getD (map (wokenBy time) ts) r) (sym (woken-blank time)) ∙ List·getD-map (wokenBy time) ts r blankToken
-
--- Places, each with a time: ascending in it
-pub data Ascending (time : ℕ → ℕ) : List ℕ → Type 0 where
-  none : Ascending time []
-  single : {p : ℕ} → Ascending time (p ∷ [])
-  next : {p q : ℕ} {l : List ℕ} → time p ≤ time q → Ascending time (q ∷ l) → Ascending time (p ∷ q ∷ l)
 
 module _ (time : ℕ → ℕ) where
   -- p put in front of q and l, or behind q
@@ -118,24 +112,19 @@ module _ (time : ℕ → ℕ) where
 
 -- Those that join the queue, and those that stay in the order of call
 module _ (m : Machine) (time : ℕ) where
-  -- the due time of the token at a place
-  abbrev pub dueAt : ℕ → ℕ
-  dueAt p = dueTimeOf (tokenAt (m .tokens) p .state)
-
-  pub joining-ascends : Ascending dueAt (joining m time)
+  pub joining-ascends : Ascending (dueAt m) (joining m time)
   unfolding joining
-  joining-ascends = sort-ascends dueAt (select (placeDueBy m time) (timersOf m))
+  joining-ascends = sort-ascends (dueAt m) (select (placeDueBy m time) (timersOf m))
 
-  pub joining-stable : (due : ℕ)
-      → select (λ p. eqb (dueAt p) due) (joining m time) ≡ select (λ p. eqb (dueAt p) due) (select (placeDueBy m time) (timersOf m))
+  pub joining-stable : (due : ℕ) → dueThen m due (joining m time) ≡ dueThen m due (select (placeDueBy m time) (timersOf m))
   unfolding joining
-  joining-stable due = sort-stable dueAt due (select (placeDueBy m time) (timersOf m))
+  joining-stable due = sort-stable (dueAt m) due (select (placeDueBy m time) (timersOf m))
 
   -- each joins or stays, as often as it was called
   pub join-or-stay : (p : ℕ) → occurrences p (joining m time) + occurrences p (staying m time) ≡ occurrences p (timersOf m)
   unfolding joining staying
   join-or-stay p =
-      let a = sort-occurrences dueAt p (select (placeDueBy m time) (timersOf m)) in
+      let a = sort-occurrences (dueAt m) p (select (placeDueBy m time) (timersOf m)) in
       let b = occurrences-parted (placeDueBy m time) p (timersOf m) in
       omega arith
 

@@ -3,7 +3,7 @@
 -- under. Assumes nothing.
 use mathlib.Core.Path.{_≡_, refl, sym, _∙_, ap, subst}
 use mathlib.Core.Bool.{Bool, true, false, not}
-use mathlib.Core.List.{List, [], _∷_, _++_, map}
+use mathlib.Core.List.{List, _∷_, _++_, map}
 use Prim.Native.Nat.{ℕ, suc, _+_, _<_}
 use native.Mathlib.Decide.{ℕ-discrete}
 use native.Mathlib.Omega.{arith}
@@ -27,6 +27,7 @@ use Rattle.model.specs.declared.token.Token.{Token}
 use Rattle.model.specs.declared.cell.Cell.{Cell}
 use Rattle.model.specs.declared.record.Machine.{Machine}
 use Rattle.job.proofs.Test.{clash, ne-eqb, not-true, occurrences-append}
+use Rattle.model.proofs.Machine.Selected.{occurrences-kept, occurrences-dropped}
 use Rattle.model.proofs.Machine.Choke.{choke-at, choke-ends, woken, choke-spares}
 use Rattle.simulation.proofs.AbstractMachine as Abstract
 use Rattle.simulation.proofs.AbstractMachine.{Binding, Frame, at, Store, withSet, isOutOf, outOf, actsAt}
@@ -62,28 +63,6 @@ woken-state c (ready v) e = ready v
 woken-state c (waiting f v) e = ready (value-optional f v)
 woken-state c called e = clash e refl
 woken-state c due e = clash e refl
-
--- which places stay in a list
-module _ (test : ℕ → Bool) (r : ℕ) where
-  filtered-out : (A : List ℕ) → test r ≡ false → occurrences r (select test A) ≡ 0
-  unfolding occurrences select
-  filtered-out [] e = refl
-  filtered-out (p ∷ A) e = go (test p) refl (filtered-out A e)
-    where
-      go : (b : Bool) → test p ≡ b → occurrences r (select test A) ≡ 0
-          → occurrences r (elim b as (λ b. List ℕ) [ true ↦ p ∷ select test A | false ↦ select test A ]) ≡ 0
-      go true q h = let y : once (eqb r p) ≡ 0 = ap once (ne-eqb r p (λ x. clash (ap test x ∙ q) e)) in omega arith
-      go false q h = h
-
-  filtered-in : (A : List ℕ) → test r ≡ true → occurrences r (select test A) ≡ occurrences r A
-  unfolding occurrences select
-  filtered-in [] e = refl
-  filtered-in (p ∷ A) e = go (test p) refl (filtered-in A e)
-    where
-      go : (b : Bool) → test p ≡ b → occurrences r (select test A) ≡ occurrences r A
-          → occurrences r (elim b as (λ b. List ℕ) [ true ↦ p ∷ select test A | false ↦ select test A ]) ≡ once (eqb r p) + occurrences r A
-      go true q h = omega arith
-      go false q h = let y : once (eqb r p) ≡ 0 = ap once (ne-eqb r p (λ x. clash e (ap test x ∙ q))) in omega arith
 
 -- the cell at place c, with the name i, gets the value v
 module _ (M : Labels) (W : World) (c i : ℕ) (s : CellSeen W c i) (w : Held) (v : ℤ) (e : w ≡ helds.Value v) where
@@ -225,7 +204,7 @@ module _ (M : Labels) (W : World) (c i : ℕ) (s : CellSeen W c i) (w : Held) (v
         go : (b : Bool) → inCell (tokenAt (W .tokens) r) ≡ b
             → occurrences r (select stays (o .before ++ o .behind)) ≡ once (isLive (tokenAt (chokedWorld .tokens) r .state))
         go true f =
-            filtered-out stays r (o .before ++ o .behind) (ap not f)
+            occurrences-dropped stays r (o .before ++ o .behind) (ap not f)
             ∙ sym (ap alive (choke-at (W .cells) c (W .tokens) r ∙ choke-ends (W .cells) c (tokenAt (W .tokens) r) f))
         go false f =
             let a = occurrences-append r (o .before) (o .behind) in
@@ -233,7 +212,7 @@ module _ (M : Labels) (W : World) (c i : ℕ) (s : CellSeen W c i) (w : Held) (v
             let g : once (eqb r p) ≡ 0 = ap once (ne-eqb r p (λ x. clash (ap (λ y. inCell (tokenAt (W .tokens) y)) x ∙ ends) f)) in
             let h : alive (tokenAt (chokedWorld .tokens) r) ≡ alive (tokenAt (W .tokens) r) =
             ap alive (spared r f) ∙ ap once (woken-live c (tokenAt (W .tokens) r)) in
-            let k = filtered-in stays r (o .before ++ o .behind) (ap not f) in
+            let k = occurrences-kept stays r (o .before ++ o .behind) (ap not f) in
             omega arith
 
     pub choke-core : Core M chokedWorld (select stays (o .before ++ o .behind)) (outOf i (L ++ R))
