@@ -4,6 +4,7 @@ use mathlib.Core.Path.{_≡_, refl, sym, _∙_, ap, subst}
 use mathlib.Core.Logic.{_⊎_, inl, inr}
 use mathlib.Core.Bool.{Bool, true, false}
 use mathlib.Core.List.{List, [], _∷_, map}
+use mathlib.Core.Option.{Option}
 use Prim.Native.Nat.{ℕ, zero, suc, _+_}
 use native.Mathlib.Decide.{ℕ-discrete}
 use lib.ListN.{getD, set}
@@ -14,15 +15,16 @@ use Rattle.job.specs.Node.{Dag, bodyAt}
 use Rattle.job.specs.Words.{dagOf}
 use Rattle.model.specs.Machine.Blank.{blankToken, blankMachine, tokenAt}
 use Rattle.model.specs.Machine.Limits.{paper}
-use Rattle.model.specs.Machine.Reply.{Effect, unless, outcome, accepted}
-use Rattle.job.specs.Site.{BuiltinReply, gives, silent, isBuiltin, builtin}
+use Rattle.model.specs.Machine.Reply.{Effect, moves, unless, outcome, accepted}
+use Rattle.job.specs.Site.{BuiltinReply, gives, silent, later, isBuiltin, builtin}
 use Rattle.model.specs.Machine.Rules.{rulesHold}
 use Rattle.model.specs.Machine.Answer as Answer
 use Rattle.model.specs.Machine.Answer.{holder}
+use Rattle.model.specs.Machine.Clock as Clock
 use Rattle.model.specs.Machine.Start.{startToken, startMachine}
 use Rattle.model.specs.Machine.Step as Step
 use Rattle.model.specs.Machine.Update.{put, withTables, withOrders, withCounts, enqueue, newToken, newCell, withNode, withBinding}
-use Rattle.model.specs.Machine.Update.{withValue, withState, inCell}
+use Rattle.model.specs.Machine.Update.{withValue, withState, inCell, withTimers, withClock}
 use Rattle.model.specs.Machine.Step.{act}
 use Rattle.model.specs.Machine.Step.{LookUpResult, values, unset, chokeToken, afterChoke}
 use Rattle.model.specs.declared.cell.Cell.{Cell}
@@ -34,7 +36,9 @@ use Rattle.model.specs.declared.token.Place.the-variants as places
 use Rattle.model.specs.declared.token.Slot.the-variants as slots
 use Rattle.model.specs.declared.token.State.the-variants as states
 use Rattle.model.specs.declared.token.Token.{Token}
+use Rattle.model.proofs.Machine.Deferred.{deferred-cases}
 use Rattle.model.proofs.Machine.WrittenTokens.{Choked, ends, wakes, stays, choked-cases}
+use Rattle.model.proofs.Machine.WrittenTokens.{Woken, woken-cases}
 use Rattle.record.specs.Changes.{dequeued}
 use Rattle.sites.specs.Row.{nodeIn, paramsAt}
 use Rattle.acts.specs.Acting.{Acting}
@@ -52,6 +56,14 @@ choked-names cs c f t e = go (choked-cases cs c t) e
     go ends e = absurd (nowhere-at f e)
     go (wakes w) e = unfold withState in e
     go stays e = e
+
+-- a woken token has the caller that it had
+woken-names : (time f : ℕ) (t : Token) → Clock.wokenBy time t .caller ≡ places.At f → t .caller ≡ places.At f
+woken-names time f t e = go (woken-cases time t) e
+  where
+    go : {u : Token} → Woken time t u → u .caller ≡ places.At f → t .caller ≡ places.At f
+    go (Woken.wakes w) e = unfold withState withValue in e
+    go (Woken.stays w) e = e
 
 mapped-names : (f : ℕ) (g : Token → Token) → ((t : Token) → g t .caller ≡ places.At f → t .caller ≡ places.At f) → (ts : List Token) (i : ℕ)
     → tokenAt (map g ts) i .caller ≡ places.At f → tokenAt ts i .caller ≡ places.At f
@@ -83,10 +95,18 @@ module _ (s : List Bool) {ws dag : List ℕ} {used cells : List Bool} {place p a
   unfolding withOrders
   gone = blank-callees s m n refl p
 
+  -- rwait: the token ends, goes on or is due later
+  deferred-callees : (next : ℕ) (due : Option ℕ) → After (NoNewCallee s m) (Step.deferred n p t next due)
+  unfolding After Step.goesOn Step.ended enqueue withOrders withTimers
+  deferred-callees next due =
+      deferred-cases n p t next (λ o e. After (NoNewCallee s m) e) gone (λ d l. anew _ (unfold withNode withValue in refl))
+      (λ d l. anew _ (unfold withNode withState in refl)) due
+
   replied-callees : (next : ℕ) (r : BuiltinReply) → After (NoNewCallee s m) (Step.replied n p t next r)
   unfolding After Step.replied Step.goesOn Step.ended enqueue withOrders
   replied-callees next (gives v) = anew _ (unfold withNode withValue in refl)
   replied-callees next silent = gone
+  replied-callees next (later time) = deferred-callees next _
 
   site-callees : (site next : ℕ) (r : LookUpResult) → After (NoNewCallee s m) (Step.callSite paper n p t site next r)
   unfolding Step.callSite
@@ -107,7 +127,7 @@ module _ (s : List Bool) {ws dag : List ℕ} {used cells : List Bool} {place p a
       go false = out _
 
   choke-callees : (q : Place) → After (NoNewCallee s m) (Step.chokeAt n t q)
-  unfolding After Step.chokeAt afterChoke withOrders withTables
+  unfolding After Step.chokeAt afterChoke withOrders withTimers withTables
   choke-callees places.Nowhere = tt
   choke-callees (places.At c) = λ f i e. mapped-names f _ (choked-names (m .cells) c f) (m .tokens) i
 
@@ -275,6 +295,19 @@ answer-keeps s d m h v one = effect-callees s m _ (tested (rulesHold paper d m))
     tested : (b : Bool) → After (NoNewCallee s m) (unless b 14 (Answer.answered m v (holder h 0 (m .tokens))))
     tested true = unfold unless in given _
     tested false = unfold unless After in tt
+
+-- and so does a clock move
+pub advance-keeps : (s : List Bool) (d : Dag) (m : Machine) (time : ℕ) → OneCallee s m
+    → OneCallee s (Clock.advance paper d m time .machine)
+unfolding Clock.advance
+advance-keeps s d m time one = effect-callees s m _ (tested (rulesHold paper d m) (Clock.takesTime m time)) one
+  where
+    tested : (a b : Bool) → After (NoNewCallee s m) (unless a 14 (unless b 15 (moves (Clock.advanced m time))))
+    tested true true =
+        unfold unless After Clock.advanced withClock withTimers withOrders withTables in
+        λ f i e. mapped-names f _ (woken-names time f) (m .tokens) i
+    tested true false = unfold unless After in tt
+    tested false b = unfold unless After in tt
 
 -- and at a start nobody has one
 pub start-callees : (s : List Bool) (goal : ℕ) → OneCallee s (startMachine paper goal)

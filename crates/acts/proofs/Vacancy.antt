@@ -12,7 +12,7 @@ use Rattle.model.specs.Machine.Limits.{paper}
 use Rattle.model.specs.declared.record.Machine.{Machine}
 use Rattle.model.specs.declared.token.Token.{Token}
 use Rattle.model.specs.Machine.Step as Step
-use Rattle.model.specs.Machine.Update.{withTables, withOrders}
+use Rattle.model.specs.Machine.Update.{withTables, withOrders, withTimers}
 use Rattle.model.specs.Machine.Step.{afterChoke}
 use Rattle.model.specs.declared.token.Held.{Held}
 use Rattle.model.specs.declared.token.Place.the-variants as places
@@ -59,7 +59,7 @@ module _ {ws dag : List ℕ} {used cells : List Bool} {place p : ℕ} {m : Machi
 pub choke-vacant : {ws dag : List ℕ} {used cells : List Bool} {place p : ℕ} {m : Machine} → Taking ws used cells dag place p m
     → (c : ℕ) (v : Held)
     → tokenAt (m .tokens) p .cell ≡ places.At c → Vacant (afterChoke c v (dequeued m place)) used cells
-unfolding afterChoke withTables withOrders cellAt
+unfolding afterChoke withTables withTimers withOrders cellAt
 choke-vacant {ws} {dag} {used} {cells} {place} {p} {m} a c v e =
     record {
       tokens = λ i l f. choke-at (m .cells) c (m .tokens) i ∙ ap (Step.chokeToken (m .cells) c) (free-token (a .lawful) i f)

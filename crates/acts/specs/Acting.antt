@@ -75,3 +75,8 @@ plain r = record { reply = r; values = reportValues [] }
 abbrev pub answerReport : Bool → Report
 answerReport true = plain replies.Done
 answerReport false = plain (replies.Refused (refusalOf 12))
+
+-- a clock move's, by whether it took the time
+abbrev pub advanceReport : Bool → Report
+advanceReport true = plain replies.Done
+advanceReport false = plain (replies.Refused (refusalOf 15))

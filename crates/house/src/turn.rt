@@ -12,11 +12,8 @@ ghost use Rattle.acts.specs.SharedFrames.{OneCallee};
 ghost use Rattle.turns.specs.Turn.{turnOutcome};
 ghost use Rattle.house.specs.TurnLeaves.{TurnLeaves, goesOn};
 use job::dag::WORDS;
-use lines::report::show_refused;
 use lines::report::show_reply;
 use model::record::Machine;
-use model::reply::Refusal;
-use model::reply::number_of;
 use reach::marks::few_or_all;
 use turns::deliver::deliver;
 use turns::reply::has_line;
@@ -29,7 +26,7 @@ pub(crate) struct TurnEnd {
     pub over: bool,
 }
 
-// "With the queue empty it delivers a record"; a refused answer doesn't end the run.
+// "With the queue empty it delivers a record"; a refused answer or clock move doesn't end the run.
 pub(crate) fn deliver_turn(
     w: &mut [u32; Machine::WORDS],
     tokens: &[bool; Machine::TOKENS],
@@ -46,10 +43,11 @@ pub(crate) fn deliver_turn(
         (now (output .entry)) from total (now (output .exit)) (goesOn r)) ⌝ }
 {
     let end = few_or_all(tokens, Machine::TOKENS);
-    if deliver(w, rest, at, end) {
-        return total;
+    let reply = deliver(w, rest, at, end);
+    if has_line(reply) {
+        return show_reply(reply, [0; 4], output, from, total);
     }
-    show_refused(number_of(Refusal::NotOpen), output, from, total)
+    total
 }
 
 // "It runs house order"; "a refused step ends the run".

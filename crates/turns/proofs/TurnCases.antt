@@ -8,12 +8,12 @@ use native.Mathlib.Numerals.{add-one}
 use native.Mathlib.Omega.{arith}
 use lib.ListN.{take, drop}
 use lib.Dec.{eqb, ltb}
-use Rattle.job.specs.Number.{number, signed}
+use Rattle.job.specs.Number.{number}
 use Rattle.job.specs.Node.{Dag}
 use Rattle.model.specs.Machine.Limits.{paper}
 use Rattle.model.specs.Machine.Reply.{isRefused}
 use Rattle.model.specs.Machine.Step as Step
-use Rattle.model.specs.Machine.Answer as Answer
+use Rattle.model.specs.Output.Orcrun.{delivered}
 use Rattle.model.specs.declared.record.Machine.{Machine}
 use Rattle.model.specs.declared.reply.Reply.{Reply}
 use Rattle.model.specs.declared.reply.Outcome.{Outcome}
@@ -65,7 +65,7 @@ module _ (queued : ℕ) where
 
 module _ (d : Dag) (m : Machine) (rest : List ℕ) (at : ℕ) (o : Outcome) where
   pub turn-empty : m .queued ≡ 0
-      → o ≡ Answer.answer paper d m (number (take 4 (drop at rest))) (signed (number (take 4 (drop (at + 4) rest))))
+      → o ≡ delivered paper d m (number (take 4 (drop at rest))) (number (take 4 (drop (at + 4) rest)))
       → o ≡ turnOutcome d m rest at
   unfolding turnOutcome
   turn-empty e q = q ∙ rw (eq-eqb (m .queued) 0 e, turnOutcome) refl

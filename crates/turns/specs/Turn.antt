@@ -4,12 +4,12 @@ use mathlib.Core.List.{List}
 use Prim.Native.Nat.{ℕ, suc, _+_}
 use lib.ListN.{take, drop}
 use lib.Dec.{eqb, ltb}
-use Rattle.job.specs.Number.{number, signed}
+use Rattle.job.specs.Number.{number}
 use Rattle.job.specs.Node.{Dag}
 use Rattle.model.specs.Machine.Limits.{paper}
 use Rattle.model.specs.Machine.Reply.{isRefused}
 use Rattle.model.specs.Machine.Step as Step
-use Rattle.model.specs.Machine.Answer as Answer
+use Rattle.model.specs.Output.Orcrun.{delivered}
 use Rattle.model.specs.declared.record.Machine.{Machine}
 use Rattle.model.specs.declared.reply.Reply.{Reply}
 use Rattle.model.specs.declared.reply.Reply.the-variants as replies
@@ -23,7 +23,7 @@ isLast queued left = elim (eqb queued 0) [ true ↦ ltb left 8 | false ↦ false
 unfoldable pub isLimit : (queued steps : ℕ) → Bool
 isLimit queued steps = elim (eqb queued 0) [ true ↦ false | false ↦ eqb steps 100000 ]
 
--- "a refused step ends the run, a refused answer doesn't"
+-- "a refused step ends the run, a refused answer doesn't", nor does a refused clock move
 unfoldable pub isOver : (queued : ℕ) → Reply → Bool
 isOver queued r = elim (eqb queued 0) [ true ↦ false | false ↦ isRefused r ]
 
@@ -39,7 +39,7 @@ hasLine (replies.Refused r) = true
 unfoldable pub turnOutcome : Dag → Machine → (rest : List ℕ) (at : ℕ) → Outcome
 turnOutcome d m rest at =
     elim (eqb (m .queued) 0) [
-      | true ↦ Answer.answer paper d m (number (take 4 (drop at rest))) (signed (number (take 4 (drop (at + 4) rest))))
+      | true ↦ delivered paper d m (number (take 4 (drop at rest))) (number (take 4 (drop (at + 4) rest)))
       | false ↦ Step.step paper d m 0
     ]
 

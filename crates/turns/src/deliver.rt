@@ -4,26 +4,40 @@ ghost use mathlib.Core.List.{List};
 ghost use Prim.Native.Nat.{ℕ, _+_, _≤_};
 ghost use lib.ListN.{length, take, drop};
 ghost use Rattle.job.specs.Words.{dagOf};
-ghost use Rattle.model.specs.Machine.Answer as Answer;
 ghost use Rattle.model.specs.Machine.Limits.{paper};
-ghost use Rattle.job.specs.Number as Number;
 ghost use Rattle.job.specs.Number.{number};
+ghost use Rattle.model.specs.Output.Orcrun.{delivered};
 ghost use Rattle.model.specs.declared.record.Machine.{Machine};
 ghost use Rattle.reach.specs.Marks.{BlankFrom};
-ghost use Rattle.acts.specs.Acting.{Lawful, Gives, answerReport};
+ghost use Rattle.acts.specs.Acting.{Lawful, Gives, plain};
 use model::record::Machine;
+use model::reply::Refusal;
+use model::reply::Reply;
 use reader::entry::word_at;
 use sites::number::signed;
+use unchecked::advance::move_to;
 use unchecked::answer::resume;
 
-// Delivers the record at an index: "handle and signed value, each little-endian". Was its handle open? From the end on no token is in use.
-pub fn deliver(w: &mut [u32; Machine::WORDS], rest: &[u8], at: usize, end: usize) -> bool
+// "A record with handle 4294967295 names the time."
+const CLOCK_HANDLE: u32 = 4294967295;
+
+// Delivers the record at an index: "handle and signed value, each little-endian", or the time. From the end on no token is in use.
+pub fn deliver(w: &mut [u32; Machine::WORDS], rest: &[u8], at: usize, end: usize) -> Reply
     requires { ⌜ (at + 8 ≤ length (now rest)) × (end ≤ 64) ⌝ }
     ensures { λ r. ⌜ ((m : Machine) (dag : List ℕ) (used cells : List Bool) → Lawful (now (w .entry)) used cells dag m → BlankFrom m end
-        → Gives (Answer.answer paper (dagOf dag) m (number (take 4 (drop at (now (rest .entry)))))
-        (Number.signed (number (take 4 (drop (at + 4) (now (rest .entry))))))) m (now (w .exit)) used cells (answerReport r)) ⌝ }
+        → Gives (delivered paper (dagOf dag) m (number (take 4 (drop at (now (rest .entry)))))
+        (number (take 4 (drop (at + 4) (now (rest .entry)))))) m (now (w .exit)) used cells (plain r)) ⌝ }
 {
     let handle = word_at(rest, at);
-    let value = signed(word_at(rest, at + 4));
-    resume(w, handle, value, end)
+    let value = word_at(rest, at + 4);
+    if handle == CLOCK_HANDLE {
+        if move_to(w, value) {
+            return Reply::Done;
+        }
+        return Reply::Refused(Refusal::WrongTime);
+    }
+    if resume(w, handle, signed(value), end) {
+        return Reply::Done;
+    }
+    Reply::Refused(Refusal::NotOpen)
 }

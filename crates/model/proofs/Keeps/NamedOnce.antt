@@ -63,7 +63,7 @@ all-counted test (x ∷ l) h =
     and-both (h x (let z = occurrences-here x l in omega arith))
     (all-counted test l (λ r k. h r (let z = occurrences-more r x l in omega arith)))
 
-counted-tested : (test : ℕ → Bool) (l : List ℕ) → forAll test l ≡ true → (r : ℕ) → 0 < occurrences r l → test r ≡ true
+pub counted-tested : (test : ℕ → Bool) (l : List ℕ) → forAll test l ≡ true → (r : ℕ) → 0 < occurrences r l → test r ≡ true
 unfolding occurrences
 counted-tested test [] e r k = absurd (omega arith)
 counted-tested test (x ∷ l) e r k = go (eqb r x) refl (λ j. counted-tested test l (all-tail test x l e) r j)
@@ -99,14 +99,14 @@ module _ (of : State → Bool) (none : of states.Blank ≡ false) (ts : List Tok
   outside r l = ap (λ (t : Token). once (of (t .state))) (token-outside ts r l) ∙ ap once none
 
   module _ (l : List ℕ) (h : Names of ts l) where
-    inside : (r : ℕ) → 0 < occurrences r l → r < length ts
+    pub inside : (r : ℕ) → 0 < occurrences r l → r < length ts
     inside r k = go (decLt r (length ts))
       where
         go : Dec (r < length ts) → r < length ts
         go (yes i) = i
         go (no f) = let z = outside r (omega arith) in let y = h r in absurd (omega arith)
 
-    short : length l ≤ length ts
+    pub short : length l ≤ length ts
     short =
         let z = length-replicate (length ts) false in
         let y =
@@ -191,7 +191,7 @@ lines-apart {ts} l r =
     let k = kind-apart (tokenAt ts r .state) in
     omega arith
 
-occurrences-without : (l : List ℕ) (i r : ℕ) → i < length l → occurrences r (without i l) + once (eqb r (getD l i 0)) ≡ occurrences r l
+pub occurrences-without : (l : List ℕ) (i r : ℕ) → i < length l → occurrences r (without i l) + once (eqb r (getD l i 0)) ≡ occurrences r l
 unfolding occurrences without
 occurrences-without [] i r h = absurd (omega arith)
 occurrences-without (x ∷ l) zero r h = omega arith
@@ -203,7 +203,7 @@ take-out {queue = queue} i h l =
     record { ready = λ r. occurrences-without queue i r h ∙ l .ready r; waiting = l .waiting; due = l .due }
 
 -- a place is written: its count is what the token asks, the others' counts are what they were
-written-names : (of : State → Bool) (ts : List Token) (p : ℕ) (u : Token) (l : List ℕ) → p < length ts
+pub written-names : (of : State → Bool) (ts : List Token) (p : ℕ) (u : Token) (l : List ℕ) → p < length ts
     → occurrences p l ≡ once (of (u .state))
     → ((r : ℕ) → (r ≡ p → ⊥) → occurrences r l ≡ once (of (tokenAt ts r .state))) → Names of (set ts p u) l
 written-names of ts p u l i here there r = go (ℕ-discrete r p)

@@ -129,11 +129,11 @@ module _ (lim : Limits) (most : ℕ) (d : Dag) where
       }
 
   -- a record: a clock move or an answer, by its handle
-  moves-clock : (m : Machine) (h v : ℕ) → h ≡ clockHandle → delivered lim d m h v ≡ Clock.advance lim d m v
+  pub moves-clock : (m : Machine) (h v : ℕ) → h ≡ clockHandle → delivered lim d m h v ≡ Clock.advance lim d m v
   unfolding delivered
   moves-clock m h v e = rw (eq-eqb h clockHandle e, delivered) refl
 
-  answers : (m : Machine) (h v : ℕ) → (h ≡ clockHandle → ⊥) → delivered lim d m h v ≡ Answer.answer lim d m h (signed v)
+  pub answers : (m : Machine) (h v : ℕ) → (h ≡ clockHandle → ⊥) → delivered lim d m h v ≡ Answer.answer lim d m h (signed v)
   unfolding delivered
   answers m h v n = rw (ne-eqb h clockHandle n, delivered) refl
 
