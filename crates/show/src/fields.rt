@@ -1,5 +1,5 @@
 // A record as lines. Of a record every field is shown that is not blank; of words that are no record's every one that is not 0.
-ghost use Prim.Native.Nat.{_<_};
+ghost use Prim.Native.Nat.{_<_, _≤_};
 use coded::word_tests::is_record;
 use console::print::number;
 use console::print::put;
@@ -10,10 +10,14 @@ use record::cell;
 use record::count;
 use record::layout::BLANK_STATE;
 use record::layout::CALLED_STATE;
+use record::layout::DUE_STATE;
 use record::layout::EMPTY_SLOT;
+use record::layout::QUEUE_START;
 use record::layout::READY_STATE;
+use record::layout::TIMERS_START;
 use record::layout::VALUE_SLOT;
 use record::layout::WAITING_STATE;
+use record::layout::WAITS_START;
 use record::order;
 use record::token;
 use row_rules::blank::cell_is_blank;
@@ -30,6 +34,10 @@ fn state(kind: u32, at: u32) {
         }
         CALLED_STATE => {
             put(b" called");
+            number(at as u64);
+        }
+        DUE_STATE => {
+            put(b" due");
             number(at as u64);
         }
         _ => put(b" frame"),
@@ -133,26 +141,23 @@ fn name(word: u32, i: usize, count: u32) {
     }
 }
 
-fn queue(w: &[u32; Machine::WORDS]) {
-    let count = order::queued(w);
-    put(b"  queue");
+// An order: how many names count, and the 64 words from its start on.
+fn show_order(w: &[u32; Machine::WORDS], title: &[u8], start: usize, count: u32)
+    requires { ⌜ start ≤ 1797 ⌝ }
+{
+    put(title);
     number(count as u64);
     put(b":");
     for i in 0..Machine::TOKENS {
-        name(order::queue_name(w, i), i, count);
+        name(w[start + i], i, count);
     }
     put(b"\n");
 }
 
-fn waits(w: &[u32; Machine::WORDS]) {
-    let count = order::waiting(w);
-    put(b"  waits");
-    number(count as u64);
-    put(b":");
-    for i in 0..Machine::TOKENS {
-        name(order::wait_name(w, i), i, count);
-    }
-    put(b"\n");
+fn orders(w: &[u32; Machine::WORDS]) {
+    show_order(w, b"  queue", QUEUE_START, order::queued(w));
+    show_order(w, b"  waits", WAITS_START, order::waiting(w));
+    show_order(w, b"  timers", TIMERS_START, order::timed(w));
 }
 
 fn counts(w: &[u32; Machine::WORDS]) {
@@ -162,6 +167,8 @@ fn counts(w: &[u32; Machine::WORDS]) {
     number(count::last_token(w) as u64);
     put(b" newcell");
     number(count::last_cell(w) as u64);
+    put(b" clock");
+    number(count::clock(w) as u64);
     put(b"\n");
 }
 
@@ -189,7 +196,6 @@ pub fn record(w: &[u32; Machine::WORDS]) {
     }
     tokens(w);
     cells(w);
-    queue(w);
-    waits(w);
+    orders(w);
     counts(w);
 }

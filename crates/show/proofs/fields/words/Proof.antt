@@ -1,14 +1,14 @@
--- `words` is safe and ends: it reads each of the 1,797 words. Assumes nothing.
+-- `words` is safe and ends: it reads each of the 1,863 words. Assumes nothing.
 use Prim.Native.Nat.{_-_, _≤_}
 use borrow.Author.Needs.{needs}
 use Rattle.show.proofs.fields.words.Statement.{statement}
 use Rattle.show.proofs.fields.words.Tie as tie
 
 abbrev Inv-loop : tie.InvT-loop
-Inv-loop w i₀ t4 i = i ≤ 1797
+Inv-loop w i₀ t4 i = i ≤ 1863
 
 abbrev μ-loop : tie.MeasureT-loop
-μ-loop w i₀ t4 i = 1797 - i
+μ-loop w i₀ t4 i = 1863 - i
 
 slice-aggregate-put : tie.Need-slice-aggregate-put Inv-loop μ-loop
 slice-aggregate-put c = search needs
