@@ -34,8 +34,8 @@ module _ (s n : ℕ) where
   unfolding siteTakes isBuiltin isOutside _and_ _or_
   takes-outside l m = rw (le-not-ltb s 8 (omega arith), le-leb 16 s l, le-leb s 1023 m)
 
--- document 02, request 1: "The call falls due at the present time plus t. With a sum above 2147483647 the call never falls due"; "negative t
--- is silent"
+-- document 02, request 1: "The call falls due at the present time plus t. With a sum above 2147483647 the call never falls due"; "negative
+-- t is silent"
 pub due-times :
     map (dueTime 5) (pos 0 ∷ pos 2147483642 ∷ pos 2147483643 ∷ negsuc 0 ∷ []) ≡ some 5 ∷ some 2147483647 ∷ none ∷ none ∷ []
 unfolding dueTime
