@@ -302,9 +302,9 @@ pub advance-keeps : (s : List Bool) (d : Dag) (m : Machine) (time : ℕ) → One
 unfolding Clock.advance
 advance-keeps s d m time one = effect-callees s m _ (tested (rulesHold paper d m) (Clock.takesTime m time)) one
   where
-    tested : (a b : Bool) → After (NoNewCallee s m) (unless a 14 (unless b 15 (moves (Clock.advanced m time))))
+    tested : (a b : Bool) → After (NoNewCallee s m) (unless a 14 (unless b 15 (moves (Clock.afterAdvance m time))))
     tested true true =
-        unfold unless After Clock.advanced withClock withTimers withOrders withTables in
+        unfold unless After Clock.afterAdvance withClock withTimers withOrders withTables in
         λ f i e. mapped-names f _ (woken-names time f) (m .tokens) i
     tested true false = unfold unless After in tt
     tested false b = unfold unless After in tt

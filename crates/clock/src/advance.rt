@@ -3,7 +3,7 @@ ghost use mathlib.Core.Path.{_≡_};
 ghost use mathlib.Core.Bool.{true};
 ghost use Prim.Native.Nat.{_<_};
 ghost use Rattle.job.specs.Node.{Dag};
-ghost use Rattle.model.specs.Machine.Clock.{advanced, takesTime};
+ghost use Rattle.model.specs.Machine.Clock.{afterAdvance, takesTime};
 ghost use Rattle.model.specs.Machine.Limits.{paper};
 ghost use Rattle.model.specs.Machine.Rules.{rulesHold};
 ghost use Rattle.model.specs.declared.record.Machine.{Machine};
@@ -94,7 +94,7 @@ fn wake_due(w: &mut [u32; Machine::WORDS], time: u32)
 // Those now due wake, and the clock shows the new time.
 pub fn move_clock(w: &mut [u32; Machine::WORDS], time: u32)
     ensures { λ _.
-        ⌜ ((d : Dag) (m : Machine) → Holds (now (w .entry)) m → rulesHold paper d m ≡ true → Holds (now (w .exit)) (advanced m time)) ⌝ }
+        ⌜ ((d : Dag) (m : Machine) → Holds (now (w .entry)) m → rulesHold paper d m ≡ true → Holds (now (w .exit)) (afterAdvance m time)) ⌝ }
 {
     wake_due(w, time);
     count::set_clock(w, time);

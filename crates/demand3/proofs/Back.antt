@@ -25,7 +25,7 @@ use Rattle.model.specs.Machine.Step.{unset, look, takes}
 use Rattle.model.specs.Machine.Answer as Answer
 use Rattle.model.specs.Machine.Answer.{answered}
 use Rattle.model.specs.Machine.Clock as Clock
-use Rattle.model.specs.Machine.Clock.{takesTime, advanced}
+use Rattle.model.specs.Machine.Clock.{takesTime, afterAdvance}
 use Rattle.calculus.specs.Event.{Event, Label, silently, showing}
 use Rattle.calculus.specs.Expression.{Exp}
 use Rattle.calculus.specs.Allowed.{shown, nextHandle}
@@ -200,7 +200,7 @@ module _ (lim : Limits) (d : Dag) (M : Labels) (bodies : ℕ → Exp) (fits : Fi
   follow (Move.answered w signed) split (is-called {p = p} {h = h} e o z un seen) = follow-called p h w signed e o z un seen
 
   -- a clock move needs no room
-  advance-does : (time : ℕ) → m .clock ≤ time → time ≤ lastTime → Clock.advance lim d m time ≡ outcome m (moves (advanced m time))
+  advance-does : (time : ℕ) → m .clock ≤ time → time ≤ lastTime → Clock.advance lim d m time ≡ outcome m (moves (afterAdvance m time))
   unfolding Clock.advance unless takesTime _and_
   advance-does time l k = rw (ok .holds, le-leb (m .clock) time l, le-leb time lastTime k, unless) refl
 

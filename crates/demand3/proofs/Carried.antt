@@ -23,7 +23,7 @@ use Rattle.model.specs.Machine.Update.{withNode, withBinding, withValue, inCell
 use Rattle.model.specs.Machine.Update.{withTimers, withClock, put, enqueue, newToken, newCell}
 use Rattle.model.specs.Machine.Step.{hasTokenPlace, hasCellPlace}
 use Rattle.model.specs.Machine.Answer.{holder}
-use Rattle.model.specs.Machine.Clock.{wokenBy, advanced}
+use Rattle.model.specs.Machine.Clock.{wokenBy, afterAdvance}
 use Rattle.model.specs.declared.token.Slot.{Slot}
 use Rattle.model.specs.declared.token.Slot.the-variants as slots
 use Rattle.model.specs.declared.token.Bind.{Bind}
@@ -335,8 +335,8 @@ module _ (lim : Limits) (d : Dag) (m : Machine) (holds : rulesHold lim d m ≡ t
       (withState states.Ready (withValue (helds.Value v) (tokenAt (m .tokens) p))) refl refl refl refl refl refl
 
   -- a clock move: a token that wakes keeps its links
-  pub advanced-carried : (time : ℕ) → Carried (advanced m time) (tokensUsed m) (cellsUsed m)
-  unfolding advanced withClock withTimers withOrders withTables
+  pub advanced-carried : (time : ℕ) → Carried (afterAdvance m time) (tokensUsed m) (cellsUsed m)
+  unfolding afterAdvance withClock withTimers withOrders withTables
   advanced-carried time =
       linked-carried _
       (record {

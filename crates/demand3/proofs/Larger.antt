@@ -13,7 +13,7 @@ use Rattle.model.specs.Machine.Rules.{tokenInRange, cellInRange, sizesInRange, 
 use Rattle.model.specs.Machine.Reply.{Effect, moves, unless, outcome, isRefused}
 use Rattle.model.specs.Machine.Step.{LookUpResult, values, unset, callSite, hasTokenPlace, hasCellPlace, act, takes, step}
 use Rattle.model.specs.Machine.Answer.{holder, answered, answer}
-use Rattle.model.specs.Machine.Clock.{takesTime, advanced, advance}
+use Rattle.model.specs.Machine.Clock.{takesTime, afterAdvance, advance}
 use Rattle.model.specs.declared.token.Token.{Token}
 use Rattle.model.specs.declared.record.Machine.{Machine}
 use Rattle.model.specs.declared.reply.Outcome.{Outcome}
@@ -38,7 +38,7 @@ same-answer lim t c d m h v =
 same-advance : (lim : Limits) (t c : ℕ) (d : Dag) (m : Machine) (time : ℕ) → advance (allowing lim t c) d m time ≡ advance lim d m time
 unfolding advance
 same-advance lim t c d m time =
-    ap (λ b. outcome m (unless b 14 (unless (takesTime m time) 15 (moves (advanced m time))))) (same-rules lim t c d m)
+    ap (λ b. outcome m (unless b 14 (unless (takesTime m time) 15 (moves (afterAdvance m time))))) (same-rules lim t c d m)
 
 -- a call that the test did not refuse is the same under a test that holds as well
 unless-same : (m : Machine) (b b′ : Bool) (n : ℕ) (e e′ : Effect)

@@ -16,7 +16,7 @@ pub mod Framed
 pub mod SameLinks
 pub mod Carried
 pub mod Returned
-pub mod Waking
+pub mod WakingOrder
 pub mod Room
 pub mod Counterpart
 pub mod Back

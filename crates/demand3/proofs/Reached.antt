@@ -27,7 +27,7 @@ use Rattle.model.specs.Machine.Step.{hasTokenPlace, hasCellPlace, tokenPlace, c
 use Rattle.model.specs.Machine.Answer as Answer
 use Rattle.model.specs.Machine.Answer.{holder, answered}
 use Rattle.model.specs.Machine.Clock as Clock
-use Rattle.model.specs.Machine.Clock.{advanced}
+use Rattle.model.specs.Machine.Clock.{afterAdvance}
 use Rattle.calculus.specs.Event.{Event, Label}
 use Rattle.calculus.specs.Expression.{Exp}
 use Rattle.calculus.specs.Allowed.{shown}
@@ -296,13 +296,13 @@ module _ (lim : Limits) (d : Dag) (M : Labels) (room : Roomy lim) (flow : Flow d
         → isRefused (Clock.advance lim d m time .reply) ≡ false → Left (Clock.advance lim d m time .machine)
     advance-facts m r time ok =
         subst (λ (o : Outcome). Left (o .machine)) (sym (a .does))
-        (after-outcome (λ o. Facts lim d o × LiveUsed o) Left finished m (moves (advanced m time)) (go (r .view))
+        (after-outcome (λ o. Facts lim d o × LiveUsed o) Left finished m (moves (afterAdvance m time)) (go (r .view))
         (subst (λ (o : Outcome). isRefused (o .reply) ≡ false) (a .does) ok))
       where
         a : AdvanceAccepted lim d m time
         a = advance-accepted lim d m time ok
 
-        go : {s : Abstract.State} → Sees M m s → After (λ o. Facts lim d o × LiveUsed o) (moves (advanced m time))
+        go : {s : Abstract.State} → Sees M m s → After (λ o. Facts lim d o × LiveUsed o) (moves (afterAdvance m time))
         go (seenAs name place A K) = unfold After in
             (advanced-facts m (r .facts) time (a .takes), sees-live (advanced-sees m time K))
 

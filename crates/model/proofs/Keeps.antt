@@ -4,5 +4,5 @@ pub mod Orders
 pub mod TableFacts
 pub mod Facts
 pub mod Clock
-pub mod Waking
+pub mod WakingOrder
 pub mod Clean

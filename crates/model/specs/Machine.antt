@@ -12,4 +12,4 @@ pub mod Start
 pub mod Step
 pub mod Answer
 pub mod Clock
-pub mod Waking
+pub mod WakingOrder

@@ -57,9 +57,9 @@ pub(crate) const LAST_CELL: usize = 1796;
 
 pub const TIMERS_START: usize = 1797;
 
-pub const TIMERS_LENGTH: usize = 1861;
+pub(crate) const TIMERS_LENGTH: usize = 1861;
 
-pub const CLOCK: usize = 1862;
+pub(crate) const CLOCK: usize = 1862;
 
 // A token's state.
 pub const BLANK_STATE: u32 = 0;

@@ -13,7 +13,7 @@ use Rattle.model.specs.Machine.Limits.{Limits}
 use Rattle.model.specs.Machine.Blank.{tokenAt}
 use Rattle.model.specs.Machine.State.{isReady, isWaiting, isDue, isDueBy}
 use Rattle.model.specs.Machine.Update.{withState, withTables, withOrders, withTimers, withClock, queueOf, waitsOf}
-use Rattle.model.specs.Machine.Clock.{wokenBy, placeDueBy, joining, staying, advanced, takesTime}
+use Rattle.model.specs.Machine.Clock.{wokenBy, placeDueBy, joining, staying, afterAdvance, takesTime}
 use Rattle.model.specs.declared.token.State.{State}
 use Rattle.model.specs.declared.token.State.the-variants as states
 use Rattle.model.specs.declared.token.Token.{Token}
@@ -83,12 +83,12 @@ module _ (m : Machine) (time : ℕ) {queue waits timers : List ℕ} (o : Timers 
 
 -- the orders after a clock move
 module _ (m : Machine) (time : ℕ) where
-  pub advanced-orders : Orders (advanced m time) (queueOf m ++ joining m time) (waitsOf m)
-  unfolding advanced
+  pub advanced-orders : Orders (afterAdvance m time) (queueOf m ++ joining m time) (waitsOf m)
+  unfolding afterAdvance
   advanced-orders = orders-clock (orders-timers (orders-with (queueOf m ++ joining m time) (waitsOf m) _) (staying m time)) time
 
-  pub advanced-timers : Timers (advanced m time) (staying m time)
-  unfolding advanced
+  pub advanced-timers : Timers (afterAdvance m time) (staying m time)
+  unfolding afterAdvance
   advanced-timers = timers-clock (timers-with (staying m time) _) time
 
 -- "15, the clock would .. leave its range"
@@ -97,8 +97,8 @@ unfolding takesTime
 takes-last m time e = leb-le time lastTime (and-right _ _ e)
 
 module _ {lim : Limits} {d : Dag} (m : Machine) (F : Facts lim d m) (time : ℕ) where
-  pub advanced-facts : takesTime m time ≡ true → Facts lim d (advanced m time)
-  unfolding advanced withClock withTimers withOrders withTables
+  pub advanced-facts : takesTime m time ≡ true → Facts lim d (afterAdvance m time)
+  unfolding afterAdvance withClock withTimers withOrders withTables
   advanced-facts e =
       record {
         tokenPlaces = length-map (m .tokens) (wokenBy time) ∙ F .tokenPlaces;

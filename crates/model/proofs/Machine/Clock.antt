@@ -12,7 +12,7 @@ use Rattle.job.specs.Test.{select, occurrences, once}
 use Rattle.model.specs.Machine.Blank.{blankToken, tokenAt}
 use Rattle.model.specs.Machine.Update.{timersOf}
 use Rattle.model.specs.Machine.Clock.{wokenBy, insertByTime, sortByTime, placeDueBy, joining, staying}
-use Rattle.model.specs.Machine.Waking.{Ascending, none, single, next, dueAt, dueThen}
+use Rattle.model.specs.Machine.WakingOrder.{Ascending, none, single, next, dueAt, dueThen}
 use Rattle.model.specs.declared.token.Token.{Token}
 use Rattle.model.specs.declared.record.Machine.{Machine}
 use Rattle.job.proofs.Test.{eqb-eq, leb-le, not-leb-lt}

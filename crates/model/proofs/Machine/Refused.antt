@@ -17,7 +17,7 @@ use Rattle.model.specs.Machine.Reply.{Effect, moves, waits, publishes, c
 use Rattle.model.specs.Machine.Reply.{refusalOf, isRefused}
 use Rattle.model.specs.Machine.Start.{start, startMachine}
 use Rattle.model.specs.Machine.Step.{step, takes}
-use Rattle.model.specs.Machine.Clock.{takesTime, advanced, advance}
+use Rattle.model.specs.Machine.Clock.{takesTime, afterAdvance, advance}
 use Rattle.model.specs.Machine.Answer.{answer, answered, holder}
 use Rattle.model.specs.declared.record.Machine.{Machine}
 use Rattle.model.specs.declared.reply.Refusal.{Refusal}
@@ -190,7 +190,7 @@ answer-accepted lim d m h v a = record { holds = k; does = ap (outcome m) (unles
 pub record AdvanceAccepted (lim : Limits) (d : Dag) (m : Machine) (time : ℕ) : Type 0 where
   pub holds : rulesHold lim d m ≡ true
   pub takes : takesTime m time ≡ true
-  pub does : advance lim d m time ≡ outcome m (moves (advanced m time))
+  pub does : advance lim d m time ≡ outcome m (moves (afterAdvance m time))
 
 pub advance-accepted :
     (lim : Limits) (d : Dag) (m : Machine) (time : ℕ)
@@ -200,7 +200,7 @@ unfolding advance
 advance-accepted lim d m time a = record { holds = k; takes = q; does = ap (outcome m) (tested ∙ there) }
   where
     inner : Effect
-    inner = unless (takesTime m time) 15 (moves (advanced m time))
+    inner = unless (takesTime m time) 15 (moves (afterAdvance m time))
 
     k : rulesHold lim d m ≡ true
     k = unless-accepted m (rulesHold lim d m) 14 inner a
@@ -210,8 +210,8 @@ advance-accepted lim d m time a = record { holds = k; takes = q; does = ap (outc
 
     q : takesTime m time ≡ true
     q =
-        unless-accepted m (takesTime m time) 15 (moves (advanced m time))
+        unless-accepted m (takesTime m time) 15 (moves (afterAdvance m time))
         (subst (λ e. isRefused (outcome m e .reply) ≡ false) tested a)
 
-    there : inner ≡ moves (advanced m time)
-    there = unless-true (takesTime m time) 15 (moves (advanced m time)) q
+    there : inner ≡ moves (afterAdvance m time)
+    there = unless-true (takesTime m time) 15 (moves (afterAdvance m time)) q

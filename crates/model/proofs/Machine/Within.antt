@@ -19,7 +19,7 @@ use Rattle.model.specs.Machine.Update as Update
 use Rattle.model.specs.Machine.Update.{queueOf, waitsOf}
 use Rattle.model.specs.Machine.Step.{takes, step}
 use Rattle.model.specs.Machine.Answer.{holder, answered, answer}
-use Rattle.model.specs.Machine.Clock.{wokenBy, advanced, advance}
+use Rattle.model.specs.Machine.Clock.{wokenBy, afterAdvance, advance}
 use Rattle.model.specs.declared.token.Place.{Place}
 use Rattle.model.specs.declared.token.Place.the-variants as places
 use Rattle.model.specs.declared.token.State.{State}
@@ -134,10 +134,10 @@ module _ (lim : Limits) (d : Dag) (m : Machine) where
       → Within lim m
       → isRefused (advance lim d m time .reply) ≡ false
       → Within lim (advance lim d m time .machine)
-  unfolding After advanced Update.withClock Update.withTimers Update.withOrders Update.withTables
+  unfolding After afterAdvance Update.withClock Update.withTimers Update.withOrders Update.withTables
   advance-within time old e =
       subst (λ (o : Outcome). Within lim (o .machine)) (sym (a .does))
-      (after-outcome (λ o. Within lim (sweep o)) (Within lim) (λ o x. x) m (moves (advanced m time))
+      (after-outcome (λ o. Within lim (sweep o)) (Within lim) (λ o x. x) m (moves (afterAdvance m time))
       (none-new lim d m old _
       (inside-map (inside-old lim d m (each-rule-holds lim d m (a .holds))) (wokenBy time) (woken-blank time) (woken-live time)
       (woken-fits time)))

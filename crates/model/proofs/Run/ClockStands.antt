@@ -9,7 +9,7 @@ use Rattle.model.specs.Machine.Limits.{Limits}
 use Rattle.model.specs.Machine.State.{isReady, isDueBy}
 use Rattle.model.specs.Machine.Reply.{moves}
 use Rattle.model.specs.Machine.Update.{withTables, queueOf, waitsOf}
-use Rattle.model.specs.Machine.Clock.{wokenBy, joining, staying, advanced, advance}
+use Rattle.model.specs.Machine.Clock.{wokenBy, joining, staying, afterAdvance, advance}
 use Rattle.model.specs.Run.Follow.{Stands}
 use Rattle.model.specs.declared.token.State.{State}
 use Rattle.model.specs.declared.token.State.the-variants as states
@@ -49,8 +49,8 @@ module _ (time : ℕ) {u : Token} {p k : ℕ} (ready : isReady (u .state) ≡ tr
             };
       }
 
-  untouched-advanced : (m : Machine) → Untouched u p k m → After (Untouched u p k) (moves (advanced m time))
-  unfolding After advanced withTables queueOf
+  untouched-advanced : (m : Machine) → Untouched u p k m → After (Untouched u p k) (moves (afterAdvance m time))
+  unfolding After afterAdvance withTables queueOf
   untouched-advanced m h =
       untouched-clock time _ (untouched-timers (staying m time) _ (untouched-joined (joining m time) (waitsOf m) _ (untouched-woken m h)))
 
@@ -59,7 +59,7 @@ pub advance-stands :
     → k < m .queued
     → Stands m k (advance lim d m time .machine) k
 advance-stands lim d m time k l =
-    call-stands lim d m k (advance lim d m time) (moves (advanced m time)) l
+    call-stands lim d m k (advance lim d m time) (moves (afterAdvance m time)) l
     (λ e. unfold advance in outcome-refused m _ e)
     (λ ok. let a = advance-accepted lim d m time ok in (a .holds, a .does))
     (λ h. untouched-advanced time (h .ready k l) m (queued-untouched m h k l))

@@ -83,7 +83,7 @@ unfolding Rattle.job.specs.Construct.own Rattle.job.specs.Construct.nodeCount 
     Rattle.model.specs.Machine.Clock.wokenBy Rattle.model.specs.Machine.Clock.insertByTime
     Rattle.model.specs.Machine.Clock.sortByTime Rattle.model.specs.Machine.Clock.placeDueBy
     Rattle.model.specs.Machine.Clock.joining Rattle.model.specs.Machine.Clock.staying
-    Rattle.model.specs.Machine.Clock.advanced Rattle.model.specs.Machine.Clock.takesTime
+    Rattle.model.specs.Machine.Clock.afterAdvance Rattle.model.specs.Machine.Clock.takesTime
     Rattle.model.specs.Machine.Clock.advance Rattle.job.specs.Number.number Rattle.job.specs.Number.bytes
     Rattle.job.specs.Number.signed Rattle.job.specs.Number.unsigned Rattle.job.specs.Number.fits Rattle.job.specs.Number.equalZ
     Rattle.job.specs.Site.zeroIf Rattle.job.specs.Site.notZero Rattle.job.specs.Site.truth Rattle.job.specs.Site.sumReply

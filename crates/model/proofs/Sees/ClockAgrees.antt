@@ -10,7 +10,7 @@ use Rattle.job.specs.Test.{once}
 use Rattle.model.specs.Machine.Blank.{tokenAt}
 use Rattle.model.specs.Machine.State.{isLive, isDueBy}
 use Rattle.model.specs.Machine.Update.{withValue, withState, withTables, withOrders, withTimers, withClock}
-use Rattle.model.specs.Machine.Clock.{wokenBy, advanced}
+use Rattle.model.specs.Machine.Clock.{wokenBy, afterAdvance}
 use Rattle.model.specs.declared.token.Held.{Held}
 use Rattle.model.specs.declared.token.Held.the-variants as helds
 use Rattle.model.specs.declared.token.State.{State}
@@ -123,7 +123,7 @@ module _ (time : ℕ) where
 -- the machine before blanking, seen as the state after the clock move
 pub advanced-sees : {M : Labels} (m : Machine) (time : ℕ) {name place : ℕ → ℕ} {σ : Store} {new : ℕ} {A : List ℕ} {S : List Abstract.Token}
     → Core M (world (m .tokens) (m .cells) name place σ new) A S
-    → Sees M (advanced m time) (state (map (wake time) S) σ new (m .calls) time)
-unfolding advanced withClock withTimers withOrders withTables
+    → Sees M (afterAdvance m time) (state (map (wake time) S) σ new (m .calls) time)
+unfolding afterAdvance withClock withTimers withOrders withTables
 advanced-sees {M} m time {name} {place} {σ} {new} {A} K =
     sees-tables name place A refl refl refl refl (core-wakes time M (world (m .tokens) (m .cells) name place σ new) K)

@@ -50,8 +50,8 @@ unfoldable pub staying : Machine → (time : ℕ) → List ℕ
 staying m time = select (λ p. not (placeDueBy m time p)) (timersOf m)
 
 -- "A clock move adds those now due, with value 0, by due time, then by order of call": at the back of the queue
-unfoldable pub advanced : Machine → (time : ℕ) → Machine
-advanced m time =
+unfoldable pub afterAdvance : Machine → (time : ℕ) → Machine
+afterAdvance m time =
     withClock time
     (withTimers (staying m time)
     (withOrders (queueOf m ++ joining m time) (waitsOf m) (withTables (map (wokenBy time) (m .tokens)) (m .cells) m)))
@@ -63,4 +63,4 @@ takesTime m time = leb (m .clock) time and leb time lastTime
 -- "Checks: 15, .. after 14"
 unfoldable pub advance : Limits → Dag → Machine → (time : ℕ) → Outcome
 advance lim d m time =
-    outcome m (unless (rulesHold lim d m) 14 (unless (takesTime m time) 15 (moves (advanced m time))))
+    outcome m (unless (rulesHold lim d m) 14 (unless (takesTime m time) 15 (moves (afterAdvance m time))))

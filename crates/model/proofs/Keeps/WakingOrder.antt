@@ -17,8 +17,8 @@ use Rattle.model.specs.Machine.InUse.{tokensUsed, sweep}
 use Rattle.model.specs.Machine.State.{isReady, isWaiting, isDue, isDueBy, dueTimeOf}
 use Rattle.model.specs.Machine.Update.{withTables, withOrders, withTimers, withClock, queueOf, waitsOf, timersOf}
 use Rattle.model.specs.Machine.Step.{chokeToken, afterChoke}
-use Rattle.model.specs.Machine.Clock.{wokenBy, placeDueBy, joining, staying, advanced}
-use Rattle.model.specs.Machine.Waking.{dueAt, dueThen, WakesInOrder, Gone, OrdersApart}
+use Rattle.model.specs.Machine.Clock.{wokenBy, placeDueBy, joining, staying, afterAdvance}
+use Rattle.model.specs.Machine.WakingOrder.{dueAt, dueThen, WakesInOrder, Gone, OrdersApart}
 use Rattle.model.specs.declared.token.Held.{Held}
 use Rattle.model.specs.declared.token.State.{State}
 use Rattle.model.specs.declared.token.State.the-variants as states
@@ -74,8 +74,8 @@ module _ (lim : Limits) (d : Dag) (m : Machine) (rules : EachRuleHolds lim d m) 
       let t : dueTimeOf (was p .state) ≡ due = eqb-eq (dueAt m p) due e in
       due-in-time time (was p .state) (once-true _ (omega arith)) (omega arith))
 
-  pub advanced-wakes : WakesInOrder m time (advanced m time)
-  unfolding advanced placeDueBy withClock withTimers withOrders withTables
+  pub advanced-wakes : WakesInOrder m time (afterAdvance m time)
+  unfolding afterAdvance placeDueBy withClock withTimers withOrders withTables
   advanced-wakes =
       record {
         joined = joining m time;
@@ -138,8 +138,8 @@ module _ {m : Machine} {p : ℕ} (gone : Gone m p) where
       go (inr e) = e
 
   -- its time wakes nobody: a clock move leaves the place as it is
-  pub gone-advanced : (time : ℕ) → Gone (advanced m time) p
-  unfolding advanced withClock withTimers withOrders withTables
+  pub gone-advanced : (time : ℕ) → Gone (afterAdvance m time) p
+  unfolding afterAdvance withClock withTimers withOrders withTables
   gone-advanced time =
       let a = join-or-stay m time p in
       let t = gone .timers in

@@ -20,8 +20,8 @@ use Rattle.model.specs.Machine.Reply as Reply
 use Rattle.model.specs.Machine.Reply.{moves, outcome, isRefused}
 use Rattle.model.specs.Machine.Update.{withOrders, queueOf, waitsOf}
 use Rattle.model.specs.Machine.Step.{afterChoke, chokeAt, act, takes, step}
-use Rattle.model.specs.Machine.Clock.{advanced, advance}
-use Rattle.model.specs.Machine.Waking.{WakesInOrder, Gone, OrdersApart}
+use Rattle.model.specs.Machine.Clock.{afterAdvance, advance}
+use Rattle.model.specs.Machine.WakingOrder.{WakesInOrder, Gone, OrdersApart}
 use Rattle.model.specs.Run.Call.{Call, runner, outcomeOf, started, machineAfter}
 use Rattle.model.specs.declared.token.Place.the-variants as places
 use Rattle.model.specs.declared.token.Token.{Token}
@@ -31,14 +31,14 @@ use Rattle.job.proofs.Test.{holds-or-fails}
 use Rattle.model.proofs.Machine.Rules.{each-rule-holds}
 use Rattle.model.proofs.Machine.Refused.{step-accepted, advance-accepted}
 use Rattle.model.proofs.Run.Passage.{refused-leaves}
-use Rattle.model.proofs.Keeps.Waking.{rules-apart, advanced-wakes, choke-gone, gone-swept, gone-advanced}
+use Rattle.model.proofs.Keeps.WakingOrder.{rules-apart, advanced-wakes, choke-gone, gone-swept, gone-advanced}
 use Rattle.demand3.proofs.Carried.{advanced-carried}
 use Rattle.demand3.proofs.Reached.{Roomy}
 use Rattle.demand3.proofs.Never.{run-rules}
 
 module _ (lim : Limits) (d : Dag) (m : Machine) where
   -- the record that an accepted clock move leaves
-  pub advance-leaves : (time : ℕ) → isRefused (advance lim d m time .reply) ≡ false → advance lim d m time .machine ≡ advanced m time
+  pub advance-leaves : (time : ℕ) → isRefused (advance lim d m time .reply) ≡ false → advance lim d m time .machine ≡ afterAdvance m time
   unfolding outcome Reply.accepted
   advance-leaves time ok =
       let a = advance-accepted lim d m time ok in
