@@ -2,24 +2,27 @@
 -- definition, in their order. Assumes nothing.
 use mathlib.Core.Path.{_≡_, refl, sym, ap, ap₂, subst, subst₂, _∙_}
 use mathlib.Core.Bool.{Bool, true, false}
-use mathlib.Core.List.{List, [], _∷_}
+use mathlib.Core.List.{List, [], _∷_, _++_}
+use mathlib.Core.Option.{Option, some, none}
 use Prim.Native.Nat.{ℕ, suc, _+_, _<_, _≤_}
 use native.Mathlib.Omega.{arith}
 use lib.ListN.{length, getD}
 use lib.Dec.{ltb}
-use lib.IntN.{ℤ}
-use Rattle.job.specs.Site.{BuiltinReply, gives, silent, at, isBuiltin, builtin}
+use lib.IntN.{ℤ, pos}
+use Rattle.job.specs.Site.{BuiltinReply, gives, silent, dueTime, at, isBuiltin, builtin}
 use Rattle.sites.specs.declared.site.SiteReply.{SiteReply}
 use Rattle.sites.specs.SiteReply.{builtinReplyOf}
-use Rattle.sites.proofs.SiteCalls.{says-to-front}
+use Rattle.sites.specs.declared.due.DueTime.{DueTime}
+use Rattle.sites.specs.DueTime.{dueTimeFrom, optionOf}
+use Rattle.sites.proofs.SiteCalls.{says-to-front, due-back}
 use Rattle.job.specs.Words.{dagOf}
 use Rattle.model.specs.Machine.Blank.{blankToken, tokenAt}
 use Rattle.model.specs.Machine.InUse.{tokensUsed, cellsUsed}
 use Rattle.model.specs.Machine.Limits.{paper}
-use Rattle.model.specs.Machine.Reply.{accepted, outcome, unless, refuses, reportValues}
+use Rattle.model.specs.Machine.Reply.{accepted, outcome, moves, unless, refuses, reportValues}
 use Rattle.model.specs.Machine.Update as Update
 use Rattle.model.specs.Machine.Step as Step
-use Rattle.model.specs.Machine.Update.{withNode, withState, withValue, put, enqueue, withTables, withOrders, withCounts}
+use Rattle.model.specs.Machine.Update.{withNode, withState, withValue, put, enqueue, withTables, withOrders, withTimers, withCounts, timersOf}
 use Rattle.model.specs.Machine.Step.{look, callSite}
 use Rattle.model.specs.declared.record.Machine.{Machine}
 use Rattle.model.specs.declared.reply.Outcome.{Outcome}
@@ -30,7 +33,8 @@ use Rattle.model.specs.declared.token.Held.the-variants as helds
 use Rattle.model.specs.declared.token.State.the-variants as states
 use Rattle.model.specs.declared.token.Token.{Token}
 use Rattle.job.proofs.Test.{lt-ltb, le-not-ltb}
-use Rattle.demand3.proofs.Carried.{Carried, waited-carried, called-carried, replied-carried}
+use Rattle.model.proofs.Machine.Deferred.{inTime}
+use Rattle.demand3.proofs.Carried.{Carried, waited-carried, called-carried, replied-carried, deferred-carried}
 use Rattle.record.specs.Changes.{dequeued, delayed}
 use Rattle.record.specs.Holds.{Holds}
 use Rattle.sites.specs.Row.{paramsAt}
@@ -94,6 +98,32 @@ module _ {ws dag : List ℕ} {used cells : List Bool} {place p : ℕ} {m : Machi
       (called-carried paper (dagOf dag) m (a .lawful .rules) place (a .queued) p (a .token) (m .calls) k (suc (m .calls)) (m .lasttoken)
       (m .lastcell))
 
+  -- rwait: due by now, or later
+  module _ (due k j : ℕ) {o : Option ℕ} (found : o ≡ some due) where
+    at-once : due ≤ m .clock
+        → Step.deferred (dequeued m place) p t k o ≡ Step.replied (dequeued m place) p t k (gives (pos 0))
+    unfolding Step.deferred Step.replied withOrders
+    at-once l = rw (found, le-not-ltb (m .clock) due l, Step.deferred) refl
+
+    in-time : m .clock < due → Step.deferred (dequeued m place) p t k o ≡ moves (inTime (dequeued m place) p t k due)
+    unfolding Step.deferred withOrders
+    in-time l = rw (found, lt-ltb (m .clock) due l, Step.deferred) refl
+
+    pub now-gives : {after : List ℕ} (r : Report) → due ≤ m .clock → j ≡ k → r ≡ plain replies.Done
+        → Holds after (enqueue p (put p (withNode j (withValue (helds.Value (pos 0)) t)) (dequeued m place)))
+        → Gives (outcome m (Step.deferred (dequeued m place) p t k o)) m after used cells r
+    now-gives r l g f h = reply-gives (pos 0) k j r (ap (outcome m) (at-once l)) g f h
+
+    pub later-gives : {after : List ℕ} (r : Report) → m .clock < due → j ≡ k → r ≡ plain replies.Done
+        → Holds after
+        (withTimers (timersOf (dequeued m place) ++ (p ∷ [])) (put p (withNode j (withState (states.Due due) t)) (dequeued m place)))
+        → Gives (outcome m (Step.deferred (dequeued m place) p t k o)) m after used cells r
+    unfolding outcome
+    later-gives {after} r l g f h =
+        marked _ replies.Done [] r (ap (outcome m) (in-time l)) (ap (λ (y : Report). y .reply) f) (ap (λ (y : Report). y .values) f)
+        (subst (λ i. Holds after (inTime (dequeued m place) p t i due)) g h)
+        (deferred-carried paper (dagOf dag) m (a .lawful .rules) place (a .queued) p (a .token) due k _)
+
 -- what a site call does, by what was found
 module _ (dag : List ℕ) (place p from : ℕ) (m : Machine) where
   abbrev word : ℕ → ℕ
@@ -126,26 +156,26 @@ module _ (dag : List ℕ) (place p from : ℕ) (m : Machine) where
         site-step dag place p from m (k .acting)
         ∙ ap (λ l. outcome m (callSite paper (dequeued m place) p mine (word 1) (word 2) l)) (k .found)
 
-    pub says : (said : BuiltinReply) → word 1 < 7 → builtin (word 1) (k .values) ≡ said
+    pub says : (said : BuiltinReply) → word 1 < 8 → builtin (word 1) (k .values) ≡ said
         → Step.step paper (dagOf dag) m place ≡ outcome m (Step.replied (dequeued m place) p mine (word 2) said)
     unfolding by-site isBuiltin
     says said l e =
-        at-site ∙ ap by-site (lt-ltb (word 1) 7 l) ∙ ap (λ y. outcome m (Step.replied (dequeued m place) p mine (word 2) y)) e
+        at-site ∙ ap by-site (lt-ltb (word 1) 8 l) ∙ ap (λ y. outcome m (Step.replied (dequeued m place) p mine (word 2) y)) e
 
-    pub calls-out : 7 ≤ word 1 → m .calls < 1000000
+    pub calls-out : 8 ≤ word 1 → m .calls < 1000000
         → Step.step paper (dagOf dag) m place ≡ outcome m (Step.calledOut (dequeued m place) p mine (word 1) (k .values) (word 2))
     unfolding by-site isBuiltin unless withOrders
     calls-out l f =
         at-site
-        ∙ ap by-site (le-not-ltb (word 1) 7 l)
+        ∙ ap by-site (le-not-ltb (word 1) 8 l)
         ∙ ap (λ b. outcome m (unless b 13 (Step.calledOut (dequeued m place) p mine (word 1) (k .values) (word 2))))
         (lt-ltb (m .calls) 1000000 f)
 
-    pub calls-no-more : 7 ≤ word 1 → 1000000 ≤ m .calls → Step.step paper (dagOf dag) m place ≡ outcome m (refuses 13)
+    pub calls-no-more : 8 ≤ word 1 → 1000000 ≤ m .calls → Step.step paper (dagOf dag) m place ≡ outcome m (refuses 13)
     unfolding by-site isBuiltin unless withOrders
     calls-no-more l f =
         at-site
-        ∙ ap by-site (le-not-ltb (word 1) 7 l)
+        ∙ ap by-site (le-not-ltb (word 1) 8 l)
         ∙ ap (λ b. outcome m (unless b 13 (Step.calledOut (dequeued m place) p mine (word 1) (k .values) (word 2))))
         (le-not-ltb (m .calls) 1000000 f)
 
@@ -175,8 +205,19 @@ pub silent-ends : (m : Machine) (place p k : ℕ) → outcome m (Step.replied (d
 unfolding outcome Step.replied Step.ended
 silent-ends m place p k = refl
 
+-- .. and so it does where its call never falls due
+pub never-ends : (m : Machine) (place p k : ℕ) {o : Option ℕ} → o ≡ none
+    → outcome m (Step.deferred (dequeued m place) p (tokenAt (m .tokens) p) k o)
+    ≡ accepted replies.Done [] (put p blankToken (dequeued m place))
+unfolding outcome Step.deferred Step.ended
+never-ends m place p k e = rw (e, Step.deferred) refl
+
+-- when the code says that a call falls due
+pub falls-due : {r clock : ℕ} (t : ℤ) {x y : DueTime} → x ≡ dueTimeFrom (dueTime r t) → x ≡ y → r ≡ clock → dueTime clock t ≡ optionOf y
+falls-due t {x} e f g = ap (λ i. dueTime i t) (sym g) ∙ sym (due-back x _ e) ∙ ap optionOf f
+
 -- what the code got is what the site says to all values
-pub replied-by : {s i : ℕ} (vs xs : List ℤ) {x y : SiteReply} → i < 7 → xs ≡ reportValues vs → s ≡ i
+pub replied-by : {s i : ℕ} (vs xs : List ℤ) {x y : SiteReply} → i < 8 → xs ≡ reportValues vs → s ≡ i
     → builtinReplyOf x ≡ builtin s (at xs 0 ∷ at xs 1 ∷ []) → x ≡ y
     → builtin i vs ≡ builtinReplyOf y
 replied-by {s} {i} vs xs l e same got f =

@@ -10,6 +10,7 @@ use Rattle.job.specs.Test.{_and_, same}
 use Rattle.job.specs.Node.{dagHolds}
 use Rattle.job.specs.Words.{dagOf}
 use Rattle.model.specs.Machine.Answer as Answer
+use Rattle.model.specs.Machine.Clock as Clock
 use Rattle.model.specs.Machine.Limits.{paper}
 use Rattle.model.specs.Machine.Reply.{Effect, outcome, unless, refuses, refusalOf, isRefused}
 use Rattle.model.specs.Machine.Rules.{rulesHold}
@@ -27,7 +28,7 @@ use Rattle.record.specs.Layout.{wordsOf}
 use Rattle.coded.specs.IsRecord.{isRecord}
 use Rattle.acts.specs.Acting.{Lawful, Gives, plain}
 use Rattle.acts.proofs.Outcomes.{gives-refused}
-use Rattle.machine.specs.PublicCalls.{HasResult, after, ofRecord, startOn, stepOn, answerOn}
+use Rattle.machine.specs.PublicCalls.{HasResult, after, ofRecord, startOn, stepOn, answerOn, advanceOn}
 
 -- words that pass are a record's, and of a record's words the rules decide
 pub both-tested : (b recorded rules : Bool) → (b ≡ true → recorded ≡ true) → (recorded ≡ true → b ≡ rules) → b ≡ (recorded and rules)
@@ -84,7 +85,7 @@ module _ {ws dag : List ℕ} {used cells : List Bool} (a : Lawful ws used cells 
           rw e (ap wordsOf (outcome-refused (machineOf ws) effect e) ∙ sym (a .holds .codes .words))
       words-after false e = rw e
 
--- the two calls, by their tests
+-- the calls, by their tests
 module _ (dag ws : List ℕ) where
   pub step-rule : (place : ℕ) (b : Bool) (r : Report) → b ≡ (isRecord ws and rulesHold paper (dagOf dag) (machineOf ws)) → b ≡ false
       → r ≡ plain (replies.Refused refusals.Rule) → HasResult (stepOn dag ws place) r ws
@@ -97,6 +98,11 @@ module _ (dag ws : List ℕ) where
   unfolding answerOn Answer.answer
   answer-rule handle v b r e f g = gave-rule dag ws _ b r e f g
 
+  pub advance-rule : (time : ℕ) (b : Bool) (r : Report) → b ≡ (isRecord ws and rulesHold paper (dagOf dag) (machineOf ws)) → b ≡ false
+      → r ≡ plain (replies.Refused refusals.Rule) → HasResult (advanceOn dag ws time) r ws
+  unfolding advanceOn Clock.advance
+  advance-rule time b r e f g = gave-rule dag ws _ b r e f g
+
   module _ {used cells : List Bool} (a : Lawful ws used cells dag (machineOf ws)) where
     pub step-gives : (place : ℕ) {xs : List ℕ} {now below : List Bool} (r : Report)
         → Gives (Step.step paper (dagOf dag) (machineOf ws) place) (machineOf ws) xs now below r → HasResult (stepOn dag ws place) r xs
@@ -108,6 +114,12 @@ module _ (dag ws : List ℕ) where
         → HasResult (answerOn dag ws handle v) r xs
     unfolding answerOn Answer.answer
     answer-gives handle v r g = gave-gives a _ r g
+
+    pub advance-gives : (time : ℕ) {xs : List ℕ} {now below : List Bool} (r : Report)
+        → Gives (Clock.advance paper (dagOf dag) (machineOf ws) time) (machineOf ws) xs now below r
+        → HasResult (advanceOn dag ws time) r xs
+    unfolding advanceOn Clock.advance
+    advance-gives time r g = gave-gives a _ r g
 
     -- 9
     pub step-no-token : (place : ℕ) (r : Report) → machineOf ws .queued ≤ place → r ≡ plain (replies.Refused refusals.NoToken)

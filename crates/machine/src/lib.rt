@@ -1,5 +1,6 @@
-// The machine's public calls: start, step, answer. Each is for any words of a record and of a dag, and gives what specs/PublicCalls.antt
+// The machine's public calls: start, step, answer, advance. Each is for any words of a record and of a dag, and gives what specs/PublicCalls.antt
 // says.
+pub mod advance;
 pub mod answer;
 mod lawful;
 pub mod start;

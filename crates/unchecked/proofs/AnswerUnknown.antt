@@ -25,6 +25,7 @@ not-open h calls states.Blank e l = refl
 not-open h calls states.Ready e l = refl
 not-open h calls (states.Waiting c) e l = refl
 not-open h calls (states.Called k) e l = rw (ne-eqb h k (λ z. let y = ltb-lt k calls e in omega arith)) refl
+not-open h calls (states.Due d) e l = refl
 not-open h calls states.Frame e l = refl
 
 module _ (d : Dag) (calls h : ℕ) (l : calls ≤ h) where

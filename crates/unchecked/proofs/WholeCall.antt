@@ -19,7 +19,7 @@ use Rattle.model.specs.Machine.Limits.{paper}
 use Rattle.model.specs.Machine.Reply.{outcome, unless}
 use Rattle.model.specs.Machine.Start.{startToken, startMachine}
 use Rattle.model.specs.Machine.State.{isLive}
-use Rattle.model.specs.Machine.Update.{queueOf, waitsOf}
+use Rattle.model.specs.Machine.Update.{queueOf, waitsOf, timersOf}
 use Rattle.model.specs.declared.record.Machine.{Machine}
 use Rattle.model.specs.declared.reply.Outcome.{Outcome}
 use Rattle.model.specs.declared.reply.Report.{Report}
@@ -98,14 +98,14 @@ module _ {ws after dag : List ℕ} {used cells : List Bool} {m : Machine} (a : L
           subst (λ x. Gives (Answer.answer paper (dagOf dag) m handle v) m x used cells (answerReport false)) (sym (k .stays e))
           (gives-refused 12 _ a (tested a handle v ∙ ap (outcome m) (answered-refuses m v _ none)) refl)
 
--- its report, by whether the handle was open
-pub reported : {o : Outcome} {m : Machine} {ws : List ℕ} {used cells : List Bool} (x : Bool) {b : Bool} {r : Report}
-    → Gives o m ws used cells (answerReport b) → b ≡ x → r ≡ answerReport x → Gives o m ws used cells r
-reported {o} {m} {ws} {used} {cells} x g e f = subst (Gives o m ws used cells) (ap answerReport e ∙ sym f) g
+-- its report, by whether the handle was open; and that of a clock move, by whether the clock took the time
+pub reported : (report : Bool → Report) {o : Outcome} {m : Machine} {ws : List ℕ} {used cells : List Bool} (x : Bool) {b : Bool} {r : Report}
+    → Gives o m ws used cells (report b) → b ≡ x → r ≡ report x → Gives o m ws used cells r
+reported report {o} {m} {ws} {used} {cells} x g e f = subst (Gives o m ws used cells) (ap report e ∙ sym f) g
 
 -- the words of a start
 pub start-holds : {ws : List ℕ} (goal : ℕ) → ws ≡ wordsOf (startMachine paper goal) → Holds ws (startMachine paper goal)
-unfolding padded queueOf waitsOf tokenAt
+unfolding padded queueOf waitsOf timersOf tokenAt
 start-holds goal e =
     record {
       codes =
@@ -117,12 +117,13 @@ start-holds goal e =
                   cells = refl;
                   queue = refl;
                   waits = refl;
+                  timers = refl;
                   binds =
                       binds-after (replicate 64 blankToken) 0 (startToken goal) refl
                       (λ i. ap (λ (t : Token). length (t .binds)) (replicate-at 64 i blankToken));
                 };
           };
-      ordered = record { queue = refl; queued = refl; waits = refl; waiting = refl };
+      ordered = record { queue = refl; queued = refl; waits = refl; waiting = refl; timers = refl; timed = refl };
     }
 
 -- the marks of a start: one token is in use, and no cell

@@ -1,5 +1,5 @@
 -- Document 02, request 1, in statements: whom a clock move wakes and in what order, what a choke leaves of a token, and that no two orders
--- name the same one. Proved in demand3/proofs/Waking.antt. Assumes nothing: these are definitions.
+-- name the same one. Proved in demand3/proofs/WakingOrder.antt. Assumes nothing: these are definitions.
 use mathlib.Core.Path.{_≡_}
 use mathlib.Core.Bool.{true, false}
 use mathlib.Core.List.{List, [], _∷_, _++_}
