@@ -2,27 +2,27 @@
 -- definition, in their order. Assumes nothing.
 use mathlib.Core.Path.{_≡_, refl, sym, ap, ap₂, subst, subst₂, _∙_}
 use mathlib.Core.Bool.{Bool, true, false}
-use mathlib.Core.List.{List, [], _∷_, _++_}
+use mathlib.Core.List.{List, [], _∷_}
 use mathlib.Core.Option.{Option, some, none}
 use Prim.Native.Nat.{ℕ, suc, _+_, _<_, _≤_}
 use native.Mathlib.Omega.{arith}
 use lib.ListN.{length, getD}
 use lib.Dec.{ltb}
 use lib.IntN.{ℤ, pos}
-use Rattle.job.specs.Site.{BuiltinReply, gives, silent, dueTime, at, isBuiltin, builtin}
+use Rattle.job.specs.Site.{BuiltinReply, gives, silent, later, dueTime, at, isBuiltin, builtin}
 use Rattle.sites.specs.declared.site.SiteReply.{SiteReply}
 use Rattle.sites.specs.SiteReply.{builtinReplyOf}
-use Rattle.sites.specs.declared.due.DueTime.{DueTime}
 use Rattle.sites.specs.DueTime.{dueTimeFrom, optionOf}
+use Rattle.sites.specs.declared.due.DueTime.{DueTime}
 use Rattle.sites.proofs.SiteCalls.{says-to-front, due-back}
 use Rattle.job.specs.Words.{dagOf}
 use Rattle.model.specs.Machine.Blank.{blankToken, tokenAt}
 use Rattle.model.specs.Machine.InUse.{tokensUsed, cellsUsed}
 use Rattle.model.specs.Machine.Limits.{paper}
-use Rattle.model.specs.Machine.Reply.{accepted, outcome, moves, unless, refuses, reportValues}
+use Rattle.model.specs.Machine.Reply.{moves, accepted, outcome, unless, refuses, reportValues}
 use Rattle.model.specs.Machine.Update as Update
 use Rattle.model.specs.Machine.Step as Step
-use Rattle.model.specs.Machine.Update.{withNode, withState, withValue, put, enqueue, withTables, withOrders, withTimers, withCounts, timersOf}
+use Rattle.model.specs.Machine.Update.{withNode, withState, withValue, put, enqueue, withTables, withOrders, withCounts}
 use Rattle.model.specs.Machine.Step.{look, callSite}
 use Rattle.model.specs.declared.record.Machine.{Machine}
 use Rattle.model.specs.declared.reply.Outcome.{Outcome}
@@ -34,7 +34,7 @@ use Rattle.model.specs.declared.token.State.the-variants as states
 use Rattle.model.specs.declared.token.Token.{Token}
 use Rattle.job.proofs.Test.{lt-ltb, le-not-ltb}
 use Rattle.model.proofs.Machine.Deferred.{inTime}
-use Rattle.demand3.proofs.Carried.{Carried, waited-carried, called-carried, replied-carried, deferred-carried}
+use Rattle.demand3.proofs.Carried.{Carried, waited-carried, called-carried, deferred-carried, replied-carried}
 use Rattle.record.specs.Changes.{dequeued, delayed}
 use Rattle.record.specs.Holds.{Holds}
 use Rattle.sites.specs.Row.{paramsAt}
@@ -82,6 +82,14 @@ module _ {ws dag : List ℕ} {used cells : List Bool} {place p : ℕ} {m : Machi
       (subst (λ i. Holds after (enqueue p (put p (withNode i (withValue (helds.Value v) t)) (dequeued m place)))) g h)
       (replied-carried paper (dagOf dag) m (a .lawful .rules) place (a .queued) p (a .token) k v)
 
+  pub due-gives : {x : Outcome} (due k j : ℕ) {after : List ℕ} (r : Report) → x ≡ outcome m (moves (inTime (dequeued m place) p t k due))
+      → j ≡ k → r ≡ plain replies.Done → Holds after (inTime (dequeued m place) p t j due) → Gives x m after used cells r
+  unfolding outcome
+  due-gives due k j {after} r e g f h =
+      marked _ replies.Done [] r e (ap (λ (y : Report). y .reply) f) (ap (λ (y : Report). y .values) f)
+      (subst (λ i. Holds after (inTime (dequeued m place) p t i due)) g h)
+      (deferred-carried paper (dagOf dag) m (a .lawful .rules) place (a .queued) p (a .token) due k _)
+
   pub call-gives : {x : Outcome} (s i n k j h : ℕ) (vs : List ℤ) {after : List ℕ} (r : Report)
       → x ≡ outcome m (Step.calledOut (dequeued m place) p t s vs k) → h ≡ m .calls → i ≡ s → j ≡ k → n ≡ length vs
       → r .reply ≡ replies.Called h i n → r .values ≡ reportValues vs
@@ -97,32 +105,6 @@ module _ {ws dag : List ℕ} {used cells : List Bool} {place p : ℕ} {m : Machi
       held)
       (called-carried paper (dagOf dag) m (a .lawful .rules) place (a .queued) p (a .token) (m .calls) k (suc (m .calls)) (m .lasttoken)
       (m .lastcell))
-
-  -- rwait: due by now, or later
-  module _ (due k j : ℕ) {o : Option ℕ} (found : o ≡ some due) where
-    at-once : due ≤ m .clock
-        → Step.deferred (dequeued m place) p t k o ≡ Step.replied (dequeued m place) p t k (gives (pos 0))
-    unfolding Step.deferred Step.replied withOrders
-    at-once l = rw (found, le-not-ltb (m .clock) due l, Step.deferred) refl
-
-    in-time : m .clock < due → Step.deferred (dequeued m place) p t k o ≡ moves (inTime (dequeued m place) p t k due)
-    unfolding Step.deferred withOrders
-    in-time l = rw (found, lt-ltb (m .clock) due l, Step.deferred) refl
-
-    pub now-gives : {after : List ℕ} (r : Report) → due ≤ m .clock → j ≡ k → r ≡ plain replies.Done
-        → Holds after (enqueue p (put p (withNode j (withValue (helds.Value (pos 0)) t)) (dequeued m place)))
-        → Gives (outcome m (Step.deferred (dequeued m place) p t k o)) m after used cells r
-    now-gives r l g f h = reply-gives (pos 0) k j r (ap (outcome m) (at-once l)) g f h
-
-    pub later-gives : {after : List ℕ} (r : Report) → m .clock < due → j ≡ k → r ≡ plain replies.Done
-        → Holds after
-        (withTimers (timersOf (dequeued m place) ++ (p ∷ [])) (put p (withNode j (withState (states.Due due) t)) (dequeued m place)))
-        → Gives (outcome m (Step.deferred (dequeued m place) p t k o)) m after used cells r
-    unfolding outcome
-    later-gives {after} r l g f h =
-        marked _ replies.Done [] r (ap (outcome m) (in-time l)) (ap (λ (y : Report). y .reply) f) (ap (λ (y : Report). y .values) f)
-        (subst (λ i. Holds after (inTime (dequeued m place) p t i due)) g h)
-        (deferred-carried paper (dagOf dag) m (a .lawful .rules) place (a .queued) p (a .token) due k _)
 
 -- what a site call does, by what was found
 module _ (dag : List ℕ) (place p from : ℕ) (m : Machine) where
@@ -205,16 +187,34 @@ pub silent-ends : (m : Machine) (place p k : ℕ) → outcome m (Step.replied (d
 unfolding outcome Step.replied Step.ended
 silent-ends m place p k = refl
 
--- .. and so it does where its call never falls due
-pub never-ends : (m : Machine) (place p k : ℕ) {o : Option ℕ} → o ≡ none
-    → outcome m (Step.deferred (dequeued m place) p (tokenAt (m .tokens) p) k o)
-    ≡ accepted replies.Done [] (put p blankToken (dequeued m place))
-unfolding outcome Step.deferred Step.ended
-never-ends m place p k e = rw (e, Step.deferred) refl
+-- when a call of rwait falls due, as the code has it
+pub due-of : {clock present : ℕ} (time : ℤ) {x y : DueTime} → present ≡ clock → x ≡ y → x ≡ dueTimeFrom (dueTime present time)
+    → optionOf y ≡ dueTime clock time
+due-of {clock} {present} time {x} {y} e f g = due-back y _ (sym f ∙ g) ∙ ap (λ n. dueTime n time) e
 
--- when the code says that a call falls due
-pub falls-due : {r clock : ℕ} (t : ℤ) {x y : DueTime} → x ≡ dueTimeFrom (dueTime r t) → x ≡ y → r ≡ clock → dueTime clock t ≡ optionOf y
-falls-due t {x} e f g = ap (λ i. dueTime i t) (sym g) ∙ sym (due-back x _ e) ∙ ap optionOf f
+-- rwait, by when its call falls due
+module _ (m : Machine) (place p k : ℕ) (time : ℤ) where
+  abbrev deferred : Outcome
+  deferred = outcome m (Step.replied (dequeued m place) p (tokenAt (m .tokens) p) k (later time))
+
+  by-due : {o : Option ℕ} → o ≡ dueTime (m .clock) time
+      → deferred ≡ outcome m (Step.deferred (dequeued m place) p (tokenAt (m .tokens) p) k o)
+  unfolding Step.replied withOrders
+  by-due e = sym (ap (λ o. outcome m (Step.deferred (dequeued m place) p (tokenAt (m .tokens) p) k o)) e)
+
+  pub never-due : none ≡ dueTime (m .clock) time → deferred ≡ accepted replies.Done [] (put p blankToken (dequeued m place))
+  unfolding outcome Step.deferred Step.ended
+  never-due e = by-due e
+
+  pub due-now : (due : ℕ) → some due ≡ dueTime (m .clock) time → due ≤ m .clock
+      → deferred ≡ outcome m (Step.replied (dequeued m place) p (tokenAt (m .tokens) p) k (gives (pos 0)))
+  unfolding Step.deferred Step.replied withOrders
+  due-now due e l = by-due e ∙ rw (le-not-ltb (m .clock) due l, Step.deferred)
+
+  pub due-in-time : (due : ℕ) → some due ≡ dueTime (m .clock) time → m .clock < due
+      → deferred ≡ outcome m (moves (inTime (dequeued m place) p (tokenAt (m .tokens) p) k due))
+  unfolding Step.deferred withOrders
+  due-in-time due e l = by-due e ∙ rw (lt-ltb (m .clock) due l, Step.deferred)
 
 -- what the code got is what the site says to all values
 pub replied-by : {s i : ℕ} (vs xs : List ℤ) {x y : SiteReply} → i < 8 → xs ≡ reportValues vs → s ≡ i

@@ -1,17 +1,14 @@
--- A site call whose values are all there; a call of rwait. Assumes nothing: these are definitions.
+-- A site call whose values are all there. Assumes nothing: these are definitions.
 use mathlib.Core.Path.{_≡_}
 use mathlib.Core.Bool.{Bool}
 use mathlib.Core.List.{List}
 use Prim.Native.Nat.{ℕ}
 use lib.IntN.{ℤ}
-use Rattle.job.specs.Site.{dueTime}
 use Rattle.model.specs.Machine.Blank.{tokenAt}
-use Rattle.model.specs.Machine.Reply.{outcome, reportValues}
+use Rattle.model.specs.Machine.Reply.{reportValues}
 use Rattle.model.specs.Machine.Step as Step
 use Rattle.model.specs.Machine.Step.{look}
 use Rattle.model.specs.declared.record.Machine.{Machine}
-use Rattle.model.specs.declared.reply.Outcome.{Outcome}
-use Rattle.record.specs.Changes.{dequeued}
 use Rattle.sites.specs.Row.{paramsAt}
 use Rattle.acts.specs.Acting.{Acting}
 
@@ -21,7 +18,3 @@ pub record Evaluated (ws : List ℕ) (used usedCells : List Bool) (dag : List �
   pub values : List ℤ
   pub found : look (m .cells) (tokenAt (m .tokens) p .binds) (paramsAt dag at) ≡ Step.values values
   pub padded : vs ≡ reportValues values
-
--- the call of rwait by the token at p, which goes on at the node `next`
-abbrev pub deferredAt : Machine → (place p next : ℕ) → (t : ℤ) → Outcome
-deferredAt m place p next t = outcome m (Step.deferred (dequeued m place) p (tokenAt (m .tokens) p) next (dueTime (m .clock) t))

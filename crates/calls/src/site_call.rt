@@ -7,7 +7,8 @@ ghost use Rattle.job.specs.Words.{dagOf};
 ghost use Rattle.model.specs.Machine.Limits.{paper};
 ghost use Rattle.model.specs.Machine.Step as Step;
 ghost use Rattle.acts.specs.Acting.{SomeMachine, Acting, Gives};
-ghost use Rattle.calls.specs.SiteCall.{Evaluated, deferredAt};
+ghost use Rattle.calls.specs.SiteCall.{Evaluated};
+use crate::rwait::rwait;
 use acts::end::end;
 use acts::report::plain;
 use job::dag::CALL_LIMIT;
@@ -21,17 +22,13 @@ use model::reply::Refusal;
 use model::reply::Reply;
 use model::reply::Report;
 use record::count::calls_made;
-use record::count::clock;
 use record::layout::CELL_PLACE_COUNT;
-use sites::due::DueTime;
-use sites::due::due_time;
 use sites::look::look_up;
 use sites::number::unsigned;
 use sites::site::SiteReply;
 use sites::site::builtin;
 use writes::dag::dag_word;
 use writes::site_call::call_out;
-use writes::site_call::due_later;
 use writes::site_call::reply;
 use writes::site_call::wait;
 
@@ -65,39 +62,7 @@ fn outside(
     }
 }
 
-// rwait: the call falls due now, and the token goes on with 0; or later; or never, and the token ends.
-fn fall_due(
-    w: &mut [u32; Machine::WORDS],
-    tokens: &mut [bool; Machine::TOKENS],
-    cells: &mut [bool; Machine::CELLS],
-    dag: &[u32; WORDS],
-    place: usize,
-    p: usize,
-    at: usize,
-    t: i32,
-) -> Report
-    requires { ⌜ SomeMachine (Acting (now w) (now tokens) (now cells) (now dag) place p at 1) ⌝ }
-    ensures { λ r.
-        ⌜ ((m : Machine) → Acting (now (w .entry)) (now (tokens .entry)) (now (cells .entry)) (now (dag .entry)) place p at 1 m
-        → Gives (deferredAt m place p (getD (now (dag .entry)) (at + 2) 0) t) m (now (w .exit)) (now (tokens .exit)) (now (cells .exit)) r)
-        ⌝ }
-{
-    let time = clock(w);
-    let next = dag_word(dag, at + NEXT_NODE);
-    match due_time(time, t) {
-        DueTime::At(due) => {
-            if time < due {
-                due_later(w, place, p, due, next);
-                return plain(Reply::Done);
-            }
-            reply(w, place, p, 0, next);
-            plain(Reply::Done)
-        }
-        DueTime::Never => end(w, tokens, cells, place, p, Reply::Done),
-    }
-}
-
-// "A built-in replies and the token goes on, or it is silent and the token ends."
+// "A built-in replies and the token goes on, or it is silent and the token ends"; rwait replies in time.
 fn built_in(
     w: &mut [u32; Machine::WORDS],
     tokens: &mut [bool; Machine::TOKENS],
@@ -121,7 +86,7 @@ fn built_in(
             plain(Reply::Done)
         }
         SiteReply::Silent => end(w, tokens, cells, place, p, Reply::Done),
-        SiteReply::Later(t) => fall_due(w, tokens, cells, dag, place, p, at, t),
+        SiteReply::Later(t) => rwait(w, tokens, cells, dag, place, p, at, t),
     }
 }
 

@@ -36,6 +36,7 @@ frame-idle states.Blank e = clash e refl
 frame-idle states.Ready e = clash e refl
 frame-idle (states.Waiting c) e = clash e refl
 frame-idle (states.Called h) e = clash e refl
+frame-idle (states.Due d) e = clash e refl
 frame-idle states.Frame e = refl
 
 module _ {ws dag : List ℕ} {used cells : List Bool} {place p at : ℕ} {m : Machine} (a : Acting ws used cells dag place p at 8 m)

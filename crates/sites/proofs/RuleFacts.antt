@@ -55,7 +55,7 @@ module _ (d : Dag) (m : Machine) (k : rulesHold paper d m ≡ true) where
   waits : NamesOnce isWaiting (m .tokens) (m .waits) (m .waiting)
   waits = names-once isWaiting (m .tokens) (m .waits) (m .waiting) (holds .waits)
 
-  pub timers : NamesOnce isDue (m .tokens) (m .timers) (m .timed)
+  timers : NamesOnce isDue (m .tokens) (m .timers) (m .timed)
   timers = names-once isDue (m .tokens) (m .timers) (m .timed) (holds .timers)
 
   below : (of : State → Bool) (array : List ℕ) (n : ℕ) → NamesOnce of (m .tokens) array n
@@ -96,7 +96,7 @@ module _ (d : Dag) (m : Machine) (k : rulesHold paper d m ≡ true) where
   pub room : m .queued + m .waiting ≤ 64
   room = together isWaiting (m .waits) (m .waiting) waits (λ s. let z = one-order s in omega arith)
 
-  pub due-room : m .queued + m .timed ≤ 64
+  due-room : m .queued + m .timed ≤ 64
   due-room = together isDue (m .timers) (m .timed) timers (λ s. let z = one-order s in omega arith)
 
   pub waits-room : (place : ℕ) → place < m .queued → m .waiting < 64

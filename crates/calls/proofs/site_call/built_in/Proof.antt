@@ -6,8 +6,6 @@ use Rattle.acts.proofs.Outcomes.{row-fits, token-inside}
 use Rattle.sites.proofs.SiteCalls.{reply-back}
 use Rattle.model.specs.declared.token.Held.the-variants as helds
 use Rattle.job.specs.Site.{gives, silent, later}
-use Rattle.model.specs.Machine.Step as Step
-use Rattle.model.specs.Machine.Update.{withOrders}
 use mir.Syntax.{w32}
 use mir.Val.{SFits}
 use mir.Facts.{toZ-ofZ}
@@ -63,9 +61,10 @@ end-requires c κs = token-inside (c .before .before .before .before .before .be
 enum-known-t : tie.Need-enum-known-t
 enum-known-t c = search needs
 
-fall-due-requires : tie.Need-fall-due-requires
-fall-due-requires c κs = let k = c .before .before .before .before .before .before .before .before .before .before .pre .0 in
-    record { machine = k .machine; is = k .is .acting }
+rwait-requires : tie.Need-rwait-requires
+rwait-requires c κs =
+    let s = c .before .before .before .before .before .before .before .before .before .before in
+    record { machine = s .pre .0 .machine; is = s .pre .0 .is .acting }
 
 returns : tie.Need-returns
 returns c = λ m k.
@@ -97,22 +96,22 @@ returns-2 c = λ m k.
     gives-as (says _ _ _ _ m k silent (s .pre .1) reply ∙ silent-ends m _ _ _) (c .end .ensures m _ (k .acting .taking))
 
 returns-3 : tie.Need-returns-3
-unfolding Step.replied withOrders
 returns-3 c = λ m k.
-    let s = c .before .before .before .before .before .before .before .before .before .before .before in
+    let known = c .before .before .before .before .before in
+    let said = known .before .before in
+    let word = said .before in
+    let s = word .before .before .before in
     let vs = s .args .t8 in
     let f : SFits w32 (getD vs 0 (pos 0)) = search needs in
     let g : SFits w32 (getD vs 1 (pos 0)) = search needs in
-    let time = c .before .before .before .before .before .t .given in
-    let h : SFits w32 (time .0 .0) = search needs in
-    let told = c .before .before .before .before .before .before .before in
-    let back = reply-back _ _ (rw (toZ-ofZ f, toZ-ofZ g) at (told .builtin .ensures)) in
-    let reply = replied-by (k .values) vs (s .pre .1) (k .padded) (told .before .dag-word .ensures) back (time .1) in
-    gives-as (says _ _ _ _ m k (later (time .0 .0)) (s .pre .1) reply) (rw (toZ-ofZ h) at (c .fall-due .ensures m (k .acting)))
+    let t = known .t .given in
+    let h : SFits w32 (t .0 .0) = record { sfits = c .before .before .before .before .known-told2 .given .0 .1 } in
+    let back = reply-back _ _ (rw (toZ-ofZ f, toZ-ofZ g) at (said .builtin .ensures)) in
+    let reply = replied-by (k .values) vs (s .pre .1) (k .padded) (word .dag-word .ensures) back (t .1) in
+    gives-as (says _ _ _ _ m k (later (t .0 .0)) (s .pre .1) reply) (rw (toZ-ofZ h) at (c .rwait .ensures m (k .acting)))
 
 pub built-in-spec : {M : Type 1} → statement M
 built-in-spec =
     tie.close
     (tie.spec array-copy-out-a array-copy-out-b add-dag-word dag-word-requires builtin-requires enum-known-v unsigned-requires
-    add-dag-word-2 dag-word-requires-2 reply-requires plain-requires enum-told end-requires enum-known-t fall-due-requires
-    returns returns-2 returns-3)
+    add-dag-word-2 dag-word-requires-2 reply-requires plain-requires enum-told end-requires enum-known-t rwait-requires returns returns-2 returns-3)
