@@ -94,7 +94,8 @@ fn wake_due(w: &mut [u32; Machine::WORDS], time: u32)
 // Those now due wake, and the clock shows the new time.
 pub fn move_clock(w: &mut [u32; Machine::WORDS], time: u32)
     ensures { λ _.
-        ⌜ ((d : Dag) (m : Machine) → Holds (now (w .entry)) m → rulesHold paper d m ≡ true → Holds (now (w .exit)) (afterAdvance m time)) ⌝ }
+        ⌜ ((d : Dag) (m : Machine) → Holds (now (w .entry)) m → rulesHold paper d m ≡ true
+        → Holds (now (w .exit)) (afterAdvance m time)) ⌝ }
 {
     wake_due(w, time);
     count::set_clock(w, time);

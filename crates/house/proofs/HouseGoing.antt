@@ -7,14 +7,13 @@ use mathlib.Core.List.{List, [], _∷_, _++_, append-assoc}
 use Prim.Native.Nat.{ℕ, zero, suc, _+_, _-_, _*_, _<_, _≤_}
 use native.Mathlib.Omega.{arith}
 use lib.ListN.{length, take, drop}
-use Rattle.job.specs.Number.{number, signed}
+use Rattle.job.specs.Number.{number}
 use Rattle.job.specs.Words.{dagOf}
 use Rattle.model.specs.Output.Line.{Line, textOfAll, end, limit}
-use Rattle.model.specs.Output.Orcrun.{Standing, on, over, turn, turnLines, runLines}
+use Rattle.model.specs.Output.Orcrun.{Standing, on, over, delivered, turn, turnLines, runLines}
 use Rattle.model.specs.Machine.Limits.{paper}
 use Rattle.model.specs.Machine.Start as Start
 use Rattle.model.specs.Machine.Step as Step
-use Rattle.model.specs.Machine.Answer as Answer
 use Rattle.model.specs.declared.record.Machine.{Machine}
 use Rattle.model.specs.declared.reply.Outcome.{Outcome}
 use Rattle.house.specs.LoadedDag.{Accepted}
@@ -24,7 +23,7 @@ use Rattle.lines.specs.Shown.{ShowsBytes}
 use Rattle.turns.specs.Turn.{isLast, isLimit, isOver, turnOutcome, nextAt, nextSteps}
 use Rattle.lines.proofs.ShownBytes.{shows-none, shows-then, shows-as}
 use Rattle.model.proofs.Run.Grammar.{text-append}
-use Rattle.house.proofs.HouseRecords.{Reached, reached-start, reached-by-step, reached-by-answer}
+use Rattle.house.proofs.HouseRecords.{Reached, reached-start, reached-by-step, reached-by-delivery}
 use Rattle.turns.proofs.TurnCases.{empty-or-ready, last-is, not-last, limit-is, not-limit, over-is, not-over, turn-empty, turn-ready}
 use Rattle.turns.proofs.TurnCases.{at-empty, at-ready, steps-empty, steps-ready}
 use Rattle.house.proofs.HouseTurns.{standing, turn-last, turn-deliver, turn-limit, turn-refused, turn-step}
@@ -151,7 +150,7 @@ module _ (words rest before : List ℕ) (from : ℕ) where
         stepped f = turned ∙ sym (turn-ready (dagOf words) m rest at _ f refl)
 
         answered : m .queued ≡ 0
-            → o ≡ Answer.answer paper (dagOf words) m (number (take 4 (drop at rest))) (signed (number (take 4 (drop (at + 4) rest))))
+            → o ≡ delivered paper (dagOf words) m (number (take 4 (drop at rest))) (number (take 4 (drop (at + 4) rest)))
         answered e = turned ∙ sym (turn-empty (dagOf words) m rest at _ e refl)
 
         -- "a refused step ends the run"
@@ -193,7 +192,7 @@ module _ (words rest before : List ℕ) (from : ℕ) where
                   let b = to ∙ sym (steps-empty (m .queued) e steps) in
                   let left = there e in
                   let few = G .few in
-                  going-on (linesFrom o) G (reached-by-answer words (G .accepted) m o _ _ (G .reached) (answered e))
+                  going-on (linesFrom o) G (reached-by-delivery words (G .accepted) m o _ _ (G .reached) (answered e))
                   (subst (λ (k : ℕ). turn paper 100000 (dagOf words) (standing rest m steps at)
                   ≡ on (linesFrom o) (standing rest (o .machine) k at′)) (sym b)
                   (subst (λ (k : ℕ). turn paper 100000 (dagOf words) (standing rest m steps at)

@@ -3,6 +3,7 @@ use mathlib.Core.Path.{_≡_, refl, sym, subst}
 use mathlib.Core.Bool.{true}
 use mathlib.Core.List.{List}
 use Prim.Native.Nat.{ℕ}
+use native.Mathlib.Decide.{ℕ-discrete}
 use lib.ListN.{getD}
 use Rattle.job.specs.Number.{signed}
 use Rattle.job.specs.Node.{Dag, dagHolds}
@@ -14,11 +15,13 @@ use Rattle.model.specs.Machine.Start as Start
 use Rattle.model.specs.Machine.Start.{startMachine, start}
 use Rattle.model.specs.Machine.Step as Step
 use Rattle.model.specs.Machine.Answer as Answer
-use Rattle.model.specs.Run.Call.{step, answer, outcomeOf}
+use Rattle.model.specs.Run.Call.{step, answer, advance, outcomeOf}
+use Rattle.model.specs.Output.Orcrun.{clockHandle, delivered}
 use Rattle.model.specs.declared.record.Machine.{Machine}
 use Rattle.model.specs.declared.reply.Outcome.{Outcome}
 use Rattle.job.proofs.Number.{signed-fits}
 use Rattle.job.proofs.Accepted.{accepted-well-formed}
+use Rattle.model.proofs.Run.Printing.{moves-clock, answers}
 use Rattle.model.proofs.Sees.Labelling.{labelsOf}
 use Rattle.demand3.proofs.Reached.{paper-roomy}
 use Rattle.demand3.proofs.Runs.{InRun}
@@ -53,9 +56,19 @@ module _ (words : List ℕ) (A : Accepted words) where
   unfolding outcomeOf
   reached-step m place r = call-of-run paper paper-roomy (A .program) good d (A .holds) m (step place) r
 
-  pub reached-answer : (m : Machine) (h w : ℕ) → Reached m → Reached (Answer.answer paper (dagOf words) m h (signed w) .machine)
+  reached-answer : (m : Machine) (h w : ℕ) → Reached m → Reached (Answer.answer paper (dagOf words) m h (signed w) .machine)
   unfolding outcomeOf
   reached-answer m h w r = call-of-run paper paper-roomy (A .program) good d (A .holds) m (answer h (signed w) (signed-fits w)) r
+
+  pub reached-delivery : (m : Machine) (h v : ℕ) → Reached m → Reached (delivered paper (dagOf words) m h v .machine)
+  unfolding outcomeOf
+  reached-delivery m h v r = go (ℕ-discrete h clockHandle)
+    where
+      go : Dec (h ≡ clockHandle) → Reached (delivered paper (dagOf words) m h v .machine)
+      go (yes e) =
+          subst (λ (o : Outcome). Reached (o .machine)) (sym (moves-clock paper (dagOf words) m h v e))
+          (call-of-run paper paper-roomy (A .program) good d (A .holds) m (advance v) r)
+      go (no f) = subst (λ (o : Outcome). Reached (o .machine)) (sym (answers paper (dagOf words) m h v f)) (reached-answer m h v r)
 
   pub reached-framed : {m : Machine} → Reached m → CallersAreFrames m
   reached-framed r = in-run-framed r
@@ -67,6 +80,5 @@ module _ (words : List ℕ) (A : Accepted words) (m : Machine) (o : Outcome) whe
   pub reached-by-step : Reached words A m → o ≡ Step.step paper (dagOf words) m 0 → Reached words A (o .machine)
   reached-by-step r e = subst (λ (u : Outcome). Reached words A (u .machine)) (sym e) (reached-step words A m 0 r)
 
-  pub reached-by-answer : (h w : ℕ) → Reached words A m → o ≡ Answer.answer paper (dagOf words) m h (signed w)
-      → Reached words A (o .machine)
-  reached-by-answer h w r e = subst (λ (u : Outcome). Reached words A (u .machine)) (sym e) (reached-answer words A m h w r)
+  pub reached-by-delivery : (h v : ℕ) → Reached words A m → o ≡ delivered paper (dagOf words) m h v → Reached words A (o .machine)
+  reached-by-delivery h v r e = subst (λ (u : Outcome). Reached words A (u .machine)) (sym e) (reached-delivery words A m h v r)

@@ -7,14 +7,13 @@ use native.Mathlib.Omega.{arith}
 use lib.ListN.{length, take, drop, length-drop}
 use lib.Seq.{drop-drop}
 use lib.Dec.{eqb}
-use Rattle.job.specs.Number.{number, signed}
+use Rattle.job.specs.Number.{number}
 use Rattle.job.specs.Node.{Dag}
 use Rattle.model.specs.Output.Line.{end, limit, short}
-use Rattle.model.specs.Output.Orcrun.{Standing, Turn, on, over, stepTurn, deliverTurn, lastTurn, turn}
+use Rattle.model.specs.Output.Orcrun.{Standing, Turn, on, over, delivered, stepTurn, deliverTurn, lastTurn, turn}
 use Rattle.model.specs.Machine.Limits.{paper}
 use Rattle.model.specs.Machine.Reply.{isRefused}
 use Rattle.model.specs.Machine.Step as Step
-use Rattle.model.specs.Machine.Answer as Answer
 use Rattle.model.specs.declared.record.Machine.{Machine}
 use Rattle.model.specs.declared.reply.Outcome.{Outcome}
 use Rattle.job.proofs.Test.{eq-eqb, ne-eqb, lt-ltb, le-not-ltb, le-leb, lt-not-leb}
@@ -46,7 +45,7 @@ module _ (d : Dag) (rest : List ℕ) (m : Machine) (steps at : ℕ) where
       (last-lines (length rest - at) steps _ (ap (λ n. eqb n 0) left))
 
   pub turn-deliver : (o : Outcome) → m .queued ≡ 0 → 8 ≤ length rest - at
-      → o ≡ Answer.answer paper d m (number (take 4 (drop at rest))) (signed (number (take 4 (drop (at + 4) rest))))
+      → o ≡ delivered paper d m (number (take 4 (drop at rest))) (number (take 4 (drop (at + 4) rest)))
       → turn paper 100000 d (standing rest m steps at) ≡ on (linesFrom o) (standing rest (o .machine) steps (at + 8))
   unfolding turn deliverTurn
   turn-deliver o e l q =

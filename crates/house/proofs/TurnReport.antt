@@ -1,6 +1,6 @@
 -- A turn's report and its line are the outcome's: the reply says whether there is a line, and whether the run is over. By the cases of a
 -- reply. Assumes nothing.
-use mathlib.Core.Path.{_≡_, refl, _∙_, ap, ap₂, subst}
+use mathlib.Core.Path.{_≡_, refl, _∙_, ap, ap₂}
 use mathlib.Core.Bool.{Bool, false}
 use mathlib.Core.List.{List, []}
 use Prim.Native.Nat.{ℕ, _+_, _≤_}
@@ -14,7 +14,6 @@ use Rattle.model.specs.declared.reply.Outcome.{Outcome}
 use Rattle.model.specs.declared.reply.Reply.{Reply}
 use Rattle.model.specs.declared.reply.Reply.the-variants as replies
 use Rattle.model.specs.declared.reply.Report.{Report}
-use Rattle.acts.specs.Acting.{answerReport}
 use Rattle.acts.specs.SharedFrames.{Stepped}
 use Rattle.lines.specs.Shown.{ShowsBytes}
 use Rattle.lines.proofs.ShownBytes.{shows-as}
@@ -44,8 +43,3 @@ module _ {o : Outcome} {m : Machine} {ws : List ℕ} {used cells shared : List B
         few = few;
         over = ends ∙ ap (isOver (m .queued)) (g .gives .reply);
       }
-
--- a delivery, by whether the handle was open
-pub by-handle : (x : Bool) {b : Bool} {o : Outcome} {m : Machine} {ws : List ℕ} {used cells shared : List Bool}
-    → Stepped o m ws used cells shared (answerReport b) → b ≡ x → Stepped o m ws used cells shared (answerReport x)
-by-handle x {o = o} {m} {ws} {used} {cells} {shared} g e = subst (λ (y : Bool). Stepped o m ws used cells shared (answerReport y)) e g

@@ -46,13 +46,14 @@ sumReply a b = let s = a +ℤ b in elim (fits s) [ true ↦ gives s | false ↦ 
 abbrev pub lastTime : ℕ
 lastTime = 2147483647
 
--- document 02, request 1: due time. "The call falls due at the present time plus t. With a sum above 2147483647 the call never falls due ..;
--- negative t is silent."
+-- document 02, request 1: due time. "The call falls due at the present time plus t. With a sum above 2147483647 the call never falls due
+-- ..; negative t is silent."
 unfoldable pub dueTime : (now : ℕ) → (t : ℤ) → Option ℕ
 dueTime now (pos t) = elim (leb (now + t) lastTime) [ true ↦ some (now + t) | false ↦ none ]
 dueTime now (negsuc t) = none
 
--- "0 let (1), 1 ift (1), 2 iff (1), 3 signal (0), 4 add (2), 5 less (2), 6 equal (2)"; document 02: "site 7, one parameter, becomes rwait(t)"
+-- "0 let (1), 1 ift (1), 2 iff (1), 3 signal (0), 4 add (2), 5 less (2), 6 equal (2)"; document 02: "site 7, one parameter, becomes
+-- rwait(t)"
 abbrev pub builtinTable : List Builtin
 builtinTable =
     record { count = 1; reply = λ vs. gives (at vs 0) }

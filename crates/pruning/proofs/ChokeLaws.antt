@@ -301,7 +301,8 @@ module _ (m : Machine) (ready waiting : List Bool)
       ∙ waits-back (markedOf ready q) w m in
       ap₂ (λ a b. withOrders a (markedOf waiting b) m)
       (queue-orders (queueOf one ++ markedOf ready (waitsOf one)) (waitsOf one) one ∙ front) back
-      ∙ ap (λ b. withOrders (select (λ (p : ℕ). isReady (tokenAt (m .tokens) p .state)) (q ++ w)) b m) (kind-same m 2 refl isWaiting waiting-kind waiting ew w)
+      ∙ ap (λ b. withOrders (select (λ (p : ℕ). isReady (tokenAt (m .tokens) p .state)) (q ++ w)) b m)
+      (kind-same m 2 refl isWaiting waiting-kind waiting ew w)
 
 pub first-room : {ws : List ℕ} {m : Machine} → Holds ws m → (ready : List Bool) → m .queued + m .waiting ≤ 64
     → first m ready .queued + first m ready .waiting ≤ 64
@@ -349,7 +350,8 @@ module _ {ws : List ℕ} (m : Machine) (h : Holds ws m) (place c : ℕ) (f : Cho
   choke-is v =
       let t = dequeued m place in
       let n = tokens-there in
-      ap (λ ts. stillDue (reordered (withTables ts (set (t .cells) c (setCell v (cellAt (t .cells) c))) t))) (rows-all (chokeToken (t .cells) c) t 64 (omega arith))
+      ap (λ ts. stillDue (reordered (withTables ts (set (t .cells) c (setCell v (cellAt (t .cells) c))) t)))
+      (rows-all (chokeToken (t .cells) c) t 64 (omega arith))
 
 -- a row in its place
 module _ {ws : List ℕ} (m : Machine) (c p : ℕ) (b : Bool) (e : b ≡ within (m .cells) c (tokenAt (m .tokens) p .cell)) where

@@ -1,4 +1,5 @@
--- Site calls: a built-in says the same to the first two of four values as to all of them, and what it said, and when, is read back. Assumes nothing.
+-- Site calls: a built-in says the same to the first two of four values as to all of them, and what it said, and when, is read back. Assumes
+-- nothing.
 use mathlib.Core.Path.{_≡_, refl, ap, ap₂, _∙_}
 use mathlib.Core.List.{List, [], _∷_, _++_}
 use mathlib.Core.Option.{Option, some, none}

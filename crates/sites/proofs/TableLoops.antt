@@ -1,5 +1,5 @@
--- Reading and writing tables: within a table the default is never read, and a loop that writes f of each element comes to `map f`; so does one
--- that writes f of each token of a record. Assumes nothing.
+-- Reading and writing tables: within a table the default is never read, and a loop that writes f of each element comes to `map f`; so does
+-- one that writes f of each token of a record. Assumes nothing.
 use mathlib.Core.Path.{_≡_, refl, sym, ap, ap₂, _∙_}
 use mathlib.Core.List.{List, [], _∷_, _++_, map, append-nil, map-append}
 use Prim.Native.Nat.{ℕ, suc, _+_, _-_, _<_, _≤_}
@@ -80,7 +80,8 @@ module _ (f : Token → Token) (m : Machine) where
       → put p (f (tokenAt (rowsMapped f p m .tokens) p)) (rowsMapped f p m) ≡ rowsMapped f (p + 1) m
   unfolding withTables put tokenAt
   rows-more p l =
-      let same : getD (rows p) p blankToken ≡ getD (m .tokens) p blankToken = mapping-at f (m .tokens) p (rows p) blankToken (so-far-rows p) l in
+      let same : getD (rows p) p blankToken ≡ getD (m .tokens) p blankToken =
+      mapping-at f (m .tokens) p (rows p) blankToken (so-far-rows p) l in
       ap (λ ts. withTables ts (m .cells) m)
       (mapping-more f (m .tokens) (m .tokens) p (rows p) (f (getD (rows p) p blankToken)) blankToken (so-far-rows p) l (ap f same) .so-far)
 

@@ -38,24 +38,24 @@ delivers-as {ws} {after} {end} {r} {h} {n = n} same word gives =
     subst (λ (i : ℕ). Delivers ws after end r i n) same (subst (λ (i : ℕ). Delivers ws after end r h i) word gives)
 
 -- with the clock's handle the time is told, with any other an answer is
-module _ {ws after : List ℕ} {end : ℕ} {h v : ℕ} where
+module _ {ws after : List ℕ} {end : ℕ} {h : ℕ} (v : ℕ) where
   pub delivers-time : {b : Bool} (x : Bool)
       → ((m : Machine) (dag : List ℕ) (used cells : List Bool) → Lawful ws used cells dag m
       → Gives (Clock.advance paper (dagOf dag) m v) m after used cells (advanceReport b))
       → h ≡ clockHandle → b ≡ x → Delivers ws after end (advanceReport x) h v
-  delivers-time x gives e same m dag used cells lawful blank =
+  delivers-time {b} x gives e same m dag used cells lawful blank =
       subst (λ (y : Bool). Gives (delivered paper (dagOf dag) m h v) m after used cells (advanceReport y)) same
-      (subst (λ (o : Outcome). Gives o m after used cells (advanceReport _)) (sym (moves-clock paper (dagOf dag) m h v e))
+      (subst (λ (o : Outcome). Gives o m after used cells (advanceReport b)) (sym (moves-clock paper (dagOf dag) m h v e))
       (gives m dag used cells lawful))
 
   pub delivers-answer : {b : Bool} {u z : ℤ} (x : Bool)
       → ((m : Machine) (dag : List ℕ) (used cells : List Bool) → Lawful ws used cells dag m → BlankFrom m end
       → Gives (Answer.answer paper (dagOf dag) m h u) m after used cells (answerReport b))
       → u ≡ z → z ≡ signed v → (h ≡ clockHandle → ⊥) → b ≡ x → Delivers ws after end (answerReport x) h v
-  delivers-answer x gives e is other same m dag used cells lawful blank =
+  delivers-answer {b} x gives e is other same m dag used cells lawful blank =
       subst (λ (y : Bool). Gives (delivered paper (dagOf dag) m h v) m after used cells (answerReport y)) same
-      (subst (λ (o : Outcome). Gives o m after used cells (answerReport _)) (sym (answers paper (dagOf dag) m h v other))
-      (subst (λ (z : ℤ). Gives (Answer.answer paper (dagOf dag) m h z) m after used cells (answerReport _)) (e ∙ is)
+      (subst (λ (o : Outcome). Gives o m after used cells (answerReport b)) (sym (answers paper (dagOf dag) m h v other))
+      (subst (λ (z : ℤ). Gives (Answer.answer paper (dagOf dag) m h z) m after used cells (answerReport b)) (e ∙ is)
       (gives m dag used cells lawful blank)))
 
 -- no record that is delivered gives a token a second callee
@@ -65,7 +65,8 @@ delivery-keeps s dag m h v one = go (ℕ-discrete h clockHandle)
   where
     go : Dec (h ≡ clockHandle) → OneCallee s (delivered paper (dagOf dag) m h v .machine)
     go (yes e) =
-        subst (λ (o : Outcome). OneCallee s (o .machine)) (sym (moves-clock paper (dagOf dag) m h v e)) (advance-keeps s (dagOf dag) m v one)
+        subst (λ (o : Outcome). OneCallee s (o .machine)) (sym (moves-clock paper (dagOf dag) m h v e))
+        (advance-keeps s (dagOf dag) m v one)
     go (no f) =
         subst (λ (o : Outcome). OneCallee s (o .machine)) (sym (answers paper (dagOf dag) m h v f)) (answer-keeps s (dagOf dag) m h _ one)
 

@@ -25,9 +25,11 @@ module _ {ws dag : List ℕ} {used cells : List Bool} {m : Machine} (a : Lawful 
   unfolding Clock.advance unless
   advance-refused e = gives-refused 15 _ a (rw (a .rules, sym says ∙ e, unless)) refl
 
-  pub advance-gives : b ≡ true → {after : List ℕ} → Holds after (Clock.afterAdvance m time) → Gives call m after used cells (advanceReport true)
+  pub advance-gives : b ≡ true → {after : List ℕ} → Holds after (Clock.afterAdvance m time)
+      → Gives call m after used cells (advanceReport true)
   unfolding Clock.advance unless outcome
   advance-gives e h =
       let c = advanced-carried paper (dagOf dag) m (a .rules) time in
-      gives-whole (Clock.afterAdvance m time) replies.Done [] (advanceReport true) (rw (a .rules, sym says ∙ e, unless)) refl refl h (c .whole)
+      gives-whole (Clock.afterAdvance m time) replies.Done [] (advanceReport true) (rw (a .rules, sym says ∙ e, unless)) refl refl h
+      (c .whole)
       (λ framed. record { whole = c .whole; tokens = c .tokens ∙ sym (a .marks .tokens); cells = c .cells ∙ sym (a .marks .cells) })

@@ -99,7 +99,8 @@ module _ {ws after dag : List ℕ} {used cells : List Bool} {m : Machine} (a : L
           (gives-refused 12 _ a (tested a handle v ∙ ap (outcome m) (answered-refuses m v _ none)) refl)
 
 -- its report, by whether the handle was open; and that of a clock move, by whether the clock took the time
-pub reported : (report : Bool → Report) {o : Outcome} {m : Machine} {ws : List ℕ} {used cells : List Bool} (x : Bool) {b : Bool} {r : Report}
+pub reported : (report : Bool → Report) {o : Outcome} {m : Machine} {ws : List ℕ} {used cells : List Bool} (x : Bool) {b : Bool}
+    {r : Report}
     → Gives o m ws used cells (report b) → b ≡ x → r ≡ report x → Gives o m ws used cells r
 reported report {o} {m} {ws} {used} {cells} x g e f = subst (Gives o m ws used cells) (ap report e ∙ sym f) g
 

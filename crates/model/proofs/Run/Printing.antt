@@ -29,6 +29,16 @@ use Rattle.model.specs.declared.reply.Outcome.{Outcome}
 use Rattle.job.proofs.Number.{signed-fits}
 use Rattle.job.proofs.Test.{holds-or-fails, eq-eqb, ne-eqb, lt-ltb, le-not-ltb, le-leb, lt-not-leb}
 
+-- a record: a clock move or an answer, by its handle
+module _ (lim : Limits) (d : Dag) where
+  pub moves-clock : (m : Machine) (h v : ℕ) → h ≡ clockHandle → delivered lim d m h v ≡ Clock.advance lim d m v
+  unfolding delivered
+  moves-clock m h v e = rw (eq-eqb h clockHandle e, delivered) refl
+
+  pub answers : (m : Machine) (h v : ℕ) → (h ≡ clockHandle → ⊥) → delivered lim d m h v ≡ Answer.answer lim d m h (signed v)
+  unfolding delivered
+  answers m h v n = rw (ne-eqb h clockHandle n, delivered) refl
+
 module _ (lim : Limits) (most : ℕ) (d : Dag) where
   -- the lines from a standing on, which has made some steps already
   record From (s : Standing) (lines : List Line) : Type 0 where
@@ -128,15 +138,6 @@ module _ (lim : Limits) (most : ℕ) (d : Dag) where
         prints = rw (ok, acceptedSteps, sym z) (ap (λ xs. lines ++ xs) (f .prints) ∙ sym (append-assoc lines _ _));
       }
 
-  -- a record: a clock move or an answer, by its handle
-  pub moves-clock : (m : Machine) (h v : ℕ) → h ≡ clockHandle → delivered lim d m h v ≡ Clock.advance lim d m v
-  unfolding delivered
-  moves-clock m h v e = rw (eq-eqb h clockHandle e, delivered) refl
-
-  pub answers : (m : Machine) (h v : ℕ) → (h ≡ clockHandle → ⊥) → delivered lim d m h v ≡ Answer.answer lim d m h (signed v)
-  unfolding delivered
-  answers m h v n = rw (ne-eqb h clockHandle n, delivered) refl
-
   after-delivery : (s : Standing) {ls : List Line} (c : Call) → a s ≡ outcomeOf runner lim d (s .machine) c
       → ((cs : List Call)
       → acceptedSteps lim d (s .machine) (c ∷ cs) ≡ acceptedSteps lim d (outcomeOf runner lim d (s .machine) c .machine) cs)
@@ -163,9 +164,9 @@ module _ (lim : Limits) (most : ℕ) (d : Dag) where
       → From (recorded s) ls → From s (reportedLines (a s .reply) (a s .values) ++ ls)
   unfolding acceptedSteps outcomeOf
   after-record s q l (yes e) f =
-      after-delivery s (advance (v s)) (moves-clock (s .machine) (h s) (v s) e) (λ cs. refl) (λ cs left g. HouseCalls.ticks q l e g) f
+      after-delivery s (advance (v s)) (moves-clock lim d (s .machine) (h s) (v s) e) (λ cs. refl) (λ cs left g. HouseCalls.ticks q l e g) f
   after-record s q l (no n) f =
-      after-delivery s (answer (h s) (signed (v s)) (signed-fits _)) (answers (s .machine) (h s) (v s) n) (λ cs. refl)
+      after-delivery s (answer (h s) (signed (v s)) (signed-fits _)) (answers lim d (s .machine) (h s) (v s) n) (λ cs. refl)
       (λ cs left g. HouseCalls.delivers (signed-fits _) q l n g) f
 
   some-ready : (n : ℕ) → (n ≡ 0 → ⊥) → 0 < n

@@ -12,7 +12,8 @@ use Rattle.model.specs.Machine.Blank.{tokenAt}
 use Rattle.model.specs.Machine.Rules.{rulesHold}
 use Rattle.model.specs.Machine.State.{isDueBy, dueTimeOf}
 use Rattle.model.specs.Machine.Reply.{moves, unless, outcome}
-use Rattle.model.specs.Machine.Update.{withValue, withState, withTables, withOrders, withTimers, withClock, queueOf, waitsOf, timersOf}
+use Rattle.model.specs.Machine.Update.{withValue, withState, withTables, withOrders, withTimers, withClock}
+use Rattle.model.specs.Machine.Update.{queueOf, waitsOf, timersOf}
 use Rattle.model.specs.declared.token.Held.the-variants as helds
 use Rattle.model.specs.declared.token.State.the-variants as states
 use Rattle.model.specs.declared.token.Token.{Token}
@@ -27,8 +28,8 @@ wokenBy time t =
       | false ↦ t
     ]
 
--- "by due time, then by order of call": places sorted by the time of each. One goes in front of those that are due no earlier: of equal times
--- the first called is first
+-- "by due time, then by order of call": places sorted by the time of each. One goes in front of those that are due no earlier: of equal
+-- times the first called is first
 module _ (time : ℕ → ℕ) where
   unfoldable pub insertByTime : ℕ → List ℕ → List ℕ
   insertByTime p [] = p ∷ []

@@ -128,8 +128,8 @@ module _ (m : Machine) (p : ℕ) (t : Token) where
   unfoldable pub waited : ℕ → Effect
   waited c = waits (withOrders (queueOf m) (waitsOf m ++ (p ∷ [])) (put p (withState (states.Waiting c) t) m))
 
-  -- document 02, request 1: a call that falls due at this time, or never. "With t = 0 the token joins the back of the queue in the call's own
-  -- step, with value 0"; else it is due later, at the next node, and the last in the order of call
+  -- document 02, request 1: a call that falls due at this time, or never. "With t = 0 the token joins the back of the queue in the call's
+  -- own step, with value 0"; else it is due later, at the next node, and the last in the order of call
   unfoldable pub deferred : (next : ℕ) → (due : Option ℕ) → Effect
   deferred k none = moves (ended m p)
   deferred k (some due) =

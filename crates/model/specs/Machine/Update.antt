@@ -1,5 +1,5 @@
--- A token, a machine with a field or two changed; a name put into the queue. Step, answer and clock move say what they do in these. Assumes nothing:
--- these are definitions.
+-- A token, a machine with a field or two changed; a name put into the queue. Step, answer and clock move say what they do in these.
+-- Assumes nothing: these are definitions.
 use mathlib.Core.List.{List, [], _∷_, _++_}
 use Prim.Native.Nat.{ℕ}
 use lib.ListN.{length, set, take}

@@ -50,8 +50,8 @@ clockHandle = 4294967295
 unfoldable pub delivered : Limits → Dag → Machine → (handle value : ℕ) → Outcome
 delivered lim d m h v = elim (eqb h clockHandle) [ true ↦ advance lim d m v | false ↦ answer lim d m h (signed v) ]
 
--- "with the queue empty it delivers a record": "handle and signed value, each little-endian"; a refused answer doesn't end the run, nor does a
--- refused clock move
+-- "with the queue empty it delivers a record": "handle and signed value, each little-endian"; a refused answer doesn't end the run, nor
+-- does a refused clock move
 unfoldable pub deliverTurn : Limits → Dag → Standing → Turn
 deliverTurn lim d s =
     let o = delivered lim d (s .machine) (number (take 4 (s .rest))) (number (take 4 (drop 4 (s .rest)))) in

@@ -49,7 +49,8 @@ returns c = λ m a.
     let e = present .clock .ensures m (a .taking .lawful .holds .codes) in
     let due = known .due .given in
     let at = due-of (start .args .t) e (due .1) (rw (toZ-ofZ f) at (found .due-time .ensures)) in
-    reply-gives (a .taking) (pos 0) _ _ _ (due-now m _ _ _ _ (due .0 .0) at (omega (arith, test .if1 .taken))) (next .dag-word .ensures) (c .plain .ensures)
+    reply-gives (a .taking) (pos 0) _ _ _ (due-now m _ _ _ _ (due .0 .0) at (omega (arith, test .if1 .taken)))
+    (next .dag-word .ensures) (c .plain .ensures)
     (c .before .reply .ensures m (helds.Value (pos 0)) (a .taking .lawful .holds) (a .taking .queued) refl refl)
 
 due-later-requires : tie.Need-due-later-requires
@@ -76,9 +77,11 @@ returns-2 c = λ m a.
     let e = present .clock .ensures m (a .taking .lawful .holds .codes) in
     let due = known .due .given in
     let at = due-of (start .args .t) e (due .1) (rw (toZ-ofZ f) at (found .due-time .ensures)) in
-    due-gives (a .taking) (due .0 .0) _ _ _ (due-in-time m _ _ _ _ (due .0 .0) at (omega (arith, test .if1 .left))) (next .dag-word .ensures)
+    due-gives (a .taking) (due .0 .0) _ _ _ (due-in-time m _ _ _ _ (due .0 .0) at (omega (arith, test .if1 .left)))
+    (next .dag-word .ensures)
     (c .plain2 .ensures)
-    (c .before .due-later .ensures m (a .taking .lawful .holds) (a .taking .queued) (timers-room _ m (a .taking .lawful .rules) _ (a .taking .queued)))
+    (c .before .due-later .ensures m (a .taking .lawful .holds) (a .taking .queued)
+    (timers-room _ m (a .taking .lawful .rules) _ (a .taking .queued)))
 
 returns-3 : tie.Need-returns-3
 returns-3 c = λ m a.

@@ -114,4 +114,5 @@ pub built-in-spec : {M : Type 1} → statement M
 built-in-spec =
     tie.close
     (tie.spec array-copy-out-a array-copy-out-b add-dag-word dag-word-requires builtin-requires enum-known-v unsigned-requires
-    add-dag-word-2 dag-word-requires-2 reply-requires plain-requires enum-told end-requires enum-known-t rwait-requires returns returns-2 returns-3)
+    add-dag-word-2 dag-word-requires-2 reply-requires plain-requires enum-told end-requires enum-known-t rwait-requires
+    returns returns-2 returns-3)

@@ -32,7 +32,8 @@ returns-2 : tie.Need-returns-2
 returns-2 c =
     let s = c .before .before in
     let f = s .fits .t in
-    sym (ap dueTimeFrom (never-above (s .args .clock) (s .args .t) (rw (toZ-ofZ f) at (c .before .if1 .left)) (rw (toZ-ofZ f) at (c .if2 .taken))))
+    sym (ap dueTimeFrom (never-above (s .args .clock) (s .args .t) (rw (toZ-ofZ f) at (c .before .if1 .left))
+    (rw (toZ-ofZ f) at (c .if2 .taken))))
 
 cast-t7 : tie.Need-cast-t7
 cast-t7 c = search needs
@@ -42,7 +43,8 @@ returns-3 c =
     let s = c .before .before in
     let f = s .fits .t in
     rw (toZ-ofZ f)
-    (sym (ap dueTimeFrom (due-sum (s .args .clock) (s .args .t) (rw (toZ-ofZ f) at (c .before .if1 .left)) (rw (toZ-ofZ f) at (c .if2 .left)))))
+    (sym (ap dueTimeFrom (due-sum (s .args .clock) (s .args .t) (rw (toZ-ofZ f) at (c .before .if1 .left))
+    (rw (toZ-ofZ f) at (c .if2 .left)))))
 
 pub due-time-spec : {M : Type 1} → statement M
 due-time-spec = tie.close (tie.spec returns cast-due add-due returns-2 cast-t7 returns-3)

@@ -2,7 +2,8 @@
 use mathlib.Core.Path.{ap, _∙_}
 use borrow.Author.Needs.{needs}
 use mir.Facts.{toZ-ofZ}
-use Rattle.sites.proofs.SiteBuiltins.{says-let, says-ift, says-iff, says-signal, says-add, says-less, says-equal, says-rwait, last-site}
+use Rattle.sites.proofs.SiteBuiltins.{says-let, says-ift, says-iff, says-signal, says-add, says-less}
+use Rattle.sites.proofs.SiteBuiltins.{says-equal, says-rwait, last-site}
 use Rattle.sites.specs.SiteReply.{siteReplyOf}
 use Rattle.sites.proofs.site.builtin.Statement.{statement}
 use Rattle.sites.proofs.site.builtin.Tie as tie
@@ -81,7 +82,8 @@ returns-8 c =
     let s = c .before in
     let r = c .match .rest in
     let seven =
-    last-site (s .args .site) (s .pre) (r .0 .0 .0 .0 .0 .0 .1) (r .0 .0 .0 .0 .0 .1) (r .0 .0 .0 .0 .1) (r .0 .0 .0 .1) (r .0 .0 .1) (r .0 .1)
+    last-site (s .args .site) (s .pre) (r .0 .0 .0 .0 .0 .0 .1) (r .0 .0 .0 .0 .0 .1) (r .0 .0 .0 .0 .1) (r .0 .0 .0 .1) (r .0 .0 .1)
+    (r .0 .1)
     (r .1) in
     rw (toZ-ofZ (s .fits .a)) (ap siteReplyOf (says-rwait _ _ (s .args .b) seven))
 

@@ -1,9 +1,11 @@
--- `deliver::deliver` meets its contract: the numbers handed on are those of the record. Assumes nothing.
+-- `deliver::deliver` meets its contract: the numbers handed on are those of the record, and its handle says which call it is. Assumes
+-- nothing.
+use mathlib.Core.Bool.{true, false}
 use borrow.Author.Needs.{needs}
 use mir.Facts.{toZ-ofZ}
 use mir.Val.{SFits}
 use mir.Syntax.{w32}
-use Rattle.turns.proofs.TurnGives.{delivered}
+use Rattle.turns.proofs.TurnGives.{delivers-as, delivers-time, delivers-answer}
 use Rattle.turns.proofs.deliver.deliver.Statement.{statement}
 use Rattle.turns.proofs.deliver.deliver.Tie as tie
 
@@ -16,21 +18,53 @@ add-word-at c = search needs
 word-at-requires-2 : tie.Need-word-at-requires-2
 word-at-requires-2 c κs = search needs
 
+move-to-requires : tie.Need-move-to-requires
+move-to-requires c κs = search needs
+
+returns : tie.Need-returns
+returns c =
+    let moved = c .before in
+    let test = moved .before .before in
+    let words = test .before in
+    delivers-as (words .before .word-at .ensures) (words .word-at2 .ensures)
+    (delivers-time _ true (moved .move-to .ensures) (test .if1 .taken) (c .if2 .taken))
+
+returns-2 : tie.Need-returns-2
+returns-2 c =
+    let moved = c .before in
+    let test = moved .before .before in
+    let words = test .before in
+    delivers-as (words .before .word-at .ensures) (words .word-at2 .ensures)
+    (delivers-time _ false (moved .move-to .ensures) (test .if1 .taken) (c .if2 .left))
+
 signed-requires : tie.Need-signed-requires
 signed-requires c κs = search needs
 
 resume-requires : tie.Need-resume-requires
 resume-requires c κs = search needs
 
-returns : tie.Need-returns
-returns c =
-    let fits : SFits w32 (c .before .before .signed .result) = search needs in
-    let second = c .before .before .before in
-    delivered _ _ _ _ _ _ _ _ _ _ (c .resume .ensures) (toZ-ofZ fits) (second .before .word-at .ensures)
-    (c .before .before .signed .ensures)
-    (second .word-at2 .ensures)
+returns-3 : tie.Need-returns-3
+returns-3 c =
+    let resumed = c .before in
+    let number = resumed .before in
+    let test = number .before .before in
+    let words = test .before in
+    let fits : SFits w32 (number .signed .result) = search needs in
+    delivers-as (words .before .word-at .ensures) (words .word-at2 .ensures)
+    (delivers-answer _ true (resumed .resume .ensures) (toZ-ofZ fits) (number .signed .ensures) (test .if1 .left) (c .if3 .taken))
+
+returns-4 : tie.Need-returns-4
+returns-4 c =
+    let resumed = c .before in
+    let number = resumed .before in
+    let test = number .before .before in
+    let words = test .before in
+    let fits : SFits w32 (number .signed .result) = search needs in
+    delivers-as (words .before .word-at .ensures) (words .word-at2 .ensures)
+    (delivers-answer _ false (resumed .resume .ensures) (toZ-ofZ fits) (number .signed .ensures) (test .if1 .left) (c .if3 .left))
 
 pub deliver-spec : {M : Type 1} → statement M
 deliver-spec =
     tie.close
-    (tie.spec word-at-requires add-word-at word-at-requires-2 signed-requires resume-requires returns)
+    (tie.spec word-at-requires add-word-at word-at-requires-2 move-to-requires returns returns-2 signed-requires resume-requires returns-3
+    returns-4)
