@@ -54,7 +54,7 @@ fn calls(words: &mut [u32; Machine::WORDS], dag: &[u32; WORDS], handles: &[u32],
 pub extern "C" fn bench_calls(table: &[u8], handles: &[u32], most: u32, rounds: u32) -> u32
     ensures { λ r.
         ⌜ r ≡ roundsFrom (loadedWords (readTable (now (table .entry))) (replicate 12331 0)) (now (handles .entry)) most rounds
-        (record { count = 0; words = replicate 1797 0 }) .count ⌝ }
+        (record { count = 0; words = replicate 1863 0 }) .count ⌝ }
 {
     let mut dag = [0u32; WORDS];
     load(table, &mut dag);

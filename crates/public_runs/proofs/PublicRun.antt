@@ -17,6 +17,7 @@ use Rattle.job.specs.Words.{arrayWords, dagOf, written}
 use Rattle.calculus.specs.Allowed.{Allowed}
 use Rattle.calculus.specs.Meaning.{meaning}
 use Rattle.model.specs.Machine.Answer.{answer}
+use Rattle.model.specs.Machine.Clock.{advance}
 use Rattle.model.specs.Machine.Limits.{paper}
 use Rattle.model.specs.Machine.Reply.{isRefused, outcome, refuses, refusalOf}
 use Rattle.model.specs.Machine.Rules.{rulesHold}
@@ -38,7 +39,7 @@ use Rattle.demand3.proofs.LoadedDemand3.{loaded-first, loaded-last}
 use Rattle.record.specs.Layout.{wordsOf}
 use Rattle.record.specs.LayoutDecoded.{machineOf}
 use Rattle.coded.proofs.RecordRead.{record-read, record-is}
-use Rattle.machine.specs.PublicCalls.{Result, after, ofRecord, startOn, stepOn, answerOn}
+use Rattle.machine.specs.PublicCalls.{Result, after, ofRecord, startOn, stepOn, answerOn, advanceOn}
 use Rattle.public_runs.specs.PublicRun.{inWords, resultOf, wordsAfter, eventList}
 
 -- an accepted call leaves the words of its record; a refused one leaves all words, and the record too
@@ -67,10 +68,12 @@ module _ (dag : List ℕ) (m : Machine) (holds : rulesHold paper (dagOf dag) m �
       ∙ after-words m (f m) leaves
 
   call-on-words : (c : Call) → resultOf dag (wordsOf m) c ≡ inWords (outcomeOf runner paper (dagOf dag) m c)
-  unfolding resultOf stepOn answerOn outcomeOf
+  unfolding resultOf stepOn answerOn advanceOn outcomeOf
   call-on-words (Call.step place) = on-words (λ x. step paper (dagOf dag) x place) (refused-leaves paper (dagOf dag) m (Call.step place))
   call-on-words (Call.answer h v fits) =
       on-words (λ x. answer paper (dagOf dag) x h v) (refused-leaves paper (dagOf dag) m (Call.answer h v fits))
+  call-on-words (Call.advance time) =
+      on-words (λ x. advance paper (dagOf dag) x time) (refused-leaves paper (dagOf dag) m (Call.advance time))
 
 -- calls, one after another, from a record of a run
 module _ (dag : List ℕ) (p : Program) (good : WellFormed p) (same : dagOf dag ≡ construct p) where

@@ -2,10 +2,10 @@
 use mathlib.Core.List.{List, [], _∷_, _++_}
 use Prim.Native.Nat.{ℕ}
 use Rattle.calculus.specs.Event.{Event}
-use Rattle.model.specs.Run.Call.{Call, step, answer, eventsOf}
+use Rattle.model.specs.Run.Call.{Call, step, answer, advance, eventsOf}
 use Rattle.model.specs.declared.reply.Outcome.{Outcome}
 use Rattle.record.specs.Layout.{wordsOf}
-use Rattle.machine.specs.PublicCalls.{Result, stepOn, answerOn}
+use Rattle.machine.specs.PublicCalls.{Result, stepOn, answerOn, advanceOn}
 
 -- an outcome, with its record as words
 unfoldable pub inWords : Outcome → Result
@@ -16,6 +16,7 @@ module _ (dag : List ℕ) where
   unfoldable pub resultOf : (words : List ℕ) → Call → Result
   resultOf ws (step place) = stepOn dag ws place
   resultOf ws (answer h v fits) = answerOn dag ws h v
+  resultOf ws (advance time) = advanceOn dag ws time
 
   -- "each later one [gets] the record that the call before returned, or left when refused"
   unfoldable pub wordsAfter : (words : List ℕ) → List Call → List ℕ
