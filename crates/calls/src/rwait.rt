@@ -23,7 +23,7 @@ use writes::dag::dag_word;
 use writes::site_call::due_later;
 use writes::site_call::reply;
 
-pub(crate) fn rwait(
+pub(crate) fn fall_due(
     w: &mut [u32; Machine::WORDS],
     tokens: &mut [bool; Machine::TOKENS],
     cells: &mut [bool; Machine::CELLS],

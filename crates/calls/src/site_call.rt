@@ -8,7 +8,7 @@ ghost use Rattle.model.specs.Machine.Limits.{paper};
 ghost use Rattle.model.specs.Machine.Step as Step;
 ghost use Rattle.acts.specs.Acting.{SomeMachine, Acting, Gives};
 ghost use Rattle.calls.specs.SiteCall.{Evaluated};
-use crate::rwait::rwait;
+use crate::rwait::fall_due;
 use acts::end::end;
 use acts::report::plain;
 use job::dag::CALL_LIMIT;
@@ -86,7 +86,7 @@ fn built_in(
             plain(Reply::Done)
         }
         SiteReply::Silent => end(w, tokens, cells, place, p, Reply::Done),
-        SiteReply::Later(t) => rwait(w, tokens, cells, dag, place, p, at, t),
+        SiteReply::Later(t) => fall_due(w, tokens, cells, dag, place, p, at, t),
     }
 }
 

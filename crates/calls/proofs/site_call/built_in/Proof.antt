@@ -61,8 +61,8 @@ end-requires c κs = token-inside (c .before .before .before .before .before .be
 enum-known-t : tie.Need-enum-known-t
 enum-known-t c = search needs
 
-rwait-requires : tie.Need-rwait-requires
-rwait-requires c κs =
+fall-due-requires : tie.Need-fall-due-requires
+fall-due-requires c κs =
     let s = c .before .before .before .before .before .before .before .before .before .before in
     record { machine = s .pre .0 .machine; is = s .pre .0 .is .acting }
 
@@ -108,11 +108,11 @@ returns-3 c = λ m k.
     let h : SFits w32 (t .0 .0) = record { sfits = c .before .before .before .before .known-told2 .given .0 .1 } in
     let back = reply-back _ _ (rw (toZ-ofZ f, toZ-ofZ g) at (said .builtin .ensures)) in
     let reply = replied-by (k .values) vs (s .pre .1) (k .padded) (word .dag-word .ensures) back (t .1) in
-    gives-as (says _ _ _ _ m k (later (t .0 .0)) (s .pre .1) reply) (rw (toZ-ofZ h) at (c .rwait .ensures m (k .acting)))
+    gives-as (says _ _ _ _ m k (later (t .0 .0)) (s .pre .1) reply) (rw (toZ-ofZ h) at (c .fall-due .ensures m (k .acting)))
 
 pub built-in-spec : {M : Type 1} → statement M
 built-in-spec =
     tie.close
     (tie.spec array-copy-out-a array-copy-out-b add-dag-word dag-word-requires builtin-requires enum-known-v unsigned-requires
-    add-dag-word-2 dag-word-requires-2 reply-requires plain-requires enum-told end-requires enum-known-t rwait-requires
+    add-dag-word-2 dag-word-requires-2 reply-requires plain-requires enum-told end-requires enum-known-t fall-due-requires
     returns returns-2 returns-3)

@@ -1,4 +1,4 @@
--- `rwait::rwait` meets its contract: each way out is how the definition's step ends there. Assumes nothing.
+-- `rwait::fall_due` meets its contract: each way out is how the definition's step ends there. Assumes nothing.
 use mathlib.Core.Path.{refl, sym, ap, subst, _∙_}
 use native.Mathlib.Omega.{arith}
 use borrow.Author.Needs.{needs}
@@ -12,8 +12,8 @@ use Rattle.calls.proofs.SiteCall.{reply-gives, due-gives, due-of, never
 use Rattle.sites.proofs.RuleFacts.{timers-room}
 use Rattle.acts.proofs.EndRebind.{gives-as}
 use Rattle.acts.proofs.Outcomes.{row-fits, token-inside}
-use Rattle.calls.proofs.rwait.rwait.Statement.{statement}
-use Rattle.calls.proofs.rwait.rwait.Tie as tie
+use Rattle.calls.proofs.rwait.fall_due.Statement.{statement}
+use Rattle.calls.proofs.rwait.fall_due.Tie as tie
 
 clock-requires : tie.Need-clock-requires
 clock-requires c κs = search needs
@@ -94,8 +94,8 @@ returns-3 c = λ m a.
     let none = due-of (start .args .t) e (told .enum-told .given .1) (rw (toZ-ofZ f) at (found .due-time .ensures)) in
     gives-as (never-due m _ _ _ _ none) (c .end .ensures m _ (a .taking))
 
-pub rwait-spec : {M : Type 1} → statement M
-rwait-spec =
+pub fall-due-spec : {M : Type 1} → statement M
+fall-due-spec =
     tie.close
     (tie.spec clock-requires due-time-requires enum-known-due add-dag-word dag-word-requires reply-requires plain-requires returns
     due-later-requires plain-requires-2 enum-told end-requires returns-2 returns-3)
