@@ -24,7 +24,6 @@ use record::order::leave;
 use record::token::set_node;
 use record::token::set_state;
 use record::token::set_value;
-use sites::number::unsigned;
 
 // "the first unset cell makes the token wait there": at the cell c.
 pub fn wait(w: &mut [u32; Machine::WORDS], place: usize, p: usize, c: u32)

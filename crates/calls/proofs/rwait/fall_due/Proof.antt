@@ -1,5 +1,5 @@
 -- `rwait::fall_due` meets its contract: each way out is how the definition's step ends there. Assumes nothing.
-use mathlib.Core.Path.{refl, sym, ap, subst, _∙_}
+use mathlib.Core.Path.{refl}
 use native.Mathlib.Omega.{arith}
 use borrow.Author.Needs.{needs}
 use lib.IntN.{pos}
