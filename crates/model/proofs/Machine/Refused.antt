@@ -186,6 +186,12 @@ answer-accepted lim d m h v a = record { holds = k; does = ap (outcome m) (unles
     k : rulesHold lim d m ≡ true
     k = unless-accepted m (rulesHold lim d m) 14 inner a
 
+-- "Checks: 15, .. after 14": whatever the time, 14 comes first
+pub advance-rule-first : (lim : Limits) (d : Dag) (m : Machine) (time : ℕ) → rulesHold lim d m ≡ false
+    → advance lim d m time ≡ outcome m (refuses 14)
+unfolding advance unless
+advance-rule-first lim d m time e = rw (e, advance, unless) refl
+
 -- a clock move tests 14, 15: where it is accepted the rules held, and the time is one that the clock takes
 pub record AdvanceAccepted (lim : Limits) (d : Dag) (m : Machine) (time : ℕ) : Type 0 where
   pub holds : rulesHold lim d m ≡ true
