@@ -6,18 +6,20 @@ use mathlib.Core.List.{List, []}
 use Prim.Native.Nat.{ℕ, _+_, _≤_}
 use lib.IntN.{ℤ}
 use Rattle.job.proofs.Test.{clash}
-use Rattle.model.specs.Output.Line.{textOfAll}
+use Rattle.model.specs.Output.Line.{refused, textOf, textOfAll}
 use Rattle.model.specs.Output.Orcrun.{reportedLines}
-use Rattle.model.specs.Machine.Reply.{isRefused}
+use Rattle.model.specs.Machine.Reply.{numberOf, isRefused}
 use Rattle.model.specs.declared.record.Machine.{Machine}
 use Rattle.model.specs.declared.reply.Outcome.{Outcome}
+use Rattle.model.specs.declared.reply.Refusal.the-variants as refusals
 use Rattle.model.specs.declared.reply.Reply.{Reply}
 use Rattle.model.specs.declared.reply.Reply.the-variants as replies
 use Rattle.model.specs.declared.reply.Report.{Report}
 use Rattle.acts.specs.SharedFrames.{Stepped}
 use Rattle.lines.specs.Shown.{ShowsBytes}
 use Rattle.lines.proofs.ShownBytes.{shows-as}
-use Rattle.turns.specs.Turn.{hasLine, isOver}
+use Rattle.lines.proofs.ReportLines.{tells-refusal}
+use Rattle.turns.specs.Turn.{hasLine, isOver, deliveryReport, IsDeliveryNumber, taken, notOpen, wrongTime}
 use Rattle.house.specs.TurnLeaves.{TurnLeaves}
 
 -- a reply without a line prints nothing and refuses nothing
@@ -43,3 +45,15 @@ module _ {o : Outcome} {m : Machine} {ws : List ℕ} {used cells shared : List B
         few = few;
         over = ends ∙ ap (isOver (m .queued)) (g .gives .reply);
       }
+
+-- a delivery, by its number: nothing is printed where it was taken, else the number
+pub taken-line : {n : ℕ} → n ≡ 0 → [] ≡ textOfAll (reportedLines (deliveryReport n .reply) (deliveryReport n .values))
+unfolding deliveryReport reportedLines textOfAll
+taken-line e = rw e refl
+
+pub refused-line : {n : ℕ} → IsDeliveryNumber n → (n ≡ 0 → ⊥)
+    → textOf (refused n) ≡ textOfAll (reportedLines (deliveryReport n .reply) (deliveryReport n .values))
+unfolding deliveryReport numberOf
+refused-line taken f = absurd (f refl)
+refused-line notOpen f = tells-refusal _ _ _ refusals.NotOpen refl refl
+refused-line wrongTime f = tells-refusal _ _ _ refusals.WrongTime refl refl

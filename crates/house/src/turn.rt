@@ -12,6 +12,7 @@ ghost use Rattle.acts.specs.SharedFrames.{OneCallee};
 ghost use Rattle.turns.specs.Turn.{turnOutcome};
 ghost use Rattle.house.specs.TurnLeaves.{TurnLeaves, goesOn};
 use job::dag::WORDS;
+use lines::report::show_refused;
 use lines::report::show_reply;
 use model::record::Machine;
 use reach::marks::few_or_all;
@@ -43,11 +44,11 @@ pub(crate) fn deliver_turn(
         (now (output .entry)) from total (now (output .exit)) (goesOn r)) ⌝ }
 {
     let end = few_or_all(tokens, Machine::TOKENS);
-    let reply = deliver(w, rest, at, end);
-    if has_line(reply) {
-        return show_reply(reply, [0; 4], output, from, total);
+    let number = deliver(w, rest, at, end);
+    if number == 0 {
+        return total;
     }
-    total
+    show_refused(number, output, from, total)
 }
 
 // "It runs house order"; "a refused step ends the run".

@@ -55,7 +55,7 @@ fn show_call(
     show_front(&buffer, n, output, from, total)
 }
 
-fn show_refused(number: u8, output: &mut [u8], from: usize, total: usize) -> usize
+pub fn show_refused(number: u8, output: &mut [u8], from: usize, total: usize) -> usize
     requires { ⌜ total + 80 ≤ 1000000000 ⌝ }
     ensures { λ r. ⌜ ShowsBytes (now (output .entry)) from total (textOf (refused number)) (now (output .exit)) r ⌝ }
     ensures { λ r. ⌜ r ≤ total + 80 ⌝ }

@@ -1,6 +1,6 @@
 -- What a turn leaves in lent words: the delivery's or the step's outcome is the turn's. Assumes nothing.
-use mathlib.Core.Path.{_≡_, refl, sym, _∙_, subst}
-use mathlib.Core.Bool.{Bool}
+use mathlib.Core.Path.{_≡_, refl, sym, _∙_, ap, subst}
+use mathlib.Core.Bool.{Bool, true, false}
 use mathlib.Core.List.{List}
 use Prim.Native.Nat.{ℕ, _+_}
 use native.Mathlib.Decide.{ℕ-discrete}
@@ -22,7 +22,7 @@ use Rattle.model.proofs.Run.Printing.{moves-clock, answers}
 use Rattle.acts.specs.Acting.{Lawful, QueueHasToken, Gives, answerReport, advanceReport}
 use Rattle.acts.specs.SharedFrames.{OneCallee, Stepped}
 use Rattle.acts.proofs.CalleeSteps.{answer-keeps, advance-keeps}
-use Rattle.turns.specs.Turn.{turnOutcome}
+use Rattle.turns.specs.Turn.{turnOutcome, deliveryReport}
 use Rattle.turns.proofs.TurnCases.{turn-empty, turn-ready}
 
 -- a delivery, for any record that the words hold
@@ -37,23 +37,34 @@ pub delivers-as : {ws after : List ℕ} {end : ℕ} {r : Report} {h k v n : ℕ}
 delivers-as {ws} {after} {end} {r} {h} {n = n} same word gives =
     subst (λ (i : ℕ). Delivers ws after end r i n) same (subst (λ (i : ℕ). Delivers ws after end r h i) word gives)
 
+-- the two reports as numbers
+pub of-clock : (b : Bool) {n : ℕ} → n ≡ elim b as (λ b. ℕ) [ true ↦ 0 | false ↦ 15 ] → advanceReport b ≡ deliveryReport n
+unfolding deliveryReport
+of-clock true e = rw e refl
+of-clock false e = rw e refl
+
+pub of-answer : (b : Bool) {n : ℕ} → n ≡ elim b as (λ b. ℕ) [ true ↦ 0 | false ↦ 12 ] → answerReport b ≡ deliveryReport n
+unfolding deliveryReport
+of-answer true e = rw e refl
+of-answer false e = rw e refl
+
 -- with the clock's handle the time is told, with any other an answer is
 module _ {ws after : List ℕ} {end : ℕ} {h : ℕ} (v : ℕ) where
   pub delivers-time : {b : Bool} (x : Bool)
       → ((m : Machine) (dag : List ℕ) (used cells : List Bool) → Lawful ws used cells dag m
       → Gives (Clock.advance paper (dagOf dag) m v) m after used cells (advanceReport b))
-      → h ≡ clockHandle → b ≡ x → Delivers ws after end (advanceReport x) h v
-  delivers-time {b} x gives e same m dag used cells lawful blank =
-      subst (λ (y : Bool). Gives (delivered paper (dagOf dag) m h v) m after used cells (advanceReport y)) same
+      → h ≡ clockHandle → b ≡ x → {n : ℕ} → n ≡ elim x as (λ b. ℕ) [ true ↦ 0 | false ↦ 15 ] → Delivers ws after end (deliveryReport n) h v
+  delivers-time {b} x gives e same number m dag used cells lawful blank =
+      subst (λ (r : Report). Gives (delivered paper (dagOf dag) m h v) m after used cells r) (ap advanceReport same ∙ of-clock x number)
       (subst (λ (o : Outcome). Gives o m after used cells (advanceReport b)) (sym (moves-clock paper (dagOf dag) m h v e))
       (gives m dag used cells lawful))
 
   pub delivers-answer : {b : Bool} {u z : ℤ} (x : Bool)
       → ((m : Machine) (dag : List ℕ) (used cells : List Bool) → Lawful ws used cells dag m → BlankFrom m end
       → Gives (Answer.answer paper (dagOf dag) m h u) m after used cells (answerReport b))
-      → u ≡ z → z ≡ signed v → (h ≡ clockHandle → ⊥) → b ≡ x → Delivers ws after end (answerReport x) h v
-  delivers-answer {b} x gives e is other same m dag used cells lawful blank =
-      subst (λ (y : Bool). Gives (delivered paper (dagOf dag) m h v) m after used cells (answerReport y)) same
+      → u ≡ z → z ≡ signed v → (h ≡ clockHandle → ⊥) → b ≡ x → {n : ℕ} → n ≡ elim x as (λ b. ℕ) [ true ↦ 0 | false ↦ 12 ] → Delivers ws after end (deliveryReport n) h v
+  delivers-answer {b} x gives e is other same number m dag used cells lawful blank =
+      subst (λ (r : Report). Gives (delivered paper (dagOf dag) m h v) m after used cells r) (ap answerReport same ∙ of-answer x number)
       (subst (λ (o : Outcome). Gives o m after used cells (answerReport b)) (sym (answers paper (dagOf dag) m h v other))
       (subst (λ (z : ℤ). Gives (Answer.answer paper (dagOf dag) m h z) m after used cells (answerReport b)) (e ∙ is)
       (gives m dag used cells lawful blank)))

@@ -7,13 +7,15 @@ use lib.Dec.{eqb, ltb}
 use Rattle.job.specs.Number.{number}
 use Rattle.job.specs.Node.{Dag}
 use Rattle.model.specs.Machine.Limits.{paper}
-use Rattle.model.specs.Machine.Reply.{isRefused}
+use Rattle.model.specs.Machine.Reply.{isRefused, refusalOf}
 use Rattle.model.specs.Machine.Step as Step
 use Rattle.model.specs.Output.Orcrun.{delivered}
 use Rattle.model.specs.declared.record.Machine.{Machine}
 use Rattle.model.specs.declared.reply.Reply.{Reply}
 use Rattle.model.specs.declared.reply.Reply.the-variants as replies
 use Rattle.model.specs.declared.reply.Outcome.{Outcome}
+use Rattle.model.specs.declared.reply.Report.{Report}
+use Rattle.acts.specs.Acting.{plain}
 
 -- no token is ready, and fewer bytes are left than a record has
 unfoldable pub isLast : (queued left : ℕ) → Bool
@@ -42,6 +44,16 @@ turnOutcome d m rest at =
       | true ↦ delivered paper d m (number (take 4 (drop at rest))) (number (take 4 (drop (at + 4) rest)))
       | false ↦ Step.step paper d m 0
     ]
+
+-- what a delivery reports, by its number: 0 where it was accepted, else that of the refusal
+unfoldable pub deliveryReport : (number : ℕ) → Report
+deliveryReport n = elim (eqb n 0) [ true ↦ plain replies.Done | false ↦ plain (replies.Refused (refusalOf n)) ]
+
+-- a record is taken, or refused with 12 or 15
+pub data IsDeliveryNumber : ℕ → Type 0 where
+  taken : IsDeliveryNumber 0
+  notOpen : IsDeliveryNumber 12
+  wrongTime : IsDeliveryNumber 15
 
 -- "8-byte records": the one that was delivered is behind
 unfoldable pub nextAt : (queued at : ℕ) → ℕ
