@@ -62,7 +62,8 @@ module _ {ws after : List ℕ} {end : ℕ} {h : ℕ} (v : ℕ) where
   pub delivers-answer : {b : Bool} {u z : ℤ} (x : Bool)
       → ((m : Machine) (dag : List ℕ) (used cells : List Bool) → Lawful ws used cells dag m → BlankFrom m end
       → Gives (Answer.answer paper (dagOf dag) m h u) m after used cells (answerReport b))
-      → u ≡ z → z ≡ signed v → (h ≡ clockHandle → ⊥) → b ≡ x → {n : ℕ} → n ≡ elim x as (λ b. ℕ) [ true ↦ 0 | false ↦ 12 ] → Delivers ws after end (deliveryReport n) h v
+      → u ≡ z → z ≡ signed v → (h ≡ clockHandle → ⊥) → b ≡ x → {n : ℕ} → n ≡ elim x as (λ b. ℕ) [ true ↦ 0 | false ↦ 12 ]
+      → Delivers ws after end (deliveryReport n) h v
   delivers-answer {b} x gives e is other same number m dag used cells lawful blank =
       subst (λ (r : Report). Gives (delivered paper (dagOf dag) m h v) m after used cells r) (ap answerReport same ∙ of-answer x number)
       (subst (λ (o : Outcome). Gives o m after used cells (answerReport b)) (sym (answers paper (dagOf dag) m h v other))

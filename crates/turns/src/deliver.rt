@@ -22,8 +22,8 @@ use unchecked::answer::resume;
 // "A record with handle 4294967295 names the time."
 const CLOCK_HANDLE: u32 = 4294967295;
 
-// Delivers the record at an index: "handle and signed value, each little-endian", or the time. Answers 0, or the number of the refusal. From
-// the end on no token is in use.
+// Delivers the record at an index: "handle and signed value, each little-endian", or the time. Answers 0, or the number of the refusal.
+// From the end on no token is in use.
 pub fn deliver(w: &mut [u32; Machine::WORDS], rest: &[u8], at: usize, end: usize) -> u8
     requires { ⌜ (at + 8 ≤ length (now rest)) × (end ≤ 64) ⌝ }
     ensures { λ r. ⌜ ((m : Machine) (dag : List ℕ) (used cells : List Bool) → Lawful (now (w .entry)) used cells dag m → BlankFrom m end

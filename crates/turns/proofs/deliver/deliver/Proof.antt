@@ -62,7 +62,8 @@ returns-3 c =
     let words = test .before in
     let fits : SFits w32 (number .signed .result) = search needs in (
       delivers-as (words .before .word-at .ensures) (words .word-at2 .ensures)
-          (delivers-answer _ true (resumed .resume .ensures) (toZ-ofZ fits) (number .signed .ensures) (test .if1 .left) (c .if3 .taken) refl),
+          (delivers-answer _ true (resumed .resume .ensures) (toZ-ofZ fits) (number .signed .ensures) (test .if1 .left) (c .if3 .taken)
+          refl),
       taken,
     )
 
@@ -78,7 +79,8 @@ returns-4 c =
     let words = test .before in
     let fits : SFits w32 (number .signed .result) = search needs in (
       delivers-as (words .before .word-at .ensures) (words .word-at2 .ensures)
-          (delivers-answer _ false (resumed .resume .ensures) (toZ-ofZ fits) (number .signed .ensures) (test .if1 .left) (c .before .if3 .left)
+          (delivers-answer _ false (resumed .resume .ensures) (toZ-ofZ fits) (number .signed .ensures) (test .if1 .left)
+          (c .before .if3 .left)
           (c .number-of2 .ensures)),
       subst IsDeliveryNumber (sym (c .number-of2 .ensures)) notOpen,
     )
