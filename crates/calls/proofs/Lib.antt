@@ -1,2 +1,3 @@
 -- Laws of the site call.
+pub mod TimedReply
 pub mod SiteCall

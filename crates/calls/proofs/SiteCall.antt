@@ -12,14 +12,12 @@ use lib.IntN.{ℤ, pos}
 use Rattle.job.specs.Site.{BuiltinReply, gives, silent, later, dueTime, at, isBuiltin, builtin}
 use Rattle.sites.specs.declared.site.SiteReply.{SiteReply}
 use Rattle.sites.specs.SiteReply.{builtinReplyOf}
-use Rattle.sites.specs.DueTime.{dueTimeFrom, optionOf}
-use Rattle.sites.specs.declared.due.DueTime.{DueTime}
-use Rattle.sites.proofs.SiteCalls.{says-to-front, due-back}
+use Rattle.sites.proofs.SiteCalls.{says-to-front}
 use Rattle.job.specs.Words.{dagOf}
 use Rattle.model.specs.Machine.Blank.{blankToken, tokenAt}
 use Rattle.model.specs.Machine.InUse.{tokensUsed, cellsUsed}
 use Rattle.model.specs.Machine.Limits.{paper}
-use Rattle.model.specs.Machine.Reply.{moves, accepted, outcome, unless, refuses, reportValues}
+use Rattle.model.specs.Machine.Reply.{Effect, moves, accepted, outcome, unless, refuses, reportValues}
 use Rattle.model.specs.Machine.Update as Update
 use Rattle.model.specs.Machine.Step as Step
 use Rattle.model.specs.Machine.Update.{withNode, withState, withValue, put, enqueue, withTables, withOrders, withCounts}
@@ -47,6 +45,9 @@ use Rattle.sites.proofs.RowKinds.{site-params}
 use Rattle.model.specs.Machine.Rules.{nodeRule}
 use Rattle.acts.specs.Acting.{Acting, Taking, Gives, plain}
 use Rattle.calls.specs.SiteCall.{Evaluated}
+use Rattle.calls.specs.TimedReply.{settledDue, settledAt}
+use Rattle.calls.specs.declared.rwait.TimedReply.{TimedReply}
+use Rattle.calls.specs.declared.rwait.TimedReply.the-variants as settleds
 use Rattle.acts.proofs.Outcomes.{gives-whole, token-inside, row, node-rule}
 use Rattle.acts.proofs.StepAtNode.{site-step}
 
@@ -138,7 +139,7 @@ module _ (dag : List ℕ) (place p from : ℕ) (m : Machine) where
         site-step dag place p from m (k .acting)
         ∙ ap (λ l. outcome m (callSite paper (dequeued m place) p mine (word 1) (word 2) l)) (k .found)
 
-    pub says : (said : BuiltinReply) → word 1 < 8 → builtin (word 1) (k .values) ≡ said
+    says : (said : BuiltinReply) → word 1 < 8 → builtin (word 1) (k .values) ≡ said
         → Step.step paper (dagOf dag) m place ≡ outcome m (Step.replied (dequeued m place) p mine (word 2) said)
     unfolding by-site isBuiltin
     says said l e =
@@ -187,38 +188,46 @@ pub silent-ends : (m : Machine) (place p k : ℕ) → outcome m (Step.replied (d
 unfolding outcome Step.replied Step.ended
 silent-ends m place p k = refl
 
--- when a call of rwait falls due, as the code has it
-pub due-of : {clock present : ℕ} (time : ℤ) {x y : DueTime} → present ≡ clock → x ≡ y → x ≡ dueTimeFrom (dueTime present time)
-    → optionOf y ≡ dueTime clock time
-due-of {clock} {present} time {x} {y} e f g = due-back y _ (sym f ∙ g) ∙ ap (λ n. dueTime n time) e
+-- what a settled reply does
+module _ (m : Machine) (place p k : ℕ) where
+  abbrev settledEffect : TimedReply → Effect
+  settledEffect (settleds.Gives v) = Step.replied (dequeued m place) p (tokenAt (m .tokens) p) k (gives v)
+  settledEffect settleds.Silent = Step.replied (dequeued m place) p (tokenAt (m .tokens) p) k silent
+  settledEffect (settleds.Due due) = moves (inTime (dequeued m place) p (tokenAt (m .tokens) p) k due)
 
--- rwait, by when its call falls due
-module _ (m : Machine) (place p k : ℕ) (time : ℤ) where
-  abbrev deferred : Outcome
-  deferred = outcome m (Step.replied (dequeued m place) p (tokenAt (m .tokens) p) k (later time))
-
-  by-due : {o : Option ℕ} → o ≡ dueTime (m .clock) time
-      → deferred ≡ outcome m (Step.deferred (dequeued m place) p (tokenAt (m .tokens) p) k o)
-  unfolding Step.replied withOrders
-  by-due e = sym (ap (λ o. outcome m (Step.deferred (dequeued m place) p (tokenAt (m .tokens) p) k o)) e)
-
-  pub never-due : none ≡ dueTime (m .clock) time → deferred ≡ accepted replies.Done [] (put p blankToken (dequeued m place))
-  unfolding outcome Step.deferred Step.ended
-  never-due e = by-due e
-
-  pub due-now : (due : ℕ) → some due ≡ dueTime (m .clock) time → due ≤ m .clock
-      → deferred ≡ outcome m (Step.replied (dequeued m place) p (tokenAt (m .tokens) p) k (gives (pos 0)))
+  settled-due : (o : Option ℕ)
+      → Step.deferred (dequeued m place) p (tokenAt (m .tokens) p) k o ≡ settledEffect (settledDue (m .clock) o)
   unfolding Step.deferred Step.replied withOrders
-  due-now due e l = by-due e ∙ rw (le-not-ltb (m .clock) due l, Step.deferred)
+  settled-due none = refl
+  settled-due (some due) = go (ltb (m .clock) due)
+    where
+      go : (b : Bool)
+          → elim b as (λ b. Effect) [
+            | false ↦ Step.goesOn (dequeued m place) p (withNode k (withValue (helds.Value (pos 0)) (tokenAt (m .tokens) p)))
+            | true ↦ moves (inTime (dequeued m place) p (tokenAt (m .tokens) p) k due)
+          ]
+          ≡ settledEffect (elim b as (λ b. TimedReply) [ true ↦ settleds.Due due | false ↦ settleds.Gives (pos 0) ])
+      go true = refl
+      go false = refl
 
-  pub due-in-time : (due : ℕ) → some due ≡ dueTime (m .clock) time → m .clock < due
-      → deferred ≡ outcome m (moves (inTime (dequeued m place) p (tokenAt (m .tokens) p) k due))
-  unfolding Step.deferred withOrders
-  due-in-time due e l = by-due e ∙ rw (lt-ltb (m .clock) due l, Step.deferred)
+  settled-does : (r : BuiltinReply)
+      → Step.replied (dequeued m place) p (tokenAt (m .tokens) p) k r ≡ settledEffect (settledAt (m .clock) r)
+  unfolding Step.replied withOrders
+  settled-does (gives v) = refl
+  settled-does silent = refl
+  settled-does (later t) = settled-due (dueTime (m .clock) t)
+
+-- a built-in's call, by what the code settled
+pub settles : {ws dag : List ℕ} {used cells : List Bool} {place p from : ℕ} {vs : List ℤ} {m : Machine}
+    → (k : Evaluated ws used cells dag place p from vs m) → {s : TimedReply} (u : TimedReply) → getD dag (from + 1) 0 < 8
+    → s ≡ settledAt (m .clock) (builtin (getD dag (from + 1) 0) (k .values)) → s ≡ u
+    → Step.step paper (dagOf dag) m place ≡ outcome m (settledEffect m place p (getD dag (from + 2) 0) u)
+settles {dag = dag} {place = place} {p = p} {from = from} {m = m} k u l e f =
+    says dag place p from m k _ l refl
+    ∙ ap (outcome m) (settled-does m place p _ _ ∙ ap (settledEffect m place p _) (sym e ∙ f))
 
 -- what the code got is what the site says to all values
-pub replied-by : {s i : ℕ} (vs xs : List ℤ) {x y : SiteReply} → i < 8 → xs ≡ reportValues vs → s ≡ i
-    → builtinReplyOf x ≡ builtin s (at xs 0 ∷ at xs 1 ∷ []) → x ≡ y
-    → builtin i vs ≡ builtinReplyOf y
-replied-by {s} {i} vs xs l e same got f =
-    sym (says-to-front i vs xs l e) ∙ ap (λ j. builtin j (at xs 0 ∷ at xs 1 ∷ [])) (sym same) ∙ sym got ∙ ap builtinReplyOf f
+pub replied-by : {s i : ℕ} (vs xs : List ℤ) (x : SiteReply) → i < 8 → xs ≡ reportValues vs → s ≡ i
+    → builtinReplyOf x ≡ builtin s (at xs 0 ∷ at xs 1 ∷ []) → builtinReplyOf x ≡ builtin i vs
+replied-by {s} {i} vs xs x l e same got =
+    got ∙ ap (λ j. builtin j (at xs 0 ∷ at xs 1 ∷ [])) same ∙ says-to-front i vs xs l e

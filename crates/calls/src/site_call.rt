@@ -8,7 +8,8 @@ ghost use Rattle.model.specs.Machine.Limits.{paper};
 ghost use Rattle.model.specs.Machine.Step as Step;
 ghost use Rattle.acts.specs.Acting.{SomeMachine, Acting, Gives};
 ghost use Rattle.calls.specs.SiteCall.{Evaluated};
-use crate::rwait::fall_due;
+use crate::rwait::TimedReply;
+use crate::rwait::settle;
 use acts::end::end;
 use acts::report::plain;
 use job::dag::CALL_LIMIT;
@@ -25,10 +26,10 @@ use record::count::calls_made;
 use record::layout::CELL_PLACE_COUNT;
 use sites::look::look_up;
 use sites::number::unsigned;
-use sites::site::SiteReply;
 use sites::site::builtin;
 use writes::dag::dag_word;
 use writes::site_call::call_out;
+use writes::site_call::due_later;
 use writes::site_call::reply;
 use writes::site_call::wait;
 
@@ -80,13 +81,17 @@ fn built_in(
 {
     let a = values[0];
     let b = values[1];
-    match builtin(dag_word(dag, at + NAMED_NUMBER), a, b) {
-        SiteReply::Gives(v) => {
+    let said = builtin(dag_word(dag, at + NAMED_NUMBER), a, b);
+    match settle(w, said) {
+        TimedReply::Gives(v) => {
             reply(w, place, p, unsigned(v), dag_word(dag, at + NEXT_NODE));
             plain(Reply::Done)
         }
-        SiteReply::Silent => end(w, tokens, cells, place, p, Reply::Done),
-        SiteReply::Later(t) => fall_due(w, tokens, cells, dag, place, p, at, t),
+        TimedReply::Silent => end(w, tokens, cells, place, p, Reply::Done),
+        TimedReply::Due(due) => {
+            due_later(w, place, p, due, dag_word(dag, at + NEXT_NODE));
+            plain(Reply::Done)
+        }
     }
 }
 
