@@ -7,6 +7,8 @@ ghost use Prim.Native.Nat.{ℕ, _+_, _≤_};
 ghost use lib.ListN.{length};
 ghost use Rattle.job.specs.Words.{dagOf};
 ghost use Rattle.model.specs.declared.record.Machine.{Machine};
+ghost use Rattle.model.specs.Output.Line.{refused, textOf};
+ghost use Rattle.lines.specs.Shown.{ShowsBytes};
 ghost use Rattle.acts.specs.Acting.{SomeMachine, Lawful, QueueHasToken};
 ghost use Rattle.acts.specs.SharedFrames.{OneCallee};
 ghost use Rattle.turns.specs.Turn.{turnOutcome};
@@ -15,6 +17,8 @@ use job::dag::WORDS;
 use lines::report::show_refused;
 use lines::report::show_reply;
 use model::record::Machine;
+use model::reply::Refusal;
+use model::reply::number_of;
 use reach::marks::few_or_all;
 use turns::deliver::deliver;
 use turns::reply::has_line;
@@ -25,6 +29,27 @@ use unchecked::step::step;
 pub(crate) struct TurnEnd {
     pub total: usize,
     pub over: bool,
+}
+
+// The line of an answer to a handle that is not open: it is the same for all.
+fn show_not_open(output: &mut [u8], from: usize, total: usize) -> usize
+    requires { ⌜ total + 80 ≤ 1000000000 ⌝ }
+    ensures { λ r. ⌜ ShowsBytes (now (output .entry)) from total (textOf (refused 12)) (now (output .exit)) r ⌝ }
+    ensures { λ r. ⌜ r ≤ total + 80 ⌝ }
+{
+    show_refused(number_of(Refusal::NotOpen), output, from, total)
+}
+
+// The line of a refused record. Late answers may be many: theirs is put without a look at digits.
+fn show_declined(number: u8, output: &mut [u8], from: usize, total: usize) -> usize
+    requires { ⌜ total + 80 ≤ 1000000000 ⌝ }
+    ensures { λ r. ⌜ ShowsBytes (now (output .entry)) from total (textOf (refused number)) (now (output .exit)) r ⌝ }
+    ensures { λ r. ⌜ r ≤ total + 80 ⌝ }
+{
+    if number == number_of(Refusal::NotOpen) {
+        return show_not_open(output, from, total);
+    }
+    show_refused(number, output, from, total)
 }
 
 // "With the queue empty it delivers a record"; a refused answer or clock move doesn't end the run.
@@ -48,7 +73,7 @@ pub(crate) fn deliver_turn(
     if number == 0 {
         return total;
     }
-    show_refused(number, output, from, total)
+    show_declined(number, output, from, total)
 }
 
 // "It runs house order"; "a refused step ends the run".

@@ -1,21 +1,22 @@
 // An order in an array: its names come first, zeros behind them.
 ghost use mathlib.Core.Path.{_≡_};
 ghost use mathlib.Core.Bool.{false};
+ghost use mathlib.Core.List.{[], _∷_, _++_};
 ghost use Prim.Native.Nat.{_<_, _≤_, _-_};
 ghost use lib.ListN.{length, getD, take, drop, replicate};
 ghost use Rattle.job.specs.Test.{padded, without};
 ghost use Rattle.orders.specs.NamesRetained.{Retained};
 use job::wide::wide;
 
-// An order with the name at an index left out: from the back, each name goes one place to the front. (Most orders are short, and a loop
-// from the front is made a call of `memmove`.)
-pub fn left_out(names: &mut [u32], count: usize, index: usize)
+// An order with the name at an index left out and another word behind the last: from the back, each name goes one place to the front.
+// (Most orders are short, and a loop from the front is made a call of `memmove`.)
+pub fn left_out(names: &mut [u32], count: usize, index: usize, last: u32)
     requires { ⌜ (index < count) × (count ≤ 64) × (length (now names) ≡ 64) ⌝ }
     ensures { λ _.
         ⌜ (drop count (now (names .entry)) ≡ replicate (64 - count) 0
-        → now (names .exit) ≡ padded 0 64 (without index (take count (now (names .entry))))) ⌝ }
+        → now (names .exit) ≡ padded 0 64 (without index (take count (now (names .entry))) ++ (last ∷ []))) ⌝ }
 {
-    let mut carried: u32 = 0;
+    let mut carried = last;
     let mut i = count;
     while index < i {
         i -= 1;

@@ -22,7 +22,7 @@ unfolding padded
 padded-short xs n l = let a = length-append xs (replicate (n - length xs) 0) in omega (arith, a)
 
 -- the names of an array that was made of them
-names-are : (xs : List ℕ) (n : ℕ) → xs ≡ take (length xs) (padded 0 n xs)
+pub names-are : (xs : List ℕ) (n : ℕ) → xs ≡ take (length xs) (padded 0 n xs)
 unfolding padded
 names-are xs n = sym (take-append-seam xs _)
 

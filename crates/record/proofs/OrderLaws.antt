@@ -12,12 +12,13 @@ use Rattle.model.specs.Machine.Update.{withOrders, withTimers, queueOf, waitsOf
 use Rattle.model.specs.declared.record.Machine.{Machine}
 use Rattle.record.specs.Layout.{wordsOf, countWords, clockWords, parts}
 use Rattle.record.specs.Holds.{Codes, Holds}
+use Rattle.record.specs.Changes.{dequeued}
 use Rattle.orders.specs.NamesRetained.{markedOf, Retained}
 use Rattle.orders.proofs.NamesRetained.{select-short}
-use Rattle.orders.proofs.NamesPadded.{padded-long, put-behind, length-without}
+use Rattle.orders.proofs.NamesPadded.{padded-long, padded-zero, put-behind, length-without}
 use Rattle.record.proofs.LayoutPart.{Stands, part-get, part-set, part-is, part-lent}
 use Rattle.record.proofs.LayoutParts.{Sized, sized, queue-stands, waits-stand, counts-stand, timers-stand, clock-stands}
-use Rattle.record.proofs.HoldsShape.{shaped, orders-hold, timers-hold, queue-fits, waits-fit, timers-fit}
+use Rattle.record.proofs.HoldsShape.{shaped, names-are, orders-hold, timers-hold, queue-fits, waits-fit, timers-fit}
 
 module _ {ws : List ℕ} {m : Machine} (h : Codes ws m) where
   pub queue-word : (i : ℕ) → i < 64 → getD ws (1664 + i) 0 ≡ getD (m .queue) i 0
@@ -89,13 +90,30 @@ module _ {ws names array : List ℕ} {n at counted : ℕ} {changed : List ℕ �
       ap₂ drop f (part ∙ o .array-is) ∙ drop-append-seam names _ ∙ ap (λ k. replicate (64 - k) 0) (sym f)
 
   pub leave-put : (i index : ℕ) (x : List ℕ) → i ≡ n → index < i
-      → (drop i (take 64 (drop at ws)) ≡ replicate (64 - i) 0 → x ≡ padded 0 64 (without index (take i (take 64 (drop at ws)))))
+      → (drop i (take 64 (drop at ws)) ≡ replicate (64 - i) 0
+      → x ≡ padded 0 64 (without index (take i (take 64 (drop at ws))) ++ (0 ∷ [])))
       → Holds (set (take at ws ++ (x ++ drop 64 (drop at ws))) counted (i - 1)) (changed (without index names))
   leave-put i index x e l f =
       let size : i ≡ length names = e ∙ o .number in
       let less = length-without index names (omega arith) in
       names-put (without index names) x (i - 1) (omega (arith, less, o .fits))
-      (f (rest-zero i e) ∙ ap (λ r. padded 0 64 (without index r)) (first i e)) (omega arith) (lent x)
+      (f (rest-zero i e) ∙ ap (λ r. padded 0 64 (without index r ++ (0 ∷ []))) (first i e)
+      ∙ padded-zero (without index names) 64 (omega (arith, less, o .fits))) (omega arith) (lent x)
+
+  -- one name less and another behind the others: their number stays
+  pub replace-put : (p i index : ℕ) (x : List ℕ) → i ≡ n → index < i
+      → (drop i (take 64 (drop at ws)) ≡ replicate (64 - i) 0
+      → x ≡ padded 0 64 (without index (take i (take 64 (drop at ws))) ++ (p ∷ [])))
+      → Holds (take at ws ++ (x ++ drop 64 (drop at ws))) (changed (without index names ++ (p ∷ [])))
+  replace-put p i index x e l f =
+      let after : List ℕ = without index names ++ (p ∷ []) in
+      let size : i ≡ length names = e ∙ o .number in
+      let same : length after ≡ n =
+      omega (arith, length-append (without index names) (p ∷ []), length-without index names (omega arith)) in
+      subst (λ r. Holds r (changed after))
+      (sym (lent x ∙ ap₂ (o .whole)
+      (f (rest-zero i e) ∙ ap (λ r. padded 0 64 (without index r ++ (p ∷ []))) (first i e)) (sym same)))
+      (o .holds after (omega (arith, o .fits)))
 
   -- the names that are marked stay
   pub retain-put : (v i : ℕ) (x : List ℕ) (marks : List Bool) → i ≡ n → Retained (take 64 (drop at ws)) i marks x v
@@ -210,6 +228,19 @@ module _ {ws : List ℕ} {m : Machine} (h : Holds ws m) where
         fits = timers-fit h;
         holds = λ l f. timers-hold h l f refl;
       }
+
+  -- leaving and joining, in one
+  replaced : (p index : ℕ) → withOrders (without index (queueOf m) ++ (p ∷ [])) (waitsOf m) m ≡ enqueue p (dequeued m index)
+  unfolding enqueue withOrders queueOf waitsOf
+  replaced p index =
+      let size = length (m .tokens) in
+      ap₂ (λ q w. withOrders (q ++ (p ∷ [])) w m) (names-are (without index (queueOf m)) size) (names-are (waitsOf m) size)
+
+  pub replaced-put : (p i index : ℕ) (x : List ℕ) → i ≡ m .queued → index < i
+      → (drop i (take 64 (drop 1664 ws)) ≡ replicate (64 - i) 0
+      → x ≡ padded 0 64 (without index (take i (take 64 (drop 1664 ws))) ++ (p ∷ [])))
+      → Holds (take 1664 ws ++ (x ++ drop 64 (drop 1664 ws))) (enqueue p (dequeued m index))
+  replaced-put p i index x e l f = subst (Holds _) (replaced p index) (replace-put queue-order p i index x e l f)
 
   pub join-put : (p n : ℕ) → n ≡ m .queued → n < 64 → Holds (set (set ws (1664 + n) p) 1792 (n + 1)) (enqueue p m)
   unfolding enqueue

@@ -105,7 +105,7 @@ fn leave_slice(w: &mut [u32], index: usize)
     let count = wide(w[QUEUE_LENGTH]);
     if count <= Machine::TOKENS {
         if index < count {
-            left_out(&mut w[QUEUE_START..WAITS_START], count, index);
+            left_out(&mut w[QUEUE_START..WAITS_START], count, index, 0);
             w[QUEUE_LENGTH] = count as u32 - 1;
         }
     }
@@ -116,6 +116,27 @@ pub fn leave(w: &mut [u32; Machine::WORDS], index: usize)
     ensures { λ _. ⌜ ((m : Machine) → Holds (now (w .entry)) m → index < m .queued → Holds (now (w .exit)) (dequeued m index)) ⌝ }
 {
     leave_slice(w, index);
+}
+
+fn replace_slice(w: &mut [u32], index: usize, p: u32)
+    requires { ⌜ length (now w) ≡ 1863 ⌝ }
+    ensures { λ _.
+        ⌜ ((m : Machine) → Holds (now (w .entry)) m → index < m .queued → Holds (now (w .exit)) (enqueue p (dequeued m index))) ⌝ }
+{
+    let count = wide(w[QUEUE_LENGTH]);
+    if count <= Machine::TOKENS {
+        if index < count {
+            left_out(&mut w[QUEUE_START..WAITS_START], count, index, p);
+        }
+    }
+}
+
+// The name at an index leaves the queue and another goes to its back: as `leave` and then `join`, but its length is not written.
+pub fn replace(w: &mut [u32; Machine::WORDS], index: usize, p: u32)
+    ensures { λ _.
+        ⌜ ((m : Machine) → Holds (now (w .entry)) m → index < m .queued → Holds (now (w .exit)) (enqueue p (dequeued m index))) ⌝ }
+{
+    replace_slice(w, index, p);
 }
 
 fn retain_queue_slice(w: &mut [u32], keep: &[bool])
@@ -171,7 +192,7 @@ fn leave_timers_slice(w: &mut [u32], index: usize)
     let count = wide(w[TIMERS_LENGTH]);
     if count <= Machine::TOKENS {
         if index < count {
-            left_out(&mut w[TIMERS_START..TIMERS_LENGTH], count, index);
+            left_out(&mut w[TIMERS_START..TIMERS_LENGTH], count, index, 0);
             w[TIMERS_LENGTH] = count as u32 - 1;
         }
     }

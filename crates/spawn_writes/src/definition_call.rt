@@ -26,8 +26,7 @@ use record::count::set_last_token;
 use record::layout::FRAME_STATE;
 use record::layout::READY_STATE;
 use record::layout::VALUE_SLOT;
-use record::order::join;
-use record::order::leave;
+use record::order::replace;
 use record::token::bind_kind;
 use record::token::bind_number;
 use record::token::cell;
@@ -116,10 +115,9 @@ pub fn written(
         (put p (withNode next (withState states.Frame (tokenAt (m .tokens) p))) (dequeued m place))))) ⌝ }
 {
     let home = cell(w, p);
-    leave(w, place);
+    replace(w, place, new as u32);
     set_state(w, p, FRAME_STATE, 0);
     set_node(w, p, next);
     put_callee(w, dag, at, p, new, root, home);
     set_last_token(w, new as u32);
-    join(w, new as u32);
 }

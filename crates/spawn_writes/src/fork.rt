@@ -8,7 +8,7 @@ ghost use Rattle.model.specs.Machine.Update.{withNode, put, enqueue, newToken};
 use model::record::Machine;
 use record::count::set_last_token;
 use record::order::join;
-use record::order::leave;
+use record::order::replace;
 use record::token::copy;
 use record::token::set_node;
 
@@ -29,11 +29,10 @@ pub fn written(
         (newToken new (withNode right (tokenAt (m .tokens) p))
         (put p (withNode left (tokenAt (m .tokens) p)) (dequeued m place)))))) ⌝ }
 {
-    leave(w, place);
+    replace(w, place, p as u32);
     set_node(w, p, left);
     copy(w, p, new);
     set_node(w, new, right);
     set_last_token(w, new as u32);
-    join(w, p as u32);
     join(w, new as u32);
 }

@@ -14,7 +14,7 @@ use record::count::set_last_cell;
 use record::count::set_last_token;
 use record::layout::CELL_SLOT;
 use record::order::join;
-use record::order::leave;
+use record::order::replace;
 use record::token::cell;
 use record::token::copy;
 use record::token::set_bind;
@@ -66,11 +66,10 @@ pub fn written(
         (put p (withNode left (withBinding x (slots.Cell c) (tokenAt (m .tokens) p))) (dequeued m place))))))) ⌝ }
 {
     let parent = cell(w, p);
-    leave(w, place);
+    replace(w, place, p as u32);
     split_tokens(w, p, new, c, x, left, right);
     set_last_token(w, new as u32);
     put_unset(w, c, parent);
     set_last_cell(w, c as u32);
-    join(w, p as u32);
     join(w, new as u32);
 }

@@ -1,14 +1,15 @@
 -- What a few writes, one behind the other, make of a record: the tokens that they name, and the length of the queue. A write changes one
 -- row or one order and leaves the others. Assumes nothing.
 use mathlib.Core.Path.{_≡_, sym, ap, subst, _∙_}
-use mathlib.Core.List.{List, [], _∷_}
+use mathlib.Core.List.{List, [], _∷_, _++_}
 use Prim.Native.Nat.{ℕ, suc, _+_, _-_, _<_}
 use native.Mathlib.Numerals.{add-one}
 use native.Mathlib.Omega.{arith}
-use lib.ListN.{length-append, length-set}
+use lib.ListN.{length, set, take, length-append, length-set}
 use lib.Seq.{set-comm}
+use Rattle.job.specs.Test.{padded, without}
 use Rattle.model.specs.Machine.Blank.{tokenAt}
-use Rattle.model.specs.Machine.Update.{put, withBinding, withTables, withCounts, withOrders, queueOf, enqueue}
+use Rattle.model.specs.Machine.Update.{put, withBinding, withTables, withCounts, withOrders, queueOf, waitsOf, enqueue}
 use Rattle.model.specs.declared.token.Token.{Token}
 use Rattle.model.specs.declared.record.Machine.{Machine}
 use Rattle.model.specs.declared.token.Slot.{Slot}
@@ -16,18 +17,22 @@ use Rattle.model.specs.declared.token.Bind.{Bind}
 use Rattle.record.specs.Changes.{dequeued, withBinds}
 use Rattle.record.specs.Holds.{Holds}
 use Rattle.orders.proofs.NamesPadded.{length-without}
-use Rattle.record.proofs.HoldsShape.{shaped}
+use Rattle.record.proofs.HoldsShape.{shaped, names-are}
 use Rattle.record.proofs.TokenRow.{put-self}
 use Rattle.model.proofs.Machine.TableRows.{token-same, token-other}
 
 -- how long the queue is
-pub queued-taken : {ws : List ℕ} {m : Machine} (place : ℕ) → Holds ws m → place < m .queued → suc (dequeued m place .queued) ≡ m .queued
+queued-taken : {ws : List ℕ} {m : Machine} (place : ℕ) → Holds ws m → place < m .queued → suc (dequeued m place .queued) ≡ m .queued
 unfolding withOrders
 queued-taken {ws} {m} place h l = let e = h .ordered .queued in length-without place (queueOf m) (omega arith) ∙ sym e
 
-pub queued-joined : {ws : List ℕ} {m : Machine} (p : ℕ) → Holds ws m → enqueue p m .queued ≡ suc (m .queued)
-unfolding enqueue withOrders
-queued-joined {ws} {m} p h = let e = h .ordered .queued in omega (arith, length-append (queueOf m) (p ∷ []))
+pub queued-replaced : {ws : List ℕ} {m : Machine} (p place : ℕ) → Holds ws m → place < m .queued
+    → enqueue p (dequeued m place) .queued ≡ m .queued
+unfolding enqueue withOrders queueOf
+queued-replaced {ws} {m} p place h l =
+    let names = without place (queueOf m) in
+    length-append (take (length names) (padded 0 (length (m .tokens)) names)) (p ∷ [])
+    ∙ ap (λ (xs : List ℕ). length xs + 1) (sym (names-are names (length (m .tokens)))) ∙ add-one _ ∙ queued-taken place h l
 
 pub waiting-taken : {ws : List ℕ} {m : Machine} (place : ℕ) → Holds ws m → dequeued m place .waiting ≡ m .waiting
 unfolding withOrders
@@ -54,6 +59,31 @@ put-other m p q t n = token-other (m .tokens) p q t n
 pub put-comm : (m : Machine) (p q : ℕ) (t u : Token) → (p ≡ q → ⊥) → put p t (put q u m) ≡ put q u (put p t m)
 unfolding put withTables
 put-comm m p q t u n = ap (λ ts. withTables ts (m .cells) m) (set-comm (m .tokens) q p u t (λ e. n (sym e)))
+
+-- a write to a row and one to the queue in any order
+put-orders : (m : Machine) (p : ℕ) (t : Token) (q w : List ℕ) → put p t (withOrders q w m) ≡ withOrders q w (put p t m)
+unfolding put withTables withOrders
+put-orders m p t q w =
+    ap
+    (λ n.
+    record {
+      tokens = set (m .tokens) p t;
+      cells = m .cells;
+      queue = padded 0 n q;
+      queued = length q;
+      waits = padded 0 n w;
+      waiting = length w;
+      calls = m .calls;
+      lasttoken = m .lasttoken;
+      lastcell = m .lastcell;
+      timers = m .timers;
+      timed = m .timed;
+      clock = m .clock;
+    }) (sym (length-set (m .tokens) p t))
+
+pub put-queue : (m : Machine) (p q : ℕ) (t : Token) → put p t (enqueue q m) ≡ enqueue q (put p t m)
+unfolding put withTables enqueue queueOf waitsOf
+put-queue m p q t = put-orders m p t (queueOf m ++ (q ∷ [])) (waitsOf m)
 
 -- the same record, written in another way
 pub carry : {ws : List ℕ} (f : Token → Machine) {t u : Token} → t ≡ u → Holds ws (f t) → Holds ws (f u)

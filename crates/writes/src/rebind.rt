@@ -9,8 +9,7 @@ ghost use Rattle.model.specs.Machine.Update.{withNode, withBinding, put, enqueu
 ghost use Rattle.model.specs.declared.token.Slot.{Slot};
 ghost use Rattle.record.specs.Layout.{slotKind, slotNumber};
 use model::record::Machine;
-use record::order::join;
-use record::order::leave;
+use record::order::replace;
 use record::token::set_bind;
 use record::token::set_node;
 
@@ -29,8 +28,7 @@ pub fn written(
         ⌜ ((m : Machine) (s : Slot) → Holds (now (w .entry)) m → place < m .queued → slotKind s ≡ kind → slotNumber s ≡ number
         → Holds (now (w .exit)) (enqueue p (put p (withNode next (withBinding x s (tokenAt (m .tokens) p))) (dequeued m place)))) ⌝ }
 {
-    leave(w, place);
+    replace(w, place, p as u32);
     set_bind(w, p, x, kind, number);
     set_node(w, p, next);
-    join(w, p as u32);
 }

@@ -8,8 +8,7 @@ ghost use Rattle.model.specs.Machine.Update.{withState, withValue, put, enqueue
 ghost use Rattle.model.specs.declared.token.State.the-variants as states;
 use model::record::Machine;
 use record::layout::READY_STATE;
-use record::order::join;
-use record::order::leave;
+use record::order::replace;
 use record::token::copy;
 use record::token::set_state;
 use record::token::set_value;
@@ -27,9 +26,8 @@ pub fn written(w: &mut [u32; Machine::WORDS], place: usize, p: usize, f: usize)
 {
     let has = value_kind(w, p);
     let number = value(w, p);
-    leave(w, place);
+    replace(w, place, p as u32);
     copy(w, f, p);
     set_value(w, p, has, number);
     set_state(w, p, READY_STATE, 0);
-    join(w, p as u32);
 }

@@ -19,8 +19,8 @@ use record::layout::DUE_STATE;
 use record::layout::WAITING_STATE;
 use record::order::defer;
 use record::order::delay;
-use record::order::join;
 use record::order::leave;
+use record::order::replace;
 use record::token::set_node;
 use record::token::set_state;
 use record::token::set_value;
@@ -44,10 +44,9 @@ pub fn reply(w: &mut [u32; Machine::WORDS], place: usize, p: usize, bits: u32, n
         ⌜ ((m : Machine) (v : Held) → Holds (now (w .entry)) m → place < m .queued → heldKind v ≡ 1 → heldNumber v ≡ bits
         → Holds (now (w .exit)) (enqueue p (put p (withNode next (withValue v (tokenAt (m .tokens) p))) (dequeued m place)))) ⌝ }
 {
-    leave(w, place);
+    replace(w, place, p as u32);
     set_value(w, p, 1, bits);
     set_node(w, p, next);
-    join(w, p as u32);
 }
 
 // "The token is called out at the next node", under a handle.

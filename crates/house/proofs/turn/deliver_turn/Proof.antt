@@ -25,8 +25,8 @@ returns c = λ m dag cells shared lawful one e.
     (λ i from to. free-token lawful i (none i from to)) one e)
     (over-empty _ e _) (shows-as (taken-line (c .if1 .taken)) (shows-none _ _ _)) (omega arith)
 
-show-refused-requires : tie.Need-show-refused-requires
-show-refused-requires c κs = search needs
+show-declined-requires : tie.Need-show-declined-requires
+show-declined-requires c κs = search needs
 
 same-length : tie.Need-same-length
 same-length c = search needs
@@ -37,7 +37,7 @@ returns-2 c = λ m dag cells shared lawful one e.
     let test = shown .before .before in
     let delivered = test .before in
     let none = delivered .before .before .few-or-all .ensures .0 .1 in
-    let line = shown .show-refused .ensures in
+    let line = shown .show-declined .ensures in
     turned-shows
     (turn-delivers _ _ _ _ _ _ (delivered .deliver .ensures .0) m dag _ cells shared lawful
     (λ i from to. free-token lawful i (none i from to)) one e)
@@ -45,4 +45,4 @@ returns-2 c = λ m dag cells shared lawful one e.
 
 pub deliver-turn-spec : {M : Type 1} → statement M
 deliver-turn-spec =
-    tie.close (tie.spec few-or-all-requires deliver-requires returns show-refused-requires same-length returns-2)
+    tie.close (tie.spec few-or-all-requires deliver-requires returns show-declined-requires same-length returns-2)

@@ -1,5 +1,5 @@
--- `names::left_out` meets its contract. The loop's invariant: the names, with the carried one among them, are those at the start and a
--- zero. Assumes nothing.
+-- `names::left_out` meets its contract. The loop's invariant: the names, with the carried one among them, are those at the start and the
+-- last word. Assumes nothing.
 use mathlib.Core.Path.{_≡_, refl, _∙_}
 use Prim.Native.Nat.{_≤_, _-_}
 use native.Mathlib.Omega.{arith}
@@ -11,14 +11,14 @@ use Rattle.orders.proofs.names.left_out.Statement.{statement}
 use Rattle.orders.proofs.names.left_out.Tie as tie
 
 abbrev Inv-loop : tie.InvT-loop
-Inv-loop names₀ count index carried₀ i₀ names carried i =
-    (index ≤ i) × (i ≤ count) × (length names ≡ 64) × (drop count names ≡ drop count names₀) × Carries names₀ count names i carried
+Inv-loop names₀ count index last carried₀ i₀ names carried i =
+    (index ≤ i) × (i ≤ count) × (length names ≡ 64) × (drop count names ≡ drop count names₀) × Carries names₀ count last names i carried
 
 abbrev μ-loop : tie.MeasureT-loop
-μ-loop names₀ count index carried₀ i₀ names carried i = i
+μ-loop names₀ count index last carried₀ i₀ names carried i = i
 
 loop-holds : tie.Need-loop-holds Inv-loop μ-loop
-loop-holds c = (search needs, search needs, search needs, refl, carries-first _ _)
+loop-holds c = (search needs, search needs, search needs, refl, carries-first _ _ _)
 
 sub-i : tie.Need-sub-i Inv-loop μ-loop
 sub-i c = search needs
@@ -46,7 +46,7 @@ loop-again c =
       search needs,
       search needs,
       drop-set-lt (s .count) (l .names) (l .i - 1) (l .carried) (omega arith) ∙ l .inv .3,
-      carries-next (s .names .now) (l .names) (s .count) (l .i) (l .carried) (omega arith) (l .inv .1)
+      carries-next (s .names .now) (l .names) (s .count) (s .last) (l .i) (l .carried) (omega arith) (l .inv .1)
           (let p = (c .before .before .before .pre) in omega arith) (l .inv .4),
     )
 
@@ -58,7 +58,7 @@ returns c rest =
     let l = (c .before .loop) in
     let s = (c .before .before .args) in
     let p = (c .before .before .pre) in
-    carries-last (s .names .now) (l .names) (s .count) (l .i) (l .carried) (s .index) (omega arith) (p .0) (p .1) (p .2) (l .inv .2)
+    carries-last (s .names .now) (l .names) (s .count) (s .last) (l .i) (l .carried) (s .index) (omega arith) (p .0) (p .1) (p .2) (l .inv .2)
     (l .inv .3 ∙ rest) (l .inv .4)
 
 pub left-out-spec : {M : Type 1} → statement M

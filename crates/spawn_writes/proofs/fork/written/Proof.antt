@@ -1,16 +1,20 @@
 -- `fork::written` meets its contract: each writer's contract, one behind the other, leads to the record of the definition. Assumes nothing.
-use mathlib.Core.Path.{refl}
+use mathlib.Core.Path.{refl, ap, subst, _∙_}
 use native.Mathlib.Omega.{arith}
 use Rattle.record.specs.Changes.{dequeued}
+use Rattle.record.specs.Holds.{Holds}
 use Rattle.model.specs.Machine.Blank.{tokenAt}
-use Rattle.model.specs.Machine.Update.{put, withNode, withTables, withCounts, withOrders, newToken}
-use Rattle.writes.proofs.Writes.{begins, carry, put-same, queued-taken, queued-joined}
+use Rattle.model.specs.Machine.Update.{put, withNode, withTables, withCounts, withOrders, newToken, enqueue, queueOf, waitsOf}
+use Rattle.writes.proofs.Writes.{begins, carry, put-same, put-queue, queued-replaced}
 use borrow.Author.Needs.{needs}
 use Rattle.spawn_writes.proofs.fork.written.Statement.{statement}
 use Rattle.spawn_writes.proofs.fork.written.Tie as tie
 
-leave-requires : tie.Need-leave-requires
-leave-requires c κs = search needs
+cast-replace : tie.Need-cast-replace
+cast-replace c = search needs
+
+replace-requires : tie.Need-replace-requires
+replace-requires c κs = search needs
 
 set-node-requires : tie.Need-set-node-requires
 set-node-requires c κs = search needs
@@ -33,34 +37,29 @@ cast-join c = search needs
 join-requires : tie.Need-join-requires
 join-requires c κs = search needs
 
-cast-join-2 : tie.Need-cast-join-2
-cast-join-2 c = search needs
-
-join-requires-2 : tie.Need-join-requires-2
-join-requires-2 c κs = search needs
-
 returns : tie.Need-returns
-unfolding put withNode withTables withCounts withOrders newToken
+unfolding put withNode withTables withCounts withOrders newToken enqueue queueOf waitsOf
 returns c = λ m h q room.
-    let a = c .before .before .before .before .before .before .before .before .before .before .before .before .before .before .args in
+    let a = c .before .before .before .before .before .before .before .before .before .before .before .before .args in
     let t = tokenAt (m .tokens) (a .p) in
-    let rest = dequeued m (a .place) in
-    let gone = queued-taken (a .place) h q in
-    let left = c .before .before .before .before .before .before .before .before .before .before .set-node .ensures rest t
+    let gone = dequeued m (a .place) in
+    let rest = enqueue (a .p) gone in
+    let l = withNode (a .left) t in
+    let r = withNode (a .right) t in
+    let left = c .before .before .before .before .before .before .before .before .set-node .ensures rest t
     (begins rest (a .p) t refl
-    (c .before .before .before .before .before .before .before .before .before .before .before .before .leave .ensures m h q)) in
-    let copied = carry (λ u. put (a .new) u (put (a .p) (withNode (a .left) t) rest))
-    (put-same rest (a .p) (withNode (a .left) t) left
-    (c .before .before .before .before .before .before .before .before .before .before .before .before .before .before .pre .0))
-    (c .before .before .before .before .before .before .before .before .copy .ensures _ left) in
-    let right = c .before .before .before .before .before .before .set-node2 .ensures (put (a .p) (withNode (a .left) t) rest)
-    (withNode (a .left) t) copied in
-    let counted = c .before .before .before .before .set-last-token .ensures _ right in
-    let joined = c .before .before .join .ensures _ counted (omega arith) in
-    c .join2 .ensures _ joined (omega (arith, queued-joined (a .p) counted))
+    (c .before .before .before .before .before .before .before .before .before .before .replace .ensures m h q)) in
+    let copied = carry (λ u. put (a .new) u (put (a .p) l rest))
+    (put-same rest (a .p) l left
+    (c .before .before .before .before .before .before .before .before .before .before .before .before .pre .0))
+    (c .before .before .before .before .before .before .copy .ensures _ left) in
+    let right = c .before .before .before .before .set-node2 .ensures (put (a .p) l rest) l copied in
+    let counted = c .before .before .set-last-token .ensures _
+    (subst (Holds _) (ap (put (a .new) r) (put-queue gone (a .p) (a .p) l) ∙ put-queue (put (a .p) l gone) (a .new) (a .p) r) right) in
+    c .join .ensures _ counted (omega (arith, queued-replaced (a .p) (a .place) h q))
 
 pub written-spec : {M : Type 1} → statement M
 written-spec =
     tie.close
-    (tie.spec leave-requires set-node-requires copy-requires set-node-requires-2 cast-set-last-token set-last-token-requires cast-join
-    join-requires cast-join-2 join-requires-2 returns)
+    (tie.spec cast-replace replace-requires set-node-requires copy-requires set-node-requires-2 cast-set-last-token set-last-token-requires
+    cast-join join-requires returns)
