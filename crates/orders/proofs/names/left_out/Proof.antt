@@ -58,8 +58,8 @@ returns c rest =
     let l = (c .before .loop) in
     let s = (c .before .before .args) in
     let p = (c .before .before .pre) in
-    carries-last (s .names .now) (l .names) (s .count) (s .last) (l .i) (l .carried) (s .index) (omega arith) (p .0) (p .1) (p .2) (l .inv .2)
-    (l .inv .3 ∙ rest) (l .inv .4)
+    carries-last (s .names .now) (l .names) (s .count) (s .last) (l .i) (l .carried) (s .index) (omega arith) (p .0) (p .1) (p .2)
+    (l .inv .2) (l .inv .3 ∙ rest) (l .inv .4)
 
 pub left-out-spec : {M : Type 1} → statement M
 left-out-spec =
