@@ -25,7 +25,7 @@ use Rattle.model.specs.declared.reply.Report.{Report}
 use Rattle.model.specs.declared.token.Token.{Token}
 use Rattle.job.proofs.Test.{lt-ltb, all-at}
 use Rattle.model.proofs.Machine.Rules.{EachRuleHolds, each-rule-holds}
-use Rattle.model.proofs.Sees.Lockstep.{at-node}
+use Rattle.lockstep.proofs.Lockstep.{at-node}
 use Rattle.model.proofs.Run.Queue.{queue-rules-hold}
 use Rattle.demand3.proofs.Carried.{Carried}
 use Rattle.demand3.proofs.NotRule.{at-rule, ready-not-blank}

@@ -25,7 +25,7 @@ use Rattle.model.specs.declared.token.Slot.the-variants as slots
 use Rattle.model.specs.declared.token.State.the-variants as states
 use Rattle.model.specs.declared.token.Token.{Token}
 use Rattle.model.proofs.Machine.Marks.{free-inside}
-use Rattle.model.proofs.Sees.Lockstep.{Fitting, free-token, free-cell}
+use Rattle.lockstep.proofs.Lockstep.{Fitting, free-token, free-cell}
 use Rattle.model.proofs.Keeps.Clean.{tokensOf, cellsOf}
 use Rattle.record.specs.Changes.{dequeued, unsetCell}
 use Rattle.reach.specs.Marks.{nextOr}

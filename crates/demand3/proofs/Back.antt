@@ -40,18 +40,18 @@ use Rattle.job.proofs.Test.{lt-ltb, le-leb}
 use Rattle.simulation.proofs.AbstractMachine as Abstract
 use Rattle.simulation.proofs.AbstractMachine.{Binding, Frame, at, running, Store, wake, state, labelOf, after, effect, Move}
 use Rattle.simulation.proofs.Shuffle.{Split, first, later}
-use Rattle.model.proofs.Sees.Labels.{Labels, nodeMeant, programOf, FlowAt, Flow}
-use Rattle.model.proofs.Sees.View.{World, Unset, PlaceSeen, TokenSeen, Kept, token-keep, tokens-map}
-use Rattle.model.proofs.Sees.Seen.{Core, world, Sees, seenAs, sweep-sees, UsedToken, UsedCell, used-closed, used-fits, token-used}
-use Rattle.model.proofs.Sees.Slots.{found, values-seen}
-use Rattle.model.proofs.Sees.Others.{Others, acting-inside, cell-later}
-use Rattle.model.proofs.Sees.Agrees.{Acting}
+use Rattle.lockstep.proofs.Labels.{Labels, nodeMeant, programOf, FlowAt, Flow}
+use Rattle.lockstep.proofs.View.{World, Unset, PlaceSeen, TokenSeen, Kept, token-keep, tokens-map}
+use Rattle.lockstep.proofs.Seen.{Core, world, Sees, seenAs, sweep-sees, UsedToken, UsedCell, used-closed, used-fits, token-used}
+use Rattle.lockstep.proofs.Slots.{found, values-seen}
+use Rattle.lockstep.proofs.Others.{Others, acting-inside, cell-later}
+use Rattle.lockstep.proofs.Agrees.{Acting}
 use Rattle.demand3.proofs.Room.{Room, Accepted, act-accepted}
-use Rattle.model.proofs.Sees.AnswerAgrees.{answered-becomes}
-use Rattle.model.proofs.Sees.ClockAgrees.{advanced-sees}
+use Rattle.lockstep.proofs.AnswerAgrees.{answered-becomes}
+use Rattle.lockstep.proofs.ClockAgrees.{advanced-sees}
 use Rattle.demand3.proofs.Counterpart.{Turn, is-ready, is-waiting, is-called, turn, queue-index, open-holder}
 use Rattle.model.proofs.Run.Passage.{eventsBy}
-use Rattle.model.proofs.Sees.Lockstep.{Fitting, at-node, shown-by, takes-agrees}
+use Rattle.lockstep.proofs.Lockstep.{Fitting, at-node, shown-by, takes-agrees}
 
 -- the token at p is at a site call that finds an unset cell
 pub record Blocked (d : Dag) (m : Machine) (p : ℕ) : Type 0 where

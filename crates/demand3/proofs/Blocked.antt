@@ -16,7 +16,7 @@ use Rattle.model.specs.declared.record.Machine.{Machine}
 use Rattle.job.proofs.Test.{all-at}
 use Rattle.model.proofs.Machine.Rules.{each-rule-holds}
 use Rattle.simulation.proofs.AbstractMachine as Abstract
-use Rattle.model.proofs.Sees.Labels.{Labels, Flow}
+use Rattle.lockstep.proofs.Labels.{Labels, Flow}
 use Rattle.demand3.proofs.Room.{Room}
 use Rattle.demand3.proofs.Back.{Blocked, Ready}
 use Rattle.demand3.proofs.LookedUp.{look-blocked}

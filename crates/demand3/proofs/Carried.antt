@@ -40,8 +40,8 @@ use Rattle.model.proofs.Machine.WrittenTokens.{fits-same, fits-binding, Woken, 
 use Rattle.model.proofs.Machine.Clock.{woken-at}
 use Rattle.model.proofs.Machine.Used.{Used, UsedCell, InsideUsed, used-fits, used-parent, tokens-size, cells-size, live-used}
 use Rattle.model.proofs.Machine.ActingInside.{callee, write-inside, fork-inside, call-inside, split-inside}
-use Rattle.model.proofs.Sees.AnswerAgrees.{holder-called}
-use Rattle.model.proofs.Sees.Lockstep.{Fitting}
+use Rattle.lockstep.proofs.AnswerAgrees.{holder-called}
+use Rattle.lockstep.proofs.Lockstep.{Fitting}
 use Rattle.model.proofs.Keeps.Clean.{Clean, tokensOf, cellsOf}
 use Rattle.demand3.proofs.Unblanked.{Adds, token-stays, cell-stays, adds-clean, clean-whole, rules-clean}
 use Rattle.demand3.proofs.Unblanked.{keep-adds, end-adds, fork-adds, call-adds, split-adds}

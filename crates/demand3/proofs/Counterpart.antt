@@ -29,12 +29,12 @@ use Rattle.model.proofs.Machine.Rules.{each-rule-holds, NamesOnce, names-once}
 use Rattle.simulation.proofs.AbstractMachine as Abstract
 use Rattle.simulation.proofs.AbstractMachine.{Binding, Frame, at, running, state}
 use Rattle.simulation.proofs.Shuffle.{Split}
-use Rattle.model.proofs.Sees.Labels.{Labels}
-use Rattle.model.proofs.Sees.View.{World, HeldSeen, Unset, StateSeen, ready, waiting, called, due, PlaceSeen, TokenSeen, sees}
-use Rattle.model.proofs.Sees.Seen.{Core}
-use Rattle.model.proofs.Sees.Others.{Others, FoundOf, foundOf, find-token, others, spot-token, acting-inside}
-use Rattle.model.proofs.Sees.Agrees.{Acting}
-use Rattle.model.proofs.Sees.AnswerAgrees.{holds-handle}
+use Rattle.lockstep.proofs.Labels.{Labels}
+use Rattle.lockstep.proofs.View.{World, HeldSeen, Unset, StateSeen, ready, waiting, called, due, PlaceSeen, TokenSeen, sees}
+use Rattle.lockstep.proofs.Seen.{Core}
+use Rattle.lockstep.proofs.Others.{Others, FoundOf, foundOf, find-token, others, spot-token, acting-inside}
+use Rattle.lockstep.proofs.Agrees.{Acting}
+use Rattle.lockstep.proofs.AnswerAgrees.{holds-handle}
 
 -- the place of one of the abstract machine's tokens, and how the token there stands
 pub data Turn (M : Labels) (W : World) (L R : List Abstract.Token) : Abstract.Token → Type 0 where

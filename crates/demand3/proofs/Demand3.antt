@@ -1,6 +1,6 @@
 -- Demand 3, whole: the record of specs/Run/Demand3.antt, one term without parameter or premise. Assumes nothing.
 use Rattle.model.specs.Run.Demand3.{Demand3}
-use Rattle.model.proofs.Run.First.{runs-are-allowed}
+use Rattle.lockstep.proofs.First.{runs-are-allowed}
 use Rattle.demand3.proofs.Middle.{allowed-lists-are-shown}
 use Rattle.model.proofs.Run.Last.{house-order-is-fair}
 

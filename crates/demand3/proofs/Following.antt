@@ -13,10 +13,10 @@ use Rattle.calculus.specs.Allowed.{shown}
 use Rattle.model.specs.Run.Call.{Call, runner, outcomeOf}
 use Rattle.model.specs.declared.record.Machine.{Machine}
 use Rattle.simulation.proofs.AbstractMachine as Abstract
-use Rattle.model.proofs.Sees.Labels.{Labels, programOf, Flow}
-use Rattle.model.proofs.Sees.Seen.{Sees}
+use Rattle.lockstep.proofs.Labels.{Labels, programOf, Flow}
+use Rattle.lockstep.proofs.Seen.{Sees}
 use Rattle.model.proofs.Run.Passage.{eventsBy, Passage}
-use Rattle.model.proofs.Sees.Lockstep.{Fitting, shown-append}
+use Rattle.lockstep.proofs.Lockstep.{Fitting, shown-append}
 use Rattle.demand3.proofs.Back.{Ready, Followed, stays, calls, step-followed}
 
 -- the number of steps of a run

@@ -20,9 +20,9 @@ use Rattle.model.proofs.Machine.Inside.{active-live}
 use Rattle.model.proofs.Machine.Used.{Used}
 use Rattle.simulation.proofs.AbstractMachine as Abstract
 use Rattle.simulation.proofs.AbstractMachine.{Frame}
-use Rattle.model.proofs.Sees.Labels.{Labels}
-use Rattle.model.proofs.Sees.View.{World, FramesSeen, TokenSeen, sees, FrameSeen, frameAt, frame-seen}
-use Rattle.model.proofs.Sees.Seen.{Core, Sees, seenAs, UsedToken, tokens-of, token-at, live-listed}
+use Rattle.lockstep.proofs.Labels.{Labels}
+use Rattle.lockstep.proofs.View.{World, FramesSeen, TokenSeen, sees, FrameSeen, frameAt, frame-seen}
+use Rattle.lockstep.proofs.Seen.{Core, Sees, seenAs, UsedToken, tokens-of, token-at, live-listed}
 use Rattle.demand3.proofs.Runs.{InRun, seenWith}
 use Rattle.model.proofs.Machine.TableRows.{token-outside}
 

@@ -31,14 +31,14 @@ use Rattle.demand3.proofs.Larger.{UsedAtMost, step-adds, answer-adds, a
 use Rattle.simulation.proofs.AbstractMachine as Abstract
 use Rattle.simulation.proofs.AbstractMachine.{startAt, handleOf}
 use Rattle.demand3.proofs.ProgramComplete.{complete}
-use Rattle.model.proofs.Sees.Labels.{Labels, programOf, Flow}
-use Rattle.model.proofs.Sees.Labelling.{labelsOf}
-use Rattle.model.proofs.Sees.Flowing.{construct-flows}
-use Rattle.model.proofs.Sees.Seen.{Sees, seenAs}
+use Rattle.lockstep.proofs.Labels.{Labels, programOf, Flow}
+use Rattle.lockstep.proofs.Labelling.{labelsOf}
+use Rattle.lockstep.proofs.Flowing.{construct-flows}
+use Rattle.lockstep.proofs.Seen.{Sees, seenAs}
 use Rattle.demand3.proofs.Room.{Room}
 use Rattle.demand3.proofs.Following.{stepsOf, Keeps, Does, does, run-followed}
 use Rattle.model.proofs.Run.Passage.{Passage, passed}
-use Rattle.model.proofs.Sees.Lockstep.{fitting}
+use Rattle.lockstep.proofs.Lockstep.{fitting}
 use Rattle.demand3.proofs.Reached.{Reached, Roomy, limits-roomy, start-reached, Reaches, reaches, call-reached}
 use Rattle.demand3.proofs.Blocked.{reached-ready}
 

@@ -20,7 +20,7 @@ use Rattle.model.specs.Run.Call.{Call, runner, outcomeOf, machineAfter, started
 use Rattle.model.specs.Machine.Reply.{refusalOf}
 use Rattle.model.specs.declared.reply.Reply.the-variants as replies
 use Rattle.job.proofs.Accepted.{accepted-well-formed}
-use Rattle.model.proofs.Sees.Labelling.{labelsOf}
+use Rattle.lockstep.proofs.Labelling.{labelsOf}
 use Rattle.model.proofs.Run.OnePosition.{one-position}
 use Rattle.demand3.proofs.Reached.{Roomy}
 use Rattle.demand3.proofs.Runs.{InRun}

@@ -34,7 +34,7 @@ use Rattle.job.proofs.DagRules.{node-rules}
 use Rattle.model.proofs.Machine.Rules.{EachRuleHolds, each-rule-holds}
 use Rattle.model.proofs.Machine.Deferred.{deferred-cases}
 use Rattle.model.proofs.Run.Queue.{QueueRulesHold, queue-rules-hold}
-use Rattle.model.proofs.Sees.Lockstep.{at-node}
+use Rattle.lockstep.proofs.Lockstep.{at-node}
 
 -- an effect that is not a refusal with 14
 unfoldable pub NotRule : Effect → Type 0

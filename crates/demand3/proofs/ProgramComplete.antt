@@ -9,8 +9,8 @@ use Rattle.calculus.specs.Event.{Event}
 use Rattle.calculus.specs.Allowed.{Allowed}
 use Rattle.calculus.specs.Meaning.{meaning}
 use Rattle.simulation.proofs.AbstractMachine.{State, Run, startAt}
-use Rattle.model.proofs.Run.Sound.{first-stands}
-use Rattle.model.proofs.Sees.CodedProgram.{abstractOf, goal-coded, bodies-coded}
+use Rattle.lockstep.proofs.Sound.{first-stands}
+use Rattle.lockstep.proofs.CodedProgram.{abstractOf, goal-coded, bodies-coded}
 use Rattle.simulation.proofs.Complete.{run-complete}
 
 module _ (p : Program) (wf : WellFormed p) where

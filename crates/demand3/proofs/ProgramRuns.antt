@@ -13,9 +13,9 @@ use Rattle.model.specs.Machine.Rules.{rulesHold}
 use Rattle.model.specs.Run.Call.{Call, runner, outcomeOf, machineAfter, started}
 use Rattle.model.specs.declared.record.Machine.{Machine}
 use Rattle.job.proofs.DagHolds.{construct-holds}
-use Rattle.model.proofs.Sees.Labels.{Flow}
-use Rattle.model.proofs.Sees.Labelling.{labelsOf}
-use Rattle.model.proofs.Sees.Flowing.{construct-flows}
+use Rattle.lockstep.proofs.Labels.{Flow}
+use Rattle.lockstep.proofs.Labelling.{labelsOf}
+use Rattle.lockstep.proofs.Flowing.{construct-flows}
 use Rattle.demand3.proofs.Reached.{Roomy}
 use Rattle.demand3.proofs.Runs.{InRun, start-in-run, call-in-run, run-in-run, in-run-rules}
 

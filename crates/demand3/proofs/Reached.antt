@@ -48,18 +48,18 @@ use Rattle.model.proofs.Machine.Refused.{After, after-outcome, step-accepted, A
 use Rattle.model.proofs.Machine.Refused.{advance-accepted}
 use Rattle.simulation.proofs.AbstractMachine as Abstract
 use Rattle.simulation.proofs.AbstractMachine.{Store, startAt}
-use Rattle.model.proofs.Sees.Labels.{Labels, programOf, Flow}
-use Rattle.model.proofs.Sees.View.{World, CellsSeen}
-use Rattle.model.proofs.Sees.Seen.{world, Sees, seenAs, token-at, token-used, live-listed}
-use Rattle.model.proofs.Sees.Agrees.{Shows}
-use Rattle.model.proofs.Sees.ActsAgree.{taken, take-ready}
-use Rattle.model.proofs.Sees.ActsAgree as Acts
-use Rattle.model.proofs.Sees.AnswerAgrees.{holder-called, Pending, pending, find-pending, answered-becomes}
-use Rattle.model.proofs.Sees.ClockAgrees.{advanced-sees}
-use Rattle.model.proofs.Sees.StartSeen.{start-machine-sees}
-use Rattle.model.proofs.Sees.Lockstep as Lockstep
+use Rattle.lockstep.proofs.Labels.{Labels, programOf, Flow}
+use Rattle.lockstep.proofs.View.{World, CellsSeen}
+use Rattle.lockstep.proofs.Seen.{world, Sees, seenAs, token-at, token-used, live-listed}
+use Rattle.lockstep.proofs.Agrees.{Shows}
+use Rattle.lockstep.proofs.ActsAgree.{taken, take-ready}
+use Rattle.lockstep.proofs.ActsAgree as Acts
+use Rattle.lockstep.proofs.AnswerAgrees.{holder-called, Pending, pending, find-pending, answered-becomes}
+use Rattle.lockstep.proofs.ClockAgrees.{advanced-sees}
+use Rattle.lockstep.proofs.StartSeen.{start-machine-sees}
+use Rattle.lockstep.proofs.Lockstep as Lockstep
 use Rattle.model.proofs.Run.Passage.{eventsBy}
-use Rattle.model.proofs.Sees.Lockstep.{free-token, free-cell, takes-agrees, Steps, steps, call-locks}
+use Rattle.lockstep.proofs.Lockstep.{free-token, free-cell, takes-agrees, Steps, steps, call-locks}
 use Rattle.model.proofs.Keeps.NamedOnce.{Lines, Taken, take-out, taken-ready, lines-new}
 use Rattle.model.proofs.Keeps.Orders.{queue-is, waits-are, orders-put, orders-enqueue, timers-put, timers-enqueue}
 use Rattle.model.proofs.Keeps.TableFacts.{Idle, idle-holds, tables-write}

@@ -23,9 +23,9 @@ use Rattle.job.proofs.Test.{clash, lt-ltb}
 use Rattle.model.proofs.Machine.Deferred.{deferred-cases}
 use Rattle.simulation.proofs.AbstractMachine as Abstract
 use Rattle.simulation.proofs.AbstractMachine.{Binding, Frame}
-use Rattle.model.proofs.Sees.Labels.{Labels, FlowAt}
-use Rattle.model.proofs.Sees.View.{World, Nested, hasCaller, cellsOfCaller, CellsSeen, root, below, FramesSeen, outermost, calledBy}
-use Rattle.model.proofs.Sees.Agrees.{Acting}
+use Rattle.lockstep.proofs.Labels.{Labels, FlowAt}
+use Rattle.lockstep.proofs.View.{World, Nested, hasCaller, cellsOfCaller, CellsSeen, root, below, FramesSeen, outermost, calledBy}
+use Rattle.lockstep.proofs.Agrees.{Acting}
 
 pub record Room (lim : Limits) (d : Dag) (m : Machine) : Type 0 where
   pub tokens : hasTokenPlace lim m ≡ true

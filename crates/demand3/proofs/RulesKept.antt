@@ -42,14 +42,14 @@ use Rattle.job.proofs.Test.{clash, false-of, eqb-eq, eq-eqb, lt-ltb, le-leb, an
 use Rattle.simulation.proofs.AbstractMachine as Abstract
 use Rattle.simulation.proofs.AbstractMachine.{Binding, Frame, Store}
 use Rattle.simulation.proofs.Store.{_not-in_}
-use Rattle.model.proofs.Sees.Labels.{Labels, Flow, FlowAt}
-use Rattle.model.proofs.Sees.View.{World, cellsOfCaller, hasCaller, Nested, absent, present, StateSeen, ready, waiting}
-use Rattle.model.proofs.Sees.View.{called, due, CellsSeen, root, below, BindingSeen, valued, celled, BindingsSeen, binds}
-use Rattle.model.proofs.Sees.View.{SlotsSeen, FramesSeen, outermost, calledBy, PlaceSeen, TokenSeen, sees}
-use Rattle.model.proofs.Sees.Seen.{Core, world, not-under-set, token-at, live-listed}
-use Rattle.model.proofs.Sees.Slots.{variable-seen}
+use Rattle.lockstep.proofs.Labels.{Labels, Flow, FlowAt}
+use Rattle.lockstep.proofs.View.{World, cellsOfCaller, hasCaller, Nested, absent, present, StateSeen, ready, waiting}
+use Rattle.lockstep.proofs.View.{called, due, CellsSeen, root, below, BindingSeen, valued, celled, BindingsSeen, binds}
+use Rattle.lockstep.proofs.View.{SlotsSeen, FramesSeen, outermost, calledBy, PlaceSeen, TokenSeen, sees}
+use Rattle.lockstep.proofs.Seen.{Core, world, not-under-set, token-at, live-listed}
+use Rattle.lockstep.proofs.Slots.{variable-seen}
 use Rattle.demand3.proofs.UsedSeen.{Standing, standing, Named, named, used-stands, used-named}
-use Rattle.model.proofs.Sees.WithinSeen.{chain-short}
+use Rattle.lockstep.proofs.WithinSeen.{chain-short}
 use Rattle.model.proofs.Keeps.Orders.{queue-names, waits-name, timers-name}
 use Rattle.model.proofs.Keeps.TableFacts.{BindsFit, TokenHolds}
 use Rattle.model.proofs.Keeps.Facts.{Facts}

@@ -17,7 +17,7 @@ use Rattle.model.specs.declared.record.Machine.{Machine}
 use Rattle.model.specs.declared.reply.Outcome.{Outcome}
 use Rattle.job.proofs.Test.{holds-or-fails}
 use Rattle.simulation.proofs.AbstractMachine as Abstract
-use Rattle.model.proofs.Sees.Labels.{Labels, Flow}
+use Rattle.lockstep.proofs.Labels.{Labels, Flow}
 use Rattle.model.proofs.Run.Passage.{Passage, passage, refused-leaves}
 use Rattle.demand3.proofs.Reached.{Reached, Roomy, reached-rules, start-reached, Reaches, reaches, call-reached}
 

@@ -28,7 +28,7 @@ use Rattle.model.proofs.Machine.Marks.{Free}
 use Rattle.model.proofs.Machine.Rules.{ready-live}
 pub use Rattle.model.proofs.Machine.ActingInside.{callee}
 use Rattle.model.proofs.Run.Queue.{queue-rules-hold}
-use Rattle.model.proofs.Sees.Lockstep.{Fitting, free-token, free-cell}
+use Rattle.lockstep.proofs.Lockstep.{Fitting, free-token, free-cell}
 use Rattle.demand3.proofs.Unblanked.{Whole, fork-links, call-links, split-links}
 
 -- the machine with the token at a place of the queue taken out of it

@@ -25,11 +25,11 @@ use Rattle.model.proofs.Machine.Inside.{active-live}
 use Rattle.simulation.proofs.AbstractMachine as Abstract
 use Rattle.simulation.proofs.AbstractMachine.{Binding, Frame}
 use Rattle.simulation.proofs.Store.{_is-in_, _not-in_}
-use Rattle.model.proofs.Sees.Labels.{Labels}
-use Rattle.model.proofs.Sees.View.{World, CellsSeen, root, below, BindingSeen, valued, celled, SlotsSeen, PlaceSeen, TokenSeen, sees}
-use Rattle.model.proofs.Sees.View.{FrameSeen, frameAt, frame-seen}
-use Rattle.model.proofs.Sees.Seen.{Core, state-live, UsedToken, UsedCell, tokens-of, cells-of, token-at, live-listed}
-use Rattle.model.proofs.Sees.Slots.{variable-seen}
+use Rattle.lockstep.proofs.Labels.{Labels}
+use Rattle.lockstep.proofs.View.{World, CellsSeen, root, below, BindingSeen, valued, celled, SlotsSeen, PlaceSeen, TokenSeen, sees}
+use Rattle.lockstep.proofs.View.{FrameSeen, frameAt, frame-seen}
+use Rattle.lockstep.proofs.Seen.{Core, state-live, UsedToken, UsedCell, tokens-of, cells-of, token-at, live-listed}
+use Rattle.lockstep.proofs.Slots.{variable-seen}
 
 live-not-blank : (s : State) → isLive s ≡ true → isBlankState s ≡ false
 unfolding isLive isBlankState

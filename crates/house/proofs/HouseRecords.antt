@@ -22,7 +22,7 @@ use Rattle.model.specs.declared.reply.Outcome.{Outcome}
 use Rattle.job.proofs.Number.{signed-fits}
 use Rattle.job.proofs.Accepted.{accepted-well-formed}
 use Rattle.model.proofs.Run.Printing.{moves-clock, answers}
-use Rattle.model.proofs.Sees.Labelling.{labelsOf}
+use Rattle.lockstep.proofs.Labelling.{labelsOf}
 use Rattle.demand3.proofs.Reached.{paper-roomy}
 use Rattle.demand3.proofs.Runs.{InRun}
 use Rattle.demand3.proofs.ProgramRuns.{dag-of-run, start-of-run, call-of-run, rules-of-run}

@@ -1,5 +1,4 @@
 -- Laws of the definitions, under the folder names of specs/.
 pub mod Machine
 pub mod Run
-pub mod Sees
 pub mod Keeps

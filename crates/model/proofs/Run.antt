@@ -16,8 +16,6 @@ pub mod ClockStands
 pub mod FrontEnds
 pub mod OnePosition
 pub mod Last
-pub mod Sound
-pub mod First
 pub mod LoadedRuns
 pub mod Worked
 pub mod ClockRuns

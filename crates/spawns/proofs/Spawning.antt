@@ -26,7 +26,7 @@ use Rattle.model.specs.declared.token.State.the-variants as states
 use Rattle.model.specs.declared.token.Token.{Token}
 use Rattle.job.proofs.Test.{clash}
 use Rattle.model.proofs.Machine.Marks.{Free}
-use Rattle.model.proofs.Sees.Lockstep.{free-token}
+use Rattle.lockstep.proofs.Lockstep.{free-token}
 use Rattle.demand3.proofs.Carried.{Carried, forked-carried, entered-carried, split-carried}
 use Rattle.record.specs.Changes.{dequeued, unsetCell}
 use Rattle.record.specs.Holds.{Holds}

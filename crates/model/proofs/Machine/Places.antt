@@ -7,8 +7,10 @@ use Prim.Native.Nat.{ℕ, zero, suc, _+_, _-_, _<_, _≤_}
 use native.Mathlib.Decide.{decLt}
 use native.Mathlib.Omega.{arith}
 use lib.ListN.{length, getD}
-use Rattle.model.specs.Machine.InUse.{marked}
+use Rattle.model.specs.Machine.InUse.{marked, tokensUsed, cellsUsed}
 use Rattle.model.specs.Machine.FreePlace.{around, freeFrom, nextPlace, placeAfter}
+use Rattle.model.specs.Machine.Step.{tokenPlace, cellPlace}
+use Rattle.model.specs.declared.record.Machine.{Machine}
 use Rattle.job.proofs.Test.{clash, lt-ltb, le-not-ltb}
 use Rattle.model.proofs.Machine.Marks.{Marked, Free, free-inside, some-free}
 
@@ -131,3 +133,12 @@ module _ (marks : List Bool) where
           let j : ℕ = length marks - suc last in
           clash (ap (λ q. getD marks q true) (sym (wraps j last (omega arith))) ∙ f j (omega arith))
           (ap (λ q. getD marks q true) (sym e) ∙ unfold nextPlace in next-place-free marks last l some)
+
+-- "the next place not in use before the call": where some is not, that of a new token, and that of a new cell
+module _ (m : Machine) where
+  pub token-place-free : m .lasttoken < length (tokensUsed m) → marked (tokensUsed m) < length (tokensUsed m)
+      → Free (tokensUsed m) (tokenPlace m)
+  token-place-free l some = next-place-free (tokensUsed m) (m .lasttoken) l some
+
+  pub cell-place-free : m .lastcell < length (cellsUsed m) → marked (cellsUsed m) < length (cellsUsed m) → Free (cellsUsed m) (cellPlace m)
+  cell-place-free l some = next-place-free (cellsUsed m) (m .lastcell) l some

@@ -7,32 +7,32 @@ use Prim.Native.Nat.{ℕ}
 use native.Mathlib.Omega.{arith}
 use lib.IntN.{ℤ}
 use Rattle.job.specs.Node.{Node, Dag, bodyAt}
 use Rattle.model.specs.Machine.Limits.{Limits}
 use Rattle.model.specs.Machine.Blank.{tokenAt}
 use Rattle.model.specs.Machine.State.{isLive}
 use Rattle.model.specs.Machine.InUse.{tokensUsed, cellsUsed}
 use Rattle.model.specs.Machine.FreePlace.{nextPlace}
 use Rattle.model.specs.Machine.Reply.{unless}
 use Rattle.model.specs.Machine.Update.{withOrders}
 use Rattle.model.specs.Machine.Step.{forked, split, entered, hasTokenPlace, hasCellPlace, act}
 use Rattle.calculus.specs.Expression.{Exp}
 use Rattle.model.specs.declared.token.Held.{Held}
 use Rattle.model.specs.declared.token.State.{State}
 use Rattle.model.specs.declared.token.State.the-variants as states
 use Rattle.model.specs.declared.token.Token.{Token}
 use Rattle.model.specs.declared.record.Machine.{Machine}
 use Rattle.model.proofs.Machine.Marks.{Free}
 use Rattle.simulation.proofs.AbstractMachine as Abstract
 use Rattle.simulation.proofs.AbstractMachine.{Binding, Frame, at, running, Store, actsAt}
 use Rattle.simulation.proofs.Shuffle.{Split}
-use Rattle.model.proofs.Sees.Labels.{Labels, nodeMeant, programOf, FlowAt}
-use Rattle.model.proofs.Sees.View.{World, HeldSeen, StateSeen, ready, waiting, called, due, TokenSeen, sees}
-use Rattle.model.proofs.Sees.Seen.{Core, world, live-listed}
-use Rattle.model.proofs.Sees.Others.{Others, FoundAt, foundAt, find-place, others, spot-token}
-use Rattle.model.proofs.Sees.Agrees.{Acting, shows-unless, Agrees}
-use Rattle.model.proofs.Sees.OnePlace.{stop-agrees, publish-agrees, assign-agrees, remove-agrees, return-agrees, site-agrees}
-use Rattle.model.proofs.Sees.NewPlace.{fork-agrees, call-agrees, where-agrees}
-use Rattle.model.proofs.Sees.ChokeAgrees.{choke-agrees}
+use Rattle.lockstep.proofs.Labels.{Labels, nodeMeant, programOf, FlowAt}
+use Rattle.lockstep.proofs.View.{World, HeldSeen, StateSeen, ready, waiting, called, due, TokenSeen, sees}
+use Rattle.lockstep.proofs.Seen.{Core, world, live-listed}
+use Rattle.lockstep.proofs.Others.{Others, FoundAt, foundAt, find-place, others, spot-token}
+use Rattle.lockstep.proofs.Agrees.{Acting, shows-unless, Agrees}
+use Rattle.lockstep.proofs.OnePlace.{stop-agrees, publish-agrees, assign-agrees, remove-agrees, return-agrees, site-agrees}
+use Rattle.lockstep.proofs.NewPlace.{fork-agrees, call-agrees, where-agrees}
+use Rattle.lockstep.proofs.ChokeAgrees.{choke-agrees}
 
 -- a ready token at place p, found among the abstract machine's tokens
 pub data Taken (M : Labels) (W : World) (p : ℕ) (S : List Abstract.Token) : Type 0 where

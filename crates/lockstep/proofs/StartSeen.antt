@@ -10,20 +10,20 @@ use lib.Dec.{eqb}
 use lib.IntN.{pos}
 use Rattle.job.specs.Test.{occurrences, once}
 use Rattle.job.specs.Node.{Dag, dagHolds}
 use Rattle.model.specs.Machine.Limits.{Limits}
 use Rattle.model.specs.Machine.Blank.{unbound, blankToken, tokenAt}
 use Rattle.model.specs.Machine.State.{isLive}
 use Rattle.model.specs.Machine.Start.{startToken, startMachine, start}
 use Rattle.model.specs.declared.token.Token.{Token}
 use Rattle.model.specs.declared.record.Machine.{Machine}
 use Rattle.job.proofs.Test.{eqb-same, ne-eqb}
 use Rattle.simulation.proofs.AbstractMachine.{at, running, startAt}
-use Rattle.model.proofs.Sees.Labels.{Labels, Flow}
-use Rattle.model.proofs.Sees.View.{World, absent, ready, root, nothing, outermost, BindingsSeen, PlaceSeen, TokenSeen, sees, nobody}
-use Rattle.model.proofs.Sees.View.{also}
-use Rattle.model.proofs.Sees.Seen.{world, Sees, seenAs}
+use Rattle.lockstep.proofs.Labels.{Labels, Flow}
+use Rattle.lockstep.proofs.View.{World, absent, ready, root, nothing, outermost, BindingsSeen, PlaceSeen, TokenSeen, sees, nobody}
+use Rattle.lockstep.proofs.View.{also}
+use Rattle.lockstep.proofs.Seen.{world, Sees, seenAs}
 use Rattle.model.proofs.Machine.InUse.{unbound-empty}
 use Rattle.model.proofs.Machine.TableRows.{token-same, token-other}
 use Rattle.job.proofs.Lists.{replicate-at}
 
 blank-at : (n i : ℕ) → tokenAt (replicate n blankToken) i ≡ blankToken

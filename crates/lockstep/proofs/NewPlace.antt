@@ -12,35 +12,35 @@ use Rattle.job.specs.Test.{All}
 use Rattle.job.specs.Syntax.{Param}
 use Rattle.job.specs.WellFormed.{GoodParam}
 use Rattle.job.specs.Node.{Node, Dag, bodyAt}
 use Rattle.model.specs.Machine.Blank.{tokenAt, cellAt}
 use Rattle.model.specs.Machine.State.{isLive}
 use Rattle.model.specs.Machine.InUse.{tokensUsed, cellsUsed}
 use Rattle.model.specs.Machine.Update.{withNode, withBinding, inCell, withState, withTables, withOrders, withCounts, put, enqueue}
 use Rattle.model.specs.Machine.Update.{newToken, newCell}
 use Rattle.model.specs.Machine.Step.{formalsBound, forked, split, entered}
 use Rattle.calculus.specs.Expression.{Exp}
 use Rattle.calculus.specs.Allowed.{nextHandle}
 use Rattle.calculus.specs.Meaning.{paramMeant}
 use Rattle.model.specs.declared.token.Slot.the-variants as slots
 use Rattle.model.specs.declared.token.Held.the-variants as helds
 use Rattle.model.specs.declared.token.Place.the-variants as places
 use Rattle.model.specs.declared.token.State.the-variants as states
 use Rattle.model.specs.declared.token.Token.{Token}
 use Rattle.model.specs.declared.cell.Cell.{Cell}
 use Rattle.model.specs.declared.record.Machine.{Machine}
 use Rattle.job.proofs.Test.{clash, eqb-same, ne-eqb}
 use Rattle.model.proofs.Machine.Marks.{Free, free-inside}
 use Rattle.simulation.proofs.AbstractMachine as Abstract
 use Rattle.simulation.proofs.AbstractMachine.{Binding, Frame, frame, at, running, Store, named, actsAt}
-use Rattle.model.proofs.Sees.Labels.{Labels, nodeMeant, programOf, Fresh, Follows, Enters}
-use Rattle.model.proofs.Sees.View.{held, World, Unset, absent, ready, CellSeen, CellsSeen, below, celled, calledBy, PlaceSeen}
-use Rattle.model.proofs.Sees.View.{TokenSeen, sees, Kept, place-keep}
-use Rattle.model.proofs.Sees.Seen.{world, sees-tables, UsedToken, UsedCell, cells-of, used-closed}
-use Rattle.model.proofs.Sees.Slots.{formals-seen}
-use Rattle.model.proofs.Sees.Others.{acting-inside, cell-later, twoWritten, two-first, two-kept, both-core, new-core}
-use Rattle.model.proofs.Sees.Moving.{value-optional, ready-seen, slots-at, place-to, place-bind, place-as}
-use Rattle.model.proofs.Sees.Agrees.{Acting, acting-used, acting-fits, Shows, Agrees}
+use Rattle.lockstep.proofs.Labels.{Labels, nodeMeant, programOf, Fresh, Follows, Enters}
+use Rattle.lockstep.proofs.View.{held, World, Unset, absent, ready, CellSeen, CellsSeen, below, celled, calledBy, PlaceSeen}
+use Rattle.lockstep.proofs.View.{TokenSeen, sees, Kept, place-keep}
+use Rattle.lockstep.proofs.Seen.{world, sees-tables, UsedToken, UsedCell, cells-of, used-closed}
+use Rattle.lockstep.proofs.Slots.{formals-seen}
+use Rattle.lockstep.proofs.Others.{acting-inside, cell-later, twoWritten, two-first, two-kept, both-core, new-core}
+use Rattle.lockstep.proofs.Moving.{value-optional, ready-seen, slots-at, place-to, place-bind, place-as}
+use Rattle.lockstep.proofs.Agrees.{Acting, acting-used, acting-fits, Shows, Agrees}
 use Rattle.model.proofs.Machine.TableRows.{cell-same, cell-other}
 
 -- a function with the value v at c
 unfoldable changed : (ℕ → ℕ) → (c v : ℕ) → ℕ → ℕ

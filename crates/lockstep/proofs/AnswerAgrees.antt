@@ -10,30 +10,30 @@ use lib.ListN.{getD}
 use lib.Dec.{eqb}
 use lib.IntN.{ℤ}
 use Rattle.job.specs.Test.{forSome}
 use Rattle.model.specs.Machine.Blank.{blankToken, tokenAt}
 use Rattle.model.specs.Machine.State.{isLive, handleOf}
 use Rattle.model.specs.Machine.Update.{withValue, withState, withTables, withOrders, put, enqueue}
 use Rattle.model.specs.Machine.Answer.{holder}
 use Rattle.calculus.specs.Event.{Event, showing}
 use Rattle.calculus.specs.Allowed.{nextHandle}
 use Rattle.model.specs.declared.token.Held.{Held}
 use Rattle.model.specs.declared.token.Held.the-variants as helds
 use Rattle.model.specs.declared.token.Place.{Place}
 use Rattle.model.specs.declared.token.Place.the-variants as places
 use Rattle.model.specs.declared.token.State.{State}
 use Rattle.model.specs.declared.token.State.the-variants as states
 use Rattle.model.specs.declared.token.Token.{Token}
 use Rattle.model.specs.declared.record.Machine.{Machine}
 use Rattle.job.proofs.Test.{clash, eqb-eq, or-cases}
 use Rattle.simulation.proofs.AbstractMachine as Abstract
 use Rattle.simulation.proofs.AbstractMachine.{Binding, Frame, at, running, Store, makes}
 use Rattle.simulation.proofs.Shuffle.{Split}
-use Rattle.model.proofs.Sees.Labels.{Labels}
-use Rattle.model.proofs.Sees.View.{World, present, StateSeen, ready, waiting, called, due, PlaceSeen, Unset, TokenSeen, sees}
-use Rattle.model.proofs.Sees.Seen.{Core, world, used-fits, token-used, live-listed}
-use Rattle.model.proofs.Sees.Others.{Others, FoundAt, foundAt, find-place, others, spot-token}
-use Rattle.model.proofs.Sees.Moving.{place-as, fits-as}
-use Rattle.model.proofs.Sees.Agrees.{Becomes, goes-becomes}
+use Rattle.lockstep.proofs.Labels.{Labels}
+use Rattle.lockstep.proofs.View.{World, present, StateSeen, ready, waiting, called, due, PlaceSeen, Unset, TokenSeen, sees}
+use Rattle.lockstep.proofs.Seen.{Core, world, used-fits, token-used, live-listed}
+use Rattle.lockstep.proofs.Others.{Others, FoundAt, foundAt, find-place, others, spot-token}
+use Rattle.lockstep.proofs.Moving.{place-as, fits-as}
+use Rattle.lockstep.proofs.Agrees.{Becomes, goes-becomes}
 
 -- the holder of a handle is called out under it
 pub holds-handle : (h : ℕ) (s : State) → forSome (eqb h) (handleOf s) ≡ true → s ≡ states.Called h

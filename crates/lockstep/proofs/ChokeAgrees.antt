@@ -12,37 +12,37 @@ use lib.Dec.{eqb}
 use lib.IntN.{ℤ}
 use Rattle.job.specs.Test.{occurrences, once, forSome, select}
 use Rattle.job.specs.Node.{Node, Dag}
 use Rattle.model.specs.Machine.Blank.{tokenAt, cellAt}
 use Rattle.model.specs.Machine.Active.{within}
 use Rattle.model.specs.Machine.State.{isLive, waitsAt}
 use Rattle.model.specs.Machine.Update.{withState, withTables, withTimers, withOrders}
 use Rattle.model.specs.Machine.Step.{chokeToken, afterChoke, chokeAt}
 use Rattle.calculus.specs.Expression.{Exp}
 use Rattle.model.specs.declared.token.Held.{Held}
 use Rattle.model.specs.declared.token.Held.the-variants as helds
 use Rattle.model.specs.declared.token.Place.{Place}
 use Rattle.model.specs.declared.token.State.{State}
 use Rattle.model.specs.declared.token.State.the-variants as states
 use Rattle.model.specs.declared.token.Token.{Token}
 use Rattle.model.specs.declared.cell.Cell.{Cell}
 use Rattle.model.specs.declared.record.Machine.{Machine}
 use Rattle.job.proofs.Test.{clash, ne-eqb, not-true, occurrences-append}
 use Rattle.model.proofs.Machine.Selected.{occurrences-kept, occurrences-dropped}
 use Rattle.model.proofs.Machine.Choke.{choke-at, choke-ends, woken, choke-spares}
 use Rattle.simulation.proofs.AbstractMachine as Abstract
 use Rattle.simulation.proofs.AbstractMachine.{Binding, Frame, at, Store, withSet, isOutOf, outOf, actsAt}
 use Rattle.simulation.proofs.Store.{_is-in_, set-same, set-other}
-use Rattle.model.proofs.Sees.Labels.{Labels, nodeMeant, programOf}
-use Rattle.model.proofs.Sees.View.{held, World, Nested, StateSeen, ready, waiting, called, due, Unset, CellSeen, CellsSeen, root}
-use Rattle.model.proofs.Sees.View.{below, PlaceSeen, TokenSeen, sees, TokensSeen, nobody, also, FrameSeen, frameAt, frame-seen}
-use Rattle.model.proofs.Sees.View.{Kept, Closed, place-keep, tokens-append}
-use Rattle.model.proofs.Sees.Seen.{Core, world, sees-tables}
-use Rattle.model.proofs.Sees.Others.{Others}
-use Rattle.model.proofs.Sees.WithinSeen.{not-some, some-first, some-rest, within-seen}
-use Rattle.model.proofs.Sees.Moving.{value-there, value-optional, place-as}
-use Rattle.model.proofs.Sees.Agrees.{Acting, Shows, Agrees}
+use Rattle.lockstep.proofs.Labels.{Labels, nodeMeant, programOf}
+use Rattle.lockstep.proofs.View.{held, World, Nested, StateSeen, ready, waiting, called, due, Unset, CellSeen, CellsSeen, root}
+use Rattle.lockstep.proofs.View.{below, PlaceSeen, TokenSeen, sees, TokensSeen, nobody, also, FrameSeen, frameAt, frame-seen}
+use Rattle.lockstep.proofs.View.{Kept, Closed, place-keep, tokens-append}
+use Rattle.lockstep.proofs.Seen.{Core, world, sees-tables}
+use Rattle.lockstep.proofs.Others.{Others}
+use Rattle.lockstep.proofs.WithinSeen.{not-some, some-first, some-rest, within-seen}
+use Rattle.lockstep.proofs.Moving.{value-there, value-optional, place-as}
+use Rattle.lockstep.proofs.Agrees.{Acting, Shows, Agrees}
 use Rattle.model.proofs.Machine.WrittenTokens.{waiting-live}
 use Rattle.model.proofs.Machine.TableRows.{cell-same, cell-other}
 
 woken-live : (c : ℕ) (t : Token) → isLive (woken (waitsAt c (t .state)) t .state) ≡ isLive (t .state)
 unfolding woken withState isLive

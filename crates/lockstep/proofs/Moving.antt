@@ -8,24 +8,24 @@ use native.Mathlib.Omega.{arith}
 use lib.ListN.{length}
 use lib.IntN.{ℤ}
 use Rattle.job.specs.Node.{Dag}
 use Rattle.model.specs.Machine.Blank.{slotAt}
 use Rattle.model.specs.Machine.Update.{withNode, withBinding}
 use Rattle.model.specs.declared.token.Slot.{Slot}
 use Rattle.model.specs.declared.token.Slot.the-variants as slots
 use Rattle.model.specs.declared.token.Bind.{Bind}
 use Rattle.model.specs.declared.token.Held.{Held}
 use Rattle.model.specs.declared.token.Held.the-variants as helds
 use Rattle.model.specs.declared.token.State.{State}
 use Rattle.model.specs.declared.token.State.the-variants as states
 use Rattle.model.specs.declared.token.Token.{Token}
 use Rattle.job.proofs.Test.{clash}
 use Rattle.model.proofs.Machine.Inside.{Fits}
 use Rattle.simulation.proofs.AbstractMachine as Abstract
 use Rattle.simulation.proofs.AbstractMachine.{Binding, Frame, running}
-use Rattle.model.proofs.Sees.Labels.{Labels, Fresh, Follows}
-use Rattle.model.proofs.Sees.View.{World, Nested, cellsOfCaller, HeldSeen, absent, present, StateSeen, ready, CellsSeen, BindingSeen}
-use Rattle.model.proofs.Sees.View.{SlotsSeen, FramesSeen, PlaceSeen}
-use Rattle.model.proofs.Sees.Slots.{withSlot, slot-same, slot-other, slots-bind, slots-drop}
+use Rattle.lockstep.proofs.Labels.{Labels, Fresh, Follows}
+use Rattle.lockstep.proofs.View.{World, Nested, cellsOfCaller, HeldSeen, absent, present, StateSeen, ready, CellsSeen, BindingSeen}
+use Rattle.lockstep.proofs.View.{SlotsSeen, FramesSeen, PlaceSeen}
+use Rattle.lockstep.proofs.Slots.{withSlot, slot-same, slot-other, slots-bind, slots-drop}
 
 -- a value that must be there, or need not
 pub value-there : {b : Bool} {w : Held} {v : ℤ} → b ≡ true → HeldSeen b w v → w ≡ helds.Value v

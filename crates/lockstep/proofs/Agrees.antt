@@ -6,22 +6,22 @@ use mathlib.Core.List.{List, [], _∷_, _++_}
 use Prim.Native.Nat.{ℕ}
 use lib.ListN.{set}
 use lib.IntN.{ℤ}
 use Rattle.model.specs.Machine.Blank.{tokenAt}
 use Rattle.model.specs.Machine.State.{isLive}
 use Rattle.model.specs.Machine.Reply.{Effect, moves, waits, publishes, calls, refuses, unless}
 use Rattle.calculus.specs.Event.{Event, Label, silently, showing}
 use Rattle.calculus.specs.Allowed.{nextHandle}
 use Rattle.model.specs.declared.token.State.the-variants as states
 use Rattle.model.specs.declared.token.Token.{Token}
 use Rattle.model.specs.declared.record.Machine.{Machine}
 use Rattle.model.proofs.Machine.Inside.{Fits}
 use Rattle.simulation.proofs.AbstractMachine as Abstract
 use Rattle.simulation.proofs.AbstractMachine.{Binding, Frame, at, running, Store, makes}
-use Rattle.model.proofs.Sees.Labels.{Labels}
-use Rattle.model.proofs.Sees.View.{World, HeldSeen, Unset, PlaceSeen, TokenSeen, sees}
-use Rattle.model.proofs.Sees.Seen.{world, Sees, sees-tables, UsedToken, UsedCell, used-fits, token-used}
-use Rattle.model.proofs.Sees.Others.{Others, ends-core, goes-core}
-use Rattle.model.proofs.Sees.Moving.{ready-seen}
+use Rattle.lockstep.proofs.Labels.{Labels}
+use Rattle.lockstep.proofs.View.{World, HeldSeen, Unset, PlaceSeen, TokenSeen, sees}
+use Rattle.lockstep.proofs.Seen.{world, Sees, sees-tables, UsedToken, UsedCell, used-fits, token-used}
+use Rattle.lockstep.proofs.Others.{Others, ends-core, goes-core}
+use Rattle.lockstep.proofs.Moving.{ready-seen}
 
 -- the ready token at p, with those before and behind it in the abstract machine's list
 pub record Acting (M : Labels) (W : World) (p : ℕ) (L R : List Abstract.Token)

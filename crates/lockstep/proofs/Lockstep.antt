@@ -14,49 +14,49 @@ use Rattle.job.specs.Test.{padded, without}
 use Rattle.job.specs.Number.{Signed32}
 use Rattle.job.specs.Site.{lastTime}
 use Rattle.job.specs.Node.{Dag, nodeAt, isNode, dagHolds}
 use Rattle.model.specs.Machine.Limits.{Limits, limits}
 use Rattle.model.specs.Machine.Blank.{blankToken, tokenAt}
 use Rattle.model.specs.Machine.InUse.{tokensUsed, cellsUsed, marked}
 use Rattle.model.specs.Machine.FreePlace.{nextPlace}
 use Rattle.model.specs.Machine.Rules.{tokenInRange, rulesHold}
 use Rattle.model.specs.Machine.Reply.{Effect, moves, waits, publishes, calls, refuses, accepted, outcome, isRefused}
 use Rattle.model.specs.Machine.Step as Step
 use Rattle.model.specs.Machine.Update.{withOrders, queueOf, waitsOf}
 use Rattle.model.specs.Machine.Step.{hasTokenPlace, hasCellPlace, takes}
 use Rattle.model.specs.Machine.Answer as Answer
 use Rattle.model.specs.Machine.Answer.{holder, answered}
 use Rattle.model.specs.Machine.Clock as Clock
 use Rattle.model.specs.Machine.Clock.{takesTime}
 use Rattle.calculus.specs.Event.{Event, Label, silently, showing}
 use Rattle.calculus.specs.Expression.{Exp}
 use Rattle.calculus.specs.Allowed.{shown}
 use Rattle.model.specs.Run.Call.{Call, step, answer, advance, runner, eventsOf, outcomeOf, eventsFrom, started}
 use Rattle.model.specs.declared.token.Place.{Place}
 use Rattle.model.specs.declared.token.Place.the-variants as places
 use Rattle.model.specs.declared.token.State.{State}
 use Rattle.model.specs.declared.record.Machine.{Machine}
 use Rattle.model.specs.declared.reply.Reply.the-variants as replies
 use Rattle.model.specs.declared.reply.Outcome.{Outcome}
 use Rattle.job.proofs.Test.{clash, holds-or-fails, and-left, and-right, all-at, ltb-lt, leb-le}
 use Rattle.model.proofs.Machine.Marks.{Free}
 use Rattle.model.proofs.Machine.InUse.{tokens-used, cells-used}
 use Rattle.model.proofs.Machine.Places.{next-place-free}
 use Rattle.model.proofs.Machine.Rules.{EachRuleHolds, each-rule-holds, ready-state}
 use Rattle.model.proofs.Machine.Rules.{tokens-sized, cells-sized, lasttoken-inside, lastcell-inside}
 use Rattle.model.proofs.Machine.Refused.{StepAccepted, step-accepted, AnswerAccepted, answer-accepted, AdvanceAccepted}
 use Rattle.model.proofs.Machine.Refused.{advance-accepted}
 use Rattle.model.proofs.Run.Passage.{eventsBy, Passage, passage}
 use Rattle.model.proofs.Run.Queue.{queue-rules-hold}
 use Rattle.simulation.proofs.AbstractMachine as Abstract
 use Rattle.simulation.proofs.AbstractMachine.{Binding, Frame, at, Store, state, labelOf, after, Move, startAt}
-use Rattle.model.proofs.Sees.Labels.{Labels, programOf, Flow}
-use Rattle.model.proofs.Sees.View.{World}
-use Rattle.model.proofs.Sees.Seen.{world, Sees, seenAs, sweep-sees}
-use Rattle.model.proofs.Sees.Agrees.{Acting, Shows, Agrees}
-use Rattle.model.proofs.Sees.ActsAgree.{Taken, taken, take-ready, act-agrees}
-use Rattle.model.proofs.Sees.AnswerAgrees.{holder-called, Pending, pending, find-pending, answered-becomes}
-use Rattle.model.proofs.Sees.ClockAgrees.{advanced-sees}
-use Rattle.model.proofs.Sees.StartSeen.{start-sees}
+use Rattle.lockstep.proofs.Labels.{Labels, programOf, Flow}
+use Rattle.lockstep.proofs.View.{World}
+use Rattle.lockstep.proofs.Seen.{world, Sees, seenAs, sweep-sees}
+use Rattle.lockstep.proofs.Agrees.{Acting, Shows, Agrees}
+use Rattle.lockstep.proofs.ActsAgree.{Taken, taken, take-ready, act-agrees}
+use Rattle.lockstep.proofs.AnswerAgrees.{holder-called, Pending, pending, find-pending, answered-becomes}
+use Rattle.lockstep.proofs.ClockAgrees.{advanced-sees}
+use Rattle.lockstep.proofs.StartSeen.{start-sees}
 
 -- tables at least as large as the limits
 pub record Fitting (lim : Limits) : Type 0 where

@@ -22,10 +22,10 @@ use Rattle.job.proofs.DagHolds.{bodies-length}
 use Rattle.simulation.proofs.AbstractMachine as Abstract
 use Rattle.simulation.proofs.Relation.{Code}
 use Rattle.simulation.proofs.Coded.{Bodies}
-use Rattle.model.proofs.Sees.Labels.{Labels, nodeMeant, programOf}
-use Rattle.model.proofs.Sees.Each.{Each, each-head, each-tail, each-left, each-right, each-three, each-own}
-use Rattle.model.proofs.Sees.Labelling.{Label, nestRight, ownLabels, expLabels, programLabels, labelsOf}
-use Rattle.model.proofs.Sees.Labelling.{Has, Labelled, join-labelled, here-labelled, then-labelled, labelled-whole}
+use Rattle.lockstep.proofs.Labels.{Labels, nodeMeant, programOf}
+use Rattle.lockstep.proofs.Each.{Each, each-head, each-tail, each-left, each-right, each-three, each-own}
+use Rattle.lockstep.proofs.Labelling.{Label, nestRight, ownLabels, expLabels, programLabels, labelsOf}
+use Rattle.lockstep.proofs.Labelling.{Has, Labelled, join-labelled, here-labelled, then-labelled, labelled-whole}
 
 -- an expression's code from n on, toward a node of this kind
 pub record Ends (G : Abstract.Program) (e : Calculus.Exp) (n : ℕ) (last : Abstract.Node) : Type 0 where

@@ -7,8 +7,8 @@ use Prim.Native.Nat.{ℕ, suc, _+_}
 use lib.ListN.{length, getD, length-append}
 use Rattle.job.specs.Syntax.{Join, par, seq, prune, Exp, stop, site, call, join, Definition, Program, levels, scopeLeft, scopeRight}
 use Rattle.job.specs.Construct.{own, nodeCount}
-use Rattle.model.proofs.Sees.Labels.{Labels}
-use Rattle.model.proofs.Sees.Each.{Each, Three, each-map, each-left, each-right, each-three, each-own}
+use Rattle.lockstep.proofs.Labels.{Labels}
+use Rattle.lockstep.proofs.Each.{Each, Three, each-map, each-left, each-right, each-three, each-own}
 
 pub record Label : Type 0 where
   pub scope : List ℕ

@@ -9,8 +9,8 @@ use Rattle.calculus.specs.Event.{Event}
 use Rattle.calculus.specs.Allowed.{Allowed}
 use Rattle.calculus.specs.Meaning.{meaning}
 use Rattle.simulation.proofs.AbstractMachine.{State, Run, startAt}
-use Rattle.model.proofs.Sees.CodedProgram.{abstractOf, goal-coded, bodies-coded}
-use Rattle.model.proofs.Sees.Closed.{goal-closed}
+use Rattle.lockstep.proofs.CodedProgram.{abstractOf, goal-coded, bodies-coded}
+use Rattle.lockstep.proofs.Closed.{goal-closed}
 use Rattle.simulation.proofs.RunsSound.{zeros, Stands, start-stands, run-sound}
 
 module _ (p : Program) (wf : WellFormed p) where

@@ -1,4 +1,4 @@
--- The concrete machine seen as the abstract machine, instruction by instruction, and so run by run.
+-- The concrete machine seen as the abstract machine, instruction by instruction, and so run by run; then the first part of demand 3.
 pub mod Labels
 pub mod Each
 pub mod Labelling
@@ -20,3 +20,5 @@ pub mod AnswerAgrees
 pub mod ClockAgrees
 pub mod StartSeen
 pub mod Lockstep
+pub mod Sound
+pub mod First

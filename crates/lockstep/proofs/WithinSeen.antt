@@ -10,16 +10,16 @@ use lib.ListN.{length, set, replicate, length-set, length-replicate}
 use lib.Seq.{getD-set-other}
 use lib.Dec.{eqb}
 use Rattle.job.specs.Test.{_or_, forSome}
 use Rattle.model.specs.Machine.Blank.{cellAt}
 use Rattle.model.specs.Machine.Active.{upward, within}
 use Rattle.model.specs.Machine.InUse.{marked}
 use Rattle.model.specs.declared.token.Place.{Place}
 use Rattle.model.specs.declared.token.Place.the-variants as places
 use Rattle.job.proofs.WellFormed.{member-some}
 use Rattle.job.proofs.Test.{clash, eq-eqb, ne-eqb}
 use Rattle.model.proofs.Machine.Marks.{Free, marked-le-length, marked-set-free}
 use Rattle.simulation.proofs.Store.{_not-in_}
-use Rattle.model.proofs.Sees.View.{World, CellSeen, CellsSeen, root, below}
+use Rattle.lockstep.proofs.View.{World, CellSeen, CellsSeen, root, below}
 
 -- names in a list
 pub not-some : (n : ℕ) (U : List ℕ) → forSome (eqb n) U ≡ false → n not-in U

@@ -15,10 +15,10 @@ use Rattle.job.proofs.Test.{All-map}
 use Rattle.job.proofs.Size.{own-length, nodes-length}
 use Rattle.job.proofs.All.{All-member, All-at}
 use Rattle.job.proofs.DagHolds.{bodies-length, formals-few}
-use Rattle.model.proofs.Sees.Labels.{Labels, Fresh, Follows, Enters, FlowAt, Flow}
-use Rattle.model.proofs.Sees.Each.{Each, each-head, each-tail, each-from, each-append, three-each, each-at}
-use Rattle.model.proofs.Sees.Labelling.{Label, plain, nestRight, ownLabels, expLabels, programLabels, labelsOf}
-use Rattle.model.proofs.Sees.Labelling.{Has, Labelled, join-labelled, here-labelled, then-labelled, labelled-whole}
+use Rattle.lockstep.proofs.Labels.{Labels, Fresh, Follows, Enters, FlowAt, Flow}
+use Rattle.lockstep.proofs.Each.{Each, each-head, each-tail, each-from, each-append, three-each, each-at}
+use Rattle.lockstep.proofs.Labelling.{Label, plain, nestRight, ownLabels, expLabels, programLabels, labelsOf}
+use Rattle.lockstep.proofs.Labelling.{Has, Labelled, join-labelled, here-labelled, then-labelled, labelled-whole}
 use Rattle.job.proofs.ScopeSlots.{levels-length}
 
 -- each variable in scope is below the next one's number

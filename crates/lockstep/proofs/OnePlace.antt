@@ -14,40 +14,40 @@ use Rattle.job.specs.Site.{BuiltinReply, gives, silent, later, dueTime, isBuilt
 use Rattle.job.specs.Syntax.{Param}
 use Rattle.job.specs.WellFormed.{GoodParam}
 use Rattle.job.specs.Node.{Node, Dag}
 use Rattle.model.specs.Machine.Limits.{Limits}
 use Rattle.model.specs.Machine.Blank.{blankToken, tokenAt}
 use Rattle.model.specs.Machine.State.{isLive}
 use Rattle.model.specs.Machine.Reply.{Effect, moves, publishes, unless}
 use Rattle.model.specs.Machine.Update.{withNode, withBinding, withValue, withState, withTables, withOrders, withCounts, withTimers}
 use Rattle.model.specs.Machine.Update.{put, enqueue}
 use Rattle.model.specs.Machine.Step.{LookUpResult, values, unset, look, valueOf, ended, goesOn, waited, replied, calledOut, returned}
 use Rattle.model.specs.Machine.Step.{deferred, callSite}
 use Rattle.calculus.specs.Event.{Event, Label, silently, showing}
 use Rattle.calculus.specs.Expression.{Exp}
 use Rattle.calculus.specs.Allowed.{nextHandle}
 use Rattle.model.specs.declared.token.Slot.the-variants as slots
 use Rattle.model.specs.declared.token.Held.{Held}
 use Rattle.model.specs.declared.token.Held.the-variants as helds
 use Rattle.model.specs.declared.token.Place.{Place}
 use Rattle.model.specs.declared.token.Place.the-variants as places
 use Rattle.model.specs.declared.token.State.{State}
 use Rattle.model.specs.declared.token.State.the-variants as states
 use Rattle.model.specs.declared.token.Token.{Token}
 use Rattle.model.specs.declared.record.Machine.{Machine}
 use Rattle.job.proofs.Test.{le-leb, lt-not-leb}
 use Rattle.model.proofs.Machine.Deferred.{atOnce, inTime, deferred-cases}
 use Rattle.simulation.proofs.AbstractMachine as Abstract
 use Rattle.simulation.proofs.AbstractMachine.{Binding, Frame, at, running, Store, actsAt}
 use Rattle.simulation.proofs.Store.{_is-in_}
-use Rattle.model.proofs.Sees.Labels.{Labels, nodeMeant, programOf, Fresh, Follows}
-use Rattle.model.proofs.Sees.View.{World, cellsOfCaller, present, waiting, called, due, valued, BindingSeen, FrameSeen, frameAt}
-use Rattle.model.proofs.Sees.View.{frame-seen, StateSeen, TokenSeen, sees}
-use Rattle.model.proofs.Sees.Seen.{world, tokens-of, used-fits}
-use Rattle.model.proofs.Sees.Slots.{found, values-seen}
-use Rattle.model.proofs.Sees.Moving.{value-there, value-optional, value-held, ready-seen, nested-none, place-to, place-bind}
-use Rattle.model.proofs.Sees.Moving.{place-drop, place-as, fits-as, fits-bind}
-use Rattle.model.proofs.Sees.Agrees.{Acting, acting-used, acting-fits, Becomes, Shows, shows-unless, Agrees, ends-becomes}
-use Rattle.model.proofs.Sees.Agrees.{goes-becomes}
+use Rattle.lockstep.proofs.Labels.{Labels, nodeMeant, programOf, Fresh, Follows}
+use Rattle.lockstep.proofs.View.{World, cellsOfCaller, present, waiting, called, due, valued, BindingSeen, FrameSeen, frameAt}
+use Rattle.lockstep.proofs.View.{frame-seen, StateSeen, TokenSeen, sees}
+use Rattle.lockstep.proofs.Seen.{world, tokens-of, used-fits}
+use Rattle.lockstep.proofs.Slots.{found, values-seen}
+use Rattle.lockstep.proofs.Moving.{value-there, value-optional, value-held, ready-seen, nested-none, place-to, place-bind}
+use Rattle.lockstep.proofs.Moving.{place-drop, place-as, fits-as, fits-bind}
+use Rattle.lockstep.proofs.Agrees.{Acting, acting-used, acting-fits, Becomes, Shows, shows-unless, Agrees, ends-becomes}
+use Rattle.lockstep.proofs.Agrees.{goes-becomes}
 
 module _ (d : Dag) (M : Labels) (bodies : ℕ → Exp) (m : Machine) {name place : ℕ → ℕ} {σ : Store} {new p : ℕ}
     {L R : List Abstract.Token} {n : ℕ} {B : List Binding} {F : List Frame} {U : List ℕ} {v : ℤ}

@@ -10,22 +10,22 @@ use native.Mathlib.Omega.{arith}
 use lib.ListN.{length, set, length-set}
 use lib.Dec.{eqb}
 use Rattle.job.specs.Test.{occurrences, once}
 use Rattle.model.specs.Machine.Blank.{tokenAt, cellAt}
 use Rattle.model.specs.Machine.State.{isLive}
 use Rattle.model.specs.Machine.InUse.{usedTokens}
 use Rattle.model.specs.declared.token.State.the-variants as states
 use Rattle.model.specs.declared.token.Token.{Token}
 use Rattle.model.specs.declared.cell.Cell.{Cell}
 use Rattle.job.proofs.Test.{clash, false-of, eqb-eq, eqb-same, ne-eqb, once-true, occurrences-append}
 use Rattle.model.proofs.Machine.Marks.{Free, free-inside}
 use Rattle.model.proofs.Machine.Inside.{Fits}
 use Rattle.simulation.proofs.AbstractMachine as Abstract
 use Rattle.simulation.proofs.Shuffle.{Split, first, later}
-use Rattle.model.proofs.Sees.Labels.{Labels}
-use Rattle.model.proofs.Sees.View.{World, CellSeen, TokenSeen, TokensSeen, nobody, also, Kept, token-keep, tokens-map, tokens-append}
-use Rattle.model.proofs.Sees.Seen.{Core, token-live, UsedToken, UsedCell, tokens-of, used-fits, used-closed, token-used}
-use Rattle.model.proofs.Sees.Seen.{token-at}
+use Rattle.lockstep.proofs.Labels.{Labels}
+use Rattle.lockstep.proofs.View.{World, CellSeen, TokenSeen, TokensSeen, nobody, also, Kept, token-keep, tokens-map, tokens-append}
+use Rattle.lockstep.proofs.Seen.{Core, token-live, UsedToken, UsedCell, tokens-of, used-fits, used-closed, token-used}
+use Rattle.lockstep.proofs.Seen.{token-at}
 use Rattle.model.proofs.Machine.TableRows.{token-same, token-other, live-inside}
 
 once-le : (b : Bool) → once b ≤ 1
 once-le true = omega arith

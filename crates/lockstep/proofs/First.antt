@@ -2,19 +2,19 @@
 -- that shows is allowed. Assumes nothing.
 use mathlib.Core.List.{List}
 use Rattle.job.specs.Construct.{construct}
 use Rattle.model.specs.Machine.Limits.{limits}
 use Rattle.calculus.specs.Event.{Event}
 use Rattle.calculus.specs.Allowed.{Allowed}
 use Rattle.calculus.specs.Meaning.{meaning}
 use Rattle.model.specs.Run.Call.{runner}
 use Rattle.model.specs.Run.Demand3.{First}
 use Rattle.job.specs.WellFormed.{WellFormed}
 use Rattle.job.proofs.Accepted.{accepted-well-formed}
-use Rattle.model.proofs.Run.Sound.{sound}
-use Rattle.model.proofs.Sees.Labelling.{labelsOf}
-use Rattle.model.proofs.Sees.Flowing.{construct-flows}
-use Rattle.model.proofs.Sees.Lockstep.{fitting, Shown, shows, run-shown}
+use Rattle.lockstep.proofs.Sound.{sound}
+use Rattle.lockstep.proofs.Labelling.{labelsOf}
+use Rattle.lockstep.proofs.Flowing.{construct-flows}
+use Rattle.lockstep.proofs.Lockstep.{fitting, Shown, shows, run-shown}
 use Rattle.model.proofs.Machine.StartAccepted.{accepted-starts}
 
 pub runs-are-allowed : First runner
 runs-are-allowed table p e t c k some = (

@@ -16,21 +16,21 @@ use Rattle.job.specs.Test.{All, more}
 use Rattle.job.specs.Syntax as Job
 use Rattle.job.specs.Syntax.{levels}
 use Rattle.job.specs.WellFormed.{GoodParam}
 use Rattle.model.specs.Machine.Blank.{empty, unbound, cellAt, slotAt}
 use Rattle.model.specs.Machine.Step.{LookUpResult, values, unset, andThen, look, passed, formalsBound}
 use Rattle.calculus.specs.Meaning.{position, paramMeant}
 use Rattle.model.specs.declared.token.Slot.{Slot}
 use Rattle.model.specs.declared.token.Slot.the-variants as slots
 use Rattle.model.specs.declared.token.Bind.{Bind}
 use Rattle.model.specs.declared.token.Held.{Held}
 use Rattle.model.specs.declared.token.Held.the-variants as helds
 use Rattle.job.proofs.Test.{eqb-eq, eqb-ne}
 use Rattle.model.proofs.Machine.InUse.{unbound-empty}
 use Rattle.simulation.proofs.AbstractMachine.{Binding, bindingAt, named, valueIn, inFront, valuesIn}
 use Rattle.simulation.proofs.Store.{_is-in_}
 use Rattle.calculus.specs.Expression as Calculus
-use Rattle.model.proofs.Sees.Labels.{Fresh}
-use Rattle.model.proofs.Sees.View.{held, World, below, BindingSeen, valued, celled, BindingsSeen, nothing, binds, SlotsSeen}
+use Rattle.lockstep.proofs.Labels.{Fresh}
+use Rattle.lockstep.proofs.View.{held, World, below, BindingSeen, valued, celled, BindingsSeen, nothing, binds, SlotsSeen}
 
 -- one slot written
 abbrev pub withSlot : List Bind → ℕ → Slot → List Bind

@@ -7,26 +7,26 @@ use Prim.Native.Nat.{ℕ}
 use lib.ListN.{length-map}
 use lib.IntN.{pos}
 use Rattle.job.specs.Test.{once}
 use Rattle.model.specs.Machine.Blank.{tokenAt}
 use Rattle.model.specs.Machine.State.{isLive, isDueBy}
 use Rattle.model.specs.Machine.Update.{withValue, withState, withTables, withOrders, withTimers, withClock}
 use Rattle.model.specs.Machine.Clock.{wokenBy, afterAdvance}
 use Rattle.model.specs.declared.token.Held.{Held}
 use Rattle.model.specs.declared.token.Held.the-variants as helds
 use Rattle.model.specs.declared.token.State.{State}
 use Rattle.model.specs.declared.token.State.the-variants as states
 use Rattle.model.specs.declared.token.Token.{Token}
 use Rattle.model.specs.declared.record.Machine.{Machine}
 use Rattle.job.proofs.Test.{clash}
 use Rattle.model.proofs.Machine.WrittenTokens.{due-live}
 use Rattle.model.proofs.Machine.Clock.{woken-at}
 use Rattle.simulation.proofs.AbstractMachine as Abstract
 use Rattle.simulation.proofs.AbstractMachine.{Store, state, wokenIf, wake}
-use Rattle.model.proofs.Sees.Labels.{Labels}
-use Rattle.model.proofs.Sees.View.{World, present, StateSeen, ready, waiting, called, due, TokenSeen, sees, TokensSeen, nobody, also}
-use Rattle.model.proofs.Sees.View.{Kept, Closed, token-keep}
-use Rattle.model.proofs.Sees.Seen.{Core, world, Sees, sees-tables}
-use Rattle.model.proofs.Sees.Moving.{place-as}
+use Rattle.lockstep.proofs.Labels.{Labels}
+use Rattle.lockstep.proofs.View.{World, present, StateSeen, ready, waiting, called, due, TokenSeen, sees, TokensSeen, nobody, also}
+use Rattle.lockstep.proofs.View.{Kept, Closed, token-keep}
+use Rattle.lockstep.proofs.Seen.{Core, world, Sees, sees-tables}
+use Rattle.lockstep.proofs.Moving.{place-as}
 
 module _ (time : ℕ) where
   -- a token that wakes, and one that stays
