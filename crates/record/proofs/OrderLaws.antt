@@ -89,21 +89,24 @@ module _ {ws names array : List ℕ} {n at counted : ℕ} {changed : List ℕ �
       let f : i ≡ length names = e ∙ o .number in
       ap₂ drop f (part ∙ o .array-is) ∙ drop-append-seam names _ ∙ ap (λ k. replicate (64 - k) 0) (sym f)
 
-  pub leave-put : (i index : ℕ) (x : List ℕ) → i ≡ n → index < i
-      → (drop i (take 64 (drop at ws)) ≡ replicate (64 - i) 0
-      → x ≡ padded 0 64 (without index (take i (take 64 (drop at ws))) ++ (0 ∷ [])))
+  -- the part x with a name left out and another word behind the others, as `left_out` leaves it
+  abbrev pub LeftOut : (last i index : ℕ) (x : List ℕ) → Type 0
+  LeftOut last i index x =
+      drop i (take 64 (drop at ws)) ≡ replicate (64 - i) 0 → x ≡ padded 0 64 (without index (take i (take 64 (drop at ws))) ++ (last ∷ []))
+
+  left-out : (last i index : ℕ) (x : List ℕ) → i ≡ n → LeftOut last i index x → x ≡ padded 0 64 (without index names ++ (last ∷ []))
+  left-out last i index x e f = f (rest-zero i e) ∙ ap (λ r. padded 0 64 (without index r ++ (last ∷ []))) (first i e)
+
+  pub leave-put : (i index : ℕ) (x : List ℕ) → i ≡ n → index < i → LeftOut 0 i index x
       → Holds (set (take at ws ++ (x ++ drop 64 (drop at ws))) counted (i - 1)) (changed (without index names))
   leave-put i index x e l f =
       let size : i ≡ length names = e ∙ o .number in
       let less = length-without index names (omega arith) in
       names-put (without index names) x (i - 1) (omega (arith, less, o .fits))
-      (f (rest-zero i e) ∙ ap (λ r. padded 0 64 (without index r ++ (0 ∷ []))) (first i e)
-      ∙ padded-zero (without index names) 64 (omega (arith, less, o .fits))) (omega arith) (lent x)
+      (left-out 0 i index x e f ∙ padded-zero (without index names) 64 (omega (arith, less, o .fits))) (omega arith) (lent x)
 
   -- one name less and another behind the others: their number stays
-  pub replace-put : (p i index : ℕ) (x : List ℕ) → i ≡ n → index < i
-      → (drop i (take 64 (drop at ws)) ≡ replicate (64 - i) 0
-      → x ≡ padded 0 64 (without index (take i (take 64 (drop at ws))) ++ (p ∷ [])))
+  pub replace-put : (p i index : ℕ) (x : List ℕ) → i ≡ n → index < i → LeftOut p i index x
       → Holds (take at ws ++ (x ++ drop 64 (drop at ws))) (changed (without index names ++ (p ∷ [])))
   replace-put p i index x e l f =
       let after : List ℕ = without index names ++ (p ∷ []) in
@@ -111,9 +114,7 @@ module _ {ws names array : List ℕ} {n at counted : ℕ} {changed : List ℕ �
       let same : length after ≡ n =
       omega (arith, length-append (without index names) (p ∷ []), length-without index names (omega arith)) in
       subst (λ r. Holds r (changed after))
-      (sym (lent x ∙ ap₂ (o .whole)
-      (f (rest-zero i e) ∙ ap (λ r. padded 0 64 (without index r ++ (p ∷ []))) (first i e)) (sym same)))
-      (o .holds after (omega (arith, o .fits)))
+      (sym (lent x ∙ ap₂ (o .whole) (left-out p i index x e f) (sym same))) (o .holds after (omega (arith, o .fits)))
 
   -- the names that are marked stay
   pub retain-put : (v i : ℕ) (x : List ℕ) (marks : List Bool) → i ≡ n → Retained (take 64 (drop at ws)) i marks x v
@@ -230,15 +231,13 @@ module _ {ws : List ℕ} {m : Machine} (h : Holds ws m) where
       }
 
   -- leaving and joining, in one
-  replaced : (p index : ℕ) → withOrders (without index (queueOf m) ++ (p ∷ [])) (waitsOf m) m ≡ enqueue p (dequeued m index)
+  pub replaced : (p index : ℕ) → withOrders (without index (queueOf m) ++ (p ∷ [])) (waitsOf m) m ≡ enqueue p (dequeued m index)
   unfolding enqueue withOrders queueOf waitsOf
   replaced p index =
       let size = length (m .tokens) in
       ap₂ (λ q w. withOrders (q ++ (p ∷ [])) w m) (names-are (without index (queueOf m)) size) (names-are (waitsOf m) size)
 
-  pub replaced-put : (p i index : ℕ) (x : List ℕ) → i ≡ m .queued → index < i
-      → (drop i (take 64 (drop 1664 ws)) ≡ replicate (64 - i) 0
-      → x ≡ padded 0 64 (without index (take i (take 64 (drop 1664 ws))) ++ (p ∷ [])))
+  pub replaced-put : (p i index : ℕ) (x : List ℕ) → i ≡ m .queued → index < i → LeftOut queue-order p i index x
       → Holds (take 1664 ws ++ (x ++ drop 64 (drop 1664 ws))) (enqueue p (dequeued m index))
   replaced-put p i index x e l f = subst (Holds _) (replaced p index) (replace-put queue-order p i index x e l f)
 

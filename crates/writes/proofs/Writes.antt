@@ -5,7 +5,7 @@ use mathlib.Core.List.{List, [], _∷_, _++_}
 use Prim.Native.Nat.{ℕ, suc, _+_, _-_, _<_}
 use native.Mathlib.Numerals.{add-one}
 use native.Mathlib.Omega.{arith}
-use lib.ListN.{length, set, take, length-append, length-set}
+use lib.ListN.{length, set, length-append, length-set}
 use lib.Seq.{set-comm}
 use Rattle.job.specs.Test.{padded, without}
 use Rattle.model.specs.Machine.Blank.{tokenAt}
@@ -17,7 +17,8 @@ use Rattle.model.specs.declared.token.Bind.{Bind}
 use Rattle.record.specs.Changes.{dequeued, withBinds}
 use Rattle.record.specs.Holds.{Holds}
 use Rattle.orders.proofs.NamesPadded.{length-without}
-use Rattle.record.proofs.HoldsShape.{shaped, names-are}
+use Rattle.record.proofs.HoldsShape.{shaped}
+use Rattle.record.proofs.OrderLaws.{replaced}
 use Rattle.record.proofs.TokenRow.{put-self}
 use Rattle.model.proofs.Machine.TableRows.{token-same, token-other}
 
@@ -28,11 +29,10 @@ queued-taken {ws} {m} place h l = let e = h .ordered .queued in length-without p
 
 pub queued-replaced : {ws : List ℕ} {m : Machine} (p place : ℕ) → Holds ws m → place < m .queued
     → enqueue p (dequeued m place) .queued ≡ m .queued
-unfolding enqueue withOrders queueOf
+unfolding withOrders
 queued-replaced {ws} {m} p place h l =
-    let names = without place (queueOf m) in
-    length-append (take (length names) (padded 0 (length (m .tokens)) names)) (p ∷ [])
-    ∙ ap (λ (xs : List ℕ). length xs + 1) (sym (names-are names (length (m .tokens)))) ∙ add-one _ ∙ queued-taken place h l
+    ap (λ (o : Machine). o .queued) (sym (replaced h p place)) ∙ length-append (without place (queueOf m)) (p ∷ []) ∙ add-one _
+    ∙ queued-taken place h l
 
 pub waiting-taken : {ws : List ℕ} {m : Machine} (place : ℕ) → Holds ws m → dequeued m place .waiting ≡ m .waiting
 unfolding withOrders
@@ -84,6 +84,10 @@ put-orders m p t q w =
 pub put-queue : (m : Machine) (p q : ℕ) (t : Token) → put p t (enqueue q m) ≡ enqueue q (put p t m)
 unfolding put withTables enqueue queueOf waitsOf
 put-queue m p q t = put-orders m p t (queueOf m ++ (q ∷ [])) (waitsOf m)
+
+-- two rows
+pub puts-queue : (m : Machine) (p q r : ℕ) (t u : Token) → put q u (put p t (enqueue r m)) ≡ enqueue r (put q u (put p t m))
+puts-queue m p q r t u = ap (put q u) (put-queue m p r t) ∙ put-queue (put p t m) q r u
 
 -- the same record, written in another way
 pub carry : {ws : List ℕ} (f : Token → Machine) {t u : Token} → t ≡ u → Holds ws (f t) → Holds ws (f u)

@@ -1,6 +1,6 @@
 -- `definition_call::written` meets its contract: each writer's contract, one behind the other, leads to the record of the definition.
 -- Assumes nothing.
-use Rattle.writes.proofs.Writes.{begins, carry-binding, put-same, put-other, put-queue}
+use Rattle.writes.proofs.Writes.{begins, carry-binding, put-same, put-other, puts-queue}
 use Rattle.sites.specs.Row.{callee, paramsAt}
 use Rattle.record.specs.Changes.{dequeued}
 use Rattle.record.specs.Holds.{Holds}
@@ -60,8 +60,7 @@ returns c = λ m h q n blank.
     (c .before .before .before .before .before .before .before .before .before .before .before .before .pre .0)))
     called in
     let child = callee (a .p) (t .cell) (t .binds) (a .root) (paramsAt (a .dag .now) (a .at)) in
-    let queue = ap (put (a .new) child) (put-queue gone (a .p) (a .new) u) ∙ put-queue (put (a .p) u gone) (a .new) (a .new) child in
-    c .set-last-token .ensures _ (subst (Holds _) queue bound)
+    c .set-last-token .ensures _ (subst (Holds _) (puts-queue gone (a .p) (a .new) (a .new) u child) bound)
 
 pub written-spec : {M : Type 1} → statement M
 written-spec =

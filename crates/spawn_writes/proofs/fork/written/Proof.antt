@@ -1,11 +1,11 @@
 -- `fork::written` meets its contract: each writer's contract, one behind the other, leads to the record of the definition. Assumes nothing.
-use mathlib.Core.Path.{refl, ap, subst, _∙_}
+use mathlib.Core.Path.{refl, subst}
 use native.Mathlib.Omega.{arith}
 use Rattle.record.specs.Changes.{dequeued}
 use Rattle.record.specs.Holds.{Holds}
 use Rattle.model.specs.Machine.Blank.{tokenAt}
 use Rattle.model.specs.Machine.Update.{put, withNode, withTables, withCounts, withOrders, newToken, enqueue, queueOf, waitsOf}
-use Rattle.writes.proofs.Writes.{begins, carry, put-same, put-queue, queued-replaced}
+use Rattle.writes.proofs.Writes.{begins, carry, put-same, puts-queue, queued-replaced}
 use borrow.Author.Needs.{needs}
 use Rattle.spawn_writes.proofs.fork.written.Statement.{statement}
 use Rattle.spawn_writes.proofs.fork.written.Tie as tie
@@ -55,7 +55,7 @@ returns c = λ m h q room.
     (c .before .before .before .before .before .before .copy .ensures _ left) in
     let right = c .before .before .before .before .set-node2 .ensures (put (a .p) l rest) l copied in
     let counted = c .before .before .set-last-token .ensures _
-    (subst (Holds _) (ap (put (a .new) r) (put-queue gone (a .p) (a .p) l) ∙ put-queue (put (a .p) l gone) (a .new) (a .p) r) right) in
+    (subst (Holds _) (puts-queue gone (a .p) (a .new) (a .p) l r) right) in
     c .join .ensures _ counted (omega (arith, queued-replaced (a .p) (a .place) h q))
 
 pub written-spec : {M : Type 1} → statement M

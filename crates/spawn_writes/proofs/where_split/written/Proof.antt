@@ -1,6 +1,6 @@
 -- `where_split::written` meets its contract: each writer's contract, one behind the other, leads to the record of the definition. Assumes
 -- nothing.
-use mathlib.Core.Path.{sym, ap, subst, _∙_}
+use mathlib.Core.Path.{sym, subst}
 use native.Mathlib.Omega.{arith}
 use Rattle.record.specs.Changes.{dequeued}
 use Rattle.record.specs.Holds.{Holds}
@@ -8,7 +8,7 @@ use Rattle.model.specs.declared.token.Slot.the-variants as slots
 use Rattle.model.specs.Machine.Blank.{tokenAt}
 use Rattle.model.specs.Machine.Update.{put, withNode, withBinding, inCell, withTables, withCounts, withOrders, newToken, newCell}
 use Rattle.model.specs.Machine.Update.{enqueue, queueOf, waitsOf}
-use Rattle.writes.proofs.Writes.{put-queue, queued-replaced}
+use Rattle.writes.proofs.Writes.{puts-queue, queued-replaced}
 use borrow.Author.Needs.{needs}
 use Rattle.spawn_writes.proofs.where_split.written.Statement.{statement}
 use Rattle.spawn_writes.proofs.where_split.written.Tie as tie
@@ -56,9 +56,9 @@ returns c = λ m h q room n.
     let r = inCell (a .c) (withNode (a .right) t) in
     let split = c .before .before .before .before .before .before .before .before .split-tokens .ensures _
     (c .before .before .before .before .before .before .before .before .before .before .replace .ensures m h q) n in
-    let moved = ap (put (a .new) r) (put-queue gone (a .p) (a .p) l) ∙ put-queue (put (a .p) l gone) (a .new) (a .p) r in
     let opened = c .before .before .before .before .put-unset .ensures _ (t .cell)
-    (c .before .before .before .before .before .before .set-last-token .ensures _ (subst (Holds _) moved split))
+    (c .before .before .before .before .before .before .set-last-token .ensures _
+    (subst (Holds _) (puts-queue gone (a .p) (a .new) (a .p) l r) split))
     (sym (c .before .before .before .before .before .before .before .before .before .before .before .before .cell .ensures m
     (h .codes))) in
     let counted = c .before .before .set-last-cell .ensures _ opened in
