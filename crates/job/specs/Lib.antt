@@ -13,5 +13,6 @@ pub mod Declined
 pub mod OneReply
 pub mod Read
 pub mod Node
+pub mod Tail
 pub mod Construct
 pub mod Words

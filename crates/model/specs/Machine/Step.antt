@@ -11,6 +11,7 @@ use Rattle.job.specs.Test.{select, without}
 use Rattle.job.specs.Site.{BuiltinReply, gives, silent, later, dueTime, isBuiltin, builtin}
 use Rattle.job.specs.Syntax.{Param, variable, constant}
 use Rattle.job.specs.Node.{Node, Dag, nodeAt, bodyAt}
+use Rattle.job.specs.Tail.{isTail}
 use Rattle.model.specs.Machine.Limits.{Limits}
 use Rattle.model.specs.Machine.Update.{withNode, withBinding, withValue, inCell, withState, withTables, withOrders, withCounts}
 use Rattle.model.specs.Machine.Update.{withTimers, queueOf, waitsOf, timersOf, put, enqueue, newToken, newCell}
@@ -63,6 +64,18 @@ passed bs (constant v) = record { slot = slots.Value v }
 unfoldable pub formalsBound : List Bind → List Param → List Bind
 formalsBound bs ps = map (passed bs) ps ++ drop (length ps) unbound
 
+-- ".. the callee is .. in the token's cell, with no value and only its formals bound"
+abbrev pub callee : (caller : Place) → Token → (root : ℕ) → List Param → Token
+callee q t root ps =
+    record {
+      node = root;
+      binds = formalsBound (t .binds) ps;
+      value = helds.Nothing;
+      caller = q;
+      cell = t .cell;
+      state = states.Ready;
+    }
+
 -- "a ready token at .. has a value": the test for 14 leaves none without
 unfoldable pub valueOf : Held → ℤ
 valueOf helds.Nothing = pos 0
@@ -108,21 +121,14 @@ module _ (m : Machine) (p : ℕ) (t : Token) where
       let sides = newToken q (inCell c (withNode r t)) (put p (withNode l (withBinding x (slots.Cell c) t)) m) in
       moves (enqueue q (enqueue p (newCell c (record { parent = t .cell; value = helds.Nothing }) sides)))
 
-  -- "the token becomes a frame at next, the callee is new, in the token's cell, with no value and only its formals bound"
+  -- "the token becomes a frame at next, the callee is new, .."
   unfoldable pub entered : (q root : ℕ) → List Param → (next : ℕ) → Effect
   entered q root ps k =
-      moves
-      (enqueue q
-      (newToken q
-      (record {
-        node = root;
-        binds = formalsBound (t .binds) ps;
-        value = helds.Nothing;
-        caller = places.At p;
-        cell = t .cell;
-        state = states.Ready;
-      })
-      (put p (withNode k (withState states.Frame t)) m)))
+      moves (enqueue q (newToken q (callee (places.At p) t root ps) (put p (withNode k (withState states.Frame t)) m)))
+
+  -- document 02, request 2: "the token itself becomes the callee and the callee inherits its caller"
+  unfoldable pub becomesCallee : (root : ℕ) → List Param → Effect
+  becomesCallee root ps = goesOn m p (callee (t .caller) t root ps)
 
   -- "the first unset cell makes the token wait there"
   unfoldable pub waited : ℕ → Effect
@@ -184,6 +190,13 @@ module _ (lim : Limits) where
   unfoldable pub hasCellPlace : Machine → Bool
   hasCellPlace before = ltb (marked (cellsUsed before)) (lim .cells)
 
+  -- document 02, request 2: "A definition call with nothing but remove nodes between it and its body's return shall keep no frame"; "10 is
+  -- then not given for such a call". `tail` says whether it is one
+  unfoldable pub callBody : (before m : Machine) → ℕ → Token → (root : ℕ) → List Param → (next : ℕ) → (tail : Bool) → Effect
+  callBody before m p t root ps k true = becomesCallee m p t root ps
+  callBody before m p t root ps k false =
+      unless (hasTokenPlace before) 10 (entered m p t (tokenPlace before) root ps k)
+
 module _ (lim : Limits) (d : Dag) where
   -- the instruction table
   unfoldable pub act : (before m : Machine) → ℕ → Token → Node → Effect
@@ -197,8 +210,7 @@ module _ (lim : Limits) (d : Dag) where
       unless (hasTokenPlace lim before) 10
       (unless (hasCellPlace lim before) 11 (split m p t (tokenPlace before) (cellPlace before) x l r))
   act before m p t (Node.site s ps k) = callSite lim m p t s k (look (m .cells) (t .binds) ps)
-  act before m p t (Node.call e ps k) =
-      unless (hasTokenPlace lim before) 10 (entered m p t (tokenPlace before) (bodyAt d e .root) ps k)
+  act before m p t (Node.call e ps k) = callBody lim before m p t (bodyAt d e .root) ps k (isTail d k)
   act before m p t Node.return = returned m p t (t .caller)
   act before m p t Node.choke = chokeAt m t (t .cell)
   -- the test for 14 leaves no such node
