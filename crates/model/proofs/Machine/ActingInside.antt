@@ -10,7 +10,7 @@ use Rattle.job.specs.Node.{Dag}
 use Rattle.model.specs.Machine.Limits.{Limits}
 use Rattle.model.specs.Machine.Blank.{tokenAt}
 use Rattle.model.specs.Machine.Update.{withNode, withBinding, inCell, withState}
-use Rattle.model.specs.Machine.Step.{formalsBound}
+use Rattle.model.specs.Machine.Step.{callee}
 use Rattle.model.specs.declared.token.Slot.the-variants as slots
 use Rattle.model.specs.declared.token.Held.the-variants as helds
 use Rattle.model.specs.declared.token.Place.the-variants as places
@@ -21,20 +21,8 @@ use Rattle.model.specs.declared.record.Machine.{Machine}
 use Rattle.model.proofs.Machine.Reach.{names-at}
 use Rattle.model.proofs.Machine.Rules.{EachRuleHolds}
 use Rattle.model.proofs.Machine.Inside.{Fits, fits-map, With, inside-token, inside-cell, inside-put}
-use Rattle.model.proofs.Machine.WrittenTokens.{fits-same, fits-binding, formals-cell}
+use Rattle.model.proofs.Machine.WrittenTokens.{fits-same, fits-binding, fits-callee}
 use Rattle.model.proofs.Machine.Used.{Used, UsedCell, InsideUsed, used-fits, inside-old}
-
--- the callee of a definition call
-abbrev pub callee : (p : ℕ) → Token → (root : ℕ) → List Param → Token
-callee p t root ps =
-    record {
-      node = root;
-      binds = formalsBound (t .binds) ps;
-      value = helds.Nothing;
-      caller = places.At p;
-      cell = t .cell;
-      state = states.Ready;
-    }
 
 module _ (lim : Limits) (d : Dag) (m : Machine) (rules : EachRuleHolds lim d m) (p : ℕ) (inUse : Used m p) where
   abbrev t : Token
@@ -56,18 +44,12 @@ module _ (lim : Limits) (d : Dag) (m : Machine) (rules : EachRuleHolds lim d m) 
 
   pub call-inside : (q root : ℕ) (ps : List Param) (next : ℕ)
       → InsideUsed m (With (Used m) q) (UsedCell m)
-      (set (set (m .tokens) p (withNode next (withState states.Frame t))) q (callee p t root ps)) (m .cells)
+      (set (set (m .tokens) p (withNode next (withState states.Frame t))) q (callee (places.At p) t root ps)) (m .cells)
   unfolding withNode withState
   call-inside q root ps next =
-      inside-token (write-inside (withNode next (withState states.Frame t)) (fits-same refl refl refl acts)) q (callee p t root ps)
-      (record {
-        caller = names-at (With (Used m) q) p (inl inUse);
-        cells =
-            record {
-              cell = acts .cells .cell;
-              binds = λ y c e. let x = formals-cell (t .binds) ps y c e in acts .cells .binds (x .0) c (x .1);
-            };
-      })
+      inside-token (write-inside (withNode next (withState states.Frame t)) (fits-same refl refl refl acts)) q
+      (callee (places.At p) t root ps)
+      (fits-callee (places.At p) root ps (names-at (With (Used m) q) p (inl inUse)) (fits-map (λ i x. inl x) (λ c x. x) acts))
 
   pub split-inside : (q c x left right : ℕ)
       → InsideUsed m (With (Used m) q) (With (UsedCell m) c)

@@ -10,6 +10,7 @@ use lib.IntN.{ℤ}
 use Rattle.job.specs.Site.{BuiltinReply, gives, silent, later, dueTime, isBuiltin, builtin}
 use Rattle.job.specs.Syntax.{Param}
 use Rattle.job.specs.Node.{Node, Dag}
+use Rattle.job.specs.Tail.{isTail}
 use Rattle.model.specs.Machine.Limits.{Limits}
 use Rattle.model.specs.Machine.Blank.{blankToken, tokenAt}
 use Rattle.model.specs.Machine.InUse.{sweep, Within}
@@ -27,7 +28,7 @@ use Rattle.model.proofs.Machine.Reach.{Names}
 use Rattle.model.proofs.Machine.Refused.{After, after-unless}
 use Rattle.model.proofs.Machine.Rules.{EachRuleHolds}
 use Rattle.model.proofs.Machine.Inside.{Fits, fits-blank, inside-map, inside-set}
-use Rattle.model.proofs.Machine.WrittenTokens.{fits-same, fits-value, fits-empty}
+use Rattle.model.proofs.Machine.WrittenTokens.{fits-same, fits-value, fits-empty, fits-callee}
 use Rattle.model.proofs.Machine.Deferred.{deferred-cases}
 use Rattle.model.proofs.Machine.WrittenTokens.{choked-cases, choked-blank, choked-live, choked-fits}
 use Rattle.model.proofs.Machine.Used.{Used, UsedCell, used-fits, used-parent, inside-old, none-new, token-new, both-new}
@@ -77,6 +78,11 @@ module _
         Update.withState
     entered r root ps next t =
         token-new lim d m old _ r t (call-inside lim d m rules p inUse r root ps next)
+
+    callBody : (root : ℕ) (ps : List Param) (next : ℕ) (tail : Bool) → WithinAfter (Step.callBody lim m at p acting root ps next tail)
+    unfolding Step.callBody Step.becomesCallee
+    callBody root ps next true = goes-on _ (fits-callee (acting .caller) root ps (acts .caller) acts)
+    callBody root ps next false = after-unless _ _ _ _ (λ t. entered _ root ps next t)
 
     waited : (c : ℕ) → WithinAfter (Step.waited at p acting c)
     unfolding After Step.waited Update.put Update.withTables withOrders Update.withState
@@ -141,7 +147,7 @@ module _
     acted (Node.remove x k) = goes-on _ (fits-same refl refl refl (fits-empty x acts))
     acted (Node.where' x l r) = after-unless _ _ _ _ (λ t. after-unless _ _ _ _ (λ k. split _ _ x l r t k))
     acted (Node.site s ps k) = callSite s k _
-    acted (Node.call e ps k) = after-unless _ _ _ _ (λ t. entered _ _ ps k t)
+    acted (Node.call e ps k) = callBody _ ps k (isTail d k)
     acted Node.return = returned (acting .caller) (acts .caller)
     acted Node.choke = chokes (acting .cell) (acts .cells .cell)
     acted Node.unknown = tt

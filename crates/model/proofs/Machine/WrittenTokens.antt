@@ -14,18 +14,20 @@ use Rattle.model.specs.Machine.Blank.{empty, unbound, blankToken, slotAt
 use Rattle.model.specs.Machine.Active.{within}
 use Rattle.model.specs.Machine.State.{isLive, isDueBy, waitsAt}
 use Rattle.model.specs.Machine.Update.{withBinding, withValue, withState}
-use Rattle.model.specs.Machine.Step.{passed, formalsBound, chokeToken}
+use Rattle.model.specs.Machine.Step.{passed, formalsBound, callee, chokeToken}
 use Rattle.model.specs.Machine.Clock.{wokenBy}
 use Rattle.model.specs.declared.token.Slot.{Slot}
 use Rattle.model.specs.declared.token.Slot.the-variants as slots
 use Rattle.model.specs.declared.token.Bind.{Bind}
 use Rattle.model.specs.declared.token.Held.the-variants as helds
+use Rattle.model.specs.declared.token.Place.{Place}
 use Rattle.model.specs.declared.token.State.{State}
 use Rattle.model.specs.declared.token.State.the-variants as states
 use Rattle.model.specs.declared.token.Token.{Token}
 use Rattle.model.specs.declared.cell.Cell.{Cell}
 use Rattle.job.proofs.Test.{clash}
 use Rattle.model.proofs.Machine.InUse.{slot-unbound}
+use Rattle.model.proofs.Machine.Reach.{Names}
 use Rattle.model.proofs.Machine.Inside.{Fits, fits-blank, written}
 
 -- only caller, cell and bindings name places
@@ -95,6 +97,19 @@ formals-cell bs ps y c e = go (length ps) ps y e
     go n [] y e = absurd (slot-unbound 8 (n + y) c (ap (λ (b : Bind). b .slot) (sym (getD-drop n unbound y empty)) ∙ e))
     go n (p ∷ ps) zero e = passed-cell bs p c e
     go n (p ∷ ps) (suc y) e = go n ps y e
+
+-- a callee names its caller, and else what the token that calls names
+pub fits-callee : {Q R : ℕ → Type 0} {t : Token} (q : Place) (root : ℕ) (ps : List Param)
+    → Names Q q → Fits Q R t → Fits Q R (callee q t root ps)
+fits-callee {t = t} q root ps n f =
+    record {
+      caller = n;
+      cells =
+          record {
+            cell = f .cells .cell;
+            binds = λ y c e. let x = formals-cell (t .binds) ps y c e in f .cells .binds (x .0) c (x .1);
+          };
+    }
 
 -- a choked token is blank, woken, or as it was
 pub data Choked (c : ℕ) (t : Token) : Token → Type 0 where

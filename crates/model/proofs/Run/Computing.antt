@@ -74,7 +74,9 @@ unfolding Rattle.job.specs.Construct.own Rattle.job.specs.Construct.nodeCount 
     Rattle.model.specs.Machine.State.waitsAt Rattle.model.specs.Machine.Step.chokeToken
     Rattle.model.specs.Machine.Step.afterChoke Rattle.model.specs.Machine.Step.ended
     Rattle.model.specs.Machine.Step.goesOn Rattle.model.specs.Machine.Step.forked Rattle.model.specs.Machine.Step.split
-    Rattle.model.specs.Machine.Step.entered Rattle.model.specs.Machine.Step.waited
+    Rattle.model.specs.Machine.Step.entered Rattle.model.specs.Machine.Step.becomesCallee
+    Rattle.model.specs.Machine.Step.callBody Rattle.job.specs.Tail.isTailWithin Rattle.job.specs.Tail.isTail
+    Rattle.model.specs.Machine.Step.waited
     Rattle.model.specs.Machine.Step.deferred Rattle.model.specs.Machine.Step.replied
     Rattle.model.specs.Machine.Step.calledOut Rattle.model.specs.Machine.Step.returned
     Rattle.model.specs.Machine.Step.chokeAt Rattle.model.specs.Machine.Step.callSite

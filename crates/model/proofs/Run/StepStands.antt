@@ -16,6 +16,7 @@ use Rattle.job.specs.Test.{select, without}
 use Rattle.job.specs.Site.{BuiltinReply, gives, silent, later, dueTime, isBuiltin, builtin}
 use Rattle.job.specs.Syntax.{Param}
 use Rattle.job.specs.Node.{Node, Dag, nodeAt}
+use Rattle.job.specs.Tail.{isTail}
 use Rattle.model.specs.Machine.Limits.{Limits}
 use Rattle.model.specs.Machine.Blank.{blankToken}
 use Rattle.model.specs.Machine.Active.{underSet, within}
@@ -26,7 +27,7 @@ use Rattle.model.specs.Machine.Reply.{Effect, calls, unless, isRefused}
 use Rattle.model.specs.Machine.Update.{withNode, withBinding, inCell, withTables, withOrders, withCounts}
 use Rattle.model.specs.Machine.Update.{queueOf, waitsOf, put, newToken}
 use Rattle.model.specs.Machine.Step.{LookUpResult, values, unset, ended, goesOn, forked, split, entered, waited, deferred, replied}
-use Rattle.model.specs.Machine.Step.{calledOut, returned, chokeAt, callSite, hasTokenPlace, act, takes, step}
+use Rattle.model.specs.Machine.Step.{calledOut, returned, chokeAt, callSite, callBody, becomesCallee, hasTokenPlace, act, takes, step}
 use Rattle.model.specs.Run.Follow.{queuedToken, cellSet, endsToken, frontEnds, survivors, stays, fate, Stands}
 use Rattle.model.specs.declared.token.Slot.the-variants as slots
 use Rattle.model.specs.declared.token.Place.{Place}
@@ -213,6 +214,11 @@ module _ (lim : Limits) (d : Dag) (m : Machine) (h : QueueRulesHold m) (k : ℕ)
         room : marked (tokensUsed m) < length (tokensUsed m)
         room = let z = ltb-lt (marked (tokensUsed m)) (lim .tokens) e in let s = sized in let u = used-length in omega arith
 
+    after-call : (root : ℕ) (ps : List Param) (next : ℕ) (tail : Bool) → Leaves (callBody lim m taken front actor root ps next tail)
+    unfolding callBody becomesCallee
+    after-call root ps next true = after-going _
+    after-call root ps next false = after-unless _ _ _ _ (λ e. after-entered _ root ps next (fresh e))
+
     -- the instruction table, but for choke: no cell is set, and the token watched is left
     table : (N : Node) → (N ≡ Node.choke) ⊎ ((cellSet N actor ≡ places.Nowhere) × Leaves (act lim d m taken front actor N))
     unfolding cellSet act After
@@ -224,7 +230,7 @@ module _ (lim : Limits) (d : Dag) (m : Machine) (h : QueueRulesHold m) (k : ℕ)
     table (Node.where' x a b) =
         inr (refl, after-unless _ _ _ _ (λ e. after-unless _ _ _ _ (λ f. after-split _ _ x a b (fresh e))))
     table (Node.site s ps n) = inr (refl, after-site s n _)
-    table (Node.call f ps n) = inr (refl, after-unless _ _ _ _ (λ e. after-entered _ _ ps n (fresh e)))
+    table (Node.call f ps n) = inr (refl, after-call _ ps n (isTail d n))
     table Node.return = inr (refl, after-returned (actor .caller))
     table Node.choke = inl refl
     table Node.unknown = inr (refl, tt)
