@@ -33,4 +33,5 @@ pub mod DeclinedAt
 pub mod Lists
 pub mod Both
 pub mod Loop
+pub mod Tail
 pub mod Casts
