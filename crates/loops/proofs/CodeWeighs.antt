@@ -125,8 +125,7 @@ module _ (G : Program) (tails : Tails G) (rank : ℕ → ℕ) (top : ℕ) where
     where
       go : Looping rank top 0 ds d → (rank d ≤ top) × Steady G rank top (rank d) (G .entry d)
       go (loops x e l u) =
-          let z : 0 + d ≡ d = omega arith in
-          (
+          let z : 0 + d ≡ d = omega arith in (
             subst (λ k. rank k ≤ top) z l,
             entry-steady x (m d ∙ e) (subst (λ k. unbranching rank (rank k) true (x .body) ≡ true) z u) (bs .laid d there),
           )

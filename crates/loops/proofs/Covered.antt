@@ -23,6 +23,7 @@ use Rattle.model.proofs.Machine.Reach.{Names, names-nowhere, names-at}
 use Rattle.model.proofs.Machine.Inside.{active-live}
 use Rattle.simulation.proofs.AbstractMachine as Abstract
 use Rattle.simulation.proofs.AbstractMachine.{Binding, Frame, at, Store, state}
+use Rattle.simulation.proofs.Shuffle.{Split, first, later}
 use Rattle.simulation.proofs.Store.{_is-in_}
 use Rattle.lockstep.proofs.Labels.{Labels}
 use Rattle.lockstep.proofs.View.{World, StateSeen, ready, waiting, called, due, FramesSeen, outermost, calledBy, TokenSeen, sees, TokensSeen}
@@ -90,6 +91,11 @@ in-either {x} {k} (y ∷ l) (List·Memᴰ·tail m) = go (in-either l m)
 unfoldable pub uses : List Abstract.Token → ℕ
 uses [] = 0
 uses (x ∷ S) = suc (length (framesOf x)) + uses S
+
+pub split-uses : {x : Abstract.Token} {S L R : List Abstract.Token} → Split x S L R → uses S ≡ uses L + (suc (length (framesOf x)) + uses R)
+unfolding uses
+split-uses first = omega arith
+split-uses (later s) = let z = split-uses s in omega arith
 
 module _ (W : World) where
   -- a list of places that has the callers of its tokens

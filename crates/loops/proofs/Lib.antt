@@ -3,3 +3,7 @@ pub mod Weights
 pub mod StepWeighs
 pub mod CodeWeighs
 pub mod Covered
+pub mod Room
+pub mod NotFull
+pub mod BoundedRuns
+pub mod Bounded

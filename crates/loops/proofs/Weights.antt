@@ -98,11 +98,11 @@ module _ (G : Program) (rank : ℕ → ℕ) (top : ℕ) where
   chain-lower {r} l (body {s = s} k x c) = let z : r < s = omega arith in body z x c
 
   -- ranks rise from caller to caller
-  chain-length : {r w v : ℕ} {F : List Frame} → Chain r F w v → length F + r ≤ suc top
+  pub chain-length : {r w v : ℕ} {F : List Frame} → Chain r F w v → length F + r ≤ suc top
   chain-length (goal l x) = omega arith
   chain-length (body l x c) = let z = chain-length c in omega arith
 
-  weighs-some : {n w v : ℕ} → Weighs n w v → 1 ≤ w
+  pub weighs-some : {n w v : ℕ} → Weighs n w v → 1 ≤ w
   weighs-some (stop e) = omega arith
   weighs-some (choke e) = omega arith
   weighs-some (publish e) = omega arith
