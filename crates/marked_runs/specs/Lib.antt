@@ -1,2 +1,3 @@
--- "Twelve marked runs": inputs and outputs.
+-- "Twelve marked runs": inputs and outputs; and the one of them that never ends.
 pub mod Marked
+pub mod Endless

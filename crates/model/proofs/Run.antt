@@ -8,6 +8,7 @@ pub mod ChokeStands
 pub mod Passage
 pub mod RunWithin
 pub mod Printing
+pub mod Looping
 pub mod Grammar
 pub mod Numbers
 pub mod StepStands
