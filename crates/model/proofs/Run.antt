@@ -20,5 +20,6 @@ pub mod Last
 pub mod LoadedRuns
 pub mod Worked
 pub mod ClockRuns
+pub mod TailRuns
 pub mod Broken
 pub mod ReadTables
