@@ -1,3 +1,4 @@
--- The marked runs print what documents 01 and 02 say; the one of E() = E() never ends.
+-- The marked runs print what documents 01 and 02 say; E() = E() and the metronome go on.
 pub mod Endless
 pub mod Marked
+pub mod Metronome

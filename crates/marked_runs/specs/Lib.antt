@@ -1,3 +1,4 @@
--- "Twelve marked runs": inputs and outputs; and the one of them that never ends.
+-- "Twelve marked runs": inputs and outputs. Of one of them, and of a metronome: "A weekly loop that never ends".
 pub mod Marked
 pub mod Endless
+pub mod Metronome
