@@ -13,6 +13,7 @@ use Rattle.job.specs.Number.{Signed32}
 use Rattle.job.specs.Site.{BuiltinReply, isBuiltin, builtin, lastTime, dueTime}
 use Rattle.job.specs.Syntax.{Param}
 use Rattle.job.specs.Node.{Node, Dag, nodeAt, bodyAt, paramHolds, paramsHold, isNode, nodeHolds, bodyHolds, dagHolds}
+use Rattle.job.specs.Tail.{isTail}
 use Rattle.model.specs.Machine.Limits.{Limits}
 use Rattle.model.specs.Machine.Blank.{blankToken, tokenAt, cellAt, slotAt}
 use Rattle.model.specs.Machine.Active.{upward, within}
@@ -152,6 +153,17 @@ module _ (lim : Limits) (d : Dag) (m : Machine) (F : Facts lim d m) (some : 0 < 
   ahead k l n v b i =
       going (subst (λ j. j < length (d .nodes)) (sym n) l) (ap heldInRange v ∙ was .value) (subst BindsFit (sym b) (was .binds)) i
 
+  -- the callee of a definition call
+  called-good : (q : Place) (root : ℕ) (ps : List Param) → root < length (d .nodes) → forAll paramHolds ps ≡ true
+      → Good (Step.callee q acting root ps)
+  unfolding heldInRange
+  called-good q root ps ir holds = going ir refl (formals-fit (acting .binds) ps holds (was .binds)) Idle.ready
+
+  becomesCallee : (root : ℕ) (ps : List Param) → root < length (d .nodes) → forAll paramHolds ps ≡ true
+      → Keeps (Step.becomesCallee at p acting root ps)
+  unfolding Step.becomesCallee
+  becomesCallee root ps ir holds = goes-on _ (called-good (acting .caller) root ps ir holds) refl
+
   pub ended : Facts lim d (Step.ended at p)
   unfolding Step.ended Update.put Update.withTables withOrders isReady isWaiting isDue
   ended =
@@ -240,28 +252,17 @@ module _ (lim : Limits) (d : Dag) (m : Machine) (F : Facts lim d m) (some : 0 < 
           queue = queue ++ (q ∷ []);
           waits = waits;
           timers = F .timers;
-          orders = orders-enqueue (orders-token (orders-put begun p frame) q callee) q;
-          timed = timers-enqueue (timers-token (timers-put timed p frame) q callee) q;
+          orders = orders-enqueue (orders-token (orders-put begun p frame) q (Step.callee (places.At p) acting root ps)) q;
+          timed = timers-enqueue (timers-token (timers-put timed p frame) q (Step.callee (places.At p) acting root ps)) q;
           clock = F .clock;
-          lines = second frame callee refl (lines-gone T frame refl refl refl);
+          lines = second frame (Step.callee (places.At p) acting root ps) refl (lines-gone T frame refl refl refl);
           tables =
               both-written (ahead k ik refl refl refl Idle.frame) Idle.frame
-              (going ir refl (formals-fit (acting .binds) ps holds (was .binds)) Idle.ready) Idle.ready;
+              (called-good (places.At p) root ps ir holds) Idle.ready;
         }
       where
         frame : Token
         frame = Update.withNode k (Update.withState states.Frame acting)
-
-        callee : Token
-        callee =
-            record {
-              node = root;
-              binds = Step.formalsBound (acting .binds) ps;
-              value = helds.Nothing;
-              caller = places.At p;
-              cell = acting .cell;
-              state = states.Ready;
-            }
 
     split : (c x l r : ℕ) → c < length (m .cells) → l < length (d .nodes) → r < length (d .nodes) → Keeps (Step.split at p acting q c x l r)
     unfolding
@@ -520,6 +521,13 @@ module _ (lim : Limits) (d : Dag) (m : Machine) (F : Facts lim d m) (some : 0 < 
     unfolding bodyHolds
     body e l = node-inside (bodyAt d e .root) (and-left _ _ (body-rules d e dag (ltb-lt e (length (d .bodies)) l)))
 
+    callBody : (root : ℕ) (ps : List Param) (k : ℕ) → root < length (d .nodes) → forAll paramHolds ps ≡ true → k < length (d .nodes)
+        → (tail : Bool) → Keeps (Step.callBody lim m at p acting root ps k tail)
+    unfolding Step.callBody
+    callBody root ps k ir holds ik true = becomesCallee root ps ir holds
+    callBody root ps k ir holds ik false =
+        after-unless (Facts lim d) _ _ _ (λ t. entered _ (token t) root ps k ir holds ik)
+
     pub acted : (N : Node) → nodeAt d (acting .node) ≡ N → nodeHolds d N ≡ true → Keeps (act lim d m at p acting N)
     unfolding After act nodeHolds Update.withNode Update.withBinding withOrders
     acted Node.stop e k = ended
@@ -548,10 +556,8 @@ module _ (lim : Limits) (d : Dag) (m : Machine) (F : Facts lim d m) (some : 0 < 
     acted (Node.site s ps j) e k =
         site-call-keeps named s ps j e (params ps (and-left _ _ (and-right _ _ k))) (node-inside j (and-right _ _ (and-right _ _ k)))
     acted (Node.call f ps j) e k =
-        after-unless (Facts lim d) _ _ _
-        (λ t.
-        entered _ (token t) _ ps j (body f (and-left _ _ k)) (params ps (and-left _ _ (and-right _ _ k)))
-        (node-inside j (and-right _ _ (and-right _ _ k))))
+        callBody (bodyAt d f .root) ps j (body f (and-left _ _ k)) (params ps (and-left _ _ (and-right _ _ k)))
+        (node-inside j (and-right _ _ (and-right _ _ k))) (isTail d j)
     acted Node.return e k = returned (acting .caller)
     acted Node.choke e k = chokes (acting .cell) refl own
     acted Node.unknown e k = tt

@@ -21,7 +21,7 @@ use Rattle.model.specs.Machine.FreePlace.{nextPlace}
 use Rattle.model.specs.Machine.Rules.{rulesHold}
 use Rattle.model.specs.Machine.Update.{withNode, withBinding, withValue, inCell, withState, withTables, withOrders, withCounts}
 use Rattle.model.specs.Machine.Update.{withTimers, withClock, put, enqueue, newToken, newCell}
-use Rattle.model.specs.Machine.Step.{hasTokenPlace, hasCellPlace}
+use Rattle.model.specs.Machine.Step.{callee, hasTokenPlace, hasCellPlace}
 use Rattle.model.specs.Machine.Answer.{holder}
 use Rattle.model.specs.Machine.Clock.{wokenBy, afterAdvance}
 use Rattle.model.specs.declared.token.Slot.{Slot}
@@ -36,10 +36,10 @@ use Rattle.job.proofs.Test.{clash}
 use Rattle.model.proofs.Machine.Marks.{Free, marks-same, marks-added, marks-removed}
 use Rattle.model.proofs.Machine.Rules.{EachRuleHolds, each-rule-holds}
 use Rattle.model.proofs.Machine.Inside.{Fits, fits-blank, With, tokens-inside, cells-inside}
-use Rattle.model.proofs.Machine.WrittenTokens.{fits-same, fits-binding, Woken, wakes, stays, woken-cases, woken-blank, due-live}
+use Rattle.model.proofs.Machine.WrittenTokens.{fits-same, fits-binding, Woken, wakes, stays, woken-cases, woken-blank, due-live, fits-callee}
 use Rattle.model.proofs.Machine.Clock.{woken-at}
 use Rattle.model.proofs.Machine.Used.{Used, UsedCell, InsideUsed, used-fits, used-parent, tokens-size, cells-size, live-used}
-use Rattle.model.proofs.Machine.ActingInside.{callee, write-inside, fork-inside, call-inside, split-inside}
+use Rattle.model.proofs.Machine.ActingInside.{write-inside, fork-inside, call-inside, split-inside}
 use Rattle.lockstep.proofs.AnswerAgrees.{holder-called}
 use Rattle.lockstep.proofs.Lockstep.{Fitting}
 use Rattle.model.proofs.Keeps.Clean.{Clean, tokensOf, cellsOf}
@@ -235,6 +235,16 @@ module _ (lim : Limits) (d : Dag) (m : Machine) (holds : rulesHold lim d m ≡ t
             go (yes f) = absurd (old c (ap (slotAt (t .binds)) (sym f) ∙ e))
             go (no n) = ap (λ (b : Bind). b .slot) (getD-set-other (t .binds) x y (record { slot = s }) empty n) ∙ e
 
+    -- a tail call: no variable was bound to a cell, so no formal is
+    pub became-carried : (root : ℕ) (ps : List Param) → ((x c : ℕ) → slotAt (t .binds) x ≡ slots.Cell c → ⊥)
+        → Carried (enqueue p (put p (callee (t .caller) t root ps) (taken m place))) (tokensUsed m) (cellsUsed m)
+    unfolding withOrders put withTables enqueue isLive
+    became-carried root ps none =
+        same-carried clean
+        (writes p live (callee (t .caller) t root ps)
+        (fits-callee (t .caller) root ps (used-fits m p used .caller) (used-fits m p used)))
+        (keep-adds lim d m holds p live _ (callee (t .caller) t root ps) refl refl refl refl refl (λ y c e. absurd (none y c e)))
+
     -- with room for a token, at the place q
     module _ (fits : Fitting lim) (room : hasTokenPlace lim m ≡ true) (q : ℕ) (new : q ≡ nextPlace (tokensUsed m) (m .lasttoken)) where
       free : Free (tokensUsed m) q
@@ -249,13 +259,13 @@ module _ (lim : Limits) (d : Dag) (m : Machine) (holds : rulesHold lim d m ≡ t
           (fork-adds lim d m holds p live _ q (withNode left t) (withNode right t) refl free refl live refl live refl refl refl)
 
       pub entered-carried : (root : ℕ) (ps : List Param) (next : ℕ)
-          → Carried (enqueue q (newToken q (callee p t root ps) (put p (withNode next (withState states.Frame t)) (taken m place))))
+          → Carried (enqueue q (newToken q (callee (places.At p) t root ps) (put p (withNode next (withState states.Frame t)) (taken m place))))
           (set (tokensUsed m) q true) (cellsUsed m)
       unfolding withOrders withCounts put withTables enqueue newToken withNode withState isLive
       entered-carried root ps next =
           new-carried clean q (call-inside lim d m rules p used q root ps next)
           (call-adds lim d m holds p live _ q (withNode next (withState states.Frame t))
-          (callee p t root ps) refl free refl refl refl refl refl refl refl)
+          (callee (places.At p) t root ps) refl free refl refl refl refl refl refl refl)
 
       pub split-carried : hasCellPlace lim m ≡ true → (c : ℕ) → c ≡ nextPlace (cellsUsed m) (m .lastcell) → (x left right : ℕ)
           → Carried

@@ -2,16 +2,19 @@
 -- smaller. So a step adds at most one token and one cell to those in use, and an answer or a clock move none. Assumes nothing.
 use mathlib.Core.Path.{_≡_, refl, sym, _∙_, ap, subst}
 use mathlib.Core.Bool.{Bool, true, false}
+use mathlib.Core.List.{List}
 use Prim.Native.Nat.{ℕ, suc, _≤_}
 use native.Mathlib.Omega.{arith}
 use lib.Dec.{ltb}
 use lib.IntN.{ℤ}
+use Rattle.job.specs.Syntax.{Param}
 use Rattle.job.specs.Node.{Node, Dag}
+use Rattle.job.specs.Tail.{isTail}
 use Rattle.model.specs.Machine.Limits.{Limits}
 use Rattle.model.specs.Machine.InUse.{marked, tokensUsed, cellsUsed, Within}
 use Rattle.model.specs.Machine.Rules.{tokenInRange, cellInRange, sizesInRange, machineHolds, rulesHold}
 use Rattle.model.specs.Machine.Reply.{Effect, moves, unless, outcome, isRefused}
-use Rattle.model.specs.Machine.Step.{LookUpResult, values, unset, callSite, hasTokenPlace, hasCellPlace, act, takes, step}
+use Rattle.model.specs.Machine.Step.{LookUpResult, values, unset, callSite, callBody, hasTokenPlace, hasCellPlace, act, takes, step}
 use Rattle.model.specs.Machine.Answer.{holder, answered, answer}
 use Rattle.model.specs.Machine.Clock.{takesTime, afterAdvance, advance}
 use Rattle.model.specs.declared.token.Token.{Token}
@@ -57,6 +60,13 @@ module _ (lim : Limits) (t c : ℕ) (d : Dag) (m : Machine)
   same-site at p u s k (values vs) = refl
   same-site at p u s k (unset b) = refl
 
+  same-body : (at : Machine) (p : ℕ) (u : Token) (root : ℕ) (ps : List Param) (k : ℕ) (tail : Bool)
+      → isRefused (outcome m (callBody lim m at p u root ps k tail) .reply) ≡ false
+      → callBody (allowing lim t c) m at p u root ps k tail ≡ callBody lim m at p u root ps k tail
+  unfolding callBody
+  same-body at p u root ps k true ok = refl
+  same-body at p u root ps k false ok = unless-same m _ _ _ _ _ token-too (λ x. refl) ok
+
   same-act : (at : Machine) (p : ℕ) (u : Token) (n : Node) → isRefused (outcome m (act lim d m at p u n) .reply) ≡ false
       → act (allowing lim t c) d m at p u n ≡ act lim d m at p u n
   unfolding act
@@ -67,7 +77,7 @@ module _ (lim : Limits) (t c : ℕ) (d : Dag) (m : Machine)
   same-act at p u (Node.remove x k) ok = refl
   same-act at p u (Node.where' x l r) ok = unless-same m _ _ _ _ _ token-too (unless-same m _ _ _ _ _ cell-too (λ x. refl)) ok
   same-act at p u (Node.site s ps k) ok = same-site at p u s k _
-  same-act at p u (Node.call e ps k) ok = unless-same m _ _ _ _ _ token-too (λ x. refl) ok
+  same-act at p u (Node.call e ps k) ok = same-body at p u _ ps k (isTail d k) ok
   same-act at p u Node.return ok = refl
   same-act at p u Node.choke ok = refl
   same-act at p u Node.unknown ok = refl

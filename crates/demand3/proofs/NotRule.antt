@@ -9,7 +9,9 @@ use lib.ListN.{getD}
 use lib.Dec.{ltb}
 use lib.IntN.{ℤ}
 use Rattle.job.specs.Site.{BuiltinReply, gives, silent, later, isBuiltin, builtin, dueTime}
+use Rattle.job.specs.Syntax.{Param}
 use Rattle.job.specs.Node.{Node, Dag, nodeAt, nodeHolds}
+use Rattle.job.specs.Tail.{isTail}
 use Rattle.model.specs.Machine.Limits.{Limits}
 use Rattle.model.specs.Machine.Blank.{blankToken, tokenAt, isPlace}
 use Rattle.model.specs.Machine.State.{isBlankState, isReady}
@@ -107,6 +109,11 @@ module _ (lim : Limits) (d : Dag) (before m : Machine) (p : ℕ) (t : Token) whe
   choke-not places.Nowhere e = clash e refl
   choke-not (places.At c) e = tt
 
+  body-not : (root : ℕ) (ps : List Param) (k : ℕ) (tail : Bool) → NotRule (Step.callBody lim before m p t root ps k tail)
+  unfolding NotRule Step.callBody Step.becomesCallee Step.goesOn Step.entered
+  body-not root ps k true = tt
+  body-not root ps k false = unless-not _ _ _ token-limit (λ e. tt)
+
   act-not : (ts : List Token) (N : Node) → nodeHolds d N ≡ true → nodeRule ts t N ≡ true → NotRule (act lim d before m p t N)
   unfolding NotRule act nodeHolds nodeRule Step.goesOn Step.forked Step.split Step.entered
   act-not ts Node.stop k r = tt
@@ -116,7 +123,7 @@ module _ (lim : Limits) (d : Dag) (before m : Machine) (p : ℕ) (t : Token) whe
   act-not ts (Node.remove x j) k r = tt
   act-not ts (Node.where' x a b) k r = unless-not _ _ _ token-limit (λ e. unless-not _ _ _ cell-limit (λ f. tt))
   act-not ts (Node.site s ps j) k r = site-not s j _
-  act-not ts (Node.call e ps j) k r = unless-not _ _ _ token-limit (λ e. tt)
+  act-not ts (Node.call e ps j) k r = body-not _ ps j (isTail d j)
   act-not ts Node.return k r = return-not ts (t .caller) (and-left _ _ r)
   act-not ts Node.choke k r = choke-not (t .cell) (and-left _ _ r)
   act-not ts Node.unknown k r = clash k refl

@@ -9,12 +9,14 @@ use lib.ListN.{length}
 use lib.Dec.{ltb}
 use lib.IntN.{ℤ}
 use Rattle.job.specs.Site.{BuiltinReply, gives, silent, later, dueTime, isBuiltin, builtin}
+use Rattle.job.specs.Syntax.{Param}
 use Rattle.job.specs.Node.{Node, Dag}
+use Rattle.job.specs.Tail.{isTail}
 use Rattle.model.specs.Machine.Limits.{Limits}
 use Rattle.model.specs.Machine.Blank.{tokenAt}
 use Rattle.model.specs.Machine.Reply.{Effect, accepted, outcome, unless, isRefused}
 use Rattle.model.specs.Machine.Step.{LookUpResult, values, unset, goesOn, forked, split, entered, waited, replied, calledOut, returned}
-use Rattle.model.specs.Machine.Step.{chokeAt, look, callSite, hasTokenPlace, hasCellPlace, act}
+use Rattle.model.specs.Machine.Step.{chokeAt, look, callSite, becomesCallee, callBody, hasTokenPlace, hasCellPlace, act}
 use Rattle.model.specs.declared.token.Place.{Place}
 use Rattle.model.specs.declared.token.Place.the-variants as places
 use Rattle.model.specs.declared.token.Token.{Token}
@@ -92,6 +94,11 @@ module _ (lim : Limits) (d : Dag) (before m : Machine) (room : Room lim d before
   returned-accepted places.Nowhere x = let e = x .1 in let z : _≡_ {A = ℕ} 0 1 = cc in absurd (omega arith)
   returned-accepted (places.At f) x = refl
 
+  body-accepted : (first : ℕ) (ps : List Param) (k : ℕ) (b : Bool) → Accepted before (callBody lim before m p t first ps k b)
+  unfolding callBody becomesCallee goesOn entered outcome accepted isRefused
+  body-accepted first ps k true = refl
+  body-accepted first ps k false = accepted-unless before _ 10 _ (room .tokens) refl
+
 pub act-accepted : (lim : Limits) (d : Dag) {M : Labels} (before m : Machine) → Room lim d before → m .calls ≡ before .calls
     → {W : World} {p : ℕ} {L R : List Abstract.Token} {n : ℕ} {B : List Binding} {F : List Frame} {U : List ℕ} {v : ℤ}
     → Acting M W p L R n B F U v → {N : Node} → FlowAt d M n N → Accepted before (act lim d before m p (tokenAt (W .tokens) p) N)
@@ -99,7 +106,8 @@ unfolding act goesOn forked split entered outcome accepted isRefused
 act-accepted lim d before m room same A FlowAt.stop = refl
 act-accepted lim d before m room same {W} {p} A (FlowAt.site {s = s} {ps = ps} {k = k} e good f) =
     site-accepted lim d before m room same p (tokenAt (W .tokens) p) s k (look (m .cells) (tokenAt (W .tokens) p .binds) ps)
-act-accepted lim d before m room same A (FlowAt.call x good f enters) = accepted-unless before _ 10 _ (room .tokens) refl
+act-accepted lim d before m room same {p = p} A (FlowAt.call {k = k} x good f enters) =
+    body-accepted lim d before m room same p _ _ _ k (isTail d k)
 act-accepted lim d before m room same A (FlowAt.fork a b f g) = accepted-unless before _ 10 _ (room .tokens) refl
 act-accepted lim d before m room same A (FlowAt.assign e l g f) = refl
 act-accepted lim d before m room same A (FlowAt.remove e l x g f) = refl

@@ -18,15 +18,15 @@ use Rattle.model.specs.Machine.FreePlace.{nextPlace}
 use Rattle.model.specs.Machine.Rules.{rulesHold}
 use Rattle.model.specs.Machine.Update.{withNode, withBinding, inCell, withState, withTables, withOrders, withCounts, queueOf, waitsOf}
 use Rattle.model.specs.Machine.Update.{put, enqueue, newToken, newCell}
-use Rattle.model.specs.Machine.Step.{hasTokenPlace, hasCellPlace}
+use Rattle.model.specs.Machine.Step.{callee, hasTokenPlace, hasCellPlace}
 use Rattle.model.specs.declared.token.Slot.the-variants as slots
 use Rattle.model.specs.declared.token.Held.the-variants as helds
+use Rattle.model.specs.declared.token.Place.the-variants as places
 use Rattle.model.specs.declared.token.State.the-variants as states
 use Rattle.model.specs.declared.token.Token.{Token}
 use Rattle.model.specs.declared.record.Machine.{Machine}
 use Rattle.model.proofs.Machine.Marks.{Free}
 use Rattle.model.proofs.Machine.Rules.{ready-live}
-pub use Rattle.model.proofs.Machine.ActingInside.{callee}
 use Rattle.model.proofs.Run.Queue.{queue-rules-hold}
 use Rattle.lockstep.proofs.Lockstep.{Fitting, free-token, free-cell}
 use Rattle.demand3.proofs.Unblanked.{Whole, fork-links, call-links, split-links}
@@ -64,10 +64,10 @@ module _ (lim : Limits) (d : Dag) (m : Machine) (holds : rulesHold lim d m ≡ t
 
       -- "the token becomes a frame at next, the callee is new"
       pub entered-whole : (root : ℕ) (ps : List Param) (next : ℕ)
-          → Whole (enqueue q (newToken q (callee p t root ps) (put p (withNode next (withState states.Frame t)) (taken m place))))
+          → Whole (enqueue q (newToken q (callee (places.At p) t root ps) (put p (withNode next (withState states.Frame t)) (taken m place))))
       unfolding withOrders withCounts put withTables enqueue newToken withNode withState isLive
       entered-whole root ps next =
-          call-links lim d m holds p acting-live _ q (withNode next (withState states.Frame t)) (callee p t root ps) refl place-free
+          call-links lim d m holds p acting-live _ q (withNode next (withState states.Frame t)) (callee (places.At p) t root ps) refl place-free
           refl refl refl refl refl refl refl
 
       -- "left binds x to the new cell; right is new and belongs to it"

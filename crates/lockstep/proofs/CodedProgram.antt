@@ -21,8 +21,10 @@ use Rattle.job.proofs.Size.{own-length, nodes-length}
 use Rattle.job.proofs.DagHolds.{bodies-length}
 use Rattle.simulation.proofs.AbstractMachine as Abstract
 use Rattle.simulation.proofs.Relation.{Code}
+use Rattle.simulation.proofs.Coded as Coded
 use Rattle.simulation.proofs.Coded.{Bodies}
 use Rattle.lockstep.proofs.Labels.{Labels, nodeMeant, programOf}
+use Rattle.lockstep.proofs.Tails.{tails}
 use Rattle.lockstep.proofs.Each.{Each, each-head, each-tail, each-left, each-right, each-three, each-own}
 use Rattle.lockstep.proofs.Labelling.{Label, nestRight, ownLabels, expLabels, programLabels, labelsOf}
 use Rattle.lockstep.proofs.Labelling.{Has, Labelled, join-labelled, here-labelled, then-labelled, labelled-whole}
@@ -146,11 +148,14 @@ module _ (p : Program) (w : WellFormed p) where
       goal-ends (construct p) (labelsOf p) (meaning p .body) (formalsOf (p .definitions)) counted
       (w .bodies) (w .goal) 0 whole-laid (labelled-whole p)
 
-  pub bodies-coded : Bodies (abstractOf p)
+  body-laid : (e : ℕ) → e < abstractOf p .count → Coded.Laid (abstractOf p) Abstract.Node.return (meaning p .body e) (abstractOf p .entry e)
   unfolding construct meaning bodyAt
-  bodies-coded e l =
+  body-laid e l =
       let known : length (construct p .bodies) ≡ length (p .definitions) = bodies-length 0 (p .definitions) (p .goal) in
       let x =
       body-ends (construct p) (labelsOf p) (meaning p .body) (formalsOf (p .definitions)) counted
       (p .goal) (w .bodies) 0 whole-laid (labelled-whole p) e (omega arith) in
       record { sink = x .sink; laid = x .laid; at-sink = x .ending }
+
+  pub bodies-coded : Bodies (abstractOf p)
+  bodies-coded = record { laid = body-laid; tails = tails (construct p) (labelsOf p) (meaning p .body) }

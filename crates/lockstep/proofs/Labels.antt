@@ -8,6 +8,7 @@ use lib.ListN.{length}
 use Rattle.job.specs.Test.{All}
 use Rattle.job.specs.Syntax.{Param, levels}
 use Rattle.job.specs.Node.{Node, Dag, nodeAt, bodyAt}
+use Rattle.job.specs.Tail.{isTail}
 use Rattle.job.specs.WellFormed.{GoodParam}
 use Rattle.calculus.specs.Meaning.{paramMeant}
 use Rattle.calculus.specs.Expression.{Exp}
@@ -37,7 +38,13 @@ nodeMeant scope Node.unknown = Abstract.Node.stop
 
 abbrev pub programOf : Dag → Labels → (ℕ → Exp) → Abstract.Program
 programOf d M bodies =
-    record { node = λ n. nodeMeant (M .scope n) (nodeAt d n); entry = λ e. bodyAt d e .root; count = length (d .bodies); body = bodies }
+    record {
+      node = λ n. nodeMeant (M .scope n) (nodeAt d n);
+      tail = isTail d;
+      entry = λ e. bodyAt d e .root;
+      count = length (d .bodies);
+      body = bodies;
+    }
 
 abbrev pub Fresh : ℕ → List ℕ → Type 0
 Fresh x scope = List·Memᴰ x scope → ⊥

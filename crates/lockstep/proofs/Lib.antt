@@ -1,6 +1,7 @@
 -- The concrete machine seen as the abstract machine, instruction by instruction, and so run by run; then the first part of demand 3.
 pub mod Labels
 pub mod Each
+pub mod Tails
 pub mod Labelling
 pub mod Flowing
 pub mod CodedProgram

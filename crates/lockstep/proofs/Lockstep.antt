@@ -49,6 +49,7 @@ use Rattle.model.proofs.Run.Passage.{eventsBy, Passage, passage}
 use Rattle.model.proofs.Run.Queue.{queue-rules-hold}
 use Rattle.simulation.proofs.AbstractMachine as Abstract
 use Rattle.simulation.proofs.AbstractMachine.{Binding, Frame, at, Store, state, labelOf, after, Move, startAt}
+use Rattle.lockstep.proofs.Tails.{tail-labels}
 use Rattle.lockstep.proofs.Labels.{Labels, programOf, Flow}
 use Rattle.lockstep.proofs.View.{World}
 use Rattle.lockstep.proofs.Seen.{world, Sees, seenAs, sweep-sees}
@@ -137,7 +138,7 @@ module _ (lim : Limits) (d : Dag) (M : Labels) (bodies : ℕ → Exp) (fits : Fi
       (Step.act lim d m (withOrders (without k (queueOf m)) (waitsOf m) m) p (tokenAt (m .tokens) p) (nodeAt d i)) x)
       (sym (acting .place .node))
       (act-agrees lim d M bodies m (without k (queueOf m)) (waitsOf m) acting
-      (free-token lim d m holds fits) (free-cell lim d m holds fits) (flow .at n there))
+      (free-token lim d m holds fits) (free-cell lim d m holds fits) (tail-labels d M flow) (flow .at n there))
     where
       W : World
       W = world (m .tokens) (m .cells) name place σ new

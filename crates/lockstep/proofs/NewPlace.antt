@@ -17,7 +17,7 @@ use Rattle.model.specs.Machine.State.{isLive}
 use Rattle.model.specs.Machine.InUse.{tokensUsed, cellsUsed}
 use Rattle.model.specs.Machine.Update.{withNode, withBinding, inCell, withState, withTables, withOrders, withCounts, put, enqueue}
 use Rattle.model.specs.Machine.Update.{newToken, newCell}
-use Rattle.model.specs.Machine.Step.{formalsBound, forked, split, entered}
+use Rattle.model.specs.Machine.Step.{callee, forked, split, entered}
 use Rattle.calculus.specs.Expression.{Exp}
 use Rattle.calculus.specs.Allowed.{nextHandle}
 use Rattle.calculus.specs.Meaning.{paramMeant}
@@ -100,29 +100,22 @@ module _ (d : Dag) (M : Labels) (bodies : ℕ → Exp) (m : Machine) {name place
   -- the caller's frame, and the callee
   pub call-agrees : {e k : ℕ} {ps : List Param}
       → All (GoodParam (M .scope n)) ps → Follows d M n k (M .scope n) (M .nest n) → Enters d M e ps
-      → Agrees M W L R (m .clock) (m .calls) (entered m p t q (bodyAt d e .root) ps k) (does (Node.call e ps k))
-  unfolding Shows entered newToken put enqueue withTables withOrders withCounts nodeMeant nextHandle isLive withNode withState
+      → Agrees M W L R (m .clock) (m .calls) (entered m p t q (bodyAt d e .root) ps k)
+      (Abstract.goesOn (at (bodyAt d e .root) (map (named B) (reverse (map (paramMeant (M .scope n)) ps))) (frame k B U ∷ F) U) v)
+  unfolding Shows entered newToken put enqueue withTables withOrders withCounts nextHandle isLive withNode withState
   call-agrees {e} {k} {ps} good f enters =
       record {
         label = refl;
         machine =
             sees-tables name place (A .others .before ++ ((q ∷ []) ++ A .others .behind)) refl refl refl refl
-            (new-core (A .others) (acting-used A) q free u w (m .cells) name place (newer u w) (λ c i. refl) refl callee);
+            (new-core (A .others) (acting-used A) q free u w (m .cells) name place (newer u w) (λ c i. refl) refl called);
       }
     where
       u : Token
       u = withNode k (withState states.Frame t)
 
       w : Token
-      w =
-          record {
-            node = bodyAt d e .root;
-            binds = formalsBound (t .binds) ps;
-            value = helds.Nothing;
-            caller = places.At p;
-            cell = t .cell;
-            state = states.Ready;
-          }
+      w = callee (places.At p) t (bodyAt d e .root) ps
 
       still : PlaceSeen (made u w) M t n B F U
       still = place-keep (made-kept u w) (used-closed W) (acting-fits A) (A .place)
@@ -134,9 +127,9 @@ module _ (d : Dag) (M : Labels) (bodies : ℕ → Exp) (m : Machine) {name place
       inside = let z : length (made u w .tokens) ≡ length (m .tokens) = made-kept u w .size in let y = acting-inside (A .others) in
           omega arith
 
-      callee : TokenSeen (made u w) M w
+      called : TokenSeen (made u w) M w
           (running (at (bodyAt d e .root) (map (named B) (reverse (map (paramMeant (M .scope n)) ps))) (frame k B U ∷ F) U) v)
-      callee = unfold withNode withState in
+      called = unfold withNode withState in
           sees
           (record {
             node = refl;

@@ -1,8 +1,8 @@
 -- The instructions that write one place agree with the abstract machine's: stop, publish, assign, remove, return, and site calls. Assumes
 -- nothing.
-use mathlib.Core.Path.{_≡_, refl, sym, subst}
+use mathlib.Core.Path.{_≡_, refl, sym, _∙_, subst}
 use mathlib.Core.Bool.{Bool, true, false}
-use mathlib.Core.List.{List, [], _∷_}
+use mathlib.Core.List.{List, [], _∷_, map, reverse}
 use mathlib.Core.Option.{Option}
 use Prim.Native.Nat.{ℕ, _<_}
 use native.Mathlib.Omega.{arith}
@@ -13,7 +13,7 @@ use Rattle.job.specs.Test.{All}
 use Rattle.job.specs.Site.{BuiltinReply, gives, silent, later, dueTime, isBuiltin, builtin}
 use Rattle.job.specs.Syntax.{Param}
 use Rattle.job.specs.WellFormed.{GoodParam}
-use Rattle.job.specs.Node.{Node, Dag}
+use Rattle.job.specs.Node.{Node, Dag, bodyAt}
 use Rattle.model.specs.Machine.Limits.{Limits}
 use Rattle.model.specs.Machine.Blank.{blankToken, tokenAt}
 use Rattle.model.specs.Machine.State.{isLive}
@@ -21,10 +21,11 @@ use Rattle.model.specs.Machine.Reply.{Effect, moves, publishes, unless}
 use Rattle.model.specs.Machine.Update.{withNode, withBinding, withValue, withState, withTables, withOrders, withCounts, withTimers}
 use Rattle.model.specs.Machine.Update.{put, enqueue}
 use Rattle.model.specs.Machine.Step.{LookUpResult, values, unset, look, valueOf, ended, goesOn, waited, replied, calledOut, returned}
-use Rattle.model.specs.Machine.Step.{deferred, callSite}
+use Rattle.model.specs.Machine.Step.{callee, becomesCallee, deferred, callSite}
 use Rattle.calculus.specs.Event.{Event, Label, silently, showing}
 use Rattle.calculus.specs.Expression.{Exp}
 use Rattle.calculus.specs.Allowed.{nextHandle}
+use Rattle.calculus.specs.Meaning.{paramMeant}
 use Rattle.model.specs.declared.token.Slot.the-variants as slots
 use Rattle.model.specs.declared.token.Held.{Held}
 use Rattle.model.specs.declared.token.Held.the-variants as helds
@@ -35,17 +36,19 @@ use Rattle.model.specs.declared.token.State.the-variants as states
 use Rattle.model.specs.declared.token.Token.{Token}
 use Rattle.model.specs.declared.record.Machine.{Machine}
 use Rattle.job.proofs.Test.{le-leb, lt-not-leb}
+use Rattle.model.proofs.Machine.WrittenTokens.{fits-callee}
 use Rattle.model.proofs.Machine.Deferred.{atOnce, inTime, deferred-cases}
 use Rattle.simulation.proofs.AbstractMachine as Abstract
-use Rattle.simulation.proofs.AbstractMachine.{Binding, Frame, at, running, Store, actsAt}
+use Rattle.simulation.proofs.AbstractMachine.{Binding, Frame, at, running, Store, named, actsAt}
 use Rattle.simulation.proofs.Store.{_is-in_}
-use Rattle.lockstep.proofs.Labels.{Labels, nodeMeant, programOf, Fresh, Follows}
-use Rattle.lockstep.proofs.View.{World, cellsOfCaller, present, waiting, called, due, valued, BindingSeen, FrameSeen, frameAt}
+use Rattle.lockstep.proofs.Labels.{Labels, nodeMeant, programOf, Fresh, Follows, Enters}
+use Rattle.lockstep.proofs.Tails.{TailLabels}
+use Rattle.lockstep.proofs.View.{World, cellsOfCaller, absent, present, ready, waiting, called, due, valued, BindingSeen, FrameSeen, frameAt}
 use Rattle.lockstep.proofs.View.{frame-seen, StateSeen, TokenSeen, sees}
 use Rattle.lockstep.proofs.Seen.{world, tokens-of, used-fits}
-use Rattle.lockstep.proofs.Slots.{found, values-seen}
+use Rattle.lockstep.proofs.Slots.{found, values-seen, formals-seen}
 use Rattle.lockstep.proofs.Moving.{value-there, value-optional, value-held, ready-seen, nested-none, place-to, place-bind}
-use Rattle.lockstep.proofs.Moving.{place-drop, place-as, fits-as, fits-bind}
+use Rattle.lockstep.proofs.Moving.{slots-at, place-drop, place-as, fits-as, fits-bind}
 use Rattle.lockstep.proofs.Agrees.{Acting, acting-used, acting-fits, Becomes, Shows, shows-unless, Agrees, ends-becomes}
 use Rattle.lockstep.proofs.Agrees.{goes-becomes}
 
@@ -129,6 +132,30 @@ module _ (d : Dag) (M : Labels) (bodies : ℕ → Exp) (m : Machine) {name place
       go : (q : Place) → t .caller ≡ q → Agrees M W L R (m .clock) (m .calls) (returned m p t q) (does Node.return)
       go places.Nowhere c = tt
       go (places.At f) c = return-to e (nested-none z (A .place .nested)) f c (frame-seen f c (A .place .caller))
+
+  -- a tail call: the token stands at the body's root, for its own caller
+  pub tail-agrees : {e : ℕ} {ps : List Param} → All (GoodParam (M .scope n)) ps → TailLabels M n → Enters d M e ps
+      → Agrees M W L R (m .clock) (m .calls) (becomesCallee m p t (bodyAt d e .root) ps)
+      (Abstract.goesOn (at (bodyAt d e .root) (map (named B) (reverse (map (paramMeant (M .scope n)) ps))) F U) v)
+  unfolding Shows becomesCallee goesOn enqueue put withTables withOrders nextHandle
+  tail-agrees {e} {ps} good tail enters =
+      goes-becomes m (A .others) _ silently (callee (t .caller) t (bodyAt d e .root) ps) refl refl refl refl
+      (fits-callee (t .caller) (bodyAt d e .root) ps (acting-fits A .caller) (acting-fits A))
+      (sees
+      (record {
+        node = refl;
+        binds = slots-at (sym (enters .scope)) (formals-seen ps (A .place .binds .views) good (enters .few));
+        caller = A .place .caller;
+        cell = A .place .cell;
+        nested =
+            record {
+              own = [];
+              size = sym (enters .nest);
+              parts = nested-none (tail .nest) (A .place .nested);
+              body = enters .body ∙ sym (tail .body) ∙ A .place .nested .body;
+            };
+      })
+      (A .clear) (ready (absent (enters .value))))
 
   -- site calls
   module _ (lim : Limits) (s : ℕ) {k : ℕ} (f : Follows d M n k (M .scope n) (M .nest n)) where

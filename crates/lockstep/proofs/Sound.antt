@@ -19,7 +19,7 @@ module _ (p : Program) (wf : WellFormed p) where
   first-stands =
       subst (λ e. Stands (abstractOf p) (goal-coded p wf .sink) e (startAt (construct p .goal)))
       (goal-closed p wf zeros)
-      (start-stands (abstractOf p) (goal-coded p wf .sink) (goal-coded p wf .laid))
+      (start-stands (abstractOf p) (goal-coded p wf .sink) (goal-coded p wf .ending) (goal-coded p wf .laid))
 
   pub sound : {es : List Event} {s : State} → Run (abstractOf p) (startAt (construct p .goal)) es s → Allowed (meaning p) es
   sound r = run-sound (abstractOf p) (goal-coded p wf .sink) (bodies-coded p wf) (goal-coded p wf .ending) first-stands r

@@ -30,9 +30,11 @@ pub data Node : Type 0 where
   return : Node
   publish : Node
 
--- what runs: the nodes, where each definition's body begins, how many definitions there are, and what their bodies mean
+-- what runs: the nodes, which of them lead to return by removes alone, where each definition's body begins, how many definitions there
+-- are, and what their bodies mean
 pub record Program : Type 0 where
   pub node : ℕ → Node
+  pub tail : ℕ → Bool
   pub entry : ℕ → ℕ
   pub count : ℕ
   pub body : ℕ → Exp
@@ -133,6 +135,11 @@ abbrev pub returns : List Frame → ℤ → Effect
 returns [] v = ends
 returns (frame k B U ∷ F) v = goesOn (at k B F U) v
 
+-- a call keeps a frame, but for a tail call
+abbrev pub callers : (tail : Bool) → Frame → List Frame → List Frame
+callers true f F = F
+callers false f F = f ∷ F
+
 -- with t = 0 it is due at once
 abbrev pub fallsDue : (now : ℕ) → Option ℕ → Place → Effect
 fallsDue now none K = ends
@@ -163,7 +170,8 @@ module _ (G : Program) (now : ℕ) (σ : Store) (new h : ℕ) where
   abbrev pub actsAt : Node → Place → ℤ → Effect
   actsAt Node.stop K v = ends
   actsAt (Node.site s ps k) (at n B F U) v = asksSite now h s (running (at n B F U) v) (valuesIn σ B ps) (at k B F U)
-  actsAt (Node.call d ps k) (at n B F U) v = goesOn (at (G .entry d) (map (named B) (reverse ps)) (frame k B U ∷ F) U) v
+  actsAt (Node.call d ps k) (at n B F U) v =
+      goesOn (at (G .entry d) (map (named B) (reverse ps)) (callers (G .tail k) (frame k B U) F) U) v
   actsAt (Node.fork l r) (at n B F U) v = makes silently (running (at l B F U) v ∷ running (at r B F U) v ∷ [])
   actsAt (Node.assign k) (at n B F U) v = goesOn (at k (value v ∷ B) F U) v
   actsAt (Node.remove k) (at n B F U) v = goesOn (at k (tail B) F U) v

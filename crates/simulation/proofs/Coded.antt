@@ -1,7 +1,7 @@
 -- What a token does at a site call or a definition call, where the calculus rewrites that call: the same, with the same label.
 -- Both sides read the same values. Assumes nothing.
 use mathlib.Core.Path.{_≡_, refl, _∙_, ap}
-use mathlib.Core.Bool.{true, false}
+use mathlib.Core.Bool.{Bool, true, false}
 use mathlib.Core.List.{List, [], map}
 use mathlib.Core.Option.{some}
 use Prim.Native.Nat.{ℕ, _<_, _≤_}
@@ -13,11 +13,11 @@ use Rattle.calculus.specs.Event.{Label, silently}
 use Rattle.calculus.specs.Expression.{Param, Exp, Substitution, substParam, substitute, formals}
 use Rattle.calculus.specs.Rewriting.{paramValues, silence, calling, Rewrites}
 use Rattle.job.proofs.Test.{and-left, leb-le, le-not-ltb}
-use Rattle.simulation.proofs.AbstractMachine.{Node, Program, Binding, Frame, Place, at, running, Store, acts, act, asksSite}
-use Rattle.simulation.proofs.AbstractMachine.{callsSite, replies, fallsDue}
+use Rattle.simulation.proofs.AbstractMachine.{Node, Program, Binding, Frame, frame, Place, at, running, Store, acts, act, asksSite}
+use Rattle.simulation.proofs.AbstractMachine.{callers, callsSite, replies, fallsDue}
 use Rattle.simulation.proofs.Cells.{grows-all}
 use Rattle.simulation.proofs.Binding.{Env, Unset, env-formals, values-agree}
-use Rattle.simulation.proofs.Relation.{Code, Leads, returns, Rep, rep-due}
+use Rattle.simulation.proofs.Relation.{Code, Tail, Leads, returns, Rep, tail-leads, rep-due}
 use Rattle.simulation.proofs.Outcome.{by, once, Outcome, makes, act-at}
 
 -- e is laid out from node n toward a node of its own
@@ -26,9 +26,16 @@ pub record Laid (G : Program) (last : Node) (e : Exp) (n : ℕ) : Type 0 where
   pub laid : Code G e n sink
   pub at-sink : G .node sink ≡ last
 
--- each definition's body is laid out toward return
-abbrev pub Bodies : Program → Type 0
-Bodies G = (d : ℕ) → d < G .count → Laid G Node.return (G .body d) (G .entry d)
+-- each definition's body is laid out toward return; and what is said to be a tail is one
+pub record Bodies (G : Program) : Type 0 where
+  pub laid : (d : ℕ) → d < G .count → Laid G Node.return (G .body d) (G .entry d)
+  pub tails : (k : ℕ) → G .tail k ≡ true → Tail G k
+
+-- where a callee's values go: to the frame that was kept, or, of a tail call, to where the caller's own values go
+callee-leads : {G : Program} {s k : ℕ} {A B : List Binding} {F : List Frame} {U : List ℕ} {K : Place} (b : Bool)
+    → Bodies G → G .node s ≡ Node.return → G .tail k ≡ b → Leads G (at k B F U) K → Leads G (at s A (callers b (frame k B U) F) U) K
+callee-leads {G} {k = k} true bs s e l = tail-leads G s (bs .tails k e) l
+callee-leads false bs s e l = returns s l
 
 pub outside-not-builtin : (s : ℕ) → isOutside s ≡ true → isBuiltin s ≡ false
 unfolding isOutside isBuiltin
@@ -68,9 +75,11 @@ module _ (G : Program) (now : ℕ) (σ : Store) (new h : ℕ) where
         (site-effect u e p ∙ ap (λ x. callsSite now h s vs x (at k B F U)) (outside-not-builtin s o))
         calling (once (by (Rewrites.outside-call p o))) (Rep.pending l) grows-all
 
-    pub call-outcome : {C : List ℕ} {d : ℕ} → Laid G Node.return (G .body d) (G .entry d) → G .node n ≡ Node.call d ps k
+    pub call-outcome : {C : List ℕ} {d : ℕ} → Bodies G → d < G .count → G .node n ≡ Node.call d ps k
         → Outcome G now σ new h Γ (Exp.call d (map (substParam ρ) ps)) K [] [] C (running (at n B F U) w) acts
         silently (substitute (formals (map (substParam ρ) ps)) (G .body d))
-    call-outcome b e =
+    call-outcome {d = d} bs there e =
+        let b = bs .laid d there in
         makes (act-at G now σ new h w refl e) silence (once (by Rewrites.entered))
-        (Rep.code (formals (map (substParam ρ) ps)) (b .laid) (env-formals env ps) (returns (b .at-sink) l)) grows-all
+        (Rep.code (formals (map (substParam ρ) ps)) (b .laid) (env-formals env ps)
+        (callee-leads (G .tail k) bs (b .at-sink) refl l)) grows-all

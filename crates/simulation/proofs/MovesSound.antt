@@ -16,7 +16,7 @@ use Rattle.simulation.proofs.AbstractMachine.{Node, Program, Binding, F
 use Rattle.simulation.proofs.AbstractMachine.{dueLater, acts, answered}
 use Rattle.simulation.proofs.Cells.{parts-swap, parts-move, parts-alone, parts-own, parts-none, grows-all, grows-new, Tidy}
 use Rattle.simulation.proofs.Binding.{Env, Unset, env-cell, values-agree}
-use Rattle.simulation.proofs.Relation.{Code, Leads, here, removes, returns, then, chokes, Rep, leads-under-new}
+use Rattle.simulation.proofs.Relation.{Code, assign, Leads, here, removes, returns, then, chokes, Rep, leads-under-new}
 use Rattle.simulation.proofs.Hole.{free, Hole, hole-tidy}
 use Rattle.simulation.proofs.Outcome.{by, quietly, same, once, publishes, makes, act-at, Moves, moves, moves-inside}
 use Rattle.simulation.proofs.Coded.{Bodies, site-outcome, call-outcome}
@@ -65,26 +65,26 @@ module _ (G : Program) (now : ℕ) (σ : Store) (new h : ℕ) where
   unfolding substitute
   code-moves w ρ bs t (Code.stop e) env l = moves (makes (act-at G now σ new h w refl e) silence same Rep.stop grows-all)
   code-moves w ρ bs t (Code.site known e) env l = site-moves w ρ (λ c m. t .left c m .unset) known e env l
-  code-moves w ρ bs t (Code.call {d = d} d< e) env l = moves (call-outcome G now σ new h w env l (bs d d<) e)
+  code-moves w ρ bs t (Code.call {d = d} d< e) env l = moves (call-outcome G now σ new h w env l bs d< e)
   code-moves w ρ bs t (Code.par e cf cg) env l =
       moves
       (makes (act-at G now σ new h w refl e) silence same
       (Rep.par parts-none pair (Rep.code ρ cf env l) (Rep.code ρ cg env l)) grows-all)
   code-moves w ρ bs t (Code.seq cf ea cg er) env l =
       let H = Hole.seq (then ea cg er env l) in
-      moves-inside G now σ new h _ H parts-alone t gap-alone (code-moves w ρ bs (hole-tidy G H parts-alone t) cf env here)
+      moves-inside G now σ new h _ H parts-alone t gap-alone (code-moves w ρ bs (hole-tidy G H parts-alone t) cf env (here (assign ea)))
   code-moves w ρ bs t (Code.prune e cf er cg ec) env l =
       moves
       (makes (act-at G now σ new h w refl e) silence same
       (Rep.prune List·Memᴰ·not-nil parts-own pair (chokes ec)
       (Rep.code (lift ρ) cf (env-cell env new) (removes er l))
-      (Rep.code ρ cg env (leads-under-new G new l))) grows-new)
+      (Rep.code ρ cg env (leads-under-new G new ec l))) grows-new)
 
   -- a token among those that stand for e
   pub token-moves : {Γ C : List ℕ} {K : Place} {e : Exp} {S X Y : List Token} {u : Token}
       → Bodies G → Tidy σ new Γ (above K) C → Rep G now σ Γ e K S C → (m : Move u) → Split u S X Y → Moves G now σ new h Γ e K X Y C u m
   token-moves bs t Rep.stop m z = split-none z
-  token-moves bs t (Rep.hand here) acts first = moves (publishes refl (by Rewrites.published) Rep.stop grows-all)
+  token-moves bs t (Rep.hand (here y)) acts first = moves (publishes refl (by Rewrites.published) Rep.stop grows-all)
   token-moves bs t (Rep.hand {v = v} (removes e l)) acts first =
       moves (makes (act-at G now σ new h v refl e) silence same (Rep.hand l) grows-all)
   token-moves bs t (Rep.hand {v = v} (returns e l)) acts first =
@@ -95,7 +95,7 @@ module _ (G : Program) (now : ℕ) (σ : Store) (new h : ℕ) where
   token-moves bs t (Rep.pending l) m (later z) = split-none z
   token-moves bs t (Rep.due x l) m first = no-move m
   token-moves bs t (Rep.due x l) m (later z) = split-none z
-  token-moves bs t (Rep.late x here) acts first =
+  token-moves bs t (Rep.late x (here y)) acts first =
       moves (publishes refl (quietly (Rewrites.fell-due x) (by Rewrites.published)) Rep.stop grows-all)
   token-moves bs t (Rep.late x (removes e l)) acts first =
       moves (makes (act-at G now σ new h (pos 0) refl e) silence same (Rep.late x l) grows-all)

@@ -15,7 +15,7 @@ use Rattle.simulation.proofs.AbstractMachine.{answered, effect}
 use Rattle.simulation.proofs.Cells.{Parts, parts-swap, parts-move, parts-alone, parts-own, parts-none, Grows, grows-all, grows-new}
 use Rattle.simulation.proofs.Cells.{grows-then, grown, whole-grows, Tidy, tidy-grown}
 use Rattle.simulation.proofs.Binding.{Env, env-cell}
-use Rattle.simulation.proofs.Relation.{Code, Leads, here, removes, returns, then, chokes, Rep, leads-under-new}
+use Rattle.simulation.proofs.Relation.{Code, assign, Leads, here, removes, returns, then, chokes, Rep, leads-under-new}
 use Rattle.simulation.proofs.Hole.{Gate, Lifts, acting, caught, through, passing, Hole, fill, hole-tidy}
 use Rattle.simulation.proofs.Outcome.{by, once, Outcome, publishes, makes, act-at, inside}
 use Rattle.simulation.proofs.Coded.{Bodies, site-outcome, call-outcome}
@@ -95,7 +95,7 @@ module _ (G : Program) (now : ℕ) (σ : Store) (h : ℕ) where
 
   hand-ready : {Γ C : List ℕ} {K L : Place} {new : ℕ} (v : ℤ)
       → Leads G L K → Ready Γ (Exp.hand v) K (running L v ∷ []) C new (showing (Event.publish v)) Exp.stop
-  hand-ready v here = ready-now first (publishes refl (by Rewrites.published) Rep.stop grows-all)
+  hand-ready v (here x) = ready-now first (publishes refl (by Rewrites.published) Rep.stop grows-all)
   hand-ready {new = new} v (removes e l) = ready-after acts first (act-at G now σ new h v refl e) grows-all (hand-ready v l)
   hand-ready {new = new} v (returns e l) = ready-after acts first (act-at G now σ new h v refl e) grows-all (hand-ready v l)
 
@@ -111,7 +111,7 @@ module _ (G : Program) (now : ℕ) (σ : Store) (h : ℕ) where
   code-ready {new = new} w ρ bs t (Code.site known e) env l s =
       ready-now first (site-outcome G now σ new h w env l (λ c m. t .left c m .unset) e s)
   code-ready {new = new} w ρ bs t (Code.call {d = d} d< e) env l Rewrites.entered =
-      ready-now first (call-outcome G now σ new h w env l (bs d d<) e)
+      ready-now first (call-outcome G now σ new h w env l bs d< e)
   code-ready {new = new} w ρ bs t (Code.par e cf cg) env l (Rewrites.par-left s) =
       let t′ = later-tidy t grows-all in
       let H = Hole.par-left (Rep.code ρ cg env l) in
@@ -124,13 +124,13 @@ module _ (G : Program) (now : ℕ) (σ : Store) (h : ℕ) where
       (ready-inside H parts-none t′ (mix-swap pair) (acting through) (code-ready w ρ bs (hole-tidy G H parts-none t′) cg env l s))
   code-ready w ρ bs t (Code.seq cf ea cg er) env l (Rewrites.seq-acts s p) =
       let H = Hole.seq (then ea cg er env l) in
-      ready-inside H parts-alone t (mix-nothing _) (acting (passing p)) (code-ready w ρ bs (hole-tidy G H parts-alone t) cf env here s)
+      ready-inside H parts-alone t (mix-nothing _) (acting (passing p)) (code-ready w ρ bs (hole-tidy G H parts-alone t) cf env (here (assign ea)) s)
   code-ready w ρ bs t (Code.seq cf ea cg er) env l (Rewrites.seq-publishes s) =
       let H = Hole.seq (then ea cg er env l) in
-      ready-inside H parts-alone t (mix-nothing _) caught (code-ready w ρ bs (hole-tidy G H parts-alone t) cf env here s)
+      ready-inside H parts-alone t (mix-nothing _) caught (code-ready w ρ bs (hole-tidy G H parts-alone t) cf env (here (assign ea)) s)
   code-ready {new = new} w ρ bs t (Code.prune e cf er cg ec) env l (Rewrites.prune-left s) =
       let t′ = later-tidy t grows-new in
-      let H = Hole.prune-left List·Memᴰ·not-nil (chokes ec) (Rep.code ρ cg env (leads-under-new G new l)) in
+      let H = Hole.prune-left List·Memᴰ·not-nil (chokes ec) (Rep.code ρ cg env (leads-under-new G new ec l)) in
       ready-after acts first (act-at G now σ new h w refl e) grows-new
       (ready-inside H parts-own t′ pair (acting through)
       (code-ready w (lift ρ) bs (hole-tidy G H parts-own t′) cf (env-cell env new) (removes er l) s))
@@ -139,13 +139,13 @@ module _ (G : Program) (now : ℕ) (σ : Store) (h : ℕ) where
       let H = Hole.prune-right List·Memᴰ·not-nil (chokes ec) (Rep.code (lift ρ) cf (env-cell env new) (removes er l)) in
       ready-after acts first (act-at G now σ new h w refl e) grows-new
       (ready-inside H parts-own t′ (mix-swap pair) (acting (passing p))
-      (code-ready w ρ bs (hole-tidy G H parts-own t′) cg env (leads-under-new G new l) s))
+      (code-ready w ρ bs (hole-tidy G H parts-own t′) cg env (leads-under-new G new ec l) s))
   code-ready {new = new} w ρ bs t (Code.prune e cf er cg ec) env l (Rewrites.prune-publishes s) =
       let t′ = later-tidy t grows-new in
       let H = Hole.prune-right List·Memᴰ·not-nil (chokes ec) (Rep.code (lift ρ) cf (env-cell env new) (removes er l)) in
       ready-after acts first (act-at G now σ new h w refl e) grows-new
       (ready-inside H parts-own t′ (mix-swap pair) caught
-      (code-ready w ρ bs (hole-tidy G H parts-own t′) cg env (leads-under-new G new l) s))
+      (code-ready w ρ bs (hole-tidy G H parts-own t′) cg env (leads-under-new G new ec l) s))
 
   pub rep-ready : {Γ C : List ℕ} {K : Place} {e e′ : Exp} {a : Label} {S : List Token} {new : ℕ}
       → Bodies G → Tidy σ new Γ (above K) C → Rep G now σ Γ e K S C → Rewrites (G .body) h now e a e′ → Ready Γ e K S C new a e′

@@ -36,9 +36,20 @@ module _ (G : Program) where
         → G .node n ≡ Node.where' l b → Code f l r → G .node r ≡ Node.remove k → Code g b c → G .node c ≡ Node.choke
         → Code (Exp.prune f g) n k
 
-  -- a token with a value at the first place comes to the second by remove and return alone
+  -- from this node removes alone lead to return
+  pub data Tail : ℕ → Type 0 where
+    return : {n : ℕ} → G .node n ≡ Node.return → Tail n
+    remove : {n k : ℕ} → G .node n ≡ Node.remove k → Tail k → Tail n
+
+  -- a value at this place is assigned, chokes a cell, or is published: so it is neither removed nor returned
+  pub data Lands : Place → Type 0 where
+    assign : {n k : ℕ} {B : List Binding} {F : List Frame} {U : List ℕ} → G .node n ≡ Node.assign k → Lands (at n B F U)
+    choke : {n : ℕ} {B : List Binding} {F : List Frame} {U : List ℕ} → G .node n ≡ Node.choke → Lands (at n B F U)
+    publish : {n : ℕ} {B : List Binding} {F : List Frame} {U : List ℕ} → G .node n ≡ Node.publish → Lands (at n B F U)
+
+  -- a token with a value at the first place comes to the second, where it lands, by remove and return alone
   pub data Leads : Place → Place → Type 0 where
-    here : {K : Place} → Leads K K
+    here : {K : Place} → Lands K → Leads K K
     removes : {n k : ℕ} {b : Binding} {B : List Binding} {F : List Frame} {U : List ℕ} {K : Place}
         → G .node n ≡ Node.remove k → Leads (at k B F U) K → Leads (at n (b ∷ B) F U) K
     returns : {n k : ℕ} {B A : List Binding} {F : List Frame} {U : List ℕ} {K : Place}
@@ -110,8 +121,26 @@ module _ (G : Program) where
   rep-more w (seq ρ t f) = seq ρ t (rep-more w f)
   rep-more w (prune n p mx ch f g) = prune n (parts-within w p) mx ch f g
 
+  -- a tail leads where its body's return does: the frame that a tail call does not keep is passed by
+  tail-lands : {n : ℕ} {B : List Binding} {F : List Frame} {U : List ℕ} {A : Type 0} → Tail n → Lands (at n B F U) → A
+  tail-lands (return e) (assign f) = let z : _≡_ {A = ℕ} 0 1 = cc in absurd (omega arith)
+  tail-lands (return e) (choke f) = let z : _≡_ {A = ℕ} 0 1 = cc in absurd (omega arith)
+  tail-lands (return e) (publish f) = let z : _≡_ {A = ℕ} 0 1 = cc in absurd (omega arith)
+  tail-lands (remove e t) (assign f) = let z : _≡_ {A = ℕ} 0 1 = cc in absurd (omega arith)
+  tail-lands (remove e t) (choke f) = let z : _≡_ {A = ℕ} 0 1 = cc in absurd (omega arith)
+  tail-lands (remove e t) (publish f) = let z : _≡_ {A = ℕ} 0 1 = cc in absurd (omega arith)
+
+  pub tail-leads : {s k : ℕ} {A B : List Binding} {F : List Frame} {U : List ℕ} {K : Place}
+      → G .node s ≡ Node.return → Tail k → Leads (at k B F U) K → Leads (at s A F U) K
+  tail-leads s t (here x) = tail-lands t x
+  tail-leads s (return e) (removes f l) = let z : _≡_ {A = ℕ} 0 1 = cc in absurd (omega arith)
+  tail-leads s (remove {k = k} e t) (removes {k = j} f l) =
+      tail-leads s (subst Tail (let z : k ≡ j = cc in z) t) l
+  tail-leads s (return e) (returns f l) = returns s l
+  tail-leads s (remove e t) (returns f l) = let z : _≡_ {A = ℕ} 0 1 = cc in absurd (omega arith)
+
   pub leads-above : {K L : Place} → Leads K L → above K ≡ above L
-  leads-above here = refl
+  leads-above (here x) = refl
   leads-above (removes e l) = leads-above l
   leads-above (returns e l) = leads-above l
 
@@ -121,9 +150,9 @@ module _ (G : Program) where
 
   -- on the right side of a prune, under its cell
   pub leads-under-new : {c k : ℕ} {B : List Binding} {F : List Frame} {U : List ℕ} {K : Place} (new : ℕ)
-      → Leads (at k B F U) K → Leads (at c B F (new ∷ U)) (at c B F (new ∷ above K))
-  leads-under-new {c} {B = B} {F} {U} new l =
-      subst (λ x. Leads (at c B F (new ∷ U)) (at c B F (new ∷ x))) (leads-above l) here
+      → G .node c ≡ Node.choke → Leads (at k B F U) K → Leads (at c B F (new ∷ U)) (at c B F (new ∷ above K))
+  leads-under-new {c} {B = B} {F} {U} new e l =
+      subst (λ x. Leads (at c B F (new ∷ U)) (at c B F (new ∷ x))) (leads-above l) (here (choke e))
 
   pub then-above : {σ : Store} {Γ : List ℕ} {ρ : Substitution} {g : Exp} {K L : Place} → Then σ Γ ρ g K L → above L ≡ above K
   then-above (then a c r env l) = leads-above l

@@ -15,7 +15,7 @@ use Rattle.simulation.proofs.AbstractMachine.{Node, Program, at, Token,
 use Rattle.simulation.proofs.AbstractMachine.{clockOf, labelOf, Step, step, ticks, Run, rests, startAt}
 use Rattle.simulation.proofs.Cells.{apart-none, Tidy, tidy-grown, tidy-set}
 use Rattle.simulation.proofs.Binding as Binding
-use Rattle.simulation.proofs.Relation.{Code, here, Rep, rep-ticks}
+use Rattle.simulation.proofs.Relation.{Code, publish, here, Rep, rep-ticks}
 use Rattle.simulation.proofs.Outcome.{Acts, by, quietly, AtMost, same, once, Outcome, publishes, makes, sets, act-at, Moves, moves}
 use Rattle.simulation.proofs.Coded.{Bodies}
 use Rattle.simulation.proofs.MovesSound.{token-moves}
@@ -52,8 +52,8 @@ module _ (G : Program) (sink : ℕ) where
       subst (λ x. Follows now σ new h X Y x e a e′) (sym q)
       (record { label = refl; rewritten = s; standing = stands (tidy-set v t m n g) r; handle = refl; clock = refl })
 
-  pub start-stands : {goal : Exp} {n : ℕ} → Code G goal n sink → Stands (substitute zeros goal) (startAt n)
-  start-stands c =
+  pub start-stands : {goal : Exp} {n : ℕ} → G .node sink ≡ Node.publish → Code G goal n sink → Stands (substitute zeros goal) (startAt n)
+  start-stands is-publish c =
       stands {C = []}
       (record {
         left = λ b m. absurd (List·Memᴰ·not-nil m);
@@ -63,7 +63,7 @@ module _ (G : Program) (sink : ℕ) where
         not-over = apart-none;
         clean = λ b l. refl;
       })
-      (Rep.code zeros c (record { binds = λ i. Binding.value }) here)
+      (Rep.code zeros c (record { binds = λ i. Binding.value }) (here (publish is-publish)))
 
   module _ (bodies : Bodies G) (is-publish : G .node sink ≡ Node.publish) where
     -- what a step of a state that stands for e is in the calculus: rewritings, or none; or a move of the clock, by which e stays
