@@ -44,24 +44,24 @@ module _ (p q : ℕ → Bool) (f : (i : ℕ) → p i ≡ true → q i ≡ true) 
       here (yes s) below = omega (arith, count-more n, ap once (rw s at e), ap once (rw s at g))
       here (no d) below = omega (arith, once-more (p n) (q n) (f n), below (omega arith))
 
-module _ (d : Dag) where
-  -- what one look says, and what the looks behind it
-  unfoldable pub afterLook : Node → (ℕ → Bool) → Bool
-  afterLook node rest =
-      elim node [
-        | Node.stop ↦ false
-        | Node.site s ps k ↦ false
-        | Node.call e ps k ↦ false
-        | Node.fork l r ↦ false
-        | Node.assign x k ↦ false
-        | Node.remove x k ↦ rest k
-        | Node.where' x l r ↦ false
-        | Node.choke ↦ false
-        | Node.return ↦ true
-        | Node.publish ↦ false
-        | Node.unknown ↦ false
-      ]
+-- what one look says, and what the looks behind it
+unfoldable pub afterLook : Node → (ℕ → Bool) → Bool
+afterLook node rest =
+    elim node [
+      | Node.stop ↦ false
+      | Node.site s ps k ↦ false
+      | Node.call e ps k ↦ false
+      | Node.fork l r ↦ false
+      | Node.assign x k ↦ false
+      | Node.remove x k ↦ rest k
+      | Node.where' x l r ↦ false
+      | Node.choke ↦ false
+      | Node.return ↦ true
+      | Node.publish ↦ false
+      | Node.unknown ↦ false
+    ]
 
+module _ (d : Dag) where
   pub one-look : (looks n : ℕ) (node : Node) → nodeAt d n ≡ node → isTailWithin d (suc looks) n ≡ afterLook node (isTailWithin d looks)
   unfolding isTailWithin afterLook
   one-look looks n node e = rw (← e)
