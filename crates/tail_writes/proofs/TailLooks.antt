@@ -7,7 +7,7 @@ use Prim.Native.Nat.{ℕ, zero, suc, _+_, _-_, _*_, _<_, _≤_}
 use native.Mathlib.Omega.{arith}
 use lib.ListN.{length, getD, drop}
 use lib.Dec.{ltb}
-use Rattle.job.specs.Node.{Node, nodeHolds, isNode}
+use Rattle.job.specs.Node.{Node, nodeHolds, isNode, paramsHold}
 use Rattle.job.specs.Syntax.{Param}
 use Rattle.job.specs.Tail.{isTailWithin, isTail}
 use Rattle.job.specs.Words.{dagOf, headWords}
@@ -15,7 +15,7 @@ use Rattle.job.proofs.DagRules.{dag-rules}
 use Rattle.job.proofs.Tail.{afterLook, one-look}
 use Rattle.job.proofs.Test.{and-right, ltb-lt}
 use Rattle.job.proofs.Words.{length-nodesFrom}
-use Rattle.sites.specs.Row.{rowOf, NodeRow, nodeIn, nodeOfKind}
+use Rattle.sites.specs.Row.{rowOf, paramsAt, NodeRow, nodeIn, nodeOfKind}
 use Rattle.sites.proofs.RowKinds.{node-is, node-holds}
 use Rattle.tail_writes.specs.Tail.{NodeInside}
 
@@ -77,6 +77,20 @@ module _ (ws : List ℕ) (node : ℕ) (o : NodeInside ws node) where
             ltb-lt _ _ (and-right (ltb (getD ws (rowOf node + 1) 0) 8) _
             (subst (λ k. nodeHolds (dagOf ws) (nodeIn ws (rowOf node) k) ≡ true) e (node-holds ws (rowOf node) _ the-row)));
       }
+
+-- the next node of a definition call
+pub call-next : (ws : List ℕ) (at : ℕ) {next : ℕ} → NodeRow ws at 2 → next ≡ getD ws (at + 2) 0 → NodeInside ws next
+unfolding nodeHolds isNode
+call-next ws at o e =
+    subst (NodeInside ws) (sym e)
+    (record {
+      size = o .size;
+      dag = o .dag;
+      inside =
+          ltb-lt _ _
+          (and-right (paramsHold (paramsAt ws at)) _
+          (and-right (ltb (getD ws (at + 1) 0) (length (dagOf ws .bodies))) _ (node-holds ws at 2 o)));
+    })
 
 -- the test's turns: so many looks of those that are allowed are done
 pub record Looking (ws : List ℕ) (next count node looks : ℕ) : Type 0 where
