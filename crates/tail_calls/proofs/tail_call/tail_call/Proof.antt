@@ -46,10 +46,9 @@ plain-requires c κs = search needs
 
 returns : tie.Need-returns
 returns c = λ m a is.
-    let body = call-root _ _ _ (row a)
-    (c .before .before .before .before .before .before .before .before .before .before .before .wide .ensures
-    ∙ c .before .before .before .before .before .before .before .before .before .before .before .before .dag-word .ensures) in
-    tail-swept a is (c .before .before .before .before .before .before .before .before .before .before .dag-word2 .ensures ∙ body .2) _ (c .plain .ensures)
+    let read = c .before .before .before .before .before .before .before .before .before .before in
+    let body = call-root _ _ _ (row a) (read .before .wide .ensures ∙ read .before .before .dag-word .ensures) in
+    tail-swept a is (read .dag-word2 .ensures ∙ body .2) _ (c .plain .ensures)
     (c .before .sweep .ensures _
     (c .before .before .before .before .before .before .written .ensures m (a .taking .lawful .holds) (a .taking .queued) (ready a))
     (tail-vacant a _))
@@ -59,9 +58,9 @@ plain-requires-2 c κs = search needs
 
 returns-2 : tie.Need-returns-2
 returns-2 c = λ m a is.
-    let body = call-root _ _ _ (row a)
-    (c .before .before .before .before .before .before .before .wide .ensures ∙ c .before .before .before .before .before .before .before .before .dag-word .ensures) in
-    tail-whole a is (c .before .before .before .before .before .before .dag-word2 .ensures ∙ body .2) _ (c .plain2 .ensures)
+    let read = c .before .before .before .before .before .before in
+    let body = call-root _ _ _ (row a) (read .before .wide .ensures ∙ read .before .before .dag-word .ensures) in
+    tail-whole a is (read .dag-word2 .ensures ∙ body .2) _ (c .plain2 .ensures)
     (binds-none _ (sym (c .before .before .before .before .binds-cell .ensures m (a .taking .lawful .holds .codes)) ∙ c .before .if1 .left))
     (c .before .before .written .ensures m (a .taking .lawful .holds) (a .taking .queued) (ready a))
 

@@ -36,19 +36,23 @@ tail-call-requires : tie.Need-tail-call-requires
 tail-call-requires c κs = search needs
 
 returns : tie.Need-returns
-returns c = λ m a one. call-leaves (c .before .before .before .before .before .before .before .before .args .shared .now) a one
+returns c = λ m a one.
+    let tested = c .before .before .before .before .before in
+    call-leaves (tested .before .before .before .args .shared .now) a one
     (c .tail-call .ensures m a
-    (says _ _ (c .before .before .before .before .before .is-tail .ensures)
-    (c .before .before .before .before .before .before .wide .ensures ∙ c .before .before .before .before .before .before .before .dag-word .ensures) (c .before .before .before .before .if1 .taken)))
+    (says _ _ (tested .is-tail .ensures) (tested .before .wide .ensures ∙ tested .before .before .dag-word .ensures)
+    (c .before .before .before .before .if1 .taken)))
 
 definition-call-requires : tie.Need-definition-call-requires
 definition-call-requires c κs = search needs
 
 returns-2 : tie.Need-returns-2
-returns-2 c = λ m a one. call-leaves (c .before .before .before .before .before .before .before .before .args .shared .now) a one
+returns-2 c = λ m a one.
+    let tested = c .before .before .before .before .before in
+    call-leaves (tested .before .before .before .args .shared .now) a one
     (c .definition-call .ensures m a
-    (says _ _ (c .before .before .before .before .before .is-tail .ensures)
-    (c .before .before .before .before .before .before .wide .ensures ∙ c .before .before .before .before .before .before .before .dag-word .ensures) (c .before .before .before .before .if1 .left)))
+    (says _ _ (tested .is-tail .ensures) (tested .before .wide .ensures ∙ tested .before .before .dag-word .ensures)
+    (c .before .before .before .before .if1 .left)))
 
 pub call-marked-spec : {M : Type 1} → statement M
 call-marked-spec =
