@@ -3,14 +3,16 @@
 use mathlib.Core.Path.{_≡_, refl, sym, _∙_, ap, subst}
 use mathlib.Core.Bool.{Bool, true, false}
 use mathlib.Core.List.{List}
-use Prim.Native.Nat.{ℕ, suc, _≤_}
+use Prim.Native.Nat.{ℕ, suc, _+_, _≤_}
 use native.Mathlib.Omega.{arith}
+use lib.ListN.{getD}
 use lib.Dec.{ltb}
 use lib.IntN.{ℤ}
 use Rattle.job.specs.Syntax.{Param}
-use Rattle.job.specs.Node.{Node, Dag}
+use Rattle.job.specs.Node.{Node, Dag, nodeAt}
 use Rattle.job.specs.Tail.{isTail}
 use Rattle.model.specs.Machine.Limits.{Limits}
+use Rattle.model.specs.Machine.Blank.{tokenAt}
 use Rattle.model.specs.Machine.InUse.{marked, tokensUsed, cellsUsed, Within}
 use Rattle.model.specs.Machine.Rules.{tokenInRange, cellInRange, sizesInRange, machineHolds, rulesHold}
 use Rattle.model.specs.Machine.Reply.{Effect, moves, unless, outcome, isRefused}
@@ -51,9 +53,44 @@ unfolding unless outcome isRefused
 unless-same m true b′ n e e′ f g ok = rw (f refl) (g ok)
 unless-same m false b′ n e e′ f g ok = clash refl ok
 
+-- how many cells an instruction adds: a where one, any other none
+unfoldable pub cellsAdded : Node → ℕ
+cellsAdded Node.stop = 0
+cellsAdded (Node.site s ps k) = 0
+cellsAdded (Node.call e ps k) = 0
+cellsAdded (Node.fork l r) = 0
+cellsAdded (Node.assign x k) = 0
+cellsAdded (Node.remove x k) = 0
+cellsAdded (Node.where' x l r) = 1
+cellsAdded Node.choke = 0
+cellsAdded Node.return = 0
+cellsAdded Node.publish = 0
+cellsAdded Node.unknown = 0
+
+pub added-few : (n : Node) → cellsAdded n ≤ 1
+unfolding cellsAdded
+added-few Node.stop = omega arith
+added-few (Node.site s ps k) = omega arith
+added-few (Node.call e ps k) = omega arith
+added-few (Node.fork l r) = omega arith
+added-few (Node.assign x k) = omega arith
+added-few (Node.remove x k) = omega arith
+added-few (Node.where' x l r) = omega arith
+added-few Node.choke = omega arith
+added-few Node.return = omega arith
+added-few Node.publish = omega arith
+added-few Node.unknown = omega arith
+
+-- the node at which a step's token stands
+abbrev pub nodeTaken : Dag → Machine → (place : ℕ) → Node
+nodeTaken d m place = nodeAt d (tokenAt (m .tokens) (getD (m .queue) place 0) .node)
+
+-- limits that hold where these do; the one of cells is asked for only where a cell is added
 module _ (lim : Limits) (t c : ℕ) (d : Dag) (m : Machine)
-    (token-too : hasTokenPlace lim m ≡ true → hasTokenPlace (allowing lim t c) m ≡ true)
-    (cell-too : hasCellPlace lim m ≡ true → hasCellPlace (allowing lim t c) m ≡ true) where
+    (token-too : hasTokenPlace lim m ≡ true → hasTokenPlace (allowing lim t c) m ≡ true) where
+  abbrev CellToo : Node → Type 0
+  CellToo n = cellsAdded n ≡ 1 → hasCellPlace lim m ≡ true → hasCellPlace (allowing lim t c) m ≡ true
+
   same-site : (at : Machine) (p : ℕ) (u : Token) (s k : ℕ) (l : LookUpResult)
       → callSite (allowing lim t c) at p u s k l ≡ callSite lim at p u s k l
   unfolding callSite
@@ -67,31 +104,33 @@ module _ (lim : Limits) (t c : ℕ) (d : Dag) (m : Machine)
   same-body at p u root ps k true ok = refl
   same-body at p u root ps k false ok = unless-same m _ _ _ _ _ token-too (λ x. refl) ok
 
-  same-act : (at : Machine) (p : ℕ) (u : Token) (n : Node) → isRefused (outcome m (act lim d m at p u n) .reply) ≡ false
+  same-act : (at : Machine) (p : ℕ) (u : Token) (n : Node) → CellToo n → isRefused (outcome m (act lim d m at p u n) .reply) ≡ false
       → act (allowing lim t c) d m at p u n ≡ act lim d m at p u n
-  unfolding act
-  same-act at p u Node.stop ok = refl
-  same-act at p u Node.publish ok = refl
-  same-act at p u (Node.fork l r) ok = unless-same m _ _ _ _ _ token-too (λ x. refl) ok
-  same-act at p u (Node.assign x k) ok = refl
-  same-act at p u (Node.remove x k) ok = refl
-  same-act at p u (Node.where' x l r) ok = unless-same m _ _ _ _ _ token-too (unless-same m _ _ _ _ _ cell-too (λ x. refl)) ok
-  same-act at p u (Node.site s ps k) ok = same-site at p u s k _
-  same-act at p u (Node.call e ps k) ok = same-body at p u _ ps k (isTail d k) ok
-  same-act at p u Node.return ok = refl
-  same-act at p u Node.choke ok = refl
-  same-act at p u Node.unknown ok = refl
+  unfolding act cellsAdded
+  same-act at p u Node.stop too ok = refl
+  same-act at p u Node.publish too ok = refl
+  same-act at p u (Node.fork l r) too ok = unless-same m _ _ _ _ _ token-too (λ x. refl) ok
+  same-act at p u (Node.assign x k) too ok = refl
+  same-act at p u (Node.remove x k) too ok = refl
+  same-act at p u (Node.where' x l r) too ok =
+      unless-same m _ _ _ _ _ token-too (unless-same m _ _ _ _ _ (too refl) (λ x. refl)) ok
+  same-act at p u (Node.site s ps k) too ok = same-site at p u s k _
+  same-act at p u (Node.call e ps k) too ok = same-body at p u _ ps k (isTail d k) ok
+  same-act at p u Node.return too ok = refl
+  same-act at p u Node.choke too ok = refl
+  same-act at p u Node.unknown too ok = refl
 
-  same-takes : (place : ℕ) → isRefused (outcome m (takes lim d m place) .reply) ≡ false
+  same-takes : (place : ℕ) → CellToo (nodeTaken d m place) → isRefused (outcome m (takes lim d m place) .reply) ≡ false
       → takes (allowing lim t c) d m place ≡ takes lim d m place
   unfolding takes
-  same-takes place ok = same-act _ _ _ _ ok
+  same-takes place too ok = same-act _ _ _ _ too ok
 
-  same-step : (place : ℕ) → isRefused (step lim d m place .reply) ≡ false → step (allowing lim t c) d m place ≡ step lim d m place
+  same-step : (place : ℕ) → CellToo (nodeTaken d m place) → isRefused (step lim d m place .reply) ≡ false
+      → step (allowing lim t c) d m place ≡ step lim d m place
   unfolding step
-  same-step place ok =
+  same-step place too ok =
       ap (outcome m)
-      (unless-same m _ _ _ _ _ (λ e. same-rules lim t c d m ∙ e) (unless-same m _ _ _ _ _ (λ e. e) (same-takes place)) ok)
+      (unless-same m _ _ _ _ _ (λ e. same-rules lim t c d m ∙ e) (unless-same m _ _ _ _ _ (λ e. e) (same-takes place too)) ok)
 
 below-more : (n a b : ℕ) → a ≤ b → ltb n a ≡ true → ltb n b ≡ true
 below-more n a b l e = lt-ltb n b (let z = ltb-lt n a e in omega arith)
@@ -100,23 +139,25 @@ pub step-larger : (lim : Limits) (t c : ℕ) → lim .tokens ≤ t → lim .cell
     → isRefused (step lim d m place .reply) ≡ false → step (allowing lim t c) d m place ≡ step lim d m place
 unfolding hasTokenPlace hasCellPlace
 step-larger lim t c l k d m place ok =
-    same-step lim t c d m (below-more (marked (tokensUsed m)) (lim .tokens) t l) (below-more (marked (cellsUsed m)) (lim .cells) c k) place
-    ok
+    same-step lim t c d m (below-more (marked (tokensUsed m)) (lim .tokens) t l) place
+    (λ w. below-more (marked (cellsUsed m)) (lim .cells) c k) ok
 
 -- the tokens and the cells in use
 abbrev pub UsedAtMost : Machine → (tokens cells : ℕ) → Type 0
 UsedAtMost m t c = (marked (tokensUsed m) ≤ t) × (marked (cellsUsed m) ≤ c)
 
 module _ (lim : Limits) (d : Dag) (m : Machine) where
+  -- a step adds one token at most, and one cell at most where its token stands at a where
   pub step-adds : (place : ℕ) → isRefused (step lim d m place .reply) ≡ false
-      → UsedAtMost (step lim d m place .machine) (suc (marked (tokensUsed m))) (suc (marked (cellsUsed m)))
+      → UsedAtMost (step lim d m place .machine) (suc (marked (tokensUsed m))) (cellsAdded (nodeTaken d m place) + marked (cellsUsed m))
   unfolding hasTokenPlace hasCellPlace
   step-adds place ok =
       let t = marked (tokensUsed m) in
-      let c = marked (cellsUsed m) in
-      let same = same-step lim (suc t) (suc c) d m (λ e. lt-ltb t (suc t) (omega arith)) (λ e. lt-ltb c (suc c) (omega arith)) place ok in
-      subst (λ (o : Outcome). UsedAtMost (o .machine) (suc t) (suc c)) same
-      (step-within (allowing lim (suc t) (suc c)) d m place (omega arith, omega arith)
+      let c = cellsAdded (nodeTaken d m place) + marked (cellsUsed m) in
+      let same = same-step lim (suc t) c d m (λ e. lt-ltb t (suc t) (omega arith)) place
+      (λ w e. lt-ltb (marked (cellsUsed m)) c (omega arith)) ok in
+      subst (λ (o : Outcome). UsedAtMost (o .machine) (suc t) c) same
+      (step-within (allowing lim (suc t) c) d m place (omega arith, omega arith)
       (subst (λ (o : Outcome). isRefused (o .reply) ≡ false) (sym same) ok))
 
   -- a call that does not test the limits, and leaves within them what is within them

@@ -27,7 +27,7 @@ use Rattle.job.proofs.Accepted.{accepted-well-formed}
 use Rattle.job.proofs.DagHolds.{construct-holds}
 use Rattle.model.proofs.Machine.StartAccepted.{start-machine, accepted-starts}
 use Rattle.model.proofs.Machine.StartUsed.{start-one-token, start-no-cell}
-use Rattle.demand3.proofs.Larger.{UsedAtMost, step-adds, answer-adds, advance-adds}
+use Rattle.demand3.proofs.Larger.{UsedAtMost, step-adds, answer-adds, advance-adds, nodeTaken, added-few}
 use Rattle.simulation.proofs.AbstractMachine as Abstract
 use Rattle.simulation.proofs.AbstractMachine.{startAt, handleOf}
 use Rattle.demand3.proofs.ProgramComplete.{complete}
@@ -73,7 +73,8 @@ no-more m o x = (let z = x .0 in omega arith, (let z = x .1 in omega arith))
 call-adds : (lim : Limits) (d : Dag) (m : Machine) (c : Call) → isRefused (outcomeOf runner lim d m c .reply) ≡ false
     → UsedAtMost (outcomeOf runner lim d m c .machine) (suc (marked (tokensUsed m))) (suc (marked (cellsUsed m)))
 unfolding outcomeOf
-call-adds lim d m (step k) ok = step-adds lim d m k ok
+call-adds lim d m (step k) ok =
+    let x = step-adds lim d m k ok in let l = added-few (nodeTaken d m k) in let z = x .1 in (x .0, omega arith)
 call-adds lim d m (answer h v signed) ok = no-more m (outcomeOf runner lim d m (answer h v signed) .machine) (answer-adds lim d m h v ok)
 call-adds lim d m (advance time) ok = no-more m (outcomeOf runner lim d m (advance time) .machine) (advance-adds lim d m time ok)
 

@@ -2,38 +2,21 @@
 -- return, since a remove changes the scope and nothing else. By recursion on the tail. Assumes nothing.
 use mathlib.Core.Path.{_≡_, refl, sym, _∙_, ap, subst}
 use mathlib.Core.Bool.{true}
-use Prim.Native.Nat.{ℕ, zero, suc, _<_, _≤_}
+use mathlib.Core.List.{List}
+use Prim.Native.Nat.{ℕ, _<_, _≤_}
 use native.Mathlib.Omega.{arith}
 use native.Mathlib.Decide.{decLt}
 use lib.ListN.{length, List·getD-eq-default}
 use Rattle.job.specs.Node.{Node, Dag, nodeAt}
 use Rattle.job.specs.Tail as Job
-use Rattle.job.specs.Tail.{isTailWithin, isTail}
-use Rattle.job.proofs.Test.{clash}
+use Rattle.job.specs.Tail.{isTail}
+use Rattle.job.proofs.Tail.{tail-exactly}
 use Rattle.calculus.specs.Expression.{Exp}
+use Rattle.simulation.proofs.AbstractMachine as Abstract
 use Rattle.simulation.proofs.Relation as Simulation
 use Rattle.lockstep.proofs.Labels.{Labels, nodeMeant, programOf, FlowAt, Flow}
 
 module _ (d : Dag) where
-  tail-found : (looks n : ℕ) (N : Node) → nodeAt d n ≡ N → isTailWithin d looks n ≡ true → Job.Tail d n
-  unfolding isTailWithin
-  tail-found zero n N e t = clash t refl
-  tail-found (suc looks) n Node.stop e t = clash (rw (e, isTailWithin) at t) refl
-  tail-found (suc looks) n (Node.site s ps k) e t = clash (rw (e, isTailWithin) at t) refl
-  tail-found (suc looks) n (Node.call f ps k) e t = clash (rw (e, isTailWithin) at t) refl
-  tail-found (suc looks) n (Node.fork l r) e t = clash (rw (e, isTailWithin) at t) refl
-  tail-found (suc looks) n (Node.assign x k) e t = clash (rw (e, isTailWithin) at t) refl
-  tail-found (suc looks) n (Node.remove x k) e t = Job.remove e (tail-found looks k (nodeAt d k) refl (rw (e, isTailWithin) at t))
-  tail-found (suc looks) n (Node.where' x l r) e t = clash (rw (e, isTailWithin) at t) refl
-  tail-found (suc looks) n Node.choke e t = clash (rw (e, isTailWithin) at t) refl
-  tail-found (suc looks) n Node.return e t = Job.return e
-  tail-found (suc looks) n Node.publish e t = clash (rw (e, isTailWithin) at t) refl
-  tail-found (suc looks) n Node.unknown e t = clash (rw (e, isTailWithin) at t) refl
-
-  is-tail : (n : ℕ) → isTail d n ≡ true → Job.Tail d n
-  unfolding isTail
-  is-tail n t = tail-found (length (d .nodes)) n (nodeAt d n) refl t
-
   -- a node that is known is one of the dag's
   known-inside : {n : ℕ} {N : Node} → nodeAt d n ≡ N → (N ≡ Node.unknown → ⊥) → n < length (d .nodes)
   unfolding nodeAt
@@ -50,7 +33,44 @@ module _ (d : Dag) (M : Labels) (bodies : ℕ → Exp) where
   tail-meant {n} (Job.remove e t) = Simulation.remove (ap (nodeMeant (M .scope n)) e) (tail-meant t)
 
   pub tails : (n : ℕ) → isTail d n ≡ true → Simulation.Tail (programOf d M bodies) n
-  tails n t = tail-meant (is-tail d n t)
+  tails n t = tail-meant (tail-exactly d n .0 t)
+
+-- nodes whose meaning is return, or remove
+returns-meant : (scope : List ℕ) (N : Node) → nodeMeant scope N ≡ Abstract.Node.return → N ≡ Node.return
+unfolding nodeMeant
+returns-meant scope Node.return e = refl
+returns-meant scope Node.stop e = let z : _≡_ {A = ℕ} 0 1 = cc in absurd (omega arith)
+returns-meant scope (Node.site s ps k) e = let z : _≡_ {A = ℕ} 0 1 = cc in absurd (omega arith)
+returns-meant scope (Node.call f ps k) e = let z : _≡_ {A = ℕ} 0 1 = cc in absurd (omega arith)
+returns-meant scope (Node.fork l r) e = let z : _≡_ {A = ℕ} 0 1 = cc in absurd (omega arith)
+returns-meant scope (Node.assign x k) e = let z : _≡_ {A = ℕ} 0 1 = cc in absurd (omega arith)
+returns-meant scope (Node.remove x k) e = let z : _≡_ {A = ℕ} 0 1 = cc in absurd (omega arith)
+returns-meant scope (Node.where' x l r) e = let z : _≡_ {A = ℕ} 0 1 = cc in absurd (omega arith)
+returns-meant scope Node.choke e = let z : _≡_ {A = ℕ} 0 1 = cc in absurd (omega arith)
+returns-meant scope Node.publish e = let z : _≡_ {A = ℕ} 0 1 = cc in absurd (omega arith)
+returns-meant scope Node.unknown e = let z : _≡_ {A = ℕ} 0 1 = cc in absurd (omega arith)
+
+removes-meant : (scope : List ℕ) (N : Node) (k : ℕ) → nodeMeant scope N ≡ Abstract.Node.remove k → (x : ℕ) × (N ≡ Node.remove x k)
+unfolding nodeMeant
+removes-meant scope (Node.remove x j) k e = (x, ap (Node.remove x) (let z : j ≡ k = cc in z))
+removes-meant scope Node.return k e = let z : _≡_ {A = ℕ} 0 1 = cc in absurd (omega arith)
+removes-meant scope Node.stop k e = let z : _≡_ {A = ℕ} 0 1 = cc in absurd (omega arith)
+removes-meant scope (Node.site s ps j) k e = let z : _≡_ {A = ℕ} 0 1 = cc in absurd (omega arith)
+removes-meant scope (Node.call f ps j) k e = let z : _≡_ {A = ℕ} 0 1 = cc in absurd (omega arith)
+removes-meant scope (Node.fork l r) k e = let z : _≡_ {A = ℕ} 0 1 = cc in absurd (omega arith)
+removes-meant scope (Node.assign x j) k e = let z : _≡_ {A = ℕ} 0 1 = cc in absurd (omega arith)
+removes-meant scope (Node.where' x l r) k e = let z : _≡_ {A = ℕ} 0 1 = cc in absurd (omega arith)
+removes-meant scope Node.choke k e = let z : _≡_ {A = ℕ} 0 1 = cc in absurd (omega arith)
+removes-meant scope Node.publish k e = let z : _≡_ {A = ℕ} 0 1 = cc in absurd (omega arith)
+removes-meant scope Node.unknown k e = let z : _≡_ {A = ℕ} 0 1 = cc in absurd (omega arith)
+
+module _ (d : Dag) (M : Labels) (bodies : ℕ → Exp) where
+  tail-from : {n : ℕ} → Simulation.Tail (programOf d M bodies) n → Job.Tail d n
+  tail-from {n} (Simulation.return e) = Job.return (returns-meant (M .scope n) (nodeAt d n) e)
+  tail-from {n} (Simulation.remove {k = k} e t) = Job.remove (removes-meant (M .scope n) (nodeAt d n) k e .1) (tail-from t)
+
+  pub tails-all : (n : ℕ) → Simulation.Tail (programOf d M bodies) n → isTail d n ≡ true
+  tails-all n t = tail-exactly d n .1 (tail-from t)
 
 -- a node in tail position stands in no right side of a prune of its own body, and in a body
 pub record TailLabels (M : Labels) (n : ℕ) : Type 0 where
@@ -71,4 +91,4 @@ module _ (d : Dag) (M : Labels) (flow : Flow d M) where
       remove-labels (subst (FlowAt d M n) e (flow .at n (known-inside d e (λ u. let z : _≡_ {A = ℕ} 0 1 = cc in omega arith)))) (labelled t)
 
   pub tail-labels : (n : ℕ) → isTail d n ≡ true → TailLabels M n
-  tail-labels n t = labelled (is-tail d n t)
+  tail-labels n t = labelled (tail-exactly d n .0 t)

@@ -2,6 +2,7 @@
 -- machine on. Every list of calls is passed in this way and in no other, so each part of demand 3 needs a law for one accepted call.
 -- Assumes nothing.
 use mathlib.Core.Path.{_≡_, refl, sym, _∙_, ap, subst}
+use mathlib.Core.Logic.{_⊎_, inl, inr}
 use mathlib.Core.Bool.{Bool, true, false}
 use mathlib.Core.List.{List, [], _∷_, _++_}
 use lib.IntN.{ℤ}
@@ -17,7 +18,7 @@ use Rattle.model.specs.declared.record.Machine.{Machine}
 use Rattle.model.specs.declared.reply.Reply.{Reply}
 use Rattle.model.specs.declared.reply.Reply.the-variants as replies
 use Rattle.model.specs.declared.reply.Outcome.{Outcome}
-use Rattle.job.proofs.Test.{clash}
+use Rattle.job.proofs.Test.{clash, holds-or-fails}
 use Rattle.model.proofs.Machine.Refused.{outcome-refused}
 
 -- the events of a call with this outcome
@@ -78,6 +79,28 @@ module _ (lim : Limits) (d : Dag) where
           (sym (refused-shows c (o .reply) (o .values) no′))
           (subst (λ m′. Passage m (c ∷ cs) (shown m′) false (end m′)) (sym (refused-leaves m c no′)) (refused no′ (rest m)))
       go false ok rest = accepted ok (rest (o .machine))
+
+  -- what each accepted call keeps, every call keeps, and so every list of calls
+  module _ (P : Machine → Type 0)
+      (kept : (m : Machine) (c : Call) → isRefused (outcomeOf runner lim d m c .reply) ≡ false → P m
+      → P (outcomeOf runner lim d m c .machine)) where
+    pub call-keeps : (m : Machine) (c : Call) → P m → P (outcomeOf runner lim d m c .machine)
+    call-keeps m c h = go (holds-or-fails (isRefused (outcomeOf runner lim d m c .reply)))
+      where
+        o : Outcome
+        o = outcomeOf runner lim d m c
+
+        go : (isRefused (o .reply) ≡ true) ⊎ (isRefused (o .reply) ≡ false) → P (o .machine)
+        go (inl no′) = subst P (sym (refused-leaves m c no′)) h
+        go (inr ok) = kept m c ok h
+
+    passage-keeps : {m end : Machine} {cs : List Call} {es : List Event} {fine : Bool} → Passage m cs es fine end → P m → P end
+    passage-keeps none h = h
+    passage-keeps (refused no′ p) h = passage-keeps p h
+    passage-keeps (accepted {m = m} {c = c} ok p) h = passage-keeps p (kept m c ok h)
+
+    pub calls-keep : (m : Machine) (cs : List Call) → P m → P (machineAfter runner lim d m cs)
+    calls-keep m cs h = passage-keeps (passage cs m) h
 
   -- the calls behind the first are one, accepted or not as it may be
   pub passage-behind : {m end : Machine} {c : Call} {cs : List Call} {es : List Event} {fine : Bool} → Passage m (c ∷ cs) es fine end

@@ -1,19 +1,18 @@
 -- Tokens and cells in use stay within the limits after any list of calls on the start, for any limits with a token. The start is within
 -- them, a refused call changes nothing, and an accepted one was tested. Assumes nothing.
 use mathlib.Core.Path.{_≡_}
-use mathlib.Core.Bool.{Bool, false}
+use mathlib.Core.Bool.{false}
 use mathlib.Core.List.{List}
 use Prim.Native.Nat.{_≤_}
 use Rattle.job.specs.Node.{Dag}
 use Rattle.model.specs.Machine.Limits.{Limits}
 use Rattle.model.specs.Machine.InUse.{Within}
 use Rattle.model.specs.Machine.Reply.{isRefused}
-use Rattle.calculus.specs.Event.{Event}
 use Rattle.model.specs.Run.Call.{Call, step, answer, advance, runner, outcomeOf, machineAfter, started}
 use Rattle.model.specs.declared.record.Machine.{Machine}
 use Rattle.model.proofs.Machine.Within.{step-within, answer-within, advance-within}
 use Rattle.model.proofs.Machine.StartUsed.{start-within}
-use Rattle.model.proofs.Run.Passage.{Passage, passage}
+use Rattle.model.proofs.Run.Passage.{calls-keep}
 
 module _ (lim : Limits) (d : Dag) where
   call-within : (m : Machine) (c : Call) → Within lim m → isRefused (outcomeOf runner lim d m c .reply) ≡ false
@@ -23,11 +22,6 @@ module _ (lim : Limits) (d : Dag) where
   call-within m (answer h v signed) old ok = answer-within lim d m h v old ok
   call-within m (advance time) old ok = advance-within lim d m time old ok
 
-  calls-within : {m end : Machine} {cs : List Call} {es : List Event} {fine : Bool} → Passage lim d m cs es fine end
-      → Within lim m → Within lim end
-  calls-within Passage.none w = w
-  calls-within (Passage.refused no′ p) w = calls-within p w
-  calls-within (Passage.accepted {m = m} {c = c} ok p) w = calls-within p (call-within m c w ok)
-
   pub run-within : 1 ≤ lim .tokens → (calls : List Call) → Within lim (machineAfter runner lim d (started runner lim d) calls)
-  run-within some calls = calls-within (passage lim d calls (started runner lim d)) (start-within lim d some)
+  run-within some calls =
+      calls-keep lim d (Within lim) (λ m c ok w. call-within m c w ok) (started runner lim d) calls (start-within lim d some)
