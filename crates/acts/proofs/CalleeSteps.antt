@@ -12,6 +12,7 @@ use lib.Dec.{ltb}
 use lib.IntN.{ℤ}
 use lib.Seq.{getD-set-other}
 use Rattle.job.specs.Node.{Dag, bodyAt}
+use Rattle.job.specs.Tail.{isTail}
 use Rattle.job.specs.Words.{dagOf}
 use Rattle.model.specs.Machine.Blank.{blankToken, blankMachine, tokenAt}
 use Rattle.model.specs.Machine.Limits.{paper}
@@ -259,25 +260,38 @@ module _ (s : List Bool) (m : Machine) (p : ℕ) (none : (i : ℕ) → NamesAsCa
       go (inr x) (inr y) = fresh f i j e x y
 
 module _ (s : List Bool) (dag : List ℕ) (place p at : ℕ) (m : Machine) where
+  abbrev calling : (tail : Bool) → Effect
+  calling tail =
+      Step.callBody paper m (dequeued m place) p (tokenAt (m .tokens) p) (bodyAt (dagOf dag) (getD dag (at + 1) 0) .root) (paramsAt dag at)
+      (getD dag (at + 2) 0) tail
+
   abbrev entering : Effect
   entering =
       Step.entered (dequeued m place) p (tokenAt (m .tokens) p) (Step.tokenPlace m) (bodyAt (dagOf dag) (getD dag (at + 1) 0) .root)
       (paramsAt dag at) (getD dag (at + 2) 0)
 
+  -- in tail position the token keeps its caller, and nobody names it still
   pub call-keeps : (ws : List ℕ) (used cells : List Bool) → Acting ws used cells dag place p at 2 m → ((i : ℕ) → NamesAsCaller m p i → ⊥)
       → OneCallee s m
       → OneCallee (set s p false) (Step.step paper (dagOf dag) m place .machine)
-  unfolding act unless outcome accepted Step.entered withOrders
+  unfolding act Step.callBody
   call-keeps ws used cells a none one = subst (λ (o : Outcome). OneCallee (set s p false) (o .machine)) (sym (step-is a))
-      (go (Step.hasTokenPlace paper m))
+      (go (isTail (dagOf dag) (getD dag (at + 2) 0)))
     where
-      go : (b : Bool) → OneCallee (set s p false) (outcome m (unless b 10 entering) .machine)
-      go true =
+      framed : (b : Bool) → OneCallee (set s p false) (outcome m (unless b 10 entering) .machine)
+      framed true =
+          unfold unless outcome accepted Step.entered withOrders in
           swept-callees (set s p false) _
           (called s m p none one (dequeued m place) _ _ (withNode (getD dag (at + 2) 0) (withState states.Frame (tokenAt (m .tokens) p)))
           refl refl
           (unfold withNode withState in refl))
-      go false = fresh s m p none one
+      framed false = unfold unless outcome in fresh s m p none one
+
+      go : (tail : Bool) → OneCallee (set s p false) (outcome m (calling tail) .machine)
+      go true =
+          effect-callees (set s p false) m (calling true)
+          (unfold After Step.becomesCallee Step.goesOn enqueue withOrders in anew (set s p false) a _ refl) (fresh s m p none one)
+      go false = framed (Step.hasTokenPlace paper m)
 
 -- An answer leaves each token its caller
 pub answer-keeps : (s : List Bool) (d : Dag) (m : Machine) (h : ℕ) (v : ℤ) → OneCallee s m

@@ -8,6 +8,7 @@ use native.Mathlib.Omega.{arith}
 use lib.ListN.{getD}
 use lib.Dec.{ltb}
 use Rattle.job.specs.Node.{Dag, bodyAt}
+use Rattle.job.specs.Tail.{isTail}
 use Rattle.job.specs.Words.{dagOf}
 use Rattle.model.specs.Machine.Blank.{blankToken, tokenAt}
 use Rattle.model.specs.Machine.InUse.{tokensUsed, cellsUsed, marked}
@@ -144,7 +145,7 @@ module _ (dag : List ℕ) (place p at : ℕ) (m : Machine) where
   unfolding act withOrders
   site-step a = step-is a
 
-  -- fork, where and definition call, with room and without
+  -- fork, definition call and where, with room and without
   pub fork-step : {ws : List ℕ} {used cells : List Bool} → (new : ℕ) → hasTokenPlace paper m ≡ true
       → new ≡ nextPlace (tokensUsed m) (m .lasttoken) → Acting ws used cells dag place p at 3 m
       → Step.step paper (dagOf dag) m place
@@ -168,35 +169,56 @@ module _ (dag : List ℕ) (place p at : ℕ) (m : Machine) where
       (unless b 10 (Step.forked (dequeued m place) p t (nextPlace (tokensUsed m) (m .lasttoken)) (word 1) (word 2))))
       full
 
+  -- a definition call, by whether it is in tail position
+  abbrev root : ℕ
+  root = bodyAt (dagOf dag) (word 1) .root
+
+  body-step : {ws : List ℕ} {used cells : List Bool} (tail : Bool) → isTail (dagOf dag) (word 2) ≡ tail
+      → Acting ws used cells dag place p at 2 m
+      → Step.step paper (dagOf dag) m place ≡ outcome m (Step.callBody paper m (dequeued m place) p t root (paramsAt dag at) (word 2) tail)
+  unfolding act
+  body-step tail is a =
+      step-is a ∙ ap (λ b. outcome m (Step.callBody paper m (dequeued m place) p t root (paramsAt dag at) (word 2) b)) is
+
+  pub tail-step : {ws : List ℕ} {used cells : List Bool} → isTail (dagOf dag) (word 2) ≡ true → Acting ws used cells dag place p at 2 m
+      → Step.step paper (dagOf dag) m place
+      ≡ accepted replies.Done [] (enqueue p (put p (Step.callee (t .caller) t root (paramsAt dag at)) (dequeued m place)))
+  unfolding outcome Step.callBody Step.becomesCallee Step.goesOn
+  tail-step is a = body-step true is a
+
+  entered-step : {ws : List ℕ} {used cells : List Bool} (room : Bool) → hasTokenPlace paper m ≡ room
+      → isTail (dagOf dag) (word 2) ≡ false → Acting ws used cells dag place p at 2 m
+      → Step.step paper (dagOf dag) m place
+      ≡ outcome m
+      (unless room 10 (Step.entered (dequeued m place) p t (nextPlace (tokensUsed m) (m .lasttoken)) root (paramsAt dag at) (word 2)))
+  unfolding Step.callBody
+  entered-step room has is a =
+      body-step false is a
+      ∙ ap (λ b. outcome m
+      (unless b 10
+      (Step.entered (dequeued m place) p t (nextPlace (tokensUsed m) (m .lasttoken)) root (paramsAt dag at) (word 2)))) has
+
   pub call-step : {ws : List ℕ} {used cells : List Bool} → (new : ℕ) → hasTokenPlace paper m ≡ true
-      → new ≡ nextPlace (tokensUsed m) (m .lasttoken) → Acting ws used cells dag place p at 2 m
+      → new ≡ nextPlace (tokensUsed m) (m .lasttoken) → isTail (dagOf dag) (word 2) ≡ false → Acting ws used cells dag place p at 2 m
       → Step.step paper (dagOf dag) m place
       ≡ accepted replies.Done []
       (enqueue new
-      (newToken new (callee p (t .cell) (t .binds) (bodyAt (dagOf dag) (word 1) .root) (paramsAt dag at))
+      (newToken new (callee p (t .cell) (t .binds) root (paramsAt dag at))
       (put p (withNode (word 2) (withState states.Frame t)) (dequeued m place))))
-  unfolding act outcome unless Step.entered
-  call-step new room e a =
-      let root = bodyAt (dagOf dag) (word 1) .root in
-      step-is a
-      ∙ ap (λ b. outcome m
-      (unless b 10
-      (Step.entered (dequeued m place) p t (nextPlace (tokensUsed m) (m .lasttoken)) root (paramsAt dag at) (word 2)))) room
+  unfolding outcome unless Step.entered
+  call-step new room e is a =
+      entered-step true room is a
       ∙ ap
       (λ q.
       accepted replies.Done []
       (enqueue q (newToken q (callee p (t .cell) (t .binds) root (paramsAt dag at))
       (put p (withNode (word 2) (withState states.Frame t)) (dequeued m place))))) (sym e)
 
-  pub call-full : {ws : List ℕ} {used cells : List Bool} → hasTokenPlace paper m ≡ false → Acting ws used cells dag place p at 2 m
+  pub call-full : {ws : List ℕ} {used cells : List Bool} → hasTokenPlace paper m ≡ false → isTail (dagOf dag) (word 2) ≡ false
+      → Acting ws used cells dag place p at 2 m
       → Step.step paper (dagOf dag) m place ≡ outcome m (refuses 10)
-  unfolding act outcome unless
-  call-full full a =
-      let root = bodyAt (dagOf dag) (word 1) .root in
-      step-is a
-      ∙ ap (λ b. outcome m
-      (unless b 10
-      (Step.entered (dequeued m place) p t (nextPlace (tokensUsed m) (m .lasttoken)) root (paramsAt dag at) (word 2)))) full
+  unfolding unless
+  call-full full is a = entered-step false full is a
 
   abbrev splitting : (new c : ℕ) → Machine
   splitting new c =

@@ -1,5 +1,5 @@
--- `isTail` holds of a node exactly if `Tail` does. Where the looks that a node needs are one more, there is one more node that so many looks
--- are enough for; so none needs more looks than the dag has nodes. Assumes nothing.
+-- `isTail` holds of a node exactly if `Tail` does. Where the looks that a node needs are one more, one more node passes with so many looks;
+-- so none needs more looks than the dag has nodes. Assumes nothing.
 use mathlib.Core.Path.{_≡_, refl, sym, _∙_, ap}
 use mathlib.Core.Logic.{⊎-elim}
 use mathlib.Core.Bool.{Bool, true, false}
@@ -44,27 +44,27 @@ module _ (p q : ℕ → Bool) (f : (i : ℕ) → p i ≡ true → q i ≡ true) 
       here (yes s) below = omega (arith, count-more n, ap once (rw s at e), ap once (rw s at g))
       here (no d) below = omega (arith, once-more (p n) (q n) (f n), below (omega arith))
 
-module _ (d : Dag) where
-  -- what one look says, and what the looks behind it
-  unfoldable looked : Node → (ℕ → Bool) → Bool
-  looked node rest =
-      elim node [
-        | Node.stop ↦ false
-        | Node.site s ps k ↦ false
-        | Node.call e ps k ↦ false
-        | Node.fork l r ↦ false
-        | Node.assign x k ↦ false
-        | Node.remove x k ↦ rest k
-        | Node.where' x l r ↦ false
-        | Node.choke ↦ false
-        | Node.return ↦ true
-        | Node.publish ↦ false
-        | Node.unknown ↦ false
-      ]
+-- what one look says, and what the looks behind it
+unfoldable pub afterLook : Node → (ℕ → Bool) → Bool
+afterLook node rest =
+    elim node [
+      | Node.stop ↦ false
+      | Node.site s ps k ↦ false
+      | Node.call e ps k ↦ false
+      | Node.fork l r ↦ false
+      | Node.assign x k ↦ false
+      | Node.remove x k ↦ rest k
+      | Node.where' x l r ↦ false
+      | Node.choke ↦ false
+      | Node.return ↦ true
+      | Node.publish ↦ false
+      | Node.unknown ↦ false
+    ]
 
-  look : (looks n : ℕ) (node : Node) → nodeAt d n ≡ node → isTailWithin d (suc looks) n ≡ looked node (isTailWithin d looks)
-  unfolding isTailWithin looked
-  look looks n node e = rw (← e)
+module _ (d : Dag) where
+  pub one-look : (looks n : ℕ) (node : Node) → nodeAt d n ≡ node → isTailWithin d (suc looks) n ≡ afterLook node (isTailWithin d looks)
+  unfolding isTailWithin afterLook
+  one-look looks n node e = rw (← e)
 
   -- a node that passes is a return, or a remove whose next node passes
   data Passes (rest : ℕ → Bool) (n : ℕ) : Type 0 where
@@ -72,10 +72,10 @@ module _ (d : Dag) where
     at-remove : (x k : ℕ) → nodeAt d n ≡ Node.remove x k → rest k ≡ true → Passes rest n
 
   passes : (looks n : ℕ) → isTailWithin d (suc looks) n ≡ true → Passes (isTailWithin d looks) n
-  unfolding looked
-  passes looks n h = go (nodeAt d n) refl (sym (look looks n _ refl) ∙ h)
+  unfolding afterLook
+  passes looks n h = go (nodeAt d n) refl (sym (one-look looks n _ refl) ∙ h)
     where
-      go : (node : Node) → nodeAt d n ≡ node → looked node (isTailWithin d looks) ≡ true → Passes (isTailWithin d looks) n
+      go : (node : Node) → nodeAt d n ≡ node → afterLook node (isTailWithin d looks) ≡ true → Passes (isTailWithin d looks) n
       go Node.stop e t = clash t refl
       go (Node.site s ps k) e t = clash t refl
       go (Node.call f ps k) e t = clash t refl
@@ -90,26 +90,26 @@ module _ (d : Dag) where
 
   -- more looks do not harm
   one-more-look : (looks n : ℕ) → isTailWithin d looks n ≡ true → isTailWithin d (suc looks) n ≡ true
-  unfolding isTailWithin looked
+  unfolding isTailWithin afterLook
   one-more-look zero n h = clash h refl
   one-more-look (suc looks) n h = go (passes looks n h) (one-more-look looks)
     where
       go : Passes (isTailWithin d looks) n → ((k : ℕ) → isTailWithin d looks k ≡ true → isTailWithin d (suc looks) k ≡ true)
           → isTailWithin d (suc (suc looks)) n ≡ true
-      go (at-return e) more = look (suc looks) n _ e
-      go (at-remove x k e t) more = look (suc looks) n _ e ∙ more k t
+      go (at-return e) more = one-look (suc looks) n _ e
+      go (at-remove x k e t) more = one-look (suc looks) n _ e ∙ more k t
 
   more-looks : {few : ℕ} (n : ℕ) → isTailWithin d few n ≡ true → (looks : ℕ) → few ≤ looks → isTailWithin d looks n ≡ true
   more-looks n h = le-ind (λ looks. isTailWithin d looks n ≡ true) h (λ looks l. one-more-look looks n)
 
   -- past the last node there is none that passes
   passes-inside : (looks n : ℕ) → isTailWithin d (suc looks) n ≡ true → n < length (d .nodes)
-  unfolding nodeAt looked
+  unfolding nodeAt afterLook
   passes-inside looks n h = go (decLt n (length (d .nodes)))
     where
       go : Dec (n < length (d .nodes)) → n < length (d .nodes)
       go (yes l) = l
-      go (no l) = clash h (look looks n Node.unknown (List·getD-eq-default (d .nodes) Node.unknown (omega arith)))
+      go (no l) = clash h (one-look looks n Node.unknown (List·getD-eq-default (d .nodes) Node.unknown (omega arith)))
 
   -- how many nodes pass with so many looks
   unfoldable passing : (looks : ℕ) → ℕ
@@ -122,16 +122,16 @@ module _ (d : Dag) where
 
   -- a node that needs more than so many looks: more than so many nodes pass
   needed : (looks n : ℕ) → isTailWithin d looks n ≡ false → isTailWithin d (suc looks) n ≡ true → looks < passing (suc looks)
-  unfolding looked
+  unfolding afterLook
   needed zero n few enough = omega (arith, one-more-passes zero n few enough)
   needed (suc looks) n few enough = go (passes (suc looks) n enough) (needed looks)
     where
       go : Passes (isTailWithin d (suc looks)) n
           → ((k : ℕ) → isTailWithin d looks k ≡ false → isTailWithin d (suc looks) k ≡ true → looks < passing (suc looks))
           → suc looks < passing (suc (suc looks))
-      go (at-return e) below = clash (look looks n _ e) few
+      go (at-return e) below = clash (one-look looks n _ e) few
       go (at-remove x k e t) below =
-          omega (arith, below k (sym (look looks n _ e) ∙ few) t, one-more-passes (suc looks) n few enough)
+          omega (arith, below k (sym (one-look looks n _ e) ∙ few) t, one-more-passes (suc looks) n few enough)
 
   -- as many looks as there are nodes are enough
   enough-looks : (looks n : ℕ) → isTailWithin d looks n ≡ true → isTail d n ≡ true
@@ -145,9 +145,9 @@ module _ (d : Dag) where
           (omega (arith, needed looks n few h, count-small (isTailWithin d (suc looks)) (length (d .nodes))))
 
   looks-needed : {n : ℕ} → Tail d n → (looks : ℕ) × (isTailWithin d looks n ≡ true)
-  unfolding looked
-  looks-needed (return e) = (1, look 0 _ _ e)
-  looks-needed (remove e t) = let r = looks-needed t in (suc (r .0), look (r .0) _ _ e ∙ r .1)
+  unfolding afterLook
+  looks-needed (return e) = (1, one-look 0 _ _ e)
+  looks-needed (remove e t) = let r = looks-needed t in (suc (r .0), one-look (r .0) _ _ e ∙ r .1)
 
   tail-within : (looks n : ℕ) → isTailWithin d looks n ≡ true → Tail d n
   unfolding isTailWithin

@@ -6,6 +6,7 @@ use mathlib.Core.List.{List, []}
 use Prim.Native.Nat.{ℕ, _+_, _<_, _≤_}
 use lib.ListN.{getD, set}
 use Rattle.job.specs.Node.{bodyAt}
+use Rattle.job.specs.Tail.{isTail}
 use Rattle.job.specs.Words.{dagOf}
 use Rattle.model.specs.Machine.Blank.{blankToken, tokenAt}
 use Rattle.model.specs.Machine.InUse.{tokensUsed}
@@ -103,8 +104,8 @@ module _ (dag : List ℕ) (place p at : ℕ) (m : Machine) where
         gives-refused 10 r (a .taking .lawful) (fork-full dag place p at m (token-full (a .taking .lawful) next given l) a)
         e
 
-  module _ {ws : List ℕ} {used cells : List Bool} (a : Acting ws used cells dag place p at 2 m) {new last : ℕ}
-      (next : new ≡ nextOr 64 used last) (given : last ≡ m .lasttoken) where
+  module _ {ws : List ℕ} {used cells : List Bool} (a : Acting ws used cells dag place p at 2 m)
+      (is : isTail (dagOf dag) (word 2) ≡ false) {new last : ℕ} (next : new ≡ nextOr 64 used last) (given : last ≡ m .lasttoken) where
     pub call-gives : {after : List ℕ} (r : Report) (root next : ℕ) → root ≡ bodyAt (dagOf dag) (word 1) .root → next ≡ word 2 → new < 64
         → r ≡ plain replies.Done
         → Holds after
@@ -121,7 +122,7 @@ module _ (dag : List ℕ) (place p at : ℕ) (m : Machine) where
         (enqueue new (newToken new (callee p (t .cell) (t .binds) x (paramsAt dag at))
         (put p (withNode y (withState states.Frame t)) (dequeued m place)))))
         f g h in
-        gives-made _ r (call-step dag place p at m new (y .0) (y .1) a) e own
+        gives-made _ r (call-step dag place p at m new (y .0) (y .1) is a) e own
         (carried-as
         (entered-carried paper (dagOf dag) m (a .taking .lawful .rules) place (a .taking .queued) p (a .taking .token) fitting (y .0) new
         (y .1)
@@ -131,7 +132,7 @@ module _ (dag : List ℕ) (place p at : ℕ) (m : Machine) where
     pub call-refused : (r : Report) → 64 ≤ new → r ≡ plain (replies.Refused refusals.TokenLimit)
         → Gives (Step.step paper (dagOf dag) m place) m ws used cells r
     call-refused r l e =
-        gives-refused 10 r (a .taking .lawful) (call-full dag place p at m (token-full (a .taking .lawful) next given l) a)
+        gives-refused 10 r (a .taking .lawful) (call-full dag place p at m (token-full (a .taking .lawful) next given l) is a)
         e
 
   module _ {ws : List ℕ} {used cells : List Bool} (a : Acting ws used cells dag place p at 6 m) {new last : ℕ}

@@ -12,6 +12,7 @@ ghost use Rattle.model.specs.declared.record.Machine.{Machine};
 ghost use Rattle.record.specs.Holds.{Codes};
 ghost use Rattle.acts.specs.Acting.{SomeMachine, Acting};
 ghost use Rattle.acts.specs.SharedFrames.{OneCallee, callerShared, Stepped};
+use job::dag::NEXT_NODE;
 use job::dag::WORDS;
 use job::wide::wide;
 use model::record::Machine;
@@ -21,6 +22,9 @@ use returns::return_value::return_value;
 use spawns::definition_call::definition_call;
 use spawns::fork::fork;
 use spawns::where_split::where_split;
+use tail_calls::tail_call::tail_call;
+use tail_writes::tail::is_tail;
+use writes::dag::dag_word;
 
 // The caller of the token at p gets one more callee.
 fn share_caller(w: &[u32; Machine::WORDS], p: usize, shared: &mut [bool])
@@ -85,7 +89,7 @@ pub(crate) fn where_marked(
     where_split(w, tokens, cells, dag, place, p, at)
 }
 
-// Nobody named the token before it became a frame.
+// Nobody names the token: not before it becomes a frame, and not where it becomes the callee.
 pub(crate) fn call_marked(
     w: &mut [u32; Machine::WORDS],
     tokens: &mut [bool; Machine::TOKENS],
@@ -103,6 +107,10 @@ pub(crate) fn call_marked(
         (now (shared .exit)) r) ⌝ }
 {
     shared[p] = false;
+    let next = wide(dag_word(dag, at + NEXT_NODE));
+    if is_tail(dag, next) {
+        return tail_call(w, tokens, cells, dag, place, p, at);
+    }
     definition_call(w, tokens, cells, dag, place, p, at)
 }
 

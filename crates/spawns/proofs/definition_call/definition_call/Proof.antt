@@ -18,7 +18,7 @@ plain-requires : tie.Need-plain-requires
 plain-requires c κs = search needs
 
 returns : tie.Need-returns
-returns c = λ m a. call-refused _ _ _ _ m a (c .before .before .next-token .ensures)
+returns c = λ m a is. call-refused _ _ _ _ m a is (c .before .before .next-token .ensures)
     (c .before .before .before .last-token .ensures m (a .taking .lawful .holds .codes)) _ (search needs) (c .plain .ensures)
 
 add-dag-word : tie.Need-add-dag-word
@@ -63,13 +63,13 @@ plain-requires-2 : tie.Need-plain-requires-2
 plain-requires-2 c κs = search needs
 
 returns-2 : tie.Need-returns-2
-returns-2 c = λ m a.
+returns-2 c = λ m a is.
     let next = c .before .before .before .before .before .before .before .before .next-token .ensures in
     let last = c .before .before .before .before .before .before .before .before .before .last-token .ensures m
     (a .taking .lawful .holds .codes) in
     let body = call-root _ _ _ (row a)
     (c .before .before .before .before .before .wide .ensures ∙ c .before .before .before .before .before .before .dag-word .ensures) in
-    call-gives _ _ _ _ m a next last _ _ _ (c .before .before .before .before .dag-word2 .ensures ∙ body .2)
+    call-gives _ _ _ _ m a is next last _ _ _ (c .before .before .before .before .dag-word2 .ensures ∙ body .2)
     (c .before .before .dag-word3 .ensures) (search needs) (c .plain2 .ensures)
     (c .before .written .ensures m (a .taking .lawful .holds) (a .taking .queued) (new-apart (a .taking) next last (search needs))
     (new-blank (a .taking) next last (search needs)))

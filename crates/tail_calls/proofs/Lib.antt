@@ -1,0 +1,2 @@
+-- What a tail call leaves.
+pub mod BecomesCallee

@@ -1,0 +1,140 @@
+-- A turn of the test for a tail call does what one look of `isTailWithin` does: the kind in a node's row says which node it is. Assumes
+-- nothing.
+use mathlib.Core.Path.{_≡_, refl, sym, ap, subst, _∙_}
+use mathlib.Core.Bool.{Bool, true, false}
+use mathlib.Core.List.{List}
+use Prim.Native.Nat.{ℕ, zero, suc, _+_, _-_, _*_, _<_, _≤_}
+use native.Mathlib.Omega.{arith}
+use lib.ListN.{length, getD, drop}
+use lib.Dec.{ltb}
+use Rattle.job.specs.Node.{Node, nodeHolds, isNode, paramsHold}
+use Rattle.job.specs.Syntax.{Param}
+use Rattle.job.specs.Tail.{isTailWithin, isTail}
+use Rattle.job.specs.Words.{dagOf, headWords}
+use Rattle.job.proofs.DagRules.{dag-rules}
+use Rattle.job.proofs.Tail.{afterLook, one-look}
+use Rattle.job.proofs.Test.{and-right, ltb-lt}
+use Rattle.job.proofs.Words.{length-nodesFrom}
+use Rattle.sites.specs.Row.{rowOf, paramsAt, NodeRow, nodeIn, nodeOfKind}
+use Rattle.sites.proofs.RowKinds.{node-is, node-holds}
+use Rattle.tail_writes.specs.Tail.{NodeInside}
+
+-- how many nodes there are
+pub node-count : (ws : List ℕ) → getD ws 0 0 ≡ length (dagOf ws .nodes)
+unfolding dagOf
+node-count ws = sym (length-nodesFrom (getD ws 0 0) (drop headWords ws))
+
+-- a node that is no remove and no return
+other-kind : (rest : ℕ → Bool) (a b c : ℕ) (ps : List Param) (k : ℕ) → (k ≡ 5 → ⊥) → (k ≡ 8 → ⊥)
+    → afterLook (nodeOfKind a b c ps k) rest ≡ false
+unfolding afterLook
+other-kind rest a b c ps zero f g = refl
+other-kind rest a b c ps (suc zero) f g = refl
+other-kind rest a b c ps (suc (suc zero)) f g = refl
+other-kind rest a b c ps (suc (suc (suc zero))) f g = refl
+other-kind rest a b c ps (suc (suc (suc (suc zero)))) f g = refl
+other-kind rest a b c ps (suc (suc (suc (suc (suc zero))))) f g = absurd (f refl)
+other-kind rest a b c ps (suc (suc (suc (suc (suc (suc zero)))))) f g = refl
+other-kind rest a b c ps (suc (suc (suc (suc (suc (suc (suc zero))))))) f g = refl
+other-kind rest a b c ps (suc (suc (suc (suc (suc (suc (suc (suc zero)))))))) f g = absurd (g refl)
+other-kind rest a b c ps (suc (suc (suc (suc (suc (suc (suc (suc (suc zero))))))))) f g = refl
+other-kind rest a b c ps (suc (suc (suc (suc (suc (suc (suc (suc (suc (suc k)))))))))) f g = refl
+
+module _ (ws : List ℕ) (node : ℕ) (o : NodeInside ws node) where
+  row-within : rowOf node + 12 ≤ 12331
+  row-within =
+      let f : length (dagOf ws .nodes) ≤ 1022 = dag-rules (dagOf ws) (o .dag) .nodes-few in
+      let l : node < length (dagOf ws .nodes) = o .inside in
+      omega arith
+
+  abbrev the-row : NodeRow ws (rowOf node) (getD ws (rowOf node) 0)
+  the-row = record { size = o .size; dag = o .dag; node = node; inside = o .inside; row = refl; kind = refl }
+
+  look : (looks : ℕ) → isTailWithin (dagOf ws) (suc looks) node
+      ≡ afterLook (nodeIn ws (rowOf node) (getD ws (rowOf node) 0)) (isTailWithin (dagOf ws) looks)
+  look looks = one-look (dagOf ws) looks node _ (node-is ws (rowOf node) _ the-row)
+
+  at-return : (looks : ℕ) → getD ws (rowOf node) 0 ≡ 8 → isTailWithin (dagOf ws) (suc looks) node ≡ true
+  unfolding afterLook
+  at-return looks e = look looks ∙ ap (λ k. afterLook (nodeIn ws (rowOf node) k) (isTailWithin (dagOf ws) looks)) e
+
+  at-remove : (looks : ℕ) → getD ws (rowOf node) 0 ≡ 5
+      → isTailWithin (dagOf ws) (suc looks) node ≡ isTailWithin (dagOf ws) looks (getD ws (rowOf node + 2) 0)
+  unfolding afterLook
+  at-remove looks e = look looks ∙ ap (λ k. afterLook (nodeIn ws (rowOf node) k) (isTailWithin (dagOf ws) looks)) e
+
+  at-other : (looks : ℕ) → (getD ws (rowOf node) 0 ≡ 5 → ⊥) → (getD ws (rowOf node) 0 ≡ 8 → ⊥)
+      → isTailWithin (dagOf ws) (suc looks) node ≡ false
+  at-other looks f g = look looks ∙ other-kind _ _ _ _ _ _ f g
+
+  next-inside : getD ws (rowOf node) 0 ≡ 5 → NodeInside ws (getD ws (rowOf node + 2) 0)
+  unfolding nodeHolds isNode
+  next-inside e =
+      record {
+        size = o .size;
+        dag = o .dag;
+        inside =
+            ltb-lt _ _ (and-right (ltb (getD ws (rowOf node + 1) 0) 8) _
+            (subst (λ k. nodeHolds (dagOf ws) (nodeIn ws (rowOf node) k) ≡ true) e (node-holds ws (rowOf node) _ the-row)));
+      }
+
+-- the next node of a definition call
+pub call-next : (ws : List ℕ) (at : ℕ) {next : ℕ} → NodeRow ws at 2 → next ≡ getD ws (at + 2) 0 → NodeInside ws next
+unfolding nodeHolds isNode
+call-next ws at o e =
+    subst (NodeInside ws) (sym e)
+    (record {
+      size = o .size;
+      dag = o .dag;
+      inside =
+          ltb-lt _ _
+          (and-right (paramsHold (paramsAt ws at)) _
+          (and-right (ltb (getD ws (at + 1) 0) (length (dagOf ws .bodies))) _ (node-holds ws at 2 o)));
+    })
+
+-- the test's turns: so many looks of those that are allowed are done
+pub record Looking (ws : List ℕ) (next count node looks : ℕ) : Type 0 where
+  pub here : NodeInside ws node
+  pub row : rowOf node + 12 ≤ 12331
+  pub nodes : count ≡ length (dagOf ws .nodes)
+  pub done : looks ≤ count
+  pub left : isTail (dagOf ws) next ≡ isTailWithin (dagOf ws) (count - looks) node
+
+pub looking-begins : (ws : List ℕ) (next count : ℕ) → NodeInside ws next → count ≡ getD ws 0 0 → Looking ws next count next 0
+unfolding isTail
+looking-begins ws next count o e =
+    let n = e ∙ node-count ws in
+    let z : length (dagOf ws .nodes) ≡ count - 0 = omega arith in
+    record { here = o; row = row-within ws next o; nodes = n; done = omega arith; left = ap (λ k. isTailWithin (dagOf ws) k next) z }
+
+pub looked-at-all : (ws : List ℕ) (next count node looks : ℕ) → Looking ws next count node looks → count ≤ looks
+    → false ≡ isTail (dagOf ws) next
+unfolding isTailWithin
+looked-at-all ws next count node looks l f =
+    let d : looks ≤ count = l .done in
+    let z : count - looks ≡ 0 = omega arith in
+    sym (l .left ∙ ap (λ k. isTailWithin (dagOf ws) k node) z)
+
+module _ (ws : List ℕ) (next count node looks : ℕ) (more : looks < count) (l : Looking ws next count node looks) where
+  one-left : isTail (dagOf ws) next ≡ isTailWithin (dagOf ws) (suc (count - (looks + 1))) node
+  one-left =
+      let e : count - looks ≡ suc (count - (looks + 1)) = omega arith in
+      l .left ∙ ap (λ k. isTailWithin (dagOf ws) k node) e
+
+  pub found-return : getD ws (rowOf node) 0 ≡ 8 → true ≡ isTail (dagOf ws) next
+  found-return e = sym (one-left ∙ at-return ws node (l .here) _ e)
+
+  pub found-other : (getD ws (rowOf node) 0 ≡ 8 → ⊥) → (getD ws (rowOf node) 0 ≡ 5 → ⊥) → false ≡ isTail (dagOf ws) next
+  found-other g f = sym (one-left ∙ at-other ws node (l .here) _ f g)
+
+  pub found-remove : (k : ℕ) → getD ws (rowOf node) 0 ≡ 5 → k ≡ getD ws (rowOf node + 2) 0 → Looking ws next count k (looks + 1)
+  found-remove k e f =
+      let o = next-inside ws node (l .here) e in
+      subst (λ k. Looking ws next count k (looks + 1)) (sym f)
+      (record {
+        here = o;
+        row = row-within ws _ o;
+        nodes = l .nodes;
+        done = omega arith;
+        left = one-left ∙ at-remove ws node (l .here) _ e;
+      })

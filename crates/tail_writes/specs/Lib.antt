@@ -1,0 +1,3 @@
+-- A node of a dag that keeps the rules; bindings as words.
+pub mod Tail
+pub mod Passing
