@@ -10,7 +10,7 @@ use Rattle.job.specs.Decimal.{ascii}
 use Rattle.job.specs.Entry.{tableLength}
 use Rattle.job.specs.Encode.{encode}
 use Rattle.job.specs.Read.{accepted, readTable}
-use Rattle.model.specs.Machine.Limits.{paper}
+use Rattle.model.specs.Machine.Limits.{Limits, limits, paper}
 use Rattle.model.specs.Machine.InUse.{tokensUsed, marked}
 use Rattle.model.specs.Output.Line.{end, limit, textOfAll}
 use Rattle.model.specs.Output.Orcrun.{orcrun}
@@ -22,42 +22,55 @@ use Rattle.model.proofs.Run.Computing.{computing}
 use Rattle.model.proofs.Run.Printing.{orcrun-runs}
 use Rattle.model.proofs.Run.Looping.{ComesBack, QuietStep, comes-back, none-refused, run-loops}
 
--- the goal's call
-goal-calls : QuietStep paper dag (started runner paper dag) (after 1)
+-- the goal's call leads to a record with two tokens in use, and E()'s own call hands that record back
+record Calls (lim : Limits) : Type 0 where
+  first : QuietStep lim dag (started runner lim dag) (after lim 1)
+  again : QuietStep lim dag (after lim 1) (after lim 1)
+  two : marked (tokensUsed (after lim 1)) ≡ 2
+
+-- so it does after any number of calls
+module _ (lim : Limits) (calls : Calls lim) where
+  back : ComesBack lim dag (after lim 1) (step 0)
+  unfolding outcomeOf
+  back = record { accepted = calls .again .accepted; same = calls .again .hands }
+
+  same : (n : ℕ) → after lim (suc n) ≡ after lim 1
+  unfolding machineAfter
+  same n = comes-back lim dag back n
+
+  fine : (n : ℕ) → noneRefused runner lim dag (started runner lim dag) (house n) ≡ true
+  unfolding noneRefused machineAfter outcomeOf
+  fine zero = refl
+  fine (suc n) = rw (calls .first .accepted, noneRefused) (none-refused lim dag back n)
+
+  counted : Endless lim
+  counted =
+      record { none-refused = fine; same-record = same; two-tokens = λ n. ap (λ m. marked (tokensUsed m)) (same n) ∙ calls .two }
+
+-- with the paper's numbers, and with two tokens in all: "10 is then not given for such a call"
+calls-of-paper : Calls paper
 unfolding computing outcomeOf machineAfter
-goal-calls =
-    let one : started runner paper dag .queued ≡ 1 = refl in
-    record { ready = omega arith; accepted = refl; quiet = refl; hands = refl }
+calls-of-paper =
+    record {
+      first = record { ready = refl; accepted = refl; quiet = refl; hands = refl };
+      again = record { ready = refl; accepted = refl; quiet = refl; hands = refl };
+      two = refl;
+    }
 
--- E()'s own: the record comes back
-loop-calls : QuietStep paper dag (after 1) (after 1)
+calls-of-two : Calls (limits 2 1 0)
 unfolding computing outcomeOf machineAfter
-loop-calls =
-    let one : after 1 .queued ≡ 1 = refl in
-    record { ready = omega arith; accepted = refl; quiet = refl; hands = refl }
+calls-of-two =
+    record {
+      first = record { ready = refl; accepted = refl; quiet = refl; hands = refl };
+      again = record { ready = refl; accepted = refl; quiet = refl; hands = refl };
+      two = refl;
+    }
 
-two-in-use : marked (tokensUsed (after 1)) ≡ 2
-unfolding computing outcomeOf machineAfter
-two-in-use = refl
+pub endless : Endless paper
+endless = counted paper calls-of-paper
 
-back : ComesBack paper dag (after 1) (step 0)
-unfolding outcomeOf
-back = record { accepted = loop-calls .accepted; same = loop-calls .hands }
-
-same : (n : ℕ) → after (suc n) ≡ after 1
-unfolding machineAfter outcomeOf
-same n = comes-back paper dag back n
-
-pub endless : Endless
-unfolding noneRefused machineAfter outcomeOf
-endless = record { none-refused = none; same-record = same; two-tokens = two }
-  where
-    none : (n : ℕ) → noneRefused runner paper dag (started runner paper dag) (house n) ≡ true
-    none zero = refl
-    none (suc n) = rw (goal-calls .accepted, noneRefused) (none-refused paper dag back n)
-
-    two : (n : ℕ) → marked (tokensUsed (after (suc n))) ≡ 2
-    two n = ap (λ m. marked (tokensUsed m)) (same n) ∙ two-in-use
+pub endless-with-two : Endless (limits 2 1 0)
+endless-with-two = counted (limits 2 1 0) calls-of-two
 
 -- its marked run: a short input, whose table is read as this program; what the run prints, as text
 short : length (encode looping) ≤ 65536
@@ -76,4 +89,4 @@ pub loop-prints : orcrun (encode looping) ≡ ascii "limit\nend 100000\n"
 loop-prints =
     let rest = drop (tableLength (encode looping)) (encode looping) in
     orcrun-runs (encode looping) looping short read
-    ∙ (ap textOfAll (run-loops paper dag 100000 rest goal-calls loop-calls (omega arith)) ∙ text)
+    ∙ (ap textOfAll (run-loops paper dag 100000 rest (calls-of-paper .first) (calls-of-paper .again) (omega arith)) ∙ text)

@@ -6,6 +6,7 @@ use mathlib.Core.List.{List, [], _∷_}
 use Prim.Native.Nat.{ℕ, zero, suc, _+_, _-_, _<_}
 use native.Mathlib.Omega.{arith}
 use lib.ListN.{length, replicate}
+use lib.Dec.{ltb}
 use Rattle.job.specs.Node.{Dag}
 use Rattle.model.specs.Machine.Limits.{Limits}
 use Rattle.model.specs.Machine.Reply.{isRefused}
@@ -14,6 +15,7 @@ use Rattle.model.specs.Output.Line.{end, limit}
 use Rattle.model.specs.Output.Orcrun.{Standing, reportedLines, turnLines, runLines}
 use Rattle.model.specs.Run.Call.{Call, runner, outcomeOf, machineAfter, noneRefused, started}
 use Rattle.model.specs.declared.record.Machine.{Machine}
+use Rattle.job.proofs.Test.{ltb-lt}
 use Rattle.model.proofs.Run.Printing.{turn-limit, turn-step}
 
 module _ (lim : Limits) (d : Dag) where
@@ -36,7 +38,7 @@ module _ (lim : Limits) (d : Dag) where
 
   -- a token is ready, and the house step is accepted, prints nothing and hands back this record
   pub record QuietStep (m after : Machine) : Type 0 where
-    pub ready : 0 < m .queued
+    pub ready : ltb 0 (m .queued) ≡ true
     pub accepted : isRefused (step lim d m 0 .reply) ≡ false
     pub quiet : reportedLines (step lim d m 0 .reply) (step lim d m 0 .values) ≡ []
     pub hands : step lim d m 0 .machine ≡ after
@@ -51,7 +53,7 @@ module _ (lim : Limits) (d : Dag) where
         → turnLines lim most d (suc fuel) (standing m s) ≡ turnLines lim most d fuel (standing after (suc s))
     unfolding turnLines
     quiet-turn {m} q s fuel l =
-        let r = q .ready in
+        let r = ltb-lt 0 (m .queued) (q .ready) in
         rw (turn-step lim most d (standing m s) (λ e. omega arith) l (q .accepted), turnLines, q .quiet, q .hands) refl
 
     -- "with 100,000 steps made and a token ready: `limit`, then `end`": there are k steps to go, and as many turns and one
@@ -60,7 +62,7 @@ module _ (lim : Limits) (d : Dag) where
     unfolding turnLines
     loops q k s zero e l = absurd (omega arith)
     loops {m} q zero s (suc fuel) e l =
-        let r = q .ready in
+        let r = ltb-lt 0 (m .queued) (q .ready) in
         let z : s ≡ most = omega arith in
         rw (turn-limit lim most d (standing m s) (λ e. omega arith) (omega arith), turnLines, z) refl
     loops q (suc k) s (suc fuel) e l =

@@ -1,5 +1,5 @@
 -- Runs with calls in tail position, by computation: which calls keep a frame, and what becomes of the token where none is kept. Each is
--- true because the checker works the run out. Assumes nothing.
+-- true because the checker works the run out, with small tables. Assumes nothing.
 use mathlib.Core.Path.{_≡_, refl}
 use mathlib.Core.Bool.{true}
 use mathlib.Core.List.{List, [], _∷_, map}
@@ -19,17 +19,21 @@ use Rattle.model.specs.declared.token.Held.the-variants as helds
 use Rattle.model.specs.declared.token.Place.the-variants as places
 use Rattle.model.specs.declared.token.State.the-variants as states
 use Rattle.model.specs.declared.token.Token.{Token}
+use Rattle.model.specs.declared.record.Machine.{Machine}
 use Rattle.calculus.proofs.Programs.{E, defining}
 use Rattle.model.proofs.Run.Computing.{computing}
-use Rattle.model.proofs.Run.Worked.{house, after}
+use Rattle.model.proofs.Run.Worked.{house}
 
--- the token at a place after so many steps in house order
+-- the record after so many steps in house order, with 4 tokens and 2 cells; the token at a place of it, and how many are in use
+abbrev after : Program → (steps : ℕ) → Machine
+after p n =
+    machineAfter runner (limits 4 2 0) (construct p) (started runner (limits 4 2 0) (construct p)) (house n)
+
 abbrev tokenOf : Program → (steps place : ℕ) → Token
-tokenOf p n place = tokenAt (after runner p (house n) .tokens) place
+tokenOf p n place = tokenAt (after p n .tokens) place
 
--- how many are in use
 abbrev inUse : Program → (steps : ℕ) → ℕ
-inUse p n = marked (tokensUsed (after runner p (house n)))
+inUse p n = marked (tokensUsed (after p n))
 
 -- "A goal's own calls still keep one": E() = E(), goal E(). "The token itself becomes the callee": the frame stays the only one, and the
 -- place last given the callee's
@@ -40,7 +44,7 @@ pub goals-call-keeps-a-frame : (tokenOf callsItself 1 0 .state ≡ states.Frame)
 unfolding computing outcomeOf machineAfter
 goals-call-keeps-a-frame = (refl, refl)
 
-pub tail-call-keeps-no-frame : (inUse callsItself 5 ≡ 2) × (after runner callsItself (house 5) .lasttoken ≡ 1)
+pub tail-call-keeps-no-frame : (inUse callsItself 5 ≡ 2) × (after callsItself 5 .lasttoken ≡ 1)
 unfolding computing outcomeOf machineAfter
 tail-call-keeps-no-frame = (refl, refl)
 
@@ -96,7 +100,7 @@ unfolding computing outcomeOf machineAfter
 cell-passed-on = refl
 
 abbrev cellValues : (steps : ℕ) → List Held
-cellValues n = map (λ c. cellAt (after runner passesItsCell (house n) .cells) c .value) (0 ∷ 1 ∷ [])
+cellValues n = map (λ c. cellAt (after passesItsCell n .cells) c .value) (0 ∷ 1 ∷ [])
 
 pub cell-goes-out-of-use :
     (cellValues 14 ≡ helds.Value (pos 7) ∷ helds.Value (pos 7) ∷ []) × (cellValues 15 ≡ helds.Nothing ∷ helds.Value (pos 7) ∷ [])
