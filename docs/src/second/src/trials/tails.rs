@@ -93,24 +93,26 @@ fn removes() -> Vec<Trial> {
         ),
         called("a tail call behind two removes, one further on", &one, &backward, |_| {}),
         called("a tail call behind three removes of one variable", &one, &from, |_| {}),
-        called(
-            "a tail call behind as many removes as there may be",
-            &one,
-            &{
-                let mut rest: Vec<Node> = (1..MOST_NODES - 2).map(|at| remove(0, at + 1)).collect();
-                rest.push(Node::Return);
-                rest
-            },
-            |_| {},
-        ),
+        filled("a tail call behind as many removes as there may be", Node::Return),
     ]
+}
+
+/// A call, then as many removes, one after the other, as a dag has room for, and this node at its end,
+/// at which the definition begins.
+fn filled(name: &str, last: Node) -> Trial {
+    let removes = (1..MOST_NODES - 1).map(|at| remove(0, at + 1));
+    let nodes: Vec<Node> =
+        [call(&[constant(1)], 1)].into_iter().chain(removes).chain([last]).collect();
+    assert_eq!(nodes.len(), MOST_NODES);
+    let mut draft = one_token(&nodes);
+    *draft.token(9) = Token { state: State::Frame, ..Token::BLANK };
+    draft.token(0).caller = Some(9);
+    trial(Expected::Near, name, draft, &[Step(0)])
 }
 
 /// Removes that go in a circle lead to no return: the call keeps a frame.
 fn circles() -> Vec<Trial> {
     let one = [constant(1)];
-    let all: Vec<Node> =
-        (1..MOST_NODES - 1).map(|at| remove(0, at % (MOST_NODES - 2) + 1)).collect();
     vec![
         called("a call in front of a remove that leads to itself", &one, &[remove(0, 1)], |_| {}),
         called(
@@ -125,12 +127,7 @@ fn circles() -> Vec<Trial> {
             &[remove(0, 2), remove(1, 3), remove(2, 2), Node::Return],
             |_| {},
         ),
-        called(
-            "a call in front of as many removes in a circle as there may be",
-            &one,
-            &all,
-            |_| {},
-        ),
+        filled("a call in front of as many removes in a circle as there may be", remove(0, 1)),
     ]
 }
 
