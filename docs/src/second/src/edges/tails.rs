@@ -76,7 +76,7 @@ fn endless() -> Vec<Edge> {
     ]
 }
 
-/// (let(x) >y> L()) <x< signal()
+/// (let(x) >y> F()) <x< signal(), with F the first definition
 fn drops_a_set_cell() -> Expr {
     prune(sequence(give(Var(0)), first()), signal())
 }
@@ -282,7 +282,31 @@ fn cells() -> Vec<Edge> {
             first(),
             &format!("{}refused 11\nend 97\n", called(0..32, "16")),
         ),
+        many_dropped_at_once(),
+        many_dropped_in_turn(),
     ]
+}
+
+/// F() = site16() <x< signal(), and 31 calls that drop a cell, side by side: their cells are blank when
+/// F makes 31 new ones. The goal's call, 30 forks; for each where, a wait, signal, choke, let, assign,
+/// call; where, the outside call, signal, choke.
+fn many_dropped_at_once() -> Edge {
+    let makes = prune(site(16, &[]), signal());
+    let body = forks(&vec![drops_a_set_cell(); 31]);
+    let lines = format!("{}end {}\n", called(0..31, "16"), 1 + 30 + 31 * 11);
+    case("31 cells dropped, then 31 made", vec![(0, makes), (0, body)], call(1, &[]), &lines)
+}
+
+/// F() = site16(), and 40 answers, each of which makes a cell and drops it: none stays bound in the
+/// tokens that are called out. The goal's call, 39 forks, 40 outside calls; for each answer assign,
+/// where, a wait, signal, choke, let, assign, call and the outside call.
+fn many_dropped_in_turn() -> Edge {
+    let drops = prune(sequence(give(Var(1)), first()), signal());
+    let body = sequence(forks(&vec![site(17, &[]); 40]), drops);
+    let answers: Vec<(u32, i32)> = (0..40).map(|handle| (39 - handle, 1)).collect();
+    let lines = format!("{}{}end {}\n", called(0..40, "17"), called(40..80, "16"), 80 + 40 * 9);
+    let definitions = vec![(0, site(16, &[])), (0, body)];
+    answered("40 cells dropped in turn", definitions, call(1, &[]), &answers, &lines)
 }
 
 /// 62 outside calls, the goal's frame and the token that it calls: 62 forks, a call and 63 outside
