@@ -59,7 +59,8 @@ loop-again c =
       search needs,
       λ m t bs h size o.
           let long = binds-long m (a .p) t h (c .before .before .before .before .before .before .pre) in
-          carry-binds m (a .p) t (bound-on (t .binds) bs long size (l .x) (c .before .before .before .before .loop-test .taken))
+          carry-binds m (a .p) t (bound-on (t .binds) bs long size (l .x)
+          (omega (arith, c .before .before .before .before .loop-test .taken)))
           (unfold withBinding in
           c .set-bind .ensures m _ (getD bs (l .x) empty .slot) (l .inv .1 m t bs h size o) (kind-at o (l .x)) (number-at o (l .x))),
     )
