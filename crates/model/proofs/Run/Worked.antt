@@ -9,9 +9,9 @@ use lib.IntN.{pos}
 use Rattle.job.specs.Number.{Signed32, fits}
 use Rattle.job.specs.Syntax.{Program, stop}
 use Rattle.job.specs.Construct.{construct}
-use Rattle.job.specs.Notation.{_∥_, _<[_]<_, v, #, goal}
+use Rattle.job.specs.Notation.{_∥_, _<[_]<_, v, goal}
 use Rattle.model.specs.Machine.Limits.{paper}
-use Rattle.model.specs.Machine.Blank.{empty, blankToken, tokenAt}
+use Rattle.model.specs.Machine.Blank.{empty, tokenAt}
 use Rattle.model.specs.Machine.Update.{queueOf}
 use Rattle.calculus.specs.Event.{Event}
 use Rattle.model.specs.Run.Call.{Call, Runner, runner, outcomeOf, eventsOf, eventsFrom, machineAfter, started}
@@ -23,7 +23,7 @@ use Rattle.model.specs.declared.token.State.the-variants as states
 use Rattle.model.specs.declared.token.Token.{Token}
 use Rattle.model.specs.declared.record.Machine.{Machine}
 use Rattle.job.proofs.Test.{lt-ltb}
-use Rattle.calculus.proofs.Programs.{defining, E, ask, tell, mail-once, not-strict, same-number}
+use Rattle.calculus.proofs.Programs.{ask, tell, mail-once, not-strict, same-number}
 use Rattle.model.proofs.Run.Computing.{computing}
 
 -- so many steps in house order
@@ -112,27 +112,3 @@ frame-keeps-its-value = (refl, refl)
 pub called-out-keeps-its-value : (tokenCalledOut .state ≡ states.Called 0) × (tokenCalledOut .value ≡ helds.Value (pos 4))
 unfolding computing outcomeOf machineAfter
 called-out-keeps-its-value = (refl, refl)
-
--- document 02, request 2. E(x, y) = E(y, x), goal E(1, 2): the goal's own call keeps a frame, and its callee is the token at 1; the call
--- in E keeps none: that token itself has the formals anew, and the caller that it had
-abbrev swapping : Program
-swapping = defining 2 (E (v 1 ∷ v 0 ∷ [])) (E (# 1 ∷ # 2 ∷ []))
-
-abbrev afterTailCall : Machine
-afterTailCall = after runner swapping (house 2)
-
-abbrev tailCallee : Token
-tailCallee = tokenAt (afterTailCall .tokens) 1
-
-pub tail-call-keeps-no-frame : (queueOf afterTailCall ≡ 1 ∷ []) × (tokenAt (afterTailCall .tokens) 2 ≡ blankToken)
-unfolding computing outcomeOf machineAfter
-tail-call-keeps-no-frame = (refl, refl)
-
-pub tail-callee-inherits : (tailCallee .caller ≡ places.At 0)
-    × (tailCallee .binds ≡ record { slot = slots.Value (pos 2) } ∷ record { slot = slots.Value (pos 1) } ∷ replicate 6 empty)
-unfolding computing outcomeOf machineAfter
-tail-callee-inherits = (refl, refl)
-
-pub goal-call-keeps-a-frame : tokenAt (afterTailCall .tokens) 0 .state ≡ states.Frame
-unfolding computing outcomeOf machineAfter
-goal-call-keeps-a-frame = refl
