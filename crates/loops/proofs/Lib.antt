@@ -7,3 +7,4 @@ pub mod Room
 pub mod NotFull
 pub mod BoundedRuns
 pub mod Bounded
+pub mod Worked

@@ -5,7 +5,7 @@ use Prim.Native.String.{String}
 use lib.IntN.{ℤ, pos}
 use Rattle.job.specs.Number.{bytes, unsigned}
 use Rattle.job.specs.Decimal.{ascii}
-use Rattle.job.specs.Syntax.{stop, call}
+use Rattle.job.specs.Syntax.{Program, stop, call}
 use Rattle.job.specs.Encode.{encode}
 use Rattle.job.specs.Notation.{_∥_, _>[_]>_, _<[_]<_, v, #, let′, signal, add, goal, calling}
 
@@ -19,6 +19,10 @@ pub record Case : Type 0 where
 
 abbrev pub caseOf : List ℕ → String → Case
 caseOf i s = record { input = i; output = ascii s }
+
+-- E() = E(), goal E()
+abbrev pub looping : Program
+looping = calling (call 0 [])
 
 abbrev pub markedRuns : List Case
 markedRuns =
@@ -39,8 +43,8 @@ markedRuns =
     ∷ caseOf (encode (goal (add (# 2147483646) (# 1)))) "publish 2147483647\nend 2\n"
     ∷ caseOf (encode (goal ((let′ (# 1) ∥ let′ (# 2)) >[ 0 ]> let′ (v 0)))) "publish 1\npublish 2\nend 11\n"
     ∷ caseOf (encode (goal (let′ (v 0) <[ 0 ]< (let′ (# 1) ∥ let′ (# 2))))) "publish 1\nend 9\n"
-    -- E() = E(), goal E()
-    ∷ caseOf (encode (calling (call 0 []))) "refused 10\nend 63\n"
+    -- E() = E(), goal E(): document 02, request 2, "prints `limit` and `end 100000`"
+    ∷ caseOf (encode looping) "limit\nend 100000\n"
     -- W() = stop <x< W(), goal W()
     ∷ caseOf (encode (calling (stop <[ 0 ]< call 0 []))) "refused 11\nend 97\n"
     ∷ []

@@ -1,1 +1,1 @@
-// The twelve marked runs, as one theorem over one list. Nothing of it runs.
+// The twelve marked runs, as one theorem over one list; and the loops of document 02 that never end. Nothing of it runs.

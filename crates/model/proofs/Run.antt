@@ -8,6 +8,7 @@ pub mod ChokeStands
 pub mod Passage
 pub mod RunWithin
 pub mod Printing
+pub mod Looping
 pub mod Grammar
 pub mod Numbers
 pub mod StepStands
@@ -19,5 +20,6 @@ pub mod Last
 pub mod LoadedRuns
 pub mod Worked
 pub mod ClockRuns
+pub mod TailRuns
 pub mod Broken
 pub mod ReadTables

@@ -77,7 +77,7 @@ module _ (lim : Limits) (most : ℕ) (d : Dag) where
     abbrev stepped : Standing
     stepped = record { machine = o .machine; steps = suc (s .steps); rest = s .rest }
 
-    turn-limit : (s .machine .queued ≡ 0 → ⊥) → most ≤ s .steps → turn lim most d s ≡ over (limit ∷ end (s .steps) ∷ [])
+    pub turn-limit : (s .machine .queued ≡ 0 → ⊥) → most ≤ s .steps → turn lim most d s ≡ over (limit ∷ end (s .steps) ∷ [])
     unfolding turn stepTurn
     turn-limit q l = rw (ne-eqb (s .machine .queued) 0 q, le-not-ltb (s .steps) most l, turn, stepTurn) refl
 
@@ -86,7 +86,7 @@ module _ (lim : Limits) (most : ℕ) (d : Dag) where
     unfolding turn stepTurn
     turn-refused q l e = rw (ne-eqb (s .machine .queued) 0 q, lt-ltb (s .steps) most l, e, turn, stepTurn) refl
 
-    turn-step : (s .machine .queued ≡ 0 → ⊥) → s .steps < most → isRefused (o .reply) ≡ false
+    pub turn-step : (s .machine .queued ≡ 0 → ⊥) → s .steps < most → isRefused (o .reply) ≡ false
         → turn lim most d s ≡ on (reportedLines (o .reply) (o .values)) stepped
     unfolding turn stepTurn
     turn-step q l e = rw (ne-eqb (s .machine .queued) 0 q, lt-ltb (s .steps) most l, e, turn, stepTurn) refl
@@ -239,15 +239,20 @@ module _ (input : List ℕ) where
   unfolding orcrun inputLines tableLines
   orcrun-declines n e l r = rw (le-leb (length input) 65536 l, r, inputLines, tableLines) refl
 
+  -- what it prints of an accepted table is what a run prints
+  pub orcrun-runs : (p : Program) → length input ≤ 65536 → readTable (take (tableLength input) input) ≡ accepted p
+      → orcrun input ≡ textOfAll (runLines paper 100000 (construct p) (drop (tableLength input) input))
+  unfolding orcrun inputLines tableLines
+  orcrun-runs p l r = rw (le-leb (length input) 65536 l, r, inputLines, tableLines) refl
+
   pub orcrun-prints : (p : Program) → length input ≤ 65536 → readTable (take (tableLength input) input) ≡ accepted p
       → (lines : List Line)
       × Printed paper (construct p) 100000 (started runner paper (construct p)) (drop (tableLength input) input) lines
       × (orcrun input ≡ textOfAll lines)
-  unfolding orcrun inputLines tableLines
   orcrun-prints p l r = (
     runLines paper 100000 (construct p) (drop (tableLength input) input),
     run-prints paper 100000 (construct p) (drop (tableLength input) input),
-    rw (le-leb (length input) 65536 l, r, inputLines, tableLines) refl,
+    orcrun-runs p l r,
   )
 
   pub orcrun-long : 65536 < length input → orcrun input ≡ textOfAll (long ∷ [])

@@ -15,7 +15,7 @@ pub struct Coverage {
     pub counts: BTreeMap<&'static str, usize>,
 }
 
-pub const HAPPENINGS: [&str; 60] = [
+pub const HAPPENINGS: [&str; 71] = [
     "all 32 cells in use",
     "all 64 tokens in use",
     "answer accepted",
@@ -47,6 +47,8 @@ pub const HAPPENINGS: [&str; 60] = [
     "clock move wakes several, not as they called",
     "clock move wakes some and leaves some",
     "definition call",
+    "definition call in a body keeps a frame",
+    "definition call of the goal in last place",
     "definition call passes a set cell",
     "definition call passes an unset cell",
     "definition call under 8 frames or more",
@@ -71,6 +73,15 @@ pub const HAPPENINGS: [&str; 60] = [
     "silent built-in",
     "site call reads a set cell",
     "stop",
+    "tail call",
+    "tail call behind a remove",
+    "tail call lets a bound cell go out of use",
+    "tail call of another definition",
+    "tail call passes a set cell",
+    "tail call passes a variable in another place",
+    "tail call passes an unset cell",
+    "tail call under a cell",
+    "tail call with 64 tokens in use",
     "token place given again from 0",
     "value from a built-in",
     "wait",
@@ -200,7 +211,13 @@ impl Coverage {
             Node::Unknown => {}
             Node::Stop => self.note("stop"),
             Node::SiteCall { site, .. } => self.note_site_call(before, node, *site, reply),
-            Node::DefinitionCall { .. } => self.note_definition_call(before, node),
+            Node::DefinitionCall { definition, next, .. } => {
+                self.note_definition_call(before, node);
+                match dag.only_removes_to_return(*next) {
+                    true => self.note_tail_call(dag, before, node, *definition, after),
+                    false => self.note_framed_call(dag, before, *next),
+                }
+            }
             Node::Fork { .. } => self.note("fork"),
             Node::Assign { .. } => self.note("assign"),
             Node::Remove { .. } => self.note("remove"),
@@ -261,6 +278,44 @@ impl Coverage {
         self.note_if(cells.contains(&false), "definition call passes an unset cell");
     }
 
+    /// A call that keeps a frame. In the goal it does so in last place too.
+    fn note_framed_call(&mut self, dag: &Dag, before: &Record, next: usize) {
+        let in_body = before.tokens[before.queue[0]].caller.is_some();
+        self.note_if(in_body, "definition call in a body keeps a frame");
+        let last = matches!(dag.nodes[next], Node::Remove { .. } | Node::Publish);
+        self.note_if(!in_body && last, "definition call of the goal in last place");
+    }
+
+    fn note_tail_call(
+        &mut self,
+        dag: &Dag,
+        before: &Record,
+        node: &Node,
+        definition: usize,
+        after: &Record,
+    ) {
+        self.note("tail call");
+        let token = &before.tokens[before.queue[0]];
+        let behind = node.successors()[0].is_some_and(|next| dag.nodes[next] != Node::Return);
+        self.note_if(behind, "tail call behind a remove");
+        let (used, still) = (before.in_use(), after.in_use());
+        let lost = token.bound_cells().any(|cell| used.cells[cell] && !still.cells[cell]);
+        self.note_if(lost, "tail call lets a bound cell go out of use");
+        let own = body_of(dag, token.node) == body_of(dag, dag.definitions[definition].first);
+        self.note_if(!own, "tail call of another definition");
+        let cells: Vec<bool> = cells_read(before, node).collect();
+        self.note_if(cells.contains(&true), "tail call passes a set cell");
+        self.note_if(cells.contains(&false), "tail call passes an unset cell");
+        let moved = |(at, parameter): (usize, &Parameter)| match parameter {
+            Parameter::Variable(number) => *number != at,
+            Parameter::Constant(_) => false,
+        };
+        let moved = node.parameters().iter().enumerate().any(moved);
+        self.note_if(moved, "tail call passes a variable in another place");
+        self.note_if(token.cell.is_some(), "tail call under a cell");
+        self.note_if(used.tokens.iter().all(|used| *used), "tail call with 64 tokens in use");
+    }
+
     fn note_return(&mut self, before: &Record, after: &Record) {
         self.note("return");
         let frame = before.tokens[before.queue[0]].caller.expect("the rules ask for a frame");
@@ -289,6 +344,11 @@ impl Coverage {
         self.note_if(woken == 1, "choke wakes one token");
         self.note_if(woken > 1, "choke wakes several tokens");
     }
+}
+
+/// The body that has this node: nodes stand body by body, each with its return last.
+fn body_of(dag: &Dag, node: usize) -> usize {
+    dag.nodes[..node].iter().filter(|node| **node == Node::Return).count()
 }
 
 /// For each parameter that is a cell, whether it is set.

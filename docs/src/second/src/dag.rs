@@ -96,6 +96,19 @@ pub struct Dag {
     pub goal: usize,
 }
 
+impl Dag {
+    /// Whether from this node on there are only removes, and then a return. It looks at as many nodes
+    /// as there are: no table's removes go in a circle, but those of another dag may.
+    pub fn only_removes_to_return(&self, first: usize) -> bool {
+        let behind = |at: &usize| match self.nodes[*at] {
+            Node::Remove { next, .. } => Some(next),
+            _ => None,
+        };
+        let mut seen = std::iter::successors(Some(first), behind).take(self.nodes.len());
+        seen.any(|at| self.nodes[at] == Node::Return)
+    }
+}
+
 /// A stretch of entries with a sink of its own: a definition's body, or the goal.
 struct Body {
     start: usize,

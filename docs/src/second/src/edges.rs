@@ -7,6 +7,7 @@ mod programs;
 mod runs;
 mod steps;
 mod tables;
+mod tails;
 
 use crate::syntax::{append_record, Expr, Param, Program};
 
@@ -34,6 +35,7 @@ pub fn edges() -> Vec<Edge> {
     edges.extend(runs::order());
     edges.extend(runs::full());
     edges.extend(clock::clock());
+    edges.extend(tails::tails());
     edges.extend(steps::limits());
     edges
 }
@@ -81,9 +83,15 @@ fn forks(all: &[Expr]) -> Expr {
     }
 }
 
-/// E() = E(), goal E(): refused 10 after 63 steps.
+/// E() = E(), goal E(): one frame, the goal's, and one token that goes on for ever.
 fn endless_calls() -> Program {
     Program { definitions: vec![(0, call(0, &[]))], goal: call(0, &[]) }
+}
+
+/// E() = E() >x> stop, goal E(): each call keeps a frame; refused 10 after 63 steps.
+fn endless_frames() -> Program {
+    let body = crate::syntax::sequence(call(0, &[]), Expr::Stop);
+    Program { definitions: vec![(0, body)], goal: call(0, &[]) }
 }
 
 /// W() = stop <x< W(), goal W(): refused 11 after 97 steps.

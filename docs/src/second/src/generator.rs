@@ -10,7 +10,7 @@ use crate::machine::{Machine, Reply};
 use crate::random::Random;
 use crate::record::{Record, LAST_TIME};
 use crate::sites::BUILT_IN_COUNTS;
-use crate::syntax::{append_record, encode, fork, prune, rwait, sequence};
+use crate::syntax::{append_record, encode, fork, give, prune, rwait, sequence};
 use crate::syntax::{Expr, Param, Program, Row};
 use crate::table::{self, MOST_DEFINITIONS, MOST_DEPTH, MOST_ENTRIES, MOST_IN_SCOPE};
 
@@ -51,11 +51,18 @@ fn small_table(random: &mut Random) -> Vec<u8> {
 
 // Valid cases.
 
+/// Most runs are shorter than this: one of 100,000 steps takes as long as hundreds of others.
+const MANY_STEPS: u32 = 3000;
+
 fn valid_case(random: &mut Random) -> Vec<u8> {
-    let mut bytes = program(random).bytes();
-    append_deliveries(random, &mut bytes);
-    append_piece(random, &mut bytes);
-    bytes
+    let most = if random.percent(6) { MOST_STEPS } else { MANY_STEPS };
+    loop {
+        let mut bytes = program(random).bytes();
+        if append_deliveries(random, &mut bytes, most) < most || most == MOST_STEPS {
+            append_piece(random, &mut bytes);
+            return bytes;
+        }
+    }
 }
 
 /// Most tables have no more entries than this, so that thousands of inputs can be stored.
@@ -94,7 +101,7 @@ impl Writer<'_> {
     /// Without recursion a body calls only definitions before its own.
     fn program(&mut self) -> Program {
         let total = self.formals.len();
-        let recursive = self.random.percent(20);
+        let recursive = self.random.percent(60);
         let budget = self.budget() / (1 + total / 8);
         let mut definitions = Vec::new();
         for own in 0..total {
@@ -118,6 +125,7 @@ impl Writer<'_> {
         match self.random.below(24) {
             0 => self.spine(1, 0),
             1..=2 => self.cells(1, 0, budget),
+            3..=12 if self.callable > 0 => self.last_act(1, 0, budget.min(6)),
             _ => self.expr(1, 0, budget),
         }
     }
@@ -127,6 +135,7 @@ impl Writer<'_> {
         match self.random.below(10) {
             0..=2 if formals > 0 => self.countdown(own, budget),
             3 => self.nested_where(own),
+            4..=7 if self.callable > 0 => self.last_act(1, formals, budget.min(10)),
             _ => self.expr(1, formals, budget),
         }
     }
@@ -193,6 +202,55 @@ impl Writer<'_> {
         Expr::Call(definition as u16, self.params(scope, count))
     }
 
+    /// A call as the last act: behind a sequence, in a side of a fork, left in a prune. Some only come
+    /// near it, with an assign or a choke behind the call.
+    fn last_act(&mut self, depth: usize, scope: u32, budget: usize) -> Expr {
+        if budget <= 1 || depth + 2 > MOST_DEPTH || scope as usize >= MOST_IN_SCOPE {
+            return self.call_on(scope);
+        }
+        let (depth, less) = (depth + 1, budget.saturating_sub(2));
+        match self.random.below(18) {
+            0..=4 => sequence(self.pause(scope), self.last_act(depth, scope + 1, less)),
+            5..=6 => fork(self.leaf(scope), self.last_act(depth, scope, less)),
+            7 => fork(self.last_act(depth, scope, less), self.leaf(scope)),
+            8..=9 => prune(self.last_act(depth, scope + 1, less), self.expr(depth, scope, 2)),
+            10..=12 => prune(self.used_then_call(depth, scope + 1), self.pause(scope)),
+            13 => sequence(self.last_act(depth, scope, less), self.leaf(scope + 1)),
+            14 => prune(self.leaf(scope + 1), self.last_act(depth, scope, less)),
+            _ => self.call_on(scope),
+        }
+    }
+
+    /// A site reads the innermost variable; then comes a call, which may pass it on or drop it.
+    fn used_then_call(&mut self, depth: usize, scope: u32) -> Expr {
+        let used = give(Param::Var(scope - 1));
+        match depth < MOST_DEPTH && (scope as usize) < MOST_IN_SCOPE {
+            true => sequence(used, self.call_on(scope + 1)),
+            false => used,
+        }
+    }
+
+    /// What a loop does before it goes on: mostly something that waits for a record.
+    fn pause(&mut self, scope: u32) -> Expr {
+        match self.random.below(10) {
+            0..=4 => self.outside(scope),
+            5..=8 => self.alarm(scope),
+            _ => self.built_in(scope),
+        }
+    }
+
+    /// A call with any parameters, or with the variables from one on, in turn: as they are, turned,
+    /// some of them twice.
+    fn call_on(&mut self, scope: u32) -> Expr {
+        if scope == 0 || self.random.percent(50) {
+            return self.call(scope);
+        }
+        let definition = self.random.below(self.callable);
+        let from = self.random.below(scope as usize) as u32;
+        let one = |formal: u32| Param::Var((from + formal) % scope);
+        Expr::Call(definition as u16, (0..self.formals[definition]).map(one).collect())
+    }
+
     fn params(&mut self, scope: u32, count: usize) -> Vec<Param> {
         (0..count).map(|_| self.param(scope)).collect()
     }
@@ -243,12 +301,14 @@ impl Writer<'_> {
         let mut params = vec![Param::Var(m)];
         params.extend((1..formals).map(|_| self.param(formals)));
         let again = Expr::Call(own as u16, params);
-        let rest = match self.random.below(6) {
+        let rest = match self.random.below(8) {
             0 => again,
             1 => sequence(again.clone(), again),
             2 => fork(again, self.leaf(m + 1)),
             3 => prune(self.leaf(m + 2), again),
             4 => sequence(self.outside(m + 1), again),
+            5 => prune(again, self.leaf(m + 1)),
+            6 => sequence(again, self.leaf(m + 2)),
             _ => fork(self.expr(6, m + 1, budget / 2), again),
         };
         let less = Expr::Site(5, vec![Param::Const(0), Param::Var(0)]);
@@ -322,8 +382,8 @@ fn time(random: &mut Random) -> i32 {
 }
 
 /// Runs the table in house order and appends the answers and clock moves given where the queue was
-/// empty.
-fn append_deliveries(random: &mut Random, bytes: &mut Vec<u8>) {
+/// empty. It tells how many steps the run has, at most as many as said.
+fn append_deliveries(random: &mut Random, bytes: &mut Vec<u8>, most_steps: u32) -> u32 {
     let table = table::read(bytes).expect("a valid program has an accepted table");
     let dag = dag::build(&table);
     let machine = Machine::new(&dag);
@@ -335,7 +395,7 @@ fn append_deliveries(random: &mut Random, bytes: &mut Vec<u8>) {
     };
     let mut steps = 0;
     for _ in 0..random.between(0, most) {
-        run_until_empty(&machine, &mut record, &mut steps);
+        run_until_empty(&machine, &mut record, &mut steps, most_steps);
         let idle = record.open_handles().is_empty() && record.timers.is_empty();
         // A wrong handle or time is refused and changes nothing; the run goes on.
         if moves_next(random, &record) {
@@ -350,9 +410,11 @@ fn append_deliveries(random: &mut Random, bytes: &mut Vec<u8>) {
         }
         // Where no call is open and no token due, nothing that follows would change that.
         if idle && random.percent(60) {
-            return;
+            break;
         }
     }
+    run_until_empty(&machine, &mut record, &mut steps, most_steps);
+    steps
 }
 
 /// Whether a clock move comes next, and not an answer.
@@ -391,8 +453,8 @@ fn choose_time(random: &mut Random, record: &Record) -> u32 {
     }
 }
 
-fn run_until_empty(machine: &Machine, record: &mut Record, steps: &mut u32) {
-    while !record.queue.is_empty() && *steps < MOST_STEPS {
+fn run_until_empty(machine: &Machine, record: &mut Record, steps: &mut u32, most: u32) {
+    while !record.queue.is_empty() && *steps < most {
         let reply: Result<Reply, _> = machine.step(record, 0);
         if reply.is_err() {
             return;

@@ -141,7 +141,10 @@ impl<'a> Machine<'a> {
             }
             Node::DefinitionCall { definition, parameters, next } => {
                 let first = self.dag.definitions[*definition].first;
-                definition_call(record, at, used, first, parameters, *next)
+                match self.dag.only_removes_to_return(*next) {
+                    true => Ok(tail_call(record, at, first, parameters)),
+                    false => definition_call(record, at, used, first, parameters, *next),
+                }
             }
             Node::Return => Ok(return_(record, at)),
             Node::Choke => Ok(choke(record, at)),
@@ -332,16 +335,30 @@ fn definition_call(
     parameters: &[Parameter],
     next: usize,
 ) -> Result<Reply, Refused> {
-    let token = record.tokens[at];
-    let mut callee = Token { node: first, caller: Some(at), cell: token.cell, ..Token::BLANK };
-    for (formal, parameter) in callee.bindings.iter_mut().zip(parameters) {
-        *formal = binding(&token, parameter);
-    }
+    let callee = Token { caller: Some(at), ..callee(&record.tokens[at], first, parameters) };
     let new = new_token(record, used, callee)?;
     record.tokens[at].node = next;
     record.tokens[at].state = State::Frame;
     make_ready(record, new);
     Ok(Reply::GoesOn)
+}
+
+/// The call is its body's last act, and would only pass its value on: the token itself becomes the
+/// callee, with the caller that it has. No frame is kept and no place taken, so nothing is refused.
+fn tail_call(record: &mut Record, at: usize, first: usize, parameters: &[Parameter]) -> Reply {
+    record.tokens[at] = callee(&record.tokens[at], first, parameters);
+    make_ready(record, at);
+    Reply::GoesOn
+}
+
+/// What runs the body for a token at a call: only the formals are bound, by what the parameters say
+/// of the token, and there is no value. Caller and cell are the token's.
+fn callee(token: &Token, first: usize, parameters: &[Parameter]) -> Token {
+    let mut callee = Token { node: first, caller: token.caller, cell: token.cell, ..Token::BLANK };
+    for (formal, parameter) in callee.bindings.iter_mut().zip(parameters) {
+        *formal = binding(token, parameter);
+    }
+    callee
 }
 
 /// The frame stays: other tokens may still return to it.

@@ -8,6 +8,7 @@ mod broken_records;
 mod lawful;
 mod moves;
 mod odd_words;
+mod tails;
 
 use crate::dag::{Dag, Definition, Node, Parameter};
 use crate::layout::{self, Laid, Order};
@@ -54,7 +55,7 @@ impl Trial {
 
 pub fn all() -> Vec<Trial> {
     let broken = [broken_dags::list(), broken_records::list(), broken_clocks::list()];
-    let rest = [lawful::list(), moves::list(), odd_words::list()];
+    let rest = [lawful::list(), moves::list(), tails::list(), odd_words::list()];
     broken.into_iter().chain(rest).flatten().collect()
 }
 

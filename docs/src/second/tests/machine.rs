@@ -225,6 +225,54 @@ fn a_full_where_is_refused_for_tokens_first() {
     assert_eq!(refused(2, 2), Err(11));
 }
 
+/// D(a, b) = D(b, 5) <x< out(), goal D(1, 2): the token that calls at the end of its body becomes the
+/// callee, behind in the queue, and no place is given. Where all places are in use too.
+#[test]
+fn a_tail_call_keeps_no_frame() {
+    let again = Expr::Call(0, vec![Param::Var(1), Param::Const(5)]);
+    let body = prune(again, Expr::Site(16, vec![]));
+    let goal = Expr::Call(0, vec![Param::Const(1), Param::Const(2)]);
+    let dag = dag_of(&Program { definitions: vec![(2, body)], goal });
+    let machine = Machine { dag: &dag, limits: Limits { tokens: 3, ..PAPER } };
+    let mut record = machine.start().expect("started");
+    for _ in 0..2 {
+        machine.step(&mut record, 0).expect("accepted");
+    }
+    // The goal's frame, the caller, the right side: all three places.
+    let before = record.clone();
+    assert_eq!((&before.queue, before.last_token), (&vec![1, 2], 2));
+    assert_eq!(before.tokens[1].bindings[2], Binding::Cell(0));
+    assert_eq!(machine.step(&mut record, 0), Ok(Reply::GoesOn));
+    let mut callee = Token { node: dag.definitions[0].first, ..Token::BLANK };
+    (callee.caller, callee.state) = (Some(0), State::Ready);
+    (callee.bindings[0], callee.bindings[1]) = (Binding::Value(2), Binding::Value(5));
+    assert_eq!(record.tokens[1], callee);
+    let expected = Record { tokens: record.tokens.clone(), queue: vec![2, 1], ..before.clone() };
+    assert_eq!(record, expected);
+    assert_eq!((record.tokens[0], record.tokens[2]), (before.tokens[0], before.tokens[2]));
+}
+
+/// From a node only removes, and then a return; removes in a circle lead to none.
+#[test]
+fn only_removes_lead_to_a_return() {
+    let remove = |next| Node::Remove { variable: 0, next };
+    let assign = Node::Assign { variable: 0, next: 2 };
+    let other = |node| Dag { nodes: vec![node], definitions: vec![], goal: 0 };
+    let nodes = vec![remove(1), remove(2), Node::Return, assign, remove(3), remove(6), remove(5)];
+    let dag = Dag { nodes, definitions: vec![], goal: 0 };
+    let leads: Vec<bool> = (0..7).map(|node| dag.only_removes_to_return(node)).collect();
+    assert_eq!(leads, [true, true, true, false, false, false, false]);
+    // All nodes but the last are removes, or all of them.
+    let mut nodes: Vec<Node> = (1..1022).map(remove).collect();
+    nodes.push(Node::Return);
+    assert!(Dag { nodes: nodes.clone(), ..dag.clone() }.only_removes_to_return(0));
+    nodes[1021] = remove(1021);
+    assert!(!Dag { nodes, ..dag }.only_removes_to_return(0));
+    for node in [Node::Stop, Node::Choke, Node::Publish, remove(0)] {
+        assert!(!other(node).only_removes_to_return(0));
+    }
+}
+
 /// rwait(3) | rwait(1) | rwait(3), and the clock moved: who is woken, in which order, and who stays.
 #[test]
 fn due_tokens_are_woken_in_order() {
@@ -355,14 +403,15 @@ fn runs_keep_the_rules() {
 
 #[test]
 fn places_go_round() {
-    // F() = signal() | F(): each round gives two places and frees some.
+    // F() = signal() | F(): each round gives a place and frees it.
     let body = fork(Expr::Site(3, vec![]), Expr::Call(0, vec![]));
     let dag = dag_of(&Program { definitions: vec![(0, body)], goal: Expr::Call(0, vec![]) });
     let machine = Machine::new(&dag);
     let mut record = machine.start().expect("started");
     let mut last = 0;
     let mut wrapped = false;
-    while let Ok(reply) = machine.step(&mut record, 0) {
+    for _ in 0..1000 {
+        let reply = machine.step(&mut record, 0).expect("no round keeps a frame");
         wrapped |= record.last_token < last;
         last = record.last_token;
         assert!(!matches!(reply, Reply::Waits));

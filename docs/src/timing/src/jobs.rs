@@ -31,14 +31,15 @@ fn encode(definitions: u16, rows: &[(u8, u32)]) -> Vec<u8> {
     bytes
 }
 
-/// A job of more than 100,000 steps. F0() = signal(), Fk() = F(k-1)() >x> F(k-1)(); the goal calls the last of them, so many times
-/// side by side, beside `open` outside calls, which stay open. `unused` definitions of 90 nodes each are never called.
+/// A job of more than 100,000 steps, in which every call keeps a frame, so that it runs alike before and after calls that keep none.
+/// F0() = signal(), Fk() = F(k-1)() >x> F(k-1)() >y> signal(); the goal calls the last of them, so many times side by side, beside `open`
+/// outside calls, which stay open. `unused` definitions of 90 nodes each are never called.
 pub fn long(loops: usize, open: usize, unused: usize) -> Vec<u8> {
-    // a call of Fk takes 7 * 2^k - 4 steps
+    // a call of Fk takes 10 * 2^k - 7 steps
     let levels = 15 - loops.ilog2();
     let mut rows = vec![(6, 0), (1, 3)];
     for k in 1..levels {
-        rows.extend([(6, 0), (4, 0), (2, k - 1), (2, k - 1)]);
+        rows.extend([(6, 0), (4, 0), (2, k - 1), (4, 0), (2, k - 1), (1, 3)]);
     }
     for _ in 0..unused {
         rows.push((6, 0));
@@ -61,6 +62,28 @@ fn forks(rows: &mut Vec<(u8, u32)>, leaves: &[(u8, u32)]) {
     rows.push((3, 0));
     forks(rows, left);
     forks(rows, right);
+}
+
+/// E(n) = ift(n) >x> add(n, -1) >m> E(m), goal E(rounds): its call keeps no frame, so that it runs in two places. Five steps a round,
+/// and two.
+pub fn countdown(rounds: u32) -> Vec<u8> {
+    let mut rows = vec![(6, 1), (4, 0), (1, 1 | 1 << 16), (7, 0), (4, 0)];
+    rows.extend([(1, 4 | 2 << 16), (7, 0), (8, -1_i32 as u32), (2, 1 << 16), (7, 2)]);
+    rows.extend([(2, 1 << 16), (8, rounds)]);
+    encode(1, &rows)
+}
+
+/// `jobs/metronome.job` with so many ticks: ten steps, two records and two lines each, in three places.
+pub fn metronome(ticks: u32) -> Vec<u8> {
+    const WEEK: u32 = 604_800;
+    let mut rows = vec![(6, 0), (3, 0), (1, 3), (4, 0), (1, 7 | 1 << 16), (8, WEEK), (2, 0)];
+    rows.extend([(4, 0), (2, 0), (1, 18 | 2 << 16), (8, 71), (8, 40)]);
+    let mut job = encode(1, &rows);
+    for tick in 0..ticks {
+        job.extend(record(u32::MAX, (tick * WEEK) as i32));
+        job.extend(record(tick, 40));
+    }
+    job
 }
 
 /// Thirty-two definitions, each a prune over a sequence and a fork, and a goal that calls the first: 447 entries.

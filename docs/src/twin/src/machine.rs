@@ -131,15 +131,14 @@ pub fn act(machine: &mut Machine, dag: &Dag, place: usize, used: &mut Used) -> R
 
 /// To the back of the queue, at another node.
 fn goes_on(machine: &mut Machine, place: usize, p: u8, node: u32) {
-    machine.queue.remove(place);
     machine.tokens[p as usize].node = node as u16;
-    machine.queue.push(p);
+    machine.queue.replace(place, p);
 }
 
+/// A new token at a free place, which the queue does not name yet.
 fn put_new(machine: &mut Machine, new: u8, token: Token, used: &mut Used) {
     machine.tokens[new as usize] = token;
     machine.last_token = new;
-    machine.queue.push(new);
     used.tokens |= 1 << new;
 }
 
@@ -178,6 +177,7 @@ fn fork(machine: &mut Machine, place: usize, p: u8, row: &Row, used: &mut Used) 
     let token = Token { node: row[2] as u16, ..machine.tokens[p as usize] };
     used.share(token.caller);
     put_new(machine, new, token, used);
+    machine.queue.push(new);
     Reply::Done
 }
 
@@ -199,9 +199,12 @@ fn split(
     machine.tokens[p as usize].binds[variable as usize] = Slot::Cell(cell);
     goes_on(machine, place, p, left);
     put_new(machine, new, token, used);
+    machine.queue.push(new);
     Reply::Done
 }
 
+/// A call that is its body's last act keeps no frame: the token itself becomes the callee, with its own caller. Cells that it bound may be
+/// out of reach after it.
 fn call(
     machine: &mut Machine,
     dag: &Dag,
@@ -210,11 +213,44 @@ fn call(
     row: &Row,
     used: &mut Used,
 ) -> Reply {
-    let Some(new) = next_place(!used.tokens, machine.last_token) else { return Refused(10) };
     let token = &mut machine.tokens[p as usize];
+    if leads_back(dag, row[2]) {
+        let lost = token.binds_cell();
+        *token = callee(token, dag, row, token.caller);
+        machine.queue.replace(place, p);
+        if lost {
+            machine.sweep(used);
+        }
+        return Reply::Done;
+    }
+    let Some(new) = next_place(!used.tokens, machine.last_token) else { return Refused(10) };
+    let callee = callee(token, dag, row, Some(p));
+    token.node = row[2] as u16;
+    token.state = State::Frame;
+    used.shared &= !(1 << p);
+    put_new(machine, new, callee, used);
+    machine.queue.replace(place, new);
+    Reply::Done
+}
+
+/// Are there only removes from this node on, and then a return? As many nodes are looked at as there are, since removes may go in a circle
+/// where no table made the dag.
+fn leads_back(dag: &Dag, mut node: u32) -> bool {
+    for _ in 0..dag[0] {
+        let [kind, _, next, ..] = *row_of(dag, node as u16);
+        if kind != 5 {
+            return kind == 8;
+        }
+        node = next;
+    }
+    false
+}
+
+/// What runs the body for a token at a call: in its cell, with no value and only the formals bound.
+fn callee(token: &Token, dag: &Dag, row: &Row, caller: Option<u8>) -> Token {
     let mut callee = Token {
         node: dag[3 + 2 * row[1] as usize] as u16,
-        caller: Some(p),
+        caller,
         cell: token.cell,
         state: State::Ready,
         ..Token::BLANK
@@ -222,12 +258,7 @@ fn call(
     for i in 0..row[3] as usize {
         callee.binds[i] = passed(token, row[4 + 2 * i], row[5 + 2 * i]);
     }
-    token.node = row[2] as u16;
-    token.state = State::Frame;
-    used.shared &= !(1 << p);
-    machine.queue.remove(place);
-    put_new(machine, new, callee, used);
-    Reply::Done
+    callee
 }
 
 /// The frame goes on with the value. Where the token binds no cell and has the frame's, only the frame can be out of reach, and is where no
@@ -243,8 +274,7 @@ fn returns(machine: &mut Machine, place: usize, p: u8, used: &mut Used) -> Reply
         used.share(written.caller);
     }
     machine.tokens[p as usize] = written;
-    machine.queue.remove(place);
-    machine.queue.push(p);
+    machine.queue.replace(place, p);
     if lost {
         machine.sweep(used);
     } else if !(shared && machine.is_caller(f)) {

@@ -91,6 +91,15 @@ impl Order {
         self.names[self.count] = 0;
     }
 
+    /// Takes out the name at an index and puts one behind the others, in one pass.
+    pub fn replace(&mut self, index: usize, name: u8) {
+        let last = self.count - 1;
+        for i in index..last {
+            self.names[i] = self.names[i + 1];
+        }
+        self.names[last] = name;
+    }
+
     pub fn names(&self) -> &[u8] {
         &self.names[..self.count]
     }

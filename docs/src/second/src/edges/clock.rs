@@ -1,7 +1,7 @@
 //! Runs with the clock: calls of rwait, clock moves and their refusals, who wakes first, deadlines.
 
 use super::runs::called;
-use super::steps::{doubling, exact_steps};
+use super::steps::{doubled, doubling, exact_steps};
 use super::{call, edge, forks, goal, site, with_answers, with_piece, Edge};
 use crate::lines::{CLOCK, MOST_STEPS};
 use crate::syntax::Param::{Const, Var};
@@ -214,9 +214,9 @@ fn deadlines() -> Vec<Edge> {
             format!("{}publish 0\nrefused 12\nend 19\n", called(0..4, "16")),
         ),
         edge("clock: a loop that is due does not hold others back", beside_a_loop(), {
-            "call 0 20\npublish 0\nend 60\n"
+            "call 0 20\npublish 0\nend 46\n"
         }),
-        edge("clock: a retry after a time", retry(), "call 0 16\ncall 1 16\npublish 7\nend 25\n"),
+        edge("clock: a retry after a time", retry(), "call 0 16\ncall 1 16\npublish 7\nend 21\n"),
         late_deadlines(),
         at_the_limit(),
     ]
@@ -232,7 +232,7 @@ fn calls_go_on() -> Vec<u8> {
     with_answers(Program { definitions: vec![(0, body)], goal }, &records)
 }
 
-/// rwait(1) >x> F3() beside a call at 1: fork, two rwaits, two assigns, the call; 52 steps of F3,
+/// rwait(1) >x> F3() beside a call at 1: fork, two rwaits, two assigns, the call; 38 steps of F3,
 /// remove, publish.
 fn beside_a_loop() -> Vec<u8> {
     let goal = fork(sequence(late(1), call(3, &[])), call_at(1, 20, &[]));
@@ -241,8 +241,8 @@ fn beside_a_loop() -> Vec<u8> {
 
 /// R() = site16() >x> (ift(x) >y> let(x) | iff(x) >y> rwait(5) >z> R()). The first answer is 0: R's
 /// call, the outside call, assign, fork, silent ift, iff, assign, rwait; assign. Then the same again
-/// up to the fork, ift, silent iff, assign, let; two removes, return, three removes, return,
-/// publish.
+/// up to the fork, ift, silent iff, assign, let; two removes, return, publish. The second call keeps
+/// no frame.
 fn retry() -> Vec<u8> {
     let again = sequence(site(2, &[Var(0)]), sequence(late(5), call(0, &[])));
     let body = sequence(site(16, &[]), fork(sequence(site(1, &[Var(0)]), give(Var(0))), again));
@@ -257,8 +257,8 @@ fn late_deadlines() -> Edge {
     let program = Program { definitions: doubling(race, 5), goal: call(5, &[]) };
     let turns = (0..32).flat_map(|turn| [to(turn), (turn as u32, turn)]);
     let records: Vec<(u32, i32)> = turns.chain([to(MAX)]).collect();
-    // F0 takes 10 steps with its call, Fk twice as many as F(k-1) and 4.
-    let lines = format!("{}publish 31\nend {}\n", called(0..32, "16"), (10 + 4) * 32 - 4 + 1);
+    // F0 takes 10 steps with its call, and then there is the publish.
+    let lines = format!("{}publish 31\nend {}\n", called(0..32, "16"), doubled(10, 5) + 1);
     edge("clock: ended deadlines, places given again", with_answers(program, &records), lines)
 }
 

@@ -1,7 +1,7 @@
 //! What the programs over `orcrun` are run on, apart from the other edge cases: a run that prints
 //! more than the program writes at once, and an input of one byte too many.
 
-use super::steps::doubling;
+use super::steps::{doubled, doubling};
 use super::tables::most_answers;
 use super::{call, edge, site, Edge};
 use crate::syntax::Param::{Const, Var};
@@ -31,11 +31,10 @@ fn two_pieces() -> Vec<u8> {
 }
 
 /// F0 takes its call, where, let (which waits), a fork and a step for each call, let, choke, let,
-/// remove and return; Fk twice as many as the one before, and four.
+/// remove and return. Behind F8 there is the publish.
 fn two_pieces_lines() -> String {
     let count = CALLS << LEVELS;
     let least = " -2147483648".repeat(4);
     let calls: String = (0..count).map(|handle| format!("call {handle} 1023{least}\n")).collect();
-    let steps = (8 + 2 * CALLS + 4 << LEVELS) - 4;
-    format!("{calls}publish 0\nend {}\n", steps + 1)
+    format!("{calls}publish 0\nend {}\n", doubled(8 + 2 * CALLS, LEVELS) + 1)
 }

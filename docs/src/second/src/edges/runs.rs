@@ -1,7 +1,7 @@
 //! Runs at the edges: the paper's marked ones, values, answers, pieces, order, full tables.
 
-use super::steps::doubling;
-use super::{call, edge, endless_calls, endless_cells, forks, goal, site};
+use super::steps::{doubled, doubling};
+use super::{call, edge, endless_calls, endless_cells, endless_frames, forks, goal, site};
 use super::{with_answers, with_piece, Edge};
 use crate::syntax::Param::{Const, Var};
 use crate::syntax::{encode, fork, give, prune, sequence, signal, Expr, Param, Program};
@@ -43,7 +43,7 @@ pub fn marked() -> Vec<Edge> {
             prune(give(Var(0)), one_or_two()),
             "publish 1\nend 9\n",
         ),
-        edge("marked: E() = E()", endless_calls().bytes(), "refused 10\nend 63\n"),
+        edge("marked: E() = E()", endless_calls().bytes(), "limit\nend 100000\n"),
         edge("marked: W() = stop <x< W()", endless_cells().bytes(), "refused 11\nend 97\n"),
     ]
 }
@@ -150,7 +150,7 @@ pub fn answers() -> Vec<Edge> {
         edge("answers: no call at all", goal(Expr::Stop, &[(0, 0)]), "refused 12\nend 1\n"),
         edge(
             "answers: after a refused step",
-            with_answers(endless_calls(), &[(0, 0)]),
+            with_answers(endless_frames(), &[(0, 0)]),
             "refused 10\nend 63\n",
         ),
         edge("answers: after table", with_piece(encode(0, &[(9, 0)]), 16), "table 3 0\n"),
@@ -187,7 +187,7 @@ pub fn pieces() -> Vec<Edge> {
         ),
         edge(
             "piece: after a refused step, 10",
-            with_piece(endless_calls().bytes(), 3),
+            with_piece(endless_frames().bytes(), 3),
             "refused 10\nend 63\n",
         ),
         edge(
@@ -287,8 +287,8 @@ fn late_answers() -> Edge {
     for turn in 1..32 {
         lines += &format!("call {} 16\ncall {} 17\nrefused 12\n", 2 * turn, 2 * turn + 1);
     }
-    // F0 takes 10 steps with its call, Fk twice as many as F(k-1) and 4.
-    lines += &format!("publish 31\nrefused 12\nend {}\n", (10 + 4) * 32 - 4 + 1);
+    // F0 takes 10 steps with its call, and then there is the publish.
+    lines += &format!("publish 31\nrefused 12\nend {}\n", doubled(10, 5) + 1);
     edge("order: late answers, places given again", with_answers(program, &answers), lines)
 }
 
@@ -343,12 +343,13 @@ pub fn full() -> Vec<Edge> {
     edges
 }
 
-/// F(n) = ift(n) >x> add(n, -1) >m> F(m). Each level has five steps: its call, ift, assign, add,
-/// assign; the last a call and a silent ift.
+/// F(n) = ift(n) >x> add(n, -1) >m> F(m) >y> stop. Each level has five steps: its call, which keeps a
+/// frame, ift, assign, add, assign; the last a call and a silent ift.
 fn frames() -> Vec<Edge> {
     let run = |count: i32| {
-        let again = sequence(site(4, &[Var(0), Const(-1)]), call(0, &[Var(2)]));
-        let body = sequence(site(1, &[Var(0)]), again);
+        let again = sequence(call(0, &[Var(2)]), Expr::Stop);
+        let less = sequence(site(4, &[Var(0), Const(-1)]), again);
+        let body = sequence(site(1, &[Var(0)]), less);
         Program { definitions: vec![(1, body)], goal: call(0, &[Const(count)]) }.bytes()
     };
     vec![

@@ -4,15 +4,27 @@ use super::{call, edge, with_answers, with_piece, Edge};
 use crate::lines::MOST_STEPS;
 use crate::syntax::{fork, give, prune, sequence, signal, Expr, Param, Program};
 
-const LEVELS: u16 = 14;
+const LEVELS: u16 = 15;
 
-/// F0() = first, Fk() = F(k-1)() >x> F(k-1)(). With signal() for the first, one token runs under
-/// at most k frames, and a call of Fk takes 7 * 2^k - 4 steps: a run may be long without growth.
+/// F0() = first, Fk() = F(k-1)() >x> F(k-1)(). The first call keeps a frame, the second is the body's
+/// last act and keeps none. With signal() for the first, one token runs under at most k frames and
+/// that of its call, for 5 * 2^k - 2 steps: a run may be long without growth.
 pub fn doubling(first: Expr, levels: u16) -> Vec<(u32, Expr)> {
     let mut definitions = vec![(0, first)];
     let twice = |level| sequence(call(level, &[]), call(level, &[]));
     definitions.extend((0..levels).map(|level| (0, twice(level))));
     definitions
+}
+
+/// What a call of Fk takes, where one of F0 takes so many steps. A call of Fk is that step, a call of
+/// F(k-1), the assign, and one of F(k-1) again, which returns in place of Fk.
+pub fn doubled(first: u32, level: u16) -> u32 {
+    (first + 2 << level) - 2
+}
+
+/// The steps of `>x> Fk()`, with its assign and its remove: a call of F0, which is signal(), has 3.
+fn part(level: u16) -> u32 {
+    1 + doubled(3, level) + 1
 }
 
 /// A program that makes exactly so many steps (2, or 4 and more) and publishes once. Behind a first
@@ -22,10 +34,10 @@ pub fn exact_steps(steps: u32) -> Program {
     let mut left = steps - 2;
     while left > 0 {
         let fits = |cost: u32| cost <= left && left - cost != 1;
-        let level = (0..=LEVELS).rev().find(|level| fits((7 << level) - 2));
+        let level = (0..=LEVELS).rev().find(|level| fits(part(*level)));
         if let Some(level) = level {
             goal = sequence(goal, call(level, &[]));
-            left -= (7 << level) - 2;
+            left -= part(level);
         } else if fits(3) {
             goal = sequence(goal, signal());
             left -= 3;
@@ -99,14 +111,14 @@ fn answered() -> Vec<Edge> {
     ]
 }
 
-/// Behind the last value but one: E() = E(), which makes 63 steps. The next would be refused, but
-/// `limit` comes first.
+/// Behind the last value but one: E() = E() >x> stop, which makes 63 steps. The next would be refused,
+/// but `limit` comes first.
 fn refused_at() -> Vec<Edge> {
     let run = |steps| {
         // In place of its publish there is the assign.
         let mut program = exact_steps(steps - 63);
         let endless = program.definitions.len() as u16;
-        program.definitions.push((0, call(endless, &[])));
+        program.definitions.push((0, sequence(call(endless, &[]), Expr::Stop)));
         program.goal = sequence(program.goal, call(endless, &[]));
         program.bytes()
     };
@@ -124,7 +136,7 @@ fn others_there() -> Vec<Edge> {
     let called = fork(Expr::Site(16, vec![]), deep(LEVELS));
     vec![
         edge("limit: a token waits", run(waits).bytes(), "limit\nend 100000\n"),
-        edge("limit: two are ready", run(fork(deep(13), deep(13))).bytes(), "limit\nend 100000\n"),
+        edge("limit: two are ready", run(fork(deep(14), deep(14))).bytes(), "limit\nend 100000\n"),
         edge(
             "limit: one is called out",
             with_answers(run(called), &[(0, 1)]),

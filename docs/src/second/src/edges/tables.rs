@@ -1,6 +1,6 @@
 //! Tables at the edges: sizes, depth, scope, and each refusal at several entries.
 
-use super::steps::doubling;
+use super::steps::{doubled, doubling};
 use super::{call, edge, forks, goal, site, with_answers, Edge};
 use crate::lines::MOST_INPUT;
 use crate::syntax::{encode, fork, give, prune, sequence, signal, Expr, Param, Program, Row};
@@ -166,13 +166,12 @@ pub fn most_answers() -> Vec<u8> {
     bytes
 }
 
-/// F13 takes 7 * 2^13 - 4 steps. Behind call 8157 there are left: its return; remove and return at
-/// each of 13 levels; and, since 8157 = 8191 - 32 - 2, an assign and a call of F5 and of F1.
+/// Behind call 8157 of F13's there are left: its return; and, since 8157 = 8191 - 32 - 2, an assign and
+/// a call of F5 and of F1. The last call of a body returns in its place.
 fn most_answers_lines() -> String {
     let calls: String = (0..=8157).map(|handle| format!("call {handle} 16\n")).collect();
-    let cost = |level: u32| (7 << level) - 4;
-    let left = 1 + 2 * 13 + (1 + cost(5)) + (1 + cost(1));
-    format!("{calls}short\nend {}\n", cost(13) - left)
+    let left = 1 + (1 + doubled(3, 5)) + (1 + doubled(3, 1));
+    format!("{calls}short\nend {}\n", doubled(3, 13) - left)
 }
 
 // Each refusal at several entries.

@@ -17,15 +17,19 @@ fn on_middle(name: &str, calls: &[Call], edit: Edit) -> Trial {
     trial(Expected::Near, name, edited(middle(), edit), calls)
 }
 
+pub(super) fn alone(name: &str, calls: &[Call], nodes: &[Node], edit: Edit) -> Trial {
+    trial(Expected::Near, name, edited(one_token(nodes), edit), calls)
+}
+
 /// One ready token with a value at the first of these nodes; a definition of one formal begins at
 /// the last.
-pub(super) fn alone(name: &str, calls: &[Call], nodes: &[Node], edit: Edit) -> Trial {
+pub(super) fn one_token(nodes: &[Node]) -> Draft {
     let definitions = vec![Definition { first: nodes.len() - 1, formals: 1 }];
     let dag = Dag { nodes: nodes.to_vec(), definitions, goal: 0 };
     let mut draft = Draft { words: words::write(&dag), ..Draft::blank() };
     *draft.token(0) = Token { value: Some(9), state: State::Ready, ..Token::BLANK };
     draft.queue_is(&[0]);
-    trial(Expected::Near, name, edited(draft, edit), calls)
+    draft
 }
 
 fn moving() -> Vec<Trial> {

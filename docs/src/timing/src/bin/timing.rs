@@ -22,6 +22,7 @@ fn main() {
     refused(repeats);
     public_step(repeats);
     growth(repeats);
+    loops(repeats);
 }
 
 fn nanoseconds(rounds: u32, mut call: impl FnMut()) -> f64 {
@@ -257,5 +258,34 @@ fn growth(repeats: usize) {
     head("house run of 100,000 steps, index rules not tested again");
     for (name, job) in &jobs {
         speed(name, whole(repeats, 1, job), 100_000);
+    }
+}
+
+/// Loops whose call of themselves is their last act: a step takes no longer after many rounds than after few.
+fn loops(repeats: usize) {
+    println!();
+    println!("a loop that keeps no frame, steps a second, in thousands");
+    head("public step, index rules tested");
+    let job = jobs::countdown(19_999);
+    let dag = twins::loaded(&job);
+    for steps in [200, 2_000, 20_000] {
+        let times = in_turn(repeats, || {
+            let base = prefix(3, &job, &dag, &[], 0);
+            let all = prefix(3, &job, &dag, &[], steps);
+            [0, 1].map(|side| all[side] - base[side])
+        });
+        speed(&format!("{steps} steps"), times, steps);
+    }
+    head("house run, index rules not tested again");
+    for rounds in [20, 200, 2_000, 19_999] {
+        let steps = 5 * rounds + 2;
+        let times = whole(repeats, 100_000 / steps, &jobs::countdown(rounds));
+        speed(&format!("{steps} steps, {rounds} rounds"), times, steps);
+    }
+    println!();
+    head("a metronome, house run with its records and lines, ns a tick");
+    for ticks in [10, 100, 1_000, 3_551] {
+        let times = whole(repeats, 10_000 / ticks, &jobs::metronome(ticks));
+        row(&format!("{ticks} ticks"), times.map(|time| time / ticks as f64));
     }
 }
