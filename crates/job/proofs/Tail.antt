@@ -44,72 +44,63 @@ module _ (p q : ℕ → Bool) (f : (i : ℕ) → p i ≡ true → q i ≡ true) 
       here (yes s) below = omega (arith, count-more n, ap once (rw s at e), ap once (rw s at g))
       here (no d) below = omega (arith, once-more (p n) (q n) (f n), below (omega arith))
 
--- what one look says, and what the looks behind it
-unfoldable pub afterLook : Node → (ℕ → Bool) → Bool
-afterLook node rest =
-    elim node [
-      | Node.stop ↦ false
-      | Node.site s ps k ↦ false
-      | Node.call e ps k ↦ false
-      | Node.fork l r ↦ false
-      | Node.assign x k ↦ false
-      | Node.remove x k ↦ rest k
-      | Node.where' x l r ↦ false
-      | Node.choke ↦ false
-      | Node.return ↦ true
-      | Node.publish ↦ false
-      | Node.unknown ↦ false
-    ]
-
 module _ (d : Dag) where
-  pub one-look : (looks n : ℕ) (node : Node) → nodeAt d n ≡ node → isTailWithin d (suc looks) n ≡ afterLook node (isTailWithin d looks)
-  unfolding isTailWithin afterLook
-  one-look looks n node e = rw (← e)
+  -- one look, at return and at remove
+  pub at-return : (looks n : ℕ) → nodeAt d n ≡ Node.return → isTailWithin d (suc looks) n ≡ true
+  unfolding isTailWithin
+  at-return looks n e = rw (e, isTailWithin)
 
-  -- a node that passes is a return, or a remove whose next node passes
+  pub at-remove : (looks n : ℕ) {x k : ℕ} → nodeAt d n ≡ Node.remove x k → isTailWithin d (suc looks) n ≡ isTailWithin d looks k
+  unfolding isTailWithin
+  at-remove looks n e = rw (e, isTailWithin)
+
+  -- a node that passes is one of the two
   data Passes (rest : ℕ → Bool) (n : ℕ) : Type 0 where
-    at-return : nodeAt d n ≡ Node.return → Passes rest n
-    at-remove : (x k : ℕ) → nodeAt d n ≡ Node.remove x k → rest k ≡ true → Passes rest n
+    returns : nodeAt d n ≡ Node.return → Passes rest n
+    removes : (x k : ℕ) → nodeAt d n ≡ Node.remove x k → rest k ≡ true → Passes rest n
 
   passes : (looks n : ℕ) → isTailWithin d (suc looks) n ≡ true → Passes (isTailWithin d looks) n
-  unfolding afterLook
-  passes looks n h = go (nodeAt d n) refl (sym (one-look looks n _ refl) ∙ h)
+  unfolding isTailWithin
+  passes looks n t = go (nodeAt d n) refl
     where
-      go : (node : Node) → nodeAt d n ≡ node → afterLook node (isTailWithin d looks) ≡ true → Passes (isTailWithin d looks) n
-      go Node.stop e t = clash t refl
-      go (Node.site s ps k) e t = clash t refl
-      go (Node.call f ps k) e t = clash t refl
-      go (Node.fork l r) e t = clash t refl
-      go (Node.assign x k) e t = clash t refl
-      go (Node.remove x k) e t = at-remove x k e t
-      go (Node.where' x l r) e t = clash t refl
-      go Node.choke e t = clash t refl
-      go Node.return e t = at-return e
-      go Node.publish e t = clash t refl
-      go Node.unknown e t = clash t refl
+      go : (node : Node) → nodeAt d n ≡ node → Passes (isTailWithin d looks) n
+      go Node.stop e = clash t (rw (e, isTailWithin))
+      go (Node.site s ps k) e = clash t (rw (e, isTailWithin))
+      go (Node.call f ps k) e = clash t (rw (e, isTailWithin))
+      go (Node.fork l r) e = clash t (rw (e, isTailWithin))
+      go (Node.assign x k) e = clash t (rw (e, isTailWithin))
+      go (Node.remove x k) e = removes x k e (sym (at-remove looks n e) ∙ t)
+      go (Node.where' x l r) e = clash t (rw (e, isTailWithin))
+      go Node.choke e = clash t (rw (e, isTailWithin))
+      go Node.return e = returns e
+      go Node.publish e = clash t (rw (e, isTailWithin))
+      go Node.unknown e = clash t (rw (e, isTailWithin))
 
   -- more looks do not harm
   one-more-look : (looks n : ℕ) → isTailWithin d looks n ≡ true → isTailWithin d (suc looks) n ≡ true
-  unfolding isTailWithin afterLook
+  unfolding isTailWithin
   one-more-look zero n h = clash h refl
   one-more-look (suc looks) n h = go (passes looks n h) (one-more-look looks)
     where
       go : Passes (isTailWithin d looks) n → ((k : ℕ) → isTailWithin d looks k ≡ true → isTailWithin d (suc looks) k ≡ true)
           → isTailWithin d (suc (suc looks)) n ≡ true
-      go (at-return e) more = one-look (suc looks) n _ e
-      go (at-remove x k e t) more = one-look (suc looks) n _ e ∙ more k t
+      go (returns e) more = at-return (suc looks) n e
+      go (removes x k e t) more = at-remove (suc looks) n e ∙ more k t
 
   more-looks : {few : ℕ} (n : ℕ) → isTailWithin d few n ≡ true → (looks : ℕ) → few ≤ looks → isTailWithin d looks n ≡ true
   more-looks n h = le-ind (λ looks. isTailWithin d looks n ≡ true) h (λ looks l. one-more-look looks n)
 
   -- past the last node there is none that passes
   passes-inside : (looks n : ℕ) → isTailWithin d (suc looks) n ≡ true → n < length (d .nodes)
-  unfolding nodeAt afterLook
+  unfolding nodeAt isTailWithin
   passes-inside looks n h = go (decLt n (length (d .nodes)))
     where
+      outside : nodeAt d n ≡ Node.unknown → isTailWithin d (suc looks) n ≡ false
+      outside e = rw (e, isTailWithin)
+
       go : Dec (n < length (d .nodes)) → n < length (d .nodes)
       go (yes l) = l
-      go (no l) = clash h (one-look looks n Node.unknown (List·getD-eq-default (d .nodes) Node.unknown (omega arith)))
+      go (no l) = clash h (outside (List·getD-eq-default (d .nodes) Node.unknown (omega arith)))
 
   -- how many nodes pass with so many looks
   unfoldable passing : (looks : ℕ) → ℕ
@@ -122,16 +113,15 @@ module _ (d : Dag) where
 
   -- a node that needs more than so many looks: more than so many nodes pass
   needed : (looks n : ℕ) → isTailWithin d looks n ≡ false → isTailWithin d (suc looks) n ≡ true → looks < passing (suc looks)
-  unfolding afterLook
   needed zero n few enough = omega (arith, one-more-passes zero n few enough)
   needed (suc looks) n few enough = go (passes (suc looks) n enough) (needed looks)
     where
       go : Passes (isTailWithin d (suc looks)) n
           → ((k : ℕ) → isTailWithin d looks k ≡ false → isTailWithin d (suc looks) k ≡ true → looks < passing (suc looks))
           → suc looks < passing (suc (suc looks))
-      go (at-return e) below = clash (one-look looks n _ e) few
-      go (at-remove x k e t) below =
-          omega (arith, below k (sym (one-look looks n _ e) ∙ few) t, one-more-passes (suc looks) n few enough)
+      go (returns e) below = clash (at-return looks n e) few
+      go (removes x k e t) below =
+          omega (arith, below k (sym (at-remove looks n e) ∙ few) t, one-more-passes (suc looks) n few enough)
 
   -- as many looks as there are nodes are enough
   enough-looks : (looks n : ℕ) → isTailWithin d looks n ≡ true → isTail d n ≡ true
@@ -145,9 +135,8 @@ module _ (d : Dag) where
           (omega (arith, needed looks n few h, count-small (isTailWithin d (suc looks)) (length (d .nodes))))
 
   looks-needed : {n : ℕ} → Tail d n → (looks : ℕ) × (isTailWithin d looks n ≡ true)
-  unfolding afterLook
-  looks-needed (return e) = (1, one-look 0 _ _ e)
-  looks-needed (remove e t) = let r = looks-needed t in (suc (r .0), one-look (r .0) _ _ e ∙ r .1)
+  looks-needed (return e) = (1, at-return 0 _ e)
+  looks-needed (remove e t) = let r = looks-needed t in (suc (r .0), at-remove (r .0) _ e ∙ r .1)
 
   tail-within : (looks n : ℕ) → isTailWithin d looks n ≡ true → Tail d n
   unfolding isTailWithin
@@ -155,8 +144,8 @@ module _ (d : Dag) where
   tail-within (suc looks) n h = go (passes looks n h) (tail-within looks)
     where
       go : Passes (isTailWithin d looks) n → ((k : ℕ) → isTailWithin d looks k ≡ true → Tail d k) → Tail d n
-      go (at-return e) rest = return e
-      go (at-remove x k e t) rest = remove e (rest k t)
+      go (returns e) rest = return e
+      go (removes x k e t) rest = remove e (rest k t)
 
   pub tail-exactly : (n : ℕ) → (isTail d n ≡ true → Tail d n) × (Tail d n → isTail d n ≡ true)
   unfolding isTail

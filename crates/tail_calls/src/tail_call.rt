@@ -1,7 +1,7 @@
 // Document 02, request 2: "the token itself becomes the callee and the callee inherits its caller". "10 is then not given for such a call."
 ghost use mathlib.Core.Path.{_≡_};
 ghost use mathlib.Core.Bool.{true};
-ghost use Prim.Native.Nat.{_<_, _+_};
+ghost use Prim.Native.Nat.{_+_};
 ghost use lib.ListN.{getD};
 ghost use Rattle.job.specs.Tail.{isTail};
 ghost use Rattle.job.specs.Words.{dagOf};

@@ -5,9 +5,9 @@ use mathlib.Core.List.{List, [], _∷_, _++_, map, append-nil}
 use Prim.Native.Nat.{ℕ, zero, suc, _+_, _<_, _≤_}
 use native.Mathlib.Numerals.{add-one}
 use native.Mathlib.Omega.{arith}
-use lib.ListN.{length, getD, set, take, drop, replicate, length-append, length-map, length-drop, List·getD-map}
+use lib.ListN.{length, getD, set, drop, replicate, length-append, length-map, length-drop, List·getD-map}
 use lib.Seq.{take-all, drop-length, paste, paste-suc}
-use Rattle.model.specs.Machine.Blank.{empty, unbound, tokenAt}
+use Rattle.model.specs.Machine.Blank.{empty}
 use Rattle.model.specs.Machine.Update.{put}
 use Rattle.model.specs.declared.record.Machine.{Machine}
 use Rattle.model.specs.declared.token.Bind.{Bind}
@@ -19,7 +19,7 @@ use Rattle.record.specs.Holds.{Holds}
 use Rattle.record.specs.Layout.{slotKind, slotNumber}
 use Rattle.record.proofs.HoldsShape.{shaped}
 use Rattle.writes.proofs.Writes.{put-same}
-use Rattle.tail_writes.specs.Passing.{SlotWords, kindsOf, numbersOf}
+use Rattle.tail_writes.specs.Passing.{SlotWords, kindWords, numberWords}
 
 -- a write to a list, and to the words of its elements
 map-set : {A B : Type 0} (f : A → B) (l : List A) (i : ℕ) (x : A) → map f (set l i x) ≡ set (map f l) i (f x)
@@ -29,7 +29,7 @@ map-set f (y ∷ l) (suc i) x = ap (_∷_ (f y)) (map-set f l i x)
 
 -- none is read yet
 pub none-read : {ks ns : List ℕ} (bs : List Bind) → ks ≡ replicate 8 0 → ns ≡ replicate 8 0 → SlotWords ks ns (formalsBound bs [])
-none-read bs e f = record { kinds = e ∙ ap kindsOf (none-bound bs []); numbers = f ∙ ap numbersOf (none-bound bs []) }
+none-read bs e f = record { kinds = e ∙ ap kindWords (none-bound bs []); numbers = f ∙ ap numberWords (none-bound bs []) }
 
 -- one more is read
 pub slot-read : {ks ns : List ℕ} {bs cs : List Bind} (i k n : ℕ) (b : Bind) → SlotWords ks ns bs → k ≡ slotKind (b .slot)
@@ -37,9 +37,9 @@ pub slot-read : {ks ns : List ℕ} {bs cs : List Bind} (i k n : ℕ) (b : Bind) 
 slot-read {ks} {ns} {bs} {cs} i k n b o e f s =
     record {
       kinds =
-          ap₂ (λ xs x. set xs i x) (o .kinds) e ∙ sym (map-set (λ (b : Bind). slotKind (b .slot)) bs i b) ∙ ap kindsOf s;
+          ap₂ (λ xs x. set xs i x) (o .kinds) e ∙ sym (map-set (λ (b : Bind). slotKind (b .slot)) bs i b) ∙ ap kindWords s;
       numbers =
-          ap₂ (λ xs x. set xs i x) (o .numbers) f ∙ sym (map-set (λ (b : Bind). slotNumber (b .slot)) bs i b) ∙ ap numbersOf s;
+          ap₂ (λ xs x. set xs i x) (o .numbers) f ∙ sym (map-set (λ (b : Bind). slotNumber (b .slot)) bs i b) ∙ ap numberWords s;
     }
 
 -- the words of one

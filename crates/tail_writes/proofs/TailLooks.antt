@@ -1,18 +1,18 @@
 -- A turn of the test for a tail call does what one look of `isTailWithin` does: the kind in a node's row says which node it is. Assumes
 -- nothing.
 use mathlib.Core.Path.{_≡_, refl, sym, ap, subst, _∙_}
-use mathlib.Core.Bool.{Bool, true, false}
+use mathlib.Core.Bool.{true, false}
 use mathlib.Core.List.{List}
-use Prim.Native.Nat.{ℕ, zero, suc, _+_, _-_, _*_, _<_, _≤_}
+use Prim.Native.Nat.{ℕ, zero, suc, _+_, _-_, _<_, _≤_}
 use native.Mathlib.Omega.{arith}
 use lib.ListN.{length, getD, drop}
 use lib.Dec.{ltb}
-use Rattle.job.specs.Node.{Node, nodeHolds, isNode, paramsHold}
+use Rattle.job.specs.Node.{Dag, nodeAt, nodeHolds, isNode, paramsHold}
 use Rattle.job.specs.Syntax.{Param}
 use Rattle.job.specs.Tail.{isTailWithin, isTail}
 use Rattle.job.specs.Words.{dagOf, headWords}
 use Rattle.job.proofs.DagRules.{dag-rules}
-use Rattle.job.proofs.Tail.{afterLook, one-look}
+use Rattle.job.proofs.Tail.{at-return, at-remove}
 use Rattle.job.proofs.Test.{and-right, ltb-lt}
 use Rattle.job.proofs.Words.{length-nodesFrom}
 use Rattle.sites.specs.Row.{rowOf, paramsAt, NodeRow, nodeIn, nodeOfKind}
@@ -25,20 +25,20 @@ unfolding dagOf
 node-count ws = sym (length-nodesFrom (getD ws 0 0) (drop headWords ws))
 
 -- a node that is no remove and no return
-other-kind : (rest : ℕ → Bool) (a b c : ℕ) (ps : List Param) (k : ℕ) → (k ≡ 5 → ⊥) → (k ≡ 8 → ⊥)
-    → afterLook (nodeOfKind a b c ps k) rest ≡ false
-unfolding afterLook
-other-kind rest a b c ps zero f g = refl
-other-kind rest a b c ps (suc zero) f g = refl
-other-kind rest a b c ps (suc (suc zero)) f g = refl
-other-kind rest a b c ps (suc (suc (suc zero))) f g = refl
-other-kind rest a b c ps (suc (suc (suc (suc zero)))) f g = refl
-other-kind rest a b c ps (suc (suc (suc (suc (suc zero))))) f g = absurd (f refl)
-other-kind rest a b c ps (suc (suc (suc (suc (suc (suc zero)))))) f g = refl
-other-kind rest a b c ps (suc (suc (suc (suc (suc (suc (suc zero))))))) f g = refl
-other-kind rest a b c ps (suc (suc (suc (suc (suc (suc (suc (suc zero)))))))) f g = absurd (g refl)
-other-kind rest a b c ps (suc (suc (suc (suc (suc (suc (suc (suc (suc zero))))))))) f g = refl
-other-kind rest a b c ps (suc (suc (suc (suc (suc (suc (suc (suc (suc (suc k)))))))))) f g = refl
+other-kind : (d : Dag) (looks n a b c : ℕ) (ps : List Param) (k : ℕ) → (k ≡ 5 → ⊥) → (k ≡ 8 → ⊥) → nodeAt d n ≡ nodeOfKind a b c ps k
+    → isTailWithin d (suc looks) n ≡ false
+unfolding isTailWithin
+other-kind d looks n a b c ps zero f g e = rw (e, isTailWithin)
+other-kind d looks n a b c ps (suc zero) f g e = rw (e, isTailWithin)
+other-kind d looks n a b c ps (suc (suc zero)) f g e = rw (e, isTailWithin)
+other-kind d looks n a b c ps (suc (suc (suc zero))) f g e = rw (e, isTailWithin)
+other-kind d looks n a b c ps (suc (suc (suc (suc zero)))) f g e = rw (e, isTailWithin)
+other-kind d looks n a b c ps (suc (suc (suc (suc (suc zero))))) f g e = absurd (f refl)
+other-kind d looks n a b c ps (suc (suc (suc (suc (suc (suc zero)))))) f g e = rw (e, isTailWithin)
+other-kind d looks n a b c ps (suc (suc (suc (suc (suc (suc (suc zero))))))) f g e = rw (e, isTailWithin)
+other-kind d looks n a b c ps (suc (suc (suc (suc (suc (suc (suc (suc zero)))))))) f g e = absurd (g refl)
+other-kind d looks n a b c ps (suc (suc (suc (suc (suc (suc (suc (suc (suc zero))))))))) f g e = rw (e, isTailWithin)
+other-kind d looks n a b c ps (suc (suc (suc (suc (suc (suc (suc (suc (suc (suc k)))))))))) f g e = rw (e, isTailWithin)
 
 module _ (ws : List ℕ) (node : ℕ) (o : NodeInside ws node) where
   row-within : rowOf node + 12 ≤ 12331
@@ -50,22 +50,8 @@ module _ (ws : List ℕ) (node : ℕ) (o : NodeInside ws node) where
   abbrev the-row : NodeRow ws (rowOf node) (getD ws (rowOf node) 0)
   the-row = record { size = o .size; dag = o .dag; node = node; inside = o .inside; row = refl; kind = refl }
 
-  look : (looks : ℕ) → isTailWithin (dagOf ws) (suc looks) node
-      ≡ afterLook (nodeIn ws (rowOf node) (getD ws (rowOf node) 0)) (isTailWithin (dagOf ws) looks)
-  look looks = one-look (dagOf ws) looks node _ (node-is ws (rowOf node) _ the-row)
-
-  at-return : (looks : ℕ) → getD ws (rowOf node) 0 ≡ 8 → isTailWithin (dagOf ws) (suc looks) node ≡ true
-  unfolding afterLook
-  at-return looks e = look looks ∙ ap (λ k. afterLook (nodeIn ws (rowOf node) k) (isTailWithin (dagOf ws) looks)) e
-
-  at-remove : (looks : ℕ) → getD ws (rowOf node) 0 ≡ 5
-      → isTailWithin (dagOf ws) (suc looks) node ≡ isTailWithin (dagOf ws) looks (getD ws (rowOf node + 2) 0)
-  unfolding afterLook
-  at-remove looks e = look looks ∙ ap (λ k. afterLook (nodeIn ws (rowOf node) k) (isTailWithin (dagOf ws) looks)) e
-
-  at-other : (looks : ℕ) → (getD ws (rowOf node) 0 ≡ 5 → ⊥) → (getD ws (rowOf node) 0 ≡ 8 → ⊥)
-      → isTailWithin (dagOf ws) (suc looks) node ≡ false
-  at-other looks f g = look looks ∙ other-kind _ _ _ _ _ _ f g
+  the-node : (k : ℕ) → getD ws (rowOf node) 0 ≡ k → nodeAt (dagOf ws) node ≡ nodeIn ws (rowOf node) k
+  the-node k e = node-is ws (rowOf node) _ the-row ∙ ap (nodeIn ws (rowOf node)) e
 
   next-inside : getD ws (rowOf node) 0 ≡ 5 → NodeInside ws (getD ws (rowOf node + 2) 0)
   unfolding nodeHolds isNode
@@ -122,10 +108,10 @@ module _ (ws : List ℕ) (next count node looks : ℕ) (more : looks < count) (l
       l .left ∙ ap (λ k. isTailWithin (dagOf ws) k node) e
 
   pub found-return : getD ws (rowOf node) 0 ≡ 8 → true ≡ isTail (dagOf ws) next
-  found-return e = sym (one-left ∙ at-return ws node (l .here) _ e)
+  found-return e = sym (one-left ∙ at-return (dagOf ws) _ node (the-node ws node (l .here) 8 e))
 
   pub found-other : (getD ws (rowOf node) 0 ≡ 8 → ⊥) → (getD ws (rowOf node) 0 ≡ 5 → ⊥) → false ≡ isTail (dagOf ws) next
-  found-other g f = sym (one-left ∙ at-other ws node (l .here) _ f g)
+  found-other g f = sym (one-left ∙ other-kind (dagOf ws) _ node _ _ _ _ _ f g (the-node ws node (l .here) _ refl))
 
   pub found-remove : (k : ℕ) → getD ws (rowOf node) 0 ≡ 5 → k ≡ getD ws (rowOf node + 2) 0 → Looking ws next count k (looks + 1)
   found-remove k e f =
@@ -136,5 +122,5 @@ module _ (ws : List ℕ) (next count node looks : ℕ) (more : looks < count) (l
         row = row-within ws _ o;
         nodes = l .nodes;
         done = omega arith;
-        left = one-left ∙ at-remove ws node (l .here) _ e;
+        left = one-left ∙ at-remove (dagOf ws) _ node (the-node ws node (l .here) 5 e);
       })

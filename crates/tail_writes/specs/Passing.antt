@@ -5,13 +5,13 @@ use Prim.Native.Nat.{ℕ}
 use Rattle.model.specs.declared.token.Bind.{Bind}
 use Rattle.record.specs.Layout.{slotKind, slotNumber}
 
-abbrev pub kindsOf : List Bind → List ℕ
-kindsOf bs = map (λ (b : Bind). slotKind (b .slot)) bs
+abbrev pub kindWords : List Bind → List ℕ
+kindWords bs = map (λ (b : Bind). slotKind (b .slot)) bs
 
-abbrev pub numbersOf : List Bind → List ℕ
-numbersOf bs = map (λ (b : Bind). slotNumber (b .slot)) bs
+abbrev pub numberWords : List Bind → List ℕ
+numberWords bs = map (λ (b : Bind). slotNumber (b .slot)) bs
 
 -- the words are those of the bindings
 pub record SlotWords (ks ns : List ℕ) (bs : List Bind) : Type 0 where
-  pub kinds : ks ≡ kindsOf bs
-  pub numbers : ns ≡ numbersOf bs
+  pub kinds : ks ≡ kindWords bs
+  pub numbers : ns ≡ numberWords bs

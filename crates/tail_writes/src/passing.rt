@@ -57,7 +57,7 @@ fn passed_number(w: &[u32; Machine::WORDS], p: usize, kind: u32, number: u32) ->
 }
 
 // What all parameters pass on; the words behind them stay 0, as of empty variables.
-pub(crate) fn read_all(
+pub(crate) fn passed_slots(
     w: &[u32; Machine::WORDS],
     dag: &[u32; WORDS],
     at: usize,
@@ -83,7 +83,7 @@ pub(crate) fn read_all(
 }
 
 // The slots whose words these are, bound to all eight variables.
-pub(crate) fn bind_all(
+pub(crate) fn bind_slots(
     w: &mut [u32; Machine::WORDS],
     p: usize,
     kinds: &[u32; 8],

@@ -9,8 +9,8 @@ ghost use Rattle.model.specs.declared.token.State.the-variants as states;
 ghost use Rattle.record.specs.Changes.{dequeued};
 ghost use Rattle.record.specs.Holds.{Holds};
 ghost use Rattle.sites.specs.Row.{ParamsHold, paramsAt};
-use crate::passing::bind_all;
-use crate::passing::read_all;
+use crate::passing::bind_slots;
+use crate::passing::passed_slots;
 use job::dag::WORDS;
 use model::record::Machine;
 use record::order::replace;
@@ -36,9 +36,9 @@ pub fn written(
 {
     let mut kinds = [0u32; 8];
     let mut numbers = [0u32; 8];
-    read_all(w, dag, at, p, &mut kinds, &mut numbers);
+    passed_slots(w, dag, at, p, &mut kinds, &mut numbers);
     replace(w, place, p as u32);
-    bind_all(w, p, &kinds, &numbers);
+    bind_slots(w, p, &kinds, &numbers);
     set_value(w, p, 0, 0);
     set_node(w, p, root);
 }

@@ -2,7 +2,7 @@
 use Rattle.sites.proofs.LookParams.{below, slot-variable, slot-constant}
 use Rattle.record.specs.Layout.{slotKind}
 use Rattle.model.specs.Machine.Blank.{tokenAt, slotAt}
-use mathlib.Core.Path.{sym, ap, _∙_}
+use mathlib.Core.Path.{ap, _∙_}
 use borrow.Author.Needs.{needs}
 use Rattle.tail_writes.proofs.passing.passed_kind.Statement.{statement}
 use Rattle.tail_writes.proofs.passing.passed_kind.Tie as tie

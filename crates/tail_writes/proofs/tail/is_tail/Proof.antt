@@ -2,7 +2,6 @@
 use Prim.Native.Nat.{_-_}
 use native.Mathlib.Omega.{arith}
 use borrow.Author.Needs.{needs}
-use mathlib.Core.Path.{refl}
 use Rattle.tail_writes.proofs.TailLooks.{Looking, looking-begins, looked-at-all, found-return, found-other, found-remove}
 use Rattle.tail_writes.proofs.tail.is_tail.Statement.{statement}
 use Rattle.tail_writes.proofs.tail.is_tail.Tie as tie

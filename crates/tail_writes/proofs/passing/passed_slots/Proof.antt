@@ -1,4 +1,4 @@
--- `passing::read_all` meets its contract: at each turn one more parameter's slot is read. Assumes nothing.
+-- `passing::passed_slots` meets its contract: at each turn one more parameter's slot is read. Assumes nothing.
 use mathlib.Core.Path.{_≡_, refl, subst, _∙_}
 use Prim.Native.Nat.{_+_, _-_, _≤_}
 use native.Mathlib.Omega.{arith}
@@ -12,8 +12,8 @@ use Rattle.sites.specs.Row.{paramsAt}
 use Rattle.sites.proofs.LookParams.{param-holds, param-bound, params-bound}
 use Rattle.tail_writes.specs.Passing.{SlotWords}
 use Rattle.tail_writes.proofs.PassingWords.{none-read, slot-read}
-use Rattle.tail_writes.proofs.passing.read_all.Statement.{statement}
-use Rattle.tail_writes.proofs.passing.read_all.Tie as tie
+use Rattle.tail_writes.proofs.passing.passed_slots.Statement.{statement}
+use Rattle.tail_writes.proofs.passing.passed_slots.Tie as tie
 
 abbrev Inv-loop : tie.InvT-loop
 Inv-loop w dag at p kinds₀ numbers₀ count i₀ kinds numbers i =
@@ -116,8 +116,8 @@ returns c = λ m h.
     (params-bound _ _ (l .i) (tokenAt (m .tokens) (a .p) .binds) (c .before .before .before .before .pre .1) (omega (arith, l .inv .1)))
     (l .inv .2 m h)
 
-pub read-all-spec : {M : Type 1} → statement M
-read-all-spec =
+pub passed-slots-spec : {M : Type 1} → statement M
+passed-slots-spec =
     tie.close
     (tie.spec Inv-loop μ-loop add-dag-word dag-word-requires wide-requires loop-holds add-dag-word-2 mul-dag-word add-dag-word-3
     dag-word-requires-2 add-dag-word-4 mul-dag-word-2 add-dag-word-5 dag-word-requires-3 passed-kind-requires mul-kinds element-write-kinds

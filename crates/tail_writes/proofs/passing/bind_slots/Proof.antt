@@ -1,4 +1,4 @@
--- `passing::bind_all` meets its contract: at each turn one more of the old bindings is written over. Assumes nothing.
+-- `passing::bind_slots` meets its contract: at each turn one more of the old bindings is written over. Assumes nothing.
 use mathlib.Core.Path.{_≡_}
 use mathlib.Core.List.{List}
 use Prim.Native.Nat.{_-_, _≤_}
@@ -16,8 +16,8 @@ use Rattle.record.specs.Holds.{Holds}
 use Rattle.writes.proofs.Writes.{carry-binds}
 use Rattle.tail_writes.specs.Passing.{SlotWords}
 use Rattle.tail_writes.proofs.PassingWords.{kind-at, number-at, bound-on, bound-whole, binds-long}
-use Rattle.tail_writes.proofs.passing.bind_all.Statement.{statement}
-use Rattle.tail_writes.proofs.passing.bind_all.Tie as tie
+use Rattle.tail_writes.proofs.passing.bind_slots.Statement.{statement}
+use Rattle.tail_writes.proofs.passing.bind_slots.Tie as tie
 
 abbrev Inv-loop : tie.InvT-loop
 Inv-loop w₀ p kinds numbers x₀ w x =
@@ -59,7 +59,8 @@ loop-again c =
       search needs,
       λ m t bs h size o.
           let long = binds-long m (a .p) t h (c .before .before .before .before .before .before .pre) in
-          carry-binds m (a .p) t (bound-on (t .binds) bs long size (l .x) (c .before .before .before .before .loop-test .taken))
+          carry-binds m (a .p) t (bound-on (t .binds) bs long size (l .x)
+          (omega (arith, c .before .before .before .before .loop-test .taken)))
           (unfold withBinding in
           c .set-bind .ensures m _ (getD bs (l .x) empty .slot) (l .inv .1 m t bs h size o) (kind-at o (l .x)) (number-at o (l .x))),
     )
@@ -73,8 +74,8 @@ returns c = λ m t bs h size o.
     (omega (arith, l .inv .0, c .loop-test .left)))
     (l .inv .1 m t bs h size o)
 
-pub bind-all-spec : {M : Type 1} → statement M
-bind-all-spec =
+pub bind-slots-spec : {M : Type 1} → statement M
+bind-slots-spec =
     tie.close
     (tie.spec Inv-loop μ-loop loop-holds mul-kind element-copy-out-kind mul-number element-copy-out-number set-bind-requires add-x loop-less
     loop-again returns)
