@@ -13,8 +13,7 @@ ghost use Rattle.model.specs.declared.record.Machine.{Machine};
 ghost use Rattle.model.specs.declared.token.State.{State};
 ghost use Rattle.record.specs.Holds.{Codes};
 ghost use Rattle.record.specs.Layout.{stateKind};
-ghost use Rattle.row_rules.specs.RowRules.{NamesAt};
-ghost use Rattle.rules.specs.OrderCounts.{namedAs};
+ghost use Rattle.order_rules.specs.OrderCounts.{NamesAt, namedAs};
 use job::wide::wide;
 use model::record::Machine;
 use orders::zero::all_zero;
@@ -72,7 +71,7 @@ fn counted(w: &[u32; Machine::WORDS], at: usize, n: usize) -> [u8; Machine::TOKE
 }
 
 // An order: is it one of places, with 0 behind its last name, and how often does it name each place?
-pub(crate) struct Order {
+pub struct Order {
     pub ok: bool,
     pub counts: [u8; Machine::TOKENS],
 }
@@ -107,7 +106,7 @@ fn read_order(w: &[u32; Machine::WORDS], at: usize, names: u32) -> Order
 }
 
 // The queue names the ready tokens.
-pub(crate) fn queue_order(w: &[u32; Machine::WORDS]) -> Order
+pub fn queue_order(w: &[u32; Machine::WORDS]) -> Order
     ensures { λ r. ⌜ ((m : Machine) → Codes (now (w .entry)) m
         → (allFrom (namedAs 1 (r .counts)) 0 (m .tokens) and r .ok) ≡ namesOnce isReady (m .tokens) (m .queue) (m .queued)) ⌝ }
 {
@@ -115,7 +114,7 @@ pub(crate) fn queue_order(w: &[u32; Machine::WORDS]) -> Order
 }
 
 // The wait order names the waiting ones.
-pub(crate) fn wait_order(w: &[u32; Machine::WORDS]) -> Order
+pub fn wait_order(w: &[u32; Machine::WORDS]) -> Order
     ensures { λ r. ⌜ ((m : Machine) → Codes (now (w .entry)) m
         → (allFrom (namedAs 2 (r .counts)) 0 (m .tokens) and r .ok) ≡ namesOnce isWaiting (m .tokens) (m .waits) (m .waiting)) ⌝ }
 {
@@ -123,7 +122,7 @@ pub(crate) fn wait_order(w: &[u32; Machine::WORDS]) -> Order
 }
 
 // The order of call names those that are due later.
-pub(crate) fn timer_order(w: &[u32; Machine::WORDS]) -> Order
+pub fn timer_order(w: &[u32; Machine::WORDS]) -> Order
     ensures { λ r. ⌜ ((m : Machine) → Codes (now (w .entry)) m
         → (allFrom (namedAs 4 (r .counts)) 0 (m .tokens) and r .ok) ≡ namesOnce isDue (m .tokens) (m .timers) (m .timed)) ⌝ }
 {
@@ -137,7 +136,7 @@ fn one_if(b: bool) -> u8
 }
 
 // Is a place named so often by each of the orders as a token in that state asks?
-pub(crate) fn counts_agree(kind: u32, queue: u8, waits: u8, timers: u8) -> bool
+pub fn counts_agree(kind: u32, queue: u8, waits: u8, timers: u8) -> bool
     ensures { λ r. ⌜ r ≡ (eqb queue (once (eqb kind 1)) and eqb waits (once (eqb kind 2)) and eqb timers (once (eqb kind 4))) ⌝ }
 {
     (queue == one_if(kind == READY_STATE))

@@ -5,11 +5,11 @@ use Prim.Native.Nat.{ℕ, _-_, _≤_, _<_}
 use native.Mathlib.Omega.{arith}
 use lib.ListN.{length, getD, take, length-set, getD-replicate}
 use Rattle.job.specs.Test.{occurrences}
-use Rattle.rules.proofs.OrderCounts.{count-few, none-counted, count-turn}
-use Rattle.row_rules.specs.RowRules.{NamesAt}
+use Rattle.order_rules.proofs.OrderCounts.{count-few, none-counted, count-turn}
+use Rattle.order_rules.specs.OrderCounts.{NamesAt}
 use borrow.Author.Needs.{needs}
-use Rattle.rules.proofs.order.counted.Statement.{statement}
-use Rattle.rules.proofs.order.counted.Tie as tie
+use Rattle.order_rules.proofs.order.counted.Statement.{statement}
+use Rattle.order_rules.proofs.order.counted.Tie as tie
 
 abbrev Inv-loop : tie.InvT-loop
 Inv-loop w at n counts₀ i₀ counts i = (i ≤ n) × (length counts ≡ 64) × ((p : ℕ) → getD counts p 0 ≤ i)

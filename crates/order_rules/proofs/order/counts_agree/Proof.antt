@@ -3,8 +3,8 @@ use mathlib.Core.Path.{ap}
 use lib.Dec.{eqb}
 use Rattle.job.proofs.Both.{three}
 use borrow.Author.Needs.{needs}
-use Rattle.rules.proofs.order.counts_agree.Statement.{statement}
-use Rattle.rules.proofs.order.counts_agree.Tie as tie
+use Rattle.order_rules.proofs.order.counts_agree.Statement.{statement}
+use Rattle.order_rules.proofs.order.counts_agree.Tie as tie
 
 returns : tie.Need-returns
 returns c =

@@ -5,10 +5,10 @@ use native.Mathlib.Omega.{arith}
 use lib.ListN.{getD}
 use borrow.Author.Count.{below-more}
 use Rattle.job.proofs.Test.{clash}
-use Rattle.rules.proofs.OrderCounts.{wild, tame}
+use Rattle.order_rules.proofs.OrderCounts.{wild, tame}
 use borrow.Author.Needs.{needs}
-use Rattle.rules.proofs.order.order_in_range.Statement.{statement}
-use Rattle.rules.proofs.order.order_in_range.Tie as tie
+use Rattle.order_rules.proofs.order.order_in_range.Statement.{statement}
+use Rattle.order_rules.proofs.order.order_in_range.Tie as tie
 
 abbrev Inv-loop : tie.InvT-loop
 Inv-loop w at n i₀ i = (i ≤ n) × ((k : ℕ) → k < i → getD w (at + k) 0 < 64)

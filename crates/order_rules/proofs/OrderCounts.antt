@@ -17,8 +17,7 @@ use Rattle.model.specs.declared.token.Token.{Token}
 use Rattle.job.proofs.Test.{all-at, all-from, false-of, ltb-lt, lt-ltb, eq-eqb, ne-eqb, le-leb, lt-not-leb}
 use Rattle.record.specs.Layout.{stateKind}
 use Rattle.job.proofs.Both.{both, and-true, and-assoc}
-use Rattle.row_rules.specs.RowRules.{NamesAt}
-use Rattle.rules.specs.OrderCounts.{namedAs}
+use Rattle.order_rules.specs.OrderCounts.{NamesAt, namedAs}
 
 -- counts
 pub count-most : (p : ℕ) (xs : List ℕ) → occurrences p xs ≤ length xs

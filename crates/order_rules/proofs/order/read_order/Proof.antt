@@ -5,12 +5,12 @@ use native.Mathlib.Omega.{arith}
 use borrow.Author.Tests.{not-true, not-false}
 use Rattle.job.specs.Test.{_and_, allFrom}
 use Rattle.model.specs.Machine.Rules.{namesOnce}
-use Rattle.rules.specs.OrderCounts.{namedAs}
-use Rattle.rules.proofs.OrderCounts.{order-long, order-wild, order-counted}
+use Rattle.order_rules.specs.OrderCounts.{namedAs}
+use Rattle.order_rules.proofs.OrderCounts.{order-long, order-wild, order-counted}
 use Rattle.job.proofs.Both.{and-false}
 use borrow.Author.Needs.{needs}
-use Rattle.rules.proofs.order.read_order.Statement.{statement}
-use Rattle.rules.proofs.order.read_order.Tie as tie
+use Rattle.order_rules.proofs.order.read_order.Statement.{statement}
+use Rattle.order_rules.proofs.order.read_order.Tie as tie
 
 -- where there is no order the tokens do not matter
 none : (a : Bool) {ok : Bool} → ok ≡ false → (a and ok) ≡ false

@@ -4,8 +4,8 @@ use Rattle.model.specs.Machine.Rules.{namesOnce}
 use Rattle.model.specs.Machine.State.{isWaiting}
 use Rattle.record.proofs.OrderLaws.{wait-word}
 use borrow.Author.Needs.{needs}
-use Rattle.rules.proofs.order.wait_order.Statement.{statement}
-use Rattle.rules.proofs.order.wait_order.Tie as tie
+use Rattle.order_rules.proofs.order.wait_order.Statement.{statement}
+use Rattle.order_rules.proofs.order.wait_order.Tie as tie
 use Rattle.record.proofs.TokenRow.{waiting-kind}
 
 returns : tie.Need-returns

@@ -4,8 +4,8 @@ use Rattle.model.specs.Machine.Rules.{namesOnce}
 use Rattle.model.specs.Machine.State.{isReady}
 use Rattle.record.proofs.OrderLaws.{queue-word}
 use borrow.Author.Needs.{needs}
-use Rattle.rules.proofs.order.queue_order.Statement.{statement}
-use Rattle.rules.proofs.order.queue_order.Tie as tie
+use Rattle.order_rules.proofs.order.queue_order.Statement.{statement}
+use Rattle.order_rules.proofs.order.queue_order.Tie as tie
 use Rattle.record.proofs.TokenRow.{ready-kind}
 
 returns : tie.Need-returns

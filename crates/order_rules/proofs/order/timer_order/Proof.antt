@@ -4,8 +4,8 @@ use Rattle.model.specs.Machine.Rules.{namesOnce}
 use Rattle.model.specs.Machine.State.{isDue}
 use Rattle.record.proofs.OrderLaws.{timer-word}
 use borrow.Author.Needs.{needs}
-use Rattle.rules.proofs.order.timer_order.Statement.{statement}
-use Rattle.rules.proofs.order.timer_order.Tie as tie
+use Rattle.order_rules.proofs.order.timer_order.Statement.{statement}
+use Rattle.order_rules.proofs.order.timer_order.Tie as tie
 use Rattle.record.proofs.TokenRow.{due-kind}
 
 returns : tie.Need-returns

@@ -2,10 +2,10 @@
 use mathlib.Core.Path.{_∙_, ap}
 use lib.Dec.{eqb}
 use Rattle.job.specs.Test.{forAll}
-use Rattle.rules.proofs.OrderCounts.{rest-names}
+use Rattle.order_rules.proofs.OrderCounts.{rest-names}
 use borrow.Author.Needs.{needs}
-use Rattle.rules.proofs.order.rest_is_zero.Statement.{statement}
-use Rattle.rules.proofs.order.rest_is_zero.Tie as tie
+use Rattle.order_rules.proofs.order.rest_is_zero.Statement.{statement}
+use Rattle.order_rules.proofs.order.rest_is_zero.Tie as tie
 
 returns : tie.Need-returns
 returns c = λ names h. c .all-zero .ensures ∙ ap (forAll (eqb 0)) (rest-names h _ (search needs) (search needs))
