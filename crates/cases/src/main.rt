@@ -1,10 +1,10 @@
 // Runs each stored input as `orcrun` runs its own, and prints a line `case` with its number and then what the run prints. On standard input
 // an input stands behind its length, 4 bytes, the lowest first.
+use entries::entry::four_bytes;
 use job::wide::wide;
 use libc::STDIN_FILENO;
 use libc::STDOUT_FILENO;
 use program::output::print_run;
-use reader::entry::four_bytes;
 ghost use Prim.Native.Nat.{_≤_};
 
 // No more inputs than this, so that the program ends on any standard input.

@@ -13,7 +13,7 @@ use Rattle.job.specs.Words.{headWords, paramWords, nodeWords, rowsOfNodes}
 use Rattle.job.specs.Read.{Got, Read, got}
 use Rattle.job.proofs.Stores.{sets-append}
 use Rattle.job.proofs.NodeRows.{rows-append, rows-length}
-use Rattle.reader.specs.declared.scope.Scope.{Scope}
+use Rattle.entries.specs.declared.scope.Scope.{Scope}
 use Rattle.compiler.specs.ExpressionCompiled.{reading, Accepted, compiled, stored}
 use Rattle.compiler.specs.Body.{sinkOf, Sunk, sunk, BodyAccepted, compiledWithSink, storedBody}
 use Rattle.compiler.specs.declared.expression.Compiled.{Compiled}

@@ -14,8 +14,8 @@ use Rattle.job.specs.Syntax.{Param, Join, Exp, stop, site, call, join, scopeLef
 use Rattle.job.specs.Read.{Got, Read, got, _>>=_, gives, need, entryAt, readParamList, readCall, readJoin, readExp}
 use Rattle.job.proofs.Test.{ltb-lt}
 use Rattle.job.proofs.Position.{entries-at, entries-end, bind-got, refused-got, reread, test-holds}
-use Rattle.reader.specs.ExpressionSides.{either, joinOf}
-use Rattle.reader.proofs.ExpressionOpened.{readKind, exp-opened}
+use Rattle.entries.specs.ExpressionSides.{either, joinOf}
+use Rattle.entries.proofs.ExpressionOpened.{readKind, exp-opened}
 
 module _ (side : List ℕ → ℕ → List Entry → Read Exp) (scope : List ℕ) (o e : ℕ) (l : List Entry) (g : Got Exp) where
   -- by kind byte and operand; e is the next entry, l what stands from there on

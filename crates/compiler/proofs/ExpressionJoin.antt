@@ -16,7 +16,7 @@ use Rattle.job.proofs.Stores.{sets-append, sets-swap}
 use Rattle.job.proofs.NodeRows.{own-rows-length, rows-append, rows-length}
 use Rattle.job.proofs.Position.{exp-from, reread}
 use Rattle.job.proofs.Size.{own-some, size-some}
-use Rattle.reader.specs.ExpressionSides.{joinOf}
+use Rattle.entries.specs.ExpressionSides.{joinOf}
 use Rattle.compiler.specs.PlanSides.{PlansLeft, PlansRight}
 use Rattle.compiler.specs.JoinRoot.{joinRoot}
 use Rattle.compiler.specs.ExpressionCompiled.{reading, Accepted, compiled, stored}

@@ -9,9 +9,9 @@ use Rattle.job.specs.Syntax.{Exp}
 use Rattle.job.specs.Construct.{nodeCount}
 use Rattle.job.specs.Read.{Got, Read, got, readExp}
 use Rattle.job.proofs.Size.{size-some}
-use Rattle.reader.specs.Checked.{Parts}
-use Rattle.reader.specs.Scope.{Means}
-use Rattle.reader.specs.declared.scope.Scope.{Scope}
+use Rattle.entries.specs.Checked.{Parts}
+use Rattle.entries.specs.Scope.{Means}
+use Rattle.entries.specs.declared.scope.Scope.{Scope}
 use Rattle.compiler.specs.ExpressionCompiled.{reading, NodesFit, room, Accepted, compiled, stored}
 use Rattle.compiler.specs.declared.expression.Compiled.{Compiled}
 use Rattle.compiler.proofs.ExpressionHeads.{Head, headed, head-room}

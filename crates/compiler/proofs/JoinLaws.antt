@@ -9,8 +9,8 @@ use Rattle.job.specs.Node.{Node}
 use Rattle.job.specs.Construct.{ownNodes}
 use Rattle.job.specs.Words.{headWords, paramWords, nodeWords, rowsOfNodes}
 use Rattle.job.proofs.Stores.{sets-append}
-use Rattle.reader.specs.ExpressionSides.{joinOf}
-use Rattle.reader.proofs.ExpressionSides.{join-par, join-seq, join-prune}
+use Rattle.entries.specs.ExpressionSides.{joinOf}
+use Rattle.entries.proofs.ExpressionSides.{join-par, join-seq, join-prune}
 use Rattle.compiler.specs.JoinRoot.{joinRoot}
 
 -- the row of one node, and of one node before others

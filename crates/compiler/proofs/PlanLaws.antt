@@ -5,10 +5,10 @@ use mathlib.Core.List.{List, _∷_}
 use lib.ListN.{length}
 use Rattle.job.specs.Syntax.{Join, scopeLeft, scopeRight}
 use Rattle.job.specs.Construct.{own, nextLeft, nextRight}
-use Rattle.reader.specs.Scope.{Means}
-use Rattle.reader.specs.declared.scope.Scope.{Scope}
-use Rattle.reader.specs.ExpressionSides.{joinOf}
-use Rattle.reader.proofs.ExpressionSides.{join-par, join-seq, join-prune}
+use Rattle.entries.specs.Scope.{Means}
+use Rattle.entries.specs.declared.scope.Scope.{Scope}
+use Rattle.entries.specs.ExpressionSides.{joinOf}
+use Rattle.entries.proofs.ExpressionSides.{join-par, join-seq, join-prune}
 use Rattle.compiler.specs.PlanSides.{PlansLeft, PlansRight}
 
 -- a binder's number is the length of the scope

@@ -10,9 +10,9 @@ use Rattle.job.specs.Node.{Node}
 use Rattle.job.specs.Construct.{nodeCount, root, nodesOf}
 use Rattle.job.specs.Words.{headWords, rowsOfNodes}
 use Rattle.job.specs.Read.{Got, Read, got, refused}
-use Rattle.reader.specs.Checked.{Parts}
-use Rattle.reader.specs.Scope.{Means}
-use Rattle.reader.specs.declared.scope.Scope.{Scope}
+use Rattle.entries.specs.Checked.{Parts}
+use Rattle.entries.specs.Scope.{Means}
+use Rattle.entries.specs.declared.scope.Scope.{Scope}
 use Rattle.compiler.specs.ExpressionCompiled.{reading}
 use Rattle.compiler.specs.declared.expression.Compiled.{Compiled}
 

@@ -8,9 +8,9 @@ use Rattle.job.specs.Syntax.{Exp}
 use Rattle.job.specs.Construct.{nodeCount, root, nodesOf}
 use Rattle.job.specs.Words.{headWords, rowsOfNodes}
 use Rattle.job.specs.Read.{Got, Read, got, refused, readExp}
-use Rattle.reader.specs.Checked.{Parts}
-use Rattle.reader.specs.Scope.{Means}
-use Rattle.reader.specs.declared.scope.Scope.{Scope}
+use Rattle.entries.specs.Checked.{Parts}
+use Rattle.entries.specs.Scope.{Means}
+use Rattle.entries.specs.declared.scope.Scope.{Scope}
 use Rattle.compiler.specs.declared.expression.Compiled.{Compiled}
 
 -- the reading of the entries from an index on

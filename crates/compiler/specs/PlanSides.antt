@@ -1,11 +1,11 @@
--- What the two sides of a join are compiled with. (`joinOf` of crate `reader` is the join of a kind byte.) Assumes nothing: these are
+-- What the two sides of a join are compiled with. (`joinOf` of crate `entries` is the join of a kind byte.) Assumes nothing: these are
 -- definitions.
 use mathlib.Core.Path.{_≡_}
 use mathlib.Core.List.{List}
 use Prim.Native.Nat.{ℕ}
 use Rattle.job.specs.Syntax.{Join, scopeLeft, scopeRight}
 use Rattle.job.specs.Construct.{firstLeft, nextLeft, nextRight}
-use Rattle.reader.specs.Scope.{Means}
+use Rattle.entries.specs.Scope.{Means}
 use Rattle.compiler.specs.declared.plan.ExpressionPlan.{ExpressionPlan}
 
 -- an expression with these variables in scope, its nodes numbered from `first` toward `next`

@@ -8,11 +8,11 @@ use crate::expression::Compiled;
 use crate::expression::compile_expression;
 use crate::plan::ExpressionPlan;
 use crate::store::put;
+use entries::scope::Scope;
 use job::bounds::DEPTH_LIMIT;
 use job::dag::PUBLISH;
 use job::dag::RETURN;
 use job::dag::WORDS;
-use reader::scope::Scope;
 
 // Stores the sink of the goal, or of a definition.
 fn put_sink(dag: &mut [u32; WORDS], sink: usize, goal: bool)

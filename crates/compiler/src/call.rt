@@ -7,13 +7,13 @@ ghost use lib.Dec.{ltb};
 ghost use Rattle.job.specs.Entry.{high};
 ghost use Rattle.job.specs.Words.{headWords, arrayWords};
 ghost use Rattle.job.specs.Entry.{operandAt};
-ghost use Rattle.reader.specs.Checked.{Parts};
+ghost use Rattle.entries.specs.Checked.{Parts};
 ghost use Rattle.compiler.specs.CallNodeWords.{wordIf, placeWords, callNodeWords};
 use crate::store::put_four;
+use entries::entry::operand;
 use job::dag::HEAD_WORDS;
 use job::dag::ROW_WORDS;
 use job::dag::WORDS;
-use reader::entry::operand;
 
 // The kind of parameter `i` of `count`, whose entries begin at `at`, or 0.
 fn kind_word(kinds: &[u8], at: usize, i: usize, count: usize) -> u32

@@ -9,9 +9,9 @@ use crate::plan::ExpressionPlan;
 use crate::plan::left_plan;
 use crate::plan::right_plan;
 use crate::store::put;
+use entries::entry::operand;
 use job::dag::STOP;
 use job::dag::WORDS;
-use reader::entry::operand;
 
 // The entry and the node behind an expression, and the node at which a token enters it.
 pub struct Compiled {

@@ -4,7 +4,7 @@ ghost use Prim.Native.Nat.{_+_, _*_, _<_, _≤_};
 ghost use lib.Seq.{sets};
 ghost use Rattle.job.specs.Construct.{ownNodes};
 ghost use Rattle.job.specs.Words.{headWords, rowsOfNodes};
-ghost use Rattle.reader.specs.ExpressionSides.{joinOf};
+ghost use Rattle.entries.specs.ExpressionSides.{joinOf};
 ghost use Rattle.compiler.specs.JoinRoot.{joinRoot};
 use crate::plan::ExpressionPlan;
 use crate::store::put;

@@ -1,10 +1,10 @@
 // How an expression is compiled, and how the two sides of a join are.
-use reader::scope;
-use reader::scope::Scope;
+use entries::scope;
+use entries::scope::Scope;
 ghost use Prim.Native.Nat.{_<_, _≤_};
 ghost use lib.ListN.{length};
-ghost use Rattle.reader.specs.Scope.{ForEvery};
-ghost use Rattle.reader.specs.ExpressionSides.{joinOf};
+ghost use Rattle.entries.specs.Scope.{ForEvery};
+ghost use Rattle.entries.specs.ExpressionSides.{joinOf};
 ghost use Rattle.compiler.specs.PlanSides.{PlansLeft, PlansRight};
 
 // The variables in scope, the expression's first node, and the node toward which it goes.

@@ -14,9 +14,9 @@ use Rattle.job.specs.Construct.{nodeCount}
 use Rattle.job.specs.Words.{rowsOfNodes, bodyWords}
 use Rattle.job.specs.Read.{Got, Read, got, gives, readExp, readDefinition}
 use Rattle.job.proofs.Position.{bind-got, reread}
-use Rattle.reader.specs.Checked.{Parts, entriesFrom}
-use Rattle.reader.specs.Scope.{Means}
-use Rattle.reader.specs.declared.scope.Scope.{Scope}
+use Rattle.entries.specs.Checked.{Parts, entriesFrom}
+use Rattle.entries.specs.Scope.{Means}
+use Rattle.entries.specs.declared.scope.Scope.{Scope}
 use Rattle.reader.specs.Definition.{readDefinitionList, definitionNodes, definitionListNodes, definitionSizes}
 use Rattle.reader.proofs.DefinitionLoop.{Defined, defined}
 use Rattle.compiler.specs.ExpressionCompiled.{reading}

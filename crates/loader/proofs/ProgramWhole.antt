@@ -16,9 +16,9 @@ use Rattle.job.proofs.EncodeRead.{entries-well-formed}
 use Rattle.job.proofs.Size.{nodes-few}
 use Rattle.job.proofs.Position.{reread}
 use Rattle.job.proofs.Entry.{length-entries}
-use Rattle.reader.specs.Checked.{Parts, entriesFrom}
-use Rattle.reader.specs.Scope.{Means}
-use Rattle.reader.specs.declared.scope.Scope.{Scope}
+use Rattle.entries.specs.Checked.{Parts, entriesFrom}
+use Rattle.entries.specs.Scope.{Means}
+use Rattle.entries.specs.declared.scope.Scope.{Scope}
 use Rattle.reader.specs.Definition.{readDefinitionList, definitionListNodes, definitionSizes}
 use Rattle.reader.proofs.ProgramNodes.{construct-length}
 use Rattle.reader.proofs.ProgramParts.{AllDefined, all-defined, Parted, parted}

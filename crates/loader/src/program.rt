@@ -1,15 +1,15 @@
 // An accepted program: the bodies of its definitions, its goal, and the dag's head.
 use crate::head;
 use compiler::body;
+use entries::entry;
+use entries::scope;
 use job::bounds::MOST_DEFINITIONS;
 use job::dag::WORDS;
-use reader::entry;
-use reader::scope;
 ghost use mathlib.Core.Path.{_≡_};
 ghost use Prim.Native.Nat.{_≤_};
 ghost use Rattle.job.specs.Entry.{entries};
 ghost use Rattle.job.specs.Read.{readEntries};
-ghost use Rattle.reader.specs.Checked.{Parts};
+ghost use Rattle.entries.specs.Checked.{Parts};
 ghost use Rattle.reader.specs.Definition.{readDefinitionList};
 ghost use Rattle.loader.specs.ProgramStored.{DefinitionsRead, Accepts, placeBehind, storedDefinitions, storedProgram};
 

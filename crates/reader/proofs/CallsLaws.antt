@@ -14,8 +14,8 @@ use Rattle.job.specs.Entry.{entry, entries, operandAt}
 use Rattle.job.specs.Read.{_>>=_, need, callHolds, definitionsHold}
 use Rattle.job.proofs.Test.{ne-eqb, lt-ltb, le-not-ltb}
 use Rattle.job.proofs.Position.{entries-end, entries-at}
-use Rattle.reader.specs.Checked.{entriesFrom, checked, checkedTest}
-use Rattle.reader.specs.declared.checked.Checked.the-variants.{Next, Refused}
+use Rattle.entries.specs.Checked.{entriesFrom, checked, checkedTest}
+use Rattle.entries.specs.declared.checked.Checked.the-variants.{Next, Refused}
 
 other-kind : (fs : List ℕ) (k o : ℕ) → (k ≡ 2 → ⊥) → callHolds fs (entry k o) ≡ true
 unfolding callHolds _or_

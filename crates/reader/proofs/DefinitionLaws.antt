@@ -11,11 +11,11 @@ use Rattle.job.specs.Entry.{kindOf, rowHolds, operandAt}
 use Rattle.job.specs.Read.{Got, Read, got, refused, _>>=_, gives, need, entryAt, readExp, isDefinition, readDefinition}
 use Rattle.job.proofs.Test.{le-leb, lt-not-leb}
 use Rattle.job.proofs.Position.{entries-end, entries-at}
-use Rattle.reader.specs.Checked.{entriesFrom, checked, checkedExp, more}
+use Rattle.entries.specs.Checked.{entriesFrom, checked, checkedExp, more}
 use Rattle.reader.specs.Definition.{checkedDefinition}
-use Rattle.reader.specs.declared.checked.Checked.{Checked}
-use Rattle.reader.specs.declared.checked.Checked.the-variants.{Refused}
-use Rattle.reader.proofs.EntryKinds.{by-kind}
+use Rattle.entries.specs.declared.checked.Checked.{Checked}
+use Rattle.entries.specs.declared.checked.Checked.the-variants.{Refused}
+use Rattle.entries.proofs.EntryKinds.{by-kind}
 
 -- an entry of another kind is no definition
 other-kind : (k : ℕ) → (k ≡ 6 → ⊥) → isDefinition (kindOf k) ≡ false

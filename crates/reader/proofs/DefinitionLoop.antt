@@ -15,13 +15,13 @@ use Rattle.job.proofs.Test.{leb-le}
 use Rattle.job.proofs.Stores.{sets-append}
 use Rattle.job.proofs.Position.{entries-end, entries-at, bind-got, refused-got, same-got, test-holds, exp-from}
 use Rattle.job.proofs.Entry.{length-entries}
-use Rattle.reader.specs.Checked.{entriesFrom, checked}
+use Rattle.entries.specs.Checked.{entriesFrom, checked}
 use Rattle.reader.specs.Definition.{readDefinitionList, definitionNodes, definitionListNodes, definitionSizes, checkedDefinition}
 use Rattle.reader.specs.Definition.{checkedDefinitionList, andThen, definitionsFound, DefinitionsHold}
-use Rattle.reader.specs.declared.checked.Checked.{Checked}
-use Rattle.reader.specs.declared.checked.Checked.the-variants.{Next, Refused}
-use Rattle.reader.proofs.CheckedLaws.{checked-refused, checked-next}
-use Rattle.reader.proofs.ExpressionNodes.{read-few}
+use Rattle.entries.specs.declared.checked.Checked.{Checked}
+use Rattle.entries.specs.declared.checked.Checked.the-variants.{Next, Refused}
+use Rattle.entries.proofs.CheckedLaws.{checked-refused, checked-next}
+use Rattle.entries.proofs.ExpressionNodes.{read-few}
 
 -- a definition that was read from entry `at` on, and its body
 pub record Defined (ks os : List ℕ) (at : ℕ) (g : Got Definition) : Type 0 where

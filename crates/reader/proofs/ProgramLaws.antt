@@ -11,12 +11,12 @@ use Rattle.job.specs.Read.{Got, Read, got, refused, _>>=_, need, readExp, lefto
 use Rattle.job.specs.Construct.{nodeCount, construct}
 use Rattle.job.proofs.Stores.{take-sets}
 use Rattle.job.proofs.Position.{entries-end, entries-at, exp-from}
-use Rattle.reader.specs.Checked.{entriesFrom, checked, checkedTest, checkedExp, checkedProgram, afterwards}
+use Rattle.entries.specs.Checked.{entriesFrom, checked, checkedTest, checkedExp, checkedProgram, afterwards}
 use Rattle.reader.specs.Definition.{readDefinitionList, definitionListNodes, definitionsFound, DefinitionsHold}
-use Rattle.reader.specs.declared.checked.Checked.{Checked}
-use Rattle.reader.specs.declared.checked.Checked.the-variants.{Next, Refused}
-use Rattle.reader.proofs.CheckedLaws.{checked-refused, checked-next}
-use Rattle.reader.proofs.ExpressionNodes.{next-few}
+use Rattle.entries.specs.declared.checked.Checked.{Checked}
+use Rattle.entries.specs.declared.checked.Checked.the-variants.{Next, Refused}
+use Rattle.entries.proofs.CheckedLaws.{checked-refused, checked-next}
+use Rattle.entries.proofs.ExpressionNodes.{next-few}
 use Rattle.reader.proofs.ProgramParts.{whole, goalRead, AllDefined, all-defined, all-found, tests, entries-opened}
 use Rattle.reader.proofs.ProgramNodes.{construct-length}
 

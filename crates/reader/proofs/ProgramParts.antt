@@ -10,7 +10,7 @@ use Rattle.job.specs.Entry.{Entry}
 use Rattle.job.specs.Read.{Got, Read, got, refused, _>>=_, gives, readExp, readDefinition, readProgram, leftovers, definitionsHold}
 use Rattle.job.specs.Read.{readEntries}
 use Rattle.job.proofs.Position.{bind-got, same-got}
-use Rattle.reader.specs.Checked.{entriesFrom}
+use Rattle.entries.specs.Checked.{entriesFrom}
 use Rattle.reader.specs.Definition.{readDefinitionList, definitionListNodes, andThen, definitionsFound}
 use Rattle.reader.proofs.DefinitionLoop.{Defined, defined}
 

@@ -18,14 +18,14 @@ use Rattle.job.specs.Read.{declined, readerAnswer, readTable}
 use Rattle.job.proofs.Test.{eq-eqb, ne-eqb, le-leb, lt-not-leb}
 use Rattle.job.proofs.Read.{Yields, reads, says-bind, yields-map, yields-itself}
 use Rattle.job.proofs.Sizes.{sizes-found, sizes-pass}
-use Rattle.reader.specs.Checked.{checkedProgram}
+use Rattle.entries.specs.Checked.{checkedProgram}
 use Rattle.reader.specs.Definition.{definitionSizes, definitionsFound}
 use Rattle.reader.specs.Table.{tested, whereSized, sizesKept}
-use Rattle.reader.specs.declared.checked.Checked.{Checked}
-use Rattle.reader.specs.declared.checked.Checked.the-variants.{Next, Refused}
+use Rattle.entries.specs.declared.checked.Checked.{Checked}
+use Rattle.entries.specs.declared.checked.Checked.the-variants.{Next, Refused}
 use Rattle.reader.specs.declared.table.Tested.{Tested}
 use Rattle.reader.specs.declared.table.Tested.the-variants.{Accepted, Declined}
-use Rattle.reader.proofs.CheckedLaws.{checked-refused, checked-next}
+use Rattle.entries.proofs.CheckedLaws.{checked-refused, checked-next}
 use Rattle.reader.proofs.ProgramParts.{parted, all-found}
 
 -- two bytes at an index

@@ -8,8 +8,8 @@ use Rattle.job.specs.Syntax.{Definition, formalsOf}
 use Rattle.job.specs.Entry.{Entry}
 use Rattle.job.specs.Read.{Got, Read, got, refused, _>>=_, gives, readDefinition}
 use Rattle.job.specs.Construct.{nodeCount}
-use Rattle.reader.specs.Checked.{checked}
-use Rattle.reader.specs.declared.checked.Checked.{Checked}
+use Rattle.entries.specs.Checked.{checked}
+use Rattle.entries.specs.declared.checked.Checked.{Checked}
 
 -- so many definitions, from entry e on
 unfoldable pub readDefinitionList : ℕ → ℕ → List Entry → Read (List Definition)

@@ -1,13 +1,13 @@
 // Calls of definitions: each names one that there is, with as many parameters as it has formals.
-use crate::checked::Checked;
-use crate::entry;
+use entries::checked::Checked;
+use entries::entry;
 use job::bounds::MOST_DEFINITIONS;
 ghost use mathlib.Core.Path.{_≡_};
 ghost use Prim.Native.Nat.{_≤_};
 ghost use lib.ListN.{length, take};
 ghost use Rattle.job.specs.Entry.{entry, entries};
 ghost use Rattle.job.specs.Read.{callHolds, definitionsHold};
-ghost use Rattle.reader.specs.Checked.{Parts, checkedTest};
+ghost use Rattle.entries.specs.Checked.{Parts, checkedTest};
 
 // May a call with this operand stand beside `count` definitions with these counts of formals?
 fn call_holds(operand: u32, formals: &[u32; MOST_DEFINITIONS], count: usize) -> bool

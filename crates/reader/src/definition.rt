@@ -1,9 +1,9 @@
 // The definitions in front of the goal.
-use crate::checked;
-use crate::checked::Checked;
-use crate::entry;
-use crate::expression;
-use crate::scope;
+use entries::checked;
+use entries::checked::Checked;
+use entries::entry;
+use entries::expression;
+use entries::scope;
 use job::bounds::DEPTH_LIMIT;
 use job::bounds::MOST_DEFINITIONS;
 use job::bounds::PARAMETER_LIMIT;
@@ -11,7 +11,7 @@ ghost use mathlib.Core.Path.{_≡_};
 ghost use Prim.Native.Nat.{_≤_};
 ghost use Rattle.job.specs.Entry.{entries};
 ghost use Rattle.job.specs.Read.{readDefinition};
-ghost use Rattle.reader.specs.Checked.{Parts, entriesFrom};
+ghost use Rattle.entries.specs.Checked.{Parts, entriesFrom};
 ghost use Rattle.reader.specs.Definition.{checkedDefinition, DefinitionsHold};
 
 // The definition from entry `at` on.

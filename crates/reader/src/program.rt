@@ -1,10 +1,10 @@
 // A table's entries: definitions, goal, leftovers, calls.
 use crate::calls;
-use crate::checked;
-use crate::checked::Checked;
 use crate::definition;
-use crate::expression;
-use crate::scope;
+use entries::checked;
+use entries::checked::Checked;
+use entries::expression;
+use entries::scope;
 use job::bounds::DEPTH_LIMIT;
 use job::bounds::MOST_DEFINITIONS;
 ghost use mathlib.Core.Path.{_≡_};
@@ -12,7 +12,7 @@ ghost use Prim.Native.Nat.{_≤_};
 ghost use lib.Seq.{sets};
 ghost use Rattle.job.specs.Entry.{entries};
 ghost use Rattle.job.specs.Read.{leftovers, readEntries};
-ghost use Rattle.reader.specs.Checked.{Parts, entriesFrom, checkedTest, checkedProgram};
+ghost use Rattle.entries.specs.Checked.{Parts, entriesFrom, checkedTest, checkedProgram};
 ghost use Rattle.reader.specs.Definition.{definitionsFound, definitionSizes};
 
 // Does the table end at entry `at`?

@@ -1,6 +1,6 @@
 // The whole table: its length and its sizes, then its entries.
-use crate::checked::Checked;
 use crate::program;
+use entries::checked::Checked;
 use job::bounds::ENTRY_LIMIT;
 use job::bounds::MOST_DEFINITIONS;
 ghost use mathlib.Core.Path.{_≡_};

@@ -8,6 +8,7 @@ use crate::row::Row;
 use crate::row::read_row;
 use console::print::number;
 use console::print::put;
+use entries::entry::four_bytes;
 use job::dag::WORDS;
 use libc::STDIN_FILENO;
 use machine::advance::advance;
@@ -16,7 +17,6 @@ use machine::start::start;
 use machine::step::step;
 use model::record::Machine;
 use model::reply::Report;
-use reader::entry::four_bytes;
 use show::fields::record;
 use sites::number::signed;
 

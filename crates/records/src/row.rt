@@ -1,5 +1,5 @@
 // A case's rows: eight bytes that set one word, or make one call (docs/src/README.md, "Records as bytes").
-use reader::entry::four_bytes;
+use entries::entry::four_bytes;
 ghost use Prim.Native.Nat.{_+_, _≤_};
 ghost use lib.ListN.{length};
 

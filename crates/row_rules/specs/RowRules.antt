@@ -1,10 +1,7 @@
--- The rules that one token or one cell keeps, the parameters of a call, and the names of an order among the words. Assumes nothing: these
--- are definitions.
+-- The rules that one token or one cell keeps, and the parameters of a call. Assumes nothing: these are definitions.
 use mathlib.Core.Bool.{Bool}
 use mathlib.Core.List.{List, [], _∷_}
-use mathlib.Core.Path.{_≡_}
-use Prim.Native.Nat.{ℕ, _+_, _<_}
-use lib.ListN.{length, getD}
+use Prim.Native.Nat.{ℕ}
 use Rattle.job.specs.Test.{_and_, forAll, once}
 use Rattle.job.specs.Node.{Dag}
 use Rattle.job.specs.Words.{paramsFrom}
@@ -31,8 +28,3 @@ cellRule cs c = cellInRange paper c and chainEnds cs 32 (c .parent)
 -- "at a call no empty variable", at the two words of one parameter
 abbrev pub pairBound : List Bind → Bool → (kind word : ℕ) → Bool
 pairBound binds named k w = forAll (notEmpty binds) (paramsFrom (once named) (k ∷ w ∷ []))
-
--- the 64 words from an index on are these names
-pub record NamesAt (ws : List ℕ) (at : ℕ) (names : List ℕ) : Type 0 where
-  pub long : length names ≡ 64
-  pub words : (i : ℕ) → i < 64 → getD ws (at + i) 0 ≡ getD names i 0

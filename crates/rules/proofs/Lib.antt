@@ -1,6 +1,5 @@
 -- Laws of the tests of a whole record; beside them stand the proofs of its functions.
 pub mod HandlesLaws
-pub mod OrderCounts
 pub mod RestBlank
 pub mod RulesRows
 pub mod OneRow

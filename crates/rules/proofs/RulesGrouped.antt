@@ -23,7 +23,7 @@ use Rattle.model.proofs.Machine.InUse.{tokens-used, cells-used}
 use Rattle.job.proofs.Lists.{same-when}
 use Rattle.job.proofs.Both.{both, three-are, and-assoc}
 use Rattle.row_rules.specs.RowRules.{tokenRule, cellRule}
-use Rattle.rules.specs.OrderCounts.{namedAs, namedByOrders}
+use Rattle.order_rules.specs.OrderCounts.{namedAs, namedByOrders}
 use Rattle.rules.proofs.RestBlank.{all-both}
 use Rattle.rules.proofs.RulesRows.{from-both}
 

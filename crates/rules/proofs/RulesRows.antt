@@ -19,8 +19,8 @@ use Rattle.job.proofs.Both.{both, both-is, and-true, and-false, regroup}
 use Rattle.job.proofs.Test.{and-left}
 use Rattle.record.specs.Layout.{stateKind}
 use Rattle.row_rules.specs.RowRules.{tokenRule}
-use Rattle.rules.specs.OrderCounts.{namedByOrders}
-use Rattle.rules.proofs.OrderCounts.{from-turn}
+use Rattle.order_rules.specs.OrderCounts.{namedByOrders}
+use Rattle.order_rules.proofs.OrderCounts.{from-turn}
 use Rattle.rules.proofs.RestBlank.{passed, pass-turn, marked-one, other-one}
 use Rattle.model.proofs.Machine.Blanking.{state-blank}
 

@@ -1,14 +1,14 @@
 // The index rules of a dag and a record, all together.
 ghost use Rattle.rules.specs.Tested.{Tested};
 use crate::cells::cells_hold;
-use crate::order::queue_order;
-use crate::order::timer_order;
-use crate::order::wait_order;
 use crate::tokens::tokens_hold;
 use coded::word_tests::whole;
 use dag_rules::dag::dag_holds;
 use job::dag::WORDS;
 use model::record::Machine;
+use order_rules::order::queue_order;
+use order_rules::order::timer_order;
+use order_rules::order::wait_order;
 use row_rules::range::sizes_in_range;
 
 // "14: dag or machine record breaks an index rule", or the words are no record's. The marks say which tokens and cells are in use.

@@ -1,5 +1,6 @@
 // Loads each table of standard input and prints what came back, of an accepted one also the words of its dag. A table stands behind its
 // length, 4 bytes, the lowest first; there are at most 65,536 bytes in all.
+use entries::entry::four_bytes;
 use job::dag::DEFINITION_COUNT;
 use job::dag::DEFINITIONS_START;
 use job::dag::HEAD_WORDS;
@@ -10,7 +11,6 @@ use libc::STDIN_FILENO;
 use libc::STDOUT_FILENO;
 use loader::table;
 use loader::table::Loaded;
-use reader::entry::four_bytes;
 ghost use Prim.Native.Nat.{_+_, _≤_};
 ghost use lib.ListN.{length};
 

@@ -12,7 +12,7 @@ use Rattle.compiler.proofs.expression.compile_expression.Reads as reads
 use Rattle.compiler.proofs.expression.compile_expression.Kinds as kinds
 use Rattle.compiler.proofs.expression.+compile_expression.Lts-compile_expression as lts
 use Rattle.compiler.proofs.call.put_call.Reads as put-call-reads
-use Rattle.reader.proofs.entry.operand.Reads as operand-reads
+use Rattle.entries.proofs.entry.operand.Reads as operand-reads
 use Rattle.compiler.proofs.expression.single.Reads as single-reads
 use Rattle.compiler.proofs.join.join_root.Reads as join-root-reads
 use Rattle.compiler.proofs.join.put_own.Reads as put-own-reads

@@ -2,7 +2,7 @@
 use borrow.Author.Needs.{needs}
 use native.Mathlib.Omega.{arith}
 use Rattle.reader.proofs.DefinitionLaws.{definition-end, definition-other, definition-row, definition-body}
-use Rattle.reader.proofs.ExpressionNodes.{nodes-few}
+use Rattle.entries.proofs.ExpressionNodes.{nodes-few}
 use Rattle.reader.proofs.definition.check_definition.Statement.{statement}
 use Rattle.reader.proofs.definition.check_definition.Tie as tie
 

@@ -1,0 +1,2 @@
+-- Laws of the tests of the orders; beside them stand the proofs of its functions.
+pub mod OrderCounts

@@ -1,0 +1,2 @@
+-- What the contracts of the tests of the orders cite.
+pub mod OrderCounts
