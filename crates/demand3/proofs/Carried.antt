@@ -36,7 +36,8 @@ use Rattle.job.proofs.Test.{clash}
 use Rattle.model.proofs.Machine.Marks.{Free, marks-same, marks-added, marks-removed}
 use Rattle.model.proofs.Machine.Rules.{EachRuleHolds, each-rule-holds}
 use Rattle.model.proofs.Machine.Inside.{Fits, fits-blank, With, tokens-inside, cells-inside}
-use Rattle.model.proofs.Machine.WrittenTokens.{fits-same, fits-binding, Woken, wakes, stays, woken-cases, woken-blank, due-live, fits-callee}
+use Rattle.model.proofs.Machine.WrittenTokens.{fits-same, fits-binding, fits-callee, Woken, wakes, stays, woken-cases, woken-blank}
+use Rattle.model.proofs.Machine.WrittenTokens.{due-live}
 use Rattle.model.proofs.Machine.Clock.{woken-at}
 use Rattle.model.proofs.Machine.Used.{Used, UsedCell, InsideUsed, used-fits, used-parent, tokens-size, cells-size, live-used}
 use Rattle.model.proofs.Machine.ActingInside.{write-inside, fork-inside, call-inside, split-inside}
@@ -259,7 +260,8 @@ module _ (lim : Limits) (d : Dag) (m : Machine) (holds : rulesHold lim d m ≡ t
           (fork-adds lim d m holds p live _ q (withNode left t) (withNode right t) refl free refl live refl live refl refl refl)
 
       pub entered-carried : (root : ℕ) (ps : List Param) (next : ℕ)
-          → Carried (enqueue q (newToken q (callee (places.At p) t root ps) (put p (withNode next (withState states.Frame t)) (taken m place))))
+          → Carried
+          (enqueue q (newToken q (callee (places.At p) t root ps) (put p (withNode next (withState states.Frame t)) (taken m place))))
           (set (tokensUsed m) q true) (cellsUsed m)
       unfolding withOrders withCounts put withTables enqueue newToken withNode withState isLive
       entered-carried root ps next =

@@ -64,10 +64,12 @@ module _ (lim : Limits) (d : Dag) (m : Machine) (holds : rulesHold lim d m ≡ t
 
       -- "the token becomes a frame at next, the callee is new"
       pub entered-whole : (root : ℕ) (ps : List Param) (next : ℕ)
-          → Whole (enqueue q (newToken q (callee (places.At p) t root ps) (put p (withNode next (withState states.Frame t)) (taken m place))))
+          → Whole
+          (enqueue q (newToken q (callee (places.At p) t root ps) (put p (withNode next (withState states.Frame t)) (taken m place))))
       unfolding withOrders withCounts put withTables enqueue newToken withNode withState isLive
       entered-whole root ps next =
-          call-links lim d m holds p acting-live _ q (withNode next (withState states.Frame t)) (callee (places.At p) t root ps) refl place-free
+          call-links lim d m holds p acting-live _ q (withNode next (withState states.Frame t))
+          (callee (places.At p) t root ps) refl place-free
           refl refl refl refl refl refl refl
 
       -- "left binds x to the new cell; right is new and belongs to it"

@@ -43,7 +43,8 @@ use Rattle.simulation.proofs.AbstractMachine.{Binding, Frame, at, running, Stor
 use Rattle.simulation.proofs.Store.{_is-in_}
 use Rattle.lockstep.proofs.Labels.{Labels, nodeMeant, programOf, Fresh, Follows, Enters}
 use Rattle.lockstep.proofs.Tails.{TailLabels}
-use Rattle.lockstep.proofs.View.{World, cellsOfCaller, absent, present, ready, waiting, called, due, valued, BindingSeen, FrameSeen, frameAt}
+use Rattle.lockstep.proofs.View.{World, cellsOfCaller, absent, present, ready, waiting, called, due, valued, BindingSeen}
+use Rattle.lockstep.proofs.View.{FrameSeen, frameAt}
 use Rattle.lockstep.proofs.View.{frame-seen, StateSeen, TokenSeen, sees}
 use Rattle.lockstep.proofs.Seen.{world, tokens-of, used-fits}
 use Rattle.lockstep.proofs.Slots.{found, values-seen, formals-seen}

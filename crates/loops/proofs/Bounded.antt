@@ -1,14 +1,12 @@
--- A loop in tail position runs in bounded tables: the goal's code needs what the table says, each body's has no branch, so every record of a
--- run is light, and light records have room. Assumes nothing.
-use mathlib.Core.Path.{_≡_, refl, sym}
+-- A loop in tail position runs in bounded tables: the goal's code needs what the table says, each body's has no branch, so every record
+-- of a run is light, and light records have room. Assumes nothing.
+use mathlib.Core.Path.{_≡_, refl}
 use mathlib.Core.Bool.{true}
 use mathlib.Core.List.{List, []}
-use Prim.Native.Nat.{ℕ, suc, _<_, _≤_}
+use Prim.Native.Nat.{ℕ, _<_, _≤_}
 use native.Mathlib.Omega.{arith}
 use Rattle.job.specs.Syntax.{Program}
-use Rattle.job.specs.Read.{readTable, accepted}
 use Rattle.job.specs.WellFormed.{WellFormed}
-use Rattle.job.specs.Node.{Dag}
 use Rattle.job.specs.Construct.{construct}
 use Rattle.model.specs.Machine.Limits.{Limits, limits}
 use Rattle.model.specs.Run.Call.{Call}

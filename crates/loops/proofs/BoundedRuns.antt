@@ -1,35 +1,33 @@
 -- Along a run the machine is seen as a state whose tokens need no more than at the start, and the cells in use with those still needed are
 -- no more either: each accepted call is a step of the abstract machine, and only a where adds a cell. Assumes nothing.
 use mathlib.Core.Path.{_≡_, refl, sym, _∙_, ap, subst}
-use mathlib.Core.Bool.{Bool, true, false}
-use mathlib.Core.List.{List, [], _∷_}
-use Prim.Native.Nat.{ℕ, suc, _+_, _<_, _≤_}
+use mathlib.Core.Bool.{true, false}
+use mathlib.Core.List.{List}
+use Prim.Native.Nat.{ℕ, _+_, _<_, _≤_}
 use native.Mathlib.Omega.{arith}
 use lib.ListN.{getD}
 use lib.IntN.{ℤ}
 use Rattle.job.specs.Node.{Node, Dag, nodeAt, dagHolds}
-use Rattle.job.specs.Test.{without}
 use Rattle.model.specs.Machine.Limits.{Limits}
-use Rattle.model.specs.Machine.Blank.{tokenAt}
 use Rattle.model.specs.Machine.InUse.{tokensUsed, cellsUsed, marked}
 use Rattle.model.specs.Machine.Rules.{rulesHold}
 use Rattle.model.specs.Machine.Reply.{isRefused}
-use Rattle.model.specs.Machine.Start.{start, startMachine}
+use Rattle.model.specs.Machine.Start.{start}
 use Rattle.model.specs.Machine.Step as Step
 use Rattle.model.specs.Machine.Step.{hasTokenPlace, hasCellPlace, takes}
 use Rattle.model.specs.Run.Call.{Call, step, answer, advance, runner, outcomeOf, machineAfter, started}
 use Rattle.model.specs.declared.record.Machine.{Machine}
 use Rattle.model.specs.declared.reply.Outcome.{Outcome}
-use Rattle.calculus.specs.Event.{Event, Label}
+use Rattle.calculus.specs.Event.{Event}
 use Rattle.calculus.specs.Expression.{Exp}
 use Rattle.job.proofs.Test.{lt-ltb}
 use Rattle.model.proofs.Machine.Refused.{StepAccepted, step-accepted}
 use Rattle.model.proofs.Machine.Rules.{ready-state}
 use Rattle.model.proofs.Machine.StartUsed.{start-within}
 use Rattle.model.proofs.Run.Queue.{queue-rules-hold}
-use Rattle.model.proofs.Run.Passage.{calls-keep, eventsBy}
+use Rattle.model.proofs.Run.Passage.{calls-keep}
 use Rattle.simulation.proofs.AbstractMachine as Abstract
-use Rattle.simulation.proofs.AbstractMachine.{Program, Binding, Frame, Move, at, running, Store, state, startAt, after}
+use Rattle.simulation.proofs.AbstractMachine.{Program, Binding, Frame, Move, at, running, after}
 use Rattle.simulation.proofs.Shuffle.{Split}
 use Rattle.lockstep.proofs.Labels.{Labels, nodeMeant, programOf, Flow}
 use Rattle.lockstep.proofs.View.{World}
@@ -161,7 +159,8 @@ module _ (lim : Limits) (d : Dag) (M : Labels) (bodies : ℕ → Exp) (fits : Fi
 
   -- and where the limits are no smaller there is room for what a step's token adds
   room-around : (m : Machine) {S L R : List Abstract.Token} {n v : ℕ} {B : List Binding} {F : List Frame} {U : List ℕ} {z : ℤ}
-      → Split (running (at n B F U) z) S L R → marked (tokensUsed m) ≤ uses S → marked (cellsUsed m) + v ≤ C → T ≤ lim .tokens → C ≤ lim .cells
+      → Split (running (at n B F U) z) S L R → marked (tokensUsed m) ≤ uses S → marked (cellsUsed m) + v ≤ C
+      → T ≤ lim .tokens → C ≤ lim .cells
       → Around G rank top (running (at n B F U) z) L R T v
       → (addedAt G (G .node n) ≡ 1 → hasTokenPlace lim m ≡ true) × (madeAt (G .node n) ≡ 1 → hasCellPlace lim m ≡ true)
   unfolding hasTokenPlace hasCellPlace

@@ -4,7 +4,7 @@ use mathlib.Core.Path.{_≡_, refl, _∙_, subst}
 use mathlib.Core.Logic.{_⊎_, inl, inr}
 use mathlib.Core.Bool.{Bool, true, false}
 use mathlib.Core.List.{List, [], _∷_}
-use Prim.Native.Nat.{ℕ, zero, suc, _+_, _<_, _≤_, max}
+use Prim.Native.Nat.{ℕ, zero, suc, _+_, _<_, _≤_}
 use native.Mathlib.Nat.{le-max-left, le-max-right}
 use native.Mathlib.Omega.{arith}
 use lib.ListN.{length}
@@ -116,8 +116,8 @@ module _ (G : Program) (tails : Tails G) (rank : ℕ → ℕ) (top : ℕ) where
   entry-steady : {r : ℕ} {e : Calculus.Exp} {n : ℕ} (x : Definition) → e ≡ expMeant (levels (x .formals)) (x .body)
       → unbranching rank r true (x .body) ≡ true → Laid G Node.return e n → Steady G rank top r n
   entry-steady {n = n} x i u b =
-      body-steady G tails rank top _ true (x .body) u (subst (λ e. Code G e n (b .sink)) i (b .laid)) (return (Relation.return (b .at-sink)))
-      (Steady.return (b .at-sink))
+      body-steady G tails rank top _ true (x .body) u (subst (λ e. Code G e n (b .sink)) i (b .laid))
+      (return (Relation.return (b .at-sink))) (Steady.return (b .at-sink))
 
   pub entries-steady : (ds : List Definition) → bodiesLoop rank top 0 ds ≡ true → G .count ≡ length ds
       → ((d : ℕ) → G .body d ≡ bodyMeant ds d) → Bodies G → Entries G rank top

@@ -9,12 +9,11 @@ use native.Mathlib.Omega.{arith}
 use lib.ListN.{length, length-append}
 use lib.Dec.{eqb}
 use Rattle.job.specs.Test.{once, occurrences}
-use Rattle.job.proofs.Test.{clash, eqb-eq}
+use Rattle.job.proofs.Test.{eqb-eq}
 use Rattle.model.specs.Machine.Blank.{tokenAt}
 use Rattle.model.specs.Machine.InUse.{tokensUsed, marked}
 use Rattle.model.specs.declared.token.Held.{Held}
 use Rattle.model.specs.declared.token.Place.{Place}
-use Rattle.model.specs.declared.token.Place.the-variants as places
 use Rattle.model.specs.declared.token.State.{State}
 use Rattle.model.specs.declared.token.Token.{Token}
 use Rattle.model.specs.declared.record.Machine.{Machine}
@@ -26,10 +25,11 @@ use Rattle.simulation.proofs.AbstractMachine.{Binding, Frame, at, Store, state}
 use Rattle.simulation.proofs.Shuffle.{Split, first, later}
 use Rattle.simulation.proofs.Store.{_is-in_}
 use Rattle.lockstep.proofs.Labels.{Labels}
-use Rattle.lockstep.proofs.View.{World, StateSeen, ready, waiting, called, due, FramesSeen, outermost, calledBy, TokenSeen, sees, TokensSeen}
+use Rattle.lockstep.proofs.View.{World, StateSeen, ready, waiting, called, due, FramesSeen, outermost, calledBy, TokenSeen, sees}
+use Rattle.lockstep.proofs.View.{TokensSeen}
 use Rattle.lockstep.proofs.View.{nobody, also}
-use Rattle.lockstep.proofs.Seen.{Core, world, tokenMarks, Sees, seenAs, tokens-of, live-listed}
-use Rattle.loops.proofs.Weights.{placeOf, framesOf}
+use Rattle.lockstep.proofs.Seen.{Core, tokenMarks, Sees, seenAs, tokens-of, live-listed}
+use Rattle.loops.proofs.Weights.{framesOf}
 
 -- the places one lower, but for 0
 unfoldable lower : List ℕ → List ℕ

@@ -1,13 +1,11 @@
--- A call is not refused with 10 or 11 where there is room for what its token adds: the instruction table tests for room at fork, where and a
--- definition call that is no tail call, and nowhere else. Assumes nothing.
-use mathlib.Core.Path.{_≡_, refl, ap}
+-- A call is not refused with 10 or 11 where there is room for what its token adds: the instruction table tests for room at fork, where and
+-- a definition call that is no tail call, and nowhere else. Assumes nothing.
+use mathlib.Core.Path.{_≡_, refl}
 use mathlib.Core.Bool.{Bool, true, false}
 use mathlib.Core.List.{List}
 use Prim.Native.Nat.{ℕ, _<_}
 use native.Mathlib.Omega.{arith}
-use lib.ListN.{getD}
 use lib.Dec.{ltb}
-use lib.IntN.{ℤ}
 use Rattle.job.specs.Site.{BuiltinReply, gives, silent, later, isBuiltin, builtin, dueTime}
 use Rattle.job.specs.Syntax.{Param}
 use Rattle.job.specs.Node.{Node, Dag}

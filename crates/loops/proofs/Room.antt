@@ -1,16 +1,14 @@
 -- A token that may add a token needs one more than it and its callers are; one that adds a cell needs a cell. Assumes nothing.
-use mathlib.Core.Path.{_≡_, refl, sym, _∙_, ap, subst}
+use mathlib.Core.Path.{_≡_, ap}
 use mathlib.Core.Bool.{Bool, true, false}
-use mathlib.Core.List.{List, [], _∷_}
+use mathlib.Core.List.{List}
 use Prim.Native.Nat.{ℕ, suc, _+_, _≤_}
 use native.Mathlib.Omega.{arith}
 use lib.ListN.{length}
-use Rattle.calculus.specs.Expression.{Param}
-use Rattle.simulation.proofs.Shuffle.{Split, first, later}
 use Rattle.simulation.proofs.AbstractMachine.{Node, Program, Binding, Frame, at, Token}
-use Rattle.loops.proofs.Weights.{placeOf, framesOf, madeAt, Weighs, Steady, Chain, PlaceWeighs, inGoal, inBody, Weighed, nobody, also}
+use Rattle.loops.proofs.Weights.{placeOf, framesOf, madeAt, Weighs, Steady, Chain, PlaceWeighs, inGoal, inBody, Weighed, nobody}
+use Rattle.loops.proofs.Weights.{also}
 use Rattle.loops.proofs.Weights.{weighs-some, chain-length, place-uses}
-use Rattle.loops.proofs.StepWeighs.{Around, around}
 use Rattle.loops.proofs.Covered.{uses}
 
 abbrev pub unlessTail : Bool → ℕ

@@ -2,17 +2,17 @@
 -- a cell that is set ends tokens, a clock move leaves each where it stands. Assumes nothing.
 use mathlib.Core.Path.{_≡_, refl, sym, subst}
 use mathlib.Core.Bool.{Bool, true, false}
-use mathlib.Core.List.{List, [], _∷_, _++_, map}
+use mathlib.Core.List.{List, _∷_, _++_, map}
 use Prim.Native.Nat.{ℕ, _+_, _≤_}
 use native.Mathlib.Omega.{arith}
 use lib.Dec.{leb}
-use lib.IntN.{ℤ}
 use Rattle.job.specs.Test.{select}
 use Rattle.calculus.specs.Event.{Label}
 use Rattle.simulation.proofs.Shuffle.{Split, first, later}
-use Rattle.simulation.proofs.AbstractMachine.{Program, Token, running, calledOut, dueLater, Store, wake, wokenIf, isOutOf, Effect, Move, acts}
+use Rattle.simulation.proofs.AbstractMachine.{Program, Token, running, calledOut, dueLater, Store, wake, wokenIf, isOutOf, Effect, Move}
 use Rattle.simulation.proofs.AbstractMachine.{answered, effect, State, state, after, Step, step, ticks}
-use Rattle.loops.proofs.Weights.{placeOf, nodeOf, madeAt, PlaceWeighs, Weighed, nobody, also, Lighter, makes, sets, Entries, act-lighter}
+use Rattle.loops.proofs.Weights.{placeOf, nodeOf, madeAt, PlaceWeighs, Weighed, nobody, also, Lighter, makes, sets, Entries}
+use Rattle.loops.proofs.Weights.{act-lighter}
 use Rattle.loops.proofs.Weights.{cell-less, alone}
 
 -- the cells that a move makes, and so a step

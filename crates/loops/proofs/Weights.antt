@@ -1,24 +1,23 @@
--- What a token may still need, tokens and cells, by where it stands: a token of the goal by its node, one of a body by the frame of the goal
--- that it returns to. No act of a token makes it more: the tokens that it becomes need no more than it did. Assumes nothing.
+-- What a token may still need, tokens and cells, by where it stands: a token of the goal by its node, one of a body by the frame of the
+-- goal that it returns to. No act of a token makes it more: the tokens that it becomes need no more than it did. Assumes nothing.
 use mathlib.Core.Path.{_≡_, refl, sym, subst}
 use mathlib.Core.Bool.{Bool, true, false}
-use mathlib.Core.List.{List, [], _∷_, _++_, map, reverse}
+use mathlib.Core.List.{List, [], _∷_, map, reverse}
 use mathlib.Core.Option.{Option, some, none}
 use Prim.Native.Nat.{ℕ, suc, _+_, _<_, _≤_}
 use native.Mathlib.Omega.{arith}
 use lib.ListN.{length}
 use lib.Dec.{leb}
 use lib.IntN.{ℤ}
-use Rattle.job.specs.Test.{select}
 use Rattle.job.specs.Site.{BuiltinReply, gives, silent, later, dueTime, isBuiltin, builtin}
 use Rattle.calculus.specs.Event.{Label, silently}
 use Rattle.calculus.specs.Expression.{Param}
-use Rattle.simulation.proofs.Shuffle.{Split, first, later}
+use Rattle.simulation.proofs.Shuffle.{later}
 use Rattle.simulation.proofs.AbstractMachine as Abstract
 use Rattle.simulation.proofs.AbstractMachine.{named, valuesIn}
-use Rattle.simulation.proofs.AbstractMachine.{Node, Program, Binding, Frame, frame, Place, at, Token, running, calledOut, dueLater, Store, wake}
-use Rattle.simulation.proofs.AbstractMachine.{wokenIf, Effect, asksSite, callsSite, replies, fallsDue, goesOn, Move, acts, answered, actsAt}
-use Rattle.simulation.proofs.AbstractMachine.{act, effect, State, state, after, Step, step, ticks}
+use Rattle.simulation.proofs.AbstractMachine.{Node, Program, Binding, Frame, frame, Place, at, Token, running, calledOut, dueLater, Store}
+use Rattle.simulation.proofs.AbstractMachine.{wokenIf, Effect, asksSite, callsSite, replies, fallsDue, goesOn, acts, actsAt}
+use Rattle.simulation.proofs.AbstractMachine.{act, effect}
 
 abbrev pub placeOf : Token → Place
 placeOf (running K v) = K

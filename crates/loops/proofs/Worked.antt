@@ -33,8 +33,8 @@ metronome-needs : (loops inTail 0 metronome ≡ true) × (tokensNeeded 0 metrono
 unfolding loops bodiesLoop unbranching tokensNeeded tokensToward cellsNeeded cellsToward _and_
 metronome-needs = (refl, refl, refl)
 
--- D0() = D1() >x> D0(), D1() = 16() >x> let(x), goal (D0() | D0()) >x> (let(x) <y< 17()): D0 has the higher rank, since it calls D1 in front
--- of an assign. A caller more, two loops side by side, and a prune for each of the two
+-- D0() = D1() >x> D0(), D1() = 16() >x> let(x), goal (D0() | D0()) >x> (let(x) <y< 17()): D0 has the higher rank, since it calls D1 in
+-- front of an assign. A caller more, two loops side by side, and a prune for each of the two
 abbrev firstRank : ℕ → ℕ
 firstRank zero = 1
 firstRank (suc d) = 0

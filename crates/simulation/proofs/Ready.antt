@@ -124,7 +124,8 @@ module _ (G : Program) (now : ℕ) (σ : Store) (h : ℕ) where
       (ready-inside H parts-none t′ (mix-swap pair) (acting through) (code-ready w ρ bs (hole-tidy G H parts-none t′) cg env l s))
   code-ready w ρ bs t (Code.seq cf ea cg er) env l (Rewrites.seq-acts s p) =
       let H = Hole.seq (then ea cg er env l) in
-      ready-inside H parts-alone t (mix-nothing _) (acting (passing p)) (code-ready w ρ bs (hole-tidy G H parts-alone t) cf env (here (assign ea)) s)
+      ready-inside H parts-alone t (mix-nothing _) (acting (passing p))
+      (code-ready w ρ bs (hole-tidy G H parts-alone t) cf env (here (assign ea)) s)
   code-ready w ρ bs t (Code.seq cf ea cg er) env l (Rewrites.seq-publishes s) =
       let H = Hole.seq (then ea cg er env l) in
       ready-inside H parts-alone t (mix-nothing _) caught (code-ready w ρ bs (hole-tidy G H parts-alone t) cf env (here (assign ea)) s)
