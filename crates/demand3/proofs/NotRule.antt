@@ -8,7 +8,6 @@ use native.Mathlib.Omega.{arith}
 use lib.ListN.{getD}
 use lib.Dec.{ltb}
 use lib.IntN.{ℤ}
-use Rattle.job.specs.Site.{BuiltinReply, gives, silent, later, isBuiltin, builtin, dueTime}
 use Rattle.job.specs.Syntax.{Param}
 use Rattle.job.specs.Node.{Node, Dag, nodeAt, nodeHolds}
 use Rattle.job.specs.Tail.{isTail}
@@ -16,9 +15,9 @@ use Rattle.model.specs.Machine.Limits.{Limits}
 use Rattle.model.specs.Machine.Blank.{blankToken, tokenAt, isPlace}
 use Rattle.model.specs.Machine.State.{isBlankState, isReady}
 use Rattle.model.specs.Machine.Rules.{namesFrame, nodeRule, atNode, rulesHold}
-use Rattle.model.specs.Machine.Reply.{Effect, moves, waits, publishes, calls, refuses, unless, accepted, outcome, refusalOf}
+use Rattle.model.specs.Machine.Reply.{Effect, unless, outcome, refusalOf}
 use Rattle.model.specs.Machine.Step as Step
-use Rattle.model.specs.Machine.Step.{LookUpResult, values, unset, act, takes}
+use Rattle.model.specs.Machine.Step.{act, takes}
 use Rattle.model.specs.Machine.Answer as Answer
 use Rattle.model.specs.Machine.Answer.{holder, answered}
 use Rattle.model.specs.Machine.Clock as Clock
@@ -29,35 +28,28 @@ use Rattle.model.specs.declared.token.State.{State}
 use Rattle.model.specs.declared.token.State.the-variants as states
 use Rattle.model.specs.declared.token.Token.{Token}
 use Rattle.model.specs.declared.record.Machine.{Machine}
+use Rattle.model.specs.declared.reply.Refusal.{Refusal}
 use Rattle.model.specs.declared.reply.Refusal.the-variants as refusals
 use Rattle.model.specs.declared.reply.Reply.the-variants as replies
 use Rattle.job.proofs.Test.{clash, ltb-lt, and-left, all-at}
 use Rattle.job.proofs.DagRules.{node-rules}
 use Rattle.model.proofs.Machine.Rules.{EachRuleHolds, each-rule-holds}
-use Rattle.model.proofs.Machine.Deferred.{deferred-cases}
 use Rattle.model.proofs.Run.Queue.{QueueRulesHold, queue-rules-hold}
 use Rattle.lockstep.proofs.Lockstep.{at-node}
+use Rattle.demand3.proofs.RefusesOnly.{RefusesOnly, unless-only, outcome-only, site-only}
 
--- an effect that is not a refusal with 14
-unfoldable pub NotRule : Effect → Type 0
-NotRule (moves m) = Unit
-NotRule (waits m) = Unit
-NotRule (publishes v m) = Unit
-NotRule (calls h s vs m) = Unit
-NotRule (refuses n) = refusalOf n ≡ refusals.Rule → ⊥
+-- a refusal that is not 14, and an effect that is none with 14
+abbrev NotFourteen : Refusal → Type 0
+NotFourteen r = r ≡ refusals.Rule → ⊥
 
-unless-not : (b : Bool) (n : ℕ) (e : Effect) → (refusalOf n ≡ refusals.Rule → ⊥) → (b ≡ true → NotRule e) → NotRule (unless b n e)
-unfolding unless NotRule
-unless-not true n e other f = f refl
-unless-not false n e other f = other
+abbrev NotRule : Effect → Type 0
+NotRule = RefusesOnly NotFourteen
+
+unless-not : (b : Bool) (n : ℕ) (e : Effect) → NotFourteen (refusalOf n) → (b ≡ true → NotRule e) → NotRule (unless b n e)
+unless-not = unless-only NotFourteen
 
 outcome-not : (m : Machine) (e : Effect) → NotRule e → outcome m e .reply ≡ replies.Refused refusals.Rule → ⊥
-unfolding NotRule outcome accepted
-outcome-not m (moves o) n e = let z : _≡_ {A = ℕ} 0 1 = cc in omega arith
-outcome-not m (waits o) n e = let z : _≡_ {A = ℕ} 0 1 = cc in omega arith
-outcome-not m (publishes v o) n e = let z : _≡_ {A = ℕ} 0 1 = cc in omega arith
-outcome-not m (calls h s vs o) n e = let z : _≡_ {A = ℕ} 0 1 = cc in omega arith
-outcome-not m (refuses k) n e = n (let z : refusalOf k ≡ refusals.Rule = cc in z)
+outcome-not m e = outcome-only NotFourteen m e refusals.Rule (λ n. n refl)
 
 token-limit : refusals.TokenLimit ≡ refusals.Rule → ⊥
 token-limit e = let z : _≡_ {A = ℕ} 0 1 = cc in omega arith
@@ -79,50 +71,30 @@ wrong-time e = let z : _≡_ {A = ℕ} 0 1 = cc in omega arith
 
 -- instructions
 module _ (lim : Limits) (d : Dag) (before m : Machine) (p : ℕ) (t : Token) where
-  replied-not : (k : ℕ) (s : BuiltinReply) → NotRule (Step.replied m p t k s)
-  unfolding NotRule Step.replied Step.goesOn
-  replied-not k (gives v) = tt
-  replied-not k silent = tt
-  replied-not k (later time) = deferred-cases m p t k (λ o e. NotRule e) tt (λ due l. tt) (λ due l. tt) (dueTime (m .clock) time)
-
-  site-not : (s k : ℕ) (l : LookUpResult) → NotRule (Step.callSite lim m p t s k l)
-  unfolding NotRule Step.callSite Step.waited Step.calledOut
-  site-not s k (unset c) = tt
-  site-not s k (values vs) = go (isBuiltin s)
-    where
-      go : (b : Bool)
-          → NotRule
-          (elim b [
-            | true ↦ Step.replied m p t k (builtin s vs)
-            | false ↦ unless (ltb (m .calls) (lim .calls)) 13 (Step.calledOut m p t s vs k)
-          ])
-      go true = replied-not k (builtin s vs)
-      go false = unless-not _ _ _ call-limit (λ e. tt)
-
   return-not : (ts : List Token) (f : Place) → namesFrame ts f ≡ true → NotRule (Step.returned m p t f)
-  unfolding NotRule namesFrame Step.returned Step.goesOn
+  unfolding RefusesOnly namesFrame Step.returned Step.goesOn
   return-not ts places.Nowhere e = clash e refl
   return-not ts (places.At f) e = tt
 
   choke-not : (c : Place) → isPlace c ≡ true → NotRule (Step.chokeAt m t c)
-  unfolding NotRule isPlace Step.chokeAt
+  unfolding RefusesOnly isPlace Step.chokeAt
   choke-not places.Nowhere e = clash e refl
   choke-not (places.At c) e = tt
 
   body-not : (root : ℕ) (ps : List Param) (k : ℕ) (tail : Bool) → NotRule (Step.callBody lim before m p t root ps k tail)
-  unfolding NotRule Step.callBody Step.becomesCallee Step.goesOn Step.entered
+  unfolding RefusesOnly Step.callBody Step.becomesCallee Step.goesOn Step.entered
   body-not root ps k true = tt
   body-not root ps k false = unless-not _ _ _ token-limit (λ e. tt)
 
   act-not : (ts : List Token) (N : Node) → nodeHolds d N ≡ true → nodeRule ts t N ≡ true → NotRule (act lim d before m p t N)
-  unfolding NotRule act nodeHolds nodeRule Step.goesOn Step.forked Step.split Step.entered
+  unfolding RefusesOnly act nodeHolds nodeRule Step.goesOn Step.forked Step.split Step.entered
   act-not ts Node.stop k r = tt
   act-not ts Node.publish k r = tt
   act-not ts (Node.fork a b) k r = unless-not _ _ _ token-limit (λ e. tt)
   act-not ts (Node.assign x j) k r = tt
   act-not ts (Node.remove x j) k r = tt
   act-not ts (Node.where' x a b) k r = unless-not _ _ _ token-limit (λ e. unless-not _ _ _ cell-limit (λ f. tt))
-  act-not ts (Node.site s ps j) k r = site-not s j _
+  act-not ts (Node.site s ps j) k r = site-only NotFourteen lim m p t call-limit s j _
   act-not ts (Node.call e ps j) k r = body-not _ ps j (isTail d j)
   act-not ts Node.return k r = return-not ts (t .caller) (and-left _ _ r)
   act-not ts Node.choke k r = choke-not (t .cell) (and-left _ _ r)
@@ -169,13 +141,13 @@ module _ (lim : Limits) (d : Dag) (m : Machine) (holds : rulesHold lim d m ≡ t
   tested e n = rw (holds, unless) n
 
   answered-not : (v : ℤ) (q : Place) → NotRule (answered m v q)
-  unfolding NotRule answered
+  unfolding RefusesOnly answered
   answered-not v places.Nowhere = not-open
   answered-not v (places.At p) = tt
 
   -- no call is refused with 14
   pub not-rule : (c : Call) → outcomeOf runner lim d m c .reply ≡ replies.Refused refusals.Rule → ⊥
-  unfolding NotRule outcomeOf Step.step Answer.answer Clock.advance
+  unfolding RefusesOnly outcomeOf Step.step Answer.answer Clock.advance
   not-rule (step k) =
       outcome-not m _
       (tested _ (unless-not (ltb k (m .queued)) 9 (takes lim d m k) no-token (λ l. takes-not k (ltb-lt k (m .queued) l))))

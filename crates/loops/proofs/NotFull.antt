@@ -4,17 +4,15 @@ use mathlib.Core.Path.{_≡_, refl}
 use mathlib.Core.Bool.{Bool, true, false}
 use mathlib.Core.List.{List}
 use Prim.Native.Nat.{ℕ, _<_}
-use native.Mathlib.Omega.{arith}
 use lib.Dec.{ltb}
-use Rattle.job.specs.Site.{BuiltinReply, gives, silent, later, isBuiltin, builtin, dueTime}
 use Rattle.job.specs.Syntax.{Param}
 use Rattle.job.specs.Node.{Node, Dag}
 use Rattle.job.specs.Tail.{isTail}
 use Rattle.model.specs.Machine.Limits.{Limits}
 use Rattle.model.specs.Machine.Rules.{rulesHold}
-use Rattle.model.specs.Machine.Reply.{Effect, moves, waits, publishes, calls, refuses, unless, accepted, outcome, refusalOf}
+use Rattle.model.specs.Machine.Reply.{Effect, unless, outcome}
 use Rattle.model.specs.Machine.Step as Step
-use Rattle.model.specs.Machine.Step.{LookUpResult, values, unset, hasTokenPlace, hasCellPlace, act, takes}
+use Rattle.model.specs.Machine.Step.{hasTokenPlace, hasCellPlace, act, takes}
 use Rattle.model.specs.Machine.Answer as Answer
 use Rattle.model.specs.Machine.Answer.{holder, answered}
 use Rattle.model.specs.Machine.Clock as Clock
@@ -28,7 +26,7 @@ use Rattle.model.specs.declared.reply.Refusal.the-variants as refusals
 use Rattle.model.specs.declared.reply.Reply.{Reply}
 use Rattle.model.specs.declared.reply.Reply.the-variants as replies
 use Rattle.job.proofs.Test.{ltb-lt}
-use Rattle.model.proofs.Machine.Deferred.{deferred-cases}
+use Rattle.demand3.proofs.RefusesOnly.{RefusesOnly, unless-only, outcome-only, site-only}
 use Rattle.demand3.proofs.Larger.{cellsAdded, nodeTaken}
 use Rattle.loops.proofs.Room.{unlessTail}
 
@@ -40,48 +38,22 @@ pub data Other : Refusal → Type 0 where
   rule : Other refusals.Rule
   wrongTime : Other refusals.WrongTime
 
-other-token : {r : Refusal} → Other r → r ≡ refusals.TokenLimit → ⊥
-other-token noToken e = let z : _≡_ {A = ℕ} 0 1 = cc in omega arith
-other-token notOpen e = let z : _≡_ {A = ℕ} 0 1 = cc in omega arith
-other-token callLimit e = let z : _≡_ {A = ℕ} 0 1 = cc in omega arith
-other-token rule e = let z : _≡_ {A = ℕ} 0 1 = cc in omega arith
-other-token wrongTime e = let z : _≡_ {A = ℕ} 0 1 = cc in omega arith
+other-token : Other refusals.TokenLimit → ⊥
+other-token x = elim x [ ]
 
-other-cell : {r : Refusal} → Other r → r ≡ refusals.CellLimit → ⊥
-other-cell noToken e = let z : _≡_ {A = ℕ} 0 1 = cc in omega arith
-other-cell notOpen e = let z : _≡_ {A = ℕ} 0 1 = cc in omega arith
-other-cell callLimit e = let z : _≡_ {A = ℕ} 0 1 = cc in omega arith
-other-cell rule e = let z : _≡_ {A = ℕ} 0 1 = cc in omega arith
-other-cell wrongTime e = let z : _≡_ {A = ℕ} 0 1 = cc in omega arith
+other-cell : Other refusals.CellLimit → ⊥
+other-cell x = elim x [ ]
 
 -- an effect that is no refusal with 10 or 11
-unfoldable pub NotFull : Effect → Type 0
-NotFull (moves m) = Unit
-NotFull (waits m) = Unit
-NotFull (publishes v m) = Unit
-NotFull (calls h s vs m) = Unit
-NotFull (refuses n) = Other (refusalOf n)
+abbrev NotFull : Effect → Type 0
+NotFull = RefusesOnly Other
 
 abbrev pub NotFullReply : Reply → Type 0
 NotFullReply r = (r ≡ replies.Refused refusals.TokenLimit → ⊥) × (r ≡ replies.Refused refusals.CellLimit → ⊥)
 
-pub outcome-not-full : (m : Machine) (e : Effect) → NotFull e → NotFullReply (outcome m e .reply)
-unfolding NotFull outcome accepted
-outcome-not-full m (moves o) n = (λ e. let z : _≡_ {A = ℕ} 0 1 = cc in omega arith, λ e. let z : _≡_ {A = ℕ} 0 1 = cc in omega arith)
-outcome-not-full m (waits o) n = (λ e. let z : _≡_ {A = ℕ} 0 1 = cc in omega arith, λ e. let z : _≡_ {A = ℕ} 0 1 = cc in omega arith)
-outcome-not-full m (publishes v o) n =
-    (λ e. let z : _≡_ {A = ℕ} 0 1 = cc in omega arith, λ e. let z : _≡_ {A = ℕ} 0 1 = cc in omega arith)
-outcome-not-full m (calls h s vs o) n =
-    (λ e. let z : _≡_ {A = ℕ} 0 1 = cc in omega arith, λ e. let z : _≡_ {A = ℕ} 0 1 = cc in omega arith)
-outcome-not-full m (refuses k) n = (
-  λ e. other-token n (let z : refusalOf k ≡ refusals.TokenLimit = cc in z),
-  λ e. other-cell n (let z : refusalOf k ≡ refusals.CellLimit = cc in z),
-)
-
-unless-other : (b : Bool) (n : ℕ) (e : Effect) → Other (refusalOf n) → (b ≡ true → NotFull e) → NotFull (unless b n e)
-unfolding unless NotFull
-unless-other true n e other f = f refl
-unless-other false n e other f = other
+outcome-not-full : (m : Machine) (e : Effect) → NotFull e → NotFullReply (outcome m e .reply)
+outcome-not-full m e x =
+    (outcome-only Other m e refusals.TokenLimit other-token x, outcome-only Other m e refusals.CellLimit other-cell x)
 
 unless-room : (b : Bool) (n : ℕ) (e : Effect) → b ≡ true → NotFull e → NotFull (unless b n e)
 unfolding unless
@@ -102,52 +74,32 @@ tokensAdded d Node.publish = 0
 tokensAdded d Node.unknown = 0
 
 module _ (lim : Limits) (d : Dag) (before m : Machine) (p : ℕ) (t : Token) where
-  replied-not : (k : ℕ) (s : BuiltinReply) → NotFull (Step.replied m p t k s)
-  unfolding NotFull Step.replied Step.goesOn
-  replied-not k (gives v) = tt
-  replied-not k silent = tt
-  replied-not k (later time) = deferred-cases m p t k (λ o e. NotFull e) tt (λ due l. tt) (λ due l. tt) (dueTime (m .clock) time)
-
-  site-not : (s k : ℕ) (l : LookUpResult) → NotFull (Step.callSite lim m p t s k l)
-  unfolding NotFull Step.callSite Step.waited Step.calledOut
-  site-not s k (unset c) = tt
-  site-not s k (values vs) = go (isBuiltin s)
-    where
-      go : (b : Bool)
-          → NotFull
-          (elim b [
-            | true ↦ Step.replied m p t k (builtin s vs)
-            | false ↦ unless (ltb (m .calls) (lim .calls)) 13 (Step.calledOut m p t s vs k)
-          ])
-      go true = replied-not k (builtin s vs)
-      go false = unless-other _ _ _ callLimit (λ e. tt)
-
   return-not : (f : Place) → NotFull (Step.returned m p t f)
-  unfolding NotFull Step.returned Step.goesOn
+  unfolding RefusesOnly Step.returned Step.goesOn
   return-not places.Nowhere = rule
   return-not (places.At f) = tt
 
   choke-not : (c : Place) → NotFull (Step.chokeAt m t c)
-  unfolding NotFull Step.chokeAt
+  unfolding RefusesOnly Step.chokeAt
   choke-not places.Nowhere = rule
   choke-not (places.At c) = tt
 
   body-not : (root : ℕ) (ps : List Param) (k : ℕ) (tail : Bool) → (unlessTail tail ≡ 1 → hasTokenPlace lim before ≡ true)
       → NotFull (Step.callBody lim before m p t root ps k tail)
-  unfolding NotFull Step.callBody Step.becomesCallee Step.goesOn Step.entered
+  unfolding RefusesOnly Step.callBody Step.becomesCallee Step.goesOn Step.entered
   body-not root ps k true room = tt
   body-not root ps k false room = unless-room _ _ _ (room refl) tt
 
   act-not-full : (N : Node) → (tokensAdded d N ≡ 1 → hasTokenPlace lim before ≡ true) → (cellsAdded N ≡ 1 → hasCellPlace lim before ≡ true)
       → NotFull (act lim d before m p t N)
-  unfolding NotFull act tokensAdded cellsAdded Step.goesOn Step.forked Step.split
+  unfolding RefusesOnly act tokensAdded cellsAdded Step.goesOn Step.forked Step.split
   act-not-full Node.stop room cell = tt
   act-not-full Node.publish room cell = tt
   act-not-full (Node.fork a b) room cell = unless-room _ _ _ (room refl) tt
   act-not-full (Node.assign x j) room cell = tt
   act-not-full (Node.remove x j) room cell = tt
   act-not-full (Node.where' x a b) room cell = unless-room _ _ _ (room refl) (unless-room _ _ _ (cell refl) tt)
-  act-not-full (Node.site s ps j) room cell = site-not s j _
+  act-not-full (Node.site s ps j) room cell = site-only Other lim m p t callLimit s j _
   act-not-full (Node.call e ps j) room cell = body-not _ ps j (isTail d j) room
   act-not-full Node.return room cell = return-not (t .caller)
   act-not-full Node.choke room cell = choke-not (t .cell)
@@ -159,17 +111,17 @@ module _ (lim : Limits) (d : Dag) (m : Machine) where
       ((k : ℕ) → rulesHold lim d m ≡ true → k < m .queued
       → (tokensAdded d (nodeTaken d m k) ≡ 1 → hasTokenPlace lim m ≡ true) × (cellsAdded (nodeTaken d m k) ≡ 1 → hasCellPlace lim m ≡ true))
       → (c : Call) → NotFullReply (outcomeOf runner lim d m c .reply)
-  unfolding NotFull outcomeOf Step.step Answer.answer Clock.advance takes answered
+  unfolding RefusesOnly outcomeOf Step.step Answer.answer Clock.advance takes answered
   not-full room (step k) =
       outcome-not-full m _
-      (unless-other (rulesHold lim d m) 14 _ rule
+      (unless-only Other (rulesHold lim d m) 14 _ rule
       (λ h.
-      unless-other (ltb k (m .queued)) 9 _ noToken
+      unless-only Other (ltb k (m .queued)) 9 _ noToken
       (λ l. let r = room k h (ltb-lt k (m .queued) l) in act-not-full lim d m _ _ _ _ (r .0) (r .1))))
-  not-full room (answer h v fits) = outcome-not-full m _ (unless-other (rulesHold lim d m) 14 _ rule (λ e. go (holder h 0 (m .tokens))))
+  not-full room (answer h v fits) = outcome-not-full m _ (unless-only Other (rulesHold lim d m) 14 _ rule (λ e. go (holder h 0 (m .tokens))))
     where
       go : (q : Place) → NotFull (answered m v q)
-      go places.Nowhere = unfold answered NotFull in notOpen
-      go (places.At p) = unfold answered NotFull in tt
+      go places.Nowhere = unfold answered RefusesOnly in notOpen
+      go (places.At p) = unfold answered RefusesOnly in tt
   not-full room (advance time) =
-      outcome-not-full m _ (unless-other (rulesHold lim d m) 14 _ rule (λ e. unless-other _ _ _ wrongTime (λ f. tt)))
+      outcome-not-full m _ (unless-only Other (rulesHold lim d m) 14 _ rule (λ e. unless-only Other _ _ _ wrongTime (λ f. tt)))
