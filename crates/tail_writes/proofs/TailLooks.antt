@@ -41,7 +41,7 @@ other-kind d looks n a b c ps (suc (suc (suc (suc (suc (suc (suc (suc (suc zero)
 other-kind d looks n a b c ps (suc (suc (suc (suc (suc (suc (suc (suc (suc (suc k)))))))))) f g e = rw (e, isTailWithin)
 
 module _ (ws : List ℕ) (node : ℕ) (o : NodeInside ws node) where
-  row-within : rowOf node + 12 ≤ 12331
+  pub row-within : rowOf node + 12 ≤ 12331
   row-within =
       let f : length (dagOf ws .nodes) ≤ 1022 = dag-rules (dagOf ws) (o .dag) .nodes-few in
       let l : node < length (dagOf ws .nodes) = o .inside in
@@ -124,3 +124,17 @@ module _ (ws : List ℕ) (next count node looks : ℕ) (more : looks < count) (l
         done = omega arith;
         left = one-left ∙ at-remove (dagOf ws) _ node (the-node ws node (l .here) 5 e);
       })
+
+-- the first look: there is one, since there is a node
+module _ (ws : List ℕ) (next : ℕ) (o : NodeInside ws next) where
+  begins : Looking ws next (length (dagOf ws .nodes)) next 0
+  begins = looking-begins ws next (length (dagOf ws .nodes)) o (sym (node-count ws))
+
+  some : 0 < length (dagOf ws .nodes)
+  some = let l : next < length (dagOf ws .nodes) = o .inside in omega arith
+
+  pub first-return : getD ws (rowOf next) 0 ≡ 8 → true ≡ isTail (dagOf ws) next
+  first-return = found-return ws next (length (dagOf ws .nodes)) next 0 some begins
+
+  pub first-other : (getD ws (rowOf next) 0 ≡ 8 → ⊥) → (getD ws (rowOf next) 0 ≡ 5 → ⊥) → false ≡ isTail (dagOf ws) next
+  first-other = found-other ws next (length (dagOf ws .nodes)) next 0 some begins

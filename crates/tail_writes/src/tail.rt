@@ -12,8 +12,8 @@ use job::dag::ROW_WORDS;
 use job::dag::WORDS;
 use job::wide::wide;
 
-// From a call's next node on: it looks at as many nodes as the dag has, at most, and stops at the first that is no remove.
-pub fn is_tail(dag: &[u32; WORDS], next: usize) -> bool
+// From a remove node on: it looks at as many nodes as the dag has, at most, and stops at the first that is no remove.
+fn leads_to_return(dag: &[u32; WORDS], next: usize) -> bool
     requires { ⌜ NodeInside (now dag) next ⌝ }
     ensures { λ r. ⌜ r ≡ isTail (dagOf (now (dag .entry))) next ⌝ }
 {
@@ -33,4 +33,19 @@ pub fn is_tail(dag: &[u32; WORDS], next: usize) -> bool
         looks += 1;
     }
     false
+}
+
+// From a call's next node on. Most calls have another node there, and one look tells.
+pub fn is_tail(dag: &[u32; WORDS], next: usize) -> bool
+    requires { ⌜ NodeInside (now dag) next ⌝ }
+    ensures { λ r. ⌜ r ≡ isTail (dagOf (now (dag .entry))) next ⌝ }
+{
+    let kind = dag[HEAD_WORDS + ROW_WORDS * next];
+    if kind == RETURN {
+        return true;
+    }
+    if kind != REMOVE {
+        return false;
+    }
+    leads_to_return(dag, next)
 }
