@@ -5,6 +5,7 @@ pub mod CodeWeighs
 pub mod Covered
 pub mod Room
 pub mod NotFull
+pub mod StepRefusals
 pub mod BoundedRuns
 pub mod Bounded
 pub mod Worked

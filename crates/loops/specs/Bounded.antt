@@ -2,15 +2,16 @@
 use mathlib.Core.Path.{_≡_}
 use mathlib.Core.Bool.{true}
 use mathlib.Core.List.{List}
-use Prim.Native.Nat.{ℕ, _≤_}
+use Prim.Native.Nat.{ℕ, _<_, _≤_}
 use Rattle.job.specs.Syntax.{Program}
 use Rattle.job.specs.Read.{readTable, accepted}
 use Rattle.job.specs.Construct.{construct}
 use Rattle.model.specs.Machine.Limits.{Limits, limits}
 use Rattle.model.specs.Machine.InUse.{tokensUsed, cellsUsed, marked}
 use Rattle.model.specs.Machine.Reply.{refusalOf}
-use Rattle.model.specs.Run.Call.{Call, runner, outcomeOf, machineAfter, started}
+use Rattle.model.specs.Run.Call.{Call, step, runner, outcomeOf, machineAfter, started}
 use Rattle.model.specs.declared.record.Machine.{Machine}
+use Rattle.model.specs.declared.reply.Refusal.{Refusal}
 use Rattle.model.specs.declared.reply.Reply.{Reply}
 use Rattle.model.specs.declared.reply.Reply.the-variants as replies
 use Rattle.loops.specs.Looping.{loops}
@@ -39,9 +40,19 @@ NeverFull top p =
     → (replyAfter (limits t c k) p calls next ≡ replies.Refused (refusalOf 10) → ⊥)
     × (replyAfter (limits t c k) p calls next ≡ replies.Refused (refusalOf 11) → ⊥)
 
+-- nor is a step that takes a token of the queue refused at all, but with 13: house order goes on while a token is ready and outside calls
+-- are left. (With no place for a cell nothing lawful can be said: docs/DECISIONS.md, "Sizes and limits".)
+abbrev pub GoesOn : (top : ℕ) → Program → Type 0
+GoesOn top p =
+    (t c k : ℕ) → 1 ≤ t → 1 ≤ c → tokensNeeded top p ≤ t → cellsNeeded p ≤ c → (calls : List Call) (place : ℕ)
+    → place < recordAfter (limits t c k) p calls .queued
+    → (r : Refusal) → replyAfter (limits t c k) p calls (step place) ≡ replies.Refused r → r ≡ refusalOf 13
+
 -- of every accepted table whose definitions loop in tail position, by some ranks
 pub record Bounded : Type 0 where
   pub in-use : (table : List ℕ) (p : Program) → readTable table ≡ accepted p → (rank : ℕ → ℕ) (top : ℕ) → loops rank top p ≡ true
       → InUseBounded top p
   pub never-full : (table : List ℕ) (p : Program) → readTable table ≡ accepted p → (rank : ℕ → ℕ) (top : ℕ) → loops rank top p ≡ true
       → NeverFull top p
+  pub goes-on : (table : List ℕ) (p : Program) → readTable table ≡ accepted p → (rank : ℕ → ℕ) (top : ℕ) → loops rank top p ≡ true
+      → GoesOn top p
