@@ -1,18 +1,17 @@
--- A blank token's words are 0, and no other token's: field by field. Assumes nothing.
+-- A blank token's words are 0, and no other token's: field by field; so of a cell, and of all from a place on. Assumes nothing.
 use mathlib.Core.Path.{_≡_, refl, sym, _∙_, ap, ap₂}
 use mathlib.Core.Bool.{Bool, true, not}
 use mathlib.Core.List.{List}
-use Prim.Native.Nat.{ℕ, zero, suc, _+_, _-_, _*_, _<_}
+use Prim.Native.Nat.{ℕ, zero, suc, _+_, _-_, _*_, _<_, _≤_}
 use native.Mathlib.Omega.{arith}
 use lib.Dec.{eqb}
-use lib.ListN.{length, take, drop, length-drop}
-use lib.Seq.{ext-getD, getD-drop, getD-take, length-take-le}
+use lib.ListN.{length, getD, take, drop}
 use Rattle.model.specs.declared.token.Slot.the-variants as slots
 use Rattle.model.specs.declared.token.Held.the-variants as helds
 use Rattle.model.specs.declared.token.Place.the-variants as places
 use Rattle.model.specs.declared.token.State.the-variants as states
 use Rattle.job.specs.Test.{_and_, forAll}
-use Rattle.model.specs.Machine.Blank.{empty, slotAt, isBound, isPlace, hasValue, tokenIsBlank}
+use Rattle.model.specs.Machine.Blank.{empty, slotAt, isBound, isPlace, hasValue, tokenIsBlank, cellIsBlank, blankToken, blankCell, cellAt}
 use Rattle.model.specs.Machine.State.{isBlankState}
 use Rattle.model.specs.declared.token.Slot.{Slot}
 use Rattle.model.specs.declared.token.Bind.{Bind}
@@ -20,17 +19,21 @@ use Rattle.model.specs.declared.token.Held.{Held}
 use Rattle.model.specs.declared.token.Place.{Place}
 use Rattle.model.specs.declared.token.State.{State}
 use Rattle.model.specs.declared.token.Token.{Token}
-use Rattle.job.proofs.Test.{ne-eqb, eqb-eq, all-at, and-left, and-right, and-both}
-use Rattle.record.specs.Layout.{rowOf, placeNumber, stateKind, stateNumber, heldKind, heldNumber, slotKind, slotNumber}
+use Rattle.model.specs.declared.cell.Cell.{Cell}
+use Rattle.job.proofs.Both.{and-true}
+use Rattle.job.proofs.Test.{ne-eqb, and-left, and-right, and-both}
+use Rattle.record.specs.Layout.{rowOf, cellRow, placeNumber, stateKind, stateNumber, heldKind, heldNumber, slotKind, slotNumber}
 use Rattle.job.proofs.Lists.{table, listed, same-when}
 use Rattle.model.specs.Machine.Blank.{tokenAt}
 use Rattle.model.specs.declared.record.Machine.{Machine}
 use Rattle.record.specs.Holds.{Codes}
 use Rattle.record.proofs.CountLaws.{words-long}
-use Rattle.record.proofs.LayoutParts.{row-wide}
+use Rattle.record.proofs.LayoutParts.{row-wide, cell-wide}
+use Rattle.record.proofs.CellRow.{cell-word}
 use Rattle.record.proofs.TokenRow.{token-word}
-use Rattle.coded.specs.WordTests.{tokenCoded}
-use Rattle.coded.proofs.WordTests.{zero-row}
+use Rattle.coded.specs.WordTests.{tokenCoded, cellAtCoded}
+use Rattle.coded.proofs.WordTests.{zero-row, cell-rest}
+use Rattle.row_rules.proofs.ZeroRows.{zero-word, row-is, rows-zero}
 
 state-zero : (s : State) (b : Bool) → (eqb 0 (stateKind s) and eqb 0 (stateNumber s) and b) ≡ (isBlankState s and b)
 unfolding isBlankState _and_
@@ -104,18 +107,66 @@ module _ (ws : List ℕ) (p : ℕ) where
   as-row = let e : 24 * p + 24 - 24 * p ≡ 24 = omega arith in ap (λ n. forAll (eqb 0) (take n (drop (24 * p) ws))) e
 
   pub zero-coded : length ws ≡ 1863 → p < 64 → zeroRow ≡ true → tokenCoded ws p ≡ true
-  zero-coded long l e =
-      let size : length (take 24 (drop (24 * p) ws)) ≡ 24 = length-take-le 24 (drop (24 * p) ws) (omega (arith, length-drop (24 * p) ws)) in
-      zero-row ws (24 * p) (λ k b.
-      sym (getD-take 24 (drop (24 * p) ws) k 0 b ∙ getD-drop (24 * p) ws k 0)
-      ∙ sym (eqb-eq 0 _ (all-at (eqb 0) (take 24 (drop (24 * p) ws)) k 0 (sym as-row ∙ e) (omega arith))))
+  zero-coded long l e = zero-row ws (24 * p) (λ k b. zero-word ws (24 * p) 24 k (omega arith) (sym as-row ∙ e) b)
+
+  row-blank : p < 64 → (m : Machine) → Codes ws m
+      → forAll (eqb 0) (take 24 (drop (24 * p) ws)) ≡ tokenIsBlank (tokenAt (m .tokens) p)
+  row-blank l m h =
+      let t = tokenAt (m .tokens) p in
+      ap (forAll (eqb 0))
+      (row-is ws (24 * p) 24 (rowOf t) (row-wide t) (omega (arith, words-long h)) (token-word h p l)) ∙ row-zero t (h .shaped .binds p)
 
   pub zero-blank : p < 64 → (m : Machine) → Codes ws m → zeroRow ≡ tokenIsBlank (tokenAt (m .tokens) p)
-  zero-blank l m h =
-      let t = tokenAt (m .tokens) p in
-      let size : length (take 24 (drop (24 * p) ws)) ≡ 24 = length-take-le 24 (drop (24 * p) ws)
-      (omega (arith, length-drop (24 * p) ws, words-long h)) in
-      as-row
-      ∙ ap (forAll (eqb 0)) (ext-getD 0 (take 24 (drop (24 * p) ws)) (rowOf t) (size ∙ sym (row-wide t))
-      (λ k b. getD-take 24 (drop (24 * p) ws) k 0 (omega arith) ∙ getD-drop (24 * p) ws k 0 ∙ token-word h p l k (omega arith)))
-      ∙ row-zero t (h .shaped .binds p)
+  zero-blank l m h = as-row ∙ row-blank l m h
+
+-- the words of all places from one on
+module _ (ws : List ℕ) (from : ℕ) (l : from ≤ 64) where
+  abbrev pub zeroTokens : Bool
+  zeroTokens = forAll (eqb 0) (take (1536 - 24 * from) (drop (24 * from) ws))
+
+  pub tokens-coded : length ws ≡ 1863 → zeroTokens ≡ true → (p : ℕ) → from ≤ p → p < 64 → tokenCoded ws p ≡ true
+  tokens-coded long e p f b =
+      zero-row ws (24 * p) (λ k c.
+      let z : 24 * p + k ≡ 24 * from + (24 * (p - from) + k) = omega arith in
+      ap (λ i. getD ws i 0) z ∙ zero-word ws (24 * from) (1536 - 24 * from) (24 * (p - from) + k) (omega arith) e (omega arith))
+
+  pub tokens-blank : (m : Machine) → Codes ws m → zeroTokens ≡ forAll tokenIsBlank (drop from (m .tokens))
+  unfolding tokenAt
+  tokens-blank m h =
+      let long = h .shaped .tokens in
+      let z : 1536 - 24 * from ≡ 24 * (64 - from) = omega arith in
+      ap (λ n. forAll (eqb 0) (take n (drop (24 * from) ws))) z
+      ∙ rows-zero tokenIsBlank blankToken ws 24 (λ p. 24 * p) (λ p. omega arith) (m .tokens)
+      (λ p b. row-blank ws p (omega (arith, long)) m h) (64 - from) from (omega (arith, long))
+
+-- a blank cell's words are 0, and no other cell's
+cell-zero : (c : Cell) → forAll (eqb 0) (cellRow c) ≡ cellIsBlank c
+unfolding cellRow forAll cellIsBlank
+cell-zero c =
+    ap₂ _and_ (place-zero (c .parent)) (held-zero (c .value) _ ∙ ap (_and_ (not (hasValue (c .value)))) (spare true) ∙ and-true _)
+
+module _ (ws : List ℕ) (from : ℕ) (l : from ≤ 32) where
+  abbrev pub zeroCells : Bool
+  zeroCells = forAll (eqb 0) (take (1664 - (1536 + 4 * from)) (drop (1536 + 4 * from) ws))
+
+  pub cells-coded : length ws ≡ 1863 → zeroCells ≡ true → (c : ℕ) → from ≤ c → c < 32 → cellAtCoded ws c ≡ true
+  cells-coded long e c f b =
+      let zero : (j : ℕ) → j < 4 → 0 ≡ getD ws (1536 + 4 * c + j) 0 =
+      λ j s.
+      let z : 1536 + 4 * from + (4 * (c - from) + j) ≡ 1536 + 4 * c + j = omega arith in
+      sym (zero-word ws (1536 + 4 * from) (1664 - (1536 + 4 * from)) (4 * (c - from) + j) (omega arith) e (omega arith))
+      ∙ ap (λ i. getD ws i 0) z in
+      sym (cell-rest ws (1536 + 4 * c) 0 0 true (zero 1 (omega arith)) (zero 2 (omega arith)) refl 0 (zero 3 (omega arith)) refl)
+
+  pub cells-blank : (m : Machine) → Codes ws m → zeroCells ≡ forAll cellIsBlank (drop from (m .cells))
+  unfolding cellAt
+  cells-blank m h =
+      let long = h .shaped .cells in
+      let z : 1664 - (1536 + 4 * from) ≡ 4 * (32 - from) = omega arith in
+      ap (λ n. forAll (eqb 0) (take n (drop (1536 + 4 * from) ws))) z
+      ∙ rows-zero cellIsBlank blankCell ws 4 (λ c. 1536 + 4 * c) (λ c. omega arith) (m .cells)
+      (λ c b.
+      let k = cellAt (m .cells) c in
+      ap (forAll (eqb 0))
+      (row-is ws (1536 + 4 * c) 4 (cellRow k) (cell-wide k) (omega (arith, words-long h)) (cell-word h c (omega (arith, long))))
+      ∙ cell-zero k) (32 - from) from (omega (arith, long))

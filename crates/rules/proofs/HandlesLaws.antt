@@ -8,7 +8,7 @@ use native.Mathlib.Decide.{ℕ-discrete}
 use native.Mathlib.Nat.{add-zero}
 use native.Mathlib.Numerals.{add-one}
 use native.Mathlib.Omega.{arith}
-use lib.ListN.{length, getD, take, set}
+use lib.ListN.{length, getD, take, drop, set}
 use lib.Seq.{take-suc, take-suc-set, take-set-le}
 use lib.Dec.{eqb}
 use Rattle.model.specs.declared.token.State.the-variants as states
@@ -20,7 +20,7 @@ use Rattle.model.specs.declared.token.State.{State}
 use Rattle.model.specs.declared.token.Token.{Token}
 use Rattle.record.specs.Layout.{stateKind, stateNumber}
 use Rattle.job.proofs.Both.{both, regroup}
-use Rattle.job.proofs.Test.{and-left, eq-eqb, ne-eqb}
+use Rattle.job.proofs.Test.{and-left, and-right, eq-eqb, ne-eqb}
 use Rattle.model.proofs.Machine.Blanking.{state-blank}
 
 handles-more : (ts : List Token) (i : ℕ) (d : Token) → i < length ts
@@ -86,6 +86,17 @@ blank-more ts i d l e so-far =
     let t = getD ts i d in
     let none : handleOf (t .state) ≡ [] = ap handleOf (state-blank (t .state) (and-left (isBlankState (t .state)) _ e)) in
     rw (add-one i) (so-far ∙ sym (handles-more ts i d l ∙ ap (_++_ (openHandles (take i ts))) none ∙ append-nil (openHandles (take i ts))))
+
+-- nor do those from a place on have any, where they all are
+pub blank-rest : (ts : List Token) (i : ℕ) → forAll tokenIsBlank (drop i ts) ≡ true → openHandles (take i ts) ≡ openHandles ts
+unfolding openHandles tokenIsBlank handleOf forAll
+blank-rest [] zero e = refl
+blank-rest [] (suc i) e = refl
+blank-rest (t ∷ ts) zero e =
+    let none : handleOf (t .state) ≡ [] =
+    ap handleOf (state-blank (t .state) (and-left (isBlankState (t .state)) _ (and-left (tokenIsBlank t) _ e))) in
+    sym (ap (λ hs. hs ++ openHandles ts) none ∙ sym (blank-rest ts zero (and-right (tokenIsBlank t) _ e)))
+blank-rest (t ∷ ts) (suc i) e = ap (_++_ (handleOf (t .state))) (blank-rest ts i e)
 
 -- numbers differ when each is none of those before it
 some-last : (p : ℕ → Bool) (xs : List ℕ) (y : ℕ) → not (forSome p (xs ++ (y ∷ []))) ≡ (not (forSome p xs) and not (p y))

@@ -1,11 +1,12 @@
 -- One look at each row: its rules, whether it is in use or blank, and what the orders name, row after row. By induction over the rows: the
 -- test of one comes before those behind it. Assumes nothing.
-use mathlib.Core.Path.{_≡_, refl, sym, _∙_, ap}
+use mathlib.Core.Path.{_≡_, refl, sym, _∙_, ap, ap₂}
 use mathlib.Core.Bool.{Bool, true, false, _&&_, _||_}
 use mathlib.Core.List.{List, [], _∷_}
 use Prim.Native.Nat.{ℕ, suc, _+_, _<_, _≤_}
+use native.Mathlib.Omega.{arith}
 use lib.Dec.{eqb}
-use lib.ListN.{length, getD, take}
+use lib.ListN.{length, getD, take, drop}
 use lib.Seq.{take-all}
 use Rattle.model.specs.declared.token.State.the-variants as states
 use Rattle.job.specs.Test.{_and_, forAll, allFrom, once}
@@ -16,12 +17,14 @@ use Rattle.model.specs.Machine.State.{isBlankState}
 use Rattle.model.specs.declared.token.Token.{Token}
 use Rattle.model.specs.declared.record.Machine.{Machine}
 use Rattle.job.proofs.Both.{both, both-is, and-true, and-false, regroup}
+use Rattle.job.proofs.Lists.{getD-any}
 use Rattle.job.proofs.Test.{and-left}
 use Rattle.record.specs.Layout.{stateKind}
 use Rattle.row_rules.specs.RowRules.{tokenRule}
 use Rattle.order_rules.specs.OrderCounts.{namedByOrders}
 use Rattle.order_rules.proofs.OrderCounts.{from-turn}
-use Rattle.rules.proofs.RestBlank.{passed, pass-turn, marked-one, other-one}
+use Rattle.rules.specs.Rest.{eachFrom, unnamed}
+use Rattle.rules.proofs.RestBlank.{passed, pass-turn, marked-one, other-one, rest-turns, each-rest, each-both}
 use Rattle.model.proofs.Machine.Blanking.{state-blank}
 
 module _ (d : Dag) (m : Machine) (used : List Bool) (queue waits timers : List ℕ) where
@@ -64,26 +67,26 @@ module _ (d : Dag) (m : Machine) (used : List Bool) (queue waits timers : List �
       g
 
   -- any other for being blank and named by none
-  abbrev unnamed : ℕ → Bool
-  unnamed i = eqb (getD queue i 0) 0 and eqb (getD waits i 0) 0 and eqb (getD timers i 0) 0
+  abbrev none : ℕ → Bool
+  none = unnamed queue waits timers
 
   vacant : (i : ℕ) (t : Token) (b : Bool) → tokenIsBlank t ≡ b
-      → (unnamed i and b) ≡ (b && namedByOrders queue waits timers i t)
+      → (none i and b) ≡ (b && namedByOrders queue waits timers i t)
   unfolding tokenIsBlank
   vacant i t true e =
       let blank : t .state ≡ states.Blank = state-blank (t .state) (and-left (isBlankState (t .state)) _ e) in
-      and-true (unnamed i)
+      and-true (none i)
       ∙ ap
       (λ s.
       eqb (getD queue i 0) (once (eqb (stateKind s) 1))
       and eqb (getD waits i 0) (once (eqb (stateKind s) 2))
       and eqb (getD timers i 0) (once (eqb (stateKind s) 4)))
       (sym blank)
-  vacant i t false e = and-false (unnamed i)
+  vacant i t false e = and-false (none i)
 
   pub vacant-turn : (i : ℕ) {ok v : Bool} → i < length used → i < length (m .tokens) → ok ≡ seen i → getD used i false ≡ false
       → (tokenIsBlank (tokenAt (m .tokens) i) ≡ true → rule (tokenAt (m .tokens) i) ≡ true)
-      → v ≡ (unnamed i and tokenIsBlank (tokenAt (m .tokens) i)) → (ok && v) ≡ seen (i + 1)
+      → v ≡ (none i and tokenIsBlank (tokenAt (m .tokens) i)) → (ok && v) ≡ seen (i + 1)
   vacant-turn i {ok} {v} k l e u f g =
       let t = tokenAt (m .tokens) i in
       ap (λ (x : Bool). ok && x) (g ∙ vacant i t (tokenIsBlank t) refl)
@@ -93,6 +96,19 @@ module _ (d : Dag) (m : Machine) (used : List Bool) (queue waits timers : List �
       grouped : (a b c : Bool) → (a && b && c) ≡ (a && (b && c))
       grouped true b c = refl
       grouped false b c = refl
+
+  -- of those from a place on none is in use: they are tested together
+  pub seen-rest : (from n : ℕ) {ok a b : Bool} → from + n ≡ length (m .tokens) → length used ≡ length (m .tokens)
+      → ((i : ℕ) → from ≤ i → i < length (m .tokens) → getD used i true ≡ false)
+      → ((i : ℕ) → tokenIsBlank (tokenAt (m .tokens) i) ≡ true → rule (tokenAt (m .tokens) i) ≡ true)
+      → ok ≡ seen from → a ≡ eachFrom none from n → b ≡ forAll tokenIsBlank (drop from (m .tokens)) → (ok && (a && b)) ≡ seen (from + n)
+  unfolding tokenAt
+  seen-rest from n {ok} long same unmarked holds e f g =
+      ap₂ (λ (x y : Bool). x && y) e
+      (both f (g ∙ sym (each-rest tokenIsBlank (m .tokens) blankToken from n long))
+      ∙ sym (each-both none (λ i. tokenIsBlank (tokenAt (m .tokens) i)) from n))
+      ∙ rest-turns (λ i. none i and tokenIsBlank (tokenAt (m .tokens) i)) seen from n (λ i k b.
+      vacant-turn i (omega arith) (omega arith) refl (getD-any used i false true (omega arith) ∙ unmarked i k (omega arith)) (holds i) refl)
 
   pub seen-done : (i : ℕ) → length (m .tokens) ≤ i
       → seen i ≡ ((forAll rule (m .tokens) and restIsBlank tokenIsBlank used (m .tokens)) and allFrom (namedByOrders queue waits timers) 0

@@ -1,2 +1,3 @@
 -- What the contracts of the tests of a whole record cite.
+pub mod Rest
 pub mod Tested

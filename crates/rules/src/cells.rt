@@ -12,9 +12,11 @@ ghost use Rattle.row_rules.specs.ValuesFit.{ValuesFit};
 ghost use Rattle.row_rules.specs.RowRules.{cellRule};
 use coded::word_tests::cell_coded;
 use model::record::Machine;
+use reach::marks::few_or_all;
 use record::cell::parent;
 use record::layout::CELL_PLACE_COUNT;
 use row_rules::blank::cell_is_blank;
+use row_rules::blank::cells_are_blank;
 use row_rules::chain::chain_ends;
 
 // The words and the rules of one cell. A blank one keeps them all.
@@ -31,16 +33,18 @@ fn cell_holds(w: &[u32; Machine::WORDS], c: usize, used: bool) -> bool
     cell_coded(w, c) & (above <= CELL_PLACE_COUNT) & chain_ends(w, above)
 }
 
+// Where few places are in use, the words of the others are tested together.
 pub(crate) fn cells_hold(w: &[u32; Machine::WORDS], used: &[bool; Machine::CELLS]) -> bool
     ensures { λ r. ⌜ (r ≡ true → (c : ℕ) → c < 32 → cellAtCoded (now (w .entry)) c ≡ true)
         × ((m : Machine) → ValuesFit (now (w .entry)) m → length (now (used .entry)) ≡ 32
         → r ≡ (forAll (cellRule (m .cells)) (m .cells) and restIsBlank cellIsBlank (now (used .entry)) (m .cells))) ⌝ }
 {
     let mut ok = true;
+    let end = few_or_all(used, Machine::CELLS);
     let mut i: usize = 0;
-    while i < Machine::CELLS {
+    while i < end {
         ok = ok & cell_holds(w, i, used[i]);
         i += 1;
     }
-    ok
+    ok & cells_are_blank(w, end)
 }

@@ -1,7 +1,7 @@
 // The rules of the tokens, all together: each row is looked at once, and one that is not in use only for being blank.
 ghost use mathlib.Core.Path.{_≡_};
 ghost use mathlib.Core.Bool.{true};
-ghost use Prim.Native.Nat.{ℕ, _<_, _≤_};
+ghost use Prim.Native.Nat.{ℕ, _<_, _≤_, _-_};
 ghost use lib.Dec.{eqb};
 ghost use lib.ListN.{length};
 ghost use Rattle.job.specs.Test.{_and_, forAll, allFrom, distinct, once};
@@ -15,17 +15,20 @@ ghost use Rattle.coded.specs.WordTests.{tokenCoded};
 ghost use Rattle.row_rules.specs.ValuesFit.{ValuesFit};
 ghost use Rattle.row_rules.specs.RowRules.{tokenRule};
 ghost use Rattle.order_rules.specs.OrderCounts.{namedByOrders};
+ghost use Rattle.rules.specs.Rest.{eachFrom, unnamed};
 use crate::handles::all_differ;
 use coded::word_tests::token_coded;
 use job::dag::NODE_COUNT;
 use job::wide::wide;
 use model::record::Machine;
 use order_rules::order::counts_agree;
+use reach::marks::few_or_all;
 use record::layout::CALLED_STATE;
 use record::token::node;
 use record::token::state;
 use record::token::state_number;
 use row_rules::blank::token_is_blank;
+use row_rules::blank::tokens_are_blank;
 use row_rules::chain::is_free;
 use row_rules::node::at_node;
 use row_rules::range::token_in_range;
@@ -60,7 +63,27 @@ fn handles_of(kind: u32) -> usize
     if kind == CALLED_STATE { 1 } else { 0 }
 }
 
-// The marks say which tokens are in use, the counts how often the orders name each place. Open handles are gathered on the way.
+// Does no order name a place from this one on?
+fn unnamed_from(
+    queue: &[u8; Machine::TOKENS],
+    waits: &[u8; Machine::TOKENS],
+    timers: &[u8; Machine::TOKENS],
+    from: usize,
+) -> bool
+    requires { ⌜ from ≤ 64 ⌝ }
+    ensures { λ r. ⌜ r ≡ eachFrom (unnamed (now (queue .entry)) (now (waits .entry)) (now (timers .entry))) from (64 - from) ⌝ }
+{
+    let mut ok = true;
+    let mut i = from;
+    while i < Machine::TOKENS {
+        ok = ok & (queue[i] == 0) & (waits[i] == 0) & (timers[i] == 0);
+        i += 1;
+    }
+    ok
+}
+
+// The marks say which tokens are in use, the counts how often the orders name each place. Open handles are gathered on the way. Where few
+// places are in use, the words of the others are tested together.
 pub(crate) fn tokens_hold(
     w: &[u32; Machine::WORDS],
     used: &[bool; Machine::TOKENS],
@@ -79,8 +102,9 @@ pub(crate) fn tokens_hold(
     let mut handles = [0u32; Machine::TOKENS];
     let mut count: usize = 0;
     let mut ok = true;
+    let end = few_or_all(used, Machine::TOKENS);
     let mut i: usize = 0;
-    while i < Machine::TOKENS {
+    while i < end {
         if used[i] {
             let kind = state(w, i);
             ok = ok & token_holds(w, i, dag) & counts_agree(kind, queue[i], waits[i], timers[i]);
@@ -91,5 +115,6 @@ pub(crate) fn tokens_hold(
         }
         i += 1;
     }
-    ok & all_differ(&handles, count)
+    let rest = unnamed_from(queue, waits, timers, end) & tokens_are_blank(w, end);
+    ok & rest & all_differ(&handles, count)
 }

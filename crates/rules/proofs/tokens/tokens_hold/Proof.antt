@@ -1,5 +1,5 @@
 -- `tokens::tokens_hold` meets its contract: after i turns the flag says whether the first i tokens pass, and where it stands the list has
--- their open handles. Assumes nothing.
+-- their open handles; no token from the end on is in use. Assumes nothing.
 use mathlib.Core.Bool.{true, _&&_}
 use mathlib.Core.Logic.{⊎-elim}
 use mathlib.Core.Path.{_≡_, refl, sym, _∙_, ap}
@@ -7,7 +7,6 @@ use Prim.Native.Nat.{ℕ, _+_, _-_, _≤_, _<_}
 use native.Mathlib.Omega.{arith}
 use lib.Dec.{eqb}
 use lib.ListN.{length, getD, take, length-set}
-use lib.Seq.{take-all}
 use Rattle.model.specs.declared.record.Machine.{Machine}
 use Rattle.model.specs.Machine.Blank.{blankToken, tokenAt}
 use Rattle.model.specs.Machine.Rules.{openHandles}
@@ -16,18 +15,18 @@ use Rattle.job.specs.Words.{dagOf}
 use Rattle.job.proofs.Test.{and-right}
 use Rattle.coded.specs.WordTests.{tokenCoded}
 use Rattle.row_rules.specs.ValuesFit.{ValuesFit}
-use Rattle.rules.proofs.HandlesLaws.{handle-more, blank-more}
+use Rattle.rules.proofs.HandlesLaws.{handle-more, blank-more, blank-rest}
 use Rattle.rules.proofs.OneRow.{token-blank}
-use Rattle.rules.proofs.RestBlank.{first-true, second-true, where-true}
-use Rattle.rules.proofs.RulesRows.{seen, seen-none, used-turn, vacant-turn, seen-done}
+use Rattle.rules.proofs.RestBlank.{before-and-behind, first-true, second-true, where-true}
+use Rattle.rules.proofs.RulesRows.{seen, seen-none, used-turn, vacant-turn, seen-rest, seen-done}
 use borrow.Author.Count.{below-more}
 use borrow.Author.Needs.{needs}
 use Rattle.rules.proofs.tokens.tokens_hold.Statement.{statement}
 use Rattle.rules.proofs.tokens.tokens_hold.Tie as tie
 
 abbrev Inv-loop : tie.InvT-loop
-Inv-loop w used dag queue waits timers handles₀ count₀ ok₀ i₀ handles count ok i =
-    (i ≤ 64)
+Inv-loop w used dag queue waits timers handles₀ count₀ ok₀ end i₀ handles count ok i =
+    (i ≤ end)
     × (count ≤ i)
     × (length handles ≡ 64)
     × (ok ≡ true → (p : ℕ) → p < i → tokenCoded w p ≡ true)
@@ -35,12 +34,12 @@ Inv-loop w used dag queue waits timers handles₀ count₀ ok₀ i₀ handles co
     × ((m : Machine) → ValuesFit w m → ok ≡ true → take count handles ≡ openHandles (take i (m .tokens)))
 
 abbrev μ-loop : tie.MeasureT-loop
-μ-loop w used dag queue waits timers handles₀ count₀ ok₀ i₀ handles count ok i = 64 - i
+μ-loop w used dag queue waits timers handles₀ count₀ ok₀ end i₀ handles count ok i = end - i
 
 loop-holds : tie.Need-loop-holds Inv-loop μ-loop
 unfolding openHandles
 loop-holds c =
-    let args = c .before .args in (
+    let args = c .before .before .before .args in (
       search needs,
       search needs,
       refl,
@@ -56,7 +55,8 @@ loop-again : tie.Need-loop-again Inv-loop μ-loop
 unfolding tokenAt
 loop-again c =
     let place3 = c .before .before .before in
-    let args = place3 .before .before .args in
+    let start = place3 .before .before .before .before in
+    let args = start .args in
     let now = place3 .loop in
     let queue = args .queue .now in
     let waits = args .waits .now in
@@ -98,7 +98,7 @@ loop-again c =
           ∙ vacant-turn (dagOf (args .dag .now)) m (args .used .now) queue waits timers (now .i) (omega arith) inside (now .inv .4 m h l)
           (w .0 .left)
           (token-blank (dagOf (args .dag .now)) m (tokenAt (m .tokens) (now .i)) (h .codes .shaped .binds (now .i))
-          (place3 .before .before .pre .1))
+          (start .pre .1))
           (w .4 .ensures .1 m (h .codes)))
           (c .if1 .came),
       λ m h e.
@@ -122,19 +122,43 @@ loop-again c =
     )
 
 returns : tie.Need-returns Inv-loop μ-loop
+unfolding tokenAt
 returns c =
-    let place3 = c .before .before .before in
-    let args = place3 .before .before .args in
-    let last = place3 .loop in (
-      λ e p l. last .inv .3 (first-true (last .ok) (c .all-differ .result) e) p (omega arith),
+    let place2 = c .before .before in
+    let place5 = place2 .before .before .before in
+    let start = place5 .before .before .before .before in
+    let args = start .args in
+    let last = place5 .loop in
+    let end = place5 .before .few-or-all in
+    let names = place2 .before .unnamed-from in
+    let blank = place2 .tokens-are-blank in
+    let rest = names .result && blank .result in
+    let e : last .i ≡ end .result = omega arith in
+    let d = dagOf (args .dag .now) in (
+      λ f.
+          let g = first-true (last .ok && rest) (c .all-differ .result) f in
+          before-and-behind (last .i) 64 (last .inv .3 (first-true (last .ok) rest g))
+          (λ p b. blank .ensures .0 (second-true (names .result) (blank .result) (second-true (last .ok) rest g)) p (omega arith)),
       λ m h l.
-          let over : length (m .tokens) ≤ last .i = omega (arith, h .codes .shaped .tokens) in
-          where-true (last .ok) (c .all-differ .result) (distinct (openHandles (m .tokens)))
-          (λ e. c .all-differ .ensures ∙ ap distinct (last .inv .5 m h e ∙ ap openHandles (take-all (last .i) (m .tokens) over)))
+          let long = h .codes .shaped .tokens in
+          let n = 64 - end .result in
+          where-true (last .ok && rest) (c .all-differ .result) (distinct (openHandles (m .tokens)))
+          (λ f.
+          let none = second-true (names .result) (blank .result) (second-true (last .ok) rest f) in
+          c .all-differ .ensures
+          ∙ ap distinct
+          (last .inv .5 m h (first-true (last .ok) rest f)
+          ∙ ap (λ i. openHandles (take i (m .tokens))) e
+          ∙ blank-rest (m .tokens) (end .result) (sym (blank .ensures .1 m (h .codes)) ∙ none)))
           ∙ ap (λ b. b and distinct (openHandles (m .tokens)))
-          (last .inv .4 m h l
-          ∙ seen-done (dagOf (args .dag .now)) m (args .used .now) (args .queue .now) (args .waits .now) (args .timers .now)
-          (last .i) over),
+          (seen-rest d m (args .used .now) (args .queue .now) (args .waits .now) (args .timers .now) (end .result) n (omega (arith, long))
+          (l ∙ sym long)
+          (λ i f b. end .ensures .0 .1 i f (omega (arith, long)))
+          (λ i. token-blank d m (tokenAt (m .tokens) i) (h .codes .shaped .binds i) (start .pre .1))
+          (last .inv .4 m h l ∙ ap (seen d m (args .used .now) (args .queue .now) (args .waits .now) (args .timers .now)) e)
+          (names .ensures)
+          (blank .ensures .1 m (h .codes))
+          ∙ seen-done d m (args .used .now) (args .queue .now) (args .waits .now) (args .timers .now) (end .result + n) (omega (arith, long))),
     )
 
 pub tokens-hold-spec : {M : Type 1} → statement M
@@ -143,6 +167,7 @@ tokens-hold-spec =
     (tie.spec
     Inv-loop
     μ-loop
+    (λ c κs. search needs)
     loop-holds
     (λ c. search needs)
     (λ c κs. search needs)
@@ -163,6 +188,8 @@ tokens-hold-spec =
     (λ c. search needs)
     (λ c. search needs)
     loop-again
+    (λ c κs. search needs)
+    (λ c κs. search needs)
     (λ c. search needs)
     (λ c κs. search needs)
     returns)

@@ -83,9 +83,13 @@ fn speed(name: &str, times: [f64; SIDES], steps: u32) {
     shown(name, times.map(|time| 1e6 * steps as f64 / time), times);
 }
 
-/// A figure of each side; the ratio is that of the times.
-fn shown(name: &str, [proved, twin]: [f64; SIDES], [time, of_twin]: [f64; SIDES]) {
-    println!("{name:<60} {proved:>8.0} {twin:>8.0} {:>6.2}", time / of_twin);
+/// A figure of each side, a small one with decimals; the ratio is that of the times.
+fn shown(name: &str, figures: [f64; SIDES], [time, of_twin]: [f64; SIDES]) {
+    let [proved, twin] =
+        figures.map(
+            |figure| if figure < 100.0 { format!("{figure:.2}") } else { format!("{figure:.0}") },
+        );
+    println!("{name:<60} {proved:>8} {twin:>8} {:>6.2}", time / of_twin);
 }
 
 /// Times so many runs of a job in a row. Both sides print the same.
