@@ -3,7 +3,7 @@
 ghost use mathlib.Core.Path.{_≡_};
 ghost use mathlib.Core.Bool.{Bool, true, false};
 ghost use mathlib.Core.List.{List};
-ghost use Prim.Native.Nat.{ℕ, _≤_, _<_, _+_};
+ghost use Prim.Native.Nat.{ℕ, _≤_, _<_, _+_, _-_};
 ghost use lib.ListN.{getD, take, drop};
 ghost use lib.Dec.{ltb, eqb};
 ghost use Rattle.job.specs.Test.{_and_, forAll, allFrom, occurrences, once};
@@ -13,7 +13,7 @@ ghost use Rattle.model.specs.declared.record.Machine.{Machine};
 ghost use Rattle.model.specs.declared.token.State.{State};
 ghost use Rattle.record.specs.Holds.{Codes};
 ghost use Rattle.record.specs.Layout.{stateKind};
-ghost use Rattle.order_rules.specs.OrderCounts.{NamesAt, namedAs};
+ghost use Rattle.order_rules.specs.OrderCounts.{NamesAt, namedAs, eachFrom, unnamed};
 use job::wide::wide;
 use model::record::Machine;
 use orders::zero::all_zero;
@@ -142,4 +142,23 @@ pub fn counts_agree(kind: u32, queue: u8, waits: u8, timers: u8) -> bool
     (queue == one_if(kind == READY_STATE))
         & (waits == one_if(kind == WAITING_STATE))
         & (timers == one_if(kind == DUE_STATE))
+}
+
+// Does no order name a place from this one on?
+pub fn unnamed_from(
+    queue: &[u8; Machine::TOKENS],
+    waits: &[u8; Machine::TOKENS],
+    timers: &[u8; Machine::TOKENS],
+    from: usize,
+) -> bool
+    requires { ⌜ from ≤ 64 ⌝ }
+    ensures { λ r. ⌜ r ≡ eachFrom (unnamed (now (queue .entry)) (now (waits .entry)) (now (timers .entry))) from (64 - from) ⌝ }
+{
+    let mut ok = true;
+    let mut i = from;
+    while i < Machine::TOKENS {
+        ok = ok & (queue[i] == 0) & (waits[i] == 0) & (timers[i] == 0);
+        i += 1;
+    }
+    ok
 }

@@ -15,7 +15,7 @@ use Rattle.job.proofs.Test.{clash}
 use Rattle.job.proofs.Both.{both, and-true, and-false, and-assoc, regroup}
 use Rattle.job.proofs.Lists.{getD-any}
 use Rattle.job.proofs.Loop.{all-more}
-use Rattle.rules.specs.Rest.{eachFrom}
+use Rattle.order_rules.specs.OrderCounts.{eachFrom}
 
 rest-more : {A : Type 0} (blank : A → Bool) (marks : List Bool) (xs : List A) (i : ℕ) (d : A) → i < length marks → i < length xs
     → restIsBlank blank marks (take (suc i) xs) ≡ (restIsBlank blank marks (take i xs) and (getD marks i false || blank (getD xs i d)))

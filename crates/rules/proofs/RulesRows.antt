@@ -21,9 +21,8 @@ use Rattle.job.proofs.Lists.{getD-any}
 use Rattle.job.proofs.Test.{and-left}
 use Rattle.record.specs.Layout.{stateKind}
 use Rattle.row_rules.specs.RowRules.{tokenRule}
-use Rattle.order_rules.specs.OrderCounts.{namedByOrders}
 use Rattle.order_rules.proofs.OrderCounts.{from-turn}
-use Rattle.rules.specs.Rest.{eachFrom, unnamed}
+use Rattle.order_rules.specs.OrderCounts.{namedByOrders, eachFrom, unnamed}
 use Rattle.rules.proofs.RestBlank.{passed, pass-turn, marked-one, other-one, rest-turns, each-rest, each-both}
 use Rattle.model.proofs.Machine.Blanking.{state-blank}
 

@@ -1,3 +1,2 @@
 -- What the contracts of the tests of a whole record cite.
-pub mod Rest
 pub mod Tested

@@ -1,7 +1,7 @@
 // The rules of the tokens, all together: each row is looked at once, and one that is not in use only for being blank.
 ghost use mathlib.Core.Path.{_≡_};
 ghost use mathlib.Core.Bool.{true};
-ghost use Prim.Native.Nat.{ℕ, _<_, _≤_, _-_};
+ghost use Prim.Native.Nat.{ℕ, _<_, _≤_};
 ghost use lib.Dec.{eqb};
 ghost use lib.ListN.{length};
 ghost use Rattle.job.specs.Test.{_and_, forAll, allFrom, distinct, once};
@@ -15,13 +15,13 @@ ghost use Rattle.coded.specs.WordTests.{tokenCoded};
 ghost use Rattle.row_rules.specs.ValuesFit.{ValuesFit};
 ghost use Rattle.row_rules.specs.RowRules.{tokenRule};
 ghost use Rattle.order_rules.specs.OrderCounts.{namedByOrders};
-ghost use Rattle.rules.specs.Rest.{eachFrom, unnamed};
 use crate::handles::all_differ;
 use coded::word_tests::token_coded;
 use job::dag::NODE_COUNT;
 use job::wide::wide;
 use model::record::Machine;
 use order_rules::order::counts_agree;
+use order_rules::order::unnamed_from;
 use reach::marks::few_or_all;
 use record::layout::CALLED_STATE;
 use record::token::node;
@@ -61,25 +61,6 @@ fn handles_of(kind: u32) -> usize
     ensures { λ r. ⌜ (r ≡ once (eqb kind 3)) × (r ≤ 1) ⌝ }
 {
     if kind == CALLED_STATE { 1 } else { 0 }
-}
-
-// Does no order name a place from this one on?
-fn unnamed_from(
-    queue: &[u8; Machine::TOKENS],
-    waits: &[u8; Machine::TOKENS],
-    timers: &[u8; Machine::TOKENS],
-    from: usize,
-) -> bool
-    requires { ⌜ from ≤ 64 ⌝ }
-    ensures { λ r. ⌜ r ≡ eachFrom (unnamed (now (queue .entry)) (now (waits .entry)) (now (timers .entry))) from (64 - from) ⌝ }
-{
-    let mut ok = true;
-    let mut i = from;
-    while i < Machine::TOKENS {
-        ok = ok & (queue[i] == 0) & (waits[i] == 0) & (timers[i] == 0);
-        i += 1;
-    }
-    ok
 }
 
 // The marks say which tokens are in use, the counts how often the orders name each place. Open handles are gathered on the way. Where few

@@ -1,4 +1,4 @@
--- `tokens::unnamed_from` meets its contract: after each turn the flag says whether an order names a place before it. Assumes nothing.
+-- `order::unnamed_from` meets its contract: after each turn the flag says whether an order names a place before it. Assumes nothing.
 use mathlib.Core.Bool.{Bool, true, false, _&&_}
 use mathlib.Core.Path.{_≡_, refl, sym, _∙_, ap}
 use Prim.Native.Nat.{ℕ, suc, _+_, _-_, _≤_}
@@ -7,10 +7,10 @@ use lib.Dec.{eqb}
 use lib.ListN.{getD}
 use Rattle.job.specs.Test.{_and_}
 use Rattle.job.proofs.Both.{both, three-are}
-use Rattle.rules.specs.Rest.{eachFrom, unnamed}
+use Rattle.order_rules.specs.OrderCounts.{eachFrom, unnamed}
 use borrow.Author.Needs.{needs}
-use Rattle.rules.proofs.tokens.unnamed_from.Statement.{statement}
-use Rattle.rules.proofs.tokens.unnamed_from.Tie as tie
+use Rattle.order_rules.proofs.order.unnamed_from.Statement.{statement}
+use Rattle.order_rules.proofs.order.unnamed_from.Tie as tie
 
 abbrev Inv-loop : tie.InvT-loop
 Inv-loop queue waits timers from ok₀ i₀ ok i = (from ≤ i) × (i ≤ 64) × (ok ≡ eachFrom (unnamed queue waits timers) from (i - from))
