@@ -5,14 +5,12 @@ use mathlib.Core.Bool.{Bool, true, false}
 use mathlib.Core.List.{List}
 use Prim.Native.Nat.{ℕ, suc, _+_, _≤_}
 use native.Mathlib.Omega.{arith}
-use lib.ListN.{getD}
 use lib.Dec.{ltb}
 use lib.IntN.{ℤ}
 use Rattle.job.specs.Syntax.{Param}
-use Rattle.job.specs.Node.{Node, Dag, nodeAt}
+use Rattle.job.specs.Node.{Node, Dag}
 use Rattle.job.specs.Tail.{isTail}
 use Rattle.model.specs.Machine.Limits.{Limits}
-use Rattle.model.specs.Machine.Blank.{tokenAt}
 use Rattle.model.specs.Machine.InUse.{marked, tokensUsed, cellsUsed, Within}
 use Rattle.model.specs.Machine.Rules.{tokenInRange, cellInRange, sizesInRange, machineHolds, rulesHold}
 use Rattle.model.specs.Machine.Reply.{Effect, moves, unless, outcome, isRefused}
@@ -23,6 +21,7 @@ use Rattle.model.specs.declared.token.Token.{Token}
 use Rattle.model.specs.declared.record.Machine.{Machine}
 use Rattle.model.specs.declared.reply.Outcome.{Outcome}
 use Rattle.job.proofs.Test.{clash, ltb-lt, lt-ltb}
+use Rattle.demand3.proofs.Added.{cellsAdded, nodeTaken}
 use Rattle.model.proofs.Machine.Within.{step-within, answer-within, advance-within}
 
 -- these limits, for as many tokens and cells
@@ -52,38 +51,6 @@ unless-same : (m : Machine) (b b′ : Bool) (n : ℕ) (e e′ : Effect)
 unfolding unless outcome isRefused
 unless-same m true b′ n e e′ f g ok = rw (f refl) (g ok)
 unless-same m false b′ n e e′ f g ok = clash refl ok
-
--- how many cells an instruction adds: a where one, any other none
-unfoldable pub cellsAdded : Node → ℕ
-cellsAdded Node.stop = 0
-cellsAdded (Node.site s ps k) = 0
-cellsAdded (Node.call e ps k) = 0
-cellsAdded (Node.fork l r) = 0
-cellsAdded (Node.assign x k) = 0
-cellsAdded (Node.remove x k) = 0
-cellsAdded (Node.where' x l r) = 1
-cellsAdded Node.choke = 0
-cellsAdded Node.return = 0
-cellsAdded Node.publish = 0
-cellsAdded Node.unknown = 0
-
-pub added-few : (n : Node) → cellsAdded n ≤ 1
-unfolding cellsAdded
-added-few Node.stop = omega arith
-added-few (Node.site s ps k) = omega arith
-added-few (Node.call e ps k) = omega arith
-added-few (Node.fork l r) = omega arith
-added-few (Node.assign x k) = omega arith
-added-few (Node.remove x k) = omega arith
-added-few (Node.where' x l r) = omega arith
-added-few Node.choke = omega arith
-added-few Node.return = omega arith
-added-few Node.publish = omega arith
-added-few Node.unknown = omega arith
-
--- the node at which a step's token stands
-abbrev pub nodeTaken : Dag → Machine → (place : ℕ) → Node
-nodeTaken d m place = nodeAt d (tokenAt (m .tokens) (getD (m .queue) place 0) .node)
 
 -- limits that hold where these do; the one of cells is asked for only where a cell is added
 module _ (lim : Limits) (t c : ℕ) (d : Dag) (m : Machine)

@@ -35,12 +35,13 @@ use Rattle.lockstep.proofs.Seen.{world, Sees, seenAs}
 use Rattle.lockstep.proofs.ActsAgree.{Taken, taken, take-ready}
 use Rattle.lockstep.proofs.StartSeen.{start-sees}
 use Rattle.lockstep.proofs.Lockstep.{Fitting, takes-agrees, shown-by, Steps, steps, answer-locks, advance-locks}
-use Rattle.demand3.proofs.Larger.{allowing, cellsAdded, nodeTaken, step-adds, answer-adds, advance-adds}
+use Rattle.demand3.proofs.Added.{tokensAdded, cellsAdded, nodeTaken}
+use Rattle.demand3.proofs.Larger.{allowing, step-adds, answer-adds, advance-adds}
 use Rattle.loops.proofs.Weights.{madeAt, Weighs, inGoal, Entries, alone}
 use Rattle.loops.proofs.StepWeighs.{Around, around, weighed-around, cellsMade, Leaves, leaves, StateWeighs, weighs, step-leaves}
 use Rattle.loops.proofs.Covered.{uses, split-uses, sees-uses}
 use Rattle.loops.proofs.Room.{addedAt, place-room, place-cells, weighed-uses}
-use Rattle.loops.proofs.NotFull.{tokensAdded}
+use Rattle.loops.proofs.NotFull.{RoomFor}
 
 -- both machines make a cell at a where
 meant-adds : (scope : List ℕ) (N : Node) → madeAt (nodeMeant scope N) ≡ cellsAdded N
@@ -175,16 +176,14 @@ module _ (lim : Limits) (d : Dag) (M : Labels) (bodies : ℕ → Exp) (fits : Fi
       )
 
   pub light-room : (m : Machine) → Light m → T ≤ lim .tokens → C ≤ lim .cells → (k : ℕ) → rulesHold lim d m ≡ true → k < m .queued
-      → (tokensAdded d (nodeTaken d m k) ≡ 1 → hasTokenPlace lim m ≡ true) × (cellsAdded (nodeTaken d m k) ≡ 1 → hasCellPlace lim m ≡ true)
+      → RoomFor lim d m k
   light-room m (light (seenAs {S = S} {σ = σ} {new = new} name place A K) (weighs w) c) i j k holds l =
       go (take-ready p K (ready-state _ (queue-rules-hold lim d m holds .ready k l)))
     where
       p : ℕ
       p = getD (m .queue) k 0
 
-      go : Taken M (world (m .tokens) (m .cells) name place σ new) p S
-          → (tokensAdded d (nodeTaken d m k) ≡ 1 → hasTokenPlace lim m ≡ true)
-          × (cellsAdded (nodeTaken d m k) ≡ 1 → hasCellPlace lim m ≡ true)
+      go : Taken M (world (m .tokens) (m .cells) name place σ new) p S → RoomFor lim d m k
       go (taken {n = n} split acting) =
           let r = room-around m split (sees-uses m (seenAs name place A K)) c i j (weighed-around G rank top split w) in
           let at-n = acting .place .node in (
