@@ -48,6 +48,17 @@ impl Token {
         binds: [Slot::Empty; 8],
     };
 
+    /// Is it blank? Every field is looked at, so that nothing is waited for.
+    pub fn is_blank(&self) -> bool {
+        let unbound = self.binds.iter().fold(true, |none, slot| none & matches!(slot, Slot::Empty));
+        matches!(self.state, State::Blank)
+            & (self.node == 0)
+            & self.caller.is_none()
+            & self.cell.is_none()
+            & self.value.is_none()
+            & unbound
+    }
+
     pub fn binds_cell(&self) -> bool {
         self.binds.iter().any(|slot| matches!(slot, Slot::Cell(_)))
     }
@@ -66,6 +77,10 @@ pub struct Cell {
 
 impl Cell {
     pub const BLANK: Cell = Cell { parent: None, value: None };
+
+    pub fn is_blank(&self) -> bool {
+        self.parent.is_none() & self.value.is_none()
+    }
 }
 
 /// Names of tokens in an order, the first `count` of `names`; behind them all is 0.
@@ -181,6 +196,13 @@ impl Machine {
         self.tokens[0].state = State::Ready;
         self.queue.count = 1;
         self.last_cell = CELLS as u8 - 1;
+    }
+
+    /// The tokens and the cells that are not blank: a bit for each place.
+    pub fn filled(&self) -> (u64, u32) {
+        let token = |bits, (p, token): (usize, &Token)| bits | u64::from(!token.is_blank()) << p;
+        let cell = |bits, (c, cell): (usize, &Cell)| bits | u32::from(!cell.is_blank()) << c;
+        (self.tokens.iter().enumerate().fold(0, token), self.cells.iter().enumerate().fold(0, cell))
     }
 
     /// Is the cell at a place set, or one of its ancestors?

@@ -1,6 +1,6 @@
 //! The index rules, on any dag words and any record.
 
-use crate::record::{Cell, Machine, Order, Slot, State, Token, Used, CELLS, LAST_TIME, TOKENS};
+use crate::record::{places, Machine, Order, Slot, State, Token, Used, CELLS, LAST_TIME, TOKENS};
 use crate::table::{row_of, takes, Dag, Row, HEAD, ROW};
 
 fn row_holds(row: &Row, nodes: u32, bodies: u32) -> bool {
@@ -56,7 +56,8 @@ fn token_in_range(token: &Token, nodes: u32, calls: u32, clock: u32) -> bool {
         }
 }
 
-fn in_range(machine: &Machine, nodes: u32) -> bool {
+/// The numbers of a record, and the fields of its tokens and cells that are not blank.
+fn in_range(machine: &Machine, nodes: u32, tokens: u64, cells: u32) -> bool {
     let Machine { calls, clock, .. } = *machine;
     calls <= 1_000_000
         && clock <= LAST_TIME
@@ -65,8 +66,8 @@ fn in_range(machine: &Machine, nodes: u32) -> bool {
         && machine.queue.count <= TOKENS
         && machine.waits.count <= TOKENS
         && machine.timers.count <= TOKENS
-        && machine.tokens.iter().all(|token| token_in_range(token, nodes, calls, clock))
-        && machine.cells.iter().all(|cell| in_places(cell.parent, CELLS))
+        && places(tokens).all(|p| token_in_range(&machine.tokens[p], nodes, calls, clock))
+        && places(cells as u64).all(|c| in_places(machine.cells[c].parent, CELLS))
 }
 
 /// The tokens that an order names, if it names each once, and nothing behind it.
@@ -81,10 +82,10 @@ fn named(order: &Order) -> Option<u64> {
     order.names[order.count..].iter().all(|&name| name == 0).then_some(named)
 }
 
-/// Every chain of parents ends.
-fn parents_end(machine: &Machine) -> bool {
+/// Every chain of parents ends; that of a blank cell does.
+fn parents_end(machine: &Machine, cells: u32) -> bool {
     let mut ends: u32 = 0;
-    for start in 0..CELLS {
+    for start in places(cells as u64) {
         let mut chain: u32 = 0;
         let mut here = Some(start as u8);
         while let Some(at) = here {
@@ -136,17 +137,25 @@ impl Handles {
     }
 }
 
-/// What is in use, if all rules hold.
+/// What is in use, if all rules hold. A blank token or cell keeps its own rules, and no order names one.
 pub fn tested(machine: &Machine, dag: &Dag) -> Option<Used> {
-    if !dag_holds(dag) || !in_range(machine, dag[0]) || !parents_end(machine) {
+    let (tokens, cells) = machine.filled();
+    if !dag_holds(dag) || !in_range(machine, dag[0], tokens, cells) || !parents_end(machine, cells)
+    {
         return None;
     }
     let queued = named(&machine.queue)?;
     let waiting = named(&machine.waits)?;
     let timed = named(&machine.timers)?;
-    let used = machine.used(u64::MAX);
+    let used = machine.used(tokens);
+    if (tokens & !used.tokens) | (cells & !used.cells) as u64 | (queued | waiting | timed) & !tokens
+        != 0
+    {
+        return None;
+    }
     let mut handles = Handles { seen: [0; TOKENS], count: 0 };
-    for (p, token) in machine.tokens.iter().enumerate() {
+    for p in places(tokens) {
+        let token = &machine.tokens[p];
         let bit = |bits: u64| bits >> p & 1 == 1;
         let unset = || !machine.under_set(token.cell);
         let holds = match token.state {
@@ -161,15 +170,9 @@ pub fn tested(machine: &Machine, dag: &Dag) -> Option<Used> {
             State::Called(h) => !bit(queued | waiting | timed) && unset() && handles.add(h),
             State::Due(_) => bit(timed) && !bit(queued | waiting) && unset(),
         };
-        let rest = if bit(used.tokens) {
-            token.state == State::Blank || node_holds(machine, dag, token)
-        } else {
-            *token == Token::BLANK
-        };
-        if !holds || !rest {
+        if !holds || token.state != State::Blank && !node_holds(machine, dag, token) {
             return None;
         }
     }
-    let blank = |(c, cell): (usize, &Cell)| used.cells >> c & 1 == 1 || *cell == Cell::BLANK;
-    machine.cells.iter().enumerate().all(blank).then_some(used)
+    Some(used)
 }
