@@ -6,8 +6,9 @@ use Prim.Native.Nat.{ℕ, zero, suc, _+_, _-_, _*_, _<_, _≤_}
 use native.Mathlib.Omega.{arith}
 use lib.Dec.{eqb, leb}
 use lib.ListN.{getD, take, drop, replicate, getD-replicate}
-use lib.Seq.{getD-drop, getD-take, drop-drop}
+use lib.Seq.{getD-drop, drop-drop}
 use Rattle.job.specs.Test.{_and_}
+use Rattle.job.proofs.Lists.{part-at}
 use Rattle.job.proofs.Test.{lt-not-leb, eq-eqb, ne-eqb}
 use Rattle.coded.specs.WordTests.{slotCoded, heldCoded, stateCoded, bindsCoded, rowCoded, cellCoded, tableCoded, recordCoded}
 
@@ -105,7 +106,7 @@ module _ (ws : List ℕ) (at : ℕ) where
   row = take 24 (drop at ws)
 
   in-row : (j : ℕ) → j < 24 → getD row j 0 ≡ getD ws (at + j) 0
-  in-row j l = getD-take 24 (drop at ws) j 0 l ∙ at-drop at j ws
+  in-row j l = part-at ws at 24 j 0 l
 
   row-slots : bindsCoded 8 (drop 8 row) ≡ bindsCoded 8 (drop (at + 8) ws)
   row-slots =
@@ -194,7 +195,7 @@ module _ (ok : List ℕ → Bool) (w size : ℕ) (ws : List ℕ) (p : ℕ) (all 
 -- a cell
 module _ (ws : List ℕ) (at : ℕ) where
   in-cell : (j : ℕ) → j < 4 → getD (take 4 (drop at ws)) j 0 ≡ getD ws (at + j) 0
-  in-cell j l = getD-take 4 (drop at ws) j 0 l ∙ at-drop at j ws
+  in-cell j l = part-at ws at 4 j 0 l
 
   cell-is : cellCoded (take 4 (drop at ws)) ≡ (heldCoded (getD ws (at + 1) 0) (getD ws (at + 2) 0) and eqb (getD ws (at + 3) 0) 0)
   unfolding cellCoded

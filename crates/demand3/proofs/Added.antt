@@ -2,15 +2,14 @@
 use mathlib.Core.Bool.{Bool, true, false}
 use Prim.Native.Nat.{ℕ, _≤_}
 use native.Mathlib.Omega.{arith}
-use lib.ListN.{getD}
 use Rattle.job.specs.Node.{Node, Dag, nodeAt}
 use Rattle.job.specs.Tail.{isTail}
-use Rattle.model.specs.Machine.Blank.{tokenAt}
+use Rattle.model.specs.Run.Follow.{queuedToken}
 use Rattle.model.specs.declared.record.Machine.{Machine}
 
 -- the node at which a step's token stands
 abbrev pub nodeTaken : Dag → Machine → (place : ℕ) → Node
-nodeTaken d m place = nodeAt d (tokenAt (m .tokens) (getD (m .queue) place 0) .node)
+nodeTaken d m place = nodeAt d (queuedToken m place .node)
 
 -- a call in tail position adds none, any other its frame
 abbrev pub unlessTail : Bool → ℕ

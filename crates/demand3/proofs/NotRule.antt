@@ -4,13 +4,14 @@ use mathlib.Core.Path.{_≡_, refl, ap}
 use mathlib.Core.Bool.{true, false}
 use mathlib.Core.List.{List}
 use Prim.Native.Nat.{ℕ, _<_}
-use native.Mathlib.Omega.{arith}
+use lib.Dec.{eqb}
 use lib.ListN.{getD}
 use Rattle.job.specs.Node.{Node, Dag, nodeAt, nodeHolds}
 use Rattle.model.specs.Machine.Limits.{Limits}
 use Rattle.model.specs.Machine.Blank.{blankToken, tokenAt, isPlace}
 use Rattle.model.specs.Machine.State.{isBlankState, isReady}
 use Rattle.model.specs.Machine.Rules.{namesFrame, nodeRule, atNode, rulesHold}
+use Rattle.model.specs.Machine.Reply.{numberOf}
 use Rattle.model.specs.Run.Call.{Call, runner, outcomeOf}
 use Rattle.model.specs.declared.token.State.{State}
 use Rattle.model.specs.declared.token.State.the-variants as states
@@ -28,7 +29,7 @@ use Rattle.demand3.proofs.RefusesOnly.{Lacks, noFrame, noCell, noNode, 
 
 -- a refusal that is not 14
 abbrev NotFourteen : Refusal → Type 0
-NotFourteen r = r ≡ refusals.Rule → ⊥
+NotFourteen r = eqb (numberOf r) 14 ≡ false
 
 -- a token whose node keeps the rules lacks nothing that it names
 not-lacking : (d : Dag) (ts : List Token) (t : Token) (N : Node) → nodeHolds d N ≡ true → nodeRule ts t N ≡ true → Lacks t N → ⊥
@@ -54,17 +55,17 @@ ready-not-blank states.Frame e = refl
 
 module _ (lim : Limits) (d : Dag) (m : Machine) (holds : rulesHold lim d m ≡ true) where
   tests : (k : ℕ) → StepTests NotFourteen lim d m k
-  unfolding tokenAt
+  unfolding tokenAt numberOf
   tests k =
       record {
         rules = λ e. clash holds e;
-        queued = λ l e. let z : _≡_ {A = ℕ} 0 1 = cc in omega arith;
+        queued = λ l. refl;
         takes =
             λ h l.
             record {
-              token = λ f a e. let z : _≡_ {A = ℕ} 0 1 = cc in omega arith;
-              cell = λ f a e. let z : _≡_ {A = ℕ} 0 1 = cc in omega arith;
-              call = λ e. let z : _≡_ {A = ℕ} 0 1 = cc in omega arith;
+              token = λ full a. refl;
+              cell = λ full a. refl;
+              call = refl;
               rule =
                   λ x.
                   absurd
@@ -90,7 +91,5 @@ module _ (lim : Limits) (d : Dag) (m : Machine) (holds : rulesHold lim d m ≡ t
 
   -- no call is refused with 14
   pub not-rule : (c : Call) → outcomeOf runner lim d m c .reply ≡ replies.Refused refusals.Rule → ⊥
-  not-rule c =
-      call-only NotFourteen lim d m tests
-      (λ e. let z : _≡_ {A = ℕ} 0 1 = cc in omega arith)
-      (λ e. let z : _≡_ {A = ℕ} 0 1 = cc in omega arith) c refusals.Rule (λ n. n refl)
+  unfolding numberOf
+  not-rule c = call-only NotFourteen lim d m tests refl refl c refusals.Rule (λ e. clash refl e)

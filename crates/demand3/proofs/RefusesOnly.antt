@@ -5,7 +5,6 @@ use mathlib.Core.Bool.{Bool, true, false}
 use mathlib.Core.List.{List}
 use Prim.Native.Nat.{ℕ, _<_, _≤_}
 use native.Mathlib.Omega.{arith}
-use lib.ListN.{getD}
 use lib.Dec.{ltb}
 use lib.IntN.{ℤ}
 use Rattle.job.specs.Syntax.{Param}
@@ -13,7 +12,6 @@ use Rattle.job.specs.Node.{Node, Dag}
 use Rattle.job.specs.Site.{BuiltinReply, gives, silent, later, isBuiltin, builtin, dueTime}
 use Rattle.job.specs.Tail.{isTail}
 use Rattle.model.specs.Machine.Limits.{Limits}
-use Rattle.model.specs.Machine.Blank.{tokenAt}
 use Rattle.model.specs.Machine.Rules.{rulesHold}
 use Rattle.model.specs.Machine.Reply.{Effect, moves, waits, publishes, calls, refuses, unless, accepted, outcome, refusalOf}
 use Rattle.model.specs.Machine.Step.{LookUpResult, values, unset, goesOn, waited, replied, calledOut, callSite, callBody, becomesCallee}
@@ -21,6 +19,7 @@ use Rattle.model.specs.Machine.Step.{entered, returned, chokeAt, forked, split,
 use Rattle.model.specs.Machine.Answer.{holder, answered, answer}
 use Rattle.model.specs.Machine.Clock.{advance}
 use Rattle.model.specs.Run.Call.{Call, runner, outcomeOf}
+use Rattle.model.specs.Run.Follow.{queuedToken}
 use Rattle.model.specs.declared.token.Place.{Place}
 use Rattle.model.specs.declared.token.Place.the-variants as places
 use Rattle.model.specs.declared.token.Token.{Token}
@@ -46,20 +45,18 @@ pub data Lacks (t : Token) : Node → Type 0 where
   noCell : t .cell ≡ places.Nowhere → Lacks t Node.choke
   noNode : Lacks t Node.unknown
 
--- what P asks of the tests of an instruction, and of those before it
+-- what P asks of the tests of an instruction
 pub record ActTests (P : Refusal → Type 0) (lim : Limits) (d : Dag) (m : Machine) (t : Token) (N : Node) : Type 0 where
   pub token : hasTokenPlace lim m ≡ false → tokensAdded d N ≡ 1 → P refusals.TokenLimit
   pub cell : hasCellPlace lim m ≡ false → cellsAdded N ≡ 1 → P refusals.CellLimit
   pub call : P refusals.CallLimit
   pub rule : Lacks t N → P refusals.Rule
 
-abbrev tokenTaken : Machine → (place : ℕ) → Token
-tokenTaken m place = tokenAt (m .tokens) (getD (m .queue) place 0)
-
+-- of a step: 14, 9, and those of the instruction of the token that it takes
 pub record StepTests (P : Refusal → Type 0) (lim : Limits) (d : Dag) (m : Machine) (place : ℕ) : Type 0 where
   pub rules : rulesHold lim d m ≡ false → P refusals.Rule
   pub queued : m .queued ≤ place → P refusals.NoToken
-  pub takes : rulesHold lim d m ≡ true → place < m .queued → ActTests P lim d m (tokenTaken m place) (nodeTaken d m place)
+  pub takes : rulesHold lim d m ≡ true → place < m .queued → ActTests P lim d m (queuedToken m place) (nodeTaken d m place)
 
 module _ (P : Refusal → Type 0) where
   unless-only : (b : Bool) (n : ℕ) (e : Effect) → (b ≡ false → P (refusalOf n)) → (b ≡ true → RefusesOnly P e)
@@ -132,7 +129,7 @@ module _ (P : Refusal → Type 0) where
       act-only Node.unknown on = on .rule noNode
 
   module _ (lim : Limits) (d : Dag) (m : Machine) where
-    takes-only : (place : ℕ) → ActTests P lim d m (tokenTaken m place) (nodeTaken d m place) → RefusesOnly P (takes lim d m place)
+    takes-only : (place : ℕ) → ActTests P lim d m (queuedToken m place) (nodeTaken d m place) → RefusesOnly P (takes lim d m place)
     unfolding takes
     takes-only place on = act-only lim _ _ _ d m _ on
 

@@ -8,12 +8,13 @@ use native.Mathlib.Nat.{add-zero, zero-add}
 use native.Mathlib.Numerals.{add-one}
 use native.Mathlib.Omega.{arith}
 use lib.ListN.{length, getD, take, drop, set, replicate, length-drop, length-replicate, getD-replicate, List·getD-eq-default}
-use lib.Seq.{getD-set-same, getD-set-other, getD-drop, length-take-le, getD-take, ext-getD}
+use lib.Seq.{getD-set-same, getD-set-other, getD-drop, length-take-le, getD-take}
 use lib.Dec.{ltb, eqb}
 use Rattle.job.specs.Test.{_and_, forAll, allFrom, occurrences, once}
 use Rattle.model.specs.Machine.Rules.{namesOnce}
 use Rattle.model.specs.declared.token.State.{State}
 use Rattle.model.specs.declared.token.Token.{Token}
+use Rattle.job.proofs.Lists.{part-is}
 use Rattle.job.proofs.Test.{all-at, all-from, false-of, ltb-lt, lt-ltb, eq-eqb, ne-eqb, le-leb, lt-not-leb}
 use Rattle.record.specs.Layout.{stateKind}
 use Rattle.job.proofs.Both.{both, and-true, and-assoc}
@@ -111,16 +112,9 @@ pub rest-names : {ws array : List ℕ} {at : ℕ} → NamesAt ws at array → (n
     → take (at + 64 - (at + n)) (drop (at + n) ws) ≡ drop n array
 rest-names {ws} {array} {at} h n l long =
     let k : at + 64 - (at + n) ≡ 64 - n = omega arith in
-    let size : length (take (64 - n) (drop (at + n) ws)) ≡ 64 - n =
-    length-take-le (64 - n) (drop (at + n) ws) (omega (arith, length-drop (at + n) ws)) in
-    let rest : length (drop n array) ≡ 64 - n = omega (arith, length-drop n array, h .long) in
-    rw k (ext-getD 0 (take (64 - n) (drop (at + n) ws)) (drop n array) (size ∙ sym rest) (λ i b.
+    rw k (part-is ws (at + n) (64 - n) (drop n array) 0 (omega (arith, length-drop n array, h .long)) (omega arith) (λ i b.
     let j : at + n + i ≡ at + (n + i) = omega arith in
-    getD-take (64 - n) (drop (at + n) ws) i 0 (omega arith)
-    ∙ getD-drop (at + n) ws i 0
-    ∙ ap (λ q. getD ws q 0) j
-    ∙ h .words (n + i) (omega arith)
-    ∙ sym (getD-drop n array i 0)))
+    ap (λ q. getD ws q 0) j ∙ h .words (n + i) (omega arith) ∙ sym (getD-drop n array i 0)))
 
 -- the whole order: within its array, in range, and by its counts
 module _ (of : State → Bool) (ts : List Token) (array : List ℕ) (n : ℕ) (tokens : length ts ≡ 64) (long : length array ≡ 64) where

@@ -12,6 +12,7 @@ use lib.ListN.{length, getD, take, drop, length-drop}
 use lib.Seq.{take-all, getD-drop}
 use Rattle.job.specs.Test.{forAll}
 use Rattle.reach.specs.Marks.{UnmarkedFrom, weight, noneFrom, fewOrAll, endOfEight, markedEnd}
+use Rattle.job.proofs.Lists.{before-and-behind}
 use Rattle.job.proofs.Loop.{all-turn}
 use Rattle.job.proofs.Test.{all-at}
 
@@ -95,11 +96,8 @@ byte-small false = omega arith
 
 -- where few places are in use, all are before the end of the first eight
 pub unmarked-few : (marks : List Bool) (end size : ℕ) → UnmarkedFrom marks end 8 → UnmarkedFrom marks 8 size → UnmarkedFrom marks end size
-unmarked-few marks end size f g i a b = go (decLt i 8)
-  where
-    go : Dec (i < 8) → getD marks i true ≡ false
-    go (yes l) = f i a l
-    go (no l) = g i (omega arith) b
+unmarked-few marks end size f g i a b =
+    before-and-behind {P = λ j. end ≤ j → getD marks j true ≡ false} 8 size (λ j l e. f j e l) (λ j l m e. g j l m) i b a
 
 -- the loop that looks for a mark, from a place on: at its start, in a turn, at its end
 pub none-yet : (marks : List Bool) (from i : ℕ) → i ≤ from → not false ≡ forAll not (take (i - from) (drop from marks))

@@ -23,7 +23,7 @@ use Rattle.model.specs.declared.cell.Cell.{Cell}
 use Rattle.job.proofs.Both.{and-true}
 use Rattle.job.proofs.Test.{ne-eqb, and-left, and-right, and-both}
 use Rattle.record.specs.Layout.{rowOf, cellRow, placeNumber, stateKind, stateNumber, heldKind, heldNumber, slotKind, slotNumber}
-use Rattle.job.proofs.Lists.{table, listed, same-when}
+use Rattle.job.proofs.Lists.{table, listed, same-when, part-is}
 use Rattle.model.specs.Machine.Blank.{tokenAt}
 use Rattle.model.specs.declared.record.Machine.{Machine}
 use Rattle.record.specs.Holds.{Codes}
@@ -33,7 +33,7 @@ use Rattle.record.proofs.CellRow.{cell-word}
 use Rattle.record.proofs.TokenRow.{token-word}
 use Rattle.coded.specs.WordTests.{tokenCoded, cellAtCoded}
 use Rattle.coded.proofs.WordTests.{zero-row, cell-rest}
-use Rattle.row_rules.proofs.ZeroRows.{zero-word, row-is, rows-zero}
+use Rattle.row_rules.proofs.ZeroRows.{zero-word, rows-zero}
 
 state-zero : (s : State) (b : Bool) → (eqb 0 (stateKind s) and eqb 0 (stateNumber s) and b) ≡ (isBlankState s and b)
 unfolding isBlankState _and_
@@ -114,7 +114,7 @@ module _ (ws : List ℕ) (p : ℕ) where
   row-blank l m h =
       let t = tokenAt (m .tokens) p in
       ap (forAll (eqb 0))
-      (row-is ws (24 * p) 24 (rowOf t) (row-wide t) (omega (arith, words-long h)) (token-word h p l)) ∙ row-zero t (h .shaped .binds p)
+      (part-is ws (24 * p) 24 (rowOf t) 0 (row-wide t) (omega (arith, words-long h)) (token-word h p l)) ∙ row-zero t (h .shaped .binds p)
 
   pub zero-blank : p < 64 → (m : Machine) → Codes ws m → zeroRow ≡ tokenIsBlank (tokenAt (m .tokens) p)
   zero-blank l m h = as-row ∙ row-blank l m h
@@ -168,5 +168,5 @@ module _ (ws : List ℕ) (from : ℕ) (l : from ≤ 32) where
       (λ c b.
       let k = cellAt (m .cells) c in
       ap (forAll (eqb 0))
-      (row-is ws (1536 + 4 * c) 4 (cellRow k) (cell-wide k) (omega (arith, words-long h)) (cell-word h c (omega (arith, long))))
+      (part-is ws (1536 + 4 * c) 4 (cellRow k) 0 (cell-wide k) (omega (arith, words-long h)) (cell-word h c (omega (arith, long))))
       ∙ cell-zero k) (32 - from) from (omega (arith, long))

@@ -1,10 +1,9 @@
--- One pass over a table: each element keeps its rules, and one that is not marked is blank. By induction over the table, and over the places
--- that are left where the elements behind one are tested together. Assumes nothing.
+-- One pass over a table: each element keeps its rules, and one that is not marked is blank. By induction over the table, and over the
+-- places that are left where the elements behind one are tested together. Assumes nothing.
 use mathlib.Core.Path.{_≡_, refl, sym, _∙_, ap, ap₂}
 use mathlib.Core.Bool.{Bool, true, false, _&&_, _||_}
 use mathlib.Core.List.{List, [], _∷_}
 use Prim.Native.Nat.{ℕ, zero, suc, _+_, _-_, _<_, _≤_}
-use native.Mathlib.Decide.{decLt}
 use native.Mathlib.Numerals.{add-one}
 use native.Mathlib.Omega.{arith}
 use lib.ListN.{length, getD, take, drop, length-drop}
@@ -40,14 +39,6 @@ rest-turns test passes from (suc n) turn =
     ∙ ap (λ b. b && test (from + n)) (rest-turns test passes from n (λ i l b. turn i l (omega arith)))
     ∙ turn (from + n) (omega arith) (omega arith)
     ∙ ap passes (let z : from + n + 1 ≡ from + suc n = omega arith in z)
-
--- what is so of each place before one and of each from it on is so of each
-pub before-and-behind : {P : ℕ → Type 0} (at n : ℕ) → ((p : ℕ) → p < at → P p) → ((p : ℕ) → at ≤ p → p < n → P p) → (p : ℕ) → p < n → P p
-before-and-behind {P} at n before behind p b = go (decLt p at)
-  where
-    go : Dec (p < at) → P p
-    go (yes l) = before p l
-    go (no l) = behind p (omega arith) b
 
 -- two tests of each place
 pub each-both : (p q : ℕ → Bool) (from n : ℕ) → eachFrom (λ i. p i and q i) from n ≡ (eachFrom p from n and eachFrom q from n)

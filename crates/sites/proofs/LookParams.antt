@@ -6,7 +6,7 @@ use Prim.Native.Nat.{ℕ, zero, suc, _+_, _-_, _*_, _≤_, _<_}
 use native.Mathlib.Numerals.{add-one}
 use native.Mathlib.Omega.{arith}
 use lib.ListN.{length, getD, set, take, drop, length-drop, length-map}
-use lib.Seq.{take-suc, drop-cons, set-at, append-snoc, length-take-le, getD-take, getD-drop, take-all}
+use lib.Seq.{take-suc, drop-cons, set-at, append-snoc, length-take-le, getD-drop, take-all}
 use Rattle.job.specs.Number as Number
 use Rattle.job.specs.Syntax.{Param, variable, constant}
 use Rattle.job.specs.Node.{paramHolds}
@@ -15,6 +15,7 @@ use Rattle.model.specs.Machine.Blank.{empty, unbound, slotAt}
 use Rattle.model.specs.Machine.Step.{passed, formalsBound}
 use Rattle.model.specs.declared.token.Slot.the-variants as slots
 use Rattle.model.specs.declared.token.Bind.{Bind}
+use Rattle.job.proofs.Lists.{part-at, part-long}
 use Rattle.job.proofs.Test.{ne-eqb, ltb-lt, all-at}
 use Rattle.sites.specs.Row.{rowAt, paramsAt, ParamsHold}
 
@@ -51,11 +52,11 @@ param-at (suc n) (suc i) (k ∷ w ∷ ws) d l fit =
 
 -- a word of a row
 pub row-word : (ws : List ℕ) (at i : ℕ) → i < 12 → getD (rowAt ws at) i 0 ≡ getD ws (at + i) 0
-row-word ws at i l = getD-take 12 (drop at ws) i 0 l ∙ getD-drop at ws i 0
+row-word ws at i l = part-at ws at 12 i 0 l
 
 module _ (ws : List ℕ) (at : ℕ) (size : length ws ≡ 12331) (inside : at + 12 ≤ 12331) (few : getD ws (at + 3) 0 ≤ 4) where
   row-long : length (rowAt ws at) ≡ 12
-  row-long = let z : length (drop at ws) ≡ length ws - at = length-drop at ws in length-take-le 12 (drop at ws) (omega arith)
+  row-long = part-long ws at 12 (omega arith)
 
   words-long : length (drop 4 (rowAt ws at)) ≡ 8
   words-long = let z : length (drop 4 (rowAt ws at)) ≡ length (rowAt ws at) - 4 = length-drop 4 (rowAt ws at) in let y = row-long in

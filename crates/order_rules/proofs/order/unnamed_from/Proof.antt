@@ -1,12 +1,11 @@
 -- `order::unnamed_from` meets its contract: after each turn the flag says whether an order names a place before it. Assumes nothing.
-use mathlib.Core.Bool.{Bool, true, false, _&&_}
-use mathlib.Core.Path.{_≡_, refl, sym, _∙_, ap}
+use mathlib.Core.Path.{_≡_, sym, _∙_, ap, ap₂}
 use Prim.Native.Nat.{ℕ, suc, _+_, _-_, _≤_}
 use native.Mathlib.Omega.{arith}
 use lib.Dec.{eqb}
 use lib.ListN.{getD}
 use Rattle.job.specs.Test.{_and_}
-use Rattle.job.proofs.Both.{both, three-are}
+use Rattle.job.proofs.Both.{four-are}
 use Rattle.order_rules.specs.OrderCounts.{eachFrom, unnamed}
 use borrow.Author.Needs.{needs}
 use Rattle.order_rules.proofs.order.unnamed_from.Statement.{statement}
@@ -25,11 +24,6 @@ loop-holds c =
     let z : args .from - args .from ≡ 0 = omega arith in
     (search needs, search needs, rw z)
 
-four-last : (a b c d : Bool) → (a && b && c && d) ≡ (a && (b and c and d))
-unfolding _and_
-four-last true b c d = three-are b c d
-four-last false b c d = refl
-
 loop-again : tie.Need-loop-again Inv-loop μ-loop
 unfolding eachFrom
 loop-again c =
@@ -43,8 +37,8 @@ loop-again c =
     let next : now .i + 1 - args .from ≡ suc (now .i - args .from) = omega arith in (
       search needs,
       search needs,
-      four-last (now .ok) _ _ _
-          ∙ both (now .inv .2) (ap (unnamed queue waits timers) (sym here))
+      four-are (now .ok) _ _ _
+          ∙ ap₂ _and_ (now .inv .2) (ap (unnamed queue waits timers) (sym here))
           ∙ sym (ap (eachFrom (unnamed queue waits timers) (args .from)) next),
     )
 

@@ -7,8 +7,9 @@ use native.Mathlib.Omega.{arith}
 use lib.ListN.{length}
 use Rattle.model.specs.declared.record.Machine.{Machine}
 use Rattle.model.specs.Machine.Blank.{blankCell, cellAt, cellIsBlank}
+use Rattle.job.proofs.Lists.{before-and-behind}
 use Rattle.rules.proofs.OneRow.{cell-blank}
-use Rattle.rules.proofs.RestBlank.{passed, pass-turn, pass-rest, before-and-behind, first-true, second-true}
+use Rattle.rules.proofs.RestBlank.{passed, pass-turn, pass-rest, first-true, second-true}
 use Rattle.row_rules.specs.RowRules.{cellRule}
 use Rattle.row_rules.specs.ValuesFit.{ValuesFit}
 use Rattle.coded.specs.WordTests.{cellAtCoded}

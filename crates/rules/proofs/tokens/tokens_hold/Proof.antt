@@ -12,12 +12,14 @@ use Rattle.model.specs.Machine.Blank.{blankToken, tokenAt}
 use Rattle.model.specs.Machine.Rules.{openHandles}
 use Rattle.job.specs.Test.{_and_, once, distinct}
 use Rattle.job.specs.Words.{dagOf}
+use Rattle.job.proofs.Lists.{before-and-behind}
 use Rattle.job.proofs.Test.{and-right}
 use Rattle.coded.specs.WordTests.{tokenCoded}
+use Rattle.order_rules.specs.OrderCounts.{unnamed}
 use Rattle.row_rules.specs.ValuesFit.{ValuesFit}
 use Rattle.rules.proofs.HandlesLaws.{handle-more, blank-more, blank-rest}
 use Rattle.rules.proofs.OneRow.{token-blank}
-use Rattle.rules.proofs.RestBlank.{before-and-behind, first-true, second-true, where-true}
+use Rattle.rules.proofs.RestBlank.{first-true, second-true, where-true}
 use Rattle.rules.proofs.RulesRows.{seen, seen-none, used-turn, vacant-turn, seen-rest, seen-done}
 use borrow.Author.Count.{below-more}
 use borrow.Author.Needs.{needs}
@@ -113,7 +115,7 @@ loop-again c =
           (w .10 ∙ ap (λ k. now .count + k) (w .8 .ensures .0)))
           (λ w.
           let f = sym (w .7) ∙ e in
-          let blank = and-right (eqb (getD queue (now .i) 0) 0 and eqb (getD waits (now .i) 0) 0 and eqb (getD timers (now .i) 0) 0) _
+          let blank = and-right (unnamed queue waits timers (now .i)) _
           (sym (w .4 .ensures .1 m (h .codes)) ∙ second-true (now .ok) (w .4 .result) f) in
           ap (λ n. take n (c .if1 .handles)) (w .6)
           ∙ ap (take (now .count)) (w .5)
@@ -158,7 +160,8 @@ returns c =
           (last .inv .4 m h l ∙ ap (seen d m (args .used .now) (args .queue .now) (args .waits .now) (args .timers .now)) e)
           (names .ensures)
           (blank .ensures .1 m (h .codes))
-          ∙ seen-done d m (args .used .now) (args .queue .now) (args .waits .now) (args .timers .now) (end .result + n) (omega (arith, long))),
+          ∙ seen-done d m (args .used .now) (args .queue .now) (args .waits .now) (args .timers .now) (end .result + n)
+          (omega (arith, long))),
     )
 
 pub tokens-hold-spec : {M : Type 1} → statement M
