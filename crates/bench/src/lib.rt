@@ -1,4 +1,6 @@
 // Calls that `bench/` times from Rust: a run in house order by the public calls of `loader` and `machine`, and a whole run.
+#![tactic(auto)]
+
 ghost use Rattle.std.specs.Prelude.{◌≡◌, length, replicate};
 ghost use Rattle.job.specs.Read.{read_table};
 ghost use Rattle.loader.specs.TableLoaded.{loaded_words};

@@ -13,7 +13,7 @@ use record::count::clock;
 use sites::due::{DueTime, due_time};
 use sites::site::SiteReply;
 
-#[derive(Drop)]
+#[derive(Clone, Copy)]
 pub(crate) enum TimedReply {
     Gives(i32),
     Silent,

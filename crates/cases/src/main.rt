@@ -1,5 +1,7 @@
 // Runs each stored input as `orcrun` runs its own, and prints a line `case` with its number and then what the run prints. On standard input
 // an input stands behind its length, 4 bytes, the lowest first.
+#![tactic(auto)]
+
 ghost use Rattle.std.specs.Prelude.{◌≤◌};
 
 use entries::entry::four_bytes;

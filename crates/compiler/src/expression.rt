@@ -10,7 +10,7 @@ use entries::entry::operand;
 use job::dag::{STOP, WORDS};
 
 // The entry and the node behind an expression, and the node at which a token enters it.
-#[derive(Drop)]
+#[derive(Clone, Copy)]
 pub struct Compiled {
     pub at: usize,
     pub node: usize,

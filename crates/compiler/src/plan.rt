@@ -8,7 +8,7 @@ use entries::scope;
 use entries::scope::Scope;
 
 // The variables in scope, the expression's first node, and the node toward which it goes.
-#[derive(Drop)]
+#[derive(Clone, Copy)]
 pub(crate) struct ExpressionPlan {
     pub scope: Scope,
     pub first: usize,

@@ -3,7 +3,7 @@ ghost use Rattle.std.specs.Prelude.{◌≡◌, ◌<◌};
 ghost use Rattle.entries.specs.Checked.{checked_nodes, more, afterwards};
 
 // The first entry behind what was read, and its number of nodes; or a refusal's number and entry.
-#[derive(Drop)]
+#[derive(Clone, Copy)]
 pub enum Checked {
     Next(usize, usize),
     Refused(u8, usize),

@@ -10,7 +10,7 @@ use crate::scope::Scope;
 use crate::{checked, entry, parameter, scope};
 
 // The scopes of a join's left and right side, and the nodes that the join makes itself.
-#[derive(Drop)]
+#[derive(Clone, Copy)]
 struct Sides {
     pub left: Scope,
     pub right: Scope,

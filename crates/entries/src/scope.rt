@@ -7,7 +7,7 @@ ghost use Rattle.entries.specs.Scope.{Means, ForEvery};
 use job::bounds::SCOPE_LIMIT;
 
 // Bit x of `bound` says whether number x is bound; `count` is how many are.
-#[derive(Drop)]
+#[derive(Clone, Copy)]
 pub struct Scope {
     pub bound: u32,
     pub count: u32,

@@ -20,7 +20,7 @@ use turns::reply::{has_line, is_refused};
 use unchecked::step::step;
 
 // How many bytes are printed, and whether the run is over.
-#[derive(Drop)]
+#[derive(Clone, Copy)]
 pub(crate) struct TurnEnd {
     pub total: usize,
     pub over: bool,

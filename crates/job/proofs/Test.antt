@@ -20,6 +20,7 @@ clash p q = never cc
 
 pub true_of : (b : Bool) → T b → b ≡ true
 true_of true t = refl
+true_of false t = elim t [ ]
 
 pub T_of : {b : Bool} → b ≡ true → T b
 T_of e = rw e tt

@@ -13,7 +13,7 @@ use job::bounds::MOST_DEFINITIONS;
 use job::dag::WORDS;
 
 // The first entry and the first node behind what is compiled.
-#[derive(Drop)]
+#[derive(Clone, Copy)]
 pub(crate) struct Place {
     pub at: usize,
     pub node: usize,

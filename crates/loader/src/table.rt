@@ -9,7 +9,7 @@ use job::dag::WORDS;
 use reader::table::{Tested, check_table, half};
 
 // The number of nodes of the dag that was written; or a refusal's number and entry.
-#[derive(Drop)]
+#[derive(Clone, Copy)]
 pub enum Loaded {
     Dag(usize),
     Refused(u8, usize),

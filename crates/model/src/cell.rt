@@ -1,7 +1,7 @@
 // A cell: "cells hold parent and value".
 use crate::token::{Held, Place};
 
-#[derive(Drop)]
+#[derive(Clone, Copy)]
 pub struct Cell {
     pub parent: Place,
     pub value: Held,

@@ -8,7 +8,7 @@ use crate::token::{Bind, Held, Place, Slot, State, Token};
 
 // `queue`, `waits` and `timers` are in use up to `queued`, `waiting` and `timed`; `lasttoken` and `lastcell` are the last places given.
 // `timers` is the order of call of the tokens that are due later, and `clock` the present time.
-#[derive(Drop)]
+#[derive(Clone, Copy)]
 pub struct Machine {
     pub tokens: [Token; Machine::TOKENS],
     pub cells: [Cell; Machine::CELLS],

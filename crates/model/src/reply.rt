@@ -5,7 +5,7 @@ ghost use Rattle.model.specs.Machine.Reply.{number_of};
 use crate::record::Machine;
 
 // Why a call was declined.
-#[derive(Drop)]
+#[derive(Clone, Copy)]
 pub enum Refusal {
     NoToken,
     TokenLimit,
@@ -32,7 +32,7 @@ pub fn number_of(refusal: Refusal) -> u8
 }
 
 // What a call did. `Called` has the handle, the site and the number of parameter values.
-#[derive(Drop)]
+#[derive(Clone, Copy)]
 pub enum Reply {
     Done,
     Waits,
@@ -42,14 +42,14 @@ pub enum Reply {
 }
 
 // What a call on a lent record hands back: the reply, and the values of an outside call (the others are 0).
-#[derive(Drop)]
+#[derive(Clone, Copy)]
 pub struct Report {
     pub reply: Reply,
     pub values: [i32; 4],
 }
 
 // The reply, the values of an outside call (the others are 0), and the machine after the call.
-#[derive(Drop)]
+#[derive(Clone, Copy)]
 pub struct Outcome {
     pub reply: Reply,
     pub values: [i32; 4],

@@ -1,7 +1,7 @@
 // A token: "node, 8 bindings (empty, value or cell), value, caller, cell and state".
 
 // What a variable is bound to.
-#[derive(Drop)]
+#[derive(Clone, Copy)]
 pub enum Slot {
     Empty,
     Value(i32),
@@ -9,20 +9,20 @@ pub enum Slot {
 }
 
 // One binding. (An array of these holds a token's bindings.)
-#[derive(Drop)]
+#[derive(Clone, Copy)]
 pub struct Bind {
     pub slot: Slot,
 }
 
 // A value, where there is one.
-#[derive(Drop)]
+#[derive(Clone, Copy)]
 pub enum Held {
     Nothing,
     Value(i32),
 }
 
 // The place of a token or of a cell. As a cell, `Nowhere` is the root, which has no place.
-#[derive(Drop)]
+#[derive(Clone, Copy)]
 pub enum Place {
     Nowhere,
     At(u8),
@@ -30,7 +30,7 @@ pub enum Place {
 
 // Document 01: ready, waiting, called-out, frame. `Waiting` names the cell at which the token waits, `Called` the handle of its open call.
 // Document 02, request 1: due later. `Due` has the due time.
-#[derive(Drop)]
+#[derive(Clone, Copy)]
 pub enum State {
     Blank,
     Ready,
@@ -40,7 +40,7 @@ pub enum State {
     Frame,
 }
 
-#[derive(Drop)]
+#[derive(Clone, Copy)]
 pub struct Token {
     pub node: u16,
     pub binds: [Bind; 8],

@@ -61,7 +61,7 @@ fn counted(w: &[u32; Machine::WORDS], at: usize, n: usize) -> [u8; Machine::TOKE
 }
 
 // An order: is it one of places, with 0 behind its last name, and how often does it name each place?
-#[derive(Drop)]
+#[derive(Clone, Copy)]
 pub struct Order {
     pub ok: bool,
     pub counts: [u8; Machine::TOKENS],

@@ -1,2 +1,4 @@
 // Where a new token or cell goes.
+#![tactic(auto)]
+
 pub mod place;

@@ -6,7 +6,7 @@ ghost use Rattle.model.specs.Output.Orcrun.{orcrun};
 use libc::STDOUT_FILENO;
 
 // So many bytes, from the first on.
-#[derive(Drop)]
+#[derive(Clone, Copy)]
 pub struct Written {
     bytes: usize,
 }

@@ -9,7 +9,7 @@ use entries::checked::Checked;
 use job::bounds::{ENTRY_LIMIT, MOST_DEFINITIONS};
 
 // What the test of a table says: accepted, with the number of its dag's nodes; or a refusal's number and entry.
-#[derive(Drop)]
+#[derive(Clone, Copy)]
 pub enum Tested {
     Accepted(usize),
     Declined(u8, usize),

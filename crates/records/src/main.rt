@@ -1,5 +1,7 @@
 // Hands the words of standard input, a dag's and a record's, to start, step, answer and advance, and prints each reply and the record after
 // it. A case stands behind its length, 4 bytes, the lowest first; it is a name behind its length, 1 byte, and rows, done in their order.
+#![tactic(auto)]
+
 ghost use Rattle.std.specs.Prelude.{◌≤◌};
 
 mod row;

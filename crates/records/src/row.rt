@@ -4,7 +4,7 @@ ghost use Rattle.std.specs.Prelude.{◌+◌, ◌≤◌, length};
 use entries::entry::four_bytes;
 
 // What it does, the place, which word is set, and the number that is put there.
-#[derive(Drop)]
+#[derive(Clone, Copy)]
 pub(crate) struct Row {
     pub what: u8,
     pub place: usize,

@@ -3,7 +3,7 @@ ghost use Rattle.std.specs.Prelude.{◌≡◌};
 ghost use Rattle.job.specs.Site as Site;
 ghost use Rattle.sites.specs.DueTime.{due_time_from};
 
-#[derive(Drop)]
+#[derive(Clone, Copy)]
 pub enum DueTime {
     At(u32),
     Never,

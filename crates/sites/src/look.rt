@@ -18,7 +18,7 @@ use record::layout::{CELL_PLACE_COUNT, EMPTY_SLOT, VALUE_SLOT};
 use record::{cell, token};
 
 // An argument: the parameter's value, or the unset cell where it is to come from.
-#[derive(Drop)]
+#[derive(Clone, Copy)]
 enum Argument {
     Value(i32),
     Unset(u32),
@@ -26,7 +26,7 @@ enum Argument {
 }
 
 // The first unset cell, or the number of places and the values in order (zeros behind them).
-#[derive(Drop)]
+#[derive(Clone, Copy)]
 pub struct LookUp {
     pub unset: u32,
     pub values: [i32; 4],

@@ -6,7 +6,7 @@ ghost use Rattle.job.specs.Site as Site;
 ghost use Rattle.job.specs.Site.{gives};
 ghost use Rattle.sites.specs.SiteReply.{site_reply_of};
 
-#[derive(Drop)]
+#[derive(Clone, Copy)]
 pub enum SiteReply {
     Gives(i32),
     Silent,

@@ -1,5 +1,7 @@
 // Loads each table of standard input and prints what came back, of an accepted one also the words of its dag. A table stands behind its
 // length, 4 bytes, the lowest first; there are at most 65,536 bytes in all.
+#![tactic(auto)]
+
 ghost use Rattle.std.specs.Prelude.{◌+◌, ◌≤◌, length};
 
 use entries::entry::four_bytes;

@@ -1,4 +1,6 @@
 // The calls on a record whose index rules hold: they are not tested again. The marks say what is in use, before a call and after it.
+#![tactic(auto)]
+
 mod act;
 pub mod advance;
 pub mod answer;

@@ -1,5 +1,7 @@
 // What each instruction writes that makes no token and is no choke: a few fields in the order of its clause. The tests before it and the
 // sweep behind it are in crates `acts` and `calls`.
+#![tactic(auto)]
+
 pub mod dag;
 pub mod end;
 pub mod rebind;
