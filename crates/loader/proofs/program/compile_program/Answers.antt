@@ -5,7 +5,11 @@ use Rattle.loader.proofs.ProgramWhole.{some-nodes, definitions-read, goal-read, 
 use Rattle.loader.proofs.program.compile_program.Goals as goal
 
 pub compile_definitions-before-requires : goal.compile_definitions-before-requires
-compile_definitions-before-requires c = let pre = c.requires in record { parts = pre.parts; count_bound = pre.count_bound; definitions_read = definitions-read _ _ _ _ _ pre.accepts pre.parts pre.count_bound }
+compile_definitions-before-requires c = let pre = c.requires in record {
+  parts = pre.parts;
+  count_bound = pre.count_bound;
+  definitions_read = definitions-read _ _ _ _ _ pre.accepts pre.parts pre.count_bound;
+}
 
 pub overflow_sub-nodes : goal.overflow_sub-nodes
 overflow_sub-nodes c = search some-nodes

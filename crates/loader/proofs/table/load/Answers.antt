@@ -27,11 +27,13 @@ slice_bounds-compile_program-end c = let l = load-even _ _ c.check_table-answer.
     search rules
 
 pub slice_bounds-compile_program-count-in-Accepted : goal.slice_bounds-compile_program-count-in-Accepted
-slice_bounds-compile_program-count-in-Accepted c = let l = load-even _ _ c.check_table-answer.ensures.value _ c.in-Accepted.is _ c.half-e.ensures.0 in
+slice_bounds-compile_program-count-in-Accepted c = let l =
+    load-even _ _ c.check_table-answer.ensures.value _ c.in-Accepted.is _ c.half-e.ensures.0 in
     search rules
 
 pub slice_bounds-compile_program-start-in-Accepted : goal.slice_bounds-compile_program-start-in-Accepted
-slice_bounds-compile_program-start-in-Accepted c = let l = load-even _ _ c.check_table-answer.ensures.value _ c.in-Accepted.is _ c.half-e.ensures.0 in
+slice_bounds-compile_program-start-in-Accepted c = let l =
+    load-even _ _ c.check_table-answer.ensures.value _ c.in-Accepted.is _ c.half-e.ensures.0 in
     search rules
 
 pub compile_program-requires : goal.compile_program-requires
