@@ -1,5 +1,4 @@
 -- `line::put_call` meets its contract: its parts are written one behind the other. Assumes nothing.
-use borrow.Author.Rules.{rules}
 use native.Mathlib.Omega.{arith}
 use Rattle.job.specs.Decimal.{ascii}
 use Rattle.model.specs.Output.Line.{text_of}

@@ -1,5 +1,4 @@
 -- `line::put_end` meets its contract: its line is a word and a number. Assumes nothing.
-use borrow.Author.Rules.{rules}
 use Rattle.job.specs.Decimal.{ascii}
 use Rattle.model.specs.Output.Line.{text_of}
 use Rattle.lines.proofs.line.put_end.Goals as goal

@@ -1,5 +1,4 @@
 -- `line::put_publish` meets its contract: its parts are written one behind the other. Assumes nothing.
-use borrow.Author.Rules.{rules}
 use native.Mathlib.Omega.{arith}
 use mathlib.Core.Path.{refl}
 use mir.Facts.{to_z-of_z}

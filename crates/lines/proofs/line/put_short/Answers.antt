@@ -1,5 +1,4 @@
 -- `line::put_short` meets its contract: its line is one word. Assumes nothing.
-use borrow.Author.Rules.{rules}
 use native.Mathlib.Omega.{arith}
 use mathlib.Core.Path.{refl}
 use Rattle.job.specs.Decimal.{ascii}

@@ -1,5 +1,4 @@
 -- `line::put_table` meets its contract: its parts are written one behind the other. Assumes nothing.
-use borrow.Author.Rules.{rules}
 use native.Mathlib.Omega.{arith}
 use mathlib.Core.List.{[]}
 use Rattle.job.specs.Decimal.{ascii}

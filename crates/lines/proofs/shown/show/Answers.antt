@@ -1,7 +1,6 @@
 -- `shown::show` meets its contract. The loop's invariant: the bytes passed are shown. Assumes nothing.
-use mathlib.Core.Path.{◌≡◌, refl, ◌∙◌, ap}
-use Prim.Native.Nat.{◌-◌, ◌≤◌}
-use lib.ListN.{length, take}
+use mathlib.Core.Path.{refl, ◌∙◌, ap}
+use lib.ListN.{length}
 use borrow.Author.Rules.{rules}
 use Rattle.lines.specs.Shown.{showing}
 use Rattle.lines.proofs.ShownBytes.{showing-length, line-more, line-shown}

@@ -1,9 +1,7 @@
-use mathlib.Core.Path.{◌≡◌, refl, ◌∙◌, ap}
+use mathlib.Core.Path.{◌≡◌}
 use Prim.Native.Nat.{◌-◌, ◌≤◌}
 use lib.ListN.{length, take}
-use borrow.Author.Rules.{rules}
 use Rattle.lines.specs.Shown.{showing}
-use Rattle.lines.proofs.ShownBytes.{showing-length, line-more, line-shown}
 use Rattle.lines.proofs.shown.show.Given as goal
 
 abbrev pub invariant-loop-i : goal.invariant-loop-i

@@ -1,5 +1,4 @@
 -- `shown::show_byte` meets its contract: the byte is before the part that is shown, in it, or behind it. Assumes nothing.
-use borrow.Author.Rules.{rules}
 use Rattle.lines.proofs.ShownBytes.{placed-before, placed-inside, placed-behind}
 use Rattle.lines.proofs.shown.show_byte.Goals as goal
 

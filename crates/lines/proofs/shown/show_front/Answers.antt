@@ -1,5 +1,4 @@
 -- `shown::show_front` meets its contract. Assumes nothing.
-use borrow.Author.Rules.{rules}
 use Rattle.lines.proofs.ShownBytes.{shows-as, front-part}
 use Rattle.lines.proofs.shown.show_front.Goals as goal
 

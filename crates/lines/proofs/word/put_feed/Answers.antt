@@ -1,5 +1,4 @@
 -- `word::put_feed` meets its contract: the line feed is one byte. Assumes nothing.
-use borrow.Author.Rules.{rules}
 use Rattle.job.specs.Decimal.{ascii}
 use Rattle.lines.specs.WordBytes.{line_feed}
 use Rattle.decimal.proofs.Written.{one_written}

@@ -1,9 +1,5 @@
 -- `word::put_word` meets its contract. The loop's invariant: the bytes passed are written. Assumes nothing.
-use mathlib.Core.Path.{◌≡◌}
-use Prim.Native.Nat.{◌+◌, ◌-◌, ◌≤◌}
-use lib.ListN.{length, take}
 use borrow.Author.Rules.{rules}
-use Rattle.decimal.specs.Written.{Written}
 use Rattle.decimal.proofs.Written.{none_written, written-length}
 use Rattle.lines.proofs.WordParts.{word_more, word-written}
 use Rattle.lines.proofs.word.put_word.Goals as goal

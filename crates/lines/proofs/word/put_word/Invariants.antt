@@ -1,10 +1,7 @@
 use mathlib.Core.Path.{◌≡◌}
 use Prim.Native.Nat.{◌+◌, ◌-◌, ◌≤◌}
 use lib.ListN.{length, take}
-use borrow.Author.Rules.{rules}
 use Rattle.decimal.specs.Written.{Written}
-use Rattle.decimal.proofs.Written.{none_written, written-length}
-use Rattle.lines.proofs.WordParts.{word_more, word-written}
 use Rattle.lines.proofs.word.put_word.Given as goal
 
 abbrev pub invariant-loop-i : goal.invariant-loop-i
