@@ -8,7 +8,7 @@ use native.Mathlib.Omega.{arith}
 use lib.ListN.{length}
 use lib.Seq.{sets}
 use Rattle.job.specs.Syntax.{Exp}
-use Rattle.job.specs.Construct.{node_count, root, nodes_of}
+use Rattle.job.specs.Construct.{node_count, nodes_of}
 use Rattle.job.specs.Words.{head_words, param_words, node_words, rows_of_nodes}
 use Rattle.job.specs.Read.{Got, Read, got, refused}
 use Rattle.job.proofs.Stores.{sets-append}

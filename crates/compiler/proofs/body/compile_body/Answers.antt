@@ -1,5 +1,4 @@
 -- `body::compile_body` meets its contract: the body's rows are stored, then its sink's behind them. Assumes nothing.
-use borrow.Author.Rules.{rules}
 use Rattle.compiler.proofs.BodySink.{body-accepted, body-done}
 use Rattle.compiler.proofs.body.compile_body.Goals as goal
 

@@ -1,5 +1,4 @@
 -- `body::put_sink` meets its contract: by whether it is the goal's. Assumes nothing.
-use borrow.Author.Rules.{rules}
 use Rattle.compiler.proofs.BodySink.{sink-goal, sink-definition}
 use Rattle.compiler.proofs.body.put_sink.Goals as goal
 

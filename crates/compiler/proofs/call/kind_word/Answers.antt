@@ -1,5 +1,4 @@
 -- `call::kind_word` meets its contract: by whether the parameter is there. Assumes nothing.
-use borrow.Author.Rules.{rules}
 use Prim.Native.Nat.{◌+◌}
 use native.Mathlib.Omega.{arith}
 use Rattle.compiler.proofs.CallPlaces.{word-there, word-absent}

@@ -1,5 +1,4 @@
 -- `call::operand_word` meets its contract: by whether the parameter is there. Assumes nothing.
-use borrow.Author.Rules.{rules}
 use mathlib.Core.Path.{◌∙◌}
 use Rattle.compiler.proofs.CallPlaces.{word-there, word-absent}
 use Rattle.compiler.proofs.call.operand_word.Goals as goal

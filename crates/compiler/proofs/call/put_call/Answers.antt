@@ -1,5 +1,4 @@
 -- `call::put_call` meets its contract: the first four words, and the places by twos. Assumes nothing.
-use borrow.Author.Rules.{rules}
 use native.Mathlib.Omega.{arith}
 use Rattle.compiler.proofs.CallPlaces.{call-stored}
 use Rattle.compiler.proofs.call.put_call.Goals as goal

@@ -1,5 +1,4 @@
 -- `call::put_places` meets its contract: the words are those that were called for. Assumes nothing.
-use borrow.Author.Rules.{rules}
 use Rattle.compiler.proofs.CallPlaces.{places-stored}
 use Rattle.compiler.proofs.call.put_places.Goals as goal
 

@@ -1,5 +1,4 @@
 -- `join::join_root` meets its contract: a law for each kind of join. Assumes nothing.
-use borrow.Author.Rules.{rules}
 use Rattle.compiler.proofs.JoinLaws.{root-par, root-seq, root-prune}
 use Rattle.compiler.proofs.join.join_root.Goals as goal
 

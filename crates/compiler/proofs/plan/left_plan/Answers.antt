@@ -1,5 +1,4 @@
 -- `plan::left_plan` meets its contract: a law for each kind of join. Assumes nothing.
-use borrow.Author.Rules.{rules}
 use native.Mathlib.Omega.{arith}
 use Rattle.compiler.proofs.PlanLaws.{left-par, left-seq, left-prune}
 use Rattle.compiler.proofs.plan.left_plan.Goals as goal

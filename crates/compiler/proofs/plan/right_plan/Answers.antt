@@ -1,5 +1,4 @@
 -- `plan::right_plan` meets its contract: a law for each kind of join. Assumes nothing.
-use borrow.Author.Rules.{rules}
 use native.Mathlib.Omega.{arith}
 use Rattle.compiler.proofs.PlanLaws.{right-par, right-seq, right-prune}
 use Rattle.compiler.proofs.plan.right_plan.Goals as goal

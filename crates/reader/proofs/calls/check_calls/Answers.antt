@@ -1,8 +1,6 @@
 -- `calls::check_calls` meets its contract. The loop's invariant: the entries that are left decide. Assumes nothing.
-use Prim.Native.Nat.{◌-◌, ◌≤◌}
-use lib.ListN.{length, take}
 use borrow.Author.Rules.{rules}
-use Rattle.reader.proofs.CallsLaws.{Scanning, scan-start, scan-end, scan-past, scan-more, scan-refused}
+use Rattle.reader.proofs.CallsLaws.{scan-start, scan-end, scan-past, scan-more, scan-refused}
 use Rattle.reader.proofs.calls.check_calls.Goals as goal
 use Rattle.reader.proofs.calls.check_calls.Goals.{then-kinds-i-eq2+else-not-holds, else-kinds-i-eq2}
 

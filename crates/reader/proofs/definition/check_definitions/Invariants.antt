@@ -1,8 +1,5 @@
 use Prim.Native.Nat.{◌-◌}
-use borrow.Author.Rules.{rules, Fits-under}
-use mir.Syntax.{w32, w64}
-use Rattle.reader.proofs.DefinitionLoop.{Reading, reading-start, reading-end, reading-refused, reading-more}
-use Rattle.reader.proofs.DefinitionLoop.{reading-below, reading-within, reading-fits, reading-size}
+use Rattle.reader.proofs.DefinitionLoop.{Reading}
 use Rattle.reader.proofs.definition.check_definitions.Given as goal
 
 abbrev pub invariant-loop-i : goal.invariant-loop-i

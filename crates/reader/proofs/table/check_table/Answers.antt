@@ -1,6 +1,5 @@
 -- `table::check_table` meets its contract: a law for each refusal by the sizes, and the two parts are those of the definitions. Assumes
 -- nothing.
-use borrow.Author.Rules.{rules}
 use Rattle.reader.proofs.TableLaws.{table-short, table-uneven, table-definitions, table_empty, table-long}
 use Rattle.reader.proofs.TableLaws.{table-refused, table-accepted}
 use Rattle.reader.proofs.table.check_table.Goals as goal
