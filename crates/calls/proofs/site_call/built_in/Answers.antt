@@ -42,22 +42,22 @@ due_later-requires c = token-inside
 
 pub returns-in-Gives : goal.returns-in-Gives
 returns-in-Gives c = λ m k.
-    let vs = c.args.t8 in
+    let vs = c.args.values in
     let f : SFits w32 (get_or vs 0 (pos 0)) = search rules in
     let g : SFits w32 (get_or vs 1 (pos 0)) = search rules in
-    let v = c.v-1.given in
-    let h : SFits w32 v.0.0 = record { sfits = c.in-Gives.known_told-1-own.given.0.1 } in
+    let v = c.in-Gives.v in
+    let h : SFits w32 v = search rules in
     let back = reply-back _ _ (rw (to_z-of_z f, to_z-of_z g) at c.builtin-said.ensures) in
     let reply = replied-by k.values vs c.builtin-said.result c.requires.1 k.padded c.dag_word.ensures back in
     let at = c.settle.ensures m k.acting.taking.lawful.holds.codes ∙ ap (settled_at m.clock) reply in
-    reply-gives k.acting.taking v.0.0 _ _ _ (settles k (settleds.Gives v.0.0) c.requires.1 at v.1)
+    reply-gives k.acting.taking v _ _ _ (settles k (settleds.Gives v) c.requires.1 at c.in-Gives.is)
     c.dag_word-in-Gives.ensures c.plain.ensures
-    (c.reply.ensures m (helds.Value v.0.0) k.acting.taking.lawful.holds k.acting.taking.queued refl
+    (c.reply.ensures m (helds.Value v) k.acting.taking.lawful.holds k.acting.taking.queued refl
     (sym (rw (to_z-of_z h) at c.unsigned.ensures)))
 
 pub returns-in-Silent : goal.returns-in-Silent
 returns-in-Silent c = λ m k.
-    let vs = c.args.t8 in
+    let vs = c.args.values in
     let f : SFits w32 (get_or vs 0 (pos 0)) = search rules in
     let g : SFits w32 (get_or vs 1 (pos 0)) = search rules in
     let back = reply-back _ _ (rw (to_z-of_z f, to_z-of_z g) at c.builtin-said.ensures) in
@@ -68,14 +68,14 @@ returns-in-Silent c = λ m k.
 
 pub returns-in-Due : goal.returns-in-Due
 returns-in-Due c = λ m k.
-    let vs = c.args.t8 in
+    let vs = c.args.values in
     let f : SFits w32 (get_or vs 0 (pos 0)) = search rules in
     let g : SFits w32 (get_or vs 1 (pos 0)) = search rules in
-    let due = c.due-1.given in
+    let due = c.in-Due.due in
     let back = reply-back _ _ (rw (to_z-of_z f, to_z-of_z g) at c.builtin-said.ensures) in
     let reply = replied-by k.values vs c.builtin-said.result c.requires.1 k.padded c.dag_word.ensures back in
     let at = c.settle.ensures m k.acting.taking.lawful.holds.codes ∙ ap (settled_at m.clock) reply in
-    due-gives k.acting.taking due.0.0 _ _ _ (settles k (settleds.Due due.0.0) c.requires.1 at due.1)
+    due-gives k.acting.taking due _ _ _ (settles k (settleds.Due due) c.requires.1 at c.in-Due.is)
     c.dag_word-in-Due.ensures c.plain-in-Due.ensures
     (c.due_later.ensures m k.acting.taking.lawful.holds k.acting.taking.queued
     (timers-room _ m k.acting.taking.lawful.rules _ k.acting.taking.queued))
