@@ -1,5 +1,6 @@
 -- The two comparisons are the two of the definition. Assumes nothing.
 use mathlib.Core.Path.{sym, ap, ◌∙◌}
+use borrow.Author.Rules.{rules}
 use native.Mathlib.Omega.{arith}
 use lib.Dec.{leb}
 use Rattle.job.specs.Test.{◌and◌}
