@@ -8,9 +8,9 @@ use Rattle.job.proofs.Test.{not-true, not-false}
 use Rattle.machine.proofs.answer.answer.Goals as goal
 
 pub returns-then-not-is_lawful : goal.returns-then-not-is_lawful
-returns-then-not-is_lawful c = answer-rule _ _ _ _ _ _ c.is_lawful.ensures.value (not-true _ c.if-not-is_lawful.true) c.plain.ensures
+returns-then-not-is_lawful c = answer-rule _ _ _ _ _ _ c.is_lawful.ensures.value c.if-not-is_lawful.true c.plain.ensures
 
 pub returns : goal.returns
-returns c = let a = c.is_lawful.ensures.lawful (not-false _ c.if-not-is_lawful.false) in
+returns c = let a = c.is_lawful.ensures.lawful c.if-not-is_lawful.false in
     let f : SFits w32 c.args.value = search rules in
     answer-gives _ _ a _ _ _ (rw (to_z-of_z f) at (c.answer.ensures _ _ _ _ a))

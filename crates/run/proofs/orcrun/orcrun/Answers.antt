@@ -17,10 +17,10 @@ show_front-requires c = let written = c.put_long-n.ensures in
 pub returns-then-input-gt65536 : goal.returns-then-input-gt65536
 returns-then-input-gt65536 c = let line = shows-line c.put_long-n.ensures blank-line c.show_front.ensures in
     let all = shown-all (shows-as (text-one long ∙ whole_long _ c.if-input-gt65536.true) line) in
-    (all.0, (dag-long _ _ c.if-input-gt65536.true, all.1))
+    record { value = all.0; dag_after = dag-long _ _ c.if-input-gt65536.true; output_after = all.1 }
 
--- NONEED slice-bounds-load-end
--- inside _ _ c.before.before.before.table-end.ensures
+pub slice_bounds-load-end : goal.slice_bounds-load-end
+slice_bounds-load-end c = let z = inside _ _ c.table_end-end.ensures in search rules
 
 pub overflow_cast-entry : goal.overflow_cast-entry
 overflow_cast-entry c = let small = entry-small _ _
@@ -37,9 +37,6 @@ show_front-requires-in-Refused c = let written = c.put_table-n.ensures in
 pub slice_bounds-run-count : goal.slice_bounds-run-count
 slice_bounds-run-count c = let z = inside _ _ c.table_end-end.ensures in search rules
 
--- NONEED slice-bounds-run-start
--- inside _ _ c.before.before.before.before.before.before.before.before.table-end.ensures
-
 pub run-requires : goal.run-requires
 run-requires c =     (
       run-accepted _ _ c.table_end-end.ensures c.if-input-gt65536.false _ _ _ c.whole.ensures
@@ -52,11 +49,11 @@ returns-in-Refused c = let line = shows-line c.put_table-n.ensures blank-line c.
     let refused = sym c.in-Refused.is ∙ c.load-answer.ensures.value in
     let whole = whole-table _ _ c.table_end-end.ensures c.if-input-gt65536.false _ _ refused in
     let all = shown-all (shows-as (text-one _ ∙ whole) line) in
-    (all.0, (dag-loaded _ _ c.table_end-end.ensures c.if-input-gt65536.false _ _ c.load-answer.ensures.dag_after, all.1))
+    record { value = all.0; dag_after = dag-loaded _ _ c.table_end-end.ensures c.if-input-gt65536.false _ _ c.load-answer.ensures.dag_after; output_after = all.1 }
 
 pub returns-in-Dag : goal.returns-in-Dag
 returns-in-Dag c = let accepted = sym c.in-Dag.is ∙ c.load-answer.ensures.value in
     let whole =
     whole_run _ _ c.table_end-end.ensures c.if-input-gt65536.false _ _ _ c.whole.ensures accepted c.load-answer.ensures.dag_after in
     let all = shown-all (shows-as whole c.run.ensures) in
-    (all.0, (dag-loaded _ _ c.table_end-end.ensures c.if-input-gt65536.false _ _ c.load-answer.ensures.dag_after, all.1))
+    record { value = all.0; dag_after = dag-loaded _ _ c.table_end-end.ensures c.if-input-gt65536.false _ _ c.load-answer.ensures.dag_after; output_after = all.1 }
