@@ -1,7 +1,7 @@
-//! Links the proved library: the one that `rt staticlib bench` writes, or that of the folder BENCH_LIBRARY.
+//! Links the proved library: the one that `rt lib` writes in crates/bench, or that of the folder BENCH_LIBRARY.
 
 fn main() {
-    let written = concat!(env!("CARGO_MANIFEST_DIR"), "/../../../target/staticlib");
+    let written = concat!(env!("CARGO_MANIFEST_DIR"), "/../../../crates/bench/out");
     let folder = std::env::var("BENCH_LIBRARY").unwrap_or(written.into());
     println!("cargo:rustc-link-search=native={folder}");
     println!("cargo:rustc-link-lib=static=bench");
