@@ -1,0 +1,18 @@
+-- `place::next_token` meets its contract: one of the next two places, or the nearest. Assumes nothing.
+use Rattle.std.proofs.Common.{not, ap}
+use borrow.Author.Rules.{rules}
+use native.Mathlib.Omega.{arith}
+use Rattle.places.proofs.PlaceSearch.{place-one, place-two}
+use Rattle.places.proofs.place.next_token.Goals as goal
+
+pub returns-then-not-slice-first : goal.returns-then-not-slice-first
+returns-then-not-slice-first c = let after = c.wide in
+    place-one _ 64 (search rules) _ after.result _ after.ensures (search rules) (search rules) (ap not c.if-not-slice-first.true)
+
+pub returns-then-not-slice-second : goal.returns-then-not-slice-second
+returns-then-not-slice-second c = let after = c.wide in
+    place-two _ 64 (search rules) _ after.result _ after.ensures (search rules) (search rules) (ap not c.if-not-slice-first.false) _
+    (search rules) (omega arith) (search rules) (ap not c.if-not-slice-second.true)
+
+pub returns : goal.returns
+returns c = c.nearest.ensures _ (cc)
