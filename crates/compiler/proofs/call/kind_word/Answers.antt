@@ -5,7 +5,7 @@ use Rattle.compiler.proofs.CallPlaces.{word-there, word-absent}
 use Rattle.compiler.proofs.call.kind_word.Goals as goal
 
 pub overflow_cast-result : goal.overflow_cast-result
-overflow_cast-result c = let a = c.args in omega (arith, c.shared_slice_known-1.given (a.at + a.i))
+overflow_cast-result c = let a = c.args in omega (arith, c.type_inv.kinds (a.at + a.i))
 
 pub returns-then-i-count : goal.returns-then-i-count
 returns-then-i-count c = word-there _ _ _ c.if-i-count.true

@@ -1,5 +1,4 @@
 -- `head::put_definition` meets its contract: its two stores are at one index and at the next. Assumes nothing.
-use borrow.Author.Rules.{rules}
 use native.Mathlib.Numerals.{add-one}
 use Rattle.loader.proofs.head.put_definition.Goals as goal
 

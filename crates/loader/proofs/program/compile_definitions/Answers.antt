@@ -1,9 +1,8 @@
 -- `program::compile_definitions` meets its contract. The loop's invariant: the words of the definitions so far are stored, and the others
 -- are still to be read. Assumes nothing.
-use Prim.Native.Nat.{◌-◌}
-use borrow.Author.Rules.{rules, Fits-under}
+use borrow.Author.Rules.{Fits-under}
 use mir.Syntax.{w64}
-use Rattle.loader.proofs.ProgramDefinitions.{Writing, writing_start, writing-end, turn_below, turn-next}
+use Rattle.loader.proofs.ProgramDefinitions.{writing_start, writing-end, turn_below, turn-next}
 use Rattle.loader.proofs.ProgramDefinitions.{turn-within, turn-size, turn-sum, turn-some}
 use Rattle.loader.proofs.ProgramDefinitions.{turn-formals, turn-read, turn_more}
 use Rattle.loader.proofs.program.compile_definitions.Goals as goal

@@ -1,5 +1,5 @@
 -- `program::compile_program` meets its contract: the definitions, then the goal, then the head. Assumes nothing.
-use borrow.Author.Rules.{rules, Fits-under}
+use borrow.Author.Rules.{Fits-under}
 use mir.Syntax.{w32}
 use Rattle.loader.proofs.ProgramWhole.{some-nodes, definitions-read, goal-read, nodes-fit, program-done}
 use Rattle.loader.proofs.program.compile_program.Goals as goal
