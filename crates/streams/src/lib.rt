@@ -1,5 +1,5 @@
-// Bytes from a reader until a buffer is full, and all of some bytes to a writer. The only errors are the reader's and the writer's own, and
-// `WriteZero` from a writer that takes no byte; a call that a signal interrupts counts as one that failed.
+// Bytes from a reader until a buffer is full, and all of some bytes to a writer. No other error comes than the reader's and the writer's own,
+// and `WriteZero` where a writer takes no byte; a call that a signal interrupts counts as one that failed.
 #![tactic(auto)]
 
 ghost use Rattle.std.specs.Prelude.{◌<◌, length, take, IfOk, OnOk, OnErr};
@@ -10,7 +10,8 @@ ghost use Rattle.streams.specs.Parts.{AppendsPart, ConsumesPart};
 use std::io;
 use std::io::{Error, ErrorKind, Read, Write};
 
-// Reads until `buf` is full or the input ends, and answers how many bytes it put at the start of `buf`.
+// Reads until `buf` is full or the reader is at its end, and answers how many bytes it put at the start of `buf`. An error leaves there what
+// was read before it.
 pub fn read_full<R: Read>(reader: &mut R, buf: &mut [u8]) -> io::Result<usize>
     ensures bound { ReadsAtMost result buf.new }
     ensures bytes { IfOk result (λ n. Consumes (R.remaining reader.old) (R.remaining reader.new) (take n buf.new)) }
@@ -19,27 +20,27 @@ pub fn read_full<R: Read>(reader: &mut R, buf: &mut [u8]) -> io::Result<usize>
 {
     let mut done = 0;
     while done < buf.len() {
-        let n = reader.read(&mut buf[done..])?;
-        if n == 0 {
+        let given = reader.read(&mut buf[done..])?;
+        if given == 0 {
             return Ok(done);
         }
-        done += n;
+        done += given;
     }
     Ok(done)
 }
 
-// Writes all the bytes.
+// Writes all the bytes. At an error the first of them are written.
 pub fn write_all<W: Write>(writer: &mut W, bytes: &[u8]) -> io::Result<()>
     ensures ok { OnOk result (Appends (W.contents writer.old) (W.contents writer.new) bytes.now) }
     ensures err { OnErr result (AppendsPart (W.contents writer.old) (W.contents writer.new) bytes.now) }
 {
     let mut done = 0;
     while done < bytes.len() {
-        let n = writer.write(&bytes[done..])?;
-        if n == 0 {
+        let taken = writer.write(&bytes[done..])?;
+        if taken == 0 {
             return Err(Error::from(ErrorKind::WriteZero));
         }
-        done += n;
+        done += taken;
     }
     Ok(())
 }

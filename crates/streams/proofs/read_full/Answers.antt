@@ -20,6 +20,6 @@ pub loop-done-preserved : goal.loop-done-preserved
 loop-done-preserved g c =
     let buf = c.loop-done.buf in (
       search rules,
-      subst (Consumes _ _) (read_more c.loop-done.done (length buf - c.loop-done.done) c.in_ok-n.n buf c.read.new.buf (search rules) (search rules))
-          (Consumes-trans _ _ _ _ _ c.loop-done.invariant.1 c.in_ok-n.ensures.bytes.0),
+      subst (Consumes _ _) (read_more c.loop-done.done (length buf - c.loop-done.done) c.in_ok-given.given buf c.read.new.buf (search rules) (search rules))
+          (Consumes-trans _ _ _ _ _ c.loop-done.invariant.1 c.in_ok-given.ensures.bytes.0),
     )

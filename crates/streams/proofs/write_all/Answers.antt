@@ -14,6 +14,6 @@ pub loop-done-preserved : goal.loop-done-preserved
 loop-done-preserved g c =
     let bytes = c.args.bytes.now in (
       search rules,
-      subst (Appends _ _) (taken_more c.loop-done.done c.in_ok-n.n bytes)
-          (Appends-trans _ _ _ _ _ c.loop-done.invariant.1 c.in_ok-n.ensures.bytes),
+      subst (Appends _ _) (taken_more c.loop-done.done c.in_ok-taken.taken bytes)
+          (Appends-trans _ _ _ _ _ c.loop-done.invariant.1 c.in_ok-taken.ensures.bytes),
     )
