@@ -131,10 +131,12 @@ module _ (body : ℕ → Exp) (h now : ℕ) where
   every-move w p entered i t = t
   every-move w p (par-left r) i t = every-move w _ r i (and_left _ _ t)
   every-move w p (par-right r) i t = every-move w _ r i (and_right _ _ t)
-  every-move w p (seq-acts r passes) i t = sorted-passes _ _ _ passes (every-move w _ r i t)
+  every-move w p (seq-acts {f' = f'} {g = g} r passes) i t =
+      sorted-passes (λ v g'. p silently (par (seq g' g) (substitute (innermost v) g))) (λ a g'. p a (seq g' g)) f' passes (every-move w _ r i t)
   every-move w p (seq-publishes r) i t = every-move w _ r in-publishing t
   every-move w p (prune-left r) i t = every-move w _ r i (and_left _ _ t)
-  every-move w p (prune-right r passes) i t = sorted-passes _ _ _ passes (every-move w _ r i (and_right _ _ t))
+  every-move w p (prune-right {f = f} {g' = g'} r passes) i t =
+      sorted-passes (λ v f'. p silently (substitute (innermost v) f)) (λ a f'. p a (prune f f')) g' passes (every-move w _ r i (and_right _ _ t))
   every-move w p (prune-publishes r) i t = every-move w _ r in-publishing (and_right _ _ t)
 
   -- a move of which a test fails

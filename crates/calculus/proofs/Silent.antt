@@ -6,7 +6,7 @@ use Prim.Native.Nat.{ℕ}
 use Rattle.job.specs.Test.{All, more}
 use Rattle.calculus.specs.Event.{Event, move, Label, silently, showing}
 use Rattle.calculus.specs.Expression.{Exp, stop, call, prune}
-use Rattle.calculus.specs.Rewriting.{Rewrites, entered, prune-right, prune-publishes}
+use Rattle.calculus.specs.Rewriting.{Rewrites, entered, prune-left, prune-right, prune-publishes}
 use Rattle.calculus.specs.Allowed.{Configuration, shown, CanShow, ends, then, moves, Allowed}
 use Rattle.calculus.specs.Meaning.{meaning}
 use Rattle.job.proofs.Test.{never}
@@ -60,6 +60,7 @@ ever-deeper-keeps h now f a f' bottom entered = record { is-silent = refl; invar
 ever-deeper-keeps h now f a f' (inside d) (prune-right r passes) =
     let q = ever-deeper-keeps h now _ _ _ d r in record { is-silent = q.is-silent; invariant-holds = inside q.invariant-holds }
 ever-deeper-keeps h now f a f' (inside d) (prune-publishes r) = not-silent (ever-deeper-keeps h now _ _ _ d r).is-silent
+ever-deeper-keeps h now _ a _ (inside {f = f} d) (prune-left r) = elim r [ ]
 
 pub ever-deeper-shows-nothing : (es : List Event) → Allowed (meaning ever-deeper) es → All IsMove es
 unfolding meant

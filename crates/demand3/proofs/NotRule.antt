@@ -37,9 +37,9 @@ NotFourteen r = eqb (number_of r) 14 ≡ false
 -- a token whose node keeps the rules lacks nothing that it names
 not-lacking : (d : Dag) (ts : List Token) (t : Token) (N : Node) → node_holds d N ≡ true → node_rule ts t N ≡ true → Lacks t N → ⊥
 unfolding node_holds node_rule names_frame is_place
-not-lacking d ts t Node.return k r (no_frame e) = clash (and_left (names_frame ts t.caller) _ r) (ap (names_frame ts) e)
-not-lacking d ts t Node.choke k r (no_cell e) = clash (and_left (is_place t.cell) _ r) (ap is_place e)
-not-lacking d ts t Node.unknown k r no_node = clash k refl
+not-lacking d ts t _ k r (no_frame e) = clash (and_left (names_frame ts t.caller) _ r) (ap (names_frame ts) e)
+not-lacking d ts t _ k r (no_cell e) = clash (and_left (is_place t.cell) _ r) (ap is_place e)
+not-lacking d ts t _ k r no_node = clash k refl
 
 -- the rule at its node, of a token that is not blank
 pub at-rule : (d : Dag) (ts : List Token) (t : Token) → is_blank_state t.state ≡ false → at_node d ts t ≡ true

@@ -124,15 +124,15 @@ module _ {W : World} where
 
   -- a bound cell is that of a variable in scope
   bound-inside : {bs : List Bind} {scope : List ℕ} {B : List Binding} (x c : ℕ) → slot_at bs x ≡ slots.Cell c
-      → BindingsSeen W bs scope B → (x not_in scope) ⊎ (c < length W.cells)
+      → BindingsSeen W bs scope B → (x not-in scope) ⊎ (c < length W.cells)
   bound-inside x c e BindingsSeen.nothing = inl Memᴰ.not-nil
   bound-inside {bs} x c e (binds {x = y} {scope = scope} v r) = go (ℕ_discrete x y) (bound-inside x c e r)
     where
-      neither : (x ≡ y → ⊥) → x not_in scope → x not_in (y ∷ scope)
+      neither : (x ≡ y → ⊥) → x not-in scope → x not-in (y ∷ scope)
       neither n f (Memᴰ.head e) = n e
       neither n f (Memᴰ.tail m) = f m
 
-      go : Dec (x ≡ y) → (x not_in scope) ⊎ (c < length W.cells) → (x not_in (y ∷ scope)) ⊎ (c < length W.cells)
+      go : Dec (x ≡ y) → (x not-in scope) ⊎ (c < length W.cells) → (x not-in (y ∷ scope)) ⊎ (c < length W.cells)
       go (yes f) i = inr (binding-inside c (ap (slot_at bs) (sym f) ∙ e) v)
       go (no n) (inl f) = inl (neither n f)
       go (no n) (inr l) = inr l
@@ -141,7 +141,7 @@ module _ {W : World} where
       → (x c : ℕ) → slot_at bs x ≡ slots.Cell c → c < length W.cells
   slot-inside {scope = scope} s x c e = go (bound-inside x c e s.views)
     where
-      go : (x not_in scope) ⊎ (c < length W.cells) → c < length W.cells
+      go : (x not-in scope) ⊎ (c < length W.cells) → c < length W.cells
       go (inl f) = let i : slots.Empty ≡ slots.Cell c = sym (s.rest x f) ∙ e in never cc
       go (inr l) = l
 

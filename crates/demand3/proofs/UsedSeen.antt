@@ -44,15 +44,15 @@ frame-not-blank : (s : State) → s ≡ states.Frame → is_blank_state s ≡ fa
 unfolding is_blank_state
 frame-not-blank s e = ap is_blank_state e
 
-member-or-not : (x : ℕ) (l : List ℕ) → (x is-in l) ⊎ (x not_in l)
+member-or-not : (x : ℕ) (l : List ℕ) → (x is-in l) ⊎ (x not-in l)
 member-or-not x [] = inr Memᴰ.not-nil
 member-or-not x (y ∷ l) = go (ℕ_discrete x y) (member-or-not x l)
   where
-    neither : (x ≡ y → ⊥) → x not_in l → x not_in (y ∷ l)
+    neither : (x ≡ y → ⊥) → x not-in l → x not-in (y ∷ l)
     neither n f (Memᴰ.head e) = n e
     neither n f (Memᴰ.tail m) = f m
 
-    go : Dec (x ≡ y) → (x is-in l) ⊎ (x not_in l) → (x is-in (y ∷ l)) ⊎ (x not_in (y ∷ l))
+    go : Dec (x ≡ y) → (x is-in l) ⊎ (x not-in l) → (x is-in (y ∷ l)) ⊎ (x not-in (y ∷ l))
     go (yes e) r = inl (Memᴰ.head e)
     go (no n) (inl m) = inl (Memᴰ.tail m)
     go (no n) (inr f) = inr (neither n f)
@@ -89,7 +89,7 @@ module _ (M : Labels) (W : World) where
       → Named c
   slot-named {bs} {scope} s x c e = go (member-or-not x scope)
     where
-      go : (x is-in scope) ⊎ (x not_in scope) → Named c
+      go : (x is-in scope) ⊎ (x not-in scope) → Named c
       go (inl m) = binding-named c e (variable-seen x m s.views)
       go (inr f) = let i : slots.Empty ≡ slots.Cell c = sym (s.rest x f) ∙ e in never cc
 

@@ -218,7 +218,9 @@ module _ (d : Dag) (M : Labels) (bodies : ℕ → Exp) (m : Machine) {name place
             ])
             (Abstract.calls_site m.clock m.calls s vs b (at k B F U))
         go true = replied-agrees (builtin s vs)
-        go false = shows-unless _ (ltb m.calls lim.calls) 13 (called_out m p t s vs k) (λ i. called-agrees vs)
+        go false =
+            shows-unless (Becomes M W L R m.clock m.calls (Abstract.calls_site m.clock m.calls s vs false (at k B F U)))
+            (ltb m.calls lim.calls) 13 (called_out m p t s vs k) (λ i. called-agrees vs)
 
     pub site-agrees : {ps : List Param} → M.value n ≡ false → All (GoodParam (M.scope n)) ps
         → Agrees M W L R m.clock m.calls (call_site lim m p t s k (look m.cells t.binds ps)) (does (Node.site s ps k))

@@ -23,7 +23,7 @@ use Rattle.simulation.proofs.Store.{◌not-in◌}
 use Rattle.lockstep.proofs.View.{World, CellSeen, CellsSeen, root, below}
 
 -- names in a list
-pub not_some : (n : ℕ) (U : List ℕ) → for_some (eqb n) U ≡ false → n not_in U
+pub not_some : (n : ℕ) (U : List ℕ) → for_some (eqb n) U ≡ false → n not-in U
 not_some n U e m = clash (member-some m) e
 
 pub some_first : (n : ℕ) (U : List ℕ) → for_some (eqb n) (n ∷ U) ≡ true

@@ -8,7 +8,7 @@ use Prim.Native.Nat.{ℕ, zero, suc, ◌+◌, ◌<◌, ◌≤◌}
 use native.Mathlib.Nat.{le-max_left, le-max_right}
 use native.Mathlib.Omega.{arith}
 use lib.ListN.{length}
-use Rattle.job.specs.Syntax.{Join, Exp, Definition, levels}
+use Rattle.job.specs.Syntax.{Join, Exp, Definition, levels, scope_left, scope_right}
 use Rattle.job.proofs.Test.{never, clash, holds-or-fails, and_left, and_right, leb-le, ltb-lt}
 use Rattle.calculus.specs.Expression as Calculus
 use Rattle.calculus.specs.Meaning.{join_meant, exp_meant, body_meant}
@@ -62,32 +62,35 @@ module _ (G : Program) where
         go (inl t) = absurd (ending-no-tail x (tails.sound k t))
         go (inr f) = f
 
-    pub goal-weighs : {n k w v : ℕ} (scope : List ℕ) (e : Exp) → Code G (exp_meant scope e) n k → Ending k → Weighs G rank top k w v
+    pub goal-weighs : (scope : List ℕ) {n k w v : ℕ} (e : Exp) → Code G (exp_meant scope e) n k → Ending k → Weighs G rank top k w v
         → Weighs G rank top n (tokens_toward (suc top) e w) (cells_toward e v)
     unfolding exp_meant join_meant tokens_toward cells_toward
     goal-weighs scope Exp.stop (Code.stop i) l x = Weighs.stop i
     goal-weighs scope (Exp.site s ps) (Code.site known i) l x = Weighs.site i x
-    goal-weighs {w = w} scope (Exp.call d ps) (Code.call there i) l x =
+    goal-weighs scope {w = w} (Exp.call d ps) (Code.call there i) l x =
         Weighs.call i there (not-tail l) x (le-max_right (suc (suc top)) w) (le-max_left (suc (suc top)) w)
-    goal-weighs scope (Exp.join Join.par f g) (Code.par i cf cg) l x = Weighs.fork i (goal-weighs _ f cf l x) (goal-weighs _ g cg l x)
+    goal-weighs scope (Exp.join Join.par f g) (Code.par i cf cg) l x =
+        Weighs.fork i (goal-weighs (scope_left Join.par scope) f cf l x) (goal-weighs (scope_right Join.par scope) g cg l x)
     goal-weighs scope (Exp.join (Join.seq y) f g) (Code.seq cf i cg j) l x =
-        goal-weighs _ f cf (assign i) (Weighs.assign i (goal-weighs _ g cg (remove j l) (Weighs.remove j x)))
+        goal-weighs (scope_left (Join.seq y) scope) f cf (assign i)
+        (Weighs.assign i (goal-weighs (scope_right (Join.seq y) scope) g cg (remove j l) (Weighs.remove j x)))
     goal-weighs scope (Exp.join (Join.prune y) f g) (Code.prune i cf j cg c) l x =
-        Weighs.where' i (goal-weighs _ f cf (remove j l) (Weighs.remove j x)) (goal-weighs _ g cg (choke c) (Weighs.choke c))
+        Weighs.where' i (goal-weighs (scope_left (Join.prune y) scope) f cf (remove j l) (Weighs.remove j x))
+        (goal-weighs (scope_right (Join.prune y) scope) g cg (choke c) (Weighs.choke c))
 
-    body-steady : {r n k : ℕ} (scope : List ℕ) (b : Bool) (e : Exp) → unbranching rank r b e ≡ true → Code G (exp_meant scope e) n k
+    body-steady : {r : ℕ} (scope : List ℕ) {n k : ℕ} (b : Bool) (e : Exp) → unbranching rank r b e ≡ true → Code G (exp_meant scope e) n k
         → Toward b k → Steady G rank top r k → Steady G rank top r n
     unfolding exp_meant join_meant unbranching
     body-steady scope b Exp.stop u (Code.stop i) t x = Steady.stop i
     body-steady scope b (Exp.site s ps) u (Code.site known i) t x = Steady.site i x
-    body-steady {r} {k = k} scope true (Exp.call d ps) u (Code.call there i) (return t) x =
+    body-steady {r} scope {k = k} true (Exp.call d ps) u (Code.call there i) (return t) x =
         Steady.tail_call i there (tails.complete k t) (leb-le (rank d) r u)
     body-steady {r} scope false (Exp.call d ps) u (Code.call there i) (ending l) x =
         Steady.call i there (not-tail l) (ltb-lt (rank d) r u) x
     body-steady scope b (Exp.join Join.par f g) u c t x = clash u refl
     body-steady scope b (Exp.join (Join.seq y) f g) u (Code.seq cf i cg j) t x =
-        body-steady _ false f (and_left _ _ u) cf (ending (assign i))
-        (Steady.assign i (body-steady _ b g (and_right _ _ u) cg (toward-remove j t) (Steady.remove j x)))
+        body-steady (scope_left (Join.seq y) scope) false f (and_left _ _ u) cf (ending (assign i))
+        (Steady.assign i (body-steady (scope_right (Join.seq y) scope) b g (and_right _ _ u) cg (toward-remove j t) (Steady.remove j x)))
     body-steady scope b (Exp.join (Join.prune y) f g) u c t x = clash u refl
 
 -- the definition of a number: what its body means, and that it loops

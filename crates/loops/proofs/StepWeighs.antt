@@ -107,6 +107,7 @@ module _ (G : Program) (rank : ℕ → ℕ) (top : ℕ) where
           → Lighter G rank top (effect G now σ new h t m) (made_by G t m) w v
       move-lighter (running K z) m p = act-lighter G rank top entries now σ new h z p
       move-lighter (called_out k K) (answered v fits) p = cell-less G rank top (alone G rank top p)
+      move-lighter (due_later d K) m p = elim m [ ]
 
       around-leaves : {L R : List Token} {w v : ℕ} (t : Token) (m : Move t) → Around t L R w v
           → Leaves (made_by G t m) w v (after L R now σ new h (effect G now σ new h t m))

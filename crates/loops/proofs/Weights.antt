@@ -9,10 +9,9 @@ use native.Mathlib.Omega.{arith}
 use lib.ListN.{length}
 use lib.Dec.{leb}
 use lib.IntN.{ℤ}
-use Rattle.job.specs.Site.{BuiltinReply, gives, silent, later, due_time, is_builtin, builtin}
+use Rattle.job.specs.Site.{BuiltinReply, gives, silent, due_time, is_builtin, builtin}
 use Rattle.calculus.specs.Event.{Label, silently}
 use Rattle.calculus.specs.Expression.{Param}
-use Rattle.simulation.proofs.Shuffle.{later}
 use Rattle.simulation.proofs.AbstractMachine as Abstract
 use Rattle.simulation.proofs.AbstractMachine.{named, values_in}
 use Rattle.simulation.proofs.AbstractMachine.{Node, Program, Binding, Frame, frame, Place, at, Token, running, called_out, due_later, Store}

@@ -24,7 +24,7 @@ use Rattle.model.specs.Machine.Reply.{is_refused, outcome, moves, unless, report
 use Rattle.model.specs.Machine.Clock as Clock
 use Rattle.model.specs.Machine.Clock.{takes_time, after_advance, woken_by}
 use Rattle.model.specs.Machine.Step as Step
-use Rattle.model.specs.Run.Call.{Call, step, advance, runner, outcome_of, events_of}
+use Rattle.model.specs.Run.Call.{Call, runner, outcome_of, events_of}
 use Rattle.model.specs.declared.token.Slot.TheVariants as slots
 use Rattle.model.specs.declared.token.Bind.{Bind}
 use Rattle.model.specs.declared.token.Held.{Held}

@@ -17,6 +17,7 @@ pub enum Refusal {
 }
 
 // Document 01's number; 15 is document 02's.
+#[tactic(auto, unfolding(crate::specs::Machine::Reply::number_of))]
 pub fn number_of(refusal: Refusal) -> u8
     ensures { result ≡ number_of refusal }
 {

@@ -187,6 +187,7 @@ module _ (G : Program) (now : ℕ) (σ : Store) (new h : ℕ) where
   abbrev pub effect : (t : Token) → Move t → Effect
   effect (running K w) m = act K w
   effect (called_out k K) (answered v fits) = makes (showing (Event.answer k v)) (running K v ∷ [])
+  effect (due_later d K) m = elim m [ ]
 
 -- tokens, cells, the next cell's name, the next handle, the time
 pub data State : Type 0 where

@@ -20,11 +20,11 @@ Apart C D = (c : ℕ) → c is-in C → c is-in D → ⊥
 pub apart_none : {C : List ℕ} → Apart C []
 apart_none c m = Memᴰ.not-nil
 
-pub not-in-cons : {c b : ℕ} {C : List ℕ} → (c ≡ b → ⊥) → c not_in C → c not_in (b ∷ C)
+pub not-in-cons : {c b : ℕ} {C : List ℕ} → (c ≡ b → ⊥) → c not-in C → c not-in (b ∷ C)
 not-in-cons p n (Memᴰ.head e) = p e
 not-in-cons p n (Memᴰ.tail m) = n m
 
-pub not-in-append : {c : ℕ} {C D : List ℕ} → c not_in C → c not_in D → c not_in (C ++ D)
+pub not-in-append : {c : ℕ} {C D : List ℕ} → c not-in C → c not-in D → c not-in (C ++ D)
 not-in-append {c} {C} {D} n k m = go (Memᴰ.append_cases C m)
   where
     go : (c is-in C) ⊎ (c is-in D) → ⊥
@@ -57,7 +57,7 @@ parts-append : {C D : List ℕ} → Apart C D → Parts C D (C ++ D)
 parts-append {C} {D} a = record { apart = a; in_left = λ c m. Memᴰ.append_left D m; in_right = λ c m. Memᴰ.append_right C m }
 
 -- the cell b changes sides
-pub parts-move : {b : ℕ} {C D E : List ℕ} → b not_in D → Parts C (b ∷ D) E → Parts D (b ∷ C) E
+pub parts-move : {b : ℕ} {C D E : List ℕ} → b not-in D → Parts C (b ∷ D) E → Parts D (b ∷ C) E
 parts-move {b} {C} {D} {E} n p = record { apart = other; in_left = λ c m. p.in_right c (Memᴰ.tail m); in_right = inside }
   where
     other : Apart D (b ∷ C)
@@ -169,7 +169,7 @@ module _ {σ : Store} {new : ℕ} {Γ U C : List ℕ} (t : Tidy σ new Γ U C) w
       own₁ c (inl m) = open-later l (t.own c m)
       own₁ c (inr x) = record { unset = t.clean c x.0; old = x.1 }
 
-      not : (c : ℕ) → Open σ new c → c not_in C → (c is-in C) ⊎ ((new ≤ c) × (c < new₁)) → ⊥
+      not : (c : ℕ) → Open σ new c → c not-in C → (c is-in C) ⊎ ((new ≤ c) × (c < new₁)) → ⊥
       not c o n (inl m) = n m
       not c o n (inr x) = omega arith
 
@@ -219,7 +219,7 @@ module _ {σ : Store} {new b : ℕ} {Γ U C D E : List ℕ} (p : Parts C (b ∷ 
 
 -- an own cell is set
 pub tidy-set : {σ : Store} {new b : ℕ} {C C₁ : List ℕ} (v : ℤ)
-    → Tidy σ new [] [] C → b is-in C → b not_in C₁ → Grows new (suc new) C C₁ → Tidy (with_set σ b v) (suc new) [] [] C₁
+    → Tidy σ new [] [] C → b is-in C → b not-in C₁ → Grows new (suc new) C C₁ → Tidy (with_set σ b v) (suc new) [] [] C₁
 tidy-set {σ} {new} {b} {C} {C₁} v t m n g =
     record {
       left = λ c k. absurd (Memᴰ.not-nil k);

@@ -43,9 +43,9 @@ module _ (G : Program) where
         → Hole now σ Γ K
         (catching (λ v f. Exp.par (Exp.seq f (substitute (lift ρ) g)) (substitute (innermost v) (substitute (lift ρ) g))))
         Γ L [] [] (λ f. Exp.seq f (substitute (lift ρ) g))
-    prune-left : {c : ℕ} {g : Exp} {L : Place} {Z : List Token} {D : List ℕ} → c not_in D → Chokes G c (above K) L → Rep G now σ Γ g L Z D
+    prune-left : {c : ℕ} {g : Exp} {L : Place} {Z : List Token} {D : List ℕ} → c not-in D → Chokes G c (above K) L → Rep G now σ Γ g L Z D
         → Hole now σ Γ K free (c ∷ Γ) K Z (c ∷ D) (λ f. Exp.prune f g)
-    prune-right : {c : ℕ} {f : Exp} {L : Place} {Z : List Token} {D : List ℕ} → c not_in D → Chokes G c (above K) L
+    prune-right : {c : ℕ} {f : Exp} {L : Place} {Z : List Token} {D : List ℕ} → c not-in D → Chokes G c (above K) L
         → Rep G now σ (c ∷ Γ) f K Z D
         → Hole now σ Γ K (catching (λ v g. substitute (innermost v) f)) Γ L Z (c ∷ D) (λ g. Exp.prune f g)
 
@@ -81,7 +81,7 @@ module _ (G : Program) where
 
   -- the other side's tokens are not under a cell of the hole's
   pub hole-stays : {now : ℕ} {σ : Store} {Γ Δ D : List ℕ} {K L : Place} {gate : Gate} {plug : Exp → Exp} {Z : List Token} (c : ℕ)
-      → c not_in D → c not_in above K → Hole now σ Γ K gate Δ L Z D plug → out_of c Z ≡ Z
+      → c not-in D → c not-in above K → Hole now σ Γ K gate Δ L Z D plug → out_of c Z ≡ Z
   unfolding select
   hole-stays c n u (par-left g) = rep-stays G c n u g
   hole-stays c n u (par-right f) = rep-stays G c n u f

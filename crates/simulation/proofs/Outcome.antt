@@ -52,7 +52,7 @@ module _ (G : Program) (now : ℕ) (σ : Store) (new h : ℕ) where
         → Grows new (suc new) C C₁
         → Outcome Γ e K X Y C t m a e'
     sets : {t : Token} {m : Move t} {c : ℕ} {v : ℤ} {e' : Exp} {C₁ : List ℕ}
-        → effect G now σ new h t m ≡ Effect.sets c v → c is-in C → c not_in C₁ → AtMost G now h e silently e'
+        → effect G now σ new h t m ≡ Effect.sets c v → c is-in C → c not-in C₁ → AtMost G now h e silently e'
         → Rep G now (with_set σ c v) Γ e' K (out_of c (X ++ Y)) C₁ → Grows new (suc new) C C₁
         → Outcome Γ e K X Y C t m silently e'
 
@@ -88,7 +88,7 @@ module _ (G : Program) (now : ℕ) (σ : Store) (new h : ℕ) where
 
   -- where g publishes into f <x< g, the cell is set, all tokens of g end, and those of f stay
   pruned : {Γ C C₁ D E : List ℕ} {c : ℕ} {K L T : Place} {X Y X₁ Y₁ Z : List Token} {e f g : Exp} (w : ℤ)
-      → T ≡ L → Parts C (c ∷ D) E → Tidy σ new Γ (above K) E → Gap X₁ Y₁ Z X Y → c not_in D → Chokes G c (above K) L
+      → T ≡ L → Parts C (c ∷ D) E → Tidy σ new Γ (above K) E → Gap X₁ Y₁ Z X Y → c not-in D → Chokes G c (above K) L
       → Rep G now σ (c ∷ Γ) f K Z D → Rep G now σ Γ g L (X₁ ++ Y₁) C₁ → Acts G now h e silently (substitute (innermost w) f)
       → Outcome Γ e K X Y E (running T w) acts silently (substitute (innermost w) f)
   pruned {Γ} {D = D} {c = c} {K = K} {X = X} {Y} {X₁} {Y₁} {Z} {f = f} w q p t gap n (chokes ec) rf rg s =

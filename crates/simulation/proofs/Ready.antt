@@ -103,8 +103,8 @@ module _ (G : Program) (now : ℕ) (σ : Store) (h : ℕ) where
   later-tidy : {Γ U C C₁ : List ℕ} {new : ℕ} → Tidy σ new Γ U C → Grows new (suc new) C C₁ → Tidy σ (suc new) Γ U C₁
   later-tidy t g = tidy-grown t (omega arith) g
 
-  code-ready : {Γ C U : List ℕ} {K : Place} {e e' : Exp} {a : Label} {n k new : ℕ} {B : List Binding} {F : List Frame} (w : ℤ)
-      (ρ : Substitution)
+  code-ready : {e : Exp} {Γ C U : List ℕ} {K : Place} {a : Label} {n k new : ℕ} {B : List Binding} {F : List Frame} (w : ℤ)
+      (ρ : Substitution) {e' : Exp}
       → Bodies G → Tidy σ new Γ (above K) C → Code G e n k → Env σ Γ ρ B → Leads G (at k B F U) K
       → Rewrites G.body h now (substitute ρ e) a e' → Ready Γ (substitute ρ e) K (running (at n B F U) w ∷ []) C new a e'
   unfolding substitute

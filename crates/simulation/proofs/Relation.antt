@@ -82,7 +82,7 @@ module _ (G : Program) where
     seq : {Γ C : List ℕ} {K L : Place} {f g : Exp} {S : List Token} (ρ : Substitution)
         → Then σ Γ ρ g K L → Rep now σ Γ f L S C → Rep now σ Γ (Exp.seq f (substitute (lift ρ) g)) K S C
     prune : {Γ C D E : List ℕ} {c : ℕ} {K L : Place} {f g : Exp} {S T Q : List Token}
-        → c not_in D → Parts C (c ∷ D) E → Mix S T Q → Chokes c (above K) L
+        → c not-in D → Parts C (c ∷ D) E → Mix S T Q → Chokes c (above K) L
         → Rep now σ (c ∷ Γ) f K S C → Rep now σ Γ g L T D → Rep now σ Γ (Exp.prune f g) K Q E
 
   then-changed : {θ ρ : Substitution} {σ τ : Store} {Γ Δ : List ℕ} {g : Exp} {K L : Place}
@@ -90,7 +90,7 @@ module _ (G : Program) where
   then-changed m (then a c r env l) = then a c r (env-changed m env) l
 
   -- tokens, place and cells stay where the expression is substituted
-  pub rep-changed : {θ : Substitution} {now : ℕ} {σ τ : Store} {Γ Δ C : List ℕ} {e : Exp} {K : Place} {S : List Token}
+  pub rep-changed : {now : ℕ} {σ τ : Store} {θ : Substitution} {Γ Δ C : List ℕ} {e : Exp} {K : Place} {S : List Token}
       → Change θ σ Γ τ Δ → Rep now σ Γ e K S C → Rep now τ Δ (substitute θ e) K S C
   unfolding substitute
   rep-changed m stop = stop
@@ -102,7 +102,8 @@ module _ (G : Program) where
   rep-changed m (par p mx f g) = par p mx (rep-changed m f) (rep-changed m g)
   rep-changed {θ} m (seq {g = g} ρ t f) =
       rw (subst-after (lift θ) (lift ρ) g, lift-after θ ρ) (seq (θ after ρ) (then-changed m t) (rep-changed m f))
-  rep-changed m (prune {c = c} n p mx ch f g) = prune n p mx ch (rep-changed (change-lift c m) f) (rep-changed m g)
+  rep-changed {θ} m (prune {c = c} n p mx ch f g) =
+      prune n p mx ch (rep-changed {θ = lift θ} (change-lift c m) f) (rep-changed m g)
 
   -- where it is not its variable, a cell that is set changes nothing
   pub rep_set : {now : ℕ} {σ : Store} {Γ C : List ℕ} {e : Exp} {K : Place} {S : List Token} (c : ℕ) (v : ℤ)
@@ -164,13 +165,13 @@ module _ (G : Program) where
 
   -- no token is under a cell that K is not under and that is not set aside
   rep-out : {now : ℕ} {σ : Store} {Γ C : List ℕ} {e : Exp} {K : Place} {S : List Token} (c : ℕ)
-      → c not_in C → c not_in above K → Rep now σ Γ e K S C → All (λ t. c not_in cells_of t) S
+      → c not-in C → c not-in above K → Rep now σ Γ e K S C → All (λ t. c not-in cells_of t) S
   rep-out c n u stop = All.none
-  rep-out c n u (hand l) = more (leads-cells (λ U. c not_in U) l u) All.none
-  rep-out c n u (pending l) = more (leads-cells (λ U. c not_in U) l u) All.none
-  rep-out c n u (due x l) = more (leads-cells (λ U. c not_in U) l u) All.none
-  rep-out c n u (late x l) = more (leads-cells (λ U. c not_in U) l u) All.none
-  rep-out c n u (code ρ d env l) = more (leads-cells (λ U. c not_in U) l u) All.none
+  rep-out c n u (hand l) = more (leads-cells (λ U. c not-in U) l u) All.none
+  rep-out c n u (pending l) = more (leads-cells (λ U. c not-in U) l u) All.none
+  rep-out c n u (due x l) = more (leads-cells (λ U. c not-in U) l u) All.none
+  rep-out c n u (late x l) = more (leads-cells (λ U. c not-in U) l u) All.none
+  rep-out c n u (code ρ d env l) = more (leads-cells (λ U. c not-in U) l u) All.none
   rep-out c n u (par p mx f g) = mix_all mx (rep-out c (λ m. n (p.in_left c m)) u f) (rep-out c (λ m. n (p.in_right c m)) u g)
   rep-out c n u (seq ρ t f) = rep-out c n (rw (then-above t) u) f
   rep-out c n u (prune k p mx ch f g) =
@@ -193,7 +194,7 @@ module _ (G : Program) where
   rep-under c u (prune k p mx ch f g) = mix_all mx (rep-under c u f) (rep-under c (rw (chokes-above ch) (Memᴰ.tail u)) g)
 
   pub rep-stays : {now : ℕ} {σ : Store} {Γ C : List ℕ} {e : Exp} {K : Place} {S : List Token} (c : ℕ)
-      → c not_in C → c not_in above K → Rep now σ Γ e K S C → out_of c S ≡ S
+      → c not-in C → c not-in above K → Rep now σ Γ e K S C → out_of c S ≡ S
   rep-stays c n u r = all_stay (rep-out c n u r)
 
   pub rep-ends : {now : ℕ} {σ : Store} {Γ C : List ℕ} {e : Exp} {K : Place} {S : List Token} (c : ℕ)

@@ -90,7 +90,7 @@ module _ (G : Program) (sink : ℕ) where
     step-sound (stands t r) (ticks l k) = moved l k (stands t (rep-ticks G l r)) refl refl
 
     -- in front of what rewritings leave to show
-    acts-front : {e f : Exp} {h now : ℕ} {a : Label} {es : List Event}
+    acts-front : {h now : ℕ} {e f : Exp} {a : Label} {es : List Event}
         → Acts G now h e a f → CanShow G.body (record { exp = f; handle = next_handle a h; clock = now }) es
         → CanShow G.body (record { exp = e; handle = h; clock = now }) (shown a es)
     unfolding shown next_handle
@@ -119,7 +119,7 @@ module _ (G : Program) (sink : ℕ) where
     in-front (acted {e' = f} x t p q) rest = at-most-front x (same_numbers p q (rest f t))
     in-front {e} (moved l k t p q) rest = CanShow.moves l k (same_numbers p q (rest e t))
 
-    pub run_sound : {e : Exp} {s s' : State} {es : List Event}
+    pub run_sound : {s s' : State} {e : Exp} {es : List Event}
         → Stands e s → Run G s es s' → CanShow G.body (record { exp = e; handle = handle_of s; clock = clock_of s }) es
     run_sound t rests = CanShow.ends
     run_sound t (Run.then x r) = in-front (step-sound t x) (λ f u. run_sound u r)

@@ -114,6 +114,7 @@ module _ {A : Type 0} where
   found (left m) (later s) = found_left (found m s)
   found (right m) first = in_right first (gap_here (mix-swap m))
   found (right m) (later s) = found_right (found m s)
+  found empty s = elim s [ ]
 
   kept-left : {x y : A} {L₁ R₁ Z Q : List A} → Kept x L₁ R₁ Z Q → Kept x (y ∷ L₁) R₁ Z (y ∷ Q)
   kept-left (kept s g) = kept (later s) (gap-left g)
@@ -125,3 +126,4 @@ module _ {A : Type 0} where
   keeps first (left m) = kept first (gap_here m)
   keeps (later s) (left m) = kept-left (keeps s m)
   keeps s (right m) = kept-right (keeps s m)
+  keeps s empty = elim s [ ]

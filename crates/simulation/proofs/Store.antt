@@ -17,7 +17,7 @@ abbrev pub ◌is-in◌ : ℕ → List ℕ → Type 0
 c is-in C = Memᴰ c C
 
 abbrev pub ◌not-in◌ : ℕ → List ℕ → Type 0
-c not_in C = c is-in C → ⊥
+c not-in C = c is-in C → ⊥
 
 infix 20 ◌is-in◌
 infix 20 ◌not-in◌
@@ -34,7 +34,7 @@ not-both p q = never cc
 pub set_keeps : (σ : Store) (c b : ℕ) (v : ℤ) {w : ℤ} → σ c ≡ none → σ b ≡ some w → with_set σ c v b ≡ some w
 set_keeps σ c b v n s = set_other σ c b v (λ p. not-both (ap σ p ∙ n) s) ∙ s
 
-some-none : (c : ℕ) (l : List ℕ) → c not_in l → for_some (eqb c) l ≡ false
+some-none : (c : ℕ) (l : List ℕ) → c not-in l → for_some (eqb c) l ≡ false
 unfolding for_some ◌or◌
 some-none c [] n = refl
 some-none c (b ∷ l) n = rw (ne_eqb c b (λ p. n (Memᴰ.head p))) (some-none c l (λ m. n (Memᴰ.tail m)))
@@ -49,7 +49,7 @@ module _ {A : Type 0} (p : A → Bool) where
   select_no x xs e = rw (e, select)
 
 -- tokens that are not under the cell stay, those under it end
-pub all_stay : {c : ℕ} {S : List Token} → All (λ t. c not_in cells_of t) S → out_of c S ≡ S
+pub all_stay : {c : ℕ} {S : List Token} → All (λ t. c not-in cells_of t) S → out_of c S ≡ S
 unfolding select
 all_stay All.none = refl
 all_stay {c} (more {x = t} {xs = S} n a) =

@@ -84,7 +84,8 @@ module _ (lim : Limits) (d : Dag) (fits : lim.tokens ≤ lim.token_places) where
   unfolding outcome_of
   follow House.none p k l = (0, Followed.over, omega arith)
   follow (House.front rest) (Passage.refused no' p) k l = (0, Followed.refused no', omega arith)
-  follow (House.front rest) (Passage.accepted {m = m} ok p) k l = after-step m k l ok (λ k' l'. follow rest p k' l')
+  follow {m} (House.front rest) (Passage.accepted ok p) k l =
+      after-step m k l ok (λ k' l'. follow {m = (Step.step lim d m 0).machine} rest p k' l')
   follow {m} (House.between {h = h} {v = v} {fits = signed} rest) p k l =
       after-answer m k h v signed l (λ k' l'. follow rest (passage-behind lim d p).2 k' l')
   follow {m} (House.ticking {time = time} rest) p k l =

@@ -1,0 +1,29 @@
+-- `definition::check_definitions` meets its contract. The loop's invariant: what is done stands in front of what is left to read, and the
+-- counts of formals and the sizes so far are stored at the front of the arrays. Assumes nothing.
+use Prim.Native.Nat.{◌-◌}
+use borrow.Author.Rules.{rules, Fits-under}
+use mir.Syntax.{w32, w64}
+use Rattle.reader.proofs.DefinitionLoop.{Reading, reading-start, reading-end, reading-refused, reading-more}
+use Rattle.reader.proofs.DefinitionLoop.{reading-below, reading-within, reading-fits, reading-size}
+use Rattle.reader.proofs.definition.check_definitions.Goals as goal
+
+pub loop-i-init : goal.loop-i-init
+loop-i-init c = search reading-start
+
+pub returns-in-Refused : goal.returns-in-Refused
+returns-in-Refused c = search reading-refused
+
+pub operand-requires : goal.operand-requires
+operand-requires c = (search reading-below, search reading-within)
+
+pub overflow_cast-sizes : goal.overflow_cast-sizes
+overflow_cast-sizes c = Fits-under w32 _ 4096 (search reading-size) tt
+
+pub overflow_add-nodes : goal.overflow_add-nodes
+overflow_add-nodes c = Fits-under w64 _ 4096 (search reading-fits) tt
+
+pub loop-i-preserved : goal.loop-i-preserved
+loop-i-preserved c = search reading-more
+
+pub returns : goal.returns
+returns c = search reading-end

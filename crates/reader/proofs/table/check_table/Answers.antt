@@ -1,0 +1,38 @@
+-- `table::check_table` meets its contract: a law for each refusal by the sizes, and the two parts are those of the definitions. Assumes
+-- nothing.
+use borrow.Author.Rules.{rules}
+use Rattle.reader.proofs.TableLaws.{table-short, table-uneven, table-definitions, table_empty, table-long}
+use Rattle.reader.proofs.TableLaws.{table-refused, table-accepted}
+use Rattle.reader.proofs.table.check_table.Goals as goal
+
+pub returns-then-table-lt4 : goal.returns-then-table-lt4
+returns-then-table-lt4 c = table-short _ _ c.if-table-lt4.true
+
+pub returns-then-table-n : goal.returns-then-table-n
+returns-then-table-n c =     table-uneven _ _ _ c.if-table-lt4.false c.half-n.ensures.0 c.if-table-n.true
+
+pub returns-then-definitions-gt-MOST_DEFINITIONS : goal.returns-then-definitions-gt-MOST_DEFINITIONS
+returns-then-definitions-gt-MOST_DEFINITIONS c =     table-definitions _ _ _ c.if-table-lt4.false c.half-n.ensures.0 _ c.half-definitions.ensures.0 c.if-table-n.false
+    c.if-definitions-gt-MOST_DEFINITIONS.true
+
+pub returns-then-n-lt1 : goal.returns-then-n-lt1
+returns-then-n-lt1 c =     table_empty _ _ _ c.if-table-lt4.false c.half-n.ensures.0 _ c.half-definitions.ensures.0 c.if-table-n.false
+    c.if-definitions-gt-MOST_DEFINITIONS.false
+    c.if-n-lt1.true
+
+pub returns-then-n-gt-ENTRY_LIMIT : goal.returns-then-n-gt-ENTRY_LIMIT
+returns-then-n-gt-ENTRY_LIMIT c =     table-long _ _ _ c.if-table-lt4.false c.half-n.ensures.0 _ c.half-definitions.ensures.0 c.if-table-n.false
+    c.if-definitions-gt-MOST_DEFINITIONS.false
+    c.if-n-lt1.false c.if-n-gt-ENTRY_LIMIT.true
+
+pub returns-in-Refused : goal.returns-in-Refused
+returns-in-Refused c =     table-refused _ _ _ c.if-table-lt4.false c.half-n.ensures.0 _ c.half-definitions.ensures.0 c.if-table-n.false
+    c.if-definitions-gt-MOST_DEFINITIONS.false
+    c.if-n-lt1.false c.if-n-gt-ENTRY_LIMIT.false _ c.check_program-answer.ensures.0 _ c.check_program-answer.ensures.1 _ _
+    c.in-Refused.is
+
+pub returns-in-Next : goal.returns-in-Next
+returns-in-Next c =     table-accepted _ _ _ c.if-table-lt4.false c.half-n.ensures.0 _ c.half-definitions.ensures.0 c.if-table-n.false
+    c.if-definitions-gt-MOST_DEFINITIONS.false
+    c.if-n-lt1.false c.if-n-gt-ENTRY_LIMIT.false _ c.check_program-answer.ensures.0 _ c.check_program-answer.ensures.1 _ _
+    c.in-Next.is

@@ -1,0 +1,7 @@
+-- `token::value_kind` meets its contract: the word that it reads is the field's. Assumes nothing.
+use borrow.Author.Rules.{rules}
+use Rattle.record.proofs.TokenRow.{value-kind-word}
+use Rattle.record.proofs.token.value_kind.Goals as goal
+
+pub returns : goal.returns
+returns c = λ m h. value-kind-word h _ (search rules)

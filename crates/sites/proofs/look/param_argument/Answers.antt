@@ -1,0 +1,27 @@
+-- A parameter is a variable or a constant by its kind. Assumes nothing.
+use mathlib.Core.Path.{sym, ap, subst, ◌∙◌}
+use borrow.Author.Rules.{rules}
+use Prim.Native.Nat.{◌<◌}
+use mir.Syntax.{w32}
+use mir.Val.{SFits}
+use mir.Facts.{to_z-of_z}
+use Rattle.sites.proofs.LookLaws.{found-variable, found-constant}
+use Rattle.sites.proofs.LookParams.{param-variable, variable-below}
+use Rattle.sites.specs.declared.look.Argument.TheVariants as arguments
+use Rattle.sites.proofs.look.param_argument.Goals as goal
+
+pub variable_argument-requires : goal.variable_argument-requires
+variable_argument-requires c = (
+  search rules,
+  subst (λ x. x < 8) (sym c.wide.ensures)
+      (variable-below _ _ c.requires.2 (param-variable _ _ c.if-dag-at-eq-VARIABLE.true)),
+)
+
+pub returns-then-dag-at-eq-VARIABLE : goal.returns-then-dag-at-eq-VARIABLE
+returns-then-dag-at-eq-VARIABLE c = λ m h o. found-variable m.cells _ _ _ _ _ c.if-dag-at-eq-VARIABLE.true c.wide.ensures
+    (c.variable_argument.ensures m h o)
+
+pub returns : goal.returns
+returns c = λ m h o.
+    let f : SFits w32 c.signed.result = search rules in
+    rw (to_z-of_z f) (ap arguments.Value c.signed.ensures ∙ found-constant m.cells _ _ _ c.if-dag-at-eq-VARIABLE.false)

@@ -1,0 +1,26 @@
+-- A variable's words say what it is bound to; a bound cell is a cell of the table. By the kind of the slot, which its words give. Assumes
+-- nothing.
+use mathlib.Core.Path.{ap, ◌∙◌}
+use borrow.Author.Rules.{rules}
+use mir.Syntax.{w32}
+use mir.Val.{SFits}
+use mir.Facts.{to_z-of_z}
+use Rattle.sites.proofs.LookLaws.{variable-empty, variable-value, variable-cell}
+use Rattle.sites.specs.declared.look.Argument.TheVariants as arguments
+use Rattle.sites.proofs.look.variable_argument.Goals as goal
+
+pub returns-then-kind-eq-EMPTY_SLOT : goal.returns-then-kind-eq-EMPTY_SLOT
+returns-then-kind-eq-EMPTY_SLOT c = λ m h o. variable-empty m _ _ _ _ o (c.bind_kind-kind.ensures m h) (c.bind_number-number.ensures m h)
+    c.if-kind-eq-EMPTY_SLOT.true
+
+pub returns-then-kind-eq-VALUE_SLOT : goal.returns-then-kind-eq-VALUE_SLOT
+returns-then-kind-eq-VALUE_SLOT c = λ m h o.
+    let f : SFits w32 c.signed.result = search rules in
+    rw (to_z-of_z f)
+    (ap arguments.Value c.signed.ensures ∙ variable-value m _ _ _ _ o (c.bind_kind-kind.ensures m h)
+    (c.bind_number-number.ensures m h) c.if-kind-eq-VALUE_SLOT.true)
+
+pub returns : goal.returns
+returns c = λ m h o. variable-cell m _ _ _ _ o (c.bind_kind-kind.ensures m h)
+    (c.bind_number-number.ensures m h) _ c.if-kind-eq-EMPTY_SLOT.false c.if-kind-eq-VALUE_SLOT.false
+    (c.cell_argument.ensures m h)
