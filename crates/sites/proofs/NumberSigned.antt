@@ -31,7 +31,7 @@ mag-add (negsuc m) (negsuc n) = omega arith
 
 -- a 32-bit number, read back from its bits at 64
 pub back-from-64 : {a : ℤ} → SFits w32 a → to_z w64 (of_z w64 a) ≡ a
-back-from-64 f = to_z-of_z (sfits_widen tt f)
+back-from-64 f = to_z-of_z {w = w64} (sfits_widen {w = w32} {w' = w64} tt f)
 
 pub sum-fits-64 : {a b : ℤ} → SFits w32 a → SFits w32 b → SFits w64 (a +ℤ b)
 sum-fits-64 {a} {b} f g = record { sfits = omega (arith, mag-add a b, f.sfits, g.sfits) }

@@ -13,7 +13,7 @@ use Rattle.sites.proofs.AnswerLaws.{holder-found, holder-on, holder-blank, open-
 use Rattle.sites.proofs.answer.find_open.Given as goal
 
 abbrev pub invariant-loop-p : goal.invariant-loop-p
-invariant-loop-p l =     (l.p ≤ l.end)
+invariant-loop-p l = (l.p ≤ l.end)
     × ((m : Machine) → Codes l.w m
     → (holder l.handle 0 m.tokens ≡ holder l.handle l.p (drop l.p m.tokens)) × (l.p < l.end → state_kind (token_at m.tokens l.p).state ≡ 3))
 

@@ -9,7 +9,7 @@ use Rattle.sites.proofs.DueTime.{never-below, never-above, due-sum}
 use Rattle.sites.proofs.due.due_time.Goals as goal
 
 pub returns-then-t-lt0 : goal.returns-then-t-lt0
-returns-then-t-lt0 c =     sym (ap due_time_from (never-below c.args.clock c.args.t (rw (to_z-of_z c.ranges.t) at c.if-t-lt0.true)))
+returns-then-t-lt0 c = sym (ap due_time_from (never-below c.args.clock c.args.t (rw (to_z-of_z c.ranges.t) at c.if-t-lt0.true)))
 
 pub overflow_cast-due-2 : goal.overflow_cast-due-2
 overflow_cast-due-2 c = let f = c.ranges.t in

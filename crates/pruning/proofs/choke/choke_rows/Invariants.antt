@@ -1,0 +1,18 @@
+use mathlib.Core.Path.{◌≡◌, sym, subst}
+use borrow.Author.Rules.{rules}
+use native.Mathlib.Omega.{arith}
+use Prim.Native.Nat.{◌≤◌, ◌-◌}
+use Rattle.model.specs.declared.record.Machine.{Machine}
+use Rattle.record.specs.Holds.{Holds}
+use Rattle.model.specs.Machine.Step.{choke_token}
+use Rattle.model.specs.Machine.Update.{with_tables}
+use Rattle.sites.proofs.TableLoops.{rows_none, rows_more}
+use Rattle.pruning.proofs.ChokeLaws.{rows-rest}
+use Rattle.pruning.specs.Choke.{rows_choked}
+use Rattle.pruning.proofs.choke.choke_rows.Given as goal
+
+abbrev pub invariant-loop-p : goal.invariant-loop-p
+invariant-loop-p l = (l.p ≤ l.end) × ((m : Machine) → Holds l.initial.w m → Holds l.w (rows_choked l.c l.p m))
+
+abbrev pub decreases-loop-p : goal.decreases-loop-p
+decreases-loop-p l = l.end - l.p

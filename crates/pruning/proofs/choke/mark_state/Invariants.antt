@@ -1,0 +1,23 @@
+use mathlib.Core.Bool.{false}
+use mathlib.Core.Path.{◌≡◌, sym, ap, subst}
+use borrow.Author.Rules.{rules}
+use native.Mathlib.Omega.{arith}
+use Prim.Native.Nat.{◌≤◌, ◌-◌}
+use lib.Dec.{eqb}
+use lib.ListN.{replicate}
+use Rattle.model.specs.Machine.Blank.{blank_token, token_at}
+use Rattle.model.specs.declared.record.Machine.{Machine}
+use Rattle.model.specs.declared.token.Token.{Token}
+use Rattle.record.specs.Layout.{state_kind}
+use Rattle.record.specs.Holds.{Codes}
+use Rattle.sites.proofs.TableLoops.{Mapping, mapping-none, mapping-more}
+use Rattle.pruning.proofs.ChokeLaws.{kinds-rest}
+use Rattle.pruning.proofs.choke.mark_state.Given as goal
+
+abbrev pub invariant-loop-p : goal.invariant-loop-p
+invariant-loop-p l = (l.p ≤ l.end)
+    × ((m : Machine) → Codes l.w m → l.initial.marks ≡ replicate 64 false
+    → Mapping (λ (t : Token). eqb (state_kind t.state) l.kind) m.tokens (replicate 64 false) l.p l.marks)
+
+abbrev pub decreases-loop-p : goal.decreases-loop-p
+decreases-loop-p l = l.end - l.p

@@ -1,0 +1,21 @@
+-- `site_call::reply` meets its contract: each writer's contract, one behind the other, leads to the record of the definition. Assumes
+-- nothing.
+use Rattle.writes.proofs.Writes.{begins, put-queue}
+use Rattle.record.specs.Changes.{dequeued}
+use Rattle.record.specs.Holds.{Holds}
+use Rattle.model.specs.Machine.Update.{put, with_tables, with_orders, enqueue}
+use Rattle.model.specs.Machine.Blank.{token_at}
+use mathlib.Core.Path.{refl, subst}
+use borrow.Author.Rules.{rules}
+use Rattle.writes.proofs.site_call.reply.Goals as goal
+
+pub returns : goal.returns
+unfolding put with_tables with_orders enqueue
+returns c = λ m v h q e f.
+    let a = c.args in
+    let t = token_at m.tokens a.p in
+    let gone = dequeued m a.place in
+    let rest = enqueue a.p gone in
+    let first = begins rest a.p t refl (c.replace.ensures m h q) in
+    subst (Holds _) (put-queue gone a.p a.p _)
+    (c.set_node.ensures rest _ (c.set_value.ensures rest t v first e f))

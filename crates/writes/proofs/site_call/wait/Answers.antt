@@ -1,0 +1,22 @@
+-- `site_call::wait` meets its contract: each writer's contract, one behind the other, leads to the record of the definition. Assumes
+-- nothing.
+use native.Mathlib.Omega.{arith}
+use Rattle.writes.proofs.Writes.{begins, waiting-taken}
+use Rattle.record.specs.Changes.{dequeued}
+use Rattle.model.specs.declared.token.State.TheVariants as states
+use Rattle.model.specs.Machine.Update.{put, with_tables, with_orders}
+use Rattle.model.specs.Machine.Blank.{token_at}
+use mathlib.Core.Path.{refl}
+use borrow.Author.Rules.{rules}
+use Rattle.writes.proofs.site_call.wait.Goals as goal
+
+pub returns : goal.returns
+unfolding put with_tables with_orders
+returns c = λ m h q room.
+    let a = c.args in
+    let t = token_at m.tokens a.p in
+    let rest = dequeued m a.place in
+    let same = waiting-taken a.place h in
+    c.delay.ensures _
+    (c.set_state.ensures rest t (states.Waiting a.c)
+    (begins rest a.p t refl (c.leave.ensures m h q)) refl refl) (omega arith)
