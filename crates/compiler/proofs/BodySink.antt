@@ -8,9 +8,9 @@ use native.Mathlib.Omega.{arith}
 use lib.ListN.{length}
 use lib.Seq.{sets}
 use Rattle.job.specs.Syntax.{Exp}
-use Rattle.job.specs.Construct.{node_count, root, nodes_of}
+use Rattle.job.specs.Construct.{node_count, nodes_of}
 use Rattle.job.specs.Words.{head_words, param_words, node_words, rows_of_nodes}
-use Rattle.job.specs.Read.{Got, Read, got}
+use Rattle.job.specs.Read.{Got, Read, got, refused}
 use Rattle.job.proofs.Stores.{sets-append}
 use Rattle.job.proofs.NodeRows.{rows_append, rows-length}
 use Rattle.entries.specs.declared.scope.Scope.{Scope}
@@ -38,6 +38,7 @@ record Read-body (ks os scope : List ℕ) (at n sink : ℕ) : Type 0 where
 
 view : (p : Read Exp) (n sink : ℕ) → Sunk p n sink → (g : Got Exp) × (p ≡ got g) × (sink ≡ n + node_count g.value)
 view (got g) n sink (sunk e) = (g, refl, e)
+view (refused number entry) n sink x' = elim x' [ ]
 
 module _ {ks os : List ℕ} {s : Scope} {at n sink : ℕ} {scope : List ℕ} (b : BodyAccepted ks os s at n sink scope) where
   taken : Read-body ks os scope at n sink

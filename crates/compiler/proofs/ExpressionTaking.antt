@@ -7,7 +7,7 @@ use lib.ListN.{length, get_or, drop}
 use Rattle.job.specs.Entry.{entries, operand_at}
 use Rattle.job.specs.Syntax.{Exp}
 use Rattle.job.specs.Construct.{node_count}
-use Rattle.job.specs.Read.{Got, Read, got, read_exp}
+use Rattle.job.specs.Read.{Got, Read, got, read_exp, refused}
 use Rattle.job.proofs.Size.{size-some}
 use Rattle.entries.specs.Checked.{Parts}
 use Rattle.entries.specs.Scope.{Means}
@@ -18,6 +18,7 @@ use Rattle.compiler.proofs.ExpressionHeads.{Head, headed, head-room}
 
 room-got : (p : Read Exp) (n : ℕ) → NodesFit p n → (g : Got Exp) × (p ≡ got g) × (n + node_count g.value ≤ 1022)
 room-got (got g) n (room h) = (g, refl, h)
+room-got (refused number entry) n x' = elim x' [ ]
 
 -- an expression that is read and has room may be compiled
 pub accept : (left : ℕ) (ks os : List ℕ) (s : Scope) (at n : ℕ) (scope : List ℕ) (g : Got Exp) → Parts ks os → Means s scope

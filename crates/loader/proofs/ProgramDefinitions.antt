@@ -12,7 +12,7 @@ use Rattle.job.specs.Syntax.{Definition, levels}
 use Rattle.job.specs.Entry.{entries, operand_at}
 use Rattle.job.specs.Construct.{node_count}
 use Rattle.job.specs.Words.{rows_of_nodes, body_words}
-use Rattle.job.specs.Read.{Got, Read, got, gives, read_exp, read_definition}
+use Rattle.job.specs.Read.{Got, Read, got, gives, read_exp, read_definition, refused}
 use Rattle.job.proofs.Position.{bind-got, reread}
 use Rattle.entries.specs.Checked.{Parts, entries_from}
 use Rattle.entries.specs.Scope.{Means}
@@ -46,6 +46,7 @@ pub record Writing (count : ℕ) (ks os ws ss l : List ℕ) (at node i : ℕ) : 
 view : (r : Read (List Definition)) (ss : List ℕ) → DefinitionsRead r ss
     → (g : Got (List Definition)) × (r ≡ got g) × (definition_list_nodes g.value < 1022) × Leads (definition_sizes g.value) ss
 view (got g) ss (definitions h k) = (g, refl, h, k)
+view (refused number entry) ss x' = elim x' [ ]
 
 pub writing_start : (count : ℕ) (ks os ws ss : List ℕ) → DefinitionsRead (read_definition_list count 0 (entries ks os)) ss
     → Writing count ks os ws ss ws 0 0 0

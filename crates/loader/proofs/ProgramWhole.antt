@@ -11,7 +11,7 @@ use Rattle.job.specs.Syntax.{Program, levels}
 use Rattle.job.specs.Entry.{entries}
 use Rattle.job.specs.Construct.{node_count, construct}
 use Rattle.job.specs.Words.{written}
-use Rattle.job.specs.Read.{Got, Read, got, read_exp, read_entries}
+use Rattle.job.specs.Read.{Got, Read, got, read_exp, read_entries, refused}
 use Rattle.job.proofs.EncodeRead.{entries-well-formed}
 use Rattle.job.proofs.Size.{nodes-few}
 use Rattle.job.proofs.Position.{reread}
@@ -33,6 +33,7 @@ use Rattle.loader.proofs.ProgramWords.{all_words}
 view : (r : Read Program) (nodes : ℕ) (ss : List ℕ) → Accepts r nodes ss
     → (p : Got Program) × (r ≡ got p) × (nodes ≡ length (construct p.value).nodes) × Leads (definition_sizes p.value.definitions) ss
 view (got p) nodes ss (accepts h k) = (p, refl, h, k)
+view (refused number entry) nodes ss x' = elim x' [ ]
 
 module _ (ks os : List ℕ) (n nodes : ℕ) (ss : List ℕ) (ok : Accepts (read_entries n (entries ks os)) nodes ss) (parts : Parts ks os)
     (many : n ≤ 32) where

@@ -1,7 +1,6 @@
 -- `signed::magnitude` meets its contract: a 64-bit number holds the negation of every 32-bit number. Assumes nothing.
 use mir.Facts.{to_z-of_z, sfits_widen}
 use mir.Syntax.{w64}
-use borrow.Author.Rules.{rules}
 use Rattle.decimal.proofs.SignedDigits.{negative-magnitude}
 use Rattle.job.proofs.Casts.{negative_fits, negative-cast, positive-cast}
 use Rattle.decimal.proofs.signed.magnitude.Goals as goal

@@ -1,5 +1,4 @@
 -- `calls::call_holds` meets its contract: there is a law for each way out of the tests. Assumes nothing.
-use borrow.Author.Rules.{rules}
 use Rattle.reader.proofs.CallsLaws.{call-missing, call-counted}
 use Rattle.reader.proofs.calls.call_holds.Goals as goal
 

@@ -1,8 +1,6 @@
 use Prim.Native.Nat.{◌-◌, ◌≤◌}
-use mathlib.Core.Logic.{⊎_elim}
 use lib.ListN.{length, take}
-use borrow.Author.Rules.{rules}
-use Rattle.reader.proofs.CallsLaws.{Scanning, scan-start, scan-end, scan-past, scan-more, scan-refused}
+use Rattle.reader.proofs.CallsLaws.{Scanning}
 use Rattle.reader.proofs.calls.check_calls.Given as goal
 
 abbrev pub invariant-loop-i : goal.invariant-loop-i

@@ -1,9 +1,8 @@
 -- `definition::check_definitions` meets its contract. The loop's invariant: what is done stands in front of what is left to read, and the
 -- counts of formals and the sizes so far are stored at the front of the arrays. Assumes nothing.
-use Prim.Native.Nat.{◌-◌}
-use borrow.Author.Rules.{rules, Fits-under}
+use borrow.Author.Rules.{Fits-under}
 use mir.Syntax.{w32, w64}
-use Rattle.reader.proofs.DefinitionLoop.{Reading, reading-start, reading-end, reading-refused, reading-more}
+use Rattle.reader.proofs.DefinitionLoop.{reading-start, reading-end, reading-refused, reading-more}
 use Rattle.reader.proofs.DefinitionLoop.{reading-below, reading-within, reading-fits, reading-size}
 use Rattle.reader.proofs.definition.check_definitions.Goals as goal
 

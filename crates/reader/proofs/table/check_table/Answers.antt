@@ -1,38 +1,51 @@
 -- `table::check_table` meets its contract: a law for each refusal by the sizes, and the two parts are those of the definitions. Assumes
 -- nothing.
-use borrow.Author.Rules.{rules}
 use Rattle.reader.proofs.TableLaws.{table-short, table-uneven, table-definitions, table_empty, table-long}
 use Rattle.reader.proofs.TableLaws.{table-refused, table-accepted}
 use Rattle.reader.proofs.table.check_table.Goals as goal
 
 pub returns-then-table-lt4 : goal.returns-then-table-lt4
-returns-then-table-lt4 c = table-short _ _ c.if-table-lt4.true
+returns-then-table-lt4 c =
+    let h = table-short _ _ c.if-table-lt4.true in
+    record { value = h.0; sizes_after = h.1 }
 
 pub returns-then-table-n : goal.returns-then-table-n
-returns-then-table-n c =     table-uneven _ _ _ c.if-table-lt4.false c.half-n.ensures.0 c.if-table-n.true
+returns-then-table-n c =
+    let h = table-uneven _ _ _ c.if-table-lt4.false c.half-n.ensures.0 c.if-table-n.true in
+    record { value = h.0; sizes_after = h.1 }
 
 pub returns-then-definitions-gt-MOST_DEFINITIONS : goal.returns-then-definitions-gt-MOST_DEFINITIONS
-returns-then-definitions-gt-MOST_DEFINITIONS c =     table-definitions _ _ _ c.if-table-lt4.false c.half-n.ensures.0 _ c.half-definitions.ensures.0 c.if-table-n.false
-    c.if-definitions-gt-MOST_DEFINITIONS.true
+returns-then-definitions-gt-MOST_DEFINITIONS c =
+    let h = table-definitions _ _ _ c.if-table-lt4.false c.half-n.ensures.0 _ c.half-definitions.ensures.0 c.if-table-n.false
+    c.if-definitions-gt-MOST_DEFINITIONS.true in
+    record { value = h.0; sizes_after = h.1 }
 
 pub returns-then-n-lt1 : goal.returns-then-n-lt1
-returns-then-n-lt1 c =     table_empty _ _ _ c.if-table-lt4.false c.half-n.ensures.0 _ c.half-definitions.ensures.0 c.if-table-n.false
+returns-then-n-lt1 c =
+    let h = table_empty _ _ _ c.if-table-lt4.false c.half-n.ensures.0 _ c.half-definitions.ensures.0 c.if-table-n.false
     c.if-definitions-gt-MOST_DEFINITIONS.false
-    c.if-n-lt1.true
+    c.if-n-lt1.true in
+    record { value = h.0; sizes_after = h.1 }
 
 pub returns-then-n-gt-ENTRY_LIMIT : goal.returns-then-n-gt-ENTRY_LIMIT
-returns-then-n-gt-ENTRY_LIMIT c =     table-long _ _ _ c.if-table-lt4.false c.half-n.ensures.0 _ c.half-definitions.ensures.0 c.if-table-n.false
+returns-then-n-gt-ENTRY_LIMIT c =
+    let h = table-long _ _ _ c.if-table-lt4.false c.half-n.ensures.0 _ c.half-definitions.ensures.0 c.if-table-n.false
     c.if-definitions-gt-MOST_DEFINITIONS.false
-    c.if-n-lt1.false c.if-n-gt-ENTRY_LIMIT.true
+    c.if-n-lt1.false c.if-n-gt-ENTRY_LIMIT.true in
+    record { value = h.0; sizes_after = h.1 }
 
 pub returns-in-Refused : goal.returns-in-Refused
-returns-in-Refused c =     table-refused _ _ _ c.if-table-lt4.false c.half-n.ensures.0 _ c.half-definitions.ensures.0 c.if-table-n.false
+returns-in-Refused c =
+    let h = table-refused _ _ _ c.if-table-lt4.false c.half-n.ensures.0 _ c.half-definitions.ensures.0 c.if-table-n.false
     c.if-definitions-gt-MOST_DEFINITIONS.false
-    c.if-n-lt1.false c.if-n-gt-ENTRY_LIMIT.false _ c.check_program-answer.ensures.0 _ c.check_program-answer.ensures.1 _ _
-    c.in-Refused.is
+    c.if-n-lt1.false c.if-n-gt-ENTRY_LIMIT.false _ c.check_program-answer.ensures.value _ c.check_program-answer.ensures.sizes_after _ _
+    c.in-Refused.is in
+    record { value = h.0; sizes_after = h.1 }
 
 pub returns-in-Next : goal.returns-in-Next
-returns-in-Next c =     table-accepted _ _ _ c.if-table-lt4.false c.half-n.ensures.0 _ c.half-definitions.ensures.0 c.if-table-n.false
+returns-in-Next c =
+    let h = table-accepted _ _ _ c.if-table-lt4.false c.half-n.ensures.0 _ c.half-definitions.ensures.0 c.if-table-n.false
     c.if-definitions-gt-MOST_DEFINITIONS.false
-    c.if-n-lt1.false c.if-n-gt-ENTRY_LIMIT.false _ c.check_program-answer.ensures.0 _ c.check_program-answer.ensures.1 _ _
-    c.in-Next.is
+    c.if-n-lt1.false c.if-n-gt-ENTRY_LIMIT.false _ c.check_program-answer.ensures.value _ c.check_program-answer.ensures.sizes_after _ _
+    c.in-Next.is in
+    record { value = h.0; sizes_after = h.1 }

@@ -1,0 +1,68 @@
+-- `site_call::site_call` meets its contract: each way out is how the definition's step ends there. Assumes nothing.
+use Rattle.calls.proofs.SiteCall.{wait-gives, waits-at, values_of}
+use Rattle.acts.proofs.Outcomes.{row, row_fits, token-inside}
+use Rattle.sites.proofs.LookLaws.{look-waits}
+use Rattle.sites.proofs.RuleFacts.{look-facts, waits-room}
+use Rattle.sites.proofs.RowKinds.{site-params}
+use native.Mathlib.Omega.{arith}
+use borrow.Author.Rules.{rules}
+use Rattle.calls.proofs.site_call.site_call.Goals as goal
+
+pub look_up-found-requires : goal.look_up-found-requires
+look_up-found-requires c = (token-inside c.requires.is.taking, site-params _ _ (row c.requires.is))
+
+pub wait-requires : goal.wait-requires
+wait-requires c = token-inside c.requires.is.taking
+
+pub returns-then-unset-lt-CELL_PLACE_COUNT : goal.returns-then-unset-lt-CELL_PLACE_COUNT
+returns-then-unset-lt-CELL_PLACE_COUNT c = λ m a.
+    let facts = look-facts _ m a.taking.lawful.rules _ (token-inside a.taking) in
+    let found = look-waits _ _ (c.look_up-found.ensures m a.taking.lawful.holds.codes facts)
+    c.if-unset-lt-CELL_PLACE_COUNT.true in
+    wait-gives a.taking _ _ (waits-at _ _ _ _ m a _ found) c.plain.ensures
+    (c.wait.ensures m a.taking.lawful.holds a.taking.queued
+    (waits-room _ m a.taking.lawful.rules _ a.taking.queued))
+
+pub dag_word-requires : goal.dag_word-requires
+dag_word-requires c = let l = row_fits c.requires.is in omega arith
+
+pub built_in-requires : goal.built_in-requires
+built_in-requires c = let a = c.requires.is in
+    let facts = look-facts _ _ a.taking.lawful.rules _ (token-inside a.taking) in (
+      record {
+        machine = c.requires.machine;
+        is = values_of _ a
+            (c.look_up-found.ensures _ a.taking.lawful.holds.codes facts)
+            c.if-unset-lt-CELL_PLACE_COUNT.false;
+      },
+      (let e = c.dag_word.ensures in
+          let l = c.if-dag_word-lt-BUILTIN_LIMIT.true in omega arith),
+    )
+
+pub returns-then-dag_word-lt-BUILTIN_LIMIT : goal.returns-then-dag_word-lt-BUILTIN_LIMIT
+returns-then-dag_word-lt-BUILTIN_LIMIT c = λ m a.
+    let facts = look-facts _ m a.taking.lawful.rules _ (token-inside a.taking) in
+    c.built_in.ensures m
+    (values_of _ a
+    (c.look_up-found.ensures m a.taking.lawful.holds.codes facts)
+    c.if-unset-lt-CELL_PLACE_COUNT.false)
+
+pub outside-requires : goal.outside-requires
+outside-requires c = let a = c.requires.is in
+    let facts = look-facts _ _ a.taking.lawful.rules _ (token-inside a.taking) in
+    record {
+      machine = c.requires.machine;
+      is = values_of _ a
+          (c.look_up-found.ensures _ a.taking.lawful.holds.codes facts)
+          c.if-unset-lt-CELL_PLACE_COUNT.false;
+    }
+
+pub returns : goal.returns
+returns c = λ m a.
+    let facts = look-facts _ m a.taking.lawful.rules _ (token-inside a.taking) in
+    c.outside.ensures m
+    (values_of _ a
+    (c.look_up-found.ensures m a.taking.lawful.holds.codes facts)
+    c.if-unset-lt-CELL_PLACE_COUNT.false)
+    (let e = c.dag_word.ensures in let l = c.if-dag_word-lt-BUILTIN_LIMIT.false in
+    omega arith)

@@ -1,0 +1,26 @@
+-- `where_split::split_tokens` meets its contract: each writer's contract, one behind the other, leads to the record of the definition.
+-- Assumes nothing.
+use mathlib.Core.Path.{refl, subst}
+use Rattle.record.specs.Holds.{Holds}
+use Rattle.model.specs.declared.token.Place.TheVariants as places
+use Rattle.model.specs.declared.token.Slot.TheVariants as slots
+use Rattle.model.specs.Machine.Blank.{token_at}
+use Rattle.model.specs.Machine.Update.{put, with_node, in_cell, with_binding}
+use Rattle.writes.proofs.Writes.{begins, put_other, put-comm}
+use borrow.Author.Rules.{rules}
+use Rattle.spawn_writes.proofs.where_split.split_tokens.Goals as goal
+
+pub returns : goal.returns
+unfolding with_node in_cell
+returns c = λ m h n.
+    let a = c.args in
+    let t = token_at m.tokens a.p in
+    let right = c.set_cell.ensures m _ (places.At a.c)
+    (c.set_node.ensures m t
+    (c.copy.ensures m h)) refl in
+    let v = in_cell a.c (with_node a.right t) in
+    let u = with_node a.left (with_binding a.x (slots.Cell a.c) t) in
+    let there = begins (put a.new v m) a.p t (put_other m a.new a.p v n) right in
+    let left = c.set_node-2.ensures (put a.new v m) _
+    (c.set_bind.ensures (put a.new v m) t (slots.Cell a.c) there refl refl) in
+    subst (Holds _) (put-comm m a.p a.new u v n) left
