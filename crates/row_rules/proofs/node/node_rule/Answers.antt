@@ -1,11 +1,12 @@
 -- `node::node_rule` meets its contract: kind by kind. Assumes nothing.
 use mathlib.Core.Path.{◌∙◌, ap}
 use lib.Dec.{ltb}
+use native.Mathlib.Omega.{arith}
 use Rattle.model.specs.Machine.Rules.{node_rule}
 use Rattle.job.specs.Words.{node_by}
 use Rattle.row_rules.proofs.NodeLaws.{rule-past}
 use Rattle.row_rules.proofs.RangeLaws.{place_is}
-use Rattle.job.proofs.Both.{both, NoneBelow, none_below}
+use Rattle.job.proofs.Both.{both}
 use Rattle.row_rules.proofs.node.node_rule.Goals as goal
 
 pub returns-in-0 : goal.returns-in-0
@@ -50,5 +51,4 @@ unfolding node_by node_rule
 returns-in-9 c = λ m h. rw c.in-9.is (c.value_if_ready-in-9.ensures m h)
 
 pub returns-in_default : goal.returns-in_default
-unfolding NoneBelow
-returns-in_default c = λ m h. rule-past _ _ _ (none_below 10 _ c.in_default.in_default-own.rest)
+returns-in_default c = λ m h. rule-past _ _ _ (omega arith)

@@ -1,0 +1,51 @@
+-- `rules::rules_hold` meets its contract: the dag's rules first, then all the record's together. Assumes nothing.
+use mathlib.Core.Bool.{◌&&◌}
+use mathlib.Core.Path.{refl, sym, ◌∙◌}
+use Rattle.job.specs.Words.{dag_of}
+use Rattle.job.proofs.Test.{clash}
+use Rattle.record.specs.LayoutDecoded.{machine_of}
+use Rattle.rules.proofs.RulesGrouped.{dag-breaks, tokens-marked, cells-marked, rules-are}
+use Rattle.rules.proofs.RestBlank.{first-true, second-true}
+use Rattle.rules.proofs.RulesDecoded.{decoded}
+use borrow.Author.Rules.{rules}
+use Rattle.rules.proofs.rules.rules_hold.Goals as goal
+
+pub returns-then-not-dag_holds : goal.returns-then-not-dag_holds
+returns-then-not-dag_holds c = record {
+  words = λ e. clash e refl;
+  codes = c.whole.ensures.codes;
+  rules = λ h e f. dag-breaks _ _ (sym c.dag_holds.ensures ∙ c.if-not-dag_holds.true);
+}
+
+pub tokens_hold-requires : goal.tokens_hold-requires
+tokens_hold-requires c = (search rules, sym c.dag_holds.ensures ∙ c.if-not-dag_holds.false)
+
+pub returns : goal.returns
+returns c = let args = c.args in
+    let tokens = c.tokens_hold.result in
+    let cells = c.cells_hold.result in
+    let sizes = c.sizes_in_range.result in
+    let queue = c.queue_order-queue.result in
+    let waits = c.wait_order-waits.result in
+    let timers = c.timer_order-timers.result in
+    record {
+      words =
+          λ e.
+          let both = first-true (tokens && cells) sizes (first-true (tokens && cells && sizes) (queue.ok && waits.ok && timers.ok) e) in
+          c.whole.ensures.passes (c.tokens_hold.ensures.0 (first-true tokens cells both))
+          (c.cells_hold.ensures.0 (second-true tokens cells both));
+      codes = c.whole.ensures.codes;
+      rules =
+          λ k e f.
+          let d = dag_of args.dag.now in
+          let m = machine_of args.w.now in
+          let h = decoded k in
+          let long = k.shaped.tokens in
+          let short = k.shaped.cells in
+          rules-are d m long short (sym c.dag_holds.ensures ∙ c.if-not-dag_holds.false) e f queue.counts
+          waits.counts timers.counts queue.ok waits.ok timers.ok
+          (c.tokens_hold.ensures.1 m h (tokens-marked d m long short e))
+          (c.cells_hold.ensures.1 m h (cells-marked d m long short f))
+          (c.sizes_in_range.ensures m k) (c.queue_order-queue.ensures m k) (c.wait_order-waits.ensures m k)
+          (c.timer_order-timers.ensures m k);
+    }

@@ -1,0 +1,14 @@
+-- `advance::advance` meets its contract: its report is the one of a time that the clock took, or did not. Assumes nothing.
+use mathlib.Core.Bool.{true, false}
+use Rattle.acts.specs.Acting.{advance_report}
+use Rattle.unchecked.proofs.WholeCall.{reported}
+use borrow.Author.Rules.{rules}
+use Rattle.unchecked.proofs.advance.advance.Goals as goal
+
+pub returns-then-move_to : goal.returns-then-move_to
+returns-then-move_to c = λ m dag used cells a.
+    reported advance_report true (c.move_to.ensures m dag used cells a) c.if-move_to.true c.plain.ensures
+
+pub returns : goal.returns
+returns c = λ m dag used cells a.
+    reported advance_report false (c.move_to.ensures m dag used cells a) c.if-move_to.false c.plain-2.ensures

@@ -1,0 +1,35 @@
+-- `unchecked::step` meets its contract: each way out is how the definition's call ends there. Assumes nothing.
+use Prim.Native.Nat.{◌+◌, ◌*◌}
+use Rattle.unchecked.proofs.WholeCall.{place_inside, taking-of, acting-of}
+use Rattle.acts.proofs.Outcomes.{token-inside}
+use mathlib.Core.Path.{ap, ◌∙◌}
+use borrow.Author.Rules.{rules}
+use Rattle.unchecked.proofs.step.step.Goals as goal
+
+pub queue_name-requires : goal.queue_name-requires
+queue_name-requires c = place_inside c.requires.is
+
+pub node-requires : goal.node-requires
+node-requires c = let r = c.requires.is in
+    token-inside (taking-of r (c.wide-p.ensures ∙ c.queue_name.ensures _ r.lawful.holds.codes))
+
+pub act-requires : goal.act-requires
+act-requires c = let r = c.requires.is in
+    let codes = r.lawful.holds.codes in
+    record {
+      machine = c.requires.machine;
+      is = acting-of r
+          (c.wide-p.ensures
+          ∙ c.queue_name.ensures _ codes)
+          (ap (λ n. 67 + 12 * n)
+          (c.wide.ensures ∙ c.node.ensures _ codes));
+    }
+
+pub returns : goal.returns
+returns c = λ m r one. let codes = r.lawful.holds.codes in
+    c.act.ensures m
+    (acting-of r (c.wide-p.ensures
+    ∙ c.queue_name.ensures m codes)
+    (ap (λ n. 67 + 12 * n)
+    (c.wide.ensures
+    ∙ c.node.ensures m codes))) one
