@@ -1,10 +1,7 @@
-use mathlib.Core.Path.{◌≡◌, refl, sym, ◌∙◌}
+use mathlib.Core.Path.{◌≡◌}
 use Prim.Native.Nat.{◌*◌, ◌-◌, ◌≤◌}
-use native.Mathlib.Omega.{arith}
 use lib.ListN.{drop}
 use Rattle.coded.specs.WordTests.{table_coded, cell_coded}
-use Rattle.coded.proofs.WordTests.{table_on, table-fail, table-end, cell_at}
-use borrow.Author.Rules.{rules}
 use Rattle.coded.proofs.word_tests.cells_coded.Given as goal
 
 abbrev pub invariant-loop-c : goal.invariant-loop-c

@@ -1,6 +1,5 @@
 -- `turn::deliver_turn` meets its contract: what was delivered is the turn's outcome, and has a line only if it was refused. Assumes
 -- nothing.
-use borrow.Author.Rules.{rules}
 use native.Mathlib.Omega.{arith}
 use Rattle.acts.proofs.Vacancy.{free-token}
 use Rattle.lines.proofs.ShownBytes.{shows-none, shows-as}

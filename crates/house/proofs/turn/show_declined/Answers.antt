@@ -1,6 +1,5 @@
 -- `turn::show_declined` meets its contract: either way the line of the number is shown. Assumes nothing.
 use mathlib.Core.Path.{sym, ap, ◌∙◌}
-use borrow.Author.Rules.{rules}
 use Prim.Native.Nat.{ℕ}
 use Rattle.model.specs.Machine.Reply.{number_of}
 use Rattle.model.specs.Output.Line.{refused, text_of}

@@ -1,6 +1,5 @@
 -- `turn::show_not_open` meets its contract: the number of its refusal is 12. Assumes nothing.
 use mathlib.Core.Path.{ap}
-use borrow.Author.Rules.{rules}
 use Prim.Native.Nat.{ℕ}
 use Rattle.model.specs.Machine.Reply.{number_of}
 use Rattle.model.specs.Output.Line.{refused, text_of}

@@ -1,6 +1,5 @@
 -- `frame::release` meets its contract: the search says which way it goes. Assumes nothing.
 use mathlib.Core.Path.{refl}
-use borrow.Author.Rules.{rules}
 use Rattle.returns.specs.Frame.{shared, alone}
 use Rattle.returns.proofs.frame.release.Goals as goal
 

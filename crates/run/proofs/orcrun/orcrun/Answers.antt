@@ -38,11 +38,11 @@ pub slice_bounds-run-count : goal.slice_bounds-run-count
 slice_bounds-run-count c = let z = inside _ _ c.table_end-end.ensures in search rules
 
 pub run-requires : goal.run-requires
-run-requires c =     (
-      run-accepted _ _ c.table_end-end.ensures c.if-input-gt65536.false _ _ _ c.whole.ensures
-          (sym c.in-Dag.is ∙ c.load-answer.ensures.value) c.load-answer.ensures.dag_after,
-      search rules,
-    )
+run-requires c = (
+  run-accepted _ _ c.table_end-end.ensures c.if-input-gt65536.false _ _ _ c.whole.ensures
+      (sym c.in-Dag.is ∙ c.load-answer.ensures.value) c.load-answer.ensures.dag_after,
+  search rules,
+)
 
 pub returns-in-Refused : goal.returns-in-Refused
 returns-in-Refused c = let line = shows-line c.put_table-n.ensures blank-line c.show_front-in-Refused.ensures in

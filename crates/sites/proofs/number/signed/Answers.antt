@@ -1,5 +1,4 @@
 -- The two halves of 32 bits, by their sign. Assumes nothing.
-use borrow.Author.Rules.{rules}
 use native.Mathlib.Omega.{arith}
 use Prim.Native.Nat.{ℕ, ◌-◌, ◌<◌, ◌≤◌, ◌^◌}
 use mir.Facts.{to_z_pos, to_z-of_z}
