@@ -1,30 +1,30 @@
-// Bytes and numbers on standard output.
+// Bytes and numbers on standard output. An error is one of a write that failed; what was printed before it stays.
 use decimal::signed::put_signed;
-use libc::STDOUT_FILENO;
+use std::io;
 
-pub fn put(s: &[u8]) {
-    io::write_all(STDOUT_FILENO, s);
+pub fn put(rt: &impl Print, s: &[u8]) -> io::Result<()> {
+    rt.write_all(s)
 }
 
-pub fn number(n: u64) {
-    put(b" ");
-    io::print_decimal(STDOUT_FILENO, n);
+pub fn number(rt: &impl Print, n: u64) -> io::Result<()> {
+    print!(rt; " {n}")
 }
 
 // The first bytes of a buffer. (Lent as an array first: its length is then known, whatever was written there.)
-fn put_first(digits: &[u8], n: usize) {
+fn put_first(rt: &impl Print, digits: &[u8], n: usize) -> io::Result<()> {
     if n <= digits.len() {
-        put(&digits[0..n]);
+        put(rt, &digits[0..n])?;
     }
+    Ok(())
 }
 
-fn put_digits(digits: &[u8; 11], n: usize) {
-    put_first(digits, n);
+fn put_digits(rt: &impl Print, digits: &[u8; 11], n: usize) -> io::Result<()> {
+    put_first(rt, digits, n)
 }
 
-pub fn value(v: i32) {
-    put(b" ");
+pub fn value(rt: &impl Print, v: i32) -> io::Result<()> {
+    put(rt, b" ")?;
     let mut digits = [0u8; 11];
     let n = put_signed(&mut digits, 0, v);
-    put_digits(&digits, n);
+    put_digits(rt, &digits, n)
 }

@@ -1,43 +1,45 @@
 // A reply as a line.
 use crate::print::{number, put, value};
 use model::reply::{Refusal, Reply, number_of};
+use std::io;
 
-fn refusal(r: Refusal) {
-    put(b"refused");
-    number(number_of(r) as u64);
+fn refusal(rt: &impl Print, r: Refusal) -> io::Result<()> {
+    put(rt, b"refused")?;
+    number(rt, number_of(r) as u64)
 }
 
 // The values beside a reply, where not all are 0.
-fn reply_values(values: [i32; 4]) {
+fn reply_values(rt: &impl Print, values: [i32; 4]) -> io::Result<()> {
     let a = values[0];
     let b = values[1];
     let c = values[2];
     let d = values[3];
     if (a != 0) | (b != 0) | (c != 0) | (d != 0) {
-        put(b" values");
-        value(a);
-        value(b);
-        value(c);
-        value(d);
+        put(rt, b" values")?;
+        value(rt, a)?;
+        value(rt, b)?;
+        value(rt, c)?;
+        value(rt, d)?;
     }
+    Ok(())
 }
 
-pub fn reply(r: Reply, values: [i32; 4]) {
+pub fn reply(rt: &impl Print, r: Reply, values: [i32; 4]) -> io::Result<()> {
     match r {
-        Reply::Done => put(b"done"),
-        Reply::Waits => put(b"waits"),
+        Reply::Done => put(rt, b"done")?,
+        Reply::Waits => put(rt, b"waits")?,
         Reply::Published(v) => {
-            put(b"publish");
-            value(v);
+            put(rt, b"publish")?;
+            value(rt, v)?;
         }
         Reply::Called(handle, site, count) => {
-            put(b"call");
-            number(handle as u64);
-            number(site as u64);
-            number(count as u64);
+            put(rt, b"call")?;
+            number(rt, handle as u64)?;
+            number(rt, site as u64)?;
+            number(rt, count as u64)?;
         }
-        Reply::Refused(why) => refusal(why),
+        Reply::Refused(why) => refusal(rt, why)?,
     }
-    reply_values(values);
-    put(b"\n");
+    reply_values(rt, values)?;
+    put(rt, b"\n")
 }

@@ -24,7 +24,7 @@ module _ {A : Type 0} {P : A → Type 0} where
   pub All-member : {x : A} {xs : List A} → All P xs → Memᴰ x xs → P x
   All-member (more p ps) (Memᴰ.head e) = subst P (sym e) p
   All-member (more p ps) (Memᴰ.tail m) = All-member ps m
-  All-member none x4 = elim x4 [ ]
+  All-member none m = elim m [ ]
 
   pub All-at : {xs : List A} → All P xs → (i : ℕ) (d : A) → i < length xs → P (get_or xs i d)
   All-at none i d l = absurd (omega arith)

@@ -6,7 +6,7 @@ use mathlib.Core.List.{List, [], ◌∷◌}
 use Prim.Native.Nat.{ℕ, suc, ◌+◌, ◌≤◌, ◌<◌}
 use native.Mathlib.Omega.{arith}
 use lib.ListN.{length, get_or, length-map}
-use Rattle.job.specs.Test.{◌and◌, for_all, All, none, more}
+use Rattle.job.specs.Test.{for_all, All, none, more}
 use Rattle.job.specs.Syntax.{Param, Join, Exp, Definition, Program, formals_of}
 use Rattle.job.specs.WellFormed.{GoodParam, GoodJoin, Good, GoodDefinition, WellFormed}
 use Rattle.job.specs.Node.{Node, Dag, param_holds, params_hold, is_node, node_holds, body_holds, dag_holds}

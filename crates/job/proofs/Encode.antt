@@ -7,7 +7,7 @@ use Prim.Native.Nat.{ℕ, ◌+◌, ◌*◌, ◌^◌, ◌<◌, ◌≤◌}
 use native.Mathlib.Omega.{arith}
 use lib.ListN.{length, get_or, length-map}
 use lib.Dec.{eqb}
-use Rattle.job.specs.Test.{◌and◌, All, none, more}
+use Rattle.job.specs.Test.{All, none, more}
 use Rattle.job.specs.Syntax.{Param, Join, Exp, Definition, Program, formals_of}
 use Rattle.job.specs.Entry.{Entry, entry}
 use Rattle.job.specs.Encode.{encode_param, encode_join, encode_exp, encode_definitions, encode_entries, operand_bytes}

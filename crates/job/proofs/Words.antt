@@ -4,7 +4,7 @@ use mathlib.Core.Path.{◌≡◌, refl, ◌∙◌, ap, ap₂}
 use mathlib.Core.Logic.{◌⊎◌}
 use mathlib.Core.Bool.{true}
 use mathlib.Core.List.{List, [], ◌∷◌, ◌++◌, append_assoc}
-use Prim.Native.Nat.{ℕ, zero, suc, ◌+◌, ◌-◌, ◌*◌, ◌≤◌, ◌<◌}
+use Prim.Native.Nat.{ℕ, zero, suc, ◌+◌, ◌*◌, ◌≤◌, ◌<◌}
 use native.Mathlib.Omega.{arith}
 use lib.ListN.{length, get_or, take, drop, length-append}
 use lib.Seq.{sets, length-sets, take_at, drop_at, drop-drop, get_or-drop}
@@ -63,7 +63,8 @@ unfolding node_words node_by node_holds
 node-by-words d Node.stop e = refl
 node-by-words d (Node.site s ps k) e =
     ap (λ qs. Node.site s qs k)
-    (params-read-back ps (and_left (params_hold ps) (is_node d k) (and_right (site_takes s (length ps)) (params_hold ps and is_node d k) e)))
+    (params-read-back ps (and_left (params_hold ps) (is_node d k) (and_right (site_takes s (length ps)) (params_hold ps and is_node d k)
+    e)))
 node-by-words d (Node.call x ps k) e =
     ap (λ qs. Node.call x qs k)
     (params-read-back ps (and_left (params_hold ps) (is_node d k) (and_right (ltb x (length d.bodies)) (params_hold ps and is_node d k) e)))

@@ -1,2 +1,4 @@
 -- Laws of the program.
 pub mod InputRoom
+pub mod Handed
+pub mod Enough

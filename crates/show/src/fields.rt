@@ -3,7 +3,6 @@ ghost use Rattle.std.specs.Prelude.{◌<◌, ◌≤◌};
 
 use coded::word_tests::is_record;
 use console::print::{number, put, value};
-use libc::STDOUT_FILENO;
 use model::record::Machine;
 use record::layout::{
     BLANK_STATE, CALLED_STATE, DUE_STATE, EMPTY_SLOT, QUEUE_START, READY_STATE, TIMERS_START,
@@ -12,179 +11,197 @@ use record::layout::{
 use record::{cell, count, order, token};
 use row_rules::blank::{cell_is_blank, token_is_blank};
 use sites::number::signed;
+use std::io;
 
-fn state(kind: u32, at: u32) {
+fn state(rt: &impl Print, kind: u32, at: u32) -> io::Result<()> {
     match kind {
-        BLANK_STATE => put(b" blank"),
-        READY_STATE => put(b" ready"),
+        BLANK_STATE => put(rt, b" blank"),
+        READY_STATE => put(rt, b" ready"),
         WAITING_STATE => {
-            put(b" waiting");
-            number(at as u64);
+            put(rt, b" waiting")?;
+            number(rt, at as u64)
         }
         CALLED_STATE => {
-            put(b" called");
-            number(at as u64);
+            put(rt, b" called")?;
+            number(rt, at as u64)
         }
         DUE_STATE => {
-            put(b" due");
-            number(at as u64);
+            put(rt, b" due")?;
+            number(rt, at as u64)
         }
-        _ => put(b" frame"),
+        _ => put(rt, b" frame"),
     }
 }
 
-fn held(kind: u32, word: u32) {
+fn held(rt: &impl Print, kind: u32, word: u32) -> io::Result<()> {
     if kind != 0 {
-        put(b" value");
-        value(signed(word));
+        put(rt, b" value")?;
+        value(rt, signed(word))?;
     }
+    Ok(())
 }
 
 // A place behind what it is, unless it is nowhere.
-fn place(name: &[u8], word: u32) {
+fn place(rt: &impl Print, name: &[u8], word: u32) -> io::Result<()> {
     if word != 0 {
-        put(name);
-        number(word as u64 - 1);
+        put(rt, name)?;
+        number(rt, word as u64 - 1)?;
     }
+    Ok(())
 }
 
-fn variable(x: usize) {
-    put(b" x");
-    io::print_decimal(STDOUT_FILENO, x as u64);
+fn variable(rt: &impl Print, x: usize) -> io::Result<()> {
+    put(rt, b" x")?;
+    print!(rt; "{x}")
 }
 
-fn slot(kind: u32, word: u32, x: usize) {
+fn slot(rt: &impl Print, kind: u32, word: u32, x: usize) -> io::Result<()> {
     match kind {
-        EMPTY_SLOT => {}
+        EMPTY_SLOT => Ok(()),
         VALUE_SLOT => {
-            variable(x);
-            value(signed(word));
+            variable(rt, x)?;
+            value(rt, signed(word))
         }
         _ => {
-            variable(x);
-            put(b" cell");
-            number(word as u64);
+            variable(rt, x)?;
+            put(rt, b" cell")?;
+            number(rt, word as u64)
         }
     }
 }
 
-fn bindings(w: &[u32; Machine::WORDS], p: usize)
+fn bindings(rt: &impl Print, w: &[u32; Machine::WORDS], p: usize) -> io::Result<()>
     requires { p < 64 }
 {
     for x in 0..8 {
-        slot(token::bind_kind(w, p, x), token::bind_number(w, p, x), x);
+        slot(
+            rt,
+            token::bind_kind(w, p, x),
+            token::bind_number(w, p, x),
+            x,
+        )?;
     }
+    Ok(())
 }
 
-fn show_token(w: &[u32; Machine::WORDS], p: usize)
+fn show_token(rt: &impl Print, w: &[u32; Machine::WORDS], p: usize) -> io::Result<()>
     requires { p < 64 }
 {
-    put(b"  token");
-    number(p as u64);
-    state(token::state(w, p), token::state_number(w, p));
-    put(b" node");
-    number(token::node(w, p) as u64);
-    held(token::value_kind(w, p), token::value(w, p));
-    place(b" caller", token::caller(w, p));
-    place(b" cell", token::cell(w, p));
-    bindings(w, p);
-    put(b"\n");
+    put(rt, b"  token")?;
+    number(rt, p as u64)?;
+    state(rt, token::state(w, p), token::state_number(w, p))?;
+    put(rt, b" node")?;
+    number(rt, token::node(w, p) as u64)?;
+    held(rt, token::value_kind(w, p), token::value(w, p))?;
+    place(rt, b" caller", token::caller(w, p))?;
+    place(rt, b" cell", token::cell(w, p))?;
+    bindings(rt, w, p)?;
+    put(rt, b"\n")
 }
 
-fn tokens(w: &[u32; Machine::WORDS]) {
+fn tokens(rt: &impl Print, w: &[u32; Machine::WORDS]) -> io::Result<()> {
     for p in 0..Machine::TOKENS {
         if !token_is_blank(w, p) {
-            show_token(w, p);
+            show_token(rt, w, p)?;
         }
     }
+    Ok(())
 }
 
-fn show_cell(w: &[u32; Machine::WORDS], c: usize)
+fn show_cell(rt: &impl Print, w: &[u32; Machine::WORDS], c: usize) -> io::Result<()>
     requires { c < 32 }
 {
-    put(b"  cell");
-    number(c as u64);
-    place(b" parent", cell::parent(w, c));
-    held(cell::value_kind(w, c), cell::value(w, c));
-    put(b"\n");
+    put(rt, b"  cell")?;
+    number(rt, c as u64)?;
+    place(rt, b" parent", cell::parent(w, c))?;
+    held(rt, cell::value_kind(w, c), cell::value(w, c))?;
+    put(rt, b"\n")
 }
 
-fn cells(w: &[u32; Machine::WORDS]) {
+fn cells(rt: &impl Print, w: &[u32; Machine::WORDS]) -> io::Result<()> {
     for c in 0..Machine::CELLS {
         if !cell_is_blank(w, c) {
-            show_cell(w, c);
+            show_cell(rt, w, c)?;
         }
     }
+    Ok(())
 }
 
 // A word that counts, or with its index one behind those that is not 0.
-fn name(word: u32, i: usize, count: u32) {
+fn name(rt: &impl Print, word: u32, i: usize, count: u32) -> io::Result<()> {
     if (i as u64) < (count as u64) {
-        number(word as u64);
+        number(rt, word as u64)?;
     } else {
         if word != 0 {
-            put(b" behind");
-            number(i as u64);
-            number(word as u64);
+            put(rt, b" behind")?;
+            number(rt, i as u64)?;
+            number(rt, word as u64)?;
         }
     }
+    Ok(())
 }
 
 // An order: how many names count, and the 64 words from its start on.
-fn show_order(w: &[u32; Machine::WORDS], title: &[u8], start: usize, count: u32)
+fn show_order(
+    rt: &impl Print,
+    w: &[u32; Machine::WORDS],
+    title: &[u8],
+    start: usize,
+    count: u32,
+) -> io::Result<()>
     requires { start ≤ 1797 }
 {
-    put(title);
-    number(count as u64);
-    put(b":");
+    put(rt, title)?;
+    number(rt, count as u64)?;
+    put(rt, b":")?;
     for i in 0..Machine::TOKENS {
-        name(w[start + i], i, count);
+        name(rt, w[start + i], i, count)?;
     }
-    put(b"\n");
+    put(rt, b"\n")
 }
 
-fn orders(w: &[u32; Machine::WORDS]) {
-    show_order(w, b"  queue", QUEUE_START, order::queued(w));
-    show_order(w, b"  waits", WAITS_START, order::waiting(w));
-    show_order(w, b"  timers", TIMERS_START, order::timed(w));
+fn orders(rt: &impl Print, w: &[u32; Machine::WORDS]) -> io::Result<()> {
+    show_order(rt, w, b"  queue", QUEUE_START, order::queued(w))?;
+    show_order(rt, w, b"  waits", WAITS_START, order::waiting(w))?;
+    show_order(rt, w, b"  timers", TIMERS_START, order::timed(w))
 }
 
-fn counts(w: &[u32; Machine::WORDS]) {
-    put(b"  calls");
-    number(count::calls_made(w) as u64);
-    put(b" newtoken");
-    number(count::last_token(w) as u64);
-    put(b" newcell");
-    number(count::last_cell(w) as u64);
-    put(b" clock");
-    number(count::clock(w) as u64);
-    put(b"\n");
+fn counts(rt: &impl Print, w: &[u32; Machine::WORDS]) -> io::Result<()> {
+    put(rt, b"  calls")?;
+    number(rt, count::calls_made(w) as u64)?;
+    put(rt, b" newtoken")?;
+    number(rt, count::last_token(w) as u64)?;
+    put(rt, b" newcell")?;
+    number(rt, count::last_cell(w) as u64)?;
+    put(rt, b" clock")?;
+    number(rt, count::clock(w) as u64)?;
+    put(rt, b"\n")
 }
 
 // A word behind its index, unless it is 0.
-fn word(i: usize, word: u32) {
+fn word(rt: &impl Print, i: usize, word: u32) -> io::Result<()> {
     if word != 0 {
-        number(i as u64);
-        put(b":");
-        io::print_decimal(STDOUT_FILENO, word as u64);
+        number(rt, i as u64)?;
+        put(rt, b":")?;
+        print!(rt; "{word}")?;
     }
+    Ok(())
 }
 
-fn words(w: &[u32; Machine::WORDS]) {
-    put(b"  words");
+fn words(rt: &impl Print, w: &[u32; Machine::WORDS]) -> io::Result<()> {
+    put(rt, b"  words")?;
     for i in 0..Machine::WORDS {
-        word(i, w[i]);
+        word(rt, i, w[i])?;
     }
-    put(b"\n");
+    put(rt, b"\n")
 }
 
-pub fn record(w: &[u32; Machine::WORDS]) {
+pub fn record(rt: &impl Print, w: &[u32; Machine::WORDS]) -> io::Result<()> {
     if !is_record(w) {
-        words(w);
-        return;
+        return words(rt, w);
     }
-    tokens(w);
-    cells(w);
-    orders(w);
-    counts(w);
+    tokens(rt, w)?;
+    cells(rt, w)?;
+    orders(rt, w)?;
+    counts(rt, w)
 }

@@ -7,79 +7,82 @@ ghost use Rattle.std.specs.Prelude.{◌+◌, ◌≤◌, length};
 use entries::entry::four_bytes;
 use job::dag::{DEFINITION_COUNT, DEFINITIONS_START, HEAD_WORDS, ROW_WORDS, WORDS};
 use job::wide::wide;
-use libc::{STDIN_FILENO, STDOUT_FILENO};
 use loader::table;
 use loader::table::Loaded;
+use std::io;
+use streams::read_full;
 
-fn text(s: &[u8]) {
-    io::write_all(STDOUT_FILENO, s);
+fn text(rt: &impl Print, s: &[u8]) -> io::Result<()> {
+    rt.write_all(s)
 }
 
-fn number(n: u64) {
-    text(b" ");
-    io::print_decimal(STDOUT_FILENO, n);
+fn number(rt: &impl Print, n: u64) -> io::Result<()> {
+    print!(rt; " {n}")
 }
 
-fn word(w: u32) {
-    number(w as u64);
+fn word(rt: &impl Print, w: u32) -> io::Result<()> {
+    number(rt, w as u64)
 }
 
 // The words from one index to another, on a line.
-fn words(dag: &[u32; WORDS], from: usize, to: usize)
+fn words(rt: &impl Print, dag: &[u32; WORDS], from: usize, to: usize) -> io::Result<()>
     requires { to ≤ 12331 }
 {
     let mut i = from;
     while i < to {
-        word(dag[i]);
+        word(rt, dag[i])?;
         i += 1;
     }
-    text(b"\n");
+    text(rt, b"\n")
 }
 
 // The words of the head: three, and two for each definition.
-fn head(dag: &[u32; WORDS]) {
+fn head(rt: &impl Print, dag: &[u32; WORDS]) -> io::Result<()> {
     let definitions = wide(dag[DEFINITION_COUNT]);
     if definitions <= 32 {
-        text(b"head");
-        words(dag, 0, DEFINITIONS_START + 2 * definitions);
+        text(rt, b"head")?;
+        words(rt, dag, 0, DEFINITIONS_START + 2 * definitions)?;
     }
+    Ok(())
 }
 
 // The words of so many nodes.
-fn rows(dag: &[u32; WORDS], nodes: usize)
+fn rows(rt: &impl Print, dag: &[u32; WORDS], nodes: usize) -> io::Result<()>
     requires { nodes ≤ 1022 }
 {
     let mut i = 0;
     while i < nodes {
-        text(b"node");
+        text(rt, b"node")?;
         let at = HEAD_WORDS + ROW_WORDS * i;
-        words(dag, at, at + ROW_WORDS);
+        words(rt, dag, at, at + ROW_WORDS)?;
         i += 1;
     }
+    Ok(())
 }
 
-fn show(table: &[u8], dag: &mut [u32; WORDS]) {
+fn show(rt: &impl Print, table: &[u8], dag: &mut [u32; WORDS]) -> io::Result<()> {
     let answer = table::load(table, dag);
     match answer {
         Loaded::Refused(n, e) => {
-            text(b"refused");
-            number(n as u64);
-            number(e as u64);
-            text(b"\n");
+            text(rt, b"refused")?;
+            number(rt, n as u64)?;
+            number(rt, e as u64)?;
+            text(rt, b"\n")?;
         }
         Loaded::Dag(nodes) => {
-            text(b"dag");
-            number(nodes as u64);
-            text(b"\n");
+            text(rt, b"dag")?;
+            number(rt, nodes as u64)?;
+            text(rt, b"\n")?;
             if nodes <= 1022 {
-                head(dag);
-                rows(dag, nodes);
+                head(rt, dag)?;
+                rows(rt, dag, nodes)?;
             }
         }
     }
+    Ok(())
 }
 
-fn show_all(input: &[u8], n: usize)
+fn show_all(rt: &impl Print, input: &[u8], n: usize) -> io::Result<()>
     requires n_in_bounds { n ≤ length input.now }
     requires n_bound { n ≤ 65536 }
 {
@@ -89,17 +92,18 @@ fn show_all(input: &[u8], n: usize)
         let from = at + 4;
         let size = wide(four_bytes(input[at], input[at + 1], input[at + 2], input[at + 3]));
         if n - from < size {
-            text(b"short\n");
-            return;
+            text(rt, b"short\n")?;
+            return Ok(());
         }
         let to = from + size;
-        show(&input[from..to], &mut dag);
+        show(rt, &input[from..to], &mut dag)?;
         at = to;
     }
+    Ok(())
 }
 
-fn main() {
-    let mut input = io::large_buffer();
-    let n = io::read_full(STDIN_FILENO, &mut input);
-    show_all(&input, n);
+fn main(rt: HostRuntime) -> io::Result<()> {
+    let mut input = [0u8; 65536];
+    let n = read_full(&mut rt.stdin(), &mut input)?;
+    show_all(&rt, &input, n)
 }

@@ -2,7 +2,6 @@
 use Rattle.acts.proofs.EndRebind.{end-vacant, end-gives}
 use Rattle.acts.proofs.Outcomes.{gives-swept}
 use mathlib.Core.Path.{refl}
-use borrow.Author.Rules.{rules}
 use Rattle.acts.proofs.end.end.Goals as goal
 
 pub returns-then-linked : goal.returns-then-linked

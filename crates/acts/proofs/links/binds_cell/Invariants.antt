@@ -1,15 +1,11 @@
 use Rattle.acts.specs.Links.{binds_cell}
-use Rattle.acts.proofs.LinksBound.{cell-found, no-cell-next, no-cell-found}
 use Rattle.record.specs.Holds.{Codes}
-use Rattle.job.specs.Test.{for_some}
 use Rattle.model.specs.declared.record.Machine.{Machine}
 use Rattle.model.specs.Machine.Blank.{token_at}
 use Prim.Native.Nat.{◌≤◌, ◌-◌}
 use mathlib.Core.Bool.{false}
-use mathlib.Core.Path.{◌≡◌, refl}
+use mathlib.Core.Path.{◌≡◌}
 use lib.ListN.{take}
-use borrow.Author.Rules.{rules}
-use native.Mathlib.Omega.{arith}
 use Rattle.acts.proofs.links.binds_cell.Given as goal
 
 abbrev pub invariant-loop-x : goal.invariant-loop-x

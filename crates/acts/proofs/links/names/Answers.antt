@@ -3,7 +3,6 @@ use Rattle.acts.proofs.EndRebind.{no_place}
 use Rattle.acts.proofs.LinksBound.{binds-none}
 use Rattle.job.proofs.Test.{clash}
 use mathlib.Core.Path.{refl, sym, ◌∙◌}
-use borrow.Author.Rules.{rules}
 use Rattle.acts.proofs.links.names.Goals as goal
 
 pub returns-then-cell-eq0 : goal.returns-then-cell-eq0

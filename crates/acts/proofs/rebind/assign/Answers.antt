@@ -8,7 +8,6 @@ use Rattle.model.specs.Machine.Step.{value_of}
 use Rattle.model.specs.declared.token.Slot.TheVariants as slots
 use mathlib.Core.Path.{refl, sym, ◌∙◌}
 use native.Mathlib.Omega.{arith}
-use borrow.Author.Rules.{rules}
 use Rattle.acts.proofs.rebind.assign.Goals as goal
 
 pub dag_word-requires : goal.dag_word-requires

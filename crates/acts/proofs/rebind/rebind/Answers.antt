@@ -3,7 +3,6 @@ use Rattle.acts.proofs.EndRebind.{rebind-vacant, rebind-gives, no_cell}
 use Rattle.acts.proofs.Outcomes.{gives-swept}
 use Rattle.model.specs.declared.reply.Reply.TheVariants as replies
 use mathlib.Core.Path.{refl}
-use borrow.Author.Rules.{rules}
 use Rattle.acts.proofs.rebind.rebind.Goals as goal
 
 pub returns-then-old-eq-CELL_SLOT : goal.returns-then-old-eq-CELL_SLOT

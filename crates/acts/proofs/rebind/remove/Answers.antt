@@ -6,7 +6,6 @@ use Rattle.acts.proofs.Outcomes.{row, row_fits, token-inside}
 use Rattle.model.specs.declared.token.Slot.TheVariants as slots
 use mathlib.Core.Path.{refl, sym, ◌∙◌}
 use native.Mathlib.Omega.{arith}
-use borrow.Author.Rules.{rules}
 use Rattle.acts.proofs.rebind.remove.Goals as goal
 
 pub dag_word-requires : goal.dag_word-requires

@@ -1,6 +1,5 @@
 -- The token that is named is due, so the number of its state is its due time. Assumes nothing.
 use mathlib.Core.Path.{◌∙◌}
-use borrow.Author.Rules.{rules}
 use native.Mathlib.Omega.{arith}
 use Rattle.clock.proofs.WakeOneByOne.{name-inside, due-read}
 use Rattle.clock.proofs.advance.due_time.Goals as goal

@@ -2,12 +2,10 @@
 use mathlib.Core.Path.{◌≡◌, ◌∙◌, ap}
 use borrow.Author.Rules.{rules}
 use native.Mathlib.Omega.{arith}
-use Prim.Native.Nat.{◌+◌, ◌≤◌, ◌-◌}
-use Rattle.model.specs.declared.record.Machine.{Machine}
-use Rattle.record.specs.Holds.{Holds}
+use Prim.Native.Nat.{◌+◌, ◌-◌}
 use Rattle.record.proofs.HoldsShape.{timers-fit}
-use Rattle.clock.specs.WakeOneByOne.{ClockFacts, due_at}
-use Rattle.clock.proofs.EarliestSought.{Sought, sought-starts, sought-earlier, sought-passes, sought-as, sought-ends}
+use Rattle.clock.specs.WakeOneByOne.{due_at}
+use Rattle.clock.proofs.EarliestSought.{sought-starts, sought-earlier, sought-passes, sought-as, sought-ends}
 use Rattle.clock.proofs.advance.earliest.Goals as goal
 use Rattle.clock.proofs.advance.earliest.Goals.{then-due-bound, else-due-bound}
 
@@ -25,19 +23,18 @@ loop-i-init c = (
 )
 
 pub loop-i-preserved : goal.loop-i-preserved
-loop-i-preserved c =
-    (
-      search rules,
-      λ m h f n.
-          let so_far = c.loop-i.invariant.1 m h f n in
-          let due = c.wide-due.ensures ∙ c.due_time.ensures m h f (omega arith) in
-          elim c.if-due-bound.branch [
-            | then-due-bound w ↦
-                sought-as (due_at m) _ w.found-is w.bound-is (sought-earlier (due_at m) _ _ due so_far w.if-due-bound.true)
-            | else-due-bound w ↦
-                sought-as (due_at m) _ w.found-is w.bound-is (sought-passes (due_at m) _ _ due so_far w.if-due-bound.false)
-          ],
-    )
+loop-i-preserved c = (
+  search rules,
+  λ m h f n.
+      let so_far = c.loop-i.invariant.1 m h f n in
+      let due = c.wide-due.ensures ∙ c.due_time.ensures m h f (omega arith) in
+      elim c.if-due-bound.branch [
+        | then-due-bound w ↦
+            sought-as (due_at m) _ w.found-is w.bound-is (sought-earlier (due_at m) _ _ due so_far w.if-due-bound.true)
+        | else-due-bound w ↦
+            sought-as (due_at m) _ w.found-is w.bound-is (sought-passes (due_at m) _ _ due so_far w.if-due-bound.false)
+      ],
+)
 
 pub returns : goal.returns
 returns c = λ m h f.

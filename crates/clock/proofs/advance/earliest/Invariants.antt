@@ -1,13 +1,9 @@
-use mathlib.Core.Path.{◌≡◌, ◌∙◌, ap}
-use mathlib.Core.Logic.{⊎_elim}
-use borrow.Author.Rules.{rules}
-use native.Mathlib.Omega.{arith}
-use Prim.Native.Nat.{◌+◌, ◌≤◌, ◌-◌}
+use mathlib.Core.Path.{◌≡◌}
+use Prim.Native.Nat.{◌≤◌, ◌-◌}
 use Rattle.model.specs.declared.record.Machine.{Machine}
 use Rattle.record.specs.Holds.{Holds}
-use Rattle.record.proofs.HoldsShape.{timers-fit}
 use Rattle.clock.specs.WakeOneByOne.{ClockFacts, due_at}
-use Rattle.clock.proofs.EarliestSought.{Sought, sought-starts, sought-earlier, sought-passes, sought-as, sought-ends}
+use Rattle.clock.proofs.EarliestSought.{Sought}
 use Rattle.clock.proofs.advance.earliest.Given as goal
 
 abbrev pub invariant-loop-i : goal.invariant-loop-i

@@ -1,5 +1,4 @@
 -- All wake, then the clock shows the new time: so the definition has it. Assumes nothing.
-use borrow.Author.Rules.{rules}
 use Rattle.model.specs.Machine.Clock.{after_advance}
 use Rattle.clock.proofs.WakeOneByOne.{clock-facts}
 use Rattle.clock.proofs.advance.move_clock.Goals as goal

@@ -1,6 +1,5 @@
 -- The two comparisons are the two of the definition. Assumes nothing.
 use mathlib.Core.Path.{sym, ap, ◌∙◌}
-use borrow.Author.Rules.{rules}
 use native.Mathlib.Omega.{arith}
 use lib.Dec.{leb}
 use Rattle.job.specs.Test.{◌and◌}

@@ -1,6 +1,5 @@
 -- Each write is one of the definition's, at the name that the order of call has at the index. Assumes nothing.
 use mathlib.Core.Path.{◌∙◌, refl, sym, subst}
-use borrow.Author.Rules.{rules}
 use native.Mathlib.Omega.{arith}
 use lib.IntN.{pos}
 use Rattle.job.specs.Number.{unsigned}

@@ -1,11 +1,7 @@
 -- After each turn those woken and those that are left are, all woken, what the definition has. Assumes nothing.
 use mathlib.Core.Path.{◌∙◌}
-use borrow.Author.Rules.{rules}
 use native.Mathlib.Omega.{arith}
-use Rattle.model.specs.declared.record.Machine.{Machine}
-use Rattle.record.specs.Holds.{Holds}
-use Rattle.clock.specs.WakeOneByOne.{ClockFacts}
-use Rattle.clock.proofs.WakeOneByOne.{Waking, waking-starts, waking-over, waking-done, waking-more}
+use Rattle.clock.proofs.WakeOneByOne.{waking-starts, waking-over, waking-done, waking-more}
 use Rattle.clock.proofs.advance.wake_due.Goals as goal
 
 pub loop-left-init : goal.loop-left-init

@@ -1,10 +1,7 @@
-use mathlib.Core.Path.{◌∙◌}
-use borrow.Author.Rules.{rules}
-use native.Mathlib.Omega.{arith}
 use Rattle.model.specs.declared.record.Machine.{Machine}
 use Rattle.record.specs.Holds.{Holds}
 use Rattle.clock.specs.WakeOneByOne.{ClockFacts}
-use Rattle.clock.proofs.WakeOneByOne.{Waking, waking-starts, waking-over, waking-done, waking-more}
+use Rattle.clock.proofs.WakeOneByOne.{Waking}
 use Rattle.clock.proofs.advance.wake_due.Given as goal
 
 abbrev pub invariant-loop-left : goal.invariant-loop-left

@@ -1,6 +1,6 @@
 -- `words::binds_coded` meets its contract: what is left of the slots decides. Assumes nothing.
 use mathlib.Core.Path.{◌≡◌, ap}
-use Prim.Native.Nat.{◌+◌, ◌*◌, ◌-◌, ◌≤◌}
+use Prim.Native.Nat.{◌+◌, ◌*◌, ◌-◌}
 use native.Mathlib.Omega.{arith}
 use lib.ListN.{drop}
 use Rattle.coded.proofs.WordTests.{slots-on, slots-fail, slots_end}
@@ -14,10 +14,10 @@ loop-x-init c = let z : c.args.at ≡ c.args.at + 2 * 0 = omega arith in
 
 pub loop-x-preserved : goal.loop-x-preserved
 loop-x-preserved c = let l = c.loop-x in (
-      search rules,
-      slots-on _ _ l.x _ (search rules) l.invariant.1 _ _ _ c.word.ensures c.word-in-loop-x.ensures
-          c.slot_coded-ok.ensures c.if-ok.true,
-    )
+  search rules,
+  slots-on _ _ l.x _ (search rules) l.invariant.1 _ _ _ c.word.ensures c.word-in-loop-x.ensures
+      c.slot_coded-ok.ensures c.if-ok.true,
+)
 
 pub returns-else-ok : goal.returns-else-ok
 returns-else-ok c = let l = c.loop-x in

@@ -1,10 +1,7 @@
-use mathlib.Core.Path.{◌≡◌, ap}
+use mathlib.Core.Path.{◌≡◌}
 use Prim.Native.Nat.{◌+◌, ◌*◌, ◌-◌, ◌≤◌}
-use native.Mathlib.Omega.{arith}
 use lib.ListN.{drop}
-use Rattle.coded.proofs.WordTests.{slots-on, slots-fail, slots_end}
 use Rattle.coded.specs.WordTests.{binds_coded}
-use borrow.Author.Rules.{rules}
 use Rattle.coded.proofs.word_tests.binds_coded.Given as goal
 
 abbrev pub invariant-loop-x : goal.invariant-loop-x

@@ -1,9 +1,8 @@
 -- `words::cells_coded` meets its contract: what is left of the table decides. Assumes nothing.
-use mathlib.Core.Path.{◌≡◌, refl, sym, ◌∙◌}
-use Prim.Native.Nat.{◌*◌, ◌-◌, ◌≤◌}
+use mathlib.Core.Path.{refl, sym, ◌∙◌}
+use Prim.Native.Nat.{◌-◌}
 use native.Mathlib.Omega.{arith}
-use lib.ListN.{drop}
-use Rattle.coded.specs.WordTests.{table_coded, cell_coded}
+use Rattle.coded.specs.WordTests.{cell_coded}
 use Rattle.coded.proofs.WordTests.{table_on, table-fail, table-end, cell_at}
 use borrow.Author.Rules.{rules}
 use Rattle.coded.proofs.word_tests.cells_coded.Goals as goal
@@ -13,10 +12,10 @@ loop-c-init c = (search rules, refl)
 
 pub loop-c-preserved : goal.loop-c-preserved
 loop-c-preserved c = let l = c.loop-c in (
-      search rules,
-      table_on cell_coded 4 32 _ l.c _ l.invariant.1 (search rules) (omega arith)
-          (cell_at _ l.c ∙ sym c.cell_row_coded-ok.ensures ∙ c.if-ok.true),
-    )
+  search rules,
+  table_on cell_coded 4 32 _ l.c _ l.invariant.1 (search rules) (omega arith)
+      (cell_at _ l.c ∙ sym c.cell_row_coded-ok.ensures ∙ c.if-ok.true),
+)
 
 pub returns-else-ok : goal.returns-else-ok
 returns-else-ok c = let l = c.loop-c in

@@ -5,7 +5,6 @@ use native.Mathlib.Omega.{arith}
 use Rattle.job.proofs.Test.{clash}
 use Rattle.coded.proofs.IsRecord.{coded-record, record-codes}
 use Rattle.coded.proofs.WordTests.{all_coded, not-coded}
-use borrow.Author.Rules.{rules}
 use Rattle.coded.proofs.word_tests.is_coded.Goals as goal
 
 pub returns-then-ok : goal.returns-then-ok
@@ -16,8 +15,8 @@ returns-then-ok c = let long = c.requires in
     (e, λ t. record-codes _ long (sym e ∙ t))
 
 pub returns : goal.returns
-returns c =     (
-      not-coded _ _ c.rows_coded-ok.ensures c.if-ok.false
-          ∙ coded-record _ c.requires (λ i. omega (arith, c.shared_slice_known-1.given i)),
-      λ t. clash t refl,
-    )
+returns c = (
+  not-coded _ _ c.rows_coded-ok.ensures c.if-ok.false
+      ∙ coded-record _ c.requires (λ i. omega (arith, c.shared_slice_known-1.given i)),
+  λ t. clash t refl,
+)

@@ -1,10 +1,7 @@
-use mathlib.Core.Path.{◌≡◌, refl, sym, ◌∙◌}
+use mathlib.Core.Path.{◌≡◌}
 use Prim.Native.Nat.{◌*◌, ◌-◌, ◌≤◌}
-use native.Mathlib.Omega.{arith}
 use lib.ListN.{drop}
 use Rattle.coded.specs.WordTests.{table_coded, row_coded}
-use Rattle.coded.proofs.WordTests.{table_on, table-fail, table-end}
-use borrow.Author.Rules.{rules}
 use Rattle.coded.proofs.word_tests.rows_coded.Given as goal
 
 abbrev pub invariant-loop-p : goal.invariant-loop-p

@@ -2,7 +2,6 @@
 use native.Mathlib.Omega.{arith}
 use Rattle.coded.proofs.IsRecord.{record-codes}
 use Rattle.coded.proofs.IsRecordRows.{all-coded-record}
-use borrow.Author.Rules.{rules}
 use Rattle.coded.proofs.word_tests.whole.Goals as goal
 
 pub returns : goal.returns

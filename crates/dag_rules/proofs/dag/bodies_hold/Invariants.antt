@@ -1,14 +1,9 @@
-use mathlib.Core.Path.{◌≡◌, sym, ◌∙◌}
-use Prim.Native.Nat.{◌-◌, ◌≤◌, ◌<◌}
-use native.Mathlib.Omega.{arith}
-use lib.ListN.{take, get_or}
+use mathlib.Core.Path.{◌≡◌}
+use Prim.Native.Nat.{◌-◌, ◌≤◌}
+use lib.ListN.{take}
 use Rattle.job.specs.Test.{for_all}
-use Rattle.job.specs.Node.{Body, body_holds}
+use Rattle.job.specs.Node.{body_holds}
 use Rattle.job.specs.Words.{dag_of}
-use Rattle.dag_rules.proofs.DagLaws.{bodies-length, body-holds-at}
-use Rattle.job.proofs.Both.{both_is}
-use Rattle.job.proofs.Loop.{all-turn, done}
-use borrow.Author.Rules.{rules}
 use Rattle.dag_rules.proofs.dag.bodies_hold.Given as goal
 
 abbrev pub invariant-loop-i : goal.invariant-loop-i

@@ -1,8 +1,8 @@
 -- `dag::nodes_hold` meets its contract: after i turns the flag says whether the first i nodes hold. Assumes nothing.
-use mathlib.Core.Path.{◌≡◌, sym, ◌∙◌, ap}
-use Prim.Native.Nat.{◌+◌, ◌-◌, ◌*◌, ◌≤◌, ◌<◌}
+use mathlib.Core.Path.{sym, ◌∙◌, ap}
+use Prim.Native.Nat.{◌+◌, ◌*◌, ◌<◌}
 use native.Mathlib.Omega.{arith}
-use lib.ListN.{take, get_or}
+use lib.ListN.{get_or}
 use Rattle.job.specs.Test.{for_all}
 use Rattle.job.specs.Node.{Node, node_holds}
 use Rattle.job.specs.Words.{dag_of}

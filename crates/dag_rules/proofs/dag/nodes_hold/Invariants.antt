@@ -1,14 +1,9 @@
-use mathlib.Core.Path.{◌≡◌, sym, ◌∙◌, ap}
-use Prim.Native.Nat.{◌+◌, ◌-◌, ◌*◌, ◌≤◌, ◌<◌}
-use native.Mathlib.Omega.{arith}
-use lib.ListN.{take, get_or}
+use mathlib.Core.Path.{◌≡◌}
+use Prim.Native.Nat.{◌-◌, ◌≤◌}
+use lib.ListN.{take}
 use Rattle.job.specs.Test.{for_all}
-use Rattle.job.specs.Node.{Node, node_holds}
+use Rattle.job.specs.Node.{node_holds}
 use Rattle.job.specs.Words.{dag_of}
-use Rattle.dag_rules.specs.NodeWords.{row_holds}
-use Rattle.dag_rules.proofs.DagLaws.{nodes-length, node-holds-at, row-part}
-use Rattle.job.proofs.Loop.{all-turn, done}
-use borrow.Author.Rules.{rules}
 use Rattle.dag_rules.proofs.dag.nodes_hold.Given as goal
 
 abbrev pub invariant-loop-i : goal.invariant-loop-i

@@ -12,4 +12,4 @@ pub returns-then-dag-gt-DEFINITION_LIMIT : goal.returns-then-dag-gt-DEFINITION_L
 returns-then-dag-gt-DEFINITION_LIMIT c = search (rules, many-bodies)
 
 pub returns : goal.returns
-returns c =     three refl c.bodies_hold.ensures c.nodes_hold.ensures ∙ sym (holds-by-parts _ (search rules) (search rules))
+returns c = three refl c.bodies_hold.ensures c.nodes_hold.ensures ∙ sym (holds-by-parts _ (search rules) (search rules))

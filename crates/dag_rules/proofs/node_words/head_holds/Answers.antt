@@ -3,7 +3,6 @@ use mathlib.Core.Path.{sym}
 use Rattle.dag_rules.specs.NodeWords.{head_holds}
 use Rattle.job.proofs.Both.{both_is, three-are, NoneBelow, none_below}
 use Rattle.dag_rules.proofs.NodeWords.{head-past}
-use borrow.Author.Rules.{rules}
 use Rattle.dag_rules.proofs.node_words.head_holds.Goals as goal
 
 pub returns-in-0 : goal.returns-in-0

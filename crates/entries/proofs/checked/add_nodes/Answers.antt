@@ -1,5 +1,4 @@
 -- `checked::add_nodes` meets its contract: the answer's variant decides, and two numbers below 4096 have a sum that fits. Assumes nothing.
-use borrow.Author.Rules.{rules}
 use native.Mathlib.Omega.{arith}
 use Rattle.entries.proofs.CheckedLaws.{nodes-next, more-next, more-refused}
 use Rattle.entries.proofs.checked.add_nodes.Goals as goal

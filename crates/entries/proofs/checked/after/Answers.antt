@@ -1,5 +1,4 @@
 -- `checked::after` meets its contract: the first answer's variant decides. Assumes nothing.
-use borrow.Author.Rules.{rules}
 use Rattle.entries.proofs.CheckedLaws.{after-refused, after_next}
 use Rattle.entries.proofs.checked.after.Goals as goal
 

@@ -1,5 +1,4 @@
 -- `entry::fault` meets its contract: there is a law for each way out of the tests. Assumes nothing.
-use borrow.Author.Rules.{rules}
 use Rattle.entries.proofs.EntryFault.{fault-3, fault-4, fault-6, fault-none, fault-7, fault-room}
 use Rattle.entries.proofs.entry.fault.Goals as goal
 

@@ -1,5 +1,4 @@
 -- `entry::row_holds` meets its contract: each answer is that of the kind's row. Assumes nothing.
-use borrow.Author.Rules.{rules}
 use mathlib.Core.Path.{sym, ◌∙◌}
 use native.Mathlib.Omega.{arith}
 use Rattle.entries.proofs.EntryKinds.{row-site, row-call, row_zero}

@@ -1,6 +1,5 @@
 -- `expression::check_expression` meets its contract: there is a law for each way out, the depth left falls, and the nodes of a
 -- table of 512 entries are few enough for their sums to fit. Assumes nothing.
-use Prim.Native.Nat.{ℕ, ◌<◌}
 use borrow.Author.Rules.{rules, Fits-under}
 use mir.Syntax.{w64}
 use Rattle.entries.proofs.ExpressionNodes.{sum-few, nodes-few}

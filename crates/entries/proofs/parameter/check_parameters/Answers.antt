@@ -1,10 +1,9 @@
 -- `parameter::check_parameters` meets its contract. The loop's invariant: what is left decides. The number of parameters left falls.
 -- Assumes nothing.
 use mathlib.Core.Path.{refl}
-use borrow.Author.Rules.{rules, Fits-under}
+use borrow.Author.Rules.{Fits-under}
 use mir.Syntax.{w64}
-use Rattle.entries.specs.Scope.{ForEvery}
-use Rattle.entries.proofs.ParameterLaws.{Left, params-end, params-refused, params_more, params_fit}
+use Rattle.entries.proofs.ParameterLaws.{params-end, params-refused, params_more, params_fit}
 use Rattle.entries.proofs.parameter.check_parameters.Goals as goal
 
 pub loop-left-init : goal.loop-left-init

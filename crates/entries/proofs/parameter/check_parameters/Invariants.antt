@@ -1,8 +1,5 @@
-use mathlib.Core.Path.{refl}
-use borrow.Author.Rules.{rules, Fits-under}
-use mir.Syntax.{w64}
 use Rattle.entries.specs.Scope.{ForEvery}
-use Rattle.entries.proofs.ParameterLaws.{Left, params-end, params-refused, params_more, params_fit}
+use Rattle.entries.proofs.ParameterLaws.{Left}
 use Rattle.entries.proofs.parameter.check_parameters.Given as goal
 
 abbrev pub invariant-loop-left : goal.invariant-loop-left

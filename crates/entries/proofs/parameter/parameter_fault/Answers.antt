@@ -1,5 +1,4 @@
 -- `parameter::parameter_fault` meets its contract: there is a law for each way out of the tests. Assumes nothing.
-use borrow.Author.Rules.{rules}
 use Rattle.entries.proofs.ParameterLaws.{param_end, param-constant, param-other, param_in, param-out}
 use Rattle.entries.proofs.parameter.parameter_fault.Goals as goal
 

@@ -1,5 +1,4 @@
 -- `scope::bind` meets its contract: one bit more is one number more. Assumes nothing.
-use borrow.Author.Rules.{rules}
 use Rattle.entries.proofs.ScopeLaws.{bind-means}
 use Rattle.entries.proofs.scope.bind.Goals as goal
 

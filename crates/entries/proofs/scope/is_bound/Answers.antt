@@ -1,5 +1,4 @@
 -- `scope::is_bound` meets its contract: no number from 8 on is bound, and the bit of another says whether it is. Assumes nothing.
-use borrow.Author.Rules.{rules}
 use Rattle.entries.proofs.ScopeLaws.{bound-out, bound-in}
 use Rattle.entries.proofs.scope.is_bound.Goals as goal
 

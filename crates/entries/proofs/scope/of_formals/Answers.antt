@@ -1,5 +1,4 @@
 -- `scope::of_formals` meets its contract: the lowest bits are the formals. Assumes nothing.
-use borrow.Author.Rules.{rules}
 use Rattle.entries.proofs.ScopeLaws.{shifted-some, formals-mean}
 use Rattle.entries.proofs.scope.of_formals.Goals as goal
 

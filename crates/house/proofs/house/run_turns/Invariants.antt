@@ -1,15 +1,13 @@
-use borrow.Author.Rules.{rules}
-use native.Mathlib.Omega.{arith}
-use mathlib.Core.Path.{◌≡◌, refl}
+use mathlib.Core.Path.{◌≡◌}
 use Prim.Native.Nat.{◌+◌, ◌-◌}
 use lib.ListN.{length}
-use Rattle.house.proofs.HouseLent.{Lent, lent-begins, lent-last, lent-there, lent-delivers, lent-delivers-less, lent_limit}
-use Rattle.house.proofs.HouseLent.{lent-ready}
-use Rattle.house.proofs.HouseLent.{lent-few, lent-ends, lent-steps, lent-steps-less}
+use Rattle.house.proofs.HouseLent.{Lent}
 use Rattle.house.proofs.house.run_turns.Given as goal
 
 abbrev pub invariant-loop-left : goal.invariant-loop-left
-invariant-loop-left l =     Lent l.dag l.rest l.initial.output l.from l.w l.tokens l.cells l.shared l.steps l.at l.total l.output × (length l.output ≡ length l.initial.output)
+invariant-loop-left l =
+    Lent l.dag l.rest l.initial.output l.from l.w l.tokens l.cells l.shared l.steps l.at l.total l.output × (length l.output ≡ length
+    l.initial.output)
 
 abbrev pub decreases-loop-left : goal.decreases-loop-left
-decreases-loop-left l =     (100000 - l.steps) + (length l.rest - l.at)
+decreases-loop-left l = (100000 - l.steps) + (length l.rest - l.at)

@@ -1,6 +1,5 @@
 -- `turn::step_turn` meets its contract: the step is the turn's outcome, and a reply without a line prints nothing. Assumes nothing.
 use mathlib.Core.Path.{sym, ◌∙◌}
-use borrow.Author.Rules.{rules}
 use native.Mathlib.Omega.{arith}
 use Rattle.lines.proofs.ShownBytes.{shows-none, shows-as}
 use Rattle.turns.proofs.TurnCases.{over-ready}

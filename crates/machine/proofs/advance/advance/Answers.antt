@@ -1,7 +1,5 @@
 -- `advance::advance` meets its contract: each way out is how the definition's call ends there. Assumes nothing.
 use Rattle.machine.proofs.PublicCalls.{advance-rule, advance-gives}
-use borrow.Author.Rules.{rules}
-use Rattle.job.proofs.Test.{not-true, not-false}
 use Rattle.machine.proofs.advance.advance.Goals as goal
 
 pub returns-then-not-is_lawful : goal.returns-then-not-is_lawful

@@ -4,7 +4,6 @@ use mir.Syntax.{w32}
 use mir.Val.{SFits}
 use mir.Facts.{to_z-of_z}
 use borrow.Author.Rules.{rules}
-use Rattle.job.proofs.Test.{not-true, not-false}
 use Rattle.machine.proofs.answer.answer.Goals as goal
 
 pub returns-then-not-is_lawful : goal.returns-then-not-is_lawful

@@ -7,14 +7,17 @@ use borrow.Author.Rules.{rules}
 use Rattle.machine.proofs.lawful.is_lawful.Goals as goal
 
 pub returns : goal.returns
-returns c = let tested = c.rules_hold.ensures in record { value = both-tested _ _ _ tested.words
-          (λ e. let marks = c.in_use.ensures _ (tested.codes e) in tested.rules (tested.codes e) marks.0 marks.1); lawful = (λ e.
-          let codes = tested.codes (tested.words e) in
-          let marks = c.in_use.ensures _ codes in
-          let hold = sym (tested.rules codes marks.0 marks.1) ∙ e in
-          record {
-            holds = rules-hold-words paper _ _ hold codes;
-            rules = hold;
-            marks = record { tokens = marks.0; cells = marks.1 };
-            size = c.whole.ensures;
-          }) }
+returns c = let tested = c.rules_hold.ensures in record {
+  value = both-tested _ _ _ tested.words
+      (λ e. let marks = c.in_use.ensures _ (tested.codes e) in tested.rules (tested.codes e) marks.0 marks.1);
+  lawful = (λ e.
+      let codes = tested.codes (tested.words e) in
+      let marks = c.in_use.ensures _ codes in
+      let hold = sym (tested.rules codes marks.0 marks.1) ∙ e in
+      record {
+        holds = rules-hold-words paper _ _ hold codes;
+        rules = hold;
+        marks = record { tokens = marks.0; cells = marks.1 };
+        size = c.whole.ensures;
+      });
+}

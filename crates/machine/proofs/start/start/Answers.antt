@@ -1,7 +1,6 @@
 -- `start::start` meets its contract: each way out is how the definition's call ends there. Assumes nothing.
 use Rattle.machine.proofs.PublicCalls.{start-gave, start-refused}
 use mathlib.Core.Path.{refl, sym, ◌∙◌}
-use borrow.Author.Rules.{rules}
 use Rattle.machine.proofs.start.start.Goals as goal
 
 pub returns-then-dag_holds : goal.returns-then-dag_holds

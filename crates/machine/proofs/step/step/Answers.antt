@@ -2,8 +2,6 @@
 use Rattle.machine.proofs.PublicCalls.{step-rule, step_gives, step-no-token}
 use native.Mathlib.Omega.{arith}
 use Rattle.acts.proofs.SharedFrames.{all-shared}
-use borrow.Author.Rules.{rules}
-use Rattle.job.proofs.Test.{not-true, not-false}
 use Rattle.machine.proofs.step.step.Goals as goal
 
 pub returns-then-not-is_lawful : goal.returns-then-not-is_lawful

@@ -1,7 +1,6 @@
 -- A place beyond the marks is not marked. The test of the place comes first, so no mark is read there. Assumes nothing.
 use mathlib.Core.Bool.{false}
 use mathlib.Core.Path.{sym, ap}
-use borrow.Author.Rules.{rules}
 use native.Mathlib.Omega.{arith}
 use lib.ListN.{get_or, get_or-eq_default}
 use Rattle.orders.proofs.names.is_marked.Goals as goal

@@ -1,11 +1,10 @@
 -- `names::left_out` meets its contract. The loop's invariant: the names, with the carried one among them, are those at the start and the
 -- last word. Assumes nothing.
-use mathlib.Core.Path.{◌≡◌, refl, ◌∙◌}
-use Prim.Native.Nat.{◌≤◌, ◌-◌}
+use mathlib.Core.Path.{refl, ◌∙◌}
+use Prim.Native.Nat.{◌-◌}
 use native.Mathlib.Omega.{arith}
-use lib.ListN.{length, drop}
 use lib.Seq.{drop-set-lt}
-use Rattle.orders.proofs.NamesPadded.{Carries, carries-first, carries-next, carries-last}
+use Rattle.orders.proofs.NamesPadded.{carries-first, carries-next, carries-last}
 use borrow.Author.Rules.{rules}
 use Rattle.orders.proofs.names.left_out.Goals as goal
 

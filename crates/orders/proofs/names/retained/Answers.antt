@@ -1,9 +1,7 @@
 -- Each turn takes a name out and puts it behind those kept so far if it is marked, as `TurnLeaves` says. Assumes nothing.
-use borrow.Author.Rules.{rules}
 use native.Mathlib.Omega.{arith}
-use Prim.Native.Nat.{◌-◌}
 use lib.ListN.{length-set}
-use Rattle.orders.proofs.NamesRetained.{TurnLeaves, turned-first, turned-drops, turned-keeps, retained-all}
+use Rattle.orders.proofs.NamesRetained.{turned-first, turned-drops, turned-keeps, retained-all}
 use Rattle.orders.proofs.names.retained.Goals as goal
 use Rattle.orders.proofs.names.retained.Goals.{then-is_marked, else-is_marked}
 

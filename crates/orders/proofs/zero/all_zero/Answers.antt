@@ -1,8 +1,6 @@
 -- `zero::all_zero` meets its contract: the bits are 0 exactly when the words up to i are. Assumes nothing.
 use mathlib.Core.Path.{◌≡◌, ◌∙◌, ap}
-use Prim.Native.Nat.{◌-◌, ◌≤◌}
 use native.Mathlib.Omega.{arith}
-use lib.Dec.{eqb}
 use Rattle.orders.proofs.ZeroLaws.{zero_to, zero-none, zero_turn}
 use borrow.Author.Rules.{rules}
 use Rattle.orders.proofs.zero.all_zero.Goals as goal
@@ -12,10 +10,10 @@ loop-i-init c = (search rules, search rules, zero-none c.args.words.now c.args.f
 
 pub loop-i-preserved : goal.loop-i-preserved
 loop-i-preserved c = let now = c.loop-i in (
-      search rules,
-      search rules,
-      zero_turn c.args.words.now c.args.from now.i now.bits now.invariant.0 (search rules) now.invariant.2,
-    )
+  search rules,
+  search rules,
+  zero_turn c.args.words.now c.args.from now.i now.bits now.invariant.0 (search rules) now.invariant.2,
+)
 
 pub returns : goal.returns
 returns c = let start = c.args in

@@ -1,9 +1,7 @@
-use mathlib.Core.Path.{◌≡◌, ◌∙◌, ap}
+use mathlib.Core.Path.{◌≡◌}
 use Prim.Native.Nat.{◌-◌, ◌≤◌}
-use native.Mathlib.Omega.{arith}
 use lib.Dec.{eqb}
-use Rattle.orders.proofs.ZeroLaws.{zero_to, zero-none, zero_turn}
-use borrow.Author.Rules.{rules}
+use Rattle.orders.proofs.ZeroLaws.{zero_to}
 use Rattle.orders.proofs.zero.all_zero.Given as goal
 
 abbrev pub invariant-loop-i : goal.invariant-loop-i

@@ -1,8 +1,8 @@
 -- `place::nearest` meets its contract. The loop's invariant: `best` is the distance of the nearest of the places looked at. Assumes
 -- nothing.
-use Prim.Native.Nat.{◌-◌, ◌≤◌}
+use Prim.Native.Nat.{◌-◌}
 use borrow.Author.Rules.{rules}
-use Rattle.places.proofs.PlaceNearest.{Nearest, nearest-none, nearest-taken, nearest-passed, nearest-full, nearest-place}
+use Rattle.places.proofs.PlaceNearest.{nearest-none, nearest-taken, nearest-passed, nearest-full, nearest-place}
 use Rattle.places.proofs.place.nearest.Goals as goal
 use Rattle.places.proofs.place.nearest.Goals.{then-d-best, else-d-best}
 

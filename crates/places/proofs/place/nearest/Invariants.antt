@@ -1,7 +1,5 @@
-use mathlib.Core.Logic.{⊎_elim}
 use Prim.Native.Nat.{◌-◌, ◌≤◌}
-use borrow.Author.Rules.{rules}
-use Rattle.places.proofs.PlaceNearest.{Nearest, nearest-none, nearest-taken, nearest-passed, nearest-full, nearest-place}
+use Rattle.places.proofs.PlaceNearest.{Nearest}
 use Rattle.places.proofs.place.nearest.Given as goal
 
 abbrev pub invariant-loop-i : goal.invariant-loop-i

@@ -1,9 +1,7 @@
 -- `place::next_of` meets its contract. The loop's invariant: the search goes on at `p`, over the places that are left. Assumes nothing.
-use mathlib.Core.Path.{◌≡◌}
-use Prim.Native.Nat.{◌-◌, ◌≤◌}
+use Prim.Native.Nat.{◌-◌}
 use borrow.Author.Rules.{rules}
-use Rattle.reach.specs.Marks.{next_or}
-use Rattle.places.proofs.PlaceSearch.{seek, place-first, place_none, place_found, place-next}
+use Rattle.places.proofs.PlaceSearch.{place-first, place_none, place_found, place-next}
 use Rattle.places.proofs.place.next_of.Goals as goal
 
 pub loop-n-init : goal.loop-n-init

@@ -1,8 +1,7 @@
 use mathlib.Core.Path.{◌≡◌}
 use Prim.Native.Nat.{◌-◌, ◌≤◌}
-use borrow.Author.Rules.{rules}
 use Rattle.reach.specs.Marks.{next_or}
-use Rattle.places.proofs.PlaceSearch.{seek, place-first, place_none, place_found, place-next}
+use Rattle.places.proofs.PlaceSearch.{seek}
 use Rattle.places.proofs.place.next_of.Given as goal
 
 abbrev pub invariant-loop-n : goal.invariant-loop-n

@@ -1,6 +1,5 @@
 -- The row ends, wakes or stays as the token does, since its words say where it belongs and where it waits. Assumes nothing.
 use mathlib.Core.Path.{refl, sym, subst, ◌∙◌}
-use borrow.Author.Rules.{rules}
 use Rattle.model.specs.Machine.Blank.{token_at}
 use Rattle.model.specs.declared.token.State.TheVariants as states
 use Rattle.record.proofs.TokenRow.{put_self}

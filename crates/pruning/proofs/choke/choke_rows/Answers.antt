@@ -2,14 +2,12 @@
 use mathlib.Core.Path.{◌≡◌, sym, subst}
 use borrow.Author.Rules.{rules}
 use native.Mathlib.Omega.{arith}
-use Prim.Native.Nat.{◌≤◌, ◌-◌}
-use Rattle.model.specs.declared.record.Machine.{Machine}
+use Prim.Native.Nat.{◌-◌}
 use Rattle.record.specs.Holds.{Holds}
 use Rattle.model.specs.Machine.Step.{choke_token}
 use Rattle.model.specs.Machine.Update.{with_tables}
 use Rattle.sites.proofs.TableLoops.{rows_none, rows_more}
 use Rattle.pruning.proofs.ChokeLaws.{rows-rest}
-use Rattle.pruning.specs.Choke.{rows_choked}
 use Rattle.pruning.proofs.choke.choke_rows.Goals as goal
 
 pub loop-p-init : goal.loop-p-init
@@ -25,7 +23,7 @@ loop-p-preserved c = (
 )
 
 pub returns : goal.returns
-returns c =     λ m h blank.
+returns c = λ m h blank.
     let l = c.loop-p in
     let over : l.p ≡ c.args.end = omega arith in
     subst (Holds _)

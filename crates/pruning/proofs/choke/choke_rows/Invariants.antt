@@ -1,13 +1,6 @@
-use mathlib.Core.Path.{◌≡◌, sym, subst}
-use borrow.Author.Rules.{rules}
-use native.Mathlib.Omega.{arith}
 use Prim.Native.Nat.{◌≤◌, ◌-◌}
 use Rattle.model.specs.declared.record.Machine.{Machine}
 use Rattle.record.specs.Holds.{Holds}
-use Rattle.model.specs.Machine.Step.{choke_token}
-use Rattle.model.specs.Machine.Update.{with_tables}
-use Rattle.sites.proofs.TableLoops.{rows_none, rows_more}
-use Rattle.pruning.proofs.ChokeLaws.{rows-rest}
 use Rattle.pruning.specs.Choke.{rows_choked}
 use Rattle.pruning.proofs.choke.choke_rows.Given as goal
 

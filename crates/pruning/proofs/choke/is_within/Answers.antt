@@ -1,12 +1,10 @@
 -- The walk up by the words' numbers is the definition's; a number beyond the cells names a blank cell, which is below none. Assumes
 -- nothing.
-use mathlib.Core.Path.{◌≡◌, refl, sym, ap, ◌∙◌}
+use mathlib.Core.Path.{refl, sym, ap, ◌∙◌}
 use borrow.Author.Rules.{rules}
-use Prim.Native.Nat.{◌-◌, ◌≤◌}
+use Prim.Native.Nat.{◌-◌}
 use native.Mathlib.Omega.{arith}
-use Rattle.model.specs.declared.record.Machine.{Machine}
-use Rattle.record.specs.Holds.{Codes}
-use Rattle.pruning.proofs.ChokeLaws.{walk, walk-starts, walk-out, walk-root, walk-found, walk-on, walk-outside}
+use Rattle.pruning.proofs.ChokeLaws.{walk-starts, walk-out, walk-root, walk-found, walk-on, walk-outside}
 use Rattle.pruning.proofs.choke.is_within.Goals as goal
 
 pub loop-left-init : goal.loop-left-init

@@ -1,10 +1,8 @@
-use mathlib.Core.Path.{◌≡◌, refl, sym, ap, ◌∙◌}
-use borrow.Author.Rules.{rules}
+use mathlib.Core.Path.{◌≡◌}
 use Prim.Native.Nat.{◌-◌, ◌≤◌}
-use native.Mathlib.Omega.{arith}
 use Rattle.model.specs.declared.record.Machine.{Machine}
 use Rattle.record.specs.Holds.{Codes}
-use Rattle.pruning.proofs.ChokeLaws.{walk, walk-starts, walk-out, walk-root, walk-found, walk-on, walk-outside}
+use Rattle.pruning.proofs.ChokeLaws.{walk}
 use Rattle.pruning.proofs.choke.is_within.Given as goal
 
 abbrev pub invariant-loop-left : goal.invariant-loop-left

@@ -1,5 +1,4 @@
 -- A name that is not marked leaves the orders as they are. Assumes nothing.
-use borrow.Author.Rules.{rules}
 use Rattle.pruning.proofs.ChokeLaws.{joins, stays_out}
 use Rattle.pruning.proofs.choke.join_marked.Goals as goal
 

@@ -3,14 +3,10 @@ use mathlib.Core.Bool.{false}
 use mathlib.Core.Path.{◌≡◌, sym, ap, subst}
 use borrow.Author.Rules.{rules}
 use native.Mathlib.Omega.{arith}
-use Prim.Native.Nat.{◌≤◌, ◌-◌}
+use Prim.Native.Nat.{◌-◌}
 use lib.Dec.{eqb}
 use lib.ListN.{replicate}
 use Rattle.model.specs.Machine.Blank.{blank_token, token_at}
-use Rattle.model.specs.declared.record.Machine.{Machine}
-use Rattle.model.specs.declared.token.Token.{Token}
-use Rattle.record.specs.Layout.{state_kind}
-use Rattle.record.specs.Holds.{Codes}
 use Rattle.sites.proofs.TableLoops.{Mapping, mapping-none, mapping-more}
 use Rattle.pruning.proofs.ChokeLaws.{kinds-rest}
 use Rattle.pruning.proofs.choke.mark_state.Goals as goal
@@ -23,15 +19,15 @@ loop-p-init c = (
 
 pub loop-p-preserved : goal.loop-p-preserved
 unfolding token_at
-loop-p-preserved c =     (
-      search rules,
-      λ m h none.
-          mapping-more _ m.tokens _ _ _ _ blank_token (c.loop-p.invariant.1 m h none) (omega (arith, h.shaped.tokens))
-          (ap (λ n. eqb n c.args.kind) (c.state.ensures m h)),
-    )
+loop-p-preserved c = (
+  search rules,
+  λ m h none.
+      mapping-more _ m.tokens _ _ _ _ blank_token (c.loop-p.invariant.1 m h none) (omega (arith, h.shaped.tokens))
+      (ap (λ n. eqb n c.args.kind) (c.state.ensures m h)),
+)
 
 pub returns : goal.returns
-returns c =     λ m h blank none.
+returns c = λ m h blank none.
     let l = c.loop-p in
     let over : l.p ≡ c.args.end = omega arith in
     kinds-rest m c.args.kind l.p _ h.shaped.tokens c.requires.0 (omega arith) (λ i from. blank i (omega arith))

@@ -1,17 +1,13 @@
 use mathlib.Core.Bool.{false}
-use mathlib.Core.Path.{◌≡◌, sym, ap, subst}
-use borrow.Author.Rules.{rules}
-use native.Mathlib.Omega.{arith}
+use mathlib.Core.Path.{◌≡◌}
 use Prim.Native.Nat.{◌≤◌, ◌-◌}
 use lib.Dec.{eqb}
 use lib.ListN.{replicate}
-use Rattle.model.specs.Machine.Blank.{blank_token, token_at}
 use Rattle.model.specs.declared.record.Machine.{Machine}
 use Rattle.model.specs.declared.token.Token.{Token}
 use Rattle.record.specs.Layout.{state_kind}
 use Rattle.record.specs.Holds.{Codes}
-use Rattle.sites.proofs.TableLoops.{Mapping, mapping-none, mapping-more}
-use Rattle.pruning.proofs.ChokeLaws.{kinds-rest}
+use Rattle.sites.proofs.TableLoops.{Mapping}
 use Rattle.pruning.proofs.choke.mark_state.Given as goal
 
 abbrev pub invariant-loop-p : goal.invariant-loop-p

@@ -3,7 +3,6 @@
 use mathlib.Core.Bool.{Bool}
 use mathlib.Core.List.{List}
 use mathlib.Core.Path.{◌≡◌, refl, subst}
-use borrow.Author.Rules.{rules}
 use Rattle.record.specs.Holds.{Holds}
 use Rattle.pruning.proofs.ChokeLaws.{first, second, first-room, reorder-is}
 use Rattle.pruning.proofs.choke.reorder.Goals as goal

@@ -1,6 +1,5 @@
 -- An order of call that names nobody stays as it is. Assumes nothing.
 use mathlib.Core.Path.{refl, sym, ◌∙◌}
-use borrow.Author.Rules.{rules}
 use Rattle.pruning.proofs.ChokeLaws.{none-due, due-retained}
 use Rattle.pruning.proofs.choke.retain_due.Goals as goal
 

@@ -1,14 +1,9 @@
 -- After i turns the marked ones of the first i waiting names stand behind the queue; there is room for all of them. Assumes nothing.
 use mathlib.Core.Path.{subst}
-use mathlib.Core.List.{◌++◌}
 use borrow.Author.Rules.{rules}
-use Prim.Native.Nat.{◌<◌, ◌≤◌, ◌-◌, ◌+◌}
+use Prim.Native.Nat.{◌<◌, ◌≤◌, ◌-◌}
 use native.Mathlib.Omega.{arith}
-use lib.ListN.{take}
-use Rattle.model.specs.declared.record.Machine.{Machine}
-use Rattle.model.specs.Machine.Update.{with_orders, queue_of, waits_of}
 use Rattle.record.proofs.HoldsShape.{waits-fit}
-use Rattle.orders.specs.NamesRetained.{marked_of}
 use Rattle.record.specs.Holds.{Holds}
 use Rattle.pruning.proofs.ChokeLaws.{woken, woken-none, woken-all, woken-room, woken-more}
 use Rattle.pruning.proofs.choke.wake.Goals as goal

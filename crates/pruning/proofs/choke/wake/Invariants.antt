@@ -1,15 +1,10 @@
-use mathlib.Core.Path.{subst}
 use mathlib.Core.List.{◌++◌}
-use borrow.Author.Rules.{rules}
-use Prim.Native.Nat.{◌<◌, ◌≤◌, ◌-◌, ◌+◌}
-use native.Mathlib.Omega.{arith}
+use Prim.Native.Nat.{◌≤◌, ◌-◌, ◌+◌}
 use lib.ListN.{take}
 use Rattle.model.specs.declared.record.Machine.{Machine}
 use Rattle.model.specs.Machine.Update.{with_orders, queue_of, waits_of}
-use Rattle.record.proofs.HoldsShape.{waits-fit}
 use Rattle.orders.specs.NamesRetained.{marked_of}
 use Rattle.record.specs.Holds.{Holds}
-use Rattle.pruning.proofs.ChokeLaws.{woken, woken-none, woken-all, woken-room, woken-more}
 use Rattle.pruning.proofs.choke.wake.Given as goal
 
 abbrev pub invariant-loop-i : goal.invariant-loop-i

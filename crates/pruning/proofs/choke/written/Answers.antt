@@ -1,6 +1,5 @@
 -- The five changes one after the other are the definition's choke. Each writer leaves what the next one is asked for. Assumes nothing.
 use mathlib.Core.Path.{subst}
-use borrow.Author.Rules.{rules}
 use Rattle.model.specs.Machine.Update.{with_tables, with_orders}
 use Rattle.record.specs.Holds.{Holds}
 use Rattle.record.specs.Changes.{dequeued}

@@ -11,6 +11,6 @@ pub returns-then-s-eq-FRAME_STATE : goal.returns-then-s-eq-FRAME_STATE
 returns-then-s-eq-FRAME_STATE c = λ m h. not-frame m.cells _ _ (c.state-s.ensures m h) (search rules)
 
 pub returns : goal.returns
-returns c =     λ m h.
+returns c = λ m h.
     by-cell m.cells _ _ (c.state-s.ensures m h) _ _ (search rules) (search rules)
     (c.wide.ensures ∙ c.cell.ensures m h) (c.under_set.ensures m h)

@@ -8,6 +8,6 @@ pub returns-then-bind_kind-ne-CELL_SLOT : goal.returns-then-bind_kind-ne-CELL_SL
 returns-then-bind_kind-ne-CELL_SLOT c = λ m h. bound-none _ _ _ (c.bind_kind.ensures m h) (search rules)
 
 pub returns : goal.returns
-returns c =     λ m h.
+returns c = λ m h.
     bound-cell _ _ _ (c.bind_kind.ensures m h) _ (search rules)
     (c.wide.ensures ∙ c.bind_number.ensures m h)

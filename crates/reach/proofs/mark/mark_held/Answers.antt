@@ -1,6 +1,5 @@
 -- `mark::mark_held` meets its contract, by cases. Assumes nothing.
 use mathlib.Core.Path.{◌∙◌}
-use borrow.Author.Rules.{rules}
 use Rattle.reach.proofs.UsedMarking.{held-marks, idle-marks}
 use Rattle.reach.proofs.mark.mark_held.Goals as goal
 

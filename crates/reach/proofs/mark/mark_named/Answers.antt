@@ -1,14 +1,7 @@
 -- `mark::mark_named` meets its contract. The loop's invariant: the chains of the bindings from `x` on are left to mark. Assumes nothing.
-use mathlib.Core.List.{map}
-use mathlib.Core.Path.{◌≡◌, ◌∙◌, sym, refl}
-use Prim.Native.Nat.{◌-◌, ◌≤◌}
+use mathlib.Core.Path.{◌∙◌, sym, refl}
+use Prim.Native.Nat.{◌-◌}
 use borrow.Author.Rules.{rules}
-use lib.ListN.{length, drop}
-use Rattle.model.specs.Machine.Blank.{token_at}
-use Rattle.model.specs.Machine.InUse.{bound_cell}
-use Rattle.model.specs.declared.record.Machine.{Machine}
-use Rattle.record.specs.Holds.{Codes}
-use Rattle.reach.specs.Marks.{cells_marked}
 use Rattle.reach.proofs.UsedMarking.{named-first, named-next, named-last}
 use Rattle.reach.proofs.mark.mark_named.Goals as goal
 
@@ -17,16 +10,16 @@ loop-x-init c = (search rules, search rules, λ m h. refl)
 
 pub loop-x-preserved : goal.loop-x-preserved
 loop-x-preserved c = let l = c.loop-x in (
-      search rules,
-      search rules,
-      λ m h.
-          l.invariant.2 m h
-          ∙ named-next m h.shaped.cells _ l.x _ _ _ (h.shaped.binds _) (search rules)
-          (c.bound.ensures m h) (c.mark_parents-in-loop-x.ensures m h),
-    )
+  search rules,
+  search rules,
+  λ m h.
+      l.invariant.2 m h
+      ∙ named-next m h.shaped.cells _ l.x _ _ _ (h.shaped.binds _) (search rules)
+      (c.bound.ensures m h) (c.mark_parents-in-loop-x.ensures m h),
+)
 
 pub returns : goal.returns
-returns c =     λ m h.
+returns c = λ m h.
     let l = c.loop-x in
     sym
     (named-first m h.shaped.cells _ _ _ _

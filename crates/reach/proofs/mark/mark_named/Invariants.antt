@@ -1,18 +1,16 @@
 use mathlib.Core.List.{map}
-use mathlib.Core.Path.{◌≡◌, ◌∙◌, sym, refl}
+use mathlib.Core.Path.{◌≡◌}
 use Prim.Native.Nat.{◌-◌, ◌≤◌}
-use borrow.Author.Rules.{rules}
 use lib.ListN.{length, drop}
 use Rattle.model.specs.Machine.Blank.{token_at}
 use Rattle.model.specs.Machine.InUse.{bound_cell}
 use Rattle.model.specs.declared.record.Machine.{Machine}
 use Rattle.record.specs.Holds.{Codes}
 use Rattle.reach.specs.Marks.{cells_marked}
-use Rattle.reach.proofs.UsedMarking.{named-first, named-next, named-last}
 use Rattle.reach.proofs.mark.mark_named.Given as goal
 
 abbrev pub invariant-loop-x : goal.invariant-loop-x
-invariant-loop-x l =     (l.x ≤ 8)
+invariant-loop-x l = (l.x ≤ 8)
     × (length l.marks ≡ 32)
     × ((m : Machine)
     → Codes l.w m

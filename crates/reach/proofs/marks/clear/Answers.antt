@@ -1,9 +1,9 @@
 -- `marks::clear` meets its contract. The loop's invariant: the first `i` marks are cleared. Assumes nothing.
 use mathlib.Core.Bool.{false}
-use mathlib.Core.Path.{sym, ◌≡◌, refl}
-use Prim.Native.Nat.{◌-◌, ◌≤◌}
+use mathlib.Core.Path.{sym, refl}
+use Prim.Native.Nat.{◌-◌}
 use borrow.Author.Rules.{rules}
-use lib.ListN.{get_or-replicate, length, take, replicate, length-set, length-replicate}
+use lib.ListN.{get_or-replicate, length-set, length-replicate}
 use Rattle.reach.proofs.ListLoops.{fill_more, fill-all}
 use Rattle.reach.proofs.marks.clear.Goals as goal
 

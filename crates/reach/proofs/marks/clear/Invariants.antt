@@ -1,9 +1,7 @@
 use mathlib.Core.Bool.{false}
-use mathlib.Core.Path.{sym, ◌≡◌, refl}
+use mathlib.Core.Path.{◌≡◌}
 use Prim.Native.Nat.{◌-◌, ◌≤◌}
-use borrow.Author.Rules.{rules}
-use lib.ListN.{get_or-replicate, length, take, replicate, length-set, length-replicate}
-use Rattle.reach.proofs.ListLoops.{fill_more, fill-all}
+use lib.ListN.{length, take, replicate}
 use Rattle.reach.proofs.marks.clear.Given as goal
 
 abbrev pub invariant-loop-i : goal.invariant-loop-i

@@ -1,5 +1,4 @@
 -- `marks::first_eight` meets its contract: its two numbers of four marks are one of eight. Assumes nothing.
-use borrow.Author.Rules.{rules}
 use native.Mathlib.Omega.{arith}
 use Rattle.reach.proofs.MarksEnd.{eight-weight}
 use Rattle.reach.proofs.marks.first_eight.Goals as goal

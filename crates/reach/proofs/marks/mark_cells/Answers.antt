@@ -1,13 +1,10 @@
 -- `marks::mark_cells` meets its contract. The loop's invariant: the cells of the tokens in use from `p` on are left. Assumes nothing.
 use mathlib.Core.Bool.{false}
 use mathlib.Core.Path.{◌≡◌, ◌∙◌, sym, ap}
-use Prim.Native.Nat.{◌+◌, ◌-◌, ◌≤◌}
+use Prim.Native.Nat.{◌+◌, ◌-◌}
 use borrow.Author.Rules.{rules}
 use native.Mathlib.Omega.{arith}
 use lib.ListN.{length, length-replicate}
-use Rattle.model.specs.Machine.InUse.{used_cells}
-use Rattle.model.specs.declared.record.Machine.{Machine}
-use Rattle.record.specs.Holds.{Codes}
 use Rattle.reach.proofs.UsedMarking.{cells_left, cells-first, cells-next, cells-last}
 use Rattle.reach.proofs.marks.mark_cells.Goals as goal
 
@@ -27,7 +24,7 @@ loop-p-preserved c = let l = c.loop-p in
     )
 
 pub returns : goal.returns
-returns c =     λ m h blank.
+returns c = λ m h blank.
     let l = c.loop-p in
     let z : l.p ≡ c.args.end = search rules in
     sym (l.invariant.2 m h ∙ cells-last m _ l.p _ c.requires.0 h.shaped.tokens (search rules) (λ i from. blank i (omega arith)))

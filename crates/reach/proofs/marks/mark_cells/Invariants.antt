@@ -1,17 +1,14 @@
-use mathlib.Core.Bool.{false}
-use mathlib.Core.Path.{◌≡◌, ◌∙◌, sym, ap}
-use Prim.Native.Nat.{◌+◌, ◌-◌, ◌≤◌}
-use borrow.Author.Rules.{rules}
-use native.Mathlib.Omega.{arith}
-use lib.ListN.{length, length-replicate}
+use mathlib.Core.Path.{◌≡◌}
+use Prim.Native.Nat.{◌-◌, ◌≤◌}
+use lib.ListN.{length}
 use Rattle.model.specs.Machine.InUse.{used_cells}
 use Rattle.model.specs.declared.record.Machine.{Machine}
 use Rattle.record.specs.Holds.{Codes}
-use Rattle.reach.proofs.UsedMarking.{cells_left, cells-first, cells-next, cells-last}
+use Rattle.reach.proofs.UsedMarking.{cells_left}
 use Rattle.reach.proofs.marks.mark_cells.Given as goal
 
 abbrev pub invariant-loop-p : goal.invariant-loop-p
-invariant-loop-p l =     (l.p ≤ l.end)
+invariant-loop-p l = (l.p ≤ l.end)
     × (length l.marks ≡ 32)
     × ((m : Machine) → Codes l.w m → used_cells l.tokens m.tokens m.cells ≡ cells_left m l.tokens l.p l.marks)
 

@@ -1,13 +1,10 @@
-use mathlib.Core.Bool.{false}
-use mathlib.Core.Path.{◌≡◌, ◌∙◌, sym, ap}
+use mathlib.Core.Path.{◌≡◌}
 use Prim.Native.Nat.{◌-◌, ◌≤◌}
-use borrow.Author.Rules.{rules}
-use native.Mathlib.Omega.{arith}
-use lib.ListN.{length, length-replicate}
+use lib.ListN.{length}
 use Rattle.model.specs.Machine.InUse.{tokens_used}
 use Rattle.model.specs.declared.record.Machine.{Machine}
 use Rattle.record.specs.Holds.{Codes}
-use Rattle.reach.proofs.UsedMarking.{callers_left, callers-first, callers-next, callers-last}
+use Rattle.reach.proofs.UsedMarking.{callers_left}
 use Rattle.reach.proofs.marks.mark_tokens.Given as goal
 
 abbrev pub invariant-loop-p : goal.invariant-loop-p

@@ -1,11 +1,8 @@
 -- `marks::none_from` meets its contract. The loop's invariant: what was found before `i`. Assumes nothing.
-use mathlib.Core.Bool.{not}
-use mathlib.Core.Path.{◌≡◌, ◌∙◌}
-use Prim.Native.Nat.{◌-◌, ◌≤◌}
+use mathlib.Core.Path.{◌∙◌}
+use Prim.Native.Nat.{◌-◌}
 use native.Mathlib.Omega.{arith}
 use borrow.Author.Rules.{rules}
-use lib.ListN.{take, drop}
-use Rattle.job.specs.Test.{for_all}
 use Rattle.reach.proofs.MarksEnd.{none_yet, none_more, none-all}
 use Rattle.reach.proofs.marks.none_from.Goals as goal
 

@@ -1,11 +1,8 @@
 use mathlib.Core.Bool.{not}
-use mathlib.Core.Path.{◌≡◌, ◌∙◌}
+use mathlib.Core.Path.{◌≡◌}
 use Prim.Native.Nat.{◌-◌, ◌≤◌}
-use native.Mathlib.Omega.{arith}
-use borrow.Author.Rules.{rules}
 use lib.ListN.{take, drop}
 use Rattle.job.specs.Test.{for_all}
-use Rattle.reach.proofs.MarksEnd.{none_yet, none_more, none-all}
 use Rattle.reach.proofs.marks.none_from.Given as goal
 
 abbrev pub invariant-loop-i : goal.invariant-loop-i

@@ -1,41 +1,37 @@
 -- `under_set::under_set` meets its contract. The loop's invariant: the answer is that of a climb from `q`. Assumes nothing.
-use mathlib.Core.Path.{◌≡◌, ◌∙◌}
-use Prim.Native.Nat.{◌-◌, ◌≤◌}
+use mathlib.Core.Path.{◌∙◌}
+use Prim.Native.Nat.{◌-◌}
 use borrow.Author.Rules.{rules}
-use Rattle.model.specs.Machine.Active.{under_set}
-use Rattle.model.specs.declared.record.Machine.{Machine}
-use Rattle.record.specs.LayoutDecoded.{place_from}
-use Rattle.record.specs.Holds.{Codes}
-use Rattle.reach.proofs.UnderSet.{climb, climb-under, climb-ends, climb-outside, climb-found, climb-on, climb-over}
+use Rattle.reach.proofs.UnderSet.{climb-under, climb-ends, climb-outside, climb-found, climb-on, climb-over}
 use Rattle.reach.proofs.under_set.under_set.Goals as goal
 
 pub loop-n-init : goal.loop-n-init
 loop-n-init c = (search rules, λ m h. climb-under m.cells 32 _ h.shaped.cells)
 
 pub returns-then-q-eq0 : goal.returns-then-q-eq0
-returns-then-q-eq0 c =     λ m h.
+returns-then-q-eq0 c = λ m h.
     let l = c.loop-n in
     climb-ends m.cells 32 l.n l.q _ h.shaped.cells (l.invariant.1 m h) (search rules)
 
 pub returns-then-c-ge-CELLS : goal.returns-then-c-ge-CELLS
-returns-then-c-ge-CELLS c =     λ m h.
+returns-then-c-ge-CELLS c = λ m h.
     let l = c.loop-n in
     climb-outside m.cells 32 l.n l.q _ h.shaped.cells (l.invariant.1 m h) (search rules) (search rules)
 
 pub returns-then-value_kind-ne0 : goal.returns-then-value_kind-ne0
-returns-then-value_kind-ne0 c =     λ m h.
+returns-then-value_kind-ne0 c = λ m h.
     let l = c.loop-n in
     climb-found m.cells 32 l.n l.q _ h.shaped.cells (l.invariant.1 m h) _ (search rules) (search rules)
     (c.value_kind.ensures m h) (search rules)
 
 pub loop-n-preserved : goal.loop-n-preserved
 loop-n-preserved c = let l = c.loop-n in (
-      search rules,
-      λ m h.
-          climb-on m.cells 32 l.n l.q _ h.shaped.cells (l.invariant.1 m h) _ (search rules) (search rules)
-          (c.value_kind.ensures m h) _ (search rules)
-          (c.wide-q.ensures ∙ c.parent.ensures m h),
-    )
+  search rules,
+  λ m h.
+      climb-on m.cells 32 l.n l.q _ h.shaped.cells (l.invariant.1 m h) _ (search rules) (search rules)
+      (c.value_kind.ensures m h) _ (search rules)
+      (c.wide-q.ensures ∙ c.parent.ensures m h),
+)
 
 pub returns : goal.returns
 returns c = λ m h. let l = c.loop-n in climb-over m.cells 32 l.n l.q _ h.shaped.cells (l.invariant.1 m h) (search rules)

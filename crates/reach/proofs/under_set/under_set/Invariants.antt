@@ -1,11 +1,10 @@
-use mathlib.Core.Path.{◌≡◌, ◌∙◌}
+use mathlib.Core.Path.{◌≡◌}
 use Prim.Native.Nat.{◌-◌, ◌≤◌}
-use borrow.Author.Rules.{rules}
 use Rattle.model.specs.Machine.Active.{under_set}
 use Rattle.model.specs.declared.record.Machine.{Machine}
 use Rattle.record.specs.LayoutDecoded.{place_from}
 use Rattle.record.specs.Holds.{Codes}
-use Rattle.reach.proofs.UnderSet.{climb, climb-under, climb-ends, climb-outside, climb-found, climb-on, climb-over}
+use Rattle.reach.proofs.UnderSet.{climb}
 use Rattle.reach.proofs.under_set.under_set.Given as goal
 
 abbrev pub invariant-loop-n : goal.invariant-loop-n

@@ -1,5 +1,4 @@
 -- `count::calls_made` meets its contract: the word that it reads is the count. Assumes nothing.
-use borrow.Author.Rules.{rules}
 use Rattle.record.proofs.CountLaws.{calls-word}
 use Rattle.record.proofs.count.calls_made.Goals as goal
 

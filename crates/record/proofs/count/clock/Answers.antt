@@ -1,5 +1,4 @@
 -- `count::clock` meets its contract: the word that it reads is the clock. Assumes nothing.
-use borrow.Author.Rules.{rules}
 use Rattle.record.proofs.CountLaws.{clock-word}
 use Rattle.record.proofs.count.clock.Goals as goal
 

@@ -1,5 +1,4 @@
 -- `count::last_cell` meets its contract: the word that it reads is the count. Assumes nothing.
-use borrow.Author.Rules.{rules}
 use Rattle.record.proofs.CountLaws.{last-cell-word}
 use Rattle.record.proofs.count.last_cell.Goals as goal
 

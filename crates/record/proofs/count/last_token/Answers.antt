@@ -1,5 +1,4 @@
 -- `count::last_token` meets its contract: the word that it reads is the count. Assumes nothing.
-use borrow.Author.Rules.{rules}
 use Rattle.record.proofs.CountLaws.{last-token-word}
 use Rattle.record.proofs.count.last_token.Goals as goal
 

@@ -1,5 +1,4 @@
 -- `count::set_calls_made` meets its contract: the counts with this word are those of the record so changed. Assumes nothing.
-use borrow.Author.Rules.{rules}
 use Rattle.record.proofs.CountLaws.{calls-put}
 use Rattle.record.proofs.count.set_calls_made.Goals as goal
 

@@ -1,5 +1,4 @@
 -- `count::set_clock` meets its contract: the words with this one are those of the record so changed. Assumes nothing.
-use borrow.Author.Rules.{rules}
 use Rattle.record.proofs.CountLaws.{clock-put}
 use Rattle.record.proofs.count.set_clock.Goals as goal
 

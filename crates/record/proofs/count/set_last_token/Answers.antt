@@ -1,5 +1,4 @@
 -- `count::set_last_token` meets its contract: the counts with this word are those of the record so changed. Assumes nothing.
-use borrow.Author.Rules.{rules}
 use Rattle.record.proofs.CountLaws.{last-token-put}
 use Rattle.record.proofs.count.set_last_token.Goals as goal
 

@@ -8,7 +8,7 @@ use Rattle.record.proofs.OrderLaws.{queue-order, leave-put}
 use Rattle.record.proofs.order.leave_slice.Goals as goal
 
 pub returns-then-index-count : goal.returns-then-index-count
-returns-then-index-count c =     λ m h l.
+returns-then-index-count c = λ m h l.
     leave-put (queue-order h) _ _ _ (c.wide-count.ensures ∙ queued-word h.codes)
     (search rules) c.left_out.ensures
 

@@ -8,7 +8,7 @@ use Rattle.record.proofs.OrderLaws.{timer-order, leave-put}
 use Rattle.record.proofs.order.leave_timers_slice.Goals as goal
 
 pub returns-then-index-count : goal.returns-then-index-count
-returns-then-index-count c =     λ m h l.
+returns-then-index-count c = λ m h l.
     leave-put (timer-order h) _ _ _ (c.wide-count.ensures ∙ timed-word h.codes)
     (search rules) c.left_out.ensures
 

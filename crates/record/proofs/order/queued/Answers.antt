@@ -1,5 +1,4 @@
 -- `order::queued` meets its contract: the word that it reads is the count. Assumes nothing.
-use borrow.Author.Rules.{rules}
 use Rattle.record.proofs.CountLaws.{queued-word}
 use Rattle.record.proofs.order.queued.Goals as goal
 

@@ -8,7 +8,7 @@ use Rattle.record.proofs.OrderLaws.{replaced-put}
 use Rattle.record.proofs.order.replace_slice.Goals as goal
 
 pub returns-then-index-count : goal.returns-then-index-count
-returns-then-index-count c =     λ m h l.
+returns-then-index-count c = λ m h l.
     replaced-put h _ _ _ _ (c.wide-count.ensures ∙ queued-word h.codes)
     (search rules) c.left_out.ensures
 

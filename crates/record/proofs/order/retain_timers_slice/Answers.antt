@@ -1,6 +1,5 @@
 -- The part lent is the record's order of call, so the names that stay there are those that stay in the record. Assumes nothing.
 use mathlib.Core.Path.{◌∙◌}
-use borrow.Author.Rules.{rules}
 use native.Mathlib.Omega.{arith}
 use Rattle.record.proofs.OrderLaws.{timer-order, retain-put}
 use Rattle.record.proofs.HoldsShape.{timers-fit}

@@ -1,5 +1,4 @@
 -- `order::timed` meets its contract: the word that it reads is the count. Assumes nothing.
-use borrow.Author.Rules.{rules}
 use Rattle.record.proofs.CountLaws.{timed-word}
 use Rattle.record.proofs.order.timed.Goals as goal
 

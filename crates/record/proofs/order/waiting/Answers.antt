@@ -1,5 +1,4 @@
 -- `order::waiting` meets its contract: the word that it reads is the count. Assumes nothing.
-use borrow.Author.Rules.{rules}
 use Rattle.record.proofs.CountLaws.{waiting-word}
 use Rattle.record.proofs.order.waiting.Goals as goal
 

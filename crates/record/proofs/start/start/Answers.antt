@@ -1,6 +1,5 @@
 -- `start::start` meets its contract: all words are 0, and four are written. Assumes nothing.
 use Rattle.record.proofs.StartLaws.{started}
-use borrow.Author.Rules.{rules}
 use Rattle.record.proofs.start.start.Goals as goal
 
 pub returns : goal.returns

@@ -1,5 +1,4 @@
 -- `token::blank` meets its contract: 24 words of 0 are the row of a blank token. Assumes nothing.
-use borrow.Author.Rules.{rules}
 use mathlib.Core.Path.{refl}
 use Rattle.record.specs.Layout.{row_of}
 use Rattle.model.specs.Machine.Blank.{blank_token, slot_at}

@@ -1,12 +1,9 @@
 -- `token::copy` meets its contract: a paste of the other row, one word more with each turn. Assumes nothing.
-use mathlib.Core.Path.{◌≡◌}
-use Prim.Native.Nat.{◌-◌, ◌*◌, ◌≤◌}
+use Prim.Native.Nat.{◌-◌, ◌*◌}
 use native.Mathlib.Omega.{arith}
-use lib.Seq.{paste, paste-zero}
+use lib.Seq.{paste-zero}
 use Rattle.model.specs.Machine.Blank.{token_at}
-use Rattle.model.specs.declared.record.Machine.{Machine}
 use Rattle.record.specs.Layout.{row_of}
-use Rattle.record.specs.Holds.{Codes}
 use Rattle.record.proofs.TokenCopying.{copy-on, row_done}
 use borrow.Author.Rules.{rules}
 use Rattle.record.proofs.token.copy.Goals as goal

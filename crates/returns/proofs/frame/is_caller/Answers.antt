@@ -1,12 +1,10 @@
 -- `frame::is_caller` meets its contract: the search passes only tokens that have another caller. Assumes nothing.
-use mathlib.Core.Path.{◌≡◌, refl, sym, ◌∙◌}
-use Prim.Native.Nat.{◌≤◌, ◌-◌, ◌+◌}
+use mathlib.Core.Path.{refl, sym, ◌∙◌}
+use Prim.Native.Nat.{◌-◌}
 use native.Mathlib.Omega.{arith}
 use borrow.Author.Rules.{rules}
-use Rattle.model.specs.declared.record.Machine.{Machine}
 use Rattle.job.proofs.Test.{clash}
-use Rattle.record.specs.Holds.{Codes}
-use Rattle.returns.proofs.FrameCallers.{NoneBelow, none_more, none-all, place_of, not-place}
+use Rattle.returns.proofs.FrameCallers.{none_more, none-all, place_of, not-place}
 use Rattle.returns.proofs.frame.is_caller.Goals as goal
 
 pub loop-i-init : goal.loop-i-init
@@ -34,8 +32,8 @@ loop-i-preserved c = (
 )
 
 pub returns : goal.returns
-returns c =     λ m h. record {
-      some = λ e. clash e refl;
-      none = λ e. none-all m _ c.loop-i.i (omega (arith, h.shaped.tokens))
-          (c.loop-i.invariant.2 m h);
-    }
+returns c = λ m h. record {
+  some = λ e. clash e refl;
+  none = λ e. none-all m _ c.loop-i.i (omega (arith, h.shaped.tokens))
+      (c.loop-i.invariant.2 m h);
+}

@@ -1,11 +1,8 @@
-use mathlib.Core.Path.{◌≡◌, refl, sym, ◌∙◌}
+use mathlib.Core.Path.{◌≡◌}
 use Prim.Native.Nat.{◌≤◌, ◌-◌, ◌+◌}
-use native.Mathlib.Omega.{arith}
-use borrow.Author.Rules.{rules}
 use Rattle.model.specs.declared.record.Machine.{Machine}
-use Rattle.job.proofs.Test.{clash}
 use Rattle.record.specs.Holds.{Codes}
-use Rattle.returns.proofs.FrameCallers.{NoneBelow, none_more, none-all, place_of, not-place}
+use Rattle.returns.proofs.FrameCallers.{NoneBelow}
 use Rattle.returns.proofs.frame.is_caller.Given as goal
 
 abbrev pub invariant-loop-i : goal.invariant-loop-i

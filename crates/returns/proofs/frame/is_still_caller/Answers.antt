@@ -1,6 +1,5 @@
 -- `frame::is_still_caller` meets its contract: a frame that is not shared is named by nobody. Assumes nothing.
 use mathlib.Core.Path.{refl}
-use borrow.Author.Rules.{rules}
 use Rattle.job.proofs.Test.{clash}
 use Rattle.returns.proofs.frame.is_still_caller.Goals as goal
 

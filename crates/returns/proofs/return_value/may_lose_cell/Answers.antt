@@ -1,6 +1,5 @@
 -- `return_value::may_lose_cell` meets its contract: two places with one number are the same. Assumes nothing.
 use mathlib.Core.Path.{refl, sym, ◌∙◌}
-use borrow.Author.Rules.{rules}
 use Rattle.job.proofs.Test.{clash}
 use Rattle.acts.proofs.LinksBound.{binds-none}
 use Rattle.returns.proofs.FrameCallers.{same_place}

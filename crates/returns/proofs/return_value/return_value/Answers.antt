@@ -1,7 +1,6 @@
 -- `return_value::return_value` meets its contract: each way out is how the definition's step ends there. Assumes nothing.
 use mathlib.Core.Path.{◌∙◌}
 use native.Mathlib.Omega.{arith}
-use borrow.Author.Rules.{rules}
 use Rattle.model.specs.declared.reply.Reply.TheVariants as replies
 use Rattle.acts.proofs.EndRebind.{return-caller, return-vacant}
 use Rattle.acts.proofs.StepAtNode.{return-step}

@@ -1,5 +1,4 @@
 -- `input::table_end` meets its contract. Assumes nothing.
-use borrow.Author.Rules.{rules}
 use Rattle.run.proofs.InputLaws.{table-all, table-cut, table-there}
 use Rattle.run.proofs.input.table_end.Goals as goal
 

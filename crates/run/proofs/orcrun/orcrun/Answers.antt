@@ -38,22 +38,32 @@ pub slice_bounds-run-count : goal.slice_bounds-run-count
 slice_bounds-run-count c = let z = inside _ _ c.table_end-end.ensures in search rules
 
 pub run-requires : goal.run-requires
-run-requires c =     (
-      run-accepted _ _ c.table_end-end.ensures c.if-input-gt65536.false _ _ _ c.whole.ensures
-          (sym c.in-Dag.is ∙ c.load-answer.ensures.value) c.load-answer.ensures.dag_after,
-      search rules,
-    )
+run-requires c = (
+  run-accepted _ _ c.table_end-end.ensures c.if-input-gt65536.false _ _ _ c.whole.ensures
+      (sym c.in-Dag.is ∙ c.load-answer.ensures.value) c.load-answer.ensures.dag_after,
+  search rules,
+)
 
 pub returns-in-Refused : goal.returns-in-Refused
 returns-in-Refused c = let line = shows-line c.put_table-n.ensures blank-line c.show_front-in-Refused.ensures in
     let refused = sym c.in-Refused.is ∙ c.load-answer.ensures.value in
     let whole = whole-table _ _ c.table_end-end.ensures c.if-input-gt65536.false _ _ refused in
     let all = shown-all (shows-as (text-one _ ∙ whole) line) in
-    record { value = all.0; dag_after = dag-loaded _ _ c.table_end-end.ensures c.if-input-gt65536.false _ _ c.load-answer.ensures.dag_after; output_after = all.1 }
+    record {
+      value = all.0;
+      dag_after = dag-loaded _ _ c.table_end-end.ensures c.if-input-gt65536.false _ _
+          c.load-answer.ensures.dag_after;
+      output_after = all.1;
+    }
 
 pub returns-in-Dag : goal.returns-in-Dag
 returns-in-Dag c = let accepted = sym c.in-Dag.is ∙ c.load-answer.ensures.value in
     let whole =
     whole_run _ _ c.table_end-end.ensures c.if-input-gt65536.false _ _ _ c.whole.ensures accepted c.load-answer.ensures.dag_after in
     let all = shown-all (shows-as whole c.run.ensures) in
-    record { value = all.0; dag_after = dag-loaded _ _ c.table_end-end.ensures c.if-input-gt65536.false _ _ c.load-answer.ensures.dag_after; output_after = all.1 }
+    record {
+      value = all.0;
+      dag_after = dag-loaded _ _ c.table_end-end.ensures c.if-input-gt65536.false _ _
+          c.load-answer.ensures.dag_after;
+      output_after = all.1;
+    }

@@ -1,6 +1,5 @@
 -- The token found gets the value, is ready and joins the queue, which has room since it was not ready. Assumes nothing.
 use mathlib.Core.Path.{ap, ◌∙◌, refl, sym, subst}
-use borrow.Author.Rules.{rules}
 use native.Mathlib.Omega.{arith}
 use mir.Facts.{to_z-of_z}
 use Rattle.job.specs.Number.{unsigned}

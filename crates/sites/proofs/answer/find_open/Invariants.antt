@@ -1,15 +1,11 @@
-use mathlib.Core.Path.{◌≡◌, refl, sym, ◌∙◌}
+use mathlib.Core.Path.{◌≡◌}
 use Prim.Native.Nat.{◌<◌, ◌≤◌, ◌-◌}
-use native.Mathlib.Omega.{arith}
 use lib.ListN.{drop}
-use borrow.Author.Rules.{rules}
 use Rattle.model.specs.declared.record.Machine.{Machine}
 use Rattle.model.specs.Machine.Answer.{holder}
-use Rattle.model.specs.Machine.Blank.{blank_token, token_at}
-use Rattle.job.proofs.Test.{eq-eqb, ne_eqb}
+use Rattle.model.specs.Machine.Blank.{token_at}
 use Rattle.record.specs.Holds.{Codes}
 use Rattle.record.specs.Layout.{state_kind}
-use Rattle.sites.proofs.AnswerLaws.{holder-found, holder-on, holder-blank, open-called, place-there, place_none}
 use Rattle.sites.proofs.answer.find_open.Given as goal
 
 abbrev pub invariant-loop-p : goal.invariant-loop-p

@@ -1,13 +1,9 @@
 -- `answer::next_called` meets its contract: a token that is not called out holds no handle, so the search may pass it. Assumes nothing.
-use mathlib.Core.Path.{◌≡◌, refl, sym, ◌∙◌}
-use Prim.Native.Nat.{ℕ, ◌≤◌, ◌-◌}
+use mathlib.Core.Path.{refl, sym, ◌∙◌}
+use Prim.Native.Nat.{◌-◌}
 use native.Mathlib.Omega.{arith}
-use lib.ListN.{drop}
 use borrow.Author.Rules.{rules}
-use Rattle.model.specs.declared.record.Machine.{Machine}
-use Rattle.model.specs.Machine.Answer.{holder}
 use Rattle.model.specs.Machine.Blank.{blank_token, token_at}
-use Rattle.record.specs.Holds.{Codes}
 use Rattle.sites.proofs.AnswerLaws.{holder-on, open-not-called}
 use Rattle.sites.proofs.answer.next_called.Goals as goal
 

@@ -1,17 +1,15 @@
-use mathlib.Core.Path.{◌≡◌, refl, sym, ◌∙◌}
+use mathlib.Core.Path.{◌≡◌}
 use Prim.Native.Nat.{ℕ, ◌≤◌, ◌-◌}
-use native.Mathlib.Omega.{arith}
 use lib.ListN.{drop}
-use borrow.Author.Rules.{rules}
 use Rattle.model.specs.declared.record.Machine.{Machine}
 use Rattle.model.specs.Machine.Answer.{holder}
-use Rattle.model.specs.Machine.Blank.{blank_token, token_at}
 use Rattle.record.specs.Holds.{Codes}
-use Rattle.sites.proofs.AnswerLaws.{holder-on, open-not-called}
 use Rattle.sites.proofs.answer.next_called.Given as goal
 
 abbrev pub invariant-loop-p : goal.invariant-loop-p
-invariant-loop-p l = (l.from ≤ l.p) × (l.p ≤ l.end) × ((m : Machine) → Codes l.w m → (h : ℕ) → holder h l.from (drop l.from m.tokens) ≡ holder h l.p (drop l.p m.tokens))
+invariant-loop-p l =
+    (l.from ≤ l.p) × (l.p ≤ l.end) × ((m : Machine) → Codes l.w m → (h : ℕ) → holder h l.from (drop l.from m.tokens) ≡ holder h l.p (drop
+    l.p m.tokens))
 
 abbrev pub decreases-loop-p : goal.decreases-loop-p
 decreases-loop-p l = l.end - l.p

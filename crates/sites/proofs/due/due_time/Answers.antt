@@ -1,6 +1,5 @@
 -- `due::due_time` meets its contract: the sum fits 64 bits, and the two tests tell the cases of the definition. Assumes nothing.
 use mathlib.Core.Path.{sym, ap}
-use borrow.Author.Rules.{rules}
 use native.Mathlib.Omega.{arith}
 use mir.Facts.{to_z-of_z}
 use Rattle.job.proofs.Casts.{positive-cast}

@@ -1,20 +1,18 @@
 -- After i turns the first i values are there, and the look-up goes on with the parameters that are left. Assumes nothing.
 use mathlib.Core.Path.{refl, sym, ap, ◌∙◌}
 use borrow.Author.Rules.{rules}
-use Prim.Native.Nat.{◌<◌, ◌+◌, ◌≤◌, ◌-◌}
+use Prim.Native.Nat.{◌<◌, ◌+◌, ◌-◌}
 use native.Mathlib.Omega.{arith}
 use mir.Syntax.{w32}
 use mir.Val.{SFits}
 use mir.Facts.{to_z-of_z}
 use lib.ListN.{get_or}
 use Rattle.job.specs.Syntax.{variable}
-use Rattle.model.specs.declared.record.Machine.{Machine}
 use Rattle.model.specs.Machine.Blank.{token_at}
-use Rattle.record.specs.Holds.{Codes}
 use Rattle.sites.proofs.LookParams.{params-count}
 use Rattle.sites.proofs.LookLaws.{filled_more, looking-on, look-up-unset, look-up-nothing, look-up-all, param-here, param-there}
-use Rattle.sites.proofs.LookLaws.{param-small, param-in-range, Filled, Looking, behind-none}
-use Rattle.sites.specs.Look.{param_found, LookFacts}
+use Rattle.sites.proofs.LookLaws.{param-small, param-in-range, behind-none}
+use Rattle.sites.specs.Look.{param_found}
 use Rattle.sites.specs.Row.{params_at}
 use Rattle.sites.proofs.look.look_up.Goals as goal
 

@@ -1,6 +1,5 @@
 -- `site::builtin` meets its contract: by the laws that it cites. Assumes nothing.
 use mathlib.Core.Path.{ap, ◌∙◌}
-use borrow.Author.Rules.{rules}
 use mir.Facts.{to_z-of_z}
 use Rattle.sites.proofs.SiteBuiltins.{says-let, says-ift, says-iff, says-signal, says-add, says_less}
 use Rattle.sites.proofs.SiteBuiltins.{says-equal, says-rwait, last-site}

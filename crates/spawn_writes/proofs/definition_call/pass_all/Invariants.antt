@@ -1,17 +1,13 @@
-use Rattle.writes.proofs.Writes.{carry-binds}
-use Rattle.sites.proofs.LookParams.{param-holds, param-bound, params-bound, none-bound}
 use Rattle.sites.specs.Row.{params_at}
 use Rattle.record.specs.Holds.{Holds}
 use Rattle.record.specs.Changes.{with_binds}
 use Rattle.model.specs.declared.record.Machine.{Machine}
-use Rattle.model.specs.Machine.Update.{put, with_binding}
+use Rattle.model.specs.Machine.Update.{put}
 use Rattle.model.specs.Machine.Step.{formals_bound}
 use Rattle.model.specs.Machine.Blank.{blank_token, token_at}
 use lib.ListN.{get_or, take}
-use borrow.Author.Rules.{rules}
-use native.Mathlib.Omega.{arith}
 use Prim.Native.Nat.{◌+◌, ◌-◌, ◌≤◌}
-use mathlib.Core.Path.{◌≡◌, refl, ◌∙◌}
+use mathlib.Core.Path.{◌≡◌}
 use Rattle.spawn_writes.proofs.definition_call.pass_all.Given as goal
 
 abbrev pub invariant-loop-i : goal.invariant-loop-i

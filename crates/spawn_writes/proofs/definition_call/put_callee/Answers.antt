@@ -6,7 +6,6 @@ use Rattle.model.specs.declared.token.Place.TheVariants as places
 use Rattle.model.specs.Machine.Update.{with_node, with_state}
 use Rattle.model.specs.Machine.Blank.{blank_token}
 use mathlib.Core.Path.{refl}
-use borrow.Author.Rules.{rules}
 use Rattle.spawn_writes.proofs.definition_call.put_callee.Goals as goal
 
 pub returns : goal.returns

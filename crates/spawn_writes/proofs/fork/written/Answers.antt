@@ -6,7 +6,6 @@ use Rattle.record.specs.Holds.{Holds}
 use Rattle.model.specs.Machine.Blank.{token_at}
 use Rattle.model.specs.Machine.Update.{put, with_node, with_tables, with_counts, with_orders, new_token, enqueue, queue_of, waits_of}
 use Rattle.writes.proofs.Writes.{begins, carry, put_same, puts-queue, queued-replaced}
-use borrow.Author.Rules.{rules}
 use Rattle.spawn_writes.proofs.fork.written.Goals as goal
 
 pub returns : goal.returns

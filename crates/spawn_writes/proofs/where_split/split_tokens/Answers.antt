@@ -7,7 +7,6 @@ use Rattle.model.specs.declared.token.Slot.TheVariants as slots
 use Rattle.model.specs.Machine.Blank.{token_at}
 use Rattle.model.specs.Machine.Update.{put, with_node, in_cell, with_binding}
 use Rattle.writes.proofs.Writes.{begins, put_other, put-comm}
-use borrow.Author.Rules.{rules}
 use Rattle.spawn_writes.proofs.where_split.split_tokens.Goals as goal
 
 pub returns : goal.returns

@@ -9,7 +9,6 @@ use Rattle.model.specs.Machine.Blank.{token_at}
 use Rattle.model.specs.Machine.Update.{put, with_node, with_binding, in_cell, with_tables, with_counts, with_orders, new_token, new_cell}
 use Rattle.model.specs.Machine.Update.{enqueue, queue_of, waits_of}
 use Rattle.writes.proofs.Writes.{puts-queue, queued-replaced}
-use borrow.Author.Rules.{rules}
 use Rattle.spawn_writes.proofs.where_split.written.Goals as goal
 
 pub returns : goal.returns

@@ -1,6 +1,5 @@
 -- `sweep::keep_cell` meets its contract: the row is in use, is made blank, or was blank before. Assumes nothing.
 use mathlib.Core.Path.{subst, refl}
-use borrow.Author.Rules.{rules}
 use Rattle.model.specs.declared.token.Place.TheVariants as places
 use Rattle.record.specs.Holds.{Holds}
 use Rattle.sweep.proofs.SweepLaws.{cell-used, cell-blanked, cell-vacant}
@@ -10,7 +9,7 @@ pub returns-then-used : goal.returns-then-used
 returns-then-used c = λ m h v. subst (Holds _) (cell-used m _ _ c.if-used.true) h
 
 pub returns-then-was : goal.returns-then-was
-returns-then-was c =     λ m h v.
+returns-then-was c = λ m h v.
     subst (Holds _) (cell-blanked m _ _ c.if-used.false) (c.put_unset.ensures m places.Nowhere h refl)
 
 pub returns-else-was : goal.returns-else-was

@@ -1,13 +1,11 @@
 -- `sweep::keep_cells` meets its contract. The loop's invariant: the cells before `c` are kept or blank. Assumes nothing.
 use mathlib.Core.Bool.{true, false}
 use mathlib.Core.Path.{◌≡◌, refl, subst, ◌∙◌}
-use Prim.Native.Nat.{◌-◌, ◌≤◌}
+use Prim.Native.Nat.{◌-◌}
 use native.Mathlib.Omega.{arith}
 use borrow.Author.Rules.{rules}
-use Rattle.model.specs.declared.record.Machine.{Machine}
 use Rattle.record.specs.Holds.{Holds}
-use Rattle.reach.specs.Marks.{FreeCells}
-use Rattle.sweep.proofs.SweepLaws.{cells_kept, cells-first, cell-there, cells-next, cells-last}
+use Rattle.sweep.proofs.SweepLaws.{cells-first, cell-there, cells-next, cells-last}
 use Rattle.job.proofs.Lists.{get_d_any}
 use Rattle.sweep.proofs.sweep.keep_cells.Goals as goal
 

@@ -1,6 +1,5 @@
 -- `sweep::keep_token` meets its contract: the row is in use, is made blank, or was blank before. Assumes nothing.
 use mathlib.Core.Path.{subst}
-use borrow.Author.Rules.{rules}
 use Rattle.record.specs.Holds.{Holds}
 use Rattle.sweep.proofs.SweepLaws.{token-used, token-blanked, token-vacant}
 use Rattle.sweep.proofs.sweep.keep_token.Goals as goal

@@ -1,13 +1,11 @@
 -- `sweep::keep_tokens` meets its contract. The loop's invariant: the tokens before `p` are kept or blank. Assumes nothing.
 use mathlib.Core.Bool.{true, false}
 use mathlib.Core.Path.{◌≡◌, refl, subst, ◌∙◌}
-use Prim.Native.Nat.{◌-◌, ◌≤◌}
+use Prim.Native.Nat.{◌-◌}
 use native.Mathlib.Omega.{arith}
 use borrow.Author.Rules.{rules}
-use Rattle.model.specs.declared.record.Machine.{Machine}
 use Rattle.record.specs.Holds.{Holds}
-use Rattle.reach.specs.Marks.{FreeTokens}
-use Rattle.sweep.proofs.SweepLaws.{tokens_kept, tokens-first, token-there, tokens-next, tokens-last}
+use Rattle.sweep.proofs.SweepLaws.{tokens-first, token-there, tokens-next, tokens-last}
 use Rattle.job.proofs.Lists.{get_d_any}
 use Rattle.sweep.proofs.sweep.keep_tokens.Goals as goal
 
@@ -27,7 +25,7 @@ loop-p-preserved c = let l = c.loop-p in
     )
 
 pub returns : goal.returns
-returns c =     λ m h v.
+returns c = λ m h v.
     let l = c.loop-p in
     let over : l.p ≡ c.args.end = search rules in
     subst (Holds _)

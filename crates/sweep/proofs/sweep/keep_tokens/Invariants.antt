@@ -1,13 +1,8 @@
-use mathlib.Core.Bool.{true, false}
-use mathlib.Core.Path.{◌≡◌, refl, subst, ◌∙◌}
 use Prim.Native.Nat.{◌-◌, ◌≤◌}
-use native.Mathlib.Omega.{arith}
-use borrow.Author.Rules.{rules}
 use Rattle.model.specs.declared.record.Machine.{Machine}
 use Rattle.record.specs.Holds.{Holds}
 use Rattle.reach.specs.Marks.{FreeTokens}
-use Rattle.sweep.proofs.SweepLaws.{tokens_kept, tokens-first, token-there, tokens-next, tokens-last}
-use Rattle.job.proofs.Lists.{get_d_any}
+use Rattle.sweep.proofs.SweepLaws.{tokens_kept}
 use Rattle.sweep.proofs.sweep.keep_tokens.Given as goal
 
 abbrev pub invariant-loop-p : goal.invariant-loop-p

@@ -1,9 +1,6 @@
-use mathlib.Core.Bool.{false}
-use mathlib.Core.Path.{◌≡◌, refl}
+use mathlib.Core.Path.{◌≡◌}
 use Prim.Native.Nat.{◌-◌, ◌≤◌}
-use borrow.Author.Rules.{rules}
-use lib.ListN.{length, take, length-set}
-use Rattle.reach.proofs.ListLoops.{fill_more, fill-all}
+use lib.ListN.{length, take}
 use Rattle.sweep.proofs.sweep.renew.Given as goal
 
 abbrev pub invariant-loop-i : goal.invariant-loop-i

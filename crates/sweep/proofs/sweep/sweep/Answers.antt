@@ -1,5 +1,4 @@
 -- `sweep::sweep` meets its contract. Assumes nothing.
-use borrow.Author.Rules.{rules}
 use Rattle.sweep.proofs.sweep.sweep.Goals as goal
 
 pub returns : goal.returns

@@ -1,6 +1,5 @@
 -- `sweep::sweep_to` meets its contract: both tables are swept, and that changes nothing of what is in use. Assumes nothing.
 use mathlib.Core.Path.{◌∙◌, subst, sym}
-use borrow.Author.Rules.{rules}
 use Rattle.model.specs.Machine.Update.{with_tables}
 use Rattle.model.proofs.Keeps.Clean.{sweep-tokens, sweep-cells}
 use Rattle.record.specs.Holds.{Holds}
@@ -10,7 +9,7 @@ use Rattle.sweep.proofs.sweep.sweep_to.Goals as goal
 
 pub returns : goal.returns
 unfolding with_tables
-returns c =     λ m h v.
+returns c = λ m h v.
     let none : BlankFrom m c.args.end = λ i from to. v.tokens i to (c.requires.1 i from to) in
     let used = c.mark_tokens.ensures m h.codes none in
     let first = subst (Holds _) (tokens-swept m _ used) (c.keep_tokens.ensures m h v.tokens) in

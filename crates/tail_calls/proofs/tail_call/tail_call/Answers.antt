@@ -1,7 +1,6 @@
 -- `tail_call::tail_call` meets its contract: each way out is how the definition's step ends there. Assumes nothing.
 use mathlib.Core.Path.{sym, ◌∙◌}
 use native.Mathlib.Omega.{arith}
-use borrow.Author.Rules.{rules}
 use Rattle.sites.proofs.RowKinds.{call-root, call-params}
 use Rattle.acts.proofs.LinksBound.{binds-none}
 use Rattle.acts.proofs.Outcomes.{row, row_fits, token-inside}

@@ -1,20 +1,12 @@
 -- `passing::bind_slots` meets its contract: at each turn one more of the old bindings is written over. Assumes nothing.
-use mathlib.Core.Path.{◌≡◌}
-use mathlib.Core.List.{List}
-use Prim.Native.Nat.{◌-◌, ◌≤◌}
+use Prim.Native.Nat.{◌-◌}
 use native.Mathlib.Omega.{arith}
-use lib.ListN.{length, get_or}
-use lib.Seq.{paste, paste-zero}
+use lib.ListN.{get_or}
+use lib.Seq.{paste-zero}
 use borrow.Author.Rules.{rules}
 use Rattle.model.specs.Machine.Blank.{empty}
-use Rattle.model.specs.Machine.Update.{put, with_binding}
-use Rattle.model.specs.declared.record.Machine.{Machine}
-use Rattle.model.specs.declared.token.Bind.{Bind}
-use Rattle.model.specs.declared.token.Token.{Token}
-use Rattle.record.specs.Changes.{with_binds}
-use Rattle.record.specs.Holds.{Holds}
+use Rattle.model.specs.Machine.Update.{with_binding}
 use Rattle.writes.proofs.Writes.{carry-binds}
-use Rattle.tail_writes.specs.Passing.{SlotWords}
 use Rattle.tail_writes.proofs.PassingWords.{kind_at, number_at, bound-on, bound-whole, binds-long}
 use Rattle.tail_writes.proofs.passing.bind_slots.Goals as goal
 

@@ -1,24 +1,19 @@
 use mathlib.Core.Path.{◌≡◌}
 use mathlib.Core.List.{List}
 use Prim.Native.Nat.{◌-◌, ◌≤◌}
-use native.Mathlib.Omega.{arith}
-use lib.ListN.{length, get_or}
-use lib.Seq.{paste, paste-zero}
-use borrow.Author.Rules.{rules}
-use Rattle.model.specs.Machine.Blank.{empty}
-use Rattle.model.specs.Machine.Update.{put, with_binding}
+use lib.ListN.{length}
+use lib.Seq.{paste}
+use Rattle.model.specs.Machine.Update.{put}
 use Rattle.model.specs.declared.record.Machine.{Machine}
 use Rattle.model.specs.declared.token.Bind.{Bind}
 use Rattle.model.specs.declared.token.Token.{Token}
 use Rattle.record.specs.Changes.{with_binds}
 use Rattle.record.specs.Holds.{Holds}
-use Rattle.writes.proofs.Writes.{carry-binds}
 use Rattle.tail_writes.specs.Passing.{SlotWords}
-use Rattle.tail_writes.proofs.PassingWords.{kind_at, number_at, bound-on, bound-whole, binds-long}
 use Rattle.tail_writes.proofs.passing.bind_slots.Given as goal
 
 abbrev pub invariant-loop-x : goal.invariant-loop-x
-invariant-loop-x l =     (l.x ≤ 8)
+invariant-loop-x l = (l.x ≤ 8)
     × ((m : Machine) (t : Token) (bs : List Bind) → Holds l.initial.w (put l.p t m) → length bs ≡ 8 → SlotWords l.kinds l.numbers bs
     → Holds l.w (put l.p (with_binds (paste t.binds 0 bs l.x) t) m))
 

@@ -1,14 +1,10 @@
 -- `passing::passed_slots` meets its contract: at each turn one more parameter's slot is read. Assumes nothing.
-use mathlib.Core.Path.{◌≡◌, refl, subst, ◌∙◌}
-use Prim.Native.Nat.{◌+◌, ◌-◌, ◌≤◌}
+use mathlib.Core.Path.{refl, subst, ◌∙◌}
+use Prim.Native.Nat.{◌-◌}
 use native.Mathlib.Omega.{arith}
-use lib.ListN.{get_or, take}
 use borrow.Author.Rules.{rules}
 use Rattle.model.specs.Machine.Blank.{token_at}
-use Rattle.model.specs.Machine.Step.{formals_bound, passed}
-use Rattle.model.specs.declared.record.Machine.{Machine}
-use Rattle.record.specs.Holds.{Codes}
-use Rattle.sites.specs.Row.{params_at}
+use Rattle.model.specs.Machine.Step.{passed}
 use Rattle.sites.proofs.LookParams.{param-holds, param-bound, params-bound}
 use Rattle.tail_writes.specs.Passing.{SlotWords}
 use Rattle.tail_writes.proofs.PassingWords.{none_read, slot_read}

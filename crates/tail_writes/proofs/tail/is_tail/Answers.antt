@@ -1,6 +1,5 @@
 -- `tail::is_tail` meets its contract: one look at the next node tells, unless it is a remove. Assumes nothing.
 use native.Mathlib.Omega.{arith}
-use borrow.Author.Rules.{rules}
 use Rattle.tail_writes.proofs.TailLooks.{row_within, first-return, first-other}
 use Rattle.tail_writes.proofs.tail.is_tail.Goals as goal
 

@@ -1,7 +1,5 @@
 use Prim.Native.Nat.{◌-◌}
-use native.Mathlib.Omega.{arith}
-use borrow.Author.Rules.{rules}
-use Rattle.tail_writes.proofs.TailLooks.{Looking, looking-begins, looked-at-all, found-return, found-other, found-remove}
+use Rattle.tail_writes.proofs.TailLooks.{Looking}
 use Rattle.tail_writes.proofs.tail.leads_to_return.Given as goal
 
 abbrev pub invariant-loop-looks : goal.invariant-loop-looks

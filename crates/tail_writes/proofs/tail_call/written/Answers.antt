@@ -1,7 +1,6 @@
 -- `tail_call::written` meets its contract: each writer's contract, one behind the other, leads to the record of the definition. Assumes
 -- nothing.
 use mathlib.Core.Path.{refl, ap, subst}
-use borrow.Author.Rules.{rules}
 use Rattle.model.specs.Machine.Blank.{token_at}
 use Rattle.model.specs.Machine.Step.{callee, formals_bound}
 use Rattle.model.specs.Machine.Update.{put, enqueue, with_node, with_state, with_value, with_orders}

@@ -12,22 +12,34 @@ use Rattle.turns.proofs.TurnGives.{delivers-as, delivers-time, delivers-answer}
 use Rattle.turns.proofs.deliver.deliver.Goals as goal
 
 pub returns-then-move_to : goal.returns-then-move_to
-returns-then-move_to c =     record { gives = delivers-as c.word_at-handle.ensures c.word_at-value.ensures
-          (delivers-time _ true c.move_to.ensures c.if-handle.true c.if-move_to.true refl); delivery_number = taken }
+returns-then-move_to c = record {
+  gives = delivers-as c.word_at-handle.ensures c.word_at-value.ensures
+      (delivers-time _ true c.move_to.ensures c.if-handle.true c.if-move_to.true refl);
+  delivery_number = taken;
+}
 
 pub returns-then-handle : goal.returns-then-handle
 unfolding number_of
-returns-then-handle c =     record { gives = delivers-as c.word_at-handle.ensures c.word_at-value.ensures
-          (delivers-time _ false c.move_to.ensures c.if-handle.true c.if-move_to.false c.number_of.ensures); delivery_number = subst IsDeliveryNumber (sym c.number_of.ensures) wrong_time }
+returns-then-handle c = record {
+  gives = delivers-as c.word_at-handle.ensures c.word_at-value.ensures
+      (delivers-time _ false c.move_to.ensures c.if-handle.true c.if-move_to.false c.number_of.ensures);
+  delivery_number = subst IsDeliveryNumber (sym c.number_of.ensures) wrong_time;
+}
 
 pub returns-then-resume : goal.returns-then-resume
-returns-then-resume c = let fits : SFits w32 c.signed.result = search rules in record { gives = delivers-as c.word_at-handle.ensures c.word_at-value.ensures
-          (delivers-answer _ true c.resume.ensures (to_z-of_z fits) c.signed.ensures c.if-handle.false c.if-resume.true
-          refl); delivery_number = taken }
+returns-then-resume c = let fits : SFits w32 c.signed.result = search rules in record {
+  gives = delivers-as c.word_at-handle.ensures c.word_at-value.ensures
+      (delivers-answer _ true c.resume.ensures (to_z-of_z fits) c.signed.ensures c.if-handle.false c.if-resume.true
+      refl);
+  delivery_number = taken;
+}
 
 pub returns : goal.returns
 unfolding number_of
-returns c = let fits : SFits w32 c.signed.result = search rules in record { gives = delivers-as c.word_at-handle.ensures c.word_at-value.ensures
-          (delivers-answer _ false c.resume.ensures (to_z-of_z fits) c.signed.ensures c.if-handle.false
-          c.if-resume.false
-          c.number_of-2.ensures); delivery_number = subst IsDeliveryNumber (sym c.number_of-2.ensures) not_open }
+returns c = let fits : SFits w32 c.signed.result = search rules in record {
+  gives = delivers-as c.word_at-handle.ensures c.word_at-value.ensures
+      (delivers-answer _ false c.resume.ensures (to_z-of_z fits) c.signed.ensures c.if-handle.false
+      c.if-resume.false
+      c.number_of-2.ensures);
+  delivery_number = subst IsDeliveryNumber (sym c.number_of-2.ensures) not_open;
+}

@@ -13,91 +13,91 @@ pub dag_word-requires : goal.dag_word-requires
 dag_word-requires c = let l = row_fits c.requires.is in omega arith
 
 pub stop-requires : goal.stop-requires
-stop-requires c =     record {
-      machine = c.requires.machine;
-      is =
-          of-kind 0 (sym c.dag_word.ensures) c.in-0.is
-          c.requires.is;
-    }
+stop-requires c = record {
+  machine = c.requires.machine;
+  is =
+      of-kind 0 (sym c.dag_word.ensures) c.in-0.is
+      c.requires.is;
+}
 
 pub site_call-requires : goal.site_call-requires
-site_call-requires c =     record {
-      machine = c.requires.machine;
-      is =
-          of-kind 1 (sym c.dag_word.ensures) c.in-1.is
-          c.requires.is;
-    }
+site_call-requires c = record {
+  machine = c.requires.machine;
+  is =
+      of-kind 1 (sym c.dag_word.ensures) c.in-1.is
+      c.requires.is;
+}
 
 pub call_marked-requires : goal.call_marked-requires
-call_marked-requires c =     record {
-      machine = c.requires.machine;
-      is =
-          of-kind 2 (sym c.dag_word.ensures) c.in-2.is
-          c.requires.is;
-    }
+call_marked-requires c = record {
+  machine = c.requires.machine;
+  is =
+      of-kind 2 (sym c.dag_word.ensures) c.in-2.is
+      c.requires.is;
+}
 
 pub fork_marked-requires : goal.fork_marked-requires
-fork_marked-requires c =     record {
-      machine = c.requires.machine;
-      is =
-          of-kind 3 (sym c.dag_word.ensures) c.in-3.is
-          c.requires.is;
-    }
+fork_marked-requires c = record {
+  machine = c.requires.machine;
+  is =
+      of-kind 3 (sym c.dag_word.ensures) c.in-3.is
+      c.requires.is;
+}
 
 pub assign-requires : goal.assign-requires
-assign-requires c =     record {
-      machine = c.requires.machine;
-      is =
-          of-kind 4 (sym c.dag_word.ensures) c.in-4.is
-          c.requires.is;
-    }
+assign-requires c = record {
+  machine = c.requires.machine;
+  is =
+      of-kind 4 (sym c.dag_word.ensures) c.in-4.is
+      c.requires.is;
+}
 
 pub remove-requires : goal.remove-requires
-remove-requires c =     record {
-      machine = c.requires.machine;
-      is =
-          of-kind 5 (sym c.dag_word.ensures) c.in-5.is
-          c.requires.is;
-    }
+remove-requires c = record {
+  machine = c.requires.machine;
+  is =
+      of-kind 5 (sym c.dag_word.ensures) c.in-5.is
+      c.requires.is;
+}
 
 pub where_marked-requires : goal.where_marked-requires
-where_marked-requires c =     record {
-      machine = c.requires.machine;
-      is =
-          of-kind 6 (sym c.dag_word.ensures) c.in-6.is
-          c.requires.is;
-    }
+where_marked-requires c = record {
+  machine = c.requires.machine;
+  is =
+      of-kind 6 (sym c.dag_word.ensures) c.in-6.is
+      c.requires.is;
+}
 
 pub choke_cell-requires : goal.choke_cell-requires
-choke_cell-requires c =     record {
-      machine = c.requires.machine;
-      is =
-          of-kind 7 (sym c.dag_word.ensures) c.in-7.is
-          c.requires.is;
-    }
+choke_cell-requires c = record {
+  machine = c.requires.machine;
+  is =
+      of-kind 7 (sym c.dag_word.ensures) c.in-7.is
+      c.requires.is;
+}
 
 pub return_marked-requires : goal.return_marked-requires
-return_marked-requires c =     record {
-      machine = c.requires.machine;
-      is =
-          of-kind 8 (sym c.dag_word.ensures) c.in-8.is
-          c.requires.is;
-    }
+return_marked-requires c = record {
+  machine = c.requires.machine;
+  is =
+      of-kind 8 (sym c.dag_word.ensures) c.in-8.is
+      c.requires.is;
+}
 
 pub publish-requires : goal.publish-requires
-publish-requires c =     record {
-      machine = c.requires.machine;
-      is =
-          of-kind 9 (sym c.dag_word.ensures)
-          (last-kind _ (subst (λ k. k < 10) (sym c.dag_word.ensures)
-          (kind-below _ _ _ _ _ _ (node-holds _ _ _ (row c.requires.is))))
-          c.in_default.in_default-own.rest.0.0.0.0.0.0.0.0.1
-          c.in_default.in_default-own.rest.0.0.0.0.0.0.0.1 c.in_default.in_default-own.rest.0.0.0.0.0.0.1
-          c.in_default.in_default-own.rest.0.0.0.0.0.1 c.in_default.in_default-own.rest.0.0.0.0.1
-          c.in_default.in_default-own.rest.0.0.0.1 c.in_default.in_default-own.rest.0.0.1
-          c.in_default.in_default-own.rest.0.1 c.in_default.in_default-own.rest.1)
-          c.requires.is;
-    }
+publish-requires c = record {
+  machine = c.requires.machine;
+  is =
+      of-kind 9 (sym c.dag_word.ensures)
+      (last-kind _ (subst (λ k. k < 10) (sym c.dag_word.ensures)
+      (kind-below _ _ _ _ _ _ (node-holds _ _ _ (row c.requires.is))))
+      c.in_default.in_default-own.rest.0.0.0.0.0.0.0.0.1
+      c.in_default.in_default-own.rest.0.0.0.0.0.0.0.1 c.in_default.in_default-own.rest.0.0.0.0.0.0.1
+      c.in_default.in_default-own.rest.0.0.0.0.0.1 c.in_default.in_default-own.rest.0.0.0.0.1
+      c.in_default.in_default-own.rest.0.0.0.1 c.in_default.in_default-own.rest.0.0.1
+      c.in_default.in_default-own.rest.0.1 c.in_default.in_default-own.rest.1)
+      c.requires.is;
+}
 
 pub returns-in-0 : goal.returns-in-0
 returns-in-0 c = λ m a one. let b = of-kind 0 (sym c.dag_word.ensures)

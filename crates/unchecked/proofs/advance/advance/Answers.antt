@@ -2,7 +2,6 @@
 use mathlib.Core.Bool.{true, false}
 use Rattle.acts.specs.Acting.{advance_report}
 use Rattle.unchecked.proofs.WholeCall.{reported}
-use borrow.Author.Rules.{rules}
 use Rattle.unchecked.proofs.advance.advance.Goals as goal
 
 pub returns-then-move_to : goal.returns-then-move_to

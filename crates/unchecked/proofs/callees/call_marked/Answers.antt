@@ -4,7 +4,6 @@ use mathlib.Core.Path.{◌≡◌, sym, ap, ◌∙◌}
 use mathlib.Core.Bool.{Bool}
 use Prim.Native.Nat.{ℕ}
 use native.Mathlib.Omega.{arith}
-use borrow.Author.Rules.{rules}
 use Rattle.job.specs.Node.{Dag}
 use Rattle.job.specs.Tail.{is_tail}
 use Rattle.acts.proofs.Outcomes.{row, row_fits, token-inside}

@@ -1,6 +1,5 @@
 -- `callees::is_shared` meets its contract. Assumes nothing.
 use mathlib.Core.Bool.{true, false}
-use borrow.Author.Rules.{rules}
 use native.Mathlib.Omega.{arith}
 use Rattle.job.proofs.Lists.{get_d_any}
 use Rattle.unchecked.proofs.callees.is_shared.Goals as goal

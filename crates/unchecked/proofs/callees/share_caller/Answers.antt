@@ -1,6 +1,5 @@
 -- `callees::share_caller` meets its contract: by the number of the caller's place. Assumes nothing.
 use mathlib.Core.Path.{◌∙◌}
-use borrow.Author.Rules.{rules}
 use Rattle.unchecked.proofs.CalleeMarks.{shared-none, shared-far, shared_at}
 use Rattle.unchecked.proofs.callees.share_caller.Goals as goal
 

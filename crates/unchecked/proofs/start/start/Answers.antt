@@ -3,7 +3,6 @@ use mathlib.Core.Bool.{true}
 use mathlib.Core.Path.{◌∙◌, ap}
 use lib.ListN.{set}
 use Rattle.unchecked.proofs.WholeCall.{start-holds, start-tokens, start-cells}
-use borrow.Author.Rules.{rules}
 use Rattle.unchecked.proofs.start.start.Goals as goal
 
 pub returns : goal.returns

@@ -3,7 +3,6 @@ use Prim.Native.Nat.{◌+◌, ◌*◌}
 use Rattle.unchecked.proofs.WholeCall.{place_inside, taking-of, acting-of}
 use Rattle.acts.proofs.Outcomes.{token-inside}
 use mathlib.Core.Path.{ap, ◌∙◌}
-use borrow.Author.Rules.{rules}
 use Rattle.unchecked.proofs.step.step.Goals as goal
 
 pub queue_name-requires : goal.queue_name-requires

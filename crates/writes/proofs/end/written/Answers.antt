@@ -1,5 +1,4 @@
 -- `end::written` meets its contract: each writer's contract, one behind the other, leads to the record of the definition. Assumes nothing.
-use borrow.Author.Rules.{rules}
 use Rattle.writes.proofs.end.written.Goals as goal
 
 pub returns : goal.returns

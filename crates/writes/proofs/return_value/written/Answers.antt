@@ -7,7 +7,6 @@ use Rattle.model.specs.declared.token.State.TheVariants as states
 use Rattle.model.specs.Machine.Blank.{token_at}
 use Rattle.model.specs.Machine.Update.{put, with_tables, with_orders, enqueue}
 use Rattle.writes.proofs.Writes.{put-queue}
-use borrow.Author.Rules.{rules}
 use Rattle.writes.proofs.return_value.written.Goals as goal
 
 pub returns : goal.returns

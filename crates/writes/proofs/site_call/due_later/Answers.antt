@@ -6,7 +6,6 @@ use Rattle.model.specs.declared.token.State.TheVariants as states
 use Rattle.model.specs.Machine.Update.{put, with_tables, with_orders, timers_of}
 use Rattle.model.specs.Machine.Blank.{token_at}
 use mathlib.Core.Path.{refl}
-use borrow.Author.Rules.{rules}
 use Rattle.writes.proofs.site_call.due_later.Goals as goal
 
 pub returns : goal.returns

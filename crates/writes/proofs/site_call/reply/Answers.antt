@@ -6,7 +6,6 @@ use Rattle.record.specs.Holds.{Holds}
 use Rattle.model.specs.Machine.Update.{put, with_tables, with_orders, enqueue}
 use Rattle.model.specs.Machine.Blank.{token_at}
 use mathlib.Core.Path.{refl, subst}
-use borrow.Author.Rules.{rules}
 use Rattle.writes.proofs.site_call.reply.Goals as goal
 
 pub returns : goal.returns

@@ -1,0 +1,2 @@
+-- What an error leaves of a read or a write.
+pub mod Parts
