@@ -16,7 +16,8 @@ use Rattle.model.specs.Machine.Limits.{paper}
 use Rattle.model.specs.Machine.FreePlace.{next_place}
 use Rattle.model.specs.Machine.Reply.{accepted, outcome, unless, refuses}
 use Rattle.model.specs.Machine.Step as Step
-use Rattle.model.specs.Machine.Update.{with_node, with_state, with_value, with_binding, in_cell, put, enqueue, new_token, new_cell, with_orders}
+use Rattle.model.specs.Machine.Update.{with_node, with_state, with_value, with_binding, in_cell}
+use Rattle.model.specs.Machine.Update.{put, enqueue, new_token, new_cell, with_orders}
 use Rattle.model.specs.Machine.Step.{act, value_of}
 use Rattle.model.specs.Machine.Step.{has_token_place, has_cell_place, call_site, look}
 use Rattle.model.specs.declared.record.Machine.{Machine}
@@ -175,7 +176,8 @@ module _ (dag : List ℕ) (place p at : ℕ) (m : Machine) where
 
   body-step : {ws : List ℕ} {used cells : List Bool} (tail : Bool) → is_tail (dag_of dag) (word 2) ≡ tail
       → Acting ws used cells dag place p at 2 m
-      → Step.step paper (dag_of dag) m place ≡ outcome m (Step.call_body paper m (dequeued m place) p t root (params_at dag at) (word 2) tail)
+      → Step.step paper (dag_of dag) m place ≡ outcome m (Step.call_body paper m (dequeued m place) p t root (params_at dag at) (word 2)
+      tail)
   unfolding act
   body-step tail is a =
       step_is a ∙ ap (λ b. outcome m (Step.call_body paper m (dequeued m place) p t root (params_at dag at) (word 2) b)) is

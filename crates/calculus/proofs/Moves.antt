@@ -83,7 +83,8 @@ module _ (body : ℕ → Exp) (h now : ℕ) where
   unfoldable pub every_of_site : ℕ → Option (List ℤ) → Tests → Bool
   every_of_site s none p = true
   every_of_site s (some vs) p =
-      (is_builtin s implies after_reply now (builtin s vs) (p silently)) and (is_outside s implies p (showing (Event.call h s vs)) (pending h))
+      (is_builtin s implies after_reply now (builtin s vs) (p silently)) and (is_outside s implies p (showing (Event.call h s vs))
+      (pending h))
 
   -- a test of every move of an expression, where answers have the value w
   unfoldable pub every : ℤ → Exp → Tests → Bool
@@ -105,7 +106,8 @@ module _ (body : ℕ → Exp) (h now : ℕ) where
   site-builtin s vs p r b e t = subst (λ x. after_reply now x (p silently) ≡ true) e (under _ _ b (and_left _ _ t))
 
   due-move : {o : Option ℕ} (s : ℕ) (vs : List ℤ) (p : Tests) (t : ℤ)
-      → is_builtin s ≡ true → builtin s vs ≡ later t → due_time now t ≡ o → every_of_site s (some vs) p ≡ true → after_due o (p silently) ≡ true
+      → is_builtin s ≡ true → builtin s vs ≡ later t → due_time now t ≡ o → every_of_site s (some vs) p ≡ true
+      → after_due o (p silently) ≡ true
   unfolding after_reply
   due-move s vs p t b r d e = subst (λ x. after_due x (p silently) ≡ true) d (site-builtin s vs p (later t) b r e)
 
@@ -122,8 +124,10 @@ module _ (body : ℕ → Exp) (h now : ℕ) where
       site-builtin s vs p (gives v) b r (subst (λ x. every_of_site s x p ≡ true) e t)
   every-move w p (builtin-silent {s = s} {vs = vs} e b r) i t =
       site-builtin s vs p silent b r (subst (λ x. every_of_site s x p ≡ true) e t)
-  every-move w p (builtin-later {s = s} {vs = vs} {t = v} e b r d) i t = due-move s vs p v b r d (subst (λ x. every_of_site s x p ≡ true) e t)
-  every-move w p (builtin-never {s = s} {vs = vs} {t = v} e b r d) i t = due-move s vs p v b r d (subst (λ x. every_of_site s x p ≡ true) e t)
+  every-move w p (builtin-later {s = s} {vs = vs} {t = v} e b r d) i t = due-move s vs p v b r d (subst (λ x. every_of_site s x p ≡ true)
+      e t)
+  every-move w p (builtin-never {s = s} {vs = vs} {t = v} e b r d) i t = due-move s vs p v b r d (subst (λ x. every_of_site s x p ≡ true)
+      e t)
   every-move w p (fell-due {d = d} l) i t = under _ _ (le-leb d now l) t
   every-move w p (outside-call {s = s} {vs = vs} e b) i t = site-outside s vs p b (subst (λ x. every_of_site s x p ≡ true) e t)
   every-move w p (answered fit) in-answering t = under _ _ fit t
@@ -132,11 +136,13 @@ module _ (body : ℕ → Exp) (h now : ℕ) where
   every-move w p (par-left r) i t = every-move w _ r i (and_left _ _ t)
   every-move w p (par-right r) i t = every-move w _ r i (and_right _ _ t)
   every-move w p (seq-acts {f' = f'} {g = g} r passes) i t =
-      sorted-passes (λ v g'. p silently (par (seq g' g) (substitute (innermost v) g))) (λ a g'. p a (seq g' g)) f' passes (every-move w _ r i t)
+      sorted-passes (λ v g'. p silently (par (seq g' g) (substitute (innermost v) g))) (λ a g'. p a (seq g' g)) f' passes (every-move w _
+      r i t)
   every-move w p (seq-publishes r) i t = every-move w _ r in-publishing t
   every-move w p (prune-left r) i t = every-move w _ r i (and_left _ _ t)
   every-move w p (prune-right {f = f} {g' = g'} r passes) i t =
-      sorted-passes (λ v f'. p silently (substitute (innermost v) f)) (λ a f'. p a (prune f f')) g' passes (every-move w _ r i (and_right _ _ t))
+      sorted-passes (λ v f'. p silently (substitute (innermost v) f)) (λ a f'. p a (prune f f')) g' passes (every-move w _ r i (and_right
+      _ _ t))
   every-move w p (prune-publishes r) i t = every-move w _ r in-publishing (and_right _ _ t)
 
   -- a move of which a test fails

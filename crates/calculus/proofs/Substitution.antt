@@ -32,7 +32,8 @@ unfolding subst_param
 subst_param-after θ ρ (value v) = refl
 subst_param-after θ ρ (variable i) = refl
 
-subst_params-after : (θ ρ : Substitution) (ps : List Param) → map (subst_param θ) (map (subst_param ρ) ps) ≡ map (subst_param (θ after ρ)) ps
+subst_params-after : (θ ρ : Substitution) (ps : List Param) → map (subst_param θ) (map (subst_param ρ) ps) ≡ map (subst_param (θ after ρ))
+    ps
 subst_params-after θ ρ [] = refl
 subst_params-after θ ρ (p ∷ ps) = ap₂ ◌∷◌ (subst_param-after θ ρ p) (subst_params-after θ ρ ps)
 

@@ -100,7 +100,8 @@ module _ (time : ℕ → ℕ) where
 
   module _ (due : ℕ → Bool) where
     pub first-sorted : (l : List ℕ) (i : ℕ) → i < length l → due (get_or l i 0) ≡ true
-        → ((j : ℕ) → j < length l → time (get_or l i 0) ≤ time (get_or l j 0)) → ((j : ℕ) → j < i → time (get_or l i 0) < time (get_or l j 0))
+        → ((j : ℕ) → j < length l → time (get_or l i 0) ≤ time (get_or l j 0)) → ((j : ℕ) → j < i
+        → time (get_or l i 0) < time (get_or l j 0))
         → sort_by_time time (select due l) ≡ get_or l i 0 ∷ sort_by_time time (select due (without i l))
     unfolding select sort_by_time without
     first-sorted [] i k e least first = absurd (omega arith)
@@ -111,7 +112,8 @@ module _ (time : ℕ → ℕ) where
         go (due q) (first-sorted l i (omega arith) e (λ j z. least (suc j) (omega arith)) (λ j z. first (suc j) (omega arith)))
       where
         go : (b : Bool) → sort_by_time time (select due l) ≡ get_or l i 0 ∷ sort_by_time time (select due (without i l))
-            → sort_by_time time (kept_if due b q (select due l)) ≡ get_or l i 0 ∷ sort_by_time time (kept_if due b q (select due (without i l)))
+            → sort_by_time time (kept_if due b q (select due l)) ≡ get_or l i 0 ∷ sort_by_time time (kept_if due b q (select due (without
+            i l)))
         go true rest =
             ap (insert_by_time time q) rest
             ∙ insert-behind q (get_or l i 0) (sort_by_time time (select due (without i l))) (first 0 (omega arith))

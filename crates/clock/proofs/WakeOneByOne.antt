@@ -224,7 +224,8 @@ module _ {ws : List ℕ} (m : Machine) (h : Holds ws m) (f : ClockFacts m) (i : 
         sort_by_time (λ x. due_time_of (token_at ts x).state) (select (λ x. is_due_by time (token_at ts x).state) xs))
         tokens-then (timers-are timers-then)
         ∙ ap (sort_by_time (λ x. due_time_of (state_then x)))
-        (select-alike (λ x. is_due_by time (state_then x)) (λ x. is_due_by time (state_of x)) (All-map (λ x e. ap (is_due_by time) e) others))
+        (select-alike (λ x. is_due_by time (state_then x)) (λ x. is_due_by time (state_of x)) (All-map (λ x e. ap (is_due_by time) e)
+        others))
         ∙ sort-alike (λ x. due_time_of (state_then x)) (λ x. due_time_of (state_of x))
         (all-select (λ x. is_due_by time (state_of x)) (All-map (λ x e. ap due_time_of e) others))))
 

@@ -4,7 +4,8 @@ use Rattle.job.specs.Test.{occurrences, once, without}
 use Rattle.model.specs.Machine.Blank.{token_at}
 use Rattle.model.specs.Machine.Clock.{woken_by, joining, staying}
 use Rattle.model.specs.Machine.State.{is_due, due_time_of}
-use Rattle.model.specs.Machine.Update.{with_value, with_state, with_tables, with_orders, with_timers, queue_of, waits_of, timers_of, put, enqueue}
+use Rattle.model.specs.Machine.Update.{with_value, with_state, with_tables, with_orders, with_timers}
+use Rattle.model.specs.Machine.Update.{queue_of, waits_of, timers_of, put, enqueue}
 use Rattle.model.specs.declared.token.Held.TheVariants as helds
 use Rattle.model.specs.declared.token.State.TheVariants as states
 use Rattle.model.specs.declared.token.Token.{Token}

@@ -25,7 +25,8 @@ use Rattle.job.proofs.Test.{clash, eqb-eq, and_left, and_right, and_both, same-e
 use Rattle.job.proofs.Number.{unsigned_signed}
 use Rattle.record.specs.Layout.{row_of, cell_row, table_words, words_of, parts, count_words, clock_words}
 use Rattle.record.specs.Layout.{slot_kind, slot_number, state_kind, state_number, place_number, held_kind, held_number}
-use Rattle.record.specs.LayoutDecoded.{machine_of, table_from, token_from, cell_from, binds_from, place_from, held_from, slot_from, state_from}
+use Rattle.record.specs.LayoutDecoded.{machine_of, table_from, token_from, cell_from, binds_from}
+use Rattle.record.specs.LayoutDecoded.{place_from, held_from, slot_from, state_from}
 use Rattle.record.specs.Holds.{Codes, Shaped}
 use Rattle.record.proofs.LayoutParts.{row-wide, cell-wide}
 use Rattle.record.proofs.LayoutTable.{rows-length}
@@ -232,7 +233,10 @@ words_back : (ws : List ℕ) → length ws ≡ 1863 → Small ws → record_code
 unfolding words_of machine_of parts count_words clock_words record_coded
 words_back ws l s e =
     let a = table-back row_of token_from row_coded 24 row_back 64 ws (omega arith) s (and_left (table_coded row_coded 24 64 ws) _ e) in
-    let b = table-back cell_row cell_from cell_coded 4 cell-back 32 (drop 1536 ws) (omega (arith, length-drop 1536 ws)) (small-drop 1536 ws s)
+    let b = table-back cell_row cell_from cell_coded 4 cell-back 32 (drop 1536 ws) (omega (
+      arith,
+      length-drop 1536 ws,
+    )) (small-drop 1536 ws s)
     (and_right (table_coded row_coded 24 64 ws) _ e) in
     let q = take 64 (drop 1664 ws) in
     let w = take 64 (drop 1728 ws) in

@@ -113,7 +113,8 @@ cell-read lim c e =
 -- tables
 module _ {A : Type 0} (f : A → List ℕ) (g : List ℕ → A) (w : ℕ) (wide : (x : A) → length (f x) ≡ w) (ok : A → Bool)
     (read : (x : A) → ok x ≡ true → g (f x) ≡ x) where
-  table-read : (xs : List A) (n : ℕ) (rest : List ℕ) → length xs ≡ n → for_all ok xs ≡ true → table_from g w n (table_words f xs ++ rest) ≡ xs
+  table-read : (xs : List A) (n : ℕ) (rest : List ℕ) → length xs ≡ n → for_all ok xs ≡ true → table_from g w n (table_words f xs ++ rest)
+      ≡ xs
   unfolding table_words table_from for_all
   table-read [] zero rest l e = refl
   table-read [] (suc n) rest l e = absurd (omega arith)

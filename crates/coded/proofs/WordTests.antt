@@ -76,17 +76,18 @@ module _ (ws : List ℕ) (at x : ℕ) (all : Bool) (l : x < 8) (left : all ≡ b
       left ∙ ap (λ n. binds_coded n (drop (at + 2 * x) ws)) z ∙ slots-step (8 - (x + 1)) (at + 2 * x) ws
       ∙ ap (λ i. slot_coded (get_or ws (at + 2 * x) 0) (get_or ws (at + 2 * x + 1) 0) and binds_coded (8 - (x + 1)) (drop i ws)) y
 
-  module _ (a b : ℕ) (ok : Bool) (ea : a ≡ get_or ws (at + 2 * x) 0) (eb : b ≡ get_or ws (at + 2 * x + 1) 0) (eo : ok ≡ slot_coded a b) where
-    slot_is : slot_coded (get_or ws (at + 2 * x) 0) (get_or ws (at + 2 * x + 1) 0) ≡ ok
-    slot_is = sym (eo ∙ ap₂ slot_coded ea eb)
+  module _ (a b : ℕ) (ok : Bool) (ea : a ≡ get_or ws (at + 2 * x) 0) (eb : b ≡ get_or ws (at + 2 * x + 1) 0) (eo : ok ≡ slot_coded a b)
+    where
+      slot_is : slot_coded (get_or ws (at + 2 * x) 0) (get_or ws (at + 2 * x + 1) 0) ≡ ok
+      slot_is = sym (eo ∙ ap₂ slot_coded ea eb)
 
-    pub slots-on : ok ≡ true → all ≡ binds_coded (8 - (x + 1)) (drop (at + 2 * (x + 1)) ws)
-    unfolding ◌and◌
-    slots-on e = slots-now ∙ rw (slot_is, e)
+      pub slots-on : ok ≡ true → all ≡ binds_coded (8 - (x + 1)) (drop (at + 2 * (x + 1)) ws)
+      unfolding ◌and◌
+      slots-on e = slots-now ∙ rw (slot_is, e)
 
-    pub slots-fail : ok ≡ false → false ≡ all
-    unfolding ◌and◌
-    slots-fail e = sym (slots-now ∙ rw (slot_is, e))
+      pub slots-fail : ok ≡ false → false ≡ all
+      unfolding ◌and◌
+      slots-fail e = sym (slots-now ∙ rw (slot_is, e))
 
 pub slots_end : (ws : List ℕ) (at x : ℕ) (all : Bool) → 8 ≤ x → all ≡ binds_coded (8 - x) (drop (at + 2 * x) ws) → true ≡ all
 unfolding binds_coded
@@ -117,7 +118,8 @@ module _ (ws : List ℕ) (at : ℕ) where
 
   row_is : row_coded row
       ≡ (state_coded (get_or ws at 0) (get_or ws (at + 1) 0)
-      and (held_coded (get_or ws (at + 5) 0) (get_or ws (at + 6) 0) and (eqb (get_or ws (at + 7) 0) 0 and binds_coded 8 (drop (at + 8) ws))))
+      and (held_coded (get_or ws (at + 5) 0) (get_or ws (at + 6) 0) and (eqb (get_or ws (at + 7) 0) 0 and binds_coded 8 (drop (at + 8)
+      ws))))
   unfolding row_coded
   row_is =
       let z : at + 0 ≡ at = omega arith in

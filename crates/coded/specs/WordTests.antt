@@ -29,7 +29,8 @@ binds_coded (suc n) ws = slot_coded (get_or ws 0 0) (get_or ws 1 0) and binds_co
 
 unfoldable pub row_coded : List ℕ → Bool
 row_coded r =
-    state_coded (get_or r 0 0) (get_or r 1 0) and (held_coded (get_or r 5 0) (get_or r 6 0) and (eqb (get_or r 7 0) 0 and binds_coded 8 (drop 8 r)))
+    state_coded (get_or r 0 0) (get_or r 1 0) and (held_coded (get_or r 5 0) (get_or r 6 0) and (eqb (get_or r 7 0) 0 and binds_coded 8
+    (drop 8 r)))
 
 unfoldable pub cell_coded : List ℕ → Bool
 cell_coded r = held_coded (get_or r 1 0) (get_or r 2 0) and eqb (get_or r 3 0) 0

@@ -98,7 +98,8 @@ module _ (ks os : List ℕ) (small : (at : ℕ) → operand_at os at < 2 ^ 32) (
     pub count : length g.value ≡ n
     pub inside : e + n ≤ length ks
 
-  pub params-end : (n e : ℕ) (g : Got (List Param)) → e ≤ length ks → read_param_list n scope e (drop e (entries ks os)) ≡ got g → Ended n e g
+  pub params-end : (n e : ℕ) (g : Got (List Param)) → e ≤ length ks → read_param_list n scope e (drop e (entries ks os)) ≡ got g
+      → Ended n e g
   unfolding read_param_list
   params-end zero e g l r =
       let a : g.next ≡ e = cc in
@@ -129,7 +130,8 @@ module _ (ks os : List ℕ) (small : (at : ℕ) → operand_at os at < 2 ^ 32) (
           let l : i < n = ltb-lt i n e in
           let a : n - i ≡ suc (n - suc i) = omega arith in
           let b : suc (at + i) ≡ at + suc i = omega arith in
-          let f = first (n - suc i) (at + i) g (subst (λ m. read_param_list m scope (at + i) (drop (at + i) (entries ks os)) ≡ got g) a r) in
+          let f = first (n - suc i) (at + i) g (subst (λ m. read_param_list m scope (at + i) (drop (at + i) (entries ks os)) ≡ got g) a r)
+          in
           let t = ih f.others (subst (λ m. read_param_list (n - suc i) scope m (drop m (entries ks os)) ≡ got f.others) b f.again) in
           ap (λ ps. param_words (suc w) ps) f.value
           ∙ (f.words w f.others.value ∙ ap (λ ws. get_or ks (at + i) 0 ∷ operand_at os (at + i) ∷ ws) t)

@@ -50,7 +50,8 @@ join-rows j f g n k d =
     let b : head_words + 12 * first_right j f n ≡ at + length H + length F = omega arith in
     let e : rows_of_nodes (nodes_of (join j f g) n k) ≡ H ++ (F ++ G) = simp (rows_append, append_assoc) in
     sets-swap _ at (head_words + 12 * first_right j f n) H G (omega arith)
-    ∙ ap (λ (m : List ℕ). sets m (head_words + 12 * first_right j f n) G) (sets-swap d at (head_words + 12 * first_left j n) H F (omega arith))
+    ∙ ap (λ (m : List ℕ). sets m (head_words + 12 * first_right j f n) G) (sets-swap d at (head_words + 12 * first_left j n) H F (omega
+    arith))
     ∙ sym (ap (λ (w : List ℕ). sets d at w) e
     ∙ sets-append d at H (F ++ G)
     ∙ sets-append _ (at + length H) F G
@@ -148,10 +149,12 @@ module _ {left : ℕ} {ks os scope : List ℕ} {at n : ℕ} (t : Taken left ks o
               let a : d1 ≡ sets d (head_words + 12 * first_left j n) (rows_of_nodes (nodes_of f (first_left j n) (next_left j n k))) =
               e1 ∙ ap (λ r. stored r l.first l.next d) read_left
               ∙ ap₂ (λ m i. sets d (head_words + 12 * m) (rows_of_nodes (nodes_of f m i))) el.begins el.goes in
-              let b : d2 ≡ sets d1 (head_words + 12 * first_right j f n) (rows_of_nodes (nodes_of g (first_right j f n) (next_right j n k))) =
+              let b : d2 ≡ sets d1 (head_words + 12 * first_right j f n) (rows_of_nodes (nodes_of g (first_right j f n) (next_right j n
+              k))) =
               e2 ∙ ap (λ r'. stored r' r.first r.next d1) read_right
               ∙ ap₂ (λ m i. sets d1 (head_words + 12 * m) (rows_of_nodes (nodes_of g m i))) (er.begins ∙ node-left) er.goes in
-              let o : d3 ≡ sets d2 (head_words + 12 * n) (rows_of_nodes (own_nodes j (root f (first_left j n)) (root g (first_right j f n)) k)) =
+              let o : d3 ≡ sets d2 (head_words + 12 * n) (rows_of_nodes (own_nodes j (root f (first_left j n)) (root g (first_right j f
+              n)) k)) =
               e3 ∙ ap (λ y. sets d2 (head_words + 12 * n) (rows_of_nodes (own_nodes (join_of (get_or ks at 0) y) c.root q.root k))) ey
               ∙ ap₂ (λ m i. sets d2 (head_words + 12 * n) (rows_of_nodes (own_nodes j m i k))) root-left
               (ap (λ (y : Compiled). y.root) last) in

@@ -57,7 +57,8 @@ taken {left} {ks} {os} {s} {at} {n} {scope} acc =
     record { parts = acc.parts; here = acc.here; it = v.0; read = v.1; fits = v.2; head = t.head }
 
 -- a binder has a number to take
-pub binder-room : {left : ℕ} {ks os : List ℕ} {s : Scope} {at n : ℕ} {scope : List ℕ} → Accepted left ks os s at n scope → 4 ≤ get_or ks at 0
+pub binder-room : {left : ℕ} {ks os : List ℕ} {s : Scope} {at n : ℕ} {scope : List ℕ} → Accepted left ks os s at n scope
+    → 4 ≤ get_or ks at 0
     → s.count < 8
 binder-room acc b = let h = head-room (taken acc).head b in omega (arith, acc.means.counted)
 

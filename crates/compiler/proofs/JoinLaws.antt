@@ -19,7 +19,8 @@ row_last : (d d' : List ℕ) (n : ℕ) (x : Node) → d' ≡ sets d (head_words 
 unfolding rows_of_nodes
 row_last d d' n x e = e ∙ sym (sets-append d (head_words + 12 * n) (node_words x) [])
 
-row-then : (d c d' : List ℕ) (n : ℕ) (x : Node) (xs : List Node) → length (node_words x) ≡ 12 → c ≡ sets d (head_words + 12 * n) (node_words x)
+row-then : (d c d' : List ℕ) (n : ℕ) (x : Node) (xs : List Node) → length (node_words x) ≡ 12
+    → c ≡ sets d (head_words + 12 * n) (node_words x)
     → d' ≡ sets c (head_words + 12 * (n + 1)) (rows_of_nodes xs) → d' ≡ sets d (head_words + 12 * n) (rows_of_nodes (x ∷ xs))
 unfolding rows_of_nodes
 row-then d c d' n x xs w e f =

@@ -79,7 +79,8 @@ module _ (ws : List ℕ) where
       goal-is)
 
   -- in a dag whose rules hold the node is the one that the row would be by its kind
-  pub node-by-kind : dag_holds (dag_of ws) ≡ true → (i : ℕ) → i < get_or ws 0 0 → node_at (dag_of ws) i ≡ node_by (take 12 (drop (67 + 12 * i) ws))
+  pub node-by-kind : dag_holds (dag_of ws) ≡ true → (i : ℕ) → i < get_or ws 0 0 → node_at (dag_of ws) i ≡ node_by (take 12 (drop (67 + 12
+      * i) ws))
   unfolding dag_holds node_at
   node-by-kind e i l =
       let row = take 12 (drop (67 + 12 * i) ws) in

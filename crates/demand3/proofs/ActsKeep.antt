@@ -334,7 +334,15 @@ module _ (lim : Limits) (d : Dag) (m : Machine) (F : Facts lim d m) (some : 0 < 
       is_waiting is_due
   called_out s vs k few l =
       record {
-        sizes = record { token_places = length-set m.tokens p u ∙ F.sizes.token_places; cell_places = F.sizes.cell_places; calls = omega arith; lasttoken = F.sizes.lasttoken; lastcell = F.sizes.lastcell; clock = F.sizes.clock };
+        sizes =
+            record {
+              token_places = length-set m.tokens p u ∙ F.sizes.token_places;
+              cell_places = F.sizes.cell_places;
+              calls = omega arith;
+              lasttoken = F.sizes.lasttoken;
+              lastcell = F.sizes.lastcell;
+              clock = F.sizes.clock;
+            };
         queue = queue;
         waits = waits;
         timers = F.timers;

@@ -216,7 +216,8 @@ module _ (lim : Limits) (d : Dag) (m : Machine) (holds : rules_hold lim d m ≡ 
         refl refl refl
 
     pub deferred-carried : (due next : ℕ) (timers : List ℕ)
-        → Carried (with_timers timers (put p (with_node next (with_state (states.Due due) t)) (taken m place))) (tokens_used m) (cells_used m)
+        → Carried (with_timers timers (put p (with_node next (with_state (states.Due due) t)) (taken m place))) (tokens_used m)
+        (cells_used m)
     unfolding with_orders with_timers put with_tables with_node with_state is_live
     deferred-carried due next timers = links-carried p live _ (with_node next (with_state (states.Due due) t)) refl refl refl refl refl refl
 
@@ -289,7 +290,8 @@ module _ (lim : Limits) (d : Dag) (m : Machine) (holds : rules_hold lim d m ≡ 
       unfolding with_orders with_counts put with_tables enqueue new_token new_cell with_node in_cell with_binding cell_is_set has_value
       split-carried below c cell x left right =
           both-carried clean q c (split-inside lim d m rules p used q c x left right)
-          (split-adds lim d m holds p live _ q (with_node left (with_binding x (slots.Cell c) t)) (in_cell c (with_node right t)) refl free c
+          (split-adds lim d m holds p live _ q (with_node left (with_binding x (slots.Cell c) t)) (in_cell c (with_node right t)) refl
+          free c
           (record { parent = t.cell; value = helds.Nothing }) refl vacant refl refl live refl live refl refl refl)
         where
           vacant : Free (cells_used m) c

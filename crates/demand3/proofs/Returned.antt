@@ -242,7 +242,8 @@ module _ (lim : Limits) (d : Dag) (m : Machine) (holds : rules_hold lim d m ≡ 
         vacant : (i : ℕ) → Free (tokens_used o) i → (i ≡ f → ⊥) → get_or o.tokens i blank_token ≡ blank_token
         vacant i e n =
             row i (λ q. clash (subst (Used o) (sym q) token-used) e)
-            ∙ clean.tokens i (sym (get_or-set_other (tokens_used m) f i false true n) ∙ (ap (λ us. get_or us i true) (sym returned-tokens) ∙ e))
+            ∙ clean.tokens i (sym (get_or-set_other (tokens_used m) f i false true n) ∙ (ap (λ us. get_or us i true) (sym returned-tokens)
+            ∙ e))
 
         at : (i : ℕ) (b : Bool) → get_or (tokens_used o) i true ≡ b → Dec (i ≡ f)
             → get_or (rest_blanked blank_token (tokens_used o) o.tokens) i blank_token ≡ get_or (set o.tokens f blank_token) i blank_token

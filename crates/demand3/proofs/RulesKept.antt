@@ -23,7 +23,8 @@ use Rattle.model.specs.Machine.Blank.{empty, blank_token, blank_cell, token_at, 
 use Rattle.model.specs.Machine.State.{is_blank_state, is_live, is_ready, is_frame, handle_of}
 use Rattle.model.specs.Machine.Active.{cell_is_set, under_set}
 use Rattle.model.specs.Machine.InUse.{tokens_used, cells_used}
-use Rattle.model.specs.Machine.Rules.{held_in_range, place_in_range, slot_in_range, state_in_range, token_in_range, cell_in_range, sizes_in_range}
+use Rattle.model.specs.Machine.Rules.{held_in_range, place_in_range, slot_in_range, state_in_range}
+use Rattle.model.specs.Machine.Rules.{token_in_range, cell_in_range, sizes_in_range}
 use Rattle.model.specs.Machine.Rules.{chain_ends, chains_end, not_under_set, open_handles, waits_at_unset, names_frame}
 use Rattle.model.specs.Machine.Rules.{not_empty, value_if_ready, node_rule, at_node, due_in_range, clock_holds, machine_holds, rules_hold}
 use Rattle.model.specs.declared.token.Slot.{Slot}

@@ -42,7 +42,8 @@ no-expression =
 pub is-binder : (k : ℕ) → k ≤ 5 → 4 ≤ k → is_binder (kind_of k) ≡ true
 unfolding kind_of is_binder
 is-binder =
-    up-to-five (λ k. 4 ≤ k → is_binder (kind_of k) ≡ true) (λ l. absurd (omega arith)) (λ l. absurd (omega arith)) (λ l. absurd (omega arith))
+    up-to-five (λ k. 4 ≤ k → is_binder (kind_of k) ≡ true) (λ l. absurd (omega arith)) (λ l. absurd (omega arith)) (λ l. absurd (omega
+    arith))
     (λ l. absurd (omega arith)) (λ l. refl) (λ l. refl)
 
 pub no-binder : (k : ℕ) → k < 4 → is_binder (kind_of k) ≡ false

@@ -152,7 +152,8 @@ sound (suc left) scope k o q =
     go false b c p r q = absurd (omega arith)
 
 -- a binder has a number to take
-pub binder-room : (left : ℕ) (s : Scope) (scope : List ℕ) (k o n : ℕ) → Means s scope → n ≡ expression_fault left scope (kind_of k) o → n ≡ 0
+pub binder-room : (left : ℕ) (s : Scope) (scope : List ℕ) (k o n : ℕ) → Means s scope → n ≡ expression_fault left scope (kind_of k) o
+    → n ≡ 0
     → 4 ≤ k → s.count < 8
 binder-room left s scope k o n m e z b = let h = (sound left scope k o (sym e ∙ z)).room b in omega (arith, m.counted)
 
@@ -160,5 +161,6 @@ binder-room left s scope k o n m e z b = let h = (sound left scope k o (sym e �
 pub depth-left : (left : ℕ) (scope : List ℕ) (k o n : ℕ) → n ≡ expression_fault left scope (kind_of k) o → n ≡ 0 → 1 ≤ left
 depth-left left scope k o n e z = (sound left scope k o (sym e ∙ z)).depth
 
-pub depth_falls : (left : ℕ) (scope : List ℕ) (k o n t : ℕ) → n ≡ expression_fault left scope (kind_of k) o → n ≡ 0 → left ≡ t → left - 1 < t
+pub depth_falls : (left : ℕ) (scope : List ℕ) (k o n t : ℕ) → n ≡ expression_fault left scope (kind_of k) o → n ≡ 0 → left ≡ t
+    → left - 1 < t
 depth_falls left scope k o n t e z q = let d = depth-left left scope k o n e z in omega arith

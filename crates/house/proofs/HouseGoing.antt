@@ -63,7 +63,8 @@ module _ (words rest before : List ℕ) (from : ℕ) where
 
   -- the run goes on
   turns-on : (n : ℕ) (s t : Standing) (ls : List Line) → turn paper 100000 (dag_of words) s ≡ on ls t
-      → text_of_all (turn_lines paper 100000 (dag_of words) (suc n) s) ≡ text_of_all ls ++ text_of_all (turn_lines paper 100000 (dag_of words) n t)
+      → text_of_all (turn_lines paper 100000 (dag_of words) (suc n) s) ≡ text_of_all ls ++ text_of_all (turn_lines paper 100000 (dag_of
+      words) n t)
   unfolding turn_lines
   turns-on n s t ls e = rw (e, turn_lines) (text-append ls (turn_lines paper 100000 (dag_of words) n t))
 

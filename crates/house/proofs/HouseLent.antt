@@ -140,7 +140,8 @@ module _ (dag rest before : List ℕ) (from : ℕ) where
       abbrev busy : false ≡ is_last L.machine.queued (length rest - at)
       busy = last-ready _ ready _
 
-      pub lent_limit : {after : List ℕ} {n : ℕ} → steps ≡ 100000 → ShowsBytes output from total (text_of_all (limit ∷ end steps ∷ [])) after n
+      pub lent_limit : {after : List ℕ} {n : ℕ} → steps ≡ 100000 → ShowsBytes output from total (text_of_all (limit ∷ end steps ∷ []))
+          after n
           → Whole after n
       lent_limit q s =
           going-limit dag rest before from L.going false busy refl true (limit-ready _ ready steps true (sym (eq-eqb steps 100000 q)))

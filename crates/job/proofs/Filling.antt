@@ -80,7 +80,8 @@ module _ (D : ℕ) where
     during : {n e : ℕ} → 0 < n → Ends (whole_table D) es n e → Stage es n e
     behind-all : {e : ℕ} → Ends (whole_table D) es 0 (length es) → FirstAt (Undefined (formals_in es)) es e → Stage es 8 e
 
-  stopped : {before : List Entry} {left : List Position} (rest : List Entry) {n : ℕ} → Fills (whole_table D) before left → Ends left rest n 0
+  stopped : {before : List Entry} {left : List Position} (rest : List Entry) {n : ℕ} → Fills (whole_table D) before left
+      → Ends left rest n 0
       → 0 < n → Stage (before ++ rest) n (length before)
   stopped {before} rest f d l = during l (rw add-zero at (ends-after rest f d))
 

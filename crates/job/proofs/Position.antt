@@ -176,7 +176,8 @@ module _ (es : List Entry) where
   Reads side = (scope : List ℕ) (e : ℕ) (l : List Entry) (g : Got Exp) → l ≡ drop e es → side scope e l ≡ got g → From es e g
 
   join-from : (side : List ℕ → ℕ → List Entry → Read Exp) → Reads side
-      → (j : Join) (scope : List ℕ) (e : ℕ) (l : List Entry) (g : Got Exp) → l ≡ drop e es → read_join side j scope e l ≡ got g → From es e g
+      → (j : Join) (scope : List ℕ) (e : ℕ) (l : List Entry) (g : Got Exp) → l ≡ drop e es → read_join side j scope e l ≡ got g
+      → From es e g
   unfolding read_join
   join-from side reads j scope e l g q r =
       let f = bind-got (side (scope_left j scope) e l) _ g r in

@@ -94,7 +94,8 @@ module _ {formals : List ℕ} (few : Few formals) where
 
   pub program-read : {ds : List Definition} {goal : Exp} → All (GoodDefinition formals) ds → Good formals 24 [] goal
       → (e : ℕ) (rest : List Entry)
-      → Gives (record { definitions = ds; goal = goal }) rest (read_program (length ds) e (encode_definitions ds ++ encode_exp goal ++ rest))
+      → Gives (record { definitions = ds; goal = goal }) rest (read_program (length ds) e (encode_definitions ds ++ encode_exp goal ++
+      rest))
   unfolding read_program encode_definitions
   program-read none good e rest = gives-bind _ (exp-read good e rest) λ n. given
   program-read {goal = goal} (more {x = d} {xs = ds} h hs) good e rest =

@@ -1,4 +1,5 @@
--- `is_tail` holds of a node exactly if `Tail` does. Where the looks that a node needs are one more, one more node passes with so many looks;
+-- `is_tail` holds of a node exactly if `Tail` does. Where the looks that a node needs are one more, one more node passes with so many
+-- looks;
 -- so none needs more looks than the dag has nodes. Assumes nothing.
 use mathlib.Core.Path.{◌≡◌, refl, sym, ◌∙◌, ap}
 use mathlib.Core.Logic.{⊎_elim}

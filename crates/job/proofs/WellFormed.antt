@@ -56,7 +56,8 @@ takes-site {s} {n} (outside l m k) =
 pub site-few : {s n : ℕ} → SiteTakes s n → n ≤ 4
 unfolding for_all ◌and◌
 site-few {s} (builtin l e) =
-    let few : get_or builtin_counts s 0 ≤ 4 = leb-le (get_or builtin_counts s 0) 4 (all-at (λ c. leb c 4) builtin_counts s 0 refl l) in omega arith
+    let few : get_or builtin_counts s 0 ≤ 4 = leb-le (get_or builtin_counts s 0) 4 (all-at (λ c. leb c 4) builtin_counts s 0 refl l) in
+    omega arith
 site-few (outside l u f) = f
 
 -- a call of a definition

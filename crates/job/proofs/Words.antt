@@ -63,7 +63,8 @@ unfolding node_words node_by node_holds
 node-by-words d Node.stop e = refl
 node-by-words d (Node.site s ps k) e =
     ap (λ qs. Node.site s qs k)
-    (params-read-back ps (and_left (params_hold ps) (is_node d k) (and_right (site_takes s (length ps)) (params_hold ps and is_node d k) e)))
+    (params-read-back ps (and_left (params_hold ps) (is_node d k) (and_right (site_takes s (length ps)) (params_hold ps and is_node d k)
+    e)))
 node-by-words d (Node.call x ps k) e =
     ap (λ qs. Node.call x qs k)
     (params-read-back ps (and_left (params_hold ps) (is_node d k) (and_right (ltb x (length d.bodies)) (params_hold ps and is_node d k) e)))

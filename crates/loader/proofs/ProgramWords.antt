@@ -20,7 +20,8 @@ use Rattle.compiler.specs.Body.{sink_of}
 use Rattle.loader.specs.ProgramStored.{nodes_before, bodies_before, words_before}
 
 -- one list of definitions behind another
-pub definition-list-nodes-append : (a b : List Definition) → definition_list_nodes (a ++ b) ≡ definition_list_nodes a + definition_list_nodes b
+pub definition-list-nodes-append : (a b : List Definition) → definition_list_nodes (a ++ b) ≡ definition_list_nodes a +
+    definition_list_nodes b
 unfolding definition_list_nodes
 definition-list-nodes-append [] b = omega arith
 definition-list-nodes-append (d ∷ a) b = omega (arith, definition-list-nodes-append a b)
@@ -33,7 +34,8 @@ nodes-append n (d ∷ a) b =
     let body : List Node = nodes_of d.body n (n + node_count d.body) ++ (sink_of false ∷ []) in
     ap (λ ns. body ++ ns) (nodes-append (n + definition_nodes d) a b ∙ rw z) ∙ sym (append_assoc body _ _)
 
-bodies-append : (n : ℕ) (a b : List Definition) → bodies_before n (a ++ b) ≡ bodies_before n a ++ bodies_before (n + definition_list_nodes a) b
+bodies-append : (n : ℕ) (a b : List Definition) → bodies_before n (a ++ b) ≡ bodies_before n a ++ bodies_before (n + definition_list_nodes
+    a) b
 unfolding bodies_before definition_list_nodes
 bodies-append n [] b = rw add-zero
 bodies-append n (d ∷ a) b =
@@ -94,7 +96,8 @@ one_more done d ws l l1 l2 i n many placed few e e1 e2 =
     let words : body_words (bodies_before 0 (done ++ (d ∷ []))) ≡ B ++ P =
     ap body_words (bodies-append 0 done (d ∷ [])) ∙ words_append (bodies_before 0 done) _ ∙ ap (λ w. B ++ w) (rw z) in
     let a : l1 ≡ sets Y head_words (R ++ X) = behind done ws l l1 X n placed e e1 in
-    let c : l2 ≡ sets (sets Y (3 + 2 * i) P) head_words (R ++ X) = e2 ∙ rw a (sets-swap Y (3 + 2 * i) head_words P (R ++ X) (omega arith)) in
+    let c : l2 ≡ sets (sets Y (3 + 2 * i) P) head_words (R ++ X) = e2 ∙ rw a (sets-swap Y (3 + 2 * i) head_words P (R ++ X) (omega arith))
+    in
     let f : sets Y (3 + 2 * i) P ≡ sets ws 3 (B ++ P) = rw b (sym (sets-append ws 3 B P)) in
     c ∙ rw (f, words, rows)
 

@@ -129,7 +129,8 @@ module _ (M : Labels) (W : World) (c i : ℕ) (s : CellSeen W c i) (w : Held) (v
       }
 
   -- the frame of a token outside is outside
-  frame-outside : {n : ℕ} {U : List ℕ} {F : List Frame} (q : ℕ) → for_some (eqb i) U ≡ false → Nested M n U F → FrameSeen W M q F → Outside q
+  frame-outside : {n : ℕ} {U : List ℕ} {F : List Frame} (q : ℕ) → for_some (eqb i) U ≡ false → Nested M n U F → FrameSeen W M q F
+      → Outside q
   frame-outside q f o (frame_at {U = U} l z b) =
       within-seen s b.cell ∙ some-rest (eqb i) o.own U (ap (for_some (eqb i)) (sym o.parts) ∙ f)
 

@@ -48,7 +48,8 @@ module _ (time : ℕ) where
     stays-state called e = called
     stays-state (due {time = d} {w = w}) e = subst (λ b. StateSeen M n K (states.Due d) w (woken_if b d K)) (sym e) due
 
-  token-wakes : {W : World} {M : Labels} {t : Token} {x : Abstract.Token} → TokenSeen W M t x → TokenSeen W M (woken_by time t) (wake time x)
+  token-wakes : {W : World} {M : Labels} {t : Token} {x : Abstract.Token} → TokenSeen W M t x
+      → TokenSeen W M (woken_by time t) (wake time x)
   unfolding woken_by with_state with_value
   token-wakes {W} {M} {t} {x} (sees z un st) = go (is_due_by time t.state) refl
     where

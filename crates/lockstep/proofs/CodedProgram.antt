@@ -148,7 +148,8 @@ module _ (p : Program) (w : WellFormed p) where
       goal-ends (construct p) (labels_of p) (meaning p).body (formals_of p.definitions) counted
       w.bodies w.goal 0 whole-laid (labelled-whole p)
 
-  body-laid : (e : ℕ) → e < (abstract_of p).count → Coded.Laid (abstract_of p) Abstract.Node.return ((meaning p).body e) ((abstract_of p).entry e)
+  body-laid : (e : ℕ) → e < (abstract_of p).count → Coded.Laid (abstract_of p) Abstract.Node.return ((meaning p).body e) ((abstract_of
+      p).entry e)
   unfolding construct meaning body_at
   body-laid e l =
       let known : length (construct p).bodies ≡ length p.definitions = bodies-length 0 p.definitions p.goal in

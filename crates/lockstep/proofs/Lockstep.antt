@@ -220,7 +220,8 @@ module _ (lim : Limits) (d : Dag) (M : Labels) (bodies : ℕ → Exp) (fits : Fi
       a = advance-accepted lim d m time ok
 
 -- "14: dag .. breaks an index rule": nothing is accepted on such a dag
-accepted-dag : (lim : Limits) (d : Dag) (m : Machine) (c : Call) → is_refused (outcome_of runner lim d m c).reply ≡ false → dag_holds d ≡ true
+accepted-dag : (lim : Limits) (d : Dag) (m : Machine) (c : Call) → is_refused (outcome_of runner lim d m c).reply ≡ false
+    → dag_holds d ≡ true
 unfolding outcome_of
 accepted-dag lim d m (step place) ok = (each-rule-holds lim d m (step-accepted lim d m place ok).holds).dag
 accepted-dag lim d m (answer h v signed) ok = (each-rule-holds lim d m (answer-accepted lim d m h v ok).holds).dag

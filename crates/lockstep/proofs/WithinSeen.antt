@@ -101,7 +101,8 @@ module _ {W : World} where
       rest : Bool
       rest = upward (λ b j. eqb c b) W.cells k (cell_at W.cells b).parent
 
-      go : (x y : Bool) → x ≡ y → rest ≡ for_some (eqb n) U → elim x as (λ x. Bool) [ true ↦ true | false ↦ rest ] ≡ (y or for_some (eqb n) U)
+      go : (x y : Bool) → x ≡ y → rest ≡ for_some (eqb n) U → elim x as (λ x. Bool) [ true ↦ true | false ↦ rest ] ≡ (y or for_some (eqb
+          n) U)
       go true true e f = refl
       go true false e f = clash refl e
       go false true e f = clash e refl

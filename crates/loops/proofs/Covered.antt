@@ -93,7 +93,8 @@ unfoldable pub uses : List Abstract.Token → ℕ
 uses [] = 0
 uses (x ∷ S) = suc (length (frames_of x)) + uses S
 
-pub split-uses : {x : Abstract.Token} {S L R : List Abstract.Token} → Split x S L R → uses S ≡ uses L + (suc (length (frames_of x)) + uses R)
+pub split-uses : {x : Abstract.Token} {S L R : List Abstract.Token} → Split x S L R → uses S ≡ uses L + (suc (length (frames_of x)) + uses
+    R)
 unfolding uses
 split-uses first = omega arith
 split-uses (later s) = let z = split-uses s in omega arith

@@ -31,7 +31,8 @@ NotFullReply r = (r ≡ replies.Refused refusals.TokenLimit → ⊥) × (r ≡ r
 -- where a step takes a token, there is room for what it adds
 abbrev pub RoomFor : Limits → Dag → Machine → (place : ℕ) → Type 0
 RoomFor lim d m k =
-    (tokens_added d (node_taken d m k) ≡ 1 → has_token_place lim m ≡ true) × (cells_added (node_taken d m k) ≡ 1 → has_cell_place lim m ≡ true)
+    (tokens_added d (node_taken d m k) ≡ 1 → has_token_place lim m ≡ true) × (cells_added (node_taken d m k) ≡ 1
+    → has_cell_place lim m ≡ true)
 
 module _ (lim : Limits) (d : Dag) (m : Machine)
     (room : (k : ℕ) → rules_hold lim d m ≡ true → k < m.queued → RoomFor lim d m k) where

@@ -9,7 +9,8 @@ use lib.Dec.{leb}
 use Rattle.job.specs.Test.{select}
 use Rattle.calculus.specs.Event.{Label}
 use Rattle.simulation.proofs.Shuffle.{Split, first, later}
-use Rattle.simulation.proofs.AbstractMachine.{Program, Token, running, called_out, due_later, Store, wake, woken_if, is_out_of, Effect, Move}
+use Rattle.simulation.proofs.AbstractMachine.{Program, Token, running, called_out, due_later, Store}
+use Rattle.simulation.proofs.AbstractMachine.{wake, woken_if, is_out_of, Effect, Move}
 use Rattle.simulation.proofs.AbstractMachine.{answered, effect, State, state, after, Step, step, ticks}
 use Rattle.loops.proofs.Weights.{place_of, node_of, made_at, PlaceWeighs, Weighed, nobody, also, Lighter, makes, sets, Entries}
 use Rattle.loops.proofs.Weights.{act-lighter}

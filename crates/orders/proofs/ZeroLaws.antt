@@ -30,7 +30,8 @@ module _ (words : List ℕ) (from : ℕ) where
   unfolding for_all
   zero-none = let e : from - from ≡ 0 = omega arith in rw e
 
-  pub zero_turn : (i bits : ℕ) → from ≤ i → i < length words → eqb bits 0 ≡ zero_to i → eqb (bit_or bits (get_or words i 0)) 0 ≡ zero_to (i + 1)
+  pub zero_turn : (i bits : ℕ) → from ≤ i → i < length words → eqb bits 0 ≡ zero_to i → eqb (bit_or bits (get_or words i 0)) 0 ≡ zero_to
+      (i + 1)
   zero_turn i bits l m e =
       let g : from + (i - from) ≡ i = omega arith in
       let h : i + 1 - from ≡ suc (i - from) = omega arith in

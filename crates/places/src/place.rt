@@ -38,8 +38,8 @@ fn next_of(marks: &[bool], size: usize, last: u32) -> usize
 fn distance(used: bool, i: u8, first: u8) -> u8
     requires i_bound { i < 64 }
     requires first_bound { first < 64 }
-    ensures value { used ≡ true → result ≡ 64 + (i + 64 - first) % 64 }
-    ensures value_2 { used ≡ false → result ≡ (i + 64 - first) % 64 }
+    ensures in_use { used ≡ true → result ≡ 64 + (i + 64 - first) % 64 }
+    ensures free { used ≡ false → result ≡ (i + 64 - first) % 64 }
 {
     64 * used as u8 + (i + 64 - first) % 64
 }

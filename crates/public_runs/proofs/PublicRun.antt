@@ -57,7 +57,8 @@ module _ (dag : List ℕ) (m : Machine) (holds : rules_hold paper (dag_of dag) m
   of-record : (o : Outcome) → of_record (words_of m) o ≡ o
   unfolding of_record
   of-record o =
-      ap (λ b. elim b as (λ _. Outcome) [ true ↦ o | false ↦ outcome (machine_of (words_of m)) (refuses 14) ]) (record_is (dag_of dag) m holds)
+      ap (λ b. elim b as (λ _. Outcome) [ true ↦ o | false ↦ outcome (machine_of (words_of m)) (refuses 14) ]) (record_is (dag_of dag) m
+      holds)
 
   -- by what is called on the record that the words decode to
   on-words : (f : Machine → Outcome) → (is_refused (f m).reply ≡ true → (f m).machine ≡ m)

@@ -84,7 +84,8 @@ unfolding prefixed ◌>>=◌
 prefixed-more ds d (got g) = rw append_assoc
 prefixed-more ds d (refused n e) = refl
 
-nodes-more : (ds : List Definition) (d : Definition) → definition_list_nodes (ds ++ (d ∷ [])) ≡ definition_list_nodes ds + definition_nodes d
+nodes-more : (ds : List Definition) (d : Definition) → definition_list_nodes (ds ++ (d ∷ [])) ≡ definition_list_nodes ds +
+    definition_nodes d
 unfolding definition_list_nodes
 nodes-more [] d = omega arith
 nodes-more (x ∷ ds) d = omega (arith, nodes-more ds d)

@@ -9,7 +9,8 @@ use Rattle.job.specs.Construct.{node_count, construct_from, construct}
 use Rattle.job.proofs.Size.{nodes-length}
 use Rattle.reader.specs.Definition.{definition_list_nodes}
 
-from-length : (n : ℕ) (ds : List Definition) (g : Exp) → length (construct_from n ds g).nodes ≡ definition_list_nodes ds + (node_count g + 1)
+from-length : (n : ℕ) (ds : List Definition) (g : Exp) → length (construct_from n ds g).nodes ≡ definition_list_nodes ds + (node_count g +
+    1)
 unfolding construct_from definition_list_nodes
 from-length n [] g = simp length-append (omega (arith, nodes-length g n (n + node_count g)))
 from-length n (d ∷ ds) g =

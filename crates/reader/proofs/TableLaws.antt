@@ -88,7 +88,8 @@ module _ (t s : List ℕ) where
           table-long h = decline 2 (ranges ∙ rw (le-leb c 32 f, le-leb 1 n z, lt-not-leb n 512 h))
 
           module _ (m : n ≤ 512) (q : Checked)
-              (eq : q ≡ checked_program (read_entries c (entries (take (4 + n - 4) (drop 4 t)) (take (length t - (4 + n)) (drop (4 + n) t)))))
+              (eq : q ≡ checked_program (read_entries c (entries (take (4 + n - 4) (drop 4 t)) (take (length t - (4 + n)) (drop (4 + n)
+              t)))))
               (s1 : List ℕ)
               (es : s1 ≡ sets s 0 (definition_sizes (definitions_found c 0
               (entries (take (4 + n - 4) (drop 4 t)) (take (length t - (4 + n)) (drop (4 + n) t)))))) where
@@ -116,7 +117,8 @@ module _ (t s : List ℕ) where
             pub table-refused : (k e : ℕ) → q ≡ Refused k e → Tests (Declined k e) s1
             unfolding read_table reader_answer tested
             table-refused k e h =
-                let r = checked_refused (λ p. length (construct p).nodes) (read_entries (size_d t) (table_entries t)) k e (sym answer ∙ h) in
+                let r = checked_refused (λ p. length (construct p).nodes) (read_entries (size_d t) (table_entries t)) k e (sym answer ∙ h)
+                in
                 (rw (read, r), kept)
 
             pub table-accepted : (i k : ℕ) → q ≡ Next i k → Tests (Accepted k) s1

@@ -46,7 +46,8 @@ module _ {A : Type 0} (f : A → List ℕ) (w : ℕ) (wide : (x : A) → length 
       let h = wide x in
       omega (arith, e, r, m, h)
 
-  pub rows_get : (d : A) (xs : List A) (p j : ℕ) → p < length xs → j < w → get_or (table_words f xs) (w * p + j) 0 ≡ get_or (f (get_or xs p d)) j 0
+  pub rows_get : (d : A) (xs : List A) (p j : ℕ) → p < length xs → j < w → get_or (table_words f xs) (w * p + j) 0 ≡ get_or (f (get_or xs
+      p d)) j 0
   unfolding table_words
   rows_get d [] p j l h = absurd (omega arith)
   rows_get d (x ∷ xs) zero j l h =

@@ -11,7 +11,8 @@ use Rattle.model.specs.declared.token.Held.TheVariants as helds
 use Rattle.model.specs.declared.token.Place.TheVariants as places
 use Rattle.model.specs.declared.token.State.TheVariants as states
 use Rattle.job.specs.Test.{◌and◌, for_all}
-use Rattle.model.specs.Machine.Blank.{empty, slot_at, is_bound, is_place, has_value, token_is_blank, cell_is_blank, blank_token, blank_cell, cell_at}
+use Rattle.model.specs.Machine.Blank.{empty, slot_at, is_bound, is_place, has_value}
+use Rattle.model.specs.Machine.Blank.{token_is_blank, cell_is_blank, blank_token, blank_cell, cell_at}
 use Rattle.model.specs.Machine.State.{is_blank_state}
 use Rattle.model.specs.declared.token.Slot.{Slot}
 use Rattle.model.specs.declared.token.Bind.{Bind}

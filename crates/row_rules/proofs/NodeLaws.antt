@@ -70,7 +70,8 @@ module _ (bs : List Bind) where
 
   four_bound : (c k₁ w₁ k₂ w₂ k₃ w₃ k₄ w₄ : ℕ)
       → for_all (not_empty bs) (params_from c (k₁ ∷ w₁ ∷ k₂ ∷ w₂ ∷ k₃ ∷ w₃ ∷ k₄ ∷ w₄ ∷ []))
-      ≡ (pair_bound bs (ltb 0 c) k₁ w₁ and pair_bound bs (ltb 1 c) k₂ w₂ and pair_bound bs (ltb 2 c) k₃ w₃ and pair_bound bs (ltb 3 c) k₄ w₄)
+      ≡ (pair_bound bs (ltb 0 c) k₁ w₁ and pair_bound bs (ltb 1 c) k₂ w₂ and pair_bound bs (ltb 2 c) k₃ w₃ and pair_bound bs (ltb 3 c) k₄
+      w₄)
   four_bound c k₁ w₁ k₂ w₂ k₃ w₃ k₄ w₄ =
       let e : c ≡ c - 0 = omega arith in
       ap (λ (n : ℕ). for_all (not_empty bs) (params_from n (k₁ ∷ w₁ ∷ k₂ ∷ w₂ ∷ k₃ ∷ w₃ ∷ k₄ ∷ w₄ ∷ []))) e

@@ -4,7 +4,8 @@ use Rattle.job.specs.Test.{◌and◌, for_all, once}
 use Rattle.job.specs.Node.{Dag}
 use Rattle.job.specs.Words.{params_from}
 use Rattle.model.specs.Machine.Limits.{paper}
-use Rattle.model.specs.Machine.Rules.{token_in_range, cell_in_range, at_node, not_under_set, waits_at_unset, due_in_range, chain_ends, not_empty}
+use Rattle.model.specs.Machine.Rules.{token_in_range, cell_in_range, at_node, not_under_set}
+use Rattle.model.specs.Machine.Rules.{waits_at_unset, due_in_range, chain_ends, not_empty}
 use Rattle.model.specs.declared.token.Bind.{Bind}
 use Rattle.model.specs.declared.token.Token.{Token}
 use Rattle.model.specs.declared.cell.Cell.{Cell}

@@ -85,7 +85,8 @@ unfolding token_is_blank handle_of
 blank-more ts i d l e so_far =
     let t = get_or ts i d in
     let none : handle_of t.state ≡ [] = ap handle_of (state-blank t.state (and_left (is_blank_state t.state) _ e)) in
-    rw (add-one i) (so_far ∙ sym (handles-more ts i d l ∙ ap (◌++◌ (open_handles (take i ts))) none ∙ append-nil (open_handles (take i ts))))
+    rw (add-one i) (so_far ∙ sym (handles-more ts i d l ∙ ap (◌++◌ (open_handles (take i ts))) none ∙ append-nil (open_handles (take i
+    ts))))
 
 -- nor do those from a place on have any, where they all are
 pub blank-rest : (ts : List Token) (i : ℕ) → for_all token_is_blank (drop i ts) ≡ true → open_handles (take i ts) ≡ open_handles ts

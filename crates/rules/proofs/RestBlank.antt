@@ -17,7 +17,8 @@ use Rattle.job.proofs.Loop.{all_more}
 use Rattle.order_rules.specs.OrderCounts.{each_from}
 
 rest_more : {A : Type 0} (blank : A → Bool) (marks : List Bool) (xs : List A) (i : ℕ) (d : A) → i < length marks → i < length xs
-    → rest_is_blank blank marks (take (suc i) xs) ≡ (rest_is_blank blank marks (take i xs) and (get_or marks i false || blank (get_or xs i d)))
+    → rest_is_blank blank marks (take (suc i) xs) ≡ (rest_is_blank blank marks (take i xs) and (get_or marks i false || blank (get_or xs i
+    d)))
 unfolding rest_is_blank ◌and◌
 rest_more blank [] xs i d m l = absurd (omega arith)
 rest_more blank (b ∷ marks) [] i d m l = absurd (omega arith)

@@ -60,6 +60,7 @@ decoded {ws} h =
           (λ r. binds-fit 8 (drop 8 r) x) 64 ws p;
       cells =
           λ c.
-          table-all cell_from 4 (λ (k : Cell). held_in_range k.value ≡ true) blank_cell refl (λ r. held_fits (get_or r 1 0) (get_or r 2 0)) 32
+          table-all cell_from 4 (λ (k : Cell). held_in_range k.value ≡ true) blank_cell refl (λ r. held_fits (get_or r 1 0) (get_or r 2
+          0)) 32
           (drop 1536 ws) c;
     }

@@ -13,7 +13,8 @@ use Rattle.model.specs.Machine.Blank.{token_is_blank, cell_is_blank}
 use Rattle.model.specs.Machine.InUse.{tokens_used, cells_used}
 use Rattle.model.specs.Machine.Rules.{sizes_in_range, token_in_range, cell_in_range, machine_holds, rules_hold}
 use Rattle.model.specs.Machine.State.{is_ready, is_waiting, is_due}
-use Rattle.model.specs.Machine.Rules.{names_once, chain_ends, chains_end, not_under_set, open_handles, waits_at_unset, at_node, rest_is_blank}
+use Rattle.model.specs.Machine.Rules.{names_once, chain_ends, chains_end, not_under_set}
+use Rattle.model.specs.Machine.Rules.{open_handles, waits_at_unset, at_node, rest_is_blank}
 use Rattle.model.specs.Machine.Rules.{due_in_range, clock_holds}
 use Rattle.model.specs.declared.token.Token.{Token}
 use Rattle.model.specs.declared.cell.Cell.{Cell}

@@ -107,13 +107,15 @@ module _ (d : Dag) (m : Machine) (used : List Bool) (queue waits timers : List �
       (both f (g ∙ sym (each-rest token_is_blank m.tokens blank_token from n long))
       ∙ sym (each_both none (λ i. token_is_blank (token_at m.tokens i)) from n))
       ∙ rest-turns (λ i. none i and token_is_blank (token_at m.tokens i)) seen from n (λ i k b.
-      vacant-turn i (omega arith) (omega arith) refl (get_d_any used i false true (omega arith) ∙ unmarked i k (omega arith)) (holds i) refl)
+      vacant-turn i (omega arith) (omega arith) refl (get_d_any used i false true (omega arith) ∙ unmarked i k (omega arith)) (holds i)
+      refl)
 
   pub seen_done : (i : ℕ) → length m.tokens ≤ i
       → seen i ≡ ((for_all rule m.tokens and rest_is_blank token_is_blank used m.tokens) and all_from (named_by_orders queue waits timers) 0
       m.tokens)
   seen_done i l =
-      ap (λ (ts : List Token). (for_all rule ts and rest_is_blank token_is_blank used ts) and all_from (named_by_orders queue waits timers) 0 ts)
+      ap (λ (ts : List Token). (for_all rule ts and rest_is_blank token_is_blank used ts) and all_from (named_by_orders queue waits
+      timers) 0 ts)
       (take_all i m.tokens l)
 
 -- two tests of each element with its index

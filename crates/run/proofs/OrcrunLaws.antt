@@ -75,7 +75,8 @@ module _ (s : List ℕ) (end : ℕ) (is : end ≡ table_end s) where
     unfolding input_lines
     lines_are = rw (le-leb (length s) 65536 short, input_lines) refl
 
-    text-is : (a : Answer) → read_table (take (end - 0) s) ≡ a → text_of_all (table_lines paper 100000 (drop (table_length s) s) a) ≡ orcrun s
+    text-is : (a : Answer) → read_table (take (end - 0) s) ≡ a → text_of_all (table_lines paper 100000 (drop (table_length s) s) a) ≡
+        orcrun s
     unfolding orcrun
     text-is a e =
         ap (λ (u : Answer). text_of_all (table_lines paper 100000 (drop (table_length s) s) u)) (sym (ap read_table (sym front) ∙ e))

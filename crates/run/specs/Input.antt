@@ -10,4 +10,5 @@ table_end input = elim (leb (table_length input) (length input)) [ true ↦ tabl
 
 -- the words that the dag's table leaves: an input that is too long is not read
 unfoldable pub dag_after : (input dag : List ℕ) → List ℕ
-dag_after input dag = elim (leb (length input) 65536) [ true ↦ loaded_words (read_table (take (table_length input) input)) dag | false ↦ dag ]
+dag_after input dag =
+    elim (leb (length input) 65536) [ true ↦ loaded_words (read_table (take (table_length input) input)) dag | false ↦ dag ]

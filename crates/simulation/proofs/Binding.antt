@@ -109,7 +109,8 @@ module _ {σ : Store} {Γ : List ℕ} {ρ : Substitution} {B : List Binding} (en
   named-bind (Param.value v) = value
   named-bind (Param.variable i) = env.binds i
 
-  named-at : (ps : List Param) (i : ℕ) → Bind σ Γ (get_or (map (subst_param ρ) ps) i (Param.value (pos 0))) (binding_at (map (named B) ps) i)
+  named-at : (ps : List Param) (i : ℕ) → Bind σ Γ (get_or (map (subst_param ρ) ps) i (Param.value (pos 0))) (binding_at (map (named B) ps)
+      i)
   named-at [] i = value
   named-at (p ∷ ps) zero = named-bind p
   named-at (p ∷ ps) (suc i) = named-at ps i
@@ -153,4 +154,5 @@ pub values_agree : {σ : Store} {Γ : List ℕ} {ρ : Substitution} {B : List Bi
 unfolding values_in param_values
 values_agree u env [] = refl
 values_agree {ρ} u env (p ∷ ps) =
-    ap₂ in_front (value-agrees u (named-bind env p)) (values_agree u env ps) ∙ sym (values_of-cons (subst_param ρ p) (map (subst_param ρ) ps))
+    ap₂ in_front (value-agrees u (named-bind env p)) (values_agree u env ps) ∙ sym (values_of-cons (subst_param ρ p) (map (subst_param ρ)
+    ps))

@@ -42,7 +42,8 @@ module _ (G : Program) (now : ℕ) (σ : Store) (new h : ℕ) where
       await vs t (some d) p b q f = moves (site-outcome G now σ new h w env l u e (Rewrites.builtin-later p b q f))
       await vs t none p b q f = moves (site-outcome G now σ new h w env l u e (Rewrites.builtin-never p b q f))
 
-      ask : (vs : List ℤ) (x : BuiltinReply) → param_values (map (subst_param ρ) ps) ≡ some vs → is_builtin s ≡ true → builtin s vs ≡ x → Goal
+      ask : (vs : List ℤ) (x : BuiltinReply) → param_values (map (subst_param ρ) ps) ≡ some vs → is_builtin s ≡ true → builtin s vs ≡ x
+          → Goal
       ask vs (gives v) p b q = moves (site-outcome G now σ new h w env l u e (Rewrites.builtin-gives p b q))
       ask vs silent p b q = moves (site-outcome G now σ new h w env l u e (Rewrites.builtin-silent p b q))
       ask vs (Site.later t) p b q = await vs t (due_time now t) p b q refl

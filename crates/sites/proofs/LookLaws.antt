@@ -70,7 +70,8 @@ slot-value cs n slots.Empty e f r = absurd (omega arith)
 slot-value cs n (slots.Value v) e f r = ap arguments.Value (ap signed f ∙ signed-unsigned v r)
 slot-value cs n (slots.Cell c) e f r = absurd (omega arith)
 
-slot-cell : (cs : List Cell) (n : ℕ) (s : Slot) → (slot_kind s ≡ 0 → ⊥) → (slot_kind s ≡ 1 → ⊥) → n ≡ slot_number s → slot_in_range 32 s ≡ true
+slot-cell : (cs : List Cell) (n : ℕ) (s : Slot) → (slot_kind s ≡ 0 → ⊥) → (slot_kind s ≡ 1 → ⊥) → n ≡ slot_number s
+    → slot_in_range 32 s ≡ true
     → (n < 32) × (held_found n (cell_at cs n).value ≡ found_of cs s)
 unfolding found_of slot_in_range
 slot-cell cs n slots.Empty f g e r = absurd (f refl)
@@ -78,7 +79,8 @@ slot-cell cs n (slots.Value v) f g e r = absurd (g refl)
 slot-cell cs n (slots.Cell c) f g e r =
     (subst (λ i. i < 32) (sym e) (ltb-lt c 32 r), ap (λ i. held_found i (cell_at cs i).value) e)
 
-slot-in-range : (bs : List Bind) (x : ℕ) → for_all (λ (b : Bind). slot_in_range 32 b.slot) bs ≡ true → slot_in_range 32 (slot_at bs x) ≡ true
+slot-in-range : (bs : List Bind) (x : ℕ) → for_all (λ (b : Bind). slot_in_range 32 b.slot) bs ≡ true
+    → slot_in_range 32 (slot_at bs x) ≡ true
 unfolding slot_at slot_in_range
 slot-in-range bs x e = go (dec_lt x (length bs))
   where
@@ -86,7 +88,8 @@ slot-in-range bs x e = go (dec_lt x (length bs))
     go (yes l) = all-at (λ (b : Bind). slot_in_range 32 b.slot) bs x empty e l
     go (no f) = ap (λ (b : Bind). slot_in_range 32 b.slot) (get_or-eq_default bs empty {n = x} (omega arith))
 
-cell-in-range : (cs : List Cell) (c : ℕ) → for_all (λ (c : Cell). held_in_range c.value) cs ≡ true → held_in_range (cell_at cs c).value ≡ true
+cell-in-range : (cs : List Cell) (c : ℕ) → for_all (λ (c : Cell). held_in_range c.value) cs ≡ true
+    → held_in_range (cell_at cs c).value ≡ true
 unfolding cell_at held_in_range
 cell-in-range cs c e = go (dec_lt c (length cs))
   where

@@ -60,7 +60,8 @@ module _ (ws : List ℕ) (at kind : ℕ) (o : NodeRow ws at kind) where
       omega arith
 
   -- the parameters of a call
-  params-hold : get_or (node_words (node_in ws at kind)) 3 0 ≡ length (params_at ws at) → params_hold (params_at ws at) ≡ true → ParamsHold ws at
+  params-hold : get_or (node_words (node_in ws at kind)) 3 0 ≡ length (params_at ws at) → params_hold (params_at ws at) ≡ true
+      → ParamsHold ws at
   unfolding params_hold
   params-hold n k =
       let c : get_or ws (at + 3) 0 ≡ get_or (node_words (node_in ws at kind)) 3 0 = count_word in
@@ -95,7 +96,8 @@ module _ (ws : List ℕ) (at : ℕ) where
       )
 
   -- definition call
-  call-rule : NodeRow ws at 2 → (ltb (word 1) (length (dag_of ws).bodies) and params_hold (params_at ws at) and is_node (dag_of ws) (word 2))
+  call-rule : NodeRow ws at 2 → (ltb (word 1) (length (dag_of ws).bodies) and params_hold (params_at ws at) and is_node (dag_of ws) (word
+      2))
       ≡ true
   unfolding node_holds
   call-rule o = node-holds ws at 2 o

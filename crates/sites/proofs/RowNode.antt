@@ -43,8 +43,10 @@ module _ (ws : List ℕ) (i : ℕ) (k : dag_holds (dag_of ws) ≡ true) (l : i <
   read_of : node_at (dag_of ws) i ≡ decoded_node (row_at ws (row_of i))
   unfolding node_at dag_of
   read_of =
-      let n : length (nodes_from (get_or ws 0 0) (drop head_words ws)) ≡ get_or ws 0 0 = length-nodes_from (get_or ws 0 0) (drop head_words ws) in
-      node-from (get_or ws 0 0) i (drop head_words ws) (omega arith) ∙ ap (λ xs. decoded_node (take 12 xs)) (drop-drop (12 * i) head_words ws)
+      let n : length (nodes_from (get_or ws 0 0) (drop head_words ws)) ≡ get_or ws 0 0 = length-nodes_from (get_or ws 0 0) (drop
+      head_words ws) in
+      node-from (get_or ws 0 0) i (drop head_words ws) (omega arith) ∙ ap (λ xs. decoded_node (take 12 xs)) (drop-drop (12 * i) head_words
+      ws)
 
   decoded-holds : node_holds (dag_of ws) (decoded_node (row_at ws (row_of i))) ≡ true
   decoded-holds = subst (λ n. node_holds (dag_of ws) n ≡ true) read_of (node-rules (dag_of ws) i k l)
@@ -63,9 +65,11 @@ unfolding node_by params_at
 node-of-kind ws at kind e =
     let start : at + 0 ≡ at = omega arith in
     let row = row_at ws at in
-    ap₂ (λ x y. node_of_kind x y (get_or row 3 0) (params_from (get_or row 3 0) (drop 4 row)) (get_or row 0 0)) (row_word ws at 1 (omega arith))
+    ap₂ (λ x y. node_of_kind x y (get_or row 3 0) (params_from (get_or row 3 0) (drop 4 row)) (get_or row 0 0)) (row_word ws at 1 (omega
+    arith))
     (row_word ws at 2 (omega arith))
-    ∙ ap₂ (λ x y. node_of_kind (get_or ws (at + 1) 0) (get_or ws (at + 2) 0) x (params_from x (drop 4 row)) y) (row_word ws at 3 (omega arith))
+    ∙ ap₂ (λ x y. node_of_kind (get_or ws (at + 1) 0) (get_or ws (at + 2) 0) x (params_from x (drop 4 row)) y) (row_word ws at 3 (omega
+    arith))
     (row_word ws at 0 (omega arith) ∙ ap (λ n. get_or ws n 0) start ∙ e)
 
 module _ (ws : List ℕ) (i : ℕ) (k : dag_holds (dag_of ws) ≡ true) (l : i < length (dag_of ws).bodies) where

@@ -25,7 +25,8 @@ use Rattle.sites.specs.Look.{LookFacts}
 use Rattle.sites.proofs.OrderCounting.{names-few, names-fewer}
 use Rattle.job.proofs.Test.{once-small}
 
-all-implied : {A : Type 0} (f g : A → Bool) → ((x : A) → f x ≡ true → g x ≡ true) → (xs : List A) → for_all f xs ≡ true → for_all g xs ≡ true
+all-implied : {A : Type 0} (f g : A → Bool) → ((x : A) → f x ≡ true → g x ≡ true) → (xs : List A) → for_all f xs ≡ true
+    → for_all g xs ≡ true
 all-implied f g h [] e = all_nil g
 all-implied f g h (x ∷ xs) e = all_cons g x xs (h x (all_head f x xs e)) (all-implied f g h xs (all_tail f x xs e))
 

@@ -87,7 +87,8 @@ module _ (dag : List ℕ) (place p at : ℕ) (m : Machine) where
         → Gives (Step.step paper (dag_of dag) m place) m after (set used new true) cells r
     fork-gives {after} r left right el er l e h₀ =
         let h =
-        subst₂ (λ i j. Holds after (enqueue new (enqueue p (new_token new (with_node j t) (put p (with_node i t) (dequeued m place)))))) el er
+        subst₂ (λ i j. Holds after (enqueue new (enqueue p (new_token new (with_node j t) (put p (with_node i t) (dequeued m place))))))
+        el er
         h₀ in
         let y = token-room a.taking.lawful next given l in
         let k = a.taking.lawful.marks in

@@ -40,7 +40,8 @@ module _ {ws dag : List ℕ} {used cells : List Bool} {place p at : ℕ} {m : Ma
   pub ready : t.state ≡ states.Ready
   ready = ready-state t.state (token-ready a.taking)
 
-  module _ (is : is_tail (dag_of dag) (get_or dag (at + 2) 0) ≡ true) {root : ℕ} (body : root ≡ (body_at (dag_of dag) (get_or dag (at + 1) 0)).root)
+  module _ (is : is_tail (dag_of dag) (get_or dag (at + 2) 0) ≡ true) {root : ℕ} (body : root ≡ (body_at (dag_of dag) (get_or dag (at + 1)
+      0)).root)
       {after : List ℕ} (r : Report) (done : r ≡ plain replies.Done) where
     pub tail-whole : BindsNoCell t.binds → Holds after (became root)
         → Gives (Step.step paper (dag_of dag) m place) m after used cells r

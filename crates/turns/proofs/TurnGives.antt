@@ -53,7 +53,8 @@ module _ {ws after : List ℕ} {end : ℕ} {h : ℕ} (v : ℕ) where
   pub delivers-time : {b : Bool} (x : Bool)
       → ((m : Machine) (dag : List ℕ) (used cells : List Bool) → Lawful ws used cells dag m
       → Gives (Clock.advance paper (dag_of dag) m v) m after used cells (advance_report b))
-      → h ≡ clock_handle → b ≡ x → {n : ℕ} → n ≡ elim x as (λ b. ℕ) [ true ↦ 0 | false ↦ 15 ] → Delivers ws after end (delivery_report n) h v
+      → h ≡ clock_handle → b ≡ x → {n : ℕ} → n ≡ elim x as (λ b. ℕ) [ true ↦ 0 | false ↦ 15 ]
+      → Delivers ws after end (delivery_report n) h v
   delivers-time {b} x gives e same number m dag used cells lawful blank =
       subst (λ (r : Report). Gives (delivered paper (dag_of dag) m h v) m after used cells r) (ap advance_report same ∙ of-clock x number)
       (subst (λ (o : Outcome). Gives o m after used cells (advance_report b)) (sym (moves-clock paper (dag_of dag) m h v e))

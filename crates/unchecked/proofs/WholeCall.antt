@@ -13,7 +13,8 @@ use Rattle.model.specs.Machine.Active.{upward, under_set, is_active}
 use Rattle.model.specs.Machine.Answer as Answer
 use Rattle.model.specs.Machine.Answer.{holder}
 use Rattle.model.specs.Machine.Blank.{blank_token, is_place, token_at}
-use Rattle.model.specs.Machine.InUse.{mark_chain, mark_from_each, reached, active_places, bound_cell, cells_of, cells_of_marked, used_tokens}
+use Rattle.model.specs.Machine.InUse.{mark_chain, mark_from_each, reached, active_places}
+use Rattle.model.specs.Machine.InUse.{bound_cell, cells_of, cells_of_marked, used_tokens}
 use Rattle.model.specs.Machine.InUse.{used_cells, tokens_used, cells_used}
 use Rattle.model.specs.Machine.Limits.{paper}
 use Rattle.model.specs.Machine.Reply.{outcome, unless}

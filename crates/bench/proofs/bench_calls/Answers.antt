@@ -9,7 +9,13 @@ pub loop-i-init : goal.loop-i-init
 loop-i-init c = (omega arith, rounds-all _ _ _ _ _)
 
 pub loop-i-preserved : goal.loop-i-preserved
-loop-i-preserved c = (omega arith, round-made _ _ _ _ _ _ _ _ _ (omega arith) (omega arith) (round-parts _ (c.calls-made.ensures.value, c.calls-made.ensures.words_after)) c.loop-i.invariant.1)
+loop-i-preserved c = (
+  omega arith,
+  round-made _ _ _ _ _ _ _ _ _ (omega arith) (omega arith) (round-parts _ (
+    c.calls-made.ensures.value,
+    c.calls-made.ensures.words_after,
+  )) c.loop-i.invariant.1,
+)
 
 pub returns : goal.returns
 returns c = rounds-on c.load.ensures.dag_after _ _ _ _ _

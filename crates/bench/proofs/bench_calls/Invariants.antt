@@ -5,7 +5,10 @@ use Rattle.bench.proofs.bench_calls.Given as goal
 
 abbrev pub invariant-loop-i : goal.invariant-loop-i
 invariant-loop-i l = (l.i ≤ l.rounds)
-    × RoundsLeft l.dag l.handles l.most l.rounds (rounds_from l.dag l.handles l.most l.rounds (record { count = l.initial.made; words = l.initial.words })) l.i
+    × RoundsLeft l.dag l.handles l.most l.rounds (rounds_from l.dag l.handles l.most l.rounds (record {
+      count = l.initial.made;
+      words = l.initial.words;
+    })) l.i
     (record { count = l.made; words = l.words })
 
 abbrev pub decreases-loop-i : goal.decreases-loop-i

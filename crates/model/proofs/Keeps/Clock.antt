@@ -101,7 +101,15 @@ module _ {lim : Limits} {d : Dag} (m : Machine) (F : Facts lim d m) (time : ℕ)
   unfolding after_advance with_clock with_timers with_orders with_tables
   advanced-facts e =
       record {
-        sizes = record { token_places = length-map m.tokens (woken_by time) ∙ F.sizes.token_places; cell_places = F.sizes.cell_places; calls = F.sizes.calls; lasttoken = F.sizes.lasttoken; lastcell = F.sizes.lastcell; clock = takes-last m time e };
+        sizes =
+            record {
+              token_places = length-map m.tokens (woken_by time) ∙ F.sizes.token_places;
+              cell_places = F.sizes.cell_places;
+              calls = F.sizes.calls;
+              lasttoken = F.sizes.lasttoken;
+              lastcell = F.sizes.lastcell;
+              clock = takes-last m time e;
+            };
         queue = queue_of m ++ joining m time;
         waits = waits_of m;
         timers = staying m time;

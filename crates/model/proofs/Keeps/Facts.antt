@@ -143,7 +143,15 @@ module _ (lim : Limits) (d : Dag) (some : 0 < lim.token_places) (cell : 0 < lim.
   unfolding held_in_range
   start-facts =
       record {
-        sizes = record { token_places = sized; cell_places = length-replicate lim.cell_places blank_cell; calls = omega arith; lasttoken = some; lastcell = omega arith; clock = omega arith };
+        sizes =
+            record {
+              token_places = sized;
+              cell_places = length-replicate lim.cell_places blank_cell;
+              calls = omega arith;
+              lasttoken = some;
+              lastcell = omega arith;
+              clock = omega arith;
+            };
         queue = 0 ∷ [];
         waits = [];
         timers = [];

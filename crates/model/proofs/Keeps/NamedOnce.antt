@@ -191,7 +191,8 @@ lines-apart {ts} l r =
     let k = kind-apart (token_at ts r).state in
     omega arith
 
-pub occurrences-without : (l : List ℕ) (i r : ℕ) → i < length l → occurrences r (without i l) + once (eqb r (get_or l i 0)) ≡ occurrences r l
+pub occurrences-without : (l : List ℕ) (i r : ℕ) → i < length l → occurrences r (without i l) + once (eqb r (get_or l i 0)) ≡ occurrences
+    r l
 unfolding occurrences without
 occurrences-without [] i r h = absurd (omega arith)
 occurrences-without (x ∷ l) zero r h = omega arith
@@ -356,7 +357,8 @@ module _ (ts : List Token) (cs : List Cell) (c p : ℕ) (queue waits timers : Li
   spared of none r e =
       false_of _ (λ x. clash e (ap (λ (t : Token). of t.state) (choke-at cs c ts r ∙ choke-ends cs c (token_at ts r) x) ∙ none))
 
-  spared-at : (r : ℕ) → within cs c (token_at ts r).cell ≡ false → token_at then r ≡ woken (waits_at c (token_at ts r).state) (token_at ts r)
+  spared-at : (r : ℕ) → within cs c (token_at ts r).cell ≡ false → token_at then r ≡ woken (waits_at c (token_at ts r).state) (token_at ts
+      r)
   spared-at r x = choke-at cs c ts r ∙ choke-spares cs c (token_at ts r) x
 
   -- a line of those that are of a kind, and that no waking makes so

@@ -62,7 +62,8 @@ binds-written bs x s g f y v = go (written bs x (record { slot = s }) empty y)
     go (inl w) e = g v (ap (λ (b : Bind). b.slot) (sym w.1) ∙ e)
     go (inr w) e = f y v (ap (λ (b : Bind). b.slot) (sym w) ∙ e)
 
-passed-fits : (bs : List Bind) → BindsFit bs → (p : Param) → param_holds p ≡ true → (v : ℤ) → (passed bs p).slot ≡ slots.Value v → Signed32 v
+passed-fits : (bs : List Bind) → BindsFit bs → (p : Param) → param_holds p ≡ true → (v : ℤ) → (passed bs p).slot ≡ slots.Value v
+    → Signed32 v
 unfolding passed param_holds
 passed-fits bs f (variable x) k v e = f x v e
 passed-fits bs f (constant w) k v e = subst Signed32 (let z : w ≡ v = cc in z) k
@@ -198,7 +199,8 @@ module _ {d : Dag} {ts : List Token} {cs : List Cell} {calls clock : ℕ} (T : T
         there : (x : ℕ) → (x ≡ p → ⊥) → (token_at (set ts p u) x).state ≡ states.Called h → (token_at ts x).state ≡ states.Called h
         there x n s = ap (λ (t : Token). t.state) (sym (token-other ts p x u n)) ∙ s
 
-        go : Dec (r ≡ p) → Dec (q ≡ p) → (token_at (set ts p u) r).state ≡ states.Called h → (token_at (set ts p u) q).state ≡ states.Called h
+        go : Dec (r ≡ p) → Dec (q ≡ p) → (token_at (set ts p u) r).state ≡ states.Called h → (token_at (set ts p u) q).state ≡
+            states.Called h
             → r ≡ q
         go (yes a) (yes b) x y = a ∙ sym b
         go (yes a) (no b) x y = absurd (f h q (here r a x) b (there q b y))

@@ -14,7 +14,8 @@ use Rattle.model.specs.declared.token.Token.{Token}
 use Rattle.model.specs.declared.cell.Cell.{Cell}
 use Rattle.model.proofs.Machine.WrittenTokens.{choked-blank}
 
-pub choke-at : (cs : List Cell) (c : ℕ) (ts : List Token) (r : ℕ) → token_at (map (choke_token cs c) ts) r ≡ choke_token cs c (token_at ts r)
+pub choke-at : (cs : List Cell) (c : ℕ) (ts : List Token) (r : ℕ) → token_at (map (choke_token cs c) ts) r ≡ choke_token cs c (token_at ts
+    r)
 unfolding token_at
 choke-at cs c ts r = ap (get_or (map (choke_token cs c) ts) r) (sym (choked-blank cs c)) ∙ get_or-map (choke_token cs c) ts r blank_token
 

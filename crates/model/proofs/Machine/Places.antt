@@ -140,5 +140,6 @@ module _ (m : Machine) where
       → Free (tokens_used m) (token_place m)
   token-place-free l some = next-place-free (tokens_used m) m.lasttoken l some
 
-  pub cell-place-free : m.lastcell < length (cells_used m) → marked (cells_used m) < length (cells_used m) → Free (cells_used m) (cell_place m)
+  pub cell-place-free : m.lastcell < length (cells_used m) → marked (cells_used m) < length (cells_used m)
+      → Free (cells_used m) (cell_place m)
   cell-place-free l some = next-place-free (cells_used m) m.lastcell l some

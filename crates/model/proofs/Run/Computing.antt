@@ -12,7 +12,8 @@ unfolding Rattle.job.specs.Construct.own Rattle.job.specs.Construct.node_count R
     Rattle.job.specs.Node.body_holds Rattle.job.specs.Node.dag_holds Rattle.job.specs.Read.◌>>=◌ Rattle.job.specs.Read.need
     Rattle.job.specs.Read.entry_at Rattle.job.specs.Read.read_param Rattle.job.specs.Read.read_param_list Rattle.job.specs.Read.read_call
     Rattle.job.specs.Read.read_join Rattle.job.specs.Read.read_exp Rattle.job.specs.Read.is_definition Rattle.job.specs.Read.read_definition
-    Rattle.job.specs.Read.read_program Rattle.job.specs.Read.leftovers Rattle.job.specs.Read.call_holds Rattle.job.specs.Read.definitions_hold
+    Rattle.job.specs.Read.read_program Rattle.job.specs.Read.leftovers Rattle.job.specs.Read.call_holds
+    Rattle.job.specs.Read.definitions_hold
     Rattle.job.specs.Read.read_entries Rattle.job.specs.Read.read_sizes Rattle.job.specs.Read.read_bytes Rattle.job.specs.Read.reader_answer
     Rattle.job.specs.Read.read_table Rattle.job.specs.Syntax.levels Rattle.job.specs.Syntax.scope_left Rattle.job.specs.Syntax.scope_right
     Rattle.job.specs.Words.param_words Rattle.job.specs.Words.node_words Rattle.job.specs.Words.param_of Rattle.job.specs.Words.params_from

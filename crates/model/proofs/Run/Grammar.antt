@@ -118,7 +118,8 @@ module _ (lim : Limits) (d : Dag) where
   unfolding text_of_all text_of
   end-text n = append-nil _ ∙ line-rest _ _
 
-  printed : {most : ℕ} {m : Machine} {bytes : List ℕ} {lines : List Line} → Printed lim d most m bytes lines → WholeOutput (text_of_all lines)
+  printed : {most : ℕ} {m : Machine} {bytes : List ℕ} {lines : List Line} → Printed lim d most m bytes lines
+      → WholeOutput (text_of_all lines)
   printed {m = m} {lines = lines} p = go (ending p.ends)
     where
       n : ℕ

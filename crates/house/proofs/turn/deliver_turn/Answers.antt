@@ -23,4 +23,5 @@ returns c = λ m dag cells shared lawful one e.
     turned-shows
     (turn-delivers _ _ _ _ _ _ c.deliver-number.ensures.gives m dag _ cells shared lawful
     (λ i from to. free-token lawful i (none i from to)) one e)
-    (over-empty _ e _) (shows-as (refused-line c.deliver-number.ensures.delivery_number c.if-number-eq0.false) line.shows_bytes) line.upper_bound
+    (over-empty _ e _) (shows-as (refused-line c.deliver-number.ensures.delivery_number c.if-number-eq0.false) line.shows_bytes)
+    line.upper_bound

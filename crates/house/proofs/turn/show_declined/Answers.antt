@@ -9,4 +9,8 @@ use Rattle.house.proofs.turn.show_declined.Goals as goal
 pub returns-then-number-number_of : goal.returns-then-number-number_of
 unfolding number_of
 returns-then-number-number_of c = let line = c.show_not_open.ensures in
-    record { shows_bytes = shows-as (ap (λ (n : ℕ). text_of (refused n)) (sym (c.if-number-number_of.true ∙ c.number_of.ensures))) line.shows_bytes; upper_bound = line.upper_bound }
+    record {
+      shows_bytes = shows-as (ap (λ (n : ℕ). text_of (refused n)) (sym (c.if-number-number_of.true ∙ c.number_of.ensures)))
+          line.shows_bytes;
+      upper_bound = line.upper_bound;
+    }

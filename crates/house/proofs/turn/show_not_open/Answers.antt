@@ -9,4 +9,7 @@ use Rattle.house.proofs.turn.show_not_open.Goals as goal
 pub returns : goal.returns
 unfolding number_of
 returns c = let line = c.show_refused.ensures in
-    record { shows_bytes = shows-as (ap (λ (n : ℕ). text_of (refused n)) c.number_of.ensures) line.shows_bytes; upper_bound = line.upper_bound }
+    record {
+      shows_bytes = shows-as (ap (λ (n : ℕ). text_of (refused n)) c.number_of.ensures) line.shows_bytes;
+      upper_bound = line.upper_bound;
+    }

@@ -12,4 +12,4 @@ pub overflow_add-result-2 : goal.overflow_add-result-2
 overflow_add-result-2 c = search (rules, byte_small c.args.used)
 
 pub returns : goal.returns
-returns c = record { value = (λ e. omega (arith, mark-true _ e)); value_2 = (λ e. omega (arith, mark-false _ e)) }
+returns c = record { in_use = (λ e. omega (arith, mark-true _ e)); free = (λ e. omega (arith, mark-false _ e)) }

@@ -15,9 +15,9 @@ loop-i-preserved c = let turn = c.loop-i.invariant.1 in
       search rules,
       elim c.if-d-best.branch [
         | then-d-best h ↦
-            nearest-taken _ (search rules) _ _ _ (search rules) turn (search rules) _ _ said.value said.value_2 h.if-d-best.true h.best-is
+            nearest-taken _ (search rules) _ _ _ (search rules) turn (search rules) _ _ said.in_use said.free h.if-d-best.true h.best-is
         | else-d-best h ↦
-            nearest-passed _ (search rules) _ _ _ (search rules) turn (search rules) _ _ said.value said.value_2 h.if-d-best.false h.best-is
+            nearest-passed _ (search rules) _ _ _ (search rules) turn (search rules) _ _ said.in_use said.free h.if-d-best.false h.best-is
       ],
     )
 

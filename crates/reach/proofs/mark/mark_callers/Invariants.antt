@@ -14,7 +14,8 @@ abbrev pub invariant-loop-n : goal.invariant-loop-n
 invariant-loop-n l = (l.n ≤ 64)
     × (length l.marks ≡ 64)
     × ((m : Machine) → Codes l.w m
-    → callers_marked m (place_from l.start) l.initial.marks ≡ walk (λ (t : Token). t.caller) blank_token m.tokens (64 - l.n) (place_from l.q) l.marks)
+    → callers_marked m (place_from l.start) l.initial.marks ≡ walk (λ (t : Token). t.caller) blank_token m.tokens (64 - l.n) (place_from
+    l.q) l.marks)
 
 abbrev pub decreases-loop-n : goal.decreases-loop-n
 decreases-loop-n l = 64 - l.n

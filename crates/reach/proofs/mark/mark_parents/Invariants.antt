@@ -14,7 +14,8 @@ abbrev pub invariant-loop-n : goal.invariant-loop-n
 invariant-loop-n l = (l.n ≤ 32)
     × (length l.marks ≡ 32)
     × ((m : Machine) → Codes l.w m
-    → parents_marked m (place_from l.start) l.initial.marks ≡ walk (λ (k : Cell). k.parent) blank_cell m.cells (32 - l.n) (place_from l.q) l.marks)
+    → parents_marked m (place_from l.start) l.initial.marks ≡ walk (λ (k : Cell). k.parent) blank_cell m.cells (32 - l.n) (place_from l.q)
+    l.marks)
 
 abbrev pub decreases-loop-n : goal.decreases-loop-n
 decreases-loop-n l = 32 - l.n

@@ -12,7 +12,16 @@ returns-then-end-eq8 c = let few = c.few_or_all-end.ensures in
     let marks = c.args.marks.now in
     let end = c.end_of_eight.ensures ∙ ap end_of_eight c.first_eight.ensures in
     let none = subst (λ e. UnmarkedFrom marks e c.args.size) c.if-end-eq8.true few.upper_bound.1 in
-    let eight = subst (λ e. (e ≤ 8) × UnmarkedFrom marks e 8) (sym end) (eight-end marks (search rules)) in record { upper_bound = (omega (arith, eight.0, c.requires.1), unmarked-few marks _ _ eight.1 none); value = marked-few marks (sym few.value ∙ c.if-end-eq8.true) end }
+    let eight = subst (λ e. (e ≤ 8) × UnmarkedFrom marks e 8) (sym end) (eight-end marks (search rules)) in record {
+      upper_bound = (
+        omega
+            (arith, eight.0, c.requires.1),
+        unmarked-few marks _ _ eight.1 none,
+      );
+      value = marked-few marks (sym few.value ∙ c.if-end-eq8.true)
+          end;
+    }
 
 pub returns : goal.returns
-returns c = let few = c.few_or_all-end.ensures in record { upper_bound = few.upper_bound; value = marked-many _ few.value c.if-end-eq8.false }
+returns c =
+    let few = c.few_or_all-end.ensures in record { upper_bound = few.upper_bound; value = marked-many _ few.value c.if-end-eq8.false }

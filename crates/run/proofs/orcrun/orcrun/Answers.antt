@@ -49,11 +49,21 @@ returns-in-Refused c = let line = shows-line c.put_table-n.ensures blank-line c.
     let refused = sym c.in-Refused.is ∙ c.load-answer.ensures.value in
     let whole = whole-table _ _ c.table_end-end.ensures c.if-input-gt65536.false _ _ refused in
     let all = shown-all (shows-as (text-one _ ∙ whole) line) in
-    record { value = all.0; dag_after = dag-loaded _ _ c.table_end-end.ensures c.if-input-gt65536.false _ _ c.load-answer.ensures.dag_after; output_after = all.1 }
+    record {
+      value = all.0;
+      dag_after = dag-loaded _ _ c.table_end-end.ensures c.if-input-gt65536.false _ _
+          c.load-answer.ensures.dag_after;
+      output_after = all.1;
+    }
 
 pub returns-in-Dag : goal.returns-in-Dag
 returns-in-Dag c = let accepted = sym c.in-Dag.is ∙ c.load-answer.ensures.value in
     let whole =
     whole_run _ _ c.table_end-end.ensures c.if-input-gt65536.false _ _ _ c.whole.ensures accepted c.load-answer.ensures.dag_after in
     let all = shown-all (shows-as whole c.run.ensures) in
-    record { value = all.0; dag_after = dag-loaded _ _ c.table_end-end.ensures c.if-input-gt65536.false _ _ c.load-answer.ensures.dag_after; output_after = all.1 }
+    record {
+      value = all.0;
+      dag_after = dag-loaded _ _ c.table_end-end.ensures c.if-input-gt65536.false _ _
+          c.load-answer.ensures.dag_after;
+      output_after = all.1;
+    }

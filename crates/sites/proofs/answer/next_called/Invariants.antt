@@ -7,7 +7,9 @@ use Rattle.record.specs.Holds.{Codes}
 use Rattle.sites.proofs.answer.next_called.Given as goal
 
 abbrev pub invariant-loop-p : goal.invariant-loop-p
-invariant-loop-p l = (l.from ≤ l.p) × (l.p ≤ l.end) × ((m : Machine) → Codes l.w m → (h : ℕ) → holder h l.from (drop l.from m.tokens) ≡ holder h l.p (drop l.p m.tokens))
+invariant-loop-p l =
+    (l.from ≤ l.p) × (l.p ≤ l.end) × ((m : Machine) → Codes l.w m → (h : ℕ) → holder h l.from (drop l.from m.tokens) ≡ holder h l.p (drop
+    l.p m.tokens))
 
 abbrev pub decreases-loop-p : goal.decreases-loop-p
 decreases-loop-p l = l.end - l.p

@@ -13,8 +13,15 @@ pub returns-then-word-lt2147483648 : goal.returns-then-word-lt2147483648
 returns-then-word-lt2147483648 c = rw (to_z_pos w32 c.if-word-lt2147483648.true) (signed_lower _ c.if-word-lt2147483648.true)
 
 pub overflow_sub-result : goal.overflow_sub-result
-overflow_sub-result c = rw (to_z_pos w32 (low _ c.if-word-lt2147483648.false)) (under-fits (4294967295 - c.args.word) (low _ c.if-word-lt2147483648.false))
+overflow_sub-result c =
+    rw (to_z_pos w32 (low _ c.if-word-lt2147483648.false)) (under-fits (4294967295 - c.args.word) (low _ c.if-word-lt2147483648.false))
 
 pub returns : goal.returns
-returns c = rw (to_z_pos w32 (low _ c.if-word-lt2147483648.false), to_z-of_z (under-fits (4294967295 - c.args.word) (low _ c.if-word-lt2147483648.false)), under (4294967295 - c.args.word))
+returns c =
+    rw (
+      to_z_pos w32 (low _ c.if-word-lt2147483648.false),
+      to_z-of_z (under-fits (4294967295 - c.args.word) (low _
+          c.if-word-lt2147483648.false)),
+      under (4294967295 - c.args.word),
+    )
     (signed-upper c.args.word c.if-word-lt2147483648.false)

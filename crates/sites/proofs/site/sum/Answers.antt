@@ -43,15 +43,29 @@ overflow_add-s c = rw (summed c.ranges.a c.ranges.b) (sum-fits-64 c.ranges.a c.r
 
 pub returns-then-s-ltminus2147483648 : goal.returns-then-s-ltminus2147483648
 returns-then-s-ltminus2147483648 c = let f = sum-fits-64 c.ranges.a c.ranges.b in
-    sym (ap site_reply_of (sum-silent _ _ (too-low (c.args.a +ℤ c.args.b) (rw (summed c.ranges.a c.ranges.b, to_z-of_z f) at c.if-s-ltminus2147483648.true))))
+    sym (ap site_reply_of (sum-silent _ _ (too-low (c.args.a +ℤ c.args.b) (rw (
+      summed c.ranges.a c.ranges.b,
+      to_z-of_z f,
+    ) at c.if-s-ltminus2147483648.true))))
 
 pub returns-then-s-gt2147483647 : goal.returns-then-s-gt2147483647
 returns-then-s-gt2147483647 c = let f = sum-fits-64 c.ranges.a c.ranges.b in
-    sym (ap site_reply_of (sum-silent _ _ (too-high (c.args.a +ℤ c.args.b) (rw (summed c.ranges.a c.ranges.b, to_z-of_z f) at c.if-s-gt2147483647.true))))
+    sym (ap site_reply_of (sum-silent _ _ (too-high (c.args.a +ℤ c.args.b) (rw (
+      summed c.ranges.a c.ranges.b,
+      to_z-of_z f,
+    ) at c.if-s-gt2147483647.true))))
 
 pub overflow_cast-result : goal.overflow_cast-result
-overflow_cast-result c = rw (summed c.ranges.a c.ranges.b, to_z-of_z (sum-fits-64 c.ranges.a c.ranges.b)) (fits-32 _ (held c.ranges.a c.ranges.b c.if-s-ltminus2147483648.false c.if-s-gt2147483647.false))
+overflow_cast-result c =
+    rw (summed c.ranges.a c.ranges.b, to_z-of_z (sum-fits-64 c.ranges.a c.ranges.b)) (fits-32 _ (held c.ranges.a c.ranges.b
+    c.if-s-ltminus2147483648.false c.if-s-gt2147483647.false))
 
 pub returns : goal.returns
 returns c = let f = sum-fits-64 c.ranges.a c.ranges.b in
-    rw (summed c.ranges.a c.ranges.b, to_z-of_z f, to_z-of_z (fits-32 (c.args.a +ℤ c.args.b) (held c.ranges.a c.ranges.b c.if-s-ltminus2147483648.false c.if-s-gt2147483647.false))) (sym (ap site_reply_of (sum-gives _ _ (held c.ranges.a c.ranges.b c.if-s-ltminus2147483648.false c.if-s-gt2147483647.false))))
+    rw (
+      summed c.ranges.a c.ranges.b,
+      to_z-of_z f,
+      to_z-of_z (fits-32 (c.args.a +ℤ c.args.b) (held c.ranges.a c.ranges.b
+          c.if-s-ltminus2147483648.false c.if-s-gt2147483647.false)),
+    ) (sym (ap site_reply_of (sum-gives _ _ (held c.ranges.a c.ranges.b
+    c.if-s-ltminus2147483648.false c.if-s-gt2147483647.false))))

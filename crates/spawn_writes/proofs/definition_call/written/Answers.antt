@@ -6,7 +6,8 @@ use Rattle.record.specs.Changes.{dequeued}
 use Rattle.record.specs.Holds.{Holds}
 use Rattle.model.specs.declared.token.Token.{Token}
 use Rattle.model.specs.declared.token.State.TheVariants as states
-use Rattle.model.specs.Machine.Update.{put, with_node, with_state, new_token, with_tables, with_orders, with_counts, enqueue, queue_of, waits_of}
+use Rattle.model.specs.Machine.Update.{put, with_node, with_state, new_token, with_tables}
+use Rattle.model.specs.Machine.Update.{with_orders, with_counts, enqueue, queue_of, waits_of}
 use Rattle.model.specs.Machine.Blank.{token_at}
 use mathlib.Core.Path.{refl, sym, ap, subst, ◌∙◌}
 use Rattle.spawn_writes.proofs.definition_call.written.Goals as goal

@@ -11,7 +11,8 @@ use Rattle.tail_writes.proofs.passing.passed_slots.Given as goal
 
 abbrev pub invariant-loop-i : goal.invariant-loop-i
 invariant-loop-i l = (l.i ≤ l.count) × (l.count ≡ get_or l.dag (l.at + 3) 0)
-    × ((m : Machine) → Codes l.w m → SlotWords l.kinds l.numbers (formals_bound (token_at m.tokens l.p).binds (take l.i (params_at l.dag l.at))))
+    × ((m : Machine) → Codes l.w m → SlotWords l.kinds l.numbers (formals_bound (token_at m.tokens l.p).binds (take l.i (params_at l.dag
+    l.at))))
 
 abbrev pub decreases-loop-i : goal.decreases-loop-i
 decreases-loop-i l = l.count - l.i
