@@ -30,4 +30,5 @@ pub known_enough : (old new : Option (List ℕ)) (buffer : List ℕ) (n : ℕ) �
     → IfSome old (λ input. P (orcrun input))
 known_enough None new buffer n room within given end P p = tt
 known_enough (Some xs) None buffer n room within given end P p = absurd given
-known_enough (Some xs) (Some ys) buffer n room within given end P p = subst P (read_enough xs ys buffer n room within given end) p
+known_enough (Some xs) (Some ys) buffer n room within given end P p =
+    subst P (read_enough xs ys buffer n room within given end) p

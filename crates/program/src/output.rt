@@ -42,7 +42,8 @@ fn output_buffer() -> [u8; 262144]
     [0; 262144]
 }
 
-// Runs the job of an input and prints its lines, all of them. Where the writer fails, the first bytes of the lines are written.
+// Runs the job of an input and prints its lines, all of them. The only errors are the writer's (`streams::write_all`): then the first bytes
+// of the lines are written.
 pub fn print_run<W: Write>(input: &[u8], writer: &mut W) -> io::Result<Written>
     ensures count { IfOk result (λ written. written.bytes ≡ length (orcrun input.now)) }
     ensures ok { OnOk result (Appends (W.contents writer.old) (W.contents writer.new) (orcrun input.now)) }

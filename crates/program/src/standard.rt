@@ -17,8 +17,8 @@ fn input_buffer() -> [u8; 65537]
     [0; 65537]
 }
 
-// Runs the job on standard input, and prints its lines. Where reading fails, nothing is printed, and where writing fails, the first bytes
-// of the lines.
+// Runs the job on standard input, and prints its lines. The only errors are the reader's, where nothing is printed, and the writer's, where
+// the first bytes of the lines are (`streams`).
 pub fn run_input<R: Read, W: Write>(reader: &mut R, writer: &mut W) -> io::Result<()>
     ensures ok { OnOk result (IfSome (R.remaining reader.old)
         (λ input. Appends (W.contents writer.old) (W.contents writer.new) (orcrun input))) }

@@ -21,7 +21,7 @@ pub(crate) fn nothing() -> Written
     Written { bytes: 0 }
 }
 
-// Writes the piece of what the run prints that comes next. Where the writer fails, the first bytes of the piece are written.
+// Writes the piece of what the run prints that comes next. Where the writer fails, the first bytes of it are written.
 pub(crate) fn write_piece<W: Write>(
     written: Written,
     piece: &[u8],

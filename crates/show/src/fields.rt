@@ -1,4 +1,5 @@
-// A record as lines. Of a record every field is shown that is not blank; of words that are no record's every one that is not 0.
+// A record as lines. Of a record every field is shown that is not blank; of words that are no record's every one that is not 0. An error
+// is one of a write that failed; what was printed before it stays.
 ghost use Rattle.std.specs.Prelude.{◌<◌, ◌≤◌};
 
 use coded::word_tests::is_record;

@@ -1,5 +1,5 @@
-// Bytes from a reader until a buffer is full, and all of some bytes to a writer. No other error comes than the reader's and the writer's own,
-// and `WriteZero` where a writer takes no byte; a call that a signal interrupts counts as one that failed.
+// Bytes from a reader until a buffer is full, and all of some bytes to a writer. No other error comes than the reader's and the writer's
+// own, and `WriteZero` where a writer takes no byte; a call that a signal interrupts counts as one that failed.
 #![tactic(auto)]
 
 ghost use Rattle.std.specs.Prelude.{◌<◌, length, take, IfOk, OnOk, OnErr};
@@ -10,8 +10,8 @@ ghost use Rattle.streams.specs.Parts.{AppendsPart, ConsumesPart};
 use std::io;
 use std::io::{Error, ErrorKind, Read, Write};
 
-// Reads until `buf` is full or the reader is at its end, and answers how many bytes it put at the start of `buf`. An error leaves there what
-// was read before it.
+// Reads until `buf` is full or the reader is at its end, and answers how many bytes it put at the start of `buf`. An error leaves there
+// what was read before it.
 pub fn read_full<R: Read>(reader: &mut R, buf: &mut [u8]) -> io::Result<usize>
     ensures bound { ReadsAtMost result buf.new }
     ensures bytes { IfOk result (λ n. Consumes (R.remaining reader.old) (R.remaining reader.new) (take n buf.new)) }
