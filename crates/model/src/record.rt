@@ -55,7 +55,6 @@ impl Machine {
             state: State::Ready,
             ..blank
         };
-        let lastcell = (Machine::CELLS - 1) as u8;
         Machine {
             tokens,
             cells: [cell; Machine::CELLS],
@@ -65,7 +64,7 @@ impl Machine {
             waiting: 0,
             calls: 0,
             lasttoken: 0,
-            lastcell,
+            lastcell: (Machine::CELLS - 1) as u8,
             timers: [0; Machine::TOKENS],
             timed: 0,
             clock: 0,
