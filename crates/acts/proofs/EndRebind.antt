@@ -8,6 +8,7 @@ use native.Mathlib.Omega.{arith}
 use lib.ListN.{length, set}
 use lib.Dec.{eqb}
 use lib.IntN.{ℤ}
+use Rattle.std.specs.Prelude.{Some, None}
 use Rattle.job.specs.Number.{unsigned, signed}
 use Rattle.job.specs.Test.{◌and◌, for_all}
 use Rattle.job.specs.Node.{is_node}
@@ -24,10 +25,7 @@ use Rattle.model.specs.declared.reply.Outcome.{Outcome}
 use Rattle.model.specs.declared.reply.Reply.{Reply}
 use Rattle.model.specs.declared.reply.Reply.TheVariants as replies
 use Rattle.model.specs.declared.reply.Report.{Report}
-use Rattle.model.specs.declared.token.Held.{Held}
-use Rattle.model.specs.declared.token.Held.TheVariants as helds
-use Rattle.model.specs.declared.token.Place.{Place}
-use Rattle.model.specs.declared.token.Place.TheVariants as places
+use Rattle.model.specs.Machine.Held.{Held, Place}
 use Rattle.model.specs.declared.token.Bind.{Bind}
 use Rattle.model.specs.declared.token.Slot.{Slot}
 use Rattle.model.specs.declared.token.Slot.TheVariants as slots
@@ -53,8 +51,8 @@ Swept o ws used cells = Holds ws (sweep o) × (used ≡ tokens_used (sweep o)) �
 -- a value's bits
 pub value-bits : (v : Held) → held_number v ≡ unsigned (value_of v)
 unfolding value_of unsigned
-value-bits helds.Nothing = refl
-value-bits (helds.Value v) = refl
+value-bits None = refl
+value-bits (Some v) = refl
 
 module _ {ws dag : List ℕ} {used cells : List Bool} {place p : ℕ} {m : Machine} (a : Taking ws used cells dag place p m) where
   abbrev t : Token
@@ -109,21 +107,21 @@ pub gives_as : {x y : Outcome} {m : Machine} {ws : List ℕ} {used cells : List 
 gives_as {x} {y} {m} {ws} {used} {cells} {r} e g = subst (λ o. Gives o m ws used cells r) (sym e) g
 
 -- a place's number is 0 for none
-pub no_place : (q : Place) (n : ℕ) → n ≡ place_number q → n ≡ 0 → q ≡ places.Nowhere
-no_place places.Nowhere n e z = refl
-no_place (places.At p) n e z = absurd (omega arith)
+pub no_place : (q : Place) (n : ℕ) → n ≡ place_number q → n ≡ 0 → q ≡ None
+no_place None n e z = refl
+no_place (Some p) n e z = absurd (omega arith)
 
 -- "a token at return names a frame"; "at choke a cell"
 pub is-place : (q : Place) (n size : ℕ) → is_place q ≡ true → place_in_range size q ≡ true → n ≡ place_number q
-    → (1 ≤ n) × (n - 1 < size) × (q ≡ places.At (n - 1))
+    → (1 ≤ n) × (n - 1 < size) × (q ≡ Some (n - 1))
 unfolding is_place place_in_range
-is-place places.Nowhere n size e r f = clash e refl
-is-place (places.At p) n size e r f = (omega arith, (let l = ltb-lt p size r in omega arith), ap places.At (omega arith))
+is-place None n size e r f = clash e refl
+is-place (Some p) n size e r f = (omega arith, (let l = ltb-lt p size r in omega arith), ap Some (omega arith))
 
 frame-place : (ts : List Token) (q : Place) → names_frame ts q ≡ true → is_place q ≡ true
 unfolding names_frame is_place
-frame-place ts places.Nowhere e = clash e refl
-frame-place ts (places.At p) e = refl
+frame-place ts None e = clash e refl
+frame-place ts (Some p) e = refl
 
 module _ {ws dag : List ℕ} {used cells : List Bool} {place p : ℕ} {m : Machine} (a : Taking ws used cells dag place p m) where
   range : token_in_range paper (dag_of dag) m.calls (token_at m.tokens p) ≡ true
@@ -155,21 +153,21 @@ module _ {ws dag : List ℕ} {used cells : List Bool} {place p : ℕ} {m : Machi
 module _ (dag : List ℕ) (place p at : ℕ) (m : Machine) {n : ℕ} where
   pub return-caller : {ws : List ℕ} {used cells : List Bool} → Acting ws used cells dag place p at 8 m
       → n ≡ place_number (token_at m.tokens p).caller
-      → (1 ≤ n) × (n - 1 < 64) × ((token_at m.tokens p).caller ≡ places.At (n - 1))
+      → (1 ≤ n) × (n - 1 < 64) × ((token_at m.tokens p).caller ≡ Some (n - 1))
   unfolding node_rule
   return-caller a e = is-place _ n 64 (frame-place m.tokens _ (and_left _ _ (node-rule a))) (caller-range a.taking) e
 
   pub choke-cell : {ws : List ℕ} {used cells : List Bool} → Acting ws used cells dag place p at 7 m
       → n ≡ place_number (token_at m.tokens p).cell
-      → (1 ≤ n) × (n - 1 < 32) × ((token_at m.tokens p).cell ≡ places.At (n - 1))
+      → (1 ≤ n) × (n - 1 < 32) × ((token_at m.tokens p).cell ≡ Some (n - 1))
   unfolding node_rule
   choke-cell a e = is-place _ n 32 (and_left _ _ (node-rule a)) (cell-range a.taking) e
 
 -- a value that is read as it was written
 pub value_read : (v : Held) (n : ℕ) → held_in_range v ≡ true → n ≡ held_number v → signed n ≡ value_of v
 unfolding held_in_range value_of signed
-value_read helds.Nothing n r e = ap signed e
-value_read (helds.Value v) n r e = ap signed e ∙ signed-unsigned v r
+value_read None n r e = ap signed e
+value_read (Some v) n r e = ap signed e ∙ signed-unsigned v r
 
 -- "publish reports its value"
 pub publish-reply : (v : Held) (n : ℕ) (z y : ℤ) → held_in_range v ≡ true → n ≡ held_number v → z ≡ signed n → y ≡ z

@@ -7,6 +7,7 @@ use Prim.Native.Nat.{ℕ, ◌+◌, ◌<◌, ◌≤◌}
 use native.Mathlib.Omega.{arith}
 use lib.ListN.{get_or}
 use lib.Dec.{ltb}
+use Rattle.std.specs.Prelude.{Some}
 use Rattle.job.specs.Node.{Dag, body_at}
 use Rattle.job.specs.Tail.{is_tail}
 use Rattle.job.specs.Words.{dag_of}
@@ -22,7 +23,6 @@ use Rattle.model.specs.Machine.Step.{act, value_of}
 use Rattle.model.specs.Machine.Step.{has_token_place, has_cell_place, call_site, look}
 use Rattle.model.specs.declared.record.Machine.{Machine}
 use Rattle.model.specs.declared.reply.Reply.TheVariants as replies
-use Rattle.model.specs.declared.token.Place.TheVariants as places
 use Rattle.model.specs.declared.token.Slot.TheVariants as slots
 use Rattle.model.specs.declared.token.State.TheVariants as states
 use Rattle.model.specs.declared.token.Token.{Token}
@@ -128,14 +128,14 @@ module _ (dag : List ℕ) (place p at : ℕ) (m : Machine) where
   unfolding act outcome Step.goes_on
   remove-step a = step_is a
 
-  pub return-step : {ws : List ℕ} {used cells : List Bool} → (f : ℕ) → t.caller ≡ places.At f → Acting ws used cells dag place p at 8 m
+  pub return-step : {ws : List ℕ} {used cells : List Bool} → (f : ℕ) → t.caller ≡ Some f → Acting ws used cells dag place p at 8 m
       → Step.step paper (dag_of dag) m place
       ≡ accepted replies.Done []
       (enqueue p (put p (with_state states.Ready (with_value t.value (token_at m.tokens f))) (dequeued m place)))
   unfolding act outcome Step.goes_on Step.returned with_orders
   return-step f e a = step_is a ∙ ap (λ q. outcome m (Step.returned (dequeued m place) p t q)) e
 
-  pub choke-step : {ws : List ℕ} {used cells : List Bool} → (c : ℕ) → t.cell ≡ places.At c → Acting ws used cells dag place p at 7 m
+  pub choke-step : {ws : List ℕ} {used cells : List Bool} → (c : ℕ) → t.cell ≡ Some c → Acting ws used cells dag place p at 7 m
       → Step.step paper (dag_of dag) m place
       ≡ accepted replies.Done [] (Step.after_choke c t.value (dequeued m place))
   unfolding act outcome Step.choke_at

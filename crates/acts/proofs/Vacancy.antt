@@ -6,6 +6,7 @@ use mathlib.Core.List.{List}
 use Prim.Native.Nat.{ℕ}
 use lib.ListN.{get_or, set}
 use lib.Seq.{get_or-set_other}
+use Rattle.std.specs.Prelude.{Some}
 use Rattle.job.specs.Words.{dag_of}
 use Rattle.model.specs.Machine.Blank.{blank_token, blank_cell, token_at, cell_at}
 use Rattle.model.specs.Machine.Limits.{paper}
@@ -14,8 +15,7 @@ use Rattle.model.specs.declared.token.Token.{Token}
 use Rattle.model.specs.Machine.Step as Step
 use Rattle.model.specs.Machine.Update.{with_tables, with_orders, with_timers}
 use Rattle.model.specs.Machine.Step.{after_choke}
-use Rattle.model.specs.declared.token.Held.{Held}
-use Rattle.model.specs.declared.token.Place.TheVariants as places
+use Rattle.model.specs.Machine.Held.{Held}
 use Rattle.record.specs.Changes.{dequeued}
 use Rattle.model.proofs.Machine.WrittenTokens.{choked-blank}
 use Rattle.model.proofs.Machine.Choke.{choke-at}
@@ -58,7 +58,7 @@ module _ {ws dag : List ℕ} {used cells : List Bool} {place p : ℕ} {m : Machi
 -- a choke writes to rows of tokens in use and to the cell of the token that acts, which is in use
 pub choke-vacant : {ws dag : List ℕ} {used cells : List Bool} {place p : ℕ} {m : Machine} → Taking ws used cells dag place p m
     → (c : ℕ) (v : Held)
-    → (token_at m.tokens p).cell ≡ places.At c → Vacant (after_choke c v (dequeued m place)) used cells
+    → (token_at m.tokens p).cell ≡ Some c → Vacant (after_choke c v (dequeued m place)) used cells
 unfolding after_choke with_tables with_timers with_orders cell_at
 choke-vacant {ws} {dag} {used} {cells} {place} {p} {m} a c v e =
     record {

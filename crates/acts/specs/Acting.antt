@@ -1,5 +1,5 @@
 -- What is known where a token acts, and what its act leaves. Assumes nothing: these are definitions.
-use Rattle.std.specs.Prelude.{◌≡◌, Bool, true, false, List, [], ℕ, ◌<◌, length, get_or}
+use Rattle.std.specs.Prelude.{◌≡◌, Bool, true, false, List, [], ℕ, ◌<◌, length, get_or, Some}
 use Rattle.job.specs.Words.{dag_of}
 use Rattle.model.specs.Machine.Blank.{token_at}
 use Rattle.model.specs.Machine.InUse.{tokens_used, cells_used}
@@ -11,7 +11,6 @@ use Rattle.model.specs.declared.reply.Outcome.{Outcome}
 use Rattle.model.specs.declared.reply.Reply.{Reply}
 use Rattle.model.specs.declared.reply.Reply.TheVariants as replies
 use Rattle.model.specs.declared.reply.Report.{Report}
-use Rattle.model.specs.declared.token.Place.TheVariants as places
 use Rattle.model.specs.declared.token.State.TheVariants as states
 use Rattle.record.specs.Holds.{Holds}
 use Rattle.sites.specs.Row.{row_of}
@@ -53,7 +52,7 @@ pub record Acting (ws : List ℕ) (used used_cells : List Bool) (dag : List ℕ)
 -- every caller of a token in use is a frame: so it is in each record of a run
 abbrev pub CallersAreFrames : Machine → Type 0
 CallersAreFrames m =
-    (i j : ℕ) → get_or (tokens_used m) i true ≡ true → (token_at m.tokens i).caller ≡ places.At j
+    (i j : ℕ) → get_or (tokens_used m) i true ≡ true → (token_at m.tokens i).caller ≡ Some j
     → (token_at m.tokens j).state ≡ states.Frame
 
 -- a call's report and the words after it are those of an outcome; the marks too, where callers are frames

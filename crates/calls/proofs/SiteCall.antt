@@ -9,6 +9,7 @@ use native.Mathlib.Omega.{arith}
 use lib.ListN.{length, get_or}
 use lib.Dec.{ltb}
 use lib.IntN.{ℤ, pos}
+use Rattle.std.specs.Prelude.{Some}
 use Rattle.job.specs.Site.{BuiltinReply, gives, silent, later, due_time, at, is_builtin, builtin}
 use Rattle.sites.specs.declared.site.SiteReply.{SiteReply}
 use Rattle.sites.specs.SiteReply.{builtin_reply_of}
@@ -27,7 +28,6 @@ use Rattle.model.specs.declared.reply.Outcome.{Outcome}
 use Rattle.model.specs.declared.reply.Reply.{Reply}
 use Rattle.model.specs.declared.reply.Report.{Report}
 use Rattle.model.specs.declared.reply.Reply.TheVariants as replies
-use Rattle.model.specs.declared.token.Held.TheVariants as helds
 use Rattle.model.specs.declared.token.State.TheVariants as states
 use Rattle.model.specs.declared.token.Token.{Token}
 use Rattle.job.proofs.Test.{lt-ltb, le-not-ltb}
@@ -75,12 +75,12 @@ module _ {ws dag : List ℕ} {used cells : List Bool} {place p : ℕ} {m : Machi
 
   pub reply-gives : {x : Outcome} (v : ℤ) (k j : ℕ) {after : List ℕ} (r : Report)
       → x ≡ outcome m (Step.replied (dequeued m place) p t k (gives v)) → j ≡ k
-      → r ≡ plain replies.Done → Holds after (enqueue p (put p (with_node j (with_value (helds.Value v) t)) (dequeued m place)))
+      → r ≡ plain replies.Done → Holds after (enqueue p (put p (with_node j (with_value (Some v) t)) (dequeued m place)))
       → Gives x m after used cells r
   unfolding outcome Step.replied Step.goes_on
   reply-gives v k j {after} r e g f h =
       marked _ replies.Done [] r e (ap (λ (y : Report). y.reply) f) (ap (λ (y : Report). y.values) f)
-      (subst (λ i. Holds after (enqueue p (put p (with_node i (with_value (helds.Value v) t)) (dequeued m place)))) g h)
+      (subst (λ i. Holds after (enqueue p (put p (with_node i (with_value (Some v) t)) (dequeued m place)))) g h)
       (replied-carried paper (dag_of dag) m a.lawful.rules place a.queued p a.token k v)
 
   pub due-gives : {x : Outcome} (due k j : ℕ) {after : List ℕ} (r : Report) → x ≡ outcome m (moves (in_time (dequeued m place) p t k due))
@@ -203,7 +203,7 @@ module _ (m : Machine) (place p k : ℕ) where
     where
       go : (b : Bool)
           → elim b as (λ b. Effect) [
-            | false ↦ Step.goes_on (dequeued m place) p (with_node k (with_value (helds.Value (pos 0)) (token_at m.tokens p)))
+            | false ↦ Step.goes_on (dequeued m place) p (with_node k (with_value (Some (pos 0)) (token_at m.tokens p)))
             | true ↦ moves (in_time (dequeued m place) p (token_at m.tokens p) k due)
           ]
           ≡ settled_effect (elim b as (λ b. TimedReply) [ true ↦ settleds.Due due | false ↦ settleds.Gives (pos 0) ])

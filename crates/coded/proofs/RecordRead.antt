@@ -7,6 +7,7 @@ use Prim.Native.Nat.{ℕ, zero, suc, ◌+◌, ◌*◌, ◌<◌}
 use native.Mathlib.Omega.{arith}
 use lib.ListN.{length, get_or}
 use lib.Seq.{take_at, drop_at}
+use Rattle.std.specs.Prelude.{Some, None}
 use Rattle.job.specs.Bounds.{scope_limit}
 use Rattle.job.specs.Test.{for_all, same}
 use Rattle.job.specs.Node.{Dag}
@@ -16,9 +17,7 @@ use Rattle.model.specs.Machine.Rules.{held_in_range, slot_in_range, token_in_ran
 use Rattle.model.specs.declared.token.Slot.{Slot}
 use Rattle.model.specs.declared.token.Slot.TheVariants as slots
 use Rattle.model.specs.declared.token.Bind.{Bind}
-use Rattle.model.specs.declared.token.Held.{Held}
-use Rattle.model.specs.declared.token.Held.TheVariants as helds
-use Rattle.model.specs.declared.token.Place.{Place}
+use Rattle.model.specs.Machine.Held.{Held, Place}
 use Rattle.model.specs.declared.token.State.{State}
 use Rattle.model.specs.declared.token.State.TheVariants as states
 use Rattle.model.specs.declared.token.Token.{Token}
@@ -49,8 +48,8 @@ state-read states.Frame = refl
 
 held-read : (v : Held) → held_in_range v ≡ true → held_from (held_kind v) (held_number v) ≡ v
 unfolding held_from held_in_range
-held-read helds.Nothing e = refl
-held-read (helds.Value v) e = ap helds.Value (signed-unsigned v e)
+held-read None e = refl
+held-read (Some v) e = ap Some (signed-unsigned v e)
 
 slot_read : (cells : ℕ) (s : Slot) → slot_in_range cells s ≡ true → slot_from (slot_kind s) (slot_number s) ≡ s
 unfolding slot_from slot_in_range

@@ -12,6 +12,7 @@ use native.Mathlib.Omega.{arith}
 use lib.ListN.{length, get_or, length-append}
 use lib.Dec.{eqb}
 use lib.IntN.{ℤ}
+use Rattle.std.specs.Prelude.{None}
 use Rattle.job.specs.Test.{◌and◌, ◌or◌, for_all, for_some, All, none, more, distinct}
 use Rattle.job.specs.Number.{fits}
 use Rattle.job.specs.Site.{last_time}
@@ -30,10 +31,7 @@ use Rattle.model.specs.Machine.Rules.{not_empty, value_if_ready, node_rule, at_n
 use Rattle.model.specs.declared.token.Slot.{Slot}
 use Rattle.model.specs.declared.token.Slot.TheVariants as slots
 use Rattle.model.specs.declared.token.Bind.{Bind}
-use Rattle.model.specs.declared.token.Held.{Held}
-use Rattle.model.specs.declared.token.Held.TheVariants as helds
-use Rattle.model.specs.declared.token.Place.{Place}
-use Rattle.model.specs.declared.token.Place.TheVariants as places
+use Rattle.model.specs.Machine.Held.{Held, Place}
 use Rattle.model.specs.declared.token.State.{State}
 use Rattle.model.specs.declared.token.State.TheVariants as states
 use Rattle.model.specs.declared.token.Token.{Token}
@@ -232,7 +230,7 @@ value_there e (waiting f v) = refl
 value_there e called = refl
 value_there e due = refl
 
-unset-if : (k : Cell) → k.value ≡ helds.Nothing → cell_is_set k ≡ false
+unset-if : (k : Cell) → k.value ≡ None → cell_is_set k ≡ false
 unfolding cell_is_set has_value
 unset-if k e = ap has_value e
 
@@ -317,7 +315,7 @@ module _ (lim : Limits) (d : Dag) (M : Labels) (flow : Flow d M) (dag : dag_hold
   unfolding chain_ends is_place
   blank-chain = go (length m.cells)
     where
-      go : (n : ℕ) → chain_ends m.cells n places.Nowhere ≡ true
+      go : (n : ℕ) → chain_ends m.cells n None ≡ true
       go zero = refl
       go (suc n) = refl
 

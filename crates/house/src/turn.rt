@@ -13,7 +13,7 @@ ghost use Rattle.house.specs.TurnLeaves.{TurnLeaves, goes_on};
 use job::dag::WORDS;
 use lines::report::{show_refused, show_reply};
 use model::record::Machine;
-use model::reply::{Refusal, number_of};
+use model::reply::Refusal;
 use reach::marks::few_or_all;
 use turns::deliver::deliver;
 use turns::reply::{has_line, is_refused};
@@ -32,7 +32,7 @@ fn show_not_open(output: &mut [u8], from: usize, total: usize) -> usize
     ensures shows_bytes { ShowsBytes output.old from total (text_of (refused 12)) output.new result }
     ensures upper_bound { result ≤ total + 80 }
 {
-    show_refused(number_of(Refusal::NotOpen), output, from, total)
+    show_refused(u8::from(Refusal::NotOpen), output, from, total)
 }
 
 // The line of a refused record. Late answers may be many: theirs is put without a look at digits.
@@ -41,7 +41,7 @@ fn show_declined(number: u8, output: &mut [u8], from: usize, total: usize) -> us
     ensures shows_bytes { ShowsBytes output.old from total (text_of (refused number)) output.new result }
     ensures upper_bound { result ≤ total + 80 }
 {
-    if number == number_of(Refusal::NotOpen) {
+    if number == u8::from(Refusal::NotOpen) {
         return show_not_open(output, from, total);
     }
     show_refused(number, output, from, total)

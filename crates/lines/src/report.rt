@@ -6,7 +6,7 @@ ghost use Rattle.lines.specs.Shown.{ShowsBytes};
 
 use crate::line;
 use crate::shown::{has_room, show_front};
-use model::reply::{Reply, number_of};
+use model::reply::Reply;
 
 // (There are four values beside a reply.)
 fn at_most_four(count: u8) -> usize
@@ -86,7 +86,7 @@ pub fn show_reply(
             show_call(handle, site, values, n, output, from, total)
         }
         Reply::Refused(refusal) => {
-            let number = number_of(refusal);
+            let number = u8::from(refusal);
             show_refused(number, output, from, total)
         }
     }

@@ -13,6 +13,7 @@ use lib.ListN.{length, set, drop, length-set, length-append, length-drop, length
 use lib.Seq.{get_or-set_same, get_or-set_other, get_or-append-add, get_or-drop}
 use lib.Dec.{eqb}
 use lib.IntN.{ℤ}
+use Rattle.std.specs.Prelude.{Some, None}
 use Rattle.job.specs.Test.{All, more}
 use Rattle.job.specs.Syntax as Job
 use Rattle.job.specs.Syntax.{levels}
@@ -23,8 +24,7 @@ use Rattle.calculus.specs.Meaning.{position, param_meant}
 use Rattle.model.specs.declared.token.Slot.{Slot}
 use Rattle.model.specs.declared.token.Slot.TheVariants as slots
 use Rattle.model.specs.declared.token.Bind.{Bind}
-use Rattle.model.specs.declared.token.Held.{Held}
-use Rattle.model.specs.declared.token.Held.TheVariants as helds
+use Rattle.model.specs.Machine.Held.{Held}
 use Rattle.job.proofs.Test.{never, eqb-eq, eqb-ne}
 use Rattle.model.proofs.Machine.InUse.{unbound-empty}
 use Rattle.simulation.proofs.AbstractMachine.{Binding, binding_at, named, value_in, in_front, values_in}
@@ -120,13 +120,13 @@ module _ {W : World} {bs : List Bind} {scope : List ℕ} {B : List Binding} (vie
       elim s [
         | slots.Empty ↦ values []
         | slots.Value v ↦ and_then v l
-        | slots.Cell c ↦ elim (cell_at W.cells c).value [ helds.Nothing ↦ unset c | helds.Value v ↦ and_then v l ]
+        | slots.Cell c ↦ elim (cell_at W.cells c).value [ None ↦ unset c | Some v ↦ and_then v l ]
       ]
 
   cell-case : (h : Held) (c : ℕ) (l : LookUpResult)
-      → in_front (held h) (found l) ≡ found (elim h as (λ h. LookUpResult) [ helds.Nothing ↦ unset c | helds.Value v ↦ and_then v l ])
-  cell-case helds.Nothing c l = refl
-  cell-case (helds.Value v) c l = found-more v l
+      → in_front (held h) (found l) ≡ found (elim h as (λ h. LookUpResult) [ None ↦ unset c | Some v ↦ and_then v l ])
+  cell-case None c l = refl
+  cell-case (Some v) c l = found-more v l
 
   slot-case : {s : Slot} {b : Binding} (l : LookUpResult) → BindingSeen W s b
       → in_front (value_in W.store b) (found l) ≡ found (slot_case s l)

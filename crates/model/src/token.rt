@@ -15,18 +15,10 @@ pub struct Bind {
 }
 
 // A value, where there is one.
-#[derive(Clone, Copy)]
-pub enum Held {
-    Nothing,
-    Value(i32),
-}
+pub type Held = Option<i32>;
 
-// The place of a token or of a cell. As a cell, `Nowhere` is the root, which has no place.
-#[derive(Clone, Copy)]
-pub enum Place {
-    Nowhere,
-    At(u8),
-}
+// The place of a token or of a cell. As a cell, `None` is the root, which has no place.
+pub type Place = Option<u8>;
 
 // Document 01: ready, waiting, called-out, frame. `Waiting` names the cell at which the token waits, `Called` the handle of its open call.
 // Document 02, request 1: due later. `Due` has the due time.

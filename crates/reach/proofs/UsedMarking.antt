@@ -8,6 +8,7 @@ use Prim.Native.Nat.{ℕ, suc, ◌+◌, ◌-◌, ◌≤◌, ◌<◌}
 use native.Mathlib.Numerals.{add-one}
 use native.Mathlib.Omega.{arith}
 use lib.ListN.{length, get_or, drop, replicate, drop_of_length-le}
+use Rattle.std.specs.Prelude.{Some}
 use Rattle.model.specs.Machine.Active.{is_active}
 use Rattle.model.specs.Machine.State.{is_live}
 use Rattle.model.specs.Machine.Blank.{empty, blank_token, blank_cell, token_at, slot_at}
@@ -16,8 +17,7 @@ use Rattle.model.specs.Machine.InUse.{bound_cell, cells_of, cells_of_marked, use
 use Rattle.model.specs.declared.cell.Cell.{Cell}
 use Rattle.model.specs.declared.record.Machine.{Machine}
 use Rattle.model.specs.declared.token.Bind.{Bind}
-use Rattle.model.specs.declared.token.Place.{Place}
-use Rattle.model.specs.declared.token.Place.TheVariants as places
+use Rattle.model.specs.Machine.Held.{Place}
 use Rattle.model.specs.declared.token.Slot.{Slot}
 use Rattle.model.specs.declared.token.Slot.TheVariants as slots
 use Rattle.model.specs.declared.token.Token.{Token}
@@ -32,7 +32,7 @@ use Rattle.reach.proofs.MarkChain.{chains-append, chains-nowhere}
 module _ (m : Machine) (p : ℕ) (marks : List Bool) (b : Bool) (e : b ≡ is_active m.cells (token_at m.tokens p)) where
   pub active-marks : b ≡ true → callers_marked m (place_from (p + 1)) marks ≡ active_marked m p marks
   unfolding active_marked
-  active-marks z = ap (λ q. callers_marked m q marks) (place-from (p + 1) (places.At p) refl) ∙ sym (rw (sym e ∙ z, active_marked))
+  active-marks z = ap (λ q. callers_marked m q marks) (place-from (p + 1) (Some p) refl) ∙ sym (rw (sym e ∙ z, active_marked))
 
   pub inactive-marks : b ≡ false → marks ≡ active_marked m p marks
   unfolding active_marked
@@ -72,10 +72,10 @@ callers-next m p marks l h =
     rest n = active_places m.cells n (drop (p + 1) m.tokens)
 
     go : (b : Bool)
-        → all_marked m (elim b [ true ↦ places.At p ∷ rest (suc p) | false ↦ rest (suc p) ]) marks
-        ≡ all_marked m (rest (suc p)) (elim b [ true ↦ callers_marked m (places.At p) marks | false ↦ marks ])
+        → all_marked m (elim b [ true ↦ Some p ∷ rest (suc p) | false ↦ rest (suc p) ]) marks
+        ≡ all_marked m (rest (suc p)) (elim b [ true ↦ callers_marked m (Some p) marks | false ↦ marks ])
     go true =
-        ap (λ k. all_marked m (rest (suc p)) (mark_chain (λ (t : Token). t.caller) blank_token m.tokens k (places.At p) marks)) l
+        ap (λ k. all_marked m (rest (suc p)) (mark_chain (λ (t : Token). t.caller) blank_token m.tokens k (Some p) marks)) l
     go false = refl
 
 callers-end : (m : Machine) (marks : List Bool) → length m.tokens ≡ 64 → callers_left m 64 marks ≡ marks

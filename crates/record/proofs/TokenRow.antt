@@ -10,8 +10,7 @@ use Rattle.model.specs.Machine.Blank.{blank_token, token_at, slot_at}
 use Rattle.model.specs.Machine.Update.{put, with_node, with_state, with_value, with_binding, with_tables}
 use Rattle.model.specs.declared.token.Slot.{Slot}
 use Rattle.model.specs.declared.token.Bind.{Bind}
-use Rattle.model.specs.declared.token.Held.{Held}
-use Rattle.model.specs.declared.token.Place.{Place}
+use Rattle.model.specs.Machine.Held.{Held, Place}
 use Rattle.model.specs.declared.token.State.{State}
 use Rattle.model.specs.declared.token.Token.{Token}
 use Rattle.model.specs.declared.record.Machine.{Machine}

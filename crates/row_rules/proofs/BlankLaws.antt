@@ -6,9 +6,8 @@ use Prim.Native.Nat.{ℕ, zero, suc, ◌+◌, ◌-◌, ◌*◌, ◌<◌, ◌≤�
 use native.Mathlib.Omega.{arith}
 use lib.Dec.{eqb}
 use lib.ListN.{length, get_or, take, drop}
+use Rattle.std.specs.Prelude.{Some, None}
 use Rattle.model.specs.declared.token.Slot.TheVariants as slots
-use Rattle.model.specs.declared.token.Held.TheVariants as helds
-use Rattle.model.specs.declared.token.Place.TheVariants as places
 use Rattle.model.specs.declared.token.State.TheVariants as states
 use Rattle.job.specs.Test.{◌and◌, for_all}
 use Rattle.model.specs.Machine.Blank.{empty, slot_at, is_bound, is_place, has_value}
@@ -16,8 +15,7 @@ use Rattle.model.specs.Machine.Blank.{token_is_blank, cell_is_blank, blank_token
 use Rattle.model.specs.Machine.State.{is_blank_state}
 use Rattle.model.specs.declared.token.Slot.{Slot}
 use Rattle.model.specs.declared.token.Bind.{Bind}
-use Rattle.model.specs.declared.token.Held.{Held}
-use Rattle.model.specs.declared.token.Place.{Place}
+use Rattle.model.specs.Machine.Held.{Held, Place}
 use Rattle.model.specs.declared.token.State.{State}
 use Rattle.model.specs.declared.token.Token.{Token}
 use Rattle.model.specs.declared.cell.Cell.{Cell}
@@ -47,8 +45,8 @@ state-zero states.Frame b = refl
 
 held-zero : (v : Held) (b : Bool) → (eqb 0 (held_kind v) and eqb 0 (held_number v) and b) ≡ (not (has_value v) and b)
 unfolding has_value ◌and◌
-held-zero helds.Nothing b = refl
-held-zero (helds.Value v) b = refl
+held-zero None b = refl
+held-zero (Some v) b = refl
 
 slot-zero : (s : Slot) {a b : Bool} → a ≡ b → (eqb 0 (slot_kind s) and eqb 0 (slot_number s) and a) ≡ (not (is_bound s) and b)
 unfolding is_bound ◌and◌
@@ -58,8 +56,8 @@ slot-zero (slots.Cell c) e = refl
 
 place-zero : (q : Place) → eqb 0 (place_number q) ≡ not (is_place q)
 unfolding is_place
-place-zero places.Nowhere = refl
-place-zero (places.At p) = ne_eqb 0 (p + 1) (λ e. omega arith)
+place-zero None = refl
+place-zero (Some p) = ne_eqb 0 (p + 1) (λ e. omega arith)
 
 zero_same : (n : ℕ) → eqb 0 n ≡ eqb n 0
 zero_same zero = refl

@@ -6,9 +6,8 @@ use Prim.Native.Nat.{ℕ, ◌<◌, ◌≤◌}
 use native.Mathlib.Omega.{arith}
 use lib.Dec.{ltb, leb, eqb}
 use lib.ListN.{length}
+use Rattle.std.specs.Prelude.{Some, None}
 use Rattle.model.specs.declared.token.Slot.TheVariants as slots
-use Rattle.model.specs.declared.token.Held.TheVariants as helds
-use Rattle.model.specs.declared.token.Place.TheVariants as places
 use Rattle.job.specs.Test.{◌and◌, for_all}
 use Rattle.job.specs.Node.{Dag, is_node, dag_holds}
 use Rattle.model.specs.Machine.Limits.{paper}
@@ -18,8 +17,7 @@ use Rattle.model.specs.Machine.Rules.{held_in_range, place_in_range, slot_in_ran
 use Rattle.model.specs.Machine.Rules.{cell_in_range, at_node, not_under_set, waits_at_unset, due_in_range, chain_ends}
 use Rattle.model.specs.declared.token.Slot.{Slot}
 use Rattle.model.specs.declared.token.Bind.{Bind}
-use Rattle.model.specs.declared.token.Held.{Held}
-use Rattle.model.specs.declared.token.Place.{Place}
+use Rattle.model.specs.Machine.Held.{Held, Place}
 use Rattle.model.specs.declared.token.Token.{Token}
 use Rattle.model.specs.declared.cell.Cell.{Cell}
 use Rattle.model.specs.declared.record.Machine.{Machine}
@@ -45,18 +43,18 @@ slots-blank (b ∷ bs) e = and_both (slot-blank b.slot (and_left _ _ e)) (slots-
 
 held-blank : (v : Held) → not (has_value v) ≡ true → held_in_range v ≡ true
 unfolding has_value held_in_range
-held-blank helds.Nothing e = refl
-held-blank (helds.Value v) e = clash e refl
+held-blank None e = refl
+held-blank (Some v) e = clash e refl
 
 place-blank : (n : ℕ) (q : Place) → not (is_place q) ≡ true → place_in_range n q ≡ true
 unfolding is_place place_in_range
-place-blank n places.Nowhere e = refl
-place-blank n (places.At p) e = clash e refl
+place-blank n None e = refl
+place-blank n (Some p) e = clash e refl
 
 ends-none : (cs : List Cell) (n : ℕ) (q : Place) → not (is_place q) ≡ true → chain_ends cs n q ≡ true
 unfolding is_place
-ends-none cs n places.Nowhere e = ends_nowhere cs n
-ends-none cs n (places.At p) e = clash e refl
+ends-none cs n None e = ends_nowhere cs n
+ends-none cs n (Some p) e = clash e refl
 
 -- a dag that keeps its rules has a node
 pub some-node : (d : Dag) → dag_holds d ≡ true → 0 < length d.nodes

@@ -11,6 +11,7 @@ use lib.ListN.{length, get_or, drop, drop_of_length-le, get_or-eq_default}
 use lib.Seq.{drop-cons}
 use lib.Dec.{eqb}
 use lib.IntN.{ℤ}
+use Rattle.std.specs.Prelude.{Some, None}
 use Rattle.job.specs.Test.{for_some, ◌or◌}
 use Rattle.job.specs.Node.{Dag}
 use Rattle.model.specs.Machine.Limits.{paper}
@@ -20,9 +21,7 @@ use Rattle.model.specs.Machine.State.{handle_of}
 use Rattle.model.specs.Machine.Reply.{refuses, moves}
 use Rattle.model.specs.Machine.Update.{with_value, with_state, put, enqueue}
 use Rattle.model.specs.Machine.Answer.{holder, answered}
-use Rattle.model.specs.declared.token.Held.TheVariants as helds
-use Rattle.model.specs.declared.token.Place.{Place}
-use Rattle.model.specs.declared.token.Place.TheVariants as places
+use Rattle.model.specs.Machine.Held.{Place}
 use Rattle.model.specs.declared.token.State.{State}
 use Rattle.model.specs.declared.token.State.TheVariants as states
 use Rattle.model.specs.declared.token.Token.{Token}
@@ -40,23 +39,23 @@ use Rattle.model.proofs.Run.AnswerStands.{handle-busy}
 -- a turn of the search
 module _ (h i : ℕ) (ts : List Token) (d : Token) (l : i < length ts) {x : Place} (so_far : x ≡ holder h i (drop i ts)) where
   turn : (b : Bool) → for_some (eqb h) (handle_of (get_or ts i d).state) ≡ b
-      → x ≡ elim b [ true ↦ places.At i | false ↦ holder h (suc i) (drop (suc i) ts) ]
+      → x ≡ elim b [ true ↦ Some i | false ↦ holder h (suc i) (drop (suc i) ts) ]
   unfolding holder
   turn b e = so_far ∙ ap (holder h i) (drop-cons ts i d l) ∙ rw (e, holder)
 
-  pub holder-found : for_some (eqb h) (handle_of (get_or ts i d).state) ≡ true → x ≡ places.At i
+  pub holder-found : for_some (eqb h) (handle_of (get_or ts i d).state) ≡ true → x ≡ Some i
   holder-found e = turn true e
 
   pub holder-on : for_some (eqb h) (handle_of (get_or ts i d).state) ≡ false → x ≡ holder h (i + 1) (drop (i + 1) ts)
   holder-on e = turn false e ∙ ap (λ k. holder h k (drop k ts)) (sym (add-one i))
 
-pub holder-none : (h i : ℕ) (ts : List Token) → length ts ≤ i → {x : Place} → x ≡ holder h i (drop i ts) → x ≡ places.Nowhere
+pub holder-none : (h i : ℕ) (ts : List Token) → length ts ≤ i → {x : Place} → x ≡ holder h i (drop i ts) → x ≡ None
 unfolding holder
 holder-none h i ts l e = e ∙ ap (holder h i) (drop_of_length-le ts {i = i} l)
 
 -- no blank token is under a handle
 pub holder-blank : (h end : ℕ) (ts : List Token) → length ts ≡ 64 → end ≤ 64 → ((i : ℕ) → end ≤ i → i < 64 → token_at ts i ≡ blank_token)
-    → holder h end (drop end ts) ≡ places.Nowhere
+    → holder h end (drop end ts) ≡ None
 unfolding token_at for_some handle_of
 holder-blank h end ts l inside blank =
     steady (λ (i : ℕ). holder h i (drop i ts)) end 64 inside
@@ -64,7 +63,7 @@ holder-blank h end ts l inside blank =
     (ap (λ (t : Token). for_some (eqb h) (handle_of t.state)) (blank i from to)))
     ∙ holder-none h 64 ts (omega arith) refl
 
-module _ (d : Dag) (m : Machine) (k : rules_hold paper d m ≡ true) (h p : ℕ) (e : holder h 0 m.tokens ≡ places.At p) where
+module _ (d : Dag) (m : Machine) (k : rules_hold paper d m ≡ true) (h p : ℕ) (e : holder h 0 m.tokens ≡ Some p) where
   -- the token
   open_at : for_some (eqb h) (handle_of (token_at m.tokens p).state) ≡ true
   open_at =
@@ -119,24 +118,24 @@ module _ (h k n : ℕ) (s : State) (ek : k ≡ state_kind s) (en : n ≡ state_n
       go states.Frame ek f = refl
 
 -- a number as a place
-pub place-there : (n p : ℕ) → p < n → place_below n p ≡ places.At p
+pub place-there : (n p : ℕ) → p < n → place_below n p ≡ Some p
 unfolding place_below
 place-there n p l = rw (lt-ltb p n l, place_below)
 
-pub place_none : (n p : ℕ) → n ≤ p → place_below n p ≡ places.Nowhere
+pub place_none : (n p : ℕ) → n ≤ p → place_below n p ≡ None
 unfolding place_below
 place_none n p l = rw (le-not-ltb p n l, place_below)
 
 -- the effect of an answer is the record after it, or the refusal
 pub answered-moves : (m : Machine) (v : ℤ) (q : Place) → is_place q ≡ true → answered m v q ≡ moves (answered_by m v q)
 unfolding answered answered_by is_place
-answered-moves m v places.Nowhere e = clash e refl
-answered-moves m v (places.At p) e = refl
+answered-moves m v None e = clash e refl
+answered-moves m v (Some p) e = refl
 
 pub answered-refuses : (m : Machine) (v : ℤ) (q : Place) → is_place q ≡ false → answered m v q ≡ refuses 12
 unfolding answered is_place
-answered-refuses m v places.Nowhere e = refl
-answered-refuses m v (places.At p) e = clash refl e
+answered-refuses m v None e = refl
+answered-refuses m v (Some p) e = clash refl e
 
 -- what the code has done, by the number that the search gave
 module _ (end h p : ℕ) (v : ℤ) (before after : List ℕ)
@@ -155,7 +154,7 @@ module _ (end h p : ℕ) (v : ℤ) (before after : List ℕ)
 
   pub is-answered : p < end
       → ((m : Machine) → Holds before m → m.queued < 64
-      → Holds after (enqueue p (put p (with_state states.Ready (with_value (helds.Value v) (token_at m.tokens p))) m)))
+      → Holds after (enqueue p (put p (with_state states.Ready (with_value (Some v) (token_at m.tokens p))) m)))
       → Answered end h v true before after
   unfolding is_place answered_by
   is-answered l e =
@@ -163,7 +162,7 @@ module _ (end h p : ℕ) (v : ℤ) (before after : List ℕ)
         says = λ m k b. sym (ap is_place (found m k.codes b ∙ place-there end p l));
         does =
             λ d m k b r.
-            let at : holder h 0 m.tokens ≡ places.At p = found m k.codes b ∙ place-there end p l in
+            let at : holder h 0 m.tokens ≡ Some p = found m k.codes b ∙ place-there end p l in
             subst (Holds after) (sym (ap (answered_by m v) at)) (e m k (open-room d m r h p at));
         stays = λ z. clash refl z;
       }

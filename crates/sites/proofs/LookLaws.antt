@@ -10,6 +10,7 @@ use native.Mathlib.Omega.{arith}
 use lib.ListN.{length, get_or, set, take, drop, replicate, drop_of_length-le, get_or-eq_default}
 use lib.Seq.{take-suc-set, drop-cons, drop-set-lt}
 use lib.IntN.{ℤ, pos}
+use Rattle.std.specs.Prelude.{Some, None}
 use Rattle.job.specs.Test.{for_all, padded}
 use Rattle.job.specs.Number.{signed}
 use Rattle.job.specs.Syntax.{Param, variable, constant}
@@ -21,8 +22,7 @@ use Rattle.model.specs.Machine.Reply.{report_values}
 use Rattle.model.specs.Machine.Step.{LookUpResult, values, unset, and_then, look}
 use Rattle.model.specs.declared.token.Slot.{Slot}
 use Rattle.model.specs.declared.token.Slot.TheVariants as slots
-use Rattle.model.specs.declared.token.Held.{Held}
-use Rattle.model.specs.declared.token.Held.TheVariants as helds
+use Rattle.model.specs.Machine.Held.{Held}
 use Rattle.model.specs.declared.token.Bind.{Bind}
 use Rattle.model.specs.declared.cell.Cell.{Cell}
 use Rattle.model.specs.declared.record.Machine.{Machine}
@@ -40,14 +40,14 @@ use Rattle.sites.proofs.LookParams.{param-variable, param-constant, params-count
 -- a cell as an argument, by its words
 held-nothing : (c : ℕ) (h : Held) → held_kind h ≡ 0 → arguments.Unset c ≡ held_found c h
 unfolding held_found
-held-nothing c helds.Nothing e = refl
-held-nothing c (helds.Value v) e = absurd (omega arith)
+held-nothing c None e = refl
+held-nothing c (Some v) e = absurd (omega arith)
 
 held-value : (c n : ℕ) (h : Held) → (held_kind h ≡ 0 → ⊥) → n ≡ held_number h → held_in_range h ≡ true
     → arguments.Value (signed n) ≡ held_found c h
 unfolding held_found held_in_range
-held-value c n helds.Nothing f e r = absurd (f refl)
-held-value c n (helds.Value v) f e r = ap arguments.Value (ap signed e ∙ signed-unsigned v r)
+held-value c n None f e r = absurd (f refl)
+held-value c n (Some v) f e r = ap arguments.Value (ap signed e ∙ signed-unsigned v r)
 
 module _ (c k : ℕ) (h : Held) (ek : k ≡ held_kind h) where
   pub cell-unset : k ≡ 0 → arguments.Unset c ≡ held_found c h
@@ -130,17 +130,17 @@ module _ (cs : List Cell) (bs : List Bind) (k w : ℕ) where
 
 -- looking up, one more at each turn
 look-held : (c : ℕ) (h : Held) (l : LookUpResult)
-    → elim h as (λ h. LookUpResult) [ helds.Nothing ↦ unset c | helds.Value v ↦ and_then v l ] ≡ after (held_found c h) l
+    → elim h as (λ h. LookUpResult) [ None ↦ unset c | Some v ↦ and_then v l ] ≡ after (held_found c h) l
 unfolding after held_found
-look-held c helds.Nothing l = refl
-look-held c (helds.Value v) l = refl
+look-held c None l = refl
+look-held c (Some v) l = refl
 
 look-slot :
     (cs : List Cell) (s : Slot) (l : LookUpResult)
     → elim s as (λ s. LookUpResult) [
       | slots.Empty ↦ values []
       | slots.Value v ↦ and_then v l
-      | slots.Cell c ↦ elim (cell_at cs c).value [ helds.Nothing ↦ unset c | helds.Value v ↦ and_then v l ]
+      | slots.Cell c ↦ elim (cell_at cs c).value [ None ↦ unset c | Some v ↦ and_then v l ]
     ]
     ≡ after (found_of cs s) l
 unfolding after found_of
@@ -247,8 +247,8 @@ module _ (ws : List ℕ) (at i : ℕ) (o : ParamsHold ws at) (l : i < get_or ws 
 -- a look-up gives a value for each parameter if no variable is empty
 held_found_lem : (c : ℕ) (h : Held) → held_found c h ≡ arguments.Nothing → ⊥
 unfolding held_found
-held_found_lem c helds.Nothing e = never cc
-held_found_lem c (helds.Value v) e = never cc
+held_found_lem c None e = never cc
+held_found_lem c (Some v) e = never cc
 
 bound-found : (cs : List Cell) (s : Slot) → is_bound s ≡ true → found_of cs s ≡ arguments.Nothing → ⊥
 unfolding found_of is_bound
@@ -295,8 +295,8 @@ look-values (unset c) r e f g = absurd (f (subst (λ n. n < 32) (sym (ap (λ (r 
 -- an unset cell that a look-up gives is a cell
 held_below : (c d : ℕ) (h : Held) → held_found c h ≡ arguments.Unset d → c ≡ d
 unfolding held_found
-held_below c d helds.Nothing e = cc
-held_below c d (helds.Value v) e = never cc
+held_below c d None e = cc
+held_below c d (Some v) e = never cc
 
 slot-below : (cs : List Cell) (s : Slot) (d : ℕ) → slot_in_range 32 s ≡ true → found_of cs s ≡ arguments.Unset d → d < 32
 unfolding found_of slot_in_range

@@ -1,14 +1,12 @@
 -- An answer on the words of a record. Assumes nothing: these are definitions.
-use Rattle.std.specs.Prelude.{◌≡◌, Bool, true, false, List, ℕ, ◌<◌, drop, ltb, ℤ}
+use Rattle.std.specs.Prelude.{◌≡◌, Bool, true, false, List, ℕ, ◌<◌, drop, ltb, ℤ, Some, None}
 use Rattle.job.specs.Node.{Dag}
 use Rattle.model.specs.Machine.Answer.{holder}
 use Rattle.model.specs.Machine.Blank.{is_place, token_at}
 use Rattle.model.specs.Machine.Limits.{paper}
 use Rattle.model.specs.Machine.Rules.{rules_hold}
 use Rattle.model.specs.Machine.Update.{with_value, with_state, put, enqueue}
-use Rattle.model.specs.declared.token.Held.TheVariants as helds
-use Rattle.model.specs.declared.token.Place.{Place}
-use Rattle.model.specs.declared.token.Place.TheVariants as places
+use Rattle.model.specs.Machine.Held.{Place}
 use Rattle.model.specs.declared.token.State.TheVariants as states
 use Rattle.model.specs.declared.record.Machine.{Machine}
 use Rattle.record.specs.Holds.{Holds}
@@ -17,7 +15,7 @@ use Rattle.reach.specs.Marks.{BlankFrom}
 
 -- a number as a place if it is below n
 unfoldable pub place_below : (n p : ℕ) → Place
-place_below n p = elim (ltb p n) [ true ↦ places.At p | false ↦ places.Nowhere ]
+place_below n p = elim (ltb p n) [ true ↦ Some p | false ↦ None ]
 
 -- no token from `from` on is called out before the place r, and the one there is, if r is before the end
 pub record NextCalled (m : Machine) (end from r : ℕ) : Type 0 where
@@ -26,8 +24,8 @@ pub record NextCalled (m : Machine) (end from r : ℕ) : Type 0 where
 
 -- "An answer gives its token the value and makes it ready"; without a token the record stays as it is
 unfoldable pub answered_by : Machine → ℤ → Place → Machine
-answered_by m v places.Nowhere = m
-answered_by m v (places.At p) = enqueue p (put p (with_state states.Ready (with_value (helds.Value v) (token_at m.tokens p))) m)
+answered_by m v None = m
+answered_by m v (Some p) = enqueue p (put p (with_state states.Ready (with_value (Some v) (token_at m.tokens p))) m)
 
 -- what an answer does, where every token from the end on is blank: r says whether the handle is open
 pub record Answered (end handle : ℕ) (v : ℤ) (r : Bool) (before after : List ℕ) : Type 0 where

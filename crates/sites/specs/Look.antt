@@ -1,5 +1,5 @@
 -- Looking up parameters one by one, and the result as the code has it. Assumes nothing: these are definitions.
-use Rattle.std.specs.Prelude.{◌≡◌, true, List, [], ℕ}
+use Rattle.std.specs.Prelude.{◌≡◌, true, List, [], ℕ, Some, None}
 use Rattle.job.specs.Test.{for_all}
 use Rattle.job.specs.Syntax.{Param, variable, constant}
 use Rattle.model.specs.Machine.Blank.{token_at, cell_at, slot_at}
@@ -9,8 +9,7 @@ use Rattle.model.specs.Machine.Step.{LookUpResult, values, unset, and_then}
 use Rattle.model.specs.declared.token.Slot.{Slot}
 use Rattle.model.specs.declared.token.Slot.TheVariants as slots
 use Rattle.model.specs.declared.token.Bind.{Bind}
-use Rattle.model.specs.declared.token.Held.{Held}
-use Rattle.model.specs.declared.token.Held.TheVariants as helds
+use Rattle.model.specs.Machine.Held.{Held}
 use Rattle.model.specs.declared.cell.Cell.{Cell}
 use Rattle.model.specs.declared.record.Machine.{Machine}
 use Rattle.sites.specs.declared.look.Argument.{Argument}
@@ -18,8 +17,8 @@ use Rattle.sites.specs.declared.look.Argument.TheVariants as arguments
 use Rattle.sites.specs.declared.look.LookUp.{LookUp}
 
 unfoldable pub held_found : ℕ → Held → Argument
-held_found c helds.Nothing = arguments.Unset c
-held_found c (helds.Value v) = arguments.Value v
+held_found c None = arguments.Unset c
+held_found c (Some v) = arguments.Value v
 
 unfoldable pub found_of : List Cell → Slot → Argument
 found_of cs slots.Empty = arguments.Nothing

@@ -1,13 +1,11 @@
 -- A node's row in the dag's array: the twelve words from an index on. Assumes nothing: these are definitions.
-use Rattle.std.specs.Prelude.{◌≡◌, true, List, [], ◌∷◌, ℕ, ◌+◌, ◌*◌, ◌<◌, ◌≤◌, length, get_or, take, drop}
+use Rattle.std.specs.Prelude.{◌≡◌, true, List, [], ◌∷◌, ℕ, ◌+◌, ◌*◌, ◌<◌, ◌≤◌, length, get_or, take, drop, Some, None}
 use Rattle.job.specs.Test.{for_all}
 use Rattle.job.specs.Node.{Node, dag_holds, param_holds}
 use Rattle.job.specs.Syntax.{Param}
 use Rattle.model.specs.Machine.Step.{formals_bound}
 use Rattle.model.specs.declared.token.Bind.{Bind}
-use Rattle.model.specs.declared.token.Held.TheVariants as helds
-use Rattle.model.specs.declared.token.Place.{Place}
-use Rattle.model.specs.declared.token.Place.TheVariants as places
+use Rattle.model.specs.Machine.Held.{Place}
 use Rattle.model.specs.declared.token.State.TheVariants as states
 use Rattle.model.specs.declared.token.Token.{Token}
 use Rattle.job.specs.Words.{dag_of, head_words, params_from}
@@ -67,8 +65,8 @@ callee p q bs root ps =
     record {
       node = root;
       binds = formals_bound bs ps;
-      value = helds.Nothing;
-      caller = places.At p;
+      value = None;
+      caller = Some p;
       cell = q;
       state = states.Ready;
     }

@@ -6,7 +6,7 @@ ghost use Rattle.model.specs.Machine.Blank.{blank_token, token_at};
 ghost use Rattle.model.specs.Machine.Update.{with_node, with_state, with_binding, put, enqueue, new_token};
 ghost use Rattle.model.specs.Machine.Step.{passed, formals_bound};
 ghost use Rattle.model.specs.declared.record.Machine.{Machine};
-ghost use Rattle.model.specs.declared.token.Place.{Place};
+ghost use Rattle.model.specs.Machine.Held.{Place};
 ghost use Rattle.model.specs.declared.token.State.TheVariants as states;
 ghost use Rattle.model.specs.declared.token.Token.{Token};
 ghost use Rattle.record.specs.Changes.{dequeued, with_binds};

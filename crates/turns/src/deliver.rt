@@ -11,7 +11,7 @@ ghost use Rattle.turns.specs.Turn.{delivery_report, IsDeliveryNumber};
 
 use entries::entry::word_at;
 use model::record::Machine;
-use model::reply::{Refusal, number_of};
+use model::reply::Refusal;
 use sites::number::signed;
 use unchecked::advance::move_to;
 use unchecked::answer::resume;
@@ -34,10 +34,10 @@ pub fn deliver(w: &mut [u32; Machine::WORDS], rest: &[u8], at: usize, end: usize
         if move_to(w, value) {
             return 0;
         }
-        return number_of(Refusal::WrongTime);
+        return u8::from(Refusal::WrongTime);
     }
     if resume(w, handle, signed(value), end) {
         return 0;
     }
-    number_of(Refusal::NotOpen)
+    u8::from(Refusal::NotOpen)
 }

@@ -7,6 +7,7 @@ use Prim.Native.Nat.{ℕ, ◌<◌, ◌≤◌}
 use native.Mathlib.Omega.{arith}
 use lib.ListN.{length, get_or, set, replicate}
 use lib.IntN.{ℤ}
+use Rattle.std.specs.Prelude.{Some, None}
 use Rattle.job.specs.Test.{padded}
 use Rattle.job.specs.Words.{dag_of}
 use Rattle.model.specs.Machine.Active.{upward, under_set, is_active}
@@ -25,8 +26,7 @@ use Rattle.model.specs.declared.record.Machine.{Machine}
 use Rattle.model.specs.declared.reply.Outcome.{Outcome}
 use Rattle.model.specs.declared.reply.Report.{Report}
 use Rattle.model.specs.declared.reply.Reply.TheVariants as replies
-use Rattle.model.specs.declared.token.Place.{Place}
-use Rattle.model.specs.declared.token.Place.TheVariants as places
+use Rattle.model.specs.Machine.Held.{Place}
 use Rattle.model.specs.declared.token.Token.{Token}
 use Rattle.job.proofs.Test.{clash}
 use Rattle.demand3.proofs.Carried.{Carried, answered-carried}
@@ -79,8 +79,8 @@ module _ {ws after dag : List ℕ} {used cells : List Bool} {m : Machine} (a : L
     (end : ℕ) (k : Answered end handle v b ws after) (blank : BlankFrom m end) where
   at_place : (q : Place) → holder handle 0 m.tokens ≡ q → is_place q ≡ true → Carried (answered_by m v q) (tokens_used m) (cells_used m)
   unfolding is_place answered_by
-  at_place places.Nowhere e f = clash f refl
-  at_place (places.At p) e f = answered-carried paper (dag_of dag) m a.rules handle v p e
+  at_place None e f = clash f refl
+  at_place (Some p) e f = answered-carried paper (dag_of dag) m a.rules handle v p e
 
   pub answer-gives : Gives (Answer.answer paper (dag_of dag) m handle v) m after used cells (answer_report b)
   unfolding outcome

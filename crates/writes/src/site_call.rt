@@ -5,7 +5,7 @@ ghost use Rattle.std.specs.Prelude.{◌≡◌, [], ◌∷◌, ◌++◌, ◌<◌,
 ghost use Rattle.model.specs.Machine.Blank.{token_at};
 ghost use Rattle.model.specs.Machine.Update.{with_node, with_state, with_value, put, enqueue, with_counts, with_timers, timers_of};
 ghost use Rattle.model.specs.declared.record.Machine.{Machine};
-ghost use Rattle.model.specs.declared.token.Held.{Held};
+ghost use Rattle.model.specs.Machine.Held.{Held};
 ghost use Rattle.model.specs.declared.token.State.TheVariants as states;
 ghost use Rattle.record.specs.Changes.{dequeued, delayed};
 ghost use Rattle.record.specs.Holds.{Holds};

@@ -12,6 +12,7 @@ use native.Mathlib.Omega.{arith}
 use lib.ListN.{length, get_or, set, drop, length-set}
 use lib.Seq.{get_or-drop}
 use lib.IntN.{ℤ}
+use Rattle.std.specs.Prelude.{None}
 use Rattle.job.specs.Test.{for_all}
 use Rattle.job.specs.Number.{Signed32, fits}
 use Rattle.job.specs.Site.{last_time}
@@ -28,7 +29,6 @@ use Rattle.model.specs.Machine.State.{is_due_by, waits_at}
 use Rattle.model.specs.declared.token.Slot.{Slot}
 use Rattle.model.specs.declared.token.Slot.TheVariants as slots
 use Rattle.model.specs.declared.token.Bind.{Bind}
-use Rattle.model.specs.declared.token.Held.TheVariants as helds
 use Rattle.model.specs.declared.token.State.{State}
 use Rattle.model.specs.declared.token.State.TheVariants as states
 use Rattle.model.specs.declared.token.Token.{Token}
@@ -88,7 +88,7 @@ pub record Awaits (d : Dag) (cs : List Cell) (t : Token) (c : ℕ) : Type 0 wher
   pub asked : Memᴰ (variable name) params
   pub bound : slot_at t.binds name ≡ slots.Cell c
   pub inside : c < length cs
-  pub unset : (cell_at cs c).value ≡ helds.Nothing
+  pub unset : (cell_at cs c).value ≡ None
 
 pub record TokenHolds (d : Dag) (cs : List Cell) (calls clock : ℕ) (t : Token) : Type 0 where
   pub node : t.node < length d.nodes
@@ -147,7 +147,7 @@ module _ {d : Dag} {cs : List Cell} {calls clock : ℕ} where
 
 -- the token's own fields but its state, the length of the cells and the cell's value are what matters
 pub awaits-as : {d : Dag} {cs cs' : List Cell} {t u : Token} {c : ℕ} → u.node ≡ t.node → u.binds ≡ t.binds → length cs' ≡ length cs
-    → (cell_at cs' c).value ≡ helds.Nothing → Awaits d cs t c → Awaits d cs' u c
+    → (cell_at cs' c).value ≡ None → Awaits d cs t c → Awaits d cs' u c
 awaits-as {d} n b l v k =
     record {
       site = k.site;
@@ -163,7 +163,7 @@ awaits-as {d} n b l v k =
 
 -- cells whose unset ones stay unset
 pub token-cells : {d : Dag} {cs cs' : List Cell} {calls calls' clock : ℕ} {t : Token} → length cs' ≡ length cs → calls ≤ calls'
-    → ((c : ℕ) → t.state ≡ states.Waiting c → c < length cs → (cell_at cs c).value ≡ helds.Nothing → (cell_at cs' c).value ≡ helds.Nothing)
+    → ((c : ℕ) → t.state ≡ states.Waiting c → c < length cs → (cell_at cs c).value ≡ None → (cell_at cs' c).value ≡ None)
     → TokenHolds d cs calls clock t → TokenHolds d cs' calls' clock t
 token-cells l k f t =
     record {
@@ -240,11 +240,11 @@ module _ {d : Dag} {ts : List Token} {cs : List Cell} {calls clock : ℕ} (T : T
         }
 
   -- an unset cell is written
-  pub tables-cell : (c : ℕ) (k : Cell) → c < length cs → k.value ≡ helds.Nothing → Tables d ts (set cs c k) calls clock
+  pub tables-cell : (c : ℕ) (k : Cell) → c < length cs → k.value ≡ None → Tables d ts (set cs c k) calls clock
   unfolding held_in_range
   tables-cell c k i e =
       record {
-        tokens = λ p. token-cells (length-set cs c k) (omega arith) (λ b s l v. at-cell (λ (x : Cell). x.value ≡ helds.Nothing) b e v)
+        tokens = λ p. token-cells (length-set cs c k) (omega arith) (λ b s l v. at-cell (λ (x : Cell). x.value ≡ None) b e v)
             (T.tokens p);
         cells = λ b. at-cell (λ (x : Cell). held_in_range x.value ≡ true) b (ap held_in_range e) (T.cells b);
         apart = T.apart;
@@ -266,7 +266,7 @@ module _ {d : Dag} {ts : List Token} {cs : List Cell} {calls clock : ℕ} (T : T
         tokens =
             λ p.
             token-now (λ t. TokenHolds d cs' calls clock t) p
-            (token-cells (length-kept blank_cell cells cs) (omega arith) (λ c s l v. cell-now (λ x. x.value ≡ helds.Nothing) c v refl)
+            (token-cells (length-kept blank_cell cells cs) (omega arith) (λ c s l v. cell-now (λ x. x.value ≡ None) c v refl)
             (T.tokens p))
             (blank-holds some);
         cells = λ c. cell-now (λ x. held_in_range x.value ≡ true) c (T.cells c) refl;

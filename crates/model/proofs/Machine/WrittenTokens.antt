@@ -8,6 +8,7 @@ use Prim.Native.Nat.{ℕ, zero, suc, ◌+◌}
 use lib.ListN.{length, get_or, set, drop}
 use lib.Seq.{get_or-drop}
 use lib.IntN.{ℤ, pos}
+use Rattle.std.specs.Prelude.{Some}
 use Rattle.job.specs.Syntax.{Param, variable, constant}
 use Rattle.model.specs.Machine.Blank.{empty, unbound, blank_token, slot_at}
 use Rattle.model.specs.Machine.Active.{within}
@@ -18,8 +19,7 @@ use Rattle.model.specs.Machine.Clock.{woken_by}
 use Rattle.model.specs.declared.token.Slot.{Slot}
 use Rattle.model.specs.declared.token.Slot.TheVariants as slots
 use Rattle.model.specs.declared.token.Bind.{Bind}
-use Rattle.model.specs.declared.token.Held.TheVariants as helds
-use Rattle.model.specs.declared.token.Place.{Place}
+use Rattle.model.specs.Machine.Held.{Place}
 use Rattle.model.specs.declared.token.State.{State}
 use Rattle.model.specs.declared.token.State.TheVariants as states
 use Rattle.model.specs.declared.token.Token.{Token}
@@ -160,7 +160,7 @@ choked-fits stays f = f
 
 -- a token at a time: it wakes if it is due by then
 pub data Woken (time : ℕ) (t : Token) : Token → Type 0 where
-  wakes : is_due_by time t.state ≡ true → Woken time t (with_state states.Ready (with_value (helds.Value (pos 0)) t))
+  wakes : is_due_by time t.state ≡ true → Woken time t (with_state states.Ready (with_value (Some (pos 0)) t))
   stays : is_due_by time t.state ≡ false → Woken time t t
 
 pub woken-cases : (time : ℕ) (t : Token) → Woken time t (woken_by time t)
@@ -170,7 +170,7 @@ woken-cases time t = go (is_due_by time t.state) refl
     go :
         (b : Bool)
         → is_due_by time t.state ≡ b
-        → Woken time t (elim b [ true ↦ with_state states.Ready (with_value (helds.Value (pos 0)) t) | false ↦ t ])
+        → Woken time t (elim b [ true ↦ with_state states.Ready (with_value (Some (pos 0)) t) | false ↦ t ])
     go true e = wakes e
     go false e = stays e
 

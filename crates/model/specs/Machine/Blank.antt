@@ -1,5 +1,5 @@
 -- Document 01: blank. A blank token or cell holds nothing (docs/DECISIONS.md, "Blank"). Assumes nothing: these are definitions.
-use Rattle.std.specs.Prelude.{Bool, true, false, not, List, ℕ, get_or, replicate, eqb}
+use Rattle.std.specs.Prelude.{Bool, true, false, not, List, ℕ, get_or, replicate, eqb, Some, None}
 use Rattle.job.specs.Bounds.{scope_limit}
 use Rattle.job.specs.Test.{◌and◌, for_all}
 use Rattle.model.specs.Machine.State.{is_blank_state}
@@ -7,10 +7,7 @@ use Rattle.model.specs.Machine.Limits.{Limits}
 use Rattle.model.specs.declared.token.Slot.{Slot}
 use Rattle.model.specs.declared.token.Slot.TheVariants as slots
 use Rattle.model.specs.declared.token.Bind.{Bind}
-use Rattle.model.specs.declared.token.Held.{Held}
-use Rattle.model.specs.declared.token.Held.TheVariants as helds
-use Rattle.model.specs.declared.token.Place.{Place}
-use Rattle.model.specs.declared.token.Place.TheVariants as places
+use Rattle.model.specs.Machine.Held.{Held, Place}
 use Rattle.model.specs.declared.token.State.TheVariants as states
 use Rattle.model.specs.declared.token.Token.{Token}
 use Rattle.model.specs.declared.cell.Cell.{Cell}
@@ -28,14 +25,14 @@ blank_token =
     record {
       node = 0;
       binds = unbound;
-      value = helds.Nothing;
-      caller = places.Nowhere;
-      cell = places.Nowhere;
+      value = None;
+      caller = None;
+      cell = None;
       state = states.Blank;
     }
 
 abbrev pub blank_cell : Cell
-blank_cell = record { parent = places.Nowhere; value = helds.Nothing }
+blank_cell = record { parent = None; value = None }
 
 -- the record in which nothing is in use
 abbrev pub blank_machine : Limits → Machine
@@ -71,12 +68,12 @@ is_bound (slots.Value v) = true
 is_bound (slots.Cell c) = true
 
 unfoldable pub has_value : Held → Bool
-has_value helds.Nothing = false
-has_value (helds.Value v) = true
+has_value None = false
+has_value (Some v) = true
 
 unfoldable pub is_place : Place → Bool
-is_place places.Nowhere = false
-is_place (places.At p) = true
+is_place None = false
+is_place (Some p) = true
 
 unfoldable pub token_is_blank : Token → Bool
 token_is_blank t =

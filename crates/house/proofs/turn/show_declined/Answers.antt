@@ -6,11 +6,11 @@ use Rattle.model.specs.Output.Line.{refused, text_of}
 use Rattle.lines.proofs.ShownBytes.{shows-as}
 use Rattle.house.proofs.turn.show_declined.Goals as goal
 
-pub returns-then-number-number_of : goal.returns-then-number-number_of
+pub returns-then-number-from : goal.returns-then-number-from
 unfolding number_of
-returns-then-number-number_of c = let line = c.show_not_open.ensures in
+returns-then-number-from c = let line = c.show_not_open.ensures in
     record {
-      shows_bytes = shows-as (ap (λ (n : ℕ). text_of (refused n)) (sym (c.if-number-number_of.true ∙ c.number_of.ensures)))
+      shows_bytes = shows-as (ap (λ (n : ℕ). text_of (refused n)) (sym (c.if-number-from.true ∙ c.from.ensures)))
           line.shows_bytes;
       upper_bound = line.upper_bound;
     }

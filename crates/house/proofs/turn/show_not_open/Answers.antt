@@ -10,6 +10,6 @@ pub returns : goal.returns
 unfolding number_of
 returns c = let line = c.show_refused.ensures in
     record {
-      shows_bytes = shows-as (ap (λ (n : ℕ). text_of (refused n)) c.number_of.ensures) line.shows_bytes;
+      shows_bytes = shows-as (ap (λ (n : ℕ). text_of (refused n)) c.from.ensures) line.shows_bytes;
       upper_bound = line.upper_bound;
     }

@@ -31,6 +31,6 @@ pub returns-in-Refused : goal.returns-in-Refused
 returns-in-Refused c = let line = c.show_refused.ensures in
     let refused = c.in-Refused.is in
     record {
-      shows_bytes = shows-as (tells-refusal _ _ _ _ refused c.number_of-number.ensures) line.shows_bytes;
+      shows_bytes = shows-as (tells-refusal _ _ _ _ refused c.from-number.ensures) line.shows_bytes;
       upper_bound = line.upper_bound;
     }

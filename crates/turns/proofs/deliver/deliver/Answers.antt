@@ -22,8 +22,8 @@ pub returns-then-handle : goal.returns-then-handle
 unfolding number_of
 returns-then-handle c = record {
   gives = delivers-as c.word_at-handle.ensures c.word_at-value.ensures
-      (delivers-time _ false c.move_to.ensures c.if-handle.true c.if-move_to.false c.number_of.ensures);
-  delivery_number = subst IsDeliveryNumber (sym c.number_of.ensures) wrong_time;
+      (delivers-time _ false c.move_to.ensures c.if-handle.true c.if-move_to.false c.from.ensures);
+  delivery_number = subst IsDeliveryNumber (sym c.from.ensures) wrong_time;
 }
 
 pub returns-then-resume : goal.returns-then-resume
@@ -40,6 +40,6 @@ returns c = let fits : SFits w32 c.signed.result = search rules in record {
   gives = delivers-as c.word_at-handle.ensures c.word_at-value.ensures
       (delivers-answer _ false c.resume.ensures (to_z-of_z fits) c.signed.ensures c.if-handle.false
       c.if-resume.false
-      c.number_of-2.ensures);
-  delivery_number = subst IsDeliveryNumber (sym c.number_of-2.ensures) not_open;
+      c.from-2.ensures);
+  delivery_number = subst IsDeliveryNumber (sym c.from-2.ensures) not_open;
 }
