@@ -1,13 +1,14 @@
 -- What is known where a token acts, and what its act leaves. Assumes nothing: these are definitions.
-use Rattle.std.specs.Prelude.{◌≡◌, Bool, true, false, List, [], ℕ, ◌<◌, length, get_or, Some}
+use Rattle.std.specs.Prelude.{◌≡◌, Bool, true, List, [], ℕ, ◌<◌, length, get_or, Result, Ok, Err}
 use Rattle.job.specs.Words.{dag_of}
 use Rattle.model.specs.Machine.Blank.{token_at}
 use Rattle.model.specs.Machine.InUse.{tokens_used, cells_used}
 use Rattle.model.specs.Machine.Limits.{paper}
-use Rattle.model.specs.Machine.Reply.{report_values, refusal_of}
+use Rattle.model.specs.Machine.Reply.{report_values}
 use Rattle.model.specs.Machine.Rules.{rules_hold}
 use Rattle.model.specs.declared.record.Machine.{Machine}
 use Rattle.model.specs.declared.reply.Outcome.{Outcome}
+use Rattle.model.specs.declared.reply.Refusal.{Refusal}
 use Rattle.model.specs.declared.reply.Reply.{Reply}
 use Rattle.model.specs.declared.reply.Reply.TheVariants as replies
 use Rattle.model.specs.declared.reply.Report.{Report}
@@ -66,12 +67,7 @@ pub record Gives (o : Outcome) (m : Machine) (ws : List ℕ) (used used_cells : 
 abbrev pub plain : Reply → Report
 plain r = record { reply = r; values = report_values [] }
 
--- an answer's, by whether its handle was open
-abbrev pub answer_report : Bool → Report
-answer_report true = plain replies.Done
-answer_report false = plain (replies.Refused (refusal_of 12))
-
--- a clock move's, by whether it took the time
-abbrev pub advance_report : Bool → Report
-advance_report true = plain replies.Done
-advance_report false = plain (replies.Refused (refusal_of 15))
+-- an answer's or a clock move's: it is done, or it is refused
+abbrev pub call_report : Result Unit Refusal → Report
+call_report (Ok done) = plain replies.Done
+call_report (Err refusal) = plain (replies.Refused refusal)

@@ -5,11 +5,10 @@ use mathlib.Core.Bool.{Bool, true, false}
 use mathlib.Core.List.{List, [], ◌∷◌}
 use mathlib.Core.Option.{Option, some, none}
 use Prim.Native.Nat.{ℕ, suc, ◌+◌, ◌<◌, ◌≤◌}
-use native.Mathlib.Omega.{arith}
 use lib.ListN.{length, get_or}
 use lib.Dec.{ltb}
 use lib.IntN.{ℤ, pos}
-use Rattle.std.specs.Prelude.{Some}
+use Rattle.std.specs.Prelude.{Result, Ok}
 use Rattle.job.specs.Site.{BuiltinReply, gives, silent, later, due_time, at, is_builtin, builtin}
 use Rattle.sites.specs.declared.site.SiteReply.{SiteReply}
 use Rattle.sites.specs.SiteReply.{builtin_reply_of}
@@ -37,9 +36,8 @@ use Rattle.record.specs.Changes.{dequeued, delayed}
 use Rattle.record.specs.Holds.{Holds}
 use Rattle.sites.specs.Row.{params_at}
 use Rattle.sites.specs.Look.{look_up_of}
-use Rattle.sites.specs.declared.look.LookUp.{LookUp}
-use Rattle.sites.proofs.LookLaws.{look-values, look-below, look-count}
-use Rattle.sites.proofs.RuleFacts.{look-facts}
+use Rattle.sites.specs.declared.look.UnsetCell.{UnsetCell}
+use Rattle.sites.proofs.LookLaws.{look-values, look-count}
 use Rattle.sites.proofs.LookParams.{params-count}
 use Rattle.sites.proofs.RowKinds.{site-params}
 use Rattle.model.specs.Machine.Rules.{node_rule}
@@ -48,7 +46,7 @@ use Rattle.calls.specs.SiteCall.{Evaluated}
 use Rattle.calls.specs.TimedReply.{settled_due, settled_at}
 use Rattle.calls.specs.declared.rwait.TimedReply.{TimedReply}
 use Rattle.calls.specs.declared.rwait.TimedReply.TheVariants as settleds
-use Rattle.acts.proofs.Outcomes.{gives_whole, token-inside, row, node-rule}
+use Rattle.acts.proofs.Outcomes.{gives_whole, row, node-rule}
 use Rattle.acts.proofs.StepAtNode.{site-step}
 
 module _ {ws dag : List ℕ} {used cells : List Bool} {place p : ℕ} {m : Machine} (a : Taking ws used cells dag place p m) where
@@ -163,15 +161,11 @@ module _ (dag : List ℕ) (place p from : ℕ) (m : Machine) where
         (le-not-ltb m.calls 1000000 f)
 
 -- all values were found
-pub values_of : {ws dag : List ℕ} {used cells : List Bool} {place p from : ℕ} {m : Machine} (r : LookUp)
+pub values_of : {ws dag : List ℕ} {used cells : List Bool} {place p from : ℕ} {m : Machine} {r : Result (List ℤ) UnsetCell} {xs : List ℤ}
     → Acting ws used cells dag place p from 1 m
-    → r ≡ look_up_of (look m.cells (token_at m.tokens p).binds (params_at dag from)) → 32 ≤ r.unset
-    → Evaluated ws used cells dag place p from r.values m
-values_of {ws} {dag} {used} {cells} {place} {p} {from} {m} r a e n =
-    let facts = look-facts (dag_of dag) m a.taking.lawful.rules p (token-inside a.taking) in
-    let k = look-values _ r e (λ l. omega arith) (look-below m.cells (token_at m.tokens p).binds facts.slots (params_at dag from))
-    in
-    record { acting = a; values = k.0; found = k.1; padded = k.2 }
+    → r ≡ look_up_of (look m.cells (token_at m.tokens p).binds (params_at dag from)) → r ≡ Ok xs
+    → Evaluated ws used cells dag place p from xs m
+values_of a e f = let k = look-values _ e _ f in record { acting = a; values = k.0; found = k.1; padded = k.2 }
 
 -- as many values as parameters: "at a call no empty variable"
 pub values-count : {ws dag : List ℕ} {used cells : List Bool} {place p from : ℕ} {vs : List ℤ} {m : Machine}

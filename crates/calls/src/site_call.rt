@@ -16,8 +16,7 @@ use job::site_parameters::BUILTIN_LIMIT;
 use model::record::Machine;
 use model::reply::{Refusal, Reply, Report};
 use record::count::calls_made;
-use record::layout::CELL_PLACE_COUNT;
-use sites::look::look_up;
+use sites::look::{UnsetCell, look_up};
 use sites::number::unsigned;
 use sites::site::builtin;
 use writes::dag::dag_word;
@@ -67,9 +66,7 @@ fn built_in(
     ensures { (m : Machine) → Evaluated w.old tokens.old cells.old dag.now place p at values m
         → Gives (Step.step paper (dag_of dag.now) m place) m w.new tokens.new cells.new result }
 {
-    let a = values[0];
-    let b = values[1];
-    let said = builtin(dag_word(dag, at + NAMED_NUMBER), a, b);
+    let said = builtin(dag_word(dag, at + NAMED_NUMBER), values[0], values[1]);
     match settle(w, said) {
         TimedReply::Gives(v) => {
             reply(w, place, p, unsigned(v), dag_word(dag, at + NEXT_NODE));
@@ -96,13 +93,13 @@ pub fn site_call(
     ensures { (m : Machine) → Acting w.old tokens.old cells.old dag.now place p at 1 m
         → Gives (Step.step paper (dag_of dag.now) m place) m w.new tokens.new cells.new result }
 {
-    let found = look_up(w, dag, p, at);
-    let unset = found.unset;
-    if unset < CELL_PLACE_COUNT {
-        wait(w, place, p, unset);
-        return plain(Reply::Waits);
-    }
-    let values = found.values;
+    let values = match look_up(w, dag, p, at) {
+        Ok(values) => values,
+        Err(UnsetCell(cell)) => {
+            wait(w, place, p, cell);
+            return plain(Reply::Waits);
+        }
+    };
     if dag_word(dag, at + NAMED_NUMBER) < BUILTIN_LIMIT {
         return built_in(w, tokens, cells, dag, place, p, at, values);
     }

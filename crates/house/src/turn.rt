@@ -64,11 +64,10 @@ pub(crate) fn deliver_turn(
         output.old from total output.new (goes_on result) }
 {
     let end = few_or_all(tokens, Machine::TOKENS);
-    let number = deliver(w, rest, at, end);
-    if number == 0 {
-        return total;
+    match deliver(w, rest, at, end) {
+        Ok(()) => total,
+        Err(refusal) => show_declined(number_of(refusal), output, from, total),
     }
-    show_declined(number, output, from, total)
 }
 
 // "It runs house order"; "a refused step ends the run".

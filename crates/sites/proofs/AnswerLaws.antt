@@ -11,7 +11,7 @@ use lib.ListN.{length, get_or, drop, drop_of_length-le, get_or-eq_default}
 use lib.Seq.{drop-cons}
 use lib.Dec.{eqb}
 use lib.IntN.{ℤ}
-use Rattle.std.specs.Prelude.{Some, None}
+use Rattle.std.specs.Prelude.{Option, Some, None, Ok, Err}
 use Rattle.job.specs.Test.{for_some, ◌or◌}
 use Rattle.job.specs.Node.{Dag}
 use Rattle.model.specs.Machine.Limits.{paper}
@@ -21,18 +21,21 @@ use Rattle.model.specs.Machine.State.{handle_of}
 use Rattle.model.specs.Machine.Reply.{refuses, moves}
 use Rattle.model.specs.Machine.Update.{with_value, with_state, put, enqueue}
 use Rattle.model.specs.Machine.Answer.{holder, answered}
-use Rattle.model.specs.Machine.Held.{Place}
+use Rattle.model.specs.declared.reply.Refusal.TheVariants as refusals
+use Rattle.model.specs.declared.token.Held.TheVariants as helds
+use Rattle.model.specs.declared.token.Place.{Place}
+use Rattle.model.specs.declared.token.Place.TheVariants as places
 use Rattle.model.specs.declared.token.State.{State}
 use Rattle.model.specs.declared.token.State.TheVariants as states
 use Rattle.model.specs.declared.token.Token.{Token}
 use Rattle.model.specs.declared.record.Machine.{Machine}
-use Rattle.job.proofs.Test.{clash, lt-ltb, le-not-ltb}
+use Rattle.job.proofs.Test.{clash}
 use Rattle.model.proofs.Machine.Within.{holder-holds}
 use Rattle.record.specs.Holds.{Codes, Holds}
 use Rattle.record.specs.Layout.{state_kind, state_number}
 use Rattle.reach.specs.Marks.{BlankFrom}
 use Rattle.reach.proofs.ListLoops.{steady}
-use Rattle.sites.specs.Answer.{place_below, answered_by, Answered}
+use Rattle.sites.specs.Answer.{place_of, answer_says, answered_by, Answered}
 use Rattle.sites.proofs.RuleFacts.{tokens-size, queue-room}
 use Rattle.model.proofs.Run.AnswerStands.{handle-busy}
 
@@ -117,15 +120,6 @@ module _ (h k n : ℕ) (s : State) (ek : k ≡ state_kind s) (en : n ≡ state_n
       go (states.Due t) ek f = refl
       go states.Frame ek f = refl
 
--- a number as a place
-pub place-there : (n p : ℕ) → p < n → place_below n p ≡ Some p
-unfolding place_below
-place-there n p l = rw (lt-ltb p n l, place_below)
-
-pub place_none : (n p : ℕ) → n ≤ p → place_below n p ≡ None
-unfolding place_below
-place_none n p l = rw (le-not-ltb p n l, place_below)
-
 -- the effect of an answer is the record after it, or the refusal
 pub answered-moves : (m : Machine) (v : ℤ) (q : Place) → is_place q ≡ true → answered m v q ≡ moves (answered_by m v q)
 unfolding answered answered_by is_place
@@ -137,32 +131,32 @@ unfolding answered is_place
 answered-refuses m v None e = refl
 answered-refuses m v (Some p) e = clash refl e
 
--- what the code has done, by the number that the search gave
-module _ (end h p : ℕ) (v : ℤ) (before after : List ℕ)
-    (found : (m : Machine) → Codes before m → BlankFrom m end → holder h 0 m.tokens ≡ place_below end p) where
-  pub not-answered : end ≤ p → after ≡ before → Answered end h v false before after
-  unfolding is_place answered_by
-  not-answered l e =
+-- what the code has done, by the place that the search gave
+module _ (end h : ℕ) (v : ℤ) (before after : List ℕ) (o : Option ℕ)
+    (found : (m : Machine) → Codes before m → BlankFrom m end → holder h 0 m.tokens ≡ place_of o) where
+  pub not-answered : o ≡ None → after ≡ before → Answered end h v (Err refusals.NotOpen) before after
+  unfolding is_place answered_by place_of answer_says
+  not-answered none e =
       record {
-        says = λ m k b. sym (ap is_place (found m k.codes b ∙ place_none end p l));
+        says = λ m k b. sym (ap (λ q. answer_says (is_place q)) (found m k.codes b ∙ ap place_of none));
         does =
             λ d m k b r.
-            subst (Holds after) (sym (ap (answered_by m v) (found m k.codes b ∙ place_none end p l)))
+            subst (Holds after) (sym (ap (answered_by m v) (found m k.codes b ∙ ap place_of none)))
             (subst (λ ws. Holds ws m) (sym e) k);
-        stays = λ _. e;
+        stays = (refl, e);
       }
 
-  pub is-answered : p < end
+  pub is-answered : (p : ℕ) → o ≡ Some p
       → ((m : Machine) → Holds before m → m.queued < 64
-      → Holds after (enqueue p (put p (with_state states.Ready (with_value (Some v) (token_at m.tokens p))) m)))
-      → Answered end h v true before after
-  unfolding is_place answered_by
-  is-answered l e =
+      → Holds after (enqueue p (put p (with_state states.Ready (with_value (helds.Value v) (token_at m.tokens p))) m)))
+      → Answered end h v (Ok tt) before after
+  unfolding is_place answered_by place_of answer_says
+  is-answered p some e =
       record {
-        says = λ m k b. sym (ap is_place (found m k.codes b ∙ place-there end p l));
+        says = λ m k b. sym (ap (λ q. answer_says (is_place q)) (found m k.codes b ∙ ap place_of some));
         does =
             λ d m k b r.
-            let at : holder h 0 m.tokens ≡ Some p = found m k.codes b ∙ place-there end p l in
+            let at : holder h 0 m.tokens ≡ places.At p = found m k.codes b ∙ ap place_of some in
             subst (Holds after) (sym (ap (answered_by m v) at)) (e m k (open-room d m r h p at));
-        stays = λ z. clash refl z;
+        stays = tt;
       }
