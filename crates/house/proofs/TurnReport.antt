@@ -37,7 +37,7 @@ module _ {o : Outcome} {m : Machine} {ws : List ℕ} {used cells shared : List B
     (g : Stepped o m ws used cells shared p) {before after : List ℕ}
     {from total n : ℕ} {over : Bool} (ends : over ≡ is_over m.queued p.reply) where
   pub turned-shows : ShowsBytes before from total (text_of_all (reported_lines p.reply p.values)) after n → n ≤ total + 80
-      → TurnLeaves o m ws used cells shared before from total after (record { total = n; over = over })
+      → TurnLeaves o m ws used cells shared before from total after n over
   turned-shows s few =
       record {
         holds = g.gives.holds;

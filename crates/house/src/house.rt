@@ -13,7 +13,8 @@ ghost use Rattle.house.specs.LoadedDag.{Accepted};
 
 use crate::turn::{deliver_turn, step_turn};
 use job::dag::{GOAL, WORDS};
-use lines::last_lines::{show_end, show_last, show_limit};
+use lines::line::Line;
+use lines::shown::Window;
 use model::record::Machine;
 use record::order::{self, Queue};
 use unchecked::start::start;
@@ -38,26 +39,27 @@ fn run_turns(
     ensures { ShowsBytes output.old from 0 (text_of_all (run_lines paper 100000 (dag_of dag.now) rest.now))
         output.new result }
 {
+    let mut window = Window::new(output, from);
     let mut steps: u32 = 0;
     let mut at: usize = 0;
-    let mut total: usize = 0;
     loop {
         if order::count::<Queue>(w) == 0 {
             let left = rest.len() - at;
             if left < 8 {
-                return show_last(left, steps, output, from, total);
+                window.show_last(left, steps);
+                return window.total();
             }
-            total = deliver_turn(w, tokens, rest, at, output, from, total);
+            deliver_turn(w, tokens, rest, at, &mut window);
             at += 8;
             continue;
         }
         if steps == STEPS {
-            return show_limit(steps, output, from, total);
+            window.show_limit(steps);
+            return window.total();
         }
-        let turned = step_turn(w, tokens, cells, shared, dag, output, from, total);
-        total = turned.total;
-        if turned.over {
-            return show_end(steps, output, from, total);
+        if step_turn(w, tokens, cells, shared, dag, &mut window) {
+            window.show_line(Line::End(steps));
+            return window.total();
         }
         steps += 1;
     }

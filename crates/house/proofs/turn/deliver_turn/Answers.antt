@@ -8,20 +8,20 @@ use Rattle.turns.proofs.TurnGives.{turn-delivers}
 use Rattle.house.proofs.TurnReport.{turned-shows, taken-line, refused-line}
 use Rattle.house.proofs.turn.deliver_turn.Goals as goal
 
-pub returns-in-Ok : goal.returns-in-Ok
-returns-in-Ok c = λ m dag cells shared lawful one e.
+pub returns-else-number-ne0-clause-leaves : goal.returns-else-number-ne0-clause-leaves
+returns-else-number-ne0-clause-leaves c = λ m dag cells shared lawful one e.
     let none = c.few_or_all-end.ensures.upper_bound.1 in
     turned-shows
     (turn-delivers _ _ _ _ _ _ c.deliver.ensures.gives m dag _ cells shared lawful
     (λ i from to. free-token lawful i (none i from to)) one e)
-    (over-empty _ e _) (shows-as (taken-line c.in-Ok.is) (shows-none _ _ _)) (omega arith)
+    (over-empty _ e _) (shows-as (taken-line c.if-number-ne0.false) (shows-none _ _ _)) (omega arith)
 
-pub returns-in-Err : goal.returns-in-Err
-returns-in-Err c = λ m dag cells shared lawful one e.
+pub returns-then-number-ne0-clause-leaves : goal.returns-then-number-ne0-clause-leaves
+returns-then-number-ne0-clause-leaves c = λ m dag cells shared lawful one e.
     let none = c.few_or_all-end.ensures.upper_bound.1 in
     let line = c.show_declined.ensures in
     turned-shows
     (turn-delivers _ _ _ _ _ _ c.deliver.ensures.gives m dag _ cells shared lawful
     (λ i from to. free-token lawful i (none i from to)) one e)
-    (over-empty _ e _) (shows-as (refused-line c.in-Err.refusal c.in-Err.is c.number_of.ensures) line.shows_bytes)
+    (over-empty _ e _) (shows-as (refused-line c.deliver-number.ensures.delivery_number c.if-number-ne0.true) line.shows_bytes)
     line.upper_bound
