@@ -29,7 +29,7 @@ fn show_not_open(window: &mut Window)
         window.new.output.now window.new.total }
     ensures upper_bound { window.new.total ≤ window.old.total + 80 }
 {
-    window.show_line(Line::Refused(number_of(Refusal::NotOpen)));
+    window.show_line(Line::Refused(u8::from(Refusal::NotOpen)));
 }
 
 // The line of a refused record. Late answers may be many: theirs is put without a look at digits.
@@ -41,7 +41,7 @@ fn show_declined(number: u8, window: &mut Window)
         window.new.output.now window.new.total }
     ensures upper_bound { window.new.total ≤ window.old.total + 80 }
 {
-    if number == number_of(Refusal::NotOpen) {
+    if number == u8::from(Refusal::NotOpen) {
         show_not_open(window);
     } else {
         window.show_line(Line::Refused(number));
@@ -65,9 +65,8 @@ pub(crate) fn deliver_turn(
         window.old.output.now window.old.from window.old.total window.new.output.now window.new.total false }
 {
     let end = few_or_all(tokens, Machine::TOKENS);
-    let number = deliver(w, rest, at, end);
-    if number != 0 {
-        show_declined(number, window);
+    if let Err(refusal) = deliver(w, rest, at, end) {
+        show_declined(u8::from(refusal), window);
     }
 }
 

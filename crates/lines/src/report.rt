@@ -5,7 +5,7 @@ ghost use Rattle.lines.specs.Shown.{ShowsBytes};
 
 use crate::line::Line;
 use crate::shown::Window;
-use model::reply::{Reply, number_of};
+use model::reply::Reply;
 
 impl Window<'_> {
     // (There are four values beside a reply.)
@@ -24,7 +24,7 @@ impl Window<'_> {
                 let most = usize::from(count).min(4);
                 self.show_line(Line::Call(handle, site, &values[..most]));
             }
-            Reply::Refused(refusal) => self.show_line(Line::Refused(number_of(refusal))),
+            Reply::Refused(refusal) => self.show_line(Line::Refused(u8::from(refusal))),
         }
     }
 }
