@@ -11,7 +11,7 @@ ghost use Rattle.clock.specs.WakeOneByOne.{ClockFacts, Earliest, due_at, wake_at
 use job::wide::wide;
 use model::record::Machine;
 use record::layout::{LAST_TIME, READY_STATE};
-use record::order::{Queue, CallOrder};
+use record::order::{CallOrder, Queue};
 use record::{count, order, token};
 
 // "15, the clock would go back or leave its range"

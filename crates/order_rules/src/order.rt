@@ -17,7 +17,7 @@ use record::layout::{
     DUE_STATE, QUEUE_START, READY_STATE, TIMERS_START, TOKEN_PLACE_COUNT, WAITING_STATE,
     WAITS_START,
 };
-use record::order::{Queue, CallOrder, WaitOrder, count};
+use record::order::{CallOrder, Queue, WaitOrder, count};
 
 // Does the order name places of tokens only? Its names are the first n of the 64 words from `at` on.
 fn order_in_range(w: &[u32; Machine::WORDS], at: usize, n: usize) -> bool

@@ -18,7 +18,7 @@ use job::wide::wide;
 use model::record::Machine;
 use orders::names::is_marked;
 use record::layout::{DUE_STATE, READY_STATE, WAITING_STATE};
-use record::order::{Queue, CallOrder, WaitOrder};
+use record::order::{CallOrder, Queue, WaitOrder};
 use record::{cell, order, token};
 
 // Is the place that has a number the cell or one of its descendants? A number above those of the cells names no cell.

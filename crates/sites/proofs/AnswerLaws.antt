@@ -22,9 +22,7 @@ use Rattle.model.specs.Machine.Reply.{refuses, moves}
 use Rattle.model.specs.Machine.Update.{with_value, with_state, put, enqueue}
 use Rattle.model.specs.Machine.Answer.{holder, answered}
 use Rattle.model.specs.declared.reply.Refusal.TheVariants as refusals
-use Rattle.model.specs.declared.token.Held.TheVariants as helds
-use Rattle.model.specs.declared.token.Place.{Place}
-use Rattle.model.specs.declared.token.Place.TheVariants as places
+use Rattle.model.specs.Machine.Held.{Place}
 use Rattle.model.specs.declared.token.State.{State}
 use Rattle.model.specs.declared.token.State.TheVariants as states
 use Rattle.model.specs.declared.token.Token.{Token}
@@ -148,7 +146,7 @@ module _ (end h : ℕ) (v : ℤ) (before after : List ℕ) (o : Option ℕ)
 
   pub is-answered : (p : ℕ) → o ≡ Some p
       → ((m : Machine) → Holds before m → m.queued < 64
-      → Holds after (enqueue p (put p (with_state states.Ready (with_value (helds.Value v) (token_at m.tokens p))) m)))
+      → Holds after (enqueue p (put p (with_state states.Ready (with_value (Some v) (token_at m.tokens p))) m)))
       → Answered end h v (Ok tt) before after
   unfolding is_place answered_by place_of answer_says
   is-answered p some e =
@@ -156,7 +154,7 @@ module _ (end h : ℕ) (v : ℤ) (before after : List ℕ) (o : Option ℕ)
         says = λ m k b. sym (ap (λ q. answer_says (is_place q)) (found m k.codes b ∙ ap place_of some));
         does =
             λ d m k b r.
-            let at : holder h 0 m.tokens ≡ places.At p = found m k.codes b ∙ ap place_of some in
+            let at : holder h 0 m.tokens ≡ Some p = found m k.codes b ∙ ap place_of some in
             subst (Holds after) (sym (ap (answered_by m v) at)) (e m k (open-room d m r h p at));
         stays = tt;
       }

@@ -8,9 +8,7 @@ use Rattle.model.specs.Machine.Rules.{rules_hold}
 use Rattle.model.specs.Machine.Update.{with_value, with_state, put, enqueue}
 use Rattle.model.specs.declared.reply.Refusal.{Refusal}
 use Rattle.model.specs.declared.reply.Refusal.TheVariants as refusals
-use Rattle.model.specs.declared.token.Held.TheVariants as helds
-use Rattle.model.specs.declared.token.Place.{Place}
-use Rattle.model.specs.declared.token.Place.TheVariants as places
+use Rattle.model.specs.Machine.Held.{Place}
 use Rattle.model.specs.declared.token.State.TheVariants as states
 use Rattle.model.specs.declared.record.Machine.{Machine}
 use Rattle.record.specs.Holds.{Holds}
@@ -18,8 +16,8 @@ use Rattle.reach.specs.Marks.{BlankFrom}
 
 -- a place that a search gave
 unfoldable pub place_of : Option ℕ → Place
-place_of (Some p) = places.At p
-place_of None = places.Nowhere
+place_of (Some p) = Some p
+place_of None = None
 
 -- "An answer gives its token the value and makes it ready"; without a token the record stays as it is
 unfoldable pub answered_by : Machine → ℤ → Place → Machine

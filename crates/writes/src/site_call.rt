@@ -14,7 +14,7 @@ ghost use Rattle.record.specs.Layout.{held_kind, held_number};
 use model::record::Machine;
 use record::count::set_calls_made;
 use record::layout::{CALLED_STATE, DUE_STATE, WAITING_STATE};
-use record::order::{Queue, CallOrder, WaitOrder, join, leave, replace};
+use record::order::{CallOrder, Queue, WaitOrder, join, leave, replace};
 use record::token::{set_node, set_state, set_value};
 
 // "the first unset cell makes the token wait there": at the cell c.

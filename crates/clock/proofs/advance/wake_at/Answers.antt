@@ -20,8 +20,8 @@ returns-then-p-lt-TOKENS c = λ m h f l.
     let out = left_out m h f i l in
     let t = token_at out.tokens p in
     let one = c.leave.ensures m h l in
-    let two = c.set_value.ensures out t (helds.Value (pos 0)) (subst (Holds _) (sym (put_self out p)) one) refl refl in
-    let three = c.set_state.ensures out (with_value (helds.Value (pos 0)) t) states.Ready two refl refl in
+    let two = c.set_value.ensures out t (Some (pos 0)) (subst (Holds _) (sym (put_self out p)) one) refl refl in
+    let three = c.set_state.ensures out (with_value (Some (pos 0)) t) states.Ready two refl refl in
     wake-is m h f i l p c.place_at-name.result (c.place_at-name.ensures m h.codes) c.wide-p.ensures
     (c.join.ensures _ three (wake-room m h f i l p _))
 

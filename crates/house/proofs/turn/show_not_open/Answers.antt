@@ -9,4 +9,4 @@ use Rattle.house.proofs.turn.show_not_open.Goals as goal
 
 pub returns-clause-shows_bytes : goal.returns-clause-shows_bytes
 unfolding told number_of
-returns-clause-shows_bytes c = shows-as (ap (λ (n : ℕ). text_of (refused n)) c.number_of.ensures) c.show_line.ensures.shows_bytes
+returns-clause-shows_bytes c = shows-as (ap (λ (n : ℕ). text_of (refused n)) c.from.ensures) c.show_line.ensures.shows_bytes
