@@ -26,7 +26,6 @@ use Rattle.model.specs.declared.reply.Reply.{Reply}
 use Rattle.model.specs.declared.reply.Reply.TheVariants as replies
 use Rattle.model.specs.declared.reply.Report.{Report}
 use Rattle.model.specs.Machine.Held.{Held, Place}
-use Rattle.model.specs.declared.token.Bind.{Bind}
 use Rattle.model.specs.declared.token.Slot.{Slot}
 use Rattle.model.specs.declared.token.Slot.TheVariants as slots
 use Rattle.model.specs.declared.token.State.TheVariants as states
@@ -132,7 +131,7 @@ module _ {ws dag : List ℕ} {used cells : List Bool} {place p : ℕ} {m : Machi
   value-range =
       let u = token_at m.tokens p in
       and_left _ _
-      (and_right (for_all (λ (b : Bind). slot_in_range 32 b.slot) u.binds) _
+      (and_right (for_all (slot_in_range 32) u.binds) _
       (and_right (eqb (length u.binds) 8) _ (and_right (is_node (dag_of dag) u.node) _ range)))
 
   rest : (place_in_range 64 (token_at m.tokens p).caller
@@ -141,7 +140,7 @@ module _ {ws dag : List ℕ} {used cells : List Bool} {place p : ℕ} {m : Machi
   rest =
       let u = token_at m.tokens p in
       and_right (held_in_range u.value) _
-      (and_right (for_all (λ (b : Bind). slot_in_range 32 b.slot) u.binds) _
+      (and_right (for_all (slot_in_range 32) u.binds) _
       (and_right (eqb (length u.binds) 8) _ (and_right (is_node (dag_of dag) u.node) _ range)))
 
   pub caller-range : place_in_range 64 (token_at m.tokens p).caller ≡ true

@@ -4,18 +4,18 @@ use Rattle.job.specs.Test.{for_some}
 use Rattle.model.specs.Machine.Blank.{is_place, slot_at}
 use Rattle.model.specs.Machine.InUse.{bound_cell}
 use Rattle.model.specs.declared.token.Slot.TheVariants as slots
-use Rattle.model.specs.declared.token.Bind.{Bind}
+use Rattle.model.specs.declared.token.Slot.{Slot}
 use Rattle.model.specs.declared.token.Token.{Token}
 
 -- is a variable bound to a cell?
-abbrev pub to_cell : Bind → Bool
+abbrev pub to_cell : Slot → Bool
 to_cell b = is_place (bound_cell b)
 
-abbrev pub binds_cell : List Bind → Bool
+abbrev pub binds_cell : List Slot → Bool
 binds_cell bs = for_some to_cell bs
 
 -- no variable is bound to a cell
-abbrev pub BindsNoCell : List Bind → Type 0
+abbrev pub BindsNoCell : List Slot → Type 0
 BindsNoCell bs = (x c : ℕ) → slot_at bs x ≡ slots.Cell c → ⊥
 
 -- a token that names no caller, no cell and no bound cell

@@ -16,7 +16,6 @@ use Rattle.model.specs.Machine.Limits.{Limits, paper}
 use Rattle.model.specs.Machine.Rules.{held_in_range, slot_in_range, token_in_range, cell_in_range, rules_hold}
 use Rattle.model.specs.declared.token.Slot.{Slot}
 use Rattle.model.specs.declared.token.Slot.TheVariants as slots
-use Rattle.model.specs.declared.token.Bind.{Bind}
 use Rattle.model.specs.Machine.Held.{Held, Place}
 use Rattle.model.specs.declared.token.State.{State}
 use Rattle.model.specs.declared.token.State.TheVariants as states
@@ -58,14 +57,12 @@ slot_read cells (slots.Value v) e = ap slots.Value (signed-unsigned v e)
 slot_read cells (slots.Cell c) e = refl
 
 -- rows
-binding : Slot → Bind
-binding s = record { slot = s }
 
 -- the token of these fields
-token : ℕ → List Bind → Held → Place → Place → State → Token
+token : ℕ → List Slot → Held → Place → Place → State → Token
 token n b v p c s = record { node = n; binds = b; value = v; caller = p; cell = c; state = s }
 
-same-token : (n : ℕ) {b a : List Bind} {v w : Held} {p q c e : Place} {s t : State} → b ≡ a → v ≡ w → p ≡ q → c ≡ e → s ≡ t
+same-token : (n : ℕ) {b a : List Slot} {v w : Held} {p q c e : Place} {s t : State} → b ≡ a → v ≡ w → p ≡ q → c ≡ e → s ≡ t
     → token n b v p c s ≡ token n a w q e t
 same-token n b v p c s = cc
 
@@ -74,7 +71,7 @@ module _ (lim : Limits) (d : Dag) (calls : ℕ) (t : Token) (e : token_in_range 
   unfolding token_in_range
   sized = eqb-eq (length t.binds) scope_limit (and_left _ _ (and_right _ _ e))
 
-  slots-fit : for_all (λ (b : Bind). slot_in_range lim.cell_places b.slot) t.binds ≡ true
+  slots-fit : for_all (slot_in_range lim.cell_places) t.binds ≡ true
   unfolding token_in_range
   slots-fit = and_left _ _ (and_right _ _ (and_right _ _ e))
 
@@ -82,16 +79,12 @@ module _ (lim : Limits) (d : Dag) (calls : ℕ) (t : Token) (e : token_in_range 
   unfolding token_in_range
   value-fits = and_left _ _ (and_right _ _ (and_right _ _ (and_right _ _ e)))
 
-  bound : (x : ℕ) → x < 8
-      → binding (slot_from (slot_kind (slot_at t.binds x)) (slot_number (slot_at t.binds x))) ≡ binding (slot_at t.binds x)
+  bound : (x : ℕ) → x < 8 → slot_from (slot_kind (slot_at t.binds x)) (slot_number (slot_at t.binds x)) ≡ slot_at t.binds x
   unfolding slot_at
-  bound x l =
-      ap binding
-      (slot_read lim.cell_places _
-      (all-at (λ (b : Bind). slot_in_range lim.cell_places b.slot) t.binds x empty slots-fit (omega (arith, sized))))
+  bound x l = slot_read lim.cell_places _ (all-at (slot_in_range lim.cell_places) t.binds x empty slots-fit (omega (arith, sized)))
 
   binds-read : (token_from (row_of t)).binds ≡ t.binds
-  unfolding token_from row_of binds_from slot_at table binding
+  unfolding token_from row_of binds_from slot_at table
   binds-read =
       ap₂ ◌∷◌ (bound 0 (omega arith)) (ap₂ ◌∷◌ (bound 1 (omega arith)) (ap₂ ◌∷◌ (bound 2 (omega arith)) (ap₂ ◌∷◌ (bound 3 (omega arith))
       (ap₂ ◌∷◌ (bound 4 (omega arith)) (ap₂ ◌∷◌ (bound 5 (omega arith)) (ap₂ ◌∷◌ (bound 6 (omega arith)) (ap₂ ◌∷◌ (bound 7 (omega arith))

@@ -28,7 +28,6 @@ use Rattle.model.specs.Machine.Answer.{holder}
 use Rattle.model.specs.Machine.Clock.{woken_by, after_advance}
 use Rattle.model.specs.declared.token.Slot.{Slot}
 use Rattle.model.specs.declared.token.Slot.TheVariants as slots
-use Rattle.model.specs.declared.token.Bind.{Bind}
 use Rattle.model.specs.declared.token.State.TheVariants as states
 use Rattle.model.specs.declared.token.Token.{Token}
 use Rattle.model.specs.declared.record.Machine.{Machine}
@@ -239,12 +238,12 @@ module _ (lim : Limits) (d : Dag) (m : Machine) (holds : rules_hold lim d m ≡ 
         u : Token
         u = with_node next (with_binding x s t)
 
-        still : (y c : ℕ) → slot_at t.binds y ≡ slots.Cell c → slot_at (set t.binds x (record { slot = s })) y ≡ slots.Cell c
+        still : (y c : ℕ) → slot_at t.binds y ≡ slots.Cell c → slot_at (set t.binds x s) y ≡ slots.Cell c
         still y c e = go (ℕ_discrete y x)
           where
-            go : Dec (y ≡ x) → slot_at (set t.binds x (record { slot = s })) y ≡ slots.Cell c
+            go : Dec (y ≡ x) → slot_at (set t.binds x s) y ≡ slots.Cell c
             go (yes f) = absurd (old c (ap (slot_at t.binds) (sym f) ∙ e))
-            go (no n) = ap (λ (b : Bind). b.slot) (get_or-set_other t.binds x y (record { slot = s }) empty n) ∙ e
+            go (no n) = get_or-set_other t.binds x y s empty n ∙ e
 
     -- a tail call: no variable was bound to a cell, so no formal is
     pub became-carried : (root : ℕ) (ps : List Param) → ((x c : ℕ) → slot_at t.binds x ≡ slots.Cell c → ⊥)

@@ -14,7 +14,6 @@ use Rattle.model.specs.Machine.Rules.{not_empty}
 use Rattle.model.specs.Machine.Step.{LookUpResult, values, unset, and_then, look}
 use Rattle.model.specs.declared.token.Slot.{Slot}
 use Rattle.model.specs.declared.token.Slot.TheVariants as slots
-use Rattle.model.specs.declared.token.Bind.{Bind}
 use Rattle.model.specs.Machine.Held.{Held}
 use Rattle.model.specs.declared.cell.Cell.{Cell}
 use Rattle.job.proofs.Test.{never, clash, all_head, all_tail}
@@ -25,13 +24,13 @@ unfolding and_then
 unset-then v (values vs) c e = never cc
 unset-then v (unset b) c e = e
 
-abbrev Asks : List Cell → List Bind → List Param → ℕ → Type 0
+abbrev Asks : List Cell → List Slot → List Param → ℕ → Type 0
 Asks cs bs ps c = (x : ℕ) × Memᴰ (variable x) ps × (slot_at bs x ≡ slots.Cell c) × ((cell_at cs c).value ≡ None)
 
-asks-later : (cs : List Cell) (bs : List Bind) (p : Param) (ps : List Param) (c : ℕ) → Asks cs bs ps c → Asks cs bs (p ∷ ps) c
+asks-later : (cs : List Cell) (bs : List Slot) (p : Param) (ps : List Param) (c : ℕ) → Asks cs bs ps c → Asks cs bs (p ∷ ps) c
 asks-later cs bs p ps c (x, m, e, f) = (x, Memᴰ.tail m, e, f)
 
-module _ (cs : List Cell) (bs : List Bind) where
+module _ (cs : List Cell) (bs : List Slot) where
   cell-asks : (x : ℕ) (ps : List Param) (b : ℕ) → slot_at bs x ≡ slots.Cell b → (w : Held) → (cell_at cs b).value ≡ w → (c : ℕ)
       → (look cs bs ps ≡ unset c → Asks cs bs ps c)
       → elim w as (λ w. LookUpResult) [ None ↦ unset b | Some v ↦ and_then v (look cs bs ps) ] ≡ unset c
@@ -68,7 +67,7 @@ then-unset : (v : ℤ) (l : LookUpResult) → Unset l → Unset (and_then v l)
 unfolding and_then
 then-unset v l (c, e) = (c, ap (and_then v) e)
 
-module _ (cs : List Cell) (bs : List Bind) where
+module _ (cs : List Cell) (bs : List Slot) where
   cell-unset : (b : ℕ) (w : Held) (l : LookUpResult) → Unset l → Unset (elim w [ None ↦ unset b | Some v ↦ and_then v l ])
   cell-unset b None l u = (b, refl)
   cell-unset b (Some v) l u = then-unset v l u

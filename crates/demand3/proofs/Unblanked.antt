@@ -22,7 +22,6 @@ use Rattle.model.specs.Machine.Rules.{token_in_range, rest_is_blank, rules_hold}
 use Rattle.model.specs.Machine.Update.{with_tables}
 use Rattle.model.specs.declared.token.Slot.{Slot}
 use Rattle.model.specs.declared.token.Slot.TheVariants as slots
-use Rattle.model.specs.declared.token.Bind.{Bind}
 use Rattle.model.specs.Machine.Held.{Held, Place}
 use Rattle.model.specs.declared.token.Token.{Token}
 use Rattle.model.specs.declared.cell.Cell.{Cell}
@@ -63,10 +62,10 @@ slot-empty slots.Empty e = refl
 slot-empty (slots.Value v) e = clash e refl
 slot-empty (slots.Cell c) e = clash e refl
 
-binds_empty : (bs : List Bind) → for_all (λ (b : Bind). not (is_bound b.slot)) bs ≡ true → bs ≡ replicate (length bs) empty
+binds_empty : (bs : List Slot) → for_all (λ (b : Slot). not (is_bound b)) bs ≡ true → bs ≡ replicate (length bs) empty
 binds_empty [] e = refl
 binds_empty (b ∷ bs) e =
-    ap₂ (λ (s : Slot) (r : List Bind). record { slot = s } ∷ r) (slot-empty b.slot (all_head _ b bs e))
+    ap₂ ◌∷◌ (slot-empty b (all_head _ b bs e))
     (binds_empty bs (all_tail _ b bs e))
 
 token-blank : (t : Token) → length t.binds ≡ 8 → token_is_blank t ≡ true → t ≡ blank_token

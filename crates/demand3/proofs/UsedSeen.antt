@@ -14,7 +14,6 @@ use Rattle.model.specs.Machine.State.{is_blank_state, is_live}
 use Rattle.model.specs.Machine.Active.{is_active}
 use Rattle.model.specs.declared.token.Slot.{Slot}
 use Rattle.model.specs.declared.token.Slot.TheVariants as slots
-use Rattle.model.specs.declared.token.Bind.{Bind}
 use Rattle.model.specs.Machine.Held.{Place}
 use Rattle.model.specs.declared.token.State.{State}
 use Rattle.model.specs.declared.token.State.TheVariants as states
@@ -85,7 +84,7 @@ module _ (M : Labels) (W : World) where
   binding-named c e valued = never cc
   binding-named c e (celled {c = b} v) = subst Named (let z : b ≡ c = cc in z) (named v)
 
-  slot-named : {bs : List Bind} {scope : List ℕ} {B : List Binding} → SlotsSeen W bs scope B → (x c : ℕ) → slot_at bs x ≡ slots.Cell c
+  slot-named : {bs : List Slot} {scope : List ℕ} {B : List Binding} → SlotsSeen W bs scope B → (x c : ℕ) → slot_at bs x ≡ slots.Cell c
       → Named c
   slot-named {bs} {scope} s x c e = go (member-or-not x scope)
     where

@@ -19,7 +19,6 @@ use Rattle.model.specs.Machine.Rules.{held_in_range}
 use Rattle.model.specs.Machine.Step.{LookUpResult, values, unset, and_then, look, value_of}
 use Rattle.model.specs.declared.token.Slot.{Slot}
 use Rattle.model.specs.declared.token.Slot.TheVariants as slots
-use Rattle.model.specs.declared.token.Bind.{Bind}
 use Rattle.model.specs.Machine.Held.{Held}
 use Rattle.model.specs.declared.cell.Cell.{Cell}
 use Rattle.job.proofs.Test.{never, leb-le, all_head, all_tail}
@@ -46,7 +45,7 @@ unfolding and_then
 then-fits v e (found a) = found (more e a)
 then-fits v e waiting = waiting
 
-module _ (cs : List Cell) (bs : List Bind)
+module _ (cs : List Cell) (bs : List Slot)
     (bound : (x : ℕ) (v : ℤ) → slot_at bs x ≡ slots.Value v → Signed32 v)
     (cells : (c : ℕ) → held_in_range (cell_at cs c).value ≡ true) where
   cell-fits : (c : ℕ) (w : Held) → (cell_at cs c).value ≡ w → (l : LookUpResult) → LookUpFits l

@@ -13,7 +13,6 @@ use Rattle.model.specs.Machine.Blank.{slot_at}
 use Rattle.model.specs.Machine.Update.{with_node, with_binding}
 use Rattle.model.specs.declared.token.Slot.{Slot}
 use Rattle.model.specs.declared.token.Slot.TheVariants as slots
-use Rattle.model.specs.declared.token.Bind.{Bind}
 use Rattle.model.specs.Machine.Held.{Held}
 use Rattle.model.specs.declared.token.State.{State}
 use Rattle.model.specs.declared.token.State.TheVariants as states
@@ -56,7 +55,7 @@ pub nested-next : {d : Dag} {M : Labels} {n k : ℕ} {scope U : List ℕ} {F : L
     → Follows d M n k scope (M.nest n) → Nested M n U F → Nested M k U F
 nested-next f o = record { own = o.own; size = o.size ∙ sym f.nest; parts = o.parts; body = f.body ∙ o.body }
 
-pub slots_at : {W : World} {bs : List Bind} {a b : List ℕ} {B : List Binding} → a ≡ b → SlotsSeen W bs a B → SlotsSeen W bs b B
+pub slots_at : {W : World} {bs : List Slot} {a b : List ℕ} {B : List Binding} → a ≡ b → SlotsSeen W bs a B → SlotsSeen W bs b B
 slots_at {W} {bs} {B = B} e z = subst (λ s. SlotsSeen W bs s B) e z
 
 module _ {d : Dag} {M : Labels} {W : World} where

@@ -13,7 +13,6 @@ use Rattle.job.specs.Test.{occurrences}
 use Rattle.model.specs.Machine.Blank.{token_at, cell_at, slot_at}
 use Rattle.model.specs.declared.token.Slot.{Slot}
 use Rattle.model.specs.declared.token.Slot.TheVariants as slots
-use Rattle.model.specs.declared.token.Bind.{Bind}
 use Rattle.model.specs.Machine.Held.{Held, Place}
 use Rattle.model.specs.declared.token.State.{State}
 use Rattle.model.specs.declared.token.State.TheVariants as states
@@ -90,13 +89,13 @@ module _ (W : World) where
     celled : {c n : ℕ} {U : List ℕ} → CellsSeen (Some c) (n ∷ U) → BindingSeen (slots.Cell c) (Binding.cell n)
 
   -- the slots of the variables in scope, in the scope's order
-  pub data BindingsSeen (bs : List Bind) : List ℕ → List Binding → Type 0 where
+  pub data BindingsSeen (bs : List Slot) : List ℕ → List Binding → Type 0 where
     nothing : BindingsSeen bs [] []
     binds : {x : ℕ} {scope : List ℕ} {b : Binding} {B : List Binding}
         → BindingSeen (slot_at bs x) b → BindingsSeen bs scope B → BindingsSeen bs (x ∷ scope) (b ∷ B)
 
   -- and all others are empty
-  pub record SlotsSeen (bs : List Bind) (scope : List ℕ) (B : List Binding) : Type 0 where
+  pub record SlotsSeen (bs : List Slot) (scope : List ℕ) (B : List Binding) : Type 0 where
     pub size : length bs ≡ 8
     pub views : BindingsSeen bs scope B
     pub rest : (x : ℕ) → Fresh x scope → slot_at bs x ≡ slots.Empty
@@ -165,12 +164,12 @@ module _ {M : Labels} {Q R : ℕ → Type 0} {O W : World} (K : Kept Q R O W) (Z
   binding-keep h valued = valued
   binding-keep h (celled {c = c} u) = celled (cells-keep (λ b e. h b (ap slots.Cell (let z : c ≡ b = cc in z))) u)
 
-  bindings-keep : {bs : List Bind} {scope : List ℕ} {B : List Binding}
+  bindings-keep : {bs : List Slot} {scope : List ℕ} {B : List Binding}
       → ((x c : ℕ) → slot_at bs x ≡ slots.Cell c → R c) → BindingsSeen O bs scope B → BindingsSeen W bs scope B
   bindings-keep h nothing = nothing
   bindings-keep h (binds {x = x} b r) = binds (binding-keep (h x) b) (bindings-keep h r)
 
-  slots-keep : {bs : List Bind} {scope : List ℕ} {B : List Binding}
+  slots-keep : {bs : List Slot} {scope : List ℕ} {B : List Binding}
       → ((x c : ℕ) → slot_at bs x ≡ slots.Cell c → R c) → SlotsSeen O bs scope B → SlotsSeen W bs scope B
   slots-keep h s = record { size = s.size; views = bindings-keep h s.views; rest = s.rest }
 

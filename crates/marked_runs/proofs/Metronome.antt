@@ -27,7 +27,7 @@ use Rattle.model.specs.Machine.Clock.{takes_time, after_advance, woken_by}
 use Rattle.model.specs.Machine.Step as Step
 use Rattle.model.specs.Run.Call.{Call, runner, outcome_of, events_of}
 use Rattle.model.specs.declared.token.Slot.TheVariants as slots
-use Rattle.model.specs.declared.token.Bind.{Bind}
+use Rattle.model.specs.declared.token.Slot.{Slot}
 use Rattle.model.specs.Machine.Held.{Held}
 use Rattle.model.specs.declared.token.State.{State}
 use Rattle.model.specs.declared.token.State.TheVariants as states
@@ -42,7 +42,7 @@ use Rattle.model.proofs.Run.Computing.{computing}
 use Rattle.model.proofs.Run.Passage.{Passage, none, accepted, passed, events_by}
 
 -- M()'s token at place 1, over the goal's frame
-abbrev token : (node : ℕ) → List Bind → Held → State → Token
+abbrev token : (node : ℕ) → List Slot → Held → State → Token
 token n bs v s = record { node = n; binds = bs; value = v; caller = Some 0; cell = None; state = s }
 
 abbrev framed : Token → (queue timers : List ℕ) → (clock : ℕ) → Machine
@@ -71,7 +71,7 @@ module _ (c : ℕ) where
   woken = framed (token 0 unbound (Some (pos 0)) states.Ready) (1 ∷ []) [] c
 
   abbrev assigned : Machine
-  assigned = framed (token 3 (record { slot = slots.Value (pos 0) } ∷ replicate 7 empty) (Some (pos 0)) states.Ready) (1 ∷ []) [] c
+  assigned = framed (token 3 (slots.Value (pos 0) ∷ replicate 7 empty) (Some (pos 0)) states.Ready) (1 ∷ []) [] c
 
   abbrev entered : Machine
   entered = framed (token 2 unbound None states.Ready) (1 ∷ []) [] c

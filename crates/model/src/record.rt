@@ -4,7 +4,7 @@ ghost use Rattle.model.specs.Machine.Limits.{paper};
 ghost use Rattle.model.specs.Machine.Start.{start_machine};
 
 use crate::cell::Cell;
-use crate::token::{Bind, Slot, State, Token};
+use crate::token::{Slot, State, Token};
 
 // `queue`, `waits` and `timers` are in use up to `queued`, `waiting` and `timed`; `lasttoken` and `lastcell` are the last places given.
 // `timers` is the order of call of the tokens that are due later, and `clock` the present time.
@@ -39,7 +39,7 @@ impl Machine {
     {
         let blank = Token {
             node: 0,
-            binds: [Bind { slot: Slot::Empty }; 8],
+            binds: [Slot::Empty; 8],
             value: None,
             caller: None,
             cell: None,

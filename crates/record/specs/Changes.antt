@@ -2,7 +2,7 @@
 use Rattle.std.specs.Prelude.{List, [], ◌∷◌, ◌++◌, ℕ, set, None}
 use Rattle.job.specs.Test.{without}
 use Rattle.model.specs.Machine.Update.{with_tables, with_orders, queue_of, waits_of}
-use Rattle.model.specs.declared.token.Bind.{Bind}
+use Rattle.model.specs.declared.token.Slot.{Slot}
 use Rattle.model.specs.Machine.Held.{Held, Place}
 use Rattle.model.specs.declared.token.Token.{Token}
 use Rattle.model.specs.declared.cell.Cell.{Cell}
@@ -14,7 +14,7 @@ with_caller q t = record { node = t.node; binds = t.binds; value = t.value; call
 abbrev pub with_cell : Place → Token → Token
 with_cell q t = record { node = t.node; binds = t.binds; value = t.value; caller = t.caller; cell = q; state = t.state }
 
-abbrev pub with_binds : List Bind → Token → Token
+abbrev pub with_binds : List Slot → Token → Token
 with_binds bs t = record { node = t.node; binds = bs; value = t.value; caller = t.caller; cell = t.cell; state = t.state }
 
 -- a cell at a place

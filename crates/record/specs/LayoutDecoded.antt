@@ -3,7 +3,6 @@ use Rattle.std.specs.Prelude.{List, [], ◌∷◌, ℕ, zero, suc, get_or, take,
 use Rattle.job.specs.Number.{signed}
 use Rattle.model.specs.declared.token.Slot.{Slot}
 use Rattle.model.specs.declared.token.Slot.TheVariants as slots
-use Rattle.model.specs.declared.token.Bind.{Bind}
 use Rattle.model.specs.Machine.Held.{Held, Place}
 use Rattle.model.specs.declared.token.State.{State}
 use Rattle.model.specs.declared.token.State.TheVariants as states
@@ -34,9 +33,9 @@ slot_from (suc zero) n = slots.Value (signed n)
 slot_from (suc (suc k)) n = slots.Cell n
 
 -- so many bindings, two words each
-unfoldable pub binds_from : ℕ → List ℕ → List Bind
+unfoldable pub binds_from : ℕ → List ℕ → List Slot
 binds_from zero ws = []
-binds_from (suc n) ws = record { slot = slot_from (get_or ws 0 0) (get_or ws 1 0) } ∷ binds_from n (drop 2 ws)
+binds_from (suc n) ws = slot_from (get_or ws 0 0) (get_or ws 1 0) ∷ binds_from n (drop 2 ws)
 
 unfoldable pub token_from : List ℕ → Token
 token_from r =

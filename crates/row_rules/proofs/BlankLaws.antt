@@ -14,7 +14,6 @@ use Rattle.model.specs.Machine.Blank.{empty, slot_at, is_bound, is_place, has_va
 use Rattle.model.specs.Machine.Blank.{token_is_blank, cell_is_blank, blank_token, blank_cell, cell_at}
 use Rattle.model.specs.Machine.State.{is_blank_state}
 use Rattle.model.specs.declared.token.Slot.{Slot}
-use Rattle.model.specs.declared.token.Bind.{Bind}
 use Rattle.model.specs.Machine.Held.{Held, Place}
 use Rattle.model.specs.declared.token.State.{State}
 use Rattle.model.specs.declared.token.Token.{Token}
@@ -67,15 +66,15 @@ zero_same (suc n) = ne_eqb 0 (suc n) (λ e. omega arith) ∙ sym (ne_eqb (suc n)
 abbrev slot_zero : Slot → Bool → Bool
 slot_zero s b = eqb 0 (slot_kind s) and eqb 0 (slot_number s) and b
 
-slots-zero : (bs : List Bind) → length bs ≡ 8
+slots-zero : (bs : List Slot) → length bs ≡ 8
     → slot_zero (slot_at bs 0) (slot_zero (slot_at bs 1) (slot_zero (slot_at bs 2) (slot_zero (slot_at bs 3)
     (slot_zero (slot_at bs 4) (slot_zero (slot_at bs 5) (slot_zero (slot_at bs 6) (slot_zero (slot_at bs 7) true)))))))
-    ≡ for_all (λ (b : Bind). not (is_bound b.slot)) bs
+    ≡ for_all (λ (b : Slot). not (is_bound b)) bs
 unfolding for_all table slot_at
 slots-zero bs l =
     slot-zero (slot_at bs 0) (slot-zero (slot_at bs 1) (slot-zero (slot_at bs 2) (slot-zero (slot_at bs 3)
     (slot-zero (slot_at bs 4) (slot-zero (slot_at bs 5) (slot-zero (slot_at bs 6) (slot-zero (slot_at bs 7) refl)))))))
-    ∙ sym (ap (for_all (λ (b : Bind). not (is_bound b.slot))) (listed empty 8 bs l))
+    ∙ sym (ap (for_all (λ (b : Slot). not (is_bound b))) (listed empty 8 bs l))
 
 -- a word that is always 0
 spare : (b : Bool) → (true and b) ≡ b

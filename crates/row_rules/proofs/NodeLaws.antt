@@ -14,7 +14,7 @@ use Rattle.job.specs.Words.{node_by, param_of, params_from, dag_of}
 use Rattle.model.specs.Machine.Blank.{empty, blank_token, slot_at, token_at, is_bound}
 use Rattle.model.specs.Machine.Rules.{names_frame, not_empty, node_rule, at_node}
 use Rattle.model.specs.Machine.State.{is_frame}
-use Rattle.model.specs.declared.token.Bind.{Bind}
+use Rattle.model.specs.declared.token.Slot.{Slot}
 use Rattle.model.specs.Machine.Held.{Place}
 use Rattle.model.specs.declared.token.Token.{Token}
 use Rattle.job.proofs.Test.{clash, lt-ltb, le-not-ltb, and_left, leb-le, eq-eqb, ne_eqb}
@@ -26,14 +26,14 @@ use Rattle.row_rules.specs.RowRules.{pair_bound}
 use Rattle.row_rules.proofs.RangeLaws.{blank-is, frame_is}
 
 -- past the eight slots nothing is bound
-pub slot-past : (bs : List Bind) (x : ℕ) → length bs ≡ 8 → 8 ≤ x → false ≡ is_bound (slot_at bs x)
+pub slot-past : (bs : List Slot) (x : ℕ) → length bs ≡ 8 → 8 ≤ x → false ≡ is_bound (slot_at bs x)
 unfolding slot_at is_bound
 slot-past bs x long l =
     let m : length bs ≤ x = omega arith in
-    sym (ap (λ (b : Bind). is_bound b.slot) (get_or-eq_default bs empty m))
+    sym (ap is_bound (get_or-eq_default bs empty m))
 
 -- a parameter's two words
-module _ (bs : List Bind) (k w : ℕ) where
+module _ (bs : List Slot) (k w : ℕ) where
   pub bound-pair : (named : Bool) → (named && eqb k 7) ≡ true → is_bound (slot_at bs w) ≡ pair_bound bs named k w
   unfolding params_from param_of for_all not_empty
   bound-pair true e = rw (e, param_of) (sym (and-true _))
@@ -44,7 +44,7 @@ module _ (bs : List Bind) (k w : ℕ) where
   free-pair true e = rw (e, param_of)
   free-pair false e = refl
 
-module _ (bs : List Bind) where
+module _ (bs : List Slot) where
   bound-then : (j c k w : ℕ) (ws : List ℕ)
       → for_all (not_empty bs) (params_from (c - j) (k ∷ w ∷ ws))
       ≡ pair_bound bs (ltb j c) k w and for_all (not_empty bs) (params_from (c - (j + 1)) ws)

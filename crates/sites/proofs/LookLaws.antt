@@ -23,7 +23,6 @@ use Rattle.model.specs.Machine.Step.{LookUpResult, values, unset, and_then, look
 use Rattle.model.specs.declared.token.Slot.{Slot}
 use Rattle.model.specs.declared.token.Slot.TheVariants as slots
 use Rattle.model.specs.Machine.Held.{Held}
-use Rattle.model.specs.declared.token.Bind.{Bind}
 use Rattle.model.specs.declared.cell.Cell.{Cell}
 use Rattle.model.specs.declared.record.Machine.{Machine}
 use Rattle.job.proofs.Number.{signed-unsigned}
@@ -79,14 +78,14 @@ slot-cell cs n (slots.Value v) f g e r = absurd (g refl)
 slot-cell cs n (slots.Cell c) f g e r =
     (subst (λ i. i < 32) (sym e) (ltb-lt c 32 r), ap (λ i. held_found i (cell_at cs i).value) e)
 
-slot-in-range : (bs : List Bind) (x : ℕ) → for_all (λ (b : Bind). slot_in_range 32 b.slot) bs ≡ true
+slot-in-range : (bs : List Slot) (x : ℕ) → for_all (slot_in_range 32) bs ≡ true
     → slot_in_range 32 (slot_at bs x) ≡ true
 unfolding slot_at slot_in_range
 slot-in-range bs x e = go (dec_lt x (length bs))
   where
-    go : Dec (x < length bs) → slot_in_range 32 (get_or bs x empty).slot ≡ true
-    go (yes l) = all-at (λ (b : Bind). slot_in_range 32 b.slot) bs x empty e l
-    go (no f) = ap (λ (b : Bind). slot_in_range 32 b.slot) (get_or-eq_default bs empty {n = x} (omega arith))
+    go : Dec (x < length bs) → slot_in_range 32 (get_or bs x empty) ≡ true
+    go (yes l) = all-at (slot_in_range 32) bs x empty e l
+    go (no f) = ap (slot_in_range 32) (get_or-eq_default bs empty {n = x} (omega arith))
 
 cell-in-range : (cs : List Cell) (c : ℕ) → for_all (λ (c : Cell). held_in_range c.value) cs ≡ true
     → held_in_range (cell_at cs c).value ≡ true
@@ -119,7 +118,7 @@ module _ (m : Machine) (p x k n : ℕ) (o : LookFacts m p) where
         h both.0 (cell-in-range m.cells n o.cells) ∙ both.1
 
 -- a parameter as an argument
-module _ (cs : List Cell) (bs : List Bind) (k w : ℕ) where
+module _ (cs : List Cell) (bs : List Slot) (k w : ℕ) where
   pub found-variable : (x : ℕ) (r : Argument) → k ≡ 7 → x ≡ w → r ≡ found_of cs (slot_at bs x) → r ≡ param_found cs bs (param_of k w)
   unfolding param_found
   found-variable x r e f g = g ∙ ap (λ x. found_of cs (slot_at bs x)) f ∙ sym (ap (param_found cs bs) (param-variable k w e))
@@ -148,7 +147,7 @@ look-slot cs slots.Empty l = refl
 look-slot cs (slots.Value v) l = refl
 look-slot cs (slots.Cell c) l = look-held c (cell_at cs c).value l
 
-look-next : (cs : List Cell) (bs : List Bind) (q : Param) (ps : List Param)
+look-next : (cs : List Cell) (bs : List Slot) (q : Param) (ps : List Param)
     → look cs bs (q ∷ ps) ≡ after (param_found cs bs q) (look cs bs ps)
 unfolding look param_found after
 look-next cs bs (constant v) ps = refl
@@ -180,7 +179,7 @@ filled_more i vs v l o =
       zeros = drop-set-lt (i + 1) vs i v (omega arith) ∙ zeros-less (pos 0) vs i 4 l o.zeros;
     }
 
-module _ (cs : List Cell) (bs : List Bind) (ps : List Param) (i : ℕ) (vs : List ℤ) where
+module _ (cs : List Cell) (bs : List Slot) (ps : List Param) (i : ℕ) (vs : List ℤ) where
   -- .. and what is left to look up
   abbrev pub Looking : Type 0
   Looking = look cs bs ps ≡ behind (take i vs) (look cs bs (drop i ps))
@@ -256,7 +255,7 @@ bound-found cs slots.Empty e f = clash e refl
 bound-found cs (slots.Value v) e f = never cc
 bound-found cs (slots.Cell c) e f = held_found_lem c (cell_at cs c).value f
 
-param-found : (cs : List Cell) (bs : List Bind) (q : Param) → not_empty bs q ≡ true → param_found cs bs q ≡ arguments.Nothing → ⊥
+param-found : (cs : List Cell) (bs : List Slot) (q : Param) → not_empty bs q ≡ true → param_found cs bs q ≡ arguments.Nothing → ⊥
 unfolding param_found not_empty
 param-found cs bs (constant v) e f = never cc
 param-found cs bs (variable x) e f = bound-found cs (slot_at bs x) e f
@@ -270,7 +269,7 @@ after-count n (arguments.Value v) (unset c) vs f g e = never cc
 after-count n (arguments.Unset c) l vs f g e = never cc
 after-count n arguments.Nothing l vs f g e = absurd (f refl)
 
-pub look-count : (cs : List Cell) (bs : List Bind) (ps : List Param) (vs : List ℤ) → for_all (not_empty bs) ps ≡ true
+pub look-count : (cs : List Cell) (bs : List Slot) (ps : List Param) (vs : List ℤ) → for_all (not_empty bs) ps ≡ true
     → look cs bs ps ≡ values vs
     → length vs ≡ length ps
 unfolding look
@@ -304,7 +303,7 @@ slot-below cs slots.Empty d r e = never cc
 slot-below cs (slots.Value v) d r e = never cc
 slot-below cs (slots.Cell c) d r e = subst (λ i. i < 32) (held_below c d (cell_at cs c).value e) (ltb-lt c 32 r)
 
-module _ (cs : List Cell) (bs : List Bind) (r : for_all (λ (b : Bind). slot_in_range 32 b.slot) bs ≡ true) where
+module _ (cs : List Cell) (bs : List Slot) (r : for_all (slot_in_range 32) bs ≡ true) where
   param-below : (q : Param) (d : ℕ) → param_found cs bs q ≡ arguments.Unset d → d < 32
   unfolding param_found
   param-below (constant v) d e = never cc

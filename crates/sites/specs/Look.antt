@@ -8,7 +8,6 @@ use Rattle.model.specs.Machine.Reply.{report_values}
 use Rattle.model.specs.Machine.Step.{LookUpResult, values, unset, and_then}
 use Rattle.model.specs.declared.token.Slot.{Slot}
 use Rattle.model.specs.declared.token.Slot.TheVariants as slots
-use Rattle.model.specs.declared.token.Bind.{Bind}
 use Rattle.model.specs.Machine.Held.{Held}
 use Rattle.model.specs.declared.cell.Cell.{Cell}
 use Rattle.model.specs.declared.record.Machine.{Machine}
@@ -25,7 +24,7 @@ found_of cs slots.Empty = arguments.Nothing
 found_of cs (slots.Value v) = arguments.Value v
 found_of cs (slots.Cell c) = held_found c (cell_at cs c).value
 
-unfoldable pub param_found : List Cell → List Bind → Param → Argument
+unfoldable pub param_found : List Cell → List Slot → Param → Argument
 param_found cs bs (variable x) = found_of cs (slot_at bs x)
 param_found cs bs (constant v) = arguments.Value v
 
@@ -42,5 +41,5 @@ look_up_of (unset c) = record { unset = c; values = report_values [] }
 
 -- the token's variables and the cells have values and places in range
 pub record LookFacts (m : Machine) (p : ℕ) : Type 0 where
-  pub slots : for_all (λ (b : Bind). slot_in_range 32 b.slot) (token_at m.tokens p).binds ≡ true
+  pub slots : for_all (slot_in_range 32) (token_at m.tokens p).binds ≡ true
   pub cells : for_all (λ (c : Cell). held_in_range c.value) m.cells ≡ true

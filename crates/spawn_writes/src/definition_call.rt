@@ -29,7 +29,7 @@ use writes::dag::dag_word;
 fn pass(w: &mut [u32; Machine::WORDS], p: usize, new: usize, i: usize, kind: u32, number: u32)
     requires { (p < 64) × (new < 64) × (i < 8) × (param_holds (param_of kind number) ≡ true) }
     ensures { (m : Machine) (t : Token) → Holds w.old (put new t m) → (p ≡ new → ⊥)
-        → Holds w.new (put new (with_binding i (passed (token_at m.tokens p).binds (param_of kind number)).slot t) m) }
+        → Holds w.new (put new (with_binding i (passed (token_at m.tokens p).binds (param_of kind number)) t) m) }
 {
     if kind == VARIABLE {
         let x = wide(number);

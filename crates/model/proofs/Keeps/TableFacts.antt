@@ -28,7 +28,6 @@ use Rattle.model.specs.Machine.Clock.{woken_by}
 use Rattle.model.specs.Machine.State.{is_due_by, waits_at}
 use Rattle.model.specs.declared.token.Slot.{Slot}
 use Rattle.model.specs.declared.token.Slot.TheVariants as slots
-use Rattle.model.specs.declared.token.Bind.{Bind}
 use Rattle.model.specs.declared.token.State.{State}
 use Rattle.model.specs.declared.token.State.TheVariants as states
 use Rattle.model.specs.declared.token.Token.{Token}
@@ -43,38 +42,38 @@ use Rattle.model.proofs.Machine.Clock.{woken-at}
 use Rattle.model.proofs.Machine.TableRows.{token-same, token-other, cell_same, cell_other}
 
 -- the values that variables are bound to
-abbrev pub BindsFit : List Bind → Type 0
+abbrev pub BindsFit : List Slot → Type 0
 BindsFit bs = (x : ℕ) (v : ℤ) → slot_at bs x ≡ slots.Value v → Signed32 v
 
 pub unbound-fit : BindsFit unbound
 unbound-fit x v e =
     let y : slots.Empty ≡ slots.Value v = sym (unbound-empty 8 x) ∙ e in never cc
 
-pub binds-written : (bs : List Bind) (x : ℕ) (s : Slot) → ((v : ℤ) → s ≡ slots.Value v → Signed32 v) → BindsFit bs
-    → BindsFit (set bs x (record { slot = s }))
+pub binds-written : (bs : List Slot) (x : ℕ) (s : Slot) → ((v : ℤ) → s ≡ slots.Value v → Signed32 v) → BindsFit bs
+    → BindsFit (set bs x s)
 unfolding slot_at
-binds-written bs x s g f y v = go (written bs x (record { slot = s }) empty y)
+binds-written bs x s g f y v = go (written bs x s empty y)
   where
-    now : Bind
-    now = get_or (set bs x (record { slot = s })) y empty
+    now : Slot
+    now = get_or (set bs x s) y empty
 
-    go : ((y ≡ x) × (now ≡ record { slot = s })) ⊎ (now ≡ get_or bs y empty) → now.slot ≡ slots.Value v → Signed32 v
-    go (inl w) e = g v (ap (λ (b : Bind). b.slot) (sym w.1) ∙ e)
-    go (inr w) e = f y v (ap (λ (b : Bind). b.slot) (sym w) ∙ e)
+    go : ((y ≡ x) × (now ≡ s)) ⊎ (now ≡ get_or bs y empty) → now ≡ slots.Value v → Signed32 v
+    go (inl w) e = g v (sym w.1 ∙ e)
+    go (inr w) e = f y v (sym w ∙ e)
 
-passed-fits : (bs : List Bind) → BindsFit bs → (p : Param) → param_holds p ≡ true → (v : ℤ) → (passed bs p).slot ≡ slots.Value v
+passed-fits : (bs : List Slot) → BindsFit bs → (p : Param) → param_holds p ≡ true → (v : ℤ) → passed bs p ≡ slots.Value v
     → Signed32 v
 unfolding passed param_holds
 passed-fits bs f (variable x) k v e = f x v e
 passed-fits bs f (constant w) k v e = subst Signed32 (let z : w ≡ v = cc in z) k
 
-pub formals-fit : (bs : List Bind) (ps : List Param) → for_all param_holds ps ≡ true → BindsFit bs → BindsFit (formals_bound bs ps)
+pub formals-fit : (bs : List Slot) (ps : List Param) → for_all param_holds ps ≡ true → BindsFit bs → BindsFit (formals_bound bs ps)
 unfolding formals_bound slot_at
 formals-fit bs ps k f y v e = go (length ps) ps k y e
   where
     go : (n : ℕ) (ps : List Param) → for_all param_holds ps ≡ true → (y : ℕ)
-        → (get_or (map (passed bs) ps ++ drop n unbound) y empty).slot ≡ slots.Value v → Signed32 v
-    go n [] k y e = unbound-fit (n + y) v (ap (λ (b : Bind). b.slot) (sym (get_or-drop n unbound y empty)) ∙ e)
+        → get_or (map (passed bs) ps ++ drop n unbound) y empty ≡ slots.Value v → Signed32 v
+    go n [] k y e = unbound-fit (n + y) v (sym (get_or-drop n unbound y empty) ∙ e)
     go n (p ∷ ps) k zero e = passed-fits bs f p (all_head param_holds p ps k) v e
     go n (p ∷ ps) k (suc y) e = go n ps (all_tail param_holds p ps k) y e
 

@@ -16,7 +16,6 @@ use Rattle.model.specs.Machine.State.{is_live}
 use Rattle.model.specs.Machine.InUse.{TokenInUse, CellInUse, active_places, bound_cell, cells_of, cells_of_marked, used_tokens, used_cells}
 use Rattle.model.specs.declared.token.Slot.{Slot}
 use Rattle.model.specs.declared.token.Slot.TheVariants as slots
-use Rattle.model.specs.declared.token.Bind.{Bind}
 use Rattle.model.specs.Machine.Held.{Place}
 use Rattle.model.specs.declared.token.Token.{Token}
 use Rattle.model.specs.declared.cell.Cell.{Cell}
@@ -129,27 +128,26 @@ pub record CellsIn (Q : ℕ → Type 0) (t : Token) : Type 0 where
   pub cell : Names Q t.cell
   pub binds : (x c : ℕ) → slot_at t.binds x ≡ slots.Cell c → Q c
 
-abbrev slot_place : Slot → Place
-slot_place s = elim s [ slots.Empty ↦ None | slots.Value v ↦ None | slots.Cell c ↦ Some c ]
+slot-place : (s : Slot) (c : ℕ) → s ≡ slots.Cell c → bound_cell s ≡ Some c
+unfolding bound_cell
+slot-place s c e = ap bound_cell e
 
-slot-place : (s : Slot) (c : ℕ) → s ≡ slots.Cell c → slot_place s ≡ Some c
-slot-place s c e = ap slot_place e
-
-place-slot : (s : Slot) (c : ℕ) → slot_place s ≡ Some c → s ≡ slots.Cell c
+place-slot : (s : Slot) (c : ℕ) → bound_cell s ≡ Some c → s ≡ slots.Cell c
+unfolding bound_cell
 place-slot slots.Empty c e = never cc
 place-slot (slots.Value v) c e = never cc
 place-slot (slots.Cell b) c e = ap slots.Cell (let z : b ≡ c = cc in z)
 
-bound-place : (bs : List Bind) (x c : ℕ) → slot_at bs x ≡ slots.Cell c → Memᴰ (Some c) (map bound_cell bs)
-unfolding slot_at bound_cell
+bound-place : (bs : List Slot) (x c : ℕ) → slot_at bs x ≡ slots.Cell c → Memᴰ (Some c) (map bound_cell bs)
+unfolding slot_at
 bound-place [] x c e = never cc
-bound-place (b ∷ bs) zero c e = Memᴰ.head (sym (slot-place b.slot c e))
+bound-place (b ∷ bs) zero c e = Memᴰ.head (sym (slot-place b c e))
 bound-place (b ∷ bs) (suc x) c e = Memᴰ.tail (bound-place bs x c e)
 
-place-bound : (bs : List Bind) (c : ℕ) → Memᴰ (Some c) (map bound_cell bs) → (x : ℕ) × (slot_at bs x ≡ slots.Cell c)
-unfolding slot_at bound_cell
+place-bound : (bs : List Slot) (c : ℕ) → Memᴰ (Some c) (map bound_cell bs) → (x : ℕ) × (slot_at bs x ≡ slots.Cell c)
+unfolding slot_at
 place-bound [] c m = absurd (Memᴰ.not-nil m)
-place-bound (b ∷ bs) c (Memᴰ.head e) = (0, place-slot b.slot c (sym e))
+place-bound (b ∷ bs) c (Memᴰ.head e) = (0, place-slot b c (sym e))
 place-bound (b ∷ bs) c (Memᴰ.tail m) = let y = place-bound bs c m in (suc y.0, y.1)
 
 cells-of : (Q : ℕ → Type 0) (t : Token) → ((c : ℕ) → Memᴰ (Some c) (cells_of t) → Q c) → CellsIn Q t

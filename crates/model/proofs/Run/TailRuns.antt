@@ -85,7 +85,7 @@ callee-inherits = (refl, refl)
 -- the formals are bound all at once: E(x, y) = E(y, x), goal E(1, 2)
 pub formals-change-places :
     (token_of (defining 2 (E (v 1 ∷ v 0 ∷ [])) (E (# 1 ∷ # 2 ∷ []))) 2 1).binds
-    ≡ record { slot = slots.Value (pos 2) } ∷ record { slot = slots.Value (pos 1) } ∷ replicate 6 empty
+    ≡ slots.Value (pos 2) ∷ slots.Value (pos 1) ∷ replicate 6 empty
 unfolding computing outcome_of machine_after
 formals-change-places = refl
 
@@ -94,7 +94,7 @@ formals-change-places = refl
 abbrev pub passes_its_cell : Program
 passes_its_cell = defining 1 ((let' (v 1) >[ 2 ]> E (v 1 ∷ [])) <[ 1 ]< let' (# 7)) (E (# 1 ∷ []))
 
-pub cell-passed-on : (token_of passes_its_cell 15 1).binds ≡ record { slot = slots.Cell 1 } ∷ replicate 7 empty
+pub cell-passed-on : (token_of passes_its_cell 15 1).binds ≡ slots.Cell 1 ∷ replicate 7 empty
 unfolding computing outcome_of machine_after
 cell-passed-on = refl
 

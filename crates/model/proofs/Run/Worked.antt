@@ -67,7 +67,7 @@ handle-not-given-again = refl
 
 -- E(x) = 17() >z> let(x), goal let(4) >a> (E(y) <y< 16()): the caller has a and y bound, the callee x alone, to y's cell
 pub callee-has-its-formals :
-    (queued_token (after runner same_number (house 4)) 1).binds ≡ record { slot = slots.Cell 0 } ∷ replicate 7 empty
+    (queued_token (after runner same_number (house 4)) 1).binds ≡ slots.Cell 0 ∷ replicate 7 empty
 unfolding computing outcome_of machine_after
 callee-has-its-formals = refl
 

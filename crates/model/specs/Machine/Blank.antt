@@ -6,18 +6,17 @@ use Rattle.model.specs.Machine.State.{is_blank_state}
 use Rattle.model.specs.Machine.Limits.{Limits}
 use Rattle.model.specs.declared.token.Slot.{Slot}
 use Rattle.model.specs.declared.token.Slot.TheVariants as slots
-use Rattle.model.specs.declared.token.Bind.{Bind}
 use Rattle.model.specs.Machine.Held.{Held, Place}
 use Rattle.model.specs.declared.token.State.TheVariants as states
 use Rattle.model.specs.declared.token.Token.{Token}
 use Rattle.model.specs.declared.cell.Cell.{Cell}
 use Rattle.model.specs.declared.record.Machine.{Machine}
 
-abbrev pub empty : Bind
-empty = record { slot = slots.Empty }
+abbrev pub empty : Slot
+empty = slots.Empty
 
 -- "nothing bound"
-abbrev pub unbound : List Bind
+abbrev pub unbound : List Slot
 unbound = replicate scope_limit empty
 
 abbrev pub blank_token : Token
@@ -59,8 +58,8 @@ token_at ts p = get_or ts p blank_token
 unfoldable pub cell_at : List Cell → ℕ → Cell
 cell_at cs c = get_or cs c blank_cell
 
-unfoldable pub slot_at : List Bind → ℕ → Slot
-slot_at bs x = (get_or bs x empty).slot
+unfoldable pub slot_at : List Slot → ℕ → Slot
+slot_at bs x = (get_or bs x empty)
 
 unfoldable pub is_bound : Slot → Bool
 is_bound slots.Empty = false
@@ -79,7 +78,7 @@ unfoldable pub token_is_blank : Token → Bool
 token_is_blank t =
     is_blank_state t.state
     and eqb t.node 0
-    and for_all (λ (b : Bind). not (is_bound b.slot)) t.binds
+    and for_all (λ (b : Slot). not (is_bound b)) t.binds
     and not (has_value t.value)
     and not (is_place t.caller)
     and not (is_place t.cell)

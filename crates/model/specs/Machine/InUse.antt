@@ -5,7 +5,7 @@ use Rattle.model.specs.Machine.Limits.{Limits}
 use Rattle.model.specs.Machine.Blank.{blank_token, blank_cell, token_at, cell_at, slot_at}
 use Rattle.model.specs.Machine.Active.{is_active}
 use Rattle.model.specs.declared.token.Slot.TheVariants as slots
-use Rattle.model.specs.declared.token.Bind.{Bind}
+use Rattle.model.specs.declared.token.Slot.{Slot}
 use Rattle.model.specs.Machine.Held.{Place}
 use Rattle.model.specs.declared.token.Token.{Token}
 use Rattle.model.specs.declared.cell.Cell.{Cell}
@@ -52,8 +52,8 @@ active_places cs i (t ∷ ts) =
     let rest = active_places cs (suc i) ts in elim (is_active cs t) [ true ↦ Some i ∷ rest | false ↦ rest ]
 
 -- the links: a token reaches its caller, its cell and the cells bound in it; a cell reaches its parent
-unfoldable pub bound_cell : Bind → Place
-bound_cell b = elim b.slot [ slots.Empty ↦ None | slots.Value v ↦ None | slots.Cell c ↦ Some c ]
+unfoldable pub bound_cell : Slot → Place
+bound_cell b = elim b [ slots.Empty ↦ None | slots.Value v ↦ None | slots.Cell c ↦ Some c ]
 
 unfoldable pub cells_of : Token → List Place
 cells_of t = t.cell ∷ map bound_cell t.binds

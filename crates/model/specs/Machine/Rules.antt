@@ -13,7 +13,6 @@ use Rattle.model.specs.Machine.Active.{cell_is_set, under_set}
 use Rattle.model.specs.Machine.InUse.{tokens_used, used_cells}
 use Rattle.model.specs.declared.token.Slot.{Slot}
 use Rattle.model.specs.declared.token.Slot.TheVariants as slots
-use Rattle.model.specs.declared.token.Bind.{Bind}
 use Rattle.model.specs.Machine.Held.{Held, Place}
 use Rattle.model.specs.declared.token.State.{State}
 use Rattle.model.specs.declared.token.State.TheVariants as states
@@ -48,7 +47,7 @@ unfoldable pub token_in_range : Limits → Dag → (calls : ℕ) → Token → B
 token_in_range lim d calls t =
     is_node d t.node
     and eqb (length t.binds) scope_limit
-    and for_all (λ (b : Bind). slot_in_range lim.cell_places b.slot) t.binds
+    and for_all (slot_in_range lim.cell_places) t.binds
     and held_in_range t.value
     and place_in_range lim.token_places t.caller
     and place_in_range lim.cell_places t.cell
@@ -108,7 +107,7 @@ unfoldable pub names_frame : List Token → Place → Bool
 names_frame ts None = false
 names_frame ts (Some p) = is_frame (token_at ts p).state
 
-unfoldable pub not_empty : List Bind → Param → Bool
+unfoldable pub not_empty : List Slot → Param → Bool
 not_empty bs (variable x) = is_bound (slot_at bs x)
 not_empty bs (constant v) = true
 

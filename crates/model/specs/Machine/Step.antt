@@ -18,7 +18,7 @@ use Rattle.model.specs.Machine.Rules.{rules_hold}
 use Rattle.model.specs.Machine.State.{is_ready, is_waiting, is_due, waits_at}
 use Rattle.model.specs.Machine.Reply.{Effect, moves, waits, publishes, calls, refuses, unless, outcome}
 use Rattle.model.specs.declared.token.Slot.TheVariants as slots
-use Rattle.model.specs.declared.token.Bind.{Bind}
+use Rattle.model.specs.declared.token.Slot.{Slot}
 use Rattle.model.specs.Machine.Held.{Held, Place}
 use Rattle.model.specs.declared.token.State.TheVariants as states
 use Rattle.model.specs.declared.token.Token.{Token}
@@ -35,7 +35,7 @@ unfoldable pub and_then : ℤ → LookUpResult → LookUpResult
 and_then v (values vs) = values (v ∷ vs)
 and_then v (unset c) = unset c
 
-module _ (cs : List Cell) (bs : List Bind) where
+module _ (cs : List Cell) (bs : List Slot) where
   unfoldable pub look : List Param → LookUpResult
   look [] = values []
   look (constant v ∷ ps) = and_then v (look ps)
@@ -48,12 +48,12 @@ module _ (cs : List Cell) (bs : List Bind) where
       ]
 
 -- "A variable's binding is passed on as it is, its cell set or unset"
-unfoldable pub passed : List Bind → Param → Bind
-passed bs (variable x) = record { slot = slot_at bs x }
-passed bs (constant v) = record { slot = slots.Value v }
+unfoldable pub passed : List Slot → Param → Slot
+passed bs (variable x) = slot_at bs x
+passed bs (constant v) = slots.Value v
 
 -- "only its formals bound"
-unfoldable pub formals_bound : List Bind → List Param → List Bind
+unfoldable pub formals_bound : List Slot → List Param → List Slot
 formals_bound bs ps = map (passed bs) ps ++ drop (length ps) unbound
 
 -- ".. the callee is .. in the token's cell, with no value and only its formals bound"

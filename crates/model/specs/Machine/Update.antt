@@ -17,7 +17,7 @@ unfoldable pub with_binding : ℕ → Slot → Token → Token
 with_binding x s t =
     record {
       node = t.node;
-      binds = set t.binds x (record { slot = s });
+      binds = set t.binds x s;
       value = t.value;
       caller = t.caller;
       cell = t.cell;
