@@ -3,7 +3,7 @@
 use mathlib.Core.Path.{◌≡◌, refl, sym, ap, ap₂, subst, ◌∙◌}
 use mathlib.Core.Bool.{Bool, true}
 use mathlib.Core.List.{List, [], ◌∷◌, ◌++◌}
-use Prim.Native.Nat.{ℕ, zero, suc, ◌+◌, ◌-◌, ◌*◌, ◌^◌, ◌<◌, ◌≤◌}
+use Prim.Native.Nat.{ℕ, zero, suc, ◌+◌, ◌*◌, ◌^◌, ◌<◌, ◌≤◌}
 use native.Mathlib.Nat.{mul-zero, mul-suc}
 use native.Mathlib.Numerals.{add-one}
 use native.Mathlib.Omega.{arith}
@@ -13,7 +13,7 @@ use lib.Seq.{get_or-drop, drop-drop, drop-cons, take-add, length-take-le, take_a
 use Rattle.model.specs.declared.token.Slot.TheVariants as slots
 use Rattle.model.specs.declared.token.Held.TheVariants as helds
 use Rattle.model.specs.declared.token.State.TheVariants as states
-use Rattle.job.specs.Test.{◌and◌, same}
+use Rattle.job.specs.Test.{same}
 use Rattle.model.specs.Machine.Blank.{blank_token, token_at, slot_at}
 use Rattle.model.specs.declared.token.Slot.{Slot}
 use Rattle.model.specs.declared.token.Held.{Held}

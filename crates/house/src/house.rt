@@ -21,12 +21,6 @@ use unchecked::start::start;
 // "With 100,000 steps made and a token ready: `limit`."
 const STEPS: u32 = 100000;
 
-// Says to the proof how many words the array has.
-pub fn whole(dag: &[u32])
-    requires { length dag.now ≡ 12331 }
-    ensures { length dag.now ≡ 12331 }
-{}
-
 // The turns of a run, from the record of its start.
 fn run_turns(
     w: &mut [u32; Machine::WORDS],
@@ -74,7 +68,6 @@ pub fn run(rest: &[u8], dag: &[u32; WORDS], output: &mut [u8], from: usize) -> u
     ensures { ShowsBytes output.old from 0 (text_of_all (run_lines paper 100000 (dag_of dag.now) rest.now))
         output.new result }
 {
-    whole(dag);
     let mut words = [0u32; Machine::WORDS];
     let mut tokens = [false; Machine::TOKENS];
     let mut cells = [false; Machine::CELLS];

@@ -1,5 +1,5 @@
 // Index rules of words, once for both calls.
-ghost use Rattle.std.specs.Prelude.{◌≡◌, true, length};
+ghost use Rattle.std.specs.Prelude.{◌≡◌, true};
 ghost use Rattle.job.specs.Words.{dag_of};
 ghost use Rattle.model.specs.Machine.Limits.{paper};
 ghost use Rattle.model.specs.Machine.Rules.{rules_hold};
@@ -13,12 +13,6 @@ use model::record::Machine;
 use reach::used::in_use;
 use rules::rules::rules_hold;
 
-// Says to the proof how many words the array has.
-fn whole(dag: &[u32])
-    requires { length dag.now ≡ 12331 }
-    ensures { length dag.now ≡ 12331 }
-{}
-
 // "14: dag or machine record breaks an index rule." Where none does, the marks say what is in use.
 pub(crate) fn is_lawful(
     w: &[u32; Machine::WORDS],
@@ -29,7 +23,6 @@ pub(crate) fn is_lawful(
     ensures value { result ≡ (is_record w.now and rules_hold paper (dag_of dag.now) (machine_of w.now)) }
     ensures lawful { result ≡ true → Lawful w.now tokens.new cells.new dag.now (machine_of w.now) }
 {
-    whole(dag);
     in_use(w, tokens, cells);
     rules_hold(w, dag, tokens, cells)
 }

@@ -33,7 +33,7 @@ use Rattle.record.proofs.LayoutParts.{row-wide, cell-wide}
 use Rattle.record.proofs.CellRow.{cell-word}
 use Rattle.record.proofs.TokenRow.{token-word}
 use Rattle.coded.specs.WordTests.{token_coded, cell_at_coded}
-use Rattle.coded.proofs.WordTests.{zero_row, cell-rest}
+use Rattle.coded.proofs.WordTests.{zero_row, zero_cell}
 use Rattle.row_rules.proofs.ZeroRows.{zero_word, rows-zero}
 
 state-zero : (s : State) (b : Bool) → (eqb 0 (state_kind s) and eqb 0 (state_number s) and b) ≡ (is_blank_state s and b)
@@ -152,12 +152,11 @@ module _ (ws : List ℕ) (from : ℕ) (l : from ≤ 32) where
 
   pub cells-coded : length ws ≡ 1863 → zero_cells ≡ true → (c : ℕ) → from ≤ c → c < 32 → cell_at_coded ws c ≡ true
   cells-coded long e c f b =
-      let zero : (j : ℕ) → j < 4 → 0 ≡ get_or ws (1536 + 4 * c + j) 0 =
-      λ j s.
+      zero_cell ws (1536 + 4 * c)
+      (λ j s.
       let z : 1536 + 4 * from + (4 * (c - from) + j) ≡ 1536 + 4 * c + j = omega arith in
-      sym (zero_word ws (1536 + 4 * from) (1664 - (1536 + 4 * from)) (4 * (c - from) + j) (omega arith) e (omega arith))
-      ∙ ap (λ i. get_or ws i 0) z in
-      sym (cell-rest ws (1536 + 4 * c) 0 0 true (zero 1 (omega arith)) (zero 2 (omega arith)) refl 0 (zero 3 (omega arith)) refl)
+      sym (ap (λ i. get_or ws i 0) z)
+      ∙ zero_word ws (1536 + 4 * from) (1664 - (1536 + 4 * from)) (4 * (c - from) + j) (omega arith) e (omega arith))
 
   pub cells-blank : (m : Machine) → Codes ws m → zero_cells ≡ for_all cell_is_blank (drop from m.cells)
   unfolding cell_at

@@ -3,7 +3,6 @@ ghost use Rattle.rules.specs.Tested.{Tested};
 
 use crate::cells::cells_hold;
 use crate::tokens::tokens_hold;
-use coded::word_tests::whole;
 use dag_rules::dag::dag_holds;
 use job::dag::WORDS;
 use model::record::Machine;
@@ -19,7 +18,6 @@ pub fn rules_hold(
 ) -> bool
     ensures { Tested w.now dag.now tokens.now cells.now result }
 {
-    whole(w);
     if !dag_holds(dag) {
         return false;
     }

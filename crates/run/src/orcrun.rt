@@ -5,7 +5,7 @@ ghost use Rattle.lines.specs.Shown.{shown};
 ghost use Rattle.run.specs.Input.{dag_after};
 
 use crate::input::table_end;
-use house::house::{run, whole};
+use house::house::run;
 use job::dag::WORDS;
 use lines::line;
 use lines::shown::show_front;
@@ -24,7 +24,6 @@ pub fn orcrun(input: &[u8], from: usize, dag: &mut [u32; WORDS], output: &mut [u
         return show_front(&buffer, n, output, from, 0);
     }
     let end = table_end(input);
-    whole(dag);
     let answer = load(&input[0..end], dag);
     match answer {
         Loaded::Refused(number, entry) => {

@@ -18,6 +18,6 @@ returns c = let tested = c.rules_hold.ensures in record {
         holds = rules-hold-words paper _ _ hold codes;
         rules = hold;
         marks = record { tokens = marks.0; cells = marks.1 };
-        size = c.whole.ensures;
+        size = c.told-dag;
       });
 }

@@ -39,7 +39,7 @@ slice_bounds-run-count c = let z = inside _ _ c.table_end-end.ensures in search 
 
 pub run-requires : goal.run-requires
 run-requires c = (
-  run-accepted _ _ c.table_end-end.ensures c.if-input-gt65536.false _ _ _ c.whole.ensures
+  run-accepted _ _ c.table_end-end.ensures c.if-input-gt65536.false _ _ _ c.told-dag
       (sym c.in-Dag.is ∙ c.load-answer.ensures.value) c.load-answer.ensures.dag_after,
   search rules,
 )
@@ -59,7 +59,7 @@ returns-in-Refused c = let line = shows-line c.put_table-n.ensures blank-line c.
 pub returns-in-Dag : goal.returns-in-Dag
 returns-in-Dag c = let accepted = sym c.in-Dag.is ∙ c.load-answer.ensures.value in
     let whole =
-    whole_run _ _ c.table_end-end.ensures c.if-input-gt65536.false _ _ _ c.whole.ensures accepted c.load-answer.ensures.dag_after in
+    whole_run _ _ c.table_end-end.ensures c.if-input-gt65536.false _ _ _ c.told-dag accepted c.load-answer.ensures.dag_after in
     let all = shown-all (shows-as whole c.run.ensures) in
     record {
       value = all.0;
