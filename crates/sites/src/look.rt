@@ -12,7 +12,6 @@ ghost use Rattle.sites.specs.Row.{params_at, ParamsHold};
 
 use crate::number::signed;
 use job::dag::{PARAMETER_COUNT, PARAMETER_KIND, VARIABLE, WORDS};
-use job::wide::wide;
 use model::record::Machine;
 use record::layout::{EMPTY_SLOT, VALUE_SLOT};
 use record::{cell, token};
@@ -26,7 +25,7 @@ fn cell_argument(w: &[u32; Machine::WORDS], number: u32) -> Result<Option<i32>, 
     ensures { (m : Machine) → Codes w.now m → number < 32 → held_in_range (cell_at m.cells number).value ≡ true
         → result ≡ held_found number (cell_at m.cells number).value }
 {
-    let c = wide(number);
+    let c = number as usize;
     if Machine::CELLS <= c {
         return Ok(None);
     }
@@ -70,7 +69,7 @@ fn param_argument(
 {
     let word = dag[at + 1];
     if dag[at] == VARIABLE {
-        return variable_argument(w, p, wide(word));
+        return variable_argument(w, p, word as usize);
     }
     Ok(Some(signed(word)))
 }
@@ -86,7 +85,7 @@ pub fn look_up(
     ensures { (m : Machine) → Codes w.now m → LookFacts m p
         → result ≡ look_up_of (look m.cells (token_at m.tokens p).binds (params_at dag.now at)) }
 {
-    let count = wide(dag[at + PARAMETER_COUNT]);
+    let count = dag[at + PARAMETER_COUNT] as usize;
     let mut values = [0; 4];
     for i in 0..count {
         let Some(v) = param_argument(w, dag, p, at + PARAMETER_KIND + 2 * i)? else {
