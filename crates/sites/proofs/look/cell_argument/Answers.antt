@@ -6,8 +6,6 @@ use native.Mathlib.Omega.{arith}
 use mir.Syntax.{w32}
 use mir.Val.{SFits}
 use mir.Facts.{to_z-of_z}
-use Rattle.model.specs.Machine.Blank.{cell_at}
-use Rattle.record.specs.Layout.{held_kind, held_number}
 use Rattle.sites.proofs.LookLaws.{cell-unset, cell_set}
 use Rattle.std.specs.Prelude.{Some, Ok}
 use Rattle.sites.proofs.look.cell_argument.Goals as goal
