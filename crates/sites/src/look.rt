@@ -21,6 +21,7 @@ use record::{cell, token};
 pub struct UnsetCell(pub u32);
 
 // A cell's value, where there is such a cell.
+#[tactic(auto, unfolding(crate::specs::Look::held_found))]
 fn cell_argument(w: &[u32; Machine::WORDS], number: u32) -> Result<Option<i32>, UnsetCell>
     ensures { (m : Machine) → Codes w.now m → number < 32 → held_in_range (cell_at m.cells number).value ≡ true
         → result ≡ held_found number (cell_at m.cells number).value }
@@ -36,6 +37,7 @@ fn cell_argument(w: &[u32; Machine::WORDS], number: u32) -> Result<Option<i32>, 
 }
 
 // A variable's value, where it is bound.
+#[tactic(auto, unfolding(crate::specs::Look::found_of))]
 fn variable_argument(
     w: &[u32; Machine::WORDS],
     p: usize,

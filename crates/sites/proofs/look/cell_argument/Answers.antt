@@ -2,21 +2,12 @@
 -- nothing.
 use mathlib.Core.Path.{ap, ◌∙◌}
 use borrow.Author.Rules.{rules}
-use native.Mathlib.Omega.{arith}
 use mir.Syntax.{w32}
 use mir.Val.{SFits}
 use mir.Facts.{to_z-of_z}
-use Rattle.sites.proofs.LookLaws.{cell-unset, cell_set}
+use Rattle.sites.proofs.LookLaws.{cell_set}
 use Rattle.std.specs.Prelude.{Some, Ok}
 use Rattle.sites.proofs.look.cell_argument.Goals as goal
-
-pub returns-then-c-ge-CELLS : goal.returns-then-c-ge-CELLS
-returns-then-c-ge-CELLS c = λ m h l r. absurd (omega arith)
-
-pub returns-then-value_kind-eq0 : goal.returns-then-value_kind-eq0
-returns-then-value_kind-eq0 c = λ m h l r. cell-unset _ _ _
-    (c.value_kind.ensures m h)
-    c.if-value_kind-eq0.true
 
 pub returns : goal.returns
 returns c = λ m h l r.
