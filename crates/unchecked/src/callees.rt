@@ -11,7 +11,6 @@ ghost use Rattle.acts.specs.Acting.{SomeMachine, Acting};
 ghost use Rattle.acts.specs.SharedFrames.{OneCallee, caller_shared, Stepped};
 
 use job::dag::{NEXT_NODE, WORDS};
-use job::wide::wide;
 use model::record::Machine;
 use model::reply::Report;
 use record::token::caller;
@@ -29,7 +28,7 @@ fn share_caller(w: &[u32; Machine::WORDS], p: usize, shared: &mut [bool])
     ensures { (m : Machine) → Codes w.now m
         → shared.new ≡ caller_shared (token_at m.tokens p).caller shared.old }
 {
-    let f = wide(caller(w, p));
+    let f = caller(w, p) as usize;
     if 0 < f {
         if f <= Machine::TOKENS {
             shared[f - 1] = true;
@@ -103,7 +102,7 @@ pub(crate) fn call_marked(
         shared.new result }
 {
     shared[p] = false;
-    let next = wide(dag_word(dag, at + NEXT_NODE));
+    let next = dag_word(dag, at + NEXT_NODE) as usize;
     if is_tail(dag, next) {
         return tail_call(w, tokens, cells, dag, place, p, at);
     }
@@ -127,7 +126,7 @@ pub(crate) fn return_marked(
         → Stepped (Step.step paper (dag_of dag.now) m place) m w.new tokens.new cells.new
         shared.new result }
 {
-    let f = wide(caller(w, p)) - 1;
+    let f = caller(w, p) as usize - 1;
     if is_shared(shared, f) {
         share_caller(w, f, shared);
         return return_value(w, tokens, cells, dag, place, p, at, true);

@@ -8,7 +8,6 @@ ghost use Rattle.acts.specs.SharedFrames.{OneCallee, Stepped};
 
 use crate::act::act;
 use job::dag::{HEAD_WORDS, ROW_WORDS, WORDS};
-use job::wide::wide;
 use model::record::Machine;
 use model::reply::Report;
 use record::order::{Queue, place_at};
@@ -29,7 +28,7 @@ pub fn step(
         → Stepped (Step.step paper (dag_of dag.now) m place) m w.new tokens.new cells.new
         shared.new result }
 {
-    let p = wide(place_at::<Queue>(w, place));
-    let at = HEAD_WORDS + ROW_WORDS * wide(node(w, p));
+    let p = queue_name(w, place) as usize;
+    let at = HEAD_WORDS + ROW_WORDS * node(w, p) as usize;
     act(w, tokens, cells, shared, dag, place, p, at)
 }
