@@ -63,7 +63,7 @@ pub(crate) fn deliver_turn(
         → TurnLeaves (turn_outcome (dag_of dag) m rest.now at) m w.new tokens.now cells shared
         output.old from total output.new (goes_on result) }
 {
-    let end = few_or_all(tokens, Machine::TOKENS);
+    let end = few_or_all(tokens);
     let number = deliver(w, rest, at, end);
     if number == 0 {
         return total;

@@ -1,8 +1,6 @@
 -- `links::binds_cell` meets its contract: each way out is how the definition's step ends there. Assumes nothing.
 use Rattle.acts.proofs.LinksBound.{cell-found, no-cell-next, no-cell-found}
 use Rattle.job.specs.Test.{for_some}
-use Prim.Native.Nat.{◌-◌}
-use mathlib.Core.Bool.{false}
 use mathlib.Core.Path.{refl}
 use borrow.Author.Rules.{rules}
 use native.Mathlib.Omega.{arith}

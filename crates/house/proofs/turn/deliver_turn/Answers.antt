@@ -13,7 +13,7 @@ returns-then-number-eq0 c = λ m dag cells shared lawful one e.
     let none = c.few_or_all-end.ensures.upper_bound.1 in
     turned-shows
     (turn-delivers _ _ _ _ _ _ c.deliver-number.ensures.gives m dag _ cells shared lawful
-    (λ i from to. free-token lawful i (none i from to)) one e)
+    (λ i from to. free-token lawful i (none i from (omega arith))) one e)
     (over-empty _ e _) (shows-as (taken-line c.if-number-eq0.true) (shows-none _ _ _)) (omega arith)
 
 pub returns : goal.returns
@@ -22,6 +22,6 @@ returns c = λ m dag cells shared lawful one e.
     let line = c.show_declined.ensures in
     turned-shows
     (turn-delivers _ _ _ _ _ _ c.deliver-number.ensures.gives m dag _ cells shared lawful
-    (λ i from to. free-token lawful i (none i from to)) one e)
+    (λ i from to. free-token lawful i (none i from (omega arith))) one e)
     (over-empty _ e _) (shows-as (refused-line c.deliver-number.ensures.delivery_number c.if-number-eq0.false) line.shows_bytes)
     line.upper_bound
