@@ -32,7 +32,7 @@ pub fn choke_cell(
     let c = wide(token::cell(w, p));
     let kind = token::value_kind(w, p);
     let value = token::value(w, p);
-    let end = marked_end(tokens, Machine::TOKENS);
+    let end = marked_end(tokens);
     written(w, place, c - 1, kind, value, end);
     sweep_to(w, tokens, cells, end);
     plain(Reply::Done)

@@ -64,9 +64,10 @@ pub(crate) fn deliver_turn(
         → TurnLeaves (turn_outcome (dag_of dag) m rest.now at) m w.new tokens.now cells shared
         window.old.output.now window.old.from window.old.total window.new.output.now window.new.total false }
 {
-    let end = few_or_all(tokens, Machine::TOKENS);
-    if let Err(refusal) = deliver(w, rest, at, end) {
-        show_declined(u8::from(refusal), window);
+    let end = few_or_all(tokens);
+    let number = deliver(w, rest, at, end);
+    if number == 0 {
+        return total;
     }
 }
 

@@ -74,7 +74,7 @@ pub(crate) fn tokens_hold(
     let mut handles = [0u32; Machine::TOKENS];
     let mut count: usize = 0;
     let mut ok = true;
-    let end = few_or_all(used, Machine::TOKENS);
+    let end = few_or_all(used);
     let mut i: usize = 0;
     while i < end {
         if used[i] {

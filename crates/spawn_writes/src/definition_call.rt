@@ -49,12 +49,10 @@ fn pass_all(w: &mut [u32; Machine::WORDS], dag: &[u32; WORDS], at: usize, p: usi
         (put new (with_binds (formals_bound (token_at m.tokens p).binds (params_at dag.now at)) blank_token) m) }
 {
     let count = wide(dag_word(dag, at + PARAMETER_COUNT));
-    let mut i: usize = 0;
-    while i < count {
+    for i in 0..count {
         let kind = dag_word(dag, at + PARAMETER_KIND + 2 * i);
         let number = dag_word(dag, at + PARAMETER_WORD + 2 * i);
         pass(w, p, new, i, kind, number);
-        i += 1;
     }
 }
 

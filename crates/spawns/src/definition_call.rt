@@ -32,10 +32,9 @@ pub fn definition_call(
         → is_tail (dag_of dag.now) (get_or dag.now (at + 2) 0) ≡ false
         → Gives (Step.step paper (dag_of dag.now) m place) m w.new tokens.new cells.now result }
 {
-    let new = next_token(tokens, last_token(w));
-    if Machine::TOKENS <= new {
+    let Some(new) = next_token(tokens, last_token(w)) else {
         return plain(Reply::Refused(Refusal::TokenLimit));
-    }
+    };
     let body = wide(dag_word(dag, at + NAMED_NUMBER));
     let root = dag_word(dag, DEFINITIONS_START + 2 * body);
     written(

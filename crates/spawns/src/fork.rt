@@ -29,10 +29,9 @@ pub fn fork(
     ensures { (m : Machine) → Acting w.old tokens.old cells.now dag.now place p at 3 m
         → Gives (Step.step paper (dag_of dag.now) m place) m w.new tokens.new cells.now result }
 {
-    let new = next_token(tokens, last_token(w));
-    if Machine::TOKENS <= new {
+    let Some(new) = next_token(tokens, last_token(w)) else {
         return plain(Reply::Refused(Refusal::TokenLimit));
-    }
+    };
     written(
         w,
         place,

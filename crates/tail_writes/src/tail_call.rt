@@ -31,11 +31,9 @@ pub fn written(
         (callee (token_at m.tokens p).caller (token_at m.tokens p) root (params_at dag.now at))
         (dequeued m place))) }
 {
-    let mut kinds = [0u32; 8];
-    let mut numbers = [0u32; 8];
-    passed_slots(w, dag, at, p, &mut kinds, &mut numbers);
-    replace::<Queue>(w, place, p as u32);
-    bind_slots(w, p, &kinds, &numbers);
+    let slots = passed_slots(w, dag, at, p);
+    replace(w, place, p as u32);
+    bind_slots(w, p, &slots);
     set_value(w, p, 0, 0);
     set_node(w, p, root);
 }

@@ -7,7 +7,6 @@ ghost use Rattle.acts.specs.Acting.{Marks};
 
 use job::dag::WORDS;
 use model::record::Machine;
-use reach::marks::clear;
 
 // The words of a start, and its marks: one token is in use, and no cell.
 pub fn start(
@@ -19,7 +18,7 @@ pub fn start(
     ensures { Holds w.new (start_machine paper goal) × Marks tokens.new cells.new (start_machine paper goal) }
 {
     record::start::start(w, goal);
-    clear(tokens, Machine::TOKENS);
-    clear(cells, Machine::CELLS);
+    tokens.fill(false);
+    cells.fill(false);
     tokens[0] = true;
 }
