@@ -1,5 +1,5 @@
 // A reply as a line. An error is one of a write that failed; what was printed before it stays.
-use model::reply::{Reply, number_of};
+use model::reply::Reply;
 use std::io;
 
 // The values beside a reply, where not all are 0.
@@ -20,7 +20,7 @@ pub fn reply(rt: &impl Print, r: Reply, values: [i32; 4]) -> io::Result<()> {
         Reply::Published(v) => print!(rt; "publish {v}")?,
         Reply::Called(handle, site, count) => print!(rt; "call {handle} {site} {count}")?,
         Reply::Refused(why) => {
-            let number = number_of(why);
+            let number = u8::from(why);
             print!(rt; "refused {number}")?;
         }
     }

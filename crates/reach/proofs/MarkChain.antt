@@ -7,6 +7,7 @@ use mathlib.Core.List.{List, [], ◌∷◌, ◌++◌, map}
 use Prim.Native.Nat.{ℕ, zero, suc, ◌+◌, ◌-◌, ◌≤◌, ◌<◌}
 use native.Mathlib.Omega.{arith}
 use lib.ListN.{length, get_or, get_or-map, set, replicate}
+use Rattle.std.specs.Prelude.{Some, None}
 use Rattle.model.specs.Machine.InUse.{mark_chain, mark_from_each}
 use Rattle.model.specs.Machine.Held.{Place}
 use Rattle.model.proofs.Machine.Marks.{Marked, Free, marked-outside}
@@ -71,8 +72,8 @@ module _ {A : Type 0} (link : A → Place) (blank : A) (xs : List A) where
   pub walk-linked : (n : ℕ) (q : Place) (marks : List Bool) → mark_chain (λ (q : Place). q) (link blank) (map link xs) n q marks ≡ walk n q marks
   unfolding mark_chain
   walk-linked zero q marks = refl
-  walk-linked (suc n) places.Nowhere marks = refl
-  walk-linked (suc n) (places.At i) marks =
+  walk-linked (suc n) None marks = refl
+  walk-linked (suc n) (Some i) marks =
       go (get_or marks i true)
       (ap (λ q. mark_chain (λ (q : Place). q) (link blank) (map link xs) n q (set marks i true)) (get_or-map link xs i blank)
       ∙ walk-linked n (link (get_or xs i blank)) (set marks i true))

@@ -5,7 +5,7 @@ ghost use Rattle.model.specs.Machine.Active.{is_active};
 ghost use Rattle.model.specs.Machine.Blank.{empty, token_at};
 ghost use Rattle.model.specs.Machine.InUse.{bound_cell, cells_of, mark_chain};
 ghost use Rattle.model.specs.declared.record.Machine.{Machine};
-ghost use Rattle.model.specs.declared.token.Place.{Place};
+ghost use Rattle.model.specs.Machine.Held.{Place};
 ghost use Rattle.record.specs.LayoutDecoded.{place_from};
 ghost use Rattle.record.specs.Holds.{Codes};
 ghost use Rattle.record.specs.Layout.{place_number};

@@ -5,6 +5,7 @@ use Prim.Native.Nat.{ℕ, ◌+◌, ◌<◌, ◌≤◌}
 use native.Mathlib.Decide.{dec_lt}
 use native.Mathlib.Omega.{arith}
 use lib.ListN.{length, get_or}
+use Rattle.std.specs.Prelude.{Some, None}
 use Rattle.model.specs.declared.record.Machine.{Machine}
 use Rattle.model.specs.Machine.Held.{Place}
 use Rattle.model.specs.declared.token.Token.{Token}
@@ -44,6 +45,6 @@ searched m f n false l h = record { some = λ e. clash e refl; none = λ z j e. 
         let at : get_or (range_with_len 0 n) j 0 ≡ j = (let z : 0 + j ≡ j = omega arith in get_or-range_with_len 0 n j 0 k ∙ z) in
         h j 0 (omega arith) (omega (arith, length-range_with_len 0 n)) (subst (NamesAsCaller m f) (sym at) e)
     go j e (no k) =
-        let w : places.Nowhere ≡ places.At f =
+        let w : None ≡ Some f =
         ap (λ (t : Token). t.caller) (sym (token-outside m.tokens j (omega arith))) ∙ e in
         never cc

@@ -5,7 +5,7 @@ use borrow.Author.Rules.{rules}
 use lib.ListN.{get_or-map}
 use Rattle.model.specs.Machine.Blank.{blank_token, token_at}
 use Rattle.model.specs.Machine.InUse.{mark_chain}
-use Rattle.model.specs.declared.token.Place.{Place}
+use Rattle.model.specs.Machine.Held.{Place}
 use Rattle.model.specs.declared.token.Token.{Token}
 use Rattle.record.specs.Layout.{place_number}
 use Rattle.record.specs.LayoutDecoded.{place_from}

@@ -2,7 +2,7 @@
 use mathlib.Core.Path.{◌∙◌}
 use Prim.Native.Nat.{◌-◌}
 use borrow.Author.Rules.{rules}
-use Rattle.model.specs.declared.token.Place.{Place}
+use Rattle.model.specs.Machine.Held.{Place}
 use Rattle.reach.proofs.MarkChain.{chain-ends, chain-outside, chain-met, chain-on, chain-over}
 use Rattle.reach.proofs.mark.mark_chain.Goals as goal
 

@@ -3,7 +3,7 @@ use mathlib.Core.List.{List}
 use Prim.Native.Nat.{ℕ, ◌-◌, ◌<◌}
 use lib.ListN.{get_or}
 use Rattle.model.specs.Machine.InUse.{mark_chain}
-use Rattle.model.specs.declared.token.Place.{Place}
+use Rattle.model.specs.Machine.Held.{Place}
 use Rattle.record.specs.Layout.{place_number}
 use Rattle.record.specs.LayoutDecoded.{place_from}
 use Rattle.reach.proofs.mark.mark_chain.Given as goal

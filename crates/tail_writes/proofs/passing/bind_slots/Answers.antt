@@ -20,7 +20,7 @@ loop-x-preserved c = λ m t bs h size o.
     let words = slot-at bs l.x o in
     carry-binds m a.p t (bound-on t.binds bs (binds-long m a.p t h c.requires) size l.x (omega arith))
     (unfold with_binding in
-    c.set_bind.ensures m _ (get_or bs l.x empty).slot (l.invariant m t bs h size o) (ap (λ (s : SlotWords). s.kind) words)
+    c.set_bind.ensures m _ (get_or bs l.x empty) (l.invariant m t bs h size o) (ap (λ (s : SlotWords). s.kind) words)
     (ap (λ (s : SlotWords). s.number) words))
 
 pub returns : goal.returns

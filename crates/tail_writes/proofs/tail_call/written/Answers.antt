@@ -23,6 +23,6 @@ returns c = λ m h q ready.
     let queued = begins rest a.p t refl (c.replace.ensures m h q) in
     let bound = c.bind_slots.ensures rest t formals queued (formals-long c.requires.1 t.binds)
     (c.passed_slots-slots.ensures m h.codes) in
-    let called = c.set_node.ensures rest _ (c.set_value.ensures rest _ helds.Nothing bound refl refl) in
+    let called = c.set_node.ensures rest _ (c.set_value.ensures rest _ None bound refl refl) in
     subst (Holds _) (put-queue gone a.p a.p (callee t.caller t a.root (params_at a.dag.now a.at)))
     (carry (λ u. put a.p u rest) (ap (λ s. with_state s (callee t.caller t a.root (params_at a.dag.now a.at))) ready) called)
