@@ -8,7 +8,6 @@ use Rattle.coded.proofs.IsRecordRows.{row_by_row}
 use Rattle.rules.proofs.RulesGrouped.{dag-breaks, tokens-marked, cells-marked, rules-are}
 use Rattle.rules.proofs.RestBlank.{first-true, second-true}
 use Rattle.rules.proofs.RulesDecoded.{decoded}
-use borrow.Author.Rules.{rules}
 use Rattle.rules.proofs.rules.rules_hold.Goals as goal
 
 pub returns-then-not-dag_holds : goal.returns-then-not-dag_holds
@@ -19,7 +18,7 @@ returns-then-not-dag_holds c = record {
 }
 
 pub tokens_hold-requires : goal.tokens_hold-requires
-tokens_hold-requires c = (search rules, sym c.dag_holds.ensures ∙ c.if-not-dag_holds.false)
+tokens_hold-requires c = sym c.dag_holds.ensures ∙ c.if-not-dag_holds.false
 
 pub returns : goal.returns
 returns c = let args = c.args in
