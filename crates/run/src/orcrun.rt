@@ -9,7 +9,7 @@ use house::house::{run, whole};
 use job::dag::WORDS;
 use lines::line;
 use lines::shown::show_front;
-use loader::table::{Loaded, load};
+use loader::table::load;
 
 // Runs the job of an input and stores what it prints from byte `from` on, as many bytes as the output has room for. Answers how many bytes
 // it prints in all. The dag's words are room that the caller lends, whatever they hold: those that the table's dag does not use stay.
@@ -27,11 +27,12 @@ pub fn orcrun(input: &[u8], from: usize, dag: &mut [u32; WORDS], output: &mut [u
     whole(dag);
     let answer = load(&input[0..end], dag);
     match answer {
-        Loaded::Refused(number, entry) => {
+        Err(refused) => {
             let mut buffer = [0u8; 80];
-            let n = line::put_table(&mut buffer, 0, number, entry as u32);
+            let number = u8::from(refused.why);
+            let n = line::put_table(&mut buffer, 0, number, refused.entry as u32);
             show_front(&buffer, n, output, from, 0)
         }
-        Loaded::Dag(_) => run(&input[end..], dag, output, from),
+        Ok(_) => run(&input[end..], dag, output, from),
     }
 }

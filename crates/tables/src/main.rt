@@ -8,7 +8,6 @@ use entries::entry::four_bytes;
 use job::dag::{DEFINITION_COUNT, DEFINITIONS_START, HEAD_WORDS, ROW_WORDS, WORDS};
 use job::wide::wide;
 use loader::table;
-use loader::table::Loaded;
 use std::io;
 use streams::read_full;
 
@@ -63,13 +62,13 @@ fn rows(rt: &impl Print, dag: &[u32; WORDS], nodes: usize) -> io::Result<()>
 fn show(rt: &impl Print, table: &[u8], dag: &mut [u32; WORDS]) -> io::Result<()> {
     let answer = table::load(table, dag);
     match answer {
-        Loaded::Refused(n, e) => {
+        Err(refused) => {
             text(rt, b"refused")?;
-            number(rt, n as u64)?;
-            number(rt, e as u64)?;
+            number(rt, u8::from(refused.why) as u64)?;
+            number(rt, refused.entry as u64)?;
             text(rt, b"\n")?;
         }
-        Loaded::Dag(nodes) => {
+        Ok(nodes) => {
             text(rt, b"dag")?;
             number(rt, nodes as u64)?;
             text(rt, b"\n")?;

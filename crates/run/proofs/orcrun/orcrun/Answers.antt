@@ -22,16 +22,16 @@ returns-then-input-gt65536 c = let line = shows-line c.put_long-n.ensures blank-
 pub slice_bounds-load-end : goal.slice_bounds-load-end
 slice_bounds-load-end c = let z = inside _ _ c.table_end-end.ensures in search rules
 
-pub overflow_cast-entry : goal.overflow_cast-entry
-overflow_cast-entry c = let small = entry-small _ _
-    c.table_end-end.ensures _ _
-    (sym c.in-Refused.is ∙ c.load-answer.ensures.value) in search rules
+pub overflow_cast-refused : goal.overflow_cast-refused
+overflow_cast-refused c = let small = entry-small _ _
+    c.table_end-end.ensures _
+    (sym c.in-Err.is ∙ c.load-answer.ensures.value) in search rules
 
-pub slice_bounds-show_front-end-in-Refused : goal.slice_bounds-show_front-end-in-Refused
-slice_bounds-show_front-end-in-Refused c = search (rules, full c.put_table-n.ensures blank-line)
+pub slice_bounds-show_front-end-in-Err : goal.slice_bounds-show_front-end-in-Err
+slice_bounds-show_front-end-in-Err c = search (rules, full c.put_table-n.ensures blank-line)
 
-pub show_front-requires-in-Refused : goal.show_front-requires-in-Refused
-show_front-requires-in-Refused c = let written = c.put_table-n.ensures in
+pub show_front-requires-in-Err : goal.show_front-requires-in-Err
+show_front-requires-in-Err c = let written = c.put_table-n.ensures in
     (front-few written, full written blank-line, search rules)
 
 pub slice_bounds-run-count : goal.slice_bounds-run-count
@@ -40,14 +40,14 @@ slice_bounds-run-count c = let z = inside _ _ c.table_end-end.ensures in search 
 pub run-requires : goal.run-requires
 run-requires c = (
   run-accepted _ _ c.table_end-end.ensures c.if-input-gt65536.false _ _ _ c.whole.ensures
-      (sym c.in-Dag.is ∙ c.load-answer.ensures.value) c.load-answer.ensures.dag_after,
+      (sym c.in-Ok.is ∙ c.load-answer.ensures.value) c.load-answer.ensures.dag_after,
   search rules,
 )
 
-pub returns-in-Refused : goal.returns-in-Refused
-returns-in-Refused c = let line = shows-line c.put_table-n.ensures blank-line c.show_front-in-Refused.ensures in
-    let refused = sym c.in-Refused.is ∙ c.load-answer.ensures.value in
-    let whole = whole-table _ _ c.table_end-end.ensures c.if-input-gt65536.false _ _ refused in
+pub returns-in-Err : goal.returns-in-Err
+returns-in-Err c = let line = shows-line c.put_table-n.ensures blank-line c.show_front-in-Err.ensures in
+    let refused = sym c.in-Err.is ∙ c.load-answer.ensures.value in
+    let whole = whole-table _ _ c.table_end-end.ensures c.if-input-gt65536.false _ refused _ c.from-number.ensures in
     let all = shown-all (shows-as (text-one _ ∙ whole) line) in
     record {
       value = all.0;
@@ -56,8 +56,8 @@ returns-in-Refused c = let line = shows-line c.put_table-n.ensures blank-line c.
       output_after = all.1;
     }
 
-pub returns-in-Dag : goal.returns-in-Dag
-returns-in-Dag c = let accepted = sym c.in-Dag.is ∙ c.load-answer.ensures.value in
+pub returns-in-Ok : goal.returns-in-Ok
+returns-in-Ok c = let accepted = sym c.in-Ok.is ∙ c.load-answer.ensures.value in
     let whole =
     whole_run _ _ c.table_end-end.ensures c.if-input-gt65536.false _ _ _ c.whole.ensures accepted c.load-answer.ensures.dag_after in
     let all = shown-all (shows-as whole c.run.ensures) in
