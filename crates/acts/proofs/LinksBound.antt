@@ -39,7 +39,7 @@ is-other b k e f = go b (λ z. f (e ∙ z))
     go (slots.Cell c) n = absurd (n refl)
 
 -- a slot's test, by its kind
-pub cell-test : (bs : List Bind) (x k : ℕ) (r : Bool) → k ≡ slot_kind (slot_at bs x) → r ≡ eqb k 2 → r ≡ to_cell (get_or bs x empty)
+pub cell-test : (bs : List Slot) (x k : ℕ) (r : Bool) → k ≡ slot_kind (slot_at bs x) → r ≡ eqb k 2 → r ≡ to_cell (get_or bs x empty)
 unfolding slot_at
 cell-test bs x k r e f = f ∙ go (ℕ_discrete k 2)
   where
@@ -48,7 +48,7 @@ cell-test bs x k r e f = f ∙ go (ℕ_discrete k 2)
     go (no z) = ne_eqb k 2 z ∙ sym (is-other (get_or bs x empty) k e z)
 
 -- the tests of the eight slots, one by one
-pub eight-slots : (bs : List Bind) → length bs ≡ 8 → list_any (λ x. to_cell (get_or bs x empty)) (range_with_len 0 8) ≡ binds_cell bs
+pub eight-slots : (bs : List Slot) → length bs ≡ 8 → list_any (λ x. to_cell (get_or bs x empty)) (range_with_len 0 8) ≡ binds_cell bs
 unfolding for_some ◌or◌
 eight-slots [] l = absurd (omega arith)
 eight-slots (a ∷ []) l = absurd (omega arith)

@@ -28,17 +28,17 @@ map-set f (y ∷ l) zero x = refl
 map-set f (y ∷ l) (suc i) x = ap (◌∷◌ (f y)) (map-set f l i x)
 
 -- none is read yet
-pub none_read : (bs : List Bind) → replicate 8 (record { kind = 0; number = 0 }) ≡ map slot_words (formals_bound bs [])
+pub none_read : (bs : List Slot) → replicate 8 (record { kind = 0; number = 0 }) ≡ map slot_words (formals_bound bs [])
 none_read bs = ap (map slot_words) (none-bound bs [])
 
 -- one more is read
-pub slot_read : {ss : List SlotWords} (bs : List Bind) {cs : List Bind} (i : ℕ) {s : SlotWords} (b : Bind) → ss ≡ map slot_words bs → s ≡ slot_words b
+pub slot_read : {ss : List SlotWords} (bs : List Slot) {cs : List Slot} (i : ℕ) {s : SlotWords} (b : Slot) → ss ≡ map slot_words bs → s ≡ slot_words b
     → set bs i b ≡ cs → set ss i s ≡ map slot_words cs
 slot_read {ss} bs {cs} i b o e f =
     ap₂ (λ xs x. set xs i x) o e ∙ sym (map-set slot_words bs i b) ∙ ap (map slot_words) f
 
 -- the words of one
-pub slot-at : {ss : List SlotWords} (bs : List Bind) (x : ℕ) → ss ≡ map slot_words bs
+pub slot-at : {ss : List SlotWords} (bs : List Slot) (x : ℕ) → ss ≡ map slot_words bs
     → slot_words (get_or bs x empty) ≡ get_or ss x (slot_words empty)
 slot-at {ss} bs x o = sym (ap (λ l. get_or l x (slot_words empty)) o ∙ get_or-map slot_words bs x empty)
 

@@ -72,7 +72,7 @@ pub(crate) fn passed_slots(
 // The slots whose words these are, bound to all eight variables.
 pub(crate) fn bind_slots(w: &mut [u32; Machine::WORDS], p: usize, slots: &[SlotWords; 8])
     requires { p < 64 }
-    ensures { (m : Machine) (t : Token) (bs : List Bind) → Holds w.old (put p t m) → length bs ≡ 8
+    ensures { (m : Machine) (t : Token) (bs : List Slot) → Holds w.old (put p t m) → length bs ≡ 8
         → slots.now ≡ map slot_words bs → Holds w.new (put p (with_binds bs t) m) }
 {
     for (x, slot) in slots.iter().enumerate() {

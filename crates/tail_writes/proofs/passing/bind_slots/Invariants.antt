@@ -12,5 +12,5 @@ use Rattle.tail_writes.specs.Passing.{slot_words}
 use Rattle.tail_writes.proofs.passing.bind_slots.Given as goal
 
 abbrev pub invariant-loop-x : goal.invariant-loop-x
-invariant-loop-x l = (m : Machine) (t : Token) (bs : List Bind) → Holds l.initial.w (put l.p t m) → length bs ≡ 8
+invariant-loop-x l = (m : Machine) (t : Token) (bs : List Slot) → Holds l.initial.w (put l.p t m) → length bs ≡ 8
     → l.slots ≡ map slot_words bs → Holds l.w (put l.p (with_binds (paste t.binds 0 bs l.x) t) m)
