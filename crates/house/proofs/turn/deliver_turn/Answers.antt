@@ -22,6 +22,6 @@ returns-then-number-ne0-clause-leaves c = λ m dag cells shared lawful one e.
     let line = c.show_declined.ensures in
     turned-shows
     (turn-delivers _ _ _ _ _ _ c.deliver-number.ensures.gives m dag _ cells shared lawful
-    (λ i from to. free-token lawful i (none i from (omega arith))) one e)
-    (over-empty _ e _) (shows-as (refused-line c.deliver-number.ensures.delivery_number c.if-number-eq0.false) line.shows_bytes)
+    (λ i from to. free-token lawful i (none i from to)) one e)
+    (over-empty _ e _) (shows-as (refused-line c.deliver-number.ensures.delivery_number c.if-number-ne0.true) line.shows.shows_bytes)
     line.upper_bound
