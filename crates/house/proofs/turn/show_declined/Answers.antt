@@ -7,12 +7,12 @@ use Rattle.lines.specs.LineTold.{told}
 use Rattle.lines.proofs.WindowLaws.{window-as}
 use Rattle.house.proofs.turn.show_declined.Goals as goal
 
-pub returns-then-number-number_of-clause-shows : goal.returns-then-number-number_of-clause-shows
+pub returns-then-number-from-clause-shows : goal.returns-then-number-from-clause-shows
 unfolding number_of
-returns-then-number-number_of-clause-shows c =
-    window-as (ap (λ (n : ℕ). text_of (refused n)) (sym (c.if-number-number_of.true ∙ c.number_of.ensures)))
+returns-then-number-from-clause-shows c =
+    window-as (ap (λ (n : ℕ). text_of (refused n)) (sym (c.if-number-from.true ∙ c.from.ensures)))
     c.show_not_open.ensures.shows
 
-pub returns-else-number-number_of-clause-shows : goal.returns-else-number-number_of-clause-shows
+pub returns-else-number-from-clause-shows : goal.returns-else-number-from-clause-shows
 unfolding told
-returns-else-number-number_of-clause-shows c = c.show_line.ensures.shows
+returns-else-number-from-clause-shows c = c.show_line.ensures.shows

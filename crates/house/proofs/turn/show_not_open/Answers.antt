@@ -9,4 +9,4 @@ use Rattle.house.proofs.turn.show_not_open.Goals as goal
 
 pub returns-clause-shows : goal.returns-clause-shows
 unfolding told number_of
-returns-clause-shows c = window-as (ap (λ (n : ℕ). text_of (refused n)) c.number_of.ensures) c.show_line.ensures.shows
+returns-clause-shows c = window-as (ap (λ (n : ℕ). text_of (refused n)) c.from.ensures) c.show_line.ensures.shows

@@ -3,9 +3,9 @@ use mathlib.Core.Bool.{true, false}
 use mathlib.Core.Path.{subst, ◌∙◌}
 use native.Mathlib.Omega.{arith}
 use borrow.Author.Rules.{rules}
+use Rattle.std.specs.Prelude.{None}
 use Rattle.job.proofs.Lists.{get_d_any}
 use Rattle.record.specs.Changes.{store_cell, unset_cell}
-use Rattle.model.specs.declared.token.Place.TheVariants as places
 use Rattle.record.specs.Holds.{Holds}
 use Rattle.sweep.proofs.SweepLaws.{cells_kept, cells-first, cells-keep, cells-idle, cells-blank, cells-last}
 use Rattle.sweep.proofs.sweep.keep_cells.Goals as goal
@@ -23,6 +23,6 @@ returns c = (
       (λ p l e. cells-keep used m p c.requires.1 long (omega arith) e)
       (λ p l e. cells-idle used m p c.requires.1 long (omega arith) (v p (omega arith) (get_d_any marks p true false (omega arith) ∙ e)))
       (λ p x y l e k post.
-      let after : Holds y.now (store_cell p (unset_cell places.Nowhere) (cells_kept used m p)) = search rules in
+      let after : Holds y.now (store_cell p (unset_cell None) (cells_kept used m p)) = search rules in
       subst (Holds y.now) (cells-blank used m p c.requires.1 long (omega arith) e) after)),
 )
