@@ -15,6 +15,7 @@ use crate::turn::{deliver_turn, step_turn};
 use job::dag::{GOAL, WORDS};
 use lines::last_lines::{show_end, show_last, show_limit};
 use model::record::Machine;
+use reach::used::Marks;
 use record::order;
 use unchecked::start::start;
 
@@ -30,15 +31,14 @@ pub fn whole(dag: &[u32])
 // The turns of a run, from the record of its start.
 fn run_turns(
     w: &mut [u32; Machine::WORDS],
-    tokens: &mut [bool; Machine::TOKENS],
-    cells: &mut [bool; Machine::CELLS],
+    marks: &mut Marks,
     shared: &mut [bool; Machine::TOKENS],
     rest: &[u8],
     dag: &[u32; WORDS],
     output: &mut [u8],
     from: usize,
 ) -> usize
-    requires accepted { Accepted dag.now × (length rest.now ≤ 65536) × Lawful w.old tokens.old cells.old dag.now
+    requires accepted { Accepted dag.now × (length rest.now ≤ 65536) × Lawful w.old marks.old dag.now
         (Start.start paper (dag_of dag.now)).machine }
     requires one_callee { OneCallee shared.old (Start.start paper (dag_of dag.now)).machine }
     ensures { ShowsBytes output.old from 0 (text_of_all (run_lines paper 100000 (dag_of dag.now) rest.now))
@@ -53,14 +53,14 @@ fn run_turns(
             if left < 8 {
                 return show_last(left, steps, output, from, total);
             }
-            total = deliver_turn(w, tokens, rest, at, output, from, total);
+            total = deliver_turn(w, marks, rest, at, output, from, total);
             at += 8;
             continue;
         }
         if steps == STEPS {
             return show_limit(steps, output, from, total);
         }
-        let turned = step_turn(w, tokens, cells, shared, dag, output, from, total);
+        let turned = step_turn(w, marks, shared, dag, output, from, total);
         total = turned.total;
         if turned.over {
             return show_end(steps, output, from, total);
@@ -76,18 +76,7 @@ pub fn run(rest: &[u8], dag: &[u32; WORDS], output: &mut [u8], from: usize) -> u
 {
     whole(dag);
     let mut words = [0u32; Machine::WORDS];
-    let mut tokens = [false; Machine::TOKENS];
-    let mut cells = [false; Machine::CELLS];
     let mut shared = [false; Machine::TOKENS];
-    start(&mut words, &mut tokens, &mut cells, dag[GOAL]);
-    run_turns(
-        &mut words,
-        &mut tokens,
-        &mut cells,
-        &mut shared,
-        rest,
-        dag,
-        output,
-        from,
-    )
+    let mut marks = start(&mut words, dag[GOAL]);
+    run_turns(&mut words, &mut marks, &mut shared, rest, dag, output, from)
 }

@@ -15,6 +15,7 @@ use lines::report::{show_refused, show_reply};
 use model::record::Machine;
 use model::reply::{Refusal, number_of};
 use reach::marks::few_or_all;
+use reach::used::Marks;
 use turns::deliver::deliver;
 use turns::reply::{has_line, is_refused};
 use unchecked::step::step;
@@ -50,7 +51,7 @@ fn show_declined(number: u8, output: &mut [u8], from: usize, total: usize) -> us
 // "With the queue empty it delivers a record"; a refused answer or clock move doesn't end the run.
 pub(crate) fn deliver_turn(
     w: &mut [u32; Machine::WORDS],
-    tokens: &[bool; Machine::TOKENS],
+    marks: &Marks,
     rest: &[u8],
     at: usize,
     output: &mut [u8],
@@ -58,12 +59,12 @@ pub(crate) fn deliver_turn(
     total: usize,
 ) -> usize
     requires { (at + 8 ≤ length rest.now) × (total + 80 ≤ 1000000000) }
-    ensures { (m : Machine) (dag : List ℕ) (cells shared : List Bool) → Lawful w.old tokens.now cells dag m
+    ensures { (m : Machine) (dag : List ℕ) (shared : List Bool) → Lawful w.old marks.now dag m
         → OneCallee shared m → m.queued ≡ 0
-        → TurnLeaves (turn_outcome (dag_of dag) m rest.now at) m w.new tokens.now cells shared
+        → TurnLeaves (turn_outcome (dag_of dag) m rest.now at) m w.new marks.now shared
         output.old from total output.new (goes_on result) }
 {
-    let end = few_or_all(tokens, Machine::TOKENS);
+    let end = few_or_all(&marks.tokens, Machine::TOKENS);
     let number = deliver(w, rest, at, end);
     if number == 0 {
         return total;
@@ -74,23 +75,21 @@ pub(crate) fn deliver_turn(
 // "It runs house order"; "a refused step ends the run".
 pub(crate) fn step_turn(
     w: &mut [u32; Machine::WORDS],
-    tokens: &mut [bool; Machine::TOKENS],
-    cells: &mut [bool; Machine::CELLS],
+    marks: &mut Marks,
     shared: &mut [bool; Machine::TOKENS],
     dag: &[u32; WORDS],
     output: &mut [u8],
     from: usize,
     total: usize,
 ) -> TurnEnd
-    requires { SomeMachine (QueueHasToken w.old tokens.old cells.old dag.now 0) × (total + 80 ≤ 1000000000) }
+    requires { SomeMachine (QueueHasToken w.old marks.old dag.now 0) × (total + 80 ≤ 1000000000) }
     ensures { (m : Machine) (rest : List ℕ) (at : ℕ)
-        → QueueHasToken w.old tokens.old cells.old dag.now 0 m
+        → QueueHasToken w.old marks.old dag.now 0 m
         → OneCallee shared.old m
-        → TurnLeaves (turn_outcome (dag_of dag.now) m rest at) m w.new tokens.new cells.new
-        shared.new
+        → TurnLeaves (turn_outcome (dag_of dag.now) m rest at) m w.new marks.new shared.new
         output.old from total output.new result }
 {
-    let report = step(w, tokens, cells, shared, dag, 0);
+    let report = step(w, marks, shared, dag, 0);
     let reply = report.reply;
     if has_line(reply) {
         let values = report.values;

@@ -10,7 +10,7 @@ use crate::mark::{mark_active, mark_held};
 use model::record::Machine;
 
 // No mark is left.
-pub fn clear(marks: &mut [bool], size: usize)
+fn clear(marks: &mut [bool], size: usize)
     requires { length marks.old ≡ size }
     ensures { marks.new ≡ replicate size false }
 {

@@ -8,16 +8,12 @@ use dag_rules::dag::dag_holds;
 use job::dag::WORDS;
 use model::record::Machine;
 use order_rules::order::{queue_order, timer_order, wait_order};
+use reach::used::Marks;
 use row_rules::range::sizes_in_range;
 
 // "14: dag or machine record breaks an index rule", or the words are no record's. The marks say which tokens and cells are in use.
-pub fn rules_hold(
-    w: &[u32; Machine::WORDS],
-    dag: &[u32; WORDS],
-    tokens: &[bool; Machine::TOKENS],
-    cells: &[bool; Machine::CELLS],
-) -> bool
-    ensures { Tested w.now dag.now tokens.now cells.now result }
+pub fn rules_hold(w: &[u32; Machine::WORDS], dag: &[u32; WORDS], marks: &Marks) -> bool
+    ensures { Tested w.now dag.now marks.now.tokens marks.now.cells result }
 {
     whole(w);
     if !dag_holds(dag) {
@@ -30,6 +26,7 @@ pub fn rules_hold(
     let delayed = waits.counts;
     let due = timers.counts;
     let orders = queue.ok & waits.ok & timers.ok;
-    let tables = tokens_hold(w, tokens, dag, &ready, &delayed, &due) & cells_hold(w, cells);
+    let tables = tokens_hold(w, &marks.tokens, dag, &ready, &delayed, &due)
+        & cells_hold(w, &marks.cells);
     tables & sizes_in_range(w) & orders
 }

@@ -19,6 +19,7 @@ use job::wide::wide;
 use model::record::Machine;
 use record::layout::VALUE_SLOT;
 use record::token::{bind_kind, bind_number, set_bind};
+use writes::actor::Actor;
 use writes::dag::dag_word;
 
 // "A variable's binding is passed on as it is, its cell set or unset": of one parameter, by its kind and word, the kind of the slot ..
@@ -49,23 +50,22 @@ fn passed_number(w: &[u32; Machine::WORDS], p: usize, kind: u32, number: u32) ->
 pub(crate) fn passed_slots(
     w: &[u32; Machine::WORDS],
     dag: &[u32; WORDS],
-    at: usize,
-    p: usize,
+    actor: Actor,
     kinds: &mut [u32; 8],
     numbers: &mut [u32; 8],
 )
-    requires { (p < 64) × ParamsHold dag.now at × (kinds.old ≡ replicate 8 0) × (numbers.old ≡ replicate 8 0) }
-    ensures { (m : Machine) → Codes w.now m
+    requires { (actor.token < 64) × ParamsHold dag.now actor.row × (kinds.old ≡ replicate 8 0) × (numbers.old ≡ replicate 8 0) }
+    ensures { let p = actor.token in (m : Machine) → Codes w.now m
         → SlotWords kinds.new numbers.new
-        (formals_bound (token_at m.tokens p).binds (params_at dag.now at)) }
+        (formals_bound (token_at m.tokens p).binds (params_at dag.now actor.row)) }
 {
-    let count = wide(dag_word(dag, at + PARAMETER_COUNT));
+    let count = wide(dag_word(dag, actor.row + PARAMETER_COUNT));
     let mut i: usize = 0;
     while i < count {
-        let kind = dag_word(dag, at + PARAMETER_KIND + 2 * i);
-        let number = dag_word(dag, at + PARAMETER_WORD + 2 * i);
-        kinds[i] = passed_kind(w, p, kind, number);
-        numbers[i] = passed_number(w, p, kind, number);
+        let kind = dag_word(dag, actor.row + PARAMETER_KIND + 2 * i);
+        let number = dag_word(dag, actor.row + PARAMETER_WORD + 2 * i);
+        kinds[i] = passed_kind(w, actor.token, kind, number);
+        numbers[i] = passed_number(w, actor.token, kind, number);
         i += 1;
     }
 }

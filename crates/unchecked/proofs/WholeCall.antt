@@ -39,11 +39,13 @@ use Rattle.sites.proofs.AnswerLaws.{answered-moves, answered-refuses}
 use Rattle.unchecked.proofs.AnswerUnknown.{unknown-handle}
 use Rattle.reach.specs.Marks.{BlankFrom}
 use Rattle.acts.specs.Acting.{Lawful, QueueHasToken, Taking, Acting, Gives, answer_report}
+use Rattle.reach.specs.declared.used.Marks.{Marks}
+use Rattle.writes.specs.declared.actor.Actor.{Actor}
 use Rattle.acts.proofs.Outcomes.{gives_whole, gives-refused}
 use Rattle.job.proofs.Lists.{replicate-at}
 
 -- the token that acts
-module _ {ws dag : List ℕ} {used cells : List Bool} {place : ℕ} {m : Machine} (r : QueueHasToken ws used cells dag place m) where
+module _ {ws dag : List ℕ} {used : Marks} {place : ℕ} {m : Machine} (r : QueueHasToken ws used dag place m) where
   pub place_inside : place < 64
   place_inside =
       let f = queue-fits r.lawful.holds in
@@ -51,42 +53,43 @@ module _ {ws dag : List ℕ} {used cells : List Bool} {place : ℕ} {m : Machine
       let l = r.queued in
       omega arith
 
-  pub taking-of : {p : ℕ} → p ≡ get_or m.queue place 0 → Taking ws used cells dag place p m
+  pub taking-of : {token row : ℕ} → token ≡ get_or m.queue place 0
+      → Taking ws used dag (record { place = place; token = token; row = row }) m
   taking-of e = record { lawful = r.lawful; queued = r.queued; token = e }
 
-  pub acting-of : {p at : ℕ} → p ≡ get_or m.queue place 0 → at ≡ row_of (token_at m.tokens p).node
-      → Acting ws used cells dag place p at (get_or dag at 0) m
+  pub acting-of : {token row : ℕ} → token ≡ get_or m.queue place 0 → row ≡ row_of (token_at m.tokens token).node
+      → Acting ws used dag (record { place = place; token = token; row = row }) (get_or dag row 0) m
   acting-of e f = record { taking = taking-of e; row = f; kind = refl }
 
-pub of-kind : {ws dag : List ℕ} {used cells : List Bool} {place p at i : ℕ} (k : ℕ) {m : Machine} → get_or dag at 0 ≡ i → i ≡ k
-    → Acting ws used cells dag place p at (get_or dag at 0) m → Acting ws used cells dag place p at k m
+pub of-kind : {ws dag : List ℕ} {used : Marks} {actor : Actor} {i : ℕ} (k : ℕ) {m : Machine} → get_or dag actor.row 0 ≡ i → i ≡ k
+    → Acting ws used dag actor (get_or dag actor.row 0) m → Acting ws used dag actor k m
 of-kind k e f a = record { taking = a.taking; row = a.row; kind = e ∙ f }
 
 -- an answer to a handle that no call was given
-module _ {ws dag : List ℕ} {used cells : List Bool} {m : Machine} (a : Lawful ws used cells dag m) (handle : ℕ) (v : ℤ) where
+module _ {ws dag : List ℕ} {used : Marks} {m : Machine} (a : Lawful ws used dag m) (handle : ℕ) (v : ℤ) where
   tested : Answer.answer paper (dag_of dag) m handle v ≡ outcome m (Answer.answered m v (holder handle 0 m.tokens))
   unfolding Answer.answer unless
   tested = rw (a.rules, unless)
 
-  pub answer-unknown : m.calls ≤ handle → Gives (Answer.answer paper (dag_of dag) m handle v) m ws used cells (answer_report false)
+  pub answer-unknown : m.calls ≤ handle → Gives (Answer.answer paper (dag_of dag) m handle v) m ws used (answer_report false)
   unfolding is_place
   answer-unknown l =
       let none = ap is_place (unknown-handle (dag_of dag) m handle a.rules l) in
       gives-refused 12 _ a (tested ∙ ap (outcome m) (answered-refuses m v _ none)) refl
 
 -- an answer
-module _ {ws after dag : List ℕ} {used cells : List Bool} {m : Machine} (a : Lawful ws used cells dag m) (handle : ℕ) (v : ℤ) (b : Bool)
+module _ {ws after dag : List ℕ} {used : Marks} {m : Machine} (a : Lawful ws used dag m) (handle : ℕ) (v : ℤ) (b : Bool)
     (end : ℕ) (k : Answered end handle v b ws after) (blank : BlankFrom m end) where
   at_place : (q : Place) → holder handle 0 m.tokens ≡ q → is_place q ≡ true → Carried (answered_by m v q) (tokens_used m) (cells_used m)
   unfolding is_place answered_by
   at_place places.Nowhere e f = clash f refl
   at_place (places.At p) e f = answered-carried paper (dag_of dag) m a.rules handle v p e
 
-  pub answer-gives : Gives (Answer.answer paper (dag_of dag) m handle v) m after used cells (answer_report b)
+  pub answer-gives : Gives (Answer.answer paper (dag_of dag) m handle v) m after used (answer_report b)
   unfolding outcome
   answer-gives = go b refl
     where
-      go : (x : Bool) → b ≡ x → Gives (Answer.answer paper (dag_of dag) m handle v) m after used cells (answer_report x)
+      go : (x : Bool) → b ≡ x → Gives (Answer.answer paper (dag_of dag) m handle v) m after used (answer_report x)
       go true e =
           let here = sym (k.says m a.holds blank) ∙ e in
           let c = at_place (holder handle 0 m.tokens) refl here in
@@ -96,14 +99,14 @@ module _ {ws after dag : List ℕ} {used cells : List Bool} {m : Machine} (a : L
           (λ framed. record { whole = c.whole; tokens = c.tokens ∙ sym a.marks.tokens; cells = c.cells ∙ sym a.marks.cells })
       go false e =
           let none = sym (k.says m a.holds blank) ∙ e in
-          subst (λ x. Gives (Answer.answer paper (dag_of dag) m handle v) m x used cells (answer_report false)) (sym (k.stays e))
+          subst (λ x. Gives (Answer.answer paper (dag_of dag) m handle v) m x used (answer_report false)) (sym (k.stays e))
           (gives-refused 12 _ a (tested a handle v ∙ ap (outcome m) (answered-refuses m v _ none)) refl)
 
 -- its report, by whether the handle was open; and that of a clock move, by whether the clock took the time
-pub reported : (report : Bool → Report) {o : Outcome} {m : Machine} {ws : List ℕ} {used cells : List Bool} (x : Bool) {b : Bool}
+pub reported : (report : Bool → Report) {o : Outcome} {m : Machine} {ws : List ℕ} {used : Marks} (x : Bool) {b : Bool}
     {r : Report}
-    → Gives o m ws used cells (report b) → b ≡ x → r ≡ report x → Gives o m ws used cells r
-reported report {o} {m} {ws} {used} {cells} x g e f = subst (Gives o m ws used cells) (ap report e ∙ sym f) g
+    → Gives o m ws used (report b) → b ≡ x → r ≡ report x → Gives o m ws used r
+reported report {o} {m} {ws} {used} x g e f = subst (Gives o m ws used) (ap report e ∙ sym f) g
 
 -- the words of a start
 pub start-holds : {ws : List ℕ} (goal : ℕ) → ws ≡ words_of (start_machine paper goal) → Holds ws (start_machine paper goal)

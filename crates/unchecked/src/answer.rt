@@ -1,11 +1,12 @@
 // The calls on a record whose index rules hold: they are not tested again. The marks say what is in use, before a call and after it.
-ghost use Rattle.std.specs.Prelude.{Bool, List, ℕ, ◌≤◌};
+ghost use Rattle.std.specs.Prelude.{List, ℕ, ◌≤◌};
 ghost use Rattle.job.specs.Words.{dag_of};
 ghost use Rattle.model.specs.Machine.Answer as Answer;
 ghost use Rattle.model.specs.Machine.Limits.{paper};
 ghost use Rattle.model.specs.declared.record.Machine.{Machine};
 ghost use Rattle.reach.specs.Marks.{BlankFrom};
 ghost use Rattle.acts.specs.Acting.{Lawful, Gives, answer_report};
+ghost use Rattle.reach.specs.declared.used.Marks.{Marks};
 
 use acts::report::plain;
 use job::dag::WORDS;
@@ -17,8 +18,8 @@ use record::count::calls_made;
 // A handle that no call was given is not looked for, and no token from the end on, where none is in use.
 pub fn resume(w: &mut [u32; Machine::WORDS], handle: u32, value: i32, end: usize) -> bool
     requires { end ≤ 64 }
-    ensures { (m : Machine) (dag : List ℕ) (used cells : List Bool) → Lawful w.old used cells dag m → BlankFrom m end
-        → Gives (Answer.answer paper (dag_of dag) m handle value) m w.new used cells (answer_report result) }
+    ensures { (m : Machine) (dag : List ℕ) (used : Marks) → Lawful w.old used dag m → BlankFrom m end
+        → Gives (Answer.answer paper (dag_of dag) m handle value) m w.new used (answer_report result) }
 {
     if calls_made(w) <= handle {
         return false;
@@ -27,8 +28,8 @@ pub fn resume(w: &mut [u32; Machine::WORDS], handle: u32, value: i32, end: usize
 }
 
 pub fn answer(w: &mut [u32; Machine::WORDS], handle: u32, value: i32) -> Report
-    ensures { (m : Machine) (dag : List ℕ) (used cells : List Bool) → Lawful w.old used cells dag m
-        → Gives (Answer.answer paper (dag_of dag) m handle value) m w.new used cells result }
+    ensures { (m : Machine) (dag : List ℕ) (used : Marks) → Lawful w.old used dag m
+        → Gives (Answer.answer paper (dag_of dag) m handle value) m w.new used result }
 {
     if resume(w, handle, value, Machine::TOKENS) {
         return plain(Reply::Done);

@@ -19,7 +19,7 @@ returns-then-unset-lt-CELL_PLACE_COUNT c = λ m a.
     let facts = look-facts _ m a.taking.lawful.rules _ (token-inside a.taking) in
     let found = look-waits _ _ (c.look_up-found.ensures m a.taking.lawful.holds.codes facts)
     c.if-unset-lt-CELL_PLACE_COUNT.true in
-    wait-gives a.taking _ _ (waits-at _ _ _ _ m a _ found) c.plain.ensures
+    wait-gives a.taking _ _ (waits-at _ _ m a _ found) c.plain.ensures
     (c.wait.ensures m a.taking.lawful.holds a.taking.queued
     (waits-room _ m a.taking.lawful.rules _ a.taking.queued))
 

@@ -6,7 +6,7 @@ use Rattle.house.proofs.house.run_turns.Given as goal
 
 abbrev pub invariant-loop-left : goal.invariant-loop-left
 invariant-loop-left l =
-    Lent l.dag l.rest l.initial.output l.from l.w l.tokens l.cells l.shared l.steps l.at l.total l.output × (length l.output ≡ length
+    Lent l.dag l.rest l.initial.output l.from l.w l.marks l.shared l.steps l.at l.total l.output × (length l.output ≡ length
     l.initial.output)
 
 abbrev pub decreases-loop-left : goal.decreases-loop-left

@@ -13,47 +13,46 @@ pub caller-requires : goal.caller-requires
 caller-requires c = token-inside c.requires.is.taking
 
 pub overflow_sub-f : goal.overflow_sub-f
-overflow_sub-f c = let k = return-caller _ _ _ _ _ c.requires.is
+overflow_sub-f c = let k = return-caller _ _ _ c.requires.is
     (c.wide-f.ensures ∙ c.caller.ensures _ c.requires.is.taking.lawful.holds.codes) in
     omega (arith, k.0)
 
 pub may_lose_cell-lost-requires : goal.may_lose_cell-lost-requires
-may_lose_cell-lost-requires c = let k = return-caller _ _ _ _ _ c.requires.is
+may_lose_cell-lost-requires c = let k = return-caller _ _ _ c.requires.is
     (c.wide-f.ensures
     ∙ c.caller.ensures _ c.requires.is.taking.lawful.holds.codes) in
     (token-inside c.requires.is.taking, k.1)
 
 pub written-requires : goal.written-requires
-written-requires c = let k = return-caller _ _ _ _ _ c.requires.is
+written-requires c = let k = return-caller _ _ _ c.requires.is
     (c.wide-f.ensures ∙ c.caller.ensures _
     c.requires.is.taking.lawful.holds.codes) in
     (token-inside c.requires.is.taking, k.1)
 
 pub returns-then-lost : goal.returns-then-lost
 returns-then-lost c = λ m a alone.
-    let k = return-caller _ _ _ _ m a
+    let k = return-caller _ _ m a
     (c.wide-f.ensures
     ∙ c.caller.ensures m
     a.taking.lawful.holds.codes) in
-    gives-swept _ replies.Done _ (return-step _ _ _ _ m _ k.2 a) c.plain.ensures
+    gives-swept _ replies.Done _ (return-step _ _ m _ k.2 a) c.plain.ensures
     (c.sweep.ensures _
     (c.written.ensures m a.taking.lawful.holds a.taking.queued)
     (return-vacant a.taking _))
 
 pub release-requires : goal.release-requires
-release-requires c = let k = return-caller _ _ _ _ _
-    c.requires.is
+release-requires c = let k = return-caller _ _ _ c.requires.is
     (c.wide-f.ensures
     ∙ c.caller.ensures _
     c.requires.is.taking.lawful.holds.codes) in k.1
 
 pub returns : goal.returns
 returns c = λ m a alone.
-    let k = return-caller _ _ _ _ m a
+    let k = return-caller _ _ m a
     (c.wide-f.ensures
     ∙ c.caller.ensures m
     a.taking.lawful.holds.codes) in
-    gives-swept _ replies.Done _ (return-step _ _ _ _ m _ k.2 a) c.plain-2.ensures
+    gives-swept _ replies.Done _ (return-step _ _ m _ k.2 a) c.plain-2.ensures
     (released-swept a _ k.1 k.2
     (c.may_lose_cell-lost.ensures m a.taking.lawful.holds.codes
     c.if-lost.false)

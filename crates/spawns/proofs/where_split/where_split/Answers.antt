@@ -8,11 +8,11 @@ use borrow.Author.Rules.{rules}
 use Rattle.spawns.proofs.where_split.where_split.Goals as goal
 
 pub returns-then-new-ge-TOKENS : goal.returns-then-new-ge-TOKENS
-returns-then-new-ge-TOKENS c = λ m a. where-refused _ _ _ _ m a c.next_token-new.ensures
+returns-then-new-ge-TOKENS c = λ m a. where-refused _ _ m a c.next_token-new.ensures
     (c.last_token.ensures m a.taking.lawful.holds.codes) _ (search rules) c.plain.ensures
 
 pub returns-then-c-ge-CELLS : goal.returns-then-c-ge-CELLS
-returns-then-c-ge-CELLS c = λ m a. where-refused-cell _ _ _ _ m a c.next_token-new.ensures
+returns-then-c-ge-CELLS c = λ m a. where-refused-cell _ _ m a c.next_token-new.ensures
     (c.last_token.ensures m a.taking.lawful.holds.codes)
     c.next_cell-c.ensures (c.last_cell.ensures m a.taking.lawful.holds.codes) _
     (search rules) (search rules) c.plain-then-c-ge-CELLS.ensures
@@ -46,7 +46,7 @@ pub returns : goal.returns
 returns c = λ m a.
     let next = c.next_token-new.ensures in
     let last = c.last_token.ensures m a.taking.lawful.holds.codes in
-    where-gives _ _ _ _ m a next last c.next_cell-c.ensures
+    where-gives _ _ m a next last c.next_cell-c.ensures
     (c.last_cell.ensures m a.taking.lawful.holds.codes)
     _ _ _ _
     (c.wide.ensures ∙ c.dag_word.ensures)

@@ -10,8 +10,8 @@ use Rattle.tail_writes.specs.Passing.{SlotWords}
 use Rattle.tail_writes.proofs.PassingWords.{none_read, slot_read}
 use Rattle.tail_writes.proofs.passing.passed_slots.Goals as goal
 
-pub overflow_add-at : goal.overflow_add-at
-overflow_add-at c = let l = c.requires.1.inside in omega arith
+pub overflow_add-actor : goal.overflow_add-actor
+overflow_add-actor c = let l = c.requires.1.inside in omega arith
 
 pub dag_word-requires : goal.dag_word-requires
 dag_word-requires c = let l = c.requires.1.inside in omega arith
@@ -49,7 +49,7 @@ loop-i-preserved c = let l = c.loop-i in
       search rules,
       search rules,
       λ m h.
-          let bs = (token_at m.tokens a.p).binds in
+          let bs = (token_at m.tokens a.actor.token).binds in
           slot_read l.i _ _ (passed bs _) (l.invariant.2 m h) (c.passed_kind.ensures m h) (c.passed_number.ensures m h)
           (param-bound _ _ l.i _ _ c.requires.1 (omega (arith, l.invariant.1))
           bs _ c.dag_word-kind.ensures c.dag_word-number.ensures refl),
@@ -60,5 +60,5 @@ returns c = λ m h.
     let l = c.loop-i in
     let a = c.args in
     subst (SlotWords _ _)
-    (params-bound _ _ l.i (token_at m.tokens a.p).binds c.requires.1 (omega (arith, l.invariant.1)))
+    (params-bound _ _ l.i (token_at m.tokens a.actor.token).binds c.requires.1 (omega (arith, l.invariant.1)))
     (l.invariant.2 m h)

@@ -10,9 +10,10 @@ use Rattle.tail_writes.specs.Passing.{SlotWords}
 use Rattle.tail_writes.proofs.passing.passed_slots.Given as goal
 
 abbrev pub invariant-loop-i : goal.invariant-loop-i
-invariant-loop-i l = (l.i ≤ l.count) × (l.count ≡ get_or l.dag (l.at + 3) 0)
-    × ((m : Machine) → Codes l.w m → SlotWords l.kinds l.numbers (formals_bound (token_at m.tokens l.p).binds (take l.i (params_at l.dag
-    l.at))))
+invariant-loop-i l = (l.i ≤ l.count) × (l.count ≡ get_or l.dag (l.actor.row + 3) 0)
+    × ((m : Machine) → Codes l.w m → SlotWords l.kinds l.numbers
+    (formals_bound (token_at m.tokens l.actor.token).binds (take l.i (params_at l.dag
+    l.actor.row))))
 
 abbrev pub decreases-loop-i : goal.decreases-loop-i
 decreases-loop-i l = l.count - l.i

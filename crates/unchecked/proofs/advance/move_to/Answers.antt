@@ -4,9 +4,9 @@ use borrow.Author.Rules.{rules}
 use Rattle.unchecked.proofs.advance.move_to.Goals as goal
 
 pub returns-then-not-takes_time : goal.returns-then-not-takes_time
-returns-then-not-takes_time c = λ m dag used cells a. advance-refused a _ (c.takes_time.ensures m a.holds.codes) c.if-not-takes_time.true
+returns-then-not-takes_time c = λ m dag used a. advance-refused a _ (c.takes_time.ensures m a.holds.codes) c.if-not-takes_time.true
 
 pub returns : goal.returns
-returns c = λ m dag used cells a.
+returns c = λ m dag used a.
     advance-gives a _ (c.takes_time.ensures m a.holds.codes) c.if-not-takes_time.false
     (c.move_clock.ensures _ m a.holds a.rules)

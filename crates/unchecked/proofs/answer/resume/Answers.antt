@@ -9,12 +9,12 @@ use borrow.Author.Rules.{rules}
 use Rattle.unchecked.proofs.answer.resume.Goals as goal
 
 pub returns-then-calls_made-handle : goal.returns-then-calls_made-handle
-returns-then-calls_made-handle c = λ m dag used cells a blank.
+returns-then-calls_made-handle c = λ m dag used a blank.
     let e = c.calls_made.ensures m a.holds.codes in
     let l = c.if-calls_made-handle.true in
     answer-unknown a c.args.handle c.args.value (omega arith)
 
 pub returns : goal.returns
-returns c = λ m dag used cells a blank.
+returns c = λ m dag used a blank.
     let f : SFits w32 c.args.value = search rules in
     answer-gives a _ _ _ _ (rw (to_z-of_z f) at c.answer.ensures) blank

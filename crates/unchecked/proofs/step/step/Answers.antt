@@ -10,7 +10,7 @@ queue_name-requires c = place_inside c.requires.is
 
 pub node-requires : goal.node-requires
 node-requires c = let r = c.requires.is in
-    token-inside (taking-of r (c.wide-p.ensures ∙ c.queue_name.ensures _ r.lawful.holds.codes))
+    token-inside (taking-of r {row = 0} (c.wide-token.ensures ∙ c.queue_name.ensures _ r.lawful.holds.codes))
 
 pub act-requires : goal.act-requires
 act-requires c = let r = c.requires.is in
@@ -18,7 +18,7 @@ act-requires c = let r = c.requires.is in
     record {
       machine = c.requires.machine;
       is = acting-of r
-          (c.wide-p.ensures
+          (c.wide-token.ensures
           ∙ c.queue_name.ensures _ codes)
           (ap (λ n. 67 + 12 * n)
           (c.wide.ensures ∙ c.node.ensures _ codes));
@@ -27,7 +27,7 @@ act-requires c = let r = c.requires.is in
 pub returns : goal.returns
 returns c = λ m r one. let codes = r.lawful.holds.codes in
     c.act.ensures m
-    (acting-of r (c.wide-p.ensures
+    (acting-of r (c.wide-token.ensures
     ∙ c.queue_name.ensures m codes)
     (ap (λ n. 67 + 12 * n)
     (c.wide.ensures
