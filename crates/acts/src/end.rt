@@ -33,9 +33,9 @@ pub fn end(w: &mut [u32; Machine::WORDS], marks: &mut Marks, actor: Actor, reply
     written(w, actor);
     if linked {
         sweep(w, marks);
-        return plain(reply);
+    } else {
+        marks.tokens[actor.token] = false;
     }
-    marks.tokens[actor.token] = false;
     plain(reply)
 }
 

@@ -51,8 +51,8 @@ pub fn return_value(
     written(w, actor, f);
     if lost {
         sweep(w, marks);
-        return plain(Reply::Done);
+    } else {
+        release(w, &mut marks.tokens, f, shared);
     }
-    release(w, &mut marks.tokens, f, shared);
     plain(Reply::Done)
 }
