@@ -10,6 +10,7 @@ use native.Mathlib.Omega.{arith}
 use lib.ListN.{get_or, set}
 use lib.IntN.{ℤ}
 use lib.Seq.{get_or-set_other}
+use Rattle.std.specs.Prelude.{Some, None}
 use Rattle.job.specs.Node.{Node, Dag}
 use Rattle.job.specs.Syntax.{Param}
 use Rattle.job.specs.Tail.{is_tail}
@@ -30,9 +31,7 @@ use Rattle.model.specs.Machine.Step.{choke_token, after_choke}
 use Rattle.model.specs.declared.cell.Cell.{Cell}
 use Rattle.model.specs.declared.record.Machine.{Machine}
 use Rattle.model.specs.declared.reply.Outcome.{Outcome}
-use Rattle.model.specs.declared.token.Held.TheVariants as helds
-use Rattle.model.specs.declared.token.Place.{Place}
-use Rattle.model.specs.declared.token.Place.TheVariants as places
+use Rattle.model.specs.Machine.Held.{Place}
 use Rattle.model.specs.declared.token.State.TheVariants as states
 use Rattle.model.specs.declared.token.Token.{Token}
 use Rattle.model.proofs.Machine.Refused.{After}
@@ -54,24 +53,24 @@ use Rattle.job.proofs.Test.{never}
 use Rattle.job.proofs.Lists.{replicate-at}
 
 -- a choked token has the caller that it had, or none
-choked-names : (cs : List Cell) (c f : ℕ) (t : Token) → (choke_token cs c t).caller ≡ places.At f → t.caller ≡ places.At f
+choked-names : (cs : List Cell) (c f : ℕ) (t : Token) → (choke_token cs c t).caller ≡ Some f → t.caller ≡ Some f
 choked-names cs c f t e = go (choked-cases cs c t) e
   where
-    go : {u : Token} → Choked c t u → u.caller ≡ places.At f → t.caller ≡ places.At f
+    go : {u : Token} → Choked c t u → u.caller ≡ Some f → t.caller ≡ Some f
     go ends e = absurd (nowhere-at f e)
     go (wakes w) e = unfold with_state in e
     go stays e = e
 
 -- a woken token has the caller that it had
-woken-names : (time f : ℕ) (t : Token) → (Clock.woken_by time t).caller ≡ places.At f → t.caller ≡ places.At f
+woken-names : (time f : ℕ) (t : Token) → (Clock.woken_by time t).caller ≡ Some f → t.caller ≡ Some f
 woken-names time f t e = go (woken-cases time t) e
   where
-    go : {u : Token} → Woken time t u → u.caller ≡ places.At f → t.caller ≡ places.At f
+    go : {u : Token} → Woken time t u → u.caller ≡ Some f → t.caller ≡ Some f
     go (Woken.wakes w) e = unfold with_state with_value in e
     go (Woken.stays w) e = e
 
-mapped-names : (f : ℕ) (g : Token → Token) → ((t : Token) → (g t).caller ≡ places.At f → t.caller ≡ places.At f) → (ts : List Token) (i : ℕ)
-    → (token_at (map g ts) i).caller ≡ places.At f → (token_at ts i).caller ≡ places.At f
+mapped-names : (f : ℕ) (g : Token → Token) → ((t : Token) → (g t).caller ≡ Some f → t.caller ≡ Some f) → (ts : List Token) (i : ℕ)
+    → (token_at (map g ts) i).caller ≡ Some f → (token_at ts i).caller ≡ Some f
 unfolding token_at
 mapped-names f g h [] i e = e
 mapped-names f g h (t ∷ ts) zero e = h t e
@@ -102,12 +101,12 @@ module _ (s : List Bool) {ws dag : List ℕ} {used : Marks} {actor : Actor} {k :
 
   -- one more token with the caller of this one, which is marked
   abbrev CallerMarked : Type 0
-  CallerMarked = (f : ℕ) → get_or s f true ≡ false → t.caller ≡ places.At f → ⊥
+  CallerMarked = (f : ℕ) → get_or s f true ≡ false → t.caller ≡ Some f → ⊥
 
   another : CallerMarked → (o : Machine) (q : ℕ) (v : Token) → v.caller ≡ t.caller → NoNewCallee s m o → NoNewCallee s m (put q v o)
   another marked o q v same h f i e b = go (put-names o q v f i b)
     where
-      go : ((i ≡ q) × (v.caller ≡ places.At f)) ⊎ ((i ≡ q → ⊥) × NamesAsCaller o f i) → NamesAsCaller m f i
+      go : ((i ≡ q) × (v.caller ≡ Some f)) ⊎ ((i ≡ q → ⊥) × NamesAsCaller o f i) → NamesAsCaller m f i
       go (inl w) = absurd (marked f e (sym same ∙ w.1))
       go (inr w) = h f i e w.1
 
@@ -202,14 +201,14 @@ module _ (s : List Bool) (m : Machine) (p : ℕ) (none : (i : ℕ) → NamesAsCa
   fresh f i j e a b = go (ℕ_discrete f p)
     where
       go : Dec (f ≡ p) → i ≡ j
-      go (yes q) = absurd (none i (a ∙ ap places.At q))
+      go (yes q) = absurd (none i (a ∙ ap Some q))
       go (no n) = one f i j (sym (get_or-set_other s p f false true n) ∙ e) a b
 
   abbrev From : (f q k : ℕ) → Type 0
   From f q k = ((k ≡ q) × (f ≡ p)) ⊎ NamesAsCaller m f k
 
   -- the callee at q names p, and the others whom they named
-  called : (n : Machine) (q : ℕ) (v w : Token) → n.tokens ≡ m.tokens → v.caller ≡ places.At p → w.caller ≡ (token_at m.tokens p).caller
+  called : (n : Machine) (q : ℕ) (v w : Token) → n.tokens ≡ m.tokens → v.caller ≡ Some p → w.caller ≡ (token_at m.tokens p).caller
       → OneCallee (set s p false) (enqueue q (new_token q v (put p w n)))
   unfolding enqueue with_orders new_token with_counts
   called n q v w same calls frame f i j e a b = go (from i a) (from j b)
@@ -217,18 +216,18 @@ module _ (s : List Bool) (m : Machine) (p : ℕ) (none : (i : ℕ) → NamesAsCa
       from : (k : ℕ) → NamesAsCaller (put q v (put p w n)) f k → From f q k
       from k c = first (put-names (put p w n) q v f k c)
         where
-          second : ((k ≡ p) × (w.caller ≡ places.At f)) ⊎ ((k ≡ p → ⊥) × NamesAsCaller n f k) → From f q k
+          second : ((k ≡ p) × (w.caller ≡ Some f)) ⊎ ((k ≡ p → ⊥) × NamesAsCaller n f k) → From f q k
           second (inl x) = inr (ap (λ l. (token_at m.tokens l).caller) x.0 ∙ (sym frame ∙ x.1))
           second (inr x) = inr (ap (λ ts. (token_at ts k).caller) (sym same) ∙ x.1)
 
-          first : ((k ≡ q) × (v.caller ≡ places.At f)) ⊎ ((k ≡ q → ⊥) × NamesAsCaller (put p w n) f k) → From f q k
-          first (inl x) = let w : places.At p ≡ places.At f = sym calls ∙ x.1 in inl (x.0, let z : f ≡ p = cc in z)
+          first : ((k ≡ q) × (v.caller ≡ Some f)) ⊎ ((k ≡ q → ⊥) × NamesAsCaller (put p w n) f k) → From f q k
+          first (inl x) = let w : Some p ≡ Some f = sym calls ∙ x.1 in inl (x.0, let z : f ≡ p = cc in z)
           first (inr x) = second (put-names n p w f k x.1)
 
       go : From f q i → From f q j → i ≡ j
       go (inl x) (inl y) = x.0 ∙ sym y.0
-      go (inl x) (inr y) = absurd (none j (y ∙ ap places.At x.1))
-      go (inr x) (inl y) = absurd (none i (x ∙ ap places.At y.1))
+      go (inl x) (inr y) = absurd (none j (y ∙ ap Some x.1))
+      go (inr x) (inl y) = absurd (none i (x ∙ ap Some y.1))
       go (inr x) (inr y) = fresh f i j e x y
 
 -- in tail position the token keeps its caller, and nobody names it still
@@ -259,10 +258,10 @@ unfolding Answer.answer
 answer_keeps s d m h v one = effect-callees s m _ (tested (rules_hold paper d m)) one
   where
     given : (q : Place) → After (NoNewCallee s m) (Answer.answered m v q)
-    given places.Nowhere = unfold After Answer.answered in tt
-    given (places.At p) =
+    given None = unfold After Answer.answered in tt
+    given (Some p) =
         unfold After Answer.answered enqueue with_orders in
-        put-callees s m m refl p (with_state states.Ready (with_value (helds.Value v) (token_at m.tokens p)))
+        put-callees s m m refl p (with_state states.Ready (with_value (Some v) (token_at m.tokens p)))
         (λ f e. unfold with_state with_value in e)
 
     tested : (b : Bool) → After (NoNewCallee s m) (unless b 14 (Answer.answered m v (holder h 0 m.tokens)))
@@ -287,6 +286,6 @@ pub start-callees : (s : List Bool) (goal : ℕ) → OneCallee s (start_machine 
 unfolding put with_tables token_at
 start-callees s goal f i j e a b = go (put-names (blank_machine paper) 0 (start_token goal) f i a)
   where
-    go : ((i ≡ 0) × ((start_token goal).caller ≡ places.At f)) ⊎ ((i ≡ 0 → ⊥) × NamesAsCaller (blank_machine paper) f i) → i ≡ j
+    go : ((i ≡ 0) × ((start_token goal).caller ≡ Some f)) ⊎ ((i ≡ 0 → ⊥) × NamesAsCaller (blank_machine paper) f i) → i ≡ j
     go (inl w) = absurd (nowhere-at f w.1)
     go (inr w) = absurd (blank-names (blank_machine paper) f i (replicate-at 64 i blank_token) w.1)

@@ -8,6 +8,7 @@ use native.Mathlib.Omega.{arith}
 use lib.ListN.{length, set}
 use lib.Dec.{eqb}
 use lib.IntN.{ℤ}
+use Rattle.std.specs.Prelude.{Some, None}
 use Rattle.job.specs.Number.{unsigned, signed}
 use Rattle.job.specs.Test.{◌and◌, for_all}
 use Rattle.job.specs.Node.{is_node}
@@ -24,11 +25,7 @@ use Rattle.model.specs.declared.reply.Outcome.{Outcome}
 use Rattle.model.specs.declared.reply.Reply.{Reply}
 use Rattle.model.specs.declared.reply.Reply.TheVariants as replies
 use Rattle.model.specs.declared.reply.Report.{Report}
-use Rattle.model.specs.declared.token.Held.{Held}
-use Rattle.model.specs.declared.token.Held.TheVariants as helds
-use Rattle.model.specs.declared.token.Place.{Place}
-use Rattle.model.specs.declared.token.Place.TheVariants as places
-use Rattle.model.specs.declared.token.Bind.{Bind}
+use Rattle.model.specs.Machine.Held.{Held, Place}
 use Rattle.model.specs.declared.token.Slot.{Slot}
 use Rattle.model.specs.declared.token.Slot.TheVariants as slots
 use Rattle.model.specs.declared.token.State.TheVariants as states
@@ -55,8 +52,8 @@ Swept o ws used = Holds ws (sweep o) × MarksOf (sweep o) used
 -- a value's bits
 pub value-bits : (v : Held) → held_number v ≡ unsigned (value_of v)
 unfolding value_of unsigned
-value-bits helds.Nothing = refl
-value-bits (helds.Value v) = refl
+value-bits None = refl
+value-bits (Some v) = refl
 
 module _ {ws dag : List ℕ} {used : Marks} {actor : Actor} {m : Machine} (a : Taking ws used dag actor m) where
   abbrev t : Token
@@ -98,8 +95,7 @@ module _ {ws dag : List ℕ} {used : Marks} {actor : Actor} {m : Machine} (a : T
 
   -- a return
   pub return-vacant : (f : ℕ)
-      → Vacant (enqueue actor.token (put actor.token (with_state states.Ready (with_value t.value (token_at m.tokens f)))
-      (dequeued m actor.place))) used
+      → Vacant (enqueue actor.token (put actor.token (with_state states.Ready (with_value t.value (token_at m.tokens f))) (dequeued m actor.place))) used
   unfolding put with_tables with_orders enqueue
   return-vacant f = vacant-row a _ (with_state states.Ready (with_value t.value (token_at m.tokens f))) refl refl
 
@@ -113,21 +109,21 @@ pub gives_as : {x y : Outcome} {m : Machine} {ws : List ℕ} {used : Marks} {r :
 gives_as {x} {y} {m} {ws} {used} {r} e g = subst (λ o. Gives o m ws used r) (sym e) g
 
 -- a place's number is 0 for none
-pub no_place : (q : Place) (n : ℕ) → n ≡ place_number q → n ≡ 0 → q ≡ places.Nowhere
-no_place places.Nowhere n e z = refl
-no_place (places.At p) n e z = absurd (omega arith)
+pub no_place : (q : Place) (n : ℕ) → n ≡ place_number q → n ≡ 0 → q ≡ None
+no_place None n e z = refl
+no_place (Some p) n e z = absurd (omega arith)
 
 -- "a token at return names a frame"; "at choke a cell"
 pub is-place : (q : Place) (n size : ℕ) → is_place q ≡ true → place_in_range size q ≡ true → n ≡ place_number q
-    → (1 ≤ n) × (n - 1 < size) × (q ≡ places.At (n - 1))
+    → (1 ≤ n) × (n - 1 < size) × (q ≡ Some (n - 1))
 unfolding is_place place_in_range
-is-place places.Nowhere n size e r f = clash e refl
-is-place (places.At p) n size e r f = (omega arith, (let l = ltb-lt p size r in omega arith), ap places.At (omega arith))
+is-place None n size e r f = clash e refl
+is-place (Some p) n size e r f = (omega arith, (let l = ltb-lt p size r in omega arith), ap Some (omega arith))
 
 frame-place : (ts : List Token) (q : Place) → names_frame ts q ≡ true → is_place q ≡ true
 unfolding names_frame is_place
-frame-place ts places.Nowhere e = clash e refl
-frame-place ts (places.At p) e = refl
+frame-place ts None e = clash e refl
+frame-place ts (Some p) e = refl
 
 module _ {ws dag : List ℕ} {used : Marks} {actor : Actor} {m : Machine} (a : Taking ws used dag actor m) where
   range : token_in_range paper (dag_of dag) m.calls (token_at m.tokens actor.token) ≡ true
@@ -138,17 +134,16 @@ module _ {ws dag : List ℕ} {used : Marks} {actor : Actor} {m : Machine} (a : T
   value-range =
       let u = token_at m.tokens actor.token in
       and_left _ _
-      (and_right (for_all (λ (b : Bind). slot_in_range 32 b.slot) u.binds) _
+      (and_right (for_all (slot_in_range 32) u.binds) _
       (and_right (eqb (length u.binds) 8) _ (and_right (is_node (dag_of dag) u.node) _ range)))
 
   rest : (place_in_range 64 (token_at m.tokens actor.token).caller
-      and (place_in_range 32 (token_at m.tokens actor.token).cell and state_in_range 32 m.calls (token_at m.tokens actor.token).state))
-      ≡ true
+      and (place_in_range 32 (token_at m.tokens actor.token).cell and state_in_range 32 m.calls (token_at m.tokens actor.token).state)) ≡ true
   unfolding token_in_range
   rest =
       let u = token_at m.tokens actor.token in
       and_right (held_in_range u.value) _
-      (and_right (for_all (λ (b : Bind). slot_in_range 32 b.slot) u.binds) _
+      (and_right (for_all (slot_in_range 32) u.binds) _
       (and_right (eqb (length u.binds) 8) _ (and_right (is_node (dag_of dag) u.node) _ range)))
 
   pub caller-range : place_in_range 64 (token_at m.tokens actor.token).caller ≡ true
@@ -160,21 +155,21 @@ module _ {ws dag : List ℕ} {used : Marks} {actor : Actor} {m : Machine} (a : T
 module _ (dag : List ℕ) (actor : Actor) (m : Machine) {n : ℕ} where
   pub return-caller : {ws : List ℕ} {used : Marks} → Acting ws used dag actor 8 m
       → n ≡ place_number (token_at m.tokens actor.token).caller
-      → (1 ≤ n) × (n - 1 < 64) × ((token_at m.tokens actor.token).caller ≡ places.At (n - 1))
+      → (1 ≤ n) × (n - 1 < 64) × ((token_at m.tokens actor.token).caller ≡ Some (n - 1))
   unfolding node_rule
   return-caller a e = is-place _ n 64 (frame-place m.tokens _ (and_left _ _ (node-rule a))) (caller-range a.taking) e
 
   pub choke-cell : {ws : List ℕ} {used : Marks} → Acting ws used dag actor 7 m
       → n ≡ place_number (token_at m.tokens actor.token).cell
-      → (1 ≤ n) × (n - 1 < 32) × ((token_at m.tokens actor.token).cell ≡ places.At (n - 1))
+      → (1 ≤ n) × (n - 1 < 32) × ((token_at m.tokens actor.token).cell ≡ Some (n - 1))
   unfolding node_rule
   choke-cell a e = is-place _ n 32 (and_left _ _ (node-rule a)) (cell-range a.taking) e
 
 -- a value that is read as it was written
 pub value_read : (v : Held) (n : ℕ) → held_in_range v ≡ true → n ≡ held_number v → signed n ≡ value_of v
 unfolding held_in_range value_of signed
-value_read helds.Nothing n r e = ap signed e
-value_read (helds.Value v) n r e = ap signed e ∙ signed-unsigned v r
+value_read None n r e = ap signed e
+value_read (Some v) n r e = ap signed e ∙ signed-unsigned v r
 
 -- "publish reports its value"
 pub publish-reply : (v : Held) (n : ℕ) (z y : ℤ) → held_in_range v ≡ true → n ≡ held_number v → z ≡ signed n → y ≡ z
@@ -190,13 +185,10 @@ empty-no-cell c e = never cc
 
 -- the numbers of the node's row, as the code has them
 pub rebound-as : (m : Machine) (actor : Actor) (s : Slot) {x i k j : ℕ} → x ≡ i → k ≡ j
-    → accepted replies.Done [] (enqueue actor.token
-    (put actor.token (with_node k (with_binding x s (token_at m.tokens actor.token))) (dequeued m actor.place)))
-    ≡ accepted replies.Done [] (enqueue actor.token
-    (put actor.token (with_node j (with_binding i s (token_at m.tokens actor.token))) (dequeued m actor.place)))
+    → accepted replies.Done [] (enqueue actor.token (put actor.token (with_node k (with_binding x s (token_at m.tokens actor.token))) (dequeued m actor.place)))
+    ≡ accepted replies.Done [] (enqueue actor.token (put actor.token (with_node j (with_binding i s (token_at m.tokens actor.token))) (dequeued m actor.place)))
 rebound-as m actor s e f =
-    ap₂ (λ x k. accepted replies.Done [] (enqueue actor.token
-    (put actor.token (with_node k (with_binding x s (token_at m.tokens actor.token))) (dequeued m actor.place)))) e f
+    ap₂ (λ x k. accepted replies.Done [] (enqueue actor.token (put actor.token (with_node k (with_binding x s (token_at m.tokens actor.token))) (dequeued m actor.place)))) e f
 
 pub reply-as : {x : Outcome} (o : Machine) {q r : Reply} → x ≡ accepted q [] o → q ≡ r → x ≡ accepted r [] o
 reply-as {x} o e f = e ∙ ap (λ y. accepted y [] o) f

@@ -10,7 +10,6 @@ use lib.ListN.{length, get_or, take, get_or-eq_default}
 use lib.Seq.{take_all}
 use Rattle.model.specs.Machine.Blank.{empty, is_place, slot_at}
 use Rattle.model.specs.Machine.InUse.{bound_cell}
-use Rattle.model.specs.declared.token.Bind.{Bind}
 use Rattle.model.specs.declared.token.Slot.{Slot}
 use Rattle.model.specs.declared.token.Slot.TheVariants as slots
 use Rattle.record.specs.Layout.{slot_kind}
@@ -19,26 +18,26 @@ use Rattle.job.proofs.Test.{clash}
 use Rattle.acts.specs.Links.{BindsNoCell, to_cell, binds_cell}
 
 -- a slot by its kind
-is-cell : (b : Bind) (k : ℕ) → k ≡ slot_kind b.slot → k ≡ 2 → to_cell b ≡ true
+is-cell : (b : Slot) (k : ℕ) → k ≡ slot_kind b → k ≡ 2 → to_cell b ≡ true
 unfolding bound_cell is_place
-is-cell b k e f = go b.slot (sym e ∙ f)
+is-cell b k e f = go b (sym e ∙ f)
   where
-    go : (s : Slot) → slot_kind s ≡ 2 → to_cell (record { slot = s }) ≡ true
+    go : (s : Slot) → slot_kind s ≡ 2 → to_cell s ≡ true
     go slots.Empty z = absurd (omega arith)
     go (slots.Value v) z = absurd (omega arith)
     go (slots.Cell c) z = refl
 
-is-other : (b : Bind) (k : ℕ) → k ≡ slot_kind b.slot → (k ≡ 2 → ⊥) → to_cell b ≡ false
+is-other : (b : Slot) (k : ℕ) → k ≡ slot_kind b → (k ≡ 2 → ⊥) → to_cell b ≡ false
 unfolding bound_cell is_place
-is-other b k e f = go b.slot (λ z. f (e ∙ z))
+is-other b k e f = go b (λ z. f (e ∙ z))
   where
-    go : (s : Slot) → (slot_kind s ≡ 2 → ⊥) → to_cell (record { slot = s }) ≡ false
+    go : (s : Slot) → (slot_kind s ≡ 2 → ⊥) → to_cell s ≡ false
     go slots.Empty n = refl
     go (slots.Value v) n = refl
     go (slots.Cell c) n = absurd (n refl)
 
 -- the loop: a cell at x; none before x + 1; none at all
-module _ (bs : List Bind) (sized : length bs ≡ 8) (x : ℕ) where
+module _ (bs : List Slot) (sized : length bs ≡ 8) (x : ℕ) where
   pub cell-found : (k : ℕ) → x < 8 → k ≡ slot_kind (slot_at bs x) → k ≡ 2 → true ≡ binds_cell bs
   unfolding slot_at
   cell-found k l e f = sym (some_at to_cell bs x empty (omega arith) (is-cell _ k e f))
@@ -52,16 +51,16 @@ module _ (bs : List Bind) (sized : length bs ≡ 8) (x : ℕ) where
   no-cell-found l e = sym e ∙ ap binds_cell (take_all x bs (omega arith))
 
 -- what the answer means
-pub binds-none : (bs : List Bind) → binds_cell bs ≡ false → BindsNoCell bs
+pub binds-none : (bs : List Slot) → binds_cell bs ≡ false → BindsNoCell bs
 unfolding slot_at bound_cell is_place
 binds-none bs e x c f = go (dec_lt x (length bs))
   where
-    there : slot_kind (get_or bs x empty).slot ≡ 2
+    there : slot_kind (get_or bs x empty) ≡ 2
     there = ap slot_kind f
 
     go : Dec (x < length bs) → ⊥
     go (yes l) = clash (some_at to_cell bs x empty l (is-cell (get_or bs x empty) 2 (sym there) refl)) e
     go (no l) =
         let blank = get_or-eq_default bs empty {n = x} (omega arith) in
-        let z : slot_kind slots.Empty ≡ 2 = ap (λ (b : Bind). slot_kind b.slot) (sym blank) ∙ there in
+        let z : slot_kind slots.Empty ≡ 2 = ap slot_kind (sym blank) ∙ there in
         omega arith

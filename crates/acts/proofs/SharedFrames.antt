@@ -9,13 +9,13 @@ use native.Mathlib.Decide.{ℕ_discrete, dec_lt}
 use native.Mathlib.Omega.{arith}
 use lib.ListN.{length, get_or, set, replicate, length-set, get_or-eq_default}
 use lib.Seq.{get_or-set_same, get_or-set_other}
+use Rattle.std.specs.Prelude.{Some, None}
 use Rattle.model.specs.Machine.Blank.{blank_token, token_at}
 use Rattle.model.specs.Machine.InUse.{tokens_used, sweep}
 use Rattle.model.specs.Machine.Reply.{Effect, moves, waits, publishes, calls, refuses, accepted, outcome}
 use Rattle.model.specs.Machine.Update.{put, with_tables}
 use Rattle.model.specs.declared.record.Machine.{Machine}
-use Rattle.model.specs.declared.token.Place.{Place}
-use Rattle.model.specs.declared.token.Place.TheVariants as places
+use Rattle.model.specs.Machine.Held.{Place}
 use Rattle.model.specs.declared.token.Token.{Token}
 use Rattle.job.proofs.Test.{never, clash}
 use Rattle.model.proofs.Machine.Refused.{After}
@@ -27,7 +27,7 @@ use Rattle.reach.specs.declared.used.Marks.{Marks}
 use Rattle.job.proofs.Lists.{replicate-at}
 use Rattle.model.proofs.Machine.TableRows.{token-same, token-other, token-outside}
 
-pub nowhere-at : (f : ℕ) → places.Nowhere ≡ places.At f → ⊥
+pub nowhere-at : (f : ℕ) → None ≡ Some f → ⊥
 nowhere-at f e = never cc
 
 -- a blank token names nobody
@@ -47,10 +47,10 @@ marked_more s g f e = go (ℕ_discrete f g)
     go (no n) = (n, sym (get_or-set_other s g f true true n) ∙ e)
 
 pub unshared : (q : Place) (s : List Bool) (f : ℕ) → get_or (caller_shared q s) f true ≡ false
-    → (q ≡ places.At f → ⊥) × (get_or s f true ≡ false)
+    → (q ≡ Some f → ⊥) × (get_or s f true ≡ false)
 unfolding caller_shared
-unshared places.Nowhere s f e = (nowhere-at f, e)
-unshared (places.At g) s f e = let w = marked_more s g f e in (λ q. w.0 (let z : f ≡ g = cc in z), w.1)
+unshared None s f e = (nowhere-at f, e)
+unshared (Some g) s f e = let w = marked_more s g f e in (λ q. w.0 (let z : f ≡ g = cc in z), w.1)
 
 -- no place that is not marked gets a callee
 abbrev pub NoNewCallee : List Bool → (m n : Machine) → Type 0
@@ -71,14 +71,14 @@ swept-names o f i a = go (get_or (tokens_used o) i true) refl
 
 -- who names f after a token is written: that token, or another as before
 pub put-names : (m : Machine) (p : ℕ) (t : Token) (f i : ℕ) → NamesAsCaller (put p t m) f i
-    → ((i ≡ p) × (t.caller ≡ places.At f)) ⊎ ((i ≡ p → ⊥) × NamesAsCaller m f i)
+    → ((i ≡ p) × (t.caller ≡ Some f)) ⊎ ((i ≡ p → ⊥) × NamesAsCaller m f i)
 unfolding put with_tables
 put-names m p t f i a = go (ℕ_discrete i p) (dec_lt p (length m.tokens))
   where
     here : i ≡ p → NamesAsCaller (put p t m) f p
     here q = ap (λ k. (token_at (set m.tokens p t) k).caller) (sym q) ∙ a
 
-    go : Dec (i ≡ p) → Dec (p < length m.tokens) → ((i ≡ p) × (t.caller ≡ places.At f)) ⊎ ((i ≡ p → ⊥) × NamesAsCaller m f i)
+    go : Dec (i ≡ p) → Dec (p < length m.tokens) → ((i ≡ p) × (t.caller ≡ Some f)) ⊎ ((i ≡ p → ⊥) × NamesAsCaller m f i)
     go (yes q) (yes l) = inl (q, ap (λ (u : Token). u.caller) (sym (token-same m.tokens p t l)) ∙ here q)
     go (yes q) (no l) =
         absurd
@@ -103,10 +103,10 @@ module _ (s : List Bool) (m n : Machine) (same : n.tokens ≡ m.tokens) (p : ℕ
   back : (f i : ℕ) → NamesAsCaller n f i → NamesAsCaller m f i
   back f i a = ap (λ ts. (token_at ts i).caller) (sym same) ∙ a
 
-  pub put-callees : (u : Token) → ((f : ℕ) → u.caller ≡ places.At f → NamesAsCaller n f p) → NoNewCallee s m (put p u n)
+  pub put-callees : (u : Token) → ((f : ℕ) → u.caller ≡ Some f → NamesAsCaller n f p) → NoNewCallee s m (put p u n)
   put-callees u own f i e a = go (put-names n p u f i a)
     where
-      go : ((i ≡ p) × (u.caller ≡ places.At f)) ⊎ ((i ≡ p → ⊥) × NamesAsCaller n f i) → NamesAsCaller m f i
+      go : ((i ≡ p) × (u.caller ≡ Some f)) ⊎ ((i ≡ p → ⊥) × NamesAsCaller n f i) → NamesAsCaller m f i
       go (inl w) = back f i (subst (NamesAsCaller n f) (sym w.0) (own f w.1))
       go (inr w) = back f i w.1
 

@@ -7,6 +7,7 @@ use Prim.Native.Nat.{ℕ, ◌+◌, ◌<◌, ◌≤◌}
 use native.Mathlib.Omega.{arith}
 use lib.ListN.{get_or}
 use lib.Dec.{ltb}
+use Rattle.std.specs.Prelude.{Some}
 use Rattle.job.specs.Node.{Dag, body_at}
 use Rattle.job.specs.Tail.{is_tail}
 use Rattle.job.specs.Words.{dag_of}
@@ -22,7 +23,6 @@ use Rattle.model.specs.Machine.Step.{act, value_of}
 use Rattle.model.specs.Machine.Step.{has_token_place, has_cell_place, call_site, look}
 use Rattle.model.specs.declared.record.Machine.{Machine}
 use Rattle.model.specs.declared.reply.Reply.TheVariants as replies
-use Rattle.model.specs.declared.token.Place.TheVariants as places
 use Rattle.model.specs.declared.token.Slot.TheVariants as slots
 use Rattle.model.specs.declared.token.State.TheVariants as states
 use Rattle.model.specs.declared.token.Token.{Token}
@@ -115,40 +115,36 @@ module _ (dag : List ℕ) (actor : Actor) (m : Machine) where
   stop_step a = step_is a
 
   pub publish-step : {ws : List ℕ} {used : Marks} → Acting ws used dag actor 9 m
-      → Step.step paper (dag_of dag) m actor.place ≡ accepted (replies.Published (value_of t.value)) []
-      (put actor.token blank_token (dequeued m actor.place))
+      → Step.step paper (dag_of dag) m actor.place ≡ accepted (replies.Published (value_of t.value)) [] (put actor.token blank_token (dequeued m actor.place))
   unfolding act outcome Step.ended
   publish-step a = step_is a
 
   pub assign-step : {ws : List ℕ} {used : Marks} → Acting ws used dag actor 4 m → Step.step paper (dag_of dag) m actor.place
       ≡ accepted replies.Done []
-      (enqueue actor.token (put actor.token (with_node (word 2) (with_binding (word 1) (slots.Value (value_of t.value)) t))
-      (dequeued m actor.place)))
+      (enqueue actor.token (put actor.token (with_node (word 2) (with_binding (word 1) (slots.Value (value_of t.value)) t)) (dequeued m actor.place)))
   unfolding act outcome Step.goes_on
   assign-step a = step_is a
 
   pub remove-step : {ws : List ℕ} {used : Marks} → Acting ws used dag actor 5 m → Step.step paper (dag_of dag) m actor.place
-      ≡ accepted replies.Done [] (enqueue actor.token
-      (put actor.token (with_node (word 2) (with_binding (word 1) slots.Empty t)) (dequeued m actor.place)))
+      ≡ accepted replies.Done [] (enqueue actor.token (put actor.token (with_node (word 2) (with_binding (word 1) slots.Empty t)) (dequeued m actor.place)))
   unfolding act outcome Step.goes_on
   remove-step a = step_is a
 
-  pub return-step : {ws : List ℕ} {used : Marks} → (f : ℕ) → t.caller ≡ places.At f → Acting ws used dag actor 8 m
+  pub return-step : {ws : List ℕ} {used : Marks} → (f : ℕ) → t.caller ≡ Some f → Acting ws used dag actor 8 m
       → Step.step paper (dag_of dag) m actor.place
       ≡ accepted replies.Done []
       (enqueue actor.token (put actor.token (with_state states.Ready (with_value t.value (token_at m.tokens f))) (dequeued m actor.place)))
   unfolding act outcome Step.goes_on Step.returned with_orders
   return-step f e a = step_is a ∙ ap (λ q. outcome m (Step.returned (dequeued m actor.place) actor.token t q)) e
 
-  pub choke-step : {ws : List ℕ} {used : Marks} → (c : ℕ) → t.cell ≡ places.At c → Acting ws used dag actor 7 m
+  pub choke-step : {ws : List ℕ} {used : Marks} → (c : ℕ) → t.cell ≡ Some c → Acting ws used dag actor 7 m
       → Step.step paper (dag_of dag) m actor.place
       ≡ accepted replies.Done [] (Step.after_choke c t.value (dequeued m actor.place))
   unfolding act outcome Step.choke_at
   choke-step c e a = step_is a ∙ ap (λ q. outcome m (Step.choke_at (dequeued m actor.place) t q)) e
 
   pub site-step : {ws : List ℕ} {used : Marks} → Acting ws used dag actor 1 m → Step.step paper (dag_of dag) m actor.place
-      ≡ outcome m (call_site paper (dequeued m actor.place) actor.token t (word 1) (word 2)
-      (look m.cells t.binds (params_at dag actor.row)))
+      ≡ outcome m (call_site paper (dequeued m actor.place) actor.token t (word 1) (word 2) (look m.cells t.binds (params_at dag actor.row)))
   unfolding act with_orders
   site-step a = step_is a
 
@@ -157,8 +153,7 @@ module _ (dag : List ℕ) (actor : Actor) (m : Machine) where
       → new ≡ next_place (tokens_used m) m.lasttoken → Acting ws used dag actor 3 m
       → Step.step paper (dag_of dag) m actor.place
       ≡ accepted replies.Done []
-      (enqueue new (enqueue actor.token (new_token new (with_node (word 2) t)
-      (put actor.token (with_node (word 1) t) (dequeued m actor.place)))))
+      (enqueue new (enqueue actor.token (new_token new (with_node (word 2) t) (put actor.token (with_node (word 1) t) (dequeued m actor.place)))))
   unfolding act outcome unless Step.forked
   fork-step new room e a =
       step_is a
@@ -166,8 +161,7 @@ module _ (dag : List ℕ) (actor : Actor) (m : Machine) where
       (unless b 10 (Step.forked (dequeued m actor.place) actor.token t (next_place (tokens_used m) m.lasttoken) (word 1) (word 2))))
       room
       ∙ ap (λ q. accepted replies.Done []
-      (enqueue q (enqueue actor.token (new_token q (with_node (word 2) t)
-      (put actor.token (with_node (word 1) t) (dequeued m actor.place)))))) (sym e)
+      (enqueue q (enqueue actor.token (new_token q (with_node (word 2) t) (put actor.token (with_node (word 1) t) (dequeued m actor.place)))))) (sym e)
 
   pub fork-full : {ws : List ℕ} {used : Marks} → has_token_place paper m ≡ false → Acting ws used dag actor 3 m
       → Step.step paper (dag_of dag) m actor.place ≡ outcome m (refuses 10)
@@ -184,18 +178,15 @@ module _ (dag : List ℕ) (actor : Actor) (m : Machine) where
 
   body-step : {ws : List ℕ} {used : Marks} (tail : Bool) → is_tail (dag_of dag) (word 2) ≡ tail
       → Acting ws used dag actor 2 m
-      → Step.step paper (dag_of dag) m actor.place ≡ outcome m
-      (Step.call_body paper m (dequeued m actor.place) actor.token t root (params_at dag actor.row) (word 2)
+      → Step.step paper (dag_of dag) m actor.place ≡ outcome m (Step.call_body paper m (dequeued m actor.place) actor.token t root (params_at dag actor.row) (word 2)
       tail)
   unfolding act
   body-step tail is a =
-      step_is a ∙ ap (λ b. outcome m (Step.call_body paper m (dequeued m actor.place) actor.token t root (params_at dag actor.row)
-      (word 2) b)) is
+      step_is a ∙ ap (λ b. outcome m (Step.call_body paper m (dequeued m actor.place) actor.token t root (params_at dag actor.row) (word 2) b)) is
 
   pub tail_step : {ws : List ℕ} {used : Marks} → is_tail (dag_of dag) (word 2) ≡ true → Acting ws used dag actor 2 m
       → Step.step paper (dag_of dag) m actor.place
-      ≡ accepted replies.Done [] (enqueue actor.token
-      (put actor.token (Step.callee t.caller t root (params_at dag actor.row)) (dequeued m actor.place)))
+      ≡ accepted replies.Done [] (enqueue actor.token (put actor.token (Step.callee t.caller t root (params_at dag actor.row)) (dequeued m actor.place)))
   unfolding outcome Step.call_body Step.becomes_callee Step.goes_on
   tail_step is a = body-step true is a
 
@@ -203,15 +194,13 @@ module _ (dag : List ℕ) (actor : Actor) (m : Machine) where
       → is_tail (dag_of dag) (word 2) ≡ false → Acting ws used dag actor 2 m
       → Step.step paper (dag_of dag) m actor.place
       ≡ outcome m
-      (unless room 10 (Step.entered (dequeued m actor.place) actor.token t (next_place (tokens_used m) m.lasttoken) root
-      (params_at dag actor.row) (word 2)))
+      (unless room 10 (Step.entered (dequeued m actor.place) actor.token t (next_place (tokens_used m) m.lasttoken) root (params_at dag actor.row) (word 2)))
   unfolding Step.call_body
   entered-step room has is a =
       body-step false is a
       ∙ ap (λ b. outcome m
       (unless b 10
-      (Step.entered (dequeued m actor.place) actor.token t (next_place (tokens_used m) m.lasttoken) root (params_at dag actor.row)
-      (word 2)))) has
+      (Step.entered (dequeued m actor.place) actor.token t (next_place (tokens_used m) m.lasttoken) root (params_at dag actor.row) (word 2)))) has
 
   pub call_step : {ws : List ℕ} {used : Marks} → (new : ℕ) → has_token_place paper m ≡ true
       → new ≡ next_place (tokens_used m) m.lasttoken → is_tail (dag_of dag) (word 2) ≡ false → Acting ws used dag actor 2 m

@@ -6,6 +6,7 @@ use mathlib.Core.List.{List}
 use Prim.Native.Nat.{ℕ}
 use lib.ListN.{get_or, set}
 use lib.Seq.{get_or-set_other}
+use Rattle.std.specs.Prelude.{Some}
 use Rattle.job.specs.Words.{dag_of}
 use Rattle.model.specs.Machine.Blank.{blank_token, blank_cell, token_at, cell_at}
 use Rattle.model.specs.Machine.Limits.{paper}
@@ -14,8 +15,7 @@ use Rattle.model.specs.declared.token.Token.{Token}
 use Rattle.model.specs.Machine.Step as Step
 use Rattle.model.specs.Machine.Update.{with_tables, with_orders, with_timers}
 use Rattle.model.specs.Machine.Step.{after_choke}
-use Rattle.model.specs.declared.token.Held.{Held}
-use Rattle.model.specs.declared.token.Place.TheVariants as places
+use Rattle.model.specs.Machine.Held.{Held}
 use Rattle.record.specs.Changes.{dequeued}
 use Rattle.model.proofs.Machine.WrittenTokens.{choked-blank}
 use Rattle.model.proofs.Machine.Choke.{choke-at}
@@ -44,26 +44,23 @@ module _ {ws dag : List ℕ} {used : Marks} {m : Machine} (a : Lawful ws used da
 
 module _ {ws dag : List ℕ} {used : Marks} {actor : Actor} {m : Machine} (a : Taking ws used dag actor m) where
   pub token-used : Used m actor.token
-  token-used = live-used paper (dag_of dag) m (each-rule-holds paper (dag_of dag) m a.lawful.rules) actor.token
-      (ready-live _ (token-ready a))
+  token-used = live-used paper (dag_of dag) m (each-rule-holds paper (dag_of dag) m a.lawful.rules) actor.token (ready-live _ (token-ready a))
 
   other_row : (i : ℕ) → get_or used.tokens i true ≡ false → i ≡ actor.token → ⊥
-  other_row i e f = clash (ap (λ u. get_or u actor.token true) a.lawful.marks.tokens ∙ token-used)
-      (ap (λ j. get_or used.tokens j true) (sym f) ∙ e)
+  other_row i e f = clash (ap (λ u. get_or u actor.token true) a.lawful.marks.tokens ∙ token-used) (ap (λ j. get_or used.tokens j true) (sym f) ∙ e)
 
   -- an instruction that writes to its token's row alone
   pub vacant-row : (o : Machine) (u : Token) → o.tokens ≡ set m.tokens actor.token u → o.cells ≡ m.cells → Vacant o used
   vacant-row o u tokens same =
       record {
-        tokens = λ i l e. ap (λ ts. token_at ts i) tokens
-            ∙ (token-other m.tokens actor.token i u (other_row i e) ∙ free-token a.lawful i e);
+        tokens = λ i l e. ap (λ ts. token_at ts i) tokens ∙ (token-other m.tokens actor.token i u (other_row i e) ∙ free-token a.lawful i e);
         cells = λ c l e. ap (λ cs. cell_at cs c) same ∙ free-cell a.lawful c e;
       }
 
 -- a choke writes to rows of tokens in use and to the cell of the token that acts, which is in use
 pub choke-vacant : {ws dag : List ℕ} {used : Marks} {actor : Actor} {m : Machine} → Taking ws used dag actor m
     → (c : ℕ) (v : Held)
-    → (token_at m.tokens actor.token).cell ≡ places.At c → Vacant (after_choke c v (dequeued m actor.place)) used
+    → (token_at m.tokens actor.token).cell ≡ Some c → Vacant (after_choke c v (dequeued m actor.place)) used
 unfolding after_choke with_tables with_timers with_orders cell_at
 choke-vacant {ws} {dag} {used} {actor} {m} a c v e =
     record {

@@ -1,17 +1,17 @@
 -- What is known where a token acts, and what its act leaves. Assumes nothing: these are definitions.
-use Rattle.std.specs.Prelude.{◌≡◌, Bool, true, false, List, [], ℕ, ◌<◌, length, get_or}
+use Rattle.std.specs.Prelude.{◌≡◌, Bool, true, List, [], ℕ, ◌<◌, length, get_or, Result, Ok, Err}
 use Rattle.job.specs.Words.{dag_of}
 use Rattle.model.specs.Machine.Blank.{token_at}
 use Rattle.model.specs.Machine.InUse.{tokens_used}
 use Rattle.model.specs.Machine.Limits.{paper}
-use Rattle.model.specs.Machine.Reply.{report_values, refusal_of}
+use Rattle.model.specs.Machine.Reply.{report_values}
 use Rattle.model.specs.Machine.Rules.{rules_hold}
 use Rattle.model.specs.declared.record.Machine.{Machine}
 use Rattle.model.specs.declared.reply.Outcome.{Outcome}
+use Rattle.model.specs.declared.reply.Refusal.{Refusal}
 use Rattle.model.specs.declared.reply.Reply.{Reply}
 use Rattle.model.specs.declared.reply.Reply.TheVariants as replies
 use Rattle.model.specs.declared.reply.Report.{Report}
-use Rattle.model.specs.declared.token.Place.TheVariants as places
 use Rattle.model.specs.declared.token.State.TheVariants as states
 use Rattle.record.specs.Holds.{Holds}
 use Rattle.reach.specs.Marks.{MarksOf}
@@ -51,7 +51,7 @@ pub record Acting (ws : List ℕ) (used : Marks) (dag : List ℕ) (actor : Actor
 -- every caller of a token in use is a frame: so it is in each record of a run
 abbrev pub CallersAreFrames : Machine → Type 0
 CallersAreFrames m =
-    (i j : ℕ) → get_or (tokens_used m) i true ≡ true → (token_at m.tokens i).caller ≡ places.At j
+    (i j : ℕ) → get_or (tokens_used m) i true ≡ true → (token_at m.tokens i).caller ≡ Some j
     → (token_at m.tokens j).state ≡ states.Frame
 
 -- a call's report and the words after it are those of an outcome; the marks too, where callers are frames
@@ -65,12 +65,7 @@ pub record Gives (o : Outcome) (m : Machine) (ws : List ℕ) (used : Marks) (r :
 abbrev pub plain : Reply → Report
 plain r = record { reply = r; values = report_values [] }
 
--- an answer's, by whether its handle was open
-abbrev pub answer_report : Bool → Report
-answer_report true = plain replies.Done
-answer_report false = plain (replies.Refused (refusal_of 12))
-
--- a clock move's, by whether it took the time
-abbrev pub advance_report : Bool → Report
-advance_report true = plain replies.Done
-advance_report false = plain (replies.Refused (refusal_of 15))
+-- an answer's or a clock move's: it is done, or it is refused
+abbrev pub call_report : Result Unit Refusal → Report
+call_report (Ok done) = plain replies.Done
+call_report (Err refusal) = plain (replies.Refused refusal)

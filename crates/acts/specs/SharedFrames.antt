@@ -1,17 +1,16 @@
 -- Which frames may have more than one callee, as marks: a Bool for each place. Assumes nothing: these are definitions.
-use Rattle.std.specs.Prelude.{◌≡◌, Bool, true, false, List, ℕ, get_or, set}
+use Rattle.std.specs.Prelude.{◌≡◌, Bool, true, false, List, ℕ, get_or, set, Some, None}
 use Rattle.model.specs.Machine.Blank.{token_at}
 use Rattle.model.specs.declared.record.Machine.{Machine}
 use Rattle.model.specs.declared.reply.Outcome.{Outcome}
 use Rattle.model.specs.declared.reply.Report.{Report}
-use Rattle.model.specs.declared.token.Place.{Place}
-use Rattle.model.specs.declared.token.Place.TheVariants as places
+use Rattle.model.specs.Machine.Held.{Place}
 use Rattle.acts.specs.Acting.{Gives, CallersAreFrames}
 use Rattle.reach.specs.declared.used.Marks.{Marks}
 
 -- the token at i names the one at f as its caller
 abbrev pub NamesAsCaller : Machine → (f i : ℕ) → Type 0
-NamesAsCaller m f i = (token_at m.tokens i).caller ≡ places.At f
+NamesAsCaller m f i = (token_at m.tokens i).caller ≡ Some f
 
 -- a place that is not marked has one callee at most
 abbrev pub OneCallee : List Bool → Machine → Type 0
@@ -23,8 +22,8 @@ Alone m p = (f i : ℕ) → NamesAsCaller m f p → NamesAsCaller m f i → i �
 
 -- one more token names this caller
 unfoldable pub caller_shared : Place → List Bool → List Bool
-caller_shared places.Nowhere shared = shared
-caller_shared (places.At f) shared = set shared f true
+caller_shared None shared = shared
+caller_shared (Some f) shared = set shared f true
 
 -- a return copies the frame's caller: where the frame f may have another callee it may stay, and then its caller has one more
 unfoldable pub return_shared : Machine → (f : ℕ) → List Bool → List Bool

@@ -33,8 +33,7 @@ fn calls(words: &mut [u32; Machine::WORDS], dag: &[u32; WORDS], handles: &[u32],
 {
     start(words, dag);
     let mut at: usize = 0;
-    let mut n = 0;
-    while n < most {
+    for n in 0..most {
         if 0 < ready(words) {
             step(words, dag, 0);
         } else {
@@ -44,9 +43,8 @@ fn calls(words: &mut [u32; Machine::WORDS], dag: &[u32; WORDS], handles: &[u32],
             answer(words, dag, handles[at], 7);
             at += 1;
         }
-        n += 1;
     }
-    n
+    most
 }
 
 // Loads a table, and makes its first calls so many times. Answers how many calls were made the last time.
@@ -59,10 +57,8 @@ pub extern "C" fn bench_calls(table: &[u8], handles: &[u32], most: u32, rounds: 
     load(table, &mut dag);
     let mut words = [0u32; Machine::WORDS];
     let mut made = 0;
-    let mut i = 0;
-    while i < rounds {
+    for _ in 0..rounds {
         made = calls(&mut words, &dag, handles, most);
-        i += 1;
     }
     made
 }

@@ -1,3 +1,2 @@
 -- Laws of the site call.
-pub mod TimedReply
 pub mod SiteCall

@@ -5,10 +5,10 @@ use mathlib.Core.Bool.{Bool, true, false}
 use mathlib.Core.List.{List, [], ◌∷◌}
 use mathlib.Core.Option.{Option, some, none}
 use Prim.Native.Nat.{ℕ, suc, ◌+◌, ◌<◌, ◌≤◌}
-use native.Mathlib.Omega.{arith}
 use lib.ListN.{length, get_or}
 use lib.Dec.{ltb}
 use lib.IntN.{ℤ, pos}
+use Rattle.std.specs.Prelude.{Result, Ok}
 use Rattle.job.specs.Site.{BuiltinReply, gives, silent, later, due_time, at, is_builtin, builtin}
 use Rattle.sites.specs.declared.site.SiteReply.{SiteReply}
 use Rattle.sites.specs.SiteReply.{builtin_reply_of}
@@ -27,7 +27,6 @@ use Rattle.model.specs.declared.reply.Outcome.{Outcome}
 use Rattle.model.specs.declared.reply.Reply.{Reply}
 use Rattle.model.specs.declared.reply.Report.{Report}
 use Rattle.model.specs.declared.reply.Reply.TheVariants as replies
-use Rattle.model.specs.declared.token.Held.TheVariants as helds
 use Rattle.model.specs.declared.token.State.TheVariants as states
 use Rattle.model.specs.declared.token.Token.{Token}
 use Rattle.job.proofs.Test.{lt-ltb, le-not-ltb}
@@ -37,9 +36,8 @@ use Rattle.record.specs.Changes.{dequeued, delayed}
 use Rattle.record.specs.Holds.{Holds}
 use Rattle.sites.specs.Row.{params_at}
 use Rattle.sites.specs.Look.{look_up_of}
-use Rattle.sites.specs.declared.look.LookUp.{LookUp}
-use Rattle.sites.proofs.LookLaws.{look-values, look-below, look-count}
-use Rattle.sites.proofs.RuleFacts.{look-facts}
+use Rattle.sites.specs.declared.look.UnsetCell.{UnsetCell}
+use Rattle.sites.proofs.LookLaws.{look-values, look-count}
 use Rattle.sites.proofs.LookParams.{params-count}
 use Rattle.sites.proofs.RowKinds.{site-params}
 use Rattle.model.specs.Machine.Rules.{node_rule}
@@ -50,7 +48,7 @@ use Rattle.calls.specs.declared.rwait.TimedReply.{TimedReply}
 use Rattle.calls.specs.declared.rwait.TimedReply.TheVariants as settleds
 use Rattle.reach.specs.declared.used.Marks.{Marks}
 use Rattle.writes.specs.declared.actor.Actor.{Actor}
-use Rattle.acts.proofs.Outcomes.{gives_whole, token-inside, row, node-rule}
+use Rattle.acts.proofs.Outcomes.{gives_whole, row, node-rule}
 use Rattle.acts.proofs.StepAtNode.{site-step}
 
 module _ {ws dag : List ℕ} {used : Marks} {actor : Actor} {m : Machine} (a : Taking ws used dag actor m) where
@@ -67,11 +65,9 @@ module _ {ws dag : List ℕ} {used : Marks} {actor : Actor} {m : Machine} (a : T
       gives_whole o reply vs r e f g h c.whole
       (λ framed. record { whole = c.whole; tokens = c.tokens ∙ sym k.tokens; cells = c.cells ∙ sym k.cells })
 
-  pub wait-gives : {x : Outcome} (c : ℕ) {after : List ℕ} (r : Report)
-      → x ≡ outcome m (Step.waited (dequeued m actor.place) actor.token t c)
+  pub wait-gives : {x : Outcome} (c : ℕ) {after : List ℕ} (r : Report) → x ≡ outcome m (Step.waited (dequeued m actor.place) actor.token t c)
       → r ≡ plain replies.Waits
-      → Holds after (delayed actor.token (put actor.token (with_state (states.Waiting c) t) (dequeued m actor.place)))
-      → Gives x m after used r
+      → Holds after (delayed actor.token (put actor.token (with_state (states.Waiting c) t) (dequeued m actor.place))) → Gives x m after used r
   unfolding outcome Step.waited put with_tables Update.queue_of Update.waits_of
   wait-gives c r e f h =
       marked _ replies.Waits [] r e (ap (λ (y : Report). y.reply) f) (ap (λ (y : Report). y.values) f) h
@@ -79,18 +75,15 @@ module _ {ws dag : List ℕ} {used : Marks} {actor : Actor} {m : Machine} (a : T
 
   pub reply-gives : {x : Outcome} (v : ℤ) (k j : ℕ) {after : List ℕ} (r : Report)
       → x ≡ outcome m (Step.replied (dequeued m actor.place) actor.token t k (gives v)) → j ≡ k
-      → r ≡ plain replies.Done → Holds after
-      (enqueue actor.token (put actor.token (with_node j (with_value (helds.Value v) t)) (dequeued m actor.place)))
+      → r ≡ plain replies.Done → Holds after (enqueue actor.token (put actor.token (with_node j (with_value (Some v) t)) (dequeued m actor.place)))
       → Gives x m after used r
   unfolding outcome Step.replied Step.goes_on
   reply-gives v k j {after} r e g f h =
       marked _ replies.Done [] r e (ap (λ (y : Report). y.reply) f) (ap (λ (y : Report). y.values) f)
-      (subst (λ i. Holds after (enqueue actor.token
-      (put actor.token (with_node i (with_value (helds.Value v) t)) (dequeued m actor.place)))) g h)
+      (subst (λ i. Holds after (enqueue actor.token (put actor.token (with_node i (with_value (Some v) t)) (dequeued m actor.place)))) g h)
       (replied-carried paper (dag_of dag) m a.lawful.rules actor.place a.queued actor.token a.token k v)
 
-  pub due-gives : {x : Outcome} (due k j : ℕ) {after : List ℕ} (r : Report)
-      → x ≡ outcome m (moves (in_time (dequeued m actor.place) actor.token t k due))
+  pub due-gives : {x : Outcome} (due k j : ℕ) {after : List ℕ} (r : Report) → x ≡ outcome m (moves (in_time (dequeued m actor.place) actor.token t k due))
       → j ≡ k → r ≡ plain replies.Done → Holds after (in_time (dequeued m actor.place) actor.token t j due) → Gives x m after used r
   unfolding outcome
   due-gives due k j {after} r e g f h =
@@ -109,8 +102,7 @@ module _ {ws dag : List ℕ} {used : Marks} {actor : Actor} {m : Machine} (a : T
       marked _ (replies.Called m.calls s (length vs)) vs r e
       (f ∙ ap₂ (λ x y. replies.Called x y n) eh ei ∙ ap (replies.Called m.calls s) l) v
       (subst₂ (λ x y. Holds after
-      (with_counts (suc x) m.lasttoken m.lastcell
-      (put actor.token (with_node y (with_state (states.Called x) t)) (dequeued m actor.place)))) eh g
+      (with_counts (suc x) m.lasttoken m.lastcell (put actor.token (with_node y (with_state (states.Called x) t)) (dequeued m actor.place)))) eh g
       held)
       (called-carried paper (dag_of dag) m a.lawful.rules actor.place a.queued actor.token a.token m.calls k (suc m.calls) m.lasttoken
       m.lastcell)
@@ -151,12 +143,10 @@ module _ (dag : List ℕ) (actor : Actor) (m : Machine) where
         → Step.step paper (dag_of dag) m actor.place ≡ outcome m (Step.replied (dequeued m actor.place) actor.token mine (word 2) said)
     unfolding by-site is_builtin
     says said l e =
-        at-site ∙ ap by-site (lt-ltb (word 1) 8 l)
-        ∙ ap (λ y. outcome m (Step.replied (dequeued m actor.place) actor.token mine (word 2) y)) e
+        at-site ∙ ap by-site (lt-ltb (word 1) 8 l) ∙ ap (λ y. outcome m (Step.replied (dequeued m actor.place) actor.token mine (word 2) y)) e
 
     pub calls-out : 8 ≤ word 1 → m.calls < 1000000
-        → Step.step paper (dag_of dag) m actor.place ≡ outcome m
-        (Step.called_out (dequeued m actor.place) actor.token mine (word 1) k.values (word 2))
+        → Step.step paper (dag_of dag) m actor.place ≡ outcome m (Step.called_out (dequeued m actor.place) actor.token mine (word 1) k.values (word 2))
     unfolding by-site is_builtin unless with_orders
     calls-out l f =
         at-site
@@ -173,16 +163,11 @@ module _ (dag : List ℕ) (actor : Actor) (m : Machine) where
         (le-not-ltb m.calls 1000000 f)
 
 -- all values were found
-pub values_of : {ws dag : List ℕ} {used : Marks} {actor : Actor} {m : Machine} (r : LookUp)
+pub values_of : {ws dag : List ℕ} {used : Marks} {actor : Actor} {m : Machine} {r : Result (List ℤ) UnsetCell} {xs : List ℤ}
     → Acting ws used dag actor 1 m
-    → r ≡ look_up_of (look m.cells (token_at m.tokens actor.token).binds (params_at dag actor.row)) → 32 ≤ r.unset
-    → Evaluated ws used dag actor r.values m
-values_of {ws} {dag} {used} {actor} {m} r a e n =
-    let facts = look-facts (dag_of dag) m a.taking.lawful.rules actor.token (token-inside a.taking) in
-    let k = look-values _ r e (λ l. omega arith)
-    (look-below m.cells (token_at m.tokens actor.token).binds facts.slots (params_at dag actor.row))
-    in
-    record { acting = a; values = k.0; found = k.1; padded = k.2 }
+    → r ≡ look_up_of (look m.cells (token_at m.tokens actor.token).binds (params_at dag actor.row)) → r ≡ Ok xs
+    → Evaluated ws used dag actor xs m
+values_of a e f = let k = look-values _ e _ f in record { acting = a; values = k.0; found = k.1; padded = k.2 }
 
 -- as many values as parameters: "at a call no empty variable"
 pub values-count : {ws dag : List ℕ} {used : Marks} {actor : Actor} {vs : List ℤ} {m : Machine}
@@ -214,7 +199,7 @@ module _ (m : Machine) (place p k : ℕ) where
     where
       go : (b : Bool)
           → elim b as (λ b. Effect) [
-            | false ↦ Step.goes_on (dequeued m place) p (with_node k (with_value (helds.Value (pos 0)) (token_at m.tokens p)))
+            | false ↦ Step.goes_on (dequeued m place) p (with_node k (with_value (Some (pos 0)) (token_at m.tokens p)))
             | true ↦ moves (in_time (dequeued m place) p (token_at m.tokens p) k due)
           ]
           ≡ settled_effect (elim b as (λ b. TimedReply) [ true ↦ settleds.Due due | false ↦ settleds.Gives (pos 0) ])

@@ -10,7 +10,7 @@ ghost use Rattle.calls.specs.TimedReply.{settled_at};
 
 use model::record::Machine;
 use record::count::clock;
-use sites::due::{DueTime, due_time};
+use sites::due::due_time;
 use sites::site::SiteReply;
 
 #[derive(Clone, Copy)]
@@ -24,13 +24,9 @@ fn fall_due(present: u32, t: i32) -> TimedReply
     ensures { result ≡ settled_at present (later t) }
 {
     match due_time(present, t) {
-        DueTime::At(due) => {
-            if present < due {
-                return TimedReply::Due(due);
-            }
-            TimedReply::Gives(0)
-        }
-        DueTime::Never => TimedReply::Silent,
+        Some(due) if present < due => TimedReply::Due(due),
+        Some(_) => TimedReply::Gives(0),
+        None => TimedReply::Silent,
     }
 }
 

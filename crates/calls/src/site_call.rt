@@ -17,8 +17,7 @@ use model::record::Machine;
 use model::reply::{Refusal, Reply, Report};
 use reach::used::Marks;
 use record::count::calls_made;
-use record::layout::CELL_PLACE_COUNT;
-use sites::look::look_up;
+use sites::look::{UnsetCell, look_up};
 use sites::number::unsigned;
 use sites::site::builtin;
 use writes::actor::Actor;
@@ -63,9 +62,7 @@ fn built_in(
     ensures { (m : Machine) → Evaluated w.old marks.old dag.now actor values m
         → Gives (Step.step paper (dag_of dag.now) m actor.place) m w.new marks.new result }
 {
-    let a = values[0];
-    let b = values[1];
-    let said = builtin(dag_word(dag, actor.row + NAMED_NUMBER), a, b);
+    let said = builtin(dag_word(dag, actor.row + NAMED_NUMBER), values[0], values[1]);
     match settle(w, said) {
         TimedReply::Gives(v) => {
             reply(w, actor, unsigned(v), dag_word(dag, actor.row + NEXT_NODE));
@@ -89,13 +86,13 @@ pub fn site_call(
     ensures { (m : Machine) → Acting w.old marks.old dag.now actor 1 m
         → Gives (Step.step paper (dag_of dag.now) m actor.place) m w.new marks.new result }
 {
-    let found = look_up(w, dag, actor.token, actor.row);
-    let unset = found.unset;
-    if unset < CELL_PLACE_COUNT {
-        wait(w, actor, unset);
-        return plain(Reply::Waits);
-    }
-    let values = found.values;
+    let values = match look_up(w, dag, actor.token, actor.row) {
+        Ok(values) => values,
+        Err(UnsetCell(cell)) => {
+            wait(w, actor, cell);
+            return plain(Reply::Waits);
+        }
+    };
     if dag_word(dag, actor.row + NAMED_NUMBER) < BUILTIN_LIMIT {
         return built_in(w, marks, dag, actor, values);
     }

@@ -1,12 +1,11 @@
 -- A clock move in the steps of the code: the first of those due earliest wakes, until none is due. Assumes nothing: these are definitions.
-use Rattle.std.specs.Prelude.{◌≡◌, ◌++◌, map, ℕ, ◌+◌, ◌<◌, ◌≤◌, pos, get_or}
+use Rattle.std.specs.Prelude.{◌≡◌, ◌++◌, map, ℕ, ◌+◌, ◌<◌, ◌≤◌, pos, get_or, Some}
 use Rattle.job.specs.Test.{occurrences, once, without}
 use Rattle.model.specs.Machine.Blank.{token_at}
 use Rattle.model.specs.Machine.Clock.{woken_by, joining, staying}
 use Rattle.model.specs.Machine.State.{is_due, due_time_of}
 use Rattle.model.specs.Machine.Update.{with_value, with_state, with_tables, with_orders, with_timers}
 use Rattle.model.specs.Machine.Update.{queue_of, waits_of, timers_of, put, enqueue}
-use Rattle.model.specs.declared.token.Held.TheVariants as helds
 use Rattle.model.specs.declared.token.State.TheVariants as states
 use Rattle.model.specs.declared.token.Token.{Token}
 use Rattle.model.specs.declared.record.Machine.{Machine}
@@ -27,7 +26,7 @@ pub data Earliest (due : ℕ → ℕ) (n time i : ℕ) : Type 0 where
 
 -- ready, with value 0
 abbrev pub awake : Token → Token
-awake t = with_state states.Ready (with_value (helds.Value (pos 0)) t)
+awake t = with_state states.Ready (with_value (Some (pos 0)) t)
 
 -- the token that the order of call names at an index leaves it for the queue
 abbrev pub wake_at : (i : ℕ) → Machine → Machine

@@ -11,6 +11,7 @@ ghost use Rattle.clock.specs.WakeOneByOne.{ClockFacts, Earliest, due_at, wake_at
 use job::wide::wide;
 use model::record::Machine;
 use record::layout::{LAST_TIME, READY_STATE};
+use record::order::{CallOrder, Queue};
 use record::{count, order, token};
 
 // "15, the clock would go back or leave its range"
@@ -26,7 +27,7 @@ fn due_time(w: &[u32; Machine::WORDS], i: usize) -> u32
     requires { i < 64 }
     ensures { (m : Machine) → Holds w.now m → ClockFacts m → i < m.timed → result ≡ due_at m i }
 {
-    let p = wide(order::timer_name(w, i));
+    let p = wide(order::place_at::<CallOrder>(w, i));
     if p < Machine::TOKENS {
         return token::state_number(w, p);
     }
@@ -37,7 +38,7 @@ fn due_time(w: &[u32; Machine::WORDS], i: usize) -> u32
 fn earliest(w: &[u32; Machine::WORDS], time: u32) -> usize
     ensures { (m : Machine) → Holds w.now m → ClockFacts m → Earliest (due_at m) m.timed time result }
 {
-    let timed = wide(order::timed(w));
+    let timed = wide(order::count::<CallOrder>(w));
     let mut found: usize = Machine::TOKENS;
     if Machine::TOKENS < timed {
         return found;
@@ -60,13 +61,13 @@ fn wake_at(w: &mut [u32; Machine::WORDS], i: usize)
     requires { i < 64 }
     ensures { (m : Machine) → Holds w.old m → ClockFacts m → i < m.timed → Holds w.new (wake_at i m) }
 {
-    let name = order::timer_name(w, i);
+    let name = order::place_at::<CallOrder>(w, i);
     let p = wide(name);
     if p < Machine::TOKENS {
-        order::leave_timers(w, i);
+        order::leave::<CallOrder>(w, i);
         token::set_value(w, p, 1, 0);
         token::set_state(w, p, READY_STATE, 0);
-        order::join(w, name);
+        order::join::<Queue>(w, name);
     }
 }
 
@@ -74,7 +75,7 @@ fn wake_at(w: &mut [u32; Machine::WORDS], i: usize)
 fn wake_due(w: &mut [u32; Machine::WORDS], time: u32)
     ensures { (m : Machine) → Holds w.old m → ClockFacts m → Holds w.new (all_woken m time) }
 {
-    let mut left = wide(order::timed(w));
+    let mut left = wide(order::count::<CallOrder>(w));
     while 0 < left {
         let i = earliest(w, time);
         if Machine::TOKENS <= i {

@@ -3,20 +3,20 @@
 use mathlib.Core.Path.{◌≡◌, refl, sym, ap, ap₂, subst, ◌∙◌}
 use mathlib.Core.Bool.{Bool, true}
 use mathlib.Core.List.{List, [], ◌∷◌, ◌++◌}
-use Prim.Native.Nat.{ℕ, zero, suc, ◌+◌, ◌-◌, ◌*◌, ◌^◌, ◌<◌, ◌≤◌}
+use Prim.Native.Nat.{ℕ, zero, suc, ◌+◌, ◌*◌, ◌^◌, ◌<◌, ◌≤◌}
 use native.Mathlib.Nat.{mul-zero, mul-suc}
 use native.Mathlib.Numerals.{add-one}
 use native.Mathlib.Omega.{arith}
 use lib.Dec.{eqb}
 use lib.ListN.{length, get_or, take, drop, length-drop, take-append-drop, drop_of_length-le}
 use lib.Seq.{get_or-drop, drop-drop, drop-cons, take-add, length-take-le, take_at, drop_at}
+use Rattle.std.specs.Prelude.{Some, None}
 use Rattle.model.specs.declared.token.Slot.TheVariants as slots
-use Rattle.model.specs.declared.token.Held.TheVariants as helds
 use Rattle.model.specs.declared.token.State.TheVariants as states
-use Rattle.job.specs.Test.{◌and◌, same}
+use Rattle.job.specs.Test.{same}
 use Rattle.model.specs.Machine.Blank.{blank_token, token_at, slot_at}
 use Rattle.model.specs.declared.token.Slot.{Slot}
-use Rattle.model.specs.declared.token.Held.{Held}
+use Rattle.model.specs.Machine.Held.{Held}
 use Rattle.model.specs.declared.token.State.{State}
 use Rattle.model.specs.declared.token.Token.{Token}
 use Rattle.model.specs.declared.cell.Cell.{Cell}
@@ -85,8 +85,8 @@ state-passes (states.Due d) = refl
 state-passes states.Frame = refl
 
 held-passes : (v : Held) → held_coded (held_kind v) (held_number v) ≡ true
-held-passes helds.Nothing = refl
-held-passes (helds.Value v) = refl
+held-passes None = refl
+held-passes (Some v) = refl
 
 slot-passes : (s : Slot) → slot_coded (slot_kind s) (slot_number s) ≡ true
 slot-passes slots.Empty = refl

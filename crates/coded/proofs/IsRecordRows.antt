@@ -11,8 +11,8 @@ use Rattle.model.specs.declared.record.Machine.{Machine}
 use Rattle.job.proofs.Test.{and_left, and_right, and_both}
 use Rattle.record.specs.Holds.{Codes}
 use Rattle.coded.specs.WordTests.{row_coded, cell_coded, table_coded, token_coded, cell_at_coded, record_coded}
-use Rattle.coded.specs.IsRecord.{is_record}
-use Rattle.coded.proofs.IsRecord.{Small, words-pass, coded-record}
+use Rattle.coded.specs.IsRecord.{is_record, RowByRow}
+use Rattle.coded.proofs.IsRecord.{Small, words-pass, coded-record, record-codes}
 
 module _ (ok : List ℕ → Bool) (w : ℕ) where
   abbrev row_at : List ℕ → ℕ → List ℕ
@@ -40,7 +40,7 @@ module _ (ok : List ℕ → Bool) (w : ℕ) where
       and_both (ap ok (sym (row_first ws)) ∙ f 0 (omega arith))
       (table-whole n (drop w ws) (λ p l. ap ok (row_next ws p) ∙ f (suc p) (omega arith)))
 
-cell_row : (ws : List ℕ) (c : ℕ) → row_at cell_coded 4 (drop 1536 ws) c ≡ take 4 (drop (1536 + 4 * c) ws)
+pub cell_row : (ws : List ℕ) (c : ℕ) → row_at cell_coded 4 (drop 1536 ws) c ≡ take 4 (drop (1536 + 4 * c) ws)
 cell_row ws c = ap (take 4) (drop-drop (4 * c) 1536 ws)
 
 module _ {ws : List ℕ} {m : Machine} (h : Codes ws m) where
@@ -64,3 +64,6 @@ all-coded-record ws long small f g =
     sym (coded-record ws long small)
     ∙ and_both (table-whole row_coded 24 64 ws f)
     (table-whole cell_coded 4 32 (drop 1536 ws) (λ c l. ap cell_coded (cell_row ws c) ∙ g c l))
+
+pub row_by_row : (ws : List ℕ) → length ws ≡ 1863 → Small ws → RowByRow ws
+row_by_row ws long small = record { codes = record-codes ws long; passes = all-coded-record ws long small }

@@ -7,6 +7,7 @@ use Prim.Native.Nat.{ℕ, zero, suc, ◌+◌, ◌*◌, ◌<◌}
 use native.Mathlib.Omega.{arith}
 use lib.ListN.{length, get_or}
 use lib.Seq.{take_at, drop_at}
+use Rattle.std.specs.Prelude.{Some, None}
 use Rattle.job.specs.Bounds.{scope_limit}
 use Rattle.job.specs.Test.{for_all, same}
 use Rattle.job.specs.Node.{Dag}
@@ -15,10 +16,7 @@ use Rattle.model.specs.Machine.Limits.{Limits, paper}
 use Rattle.model.specs.Machine.Rules.{held_in_range, slot_in_range, token_in_range, cell_in_range, rules_hold}
 use Rattle.model.specs.declared.token.Slot.{Slot}
 use Rattle.model.specs.declared.token.Slot.TheVariants as slots
-use Rattle.model.specs.declared.token.Bind.{Bind}
-use Rattle.model.specs.declared.token.Held.{Held}
-use Rattle.model.specs.declared.token.Held.TheVariants as helds
-use Rattle.model.specs.declared.token.Place.{Place}
+use Rattle.model.specs.Machine.Held.{Held, Place}
 use Rattle.model.specs.declared.token.State.{State}
 use Rattle.model.specs.declared.token.State.TheVariants as states
 use Rattle.model.specs.declared.token.Token.{Token}
@@ -49,8 +47,8 @@ state-read states.Frame = refl
 
 held-read : (v : Held) → held_in_range v ≡ true → held_from (held_kind v) (held_number v) ≡ v
 unfolding held_from held_in_range
-held-read helds.Nothing e = refl
-held-read (helds.Value v) e = ap helds.Value (signed-unsigned v e)
+held-read None e = refl
+held-read (Some v) e = ap Some (signed-unsigned v e)
 
 slot_read : (cells : ℕ) (s : Slot) → slot_in_range cells s ≡ true → slot_from (slot_kind s) (slot_number s) ≡ s
 unfolding slot_from slot_in_range
@@ -59,14 +57,12 @@ slot_read cells (slots.Value v) e = ap slots.Value (signed-unsigned v e)
 slot_read cells (slots.Cell c) e = refl
 
 -- rows
-binding : Slot → Bind
-binding s = record { slot = s }
 
 -- the token of these fields
-token : ℕ → List Bind → Held → Place → Place → State → Token
+token : ℕ → List Slot → Held → Place → Place → State → Token
 token n b v p c s = record { node = n; binds = b; value = v; caller = p; cell = c; state = s }
 
-same-token : (n : ℕ) {b a : List Bind} {v w : Held} {p q c e : Place} {s t : State} → b ≡ a → v ≡ w → p ≡ q → c ≡ e → s ≡ t
+same-token : (n : ℕ) {b a : List Slot} {v w : Held} {p q c e : Place} {s t : State} → b ≡ a → v ≡ w → p ≡ q → c ≡ e → s ≡ t
     → token n b v p c s ≡ token n a w q e t
 same-token n b v p c s = cc
 
@@ -75,7 +71,7 @@ module _ (lim : Limits) (d : Dag) (calls : ℕ) (t : Token) (e : token_in_range 
   unfolding token_in_range
   sized = eqb-eq (length t.binds) scope_limit (and_left _ _ (and_right _ _ e))
 
-  slots-fit : for_all (λ (b : Bind). slot_in_range lim.cell_places b.slot) t.binds ≡ true
+  slots-fit : for_all (slot_in_range lim.cell_places) t.binds ≡ true
   unfolding token_in_range
   slots-fit = and_left _ _ (and_right _ _ (and_right _ _ e))
 
@@ -83,16 +79,12 @@ module _ (lim : Limits) (d : Dag) (calls : ℕ) (t : Token) (e : token_in_range 
   unfolding token_in_range
   value-fits = and_left _ _ (and_right _ _ (and_right _ _ (and_right _ _ e)))
 
-  bound : (x : ℕ) → x < 8
-      → binding (slot_from (slot_kind (slot_at t.binds x)) (slot_number (slot_at t.binds x))) ≡ binding (slot_at t.binds x)
+  bound : (x : ℕ) → x < 8 → slot_from (slot_kind (slot_at t.binds x)) (slot_number (slot_at t.binds x)) ≡ slot_at t.binds x
   unfolding slot_at
-  bound x l =
-      ap binding
-      (slot_read lim.cell_places _
-      (all-at (λ (b : Bind). slot_in_range lim.cell_places b.slot) t.binds x empty slots-fit (omega (arith, sized))))
+  bound x l = slot_read lim.cell_places _ (all-at (slot_in_range lim.cell_places) t.binds x empty slots-fit (omega (arith, sized)))
 
   binds-read : (token_from (row_of t)).binds ≡ t.binds
-  unfolding token_from row_of binds_from slot_at table binding
+  unfolding token_from row_of binds_from slot_at table
   binds-read =
       ap₂ ◌∷◌ (bound 0 (omega arith)) (ap₂ ◌∷◌ (bound 1 (omega arith)) (ap₂ ◌∷◌ (bound 2 (omega arith)) (ap₂ ◌∷◌ (bound 3 (omega arith))
       (ap₂ ◌∷◌ (bound 4 (omega arith)) (ap₂ ◌∷◌ (bound 5 (omega arith)) (ap₂ ◌∷◌ (bound 6 (omega arith)) (ap₂ ◌∷◌ (bound 7 (omega arith))

@@ -1,11 +1,11 @@
 // A reply as a line.
 use crate::print::{number, put, value};
-use model::reply::{Refusal, Reply, number_of};
+use model::reply::{Refusal, Reply};
 use std::io;
 
 fn refusal(rt: &impl Print, r: Refusal) -> io::Result<()> {
     put(rt, b"refused")?;
-    number(rt, number_of(r) as u64)
+    number(rt, u8::from(r) as u64)
 }
 
 // The values beside a reply, where not all are 0.

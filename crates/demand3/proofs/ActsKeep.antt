@@ -8,6 +8,7 @@ use native.Mathlib.Omega.{arith}
 use lib.ListN.{length, set, length-set, length-map}
 use lib.Dec.{ltb, eqb}
 use lib.IntN.{ℤ}
+use Rattle.std.specs.Prelude.{Some, None}
 use Rattle.job.specs.Test.{for_all, select}
 use Rattle.job.specs.Number.{Signed32}
 use Rattle.job.specs.Site.{last_time}
@@ -25,9 +26,7 @@ use Rattle.model.specs.Machine.Step.{unset, has_token_place, has_cell_place, tok
 use Rattle.model.specs.Machine.Update.{with_orders, queue_of, waits_of, timers_of}
 use Rattle.model.specs.Machine.Step.{cell_place, choke_token, act}
 use Rattle.model.specs.declared.token.Slot.TheVariants as slots
-use Rattle.model.specs.declared.token.Held.TheVariants as helds
-use Rattle.model.specs.declared.token.Place.{Place}
-use Rattle.model.specs.declared.token.Place.TheVariants as places
+use Rattle.model.specs.Machine.Held.{Place}
 use Rattle.model.specs.declared.token.State.{State}
 use Rattle.model.specs.declared.token.State.TheVariants as states
 use Rattle.model.specs.declared.token.Token.{Token}
@@ -80,11 +79,11 @@ not-live-due (states.Due d) e = e
 not-live-due states.Frame e = refl
 
 -- a cell is within itself
-own-within : (cs : List Cell) (c : ℕ) → c < length cs → within cs c (places.At c) ≡ true
+own-within : (cs : List Cell) (c : ℕ) → c < length cs → within cs c (Some c) ≡ true
 unfolding within
 own-within cs c l = go (length cs) (omega arith)
   where
-    go : (n : ℕ) → 0 < n → upward (λ b k. eqb c b) cs n (places.At c) ≡ true
+    go : (n : ℕ) → 0 < n → upward (λ b k. eqb c b) cs n (Some c) ≡ true
     go zero i = absurd (omega arith)
     go (suc n) i = unfold upward in rw (eqb_same c, upward) refl
 
@@ -227,12 +226,12 @@ module _ (lim : Limits) (d : Dag) (m : Machine) (F : Facts lim d m) (some : 0 < 
           queue = queue ++ (q ∷ []);
           waits = waits;
           timers = F.timers;
-          orders = orders-enqueue (orders-token (orders-put begun p frame) q (Step.callee (places.At p) acting root ps)) q;
-          timed = timers-enqueue (timers-token (timers-put timed p frame) q (Step.callee (places.At p) acting root ps)) q;
-          lines = second frame (Step.callee (places.At p) acting root ps) refl (lines-gone T frame refl refl refl);
+          orders = orders-enqueue (orders-token (orders-put begun p frame) q (Step.callee (Some p) acting root ps)) q;
+          timed = timers-enqueue (timers-token (timers-put timed p frame) q (Step.callee (Some p) acting root ps)) q;
+          lines = second frame (Step.callee (Some p) acting root ps) refl (lines-gone T frame refl refl refl);
           tables =
               both-written (ahead k ik refl refl refl Idle.frame) Idle.frame
-              (called-good (places.At p) root ps ir holds) Idle.ready;
+              (called-good (Some p) root ps ir holds) Idle.ready;
         }
       where
         frame : Token
@@ -269,7 +268,7 @@ module _ (lim : Limits) (d : Dag) (m : Machine) (F : Facts lim d m) (some : 0 < 
         right = Update.in_cell c (Update.with_node r acting)
 
         own : Cell
-        own = record { parent = acting.cell; value = helds.Nothing }
+        own = record { parent = acting.cell; value = None }
 
   -- site calls
   waited : (c : ℕ) → Awaits d m.cells acting c → Keeps (Step.waited at p acting c)
@@ -364,7 +363,7 @@ module _ (lim : Limits) (d : Dag) (m : Machine) (F : Facts lim d m) (some : 0 < 
       u : Token
       u = Update.with_node k (Update.with_state (states.Called m.calls) acting)
 
-  chokes : (c : ℕ) → acting.cell ≡ places.At c → c < length m.cells → Facts lim d (Step.after_choke c acting.value at)
+  chokes : (c : ℕ) → acting.cell ≡ Some c → c < length m.cells → Facts lim d (Step.after_choke c acting.value at)
   unfolding Step.after_choke Update.with_tables Update.with_timers with_orders
   chokes c e i =
       record {
@@ -404,7 +403,7 @@ module _ (lim : Limits) (d : Dag) (m : Machine) (F : Facts lim d m) (some : 0 < 
   -- what the node at which the token stands does
   module _ (dag : dag_holds d ≡ true)
       (named : (x c : ℕ) → slot_at acting.binds x ≡ slots.Cell c → c < length m.cells)
-      (own : (c : ℕ) → acting.cell ≡ places.At c → c < length m.cells)
+      (own : (c : ℕ) → acting.cell ≡ Some c → c < length m.cells)
       (token : has_token_place lim m ≡ true → Vacant m (token_place m))
       (cell : has_cell_place lim m ≡ true → cell_place m < length m.cells) where
     node-inside : (k : ℕ) → is_node d k ≡ true → k < length d.nodes

@@ -10,6 +10,7 @@ use Prim.Native.Nat.{ℕ, suc, ◌<◌, ◌≤◌}
 use native.Mathlib.Omega.{arith}
 use lib.ListN.{length, get_or}
 use lib.IntN.{ℤ}
+use Rattle.std.specs.Prelude.{Some}
 use Rattle.job.specs.Number.{Signed32}
 use Rattle.job.specs.Test.{◌and◌}
 use Rattle.job.specs.Site.{last_time}
@@ -29,7 +30,6 @@ use Rattle.calculus.specs.Event.{Event, Label, silently, showing}
 use Rattle.calculus.specs.Expression.{Exp}
 use Rattle.calculus.specs.Allowed.{shown, next_handle}
 use Rattle.model.specs.Run.Call.{Call, step, answer, advance, runner, events_of, outcome_of}
-use Rattle.model.specs.declared.token.Place.TheVariants as places
 use Rattle.model.specs.declared.token.State.TheVariants as states
 use Rattle.model.specs.declared.token.Token.{Token}
 use Rattle.model.specs.declared.cell.Cell.{Cell}
@@ -167,7 +167,7 @@ module _ (lim : Limits) (d : Dag) (M : Labels) (bodies : ℕ → Exp) (fits : Fi
         ready_at i.0 i.1 (subst (λ p. Acting M W p L R n B F U v) (sym i.2) acting)
 
   answer-does : (h p : ℕ) (w : ℤ) → (token_at m.tokens p).state ≡ states.Called h
-      → Answer.answer lim d m h w ≡ outcome m (answered m w (places.At p))
+      → Answer.answer lim d m h w ≡ outcome m (answered m w (Some p))
   unfolding Answer.answer unless
   answer-does h p w e = rw (ok.holds, open-holder lim d m ok.holds h p e, unless) refl
 

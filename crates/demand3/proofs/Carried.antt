@@ -10,6 +10,7 @@ use native.Mathlib.Omega.{arith}
 use lib.ListN.{length, get_or, set, length-set, length-map}
 use lib.Seq.{get_or-set_other}
 use lib.IntN.{ℤ}
+use Rattle.std.specs.Prelude.{Some, None}
 use Rattle.job.specs.Test.{without}
 use Rattle.job.specs.Syntax.{Param}
 use Rattle.job.specs.Node.{Dag}
@@ -27,9 +28,6 @@ use Rattle.model.specs.Machine.Answer.{holder}
 use Rattle.model.specs.Machine.Clock.{woken_by, after_advance}
 use Rattle.model.specs.declared.token.Slot.{Slot}
 use Rattle.model.specs.declared.token.Slot.TheVariants as slots
-use Rattle.model.specs.declared.token.Bind.{Bind}
-use Rattle.model.specs.declared.token.Held.TheVariants as helds
-use Rattle.model.specs.declared.token.Place.TheVariants as places
 use Rattle.model.specs.declared.token.State.TheVariants as states
 use Rattle.model.specs.declared.token.Token.{Token}
 use Rattle.model.specs.declared.record.Machine.{Machine}
@@ -222,9 +220,9 @@ module _ (lim : Limits) (d : Dag) (m : Machine) (holds : rules_hold lim d m ≡ 
     deferred-carried due next timers = links-carried p live _ (with_node next (with_state (states.Due due) t)) refl refl refl refl refl refl
 
     pub replied-carried : (next : ℕ) (v : ℤ)
-        → Carried (enqueue p (put p (with_node next (with_value (helds.Value v) t)) (taken m place))) (tokens_used m) (cells_used m)
+        → Carried (enqueue p (put p (with_node next (with_value (Some v) t)) (taken m place))) (tokens_used m) (cells_used m)
     unfolding with_orders put with_tables enqueue with_node with_value
-    replied-carried next v = links-carried p live _ (with_node next (with_value (helds.Value v) t)) refl refl live refl refl refl
+    replied-carried next v = links-carried p live _ (with_node next (with_value (Some v) t)) refl refl live refl refl refl
 
     -- assign, remove: neither what x was bound to nor what it is bound to is a cell
     pub rebound-carried : (x : ℕ) (s : Slot) (next : ℕ)
@@ -240,12 +238,12 @@ module _ (lim : Limits) (d : Dag) (m : Machine) (holds : rules_hold lim d m ≡ 
         u : Token
         u = with_node next (with_binding x s t)
 
-        still : (y c : ℕ) → slot_at t.binds y ≡ slots.Cell c → slot_at (set t.binds x (record { slot = s })) y ≡ slots.Cell c
+        still : (y c : ℕ) → slot_at t.binds y ≡ slots.Cell c → slot_at (set t.binds x s) y ≡ slots.Cell c
         still y c e = go (ℕ_discrete y x)
           where
-            go : Dec (y ≡ x) → slot_at (set t.binds x (record { slot = s })) y ≡ slots.Cell c
+            go : Dec (y ≡ x) → slot_at (set t.binds x s) y ≡ slots.Cell c
             go (yes f) = absurd (old c (ap (slot_at t.binds) (sym f) ∙ e))
-            go (no n) = ap (λ (b : Bind). b.slot) (get_or-set_other t.binds x y (record { slot = s }) empty n) ∙ e
+            go (no n) = get_or-set_other t.binds x y s empty n ∙ e
 
     -- a tail call: no variable was bound to a cell, so no formal is
     pub became-carried : (root : ℕ) (ps : List Param) → ((x c : ℕ) → slot_at t.binds x ≡ slots.Cell c → ⊥)
@@ -272,19 +270,19 @@ module _ (lim : Limits) (d : Dag) (m : Machine) (holds : rules_hold lim d m ≡ 
 
       pub entered-carried : (root : ℕ) (ps : List Param) (next : ℕ)
           → Carried
-          (enqueue q (new_token q (callee (places.At p) t root ps) (put p (with_node next (with_state states.Frame t)) (taken m place))))
+          (enqueue q (new_token q (callee (Some p) t root ps) (put p (with_node next (with_state states.Frame t)) (taken m place))))
           (set (tokens_used m) q true) (cells_used m)
       unfolding with_orders with_counts put with_tables enqueue new_token with_node with_state is_live
       entered-carried root ps next =
           new-carried clean q (call-inside lim d m rules p used q root ps next)
           (call-adds lim d m holds p live _ q (with_node next (with_state states.Frame t))
-          (callee (places.At p) t root ps) refl free refl refl refl refl refl refl refl)
+          (callee (Some p) t root ps) refl free refl refl refl refl refl refl refl)
 
       pub split-carried : has_cell_place lim m ≡ true → (c : ℕ) → c ≡ next_place (cells_used m) m.lastcell → (x left right : ℕ)
           → Carried
           (enqueue q
           (enqueue p
-          (new_cell c (record { parent = t.cell; value = helds.Nothing })
+          (new_cell c (record { parent = t.cell; value = None })
           (new_token q (in_cell c (with_node right t)) (put p (with_node left (with_binding x (slots.Cell c) t)) (taken m place))))))
           (set (tokens_used m) q true) (set (cells_used m) c true)
       unfolding with_orders with_counts put with_tables enqueue new_token new_cell with_node in_cell with_binding cell_is_set has_value
@@ -292,13 +290,13 @@ module _ (lim : Limits) (d : Dag) (m : Machine) (holds : rules_hold lim d m ≡ 
           both-carried clean q c (split-inside lim d m rules p used q c x left right)
           (split-adds lim d m holds p live _ q (with_node left (with_binding x (slots.Cell c) t)) (in_cell c (with_node right t)) refl
           free c
-          (record { parent = t.cell; value = helds.Nothing }) refl vacant refl refl live refl live refl refl refl)
+          (record { parent = t.cell; value = None }) refl vacant refl refl live refl live refl refl refl)
         where
           vacant : Free (cells_used m) c
           vacant = subst (Free (cells_used m)) (sym cell) (free-cell lim d m holds fits below)
 
     -- "the token ends": it names no caller and no cell
-    module _ (caller : t.caller ≡ places.Nowhere) (cell : t.cell ≡ places.Nowhere) (binds : BindsNoCell t) where
+    module _ (caller : t.caller ≡ None) (cell : t.cell ≡ None) (binds : BindsNoCell t) where
       ends : Adds m (stopped m place p) p
       unfolding with_orders put with_tables
       ends = end-adds lim d m holds p live _ blank_token refl refl refl caller cell binds
@@ -350,13 +348,13 @@ module _ (lim : Limits) (d : Dag) (m : Machine) (holds : rules_hold lim d m ≡ 
         unfolding Others
         ended-carried = record { whole = ended-whole; tokens = tokens-removed ends within; cells = ended-cells }
 
-  pub answered-carried : (handle : ℕ) (v : ℤ) (p : ℕ) → holder handle 0 m.tokens ≡ places.At p
-      → Carried (enqueue p (put p (with_state states.Ready (with_value (helds.Value v) (token_at m.tokens p))) m)) (tokens_used m)
+  pub answered-carried : (handle : ℕ) (v : ℤ) (p : ℕ) → holder handle 0 m.tokens ≡ Some p
+      → Carried (enqueue p (put p (with_state states.Ready (with_value (Some v) (token_at m.tokens p))) m)) (tokens_used m)
       (cells_used m)
   unfolding with_orders put with_tables enqueue with_state with_value is_live
   answered-carried handle v p found =
       links-carried p (ap is_live (holder-called handle m.tokens p found)) _
-      (with_state states.Ready (with_value (helds.Value v) (token_at m.tokens p))) refl refl refl refl refl refl
+      (with_state states.Ready (with_value (Some v) (token_at m.tokens p))) refl refl refl refl refl refl
 
   -- a clock move: a token that wakes keeps its links
   pub advanced-carried : (time : ℕ) → Carried (after_advance m time) (tokens_used m) (cells_used m)

@@ -10,6 +10,7 @@ use lib.ListN.{length, get_or, take, length-take}
 use lib.Seq.{get_or-take}
 use lib.Dec.{eqb}
 use lib.IntN.{ℤ}
+use Rattle.std.specs.Prelude.{Some}
 use Rattle.job.specs.Test.{◌or◌, for_some, occurrences, once, distinct}
 use Rattle.job.specs.Node.{Dag}
 use Rattle.model.specs.Machine.Limits.{Limits}
@@ -17,9 +18,7 @@ use Rattle.model.specs.Machine.Blank.{token_at}
 use Rattle.model.specs.Machine.Rules.{open_handles, rules_hold}
 use Rattle.model.specs.Machine.State.{is_ready, handle_of}
 use Rattle.model.specs.Machine.Answer.{holder}
-use Rattle.model.specs.declared.token.Held.{Held}
-use Rattle.model.specs.declared.token.Place.{Place}
-use Rattle.model.specs.declared.token.Place.TheVariants as places
+use Rattle.model.specs.Machine.Held.{Held, Place}
 use Rattle.model.specs.declared.token.State.{State}
 use Rattle.model.specs.declared.token.State.TheVariants as states
 use Rattle.model.specs.declared.token.Token.{Token}
@@ -140,21 +139,21 @@ unfolding distinct
 differ-first h hs e f = clash (and_left _ _ e) (ap not f)
 
 pub holder-finds : (h i : ℕ) (ts : List Token) (p : ℕ) → distinct (open_handles ts) ≡ true → (token_at ts p).state ≡ states.Called h
-    → holder h i ts ≡ places.At (i + p)
+    → holder h i ts ≡ Some (i + p)
 unfolding holder token_at open_handles handle_of
 holder-finds h i [] p u e = never cc
 holder-finds h i (t ∷ ts) zero u e = go _ (has-handle h t.state e)
   where
-    go : (b : Bool) → b ≡ true → elim b as (λ b. Place) [ true ↦ places.At i | false ↦ holder h (suc i) ts ] ≡ places.At (i + 0)
-    go true x = ap places.At (let z : i ≡ i + 0 = omega arith in z)
+    go : (b : Bool) → b ≡ true → elim b as (λ b. Place) [ true ↦ Some i | false ↦ holder h (suc i) ts ] ≡ Some (i + 0)
+    go true x = ap Some (let z : i ≡ i + 0 = omega arith in z)
     go false x = clash x refl
 holder-finds h i (t ∷ ts) (suc p) u e =
     go (for_some (eqb h) (handle_of t.state)) refl
     (holder-finds h (suc i) ts p (differ-behind t.state (open_handles ts) u) e
-    ∙ ap places.At (let z : suc i + p ≡ i + suc p = omega arith in z))
+    ∙ ap Some (let z : suc i + p ≡ i + suc p = omega arith in z))
   where
-    go : (b : Bool) → for_some (eqb h) (handle_of t.state) ≡ b → holder h (suc i) ts ≡ places.At (i + suc p)
-        → elim b as (λ b. Place) [ true ↦ places.At i | false ↦ holder h (suc i) ts ] ≡ places.At (i + suc p)
+    go : (b : Bool) → for_some (eqb h) (handle_of t.state) ≡ b → holder h (suc i) ts ≡ Some (i + suc p)
+        → elim b as (λ b. Place) [ true ↦ Some i | false ↦ holder h (suc i) ts ] ≡ Some (i + suc p)
     go true x r =
         absurd
         (differ-first h (open_handles ts) (ap (λ s. distinct (handle_of s ++ open_handles ts)) (sym (holds-handle h t.state x)) ∙ u)
@@ -162,6 +161,6 @@ holder-finds h i (t ∷ ts) (suc p) u e =
     go false x r = r
 
 pub open-holder : (lim : Limits) (d : Dag) (m : Machine) → rules_hold lim d m ≡ true → (h p : ℕ)
-    → (token_at m.tokens p).state ≡ states.Called h → holder h 0 m.tokens ≡ places.At p
+    → (token_at m.tokens p).state ≡ states.Called h → holder h 0 m.tokens ≡ Some p
 open-holder lim d m holds h p e =
-    holder-finds h 0 m.tokens p (each-rule-holds lim d m holds).handles e ∙ ap places.At (let z : 0 + p ≡ p = omega arith in z)
+    holder-finds h 0 m.tokens p (each-rule-holds lim d m holds).handles e ∙ ap Some (let z : 0 + p ≡ p = omega arith in z)

@@ -7,11 +7,11 @@ use Prim.Native.Nat.{ℕ, ◌<◌}
 use native.Mathlib.Decide.{dec_lt}
 use native.Mathlib.Omega.{arith}
 use lib.ListN.{length}
+use Rattle.std.specs.Prelude.{Some}
 use Rattle.job.specs.Node.{Dag}
 use Rattle.model.specs.Machine.Limits.{Limits}
 use Rattle.model.specs.Machine.Blank.{token_at}
 use Rattle.model.specs.Machine.Active.{is_active}
-use Rattle.model.specs.declared.token.Place.TheVariants as places
 use Rattle.model.specs.declared.token.State.TheVariants as states
 use Rattle.model.specs.declared.token.Token.{Token}
 use Rattle.model.specs.declared.record.Machine.{Machine}
@@ -28,7 +28,7 @@ use Rattle.model.proofs.Machine.TableRows.{token-outside}
 
 -- the caller of a token in use is a frame
 abbrev pub Framed : Machine → Type 0
-Framed m = (i j : ℕ) → Used m i → (token_at m.tokens i).caller ≡ places.At j → (token_at m.tokens j).state ≡ states.Frame
+Framed m = (i j : ℕ) → Used m i → (token_at m.tokens i).caller ≡ Some j → (token_at m.tokens j).state ≡ states.Frame
 
 module _ {M : Labels} {W : World} {A : List ℕ} {S : List Abstract.Token} (K : Core M W A S) where
   -- the frames from a token's caller on are seen
@@ -47,7 +47,7 @@ module _ {M : Labels} {W : World} {A : List ℕ} {S : List Abstract.Token} (K : 
       go : {F : List Frame} → FrameSeen W M j F → Calls j
       go (frame_at k s v) = (_, v.caller)
 
-  caller-frame : (i j : ℕ) → i < length W.tokens → UsedToken W i → (token_at W.tokens i).caller ≡ places.At j
+  caller-frame : (i j : ℕ) → i < length W.tokens → UsedToken W i → (token_at W.tokens i).caller ≡ Some j
       → (token_at W.tokens j).state ≡ states.Frame
   caller-frame i j l u e = go (frame-seen j e ((tokens-of W).least Calls active-calls next-calls i l u).1)
     where

@@ -6,6 +6,7 @@ use mathlib.Core.List.Memᴰ
 use mathlib.Core.List.{List, [], ◌∷◌, Memᴰ}
 use Prim.Native.Nat.{ℕ}
 use lib.IntN.{ℤ}
+use Rattle.std.specs.Prelude.{Some, None}
 use Rattle.job.specs.Test.{for_all}
 use Rattle.job.specs.Syntax.{Param, variable, constant}
 use Rattle.model.specs.Machine.Blank.{cell_at, slot_at, is_bound}
@@ -13,9 +14,7 @@ use Rattle.model.specs.Machine.Rules.{not_empty}
 use Rattle.model.specs.Machine.Step.{LookUpResult, values, unset, and_then, look}
 use Rattle.model.specs.declared.token.Slot.{Slot}
 use Rattle.model.specs.declared.token.Slot.TheVariants as slots
-use Rattle.model.specs.declared.token.Bind.{Bind}
-use Rattle.model.specs.declared.token.Held.{Held}
-use Rattle.model.specs.declared.token.Held.TheVariants as helds
+use Rattle.model.specs.Machine.Held.{Held}
 use Rattle.model.specs.declared.cell.Cell.{Cell}
 use Rattle.job.proofs.Test.{never, clash, all_head, all_tail}
 
@@ -25,28 +24,28 @@ unfolding and_then
 unset-then v (values vs) c e = never cc
 unset-then v (unset b) c e = e
 
-abbrev Asks : List Cell → List Bind → List Param → ℕ → Type 0
-Asks cs bs ps c = (x : ℕ) × Memᴰ (variable x) ps × (slot_at bs x ≡ slots.Cell c) × ((cell_at cs c).value ≡ helds.Nothing)
+abbrev Asks : List Cell → List Slot → List Param → ℕ → Type 0
+Asks cs bs ps c = (x : ℕ) × Memᴰ (variable x) ps × (slot_at bs x ≡ slots.Cell c) × ((cell_at cs c).value ≡ None)
 
-asks-later : (cs : List Cell) (bs : List Bind) (p : Param) (ps : List Param) (c : ℕ) → Asks cs bs ps c → Asks cs bs (p ∷ ps) c
+asks-later : (cs : List Cell) (bs : List Slot) (p : Param) (ps : List Param) (c : ℕ) → Asks cs bs ps c → Asks cs bs (p ∷ ps) c
 asks-later cs bs p ps c (x, m, e, f) = (x, Memᴰ.tail m, e, f)
 
-module _ (cs : List Cell) (bs : List Bind) where
+module _ (cs : List Cell) (bs : List Slot) where
   cell-asks : (x : ℕ) (ps : List Param) (b : ℕ) → slot_at bs x ≡ slots.Cell b → (w : Held) → (cell_at cs b).value ≡ w → (c : ℕ)
       → (look cs bs ps ≡ unset c → Asks cs bs ps c)
-      → elim w as (λ w. LookUpResult) [ helds.Nothing ↦ unset b | helds.Value v ↦ and_then v (look cs bs ps) ] ≡ unset c
+      → elim w as (λ w. LookUpResult) [ None ↦ unset b | Some v ↦ and_then v (look cs bs ps) ] ≡ unset c
       → Asks cs bs (variable x ∷ ps) c
-  cell-asks x ps b s helds.Nothing w c f e =
+  cell-asks x ps b s None w c f e =
       let z : b ≡ c = cc in
-      (x, Memᴰ.head refl, s ∙ ap slots.Cell z, subst (λ i. (cell_at cs i).value ≡ helds.Nothing) z w)
-  cell-asks x ps b s (helds.Value v) w c f e = asks-later cs bs (variable x) ps c (f (unset-then v (look cs bs ps) c e))
+      (x, Memᴰ.head refl, s ∙ ap slots.Cell z, subst (λ i. (cell_at cs i).value ≡ None) z w)
+  cell-asks x ps b s (Some v) w c f e = asks-later cs bs (variable x) ps c (f (unset-then v (look cs bs ps) c e))
 
   slot-asks : (x : ℕ) (ps : List Param) (s : Slot) → slot_at bs x ≡ s → (c : ℕ)
       → (look cs bs ps ≡ unset c → Asks cs bs ps c)
       → elim s as (λ s. LookUpResult) [
         | slots.Empty ↦ values []
         | slots.Value v ↦ and_then v (look cs bs ps)
-        | slots.Cell c ↦ elim (cell_at cs c).value [ helds.Nothing ↦ unset c | helds.Value v ↦ and_then v (look cs bs ps) ]
+        | slots.Cell c ↦ elim (cell_at cs c).value [ None ↦ unset c | Some v ↦ and_then v (look cs bs ps) ]
       ]
       ≡ unset c
       → Asks cs bs (variable x ∷ ps) c
@@ -68,17 +67,17 @@ then-unset : (v : ℤ) (l : LookUpResult) → Unset l → Unset (and_then v l)
 unfolding and_then
 then-unset v l (c, e) = (c, ap (and_then v) e)
 
-module _ (cs : List Cell) (bs : List Bind) where
-  cell-unset : (b : ℕ) (w : Held) (l : LookUpResult) → Unset l → Unset (elim w [ helds.Nothing ↦ unset b | helds.Value v ↦ and_then v l ])
-  cell-unset b helds.Nothing l u = (b, refl)
-  cell-unset b (helds.Value v) l u = then-unset v l u
+module _ (cs : List Cell) (bs : List Slot) where
+  cell-unset : (b : ℕ) (w : Held) (l : LookUpResult) → Unset l → Unset (elim w [ None ↦ unset b | Some v ↦ and_then v l ])
+  cell-unset b None l u = (b, refl)
+  cell-unset b (Some v) l u = then-unset v l u
 
   slot-unset : (s : Slot) → is_bound s ≡ true → (l : LookUpResult) → Unset l
       → Unset
       (elim s [
         | slots.Empty ↦ values []
         | slots.Value v ↦ and_then v l
-        | slots.Cell c ↦ elim (cell_at cs c).value [ helds.Nothing ↦ unset c | helds.Value v ↦ and_then v l ]
+        | slots.Cell c ↦ elim (cell_at cs c).value [ None ↦ unset c | Some v ↦ and_then v l ]
       ])
   unfolding is_bound
   slot-unset slots.Empty k l u = clash k refl
@@ -87,7 +86,7 @@ module _ (cs : List Cell) (bs : List Bind) where
 
   -- a parameter bound to an unset cell
   pub look-blocked : (ps : List Param) (x c : ℕ) → Memᴰ (variable x) ps → slot_at bs x ≡ slots.Cell c
-      → (cell_at cs c).value ≡ helds.Nothing
+      → (cell_at cs c).value ≡ None
       → for_all (not_empty bs) ps ≡ true → Unset (look cs bs ps)
   unfolding look not_empty
   look-blocked [] x c m s w k = absurd (Memᴰ.not-nil m)

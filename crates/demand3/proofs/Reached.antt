@@ -9,6 +9,7 @@ use native.Mathlib.Omega.{arith}
 use lib.ListN.{length, get_or, replicate, length-set, length-replicate}
 use lib.Seq.{get_or-take}
 use lib.IntN.{ℤ}
+use Rattle.std.specs.Prelude.{Some, None}
 use Rattle.job.specs.Test.{without}
 use Rattle.job.specs.Number.{Signed32}
 use Rattle.job.specs.Node.{Dag, node_at, dag_holds}
@@ -32,9 +33,7 @@ use Rattle.calculus.specs.Event.{Event, Label}
 use Rattle.calculus.specs.Expression.{Exp}
 use Rattle.calculus.specs.Allowed.{shown}
 use Rattle.model.specs.Run.Call.{Call, step, answer, advance, runner, outcome_of}
-use Rattle.model.specs.declared.token.Held.TheVariants as helds
-use Rattle.model.specs.declared.token.Place.{Place}
-use Rattle.model.specs.declared.token.Place.TheVariants as places
+use Rattle.model.specs.Machine.Held.{Place}
 use Rattle.model.specs.declared.token.State.TheVariants as states
 use Rattle.model.specs.declared.token.Token.{Token}
 use Rattle.model.specs.declared.record.Machine.{Machine}
@@ -121,7 +120,7 @@ facts-taken m F k l =
     (subst (λ q. Lines m.tokens q (waits_of m) F.timers) (sym (queue-is F.orders))
     (subst (λ w. Lines m.tokens F.queue w F.timers) (sym (waits-are F.orders)) F.lines)))
 
-cell-inside : {W : World} {q : Place} {U : List ℕ} → CellsSeen W q U → (c : ℕ) → q ≡ places.At c → c < length W.cells
+cell-inside : {W : World} {q : Place} {U : List ℕ} → CellsSeen W q U → (c : ℕ) → q ≡ Some c → c < length W.cells
 unfolding place_in_range
 cell-inside {W} v c e = ltb-lt _ _ (ap (place_in_range (length W.cells)) (sym e) ∙ cells-range v)
 
@@ -220,7 +219,7 @@ module _ (lim : Limits) (d : Dag) (M : Labels) (room : Roomy lim) (flow : Flow d
 
     -- what an answer leaves, before blanking
     answered-facts : (m : Machine) → Facts lim d m → (v : ℤ) → Signed32 v → (p h : ℕ) → (token_at m.tokens p).state ≡ states.Called h
-        → Facts lim d (enqueue p (put p (with_state states.Ready (with_value (helds.Value v) (token_at m.tokens p))) m))
+        → Facts lim d (enqueue p (put p (with_state states.Ready (with_value (Some v) (token_at m.tokens p))) m))
     unfolding enqueue put Update.with_tables with_orders with_state with_value is_live is_ready is_waiting is_due held_in_range
     answered-facts m F v fits p h e =
         record {
@@ -237,7 +236,7 @@ module _ (lim : Limits) (d : Dag) (M : Labels) (room : Roomy lim) (flow : Flow d
         }
       where
         u : Token
-        u = with_state states.Ready (with_value (helds.Value v) (token_at m.tokens p))
+        u = with_state states.Ready (with_value (Some v) (token_at m.tokens p))
 
         inside : p < length m.tokens
         inside = live_inside m.tokens p (ap is_live e)
@@ -274,17 +273,17 @@ module _ (lim : Limits) (d : Dag) (M : Labels) (room : Roomy lim) (flow : Flow d
         Good = After (λ o. Facts lim d o × LiveUsed o)
 
         found : {name place : ℕ → ℕ} {σ : Store} {new p : ℕ} {S : List Abstract.Token} → (token_at m.tokens p).state ≡ states.Called h
-            → Pending M (world m.tokens m.cells name place σ new) p h S → Good (answered m v (places.At p))
+            → Pending M (world m.tokens m.cells name place σ new) p h S → Good (answered m v (Some p))
         found {p = p} e (pending split others view clear seen) = unfold answered After in
             (answered-facts m r.facts v signed p h e, sees-live (answered-becomes m h v others view clear seen).machine)
 
         from : {s : Abstract.State} → Sees M m s → (p : ℕ) → (token_at m.tokens p).state ≡ states.Called h
-            → Good (answered m v (places.At p))
+            → Good (answered m v (Some p))
         from (seen_as name place A K) p e = found e (find-pending p h K e)
 
         go : (q : Place) → holder h 0 m.tokens ≡ q → Good (answered m v q)
-        go places.Nowhere e = unfold answered After in tt
-        go (places.At p) e = from r.view p (holder-called h m.tokens p e)
+        go None e = unfold answered After in tt
+        go (Some p) e = from r.view p (holder-called h m.tokens p e)
 
     advance-facts : (m : Machine) {s : Abstract.State} → Reached lim d M m s → (time : ℕ)
         → is_refused (Clock.advance lim d m time).reply ≡ false → Left (Clock.advance lim d m time).machine

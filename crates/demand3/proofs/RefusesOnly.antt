@@ -6,6 +6,7 @@ use Prim.Native.Nat.{ℕ, ◌<◌, ◌≤◌}
 use native.Mathlib.Omega.{arith}
 use lib.Dec.{ltb}
 use lib.IntN.{ℤ}
+use Rattle.std.specs.Prelude.{Some, None}
 use Rattle.job.specs.Node.{Node, Dag}
 use Rattle.model.specs.Machine.Limits.{Limits}
 use Rattle.model.specs.Machine.Rules.{rules_hold}
@@ -17,8 +18,7 @@ use Rattle.model.specs.Machine.Answer.{holder, answered, answer}
 use Rattle.model.specs.Machine.Clock.{advance}
 use Rattle.model.specs.Run.Call.{Call, runner, outcome_of}
 use Rattle.model.specs.Run.Follow.{queued_token}
-use Rattle.model.specs.declared.token.Place.{Place}
-use Rattle.model.specs.declared.token.Place.TheVariants as places
+use Rattle.model.specs.Machine.Held.{Place}
 use Rattle.model.specs.declared.token.Token.{Token}
 use Rattle.model.specs.declared.record.Machine.{Machine}
 use Rattle.model.specs.declared.reply.Refusal.{Refusal}
@@ -104,8 +104,8 @@ module _ (P : Refusal → Type 0) where
 
     answered-only : P refusals.NotOpen → (v : ℤ) (q : Place) → RefusesOnly P (answered m v q)
     unfolding RefusesOnly answered
-    answered-only other v places.Nowhere = other
-    answered-only other v (places.At p) = tt
+    answered-only other v None = other
+    answered-only other v (Some p) = tt
 
     -- nor is any other call
     pub call-only : ((place : ℕ) → StepTests P lim d m place) → P refusals.NotOpen → P refusals.WrongTime → (c : Call) (r : Refusal)

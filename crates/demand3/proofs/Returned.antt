@@ -7,6 +7,7 @@ use native.Mathlib.Decide.{ℕ_discrete, dec_lt}
 use native.Mathlib.Omega.{arith}
 use lib.ListN.{length, get_or, set, length-set}
 use lib.Seq.{get_or-set_same, get_or-set_other, ext_get_or}
+use Rattle.std.specs.Prelude.{Some, None}
 use Rattle.job.specs.Node.{Dag}
 use Rattle.model.specs.Machine.Limits.{Limits}
 use Rattle.model.specs.Machine.Blank.{blank_token, blank_cell, token_at, cell_at, slot_at}
@@ -15,8 +16,7 @@ use Rattle.model.specs.Machine.State.{is_live}
 use Rattle.model.specs.Machine.InUse.{tokens_used, cells_used, rest_blanked, sweep}
 use Rattle.model.specs.Machine.Rules.{rules_hold}
 use Rattle.model.specs.Machine.Update.{put, with_tables}
-use Rattle.model.specs.declared.token.Place.{Place}
-use Rattle.model.specs.declared.token.Place.TheVariants as places
+use Rattle.model.specs.Machine.Held.{Place}
 use Rattle.model.specs.declared.token.Token.{Token}
 use Rattle.model.specs.declared.record.Machine.{Machine}
 use Rattle.job.proofs.Test.{never, clash}
@@ -36,7 +36,7 @@ use Rattle.model.proofs.Machine.TableRows.{token-same, token-other, token-outsid
 -- the token at p, whose caller is the frame at f, is written anew as u, with the frame's links
 pub record Returns (m o : Machine) (p f : ℕ) (u : Token) : Type 0 where
   pub live : is_live (token_at m.tokens p).state ≡ true
-  pub caller : (token_at m.tokens p).caller ≡ places.At f
+  pub caller : (token_at m.tokens p).caller ≡ Some f
   pub inside : f < length m.tokens
   pub frame : is_live (token_at m.tokens f).state ≡ false
   pub tokens : o.tokens ≡ set m.tokens p u
@@ -112,10 +112,10 @@ module _ (lim : Limits) (d : Dag) (m : Machine) (holds : rules_hold lim d m ≡ 
           let w = token_at m.tokens i in
           clear-used o i w (row i n) (active-live m.cells w e) (same-under w.cell (active-clear m.cells w e))
 
-      named : (i : ℕ) → ((i ≡ f → ⊥) → Used o i) → (j : ℕ) → (token_at m.tokens i).caller ≡ places.At j → (j ≡ f → ⊥)
+      named : (i : ℕ) → ((i ≡ f → ⊥) → Used o i) → (j : ℕ) → (token_at m.tokens i).caller ≡ Some j → (j ≡ f → ⊥)
           → Dec (i ≡ p) → Dec (i ≡ f) → Used o j
       named i b j e n (yes q) a =
-          let w : places.At f ≡ places.At j = sym r.caller ∙ ap (λ k. (token_at m.tokens k).caller) (sym q) ∙ e in
+          let w : Some f ≡ Some j = sym r.caller ∙ ap (λ k. (token_at m.tokens k).caller) (sym q) ∙ e in
           let z : j ≡ f = cc in
           absurd (n z)
       named i b j e n (no a) (yes q) = frame-names.caller j (ap (λ k. (token_at m.tokens k).caller) (sym q) ∙ e)
@@ -153,16 +153,16 @@ module _ (lim : Limits) (d : Dag) (m : Machine) (holds : rules_hold lim d m ≡ 
   cells-clean c e = ap (λ cs. cell_at cs c) r.cells ∙ clean.cells c (ap (λ us. get_or us c true) (sym returned-cells) ∙ e)
 
   -- a token names the frame
-  module _ (i : ℕ) (calls : (token_at o.tokens i).caller ≡ places.At f) where
+  module _ (i : ℕ) (calls : (token_at o.tokens i).caller ≡ Some f) where
     frame-stays : Used o f
     frame-stays = at (ℕ_discrete i p) (ℕ_discrete i f)
       where
-        old : (i ≡ p → ⊥) → (token_at m.tokens i).caller ≡ places.At f
+        old : (i ≡ p → ⊥) → (token_at m.tokens i).caller ≡ Some f
         old n = ap (λ (w : Token). w.caller) (sym (row i n)) ∙ calls
 
         nowhere : (i ≡ p → ⊥) → token_at m.tokens i ≡ blank_token → ⊥
         nowhere n e =
-            let w : places.Nowhere ≡ places.At f = ap (λ (w : Token). w.caller) (sym e) ∙ old n in
+            let w : None ≡ Some f = ap (λ (w : Token). w.caller) (sym e) ∙ old n in
             never cc
 
         placed : (i ≡ p → ⊥) → Dec (i < length m.tokens) → i < length m.tokens
@@ -196,7 +196,7 @@ module _ (lim : Limits) (d : Dag) (m : Machine) (holds : rules_hold lim d m ≡ 
         record { whole = clean-whole o (record { tokens = tokens-clean; cells = cells-clean }); tokens = all_stay; cells = returned-cells }
 
   -- no token names it
-  module _ (none : (i : ℕ) → (token_at o.tokens i).caller ≡ places.At f → ⊥) where
+  module _ (none : (i : ℕ) → (token_at o.tokens i).caller ≡ Some f → ⊥) where
     Others : ℕ → Type 0
     Others i = Used m i × (i ≡ f → ⊥)
 
@@ -209,7 +209,7 @@ module _ (lim : Limits) (d : Dag) (m : Machine) (holds : rules_hold lim d m ≡ 
           live = λ i e. alive i e (ℕ_discrete i p);
           fits =
               λ i l q. record {
-                caller = λ j e. ((within.fits i l q.0).caller j e, λ z. none i (e ∙ ap places.At z));
+                caller = λ j e. ((within.fits i l q.0).caller j e, λ z. none i (e ∙ ap Some z));
                 cells = (within.fits i l q.0).cells;
               };
           parent = within.parent;

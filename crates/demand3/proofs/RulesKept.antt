@@ -12,6 +12,7 @@ use native.Mathlib.Omega.{arith}
 use lib.ListN.{length, get_or, length-append}
 use lib.Dec.{eqb}
 use lib.IntN.{ℤ}
+use Rattle.std.specs.Prelude.{None}
 use Rattle.job.specs.Test.{◌and◌, ◌or◌, for_all, for_some, All, none, more, distinct}
 use Rattle.job.specs.Number.{fits}
 use Rattle.job.specs.Site.{last_time}
@@ -29,11 +30,7 @@ use Rattle.model.specs.Machine.Rules.{chain_ends, chains_end, not_under_set, ope
 use Rattle.model.specs.Machine.Rules.{not_empty, value_if_ready, node_rule, at_node, due_in_range, clock_holds, machine_holds, rules_hold}
 use Rattle.model.specs.declared.token.Slot.{Slot}
 use Rattle.model.specs.declared.token.Slot.TheVariants as slots
-use Rattle.model.specs.declared.token.Bind.{Bind}
-use Rattle.model.specs.declared.token.Held.{Held}
-use Rattle.model.specs.declared.token.Held.TheVariants as helds
-use Rattle.model.specs.declared.token.Place.{Place}
-use Rattle.model.specs.declared.token.Place.TheVariants as places
+use Rattle.model.specs.Machine.Held.{Held, Place}
 use Rattle.model.specs.declared.token.State.{State}
 use Rattle.model.specs.declared.token.State.TheVariants as states
 use Rattle.model.specs.declared.token.Token.{Token}
@@ -124,7 +121,7 @@ module _ {W : World} where
   binding-inside c e (celled {c = b} (below s v)) = subst (λ i. i < length W.cells) (let z : b ≡ c = cc in z) s.inside
 
   -- a bound cell is that of a variable in scope
-  bound-inside : {bs : List Bind} {scope : List ℕ} {B : List Binding} (x c : ℕ) → slot_at bs x ≡ slots.Cell c
+  bound-inside : {bs : List Slot} {scope : List ℕ} {B : List Binding} (x c : ℕ) → slot_at bs x ≡ slots.Cell c
       → BindingsSeen W bs scope B → (x not-in scope) ⊎ (c < length W.cells)
   bound-inside x c e BindingsSeen.nothing = inl Memᴰ.not-nil
   bound-inside {bs} x c e (binds {x = y} {scope = scope} v r) = go (ℕ_discrete x y) (bound-inside x c e r)
@@ -138,7 +135,7 @@ module _ {W : World} where
       go (no n) (inl f) = inl (neither n f)
       go (no n) (inr l) = inr l
 
-  pub slot-inside : {bs : List Bind} {scope : List ℕ} {B : List Binding} → SlotsSeen W bs scope B
+  pub slot-inside : {bs : List Slot} {scope : List ℕ} {B : List Binding} → SlotsSeen W bs scope B
       → (x c : ℕ) → slot_at bs x ≡ slots.Cell c → c < length W.cells
   slot-inside {scope = scope} s x c e = go (bound-inside x c e s.views)
     where
@@ -146,8 +143,8 @@ module _ {W : World} where
       go (inl f) = let i : slots.Empty ≡ slots.Cell c = sym (s.rest x f) ∙ e in never cc
       go (inr l) = l
 
-  binds-range : {bs : List Bind} {scope : List ℕ} {B : List Binding} → SlotsSeen W bs scope B → BindsFit bs
-      → for_all (λ (b : Bind). slot_in_range (length W.cells) b.slot) bs ≡ true
+  binds-range : {bs : List Slot} {scope : List ℕ} {B : List Binding} → SlotsSeen W bs scope B → BindsFit bs
+      → for_all (slot_in_range (length W.cells)) bs ≡ true
   unfolding slot_at
   binds-range {bs} s f = all-from _ bs empty (λ x l. slot-range _ _ (f x) (slot-inside s x))
 
@@ -186,7 +183,7 @@ module _ (d : Dag) (M : Labels) (W : World) where
   slot-bound valued = refl
   slot-bound (celled v) = refl
 
-  params-bound : {bs : List Bind} {scope : List ℕ} {B : List Binding} {ps : List Param} → BindingsSeen W bs scope B
+  params-bound : {bs : List Slot} {scope : List ℕ} {B : List Binding} {ps : List Param} → BindingsSeen W bs scope B
       → All (GoodParam scope) ps
       → for_all (not_empty bs) ps ≡ true
   unfolding for_all not_empty ◌and◌
@@ -232,7 +229,7 @@ value_there e (waiting f v) = refl
 value_there e called = refl
 value_there e due = refl
 
-unset-if : (k : Cell) → k.value ≡ helds.Nothing → cell_is_set k ≡ false
+unset-if : (k : Cell) → k.value ≡ None → cell_is_set k ≡ false
 unfolding cell_is_set has_value
 unset-if k e = ap has_value e
 
@@ -284,7 +281,7 @@ module _ (lim : Limits) (d : Dag) (M : Labels) (flow : Flow d M) (dag : dag_hold
       ranges c t = unfold is_node in
           is_node d (tok p).node
           and eqb (length (tok p).binds) 8
-          and for_all (λ (b : Bind). slot_in_range c b.slot) (tok p).binds
+          and for_all (slot_in_range c) (tok p).binds
           and held_in_range (tok p).value
           and place_in_range t (tok p).caller
           and place_in_range c (tok p).cell
@@ -317,7 +314,7 @@ module _ (lim : Limits) (d : Dag) (M : Labels) (flow : Flow d M) (dag : dag_hold
   unfolding chain_ends is_place
   blank-chain = go (length m.cells)
     where
-      go : (n : ℕ) → chain_ends m.cells n places.Nowhere ≡ true
+      go : (n : ℕ) → chain_ends m.cells n None ≡ true
       go zero = refl
       go (suc n) = refl
 

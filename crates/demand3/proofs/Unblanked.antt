@@ -9,6 +9,7 @@ use native.Mathlib.Decide.{ℕ_discrete}
 use native.Mathlib.Omega.{arith}
 use lib.ListN.{length, get_or, set, replicate, length-set}
 use lib.Seq.{get_or-set_other}
+use Rattle.std.specs.Prelude.{Some, None}
 use Rattle.job.specs.Test.{for_all}
 use Rattle.job.specs.Node.{Dag}
 use Rattle.model.specs.Machine.Limits.{Limits}
@@ -21,11 +22,7 @@ use Rattle.model.specs.Machine.Rules.{token_in_range, rest_is_blank, rules_hold}
 use Rattle.model.specs.Machine.Update.{with_tables}
 use Rattle.model.specs.declared.token.Slot.{Slot}
 use Rattle.model.specs.declared.token.Slot.TheVariants as slots
-use Rattle.model.specs.declared.token.Bind.{Bind}
-use Rattle.model.specs.declared.token.Held.{Held}
-use Rattle.model.specs.declared.token.Held.TheVariants as helds
-use Rattle.model.specs.declared.token.Place.{Place}
-use Rattle.model.specs.declared.token.Place.TheVariants as places
+use Rattle.model.specs.Machine.Held.{Held, Place}
 use Rattle.model.specs.declared.token.Token.{Token}
 use Rattle.model.specs.declared.cell.Cell.{Cell}
 use Rattle.model.specs.declared.record.Machine.{Machine}
@@ -49,15 +46,15 @@ clean-whole o c =
     (kept_whole blank_cell (cells_used o) o.cells (cells_of o).size c.cells)
 
 -- what passes the test is the blank record
-nowhere : (q : Place) → not (is_place q) ≡ true → q ≡ places.Nowhere
+nowhere : (q : Place) → not (is_place q) ≡ true → q ≡ None
 unfolding is_place
-nowhere places.Nowhere e = refl
-nowhere (places.At i) e = clash e refl
+nowhere None e = refl
+nowhere (Some i) e = clash e refl
 
-nothing : (v : Held) → not (has_value v) ≡ true → v ≡ helds.Nothing
+nothing : (v : Held) → not (has_value v) ≡ true → v ≡ None
 unfolding has_value
-nothing helds.Nothing e = refl
-nothing (helds.Value v) e = clash e refl
+nothing None e = refl
+nothing (Some v) e = clash e refl
 
 slot-empty : (s : Slot) → not (is_bound s) ≡ true → s ≡ slots.Empty
 unfolding is_bound
@@ -65,10 +62,10 @@ slot-empty slots.Empty e = refl
 slot-empty (slots.Value v) e = clash e refl
 slot-empty (slots.Cell c) e = clash e refl
 
-binds_empty : (bs : List Bind) → for_all (λ (b : Bind). not (is_bound b.slot)) bs ≡ true → bs ≡ replicate (length bs) empty
+binds_empty : (bs : List Slot) → for_all (λ (b : Slot). not (is_bound b)) bs ≡ true → bs ≡ replicate (length bs) empty
 binds_empty [] e = refl
 binds_empty (b ∷ bs) e =
-    ap₂ (λ (s : Slot) (r : List Bind). record { slot = s } ∷ r) (slot-empty b.slot (all_head _ b bs e))
+    ap₂ ◌∷◌ (slot-empty b (all_head _ b bs e))
     (binds_empty bs (all_tail _ b bs e))
 
 token-blank : (t : Token) → length t.binds ≡ 8 → token_is_blank t ≡ true → t ≡ blank_token
@@ -288,7 +285,7 @@ module _ (lim : Limits) (d : Dag) (m : Machine) (holds : rules_hold lim d m ≡ 
         used = clear-used o p u one-here alive (same-clear o cells u.cell (ap (under_set m.cells) cell ∙ under_none))
 
     -- stop, publish: a token that named nothing is blank
-    pub end-adds : u ≡ blank_token → t.caller ≡ places.Nowhere → t.cell ≡ places.Nowhere
+    pub end-adds : u ≡ blank_token → t.caller ≡ None → t.cell ≡ None
         → ((x c : ℕ) → slot_at t.binds x ≡ slots.Cell c → ⊥) → Adds m o p
     end-adds blank caller cell binds =
         one-adds (λ f. one-here ∙ blank)
@@ -350,7 +347,7 @@ module _ (lim : Limits) (d : Dag) (m : Machine) (holds : rules_hold lim d m ≡ 
       fork-adds lives caller cell binds = new-adds (clear-used o p u first lives (clear-here u cell)) caller cell binds
 
       -- definition call: the token, in any state, is the new one's caller
-      pub call-adds : v.caller ≡ places.At p → u.caller ≡ t.caller → u.cell ≡ t.cell → u.binds ≡ t.binds
+      pub call-adds : v.caller ≡ Some p → u.caller ≡ t.caller → u.cell ≡ t.cell → u.binds ≡ t.binds
           → Adds m o p × (Used o p × Used o q)
       call-adds calls caller cell binds =
           new-adds ((tokens_of o).caller q new-used p (ap (λ (w : Token). w.caller) second ∙ calls)) caller cell binds
@@ -375,7 +372,7 @@ module _ (lim : Limits) (d : Dag) (m : Machine) (holds : rules_hold lim d m ≡ 
             (after_write m.cells c k blank_cell vacant used b)
 
         pub split-adds : is_live u.state ≡ true → u.cell ≡ t.cell
-            → is_live v.state ≡ true → v.caller ≡ t.caller → v.cell ≡ places.At c → v.binds ≡ t.binds
+            → is_live v.state ≡ true → v.caller ≡ t.caller → v.cell ≡ Some c → v.binds ≡ t.binds
             → Adds m o p × (Used o p × (Used o q × UsedCell o c))
         split-adds lives cell alive caller under binds = (
           record {
@@ -401,7 +398,7 @@ module _ (lim : Limits) (d : Dag) (m : Machine) (holds : rules_hold lim d m ≡ 
             left : Used o p
             left = clear-used o p u first lives (clear-still u.cell (ap (under_set m.cells) cell ∙ under_none))
 
-            was : under_set m.cells (places.At c) ≡ false
+            was : under_set m.cells (Some c) ≡ false
             was = blank-cell-clear m.cells c ((rules-clean lim d m holds).cells c vacant)
 
             right : Used o q

@@ -8,14 +8,13 @@ use mathlib.Core.List.{List, [], ◌∷◌}
 use Prim.Native.Nat.{ℕ, ◌<◌}
 use native.Mathlib.Decide.{ℕ_discrete}
 use lib.ListN.{length}
+use Rattle.std.specs.Prelude.{Some}
 use Rattle.model.specs.Machine.Blank.{token_at, cell_at, slot_at}
 use Rattle.model.specs.Machine.State.{is_blank_state, is_live}
 use Rattle.model.specs.Machine.Active.{is_active}
 use Rattle.model.specs.declared.token.Slot.{Slot}
 use Rattle.model.specs.declared.token.Slot.TheVariants as slots
-use Rattle.model.specs.declared.token.Bind.{Bind}
-use Rattle.model.specs.declared.token.Place.{Place}
-use Rattle.model.specs.declared.token.Place.TheVariants as places
+use Rattle.model.specs.Machine.Held.{Place}
 use Rattle.model.specs.declared.token.State.{State}
 use Rattle.model.specs.declared.token.State.TheVariants as states
 use Rattle.job.proofs.Test.{never, clash}
@@ -66,7 +65,7 @@ module _ (M : Labels) (W : World) where
 
   -- a cell that has a name
   pub data Named (c : ℕ) : Type 0 where
-    named : {n : ℕ} {U : List ℕ} → CellsSeen W (places.At c) (n ∷ U) → Named c
+    named : {n : ℕ} {U : List ℕ} → CellsSeen W (Some c) (n ∷ U) → Named c
 
   token-stands : {p : ℕ} {x : Abstract.Token} → p < length W.tokens → TokenSeen W M (token_at W.tokens p) x → Standing p
   token-stands l (sees v un s) = standing l (live-not-blank _ (state-live s)) v
@@ -85,7 +84,7 @@ module _ (M : Labels) (W : World) where
   binding-named c e valued = never cc
   binding-named c e (celled {c = b} v) = subst Named (let z : b ≡ c = cc in z) (named v)
 
-  slot-named : {bs : List Bind} {scope : List ℕ} {B : List Binding} → SlotsSeen W bs scope B → (x c : ℕ) → slot_at bs x ≡ slots.Cell c
+  slot-named : {bs : List Slot} {scope : List ℕ} {B : List Binding} → SlotsSeen W bs scope B → (x c : ℕ) → slot_at bs x ≡ slots.Cell c
       → Named c
   slot-named {bs} {scope} s x c e = go (member-or-not x scope)
     where

@@ -8,6 +8,7 @@ use Prim.Native.Nat.{ℕ, zero, suc, ◌+◌, ◌≤◌}
 use native.Mathlib.Omega.{arith}
 use lib.Dec.{leb}
 use lib.IntN.{ℤ, pos, negsuc, ◌+ℤ◌}
+use Rattle.std.specs.Prelude.{Some, None}
 use Rattle.job.specs.Test.{for_all, All, more}
 use Rattle.job.specs.Number.{fits, Signed32}
 use Rattle.job.specs.Site.{BuiltinReply, gives, silent, later, at, zero_if, truth, sum_reply, builtin, last_time, due_time}
@@ -18,9 +19,7 @@ use Rattle.model.specs.Machine.Rules.{held_in_range}
 use Rattle.model.specs.Machine.Step.{LookUpResult, values, unset, and_then, look, value_of}
 use Rattle.model.specs.declared.token.Slot.{Slot}
 use Rattle.model.specs.declared.token.Slot.TheVariants as slots
-use Rattle.model.specs.declared.token.Bind.{Bind}
-use Rattle.model.specs.declared.token.Held.{Held}
-use Rattle.model.specs.declared.token.Held.TheVariants as helds
+use Rattle.model.specs.Machine.Held.{Held}
 use Rattle.model.specs.declared.cell.Cell.{Cell}
 use Rattle.job.proofs.Test.{never, leb-le, all_head, all_tail}
 
@@ -30,8 +29,8 @@ zero-fits = refl
 
 pub held_fits : (w : Held) → held_in_range w ≡ true → Signed32 (value_of w)
 unfolding held_in_range value_of
-held_fits helds.Nothing e = zero-fits
-held_fits (helds.Value v) e = e
+held_fits None e = zero-fits
+held_fits (Some v) e = e
 
 -- what is looked up
 pub data LookUpFits : LookUpResult → Type 0 where
@@ -46,21 +45,21 @@ unfolding and_then
 then-fits v e (found a) = found (more e a)
 then-fits v e waiting = waiting
 
-module _ (cs : List Cell) (bs : List Bind)
+module _ (cs : List Cell) (bs : List Slot)
     (bound : (x : ℕ) (v : ℤ) → slot_at bs x ≡ slots.Value v → Signed32 v)
     (cells : (c : ℕ) → held_in_range (cell_at cs c).value ≡ true) where
   cell-fits : (c : ℕ) (w : Held) → (cell_at cs c).value ≡ w → (l : LookUpResult) → LookUpFits l
-      → LookUpFits (elim w [ helds.Nothing ↦ unset c | helds.Value v ↦ and_then v l ])
+      → LookUpFits (elim w [ None ↦ unset c | Some v ↦ and_then v l ])
   unfolding held_in_range
-  cell-fits c helds.Nothing e l f = waiting
-  cell-fits c (helds.Value v) e l f = then-fits v (ap held_in_range (sym e) ∙ cells c) f
+  cell-fits c None e l f = waiting
+  cell-fits c (Some v) e l f = then-fits v (ap held_in_range (sym e) ∙ cells c) f
 
   slot-fits : (x : ℕ) (s : Slot) → slot_at bs x ≡ s → (l : LookUpResult) → LookUpFits l
       → LookUpFits
       (elim s [
         | slots.Empty ↦ values []
         | slots.Value v ↦ and_then v l
-        | slots.Cell c ↦ elim (cell_at cs c).value [ helds.Nothing ↦ unset c | helds.Value v ↦ and_then v l ]
+        | slots.Cell c ↦ elim (cell_at cs c).value [ None ↦ unset c | Some v ↦ and_then v l ]
       ])
   slot-fits x slots.Empty e l f = found All.none
   slot-fits x (slots.Value v) e l f = then-fits v (bound x v e) f

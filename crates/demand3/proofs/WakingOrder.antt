@@ -8,6 +8,7 @@ use mathlib.Core.Bool.{true, false}
 use mathlib.Core.List.{List}
 use Prim.Native.Nat.{ℕ}
 use lib.ListN.{get_or}
+use Rattle.std.specs.Prelude.{Some}
 use Rattle.job.specs.Test.{without}
 use Rattle.job.specs.Syntax.{Program}
 use Rattle.job.specs.Read.{accepted, read_table}
@@ -23,7 +24,6 @@ use Rattle.model.specs.Machine.Step.{after_choke, choke_at, act, takes, step}
 use Rattle.model.specs.Machine.Clock.{after_advance, advance}
 use Rattle.model.specs.Machine.WakingOrder.{WakesInOrder, Gone, OrdersApart}
 use Rattle.model.specs.Run.Call.{Call, runner, outcome_of, started, machine_after}
-use Rattle.model.specs.declared.token.Place.TheVariants as places
 use Rattle.model.specs.declared.token.Token.{Token}
 use Rattle.model.specs.declared.record.Machine.{Machine}
 use Rattle.model.specs.declared.reply.Outcome.{Outcome}
@@ -62,7 +62,7 @@ module _ (lim : Limits) (d : Dag) (m : Machine) where
   -- the token that the queue has at a place stands at choke, in the cell c
   module _ (place c : ℕ) (ok : is_refused (step lim d m place).reply ≡ false)
       (node : node_at d (token_at m.tokens (get_or m.queue place 0)).node ≡ Node.choke)
-      (cell : (token_at m.tokens (get_or m.queue place 0)).cell ≡ places.At c) where
+      (cell : (token_at m.tokens (get_or m.queue place 0)).cell ≡ Some c) where
     abbrev acting : Token
     acting = token_at m.tokens (get_or m.queue place 0)
 

@@ -21,8 +21,7 @@ use Rattle.acts.specs.Acting.{SomeMachine, Lawful, QueueHasToken}
 use Rattle.acts.specs.SharedFrames.{OneCallee}
 use Rattle.acts.proofs.CalleeSteps.{start-callees}
 use Rattle.house.specs.LoadedDag.{Accepted}
-use Rattle.house.specs.TurnLeaves.{TurnLeaves, goes_on}
-use Rattle.house.specs.declared.turn.TurnEnd.{TurnEnd}
+use Rattle.house.specs.TurnLeaves.{TurnLeaves}
 use Rattle.lines.specs.LastLines.{last_lines}
 use Rattle.lines.specs.Shown.{ShowsBytes}
 use Rattle.turns.specs.Turn.{is_last, is_limit, turn_outcome}
@@ -82,11 +81,11 @@ module _ (dag rest before : List ℕ) (from : ℕ) where
     turned = turn_outcome (dag_of dag) L.machine rest at
 
     -- what a turn that goes on leaves
-    under-way : {ws' output' : List ℕ} {used' : Marks} {shared' : List Bool} {steps' at' : ℕ} (r : TurnEnd)
-        → Going dag rest before from turned.machine steps' at' r.total output'
-        → TurnLeaves turned L.machine ws' used' shared' output from total output' r
-        → Lent ws' used' shared' steps' at' r.total output'
-    under-way r next given =
+    under-way : {ws' output' : List ℕ} {used' : Marks} {shared' : List Bool} {steps' at' n : ℕ} {ended : Bool}
+        → Going dag rest before from turned.machine steps' at' n output'
+        → TurnLeaves turned L.machine ws' used' shared' output from total output' n ended
+        → Lent ws' used' shared' steps' at' n output'
+    under-way next given =
         let framed = reached-framed dag L.going.accepted L.going.reached in
         record {
           machine = turned.machine;
@@ -119,8 +118,8 @@ module _ (dag rest before : List ℕ) (from : ℕ) where
 
         module _ {ws' output' : List ℕ} (n : ℕ)
             (gives : (m : Machine) (d : List ℕ) (ss : List Bool) → Lawful ws used d m → OneCallee ss m → m.queued ≡ 0
-            → TurnLeaves (turn_outcome (dag_of d) m rest at) m ws' used ss output from total output' (goes_on n)) where
-          delivered : TurnLeaves turned L.machine ws' used shared output from total output' (goes_on n)
+            → TurnLeaves (turn_outcome (dag_of d) m rest at) m ws' used ss output from total output' n false) where
+          delivered : TurnLeaves turned L.machine ws' used shared output from total output' n false
           delivered = gives L.machine dag shared L.lawful L.callees none
 
           pub lent-delivers-less : (100000 - steps) + (length rest - (at + 8)) < (100000 - steps) + (length rest - at)
@@ -128,7 +127,7 @@ module _ (dag rest before : List ℕ) (from : ℕ) where
 
           pub lent-delivers : Lent ws' used shared steps (at + 8) n output'
           lent-delivers =
-              under-way (goes_on n)
+              under-way
               (going-turns dag rest before from L.going false unread refl false (limit-empty _ none _) refl turned refl false
               delivered.over refl
               steps (at + 8) (steps-empty _ none steps) (at-empty _ none at) delivered.lines delivered.few)
@@ -155,31 +154,31 @@ module _ (dag rest before : List ℕ) (from : ℕ) where
       pub lent-ready : SomeMachine (QueueHasToken ws used dag 0)
       lent-ready = record { machine = L.machine; is = has }
 
-      module _ (under : steps ≡ 100000 → ⊥) {ws' output' : List ℕ} {used' : Marks} {shared' : List Bool} (r : TurnEnd)
+      module _ (under : steps ≡ 100000 → ⊥) {ws' output' : List ℕ} {used' : Marks} {shared' : List Bool} (n : ℕ) (ended : Bool)
           (gives : (m : Machine) (rs : List ℕ) (a : ℕ) → QueueHasToken ws used dag 0 m → OneCallee shared m
-          → TurnLeaves (turn_outcome (dag_of dag) m rs a) m ws' used' shared' output from total output' r) where
-        stepped : TurnLeaves turned L.machine ws' used' shared' output from total output' r
+          → TurnLeaves (turn_outcome (dag_of dag) m rs a) m ws' used' shared' output from total output' n ended) where
+        stepped : TurnLeaves turned L.machine ws' used' shared' output from total output' n ended
         stepped = gives L.machine rest at has L.callees
 
         abbrev below : false ≡ is_limit L.machine.queued steps
         below = limit-ready _ ready steps false (sym (ne_eqb steps 100000 under))
 
-        pub lent-few : r.total ≤ total + 80
+        pub lent-few : n ≤ total + 80
         lent-few = stepped.few
 
-        pub lent-ends : {after : List ℕ} {n : ℕ} → r.over ≡ true → ShowsBytes output' from r.total (text_of_all (end steps ∷ [])) after n
-            → Whole after n
+        pub lent-ends : {after : List ℕ} {last : ℕ} → ended ≡ true → ShowsBytes output' from n (text_of_all (end steps ∷ [])) after last
+            → Whole after last
         lent-ends t u =
-            going-ends dag rest before from L.going false busy refl false below refl turned refl r.over stepped.over t
+            going-ends dag rest before from L.going false busy refl false below refl turned refl ended stepped.over t
             stepped.lines u
 
-        module _ (on-if : r.over ≡ false) where
+        module _ (on-if : ended ≡ false) where
           pub lent-steps-less : (100000 - (steps + 1)) + (length rest - at) < (100000 - steps) + (length rest - at)
           lent-steps-less = let few = L.going.few in omega arith
 
-          pub lent-steps : Lent ws' used' shared' (steps + 1) at r.total output'
+          pub lent-steps : Lent ws' used' shared' (steps + 1) at n output'
           lent-steps =
-              under-way r
-              (going-turns dag rest before from L.going false busy refl false below refl turned refl r.over stepped.over on-if
+              under-way
+              (going-turns dag rest before from L.going false busy refl false below refl turned refl ended stepped.over on-if
               (steps + 1) at (steps-ready _ ready steps) (at_ready _ ready at) stepped.lines stepped.few)
               stepped

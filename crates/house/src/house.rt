@@ -13,20 +13,15 @@ ghost use Rattle.house.specs.LoadedDag.{Accepted};
 
 use crate::turn::{deliver_turn, step_turn};
 use job::dag::{GOAL, WORDS};
-use lines::last_lines::{show_end, show_last, show_limit};
+use lines::line::Line;
+use lines::shown::Window;
 use model::record::Machine;
 use reach::used::Marks;
-use record::order;
+use record::order::{self, Queue};
 use unchecked::start::start;
 
 // "With 100,000 steps made and a token ready: `limit`."
 const STEPS: u32 = 100000;
-
-// Says to the proof how many words the array has.
-pub fn whole(dag: &[u32])
-    requires { length dag.now ≡ 12331 }
-    ensures { length dag.now ≡ 12331 }
-{}
 
 // The turns of a run, from the record of its start.
 fn run_turns(
@@ -44,26 +39,27 @@ fn run_turns(
     ensures { ShowsBytes output.old from 0 (text_of_all (run_lines paper 100000 (dag_of dag.now) rest.now))
         output.new result }
 {
+    let mut window = Window::new(output, from);
     let mut steps: u32 = 0;
     let mut at: usize = 0;
-    let mut total: usize = 0;
     loop {
-        if order::queued(w) == 0 {
+        if order::count::<Queue>(w) == 0 {
             let left = rest.len() - at;
             if left < 8 {
-                return show_last(left, steps, output, from, total);
+                window.show_last(left, steps);
+                return window.total();
             }
-            total = deliver_turn(w, marks, rest, at, output, from, total);
+            deliver_turn(w, marks, rest, at, &mut window);
             at += 8;
             continue;
         }
         if steps == STEPS {
-            return show_limit(steps, output, from, total);
+            window.show_limit(steps);
+            return window.total();
         }
-        let turned = step_turn(w, marks, shared, dag, output, from, total);
-        total = turned.total;
-        if turned.over {
-            return show_end(steps, output, from, total);
+        if step_turn(w, marks, shared, dag, &mut window) {
+            window.show_line(Line::End(steps));
+            return window.total();
         }
         steps += 1;
     }
@@ -74,9 +70,16 @@ pub fn run(rest: &[u8], dag: &[u32; WORDS], output: &mut [u8], from: usize) -> u
     ensures { ShowsBytes output.old from 0 (text_of_all (run_lines paper 100000 (dag_of dag.now) rest.now))
         output.new result }
 {
-    whole(dag);
     let mut words = [0u32; Machine::WORDS];
     let mut shared = [false; Machine::TOKENS];
     let mut marks = start(&mut words, dag[GOAL]);
-    run_turns(&mut words, &mut marks, &mut shared, rest, dag, output, from)
+    run_turns(
+        &mut words,
+        &mut marks,
+        &mut shared,
+        rest,
+        dag,
+        output,
+        from,
+    )
 }

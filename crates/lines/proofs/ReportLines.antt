@@ -1,5 +1,6 @@
 -- The line of a reply, case by case. Assumes nothing.
 use mathlib.Core.Path.{◌≡◌, sym, ◌∙◌, ap}
+use mathlib.Core.Logic.{◌⊎◌, inl, inr}
 use mathlib.Core.List.{List, [], ◌∷◌}
 use Prim.Native.Nat.{ℕ, ◌<◌, min}
 use native.Mathlib.Decide.{dec_lt}
@@ -49,10 +50,7 @@ module _ (reply : Reply) (values : List ℤ) where
   unfolding text_of_all
   quiet e = ap text_of_all (sym e)
 
-  pub tells-done : reply ≡ replies.Done → [] ≡ reply_text reply values
+  pub tells-nothing : (reply ≡ replies.Done) ⊎ (reply ≡ replies.Waits) → [] ≡ reply_text reply values
   unfolding reported_lines
-  tells-done e = quiet (ap (λ (r : Reply). reported_lines r values) e)
-
-  pub tells-waits : reply ≡ replies.Waits → [] ≡ reply_text reply values
-  unfolding reported_lines
-  tells-waits e = quiet (ap (λ (r : Reply). reported_lines r values) e)
+  tells-nothing (inl e) = quiet (ap (λ (r : Reply). reported_lines r values) e)
+  tells-nothing (inr e) = quiet (ap (λ (r : Reply). reported_lines r values) e)

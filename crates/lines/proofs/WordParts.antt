@@ -1,29 +1,29 @@
--- A word byte by byte, and values one by one: what was put and the next behind it are the front of the word, or of the values, with one
--- more. Assumes nothing.
+-- A word in its place, and values one by one: those that were put and the next behind them are the front of the values with one more.
+-- Assumes nothing.
 use mathlib.Core.Path.{◌≡◌, sym, ap, ◌∙◌}
 use mathlib.Core.List.{List, [], ◌∷◌, ◌++◌, map, append_assoc, append-nil}
-use Prim.Native.Nat.{ℕ, ◌+◌, ◌*◌, ◌<◌, ◌≤◌}
+use Prim.Native.Nat.{ℕ, ◌+◌, ◌-◌, ◌*◌, ◌<◌, ◌≤◌}
 use native.Mathlib.Numerals.{add-one}
 use native.Mathlib.Omega.{arith}
 use lib.IntN.{ℤ}
-use lib.ListN.{length, take, get_or, set}
-use lib.Seq.{take-suc, take_all}
+use lib.ListN.{length, take, drop, get_or}
+use lib.Seq.{sets, sets-eq, take-suc, drop-drop}
+use borrow.Rule.Slice.PartMut.{put_mid}
 use Rattle.job.specs.Decimal.{signed_decimal}
 use Rattle.decimal.specs.Written.{Written}
-use Rattle.decimal.proofs.Written.{one_written, then-written, written_as}
+use Rattle.decimal.proofs.Written.{then-written, written_as}
 use Rattle.lines.specs.WordBytes.{spaced, all_spaced}
 
--- a loop's turn: one more byte of a word
-pub word_more : (word : List ℕ) (before middle : List ℕ) (at to i : ℕ) → i < length word → Written i before at (take i word) middle to
-    → Written (i + 1) before at (take (i + 1) word) (set middle to (get_or word i 0)) (to + 1)
-word_more word before middle at to i h w =
-    let e : take i word ++ (get_or word i 0 ∷ []) ≡ take (i + 1) word = rw (add-one, take-suc word i 0) in
-    let n : i + 1 ≤ i + 1 = omega arith in
-    written_as (then-written w (one_written middle to (get_or word i 0))) e n
-
-pub word-written : (word : List ℕ) (before after : List ℕ) (at to i : ℕ) → length word ≤ i → i ≤ length word
-    → Written i before at (take i word) after to → Written (length word) before at word after to
-word-written word before after at to i h g w = written_as w (take_all i word h) g
+-- a word in the place of as many bytes
+pub word-placed : (word copy before : List ℕ) (at : ℕ) → copy ≡ word → at + length word ≤ length before
+    → put_mid at (at + length word - at) before copy ≡ sets before at word
+word-placed word copy before at e l =
+    let k : at + length word - at ≡ length word = omega arith in
+    let rest : drop (length word) (drop at before) ≡ drop (at + length word) before = drop-drop (length word) at before in
+    let whole : put_mid at (length word) before word ≡ take at before ++ (word ++ drop (at + length word) before) =
+    ap (λ (bytes : List ℕ). take at before ++ (word ++ bytes)) rest in
+    ap (put_mid at (at + length word - at) before) e ∙ ap (λ (n : ℕ). put_mid at n before word) k ∙ whole
+    ∙ sym (sets-eq word before at l ∙ append_assoc (take at before) word _)
 
 -- one value more
 values-more : (vs : List ℤ) (v : ℤ)

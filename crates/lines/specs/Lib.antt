@@ -1,4 +1,5 @@
--- A line's words, what a caller's output shows, the line of a reply, and the lines at the end.
+-- The lines as data, a line's words, what a caller's output shows, the line of a reply, and the lines at the end.
+pub mod LineTold
 pub mod WordBytes
 pub mod Shown
 pub mod Report

@@ -1,46 +1,36 @@
 // The last lines of a run.
-ghost use Rattle.std.specs.Prelude.{[], ◌∷◌, ◌+◌, ◌≤◌};
+ghost use Rattle.std.specs.Prelude.{◌≡◌, [], ◌∷◌, ◌+◌, ◌≤◌};
 ghost use Rattle.model.specs.Output.Line.{text_of_all, end, limit};
 ghost use Rattle.lines.specs.LastLines.{last_lines};
 ghost use Rattle.lines.specs.Shown.{ShowsBytes};
 
-use crate::line;
-use crate::shown::{has_room, show_front};
+use crate::line::Line;
+use crate::shown::Window;
 
-// "Last .. `end` and accepted steps."
-pub fn show_end(steps: u32, output: &mut [u8], from: usize, total: usize) -> usize
-    requires { total + 80 ≤ 1000000000 }
-    ensures { ShowsBytes output.old from total (text_of_all (end steps ∷ [])) output.new result }
-{
-    if has_room(output, from, total) {
-        return from + line::put_end(output, total - from, steps);
+impl Window<'_> {
+    // "With 100,000 steps made and a token ready: `limit`, then `end`."
+    pub fn show_limit(&mut self, steps: u32)
+        requires { self.old.total + 160 ≤ 1000000000 }
+        ensures same_reference { self.new.output.ghost_name ≡ self.old.output.ghost_name }
+        ensures from { self.new.from ≡ self.old.from }
+        ensures shows_bytes { ShowsBytes self.old.output.now self.old.from self.old.total
+            (text_of_all (limit ∷ end steps ∷ [])) self.new.output.now self.new.total }
+    {
+        self.show_line(Line::Limit);
+        self.show_line(Line::End(steps));
     }
-    let mut buffer = [0u8; 80];
-    let n = line::put_end(&mut buffer, 0, steps);
-    show_front(&buffer, n, output, from, total)
-}
 
-// "With 100,000 steps made and a token ready: `limit`, then `end`."
-pub fn show_limit(steps: u32, output: &mut [u8], from: usize, total: usize) -> usize
-    requires { total + 160 ≤ 1000000000 }
-    ensures { ShowsBytes output.old from total (text_of_all (limit ∷ end steps ∷ [])) output.new result }
-{
-    let mut buffer = [0u8; 80];
-    let n = line::put_limit(&mut buffer, 0);
-    let to = show_front(&buffer, n, output, from, total);
-    show_end(steps, output, from, to)
-}
-
-// "A trailing piece prints `short`": so many bytes are left, fewer than a record has.
-pub fn show_last(left: usize, steps: u32, output: &mut [u8], from: usize, total: usize) -> usize
-    requires { total + 160 ≤ 1000000000 }
-    ensures { ShowsBytes output.old from total (text_of_all (last_lines left steps)) output.new result }
-{
-    if left == 0 {
-        return show_end(steps, output, from, total);
+    // "A trailing piece prints `short`": so many bytes are left, fewer than a record has. "Last .. `end` and accepted steps."
+    pub fn show_last(&mut self, left: usize, steps: u32)
+        requires { self.old.total + 160 ≤ 1000000000 }
+        ensures same_reference { self.new.output.ghost_name ≡ self.old.output.ghost_name }
+        ensures from { self.new.from ≡ self.old.from }
+        ensures shows_bytes { ShowsBytes self.old.output.now self.old.from self.old.total
+            (text_of_all (last_lines left steps)) self.new.output.now self.new.total }
+    {
+        if left != 0 {
+            self.show_line(Line::Short);
+        }
+        self.show_line(Line::End(steps));
     }
-    let mut buffer = [0u8; 80];
-    let n = line::put_short(&mut buffer, 0);
-    let to = show_front(&buffer, n, output, from, total);
-    show_end(steps, output, from, to)
 }

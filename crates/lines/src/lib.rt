@@ -1,8 +1,8 @@
-// The lines of a run: as bytes in any lent buffer that holds the longest, and what a caller's output shows of them.
+// The lines of a run: as data, as bytes in any lent buffer that holds the longest, and what a caller's output shows of them.
 #![tactic(auto)]
 
-pub mod last_lines;
+mod last_lines;
 pub mod line;
-pub mod report;
+mod report;
 pub mod shown;
 mod word;

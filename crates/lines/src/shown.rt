@@ -1,50 +1,94 @@
 // The part of the printed bytes that a caller has room for: those from `from` on, as many as fit.
-ghost use Rattle.std.specs.Prelude.{◌≡◌, true, ◌+◌, ◌-◌, ◌≤◌, length, take};
+ghost use Rattle.std.specs.Prelude.{◌≡◌, true, ◌+◌, ◌-◌, ◌<◌, ◌≤◌, length};
+ghost use Rattle.model.specs.Output.Line.{text_of};
+ghost use Rattle.lines.specs.LineTold.{told, HasFewValues};
 ghost use Rattle.lines.specs.Shown.{ShowsBytes, with_byte};
 
-use crate::line::LONGEST;
+use crate::line::Line;
 
-// Is there room for a whole line behind the first `total` bytes? Then it is put there at once, without a buffer.
-pub(crate) fn has_room(output: &[u8], from: usize, total: usize) -> bool
-    requires { total + 80 ≤ 1000000000 }
-    ensures { result ≡ true → (from ≤ total) × (total - from + 80 ≤ length output.now) }
-{
-    if total < from {
-        return false;
-    }
-    total - from + LONGEST <= output.len()
+// A caller's output, which shows the printed bytes from `from` on; `total` are printed so far.
+#[derive(Drop)]
+pub struct Window<'a> {
+    output: &'a mut [u8],
+    from: usize,
+    total: usize,
 }
 
-// The byte behind the first `total`.
-fn show_byte(output: &mut [u8], from: usize, total: usize, byte: u8)
-    ensures { output.new ≡ with_byte output.old from total byte }
-{
-    if total < from {
-        return;
+impl<'a> Window<'a> {
+    pub fn new(output: &'a mut [u8], from: usize) -> Window<'a>
+        ensures same_reference { result.output.ghost_name ≡ output.entry.ghost_name }
+        ensures output { result.output.now ≡ output.old }
+        ensures from { result.from ≡ from }
+        ensures total { result.total ≡ 0 }
+    {
+        Window {
+            output,
+            from,
+            total: 0,
+        }
     }
-    let i = total - from;
-    if i < output.len() {
-        output[i] = byte;
-    }
-}
 
-// The bytes of a line, behind the first `total`. Answers how many there are then.
-fn show(line: &[u8], output: &mut [u8], from: usize, total: usize) -> usize
-    requires { total + length line.now ≤ 1000000000 }
-    ensures { ShowsBytes output.old from total line.now output.new result }
-{
-    let mut i = 0;
-    while i < line.len() {
-        show_byte(output, from, total + i, line[i]);
-        i += 1;
+    // How many bytes are printed, shown or not.
+    pub fn total(&self) -> usize
+        ensures { result ≡ self.now.total }
+    {
+        self.total
     }
-    total + line.len()
-}
 
-// The first `n` bytes of a line's buffer, which is not copied: its bytes were just written, and a copy would wait for them.
-pub fn show_front(buffer: &[u8], n: usize, output: &mut [u8], from: usize, total: usize) -> usize
-    requires { (n ≤ 80) × (length buffer.now ≡ 80) × (total + 80 ≤ 1000000000) }
-    ensures { ShowsBytes output.old from total (take n buffer.now) output.new result }
-{
-    show(&buffer[0..n], output, from, total)
+    // Is there room for a whole line behind the bytes that are printed? Then it is put there at once, without a buffer.
+    fn has_room(&self) -> bool
+        requires { self.now.total + 80 ≤ 1000000000 }
+        ensures { result ≡ true → (self.now.from ≤ self.now.total) × (self.now.total - self.now.from + 80 ≤ length self.now.output.now) }
+    {
+        self.from <= self.total && self.total - self.from + Line::LONGEST <= self.output.len()
+    }
+
+    fn show_byte(&mut self, byte: u8)
+        requires { self.old.total < 1000000000 }
+        ensures same_reference { self.new.output.ghost_name ≡ self.old.output.ghost_name }
+        ensures from { self.new.from ≡ self.old.from }
+        ensures output { self.new.output.now ≡ with_byte self.old.output.now self.old.from self.old.total byte }
+        ensures total { self.new.total ≡ self.old.total + 1 }
+    {
+        if self.from <= self.total {
+            let i = self.total - self.from;
+            if i < self.output.len() {
+                self.output[i] = byte;
+            }
+        }
+        self.total += 1;
+    }
+
+    // The bytes of a line.
+    fn show_bytes(&mut self, line: &[u8])
+        requires { self.old.total + length line.now ≤ 1000000000 }
+        ensures same_reference { self.new.output.ghost_name ≡ self.old.output.ghost_name }
+        ensures from { self.new.from ≡ self.old.from }
+        ensures shows_bytes { ShowsBytes self.old.output.now self.old.from self.old.total line.now
+            self.new.output.now self.new.total }
+    {
+        for &byte in line {
+            self.show_byte(byte);
+        }
+    }
+
+    // Shows a line behind the bytes that are printed. Where there may be no room for it, it is put into a buffer first.
+    #[inline(always)]
+    pub fn show_line(&mut self, line: Line)
+        requires { (self.old.total + 80 ≤ 1000000000) × HasFewValues line }
+        ensures same_reference { self.new.output.ghost_name ≡ self.old.output.ghost_name }
+        ensures from { self.new.from ≡ self.old.from }
+        ensures shows_bytes { ShowsBytes self.old.output.now self.old.from self.old.total (text_of (told line.entry))
+            self.new.output.now self.new.total }
+        ensures upper_bound { self.new.total ≤ self.old.total + 80 }
+    {
+        if self.has_room() {
+            let at = self.total - self.from;
+            self.total = self.from + line.put(self.output, at);
+        } else {
+            let mut buffer = [0u8; Line::LONGEST];
+            let n = line.put(&mut buffer, 0);
+            self.show_bytes(&buffer[..n]);
+        }
+    }
 }

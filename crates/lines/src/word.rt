@@ -1,5 +1,5 @@
 // The words of a line: its first word, numbers with a space before each, and its end.
-ghost use Rattle.std.specs.Prelude.{◌+◌, ◌≤◌, map, length, take};
+ghost use Rattle.std.specs.Prelude.{◌+◌, ◌≤◌, map, length};
 ghost use Rattle.job.specs.Decimal.{decimal, signed_decimal};
 ghost use Rattle.decimal.specs.Written.{Written};
 ghost use Rattle.lines.specs.WordBytes.{spaced, all_spaced, line_feed};
@@ -10,13 +10,8 @@ pub(crate) fn put_word(buffer: &mut [u8], at: usize, word: &[u8]) -> usize
     requires { at + length word.now ≤ length buffer.old }
     ensures { Written (length word.now) buffer.old at word.now buffer.new result }
 {
-    let mut to = at;
-    let mut i = 0;
-    while i < word.len() {
-        buffer[to] = word[i];
-        to += 1;
-        i += 1;
-    }
+    let to = at + word.len();
+    buffer[at..to].copy_from_slice(word);
     to
 }
 
@@ -36,27 +31,15 @@ pub(crate) fn put_value(buffer: &mut [u8], at: usize, v: i32) -> usize
     signed::put_signed(buffer, at + 1, v)
 }
 
-// As many of the values as `count` says. Each is read by itself, so that the array is not copied.
-pub(crate) fn put_value_list(buffer: &mut [u8], at: usize, values: [i32; 4], count: usize) -> usize
-    requires { (at + 48 ≤ length buffer.old) × (count ≤ 4) }
-    ensures { Written 48 buffer.old at (all_spaced (map signed_decimal (take count values))) buffer.new result }
+pub(crate) fn put_value_list(buffer: &mut [u8], at: usize, values: &[i32]) -> usize
+    requires { (at + 48 ≤ length buffer.old) × (length values.now ≤ 4) }
+    ensures { Written 48 buffer.old at (all_spaced (map signed_decimal values.now)) buffer.new result }
 {
-    if count == 0 {
-        return at;
+    let mut to = at;
+    for &v in values {
+        to = put_value(buffer, to, v);
     }
-    let one = put_value(buffer, at, values[0]);
-    if count == 1 {
-        return one;
-    }
-    let two = put_value(buffer, one, values[1]);
-    if count == 2 {
-        return two;
-    }
-    let three = put_value(buffer, two, values[2]);
-    if count == 3 {
-        return three;
-    }
-    put_value(buffer, three, values[3])
+    to
 }
 
 pub(crate) fn put_feed(buffer: &mut [u8], at: usize) -> usize

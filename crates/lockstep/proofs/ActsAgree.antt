@@ -20,7 +20,7 @@ use Rattle.model.specs.Machine.Update.{with_orders}
 use Rattle.model.specs.Machine.Step.{forked, split, entered, has_token_place, has_cell_place, call_body, act}
 use Rattle.calculus.specs.Expression.{Exp}
 use Rattle.calculus.specs.Meaning.{param_meant}
-use Rattle.model.specs.declared.token.Held.{Held}
+use Rattle.model.specs.Machine.Held.{Held}
 use Rattle.model.specs.declared.token.State.{State}
 use Rattle.model.specs.declared.token.State.TheVariants as states
 use Rattle.model.specs.declared.token.Token.{Token}

@@ -9,6 +9,7 @@ use native.Mathlib.Omega.{arith}
 use lib.ListN.{get_or}
 use lib.Dec.{eqb}
 use lib.IntN.{ℤ}
+use Rattle.std.specs.Prelude.{Some}
 use Rattle.job.specs.Test.{for_some}
 use Rattle.model.specs.Machine.Blank.{blank_token, token_at}
 use Rattle.model.specs.Machine.State.{is_live, handle_of}
@@ -16,10 +17,7 @@ use Rattle.model.specs.Machine.Update.{with_value, with_state, with_tables, with
 use Rattle.model.specs.Machine.Answer.{holder}
 use Rattle.calculus.specs.Event.{Event, showing}
 use Rattle.calculus.specs.Allowed.{next_handle}
-use Rattle.model.specs.declared.token.Held.{Held}
-use Rattle.model.specs.declared.token.Held.TheVariants as helds
-use Rattle.model.specs.declared.token.Place.{Place}
-use Rattle.model.specs.declared.token.Place.TheVariants as places
+use Rattle.model.specs.Machine.Held.{Held, Place}
 use Rattle.model.specs.declared.token.State.{State}
 use Rattle.model.specs.declared.token.State.TheVariants as states
 use Rattle.model.specs.declared.token.Token.{Token}
@@ -49,7 +47,7 @@ holds-handle h (states.Called g) e = go (or_cases (eqb h g) false e)
     go (inl x) = ap states.Called (sym (eqb-eq h g x))
     go (inr x) = clash x refl
 
-holder-from : (h i : ℕ) (ts : List Token) (p : ℕ) → holder h i ts ≡ places.At p
+holder-from : (h i : ℕ) (ts : List Token) (p : ℕ) → holder h i ts ≡ Some p
     → (j : ℕ) × (p ≡ i + j) × ((token_at ts j).state ≡ states.Called h)
 unfolding holder token_at
 holder-from h i [] p e = never cc
@@ -62,13 +60,13 @@ holder-from h i (t ∷ ts) p e = go (for_some (eqb h) (handle_of t.state)) refl 
     later (j, x, r) = (suc j, (let z : p ≡ i + suc j = omega arith in z), r)
 
     go : (b : Bool) → for_some (eqb h) (handle_of t.state) ≡ b
-        → elim b as (λ b. Place) [ true ↦ places.At i | false ↦ holder h (suc i) ts ] ≡ places.At p
-        → (holder h (suc i) ts ≡ places.At p → (j : ℕ) × (p ≡ suc i + j) × ((get_or ts j blank_token).state ≡ states.Called h))
+        → elim b as (λ b. Place) [ true ↦ Some i | false ↦ holder h (suc i) ts ] ≡ Some p
+        → (holder h (suc i) ts ≡ Some p → (j : ℕ) × (p ≡ suc i + j) × ((get_or ts j blank_token).state ≡ states.Called h))
         → Holding
     go true x y f = (0, (let z : i ≡ p = cc in omega arith), holds-handle h t.state x)
     go false x y f = later (f y)
 
-pub holder-called : (h : ℕ) (ts : List Token) (p : ℕ) → holder h 0 ts ≡ places.At p → (token_at ts p).state ≡ states.Called h
+pub holder-called : (h : ℕ) (ts : List Token) (p : ℕ) → holder h 0 ts ≡ Some p → (token_at ts p).state ≡ states.Called h
 holder-called h ts p e =
     let x = holder-from h 0 ts p e in
     subst (λ i. (token_at ts i).state ≡ states.Called h) (let z = x.1 in let y : x.0 ≡ p = omega arith in y) x.2
@@ -112,7 +110,7 @@ pub answered-becomes : {M : Labels} (m : Machine) {name place : ℕ → ℕ} {σ
     → TokenSeen (world m.tokens m.cells name place σ new) M (token_at m.tokens p) (Abstract.called_out h (at n B F U))
     → Becomes M (world m.tokens m.cells name place σ new) L R m.clock m.calls
     (makes (showing (Event.answer h v)) (running (at n B F U) v ∷ [])) (showing (Event.answer h v))
-    (enqueue p (put p (with_state states.Ready (with_value (helds.Value v) (token_at m.tokens p))) m))
+    (enqueue p (put p (with_state states.Ready (with_value (Some v) (token_at m.tokens p))) m))
 unfolding enqueue put with_tables with_orders with_state with_value next_handle
 answered-becomes m {name} {place} {σ} {new} {p} h v o z un seen =
     goes-becomes m o _ (showing (Event.answer h v)) _ refl refl refl refl

@@ -10,6 +10,7 @@ use native.Mathlib.Omega.{arith}
 use lib.ListN.{length, set, length-set, length-map}
 use lib.Dec.{eqb}
 use lib.IntN.{ℤ}
+use Rattle.std.specs.Prelude.{Some}
 use Rattle.job.specs.Test.{occurrences, once, for_some, select}
 use Rattle.job.specs.Node.{Node, Dag}
 use Rattle.model.specs.Machine.Blank.{token_at, cell_at}
@@ -18,9 +19,7 @@ use Rattle.model.specs.Machine.State.{is_live, waits_at}
 use Rattle.model.specs.Machine.Update.{with_state, with_tables, with_timers, with_orders}
 use Rattle.model.specs.Machine.Step.{choke_token, after_choke, choke_at}
 use Rattle.calculus.specs.Expression.{Exp}
-use Rattle.model.specs.declared.token.Held.{Held}
-use Rattle.model.specs.declared.token.Held.TheVariants as helds
-use Rattle.model.specs.declared.token.Place.{Place}
+use Rattle.model.specs.Machine.Held.{Held, Place}
 use Rattle.model.specs.declared.token.State.{State}
 use Rattle.model.specs.declared.token.State.TheVariants as states
 use Rattle.model.specs.declared.token.Token.{Token}
@@ -65,7 +64,7 @@ woken-state c called e = clash e refl
 woken-state c due e = clash e refl
 
 -- the cell at place c, with the name i, gets the value v
-module _ (M : Labels) (W : World) (c i : ℕ) (s : CellSeen W c i) (w : Held) (v : ℤ) (e : w ≡ helds.Value v) where
+module _ (M : Labels) (W : World) (c i : ℕ) (s : CellSeen W c i) (w : Held) (v : ℤ) (e : w ≡ Some v) where
   abbrev set_cell : Cell
   set_cell = record { parent = (cell_at W.cells c).parent; value = w }
 

@@ -6,13 +6,13 @@ use mathlib.Core.List.{List, map}
 use Prim.Native.Nat.{ℕ}
 use lib.ListN.{length-map}
 use lib.IntN.{pos}
+use Rattle.std.specs.Prelude.{Some}
 use Rattle.job.specs.Test.{once}
 use Rattle.model.specs.Machine.Blank.{token_at}
 use Rattle.model.specs.Machine.State.{is_live, is_due_by}
 use Rattle.model.specs.Machine.Update.{with_value, with_state, with_tables, with_orders, with_timers, with_clock}
 use Rattle.model.specs.Machine.Clock.{woken_by, after_advance}
-use Rattle.model.specs.declared.token.Held.{Held}
-use Rattle.model.specs.declared.token.Held.TheVariants as helds
+use Rattle.model.specs.Machine.Held.{Held}
 use Rattle.model.specs.declared.token.State.{State}
 use Rattle.model.specs.declared.token.State.TheVariants as states
 use Rattle.model.specs.declared.token.Token.{Token}
@@ -32,13 +32,13 @@ module _ (time : ℕ) where
   -- a token that wakes, and one that stays
   module _ {M : Labels} {n : ℕ} {K : Abstract.Place} where
     wakes-state : {s : State} {w : Held} {x : Abstract.Token}
-        → StateSeen M n K s w x → is_due_by time s ≡ true → StateSeen M n K states.Ready (helds.Value (pos 0)) (wake time x)
+        → StateSeen M n K s w x → is_due_by time s ≡ true → StateSeen M n K states.Ready (Some (pos 0)) (wake time x)
     unfolding is_due_by
     wakes-state (ready v) e = clash e refl
     wakes-state (waiting f v) e = clash e refl
     wakes-state called e = clash e refl
     wakes-state (due {time = d}) e =
-        subst (λ b. StateSeen M n K states.Ready (helds.Value (pos 0)) (woken_if b d K)) (sym e) (ready present)
+        subst (λ b. StateSeen M n K states.Ready (Some (pos 0)) (woken_if b d K)) (sym e) (ready present)
 
     stays-state : {s : State} {w : Held} {x : Abstract.Token}
         → StateSeen M n K s w x → is_due_by time s ≡ false → StateSeen M n K s w (wake time x)
@@ -54,7 +54,7 @@ module _ (time : ℕ) where
   token-wakes {W} {M} {t} {x} (sees z un st) = go (is_due_by time t.state) refl
     where
       go : (b : Bool) → is_due_by time t.state ≡ b
-          → TokenSeen W M (elim b [ true ↦ with_state states.Ready (with_value (helds.Value (pos 0)) t) | false ↦ t ]) (wake time x)
+          → TokenSeen W M (elim b [ true ↦ with_state states.Ready (with_value (Some (pos 0)) t) | false ↦ t ]) (wake time x)
       go true e = sees (place-as {t = t} refl refl refl refl z) un (wakes-state st e)
       go false e = sees z un (stays-state st e)
 
@@ -67,7 +67,7 @@ module _ (time : ℕ) where
   woken-alive t = go (is_due_by time t.state) refl
     where
       go : (b : Bool) → is_due_by time t.state ≡ b
-          → is_live (elim b as (λ b. Token) [ true ↦ with_state states.Ready (with_value (helds.Value (pos 0)) t) | false ↦ t ]).state
+          → is_live (elim b as (λ b. Token) [ true ↦ with_state states.Ready (with_value (Some (pos 0)) t) | false ↦ t ]).state
           ≡ is_live t.state
       go true e = sym (due-live time t.state e)
       go false e = refl

@@ -10,6 +10,7 @@ use native.Mathlib.Omega.{arith}
 use lib.ListN.{length, get_or}
 use lib.Seq.{take-append_seam}
 use lib.IntN.{ℤ}
+use Rattle.std.specs.Prelude.{Some, None}
 use Rattle.job.specs.Test.{padded, without}
 use Rattle.job.specs.Number.{Signed32}
 use Rattle.job.specs.Site.{last_time}
@@ -31,8 +32,7 @@ use Rattle.calculus.specs.Event.{Event, Label, silently, showing}
 use Rattle.calculus.specs.Expression.{Exp}
 use Rattle.calculus.specs.Allowed.{shown}
 use Rattle.model.specs.Run.Call.{Call, step, answer, advance, runner, events_of, outcome_of, events_from, started}
-use Rattle.model.specs.declared.token.Place.{Place}
-use Rattle.model.specs.declared.token.Place.TheVariants as places
+use Rattle.model.specs.Machine.Held.{Place}
 use Rattle.model.specs.declared.record.Machine.{Machine}
 use Rattle.model.specs.declared.reply.Reply.TheVariants as replies
 use Rattle.model.specs.declared.reply.Outcome.{Outcome}
@@ -196,14 +196,14 @@ module _ (lim : Limits) (d : Dag) (M : Labels) (bodies : ℕ → Exp) (fits : Fi
       W : World
       W = world m.tokens m.cells name place σ new
 
-      found : (p : ℕ) → Pending M W p h S → Locked (outcome m (answered m v (places.At p)))
+      found : (p : ℕ) → Pending M W p h S → Locked (outcome m (answered m v (Some p)))
       found p (pending split others view clear seen) = unfold answered outcome accepted is_refused events_of shown in
           steps (Abstract.step (Move.answered v signed) split) refl (sweep-sees _ (answered-becomes m h v others view clear seen).machine)
 
       go : (q : Place) → holder h 0 m.tokens ≡ q → is_refused (outcome m (answered m v q)).reply ≡ false
           → Locked (outcome m (answered m v q))
-      go places.Nowhere e r = unfold answered outcome is_refused in clash refl r
-      go (places.At p) e r = found p (find-pending p h K (holder-called h m.tokens p e))
+      go None e r = unfold answered outcome is_refused in clash refl r
+      go (Some p) e r = found p (find-pending p h K (holder-called h m.tokens p e))
 
   -- an accepted clock move
   pub advance-locks : (m : Machine) {s : Abstract.State} → Sees M m s → (time : ℕ) → is_refused (Clock.advance lim d m time).reply ≡ false

@@ -7,14 +7,13 @@ use native.Mathlib.Decide.{ℕ_discrete}
 use native.Mathlib.Omega.{arith}
 use lib.ListN.{length}
 use lib.IntN.{ℤ}
+use Rattle.std.specs.Prelude.{Some}
 use Rattle.job.specs.Node.{Dag}
 use Rattle.model.specs.Machine.Blank.{slot_at}
 use Rattle.model.specs.Machine.Update.{with_node, with_binding}
 use Rattle.model.specs.declared.token.Slot.{Slot}
 use Rattle.model.specs.declared.token.Slot.TheVariants as slots
-use Rattle.model.specs.declared.token.Bind.{Bind}
-use Rattle.model.specs.declared.token.Held.{Held}
-use Rattle.model.specs.declared.token.Held.TheVariants as helds
+use Rattle.model.specs.Machine.Held.{Held}
 use Rattle.model.specs.declared.token.State.{State}
 use Rattle.model.specs.declared.token.State.TheVariants as states
 use Rattle.model.specs.declared.token.Token.{Token}
@@ -28,7 +27,7 @@ use Rattle.lockstep.proofs.View.{SlotsSeen, FramesSeen, PlaceSeen}
 use Rattle.lockstep.proofs.Slots.{with_slot, slot_same, slot-other, slots-bind, slots-drop}
 
 -- a value that must be there, or need not
-pub value_there : {b : Bool} {w : Held} {v : ℤ} → b ≡ true → HeldSeen b w v → w ≡ helds.Value v
+pub value_there : {b : Bool} {w : Held} {v : ℤ} → b ≡ true → HeldSeen b w v → w ≡ Some v
 value_there e (absent f) = clash e f
 value_there e present = refl
 
@@ -36,7 +35,7 @@ pub value-optional : {b c : Bool} {w : Held} {v : ℤ} → c ≡ false → HeldS
 value-optional e (absent f) = absent e
 value-optional e present = present
 
-pub value-held : {b : Bool} {w : Held} {v : ℤ} → w ≡ helds.Value v → HeldSeen b w v
+pub value-held : {b : Bool} {w : Held} {v : ℤ} → w ≡ Some v → HeldSeen b w v
 value-held {b} {v = v} e = subst (λ w. HeldSeen b w v) (sym e) present
 
 pub ready-seen : {M : Labels} {n : ℕ} {K : Abstract.Place} {s : State} {w : Held} {v : ℤ}
@@ -56,7 +55,7 @@ pub nested-next : {d : Dag} {M : Labels} {n k : ℕ} {scope U : List ℕ} {F : L
     → Follows d M n k scope (M.nest n) → Nested M n U F → Nested M k U F
 nested-next f o = record { own = o.own; size = o.size ∙ sym f.nest; parts = o.parts; body = f.body ∙ o.body }
 
-pub slots_at : {W : World} {bs : List Bind} {a b : List ℕ} {B : List Binding} → a ≡ b → SlotsSeen W bs a B → SlotsSeen W bs b B
+pub slots_at : {W : World} {bs : List Slot} {a b : List ℕ} {B : List Binding} → a ≡ b → SlotsSeen W bs a B → SlotsSeen W bs b B
 slots_at {W} {bs} {B = B} e z = subst (λ s. SlotsSeen W bs s B) e z
 
 module _ {d : Dag} {M : Labels} {W : World} where

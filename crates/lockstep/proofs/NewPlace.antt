@@ -9,6 +9,7 @@ use native.Mathlib.Omega.{arith}
 use lib.ListN.{length, set, length-set}
 use lib.Dec.{eqb}
 use lib.IntN.{ℤ}
+use Rattle.std.specs.Prelude.{Some, None}
 use Rattle.job.specs.Test.{All}
 use Rattle.job.specs.Syntax.{Param}
 use Rattle.job.specs.WellFormed.{GoodParam}
@@ -23,8 +24,6 @@ use Rattle.calculus.specs.Expression.{Exp}
 use Rattle.calculus.specs.Allowed.{next_handle}
 use Rattle.calculus.specs.Meaning.{param_meant}
 use Rattle.model.specs.declared.token.Slot.TheVariants as slots
-use Rattle.model.specs.declared.token.Held.TheVariants as helds
-use Rattle.model.specs.declared.token.Place.TheVariants as places
 use Rattle.model.specs.declared.token.State.TheVariants as states
 use Rattle.model.specs.declared.token.Token.{Token}
 use Rattle.model.specs.declared.cell.Cell.{Cell}
@@ -116,7 +115,7 @@ module _ (d : Dag) (M : Labels) (bodies : ℕ → Exp) (m : Machine) {name place
       u = with_node k (with_state states.Frame t)
 
       w : Token
-      w = callee (places.At p) t (body_at d e).root ps
+      w = callee (Some p) t (body_at d e).root ps
 
       still : PlaceSeen (made u w) M t n B F U
       still = place-keep (made_kept u w) (used-closed W) (acting-fits A) A.place
@@ -165,7 +164,7 @@ module _ (d : Dag) (M : Labels) (bodies : ℕ → Exp) (m : Machine) {name place
         w = in_cell c (with_node r t)
 
         fresh-cell : Cell
-        fresh-cell = record { parent = t.cell; value = helds.Nothing }
+        fresh-cell = record { parent = t.cell; value = None }
 
         cs : List Cell
         cs = set m.cells c fresh-cell
@@ -216,7 +215,7 @@ module _ (d : Dag) (M : Labels) (bodies : ℕ → Exp) (m : Machine) {name place
               value = unset ∙ ap (λ (k : Cell). held k.value) (sym (cell_same m.cells c fresh-cell inside));
             }
 
-        cell-view : CellsSeen W' (places.At c) (new ∷ U)
+        cell-view : CellsSeen W' (Some c) (new ∷ U)
         cell-view =
             below made-cell
             (subst (λ y. CellsSeen W' y U) (ap (λ (k : Cell). k.parent) (sym (cell_same m.cells c fresh-cell inside))) still.cell)

@@ -9,6 +9,7 @@ use native.Mathlib.Omega.{arith}
 use lib.ListN.{length, set}
 use lib.Dec.{ltb}
 use lib.IntN.{ℤ, pos}
+use Rattle.std.specs.Prelude.{Some, None}
 use Rattle.job.specs.Test.{All}
 use Rattle.job.specs.Site.{BuiltinReply, gives, silent, later, due_time, is_builtin, builtin}
 use Rattle.job.specs.Syntax.{Param}
@@ -27,10 +28,7 @@ use Rattle.calculus.specs.Expression.{Exp}
 use Rattle.calculus.specs.Allowed.{next_handle}
 use Rattle.calculus.specs.Meaning.{param_meant}
 use Rattle.model.specs.declared.token.Slot.TheVariants as slots
-use Rattle.model.specs.declared.token.Held.{Held}
-use Rattle.model.specs.declared.token.Held.TheVariants as helds
-use Rattle.model.specs.declared.token.Place.{Place}
-use Rattle.model.specs.declared.token.Place.TheVariants as places
+use Rattle.model.specs.Machine.Held.{Held, Place}
 use Rattle.model.specs.declared.token.State.{State}
 use Rattle.model.specs.declared.token.State.TheVariants as states
 use Rattle.model.specs.declared.token.Token.{Token}
@@ -92,7 +90,7 @@ module _ (d : Dag) (M : Labels) (bodies : ℕ → Exp) (m : Machine) {name place
       no_cell : {v : ℤ} {c : ℕ} → slots.Value v ≡ slots.Cell c → ⊥
       no_cell q = never cc
 
-      here : t.value ≡ helds.Value v
+      here : t.value ≡ Some v
       here = value_there e A.value
 
       view : TokenSeen W M u (running (at k (Binding.value v ∷ B) F U) v)
@@ -114,7 +112,7 @@ module _ (d : Dag) (M : Labels) (bodies : ℕ → Exp) (m : Machine) {name place
       no_cell c q = never cc
 
   -- the frame is under the same cells as the token that returns to it
-  return-to : {G : List Frame} → M.value n ≡ true → U ≡ cells_of_caller G → (f : ℕ) → t.caller ≡ places.At f → FrameSeen W M f G
+  return-to : {G : List Frame} → M.value n ≡ true → U ≡ cells_of_caller G → (f : ℕ) → t.caller ≡ Some f → FrameSeen W M f G
       → Agrees M W L R m.clock m.calls (goes_on m p (with_state states.Ready (with_value t.value (token_at m.tokens f))))
       (Abstract.returns G v)
   unfolding Shows goes_on enqueue put with_tables with_orders next_handle with_state with_value
@@ -131,8 +129,8 @@ module _ (d : Dag) (M : Labels) (bodies : ℕ → Exp) (m : Machine) {name place
   return-agrees e z = go t.caller refl
     where
       go : (q : Place) → t.caller ≡ q → Agrees M W L R m.clock m.calls (returned m p t q) (does Node.return)
-      go places.Nowhere c = tt
-      go (places.At f) c = return-to e (nested-none z A.place.nested) f c (frame-seen f c A.place.caller)
+      go None c = tt
+      go (Some f) c = return-to e (nested-none z A.place.nested) f c (frame-seen f c A.place.caller)
 
   -- a tail call: the token stands at the body's root, for its own caller
   pub tail-agrees : {e : ℕ} {ps : List Param} → All (GoodParam (M.scope n)) ps → TailLabels M n → Enters d M e ps
@@ -180,7 +178,7 @@ module _ (d : Dag) (M : Labels) (bodies : ℕ → Exp) (m : Machine) {name place
         (ends-becomes m A.others _ silently blank_token refl refl refl refl refl)
         (λ time l.
         subst (λ b. Goes b time (at_once m p t k)) (sym (le-leb time m.clock l))
-        (goes-next _ silently t.state (helds.Value (pos 0)) refl refl refl refl (ready-seen A.state present)))
+        (goes-next _ silently t.state (Some (pos 0)) refl refl refl refl (ready-seen A.state present)))
         (λ time l.
         subst (λ b. Goes b time (moves (in_time m p t k time))) (sym (lt-not-leb time m.clock l))
         (goes-next _ silently (states.Due time) t.value refl refl refl refl due))
@@ -194,7 +192,7 @@ module _ (d : Dag) (M : Labels) (bodies : ℕ → Exp) (m : Machine) {name place
     unfolding Shows replied goes_on ended enqueue put with_tables with_orders next_handle is_live with_node with_value with_state
     replied-agrees (later t) = deferred-agrees (due_time m.clock t)
     replied-agrees silent = ends-becomes m A.others _ silently blank_token refl refl refl refl refl
-    replied-agrees (gives w) = goes-next _ silently t.state (helds.Value w) refl refl refl refl (ready-seen A.state present)
+    replied-agrees (gives w) = goes-next _ silently t.state (Some w) refl refl refl refl (ready-seen A.state present)
 
     called-agrees : (vs : List ℤ)
         → Agrees M W L R m.clock m.calls (called_out m p t s vs k) (Abstract.calls_site m.clock m.calls s vs false (at k B F U))

@@ -11,14 +11,13 @@ use native.Mathlib.Decide.{dec_lt}
 use native.Mathlib.Omega.{arith}
 use lib.ListN.{length, get_or}
 use lib.Dec.{eqb}
+use Rattle.std.specs.Prelude.{Some, None}
 use Rattle.job.specs.Test.{occurrences, once}
 use Rattle.model.specs.Machine.Blank.{blank_token, blank_cell, token_at, cell_at, has_value}
 use Rattle.model.specs.Machine.Active.{cell_is_set, upward, under_set, is_active}
 use Rattle.model.specs.Machine.State.{is_live}
 use Rattle.model.specs.Machine.InUse.{used_tokens, used_cells, rest_blanked, sweep}
-use Rattle.model.specs.declared.token.Held.{Held}
-use Rattle.model.specs.declared.token.Held.TheVariants as helds
-use Rattle.model.specs.declared.token.Place.{Place}
+use Rattle.model.specs.Machine.Held.{Held, Place}
 use Rattle.model.specs.declared.token.State.{State}
 use Rattle.model.specs.declared.token.Token.{Token}
 use Rattle.model.specs.declared.cell.Cell.{Cell}
@@ -65,8 +64,8 @@ unfolding cell_is_set has_value
 unset-cell c e = go c.value e
   where
     go : (h : Held) → held h ≡ none → has_value h ≡ false
-    go helds.Nothing e = refl
-    go (helds.Value v) e = never cc
+    go None e = refl
+    go (Some v) e = never cc
 
 module _ {W : World} where
   -- a test that fails at each cell from a place upward

@@ -13,6 +13,7 @@ use lib.ListN.{length, set, drop, length-set, length-append, length-drop, length
 use lib.Seq.{get_or-set_same, get_or-set_other, get_or-append-add, get_or-drop}
 use lib.Dec.{eqb}
 use lib.IntN.{ℤ}
+use Rattle.std.specs.Prelude.{Some, None}
 use Rattle.job.specs.Test.{All, more}
 use Rattle.job.specs.Syntax as Job
 use Rattle.job.specs.Syntax.{levels}
@@ -22,9 +23,7 @@ use Rattle.model.specs.Machine.Step.{LookUpResult, values, unset, and_then, look
 use Rattle.calculus.specs.Meaning.{position, param_meant}
 use Rattle.model.specs.declared.token.Slot.{Slot}
 use Rattle.model.specs.declared.token.Slot.TheVariants as slots
-use Rattle.model.specs.declared.token.Bind.{Bind}
-use Rattle.model.specs.declared.token.Held.{Held}
-use Rattle.model.specs.declared.token.Held.TheVariants as helds
+use Rattle.model.specs.Machine.Held.{Held}
 use Rattle.job.proofs.Test.{never, eqb-eq, eqb-ne}
 use Rattle.model.proofs.Machine.InUse.{unbound-empty}
 use Rattle.simulation.proofs.AbstractMachine.{Binding, binding_at, named, value_in, in_front, values_in}
@@ -34,19 +33,19 @@ use Rattle.lockstep.proofs.Labels.{Fresh}
 use Rattle.lockstep.proofs.View.{held, World, below, BindingSeen, valued, celled, BindingsSeen, nothing, binds, SlotsSeen}
 
 -- one slot written
-abbrev pub with_slot : List Bind → ℕ → Slot → List Bind
-with_slot bs x s = set bs x (record { slot = s })
+abbrev pub with_slot : List Slot → ℕ → Slot → List Slot
+with_slot bs x s = set bs x s
 
-pub slot_same : (bs : List Bind) (x : ℕ) (s : Slot) → x < length bs → slot_at (with_slot bs x s) x ≡ s
+pub slot_same : (bs : List Slot) (x : ℕ) (s : Slot) → x < length bs → slot_at (with_slot bs x s) x ≡ s
 unfolding slot_at
-slot_same bs x s l = ap (λ (b : Bind). b.slot) (get_or-set_same bs x (record { slot = s }) empty l)
+slot_same bs x s l = get_or-set_same bs x s empty l
 
-pub slot-other : (bs : List Bind) (x y : ℕ) (s : Slot) → (y ≡ x → ⊥) → slot_at (with_slot bs x s) y ≡ slot_at bs y
+pub slot-other : (bs : List Slot) (x y : ℕ) (s : Slot) → (y ≡ x → ⊥) → slot_at (with_slot bs x s) y ≡ slot_at bs y
 unfolding slot_at
-slot-other bs x y s n = ap (λ (b : Bind). b.slot) (get_or-set_other bs x y (record { slot = s }) empty n)
+slot-other bs x y s n = get_or-set_other bs x y s empty n
 
 module _ {W : World} where
-  bindings-write : {bs : List Bind} {scope : List ℕ} {B : List Binding} (x : ℕ) (s : Slot)
+  bindings-write : {bs : List Slot} {scope : List ℕ} {B : List Binding} (x : ℕ) (s : Slot)
       → Fresh x scope → BindingsSeen W bs scope B → BindingsSeen W (with_slot bs x s) scope B
   bindings-write x s f nothing = nothing
   bindings-write {bs} x s f (binds {x = y} {b = b} v r) =
@@ -54,25 +53,25 @@ module _ {W : World} where
       (bindings-write x s (λ m. f (Memᴰ.tail m)) r)
 
   -- a binder's slot
-  pub slots-bind : {bs : List Bind} {scope : List ℕ} {B : List Binding} {x : ℕ} {s : Slot} {b : Binding}
+  pub slots-bind : {bs : List Slot} {scope : List ℕ} {B : List Binding} {x : ℕ} {s : Slot} {b : Binding}
       → x < 8 → Fresh x scope → BindingSeen W s b → SlotsSeen W bs scope B → SlotsSeen W (with_slot bs x s) (x ∷ scope) (b ∷ B)
   slots-bind {bs} {x = x} {s = s} {b = b} l f v z =
       record {
-        size = length-set bs x (record { slot = s }) ∙ z.size;
+        size = length-set bs x s ∙ z.size;
         views =
             binds (subst (λ i. BindingSeen W i b) (sym (slot_same bs x s (let y : length bs ≡ 8 = z.size in omega arith))) v)
             (bindings-write x s f z.views);
         rest = λ y g. slot-other bs x y s (λ e. g (Memᴰ.head e)) ∙ z.rest y (λ m. g (Memᴰ.tail m));
       }
 
-  bindings-tail : {bs : List Bind} {x : ℕ} {all scope : List ℕ} {B : List Binding}
+  bindings-tail : {bs : List Slot} {x : ℕ} {all scope : List ℕ} {B : List Binding}
       → all ≡ x ∷ scope → BindingsSeen W bs all B → BindingsSeen W bs scope (tail B)
   bindings-tail e nothing = never cc
   bindings-tail {bs} {scope = scope} e (binds {scope = ys} {B = B} v r) = subst (λ i. BindingsSeen W bs i B) (let z : ys ≡ scope = cc in
       z) r
 
   -- a binder's slot made empty
-  pub slots-drop : {bs : List Bind} {x : ℕ} {all scope : List ℕ} {B : List Binding}
+  pub slots-drop : {bs : List Slot} {x : ℕ} {all scope : List ℕ} {B : List Binding}
       → x < 8 → all ≡ x ∷ scope → Fresh x scope → SlotsSeen W bs all B → SlotsSeen W (with_slot bs x slots.Empty) scope (tail B)
   slots-drop {bs} {x} {all} {scope} {B} l e f z =
       record {
@@ -91,7 +90,7 @@ module _ {W : World} where
       go y g (no n) = slot-other bs x y slots.Empty n ∙ z.rest y (subst (Fresh y) (sym e) (other y n g))
 
   -- a variable is at its position in the scope
-  pub variable-seen : {bs : List Bind} {scope : List ℕ} {B : List Binding} (x : ℕ)
+  pub variable-seen : {bs : List Slot} {scope : List ℕ} {B : List Binding} (x : ℕ)
       → x is-in scope → BindingsSeen W bs scope B → BindingSeen W (slot_at bs x) (binding_at B (position x scope))
   unfolding position
   variable-seen x m nothing = absurd (Memᴰ.not-nil m)
@@ -114,19 +113,19 @@ unfolding and_then
 found-more v (values vs) = refl
 found-more v (unset c) = refl
 
-module _ {W : World} {bs : List Bind} {scope : List ℕ} {B : List Binding} (views : BindingsSeen W bs scope B) where
+module _ {W : World} {bs : List Slot} {scope : List ℕ} {B : List Binding} (views : BindingsSeen W bs scope B) where
   abbrev slot_case : Slot → LookUpResult → LookUpResult
   slot_case s l =
       elim s [
         | slots.Empty ↦ values []
         | slots.Value v ↦ and_then v l
-        | slots.Cell c ↦ elim (cell_at W.cells c).value [ helds.Nothing ↦ unset c | helds.Value v ↦ and_then v l ]
+        | slots.Cell c ↦ elim (cell_at W.cells c).value [ None ↦ unset c | Some v ↦ and_then v l ]
       ]
 
   cell-case : (h : Held) (c : ℕ) (l : LookUpResult)
-      → in_front (held h) (found l) ≡ found (elim h as (λ h. LookUpResult) [ helds.Nothing ↦ unset c | helds.Value v ↦ and_then v l ])
-  cell-case helds.Nothing c l = refl
-  cell-case (helds.Value v) c l = found-more v l
+      → in_front (held h) (found l) ≡ found (elim h as (λ h. LookUpResult) [ None ↦ unset c | Some v ↦ and_then v l ])
+  cell-case None c l = refl
+  cell-case (Some v) c l = found-more v l
 
   slot-case : {s : Slot} {b : Binding} (l : LookUpResult) → BindingSeen W s b
       → in_front (value_in W.store b) (found l) ≡ found (slot_case s l)
@@ -145,13 +144,13 @@ module _ {W : World} {bs : List Bind} {scope : List ℕ} {B : List Binding} (vie
       ap (in_front (some v)) (values_seen a) ∙ found-more v (look W.cells bs ps)
 
   -- "A variable's binding is passed on as it is"
-  passed-seen : {p : Job.Param} → GoodParam scope p → BindingSeen W (passed bs p).slot (named B (param_meant scope p))
+  passed-seen : {p : Job.Param} → GoodParam scope p → BindingSeen W (passed bs p) (named B (param_meant scope p))
   unfolding passed param_meant
   passed-seen (GoodParam.variable {x = x} i) = variable-seen x i views
   passed-seen (GoodParam.constant f) = valued
 
   -- the slots from n on are the parameters'
-  formals_from : (full : List Bind) (n : ℕ) (acc : List Calculus.Param) {ps : List Job.Param}
+  formals_from : (full : List Slot) (n : ℕ) (acc : List Calculus.Param) {ps : List Job.Param}
       → BindingsSeen W full (levels n) (map (named B) acc)
       → ((i : ℕ) → i < length ps → slot_at full (n + i) ≡ slot_at (map (passed bs) ps) i)
       → All (GoodParam scope) ps
@@ -168,8 +167,8 @@ module _ {W : World} {bs : List Bind} {scope : List ℕ} {B : List Binding} (vie
       e) (h (suc i) (omega arith)))
       a)
     where
-      first : slot_at full n ≡ (passed bs p).slot
-      first = subst (λ k. slot_at full k ≡ (passed bs p).slot) (let e : n + 0 ≡ n = omega arith in e) (h 0 (omega arith))
+      first : slot_at full n ≡ passed bs p
+      first = subst (λ k. slot_at full k ≡ passed bs p) (let e : n + 0 ≡ n = omega arith in e) (h 0 (omega arith))
 
 levels-member : (n x : ℕ) → x < n → x is-in levels n
 unfolding levels
@@ -188,7 +187,7 @@ levels-fresh n x f = go (dec_lt x n)
     go (no l) = omega arith
 
 -- "only its formals bound"
-pub formals-seen : {W : World} {bs : List Bind} {scope : List ℕ} {B : List Binding} (ps : List Job.Param)
+pub formals-seen : {W : World} {bs : List Slot} {scope : List ℕ} {B : List Binding} (ps : List Job.Param)
     → BindingsSeen W bs scope B → All (GoodParam scope) ps → length ps ≤ 4
     → SlotsSeen W (formals_bound bs ps) (levels (length ps)) (map (named B) (reverse (map (param_meant scope) ps)))
 unfolding formals_bound slot_at levels
@@ -202,10 +201,10 @@ formals-seen {W} {bs} {scope} {B} ps views good few =
       rest = λ x f. outside x (levels-fresh (length ps) x f);
     }
   where
-    given : List Bind
+    given : List Slot
     given = map (passed bs) ps
 
-    bound : List Bind
+    bound : List Slot
     bound = given ++ drop (length ps) unbound
 
     many : length given ≡ length ps
@@ -222,11 +221,10 @@ formals-seen {W} {bs} {scope} {B} ps views good few =
     inside : (i : ℕ) → i < length ps → slot_at bound (0 + i) ≡ slot_at given i
     inside i l =
         subst (λ k. slot_at bound k ≡ slot_at given i) (let e : i ≡ 0 + i = omega arith in e)
-        (ap (λ (b : Bind). b.slot) (get_or-append given (drop (length ps) unbound) empty i (let e = many in omega arith)))
+        (get_or-append given (drop (length ps) unbound) empty i (let e = many in omega arith))
 
     outside : (x : ℕ) → length ps ≤ x → slot_at bound x ≡ slots.Empty
     outside x l =
         subst (λ k. slot_at bound k ≡ slots.Empty) (let e = many in let y : length given + (x - length ps) ≡ x = omega arith in y)
-        (ap (λ (b : Bind). b.slot)
-        (get_or-append-add given (drop (length ps) unbound) (x - length ps) empty ∙ get_or-drop (length ps) unbound (x - length ps) empty)
+        ((get_or-append-add given (drop (length ps) unbound) (x - length ps) empty ∙ get_or-drop (length ps) unbound (x - length ps) empty)
         ∙ unbound-empty 8 (length ps + (x - length ps)))

@@ -8,15 +8,12 @@ use Prim.Native.Nat.{ℕ, ◌<◌}
 use native.Mathlib.Omega.{arith}
 use lib.ListN.{length}
 use lib.IntN.{ℤ}
+use Rattle.std.specs.Prelude.{Some, None}
 use Rattle.job.specs.Test.{occurrences}
 use Rattle.model.specs.Machine.Blank.{token_at, cell_at, slot_at}
 use Rattle.model.specs.declared.token.Slot.{Slot}
 use Rattle.model.specs.declared.token.Slot.TheVariants as slots
-use Rattle.model.specs.declared.token.Bind.{Bind}
-use Rattle.model.specs.declared.token.Held.{Held}
-use Rattle.model.specs.declared.token.Held.TheVariants as helds
-use Rattle.model.specs.declared.token.Place.{Place}
-use Rattle.model.specs.declared.token.Place.TheVariants as places
+use Rattle.model.specs.Machine.Held.{Held, Place}
 use Rattle.model.specs.declared.token.State.{State}
 use Rattle.model.specs.declared.token.State.TheVariants as states
 use Rattle.model.specs.declared.token.Token.{Token}
@@ -30,8 +27,8 @@ use Rattle.simulation.proofs.Store.{◌is-in◌}
 use Rattle.lockstep.proofs.Labels.{Labels, Fresh}
 
 abbrev pub held : Held → Option ℤ
-held helds.Nothing = none
-held (helds.Value v) = some v
+held None = none
+held (Some v) = some v
 
 -- tokens and cells of the machine; the name of a cell's place and the place of a name; the values of the named cells and the next name
 pub record World : Type 0 where
@@ -60,8 +57,8 @@ pub record Nested (M : Labels) (n : ℕ) (U : List ℕ) (F : List Frame) : Type 
 
 -- the value that a token holds; a token that needs none may hold none
 pub data HeldSeen (needed : Bool) : Held → ℤ → Type 0 where
-  absent : {v : ℤ} → needed ≡ false → HeldSeen needed helds.Nothing v
-  present : {v : ℤ} → HeldSeen needed (helds.Value v) v
+  absent : {v : ℤ} → needed ≡ false → HeldSeen needed None v
+  present : {v : ℤ} → HeldSeen needed (Some v) v
 
 -- a token that is ready, waiting, called out or due later, at node n and place K
 pub data StateSeen (M : Labels) (n : ℕ) (K : Abstract.Place) : State → Held → Abstract.Token → Type 0 where
@@ -84,21 +81,21 @@ module _ (W : World) where
 
   -- the cells from a place upward
   pub data CellsSeen : Place → List ℕ → Type 0 where
-    root : CellsSeen places.Nowhere []
-    below : {c n : ℕ} {U : List ℕ} → CellSeen c n → CellsSeen (cell_at W.cells c).parent U → CellsSeen (places.At c) (n ∷ U)
+    root : CellsSeen None []
+    below : {c n : ℕ} {U : List ℕ} → CellSeen c n → CellsSeen (cell_at W.cells c).parent U → CellsSeen (Some c) (n ∷ U)
 
   pub data BindingSeen : Slot → Binding → Type 0 where
     valued : {v : ℤ} → BindingSeen (slots.Value v) (Binding.value v)
-    celled : {c n : ℕ} {U : List ℕ} → CellsSeen (places.At c) (n ∷ U) → BindingSeen (slots.Cell c) (Binding.cell n)
+    celled : {c n : ℕ} {U : List ℕ} → CellsSeen (Some c) (n ∷ U) → BindingSeen (slots.Cell c) (Binding.cell n)
 
   -- the slots of the variables in scope, in the scope's order
-  pub data BindingsSeen (bs : List Bind) : List ℕ → List Binding → Type 0 where
+  pub data BindingsSeen (bs : List Slot) : List ℕ → List Binding → Type 0 where
     nothing : BindingsSeen bs [] []
     binds : {x : ℕ} {scope : List ℕ} {b : Binding} {B : List Binding}
         → BindingSeen (slot_at bs x) b → BindingsSeen bs scope B → BindingsSeen bs (x ∷ scope) (b ∷ B)
 
   -- and all others are empty
-  pub record SlotsSeen (bs : List Bind) (scope : List ℕ) (B : List Binding) : Type 0 where
+  pub record SlotsSeen (bs : List Slot) (scope : List ℕ) (B : List Binding) : Type 0 where
     pub size : length bs ≡ 8
     pub views : BindingsSeen bs scope B
     pub rest : (x : ℕ) → Fresh x scope → slot_at bs x ≡ slots.Empty
@@ -106,11 +103,11 @@ module _ (W : World) where
   module _ (M : Labels) where
     -- the frames from a caller on
     pub data FramesSeen : Place → List Frame → Type 0 where
-      outermost : FramesSeen places.Nowhere []
+      outermost : FramesSeen None []
       called_by : {q : ℕ} {t : Token} {n : ℕ} {B : List Binding} {F : List Frame} {U : List ℕ}
           → q < length W.tokens → token_at W.tokens q ≡ t → t.state ≡ states.Frame
           → t.node ≡ n → SlotsSeen t.binds (M.scope n) B → FramesSeen t.caller F → CellsSeen t.cell U → Nested M n U F
-          → FramesSeen (places.At q) (frame n B U ∷ F)
+          → FramesSeen (Some q) (frame n B U ∷ F)
 
     -- where a token stands
     pub record PlaceSeen (t : Token) (n : ℕ) (B : List Binding) (F : List Frame) (U : List ℕ) : Type 0 where
@@ -136,7 +133,7 @@ pub data FrameSeen (W : World) (M : Labels) (q : ℕ) : List Frame → Type 0 wh
       → q < length W.tokens → (token_at W.tokens q).state ≡ states.Frame → PlaceSeen W M (token_at W.tokens q) n B F U
       → FrameSeen W M q (frame n B U ∷ F)
 
-pub frame-seen : {W : World} {M : Labels} {o : Place} {F : List Frame} (q : ℕ) → o ≡ places.At q → FramesSeen W M o F → FrameSeen W M q F
+pub frame-seen : {W : World} {M : Labels} {o : Place} {F : List Frame} (q : ℕ) → o ≡ Some q → FramesSeen W M o F → FrameSeen W M q F
 frame-seen q e outermost = never cc
 frame-seen {W} {M} q e (called_by {q = r} {t = t} {n = n} {B = B} {F = F} {U = U} l i s k b f u o) =
     subst (λ x. FrameSeen W M x (frame n B U ∷ F)) (let z : r ≡ q = cc in z)
@@ -167,12 +164,12 @@ module _ {M : Labels} {Q R : ℕ → Type 0} {O W : World} (K : Kept Q R O W) (Z
   binding-keep h valued = valued
   binding-keep h (celled {c = c} u) = celled (cells-keep (λ b e. h b (ap slots.Cell (let z : c ≡ b = cc in z))) u)
 
-  bindings-keep : {bs : List Bind} {scope : List ℕ} {B : List Binding}
+  bindings-keep : {bs : List Slot} {scope : List ℕ} {B : List Binding}
       → ((x c : ℕ) → slot_at bs x ≡ slots.Cell c → R c) → BindingsSeen O bs scope B → BindingsSeen W bs scope B
   bindings-keep h nothing = nothing
   bindings-keep h (binds {x = x} b r) = binds (binding-keep (h x) b) (bindings-keep h r)
 
-  slots-keep : {bs : List Bind} {scope : List ℕ} {B : List Binding}
+  slots-keep : {bs : List Slot} {scope : List ℕ} {B : List Binding}
       → ((x c : ℕ) → slot_at bs x ≡ slots.Cell c → R c) → SlotsSeen O bs scope B → SlotsSeen W bs scope B
   slots-keep h s = record { size = s.size; views = bindings-keep h s.views; rest = s.rest }
 

@@ -10,12 +10,12 @@ use native.Mathlib.Omega.{arith}
 use lib.ListN.{length, set, replicate, length-set, length-replicate}
 use lib.Seq.{get_or-set_other}
 use lib.Dec.{eqb}
+use Rattle.std.specs.Prelude.{Some}
 use Rattle.job.specs.Test.{◌or◌, for_some}
 use Rattle.model.specs.Machine.Blank.{cell_at}
 use Rattle.model.specs.Machine.Active.{upward, within}
 use Rattle.model.specs.Machine.InUse.{marked}
-use Rattle.model.specs.declared.token.Place.{Place}
-use Rattle.model.specs.declared.token.Place.TheVariants as places
+use Rattle.model.specs.Machine.Held.{Place}
 use Rattle.job.proofs.WellFormed.{member-some}
 use Rattle.job.proofs.Test.{never, clash, eq-eqb, ne_eqb}
 use Rattle.model.proofs.Machine.Marks.{Free, marked-le-length, marked-set-free}
@@ -56,7 +56,7 @@ module _ {W : World} where
   -- cells with no longer a chain are not marked yet, and each cell of the chain takes a mark
   chain-marks : (marks : List Bool) {q : Place} {U : List ℕ}
       → length marks ≡ length W.cells
-      → ((b : ℕ) (X : List ℕ) → CellsSeen W (places.At b) X → length X ≤ length U → Free marks b)
+      → ((b : ℕ) (X : List ℕ) → CellsSeen W (Some b) X → length X ≤ length U → Free marks b)
       → CellsSeen W q U → length U + marked marks ≤ length W.cells
   chain-marks marks l h root = let z = marked-le-length marks in omega arith
   chain-marks marks l h (below {c = c} {n = n} {U = U} s v) =
@@ -65,13 +65,13 @@ module _ {W : World} where
       let more = chain-marks (set marks c true) (length-set marks c true ∙ l) (λ b X w k. further b X w k) v in
       omega arith
     where
-      further : (b : ℕ) (X : List ℕ) → CellsSeen W (places.At b) X → length X ≤ length U → Free (set marks c true) b
+      further : (b : ℕ) (X : List ℕ) → CellsSeen W (Some b) X → length X ≤ length U → Free (set marks c true) b
       further b X w k = get_or-set_other marks c b true true apart ∙ h b X w (omega arith)
         where
           apart : b ≡ c → ⊥
-          apart e = let z : length X ≡ length (n ∷ U) = chain_length (ap places.At e) w (below s v) in omega arith
+          apart e = let z : length X ≡ length (n ∷ U) = chain_length (ap Some e) w (below s v) in omega arith
 
-  chain-inside : (b : ℕ) {q : Place} {X : List ℕ} → q ≡ places.At b → CellsSeen W q X → b < length W.cells
+  chain-inside : (b : ℕ) {q : Place} {X : List ℕ} → q ≡ Some b → CellsSeen W q X → b < length W.cells
   chain-inside b e root = never cc
   chain-inside b e (below {c = c} s v) = subst (λ i. i < length W.cells) (let z : c ≡ b = cc in z) s.inside
 

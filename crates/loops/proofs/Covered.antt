@@ -13,8 +13,7 @@ use Rattle.job.specs.Test.{once, occurrences}
 use Rattle.job.proofs.Test.{eqb-eq}
 use Rattle.model.specs.Machine.Blank.{token_at}
 use Rattle.model.specs.Machine.InUse.{tokens_used, marked}
-use Rattle.model.specs.declared.token.Held.{Held}
-use Rattle.model.specs.declared.token.Place.{Place}
+use Rattle.model.specs.Machine.Held.{Held, Place}
 use Rattle.model.specs.declared.token.State.{State}
 use Rattle.model.specs.declared.token.Token.{Token}
 use Rattle.model.specs.declared.record.Machine.{Machine}

@@ -1,5 +1,5 @@
 // Index rules of words, once for both calls.
-ghost use Rattle.std.specs.Prelude.{◌≡◌, length, is_some, IfSome};
+ghost use Rattle.std.specs.Prelude.{◌≡◌, is_some, IfSome};
 ghost use Rattle.job.specs.Words.{dag_of};
 ghost use Rattle.model.specs.Machine.Limits.{paper};
 ghost use Rattle.model.specs.Machine.Rules.{rules_hold};
@@ -13,18 +13,11 @@ use model::record::Machine;
 use reach::used::Marks;
 use rules::rules::rules_hold;
 
-// Says to the proof how many words the array has.
-fn whole(dag: &[u32])
-    requires { length dag.now ≡ 12331 }
-    ensures { length dag.now ≡ 12331 }
-{}
-
 // "14: dag or machine record breaks an index rule": none. Where none is broken, the marks of what is in use.
 pub(crate) fn lawful_marks(w: &[u32; Machine::WORDS], dag: &[u32; WORDS]) -> Option<Marks>
     ensures value { is_some result ≡ (is_record w.now and rules_hold paper (dag_of dag.now) (machine_of w.now)) }
     ensures lawful { IfSome result (λ marks. Lawful w.now marks dag.now (machine_of w.now)) }
 {
-    whole(dag);
     let marks = Marks::of(w);
     if rules_hold(w, dag, &marks) {
         return Some(marks);

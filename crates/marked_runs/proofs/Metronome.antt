@@ -9,6 +9,7 @@ use native.Mathlib.Nat.{suc-mul}
 use lib.ListN.{replicate, length}
 use lib.Dec.{ltb, leb}
 use lib.IntN.{pos}
+use Rattle.std.specs.Prelude.{Some, None}
 use Rattle.job.specs.Test.{padded, select}
 use Rattle.job.specs.Node.{Dag, dag_holds}
 use Rattle.job.specs.Construct.{construct, construct_from, root, node_count, own}
@@ -26,10 +27,8 @@ use Rattle.model.specs.Machine.Clock.{takes_time, after_advance, woken_by}
 use Rattle.model.specs.Machine.Step as Step
 use Rattle.model.specs.Run.Call.{Call, runner, outcome_of, events_of}
 use Rattle.model.specs.declared.token.Slot.TheVariants as slots
-use Rattle.model.specs.declared.token.Bind.{Bind}
-use Rattle.model.specs.declared.token.Held.{Held}
-use Rattle.model.specs.declared.token.Held.TheVariants as helds
-use Rattle.model.specs.declared.token.Place.TheVariants as places
+use Rattle.model.specs.declared.token.Slot.{Slot}
+use Rattle.model.specs.Machine.Held.{Held}
 use Rattle.model.specs.declared.token.State.{State}
 use Rattle.model.specs.declared.token.State.TheVariants as states
 use Rattle.model.specs.declared.token.Token.{Token}
@@ -43,8 +42,8 @@ use Rattle.model.proofs.Run.Computing.{computing}
 use Rattle.model.proofs.Run.Passage.{Passage, none, accepted, passed, events_by}
 
 -- M()'s token at place 1, over the goal's frame
-abbrev token : (node : ℕ) → List Bind → Held → State → Token
-token n bs v s = record { node = n; binds = bs; value = v; caller = places.At 0; cell = places.Nowhere; state = s }
+abbrev token : (node : ℕ) → List Slot → Held → State → Token
+token n bs v s = record { node = n; binds = bs; value = v; caller = Some 0; cell = None; state = s }
 
 abbrev framed : Token → (queue timers : List ℕ) → (clock : ℕ) → Machine
 framed u queue timers c =
@@ -66,16 +65,16 @@ framed u queue timers c =
 -- the records of a tick: called again; woken; x assigned; M() entered
 module _ (c : ℕ) where
   abbrev resting : (due : ℕ) → Machine
-  resting due = framed (token 0 unbound helds.Nothing (states.Due due)) [] (1 ∷ []) c
+  resting due = framed (token 0 unbound None (states.Due due)) [] (1 ∷ []) c
 
   abbrev woken : Machine
-  woken = framed (token 0 unbound (helds.Value (pos 0)) states.Ready) (1 ∷ []) [] c
+  woken = framed (token 0 unbound (Some (pos 0)) states.Ready) (1 ∷ []) [] c
 
   abbrev assigned : Machine
-  assigned = framed (token 3 (record { slot = slots.Value (pos 0) } ∷ replicate 7 empty) (helds.Value (pos 0)) states.Ready) (1 ∷ []) [] c
+  assigned = framed (token 3 (slots.Value (pos 0) ∷ replicate 7 empty) (Some (pos 0)) states.Ready) (1 ∷ []) [] c
 
   abbrev entered : Machine
-  entered = framed (token 2 unbound helds.Nothing states.Ready) (1 ∷ []) [] c
+  entered = framed (token 2 unbound None states.Ready) (1 ∷ []) [] c
 
 two : (c due : ℕ) → marked (tokens_used (resting c due)) ≡ 2
 unfolding computing

@@ -1,5 +1,6 @@
 -- "One step", the index rules and the refusals 9 to 15.
 pub mod Limits
+pub mod Held
 pub mod State
 pub mod Blank
 pub mod Active

@@ -4,7 +4,7 @@ ghost use Rattle.model.specs.Machine.Limits.{paper};
 ghost use Rattle.model.specs.Machine.Start.{start_machine};
 
 use crate::cell::Cell;
-use crate::token::{Bind, Held, Place, Slot, State, Token};
+use crate::token::{Slot, State, Token};
 
 // `queue`, `waits` and `timers` are in use up to `queued`, `waiting` and `timed`; `lasttoken` and `lastcell` are the last places given.
 // `timers` is the order of call of the tokens that are due later, and `clock` the present time.
@@ -39,26 +39,22 @@ impl Machine {
     {
         let blank = Token {
             node: 0,
-            binds: [Bind { slot: Slot::Empty }; 8],
-            value: Held::Nothing,
-            caller: Place::Nowhere,
-            cell: Place::Nowhere,
+            binds: [Slot::Empty; 8],
+            value: None,
+            caller: None,
+            cell: None,
             state: State::Blank,
         };
         let cell = Cell {
-            parent: Place::Nowhere,
-            value: Held::Nothing,
+            parent: None,
+            value: None,
         };
         let mut tokens = [blank; Machine::TOKENS];
         tokens[0] = Token {
             node: goal,
-            binds: [Bind { slot: Slot::Empty }; 8],
-            value: Held::Nothing,
-            caller: Place::Nowhere,
-            cell: Place::Nowhere,
             state: State::Ready,
+            ..blank
         };
-        let lastcell = (Machine::CELLS - 1) as u8;
         Machine {
             tokens,
             cells: [cell; Machine::CELLS],
@@ -68,7 +64,7 @@ impl Machine {
             waiting: 0,
             calls: 0,
             lasttoken: 0,
-            lastcell,
+            lastcell: (Machine::CELLS - 1) as u8,
             timers: [0; Machine::TOKENS],
             timed: 0,
             clock: 0,

@@ -17,18 +17,20 @@ pub enum Refusal {
 }
 
 // Document 01's number; 15 is document 02's.
-#[tactic(auto, unfolding(crate::specs::Machine::Reply::number_of))]
-pub fn number_of(refusal: Refusal) -> u8
-    ensures { result ≡ number_of refusal }
-{
-    match refusal {
-        Refusal::NoToken => 9,
-        Refusal::TokenLimit => 10,
-        Refusal::CellLimit => 11,
-        Refusal::NotOpen => 12,
-        Refusal::CallLimit => 13,
-        Refusal::Rule => 14,
-        Refusal::WrongTime => 15,
+impl From<Refusal> for u8 {
+    ghost from_gives = { λ refusal number. number ≡ number_of refusal };
+
+    #[tactic(auto, unfolding(crate::specs::Machine::Reply::number_of))]
+    fn from(refusal: Refusal) -> u8 {
+        match refusal {
+            Refusal::NoToken => 9,
+            Refusal::TokenLimit => 10,
+            Refusal::CellLimit => 11,
+            Refusal::NotOpen => 12,
+            Refusal::CallLimit => 13,
+            Refusal::Rule => 14,
+            Refusal::WrongTime => 15,
+        }
     }
 }
 

@@ -8,25 +8,11 @@ pub enum Slot {
     Cell(u8),
 }
 
-// One binding. (An array of these holds a token's bindings.)
-#[derive(Clone, Copy)]
-pub struct Bind {
-    pub slot: Slot,
-}
-
 // A value, where there is one.
-#[derive(Clone, Copy)]
-pub enum Held {
-    Nothing,
-    Value(i32),
-}
+pub(crate) type Held = Option<i32>;
 
-// The place of a token or of a cell. As a cell, `Nowhere` is the root, which has no place.
-#[derive(Clone, Copy)]
-pub enum Place {
-    Nowhere,
-    At(u8),
-}
+// The place of a token or of a cell. As a cell, `None` is the root, which has no place.
+pub(crate) type Place = Option<u8>;
 
 // Document 01: ready, waiting, called-out, frame. `Waiting` names the cell at which the token waits, `Called` the handle of its open call.
 // Document 02, request 1: due later. `Due` has the due time.
@@ -43,7 +29,7 @@ pub enum State {
 #[derive(Clone, Copy)]
 pub struct Token {
     pub node: u16,
-    pub binds: [Bind; 8],
+    pub binds: [Slot; 8],
     pub value: Held,
     pub caller: Place,
     pub cell: Place,

@@ -17,7 +17,7 @@ use record::layout::{
     DUE_STATE, QUEUE_START, READY_STATE, TIMERS_START, TOKEN_PLACE_COUNT, WAITING_STATE,
     WAITS_START,
 };
-use record::order::{queued, timed, waiting};
+use record::order::{CallOrder, Queue, WaitOrder, count};
 
 // Does the order name places of tokens only? Its names are the first n of the 64 words from `at` on.
 fn order_in_range(w: &[u32; Machine::WORDS], at: usize, n: usize) -> bool
@@ -100,7 +100,7 @@ pub fn queue_order(w: &[u32; Machine::WORDS]) -> Order
     ensures { (m : Machine) → Codes w.now m
         → (all_from (named_as 1 result.counts) 0 m.tokens and result.ok) ≡ names_once is_ready m.tokens m.queue m.queued }
 {
-    read_order(w, QUEUE_START, queued(w))
+    read_order(w, QUEUE_START, count::<Queue>(w))
 }
 
 // The wait order names the waiting ones.
@@ -108,7 +108,7 @@ pub fn wait_order(w: &[u32; Machine::WORDS]) -> Order
     ensures { (m : Machine) → Codes w.now m
         → (all_from (named_as 2 result.counts) 0 m.tokens and result.ok) ≡ names_once is_waiting m.tokens m.waits m.waiting }
 {
-    read_order(w, WAITS_START, waiting(w))
+    read_order(w, WAITS_START, count::<WaitOrder>(w))
 }
 
 // The order of call names those that are due later.
@@ -116,7 +116,7 @@ pub fn timer_order(w: &[u32; Machine::WORDS]) -> Order
     ensures { (m : Machine) → Codes w.now m
         → (all_from (named_as 4 result.counts) 0 m.tokens and result.ok) ≡ names_once is_due m.tokens m.timers m.timed }
 {
-    read_order(w, TIMERS_START, timed(w))
+    read_order(w, TIMERS_START, count::<CallOrder>(w))
 }
 
 fn one_if(b: bool) -> u8

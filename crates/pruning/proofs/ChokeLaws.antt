@@ -10,15 +10,14 @@ use lib.ListN.{length, get_or, set, take, drop, replicate, get_or-replicate, len
 use lib.ListN.{get_or-eq_default}
 use lib.Seq.{take-suc, take_all, append_snoc, length-take-le}
 use lib.Dec.{eqb}
+use Rattle.std.specs.Prelude.{Some, None}
 use Rattle.job.specs.Test.{select, padded}
 use Rattle.model.specs.Machine.Blank.{blank_token, blank_cell, token_at, cell_at}
 use Rattle.model.specs.Machine.Active.{upward, within}
 use Rattle.model.specs.Machine.State.{is_ready, is_waiting, is_due, waits_at}
 use Rattle.model.specs.Machine.Update.{with_state, with_tables, with_orders, with_timers, queue_of, waits_of, timers_of, put, enqueue}
 use Rattle.model.specs.Machine.Step.{choke_token, after_choke}
-use Rattle.model.specs.declared.token.Held.{Held}
-use Rattle.model.specs.declared.token.Place.{Place}
-use Rattle.model.specs.declared.token.Place.TheVariants as places
+use Rattle.model.specs.Machine.Held.{Held, Place}
 use Rattle.model.specs.declared.token.State.{State}
 use Rattle.model.specs.declared.token.State.TheVariants as states
 use Rattle.model.specs.declared.token.Token.{Token}
@@ -52,7 +51,7 @@ pub walk-starts : (cs : List Cell) (c n k : ℕ) (q : Place) → place_number q 
 unfolding within
 walk-starts cs c n k q e l = ap₂ (λ n q. upward (λ b k. eqb c b) cs n q) l (sym (place-from k q (sym e)))
 
-from-root : (cs : List Cell) (c n : ℕ) (q : Place) → q ≡ places.Nowhere → false ≡ upward (λ b k. eqb c b) cs n q
+from-root : (cs : List Cell) (c n : ℕ) (q : Place) → q ≡ None → false ≡ upward (λ b k. eqb c b) cs n q
 unfolding upward
 from-root cs c zero q e = refl
 from-root cs c (suc n) q e = rw (e, upward)
@@ -66,7 +65,7 @@ module _ (cs : List Cell) (c n k : ℕ) where
   unfolding place_from
   walk-root e = from-root cs c n (place_from k) (ap place_from e)
 
-  named : (b : ℕ) → 0 < k → b ≡ k - 1 → place_from k ≡ places.At b
+  named : (b : ℕ) → 0 < k → b ≡ k - 1 → place_from k ≡ Some b
   unfolding place_from
   named b l e = let s : k ≡ suc b = omega arith in ap place_from s
 

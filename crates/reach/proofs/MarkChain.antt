@@ -7,9 +7,9 @@ use mathlib.Core.List.{List, [], ◌∷◌, ◌++◌}
 use Prim.Native.Nat.{ℕ, zero, suc, ◌+◌, ◌-◌, ◌≤◌, ◌<◌}
 use native.Mathlib.Omega.{arith}
 use lib.ListN.{length, get_or, set, replicate}
+use Rattle.std.specs.Prelude.{Some, None}
 use Rattle.model.specs.Machine.InUse.{mark_chain, mark_from_each}
-use Rattle.model.specs.declared.token.Place.{Place}
-use Rattle.model.specs.declared.token.Place.TheVariants as places
+use Rattle.model.specs.Machine.Held.{Place}
 use Rattle.model.proofs.Machine.Marks.{Marked, Free, marked-outside}
 use Rattle.record.specs.LayoutDecoded.{place_from}
 use Rattle.record.specs.Layout.{place_number}
@@ -20,18 +20,18 @@ module _ {A : Type 0} (link : A → Place) (blank : A) (xs : List A) where
   abbrev pub walk : ℕ → Place → List Bool → List Bool
   walk n q marks = mark_chain link blank xs n q marks
 
-  walk-nowhere : (n : ℕ) (marks : List Bool) → walk n places.Nowhere marks ≡ marks
+  walk-nowhere : (n : ℕ) (marks : List Bool) → walk n None marks ≡ marks
   unfolding mark_chain
   walk-nowhere zero marks = refl
   walk-nowhere (suc n) marks = refl
 
-  walk-met : (n i : ℕ) (marks : List Bool) → Marked marks i → walk n (places.At i) marks ≡ marks
+  walk-met : (n i : ℕ) (marks : List Bool) → Marked marks i → walk n (Some i) marks ≡ marks
   unfolding mark_chain
   walk-met zero i marks e = refl
   walk-met (suc n) i marks e = rw (e, mark_chain)
 
   walk-goes : (n i : ℕ) (marks : List Bool) → Free marks i
-      → walk (suc n) (places.At i) marks ≡ walk n (link (get_or xs i blank)) (set marks i true)
+      → walk (suc n) (Some i) marks ≡ walk n (link (get_or xs i blank)) (set marks i true)
   unfolding mark_chain
   walk-goes n i marks e = rw (e, mark_chain)
 
@@ -76,8 +76,8 @@ module _ {A : Type 0} (link : A → Place) (blank : A) (xs : List A) where
   chains-append (q ∷ qs) rs marks = chains-append qs rs (walk (length xs) q marks)
 
   -- chains that begin nowhere
-  pub chains-nowhere : (n : ℕ) (marks : List Bool) → mark_from_each link blank xs (replicate n places.Nowhere) marks ≡ marks
+  pub chains-nowhere : (n : ℕ) (marks : List Bool) → mark_from_each link blank xs (replicate n None) marks ≡ marks
   unfolding mark_from_each
   chains-nowhere zero marks = refl
   chains-nowhere (suc n) marks =
-      ap (mark_from_each link blank xs (replicate n places.Nowhere)) (walk-nowhere (length xs) marks) ∙ chains-nowhere n marks
+      ap (mark_from_each link blank xs (replicate n None)) (walk-nowhere (length xs) marks) ∙ chains-nowhere n marks

@@ -7,14 +7,12 @@ use mathlib.Core.List.{List}
 use Prim.Native.Nat.{ℕ, zero, suc, ◌+◌, ◌-◌, ◌≤◌, ◌<◌}
 use native.Mathlib.Omega.{arith}
 use lib.ListN.{length}
+use Rattle.std.specs.Prelude.{Some, None}
 use Rattle.model.specs.Machine.Active.{cell_is_set, upward, under_set, is_active}
 use Rattle.model.specs.Machine.State.{is_live}
 use Rattle.model.specs.Machine.Blank.{cell_at, has_value}
 use Rattle.model.specs.declared.cell.Cell.{Cell}
-use Rattle.model.specs.declared.token.Held.{Held}
-use Rattle.model.specs.declared.token.Held.TheVariants as helds
-use Rattle.model.specs.declared.token.Place.{Place}
-use Rattle.model.specs.declared.token.Place.TheVariants as places
+use Rattle.model.specs.Machine.Held.{Held, Place}
 use Rattle.model.specs.declared.token.State.{State}
 use Rattle.model.specs.declared.token.State.TheVariants as states
 use Rattle.model.specs.declared.token.Token.{Token}
@@ -25,13 +23,13 @@ use Rattle.model.proofs.Machine.TableRows.{cell-outside}
 
 held_none : (h : Held) → held_kind h ≡ 0 → has_value h ≡ false
 unfolding has_value
-held_none helds.Nothing e = refl
-held_none (helds.Value v) e = absurd (omega arith)
+held_none None e = refl
+held_none (Some v) e = absurd (omega arith)
 
 held-some : (h : Held) → held_kind h ≢ 0 → has_value h ≡ true
 unfolding has_value
-held-some helds.Nothing f = absurd (f refl)
-held-some (helds.Value v) f = refl
+held-some None f = absurd (f refl)
+held-some (Some v) f = refl
 
 module _ (cs : List Cell) where
   abbrev pub climb : ℕ → Place → Bool
@@ -41,20 +39,20 @@ module _ (cs : List Cell) where
   unfolding under_set
   climb-under size q l = ap (λ n. climb n q) l
 
-  climb-nowhere : (n : ℕ) → climb n places.Nowhere ≡ false
+  climb-nowhere : (n : ℕ) → climb n None ≡ false
   unfolding upward
   climb-nowhere zero = refl
   climb-nowhere (suc n) = refl
 
-  climb-stops : (n c : ℕ) → cell_is_set (cell_at cs c) ≡ true → climb (suc n) (places.At c) ≡ true
+  climb-stops : (n c : ℕ) → cell_is_set (cell_at cs c) ≡ true → climb (suc n) (Some c) ≡ true
   unfolding upward
   climb-stops n c e = rw (e, upward)
 
-  climb-goes : (n c : ℕ) → cell_is_set (cell_at cs c) ≡ false → climb (suc n) (places.At c) ≡ climb n (cell_at cs c).parent
+  climb-goes : (n c : ℕ) → cell_is_set (cell_at cs c) ≡ false → climb (suc n) (Some c) ≡ climb n (cell_at cs c).parent
   unfolding upward
   climb-goes n c e = rw (e, upward)
 
-  climb-outer : (n c : ℕ) → length cs ≤ c → climb n (places.At c) ≡ false
+  climb-outer : (n c : ℕ) → length cs ≤ c → climb n (Some c) ≡ false
   unfolding upward cell_is_set has_value
   climb-outer zero c l = refl
   climb-outer (suc n) c l =
@@ -73,7 +71,7 @@ module _ (cs : List Cell) where
     climb-over h = let z : size - k ≡ 0 = omega arith in sym (left ∙ ap (λ n. climb n (place_from q)) z)
 
     module _ (v : ℕ) (h : k < size) (f : q ≢ 0) (e : v ≡ held_kind (cell_at cs (q - 1)).value) where
-      here : end ≡ climb (suc (size - (k + 1))) (places.At (q - 1))
+      here : end ≡ climb (suc (size - (k + 1))) (Some (q - 1))
       here = let z : size - k ≡ suc (size - (k + 1)) = omega arith in left ∙ ap₂ climb z (place_at q f)
 
       pub climb-found : v ≢ 0 → true ≡ end

@@ -8,6 +8,7 @@ use Prim.Native.Nat.{ℕ, suc, ◌+◌, ◌-◌, ◌≤◌, ◌<◌}
 use native.Mathlib.Numerals.{add-one}
 use native.Mathlib.Omega.{arith}
 use lib.ListN.{length, get_or, drop, replicate, drop_of_length-le}
+use Rattle.std.specs.Prelude.{Some}
 use Rattle.model.specs.Machine.Active.{is_active}
 use Rattle.model.specs.Machine.State.{is_live}
 use Rattle.model.specs.Machine.Blank.{empty, blank_token, blank_cell, token_at, slot_at}
@@ -15,9 +16,7 @@ use Rattle.model.specs.Machine.InUse.{mark_chain, mark_from_each, reached, activ
 use Rattle.model.specs.Machine.InUse.{bound_cell, cells_of, cells_of_marked, used_cells}
 use Rattle.model.specs.declared.cell.Cell.{Cell}
 use Rattle.model.specs.declared.record.Machine.{Machine}
-use Rattle.model.specs.declared.token.Bind.{Bind}
-use Rattle.model.specs.declared.token.Place.{Place}
-use Rattle.model.specs.declared.token.Place.TheVariants as places
+use Rattle.model.specs.Machine.Held.{Place}
 use Rattle.model.specs.declared.token.Slot.{Slot}
 use Rattle.model.specs.declared.token.Slot.TheVariants as slots
 use Rattle.model.specs.declared.token.Token.{Token}
@@ -32,7 +31,7 @@ use Rattle.reach.proofs.MarkChain.{chains-append, chains-nowhere}
 module _ (m : Machine) (p : ℕ) (marks : List Bool) (b : Bool) (e : b ≡ is_active m.cells (token_at m.tokens p)) where
   pub active-marks : b ≡ true → callers_marked m (place_from (p + 1)) marks ≡ active_marked m p marks
   unfolding active_marked
-  active-marks z = ap (λ q. callers_marked m q marks) (place-from (p + 1) (places.At p) refl) ∙ sym (rw (sym e ∙ z, active_marked))
+  active-marks z = ap (λ q. callers_marked m q marks) (place-from (p + 1) (Some p) refl) ∙ sym (rw (sym e ∙ z, active_marked))
 
   pub inactive-marks : b ≡ false → marks ≡ active_marked m p marks
   unfolding active_marked
@@ -72,10 +71,10 @@ callers-next m p marks l h =
     rest n = active_places m.cells n (drop (p + 1) m.tokens)
 
     go : (b : Bool)
-        → all_marked m (elim b [ true ↦ places.At p ∷ rest (suc p) | false ↦ rest (suc p) ]) marks
-        ≡ all_marked m (rest (suc p)) (elim b [ true ↦ callers_marked m (places.At p) marks | false ↦ marks ])
+        → all_marked m (elim b [ true ↦ Some p ∷ rest (suc p) | false ↦ rest (suc p) ]) marks
+        ≡ all_marked m (rest (suc p)) (elim b [ true ↦ callers_marked m (Some p) marks | false ↦ marks ])
     go true =
-        ap (λ k. all_marked m (rest (suc p)) (mark_chain (λ (t : Token). t.caller) blank_token m.tokens k (places.At p) marks)) l
+        ap (λ k. all_marked m (rest (suc p)) (mark_chain (λ (t : Token). t.caller) blank_token m.tokens k (Some p) marks)) l
     go false = refl
 
 callers-end : (m : Machine) (marks : List Bool) → length m.tokens ≡ 64 → callers_left m 64 marks ≡ marks
@@ -97,26 +96,26 @@ callers-last m p marks l h blank =
     idle i from to = sym (ap (is_active m.cells) (blank i from to))
 
 -- the number of the cell that a binding names
-unbound-slot : (s : Slot) → slot_kind s ≢ 2 → 0 ≡ place_number (bound_cell (record { slot = s }))
+unbound-slot : (s : Slot) → slot_kind s ≢ 2 → 0 ≡ place_number (bound_cell s)
 unfolding bound_cell
 unbound-slot slots.Empty f = refl
 unbound-slot (slots.Value v) f = refl
 unbound-slot (slots.Cell c) f = absurd (f refl)
 
-cell-slot : (s : Slot) → slot_kind s ≡ 2 → slot_number s + 1 ≡ place_number (bound_cell (record { slot = s }))
+cell-slot : (s : Slot) → slot_kind s ≡ 2 → slot_number s + 1 ≡ place_number (bound_cell s)
 unfolding bound_cell
 cell-slot slots.Empty e = absurd (omega arith)
 cell-slot (slots.Value v) e = absurd (omega arith)
 cell-slot (slots.Cell c) e = refl
 
-module _ (bs : List Bind) (x k : ℕ) (e : k ≡ slot_kind (slot_at bs x)) where
+module _ (bs : List Slot) (x k : ℕ) (e : k ≡ slot_kind (slot_at bs x)) where
   pub bound-none : k ≢ 2 → 0 ≡ place_number (bound_cell (get_or bs x empty))
   unfolding slot_at
-  bound-none f = unbound-slot (get_or bs x empty).slot (λ z. f (e ∙ z))
+  bound-none f = unbound-slot (get_or bs x empty) (λ z. f (e ∙ z))
 
   pub bound-cell : (n : ℕ) → k ≡ 2 → n ≡ slot_number (slot_at bs x) → n + 1 ≡ place_number (bound_cell (get_or bs x empty))
   unfolding slot_at
-  bound-cell n z g = ap (λ i. i + 1) g ∙ cell-slot (get_or bs x empty).slot (sym e ∙ z)
+  bound-cell n z g = ap (λ i. i + 1) g ∙ cell-slot (get_or bs x empty) (sym e ∙ z)
 
 -- one chain of cells more
 module _ (m : Machine) (l : length m.cells ≡ 32) where
@@ -134,14 +133,14 @@ module _ (m : Machine) (l : length m.cells ≡ 32) where
   unfolding cells_of
   named-first t n marks more e f = chain_first n t.cell (map bound_cell t.binds) marks more e f
 
-  pub named-next : (bs : List Bind) (x n : ℕ) (marks more : List Bool) → length bs ≡ 8 → x < 8
+  pub named-next : (bs : List Slot) (x n : ℕ) (marks more : List Bool) → length bs ≡ 8 → x < 8
       → n ≡ place_number (bound_cell (get_or bs x empty)) → more ≡ parents_marked m (place_from n) marks
       → cells_marked m (map bound_cell (drop x bs)) marks ≡ cells_marked m (map bound_cell (drop (x + 1) bs)) more
   named-next bs x n marks more s h e f =
       ap (λ rest. cells_marked m (map bound_cell rest) marks) (drop-next bs x empty (omega arith))
       ∙ chain_first n (bound_cell (get_or bs x empty)) (map bound_cell (drop (x + 1) bs)) marks more e f
 
-pub named-last : (m : Machine) (bs : List Bind) (x : ℕ) (marks : List Bool) → length bs ≡ 8 → 8 ≤ x
+pub named-last : (m : Machine) (bs : List Slot) (x : ℕ) (marks : List Bool) → length bs ≡ 8 → 8 ≤ x
     → cells_marked m (map bound_cell (drop x bs)) marks ≡ marks
 unfolding mark_from_each
 named-last m bs x marks s h =

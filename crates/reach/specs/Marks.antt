@@ -1,5 +1,6 @@
 -- Marks of what is in use, as they are made, kept and looked through. Assumes nothing: these are definitions.
 use Rattle.std.specs.Prelude.{◌≡◌, Bool, true, false, not, List, [], ◌∷◌, ℕ, zero, suc, ◌+◌, ◌*◌, ◌≤◌, ◌<◌, length, get_or, drop, eqb, ltb}
+use Rattle.std.specs.Prelude.{Some}
 use mir.Val.{bool_byte}
 use Rattle.job.specs.Test.{for_all}
 use Rattle.model.specs.Machine.Active.{is_active}
@@ -9,8 +10,7 @@ use Rattle.model.specs.Machine.FreePlace.{next_place}
 use Rattle.model.specs.Machine.Update.{put, with_tables}
 use Rattle.model.specs.declared.cell.Cell.{Cell}
 use Rattle.model.specs.declared.record.Machine.{Machine}
-use Rattle.model.specs.declared.token.Place.{Place}
-use Rattle.model.specs.declared.token.Place.TheVariants as places
+use Rattle.model.specs.Machine.Held.{Place}
 use Rattle.model.specs.declared.token.Token.{Token}
 use Rattle.record.specs.Changes.{store_cell}
 use Rattle.reach.specs.declared.used.Marks.{Marks}
@@ -28,7 +28,7 @@ cells_marked m qs marks = mark_from_each (λ (c : Cell). c.parent) blank_cell m.
 -- what a token adds to the marks: if it is active, its place and its callers; if it is in use, the cells that it names
 unfoldable pub active_marked : Machine → ℕ → List Bool → List Bool
 active_marked m p marks =
-    elim (is_active m.cells (token_at m.tokens p)) [ true ↦ callers_marked m (places.At p) marks | false ↦ marks ]
+    elim (is_active m.cells (token_at m.tokens p)) [ true ↦ callers_marked m (Some p) marks | false ↦ marks ]
 
 unfoldable pub held_marked : Machine → ℕ → Bool → List Bool → List Bool
 held_marked m p true marks = cells_marked m (cells_of (token_at m.tokens p)) marks

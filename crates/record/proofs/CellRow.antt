@@ -6,11 +6,10 @@ use Prim.Native.Nat.{ℕ, ◌+◌, ◌-◌, ◌*◌, ◌<◌}
 use native.Mathlib.Omega.{arith}
 use lib.ListN.{length, get_or, set, length-set}
 use lib.Seq.{get_or-set_same, set-set, set-get_or}
+use Rattle.std.specs.Prelude.{None}
 use Rattle.model.specs.Machine.Blank.{blank_cell, cell_at}
 use Rattle.model.specs.Machine.Update.{with_tables}
-use Rattle.model.specs.declared.token.Held.{Held}
-use Rattle.model.specs.declared.token.Held.TheVariants as helds
-use Rattle.model.specs.declared.token.Place.{Place}
+use Rattle.model.specs.Machine.Held.{Held, Place}
 use Rattle.model.specs.declared.cell.Cell.{Cell}
 use Rattle.model.specs.declared.record.Machine.{Machine}
 use Rattle.record.specs.Changes.{store_cell, unset_cell, set_cell}
@@ -97,5 +96,5 @@ module _ {ws : List ℕ} {m : Machine} (h : Holds ws m) (c : ℕ) (l : c < 32) w
 
   pub unset-put : (n : ℕ) (q : Place) → place_number q ≡ n
       → Holds (set (set (set ws (1536 + 4 * c) n) (1536 + 4 * c + 1) 0) (1536 + 4 * c + 2) 0) (store_cell c (unset_cell q) m)
-  unset-put n q e = value-put m (record { parent = q; value = there.value }) c (parent-put m there c stays l n q e) l 0 0 helds.Nothing
+  unset-put n q e = value-put m (record { parent = q; value = there.value }) c (parent-put m there c stays l n q e) l 0 0 None
       refl refl

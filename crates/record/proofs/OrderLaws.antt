@@ -13,11 +13,13 @@ use Rattle.model.specs.declared.record.Machine.{Machine}
 use Rattle.record.specs.Layout.{words_of, count_words, clock_words, parts}
 use Rattle.record.specs.Holds.{Codes, Holds}
 use Rattle.record.specs.Changes.{dequeued}
+use Rattle.record.specs.OrderWords.{Which, queue, waits, timers, first_at, count_at, names_of, array_of, count_of, with_names, joined}
 use Rattle.orders.specs.NamesRetained.{marked_of, Retained}
 use Rattle.orders.proofs.NamesRetained.{select_short}
 use Rattle.orders.proofs.NamesPadded.{padded-long, padded-zero, put-behind, length_without}
 use Rattle.record.proofs.LayoutPart.{Stands, part-get, part-set, part-is, part-lent}
 use Rattle.record.proofs.LayoutParts.{Sized, sized, queue-stands, waits-stand, counts-stand, timers-stand, clock-stands}
+use Rattle.record.proofs.CountLaws.{queued-word, waiting-word, timed-word}
 use Rattle.record.proofs.HoldsShape.{shaped, names-are, orders-hold, timers-hold, queue-fits, waits-fit, timers-fit}
 
 module _ {ws : List ℕ} {m : Machine} (h : Codes ws m) where
@@ -230,17 +232,64 @@ module _ {ws : List ℕ} {m : Machine} (h : Holds ws m) where
         holds = λ l f. timers-hold h l f refl;
       }
 
+-- the names of an order changed and then joined are those with one more, and the rest of the record stays
+changed-joins : (k : Which) (l : List ℕ) (p : ℕ) (m : Machine) → with_names k (l ++ (p ∷ [])) m ≡ joined k p (with_names k l m)
+unfolding enqueue with_orders with_timers queue_of waits_of timers_of
+changed-joins queue l p m =
+    let size = length m.tokens in
+    ap₂ (λ q w. with_orders (q ++ (p ∷ [])) w m) (names-are l size) (names-are (waits_of m) size)
+changed-joins waits l p m =
+    let size = length m.tokens in
+    ap₂ (λ q w. with_orders q (w ++ (p ∷ [])) m) (names-are (queue_of m) size) (names-are l size)
+changed-joins timers l p m = ap (λ q. with_timers (q ++ (p ∷ [])) m) (names-are l (length m.tokens))
+
+names-join : (k : Which) (p : ℕ) (m : Machine) → with_names k (names_of k m ++ (p ∷ [])) m ≡ joined k p m
+unfolding enqueue
+names-join queue p m = refl
+names-join waits p m = refl
+names-join timers p m = refl
+
+-- what the code reads of any order
+module _ {ws : List ℕ} {m : Machine} (h : Codes ws m) where
+  count-is : (k : Which) → get_or ws (count_at k) 0 ≡ count_of k m
+  count-is queue = queued-word h
+  count-is waits = waiting-word h
+  count-is timers = timed-word h
+
+  name-is : (k : Which) (i : ℕ) → i < 64 → get_or ws (first_at k + i) 0 ≡ get_or (array_of k m) i 0
+  name-is queue = queue-word h
+  name-is waits = wait-word h
+  name-is timers = timer-word h
+
+  pub count-read : (k : Which) {counted : ℕ} → counted ≡ count_at k → get_or ws counted 0 ≡ count_of k m
+  count-read k e = rw e (count-is k)
+
+  pub name-read : (k : Which) {at : ℕ} → at ≡ first_at k → (i : ℕ) → i < 64 → get_or ws (at + i) 0 ≡ get_or (array_of k m) i 0
+  name-read k e i l = rw e (name-is k i l)
+
+module _ {ws : List ℕ} {m : Machine} (h : Holds ws m) where
+  order-is : (k : Which) → Order ws (names_of k m) (array_of k m) (count_of k m) (first_at k) (count_at k) (λ l. with_names k l m)
+  order-is queue = queue-order h
+  order-is waits = wait-order h
+  order-is timers = timer-order h
+
+  -- .. at the words that the code has for it
+  module _ (k : Which) {at counted : ℕ} (e : at ≡ first_at k) (f : counted ≡ count_at k) where
+    pub order-at : Order ws (names_of k m) (array_of k m) (count_of k m) at counted (λ l. with_names k l m)
+    order-at = rw (e, f) (order-is k)
+
+    pub joined-put : (p n : ℕ) → n ≡ count_of k m → n < 64 → Holds (set (set ws (at + n) p) counted (n + 1)) (joined k p m)
+    joined-put p n g l = subst (Holds _) (names-join k p m) (name-put order-at p n g l)
+
+    pub replaced-put : (p i index : ℕ) (x : List ℕ) → i ≡ count_of k m → index < i → LeftOut order-at p i index x
+        → Holds (take at ws ++ (x ++ drop 64 (drop at ws))) (joined k p (with_names k (without index (names_of k m)) m))
+    replaced-put p i index x g l r = subst (Holds _) (changed-joins k (without index (names_of k m)) p m)
+        (replace-put order-at p i index x g l r)
+
   -- leaving and joining, in one
   pub replaced : (p index : ℕ) → with_orders (without index (queue_of m) ++ (p ∷ [])) (waits_of m) m ≡ enqueue p (dequeued m index)
-  unfolding enqueue with_orders queue_of waits_of
-  replaced p index =
-      let size = length m.tokens in
-      ap₂ (λ q w. with_orders (q ++ (p ∷ [])) w m) (names-are (without index (queue_of m)) size) (names-are (waits_of m) size)
+  replaced p index = changed-joins queue (without index (queue_of m)) p m
 
-  pub replaced-put : (p i index : ℕ) (x : List ℕ) → i ≡ m.queued → index < i → LeftOut queue-order p i index x
-      → Holds (take 1664 ws ++ (x ++ drop 64 (drop 1664 ws))) (enqueue p (dequeued m index))
-  replaced-put p i index x e l f = subst (Holds _) (replaced p index) (replace-put queue-order p i index x e l f)
-
-  pub join-put : (p n : ℕ) → n ≡ m.queued → n < 64 → Holds (set (set ws (1664 + n) p) 1792 (n + 1)) (enqueue p m)
-  unfolding enqueue
-  join-put p n e l = name-put queue-order p n e l
+  -- an order has no more names than its array
+  pub count-fits : (k : Which) → count_of k m ≤ 64
+  count-fits k = let o = order-is k in omega (arith, o.number, o.fits)

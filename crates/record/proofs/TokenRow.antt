@@ -9,9 +9,7 @@ use lib.Seq.{paste, get_or-set_same, set-set, set-get_or}
 use Rattle.model.specs.Machine.Blank.{blank_token, token_at, slot_at}
 use Rattle.model.specs.Machine.Update.{put, with_node, with_state, with_value, with_binding, with_tables}
 use Rattle.model.specs.declared.token.Slot.{Slot}
-use Rattle.model.specs.declared.token.Bind.{Bind}
-use Rattle.model.specs.declared.token.Held.{Held}
-use Rattle.model.specs.declared.token.Place.{Place}
+use Rattle.model.specs.Machine.Held.{Held, Place}
 use Rattle.model.specs.declared.token.State.{State}
 use Rattle.model.specs.declared.token.Token.{Token}
 use Rattle.model.specs.declared.record.Machine.{Machine}
@@ -52,12 +50,12 @@ slot-number t (suc (suc (suc (suc (suc (suc (suc (suc x)))))))) l = absurd (omeg
 
 -- a binding is written in the row
 bound-in :
-    (t : Token) (bs : List Bind) (x : ℕ) (s : Slot) → x < 8 → length bs ≡ 8
+    (t : Token) (bs : List Slot) (x : ℕ) (s : Slot) → x < 8 → length bs ≡ 8
     → set (set (row_of (record { node = t.node; binds = bs; value = t.value; caller = t.caller; cell = t.cell; state = t.state }))
     (8 + 2 * x) (slot_kind s)) (9 + 2 * x) (slot_number s)
     ≡ row_of (record {
       node = t.node;
-      binds = set bs x (record { slot = s });
+      binds = set bs x s;
       value = t.value;
       caller = t.caller;
       cell = t.cell;
@@ -228,7 +226,7 @@ module _ {ws : List ℕ} (m : Machine) (t : Token) (p : ℕ) (h : Holds ws (put 
       let b : 24 * p + 9 + 2 * x ≡ 24 * p + (9 + 2 * x) = omega arith in
       rw (a, b)
       (words-put (8 + 2 * x) (9 + 2 * x) k n (with_binding x s t) (omega arith) (omega arith)
-      (length-set t.binds x (record { slot = s }) ∙ own-binds)
+      (length-set t.binds x s ∙ own-binds)
       (bound t x k n s i own-binds e f))
 
 -- a state by its number

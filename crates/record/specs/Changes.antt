@@ -1,11 +1,9 @@
 -- Changes of a record that the definitions of a step have no name for. Assumes nothing: these are definitions.
-use Rattle.std.specs.Prelude.{List, [], ◌∷◌, ◌++◌, ℕ, set}
+use Rattle.std.specs.Prelude.{List, [], ◌∷◌, ◌++◌, ℕ, set, None}
 use Rattle.job.specs.Test.{without}
 use Rattle.model.specs.Machine.Update.{with_tables, with_orders, queue_of, waits_of}
-use Rattle.model.specs.declared.token.Bind.{Bind}
-use Rattle.model.specs.declared.token.Held.{Held}
-use Rattle.model.specs.declared.token.Held.TheVariants as helds
-use Rattle.model.specs.declared.token.Place.{Place}
+use Rattle.model.specs.declared.token.Slot.{Slot}
+use Rattle.model.specs.Machine.Held.{Held, Place}
 use Rattle.model.specs.declared.token.Token.{Token}
 use Rattle.model.specs.declared.cell.Cell.{Cell}
 use Rattle.model.specs.declared.record.Machine.{Machine}
@@ -16,7 +14,7 @@ with_caller q t = record { node = t.node; binds = t.binds; value = t.value; call
 abbrev pub with_cell : Place → Token → Token
 with_cell q t = record { node = t.node; binds = t.binds; value = t.value; caller = t.caller; cell = q; state = t.state }
 
-abbrev pub with_binds : List Bind → Token → Token
+abbrev pub with_binds : List Slot → Token → Token
 with_binds bs t = record { node = t.node; binds = bs; value = t.value; caller = t.caller; cell = t.cell; state = t.state }
 
 -- a cell at a place
@@ -24,7 +22,7 @@ abbrev pub store_cell : ℕ → Cell → Machine → Machine
 store_cell c k m = with_tables m.tokens (set m.cells c k) m
 
 abbrev pub unset_cell : Place → Cell
-unset_cell q = record { parent = q; value = helds.Nothing }
+unset_cell q = record { parent = q; value = None }
 
 abbrev pub set_cell : Held → Cell → Cell
 set_cell v k = record { parent = k.parent; value = v }

@@ -16,15 +16,12 @@
 -- call, or its due time, else 0; node; caller and cell (place + 1, 0 for none); 1 if it has a value, else 0; the value; 0; and for each of
 -- eight variables what it is bound to (0 empty, 1 value, 2 cell) and the value or the cell's place. A cell: parent (place + 1, 0 for none);
 -- 1 if it is set, else 0; its value; 0. A value is its 32 bits.
-use Rattle.std.specs.Prelude.{List, [], ◌∷◌, ◌++◌, ℕ, ◌+◌}
+use Rattle.std.specs.Prelude.{List, [], ◌∷◌, ◌++◌, ℕ, ◌+◌, Some, None}
 use Rattle.job.specs.Number.{unsigned}
 use Rattle.model.specs.Machine.Blank.{slot_at}
 use Rattle.model.specs.declared.token.Slot.{Slot}
 use Rattle.model.specs.declared.token.Slot.TheVariants as slots
-use Rattle.model.specs.declared.token.Held.{Held}
-use Rattle.model.specs.declared.token.Held.TheVariants as helds
-use Rattle.model.specs.declared.token.Place.{Place}
-use Rattle.model.specs.declared.token.Place.TheVariants as places
+use Rattle.model.specs.Machine.Held.{Held, Place}
 use Rattle.model.specs.declared.token.State.{State}
 use Rattle.model.specs.declared.token.State.TheVariants as states
 use Rattle.model.specs.declared.token.Token.{Token}
@@ -65,16 +62,16 @@ state_number (states.Due d) = d
 state_number states.Frame = 0
 
 abbrev pub place_number : Place → ℕ
-place_number places.Nowhere = 0
-place_number (places.At p) = p + 1
+place_number None = 0
+place_number (Some p) = p + 1
 
 abbrev pub held_kind : Held → ℕ
-held_kind helds.Nothing = 0
-held_kind (helds.Value v) = 1
+held_kind None = 0
+held_kind (Some v) = 1
 
 abbrev pub held_number : Held → ℕ
-held_number helds.Nothing = 0
-held_number (helds.Value v) = unsigned v
+held_number None = 0
+held_number (Some v) = unsigned v
 
 abbrev pub slot_kind : Slot → ℕ
 slot_kind slots.Empty = 0

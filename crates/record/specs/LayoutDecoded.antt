@@ -1,13 +1,9 @@
 -- Words as a machine record: total, and exact on the words of a record. Assumes nothing: these are definitions.
-use Rattle.std.specs.Prelude.{List, [], ◌∷◌, ℕ, zero, suc, get_or, take, drop}
+use Rattle.std.specs.Prelude.{List, [], ◌∷◌, ℕ, zero, suc, get_or, take, drop, Some, None}
 use Rattle.job.specs.Number.{signed}
 use Rattle.model.specs.declared.token.Slot.{Slot}
 use Rattle.model.specs.declared.token.Slot.TheVariants as slots
-use Rattle.model.specs.declared.token.Bind.{Bind}
-use Rattle.model.specs.declared.token.Held.{Held}
-use Rattle.model.specs.declared.token.Held.TheVariants as helds
-use Rattle.model.specs.declared.token.Place.{Place}
-use Rattle.model.specs.declared.token.Place.TheVariants as places
+use Rattle.model.specs.Machine.Held.{Held, Place}
 use Rattle.model.specs.declared.token.State.{State}
 use Rattle.model.specs.declared.token.State.TheVariants as states
 use Rattle.model.specs.declared.token.Token.{Token}
@@ -24,12 +20,12 @@ state_from (suc (suc (suc (suc zero)))) n = states.Due n
 state_from (suc (suc (suc (suc (suc k))))) n = states.Frame
 
 unfoldable pub place_from : ℕ → Place
-place_from zero = places.Nowhere
-place_from (suc p) = places.At p
+place_from zero = None
+place_from (suc p) = Some p
 
 unfoldable pub held_from : ℕ → ℕ → Held
-held_from zero n = helds.Nothing
-held_from (suc k) n = helds.Value (signed n)
+held_from zero n = None
+held_from (suc k) n = Some (signed n)
 
 unfoldable pub slot_from : ℕ → ℕ → Slot
 slot_from zero n = slots.Empty
@@ -37,9 +33,9 @@ slot_from (suc zero) n = slots.Value (signed n)
 slot_from (suc (suc k)) n = slots.Cell n
 
 -- so many bindings, two words each
-unfoldable pub binds_from : ℕ → List ℕ → List Bind
+unfoldable pub binds_from : ℕ → List ℕ → List Slot
 binds_from zero ws = []
-binds_from (suc n) ws = record { slot = slot_from (get_or ws 0 0) (get_or ws 1 0) } ∷ binds_from n (drop 2 ws)
+binds_from (suc n) ws = slot_from (get_or ws 0 0) (get_or ws 1 0) ∷ binds_from n (drop 2 ws)
 
 unfoldable pub token_from : List ℕ → Token
 token_from r =

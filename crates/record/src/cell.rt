@@ -2,8 +2,7 @@
 ghost use Rattle.std.specs.Prelude.{◌≡◌, ◌<◌};
 ghost use Rattle.model.specs.Machine.Blank.{cell_at};
 ghost use Rattle.model.specs.declared.record.Machine.{Machine};
-ghost use Rattle.model.specs.declared.token.Held.{Held};
-ghost use Rattle.model.specs.declared.token.Place.{Place};
+ghost use Rattle.model.specs.Machine.Held.{Held, Place};
 ghost use Rattle.record.specs.Changes.{store_cell, unset_cell, set_cell};
 ghost use Rattle.record.specs.Holds.{Codes, Holds};
 ghost use Rattle.record.specs.Layout.{place_number, held_kind, held_number};

@@ -4,10 +4,10 @@ use Prim.Native.Nat.{ℕ, ◌+◌, ◌<◌, ◌≤◌}
 use native.Mathlib.Decide.{ℕ_discrete, dec_lt}
 use native.Mathlib.Omega.{arith}
 use lib.ListN.{length}
+use Rattle.std.specs.Prelude.{Some, None}
 use Rattle.model.specs.Machine.Blank.{token_at}
 use Rattle.model.specs.declared.record.Machine.{Machine}
-use Rattle.model.specs.declared.token.Place.{Place}
-use Rattle.model.specs.declared.token.Place.TheVariants as places
+use Rattle.model.specs.Machine.Held.{Place}
 use Rattle.model.specs.declared.token.Token.{Token}
 use Rattle.record.specs.Layout.{place_number}
 use Rattle.acts.specs.SharedFrames.{NamesAsCaller}
@@ -15,18 +15,18 @@ use Rattle.job.proofs.Test.{never}
 use Rattle.model.proofs.Machine.TableRows.{token-outside}
 
 -- a place by its number
-pub place_of : (q : Place) (f n : ℕ) → n ≡ place_number q → n ≡ f + 1 → q ≡ places.At f
-place_of places.Nowhere f n e g = absurd (omega arith)
-place_of (places.At k) f n e g = ap places.At (omega arith)
+pub place_of : (q : Place) (f n : ℕ) → n ≡ place_number q → n ≡ f + 1 → q ≡ Some f
+place_of None f n e g = absurd (omega arith)
+place_of (Some k) f n e g = ap Some (omega arith)
 
-pub not-place : (q : Place) (f n : ℕ) → n ≡ place_number q → (n ≡ f + 1 → ⊥) → q ≡ places.At f → ⊥
+pub not-place : (q : Place) (f n : ℕ) → n ≡ place_number q → (n ≡ f + 1 → ⊥) → q ≡ Some f → ⊥
 not-place q f n e g h = g (e ∙ ap place_number h)
 
 pub same_place : (q r : Place) → place_number q ≡ place_number r → q ≡ r
-same_place places.Nowhere places.Nowhere e = refl
-same_place places.Nowhere (places.At k) e = absurd (omega arith)
-same_place (places.At j) places.Nowhere e = absurd (omega arith)
-same_place (places.At j) (places.At k) e = ap places.At (omega arith)
+same_place None None e = refl
+same_place None (Some k) e = absurd (omega arith)
+same_place (Some j) None e = absurd (omega arith)
+same_place (Some j) (Some k) e = ap Some (omega arith)
 
 module _ (m : Machine) (f : ℕ) where
   -- no token below i
@@ -43,7 +43,7 @@ module _ (m : Machine) (f : ℕ) where
   pub none-all : (i : ℕ) → length m.tokens ≤ i → NoneBelow i → (j : ℕ) → NamesAsCaller m f j → ⊥
   none-all i l none j e = go (dec_lt j i)
     where
-      outside : length m.tokens ≤ j → places.Nowhere ≡ places.At f
+      outside : length m.tokens ≤ j → None ≡ Some f
       outside k = ap (λ (t : Token). t.caller) (sym (token-outside m.tokens j k)) ∙ e
 
       go : Dec (j < i) → ⊥

@@ -7,6 +7,7 @@ use mathlib.Core.List.{List}
 use Prim.Native.Nat.{ℕ, ◌<◌}
 use native.Mathlib.Omega.{arith}
 use lib.ListN.{length, get_or, length-set}
+use Rattle.std.specs.Prelude.{Some}
 use Rattle.job.specs.Words.{dag_of}
 use Rattle.model.specs.Machine.Blank.{blank_token, token_at}
 use Rattle.model.specs.Machine.InUse.{tokens_used, sweep}
@@ -17,7 +18,6 @@ use Rattle.model.specs.Machine.Step as Step
 use Rattle.model.specs.Machine.Update.{put, with_tables, with_orders, with_value, with_state, enqueue}
 use Rattle.model.specs.declared.record.Machine.{Machine}
 use Rattle.model.specs.declared.reply.Outcome.{Outcome}
-use Rattle.model.specs.declared.token.Place.TheVariants as places
 use Rattle.model.specs.declared.token.State.TheVariants as states
 use Rattle.model.specs.declared.token.Token.{Token}
 use Rattle.job.proofs.Test.{clash}
@@ -37,7 +37,7 @@ use Rattle.returns.proofs.ReturnValue.{returns}
 use Rattle.model.proofs.Machine.TableRows.{token-other}
 
 module _ {ws dag : List ℕ} {used : Marks} {actor : Actor} {m : Machine} (a : Acting ws used dag actor 8 m)
-    (f : ℕ) (few : f < 64) (caller : (token_at m.tokens actor.token).caller ≡ places.At f) where
+    (f : ℕ) (few : f < 64) (caller : (token_at m.tokens actor.token).caller ≡ Some f) where
   abbrev written : Token
   written = with_state states.Ready (with_value (token_at m.tokens actor.token).value (token_at m.tokens f))
 
@@ -81,7 +81,7 @@ module _ {ws dag : List ℕ} {used : Marks} {actor : Actor} {m : Machine} (a : A
         (tokens_of after).least NotFrame
         (λ i e q. clash (active-live after.cells _ e)
         (ap (λ k. is_live (token_at after.tokens k).state) q ∙ (ap (λ (t : Token). is_live t.state) frame_row ∙ is.frame)))
-        (λ i l h j e q. nobody i (e ∙ ap places.At q))
+        (λ i l h j e q. nobody i (e ∙ ap Some q))
         f (let z = is.inside in let y = lengths in omega arith) u refl
       where
         lengths : length after.tokens ≡ length m.tokens
@@ -127,9 +127,9 @@ module _ {ws dag : List ℕ} {used : Marks} {actor : Actor} {m : Machine} (a : A
 
     pub alone_of : get_or s f true ≡ false → Alone m actor.token
     alone_of e g i c d =
-        let w : places.At f ≡ places.At g = sym caller ∙ c in
+        let w : Some f ≡ Some g = sym caller ∙ c in
         let z : g ≡ f = cc in
-        one f i actor.token e (d ∙ ap places.At z) caller
+        one f i actor.token e (d ∙ ap Some z) caller
 
     pub return-keeps : OneCallee (return_shared m f s) (Step.step paper (dag_of dag) m actor.place).machine
     unfolding return_shared accepted

@@ -6,6 +6,7 @@ use mathlib.Core.List.{List}
 use Prim.Native.Nat.{ℕ, ◌<◌}
 use native.Mathlib.Omega.{arith}
 use lib.ListN.{set}
+use Rattle.std.specs.Prelude.{Some}
 use Rattle.job.specs.Words.{dag_of}
 use Rattle.model.specs.Machine.State.{is_live, is_frame}
 use Rattle.model.specs.Machine.Blank.{token_at}
@@ -14,7 +15,6 @@ use Rattle.model.specs.Machine.Limits.{paper}
 use Rattle.model.specs.Machine.Rules.{names_frame, node_rule}
 use Rattle.model.specs.Machine.Update.{with_tables, with_orders, with_value, with_state, put, enqueue}
 use Rattle.model.specs.declared.record.Machine.{Machine}
-use Rattle.model.specs.declared.token.Place.TheVariants as places
 use Rattle.model.specs.declared.token.State.{State}
 use Rattle.model.specs.declared.token.State.TheVariants as states
 use Rattle.model.specs.declared.token.Token.{Token}
@@ -42,7 +42,7 @@ frame-idle (states.Due d) e = clash e refl
 frame-idle states.Frame e = refl
 
 module _ {ws dag : List ℕ} {used : Marks} {actor : Actor} {m : Machine} (a : Acting ws used dag actor 8 m)
-    (f : ℕ) (few : f < 64) (caller : (token_at m.tokens actor.token).caller ≡ places.At f) where
+    (f : ℕ) (few : f < 64) (caller : (token_at m.tokens actor.token).caller ≡ Some f) where
   abbrev t : Token
   t = token_at m.tokens actor.token
 
@@ -87,11 +87,10 @@ module _ {ws dag : List ℕ} {used : Marks} {actor : Actor} {m : Machine} (a : A
         subst (Holds now) (sym (returned-swept paper (dag_of dag) m rules after actor.token f written returns s.cell s.binds n)) h,
         record {
           tokens = e
-              ∙ (ap (λ us. set us f false) a.taking.lawful.marks.tokens
-              ∙ (sym (returned-tokens paper (dag_of dag) m rules after actor.token f written returns s.cell s.binds n)
-              ∙ sym (sweep-tokens after)));
+            ∙ (ap (λ us. set us f false) a.taking.lawful.marks.tokens
+            ∙ (sym (returned-tokens paper (dag_of dag) m rules after actor.token f written returns s.cell s.binds n)
+            ∙ sym (sweep-tokens after)));
           cells = a.taking.lawful.marks.cells
-              ∙ (sym (returned-cells paper (dag_of dag) m rules after actor.token f written returns s.cell s.binds)
-              ∙ sym (sweep-cells after));
+            ∙ (sym (returned-cells paper (dag_of dag) m rules after actor.token f written returns s.cell s.binds) ∙ sym (sweep-cells after));
         },
       )

@@ -6,18 +6,15 @@ use Prim.Native.Nat.{ℕ, zero, suc, ◌+◌, ◌-◌, ◌*◌, ◌<◌, ◌≤�
 use native.Mathlib.Omega.{arith}
 use lib.Dec.{eqb}
 use lib.ListN.{length, get_or, take, drop}
+use Rattle.std.specs.Prelude.{Some, None}
 use Rattle.model.specs.declared.token.Slot.TheVariants as slots
-use Rattle.model.specs.declared.token.Held.TheVariants as helds
-use Rattle.model.specs.declared.token.Place.TheVariants as places
 use Rattle.model.specs.declared.token.State.TheVariants as states
 use Rattle.job.specs.Test.{◌and◌, for_all}
 use Rattle.model.specs.Machine.Blank.{empty, slot_at, is_bound, is_place, has_value}
 use Rattle.model.specs.Machine.Blank.{token_is_blank, cell_is_blank, blank_token, blank_cell, cell_at}
 use Rattle.model.specs.Machine.State.{is_blank_state}
 use Rattle.model.specs.declared.token.Slot.{Slot}
-use Rattle.model.specs.declared.token.Bind.{Bind}
-use Rattle.model.specs.declared.token.Held.{Held}
-use Rattle.model.specs.declared.token.Place.{Place}
+use Rattle.model.specs.Machine.Held.{Held, Place}
 use Rattle.model.specs.declared.token.State.{State}
 use Rattle.model.specs.declared.token.Token.{Token}
 use Rattle.model.specs.declared.cell.Cell.{Cell}
@@ -33,7 +30,7 @@ use Rattle.record.proofs.LayoutParts.{row-wide, cell-wide}
 use Rattle.record.proofs.CellRow.{cell-word}
 use Rattle.record.proofs.TokenRow.{token-word}
 use Rattle.coded.specs.WordTests.{token_coded, cell_at_coded}
-use Rattle.coded.proofs.WordTests.{zero_row, cell-rest}
+use Rattle.coded.proofs.WordTests.{zero_row, zero_cell}
 use Rattle.row_rules.proofs.ZeroRows.{zero_word, rows-zero}
 
 state-zero : (s : State) (b : Bool) → (eqb 0 (state_kind s) and eqb 0 (state_number s) and b) ≡ (is_blank_state s and b)
@@ -47,8 +44,8 @@ state-zero states.Frame b = refl
 
 held-zero : (v : Held) (b : Bool) → (eqb 0 (held_kind v) and eqb 0 (held_number v) and b) ≡ (not (has_value v) and b)
 unfolding has_value ◌and◌
-held-zero helds.Nothing b = refl
-held-zero (helds.Value v) b = refl
+held-zero None b = refl
+held-zero (Some v) b = refl
 
 slot-zero : (s : Slot) {a b : Bool} → a ≡ b → (eqb 0 (slot_kind s) and eqb 0 (slot_number s) and a) ≡ (not (is_bound s) and b)
 unfolding is_bound ◌and◌
@@ -58,8 +55,8 @@ slot-zero (slots.Cell c) e = refl
 
 place-zero : (q : Place) → eqb 0 (place_number q) ≡ not (is_place q)
 unfolding is_place
-place-zero places.Nowhere = refl
-place-zero (places.At p) = ne_eqb 0 (p + 1) (λ e. omega arith)
+place-zero None = refl
+place-zero (Some p) = ne_eqb 0 (p + 1) (λ e. omega arith)
 
 zero_same : (n : ℕ) → eqb 0 n ≡ eqb n 0
 zero_same zero = refl
@@ -69,15 +66,15 @@ zero_same (suc n) = ne_eqb 0 (suc n) (λ e. omega arith) ∙ sym (ne_eqb (suc n)
 abbrev slot_zero : Slot → Bool → Bool
 slot_zero s b = eqb 0 (slot_kind s) and eqb 0 (slot_number s) and b
 
-slots-zero : (bs : List Bind) → length bs ≡ 8
+slots-zero : (bs : List Slot) → length bs ≡ 8
     → slot_zero (slot_at bs 0) (slot_zero (slot_at bs 1) (slot_zero (slot_at bs 2) (slot_zero (slot_at bs 3)
     (slot_zero (slot_at bs 4) (slot_zero (slot_at bs 5) (slot_zero (slot_at bs 6) (slot_zero (slot_at bs 7) true)))))))
-    ≡ for_all (λ (b : Bind). not (is_bound b.slot)) bs
+    ≡ for_all (λ (b : Slot). not (is_bound b)) bs
 unfolding for_all table slot_at
 slots-zero bs l =
     slot-zero (slot_at bs 0) (slot-zero (slot_at bs 1) (slot-zero (slot_at bs 2) (slot-zero (slot_at bs 3)
     (slot-zero (slot_at bs 4) (slot-zero (slot_at bs 5) (slot-zero (slot_at bs 6) (slot-zero (slot_at bs 7) refl)))))))
-    ∙ sym (ap (for_all (λ (b : Bind). not (is_bound b.slot))) (listed empty 8 bs l))
+    ∙ sym (ap (for_all (λ (b : Slot). not (is_bound b))) (listed empty 8 bs l))
 
 -- a word that is always 0
 spare : (b : Bool) → (true and b) ≡ b
@@ -152,12 +149,11 @@ module _ (ws : List ℕ) (from : ℕ) (l : from ≤ 32) where
 
   pub cells-coded : length ws ≡ 1863 → zero_cells ≡ true → (c : ℕ) → from ≤ c → c < 32 → cell_at_coded ws c ≡ true
   cells-coded long e c f b =
-      let zero : (j : ℕ) → j < 4 → 0 ≡ get_or ws (1536 + 4 * c + j) 0 =
-      λ j s.
+      zero_cell ws (1536 + 4 * c)
+      (λ j s.
       let z : 1536 + 4 * from + (4 * (c - from) + j) ≡ 1536 + 4 * c + j = omega arith in
-      sym (zero_word ws (1536 + 4 * from) (1664 - (1536 + 4 * from)) (4 * (c - from) + j) (omega arith) e (omega arith))
-      ∙ ap (λ i. get_or ws i 0) z in
-      sym (cell-rest ws (1536 + 4 * c) 0 0 true (zero 1 (omega arith)) (zero 2 (omega arith)) refl 0 (zero 3 (omega arith)) refl)
+      sym (ap (λ i. get_or ws i 0) z)
+      ∙ zero_word ws (1536 + 4 * from) (1664 - (1536 + 4 * from)) (4 * (c - from) + j) (omega arith) e (omega arith))
 
   pub cells-blank : (m : Machine) → Codes ws m → zero_cells ≡ for_all cell_is_blank (drop from m.cells)
   unfolding cell_at

@@ -6,14 +6,14 @@ use Prim.Native.Nat.{ℕ, zero, suc, ◌+◌, ◌-◌, ◌<◌, ◌≤◌}
 use native.Mathlib.Omega.{arith}
 use lib.Dec.{eqb}
 use lib.ListN.{length}
-use Rattle.model.specs.declared.token.Place.TheVariants as places
+use Rattle.std.specs.Prelude.{Some, None}
 use Rattle.model.specs.declared.token.State.TheVariants as states
 use Rattle.job.specs.Test.{◌and◌}
 use Rattle.model.specs.Machine.Blank.{cell_at, has_value, is_place}
 use Rattle.model.specs.Machine.Active.{cell_is_set, under_set}
 use Rattle.model.specs.Machine.State.{is_live}
 use Rattle.model.specs.Machine.Rules.{chain_ends, not_under_set, waits_at_unset}
-use Rattle.model.specs.declared.token.Place.{Place}
+use Rattle.model.specs.Machine.Held.{Place}
 use Rattle.model.specs.declared.token.State.{State}
 use Rattle.model.specs.declared.token.Token.{Token}
 use Rattle.model.specs.declared.cell.Cell.{Cell}
@@ -23,20 +23,20 @@ use Rattle.row_rules.proofs.RangeLaws.{held_none}
 use Rattle.model.proofs.Machine.TableRows.{cell-outside}
 
 -- "each parent chain ends"
-pub ends_nowhere : (cs : List Cell) (n : ℕ) → chain_ends cs n places.Nowhere ≡ true
+pub ends_nowhere : (cs : List Cell) (n : ℕ) → chain_ends cs n None ≡ true
 unfolding chain_ends is_place
 ends_nowhere cs zero = refl
 ends_nowhere cs (suc n) = refl
 
 module _ (cs : List Cell) (q : Place) (i : ℕ) (long : length cs ≡ 32) where
-  pub ends-stop : q ≡ places.Nowhere → true ≡ chain_ends cs (32 - i) q
+  pub ends-stop : q ≡ None → true ≡ chain_ends cs (32 - i) q
   ends-stop e = sym (ap (chain_ends cs (32 - i)) e ∙ ends_nowhere cs (32 - i))
 
   pub ends_last : 32 ≤ i → not (is_place q) ≡ chain_ends cs (32 - i) q
   unfolding chain_ends
   ends_last l = let e : 32 - i ≡ 0 = omega arith in rw e
 
-  module _ (c : ℕ) (at : q ≡ places.At c) (more : i < 32) where
+  module _ (c : ℕ) (at : q ≡ Some c) (more : i < 32) where
     pub ends_on : chain_ends cs (32 - i) q ≡ chain_ends cs (32 - (i + 1)) (cell_at cs c).parent
     unfolding chain_ends
     ends_on = let e : 32 - i ≡ suc (32 - (i + 1)) = omega arith in rw (at, e)

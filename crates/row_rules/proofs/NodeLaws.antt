@@ -7,15 +7,15 @@ use native.Mathlib.Decide.{dec_lt}
 use native.Mathlib.Omega.{arith}
 use lib.ListN.{length, get_or, take, drop, get_or-eq_default}
 use lib.Dec.{ltb, leb, eqb}
-use Rattle.model.specs.declared.token.Place.TheVariants as places
+use Rattle.std.specs.Prelude.{Some, None}
 use Rattle.job.specs.Test.{◌and◌, for_all}
 use Rattle.job.specs.Node.{dag_holds, node_at}
 use Rattle.job.specs.Words.{node_by, param_of, params_from, dag_of}
 use Rattle.model.specs.Machine.Blank.{empty, blank_token, slot_at, token_at, is_bound}
 use Rattle.model.specs.Machine.Rules.{names_frame, not_empty, node_rule, at_node}
 use Rattle.model.specs.Machine.State.{is_frame}
-use Rattle.model.specs.declared.token.Bind.{Bind}
-use Rattle.model.specs.declared.token.Place.{Place}
+use Rattle.model.specs.declared.token.Slot.{Slot}
+use Rattle.model.specs.Machine.Held.{Place}
 use Rattle.model.specs.declared.token.Token.{Token}
 use Rattle.job.proofs.Test.{clash, lt-ltb, le-not-ltb, and_left, leb-le, eq-eqb, ne_eqb}
 use Rattle.record.specs.Layout.{place_number, state_kind}
@@ -26,14 +26,14 @@ use Rattle.row_rules.specs.RowRules.{pair_bound}
 use Rattle.row_rules.proofs.RangeLaws.{blank-is, frame_is}
 
 -- past the eight slots nothing is bound
-pub slot-past : (bs : List Bind) (x : ℕ) → length bs ≡ 8 → 8 ≤ x → false ≡ is_bound (slot_at bs x)
+pub slot-past : (bs : List Slot) (x : ℕ) → length bs ≡ 8 → 8 ≤ x → false ≡ is_bound (slot_at bs x)
 unfolding slot_at is_bound
 slot-past bs x long l =
     let m : length bs ≤ x = omega arith in
-    sym (ap (λ (b : Bind). is_bound b.slot) (get_or-eq_default bs empty m))
+    sym (ap is_bound (get_or-eq_default bs empty m))
 
 -- a parameter's two words
-module _ (bs : List Bind) (k w : ℕ) where
+module _ (bs : List Slot) (k w : ℕ) where
   pub bound-pair : (named : Bool) → (named && eqb k 7) ≡ true → is_bound (slot_at bs w) ≡ pair_bound bs named k w
   unfolding params_from param_of for_all not_empty
   bound-pair true e = rw (e, param_of) (sym (and-true _))
@@ -44,7 +44,7 @@ module _ (bs : List Bind) (k w : ℕ) where
   free-pair true e = rw (e, param_of)
   free-pair false e = refl
 
-module _ (bs : List Bind) where
+module _ (bs : List Slot) where
   bound-then : (j c k w : ℕ) (ws : List ℕ)
       → for_all (not_empty bs) (params_from (c - j) (k ∷ w ∷ ws))
       ≡ pair_bound bs (ltb j c) k w and for_all (not_empty bs) (params_from (c - (j + 1)) ws)
@@ -93,16 +93,16 @@ module _ (ts : List Token) (long : length ts ≡ 64) (q : Place) {n : ℕ} (numb
   no-caller e = go q number
     where
       go : (q : Place) → n ≡ place_number q → false ≡ names_frame ts q
-      go places.Nowhere f = refl
-      go (places.At p) f = absurd (omega arith)
+      go None f = refl
+      go (Some p) f = absurd (omega arith)
 
   pub caller-past : 64 < n → false ≡ names_frame ts q
   unfolding names_frame token_at is_frame
   caller-past l = go q number
     where
       go : (q : Place) → n ≡ place_number q → false ≡ names_frame ts q
-      go places.Nowhere f = refl
-      go (places.At p) f =
+      go None f = refl
+      go (Some p) f =
           let m : length ts ≤ p = omega arith in
           sym (ap (λ (t : Token). is_frame t.state) (get_or-eq_default ts blank_token m))
 
@@ -111,8 +111,8 @@ module _ (ts : List Token) (long : length ts ≡ 64) (q : Place) {n : ℕ} (numb
   caller-read f {k} e = go q number
     where
       go : (q : Place) → n ≡ place_number q → eqb k 5 ≡ names_frame ts q
-      go places.Nowhere g = absurd (f g)
-      go (places.At p) g =
+      go None g = absurd (f g)
+      go (Some p) g =
           let same : n - 1 ≡ p = omega arith in
           ap (λ i. eqb i 5) e ∙ frame_is _ ∙ ap (λ i. is_frame (token_at ts i).state) same
 

@@ -6,9 +6,8 @@ use native.Mathlib.Decide.{dec_lt}
 use native.Mathlib.Omega.{arith}
 use lib.IntN.{ℤ}
 use lib.Dec.{eqb, ltb, leb}
+use Rattle.std.specs.Prelude.{Some, None}
 use Rattle.model.specs.declared.token.Slot.TheVariants as slots
-use Rattle.model.specs.declared.token.Held.TheVariants as helds
-use Rattle.model.specs.declared.token.Place.TheVariants as places
 use Rattle.model.specs.declared.token.State.TheVariants as states
 use Rattle.job.specs.Number.{fits}
 use Rattle.job.specs.Site.{last_time}
@@ -17,27 +16,26 @@ use Rattle.model.specs.Machine.Blank.{is_bound, is_place, has_value}
 use Rattle.model.specs.Machine.State.{is_blank_state, is_frame}
 use Rattle.model.specs.Machine.Rules.{place_in_range, slot_in_range, state_in_range, due_in_range}
 use Rattle.model.specs.declared.token.Slot.{Slot}
-use Rattle.model.specs.declared.token.Held.{Held}
-use Rattle.model.specs.declared.token.Place.{Place}
+use Rattle.model.specs.Machine.Held.{Held, Place}
 use Rattle.model.specs.declared.token.State.{State}
 use Rattle.job.proofs.Test.{lt-ltb, le-not-ltb, le-leb, lt-not-leb, ne_eqb}
 use Rattle.job.proofs.Both.{both_is, and-true}
 use Rattle.record.specs.LayoutDecoded.{place_from}
 use Rattle.record.specs.Layout.{place_number, state_kind, state_number, held_kind, slot_kind, slot_number}
 
-pub no_place : {n : ℕ} → n ≡ 0 → place_from n ≡ places.Nowhere
+pub no_place : {n : ℕ} → n ≡ 0 → place_from n ≡ None
 unfolding place_from
 no_place e = ap place_from e
 
-pub at_place : (n c : ℕ) → (n ≡ 0 → ⊥) → c ≡ n - 1 → place_from n ≡ places.At c
+pub at_place : (n c : ℕ) → (n ≡ 0 → ⊥) → c ≡ n - 1 → place_from n ≡ Some c
 unfolding place_from
 at_place zero c f e = absurd (f refl)
-at_place (suc n) c f e = let same : n ≡ c = omega arith in ap places.At same
+at_place (suc n) c f e = let same : n ≡ c = omega arith in ap Some same
 
 pub place_in : (n : ℕ) (q : Place) → leb (place_number q) n ≡ place_in_range n q
 unfolding place_in_range
-place_in n places.Nowhere = le-leb 0 n (omega arith)
-place_in n (places.At p) = go (dec_lt p n)
+place_in n None = le-leb 0 n (omega arith)
+place_in n (Some p) = go (dec_lt p n)
   where
     go : Dec (p < n) → leb (p + 1) n ≡ ltb p n
     go (yes l) = le-leb (p + 1) n (omega arith) ∙ sym (lt-ltb p n l)
@@ -45,34 +43,34 @@ place_in n (places.At p) = go (dec_lt p n)
 
 pub place_is : (q : Place) → ltb 0 (place_number q) ≡ is_place q
 unfolding is_place
-place_is places.Nowhere = refl
-place_is (places.At p) = lt-ltb 0 (p + 1) (omega arith)
+place_is None = refl
+place_is (Some p) = lt-ltb 0 (p + 1) (omega arith)
 
 pub place_none : (q : Place) → eqb (place_number q) 0 ≡ not (is_place q)
 unfolding is_place
-place_none places.Nowhere = refl
-place_none (places.At p) = ne_eqb (p + 1) 0 (λ z. omega arith)
+place_none None = refl
+place_none (Some p) = ne_eqb (p + 1) 0 (λ z. omega arith)
 
 -- values
 pub held-is : (v : Held) → ltb 0 (held_kind v) ≡ has_value v
 unfolding has_value
-held-is helds.Nothing = refl
-held-is (helds.Value v) = refl
+held-is None = refl
+held-is (Some v) = refl
 
 pub held_none : (v : Held) → eqb (held_kind v) 0 ≡ not (has_value v)
 unfolding has_value
-held_none helds.Nothing = refl
-held_none (helds.Value v) = refl
+held_none None = refl
+held_none (Some v) = refl
 
 pub held-some : {n : ℕ} (v : Held) → n ≡ held_kind v → 0 < n → has_value v ≡ true
 unfolding has_value
-held-some helds.Nothing e l = absurd (omega arith)
-held-some (helds.Value v) e l = refl
+held-some None e l = absurd (omega arith)
+held-some (Some v) e l = refl
 
 pub held-nothing : {n : ℕ} (v : Held) → n ≡ held_kind v → n ≤ 0 → has_value v ≡ false
 unfolding has_value
-held-nothing helds.Nothing e l = refl
-held-nothing (helds.Value v) e l = absurd (omega arith)
+held-nothing None e l = refl
+held-nothing (Some v) e l = absurd (omega arith)
 
 -- slots
 pub slot-bound : (s : Slot) → ltb 0 (slot_kind s) ≡ is_bound s

@@ -5,7 +5,7 @@ ghost use Rattle.job.specs.Test.{◌and◌, for_all};
 ghost use Rattle.model.specs.Machine.Blank.{token_at};
 ghost use Rattle.model.specs.Machine.Rules.{place_in_range, slot_in_range, state_in_range, due_in_range};
 ghost use Rattle.model.specs.declared.record.Machine.{Machine};
-ghost use Rattle.model.specs.declared.token.Bind.{Bind};
+ghost use Rattle.model.specs.declared.token.Slot.{Slot};
 ghost use Rattle.model.specs.declared.token.State.{State};
 ghost use Rattle.record.specs.Holds.{Codes};
 ghost use Rattle.record.specs.Layout.{state_kind, state_number};
@@ -24,7 +24,7 @@ use record::token::{bind_kind, bind_number, caller, cell, state, state_number};
 fn binds_in_range(w: &[u32; Machine::WORDS], p: usize) -> bool
     requires { p < 64 }
     ensures { (m : Machine) → ValuesFit w.now m
-        → result ≡ for_all (λ (b : Bind). slot_in_range 32 b.slot) (token_at m.tokens p).binds }
+        → result ≡ for_all (slot_in_range 32) (token_at m.tokens p).binds }
 {
     let mut ok = true;
     let mut x: usize = 0;
@@ -51,7 +51,7 @@ fn state_in_range(kind: u32, number: u32, calls: u32, now: u32) -> bool
 pub fn token_in_range(w: &[u32; Machine::WORDS], p: usize) -> bool
     requires { p < 64 }
     ensures { (m : Machine) → ValuesFit w.now m
-        → result ≡ (for_all (λ (b : Bind). slot_in_range 32 b.slot) (token_at m.tokens p).binds and place_in_range 64
+        → result ≡ (for_all (slot_in_range 32) (token_at m.tokens p).binds and place_in_range 64
         (token_at m.tokens p).caller and place_in_range 32 (token_at m.tokens p).cell and state_in_range 32 m.calls
         (token_at m.tokens p).state and due_in_range m.clock (token_at m.tokens p).state) }
 {

@@ -6,9 +6,8 @@ use Prim.Native.Nat.{ℕ, ◌<◌, ◌≤◌}
 use native.Mathlib.Omega.{arith}
 use lib.Dec.{ltb, leb, eqb}
 use lib.ListN.{length}
+use Rattle.std.specs.Prelude.{Some, None}
 use Rattle.model.specs.declared.token.Slot.TheVariants as slots
-use Rattle.model.specs.declared.token.Held.TheVariants as helds
-use Rattle.model.specs.declared.token.Place.TheVariants as places
 use Rattle.job.specs.Test.{◌and◌, for_all}
 use Rattle.job.specs.Node.{Dag, is_node, dag_holds}
 use Rattle.model.specs.Machine.Limits.{paper}
@@ -17,9 +16,7 @@ use Rattle.model.specs.Machine.State.{is_blank_state, is_live}
 use Rattle.model.specs.Machine.Rules.{held_in_range, place_in_range, slot_in_range, state_in_range, token_in_range}
 use Rattle.model.specs.Machine.Rules.{cell_in_range, at_node, not_under_set, waits_at_unset, due_in_range, chain_ends}
 use Rattle.model.specs.declared.token.Slot.{Slot}
-use Rattle.model.specs.declared.token.Bind.{Bind}
-use Rattle.model.specs.declared.token.Held.{Held}
-use Rattle.model.specs.declared.token.Place.{Place}
+use Rattle.model.specs.Machine.Held.{Held, Place}
 use Rattle.model.specs.declared.token.Token.{Token}
 use Rattle.model.specs.declared.cell.Cell.{Cell}
 use Rattle.model.specs.declared.record.Machine.{Machine}
@@ -37,26 +34,26 @@ slot-blank slots.Empty e = refl
 slot-blank (slots.Value v) e = clash e refl
 slot-blank (slots.Cell c) e = clash e refl
 
-slots-blank : (bs : List Bind) → for_all (λ (b : Bind). not (is_bound b.slot)) bs ≡ true
-    → for_all (λ (b : Bind). slot_in_range 32 b.slot) bs ≡ true
+slots-blank : (bs : List Slot) → for_all (λ (b : Slot). not (is_bound b)) bs ≡ true
+    → for_all (slot_in_range 32) bs ≡ true
 unfolding for_all
 slots-blank [] e = refl
-slots-blank (b ∷ bs) e = and_both (slot-blank b.slot (and_left _ _ e)) (slots-blank bs (and_right _ _ e))
+slots-blank (b ∷ bs) e = and_both (slot-blank b (and_left _ _ e)) (slots-blank bs (and_right _ _ e))
 
 held-blank : (v : Held) → not (has_value v) ≡ true → held_in_range v ≡ true
 unfolding has_value held_in_range
-held-blank helds.Nothing e = refl
-held-blank (helds.Value v) e = clash e refl
+held-blank None e = refl
+held-blank (Some v) e = clash e refl
 
 place-blank : (n : ℕ) (q : Place) → not (is_place q) ≡ true → place_in_range n q ≡ true
 unfolding is_place place_in_range
-place-blank n places.Nowhere e = refl
-place-blank n (places.At p) e = clash e refl
+place-blank n None e = refl
+place-blank n (Some p) e = clash e refl
 
 ends-none : (cs : List Cell) (n : ℕ) (q : Place) → not (is_place q) ≡ true → chain_ends cs n q ≡ true
 unfolding is_place
-ends-none cs n places.Nowhere e = ends_nowhere cs n
-ends-none cs n (places.At p) e = clash e refl
+ends-none cs n None e = ends_nowhere cs n
+ends-none cs n (Some p) e = clash e refl
 
 -- a dag that keeps its rules has a node
 pub some-node : (d : Dag) → dag_holds d ≡ true → 0 < length d.nodes
@@ -73,7 +70,7 @@ module _ (d : Dag) (m : Machine) (t : Token) (eight : length t.binds ≡ 8) wher
   token-blank holds e =
       let rest1 = and_right (is_blank_state t.state) _ e in
       let rest2 = and_right (eqb t.node 0) _ rest1 in
-      let rest3 = and_right (for_all (λ (b : Bind). not (is_bound b.slot)) t.binds) _ rest2 in
+      let rest3 = and_right (for_all (λ (b : Slot). not (is_bound b)) t.binds) _ rest2 in
       let rest4 = and_right (not (has_value t.value)) _ rest3 in
       let state = state-blank t.state (and_left (is_blank_state t.state) _ e) in
       let node : t.node ≡ 0 = eqb-eq t.node 0 (and_left (eqb t.node 0) _ rest1) in
@@ -95,14 +92,14 @@ module _ (d : Dag) (m : Machine) (t : Token) (eight : length t.binds ≡ 8) wher
 
   fields_in : {n : ℕ} → n ≡ t.node → n < length d.nodes → held_in_range t.value ≡ true
       → token_in_range paper d m.calls t
-      ≡ (for_all (λ (b : Bind). slot_in_range 32 b.slot) t.binds
+      ≡ (for_all (slot_in_range 32) t.binds
       and place_in_range 64 t.caller and place_in_range 32 t.cell and state_in_range 32 m.calls t.state)
   unfolding token_in_range is_node ◌and◌
   fields_in e l f = rw (lt-ltb t.node (length d.nodes) (omega arith), eight, f)
 
   -- the due time is tested with the fields
   pub node_in : {n : ℕ} → n ≡ t.node → n < length d.nodes → held_in_range t.value ≡ true
-      → (for_all (λ (b : Bind). slot_in_range 32 b.slot) t.binds
+      → (for_all (slot_in_range 32) t.binds
       and place_in_range 64 t.caller
       and place_in_range 32 t.cell
       and state_in_range 32 m.calls t.state

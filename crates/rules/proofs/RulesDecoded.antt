@@ -34,13 +34,13 @@ slot-fits zero n v e = never cc
 slot-fits (suc zero) n v e = let same : signed n ≡ v = cc in ap fits (sym same) ∙ signed-fits n
 slot-fits (suc (suc k)) n v e = never cc
 
-binds-fit : (n : ℕ) (ws : List ℕ) (x : ℕ) → SlotFits (get_or (binds_from n ws) x empty).slot
+binds-fit : (n : ℕ) (ws : List ℕ) (x : ℕ) → SlotFits (get_or (binds_from n ws) x empty)
 unfolding binds_from
 binds-fit zero ws x v e = never cc
 binds-fit (suc n) ws zero v e = slot-fits (get_or ws 0 0) (get_or ws 1 0) v e
 binds-fit (suc n) ws (suc x) v e = binds-fit n (drop 2 ws) x v e
 
-none-fits : (n x : ℕ) → SlotFits (get_or (lib.ListN.replicate n empty) x empty).slot
+none-fits : (n x : ℕ) → SlotFits (get_or (lib.ListN.replicate n empty) x empty)
 none-fits zero x v e = never cc
 none-fits (suc n) zero v e = never cc
 none-fits (suc n) (suc x) v e = none-fits n x v e
@@ -56,7 +56,7 @@ decoded {ws} h =
           (λ r. held_fits (get_or r 5 0) (get_or r 6 0)) 64 ws p;
       slots =
           λ p x.
-          table-all token_from 24 (λ (t : Token). SlotFits (get_or t.binds x empty).slot) blank_token (none-fits 8 x)
+          table-all token_from 24 (λ (t : Token). SlotFits (get_or t.binds x empty)) blank_token (none-fits 8 x)
           (λ r. binds-fit 8 (drop 8 r) x) 64 ws p;
       cells =
           λ c.

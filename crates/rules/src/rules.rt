@@ -3,7 +3,6 @@ ghost use Rattle.rules.specs.Tested.{Tested};
 
 use crate::cells::cells_hold;
 use crate::tokens::tokens_hold;
-use coded::word_tests::whole;
 use dag_rules::dag::dag_holds;
 use job::dag::WORDS;
 use model::record::Machine;
@@ -15,7 +14,6 @@ use row_rules::range::sizes_in_range;
 pub fn rules_hold(w: &[u32; Machine::WORDS], dag: &[u32; WORDS], marks: &Marks) -> bool
     ensures { Tested w.now dag.now marks.now.tokens marks.now.cells result }
 {
-    whole(w);
     if !dag_holds(dag) {
         return false;
     }

@@ -1,15 +1,27 @@
 // The program `orcrun` as one function from the bytes of its input to the bytes that it prints.
 ghost use Rattle.std.specs.Prelude.{◌≡◌, length};
 ghost use Rattle.model.specs.Output.Orcrun.{orcrun};
-ghost use Rattle.lines.specs.Shown.{shown};
+ghost use Rattle.model.specs.Output.Line.{text_of};
+ghost use Rattle.lines.specs.LineTold.{told, HasFewValues};
+ghost use Rattle.lines.specs.Shown.{shown, ShowsBytes};
 ghost use Rattle.run.specs.Input.{dag_after};
 
 use crate::input::table_end;
-use house::house::{run, whole};
+use house::house::run;
 use job::dag::WORDS;
-use lines::line;
-use lines::shown::show_front;
+use lines::line::Line;
+use lines::shown::Window;
 use loader::table::{Loaded, load};
+
+// Shows a line of which the run has no other.
+fn show_alone(line: Line, output: &mut [u8], from: usize) -> usize
+    requires { HasFewValues line }
+    ensures { ShowsBytes output.old from 0 (text_of (told line.entry)) output.new result }
+{
+    let mut window = Window::new(output, from);
+    window.show_line(line);
+    window.total()
+}
 
 // Runs the job of an input and stores what it prints from byte `from` on, as many bytes as the output has room for. Answers how many bytes
 // it prints in all. The dag's words are room that the caller lends, whatever they hold: those that the table's dag does not use stay.
@@ -19,18 +31,13 @@ pub fn orcrun(input: &[u8], from: usize, dag: &mut [u32; WORDS], output: &mut [u
     ensures output_after { output.new ≡ shown output.old from (orcrun input.now) }
 {
     if 65536 < input.len() {
-        let mut buffer = [0u8; 80];
-        let n = line::put_long(&mut buffer, 0);
-        return show_front(&buffer, n, output, from, 0);
+        return show_alone(Line::Long, output, from);
     }
     let end = table_end(input);
-    whole(dag);
     let answer = load(&input[0..end], dag);
     match answer {
         Loaded::Refused(number, entry) => {
-            let mut buffer = [0u8; 80];
-            let n = line::put_table(&mut buffer, 0, number, entry as u32);
-            show_front(&buffer, n, output, from, 0)
+            show_alone(Line::Table(number, entry as u32), output, from)
         }
         Loaded::Dag(_) => run(&input[end..], dag, output, from),
     }

@@ -11,6 +11,7 @@ use lib.ListN.{length, get_or, drop, drop_of_length-le, get_or-eq_default}
 use lib.Seq.{drop-cons}
 use lib.Dec.{eqb}
 use lib.IntN.{ℤ}
+use Rattle.std.specs.Prelude.{Option, Some, None, Ok, Err}
 use Rattle.job.specs.Test.{for_some, ◌or◌}
 use Rattle.job.specs.Node.{Dag}
 use Rattle.model.specs.Machine.Limits.{paper}
@@ -20,43 +21,42 @@ use Rattle.model.specs.Machine.State.{handle_of}
 use Rattle.model.specs.Machine.Reply.{refuses, moves}
 use Rattle.model.specs.Machine.Update.{with_value, with_state, put, enqueue}
 use Rattle.model.specs.Machine.Answer.{holder, answered}
-use Rattle.model.specs.declared.token.Held.TheVariants as helds
-use Rattle.model.specs.declared.token.Place.{Place}
-use Rattle.model.specs.declared.token.Place.TheVariants as places
+use Rattle.model.specs.declared.reply.Refusal.TheVariants as refusals
+use Rattle.model.specs.Machine.Held.{Place}
 use Rattle.model.specs.declared.token.State.{State}
 use Rattle.model.specs.declared.token.State.TheVariants as states
 use Rattle.model.specs.declared.token.Token.{Token}
 use Rattle.model.specs.declared.record.Machine.{Machine}
-use Rattle.job.proofs.Test.{clash, lt-ltb, le-not-ltb}
+use Rattle.job.proofs.Test.{clash}
 use Rattle.model.proofs.Machine.Within.{holder-holds}
 use Rattle.record.specs.Holds.{Codes, Holds}
 use Rattle.record.specs.Layout.{state_kind, state_number}
 use Rattle.reach.specs.Marks.{BlankFrom}
 use Rattle.reach.proofs.ListLoops.{steady}
-use Rattle.sites.specs.Answer.{place_below, answered_by, Answered}
+use Rattle.sites.specs.Answer.{place_of, answer_says, answered_by, Answered}
 use Rattle.sites.proofs.RuleFacts.{tokens-size, queue-room}
 use Rattle.model.proofs.Run.AnswerStands.{handle-busy}
 
 -- a turn of the search
 module _ (h i : ℕ) (ts : List Token) (d : Token) (l : i < length ts) {x : Place} (so_far : x ≡ holder h i (drop i ts)) where
   turn : (b : Bool) → for_some (eqb h) (handle_of (get_or ts i d).state) ≡ b
-      → x ≡ elim b [ true ↦ places.At i | false ↦ holder h (suc i) (drop (suc i) ts) ]
+      → x ≡ elim b [ true ↦ Some i | false ↦ holder h (suc i) (drop (suc i) ts) ]
   unfolding holder
   turn b e = so_far ∙ ap (holder h i) (drop-cons ts i d l) ∙ rw (e, holder)
 
-  pub holder-found : for_some (eqb h) (handle_of (get_or ts i d).state) ≡ true → x ≡ places.At i
+  pub holder-found : for_some (eqb h) (handle_of (get_or ts i d).state) ≡ true → x ≡ Some i
   holder-found e = turn true e
 
   pub holder-on : for_some (eqb h) (handle_of (get_or ts i d).state) ≡ false → x ≡ holder h (i + 1) (drop (i + 1) ts)
   holder-on e = turn false e ∙ ap (λ k. holder h k (drop k ts)) (sym (add-one i))
 
-pub holder-none : (h i : ℕ) (ts : List Token) → length ts ≤ i → {x : Place} → x ≡ holder h i (drop i ts) → x ≡ places.Nowhere
+pub holder-none : (h i : ℕ) (ts : List Token) → length ts ≤ i → {x : Place} → x ≡ holder h i (drop i ts) → x ≡ None
 unfolding holder
 holder-none h i ts l e = e ∙ ap (holder h i) (drop_of_length-le ts {i = i} l)
 
 -- no blank token is under a handle
 pub holder-blank : (h end : ℕ) (ts : List Token) → length ts ≡ 64 → end ≤ 64 → ((i : ℕ) → end ≤ i → i < 64 → token_at ts i ≡ blank_token)
-    → holder h end (drop end ts) ≡ places.Nowhere
+    → holder h end (drop end ts) ≡ None
 unfolding token_at for_some handle_of
 holder-blank h end ts l inside blank =
     steady (λ (i : ℕ). holder h i (drop i ts)) end 64 inside
@@ -64,7 +64,7 @@ holder-blank h end ts l inside blank =
     (ap (λ (t : Token). for_some (eqb h) (handle_of t.state)) (blank i from to)))
     ∙ holder-none h 64 ts (omega arith) refl
 
-module _ (d : Dag) (m : Machine) (k : rules_hold paper d m ≡ true) (h p : ℕ) (e : holder h 0 m.tokens ≡ places.At p) where
+module _ (d : Dag) (m : Machine) (k : rules_hold paper d m ≡ true) (h p : ℕ) (e : holder h 0 m.tokens ≡ Some p) where
   -- the token
   open_at : for_some (eqb h) (handle_of (token_at m.tokens p).state) ≡ true
   open_at =
@@ -118,52 +118,43 @@ module _ (h k n : ℕ) (s : State) (ek : k ≡ state_kind s) (en : n ≡ state_n
       go (states.Due t) ek f = refl
       go states.Frame ek f = refl
 
--- a number as a place
-pub place-there : (n p : ℕ) → p < n → place_below n p ≡ places.At p
-unfolding place_below
-place-there n p l = rw (lt-ltb p n l, place_below)
-
-pub place_none : (n p : ℕ) → n ≤ p → place_below n p ≡ places.Nowhere
-unfolding place_below
-place_none n p l = rw (le-not-ltb p n l, place_below)
-
 -- the effect of an answer is the record after it, or the refusal
 pub answered-moves : (m : Machine) (v : ℤ) (q : Place) → is_place q ≡ true → answered m v q ≡ moves (answered_by m v q)
 unfolding answered answered_by is_place
-answered-moves m v places.Nowhere e = clash e refl
-answered-moves m v (places.At p) e = refl
+answered-moves m v None e = clash e refl
+answered-moves m v (Some p) e = refl
 
 pub answered-refuses : (m : Machine) (v : ℤ) (q : Place) → is_place q ≡ false → answered m v q ≡ refuses 12
 unfolding answered is_place
-answered-refuses m v places.Nowhere e = refl
-answered-refuses m v (places.At p) e = clash refl e
+answered-refuses m v None e = refl
+answered-refuses m v (Some p) e = clash refl e
 
--- what the code has done, by the number that the search gave
-module _ (end h p : ℕ) (v : ℤ) (before after : List ℕ)
-    (found : (m : Machine) → Codes before m → BlankFrom m end → holder h 0 m.tokens ≡ place_below end p) where
-  pub not-answered : end ≤ p → after ≡ before → Answered end h v false before after
-  unfolding is_place answered_by
-  not-answered l e =
+-- what the code has done, by the place that the search gave
+module _ (end h : ℕ) (v : ℤ) (before after : List ℕ) (o : Option ℕ)
+    (found : (m : Machine) → Codes before m → BlankFrom m end → holder h 0 m.tokens ≡ place_of o) where
+  pub not-answered : o ≡ None → after ≡ before → Answered end h v (Err refusals.NotOpen) before after
+  unfolding is_place answered_by place_of answer_says
+  not-answered none e =
       record {
-        says = λ m k b. sym (ap is_place (found m k.codes b ∙ place_none end p l));
+        says = λ m k b. sym (ap (λ q. answer_says (is_place q)) (found m k.codes b ∙ ap place_of none));
         does =
             λ d m k b r.
-            subst (Holds after) (sym (ap (answered_by m v) (found m k.codes b ∙ place_none end p l)))
+            subst (Holds after) (sym (ap (answered_by m v) (found m k.codes b ∙ ap place_of none)))
             (subst (λ ws. Holds ws m) (sym e) k);
-        stays = λ _. e;
+        stays = (refl, e);
       }
 
-  pub is-answered : p < end
+  pub is-answered : (p : ℕ) → o ≡ Some p
       → ((m : Machine) → Holds before m → m.queued < 64
-      → Holds after (enqueue p (put p (with_state states.Ready (with_value (helds.Value v) (token_at m.tokens p))) m)))
-      → Answered end h v true before after
-  unfolding is_place answered_by
-  is-answered l e =
+      → Holds after (enqueue p (put p (with_state states.Ready (with_value (Some v) (token_at m.tokens p))) m)))
+      → Answered end h v (Ok tt) before after
+  unfolding is_place answered_by place_of answer_says
+  is-answered p some e =
       record {
-        says = λ m k b. sym (ap is_place (found m k.codes b ∙ place-there end p l));
+        says = λ m k b. sym (ap (λ q. answer_says (is_place q)) (found m k.codes b ∙ ap place_of some));
         does =
             λ d m k b r.
-            let at : holder h 0 m.tokens ≡ places.At p = found m k.codes b ∙ place-there end p l in
+            let at : holder h 0 m.tokens ≡ Some p = found m k.codes b ∙ ap place_of some in
             subst (Holds after) (sym (ap (answered_by m v) at)) (e m k (open-room d m r h p at));
-        stays = λ z. clash refl z;
+        stays = tt;
       }

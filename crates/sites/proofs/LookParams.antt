@@ -14,7 +14,7 @@ use Rattle.job.specs.Words.{param_of, params_from}
 use Rattle.model.specs.Machine.Blank.{empty, unbound, slot_at}
 use Rattle.model.specs.Machine.Step.{passed, formals_bound}
 use Rattle.model.specs.declared.token.Slot.TheVariants as slots
-use Rattle.model.specs.declared.token.Bind.{Bind}
+use Rattle.model.specs.declared.token.Slot.{Slot}
 use Rattle.job.proofs.Lists.{part_at, part-long}
 use Rattle.job.proofs.Test.{ne_eqb, ltb-lt, all-at}
 use Rattle.sites.specs.Row.{row_at, params_at, ParamsHold}
@@ -85,7 +85,7 @@ module _ (ws : List ℕ) (at : ℕ) (size : length ws ≡ 12331) (inside : at + 
 
 -- the formals, one more bound at each turn
 pub bound-more :
-    (bs : List Bind) (ps : List Param) (i : ℕ) (d : Param)
+    (bs : List Slot) (ps : List Param) (i : ℕ) (d : Param)
     → i < length ps
     → length ps ≤ 8
     → set (formals_bound bs (take i ps)) i (passed bs (get_or ps i d)) ≡ formals_bound bs (take (i + 1) ps)
@@ -107,7 +107,7 @@ bound-more bs ps i d l few =
     ap₂ (λ xs k. xs ++ drop k unbound) more long ∙ append_snoc front p (drop (suc i) unbound) in
     before ∙ sym after ∙ ap (λ k. map (passed bs) (take k ps) ++ drop (length (take k ps)) unbound) (sym (add-one i))
 
-pub bound_all : (bs : List Bind) (ps : List Param) (i : ℕ) → length ps ≤ i → formals_bound bs (take i ps) ≡ formals_bound bs ps
+pub bound_all : (bs : List Slot) (ps : List Param) (i : ℕ) → length ps ≤ i → formals_bound bs (take i ps) ≡ formals_bound bs ps
 bound_all bs ps i l = ap (formals_bound bs) (take_all i ps l)
 
 -- a variable is below 8, and a constant is passed as a value
@@ -119,13 +119,13 @@ pub below : (k w : ℕ) {x : ℕ} → param_holds (param_of k w) ≡ true → k 
 below k w e f g = subst (λ i. i < 8) (sym g) (variable-below (param_of k w) w e (param-variable k w f))
 
 -- what is passed, as a slot
-pub slot-variable : (bs : List Bind) (k w : ℕ) → k ≡ 7 → slot_at bs w ≡ (passed bs (param_of k w)).slot
+pub slot-variable : (bs : List Slot) (k w : ℕ) → k ≡ 7 → slot_at bs w ≡ passed bs (param_of k w)
 unfolding passed
-slot-variable bs k w e = sym (ap (λ p. (passed bs p).slot) (param-variable k w e))
+slot-variable bs k w e = sym (ap (passed bs) (param-variable k w e))
 
-pub slot-constant : (bs : List Bind) (k w : ℕ) → (k ≡ 7 → ⊥) → slots.Value (Number.signed w) ≡ (passed bs (param_of k w)).slot
+pub slot-constant : (bs : List Slot) (k w : ℕ) → (k ≡ 7 → ⊥) → slots.Value (Number.signed w) ≡ passed bs (param_of k w)
 unfolding passed
-slot-constant bs k w n = sym (ap (λ p. (passed bs p).slot) (param-constant k w n))
+slot-constant bs k w n = sym (ap (passed bs) (param-constant k w n))
 
 -- a turn of the loop that binds the formals: k and w are the words of the parameter at i
 module _ (ws : List ℕ) (at i k w : ℕ) (o : ParamsHold ws at) (l : i < get_or ws (at + 3) 0) where
@@ -138,7 +138,7 @@ module _ (ws : List ℕ) (at i k w : ℕ) (o : ParamsHold ws at) (l : i < get_or
       subst (λ p. param_holds p ≡ true) (the-param e f) (all-at param_holds (params_at ws at) i (variable 0) o.hold (omega arith))
 
   pub param-bound :
-      (bs : List Bind) (b : Bind)
+      (bs : List Slot) (b : Slot)
       → k ≡ get_or ws (at + 4 + 2 * i) 0
       → w ≡ get_or ws (at + 5 + 2 * i) 0
       → b ≡ passed bs (param_of k w)
@@ -149,10 +149,10 @@ module _ (ws : List ℕ) (at i k w : ℕ) (o : ParamsHold ws at) (l : i < get_or
       ap (set (formals_bound bs (take i (params_at ws at))) i) (g ∙ ap (passed bs) (sym (the-param e f)))
       ∙ bound-more bs (params_at ws at) i (variable 0) (omega arith) (omega arith)
 
-pub params-bound : (ws : List ℕ) (at i : ℕ) (bs : List Bind) → ParamsHold ws at → get_or ws (at + 3) 0 ≤ i
+pub params-bound : (ws : List ℕ) (at i : ℕ) (bs : List Slot) → ParamsHold ws at → get_or ws (at + 3) 0 ≤ i
     → formals_bound bs (take i (params_at ws at)) ≡ formals_bound bs (params_at ws at)
 params-bound ws at i bs o l = let n = params-count ws at o.size o.inside o.few in bound_all bs (params_at ws at) i (omega arith)
 
-pub none-bound : (bs : List Bind) (ps : List Param) → unbound ≡ formals_bound bs (take 0 ps)
+pub none-bound : (bs : List Slot) (ps : List Param) → unbound ≡ formals_bound bs (take 0 ps)
 unfolding formals_bound
 none-bound bs ps = refl

@@ -1,24 +1,24 @@
--- A signed number's 32 bits. By cases: a number of 0 or more is its bits, one below 0 its distance from 2 ^ 32. Assumes nothing.
-use mathlib.Core.Path.{◌≡◌, refl}
-use mathlib.Core.Bool.{true, false}
-use Prim.Native.Nat.{◌-◌, ◌≤◌, ◌^◌}
+-- What the conversions between a word and a signed number give is document 01's. By the half in which a word lies, and by the sign of a
+-- number. Assumes nothing.
+use mathlib.Core.Path.{◌≡◌, refl, ap}
+use mathlib.Core.Bool.{Bool, true, false}
+use Prim.Native.Nat.{ℕ, suc, ◌-◌, ◌^◌}
 use native.Mathlib.Omega.{arith}
-use lib.IntN.{ℤ, pos, negsuc, ◌-ℤ◌, nat_abs}
-use lib.Signed.{lt_z}
-use borrow.Author.Tests.{ltb-true}
-use Rattle.job.specs.Number.{unsigned}
-use Rattle.job.proofs.Test.{never}
+use lib.Dec.{ltb}
+use lib.IntN.{ℤ, pos, negsuc}
+use mir.Syntax.{w32}
+use mir.Val.{to_z, of_z, sel}
+use Rattle.job.specs.Number.{signed, unsigned}
 
-pub negative-some : (v : ℤ) → lt_z v (pos 0) ≡ true → 1 ≤ nat_abs (pos 0 -ℤ v)
-negative-some (pos n) e = absurd (omega (arith, ltb-true n 0 e))
-negative-some (negsuc n) e = omega arith
+pub signed-cast : (n : ℕ) → to_z w32 n ≡ signed n
+unfolding signed
+signed-cast n = go (ltb n (2 ^ 31))
+  where
+    go : (b : Bool) → sel b (pos n) (negsuc (2 ^ 32 - suc n)) ≡ elim b as (λ b. ℤ) [ true ↦ pos n | false ↦ negsuc (2 ^ 32 - 1 - n) ]
+    go true = refl
+    go false = let e : 2 ^ 32 - suc n ≡ 2 ^ 32 - 1 - n = omega arith in ap negsuc e
 
-pub negative-bits : (v : ℤ) → lt_z v (pos 0) ≡ true → 4294967295 - (nat_abs (pos 0 -ℤ v) - 1) ≡ unsigned v
+pub unsigned-cast : (v : ℤ) → of_z w32 v ≡ unsigned v
 unfolding unsigned
-negative-bits (pos n) e = absurd (omega (arith, ltb-true n 0 e))
-negative-bits (negsuc n) e = let z : 2 ^ 32 ≡ 4294967296 = refl in omega arith
-
-pub positive-bits : (v : ℤ) → lt_z v (pos 0) ≡ false → nat_abs v ≡ unsigned v
-unfolding unsigned
-positive-bits (pos n) e = refl
-positive-bits (negsuc n) e = never cc
+unsigned-cast (pos n) = refl
+unsigned-cast (negsuc n) = omega arith

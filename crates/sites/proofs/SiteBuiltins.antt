@@ -6,17 +6,20 @@ use Prim.Native.Nat.{ℕ, zero, suc, ◌<◌, ◌≤◌}
 use native.Mathlib.Omega.{arith}
 use lib.IntN.{ℤ, pos, ◌+ℤ◌}
 use lib.Signed.{lt_z}
-use Rattle.job.specs.Number.{fits, equal_z}
+use mir.Syntax.{w32}
+use mir.Val.{SFits, bool_byte}
+use Rattle.job.specs.Number.{equal_z}
 use Rattle.job.specs.Site as Site
+use Rattle.sites.proofs.NumberSigned.{fits-true, fits-false}
 use Rattle.job.specs.Site.{BuiltinReply, gives, silent, later, at, builtin, zero_if, not_zero, truth}
 
-pub sum-gives : (a b : ℤ) → fits (a +ℤ b) ≡ true → Site.sum_reply a b ≡ gives (a +ℤ b)
+pub sum-gives : (a b : ℤ) {s : ℤ} → SFits w32 (a +ℤ b) → s ≡ a +ℤ b → gives s ≡ Site.sum_reply a b
 unfolding Site.sum_reply
-sum-gives a b e = rw (e, Site.sum_reply)
+sum-gives a b f e = ap gives e ∙ rw (fits-true (a +ℤ b) f, Site.sum_reply)
 
-pub sum-silent : (a b : ℤ) → fits (a +ℤ b) ≡ false → Site.sum_reply a b ≡ silent
+pub sum-silent : (a b : ℤ) → (SFits w32 (a +ℤ b) → ⊥) → silent ≡ Site.sum_reply a b
 unfolding Site.sum_reply
-sum-silent a b e = rw (e, Site.sum_reply)
+sum-silent a b f = rw (fits-false (a +ℤ b) f, Site.sum_reply)
 
 not-zero : (v : ℤ) → not (equal_z v (pos 0)) ≡ not_zero v
 unfolding not_zero
@@ -25,6 +28,12 @@ not-zero v = go (equal_z v (pos 0))
     go : (b : Bool) → not b ≡ elim b as (λ b. Bool) [ true ↦ false | false ↦ true ]
     go true = refl
     go false = refl
+
+-- a test as a number
+truth-byte : (t : Bool) → pos (bool_byte t) ≡ truth t
+unfolding truth
+truth-byte true = refl
+truth-byte false = refl
 
 module _ (s : ℕ) (a b : ℤ) where
   abbrev says : BuiltinReply
@@ -50,13 +59,13 @@ module _ (s : ℕ) (a b : ℤ) where
   unfolding builtin
   says-add e = rw e
 
-  pub says_less : (t : Bool) → s ≡ 5 → t ≡ lt_z a b → gives (truth t) ≡ says
+  pub says_less : (t : Bool) {r : ℤ} → s ≡ 5 → t ≡ lt_z a b → r ≡ pos (bool_byte t) → gives r ≡ says
   unfolding builtin
-  says_less t e f = rw e (ap (λ x. gives (truth x)) f)
+  says_less t e f g = rw e (ap gives (g ∙ truth-byte t) ∙ ap (λ x. gives (truth x)) f)
 
-  pub says-equal : (t : Bool) → s ≡ 6 → t ≡ equal_z a b → gives (truth t) ≡ says
+  pub says-equal : (t : Bool) {r : ℤ} → s ≡ 6 → t ≡ equal_z a b → r ≡ pos (bool_byte t) → gives r ≡ says
   unfolding builtin
-  says-equal t e f = rw e (ap (λ x. gives (truth x)) f)
+  says-equal t e f g = rw e (ap gives (g ∙ truth-byte t) ∙ ap (λ x. gives (truth x)) f)
 
   pub says-rwait : s ≡ 7 → later a ≡ says
   unfolding builtin

@@ -1,8 +1,7 @@
--- Site calls: a built-in says the same to the first two of four values as to all of them, and what it said, and when, is read back. Assumes
+-- Site calls: a built-in says the same to the first two of four values as to all of them, and what it said is read back. Assumes
 -- nothing.
 use mathlib.Core.Path.{◌≡◌, refl, ap, ap₂, ◌∙◌}
 use mathlib.Core.List.{List, [], ◌∷◌, ◌++◌}
-use mathlib.Core.Option.{Option, some, none}
 use Prim.Native.Nat.{ℕ, zero, suc, ◌-◌, ◌<◌}
 use lib.ListN.{length, get_or, replicate}
 use lib.IntN.{ℤ, pos}
@@ -10,9 +9,7 @@ use Rattle.job.specs.Test.{padded}
 use Rattle.job.specs.Site.{BuiltinReply, gives, silent, later, at, builtin}
 use Rattle.model.specs.Machine.Reply.{report_values}
 use Rattle.sites.specs.declared.site.SiteReply.{SiteReply}
-use Rattle.sites.specs.declared.due.DueTime.{DueTime}
 use Rattle.sites.specs.SiteReply.{site_reply_of, builtin_reply_of}
-use Rattle.sites.specs.DueTime.{due_time_from, option_of}
 use Rattle.sites.proofs.SiteBuiltins.{says-to-two}
 
 -- what a built-in says to the first two of four values
@@ -38,8 +35,3 @@ pub reply-back : (x : SiteReply) (y : BuiltinReply) → x ≡ site_reply_of y �
 reply-back x (gives v) e = ap builtin_reply_of e
 reply-back x silent e = ap builtin_reply_of e
 reply-back x (later t) e = ap builtin_reply_of e
-
--- when a call falls due, there and back
-pub due-back : (x : DueTime) (y : Option ℕ) → x ≡ due_time_from y → option_of x ≡ y
-due-back x (some due) e = ap option_of e
-due-back x none e = ap option_of e

@@ -1,5 +1,5 @@
 -- Looking up parameters one by one, and the result as the code has it. Assumes nothing: these are definitions.
-use Rattle.std.specs.Prelude.{◌≡◌, true, List, [], ℕ}
+use Rattle.std.specs.Prelude.{◌≡◌, true, List, [], ℕ, ℤ, Option, Some, None, Result, Ok, Err}
 use Rattle.job.specs.Test.{for_all}
 use Rattle.job.specs.Syntax.{Param, variable, constant}
 use Rattle.model.specs.Machine.Blank.{token_at, cell_at, slot_at}
@@ -8,40 +8,43 @@ use Rattle.model.specs.Machine.Reply.{report_values}
 use Rattle.model.specs.Machine.Step.{LookUpResult, values, unset, and_then}
 use Rattle.model.specs.declared.token.Slot.{Slot}
 use Rattle.model.specs.declared.token.Slot.TheVariants as slots
-use Rattle.model.specs.declared.token.Bind.{Bind}
-use Rattle.model.specs.declared.token.Held.{Held}
-use Rattle.model.specs.declared.token.Held.TheVariants as helds
+use Rattle.model.specs.Machine.Held.{Held}
 use Rattle.model.specs.declared.cell.Cell.{Cell}
 use Rattle.model.specs.declared.record.Machine.{Machine}
-use Rattle.sites.specs.declared.look.Argument.{Argument}
-use Rattle.sites.specs.declared.look.Argument.TheVariants as arguments
-use Rattle.sites.specs.declared.look.LookUp.{LookUp}
+use Rattle.sites.specs.declared.look.UnsetCell.{UnsetCell}
 
-unfoldable pub held_found : ℕ → Held → Argument
-held_found c helds.Nothing = arguments.Unset c
-held_found c (helds.Value v) = arguments.Value v
+-- a parameter as the code finds it: its value, none where a variable is empty, or the unset cell where it is to come from
+abbrev pub Found : Type 0
+Found = Result (Option ℤ) UnsetCell
 
-unfoldable pub found_of : List Cell → Slot → Argument
-found_of cs slots.Empty = arguments.Nothing
-found_of cs (slots.Value v) = arguments.Value v
+abbrev pub unset_cell : ℕ → UnsetCell
+unset_cell c = record { 0 = c }
+
+unfoldable pub held_found : ℕ → Held → Found
+held_found c None = Err (unset_cell c)
+held_found c (Some v) = Ok (Some v)
+
+unfoldable pub found_of : List Cell → Slot → Found
+found_of cs slots.Empty = Ok None
+found_of cs (slots.Value v) = Ok (Some v)
 found_of cs (slots.Cell c) = held_found c (cell_at cs c).value
 
-unfoldable pub param_found : List Cell → List Bind → Param → Argument
+unfoldable pub param_found : List Cell → List Slot → Param → Found
 param_found cs bs (variable x) = found_of cs (slot_at bs x)
-param_found cs bs (constant v) = arguments.Value v
+param_found cs bs (constant v) = Ok (Some v)
 
 -- what is found first, then the rest
-unfoldable pub after : Argument → LookUpResult → LookUpResult
-after (arguments.Value v) l = and_then v l
-after (arguments.Unset c) l = unset c
-after arguments.Nothing l = values []
+unfoldable pub after : Found → LookUpResult → LookUpResult
+after (Ok (Some v)) l = and_then v l
+after (Ok None) l = values []
+after (Err c) l = unset c.0
 
--- a look-up's result: a place beyond the cells where all values are there
-unfoldable pub look_up_of : LookUpResult → LookUp
-look_up_of (values vs) = record { unset = 32; values = report_values vs }
-look_up_of (unset c) = record { unset = c; values = report_values [] }
+-- a look-up's result: all values, zeros behind them, or the first unset cell
+unfoldable pub look_up_of : LookUpResult → Result (List ℤ) UnsetCell
+look_up_of (values vs) = Ok (report_values vs)
+look_up_of (unset c) = Err (unset_cell c)
 
 -- the token's variables and the cells have values and places in range
 pub record LookFacts (m : Machine) (p : ℕ) : Type 0 where
-  pub slots : for_all (λ (b : Bind). slot_in_range 32 b.slot) (token_at m.tokens p).binds ≡ true
+  pub slots : for_all (slot_in_range 32) (token_at m.tokens p).binds ≡ true
   pub cells : for_all (λ (c : Cell). held_in_range c.value) m.cells ≡ true

@@ -1,13 +1,11 @@
 -- A node's row in the dag's array: the twelve words from an index on. Assumes nothing: these are definitions.
-use Rattle.std.specs.Prelude.{◌≡◌, true, List, [], ◌∷◌, ℕ, ◌+◌, ◌*◌, ◌<◌, ◌≤◌, length, get_or, take, drop}
+use Rattle.std.specs.Prelude.{◌≡◌, true, List, [], ◌∷◌, ℕ, ◌+◌, ◌*◌, ◌<◌, ◌≤◌, length, get_or, take, drop, Some, None}
 use Rattle.job.specs.Test.{for_all}
 use Rattle.job.specs.Node.{Node, dag_holds, param_holds}
 use Rattle.job.specs.Syntax.{Param}
 use Rattle.model.specs.Machine.Step.{formals_bound}
-use Rattle.model.specs.declared.token.Bind.{Bind}
-use Rattle.model.specs.declared.token.Held.TheVariants as helds
-use Rattle.model.specs.declared.token.Place.{Place}
-use Rattle.model.specs.declared.token.Place.TheVariants as places
+use Rattle.model.specs.declared.token.Slot.{Slot}
+use Rattle.model.specs.Machine.Held.{Place}
 use Rattle.model.specs.declared.token.State.TheVariants as states
 use Rattle.model.specs.declared.token.Token.{Token}
 use Rattle.job.specs.Words.{dag_of, head_words, params_from}
@@ -62,13 +60,13 @@ abbrev pub node_in : List ℕ → (at : ℕ) → (kind : ℕ) → Node
 node_in ws at kind = node_of_kind (get_or ws (at + 1) 0) (get_or ws (at + 2) 0) (get_or ws (at + 3) 0) (params_at ws at) kind
 
 -- the callee of a definition call by the token at p, in the cell q
-abbrev pub callee : (p : ℕ) → Place → List Bind → (root : ℕ) → List Param → Token
+abbrev pub callee : (p : ℕ) → Place → List Slot → (root : ℕ) → List Param → Token
 callee p q bs root ps =
     record {
       node = root;
       binds = formals_bound bs ps;
-      value = helds.Nothing;
-      caller = places.At p;
+      value = None;
+      caller = Some p;
       cell = q;
       state = states.Ready;
     }

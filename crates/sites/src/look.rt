@@ -14,57 +14,55 @@ use crate::number::signed;
 use job::dag::{PARAMETER_COUNT, PARAMETER_KIND, VARIABLE, WORDS};
 use job::wide::wide;
 use model::record::Machine;
-use record::layout::{CELL_PLACE_COUNT, EMPTY_SLOT, VALUE_SLOT};
+use record::layout::{EMPTY_SLOT, VALUE_SLOT};
 use record::{cell, token};
 
-// An argument: the parameter's value, or the unset cell where it is to come from.
+// A cell that has no value yet, by its number.
 #[derive(Clone, Copy)]
-enum Argument {
-    Value(i32),
-    Unset(u32),
-    Nothing,
-}
+pub struct UnsetCell(pub u32);
 
-// The first unset cell, or the number of places and the values in order (zeros behind them).
-#[derive(Clone, Copy)]
-pub struct LookUp {
-    pub unset: u32,
-    pub values: [i32; 4],
-}
-
-// A cell as an argument.
-fn cell_argument(w: &[u32; Machine::WORDS], number: u32) -> Argument
+// A cell's value, where there is such a cell.
+fn cell_argument(w: &[u32; Machine::WORDS], number: u32) -> Result<Option<i32>, UnsetCell>
     ensures { (m : Machine) → Codes w.now m → number < 32 → held_in_range (cell_at m.cells number).value ≡ true
         → result ≡ held_found number (cell_at m.cells number).value }
 {
     let c = wide(number);
     if Machine::CELLS <= c {
-        return Argument::Nothing;
+        return Ok(None);
     }
     if cell::value_kind(w, c) == 0 {
-        return Argument::Unset(number);
+        return Err(UnsetCell(number));
     }
-    Argument::Value(signed(cell::value(w, c)))
+    Ok(Some(signed(cell::value(w, c))))
 }
 
-// A variable as an argument.
-fn variable_argument(w: &[u32; Machine::WORDS], p: usize, x: usize) -> Argument
+// A variable's value, where it is bound.
+fn variable_argument(
+    w: &[u32; Machine::WORDS],
+    p: usize,
+    x: usize,
+) -> Result<Option<i32>, UnsetCell>
     requires { (p < 64) × (x < 8) }
     ensures { (m : Machine) → Codes w.now m → LookFacts m p → result ≡ found_of m.cells (slot_at (token_at m.tokens p).binds x) }
 {
     let kind = token::bind_kind(w, p, x);
     let number = token::bind_number(w, p, x);
     if kind == EMPTY_SLOT {
-        return Argument::Nothing;
+        return Ok(None);
     }
     if kind == VALUE_SLOT {
-        return Argument::Value(signed(number));
+        return Ok(Some(signed(number)));
     }
     cell_argument(w, number)
 }
 
-// The parameter whose kind stands at a word of the dag, and its number behind it.
-fn param_argument(w: &[u32; Machine::WORDS], dag: &[u32; WORDS], p: usize, at: usize) -> Argument
+// The value of the parameter whose kind stands at a word of the dag, and its number behind it.
+fn param_argument(
+    w: &[u32; Machine::WORDS],
+    dag: &[u32; WORDS],
+    p: usize,
+    at: usize,
+) -> Result<Option<i32>, UnsetCell>
     requires { (p < 64) × (at + 1 < 12331) × (param_holds (param_of (get_or dag.now at 0) (get_or dag.now (at + 1) 0)) ≡ true) }
     ensures { (m : Machine) → Codes w.now m → LookFacts m p
         → result ≡ param_found m.cells (token_at m.tokens p).binds
@@ -74,40 +72,27 @@ fn param_argument(w: &[u32; Machine::WORDS], dag: &[u32; WORDS], p: usize, at: u
     if dag[at] == VARIABLE {
         return variable_argument(w, p, wide(word));
     }
-    Argument::Value(signed(word))
+    Ok(Some(signed(word)))
 }
 
-// The parameters of the node whose row begins at a word of the dag.
-pub fn look_up(w: &[u32; Machine::WORDS], dag: &[u32; WORDS], p: usize, at: usize) -> LookUp
+// The values of the parameters of the node whose row begins at a word of the dag, in order and zeros behind them, or the first unset cell.
+pub fn look_up(
+    w: &[u32; Machine::WORDS],
+    dag: &[u32; WORDS],
+    p: usize,
+    at: usize,
+) -> Result<[i32; 4], UnsetCell>
     requires { (p < 64) × ParamsHold dag.now at }
     ensures { (m : Machine) → Codes w.now m → LookFacts m p
         → result ≡ look_up_of (look m.cells (token_at m.tokens p).binds (params_at dag.now at)) }
 {
     let count = wide(dag[at + PARAMETER_COUNT]);
-    let mut values = [0i32; 4];
-    let mut i: usize = 0;
-    while i < count {
-        match param_argument(w, dag, p, at + PARAMETER_KIND + 2 * i) {
-            Argument::Value(v) => {
-                values[i] = v;
-            }
-            Argument::Unset(c) => {
-                return LookUp {
-                    unset: c,
-                    values: [0; 4],
-                };
-            }
-            Argument::Nothing => {
-                return LookUp {
-                    unset: CELL_PLACE_COUNT,
-                    values,
-                };
-            }
-        }
-        i += 1;
+    let mut values = [0; 4];
+    for i in 0..count {
+        let Some(v) = param_argument(w, dag, p, at + PARAMETER_KIND + 2 * i)? else {
+            break;
+        };
+        values[i] = v;
     }
-    LookUp {
-        unset: CELL_PLACE_COUNT,
-        values,
-    }
+    Ok(values)
 }

@@ -6,20 +6,12 @@ ghost use Rattle.job.specs.Number as Number;
 pub fn signed(word: u32) -> i32
     ensures { result ≡ Number.signed word }
 {
-    if word < 2147483648 {
-        return word as i32;
-    }
-    let under = 4294967295 - word;
-    -1 - (under as i32)
+    word.cast_signed()
 }
 
 // A signed number's 32 bits.
 pub fn unsigned(v: i32) -> u32
     ensures { result ≡ Number.unsigned v }
 {
-    if v < 0 {
-        let under = (-(v as i64)) as u32 - 1;
-        return 4294967295 - under;
-    }
-    v as u32
+    v.cast_unsigned()
 }

@@ -6,7 +6,7 @@ ghost use Rattle.model.specs.Machine.Blank.{blank_token, token_at};
 ghost use Rattle.model.specs.Machine.Update.{with_node, with_state, with_binding, put, enqueue, new_token};
 ghost use Rattle.model.specs.Machine.Step.{passed, formals_bound};
 ghost use Rattle.model.specs.declared.record.Machine.{Machine};
-ghost use Rattle.model.specs.declared.token.Place.{Place};
+ghost use Rattle.model.specs.Machine.Held.{Place};
 ghost use Rattle.model.specs.declared.token.State.TheVariants as states;
 ghost use Rattle.model.specs.declared.token.Token.{Token};
 ghost use Rattle.record.specs.Changes.{dequeued, with_binds};
@@ -19,7 +19,7 @@ use job::wide::wide;
 use model::record::Machine;
 use record::count::set_last_token;
 use record::layout::{FRAME_STATE, READY_STATE, VALUE_SLOT};
-use record::order::replace;
+use record::order::{Queue, replace};
 use record::token::{
     bind_kind, bind_number, cell, set_bind, set_caller, set_cell, set_node, set_state,
 };
@@ -30,7 +30,7 @@ use writes::dag::dag_word;
 fn pass(w: &mut [u32; Machine::WORDS], p: usize, new: usize, i: usize, kind: u32, number: u32)
     requires { (p < 64) × (new < 64) × (i < 8) × (param_holds (param_of kind number) ≡ true) }
     ensures { (m : Machine) (t : Token) → Holds w.old (put new t m) → (p ≡ new → ⊥)
-        → Holds w.new (put new (with_binding i (passed (token_at m.tokens p).binds (param_of kind number)).slot t) m) }
+        → Holds w.new (put new (with_binding i (passed (token_at m.tokens p).binds (param_of kind number)) t) m) }
 {
     if kind == VARIABLE {
         let x = wide(number);
@@ -90,15 +90,14 @@ pub fn written(
     next: u32,
 )
     requires { (actor.token < 64) × (new < 64) × ParamsHold dag.now actor.row }
-    ensures { let p = actor.token in (m : Machine) → Holds w.old m → actor.place < m.queued → (p ≡ new → ⊥)
-        → token_at m.tokens new ≡ blank_token
+    ensures { let p = actor.token in (m : Machine) → Holds w.old m → actor.place < m.queued → (p ≡ new → ⊥) → token_at m.tokens new ≡ blank_token
         → Holds w.new
         (enqueue new (new_token new
         (callee p (token_at m.tokens p).cell (token_at m.tokens p).binds root (params_at dag.now actor.row))
         (put p (with_node next (with_state states.Frame (token_at m.tokens p))) (dequeued m actor.place)))) }
 {
     let home = cell(w, actor.token);
-    replace(w, actor.place, new as u32);
+    replace::<Queue>(w, actor.place, new as u32);
     set_state(w, actor.token, FRAME_STATE, 0);
     set_node(w, actor.token, next);
     put_callee(w, dag, actor, new, root, home);

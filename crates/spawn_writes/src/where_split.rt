@@ -13,7 +13,7 @@ use model::record::Machine;
 use record::cell::put_unset;
 use record::count::{set_last_cell, set_last_token};
 use record::layout::CELL_SLOT;
-use record::order::{join, replace};
+use record::order::{Queue, join, replace};
 use record::token::{cell, copy, set_bind, set_cell, set_node};
 use writes::actor::Actor;
 
@@ -57,10 +57,10 @@ pub fn written(
         (put p (with_node branches.left (with_binding x (slots.Cell c) (token_at m.tokens p))) (dequeued m actor.place)))))) }
 {
     let parent = cell(w, actor.token);
-    replace(w, actor.place, actor.token as u32);
+    replace::<Queue>(w, actor.place, actor.token as u32);
     split_tokens(w, actor, new, c, x, branches);
     set_last_token(w, new as u32);
     put_unset(w, c, parent);
     set_last_cell(w, c as u32);
-    join(w, new as u32);
+    join::<Queue>(w, new as u32);
 }

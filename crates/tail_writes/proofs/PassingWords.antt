@@ -10,7 +10,7 @@ use lib.Seq.{take_all, drop-length, paste, paste-suc}
 use Rattle.model.specs.Machine.Blank.{empty}
 use Rattle.model.specs.Machine.Update.{put}
 use Rattle.model.specs.declared.record.Machine.{Machine}
-use Rattle.model.specs.declared.token.Bind.{Bind}
+use Rattle.model.specs.declared.token.Slot.{Slot}
 use Rattle.model.specs.declared.token.Token.{Token}
 use Rattle.model.specs.Machine.Step.{formals_bound}
 use Rattle.sites.specs.Row.{ParamsHold, params_at}
@@ -28,30 +28,30 @@ map-set f (y ∷ l) zero x = refl
 map-set f (y ∷ l) (suc i) x = ap (◌∷◌ (f y)) (map-set f l i x)
 
 -- none is read yet
-pub none_read : {ks ns : List ℕ} (bs : List Bind) → ks ≡ replicate 8 0 → ns ≡ replicate 8 0 → SlotWords ks ns (formals_bound bs [])
+pub none_read : {ks ns : List ℕ} (bs : List Slot) → ks ≡ replicate 8 0 → ns ≡ replicate 8 0 → SlotWords ks ns (formals_bound bs [])
 none_read bs e f = record { kinds = e ∙ ap kind_words (none-bound bs []); numbers = f ∙ ap number_words (none-bound bs []) }
 
 -- one more is read
-pub slot_read : {ks ns : List ℕ} {bs cs : List Bind} (i k n : ℕ) (b : Bind) → SlotWords ks ns bs → k ≡ slot_kind b.slot
-    → n ≡ slot_number b.slot → set bs i b ≡ cs → SlotWords (set ks i k) (set ns i n) cs
+pub slot_read : {ks ns : List ℕ} {bs cs : List Slot} (i k n : ℕ) (b : Slot) → SlotWords ks ns bs → k ≡ slot_kind b
+    → n ≡ slot_number b → set bs i b ≡ cs → SlotWords (set ks i k) (set ns i n) cs
 slot_read {ks} {ns} {bs} {cs} i k n b o e f s =
     record {
       kinds =
-          ap₂ (λ xs x. set xs i x) o.kinds e ∙ sym (map-set (λ (b : Bind). slot_kind b.slot) bs i b) ∙ ap kind_words s;
+          ap₂ (λ xs x. set xs i x) o.kinds e ∙ sym (map-set slot_kind bs i b) ∙ ap kind_words s;
       numbers =
-          ap₂ (λ xs x. set xs i x) o.numbers f ∙ sym (map-set (λ (b : Bind). slot_number b.slot) bs i b) ∙ ap number_words s;
+          ap₂ (λ xs x. set xs i x) o.numbers f ∙ sym (map-set slot_number bs i b) ∙ ap number_words s;
     }
 
 -- the words of one
-module _ {ks ns : List ℕ} {bs : List Bind} (o : SlotWords ks ns bs) (x : ℕ) where
-  pub kind_at : slot_kind (get_or bs x empty).slot ≡ get_or ks x 0
-  kind_at = sym (ap (λ l. get_or l x 0) o.kinds ∙ get_or-map (λ (b : Bind). slot_kind b.slot) bs x empty)
+module _ {ks ns : List ℕ} {bs : List Slot} (o : SlotWords ks ns bs) (x : ℕ) where
+  pub kind_at : slot_kind (get_or bs x empty) ≡ get_or ks x 0
+  kind_at = sym (ap (λ l. get_or l x 0) o.kinds ∙ get_or-map slot_kind bs x empty)
 
-  pub number_at : slot_number (get_or bs x empty).slot ≡ get_or ns x 0
-  number_at = sym (ap (λ l. get_or l x 0) o.numbers ∙ get_or-map (λ (b : Bind). slot_number b.slot) bs x empty)
+  pub number_at : slot_number (get_or bs x empty) ≡ get_or ns x 0
+  number_at = sym (ap (λ l. get_or l x 0) o.numbers ∙ get_or-map slot_number bs x empty)
 
 -- one more is written over the old ones
-module _ (old bs : List Bind) (long : length old ≡ 8) (size : length bs ≡ 8) where
+module _ (old bs : List Slot) (long : length old ≡ 8) (size : length bs ≡ 8) where
   pub bound-on : (x : ℕ) → x < 8 → set (paste old 0 bs x) x (get_or bs x empty) ≡ paste old 0 bs (x + 1)
   bound-on x l =
       let z : x ≡ 0 + x = omega arith in
@@ -67,7 +67,7 @@ pub binds-long : {ws : List ℕ} (m : Machine) (p : ℕ) (t : Token) → Holds w
 binds-long m p t h l = sym (ap (λ (u : Token). length u.binds) (put_same m p t h l)) ∙ (shaped h).binds p
 
 -- the formals and the empty variables behind them
-pub formals-long : {ws : List ℕ} {at : ℕ} → ParamsHold ws at → (bs : List Bind) → length (formals_bound bs (params_at ws at)) ≡ 8
+pub formals-long : {ws : List ℕ} {at : ℕ} → ParamsHold ws at → (bs : List Slot) → length (formals_bound bs (params_at ws at)) ≡ 8
 unfolding formals_bound
 formals-long {ws} {at} o bs =
     let n : length (params_at ws at) ≡ get_or ws (at + 3) 0 = params-count ws at o.size o.inside o.few in

@@ -6,7 +6,7 @@ ghost use Rattle.model.specs.Machine.Blank.{token_at};
 ghost use Rattle.model.specs.Machine.Update.{put};
 ghost use Rattle.model.specs.Machine.Step.{passed, formals_bound};
 ghost use Rattle.model.specs.declared.record.Machine.{Machine};
-ghost use Rattle.model.specs.declared.token.Bind.{Bind};
+ghost use Rattle.model.specs.declared.token.Slot.{Slot};
 ghost use Rattle.model.specs.declared.token.Token.{Token};
 ghost use Rattle.record.specs.Changes.{with_binds};
 ghost use Rattle.record.specs.Holds.{Codes, Holds};
@@ -26,7 +26,7 @@ use writes::dag::dag_word;
 fn passed_kind(w: &[u32; Machine::WORDS], p: usize, kind: u32, number: u32) -> u32
     requires { (p < 64) × (param_holds (param_of kind number) ≡ true) }
     ensures { (m : Machine) → Codes w.now m
-        → result ≡ slot_kind (passed (token_at m.tokens p).binds (param_of kind number)).slot }
+        → result ≡ slot_kind (passed (token_at m.tokens p).binds (param_of kind number)) }
 {
     if kind == VARIABLE {
         return bind_kind(w, p, wide(number));
@@ -38,7 +38,7 @@ fn passed_kind(w: &[u32; Machine::WORDS], p: usize, kind: u32, number: u32) -> u
 fn passed_number(w: &[u32; Machine::WORDS], p: usize, kind: u32, number: u32) -> u32
     requires { (p < 64) × (param_holds (param_of kind number) ≡ true) }
     ensures { (m : Machine) → Codes w.now m
-        → result ≡ slot_number (passed (token_at m.tokens p).binds (param_of kind number)).slot }
+        → result ≡ slot_number (passed (token_at m.tokens p).binds (param_of kind number)) }
 {
     if kind == VARIABLE {
         return bind_number(w, p, wide(number));
@@ -78,7 +78,7 @@ pub(crate) fn bind_slots(
     numbers: &[u32; 8],
 )
     requires { p < 64 }
-    ensures { (m : Machine) (t : Token) (bs : List Bind) → Holds w.old (put p t m) → length bs ≡ 8
+    ensures { (m : Machine) (t : Token) (bs : List Slot) → Holds w.old (put p t m) → length bs ≡ 8
         → SlotWords kinds.now numbers.now bs → Holds w.new (put p (with_binds bs t) m) }
 {
     let mut x: usize = 0;

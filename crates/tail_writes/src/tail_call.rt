@@ -12,12 +12,17 @@ ghost use Rattle.sites.specs.Row.{ParamsHold, params_at};
 use crate::passing::{bind_slots, passed_slots};
 use job::dag::WORDS;
 use model::record::Machine;
-use record::order::replace;
+use record::order::{Queue, replace};
 use record::token::{set_node, set_value};
 use writes::actor::Actor;
 
 // "with no value and only its formals bound": caller, cell and state stay.
-pub fn written(w: &mut [u32; Machine::WORDS], dag: &[u32; WORDS], actor: Actor, root: u32)
+pub fn written(
+    w: &mut [u32; Machine::WORDS],
+    dag: &[u32; WORDS],
+    actor: Actor,
+    root: u32,
+)
     requires { (actor.token < 64) × ParamsHold dag.now actor.row }
     ensures { let p = actor.token in (m : Machine) → Holds w.old m → actor.place < m.queued → (token_at m.tokens p).state ≡ states.Ready
         → Holds w.new
@@ -28,7 +33,7 @@ pub fn written(w: &mut [u32; Machine::WORDS], dag: &[u32; WORDS], actor: Actor, 
     let mut kinds = [0u32; 8];
     let mut numbers = [0u32; 8];
     passed_slots(w, dag, actor, &mut kinds, &mut numbers);
-    replace(w, actor.place, actor.token as u32);
+    replace::<Queue>(w, actor.place, actor.token as u32);
     bind_slots(w, actor.token, &kinds, &numbers);
     set_value(w, actor.token, 0, 0);
     set_node(w, actor.token, root);

@@ -1,12 +1,13 @@
 -- What a turn leaves in lent words: the delivery's or the step's outcome is the turn's. Assumes nothing.
-use mathlib.Core.Path.{◌≡◌, refl, sym, ◌∙◌, ap, subst}
-use mathlib.Core.Bool.{Bool, true, false}
+use mathlib.Core.Path.{◌≡◌, refl, sym, subst}
+use mathlib.Core.Bool.{Bool}
 use mathlib.Core.List.{List}
 use Prim.Native.Nat.{ℕ, ◌+◌}
 use native.Mathlib.Decide.{ℕ_discrete}
 use native.Mathlib.Omega.{arith}
 use lib.IntN.{ℤ}
 use lib.ListN.{take, drop}
+use Rattle.std.specs.Prelude.{Result, Ok, Err, IfErr}
 use Rattle.job.specs.Number.{number, signed}
 use Rattle.job.specs.Words.{dag_of}
 use Rattle.model.specs.Machine.Limits.{paper}
@@ -16,13 +17,15 @@ use Rattle.model.specs.Machine.Clock as Clock
 use Rattle.model.specs.Output.Orcrun.{clock_handle, delivered}
 use Rattle.model.specs.declared.record.Machine.{Machine}
 use Rattle.model.specs.declared.reply.Outcome.{Outcome}
+use Rattle.model.specs.declared.reply.Refusal.{Refusal}
+use Rattle.model.specs.declared.reply.Refusal.TheVariants as refusals
 use Rattle.model.specs.declared.reply.Report.{Report}
 use Rattle.reach.specs.Marks.{BlankFrom}
 use Rattle.model.proofs.Run.Printing.{moves-clock, answers}
-use Rattle.acts.specs.Acting.{Lawful, QueueHasToken, Gives, answer_report, advance_report}
+use Rattle.acts.specs.Acting.{Lawful, QueueHasToken, Gives, call_report}
 use Rattle.acts.specs.SharedFrames.{OneCallee, Stepped}
 use Rattle.acts.proofs.CalleeSteps.{answer_keeps, advance-keeps}
-use Rattle.turns.specs.Turn.{turn_outcome, delivery_report}
+use Rattle.turns.specs.Turn.{turn_outcome, IsDelivery, taken, not_open, wrong_time}
 use Rattle.reach.specs.declared.used.Marks.{Marks}
 use Rattle.turns.proofs.TurnCases.{turn-empty, turn-ready}
 
@@ -38,39 +41,33 @@ pub delivers-as : {ws after : List ℕ} {end : ℕ} {r : Report} {h k v n : ℕ}
 delivers-as {ws} {after} {end} {r} {h} {n = n} same word gives =
     subst (λ (i : ℕ). Delivers ws after end r i n) same (subst (λ (i : ℕ). Delivers ws after end r h i) word gives)
 
--- the two reports as numbers
-pub of-clock : (b : Bool) {n : ℕ} → n ≡ elim b as (λ b. ℕ) [ true ↦ 0 | false ↦ 15 ] → advance_report b ≡ delivery_report n
-unfolding delivery_report
-of-clock true e = rw e refl
-of-clock false e = rw e refl
-
-pub of-answer : (b : Bool) {n : ℕ} → n ≡ elim b as (λ b. ℕ) [ true ↦ 0 | false ↦ 12 ] → answer_report b ≡ delivery_report n
-unfolding delivery_report
-of-answer true e = rw e refl
-of-answer false e = rw e refl
-
 -- with the clock's handle the time is told, with any other an answer is
-module _ {ws after : List ℕ} {end : ℕ} {h : ℕ} (v : ℕ) where
-  pub delivers-time : {b : Bool} (x : Bool)
-      → ((m : Machine) (dag : List ℕ) (used : Marks) → Lawful ws used dag m
-      → Gives (Clock.advance paper (dag_of dag) m v) m after used (advance_report b))
-      → h ≡ clock_handle → b ≡ x → {n : ℕ} → n ≡ elim x as (λ b. ℕ) [ true ↦ 0 | false ↦ 15 ]
-      → Delivers ws after end (delivery_report n) h v
-  delivers-time {b} x gives e same number m dag used lawful blank =
-      subst (λ (r : Report). Gives (delivered paper (dag_of dag) m h v) m after used r) (ap advance_report same ∙ of-clock x number)
-      (subst (λ (o : Outcome). Gives o m after used (advance_report b)) (sym (moves-clock paper (dag_of dag) m h v e))
-      (gives m dag used lawful))
+module _ {ws after : List ℕ} {end : ℕ} {h : ℕ} (v : ℕ) (r : Result Unit Refusal) where
+  pub delivers-time :
+      ((m : Machine) (dag : List ℕ) (used : Marks) → Lawful ws used dag m
+      → Gives (Clock.advance paper (dag_of dag) m v) m after used (call_report r))
+      → h ≡ clock_handle → Delivers ws after end (call_report r) h v
+  delivers-time gives e m dag used lawful blank =
+      subst (λ (o : Outcome). Gives o m after used (call_report r)) (sym (moves-clock paper (dag_of dag) m h v e))
+      (gives m dag used lawful)
 
-  pub delivers-answer : {b : Bool} {u z : ℤ} (x : Bool)
+  pub delivers-answer : {u : ℤ}
       → ((m : Machine) (dag : List ℕ) (used : Marks) → Lawful ws used dag m → BlankFrom m end
-      → Gives (Answer.answer paper (dag_of dag) m h u) m after used (answer_report b))
-      → u ≡ z → z ≡ signed v → (h ≡ clock_handle → ⊥) → b ≡ x → {n : ℕ} → n ≡ elim x as (λ b. ℕ) [ true ↦ 0 | false ↦ 12 ]
-      → Delivers ws after end (delivery_report n) h v
-  delivers-answer {b} x gives e is other same number m dag used lawful blank =
-      subst (λ (r : Report). Gives (delivered paper (dag_of dag) m h v) m after used r) (ap answer_report same ∙ of-answer x number)
-      (subst (λ (o : Outcome). Gives o m after used (answer_report b)) (sym (answers paper (dag_of dag) m h v other))
-      (subst (λ (z : ℤ). Gives (Answer.answer paper (dag_of dag) m h z) m after used (answer_report b)) (e ∙ is)
-      (gives m dag used lawful blank)))
+      → Gives (Answer.answer paper (dag_of dag) m h u) m after used (call_report r))
+      → u ≡ signed v → (h ≡ clock_handle → ⊥) → Delivers ws after end (call_report r) h v
+  delivers-answer gives is other m dag used lawful blank =
+      subst (λ (o : Outcome). Gives o m after used (call_report r)) (sym (answers paper (dag_of dag) m h v other))
+      (subst (λ (z : ℤ). Gives (Answer.answer paper (dag_of dag) m h z) m after used (call_report r)) is
+      (gives m dag used lawful blank))
+
+-- what may be refused
+pub time-delivery : (r : Result Unit Refusal) → IfErr r (λ e. e ≡ refusals.WrongTime) → IsDelivery r
+time-delivery (Ok tt) k = taken
+time-delivery (Err e) k = subst (λ e. IsDelivery (Err e)) (sym k) wrong_time
+
+pub answer-delivery : (r : Result Unit Refusal) → IfErr r (λ e. e ≡ refusals.NotOpen) → IsDelivery r
+answer-delivery (Ok tt) k = taken
+answer-delivery (Err e) k = subst (λ e. IsDelivery (Err e)) (sym k) not_open
 
 -- no record that is delivered gives a token a second callee
 delivery-keeps : (s : List Bool) (dag : List ℕ) (m : Machine) (h v : ℕ) → OneCallee s m

@@ -1,17 +1,17 @@
 -- One turn of a house run, by how many tokens are in the queue before it. Assumes nothing: these are definitions.
-use Rattle.std.specs.Prelude.{Bool, true, false, List, ℕ, suc, ◌+◌, take, drop, eqb, ltb}
+use Rattle.std.specs.Prelude.{Bool, true, false, List, ℕ, suc, ◌+◌, take, drop, eqb, ltb, Result, Ok, Err}
 use Rattle.job.specs.Number.{number}
 use Rattle.job.specs.Node.{Dag}
 use Rattle.model.specs.Machine.Limits.{paper}
-use Rattle.model.specs.Machine.Reply.{is_refused, refusal_of}
+use Rattle.model.specs.Machine.Reply.{is_refused}
 use Rattle.model.specs.Machine.Step as Step
 use Rattle.model.specs.Output.Orcrun.{delivered}
 use Rattle.model.specs.declared.record.Machine.{Machine}
+use Rattle.model.specs.declared.reply.Refusal.{Refusal}
+use Rattle.model.specs.declared.reply.Refusal.TheVariants as refusals
 use Rattle.model.specs.declared.reply.Reply.{Reply}
 use Rattle.model.specs.declared.reply.Reply.TheVariants as replies
 use Rattle.model.specs.declared.reply.Outcome.{Outcome}
-use Rattle.model.specs.declared.reply.Report.{Report}
-use Rattle.acts.specs.Acting.{plain}
 
 -- no token is ready, and fewer bytes are left than a record has
 unfoldable pub is_last : (queued left : ℕ) → Bool
@@ -41,15 +41,11 @@ turn_outcome d m rest at =
       | false ↦ Step.step paper d m 0
     ]
 
--- what a delivery reports, by its number: 0 where it was accepted, else that of the refusal
-unfoldable pub delivery_report : (number : ℕ) → Report
-delivery_report n = elim (eqb n 0) [ true ↦ plain replies.Done | false ↦ plain (replies.Refused (refusal_of n)) ]
-
 -- a record is taken, or refused with 12 or 15
-pub data IsDeliveryNumber : ℕ → Type 0 where
-  taken : IsDeliveryNumber 0
-  not_open : IsDeliveryNumber 12
-  wrong_time : IsDeliveryNumber 15
+pub data IsDelivery : Result Unit Refusal → Type 0 where
+  taken : IsDelivery (Ok tt)
+  not_open : IsDelivery (Err refusals.NotOpen)
+  wrong_time : IsDelivery (Err refusals.WrongTime)
 
 -- "8-byte records": the one that was delivered is behind
 unfoldable pub next_at : (queued at : ℕ) → ℕ

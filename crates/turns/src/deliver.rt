@@ -6,13 +6,13 @@ ghost use Rattle.job.specs.Number.{number};
 ghost use Rattle.model.specs.Output.Orcrun.{delivered};
 ghost use Rattle.model.specs.declared.record.Machine.{Machine};
 ghost use Rattle.reach.specs.Marks.{BlankFrom};
-ghost use Rattle.acts.specs.Acting.{Lawful, Gives};
-ghost use Rattle.turns.specs.Turn.{delivery_report, IsDeliveryNumber};
+ghost use Rattle.acts.specs.Acting.{Lawful, Gives, call_report};
+ghost use Rattle.turns.specs.Turn.{IsDelivery};
 ghost use Rattle.reach.specs.declared.used.Marks.{Marks};
 
 use entries::entry::word_at;
 use model::record::Machine;
-use model::reply::{Refusal, number_of};
+use model::reply::Refusal;
 use sites::number::signed;
 use unchecked::advance::move_to;
 use unchecked::answer::resume;
@@ -20,25 +20,23 @@ use unchecked::answer::resume;
 // "A record with handle 4294967295 names the time."
 const CLOCK_HANDLE: u32 = 4294967295;
 
-// Delivers the record at an index: "handle and signed value, each little-endian", or the time. Answers 0, or the number of the refusal.
-// From the end on no token is in use.
-pub fn deliver(w: &mut [u32; Machine::WORDS], rest: &[u8], at: usize, end: usize) -> u8
+// Delivers the record at an index: "handle and signed value, each little-endian", or the time. From the end on no token is in use.
+pub fn deliver(
+    w: &mut [u32; Machine::WORDS],
+    rest: &[u8],
+    at: usize,
+    end: usize,
+) -> Result<(), Refusal>
     requires { (at + 8 ≤ length rest.now) × (end ≤ 64) }
     ensures gives { (m : Machine) (dag : List ℕ) (used : Marks) → Lawful w.old used dag m → BlankFrom m end
         → Gives (delivered paper (dag_of dag) m (number (take 4 (drop at rest.now)))
-        (number (take 4 (drop (at + 4) rest.now)))) m w.new used (delivery_report result) }
-    ensures delivery_number { IsDeliveryNumber result }
+        (number (take 4 (drop (at + 4) rest.now)))) m w.new used (call_report result) }
+    ensures delivery { IsDelivery result }
 {
     let handle = word_at(rest, at);
     let value = word_at(rest, at + 4);
     if handle == CLOCK_HANDLE {
-        if move_to(w, value) {
-            return 0;
-        }
-        return number_of(Refusal::WrongTime);
+        return move_to(w, value);
     }
-    if resume(w, handle, signed(value), end) {
-        return 0;
-    }
-    number_of(Refusal::NotOpen)
+    resume(w, handle, signed(value), end)
 }

@@ -5,26 +5,16 @@ ghost use Rattle.turns.specs.Turn.{has_line};
 
 use model::reply::Reply;
 
+#[tactic(auto, unfolding(model::specs::Machine::Reply::is_refused))]
 pub fn is_refused(reply: Reply) -> bool
     ensures { result ≡ is_refused reply }
 {
-    match reply {
-        Reply::Done => false,
-        Reply::Waits => false,
-        Reply::Published(_) => false,
-        Reply::Called(_, _, _) => false,
-        Reply::Refused(_) => true,
-    }
+    matches!(reply, Reply::Refused(_))
 }
 
+#[tactic(auto, unfolding(crate::specs::Turn::has_line))]
 pub fn has_line(reply: Reply) -> bool
     ensures { result ≡ has_line reply }
 {
-    match reply {
-        Reply::Done => false,
-        Reply::Waits => false,
-        Reply::Published(_) => true,
-        Reply::Called(_, _, _) => true,
-        Reply::Refused(_) => true,
-    }
+    !matches!(reply, Reply::Done | Reply::Waits)
 }

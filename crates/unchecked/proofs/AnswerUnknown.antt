@@ -5,6 +5,7 @@ use mathlib.Core.List.{List, [], ◌∷◌}
 use Prim.Native.Nat.{ℕ, suc, ◌≤◌}
 use native.Mathlib.Omega.{arith}
 use lib.Dec.{eqb}
+use Rattle.std.specs.Prelude.{None}
 use Rattle.job.specs.Node.{Dag}
 use Rattle.job.specs.Test.{◌or◌, for_all, for_some}
 use Rattle.model.specs.Machine.Answer.{holder}
@@ -12,7 +13,6 @@ use Rattle.model.specs.Machine.Limits.{paper}
 use Rattle.model.specs.Machine.Rules.{state_in_range, token_in_range, rules_hold}
 use Rattle.model.specs.Machine.State.{handle_of}
 use Rattle.model.specs.declared.record.Machine.{Machine}
-use Rattle.model.specs.declared.token.Place.TheVariants as places
 use Rattle.model.specs.declared.token.State.{State}
 use Rattle.model.specs.declared.token.State.TheVariants as states
 use Rattle.model.specs.declared.token.Token.{Token}
@@ -33,12 +33,12 @@ module _ (d : Dag) (calls h : ℕ) (l : calls ≤ h) where
   unfolding token_in_range
   state-range t e = and_right _ _ (and_right _ _ (and_right _ _ (and_right _ _ (and_right _ _ (and_right _ _ e)))))
 
-  none_open : (i : ℕ) (ts : List Token) → for_all (token_in_range paper d calls) ts ≡ true → holder h i ts ≡ places.Nowhere
+  none_open : (i : ℕ) (ts : List Token) → for_all (token_in_range paper d calls) ts ≡ true → holder h i ts ≡ None
   unfolding holder
   none_open i [] e = refl
   none_open i (t ∷ ts) e =
       rw (not-open h calls t.state (state-range t (all_head (token_in_range paper d calls) t ts e)) l, holder)
       (none_open (suc i) ts (all_tail (token_in_range paper d calls) t ts e))
 
-pub unknown-handle : (d : Dag) (m : Machine) (h : ℕ) → rules_hold paper d m ≡ true → m.calls ≤ h → holder h 0 m.tokens ≡ places.Nowhere
+pub unknown-handle : (d : Dag) (m : Machine) (h : ℕ) → rules_hold paper d m ≡ true → m.calls ≤ h → holder h 0 m.tokens ≡ None
 unknown-handle d m h rules l = none_open d m.calls h l 0 m.tokens (each-rule-holds paper d m rules).tokens

@@ -6,6 +6,7 @@ use mathlib.Core.List.{List, [], ◌∷◌}
 use Prim.Native.Nat.{ℕ, zero, suc, ◌-◌, ◌<◌, ◌≤◌}
 use native.Mathlib.Omega.{arith}
 use lib.ListN.{length, get_or, set}
+use Rattle.std.specs.Prelude.{Some, None}
 use Rattle.job.specs.Words.{dag_of}
 use Rattle.model.specs.Machine.Blank.{token_at}
 use Rattle.model.specs.Machine.InUse.{tokens_used}
@@ -14,8 +15,7 @@ use Rattle.model.specs.Machine.State.{is_ready}
 use Rattle.model.specs.Machine.Step as Step
 use Rattle.model.specs.declared.record.Machine.{Machine}
 use Rattle.model.specs.declared.reply.Report.{Report}
-use Rattle.model.specs.declared.token.Place.{Place}
-use Rattle.model.specs.declared.token.Place.TheVariants as places
+use Rattle.model.specs.Machine.Held.{Place}
 use Rattle.job.proofs.Test.{clash}
 use Rattle.demand3.proofs.Unblanked.{rules-clean}
 use Rattle.record.specs.Layout.{place_number}
@@ -36,18 +36,18 @@ set-outside (x ∷ s) (suc f) b l = ap (λ (u : List Bool). x ∷ u) (set-outsid
 -- one more callee, by the number of the caller's place
 pub shared-none : (q : Place) (n : ℕ) (s : List Bool) → n ≡ place_number q → n ≤ 0 → s ≡ caller_shared q s
 unfolding caller_shared
-shared-none places.Nowhere n s e l = refl
-shared-none (places.At f) n s e l = absurd (omega arith)
+shared-none None n s e l = refl
+shared-none (Some f) n s e l = absurd (omega arith)
 
 pub shared-far : (q : Place) (n : ℕ) (s : List Bool) → n ≡ place_number q → 64 < n → length s ≡ 64 → s ≡ caller_shared q s
 unfolding caller_shared
-shared-far places.Nowhere n s e l k = absurd (omega arith)
-shared-far (places.At f) n s e l k = set-outside s f true (omega arith)
+shared-far None n s e l k = absurd (omega arith)
+shared-far (Some f) n s e l k = set-outside s f true (omega arith)
 
 pub shared_at : (q : Place) (n : ℕ) (s : List Bool) → n ≡ place_number q → 0 < n → set s (n - 1) true ≡ caller_shared q s
 unfolding caller_shared
-shared_at places.Nowhere n s e l = absurd (omega arith)
-shared_at (places.At f) n s e l = let z : n - 1 ≡ f = omega arith in ap (λ k. set s k true) z
+shared_at None n s e l = absurd (omega arith)
+shared_at (Some f) n s e l = let z : n - 1 ≡ f = omega arith in ap (λ k. set s k true) z
 
 -- a return, by its frame's mark
 module _ (m : Machine) (f : ℕ) (s : List Bool) where
@@ -119,13 +119,11 @@ where-leaves s s' {dag = dag} {actor = actor} {m = m} a one g e =
 pub return-leaves : (s s' : List Bool) {ws dag after : List ℕ} {used used' : Marks} {actor : Actor} {m : Machine}
     {r : Report}
     → Acting ws used dag actor 8 m → OneCallee s m → GivesStep dag actor.place m after used' r
-    → (f : ℕ) → f < 64 → (token_at m.tokens actor.token).caller ≡ places.At f → s' ≡ return_shared m f s
-    → Leaves dag actor.place m after used' r s'
+    → (f : ℕ) → f < 64 → (token_at m.tokens actor.token).caller ≡ Some f → s' ≡ return_shared m f s → Leaves dag actor.place m after used' r s'
 return-leaves s s' {dag = dag} {actor = actor} {m = m} a one g f l caller e =
     record {
       gives = g;
       callees =
           λ framed.
-          subst (λ (u : List Bool). OneCallee u (Step.step paper (dag_of dag) m actor.place).machine) (sym e)
-          (return-keeps a f l caller s one);
+          subst (λ (u : List Bool). OneCallee u (Step.step paper (dag_of dag) m actor.place).machine) (sym e) (return-keeps a f l caller s one);
     }

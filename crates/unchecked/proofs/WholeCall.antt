@@ -7,6 +7,8 @@ use Prim.Native.Nat.{ℕ, ◌<◌, ◌≤◌}
 use native.Mathlib.Omega.{arith}
 use lib.ListN.{length, get_or, set, replicate}
 use lib.IntN.{ℤ}
+use Rattle.std.specs.Prelude.{Result, Ok, Err}
+use Rattle.std.proofs.lemmas.Result.{IfErr-at_err}
 use Rattle.job.specs.Test.{padded}
 use Rattle.job.specs.Words.{dag_of}
 use Rattle.model.specs.Machine.Active.{upward, under_set, is_active}
@@ -22,23 +24,22 @@ use Rattle.model.specs.Machine.Start.{start_token, start_machine}
 use Rattle.model.specs.Machine.State.{is_live}
 use Rattle.model.specs.Machine.Update.{queue_of, waits_of, timers_of}
 use Rattle.model.specs.declared.record.Machine.{Machine}
-use Rattle.model.specs.declared.reply.Outcome.{Outcome}
-use Rattle.model.specs.declared.reply.Report.{Report}
+use Rattle.model.specs.declared.reply.Refusal.{Refusal}
+use Rattle.model.specs.declared.reply.Refusal.TheVariants as refusals
 use Rattle.model.specs.declared.reply.Reply.TheVariants as replies
-use Rattle.model.specs.declared.token.Place.{Place}
-use Rattle.model.specs.declared.token.Place.TheVariants as places
+use Rattle.model.specs.Machine.Held.{Place}
 use Rattle.model.specs.declared.token.Token.{Token}
 use Rattle.job.proofs.Test.{clash}
 use Rattle.demand3.proofs.Carried.{Carried, answered-carried}
 use Rattle.record.specs.Layout.{words_of}
 use Rattle.record.specs.Holds.{Holds}
 use Rattle.record.proofs.HoldsShape.{binds-after, queue-fits}
-use Rattle.sites.specs.Answer.{answered_by, Answered}
+use Rattle.sites.specs.Answer.{answered_by, answer_says, Answered}
 use Rattle.sites.specs.Row.{row_of}
 use Rattle.sites.proofs.AnswerLaws.{answered-moves, answered-refuses}
 use Rattle.unchecked.proofs.AnswerUnknown.{unknown-handle}
 use Rattle.reach.specs.Marks.{BlankFrom}
-use Rattle.acts.specs.Acting.{Lawful, QueueHasToken, Taking, Acting, Gives, answer_report}
+use Rattle.acts.specs.Acting.{Lawful, QueueHasToken, Taking, Acting, Gives, call_report}
 use Rattle.reach.specs.declared.used.Marks.{Marks}
 use Rattle.writes.specs.declared.actor.Actor.{Actor}
 use Rattle.acts.proofs.Outcomes.{gives_whole, gives-refused}
@@ -71,42 +72,42 @@ module _ {ws dag : List ℕ} {used : Marks} {m : Machine} (a : Lawful ws used da
   unfolding Answer.answer unless
   tested = rw (a.rules, unless)
 
-  pub answer-unknown : m.calls ≤ handle → Gives (Answer.answer paper (dag_of dag) m handle v) m ws used (answer_report false)
+  pub answer-unknown : m.calls ≤ handle
+      → Gives (Answer.answer paper (dag_of dag) m handle v) m ws used (call_report (Err refusals.NotOpen))
   unfolding is_place
   answer-unknown l =
       let none = ap is_place (unknown-handle (dag_of dag) m handle a.rules l) in
       gives-refused 12 _ a (tested ∙ ap (outcome m) (answered-refuses m v _ none)) refl
 
 -- an answer
-module _ {ws after dag : List ℕ} {used : Marks} {m : Machine} (a : Lawful ws used dag m) (handle : ℕ) (v : ℤ) (b : Bool)
-    (end : ℕ) (k : Answered end handle v b ws after) (blank : BlankFrom m end) where
+module _ {ws after dag : List ℕ} {used : Marks} {m : Machine} (a : Lawful ws used dag m) (handle : ℕ) (v : ℤ)
+    (r : Result Unit Refusal) (end : ℕ) (k : Answered end handle v r ws after) (blank : BlankFrom m end) where
   at_place : (q : Place) → holder handle 0 m.tokens ≡ q → is_place q ≡ true → Carried (answered_by m v q) (tokens_used m) (cells_used m)
   unfolding is_place answered_by
-  at_place places.Nowhere e f = clash f refl
-  at_place (places.At p) e f = answered-carried paper (dag_of dag) m a.rules handle v p e
+  at_place None e f = clash f refl
+  at_place (Some p) e f = answered-carried paper (dag_of dag) m a.rules handle v p e
 
-  pub answer-gives : Gives (Answer.answer paper (dag_of dag) m handle v) m after used (answer_report b)
-  unfolding outcome
-  answer-gives = go b refl
+  pub answer-gives : Gives (Answer.answer paper (dag_of dag) m handle v) m after used (call_report r)
+  unfolding outcome answer_says
+  answer-gives = go (is_place (holder handle 0 m.tokens)) refl
     where
-      go : (x : Bool) → b ≡ x → Gives (Answer.answer paper (dag_of dag) m handle v) m after used (answer_report x)
-      go true e =
-          let here = sym (k.says m a.holds blank) ∙ e in
+      go : (x : Bool) → is_place (holder handle 0 m.tokens) ≡ x
+          → Gives (Answer.answer paper (dag_of dag) m handle v) m after used (call_report r)
+      go true here =
           let c = at_place (holder handle 0 m.tokens) refl here in
-          gives_whole (answered_by m v (holder handle 0 m.tokens)) replies.Done [] (answer_report true)
+          subst (λ y. Gives (Answer.answer paper (dag_of dag) m handle v) m after used (call_report y))
+          (sym (k.says m a.holds blank ∙ ap answer_says here))
+          (gives_whole (answered_by m v (holder handle 0 m.tokens)) replies.Done [] (call_report (Ok tt))
           (tested a handle v ∙ ap (outcome m) (answered-moves m v _ here)) refl refl (k.does (dag_of dag) m a.holds blank a.rules)
           c.whole
-          (λ framed. record { whole = c.whole; tokens = c.tokens ∙ sym a.marks.tokens; cells = c.cells ∙ sym a.marks.cells })
-      go false e =
-          let none = sym (k.says m a.holds blank) ∙ e in
-          subst (λ x. Gives (Answer.answer paper (dag_of dag) m handle v) m x used (answer_report false)) (sym (k.stays e))
-          (gives-refused 12 _ a (tested a handle v ∙ ap (outcome m) (answered-refuses m v _ none)) refl)
-
--- its report, by whether the handle was open; and that of a clock move, by whether the clock took the time
-pub reported : (report : Bool → Report) {o : Outcome} {m : Machine} {ws : List ℕ} {used : Marks} (x : Bool) {b : Bool}
-    {r : Report}
-    → Gives o m ws used (report b) → b ≡ x → r ≡ report x → Gives o m ws used r
-reported report {o} {m} {ws} {used} x g e f = subst (Gives o m ws used) (ap report e ∙ sym f) g
+          (λ framed. record { whole = c.whole; tokens = c.tokens ∙ sym a.marks.tokens; cells = c.cells ∙ sym a.marks.cells }))
+      go false none =
+          let e : r ≡ Err refusals.NotOpen = k.says m a.holds blank ∙ ap answer_says none in
+          let same = IfErr-at_err (λ (e : Refusal). (e ≡ refusals.NotOpen) × (after ≡ ws)) e k.stays in
+          subst (λ y. Gives (Answer.answer paper (dag_of dag) m handle v) m after used (call_report y)) (sym e)
+          (subst (λ x. Gives (Answer.answer paper (dag_of dag) m handle v) m x used (call_report (Err refusals.NotOpen)))
+          (sym same.1)
+          (gives-refused 12 _ a (tested a handle v ∙ ap (outcome m) (answered-refuses m v _ none)) refl))
 
 -- the words of a start
 pub start-holds : {ws : List ℕ} (goal : ℕ) → ws ≡ words_of (start_machine paper goal) → Holds ws (start_machine paper goal)

@@ -5,5 +5,6 @@ mod act;
 pub mod advance;
 pub mod answer;
 mod callees;
+mod report;
 pub mod start;
 pub mod step;

@@ -12,7 +12,7 @@ use job::wide::wide;
 use model::record::Machine;
 use model::reply::Report;
 use reach::used::Marks;
-use record::order::queue_name;
+use record::order::{Queue, place_at};
 use record::token::node;
 use writes::actor::Actor;
 
@@ -29,7 +29,7 @@ pub fn step(
         → OneCallee shared.old m
         → Stepped (Step.step paper (dag_of dag.now) m place) m w.new marks.new shared.new result }
 {
-    let token = wide(queue_name(w, place));
+    let token = wide(place_at::<Queue>(w, place));
     let row = HEAD_WORDS + ROW_WORDS * wide(node(w, token));
     act(w, marks, shared, dag, Actor { place, token, row })
 }

@@ -13,7 +13,6 @@ use Rattle.model.specs.Machine.Update.{put, with_binding, with_tables, with_coun
 use Rattle.model.specs.declared.token.Token.{Token}
 use Rattle.model.specs.declared.record.Machine.{Machine}
 use Rattle.model.specs.declared.token.Slot.{Slot}
-use Rattle.model.specs.declared.token.Bind.{Bind}
 use Rattle.record.specs.Changes.{dequeued, with_binds}
 use Rattle.record.specs.Holds.{Holds}
 use Rattle.orders.proofs.NamesPadded.{length_without}
@@ -97,9 +96,9 @@ pub carry-slot : {ws : List ℕ} (m : Machine) (p x : ℕ) (t : Token) {s r : Sl
     → Holds ws (put p (with_binding x r t) m)
 carry-slot {ws} m p x t e h = subst (λ s. Holds ws (put p (with_binding x s t) m)) e h
 
-pub carry-binds : {ws : List ℕ} (m : Machine) (p : ℕ) (t : Token) {bs cs : List Bind} → bs ≡ cs → Holds ws (put p (with_binds bs t) m)
+pub carry-binds : {ws : List ℕ} (m : Machine) (p : ℕ) (t : Token) {bs cs : List Slot} → bs ≡ cs → Holds ws (put p (with_binds bs t) m)
     → Holds ws (put p (with_binds cs t) m)
 carry-binds {ws} m p t e h = subst (λ bs. Holds ws (put p (with_binds bs t) m)) e h
 
-pub carry-binding : {ws : List ℕ} (f : List Bind → Machine) {bs cs : List Bind} → bs ≡ cs → Holds ws (f bs) → Holds ws (f cs)
+pub carry-binding : {ws : List ℕ} (f : List Slot → Machine) {bs cs : List Slot} → bs ≡ cs → Holds ws (f bs) → Holds ws (f cs)
 carry-binding {ws} f e h = subst (λ x. Holds ws (f x)) e h

@@ -8,14 +8,13 @@ ghost use Rattle.model.specs.Machine.Update.{put};
 
 use crate::actor::Actor;
 use model::record::Machine;
-use record::order::leave;
+use record::order::{Queue, leave};
 use record::token::blank;
 
 pub fn written(w: &mut [u32; Machine::WORDS], actor: Actor)
     requires { actor.token < 64 }
-    ensures { let p = actor.token in (m : Machine) → Holds w.old m → actor.place < m.queued
-        → Holds w.new (put p blank_token (dequeued m actor.place)) }
+    ensures { let p = actor.token in (m : Machine) → Holds w.old m → actor.place < m.queued → Holds w.new (put p blank_token (dequeued m actor.place)) }
 {
-    leave(w, actor.place);
+    leave::<Queue>(w, actor.place);
     blank(w, actor.token);
 }

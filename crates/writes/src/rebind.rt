@@ -10,7 +10,7 @@ ghost use Rattle.record.specs.Layout.{slot_kind, slot_number};
 
 use crate::actor::Actor;
 use model::record::Machine;
-use record::order::replace;
+use record::order::{Queue, replace};
 use record::token::{set_bind, set_node};
 
 // The slot whose words these are is bound to x, and the token goes on.
@@ -23,11 +23,10 @@ pub fn written(
     next: u32,
 )
     requires { (actor.token < 64) × (x < 8) }
-    ensures { let p = actor.token in (m : Machine) (s : Slot) → Holds w.old m → actor.place < m.queued → slot_kind s ≡ kind
-        → slot_number s ≡ number
+    ensures { let p = actor.token in (m : Machine) (s : Slot) → Holds w.old m → actor.place < m.queued → slot_kind s ≡ kind → slot_number s ≡ number
         → Holds w.new (enqueue p (put p (with_node next (with_binding x s (token_at m.tokens p))) (dequeued m actor.place))) }
 {
-    replace(w, actor.place, actor.token as u32);
+    replace::<Queue>(w, actor.place, actor.token as u32);
     set_bind(w, actor.token, x, kind, number);
     set_node(w, actor.token, next);
 }

@@ -10,7 +10,7 @@ ghost use Rattle.model.specs.declared.token.State.TheVariants as states;
 use crate::actor::Actor;
 use model::record::Machine;
 use record::layout::READY_STATE;
-use record::order::replace;
+use record::order::{Queue, replace};
 use record::token::{copy, set_state, set_value, value, value_kind};
 
 // The token at p becomes the frame at f, with its own value.
@@ -23,7 +23,7 @@ pub fn written(w: &mut [u32; Machine::WORDS], actor: Actor, f: usize)
 {
     let has = value_kind(w, actor.token);
     let number = value(w, actor.token);
-    replace(w, actor.place, actor.token as u32);
+    replace::<Queue>(w, actor.place, actor.token as u32);
     copy(w, f, actor.token);
     set_value(w, actor.token, has, number);
     set_state(w, actor.token, READY_STATE, 0);

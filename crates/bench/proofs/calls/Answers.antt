@@ -1,4 +1,5 @@
--- `calls` ends, since fewer calls are left with each turn; each turn makes the definition's next call. Assumes nothing.
+-- Each turn of `calls` makes the definition's next call. Assumes nothing.
+use mathlib.Core.Path.{◌≡◌, ◌∙◌}
 use native.Mathlib.Omega.{arith}
 use Rattle.bench.proofs.Calling.{calls-all, in-round, calls-over, handles-over, call-stepped, call-answered}
 use Rattle.bench.proofs.calls.Goals as goal
@@ -30,4 +31,5 @@ loop-n-preserved c =
 pub returns : goal.returns
 returns c =
     let round = in-round _ _ _ _ _ _ c.start.ensures (calls-over _ _ _ _ _ _ _ (omega arith) c.loop-n.invariant.1) in
-    record { value = round.0; words_after = round.1 }
+    let made : c.args.most ≡ c.loop-n.n = omega arith in
+    record { value = made ∙ round.0; words_after = round.1 }

@@ -7,6 +7,7 @@ use Prim.Native.Nat.{ℕ, zero, suc, ◌<◌}
 use native.Mathlib.Decide.{ℕ_discrete}
 use native.Mathlib.Omega.{arith}
 use lib.ListN.{length, get_or, replicate}
+use Rattle.std.specs.Prelude.{Some, None}
 use Rattle.job.specs.Test.{◌and◌, for_all}
 use Rattle.model.specs.Machine.Limits.{Limits}
 use Rattle.model.specs.Machine.Blank.{blank_token, blank_cell, token_at, cell_at, is_bound}
@@ -16,8 +17,7 @@ use Rattle.model.specs.Machine.Active.{cell_is_set, upward, under_set, is_active
 use Rattle.model.specs.Machine.InUse.{tokens_used, cells_used, sweep}
 use Rattle.model.specs.Machine.Rules.{rest_is_blank}
 use Rattle.model.specs.Machine.Start.{start_token, start_machine}
-use Rattle.model.specs.declared.token.Place.{Place}
-use Rattle.model.specs.declared.token.Place.TheVariants as places
+use Rattle.model.specs.Machine.Held.{Place}
 use Rattle.model.specs.declared.token.Token.{Token}
 use Rattle.model.specs.declared.cell.Cell.{Cell}
 use Rattle.model.specs.declared.record.Machine.{Machine}
@@ -110,8 +110,8 @@ module _ (m : Machine) where
       → upward test then.cells n q ≡ upward test m.cells n q
   unfolding upward
   upward-stays test zero q h = refl
-  upward-stays test (suc n) places.Nowhere h = refl
-  upward-stays test (suc n) (places.At c) h =
+  upward-stays test (suc n) None h = refl
+  upward-stays test (suc n) (Some c) h =
       ap (λ k. looks k (upward test then.cells n k.parent)) (cell_stays c (h c refl))
       ∙ ap (looks (cell_at m.cells c)) (upward-stays test n (cell_at m.cells c).parent (used-parent m c (h c refl)))
     where

@@ -12,6 +12,7 @@ use native.Mathlib.Omega.{arith}
 use lib.ListN.{length, get_or, set, drop, length-set}
 use lib.Seq.{get_or-drop}
 use lib.IntN.{ℤ}
+use Rattle.std.specs.Prelude.{None}
 use Rattle.job.specs.Test.{for_all}
 use Rattle.job.specs.Number.{Signed32, fits}
 use Rattle.job.specs.Site.{last_time}
@@ -27,8 +28,6 @@ use Rattle.model.specs.Machine.Clock.{woken_by}
 use Rattle.model.specs.Machine.State.{is_due_by, waits_at}
 use Rattle.model.specs.declared.token.Slot.{Slot}
 use Rattle.model.specs.declared.token.Slot.TheVariants as slots
-use Rattle.model.specs.declared.token.Bind.{Bind}
-use Rattle.model.specs.declared.token.Held.TheVariants as helds
 use Rattle.model.specs.declared.token.State.{State}
 use Rattle.model.specs.declared.token.State.TheVariants as states
 use Rattle.model.specs.declared.token.Token.{Token}
@@ -43,38 +42,38 @@ use Rattle.model.proofs.Machine.Clock.{woken-at}
 use Rattle.model.proofs.Machine.TableRows.{token-same, token-other, cell_same, cell_other}
 
 -- the values that variables are bound to
-abbrev pub BindsFit : List Bind → Type 0
+abbrev pub BindsFit : List Slot → Type 0
 BindsFit bs = (x : ℕ) (v : ℤ) → slot_at bs x ≡ slots.Value v → Signed32 v
 
 pub unbound-fit : BindsFit unbound
 unbound-fit x v e =
     let y : slots.Empty ≡ slots.Value v = sym (unbound-empty 8 x) ∙ e in never cc
 
-pub binds-written : (bs : List Bind) (x : ℕ) (s : Slot) → ((v : ℤ) → s ≡ slots.Value v → Signed32 v) → BindsFit bs
-    → BindsFit (set bs x (record { slot = s }))
+pub binds-written : (bs : List Slot) (x : ℕ) (s : Slot) → ((v : ℤ) → s ≡ slots.Value v → Signed32 v) → BindsFit bs
+    → BindsFit (set bs x s)
 unfolding slot_at
-binds-written bs x s g f y v = go (written bs x (record { slot = s }) empty y)
+binds-written bs x s g f y v = go (written bs x s empty y)
   where
-    now : Bind
-    now = get_or (set bs x (record { slot = s })) y empty
+    now : Slot
+    now = get_or (set bs x s) y empty
 
-    go : ((y ≡ x) × (now ≡ record { slot = s })) ⊎ (now ≡ get_or bs y empty) → now.slot ≡ slots.Value v → Signed32 v
-    go (inl w) e = g v (ap (λ (b : Bind). b.slot) (sym w.1) ∙ e)
-    go (inr w) e = f y v (ap (λ (b : Bind). b.slot) (sym w) ∙ e)
+    go : ((y ≡ x) × (now ≡ s)) ⊎ (now ≡ get_or bs y empty) → now ≡ slots.Value v → Signed32 v
+    go (inl w) e = g v (sym w.1 ∙ e)
+    go (inr w) e = f y v (sym w ∙ e)
 
-passed-fits : (bs : List Bind) → BindsFit bs → (p : Param) → param_holds p ≡ true → (v : ℤ) → (passed bs p).slot ≡ slots.Value v
+passed-fits : (bs : List Slot) → BindsFit bs → (p : Param) → param_holds p ≡ true → (v : ℤ) → passed bs p ≡ slots.Value v
     → Signed32 v
 unfolding passed param_holds
 passed-fits bs f (variable x) k v e = f x v e
 passed-fits bs f (constant w) k v e = subst Signed32 (let z : w ≡ v = cc in z) k
 
-pub formals-fit : (bs : List Bind) (ps : List Param) → for_all param_holds ps ≡ true → BindsFit bs → BindsFit (formals_bound bs ps)
+pub formals-fit : (bs : List Slot) (ps : List Param) → for_all param_holds ps ≡ true → BindsFit bs → BindsFit (formals_bound bs ps)
 unfolding formals_bound slot_at
 formals-fit bs ps k f y v e = go (length ps) ps k y e
   where
     go : (n : ℕ) (ps : List Param) → for_all param_holds ps ≡ true → (y : ℕ)
-        → (get_or (map (passed bs) ps ++ drop n unbound) y empty).slot ≡ slots.Value v → Signed32 v
-    go n [] k y e = unbound-fit (n + y) v (ap (λ (b : Bind). b.slot) (sym (get_or-drop n unbound y empty)) ∙ e)
+        → get_or (map (passed bs) ps ++ drop n unbound) y empty ≡ slots.Value v → Signed32 v
+    go n [] k y e = unbound-fit (n + y) v (sym (get_or-drop n unbound y empty) ∙ e)
     go n (p ∷ ps) k zero e = passed-fits bs f p (all_head param_holds p ps k) v e
     go n (p ∷ ps) k (suc y) e = go n ps (all_tail param_holds p ps k) y e
 
@@ -88,7 +87,7 @@ pub record Awaits (d : Dag) (cs : List Cell) (t : Token) (c : ℕ) : Type 0 wher
   pub asked : Memᴰ (variable name) params
   pub bound : slot_at t.binds name ≡ slots.Cell c
   pub inside : c < length cs
-  pub unset : (cell_at cs c).value ≡ helds.Nothing
+  pub unset : (cell_at cs c).value ≡ None
 
 pub record TokenHolds (d : Dag) (cs : List Cell) (calls clock : ℕ) (t : Token) : Type 0 where
   pub node : t.node < length d.nodes
@@ -147,7 +146,7 @@ module _ {d : Dag} {cs : List Cell} {calls clock : ℕ} where
 
 -- the token's own fields but its state, the length of the cells and the cell's value are what matters
 pub awaits-as : {d : Dag} {cs cs' : List Cell} {t u : Token} {c : ℕ} → u.node ≡ t.node → u.binds ≡ t.binds → length cs' ≡ length cs
-    → (cell_at cs' c).value ≡ helds.Nothing → Awaits d cs t c → Awaits d cs' u c
+    → (cell_at cs' c).value ≡ None → Awaits d cs t c → Awaits d cs' u c
 awaits-as {d} n b l v k =
     record {
       site = k.site;
@@ -163,7 +162,7 @@ awaits-as {d} n b l v k =
 
 -- cells whose unset ones stay unset
 pub token-cells : {d : Dag} {cs cs' : List Cell} {calls calls' clock : ℕ} {t : Token} → length cs' ≡ length cs → calls ≤ calls'
-    → ((c : ℕ) → t.state ≡ states.Waiting c → c < length cs → (cell_at cs c).value ≡ helds.Nothing → (cell_at cs' c).value ≡ helds.Nothing)
+    → ((c : ℕ) → t.state ≡ states.Waiting c → c < length cs → (cell_at cs c).value ≡ None → (cell_at cs' c).value ≡ None)
     → TokenHolds d cs calls clock t → TokenHolds d cs' calls' clock t
 token-cells l k f t =
     record {
@@ -240,11 +239,11 @@ module _ {d : Dag} {ts : List Token} {cs : List Cell} {calls clock : ℕ} (T : T
         }
 
   -- an unset cell is written
-  pub tables-cell : (c : ℕ) (k : Cell) → c < length cs → k.value ≡ helds.Nothing → Tables d ts (set cs c k) calls clock
+  pub tables-cell : (c : ℕ) (k : Cell) → c < length cs → k.value ≡ None → Tables d ts (set cs c k) calls clock
   unfolding held_in_range
   tables-cell c k i e =
       record {
-        tokens = λ p. token-cells (length-set cs c k) (omega arith) (λ b s l v. at-cell (λ (x : Cell). x.value ≡ helds.Nothing) b e v)
+        tokens = λ p. token-cells (length-set cs c k) (omega arith) (λ b s l v. at-cell (λ (x : Cell). x.value ≡ None) b e v)
             (T.tokens p);
         cells = λ b. at-cell (λ (x : Cell). held_in_range x.value ≡ true) b (ap held_in_range e) (T.cells b);
         apart = T.apart;
@@ -266,7 +265,7 @@ module _ {d : Dag} {ts : List Token} {cs : List Cell} {calls clock : ℕ} (T : T
         tokens =
             λ p.
             token-now (λ t. TokenHolds d cs' calls clock t) p
-            (token-cells (length-kept blank_cell cells cs) (omega arith) (λ c s l v. cell-now (λ x. x.value ≡ helds.Nothing) c v refl)
+            (token-cells (length-kept blank_cell cells cs) (omega arith) (λ c s l v. cell-now (λ x. x.value ≡ None) c v refl)
             (T.tokens p))
             (blank-holds some);
         cells = λ c. cell-now (λ x. held_in_range x.value ≡ true) c (T.cells c) refl;

@@ -19,7 +19,7 @@ use Rattle.model.specs.Machine.Update.{with_tables, with_orders, with_timers, wi
 use Rattle.model.specs.Machine.Step.{choke_token, after_choke}
 use Rattle.model.specs.Machine.Clock.{woken_by, place_due_by, joining, staying, after_advance}
 use Rattle.model.specs.Machine.WakingOrder.{due_at, due_then, WakesInOrder, Gone, OrdersApart}
-use Rattle.model.specs.declared.token.Held.{Held}
+use Rattle.model.specs.Machine.Held.{Held}
 use Rattle.model.specs.declared.token.State.{State}
 use Rattle.model.specs.declared.token.State.TheVariants as states
 use Rattle.model.specs.declared.token.Token.{Token}

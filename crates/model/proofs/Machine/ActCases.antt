@@ -7,6 +7,7 @@ use mathlib.Core.Option.{some}
 use Prim.Native.Nat.{ℕ, ◌<◌, ◌≤◌}
 use lib.Dec.{ltb}
 use lib.IntN.{ℤ, pos}
+use Rattle.std.specs.Prelude.{Some, None}
 use Rattle.job.specs.Site.{BuiltinReply, gives, silent, later, due_time, is_builtin, builtin}
 use Rattle.job.specs.Syntax.{Param}
 use Rattle.job.specs.Node.{Node, Dag, body_at}
@@ -19,9 +20,7 @@ use Rattle.model.specs.Machine.Step as Step
 use Rattle.model.specs.Machine.Step.{LookUpResult, values, unset, look, act, value_of, after_choke, has_token_place, has_cell_place}
 use Rattle.model.specs.Machine.Step.{token_place, cell_place}
 use Rattle.model.specs.declared.token.Slot.TheVariants as slots
-use Rattle.model.specs.declared.token.Held.TheVariants as helds
-use Rattle.model.specs.declared.token.Place.{Place}
-use Rattle.model.specs.declared.token.Place.TheVariants as places
+use Rattle.model.specs.Machine.Held.{Place}
 use Rattle.model.specs.declared.token.State.TheVariants as states
 use Rattle.model.specs.declared.token.Token.{Token}
 use Rattle.model.specs.declared.record.Machine.{Machine}
@@ -31,8 +30,8 @@ use Rattle.model.proofs.Machine.Added.{tokens_added, cells_added}
 
 -- an instruction that the table refuses with 14: what it names is not there
 pub data Lacks (t : Token) : Node → Type 0 where
-  no_frame : t.caller ≡ places.Nowhere → Lacks t Node.return
-  no_cell : t.cell ≡ places.Nowhere → Lacks t Node.choke
+  no_frame : t.caller ≡ None → Lacks t Node.return
+  no_cell : t.cell ≡ None → Lacks t Node.choke
   no_node : Lacks t Node.unknown
 
 -- why the instruction N is refused, by the number; `before` is the machine before the call, m the one whose token t acts
@@ -52,10 +51,10 @@ pub data Anew (d : Dag) (m : Machine) (t : Token) (N : Node) : Token → Type 0 
   assigned : {x k : ℕ} → N ≡ Node.assign x k → Anew d m t N (with_node k (with_binding x (slots.Value (value_of t.value)) t))
   removed : {x k : ℕ} → N ≡ Node.remove x k → Anew d m t N (with_node k (with_binding x slots.Empty t))
   replied : {s : ℕ} {ps : List Param} {k : ℕ} {v : ℤ} → N ≡ Node.site s ps k → Said m t s ps v
-      → Anew d m t N (with_node k (with_value (helds.Value v) t))
+      → Anew d m t N (with_node k (with_value (Some v) t))
   became : {e : ℕ} {ps : List Param} {k : ℕ} → N ≡ Node.call e ps k → is_tail d k ≡ true
       → Anew d m t N (Step.callee t.caller t (body_at d e).root ps)
-  back : {f : ℕ} → N ≡ Node.return → t.caller ≡ places.At f
+  back : {f : ℕ} → N ≡ Node.return → t.caller ≡ Some f
       → Anew d m t N (with_state states.Ready (with_value t.value (token_at m.tokens f)))
 
 -- what the instruction N of the token t at p does
@@ -76,7 +75,7 @@ pub data Does (lim : Limits) (d : Dag) (before m : Machine) (p : ℕ) (t : Token
       → Does lim d before m p t N (Step.entered m p t (token_place before) (body_at d e).root ps k)
   splits : {x l r : ℕ} → N ≡ Node.where' x l r → has_token_place lim before ≡ true → has_cell_place lim before ≡ true
       → Does lim d before m p t N (Step.split m p t (token_place before) (cell_place before) x l r)
-  chokes : {c : ℕ} → N ≡ Node.choke → t.cell ≡ places.At c → Does lim d before m p t N (moves (after_choke c t.value m))
+  chokes : {c : ℕ} → N ≡ Node.choke → t.cell ≡ Some c → Does lim d before m p t N (moves (after_choke c t.value m))
 
 module _ (lim : Limits) (d : Dag) (before m : Machine) (p : ℕ) (t : Token) where
   abbrev At : Node → Effect → Type 0
@@ -120,13 +119,13 @@ module _ (lim : Limits) (d : Dag) (before m : Machine) (p : ℕ) (t : Token) whe
 
   return-does : (q : Place) → t.caller ≡ q → At Node.return (Step.returned m p t q)
   unfolding Step.returned
-  return-does places.Nowhere e = Does.refused (Refusing.lacking (no_frame e))
-  return-does (places.At f) e = Does.goes_on (Anew.back refl e)
+  return-does None e = Does.refused (Refusing.lacking (no_frame e))
+  return-does (Some f) e = Does.goes_on (Anew.back refl e)
 
   choke-does : (q : Place) → t.cell ≡ q → At Node.choke (Step.choke_at m t q)
   unfolding Step.choke_at
-  choke-does places.Nowhere e = Does.refused (Refusing.lacking (no_cell e))
-  choke-does (places.At c) e = Does.chokes refl e
+  choke-does None e = Does.refused (Refusing.lacking (no_cell e))
+  choke-does (Some c) e = Does.chokes refl e
 
   pub act-does : (N : Node) → Does lim d before m p t N (act lim d before m p t N)
   unfolding act tokens_added cells_added

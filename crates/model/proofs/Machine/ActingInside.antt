@@ -5,6 +5,7 @@ use mathlib.Core.Logic.{inl, inr}
 use mathlib.Core.List.{List}
 use Prim.Native.Nat.{ℕ}
 use lib.ListN.{set}
+use Rattle.std.specs.Prelude.{Some, None}
 use Rattle.job.specs.Syntax.{Param}
 use Rattle.job.specs.Node.{Dag}
 use Rattle.model.specs.Machine.Limits.{Limits}
@@ -12,8 +13,6 @@ use Rattle.model.specs.Machine.Blank.{token_at}
 use Rattle.model.specs.Machine.Update.{with_node, with_binding, in_cell, with_state}
 use Rattle.model.specs.Machine.Step.{callee}
 use Rattle.model.specs.declared.token.Slot.TheVariants as slots
-use Rattle.model.specs.declared.token.Held.TheVariants as helds
-use Rattle.model.specs.declared.token.Place.TheVariants as places
 use Rattle.model.specs.declared.token.State.TheVariants as states
 use Rattle.model.specs.declared.token.Token.{Token}
 use Rattle.model.specs.declared.record.Machine.{Machine}
@@ -43,21 +42,21 @@ module _ (lim : Limits) (d : Dag) (m : Machine) (rules : EachRuleHolds lim d m) 
 
   pub call-inside : (q root : ℕ) (ps : List Param) (next : ℕ)
       → InsideUsed m (With (Used m) q) (UsedCell m)
-      (set (set m.tokens p (with_node next (with_state states.Frame t))) q (callee (places.At p) t root ps)) m.cells
+      (set (set m.tokens p (with_node next (with_state states.Frame t))) q (callee (Some p) t root ps)) m.cells
   unfolding with_node with_state
   call-inside q root ps next =
       inside-token (write-inside (with_node next (with_state states.Frame t)) (fits-same refl refl refl acts)) q
-      (callee (places.At p) t root ps)
-      (fits-callee (places.At p) root ps (names_at (With (Used m) q) p (inl in_use)) (fits-map (λ i x. inl x) (λ c x. x) acts))
+      (callee (Some p) t root ps)
+      (fits-callee (Some p) root ps (names_at (With (Used m) q) p (inl in_use)) (fits-map (λ i x. inl x) (λ c x. x) acts))
 
   pub split-inside : (q c x left right : ℕ)
       → InsideUsed m (With (Used m) q) (With (UsedCell m) c)
       (set (set m.tokens p (with_node left (with_binding x (slots.Cell c) t))) q (in_cell c (with_node right t)))
-      (set m.cells c (record { parent = t.cell; value = helds.Nothing }))
+      (set m.cells c (record { parent = t.cell; value = None }))
   unfolding with_node in_cell
   split-inside q c x left right = inside-token (inside-put cell p _ in_use binds) q _ belongs
     where
-      cell : InsideUsed m (Used m) (With (UsedCell m) c) m.tokens (set m.cells c (record { parent = t.cell; value = helds.Nothing }))
+      cell : InsideUsed m (Used m) (With (UsedCell m) c) m.tokens (set m.cells c (record { parent = t.cell; value = None }))
       cell = inside-cell (inside-old lim d m rules) c _ (λ b e. inl (acts.cells.cell b e))
 
       acts-still : Fits (Used m) (With (UsedCell m) c) t

@@ -6,10 +6,10 @@ use mathlib.Core.Option.{Option, some, none}
 use Prim.Native.Nat.{ℕ, ◌<◌, ◌≤◌}
 use lib.Dec.{ltb}
 use lib.IntN.{pos}
+use Rattle.std.specs.Prelude.{Some}
 use Rattle.model.specs.Machine.Reply.{Effect, moves}
 use Rattle.model.specs.Machine.Update.{with_node, with_value, with_state, with_timers, timers_of, put}
 use Rattle.model.specs.Machine.Step.{ended, goes_on, deferred}
-use Rattle.model.specs.declared.token.Held.TheVariants as helds
 use Rattle.model.specs.declared.token.State.TheVariants as states
 use Rattle.model.specs.declared.token.Token.{Token}
 use Rattle.model.specs.declared.record.Machine.{Machine}
@@ -18,7 +18,7 @@ use Rattle.job.proofs.Test.{ltb-lt, not-ltb-le}
 module _ (m : Machine) (p : ℕ) (t : Token) (next : ℕ) where
   -- the token goes on with 0
   abbrev pub at_once : Effect
-  at_once = goes_on m p (with_node next (with_value (helds.Value (pos 0)) t))
+  at_once = goes_on m p (with_node next (with_value (Some (pos 0)) t))
 
   -- it is due later
   abbrev pub in_time : (due : ℕ) → Machine

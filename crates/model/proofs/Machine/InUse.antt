@@ -9,15 +9,14 @@ use Prim.Native.Nat.{ℕ, zero, suc, ◌+◌, ◌<◌}
 use native.Mathlib.Decide.{dec_lt}
 use native.Mathlib.Omega.{arith}
 use lib.ListN.{length, replicate}
+use Rattle.std.specs.Prelude.{Some, None}
 use Rattle.model.specs.Machine.Blank.{empty, blank_token, blank_cell, token_at, cell_at, slot_at}
 use Rattle.model.specs.Machine.Active.{is_active}
 use Rattle.model.specs.Machine.State.{is_live}
 use Rattle.model.specs.Machine.InUse.{TokenInUse, CellInUse, active_places, bound_cell, cells_of, cells_of_marked, used_tokens, used_cells}
 use Rattle.model.specs.declared.token.Slot.{Slot}
 use Rattle.model.specs.declared.token.Slot.TheVariants as slots
-use Rattle.model.specs.declared.token.Bind.{Bind}
-use Rattle.model.specs.declared.token.Place.{Place}
-use Rattle.model.specs.declared.token.Place.TheVariants as places
+use Rattle.model.specs.Machine.Held.{Place}
 use Rattle.model.specs.declared.token.Token.{Token}
 use Rattle.model.specs.declared.cell.Cell.{Cell}
 use Rattle.job.proofs.Test.{never, clash}
@@ -40,23 +39,23 @@ active-inside ts cs i e = go (dec_lt i (length ts))
 module _ (cs : List Cell) where
   -- the active places of a rest of the table that begins at i
   abbrev Holds : ℕ → List Token → ℕ → Type 0
-  Holds i ts j = Memᴰ (places.At j) (active_places cs i ts)
+  Holds i ts j = Memᴰ (Some j) (active_places cs i ts)
 
   abbrev here : Bool → ℕ → List Token → List Place
-  here b i ts = elim b [ true ↦ places.At i ∷ active_places cs (suc i) ts | false ↦ active_places cs (suc i) ts ]
+  here b i ts = elim b [ true ↦ Some i ∷ active_places cs (suc i) ts | false ↦ active_places cs (suc i) ts ]
 
   active-place : (i : ℕ) (ts : List Token) (k : ℕ) → is_active cs (token_at ts k) ≡ true → Holds i ts (i + k)
   unfolding active_places token_at
   active-place i [] k e = clash e (blank-inactive cs)
   active-place i (t ∷ ts) zero e = go (is_active cs t) e
     where
-      go : (b : Bool) → b ≡ true → Memᴰ (places.At (i + 0)) (here b i ts)
-      go true x = Memᴰ.head (ap places.At (let z : i + 0 ≡ i = omega arith in z))
+      go : (b : Bool) → b ≡ true → Memᴰ (Some (i + 0)) (here b i ts)
+      go true x = Memᴰ.head (ap Some (let z : i + 0 ≡ i = omega arith in z))
       go false x = clash x refl
   active-place i (t ∷ ts) (suc k) e =
       go (is_active cs t) (subst (Holds (suc i) ts) (let z : suc i + k ≡ i + suc k = omega arith in z) (active-place (suc i) ts k e))
     where
-      go : (b : Bool) → Holds (suc i) ts (i + suc k) → Memᴰ (places.At (i + suc k)) (here b i ts)
+      go : (b : Bool) → Holds (suc i) ts (i + suc k) → Memᴰ (Some (i + suc k)) (here b i ts)
       go true m = Memᴰ.tail m
       go false m = m
 
@@ -76,17 +75,17 @@ module _ (cs : List Cell) where
           (b : Bool)
           → is_active cs t ≡ b
           → (Holds (suc i) ts j → ActiveAt (suc i) ts j)
-          → Memᴰ (places.At j) (here b i ts)
+          → Memᴰ (Some j) (here b i ts)
           → ActiveAt i (t ∷ ts) j
       go true a f (Memᴰ.head e) = (0, (let z : j ≡ i = cc in omega arith), a)
       go true a f (Memᴰ.tail x) = later (f x)
       go false a f x = later (f x)
 
   -- from the first place on, they are the active ones exactly
-  pub active-places : (ts : List Token) (i : ℕ) → is_active cs (token_at ts i) ≡ true → Memᴰ (places.At i) (active_places cs 0 ts)
+  pub active-places : (ts : List Token) (i : ℕ) → is_active cs (token_at ts i) ≡ true → Memᴰ (Some i) (active_places cs 0 ts)
   active-places ts i e = subst (Holds 0 ts) (let z : 0 + i ≡ i = omega arith in z) (active-place 0 ts i e)
 
-  pub places-active : (ts : List Token) (i : ℕ) → Memᴰ (places.At i) (active_places cs 0 ts) → is_active cs (token_at ts i) ≡ true
+  pub places-active : (ts : List Token) (i : ℕ) → Memᴰ (Some i) (active_places cs 0 ts) → is_active cs (token_at ts i) ≡ true
   places-active ts i m = go (place-active 0 ts i m)
     where
       go : ActiveAt 0 ts i → is_active cs (token_at ts i) ≡ true
@@ -129,34 +128,33 @@ pub record CellsIn (Q : ℕ → Type 0) (t : Token) : Type 0 where
   pub cell : Names Q t.cell
   pub binds : (x c : ℕ) → slot_at t.binds x ≡ slots.Cell c → Q c
 
-abbrev slot_place : Slot → Place
-slot_place s = elim s [ slots.Empty ↦ places.Nowhere | slots.Value v ↦ places.Nowhere | slots.Cell c ↦ places.At c ]
+slot-place : (s : Slot) (c : ℕ) → s ≡ slots.Cell c → bound_cell s ≡ Some c
+unfolding bound_cell
+slot-place s c e = ap bound_cell e
 
-slot-place : (s : Slot) (c : ℕ) → s ≡ slots.Cell c → slot_place s ≡ places.At c
-slot-place s c e = ap slot_place e
-
-place-slot : (s : Slot) (c : ℕ) → slot_place s ≡ places.At c → s ≡ slots.Cell c
+place-slot : (s : Slot) (c : ℕ) → bound_cell s ≡ Some c → s ≡ slots.Cell c
+unfolding bound_cell
 place-slot slots.Empty c e = never cc
 place-slot (slots.Value v) c e = never cc
 place-slot (slots.Cell b) c e = ap slots.Cell (let z : b ≡ c = cc in z)
 
-bound-place : (bs : List Bind) (x c : ℕ) → slot_at bs x ≡ slots.Cell c → Memᴰ (places.At c) (map bound_cell bs)
-unfolding slot_at bound_cell
+bound-place : (bs : List Slot) (x c : ℕ) → slot_at bs x ≡ slots.Cell c → Memᴰ (Some c) (map bound_cell bs)
+unfolding slot_at
 bound-place [] x c e = never cc
-bound-place (b ∷ bs) zero c e = Memᴰ.head (sym (slot-place b.slot c e))
+bound-place (b ∷ bs) zero c e = Memᴰ.head (sym (slot-place b c e))
 bound-place (b ∷ bs) (suc x) c e = Memᴰ.tail (bound-place bs x c e)
 
-place-bound : (bs : List Bind) (c : ℕ) → Memᴰ (places.At c) (map bound_cell bs) → (x : ℕ) × (slot_at bs x ≡ slots.Cell c)
-unfolding slot_at bound_cell
+place-bound : (bs : List Slot) (c : ℕ) → Memᴰ (Some c) (map bound_cell bs) → (x : ℕ) × (slot_at bs x ≡ slots.Cell c)
+unfolding slot_at
 place-bound [] c m = absurd (Memᴰ.not-nil m)
-place-bound (b ∷ bs) c (Memᴰ.head e) = (0, place-slot b.slot c (sym e))
+place-bound (b ∷ bs) c (Memᴰ.head e) = (0, place-slot b c (sym e))
 place-bound (b ∷ bs) c (Memᴰ.tail m) = let y = place-bound bs c m in (suc y.0, y.1)
 
-cells-of : (Q : ℕ → Type 0) (t : Token) → ((c : ℕ) → Memᴰ (places.At c) (cells_of t) → Q c) → CellsIn Q t
+cells-of : (Q : ℕ → Type 0) (t : Token) → ((c : ℕ) → Memᴰ (Some c) (cells_of t) → Q c) → CellsIn Q t
 unfolding cells_of
 cells-of Q t h = record { cell = λ c e. h c (Memᴰ.head (sym e)); binds = λ x c e. h c (Memᴰ.tail (bound-place t.binds x c e)) }
 
-of-cells : (Q : ℕ → Type 0) (t : Token) → CellsIn Q t → (c : ℕ) → Memᴰ (places.At c) (cells_of t) → Q c
+of-cells : (Q : ℕ → Type 0) (t : Token) → CellsIn Q t → (c : ℕ) → Memᴰ (Some c) (cells_of t) → Q c
 unfolding cells_of
 of-cells Q t h c (Memᴰ.head e) = h.cell c (sym e)
 of-cells Q t h c (Memᴰ.tail m) = let y = place-bound t.binds c m in h.binds y.0 c y.1
@@ -235,7 +233,7 @@ cells-used used ts cs s =
     g = reached-law (λ (c : Cell). c.parent) blank_cell cs (cells_of_marked used ts)
 
     named : (i : ℕ) → Marked used i → Dec (i < length ts) → CellsIn (Marked r) (token_at ts i)
-    named i m (yes l) = cells-of (Marked r) (token_at ts i) (λ c x. g.given c (marked-names used ts i s l m (places.At c) x))
+    named i m (yes l) = cells-of (Marked r) (token_at ts i) (λ c x. g.given c (marked-names used ts i s l m (Some c) x))
     named i m (no n) = subst (CellsIn (Marked r)) (sym (token-outside ts i (omega arith))) (cells-in-blank (Marked r))
 
     next : (c : ℕ) → Marked r c → Dec (c < length cs) → Names (Marked r) (cell_at cs c).parent
@@ -246,9 +244,9 @@ cells-used used ts cs s =
         (Q : ℕ → Type 0)
         → ((i : ℕ) → i < length ts → Marked used i → CellsIn Q (token_at ts i))
         → (b : ℕ)
-        → Memᴰ (places.At b) (cells_of_marked used ts)
+        → Memᴰ (Some b) (cells_of_marked used ts)
         → Q b
-    only Q h b x = names_marked (Names Q) used ts (λ i l m q y. listed i (h i l m) q y) (places.At b) x b refl
+    only Q h b x = names_marked (Names Q) used ts (λ i l m q y. listed i (h i l m) q y) (Some b) x b refl
       where
         listed : (i : ℕ) → CellsIn Q (token_at ts i) → (q : Place) → Memᴰ q (cells_of (token_at ts i)) → Names Q q
         listed i n q y a e = of-cells Q (token_at ts i) n a (subst (λ p. Memᴰ p (cells_of (token_at ts i))) e y)

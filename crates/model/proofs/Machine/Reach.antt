@@ -8,21 +8,21 @@ use mathlib.Core.List.{List, [], ◌∷◌, Memᴰ}
 use Prim.Native.Nat.{ℕ, zero, suc, ◌+◌, ◌<◌, ◌≤◌}
 use native.Mathlib.Omega.{arith}
 use lib.ListN.{length, get_or, set, replicate, length-set, length-replicate}
+use Rattle.std.specs.Prelude.{Some, None}
 use Rattle.model.specs.Machine.InUse.{mark_chain, mark_from_each, reached, marked}
-use Rattle.model.specs.declared.token.Place.{Place}
-use Rattle.model.specs.declared.token.Place.TheVariants as places
+use Rattle.model.specs.Machine.Held.{Place}
 use Rattle.job.proofs.Test.{never}
 use Rattle.model.proofs.Machine.Marks.{Marked, marked-none, free-inside, mark-same, mark-mono, mark-inverse, marked_all}
 use Rattle.model.proofs.Machine.Marks.{marked-set-free}
 
 -- the places that a place names: one or none
 abbrev pub Names : (ℕ → Type 0) → Place → Type 0
-Names Q q = (i : ℕ) → q ≡ places.At i → Q i
+Names Q q = (i : ℕ) → q ≡ Some i → Q i
 
-pub names-nowhere : (Q : ℕ → Type 0) → Names Q places.Nowhere
+pub names-nowhere : (Q : ℕ → Type 0) → Names Q None
 names-nowhere Q i e = never cc
 
-pub names_at : (Q : ℕ → Type 0) (i : ℕ) → Q i → Names Q (places.At i)
+pub names_at : (Q : ℕ → Type 0) (i : ℕ) → Q i → Names Q (Some i)
 names_at Q i h j e = subst Q (let z : i ≡ j = cc in z) h
 
 -- r has the marks, and what is new in it has its link in it
@@ -78,8 +78,8 @@ module _ {A : Type 0} (link : A → Place) (blank : A) (xs : List A) where
       → Grows link_at marks (mark_chain link blank xs n q marks) × Names (Marked (mark_chain link blank xs n q marks)) q
   unfolding mark_chain
   chain-grows zero q marks l = (grows_none, λ i e. marked_all marks (omega arith) i)
-  chain-grows (suc n) places.Nowhere marks l = (grows_none, names-nowhere (Marked marks))
-  chain-grows (suc n) (places.At i) marks l =
+  chain-grows (suc n) None marks l = (grows_none, names-nowhere (Marked marks))
+  chain-grows (suc n) (Some i) marks l =
       go (get_or marks i true) refl (λ k. chain-grows n (link_at i) (set marks i true) k)
     where
       r : List Bool
@@ -92,7 +92,7 @@ module _ {A : Type 0} (link : A → Place) (blank : A) (xs : List A) where
           (b : Bool)
           → get_or marks i true ≡ b
           → (length (set marks i true) ≤ marked (set marks i true) + n → Grows link_at (set marks i true) r × Names (Marked r) (link_at i))
-          → Grows link_at marks (R b) × Names (Marked (R b)) (places.At i)
+          → Grows link_at marks (R b) × Names (Marked (R b)) (Some i)
       go true h g = (grows_none, names_at (Marked marks) i h)
       go false h g =
           let x = length-set marks i true in
@@ -104,7 +104,7 @@ module _ {A : Type 0} (link : A → Place) (blank : A) (xs : List A) where
       (qs : List Place) (marks : List Bool)
       → length marks ≡ length xs
       → Grows link_at marks (mark_from_each link blank xs qs marks)
-      × ((i : ℕ) → Memᴰ (places.At i) qs → Marked (mark_from_each link blank xs qs marks) i)
+      × ((i : ℕ) → Memᴰ (Some i) qs → Marked (mark_from_each link blank xs qs marks) i)
   unfolding mark_from_each
   chains-grow [] marks l = (grows_none, λ i m. absurd (Memᴰ.not-nil m))
   chains-grow (q ∷ qs) marks l =
@@ -117,9 +117,9 @@ module _ {A : Type 0} (link : A → Place) (blank : A) (xs : List A) where
           → Grows link_at marks bs
           → Names (Marked bs) q
           → Grows link_at bs cs
-          → ((i : ℕ) → Memᴰ (places.At i) qs → Marked cs i)
+          → ((i : ℕ) → Memᴰ (Some i) qs → Marked cs i)
           → (i : ℕ)
-          → Memᴰ (places.At i) (q ∷ qs)
+          → Memᴰ (Some i) (q ∷ qs)
           → Marked cs i
       go f n g h i (Memᴰ.head e) = g.mono i (n i (sym e))
       go f n g h i (Memᴰ.tail m) = h i m
@@ -133,8 +133,8 @@ module _ {A : Type 0} (link : A → Place) (blank : A) (xs : List A) where
         → Only marks (mark_chain link blank xs n q marks)
     unfolding mark_chain
     chain-least zero q marks l h i m = inl m
-    chain-least (suc n) places.Nowhere marks l h i m = inl m
-    chain-least (suc n) (places.At p) marks l h i m =
+    chain-least (suc n) None marks l h i m = inl m
+    chain-least (suc n) (Some p) marks l h i m =
         go
         (get_or marks p true)
         refl
@@ -164,7 +164,7 @@ module _ {A : Type 0} (link : A → Place) (blank : A) (xs : List A) where
     chains-least :
         (qs : List Place) (marks : List Bool)
         → length marks ≡ length xs
-        → ((i : ℕ) → Memᴰ (places.At i) qs → Q i)
+        → ((i : ℕ) → Memᴰ (Some i) qs → Q i)
         → Only marks (mark_from_each link blank xs qs marks)
     unfolding mark_from_each
     chains-least [] marks l h i m = inl m
@@ -185,11 +185,11 @@ module _ {A : Type 0} (link : A → Place) (blank : A) (xs : List A) where
   -- what is reached from some places
   pub record Reached (from : List Place) (r : List Bool) : Type 1 where
     pub size : length r ≡ length xs
-    pub given : (i : ℕ) → Memᴰ (places.At i) from → Marked r i
+    pub given : (i : ℕ) → Memᴰ (Some i) from → Marked r i
     pub closed : (i : ℕ) → i < length xs → Marked r i → Names (Marked r) (link_at i)
     pub least :
         (Q : ℕ → Type 0)
-        → ((i : ℕ) → Memᴰ (places.At i) from → Q i)
+        → ((i : ℕ) → Memᴰ (Some i) from → Q i)
         → ((i : ℕ) → i < length xs → Q i → Names Q (link_at i))
         → (i : ℕ)
         → i < length xs
@@ -206,7 +206,7 @@ module _ {A : Type 0} (link : A → Place) (blank : A) (xs : List A) where
       r : List Bool
       r = mark_from_each link blank xs from (replicate (length xs) false)
 
-      g : Grows link_at (replicate (length xs) false) r × ((i : ℕ) → Memᴰ (places.At i) from → Marked r i)
+      g : Grows link_at (replicate (length xs) false) r × ((i : ℕ) → Memᴰ (Some i) from → Marked r i)
       g = chains-grow from (replicate (length xs) false) none
 
       next : (i : ℕ) → i < length xs → Marked (replicate (length xs) false) i ⊎ Names (Marked r) (link_at i) → Names (Marked r) (link_at i)
@@ -219,7 +219,7 @@ module _ {A : Type 0} (link : A → Place) (blank : A) (xs : List A) where
 
       only :
           (Q : ℕ → Type 0)
-          → ((i : ℕ) → Memᴰ (places.At i) from → Q i)
+          → ((i : ℕ) → Memᴰ (Some i) from → Q i)
           → ((i : ℕ) → i < length xs → Q i → Names Q (link_at i))
           → (i : ℕ)
           → i < length xs

@@ -8,6 +8,7 @@ use Prim.Native.Nat.{ℕ, zero, suc, ◌<◌, ◌≤◌}
 use native.Mathlib.Omega.{arith}
 use lib.ListN.{length, get_or, set, replicate, length-replicate, get_or-replicate}
 use lib.Seq.{get_or-set_same}
+use Rattle.std.specs.Prelude.{None}
 use Rattle.job.specs.Node.{Dag}
 use Rattle.model.specs.Machine.Limits.{Limits}
 use Rattle.model.specs.Machine.Blank.{blank_token, blank_cell, blank_machine, token_at}
@@ -15,7 +16,6 @@ use Rattle.model.specs.Machine.Active.{is_active, under_set, upward}
 use Rattle.model.specs.Machine.State.{is_live}
 use Rattle.model.specs.Machine.InUse.{tokens_used, cells_used, marked, Within}
 use Rattle.model.specs.Machine.Start.{start, start_token, start_machine}
-use Rattle.model.specs.declared.token.Place.TheVariants as places
 use Rattle.model.specs.declared.token.Token.{Token}
 use Rattle.model.specs.declared.cell.Cell.{Cell}
 use Rattle.model.specs.declared.record.Machine.{Machine}
@@ -29,12 +29,12 @@ use Rattle.model.proofs.Machine.Inside.{Inside, With, fits-blank, tokens-inside,
 use Rattle.model.proofs.Machine.WrittenTokens.{fits-same}
 use Rattle.job.proofs.Lists.{replicate-at}
 
-None : ℕ → Type 0
-None i = ⊥
+NoPlace : ℕ → Type 0
+NoPlace i = ⊥
 
 -- a blank record is inside no place at all
-blank-inside : (n k : ℕ) → Inside n k None None (replicate n blank_token) (replicate k blank_cell)
-unfolding None is_live token_at
+blank-inside : (n k : ℕ) → Inside n k NoPlace NoPlace (replicate n blank_token) (replicate k blank_cell)
+unfolding NoPlace is_live token_at
 blank-inside n k =
     record {
       tokens = length-replicate n blank_token;
@@ -46,13 +46,13 @@ blank-inside n k =
 
 start-inside :
     (lim : Limits) (goal : ℕ)
-    → Inside lim.token_places lim.cell_places (With None 0) None (start_machine lim goal).tokens (start_machine lim goal).cells
+    → Inside lim.token_places lim.cell_places (With NoPlace 0) NoPlace (start_machine lim goal).tokens (start_machine lim goal).cells
 start-inside lim goal =
     inside-token (blank-inside lim.token_places lim.cell_places) 0 (start_token goal)
-    (fits-same refl refl refl (fits-blank (With None 0) None))
+    (fits-same refl refl refl (fits-blank (With NoPlace 0) NoPlace))
 
 -- no place above a token under no cell is looked at
-upward-nowhere : (test : ℕ → Cell → Bool) (cs : List Cell) (n : ℕ) → upward test cs n places.Nowhere ≡ false
+upward-nowhere : (test : ℕ → Cell → Bool) (cs : List Cell) (n : ℕ) → upward test cs n None ≡ false
 unfolding upward
 upward-nowhere test cs zero = refl
 upward-nowhere test cs (suc n) = refl
@@ -74,7 +74,7 @@ module _ (lim : Limits) (goal : ℕ) where
 
   -- no cell
   pub start-cell-marks : cells_used begins ≡ replicate lim.cell_places false
-  unfolding None
+  unfolding NoPlace
   start-cell-marks =
       marks-same (cells_used begins) (replicate lim.cell_places false) sizes (λ c l m. absurd (cells-inside (start-inside lim goal) c l m))
       (λ c l m. absurd (unmarked lim.cell_places c l m))
@@ -93,10 +93,10 @@ module _ (lim : Limits) (goal : ℕ) where
       (tokens-used begins.tokens begins.cells).size ∙ (start-inside lim goal).tokens ∙ sym (length-replicate lim.token_places false)
 
   only : (i : ℕ) → i < length (tokens_used begins) → Marked (tokens_used begins) i → Marked none i ⊎ (i ≡ 0)
-  unfolding None
+  unfolding NoPlace
   only i l m = first (tokens-inside (start-inside lim goal) i l m)
     where
-      first : With None 0 i → Marked none i ⊎ (i ≡ 0)
+      first : With NoPlace 0 i → Marked none i ⊎ (i ≡ 0)
       first (inl x) = absurd x
       first (inr e) = inr e
 
@@ -123,7 +123,7 @@ module _ (lim : Limits) (goal : ℕ) where
       ∙ marked-set-free none 0 (get_or-replicate lim.token_places 0 false true (omega arith)) ∙ ap suc (marked-replicate lim.token_places)
 
 blank-within : (lim : Limits) → Within lim (blank_machine lim)
-unfolding None
+unfolding NoPlace
 blank-within lim =
     let h = blank-inside lim.token_places lim.cell_places in
     let x = marked-no-place (tokens_used (blank_machine lim)) (tokens-inside h) in

@@ -8,6 +8,7 @@ use native.Mathlib.Omega.{arith}
 use lib.ListN.{get_or}
 use lib.Dec.{eqb}
 use lib.IntN.{ℤ}
+use Rattle.std.specs.Prelude.{Some, None}
 use Rattle.job.specs.Test.{for_some, without}
 use Rattle.job.specs.Node.{Dag, node_at}
 use Rattle.model.specs.Machine.Limits.{Limits}
@@ -20,8 +21,7 @@ use Rattle.model.specs.Machine.Update.{queue_of, waits_of}
 use Rattle.model.specs.Machine.Step.{takes, step}
 use Rattle.model.specs.Machine.Answer.{holder, answered, answer}
 use Rattle.model.specs.Machine.Clock.{woken_by, after_advance, advance}
-use Rattle.model.specs.declared.token.Place.{Place}
-use Rattle.model.specs.declared.token.Place.TheVariants as places
+use Rattle.model.specs.Machine.Held.{Place}
 use Rattle.model.specs.declared.token.State.{State}
 use Rattle.model.specs.declared.token.State.TheVariants as states
 use Rattle.model.specs.declared.token.Token.{Token}
@@ -48,7 +48,7 @@ open-live h states.Frame e = e
 -- the token under a handle is called out under it
 pub holder-holds :
     (h i : ℕ) (ts : List Token) (p : ℕ)
-    → holder h i ts ≡ places.At p
+    → holder h i ts ≡ Some p
     → (k : ℕ) × (p ≡ i + k) × (for_some (eqb h) (handle_of (token_at ts k).state) ≡ true)
 unfolding holder token_at
 holder-holds h i [] p e = never cc
@@ -60,8 +60,8 @@ holder-holds h i (t ∷ ts) p e = go (for_some (eqb h) (handle_of t.state)) refl
     go :
         (b : Bool)
         → for_some (eqb h) (handle_of t.state) ≡ b
-        → elim b as (λ b. Place) [ true ↦ places.At i | false ↦ holder h (suc i) ts ] ≡ places.At p
-        → (holder h (suc i) ts ≡ places.At p → (k : ℕ) × (p ≡ suc i + k) × (for_some (eqb h) (handle_of (token_at ts k).state) ≡ true))
+        → elim b as (λ b. Place) [ true ↦ Some i | false ↦ holder h (suc i) ts ] ≡ Some p
+        → (holder h (suc i) ts ≡ Some p → (k : ℕ) × (p ≡ suc i + k) × (for_some (eqb h) (handle_of (token_at ts k).state) ≡ true))
         → Holds
     go true x y f = (0, (let z : i ≡ p = cc in omega arith), x)
     go false x y f = let (k, a, b) = f y in (suc k, omega arith, b)
@@ -102,8 +102,8 @@ module _ (lim : Limits) (d : Dag) (m : Machine) where
       → Within lim m
       → After (λ o. Within lim (sweep o)) (answered m value h)
   unfolding After answered Update.enqueue Update.put Update.with_tables Update.with_orders Update.with_state Update.with_value
-  answered-within v handle places.Nowhere e rules old = tt
-  answered-within v handle (places.At p) e rules old =
+  answered-within v handle None e rules old = tt
+  answered-within v handle (Some p) e rules old =
       none-new lim d m old _ (inside-put (inside-old lim d m rules) p _ in_use (fits-same refl refl refl (used-fits m p in_use)))
     where
       found : (k : ℕ) × (p ≡ 0 + k) × (for_some (eqb handle) (handle_of (token_at m.tokens k).state) ≡ true)

@@ -8,6 +8,7 @@ use Prim.Native.Nat.{ℕ, zero, suc, ◌+◌}
 use lib.ListN.{length, get_or, set, drop}
 use lib.Seq.{get_or-drop}
 use lib.IntN.{ℤ, pos}
+use Rattle.std.specs.Prelude.{Some}
 use Rattle.job.specs.Syntax.{Param, variable, constant}
 use Rattle.model.specs.Machine.Blank.{empty, unbound, blank_token, slot_at}
 use Rattle.model.specs.Machine.Active.{within}
@@ -17,9 +18,7 @@ use Rattle.model.specs.Machine.Step.{passed, formals_bound, callee, choke_token}
 use Rattle.model.specs.Machine.Clock.{woken_by}
 use Rattle.model.specs.declared.token.Slot.{Slot}
 use Rattle.model.specs.declared.token.Slot.TheVariants as slots
-use Rattle.model.specs.declared.token.Bind.{Bind}
-use Rattle.model.specs.declared.token.Held.TheVariants as helds
-use Rattle.model.specs.declared.token.Place.{Place}
+use Rattle.model.specs.Machine.Held.{Place}
 use Rattle.model.specs.declared.token.State.{State}
 use Rattle.model.specs.declared.token.State.TheVariants as states
 use Rattle.model.specs.declared.token.Token.{Token}
@@ -56,19 +55,19 @@ unfolding with_binding slot_at
 fits-binding {Q} {R} {t} x s g f =
     record {
       caller = f.caller;
-      cells = record { cell = f.cells.cell; binds = λ y c e. bound y c (written t.binds x (record { slot = s }) empty y) e };
+      cells = record { cell = f.cells.cell; binds = λ y c e. bound y c (written t.binds x s empty y) e };
     }
   where
-    now : ℕ → Bind
-    now y = get_or (set t.binds x (record { slot = s })) y empty
+    now : ℕ → Slot
+    now y = get_or (set t.binds x s) y empty
 
     bound :
         (y c : ℕ)
-        → ((y ≡ x) × (now y ≡ record { slot = s })) ⊎ (now y ≡ get_or t.binds y empty)
-        → (now y).slot ≡ slots.Cell c
+        → ((y ≡ x) × (now y ≡ s)) ⊎ (now y ≡ get_or t.binds y empty)
+        → now y ≡ slots.Cell c
         → R c
-    bound y c (inl w) e = g c (ap (λ (b : Bind). b.slot) (sym w.1) ∙ e)
-    bound y c (inr w) e = f.cells.binds y c (ap (λ (b : Bind). b.slot) (sym w) ∙ e)
+    bound y c (inl w) e = g c (sym w.1 ∙ e)
+    bound y c (inr w) e = f.cells.binds y c (sym w ∙ e)
 
 pub fits-value : {Q R : ℕ → Type 0} {t : Token} (x : ℕ) (v : ℤ) → Fits Q R t → Fits Q R (with_binding x (slots.Value v) t)
 fits-value x v f = fits-binding x (slots.Value v) (λ c e. never cc) f
@@ -77,13 +76,13 @@ pub fits-empty : {Q R : ℕ → Type 0} {t : Token} (x : ℕ) → Fits Q R t →
 fits-empty x f = fits-binding x slots.Empty (λ c e. never cc) f
 
 -- a formal is bound to a value, or as a variable was
-passed-cell : (bs : List Bind) (p : Param) (c : ℕ) → (passed bs p).slot ≡ slots.Cell c → (x : ℕ) × (slot_at bs x ≡ slots.Cell c)
+passed-cell : (bs : List Slot) (p : Param) (c : ℕ) → passed bs p ≡ slots.Cell c → (x : ℕ) × (slot_at bs x ≡ slots.Cell c)
 unfolding passed
 passed-cell bs (variable x) c e = (x, e)
 passed-cell bs (constant v) c e = never cc
 
 pub formals-cell :
-    (bs : List Bind) (ps : List Param) (y c : ℕ)
+    (bs : List Slot) (ps : List Param) (y c : ℕ)
     → slot_at (formals_bound bs ps) y ≡ slots.Cell c
     → (x : ℕ) × (slot_at bs x ≡ slots.Cell c)
 unfolding formals_bound slot_at
@@ -93,7 +92,7 @@ formals-cell bs ps y c e = go (length ps) ps y e
         (n : ℕ) (ps : List Param) (y : ℕ)
         → slot_at (map (passed bs) ps ++ drop n unbound) y ≡ slots.Cell c
         → (x : ℕ) × (slot_at bs x ≡ slots.Cell c)
-    go n [] y e = absurd (slot-unbound 8 (n + y) c (ap (λ (b : Bind). b.slot) (sym (get_or-drop n unbound y empty)) ∙ e))
+    go n [] y e = absurd (slot-unbound 8 (n + y) c (sym (get_or-drop n unbound y empty) ∙ e))
     go n (p ∷ ps) zero e = passed-cell bs p c e
     go n (p ∷ ps) (suc y) e = go n ps y e
 
@@ -160,7 +159,7 @@ choked-fits stays f = f
 
 -- a token at a time: it wakes if it is due by then
 pub data Woken (time : ℕ) (t : Token) : Token → Type 0 where
-  wakes : is_due_by time t.state ≡ true → Woken time t (with_state states.Ready (with_value (helds.Value (pos 0)) t))
+  wakes : is_due_by time t.state ≡ true → Woken time t (with_state states.Ready (with_value (Some (pos 0)) t))
   stays : is_due_by time t.state ≡ false → Woken time t t
 
 pub woken-cases : (time : ℕ) (t : Token) → Woken time t (woken_by time t)
@@ -170,7 +169,7 @@ woken-cases time t = go (is_due_by time t.state) refl
     go :
         (b : Bool)
         → is_due_by time t.state ≡ b
-        → Woken time t (elim b [ true ↦ with_state states.Ready (with_value (helds.Value (pos 0)) t) | false ↦ t ])
+        → Woken time t (elim b [ true ↦ with_state states.Ready (with_value (Some (pos 0)) t) | false ↦ t ])
     go true e = wakes e
     go false e = stays e
 

@@ -8,6 +8,7 @@ use native.Mathlib.Omega.{arith}
 use lib.ListN.{get_or}
 use lib.Dec.{eqb}
 use lib.IntN.{ℤ}
+use Rattle.std.specs.Prelude.{Some, None}
 use Rattle.job.specs.Test.{for_some}
 use Rattle.job.specs.Node.{Dag}
 use Rattle.model.specs.Machine.Limits.{Limits}
@@ -16,8 +17,7 @@ use Rattle.model.specs.Machine.State.{handle_of, is_ready}
 use Rattle.model.specs.Machine.Reply.{Effect}
 use Rattle.model.specs.Machine.Answer.{holder, answered, answer}
 use Rattle.model.specs.Run.Follow.{queued_token, Stands}
-use Rattle.model.specs.declared.token.Place.{Place}
-use Rattle.model.specs.declared.token.Place.TheVariants as places
+use Rattle.model.specs.Machine.Held.{Place}
 use Rattle.model.specs.declared.token.State.{State}
 use Rattle.model.specs.declared.token.State.TheVariants as states
 use Rattle.model.specs.declared.token.Token.{Token}
@@ -39,7 +39,7 @@ handle-busy h states.Frame e = refl
 
 -- the holder of a handle, counted from i, is at a place j places on and is not ready
 holder-busy :
-    (h i : ℕ) (ts : List Token) (q : ℕ) → holder h i ts ≡ places.At q
+    (h i : ℕ) (ts : List Token) (q : ℕ) → holder h i ts ≡ Some q
     → (j : ℕ) × (q ≡ i + j) × (is_ready (token_at ts j).state ≡ false)
 unfolding holder token_at
 holder-busy h i [] q e = never cc
@@ -53,8 +53,8 @@ holder-busy h i (t ∷ ts) q e = go (for_some (eqb h) (handle_of t.state)) refl 
 
     go :
         (b : Bool) → for_some (eqb h) (handle_of t.state) ≡ b
-        → elim b as (λ b. Place) [ true ↦ places.At i | false ↦ holder h (suc i) ts ] ≡ places.At q
-        → (holder h (suc i) ts ≡ places.At q → (j : ℕ) × (q ≡ suc i + j) × (is_ready (get_or ts j blank_token).state ≡ false))
+        → elim b as (λ b. Place) [ true ↦ Some i | false ↦ holder h (suc i) ts ] ≡ Some q
+        → (holder h (suc i) ts ≡ Some q → (j : ℕ) × (q ≡ suc i + j) × (is_ready (get_or ts j blank_token).state ≡ false))
         → Busy
     go true x y f = (0, (let z : i ≡ q = cc in omega arith), handle-busy h t.state x)
     go false x y f = later (f y)
@@ -63,7 +63,7 @@ module _ (m : Machine) (h : QueueRulesHold m) (k : ℕ) (l : k < m.queued) where
   abbrev Leaves : Effect → Type 0
   Leaves e = After (Untouched (queued_token m k) (get_or m.queue k 0) k) e
 
-  apart : (handle q : ℕ) → holder handle 0 m.tokens ≡ places.At q → get_or m.queue k 0 ≡ q → ⊥
+  apart : (handle q : ℕ) → holder handle 0 m.tokens ≡ Some q → get_or m.queue k 0 ≡ q → ⊥
   apart handle q e p = go (holder-busy handle 0 m.tokens q e)
     where
       go : (j : ℕ) × (q ≡ 0 + j) × (is_ready (token_at m.tokens j).state ≡ false) → ⊥
@@ -73,8 +73,8 @@ module _ (m : Machine) (h : QueueRulesHold m) (k : ℕ) (l : k < m.queued) where
 
   after-answered : (handle : ℕ) (v : ℤ) (q : Place) → holder handle 0 m.tokens ≡ q → Leaves (answered m v q)
   unfolding answered After
-  after-answered handle v places.Nowhere e = tt
-  after-answered handle v (places.At q) e = untouched-enqueue q _ (untouched-put q _ m (apart handle q e) (queued-untouched m h k l))
+  after-answered handle v None e = tt
+  after-answered handle v (Some q) e = untouched-enqueue q _ (untouched-put q _ m (apart handle q e) (queued-untouched m h k l))
 
 pub answer-stands :
     (lim : Limits) (d : Dag) (m : Machine) (handle : ℕ) (v : ℤ) (k : ℕ)

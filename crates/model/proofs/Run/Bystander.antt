@@ -20,7 +20,7 @@ use Rattle.model.specs.Machine.Reply.{Effect, outcome, is_refused}
 use Rattle.model.specs.Machine.Update.{with_tables, with_orders, with_counts, with_timers, with_clock, queue_of, waits_of}
 use Rattle.model.specs.Machine.Update.{put, enqueue, new_token, new_cell}
 use Rattle.model.specs.Run.Follow.{Stands, queued_token}
-use Rattle.model.specs.declared.token.Place.{Place}
+use Rattle.model.specs.Machine.Held.{Place}
 use Rattle.model.specs.declared.token.Token.{Token}
 use Rattle.model.specs.declared.record.Machine.{Machine}
 use Rattle.model.specs.declared.reply.Outcome.{Outcome}

@@ -9,18 +9,17 @@ use native.Mathlib.Omega.{arith}
 use lib.ListN.{length, set, length-set}
 use lib.Seq.{set_out}
 use lib.Dec.{eqb}
+use Rattle.std.specs.Prelude.{Some, None}
 use Rattle.model.specs.Machine.Blank.{blank_cell, cell_at, has_value}
 use Rattle.model.specs.Machine.Active.{cell_is_set, upward, under_set, within}
-use Rattle.model.specs.declared.token.Held.TheVariants as helds
-use Rattle.model.specs.declared.token.Place.{Place}
-use Rattle.model.specs.declared.token.Place.TheVariants as places
+use Rattle.model.specs.Machine.Held.{Place}
 use Rattle.model.specs.declared.cell.Cell.{Cell}
 use Rattle.job.proofs.Test.{clash, eqb-ne}
 use Rattle.model.proofs.Machine.TableRows.{cell_same, cell_other}
 
 -- a test that fails all the way up a chain fails at each cell of it, and back
 module _ (test : ℕ → Cell → Bool) (cs : List Cell) where
-  up-here : (n c : ℕ) → upward test cs (suc n) (places.At c) ≡ false → test c (cell_at cs c) ≡ false
+  up-here : (n c : ℕ) → upward test cs (suc n) (Some c) ≡ false → test c (cell_at cs c) ≡ false
   unfolding upward
   up-here n c e = go (test c (cell_at cs c)) e
     where
@@ -28,7 +27,7 @@ module _ (test : ℕ → Cell → Bool) (cs : List Cell) where
       go true e = e
       go false e = refl
 
-  up-further : (n c : ℕ) → upward test cs (suc n) (places.At c) ≡ false → upward test cs n (cell_at cs c).parent ≡ false
+  up-further : (n c : ℕ) → upward test cs (suc n) (Some c) ≡ false → upward test cs n (cell_at cs c).parent ≡ false
   unfolding upward
   up-further n c e = go (test c (cell_at cs c)) e
     where
@@ -42,7 +41,7 @@ module _ (test : ℕ → Cell → Bool) (cs : List Cell) where
   unfolding upward
   up_none q = refl
 
-  up-nowhere : (n : ℕ) → upward test cs n places.Nowhere ≡ false
+  up-nowhere : (n : ℕ) → upward test cs n None ≡ false
   unfolding upward
   up-nowhere zero = refl
   up-nowhere (suc n) = refl
@@ -50,7 +49,7 @@ module _ (test : ℕ → Cell → Bool) (cs : List Cell) where
   -- with the cell written for what it is equal to
   up_at :
       (n c : ℕ) (k : Cell) → cell_at cs c ≡ k → test c k ≡ false → upward test cs n k.parent ≡ false
-      → upward test cs (suc n) (places.At c) ≡ false
+      → upward test cs (suc n) (Some c) ≡ false
   unfolding upward
   up_at n c k p e f =
       subst (λ (k : Cell). elim (test c k) as (λ b. Bool) [ true ↦ true | false ↦ upward test cs n k.parent ] ≡ false) (sym p)
@@ -58,28 +57,28 @@ module _ (test : ℕ → Cell → Bool) (cs : List Cell) where
 
   up-less : (n : ℕ) (q : Place) → upward test cs (suc n) q ≡ false → upward test cs n q ≡ false
   up-less zero q e = up_none q
-  up-less (suc n) places.Nowhere e = up-nowhere (suc n)
-  up-less (suc n) (places.At c) e =
+  up-less (suc n) None e = up-nowhere (suc n)
+  up-less (suc n) (Some c) e =
       up_at n c (cell_at cs c) refl (up-here (suc n) c e) (up-less n (cell_at cs c).parent (up-further (suc n) c e))
 
 abbrev set_test : ℕ → Cell → Bool
 set_test c k = cell_is_set k
 
 abbrev pub unset_cell : Place → Cell
-unset_cell q = record { parent = q; value = helds.Nothing }
+unset_cell q = record { parent = q; value = None }
 
 unset-cell : (q : Place) → cell_is_set (unset_cell q) ≡ false
 unfolding cell_is_set has_value
 unset-cell q = refl
 
 -- a blank cell is under none
-pub blank-cell-clear : (cs : List Cell) (c : ℕ) → cell_at cs c ≡ blank_cell → under_set cs (places.At c) ≡ false
+pub blank-cell-clear : (cs : List Cell) (c : ℕ) → cell_at cs c ≡ blank_cell → under_set cs (Some c) ≡ false
 unfolding under_set
 blank-cell-clear cs c e = go (length cs)
   where
-    go : (n : ℕ) → upward set_test cs n (places.At c) ≡ false
-    go zero = up_none set_test cs (places.At c)
-    go (suc n) = up_at set_test cs n c blank_cell e (unset-cell places.Nowhere) (up-nowhere set_test cs n)
+    go : (n : ℕ) → upward set_test cs n (Some c) ≡ false
+    go zero = up_none set_test cs (Some c)
+    go (suc n) = up_at set_test cs n c blank_cell e (unset-cell None) (up-nowhere set_test cs n)
 
 -- an unset cell below a cell that is under none puts nothing under a set cell
 module _ (cs : List Cell) (c : ℕ) (above : Place) (inside : c < length cs) where
@@ -87,8 +86,8 @@ module _ (cs : List Cell) (c : ℕ) (above : Place) (inside : c < length cs) whe
       (n : ℕ) (q : Place) → upward set_test cs n q ≡ false → upward set_test cs n above ≡ false
       → upward set_test (set cs c (unset_cell above)) n q ≡ false
   new-cell-up zero q e f = up_none set_test (set cs c (unset_cell above)) q
-  new-cell-up (suc n) places.Nowhere e f = up-nowhere set_test (set cs c (unset_cell above)) (suc n)
-  new-cell-up (suc n) (places.At b) e f =
+  new-cell-up (suc n) None e f = up-nowhere set_test (set cs c (unset_cell above)) (suc n)
+  new-cell-up (suc n) (Some b) e f =
       go (ℕ_discrete b c) (new-cell-up n (cell_at cs b).parent (up-further set_test cs n b e) shorter) (new-cell-up n above shorter shorter)
     where
       cs' : List Cell
@@ -99,7 +98,7 @@ module _ (cs : List Cell) (c : ℕ) (above : Place) (inside : c < length cs) whe
 
       go :
           Dec (b ≡ c) → upward set_test cs' n (cell_at cs b).parent ≡ false → upward set_test cs' n above ≡ false
-          → upward set_test cs' (suc n) (places.At b) ≡ false
+          → upward set_test cs' (suc n) (Some b) ≡ false
       go (yes p) r s =
           up_at set_test cs' n b (unset_cell above) (ap (cell_at cs') p ∙ cell_same cs c (unset_cell above) inside) (unset-cell above) s
       go (no p) r s = up_at set_test cs' n b (cell_at cs b) (cell_other cs c b (unset_cell above) p) (up-here set_test cs n b e) r
@@ -121,8 +120,8 @@ set-cell-up :
     (cs : List Cell) (c : ℕ) (k : Cell) (n : ℕ) (q : Place)
     → upward set_test cs n q ≡ false → upward (λ b j. eqb c b) cs n q ≡ false → upward set_test (set cs c k) n q ≡ false
 set-cell-up cs c k zero q e f = up_none set_test (set cs c k) q
-set-cell-up cs c k (suc n) places.Nowhere e f = up-nowhere set_test (set cs c k) (suc n)
-set-cell-up cs c k (suc n) (places.At b) e f =
+set-cell-up cs c k (suc n) None e f = up-nowhere set_test (set cs c k) (suc n)
+set-cell-up cs c k (suc n) (Some b) e f =
     up_at set_test (set cs c k) n b (cell_at cs b)
     (cell_other cs c b k (λ p. eqb-ne c b (up-here (λ b j. eqb c b) cs n b f) (sym p)))
     (up-here set_test cs n b e)

@@ -12,7 +12,7 @@ use Rattle.model.specs.Machine.Active.{within}
 use Rattle.model.specs.Machine.State.{is_ready, waits_at}
 use Rattle.model.specs.Machine.Update.{with_tables, queue_of, waits_of}
 use Rattle.model.specs.Machine.Step.{choke_token, after_choke}
-use Rattle.model.specs.declared.token.Held.{Held}
+use Rattle.model.specs.Machine.Held.{Held}
 use Rattle.model.specs.declared.token.State.{State}
 use Rattle.model.specs.declared.token.State.TheVariants as states
 use Rattle.model.specs.declared.token.Token.{Token}

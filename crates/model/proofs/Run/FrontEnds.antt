@@ -5,6 +5,7 @@ use mathlib.Core.Logic.{◌⊎◌, inl, inr}
 use mathlib.Core.Bool.{Bool, true, false}
 use Prim.Native.Nat.{ℕ, zero, suc}
 use lib.ListN.{get_or}
+use Rattle.std.specs.Prelude.{Some, None}
 use Rattle.job.specs.Node.{Node, Dag, node_at}
 use Rattle.job.specs.Test.{without}
 use Rattle.model.specs.Machine.Limits.{Limits}
@@ -14,8 +15,7 @@ use Rattle.model.specs.Machine.Reply.{accepted, outcome, is_refused}
 use Rattle.model.specs.Machine.Update.{with_orders, with_timers, with_tables, queue_of, waits_of}
 use Rattle.model.specs.Machine.Step.{after_choke, choke_at, act, takes, step}
 use Rattle.model.specs.Run.Follow.{queued_token, cell_set, ends_token, front_ends, Fate, acts, falls, stays, survivors, fate}
-use Rattle.model.specs.declared.token.Place.{Place}
-use Rattle.model.specs.declared.token.Place.TheVariants as places
+use Rattle.model.specs.Machine.Held.{Place}
 use Rattle.model.specs.declared.token.Token.{Token}
 use Rattle.model.specs.declared.record.Machine.{Machine}
 use Rattle.model.specs.declared.reply.Outcome.{Outcome}
@@ -66,15 +66,15 @@ module _ (lim : Limits) (d : Dag) (m : Machine) (k : ℕ) where
   by-cell : (q : Place) → ends_token m q (queued_token m k) ≡ true
       → token_at (outcome m (choke_at taken front q)).machine.tokens place ≡ blank_token
   unfolding ends_token choke_at outcome accepted after_choke with_orders with_timers with_tables
-  by-cell places.Nowhere e = clash e refl
-  by-cell (places.At c) e = swept-blank _ place (choke-at m.cells c m.tokens place ∙ choke-ends m.cells c (queued_token m k) e)
+  by-cell None e = clash e refl
+  by-cell (Some c) e = swept-blank _ place (choke-at m.cells c m.tokens place ∙ choke-ends m.cells c (queued_token m k) e)
 
   by-node : (N : Node) → ends_token m (cell_set N front) (queued_token m k) ≡ true
       → token_at (outcome m (act lim d m taken (get_or m.queue 0 0) front N)).machine.tokens place ≡ blank_token
   unfolding cell_set ends_token act
   by-node N e = go (sets-only N front)
     where
-      go : (N ≡ Node.choke) ⊎ (cell_set N front ≡ places.Nowhere)
+      go : (N ≡ Node.choke) ⊎ (cell_set N front ≡ None)
           → token_at (outcome m (act lim d m taken (get_or m.queue 0 0) front N)).machine.tokens place ≡ blank_token
       go (inl n) =
           ap (λ N. token_at (outcome m (act lim d m taken (get_or m.queue 0 0) front N)).machine.tokens place) n

@@ -9,6 +9,7 @@ use Prim.Native.Nat.{ℕ, suc, ◌+◌, ◌≤◌, ◌<◌}
 use native.Mathlib.Omega.{arith}
 use lib.ListN.{length, get_or, take, length-append, length-take, get_or-append}
 use lib.Seq.{get_or-take}
+use Rattle.std.specs.Prelude.{Some, None}
 use Rattle.job.specs.Test.{select, without}
 use Rattle.job.specs.Node.{Node, Dag, node_at}
 use Rattle.model.specs.Machine.Limits.{Limits}
@@ -23,8 +24,7 @@ use Rattle.model.specs.Machine.Update.{queue_of, waits_of, put, new_token}
 use Rattle.model.specs.Machine.Step.{ended, goes_on, forked, split, entered, waited}
 use Rattle.model.specs.Machine.Step.{called_out, choke_at, has_token_place, act, takes, step}
 use Rattle.model.specs.Run.Follow.{queued_token, cell_set, ends_token, front_ends, survivors, stays, fate, Stands}
-use Rattle.model.specs.declared.token.Place.{Place}
-use Rattle.model.specs.declared.token.Place.TheVariants as places
+use Rattle.model.specs.Machine.Held.{Place}
 use Rattle.model.specs.declared.token.Token.{Token}
 use Rattle.model.specs.declared.record.Machine.{Machine}
 use Rattle.model.specs.declared.reply.Outcome.{Outcome}
@@ -44,7 +44,7 @@ use Rattle.model.proofs.Run.Bystander.{unharmed-marked, queued-unharmed, untouch
 -- if no cell is set no token is ended
 spares-all :
     (d : Dag) (m : Machine)
-    → cell_set (node_at d (queued_token m 0).node) (queued_token m 0) ≡ places.Nowhere
+    → cell_set (node_at d (queued_token m 0).node) (queued_token m 0) ≡ None
     → (i : ℕ)
     → front_ends d m i ≡ false
 unfolding front_ends ends_token
@@ -127,7 +127,7 @@ module _ (lim : Limits) (d : Dag) (m : Machine) (h : QueueRulesHold m) (k : ℕ)
         room = let z = ltb-lt (marked (tokens_used m)) lim.tokens e in let s = sized in let u = used-length in omega arith
 
     -- what each instruction does but choke, which alone sets a cell: the token watched is left
-    does-leaves : {N : Node} {e : Effect} → Does lim d m taken front actor N e → cell_set N actor ≡ places.Nowhere → Leaves e
+    does-leaves : {N : Node} {e : Effect} → Does lim d m taken front actor N e → cell_set N actor ≡ None → Leaves e
     unfolding After cell_set ended goes_on waited called_out forked entered split queue_of put with_tables new_token with_counts with_orders
     does-leaves (Does.refused r) n = tt
     does-leaves Does.ends n = untouched-put front blank_token taken apart base
@@ -144,11 +144,11 @@ module _ (lim : Limits) (d : Dag) (m : Machine) (h : QueueRulesHold m) (k : ℕ)
         (untouched-enqueue front _
         (untouched-cell _ actor.cell _ front-clear
         (untouched-token _ _ _ (fresh r) (untouched-put front _ taken apart base))))
-    does-leaves (Does.chokes e i) n = let z : actor.cell ≡ places.Nowhere = ap (λ N. cell_set N actor) (sym e) ∙ n in never cc
+    does-leaves (Does.chokes e i) n = let z : actor.cell ≡ None = ap (λ N. cell_set N actor) (sym e) ∙ n in never cc
 
   -- choke: the test that it filters the queue with says who is ended, so the position after it is the count of survivors
-  module _ (c : ℕ) (chokes-here : node_at d actor.node ≡ Node.choke) (cell : actor.cell ≡ places.At c) where
-    sets : cell_set (node_at d actor.node) actor ≡ places.At c
+  module _ (c : ℕ) (chokes-here : node_at d actor.node ≡ Node.choke) (cell : actor.cell ≡ Some c) where
+    sets : cell_set (node_at d actor.node) actor ≡ Some c
     unfolding cell_set
     sets = ap (λ N. cell_set N actor) chokes-here ∙ cell
 
@@ -183,7 +183,7 @@ module _ (lim : Limits) (d : Dag) (m : Machine) (h : QueueRulesHold m) (k : ℕ)
 
     chokes-leaves :
         (k' : ℕ) → front_ends d m (suc k) ≡ false → survivors d m 1 k ≡ k'
-        → After (Untouched watched place k') (choke_at taken actor (places.At c))
+        → After (Untouched watched place k') (choke_at taken actor (Some c))
     unfolding choke_at After with_orders
     chokes-leaves k' f s =
         untouched-choked c taken actor.value (h.named (suc k) l) (h.ready (suc k) l) (sym (ends (suc k)) ∙ f) base.unharmed
@@ -214,10 +214,10 @@ module _ (lim : Limits) (d : Dag) (m : Machine) (h : QueueRulesHold m) (k : ℕ)
         position-after = (fate-stays d m k k' e).1
 
         choking : N ≡ Node.choke → (q : Place) → actor.cell ≡ q → After (Untouched watched place k') (choke_at taken actor q)
-        choking n places.Nowhere i = unfold choke_at After in tt
-        choking n (places.At c) i = chokes-leaves c n i k' spared position-after
+        choking n None i = unfold choke_at After in tt
+        choking n (Some c) i = chokes-leaves c n i k' spared position-after
 
-        go : (N ≡ Node.choke) ⊎ (cell_set N actor ≡ places.Nowhere) → After (Untouched watched place k') (act lim d m taken front actor N)
+        go : (N ≡ Node.choke) ⊎ (cell_set N actor ≡ None) → After (Untouched watched place k') (act lim d m taken front actor N)
         go (inl n) =
             subst (λ N. After (Untouched watched place k') (act lim d m taken front actor N)) (sym n) (choking n actor.cell refl)
         go (inr sets) =

@@ -7,16 +7,16 @@ use mathlib.Core.List.{List, [], ◌∷◌}
 use Prim.Native.Nat.{ℕ, zero, suc, ◌+◌, ◌≤◌, ◌<◌}
 use native.Mathlib.Omega.{arith}
 use lib.ListN.{length, get_or, take}
+use Rattle.std.specs.Prelude.{None}
 use Rattle.job.specs.Test.{select}
 use Rattle.job.specs.Node.{Node, Dag}
 use Rattle.model.specs.Run.Follow.{cell_set, front_ends, survivors, Fate, falls, stays, fate}
-use Rattle.model.specs.declared.token.Place.TheVariants as places
 use Rattle.model.specs.declared.token.Token.{Token}
 use Rattle.model.specs.declared.record.Machine.{Machine}
 use Rattle.job.proofs.Test.{never, holds-or-fails}
 
 -- only at choke does a token's step set a cell
-pub sets-only : (N : Node) (t : Token) → (N ≡ Node.choke) ⊎ (cell_set N t ≡ places.Nowhere)
+pub sets-only : (N : Node) (t : Token) → (N ≡ Node.choke) ⊎ (cell_set N t ≡ None)
 unfolding cell_set
 sets-only Node.choke t = inl refl
 sets-only Node.stop t = inr refl

@@ -6,6 +6,7 @@ use mathlib.Core.List.{List, [], ◌∷◌, map}
 use Prim.Native.Nat.{ℕ}
 use lib.ListN.{replicate}
 use lib.IntN.{pos}
+use Rattle.std.specs.Prelude.{Some, None}
 use Rattle.job.specs.Syntax.{Program, stop}
 use Rattle.job.specs.Construct.{construct}
 use Rattle.job.specs.Notation.{◌>[◌]>◌, ◌<[◌]<◌, v, #, let', calling}
@@ -14,9 +15,7 @@ use Rattle.model.specs.Machine.Blank.{empty, token_at, cell_at}
 use Rattle.model.specs.Machine.InUse.{tokens_used, marked}
 use Rattle.model.specs.Run.Call.{runner, outcome_of, machine_after, none_refused, started}
 use Rattle.model.specs.declared.token.Slot.TheVariants as slots
-use Rattle.model.specs.declared.token.Held.{Held}
-use Rattle.model.specs.declared.token.Held.TheVariants as helds
-use Rattle.model.specs.declared.token.Place.TheVariants as places
+use Rattle.model.specs.Machine.Held.{Held}
 use Rattle.model.specs.declared.token.State.TheVariants as states
 use Rattle.model.specs.declared.token.Token.{Token}
 use Rattle.model.specs.declared.record.Machine.{Machine}
@@ -40,7 +39,7 @@ in_use p n = marked (tokens_used (after p n))
 abbrev pub calls_itself : Program
 calls_itself = calling (E [])
 
-pub goals-call-keeps-a-frame : ((token_of calls_itself 1 0).state ≡ states.Frame) × ((token_of calls_itself 1 1).caller ≡ places.At 0)
+pub goals-call-keeps-a-frame : ((token_of calls_itself 1 0).state ≡ states.Frame) × ((token_of calls_itself 1 1).caller ≡ Some 0)
 unfolding computing outcome_of machine_after
 goals-call-keeps-a-frame = (refl, refl)
 
@@ -60,7 +59,7 @@ abbrev pub binds_and_calls : Program
 binds_and_calls = calling (let' (# 1) >[ 0 ]> E [])
 
 pub remove-is-passed :
-    ((token_of binds_and_calls 3 1).value ≡ helds.Value (pos 1))
+    ((token_of binds_and_calls 3 1).value ≡ Some (pos 1))
     × (token_of binds_and_calls 4 1 ≡ token_of binds_and_calls 1 1)
     × (in_use binds_and_calls 4 ≡ 2)
 unfolding computing outcome_of machine_after
@@ -79,14 +78,14 @@ choke-keeps-a-frame = refl
 abbrev pub calls_under_cell : Program
 calls_under_cell = defining 0 (E []) (stop <[ 0 ]< E [])
 
-pub callee-inherits : ((token_of calls_under_cell 5 2).caller ≡ places.At 1) × ((token_of calls_under_cell 5 2).cell ≡ places.At 0)
+pub callee-inherits : ((token_of calls_under_cell 5 2).caller ≡ Some 1) × ((token_of calls_under_cell 5 2).cell ≡ Some 0)
 unfolding computing outcome_of machine_after
 callee-inherits = (refl, refl)
 
 -- the formals are bound all at once: E(x, y) = E(y, x), goal E(1, 2)
 pub formals-change-places :
     (token_of (defining 2 (E (v 1 ∷ v 0 ∷ [])) (E (# 1 ∷ # 2 ∷ []))) 2 1).binds
-    ≡ record { slot = slots.Value (pos 2) } ∷ record { slot = slots.Value (pos 1) } ∷ replicate 6 empty
+    ≡ slots.Value (pos 2) ∷ slots.Value (pos 1) ∷ replicate 6 empty
 unfolding computing outcome_of machine_after
 formals-change-places = refl
 
@@ -95,7 +94,7 @@ formals-change-places = refl
 abbrev pub passes_its_cell : Program
 passes_its_cell = defining 1 ((let' (v 1) >[ 2 ]> E (v 1 ∷ [])) <[ 1 ]< let' (# 7)) (E (# 1 ∷ []))
 
-pub cell-passed-on : (token_of passes_its_cell 15 1).binds ≡ record { slot = slots.Cell 1 } ∷ replicate 7 empty
+pub cell-passed-on : (token_of passes_its_cell 15 1).binds ≡ slots.Cell 1 ∷ replicate 7 empty
 unfolding computing outcome_of machine_after
 cell-passed-on = refl
 
@@ -103,6 +102,6 @@ abbrev cell_values : (steps : ℕ) → List Held
 cell_values n = map (λ c. (cell_at (after passes_its_cell n).cells c).value) (0 ∷ 1 ∷ [])
 
 pub cell-goes-out-of-use :
-    (cell_values 14 ≡ helds.Value (pos 7) ∷ helds.Value (pos 7) ∷ []) × (cell_values 15 ≡ helds.Nothing ∷ helds.Value (pos 7) ∷ [])
+    (cell_values 14 ≡ Some (pos 7) ∷ Some (pos 7) ∷ []) × (cell_values 15 ≡ None ∷ Some (pos 7) ∷ [])
 unfolding computing outcome_of machine_after
 cell-goes-out-of-use = (refl, refl)

@@ -6,6 +6,7 @@ use Prim.Native.Nat.{ℕ, ◌<◌}
 use native.Mathlib.Omega.{arith}
 use lib.ListN.{replicate}
 use lib.IntN.{pos}
+use Rattle.std.specs.Prelude.{Some}
 use Rattle.job.specs.Number.{Signed32, fits}
 use Rattle.job.specs.Syntax.{Program, stop}
 use Rattle.job.specs.Construct.{construct}
@@ -17,8 +18,6 @@ use Rattle.calculus.specs.Event.{Event}
 use Rattle.model.specs.Run.Call.{Call, Runner, runner, outcome_of, events_of, events_from, machine_after, started}
 use Rattle.model.specs.Run.Follow.{queued_token}
 use Rattle.model.specs.declared.token.Slot.TheVariants as slots
-use Rattle.model.specs.declared.token.Held.TheVariants as helds
-use Rattle.model.specs.declared.token.Place.TheVariants as places
 use Rattle.model.specs.declared.token.State.TheVariants as states
 use Rattle.model.specs.declared.token.Token.{Token}
 use Rattle.model.specs.declared.record.Machine.{Machine}
@@ -68,7 +67,7 @@ handle-not-given-again = refl
 
 -- E(x) = 17() >z> let(x), goal let(4) >a> (E(y) <y< 16()): the caller has a and y bound, the callee x alone, to y's cell
 pub callee-has-its-formals :
-    (queued_token (after runner same_number (house 4)) 1).binds ≡ record { slot = slots.Cell 0 } ∷ replicate 7 empty
+    (queued_token (after runner same_number (house 4)) 1).binds ≡ slots.Cell 0 ∷ replicate 7 empty
 unfolding computing outcome_of machine_after
 callee-has-its-formals = refl
 
@@ -93,7 +92,7 @@ after_two_prunes =
     after runner (goal ((stop <[ 0 ]< stop) ∥ (stop <[ 0 ]< stop)))
     (house 2 ++ (Call.step 1 ∷ Call.step 1 ∷ Call.step 0 ∷ []))
 
-pub after-the-last-given : (queue_of after_two_prunes ≡ 1 ∷ 3 ∷ []) × ((token_at after_two_prunes.tokens 3).cell ≡ places.At 1)
+pub after-the-last-given : (queue_of after_two_prunes ≡ 1 ∷ 3 ∷ []) × ((token_at after_two_prunes.tokens 3).cell ≡ Some 1)
 unfolding computing outcome_of machine_after
 after-the-last-given = (refl, refl)
 
@@ -105,10 +104,10 @@ frame_left = token_at (after runner same_number (house 4)).tokens 0
 abbrev token_called_out : Token
 token_called_out = token_at (after runner same_number (house 5)).tokens 1
 
-pub frame-keeps-its-value : (frame_left.state ≡ states.Frame) × (frame_left.value ≡ helds.Value (pos 4))
+pub frame-keeps-its-value : (frame_left.state ≡ states.Frame) × (frame_left.value ≡ Some (pos 4))
 unfolding computing outcome_of machine_after
 frame-keeps-its-value = (refl, refl)
 
-pub called-out-keeps-its-value : (token_called_out.state ≡ states.Called 0) × (token_called_out.value ≡ helds.Value (pos 4))
+pub called-out-keeps-its-value : (token_called_out.state ≡ states.Called 0) × (token_called_out.value ≡ Some (pos 4))
 unfolding computing outcome_of machine_after
 called-out-keeps-its-value = (refl, refl)

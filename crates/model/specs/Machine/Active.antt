@@ -1,9 +1,8 @@
 -- Document 01: active tokens. Assumes nothing: these are definitions.
-use Rattle.std.specs.Prelude.{Bool, true, false, not, List, ℕ, zero, suc, length, eqb}
+use Rattle.std.specs.Prelude.{Bool, true, false, not, List, ℕ, zero, suc, length, eqb, Some, None}
 use Rattle.model.specs.Machine.State.{is_live}
 use Rattle.model.specs.Machine.Blank.{cell_at, has_value}
-use Rattle.model.specs.declared.token.Place.{Place}
-use Rattle.model.specs.declared.token.Place.TheVariants as places
+use Rattle.model.specs.Machine.Held.{Place}
 use Rattle.model.specs.declared.token.Token.{Token}
 use Rattle.model.specs.declared.cell.Cell.{Cell}
 
@@ -16,8 +15,8 @@ unfoldable pub upward : (ℕ → Cell → Bool) → List Cell → ℕ → Place 
 upward test cs zero q = false
 upward test cs (suc n) q =
     elim q [
-      | places.Nowhere ↦ false
-      | places.At c ↦
+      | None ↦ false
+      | Some c ↦
           (let k = cell_at cs c in elim (test c k) [ true ↦ true | false ↦ upward test cs n k.parent ])
     ]
 

@@ -1,26 +1,22 @@
 -- Document 01: blank. A blank token or cell holds nothing (docs/DECISIONS.md, "Blank"). Assumes nothing: these are definitions.
-use Rattle.std.specs.Prelude.{Bool, true, false, not, List, ℕ, get_or, replicate, eqb}
+use Rattle.std.specs.Prelude.{Bool, true, false, not, List, ℕ, get_or, replicate, eqb, Some, None}
 use Rattle.job.specs.Bounds.{scope_limit}
 use Rattle.job.specs.Test.{◌and◌, for_all}
 use Rattle.model.specs.Machine.State.{is_blank_state}
 use Rattle.model.specs.Machine.Limits.{Limits}
 use Rattle.model.specs.declared.token.Slot.{Slot}
 use Rattle.model.specs.declared.token.Slot.TheVariants as slots
-use Rattle.model.specs.declared.token.Bind.{Bind}
-use Rattle.model.specs.declared.token.Held.{Held}
-use Rattle.model.specs.declared.token.Held.TheVariants as helds
-use Rattle.model.specs.declared.token.Place.{Place}
-use Rattle.model.specs.declared.token.Place.TheVariants as places
+use Rattle.model.specs.Machine.Held.{Held, Place}
 use Rattle.model.specs.declared.token.State.TheVariants as states
 use Rattle.model.specs.declared.token.Token.{Token}
 use Rattle.model.specs.declared.cell.Cell.{Cell}
 use Rattle.model.specs.declared.record.Machine.{Machine}
 
-abbrev pub empty : Bind
-empty = record { slot = slots.Empty }
+abbrev pub empty : Slot
+empty = slots.Empty
 
 -- "nothing bound"
-abbrev pub unbound : List Bind
+abbrev pub unbound : List Slot
 unbound = replicate scope_limit empty
 
 abbrev pub blank_token : Token
@@ -28,14 +24,14 @@ blank_token =
     record {
       node = 0;
       binds = unbound;
-      value = helds.Nothing;
-      caller = places.Nowhere;
-      cell = places.Nowhere;
+      value = None;
+      caller = None;
+      cell = None;
       state = states.Blank;
     }
 
 abbrev pub blank_cell : Cell
-blank_cell = record { parent = places.Nowhere; value = helds.Nothing }
+blank_cell = record { parent = None; value = None }
 
 -- the record in which nothing is in use
 abbrev pub blank_machine : Limits → Machine
@@ -62,8 +58,8 @@ token_at ts p = get_or ts p blank_token
 unfoldable pub cell_at : List Cell → ℕ → Cell
 cell_at cs c = get_or cs c blank_cell
 
-unfoldable pub slot_at : List Bind → ℕ → Slot
-slot_at bs x = (get_or bs x empty).slot
+unfoldable pub slot_at : List Slot → ℕ → Slot
+slot_at bs x = (get_or bs x empty)
 
 unfoldable pub is_bound : Slot → Bool
 is_bound slots.Empty = false
@@ -71,18 +67,18 @@ is_bound (slots.Value v) = true
 is_bound (slots.Cell c) = true
 
 unfoldable pub has_value : Held → Bool
-has_value helds.Nothing = false
-has_value (helds.Value v) = true
+has_value None = false
+has_value (Some v) = true
 
 unfoldable pub is_place : Place → Bool
-is_place places.Nowhere = false
-is_place (places.At p) = true
+is_place None = false
+is_place (Some p) = true
 
 unfoldable pub token_is_blank : Token → Bool
 token_is_blank t =
     is_blank_state t.state
     and eqb t.node 0
-    and for_all (λ (b : Bind). not (is_bound b.slot)) t.binds
+    and for_all (λ (b : Slot). not (is_bound b)) t.binds
     and not (has_value t.value)
     and not (is_place t.caller)
     and not (is_place t.cell)

@@ -1,5 +1,5 @@
 -- Document 02, request 1: a clock move. Assumes nothing: these are definitions.
-use Rattle.std.specs.Prelude.{Bool, true, false, not, List, [], ◌∷◌, ◌++◌, map, ℕ, leb, pos}
+use Rattle.std.specs.Prelude.{Bool, true, false, not, List, [], ◌∷◌, ◌++◌, map, ℕ, leb, pos, Some}
 use Rattle.job.specs.Test.{◌and◌, select}
 use Rattle.job.specs.Site.{last_time}
 use Rattle.job.specs.Node.{Dag}
@@ -10,7 +10,6 @@ use Rattle.model.specs.Machine.State.{is_due_by, due_time_of}
 use Rattle.model.specs.Machine.Reply.{moves, unless, outcome}
 use Rattle.model.specs.Machine.Update.{with_value, with_state, with_tables, with_orders, with_timers, with_clock}
 use Rattle.model.specs.Machine.Update.{queue_of, waits_of, timers_of}
-use Rattle.model.specs.declared.token.Held.TheVariants as helds
 use Rattle.model.specs.declared.token.State.TheVariants as states
 use Rattle.model.specs.declared.token.Token.{Token}
 use Rattle.model.specs.declared.record.Machine.{Machine}
@@ -20,7 +19,7 @@ use Rattle.model.specs.declared.reply.Outcome.{Outcome}
 unfoldable pub woken_by : (time : ℕ) → Token → Token
 woken_by time t =
     elim (is_due_by time t.state) [
-      | true ↦ with_state states.Ready (with_value (helds.Value (pos 0)) t)
+      | true ↦ with_state states.Ready (with_value (Some (pos 0)) t)
       | false ↦ t
     ]
 

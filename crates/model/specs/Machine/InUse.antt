@@ -1,12 +1,12 @@
 -- Document 01: in use, and blank after each accepted call (docs/DECISIONS.md, "In use"). Assumes nothing: these are definitions.
 use Rattle.std.specs.Prelude.{◌≡◌, Bool, true, false, List, [], ◌∷◌, ◌++◌, map, ℕ, zero, suc, ◌≤◌, length, get_or, set, replicate}
+use Rattle.std.specs.Prelude.{Some, None}
 use Rattle.model.specs.Machine.Limits.{Limits}
 use Rattle.model.specs.Machine.Blank.{blank_token, blank_cell, token_at, cell_at, slot_at}
 use Rattle.model.specs.Machine.Active.{is_active}
 use Rattle.model.specs.declared.token.Slot.TheVariants as slots
-use Rattle.model.specs.declared.token.Bind.{Bind}
-use Rattle.model.specs.declared.token.Place.{Place}
-use Rattle.model.specs.declared.token.Place.TheVariants as places
+use Rattle.model.specs.declared.token.Slot.{Slot}
+use Rattle.model.specs.Machine.Held.{Place}
 use Rattle.model.specs.declared.token.Token.{Token}
 use Rattle.model.specs.declared.cell.Cell.{Cell}
 use Rattle.model.specs.declared.record.Machine.{Machine}
@@ -15,12 +15,12 @@ use Rattle.model.specs.declared.record.Machine.{Machine}
 module _ (ts : List Token) (cs : List Cell) where
   pub data TokenInUse : (place : ℕ) → Type 0 where
     active : {p : ℕ} → is_active cs (token_at ts p) ≡ true → TokenInUse p
-    caller : {p q : ℕ} → TokenInUse p → (token_at ts p).caller ≡ places.At q → TokenInUse q
+    caller : {p q : ℕ} → TokenInUse p → (token_at ts p).caller ≡ Some q → TokenInUse q
 
   pub data CellInUse : (place : ℕ) → Type 0 where
-    cell : {p c : ℕ} → TokenInUse p → (token_at ts p).cell ≡ places.At c → CellInUse c
+    cell : {p c : ℕ} → TokenInUse p → (token_at ts p).cell ≡ Some c → CellInUse c
     binding : {p c : ℕ} (x : ℕ) → TokenInUse p → slot_at (token_at ts p).binds x ≡ slots.Cell c → CellInUse c
-    parent : {b c : ℕ} → CellInUse b → (cell_at cs b).parent ≡ places.At c → CellInUse c
+    parent : {b c : ℕ} → CellInUse b → (cell_at cs b).parent ≡ Some c → CellInUse c
 
 -- The computed form of both: proofs/Machine/InUse.antt shows that what is marked is what is in use (`tokens-in-use`, `cells-in-use`).
 -- Marks are a Bool for each place. A chain of links is marked until it ends or comes to a place that is marked already;
@@ -29,8 +29,8 @@ unfoldable pub mark_chain : {A : Type 0} → (A → Place) → A → List A → 
 mark_chain link blank xs zero q marks = marks
 mark_chain link blank xs (suc n) q marks =
     elim q [
-      | places.Nowhere ↦ marks
-      | places.At i ↦
+      | None ↦ marks
+      | Some i ↦
           elim (get_or marks i true) [
             | true ↦ marks
             | false ↦ mark_chain link blank xs n (link (get_or xs i blank)) (set marks i true)
@@ -49,11 +49,11 @@ reached link blank xs from = mark_from_each link blank xs from (replicate (lengt
 unfoldable pub active_places : List Cell → ℕ → List Token → List Place
 active_places cs i [] = []
 active_places cs i (t ∷ ts) =
-    let rest = active_places cs (suc i) ts in elim (is_active cs t) [ true ↦ places.At i ∷ rest | false ↦ rest ]
+    let rest = active_places cs (suc i) ts in elim (is_active cs t) [ true ↦ Some i ∷ rest | false ↦ rest ]
 
 -- the links: a token reaches its caller, its cell and the cells bound in it; a cell reaches its parent
-unfoldable pub bound_cell : Bind → Place
-bound_cell b = elim b.slot [ slots.Empty ↦ places.Nowhere | slots.Value v ↦ places.Nowhere | slots.Cell c ↦ places.At c ]
+unfoldable pub bound_cell : Slot → Place
+bound_cell b = elim b [ slots.Empty ↦ None | slots.Value v ↦ None | slots.Cell c ↦ Some c ]
 
 unfoldable pub cells_of : Token → List Place
 cells_of t = t.cell ∷ map bound_cell t.binds

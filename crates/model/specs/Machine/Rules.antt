@@ -1,5 +1,5 @@
 -- Document 01: the index rules, in the order of their sentence. Assumes nothing: these are definitions.
-use Rattle.std.specs.Prelude.{Bool, true, false, not, List, [], ◌∷◌, ◌++◌, ℕ, zero, suc, length, take, drop, ltb, leb, eqb}
+use Rattle.std.specs.Prelude.{Bool, true, false, not, List, [], ◌∷◌, ◌++◌, ℕ, zero, suc, length, take, drop, ltb, leb, eqb, Some, None}
 use Rattle.job.specs.Bounds.{scope_limit}
 use Rattle.job.specs.Test.{◌and◌, ◌or◌, for_all, all_from, occurrences, once, distinct}
 use Rattle.job.specs.Number.{fits}
@@ -13,11 +13,7 @@ use Rattle.model.specs.Machine.Active.{cell_is_set, under_set}
 use Rattle.model.specs.Machine.InUse.{tokens_used, used_cells}
 use Rattle.model.specs.declared.token.Slot.{Slot}
 use Rattle.model.specs.declared.token.Slot.TheVariants as slots
-use Rattle.model.specs.declared.token.Bind.{Bind}
-use Rattle.model.specs.declared.token.Held.{Held}
-use Rattle.model.specs.declared.token.Held.TheVariants as helds
-use Rattle.model.specs.declared.token.Place.{Place}
-use Rattle.model.specs.declared.token.Place.TheVariants as places
+use Rattle.model.specs.Machine.Held.{Held, Place}
 use Rattle.model.specs.declared.token.State.{State}
 use Rattle.model.specs.declared.token.State.TheVariants as states
 use Rattle.model.specs.declared.token.Token.{Token}
@@ -26,12 +22,12 @@ use Rattle.model.specs.declared.record.Machine.{Machine}
 
 -- "nodes, slots, tokens and cells named lie in their ranges"; "every value is signed 32-bit"
 unfoldable pub held_in_range : Held → Bool
-held_in_range helds.Nothing = true
-held_in_range (helds.Value v) = fits v
+held_in_range None = true
+held_in_range (Some v) = fits v
 
 unfoldable pub place_in_range : ℕ → Place → Bool
-place_in_range n places.Nowhere = true
-place_in_range n (places.At p) = ltb p n
+place_in_range n None = true
+place_in_range n (Some p) = ltb p n
 
 unfoldable pub slot_in_range : ℕ → Slot → Bool
 slot_in_range cells slots.Empty = true
@@ -51,7 +47,7 @@ unfoldable pub token_in_range : Limits → Dag → (calls : ℕ) → Token → B
 token_in_range lim d calls t =
     is_node d t.node
     and eqb (length t.binds) scope_limit
-    and for_all (λ (b : Bind). slot_in_range lim.cell_places b.slot) t.binds
+    and for_all (slot_in_range lim.cell_places) t.binds
     and held_in_range t.value
     and place_in_range lim.token_places t.caller
     and place_in_range lim.cell_places t.cell
@@ -83,7 +79,7 @@ names_once of ts array n =
 -- "each parent chain ends": within as many links as there are cells
 unfoldable pub chain_ends : List Cell → ℕ → Place → Bool
 chain_ends cs zero q = not (is_place q)
-chain_ends cs (suc n) q = elim q [ places.Nowhere ↦ true | places.At c ↦ chain_ends cs n (cell_at cs c).parent ]
+chain_ends cs (suc n) q = elim q [ None ↦ true | Some c ↦ chain_ends cs n (cell_at cs c).parent ]
 
 unfoldable pub chains_end : List Cell → Bool
 chains_end cs = for_all (λ (c : Cell). chain_ends cs (length cs) c.parent) cs
@@ -108,10 +104,10 @@ waits_at_unset cs states.Frame = true
 
 -- "a token at return names a frame, at choke a cell, at a call no empty variable"
 unfoldable pub names_frame : List Token → Place → Bool
-names_frame ts places.Nowhere = false
-names_frame ts (places.At p) = is_frame (token_at ts p).state
+names_frame ts None = false
+names_frame ts (Some p) = is_frame (token_at ts p).state
 
-unfoldable pub not_empty : List Bind → Param → Bool
+unfoldable pub not_empty : List Slot → Param → Bool
 not_empty bs (variable x) = is_bound (slot_at bs x)
 not_empty bs (constant v) = true
 

@@ -1,11 +1,9 @@
 -- The start. Assumes nothing: these are definitions.
-use Rattle.std.specs.Prelude.{true, false, [], ℕ, ◌-◌, set, replicate}
+use Rattle.std.specs.Prelude.{true, false, [], ℕ, ◌-◌, set, replicate, None}
 use Rattle.job.specs.Node.{Dag, dag_holds}
 use Rattle.model.specs.Machine.Limits.{Limits}
 use Rattle.model.specs.Machine.Blank.{unbound, blank_token, blank_cell, blank_machine}
 use Rattle.model.specs.Machine.Reply.{report_values, refuses, outcome}
-use Rattle.model.specs.declared.token.Held.TheVariants as helds
-use Rattle.model.specs.declared.token.Place.TheVariants as places
 use Rattle.model.specs.declared.token.State.TheVariants as states
 use Rattle.model.specs.declared.token.Token.{Token}
 use Rattle.model.specs.declared.record.Machine.{Machine}
@@ -18,9 +16,9 @@ start_token goal =
     record {
       node = goal;
       binds = unbound;
-      value = helds.Nothing;
-      caller = places.Nowhere;
-      cell = places.Nowhere;
+      value = None;
+      caller = None;
+      cell = None;
       state = states.Ready;
     }
 

@@ -1,6 +1,6 @@
 -- Document 01: one step, and house order where the place is 0. One clause for each instruction; a branch that a test excludes gives the
 -- plainest value (docs/DECISIONS.md, "Branches that a test excludes"). Assumes nothing: these are definitions.
-use Rattle.std.specs.Prelude.{Bool, true, false, List, [], ◌∷◌, ◌++◌, map, ℕ, suc, length, get_or, set, drop, ltb, ℤ, pos}
+use Rattle.std.specs.Prelude.{Bool, true, false, List, [], ◌∷◌, ◌++◌, map, ℕ, suc, length, get_or, set, drop, ltb, ℤ, pos, Some, None}
 use Rattle.std.proofs.Math.Option.{Option, some, none}
 use Rattle.job.specs.Test.{select, without}
 use Rattle.job.specs.Site.{BuiltinReply, gives, silent, later, due_time, is_builtin, builtin}
@@ -18,11 +18,8 @@ use Rattle.model.specs.Machine.Rules.{rules_hold}
 use Rattle.model.specs.Machine.State.{is_ready, is_waiting, is_due, waits_at}
 use Rattle.model.specs.Machine.Reply.{Effect, moves, waits, publishes, calls, refuses, unless, outcome}
 use Rattle.model.specs.declared.token.Slot.TheVariants as slots
-use Rattle.model.specs.declared.token.Bind.{Bind}
-use Rattle.model.specs.declared.token.Held.{Held}
-use Rattle.model.specs.declared.token.Held.TheVariants as helds
-use Rattle.model.specs.declared.token.Place.{Place}
-use Rattle.model.specs.declared.token.Place.TheVariants as places
+use Rattle.model.specs.declared.token.Slot.{Slot}
+use Rattle.model.specs.Machine.Held.{Held, Place}
 use Rattle.model.specs.declared.token.State.TheVariants as states
 use Rattle.model.specs.declared.token.Token.{Token}
 use Rattle.model.specs.declared.cell.Cell.{Cell}
@@ -38,7 +35,7 @@ unfoldable pub and_then : ℤ → LookUpResult → LookUpResult
 and_then v (values vs) = values (v ∷ vs)
 and_then v (unset c) = unset c
 
-module _ (cs : List Cell) (bs : List Bind) where
+module _ (cs : List Cell) (bs : List Slot) where
   unfoldable pub look : List Param → LookUpResult
   look [] = values []
   look (constant v ∷ ps) = and_then v (look ps)
@@ -47,16 +44,16 @@ module _ (cs : List Cell) (bs : List Bind) where
         -- "at a call no empty variable": the test for 14 leaves none
         | slots.Empty ↦ values []
         | slots.Value v ↦ and_then v (look ps)
-        | slots.Cell c ↦ elim (cell_at cs c).value [ helds.Nothing ↦ unset c | helds.Value v ↦ and_then v (look ps) ]
+        | slots.Cell c ↦ elim (cell_at cs c).value [ None ↦ unset c | Some v ↦ and_then v (look ps) ]
       ]
 
 -- "A variable's binding is passed on as it is, its cell set or unset"
-unfoldable pub passed : List Bind → Param → Bind
-passed bs (variable x) = record { slot = slot_at bs x }
-passed bs (constant v) = record { slot = slots.Value v }
+unfoldable pub passed : List Slot → Param → Slot
+passed bs (variable x) = slot_at bs x
+passed bs (constant v) = slots.Value v
 
 -- "only its formals bound"
-unfoldable pub formals_bound : List Bind → List Param → List Bind
+unfoldable pub formals_bound : List Slot → List Param → List Slot
 formals_bound bs ps = map (passed bs) ps ++ drop (length ps) unbound
 
 -- ".. the callee is .. in the token's cell, with no value and only its formals bound"
@@ -65,7 +62,7 @@ callee q t root ps =
     record {
       node = root;
       binds = formals_bound t.binds ps;
-      value = helds.Nothing;
+      value = None;
       caller = q;
       cell = t.cell;
       state = states.Ready;
@@ -73,8 +70,8 @@ callee q t root ps =
 
 -- "a ready token at .. has a value": the test for 14 leaves none without
 unfoldable pub value_of : Held → ℤ
-value_of helds.Nothing = pos 0
-value_of (helds.Value v) = v
+value_of None = pos 0
+value_of (Some v) = v
 
 -- "all tokens of it and of its descendants end; waiters become ready" (docs/DECISIONS.md, "Choke ends every token", "Waiting")
 unfoldable pub choke_token : List Cell → ℕ → Token → Token
@@ -114,12 +111,12 @@ module _ (m : Machine) (p : ℕ) (t : Token) where
   unfoldable pub split : (q c x left right : ℕ) → Effect
   split q c x l r =
       let sides = new_token q (in_cell c (with_node r t)) (put p (with_node l (with_binding x (slots.Cell c) t)) m) in
-      moves (enqueue q (enqueue p (new_cell c (record { parent = t.cell; value = helds.Nothing }) sides)))
+      moves (enqueue q (enqueue p (new_cell c (record { parent = t.cell; value = None }) sides)))
 
   -- "the token becomes a frame at next, the callee is new, .."
   unfoldable pub entered : (q root : ℕ) → List Param → (next : ℕ) → Effect
   entered q root ps k =
-      moves (enqueue q (new_token q (callee (places.At p) t root ps) (put p (with_node k (with_state states.Frame t)) m)))
+      moves (enqueue q (new_token q (callee (Some p) t root ps) (put p (with_node k (with_state states.Frame t)) m)))
 
   -- document 02, request 2: "the token itself becomes the callee and the callee inherits its caller"
   unfoldable pub becomes_callee : (root : ℕ) → List Param → Effect
@@ -135,13 +132,13 @@ module _ (m : Machine) (p : ℕ) (t : Token) where
   deferred k none = moves (ended m p)
   deferred k (some due) =
       elim (ltb m.clock due) [
-        | false ↦ goes_on m p (with_node k (with_value (helds.Value (pos 0)) t))
+        | false ↦ goes_on m p (with_node k (with_value (Some (pos 0)) t))
         | true ↦ moves (with_timers (timers_of m ++ (p ∷ [])) (put p (with_node k (with_state (states.Due due) t)) m))
       ]
 
   -- "a built-in replies and the token goes on, or it is silent and the token ends"
   unfoldable pub replied : (next : ℕ) → BuiltinReply → Effect
-  replied k (gives v) = goes_on m p (with_node k (with_value (helds.Value v) t))
+  replied k (gives v) = goes_on m p (with_node k (with_value (Some v) t))
   replied k silent = moves (ended m p)
   replied k (later time) = deferred k (due_time m.clock time)
 
@@ -153,13 +150,13 @@ module _ (m : Machine) (p : ℕ) (t : Token) where
 
   -- "return: the place takes a copy of the frame with the value". (The test for 14 leaves no token without a frame.)
   unfoldable pub returned : Place → Effect
-  returned places.Nowhere = refuses 14
-  returned (places.At f) = goes_on m p (with_state states.Ready (with_value t.value (token_at m.tokens f)))
+  returned None = refuses 14
+  returned (Some f) = goes_on m p (with_state states.Ready (with_value t.value (token_at m.tokens f)))
 
 -- "choke: set the cell; .." (The test for 14 leaves no token without a cell.)
 unfoldable pub choke_at : Machine → Token → Place → Effect
-choke_at m t places.Nowhere = refuses 14
-choke_at m t (places.At c) = moves (after_choke c t.value m)
+choke_at m t None = refuses 14
+choke_at m t (Some c) = moves (after_choke c t.value m)
 
 abbrev pub token_place : Machine → ℕ
 token_place before = next_place (tokens_used before) before.lasttoken

@@ -1,10 +1,9 @@
 -- A token, a machine with a field or two changed; a name put into the queue. Step, answer and clock move say what they do in these.
 -- Assumes nothing: these are definitions.
-use Rattle.std.specs.Prelude.{List, [], ◌∷◌, ◌++◌, ℕ, length, set, take}
+use Rattle.std.specs.Prelude.{List, [], ◌∷◌, ◌++◌, ℕ, length, set, take, Some}
 use Rattle.job.specs.Test.{padded}
 use Rattle.model.specs.declared.token.Slot.{Slot}
-use Rattle.model.specs.declared.token.Held.{Held}
-use Rattle.model.specs.declared.token.Place.TheVariants as places
+use Rattle.model.specs.Machine.Held.{Held}
 use Rattle.model.specs.declared.token.State.{State}
 use Rattle.model.specs.declared.token.Token.{Token}
 use Rattle.model.specs.declared.cell.Cell.{Cell}
@@ -18,7 +17,7 @@ unfoldable pub with_binding : ℕ → Slot → Token → Token
 with_binding x s t =
     record {
       node = t.node;
-      binds = set t.binds x (record { slot = s });
+      binds = set t.binds x s;
       value = t.value;
       caller = t.caller;
       cell = t.cell;
@@ -30,7 +29,7 @@ with_value v t = record { node = t.node; binds = t.binds; value = v; caller = t.
 
 unfoldable pub in_cell : ℕ → Token → Token
 in_cell c t =
-    record { node = t.node; binds = t.binds; value = t.value; caller = t.caller; cell = places.At c; state = t.state }
+    record { node = t.node; binds = t.binds; value = t.value; caller = t.caller; cell = Some c; state = t.state }
 
 unfoldable pub with_state : State → Token → Token
 with_state s t = record { node = t.node; binds = t.binds; value = t.value; caller = t.caller; cell = t.cell; state = s }

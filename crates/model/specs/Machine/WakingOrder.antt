@@ -1,12 +1,11 @@
 -- Document 02, request 1, in statements: whom a clock move wakes and in what order, what a choke leaves of a token, and that no two orders
 -- name the same one. Proved in demand3/proofs/WakingOrder.antt. Assumes nothing: these are definitions.
-use Rattle.std.specs.Prelude.{◌≡◌, true, false, List, [], ◌∷◌, ◌++◌, ℕ, ◌+◌, ◌≤◌, eqb, pos}
+use Rattle.std.specs.Prelude.{◌≡◌, true, false, List, [], ◌∷◌, ◌++◌, ℕ, ◌+◌, ◌≤◌, eqb, pos, Some}
 use Rattle.job.specs.Test.{select, occurrences, once}
 use Rattle.model.specs.Machine.Blank.{blank_token, token_at}
 use Rattle.model.specs.Machine.State.{due_time_of}
 use Rattle.model.specs.Machine.Update.{with_value, with_state, queue_of, waits_of, timers_of}
 use Rattle.model.specs.Machine.Clock.{place_due_by}
-use Rattle.model.specs.declared.token.Held.TheVariants as helds
 use Rattle.model.specs.declared.token.State.TheVariants as states
 use Rattle.model.specs.declared.record.Machine.{Machine}
 
@@ -34,7 +33,7 @@ pub record WakesInOrder (m : Machine) (time : ℕ) (after : Machine) : Type 0 wh
   pub by_call : (due : ℕ) → due ≤ time → due_then m due joined ≡ due_then m due (timers_of m)
   -- "with value 0"; every other token is as it was
   pub woken : (p : ℕ) → place_due_by m time p ≡ true
-      → token_at after.tokens p ≡ with_state states.Ready (with_value (helds.Value (pos 0)) (token_at m.tokens p))
+      → token_at after.tokens p ≡ with_state states.Ready (with_value (Some (pos 0)) (token_at m.tokens p))
   pub others : (p : ℕ) → place_due_by m time p ≡ false → token_at after.tokens p ≡ token_at m.tokens p
 
 -- no order names the place, and it is blank

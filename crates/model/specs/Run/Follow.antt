@@ -1,6 +1,6 @@
 -- A ready token, followed by its position in the queue from call to call (docs/DECISIONS.md, "Following a token"). Assumes nothing: these
 -- are definitions.
-use Rattle.std.specs.Prelude.{◌≡◌, Bool, true, false, List, [], ◌∷◌, ℕ, zero, suc, ◌<◌, get_or, ℤ}
+use Rattle.std.specs.Prelude.{◌≡◌, Bool, true, false, List, [], ◌∷◌, ℕ, zero, suc, ◌<◌, get_or, ℤ, Some, None}
 use Rattle.job.specs.Number.{Signed32}
 use Rattle.job.specs.Node.{Node, Dag, node_at}
 use Rattle.model.specs.Machine.Limits.{Limits}
@@ -9,8 +9,7 @@ use Rattle.model.specs.Machine.Active.{within}
 use Rattle.model.specs.Machine.Reply.{outcome, is_refused}
 use Rattle.model.specs.Machine.Step.{takes}
 use Rattle.model.specs.Run.Call.{Call, step, answer, advance, Runner, outcome_of}
-use Rattle.model.specs.declared.token.Place.{Place}
-use Rattle.model.specs.declared.token.Place.TheVariants as places
+use Rattle.model.specs.Machine.Held.{Place}
 use Rattle.model.specs.declared.token.Token.{Token}
 use Rattle.model.specs.declared.record.Machine.{Machine}
 
@@ -21,21 +20,21 @@ queued_token m k = token_at m.tokens (get_or m.queue k 0)
 -- the cell that a token's step sets: its own, if it stands at choke
 unfoldable pub cell_set : Node → Token → Place
 cell_set Node.choke t = t.cell
-cell_set Node.stop t = places.Nowhere
-cell_set (Node.site s ps k) t = places.Nowhere
-cell_set (Node.call e ps k) t = places.Nowhere
-cell_set (Node.fork l r) t = places.Nowhere
-cell_set (Node.assign x k) t = places.Nowhere
-cell_set (Node.remove x k) t = places.Nowhere
-cell_set (Node.where' x l r) t = places.Nowhere
-cell_set Node.return t = places.Nowhere
-cell_set Node.publish t = places.Nowhere
-cell_set Node.unknown t = places.Nowhere
+cell_set Node.stop t = None
+cell_set (Node.site s ps k) t = None
+cell_set (Node.call e ps k) t = None
+cell_set (Node.fork l r) t = None
+cell_set (Node.assign x k) t = None
+cell_set (Node.remove x k) t = None
+cell_set (Node.where' x l r) t = None
+cell_set Node.return t = None
+cell_set Node.publish t = None
+cell_set Node.unknown t = None
 
 -- does setting this cell end this token: it is the token's cell or an ancestor of it
 unfoldable pub ends_token : Machine → Place → Token → Bool
-ends_token m places.Nowhere t = false
-ends_token m (places.At c) t = within m.cells c t.cell
+ends_token m None t = false
+ends_token m (Some c) t = within m.cells c t.cell
 
 -- does the step that takes the first position of the queue end the token at another position
 unfoldable pub front_ends : Dag → Machine → ℕ → Bool

@@ -1,4 +1,5 @@
 -- `site_call::built_in` meets its contract: each way out is how the definition's step ends there. Assumes nothing.
+use Rattle.std.specs.Prelude.{Some}
 use Rattle.calls.proofs.SiteCall.{replied-by}
 use Rattle.acts.proofs.EndRebind.{gives_as}
 use Rattle.calls.proofs.SiteCall.{reply-gives, due-gives, settles, silent-ends}
@@ -7,7 +8,6 @@ use Rattle.sites.proofs.RuleFacts.{timers-room}
 use Rattle.sites.proofs.SiteCalls.{reply-back}
 use Rattle.calls.specs.TimedReply.{settled_at}
 use Rattle.calls.specs.declared.rwait.TimedReply.TheVariants as settleds
-use Rattle.model.specs.declared.token.Held.TheVariants as helds
 use mir.Syntax.{w32}
 use mir.Val.{SFits}
 use mir.Facts.{to_z-of_z}
@@ -52,7 +52,7 @@ returns-in-Gives c = λ m k.
     let at = c.settle.ensures m k.acting.taking.lawful.holds.codes ∙ ap (settled_at m.clock) reply in
     reply-gives k.acting.taking v _ _ _ (settles k (settleds.Gives v) c.requires.1 at c.in-Gives.is)
     c.dag_word-in-Gives.ensures c.plain.ensures
-    (c.reply.ensures m (helds.Value v) k.acting.taking.lawful.holds k.acting.taking.queued refl
+    (c.reply.ensures m (Some v) k.acting.taking.lawful.holds k.acting.taking.queued refl
     (sym (rw (to_z-of_z h) at c.unsigned.ensures)))
 
 pub returns-in-Silent : goal.returns-in-Silent

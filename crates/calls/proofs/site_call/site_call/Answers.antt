@@ -5,20 +5,18 @@ use Rattle.sites.proofs.LookLaws.{look-waits}
 use Rattle.sites.proofs.RuleFacts.{look-facts, waits-room}
 use Rattle.sites.proofs.RowKinds.{site-params}
 use native.Mathlib.Omega.{arith}
-use borrow.Author.Rules.{rules}
 use Rattle.calls.proofs.site_call.site_call.Goals as goal
 
-pub look_up-found-requires : goal.look_up-found-requires
-look_up-found-requires c = (token-inside c.requires.is.taking, site-params _ _ (row c.requires.is))
+pub look_up-requires : goal.look_up-requires
+look_up-requires c = (token-inside c.requires.is.taking, site-params _ _ (row c.requires.is))
 
 pub wait-requires : goal.wait-requires
 wait-requires c = token-inside c.requires.is.taking
 
-pub returns-then-unset-lt-CELL_PLACE_COUNT : goal.returns-then-unset-lt-CELL_PLACE_COUNT
-returns-then-unset-lt-CELL_PLACE_COUNT c = λ m a.
+pub returns-in-Err : goal.returns-in-Err
+returns-in-Err c = λ m a.
     let facts = look-facts _ m a.taking.lawful.rules _ (token-inside a.taking) in
-    let found = look-waits _ _ (c.look_up-found.ensures m a.taking.lawful.holds.codes facts)
-    c.if-unset-lt-CELL_PLACE_COUNT.true in
+    let found = look-waits _ (c.look_up.ensures m a.taking.lawful.holds.codes facts) _ c.in-Err.is in
     wait-gives a.taking _ _ (waits-at _ _ m a _ found) c.plain.ensures
     (c.wait.ensures m a.taking.lawful.holds a.taking.queued
     (waits-room _ m a.taking.lawful.rules _ a.taking.queued))
@@ -31,9 +29,9 @@ built_in-requires c = let a = c.requires.is in
     let facts = look-facts _ _ a.taking.lawful.rules _ (token-inside a.taking) in (
       record {
         machine = c.requires.machine;
-        is = values_of _ a
-            (c.look_up-found.ensures _ a.taking.lawful.holds.codes facts)
-            c.if-unset-lt-CELL_PLACE_COUNT.false;
+        is = values_of a
+            (c.look_up.ensures _ a.taking.lawful.holds.codes facts)
+            c.in-Ok.is;
       },
       (let e = c.dag_word.ensures in
           let l = c.if-dag_word-lt-BUILTIN_LIMIT.true in omega arith),
@@ -43,26 +41,26 @@ pub returns-then-dag_word-lt-BUILTIN_LIMIT : goal.returns-then-dag_word-lt-BUILT
 returns-then-dag_word-lt-BUILTIN_LIMIT c = λ m a.
     let facts = look-facts _ m a.taking.lawful.rules _ (token-inside a.taking) in
     c.built_in.ensures m
-    (values_of _ a
-    (c.look_up-found.ensures m a.taking.lawful.holds.codes facts)
-    c.if-unset-lt-CELL_PLACE_COUNT.false)
+    (values_of a
+    (c.look_up.ensures m a.taking.lawful.holds.codes facts)
+    c.in-Ok.is)
 
 pub outside-requires : goal.outside-requires
 outside-requires c = let a = c.requires.is in
     let facts = look-facts _ _ a.taking.lawful.rules _ (token-inside a.taking) in
     record {
       machine = c.requires.machine;
-      is = values_of _ a
-          (c.look_up-found.ensures _ a.taking.lawful.holds.codes facts)
-          c.if-unset-lt-CELL_PLACE_COUNT.false;
+      is = values_of a
+          (c.look_up.ensures _ a.taking.lawful.holds.codes facts)
+          c.in-Ok.is;
     }
 
 pub returns : goal.returns
 returns c = λ m a.
     let facts = look-facts _ m a.taking.lawful.rules _ (token-inside a.taking) in
     c.outside.ensures m
-    (values_of _ a
-    (c.look_up-found.ensures m a.taking.lawful.holds.codes facts)
-    c.if-unset-lt-CELL_PLACE_COUNT.false)
+    (values_of a
+    (c.look_up.ensures m a.taking.lawful.holds.codes facts)
+    c.in-Ok.is)
     (let e = c.dag_word.ensures in let l = c.if-dag_word-lt-BUILTIN_LIMIT.false in
     omega arith)

@@ -11,7 +11,7 @@ use Rattle.clock.proofs.advance.earliest.Goals.{then-due-bound, else-due-bound}
 
 pub returns-then-timed-gt-TOKENS : goal.returns-then-timed-gt-TOKENS
 returns-then-timed-gt-TOKENS c = λ m h f.
-    let timed = c.wide-timed.ensures ∙ c.timed.ensures m h.codes in
+    let timed = c.wide-timed.ensures ∙ c.count.ensures m h.codes in
     let fits = timers-fit h in
     let size = h.ordered.timed in
     absurd (omega arith)
@@ -39,6 +39,6 @@ loop-i-preserved c = (
 pub returns : goal.returns
 returns c = λ m h f.
     let now = c.loop-i in
-    let timed = c.wide-timed.ensures ∙ c.timed.ensures m h.codes in
+    let timed = c.wide-timed.ensures ∙ c.count.ensures m h.codes in
     let over : now.i ≡ m.timed = omega arith in
     sought-ends (due_at m) _ over (now.invariant.1 m h f (omega arith))

@@ -5,7 +5,7 @@ use Rattle.clock.proofs.WakeOneByOne.{waking-starts, waking-over, waking-done, w
 use Rattle.clock.proofs.advance.wake_due.Goals as goal
 
 pub loop-left-init : goal.loop-left-init
-loop-left-init c = λ m h f. waking-starts m h f _ _ (c.wide-left.ensures ∙ c.timed.ensures m h.codes)
+loop-left-init c = λ m h f. waking-starts m h f _ _ (c.wide-left.ensures ∙ c.count.ensures m h.codes)
 
 pub returns-then-i-ge-TOKENS : goal.returns-then-i-ge-TOKENS
 returns-then-i-ge-TOKENS c = λ m h f.

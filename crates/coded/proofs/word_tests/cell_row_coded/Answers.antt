@@ -1,10 +1,11 @@
--- `words::cell_row_coded` meets its contract: the value, then the word that is always 0. Assumes nothing.
-use Rattle.coded.proofs.WordTests.{cell-rest, cell-held}
-use borrow.Author.Rules.{rules}
+use Rattle.job.specs.Test.{◌and◌}
+use Rattle.coded.specs.WordTests.{cell_coded}
 use Rattle.coded.proofs.word_tests.cell_row_coded.Goals as goal
 
-pub returns-then-value : goal.returns-then-value
-returns-then-value c = search (rules, cell-rest)
+pub returns-then-held_coded : goal.returns-then-held_coded
+unfolding cell_coded ◌and◌
+returns-then-held_coded c = rw (← c.held_coded.ensures, c.if-held_coded.true)
 
-pub returns : goal.returns
-returns c = search (rules, cell-held)
+pub returns-else-held_coded : goal.returns-else-held_coded
+unfolding cell_coded ◌and◌
+returns-else-held_coded c = rw (← c.held_coded.ensures, c.if-held_coded.false)

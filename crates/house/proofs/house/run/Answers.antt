@@ -11,7 +11,7 @@ run_turns-requires c = record {
     c.requires.1,
     lawful-start _
         c.requires.0
-        c.whole.ensures
+        c.told-dag
         c.start-marks.ensures,
   );
   one_callee = started-callees (replicate 64 false) _

@@ -3,14 +3,16 @@ use mathlib.Core.Path.{sym, ap, ◌∙◌}
 use Prim.Native.Nat.{ℕ}
 use Rattle.model.specs.Machine.Reply.{number_of}
 use Rattle.model.specs.Output.Line.{refused, text_of}
+use Rattle.lines.specs.LineTold.{told}
 use Rattle.lines.proofs.ShownBytes.{shows-as}
 use Rattle.house.proofs.turn.show_declined.Goals as goal
 
-pub returns-then-number-number_of : goal.returns-then-number-number_of
+pub returns-then-number-from-clause-shows_bytes : goal.returns-then-number-from-clause-shows_bytes
 unfolding number_of
-returns-then-number-number_of c = let line = c.show_not_open.ensures in
-    record {
-      shows_bytes = shows-as (ap (λ (n : ℕ). text_of (refused n)) (sym (c.if-number-number_of.true ∙ c.number_of.ensures)))
-          line.shows_bytes;
-      upper_bound = line.upper_bound;
-    }
+returns-then-number-from-clause-shows_bytes c =
+    shows-as (ap (λ (n : ℕ). text_of (refused n)) (sym (c.if-number-from.true ∙ c.from.ensures)))
+    c.show_not_open.ensures.shows_bytes
+
+pub returns-else-number-from-clause-shows_bytes : goal.returns-else-number-from-clause-shows_bytes
+unfolding told
+returns-else-number-from-clause-shows_bytes c = c.show_line.ensures.shows_bytes

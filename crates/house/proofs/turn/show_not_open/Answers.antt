@@ -3,13 +3,10 @@ use mathlib.Core.Path.{ap}
 use Prim.Native.Nat.{ℕ}
 use Rattle.model.specs.Machine.Reply.{number_of}
 use Rattle.model.specs.Output.Line.{refused, text_of}
+use Rattle.lines.specs.LineTold.{told}
 use Rattle.lines.proofs.ShownBytes.{shows-as}
 use Rattle.house.proofs.turn.show_not_open.Goals as goal
 
-pub returns : goal.returns
-unfolding number_of
-returns c = let line = c.show_refused.ensures in
-    record {
-      shows_bytes = shows-as (ap (λ (n : ℕ). text_of (refused n)) c.number_of.ensures) line.shows_bytes;
-      upper_bound = line.upper_bound;
-    }
+pub returns-clause-shows_bytes : goal.returns-clause-shows_bytes
+unfolding told number_of
+returns-clause-shows_bytes c = shows-as (ap (λ (n : ℕ). text_of (refused n)) c.from.ensures) c.show_line.ensures.shows_bytes

@@ -10,14 +10,14 @@ use Rattle.house.proofs.turn.step_turn.Goals as goal
 pub step-report-requires : goal.step-report-requires
 step-report-requires c = c.requires.0
 
-pub returns-then-has_line : goal.returns-then-has_line
-returns-then-has_line c = λ m rest at t one.
+pub returns-clause-leaves : goal.returns-clause-leaves
+returns-clause-leaves c = λ m rest at t one.
     turned-shows (turn-steps m rest at t (c.step-report.ensures m t one))
-    (over-ready _ (λ z. let some = t.queued in absurd (omega arith)) _ _ c.is_refused-over.ensures)
-    c.show_reply-printed.ensures.shows_bytes c.show_reply-printed.ensures.upper_bound
+    (over-ready _ (λ z. let some = t.queued in absurd (omega arith)) _ _ c.is_refused.ensures)
+    c.show_reply.ensures.shows_bytes c.show_reply.ensures.upper_bound
 
-pub returns : goal.returns
-returns c = λ m rest at t one.
-    let quiet = silent _ _ (sym c.has_line.ensures ∙ c.if-has_line.false) in
+pub returns-then-not-has_line-clause-leaves : goal.returns-then-not-has_line-clause-leaves
+returns-then-not-has_line-clause-leaves c = λ m rest at t one.
+    let quiet = silent _ _ (sym c.has_line.ensures ∙ c.if-not-has_line.true) in
     turned-shows (turn-steps m rest at t (c.step-report.ensures m t one))
     (over-ready _ (λ z. let some = t.queued in absurd (omega arith)) _ _ quiet.1) (shows-as quiet.0 (shows-none _ _ _)) (omega arith)

@@ -10,7 +10,7 @@ returns-in_default c = step-rule _ _ _ _ _ c.in_default.ensures.value refl c.pla
 
 pub returns-then-wide-place : goal.returns-then-wide-place
 returns-then-wide-place c = let a = c.in-Some.ensures.lawful in
-    step-no-token _ _ a _ _ (let e = c.queued.ensures _ a.holds.codes in
+    step-no-token _ _ a _ _ (let e = c.count.ensures _ a.holds.codes in
     let f = c.wide.ensures in omega arith) c.plain-then-wide-place.ensures
 
 pub step-requires : goal.step-requires
@@ -20,7 +20,7 @@ step-requires c = let a = c.in-Some.ensures.lawful in
       is =
           record {
             lawful = a;
-            queued = (let e = c.queued.ensures _ a.holds.codes in
+            queued = (let e = c.count.ensures _ a.holds.codes in
                 let f = c.wide.ensures in omega arith);
           };
     }
@@ -32,7 +32,7 @@ returns c = let a = c.in-Some.ensures.lawful in
     (record {
       lawful = a;
       queued =
-          (let e = c.queued.ensures _ a.holds.codes in
+          (let e = c.count.ensures _ a.holds.codes in
           let f = c.wide.ensures in omega arith);
     })
     (all-shared a)).gives

@@ -9,4 +9,4 @@ use Rattle.order_rules.proofs.order.queue_order.Goals as goal
 pub returns : goal.returns
 returns c = λ m h.
     c.read_order.ensures is_ready 1 m m.queue h (record { long = h.shaped.queue; words = queue-word h }) ready-kind
-    ∙ ap (names_once is_ready m.tokens m.queue) (c.queued.ensures m h)
+    ∙ ap (names_once is_ready m.tokens m.queue) (c.count.ensures m h)

@@ -9,4 +9,4 @@ use Rattle.order_rules.proofs.order.timer_order.Goals as goal
 pub returns : goal.returns
 returns c = λ m h.
     c.read_order.ensures is_due 4 m m.timers h (record { long = h.shaped.timers; words = timer-word h }) due-kind
-    ∙ ap (names_once is_due m.tokens m.timers) (c.timed.ensures m h)
+    ∙ ap (names_once is_due m.tokens m.timers) (c.count.ensures m h)

@@ -9,4 +9,4 @@ use Rattle.order_rules.proofs.order.wait_order.Goals as goal
 pub returns : goal.returns
 returns c = λ m h.
     c.read_order.ensures is_waiting 2 m m.waits h (record { long = h.shaped.waits; words = wait-word h }) waiting-kind
-    ∙ ap (names_once is_waiting m.tokens m.waits) (c.waiting.ensures m h)
+    ∙ ap (names_once is_waiting m.tokens m.waits) (c.count.ensures m h)

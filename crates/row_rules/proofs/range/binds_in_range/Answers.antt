@@ -3,7 +3,7 @@ use mathlib.Core.Bool.{not, ◌||◌}
 use mathlib.Core.Path.{◌∙◌, ap₂}
 use native.Mathlib.Omega.{arith}
 use lib.Dec.{eqb, ltb}
-use Rattle.model.specs.declared.token.Bind.{Bind}
+use Rattle.model.specs.declared.token.Slot.{Slot}
 use Rattle.model.specs.Machine.Rules.{slot_in_range}
 use Rattle.model.specs.Machine.Blank.{empty, token_at, slot_at}
 use Rattle.job.specs.Test.{for_all}
@@ -22,7 +22,7 @@ loop-x-preserved c = let now = c.loop-x in
     let p = c.args.p in (
       search rules,
       λ m h.
-          all-turn (λ (b : Bind). slot_in_range 32 b.slot) (token_at m.tokens p).binds now.x empty
+          all-turn (slot_in_range 32) (token_at m.tokens p).binds now.x empty
           (omega (arith, h.codes.shaped.binds p)) (now.invariant.1 m h)
           (ap₂ (λ k n. not (eqb k 2) || ltb n 32) (c.bind_kind.ensures m h.codes) (c.bind_number.ensures m h.codes)
           ∙ slot-in (slot_at (token_at m.tokens p).binds now.x) (h.slots p now.x)),
@@ -32,5 +32,5 @@ pub returns : goal.returns
 returns c = let last = c.loop-x in
     let p = c.args.p in
     λ m h.
-    done (for_all (λ (b : Bind). slot_in_range 32 b.slot)) (token_at m.tokens p).binds last.x
+    done (for_all (slot_in_range 32)) (token_at m.tokens p).binds last.x
     (omega (arith, h.codes.shaped.binds p)) (last.invariant.1 m h)

@@ -1,7 +1,7 @@
 use mathlib.Core.Path.{◌≡◌}
 use Prim.Native.Nat.{◌-◌, ◌≤◌}
 use lib.ListN.{take}
-use Rattle.model.specs.declared.token.Bind.{Bind}
+use Rattle.model.specs.declared.token.Slot.{Slot}
 use Rattle.model.specs.declared.record.Machine.{Machine}
 use Rattle.model.specs.Machine.Rules.{slot_in_range}
 use Rattle.model.specs.Machine.Blank.{token_at}
@@ -11,7 +11,7 @@ use Rattle.row_rules.proofs.range.binds_in_range.Given as goal
 
 abbrev pub invariant-loop-x : goal.invariant-loop-x
 invariant-loop-x l =
-    (l.x ≤ 8) × ((m : Machine) → ValuesFit l.w m → l.ok ≡ for_all (λ (b : Bind). slot_in_range 32 b.slot) (take l.x (token_at m.tokens
+    (l.x ≤ 8) × ((m : Machine) → ValuesFit l.w m → l.ok ≡ for_all (slot_in_range 32) (take l.x (token_at m.tokens
     l.p).binds))
 
 abbrev pub decreases-loop-x : goal.decreases-loop-x

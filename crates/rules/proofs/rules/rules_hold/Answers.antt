@@ -4,6 +4,7 @@ use mathlib.Core.Path.{refl, sym, ◌∙◌}
 use Rattle.job.specs.Words.{dag_of}
 use Rattle.job.proofs.Test.{clash}
 use Rattle.record.specs.LayoutDecoded.{machine_of}
+use Rattle.coded.proofs.IsRecordRows.{row_by_row}
 use Rattle.rules.proofs.RulesGrouped.{dag-breaks, tokens-marked, cells-marked, rules-are}
 use Rattle.rules.proofs.RestBlank.{first-true, second-true}
 use Rattle.rules.proofs.RulesDecoded.{decoded}
@@ -13,7 +14,7 @@ use Rattle.rules.proofs.rules.rules_hold.Goals as goal
 pub returns-then-not-dag_holds : goal.returns-then-not-dag_holds
 returns-then-not-dag_holds c = record {
   words = λ e. clash e refl;
-  codes = c.whole.ensures.codes;
+  codes = (row_by_row _ c.told-w c.fits-w).codes;
   rules = λ h e f. dag-breaks _ _ (sym c.dag_holds.ensures ∙ c.if-not-dag_holds.true);
 }
 
@@ -32,9 +33,9 @@ returns c = let args = c.args in
       words =
           λ e.
           let both = first-true (tokens && cells) sizes (first-true (tokens && cells && sizes) (queue.ok && waits.ok && timers.ok) e) in
-          c.whole.ensures.passes (c.tokens_hold.ensures.0 (first-true tokens cells both))
+          (row_by_row _ c.told-w c.fits-w).passes (c.tokens_hold.ensures.0 (first-true tokens cells both))
           (c.cells_hold.ensures.0 (second-true tokens cells both));
-      codes = c.whole.ensures.codes;
+      codes = (row_by_row _ c.told-w c.fits-w).codes;
       rules =
           λ k e f.
           let d = dag_of args.dag.now in

@@ -9,7 +9,7 @@ use mir.Facts.{to_z-of_z}
 use Rattle.model.specs.Machine.Blank.{cell_at}
 use Rattle.record.specs.Layout.{held_kind, held_number}
 use Rattle.sites.proofs.LookLaws.{cell-unset, cell_set}
-use Rattle.sites.specs.declared.look.Argument.TheVariants as arguments
+use Rattle.std.specs.Prelude.{Some, Ok}
 use Rattle.sites.proofs.look.cell_argument.Goals as goal
 
 pub returns-then-c-ge-CELLS : goal.returns-then-c-ge-CELLS
@@ -24,7 +24,7 @@ pub returns : goal.returns
 returns c = λ m h l r.
     let f : SFits w32 c.signed.result = search rules in
     rw (to_z-of_z f)
-    (ap arguments.Value c.signed.ensures
+    (ap (λ v. Ok (Some v)) c.signed.ensures
     ∙ cell_set _ _ _
     (c.value_kind.ensures m h ∙ ap (λ i. held_kind (cell_at m.cells i).value)
     c.wide-c.ensures) _ c.if-value_kind-eq0.false

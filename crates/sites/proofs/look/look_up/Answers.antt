@@ -1,12 +1,14 @@
 -- After i turns the first i values are there, and the look-up goes on with the parameters that are left. Assumes nothing.
 use mathlib.Core.Path.{refl, sym, ap, ◌∙◌}
 use borrow.Author.Rules.{rules}
-use Prim.Native.Nat.{◌<◌, ◌+◌, ◌-◌}
+use Prim.Native.Nat.{◌<◌, ◌+◌}
 use native.Mathlib.Omega.{arith}
 use mir.Syntax.{w32}
 use mir.Val.{SFits}
 use mir.Facts.{to_z-of_z}
 use lib.ListN.{get_or}
+use Rattle.std.specs.Prelude.{Ok}
+use Rattle.std.proofs.lemmas.Result.{err_from_is_err_and}
 use Rattle.job.specs.Syntax.{variable}
 use Rattle.model.specs.Machine.Blank.{token_at}
 use Rattle.sites.proofs.LookParams.{params-count}
@@ -17,64 +19,62 @@ use Rattle.sites.specs.Row.{params_at}
 use Rattle.sites.proofs.look.look_up.Goals as goal
 
 pub loop-i-init : goal.loop-i-init
-loop-i-init c = (search rules, record { size = refl; zeros = refl }, λ m h o. behind-none _)
+loop-i-init c = (record { size = refl; zeros = refl }, λ m h o. behind-none _)
 
 pub param_argument-requires : goal.param_argument-requires
 param_argument-requires c = let a = c.args in
     let o = c.requires.1 in
     let i = c.loop-i.i in
-    let l : i < get_or a.dag.now (a.at + 3) 0 = omega (arith, c.wide-count.ensures) in
-    (search rules, omega (arith, o.inside, param-small a.dag.now a.at i o l), param-in-range a.dag.now a.at i o l)
+    let l : i < get_or a.dag.now (a.at + 3) 0 = omega arith in
+    (c.requires.0, omega (arith, o.inside, param-small a.dag.now a.at i o l), param-in-range a.dag.now a.at i o l)
 
-pub returns-in-Unset : goal.returns-in-Unset
-returns-in-Unset c = λ m h f.
+pub returns-in_err-v : goal.returns-in_err-v
+returns-in_err-v c = λ m h f.
     let a = c.args in
     let o = c.requires.1 in
     let i = c.loop-i.i in
-    let l : i < get_or a.dag.now (a.at + 3) 0 = omega (arith, c.wide-count.ensures) in
+    let l : i < get_or a.dag.now (a.at + 3) 0 = omega arith in
     let bs = (token_at m.tokens a.p).binds in
-    look-up-unset m.cells bs (params_at a.dag.now a.at) i _ (c.loop-i.invariant.2 m h f)
-    c.loop-i.invariant.1 (variable 0) _ (param-there a.dag.now a.at i o l)
-    (ap (param_found m.cells bs) (sym (param-here a.dag.now a.at i o l))
-    ∙ sym (c.param_argument.ensures m h f) ∙ c.in-Unset.is)
-
-pub returns-in-Nothing : goal.returns-in-Nothing
-returns-in-Nothing c = λ m h f.
-    let a = c.args in
-    let o = c.requires.1 in
-    let i = c.loop-i.i in
-    let l : i < get_or a.dag.now (a.at + 3) 0 = omega (arith, c.wide-count.ensures) in
-    let bs = (token_at m.tokens a.p).binds in
-    look-up-nothing m.cells bs (params_at a.dag.now a.at) i _ (c.loop-i.invariant.2 m h f)
-    c.loop-i.invariant.1 (variable 0) (param-there a.dag.now a.at i o l)
-    (omega (arith, param-small a.dag.now a.at i o l))
-    (ap (param_found m.cells bs) (sym (param-here a.dag.now a.at i o l)) ∙ sym (c.param_argument.ensures m h f)
-    ∙ c.in-Nothing.is)
+    let r = err_from_is_err_and c.from_residual.result c.from_residual.ensures.1 in
+    rw (r.1, r.2)
+    (look-up-unset m.cells bs (params_at a.dag.now a.at) i _ (c.loop-i.invariant.1 m h f)
+    c.loop-i.invariant.0 (variable 0) c.in_err-v.field-0.0 (param-there a.dag.now a.at i o l)
+    (ap (param_found m.cells bs) (sym (param-here a.dag.now a.at i o l)) ∙ sym (c.in_err-v.ensures m h f)))
 
 pub loop-i-preserved : goal.loop-i-preserved
 loop-i-preserved c = let a = c.args in
     let o = c.requires.1 in
     let i = c.loop-i.i in
-    let l : i < get_or a.dag.now (a.at + 3) 0 = omega (arith, c.wide-count.ensures) in
-    let fit : SFits w32 c.in-Value.v = search rules in
+    let l : i < get_or a.dag.now (a.at + 3) 0 = omega arith in
+    let fit : SFits w32 c.in-Some.v = search rules in
     rw (to_z-of_z fit) (
-      omega arith,
-      filled_more i _ _ (param-small a.dag.now a.at i o l) c.loop-i.invariant.1,
+      filled_more i _ _ (param-small a.dag.now a.at i o l) c.loop-i.invariant.0,
       λ m h f.
           let bs = (token_at m.tokens a.p).binds in
-          looking-on m.cells bs (params_at a.dag.now a.at) i _ (c.loop-i.invariant.2 m h f)
-          c.loop-i.invariant.1 (variable 0) _ (param-there a.dag.now a.at i o l)
+          looking-on m.cells bs (params_at a.dag.now a.at) i _ (c.loop-i.invariant.1 m h f)
+          c.loop-i.invariant.0 (variable 0) _ (param-there a.dag.now a.at i o l)
           (param-small a.dag.now a.at i o l)
           (ap (param_found m.cells bs) (sym (param-here a.dag.now a.at i o l))
-          ∙ sym (c.param_argument.ensures m h f) ∙ c.in-Value.is),
+          ∙ sym (c.in_ok-v.ensures m h f) ∙ ap Ok c.in-Some.is),
     )
 
-pub returns : goal.returns
-returns c = λ m h f.
+pub returns-after-loop-i : goal.returns-after-loop-i
+returns-after-loop-i c = λ m h f.
+    let a = c.args in
+    let o = c.requires.1 in
+    let n = params-count a.dag.now a.at o.size o.inside o.few in
+    look-up-all m.cells (token_at m.tokens a.p).binds (params_at a.dag.now a.at) c.loop-i.i _ (c.loop-i.invariant.1 m h f)
+    c.loop-i.invariant.0 (omega arith) (omega (arith, o.few))
+
+pub returns-in_default : goal.returns-in_default
+returns-in_default c = λ m h f.
     let a = c.args in
     let o = c.requires.1 in
     let i = c.loop-i.i in
-    let n = params-count a.dag.now a.at o.size o.inside o.few in
-    look-up-all m.cells (token_at m.tokens a.p).binds (params_at a.dag.now a.at) i _ (c.loop-i.invariant.2 m h f)
-    c.loop-i.invariant.1
-    (omega (arith, c.wide-count.ensures)) (omega (arith, c.wide-count.ensures, o.few))
+    let l : i < get_or a.dag.now (a.at + 3) 0 = omega arith in
+    let bs = (token_at m.tokens a.p).binds in
+    look-up-nothing m.cells bs (params_at a.dag.now a.at) i _ (c.loop-i.invariant.1 m h f)
+    c.loop-i.invariant.0 (variable 0) (param-there a.dag.now a.at i o l)
+    (omega (arith, param-small a.dag.now a.at i o l))
+    (ap (param_found m.cells bs) (sym (param-here a.dag.now a.at i o l)) ∙ sym (c.in_ok-v.ensures m h f)
+    ∙ ap Ok c.in_default.is)

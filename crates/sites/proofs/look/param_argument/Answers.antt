@@ -7,7 +7,7 @@ use mir.Val.{SFits}
 use mir.Facts.{to_z-of_z}
 use Rattle.sites.proofs.LookLaws.{found-variable, found-constant}
 use Rattle.sites.proofs.LookParams.{param-variable, variable-below}
-use Rattle.sites.specs.declared.look.Argument.TheVariants as arguments
+use Rattle.std.specs.Prelude.{Some, Ok}
 use Rattle.sites.proofs.look.param_argument.Goals as goal
 
 pub variable_argument-requires : goal.variable_argument-requires
@@ -24,4 +24,4 @@ returns-then-dag-at-eq-VARIABLE c = λ m h o. found-variable m.cells _ _ _ _ _ c
 pub returns : goal.returns
 returns c = λ m h o.
     let f : SFits w32 c.signed.result = search rules in
-    rw (to_z-of_z f) (ap arguments.Value c.signed.ensures ∙ found-constant m.cells _ _ _ c.if-dag-at-eq-VARIABLE.false)
+    rw (to_z-of_z f) (ap (λ v. Ok (Some v)) c.signed.ensures ∙ found-constant m.cells _ _ _ c.if-dag-at-eq-VARIABLE.false)

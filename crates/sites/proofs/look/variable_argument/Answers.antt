@@ -6,7 +6,7 @@ use mir.Syntax.{w32}
 use mir.Val.{SFits}
 use mir.Facts.{to_z-of_z}
 use Rattle.sites.proofs.LookLaws.{variable-empty, variable-value, variable-cell}
-use Rattle.sites.specs.declared.look.Argument.TheVariants as arguments
+use Rattle.std.specs.Prelude.{Some, Ok}
 use Rattle.sites.proofs.look.variable_argument.Goals as goal
 
 pub returns-then-kind-eq-EMPTY_SLOT : goal.returns-then-kind-eq-EMPTY_SLOT
@@ -17,7 +17,7 @@ pub returns-then-kind-eq-VALUE_SLOT : goal.returns-then-kind-eq-VALUE_SLOT
 returns-then-kind-eq-VALUE_SLOT c = λ m h o.
     let f : SFits w32 c.signed.result = search rules in
     rw (to_z-of_z f)
-    (ap arguments.Value c.signed.ensures ∙ variable-value m _ _ _ _ o (c.bind_kind-kind.ensures m h)
+    (ap (λ v. Ok (Some v)) c.signed.ensures ∙ variable-value m _ _ _ _ o (c.bind_kind-kind.ensures m h)
     (c.bind_number-number.ensures m h) c.if-kind-eq-VALUE_SLOT.true)
 
 pub returns : goal.returns

@@ -1,8 +1,8 @@
 -- `where_split::split_tokens` meets its contract: each writer's contract, one behind the other, leads to the record of the definition.
 -- Assumes nothing.
 use mathlib.Core.Path.{refl, subst}
+use Rattle.std.specs.Prelude.{Some}
 use Rattle.record.specs.Holds.{Holds}
-use Rattle.model.specs.declared.token.Place.TheVariants as places
 use Rattle.model.specs.declared.token.Slot.TheVariants as slots
 use Rattle.model.specs.Machine.Blank.{token_at}
 use Rattle.model.specs.Machine.Update.{put, with_node, in_cell, with_binding}
@@ -14,7 +14,7 @@ unfolding with_node in_cell
 returns c = λ m h n.
     let a = c.args in
     let t = token_at m.tokens a.actor.token in
-    let right = c.set_cell.ensures m _ (places.At a.c)
+    let right = c.set_cell.ensures m _ (Some a.c)
     (c.set_node.ensures m t
     (c.copy.ensures m h)) refl in
     let v = in_cell a.c (with_node a.branches.right t) in

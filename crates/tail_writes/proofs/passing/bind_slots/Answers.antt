@@ -22,7 +22,7 @@ loop-x-preserved c = let a = c.args in
           carry-binds m a.p t (bound-on t.binds bs long size l.x
           (omega (arith, c.loop-x-test.true)))
           (unfold with_binding in
-          c.set_bind.ensures m _ (get_or bs l.x empty).slot (l.invariant.1 m t bs h size o) (kind_at o l.x) (number_at o l.x)),
+          c.set_bind.ensures m _ (get_or bs l.x empty) (l.invariant.1 m t bs h size o) (kind_at o l.x) (number_at o l.x)),
     )
 
 pub returns : goal.returns

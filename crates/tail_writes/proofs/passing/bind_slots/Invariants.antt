@@ -5,7 +5,7 @@ use lib.ListN.{length}
 use lib.Seq.{paste}
 use Rattle.model.specs.Machine.Update.{put}
 use Rattle.model.specs.declared.record.Machine.{Machine}
-use Rattle.model.specs.declared.token.Bind.{Bind}
+use Rattle.model.specs.declared.token.Slot.{Slot}
 use Rattle.model.specs.declared.token.Token.{Token}
 use Rattle.record.specs.Changes.{with_binds}
 use Rattle.record.specs.Holds.{Holds}
@@ -14,7 +14,7 @@ use Rattle.tail_writes.proofs.passing.bind_slots.Given as goal
 
 abbrev pub invariant-loop-x : goal.invariant-loop-x
 invariant-loop-x l = (l.x ≤ 8)
-    × ((m : Machine) (t : Token) (bs : List Bind) → Holds l.initial.w (put l.p t m) → length bs ≡ 8 → SlotWords l.kinds l.numbers bs
+    × ((m : Machine) (t : Token) (bs : List Slot) → Holds l.initial.w (put l.p t m) → length bs ≡ 8 → SlotWords l.kinds l.numbers bs
     → Holds l.w (put l.p (with_binds (paste t.binds 0 bs l.x) t) m))
 
 abbrev pub decreases-loop-x : goal.decreases-loop-x

@@ -1,10 +1,10 @@
 -- `tail_call::written` meets its contract: each writer's contract, one behind the other, leads to the record of the definition. Assumes
 -- nothing.
 use mathlib.Core.Path.{refl, ap, subst}
+use Rattle.std.specs.Prelude.{None}
 use Rattle.model.specs.Machine.Blank.{token_at}
 use Rattle.model.specs.Machine.Step.{callee, formals_bound}
 use Rattle.model.specs.Machine.Update.{put, enqueue, with_node, with_state, with_value, with_orders}
-use Rattle.model.specs.declared.token.Held.TheVariants as helds
 use Rattle.record.specs.Changes.{dequeued}
 use Rattle.record.specs.Holds.{Holds}
 use Rattle.sites.specs.Row.{params_at}
@@ -23,7 +23,6 @@ returns c = λ m h q ready.
     let queued = begins rest a.actor.token t refl (c.replace.ensures m h q) in
     let bound = c.bind_slots.ensures rest t formals queued (formals-long c.requires.1 t.binds)
     (c.passed_slots.ensures m h.codes) in
-    let called = c.set_node.ensures rest _ (c.set_value.ensures rest _ helds.Nothing bound refl refl) in
+    let called = c.set_node.ensures rest _ (c.set_value.ensures rest _ None bound refl refl) in
     subst (Holds _) (put-queue gone a.actor.token a.actor.token (callee t.caller t a.root (params_at a.dag.now a.actor.row)))
-    (carry (λ u. put a.actor.token u rest)
-    (ap (λ s. with_state s (callee t.caller t a.root (params_at a.dag.now a.actor.row))) ready) called)
+    (carry (λ u. put a.actor.token u rest) (ap (λ s. with_state s (callee t.caller t a.root (params_at a.dag.now a.actor.row))) ready) called)

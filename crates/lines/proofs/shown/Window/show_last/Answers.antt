@@ -1,0 +1,27 @@
+-- `Window::show_last` meets its contract: `short` where bytes are left, then the last line. Assumes nothing.
+use mathlib.Core.Path.{◌∙◌, ap}
+use borrow.Author.Rules.{rules}
+use Rattle.model.specs.Output.Line.{text_of_all, short}
+use Rattle.lines.specs.LineTold.{told}
+use Rattle.lines.proofs.ShownBytes.{shows_then, shows-as}
+use Rattle.lines.proofs.LineParts.{text-first, text-one}
+use Rattle.lines.proofs.LastLines.{last_none, last_some}
+use Rattle.lines.proofs.shown.Window.show_last.Goals as goal
+use Rattle.lines.proofs.shown.Window.show_last.Goals.{then-left-ne0, else-left-ne0}
+
+pub show_line-requires-2 : goal.show_line-requires-2
+show_line-requires-2 c = elim c.if-left-ne0.branch [
+  | then-left-ne0 w ↦ let few = w.show_line.ensures.upper_bound in rw w.self-is (search rules)
+  | else-left-ne0 w ↦ rw w.self-is (search rules)
+]
+
+pub returns-clause-shows_bytes : goal.returns-clause-shows_bytes
+unfolding told
+returns-clause-shows_bytes c =
+    let last = shows-as (text-one _) c.show_line-2.ensures.shows_bytes in
+    elim c.if-left-ne0.branch [
+      | then-left-ne0 w ↦
+          shows-as (text-first short _ ∙ ap text_of_all (last_some _ _ w.if-left-ne0.true))
+          (shows_then w.show_line.ensures.shows_bytes (rw w.show_line.ensures.from at (rw w.self-is at last)))
+      | else-left-ne0 w ↦ shows-as (ap text_of_all (last_none _ _ w.if-left-ne0.false)) (rw w.self-is at last)
+    ]
