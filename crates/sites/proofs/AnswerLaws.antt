@@ -33,7 +33,7 @@ use Rattle.record.specs.Holds.{Codes, Holds}
 use Rattle.record.specs.Layout.{state_kind, state_number}
 use Rattle.reach.specs.Marks.{BlankFrom}
 use Rattle.reach.proofs.ListLoops.{steady}
-use Rattle.sites.specs.Answer.{place_of, answer_says, answered_by, Answered}
+use Rattle.sites.specs.Answer.{answer_says, answered_by, Answered}
 use Rattle.sites.proofs.RuleFacts.{tokens-size, queue-room}
 use Rattle.model.proofs.Run.AnswerStands.{handle-busy}
 
@@ -131,15 +131,15 @@ answered-refuses m v (Some p) e = clash refl e
 
 -- what the code has done, by the place that the search gave
 module _ (end h : ℕ) (v : ℤ) (before after : List ℕ) (o : Option ℕ)
-    (found : (m : Machine) → Codes before m → BlankFrom m end → holder h 0 m.tokens ≡ place_of o) where
+    (found : (m : Machine) → Codes before m → BlankFrom m end → holder h 0 m.tokens ≡ o) where
   pub not-answered : o ≡ None → after ≡ before → Answered end h v (Err refusals.NotOpen) before after
-  unfolding is_place answered_by place_of answer_says
+  unfolding is_place answered_by answer_says
   not-answered none e =
       record {
-        says = λ m k b. sym (ap (λ q. answer_says (is_place q)) (found m k.codes b ∙ ap place_of none));
+        says = λ m k b. sym (ap (λ q. answer_says (is_place q)) (found m k.codes b ∙ none));
         does =
             λ d m k b r.
-            subst (Holds after) (sym (ap (answered_by m v) (found m k.codes b ∙ ap place_of none)))
+            subst (Holds after) (sym (ap (answered_by m v) (found m k.codes b ∙ none)))
             (subst (λ ws. Holds ws m) (sym e) k);
         stays = (refl, e);
       }
@@ -148,13 +148,13 @@ module _ (end h : ℕ) (v : ℤ) (before after : List ℕ) (o : Option ℕ)
       → ((m : Machine) → Holds before m → m.queued < 64
       → Holds after (enqueue p (put p (with_state states.Ready (with_value (Some v) (token_at m.tokens p))) m)))
       → Answered end h v (Ok tt) before after
-  unfolding is_place answered_by place_of answer_says
+  unfolding is_place answered_by answer_says
   is-answered p some e =
       record {
-        says = λ m k b. sym (ap (λ q. answer_says (is_place q)) (found m k.codes b ∙ ap place_of some));
+        says = λ m k b. sym (ap (λ q. answer_says (is_place q)) (found m k.codes b ∙ some));
         does =
             λ d m k b r.
-            let at : holder h 0 m.tokens ≡ Some p = found m k.codes b ∙ ap place_of some in
+            let at : holder h 0 m.tokens ≡ Some p = found m k.codes b ∙ some in
             subst (Holds after) (sym (ap (answered_by m v) at)) (e m k (open-room d m r h p at));
         stays = tt;
       }

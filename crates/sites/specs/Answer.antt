@@ -1,5 +1,5 @@
 -- An answer on the words of a record. Assumes nothing: these are definitions.
-use Rattle.std.specs.Prelude.{◌≡◌, Bool, true, false, List, ℕ, ℤ, Option, Some, None, Result, Ok, Err, IfErr}
+use Rattle.std.specs.Prelude.{◌≡◌, Bool, true, false, List, ℕ, ℤ, Some, None, Result, Ok, Err, IfErr}
 use Rattle.job.specs.Node.{Dag}
 use Rattle.model.specs.Machine.Answer.{holder}
 use Rattle.model.specs.Machine.Blank.{is_place, token_at}
@@ -13,11 +13,6 @@ use Rattle.model.specs.declared.token.State.TheVariants as states
 use Rattle.model.specs.declared.record.Machine.{Machine}
 use Rattle.record.specs.Holds.{Holds}
 use Rattle.reach.specs.Marks.{BlankFrom}
-
--- a place that a search gave
-unfoldable pub place_of : Option ℕ → Place
-place_of (Some p) = Some p
-place_of None = None
 
 -- "An answer gives its token the value and makes it ready"; without a token the record stays as it is
 unfoldable pub answered_by : Machine → ℤ → Place → Machine

@@ -4,7 +4,7 @@ ghost use Rattle.model.specs.Machine.Answer.{holder};
 ghost use Rattle.model.specs.declared.record.Machine.{Machine};
 ghost use Rattle.record.specs.Holds.{Codes};
 ghost use Rattle.reach.specs.Marks.{BlankFrom};
-ghost use Rattle.sites.specs.Answer.{place_of, Answered};
+ghost use Rattle.sites.specs.Answer.{Answered};
 
 use crate::number::unsigned;
 use model::record::Machine;
@@ -16,7 +16,7 @@ use record::{order, token};
 // The place of the token that is called out under the handle.
 fn find_open(w: &[u32; Machine::WORDS], handle: u32, end: usize) -> Option<usize>
     requires { end ≤ 64 }
-    ensures place { (m : Machine) → Codes w.now m → BlankFrom m end → holder handle 0 m.tokens ≡ place_of result }
+    ensures place { (m : Machine) → Codes w.now m → BlankFrom m end → holder handle 0 m.tokens ≡ result }
     ensures before_end { IfSome result (λ p. p < end) }
 {
     for p in 0..end {
@@ -40,6 +40,6 @@ pub fn answer(
     let p = find_open(w, handle, end).ok_or(Refusal::NotOpen)?;
     token::set_value(w, p, 1, unsigned(value));
     token::set_state(w, p, READY_STATE, 0);
-    order::join(w, p as u32);
+    order::join::<Queue>(w, p as u32);
     Ok(())
 }

@@ -3,7 +3,6 @@ use mathlib.Core.Path.{refl, sym, ◌∙◌}
 use native.Mathlib.Omega.{arith}
 use Rattle.model.specs.Machine.Blank.{blank_token, token_at}
 use Rattle.job.proofs.Test.{eq-eqb, ne_eqb}
-use Rattle.sites.specs.Answer.{place_of}
 use Rattle.sites.proofs.AnswerLaws.{holder-found, holder-on, holder-blank, open-called, open-not-called}
 use Rattle.sites.proofs.answer.find_open.Goals as goal
 use Rattle.sites.proofs.answer.find_open.Goals.{else-state-eq-CALLED_STATE-via-then-state-eq-CALLED_STATE+else-state_number-handle}
@@ -13,7 +12,7 @@ pub loop-p-init : goal.loop-p-init
 loop-p-init c = λ m h. refl
 
 pub returns-then-state_number-handle-clause-place : goal.returns-then-state_number-handle-clause-place
-unfolding token_at place_of
+unfolding token_at
 returns-then-state_number-handle-clause-place c = λ m h blank.
     let p = c.loop-p.p in
     let called = open-called c.args.handle _ _ _ (c.state.ensures m h) (c.state_number.ensures m h) c.if-state-eq-CALLED_STATE.true in
@@ -33,7 +32,6 @@ loop-p-preserved c = λ m h.
     ])
 
 pub returns-clause-place : goal.returns-clause-place
-unfolding place_of
 returns-clause-place c = λ m h blank.
     let l = c.loop-p in
     c.loop-p.invariant m h

@@ -36,4 +36,4 @@ returns-in-Called-clause-shows_bytes c =
 pub returns-in-Refused-clause-shows_bytes : goal.returns-in-Refused-clause-shows_bytes
 unfolding told
 returns-in-Refused-clause-shows_bytes c =
-    shows-as (tells-refusal _ _ _ _ c.in-Refused.is c.from.ensures) c.show_line-in-Refused.ensures.shows_bytes
+    shows-as (tells-refusal _ _ _ _ c.in-Refused.is c.from-in-Refused.ensures) c.show_line-in-Refused.ensures.shows_bytes
