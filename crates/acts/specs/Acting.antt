@@ -1,5 +1,5 @@
 -- What is known where a token acts, and what its act leaves. Assumes nothing: these are definitions.
-use Rattle.std.specs.Prelude.{◌≡◌, Bool, true, List, [], ℕ, ◌<◌, length, get_or, Result, Ok, Err}
+use Rattle.std.specs.Prelude.{◌≡◌, Bool, true, List, [], ℕ, ◌<◌, length, get_or, Some, Result, Ok, Err}
 use Rattle.job.specs.Words.{dag_of}
 use Rattle.model.specs.Machine.Blank.{token_at}
 use Rattle.model.specs.Machine.InUse.{tokens_used}

@@ -8,7 +8,7 @@ use Prim.Native.Nat.{ℕ, suc, ◌+◌, ◌<◌, ◌≤◌}
 use lib.ListN.{length, get_or}
 use lib.Dec.{ltb}
 use lib.IntN.{ℤ, pos}
-use Rattle.std.specs.Prelude.{Result, Ok}
+use Rattle.std.specs.Prelude.{Result, Ok, Some}
 use Rattle.job.specs.Site.{BuiltinReply, gives, silent, later, due_time, at, is_builtin, builtin}
 use Rattle.sites.specs.declared.site.SiteReply.{SiteReply}
 use Rattle.sites.specs.SiteReply.{builtin_reply_of}
