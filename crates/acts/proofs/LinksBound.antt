@@ -1,19 +1,21 @@
 -- Whether a variable is bound to a cell: slot by slot, as the loop of `binds_cell` looks, and what it means where none is. Assumes nothing.
 use mathlib.Core.Path.{◌≡◌, refl, sym, ◌∙◌, ap}
-use mathlib.Core.Bool.{true, false}
-use mathlib.Core.List.{List}
-use Prim.Native.Nat.{ℕ, ◌+◌, ◌≤◌, ◌<◌}
-use native.Mathlib.Decide.{dec_lt}
-use native.Mathlib.Numerals.{add-one}
+use mathlib.Core.Bool.{Bool, true, false}
+use mathlib.Core.List.{List, [], ◌∷◌}
+use Prim.Native.Nat.{ℕ, ◌<◌}
+use native.Mathlib.Decide.{dec_lt, ℕ_discrete}
+use borrow.Author.Tests.{eq-eqb, ne_eqb}
+use lib.Dec.{eqb}
+use Rattle.std.specs.List.{list_any, range_with_len}
+use Rattle.job.specs.Test.{for_some, ◌or◌}
 use native.Mathlib.Omega.{arith}
-use lib.ListN.{length, get_or, take, get_or-eq_default}
-use lib.Seq.{take_all}
+use lib.ListN.{length, get_or, get_or-eq_default}
 use Rattle.model.specs.Machine.Blank.{empty, is_place, slot_at}
 use Rattle.model.specs.Machine.InUse.{bound_cell}
 use Rattle.model.specs.declared.token.Slot.{Slot}
 use Rattle.model.specs.declared.token.Slot.TheVariants as slots
 use Rattle.record.specs.Layout.{slot_kind}
-use Rattle.job.proofs.Loop.{some_at, none_before}
+use Rattle.job.proofs.Loop.{some_at}
 use Rattle.job.proofs.Test.{clash}
 use Rattle.acts.specs.Links.{BindsNoCell, to_cell, binds_cell}
 
@@ -36,19 +38,28 @@ is-other b k e f = go b (λ z. f (e ∙ z))
     go (slots.Value v) n = refl
     go (slots.Cell c) n = absurd (n refl)
 
--- the loop: a cell at x; none before x + 1; none at all
-module _ (bs : List Slot) (sized : length bs ≡ 8) (x : ℕ) where
-  pub cell-found : (k : ℕ) → x < 8 → k ≡ slot_kind (slot_at bs x) → k ≡ 2 → true ≡ binds_cell bs
-  unfolding slot_at
-  cell-found k l e f = sym (some_at to_cell bs x empty (omega arith) (is-cell _ k e f))
+-- a slot's test, by its kind
+pub cell-test : (bs : List Slot) (x k : ℕ) (r : Bool) → k ≡ slot_kind (slot_at bs x) → r ≡ eqb k 2 → r ≡ to_cell (get_or bs x empty)
+unfolding slot_at
+cell-test bs x k r e f = f ∙ go (ℕ_discrete k 2)
+  where
+    go : Dec (k ≡ 2) → eqb k 2 ≡ to_cell (get_or bs x empty)
+    go (yes z) = eq-eqb k 2 z ∙ sym (is-cell (get_or bs x empty) k e z)
+    go (no z) = ne_eqb k 2 z ∙ sym (is-other (get_or bs x empty) k e z)
 
-  pub no-cell-next : (k : ℕ) → x < 8 → k ≡ slot_kind (slot_at bs x) → (k ≡ 2 → ⊥) → binds_cell (take x bs) ≡ false
-      → binds_cell (take (x + 1) bs) ≡ false
-  unfolding slot_at
-  no-cell-next k l e n f = rw add-one (none_before to_cell bs x empty (omega arith) f (is-other _ k e n))
-
-  pub no-cell-found : 8 ≤ x → binds_cell (take x bs) ≡ false → false ≡ binds_cell bs
-  no-cell-found l e = sym e ∙ ap binds_cell (take_all x bs (omega arith))
+-- the tests of the eight slots, one by one
+pub eight-slots : (bs : List Slot) → length bs ≡ 8 → list_any (λ x. to_cell (get_or bs x empty)) (range_with_len 0 8) ≡ binds_cell bs
+unfolding for_some ◌or◌
+eight-slots [] l = absurd (omega arith)
+eight-slots (a ∷ []) l = absurd (omega arith)
+eight-slots (a ∷ b ∷ []) l = absurd (omega arith)
+eight-slots (a ∷ b ∷ c ∷ []) l = absurd (omega arith)
+eight-slots (a ∷ b ∷ c ∷ d ∷ []) l = absurd (omega arith)
+eight-slots (a ∷ b ∷ c ∷ d ∷ e ∷ []) l = absurd (omega arith)
+eight-slots (a ∷ b ∷ c ∷ d ∷ e ∷ f ∷ []) l = absurd (omega arith)
+eight-slots (a ∷ b ∷ c ∷ d ∷ e ∷ f ∷ g ∷ []) l = absurd (omega arith)
+eight-slots (a ∷ b ∷ c ∷ d ∷ e ∷ f ∷ g ∷ h ∷ []) l = refl
+eight-slots (a ∷ b ∷ c ∷ d ∷ e ∷ f ∷ g ∷ h ∷ i ∷ bs) l = absurd (omega arith)
 
 -- what the answer means
 pub binds-none : (bs : List Slot) → binds_cell bs ≡ false → BindsNoCell bs

@@ -3,7 +3,7 @@
 use mathlib.Core.Path.{◌≡◌, refl, sym, ap, ap₂, ◌∙◌}
 use mathlib.Core.Bool.{Bool, true, false}
 use mathlib.Core.List.{List, []}
-use Prim.Native.Nat.{ℕ, ◌+◌, ◌<◌, ◌≤◌}
+use Prim.Native.Nat.{ℕ, ◌+◌}
 use native.Mathlib.Omega.{arith}
 use lib.ListN.{get_or}
 use lib.Dec.{ltb}
@@ -26,16 +26,14 @@ use Rattle.model.specs.declared.reply.Reply.TheVariants as replies
 use Rattle.model.specs.declared.token.Slot.TheVariants as slots
 use Rattle.model.specs.declared.token.State.TheVariants as states
 use Rattle.model.specs.declared.token.Token.{Token}
-use Rattle.model.proofs.Machine.Marks.{free-inside}
-use Rattle.lockstep.proofs.Lockstep.{Fitting, free-token, free-cell}
-use Rattle.model.proofs.Keeps.Clean.{tokens_of, cells_of}
+use Rattle.lockstep.proofs.Lockstep.{Fitting}
 use Rattle.record.specs.Changes.{dequeued, unset_cell}
-use Rattle.reach.specs.Marks.{next_or}
+use Rattle.reach.specs.Marks.{next_free}
+use Rattle.std.specs.Prelude.{Option, Some, None}
 use Rattle.acts.specs.Acting.{Acting, Lawful}
 use Rattle.sites.specs.Row.{callee, params_at}
 use Rattle.reach.specs.declared.used.Marks.{Marks}
 use Rattle.writes.specs.declared.actor.Actor.{Actor}
-use Rattle.sites.proofs.RuleFacts.{tokens-size, cells-size}
 use Rattle.acts.proofs.Outcomes.{step_is}
 
 -- the paper's limits are no larger than its tables
@@ -43,64 +41,51 @@ pub fitting : Fitting paper
 fitting = record { tokens = omega arith; cells = omega arith }
 
 -- the next place, where there is room, and where there is none
-pub next-room : {n new : ℕ} (marks : List Bool) (last : ℕ) → new ≡ next_or n marks last → new < n
+next-room : (n : ℕ) {new : ℕ} (marks : List Bool) (last : ℕ) → Some new ≡ next_free n marks last
     → (ltb (marked marks) n ≡ true) × (new ≡ next_place marks last)
-unfolding next_or
-next-room {n} {new} marks last e l = go (ltb (marked marks) n) e
+unfolding next_free
+next-room n {new} marks last e = go (ltb (marked marks) n) e
   where
-    go : (b : Bool) → new ≡ elim b as (λ _. ℕ) [ true ↦ next_place marks last | false ↦ n ] → (b ≡ true) × (new ≡ next_place marks last)
-    go true f = (refl, f)
-    go false f = absurd (omega arith)
+    go : (b : Bool) → Some new ≡ elim b as (λ _. Option ℕ) [ true ↦ Some (next_place marks last) | false ↦ None ]
+        → (b ≡ true) × (new ≡ next_place marks last)
+    go true f = (refl, cc)
+    go false f = absurd (cc)
 
-next-full : {n new : ℕ} (marks : List Bool) (last : ℕ) → new ≡ next_or n marks last → n ≤ new
-    → (ltb (marked marks) n ≡ true → next_place marks last < n) → ltb (marked marks) n ≡ false
-unfolding next_or
-next-full {n} {new} marks last e l inside = go (ltb (marked marks) n) e inside
+next-full : (n : ℕ) (marks : List Bool) (last : ℕ) → None ≡ next_free n marks last → ltb (marked marks) n ≡ false
+unfolding next_free
+next-full n marks last e = go (ltb (marked marks) n) e
   where
-    go : (b : Bool) → new ≡ elim b as (λ _. ℕ) [ true ↦ next_place marks last | false ↦ n ] → (b ≡ true → next_place marks last < n)
-        → b ≡ false
-    go true f g = let h = g refl in absurd (omega arith)
-    go false f g = refl
+    go : (b : Bool) → None ≡ elim b as (λ _. Option ℕ) [ true ↦ Some (next_place marks last) | false ↦ None ] → b ≡ false
+    go true f = absurd (cc)
+    go false f = refl
 
 module _ {ws dag : List ℕ} {used : Marks} {m : Machine} (a : Lawful ws used dag m) where
   abbrev d : Dag
   d = dag_of dag
 
-  module _ {new last : ℕ} (next : new ≡ next_or 64 used.tokens last) (given : last ≡ m.lasttoken) where
-    own : new ≡ next_or 64 (tokens_used m) m.lasttoken
-    own = next ∙ ap₂ (next_or 64) a.marks.tokens given
+  module _ {o : Option ℕ} {last : ℕ} (next : o ≡ next_free 64 used.tokens last) (given : last ≡ m.lasttoken) where
+    own : o ≡ next_free 64 (tokens_used m) m.lasttoken
+    own = next ∙ ap₂ (next_free 64) a.marks.tokens given
 
-    pub token-room : new < 64 → (has_token_place paper m ≡ true) × (new ≡ next_place (tokens_used m) m.lasttoken)
+    pub token-room : {new : ℕ} → o ≡ Some new → (has_token_place paper m ≡ true) × (new ≡ next_place (tokens_used m) m.lasttoken)
     unfolding has_token_place
-    token-room l = next-room (tokens_used m) m.lasttoken own l
+    token-room e = next-room 64 (tokens_used m) m.lasttoken (sym e ∙ own)
 
-    pub token-full : 64 ≤ new → has_token_place paper m ≡ false
+    pub token-full : o ≡ None → has_token_place paper m ≡ false
     unfolding has_token_place
-    token-full l =
-        next-full (tokens_used m) m.lasttoken own l
-        (λ e.
-        let i = free-inside (tokens_used m) _ (free-token paper d m a.rules fitting e) in
-        let s = (tokens_of m).size in
-        let n = tokens-size d m a.rules in
-        omega arith)
+    token-full e = next-full 64 (tokens_used m) m.lasttoken (sym e ∙ own)
 
-  module _ {new last : ℕ} (next : new ≡ next_or 32 used.cells last) (given : last ≡ m.lastcell) where
-    own-cell : new ≡ next_or 32 (cells_used m) m.lastcell
-    own-cell = next ∙ ap₂ (next_or 32) a.marks.cells given
+  module _ {o : Option ℕ} {last : ℕ} (next : o ≡ next_free 32 used.cells last) (given : last ≡ m.lastcell) where
+    own-cell : o ≡ next_free 32 (cells_used m) m.lastcell
+    own-cell = next ∙ ap₂ (next_free 32) a.marks.cells given
 
-    pub cell_room : new < 32 → (has_cell_place paper m ≡ true) × (new ≡ next_place (cells_used m) m.lastcell)
+    pub cell_room : {new : ℕ} → o ≡ Some new → (has_cell_place paper m ≡ true) × (new ≡ next_place (cells_used m) m.lastcell)
     unfolding has_cell_place
-    cell_room l = next-room (cells_used m) m.lastcell own-cell l
+    cell_room e = next-room 32 (cells_used m) m.lastcell (sym e ∙ own-cell)
 
-    pub cell_full : 32 ≤ new → has_cell_place paper m ≡ false
+    pub cell_full : o ≡ None → has_cell_place paper m ≡ false
     unfolding has_cell_place
-    cell_full l =
-        next-full (cells_used m) m.lastcell own-cell l
-        (λ e.
-        let i = free-inside (cells_used m) _ (free-cell paper d m a.rules fitting e) in
-        let s = (cells_of m).size in
-        let n = cells-size d m a.rules in
-        omega arith)
+    cell_full e = next-full 32 (cells_used m) m.lastcell (sym e ∙ own-cell)
 
 module _ (dag : List ℕ) (actor : Actor) (m : Machine) where
   abbrev t : Token

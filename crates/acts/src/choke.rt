@@ -31,7 +31,7 @@ pub fn choke_cell(
     let c = wide(token::cell(w, actor.token));
     let kind = token::value_kind(w, actor.token);
     let value = token::value(w, actor.token);
-    let end = marked_end(&marks.tokens, Machine::TOKENS);
+    let end = marked_end(&marks.tokens);
     written(w, actor.place, c - 1, kind, value, end);
     sweep_to(w, marks, end);
     plain(Reply::Done)

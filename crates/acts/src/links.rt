@@ -14,14 +14,7 @@ pub fn binds_cell(w: &[u32; Machine::WORDS], p: usize) -> bool
     requires { p < 64 }
     ensures { (m : Machine) → Codes w.now m → result ≡ binds_cell (token_at m.tokens p).binds }
 {
-    let mut x: usize = 0;
-    while x < 8 {
-        if bind_kind(w, p, x) == CELL_SLOT {
-            return true;
-        }
-        x += 1;
-    }
-    false
+    (0..8).any(|x| bind_kind(w, p, x) == CELL_SLOT)
 }
 
 // Does it name a caller, a cell or a bound cell?

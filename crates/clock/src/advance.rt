@@ -1,5 +1,5 @@
 // "A clock move adds those now due, with value 0, by due time, then by order of call": one by one, the earliest first.
-ghost use Rattle.std.specs.Prelude.{◌≡◌, true, ◌<◌};
+ghost use Rattle.std.specs.Prelude.{◌≡◌, true, ◌<◌, IfSome};
 ghost use Rattle.job.specs.Node.{Dag};
 ghost use Rattle.model.specs.Machine.Clock.{after_advance, takes_time};
 ghost use Rattle.model.specs.Machine.Limits.{paper};
@@ -34,24 +34,23 @@ fn due_time(w: &[u32; Machine::WORDS], i: usize) -> u32
     0
 }
 
-// Where the order of call names the first of those due earliest, by a time; 64 where none is due.
-fn earliest(w: &[u32; Machine::WORDS], time: u32) -> usize
-    ensures { (m : Machine) → Holds w.now m → ClockFacts m → Earliest (due_at m) m.timed time result }
+// Where the order of call names the first of those due earliest, by a time.
+fn earliest(w: &[u32; Machine::WORDS], time: u32) -> Option<usize>
+    ensures place { IfSome result (λ i. i < 64) }
+    ensures first { (m : Machine) → Holds w.now m → ClockFacts m → Earliest (due_at m) m.timed time result }
 {
     let timed = wide(order::count::<CallOrder>(w));
-    let mut found: usize = Machine::TOKENS;
     if Machine::TOKENS < timed {
-        return found;
+        return None;
     }
+    let mut found = None;
     let mut bound = wide(time) + 1;
-    let mut i: usize = 0;
-    while i < timed {
+    for i in 0..timed {
         let due = wide(due_time(w, i));
         if due < bound {
-            found = i;
+            found = Some(i);
             bound = due;
         }
-        i += 1;
     }
     found
 }
@@ -75,14 +74,11 @@ fn wake_at(w: &mut [u32; Machine::WORDS], i: usize)
 fn wake_due(w: &mut [u32; Machine::WORDS], time: u32)
     ensures { (m : Machine) → Holds w.old m → ClockFacts m → Holds w.new (all_woken m time) }
 {
-    let mut left = wide(order::count::<CallOrder>(w));
-    while 0 < left {
-        let i = earliest(w, time);
-        if Machine::TOKENS <= i {
+    for _ in 0..order::count::<CallOrder>(w) {
+        let Some(i) = earliest(w, time) else {
             return;
-        }
+        };
         wake_at(w, i);
-        left -= 1;
     }
 }
 

@@ -1,19 +1,9 @@
 // A signed number in base ten, with a minus sign where it is negative.
-ghost use Rattle.std.specs.Prelude.{◌≡◌, ◌+◌, ◌≤◌, length, nat_abs};
+ghost use Rattle.std.specs.Prelude.{◌+◌, ◌≤◌, length};
 ghost use Rattle.job.specs.Decimal.{signed_decimal};
 ghost use Rattle.decimal.specs.Written.{Written};
 
-use crate::unsigned;
-
-// (the least number's magnitude is no i32)
-fn magnitude(v: i32) -> u32
-    ensures { result ≡ nat_abs v }
-{
-    if v < 0 {
-        return (-(v as i64)) as u32;
-    }
-    v as u32
-}
+use crate::unsigned::put_decimal;
 
 pub fn put_signed(buffer: &mut [u8], at: usize, v: i32) -> usize
     requires { at + length (signed_decimal v) ≤ length buffer.old }
@@ -21,7 +11,7 @@ pub fn put_signed(buffer: &mut [u8], at: usize, v: i32) -> usize
 {
     if v < 0 {
         buffer[at] = b'-';
-        return unsigned::put_decimal(buffer, at + 1, magnitude(v));
+        return put_decimal(buffer, at + 1, v.unsigned_abs());
     }
-    unsigned::put_decimal(buffer, at, magnitude(v))
+    put_decimal(buffer, at, v.unsigned_abs())
 }

@@ -10,7 +10,7 @@ use job::bounds::{PARAMETER_LIMIT, SCOPE_LIMIT};
 use job::site_parameters;
 
 // Four bytes, the lowest first.
-pub fn four_bytes(a: u8, b: u8, c: u8, d: u8) -> u32
+fn four_bytes(a: u8, b: u8, c: u8, d: u8) -> u32
     ensures { result ≡ a + 256 * (b + 256 * (c + 256 * d)) }
 {
     a as u32 + 256 * (b as u32 + 256 * (c as u32 + 256 * d as u32))

@@ -65,7 +65,7 @@ pub(crate) fn deliver_turn(
         → TurnLeaves (turn_outcome (dag_of dag) m rest.now at) m w.new marks.now shared
         window.old.output.now window.old.from window.old.total window.new.output.now window.new.total false }
 {
-    let end = few_or_all(&marks.tokens, Machine::TOKENS);
+    let end = few_or_all(&marks.tokens);
     if let Err(refusal) = deliver(w, rest, at, end) {
         show_declined(u8::from(refusal), window);
     }

@@ -14,15 +14,9 @@ pub const BUILTIN_LIMIT: u32 = 8;
 pub fn takes(site: u32, count: u32) -> bool
     ensures { result ≡ site_takes site count }
 {
-    if site < BUILTIN_LIMIT {
-        let i = site as usize;
-        return count == BUILTIN_COUNTS[i];
+    match site {
+        0..BUILTIN_LIMIT => count == BUILTIN_COUNTS[site as usize],
+        16..=1023 => count <= PARAMETER_LIMIT,
+        _ => false,
     }
-    if site < 16 {
-        return false;
-    }
-    if 1023 < site {
-        return false;
-    }
-    count <= PARAMETER_LIMIT
 }

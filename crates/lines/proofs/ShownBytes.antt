@@ -13,7 +13,6 @@ use lib.Seq.{sets, sets-eq, set_out, length-sets, length-take-le}
 use lib.Seq.{take_all, take_at, take-nil, take-suc, take-append-le, drop-nil, drop-append-le}
 use Rattle.job.proofs.Test.{le-leb, lt-not-leb}
 use Rattle.decimal.specs.Written.{Written}
-use Rattle.decimal.proofs.Written.{written-length}
 use Rattle.job.proofs.Stores.{sets-append}
 use Rattle.lines.specs.Shown.{shown, with_byte, showing, ShowsBytes}
 
@@ -100,11 +99,6 @@ line-more line o m r from total i l f s =
     ∙ sym (showing-append o from total (take i line) (get_or line i 0 ∷ []))
     ∙ ap (showing o from total) (sym (take-suc line i 0 l) ∙ ap (λ (k : ℕ). take k line) (sym (add-one i)))
 
--- and at its end
-pub line-shown : (line o r : List ℕ) (from total i : ℕ) → i ≤ length line → length line ≤ i → r ≡ showing o from total (take i line)
-    → ShowsBytes o from total line r (total + length line)
-line-shown line o r from total i a b e = record { stored = e ∙ ap (showing o from total) (take_all i line b); behind = refl }
-
 -- one more byte of the text
 shown-more : (o : List ℕ) (from : ℕ) (w : List ℕ) (b : ℕ) → with_byte (shown o from w) from (length w) b ≡ shown o from (w ++ (b ∷ []))
 unfolding shown
@@ -181,17 +175,6 @@ pub shows-line : {n k : ℕ} {before after bytes o r : List ℕ} {from total : �
     → ShowsBytes o from total (take n after) r k → ShowsBytes o from total bytes r k
 shows-line w e s = let f = w.few in shows-as (written-front w (omega arith)) s
 
-pub front-few : {n : ℕ} {before after bytes : List ℕ} → Written 80 before 0 bytes after n → n ≤ 80
-front-few w = let f = w.few in let e = w.behind in omega arith
-
 -- an empty buffer for a line
 pub blank-line : length {A = ℕ} (replicate 80 0) ≡ 80
 blank-line = length-replicate {A = ℕ} 80 0
-
--- a line's buffer keeps its length
-pub full : {n : ℕ} {before after bytes : List ℕ} → Written 80 before 0 bytes after n → length before ≡ 80 → length after ≡ 80
-full w e = written-length w ∙ e
-
--- the part of a buffer from its first byte on
-pub front-part : (n : ℕ) (buffer : List ℕ) → take (n - 0) buffer ≡ take n buffer
-front-part n buffer = let same : n - 0 ≡ n = omega arith in ap (λ (k : ℕ). take k buffer) same

@@ -3,6 +3,7 @@
 use mathlib.Core.Path.{◌≡◌, refl, sym, ◌∙◌, ap, subst}
 use mathlib.Core.Bool.{Bool, true, false}
 use mathlib.Core.List.{List}
+use Rattle.std.specs.Prelude.{None, Some}
 use Prim.Native.Nat.{ℕ, zero, suc, ◌+◌, ◌-◌, ◌%◌, ◌≤◌, ◌<◌}
 use native.Mathlib.Decide.{dec_lt, ℕ_discrete}
 use native.Mathlib.Omega.{arith}
@@ -10,8 +11,8 @@ use mir.Val.{bool_byte}
 use lib.ListN.{length, get_or}
 use Rattle.model.specs.Machine.FreePlace.{around}
 use Rattle.model.proofs.Machine.Marks.{Marked, Free, free-inside}
-use Rattle.reach.specs.Marks.{next_or}
-use Rattle.places.proofs.PlaceSearch.{around-inside, around-outside, seek, seek-free, seek-used, seek-all, place-first}
+use Rattle.reach.specs.Marks.{next_free}
+use Rattle.places.proofs.PlaceSearch.{around-inside, around-outside, seek, seek-free, seek-used, seek-all, place-first, next_or, next-some, next-none}
 use Rattle.job.proofs.Lists.{get_d_any}
 
 abbrev pub distance : ℕ → ℕ → ℕ
@@ -123,16 +124,17 @@ module _ (marks : List Bool) (long : length marks ≡ 64) where
       searched : next_or 64 marks last ≡ seek 64 marks 64 (last + 1)
       searched = place-first marks 64 long last last refl
 
-      pub nearest-full : best ≡ 64 → 64 ≡ next_or 64 marks last
-      nearest-full f = sym (searched ∙ seek-all marks (λ j. marked-unless j (none j)) 64 64 (last + 1))
+      pub nearest-full : best ≡ 64 → None ≡ next_free 64 marks last
+      nearest-full f = next-none marks 64 long last (sym (searched ∙ seek-all marks (λ j. marked-unless j (none j)) 64 64 (last + 1)))
         where
           none : (j : ℕ) → Free marks j → ⊥
           none j g = let x = free-inside marks j g in let z = n.least j (omega arith) g in omega arith
 
-      pub nearest-place : (best ≡ 64 → ⊥) → (first + best) % 64 ≡ next_or 64 marks last
+      pub nearest-place : (best ≡ 64 → ⊥) → Some ((first + best) % 64) ≡ next_free 64 marks last
       nearest-place f =
           let z = n.most in
-          sym (searched ∙ seek-at best 64 (last + 1) first (omega arith) b e nearer (n.free (omega arith)))
+          next-some marks 64 long last (omega arith)
+          (sym (searched ∙ seek-at best 64 (last + 1) first (omega arith) b e nearer (n.free (omega arith))))
         where
           nearer : (d : ℕ) → d < best → Marked marks ((first + d) % 64)
           nearer d k =

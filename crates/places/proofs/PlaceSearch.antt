@@ -3,6 +3,7 @@
 use mathlib.Core.Path.{◌≡◌, refl, sym, ◌∙◌, ap, ap₂, subst}
 use mathlib.Core.Bool.{Bool, true, false, not}
 use mathlib.Core.List.{List}
+use Rattle.std.specs.Prelude.{Some, None}
 use Prim.Native.Nat.{ℕ, zero, suc, ◌+◌, ◌-◌, ◌≤◌, ◌<◌}
 use native.Mathlib.Decide.{dec_lt}
 use native.Mathlib.Numerals.{add-one}
@@ -14,7 +15,7 @@ use Rattle.model.specs.Machine.InUse.{marked}
 use Rattle.model.specs.Machine.FreePlace.{around, free_from, next_place}
 use Rattle.job.proofs.Test.{clash, ltb-lt}
 use Rattle.model.proofs.Machine.Marks.{Marked, Free, free-inside, marked_all, some-free}
-use Rattle.reach.specs.Marks.{next_or}
+use Rattle.reach.specs.Marks.{next_free}
 use Rattle.job.proofs.Lists.{get_d_any}
 
 pub around-inside : (n p : ℕ) → p < n → p ≡ around n p
@@ -24,6 +25,10 @@ around-inside n p l = sym (rw (lt-ltb p n l, around) refl)
 pub around-outside : (n p : ℕ) → n ≤ p → 0 ≡ around n p
 unfolding around
 around-outside n p l = sym (rw (le-ltb p n l, around) refl)
+
+-- the next place, or the size where all places are marked
+unfoldable pub next_or : (n : ℕ) → List Bool → (last : ℕ) → ℕ
+next_or n marks last = elim (ltb (marked marks) n) as (λ b. ℕ) [ true ↦ next_place marks last | false ↦ n ]
 
 -- the first place from p on that is not marked, of the next n, or what the code answers at the end
 unfoldable pub seek : ℕ → List Bool → ℕ → ℕ → ℕ
@@ -129,7 +134,7 @@ module _ (marks : List Bool) where
     inside e = let z = ltb-lt (marked marks) size e in omega arith
 
     -- an answer below the size is a place, and there was one
-    pub room : (last : ℕ) → next_or size marks last < size → ltb (marked marks) size ≡ true
+    room : (last : ℕ) → next_or size marks last < size → ltb (marked marks) size ≡ true
     room last h = go (ltb (marked marks) size) refl
       where
         go : (b : Bool) → ltb (marked marks) size ≡ b → ltb (marked marks) size ≡ true
@@ -137,7 +142,7 @@ module _ (marks : List Bool) where
         go false e = let z = next-full last e in absurd (omega arith)
 
     -- the size itself says that there is none
-    pub full : (last : ℕ) → next_or size marks last ≡ size → ltb (marked marks) size ≡ false
+    full : (last : ℕ) → next_or size marks last ≡ size → ltb (marked marks) size ≡ false
     full last h = go (ltb (marked marks) size) refl
       where
         go : (b : Bool) → ltb (marked marks) size ≡ b → ltb (marked marks) size ≡ false
@@ -146,6 +151,17 @@ module _ (marks : List Bool) where
             let l = free-inside marks (next_place marks last) (next-free last (inside e)) in
             let z = next-room last e in
             absurd (omega arith)
+
+    -- the answer of a search
+    pub next-some : {q : ℕ} (last : ℕ) → q < size → q ≡ next_or size marks last → Some q ≡ next_free size marks last
+    unfolding next_free
+    next-some last l e =
+        let r = room last (subst (λ p. p < size) e l) in
+        ap Some (e ∙ next-room last r) ∙ sym (rw (r, next_free) refl)
+
+    pub next-none : (last : ℕ) → size ≡ next_or size marks last → None ≡ next_free size marks last
+    unfolding next_free
+    next-none last e = sym (rw (full last (sym e), next_free) refl)
 
     -- the search begins after the last place given
     pub place-first : (last p : ℕ) → p ≡ last → next_or size marks last ≡ seek size marks (size - 0) (p + 1)

@@ -1,7 +1,7 @@
 // Where a new record goes.
-ghost use Rattle.std.specs.Prelude.{true, false, ◌≡◌, ℕ, ◌+◌, ◌-◌, ◌%◌, ◌<◌, length};
+ghost use Rattle.std.specs.Prelude.{true, false, ◌≡◌, ℕ, ◌+◌, ◌-◌, ◌%◌, ◌<◌, length, IfSome};
 ghost use Rattle.model.specs.Machine.FreePlace.{around};
-ghost use Rattle.reach.specs.Marks.{next_or};
+ghost use Rattle.reach.specs.Marks.{next_free};
 
 use job::wide::wide;
 use model::record::Machine;
@@ -15,22 +15,20 @@ fn around(size: usize, p: usize) -> usize
     if p < size { p } else { 0 }
 }
 
-// "A new record takes the next place not in use before the call, after the last one given"; where there is none, the answer is the size.
-fn next_of(marks: &[bool], size: usize, last: u32) -> usize
-    requires { length marks.now ≡ size }
-    ensures { result ≡ next_or size marks.now last }
+// "A new record takes the next place not in use before the call, after the last one given".
+fn next_of(marks: &[bool], last: u32) -> Option<usize>
+    ensures value { result ≡ next_free (length marks.now) marks.now last }
+    ensures upper_bound { IfSome result (λ p. p < length marks.now) }
 {
     let mut p = wide(last) + 1;
-    let mut n: usize = 0;
-    while n < size {
-        let q = around(size, p);
+    for _ in 0..marks.len() {
+        let q = around(marks.len(), p);
         if !marks[q] {
-            return q;
+            return Some(q);
         }
         p = q + 1;
-        n += 1;
     }
-    size
+    None
 }
 
 // How far a place is from the first to be looked at, round from the end to 0; one in use is farther than any that is not. No branch: all
@@ -44,46 +42,47 @@ fn distance(used: bool, i: u8, first: u8) -> u8
     64 * used as u8 + (i + 64 - first) % 64
 }
 
-// The nearest place not in use, or 64. The loop looks at every place: in a nearly full table an early exit cannot be predicted.
-fn nearest(marks: &[bool], first: u8) -> usize
+// The nearest place not in use. The loop looks at every place: in a nearly full table an early exit cannot be predicted.
+fn nearest(marks: &[bool], first: u8) -> Option<usize>
     requires marks_len { length marks.now ≡ 64 }
     requires first_bound { first < 64 }
-    ensures { (last : ℕ) → first ≡ around 64 (last + 1) → result ≡ next_or 64 marks.now last }
+    ensures value { (last : ℕ) → first ≡ around 64 (last + 1) → result ≡ next_free 64 marks.now last }
+    ensures upper_bound { IfSome result (λ p. p < 64) }
 {
     let mut best: u8 = 64;
-    let mut i: u8 = 0;
-    while i < 64 {
+    for i in 0..64u8 {
         let d = distance(marks[i as usize], i, first);
         if d < best {
             best = d;
         }
-        i += 1;
     }
     if best == 64 {
-        return Machine::TOKENS;
+        return None;
     }
-    ((first + best) % 64) as usize
+    Some(((first + best) % 64) as usize)
 }
 
 // Two places are looked at by themselves: in most tables one of them is not in use.
-pub fn next_token(marks: &[bool; Machine::TOKENS], last: u32) -> usize
-    ensures { result ≡ next_or 64 marks.now last }
+pub fn next_token(marks: &[bool; Machine::TOKENS], last: u32) -> Option<usize>
+    ensures value { result ≡ next_free 64 marks.now last }
+    ensures upper_bound { IfSome result (λ p. p < 64) }
 {
     // as a slice, so that its length is known
     let slice: &[bool] = marks;
     let first = around(Machine::TOKENS, wide(last) + 1);
     if !slice[first] {
-        return first;
+        return Some(first);
     }
     let second = around(Machine::TOKENS, first + 1);
     if !slice[second] {
-        return second;
+        return Some(second);
     }
     nearest(slice, first as u8)
 }
 
-pub fn next_cell(marks: &[bool; Machine::CELLS], last: u32) -> usize
-    ensures { result ≡ next_or 32 marks.now last }
+pub fn next_cell(marks: &[bool; Machine::CELLS], last: u32) -> Option<usize>
+    ensures value { result ≡ next_free 32 marks.now last }
+    ensures upper_bound { IfSome result (λ p. p < 32) }
 {
-    next_of(marks, Machine::CELLS, last)
+    next_of(marks, last)
 }

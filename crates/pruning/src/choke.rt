@@ -26,8 +26,7 @@ fn is_within(w: &[u32; Machine::WORDS], c: usize, start: u32) -> bool
     ensures { (m : Machine) (q : Place) → Codes w.now m → place_number q ≡ start → result ≡ within m.cells c q }
 {
     let mut number = start;
-    let mut left: usize = Machine::CELLS;
-    while 0 < left {
+    for _ in 0..Machine::CELLS {
         if number == 0 {
             return false;
         }
@@ -39,7 +38,6 @@ fn is_within(w: &[u32; Machine::WORDS], c: usize, start: u32) -> bool
             return false;
         }
         number = cell::parent(w, b);
-        left -= 1;
     }
     false
 }
@@ -66,10 +64,8 @@ fn choke_rows(w: &mut [u32; Machine::WORDS], c: usize, end: usize)
     requires { end ≤ 64 }
     ensures { (m : Machine) → Holds w.old m → BlankFrom m end → Holds w.new (rows_choked c 64 m) }
 {
-    let mut p: usize = 0;
-    while p < end {
+    for p in 0..end {
         choke_row(w, p, c);
-        p += 1;
     }
 }
 
@@ -79,10 +75,8 @@ fn mark_state(w: &[u32; Machine::WORDS], kind: u32, end: usize, marks: &mut [boo
     ensures { (m : Machine) → Codes w.now m → BlankFrom m end → marks.old ≡ replicate 64 false
         → marks.new ≡ map (λ (t : Token). eqb (state_kind t.state) kind) m.tokens }
 {
-    let mut p: usize = 0;
-    while p < end {
+    for p in 0..end {
         marks[p] = token::state(w, p) == kind;
-        p += 1;
     }
 }
 
@@ -105,11 +99,9 @@ fn wake(w: &mut [u32; Machine::WORDS], ready: &[bool; Machine::TOKENS])
     if Machine::TOKENS < count {
         return;
     }
-    let mut i: usize = 0;
-    while i < count {
-        let name = order::place_at::<WaitOrder>(w, i);
+    for i in 0..count {
+        let name = order::wait_name(w, i);
         join_marked(w, name, ready);
-        i += 1;
     }
 }
 

@@ -1,12 +1,12 @@
 -- Loops that go through a list from the front: what is read at a turn, and what a list that is written holds. By induction over the list.
 -- Assumes nothing.
-use mathlib.Core.Path.{◌≡◌, sym, ◌∙◌, ap, ap₂}
-use mathlib.Core.List.{List, [], ◌∷◌, ◌++◌}
+use mathlib.Core.Path.{◌≡◌, ◌∙◌, ap}
+use mathlib.Core.List.{List, ◌∷◌}
 use Prim.Native.Nat.{ℕ, zero, suc, ◌+◌, ◌-◌, ◌≤◌, ◌<◌}
 use native.Mathlib.Numerals.{add-one}
 use native.Mathlib.Omega.{arith}
-use lib.ListN.{length, get_or, set, take, drop}
-use lib.Seq.{drop-cons, take-suc, take-suc-set, take_all}
+use lib.ListN.{length, get_or, drop}
+use lib.Seq.{drop-cons}
 
 -- a loop that reads a list comes to an element
 pub drop-next : {A : Type 0} (l : List A) (i : ℕ) (d : A) → i < length l → drop i l ≡ get_or l i d ∷ drop (i + 1) l
@@ -21,17 +21,3 @@ steady f a b l e = let z : a + (b - a) ≡ b = omega arith in go (b - a) a (λ i
     go (suc n) k e =
         let z : k + 1 + n ≡ k + suc n = omega arith in
         e k (omega arith) (omega arith) ∙ go n (k + 1) (λ i h l. e i (omega arith) (omega arith)) ∙ ap f z
-
--- the first i elements of out are those of xs
-module _ {A : Type 0} (xs out : List A) (n i : ℕ) (long : length xs ≡ n) (wide : length out ≡ n) (done : take i out ≡ take i xs) where
-  pub fill_more : (d v : A) → i < n → v ≡ get_or xs i d → take (i + 1) (set out i v) ≡ take (i + 1) xs
-  fill_more d v h e =
-      let x : i < length xs = omega arith in
-      let y : i < length out = omega arith in
-      rw (add-one, take-suc-set out i v y, take-suc xs i d x) (ap₂ (λ (w : List A) (u : A). w ++ (u ∷ [])) done e)
-
-  pub fill-all : n ≤ i → out ≡ xs
-  fill-all h =
-      let y : length out ≤ i = omega arith in
-      let z : length xs ≤ i = omega arith in
-      sym (take_all i out y) ∙ done ∙ take_all i xs z

@@ -3,10 +3,10 @@
 use mathlib.Core.Path.{◌≡◌, refl, sym, ◌∙◌, ap, ap₂}
 use mathlib.Core.Bool.{Bool, true, false}
 use mathlib.Core.Logic.{◌≢◌}
-use mathlib.Core.List.{List, [], ◌∷◌, ◌++◌}
+use mathlib.Core.List.{List, [], ◌∷◌, ◌++◌, map}
 use Prim.Native.Nat.{ℕ, zero, suc, ◌+◌, ◌-◌, ◌≤◌, ◌<◌}
 use native.Mathlib.Omega.{arith}
-use lib.ListN.{length, get_or, set, replicate}
+use lib.ListN.{length, get_or, get_or-map, set, replicate}
 use Rattle.std.specs.Prelude.{Some, None}
 use Rattle.model.specs.Machine.InUse.{mark_chain, mark_from_each}
 use Rattle.model.specs.Machine.Held.{Place}
@@ -67,6 +67,25 @@ module _ {A : Type 0} (link : A → Place) (blank : A) (xs : List A) where
         ∙ ap₂ (λ n p. walk n p marks) z (place_at q f)
         ∙ walk-goes (size - (k + 1)) (q - 1) marks (get_d_any marks (q - 1) true false (omega arith) ∙ e)
         ∙ ap (λ p. walk (size - (k + 1)) p (set marks (q - 1) true)) (sym (place-from r _ g))
+
+  -- the same over a list of the links alone
+  pub walk-linked : (n : ℕ) (q : Place) (marks : List Bool) → mark_chain (λ (q : Place). q) (link blank) (map link xs) n q marks ≡ walk n q marks
+  unfolding mark_chain
+  walk-linked zero q marks = refl
+  walk-linked (suc n) None marks = refl
+  walk-linked (suc n) (Some i) marks =
+      go (get_or marks i true)
+      (ap (λ q. mark_chain (λ (q : Place). q) (link blank) (map link xs) n q (set marks i true)) (get_or-map link xs i blank)
+      ∙ walk-linked n (link (get_or xs i blank)) (set marks i true))
+    where
+      on : List Bool
+      on = mark_chain (λ (q : Place). q) (link blank) (map link xs) n (get_or (map link xs) i (link blank)) (set marks i true)
+
+      go : (b : Bool) → on ≡ walk n (link (get_or xs i blank)) (set marks i true)
+          → ◌≡◌ {A = List Bool} (elim b [ true ↦ marks | false ↦ on ])
+          (elim b [ true ↦ marks | false ↦ walk n (link (get_or xs i blank)) (set marks i true) ])
+      go true e = refl
+      go false e = e
 
   -- marking from one list of places and then from another
   pub chains-append : (qs rs : List Place) (marks : List Bool)

@@ -8,12 +8,12 @@ use native.Mathlib.Decide.{dec_lt}
 use native.Mathlib.Omega.{arith}
 use borrow.Author.Tests.{not-true, lt-ltb, le-ltb, eq-eqb, ne_eqb}
 use mir.Val.{bool_byte}
-use lib.ListN.{length, get_or, take, drop, length-drop}
-use lib.Seq.{take_all, get_or-drop}
-use Rattle.job.specs.Test.{for_all}
+use lib.ListN.{length, get_or, drop, length-drop}
+use lib.Seq.{get_or-drop}
+use Rattle.std.specs.List.{fold}
+use Rattle.job.specs.Test.{for_all, ◌and◌}
 use Rattle.reach.specs.Marks.{UnmarkedFrom, weight, none_from, few_or_all, end_of_eight, marked_end}
 use Rattle.job.proofs.Lists.{before-and-behind}
-use Rattle.job.proofs.Loop.{all-turn}
 use Rattle.job.proofs.Test.{all-at}
 
 -- 256 to the k
@@ -72,23 +72,6 @@ eight-end marks l = go (dec_lt n 256) (dec_lt n 65536) (dec_lt n 16777216) (dec_
     go (no a) (no b) (no c) (no d) =
         subst (λ x. (x ≤ 8) × UnmarkedFrom marks x 8) (end-eight n (omega arith)) (omega arith, λ i a b. absurd (omega arith))
 
--- eight marks, one by one
-pub eight-weight : (marks : List Bool) → 8 ≤ length marks
-    → bool_byte (get_or marks 0 false) + 256 *
-    (bool_byte (get_or marks 1 false) + 256 * (bool_byte (get_or marks 2 false) + 256 * (bool_byte (get_or marks 3 false)
-    + 256 * (bool_byte (get_or marks 4 false) + 256 *
-    (bool_byte (get_or marks 5 false) + 256 * (bool_byte (get_or marks 6 false) + 256 * bool_byte (get_or marks 7 false)))))))
-    ≡ weight 8 marks
-eight-weight [] l = absurd (omega arith)
-eight-weight (a ∷ []) l = absurd (omega arith)
-eight-weight (a ∷ b ∷ []) l = absurd (omega arith)
-eight-weight (a ∷ b ∷ c ∷ []) l = absurd (omega arith)
-eight-weight (a ∷ b ∷ c ∷ d ∷ []) l = absurd (omega arith)
-eight-weight (a ∷ b ∷ c ∷ d ∷ e ∷ []) l = absurd (omega arith)
-eight-weight (a ∷ b ∷ c ∷ d ∷ e ∷ f ∷ []) l = absurd (omega arith)
-eight-weight (a ∷ b ∷ c ∷ d ∷ e ∷ f ∷ g ∷ []) l = absurd (omega arith)
-eight-weight (a ∷ b ∷ c ∷ d ∷ e ∷ f ∷ g ∷ h ∷ marks) l = omega arith
-
 -- a mark as a byte
 pub byte_small : (b : Bool) → bool_byte b ≤ 1
 byte_small true = omega arith
@@ -99,29 +82,14 @@ pub unmarked-few : (marks : List Bool) (end size : ℕ) → UnmarkedFrom marks e
 unmarked-few marks end size f g i a b =
     before-and-behind {P = λ j. end ≤ j → get_or marks j true ≡ false} 8 size (λ j l e. f j e l) (λ j l m e. g j l m) i b a
 
--- the loop that looks for a mark, from a place on: at its start, in a turn, at its end
-pub none_yet : (marks : List Bool) (from i : ℕ) → i ≤ from → not false ≡ for_all not (take (i - from) (drop from marks))
-unfolding for_all
-none_yet marks from i l = let z : i - from ≡ 0 = omega arith in rw z refl
-
-neither : (a b : Bool) → not (a || b) ≡ (not a && not b)
-neither true b = refl
-neither false b = refl
-
-pub none_more : (marks : List Bool) (from i : ℕ) (found : Bool) → i < length marks → from ≤ i
-    → not found ≡ for_all not (take (i - from) (drop from marks))
-    → not (found || get_or marks i false) ≡ for_all not (take (i + 1 - from) (drop from marks))
-none_more marks from i found l h e =
-    let size = length-drop from marks in
-    let next : i - from + 1 ≡ i + 1 - from = omega arith in
-    let here : from + (i - from) ≡ i = omega arith in
-    neither found (get_or marks i false)
-    ∙ all-turn not (drop from marks) (i - from) false (omega arith) e
-    (ap not (sym (get_or-drop from marks (i - from) false ∙ ap (λ k. get_or marks k false) here)))
-    ∙ ap (λ k. for_all not (take k (drop from marks))) next
-
-pub none-all : (marks : List Bool) (from i : ℕ) → length marks ≤ i → for_all not (take (i - from) (drop from marks)) ≡ none_from marks from
-none-all marks from i l = let size = length-drop from marks in ap (for_all not) (take_all (i - from) (drop from marks) (omega arith))
+-- the marks gathered from the front
+pub none-gathered : (found : Bool) (marks : List Bool) → not (fold ◌||◌ found marks) ≡ (not found && for_all not marks)
+unfolding for_all ◌and◌
+none-gathered true [] = refl
+none-gathered false [] = refl
+none-gathered true (b ∷ marks) = none-gathered true marks
+none-gathered false (true ∷ marks) = none-gathered true marks
+none-gathered false (false ∷ marks) = none-gathered false marks
 
 -- what the test says
 pub none-unmarked : (marks : List Bool) (from size : ℕ) → length marks ≡ size → none_from marks from ≡ true → UnmarkedFrom marks from size

@@ -1,6 +1,5 @@
 -- Marks of what is in use, as they are made, kept and looked through. Assumes nothing: these are definitions.
-use Rattle.std.specs.Prelude.{◌≡◌, Bool, true, false, not, List, [], ◌∷◌, ℕ, zero, suc, ◌+◌, ◌*◌, ◌≤◌, ◌<◌, length, get_or, drop, eqb, ltb}
-use Rattle.std.specs.Prelude.{Some}
+use Rattle.std.specs.Prelude.{◌≡◌, Bool, true, false, not, List, [], ◌∷◌, ℕ, zero, suc, ◌+◌, ◌*◌, ◌≤◌, ◌<◌, length, get_or, drop, eqb, ltb, Option, Some, None}
 use mir.Val.{bool_byte}
 use Rattle.job.specs.Test.{for_all}
 use Rattle.model.specs.Machine.Active.{is_active}
@@ -99,6 +98,6 @@ pub record MarksOf (m : Machine) (used : Marks) : Type 0 where
   pub tokens : used.tokens ≡ tokens_used m
   pub cells : used.cells ≡ cells_used m
 
--- "the next place not in use .., after the last one given, round from the end to 0", of n places, or n where every place is in use
-unfoldable pub next_or : (n : ℕ) → List Bool → (last : ℕ) → ℕ
-next_or n marks last = elim (ltb (marked marks) n) [ true ↦ next_place marks last | false ↦ n ]
+-- "the next place not in use .., after the last one given, round from the end to 0", where fewer than n places are in use
+unfoldable pub next_free : (n : ℕ) → List Bool → (last : ℕ) → Option ℕ
+next_free n marks last = elim (ltb (marked marks) n) [ true ↦ Some (next_place marks last) | false ↦ None ]

@@ -1,10 +1,11 @@
 // Marking along the links of a record: callers, parents, and what a token names. A place is given by its number, one more than the place,
 // with 0 for nowhere; a place out of range ends a chain.
-ghost use Rattle.std.specs.Prelude.{◌≡◌, ◌<◌, length, get_or};
+ghost use Rattle.std.specs.Prelude.{◌≡◌, ℕ, List, ◌<◌, length, get_or};
 ghost use Rattle.model.specs.Machine.Active.{is_active};
 ghost use Rattle.model.specs.Machine.Blank.{empty, token_at};
-ghost use Rattle.model.specs.Machine.InUse.{bound_cell, cells_of};
+ghost use Rattle.model.specs.Machine.InUse.{bound_cell, cells_of, mark_chain};
 ghost use Rattle.model.specs.declared.record.Machine.{Machine};
+ghost use Rattle.model.specs.Machine.Held.{Place};
 ghost use Rattle.record.specs.LayoutDecoded.{place_from};
 ghost use Rattle.record.specs.Holds.{Codes};
 ghost use Rattle.record.specs.Layout.{place_number};
@@ -17,52 +18,44 @@ use record::cell::parent;
 use record::layout::{BLANK_STATE, CELL_SLOT, FRAME_STATE};
 use record::token::{bind_kind, bind_number, caller, cell, state};
 
-// Marks the chain of callers from a place, until it ends or comes to a marked place.
-fn mark_callers(w: &[u32; Machine::WORDS], start: usize, marks: &mut [bool])
-    requires { length marks.old ≡ 64 }
-    ensures { (m : Machine) → Codes w.now m → marks.new ≡ callers_marked m (place_from start) marks.old }
+// Marks the chain of places from one on, by the number of the place that each links to, until it ends or comes to a marked place.
+fn mark_chain<L: Fn(usize) -> u32>(start: usize, marks: &mut [bool], link: L)
+    requires { (p : ℕ) → p < length marks.old → L.pre link p }
+    ensures { (links : List Place) (end : Place)
+        → ((p r : ℕ) → p < length marks.old → L.post link p r → r ≡ place_number (get_or links p end))
+        → marks.new ≡ mark_chain (λ (q : Place). q) end links (length marks.old) (place_from start) marks.old }
 {
     let mut q = start;
-    let mut n: usize = 0;
-    while n < Machine::TOKENS {
+    for _ in 0..marks.len() {
         if q == 0 {
             return;
         }
         let p = q - 1;
-        if Machine::TOKENS <= p {
+        if marks.len() <= p {
             return;
         }
         if marks[p] {
             return;
         }
         marks[p] = true;
-        q = wide(caller(w, p));
-        n += 1;
+        q = wide(link(p));
     }
 }
 
-// The same for cells and their parents.
+// The chain of callers from a place.
+fn mark_callers(w: &[u32; Machine::WORDS], start: usize, marks: &mut [bool])
+    requires { length marks.old ≡ 64 }
+    ensures { (m : Machine) → Codes w.now m → marks.new ≡ callers_marked m (place_from start) marks.old }
+{
+    mark_chain(start, marks, |p| caller(w, p));
+}
+
+// The chain of parents from a cell.
 fn mark_parents(w: &[u32; Machine::WORDS], start: usize, marks: &mut [bool])
     requires { length marks.old ≡ 32 }
     ensures { (m : Machine) → Codes w.now m → marks.new ≡ parents_marked m (place_from start) marks.old }
 {
-    let mut q = start;
-    let mut n: usize = 0;
-    while n < Machine::CELLS {
-        if q == 0 {
-            return;
-        }
-        let c = q - 1;
-        if Machine::CELLS <= c {
-            return;
-        }
-        if marks[c] {
-            return;
-        }
-        marks[c] = true;
-        q = wide(parent(w, c));
-        n += 1;
-    }
+    mark_chain(start, marks, |c| parent(w, c));
 }
 
 // "Active tokens are ready, waiting or called-out, with no set cell among their cell and its ancestors"; so are those due later
@@ -108,10 +101,8 @@ fn mark_named(w: &[u32; Machine::WORDS], p: usize, marks: &mut [bool])
         → marks.new ≡ cells_marked m (cells_of (token_at m.tokens p)) marks.old }
 {
     mark_parents(w, wide(cell(w, p)), marks);
-    let mut x: usize = 0;
-    while x < 8 {
+    for x in 0..8 {
         mark_parents(w, bound(w, p, x), marks);
-        x += 1;
     }
 }
 

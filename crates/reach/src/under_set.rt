@@ -14,8 +14,7 @@ pub fn under_set(w: &[u32; Machine::WORDS], start: usize) -> bool
     ensures { (m : Machine) → Codes w.now m → result ≡ under_set m.cells (place_from start) }
 {
     let mut q = start;
-    let mut n: usize = 0;
-    while n < Machine::CELLS {
+    for _ in 0..Machine::CELLS {
         if q == 0 {
             return false;
         }
@@ -27,7 +26,6 @@ pub fn under_set(w: &[u32; Machine::WORDS], start: usize) -> bool
             return true;
         }
         q = wide(parent(w, c));
-        n += 1;
     }
     false
 }

@@ -3,12 +3,11 @@ ghost use Rattle.std.specs.Prelude.{◌≡◌, refl, false, ℕ, ◌<◌, get_or
 ghost use Rattle.job.specs.Test.{select, without};
 ghost use Rattle.model.specs.declared.record.Machine.{Machine};
 ghost use Rattle.record.specs.Holds.{Codes, Holds};
-ghost use Rattle.record.specs.OrderWords.{Which, queue, waits, timers, first_at, count_at, state_of};
+ghost use Rattle.record.specs.OrderWords.{Which, queue, waits, timers, first_at, count_at};
 ghost use Rattle.record.specs.OrderWords.{names_of, array_of, count_of, with_names, joined};
 
 use crate::layout::{
-    DUE_STATE, QUEUE_LENGTH, QUEUE_START, READY_STATE, TIMERS_LENGTH, TIMERS_START, WAITING_STATE,
-    WAITS_LENGTH, WAITS_START,
+    QUEUE_LENGTH, QUEUE_START, TIMERS_LENGTH, TIMERS_START, WAITS_LENGTH, WAITS_START,
 };
 use job::wide::wide;
 use model::record::Machine;
@@ -21,22 +20,15 @@ pub trait Order {
 
     const LENGTH: usize;
 
-    // The state of the tokens that it names.
-    const STATE: u32;
-
     ghost START: { ℕ };
 
     ghost LENGTH: { ℕ };
-
-    ghost STATE: { ℕ };
 
     ghost which: { Which };
 
     ghost starts: { START ≡ first_at which };
 
     ghost counted: { LENGTH ≡ count_at which };
-
-    ghost states: { STATE ≡ state_of which };
 }
 
 // The ready tokens.
@@ -47,21 +39,15 @@ impl Order for Queue {
 
     const LENGTH: usize = QUEUE_LENGTH;
 
-    const STATE: u32 = READY_STATE;
-
     ghost START = { 1664 };
 
     ghost LENGTH = { 1792 };
-
-    ghost STATE = { 1 };
 
     ghost which = { queue };
 
     ghost starts = { refl };
 
     ghost counted = { refl };
-
-    ghost states = { refl };
 }
 
 // The waiting tokens, longest wait first.
@@ -72,21 +58,15 @@ impl Order for WaitOrder {
 
     const LENGTH: usize = WAITS_LENGTH;
 
-    const STATE: u32 = WAITING_STATE;
-
     ghost START = { 1728 };
 
     ghost LENGTH = { 1793 };
-
-    ghost STATE = { 2 };
 
     ghost which = { waits };
 
     ghost starts = { refl };
 
     ghost counted = { refl };
-
-    ghost states = { refl };
 }
 
 // The tokens that are due later, first call first.
@@ -97,21 +77,15 @@ impl Order for CallOrder {
 
     const LENGTH: usize = TIMERS_LENGTH;
 
-    const STATE: u32 = DUE_STATE;
-
     ghost START = { 1797 };
 
     ghost LENGTH = { 1861 };
-
-    ghost STATE = { 4 };
 
     ghost which = { timers };
 
     ghost starts = { refl };
 
     ghost counted = { refl };
-
-    ghost states = { refl };
 }
 
 // How many names there are.
@@ -151,7 +125,7 @@ pub fn leave<O: Order>(w: &mut [u32; Machine::WORDS], index: usize)
     let count = wide(w[length]);
     if count <= Machine::TOKENS && index < count {
         let start = O::START;
-        left_out(&mut w[start..start + Machine::TOKENS], count, index, 0);
+        left_out(&mut w[start..start + count], index, 0);
         w[length] = count as u32 - 1;
     }
 }
@@ -164,7 +138,7 @@ pub fn replace<O: Order>(w: &mut [u32; Machine::WORDS], index: usize, p: u32)
     let count = wide(w[O::LENGTH]);
     if count <= Machine::TOKENS && index < count {
         let start = O::START;
-        left_out(&mut w[start..start + Machine::TOKENS], count, index, p);
+        left_out(&mut w[start..start + count], index, p);
     }
 }
 
@@ -177,7 +151,7 @@ pub fn retain<O: Order>(w: &mut [u32; Machine::WORDS], keep: &[bool; Machine::TO
     let count = wide(w[length]);
     if count <= Machine::TOKENS {
         let start = O::START;
-        let n = retained(&mut w[start..start + Machine::TOKENS], count, keep);
+        let n = retained(&mut w[start..start + count], keep);
         w[length] = n as u32;
     }
 }

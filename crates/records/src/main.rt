@@ -2,14 +2,12 @@
 // it. A case stands behind its length, 4 bytes, the lowest first; it is a name behind its length, 1 byte, and rows, done in their order.
 #![tactic(auto)]
 
-ghost use Rattle.std.specs.Prelude.{◌≤◌};
-
 mod row;
 
-use crate::row::{Row, read_row};
-use console::print::{number, put};
-use entries::entry::four_bytes;
+use crate::row::{Call, Row, read_row};
+use console::reply_line::reply;
 use job::dag::WORDS;
+use job::wide::wide;
 use machine::advance::advance;
 use machine::answer::answer;
 use machine::start::start;
@@ -17,7 +15,6 @@ use machine::step::step;
 use model::record::Machine;
 use model::reply::Report;
 use show::fields::record;
-use sites::number::signed;
 use std::io;
 use std::io::Read;
 use streams::read_full;
@@ -25,136 +22,72 @@ use streams::read_full;
 // `main` is shown to end, so it reads no more cases than this.
 const MOST_CASES: usize = 65536;
 
-fn put_dag(dag: &mut [u32; WORDS], index: usize, word: u32) {
-    if index < WORDS {
-        dag[index] = word;
+// An index that the words do not have is passed over.
+fn put_word(words: &mut [u32], index: usize, word: u32) {
+    if let Some(slot) = words.get_mut(index) {
+        *slot = word;
     }
-}
-
-fn put_record(w: &mut [u32; Machine::WORDS], index: usize, word: u32) {
-    if index < Machine::WORDS {
-        w[index] = word;
-    }
-}
-
-fn started(
-    rt: &impl Print,
-    w: &mut [u32; Machine::WORDS],
-    dag: &[u32; WORDS],
-) -> io::Result<Report> {
-    put(rt, b"start: ")?;
-    Ok(start(w, dag))
-}
-
-fn stepped(
-    rt: &impl Print,
-    w: &mut [u32; Machine::WORDS],
-    dag: &[u32; WORDS],
-    place: u32,
-) -> io::Result<Report> {
-    put(rt, b"step")?;
-    number(rt, place as u64)?;
-    put(rt, b": ")?;
-    Ok(step(w, dag, place as usize))
-}
-
-fn answered(
-    rt: &impl Print,
-    w: &mut [u32; Machine::WORDS],
-    dag: &[u32; WORDS],
-    handle: u32,
-    value: i32,
-) -> io::Result<Report> {
-    put(rt, b"answer")?;
-    number(rt, handle as u64)?;
-    console::print::value(rt, value)?;
-    put(rt, b": ")?;
-    Ok(answer(w, dag, handle, value))
-}
-
-fn advanced(
-    rt: &impl Print,
-    w: &mut [u32; Machine::WORDS],
-    dag: &[u32; WORDS],
-    time: u32,
-) -> io::Result<Report> {
-    put(rt, b"advance")?;
-    number(rt, time as u64)?;
-    put(rt, b": ")?;
-    Ok(advance(w, dag, time))
-}
-
-// A handle has three bytes, the highest at the row's place.
-fn handle_of(high: usize, low: usize) -> u32 {
-    ((high % 256) * 65536 + low % 65536) as u32
 }
 
 fn reported(
     rt: &impl Print,
     w: &mut [u32; Machine::WORDS],
     dag: &[u32; WORDS],
-    row: Row,
+    call: Call,
 ) -> io::Result<Report> {
-    let what = row.what;
-    match what {
-        16 => started(rt, w, dag),
-        17 => stepped(rt, w, dag, row.number),
-        19 => advanced(rt, w, dag, row.number),
-        _ => answered(
-            rt,
-            w,
-            dag,
-            handle_of(row.place, row.which),
-            signed(row.number),
-        ),
+    match call {
+        Call::Start => {
+            print!(rt; "start: ")?;
+            Ok(start(w, dag))
+        }
+        Call::Step(place) => {
+            print!(rt; "step {place}: ")?;
+            Ok(step(w, dag, wide(place)))
+        }
+        Call::Answer(handle, value) => {
+            print!(rt; "answer {handle} {value}: ")?;
+            Ok(answer(w, dag, handle, value))
+        }
+        Call::Advance(time) => {
+            print!(rt; "advance {time}: ")?;
+            Ok(advance(w, dag, time))
+        }
     }
 }
 
-// Makes the row's call.
+// Makes a row's call.
 fn called(
     rt: &impl Print,
     name: &[u8],
     w: &mut [u32; Machine::WORDS],
     dag: &[u32; WORDS],
-    row: Row,
+    call: Call,
 ) -> io::Result<()> {
-    put(rt, name)?;
-    put(rt, b", ")?;
-    let report = reported(rt, w, dag, row)?;
-    let reply = report.reply;
+    rt.write_all(name)?;
+    print!(rt; ", ")?;
+    let report = reported(rt, w, dag, call)?;
     let values = report.values;
-    console::reply_line::reply(rt, reply, values)?;
+    reply(rt, report.reply, values)?;
     record(rt, w)
 }
 
-// Where the rows begin.
-fn behind_name(length: u8) -> usize
-    ensures { 1 ≤ result }
-{
-    1 + length as usize
-}
-
 fn run(rt: &impl Print, case: &[u8]) -> io::Result<()> {
-    if case.len() == 0 {
+    let Some((&length, behind)) = case.split_first() else {
+        return Ok(());
+    };
+    let length = usize::from(length);
+    if behind.len() < length {
         return Ok(());
     }
-    let from = behind_name(case[0]);
-    if case.len() < from {
-        return Ok(());
-    }
+    let (name, rows) = behind.split_at(length);
     let mut dag = [0u32; WORDS];
     let mut w = [0u32; Machine::WORDS];
-    let mut at = from;
-    while 8 <= case.len() - at {
-        let row = read_row(case, at);
-        if row.what == 0 {
-            put_dag(&mut dag, row.which, row.number);
-        } else if row.what == 1 {
-            put_record(&mut w, row.which, row.number);
-        } else {
-            called(rt, &case[1..from], &mut w, &dag, row)?;
+    for row in rows.chunks_exact(8) {
+        match read_row(row) {
+            Row::Dag(index, word) => put_word(&mut dag, index, word),
+            Row::Record(index, word) => put_word(&mut w, index, word),
+            Row::Call(call) => called(rt, name, &mut w, &dag, call)?,
         }
-        at += 8;
     }
     Ok(())
 }
@@ -165,24 +98,24 @@ fn next<R: Read>(rt: &impl Print, reader: &mut R, space: &mut [u8]) -> io::Resul
     if read_full(reader, &mut head)? < 4 {
         return Ok(false);
     }
-    let size = four_bytes(head[0], head[1], head[2], head[3]) as usize;
+    let size = wide(u32::from_le_bytes(head));
     if space.len() < size {
         return Ok(false);
     }
-    if read_full(reader, &mut space[0..size])? < size {
+    let case = &mut space[..size];
+    if read_full(reader, case)? < size {
         return Ok(false);
     }
-    run(rt, &space[0..size])?;
+    run(rt, case)?;
     Ok(true)
 }
 
 fn main(rt: HostRuntime) -> io::Result<()> {
     let mut reader = rt.stdin();
     let mut space = [0u8; 65536];
-    let case: &mut [u8] = &mut space;
     for _ in 0..MOST_CASES {
-        if !next(&rt, &mut reader, case)? {
-            return Ok(());
+        if !next(&rt, &mut reader, &mut space)? {
+            break;
         }
     }
     Ok(())

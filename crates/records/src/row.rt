@@ -1,32 +1,41 @@
 // A case's rows: eight bytes that set one word, or make one call (docs/src/README.md, "Records as bytes").
-ghost use Rattle.std.specs.Prelude.{◌+◌, ◌≤◌, length};
+ghost use Rattle.std.specs.Prelude.{◌≡◌, length};
 
-use entries::entry::four_bytes;
+use sites::number::signed;
 
-// What it does, the place, which word is set, and the number that is put there.
 #[derive(Clone, Copy)]
-pub(crate) struct Row {
-    pub what: u8,
-    pub place: usize,
-    pub which: usize,
-    pub number: u32,
+pub(crate) enum Call {
+    Start,
+    // at a place of the queue
+    Step(u32),
+    // a handle and a value
+    Answer(u32, i32),
+    Advance(u32),
 }
 
-fn two_bytes(a: u8, b: u8) -> usize {
-    a as usize + 256 * (b as usize)
+// A word of the dag, or of the record, by its index; or a call.
+#[derive(Clone, Copy)]
+pub(crate) enum Row {
+    Dag(usize, u32),
+    Record(usize, u32),
+    Call(Call),
 }
 
-fn small(b: u8) -> usize {
-    b as usize
-}
-
-pub(crate) fn read_row(case: &[u8], at: usize) -> Row
-    requires { at + 8 ≤ length case.now }
+pub(crate) fn read_row(row: &[u8]) -> Row
+    requires { length row.now ≡ 8 }
 {
-    Row {
-        what: case[at],
-        place: small(case[at + 1]),
-        which: two_bytes(case[at + 2], case[at + 3]),
-        number: four_bytes(case[at + 4], case[at + 5], case[at + 6], case[at + 7]),
+    let index = u16::from_le_bytes([row[2], row[3]]);
+    let word = u32::from_le_bytes([row[4], row[5], row[6], row[7]]);
+    match row[0] {
+        0 => Row::Dag(usize::from(index), word),
+        1 => Row::Record(usize::from(index), word),
+        16 => Row::Call(Call::Start),
+        17 => Row::Call(Call::Step(word)),
+        19 => Row::Call(Call::Advance(word)),
+        _ => {
+            // A handle has three bytes, the highest behind the row's kind.
+            let handle = u32::from(row[1]) * 65536 + u32::from(index);
+            Row::Call(Call::Answer(handle, signed(word)))
+        }
     }
 }

@@ -14,14 +14,7 @@ fn is_caller(w: &[u32; Machine::WORDS], f: usize) -> bool
     ensures { (m : Machine) → Codes w.now m → IsCaller m f result }
 {
     let number = f as u32 + 1;
-    let mut i: usize = 0;
-    while i < Machine::TOKENS {
-        if caller(w, i) == number {
-            return true;
-        }
-        i += 1;
-    }
-    false
+    (0..Machine::TOKENS).any(|i| caller(w, i) == number)
 }
 
 // The same, looked for only where a token may: where the frame is shared.

@@ -37,7 +37,7 @@ pub(crate) fn cells_hold(w: &[u32; Machine::WORDS], used: &[bool; Machine::CELLS
         → result ≡ (for_all (cell_rule m.cells) m.cells and rest_is_blank cell_is_blank used.now m.cells)) }
 {
     let mut ok = true;
-    let end = few_or_all(used, Machine::CELLS);
+    let end = few_or_all(used);
     let mut i: usize = 0;
     while i < end {
         ok = ok & cell_holds(w, i, used[i]);

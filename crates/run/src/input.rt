@@ -8,13 +8,8 @@ use reader::table::half;
 pub(crate) fn table_end(input: &[u8]) -> usize
     ensures { result ≡ table_end input.now }
 {
-    let size = input.len();
-    if size < 4 {
-        return size;
-    }
-    let end = 4 + 5 * half(input[2], input[3]);
-    if size < end {
-        return size;
-    }
-    end
+    let [_, _, low, high, ..] = input else {
+        return input.len();
+    };
+    (4 + 5 * half(*low, *high)).min(input.len())
 }

@@ -3,7 +3,7 @@
 ghost use Rattle.std.specs.Prelude.{◌<◌, ◌≤◌};
 
 use coded::word_tests::is_record;
-use console::print::{number, put, value};
+use job::wide::wide;
 use model::record::Machine;
 use record::layout::{
     BLANK_STATE, CALLED_STATE, DUE_STATE, EMPTY_SLOT, QUEUE_START, READY_STATE, TIMERS_START,
@@ -17,58 +17,40 @@ use std::io;
 
 fn state(rt: &impl Print, kind: u32, at: u32) -> io::Result<()> {
     match kind {
-        BLANK_STATE => put(rt, b" blank"),
-        READY_STATE => put(rt, b" ready"),
-        WAITING_STATE => {
-            put(rt, b" waiting")?;
-            number(rt, at as u64)
-        }
-        CALLED_STATE => {
-            put(rt, b" called")?;
-            number(rt, at as u64)
-        }
-        DUE_STATE => {
-            put(rt, b" due")?;
-            number(rt, at as u64)
-        }
-        _ => put(rt, b" frame"),
+        BLANK_STATE => print!(rt; " blank"),
+        READY_STATE => print!(rt; " ready"),
+        WAITING_STATE => print!(rt; " waiting {at}"),
+        CALLED_STATE => print!(rt; " called {at}"),
+        DUE_STATE => print!(rt; " due {at}"),
+        _ => print!(rt; " frame"),
     }
 }
 
 fn held(rt: &impl Print, kind: u32, word: u32) -> io::Result<()> {
     if kind != 0 {
-        put(rt, b" value")?;
-        value(rt, signed(word))?;
+        let value = signed(word);
+        print!(rt; " value {value}")?;
     }
     Ok(())
 }
 
 // A place behind what it is, unless it is nowhere.
-fn place(rt: &impl Print, name: &[u8], word: u32) -> io::Result<()> {
+fn place(rt: &impl Print, name: &str, word: u32) -> io::Result<()> {
     if word != 0 {
-        put(rt, name)?;
-        number(rt, word as u64 - 1)?;
+        let place = word - 1;
+        print!(rt; " {name} {place}")?;
     }
     Ok(())
-}
-
-fn variable(rt: &impl Print, x: usize) -> io::Result<()> {
-    put(rt, b" x")?;
-    print!(rt; "{x}")
 }
 
 fn slot(rt: &impl Print, kind: u32, word: u32, x: usize) -> io::Result<()> {
     match kind {
         EMPTY_SLOT => Ok(()),
         VALUE_SLOT => {
-            variable(rt, x)?;
-            value(rt, signed(word))
+            let value = signed(word);
+            print!(rt; " x{x} {value}")
         }
-        _ => {
-            variable(rt, x)?;
-            put(rt, b" cell")?;
-            number(rt, word as u64)
-        }
+        _ => print!(rt; " x{x} cell {word}"),
     }
 }
 
@@ -89,16 +71,15 @@ fn bindings(rt: &impl Print, w: &[u32; Machine::WORDS], p: usize) -> io::Result<
 fn show_token(rt: &impl Print, w: &[u32; Machine::WORDS], p: usize) -> io::Result<()>
     requires { p < 64 }
 {
-    put(rt, b"  token")?;
-    number(rt, p as u64)?;
+    print!(rt; "  token {p}")?;
     state(rt, token::state(w, p), token::state_number(w, p))?;
-    put(rt, b" node")?;
-    number(rt, token::node(w, p) as u64)?;
+    let node = token::node(w, p);
+    print!(rt; " node {node}")?;
     held(rt, token::value_kind(w, p), token::value(w, p))?;
-    place(rt, b" caller", token::caller(w, p))?;
-    place(rt, b" cell", token::cell(w, p))?;
+    place(rt, "caller", token::caller(w, p))?;
+    place(rt, "cell", token::cell(w, p))?;
     bindings(rt, w, p)?;
-    put(rt, b"\n")
+    print!(rt; "\n")
 }
 
 fn tokens(rt: &impl Print, w: &[u32; Machine::WORDS]) -> io::Result<()> {
@@ -113,11 +94,10 @@ fn tokens(rt: &impl Print, w: &[u32; Machine::WORDS]) -> io::Result<()> {
 fn show_cell(rt: &impl Print, w: &[u32; Machine::WORDS], c: usize) -> io::Result<()>
     requires { c < 32 }
 {
-    put(rt, b"  cell")?;
-    number(rt, c as u64)?;
-    place(rt, b" parent", cell::parent(w, c))?;
+    print!(rt; "  cell {c}")?;
+    place(rt, "parent", cell::parent(w, c))?;
     held(rt, cell::value_kind(w, c), cell::value(w, c))?;
-    put(rt, b"\n")
+    print!(rt; "\n")
 }
 
 fn cells(rt: &impl Print, w: &[u32; Machine::WORDS]) -> io::Result<()> {
@@ -131,77 +111,55 @@ fn cells(rt: &impl Print, w: &[u32; Machine::WORDS]) -> io::Result<()> {
 
 // A word that counts, or with its index one behind those that is not 0.
 fn name(rt: &impl Print, word: u32, i: usize, count: u32) -> io::Result<()> {
-    if (i as u64) < (count as u64) {
-        number(rt, word as u64)?;
+    if i < wide(count) {
+        print!(rt; " {word}")
+    } else if word != 0 {
+        print!(rt; " behind {i} {word}")
     } else {
-        if word != 0 {
-            put(rt, b" behind")?;
-            number(rt, i as u64)?;
-            number(rt, word as u64)?;
-        }
+        Ok(())
     }
-    Ok(())
 }
 
 // An order: how many names count, and the 64 words from its start on.
 fn show_order(
     rt: &impl Print,
     w: &[u32; Machine::WORDS],
-    title: &[u8],
+    title: &str,
     start: usize,
     count: u32,
 ) -> io::Result<()>
     requires { start ≤ 1797 }
 {
-    put(rt, title)?;
-    number(rt, count as u64)?;
-    put(rt, b":")?;
-    for i in 0..Machine::TOKENS {
-        name(rt, w[start + i], i, count)?;
+    print!(rt; "  {title} {count}:")?;
+    for (i, &word) in w[start..start + Machine::TOKENS].iter().enumerate() {
+        name(rt, word, i, count)?;
     }
-    put(rt, b"\n")
+    print!(rt; "\n")
 }
 
 fn orders(rt: &impl Print, w: &[u32; Machine::WORDS]) -> io::Result<()> {
-    show_order(rt, w, b"  queue", QUEUE_START, order::count::<Queue>(w))?;
-    show_order(rt, w, b"  waits", WAITS_START, order::count::<WaitOrder>(w))?;
-    show_order(
-        rt,
-        w,
-        b"  timers",
-        TIMERS_START,
-        order::count::<CallOrder>(w),
-    )
+    show_order(rt, w, "queue", QUEUE_START, order::queued(w))?;
+    show_order(rt, w, "waits", WAITS_START, order::waiting(w))?;
+    show_order(rt, w, "timers", TIMERS_START, order::timed(w))
 }
 
 fn counts(rt: &impl Print, w: &[u32; Machine::WORDS]) -> io::Result<()> {
-    put(rt, b"  calls")?;
-    number(rt, count::calls_made(w) as u64)?;
-    put(rt, b" newtoken")?;
-    number(rt, count::last_token(w) as u64)?;
-    put(rt, b" newcell")?;
-    number(rt, count::last_cell(w) as u64)?;
-    put(rt, b" clock")?;
-    number(rt, count::clock(w) as u64)?;
-    put(rt, b"\n")
+    let calls = count::calls_made(w);
+    let token = count::last_token(w);
+    let cell = count::last_cell(w);
+    let clock = count::clock(w);
+    print!(rt; "  calls {calls} newtoken {token} newcell {cell} clock {clock}\n")
 }
 
-// A word behind its index, unless it is 0.
-fn word(rt: &impl Print, i: usize, word: u32) -> io::Result<()> {
-    if word != 0 {
-        number(rt, i as u64)?;
-        put(rt, b":")?;
-        print!(rt; "{word}")?;
-    }
-    Ok(())
-}
-
+// Each word behind its index, unless it is 0.
 fn words(rt: &impl Print, w: &[u32; Machine::WORDS]) -> io::Result<()> {
-    put(rt, b"  words")?;
-    for i in 0..Machine::WORDS {
-        word(rt, i, w[i])?;
+    print!(rt; "  words")?;
+    for (i, &word) in w.iter().enumerate() {
+        if word != 0 {
+            print!(rt; " {i}:{word}")?;
+        }
     }
-    put(rt, b"\n")
+    print!(rt; "\n")
 }
 
 pub fn record(rt: &impl Print, w: &[u32; Machine::WORDS]) -> io::Result<()> {

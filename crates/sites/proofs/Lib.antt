@@ -1,8 +1,6 @@
 -- Laws that the proofs of the functions cite.
-pub mod NumberSigned
 pub mod NumberBits
 pub mod SiteBuiltins
-pub mod DueTime
 pub mod TableLoops
 pub mod SameOrders
 pub mod OrderCounting

@@ -36,11 +36,6 @@ use Rattle.sites.specs.Row.{params_at, ParamsHold}
 use Rattle.sites.proofs.LookParams.{param-variable, param-constant, params-count, params-at}
 
 -- a cell as an argument, by its words
-held-nothing : (c : ℕ) (h : Held) → held_kind h ≡ 0 → Err (unset_cell c) ≡ held_found c h
-unfolding held_found
-held-nothing c None e = refl
-held-nothing c (Some v) e = absurd (omega arith)
-
 held-value : (c n : ℕ) (h : Held) → (held_kind h ≡ 0 → ⊥) → n ≡ held_number h → held_in_range h ≡ true
     → Ok (Some (signed n)) ≡ held_found c h
 unfolding held_found held_in_range
@@ -48,19 +43,10 @@ held-value c n None f e r = absurd (f refl)
 held-value c n (Some v) f e r = ap (λ v. Ok (Some v)) (ap signed e ∙ signed-unsigned v r)
 
 module _ (c k : ℕ) (h : Held) (ek : k ≡ held_kind h) where
-  pub cell-unset : k ≡ 0 → Err (unset_cell c) ≡ held_found c h
-  cell-unset e = held-nothing c h (sym ek ∙ e)
-
   pub cell_set : (n : ℕ) → (k ≡ 0 → ⊥) → n ≡ held_number h → held_in_range h ≡ true → Ok (Some (signed n)) ≡ held_found c h
   cell_set n f e r = held-value c n h (λ z. f (ek ∙ z)) e r
 
 -- a variable as an argument, by its words
-slot-empty : (cs : List Cell) (s : Slot) → slot_kind s ≡ 0 → Ok None ≡ found_of cs s
-unfolding found_of
-slot-empty cs slots.Empty e = refl
-slot-empty cs (slots.Value v) e = absurd (omega arith)
-slot-empty cs (slots.Cell c) e = absurd (omega arith)
-
 slot-value : (cs : List Cell) (n : ℕ) (s : Slot) → slot_kind s ≡ 1 → n ≡ slot_number s → slot_in_range 32 s ≡ true
     → Ok (Some (signed n)) ≡ found_of cs s
 unfolding found_of slot_in_range
@@ -103,9 +89,6 @@ module _ (m : Machine) (p x k n : ℕ) (o : LookFacts m p) where
   in-range = slot-in-range (token_at m.tokens p).binds x o.slots
 
   module _ (ek : k ≡ slot_kind bound) (en : n ≡ slot_number bound) where
-    pub variable-empty : k ≡ 0 → Ok None ≡ found_of m.cells bound
-    variable-empty e = slot-empty m.cells bound (sym ek ∙ e)
-
     pub variable-value : k ≡ 1 → Ok (Some (signed n)) ≡ found_of m.cells bound
     variable-value e = slot-value m.cells n bound (sym ek ∙ e) en in-range
 

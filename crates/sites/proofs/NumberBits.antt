@@ -10,15 +10,15 @@ use mir.Syntax.{w32}
 use mir.Val.{to_z, of_z, sel}
 use Rattle.job.specs.Number.{signed, unsigned}
 
-pub signed-cast : (n : ℕ) → to_z w32 n ≡ signed n
+pub signed_cast : (n : ℕ) → to_z w32 n ≡ signed n
 unfolding signed
-signed-cast n = go (ltb n (2 ^ 31))
+signed_cast n = go (ltb n (2 ^ 31))
   where
     go : (b : Bool) → sel b (pos n) (negsuc (2 ^ 32 - suc n)) ≡ elim b as (λ b. ℤ) [ true ↦ pos n | false ↦ negsuc (2 ^ 32 - 1 - n) ]
     go true = refl
     go false = let e : 2 ^ 32 - suc n ≡ 2 ^ 32 - 1 - n = omega arith in ap negsuc e
 
-pub unsigned-cast : (v : ℤ) → of_z w32 v ≡ unsigned v
+pub unsigned_cast : (v : ℤ) → of_z w32 v ≡ unsigned v
 unfolding unsigned
-unsigned-cast (pos n) = refl
-unsigned-cast (negsuc n) = omega arith
+unsigned_cast (pos n) = refl
+unsigned_cast (negsuc n) = omega arith

@@ -6,6 +6,7 @@ ghost use Rattle.sites.specs.DueTime.{due_time_from};
 use record::layout::LAST_TIME;
 
 // "The call falls due at the present time plus t. With a sum above 2147483647 the call never falls due ..; negative t is silent."
+#[tactic(auto, unfolding(job::specs::Site::due_time))]
 pub fn due_time(clock: u32, t: i32) -> Option<u32>
     ensures { result ≡ due_time_from (Site.due_time clock t) }
 {

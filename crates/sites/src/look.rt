@@ -12,7 +12,6 @@ ghost use Rattle.sites.specs.Row.{params_at, ParamsHold};
 
 use crate::number::signed;
 use job::dag::{PARAMETER_COUNT, PARAMETER_KIND, VARIABLE, WORDS};
-use job::wide::wide;
 use model::record::Machine;
 use record::layout::{EMPTY_SLOT, VALUE_SLOT};
 use record::{cell, token};
@@ -22,11 +21,12 @@ use record::{cell, token};
 pub struct UnsetCell(pub u32);
 
 // A cell's value, where there is such a cell.
+#[tactic(auto, unfolding(crate::specs::Look::held_found))]
 fn cell_argument(w: &[u32; Machine::WORDS], number: u32) -> Result<Option<i32>, UnsetCell>
     ensures { (m : Machine) → Codes w.now m → number < 32 → held_in_range (cell_at m.cells number).value ≡ true
         → result ≡ held_found number (cell_at m.cells number).value }
 {
-    let c = wide(number);
+    let c = number as usize;
     if Machine::CELLS <= c {
         return Ok(None);
     }
@@ -37,6 +37,7 @@ fn cell_argument(w: &[u32; Machine::WORDS], number: u32) -> Result<Option<i32>, 
 }
 
 // A variable's value, where it is bound.
+#[tactic(auto, unfolding(crate::specs::Look::found_of))]
 fn variable_argument(
     w: &[u32; Machine::WORDS],
     p: usize,
@@ -70,7 +71,7 @@ fn param_argument(
 {
     let word = dag[at + 1];
     if dag[at] == VARIABLE {
-        return variable_argument(w, p, wide(word));
+        return variable_argument(w, p, word as usize);
     }
     Ok(Some(signed(word)))
 }
@@ -86,7 +87,7 @@ pub fn look_up(
     ensures { (m : Machine) → Codes w.now m → LookFacts m p
         → result ≡ look_up_of (look m.cells (token_at m.tokens p).binds (params_at dag.now at)) }
 {
-    let count = wide(dag[at + PARAMETER_COUNT]);
+    let count = dag[at + PARAMETER_COUNT] as usize;
     let mut values = [0; 4];
     for i in 0..count {
         let Some(v) = param_argument(w, dag, p, at + PARAMETER_KIND + 2 * i)? else {

@@ -11,6 +11,7 @@ pub enum SiteReply {
 }
 
 // "gives 0 if ..; else silent"
+#[tactic(auto, unfolding(job::specs::Site::zero_if))]
 fn zero_if(test: bool) -> SiteReply
     ensures { result ≡ site_reply_of (Site.zero_if test) }
 {
@@ -21,6 +22,7 @@ fn zero_if(test: bool) -> SiteReply
 }
 
 // "the sum, or is silent if it leaves signed 32 bits"
+#[tactic(auto, unfolding(job::specs::Site::sum_reply, job::specs::Number::fits))]
 fn sum(a: i32, b: i32) -> SiteReply
     ensures { result ≡ site_reply_of (Site.sum_reply a b) }
 {
@@ -31,6 +33,7 @@ fn sum(a: i32, b: i32) -> SiteReply
 }
 
 // "0 let (1), 1 ift (1), 2 iff (1), 3 signal (0), 4 add (2), 5 less (2), 6 equal (2)", 7 rwait (1). No site has more than two parameters.
+#[tactic(auto, unfolding(job::specs::Site::builtin, job::specs::Site::truth, job::specs::Site::not_zero, job::specs::Number::equal_z))]
 pub fn builtin(site: u32, a: i32, b: i32) -> SiteReply
     requires { site < 8 }
     ensures { result ≡ site_reply_of (Site.builtin site (a ∷ b ∷ [])) }

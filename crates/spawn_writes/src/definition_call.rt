@@ -50,12 +50,10 @@ fn pass_all(w: &mut [u32; Machine::WORDS], dag: &[u32; WORDS], actor: Actor, new
         (put new (with_binds (formals_bound (token_at m.tokens p).binds (params_at dag.now actor.row)) blank_token) m) }
 {
     let count = wide(dag_word(dag, actor.row + PARAMETER_COUNT));
-    let mut i: usize = 0;
-    while i < count {
+    for i in 0..count {
         let kind = dag_word(dag, actor.row + PARAMETER_KIND + 2 * i);
         let number = dag_word(dag, actor.row + PARAMETER_WORD + 2 * i);
         pass(w, actor.token, new, i, kind, number);
-        i += 1;
     }
 }
 

@@ -3,7 +3,8 @@
 use mathlib.Core.Path.{◌≡◌, refl, sym, ap, subst, subst₂, ◌∙◌}
 use mathlib.Core.Bool.{Bool, true, false}
 use mathlib.Core.List.{List, []}
-use Prim.Native.Nat.{ℕ, ◌+◌, ◌<◌, ◌≤◌}
+use Rattle.std.specs.Prelude.{Option, Some, None}
+use Prim.Native.Nat.{ℕ, ◌+◌, ◌<◌}
 use lib.ListN.{get_or, set}
 use Rattle.job.specs.Node.{body_at}
 use Rattle.job.specs.Tail.{is_tail}
@@ -31,7 +32,7 @@ use Rattle.lockstep.proofs.Lockstep.{free-token}
 use Rattle.demand3.proofs.Carried.{Carried, forked-carried, entered-carried, split-carried}
 use Rattle.record.specs.Changes.{dequeued, unset_cell}
 use Rattle.record.specs.Holds.{Holds}
-use Rattle.reach.specs.Marks.{next_or}
+use Rattle.reach.specs.Marks.{next_free}
 use Rattle.acts.specs.Acting.{Acting, Taking, Gives, plain}
 use Rattle.sites.specs.Row.{callee, params_at}
 use Rattle.reach.specs.declared.used.Marks.{Marks}
@@ -48,10 +49,10 @@ pub gives_made : {x : Outcome} {m : Machine} (o : Machine) {ws : List ℕ} {used
 gives_made o r e f h k =
     gives_whole o replies.Done [] r e (ap (λ (y : Report). y.reply) f) (ap (λ (y : Report). y.values) f) h k.whole (λ framed. k)
 
-module _ {ws dag : List ℕ} {used : Marks} {actor : Actor} {m : Machine} (a : Taking ws used dag actor m) {new last : ℕ}
-    (next : new ≡ next_or 64 used.tokens last) (given : last ≡ m.lasttoken) (inside : new < 64) where
+module _ {ws dag : List ℕ} {used : Marks} {actor : Actor} {m : Machine} (a : Taking ws used dag actor m) {o : Option ℕ} {new last : ℕ}
+    (next : o ≡ next_free 64 used.tokens last) (given : last ≡ m.lasttoken) (is : o ≡ Some new) (inside : new < 64) where
   room : (has_token_place paper m ≡ true) × (new ≡ next_place (tokens_used m) m.lasttoken)
-  room = token-room a.lawful next given inside
+  room = token-room a.lawful next given is
 
   free : Free (tokens_used m) new
   free = subst (Free (tokens_used m)) (sym room.1) (free-token paper (dag_of dag) m a.lawful.rules fitting room.0)
@@ -82,16 +83,14 @@ module _ (dag : List ℕ) (actor : Actor) (m : Machine) where
   abbrev word : ℕ → ℕ
   word i = get_or dag (actor.row + i) 0
 
-  module _ {ws : List ℕ} {used : Marks} (a : Acting ws used dag actor 3 m) {new last : ℕ}
-      (next : new ≡ next_or 64 used.tokens last) (given : last ≡ m.lasttoken) where
-    pub fork-gives : {after : List ℕ} (r : Report) (left right : ℕ) → left ≡ word 1 → right ≡ word 2 → new < 64 → r ≡ plain replies.Done
-        → Holds after (enqueue new (enqueue actor.token
-        (new_token new (with_node right t) (put actor.token (with_node left t) (dequeued m actor.place)))))
+  module _ {ws : List ℕ} {used : Marks} (a : Acting ws used dag actor 3 m) {o : Option ℕ} {last : ℕ}
+      (next : o ≡ next_free 64 used.tokens last) (given : last ≡ m.lasttoken) where
+    pub fork-gives : {after : List ℕ} {new : ℕ} (r : Report) (left right : ℕ) → left ≡ word 1 → right ≡ word 2 → o ≡ Some new → r ≡ plain replies.Done
+        → Holds after (enqueue new (enqueue actor.token (new_token new (with_node right t) (put actor.token (with_node left t) (dequeued m actor.place)))))
         → Gives (Step.step paper (dag_of dag) m actor.place) m after (record { tokens = set used.tokens new true; cells = used.cells }) r
-    fork-gives {after} r left right el er l e h₀ =
+    fork-gives {after} {new} r left right el er l e h₀ =
         let h =
-        subst₂ (λ i j. Holds after (enqueue new
-        (enqueue actor.token (new_token new (with_node j t) (put actor.token (with_node i t) (dequeued m actor.place))))))
+        subst₂ (λ i j. Holds after (enqueue new (enqueue actor.token (new_token new (with_node j t) (put actor.token (with_node i t) (dequeued m actor.place))))))
         el er
         h₀ in
         let y = token-room a.taking.lawful next given l in
@@ -103,22 +102,21 @@ module _ (dag : List ℕ) (actor : Actor) (m : Machine) where
         (word 2))
         (ap (λ u. set u new true) (sym k.tokens)) (sym k.cells))
 
-    pub fork-refused : (r : Report) → 64 ≤ new → r ≡ plain (replies.Refused refusals.TokenLimit)
+    pub fork-refused : (r : Report) → o ≡ None → r ≡ plain (replies.Refused refusals.TokenLimit)
         → Gives (Step.step paper (dag_of dag) m actor.place) m ws used r
     fork-refused r l e =
         gives-refused 10 r a.taking.lawful (fork-full dag actor m (token-full a.taking.lawful next given l) a)
         e
 
   module _ {ws : List ℕ} {used : Marks} (a : Acting ws used dag actor 2 m)
-      (is : is_tail (dag_of dag) (word 2) ≡ false) {new last : ℕ} (next : new ≡ next_or 64 used.tokens last)
-      (given : last ≡ m.lasttoken) where
-    pub call-gives : {after : List ℕ} (r : Report) (root next : ℕ) → root ≡ (body_at (dag_of dag) (word 1)).root → next ≡ word 2 → new < 64
+      (is : is_tail (dag_of dag) (word 2) ≡ false) {o : Option ℕ} {last : ℕ} (next : o ≡ next_free 64 used.tokens last) (given : last ≡ m.lasttoken) where
+    pub call-gives : {after : List ℕ} {new : ℕ} (r : Report) (root next : ℕ) → root ≡ (body_at (dag_of dag) (word 1)).root → next ≡ word 2 → o ≡ Some new
         → r ≡ plain replies.Done
         → Holds after
         (enqueue new (new_token new (callee actor.token t.cell t.binds root (params_at dag actor.row))
         (put actor.token (with_node next (with_state states.Frame t)) (dequeued m actor.place))))
         → Gives (Step.step paper (dag_of dag) m actor.place) m after (record { tokens = set used.tokens new true; cells = used.cells }) r
-    call-gives {after} r root k₂ f g l e h =
+    call-gives {after} {new} r root k₂ f g l e h =
         let y = token-room a.taking.lawful next given l in
         let k = a.taking.lawful.marks in
         let own =
@@ -135,42 +133,40 @@ module _ (dag : List ℕ) (actor : Actor) (m : Machine) where
         (body_at (dag_of dag) (word 1)).root (params_at dag actor.row) (word 2))
         (ap (λ u. set u new true) (sym k.tokens)) (sym k.cells))
 
-    pub call-refused : (r : Report) → 64 ≤ new → r ≡ plain (replies.Refused refusals.TokenLimit)
+    pub call-refused : (r : Report) → o ≡ None → r ≡ plain (replies.Refused refusals.TokenLimit)
         → Gives (Step.step paper (dag_of dag) m actor.place) m ws used r
     call-refused r l e =
         gives-refused 10 r a.taking.lawful (call-full dag actor m (token-full a.taking.lawful next given l) is a)
         e
 
-  module _ {ws : List ℕ} {used : Marks} (a : Acting ws used dag actor 6 m) {new last : ℕ}
-      (next : new ≡ next_or 64 used.tokens last) (given : last ≡ m.lasttoken) where
-    pub where-refused : (r : Report) → 64 ≤ new → r ≡ plain (replies.Refused refusals.TokenLimit)
+  module _ {ws : List ℕ} {used : Marks} (a : Acting ws used dag actor 6 m) {o : Option ℕ} {last : ℕ}
+      (next : o ≡ next_free 64 used.tokens last) (given : last ≡ m.lasttoken) where
+    pub where-refused : (r : Report) → o ≡ None → r ≡ plain (replies.Refused refusals.TokenLimit)
         → Gives (Step.step paper (dag_of dag) m actor.place) m ws used r
     where-refused r l e =
         gives-refused 10 r a.taking.lawful
         (where-full dag actor m (token-full a.taking.lawful next given l) a) e
 
-    module _ {c lastc : ℕ} (nextc : c ≡ next_or 32 used.cells lastc) (givenc : lastc ≡ m.lastcell) where
-      pub where-refused-cell : (r : Report) → new < 64 → 32 ≤ c → r ≡ plain (replies.Refused refusals.CellLimit)
+    module _ {oc : Option ℕ} {lastc : ℕ} (nextc : oc ≡ next_free 32 used.cells lastc) (givenc : lastc ≡ m.lastcell) where
+      pub where-refused-cell : {new : ℕ} (r : Report) → o ≡ Some new → oc ≡ None → r ≡ plain (replies.Refused refusals.CellLimit)
           → Gives (Step.step paper (dag_of dag) m actor.place) m ws used r
       where-refused-cell r l n e =
           let y = token-room a.taking.lawful next given l in
           gives-refused 11 r a.taking.lawful
           (where-cells-full dag actor m y.0 (cell_full a.taking.lawful nextc givenc n) a) e
 
-      abbrev splits : (x left right : ℕ) → Machine
-      splits x left right =
+      abbrev splits : (new c x left right : ℕ) → Machine
+      splits new c x left right =
           enqueue new
           (enqueue actor.token
           (new_cell c (unset_cell t.cell)
-          (new_token new (in_cell c (with_node right t))
-          (put actor.token (with_node left (with_binding x (slots.Cell c) t)) (dequeued m actor.place)))))
+          (new_token new (in_cell c (with_node right t)) (put actor.token (with_node left (with_binding x (slots.Cell c) t)) (dequeued m actor.place)))))
 
-      pub where-gives : {after : List ℕ} (r : Report) (x left right : ℕ) → x ≡ word 3 → left ≡ word 1 → right ≡ word 2 → new < 64 → c < 32
-          → r ≡ plain replies.Done → Holds after (splits x left right)
-          → Gives (Step.step paper (dag_of dag) m actor.place) m after
-          (record { tokens = set used.tokens new true; cells = set used.cells c true }) r
-      where-gives {after} r x left right ex el er l n e h₀ =
-          let h = subst (λ i. Holds after (splits i (word 1) (word 2))) ex (subst₂ (λ i j. Holds after (splits x i j)) el er h₀) in
+      pub where-gives : {after : List ℕ} {new c : ℕ} (r : Report) (x left right : ℕ) → x ≡ word 3 → left ≡ word 1 → right ≡ word 2 → o ≡ Some new → oc ≡ Some c
+          → r ≡ plain replies.Done → Holds after (splits new c x left right)
+          → Gives (Step.step paper (dag_of dag) m actor.place) m after (record { tokens = set used.tokens new true; cells = set used.cells c true }) r
+      where-gives {after} {new} {c} r x left right ex el er l n e h₀ =
+          let h = subst (λ i. Holds after (splits new c i (word 1) (word 2))) ex (subst₂ (λ i j. Holds after (splits new c x i j)) el er h₀) in
           let y = token-room a.taking.lawful next given l in
           let z = cell_room a.taking.lawful nextc givenc n in
           let k = a.taking.lawful.marks in

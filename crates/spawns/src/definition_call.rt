@@ -32,10 +32,9 @@ pub fn definition_call(
         → Gives (Step.step paper (dag_of dag.now) m actor.place) m w.new marks.new result }
     ensures cells { marks.new.cells ≡ marks.old.cells }
 {
-    let new = next_token(&marks.tokens, last_token(w));
-    if Machine::TOKENS <= new {
+    let Some(new) = next_token(&marks.tokens, last_token(w)) else {
         return plain(Reply::Refused(Refusal::TokenLimit));
-    }
+    };
     let body = wide(dag_word(dag, actor.row + NAMED_NUMBER));
     let root = dag_word(dag, DEFINITIONS_START + 2 * body);
     written(

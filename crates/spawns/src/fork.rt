@@ -30,10 +30,9 @@ pub fn fork(
         → Gives (Step.step paper (dag_of dag.now) m actor.place) m w.new marks.new result }
     ensures cells { marks.new.cells ≡ marks.old.cells }
 {
-    let new = next_token(&marks.tokens, last_token(w));
-    if Machine::TOKENS <= new {
+    let Some(new) = next_token(&marks.tokens, last_token(w)) else {
         return plain(Reply::Refused(Refusal::TokenLimit));
-    }
+    };
     written(
         w,
         actor,

@@ -30,14 +30,12 @@ pub fn where_split(
     ensures { (m : Machine) → Acting w.old marks.old dag.now actor 6 m
         → Gives (Step.step paper (dag_of dag.now) m actor.place) m w.new marks.new result }
 {
-    let new = next_token(&marks.tokens, last_token(w));
-    if Machine::TOKENS <= new {
+    let Some(new) = next_token(&marks.tokens, last_token(w)) else {
         return plain(Reply::Refused(Refusal::TokenLimit));
-    }
-    let c = next_cell(&marks.cells, last_cell(w));
-    if Machine::CELLS <= c {
+    };
+    let Some(c) = next_cell(&marks.cells, last_cell(w)) else {
         return plain(Reply::Refused(Refusal::CellLimit));
-    }
+    };
     written(
         w,
         actor,

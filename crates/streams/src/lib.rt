@@ -34,13 +34,13 @@ pub fn write_all<W: Write>(writer: &mut W, bytes: &[u8]) -> io::Result<()>
     ensures ok { OnOk result (Appends (W.contents writer.old) (W.contents writer.new) bytes.now) }
     ensures err { OnErr result (AppendsPart (W.contents writer.old) (W.contents writer.new) bytes.now) }
 {
-    let mut done = 0;
-    while done < bytes.len() {
-        let taken = writer.write(&bytes[done..])?;
+    let mut rest = bytes;
+    while !rest.is_empty() {
+        let taken = writer.write(rest)?;
         if taken == 0 {
             return Err(Error::from(ErrorKind::WriteZero));
         }
-        done += taken;
+        rest = &rest[taken..];
     }
     Ok(())
 }

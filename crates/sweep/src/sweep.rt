@@ -41,28 +41,14 @@ fn keep_cell(w: &mut [u32; Machine::WORDS], c: usize, was: bool, used: bool)
     }
 }
 
-// The marks become these.
-fn renew(marks: &mut [bool], used: &[bool], size: usize)
-    requires { (length marks.old ≡ size) × (length used.now ≡ size) }
-    ensures { marks.new ≡ used.now }
-{
-    let mut i: usize = 0;
-    while i < size {
-        marks[i] = used[i];
-        i += 1;
-    }
-}
-
 // The tokens' rows by what is in use. From the end on none was marked.
 fn keep_tokens(w: &mut [u32; Machine::WORDS], marks: &[bool], used: &[bool], end: usize)
     requires { (length marks.now ≡ 64) × (length used.now ≡ 64) × (end ≤ 64) × UnmarkedFrom marks.now end 64 }
     ensures { (m : Machine) → Holds w.old m → FreeTokens m marks.now
         → Holds w.new (with_tables (rest_blanked blank_token used.now m.tokens) m.cells m) }
 {
-    let mut p: usize = 0;
-    while p < end {
+    for p in 0..end {
         keep_token(w, p, marks[p], used[p]);
-        p += 1;
     }
 }
 
@@ -73,12 +59,10 @@ fn keep_cells(w: &mut [u32; Machine::WORDS], marks: &mut [bool], used: &[bool], 
         × ((m : Machine) → Holds w.old m → FreeCells m marks.old
         → Holds w.new (with_tables m.tokens (rest_blanked blank_cell used.now m.cells) m)) }
 {
-    let mut c: usize = 0;
-    while c < end {
+    for c in 0..end {
         keep_cell(w, c, marks[c], used[c]);
-        c += 1;
     }
-    renew(marks, used, Machine::CELLS);
+    marks.copy_from_slice(used);
 }
 
 // The cells that these tokens, all before the end, reach no more.
@@ -95,7 +79,7 @@ fn sweep_cells(
 {
     let mut used = [false; Machine::CELLS];
     mark_cells(w, tokens, &mut used, end);
-    let cells_end = marked_end(marks, Machine::CELLS);
+    let cells_end = marked_end(marks);
     keep_cells(w, marks, &used, cells_end);
 }
 
@@ -110,13 +94,13 @@ pub fn sweep_to(w: &mut [u32; Machine::WORDS], marks: &mut Marks, end: usize)
     mark_tokens(w, &mut used, end);
     keep_tokens(w, &marks.tokens, &used, end);
     sweep_cells(w, &used, &mut marks.cells, end);
-    renew(&mut marks.tokens, &used, Machine::TOKENS);
+    marks.tokens.copy_from_slice(&used);
 }
 
 pub fn sweep(w: &mut [u32; Machine::WORDS], marks: &mut Marks)
     ensures { (m : Machine) → Holds w.old m → Vacant m marks.old
         → Holds w.new (sweep m) × MarksOf (sweep m) marks.new }
 {
-    let end = marked_end(&marks.tokens, Machine::TOKENS);
+    let end = marked_end(&marks.tokens);
     sweep_to(w, marks, end);
 }

@@ -2,9 +2,8 @@
 // length, 4 bytes, the lowest first; there are at most 65,536 bytes in all.
 #![tactic(auto)]
 
-ghost use Rattle.std.specs.Prelude.{◌+◌, ◌≤◌, length};
+ghost use Rattle.std.specs.Prelude.{◌≤◌, length};
 
-use entries::entry::four_bytes;
 use job::dag::{DEFINITION_COUNT, DEFINITIONS_START, HEAD_WORDS, ROW_WORDS, WORDS};
 use job::wide::wide;
 use loader::table;
@@ -12,50 +11,28 @@ use loader::table::Loaded;
 use std::io;
 use streams::read_full;
 
-fn text(rt: &impl Print, s: &[u8]) -> io::Result<()> {
-    rt.write_all(s)
-}
-
-fn number(rt: &impl Print, n: u64) -> io::Result<()> {
-    print!(rt; " {n}")
-}
-
-fn word(rt: &impl Print, w: u32) -> io::Result<()> {
-    number(rt, w as u64)
-}
-
-// The words from one index to another, on a line.
-fn words(rt: &impl Print, dag: &[u32; WORDS], from: usize, to: usize) -> io::Result<()>
-    requires { to ≤ 12331 }
-{
-    let mut i = from;
-    while i < to {
-        word(rt, dag[i])?;
-        i += 1;
+// Words on a line, behind what they are.
+fn words(rt: &impl Print, title: &str, words: &[u32]) -> io::Result<()> {
+    print!(rt; "{title}")?;
+    for &word in words {
+        print!(rt; " {word}")?;
     }
-    text(rt, b"\n")
+    print!(rt; "\n")
 }
 
 // The words of the head: three, and two for each definition.
 fn head(rt: &impl Print, dag: &[u32; WORDS]) -> io::Result<()> {
     let definitions = wide(dag[DEFINITION_COUNT]);
     if definitions <= 32 {
-        text(rt, b"head")?;
-        words(rt, dag, 0, DEFINITIONS_START + 2 * definitions)?;
+        words(rt, "head", &dag[..DEFINITIONS_START + 2 * definitions])?;
     }
     Ok(())
 }
 
 // The words of so many nodes.
-fn rows(rt: &impl Print, dag: &[u32; WORDS], nodes: usize) -> io::Result<()>
-    requires { nodes ≤ 1022 }
-{
-    let mut i = 0;
-    while i < nodes {
-        text(rt, b"node")?;
-        let at = HEAD_WORDS + ROW_WORDS * i;
-        words(rt, dag, at, at + ROW_WORDS)?;
-        i += 1;
+fn rows(rt: &impl Print, dag: &[u32; WORDS], nodes: usize) -> io::Result<()> {
+    for row in dag[HEAD_WORDS..].chunks_exact(ROW_WORDS).take(nodes) {
+        words(rt, "node", row)?;
     }
     Ok(())
 }
@@ -63,41 +40,29 @@ fn rows(rt: &impl Print, dag: &[u32; WORDS], nodes: usize) -> io::Result<()>
 fn show(rt: &impl Print, table: &[u8], dag: &mut [u32; WORDS]) -> io::Result<()> {
     let answer = table::load(table, dag);
     match answer {
-        Loaded::Refused(n, e) => {
-            text(rt, b"refused")?;
-            number(rt, n as u64)?;
-            number(rt, e as u64)?;
-            text(rt, b"\n")?;
-        }
+        Loaded::Refused(n, e) => print!(rt; "refused {n} {e}\n"),
         Loaded::Dag(nodes) => {
-            text(rt, b"dag")?;
-            number(rt, nodes as u64)?;
-            text(rt, b"\n")?;
+            print!(rt; "dag {nodes}\n")?;
             if nodes <= 1022 {
                 head(rt, dag)?;
                 rows(rt, dag, nodes)?;
             }
+            Ok(())
         }
     }
-    Ok(())
 }
 
-fn show_all(rt: &impl Print, input: &[u8], n: usize) -> io::Result<()>
-    requires n_in_bounds { n ≤ length input.now }
-    requires n_bound { n ≤ 65536 }
-{
+fn show_all(rt: &impl Print, input: &[u8]) -> io::Result<()> {
     let mut dag = [0u32; WORDS];
-    let mut at = 0;
-    while at + 4 <= n {
-        let from = at + 4;
-        let size = wide(four_bytes(input[at], input[at + 1], input[at + 2], input[at + 3]));
-        if n - from < size {
-            text(rt, b"short\n")?;
-            return Ok(());
+    let mut rest = input;
+    while let [a, b, c, d, behind @ ..] = rest {
+        let size = wide(u32::from_le_bytes([*a, *b, *c, *d]));
+        if behind.len() < size {
+            return print!(rt; "short\n");
         }
-        let to = from + size;
-        show(rt, &input[from..to], &mut dag)?;
-        at = to;
+        let (table, others) = behind.split_at(size);
+        show(rt, table, &mut dag)?;
+        rest = others;
     }
     Ok(())
 }
@@ -105,5 +70,5 @@ fn show_all(rt: &impl Print, input: &[u8], n: usize) -> io::Result<()>
 fn main(rt: HostRuntime) -> io::Result<()> {
     let mut input = [0u8; 65536];
     let n = read_full(&mut rt.stdin(), &mut input)?;
-    show_all(&rt, &input, n)
+    show_all(&rt, &input[..n])
 }

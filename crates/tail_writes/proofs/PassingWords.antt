@@ -16,10 +16,10 @@ use Rattle.model.specs.Machine.Step.{formals_bound}
 use Rattle.sites.specs.Row.{ParamsHold, params_at}
 use Rattle.sites.proofs.LookParams.{none-bound, params-count}
 use Rattle.record.specs.Holds.{Holds}
-use Rattle.record.specs.Layout.{slot_kind, slot_number}
 use Rattle.record.proofs.HoldsShape.{shaped}
 use Rattle.writes.proofs.Writes.{put_same}
-use Rattle.tail_writes.specs.Passing.{SlotWords, kind_words, number_words}
+use Rattle.tail_writes.specs.Passing.{slot_words}
+use Rattle.tail_writes.specs.declared.passing.SlotWords.{SlotWords}
 
 -- a write to a list, and to the words of its elements
 map-set : {A B : Type 0} (f : A → B) (l : List A) (i : ℕ) (x : A) → map f (set l i x) ≡ set (map f l) i (f x)
@@ -28,27 +28,19 @@ map-set f (y ∷ l) zero x = refl
 map-set f (y ∷ l) (suc i) x = ap (◌∷◌ (f y)) (map-set f l i x)
 
 -- none is read yet
-pub none_read : {ks ns : List ℕ} (bs : List Slot) → ks ≡ replicate 8 0 → ns ≡ replicate 8 0 → SlotWords ks ns (formals_bound bs [])
-none_read bs e f = record { kinds = e ∙ ap kind_words (none-bound bs []); numbers = f ∙ ap number_words (none-bound bs []) }
+pub none_read : (bs : List Slot) → replicate 8 (record { kind = 0; number = 0 }) ≡ map slot_words (formals_bound bs [])
+none_read bs = ap (map slot_words) (none-bound bs [])
 
 -- one more is read
-pub slot_read : {ks ns : List ℕ} {bs cs : List Slot} (i k n : ℕ) (b : Slot) → SlotWords ks ns bs → k ≡ slot_kind b
-    → n ≡ slot_number b → set bs i b ≡ cs → SlotWords (set ks i k) (set ns i n) cs
-slot_read {ks} {ns} {bs} {cs} i k n b o e f s =
-    record {
-      kinds =
-          ap₂ (λ xs x. set xs i x) o.kinds e ∙ sym (map-set slot_kind bs i b) ∙ ap kind_words s;
-      numbers =
-          ap₂ (λ xs x. set xs i x) o.numbers f ∙ sym (map-set slot_number bs i b) ∙ ap number_words s;
-    }
+pub slot_read : {ss : List SlotWords} (bs : List Slot) {cs : List Slot} (i : ℕ) {s : SlotWords} (b : Slot) → ss ≡ map slot_words bs → s ≡ slot_words b
+    → set bs i b ≡ cs → set ss i s ≡ map slot_words cs
+slot_read {ss} bs {cs} i b o e f =
+    ap₂ (λ xs x. set xs i x) o e ∙ sym (map-set slot_words bs i b) ∙ ap (map slot_words) f
 
 -- the words of one
-module _ {ks ns : List ℕ} {bs : List Slot} (o : SlotWords ks ns bs) (x : ℕ) where
-  pub kind_at : slot_kind (get_or bs x empty) ≡ get_or ks x 0
-  kind_at = sym (ap (λ l. get_or l x 0) o.kinds ∙ get_or-map slot_kind bs x empty)
-
-  pub number_at : slot_number (get_or bs x empty) ≡ get_or ns x 0
-  number_at = sym (ap (λ l. get_or l x 0) o.numbers ∙ get_or-map slot_number bs x empty)
+pub slot-at : {ss : List SlotWords} (bs : List Slot) (x : ℕ) → ss ≡ map slot_words bs
+    → slot_words (get_or bs x empty) ≡ get_or ss x (slot_words empty)
+slot-at {ss} bs x o = sym (ap (λ l. get_or l x (slot_words empty)) o ∙ get_or-map slot_words bs x empty)
 
 -- one more is written over the old ones
 module _ (old bs : List Slot) (long : length old ≡ 8) (size : length bs ≡ 8) where

@@ -30,11 +30,9 @@ pub fn written(
         (callee (token_at m.tokens p).caller (token_at m.tokens p) root (params_at dag.now actor.row))
         (dequeued m actor.place))) }
 {
-    let mut kinds = [0u32; 8];
-    let mut numbers = [0u32; 8];
-    passed_slots(w, dag, actor, &mut kinds, &mut numbers);
+    let slots = passed_slots(w, dag, actor);
     replace::<Queue>(w, actor.place, actor.token as u32);
-    bind_slots(w, actor.token, &kinds, &numbers);
+    bind_slots(w, actor.token, &slots);
     set_value(w, actor.token, 0, 0);
     set_node(w, actor.token, root);
 }

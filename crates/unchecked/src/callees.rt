@@ -11,7 +11,6 @@ ghost use Rattle.acts.specs.Acting.{SomeMachine, Acting};
 ghost use Rattle.acts.specs.SharedFrames.{OneCallee, caller_shared, Stepped};
 
 use job::dag::{NEXT_NODE, WORDS};
-use job::wide::wide;
 use model::record::Machine;
 use model::reply::Report;
 use reach::used::Marks;
@@ -29,7 +28,7 @@ pub(crate) fn share_caller(w: &[u32; Machine::WORDS], p: usize, shared: &mut [bo
     ensures { (m : Machine) → Codes w.now m
         → shared.new ≡ caller_shared (token_at m.tokens p).caller shared.old }
 {
-    let f = wide(caller(w, p));
+    let f = caller(w, p) as usize;
     if 0 < f {
         if f <= Machine::TOKENS {
             shared[f - 1] = true;
@@ -59,7 +58,7 @@ pub(crate) fn call_marked(
         → Stepped (Step.step paper (dag_of dag.now) m actor.place) m w.new marks.new shared.new result }
 {
     shared[actor.token] = false;
-    let next = wide(dag_word(dag, actor.row + NEXT_NODE));
+    let next = dag_word(dag, actor.row + NEXT_NODE) as usize;
     if is_tail(dag, next) {
         return tail_call(w, marks, dag, actor);
     }
@@ -79,7 +78,7 @@ pub(crate) fn return_marked(
         → OneCallee shared.old m
         → Stepped (Step.step paper (dag_of dag.now) m actor.place) m w.new marks.new shared.new result }
 {
-    let f = wide(caller(w, actor.token)) - 1;
+    let f = caller(w, actor.token) as usize - 1;
     if is_shared(shared, f) {
         share_caller(w, f, shared);
         return return_value(w, marks, dag, actor, true);

@@ -8,7 +8,6 @@ ghost use Rattle.acts.specs.SharedFrames.{OneCallee, Stepped};
 
 use crate::act::act;
 use job::dag::{HEAD_WORDS, ROW_WORDS, WORDS};
-use job::wide::wide;
 use model::record::Machine;
 use model::reply::Report;
 use reach::used::Marks;
@@ -29,7 +28,7 @@ pub fn step(
         → OneCallee shared.old m
         → Stepped (Step.step paper (dag_of dag.now) m place) m w.new marks.new shared.new result }
 {
-    let token = wide(place_at::<Queue>(w, place));
-    let row = HEAD_WORDS + ROW_WORDS * wide(node(w, token));
+    let token = place_at::<Queue>(w, place) as usize;
+    let row = HEAD_WORDS + ROW_WORDS * node(w, token) as usize;
     act(w, marks, shared, dag, Actor { place, token, row })
 }

@@ -8,7 +8,6 @@ use Rattle.model.specs.declared.reply.Reply.TheVariants as replies
 use Rattle.model.specs.Machine.Blank.{token_at}
 use mathlib.Core.Path.{sym, ◌∙◌}
 use native.Mathlib.Omega.{arith}
-use borrow.Author.Rules.{rules}
 use Rattle.acts.proofs.choke.choke_cell.Goals as goal
 
 pub cell-requires : goal.cell-requires
@@ -34,10 +33,11 @@ written-requires c = let acting = c.requires.is in
     (c.wide-c.ensures
     ∙ c.cell.ensures _
     acting.taking.lawful.holds.codes) in
-    (k.1, c.marked_end-end.ensures.upper_bound.0)
+    (k.1, omega (arith, c.marked_end-end.ensures.upper_bound.0))
 
 pub sweep_to-requires : goal.sweep_to-requires
-sweep_to-requires c = c.marked_end-end.ensures.upper_bound
+sweep_to-requires c = let end = c.marked_end-end.ensures.upper_bound in
+    (omega (arith, end.0), λ i from to. end.1 i from (omega arith))
 
 pub returns : goal.returns
 returns c = λ m a.
@@ -50,7 +50,7 @@ returns c = λ m a.
     let none = c.marked_end-end.ensures.upper_bound.1 in
     gives-swept _ replies.Done _ (choke-step _ _ m _ k.2 a) c.plain.ensures
     (c.sweep_to.ensures _
-    (c.written.ensures m v holds (λ i from to. free-token a.taking.lawful i (none i from to))
+    (c.written.ensures m v holds (λ i from to. free-token a.taking.lawful i (none i from (omega arith)))
     (record { queued = a.taking.queued; room = room _ m a.taking.lawful.rules })
     (sym (c.value_kind-kind.ensures m
     holds.codes))

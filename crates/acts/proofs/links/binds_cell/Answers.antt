@@ -1,27 +1,18 @@
--- `links::binds_cell` meets its contract: each way out is how the definition's step ends there. Assumes nothing.
-use Rattle.acts.proofs.LinksBound.{cell-found, no-cell-next, no-cell-found}
-use Rattle.job.specs.Test.{for_some}
-use Prim.Native.Nat.{◌-◌}
-use mathlib.Core.Bool.{false}
-use mathlib.Core.Path.{refl}
+-- `links::binds_cell` meets its contract: the tests of the eight slots are the definition's. Assumes nothing.
+use mathlib.Core.Path.{refl, ◌∙◌}
+use lib.ListN.{get_or}
 use borrow.Author.Rules.{rules}
-use native.Mathlib.Omega.{arith}
+use Rattle.model.specs.Machine.Blank.{empty, token_at}
+use Rattle.std.proofs.Common.{tests}
+use Rattle.std.proofs.lemmas.Iterator.{YieldsList-from_range}
+use Rattle.std.proofs.lemmas.Iterator.Search.{any_from_yields_List}
+use Rattle.acts.specs.Links.{to_cell}
+use Rattle.acts.proofs.LinksBound.{cell-test, eight-slots}
 use Rattle.acts.proofs.links.binds_cell.Goals as goal
 
-pub loop-x-init : goal.loop-x-init
-unfolding for_some
-loop-x-init c = (search rules, λ m h. refl)
-
-pub returns-then-bind_kind-eq-CELL_SLOT : goal.returns-then-bind_kind-eq-CELL_SLOT
-returns-then-bind_kind-eq-CELL_SLOT c = λ m h. cell-found _ (h.shaped.binds _) c.loop-x.x _ (omega arith)
-    (c.bind_kind.ensures m h) c.if-bind_kind-eq-CELL_SLOT.true
-
-pub loop-x-preserved : goal.loop-x-preserved
-loop-x-preserved c = (
-  search rules,
-  λ m h. no-cell-next _ (h.shaped.binds _) c.loop-x.x _ (omega arith) (c.bind_kind.ensures m h)
-      c.if-bind_kind-eq-CELL_SLOT.false (c.loop-x.invariant.1 m h),
-)
-
 pub returns : goal.returns
-returns c = λ m h. no-cell-found _ (h.shaped.binds _) c.loop-x.x (omega arith) (c.loop-x.invariant.1 m h)
+returns c = λ m h.
+    let bs = (token_at m.tokens c.args.p).binds in
+    any_from_yields_List (λ x. to_cell (get_or bs x empty)) _ _ c.any.result c.any.ensures.ran (YieldsList-from_range 0 8 8 refl refl)
+    (λ x b q k. (search (rules, tests), search (rules, tests, cell-test)))
+    ∙ eight-slots bs (h.shaped.binds _)

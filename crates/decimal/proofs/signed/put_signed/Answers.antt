@@ -17,7 +17,7 @@ bounds-buffer-at c = let negative = rw (to_z-of_z c.ranges.v) at c.if-v-lt0.true
 pub put_decimal-requires : goal.put_decimal-requires
 put_decimal-requires c = let f = c.ranges.v in
     let negative = rw (to_z-of_z f) at c.if-v-lt0.true in
-    let room = negative-room c.args.v _ _ _ negative (rw (to_z-of_z f) at c.magnitude.ensures) c.requires in
+    let room = negative-room c.args.v _ _ _ negative (rw (to_z-of_z f) at c.unsigned_abs.ensures.value) c.requires in
     rw length-set (omega arith)
 
 pub shape_of-buffer-then-v-lt0 : goal.shape_of-buffer-then-v-lt0
@@ -26,14 +26,14 @@ shape_of-buffer-then-v-lt0 c = written-length c.put_decimal.ensures ∙ simp len
 pub returns-then-v-lt0 : goal.returns-then-v-lt0
 returns-then-v-lt0 c = let f = c.ranges.v in
     let negative = rw (to_z-of_z f) at c.if-v-lt0.true in
-    negative-written _ _ _ _ _ _ negative (rw (to_z-of_z f) at c.magnitude.ensures) c.put_decimal.ensures
+    negative-written _ _ _ _ _ _ negative (rw (to_z-of_z f) at c.unsigned_abs.ensures.value) c.put_decimal.ensures
 
 pub put_decimal-requires-2 : goal.put_decimal-requires-2
 put_decimal-requires-2 c = let f = c.ranges.v in
     let positive = rw (to_z-of_z f) at c.if-v-lt0.false in
-    positive-room c.args.v _ _ _ positive (rw (to_z-of_z f) at c.magnitude-2.ensures) c.requires
+    positive-room c.args.v _ _ _ positive (rw (to_z-of_z f) at c.unsigned_abs-2.ensures.value) c.requires
 
 pub returns : goal.returns
 returns c = let f = c.ranges.v in
     let positive = rw (to_z-of_z f) at c.if-v-lt0.false in
-    positive-written _ _ _ _ _ _ positive (rw (to_z-of_z f) at c.magnitude-2.ensures) c.put_decimal-2.ensures
+    positive-written _ _ _ _ _ _ positive (rw (to_z-of_z f) at c.unsigned_abs-2.ensures.value) c.put_decimal-2.ensures

@@ -13,7 +13,7 @@ returns-else-number-ne0-clause-leaves c = λ m dag shared lawful one e.
     let none = c.few_or_all-end.ensures.upper_bound.1 in
     turned-shows
     (turn-delivers _ _ _ _ _ _ c.deliver.ensures.gives m dag _ shared lawful
-    (λ i from to. free-token lawful i (none i from to)) one e)
+    (λ i from to. free-token lawful i (none i from (omega arith))) one e)
     (over-empty _ e _) (shows-as (taken-line c.if-number-ne0.false) (shows-none _ _ _)) (omega arith)
 
 pub returns-then-number-ne0-clause-leaves : goal.returns-then-number-ne0-clause-leaves
@@ -22,6 +22,6 @@ returns-then-number-ne0-clause-leaves c = λ m dag shared lawful one e.
     let line = c.show_declined.ensures in
     turned-shows
     (turn-delivers _ _ _ _ _ _ c.deliver.ensures.gives m dag _ shared lawful
-    (λ i from to. free-token lawful i (none i from to)) one e)
+    (λ i from to. free-token lawful i (none i from (omega arith))) one e)
     (over-empty _ e _) (shows-as (refused-line c.deliver-number.ensures.delivery_number c.if-number-ne0.true) line.shows_bytes)
     line.upper_bound

@@ -1,16 +1,16 @@
 -- `site_parameters::takes` meets its contract: each answer is that of the site's range. Assumes nothing.
-use Rattle.std.proofs.Common.{sym}
+use Rattle.std.proofs.Common.{sym, arith}
 use Rattle.job.proofs.Site.{takes-builtin, takes-unknown, takes-far, takes-outside}
 use Rattle.job.proofs.site_parameters.takes.Goals as goal
 
-pub returns-then-site-lt-BUILTIN_LIMIT : goal.returns-then-site-lt-BUILTIN_LIMIT
-returns-then-site-lt-BUILTIN_LIMIT c = sym (takes-builtin _ _ c.if-site-lt-BUILTIN_LIMIT.true)
+pub returns-in-0-to-7 : goal.returns-in-0-to-7
+returns-in-0-to-7 c = sym (takes-builtin _ _ (omega arith))
 
-pub returns-then-site-lt16 : goal.returns-then-site-lt16
-returns-then-site-lt16 c = sym (takes-unknown _ _ c.if-site-lt-BUILTIN_LIMIT.false c.if-site-lt16.true)
+pub returns-in-16-to-1023 : goal.returns-in-16-to-1023
+returns-in-16-to-1023 c = sym (takes-outside _ _ (omega arith) (omega arith))
 
-pub returns-then-site-gt1023 : goal.returns-then-site-gt1023
-returns-then-site-gt1023 c = sym (takes-far _ _ c.if-site-lt-BUILTIN_LIMIT.false c.if-site-gt1023.true)
+pub returns-in_default : goal.returns-in_default
+returns-in_default c = sym (takes-unknown _ _ (omega arith) (omega arith))
 
-pub returns : goal.returns
-returns c = sym (takes-outside _ _ c.if-site-lt16.false c.if-site-gt1023.false)
+pub returns-in_default-2 : goal.returns-in_default-2
+returns-in_default-2 c = sym (takes-far _ _ (omega arith) (omega arith))

@@ -1,11 +1,7 @@
 use mathlib.Core.Path.{◌≡◌}
-use Prim.Native.Nat.{◌-◌, ◌≤◌}
-use Rattle.reach.specs.Marks.{next_or}
-use Rattle.places.proofs.PlaceSearch.{seek}
+use Prim.Native.Nat.{◌-◌}
+use Rattle.places.proofs.PlaceSearch.{next_or, seek}
 use Rattle.places.proofs.place.next_of.Given as goal
 
-abbrev pub invariant-loop-n : goal.invariant-loop-n
-invariant-loop-n l = (l.n ≤ l.size) × (next_or l.size l.marks l.last ≡ seek l.size l.marks (l.size - l.n) l.p)
-
-abbrev pub decreases-loop-n : goal.decreases-loop-n
-decreases-loop-n l = l.size - l.n
+abbrev pub invariant-loop : goal.invariant-loop
+invariant-loop l = next_or l.end l.marks l.last ≡ seek l.end l.marks (l.end - l.counter) l.p

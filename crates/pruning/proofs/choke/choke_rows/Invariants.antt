@@ -1,11 +1,7 @@
-use Prim.Native.Nat.{◌≤◌, ◌-◌}
 use Rattle.model.specs.declared.record.Machine.{Machine}
 use Rattle.record.specs.Holds.{Holds}
 use Rattle.pruning.specs.Choke.{rows_choked}
 use Rattle.pruning.proofs.choke.choke_rows.Given as goal
 
 abbrev pub invariant-loop-p : goal.invariant-loop-p
-invariant-loop-p l = (l.p ≤ l.end) × ((m : Machine) → Holds l.initial.w m → Holds l.w (rows_choked l.c l.p m))
-
-abbrev pub decreases-loop-p : goal.decreases-loop-p
-decreases-loop-p l = l.end - l.p
+invariant-loop-p l = (m : Machine) → Holds l.initial.w m → Holds l.w (rows_choked l.c l.p m)

@@ -1,6 +1,5 @@
 use mathlib.Core.Bool.{false}
 use mathlib.Core.Path.{◌≡◌}
-use Prim.Native.Nat.{◌≤◌, ◌-◌}
 use lib.Dec.{eqb}
 use lib.ListN.{replicate}
 use Rattle.model.specs.declared.record.Machine.{Machine}
@@ -11,9 +10,5 @@ use Rattle.sites.proofs.TableLoops.{Mapping}
 use Rattle.pruning.proofs.choke.mark_state.Given as goal
 
 abbrev pub invariant-loop-p : goal.invariant-loop-p
-invariant-loop-p l = (l.p ≤ l.end)
-    × ((m : Machine) → Codes l.w m → l.initial.marks ≡ replicate 64 false
-    → Mapping (λ (t : Token). eqb (state_kind t.state) l.kind) m.tokens (replicate 64 false) l.p l.marks)
-
-abbrev pub decreases-loop-p : goal.decreases-loop-p
-decreases-loop-p l = l.end - l.p
+invariant-loop-p l = (m : Machine) → Codes l.w m → l.initial.marks ≡ replicate 64 false
+    → Mapping (λ (t : Token). eqb (state_kind t.state) l.kind) m.tokens (replicate 64 false) l.p l.marks

@@ -1,37 +1,26 @@
--- `mark::mark_callers` meets its contract. The loop's invariant: the chain goes on at `q`, for the links that are left. Assumes nothing.
-use mathlib.Core.Path.{refl, ◌∙◌}
-use Prim.Native.Nat.{◌-◌}
+-- `mark::mark_callers` meets its contract: the links are those of the table's rows. Assumes nothing.
+use mathlib.Core.List.{map}
+use mathlib.Core.Path.{◌≡◌, sym, ap, ◌∙◌}
 use borrow.Author.Rules.{rules}
-use lib.ListN.{length-set}
-use Rattle.model.specs.Machine.Blank.{token_at}
-use Rattle.reach.proofs.MarkChain.{chain-ends, chain-outside, chain-met, chain-on, chain-over}
+use lib.ListN.{get_or-map}
+use Rattle.model.specs.Machine.Blank.{blank_token, token_at}
+use Rattle.model.specs.Machine.InUse.{mark_chain}
+use Rattle.model.specs.Machine.Held.{Place}
+use Rattle.model.specs.declared.token.Token.{Token}
+use Rattle.record.specs.Layout.{place_number}
+use Rattle.record.specs.LayoutDecoded.{place_from}
+use Rattle.reach.proofs.MarkChain.{walk-linked}
 use Rattle.reach.proofs.mark.mark_callers.Goals as goal
 
-pub loop-n-init : goal.loop-n-init
-loop-n-init c = (search rules, search rules, λ m h. refl)
-
-pub returns-then-q-eq0 : goal.returns-then-q-eq0
-returns-then-q-eq0 c = λ m h. let l = c.loop-n in chain-ends _ _ _ 64 l.n l.q _ _ l.invariant.1 (l.invariant.2 m h) (search rules)
-
-pub returns-then-p-ge-TOKENS : goal.returns-then-p-ge-TOKENS
-returns-then-p-ge-TOKENS c = λ m h.
-    let l = c.loop-n in
-    chain-outside _ _ _ 64 l.n l.q _ _ l.invariant.1 (l.invariant.2 m h) (search rules) (search rules)
-
-pub returns-then-marks-p : goal.returns-then-marks-p
-returns-then-marks-p c = λ m h.
-    let l = c.loop-n in
-    chain-met _ _ _ 64 l.n l.q _ _ l.invariant.1 (l.invariant.2 m h) (search rules) (search rules) (search rules)
-
-pub loop-n-preserved : goal.loop-n-preserved
-unfolding token_at
-loop-n-preserved c = let l = c.loop-n in (
-  search rules,
-  simp length-set (search rules),
-  λ m h.
-      chain-on _ _ _ 64 l.n l.q _ _ l.invariant.1 (l.invariant.2 m h) _ (search rules) (search rules) (search rules) (search rules)
-      (c.wide-q.ensures ∙ c.caller.ensures m h),
-)
-
 pub returns : goal.returns
-returns c = λ m h. let l = c.loop-n in chain-over _ _ _ 64 l.n l.q _ _ l.invariant.1 (l.invariant.2 m h) (search rules)
+unfolding token_at
+returns c = λ m h.
+    let link = λ (t : Token). t.caller in
+    let q = place_from c.args.start in
+    let marks = c.args.marks.now in
+    c.mark_chain.ensures (map link m.tokens) (link blank_token)
+    (λ p r k e.
+    let here : r ≡ place_number (token_at m.tokens p).caller = search rules in
+    here ∙ ap place_number (sym (get_or-map link m.tokens p blank_token)))
+    ∙ ap (λ n. mark_chain (λ (q : Place). q) (link blank_token) (map link m.tokens) n q marks) c.requires
+    ∙ walk-linked link blank_token m.tokens 64 q marks

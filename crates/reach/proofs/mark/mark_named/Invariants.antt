@@ -1,7 +1,6 @@
 use mathlib.Core.List.{map}
 use mathlib.Core.Path.{◌≡◌}
-use Prim.Native.Nat.{◌-◌, ◌≤◌}
-use lib.ListN.{length, drop}
+use lib.ListN.{drop}
 use Rattle.model.specs.Machine.Blank.{token_at}
 use Rattle.model.specs.Machine.InUse.{bound_cell}
 use Rattle.model.specs.declared.record.Machine.{Machine}
@@ -10,12 +9,7 @@ use Rattle.reach.specs.Marks.{cells_marked}
 use Rattle.reach.proofs.mark.mark_named.Given as goal
 
 abbrev pub invariant-loop-x : goal.invariant-loop-x
-invariant-loop-x l = (l.x ≤ 8)
-    × (length l.marks ≡ 32)
-    × ((m : Machine)
+invariant-loop-x l = (m : Machine)
     → Codes l.w m
     → cells_marked m (map bound_cell (token_at m.tokens l.p).binds) l.initial.marks
-    ≡ cells_marked m (map bound_cell (drop l.x (token_at m.tokens l.p).binds)) l.marks)
-
-abbrev pub decreases-loop-x : goal.decreases-loop-x
-decreases-loop-x l = 8 - l.x
+    ≡ cells_marked m (map bound_cell (drop l.x (token_at m.tokens l.p).binds)) l.marks

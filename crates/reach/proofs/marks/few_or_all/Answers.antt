@@ -9,9 +9,9 @@ use Rattle.reach.proofs.marks.few_or_all.Goals as goal
 pub returns-then-none_from : goal.returns-then-none_from
 unfolding few_or_all
 returns-then-none_from c = let none = sym c.none_from.ensures ∙ c.if-none_from.true in
-    record { upper_bound = (search rules, none-unmarked c.args.marks.now 8 _ c.requires.0 none); value = rw (none, few_or_all) refl }
+    record { upper_bound = (search rules, none-unmarked c.args.marks.now 8 _ refl none); value = rw (none, few_or_all) refl }
 
 pub returns : goal.returns
 unfolding few_or_all
 returns c = let some = sym c.none_from.ensures ∙ c.if-none_from.false in
-    record { upper_bound = (search rules, λ i from to. absurd (omega arith)); value = rw (some, few_or_all) (sym c.requires.0) }
+    record { upper_bound = (search rules, λ i from to. absurd (omega arith)); value = rw (some, few_or_all) refl }

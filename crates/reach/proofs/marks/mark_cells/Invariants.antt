@@ -1,6 +1,4 @@
 use mathlib.Core.Path.{◌≡◌}
-use Prim.Native.Nat.{◌-◌, ◌≤◌}
-use lib.ListN.{length}
 use Rattle.model.specs.Machine.InUse.{used_cells}
 use Rattle.model.specs.declared.record.Machine.{Machine}
 use Rattle.record.specs.Holds.{Codes}
@@ -8,9 +6,4 @@ use Rattle.reach.proofs.UsedMarking.{cells_left}
 use Rattle.reach.proofs.marks.mark_cells.Given as goal
 
 abbrev pub invariant-loop-p : goal.invariant-loop-p
-invariant-loop-p l = (l.p ≤ l.end)
-    × (length l.marks ≡ 32)
-    × ((m : Machine) → Codes l.w m → used_cells l.tokens m.tokens m.cells ≡ cells_left m l.tokens l.p l.marks)
-
-abbrev pub decreases-loop-p : goal.decreases-loop-p
-decreases-loop-p l = l.end - l.p
+invariant-loop-p l = (m : Machine) → Codes l.w m → used_cells l.tokens m.tokens m.cells ≡ cells_left m l.tokens l.p l.marks

@@ -1,6 +1,4 @@
 use mathlib.Core.Path.{◌≡◌}
-use Prim.Native.Nat.{◌-◌, ◌≤◌}
-use lib.ListN.{length}
 use Rattle.model.specs.Machine.InUse.{tokens_used}
 use Rattle.model.specs.declared.record.Machine.{Machine}
 use Rattle.record.specs.Holds.{Codes}
@@ -8,7 +6,4 @@ use Rattle.reach.proofs.UsedMarking.{callers_left}
 use Rattle.reach.proofs.marks.mark_tokens.Given as goal
 
 abbrev pub invariant-loop-p : goal.invariant-loop-p
-invariant-loop-p l = (l.p ≤ l.end) × (length l.marks ≡ 64) × ((m : Machine) → Codes l.w m → tokens_used m ≡ callers_left m l.p l.marks)
-
-abbrev pub decreases-loop-p : goal.decreases-loop-p
-decreases-loop-p l = l.end - l.p
+invariant-loop-p l = (m : Machine) → Codes l.w m → tokens_used m ≡ callers_left m l.p l.marks

@@ -1,18 +1,21 @@
--- `marks::none_from` meets its contract. The loop's invariant: what was found before `i`. Assumes nothing.
-use mathlib.Core.Path.{◌∙◌}
-use Prim.Native.Nat.{◌-◌}
-use native.Mathlib.Omega.{arith}
+-- `marks::none_from` meets its contract: the marks are gathered from the front. Assumes nothing.
+use mathlib.Core.Bool.{false, not, ◌||◌}
+use mathlib.Core.Path.{◌≡◌, refl, ap, ◌∙◌}
+use lib.ListN.{drop}
 use borrow.Author.Rules.{rules}
-use Rattle.reach.proofs.MarksEnd.{none_yet, none_more, none-all}
+use Rattle.std.specs.List.{fold}
+use Rattle.std.proofs.lemmas.Fn.{fold_over, fronts, slice_gives}
+use Rattle.std.proofs.lemmas.List.Sums.{fold_push}
+use Rattle.std.proofs.lemmas.List.{take_rest}
+use Rattle.reach.proofs.MarksEnd.{none-gathered}
 use Rattle.reach.proofs.marks.none_from.Goals as goal
 
-pub loop-i-init : goal.loop-i-init
-loop-i-init c = (search rules, search rules, none_yet c.args.marks.now c.args.from c.args.from (omega arith))
-
-pub loop-i-preserved : goal.loop-i-preserved
-loop-i-preserved c = let l = c.loop-i in
-    let marks = c.args.marks.now in
-    (search rules, search rules, none_more marks _ l.i l.found (search rules) l.invariant.0 l.invariant.2)
-
 pub returns : goal.returns
-returns c = let l = c.loop-i in l.invariant.2 ∙ none-all _ _ l.i (omega arith)
+returns c =
+    let marks = drop c.args.from c.args.marks.now in
+    let e : c.fold.result ≡ fold ◌||◌ false marks =
+    fold_over fronts (λ y. y.now) _ (λ ys b. b ≡ fold ◌||◌ false ys) _
+    (λ ys a x b f' j k. let more = fold_push ◌||◌ false ys x.now in search rules)
+    _ _ _ _ (slice_gives c.iter.result) refl c.fold.ensures.ran
+    ∙ ap (fold ◌||◌ false) (c.iter.ensures.rest ∙ take_rest c.args.marks.now c.args.from) in
+    ap not e ∙ none-gathered false marks

@@ -9,7 +9,7 @@ use Rattle.record.proofs.order.leave.Goals.{else-count-le-TOKENS-via-then-count-
 pub returns-then-index-count : goal.returns-then-index-count
 returns-then-index-count g c = let o = g.O.Order in
     let counted = c.LENGTH-length.ensures ∙ o.counted in
-    let part : c.START-start.result + 64 - c.START-start.result ≡ 64 = omega arith in
+    let part : c.START-start.result + c.wide-count.result - c.START-start.result ≡ c.wide-count.result = omega arith in
     let out = rw part at c.left_out.ensures in
     λ m h l. rw part (leave-put (order-at h o.which (c.START-start.ensures ∙ o.starts) counted) _ _ _
     (c.wide-count.ensures ∙ count-read h.codes o.which counted) (omega arith) out)

@@ -11,7 +11,7 @@ overflow_cast-w g c = omega (arith, c.retained-n.ensures.few)
 pub returns-then-count-le-TOKENS : goal.returns-then-count-le-TOKENS
 returns-then-count-le-TOKENS g c = let o = g.O.Order in
     let counted = c.LENGTH-length.ensures ∙ o.counted in
-    let part : c.START-start.result + 64 - c.START-start.result ≡ 64 = omega arith in
+    let part : c.START-start.result + c.wide-count.result - c.START-start.result ≡ c.wide-count.result = omega arith in
     let kept = rw part at c.retained-n.ensures in
     λ m h. rw part (retain-put (order-at h o.which (c.START-start.ensures ∙ o.starts) counted) _ _ _ _
     (c.wide-count.ensures ∙ count-read h.codes o.which counted) kept)

@@ -8,9 +8,6 @@ use Rattle.sites.proofs.answer.find_open.Goals as goal
 use Rattle.sites.proofs.answer.find_open.Goals.{else-state-eq-CALLED_STATE-via-then-state-eq-CALLED_STATE+else-state_number-handle}
 use Rattle.sites.proofs.answer.find_open.Goals.{else-state-eq-CALLED_STATE-via-else-state-eq-CALLED_STATE}
 
-pub loop-p-init : goal.loop-p-init
-loop-p-init c = λ m h. refl
-
 pub returns-then-state_number-handle-clause-place : goal.returns-then-state_number-handle-clause-place
 unfolding token_at
 returns-then-state_number-handle-clause-place c = λ m h blank.

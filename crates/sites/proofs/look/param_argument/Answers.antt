@@ -1,7 +1,6 @@
 -- A parameter is a variable or a constant by its kind. Assumes nothing.
-use mathlib.Core.Path.{sym, ap, subst, ◌∙◌}
+use mathlib.Core.Path.{refl, ap, ◌∙◌}
 use borrow.Author.Rules.{rules}
-use Prim.Native.Nat.{◌<◌}
 use mir.Syntax.{w32}
 use mir.Val.{SFits}
 use mir.Facts.{to_z-of_z}
@@ -13,12 +12,11 @@ use Rattle.sites.proofs.look.param_argument.Goals as goal
 pub variable_argument-requires : goal.variable_argument-requires
 variable_argument-requires c = (
   search rules,
-  subst (λ x. x < 8) (sym c.wide.ensures)
-      (variable-below _ _ c.requires.2 (param-variable _ _ c.if-dag-at-eq-VARIABLE.true)),
+  variable-below _ _ c.requires.2 (param-variable _ _ c.if-dag-at-eq-VARIABLE.true),
 )
 
 pub returns-then-dag-at-eq-VARIABLE : goal.returns-then-dag-at-eq-VARIABLE
-returns-then-dag-at-eq-VARIABLE c = λ m h o. found-variable m.cells _ _ _ _ _ c.if-dag-at-eq-VARIABLE.true c.wide.ensures
+returns-then-dag-at-eq-VARIABLE c = λ m h o. found-variable m.cells _ _ _ _ _ c.if-dag-at-eq-VARIABLE.true refl
     (c.variable_argument.ensures m h o)
 
 pub returns : goal.returns

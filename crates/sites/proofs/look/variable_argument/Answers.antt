@@ -5,13 +5,9 @@ use borrow.Author.Rules.{rules}
 use mir.Syntax.{w32}
 use mir.Val.{SFits}
 use mir.Facts.{to_z-of_z}
-use Rattle.sites.proofs.LookLaws.{variable-empty, variable-value, variable-cell}
+use Rattle.sites.proofs.LookLaws.{variable-value, variable-cell}
 use Rattle.std.specs.Prelude.{Some, Ok}
 use Rattle.sites.proofs.look.variable_argument.Goals as goal
-
-pub returns-then-kind-eq-EMPTY_SLOT : goal.returns-then-kind-eq-EMPTY_SLOT
-returns-then-kind-eq-EMPTY_SLOT c = λ m h o. variable-empty m _ _ _ _ o (c.bind_kind-kind.ensures m h) (c.bind_number-number.ensures m h)
-    c.if-kind-eq-EMPTY_SLOT.true
 
 pub returns-then-kind-eq-VALUE_SLOT : goal.returns-then-kind-eq-VALUE_SLOT
 returns-then-kind-eq-VALUE_SLOT c = λ m h o.

@@ -7,7 +7,6 @@ use Rattle.model.specs.Machine.Update.{with_binding}
 use Rattle.model.specs.Machine.Blank.{blank_token, token_at}
 use borrow.Author.Rules.{rules}
 use native.Mathlib.Omega.{arith}
-use Prim.Native.Nat.{◌-◌}
 use mathlib.Core.Path.{refl, ◌∙◌}
 use Rattle.spawn_writes.proofs.definition_call.pass_all.Goals as goal
 
@@ -19,7 +18,6 @@ dag_word-requires c = let l = c.requires.2.inside in omega arith
 
 pub loop-i-init : goal.loop-i-init
 loop-i-init c = let a = c.args in (
-  search rules,
   c.wide-count.ensures ∙ c.dag_word.ensures,
   λ m h n. carry-binds m a.new blank_token
       (none-bound (token_at m.tokens a.actor.token).binds (params_at a.dag.now a.actor.row)) h,
@@ -31,23 +29,22 @@ pass-requires c = let l = c.loop-i in (
   search rules,
   search rules,
   param-holds _ _ l.i _ _
-      c.requires.2 (omega (arith, l.invariant.1))
+      c.requires.2 (omega (arith, l.invariant.0))
       c.dag_word-kind.ensures c.dag_word-number.ensures,
 )
 
 pub loop-i-preserved : goal.loop-i-preserved
 loop-i-preserved c = let l = c.loop-i in
     let a = c.args in (
-      search rules,
-      search rules,
+      l.invariant.0,
       λ m h n. carry-binds m a.new blank_token
-          (param-bound _ _ l.i _ _ c.requires.2 (omega (arith, l.invariant.1))
+          (param-bound _ _ l.i _ _ c.requires.2 (omega (arith, l.invariant.0))
           (token_at m.tokens a.actor.token).binds _ c.dag_word-kind.ensures
-          c.dag_word-number.ensures refl) (unfold with_binding in c.pass.ensures m _ (l.invariant.2 m h n) n),
+          c.dag_word-number.ensures refl) (unfold with_binding in c.pass.ensures m _ (l.invariant.1 m h n) n),
     )
 
 pub returns : goal.returns
 returns c = λ m h n. let l = c.loop-i in let a = c.args in
     carry-binds m a.new blank_token
-    (params-bound _ _ l.i (token_at m.tokens a.actor.token).binds c.requires.2 (omega (arith, l.invariant.1)))
-    (l.invariant.2 m h n)
+    (params-bound _ _ l.i (token_at m.tokens a.actor.token).binds c.requires.2 (omega (arith, l.invariant.0)))
+    (l.invariant.1 m h n)

@@ -5,9 +5,9 @@ use Rattle.acts.proofs.Outcomes.{row_fits, token-inside}
 use borrow.Author.Rules.{rules}
 use Rattle.spawns.proofs.fork.fork.Goals as goal
 
-pub returns-then-new-ge-TOKENS-clause-gives : goal.returns-then-new-ge-TOKENS-clause-gives
-returns-then-new-ge-TOKENS-clause-gives c = λ m a. fork-refused _ _ m a c.next_token-new.ensures
-    (c.last_token.ensures m a.taking.lawful.holds.codes) _ (search rules) c.plain.ensures
+pub returns-in_default-clause-gives : goal.returns-in_default-clause-gives
+returns-in_default-clause-gives c = λ m a. fork-refused _ _ m a c.next_token.ensures.value
+    (c.last_token.ensures m a.taking.lawful.holds.codes) _ c.in_default.is c.plain.ensures
 
 pub dag_word-requires : goal.dag_word-requires
 dag_word-requires c = let l = row_fits c.requires.is in omega arith
@@ -20,8 +20,8 @@ written-requires c = (token-inside c.requires.is.taking, search rules)
 
 pub returns-clause-gives : goal.returns-clause-gives
 returns-clause-gives c = λ m a.
-    let next = c.next_token-new.ensures in
+    let next = c.next_token.ensures.value in
     let last = c.last_token.ensures m a.taking.lawful.holds.codes in
     fork-gives _ _ m a next last _ _ _ c.dag_word.ensures c.dag_word-2.ensures
-    (search rules) c.plain-2.ensures
-    (c.written.ensures m a.taking.lawful.holds a.taking.queued (queue-open a.taking next last (search rules)))
+    c.in-Some.is c.plain-2.ensures
+    (c.written.ensures m a.taking.lawful.holds a.taking.queued (queue-open a.taking next last c.in-Some.is (search rules)))

@@ -7,15 +7,15 @@ use native.Mathlib.Omega.{arith}
 use borrow.Author.Rules.{rules}
 use Rattle.spawns.proofs.where_split.where_split.Goals as goal
 
-pub returns-then-new-ge-TOKENS : goal.returns-then-new-ge-TOKENS
-returns-then-new-ge-TOKENS c = λ m a. where-refused _ _ m a c.next_token-new.ensures
-    (c.last_token.ensures m a.taking.lawful.holds.codes) _ (search rules) c.plain.ensures
+pub returns-in_default : goal.returns-in_default
+returns-in_default c = λ m a. where-refused _ _ m a c.next_token.ensures.value
+    (c.last_token.ensures m a.taking.lawful.holds.codes) _ c.in_default.is c.plain.ensures
 
-pub returns-then-c-ge-CELLS : goal.returns-then-c-ge-CELLS
-returns-then-c-ge-CELLS c = λ m a. where-refused-cell _ _ m a c.next_token-new.ensures
+pub returns-in_default-next_cell : goal.returns-in_default-next_cell
+returns-in_default-next_cell c = λ m a. where-refused-cell _ _ m a c.next_token.ensures.value
     (c.last_token.ensures m a.taking.lawful.holds.codes)
-    c.next_cell-c.ensures (c.last_cell.ensures m a.taking.lawful.holds.codes) _
-    (search rules) (search rules) c.plain-then-c-ge-CELLS.ensures
+    c.next_cell.ensures.value (c.last_cell.ensures m a.taking.lawful.holds.codes) _
+    c.in-Some.is c.in_default-next_cell.is c.plain-in_default-next_cell.ensures
 
 pub dag_word-requires : goal.dag_word-requires
 dag_word-requires c = let l =
@@ -44,13 +44,13 @@ written-requires c = let l = (where-numbers _ _
 
 pub returns : goal.returns
 returns c = λ m a.
-    let next = c.next_token-new.ensures in
+    let next = c.next_token.ensures.value in
     let last = c.last_token.ensures m a.taking.lawful.holds.codes in
-    where-gives _ _ m a next last c.next_cell-c.ensures
+    where-gives _ _ m a next last c.next_cell.ensures.value
     (c.last_cell.ensures m a.taking.lawful.holds.codes)
     _ _ _ _
     (c.wide.ensures ∙ c.dag_word.ensures)
-    c.dag_word-2.ensures c.dag_word-3.ensures (search rules) (search rules)
+    c.dag_word-2.ensures c.dag_word-3.ensures c.in-Some.is c.in-Some-next_cell.is
     c.plain-2.ensures
-    (c.written.ensures m a.taking.lawful.holds a.taking.queued (queue-open a.taking next last (search rules))
-    (new_apart a.taking next last (search rules)))
+    (c.written.ensures m a.taking.lawful.holds a.taking.queued (queue-open a.taking next last c.in-Some.is (search rules))
+    (new_apart a.taking next last c.in-Some.is (search rules)))

@@ -1,4 +1,3 @@
-use Prim.Native.Nat.{◌-◌, ◌≤◌}
 use Rattle.model.specs.declared.record.Machine.{Machine}
 use Rattle.record.specs.Holds.{Holds}
 use Rattle.reach.specs.Marks.{FreeTokens}
@@ -6,7 +5,4 @@ use Rattle.sweep.proofs.SweepLaws.{tokens_kept}
 use Rattle.sweep.proofs.sweep.keep_tokens.Given as goal
 
 abbrev pub invariant-loop-p : goal.invariant-loop-p
-invariant-loop-p l = (l.p ≤ l.end) × ((m : Machine) → Holds l.initial.w m → FreeTokens m l.marks → Holds l.w (tokens_kept l.used m l.p))
-
-abbrev pub decreases-loop-p : goal.decreases-loop-p
-decreases-loop-p l = l.end - l.p
+invariant-loop-p l = (m : Machine) → Holds l.initial.w m → FreeTokens m l.marks → Holds l.w (tokens_kept l.used m l.p)

@@ -16,7 +16,7 @@ returns c = λ m h v.
     let then = c.sweep_cells.ensures (tokens_swept m) first (swept-blank m c.args.end none) v.cells in (
       subst (Holds _) (swept m _ used) then.0,
       record {
-        tokens = c.renew.ensures ∙ used ∙ sym (sweep-tokens m);
+        tokens = c.copy_from_slice.ensures.after ∙ used ∙ sym (sweep-tokens m);
         cells = then.1 ∙ (reach-kept m _ used ∙ sym (sweep-cells m));
       },
     )

@@ -1,6 +1,5 @@
 use mathlib.Core.Path.{◌≡◌}
-use mathlib.Core.List.{List}
-use Prim.Native.Nat.{◌-◌, ◌≤◌}
+use mathlib.Core.List.{List, map}
 use lib.ListN.{length}
 use lib.Seq.{paste}
 use Rattle.model.specs.Machine.Update.{put}
@@ -9,13 +8,9 @@ use Rattle.model.specs.declared.token.Slot.{Slot}
 use Rattle.model.specs.declared.token.Token.{Token}
 use Rattle.record.specs.Changes.{with_binds}
 use Rattle.record.specs.Holds.{Holds}
-use Rattle.tail_writes.specs.Passing.{SlotWords}
+use Rattle.tail_writes.specs.Passing.{slot_words}
 use Rattle.tail_writes.proofs.passing.bind_slots.Given as goal
 
 abbrev pub invariant-loop-x : goal.invariant-loop-x
-invariant-loop-x l = (l.x ≤ 8)
-    × ((m : Machine) (t : Token) (bs : List Slot) → Holds l.initial.w (put l.p t m) → length bs ≡ 8 → SlotWords l.kinds l.numbers bs
-    → Holds l.w (put l.p (with_binds (paste t.binds 0 bs l.x) t) m))
-
-abbrev pub decreases-loop-x : goal.decreases-loop-x
-decreases-loop-x l = 8 - l.x
+invariant-loop-x l = (m : Machine) (t : Token) (bs : List Slot) → Holds l.initial.w (put l.p t m) → length bs ≡ 8
+    → l.slots ≡ map slot_words bs → Holds l.w (put l.p (with_binds (paste t.binds 0 bs l.x) t) m)

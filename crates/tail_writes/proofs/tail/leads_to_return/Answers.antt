@@ -1,6 +1,5 @@
 -- `tail::leads_to_return` meets its contract: the looks that are left say of the node at hand what all of them say of the first. Assumes
 -- nothing.
-use Prim.Native.Nat.{◌-◌}
 use native.Mathlib.Omega.{arith}
 use Rattle.tail_writes.proofs.TailLooks.{looking-begins, looked-at-all, found-return, found-other, found-remove}
 use Rattle.tail_writes.proofs.tail.leads_to_return.Goals as goal

@@ -22,7 +22,7 @@ returns c = λ m h q ready.
     let formals = formals_bound t.binds (params_at a.dag.now a.actor.row) in
     let queued = begins rest a.actor.token t refl (c.replace.ensures m h q) in
     let bound = c.bind_slots.ensures rest t formals queued (formals-long c.requires.1 t.binds)
-    (c.passed_slots.ensures m h.codes) in
+    (c.passed_slots-slots.ensures m h.codes) in
     let called = c.set_node.ensures rest _ (c.set_value.ensures rest _ None bound refl refl) in
     subst (Holds _) (put-queue gone a.actor.token a.actor.token (callee t.caller t a.root (params_at a.dag.now a.actor.row)))
     (carry (λ u. put a.actor.token u rest) (ap (λ s. with_state s (callee t.caller t a.root (params_at a.dag.now a.actor.row))) ready) called)

@@ -19,22 +19,22 @@ says d n e f g = ap (is_tail d) (sym f) ∙ (sym e ∙ g)
 pub bounds-shared-actor : goal.bounds-shared-actor
 bounds-shared-actor c = token-inside c.requires.is.taking
 
-pub dag_word-requires : goal.dag_word-requires
-dag_word-requires c = let l = row_fits c.requires.is in omega arith
+pub dag_word-next-requires : goal.dag_word-next-requires
+dag_word-next-requires c = let l = row_fits c.requires.is in omega arith
 
 pub is_tail-requires : goal.is_tail-requires
-is_tail-requires c = call_next _ _ (row c.requires.is) (c.wide-next.ensures ∙ c.dag_word.ensures)
+is_tail-requires c = call_next _ _ (row c.requires.is) (c.dag_word-next.ensures)
 
 pub returns-then-is_tail : goal.returns-then-is_tail
 returns-then-is_tail c = λ m a one.
     call-leaves c.args.shared.now a one
     (c.tail_call.ensures m a
-    (says _ _ c.is_tail.ensures (c.wide-next.ensures ∙ c.dag_word.ensures)
+    (says _ _ c.is_tail.ensures (c.dag_word-next.ensures)
     c.if-is_tail.true))
 
 pub returns : goal.returns
 returns c = λ m a one.
     call-leaves c.args.shared.now a one
     (c.definition_call.ensures.gives m a
-    (says _ _ c.is_tail.ensures (c.wide-next.ensures ∙ c.dag_word.ensures)
+    (says _ _ c.is_tail.ensures (c.dag_word-next.ensures)
     c.if-is_tail.false))
