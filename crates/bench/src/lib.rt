@@ -11,7 +11,7 @@ ghost use Rattle.run.specs.Input.{dag_after};
 ghost use Rattle.bench.specs.Timed.{answer_nodes, words_of_start, one_round, rounds_from};
 
 use job::dag::{GOAL, WORDS};
-use loader::table::{Loaded, load};
+use loader::table::load;
 use machine::answer::answer;
 use machine::start::start;
 use machine::step::step;
@@ -54,7 +54,7 @@ pub extern "C" fn bench_calls(table: &[u8], handles: &[u32], most: u32, rounds: 
         (record { count = 0; words = replicate 1863 0 })).count }
 {
     let mut dag = [0u32; WORDS];
-    load(table, &mut dag);
+    let _ = load(table, &mut dag);
     let mut words = [0u32; Machine::WORDS];
     let mut made = 0;
     for _ in 0..rounds {
@@ -70,8 +70,8 @@ pub extern "C" fn bench_load(table: &[u8], dag: &mut [u32; WORDS]) -> usize
     ensures dag_after { dag.new ≡ loaded_words (read_table table.now) dag.old }
 {
     match load(table, dag) {
-        Loaded::Dag(nodes) => nodes,
-        Loaded::Refused(_, _) => 0,
+        Ok(nodes) => nodes,
+        Err(_) => 0,
     }
 }
 

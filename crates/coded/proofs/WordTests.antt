@@ -11,8 +11,9 @@ use native.Mathlib.Nat.{mul-zero, mul-suc}
 use Rattle.std.specs.Simd.{first_chunks}
 use Rattle.std.specs.List.{list_all}
 use Rattle.job.specs.Test.{◌and◌}
+use Rattle.job.specs.Rows.{words_in_rows}
 use Rattle.job.proofs.Lists.{part_at}
-use Rattle.coded.specs.WordTests.{slot_coded, held_coded, state_coded, binds_coded, row_coded, cell_coded, table_coded, record_coded, rows_of}
+use Rattle.coded.specs.WordTests.{slot_coded, held_coded, state_coded, binds_coded, row_coded, cell_coded, table_coded, record_coded}
 
 -- the slots from k on
 at_drop : (k j : ℕ) (ws : List ℕ) → get_or (drop k ws) j 0 ≡ get_or ws (k + j) 0
@@ -84,43 +85,19 @@ zero_cell ws at f =
     let in_cell : (j : ℕ) → j < 4 → get_or (take 4 (drop at ws)) j 0 ≡ 0 = λ j l. part_at ws at 4 j 0 l ∙ f j l in
     rw (in_cell 1 (omega arith), in_cell 2 (omega arith), in_cell 3 (omega arith))
 
--- words cut into rows
-pub cut-rows : (w n k : ℕ) (ws xs : List ℕ) (rows : List (List ℕ)) → rows ≡ first_chunks w k xs → k ≡ n → w * n ≤ length ws
-    → xs ≡ take (w * n) ws → rows ≡ rows_of w n ws
-unfolding rows_of
-cut-rows w n k ws xs rows e z l t =
-    e ∙ ap₂ (first_chunks w) z t ∙ cut n ws l
-  where
-    cut : (n : ℕ) (ws : List ℕ) → w * n ≤ length ws → first_chunks w n (take (w * n) ws) ≡ first_chunks w n ws
-    cut zero ws l = refl
-    cut (suc n) ws l =
-        let m : w * suc n ≡ w + w * n = omega (arith, mul-suc w n) in
-        rw (m, take-add w (w * n) ws)
-        (ap₂ ◌∷◌ (take_at (take w ws) (take (w * n) (drop w ws)) w (length-take-le w ws (omega arith)))
-        (ap (first_chunks w n) (drop_at (take w ws) (take (w * n) (drop w ws)) w (length-take-le w ws (omega arith)))
-        ∙ cut n (drop w ws) (omega (arith, length-drop w ws))))
-
-pub row-at : (w n : ℕ) (ws d : List ℕ) (p : ℕ) → p < n → get_or (rows_of w n ws) p d ≡ take w (drop (w * p) ws)
-unfolding rows_of
-row-at w zero ws d p l = absurd (omega arith)
-row-at w (suc n) ws d zero l = ap (λ k. take w (drop k ws)) (sym (mul-zero w))
-row-at w (suc n) ws d (suc p) l =
-    let z : w + w * p ≡ w * suc p = omega (arith, mul-suc w p) in
-    row-at w n (drop w ws) d p (omega arith) ∙ ap (take w) (drop-drop (w * p) w ws ∙ ap (λ k. drop k ws) z)
-
-pub table-listed : (ok : List ℕ → Bool) (w n : ℕ) (ws : List ℕ) → list_all ok (rows_of w n ws) ≡ table_coded ok w n ws
-unfolding rows_of table_coded ◌and◌
+pub table-listed : (ok : List ℕ → Bool) (w n : ℕ) (ws : List ℕ) → list_all ok (words_in_rows w n ws) ≡ table_coded ok w n ws
+unfolding words_in_rows table_coded ◌and◌
 table-listed ok w zero ws = refl
 table-listed ok w (suc n) ws = ap (λ r. ok (take w ws) && r) (table-listed ok w n (drop w ws))
 
 abbrev pub bind_coded : List ℕ → Bool
 bind_coded r = slot_coded (get_or r 0 0) (get_or r 1 0)
 
-pub binds-listed : (n : ℕ) (ws : List ℕ) → list_all bind_coded (rows_of 2 n ws) ≡ binds_coded n ws
-unfolding rows_of binds_coded ◌and◌
+pub binds-listed : (n : ℕ) (ws : List ℕ) → list_all bind_coded (words_in_rows 2 n ws) ≡ binds_coded n ws
+unfolding words_in_rows binds_coded ◌and◌
 binds-listed zero ws = refl
 binds-listed (suc n) ws =
-    ap₂ (λ k m. slot_coded k m && list_all bind_coded (rows_of 2 n (drop 2 ws)))
+    ap₂ (λ k m. slot_coded k m && list_all bind_coded (words_in_rows 2 n (drop 2 ws)))
     (part_at ws 0 2 0 0 (omega arith)) (part_at ws 0 2 1 0 (omega arith))
     ∙ ap (λ r. slot_coded (get_or ws 0 0) (get_or ws 1 0) && r) (binds-listed n (drop 2 ws))
 

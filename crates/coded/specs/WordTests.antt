@@ -1,6 +1,5 @@
 -- Are words those of a record? Tests of a row's words, and of all. Assumes nothing: these are definitions.
 use Rattle.std.specs.Prelude.{Bool, true, false, List, ℕ, zero, suc, ◌+◌, ◌*◌, get_or, take, drop, eqb}
-use Rattle.std.specs.Simd.{first_chunks}
 use Rattle.job.specs.Test.{◌and◌}
 use Rattle.record.specs.Layout.{cells_start}
 
@@ -42,10 +41,6 @@ token_coded ws p = row_coded (take 24 (drop (24 * p) ws))
 
 abbrev pub cell_at_coded : List ℕ → ℕ → Bool
 cell_at_coded ws c = cell_coded (take 4 (drop (cells_start + 4 * c) ws))
-
--- words cut into n rows of w words
-unfoldable pub rows_of : (w n : ℕ) → List ℕ → List (List ℕ)
-rows_of w n ws = first_chunks w n ws
 
 unfoldable pub table_coded : (List ℕ → Bool) → (w n : ℕ) → List ℕ → Bool
 table_coded ok w zero ws = true

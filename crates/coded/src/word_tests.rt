@@ -3,7 +3,8 @@ ghost use Rattle.std.specs.Prelude.{◌≡◌, true, ◌<◌, length, drop};
 ghost use Rattle.record.specs.LayoutDecoded.{machine_of};
 ghost use Rattle.record.specs.Holds.{Codes};
 ghost use Rattle.coded.specs.WordTests.{slot_coded, held_coded, state_coded, row_coded, cell_coded, token_coded};
-ghost use Rattle.coded.specs.WordTests.{cell_at_coded, rows_of};
+ghost use Rattle.coded.specs.WordTests.{cell_at_coded};
+ghost use Rattle.job.specs.Rows.{words_in_rows};
 ghost use Rattle.coded.specs.IsRecord.{is_record};
 
 use model::record::Machine;
@@ -64,14 +65,14 @@ fn cell_row_coded(row: &[u32; CELL_WORDS]) -> bool
 }
 
 fn tokens(w: &[u32; Machine::WORDS]) -> &[[u32; TOKEN_WORDS]]
-    ensures rows { result.now ≡ rows_of 24 64 w.now }
+    ensures rows { result.now ≡ words_in_rows 24 64 w.now }
     ensures count { length result.now ≡ 64 }
 {
     w[..CELLS_START].as_chunks().0
 }
 
 fn cells(w: &[u32; Machine::WORDS]) -> &[[u32; CELL_WORDS]]
-    ensures rows { result.now ≡ rows_of 4 32 (drop 1536 w.now) }
+    ensures rows { result.now ≡ words_in_rows 4 32 (drop 1536 w.now) }
     ensures count { length result.now ≡ 32 }
 {
     w[CELLS_START..QUEUE_START].as_chunks().0

@@ -5,7 +5,7 @@ use mathlib.Core.Path.{◌≡◌, refl, sym, ap, ap₂, ◌∙◌}
 use mathlib.Core.List.{List, ◌++◌, append_assoc}
 use native.Mathlib.Numerals.{add-one}
 use native.Mathlib.Omega.{arith}
-use lib.ListN.{length, get_or, drop}
+use lib.ListN.{length, drop}
 use lib.Seq.{sets}
 use Rattle.job.specs.Entry.{entries}
 use Rattle.job.specs.Syntax.{Join, par, seq, prune, Exp, join, scope_left, scope_right}
@@ -16,7 +16,9 @@ use Rattle.job.proofs.Stores.{sets-append, sets-swap}
 use Rattle.job.proofs.NodeRows.{own-rows-length, rows_append, rows-length}
 use Rattle.job.proofs.Position.{exp-from, reread}
 use Rattle.job.proofs.Size.{own-some, size-some}
-use Rattle.entries.specs.ExpressionSides.{join_of}
+use Rattle.entries.specs.Kind.{join_of}
+use Rattle.entries.specs.declared.kind.JoinKind.{JoinKind}
+use Rattle.entries.specs.declared.kind.Kind.TheVariants as kinds
 use Rattle.compiler.specs.PlanSides.{PlansLeft, PlansRight}
 use Rattle.compiler.specs.JoinRoot.{join_root}
 use Rattle.compiler.specs.ExpressionCompiled.{reading, Accepted, compiled, stored}
@@ -57,9 +59,9 @@ join-rows j f g n k d =
     ∙ sets-append _ (at + length H) F G
     ∙ rw (← b, ← a))
 
-module _ {left : ℕ} {ks os scope : List ℕ} {at n : ℕ} (t : Taken left ks os scope at n) (k3 : 3 ≤ get_or ks at 0) where
+module _ {left : ℕ} {ks os scope : List ℕ} {at n : ℕ} (t : Taken left ks os scope at n) (jk : JoinKind) (ek : t.kind ≡ kinds.Join jk) where
   abbrev the-join : Join
-  the-join = join_of (get_or ks at 0) (length scope)
+  the-join = join_of jk (length scope)
 
   -- the variables in scope in its sides
   abbrev in_left : List ℕ
@@ -70,7 +72,7 @@ module _ {left : ℕ} {ks os scope : List ℕ} {at n : ℕ} (t : Taken left ks o
 
   -- its two sides, as they are read
   sides : Joined (read_exp (left - 1)) scope (suc at) (drop (suc at) (entries ks os)) t.it the-join
-  sides = joined t.head k3
+  sides = joined jk t.head ek
 
   whole : node_count t.it.value ≡ own the-join + node_count sides.left.value + node_count sides.right.value
   unfolding node_count
@@ -96,7 +98,7 @@ module _ {left : ℕ} {ks os scope : List ℕ} {at n : ℕ} (t : Taken left ks o
         let c = el.begins in
         let w = whole in
         let f = t.fits in
-        accept (left - 1) ks os l.scope (at + 1) l.first in_left sides.left t.parts el.scoped read_left (omega arith)
+        accept (left - 1) ks os l.scope (at + 1) l.first in_left sides.left el.scoped read_left (omega arith)
 
     module _ {c : Compiled} (ec : c ≡ compiled (reading (left - 1) ks os in_left (at + 1)) l.first) where
       given : c ≡ compiled (got sides.left) (first_left the-join n)
@@ -121,7 +123,7 @@ module _ {left : ℕ} {ks os scope : List ℕ} {at n : ℕ} (t : Taken left ks o
             let h = node-left in
             let w = whole in
             let f = t.fits in
-            accept (left - 1) ks os r.scope c.at r.first in_right sides.right t.parts er.scoped read_right (omega arith)
+            accept (left - 1) ks os r.scope c.at r.first in_right sides.right er.scoped read_right (omega arith)
 
         module _ {q : Compiled} (eq : q ≡ compiled (reading (left - 1) ks os in_right c.at) r.first) where
           last : q ≡ compiled (got sides.right) (first_right the-join sides.left.value n)
@@ -137,10 +139,10 @@ module _ {left : ℕ} {ks os scope : List ℕ} {at n : ℕ} (t : Taken left ks o
               (e ∙ ap (λ m. join_root the-join n m) root-left ∙ sym (root-join the-join sides.left.value sides.right.value n)
               ∙ ap (λ y. root y n) (sym sides.value))
 
-          pub join-done : (y : ℕ) → y ≡ length scope → (x : ℕ) (d d1 d2 d3 : List ℕ) → x ≡ join_root (join_of (get_or ks at 0) y) n c.root
+          pub join-done : (y : ℕ) → y ≡ length scope → (x : ℕ) (d d1 d2 d3 : List ℕ) → x ≡ join_root (join_of jk y) n c.root
               → d1 ≡ stored (reading (left - 1) ks os in_left (at + 1)) l.first l.next d
               → d2 ≡ stored (reading (left - 1) ks os in_right c.at) r.first r.next d1
-              → d3 ≡ sets d2 (head_words + 12 * n) (rows_of_nodes (own_nodes (join_of (get_or ks at 0) y) c.root q.root k))
+              → d3 ≡ sets d2 (head_words + 12 * n) (rows_of_nodes (own_nodes (join_of jk y) c.root q.root k))
               → Done left ks os scope at n k (record { at = q.at; node = q.node; root = x }) d d3
           join-done y ey x d d1 d2 d3 ex e1 e2 e3 =
               let j = the-join in
@@ -155,9 +157,9 @@ module _ {left : ℕ} {ks os scope : List ℕ} {at n : ℕ} (t : Taken left ks o
               ∙ ap₂ (λ m i. sets d1 (head_words + 12 * m) (rows_of_nodes (nodes_of g m i))) (er.begins ∙ node-left) er.goes in
               let o : d3 ≡ sets d2 (head_words + 12 * n) (rows_of_nodes (own_nodes j (root f (first_left j n)) (root g (first_right j f
               n)) k)) =
-              e3 ∙ ap (λ y. sets d2 (head_words + 12 * n) (rows_of_nodes (own_nodes (join_of (get_or ks at 0) y) c.root q.root k))) ey
+              e3 ∙ ap (λ y. sets d2 (head_words + 12 * n) (rows_of_nodes (own_nodes (join_of jk y) c.root q.root k))) ey
               ∙ ap₂ (λ m i. sets d2 (head_words + 12 * n) (rows_of_nodes (own_nodes j m i k))) root-left
               (ap (λ (y : Compiled). y.root) last) in
-              done t k _ d d3 (result x (ex ∙ ap (λ y. join_root (join_of (get_or ks at 0) y) n c.root) ey))
+              done t k _ d d3 (result x (ex ∙ ap (λ y. join_root (join_of jk y) n c.root) ey))
               (o ∙ rw (b, a) (join-rows j f g n k d)
               ∙ ap (λ y. sets d (head_words + 12 * n) (rows_of_nodes (nodes_of y n k))) (sym sides.value))

@@ -7,12 +7,18 @@ use native.Mathlib.Numerals.{add-one}
 use native.Mathlib.Omega.{arith}
 use lib.ListN.{length, get_or, drop}
 use lib.Seq.{sets}
-use Rattle.job.specs.Entry.{entries, low, high, operand_at}
+use Rattle.job.specs.Entry.{entries, low, high, kind_of, operand_at}
 use Rattle.job.specs.Syntax.{Param, Exp, stop, site, call}
 use Rattle.job.specs.Node.{Node}
 use Rattle.job.specs.Construct.{node_count, root, nodes_of}
 use Rattle.job.specs.Words.{head_words, param_words, node_words, rows_of_nodes}
+use Rattle.job.proofs.Entry.{kind_number, kind-number}
 use Rattle.job.proofs.Position.{operand_small}
+use Rattle.entries.specs.Kind.{kind_meant}
+use Rattle.entries.specs.declared.kind.Kind.{Kind}
+use Rattle.entries.specs.declared.kind.Kind.TheVariants as kinds
+use Rattle.entries.proofs.KindNames.{named-meant}
+use Rattle.std.specs.Prelude.{Ok}
 use Rattle.compiler.specs.CallNodeWords.{call_node_words}
 use Rattle.compiler.specs.declared.expression.Compiled.{Compiled}
 use Rattle.compiler.proofs.CallNode.{Ended, params-end, site-words, call-words}
@@ -50,16 +56,16 @@ module _ {left : ℕ} {ks os scope : List ℕ} {at n : ℕ} (t : Taken left ks o
       done t k c d d' (ec ∙ same q (ap (λ m. n + m) (sym i.size-one)) (sym i.root-first))
       (ed ∙ ap (λ v. sets d (head_words + 12 * n) v) (ew ∙ row-alone t.it.value n k x i.nodes-one))
 
-  pub stop-done : (k : ℕ) (c : Compiled) (d d' : List ℕ) → get_or ks at 0 ≡ 0 → c ≡ record { at = at + 1; node = n + 1; root = n }
+  pub stop-done : (k : ℕ) (c : Compiled) (d d' : List ℕ) → t.kind ≡ kinds.Stop → c ≡ record { at = at + 1; node = n + 1; root = n }
       → d' ≡ sets d (head_words + 12 * n) (words 0 0 0 0) → Done left ks os scope at n k c d d'
   unfolding node_words param_words
   stop-done k c d d' z ec ed =
       let v = stops t.head z in
       single-done k (at + 1) c _ d d' (single-stop n k v.0) (add-one at ∙ sym v.1) refl ec ed
 
-  module _ (small : (i : ℕ) → get_or os i 0 < 256) (k0 : get_or ks at 0 ≡ 0 → ⊥) (k3 : get_or ks at 0 < 3) where
-    its : Called scope (operand_at os at) (suc at) (drop (suc at) (entries ks os)) t.it (get_or ks at 0)
-    its = called t.head k0 k3
+  module _ (small : (i : ℕ) → get_or os i 0 < 256) (w : (t.kind ≡ kinds.Site) ⊎ (t.kind ≡ kinds.Call)) where
+    its : Called scope (operand_at os at) (suc at) (drop (suc at) (entries ks os)) t.it t.kind
+    its = called t.head w
 
     ended : Ended ks os (operand_small os small) scope (high (operand_at os at)) (suc at) its.params
     ended = params-end ks os (operand_small os small) scope (high (operand_at os at)) (suc at) its.params t.here its.read
@@ -70,6 +76,7 @@ module _ {left : ℕ} {ks os scope : List ℕ} {at n : ℕ} (t : Taken left ks o
     pub call-done : (k o : ℕ) (c : Compiled) (d d' : List ℕ) → o ≡ operand_at os at
         → c ≡ record { at = at + 1 + high o; node = n + 1; root = n } → d' ≡ sets d (head_words + 12 * n) (call_node_words ks os at k)
         → Done left ks os scope at n k c d d'
+    unfolding kind_meant
     call-done k o c d d' eo ec ed = go its.which
       where
         behind : at + 1 + high o ≡ t.it.next
@@ -79,12 +86,15 @@ module _ {left : ℕ} {ks os scope : List ℕ} {at n : ℕ} (t : Taken left ks o
             let z : at + 1 + high o ≡ suc at + high (operand_at os at) = ap (λ m. at + 1 + high m) eo ∙ omega arith in
             omega arith
 
-        go : ((get_or ks at 0 ≡ 1) × (t.it.value ≡ site (low (operand_at os at)) its.params.value))
-            ⊎ ((get_or ks at 0 ≡ 2) × (t.it.value ≡ call (low (operand_at os at)) its.params.value))
+        number : (k : Kind) → t.kind ≡ k → get_or ks at 0 ≡ kind_number (kind_meant k) (get_or ks at 0)
+        number k e = kind-number (get_or ks at 0) (kind_meant k) (named-meant (kind_of (get_or ks at 0)) k (t.named ∙ ap Ok e))
+
+        go : ((t.kind ≡ kinds.Site) × (t.it.value ≡ site (low (operand_at os at)) its.params.value))
+            ⊎ ((t.kind ≡ kinds.Call) × (t.it.value ≡ call (low (operand_at os at)) its.params.value))
             → Done left ks os scope at n k c d d'
         go (inl v) =
-            let e = site-words ks os (operand_small os small) scope at k its.params its.read t.here v.0 in
+            let e = site-words ks os (operand_small os small) scope at k its.params its.read t.here (number kinds.Site v.0) in
             single-done k _ c _ d d' (single-site n k v.1) behind (sym e) ec ed
         go (inr v) =
-            let e = call-words ks os (operand_small os small) scope at k its.params its.read t.here v.0 in
+            let e = call-words ks os (operand_small os small) scope at k its.params its.read t.here (number kinds.Call v.0) in
             single-done k _ c _ d d' (single-call n k v.1) behind (sym e) ec ed

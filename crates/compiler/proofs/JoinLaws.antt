@@ -1,4 +1,4 @@
--- The rows of a join's own nodes and where it is entered, for each outcome of the tests of its kind byte. Assumes nothing.
+-- The rows of a join's own nodes, for each kind of join. Assumes nothing.
 use Prim.Native.Nat.{ℕ, ◌+◌, ◌*◌}
 use mathlib.Core.Path.{◌≡◌, refl, sym, ◌∙◌}
 use mathlib.Core.List.{List, [], ◌∷◌}
@@ -9,9 +9,8 @@ use Rattle.job.specs.Node.{Node}
 use Rattle.job.specs.Construct.{own_nodes}
 use Rattle.job.specs.Words.{head_words, param_words, node_words, rows_of_nodes}
 use Rattle.job.proofs.Stores.{sets-append}
-use Rattle.entries.specs.ExpressionSides.{join_of}
-use Rattle.entries.proofs.ExpressionSides.{join-par, join-seq, join-prune}
-use Rattle.compiler.specs.JoinRoot.{join_root}
+use Rattle.entries.specs.Kind.{join_of}
+use Rattle.entries.specs.declared.kind.JoinKind.TheVariants as joins
 
 -- the row of one node, and of one node before others
 row_last : (d d' : List ℕ) (n : ℕ) (x : Node) → d' ≡ sets d (head_words + 12 * n) (node_words x)
@@ -31,38 +30,23 @@ row-then d c d' n x xs w e f =
 abbrev pub words : (a b c d : ℕ) → List ℕ
 words a b c d = a ∷ b ∷ c ∷ d ∷ 0 ∷ 0 ∷ 0 ∷ 0 ∷ 0 ∷ 0 ∷ 0 ∷ 0 ∷ []
 
-module _ (kind x n l r k : ℕ) (d : List ℕ) where
-  pub own-par : (d' : List ℕ) → kind ≡ 3 → d' ≡ sets d (head_words + 12 * n) (words 3 l r 0)
-      → d' ≡ sets d (head_words + 12 * n) (rows_of_nodes (own_nodes (join_of kind x) l r k))
-  unfolding own_nodes node_words param_words
-  own-par d' h e = rw (join-par kind x h) (row_last d d' n (Node.fork l r) e)
+module _ (x n l r k : ℕ) (d : List ℕ) where
+  pub own-par : (d' : List ℕ) → d' ≡ sets d (head_words + 12 * n) (words 3 l r 0)
+      → d' ≡ sets d (head_words + 12 * n) (rows_of_nodes (own_nodes (join_of joins.Par x) l r k))
+  unfolding join_of own_nodes node_words param_words
+  own-par d' e = row_last d d' n (Node.fork l r) e
 
-  pub own-seq : (c d' : List ℕ) → (kind ≡ 3 → ⊥) → kind ≡ 4 → c ≡ sets d (head_words + 12 * n) (words 4 x r 0)
+  pub own-seq : (c d' : List ℕ) → c ≡ sets d (head_words + 12 * n) (words 4 x r 0)
       → d' ≡ sets c (head_words + 12 * (n + 1)) (words 5 x k 0)
-      → d' ≡ sets d (head_words + 12 * n) (rows_of_nodes (own_nodes (join_of kind x) l r k))
-  unfolding own_nodes node_words param_words
-  own-seq c d' g h e f = rw (join-seq kind x h) (row-then d c d' n (Node.assign x r) _ refl e (row_last c d' (n + 1) (Node.remove x k) f))
+      → d' ≡ sets d (head_words + 12 * n) (rows_of_nodes (own_nodes (join_of joins.Seq x) l r k))
+  unfolding join_of own_nodes node_words param_words
+  own-seq c d' e f = row-then d c d' n (Node.assign x r) _ refl e (row_last c d' (n + 1) (Node.remove x k) f)
 
-  pub own-prune : (b c d' : List ℕ) → (kind ≡ 3 → ⊥) → (kind ≡ 4 → ⊥) → b ≡ sets d (head_words + 12 * n) (words 6 l r x)
+  pub own-prune : (b c d' : List ℕ) → b ≡ sets d (head_words + 12 * n) (words 6 l r x)
       → c ≡ sets b (head_words + 12 * (n + 1)) (words 5 x k 0) → d' ≡ sets c (head_words + 12 * (n + 2)) (words 7 0 0 0)
-      → d' ≡ sets d (head_words + 12 * n) (rows_of_nodes (own_nodes (join_of kind x) l r k))
-  unfolding own_nodes node_words param_words
-  own-prune b c d' g h e f i =
+      → d' ≡ sets d (head_words + 12 * n) (rows_of_nodes (own_nodes (join_of joins.Prune x) l r k))
+  unfolding join_of own_nodes node_words param_words
+  own-prune b c d' e f i =
       let z : n + 2 ≡ n + 1 + 1 = omega arith in
-      rw (join-prune kind x g h)
-      (row-then d b d' n (Node.where' x l r) _ refl e
-      (row-then b c d' (n + 1) (Node.remove x k) _ refl f (row_last c d' (n + 1 + 1) Node.choke (rw z at i))))
-
--- where a join is entered
-module _ (kind s n k : ℕ) where
-  pub root-par : kind ≡ 3 → n ≡ join_root (join_of kind s) n k
-  unfolding join_root
-  root-par e = rw (join-par kind s e) refl
-
-  pub root-seq : (kind ≡ 3 → ⊥) → kind ≡ 4 → k ≡ join_root (join_of kind s) n k
-  unfolding join_root
-  root-seq f e = rw (join-seq kind s e) refl
-
-  pub root-prune : (kind ≡ 3 → ⊥) → (kind ≡ 4 → ⊥) → n ≡ join_root (join_of kind s) n k
-  unfolding join_root
-  root-prune f e = rw (join-prune kind s f e) refl
+      row-then d b d' n (Node.where' x l r) _ refl e
+      (row-then b c d' (n + 1) (Node.remove x k) _ refl f (row_last c d' (n + 1 + 1) Node.choke (rw z at i)))

@@ -6,7 +6,6 @@ use Rattle.job.specs.Syntax.{Exp}
 use Rattle.job.specs.Construct.{node_count, root, nodes_of}
 use Rattle.job.specs.Words.{head_words, rows_of_nodes}
 use Rattle.job.specs.Read.{Got, Read, got, refused, read_exp}
-use Rattle.entries.specs.Checked.{Parts}
 use Rattle.entries.specs.Scope.{Means}
 use Rattle.entries.specs.declared.scope.Scope.{Scope}
 use Rattle.compiler.specs.declared.expression.Compiled.{Compiled}
@@ -21,7 +20,6 @@ pub data NodesFit : Read Exp → ℕ → Type 0 where
 
 -- what is asked of an expression's entries, where these variables are in scope: `fits` implies the three before it
 pub record Accepted (left : ℕ) (ks os : List ℕ) (s : Scope) (at n : ℕ) (scope : List ℕ) : Type 0 where
-  pub parts : Parts ks os
   pub means : Means s scope
   pub deep : 0 < left
   pub here : at < length ks

@@ -1,4 +1,4 @@
--- What the two sides of a join are compiled with. (`join_of` of crate `entries` is the join of a kind byte.) Assumes nothing: these are
+-- What the two sides of a join are compiled with. (`join_of` of crate `entries` is the join of a kind.) Assumes nothing: these are
 -- definitions.
 use Rattle.std.specs.Prelude.{◌≡◌, List, ℕ}
 use Rattle.job.specs.Syntax.{Join, scope_left, scope_right}

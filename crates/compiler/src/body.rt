@@ -7,47 +7,54 @@ ghost use Rattle.compiler.specs.Body.{sink_of, BodyAcceptedInSome, WhereBodyAcce
 use crate::expression::{Compiled, compile_expression};
 use crate::plan::ExpressionPlan;
 use crate::store::put;
+use entries::parts::EntryParts;
 use entries::scope::Scope;
 use job::bounds::DEPTH_LIMIT;
 use job::dag::{PUBLISH, RETURN, WORDS};
 
-// Stores the sink of the goal, or of a definition.
-fn put_sink(dag: &mut [u32; WORDS], sink: usize, goal: bool)
-    requires { sink < 1022 }
-    ensures { dag.new ≡ sets dag.old (head_words + 12 * sink) (node_words (sink_of goal)) }
-{
-    if goal {
-        put(dag, sink, [PUBLISH, 0, 0, 0, 0, 0, 0, 0, 0, 0, 0, 0]);
-        return;
-    }
-    put(dag, sink, [RETURN, 0, 0, 0, 0, 0, 0, 0, 0, 0, 0, 0]);
+// Toward what a body goes.
+#[derive(Clone, Copy)]
+pub enum Sink {
+    Return,
+    Publish,
 }
 
-// Stores the nodes of the body at entry `at`, numbered from `node`, and behind them its sink, whose number is known.
+// Stores the sink of the goal, or of a definition.
+#[tactic(auto, unfolding(crate::specs::Body::sink_of, job::specs::Words::node_words, job::specs::Words::param_words))]
+fn put_sink(dag: &mut [u32; WORDS], node: usize, sink: Sink)
+    requires { node < 1022 }
+    ensures { dag.new ≡ sets dag.old (head_words + 12 * node) (node_words (sink_of sink)) }
+{
+    match sink {
+        Sink::Return => put(dag, node, [RETURN, 0, 0, 0]),
+        Sink::Publish => put(dag, node, [PUBLISH, 0, 0, 0]),
+    }
+}
+
+// Stores the nodes of the body at entry `at`, numbered from `node`, and behind them its sink, whose number `last` is known.
 pub fn compile_body(
-    kinds: &[u8],
-    operands: &[u8],
+    parts: EntryParts,
     dag: &mut [u32; WORDS],
     scope: Scope,
     at: usize,
     node: usize,
-    sink: usize,
-    goal: bool,
+    last: usize,
+    sink: Sink,
 ) -> Compiled
-    requires { BodyAcceptedInSome kinds.now operands.now scope at node sink }
-    ensures { WhereBodyAccepted kinds.now operands.now scope at node sink
-        (λ e. (result ≡ compiled_with_sink e node) × (dag.new ≡ stored_body e goal node dag.old)) }
+    requires { BodyAcceptedInSome parts.kinds.now parts.operands.now scope at node last }
+    ensures { WhereBodyAccepted parts.entry.kinds.now parts.entry.operands.now scope at node last
+        (λ e. (result ≡ compiled_with_sink e node) × (dag.new ≡ stored_body e sink node dag.old)) }
 {
     let plan = ExpressionPlan {
-        scope: scope,
+        scope,
         first: node,
-        next: sink as u32,
+        next: last as u32,
     };
-    let body = compile_expression(kinds, operands, dag, DEPTH_LIMIT, at, plan);
-    put_sink(dag, sink, goal);
+    let body = compile_expression(parts, dag, DEPTH_LIMIT, at, plan);
+    put_sink(dag, last, sink);
     Compiled {
         at: body.at,
-        node: sink + 1,
+        node: last + 1,
         root: body.root,
     }
 }

@@ -1,89 +1,78 @@
 // The twelve words of a call's node, off its entries, stored in the dag.
 ghost use Rattle.std.specs.Prelude.{◌≡◌, ◌+◌, ◌*◌, ◌<◌, ◌≤◌, length, get_or, ltb};
 ghost use Rattle.std.proofs.lemmas.List.Edits.{sets};
-ghost use Rattle.job.specs.Entry.{high};
+ghost use Rattle.job.specs.Entry.{high, operand_at};
 ghost use Rattle.job.specs.Words.{head_words, array_words};
-ghost use Rattle.job.specs.Entry.{operand_at};
-ghost use Rattle.entries.specs.Checked.{Parts};
+ghost use Rattle.entries.specs.Parts.{Parts};
 ghost use Rattle.compiler.specs.CallNodeWords.{word_if, place_words, call_node_words};
 
 use crate::store::put_four;
-use entries::entry::operand;
+use entries::parts::EntryParts;
 use job::dag::{HEAD_WORDS, ROW_WORDS, WORDS};
 
 // The kind of parameter `i` of `count`, whose entries begin at `at`, or 0.
-fn kind_word(kinds: &[u8], at: usize, i: usize, count: usize) -> u32
-    requires { (length kinds.now ≤ 512) × (at + count ≤ length kinds.now) }
-    ensures { result ≡ word_if (ltb i count) (get_or kinds.now (at + i) 0) }
+fn kind_word(parts: EntryParts, at: usize, i: usize, count: usize) -> u32
+    requires { at + count ≤ length parts.kinds.now }
+    ensures { result ≡ word_if (ltb i count) (get_or parts.entry.kinds.now (at + i) 0) }
 {
     if i < count {
-        let j = at + i;
-        return kinds[j] as u32;
+        return parts.kinds[at + i] as u32;
     }
     0
 }
 
 // The operand of parameter `i` of `count`, whose entries begin at `at`, or 0.
-fn operand_word(operands: &[u8], at: usize, i: usize, count: usize) -> u32
-    requires { (at + count ≤ 512) × (4 * (at + count) ≤ length operands.now) }
-    ensures { result ≡ word_if (ltb i count) (operand_at operands.now (at + i)) }
+fn operand_word(parts: EntryParts, at: usize, i: usize, count: usize) -> u32
+    requires { at + count ≤ length parts.kinds.now }
+    ensures { result ≡ word_if (ltb i count) (operand_at parts.entry.operands.now (at + i)) }
 {
     if i < count {
-        return operand(operands, at + i);
+        return parts.operand(at + i);
     }
     0
 }
 
 // Stores the words of two places for parameters, from place `i` on, at word `word`: the entries of `count` parameters begin at `at`.
 fn put_places(
-    kinds: &[u8],
-    operands: &[u8],
+    parts: EntryParts,
     dag: &mut [u32; WORDS],
     word: usize,
     at: usize,
     i: usize,
     count: usize,
 )
-    requires parts { Parts kinds.now operands.now }
-    requires word_bound { (word + 4 ≤ array_words) × (i < 4) × (at + count ≤ length kinds.now) }
+    requires { (word + 4 ≤ array_words) × (i < 4) × (at + count ≤ length parts.kinds.now) }
     ensures { dag.new
-        ≡ sets dag.old word (place_words 2 i count kinds.now operands.now at) }
+        ≡ sets dag.old word (place_words 2 i count parts.entry.kinds.now parts.entry.operands.now at) }
 {
     put_four(
         dag,
         word,
-        kind_word(kinds, at, i, count),
-        operand_word(operands, at, i, count),
-        kind_word(kinds, at, i + 1, count),
-        operand_word(operands, at, i + 1, count),
+        kind_word(parts, at, i, count),
+        operand_word(parts, at, i, count),
+        kind_word(parts, at, i + 1, count),
+        operand_word(parts, at, i + 1, count),
     );
 }
 
 // "low 16 bits site, high 16 bits parameter count", or the same of a definition: stores the node of the call at `at`.
-pub(crate) fn put_call(
-    kinds: &[u8],
-    operands: &[u8],
-    dag: &mut [u32; WORDS],
-    node: usize,
-    at: usize,
-    next: u32,
-)
-    requires parts { Parts kinds.now operands.now }
-    requires node_bound { (node < 1022) × (at + 1 + high (operand_at operands.now at) ≤ length kinds.now) }
+pub(crate) fn put_call(parts: EntryParts, dag: &mut [u32; WORDS], node: usize, at: usize, next: u32)
+    requires { (node < 1022)
+        × (at + 1 + high (operand_at parts.operands.now at) ≤ length parts.kinds.now) }
     ensures { dag.new ≡ sets dag.old (head_words + 12 * node)
-        (call_node_words kinds.now operands.now at next) }
+        (call_node_words parts.entry.kinds.now parts.entry.operands.now at next) }
 {
-    let head = operand(operands, at);
+    let head = parts.operand(at);
     let n = (head / 65536) as usize;
     let base = HEAD_WORDS + ROW_WORDS * node;
     put_four(
         dag,
         base,
-        kinds[at] as u32,
+        parts.kinds[at] as u32,
         head % 65536,
         next,
         head / 65536,
     );
-    put_places(kinds, operands, dag, base + 4, at + 1, 0, n);
-    put_places(kinds, operands, dag, base + 8, at + 1, 2, n);
+    put_places(parts, dag, base + 4, at + 1, 0, n);
+    put_places(parts, dag, base + 8, at + 1, 2, n);
 }

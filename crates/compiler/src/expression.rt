@@ -6,7 +6,8 @@ use crate::call::put_call;
 use crate::join::{join_root, put_own};
 use crate::plan::{ExpressionPlan, left_plan, right_plan};
 use crate::store::put;
-use entries::entry::operand;
+use entries::kind::Kind;
+use entries::parts::EntryParts;
 use job::dag::{STOP, WORDS};
 
 // The entry and the node behind an expression, and the node at which a token enters it.
@@ -31,38 +32,37 @@ fn single(at: usize, node: usize) -> Compiled
 
 // Stores the nodes of the expression at entry `at`. So many levels of depth are left.
 pub(crate) fn compile_expression(
-    kinds: &[u8],
-    operands: &[u8],
+    parts: EntryParts,
     dag: &mut [u32; WORDS],
     left: usize,
     at: usize,
     plan: ExpressionPlan,
 ) -> Compiled
-    requires { AcceptedInSome left kinds.now operands.now plan.scope at plan.first }
-    ensures { WhereAccepted left kinds.now operands.now plan.scope at plan.first
+    requires { AcceptedInSome left parts.kinds.now parts.operands.now plan.scope at plan.first }
+    ensures { WhereAccepted left parts.entry.kinds.now parts.entry.operands.now plan.scope at plan.first
         (λ e. (result ≡ compiled e plan.first) × (dag.new ≡ stored e plan.first plan.next dag.old)) }
 {
-    let kind = kinds[at];
-    if kind == 0 {
-        put(dag, plan.first, [STOP, 0, 0, 0, 0, 0, 0, 0, 0, 0, 0, 0]);
-        return single(at + 1, plan.first);
-    }
-    if kind < 3 {
-        let count = (operand(operands, at) / 65536) as usize;
-        put_call(kinds, operands, dag, plan.first, at, plan.next);
-        return single(at + 1 + count, plan.first);
-    }
-    let l = left_plan(kind, plan);
-    // lent on as copies: a parameter that is lent on is stored where the call begins, also for a leaf
-    let kind_part = kinds;
-    let operand_part = operands;
-    let f = compile_expression(kind_part, operand_part, dag, left - 1, at + 1, l);
-    let r = right_plan(kind, plan, f.node);
-    let g = compile_expression(kind_part, operand_part, dag, left - 1, f.at, r);
-    put_own(dag, kind, plan, f.root, g.root);
-    Compiled {
-        at: g.at,
-        node: g.node,
-        root: join_root(kind, plan, f.root),
+    match parts.kind(at).unwrap() {
+        Kind::Stop => {
+            put(dag, plan.first, [STOP, 0, 0, 0]);
+            single(at + 1, plan.first)
+        }
+        Kind::Site | Kind::Call => {
+            let count = (parts.operand(at) / 65536) as usize;
+            put_call(parts, dag, plan.first, at, plan.next);
+            single(at + 1 + count, plan.first)
+        }
+        Kind::Join(join) => {
+            let f = compile_expression(parts, dag, left - 1, at + 1, left_plan(join, plan));
+            let r = right_plan(join, plan, f.node);
+            let g = compile_expression(parts, dag, left - 1, f.at, r);
+            put_own(dag, join, plan, f.root, g.root);
+            Compiled {
+                at: g.at,
+                node: g.node,
+                root: join_root(join, plan, f.root),
+            }
+        }
+        Kind::Definition | Kind::Variable | Kind::Constant => unreachable!(),
     }
 }

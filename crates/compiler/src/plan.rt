@@ -1,9 +1,11 @@
 // How an expression is compiled, and how the two sides of a join are.
-ghost use Rattle.std.specs.Prelude.{◌<◌, ◌≤◌, length};
+ghost use Rattle.std.specs.Prelude.{◌≡◌, ◌<◌, true, length};
+ghost use Rattle.job.specs.Entry.{is_binder};
+ghost use Rattle.entries.specs.Kind.{join_meant, join_of};
 ghost use Rattle.entries.specs.Scope.{ForEvery};
-ghost use Rattle.entries.specs.ExpressionSides.{join_of};
 ghost use Rattle.compiler.specs.PlanSides.{PlansLeft, PlansRight};
 
+use entries::kind::JoinKind;
 use entries::scope;
 use entries::scope::Scope;
 
@@ -16,57 +18,54 @@ pub(crate) struct ExpressionPlan {
 }
 
 // f's nodes follow the join's own: "f toward assign(x)", "left is f toward remove(x)".
-pub(crate) fn left_plan(kind: u8, plan: ExpressionPlan) -> ExpressionPlan
-    requires { (plan.first < 1022) × (3 ≤ kind) × (4 ≤ kind → plan.scope.count < 8) }
-    ensures { ForEvery plan.scope (λ l. PlansLeft (join_of kind (length l)) l plan.first plan.next result) }
+pub(crate) fn left_plan(join: JoinKind, plan: ExpressionPlan) -> ExpressionPlan
+    requires first_bound { plan.first < 1022 }
+    requires room { is_binder (join_meant join) ≡ true → plan.scope.count < 8 }
+    ensures { ForEvery plan.scope (λ l. PlansLeft (join_of join (length l)) l plan.first plan.next result) }
 {
     let scope = plan.scope;
-    if kind == 3 {
-        return ExpressionPlan {
-            scope: scope,
-            first: plan.first + 1,
+    let first = plan.first;
+    match join {
+        JoinKind::Par => ExpressionPlan {
+            scope,
+            first: first + 1,
             next: plan.next,
-        };
-    }
-    if kind == 4 {
-        return ExpressionPlan {
-            scope: scope,
-            first: plan.first + 2,
-            next: plan.first as u32,
-        };
-    }
-    let inner = scope::bind(scope, scope.count);
-    ExpressionPlan {
-        scope: inner,
-        first: plan.first + 3,
-        next: plan.first as u32 + 1,
+        },
+        JoinKind::Seq => ExpressionPlan {
+            scope,
+            first: first + 2,
+            next: first as u32,
+        },
+        JoinKind::Prune => ExpressionPlan {
+            scope: scope::bind(scope, scope.count),
+            first: first + 3,
+            next: first as u32 + 1,
+        },
     }
 }
 
 // g's nodes follow f's, and so begin at `first`: "g toward remove(x)", "right is g toward choke".
-pub(crate) fn right_plan(kind: u8, plan: ExpressionPlan, first: usize) -> ExpressionPlan
-    requires { (plan.first < 1022) × (3 ≤ kind) × (4 ≤ kind → plan.scope.count < 8) }
-    ensures { ForEvery plan.scope (λ l. PlansRight (join_of kind (length l)) l plan.first first plan.next result) }
+pub(crate) fn right_plan(join: JoinKind, plan: ExpressionPlan, first: usize) -> ExpressionPlan
+    requires first_bound { plan.first < 1022 }
+    requires room { is_binder (join_meant join) ≡ true → plan.scope.count < 8 }
+    ensures { ForEvery plan.scope (λ l. PlansRight (join_of join (length l)) l plan.first first plan.next result) }
 {
     let scope = plan.scope;
-    if kind == 3 {
-        return ExpressionPlan {
-            scope: scope,
-            first: first,
+    match join {
+        JoinKind::Par => ExpressionPlan {
+            scope,
+            first,
             next: plan.next,
-        };
-    }
-    if kind == 4 {
-        let inner = scope::bind(scope, scope.count);
-        return ExpressionPlan {
-            scope: inner,
-            first: first,
+        },
+        JoinKind::Seq => ExpressionPlan {
+            scope: scope::bind(scope, scope.count),
+            first,
             next: plan.first as u32 + 1,
-        };
-    }
-    ExpressionPlan {
-        scope: scope,
-        first: first,
-        next: plan.first as u32 + 2,
+        },
+        JoinKind::Prune => ExpressionPlan {
+            scope,
+            first,
+            next: plan.first as u32 + 2,
+        },
     }
 }

@@ -1,5 +1,5 @@
 // A node's twelve words, stored in the dag.
-ghost use Rattle.std.specs.Prelude.{◌≡◌, [], ◌∷◌, ◌+◌, ◌*◌, ◌<◌, ◌≤◌};
+ghost use Rattle.std.specs.Prelude.{◌≡◌, [], ◌∷◌, ◌++◌, ◌+◌, ◌*◌, ◌<◌, ◌≤◌, replicate};
 ghost use Rattle.std.proofs.lemmas.List.Edits.{sets};
 ghost use Rattle.job.specs.Words.{head_words, array_words};
 
@@ -16,14 +16,14 @@ pub(crate) fn put_four(dag: &mut [u32; WORDS], at: usize, a: u32, b: u32, c: u32
     dag[at + 3] = d;
 }
 
-// The nodes' rows begin behind the dag's head of 67 words. No loop copies the words: by wide reads it would wait for them to be put
-// together.
-pub(crate) fn put(dag: &mut [u32; WORDS], node: usize, words: [u32; ROW_WORDS])
+// Stores the row of a node without parameters: its first four words, then zeros. The nodes' rows begin behind the dag's head of 67 words.
+// No loop copies the words: by wide reads it would wait for them to be put together.
+pub(crate) fn put(dag: &mut [u32; WORDS], node: usize, words: [u32; 4])
     requires { node < 1022 }
-    ensures { dag.new ≡ sets dag.old (head_words + 12 * node) words }
+    ensures { dag.new ≡ sets dag.old (head_words + 12 * node) (words ++ replicate 8 0) }
 {
     let base = HEAD_WORDS + ROW_WORDS * node;
     put_four(dag, base, words[0], words[1], words[2], words[3]);
-    put_four(dag, base + 4, words[4], words[5], words[6], words[7]);
-    put_four(dag, base + 8, words[8], words[9], words[10], words[11]);
+    put_four(dag, base + 4, 0, 0, 0, 0);
+    put_four(dag, base + 8, 0, 0, 0, 0);
 }

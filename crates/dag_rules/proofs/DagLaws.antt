@@ -2,19 +2,38 @@
 -- body i at 3 + 2 * i, since each node or body takes the words behind the one before it. Assumes nothing.
 use mathlib.Core.Path.{◌≡◌, refl, sym, ◌∙◌, ap, ap₂}
 use mathlib.Core.Bool.{true, false}
-use mathlib.Core.List.{List}
-use Prim.Native.Nat.{ℕ, ◌+◌, ◌-◌, ◌*◌, ◌<◌, ◌≤◌}
+use mathlib.Core.List.{List, ◌∷◌}
+use Prim.Native.Nat.{ℕ, zero, suc, ◌+◌, ◌-◌, ◌*◌, ◌<◌, ◌≤◌}
 use native.Mathlib.Omega.{arith}
 use lib.ListN.{length, get_or, take, drop, length-drop}
 use lib.Seq.{drop-drop, get_or-drop, length-take-le}
 use lib.Dec.{ltb, leb}
 use Rattle.job.specs.Test.{◌and◌, for_all}
-use Rattle.job.specs.Node.{Node, Body, node_at, node_holds, body_holds, is_node, dag_holds}
-use Rattle.job.specs.Words.{node_by, decoded_node, dag_of}
+use Rattle.job.specs.Node.{Node, Body, Dag, node_at, node_holds, body_holds, is_node, dag_holds}
+use Rattle.job.specs.Words.{node_by, decoded_node, nodes_from, bodies_from, dag_of}
+use Rattle.job.specs.Rows.{words_in_rows}
+use Rattle.job.proofs.Lists.{part_at}
 use Rattle.job.proofs.Test.{le-leb, lt-not-leb, and_right, all-at}
-use Rattle.dag_rules.specs.NodeWords.{row_holds}
+use Rattle.dag_rules.specs.NodeWords.{row_holds, root_in_dag}
 use Rattle.dag_rules.proofs.NodeWords.{node_row, row-node}
 use Rattle.job.proofs.Words.{length-nodes_from, length-bodies_from, node-from, body-from}
+
+-- rows and pairs of words, one after the other
+nodes-rows : (d : Dag) (n : ℕ) (ws : List ℕ) → 12 * n ≤ length ws
+    → for_all (row_holds (length d.nodes) (length d.bodies)) (words_in_rows 12 n ws) ≡ for_all (node_holds d) (nodes_from n ws)
+unfolding for_all words_in_rows nodes_from
+nodes-rows d zero ws l = refl
+nodes-rows d (suc n) ws l =
+    ap₂ ◌and◌ (sym (node_row (take 12 ws) (length-take-le 12 ws (omega arith)) d))
+    (nodes-rows d n (drop 12 ws) (omega (arith, length-drop 12 ws)))
+
+bodies-rows : (d : Dag) (n : ℕ) (ws : List ℕ)
+    → for_all (root_in_dag (length d.nodes)) (words_in_rows 2 n ws) ≡ for_all (body_holds d) (bodies_from n ws)
+unfolding for_all words_in_rows bodies_from body_holds is_node
+bodies-rows d zero ws = refl
+bodies-rows d (suc n) ws =
+    ap₂ ◌and◌ (ap₂ (λ r f. ltb r (length d.nodes) and leb f 4) (part_at ws 0 2 0 0 (omega arith)) (part_at ws 0 2 1 0 (omega arith)))
+    (bodies-rows d n (drop 2 ws))
 
 module _ (ws : List ℕ) where
   pub nodes-length : length (dag_of ws).nodes ≡ get_or ws 0 0
@@ -33,30 +52,21 @@ module _ (ws : List ℕ) where
   unfolding dag_of
   node-row-at i l = node-from (get_or ws 0 0) i (drop 67 ws) l ∙ ap (λ xs. decoded_node (take 12 xs)) (drop-drop (12 * i) 67 ws)
 
-  pub body-holds-at : (i : ℕ) (d : Body) → i < get_or ws 1 0
-      → body_holds (dag_of ws) (get_or (dag_of ws).bodies i d)
-      ≡ (ltb (get_or ws (3 + 2 * i) 0) (get_or ws 0 0) and leb (get_or ws (3 + 2 * i + 1) 0) 4)
-  unfolding body_holds is_node dag_of
-  body-holds-at i d l =
-      let e : 3 + (2 * i + 1) ≡ 3 + 2 * i + 1 = omega arith in
-      rw (
-        body-from (get_or ws 1 0) i (drop 3 ws) d l,
-        length-nodes_from (get_or ws 0 0) (drop 67 ws),
-        get_or-drop 3 ws (2 * i) 0,
-        get_or-drop 3 ws (2 * i + 1) 0,
-        e,
-      )
+  -- all of them, each with the counts of the dag
+  pub nodes-are : length ws ≡ 12331 → get_or ws 0 0 ≤ 1022
+      → for_all (row_holds (get_or ws 0 0) (get_or ws 1 0)) (words_in_rows 12 (get_or ws 0 0) (drop 67 ws))
+      ≡ for_all (node_holds (dag_of ws)) (dag_of ws).nodes
+  unfolding dag_of
+  nodes-are e f =
+      ap₂ (λ n b. for_all (row_holds n b) (words_in_rows 12 (get_or ws 0 0) (drop 67 ws))) (sym nodes-length) (sym bodies-length)
+      ∙ nodes-rows (dag_of ws) (get_or ws 0 0) (drop 67 ws) (omega (arith, length-drop 67 ws))
 
-  -- within the array
-  pub node-holds-at : length ws ≡ 12331 → get_or ws 0 0 ≤ 1022 → (i : ℕ) → i < get_or ws 0 0
-      → node_holds (dag_of ws) (get_or (dag_of ws).nodes i Node.unknown)
-      ≡ row_holds (get_or ws 0 0) (get_or ws 1 0) (take 12 (drop (67 + 12 * i) ws))
-  node-holds-at e f i l =
-      let row = take 12 (drop (67 + 12 * i) ws) in
-      let h : 12 ≤ length (drop (67 + 12 * i) ws) = simp length-drop (omega arith) in
-      ap (node_holds (dag_of ws)) (node-row-at i l)
-      ∙ node_row row (length-take-le 12 (drop (67 + 12 * i) ws) h) (dag_of ws)
-      ∙ ap₂ (λ n b. row_holds n b row) nodes-length bodies-length
+  pub bodies-are : for_all (root_in_dag (get_or ws 0 0)) (words_in_rows 2 (get_or ws 1 0) (drop 3 ws))
+      ≡ for_all (body_holds (dag_of ws)) (dag_of ws).bodies
+  unfolding dag_of
+  bodies-are =
+      ap (λ n. for_all (root_in_dag n) (words_in_rows 2 (get_or ws 1 0) (drop 3 ws))) (sym nodes-length)
+      ∙ bodies-rows (dag_of ws) (get_or ws 1 0) (drop 3 ws)
 
   -- the whole dag, by its counts
   pub many-nodes : 1022 < get_or ws 0 0 → false ≡ dag_holds (dag_of ws)
@@ -92,7 +102,3 @@ module _ (ws : List ℕ) where
       let here : node_holds d (decoded_node row) ≡ true =
       ap (node_holds d) (sym (node-row-at i l)) ∙ all-at (node_holds d) d.nodes i Node.unknown holds (omega (arith, nodes-length)) in
       node-row-at i l ∙ row-node d row here
-
--- a part of twelve words
-pub row-part : (at : ℕ) (ws : List ℕ) → take (at + 12 - at) (drop at ws) ≡ take 12 (drop at ws)
-row-part at ws = let e : at + 12 - at ≡ 12 = omega arith in ap (λ n. take n (drop at ws)) e

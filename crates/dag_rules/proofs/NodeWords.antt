@@ -1,12 +1,13 @@
 -- The index rules of a node are those of its words: a row is compared with the words of the node that it would be, and both tests go
 -- word by word. Assumes nothing.
-use mathlib.Core.Path.{◌≡◌, refl, sym, ◌∙◌, ap}
-use mathlib.Core.Bool.{Bool, true, false}
+use mathlib.Core.Path.{◌≡◌, refl, sym, ◌∙◌, ap, ap₂}
+use mathlib.Core.Bool.{Bool, true, false, ◌&&◌}
 use mathlib.Core.List.{List, [], ◌∷◌}
-use Prim.Native.Nat.{ℕ, zero, suc, ◌+◌, ◌-◌, ◌<◌, ◌≤◌, ◌^◌}
+use Prim.Native.Nat.{ℕ, zero, suc, ◌+◌, ◌-◌, ◌*◌, ◌<◌, ◌≤◌, ◌^◌}
 use native.Mathlib.Decide.{dec_lt}
 use native.Mathlib.Omega.{arith}
-use lib.ListN.{length, get_or, drop, get_or-eq_default}
+use lib.ListN.{length, get_or, drop, get_or-eq_default, length-drop}
+use lib.Seq.{drop-cons, get_or-drop}
 use lib.Dec.{ltb, leb, eqb}
 use Rattle.job.specs.Test.{◌and◌, ◌or◌, for_all, same}
 use Rattle.job.specs.Number.{signed}
@@ -18,7 +19,7 @@ use Rattle.job.proofs.Test.{clash, eqb-eq, eqb_same, ne_eqb, lt-ltb, le-not-ltb,
 use Rattle.job.proofs.WellFormed.{site-takes, site-few}
 use Rattle.job.proofs.Number.{unsigned_signed, signed-fits}
 use Rattle.job.proofs.Lists.{table, listed}
-use Rattle.job.proofs.Both.{and-true, and-false, or-false}
+use Rattle.job.proofs.Both.{and-true, and-false, and_assoc, both_is, or-false}
 use Rattle.dag_rules.specs.NodeWords.{param_words_hold, pair_holds, count_of, head_holds, row_holds}
 
 -- the words' tests in front, the parameters' behind: pair by pair
@@ -224,28 +225,37 @@ pub count_past : (k c : ℕ) → 3 ≤ k → count_of k c ≡ 0
 unfolding count_of
 count_past k c l = rw get_or-eq_default
 
-no_more : (c : ℕ) → param_words_hold 0 c [] ≡ true
+no_more : (c : ℕ) (ws : List ℕ) → length ws ≡ 0 → param_words_hold 0 c ws ≡ true
 unfolding param_words_hold param_words params_from for_all same ◌and◌
-no_more zero = refl
-no_more (suc c) = refl
-
-four-pairs : (c k₁ w₁ k₂ w₂ k₃ w₃ k₄ w₄ : ℕ)
-    → param_words_hold 4 c (k₁ ∷ w₁ ∷ k₂ ∷ w₂ ∷ k₃ ∷ w₃ ∷ k₄ ∷ w₄ ∷ [])
-    ≡ (pair_holds (ltb 0 c) k₁ w₁ and pair_holds (ltb 1 c) k₂ w₂ and pair_holds (ltb 2 c) k₃ w₃ and pair_holds (ltb 3 c) k₄ w₄)
-four-pairs c k₁ w₁ k₂ w₂ k₃ w₃ k₄ w₄ =
-    let e : c ≡ c - 0 = omega arith in
-    ap (λ (n : ℕ). param_words_hold 4 n (k₁ ∷ w₁ ∷ k₂ ∷ w₂ ∷ k₃ ∷ w₃ ∷ k₄ ∷ w₄ ∷ [])) e
-    ∙ rw (pair_then 3 0 c k₁ w₁, pair_then 2 1 c k₂ w₂, pair_then 1 2 c k₃ w₃, pair_then 0 3 c k₄ w₄, no_more (c - 4), and-true)
+no_more zero [] e = refl
+no_more (suc c) [] e = refl
+no_more c (x ∷ ws) e = absurd (omega arith)
 
 module _ (ws : List ℕ) (len : length ws ≡ 12) where
-  pub params_are : (c : ℕ)
-      → param_words_hold 4 c (drop 4 ws)
-      ≡ (pair_holds (ltb 0 c) (get_or ws 4 0) (get_or ws 5 0)
-      and pair_holds (ltb 1 c) (get_or ws 6 0) (get_or ws 7 0)
-      and pair_holds (ltb 2 c) (get_or ws 8 0) (get_or ws 9 0)
-      and pair_holds (ltb 3 c) (get_or ws 10 0) (get_or ws 11 0))
-  unfolding table
-  params_are c = ap (λ xs. param_words_hold 4 c (drop 4 xs)) (listed 0 12 ws len) ∙ four-pairs c _ _ _ _ _ _ _ _
+  -- one more of the four places
+  pub params-turn : (c i : ℕ) (ok b : Bool) {all : Bool} {k w : ℕ} → i < 4 → k ≡ get_or (drop 4 ws) (2 * i + 0) 0
+      → w ≡ get_or (drop 4 ws) (2 * i + 1) 0
+      → all ≡ (ok and param_words_hold (4 - i) (c - i) (drop (4 + 2 * i) ws)) → b ≡ pair_holds (ltb i c) k w
+      → all ≡ ((ok && b) and param_words_hold (4 - (i + 1)) (c - (i + 1)) (drop (4 + 2 * (i + 1)) ws))
+  params-turn c i ok b {all} {k} {w} l ek ew e f =
+      let rest = param_words_hold (4 - (i + 1)) (c - (i + 1)) (drop (4 + 2 * (i + 1)) ws) in
+      let z : 4 - i ≡ suc (4 - (i + 1)) = omega arith in
+      let y : suc (suc (4 + 2 * i)) ≡ 4 + 2 * (i + 1) = omega arith in
+      let u : 4 + (2 * i + 0) ≡ 4 + 2 * i = omega arith in
+      let v : 4 + (2 * i + 1) ≡ suc (4 + 2 * i) = omega arith in
+      let cut : drop (4 + 2 * i) ws ≡ k ∷ w ∷ drop (4 + 2 * (i + 1)) ws =
+      drop-cons ws (4 + 2 * i) 0 (omega arith)
+      ∙ ap₂ ◌∷◌ (sym (ek ∙ get_or-drop 4 ws (2 * i + 0) 0 ∙ ap (λ n. get_or ws n 0) u)) (drop-cons ws (suc (4 + 2 * i)) 0 (omega arith)
+      ∙ ap₂ ◌∷◌ (sym (ew ∙ get_or-drop 4 ws (2 * i + 1) 0 ∙ ap (λ n. get_or ws n 0) v)) (ap (λ n. drop n ws) y)) in
+      e ∙ ap₂ (λ n r. ok and param_words_hold n (c - i) r) z cut
+      ∙ ap (◌and◌ ok) (pair_then (4 - (i + 1)) i c k w (drop (4 + 2 * (i + 1)) ws) ∙ ap (λ x. x and rest) (sym f))
+      ∙ sym (and_assoc ok b rest) ∙ ap (λ x. x and rest) (sym (both_is ok b))
+
+  pub params-done : (c i : ℕ) {all ok : Bool} → 4 ≤ i → all ≡ (ok and param_words_hold (4 - i) (c - i) (drop (4 + 2 * i) ws)) → ok ≡ all
+  params-done c i {all} {ok} l e =
+      let z : 4 - i ≡ 0 = omega arith in
+      sym (e ∙ ap (λ n. ok and param_words_hold n (c - i) (drop (4 + 2 * i) ws)) z
+      ∙ ap (◌and◌ ok) (no_more (c - i) (drop (4 + 2 * i) ws) (omega (arith, length-drop (4 + 2 * i) ws))) ∙ and-true ok)
 
   -- a row of twelve words is that of a node whose rules hold exactly when those of the words do
   pub node_row : (d : Dag) → node_holds d (decoded_node ws) ≡ row_holds (length d.nodes) (length d.bodies) ws

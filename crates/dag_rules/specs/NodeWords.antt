@@ -43,3 +43,7 @@ row_holds nodes bodies ws =
     let kind = get_or ws 0 0 in
     let c = get_or ws 3 0 in
     head_holds nodes bodies kind (get_or ws 1 0) (get_or ws 2 0) c and param_words_hold 4 (count_of kind c) (drop 4 ws)
+
+-- the two words of a definition: its first node is one of the dag's, and it has four formals at most
+abbrev pub root_in_dag : (nodes : ℕ) → List ℕ → Bool
+root_in_dag nodes ws = ltb (get_or ws 0 0) nodes and leb (get_or ws 1 0) 4

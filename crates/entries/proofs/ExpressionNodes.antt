@@ -4,6 +4,7 @@ use mathlib.Core.List.{List, [], ◌∷◌}
 use Prim.Native.Nat.{ℕ, zero, suc, ◌+◌, ◌*◌, ◌<◌, ◌≤◌}
 use native.Mathlib.Omega.{arith}
 use lib.ListN.{length, drop}
+use Rattle.std.specs.Prelude.{Ok}
 use Rattle.job.specs.Syntax.{Param, Join, par, seq, prune, Exp, stop, site, call, scope_left, scope_right}
 use Rattle.job.specs.Entry.{Entry, entries, low, high, EntryKind, kind_of}
 use Rattle.job.specs.Read.{Got, Read, got, ◌>>=◌, entry_at, read_param_list, read_call, read_join, read_exp}
@@ -12,9 +13,9 @@ use Rattle.job.proofs.Size.{own-few}
 use Rattle.job.proofs.Read.{Yields, reads, refuses, says-bind, yields-got, yields-need, yields-map, yields-itself}
 use Rattle.job.proofs.Position.{entry-from, params-from, exp-from}
 use Rattle.job.proofs.Entry.{length-entries}
-use Rattle.entries.specs.Checked.{entries_from, checked_exp, checked_nodes}
-use Rattle.entries.specs.declared.checked.Checked.{Checked}
-use Rattle.entries.specs.declared.checked.Checked.TheVariants.{Next, Refused}
+use Rattle.entries.specs.Checked.{Checked, checked_exp}
+use Rattle.entries.specs.Parts.{entries_from}
+use Rattle.entries.specs.declared.checked.Extent.{Extent}
 use Rattle.entries.proofs.ExpressionOpened.{read_kind, exp-opened}
 use Rattle.entries.proofs.CheckedLaws.{checked-next}
 
@@ -84,25 +85,16 @@ read-few ks os left scope e g r = yields-got (exp-few (entries ks os) left scope
 
 -- what an answer says of it
 module _ (ks os : List ℕ) (left : ℕ) (scope : List ℕ) (e : ℕ) (q : Checked)
-    (eq : q ≡ checked_exp (read_exp left scope e (entries_from ks os e))) where
-  pub next-few : (m d : ℕ) → q ≡ Next m d → (d + 1 + 2 * e ≤ 2 * m) × (m ≤ length ks)
-  next-few m d h =
-      let a = checked-next node_count (read_exp left scope e (entries_from ks os e)) m d (sym eq ∙ h) in
+    (eq : q ≡ checked_exp (read_exp left scope e (entries_from ks os e))) (x : Extent) (h : q ≡ Ok x) where
+  pub next-few : (x.nodes + 1 + 2 * e ≤ 2 * x.next) × (x.next ≤ length ks)
+  next-few =
+      let a = checked-next node_count (read_exp left scope e (entries_from ks os e)) x (sym eq ∙ h) in
       let f = exp-from (entries ks os) left scope e (entries_from ks os e) a.0 refl a.1 in
       let small = (read-few ks os left scope e a.0 a.1).few in
-      let x = a.2 in
-      let y = a.3 in
+      let n = a.2 in
+      let k = a.3 in
       let last = f.last in
       (omega arith, omega (arith, length-entries ks os))
 
-  module _ (l : length ks ≤ 512) where
-    pub sum-few : (n m d : ℕ) → n ≤ 3 → q ≡ Next m d → n + d < 4096
-    sum-few n m d k h = let f = next-few m d h in let x = f.0 in let y = f.1 in omega arith
-
-    pub nodes-few : checked_nodes q < 4096
-    unfolding checked_nodes
-    nodes-few = go q refl
-      where
-        go : (r : Checked) → q ≡ r → checked_nodes q < 4096
-        go (Next m d) h = let f = sum-few 0 m d (omega arith) h in rw h (omega arith)
-        go (Refused n i) h = rw h (omega arith)
+  pub nodes-few : length ks ≤ 512 → x.nodes < 1024
+  nodes-few l = let f = next-few in let y = f.0 in let z = f.1 in omega arith

@@ -1,4 +1,7 @@
 -- The answers for the entries of an expression, in the words of the definitions of `job`.
+pub mod Refusal
+pub mod Kind
+pub mod Parts
 pub mod Checked
 pub mod Scope
 pub mod EntryFault

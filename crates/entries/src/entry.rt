@@ -1,10 +1,14 @@
-// One entry: its operand, its row, and what refuses it where an expression is read.
-ghost use Rattle.std.specs.Prelude.{◌≡◌, ◌+◌, ◌*◌, ◌<◌, ◌≤◌, length, take, drop};
+// One entry: the words of its bytes, its row, and what refuses it where an expression is read.
+ghost use Rattle.std.specs.Prelude.{◌≡◌, ◌+◌, ◌*◌, ◌≤◌, length, take, drop};
 ghost use Rattle.job.specs.Number.{number};
-ghost use Rattle.job.specs.Entry.{operand_at, kind_of, row_holds};
-ghost use Rattle.entries.specs.Scope.{ForEvery};
+ghost use Rattle.job.specs.Entry.{row_holds};
+ghost use Rattle.entries.specs.Kind.{kind_meant};
 ghost use Rattle.entries.specs.EntryFault.{expression_fault};
+ghost use Rattle.entries.specs.Refusal.{found_at};
+ghost use Rattle.entries.specs.Scope.{ForEvery};
 
+use crate::kind::Kind;
+use crate::refusal::{Refused, TableRefusal};
 use crate::scope::Scope;
 use job::bounds::{PARAMETER_LIMIT, SCOPE_LIMIT};
 use job::site_parameters;
@@ -24,46 +28,53 @@ pub fn word_at(bytes: &[u8], i: usize) -> u32
     four_bytes(bytes[i], bytes[i + 1], bytes[i + 2], bytes[i + 3])
 }
 
-// The operand of entry `at`.
-pub fn operand(operands: &[u8], at: usize) -> u32
-    requires { (at < 512) × (4 * at + 4 ≤ length operands.now) }
-    ensures { result ≡ operand_at operands.now at }
+// Does an operand keep to its kind's row of the table?
+#[tactic(auto, unfolding(job::specs::Entry::row_holds, crate::specs::Kind::kind_meant, crate::specs::Kind::join_meant))]
+fn row_holds(kind: Kind, operand: u32) -> bool
+    ensures { result ≡ row_holds (kind_meant kind) operand }
 {
-    word_at(operands, 4 * at)
+    match kind {
+        Kind::Stop | Kind::Join(_) => operand == 0,
+        Kind::Site => site_parameters::takes(operand % 65536, operand / 65536),
+        Kind::Call => operand / 65536 <= PARAMETER_LIMIT,
+        Kind::Definition => operand <= PARAMETER_LIMIT,
+        Kind::Variable | Kind::Constant => true,
+    }
 }
 
-// Does the operand of an expression's entry keep to its row of the table?
-fn row_holds(kind: u8, operand: u32) -> bool
-    requires { kind < 6 }
-    ensures { result ≡ row_holds (kind_of kind) operand }
+// What refuses the entry `at` by itself, where an expression is read: so many levels of depth are left.
+pub(crate) fn fault(
+    kind: Kind,
+    operand: u32,
+    left: usize,
+    scope: Scope,
+    at: usize,
+) -> Result<(), Refused>
+    ensures { ForEvery scope (λ l. result ≡ found_at at (expression_fault left l (kind_meant kind) operand)) }
 {
-    if kind == 1 {
-        return site_parameters::takes(operand % 65536, operand / 65536);
-    }
-    if kind == 2 {
-        return operand / 65536 <= PARAMETER_LIMIT;
-    }
-    operand == 0
-}
-
-// The number that refuses an expression's entry by itself, or 0: so many levels of depth are left.
-pub(crate) fn fault(kind: u8, operand: u32, left: usize, scope: Scope) -> u8
-    ensures { ForEvery scope (λ l. result ≡ expression_fault left l (kind_of kind) operand) }
-{
-    if 5 < kind {
-        return 3;
+    if !kind.is_expression() {
+        return Err(Refused {
+            why: TableRefusal::Kind,
+            entry: at,
+        });
     }
     if !row_holds(kind, operand) {
-        return 4;
+        return Err(Refused {
+            why: TableRefusal::Operand,
+            entry: at,
+        });
     }
     if left == 0 {
-        return 6;
+        return Err(Refused {
+            why: TableRefusal::Depth,
+            entry: at,
+        });
     }
-    if kind < 4 {
-        return 0;
+    if kind.is_binder() && SCOPE_LIMIT <= scope.count {
+        return Err(Refused {
+            why: TableRefusal::Scope,
+            entry: at,
+        });
     }
-    if SCOPE_LIMIT <= scope.count {
-        return 7;
-    }
-    0
+    Ok(())
 }

@@ -1,13 +1,19 @@
 // An expression, from its first entry on.
-ghost use Rattle.std.specs.Prelude.{◌≡◌, ◌<◌, ◌≤◌};
+ghost use Rattle.std.specs.Prelude.{◌≡◌, ◌<◌, true};
+ghost use Rattle.job.specs.Entry.{is_binder};
 ghost use Rattle.job.specs.Read.{read_exp};
-ghost use Rattle.entries.specs.Checked.{Parts, entries_from, checked_exp};
-ghost use Rattle.entries.specs.Scope.{HasMeaning, ForEvery};
+ghost use Rattle.entries.specs.Checked.{checked_exp};
 ghost use Rattle.entries.specs.ExpressionSides.{JoinHolds};
+ghost use Rattle.entries.specs.Kind.{join_meant};
+ghost use Rattle.entries.specs.Parts.{Parts, entries_from};
+ghost use Rattle.entries.specs.Scope.{HasMeaning, ForEvery};
 
-use crate::checked::Checked;
+use crate::checked::Extent;
+use crate::kind::{JoinKind, Kind};
+use crate::parts::EntryParts;
+use crate::refusal::{Refused, TableRefusal};
 use crate::scope::Scope;
-use crate::{checked, entry, parameter, scope};
+use crate::{entry, parameter, scope};
 
 // The scopes of a join's left and right side, and the nodes that the join makes itself.
 #[derive(Clone, Copy)]
@@ -17,74 +23,73 @@ struct Sides {
     pub nodes: usize,
 }
 
-// The sides of a join of this kind (3, 4 or 5): a binder takes the next number.
-fn sides_of(kind: u8, scope: Scope) -> Sides
-    requires { (3 ≤ kind) × (4 ≤ kind → scope.count < 8) }
+// The sides of a join: a binder takes the next number.
+fn sides_of(kind: JoinKind, scope: Scope) -> Sides
+    requires { is_binder (join_meant kind) ≡ true → scope.count < 8 }
     ensures { ForEvery scope (λ l. JoinHolds kind l result) }
 {
-    if kind == 3 {
-        return Sides {
+    match kind {
+        JoinKind::Par => Sides {
             left: scope,
             right: scope,
             nodes: 1,
-        };
-    }
-    let inner = scope::bind(scope, scope.count);
-    if kind == 4 {
-        return Sides {
+        },
+        JoinKind::Seq => Sides {
             left: scope,
-            right: inner,
+            right: scope::bind(scope, scope.count),
             nodes: 2,
-        };
-    }
-    Sides {
-        left: inner,
-        right: scope,
-        nodes: 3,
+        },
+        JoinKind::Prune => Sides {
+            left: scope::bind(scope, scope.count),
+            right: scope,
+            nodes: 3,
+        },
     }
 }
 
 // The expression from entry `at` on, where so many levels of depth are left.
 pub fn check_expression(
-    kinds: &[u8],
-    operands: &[u8],
+    parts: EntryParts,
     left: usize,
     scope: Scope,
     at: usize,
-) -> Checked
-    requires { Parts kinds.now operands.now × HasMeaning scope }
-    ensures { ForEvery scope
-        (λ l. result ≡ checked_exp (read_exp left l at (entries_from kinds.now operands.now at))) }
+) -> Result<Extent, Refused>
+    requires { HasMeaning scope }
+    ensures { ForEvery scope (λ l. result
+        ≡ checked_exp (read_exp left l at (entries_from parts.entry.kinds.now parts.entry.operands.now at))) }
 {
-    if kinds.len() <= at {
-        return Checked::Refused(5, at);
+    if parts.len() <= at {
+        return Err(Refused {
+            why: TableRefusal::EntryCount,
+            entry: at,
+        });
     }
-    let kind = kinds[at];
-    let operand = entry::operand(operands, at);
-    let fault = entry::fault(kind, operand, left, scope);
-    if fault != 0 {
-        return Checked::Refused(fault, at);
-    }
-    if kind == 0 {
-        return Checked::Next(at + 1, 1);
-    }
-    if kind < 3 {
-        let count = operand / 65536;
-        return checked::add_nodes(
-            parameter::check_parameters(kinds, operands, count as usize, scope, at + 1),
-            1,
-        );
-    }
-    let sides = sides_of(kind, scope);
-    // lent on as copies: a parameter that is lent on is stored where the call begins, also for a leaf
-    let kind_part = kinds;
-    let operand_part = operands;
-    let first = check_expression(kind_part, operand_part, left - 1, sides.left, at + 1);
-    match first {
-        Checked::Refused(n, e) => Checked::Refused(n, e),
-        Checked::Next(e, k) => {
-            let second = check_expression(kind_part, operand_part, left - 1, sides.right, e);
-            checked::add_nodes(second, sides.nodes + k)
+    let kind = parts.kind(at)?;
+    let operand = parts.operand(at);
+    entry::fault(kind, operand, left, scope, at)?;
+    match kind {
+        Kind::Stop => Ok(Extent {
+            next: at + 1,
+            nodes: 1,
+        }),
+        Kind::Site | Kind::Call => {
+            let next = parameter::check_parameters(
+                parts,
+                (operand / 65536) as usize,
+                scope,
+                at + 1,
+            )?;
+            Ok(Extent { next, nodes: 1 })
         }
+        Kind::Join(join) => {
+            let sides = sides_of(join, scope);
+            let first = check_expression(parts, left - 1, sides.left, at + 1)?;
+            let second = check_expression(parts, left - 1, sides.right, first.next)?;
+            Ok(Extent {
+                next: second.next,
+                nodes: sides.nodes + first.nodes + second.nodes,
+            })
+        }
+        Kind::Definition | Kind::Variable | Kind::Constant => unreachable!(),
     }
 }

@@ -35,3 +35,5 @@ pub mod Both
 pub mod Loop
 pub mod Tail
 pub mod Casts
+pub mod Rows
+pub mod DagKinds

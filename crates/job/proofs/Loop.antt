@@ -8,6 +8,7 @@ use native.Mathlib.Numerals.{add-one}
 use native.Mathlib.Omega.{arith}
 use lib.ListN.{length, get_or, take}
 use lib.Seq.{take_all}
+use Rattle.std.specs.List.{fold}
 use Rattle.job.specs.Test.{◌and◌, ◌or◌, for_all, for_some}
 use Rattle.job.proofs.Test.{or_right}
 use Rattle.job.proofs.Both.{both, and-true, and_assoc}
@@ -28,6 +29,16 @@ module _ {A : Type 0} (p : A → Bool) where
   pub all-turn : (xs : List A) (i : ℕ) (d : A) {ok b : Bool}
       → i < length xs → ok ≡ for_all p (take i xs) → b ≡ p (get_or xs i d) → (ok && b) ≡ for_all p (take (i + 1) xs)
   all-turn xs i d l e f = both e f ∙ rw add-one (sym (all_more xs i d l))
+
+  -- a fold that tests each element, without a branch
+  folded : (xs : List A) (ok : Bool) → fold (λ ok x. ok && p x) ok xs ≡ (ok and for_all p xs)
+  unfolding for_all ◌and◌
+  folded [] ok = sym (and-true ok)
+  folded (x ∷ xs) ok = folded xs (ok && p x) ∙ and_assoc ok (p x) (for_all p xs)
+
+  pub all-folded : (xs : List A) → fold (λ ok x. ok && p x) true xs ≡ for_all p xs
+  unfolding ◌and◌
+  all-folded xs = folded xs true
 
   -- some element: at an index; none before the next one
   pub some_at : (xs : List A) (i : ℕ) (d : A) → i < length xs → p (get_or xs i d) ≡ true → for_some p xs ≡ true

@@ -16,3 +16,5 @@ pub mod Node
 pub mod Tail
 pub mod Construct
 pub mod Words
+pub mod Rows
+pub mod DagKinds

@@ -1,6 +1,10 @@
 // The words of a dag: a head (number of nodes, number of definitions, the goal's root, root and formals of each definition),
 // then a row for each node (kind, two numbers, a third number, and kind and word of four parameters).
 
+ghost use Rattle.std.specs.Prelude.{◌≡◌, length, drop};
+ghost use Rattle.job.specs.Rows.{words_in_rows};
+ghost use Rattle.job.specs.DagKinds.{kind_of};
+
 pub const WORDS: usize = 12331;
 
 // The words of the head: how many nodes and definitions there are, the goal's first node, and where the definitions begin, each with its
@@ -37,7 +41,15 @@ pub const PARAMETER_KIND: usize = 4;
 
 pub const PARAMETER_WORD: usize = 5;
 
-// The kinds of nodes, in the order of `node_words`.
+// The rows of the nodes, those that the dag does not use too.
+pub fn rows(dag: &[u32; WORDS]) -> &[[u32; ROW_WORDS]]
+    ensures rows { result.now ≡ words_in_rows 12 1022 (drop 67 dag.now) }
+    ensures count { length result.now ≡ 1022 }
+{
+    dag[HEAD_WORDS..].as_chunks().0
+}
+
+// The words of the kinds of nodes, in the order of `node_words`.
 pub const STOP: u32 = 0;
 
 pub const SITE: u32 = 1;
@@ -57,6 +69,42 @@ pub const CHOKE: u32 = 7;
 pub const RETURN: u32 = 8;
 
 pub const PUBLISH: u32 = 9;
+
+// The kinds of nodes.
+#[derive(Clone, Copy)]
+pub enum NodeKind {
+    Stop,
+    Site,
+    Call,
+    Fork,
+    Assign,
+    Remove,
+    Where,
+    Choke,
+    Return,
+    Publish,
+}
+
+impl NodeKind {
+    // The kind that has this word.
+    pub fn from_word(word: u32) -> Option<NodeKind>
+        ensures { result ≡ kind_of word }
+    {
+        match word {
+            STOP => Some(NodeKind::Stop),
+            SITE => Some(NodeKind::Site),
+            CALL => Some(NodeKind::Call),
+            FORK => Some(NodeKind::Fork),
+            ASSIGN => Some(NodeKind::Assign),
+            REMOVE => Some(NodeKind::Remove),
+            WHERE => Some(NodeKind::Where),
+            CHOKE => Some(NodeKind::Choke),
+            RETURN => Some(NodeKind::Return),
+            PUBLISH => Some(NodeKind::Publish),
+            _ => None,
+        }
+    }
+}
 
 // The kinds of parameters.
 pub const VARIABLE: u32 = 7;

@@ -1,7 +1,6 @@
 -- The loop over the definitions: the words of those that are done are stored, and the others are still to be read. Assumes nothing.
 use Prim.Native.Nat.{ℕ, suc, ◌+◌, ◌*◌, ◌-◌, ◌<◌, ◌≤◌}
 use mathlib.Core.Path.{◌≡◌, refl, sym, ap, ap₂, subst, ◌∙◌}
-use mathlib.Core.Bool.{false}
 use mathlib.Core.List.{List, [], ◌∷◌, ◌++◌, map, append_assoc, append-nil}
 use native.Mathlib.Numerals.{add-one}
 use native.Mathlib.Nat.{sub-zero}
@@ -14,12 +13,13 @@ use Rattle.job.specs.Construct.{node_count}
 use Rattle.job.specs.Words.{rows_of_nodes, body_words}
 use Rattle.job.specs.Read.{Got, Read, got, gives, read_exp, read_definition, refused}
 use Rattle.job.proofs.Position.{bind-got, reread}
-use Rattle.entries.specs.Checked.{Parts, entries_from}
+use Rattle.entries.specs.Parts.{entries_from}
 use Rattle.entries.specs.Scope.{Means}
 use Rattle.entries.specs.declared.scope.Scope.{Scope}
 use Rattle.reader.specs.Definition.{read_definition_list, definition_nodes, definition_list_nodes, definition_sizes}
 use Rattle.reader.proofs.DefinitionLoop.{Defined, defined}
 use Rattle.compiler.specs.ExpressionCompiled.{reading}
+use Rattle.compiler.specs.declared.body.Sink.TheVariants as sinks
 use Rattle.compiler.specs.Body.{Sunk, sunk, BodyAccepted, compiled_with_sink, stored_body}
 use Rattle.compiler.specs.declared.expression.Compiled.{Compiled}
 use Rattle.loader.specs.ProgramStored.{Leads, DefinitionsRead, definitions, nodes_before, bodies_before, place_behind, words_before}
@@ -125,14 +125,11 @@ module _ (count : ℕ) (ks os ws ss l : List ℕ) (at node i : ℕ) (g : Writing
         ∙ at-end definition_nodes g.done turn.others.value turn.new.value
         ∙ ap definition_nodes facts.value
 
-    pub turn_below : length ks ≤ 512 → at < 512
-    turn_below k = let x = facts.here in omega arith
+    pub turn-here : at < length ks
+    turn-here = facts.here
 
     pub turn-next : length ks ≤ 512 → at + 1 < 4096
     turn-next k = let x = facts.here in omega arith
-
-    pub turn-within : length os ≡ 4 * length ks → 4 * at + 4 ≤ length os
-    turn-within k = let x = facts.here in omega arith
 
     room : node + node_count facts.body.value < 1022
     unfolding definition_list_nodes
@@ -163,20 +160,19 @@ module _ (count : ℕ) (ks os ws ss l : List ℕ) (at node i : ℕ) (g : Writing
       pub turn-formals : o ≤ 8
       turn-formals = let s = facts.small in omega arith
 
-      pub turn-read : Parts ks os → (s : Scope) → Means s (levels o)
+      pub turn-read : (s : Scope) → Means s (levels o)
           → BodyAccepted ks os s (at + 1) node (node + get_or ss i 0 - 1) (levels o)
-      turn-read p s m =
+      turn-read s m =
           let k = size in
           let r = room in
           record {
-            parts = p;
             means = m;
             below = omega arith;
             sinks = subst (λ r. Sunk r node (node + get_or ss i 0 - 1)) (sym read) (sunk (omega arith));
           }
 
       pub turn_more : count ≤ 32 → (c : Compiled) (l1 l2 : List ℕ) → c ≡ compiled_with_sink (reading 24 ks os (levels o) (at + 1)) node
-          → l1 ≡ stored_body (reading 24 ks os (levels o) (at + 1)) false node l → l2 ≡ sets l1 (3 + 2 * i) (c.root ∷ o ∷ [])
+          → l1 ≡ stored_body (reading 24 ks os (levels o) (at + 1)) sinks.Return node l → l2 ≡ sets l1 (3 + 2 * i) (c.root ∷ o ∷ [])
           → Writing count ks os ws ss l2 c.at c.node (i + 1)
       unfolding definition_list_nodes
       turn_more k c l1 l2 ec e1 e2 =
@@ -203,6 +199,6 @@ module _ (count : ℕ) (ks os ws ss l : List ℕ) (at node i : ℕ) (g : Writing
             most = omega arith;
             placed = omega (arith, definition-list-nodes-append g.done (d ∷ []));
             words = one_more g.done d ws l l1 l2 i node g.many g.placed (omega arith) g.words
-                (e1 ∙ ap (λ r. stored_body r false node l) read)
+                (e1 ∙ ap (λ r. stored_body r sinks.Return node l) read)
                 (e2 ∙ ap (λ m. sets l1 (3 + 2 * i) (m ∷ o ∷ [])) (ap (λ (x : Compiled). x.root) given));
           }

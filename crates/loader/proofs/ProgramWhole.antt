@@ -2,7 +2,6 @@
 -- Assumes nothing.
 use Prim.Native.Nat.{ℕ, ◌+◌, ◌-◌, ◌<◌, ◌≤◌}
 use mathlib.Core.Path.{◌≡◌, refl, sym, ap, subst, ◌∙◌}
-use mathlib.Core.Bool.{true}
 use mathlib.Core.List.{List, [], ◌∷◌}
 use native.Mathlib.Omega.{arith}
 use lib.ListN.{length}
@@ -16,13 +15,14 @@ use Rattle.job.proofs.EncodeRead.{entries-well-formed}
 use Rattle.job.proofs.Size.{nodes-few}
 use Rattle.job.proofs.Position.{reread}
 use Rattle.job.proofs.Entry.{length-entries}
-use Rattle.entries.specs.Checked.{Parts, entries_from}
+use Rattle.entries.specs.Parts.{Parts, entries_from}
 use Rattle.entries.specs.Scope.{Means}
 use Rattle.entries.specs.declared.scope.Scope.{Scope}
 use Rattle.reader.specs.Definition.{read_definition_list, definition_list_nodes, definition_sizes}
 use Rattle.reader.proofs.ProgramNodes.{construct-length}
 use Rattle.reader.proofs.ProgramParts.{AllDefined, all-defined, Parted, parted}
 use Rattle.compiler.specs.ExpressionCompiled.{reading}
+use Rattle.compiler.specs.declared.body.Sink.TheVariants as sinks
 use Rattle.compiler.specs.Body.{Sunk, sunk, BodyAccepted, WhereBodyAccepted, compiled_with_sink, stored_body}
 use Rattle.compiler.specs.declared.expression.Compiled.{Compiled}
 use Rattle.loader.specs.ProgramStored.{Leads, DefinitionsRead, definitions, Accepts, accepts, place_behind, stored_definitions}
@@ -93,7 +93,6 @@ module _ (ks os : List ℕ) (n nodes : ℕ) (ss : List ℕ) (ok : Accepts (read_
           let f = first in
           let a = all in
           record {
-            parts = parts;
             means = mean;
             below = omega arith;
             sinks = subst (λ q. Sunk q r.node (nodes - 1)) (sym read) (sunk (omega arith));
@@ -102,7 +101,7 @@ module _ (ks os : List ℕ) (n nodes : ℕ) (ss : List ℕ) (ok : Accepts (read_
       -- the goal, compiled
       module _ (c : Compiled) (l1 l2 : List ℕ)
           (w : WhereBodyAccepted ks os s r.at r.node (nodes - 1)
-          (λ e. (c ≡ compiled_with_sink e r.node) × (l2 ≡ stored_body e true r.node l1))) where
+          (λ e. (c ≡ compiled_with_sink e r.node) × (l2 ≡ stored_body e sinks.Publish r.node l1))) where
         goal : c ≡ compiled_with_sink (got its.goal) r.node
         goal = (w (levels 0) goal-read).0 ∙ ap (λ q. compiled_with_sink q r.node) read
 
@@ -119,6 +118,6 @@ module _ (ks os : List ℕ) (n nodes : ℕ) (ss : List ℕ) (ok : Accepts (read_
             let same = its.value in
             all_words its.definitions.value its.goal.value ws l1 l2 l3 r.node c.node n c.root first
             (e1 ∙ ap (λ q. stored_definitions q ws) its.read-definitions)
-            ((w (levels 0) goal-read).1 ∙ ap (λ q. stored_body q true r.node l1) read) e3
+            ((w (levels 0) goal-read).1 ∙ ap (λ q. stored_body q sinks.Publish r.node l1) read) e3
             (ends ∙ sym counted ∙ ap (λ p. length (construct p).nodes) same) (sym facts.many) (ap (λ (x : Compiled). x.root) goal)
             ∙ sym (ap (λ q. stored_program q ws) it.1 ∙ ap (λ p. written (construct p) ws) same)

@@ -2,7 +2,6 @@
 -- definitions' nodes, then the goal's. Assumes nothing.
 use Prim.Native.Nat.{ℕ, suc, ◌+◌, ◌*◌, ◌<◌}
 use mathlib.Core.Path.{◌≡◌, refl, sym, ap, ◌∙◌}
-use mathlib.Core.Bool.{true, false}
 use mathlib.Core.List.{List, [], ◌∷◌, ◌++◌, append_assoc, append-nil}
 use native.Mathlib.Nat.{add-zero}
 use native.Mathlib.Omega.{arith}
@@ -16,6 +15,7 @@ use Rattle.job.proofs.Words.{body-words-length}
 use Rattle.job.proofs.Stores.{sets-append, sets-swap}
 use Rattle.job.proofs.NodeRows.{rows_append, rows-length}
 use Rattle.reader.specs.Definition.{definition_nodes, definition_list_nodes}
+use Rattle.compiler.specs.declared.body.Sink.TheVariants as sinks
 use Rattle.compiler.specs.Body.{sink_of}
 use Rattle.loader.specs.ProgramStored.{nodes_before, bodies_before, words_before}
 
@@ -31,7 +31,7 @@ unfolding nodes_before definition_list_nodes
 nodes-append n [] b = rw add-zero
 nodes-append n (d ∷ a) b =
     let z : n + definition_nodes d + definition_list_nodes a ≡ n + (definition_nodes d + definition_list_nodes a) = omega arith in
-    let body : List Node = nodes_of d.body n (n + node_count d.body) ++ (sink_of false ∷ []) in
+    let body : List Node = nodes_of d.body n (n + node_count d.body) ++ (sink_of sinks.Return ∷ []) in
     ap (λ ns. body ++ ns) (nodes-append (n + definition_nodes d) a b ∙ rw z) ∙ sym (append_assoc body _ _)
 
 bodies-append : (n : ℕ) (a b : List Definition) → bodies_before n (a ++ b) ≡ bodies_before n a ++ bodies_before (n + definition_list_nodes
@@ -53,7 +53,7 @@ unfolding bodies_before
 bodies-length n [] = refl
 bodies-length n (d ∷ ds) = ap suc (bodies-length (n + definition_nodes d) ds)
 
-return-length : length (node_words (sink_of false)) ≡ 12
+return-length : length (node_words (sink_of sinks.Return)) ≡ 12
 unfolding sink_of node_words param_words
 return-length = refl
 
@@ -79,7 +79,7 @@ behind done ws l l1 X n placed e e1 =
 pub one_more : (done : List Definition) (d : Definition) (ws l l1 l2 : List ℕ) (i n : ℕ) → length done ≡ i → n ≡ definition_list_nodes done
     → i < 32
     → l ≡ words_before done ws
-    → l1 ≡ sets l (head_words + 12 * n) (rows_of_nodes (nodes_of d.body n (n + node_count d.body) ++ (sink_of false ∷ [])))
+    → l1 ≡ sets l (head_words + 12 * n) (rows_of_nodes (nodes_of d.body n (n + node_count d.body) ++ (sink_of sinks.Return ∷ [])))
     → l2 ≡ sets l1 (3 + 2 * i) (root d.body n ∷ d.formals ∷ [])
     → l2 ≡ words_before (done ++ (d ∷ [])) ws
 unfolding words_before nodes_before bodies_before body_words
@@ -87,7 +87,7 @@ one_more done d ws l l1 l2 i n many placed few e e1 e2 =
     let B : List ℕ = body_words (bodies_before 0 done) in
     let R : List ℕ = rows_of_nodes (nodes_before 0 done) in
     let P : List ℕ = root d.body n ∷ d.formals ∷ [] in
-    let X : List ℕ = rows_of_nodes (nodes_of d.body n (n + node_count d.body) ++ (sink_of false ∷ [])) in
+    let X : List ℕ = rows_of_nodes (nodes_of d.body n (n + node_count d.body) ++ (sink_of sinks.Return ∷ [])) in
     let Y : List ℕ = sets ws 3 B in
     let b : 3 + 2 * i ≡ 3 + length B = omega (arith, body-words-length (bodies_before 0 done), bodies-length 0 done) in
     let z : 0 + definition_list_nodes done ≡ n = omega arith in
@@ -106,7 +106,7 @@ dag : List Node → List Body → ℕ → Dag
 dag ns bs g = record { nodes = ns; bodies = bs; goal = g }
 
 split : (n m : ℕ) → List Definition → Exp → Dag
-split n m ds g = dag (nodes_before n ds ++ (nodes_of g m (m + node_count g) ++ (sink_of true ∷ []))) (bodies_before n ds) (root g m)
+split n m ds g = dag (nodes_before n ds ++ (nodes_of g m (m + node_count g) ++ (sink_of sinks.Publish ∷ []))) (bodies_before n ds) (root g m)
 
 ahead : ℕ → Definition → Dag → Dag
 ahead n d rest =
@@ -126,18 +126,18 @@ construct-split n m (d ∷ ds) g e =
     ∙ ap (λ k. ahead n d (split k m ds g)) z
     ∙ ap (λ ns. dag ns (record { root = root d.body n; formals = d.formals } ∷ bodies_before later ds) (root g m))
     (regroup (nodes_of d.body n (n + node_count d.body)) (nodes_before later ds)
-    (nodes_of g m (m + node_count g) ++ (sink_of true ∷ [])) Node.return)
+    (nodes_of g m (m + node_count g) ++ (sink_of sinks.Publish ∷ [])) Node.return)
 
 -- the goal's rows behind the definitions', and the head's first three words: the dag is written
 pub all_words : (ds : List Definition) (g : Exp) (ws l l1 l2 : List ℕ) (m a b c : ℕ) → m ≡ definition_list_nodes ds → l ≡ words_before ds ws
-    → l1 ≡ sets l (head_words + 12 * m) (rows_of_nodes (nodes_of g m (m + node_count g) ++ (sink_of true ∷ [])))
+    → l1 ≡ sets l (head_words + 12 * m) (rows_of_nodes (nodes_of g m (m + node_count g) ++ (sink_of sinks.Publish ∷ [])))
     → l2 ≡ sets l1 0 (a ∷ b ∷ c ∷ []) → a ≡ length (construct_from 0 ds g).nodes → b ≡ length ds → c ≡ root g m
     → l2 ≡ written (construct_from 0 ds g) ws
 unfolding written split dag
 all_words ds g ws l l1 l2 m a b c placed e e1 e2 ea eb ec =
     let B : List ℕ = body_words (bodies_before 0 ds) in
     let R : List ℕ = rows_of_nodes (nodes_before 0 ds) in
-    let X : List ℕ = rows_of_nodes (nodes_of g m (m + node_count g) ++ (sink_of true ∷ [])) in
+    let X : List ℕ = rows_of_nodes (nodes_of g m (m + node_count g) ++ (sink_of sinks.Publish ∷ [])) in
     let H : List ℕ = a ∷ b ∷ c ∷ [] in
     let Y : List ℕ = sets ws 3 B in
     let s : construct_from 0 ds g ≡ split 0 m ds g = construct-split 0 m ds g (omega arith) in

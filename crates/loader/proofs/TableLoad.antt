@@ -1,11 +1,14 @@
 -- A table that was tested: a refusal writes nothing; where it is accepted, its two parts and the sizes that were kept are what compiling
 -- its program asks for. Assumes nothing.
-use Prim.Native.Nat.{ℕ, ◌+◌, ◌*◌, ◌-◌, ◌≤◌}
+use Prim.Native.Nat.{ℕ, ◌+◌, ◌*◌, ◌-◌, ◌<◌, ◌≤◌}
 use mathlib.Core.Path.{◌≡◌, sym, ap, ap₂, subst, ◌∙◌}
 use mathlib.Core.List.{List}
 use native.Mathlib.Omega.{arith}
-use lib.ListN.{length, get_or, take, drop, length-map}
-use lib.Seq.{sets}
+use native.Mathlib.Decide.{dec_lt}
+use Rattle.std.proofs.lemmas.List.{length-take}
+use lib.ListN.{length, get_or, take, drop, length-map, get_or-eq_default}
+use lib.Seq.{sets, get_or-take, get_or-drop}
+use Rattle.entries.specs.Parts.{AllBytes}
 use Rattle.job.specs.Syntax.{Program}
 use Rattle.job.specs.Entry.{entries}
 use Rattle.job.specs.Construct.{construct}
@@ -14,26 +17,34 @@ use Rattle.job.proofs.Stores.{take-sets}
 use Rattle.job.proofs.Accepted.{accepted-well-formed}
 use Rattle.reader.specs.Definition.{definition_nodes, definition_sizes}
 use Rattle.reader.specs.Table.{tested, sizes_kept}
-use Rattle.reader.specs.declared.table.Tested.{Tested}
-use Rattle.reader.specs.declared.table.Tested.TheVariants.{Accepted, Declined}
+use Rattle.std.specs.Prelude.{Result, Ok, Err}
+use Rattle.entries.specs.declared.refusal.Refused.{Refused}
 use Rattle.reader.proofs.TableLaws as tables
 use Rattle.reader.proofs.TableLaws.{definition-count, entry-count, part-entries, table-declined, table-read}
 use Rattle.loader.specs.TableLoaded.{loaded, loaded_words}
 use Rattle.loader.specs.ProgramStored.{Leads, Accepts, accepts, stored_program}
-use Rattle.loader.specs.declared.table.Loaded.TheVariants.{Dag, Refused}
 
-module _ (t : List ℕ) (r : Tested) (er : r ≡ tested (read_table t)) where
-  module _ (k e : ℕ) (h : r ≡ Declined k e) where
-    pub refused-answer : Refused k e ≡ loaded (read_table t)
+-- a part of bytes is bytes
+pub part-bytes : (t : List ℕ) → AllBytes t → (n m : ℕ) → AllBytes (take n (drop m t))
+part-bytes t b n m i = go (dec_lt i n)
+  where
+    go : Dec (i < n) → get_or (take n (drop m t)) i 0 < 256
+    go (yes l) = rw (get_or-take n (drop m t) i 0 l, get_or-drop m t i 0) (b (m + i))
+    go (no f) =
+        let s = length-take n (drop m t) in rw (get_or-eq_default (take n (drop m t)) 0 {n = i} (omega arith)) (omega arith)
+
+module _ (t : List ℕ) (r : Result ℕ Refused) (er : r ≡ tested (read_table t)) where
+  module _ (x : Refused) (h : r ≡ Err x) where
+    pub refused-answer : Err x ≡ loaded (read_table t)
     unfolding loaded
-    refused-answer = rw (table-declined t r er k e h)
+    refused-answer = let d = table-declined t r er x h in ap Err (sym d.3) ∙ sym (ap loaded d.2)
 
     -- "A refusal leaves machine and dag as before the call"
     pub refused-words : (d : List ℕ) → d ≡ loaded_words (read_table t) d
     unfolding loaded_words
-    refused-words d = rw (table-declined t r er k e h)
+    refused-words d = rw ((table-declined t r er x h).2)
 
-  module _ (k : ℕ) (h : r ≡ Accepted k) where
+  module _ (k : ℕ) (h : r ≡ Ok k) where
     it : (p : Got Program) × (read_table t ≡ accepted p.value) × (length (construct p.value).nodes ≡ k) × tables.Accepts t p
     it = table-read t r er k h
 
@@ -67,9 +78,9 @@ module _ (t : List ℕ) (r : Tested) (er : r ≡ tested (read_table t)) where
 
         pub load-done : (d d1 : List ℕ)
             → d1 ≡ stored_program (read_entries c (entries (take (4 + n - 4) (drop 4 t)) (take (length t - (4 + n)) (drop (4 + n) t)))) d
-            → (Dag k ≡ loaded (read_table t)) × (d1 ≡ loaded_words (read_table t) d)
+            → (Ok k ≡ loaded (read_table t)) × (d1 ≡ loaded_words (read_table t) d)
         unfolding loaded loaded_words
         load-done d d1 e = (
-          sym (ap loaded it.1 ∙ ap Dag it.2),
+          sym (ap loaded it.1 ∙ ap Ok it.2),
           e ∙ ap (λ p. stored_program p d) read ∙ sym (ap (λ a. loaded_words a d) it.1),
         )

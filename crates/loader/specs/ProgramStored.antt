@@ -1,6 +1,6 @@
 -- What is asked of the parts of an accepted program, and what compiling them gives and stores. (A refused reading is not asked about.)
 -- Assumes nothing: these are definitions.
-use Rattle.std.specs.Prelude.{◌≡◌, false, List, [], ◌∷◌, ◌++◌, ℕ, ◌+◌, ◌<◌, length, take}
+use Rattle.std.specs.Prelude.{◌≡◌, List, [], ◌∷◌, ◌++◌, ℕ, ◌+◌, ◌<◌, length, take}
 use Rattle.std.proofs.lemmas.List.Edits.{sets}
 use Rattle.job.specs.Syntax.{Definition, Program}
 use Rattle.job.specs.Node.{Node, Body}
@@ -9,6 +9,7 @@ use Rattle.job.specs.Words.{head_words, rows_of_nodes, body_words, written}
 use Rattle.job.specs.Read.{Got, Read, got, refused}
 use Rattle.reader.specs.Definition.{definition_nodes, definition_list_nodes, definition_sizes}
 use Rattle.compiler.specs.Body.{sink_of}
+use Rattle.compiler.specs.declared.body.Sink.TheVariants as sinks
 use Rattle.loader.specs.declared.program.Place.{Place}
 
 -- these words stand at the front of the array
@@ -29,7 +30,7 @@ pub data Accepts : Read Program → (nodes : ℕ) → (sizes : List ℕ) → Typ
 -- the nodes of definitions, numbered from n, each body's toward its sink behind them; and where the bodies begin
 unfoldable pub nodes_before : ℕ → List Definition → List Node
 nodes_before n [] = []
-nodes_before n (d ∷ ds) = (nodes_of d.body n (n + node_count d.body) ++ (sink_of false ∷ [])) ++ nodes_before (n + definition_nodes d) ds
+nodes_before n (d ∷ ds) = (nodes_of d.body n (n + node_count d.body) ++ (sink_of sinks.Return ∷ [])) ++ nodes_before (n + definition_nodes d) ds
 
 unfoldable pub bodies_before : ℕ → List Definition → List Body
 bodies_before n [] = []

@@ -2,13 +2,14 @@
 ghost use Rattle.std.specs.Prelude.{◌≡◌, ◌≤◌};
 ghost use Rattle.job.specs.Entry.{entries};
 ghost use Rattle.job.specs.Read.{read_entries};
-ghost use Rattle.entries.specs.Checked.{Parts};
 ghost use Rattle.reader.specs.Definition.{read_definition_list};
 ghost use Rattle.loader.specs.ProgramStored.{DefinitionsRead, Accepts, place_behind, stored_definitions, stored_program};
 
 use crate::head;
 use compiler::body;
-use entries::{entry, scope};
+use compiler::body::Sink;
+use entries::parts::EntryParts;
+use entries::scope;
 use job::bounds::MOST_DEFINITIONS;
 use job::dag::WORDS;
 
@@ -21,69 +22,56 @@ pub(crate) struct Place {
 
 // Stores the bodies of so many definitions, whose sizes are known, and their words of the head. A body's sink is its last node.
 fn compile_definitions(
-    kinds: &[u8],
-    operands: &[u8],
+    parts: EntryParts,
     dag: &mut [u32; WORDS],
     count: usize,
     sizes: &[u32; MOST_DEFINITIONS],
 ) -> Place
-    requires parts { Parts kinds.now operands.now }
     requires count_bound { count ≤ 32 }
-    requires definitions_read { DefinitionsRead (read_definition_list count 0 (entries kinds.now operands.now)) sizes.now }
-    ensures value { result ≡ place_behind (read_definition_list count 0 (entries kinds.now operands.now)) }
-    ensures dag_after { dag.new ≡ stored_definitions (read_definition_list count 0 (entries kinds.now operands.now))
-        dag.old }
+    requires definitions_read { DefinitionsRead (read_definition_list count 0 (entries parts.kinds.now parts.operands.now)) sizes.now }
+    ensures value { result
+        ≡ place_behind (read_definition_list count 0 (entries parts.entry.kinds.now parts.entry.operands.now)) }
+    ensures dag_after { dag.new
+        ≡ stored_definitions (read_definition_list count 0 (entries parts.entry.kinds.now parts.entry.operands.now)) dag.old }
 {
     let mut at = 0;
     let mut node = 0;
-    let mut i = 0;
-    while i < count {
-        let formals = entry::operand(operands, at);
-        let sink = node + sizes[i] as usize - 1;
-        let definition = body::compile_body(
-            kinds,
-            operands,
-            dag,
-            scope::of_formals(formals),
-            at + 1,
-            node,
-            sink,
-            false,
-        );
-        head::put_definition(dag, i, definition.root, formals);
-        at = definition.at;
-        node = definition.node;
-        i += 1;
+    for i in 0..count {
+        let formals = parts.operand(at);
+        let last = node + sizes[i] as usize - 1;
+        let scope = scope::of_formals(formals);
+        let body = body::compile_body(parts, dag, scope, at + 1, node, last, Sink::Return);
+        head::put_definition(dag, i, body.root, formals);
+        at = body.at;
+        node = body.node;
     }
-    Place { at: at, node: node }
+    Place { at, node }
 }
 
 // Stores the dag of a program with so many definitions, whose sizes and number of nodes its check found: each body is walked twice,
 // checked and compiled.
 pub(crate) fn compile_program(
-    kinds: &[u8],
-    operands: &[u8],
+    parts: EntryParts,
     dag: &mut [u32; WORDS],
     count: usize,
     sizes: &[u32; MOST_DEFINITIONS],
     nodes: usize,
 )
-    requires parts { Parts kinds.now operands.now }
     requires count_bound { count ≤ 32 }
-    requires accepts { Accepts (read_entries count (entries kinds.now operands.now)) nodes sizes.now }
-    ensures { dag.new ≡ stored_program (read_entries count (entries kinds.now operands.now))
-        dag.old }
+    requires accepts { Accepts (read_entries count (entries parts.kinds.now parts.operands.now)) nodes sizes.now }
+    ensures { dag.new
+        ≡ stored_program (read_entries count (entries parts.entry.kinds.now parts.entry.operands.now)) dag.old }
 {
-    let before = compile_definitions(kinds, operands, dag, count, sizes);
+    let before = compile_definitions(parts, dag, count, sizes);
+    let scope = scope::of_formals(0);
     let goal = body::compile_body(
-        kinds,
-        operands,
+        parts,
         dag,
-        scope::of_formals(0),
+        scope,
         before.at,
         before.node,
         nodes - 1,
-        true,
+        Sink::Publish,
     );
     head::put_sizes(dag, goal.node as u32, count as u32, goal.root);
 }

@@ -15,12 +15,14 @@ use Rattle.job.proofs.Test.{leb-le}
 use Rattle.job.proofs.Stores.{sets-append}
 use Rattle.job.proofs.Position.{entries-end, entries_at, bind-got, refused-got, same-got, test-holds, exp-from}
 use Rattle.job.proofs.Entry.{length-entries}
-use Rattle.entries.specs.Checked.{entries_from, checked}
+use Rattle.entries.specs.Parts.{entries_from}
+use Rattle.entries.specs.Checked.{answered, Checked}
 use Rattle.reader.specs.Definition.{read_definition_list, definition_nodes, definition_list_nodes, definition_sizes, checked_definition}
 use Rattle.reader.specs.Definition.{checked_definition_list, and_then, definitions_found, DefinitionsHold}
-use Rattle.entries.specs.declared.checked.Checked.{Checked}
-use Rattle.entries.specs.declared.checked.Checked.TheVariants.{Next, Refused}
-use Rattle.entries.proofs.CheckedLaws.{checked_refused, checked-next}
+use Rattle.std.specs.Prelude.{Ok, Err}
+use Rattle.entries.specs.declared.checked.Extent.{Extent}
+use Rattle.entries.specs.declared.refusal.Refused.{Refused}
+use Rattle.entries.proofs.CheckedLaws.{answered-refused, checked-next}
 use Rattle.entries.proofs.ExpressionNodes.{read-few}
 
 -- a definition that was read from entry `at` on, and its body
@@ -157,15 +159,15 @@ module _ (count : ℕ) (ks os fs₀ ss₀ fs ss : List ℕ) (at nodes i : ℕ) (
         counted = g.counted ∙ ap (λ ds. sets ss₀ 0 (definition_sizes ds)) all;
       }
 
-  pub reading-end : count ≤ i → Answers (Next at nodes)
-  unfolding read_definition_list definitions_found prefixed ◌>>=◌ checked
+  pub reading-end : count ≤ i → Answers (Ok (record { next = at; nodes = nodes }))
+  unfolding read_definition_list definitions_found prefixed ◌>>=◌ answered
   reading-end l =
       let z : count - i ≡ 0 = omega (arith, g.most) in
       let e : read_definition_list count 0 (entries ks os) ≡ gives g.done at (entries_from ks os at) =
       g.rest
       ∙ ap (λ k. prefixed g.done (read_definition_list k at (entries_from ks os at))) z
       ∙ ap (λ ds. gives ds at (entries_from ks os at)) (append-nil g.done) in
-      kept (Next at nodes) (rw e (ap (λ n. Next at n) g.placed)) (ap (λ k. definitions_found k at (entries_from ks os at)) z)
+      kept _ (rw e (ap (λ n. Ok (record { next = at; nodes = n })) g.placed)) (ap (λ k. definitions_found k at (entries_from ks os at)) z)
 
   module _ (l : i < count) (q : Checked) (eq : q ≡ checked_definition (read_definition at (entries_from ks os at))) where
     left : count - i ≡ suc (count - (i + 1))
@@ -184,45 +186,43 @@ module _ (count : ℕ) (ks os fs₀ ss₀ fs ss : List ℕ) (at nodes i : ℕ) (
         ap (λ k. definitions_found k at (entries_from ks os at)) left
         ∙ ap (λ r. and_then r (λ d. definitions_found (count - (i + 1)) d.next d.rest)) e
 
-    pub reading-refused : (n e : ℕ) → q ≡ Refused n e → Answers (Refused n e)
-    unfolding prefixed ◌>>=◌ checked and_then
-    reading-refused n e h =
-        let r = checked_refused definition_nodes (read_definition at (entries_from ks os at)) n e (sym eq ∙ h) in
-        let all = opened ∙ ap (λ r. prefixed g.done (r >>= tail (count - (i + 1)))) r in
-        kept (Refused n e) (rw all) (found-next (refused n e) r)
+    pub reading-refused : (x : Refused) → q ≡ Err x → Answers (Err x)
+    unfolding prefixed ◌>>=◌ answered and_then
+    reading-refused x h =
+        let r = answered-refused _ (read_definition at (entries_from ks os at)) x (sym eq ∙ h) in
+        let all = opened ∙ ap (λ r. prefixed g.done (r >>= tail (count - (i + 1)))) r.2 in
+        kept (Err x) (rw all (ap Err (sym r.3))) (found-next (refused r.0 r.1) r.2)
 
-    module _ (m d : ℕ) (h : q ≡ Next m d) where
-      first : (a : Got Definition) × (read_definition at (entries_from ks os at) ≡ got a) × (a.next ≡ m) × (definition_nodes a.value ≡ d)
-      first = checked-next definition_nodes (read_definition at (entries_from ks os at)) m d (sym eq ∙ h)
+    module _ (x : Extent) (h : q ≡ Ok x) where
+      first : (a : Got Definition) × (read_definition at (entries_from ks os at) ≡ got a) × (a.next ≡ x.next)
+          × (definition_nodes a.value ≡ x.nodes)
+      first = checked-next definition_nodes (read_definition at (entries_from ks os at)) x (sym eq ∙ h)
 
       facts : Defined ks os at first.0
       facts = defined ks os at first.0 first.1
 
-      pub reading-below : length ks ≤ 512 → at < 512
-      reading-below k = let x = facts.here in omega arith
+      pub reading-here : at < length ks
+      reading-here = facts.here
 
-      pub reading-within : length os ≡ 4 * length ks → 4 * at + 4 ≤ length os
-      reading-within k = let x = facts.here in omega arith
-
-      pub reading-fits : length ks ≤ 512 → nodes + d < 4096
+      pub reading-fits : length ks ≤ 512 → nodes + x.nodes < 4096
       reading-fits k =
-          let x = facts.few in
+          let f = facts.few in
           let y = facts.last in
           let u = first.2 in
           let v = first.3 in
           let w = g.few in
           omega arith
 
-      pub reading-size : length ks ≤ 512 → d < 4096
-      reading-size k = let x = reading-fits k in omega arith
+      pub reading-size : length ks ≤ 512 → x.nodes < 4096
+      reading-size k = let f = reading-fits k in omega arith
 
       pub reading-more : (o : ℕ) → o ≡ operand_at os at → count ≤ 32
-          → Reading count ks os fs₀ ss₀ (set fs i o) (set ss i d) m (nodes + d) (i + 1)
+          → Reading count ks os fs₀ ss₀ (set fs i o) (set ss i x.nodes) x.next (nodes + x.nodes) (i + 1)
       unfolding tail ◌>>=◌ and_then
       reading-more o eo k =
           let n = count - (i + 1) in
           let new = first.0.value in
-          let x = facts.few in
+          let f = facts.few in
           let y = facts.last in
           let u = first.2 in
           let v = first.3 in
@@ -248,5 +248,5 @@ module _ (count : ℕ) (ks os fs₀ ss₀ fs ss : List ℕ) (at nodes i : ℕ) (
             counts =
                 kept_more (λ d. d.formals) g.done new fs₀ fs i o g.many g.counts
                 (eo ∙ sym (ap (λ (d : Definition). d.formals) facts.value));
-            counted = kept_more definition_nodes g.done new ss₀ ss i d g.many g.counted (sym v);
+            counted = kept_more definition_nodes g.done new ss₀ ss i x.nodes g.many g.counted (sym v);
           }

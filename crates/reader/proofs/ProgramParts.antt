@@ -10,7 +10,7 @@ use Rattle.job.specs.Entry.{Entry}
 use Rattle.job.specs.Read.{Got, Read, got, refused, ◌>>=◌, gives, read_exp, read_definition, read_program, leftovers, definitions_hold}
 use Rattle.job.specs.Read.{read_entries}
 use Rattle.job.proofs.Position.{bind-got, same-got}
-use Rattle.entries.specs.Checked.{entries_from}
+use Rattle.entries.specs.Parts.{entries_from}
 use Rattle.reader.specs.Definition.{read_definition_list, definition_list_nodes, and_then, definitions_found}
 use Rattle.reader.proofs.DefinitionLoop.{Defined, defined}
 

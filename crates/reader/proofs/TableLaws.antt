@@ -8,6 +8,7 @@ use native.Mathlib.Omega.{arith}
 use lib.ListN.{length, get_or, take, drop, length-drop}
 use lib.Seq.{sets, drop-cons, take_all}
 use lib.Dec.{leb}
+use Rattle.std.specs.Prelude.{Result, Ok, Err}
 use Rattle.job.specs.Test.{◌and◌}
 use Rattle.job.specs.Number.{number}
 use Rattle.job.specs.Syntax.{Program}
@@ -15,17 +16,18 @@ use Rattle.job.specs.Entry.{entries, size_d, size_n, table_length, table_entries
 use Rattle.job.specs.Construct.{construct}
 use Rattle.job.specs.Read.{Got, Read, got, refused, ◌>>=◌, gives, need, read_entries, read_sizes, read_bytes, Answer, accepted}
 use Rattle.job.specs.Read.{declined, reader_answer, read_table}
-use Rattle.job.proofs.Test.{never, eq-eqb, ne_eqb, le-leb, lt-not-leb}
+use Rattle.job.proofs.Test.{eq-eqb, ne_eqb, le-leb, lt-not-leb}
 use Rattle.job.proofs.Read.{Yields, reads, says-bind, yields-map, yields-itself}
 use Rattle.job.proofs.Sizes.{sizes-found, sizes-pass}
-use Rattle.entries.specs.Checked.{checked_program}
+use Rattle.entries.specs.Checked.{Checked, checked_program}
+use Rattle.entries.specs.Refusal.{refused_as}
+use Rattle.entries.specs.declared.checked.Extent.{Extent}
+use Rattle.entries.specs.declared.refusal.Refused.{Refused}
+use Rattle.entries.specs.declared.refusal.TableRefusal.TheVariants as refusals
 use Rattle.reader.specs.Definition.{definition_sizes, definitions_found}
 use Rattle.reader.specs.Table.{tested, where_sized, sizes_kept}
-use Rattle.entries.specs.declared.checked.Checked.{Checked}
-use Rattle.entries.specs.declared.checked.Checked.TheVariants.{Next, Refused}
-use Rattle.reader.specs.declared.table.Tested.{Tested}
-use Rattle.reader.specs.declared.table.Tested.TheVariants.{Accepted, Declined}
-use Rattle.entries.proofs.CheckedLaws.{checked_refused, checked-next}
+use Rattle.entries.proofs.CheckedLaws.{answered-refused, checked-next}
+use Rattle.entries.proofs.RefusalNumbers.{clash, same-case}
 use Rattle.reader.proofs.ProgramParts.{parted, all_found}
 
 -- two bytes at an index
@@ -50,20 +52,20 @@ module _ (t : List ℕ) where
 
 module _ (t s : List ℕ) where
   -- the code's answer, and what it keeps
-  abbrev Tests : Tested → List ℕ → Type 0
+  abbrev Tests : Result ℕ Refused → List ℕ → Type 0
   Tests r s1 = (r ≡ tested (read_table t)) × (s1 ≡ sets s 0 (sizes_kept t))
 
   -- a table that is declined by its sizes
-  decline : (k : ℕ) → read_sizes t ≡ refused k 0 → Tests (Declined k 0) s
+  decline : (k : ℕ) → read_sizes t ≡ refused k 0 → Tests (Err (refused_as k 0)) s
   unfolding read_table read_bytes reader_answer tested sizes_kept where_sized ◌>>=◌
   decline k h = (rw h, rw h)
 
-  pub table-short : length t < 4 → Tests (Declined 1 0) s
+  pub table-short : length t < 4 → Tests (Err (record { why = refusals.Length; entry = 0 })) s
   unfolding read_sizes need ◌>>=◌
   table-short h = decline 1 (rw (lt-not-leb 4 (length t) h))
 
   module _ (n : ℕ) (l : 4 ≤ length t) (en : n ≡ get_or t 2 0 + 256 * get_or t 3 0) where
-    pub table-uneven : (length t ≡ 4 + 5 * n → ⊥) → Tests (Declined 1 0) s
+    pub table-uneven : (length t ≡ 4 + 5 * n → ⊥) → Tests (Err (record { why = refusals.Length; entry = 0 })) s
     unfolding read_sizes need ◌>>=◌
     table-uneven h = decline 1 (rw (le-leb 4 (length t) l, entry-count t l n en, ne_eqb (length t) (4 + 5 * n) h))
 
@@ -73,17 +75,17 @@ module _ (t s : List ℕ) where
       unfolding read_sizes need ◌>>=◌
       ranges = rw (le-leb 4 (length t) l, entry-count t l n en, eq-eqb (length t) (4 + 5 * n) e, definition-count t l c ec)
 
-      pub table-definitions : 32 < c → Tests (Declined 2 0) s
+      pub table-definitions : 32 < c → Tests (Err (record { why = refusals.Sizes; entry = 0 })) s
       unfolding need ◌and◌
       table-definitions h = decline 2 (ranges ∙ rw (lt-not-leb c 32 h))
 
       module _ (f : c ≤ 32) where
-        pub table_empty : n < 1 → Tests (Declined 2 0) s
+        pub table_empty : n < 1 → Tests (Err (record { why = refusals.Sizes; entry = 0 })) s
         unfolding need ◌and◌
         table_empty h = decline 2 (ranges ∙ rw (le-leb c 32 f, lt-not-leb 1 n h))
 
         module _ (z : 1 ≤ n) where
-          pub table-long : 512 < n → Tests (Declined 2 0) s
+          pub table-long : 512 < n → Tests (Err (record { why = refusals.Sizes; entry = 0 })) s
           unfolding need ◌and◌
           table-long h = decline 2 (ranges ∙ rw (le-leb c 32 f, le-leb 1 n z, lt-not-leb n 512 h))
 
@@ -114,18 +116,17 @@ module _ (t s : List ℕ) where
                 (part-entries t n (entry-count t l n en))
                 ∙ sym (rw sized)
 
-            pub table-refused : (k e : ℕ) → q ≡ Refused k e → Tests (Declined k e) s1
+            pub table-refused : (x : Refused) → q ≡ Err x → Tests (Err x) s1
             unfolding read_table reader_answer tested
-            table-refused k e h =
-                let r = checked_refused (λ p. length (construct p).nodes) (read_entries (size_d t) (table_entries t)) k e (sym answer ∙ h)
-                in
-                (rw (read, r), kept)
+            table-refused x h =
+                let r = answered-refused _ (read_entries (size_d t) (table_entries t)) x (sym answer ∙ h) in
+                (sym (ap (λ b. tested (reader_answer b)) (read ∙ r.2) ∙ ap Err r.3), kept)
 
-            pub table-accepted : (i k : ℕ) → q ≡ Next i k → Tests (Accepted k) s1
+            pub table-accepted : (x : Extent) → q ≡ Ok x → Tests (Ok x.nodes) s1
             unfolding read_table reader_answer tested
-            table-accepted i k h =
-                let r = checked-next (λ p. length (construct p).nodes) (read_entries (size_d t) (table_entries t)) i k (sym answer ∙ h) in
-                (ap Accepted (sym r.3) ∙ sym (ap (λ b. tested (reader_answer b)) (read ∙ r.1)), kept)
+            table-accepted x h =
+                let r = checked-next (λ p. length (construct p).nodes) (read_entries (size_d t) (table_entries t)) x (sym answer ∙ h) in
+                (ap Ok (sym r.3) ∙ sym (ap (λ b. tested (reader_answer b)) (read ∙ r.1)), kept)
 
 -- what an accepted table has
 pub record Accepts (t : List ℕ) (p : Got Program) : Type 0 where
@@ -160,21 +161,21 @@ bytes-accepted t =
     (yields-itself (read_entries (size_d t) (table_entries t)))
 
 -- what the answer says
-module _ (t : List ℕ) (r : Tested) (er : r ≡ tested (read_table t)) where
-  pub table-declined : (k e : ℕ) → r ≡ Declined k e → read_table t ≡ declined k e
+module _ (t : List ℕ) (r : Result ℕ Refused) (er : r ≡ tested (read_table t)) where
+  pub table-declined : (x : Refused) → r ≡ Err x → (k : ℕ) × (e : ℕ) × (read_table t ≡ declined k e) × (refused_as k e ≡ x)
   unfolding tested
-  table-declined k e h = go (read_table t) (sym er ∙ h)
+  table-declined x h = go (read_table t) (sym er ∙ h)
     where
-      go : (a : Answer) → tested a ≡ Declined k e → a ≡ declined k e
-      go (accepted p) q = never cc
-      go (declined k' e') q = cc
+      go : (a : Answer) → tested a ≡ Err x → (k : ℕ) × (e : ℕ) × (a ≡ declined k e) × (refused_as k e ≡ x)
+      go (accepted p) q = clash q
+      go (declined k e) q = (k, e, refl, same-case q)
 
-  pub table-read : (k : ℕ) → r ≡ Accepted k
+  pub table-read : (k : ℕ) → r ≡ Ok k
       → (p : Got Program) × (read_table t ≡ accepted p.value) × (length (construct p.value).nodes ≡ k) × Accepts t p
   unfolding read_table reader_answer tested
   table-read k h = go (read_bytes t) refl (bytes-accepted t) (sym er ∙ h)
     where
-      go : (b : Read Program) → read_bytes t ≡ b → Yields (Accepts t) b → tested (reader_answer b) ≡ Accepted k
+      go : (b : Read Program) → read_bytes t ≡ b → Yields (Accepts t) b → tested (reader_answer b) ≡ Ok k
           → (p : Got Program) × (read_table t ≡ accepted p.value) × (length (construct p.value).nodes ≡ k) × Accepts t p
       go (got p) e (reads a) q = (p, ap reader_answer e, (cc), a)
-      go (refused n i) e y q = never cc
+      go (refused n i) e y q = clash (sym q)

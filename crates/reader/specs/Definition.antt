@@ -6,8 +6,7 @@ use Rattle.job.specs.Syntax.{Definition, formals_of}
 use Rattle.job.specs.Entry.{Entry}
 use Rattle.job.specs.Read.{Got, Read, got, refused, ◌>>=◌, gives, read_definition}
 use Rattle.job.specs.Construct.{node_count}
-use Rattle.entries.specs.Checked.{checked}
-use Rattle.entries.specs.declared.checked.Checked.{Checked}
+use Rattle.entries.specs.Checked.{Checked, checked}
 
 -- so many definitions, from entry e on
 unfoldable pub read_definition_list : ℕ → ℕ → List Entry → Read (List Definition)

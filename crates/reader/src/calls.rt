@@ -1,46 +1,52 @@
 // Calls of definitions: each names one that there is, with as many parameters as it has formals.
-ghost use Rattle.std.specs.Prelude.{◌≡◌, ◌≤◌, length, take};
-ghost use Rattle.job.specs.Entry.{entry, entries};
-ghost use Rattle.job.specs.Read.{call_holds, definitions_hold};
-ghost use Rattle.entries.specs.Checked.{Parts, checked_test};
+ghost use Rattle.std.specs.Prelude.{◌≡◌, ◌<◌, length, get_or};
+ghost use Rattle.job.specs.Entry.{entry, entries, operand_at};
+ghost use Rattle.job.specs.Read.{need, call_holds, definitions_hold};
+ghost use Rattle.entries.specs.Checked.{checked_test};
+ghost use Rattle.entries.specs.Parts.{Parts};
 
-use entries::checked::Checked;
-use entries::entry;
-use job::bounds::MOST_DEFINITIONS;
+use entries::kind::Kind;
+use entries::parts::EntryParts;
+use entries::refusal::{Refused, TableRefusal};
 
-// May a call with this operand stand beside `count` definitions with these counts of formals?
-fn call_holds(operand: u32, formals: &[u32; MOST_DEFINITIONS], count: usize) -> bool
-    requires { (length formals.now ≡ 32) × (count ≤ 32) }
-    ensures { result ≡ call_holds (take count formals.now) (entry 2 operand) }
+// May a call with this operand stand beside definitions with these counts of formals?
+fn call_holds(operand: u32, formals: &[u32]) -> bool
+    ensures { result ≡ call_holds formals.now (entry 2 operand) }
 {
-    let d = (operand % 65536) as usize;
-    if count <= d {
-        return false;
+    match formals.get((operand % 65536) as usize) {
+        Some(count) => operand / 65536 == *count,
+        None => false,
     }
-    operand / 65536 == formals[d]
 }
 
-// The first call that may not. Entries of other kinds are passed by, and their operands not read.
-pub(crate) fn check_calls(
-    kinds: &[u8],
-    operands: &[u8],
-    formals: &[u32; MOST_DEFINITIONS],
-    count: usize,
-) -> Checked
-    requires parts { Parts kinds.now operands.now }
-    requires formals_len { (length formals.now ≡ 32) × (count ≤ 32) }
-    ensures { result ≡ checked_test (definitions_hold (take count formals.now) 0
-        (entries kinds.now operands.now)) }
+// The entry `at`, if it is a call. Those of other kinds are passed by, and their operands not read.
+fn check_call(parts: EntryParts, formals: &[u32], at: usize) -> Result<(), Refused>
+    requires { at < length parts.kinds.now }
+    ensures { result ≡ checked_test (need (call_holds formals.now
+        (entry (get_or parts.entry.kinds.now at 0) (operand_at parts.entry.operands.now at))) 8 at) }
 {
-    let mut i = 0;
-    while i < kinds.len() {
-        if kinds[i] == 2 {
-            let holds = call_holds(entry::operand(operands, i), formals, count);
-            if !holds {
-                return Checked::Refused(8, i);
-            }
-        }
-        i += 1;
+    let Ok(kind) = parts.kind(at) else {
+        return Ok(());
+    };
+    let Kind::Call = kind else {
+        return Ok(());
+    };
+    if call_holds(parts.operand(at), formals) {
+        return Ok(());
     }
-    Checked::Next(i, 0)
+    Err(Refused {
+        why: TableRefusal::Definition,
+        entry: at,
+    })
+}
+
+// The first call that may not stand there.
+pub(crate) fn check_calls(parts: EntryParts, formals: &[u32]) -> Result<(), Refused>
+    ensures { result ≡ checked_test (definitions_hold formals.now 0
+        (entries parts.entry.kinds.now parts.entry.operands.now)) }
+{
+    for at in 0..parts.len() {
+        check_call(parts, formals, at)?;
+    }
+    Ok(())
 }

@@ -5,15 +5,9 @@ ghost use Rattle.job.specs.Read.{read_table};
 ghost use Rattle.reader.specs.Table.{tested, sizes_kept};
 
 use crate::program;
-use entries::checked::Checked;
+use entries::parts::EntryParts;
+use entries::refusal::{Refused, TableRefusal};
 use job::bounds::{ENTRY_LIMIT, MOST_DEFINITIONS};
-
-// What the test of a table says: accepted, with the number of its dag's nodes; or a refusal's number and entry.
-#[derive(Clone, Copy)]
-pub enum Tested {
-    Accepted(usize),
-    Declined(u8, usize),
-}
 
 // Two bytes, the lower first.
 pub fn half(low: u8, high: u8) -> usize
@@ -22,32 +16,41 @@ pub fn half(low: u8, high: u8) -> usize
     low as usize + 256 * high as usize
 }
 
-// Tests a table. The numbers of nodes of the definitions that are read before the first refusal are kept.
-pub fn check_table(table: &[u8], sizes: &mut [u32; MOST_DEFINITIONS]) -> Tested
+// Tests a table: the number of its dag's nodes. The numbers of nodes of the definitions that are read before the first refusal are kept.
+pub fn check_table(table: &[u8], sizes: &mut [u32; MOST_DEFINITIONS]) -> Result<usize, Refused>
     ensures value { result ≡ tested (read_table table.now) }
     ensures sizes_after { sizes.new ≡ sets sizes.old 0 (sizes_kept table.now) }
 {
+    let uneven = Refused {
+        why: TableRefusal::Length,
+        entry: 0,
+    };
+    let outside = Refused {
+        why: TableRefusal::Sizes,
+        entry: 0,
+    };
     if table.len() < 4 {
-        return Tested::Declined(1, 0);
+        return Err(uneven);
     }
     let definitions = half(table[0], table[1]);
     let n = half(table[2], table[3]);
     if table.len() != 4 + 5 * n {
-        return Tested::Declined(1, 0);
+        return Err(uneven);
     }
     if MOST_DEFINITIONS < definitions {
-        return Tested::Declined(2, 0);
+        return Err(outside);
     }
     if n < 1 {
-        return Tested::Declined(2, 0);
+        return Err(outside);
     }
     if ENTRY_LIMIT < n {
-        return Tested::Declined(2, 0);
+        return Err(outside);
     }
     let e = 4 + n;
-    let answer = program::check_program(&table[4..e], &table[e..], definitions, sizes);
-    match answer {
-        Checked::Refused(n, e) => Tested::Declined(n, e),
-        Checked::Next(_, nodes) => Tested::Accepted(nodes),
-    }
+    let parts = EntryParts {
+        kinds: &table[4..e],
+        operands: &table[e..],
+    };
+    let program = program::check_program(parts, definitions, sizes)?;
+    Ok(program.nodes)
 }

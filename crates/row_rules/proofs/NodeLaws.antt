@@ -3,10 +3,9 @@ use mathlib.Core.Path.{◌≡◌, refl, sym, ◌∙◌, ap}
 use mathlib.Core.Bool.{Bool, true, false, ◌&&◌}
 use mathlib.Core.List.{List, [], ◌∷◌}
 use Prim.Native.Nat.{ℕ, zero, suc, ◌+◌, ◌-◌, ◌*◌, ◌<◌, ◌≤◌}
-use native.Mathlib.Decide.{dec_lt}
 use native.Mathlib.Omega.{arith}
 use lib.ListN.{length, get_or, take, drop, get_or-eq_default}
-use lib.Dec.{ltb, leb, eqb}
+use lib.Dec.{leb, eqb}
 use Rattle.std.specs.Prelude.{Some, None}
 use Rattle.job.specs.Test.{◌and◌, for_all}
 use Rattle.job.specs.Node.{dag_holds, node_at}
@@ -17,12 +16,11 @@ use Rattle.model.specs.Machine.State.{is_frame}
 use Rattle.model.specs.declared.token.Slot.{Slot}
 use Rattle.model.specs.Machine.Held.{Place}
 use Rattle.model.specs.declared.token.Token.{Token}
-use Rattle.job.proofs.Test.{clash, lt-ltb, le-not-ltb, and_left, leb-le, eq-eqb, ne_eqb}
+use Rattle.job.proofs.Test.{and_left, leb-le, eq-eqb, ne_eqb}
 use Rattle.record.specs.Layout.{place_number, state_kind}
-use Rattle.job.proofs.Lists.{table, listed}
+use Rattle.job.specs.Rows.{words_in_rows}
+use Rattle.std.specs.List.{list_all}
 use Rattle.dag_rules.proofs.DagLaws.{node-by-kind, nodes-length}
-use Rattle.job.proofs.Both.{and-true}
-use Rattle.row_rules.specs.RowRules.{pair_bound}
 use Rattle.row_rules.proofs.RangeLaws.{blank-is, frame_is}
 
 -- past the eight slots nothing is bound
@@ -33,58 +31,30 @@ slot-past bs x long l =
     sym (ap is_bound (get_or-eq_default bs empty m))
 
 -- a parameter's two words
-module _ (bs : List Slot) (k w : ℕ) where
-  pub bound-pair : (named : Bool) → (named && eqb k 7) ≡ true → is_bound (slot_at bs w) ≡ pair_bound bs named k w
-  unfolding params_from param_of for_all not_empty
-  bound-pair true e = rw (e, param_of) (sym (and-true _))
-  bound-pair false e = clash e refl
+module _ (bs : List Bind) (k w : ℕ) where
+  pub bound-param : k ≡ 7 → is_bound (slot_at bs w) ≡ not_empty bs (param_of k w)
+  unfolding param_of not_empty
+  bound-param e = rw (eq-eqb k 7 e, param_of)
 
-  pub free-pair : (named : Bool) → (named && eqb k 7) ≡ false → true ≡ pair_bound bs named k w
-  unfolding params_from param_of for_all not_empty ◌and◌
-  free-pair true e = rw (e, param_of)
-  free-pair false e = refl
+  pub free-param : (k ≡ 7 → ⊥) → true ≡ not_empty bs (param_of k w)
+  unfolding param_of not_empty
+  free-param f = rw (ne_eqb k 7 f, param_of)
 
-module _ (bs : List Slot) where
-  bound-then : (j c k w : ℕ) (ws : List ℕ)
-      → for_all (not_empty bs) (params_from (c - j) (k ∷ w ∷ ws))
-      ≡ pair_bound bs (ltb j c) k w and for_all (not_empty bs) (params_from (c - (j + 1)) ws)
-  unfolding params_from for_all
-  bound-then j c k w ws = go (dec_lt j c)
-    where
-      go : Dec (j < c)
-          → for_all (not_empty bs) (params_from (c - j) (k ∷ w ∷ ws))
-          ≡ pair_bound bs (ltb j c) k w and for_all (not_empty bs) (params_from (c - (j + 1)) ws)
-      go (yes l) =
-          let e : c - j ≡ suc (c - (j + 1)) = omega arith in
-          rw (e, lt-ltb j c l)
-          (ap (λ b. b and for_all (not_empty bs) (params_from (c - (j + 1)) ws)) (sym (and-true (not_empty bs (param_of k w)))))
-      go (no f) =
-          let e : c - j ≡ 0 = omega arith in
-          let g : c - (j + 1) ≡ 0 = omega arith in
-          rw (e, g, le-not-ltb j c (omega arith)) (sym (and-true true))
+-- the first c of the pairs of words are c parameters, or as many as there are
+abbrev pub pair_bound : List Bind → List ℕ → Bool
+pair_bound bs r = not_empty bs (param_of (get_or r 0 0) (get_or r 1 0))
 
-  none_left : (c : ℕ) → for_all (not_empty bs) (params_from c []) ≡ true
-  unfolding params_from for_all
-  none_left zero = refl
-  none_left (suc c) = refl
-
-  four_bound : (c k₁ w₁ k₂ w₂ k₃ w₃ k₄ w₄ : ℕ)
-      → for_all (not_empty bs) (params_from c (k₁ ∷ w₁ ∷ k₂ ∷ w₂ ∷ k₃ ∷ w₃ ∷ k₄ ∷ w₄ ∷ []))
-      ≡ (pair_bound bs (ltb 0 c) k₁ w₁ and pair_bound bs (ltb 1 c) k₂ w₂ and pair_bound bs (ltb 2 c) k₃ w₃ and pair_bound bs (ltb 3 c) k₄
-      w₄)
-  four_bound c k₁ w₁ k₂ w₂ k₃ w₃ k₄ w₄ =
-      let e : c ≡ c - 0 = omega arith in
-      ap (λ (n : ℕ). for_all (not_empty bs) (params_from n (k₁ ∷ w₁ ∷ k₂ ∷ w₂ ∷ k₃ ∷ w₃ ∷ k₄ ∷ w₄ ∷ []))) e
-      ∙ rw (bound-then 0 c k₁ w₁, bound-then 1 c k₂ w₂, bound-then 2 c k₃ w₃, bound-then 3 c k₄ w₄, none_left (c - 4), and-true)
-
-  pub params-bound : (ws : List ℕ) → length ws ≡ 12 → (c : ℕ)
-      → for_all (not_empty bs) (params_from c (drop 4 ws))
-      ≡ (pair_bound bs (ltb 0 c) (get_or ws 4 0) (get_or ws 5 0)
-      and pair_bound bs (ltb 1 c) (get_or ws 6 0) (get_or ws 7 0)
-      and pair_bound bs (ltb 2 c) (get_or ws 8 0) (get_or ws 9 0)
-      and pair_bound bs (ltb 3 c) (get_or ws 10 0) (get_or ws 11 0))
-  unfolding table
-  params-bound ws len c = ap (λ xs. for_all (not_empty bs) (params_from c (drop 4 xs))) (listed 0 12 ws len) ∙ four_bound c _ _ _ _ _ _ _ _
+pub params-bound : (bs : List Bind) (n c : ℕ) (ws : List ℕ) → length ws ≡ 2 * n
+    → list_all (pair_bound bs) (take c (words_in_rows 2 n ws)) ≡ for_all (not_empty bs) (params_from c ws)
+unfolding words_in_rows params_from for_all ◌and◌
+params-bound bs zero zero ws l = refl
+params-bound bs (suc n) zero ws l = refl
+params-bound bs zero (suc c) [] l = refl
+params-bound bs zero (suc c) (k ∷ ws) l = absurd (omega arith)
+params-bound bs (suc n) (suc c) [] l = absurd (omega arith)
+params-bound bs (suc n) (suc c) (k ∷ []) l = absurd (omega arith)
+params-bound bs (suc n) (suc c) (k ∷ w ∷ ws) l =
+    ap (λ b. not_empty bs (param_of k w) && b) (params-bound bs n c ws (omega arith))
 
 -- the frame that a token names
 module _ (ts : List Token) (long : length ts ≡ 64) (q : Place) {n : ℕ} (number : n ≡ place_number q) where

@@ -1,12 +1,10 @@
--- The rules that one token or one cell keeps, and the parameters of a call. Assumes nothing: these are definitions.
-use Rattle.std.specs.Prelude.{Bool, List, [], ◌∷◌, ℕ}
-use Rattle.job.specs.Test.{◌and◌, for_all, once}
+-- The rules that one token or one cell keeps. Assumes nothing: these are definitions.
+use Rattle.std.specs.Prelude.{Bool, List}
+use Rattle.job.specs.Test.{◌and◌}
 use Rattle.job.specs.Node.{Dag}
-use Rattle.job.specs.Words.{params_from}
 use Rattle.model.specs.Machine.Limits.{paper}
 use Rattle.model.specs.Machine.Rules.{token_in_range, cell_in_range, at_node, not_under_set}
-use Rattle.model.specs.Machine.Rules.{waits_at_unset, due_in_range, chain_ends, not_empty}
-use Rattle.model.specs.declared.token.Slot.{Slot}
+use Rattle.model.specs.Machine.Rules.{waits_at_unset, due_in_range, chain_ends}
 use Rattle.model.specs.declared.token.Token.{Token}
 use Rattle.model.specs.declared.cell.Cell.{Cell}
 use Rattle.model.specs.declared.record.Machine.{Machine}
@@ -23,7 +21,3 @@ token_rule d m t =
 -- in range, with a parent chain that ends
 abbrev pub cell_rule : List Cell → Cell → Bool
 cell_rule cs c = cell_in_range paper c and chain_ends cs 32 c.parent
-
--- "at a call no empty variable", at the two words of one parameter
-abbrev pub pair_bound : List Slot → Bool → (kind word : ℕ) → Bool
-pair_bound binds named k w = for_all (not_empty binds) (params_from (once named) (k ∷ w ∷ []))

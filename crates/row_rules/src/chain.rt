@@ -21,17 +21,11 @@ pub fn chain_ends(w: &[u32; Machine::WORDS], place: u32) -> bool
     ensures { (m : Machine) → Codes w.now m → result ≡ chain_ends m.cells 32 (place_from place) }
 {
     let mut here = place;
-    let mut i: usize = 0;
-    while i < Machine::CELLS {
-        if here == 0 {
+    for _link in 0..Machine::CELLS {
+        if (here == 0) | (CELL_PLACE_COUNT < here) {
             return true;
         }
-        if CELL_PLACE_COUNT < here {
-            return true;
-        }
-        let at = wide(here) - 1;
-        here = parent(w, at);
-        i += 1;
+        here = parent(w, wide(here) - 1);
     }
     here == 0
 }
@@ -41,14 +35,8 @@ fn waits_at_unset(w: &[u32; Machine::WORDS], kind: u32, number: u32) -> bool
     ensures { (m : Machine) (s : State) → Codes w.now m → kind ≡ state_kind s → number ≡ state_number s
         → result ≡ waits_at_unset m.cells s }
 {
-    if kind == WAITING_STATE {
-        let at = wide(number);
-        if Machine::CELLS <= at {
-            return true;
-        }
-        return value_kind(w, at) == 0;
-    }
-    true
+    let at = wide(number);
+    kind != WAITING_STATE || Machine::CELLS <= at || value_kind(w, at) == 0
 }
 
 // A token that is blank or a frame passes; any other must be under no set cell.

@@ -27,10 +27,8 @@ fn binds_in_range(w: &[u32; Machine::WORDS], p: usize) -> bool
         → result ≡ for_all (slot_in_range 32) (token_at m.tokens p).binds }
 {
     let mut ok = true;
-    let mut x: usize = 0;
-    while x < 8 {
-        ok = ok & (!(bind_kind(w, p, x) == CELL_SLOT) | (bind_number(w, p, x) < CELL_PLACE_COUNT));
-        x += 1;
+    for x in 0..8 {
+        ok &= (bind_kind(w, p, x) != CELL_SLOT) | (bind_number(w, p, x) < CELL_PLACE_COUNT);
     }
     ok
 }

@@ -115,6 +115,10 @@ pub second-true : (a b : Bool) → (a && b) ≡ true → b ≡ true
 second-true true b e = e
 second-true false b e = clash e refl
 
+pub grouped : (a b c : Bool) → (a && (b && c)) ≡ (a && b && c)
+grouped true b c = refl
+grouped false b c = refl
+
 -- a second test that matters only where the first holds
 pub where-true : (a b b' : Bool) → (a ≡ true → b ≡ b') → (a && b) ≡ (a and b')
 unfolding ◌and◌

@@ -38,10 +38,8 @@ pub(crate) fn cells_hold(w: &[u32; Machine::WORDS], used: &[bool; Machine::CELLS
 {
     let mut ok = true;
     let end = few_or_all(used);
-    let mut i: usize = 0;
-    while i < end {
-        ok = ok & cell_holds(w, i, used[i]);
-        i += 1;
+    for i in 0..end {
+        ok &= cell_holds(w, i, used[i]);
     }
     ok & cells_are_blank(w, end)
 }

@@ -1,32 +1,21 @@
 // "Open handles differ."
-ghost use Rattle.std.specs.Prelude.{◌≡◌, not, ℕ, ◌≤◌, ◌<◌, length, get_or, take, eqb};
+ghost use Rattle.std.specs.Prelude.{◌≡◌, not, ℕ, eqb};
 ghost use Rattle.job.specs.Test.{for_all, distinct};
 
-// Is the number at i none of those before it?
-fn is_new(list: &[u32], i: usize) -> bool
-    requires { (i < 64) × (length list.now ≡ 64) }
-    ensures { result ≡ for_all (λ (h : ℕ). not (eqb h (get_or list.now i 0))) (take i list.now) }
+// Is the number none of those before it? All of them are compared, so that nothing branches.
+fn is_new(handle: u32, before: &[u32]) -> bool
+    ensures { result ≡ for_all (λ (h : ℕ). not (eqb h handle)) before.now }
 {
-    let handle = list[i];
-    let mut ok = true;
-    let mut j: usize = 0;
-    while j < i {
-        ok = ok & !(list[j] == handle);
-        j += 1;
-    }
-    ok
+    before.iter().fold(true, |ok, h| ok & (*h != handle))
 }
 
-// Do the first so many numbers differ?
-pub(crate) fn all_differ(list: &[u32], count: usize) -> bool
-    requires { (count ≤ 64) × (length list.now ≡ 64) }
-    ensures { result ≡ distinct (take count list.now) }
+// Do the numbers differ?
+pub(crate) fn all_differ(list: &[u32]) -> bool
+    ensures { result ≡ distinct list.now }
 {
     let mut ok = true;
-    let mut i: usize = 0;
-    while i < count {
-        ok = ok & is_new(list, i);
-        i += 1;
+    for (i, handle) in list.iter().enumerate() {
+        ok &= is_new(*handle, &list[..i]);
     }
     ok
 }

@@ -14,7 +14,7 @@ ghost use Rattle.order_rules.specs.OrderCounts.{named_by_orders};
 
 use crate::handles::all_differ;
 use coded::word_tests::token_coded;
-use job::dag::NODE_COUNT;
+use job::dag::{NODE_COUNT, WORDS};
 use job::wide::wide;
 use model::record::Machine;
 use order_rules::order::{OrderCounts, counts_agree, unnamed_from};
@@ -27,16 +27,14 @@ use row_rules::node::at_node;
 use row_rules::range::token_in_range;
 
 // The words and the rules of a token that is in use.
-fn token_holds(w: &[u32; Machine::WORDS], p: usize, dag: &[u32]) -> bool
-    requires { (p < 64) × (length dag.now ≡ 12331) × (dag_holds (dag_of dag.now) ≡ true) }
+fn token_holds(w: &[u32; Machine::WORDS], p: usize, dag: &[u32; WORDS]) -> bool
+    requires { (p < 64) × (dag_holds (dag_of dag.now) ≡ true) }
     ensures { (result ≡ true → token_coded w.now p ≡ true)
         × ((m : Machine) → ValuesFit w.now m → result ≡ token_rule (dag_of dag.now) m (token_at m.tokens p)) }
 {
     let at = node(w, p);
-    if dag[NODE_COUNT] <= at {
-        return false;
-    }
-    token_coded(w, p) & token_in_range(w, p) & at_node(w, p, wide(at), dag) & is_free(w, p)
+    at < dag[NODE_COUNT]
+        && token_coded(w, p) & token_in_range(w, p) & at_node(w, p, wide(at), dag) & is_free(w, p)
 }
 
 // A place that is not in use: blank, and named by no order.
@@ -61,10 +59,10 @@ fn handles_of(kind: u32) -> usize
 pub(crate) fn tokens_hold(
     w: &[u32; Machine::WORDS],
     used: &[bool; Machine::TOKENS],
-    dag: &[u32],
+    dag: &[u32; WORDS],
     counts: &OrderCounts,
 ) -> bool
-    requires { (length dag.now ≡ 12331) × (dag_holds (dag_of dag.now) ≡ true) }
+    requires { dag_holds (dag_of dag.now) ≡ true }
     ensures { (result ≡ true → (p : ℕ) → p < 64 → token_coded w.now p ≡ true)
         × ((m : Machine) → ValuesFit w.now m → length used.now ≡ 64
         → result ≡ (((for_all (token_rule (dag_of dag.now) m) m.tokens and rest_is_blank token_is_blank used.now m.tokens)
@@ -75,20 +73,17 @@ pub(crate) fn tokens_hold(
     let mut count: usize = 0;
     let mut ok = true;
     let end = few_or_all(used);
-    let mut i: usize = 0;
-    while i < end {
+    for i in 0..end {
         if used[i] {
             let kind = state(w, i);
-            ok = ok
-                & token_holds(w, i, dag)
+            ok &= token_holds(w, i, dag)
                 & counts_agree(kind, counts.queue[i], counts.waits[i], counts.timers[i]);
             handles[count] = state_number(w, i);
             count += handles_of(kind);
         } else {
-            ok = ok & is_vacant(w, i, counts.queue[i], counts.waits[i], counts.timers[i]);
+            ok &= is_vacant(w, i, counts.queue[i], counts.waits[i], counts.timers[i]);
         }
-        i += 1;
     }
     let rest = unnamed_from(counts, end) & tokens_are_blank(w, end);
-    ok & rest & all_differ(&handles, count)
+    ok & rest & all_differ(&handles[..count])
 }

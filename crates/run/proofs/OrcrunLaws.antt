@@ -1,5 +1,5 @@
 -- The whole output, by the tests that lead to it: `long`, a declined table, or the run of an accepted one. Assumes nothing.
-use mathlib.Core.Path.{◌≡◌, refl, sym, ◌∙◌, ap}
+use mathlib.Core.Path.{◌≡◌, refl, sym, ◌∙◌, ap, ap₂}
 use mathlib.Core.Bool.{Bool, true, false}
 use mathlib.Core.List.{List, [], ◌∷◌}
 use Prim.Native.Nat.{ℕ, ◌-◌, ◌<◌, ◌≤◌}
@@ -15,25 +15,28 @@ use Rattle.job.specs.Words.{dag_of}
 use Rattle.model.specs.Output.Line.{text_of_all, table, long}
 use Rattle.model.specs.Output.Orcrun.{run_lines, table_lines, input_lines, orcrun}
 use Rattle.model.specs.Machine.Limits.{paper}
-use Rattle.job.proofs.Test.{never, leb-le, le-leb, not-leb-lt, lt-not-leb}
+use Rattle.job.proofs.Test.{leb-le, le-leb, not-leb-lt, lt-not-leb}
 use Rattle.job.proofs.Accepted.{accepted-well-formed}
 use Rattle.model.proofs.Machine.StartAccepted.{words-construct}
 use Rattle.job.proofs.DeclinedAt.{declined-at}
 use Rattle.loader.specs.TableLoaded.{loaded, loaded_words}
-use Rattle.loader.specs.declared.table.Loaded.TheVariants.{Dag, Refused}
+use Rattle.std.specs.Prelude.{Ok, Err}
+use Rattle.entries.specs.Refusal.{number_of, refused_as}
+use Rattle.entries.specs.declared.refusal.Refused.{Refused}
+use Rattle.entries.proofs.RefusalNumbers.{clash, same-case, numbered}
 use Rattle.run.specs.Input.{table_end, dag_after}
 use Rattle.house.specs.LoadedDag.{Accepted}
 
 -- what was loaded is the reader's answer
-declined-of : (a : Answer) (n e : ℕ) → Refused n e ≡ loaded a → a ≡ declined n e
+declined-of : (a : Answer) (x : Refused) → Err x ≡ loaded a → (n : ℕ) × (e : ℕ) × (a ≡ declined n e) × (x ≡ refused_as n e)
 unfolding loaded
-declined-of (accepted p) n e q = never cc
-declined-of (declined m k) n e q = cc
+declined-of (accepted p) x q = clash (sym q)
+declined-of (declined n e) x q = (n, e, refl, same-case q)
 
-accepted-of : (a : Answer) (k : ℕ) → Dag k ≡ loaded a → (p : Program) × (a ≡ accepted p)
+accepted-of : (a : Answer) (k : ℕ) → Ok k ≡ loaded a → (p : Program) × (a ≡ accepted p)
 unfolding loaded
 accepted-of (accepted p) k q = (p, refl)
-accepted-of (declined m e) k q = never cc
+accepted-of (declined n e) k q = clash q
 
 module _ (s : List ℕ) where
   -- "the first 4 + 5N bytes, or all if there are fewer"
@@ -67,8 +70,12 @@ module _ (s : List ℕ) (end : ℕ) (is : end ≡ table_end s) where
   inside = let z = end-inside s _ refl in omega arith
 
   -- a declined table
-  pub entry-small : (n e : ℕ) → Refused n e ≡ loaded (read_table (take (end - 0) s)) → e ≤ 512
-  entry-small n e q = declined-at _ n e (declined-of _ n e q)
+  pub entry-small : (x : Refused) → Err x ≡ loaded (read_table (take (end - 0) s)) → x.entry ≤ 512
+  entry-small x q =
+      let d = declined-of _ x q in
+      let l = declined-at _ d.0 d.1 d.2 in
+      let e : x.entry ≡ d.1 = ap (λ (x : Refused). x.entry) d.3 in
+      omega arith
 
   module _ (short : length s ≤ 65536) where
     lines_are : input_lines paper 100000 s ≡ table_lines paper 100000 (drop (table_length s) s) (read_table (take (table_length s) s))
@@ -82,9 +89,14 @@ module _ (s : List ℕ) (end : ℕ) (is : end ≡ table_end s) where
         ap (λ (u : Answer). text_of_all (table_lines paper 100000 (drop (table_length s) s) u)) (sym (ap read_table (sym front) ∙ e))
         ∙ ap text_of_all (sym lines_are)
 
-    pub whole-table : (n e : ℕ) → Refused n e ≡ loaded (read_table (take (end - 0) s)) → text_of_all (table n e ∷ []) ≡ orcrun s
+    pub whole-table : (x : Refused) → Err x ≡ loaded (read_table (take (end - 0) s)) → (n : ℕ) → n ≡ number_of x.why
+        → text_of_all (table n x.entry ∷ []) ≡ orcrun s
     unfolding table_lines
-    whole-table n e q = text-is (declined n e) (declined-of _ n e q)
+    whole-table x q n en =
+        let d = declined-of _ x q in
+        let e : x.entry ≡ d.1 = ap (λ (x : Refused). x.entry) d.3 in
+        let m : n ≡ d.0 = en ∙ ap (λ (x : Refused). number_of x.why) d.3 ∙ numbered _ d.0 d.1 d.2 in
+        ap₂ (λ n e. text_of_all (table n e ∷ [])) m e ∙ text-is (declined d.0 d.1) d.2
 
     pub dag-loaded : (d after : List ℕ) → after ≡ loaded_words (read_table (take (end - 0) s)) d → after ≡ dag_after s d
     unfolding dag_after
@@ -92,7 +104,7 @@ module _ (s : List ℕ) (end : ℕ) (is : end ≡ table_end s) where
         e ∙ ap (λ (t : List ℕ). loaded_words (read_table t) d) front ∙ rw (le-leb (length s) 65536 short, dag_after) refl
 
     -- an accepted one
-    module _ (words before : List ℕ) (k : ℕ) (size : length before ≡ 12331) (q : Dag k ≡ loaded (read_table (take (end - 0) s)))
+    module _ (words before : List ℕ) (k : ℕ) (size : length before ≡ 12331) (q : Ok k ≡ loaded (read_table (take (end - 0) s)))
         (w : words ≡ loaded_words (read_table (take (end - 0) s)) before) where
       read : (p : Program) × (read_table (take (end - 0) s) ≡ accepted p)
       read = accepted-of _ k q

@@ -11,7 +11,7 @@ use house::house::run;
 use job::dag::WORDS;
 use lines::line::Line;
 use lines::shown::Window;
-use loader::table::{Loaded, load};
+use loader::table::load;
 
 // Shows a line of which the run has no other.
 fn show_alone(line: Line, output: &mut [u8], from: usize) -> usize
@@ -36,9 +36,10 @@ pub fn orcrun(input: &[u8], from: usize, dag: &mut [u32; WORDS], output: &mut [u
     let end = table_end(input);
     let answer = load(&input[0..end], dag);
     match answer {
-        Loaded::Refused(number, entry) => {
-            show_alone(Line::Table(number, entry as u32), output, from)
+        Err(refused) => {
+            let number = u8::from(refused.why);
+            show_alone(Line::Table(number, refused.entry as u32), output, from)
         }
-        Loaded::Dag(_) => run(&input[end..], dag, output, from),
+        Ok(_) => run(&input[end..], dag, output, from),
     }
 }

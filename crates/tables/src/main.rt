@@ -7,7 +7,6 @@ ghost use Rattle.std.specs.Prelude.{◌≤◌, length};
 use job::dag::{DEFINITION_COUNT, DEFINITIONS_START, HEAD_WORDS, ROW_WORDS, WORDS};
 use job::wide::wide;
 use loader::table;
-use loader::table::Loaded;
 use std::io;
 use streams::read_full;
 
@@ -40,8 +39,8 @@ fn rows(rt: &impl Print, dag: &[u32; WORDS], nodes: usize) -> io::Result<()> {
 fn show(rt: &impl Print, table: &[u8], dag: &mut [u32; WORDS]) -> io::Result<()> {
     let answer = table::load(table, dag);
     match answer {
-        Loaded::Refused(n, e) => print!(rt; "refused {n} {e}\n"),
-        Loaded::Dag(nodes) => {
+        Err(refused) => print!(rt; "refused {} {}\n", u8::from(refused.why), refused.entry),
+        Ok(nodes) => {
             print!(rt; "dag {nodes}\n")?;
             if nodes <= 1022 {
                 head(rt, dag)?;

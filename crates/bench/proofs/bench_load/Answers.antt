@@ -3,10 +3,10 @@ use mathlib.Core.Path.{sym, ◌∙◌}
 use Rattle.bench.proofs.LoadedTable.{count-accepted, count-refused}
 use Rattle.bench.proofs.bench_load.Goals as goal
 
-pub returns-in-Dag : goal.returns-in-Dag
-returns-in-Dag c = let load = c.load.ensures in
-    record { value = count-accepted _ _ (sym c.in-Dag.is ∙ load.value); dag_after = load.dag_after }
+pub returns-in-Ok : goal.returns-in-Ok
+returns-in-Ok c = let load = c.load.ensures in
+    record { value = count-accepted _ _ (sym c.in-Ok.is ∙ load.value); dag_after = load.dag_after }
 
-pub returns-in-Refused : goal.returns-in-Refused
-returns-in-Refused c = let load = c.load.ensures in
-    record { value = count-refused _ _ _ (sym c.in-Refused.is ∙ load.value); dag_after = load.dag_after }
+pub returns-in-Err : goal.returns-in-Err
+returns-in-Err c = let load = c.load.ensures in
+    record { value = count-refused _ _ (sym c.in-Err.is ∙ load.value); dag_after = load.dag_after }

@@ -1,6 +1,6 @@
 use Rattle.std.proofs.Common.{ap, drop, ◌∙◌}
 use Rattle.coded.specs.WordTests.{cell_coded}
-use Rattle.coded.proofs.WordTests.{row-at}
+use Rattle.job.proofs.Rows.{row-at}
 use Rattle.coded.proofs.IsRecordRows.{cell_row}
 use Rattle.coded.proofs.word_tests.cell_coded.Goals as goal
 

@@ -1,6 +1,6 @@
 -- The next 128 words are 32 rows of 4.
 use Rattle.std.proofs.Common.{arith, refl, drop, length-drop, ℕ}
-use Rattle.coded.proofs.WordTests.{cut-rows}
+use Rattle.job.proofs.Rows.{cut-rows}
 use Rattle.coded.proofs.word_tests.cells.Goals as goal
 
 pub returns : goal.returns

@@ -5,7 +5,8 @@ use Rattle.std.proofs.lemmas.Iterator.Search.{all_from_yields_List}
 use Rattle.job.specs.Test.{◌and◌}
 use Rattle.job.proofs.Test.{clash}
 use Rattle.coded.specs.WordTests.{row_coded}
-use Rattle.coded.proofs.WordTests.{bind_coded, binds-listed, cut-rows}
+use Rattle.coded.proofs.WordTests.{bind_coded, binds-listed}
+use Rattle.job.proofs.Rows.{cut-rows}
 use Rattle.coded.proofs.word_tests.row_coded.Goals.{then-state_coded, else-state_coded, then-held_coded, else-held_coded}
 use Rattle.coded.proofs.word_tests.row_coded.Goals as goal
 

@@ -1,6 +1,6 @@
 use Rattle.std.proofs.Common.{ap, ◌∙◌}
 use Rattle.coded.specs.WordTests.{row_coded}
-use Rattle.coded.proofs.WordTests.{row-at}
+use Rattle.job.proofs.Rows.{row-at}
 use Rattle.coded.proofs.word_tests.token_coded.Goals as goal
 
 pub returns : goal.returns

@@ -1,6 +1,6 @@
 -- The first 1,536 words are 64 rows of 24.
 use Rattle.std.proofs.Common.{arith, refl}
-use Rattle.coded.proofs.WordTests.{cut-rows}
+use Rattle.job.proofs.Rows.{cut-rows}
 use Rattle.coded.proofs.word_tests.tokens.Goals as goal
 
 pub returns : goal.returns

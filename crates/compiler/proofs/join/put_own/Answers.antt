@@ -2,13 +2,12 @@
 use Rattle.compiler.proofs.JoinLaws.{own-par, own-seq, own-prune}
 use Rattle.compiler.proofs.join.put_own.Goals as goal
 
-pub returns-then-kind-eq3 : goal.returns-then-kind-eq3
-returns-then-kind-eq3 c = search own-par
+pub returns-in-Par : goal.returns-in-Par
+returns-in-Par c = rw c.in-Par.is (own-par _ _ _ _ _ _ _ c.put.ensures)
 
-pub returns-then-kind-eq4 : goal.returns-then-kind-eq4
-returns-then-kind-eq4 c =
-    own-seq _ _ _ _ _ _ _ _ _ c.if-kind-eq3.false c.if-kind-eq4.true c.put-then-kind-eq4.ensures c.put-then-kind-eq4-2.ensures
+pub returns-in-Seq : goal.returns-in-Seq
+returns-in-Seq c = rw c.in-Seq.is (own-seq _ _ _ _ _ _ _ _ c.put-in-Seq.ensures c.put-in-Seq-2.ensures)
 
-pub returns : goal.returns
-returns c = own-prune _ _ _ _ _ _ _ _ _ _ c.if-kind-eq3.false c.if-kind-eq4.false c.put-2.ensures c.put-3.ensures
-    c.put-4.ensures
+pub returns-in-Prune : goal.returns-in-Prune
+returns-in-Prune c = rw c.in-Prune.is (own-prune _ _ _ _ _ _ _ _ _ c.put-in-Prune.ensures c.put-in-Prune-2.ensures
+    c.put-in-Prune-3.ensures)

@@ -1,16 +1,18 @@
 -- `plan::right_plan` meets its contract: a law for each kind of join. Assumes nothing.
-use native.Mathlib.Omega.{arith}
+use Rattle.job.specs.Entry.{is_binder}
+use Rattle.entries.specs.Kind.{join_meant}
 use Rattle.compiler.proofs.PlanLaws.{right-par, right-seq, right-prune}
 use Rattle.compiler.proofs.plan.right_plan.Goals as goal
 
-pub returns-then-kind-eq3 : goal.returns-then-kind-eq3
-returns-then-kind-eq3 c = λ l m. search right-par
+pub returns-in-Par : goal.returns-in-Par
+returns-in-Par c = λ l m. rw c.in-Par.is (right-par _ l m _ _ _)
 
-pub bind-inner-requires : goal.bind-inner-requires
-bind-inner-requires c = let h = c.requires.2 (omega arith) in (h, h)
+pub bind-requires : goal.bind-requires
+unfolding is_binder join_meant
+bind-requires c = let h = c.requires.room (rw c.in-Seq.is) in (h, h)
 
-pub returns-then-kind-eq4 : goal.returns-then-kind-eq4
-returns-then-kind-eq4 c = λ l m. let h = c.bind-inner.ensures l m in search right-seq
+pub returns-in-Seq : goal.returns-in-Seq
+returns-in-Seq c = λ l m. rw c.in-Seq.is (right-seq _ l m _ _ _ _ (c.bind.ensures l m))
 
-pub returns : goal.returns
-returns c = λ l m. search right-prune
+pub returns-in-Prune : goal.returns-in-Prune
+returns-in-Prune c = λ l m. rw c.in-Prune.is (right-prune _ l m _ _ _)

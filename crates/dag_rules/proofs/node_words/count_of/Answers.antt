@@ -1,22 +1,27 @@
--- `row::count_of` meets its contract, kind by kind. Assumes nothing.
-use mathlib.Core.Path.{sym}
+use mathlib.Core.Logic.{inl, inr}
+use Rattle.std.proofs.Common.{◌≡◌, ℕ, refl, ap, ap₂, ◌∙◌}
+use Rattle.job.specs.declared.dag.NodeKind.{NodeKind}
+use Rattle.job.specs.declared.dag.NodeKind.TheVariants as kinds
+use Rattle.job.specs.DagKinds.{word_of_kind}
 use Rattle.dag_rules.specs.NodeWords.{count_of}
-use Rattle.job.proofs.Both.{NoneBelow, none_below}
-use Rattle.dag_rules.proofs.NodeWords.{count_past}
 use Rattle.dag_rules.proofs.node_words.count_of.Goals as goal
 
-pub returns-in-0 : goal.returns-in-0
-unfolding count_of
-returns-in-0 c = rw c.in-0.is
+other : (k : NodeKind) (c : ℕ) → (k ≡ kinds.Site → ⊥) → (k ≡ kinds.Call → ⊥) → 0 ≡ count_of (word_of_kind k) c
+unfolding count_of word_of_kind
+other kinds.Stop c f g = refl
+other kinds.Site c f g = absurd (f refl)
+other kinds.Call c f g = absurd (g refl)
+other kinds.Fork c f g = refl
+other kinds.Assign c f g = refl
+other kinds.Remove c f g = refl
+other kinds.Where c f g = refl
+other kinds.Choke c f g = refl
+other kinds.Return c f g = refl
+other kinds.Publish c f g = refl
 
-pub returns-in-1 : goal.returns-in-1
-unfolding count_of
-returns-in-1 c = rw c.in-1.is
-
-pub returns-in-2 : goal.returns-in-2
-unfolding count_of
-returns-in-2 c = rw c.in-2.is
+pub returns-in-Site : goal.returns-in-Site
+unfolding count_of word_of_kind
+returns-in-Site c = elim c.in-Site.is [ inl e ↦ rw e | inr e ↦ rw e ]
 
 pub returns-in_default : goal.returns-in_default
-unfolding NoneBelow
-returns-in_default c = sym (count_past _ _ (none_below 3 _ c.in_default.in_default-own.rest))
+returns-in_default c = other _ _ c.in_default.not-Site c.in_default.not-Call

@@ -1,50 +1,45 @@
--- `row::head_holds` meets its contract, kind by kind. Assumes nothing.
-use mathlib.Core.Path.{sym}
+-- `head_holds` meets its contract, kind by kind.
 use Rattle.dag_rules.specs.NodeWords.{head_holds}
-use Rattle.job.proofs.Both.{both_is, three-are, NoneBelow, none_below}
-use Rattle.dag_rules.proofs.NodeWords.{head-past}
+use Rattle.job.specs.DagKinds.{word_of_kind}
+use Rattle.job.proofs.Both.{both_is, three-are}
 use Rattle.dag_rules.proofs.node_words.head_holds.Goals as goal
 
-pub returns-in-0 : goal.returns-in-0
-unfolding head_holds
-returns-in-0 c = rw c.in-0.is (three-are _ _ _)
+pub returns-in-Stop : goal.returns-in-Stop
+unfolding head_holds word_of_kind
+returns-in-Stop c = rw c.in-Stop.is (three-are _ _ _)
 
-pub returns-in-1 : goal.returns-in-1
-unfolding head_holds
-returns-in-1 c = rw (c.in-1.is, c.takes.ensures) (both_is _ _)
+pub returns-in-Site : goal.returns-in-Site
+unfolding head_holds word_of_kind
+returns-in-Site c = rw (c.in-Site.is, c.takes.ensures) (both_is _ _)
 
-pub returns-in-2 : goal.returns-in-2
-unfolding head_holds
-returns-in-2 c = rw c.in-2.is (three-are _ _ _)
+pub returns-in-Call : goal.returns-in-Call
+unfolding head_holds word_of_kind
+returns-in-Call c = rw c.in-Call.is (three-are _ _ _)
 
-pub returns-in-3 : goal.returns-in-3
-unfolding head_holds
-returns-in-3 c = rw c.in-3.is (three-are _ _ _)
+pub returns-in-Fork : goal.returns-in-Fork
+unfolding head_holds word_of_kind
+returns-in-Fork c = rw c.in-Fork.is (three-are _ _ _)
 
-pub returns-in-4 : goal.returns-in-4
-unfolding head_holds
-returns-in-4 c = rw c.in-4.is (three-are _ _ _)
+pub returns-in-Assign : goal.returns-in-Assign
+unfolding head_holds word_of_kind
+returns-in-Assign c = rw c.in-Assign.is (three-are _ _ _)
 
-pub returns-in-5 : goal.returns-in-5
-unfolding head_holds
-returns-in-5 c = rw c.in-5.is (three-are _ _ _)
+pub returns-in-Remove : goal.returns-in-Remove
+unfolding head_holds word_of_kind
+returns-in-Remove c = rw c.in-Remove.is (three-are _ _ _)
 
-pub returns-in-6 : goal.returns-in-6
-unfolding head_holds
-returns-in-6 c = rw c.in-6.is (three-are _ _ _)
+pub returns-in-Where : goal.returns-in-Where
+unfolding head_holds word_of_kind
+returns-in-Where c = rw c.in-Where.is (three-are _ _ _)
 
-pub returns-in-7 : goal.returns-in-7
-unfolding head_holds
-returns-in-7 c = rw c.in-7.is (three-are _ _ _)
+pub returns-in-Choke : goal.returns-in-Choke
+unfolding head_holds word_of_kind
+returns-in-Choke c = rw c.in-Choke.is (three-are _ _ _)
 
-pub returns-in-8 : goal.returns-in-8
-unfolding head_holds
-returns-in-8 c = rw c.in-8.is (three-are _ _ _)
+pub returns-in-Return : goal.returns-in-Return
+unfolding head_holds word_of_kind
+returns-in-Return c = rw c.in-Return.is (three-are _ _ _)
 
-pub returns-in-9 : goal.returns-in-9
-unfolding head_holds
-returns-in-9 c = rw c.in-9.is (three-are _ _ _)
-
-pub returns-in_default : goal.returns-in_default
-unfolding NoneBelow
-returns-in_default c = sym (head-past _ _ _ _ _ _ (none_below 10 _ c.in_default.in_default-own.rest))
+pub returns-in-Publish : goal.returns-in-Publish
+unfolding head_holds word_of_kind
+returns-in-Publish c = rw c.in-Publish.is (three-are _ _ _)

@@ -1,18 +1,25 @@
 -- `parameter::parameter_fault` meets its contract: there is a law for each way out of the tests. Assumes nothing.
-use Rattle.entries.proofs.ParameterLaws.{param_end, param-constant, param-other, param_in, param-out}
+use Rattle.std.proofs.lemmas.Result.{err_from_is_err_and}
+use Rattle.entries.proofs.ParameterLaws.{param_end, param-unknown, param-constant, param-other, param_in, param-out}
 use Rattle.entries.proofs.parameter.parameter_fault.Goals as goal
 
-pub returns-then-kinds-at : goal.returns-then-kinds-at
-returns-then-kinds-at c = λ l m. search param_end
+pub returns-then-len-at : goal.returns-then-len-at
+returns-then-len-at c = λ l m. search param_end
 
-pub returns-then-kind-eq8 : goal.returns-then-kind-eq8
-returns-then-kind-eq8 c = λ l m. search param-constant
+pub returns-in_err-kind : goal.returns-in_err-kind
+returns-in_err-kind c = λ l m.
+    let p = err_from_is_err_and c.from_residual.result c.from_residual.ensures.1 in
+    let h = c.in_err-kind.was in
+    rw (p.1, p.2) (search param-unknown)
 
-pub returns-then-kind-ne7 : goal.returns-then-kind-ne7
-returns-then-kind-ne7 c = λ l m. search param-other
+pub returns-in-Constant : goal.returns-in-Constant
+returns-in-Constant c = λ l m. let h = c.in_ok-kind.was in search param-constant
 
 pub returns-then-is_bound : goal.returns-then-is_bound
-returns-then-is_bound c = λ l m. let b = c.is_bound.ensures l m in search param_in
+returns-then-is_bound c = λ l m. let h = c.in_ok-kind.was in let b = c.is_bound.ensures l m in search param_in
 
-pub returns : goal.returns
-returns c = λ l m. let b = c.is_bound.ensures l m in search param-out
+pub returns-else-is_bound : goal.returns-else-is_bound
+returns-else-is_bound c = λ l m. let h = c.in_ok-kind.was in let b = c.is_bound.ensures l m in search param-out
+
+pub returns-in_default : goal.returns-in_default
+returns-in_default c = λ l m. let h = c.in_ok-kind.was in search (param-other, c.in_default.not-Constant, c.in_default.not-Variable)

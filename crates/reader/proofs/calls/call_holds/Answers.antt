@@ -1,9 +1,9 @@
--- `calls::call_holds` meets its contract: there is a law for each way out of the tests. Assumes nothing.
+-- `calls::call_holds` meets its contract: there is a law for each way out. Assumes nothing.
 use Rattle.reader.proofs.CallsLaws.{call-missing, call-counted}
 use Rattle.reader.proofs.calls.call_holds.Goals as goal
 
-pub returns-then-count-d : goal.returns-then-count-d
-returns-then-count-d c = search call-missing
+pub returns-in-Some : goal.returns-in-Some
+returns-in-Some c = let h = c.in-Some.ensures in call-counted _ _ h.lookup.0 _ (h.lookup.3.1 0)
 
-pub returns : goal.returns
-returns c = search call-counted
+pub returns-in-None : goal.returns-in-None
+returns-in-None c = let h = c.in-None.ensures in call-missing _ _ h.lookup.0

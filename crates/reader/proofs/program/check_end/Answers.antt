@@ -2,8 +2,8 @@
 use Rattle.reader.proofs.ProgramLaws.{end-left, end_none}
 use Rattle.reader.proofs.program.check_end.Goals as goal
 
-pub returns-then-at-kinds : goal.returns-then-at-kinds
-returns-then-at-kinds c = search end-left
+pub returns-then-at-len : goal.returns-then-at-len
+returns-then-at-len c = search end-left
 
 pub returns : goal.returns
 returns c = search end_none

@@ -1,42 +1,53 @@
 -- `program::check_program` meets its contract: there is a law for each way out, and the nodes are few enough for their sum to fit. Assumes
 -- nothing.
 use mathlib.Core.Path.{refl}
-use borrow.Author.Rules.{rules, Fits-under}
+use borrow.Author.Rules.{Fits-under}
 use mir.Syntax.{w64}
-use Rattle.reader.proofs.ProgramLaws.{program-refused, formals-long, goal-refused, all-few, sum-few, program-done}
+use Rattle.std.proofs.lemmas.Result.{err_from_is_err_and}
+use Rattle.reader.proofs.ProgramLaws.{program-refused, goal-refused, end-refused, calls-refused, all-few, sum-few, program-done}
 use Rattle.reader.proofs.program.check_program.Goals as goal
 
-pub check_expression-goal-requires : goal.check_expression-goal-requires
-check_expression-goal-requires c = (search rules, (_, c.of_formals-scope.ensures))
+pub returns-in_err-found-clause-value : goal.returns-in_err-found-clause-value
+returns-in_err-found-clause-value c =
+    let p = err_from_is_err_and c.from_residual.result c.from_residual.ensures.1 in
+    rw (p.1, p.2) (program-refused _ _ _ _ _ _ _ _ c.check_definitions.ensures _ c.in_err-found.was)
 
-pub check_calls-calls-requires : goal.check_calls-calls-requires
-check_calls-calls-requires c = record { parts = search rules; formals_len = (search formals-long, search rules) }
+pub returns-in_err-goal-clause-value : goal.returns-in_err-goal-clause-value
+returns-in_err-goal-clause-value c =
+    let p = err_from_is_err_and c.from_residual-in_err-goal.result c.from_residual-in_err-goal.ensures.1 in
+    let q = c.check_expression.ensures _ c.of_formals.ensures in
+    rw (p.1, p.2) (goal-refused _ _ _ _ _ _ _ _ c.check_definitions.ensures _ c.in_ok-found.was _ q _ c.in_err-goal.was)
 
-pub overflow_add-whole : goal.overflow_add-whole
-overflow_add-whole c = let q = c.check_expression-goal.ensures _ c.of_formals-scope.ensures in
-    let few = c.requires.parts.few in
+pub returns-in_err-check_end-clause-value : goal.returns-in_err-check_end-clause-value
+returns-in_err-check_end-clause-value c =
+    let p = err_from_is_err_and c.from_residual-in_err-check_end.result c.from_residual-in_err-check_end.ensures.1 in
+    let q = c.check_expression.ensures _ c.of_formals.ensures in
+    rw (p.1, p.2)
+    (end-refused _ _ _ _ _ _ _ _ c.check_definitions.ensures _ c.in_ok-found.was _ q _ c.in_ok-goal.was _ c.check_end.ensures _
+    c.in_err-check_end.was)
+
+pub returns-in_err-check_calls-clause-value : goal.returns-in_err-check_calls-clause-value
+returns-in_err-check_calls-clause-value c =
+    let p = err_from_is_err_and c.from_residual-in_err-check_calls.result c.from_residual-in_err-check_calls.ensures.1 in
+    let q = c.check_expression.ensures _ c.of_formals.ensures in
+    rw (p.1, p.2)
+    (calls-refused _ _ _ _ _ _ _ _ c.check_definitions.ensures _ c.in_ok-found.was _ q _ c.in_ok-goal.was _ c.check_end.ensures _
+    c.in_ok-check_end.was c.requires refl _ c.check_calls.ensures _ c.in_err-check_calls.was)
+
+pub overflow_add-result : goal.overflow_add-result
+overflow_add-result c =
+    let q = c.check_expression.ensures _ c.of_formals.ensures in
     Fits-under w64 _ 4096
-    (sum-few _ _ _ _ _ _ _ _ c.check_definitions-found.ensures _ _ c.in-Next.is _ _ _ q _ _
-    c.in-Next-goal.is few) tt
+    (sum-few _ _ _ _ _ _ _ _ c.check_definitions.ensures _ c.in_ok-found.was _ q _ c.in_ok-goal.was c.args.parts.fit.few) tt
 
-pub overflow_add-whole-in-Next-goal : goal.overflow_add-whole-in-Next-goal
-overflow_add-whole-in-Next-goal c = let q = c.check_expression-goal.ensures _ c.of_formals-scope.ensures in
-    let few = c.requires.parts.few in
+pub overflow_add-result-2 : goal.overflow_add-result-2
+overflow_add-result-2 c =
+    let q = c.check_expression.ensures _ c.of_formals.ensures in
     Fits-under w64 _ 4096
-    (all-few _ _ _ _ _ _ _ _ c.check_definitions-found.ensures _ _ c.in-Next.is _ _ _ q _ _
-    c.in-Next-goal.is few) tt
+    (all-few _ _ _ _ _ _ _ _ c.check_definitions.ensures _ c.in_ok-found.was _ q _ c.in_ok-goal.was c.args.parts.fit.few) tt
 
-pub returns-in-Refused : goal.returns-in-Refused
-returns-in-Refused c = record { value = search program-refused; sizes_after = search rules }
-
-pub returns-in-Refused-goal : goal.returns-in-Refused-goal
-returns-in-Refused-goal c = let q = c.check_expression-goal.ensures _ c.of_formals-scope.ensures in
-    record { value = search goal-refused; sizes_after = search rules }
-
-pub returns-in-Next-goal : goal.returns-in-Next-goal
-returns-in-Next-goal c = let q = c.check_expression-goal.ensures _ c.of_formals-scope.ensures in
-    let few = c.requires.definitions_bound in record {
-      value = program-done _ _ _ _ _ _ _ _ c.check_definitions-found.ensures _ _ c.in-Next.is _ q few refl _ _ _ _ _ _
-          c.in-Next-goal.is c.check_end-unread.ensures c.check_calls-calls.ensures c.after.ensures c.after-in-Next-goal.ensures;
-      sizes_after = c.check_definitions-found.ensures.counted;
-    }
+pub returns-clause-value : goal.returns-clause-value
+returns-clause-value c =
+    let q = c.check_expression.ensures _ c.of_formals.ensures in
+    program-done _ _ _ _ _ _ _ _ c.check_definitions.ensures _ c.in_ok-found.was _ q _ c.in_ok-goal.was _ c.check_end.ensures _
+    c.in_ok-check_end.was c.requires refl _ c.check_calls.ensures _ c.in_ok-check_calls.was

@@ -2,6 +2,7 @@
 -- nothing.
 use Rattle.reader.proofs.TableLaws.{table-short, table-uneven, table-definitions, table_empty, table-long}
 use Rattle.reader.proofs.TableLaws.{table-refused, table-accepted}
+use Rattle.std.proofs.lemmas.Result.{err_from_is_err_and}
 use Rattle.reader.proofs.table.check_table.Goals as goal
 
 pub returns-then-table-lt4 : goal.returns-then-table-lt4
@@ -34,18 +35,19 @@ returns-then-n-gt-ENTRY_LIMIT c =
     c.if-n-lt1.false c.if-n-gt-ENTRY_LIMIT.true in
     record { value = h.0; sizes_after = h.1 }
 
-pub returns-in-Refused : goal.returns-in-Refused
-returns-in-Refused c =
+pub returns-in_err-program : goal.returns-in_err-program
+returns-in_err-program c =
+    let p = err_from_is_err_and c.from_residual.result c.from_residual.ensures.1 in
     let h = table-refused _ _ _ c.if-table-lt4.false c.half-n.ensures.0 _ c.half-definitions.ensures.0 c.if-table-n.false
     c.if-definitions-gt-MOST_DEFINITIONS.false
-    c.if-n-lt1.false c.if-n-gt-ENTRY_LIMIT.false _ c.check_program-answer.ensures.value _ c.check_program-answer.ensures.sizes_after _ _
-    c.in-Refused.is in
-    record { value = h.0; sizes_after = h.1 }
+    c.if-n-lt1.false c.if-n-gt-ENTRY_LIMIT.false _ c.check_program.ensures.value _ c.check_program.ensures.sizes_after _
+    c.in_err-program.was in
+    record { value = rw (p.1, p.2) h.0; sizes_after = h.1 }
 
-pub returns-in-Next : goal.returns-in-Next
-returns-in-Next c =
+pub returns : goal.returns
+returns c =
     let h = table-accepted _ _ _ c.if-table-lt4.false c.half-n.ensures.0 _ c.half-definitions.ensures.0 c.if-table-n.false
     c.if-definitions-gt-MOST_DEFINITIONS.false
-    c.if-n-lt1.false c.if-n-gt-ENTRY_LIMIT.false _ c.check_program-answer.ensures.value _ c.check_program-answer.ensures.sizes_after _ _
-    c.in-Next.is in
+    c.if-n-lt1.false c.if-n-gt-ENTRY_LIMIT.false _ c.check_program.ensures.value _ c.check_program.ensures.sizes_after _
+    c.in_ok-program.was in
     record { value = h.0; sizes_after = h.1 }

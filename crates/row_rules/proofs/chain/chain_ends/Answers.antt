@@ -1,35 +1,39 @@
--- `chain::chain_ends` meets its contract: the chain from the place goes on with the links that are left. Assumes nothing.
-use mathlib.Core.Path.{sym, ◌∙◌, ap}
-use Prim.Native.Nat.{◌+◌, ◌-◌}
+-- The chain from the place goes on with the links that are left.
+use mathlib.Core.Logic.{inl, inr}
+use Rattle.std.proofs.Common.{◌∙◌, ap, sym, arith, refl, ◌+◌, ◌-◌, ◌<◌}
+use Rattle.std.proofs.lemmas.Bool.Decides.{nat_tests}
+use Rattle.job.specs.Test.{◌or◌}
+use Rattle.job.proofs.Test.{or_cases, eqb-eq, ltb-lt}
 use Rattle.model.specs.Machine.Rules.{chain_ends}
 use Rattle.record.specs.LayoutDecoded.{place_from}
 use Rattle.row_rules.proofs.RangeLaws.{no_place, at_place, nowhere}
 use Rattle.row_rules.proofs.ChainLaws.{ends-stop, ends-past, ends_on, ends_last}
-use borrow.Author.Rules.{rules}
 use Rattle.record.proofs.PlaceNumber.{place-back}
 use Rattle.row_rules.proofs.chain.chain_ends.Goals as goal
 
-pub returns-then-here-eq0 : goal.returns-then-here-eq0
-returns-then-here-eq0 c = let now = c.loop-i in
-    λ m h. ends-stop m.cells _ now.i h.shaped.cells (no_place c.if-here-eq0.true) ∙ sym (now.invariant.1 m h)
+pub returns-then-here : goal.returns-then-here
+unfolding ◌or◌
+returns-then-here c = λ m h.
+    let now = c.loop-link in
+    elim (or_cases _ _ c.if-here.true) [
+      | inl e ↦ ends-stop m.cells _ now._link h.shaped.cells (no_place (eqb-eq _ 0 e)) ∙ sym (now.invariant m h)
+      | inr e ↦
+          let far = ltb-lt 32 _ e in
+          ends-past m.cells _ now._link h.shaped.cells (now.here - 1) (at_place now.here _ (λ z. absurd (omega arith)) refl)
+          (omega arith) (omega arith)
+          ∙ sym (now.invariant m h)
+    ]
 
-pub returns-then-here-gt-CELL_PLACE_COUNT : goal.returns-then-here-gt-CELL_PLACE_COUNT
-returns-then-here-gt-CELL_PLACE_COUNT c = let now = c.loop-i in
-    λ m h.
-    ends-past m.cells _ now.i h.shaped.cells (now.here - 1) (at_place now.here _ c.if-here-eq0.false (search rules))
-    (search rules) (search rules)
-    ∙ sym (now.invariant.1 m h)
-
-pub loop-i-preserved : goal.loop-i-preserved
-loop-i-preserved c = let now = c.loop-i in (
-  search rules,
-  λ m h.
-      now.invariant.1 m h
-      ∙ ends_on m.cells _ now.i h.shaped.cells _
-      (at_place now.here _ c.if-here-eq0.false (ap (λ n. n - 1) c.wide-at.ensures)) (search rules)
-      ∙ ap (chain_ends m.cells (32 - (now.i + 1))) (sym (ap place_from (c.parent-here.ensures m h) ∙ place-back _)),
-)
+pub loop-link-preserved : goal.loop-link-preserved
+loop-link-preserved c = λ m h.
+    let now = c.loop-link in
+    let some : 0 < now.here = grind (arith, nat_tests) in
+    now.invariant m h
+    ∙ ends_on m.cells _ now._link h.shaped.cells _
+    (at_place now.here _ (λ z. absurd (omega arith)) (ap (λ n. n - 1) c.wide.ensures)) (omega arith)
+    ∙ ap (chain_ends m.cells (32 - (now._link + 1))) (sym (ap place_from (c.parent-here.ensures m h) ∙ place-back _))
 
 pub returns : goal.returns
-returns c = let last = c.loop-i in
-    λ m h. nowhere last.here ∙ ends_last m.cells _ last.i h.shaped.cells (search rules) ∙ sym (last.invariant.1 m h)
+returns c = λ m h.
+    let last = c.loop-link in
+    nowhere last.here ∙ ends_last m.cells _ last._link h.shaped.cells (omega arith) ∙ sym (last.invariant m h)

@@ -1,54 +1,73 @@
--- `node::node_rule` meets its contract: kind by kind. Assumes nothing.
-use mathlib.Core.Path.{◌∙◌, ap}
-use lib.Dec.{ltb}
-use native.Mathlib.Omega.{arith}
-use Rattle.model.specs.Machine.Rules.{node_rule}
+-- Kind by kind; a row of no kind has no rule.
+use Rattle.std.proofs.Common.{◌∙◌, ap, sym, ltb, Some}
+use Rattle.job.specs.DagKinds.{word_of_kind}
 use Rattle.job.specs.Words.{node_by}
+use Rattle.job.proofs.Both.{both}
+use Rattle.job.proofs.DagKinds.{kind-known, no-kind}
+use Rattle.model.specs.Machine.Rules.{node_rule}
 use Rattle.row_rules.proofs.NodeLaws.{rule-past}
 use Rattle.row_rules.proofs.RangeLaws.{place_is}
-use Rattle.job.proofs.Both.{both}
 use Rattle.row_rules.proofs.node.node_rule.Goals as goal
 
-pub returns-in-0 : goal.returns-in-0
-unfolding node_by node_rule
-returns-in-0 c = λ m h. rw c.in-0.is
-
-pub returns-in-1 : goal.returns-in-1
-unfolding node_by node_rule
-returns-in-1 c = λ m h. rw c.in-1.is (c.params_are_bound.ensures m h)
-
-pub returns-in-2 : goal.returns-in-2
-unfolding node_by node_rule
-returns-in-2 c = λ m h. rw c.in-2.is (c.params_are_bound-in-2.ensures m h)
-
-pub returns-in-3 : goal.returns-in-3
-unfolding node_by node_rule
-returns-in-3 c = λ m h. rw c.in-3.is
-
-pub returns-in-4 : goal.returns-in-4
-unfolding node_by node_rule
-returns-in-4 c = λ m h. rw c.in-4.is (c.value_if_ready.ensures m h)
-
-pub returns-in-5 : goal.returns-in-5
-unfolding node_by node_rule
-returns-in-5 c = λ m h. rw c.in-5.is (c.value_if_ready-in-5.ensures m h)
-
-pub returns-in-6 : goal.returns-in-6
-unfolding node_by node_rule
-returns-in-6 c = λ m h. rw c.in-6.is
-
-pub returns-in-7 : goal.returns-in-7
-unfolding node_by node_rule
-returns-in-7 c = λ m h.
-    rw c.in-7.is (both (ap (ltb 0) (c.cell.ensures m h) ∙ place_is _) (c.value_if_ready-in-7.ensures m h))
-
-pub returns-in-8 : goal.returns-in-8
-unfolding node_by node_rule
-returns-in-8 c = λ m h. rw c.in-8.is (both (c.names_frame.ensures m h) (c.value_if_ready-in-8.ensures m h))
-
-pub returns-in-9 : goal.returns-in-9
-unfolding node_by node_rule
-returns-in-9 c = λ m h. rw c.in-9.is (c.value_if_ready-in-9.ensures m h)
-
 pub returns-in_default : goal.returns-in_default
-returns-in_default c = λ m h. rule-past _ _ _ (omega arith)
+returns-in_default c = λ m h. rule-past _ _ _ (no-kind _ (sym c.from_word.ensures ∙ c.in_default.is))
+
+pub returns-in-Stop : goal.returns-in-Stop
+unfolding node_by node_rule word_of_kind
+returns-in-Stop c = λ m h.
+    let e = kind-known _ _ (sym c.from_word.ensures ∙ c.in-Some.is ∙ ap Some c.in-Stop.is) in
+    rw (← e)
+
+pub returns-in-Site : goal.returns-in-Site
+unfolding node_by node_rule word_of_kind
+returns-in-Site c = λ m h.
+    let e = kind-known _ _ (sym c.from_word.ensures ∙ c.in-Some.is ∙ ap Some c.in-Site.is) in
+    rw (← e) (c.params_are_bound.ensures m h)
+
+pub returns-in-Call : goal.returns-in-Call
+unfolding node_by node_rule word_of_kind
+returns-in-Call c = λ m h.
+    let e = kind-known _ _ (sym c.from_word.ensures ∙ c.in-Some.is ∙ ap Some c.in-Call.is) in
+    rw (← e) (c.params_are_bound-in-Call.ensures m h)
+
+pub returns-in-Fork : goal.returns-in-Fork
+unfolding node_by node_rule word_of_kind
+returns-in-Fork c = λ m h.
+    let e = kind-known _ _ (sym c.from_word.ensures ∙ c.in-Some.is ∙ ap Some c.in-Fork.is) in
+    rw (← e)
+
+pub returns-in-Assign : goal.returns-in-Assign
+unfolding node_by node_rule word_of_kind
+returns-in-Assign c = λ m h.
+    let e = kind-known _ _ (sym c.from_word.ensures ∙ c.in-Some.is ∙ ap Some c.in-Assign.is) in
+    rw (← e) (c.value_if_ready.ensures m h)
+
+pub returns-in-Remove : goal.returns-in-Remove
+unfolding node_by node_rule word_of_kind
+returns-in-Remove c = λ m h.
+    let e = kind-known _ _ (sym c.from_word.ensures ∙ c.in-Some.is ∙ ap Some c.in-Remove.is) in
+    rw (← e) (c.value_if_ready-in-Remove.ensures m h)
+
+pub returns-in-Where : goal.returns-in-Where
+unfolding node_by node_rule word_of_kind
+returns-in-Where c = λ m h.
+    let e = kind-known _ _ (sym c.from_word.ensures ∙ c.in-Some.is ∙ ap Some c.in-Where.is) in
+    rw (← e)
+
+pub returns-in-Choke : goal.returns-in-Choke
+unfolding node_by node_rule word_of_kind
+returns-in-Choke c = λ m h.
+    let e = kind-known _ _ (sym c.from_word.ensures ∙ c.in-Some.is ∙ ap Some c.in-Choke.is) in
+    rw (← e) (both (ap (ltb 0) (c.cell.ensures m h) ∙ place_is _) (c.value_if_ready-in-Choke.ensures m h))
+
+pub returns-in-Return : goal.returns-in-Return
+unfolding node_by node_rule word_of_kind
+returns-in-Return c = λ m h.
+    let e = kind-known _ _ (sym c.from_word.ensures ∙ c.in-Some.is ∙ ap Some c.in-Return.is) in
+    rw (← e) (both (c.names_frame.ensures m h) (c.value_if_ready-in-Return.ensures m h))
+
+pub returns-in-Publish : goal.returns-in-Publish
+unfolding node_by node_rule word_of_kind
+returns-in-Publish c = λ m h.
+    let e = kind-known _ _ (sym c.from_word.ensures ∙ c.in-Some.is ∙ ap Some c.in-Publish.is) in
+    rw (← e) (c.value_if_ready-in-Publish.ensures m h)

@@ -18,19 +18,17 @@ loop-x-init c = search rules
 
 pub loop-x-preserved : goal.loop-x-preserved
 unfolding slot_at
-loop-x-preserved c = let now = c.loop-x in
-    let p = c.args.p in (
-      search rules,
-      λ m h.
-          all-turn (slot_in_range 32) (token_at m.tokens p).binds now.x empty
-          (omega (arith, h.codes.shaped.binds p)) (now.invariant.1 m h)
-          (ap₂ (λ k n. not (eqb k 2) || ltb n 32) (c.bind_kind.ensures m h.codes) (c.bind_number.ensures m h.codes)
-          ∙ slot-in (slot_at (token_at m.tokens p).binds now.x) (h.slots p now.x)),
-    )
+loop-x-preserved c = λ m h.
+    let now = c.loop-x in
+    let p = c.args.p in
+    all-turn (slot_in_range 32) (token_at m.tokens p).binds now.x empty
+    (omega (arith, h.codes.shaped.binds p)) (now.invariant m h)
+    (ap₂ (λ k n. not (eqb k 2) || ltb n 32) (c.bind_kind.ensures m h.codes) (c.bind_number.ensures m h.codes)
+    ∙ slot-in (slot_at (token_at m.tokens p).binds now.x) (h.slots p now.x))
 
 pub returns : goal.returns
-returns c = let last = c.loop-x in
+returns c = λ m h.
+    let last = c.loop-x in
     let p = c.args.p in
-    λ m h.
     done (for_all (slot_in_range 32)) (token_at m.tokens p).binds last.x
-    (omega (arith, h.codes.shaped.binds p)) (last.invariant.1 m h)
+    (omega (arith, h.codes.shaped.binds p)) (last.invariant m h)

@@ -1,5 +1,4 @@
 use mathlib.Core.Path.{◌≡◌}
-use Prim.Native.Nat.{◌-◌, ◌≤◌}
 use lib.ListN.{take}
 use Rattle.model.specs.declared.token.Slot.{Slot}
 use Rattle.model.specs.declared.record.Machine.{Machine}
@@ -11,8 +10,4 @@ use Rattle.row_rules.proofs.range.binds_in_range.Given as goal
 
 abbrev pub invariant-loop-x : goal.invariant-loop-x
 invariant-loop-x l =
-    (l.x ≤ 8) × ((m : Machine) → ValuesFit l.w m → l.ok ≡ for_all (slot_in_range 32) (take l.x (token_at m.tokens
-    l.p).binds))
-
-abbrev pub decreases-loop-x : goal.decreases-loop-x
-decreases-loop-x l = 8 - l.x
+    (m : Machine) → ValuesFit l.w m → l.ok ≡ for_all (slot_in_range 32) (take l.x (token_at m.tokens l.p).binds)

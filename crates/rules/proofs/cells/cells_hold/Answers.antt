@@ -13,18 +13,17 @@ use Rattle.rules.proofs.cells.cells_hold.Goals as goal
 
 pub loop-i-init : goal.loop-i-init
 unfolding Rattle.job.specs.Test.for_all Rattle.model.specs.Machine.Rules.rest_is_blank Rattle.job.specs.Test.◌and◌
-loop-i-init c = (search rules, λ e k l. absurd (omega arith), λ m h l. search rules)
+loop-i-init c = (λ e k l. absurd (omega arith), λ m h l. search rules)
 
 pub loop-i-preserved : goal.loop-i-preserved
 unfolding cell_at
 loop-i-preserved c = let now = c.loop-i in (
-  search rules,
-  λ e. below_more _ _ (now.invariant.1 (first-true now.ok c.cell_holds-ok.result e))
+  λ e. below_more _ _ (now.invariant.0 (first-true now.ok c.cell_holds-ok.result e))
       (c.cell_holds-ok.ensures.0 (second-true now.ok c.cell_holds-ok.result e)),
   λ m h l.
       pass-turn (cell_rule m.cells) cell_is_blank c.args.used.now m.cells now.i blank_cell (omega arith)
       (omega (arith, h.codes.shaped.cells))
-      (now.invariant.2 m h l) (c.cell_holds-ok.ensures.1 m h),
+      (now.invariant.1 m h l) (c.cell_holds-ok.ensures.1 m h),
 )
 
 pub returns : goal.returns
@@ -35,13 +34,13 @@ returns c = let args = c.args in
     let blank = c.cells_are_blank in
     let e : last.i ≡ end.result = omega arith in (
       λ f.
-          before-and-behind last.i 32 (last.invariant.1 (first-true last.ok blank.result f))
+          before-and-behind last.i 32 (last.invariant.0 (first-true last.ok blank.result f))
           (λ k l. blank.ensures.0 (second-true last.ok blank.result f) k (omega arith)),
       λ m h l.
           pass-rest (cell_rule m.cells) cell_is_blank args.used.now m.cells blank_cell end.result
           (l ∙ sym h.codes.shaped.cells) (omega (arith, h.codes.shaped.cells))
           (λ i f b. end.ensures.upper_bound.1 i f (omega (arith, h.codes.shaped.cells)))
           (λ i. cell-blank m.cells (cell_at m.cells i))
-          (last.invariant.2 m h l ∙ ap (passed (cell_rule m.cells) cell_is_blank args.used.now m.cells) e)
+          (last.invariant.1 m h l ∙ ap (passed (cell_rule m.cells) cell_is_blank args.used.now m.cells) e)
           (blank.ensures.1 m h.codes),
     )

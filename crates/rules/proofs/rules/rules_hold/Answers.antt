@@ -24,6 +24,9 @@ returns-in_default c = record {
   rules = λ h e f. orders-break _ (machine_of c.args.w.now) (c.in_default.ensures (machine_of c.args.w.now) h);
 }
 
+pub tokens_hold-requires : goal.tokens_hold-requires
+tokens_hold-requires c = sym c.dag_holds.ensures ∙ c.if-not-dag_holds.false
+
 pub returns : goal.returns
 returns c = let args = c.args in
     let tokens = c.tokens_hold.result in

@@ -17,10 +17,10 @@ returns-then-input-gt65536 c =
 pub slice_bounds-load-end : goal.slice_bounds-load-end
 slice_bounds-load-end c = let z = inside _ _ c.table_end-end.ensures in search rules
 
-pub overflow_cast-entry : goal.overflow_cast-entry
-overflow_cast-entry c = let small = entry-small _ _
-    c.table_end-end.ensures _ _
-    (sym c.in-Refused.is ∙ c.load-answer.ensures.value) in search rules
+pub overflow_cast-refused : goal.overflow_cast-refused
+overflow_cast-refused c = let small = entry-small _ _
+    c.table_end-end.ensures _
+    (sym c.in-Err.is ∙ c.load-answer.ensures.value) in search rules
 
 pub slice_bounds-run-count : goal.slice_bounds-run-count
 slice_bounds-run-count c = let z = inside _ _ c.table_end-end.ensures in search rules
@@ -28,16 +28,16 @@ slice_bounds-run-count c = let z = inside _ _ c.table_end-end.ensures in search 
 pub run-requires : goal.run-requires
 run-requires c = (
   run-accepted _ _ c.table_end-end.ensures c.if-input-gt65536.false _ _ _ c.told-dag
-      (sym c.in-Dag.is ∙ c.load-answer.ensures.value) c.load-answer.ensures.dag_after,
+      (sym c.in-Ok.is ∙ c.load-answer.ensures.value) c.load-answer.ensures.dag_after,
   search rules,
 )
 
-pub returns-in-Refused : goal.returns-in-Refused
+pub returns-in-Err : goal.returns-in-Err
 unfolding told
-returns-in-Refused c =
-    let refused = sym c.in-Refused.is ∙ c.load-answer.ensures.value in
-    let whole = whole-table _ _ c.table_end-end.ensures c.if-input-gt65536.false _ _ refused in
-    let all = shown-all (shows-as (text-one _ ∙ whole) c.show_alone-in-Refused.ensures) in
+returns-in-Err c =
+    let refused = sym c.in-Err.is ∙ c.load-answer.ensures.value in
+    let whole = whole-table _ _ c.table_end-end.ensures c.if-input-gt65536.false _ refused _ c.from-number.ensures in
+    let all = shown-all (shows-as (text-one _ ∙ whole) c.show_alone-in-Err.ensures) in
     record {
       value = all.0;
       dag_after = dag-loaded _ _ c.table_end-end.ensures c.if-input-gt65536.false _ _
@@ -45,8 +45,8 @@ returns-in-Refused c =
       output_after = all.1;
     }
 
-pub returns-in-Dag : goal.returns-in-Dag
-returns-in-Dag c = let accepted = sym c.in-Dag.is ∙ c.load-answer.ensures.value in
+pub returns-in-Ok : goal.returns-in-Ok
+returns-in-Ok c = let accepted = sym c.in-Ok.is ∙ c.load-answer.ensures.value in
     let whole =
     whole_run _ _ c.table_end-end.ensures c.if-input-gt65536.false _ _ _ c.told-dag accepted c.load-answer.ensures.dag_after in
     let all = shown-all (shows-as whole c.run.ensures) in
