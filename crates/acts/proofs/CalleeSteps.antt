@@ -43,6 +43,8 @@ use Rattle.record.specs.Changes.{dequeued}
 use Rattle.sites.specs.Row.{node_in}
 use Rattle.acts.specs.Acting.{Acting}
 use Rattle.acts.specs.SharedFrames.{NamesAsCaller, OneCallee, caller_shared}
+use Rattle.reach.specs.declared.used.Marks.{Marks}
+use Rattle.writes.specs.declared.actor.Actor.{Actor}
 use Rattle.acts.proofs.Outcomes.{step_is}
 use Rattle.acts.proofs.StepAtNode.{call_step, call-full}
 use Rattle.acts.proofs.SharedFrames.{nowhere-at, blank-names, unshared, NoNewCallee, callees-kept, effect-callees}
@@ -74,28 +76,28 @@ mapped-names f g h [] i e = e
 mapped-names f g h (t ∷ ts) zero e = h t e
 mapped-names f g h (t ∷ ts) (suc i) e = mapped-names f g h ts i e
 
-module _ (s : List Bool) {ws dag : List ℕ} {used cells : List Bool} {place p at k : ℕ} {m : Machine}
-    (a : Acting ws used cells dag place p at k m) where
+module _ (s : List Bool) {ws dag : List ℕ} {used : Marks} {actor : Actor} {k : ℕ} {m : Machine}
+    (a : Acting ws used dag actor k m) where
   abbrev t : Token
-  t = token_at m.tokens p
+  t = token_at m.tokens actor.token
 
   abbrev n : Machine
-  n = dequeued m place
+  n = dequeued m actor.place
 
   abbrev Kept : Type 0
-  Kept = OneCallee s m → OneCallee s (Step.step paper (dag_of dag) m place).machine
+  Kept = OneCallee s m → OneCallee s (Step.step paper (dag_of dag) m actor.place).machine
 
-  stepped : After (NoNewCallee s m) (act paper (dag_of dag) m n p t (node_in dag at k)) → Kept
+  stepped : After (NoNewCallee s m) (act paper (dag_of dag) m n actor.token t (node_in dag actor.row k)) → Kept
   stepped h one = subst (λ (o : Outcome). OneCallee s o.machine) (sym (step_is a)) (effect-callees s m _ h one)
 
   -- the token is written anew with its caller
-  anew : (u : Token) → u.caller ≡ t.caller → NoNewCallee s m (put p u n)
+  anew : (u : Token) → u.caller ≡ t.caller → NoNewCallee s m (put actor.token u n)
   unfolding with_orders
-  anew u same = put-callees s m n refl p u (λ f e. sym same ∙ e)
+  anew u same = put-callees s m n refl actor.token u (λ f e. sym same ∙ e)
 
-  gone : NoNewCallee s m (put p blank_token n)
+  gone : NoNewCallee s m (put actor.token blank_token n)
   unfolding with_orders
-  gone = blank-callees s m n refl p
+  gone = blank-callees s m n refl actor.token
 
   -- one more token with the caller of this one, which is marked
   abbrev CallerMarked : Type 0
@@ -109,7 +111,7 @@ module _ (s : List Bool) {ws dag : List ℕ} {used cells : List Bool} {place p a
       go (inr w) = h f i e w.1
 
   -- no instruction gives a place that is not marked a callee, but a call that keeps a frame, and a return
-  does-callees : {N : Node} {e : Effect} → Does paper (dag_of dag) m n p t N e → (tokens_added (dag_of dag) N ≡ 1 → CallerMarked)
+  does-callees : {N : Node} {e : Effect} → Does paper (dag_of dag) m n actor.token t N e → (tokens_added (dag_of dag) N ≡ 1 → CallerMarked)
       → ((b : ℕ) (ps : List Param) (j : ℕ) → N ≡ Node.call b ps j → tokens_added (dag_of dag) N ≡ 0) → (N ≡ Node.return → ⊥)
       → After (NoNewCallee s m) e
   unfolding After tokens_added Step.ended Step.goes_on Step.waited Step.called_out Step.forked Step.split after_choke enqueue new_token new_cell
@@ -132,16 +134,17 @@ module _ (s : List Bool) {ws dag : List ℕ} {used cells : List Bool} {place p a
   does-callees (Does.chokes {c = c} e i) new call back = λ f i e. mapped-names f _ (choked-names m.cells c f) m.tokens i
 
 -- Steps that give no place a new callee
-module _ (s : List Bool) (dag : List ℕ) (place p at : ℕ) (m : Machine) where
+module _ (s : List Bool) (dag : List ℕ) (actor : Actor) (m : Machine) where
   abbrev pub StepKeeps : (k : ℕ) → Type 0
-  StepKeeps k = (ws : List ℕ) (used cells : List Bool) → Acting ws used cells dag place p at k m → OneCallee s m
-      → OneCallee s (Step.step paper (dag_of dag) m place).machine
+  StepKeeps k = (ws : List ℕ) (used : Marks) → Acting ws used dag actor k m → OneCallee s m
+      → OneCallee s (Step.step paper (dag_of dag) m actor.place).machine
 
   -- a node that adds no token, and is no return
-  keeps : (k : ℕ) → tokens_added (dag_of dag) (node_in dag at k) ≡ 0 → (node_in dag at k ≡ Node.return → ⊥) → StepKeeps k
-  keeps k none other ws used cells a =
+  keeps : (k : ℕ) → tokens_added (dag_of dag) (node_in dag actor.row k) ≡ 0 → (node_in dag actor.row k ≡ Node.return → ⊥) → StepKeeps k
+  keeps k none other ws used a =
       stepped s a
-      (does-callees s a (act-does paper (dag_of dag) m (dequeued m place) p (token_at m.tokens p) (node_in dag at k))
+      (does-callees s a (act-does paper (dag_of dag) m (dequeued m actor.place) actor.token (token_at m.tokens actor.token)
+      (node_in dag actor.row k))
       (λ e. absurd (omega arith)) (λ b ps j e. none) other)
 
   pub stop-keeps : StepKeeps 0
@@ -169,21 +172,22 @@ module _ (s : List Bool) (dag : List ℕ) (place p at : ℕ) (m : Machine) where
   publish-keeps = keeps 9 refl (λ e. never cc)
 
 -- A fork and a where mark the caller first
-module _ (s : List Bool) (dag : List ℕ) (place p at : ℕ) (m : Machine) where
+module _ (s : List Bool) (dag : List ℕ) (actor : Actor) (m : Machine) where
   abbrev u : List Bool
-  u = caller_shared (token_at m.tokens p).caller s
+  u = caller_shared (token_at m.tokens actor.token).caller s
 
   abbrev pub SplitKeeps : (k : ℕ) → Type 0
-  SplitKeeps k = (ws : List ℕ) (used cells : List Bool) → Acting ws used cells dag place p at k m → OneCallee s m
-      → OneCallee u (Step.step paper (dag_of dag) m place).machine
+  SplitKeeps k = (ws : List ℕ) (used : Marks) → Acting ws used dag actor k m → OneCallee s m
+      → OneCallee u (Step.step paper (dag_of dag) m actor.place).machine
 
-  split-keeps : (k : ℕ) → ((b : ℕ) (ps : List Param) (j : ℕ) → node_in dag at k ≡ Node.call b ps j → ⊥)
-      → (node_in dag at k ≡ Node.return → ⊥) → SplitKeeps k
-  split-keeps k call other ws used cells a one =
+  split-keeps : (k : ℕ) → ((b : ℕ) (ps : List Param) (j : ℕ) → node_in dag actor.row k ≡ Node.call b ps j → ⊥)
+      → (node_in dag actor.row k ≡ Node.return → ⊥) → SplitKeeps k
+  split-keeps k call other ws used a one =
       stepped u a
-      (does-callees u a (act-does paper (dag_of dag) m (dequeued m place) p (token_at m.tokens p) (node_in dag at k))
-      (λ new f e. (unshared (token_at m.tokens p).caller s f e).0) (λ b ps j e. absurd (call b ps j e)) other)
-      (callees-kept s u m m (λ f e. (unshared (token_at m.tokens p).caller s f e).1) (λ f i e a. a) one)
+      (does-callees u a (act-does paper (dag_of dag) m (dequeued m actor.place) actor.token (token_at m.tokens actor.token)
+      (node_in dag actor.row k))
+      (λ new f e. (unshared (token_at m.tokens actor.token).caller s f e).0) (λ b ps j e. absurd (call b ps j e)) other)
+      (callees-kept s u m m (λ f e. (unshared (token_at m.tokens actor.token).caller s f e).1) (λ f i e a. a) one)
 
   pub fork-keeps : SplitKeeps 3
   fork-keeps = split-keeps 3 (λ b ps j e. never cc) (λ e. never cc)
@@ -227,23 +231,25 @@ module _ (s : List Bool) (m : Machine) (p : ℕ) (none : (i : ℕ) → NamesAsCa
       go (inr x) (inr y) = fresh f i j e x y
 
 -- in tail position the token keeps its caller, and nobody names it still
-pub call-keeps : (s : List Bool) (dag : List ℕ) (place p at : ℕ) (m : Machine) (ws : List ℕ) (used cells : List Bool)
-    → Acting ws used cells dag place p at 2 m → ((i : ℕ) → NamesAsCaller m p i → ⊥) → OneCallee s m
-    → OneCallee (set s p false) (Step.step paper (dag_of dag) m place).machine
+pub call-keeps : (s : List Bool) (dag : List ℕ) (actor : Actor) (m : Machine) (ws : List ℕ) (used : Marks)
+    → Acting ws used dag actor 2 m → ((i : ℕ) → NamesAsCaller m actor.token i → ⊥) → OneCallee s m
+    → OneCallee (set s actor.token false) (Step.step paper (dag_of dag) m actor.place).machine
 unfolding tokens_added outcome accepted with_orders with_node with_state
-call-keeps s dag place p at m ws used cells a none one = go (is_tail (dag_of dag) k) refl (Step.has_token_place paper m) refl
+call-keeps s dag actor m ws used a none one = go (is_tail (dag_of dag) k) refl (Step.has_token_place paper m) refl
   where
     k : ℕ
-    k = get_or dag (at + 2) 0
+    k = get_or dag (actor.row + 2) 0
 
     go : (tail : Bool) → is_tail (dag_of dag) k ≡ tail → (room : Bool) → Step.has_token_place paper m ≡ room
-        → OneCallee (set s p false) (Step.step paper (dag_of dag) m place).machine
-    go true i room h = keeps (set s p false) dag place p at m 2 (ap unless_tail i) (λ e. never cc) ws used cells a (fresh s m p none one)
+        → OneCallee (set s actor.token false) (Step.step paper (dag_of dag) m actor.place).machine
+    go true i room h = keeps (set s actor.token false) dag actor m 2 (ap unless_tail i) (λ e. never cc) ws used a
+        (fresh s m actor.token none one)
     go false i true h =
-        subst (λ (o : Outcome). OneCallee (set s p false) o.machine) (sym (call_step dag place p at m _ h refl i a))
-        (swept-callees (set s p false) _ (called s m p none one (dequeued m place) _ _ _ refl refl refl))
+        subst (λ (o : Outcome). OneCallee (set s actor.token false) o.machine) (sym (call_step dag actor m _ h refl i a))
+        (swept-callees (set s actor.token false) _ (called s m actor.token none one (dequeued m actor.place) _ _ _ refl refl refl))
     go false i false h =
-        subst (λ (o : Outcome). OneCallee (set s p false) o.machine) (sym (call-full dag place p at m h i a)) (fresh s m p none one)
+        subst (λ (o : Outcome). OneCallee (set s actor.token false) o.machine) (sym (call-full dag actor m h i a))
+        (fresh s m actor.token none one)
 
 -- An answer leaves each token its caller
 pub answer_keeps : (s : List Bool) (d : Dag) (m : Machine) (h : ℕ) (v : ℤ) → OneCallee s m

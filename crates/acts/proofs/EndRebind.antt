@@ -14,7 +14,7 @@ use Rattle.job.specs.Test.{◌and◌, for_all}
 use Rattle.job.specs.Node.{is_node}
 use Rattle.job.specs.Words.{dag_of}
 use Rattle.model.specs.Machine.Blank.{blank_token, is_place, token_at, slot_at}
-use Rattle.model.specs.Machine.InUse.{tokens_used, cells_used, sweep}
+use Rattle.model.specs.Machine.InUse.{sweep}
 use Rattle.model.specs.Machine.Limits.{paper}
 use Rattle.model.specs.Machine.Reply.{accepted}
 use Rattle.model.specs.Machine.Rules.{node_rule, names_frame, held_in_range, place_in_range, slot_in_range, state_in_range, token_in_range}
@@ -36,16 +36,18 @@ use Rattle.demand3.proofs.Carried.{rebound-carried, ended-whole, ended-carried}
 use Rattle.record.specs.Changes.{dequeued}
 use Rattle.record.specs.Holds.{Holds}
 use Rattle.record.specs.Layout.{slot_kind, held_number, place_number}
-use Rattle.reach.specs.Marks.{Vacant}
+use Rattle.reach.specs.Marks.{MarksOf, Vacant}
 use Rattle.acts.specs.Acting.{Acting, Taking, Gives, plain}
 use Rattle.acts.specs.Links.{NoLinks}
+use Rattle.reach.specs.declared.used.Marks.{Marks}
+use Rattle.writes.specs.declared.actor.Actor.{Actor}
 use Rattle.acts.proofs.Outcomes.{gives_whole, token-inside, node-rule}
 use Rattle.sites.proofs.RuleFacts.{token-range}
 use Rattle.acts.proofs.Vacancy.{vacant-row}
 
 -- what `sweep` leaves
-abbrev pub Swept : Machine → List ℕ → List Bool → List Bool → Type 0
-Swept o ws used cells = Holds ws (sweep o) × (used ≡ tokens_used (sweep o)) × (cells ≡ cells_used (sweep o))
+abbrev pub Swept : Machine → List ℕ → Marks → Type 0
+Swept o ws used = Holds ws (sweep o) × MarksOf (sweep o) used
 
 -- a value's bits
 pub value-bits : (v : Held) → held_number v ≡ unsigned (value_of v)
@@ -53,46 +55,47 @@ unfolding value_of unsigned
 value-bits None = refl
 value-bits (Some v) = refl
 
-module _ {ws dag : List ℕ} {used cells : List Bool} {place p : ℕ} {m : Machine} (a : Taking ws used cells dag place p m) where
+module _ {ws dag : List ℕ} {used : Marks} {actor : Actor} {m : Machine} (a : Taking ws used dag actor m) where
   abbrev t : Token
-  t = token_at m.tokens p
+  t = token_at m.tokens actor.token
 
   -- an end
-  pub end-vacant : Vacant (put p blank_token (dequeued m place)) used cells
+  pub end-vacant : Vacant (put actor.token blank_token (dequeued m actor.place)) used
   unfolding put with_tables with_orders
   end-vacant = vacant-row a _ blank_token refl refl
 
   pub end-gives : {after : List ℕ} (reply : Reply) (r : Report) → r ≡ plain reply → NoLinks t
-      → Holds after (put p blank_token (dequeued m place))
-      → Gives (accepted reply [] (put p blank_token (dequeued m place))) m after (set used p false) cells r
+      → Holds after (put actor.token blank_token (dequeued m actor.place))
+      → Gives (accepted reply [] (put actor.token blank_token (dequeued m actor.place))) m after
+      (record { tokens = set used.tokens actor.token false; cells = used.cells }) r
   end-gives reply r e n h =
       let k = a.lawful.marks in
       gives_whole _ reply [] r refl (ap (λ (y : Report). y.reply) e) (ap (λ (y : Report). y.values) e) h
-      (ended-whole paper (dag_of dag) m a.lawful.rules place a.queued p a.token n.caller n.cell n.binds)
+      (ended-whole paper (dag_of dag) m a.lawful.rules actor.place a.queued actor.token a.token n.caller n.cell n.binds)
       (λ framed.
-      let c = ended-carried paper (dag_of dag) m a.lawful.rules place a.queued p a.token n.caller n.cell n.binds framed in
-      record { whole = c.whole; tokens = c.tokens ∙ ap (λ u. set u p false) (sym k.tokens); cells = c.cells ∙ sym k.cells })
+      let c = ended-carried paper (dag_of dag) m a.lawful.rules actor.place a.queued actor.token a.token n.caller n.cell n.binds framed in
+      record { whole = c.whole; tokens = c.tokens ∙ ap (λ u. set u actor.token false) (sym k.tokens); cells = c.cells ∙ sym k.cells })
 
   -- another binding
   module _ (x next : ℕ) (s : Slot) where
     abbrev rebound : Machine
-    rebound = enqueue p (put p (with_node next (with_binding x s t)) (dequeued m place))
+    rebound = enqueue actor.token (put actor.token (with_node next (with_binding x s t)) (dequeued m actor.place))
 
-    pub rebind-vacant : Vacant rebound used cells
+    pub rebind-vacant : Vacant rebound used
     unfolding put with_tables with_orders enqueue
     rebind-vacant = vacant-row a _ (with_node next (with_binding x s t)) refl refl
 
     pub rebind-gives : {after : List ℕ} (r : Report) → r ≡ plain replies.Done → ((c : ℕ) → slot_at t.binds x ≡ slots.Cell c → ⊥)
-        → ((c : ℕ) → s ≡ slots.Cell c → ⊥) → Holds after rebound → Gives (accepted replies.Done [] rebound) m after used cells r
+        → ((c : ℕ) → s ≡ slots.Cell c → ⊥) → Holds after rebound → Gives (accepted replies.Done [] rebound) m after used r
     rebind-gives r e n k h =
         let marks = a.lawful.marks in
-        let c = rebound-carried paper (dag_of dag) m a.lawful.rules place a.queued p a.token x s next n k in
+        let c = rebound-carried paper (dag_of dag) m a.lawful.rules actor.place a.queued actor.token a.token x s next n k in
         gives_whole _ replies.Done [] r refl (ap (λ (y : Report). y.reply) e) (ap (λ (y : Report). y.values) e) h c.whole
         (λ framed. record { whole = c.whole; tokens = c.tokens ∙ sym marks.tokens; cells = c.cells ∙ sym marks.cells })
 
   -- a return
   pub return-vacant : (f : ℕ)
-      → Vacant (enqueue p (put p (with_state states.Ready (with_value t.value (token_at m.tokens f))) (dequeued m place))) used cells
+      → Vacant (enqueue actor.token (put actor.token (with_state states.Ready (with_value t.value (token_at m.tokens f))) (dequeued m actor.place))) used
   unfolding put with_tables with_orders enqueue
   return-vacant f = vacant-row a _ (with_state states.Ready (with_value t.value (token_at m.tokens f))) refl refl
 
@@ -101,9 +104,9 @@ pub no_cell : (s : Slot) (k : ℕ) → k ≡ slot_kind s → (k ≡ 2 → ⊥) �
 no_cell s k e n c f = n (e ∙ ap slot_kind f)
 
 -- a call's outcome in other words
-pub gives_as : {x y : Outcome} {m : Machine} {ws : List ℕ} {used cells : List Bool} {r : Report} → y ≡ x → Gives x m ws used cells r
-    → Gives y m ws used cells r
-gives_as {x} {y} {m} {ws} {used} {cells} {r} e g = subst (λ o. Gives o m ws used cells r) (sym e) g
+pub gives_as : {x y : Outcome} {m : Machine} {ws : List ℕ} {used : Marks} {r : Report} → y ≡ x → Gives x m ws used r
+    → Gives y m ws used r
+gives_as {x} {y} {m} {ws} {used} {r} e g = subst (λ o. Gives o m ws used r) (sym e) g
 
 -- a place's number is 0 for none
 pub no_place : (q : Place) (n : ℕ) → n ≡ place_number q → n ≡ 0 → q ≡ None
@@ -122,43 +125,43 @@ unfolding names_frame is_place
 frame-place ts None e = clash e refl
 frame-place ts (Some p) e = refl
 
-module _ {ws dag : List ℕ} {used cells : List Bool} {place p : ℕ} {m : Machine} (a : Taking ws used cells dag place p m) where
-  range : token_in_range paper (dag_of dag) m.calls (token_at m.tokens p) ≡ true
-  range = token-range (dag_of dag) m a.lawful.rules p (token-inside a)
+module _ {ws dag : List ℕ} {used : Marks} {actor : Actor} {m : Machine} (a : Taking ws used dag actor m) where
+  range : token_in_range paper (dag_of dag) m.calls (token_at m.tokens actor.token) ≡ true
+  range = token-range (dag_of dag) m a.lawful.rules actor.token (token-inside a)
 
-  pub value-range : held_in_range (token_at m.tokens p).value ≡ true
+  pub value-range : held_in_range (token_at m.tokens actor.token).value ≡ true
   unfolding token_in_range
   value-range =
-      let u = token_at m.tokens p in
+      let u = token_at m.tokens actor.token in
       and_left _ _
       (and_right (for_all (slot_in_range 32) u.binds) _
       (and_right (eqb (length u.binds) 8) _ (and_right (is_node (dag_of dag) u.node) _ range)))
 
-  rest : (place_in_range 64 (token_at m.tokens p).caller
-      and (place_in_range 32 (token_at m.tokens p).cell and state_in_range 32 m.calls (token_at m.tokens p).state)) ≡ true
+  rest : (place_in_range 64 (token_at m.tokens actor.token).caller
+      and (place_in_range 32 (token_at m.tokens actor.token).cell and state_in_range 32 m.calls (token_at m.tokens actor.token).state)) ≡ true
   unfolding token_in_range
   rest =
-      let u = token_at m.tokens p in
+      let u = token_at m.tokens actor.token in
       and_right (held_in_range u.value) _
       (and_right (for_all (slot_in_range 32) u.binds) _
       (and_right (eqb (length u.binds) 8) _ (and_right (is_node (dag_of dag) u.node) _ range)))
 
-  pub caller-range : place_in_range 64 (token_at m.tokens p).caller ≡ true
+  pub caller-range : place_in_range 64 (token_at m.tokens actor.token).caller ≡ true
   caller-range = and_left _ _ rest
 
-  pub cell-range : place_in_range 32 (token_at m.tokens p).cell ≡ true
-  cell-range = and_left _ _ (and_right (place_in_range 64 (token_at m.tokens p).caller) _ rest)
+  pub cell-range : place_in_range 32 (token_at m.tokens actor.token).cell ≡ true
+  cell-range = and_left _ _ (and_right (place_in_range 64 (token_at m.tokens actor.token).caller) _ rest)
 
-module _ (dag : List ℕ) (place p at : ℕ) (m : Machine) {n : ℕ} where
-  pub return-caller : {ws : List ℕ} {used cells : List Bool} → Acting ws used cells dag place p at 8 m
-      → n ≡ place_number (token_at m.tokens p).caller
-      → (1 ≤ n) × (n - 1 < 64) × ((token_at m.tokens p).caller ≡ Some (n - 1))
+module _ (dag : List ℕ) (actor : Actor) (m : Machine) {n : ℕ} where
+  pub return-caller : {ws : List ℕ} {used : Marks} → Acting ws used dag actor 8 m
+      → n ≡ place_number (token_at m.tokens actor.token).caller
+      → (1 ≤ n) × (n - 1 < 64) × ((token_at m.tokens actor.token).caller ≡ Some (n - 1))
   unfolding node_rule
   return-caller a e = is-place _ n 64 (frame-place m.tokens _ (and_left _ _ (node-rule a))) (caller-range a.taking) e
 
-  pub choke-cell : {ws : List ℕ} {used cells : List Bool} → Acting ws used cells dag place p at 7 m
-      → n ≡ place_number (token_at m.tokens p).cell
-      → (1 ≤ n) × (n - 1 < 32) × ((token_at m.tokens p).cell ≡ Some (n - 1))
+  pub choke-cell : {ws : List ℕ} {used : Marks} → Acting ws used dag actor 7 m
+      → n ≡ place_number (token_at m.tokens actor.token).cell
+      → (1 ≤ n) × (n - 1 < 32) × ((token_at m.tokens actor.token).cell ≡ Some (n - 1))
   unfolding node_rule
   choke-cell a e = is-place _ n 32 (and_left _ _ (node-rule a)) (cell-range a.taking) e
 
@@ -181,11 +184,11 @@ pub empty-no-cell : (c : ℕ) → slots.Empty ≡ slots.Cell c → ⊥
 empty-no-cell c e = never cc
 
 -- the numbers of the node's row, as the code has them
-pub rebound-as : (m : Machine) (place p : ℕ) (s : Slot) {x i k j : ℕ} → x ≡ i → k ≡ j
-    → accepted replies.Done [] (enqueue p (put p (with_node k (with_binding x s (token_at m.tokens p))) (dequeued m place)))
-    ≡ accepted replies.Done [] (enqueue p (put p (with_node j (with_binding i s (token_at m.tokens p))) (dequeued m place)))
-rebound-as m place p s e f =
-    ap₂ (λ x k. accepted replies.Done [] (enqueue p (put p (with_node k (with_binding x s (token_at m.tokens p))) (dequeued m place)))) e f
+pub rebound-as : (m : Machine) (actor : Actor) (s : Slot) {x i k j : ℕ} → x ≡ i → k ≡ j
+    → accepted replies.Done [] (enqueue actor.token (put actor.token (with_node k (with_binding x s (token_at m.tokens actor.token))) (dequeued m actor.place)))
+    ≡ accepted replies.Done [] (enqueue actor.token (put actor.token (with_node j (with_binding i s (token_at m.tokens actor.token))) (dequeued m actor.place)))
+rebound-as m actor s e f =
+    ap₂ (λ x k. accepted replies.Done [] (enqueue actor.token (put actor.token (with_node k (with_binding x s (token_at m.tokens actor.token))) (dequeued m actor.place)))) e f
 
 pub reply-as : {x : Outcome} (o : Machine) {q r : Reply} → x ≡ accepted q [] o → q ≡ r → x ≡ accepted r [] o
 reply-as {x} o e f = e ∙ ap (λ y. accepted y [] o) f

@@ -33,17 +33,20 @@ use Rattle.record.specs.Changes.{dequeued}
 use Rattle.record.specs.Holds.{Holds}
 use Rattle.acts.specs.Acting.{Lawful, Taking, Acting, CallersAreFrames, Gives, plain}
 use Rattle.sites.specs.Row.{NodeRow, node_in}
+use Rattle.reach.specs.declared.used.Marks.{Marks}
+use Rattle.writes.specs.declared.actor.Actor.{Actor}
+use Rattle.reach.specs.Marks.{MarksOf}
 use Rattle.sites.proofs.RuleFacts.{tokens-size}
 use Rattle.sites.proofs.RowKinds.{node-is, row_inside}
 
 -- an accepted call after which blanking changes nothing
-pub gives_whole : {x : Outcome} {m : Machine} (o : Machine) (reply : Reply) (vs : List ℤ) {ws : List ℕ} {used cells : List Bool}
+pub gives_whole : {x : Outcome} {m : Machine} (o : Machine) (reply : Reply) (vs : List ℤ) {ws : List ℕ} {used : Marks}
     (r : Report)
     → x ≡ accepted reply vs o → r.reply ≡ reply → r.values ≡ report_values vs → Holds ws o → sweep o ≡ o
-    → (CallersAreFrames m → Carried o used cells)
-    → Gives x m ws used cells r
+    → (CallersAreFrames m → Carried o used.tokens used.cells)
+    → Gives x m ws used r
 unfolding accepted
-gives_whole {x} {m} o reply vs {ws} {used} {cells} r e f g h w k =
+gives_whole {x} {m} o reply vs {ws} {used} r e f g h w k =
     let after : x.machine ≡ o = ap (λ (y : Outcome). y.machine) e ∙ w in
     record {
       reply = f ∙ ap (λ (y : Outcome). y.reply) (sym e);
@@ -58,9 +61,9 @@ gives_whole {x} {m} o reply vs {ws} {used} {cells} r e f g h w k =
     }
 
 -- an accepted call whose record was swept
-pub gives-swept : {x : Outcome} {m : Machine} (o : Machine) (reply : Reply) {ws : List ℕ} {used cells : List Bool} (r : Report)
-    → x ≡ accepted reply [] o → r ≡ plain reply → Holds ws (sweep o) × (used ≡ tokens_used (sweep o)) × (cells ≡ cells_used (sweep o))
-    → Gives x m ws used cells r
+pub gives-swept : {x : Outcome} {m : Machine} (o : Machine) (reply : Reply) {ws : List ℕ} {used : Marks} (r : Report)
+    → x ≡ accepted reply [] o → r ≡ plain reply → Holds ws (sweep o) × MarksOf (sweep o) used
+    → Gives x m ws used r
 unfolding accepted
 gives-swept {x} o reply {ws} r e f h =
     let after : x.machine ≡ sweep o = ap (λ (y : Outcome). y.machine) e in
@@ -69,13 +72,17 @@ gives-swept {x} o reply {ws} r e f h =
       values = ap (λ (y : Report). y.values) f ∙ ap (λ (y : Outcome). y.values) (sym e);
       holds = subst (Holds ws) (sym after) h.0;
       marks =
-          λ framed. record { tokens = h.1 ∙ ap (λ n. tokens_used n) (sym after); cells = h.2 ∙ ap (λ n. cells_used n) (sym after) };
+          λ framed.
+          record {
+            tokens = h.1.tokens ∙ ap (λ n. tokens_used n) (sym after);
+            cells = h.1.cells ∙ ap (λ n. cells_used n) (sym after);
+          };
     }
 
 -- a refused call
-pub gives-refused : {x : Outcome} {ws dag : List ℕ} {used cells : List Bool} {m : Machine} (number : ℕ) (r : Report)
-    → Lawful ws used cells dag m → x ≡ outcome m (refuses number) → r ≡ plain (replies.Refused (refusal_of number))
-    → Gives x m ws used cells r
+pub gives-refused : {x : Outcome} {ws dag : List ℕ} {used : Marks} {m : Machine} (number : ℕ) (r : Report)
+    → Lawful ws used dag m → x ≡ outcome m (refuses number) → r ≡ plain (replies.Refused (refusal_of number))
+    → Gives x m ws used r
 unfolding outcome
 gives-refused {x} {ws} number r a e f =
     let after : x.machine ≡ _ = ap (λ (y : Outcome). y.machine) e in
@@ -93,9 +100,9 @@ gives-refused {x} {ws} number r a e f =
     }
 
 -- the token at a place of the queue
-module _ {ws dag : List ℕ} {used cells : List Bool} {place p : ℕ} {m : Machine} (a : Taking ws used cells dag place p m) where
+module _ {ws dag : List ℕ} {used : Marks} {actor : Actor} {m : Machine} (a : Taking ws used dag actor m) where
   abbrev t : Token
-  t = token_at m.tokens p
+  t = token_at m.tokens actor.token
 
   abbrev d : Dag
   d = dag_of dag
@@ -103,9 +110,9 @@ module _ {ws dag : List ℕ} {used cells : List Bool} {place p : ℕ} {m : Machi
   pub rules : EachRuleHolds paper d m
   rules = each-rule-holds paper d m a.lawful.rules
 
-  pub token-inside : p < 64
+  pub token-inside : actor.token < 64
   token-inside =
-      let l = (queue-rules-hold paper d m a.lawful.rules).named place a.queued in
+      let l = (queue-rules-hold paper d m a.lawful.rules).named actor.place a.queued in
       let n = tokens-size d m a.lawful.rules in
       let e = a.token in
       omega arith
@@ -113,53 +120,54 @@ module _ {ws dag : List ℕ} {used cells : List Bool} {place p : ℕ} {m : Machi
   pub token-ready : is_ready t.state ≡ true
   token-ready =
       subst (λ i. is_ready (token_at m.tokens i).state ≡ true) (sym a.token)
-      ((queue-rules-hold paper d m a.lawful.rules).ready place a.queued)
+      ((queue-rules-hold paper d m a.lawful.rules).ready actor.place a.queued)
 
   pub node-named : t.node < length d.nodes
   node-named =
       subst (λ i. (token_at m.tokens i).node < length d.nodes) (sym a.token)
-      (at-node paper d m a.lawful.rules _ ((queue-rules-hold paper d m a.lawful.rules).named place a.queued))
+      (at-node paper d m a.lawful.rules _ ((queue-rules-hold paper d m a.lawful.rules).named actor.place a.queued))
 
   -- the rule at its node
   pub token-rule : node_rule m.tokens t (node_at d t.node) ≡ true
   unfolding token_at
   token-rule =
       at-rule d m.tokens t (ready-not-blank _ token-ready)
-      (all-at (at_node d m.tokens) m.tokens p blank_token rules.nodes
+      (all-at (at_node d m.tokens) m.tokens actor.token blank_token rules.nodes
       (let n = tokens-size d m a.lawful.rules in let l = token-inside in omega arith))
 
   -- the step is what the instruction at its node does
-  pub step-at : Step.step paper d m place ≡ outcome m (act paper d m (dequeued m place) p t (node_at d t.node))
+  pub step-at : Step.step paper d m actor.place ≡ outcome m (act paper d m (dequeued m actor.place) actor.token t (node_at d t.node))
   unfolding Step.step takes unless
   step-at =
-      rw (a.lawful.rules, lt-ltb place m.queued a.queued, unless)
+      rw (a.lawful.rules, lt-ltb actor.place m.queued a.queued, unless)
       (ap
-      (λ i. outcome m (act paper d m (dequeued m place) i (token_at m.tokens i) (node_at d (token_at m.tokens i).node)))
+      (λ i. outcome m (act paper d m (dequeued m actor.place) i (token_at m.tokens i) (node_at d (token_at m.tokens i).node)))
       (sym a.token))
 
 -- .. and the words of its node's row
-module _ {ws dag : List ℕ} {used cells : List Bool} {place p at k : ℕ} {m : Machine} (a : Acting ws used cells dag place p at k m) where
-  pub row : NodeRow dag at k
+module _ {ws dag : List ℕ} {used : Marks} {actor : Actor} {k : ℕ} {m : Machine} (a : Acting ws used dag actor k m) where
+  pub row : NodeRow dag actor.row k
   row =
       record {
         size = a.taking.lawful.size;
         dag = (rules a.taking).dag;
-        node = (token_at m.tokens p).node;
+        node = (token_at m.tokens actor.token).node;
         inside = node-named a.taking;
         row = a.row;
         kind = a.kind;
       }
 
-  pub row_fits : at + 12 ≤ 12331
-  row_fits = row_inside dag at k row
+  pub row_fits : actor.row + 12 ≤ 12331
+  row_fits = row_inside dag actor.row k row
 
-  pub node_of : node_at (dag_of dag) (token_at m.tokens p).node ≡ node_in dag at k
+  pub node_of : node_at (dag_of dag) (token_at m.tokens actor.token).node ≡ node_in dag actor.row k
   unfolding row
-  node_of = node-is dag at k row
+  node_of = node-is dag actor.row k row
 
-  pub step_is : Step.step paper (dag_of dag) m place
-      ≡ outcome m (act paper (dag_of dag) m (dequeued m place) p (token_at m.tokens p) (node_in dag at k))
-  step_is = step-at a.taking ∙ ap (λ n. outcome m (act paper (dag_of dag) m (dequeued m place) p (token_at m.tokens p) n)) node_of
+  pub step_is : Step.step paper (dag_of dag) m actor.place
+      ≡ outcome m (act paper (dag_of dag) m (dequeued m actor.place) actor.token (token_at m.tokens actor.token) (node_in dag actor.row k))
+  step_is = step-at a.taking ∙ ap (λ n. outcome m
+      (act paper (dag_of dag) m (dequeued m actor.place) actor.token (token_at m.tokens actor.token) n)) node_of
 
-  pub node-rule : node_rule m.tokens (token_at m.tokens p) (node_in dag at k) ≡ true
-  node-rule = subst (λ n. node_rule m.tokens (token_at m.tokens p) n ≡ true) node_of (token-rule a.taking)
+  pub node-rule : node_rule m.tokens (token_at m.tokens actor.token) (node_in dag actor.row k) ≡ true
+  node-rule = subst (λ n. node_rule m.tokens (token_at m.tokens actor.token) n ≡ true) node_of (token-rule a.taking)

@@ -23,6 +23,7 @@ use Rattle.model.proofs.Machine.Blanking.{kept-marked, kept_free}
 use Rattle.model.proofs.Keeps.Clean.{tokens_of}
 use Rattle.acts.specs.Acting.{Lawful}
 use Rattle.acts.specs.SharedFrames.{NamesAsCaller, OneCallee, caller_shared}
+use Rattle.reach.specs.declared.used.Marks.{Marks}
 use Rattle.job.proofs.Lists.{replicate-at}
 use Rattle.model.proofs.Machine.TableRows.{token-same, token-other, token-outside}
 
@@ -113,5 +114,5 @@ module _ (s : List Bool) (m n : Machine) (same : n.tokens ≡ m.tokens) (p : ℕ
   blank-callees = put-callees blank_token (λ f e. absurd (nowhere-at f e))
 
 -- where every place is marked nothing is asked
-pub all-shared : {ws dag : List ℕ} {used cells : List Bool} {m : Machine} → Lawful ws used cells dag m → OneCallee (replicate 64 true) m
+pub all-shared : {ws dag : List ℕ} {used : Marks} {m : Machine} → Lawful ws used dag m → OneCallee (replicate 64 true) m
 all-shared l f i j e a b = clash (replicate-at 64 f true) e

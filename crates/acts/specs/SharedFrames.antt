@@ -6,6 +6,7 @@ use Rattle.model.specs.declared.reply.Outcome.{Outcome}
 use Rattle.model.specs.declared.reply.Report.{Report}
 use Rattle.model.specs.Machine.Held.{Place}
 use Rattle.acts.specs.Acting.{Gives, CallersAreFrames}
+use Rattle.reach.specs.declared.used.Marks.{Marks}
 
 -- the token at i names the one at f as its caller
 abbrev pub NamesAsCaller : Machine → (f i : ℕ) → Type 0
@@ -30,6 +31,6 @@ return_shared m f shared = elim (get_or shared f true) [ true ↦ caller_shared 
 
 -- a step's report, words and marks are those of an outcome; and so are the marks of what may have more than one callee, where callers are
 -- frames
-pub record Stepped (o : Outcome) (m : Machine) (ws : List ℕ) (used used_cells shared : List Bool) (r : Report) : Type 0 where
-  pub gives : Gives o m ws used used_cells r
+pub record Stepped (o : Outcome) (m : Machine) (ws : List ℕ) (used : Marks) (shared : List Bool) (r : Report) : Type 0 where
+  pub gives : Gives o m ws used r
   pub callees : CallersAreFrames m → OneCallee shared o.machine

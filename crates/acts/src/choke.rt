@@ -12,28 +12,27 @@ use model::record::Machine;
 use model::reply::{Reply, Report};
 use pruning::choke::written;
 use reach::marks::marked_end;
+use reach::used::Marks;
 use record::{cell, token};
 use sweep::sweep::sweep_to;
+use writes::actor::Actor;
 
 // "choke: set the cell; ..": "a token .. at choke [names] a cell".
 pub fn choke_cell(
     w: &mut [u32; Machine::WORDS],
-    tokens: &mut [bool; Machine::TOKENS],
-    cells: &mut [bool; Machine::CELLS],
+    marks: &mut Marks,
     dag: &[u32; WORDS],
-    place: usize,
-    p: usize,
-    at: usize,
+    actor: Actor,
 ) -> Report
-    requires { SomeMachine (Acting w.old tokens.old cells.old dag.now place p at 7) }
-    ensures { (m : Machine) → Acting w.old tokens.old cells.old dag.now place p at 7 m
-        → Gives (Step.step paper (dag_of dag.now) m place) m w.new tokens.new cells.new result }
+    requires { SomeMachine (Acting w.old marks.old dag.now actor 7) }
+    ensures { (m : Machine) → Acting w.old marks.old dag.now actor 7 m
+        → Gives (Step.step paper (dag_of dag.now) m actor.place) m w.new marks.new result }
 {
-    let c = wide(token::cell(w, p));
-    let kind = token::value_kind(w, p);
-    let value = token::value(w, p);
-    let end = marked_end(tokens);
-    written(w, place, c - 1, kind, value, end);
-    sweep_to(w, tokens, cells, end);
+    let c = wide(token::cell(w, actor.token));
+    let kind = token::value_kind(w, actor.token);
+    let value = token::value(w, actor.token);
+    let end = marked_end(&marks.tokens);
+    written(w, actor.place, c - 1, kind, value, end);
+    sweep_to(w, marks, end);
     plain(Reply::Done)
 }

@@ -16,65 +16,54 @@ use crate::report::plain;
 use job::dag::WORDS;
 use model::record::Machine;
 use model::reply::{Reply, Report};
+use reach::used::Marks;
 use record::token::value;
 use sites::number::signed;
 use sweep::sweep::sweep;
+use writes::actor::Actor;
 use writes::end::written;
 
 // Where it named nothing, nothing else can be out of reach.
-pub fn end(
-    w: &mut [u32; Machine::WORDS],
-    tokens: &mut [bool; Machine::TOKENS],
-    cells: &mut [bool; Machine::CELLS],
-    place: usize,
-    p: usize,
-    reply: Reply,
-) -> Report
-    requires { p < 64 }
-    ensures { (m : Machine) (dag : List ℕ) → Taking w.old tokens.old cells.old dag place p m
-        → Gives (accepted reply [] (put p blank_token (dequeued m place))) m w.new tokens.new cells.new result }
+pub fn end(w: &mut [u32; Machine::WORDS], marks: &mut Marks, actor: Actor, reply: Reply) -> Report
+    requires { actor.token < 64 }
+    ensures { (m : Machine) (dag : List ℕ) → Taking w.old marks.old dag actor m
+        → Gives (accepted reply [] (put actor.token blank_token (dequeued m actor.place))) m w.new marks.new result }
 {
-    let linked = names(w, p);
-    written(w, place, p);
+    let linked = names(w, actor.token);
+    written(w, actor);
     if linked {
-        sweep(w, tokens, cells);
-        return plain(reply);
+        sweep(w, marks);
+    } else {
+        marks.tokens[actor.token] = false;
     }
-    tokens[p] = false;
     plain(reply)
 }
 
 // Stop.
 pub fn stop(
     w: &mut [u32; Machine::WORDS],
-    tokens: &mut [bool; Machine::TOKENS],
-    cells: &mut [bool; Machine::CELLS],
+    marks: &mut Marks,
     dag: &[u32; WORDS],
-    place: usize,
-    p: usize,
-    at: usize,
+    actor: Actor,
 ) -> Report
-    requires { SomeMachine (Acting w.old tokens.old cells.old dag.now place p at 0) }
-    ensures { (m : Machine) → Acting w.old tokens.old cells.old dag.now place p at 0 m
-        → Gives (Step.step paper (dag_of dag.now) m place) m w.new tokens.new cells.new result }
+    requires { SomeMachine (Acting w.old marks.old dag.now actor 0) }
+    ensures { (m : Machine) → Acting w.old marks.old dag.now actor 0 m
+        → Gives (Step.step paper (dag_of dag.now) m actor.place) m w.new marks.new result }
 {
-    end(w, tokens, cells, place, p, Reply::Done)
+    end(w, marks, actor, Reply::Done)
 }
 
 // "publish reports its value"
 pub fn publish(
     w: &mut [u32; Machine::WORDS],
-    tokens: &mut [bool; Machine::TOKENS],
-    cells: &mut [bool; Machine::CELLS],
+    marks: &mut Marks,
     dag: &[u32; WORDS],
-    place: usize,
-    p: usize,
-    at: usize,
+    actor: Actor,
 ) -> Report
-    requires { SomeMachine (Acting w.old tokens.old cells.old dag.now place p at 9) }
-    ensures { (m : Machine) → Acting w.old tokens.old cells.old dag.now place p at 9 m
-        → Gives (Step.step paper (dag_of dag.now) m place) m w.new tokens.new cells.new result }
+    requires { SomeMachine (Acting w.old marks.old dag.now actor 9) }
+    ensures { (m : Machine) → Acting w.old marks.old dag.now actor 9 m
+        → Gives (Step.step paper (dag_of dag.now) m actor.place) m w.new marks.new result }
 {
-    let v = signed(value(w, p));
-    end(w, tokens, cells, place, p, Reply::Published(v))
+    let v = signed(value(w, actor.token));
+    end(w, marks, actor, Reply::Published(v))
 }

@@ -1,5 +1,5 @@
 // Assign, remove: "bind or empty the variable, go on".
-ghost use Rattle.std.specs.Prelude.{◌≡◌, ◌<◌, ℕ, List, []};
+ghost use Rattle.std.specs.Prelude.{◌≡◌, ◌+◌, ◌<◌, ◌≤◌, ℕ, [], get_or};
 ghost use Rattle.model.specs.Machine.Blank.{token_at};
 ghost use Rattle.model.specs.declared.record.Machine.{Machine};
 ghost use Rattle.record.specs.Changes.{dequeued};
@@ -20,36 +20,36 @@ use job::dag::{NAMED_NUMBER, NEXT_NODE, WORDS};
 use job::wide::wide;
 use model::record::Machine;
 use model::reply::{Reply, Report};
+use reach::used::Marks;
 use record::layout::{CELL_SLOT, EMPTY_SLOT, VALUE_SLOT};
 use record::token::{bind_kind, value};
 use sweep::sweep::sweep;
+use writes::actor::Actor;
 use writes::dag::dag_word;
 use writes::rebind::written;
 
 // What was bound before may have been the last to name a cell.
 fn rebind(
     w: &mut [u32; Machine::WORDS],
-    tokens: &mut [bool; Machine::TOKENS],
-    cells: &mut [bool; Machine::CELLS],
-    place: usize,
-    p: usize,
-    x: usize,
+    marks: &mut Marks,
+    dag: &[u32; WORDS],
+    actor: Actor,
     kind: u32,
     number: u32,
-    next: u32,
 ) -> Report
-    requires { (p < 64) × (x < 8) }
-    ensures { (m : Machine) (dag : List ℕ) (s : Slot) → Taking w.old tokens.old cells.old dag place p m
+    requires { (actor.token < 64) × (actor.row + 12 ≤ 12331) × (get_or dag.now (actor.row + 1) 0 < 8) }
+    ensures { let p = actor.token in (m : Machine) (s : Slot) → Taking w.old marks.old dag.now actor m
         → ((c : ℕ) → s ≡ slots.Cell c → ⊥) → slot_kind s ≡ kind → slot_number s ≡ number
-        → Gives (accepted replies.Done []
-        (enqueue p (put p (with_node next (with_binding x s (token_at m.tokens p))) (dequeued m place)))) m w.new
-        tokens.new cells.new result }
+        → Gives (accepted replies.Done [] (enqueue p
+        (put p (with_node (get_or dag.now (actor.row + 2) 0) (with_binding (get_or dag.now (actor.row + 1) 0) s (token_at m.tokens p)))
+        (dequeued m actor.place)))) m w.new marks.new result }
 {
-    let old = bind_kind(w, p, x);
-    written(w, place, p, x, kind, number, next);
+    let x = wide(dag_word(dag, actor.row + NAMED_NUMBER));
+    let next = dag_word(dag, actor.row + NEXT_NODE);
+    let old = bind_kind(w, actor.token, x);
+    written(w, actor, x, kind, number, next);
     if old == CELL_SLOT {
-        sweep(w, tokens, cells);
-        return plain(Reply::Done);
+        sweep(w, marks);
     }
     plain(Reply::Done)
 }
@@ -57,56 +57,28 @@ fn rebind(
 // Assign: the token's value.
 pub fn assign(
     w: &mut [u32; Machine::WORDS],
-    tokens: &mut [bool; Machine::TOKENS],
-    cells: &mut [bool; Machine::CELLS],
+    marks: &mut Marks,
     dag: &[u32; WORDS],
-    place: usize,
-    p: usize,
-    at: usize,
+    actor: Actor,
 ) -> Report
-    requires { SomeMachine (Acting w.old tokens.old cells.old dag.now place p at 4) }
-    ensures { (m : Machine) → Acting w.old tokens.old cells.old dag.now place p at 4 m
-        → Gives (Step.step paper (dag_of dag.now) m place) m w.new tokens.new cells.new result }
+    requires { SomeMachine (Acting w.old marks.old dag.now actor 4) }
+    ensures { (m : Machine) → Acting w.old marks.old dag.now actor 4 m
+        → Gives (Step.step paper (dag_of dag.now) m actor.place) m w.new marks.new result }
 {
-    let x = wide(dag_word(dag, at + NAMED_NUMBER));
-    let number = value(w, p);
-    rebind(
-        w,
-        tokens,
-        cells,
-        place,
-        p,
-        x,
-        VALUE_SLOT,
-        number,
-        dag_word(dag, at + NEXT_NODE),
-    )
+    let number = value(w, actor.token);
+    rebind(w, marks, dag, actor, VALUE_SLOT, number)
 }
 
 // Remove: nothing.
 pub fn remove(
     w: &mut [u32; Machine::WORDS],
-    tokens: &mut [bool; Machine::TOKENS],
-    cells: &mut [bool; Machine::CELLS],
+    marks: &mut Marks,
     dag: &[u32; WORDS],
-    place: usize,
-    p: usize,
-    at: usize,
+    actor: Actor,
 ) -> Report
-    requires { SomeMachine (Acting w.old tokens.old cells.old dag.now place p at 5) }
-    ensures { (m : Machine) → Acting w.old tokens.old cells.old dag.now place p at 5 m
-        → Gives (Step.step paper (dag_of dag.now) m place) m w.new tokens.new cells.new result }
+    requires { SomeMachine (Acting w.old marks.old dag.now actor 5) }
+    ensures { (m : Machine) → Acting w.old marks.old dag.now actor 5 m
+        → Gives (Step.step paper (dag_of dag.now) m actor.place) m w.new marks.new result }
 {
-    let x = wide(dag_word(dag, at + NAMED_NUMBER));
-    rebind(
-        w,
-        tokens,
-        cells,
-        place,
-        p,
-        x,
-        EMPTY_SLOT,
-        0,
-        dag_word(dag, at + NEXT_NODE),
-    )
+    rebind(w, marks, dag, actor, EMPTY_SLOT, 0)
 }

@@ -87,9 +87,7 @@ pub extern "C" fn bench_start(
     ensures words_after { words.new ≡ words_of_start (loaded_words (read_table table.now) dag.old) }
 {
     let nodes = bench_load(table, dag);
-    let mut tokens = [false; Machine::TOKENS];
-    let mut cells = [false; Machine::CELLS];
-    unchecked::start::start(words, &mut tokens, &mut cells, dag[GOAL]);
+    unchecked::start::start(words, dag[GOAL]);
     nodes
 }
 

@@ -8,7 +8,7 @@ use Prim.Native.Nat.{ℕ, suc, ◌+◌, ◌<◌, ◌≤◌}
 use lib.ListN.{length, get_or}
 use lib.Dec.{ltb}
 use lib.IntN.{ℤ, pos}
-use Rattle.std.specs.Prelude.{Result, Ok}
+use Rattle.std.specs.Prelude.{Result, Ok, Some}
 use Rattle.job.specs.Site.{BuiltinReply, gives, silent, later, due_time, at, is_builtin, builtin}
 use Rattle.sites.specs.declared.site.SiteReply.{SiteReply}
 use Rattle.sites.specs.SiteReply.{builtin_reply_of}
@@ -46,135 +46,137 @@ use Rattle.calls.specs.SiteCall.{Evaluated}
 use Rattle.calls.specs.TimedReply.{settled_due, settled_at}
 use Rattle.calls.specs.declared.rwait.TimedReply.{TimedReply}
 use Rattle.calls.specs.declared.rwait.TimedReply.TheVariants as settleds
+use Rattle.reach.specs.declared.used.Marks.{Marks}
+use Rattle.writes.specs.declared.actor.Actor.{Actor}
 use Rattle.acts.proofs.Outcomes.{gives_whole, row, node-rule}
 use Rattle.acts.proofs.StepAtNode.{site-step}
 
-module _ {ws dag : List ℕ} {used cells : List Bool} {place p : ℕ} {m : Machine} (a : Taking ws used cells dag place p m) where
+module _ {ws dag : List ℕ} {used : Marks} {actor : Actor} {m : Machine} (a : Taking ws used dag actor m) where
   abbrev t : Token
-  t = token_at m.tokens p
+  t = token_at m.tokens actor.token
 
   -- an instruction that left the marks
   marked : {x : Outcome} (o : Machine) (reply : Reply) (vs : List ℤ) {after : List ℕ} (r : Report) → x ≡ accepted reply vs o
       → r.reply ≡ reply
       → r.values ≡ report_values vs → Holds after o → Carried o (tokens_used m) (cells_used m)
-      → Gives x m after used cells r
+      → Gives x m after used r
   marked o reply vs r e f g h c =
       let k = a.lawful.marks in
       gives_whole o reply vs r e f g h c.whole
       (λ framed. record { whole = c.whole; tokens = c.tokens ∙ sym k.tokens; cells = c.cells ∙ sym k.cells })
 
-  pub wait-gives : {x : Outcome} (c : ℕ) {after : List ℕ} (r : Report) → x ≡ outcome m (Step.waited (dequeued m place) p t c)
+  pub wait-gives : {x : Outcome} (c : ℕ) {after : List ℕ} (r : Report) → x ≡ outcome m (Step.waited (dequeued m actor.place) actor.token t c)
       → r ≡ plain replies.Waits
-      → Holds after (delayed p (put p (with_state (states.Waiting c) t) (dequeued m place))) → Gives x m after used cells r
+      → Holds after (delayed actor.token (put actor.token (with_state (states.Waiting c) t) (dequeued m actor.place))) → Gives x m after used r
   unfolding outcome Step.waited put with_tables Update.queue_of Update.waits_of
   wait-gives c r e f h =
       marked _ replies.Waits [] r e (ap (λ (y : Report). y.reply) f) (ap (λ (y : Report). y.values) f) h
-      (waited-carried paper (dag_of dag) m a.lawful.rules place a.queued p a.token c _ _)
+      (waited-carried paper (dag_of dag) m a.lawful.rules actor.place a.queued actor.token a.token c _ _)
 
   pub reply-gives : {x : Outcome} (v : ℤ) (k j : ℕ) {after : List ℕ} (r : Report)
-      → x ≡ outcome m (Step.replied (dequeued m place) p t k (gives v)) → j ≡ k
-      → r ≡ plain replies.Done → Holds after (enqueue p (put p (with_node j (with_value (Some v) t)) (dequeued m place)))
-      → Gives x m after used cells r
+      → x ≡ outcome m (Step.replied (dequeued m actor.place) actor.token t k (gives v)) → j ≡ k
+      → r ≡ plain replies.Done → Holds after (enqueue actor.token (put actor.token (with_node j (with_value (Some v) t)) (dequeued m actor.place)))
+      → Gives x m after used r
   unfolding outcome Step.replied Step.goes_on
   reply-gives v k j {after} r e g f h =
       marked _ replies.Done [] r e (ap (λ (y : Report). y.reply) f) (ap (λ (y : Report). y.values) f)
-      (subst (λ i. Holds after (enqueue p (put p (with_node i (with_value (Some v) t)) (dequeued m place)))) g h)
-      (replied-carried paper (dag_of dag) m a.lawful.rules place a.queued p a.token k v)
+      (subst (λ i. Holds after (enqueue actor.token (put actor.token (with_node i (with_value (Some v) t)) (dequeued m actor.place)))) g h)
+      (replied-carried paper (dag_of dag) m a.lawful.rules actor.place a.queued actor.token a.token k v)
 
-  pub due-gives : {x : Outcome} (due k j : ℕ) {after : List ℕ} (r : Report) → x ≡ outcome m (moves (in_time (dequeued m place) p t k due))
-      → j ≡ k → r ≡ plain replies.Done → Holds after (in_time (dequeued m place) p t j due) → Gives x m after used cells r
+  pub due-gives : {x : Outcome} (due k j : ℕ) {after : List ℕ} (r : Report) → x ≡ outcome m (moves (in_time (dequeued m actor.place) actor.token t k due))
+      → j ≡ k → r ≡ plain replies.Done → Holds after (in_time (dequeued m actor.place) actor.token t j due) → Gives x m after used r
   unfolding outcome
   due-gives due k j {after} r e g f h =
       marked _ replies.Done [] r e (ap (λ (y : Report). y.reply) f) (ap (λ (y : Report). y.values) f)
-      (subst (λ i. Holds after (in_time (dequeued m place) p t i due)) g h)
-      (deferred-carried paper (dag_of dag) m a.lawful.rules place a.queued p a.token due k _)
+      (subst (λ i. Holds after (in_time (dequeued m actor.place) actor.token t i due)) g h)
+      (deferred-carried paper (dag_of dag) m a.lawful.rules actor.place a.queued actor.token a.token due k _)
 
   pub call-gives : {x : Outcome} (s i n k j h : ℕ) (vs : List ℤ) {after : List ℕ} (r : Report)
-      → x ≡ outcome m (Step.called_out (dequeued m place) p t s vs k) → h ≡ m.calls → i ≡ s → j ≡ k → n ≡ length vs
+      → x ≡ outcome m (Step.called_out (dequeued m actor.place) actor.token t s vs k) → h ≡ m.calls → i ≡ s → j ≡ k → n ≡ length vs
       → r.reply ≡ replies.Called h i n → r.values ≡ report_values vs
       → Holds after
-      (with_counts (suc h) m.lasttoken m.lastcell (put p (with_node j (with_state (states.Called h) t)) (dequeued m place)))
-      → Gives x m after used cells r
+      (with_counts (suc h) m.lasttoken m.lastcell (put actor.token (with_node j (with_state (states.Called h) t)) (dequeued m actor.place)))
+      → Gives x m after used r
   unfolding outcome Step.called_out with_orders
   call-gives s i n k j h vs {after} r e eh ei g l f v held =
       marked _ (replies.Called m.calls s (length vs)) vs r e
       (f ∙ ap₂ (λ x y. replies.Called x y n) eh ei ∙ ap (replies.Called m.calls s) l) v
       (subst₂ (λ x y. Holds after
-      (with_counts (suc x) m.lasttoken m.lastcell (put p (with_node y (with_state (states.Called x) t)) (dequeued m place)))) eh g
+      (with_counts (suc x) m.lasttoken m.lastcell (put actor.token (with_node y (with_state (states.Called x) t)) (dequeued m actor.place)))) eh g
       held)
-      (called-carried paper (dag_of dag) m a.lawful.rules place a.queued p a.token m.calls k (suc m.calls) m.lasttoken
+      (called-carried paper (dag_of dag) m a.lawful.rules actor.place a.queued actor.token a.token m.calls k (suc m.calls) m.lasttoken
       m.lastcell)
 
 -- what a site call does, by what was found
-module _ (dag : List ℕ) (place p from : ℕ) (m : Machine) where
+module _ (dag : List ℕ) (actor : Actor) (m : Machine) where
   abbrev word : ℕ → ℕ
-  word i = get_or dag (from + i) 0
+  word i = get_or dag (actor.row + i) 0
 
   abbrev mine : Token
-  mine = token_at m.tokens p
+  mine = token_at m.tokens actor.token
 
-  pub waits-at : {ws : List ℕ} {used cells : List Bool} → Acting ws used cells dag place p from 1 m → (c : ℕ)
-      → look m.cells mine.binds (params_at dag from) ≡ Step.unset c
-      → Step.step paper (dag_of dag) m place ≡ outcome m (Step.waited (dequeued m place) p mine c)
+  pub waits-at : {ws : List ℕ} {used : Marks} → Acting ws used dag actor 1 m → (c : ℕ)
+      → look m.cells mine.binds (params_at dag actor.row) ≡ Step.unset c
+      → Step.step paper (dag_of dag) m actor.place ≡ outcome m (Step.waited (dequeued m actor.place) actor.token mine c)
   unfolding call_site
   waits-at a c e =
-      site-step dag place p from m a ∙ ap (λ l. outcome m (call_site paper (dequeued m place) p mine (word 1) (word 2) l)) e
+      site-step dag actor m a ∙ ap (λ l. outcome m (call_site paper (dequeued m actor.place) actor.token mine (word 1) (word 2) l)) e
 
-  module _ {ws : List ℕ} {used cells : List Bool} {vs : List ℤ} (k : Evaluated ws used cells dag place p from vs m) where
+  module _ {ws : List ℕ} {used : Marks} {vs : List ℤ} (k : Evaluated ws used dag actor vs m) where
     by-site : Bool → Outcome
     by-site b =
         outcome m
         (elim b [
-          | true ↦ Step.replied (dequeued m place) p mine (word 2) (builtin (word 1) k.values)
+          | true ↦ Step.replied (dequeued m actor.place) actor.token mine (word 2) (builtin (word 1) k.values)
           | false ↦
-              unless (ltb (dequeued m place).calls 1000000) 13
-              (Step.called_out (dequeued m place) p mine (word 1) k.values (word 2))
+              unless (ltb (dequeued m actor.place).calls 1000000) 13
+              (Step.called_out (dequeued m actor.place) actor.token mine (word 1) k.values (word 2))
         ])
 
-    at-site : Step.step paper (dag_of dag) m place ≡ by-site (is_builtin (word 1))
+    at-site : Step.step paper (dag_of dag) m actor.place ≡ by-site (is_builtin (word 1))
     unfolding call_site by-site
     at-site =
-        site-step dag place p from m k.acting
-        ∙ ap (λ l. outcome m (call_site paper (dequeued m place) p mine (word 1) (word 2) l)) k.found
+        site-step dag actor m k.acting
+        ∙ ap (λ l. outcome m (call_site paper (dequeued m actor.place) actor.token mine (word 1) (word 2) l)) k.found
 
     says : (said : BuiltinReply) → word 1 < 8 → builtin (word 1) k.values ≡ said
-        → Step.step paper (dag_of dag) m place ≡ outcome m (Step.replied (dequeued m place) p mine (word 2) said)
+        → Step.step paper (dag_of dag) m actor.place ≡ outcome m (Step.replied (dequeued m actor.place) actor.token mine (word 2) said)
     unfolding by-site is_builtin
     says said l e =
-        at-site ∙ ap by-site (lt-ltb (word 1) 8 l) ∙ ap (λ y. outcome m (Step.replied (dequeued m place) p mine (word 2) y)) e
+        at-site ∙ ap by-site (lt-ltb (word 1) 8 l) ∙ ap (λ y. outcome m (Step.replied (dequeued m actor.place) actor.token mine (word 2) y)) e
 
     pub calls-out : 8 ≤ word 1 → m.calls < 1000000
-        → Step.step paper (dag_of dag) m place ≡ outcome m (Step.called_out (dequeued m place) p mine (word 1) k.values (word 2))
+        → Step.step paper (dag_of dag) m actor.place ≡ outcome m (Step.called_out (dequeued m actor.place) actor.token mine (word 1) k.values (word 2))
     unfolding by-site is_builtin unless with_orders
     calls-out l f =
         at-site
         ∙ ap by-site (le-not-ltb (word 1) 8 l)
-        ∙ ap (λ b. outcome m (unless b 13 (Step.called_out (dequeued m place) p mine (word 1) k.values (word 2))))
+        ∙ ap (λ b. outcome m (unless b 13 (Step.called_out (dequeued m actor.place) actor.token mine (word 1) k.values (word 2))))
         (lt-ltb m.calls 1000000 f)
 
-    pub calls-no-more : 8 ≤ word 1 → 1000000 ≤ m.calls → Step.step paper (dag_of dag) m place ≡ outcome m (refuses 13)
+    pub calls-no-more : 8 ≤ word 1 → 1000000 ≤ m.calls → Step.step paper (dag_of dag) m actor.place ≡ outcome m (refuses 13)
     unfolding by-site is_builtin unless with_orders
     calls-no-more l f =
         at-site
         ∙ ap by-site (le-not-ltb (word 1) 8 l)
-        ∙ ap (λ b. outcome m (unless b 13 (Step.called_out (dequeued m place) p mine (word 1) k.values (word 2))))
+        ∙ ap (λ b. outcome m (unless b 13 (Step.called_out (dequeued m actor.place) actor.token mine (word 1) k.values (word 2))))
         (le-not-ltb m.calls 1000000 f)
 
 -- all values were found
-pub values_of : {ws dag : List ℕ} {used cells : List Bool} {place p from : ℕ} {m : Machine} {r : Result (List ℤ) UnsetCell} {xs : List ℤ}
-    → Acting ws used cells dag place p from 1 m
-    → r ≡ look_up_of (look m.cells (token_at m.tokens p).binds (params_at dag from)) → r ≡ Ok xs
-    → Evaluated ws used cells dag place p from xs m
+pub values_of : {ws dag : List ℕ} {used : Marks} {actor : Actor} {m : Machine} {r : Result (List ℤ) UnsetCell} {xs : List ℤ}
+    → Acting ws used dag actor 1 m
+    → r ≡ look_up_of (look m.cells (token_at m.tokens actor.token).binds (params_at dag actor.row)) → r ≡ Ok xs
+    → Evaluated ws used dag actor xs m
 values_of a e f = let k = look-values _ e _ f in record { acting = a; values = k.0; found = k.1; padded = k.2 }
 
 -- as many values as parameters: "at a call no empty variable"
-pub values-count : {ws dag : List ℕ} {used cells : List Bool} {place p from : ℕ} {vs : List ℤ} {m : Machine}
-    → (k : Evaluated ws used cells dag place p from vs m) → get_or dag (from + 3) 0 ≡ length k.values
+pub values-count : {ws dag : List ℕ} {used : Marks} {actor : Actor} {vs : List ℤ} {m : Machine}
+    → (k : Evaluated ws used dag actor vs m) → get_or dag (actor.row + 3) 0 ≡ length k.values
 unfolding node_rule
-values-count {ws} {dag} {used} {cells} {place} {p} {from} {vs} {m} k =
-    let o = site-params dag from (row k.acting) in
-    sym (look-count m.cells (token_at m.tokens p).binds (params_at dag from) k.values (node-rule k.acting) k.found
-    ∙ params-count dag from o.size o.inside o.few)
+values-count {ws} {dag} {used} {actor} {vs} {m} k =
+    let o = site-params dag actor.row (row k.acting) in
+    sym (look-count m.cells (token_at m.tokens actor.token).binds (params_at dag actor.row) k.values (node-rule k.acting) k.found
+    ∙ params-count dag actor.row o.size o.inside o.few)
 
 -- "it is silent and the token ends"
 pub silent-ends : (m : Machine) (place p k : ℕ) → outcome m (Step.replied (dequeued m place) p (token_at m.tokens p) k silent)
@@ -212,13 +214,13 @@ module _ (m : Machine) (place p k : ℕ) where
   settled-does (later t) = settled-due (due_time m.clock t)
 
 -- a built-in's call, by what the code settled
-pub settles : {ws dag : List ℕ} {used cells : List Bool} {place p from : ℕ} {vs : List ℤ} {m : Machine}
-    → (k : Evaluated ws used cells dag place p from vs m) → {s : TimedReply} (u : TimedReply) → get_or dag (from + 1) 0 < 8
-    → s ≡ settled_at m.clock (builtin (get_or dag (from + 1) 0) k.values) → s ≡ u
-    → Step.step paper (dag_of dag) m place ≡ outcome m (settled_effect m place p (get_or dag (from + 2) 0) u)
-settles {dag = dag} {place = place} {p = p} {from = from} {m = m} k u l e f =
-    says dag place p from m k _ l refl
-    ∙ ap (outcome m) (settled-does m place p _ _ ∙ ap (settled_effect m place p _) (sym e ∙ f))
+pub settles : {ws dag : List ℕ} {used : Marks} {actor : Actor} {vs : List ℤ} {m : Machine}
+    → (k : Evaluated ws used dag actor vs m) → {s : TimedReply} (u : TimedReply) → get_or dag (actor.row + 1) 0 < 8
+    → s ≡ settled_at m.clock (builtin (get_or dag (actor.row + 1) 0) k.values) → s ≡ u
+    → Step.step paper (dag_of dag) m actor.place ≡ outcome m (settled_effect m actor.place actor.token (get_or dag (actor.row + 2) 0) u)
+settles {dag = dag} {actor = actor} {m = m} k u l e f =
+    says dag actor m k _ l refl
+    ∙ ap (outcome m) (settled-does m actor.place actor.token _ _ ∙ ap (settled_effect m actor.place actor.token _) (sym e ∙ f))
 
 -- what the code got is what the site says to all values
 pub replied-by : {s i : ℕ} (vs xs : List ℤ) (x : SiteReply) → i < 8 → xs ≡ report_values vs → s ≡ i

@@ -15,36 +15,35 @@ use job::dag::{CALL_LIMIT, NAMED_NUMBER, NEXT_NODE, PARAMETER_COUNT, WORDS};
 use job::site_parameters::BUILTIN_LIMIT;
 use model::record::Machine;
 use model::reply::{Refusal, Reply, Report};
+use reach::used::Marks;
 use record::count::calls_made;
 use sites::look::{UnsetCell, look_up};
 use sites::number::unsigned;
 use sites::site::builtin;
+use writes::actor::Actor;
 use writes::dag::dag_word;
 use writes::site_call::{call_out, due_later, reply, wait};
 
 // "13: outside call, all values there, after 1,000,000 such calls."
 fn outside(
     w: &mut [u32; Machine::WORDS],
-    tokens: &[bool; Machine::TOKENS],
-    cells: &[bool; Machine::CELLS],
+    marks: &Marks,
     dag: &[u32; WORDS],
-    place: usize,
-    p: usize,
-    at: usize,
+    actor: Actor,
     values: [i32; 4],
 ) -> Report
-    requires { SomeMachine (Evaluated w.old tokens.now cells.now dag.now place p at values) }
-    ensures { (m : Machine) → Evaluated w.old tokens.now cells.now dag.now place p at values m
-        → 8 ≤ get_or dag.now (at + 1) 0
-        → Gives (Step.step paper (dag_of dag.now) m place) m w.new tokens.now cells.now result }
+    requires { SomeMachine (Evaluated w.old marks.now dag.now actor values) }
+    ensures { (m : Machine) → Evaluated w.old marks.now dag.now actor values m
+        → 8 ≤ get_or dag.now (actor.row + 1) 0
+        → Gives (Step.step paper (dag_of dag.now) m actor.place) m w.new marks.now result }
 {
     let handle = calls_made(w);
     if CALL_LIMIT <= handle {
         return plain(Reply::Refused(Refusal::CallLimit));
     }
-    call_out(w, place, p, handle, dag_word(dag, at + NEXT_NODE));
-    let site = dag_word(dag, at + NAMED_NUMBER) as u16;
-    let count = dag_word(dag, at + PARAMETER_COUNT) as u8;
+    call_out(w, actor, handle, dag_word(dag, actor.row + NEXT_NODE));
+    let site = dag_word(dag, actor.row + NAMED_NUMBER) as u16;
+    let count = dag_word(dag, actor.row + PARAMETER_COUNT) as u8;
     Report {
         reply: Reply::Called(handle, site, count),
         values,
@@ -54,27 +53,24 @@ fn outside(
 // "A built-in replies and the token goes on, or it is silent and the token ends"; rwait replies in time.
 fn built_in(
     w: &mut [u32; Machine::WORDS],
-    tokens: &mut [bool; Machine::TOKENS],
-    cells: &mut [bool; Machine::CELLS],
+    marks: &mut Marks,
     dag: &[u32; WORDS],
-    place: usize,
-    p: usize,
-    at: usize,
+    actor: Actor,
     values: [i32; 4],
 ) -> Report
-    requires { SomeMachine (Evaluated w.old tokens.old cells.old dag.now place p at values) × (get_or dag.now (at + 1) 0 < 8) }
-    ensures { (m : Machine) → Evaluated w.old tokens.old cells.old dag.now place p at values m
-        → Gives (Step.step paper (dag_of dag.now) m place) m w.new tokens.new cells.new result }
+    requires { SomeMachine (Evaluated w.old marks.old dag.now actor values) × (get_or dag.now (actor.row + 1) 0 < 8) }
+    ensures { (m : Machine) → Evaluated w.old marks.old dag.now actor values m
+        → Gives (Step.step paper (dag_of dag.now) m actor.place) m w.new marks.new result }
 {
-    let said = builtin(dag_word(dag, at + NAMED_NUMBER), values[0], values[1]);
+    let said = builtin(dag_word(dag, actor.row + NAMED_NUMBER), values[0], values[1]);
     match settle(w, said) {
         TimedReply::Gives(v) => {
-            reply(w, place, p, unsigned(v), dag_word(dag, at + NEXT_NODE));
+            reply(w, actor, unsigned(v), dag_word(dag, actor.row + NEXT_NODE));
             plain(Reply::Done)
         }
-        TimedReply::Silent => end(w, tokens, cells, place, p, Reply::Done),
+        TimedReply::Silent => end(w, marks, actor, Reply::Done),
         TimedReply::Due(due) => {
-            due_later(w, place, p, due, dag_word(dag, at + NEXT_NODE));
+            due_later(w, actor, due, dag_word(dag, actor.row + NEXT_NODE));
             plain(Reply::Done)
         }
     }
@@ -82,26 +78,23 @@ fn built_in(
 
 pub fn site_call(
     w: &mut [u32; Machine::WORDS],
-    tokens: &mut [bool; Machine::TOKENS],
-    cells: &mut [bool; Machine::CELLS],
+    marks: &mut Marks,
     dag: &[u32; WORDS],
-    place: usize,
-    p: usize,
-    at: usize,
+    actor: Actor,
 ) -> Report
-    requires { SomeMachine (Acting w.old tokens.old cells.old dag.now place p at 1) }
-    ensures { (m : Machine) → Acting w.old tokens.old cells.old dag.now place p at 1 m
-        → Gives (Step.step paper (dag_of dag.now) m place) m w.new tokens.new cells.new result }
+    requires { SomeMachine (Acting w.old marks.old dag.now actor 1) }
+    ensures { (m : Machine) → Acting w.old marks.old dag.now actor 1 m
+        → Gives (Step.step paper (dag_of dag.now) m actor.place) m w.new marks.new result }
 {
-    let values = match look_up(w, dag, p, at) {
+    let values = match look_up(w, dag, actor.token, actor.row) {
         Ok(values) => values,
         Err(UnsetCell(cell)) => {
-            wait(w, place, p, cell);
+            wait(w, actor, cell);
             return plain(Reply::Waits);
         }
     };
-    if dag_word(dag, at + NAMED_NUMBER) < BUILTIN_LIMIT {
-        return built_in(w, tokens, cells, dag, place, p, at, values);
+    if dag_word(dag, actor.row + NAMED_NUMBER) < BUILTIN_LIMIT {
+        return built_in(w, marks, dag, actor, values);
     }
-    outside(w, tokens, cells, dag, place, p, at, values)
+    outside(w, marks, dag, actor, values)
 }

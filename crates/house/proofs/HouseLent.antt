@@ -16,7 +16,8 @@ use Rattle.model.specs.Machine.Start.{start_machine}
 use Rattle.model.specs.declared.record.Machine.{Machine}
 use Rattle.model.specs.declared.reply.Outcome.{Outcome}
 use Rattle.record.specs.Holds.{Codes, Holds}
-use Rattle.acts.specs.Acting.{SomeMachine, Lawful, Marks, QueueHasToken}
+use Rattle.reach.specs.Marks.{MarksOf}
+use Rattle.acts.specs.Acting.{SomeMachine, Lawful, QueueHasToken}
 use Rattle.acts.specs.SharedFrames.{OneCallee}
 use Rattle.acts.proofs.CalleeSteps.{start-callees}
 use Rattle.house.specs.LoadedDag.{Accepted}
@@ -24,6 +25,7 @@ use Rattle.house.specs.TurnLeaves.{TurnLeaves}
 use Rattle.lines.specs.LastLines.{last_lines}
 use Rattle.lines.specs.Shown.{ShowsBytes}
 use Rattle.turns.specs.Turn.{is_last, is_limit, turn_outcome}
+use Rattle.reach.specs.declared.used.Marks.{Marks}
 use Rattle.turns.proofs.TurnCases.{last_empty, last-ready, limit-empty, limit-ready, at-empty, at_ready, steps-empty, steps-ready}
 use Rattle.house.proofs.HouseRecords.{started, reached-start, reached-rules, reached-framed}
 use Rattle.house.proofs.HouseGoing.{Going, going-begins, going-last, going-limit, going-ends, going-turns}
@@ -32,14 +34,14 @@ some : (n : ℕ) → (n ≡ 0 → ⊥) → 0 < n
 some n f = omega arith
 
 -- the words and marks of a start
-pub lawful-start : {ws : List ℕ} {used cells : List Bool} (dag : List ℕ) → Accepted dag → length dag ≡ 12331
-    → Holds ws (start_machine paper (get_or dag 2 0)) × Marks used cells (start_machine paper (get_or dag 2 0))
-    → Lawful ws used cells dag (Start.start paper (dag_of dag)).machine
-lawful-start {ws} {used} {cells} dag A l s =
+pub lawful-start : {ws : List ℕ} {used : Marks} (dag : List ℕ) → Accepted dag → length dag ≡ 12331
+    → Holds ws (start_machine paper (get_or dag 2 0)) × MarksOf (start_machine paper (get_or dag 2 0)) used
+    → Lawful ws used dag (Start.start paper (dag_of dag)).machine
+lawful-start {ws} {used} dag A l s =
     record {
       holds = subst (λ (m : Machine). Holds ws m) (started dag A) s.0;
       rules = reached-rules dag A (reached-start dag A);
-      marks = subst (λ (m : Machine). Marks used cells m) (started dag A) s.1;
+      marks = subst (λ (m : Machine). MarksOf m used) (started dag A) s.1;
       size = l;
     }
 
@@ -47,15 +49,15 @@ pub started-callees : (shared : List Bool) (dag : List ℕ) → Accepted dag →
 started-callees shared dag A = subst (λ (m : Machine). OneCallee shared m) (started dag A) (start-callees shared _)
 
 module _ (dag rest before : List ℕ) (from : ℕ) where
-  pub record Lent (ws : List ℕ) (used cells shared : List Bool) (steps at total : ℕ) (output : List ℕ) : Type 0 where
+  pub record Lent (ws : List ℕ) (used : Marks) (shared : List Bool) (steps at total : ℕ) (output : List ℕ) : Type 0 where
     pub machine : Machine
     pub going : Going dag rest before from machine steps at total output
-    pub lawful : Lawful ws used cells dag machine
+    pub lawful : Lawful ws used dag machine
     pub callees : OneCallee shared machine
 
-  pub lent-begins : (shared : List Bool) {ws : List ℕ} {used cells : List Bool}
-      → Accepted dag × (length rest ≤ 65536) × Lawful ws used cells dag (Start.start paper (dag_of dag)).machine
-      → OneCallee shared (Start.start paper (dag_of dag)).machine → Lent ws used cells shared 0 0 0 before
+  pub lent-begins : (shared : List Bool) {ws : List ℕ} {used : Marks}
+      → Accepted dag × (length rest ≤ 65536) × Lawful ws used dag (Start.start paper (dag_of dag)).machine
+      → OneCallee shared (Start.start paper (dag_of dag)).machine → Lent ws used shared 0 0 0 before
   lent-begins shared s one =
       record {
         machine = (Start.start paper (dag_of dag)).machine;
@@ -68,8 +70,8 @@ module _ (dag rest before : List ℕ) (from : ℕ) where
   Whole after n = ShowsBytes before from 0 (text_of_all (run_lines paper 100000 (dag_of dag) rest)) after n
 
   -- each turn, by the tests that lead to it: `word` is the queue's count as the code has read it
-  module _ {ws : List ℕ} {used cells shared : List Bool} {steps at total : ℕ} {output : List ℕ}
-      (L : Lent ws used cells shared steps at total output)
+  module _ {ws : List ℕ} {used : Marks} {shared : List Bool} {steps at total : ℕ} {output : List ℕ}
+      (L : Lent ws used shared steps at total output)
       (word : ℕ) (reads : (m : Machine) → Codes ws m → word ≡ m.queued) where
     count : word ≡ L.machine.queued
     count = reads L.machine L.lawful.holds.codes
@@ -79,10 +81,10 @@ module _ (dag rest before : List ℕ) (from : ℕ) where
     turned = turn_outcome (dag_of dag) L.machine rest at
 
     -- what a turn that goes on leaves
-    under-way : {ws' output' : List ℕ} {used' cells' shared' : List Bool} {steps' at' n : ℕ} {ended : Bool}
+    under-way : {ws' output' : List ℕ} {used' : Marks} {shared' : List Bool} {steps' at' n : ℕ} {ended : Bool}
         → Going dag rest before from turned.machine steps' at' n output'
-        → TurnLeaves turned L.machine ws' used' cells' shared' output from total output' n ended
-        → Lent ws' used' cells' shared' steps' at' n output'
+        → TurnLeaves turned L.machine ws' used' shared' output from total output' n ended
+        → Lent ws' used' shared' steps' at' n output'
     under-way next given =
         let framed = reached-framed dag L.going.accepted L.going.reached in
         record {
@@ -115,15 +117,15 @@ module _ (dag rest before : List ℕ) (from : ℕ) where
         lent-there = let inside = L.going.inside in omega arith
 
         module _ {ws' output' : List ℕ} (n : ℕ)
-            (gives : (m : Machine) (d : List ℕ) (ks ss : List Bool) → Lawful ws used ks d m → OneCallee ss m → m.queued ≡ 0
-            → TurnLeaves (turn_outcome (dag_of d) m rest at) m ws' used ks ss output from total output' n false) where
-          delivered : TurnLeaves turned L.machine ws' used cells shared output from total output' n false
-          delivered = gives L.machine dag cells shared L.lawful L.callees none
+            (gives : (m : Machine) (d : List ℕ) (ss : List Bool) → Lawful ws used d m → OneCallee ss m → m.queued ≡ 0
+            → TurnLeaves (turn_outcome (dag_of d) m rest at) m ws' used ss output from total output' n false) where
+          delivered : TurnLeaves turned L.machine ws' used shared output from total output' n false
+          delivered = gives L.machine dag shared L.lawful L.callees none
 
           pub lent-delivers-less : (100000 - steps) + (length rest - (at + 8)) < (100000 - steps) + (length rest - at)
           lent-delivers-less = omega arith
 
-          pub lent-delivers : Lent ws' used cells shared steps (at + 8) n output'
+          pub lent-delivers : Lent ws' used shared steps (at + 8) n output'
           lent-delivers =
               under-way
               (going-turns dag rest before from L.going false unread refl false (limit-empty _ none _) refl turned refl false
@@ -146,16 +148,16 @@ module _ (dag rest before : List ℕ) (from : ℕ) where
           going-limit dag rest before from L.going false busy refl true (limit-ready _ ready steps true (sym (eq-eqb steps 100000 q)))
           refl s
 
-      has : QueueHasToken ws used cells dag 0 L.machine
+      has : QueueHasToken ws used dag 0 L.machine
       has = record { lawful = L.lawful; queued = some L.machine.queued ready }
 
-      pub lent-ready : SomeMachine (QueueHasToken ws used cells dag 0)
+      pub lent-ready : SomeMachine (QueueHasToken ws used dag 0)
       lent-ready = record { machine = L.machine; is = has }
 
-      module _ (under : steps ≡ 100000 → ⊥) {ws' output' : List ℕ} {used' cells' shared' : List Bool} (n : ℕ) (ended : Bool)
-          (gives : (m : Machine) (rs : List ℕ) (a : ℕ) → QueueHasToken ws used cells dag 0 m → OneCallee shared m
-          → TurnLeaves (turn_outcome (dag_of dag) m rs a) m ws' used' cells' shared' output from total output' n ended) where
-        stepped : TurnLeaves turned L.machine ws' used' cells' shared' output from total output' n ended
+      module _ (under : steps ≡ 100000 → ⊥) {ws' output' : List ℕ} {used' : Marks} {shared' : List Bool} (n : ℕ) (ended : Bool)
+          (gives : (m : Machine) (rs : List ℕ) (a : ℕ) → QueueHasToken ws used dag 0 m → OneCallee shared m
+          → TurnLeaves (turn_outcome (dag_of dag) m rs a) m ws' used' shared' output from total output' n ended) where
+        stepped : TurnLeaves turned L.machine ws' used' shared' output from total output' n ended
         stepped = gives L.machine rest at has L.callees
 
         abbrev below : false ≡ is_limit L.machine.queued steps
@@ -174,7 +176,7 @@ module _ (dag rest before : List ℕ) (from : ℕ) where
           pub lent-steps-less : (100000 - (steps + 1)) + (length rest - at) < (100000 - steps) + (length rest - at)
           lent-steps-less = let few = L.going.few in omega arith
 
-          pub lent-steps : Lent ws' used' cells' shared' (steps + 1) at n output'
+          pub lent-steps : Lent ws' used' shared' (steps + 1) at n output'
           lent-steps =
               under-way
               (going-turns dag rest before from L.going false busy refl false below refl turned refl ended stepped.over on-if

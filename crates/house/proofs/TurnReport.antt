@@ -23,6 +23,7 @@ use Rattle.lines.proofs.ShownBytes.{shows-as}
 use Rattle.lines.proofs.ReportLines.{tells-refusal}
 use Rattle.turns.specs.Turn.{has_line, is_over}
 use Rattle.house.specs.TurnLeaves.{TurnLeaves}
+use Rattle.reach.specs.declared.used.Marks.{Marks}
 
 -- a reply without a line prints nothing and refuses nothing
 pub silent : (r : Reply) (vs : List ℤ) → has_line r ≡ false → ([] ≡ text_of_all (reported_lines r vs)) × (false ≡ is_refused r)
@@ -33,11 +34,11 @@ silent (replies.Published v) vs e = clash refl e
 silent (replies.Called h s n) vs e = clash refl e
 silent (replies.Refused x) vs e = clash refl e
 
-module _ {o : Outcome} {m : Machine} {ws : List ℕ} {used cells shared : List Bool} {p : Report}
-    (g : Stepped o m ws used cells shared p) {before after : List ℕ}
+module _ {o : Outcome} {m : Machine} {ws : List ℕ} {used : Marks} {shared : List Bool} {p : Report}
+    (g : Stepped o m ws used shared p) {before after : List ℕ}
     {from total n : ℕ} {over : Bool} (ends : over ≡ is_over m.queued p.reply) where
   pub turned-shows : ShowsBytes before from total (text_of_all (reported_lines p.reply p.values)) after n → n ≤ total + 80
-      → TurnLeaves o m ws used cells shared before from total after n over
+      → TurnLeaves o m ws used shared before from total after n over
   turned-shows s few =
       record {
         holds = g.gives.holds;

@@ -6,7 +6,9 @@ use Rattle.model.specs.Output.Orcrun.{reported_lines}
 use Rattle.model.specs.declared.record.Machine.{Machine}
 use Rattle.model.specs.declared.reply.Outcome.{Outcome}
 use Rattle.record.specs.Holds.{Holds}
-use Rattle.acts.specs.Acting.{Marks, CallersAreFrames}
+use Rattle.reach.specs.Marks.{MarksOf}
+use Rattle.reach.specs.declared.used.Marks.{Marks}
+use Rattle.acts.specs.Acting.{CallersAreFrames}
 use Rattle.acts.specs.SharedFrames.{OneCallee}
 use Rattle.lines.specs.Shown.{ShowsBytes}
 use Rattle.turns.specs.Turn.{is_over}
@@ -15,11 +17,11 @@ use Rattle.turns.specs.Turn.{is_over}
 abbrev pub lines_from : Outcome → List Line
 lines_from o = reported_lines o.reply o.values
 
-pub record TurnLeaves (o : Outcome) (m : Machine) (ws : List ℕ) (used used_cells shared : List Bool) (output : List ℕ) (from total : ℕ)
+pub record TurnLeaves (o : Outcome) (m : Machine) (ws : List ℕ) (used : Marks) (shared : List Bool) (output : List ℕ) (from total : ℕ)
     (after : List ℕ) (next : ℕ) (ended : Bool)
     : Type 0 where
   pub holds : Holds ws o.machine
-  pub marks : CallersAreFrames m → Marks used used_cells o.machine
+  pub marks : CallersAreFrames m → MarksOf o.machine used
   pub callees : CallersAreFrames m → OneCallee shared o.machine
   pub lines : ShowsBytes output from total (text_of_all (lines_from o)) after next
   pub few : next ≤ total + 80

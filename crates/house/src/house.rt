@@ -16,6 +16,7 @@ use job::dag::{GOAL, WORDS};
 use lines::line::Line;
 use lines::shown::Window;
 use model::record::Machine;
+use reach::used::Marks;
 use record::order::{self, Queue};
 use unchecked::start::start;
 
@@ -25,15 +26,14 @@ const STEPS: u32 = 100000;
 // The turns of a run, from the record of its start.
 fn run_turns(
     w: &mut [u32; Machine::WORDS],
-    tokens: &mut [bool; Machine::TOKENS],
-    cells: &mut [bool; Machine::CELLS],
+    marks: &mut Marks,
     shared: &mut [bool; Machine::TOKENS],
     rest: &[u8],
     dag: &[u32; WORDS],
     output: &mut [u8],
     from: usize,
 ) -> usize
-    requires accepted { Accepted dag.now × (length rest.now ≤ 65536) × Lawful w.old tokens.old cells.old dag.now
+    requires accepted { Accepted dag.now × (length rest.now ≤ 65536) × Lawful w.old marks.old dag.now
         (Start.start paper (dag_of dag.now)).machine }
     requires one_callee { OneCallee shared.old (Start.start paper (dag_of dag.now)).machine }
     ensures { ShowsBytes output.old from 0 (text_of_all (run_lines paper 100000 (dag_of dag.now) rest.now))
@@ -49,7 +49,7 @@ fn run_turns(
                 window.show_last(left, steps);
                 return window.total();
             }
-            deliver_turn(w, tokens, rest, at, &mut window);
+            deliver_turn(w, marks, rest, at, &mut window);
             at += 8;
             continue;
         }
@@ -57,7 +57,7 @@ fn run_turns(
             window.show_limit(steps);
             return window.total();
         }
-        if step_turn(w, tokens, cells, shared, dag, &mut window) {
+        if step_turn(w, marks, shared, dag, &mut window) {
             window.show_line(Line::End(steps));
             return window.total();
         }
@@ -71,14 +71,11 @@ pub fn run(rest: &[u8], dag: &[u32; WORDS], output: &mut [u8], from: usize) -> u
         output.new result }
 {
     let mut words = [0u32; Machine::WORDS];
-    let mut tokens = [false; Machine::TOKENS];
-    let mut cells = [false; Machine::CELLS];
     let mut shared = [false; Machine::TOKENS];
-    start(&mut words, &mut tokens, &mut cells, dag[GOAL]);
+    let mut marks = start(&mut words, dag[GOAL]);
     run_turns(
         &mut words,
-        &mut tokens,
-        &mut cells,
+        &mut marks,
         &mut shared,
         rest,
         dag,

@@ -16,6 +16,7 @@ use lines::shown::Window;
 use model::record::Machine;
 use model::reply::Refusal;
 use reach::marks::few_or_all;
+use reach::used::Marks;
 use turns::deliver::deliver;
 use turns::reply::{has_line, is_refused};
 use unchecked::step::step;
@@ -45,7 +46,7 @@ fn show_declined(number: u8, window: &mut Window)
 // "With the queue empty it delivers a record"; a refused answer or clock move doesn't end the run.
 pub(crate) fn deliver_turn(
     w: &mut [u32; Machine::WORDS],
-    tokens: &[bool; Machine::TOKENS],
+    marks: &Marks,
     rest: &[u8],
     at: usize,
     window: &mut Window,
@@ -53,38 +54,35 @@ pub(crate) fn deliver_turn(
     requires { (at + 8 ≤ length rest.now) × (window.old.total + 80 ≤ 1000000000) }
     ensures same_reference { window.new.output.ghost_name ≡ window.old.output.ghost_name }
     ensures from { window.new.from ≡ window.old.from }
-    ensures leaves { (m : Machine) (dag : List ℕ) (cells shared : List Bool) → Lawful w.old tokens.now cells dag m
+    ensures leaves { (m : Machine) (dag : List ℕ) (shared : List Bool) → Lawful w.old marks.now dag m
         → OneCallee shared m → m.queued ≡ 0
-        → TurnLeaves (turn_outcome (dag_of dag) m rest.now at) m w.new tokens.now cells shared
+        → TurnLeaves (turn_outcome (dag_of dag) m rest.now at) m w.new marks.now shared
         window.old.output.now window.old.from window.old.total window.new.output.now window.new.total false }
 {
-    let end = few_or_all(tokens);
-    let number = deliver(w, rest, at, end);
-    if number == 0 {
-        return total;
+    let end = few_or_all(&marks.tokens);
+    if let Err(refusal) = deliver(w, rest, at, end) {
+        show_declined(u8::from(refusal), window);
     }
 }
 
 // "It runs house order"; "a refused step ends the run". Answers whether the run is over.
 pub(crate) fn step_turn(
     w: &mut [u32; Machine::WORDS],
-    tokens: &mut [bool; Machine::TOKENS],
-    cells: &mut [bool; Machine::CELLS],
+    marks: &mut Marks,
     shared: &mut [bool; Machine::TOKENS],
     dag: &[u32; WORDS],
     window: &mut Window,
 ) -> bool
-    requires { SomeMachine (QueueHasToken w.old tokens.old cells.old dag.now 0) × (window.old.total + 80 ≤ 1000000000) }
+    requires { SomeMachine (QueueHasToken w.old marks.old dag.now 0) × (window.old.total + 80 ≤ 1000000000) }
     ensures same_reference { window.new.output.ghost_name ≡ window.old.output.ghost_name }
     ensures from { window.new.from ≡ window.old.from }
     ensures leaves { (m : Machine) (rest : List ℕ) (at : ℕ)
-        → QueueHasToken w.old tokens.old cells.old dag.now 0 m
+        → QueueHasToken w.old marks.old dag.now 0 m
         → OneCallee shared.old m
-        → TurnLeaves (turn_outcome (dag_of dag.now) m rest at) m w.new tokens.new cells.new
-        shared.new
+        → TurnLeaves (turn_outcome (dag_of dag.now) m rest at) m w.new marks.new shared.new
         window.old.output.now window.old.from window.old.total window.new.output.now window.new.total result }
 {
-    let report = step(w, tokens, cells, shared, dag, 0);
+    let report = step(w, marks, shared, dag, 0);
     let reply = report.reply;
     if !has_line(reply) {
         return false;

@@ -4,7 +4,7 @@ use mathlib.Core.Path.{◌≡◌, refl, sym, ap, subst, ◌∙◌}
 use mathlib.Core.Bool.{Bool, true, false}
 use mathlib.Core.List.{List}
 use Prim.Native.Nat.{ℕ, ◌≤◌}
-use lib.ListN.{get_or}
+use lib.ListN.{length, get_or}
 use lib.IntN.{ℤ}
 use Rattle.job.specs.Test.{◌and◌, same}
 use Rattle.job.specs.Node.{dag_holds}
@@ -23,12 +23,18 @@ use Rattle.model.specs.declared.reply.Reply.TheVariants as replies
 use Rattle.model.specs.declared.reply.Report.{Report}
 use Rattle.job.proofs.Test.{clash, same_refl, le-not-ltb}
 use Rattle.model.proofs.Machine.Refused.{start-begun, start-not-begun, outcome-refused}
+use Rattle.record.specs.Holds.{Codes}
 use Rattle.record.specs.LayoutDecoded.{machine_of}
+use Rattle.record.proofs.HoldsRuled.{rules-hold-words}
+use Rattle.reach.specs.Marks.{MarksOf}
+use Rattle.rules.specs.Tested.{Tested}
+use Rattle.std.proofs.Common.{Option, None, Some, is_some, IfSome}
 use Rattle.record.specs.Layout.{words_of}
 use Rattle.coded.specs.IsRecord.{is_record}
 use Rattle.acts.specs.Acting.{Lawful, Gives, plain}
 use Rattle.acts.proofs.Outcomes.{gives-refused}
 use Rattle.machine.specs.PublicCalls.{HasResult, after, of_record, start_on, step_on, answer_on, advance_on}
+use Rattle.reach.specs.declared.used.Marks.{Marks}
 
 -- words that pass are a record's, and of a record's words the rules decide
 pub both-tested : (b recorded rules : Bool) → (b ≡ true → recorded ≡ true) → (recorded ≡ true → b ≡ rules) → b ≡ (recorded and rules)
@@ -36,6 +42,25 @@ unfolding ◌and◌
 both-tested b true rules f g = g refl
 both-tested true false rules f g = clash (f refl) refl
 both-tested false false rules f g = refl
+
+-- .. with the marks of the record that they are
+module _ {ws dag : List ℕ} {used : Marks} {b : Bool} (t : Tested ws dag used.tokens used.cells b)
+    (own : (m : Machine) → Codes ws m → MarksOf m used) where
+  pub tests-said : b ≡ (is_record ws and rules_hold paper (dag_of dag) (machine_of ws))
+  tests-said =
+      both-tested _ _ _ t.words (λ e. let marks = own _ (t.codes e) in t.rules (t.codes e) marks.tokens marks.cells)
+
+  pub tests-passed : b ≡ true → length dag ≡ 12331 → Lawful ws used dag (machine_of ws)
+  tests-passed e size =
+      let codes = t.codes (t.words e) in
+      let marks = own _ codes in
+      let hold = sym (t.rules codes marks.tokens marks.cells) ∙ e in
+      record { holds = rules-hold-words paper _ _ hold codes; rules = hold; marks = marks; size = size }
+
+pub lawful_of : {ws dag : List ℕ} (o : Option Marks) → is_some o ≡ true → IfSome o (λ used. Lawful ws used dag (machine_of ws))
+    → (used : Marks) × Lawful ws used dag (machine_of ws)
+lawful_of None e l = clash e refl
+lawful_of (Some used) e l = (used, l)
 
 -- a refused call leaves every word
 module _ (ws : List ℕ) (number : ℕ) (r : Report) (e : r ≡ plain (replies.Refused (refusal_of number))) where
@@ -62,13 +87,13 @@ module _ (dag ws : List ℕ) (effect : Effect) where
   gave-rule b r e f g = gave-refused ws 14 r g (of_record ws o) (machine_of ws) (broken _ _ refl refl (sym e ∙ f))
 
 -- a call on a lawful record
-module _ {ws dag : List ℕ} {used cells : List Bool} (a : Lawful ws used cells dag (machine_of ws)) where
+module _ {ws dag : List ℕ} {used : Marks} (a : Lawful ws used dag (machine_of ws)) where
   is-record : is_record ws ≡ true
   unfolding is_record
   is-record = subst (λ xs. same ws xs ≡ true) a.holds.codes.words (same_refl ws)
 
-  pub gave-gives : (effect : Effect) {xs : List ℕ} {now below : List Bool} (r : Report)
-      → Gives (outcome (machine_of ws) effect) (machine_of ws) xs now below r
+  pub gave-gives : (effect : Effect) {xs : List ℕ} {now : Marks} (r : Report)
+      → Gives (outcome (machine_of ws) effect) (machine_of ws) xs now r
       → HasResult (after ws (of_record ws (outcome (machine_of ws) effect))) r xs
   unfolding after of_record
   gave-gives effect {xs} r g =
@@ -103,20 +128,20 @@ module _ (dag ws : List ℕ) where
   unfolding advance_on Clock.advance
   advance-rule time b r e f g = gave-rule dag ws _ b r e f g
 
-  module _ {used cells : List Bool} (a : Lawful ws used cells dag (machine_of ws)) where
-    pub step_gives : (place : ℕ) {xs : List ℕ} {now below : List Bool} (r : Report)
-        → Gives (Step.step paper (dag_of dag) (machine_of ws) place) (machine_of ws) xs now below r → HasResult (step_on dag ws place) r xs
+  module _ {used : Marks} (a : Lawful ws used dag (machine_of ws)) where
+    pub step_gives : (place : ℕ) {xs : List ℕ} {now : Marks} (r : Report)
+        → Gives (Step.step paper (dag_of dag) (machine_of ws) place) (machine_of ws) xs now r → HasResult (step_on dag ws place) r xs
     unfolding step_on Step.step
     step_gives place r g = gave-gives a _ r g
 
-    pub answer-gives : (handle : ℕ) (v : ℤ) {xs : List ℕ} {now below : List Bool} (r : Report)
-        → Gives (Answer.answer paper (dag_of dag) (machine_of ws) handle v) (machine_of ws) xs now below r
+    pub answer-gives : (handle : ℕ) (v : ℤ) {xs : List ℕ} {now : Marks} (r : Report)
+        → Gives (Answer.answer paper (dag_of dag) (machine_of ws) handle v) (machine_of ws) xs now r
         → HasResult (answer_on dag ws handle v) r xs
     unfolding answer_on Answer.answer
     answer-gives handle v r g = gave-gives a _ r g
 
-    pub advance-gives : (time : ℕ) {xs : List ℕ} {now below : List Bool} (r : Report)
-        → Gives (Clock.advance paper (dag_of dag) (machine_of ws) time) (machine_of ws) xs now below r
+    pub advance-gives : (time : ℕ) {xs : List ℕ} {now : Marks} (r : Report)
+        → Gives (Clock.advance paper (dag_of dag) (machine_of ws) time) (machine_of ws) xs now r
         → HasResult (advance_on dag ws time) r xs
     unfolding advance_on Clock.advance
     advance-gives time r g = gave-gives a _ r g

@@ -1,7 +1,7 @@
 // A clock move.
 ghost use Rattle.machine.specs.PublicCalls.{HasResult, advance_on};
 
-use crate::lawful::is_lawful;
+use crate::lawful::lawful_marks;
 use acts::report::plain;
 use job::dag::WORDS;
 use model::record::Machine;
@@ -11,9 +11,7 @@ use model::reply::{Refusal, Reply, Report};
 pub fn advance(w: &mut [u32; Machine::WORDS], dag: &[u32; WORDS], time: u32) -> Report
     ensures { HasResult (advance_on dag.now w.old time) result w.new }
 {
-    let mut tokens = [false; Machine::TOKENS];
-    let mut cells = [false; Machine::CELLS];
-    if !is_lawful(w, dag, &mut tokens, &mut cells) {
+    if lawful_marks(w, dag).is_none() {
         return plain(Reply::Refused(Refusal::Rule));
     }
     unchecked::advance::advance(w, time)

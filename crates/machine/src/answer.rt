@@ -1,7 +1,7 @@
 // An answer to an outside call.
 ghost use Rattle.machine.specs.PublicCalls.{HasResult, answer_on};
 
-use crate::lawful::is_lawful;
+use crate::lawful::lawful_marks;
 use acts::report::plain;
 use job::dag::WORDS;
 use model::record::Machine;
@@ -11,9 +11,7 @@ use model::reply::{Refusal, Reply, Report};
 pub fn answer(w: &mut [u32; Machine::WORDS], dag: &[u32; WORDS], handle: u32, value: i32) -> Report
     ensures { HasResult (answer_on dag.now w.old handle value) result w.new }
 {
-    let mut tokens = [false; Machine::TOKENS];
-    let mut cells = [false; Machine::CELLS];
-    if !is_lawful(w, dag, &mut tokens, &mut cells) {
+    if lawful_marks(w, dag).is_none() {
         return plain(Reply::Refused(Refusal::Rule));
     }
     unchecked::answer::answer(w, handle, value)

@@ -100,7 +100,7 @@ fn wake(w: &mut [u32; Machine::WORDS], ready: &[bool; Machine::TOKENS])
         return;
     }
     for i in 0..count {
-        let name = order::wait_name(w, i);
+        let name = order::place_at::<WaitOrder>(w, i);
         join_marked(w, name, ready);
     }
 }

@@ -4,13 +4,14 @@ use mir.Val.{bool_byte}
 use Rattle.job.specs.Test.{for_all}
 use Rattle.model.specs.Machine.Active.{is_active}
 use Rattle.model.specs.Machine.Blank.{blank_token, blank_cell, token_at, cell_at}
-use Rattle.model.specs.Machine.InUse.{mark_chain, mark_from_each, cells_of, tokens_used, used_cells, marked, rest_blanked}
+use Rattle.model.specs.Machine.InUse.{mark_chain, mark_from_each, cells_of, tokens_used, used_cells, cells_used, marked, rest_blanked}
 use Rattle.model.specs.Machine.FreePlace.{next_place}
 use Rattle.model.specs.Machine.Update.{with_tables}
 use Rattle.model.specs.declared.cell.Cell.{Cell}
 use Rattle.model.specs.declared.record.Machine.{Machine}
 use Rattle.model.specs.Machine.Held.{Place}
 use Rattle.model.specs.declared.token.Token.{Token}
+use Rattle.reach.specs.declared.used.Marks.{Marks}
 
 -- the chain of callers from a place, and the chains of parents from one place and from some
 abbrev pub callers_marked : Machine → Place → List Bool → List Bool
@@ -78,9 +79,14 @@ marked_end marks = elim (eqb (few_or_all marks) 8) [ true ↦ end_of_eight (weig
 abbrev pub BlankFrom : Machine → (end : ℕ) → Type 0
 BlankFrom m end = (i : ℕ) → end ≤ i → i < 64 → token_at m.tokens i ≡ blank_token
 
-pub record Vacant (m : Machine) (token_marks cell_marks : List Bool) : Type 0 where
-  pub tokens : FreeTokens m token_marks
-  pub cells : FreeCells m cell_marks
+pub record Vacant (m : Machine) (used : Marks) : Type 0 where
+  pub tokens : FreeTokens m used.tokens
+  pub cells : FreeCells m used.cells
+
+-- the marks are those of what is in use
+pub record MarksOf (m : Machine) (used : Marks) : Type 0 where
+  pub tokens : used.tokens ≡ tokens_used m
+  pub cells : used.cells ≡ cells_used m
 
 -- "the next place not in use .., after the last one given, round from the end to 0", where fewer than n places are in use
 unfoldable pub next_free : (n : ℕ) → List Bool → (last : ℕ) → Option ℕ

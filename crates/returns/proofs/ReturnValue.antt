@@ -29,6 +29,8 @@ use Rattle.acts.specs.Acting.{Acting}
 use Rattle.acts.proofs.EndRebind.{Swept}
 use Rattle.acts.proofs.Outcomes.{node-rule}
 use Rattle.returns.specs.Frame.{SameCells, AfterRelease, shared, alone}
+use Rattle.reach.specs.declared.used.Marks.{Marks}
+use Rattle.writes.specs.declared.actor.Actor.{Actor}
 
 frame-idle : (s : State) → is_frame s ≡ true → is_live s ≡ false
 unfolding is_frame is_live
@@ -39,26 +41,26 @@ frame-idle (states.Called h) e = clash e refl
 frame-idle (states.Due d) e = clash e refl
 frame-idle states.Frame e = refl
 
-module _ {ws dag : List ℕ} {used cells : List Bool} {place p at : ℕ} {m : Machine} (a : Acting ws used cells dag place p at 8 m)
-    (f : ℕ) (few : f < 64) (caller : (token_at m.tokens p).caller ≡ Some f) where
+module _ {ws dag : List ℕ} {used : Marks} {actor : Actor} {m : Machine} (a : Acting ws used dag actor 8 m)
+    (f : ℕ) (few : f < 64) (caller : (token_at m.tokens actor.token).caller ≡ Some f) where
   abbrev t : Token
-  t = token_at m.tokens p
+  t = token_at m.tokens actor.token
 
   abbrev written : Token
   written = with_state states.Ready (with_value t.value (token_at m.tokens f))
 
   abbrev after : Machine
-  after = enqueue p (put p written (dequeued m place))
+  after = enqueue actor.token (put actor.token written (dequeued m actor.place))
 
   pub frame : is_live (token_at m.tokens f).state ≡ false
   unfolding node_rule names_frame
   frame = frame-idle _ (ap (names_frame m.tokens) (sym caller) ∙ and_left _ _ (node-rule a))
 
-  pub returns : Returns m after p f written
+  pub returns : Returns m after actor.token f written
   unfolding put with_tables with_orders enqueue with_state with_value is_live
   returns =
       record {
-        live = acting-live paper (dag_of dag) m a.taking.lawful.rules place a.taking.queued p a.taking.token;
+        live = acting-live paper (dag_of dag) m a.taking.lawful.rules actor.place a.taking.queued actor.token a.taking.token;
         caller = caller;
         inside = let z = tokens-size (dag_of dag) m a.taking.lawful.rules in omega arith;
         frame = frame;
@@ -70,21 +72,25 @@ module _ {ws dag : List ℕ} {used cells : List Bool} {place p at : ℕ} {m : Ma
         same_binds = refl;
       }
 
-  pub released-swept : {now : List ℕ} {marks : List Bool} → SameCells m p f → AfterRelease after f now used marks
-      → Swept after now marks cells
+  pub released-swept : {now : List ℕ} {marks : List Bool} → SameCells m actor.token f → AfterRelease after f now used.tokens marks
+      → Swept after now (record { tokens = marks; cells = used.cells })
   released-swept {now} {marks} s (shared i k h e) =
-      let c = returned-shared paper (dag_of dag) m a.taking.lawful.rules after p f written returns s.cell s.binds i k in (
+      let c = returned-shared paper (dag_of dag) m a.taking.lawful.rules after actor.token f written returns s.cell s.binds i k in (
         subst (Holds now) (sym c.whole) h,
-        e ∙ (a.taking.lawful.marks.tokens ∙ (sym c.tokens ∙ ap (λ o. tokens_used o) (sym c.whole))),
-        a.taking.lawful.marks.cells ∙ (sym c.cells ∙ ap (λ o. cells_used o) (sym c.whole)),
+        record {
+          tokens = e ∙ (a.taking.lawful.marks.tokens ∙ (sym c.tokens ∙ ap (λ o. tokens_used o) (sym c.whole)));
+          cells = a.taking.lawful.marks.cells ∙ (sym c.cells ∙ ap (λ o. cells_used o) (sym c.whole));
+        },
       )
   released-swept {now} {marks} s (alone n h e) =
       let rules = a.taking.lawful.rules in (
-        subst (Holds now) (sym (returned-swept paper (dag_of dag) m rules after p f written returns s.cell s.binds n)) h,
-        e
+        subst (Holds now) (sym (returned-swept paper (dag_of dag) m rules after actor.token f written returns s.cell s.binds n)) h,
+        record {
+          tokens = e
             ∙ (ap (λ us. set us f false) a.taking.lawful.marks.tokens
-            ∙ (sym (returned-tokens paper (dag_of dag) m rules after p f written returns s.cell s.binds n)
-            ∙ sym (sweep-tokens after))),
-        a.taking.lawful.marks.cells
-            ∙ (sym (returned-cells paper (dag_of dag) m rules after p f written returns s.cell s.binds) ∙ sym (sweep-cells after)),
+            ∙ (sym (returned-tokens paper (dag_of dag) m rules after actor.token f written returns s.cell s.binds n)
+            ∙ sym (sweep-tokens after)));
+          cells = a.taking.lawful.marks.cells
+            ∙ (sym (returned-cells paper (dag_of dag) m rules after actor.token f written returns s.cell s.binds) ∙ sym (sweep-cells after));
+        },
       )

@@ -16,8 +16,10 @@ use job::dag::WORDS;
 use job::wide::wide;
 use model::record::Machine;
 use model::reply::{Reply, Report};
+use reach::used::Marks;
 use record::token::{caller, cell};
 use sweep::sweep::sweep;
+use writes::actor::Actor;
 use writes::return_value::written;
 
 // May a cell be out of use once the token at p has the links of the one at f?
@@ -34,26 +36,23 @@ fn may_lose_cell(w: &[u32; Machine::WORDS], p: usize, f: usize) -> bool
 // "A token at return names a frame." Where it is not shared, no other token names it.
 pub fn return_value(
     w: &mut [u32; Machine::WORDS],
-    tokens: &mut [bool; Machine::TOKENS],
-    cells: &mut [bool; Machine::CELLS],
+    marks: &mut Marks,
     dag: &[u32; WORDS],
-    place: usize,
-    p: usize,
-    at: usize,
+    actor: Actor,
     shared: bool,
 ) -> Report
-    requires { SomeMachine (Acting w.old tokens.old cells.old dag.now place p at 8) }
-    ensures { (m : Machine) → Acting w.old tokens.old cells.old dag.now place p at 8 m
-        → (shared ≡ false → Alone m p)
-        → Gives (Step.step paper (dag_of dag.now) m place) m w.new tokens.new cells.new result }
+    requires { SomeMachine (Acting w.old marks.old dag.now actor 8) }
+    ensures { (m : Machine) → Acting w.old marks.old dag.now actor 8 m
+        → (shared ≡ false → Alone m actor.token)
+        → Gives (Step.step paper (dag_of dag.now) m actor.place) m w.new marks.new result }
 {
-    let f = wide(caller(w, p)) - 1;
-    let lost = may_lose_cell(w, p, f);
-    written(w, place, p, f);
+    let f = wide(caller(w, actor.token)) - 1;
+    let lost = may_lose_cell(w, actor.token, f);
+    written(w, actor, f);
     if lost {
-        sweep(w, tokens, cells);
-        return plain(Reply::Done);
+        sweep(w, marks);
+    } else {
+        release(w, &mut marks.tokens, f, shared);
     }
-    release(w, tokens, f, shared);
     plain(Reply::Done)
 }

@@ -7,16 +7,16 @@ use dag_rules::dag::dag_holds;
 use job::dag::WORDS;
 use model::record::Machine;
 use order_rules::order::OrderCounts;
+use reach::used::Marks;
 use row_rules::range::sizes_in_range;
 
 // "14: dag or machine record breaks an index rule", or the words are no record's. The marks say which tokens and cells are in use.
 pub fn rules_hold(
     w: &[u32; Machine::WORDS],
     dag: &[u32; WORDS],
-    tokens: &[bool; Machine::TOKENS],
-    cells: &[bool; Machine::CELLS],
+    marks: &Marks,
 ) -> bool
-    ensures { Tested w.now dag.now tokens.now cells.now result }
+    ensures { Tested w.now dag.now marks.now.tokens marks.now.cells result }
 {
     if !dag_holds(dag) {
         return false;
@@ -24,5 +24,5 @@ pub fn rules_hold(
     let Some(counts) = OrderCounts::read(w) else {
         return false;
     };
-    tokens_hold(w, tokens, dag, &counts) & cells_hold(w, cells) & sizes_in_range(w)
+    tokens_hold(w, &marks.tokens, dag, &counts) & cells_hold(w, &marks.cells) & sizes_in_range(w)
 }

@@ -23,6 +23,7 @@ use record::order::{Queue, replace};
 use record::token::{
     bind_kind, bind_number, cell, set_bind, set_caller, set_cell, set_node, set_state,
 };
+use writes::actor::Actor;
 use writes::dag::dag_word;
 
 // "A variable's binding is passed on as it is, its cell set or unset": one parameter, by its kind and word, to the formal i.
@@ -42,17 +43,17 @@ fn pass(w: &mut [u32; Machine::WORDS], p: usize, new: usize, i: usize, kind: u32
 }
 
 // "only its formals bound"
-fn pass_all(w: &mut [u32; Machine::WORDS], dag: &[u32; WORDS], at: usize, p: usize, new: usize)
-    requires { (p < 64) × (new < 64) × ParamsHold dag.now at }
-    ensures { (m : Machine) → Holds w.old (put new blank_token m) → (p ≡ new → ⊥)
+fn pass_all(w: &mut [u32; Machine::WORDS], dag: &[u32; WORDS], actor: Actor, new: usize)
+    requires { (actor.token < 64) × (new < 64) × ParamsHold dag.now actor.row }
+    ensures { let p = actor.token in (m : Machine) → Holds w.old (put new blank_token m) → (p ≡ new → ⊥)
         → Holds w.new
-        (put new (with_binds (formals_bound (token_at m.tokens p).binds (params_at dag.now at)) blank_token) m) }
+        (put new (with_binds (formals_bound (token_at m.tokens p).binds (params_at dag.now actor.row)) blank_token) m) }
 {
-    let count = wide(dag_word(dag, at + PARAMETER_COUNT));
+    let count = wide(dag_word(dag, actor.row + PARAMETER_COUNT));
     for i in 0..count {
-        let kind = dag_word(dag, at + PARAMETER_KIND + 2 * i);
-        let number = dag_word(dag, at + PARAMETER_WORD + 2 * i);
-        pass(w, p, new, i, kind, number);
+        let kind = dag_word(dag, actor.row + PARAMETER_KIND + 2 * i);
+        let number = dag_word(dag, actor.row + PARAMETER_WORD + 2 * i);
+        pass(w, actor.token, new, i, kind, number);
     }
 }
 
@@ -60,21 +61,20 @@ fn pass_all(w: &mut [u32; Machine::WORDS], dag: &[u32; WORDS], at: usize, p: usi
 fn put_callee(
     w: &mut [u32; Machine::WORDS],
     dag: &[u32; WORDS],
-    at: usize,
-    p: usize,
+    actor: Actor,
     new: usize,
     root: u32,
     home: u32,
 )
-    requires { (p < 64) × (new < 64) × ParamsHold dag.now at }
-    ensures { (m : Machine) (q : Place) → Holds w.old m → (p ≡ new → ⊥) → token_at m.tokens new ≡ blank_token
+    requires { (actor.token < 64) × (new < 64) × ParamsHold dag.now actor.row }
+    ensures { let p = actor.token in (m : Machine) (q : Place) → Holds w.old m → (p ≡ new → ⊥) → token_at m.tokens new ≡ blank_token
         → place_number q ≡ home
-        → Holds w.new (put new (callee p q (token_at m.tokens p).binds root (params_at dag.now at)) m) }
+        → Holds w.new (put new (callee p q (token_at m.tokens p).binds root (params_at dag.now actor.row)) m) }
 {
-    pass_all(w, dag, at, p, new);
+    pass_all(w, dag, actor, new);
     set_state(w, new, READY_STATE, 0);
     set_node(w, new, root);
-    set_caller(w, new, p as u32 + 1);
+    set_caller(w, new, actor.token as u32 + 1);
     set_cell(w, new, home);
 }
 
@@ -82,24 +82,22 @@ fn put_callee(
 pub fn written(
     w: &mut [u32; Machine::WORDS],
     dag: &[u32; WORDS],
-    at: usize,
-    place: usize,
-    p: usize,
+    actor: Actor,
     new: usize,
     root: u32,
     next: u32,
 )
-    requires { (p < 64) × (new < 64) × ParamsHold dag.now at }
-    ensures { (m : Machine) → Holds w.old m → place < m.queued → (p ≡ new → ⊥) → token_at m.tokens new ≡ blank_token
+    requires { (actor.token < 64) × (new < 64) × ParamsHold dag.now actor.row }
+    ensures { let p = actor.token in (m : Machine) → Holds w.old m → actor.place < m.queued → (p ≡ new → ⊥) → token_at m.tokens new ≡ blank_token
         → Holds w.new
         (enqueue new (new_token new
-        (callee p (token_at m.tokens p).cell (token_at m.tokens p).binds root (params_at dag.now at))
-        (put p (with_node next (with_state states.Frame (token_at m.tokens p))) (dequeued m place)))) }
+        (callee p (token_at m.tokens p).cell (token_at m.tokens p).binds root (params_at dag.now actor.row))
+        (put p (with_node next (with_state states.Frame (token_at m.tokens p))) (dequeued m actor.place)))) }
 {
-    let home = cell(w, p);
-    replace::<Queue>(w, place, new as u32);
-    set_state(w, p, FRAME_STATE, 0);
-    set_node(w, p, next);
-    put_callee(w, dag, at, p, new, root, home);
+    let home = cell(w, actor.token);
+    replace::<Queue>(w, actor.place, new as u32);
+    set_state(w, actor.token, FRAME_STATE, 0);
+    set_node(w, actor.token, next);
+    put_callee(w, dag, actor, new, root, home);
     set_last_token(w, new as u32);
 }

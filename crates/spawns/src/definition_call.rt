@@ -13,40 +13,38 @@ use job::wide::wide;
 use model::record::Machine;
 use model::reply::{Refusal, Reply, Report};
 use places::place::next_token;
+use reach::used::Marks;
 use record::count::last_token;
 use spawn_writes::definition_call::written;
+use writes::actor::Actor;
 use writes::dag::dag_word;
 
 // "10: .. definition call with 64 tokens in use." A call in tail position is not among them.
 pub fn definition_call(
     w: &mut [u32; Machine::WORDS],
-    tokens: &mut [bool; Machine::TOKENS],
-    cells: &[bool; Machine::CELLS],
+    marks: &mut Marks,
     dag: &[u32; WORDS],
-    place: usize,
-    p: usize,
-    at: usize,
+    actor: Actor,
 ) -> Report
-    requires { SomeMachine (Acting w.old tokens.old cells.now dag.now place p at 2) }
-    ensures { (m : Machine) → Acting w.old tokens.old cells.now dag.now place p at 2 m
-        → is_tail (dag_of dag.now) (get_or dag.now (at + 2) 0) ≡ false
-        → Gives (Step.step paper (dag_of dag.now) m place) m w.new tokens.new cells.now result }
+    requires { SomeMachine (Acting w.old marks.old dag.now actor 2) }
+    ensures gives { (m : Machine) → Acting w.old marks.old dag.now actor 2 m
+        → is_tail (dag_of dag.now) (get_or dag.now (actor.row + 2) 0) ≡ false
+        → Gives (Step.step paper (dag_of dag.now) m actor.place) m w.new marks.new result }
+    ensures cells { marks.new.cells ≡ marks.old.cells }
 {
-    let Some(new) = next_token(tokens, last_token(w)) else {
+    let Some(new) = next_token(&marks.tokens, last_token(w)) else {
         return plain(Reply::Refused(Refusal::TokenLimit));
     };
-    let body = wide(dag_word(dag, at + NAMED_NUMBER));
+    let body = wide(dag_word(dag, actor.row + NAMED_NUMBER));
     let root = dag_word(dag, DEFINITIONS_START + 2 * body);
     written(
         w,
         dag,
-        at,
-        place,
-        p,
+        actor,
         new,
         root,
-        dag_word(dag, at + NEXT_NODE),
+        dag_word(dag, actor.row + NEXT_NODE),
     );
-    tokens[new] = true;
+    marks.tokens[new] = true;
     plain(Reply::Done)
 }

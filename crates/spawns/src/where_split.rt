@@ -12,41 +12,42 @@ use job::wide::wide;
 use model::record::Machine;
 use model::reply::{Refusal, Reply, Report};
 use places::place::{next_cell, next_token};
+use reach::used::Marks;
 use record::count::{last_cell, last_token};
+use spawn_writes::branches::Branches;
 use spawn_writes::where_split::written;
+use writes::actor::Actor;
 use writes::dag::dag_word;
 
 // "10: .. where .. with 64 tokens in use"; "11: where with 32 cells in use."
 pub fn where_split(
     w: &mut [u32; Machine::WORDS],
-    tokens: &mut [bool; Machine::TOKENS],
-    cells: &mut [bool; Machine::CELLS],
+    marks: &mut Marks,
     dag: &[u32; WORDS],
-    place: usize,
-    p: usize,
-    at: usize,
+    actor: Actor,
 ) -> Report
-    requires { SomeMachine (Acting w.old tokens.old cells.old dag.now place p at 6) }
-    ensures { (m : Machine) → Acting w.old tokens.old cells.old dag.now place p at 6 m
-        → Gives (Step.step paper (dag_of dag.now) m place) m w.new tokens.new cells.new result }
+    requires { SomeMachine (Acting w.old marks.old dag.now actor 6) }
+    ensures { (m : Machine) → Acting w.old marks.old dag.now actor 6 m
+        → Gives (Step.step paper (dag_of dag.now) m actor.place) m w.new marks.new result }
 {
-    let Some(new) = next_token(tokens, last_token(w)) else {
+    let Some(new) = next_token(&marks.tokens, last_token(w)) else {
         return plain(Reply::Refused(Refusal::TokenLimit));
     };
-    let Some(c) = next_cell(cells, last_cell(w)) else {
+    let Some(c) = next_cell(&marks.cells, last_cell(w)) else {
         return plain(Reply::Refused(Refusal::CellLimit));
     };
     written(
         w,
-        place,
-        p,
+        actor,
         new,
         c,
-        wide(dag_word(dag, at + BINDER)),
-        dag_word(dag, at + LEFT_NODE),
-        dag_word(dag, at + RIGHT_NODE),
+        wide(dag_word(dag, actor.row + BINDER)),
+        Branches {
+            left: dag_word(dag, actor.row + LEFT_NODE),
+            right: dag_word(dag, actor.row + RIGHT_NODE),
+        },
     );
-    tokens[new] = true;
-    cells[c] = true;
+    marks.tokens[new] = true;
+    marks.cells[c] = true;
     plain(Reply::Done)
 }

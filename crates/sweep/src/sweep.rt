@@ -1,14 +1,15 @@
 // "The rest is blank after each accepted call." What was not marked is blank already.
 ghost use Rattle.std.specs.Prelude.{◌≡◌, true, false, ℕ, ◌+◌, ◌<◌, ◌≤◌, length, get_or};
 ghost use Rattle.model.specs.Machine.Blank.{blank_token, blank_cell, token_at, cell_at};
-ghost use Rattle.model.specs.Machine.InUse.{tokens_used, cells_used, used_cells, rest_blanked, sweep};
+ghost use Rattle.model.specs.Machine.InUse.{used_cells, rest_blanked, sweep};
 ghost use Rattle.model.specs.Machine.Update.{with_tables};
 ghost use Rattle.model.specs.declared.record.Machine.{Machine};
 ghost use Rattle.record.specs.Holds.{Holds};
-ghost use Rattle.reach.specs.Marks.{Vacant, FreeTokens, FreeCells, UnmarkedFrom, BlankFrom, cells_swept};
+ghost use Rattle.reach.specs.Marks.{MarksOf, Vacant, FreeTokens, FreeCells, UnmarkedFrom, BlankFrom, cells_swept};
 
 use model::record::Machine;
 use reach::marks::{mark_cells, mark_tokens, marked_end};
+use reach::used::Marks;
 use record::cell::put_unset;
 use record::token::blank;
 
@@ -76,31 +77,22 @@ fn sweep_cells(
 
 // The marks say which rows may be other than blank; from the end on none is marked. Rows that are in use no more become blank, and the
 // marks say what is in use now: last, since what was just marked one by one is not read at once without waiting for it.
-pub fn sweep_to(
-    w: &mut [u32; Machine::WORDS],
-    tokens: &mut [bool; Machine::TOKENS],
-    cells: &mut [bool; Machine::CELLS],
-    end: usize,
-)
-    requires { (end ≤ 64) × UnmarkedFrom tokens.old end 64 }
-    ensures { (m : Machine) → Holds w.old m → Vacant m tokens.old cells.old
-        → Holds w.new (sweep m) × (tokens.new ≡ tokens_used (sweep m)) × (cells.new ≡ cells_used (sweep m)) }
+pub fn sweep_to(w: &mut [u32; Machine::WORDS], marks: &mut Marks, end: usize)
+    requires { (end ≤ 64) × UnmarkedFrom marks.old.tokens end 64 }
+    ensures { (m : Machine) → Holds w.old m → Vacant m marks.old
+        → Holds w.new (sweep m) × MarksOf (sweep m) marks.new }
 {
     let mut used = [false; Machine::TOKENS];
     mark_tokens(w, &mut used, end);
-    keep_tokens(w, tokens, &used, end);
-    sweep_cells(w, &used, cells, end);
-    tokens.copy_from_slice(&used);
+    keep_tokens(w, &marks.tokens, &used, end);
+    sweep_cells(w, &used, &mut marks.cells, end);
+    marks.tokens.copy_from_slice(&used);
 }
 
-pub fn sweep(
-    w: &mut [u32; Machine::WORDS],
-    tokens: &mut [bool; Machine::TOKENS],
-    cells: &mut [bool; Machine::CELLS],
-)
-    ensures { (m : Machine) → Holds w.old m → Vacant m tokens.old cells.old
-        → Holds w.new (sweep m) × (tokens.new ≡ tokens_used (sweep m)) × (cells.new ≡ cells_used (sweep m)) }
+pub fn sweep(w: &mut [u32; Machine::WORDS], marks: &mut Marks)
+    ensures { (m : Machine) → Holds w.old m → Vacant m marks.old
+        → Holds w.new (sweep m) × MarksOf (sweep m) marks.new }
 {
-    let end = marked_end(tokens);
-    sweep_to(w, tokens, cells, end);
+    let end = marked_end(&marks.tokens);
+    sweep_to(w, marks, end);
 }

@@ -25,39 +25,42 @@ use Rattle.reach.specs.Marks.{Vacant}
 use Rattle.sites.specs.Row.{params_at}
 use Rattle.acts.specs.Acting.{Acting, Gives, plain}
 use Rattle.acts.specs.Links.{BindsNoCell}
+use Rattle.reach.specs.declared.used.Marks.{Marks}
+use Rattle.writes.specs.declared.actor.Actor.{Actor}
 use Rattle.acts.proofs.EndRebind.{Swept}
 use Rattle.acts.proofs.Outcomes.{gives_whole, gives-swept, token-ready}
 use Rattle.acts.proofs.StepAtNode.{tail_step}
 use Rattle.acts.proofs.Vacancy.{vacant-row}
 
-module _ {ws dag : List ℕ} {used cells : List Bool} {place p at : ℕ} {m : Machine} (a : Acting ws used cells dag place p at 2 m) where
+module _ {ws dag : List ℕ} {used : Marks} {actor : Actor} {m : Machine} (a : Acting ws used dag actor 2 m) where
   abbrev t : Token
-  t = token_at m.tokens p
+  t = token_at m.tokens actor.token
 
   abbrev became : (root : ℕ) → Machine
-  became root = enqueue p (put p (Step.callee t.caller t root (params_at dag at)) (dequeued m place))
+  became root = enqueue actor.token (put actor.token (Step.callee t.caller t root (params_at dag actor.row)) (dequeued m actor.place))
 
   pub ready : t.state ≡ states.Ready
   ready = ready-state t.state (token-ready a.taking)
 
-  module _ (is : is_tail (dag_of dag) (get_or dag (at + 2) 0) ≡ true) {root : ℕ} (body : root ≡ (body_at (dag_of dag) (get_or dag (at + 1)
+  module _ (is : is_tail (dag_of dag) (get_or dag (actor.row + 2) 0) ≡ true) {root : ℕ}
+      (body : root ≡ (body_at (dag_of dag) (get_or dag (actor.row + 1)
       0)).root)
       {after : List ℕ} (r : Report) (done : r ≡ plain replies.Done) where
     pub tail-whole : BindsNoCell t.binds → Holds after (became root)
-        → Gives (Step.step paper (dag_of dag) m place) m after used cells r
+        → Gives (Step.step paper (dag_of dag) m actor.place) m after used r
     tail-whole none h =
         let marks = a.taking.lawful.marks in
-        let c = became-carried paper (dag_of dag) m a.taking.lawful.rules place a.taking.queued p a.taking.token
-        (body_at (dag_of dag) (get_or dag (at + 1) 0)).root (params_at dag at) none in
-        gives_whole _ replies.Done [] r (tail_step dag place p at m is a) (ap (λ (y : Report). y.reply) done)
+        let c = became-carried paper (dag_of dag) m a.taking.lawful.rules actor.place a.taking.queued actor.token a.taking.token
+        (body_at (dag_of dag) (get_or dag (actor.row + 1) 0)).root (params_at dag actor.row) none in
+        gives_whole _ replies.Done [] r (tail_step dag actor m is a) (ap (λ (y : Report). y.reply) done)
         (ap (λ (y : Report). y.values) done) (subst (λ x. Holds after (became x)) body h) c.whole
         (λ framed. record { whole = c.whole; tokens = c.tokens ∙ sym marks.tokens; cells = c.cells ∙ sym marks.cells })
 
-    pub tail-swept : {used' cells' : List Bool} → Swept (became root) after used' cells'
-        → Gives (Step.step paper (dag_of dag) m place) m after used' cells' r
-    tail-swept {used'} {cells'} h =
-        gives-swept _ replies.Done r (tail_step dag place p at m is a) done (subst (λ x. Swept (became x) after used' cells') body h)
+    pub tail-swept : {used' : Marks} → Swept (became root) after used'
+        → Gives (Step.step paper (dag_of dag) m actor.place) m after used' r
+    tail-swept {used'} h =
+        gives-swept _ replies.Done r (tail_step dag actor m is a) done (subst (λ x. Swept (became x) after used') body h)
 
-  pub tail-vacant : (root : ℕ) → Vacant (became root) used cells
+  pub tail-vacant : (root : ℕ) → Vacant (became root) used
   unfolding put with_tables with_orders enqueue
-  tail-vacant root = vacant-row a.taking _ (Step.callee t.caller t root (params_at dag at)) refl refl
+  tail-vacant root = vacant-row a.taking _ (Step.callee t.caller t root (params_at dag actor.row)) refl refl

@@ -13,32 +13,30 @@ use job::dag::{DEFINITIONS_START, NAMED_NUMBER, WORDS};
 use job::wide::wide;
 use model::record::Machine;
 use model::reply::{Reply, Report};
+use reach::used::Marks;
 use sweep::sweep::sweep;
 use tail_writes::tail_call::written;
+use writes::actor::Actor;
 use writes::dag::dag_word;
 
 // What was bound before may have been the last to name a cell.
 pub fn tail_call(
     w: &mut [u32; Machine::WORDS],
-    tokens: &mut [bool; Machine::TOKENS],
-    cells: &mut [bool; Machine::CELLS],
+    marks: &mut Marks,
     dag: &[u32; WORDS],
-    place: usize,
-    p: usize,
-    at: usize,
+    actor: Actor,
 ) -> Report
-    requires { SomeMachine (Acting w.old tokens.old cells.old dag.now place p at 2) }
-    ensures { (m : Machine) → Acting w.old tokens.old cells.old dag.now place p at 2 m
-        → is_tail (dag_of dag.now) (get_or dag.now (at + 2) 0) ≡ true
-        → Gives (Step.step paper (dag_of dag.now) m place) m w.new tokens.new cells.new result }
+    requires { SomeMachine (Acting w.old marks.old dag.now actor 2) }
+    ensures { (m : Machine) → Acting w.old marks.old dag.now actor 2 m
+        → is_tail (dag_of dag.now) (get_or dag.now (actor.row + 2) 0) ≡ true
+        → Gives (Step.step paper (dag_of dag.now) m actor.place) m w.new marks.new result }
 {
-    let body = wide(dag_word(dag, at + NAMED_NUMBER));
+    let body = wide(dag_word(dag, actor.row + NAMED_NUMBER));
     let root = dag_word(dag, DEFINITIONS_START + 2 * body);
-    let bound = binds_cell(w, p);
-    written(w, dag, at, place, p, root);
+    let bound = binds_cell(w, actor.token);
+    written(w, dag, actor, root);
     if bound {
-        sweep(w, tokens, cells);
-        return plain(Reply::Done);
+        sweep(w, marks);
     }
     plain(Reply::Done)
 }

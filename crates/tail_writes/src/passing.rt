@@ -18,6 +18,7 @@ use job::wide::wide;
 use model::record::Machine;
 use record::layout::{EMPTY_SLOT, VALUE_SLOT};
 use record::token::{bind_kind, bind_number, set_bind};
+use writes::actor::Actor;
 use writes::dag::dag_word;
 
 // A slot as its two words.
@@ -49,22 +50,21 @@ fn passed(w: &[u32; Machine::WORDS], p: usize, kind: u32, number: u32) -> SlotWo
 pub(crate) fn passed_slots(
     w: &[u32; Machine::WORDS],
     dag: &[u32; WORDS],
-    at: usize,
-    p: usize,
+    actor: Actor,
 ) -> [SlotWords; 8]
-    requires { (p < 64) × ParamsHold dag.now at }
-    ensures { (m : Machine) → Codes w.now m
-        → result ≡ map slot_words (formals_bound (token_at m.tokens p).binds (params_at dag.now at)) }
+    requires { (actor.token < 64) × ParamsHold dag.now actor.row }
+    ensures { let p = actor.token in (m : Machine) → Codes w.now m
+        → result ≡ map slot_words (formals_bound (token_at m.tokens p).binds (params_at dag.now actor.row)) }
 {
-    let count = wide(dag_word(dag, at + PARAMETER_COUNT));
+    let count = wide(dag_word(dag, actor.row + PARAMETER_COUNT));
     let mut slots = [SlotWords {
         kind: EMPTY_SLOT,
         number: 0,
     }; 8];
     for i in 0..count {
-        let kind = dag_word(dag, at + PARAMETER_KIND + 2 * i);
-        let number = dag_word(dag, at + PARAMETER_WORD + 2 * i);
-        slots[i] = passed(w, p, kind, number);
+        let kind = dag_word(dag, actor.row + PARAMETER_KIND + 2 * i);
+        let number = dag_word(dag, actor.row + PARAMETER_WORD + 2 * i);
+        slots[i] = passed(w, actor.token, kind, number);
     }
     slots
 }

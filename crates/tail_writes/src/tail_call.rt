@@ -14,26 +14,25 @@ use job::dag::WORDS;
 use model::record::Machine;
 use record::order::{Queue, replace};
 use record::token::{set_node, set_value};
+use writes::actor::Actor;
 
 // "with no value and only its formals bound": caller, cell and state stay.
 pub fn written(
     w: &mut [u32; Machine::WORDS],
     dag: &[u32; WORDS],
-    at: usize,
-    place: usize,
-    p: usize,
+    actor: Actor,
     root: u32,
 )
-    requires { (p < 64) × ParamsHold dag.now at }
-    ensures { (m : Machine) → Holds w.old m → place < m.queued → (token_at m.tokens p).state ≡ states.Ready
+    requires { (actor.token < 64) × ParamsHold dag.now actor.row }
+    ensures { let p = actor.token in (m : Machine) → Holds w.old m → actor.place < m.queued → (token_at m.tokens p).state ≡ states.Ready
         → Holds w.new
         (enqueue p (put p
-        (callee (token_at m.tokens p).caller (token_at m.tokens p) root (params_at dag.now at))
-        (dequeued m place))) }
+        (callee (token_at m.tokens p).caller (token_at m.tokens p) root (params_at dag.now actor.row))
+        (dequeued m actor.place))) }
 {
-    let slots = passed_slots(w, dag, at, p);
-    replace(w, place, p as u32);
-    bind_slots(w, p, &slots);
-    set_value(w, p, 0, 0);
-    set_node(w, p, root);
+    let slots = passed_slots(w, dag, actor);
+    replace::<Queue>(w, actor.place, actor.token as u32);
+    bind_slots(w, actor.token, &slots);
+    set_value(w, actor.token, 0, 0);
+    set_node(w, actor.token, root);
 }

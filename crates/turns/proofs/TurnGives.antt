@@ -26,13 +26,14 @@ use Rattle.acts.specs.Acting.{Lawful, QueueHasToken, Gives, call_report}
 use Rattle.acts.specs.SharedFrames.{OneCallee, Stepped}
 use Rattle.acts.proofs.CalleeSteps.{answer_keeps, advance-keeps}
 use Rattle.turns.specs.Turn.{turn_outcome, IsDelivery, taken, not_open, wrong_time}
+use Rattle.reach.specs.declared.used.Marks.{Marks}
 use Rattle.turns.proofs.TurnCases.{turn-empty, turn-ready}
 
 -- a delivery, for any record that the words hold
 abbrev pub Delivers : (ws after : List ℕ) (end : ℕ) → Report → (handle value : ℕ) → Type 0
 Delivers ws after end r h v =
-    (m : Machine) (dag : List ℕ) (used cells : List Bool) → Lawful ws used cells dag m → BlankFrom m end
-    → Gives (delivered paper (dag_of dag) m h v) m after used cells r
+    (m : Machine) (dag : List ℕ) (used : Marks) → Lawful ws used dag m → BlankFrom m end
+    → Gives (delivered paper (dag_of dag) m h v) m after used r
 
 -- the numbers of a record, as the code hands them on
 pub delivers-as : {ws after : List ℕ} {end : ℕ} {r : Report} {h k v n : ℕ} → h ≡ k → v ≡ n → Delivers ws after end r h v
@@ -43,21 +44,21 @@ delivers-as {ws} {after} {end} {r} {h} {n = n} same word gives =
 -- with the clock's handle the time is told, with any other an answer is
 module _ {ws after : List ℕ} {end : ℕ} {h : ℕ} (v : ℕ) (r : Result Unit Refusal) where
   pub delivers-time :
-      ((m : Machine) (dag : List ℕ) (used cells : List Bool) → Lawful ws used cells dag m
-      → Gives (Clock.advance paper (dag_of dag) m v) m after used cells (call_report r))
+      ((m : Machine) (dag : List ℕ) (used : Marks) → Lawful ws used dag m
+      → Gives (Clock.advance paper (dag_of dag) m v) m after used (call_report r))
       → h ≡ clock_handle → Delivers ws after end (call_report r) h v
-  delivers-time gives e m dag used cells lawful blank =
-      subst (λ (o : Outcome). Gives o m after used cells (call_report r)) (sym (moves-clock paper (dag_of dag) m h v e))
-      (gives m dag used cells lawful)
+  delivers-time gives e m dag used lawful blank =
+      subst (λ (o : Outcome). Gives o m after used (call_report r)) (sym (moves-clock paper (dag_of dag) m h v e))
+      (gives m dag used lawful)
 
   pub delivers-answer : {u : ℤ}
-      → ((m : Machine) (dag : List ℕ) (used cells : List Bool) → Lawful ws used cells dag m → BlankFrom m end
-      → Gives (Answer.answer paper (dag_of dag) m h u) m after used cells (call_report r))
+      → ((m : Machine) (dag : List ℕ) (used : Marks) → Lawful ws used dag m → BlankFrom m end
+      → Gives (Answer.answer paper (dag_of dag) m h u) m after used (call_report r))
       → u ≡ signed v → (h ≡ clock_handle → ⊥) → Delivers ws after end (call_report r) h v
-  delivers-answer gives is other m dag used cells lawful blank =
-      subst (λ (o : Outcome). Gives o m after used cells (call_report r)) (sym (answers paper (dag_of dag) m h v other))
-      (subst (λ (z : ℤ). Gives (Answer.answer paper (dag_of dag) m h z) m after used cells (call_report r)) is
-      (gives m dag used cells lawful blank))
+  delivers-answer gives is other m dag used lawful blank =
+      subst (λ (o : Outcome). Gives o m after used (call_report r)) (sym (answers paper (dag_of dag) m h v other))
+      (subst (λ (z : ℤ). Gives (Answer.answer paper (dag_of dag) m h z) m after used (call_report r)) is
+      (gives m dag used lawful blank))
 
 -- what may be refused
 pub time-delivery : (r : Result Unit Refusal) → IfErr r (λ e. e ≡ refusals.WrongTime) → IsDelivery r
@@ -83,17 +84,17 @@ delivery-keeps s dag m h v one = go (ℕ_discrete h clock_handle)
 -- with the queue empty a record is delivered
 pub turn-delivers : (ws rest after : List ℕ) (at end : ℕ) (r : Report)
     → Delivers ws after end r (number (take 4 (drop at rest))) (number (take 4 (drop (at + 4) rest)))
-    → (m : Machine) (dag : List ℕ) (used cells shared : List Bool) → Lawful ws used cells dag m → BlankFrom m end
+    → (m : Machine) (dag : List ℕ) (used : Marks) (shared : List Bool) → Lawful ws used dag m → BlankFrom m end
     → OneCallee shared m → m.queued ≡ 0
-    → Stepped (turn_outcome (dag_of dag) m rest at) m after used cells shared r
-turn-delivers ws rest after at end r gives m dag used cells shared lawful blank one e =
-    subst (λ (o : Outcome). Stepped o m after used cells shared r) (turn-empty (dag_of dag) m rest at _ e refl)
-    (record { gives = gives m dag used cells lawful blank; callees = λ framed. delivery-keeps shared dag m _ _ one })
+    → Stepped (turn_outcome (dag_of dag) m rest at) m after used shared r
+turn-delivers ws rest after at end r gives m dag used shared lawful blank one e =
+    subst (λ (o : Outcome). Stepped o m after used shared r) (turn-empty (dag_of dag) m rest at _ e refl)
+    (record { gives = gives m dag used lawful blank; callees = λ framed. delivery-keeps shared dag m _ _ one })
 
 -- and else the token at place 0 acts
-pub turn-steps : {ws dag after : List ℕ} {used cells used' cells' shared' : List Bool} {r : Report} (m : Machine) (rest : List ℕ) (at : ℕ)
-    → QueueHasToken ws used cells dag 0 m → Stepped (Step.step paper (dag_of dag) m 0) m after used' cells' shared' r
-    → Stepped (turn_outcome (dag_of dag) m rest at) m after used' cells' shared' r
-turn-steps {dag = dag} {after = after} {used' = used'} {cells' = cells'} {shared' = shared'} {r = r} m rest at t gives =
-    subst (λ (o : Outcome). Stepped o m after used' cells' shared' r)
+pub turn-steps : {ws dag after : List ℕ} {used used' : Marks} {shared' : List Bool} {r : Report} (m : Machine) (rest : List ℕ) (at : ℕ)
+    → QueueHasToken ws used dag 0 m → Stepped (Step.step paper (dag_of dag) m 0) m after used' shared' r
+    → Stepped (turn_outcome (dag_of dag) m rest at) m after used' shared' r
+turn-steps {dag = dag} {after = after} {used' = used'} {shared' = shared'} {r = r} m rest at t gives =
+    subst (λ (o : Outcome). Stepped o m after used' shared' r)
     (turn-ready (dag_of dag) m rest at _ (λ z. let some = t.queued in absurd (omega arith)) refl) gives

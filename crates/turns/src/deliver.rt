@@ -1,5 +1,5 @@
 // The delivery of a record.
-ghost use Rattle.std.specs.Prelude.{Bool, List, ℕ, ◌+◌, ◌≤◌, length, take, drop};
+ghost use Rattle.std.specs.Prelude.{List, ℕ, ◌+◌, ◌≤◌, length, take, drop};
 ghost use Rattle.job.specs.Words.{dag_of};
 ghost use Rattle.model.specs.Machine.Limits.{paper};
 ghost use Rattle.job.specs.Number.{number};
@@ -8,6 +8,7 @@ ghost use Rattle.model.specs.declared.record.Machine.{Machine};
 ghost use Rattle.reach.specs.Marks.{BlankFrom};
 ghost use Rattle.acts.specs.Acting.{Lawful, Gives, call_report};
 ghost use Rattle.turns.specs.Turn.{IsDelivery};
+ghost use Rattle.reach.specs.declared.used.Marks.{Marks};
 
 use entries::entry::word_at;
 use model::record::Machine;
@@ -27,9 +28,9 @@ pub fn deliver(
     end: usize,
 ) -> Result<(), Refusal>
     requires { (at + 8 ≤ length rest.now) × (end ≤ 64) }
-    ensures gives { (m : Machine) (dag : List ℕ) (used cells : List Bool) → Lawful w.old used cells dag m → BlankFrom m end
+    ensures gives { (m : Machine) (dag : List ℕ) (used : Marks) → Lawful w.old used dag m → BlankFrom m end
         → Gives (delivered paper (dag_of dag) m (number (take 4 (drop at rest.now)))
-        (number (take 4 (drop (at + 4) rest.now)))) m w.new used cells (call_report result) }
+        (number (take 4 (drop (at + 4) rest.now)))) m w.new used (call_report result) }
     ensures delivery { IsDelivery result }
 {
     let handle = word_at(rest, at);

@@ -21,6 +21,8 @@ use Rattle.demand3.proofs.Unblanked.{rules-clean}
 use Rattle.record.specs.Layout.{place_number}
 use Rattle.acts.specs.Acting.{Taking, Acting, CallersAreFrames, Gives}
 use Rattle.acts.specs.SharedFrames.{NamesAsCaller, OneCallee, caller_shared, return_shared, Stepped}
+use Rattle.reach.specs.declared.used.Marks.{Marks}
+use Rattle.writes.specs.declared.actor.Actor.{Actor}
 use Rattle.acts.proofs.SharedFrames.{blank-names}
 use Rattle.acts.proofs.CalleeSteps.{StepKeeps, call-keeps, fork-keeps, where-keeps}
 use Rattle.acts.proofs.Outcomes.{token-ready}
@@ -58,70 +60,70 @@ module _ (m : Machine) (f : ℕ) (s : List Bool) where
   return-unmarked e = rw (e, return_shared) refl
 
 -- callers are frames
-pub nobody-names : {ws dag : List ℕ} {used cells : List Bool} {place p : ℕ} {m : Machine} → Taking ws used cells dag place p m
+pub nobody-names : {ws dag : List ℕ} {used : Marks} {actor : Actor} {m : Machine} → Taking ws used dag actor m
     → CallersAreFrames m
-    → (i : ℕ) → NamesAsCaller m p i → ⊥
+    → (i : ℕ) → NamesAsCaller m actor.token i → ⊥
 unfolding is_ready
-nobody-names {dag = dag} {p = p} {m = m} a framed i e = go (get_or (tokens_used m) i true) refl
+nobody-names {dag = dag} {actor = actor} {m = m} a framed i e = go (get_or (tokens_used m) i true) refl
   where
     go : (b : Bool) → get_or (tokens_used m) i true ≡ b → ⊥
-    go true u = clash (token-ready a) (ap is_ready (framed i p u e))
-    go false u = blank-names m p i ((rules-clean paper (dag_of dag) m a.lawful.rules).tokens i u) e
+    go true u = clash (token-ready a) (ap is_ready (framed i actor.token u e))
+    go false u = blank-names m actor.token i ((rules-clean paper (dag_of dag) m a.lawful.rules).tokens i u) e
 
 -- What a step leaves, with the marks s before it
-abbrev Leaves : (dag : List ℕ) (place : ℕ) (m : Machine) (after : List ℕ) (used cells : List Bool) → Report → (s : List Bool) → Type 0
-Leaves dag place m after used cells r s = Stepped (Step.step paper (dag_of dag) m place) m after used cells s r
+abbrev Leaves : (dag : List ℕ) (place : ℕ) (m : Machine) (after : List ℕ) (used : Marks) → Report → (s : List Bool) → Type 0
+Leaves dag place m after used r s = Stepped (Step.step paper (dag_of dag) m place) m after used s r
 
-abbrev GivesStep : (dag : List ℕ) (place : ℕ) (m : Machine) (after : List ℕ) (used cells : List Bool) → Report → Type 0
-GivesStep dag place m after used cells r = Gives (Step.step paper (dag_of dag) m place) m after used cells r
+abbrev GivesStep : (dag : List ℕ) (place : ℕ) (m : Machine) (after : List ℕ) (used : Marks) → Report → Type 0
+GivesStep dag place m after used r = Gives (Step.step paper (dag_of dag) m place) m after used r
 
 -- the marks stay, at a node that gives no place a new callee
-pub same-leaves : (s : List Bool) (k : ℕ) {ws dag after : List ℕ} {used cells used' cells' : List Bool} {place p at : ℕ} {m : Machine}
+pub same-leaves : (s : List Bool) (k : ℕ) {ws dag after : List ℕ} {used used' : Marks} {actor : Actor} {m : Machine}
     {r : Report}
-    → ((s : List Bool) (dag : List ℕ) (place p at : ℕ) (m : Machine) → StepKeeps s dag place p at m k)
-    → Acting ws used cells dag place p at k m → OneCallee s m → GivesStep dag place m after used' cells' r
-    → Leaves dag place m after used' cells' r s
-same-leaves s k keeps a one g = record { gives = g; callees = λ framed. keeps s _ _ _ _ _ _ _ _ a one }
+    → ((s : List Bool) (dag : List ℕ) (actor : Actor) (m : Machine) → StepKeeps s dag actor m k)
+    → Acting ws used dag actor k m → OneCallee s m → GivesStep dag actor.place m after used' r
+    → Leaves dag actor.place m after used' r s
+same-leaves s k keeps a one g = record { gives = g; callees = λ framed. keeps s _ _ _ _ _ a one }
 
-pub call-leaves : (s : List Bool) {ws dag after : List ℕ} {used cells used' cells' : List Bool} {place p at : ℕ} {m : Machine} {r : Report}
-    → Acting ws used cells dag place p at 2 m → OneCallee s m → GivesStep dag place m after used' cells' r
-    → Leaves dag place m after used' cells' r (set s p false)
-call-leaves s a one g = record { gives = g; callees = λ framed. call-keeps s _ _ _ _ _ _ _ _ a (nobody-names a.taking framed) one }
+pub call-leaves : (s : List Bool) {ws dag after : List ℕ} {used used' : Marks} {actor : Actor} {m : Machine} {r : Report}
+    → Acting ws used dag actor 2 m → OneCallee s m → GivesStep dag actor.place m after used' r
+    → Leaves dag actor.place m after used' r (set s actor.token false)
+call-leaves s a one g = record { gives = g; callees = λ framed. call-keeps s _ _ _ _ _ a (nobody-names a.taking framed) one }
 
-pub fork-leaves : (s s' : List Bool) {ws dag after : List ℕ} {used cells used' cells' : List Bool} {place p at : ℕ} {m : Machine}
+pub fork-leaves : (s s' : List Bool) {ws dag after : List ℕ} {used used' : Marks} {actor : Actor} {m : Machine}
     {r : Report}
-    → Acting ws used cells dag place p at 3 m → OneCallee s m → GivesStep dag place m after used' cells' r
-    → s' ≡ caller_shared (token_at m.tokens p).caller s → Leaves dag place m after used' cells' r s'
-fork-leaves s s' {dag = dag} {place = place} {m = m} a one g e =
+    → Acting ws used dag actor 3 m → OneCallee s m → GivesStep dag actor.place m after used' r
+    → s' ≡ caller_shared (token_at m.tokens actor.token).caller s → Leaves dag actor.place m after used' r s'
+fork-leaves s s' {dag = dag} {actor = actor} {m = m} a one g e =
     record {
       gives = g;
       callees =
           λ framed.
-          subst (λ (u : List Bool). OneCallee u (Step.step paper (dag_of dag) m place).machine) (sym e)
-          (fork-keeps s _ _ _ _ _ _ _ _ a one);
+          subst (λ (u : List Bool). OneCallee u (Step.step paper (dag_of dag) m actor.place).machine) (sym e)
+          (fork-keeps s _ _ _ _ _ a one);
     }
 
-pub where-leaves : (s s' : List Bool) {ws dag after : List ℕ} {used cells used' cells' : List Bool} {place p at : ℕ} {m : Machine}
+pub where-leaves : (s s' : List Bool) {ws dag after : List ℕ} {used used' : Marks} {actor : Actor} {m : Machine}
     {r : Report}
-    → Acting ws used cells dag place p at 6 m → OneCallee s m → GivesStep dag place m after used' cells' r
-    → s' ≡ caller_shared (token_at m.tokens p).caller s → Leaves dag place m after used' cells' r s'
-where-leaves s s' {dag = dag} {place = place} {m = m} a one g e =
+    → Acting ws used dag actor 6 m → OneCallee s m → GivesStep dag actor.place m after used' r
+    → s' ≡ caller_shared (token_at m.tokens actor.token).caller s → Leaves dag actor.place m after used' r s'
+where-leaves s s' {dag = dag} {actor = actor} {m = m} a one g e =
     record {
       gives = g;
       callees =
           λ framed.
-          subst (λ (u : List Bool). OneCallee u (Step.step paper (dag_of dag) m place).machine) (sym e)
-          (where-keeps s _ _ _ _ _ _ _ _ a one);
+          subst (λ (u : List Bool). OneCallee u (Step.step paper (dag_of dag) m actor.place).machine) (sym e)
+          (where-keeps s _ _ _ _ _ a one);
     }
 
-pub return-leaves : (s s' : List Bool) {ws dag after : List ℕ} {used cells used' cells' : List Bool} {place p at : ℕ} {m : Machine}
+pub return-leaves : (s s' : List Bool) {ws dag after : List ℕ} {used used' : Marks} {actor : Actor} {m : Machine}
     {r : Report}
-    → Acting ws used cells dag place p at 8 m → OneCallee s m → GivesStep dag place m after used' cells' r
-    → (f : ℕ) → f < 64 → (token_at m.tokens p).caller ≡ Some f → s' ≡ return_shared m f s → Leaves dag place m after used' cells' r s'
-return-leaves s s' {dag = dag} {place = place} {m = m} a one g f l caller e =
+    → Acting ws used dag actor 8 m → OneCallee s m → GivesStep dag actor.place m after used' r
+    → (f : ℕ) → f < 64 → (token_at m.tokens actor.token).caller ≡ Some f → s' ≡ return_shared m f s → Leaves dag actor.place m after used' r s'
+return-leaves s s' {dag = dag} {actor = actor} {m = m} a one g f l caller e =
     record {
       gives = g;
       callees =
           λ framed.
-          subst (λ (u : List Bool). OneCallee u (Step.step paper (dag_of dag) m place).machine) (sym e) (return-keeps a f l caller s one);
+          subst (λ (u : List Bool). OneCallee u (Step.step paper (dag_of dag) m actor.place).machine) (sym e) (return-keeps a f l caller s one);
     }

@@ -15,20 +15,21 @@ use Rattle.model.specs.declared.reply.Reply.TheVariants as replies
 use Rattle.demand3.proofs.Carried.{advanced-carried}
 use Rattle.record.specs.Holds.{Holds}
 use Rattle.acts.specs.Acting.{Lawful, Gives, call_report}
+use Rattle.reach.specs.declared.used.Marks.{Marks}
 use Rattle.acts.proofs.Outcomes.{gives_whole, gives-refused}
 
-module _ {ws dag : List ℕ} {used cells : List Bool} {m : Machine} (a : Lawful ws used cells dag m) (time : ℕ) {b : Bool}
+module _ {ws dag : List ℕ} {used : Marks} {m : Machine} (a : Lawful ws used dag m) (time : ℕ) {b : Bool}
     (says : b ≡ Clock.takes_time m time) where
   abbrev call : Outcome
   call = Clock.advance paper (dag_of dag) m time
 
   -- 15
-  pub advance-refused : b ≡ false → Gives call m ws used cells (call_report (Err refusals.WrongTime))
+  pub advance-refused : b ≡ false → Gives call m ws used (call_report (Err refusals.WrongTime))
   unfolding Clock.advance unless
   advance-refused e = gives-refused 15 _ a (rw (a.rules, sym says ∙ e, unless)) refl
 
   pub advance-gives : b ≡ true → {after : List ℕ} → Holds after (Clock.after_advance m time)
-      → Gives call m after used cells (call_report (Ok tt))
+      → Gives call m after used (call_report (Ok tt))
   unfolding Clock.advance unless outcome
   advance-gives e h =
       let c = advanced-carried paper (dag_of dag) m a.rules time in

@@ -7,7 +7,7 @@ use Prim.Native.Nat.{ℕ, ◌<◌, ◌≤◌}
 use native.Mathlib.Omega.{arith}
 use lib.ListN.{length, get_or, set, replicate}
 use lib.IntN.{ℤ}
-use Rattle.std.specs.Prelude.{Result, Ok, Err}
+use Rattle.std.specs.Prelude.{Some, None, Result, Ok, Err}
 use Rattle.std.proofs.lemmas.Result.{IfErr-at_err}
 use Rattle.job.specs.Test.{padded}
 use Rattle.job.specs.Words.{dag_of}
@@ -40,11 +40,13 @@ use Rattle.sites.proofs.AnswerLaws.{answered-moves, answered-refuses}
 use Rattle.unchecked.proofs.AnswerUnknown.{unknown-handle}
 use Rattle.reach.specs.Marks.{BlankFrom}
 use Rattle.acts.specs.Acting.{Lawful, QueueHasToken, Taking, Acting, Gives, call_report}
+use Rattle.reach.specs.declared.used.Marks.{Marks}
+use Rattle.writes.specs.declared.actor.Actor.{Actor}
 use Rattle.acts.proofs.Outcomes.{gives_whole, gives-refused}
 use Rattle.job.proofs.Lists.{replicate-at}
 
 -- the token that acts
-module _ {ws dag : List ℕ} {used cells : List Bool} {place : ℕ} {m : Machine} (r : QueueHasToken ws used cells dag place m) where
+module _ {ws dag : List ℕ} {used : Marks} {place : ℕ} {m : Machine} (r : QueueHasToken ws used dag place m) where
   pub place_inside : place < 64
   place_inside =
       let f = queue-fits r.lawful.holds in
@@ -52,47 +54,48 @@ module _ {ws dag : List ℕ} {used cells : List Bool} {place : ℕ} {m : Machine
       let l = r.queued in
       omega arith
 
-  pub taking-of : {p : ℕ} → p ≡ get_or m.queue place 0 → Taking ws used cells dag place p m
+  pub taking-of : {token row : ℕ} → token ≡ get_or m.queue place 0
+      → Taking ws used dag (record { place = place; token = token; row = row }) m
   taking-of e = record { lawful = r.lawful; queued = r.queued; token = e }
 
-  pub acting-of : {p at : ℕ} → p ≡ get_or m.queue place 0 → at ≡ row_of (token_at m.tokens p).node
-      → Acting ws used cells dag place p at (get_or dag at 0) m
+  pub acting-of : {token row : ℕ} → token ≡ get_or m.queue place 0 → row ≡ row_of (token_at m.tokens token).node
+      → Acting ws used dag (record { place = place; token = token; row = row }) (get_or dag row 0) m
   acting-of e f = record { taking = taking-of e; row = f; kind = refl }
 
-pub of-kind : {ws dag : List ℕ} {used cells : List Bool} {place p at i : ℕ} (k : ℕ) {m : Machine} → get_or dag at 0 ≡ i → i ≡ k
-    → Acting ws used cells dag place p at (get_or dag at 0) m → Acting ws used cells dag place p at k m
+pub of-kind : {ws dag : List ℕ} {used : Marks} {actor : Actor} {i : ℕ} (k : ℕ) {m : Machine} → get_or dag actor.row 0 ≡ i → i ≡ k
+    → Acting ws used dag actor (get_or dag actor.row 0) m → Acting ws used dag actor k m
 of-kind k e f a = record { taking = a.taking; row = a.row; kind = e ∙ f }
 
 -- an answer to a handle that no call was given
-module _ {ws dag : List ℕ} {used cells : List Bool} {m : Machine} (a : Lawful ws used cells dag m) (handle : ℕ) (v : ℤ) where
+module _ {ws dag : List ℕ} {used : Marks} {m : Machine} (a : Lawful ws used dag m) (handle : ℕ) (v : ℤ) where
   tested : Answer.answer paper (dag_of dag) m handle v ≡ outcome m (Answer.answered m v (holder handle 0 m.tokens))
   unfolding Answer.answer unless
   tested = rw (a.rules, unless)
 
   pub answer-unknown : m.calls ≤ handle
-      → Gives (Answer.answer paper (dag_of dag) m handle v) m ws used cells (call_report (Err refusals.NotOpen))
+      → Gives (Answer.answer paper (dag_of dag) m handle v) m ws used (call_report (Err refusals.NotOpen))
   unfolding is_place
   answer-unknown l =
       let none = ap is_place (unknown-handle (dag_of dag) m handle a.rules l) in
       gives-refused 12 _ a (tested ∙ ap (outcome m) (answered-refuses m v _ none)) refl
 
 -- an answer
-module _ {ws after dag : List ℕ} {used cells : List Bool} {m : Machine} (a : Lawful ws used cells dag m) (handle : ℕ) (v : ℤ)
+module _ {ws after dag : List ℕ} {used : Marks} {m : Machine} (a : Lawful ws used dag m) (handle : ℕ) (v : ℤ)
     (r : Result Unit Refusal) (end : ℕ) (k : Answered end handle v r ws after) (blank : BlankFrom m end) where
   at_place : (q : Place) → holder handle 0 m.tokens ≡ q → is_place q ≡ true → Carried (answered_by m v q) (tokens_used m) (cells_used m)
   unfolding is_place answered_by
   at_place None e f = clash f refl
   at_place (Some p) e f = answered-carried paper (dag_of dag) m a.rules handle v p e
 
-  pub answer-gives : Gives (Answer.answer paper (dag_of dag) m handle v) m after used cells (call_report r)
+  pub answer-gives : Gives (Answer.answer paper (dag_of dag) m handle v) m after used (call_report r)
   unfolding outcome answer_says
   answer-gives = go (is_place (holder handle 0 m.tokens)) refl
     where
       go : (x : Bool) → is_place (holder handle 0 m.tokens) ≡ x
-          → Gives (Answer.answer paper (dag_of dag) m handle v) m after used cells (call_report r)
+          → Gives (Answer.answer paper (dag_of dag) m handle v) m after used (call_report r)
       go true here =
           let c = at_place (holder handle 0 m.tokens) refl here in
-          subst (λ y. Gives (Answer.answer paper (dag_of dag) m handle v) m after used cells (call_report y))
+          subst (λ y. Gives (Answer.answer paper (dag_of dag) m handle v) m after used (call_report y))
           (sym (k.says m a.holds blank ∙ ap answer_says here))
           (gives_whole (answered_by m v (holder handle 0 m.tokens)) replies.Done [] (call_report (Ok tt))
           (tested a handle v ∙ ap (outcome m) (answered-moves m v _ here)) refl refl (k.does (dag_of dag) m a.holds blank a.rules)
@@ -101,8 +104,8 @@ module _ {ws after dag : List ℕ} {used cells : List Bool} {m : Machine} (a : L
       go false none =
           let e : r ≡ Err refusals.NotOpen = k.says m a.holds blank ∙ ap answer_says none in
           let same = IfErr-at_err (λ (e : Refusal). (e ≡ refusals.NotOpen) × (after ≡ ws)) e k.stays in
-          subst (λ y. Gives (Answer.answer paper (dag_of dag) m handle v) m after used cells (call_report y)) (sym e)
-          (subst (λ x. Gives (Answer.answer paper (dag_of dag) m handle v) m x used cells (call_report (Err refusals.NotOpen)))
+          subst (λ y. Gives (Answer.answer paper (dag_of dag) m handle v) m after used (call_report y)) (sym e)
+          (subst (λ x. Gives (Answer.answer paper (dag_of dag) m handle v) m x used (call_report (Err refusals.NotOpen)))
           (sym same.1)
           (gives-refused 12 _ a (tested a handle v ∙ ap (outcome m) (answered-refuses m v _ none)) refl))
 

@@ -7,7 +7,7 @@ ghost use Rattle.model.specs.declared.record.Machine.{Machine};
 ghost use Rattle.acts.specs.Acting.{SomeMachine, Acting};
 ghost use Rattle.acts.specs.SharedFrames.{OneCallee, Stepped};
 
-use crate::callees::{call_marked, fork_marked, return_marked, where_marked};
+use crate::callees::{call_marked, return_marked, share_caller};
 use acts::choke::choke_cell;
 use acts::end::{publish, stop};
 use acts::rebind::{assign, remove};
@@ -15,38 +15,41 @@ use calls::site_call::site_call;
 use job::dag::{ASSIGN, CALL, CHOKE, FORK, REMOVE, RETURN, SITE, STOP, WHERE, WORDS};
 use model::record::Machine;
 use model::reply::Report;
-use record::token::node;
+use reach::used::Marks;
+use spawns::fork::fork;
+use spawns::where_split::where_split;
+use writes::actor::Actor;
 use writes::dag::dag_word;
 
-// The token at p acts at its node, whose row begins at the word `at`.
+// The token acts at its node.
 pub(crate) fn act(
     w: &mut [u32; Machine::WORDS],
-    tokens: &mut [bool; Machine::TOKENS],
-    cells: &mut [bool; Machine::CELLS],
+    marks: &mut Marks,
     shared: &mut [bool; Machine::TOKENS],
     dag: &[u32; WORDS],
-    place: usize,
-    p: usize,
-    at: usize,
+    actor: Actor,
 ) -> Report
-    requires { SomeMachine (Acting w.old tokens.old cells.old dag.now place p at (get_or dag.now at 0)) }
-    ensures { (m : Machine)
-        → Acting w.old tokens.old cells.old dag.now place p at
-        (get_or dag.now at 0) m
+    requires { SomeMachine (Acting w.old marks.old dag.now actor (get_or dag.now actor.row 0)) }
+    ensures { (m : Machine) → Acting w.old marks.old dag.now actor (get_or dag.now actor.row 0) m
         → OneCallee shared.old m
-        → Stepped (Step.step paper (dag_of dag.now) m place) m w.new tokens.new cells.new
-        shared.new result }
+        → Stepped (Step.step paper (dag_of dag.now) m actor.place) m w.new marks.new shared.new result }
 {
-    match dag_word(dag, at) {
-        STOP => stop(w, tokens, cells, dag, place, p, at),
-        SITE => site_call(w, tokens, cells, dag, place, p, at),
-        CALL => call_marked(w, tokens, cells, shared, dag, place, p, at),
-        FORK => fork_marked(w, tokens, cells, shared, dag, place, p, at),
-        ASSIGN => assign(w, tokens, cells, dag, place, p, at),
-        REMOVE => remove(w, tokens, cells, dag, place, p, at),
-        WHERE => where_marked(w, tokens, cells, shared, dag, place, p, at),
-        CHOKE => choke_cell(w, tokens, cells, dag, place, p, at),
-        RETURN => return_marked(w, tokens, cells, shared, dag, place, p, at),
-        _ => publish(w, tokens, cells, dag, place, p, at),
+    match dag_word(dag, actor.row) {
+        STOP => stop(w, marks, dag, actor),
+        SITE => site_call(w, marks, dag, actor),
+        CALL => call_marked(w, marks, shared, dag, actor),
+        FORK => {
+            share_caller(w, actor.token, shared);
+            fork(w, marks, dag, actor)
+        }
+        ASSIGN => assign(w, marks, dag, actor),
+        REMOVE => remove(w, marks, dag, actor),
+        WHERE => {
+            share_caller(w, actor.token, shared);
+            where_split(w, marks, dag, actor)
+        }
+        CHOKE => choke_cell(w, marks, dag, actor),
+        RETURN => return_marked(w, marks, shared, dag, actor),
+        _ => publish(w, marks, dag, actor),
     }
 }

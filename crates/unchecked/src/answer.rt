@@ -1,5 +1,5 @@
 // The calls on a record whose index rules hold: they are not tested again. The marks say what is in use, before a call and after it.
-ghost use Rattle.std.specs.Prelude.{◌≡◌, Bool, List, ℕ, ◌≤◌, IfErr};
+ghost use Rattle.std.specs.Prelude.{◌≡◌, List, ℕ, ◌≤◌, IfErr};
 ghost use Rattle.job.specs.Words.{dag_of};
 ghost use Rattle.model.specs.Machine.Answer as Answer;
 ghost use Rattle.model.specs.Machine.Limits.{paper};
@@ -7,6 +7,7 @@ ghost use Rattle.model.specs.declared.record.Machine.{Machine};
 ghost use Rattle.model.specs.declared.reply.Refusal.TheVariants as refusals;
 ghost use Rattle.reach.specs.Marks.{BlankFrom};
 ghost use Rattle.acts.specs.Acting.{Lawful, Gives, call_report};
+ghost use Rattle.reach.specs.declared.used.Marks.{Marks};
 
 use crate::report::report;
 use model::record::Machine;
@@ -22,8 +23,8 @@ pub fn resume(
     end: usize,
 ) -> Result<(), Refusal>
     requires { end ≤ 64 }
-    ensures gives { (m : Machine) (dag : List ℕ) (used cells : List Bool) → Lawful w.old used cells dag m → BlankFrom m end
-        → Gives (Answer.answer paper (dag_of dag) m handle value) m w.new used cells (call_report result) }
+    ensures gives { (m : Machine) (dag : List ℕ) (used : Marks) → Lawful w.old used dag m → BlankFrom m end
+        → Gives (Answer.answer paper (dag_of dag) m handle value) m w.new used (call_report result) }
     ensures not_open { IfErr result (λ e. e ≡ refusals.NotOpen) }
 {
     if calls_made(w) <= handle {
@@ -33,8 +34,8 @@ pub fn resume(
 }
 
 pub fn answer(w: &mut [u32; Machine::WORDS], handle: u32, value: i32) -> Report
-    ensures { (m : Machine) (dag : List ℕ) (used cells : List Bool) → Lawful w.old used cells dag m
-        → Gives (Answer.answer paper (dag_of dag) m handle value) m w.new used cells result }
+    ensures { (m : Machine) (dag : List ℕ) (used : Marks) → Lawful w.old used dag m
+        → Gives (Answer.answer paper (dag_of dag) m handle value) m w.new used result }
 {
     report(resume(w, handle, value, Machine::TOKENS))
 }

@@ -13,17 +13,17 @@ ghost use Rattle.acts.specs.SharedFrames.{OneCallee, caller_shared, Stepped};
 use job::dag::{NEXT_NODE, WORDS};
 use model::record::Machine;
 use model::reply::Report;
+use reach::used::Marks;
 use record::token::caller;
 use returns::return_value::return_value;
 use spawns::definition_call::definition_call;
-use spawns::fork::fork;
-use spawns::where_split::where_split;
 use tail_calls::tail_call::tail_call;
 use tail_writes::tail::is_tail;
+use writes::actor::Actor;
 use writes::dag::dag_word;
 
 // The caller of the token at p gets one more callee.
-fn share_caller(w: &[u32; Machine::WORDS], p: usize, shared: &mut [bool])
+pub(crate) fn share_caller(w: &[u32; Machine::WORDS], p: usize, shared: &mut [bool])
     requires { (p < 64) × (length shared.old ≡ 64) }
     ensures { (m : Machine) → Codes w.now m
         → shared.new ≡ caller_shared (token_at m.tokens p).caller shared.old }
@@ -44,92 +44,44 @@ fn is_shared(shared: &[bool], f: usize) -> bool
     shared[f]
 }
 
-pub(crate) fn fork_marked(
-    w: &mut [u32; Machine::WORDS],
-    tokens: &mut [bool; Machine::TOKENS],
-    cells: &mut [bool; Machine::CELLS],
-    shared: &mut [bool; Machine::TOKENS],
-    dag: &[u32; WORDS],
-    place: usize,
-    p: usize,
-    at: usize,
-) -> Report
-    requires { SomeMachine (Acting w.old tokens.old cells.old dag.now place p at 3) }
-    ensures { (m : Machine) → Acting w.old tokens.old cells.old dag.now place p at 3 m
-        → OneCallee shared.old m
-        → Stepped (Step.step paper (dag_of dag.now) m place) m w.new tokens.new cells.new
-        shared.new result }
-{
-    share_caller(w, p, shared);
-    fork(w, tokens, cells, dag, place, p, at)
-}
-
-pub(crate) fn where_marked(
-    w: &mut [u32; Machine::WORDS],
-    tokens: &mut [bool; Machine::TOKENS],
-    cells: &mut [bool; Machine::CELLS],
-    shared: &mut [bool; Machine::TOKENS],
-    dag: &[u32; WORDS],
-    place: usize,
-    p: usize,
-    at: usize,
-) -> Report
-    requires { SomeMachine (Acting w.old tokens.old cells.old dag.now place p at 6) }
-    ensures { (m : Machine) → Acting w.old tokens.old cells.old dag.now place p at 6 m
-        → OneCallee shared.old m
-        → Stepped (Step.step paper (dag_of dag.now) m place) m w.new tokens.new cells.new
-        shared.new result }
-{
-    share_caller(w, p, shared);
-    where_split(w, tokens, cells, dag, place, p, at)
-}
-
 // Nobody names the token: not before it becomes a frame, and not where it becomes the callee.
 pub(crate) fn call_marked(
     w: &mut [u32; Machine::WORDS],
-    tokens: &mut [bool; Machine::TOKENS],
-    cells: &mut [bool; Machine::CELLS],
+    marks: &mut Marks,
     shared: &mut [bool; Machine::TOKENS],
     dag: &[u32; WORDS],
-    place: usize,
-    p: usize,
-    at: usize,
+    actor: Actor,
 ) -> Report
-    requires { SomeMachine (Acting w.old tokens.old cells.old dag.now place p at 2) }
-    ensures { (m : Machine) → Acting w.old tokens.old cells.old dag.now place p at 2 m
+    requires { SomeMachine (Acting w.old marks.old dag.now actor 2) }
+    ensures { (m : Machine) → Acting w.old marks.old dag.now actor 2 m
         → OneCallee shared.old m
-        → Stepped (Step.step paper (dag_of dag.now) m place) m w.new tokens.new cells.new
-        shared.new result }
+        → Stepped (Step.step paper (dag_of dag.now) m actor.place) m w.new marks.new shared.new result }
 {
-    shared[p] = false;
-    let next = dag_word(dag, at + NEXT_NODE) as usize;
+    shared[actor.token] = false;
+    let next = dag_word(dag, actor.row + NEXT_NODE) as usize;
     if is_tail(dag, next) {
-        return tail_call(w, tokens, cells, dag, place, p, at);
+        return tail_call(w, marks, dag, actor);
     }
-    definition_call(w, tokens, cells, dag, place, p, at)
+    definition_call(w, marks, dag, actor)
 }
 
 // A frame that stays behind names its caller beside the token that took its links.
 pub(crate) fn return_marked(
     w: &mut [u32; Machine::WORDS],
-    tokens: &mut [bool; Machine::TOKENS],
-    cells: &mut [bool; Machine::CELLS],
+    marks: &mut Marks,
     shared: &mut [bool; Machine::TOKENS],
     dag: &[u32; WORDS],
-    place: usize,
-    p: usize,
-    at: usize,
+    actor: Actor,
 ) -> Report
-    requires { SomeMachine (Acting w.old tokens.old cells.old dag.now place p at 8) }
-    ensures { (m : Machine) → Acting w.old tokens.old cells.old dag.now place p at 8 m
+    requires { SomeMachine (Acting w.old marks.old dag.now actor 8) }
+    ensures { (m : Machine) → Acting w.old marks.old dag.now actor 8 m
         → OneCallee shared.old m
-        → Stepped (Step.step paper (dag_of dag.now) m place) m w.new tokens.new cells.new
-        shared.new result }
+        → Stepped (Step.step paper (dag_of dag.now) m actor.place) m w.new marks.new shared.new result }
 {
-    let f = caller(w, p) as usize - 1;
+    let f = caller(w, actor.token) as usize - 1;
     if is_shared(shared, f) {
         share_caller(w, f, shared);
-        return return_value(w, tokens, cells, dag, place, p, at, true);
+        return return_value(w, marks, dag, actor, true);
     }
-    return_value(w, tokens, cells, dag, place, p, at, false)
+    return_value(w, marks, dag, actor, false)
 }

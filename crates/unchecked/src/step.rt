@@ -10,25 +10,25 @@ use crate::act::act;
 use job::dag::{HEAD_WORDS, ROW_WORDS, WORDS};
 use model::record::Machine;
 use model::reply::Report;
+use reach::used::Marks;
 use record::order::{Queue, place_at};
 use record::token::node;
+use writes::actor::Actor;
 
 // One step of the token that the queue has at a place.
 pub fn step(
     w: &mut [u32; Machine::WORDS],
-    tokens: &mut [bool; Machine::TOKENS],
-    cells: &mut [bool; Machine::CELLS],
+    marks: &mut Marks,
     shared: &mut [bool; Machine::TOKENS],
     dag: &[u32; WORDS],
     place: usize,
 ) -> Report
-    requires { SomeMachine (QueueHasToken w.old tokens.old cells.old dag.now place) }
-    ensures { (m : Machine) → QueueHasToken w.old tokens.old cells.old dag.now place m
+    requires { SomeMachine (QueueHasToken w.old marks.old dag.now place) }
+    ensures { (m : Machine) → QueueHasToken w.old marks.old dag.now place m
         → OneCallee shared.old m
-        → Stepped (Step.step paper (dag_of dag.now) m place) m w.new tokens.new cells.new
-        shared.new result }
+        → Stepped (Step.step paper (dag_of dag.now) m place) m w.new marks.new shared.new result }
 {
-    let p = queue_name(w, place) as usize;
-    let at = HEAD_WORDS + ROW_WORDS * node(w, p) as usize;
-    act(w, tokens, cells, shared, dag, place, p, at)
+    let token = place_at::<Queue>(w, place) as usize;
+    let row = HEAD_WORDS + ROW_WORDS * node(w, token) as usize;
+    act(w, marks, shared, dag, Actor { place, token, row })
 }

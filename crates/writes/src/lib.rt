@@ -2,6 +2,7 @@
 // sweep behind it are in crates `acts` and `calls`.
 #![tactic(auto)]
 
+pub mod actor;
 pub mod dag;
 pub mod end;
 pub mod rebind;

@@ -8,6 +8,7 @@ ghost use Rattle.model.specs.Machine.Update.{with_node, with_binding, put, enque
 ghost use Rattle.model.specs.declared.token.Slot.{Slot};
 ghost use Rattle.record.specs.Layout.{slot_kind, slot_number};
 
+use crate::actor::Actor;
 use model::record::Machine;
 use record::order::{Queue, replace};
 use record::token::{set_bind, set_node};
@@ -15,18 +16,17 @@ use record::token::{set_bind, set_node};
 // The slot whose words these are is bound to x, and the token goes on.
 pub fn written(
     w: &mut [u32; Machine::WORDS],
-    place: usize,
-    p: usize,
+    actor: Actor,
     x: usize,
     kind: u32,
     number: u32,
     next: u32,
 )
-    requires { (p < 64) × (x < 8) }
-    ensures { (m : Machine) (s : Slot) → Holds w.old m → place < m.queued → slot_kind s ≡ kind → slot_number s ≡ number
-        → Holds w.new (enqueue p (put p (with_node next (with_binding x s (token_at m.tokens p))) (dequeued m place))) }
+    requires { (actor.token < 64) × (x < 8) }
+    ensures { let p = actor.token in (m : Machine) (s : Slot) → Holds w.old m → actor.place < m.queued → slot_kind s ≡ kind → slot_number s ≡ number
+        → Holds w.new (enqueue p (put p (with_node next (with_binding x s (token_at m.tokens p))) (dequeued m actor.place))) }
 {
-    replace::<Queue>(w, place, p as u32);
-    set_bind(w, p, x, kind, number);
-    set_node(w, p, next);
+    replace::<Queue>(w, actor.place, actor.token as u32);
+    set_bind(w, actor.token, x, kind, number);
+    set_node(w, actor.token, next);
 }

@@ -7,23 +7,24 @@ ghost use Rattle.record.specs.Holds.{Holds};
 ghost use Rattle.model.specs.Machine.Update.{with_state, with_value, put, enqueue};
 ghost use Rattle.model.specs.declared.token.State.TheVariants as states;
 
+use crate::actor::Actor;
 use model::record::Machine;
 use record::layout::READY_STATE;
 use record::order::{Queue, replace};
 use record::token::{copy, set_state, set_value, value, value_kind};
 
 // The token at p becomes the frame at f, with its own value.
-pub fn written(w: &mut [u32; Machine::WORDS], place: usize, p: usize, f: usize)
-    requires { (p < 64) × (f < 64) }
-    ensures { (m : Machine) → Holds w.old m → place < m.queued
+pub fn written(w: &mut [u32; Machine::WORDS], actor: Actor, f: usize)
+    requires { (actor.token < 64) × (f < 64) }
+    ensures { let p = actor.token in (m : Machine) → Holds w.old m → actor.place < m.queued
         → Holds w.new
         (enqueue p (put p (with_state states.Ready (with_value (token_at m.tokens p).value (token_at m.tokens f)))
-        (dequeued m place))) }
+        (dequeued m actor.place))) }
 {
-    let has = value_kind(w, p);
-    let number = value(w, p);
-    replace::<Queue>(w, place, p as u32);
-    copy(w, f, p);
-    set_value(w, p, has, number);
-    set_state(w, p, READY_STATE, 0);
+    let has = value_kind(w, actor.token);
+    let number = value(w, actor.token);
+    replace::<Queue>(w, actor.place, actor.token as u32);
+    copy(w, f, actor.token);
+    set_value(w, actor.token, has, number);
+    set_state(w, actor.token, READY_STATE, 0);
 }

@@ -21,7 +21,7 @@ value-value-requires c = token-inside c.requires.is.taking
 
 pub overflow_sub-c : goal.overflow_sub-c
 overflow_sub-c c = let acting = c.requires.is in
-    let k = choke-cell _ _ _ _ _ acting
+    let k = choke-cell _ _ _ acting
     (c.wide-c.ensures
     ∙ c.cell.ensures _
     acting.taking.lawful.holds.codes) in
@@ -29,7 +29,7 @@ overflow_sub-c c = let acting = c.requires.is in
 
 pub written-requires : goal.written-requires
 written-requires c = let acting = c.requires.is in
-    let k = choke-cell _ _ _ _ _ acting
+    let k = choke-cell _ _ _ acting
     (c.wide-c.ensures
     ∙ c.cell.ensures _
     acting.taking.lawful.holds.codes) in
@@ -42,13 +42,13 @@ sweep_to-requires c = let end = c.marked_end-end.ensures.upper_bound in
 pub returns : goal.returns
 returns c = λ m a.
     let holds = a.taking.lawful.holds in
-    let k = choke-cell _ _ _ _ m a
+    let k = choke-cell _ _ m a
     (c.wide-c.ensures
     ∙ c.cell.ensures m holds.codes) in
     let v = (token_at m.tokens
-    c.args.p).value in
+    c.args.actor.token).value in
     let none = c.marked_end-end.ensures.upper_bound.1 in
-    gives-swept _ replies.Done _ (choke-step _ _ _ _ m _ k.2 a) c.plain.ensures
+    gives-swept _ replies.Done _ (choke-step _ _ m _ k.2 a) c.plain.ensures
     (c.sweep_to.ensures _
     (c.written.ensures m v holds (λ i from to. free-token a.taking.lawful i (none i from (omega arith)))
     (record { queued = a.taking.queued; room = room _ m a.taking.lawful.rules })

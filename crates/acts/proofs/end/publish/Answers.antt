@@ -21,4 +21,4 @@ returns c = λ m a.
     let same = publish-reply _ _ _ _ (value-range a.taking)
     (c.value.ensures m a.taking.lawful.holds.codes)
     c.signed-v.ensures (to_z-of_z fits) in
-    gives_as (reply-as _ (publish-step _ _ _ _ m a) same) (c.end.ensures m _ a.taking)
+    gives_as (reply-as _ (publish-step _ _ m a) same) (c.end.ensures m _ a.taking)

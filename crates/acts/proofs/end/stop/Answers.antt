@@ -8,4 +8,4 @@ pub end-requires : goal.end-requires
 end-requires c = token-inside c.requires.is.taking
 
 pub returns : goal.returns
-returns c = λ m a. gives_as (stop_step _ _ _ _ m a) (c.end.ensures m _ a.taking)
+returns c = λ m a. gives_as (stop_step _ _ m a) (c.end.ensures m _ a.taking)

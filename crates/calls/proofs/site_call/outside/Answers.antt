@@ -10,7 +10,7 @@ use Rattle.calls.proofs.site_call.outside.Goals as goal
 pub returns-then-handle-ge-CALL_LIMIT : goal.returns-then-handle-ge-CALL_LIMIT
 returns-then-handle-ge-CALL_LIMIT c = λ m k l.
     let e = c.calls_made-handle.ensures m k.acting.taking.lawful.holds.codes in
-    gives-refused 13 _ k.acting.taking.lawful (calls-no-more _ _ _ _ m k l (omega arith)) c.plain.ensures
+    gives-refused 13 _ k.acting.taking.lawful (calls-no-more _ _ m k l (omega arith)) c.plain.ensures
 
 pub dag_word-requires : goal.dag_word-requires
 dag_word-requires c = let l = row_fits c.requires.is.acting in omega arith
@@ -35,6 +35,6 @@ overflow_cast-count c = let l = (site-params _ _ (row c.requires.is.acting)).few
 pub returns : goal.returns
 returns c = λ m k l.
     let e = c.calls_made-handle.ensures m k.acting.taking.lawful.holds.codes in
-    call-gives k.acting.taking _ _ _ _ _ _ k.values _ (calls-out _ _ _ _ m k l (omega arith)) e c.dag_word-site.ensures
+    call-gives k.acting.taking _ _ _ _ _ _ k.values _ (calls-out _ _ m k l (omega arith)) e c.dag_word-site.ensures
     c.dag_word.ensures (c.dag_word-count.ensures ∙ values-count k) refl k.padded
     (c.call_out.ensures m k.acting.taking.lawful.holds k.acting.taking.queued)

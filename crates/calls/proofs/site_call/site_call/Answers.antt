@@ -17,7 +17,7 @@ pub returns-in-Err : goal.returns-in-Err
 returns-in-Err c = λ m a.
     let facts = look-facts _ m a.taking.lawful.rules _ (token-inside a.taking) in
     let found = look-waits _ (c.look_up.ensures m a.taking.lawful.holds.codes facts) _ c.in-Err.is in
-    wait-gives a.taking _ _ (waits-at _ _ _ _ m a _ found) c.plain.ensures
+    wait-gives a.taking _ _ (waits-at _ _ m a _ found) c.plain.ensures
     (c.wait.ensures m a.taking.lawful.holds a.taking.queued
     (waits-room _ m a.taking.lawful.rules _ a.taking.queued))
 

@@ -12,7 +12,7 @@ run_turns-requires c = record {
     lawful-start _
         c.requires.0
         c.told-dag
-        c.start.ensures,
+        c.start-marks.ensures,
   );
   one_callee = started-callees (replicate 64 false) _
       c.requires.0;

@@ -8,7 +8,7 @@ abbrev pub invariant-loop-left : goal.invariant-loop-left
 invariant-loop-left l = record {
   same_reference : l.window.output.ghost_name ≡ l.initial.window.output.ghost_name;
   from : l.window.from ≡ l.from;
-  lent : Lent l.dag l.rest l.fn.output l.from l.w l.tokens l.cells l.shared l.steps l.at l.window.total l.window.output.now;
+  lent : Lent l.dag l.rest l.fn.output l.from l.w l.marks l.shared l.steps l.at l.window.total l.window.output.now;
 }
 
 abbrev pub decreases-loop-left : goal.decreases-loop-left

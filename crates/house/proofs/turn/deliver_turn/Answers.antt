@@ -9,19 +9,19 @@ use Rattle.house.proofs.TurnReport.{turned-shows, taken-line, refused-line}
 use Rattle.house.proofs.turn.deliver_turn.Goals as goal
 
 pub returns-else-number-ne0-clause-leaves : goal.returns-else-number-ne0-clause-leaves
-returns-else-number-ne0-clause-leaves c = λ m dag cells shared lawful one e.
+returns-else-number-ne0-clause-leaves c = λ m dag shared lawful one e.
     let none = c.few_or_all-end.ensures.upper_bound.1 in
     turned-shows
-    (turn-delivers _ _ _ _ _ _ c.deliver-number.ensures.gives m dag _ cells shared lawful
+    (turn-delivers _ _ _ _ _ _ c.deliver.ensures.gives m dag _ shared lawful
     (λ i from to. free-token lawful i (none i from (omega arith))) one e)
-    (over-empty _ e _) (shows-as (taken-line c.if-number-eq0.true) (shows-none _ _ _)) (omega arith)
+    (over-empty _ e _) (shows-as (taken-line c.if-number-ne0.false) (shows-none _ _ _)) (omega arith)
 
 pub returns-then-number-ne0-clause-leaves : goal.returns-then-number-ne0-clause-leaves
-returns-then-number-ne0-clause-leaves c = λ m dag cells shared lawful one e.
+returns-then-number-ne0-clause-leaves c = λ m dag shared lawful one e.
     let none = c.few_or_all-end.ensures.upper_bound.1 in
     let line = c.show_declined.ensures in
     turned-shows
-    (turn-delivers _ _ _ _ _ _ c.deliver-number.ensures.gives m dag _ cells shared lawful
-    (λ i from to. free-token lawful i (none i from to)) one e)
+    (turn-delivers _ _ _ _ _ _ c.deliver.ensures.gives m dag _ shared lawful
+    (λ i from to. free-token lawful i (none i from (omega arith))) one e)
     (over-empty _ e _) (shows-as (refused-line c.deliver-number.ensures.delivery_number c.if-number-ne0.true) line.shows.shows_bytes)
     line.upper_bound

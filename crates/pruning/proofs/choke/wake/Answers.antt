@@ -18,9 +18,9 @@ pub loop-i-preserved : goal.loop-i-preserved
 loop-i-preserved c = λ m h l.
     let marks = c.args.ready.now in
     let i = c.loop-i.i in
-    let small : i < m.waiting = omega (arith, c.wide-count.ensures, c.waiting.ensures m h.codes) in
+    let small : i < m.waiting = omega (arith, c.wide-count.ensures, c.count.ensures m h.codes) in
     let k = c.loop-i.invariant m h l in
-    woken-more m h marks i small l _ (c.wait_name-name.ensures (woken m h marks i) k.codes)
+    woken-more m h marks i small l _ (c.place_at-name.ensures (woken m h marks i) k.codes)
     (c.join_marked.ensures (woken m h marks i) k (woken-room m h marks i small l))
 
 pub returns : goal.returns

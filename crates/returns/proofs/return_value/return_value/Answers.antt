@@ -8,55 +8,47 @@ use Rattle.acts.proofs.Outcomes.{token-inside, gives-swept}
 use Rattle.returns.proofs.ReturnCallees.{nobody}
 use Rattle.returns.proofs.ReturnValue.{released-swept}
 use Rattle.returns.proofs.return_value.return_value.Goals as goal
+use Rattle.returns.proofs.return_value.return_value.Goals.{then-lost, else-lost}
 
 pub caller-requires : goal.caller-requires
 caller-requires c = token-inside c.requires.is.taking
 
 pub overflow_sub-f : goal.overflow_sub-f
-overflow_sub-f c = let k = return-caller _ _ _ _ _ c.requires.is
+overflow_sub-f c = let k = return-caller _ _ _ c.requires.is
     (c.wide-f.ensures ∙ c.caller.ensures _ c.requires.is.taking.lawful.holds.codes) in
     omega (arith, k.0)
 
 pub may_lose_cell-lost-requires : goal.may_lose_cell-lost-requires
-may_lose_cell-lost-requires c = let k = return-caller _ _ _ _ _ c.requires.is
+may_lose_cell-lost-requires c = let k = return-caller _ _ _ c.requires.is
     (c.wide-f.ensures
     ∙ c.caller.ensures _ c.requires.is.taking.lawful.holds.codes) in
     (token-inside c.requires.is.taking, k.1)
 
 pub written-requires : goal.written-requires
-written-requires c = let k = return-caller _ _ _ _ _ c.requires.is
+written-requires c = let k = return-caller _ _ _ c.requires.is
     (c.wide-f.ensures ∙ c.caller.ensures _
     c.requires.is.taking.lawful.holds.codes) in
     (token-inside c.requires.is.taking, k.1)
 
-pub returns-then-lost : goal.returns-then-lost
-returns-then-lost c = λ m a alone.
-    let k = return-caller _ _ _ _ m a
-    (c.wide-f.ensures
-    ∙ c.caller.ensures m
-    a.taking.lawful.holds.codes) in
-    gives-swept _ replies.Done _ (return-step _ _ _ _ m _ k.2 a) c.plain.ensures
-    (c.sweep.ensures _
-    (c.written.ensures m a.taking.lawful.holds a.taking.queued)
-    (return-vacant a.taking _))
-
 pub release-requires : goal.release-requires
-release-requires c = let k = return-caller _ _ _ _ _
-    c.requires.is
+release-requires c = let k = return-caller _ _ _ c.requires.is
     (c.wide-f.ensures
     ∙ c.caller.ensures _
     c.requires.is.taking.lawful.holds.codes) in k.1
 
 pub returns : goal.returns
 returns c = λ m a alone.
-    let k = return-caller _ _ _ _ m a
-    (c.wide-f.ensures
-    ∙ c.caller.ensures m
-    a.taking.lawful.holds.codes) in
-    gives-swept _ replies.Done _ (return-step _ _ _ _ m _ k.2 a) c.plain-2.ensures
-    (released-swept a _ k.1 k.2
-    (c.may_lose_cell-lost.ensures m a.taking.lawful.holds.codes
-    c.if-lost.false)
-    (c.release.ensures _
-    (c.written.ensures m a.taking.lawful.holds a.taking.queued)
-    (λ e. nobody a _ k.1 k.2 (alone e))))
+    let holds = a.taking.lawful.holds in
+    let k = return-caller _ _ m a (c.wide-f.ensures ∙ c.caller.ensures m holds.codes) in
+    let after = c.written.ensures m holds a.taking.queued in
+    elim c.if-lost.branch [
+      | then-lost w ↦
+          rw (w.w-is, w.marks-is)
+          (gives-swept _ replies.Done _ (return-step _ _ m _ k.2 a) c.plain.ensures
+          (w.sweep.ensures _ after (return-vacant a.taking _)))
+      | else-lost w ↦
+          rw (w.w-is, w.marks-is)
+          (gives-swept _ replies.Done _ (return-step _ _ m _ k.2 a) c.plain.ensures
+          (released-swept a _ k.1 k.2 (c.may_lose_cell-lost.ensures m holds.codes w.if-lost.false)
+          (w.release.ensures _ after (λ e. nobody a _ k.1 k.2 (alone e)))))
+    ]

@@ -10,8 +10,8 @@ use native.Mathlib.Omega.{arith}
 use mathlib.Core.Path.{refl, ◌∙◌}
 use Rattle.spawn_writes.proofs.definition_call.pass_all.Goals as goal
 
-pub overflow_add-at : goal.overflow_add-at
-overflow_add-at c = let l = c.requires.2.inside in omega arith
+pub overflow_add-actor : goal.overflow_add-actor
+overflow_add-actor c = let l = c.requires.2.inside in omega arith
 
 pub dag_word-requires : goal.dag_word-requires
 dag_word-requires c = let l = c.requires.2.inside in omega arith
@@ -20,7 +20,7 @@ pub loop-i-init : goal.loop-i-init
 loop-i-init c = let a = c.args in (
   c.wide-count.ensures ∙ c.dag_word.ensures,
   λ m h n. carry-binds m a.new blank_token
-      (none-bound (token_at m.tokens a.p).binds (params_at a.dag.now a.at)) h,
+      (none-bound (token_at m.tokens a.actor.token).binds (params_at a.dag.now a.actor.row)) h,
 )
 
 pub pass-requires : goal.pass-requires
@@ -39,12 +39,12 @@ loop-i-preserved c = let l = c.loop-i in
       l.invariant.0,
       λ m h n. carry-binds m a.new blank_token
           (param-bound _ _ l.i _ _ c.requires.2 (omega (arith, l.invariant.0))
-          (token_at m.tokens a.p).binds _ c.dag_word-kind.ensures
+          (token_at m.tokens a.actor.token).binds _ c.dag_word-kind.ensures
           c.dag_word-number.ensures refl) (unfold with_binding in c.pass.ensures m _ (l.invariant.1 m h n) n),
     )
 
 pub returns : goal.returns
 returns c = λ m h n. let l = c.loop-i in let a = c.args in
     carry-binds m a.new blank_token
-    (params-bound _ _ l.i (token_at m.tokens a.p).binds c.requires.2 (omega (arith, l.invariant.0)))
+    (params-bound _ _ l.i (token_at m.tokens a.actor.token).binds c.requires.2 (omega (arith, l.invariant.0)))
     (l.invariant.1 m h n)

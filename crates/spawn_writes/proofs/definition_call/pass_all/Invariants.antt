@@ -11,6 +11,6 @@ use mathlib.Core.Path.{◌≡◌}
 use Rattle.spawn_writes.proofs.definition_call.pass_all.Given as goal
 
 abbrev pub invariant-loop-i : goal.invariant-loop-i
-invariant-loop-i l = (l.count ≡ get_or l.dag (l.at + 3) 0)
-    × ((m : Machine) → Holds l.initial.w (put l.new blank_token m) → (l.p ≡ l.new → ⊥)
-    → Holds l.w (put l.new (with_binds (formals_bound (token_at m.tokens l.p).binds (take l.i (params_at l.dag l.at))) blank_token) m))
+invariant-loop-i l = (l.count ≡ get_or l.dag (l.actor.row + 3) 0)
+    × ((m : Machine) → Holds l.initial.w (put l.new blank_token m) → (l.actor.token ≡ l.new → ⊥)
+    → Holds l.w (put l.new (with_binds (formals_bound (token_at m.tokens l.actor.token).binds (take l.i (params_at l.dag l.actor.row))) blank_token) m))

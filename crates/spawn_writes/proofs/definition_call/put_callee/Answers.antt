@@ -15,6 +15,6 @@ returns c = λ m q h n blank e.
     let passed = c.pass_all.ensures m
     (begins m a.new blank_token blank h) n in
     let ready = c.set_state.ensures m _ states.Ready passed refl refl in
-    let called = c.set_caller.ensures m _ (Some a.p)
+    let called = c.set_caller.ensures m _ (Some a.actor.token)
     (c.set_node.ensures m _ ready) refl in
     c.set_cell.ensures m _ q called e

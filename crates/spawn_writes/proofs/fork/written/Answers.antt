@@ -12,19 +12,19 @@ pub returns : goal.returns
 unfolding put with_node with_tables with_counts with_orders new_token enqueue queue_of waits_of
 returns c = λ m h q room.
     let a = c.args in
-    let t = token_at m.tokens a.p in
-    let gone = dequeued m a.place in
-    let rest = enqueue a.p gone in
-    let l = with_node a.left t in
-    let r = with_node a.right t in
+    let t = token_at m.tokens a.actor.token in
+    let gone = dequeued m a.actor.place in
+    let rest = enqueue a.actor.token gone in
+    let l = with_node a.branches.left t in
+    let r = with_node a.branches.right t in
     let left = c.set_node.ensures rest t
-    (begins rest a.p t refl
+    (begins rest a.actor.token t refl
     (c.replace.ensures m h q)) in
-    let copied = carry (λ u. put a.new u (put a.p l rest))
-    (put_same rest a.p l left
+    let copied = carry (λ u. put a.new u (put a.actor.token l rest))
+    (put_same rest a.actor.token l left
     c.requires.0)
     (c.copy.ensures _ left) in
-    let right = c.set_node-2.ensures (put a.p l rest) l copied in
+    let right = c.set_node-2.ensures (put a.actor.token l rest) l copied in
     let counted = c.set_last_token.ensures _
-    (subst (Holds _) (puts-queue gone a.p a.new a.p l r) right) in
-    c.join.ensures _ counted (omega (arith, queued-replaced a.p a.place h q))
+    (subst (Holds _) (puts-queue gone a.actor.token a.new a.actor.token l r) right) in
+    c.join.ensures _ counted (omega (arith, queued-replaced a.actor.token a.actor.place h q))

@@ -15,16 +15,16 @@ pub returns : goal.returns
 unfolding put with_tables with_counts with_orders new_token new_cell enqueue queue_of waits_of
 returns c = λ m h q room n.
     let a = c.args in
-    let t = token_at m.tokens a.p in
-    let gone = dequeued m a.place in
-    let l = with_node a.left (with_binding a.x (slots.Cell a.c) t) in
-    let r = in_cell a.c (with_node a.right t) in
+    let t = token_at m.tokens a.actor.token in
+    let gone = dequeued m a.actor.place in
+    let l = with_node a.branches.left (with_binding a.x (slots.Cell a.c) t) in
+    let r = in_cell a.c (with_node a.branches.right t) in
     let split = c.split_tokens.ensures _
     (c.replace.ensures m h q) n in
     let opened = c.put_unset.ensures _ t.cell
     (c.set_last_token.ensures _
-    (subst (Holds _) (puts-queue gone a.p a.new a.p l r) split))
+    (subst (Holds _) (puts-queue gone a.actor.token a.new a.actor.token l r) split))
     (sym (c.cell-parent.ensures m
     h.codes)) in
     let counted = c.set_last_cell.ensures _ opened in
-    c.join.ensures _ counted (omega (arith, queued-replaced a.p a.place h q))
+    c.join.ensures _ counted (omega (arith, queued-replaced a.actor.token a.actor.place h q))

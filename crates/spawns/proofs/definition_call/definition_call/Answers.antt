@@ -7,8 +7,8 @@ use native.Mathlib.Omega.{arith}
 use borrow.Author.Rules.{rules}
 use Rattle.spawns.proofs.definition_call.definition_call.Goals as goal
 
-pub returns-in_default : goal.returns-in_default
-returns-in_default c = λ m a is. call-refused _ _ _ _ m a is c.next_token.ensures.value
+pub returns-in_default-clause-gives : goal.returns-in_default-clause-gives
+returns-in_default-clause-gives c = λ m a is. call-refused _ _ m a is c.next_token.ensures.value
     (c.last_token.ensures m a.taking.lawful.holds.codes) _ c.in_default.is c.plain.ensures
 
 pub dag_word-requires : goal.dag_word-requires
@@ -37,14 +37,14 @@ written-requires c = (
   call-params _ _ (row c.requires.is),
 )
 
-pub returns : goal.returns
-returns c = λ m a is.
+pub returns-clause-gives : goal.returns-clause-gives
+returns-clause-gives c = λ m a is.
     let next = c.next_token.ensures.value in
     let last = c.last_token.ensures m
     a.taking.lawful.holds.codes in
     let body = call-root _ _ _ (row a)
     (c.wide-body.ensures ∙ c.dag_word.ensures) in
-    call-gives _ _ _ _ m a is next last _ _ _ (c.dag_word-root.ensures ∙ body.2)
+    call-gives _ _ m a is next last _ _ _ (c.dag_word-root.ensures ∙ body.2)
     c.dag_word-2.ensures c.in-Some.is c.plain-2.ensures
     (c.written.ensures m a.taking.lawful.holds a.taking.queued (new_apart a.taking next last c.in-Some.is (search rules))
     (new-blank a.taking next last c.in-Some.is (search rules)))

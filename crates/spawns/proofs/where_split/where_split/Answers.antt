@@ -8,11 +8,11 @@ use borrow.Author.Rules.{rules}
 use Rattle.spawns.proofs.where_split.where_split.Goals as goal
 
 pub returns-in_default : goal.returns-in_default
-returns-in_default c = λ m a. where-refused _ _ _ _ m a c.next_token.ensures.value
+returns-in_default c = λ m a. where-refused _ _ m a c.next_token.ensures.value
     (c.last_token.ensures m a.taking.lawful.holds.codes) _ c.in_default.is c.plain.ensures
 
 pub returns-in_default-next_cell : goal.returns-in_default-next_cell
-returns-in_default-next_cell c = λ m a. where-refused-cell _ _ _ _ m a c.next_token.ensures.value
+returns-in_default-next_cell c = λ m a. where-refused-cell _ _ m a c.next_token.ensures.value
     (c.last_token.ensures m a.taking.lawful.holds.codes)
     c.next_cell.ensures.value (c.last_cell.ensures m a.taking.lawful.holds.codes) _
     c.in-Some.is c.in_default-next_cell.is c.plain-in_default-next_cell.ensures
@@ -46,7 +46,7 @@ pub returns : goal.returns
 returns c = λ m a.
     let next = c.next_token.ensures.value in
     let last = c.last_token.ensures m a.taking.lawful.holds.codes in
-    where-gives _ _ _ _ m a next last c.next_cell.ensures.value
+    where-gives _ _ m a next last c.next_cell.ensures.value
     (c.last_cell.ensures m a.taking.lawful.holds.codes)
     _ _ _ _
     (c.wide.ensures ∙ c.dag_word.ensures)

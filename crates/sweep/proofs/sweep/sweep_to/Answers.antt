@@ -15,6 +15,8 @@ returns c = λ m h v.
     let first = subst (Holds _) (tokens-swept m _ used) (c.keep_tokens.ensures m h v.tokens) in
     let then = c.sweep_cells.ensures (tokens_swept m) first (swept-blank m c.args.end none) v.cells in (
       subst (Holds _) (swept m _ used) then.0,
-      c.copy_from_slice.ensures.after ∙ used ∙ sym (sweep-tokens m),
-      then.1 ∙ (reach-kept m _ used ∙ sym (sweep-cells m)),
+      record {
+        tokens = c.copy_from_slice.ensures.after ∙ used ∙ sym (sweep-tokens m);
+        cells = then.1 ∙ (reach-kept m _ used ∙ sym (sweep-cells m));
+      },
     )

@@ -6,6 +6,7 @@ use Rattle.acts.proofs.LinksBound.{binds-none}
 use Rattle.acts.proofs.Outcomes.{row, row_fits, token-inside}
 use Rattle.tail_calls.proofs.BecomesCallee.{ready, tail-whole, tail-swept, tail-vacant}
 use Rattle.tail_calls.proofs.tail_call.tail_call.Goals as goal
+use Rattle.tail_calls.proofs.tail_call.tail_call.Goals.{then-bound, else-bound}
 
 pub dag_word-requires : goal.dag_word-requires
 dag_word-requires c = let l = row_fits c.requires.is in omega arith
@@ -23,17 +24,16 @@ written-requires c = (
   call-params _ _ (row c.requires.is),
 )
 
-pub returns-then-bound : goal.returns-then-bound
-returns-then-bound c = λ m a is.
-    let body = call-root _ _ _ (row a) (c.wide-body.ensures ∙ c.dag_word.ensures) in
-    tail-swept a is (c.dag_word-root.ensures ∙ body.2) _ c.plain.ensures
-    (c.sweep.ensures _
-    (c.written.ensures m a.taking.lawful.holds a.taking.queued (ready a))
-    (tail-vacant a _))
-
 pub returns : goal.returns
 returns c = λ m a is.
-    let body = call-root _ _ _ (row a) (c.wide-body.ensures ∙ c.dag_word.ensures) in
-    tail-whole a is (c.dag_word-root.ensures ∙ body.2) _ c.plain-2.ensures
-    (binds-none _ (sym (c.binds_cell-bound.ensures m a.taking.lawful.holds.codes) ∙ c.if-bound.false))
-    (c.written.ensures m a.taking.lawful.holds a.taking.queued (ready a))
+    let root = c.dag_word-root.ensures ∙ (call-root _ _ _ (row a) (c.wide-body.ensures ∙ c.dag_word.ensures)).2 in
+    let holds = c.written.ensures m a.taking.lawful.holds a.taking.queued (ready a) in
+    elim c.if-bound.branch [
+      | then-bound w ↦
+          rw (w.w-is, w.marks-is)
+          (tail-swept a is root _ c.plain.ensures (w.sweep.ensures _ holds (tail-vacant a _)))
+      | else-bound w ↦
+          rw (w.w-is, w.marks-is)
+          (tail-whole a is root _ c.plain.ensures
+          (binds-none _ (sym (c.binds_cell-bound.ensures m a.taking.lawful.holds.codes) ∙ w.if-bound.false)) holds)
+    ]

@@ -10,8 +10,8 @@ use Rattle.tail_writes.specs.Passing.{slot_words}
 use Rattle.tail_writes.proofs.PassingWords.{none_read, slot_read}
 use Rattle.tail_writes.proofs.passing.passed_slots.Goals as goal
 
-pub overflow_add-at : goal.overflow_add-at
-overflow_add-at c = let l = c.requires.1.inside in omega arith
+pub overflow_add-actor : goal.overflow_add-actor
+overflow_add-actor c = let l = c.requires.1.inside in omega arith
 
 pub dag_word-requires : goal.dag_word-requires
 dag_word-requires c = let l = c.requires.1.inside in omega arith
@@ -34,7 +34,7 @@ loop-i-preserved c = let l = c.loop-i in
     let a = c.args in (
       l.invariant.0,
       λ m h.
-          let bs = (token_at m.tokens a.p).binds in
+          let bs = (token_at m.tokens a.actor.token).binds in
           slot_read _ l.i (passed bs _) (l.invariant.1 m h) (c.passed.ensures m h)
           (param-bound _ _ l.i _ _ c.requires.1 (omega (arith, l.invariant.0))
           bs _ c.dag_word-kind.ensures c.dag_word-number.ensures refl),
@@ -45,4 +45,4 @@ returns c = λ m h.
     let l = c.loop-i in
     let a = c.args in
     l.invariant.1 m h
-    ∙ ap (map slot_words) (params-bound _ _ l.i (token_at m.tokens a.p).binds c.requires.1 (omega (arith, l.invariant.0)))
+    ∙ ap (map slot_words) (params-bound _ _ l.i (token_at m.tokens a.actor.token).binds c.requires.1 (omega (arith, l.invariant.0)))

@@ -11,6 +11,6 @@ use Rattle.tail_writes.specs.Passing.{slot_words}
 use Rattle.tail_writes.proofs.passing.passed_slots.Given as goal
 
 abbrev pub invariant-loop-i : goal.invariant-loop-i
-invariant-loop-i l = (l.count ≡ get_or l.dag (l.at + 3) 0)
+invariant-loop-i l = (l.count ≡ get_or l.dag (l.actor.row + 3) 0)
     × ((m : Machine) → Codes l.w m
-    → l.slots ≡ map slot_words (formals_bound (token_at m.tokens l.p).binds (take l.i (params_at l.dag l.at))))
+    → l.slots ≡ map slot_words (formals_bound (token_at m.tokens l.actor.token).binds (take l.i (params_at l.dag l.actor.row))))

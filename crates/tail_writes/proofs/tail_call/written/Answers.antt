@@ -16,13 +16,13 @@ pub returns : goal.returns
 unfolding with_node with_value with_state enqueue with_orders
 returns c = λ m h q ready.
     let a = c.args in
-    let t = token_at m.tokens a.p in
-    let gone = dequeued m a.place in
-    let rest = enqueue a.p gone in
-    let formals = formals_bound t.binds (params_at a.dag.now a.at) in
-    let queued = begins rest a.p t refl (c.replace.ensures m h q) in
+    let t = token_at m.tokens a.actor.token in
+    let gone = dequeued m a.actor.place in
+    let rest = enqueue a.actor.token gone in
+    let formals = formals_bound t.binds (params_at a.dag.now a.actor.row) in
+    let queued = begins rest a.actor.token t refl (c.replace.ensures m h q) in
     let bound = c.bind_slots.ensures rest t formals queued (formals-long c.requires.1 t.binds)
     (c.passed_slots-slots.ensures m h.codes) in
     let called = c.set_node.ensures rest _ (c.set_value.ensures rest _ None bound refl refl) in
-    subst (Holds _) (put-queue gone a.p a.p (callee t.caller t a.root (params_at a.dag.now a.at)))
-    (carry (λ u. put a.p u rest) (ap (λ s. with_state s (callee t.caller t a.root (params_at a.dag.now a.at))) ready) called)
+    subst (Holds _) (put-queue gone a.actor.token a.actor.token (callee t.caller t a.root (params_at a.dag.now a.actor.row)))
+    (carry (λ u. put a.actor.token u rest) (ap (λ s. with_state s (callee t.caller t a.root (params_at a.dag.now a.actor.row))) ready) called)

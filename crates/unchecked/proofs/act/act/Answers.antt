@@ -1,12 +1,13 @@
 -- `unchecked::act` meets its contract: each way out is how the definition's call ends there. Assumes nothing.
 use Prim.Native.Nat.{◌<◌}
 use Rattle.sites.proofs.RowKinds.{kind-below, node-holds, last-kind}
-use Rattle.unchecked.proofs.CalleeMarks.{same-leaves}
+use Rattle.unchecked.proofs.CalleeMarks.{same-leaves, fork-leaves, where-leaves}
 use Rattle.acts.proofs.CalleeSteps.{stop-keeps, site-keeps, assign-keeps, remove-keeps, choke-keeps, publish-keeps}
 use Rattle.unchecked.proofs.WholeCall.{of-kind}
-use Rattle.acts.proofs.Outcomes.{row, row_fits}
+use Rattle.acts.proofs.Outcomes.{row, row_fits, token-inside}
 use mathlib.Core.Path.{sym, subst}
 use native.Mathlib.Omega.{arith}
+use borrow.Author.Rules.{rules}
 use Rattle.unchecked.proofs.act.act.Goals as goal
 
 pub dag_word-requires : goal.dag_word-requires
@@ -36,8 +37,11 @@ call_marked-requires c = record {
       c.requires.is;
 }
 
-pub fork_marked-requires : goal.fork_marked-requires
-fork_marked-requires c = record {
+pub share_caller-requires : goal.share_caller-requires
+share_caller-requires c = (token-inside c.requires.is.taking, search rules)
+
+pub fork-requires : goal.fork-requires
+fork-requires c = record {
   machine = c.requires.machine;
   is =
       of-kind 3 (sym c.dag_word.ensures) c.in-3.is
@@ -60,8 +64,11 @@ remove-requires c = record {
       c.requires.is;
 }
 
-pub where_marked-requires : goal.where_marked-requires
-where_marked-requires c = record {
+pub share_caller-requires-in-6 : goal.share_caller-requires-in-6
+share_caller-requires-in-6 c = (token-inside c.requires.is.taking, search rules)
+
+pub where_split-requires : goal.where_split-requires
+where_split-requires c = record {
   machine = c.requires.machine;
   is =
       of-kind 6 (sym c.dag_word.ensures) c.in-6.is
@@ -115,9 +122,9 @@ returns-in-2 c = λ m a one. c.call_marked.ensures m
     c.in-2.is a) one
 
 pub returns-in-3 : goal.returns-in-3
-returns-in-3 c = λ m a one. c.fork_marked.ensures m
-    (of-kind 3 (sym c.dag_word.ensures)
-    c.in-3.is a) one
+returns-in-3 c = λ m a one. let b = of-kind 3 (sym c.dag_word.ensures)
+    c.in-3.is a in
+    fork-leaves c.args.shared.now _ b one (c.fork.ensures.gives m b) (c.share_caller.ensures m b.taking.lawful.holds.codes)
 
 pub returns-in-4 : goal.returns-in-4
 returns-in-4 c = λ m a one. let b = of-kind 4 (sym c.dag_word.ensures)
@@ -130,9 +137,10 @@ returns-in-5 c = λ m a one. let b = of-kind 5 (sym c.dag_word.ensures)
     same-leaves c.args.shared.now 5 remove-keeps b one (c.remove.ensures m b)
 
 pub returns-in-6 : goal.returns-in-6
-returns-in-6 c = λ m a one. c.where_marked.ensures m
-    (of-kind 6 (sym c.dag_word.ensures)
-    c.in-6.is a) one
+returns-in-6 c = λ m a one. let b = of-kind 6 (sym c.dag_word.ensures)
+    c.in-6.is a in
+    where-leaves c.args.shared.now _ b one (c.where_split.ensures m b)
+    (c.share_caller-in-6.ensures m b.taking.lawful.holds.codes)
 
 pub returns-in-7 : goal.returns-in-7
 returns-in-7 c = λ m a one. let b = of-kind 7 (sym c.dag_word.ensures)

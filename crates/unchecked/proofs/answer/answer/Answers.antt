@@ -6,6 +6,6 @@ use Rattle.acts.specs.Acting.{Gives}
 use Rattle.unchecked.proofs.answer.answer.Goals as goal
 
 pub returns : goal.returns
-returns c = λ m dag used cells a.
+returns c = λ m dag used a.
     let gives = rw (to_z-of_z c.ranges.value) at c.resume.ensures.gives in
-    subst (Gives _ m _ used cells) (sym c.report.ensures) (gives m dag used cells a (λ i from to. absurd (omega arith)))
+    subst (Gives _ m _ used) (sym c.report.ensures) (gives m dag used a (λ i from to. absurd (omega arith)))

@@ -12,7 +12,7 @@ use Rattle.unchecked.proofs.answer.resume.Goals as goal
 
 pub returns-then-calls_made-handle : goal.returns-then-calls_made-handle
 returns-then-calls_made-handle c = record {
-  gives = λ m dag used cells a blank.
+  gives = λ m dag used a blank.
       let e = c.calls_made.ensures m a.holds.codes in
       let l = c.if-calls_made-handle.true in
       answer-unknown a c.args.handle c.args.value (omega arith);
@@ -24,6 +24,6 @@ returns c =
     let f : SFits w32 c.args.value = search rules in
     let k = rw (to_z-of_z f) at c.answer.ensures in
     record {
-      gives = λ m dag used cells a blank. answer-gives a _ _ _ _ k blank;
+      gives = λ m dag used a blank. answer-gives a _ _ _ _ k blank;
       not_open = IfErr-weaker c.answer.result _ _ (λ e both. both.0) k.stays;
     }

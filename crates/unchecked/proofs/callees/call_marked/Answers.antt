@@ -16,8 +16,8 @@ use Rattle.unchecked.proofs.callees.call_marked.Goals as goal
 says : (d : Dag) (n : ℕ) {k : ℕ} {r b : Bool} → r ≡ is_tail d k → k ≡ n → r ≡ b → is_tail d n ≡ b
 says d n e f g = ap (is_tail d) (sym f) ∙ (sym e ∙ g)
 
-pub bounds-shared-p : goal.bounds-shared-p
-bounds-shared-p c = token-inside c.requires.is.taking
+pub bounds-shared-actor : goal.bounds-shared-actor
+bounds-shared-actor c = token-inside c.requires.is.taking
 
 pub dag_word-next-requires : goal.dag_word-next-requires
 dag_word-next-requires c = let l = row_fits c.requires.is in omega arith
@@ -35,6 +35,6 @@ returns-then-is_tail c = λ m a one.
 pub returns : goal.returns
 returns c = λ m a one.
     call-leaves c.args.shared.now a one
-    (c.definition_call.ensures m a
+    (c.definition_call.ensures.gives m a
     (says _ _ c.is_tail.ensures (c.dag_word-next.ensures)
     c.if-is_tail.false))

@@ -13,25 +13,24 @@ pub caller-requires : goal.caller-requires
 caller-requires c = token-inside (c.requires.is.taking)
 
 pub overflow_sub-f : goal.overflow_sub-f
-overflow_sub-f c = let k = return-caller _ _ _ _ _ (c.requires.is)
+overflow_sub-f c = let k = return-caller _ _ _ (c.requires.is)
     (c.caller.ensures _ (c.requires.is.taking.lawful.holds.codes)) in
     omega (arith, k.0)
 
 pub is_shared-requires : goal.is_shared-requires
-is_shared-requires c = let k = return-caller _ _ _ _ _ (c.requires.is)
+is_shared-requires c = let k = return-caller _ _ _ (c.requires.is)
     (c.caller.ensures _
     (c.requires.is.taking.lawful.holds.codes)) in (k.1, search rules)
 
 pub share_caller-requires : goal.share_caller-requires
-share_caller-requires c = let k = return-caller _ _ _ _ _
-    (c.requires.is)
+share_caller-requires c = let k = return-caller _ _ _ (c.requires.is)
     (c.caller.ensures _
     (c.requires.is.taking.lawful.holds.codes)) in
     (k.1, search rules)
 
 pub returns-then-is_shared : goal.returns-then-is_shared
 returns-then-is_shared c = λ m a one.
-    let k = return-caller _ _ _ _ m a
+    let k = return-caller _ _ m a
     (c.caller.ensures m
     a.taking.lawful.holds.codes) in
     return-leaves
@@ -43,7 +42,7 @@ returns-then-is_shared c = λ m a one.
 
 pub returns : goal.returns
 returns c = λ m a one.
-    let k = return-caller _ _ _ _ m a
+    let k = return-caller _ _ m a
     (c.caller.ensures m
     a.taking.lawful.holds.codes) in
     let free = sym c.is_shared.ensures ∙ c.if-is_shared.false in

@@ -5,12 +5,12 @@ use Rattle.acts.proofs.Outcomes.{token-inside}
 use mathlib.Core.Path.{ap, ◌∙◌}
 use Rattle.unchecked.proofs.step.step.Goals as goal
 
-pub queue_name-p-requires : goal.queue_name-p-requires
-queue_name-p-requires c = place_inside c.requires.is
+pub place_at-token-requires : goal.place_at-token-requires
+place_at-token-requires c = place_inside c.requires.is
 
 pub node-requires : goal.node-requires
 node-requires c = let r = c.requires.is in
-    token-inside (taking-of r (c.queue_name-p.ensures _ r.lawful.holds.codes))
+    token-inside (taking-of r {row = 0} (c.place_at-token.ensures _ r.lawful.holds.codes))
 
 pub act-requires : goal.act-requires
 act-requires c = let r = c.requires.is in
@@ -18,7 +18,7 @@ act-requires c = let r = c.requires.is in
     record {
       machine = c.requires.machine;
       is = acting-of r
-          (c.queue_name-p.ensures _ codes)
+          (c.place_at-token.ensures _ codes)
           (ap (λ n. 67 + 12 * n)
           (c.node.ensures _ codes));
     }
@@ -26,6 +26,6 @@ act-requires c = let r = c.requires.is in
 pub returns : goal.returns
 returns c = λ m r one. let codes = r.lawful.holds.codes in
     c.act.ensures m
-    (acting-of r (c.queue_name-p.ensures m codes)
+    (acting-of r (c.place_at-token.ensures m codes)
     (ap (λ n. 67 + 12 * n)
     (c.node.ensures m codes))) one

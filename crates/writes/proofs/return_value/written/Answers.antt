@@ -13,14 +13,14 @@ pub returns : goal.returns
 unfolding put with_tables with_orders enqueue
 returns c = λ m h q.
     let a = c.args in
-    let gone = dequeued m a.place in
-    let rest = enqueue a.p gone in
+    let gone = dequeued m a.actor.place in
+    let rest = enqueue a.actor.token gone in
     let f = token_at m.tokens a.f in
-    let v = (token_at m.tokens a.p).value in
+    let v = (token_at m.tokens a.actor.token).value in
     let copied = c.copy.ensures rest
     (c.replace.ensures m h q) in
     let valued = c.set_value.ensures rest f v copied
     (sym (c.value_kind-has.ensures m
     h.codes)) (sym
     (c.value-number.ensures m h.codes)) in
-    subst (Holds _) (put-queue gone a.p a.p _) (c.set_state.ensures rest _ states.Ready valued refl refl)
+    subst (Holds _) (put-queue gone a.actor.token a.actor.token _) (c.set_state.ensures rest _ states.Ready valued refl refl)

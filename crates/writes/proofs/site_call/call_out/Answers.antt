@@ -12,8 +12,8 @@ pub returns : goal.returns
 unfolding put with_tables with_orders
 returns c = λ m h q.
     let a = c.args in
-    let t = token_at m.tokens a.p in
-    let rest = dequeued m a.place in
+    let t = token_at m.tokens a.actor.token in
+    let rest = dequeued m a.actor.place in
     let out = c.set_state.ensures rest t (states.Called a.handle)
-    (begins rest a.p t refl (c.leave.ensures m h q)) refl refl in
+    (begins rest a.actor.token t refl (c.leave.ensures m h q)) refl refl in
     counted a.handle m.lasttoken m.lastcell _ (c.set_calls_made.ensures _ (c.set_node.ensures rest _ out))

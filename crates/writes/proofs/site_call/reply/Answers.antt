@@ -12,9 +12,9 @@ pub returns : goal.returns
 unfolding put with_tables with_orders enqueue
 returns c = λ m v h q e f.
     let a = c.args in
-    let t = token_at m.tokens a.p in
-    let gone = dequeued m a.place in
-    let rest = enqueue a.p gone in
-    let first = begins rest a.p t refl (c.replace.ensures m h q) in
-    subst (Holds _) (put-queue gone a.p a.p _)
+    let t = token_at m.tokens a.actor.token in
+    let gone = dequeued m a.actor.place in
+    let rest = enqueue a.actor.token gone in
+    let first = begins rest a.actor.token t refl (c.replace.ensures m h q) in
+    subst (Holds _) (put-queue gone a.actor.token a.actor.token _)
     (c.set_node.ensures rest _ (c.set_value.ensures rest t v first e f))

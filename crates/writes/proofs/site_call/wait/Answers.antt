@@ -13,9 +13,9 @@ pub returns : goal.returns
 unfolding put with_tables with_orders
 returns c = λ m h q room.
     let a = c.args in
-    let t = token_at m.tokens a.p in
-    let rest = dequeued m a.place in
-    let same = waiting-taken a.place h in
+    let t = token_at m.tokens a.actor.token in
+    let rest = dequeued m a.actor.place in
+    let same = waiting-taken a.actor.place h in
     c.join.ensures _
     (c.set_state.ensures rest t (states.Waiting a.c)
-    (begins rest a.p t refl (c.leave.ensures m h q)) refl refl) (omega arith)
+    (begins rest a.actor.token t refl (c.leave.ensures m h q)) refl refl) (omega arith)
