@@ -1,10 +1,11 @@
 // Site call: "parameters in order; the first unset cell makes the token wait there. Otherwise a built-in replies and the token goes on, or
 // it is silent and the token ends; an outside call takes the next handle (from 0), and the token is called out at the next node".
-ghost use Rattle.std.specs.Prelude.{◌<◌, ◌≤◌, ◌+◌, get_or};
+ghost use Rattle.std.specs.Prelude.{◌≡◌, ◌≤◌, ◌+◌, get_or};
 ghost use Rattle.model.specs.declared.record.Machine.{Machine};
 ghost use Rattle.job.specs.Words.{dag_of};
 ghost use Rattle.model.specs.Machine.Limits.{paper};
 ghost use Rattle.model.specs.Machine.Step as Step;
+ghost use Rattle.sites.specs.SiteReply.{site_number};
 ghost use Rattle.acts.specs.Acting.{SomeMachine, Acting, Gives};
 ghost use Rattle.calls.specs.SiteCall.{Evaluated};
 
@@ -12,14 +13,13 @@ use crate::rwait::{TimedReply, settle};
 use acts::end::end;
 use acts::report::plain;
 use job::dag::{CALL_LIMIT, NAMED_NUMBER, NEXT_NODE, PARAMETER_COUNT, WORDS};
-use job::site_parameters::BUILTIN_LIMIT;
 use model::record::Machine;
 use model::reply::{Refusal, Reply, Report};
 use reach::used::Marks;
 use record::count::calls_made;
 use sites::look::{UnsetCell, look_up};
 use sites::number::unsigned;
-use sites::site::builtin;
+use sites::site::{BuiltInSite, OutsideSite, builtin};
 use writes::actor::Actor;
 use writes::dag::dag_word;
 use writes::site_call::{call_out, due_later, reply, wait};
@@ -56,13 +56,14 @@ fn built_in(
     marks: &mut Marks,
     dag: &[u32; WORDS],
     actor: Actor,
+    site: BuiltInSite,
     values: [i32; 4],
 ) -> Report
-    requires { SomeMachine (Evaluated w.old marks.old dag.now actor values) × (get_or dag.now (actor.row + 1) 0 < 8) }
+    requires { SomeMachine (Evaluated w.old marks.old dag.now actor values) × (site_number site ≡ get_or dag.now (actor.row + 1) 0) }
     ensures { (m : Machine) → Evaluated w.old marks.old dag.now actor values m
         → Gives (Step.step paper (dag_of dag.now) m actor.place) m w.new marks.new result }
 {
-    let said = builtin(dag_word(dag, actor.row + NAMED_NUMBER), values[0], values[1]);
+    let said = builtin(site, values[0], values[1]);
     match settle(w, said) {
         TimedReply::Gives(v) => {
             reply(w, actor, unsigned(v), dag_word(dag, actor.row + NEXT_NODE));
@@ -93,8 +94,8 @@ pub fn site_call(
             return plain(Reply::Waits);
         }
     };
-    if dag_word(dag, actor.row + NAMED_NUMBER) < BUILTIN_LIMIT {
-        return built_in(w, marks, dag, actor, values);
+    match BuiltInSite::try_from(dag_word(dag, actor.row + NAMED_NUMBER)) {
+        Ok(site) => built_in(w, marks, dag, actor, site, values),
+        Err(OutsideSite) => outside(w, marks, dag, actor, values),
     }
-    outside(w, marks, dag, actor, values)
 }

@@ -8,7 +8,7 @@ use crate::bounds::PARAMETER_LIMIT;
 const BUILTIN_COUNTS: [u32; 8] = [1, 1, 1, 0, 2, 2, 2, 1];
 
 // The built-in sites have the numbers below this one.
-pub const BUILTIN_LIMIT: u32 = 8;
+const BUILTIN_LIMIT: u32 = 8;
 
 // May a call with so many parameters name this site?
 pub fn takes(site: u32, count: u32) -> bool

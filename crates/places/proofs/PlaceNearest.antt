@@ -12,7 +12,8 @@ use lib.ListN.{length, get_or}
 use Rattle.model.specs.Machine.FreePlace.{around}
 use Rattle.model.proofs.Machine.Marks.{Marked, Free, free-inside}
 use Rattle.reach.specs.Marks.{next_free}
-use Rattle.places.proofs.PlaceSearch.{around-inside, around-outside, seek, seek-free, seek-used, seek-all, place-first, next_or, next-some, next-none}
+use Rattle.places.proofs.PlaceSearch.{around-inside, around-outside, seek, seek-free, seek-used, seek-all, place-first}
+use Rattle.places.proofs.PlaceSearch.{next_or, next-some, next-none}
 use Rattle.job.proofs.Lists.{get_d_any}
 
 abbrev pub distance : ℕ → ℕ → ℕ

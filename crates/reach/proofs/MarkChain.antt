@@ -69,7 +69,8 @@ module _ {A : Type 0} (link : A → Place) (blank : A) (xs : List A) where
         ∙ ap (λ p. walk (size - (k + 1)) p (set marks (q - 1) true)) (sym (place-from r _ g))
 
   -- the same over a list of the links alone
-  pub walk-linked : (n : ℕ) (q : Place) (marks : List Bool) → mark_chain (λ (q : Place). q) (link blank) (map link xs) n q marks ≡ walk n q marks
+  pub walk-linked : (n : ℕ) (q : Place) (marks : List Bool)
+      → mark_chain (λ (q : Place). q) (link blank) (map link xs) n q marks ≡ walk n q marks
   unfolding mark_chain
   walk-linked zero q marks = refl
   walk-linked (suc n) None marks = refl

@@ -1,5 +1,6 @@
 -- Marks of what is in use, as they are made, kept and looked through. Assumes nothing: these are definitions.
-use Rattle.std.specs.Prelude.{◌≡◌, Bool, true, false, not, List, [], ◌∷◌, ℕ, zero, suc, ◌+◌, ◌*◌, ◌≤◌, ◌<◌, length, get_or, drop, eqb, ltb, Option, Some, None}
+use Rattle.std.specs.Prelude.{◌≡◌, Bool, true, false, not, List, [], ◌∷◌, ℕ, zero, suc, ◌+◌, ◌*◌, ◌≤◌, ◌<◌, length, get_or, drop, eqb, ltb}
+use Rattle.std.specs.Prelude.{Option, Some, None}
 use mir.Val.{bool_byte}
 use Rattle.job.specs.Test.{for_all}
 use Rattle.model.specs.Machine.Active.{is_active}

@@ -9,6 +9,9 @@ use mir.Syntax.{w32}
 use mir.Val.{SFits, of_z}
 use Rattle.job.specs.Number.{equal_z}
 use Rattle.job.specs.Site.{at, builtin}
+use Rattle.sites.specs.declared.site.BuiltInSite.{BuiltInSite}
+use Rattle.sites.specs.declared.site.BuiltInSite.TheVariants as sites
+use Rattle.sites.specs.SiteReply.{site_number}
 use Rattle.job.proofs.Test.{ne_eqb}
 
 -- whether a number is 0, by its bits
@@ -29,3 +32,13 @@ says-to-two (suc (suc (suc (suc (suc zero))))) vs l = refl
 says-to-two (suc (suc (suc (suc (suc (suc zero)))))) vs l = refl
 says-to-two (suc (suc (suc (suc (suc (suc (suc zero))))))) vs l = refl
 says-to-two (suc (suc (suc (suc (suc (suc (suc (suc n)))))))) vs l = absurd (omega arith)
+
+pub number_small : (s : BuiltInSite) → site_number s < 8
+number_small sites.Let = omega arith
+number_small sites.Ift = omega arith
+number_small sites.Iff = omega arith
+number_small sites.Signal = omega arith
+number_small sites.Add = omega arith
+number_small sites.Less = omega arith
+number_small sites.Equal = omega arith
+number_small sites.Rwait = omega arith

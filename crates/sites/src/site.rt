@@ -1,7 +1,44 @@
 // What a built-in site says to a call.
-ghost use Rattle.std.specs.Prelude.{◌≡◌, [], ◌∷◌, ◌<◌};
+ghost use Rattle.std.specs.Prelude.{◌≡◌, [], ◌∷◌, ◌≤◌, MatchResult};
 ghost use Rattle.job.specs.Site as Site;
-ghost use Rattle.sites.specs.SiteReply.{site_reply_of};
+ghost use Rattle.sites.specs.SiteReply.{site_number, site_reply_of};
+
+// "0 let (1), 1 ift (1), 2 iff (1), 3 signal (0), 4 add (2), 5 less (2), 6 equal (2)", 7 rwait (1).
+#[derive(Clone, Copy)]
+pub enum BuiltInSite {
+    Let,
+    Ift,
+    Iff,
+    Signal,
+    Add,
+    Less,
+    Equal,
+    Rwait,
+}
+
+// The number of a site that is not a built-in.
+#[derive(Clone, Copy)]
+pub struct OutsideSite;
+
+impl TryFrom<u32> for BuiltInSite {
+    type Error = OutsideSite;
+
+    ghost try_from_gives = { λ number r. MatchResult r (λ site. site_number site ≡ number) (λ _. 8 ≤ number) };
+
+    fn try_from(number: u32) -> Result<BuiltInSite, OutsideSite> {
+        match number {
+            0 => Ok(BuiltInSite::Let),
+            1 => Ok(BuiltInSite::Ift),
+            2 => Ok(BuiltInSite::Iff),
+            3 => Ok(BuiltInSite::Signal),
+            4 => Ok(BuiltInSite::Add),
+            5 => Ok(BuiltInSite::Less),
+            6 => Ok(BuiltInSite::Equal),
+            7 => Ok(BuiltInSite::Rwait),
+            _ => Err(OutsideSite),
+        }
+    }
+}
 
 #[derive(Clone, Copy)]
 pub enum SiteReply {
@@ -32,20 +69,19 @@ fn sum(a: i32, b: i32) -> SiteReply
     }
 }
 
-// "0 let (1), 1 ift (1), 2 iff (1), 3 signal (0), 4 add (2), 5 less (2), 6 equal (2)", 7 rwait (1). No site has more than two parameters.
+// No built-in has more than two parameters.
 #[tactic(auto, unfolding(job::specs::Site::builtin, job::specs::Site::truth, job::specs::Site::not_zero, job::specs::Number::equal_z))]
-pub fn builtin(site: u32, a: i32, b: i32) -> SiteReply
-    requires { site < 8 }
-    ensures { result ≡ site_reply_of (Site.builtin site (a ∷ b ∷ [])) }
+pub fn builtin(site: BuiltInSite, a: i32, b: i32) -> SiteReply
+    ensures { result ≡ site_reply_of (Site.builtin (site_number site) (a ∷ b ∷ [])) }
 {
     match site {
-        0 => SiteReply::Gives(a),
-        1 => zero_if(a != 0),
-        2 => zero_if(a == 0),
-        3 => SiteReply::Gives(0),
-        4 => sum(a, b),
-        5 => SiteReply::Gives(i32::from(a < b)),
-        6 => SiteReply::Gives(i32::from(a == b)),
-        _ => SiteReply::Later(a),
+        BuiltInSite::Let => SiteReply::Gives(a),
+        BuiltInSite::Ift => zero_if(a != 0),
+        BuiltInSite::Iff => zero_if(a == 0),
+        BuiltInSite::Signal => SiteReply::Gives(0),
+        BuiltInSite::Add => sum(a, b),
+        BuiltInSite::Less => SiteReply::Gives(i32::from(a < b)),
+        BuiltInSite::Equal => SiteReply::Gives(i32::from(a == b)),
+        BuiltInSite::Rwait => SiteReply::Later(a),
     }
 }

@@ -4,6 +4,7 @@ use Rattle.acts.proofs.Outcomes.{row, row_fits, token-inside}
 use Rattle.sites.proofs.LookLaws.{look-waits}
 use Rattle.sites.proofs.RuleFacts.{look-facts, waits-room}
 use Rattle.sites.proofs.RowKinds.{site-params}
+use mathlib.Core.Path.{◌∙◌}
 use native.Mathlib.Omega.{arith}
 use Rattle.calls.proofs.site_call.site_call.Goals as goal
 
@@ -33,12 +34,11 @@ built_in-requires c = let a = c.requires.is in
             (c.look_up.ensures _ a.taking.lawful.holds.codes facts)
             c.in-Ok.is;
       },
-      (let e = c.dag_word.ensures in
-          let l = c.if-dag_word-lt-BUILTIN_LIMIT.true in omega arith),
+      c.in-Ok-try_from.ensures ∙ c.dag_word.ensures,
     )
 
-pub returns-then-dag_word-lt-BUILTIN_LIMIT : goal.returns-then-dag_word-lt-BUILTIN_LIMIT
-returns-then-dag_word-lt-BUILTIN_LIMIT c = λ m a.
+pub returns-in-Ok-try_from : goal.returns-in-Ok-try_from
+returns-in-Ok-try_from c = λ m a.
     let facts = look-facts _ m a.taking.lawful.rules _ (token-inside a.taking) in
     c.built_in.ensures m
     (values_of a
@@ -55,12 +55,11 @@ outside-requires c = let a = c.requires.is in
           c.in-Ok.is;
     }
 
-pub returns : goal.returns
-returns c = λ m a.
+pub returns-in-Err-try_from : goal.returns-in-Err-try_from
+returns-in-Err-try_from c = λ m a.
     let facts = look-facts _ m a.taking.lawful.rules _ (token-inside a.taking) in
     c.outside.ensures m
     (values_of a
     (c.look_up.ensures m a.taking.lawful.holds.codes facts)
     c.in-Ok.is)
-    (let e = c.dag_word.ensures in let l = c.if-dag_word-lt-BUILTIN_LIMIT.false in
-    omega arith)
+    (omega (arith, c.in-Err-try_from.ensures, c.dag_word.ensures))

@@ -14,7 +14,8 @@ returns-then-q-eq0 g c = λ links end f.
 pub returns-then-marks-p : goal.returns-then-marks-p
 returns-then-marks-p g c = λ links end f.
     let l = c.loop in
-    chain-outside (λ (q : Place). q) end links _ l.counter l.q l.marks _ l.auto.marks (l.invariant links end f) (search rules) (search rules)
+    chain-outside (λ (q : Place). q) end links _ l.counter l.q l.marks _ l.auto.marks (l.invariant links end f) (search rules)
+    (search rules)
 
 pub returns-then-marks-p-2 : goal.returns-then-marks-p-2
 returns-then-marks-p-2 g c = λ links end f.

@@ -5,7 +5,7 @@ use Rattle.sites.specs.SiteReply.{site_reply_of}
 use Rattle.sites.proofs.SiteBuiltins.{zero-test}
 use Rattle.sites.proofs.site.builtin.Goals as goal
 
-pub returns-in-2 : goal.returns-in-2
+pub returns-in-Iff : goal.returns-in-Iff
 unfolding Site.builtin
-returns-in-2 c =
-    rw c.in-2.is (c.zero_if-in-2.ensures ∙ ap (λ t. site_reply_of (Site.zero_if t)) (zero-test c.args.a c.ranges.a))
+returns-in-Iff c =
+    rw c.in-Iff.is (c.zero_if-in-Iff.ensures ∙ ap (λ t. site_reply_of (Site.zero_if t)) (zero-test c.args.a c.ranges.a))
