@@ -33,8 +33,7 @@ use Rattle.model.proofs.Keeps.Orders.{timers-put, timers-with, timers-enqueue}
 use Rattle.record.specs.Holds.{Holds}
 use Rattle.record.specs.Layout.{state_number}
 use Rattle.orders.proofs.NamesPadded.{length_without}
-use Rattle.record.proofs.HoldsShape.{timers-fit}
-use Rattle.clock.specs.WakeOneByOne.{ClockFacts, Earliest, none-due, first-due, due_at, awake, wake_at, all_woken}
+use Rattle.clock.specs.WakeOneByOne.{ClockFacts, FirstDue, due_at, awake, wake_at, all_woken}
 use Rattle.clock.proofs.FirstSorted.{all-indexed, all-occurring, all_apart, select-none, select-all, select-alike, select-without}
 use Rattle.clock.proofs.FirstSorted.{all-select, first-sorted, sort-alike}
 
@@ -362,36 +361,26 @@ pub record Waking (ws : List ℕ) (m : Machine) (time left : ℕ) : Type 0 where
   pub same : all_woken machine time ≡ all_woken m time
   pub number : left ≡ machine.timed
 
-pub waking-starts : {ws : List ℕ} (m : Machine) → Holds ws m → ClockFacts m → (time left : ℕ) → left ≡ m.timed → Waking ws m time left
-waking-starts m h f time left e = record { machine = m; holds = h; facts = f; same = refl; number = e }
-
 module _ {ws : List ℕ} {m : Machine} {time left : ℕ} (k : Waking ws m time left) where
   abbrev present : Machine
   present = k.machine
 
-  quiet : ((j : ℕ) → j < present.timed → time < due_at present j) → Holds ws (all_woken m time)
-  quiet late =
+  pub waking-done : ((j : ℕ) → j < present.timed → time < due_at present j) → Holds ws (all_woken m time)
+  waking-done late =
       subst (Holds ws) (sym (none-wakes present k.holds k.facts time late) ∙ k.same) k.holds
 
   pub waking-over : left ≤ 0 → Holds ws (all_woken m time)
-  waking-over l = quiet (λ j i. let n = k.number in absurd (omega arith))
+  waking-over l = waking-done (λ j i. let n = k.number in absurd (omega arith))
 
-  module _ (i : ℕ) where
-    pub waking-done : Earliest (due_at present) present.timed time i → 64 ≤ i → Holds ws (all_woken m time)
-    waking-done (none-due e late) l = quiet late
-    waking-done (first-due small due least before) l =
-        let a = timers-fit k.holds in let b = k.holds.ordered.timed in absurd (omega arith)
-
-    pub waking-more : {xs : List ℕ} {remain : ℕ} → Earliest (due_at present) present.timed time i → i < 64
-        → (i < present.timed → Holds xs (wake_at i present)) → remain + 1 ≡ left → Waking xs m time remain
-    waking-more (none-due e late) l then one_less = absurd (omega arith)
-    waking-more (first-due small due least before) l then one_less =
-        let a = k.number in
-        let b = wake-left present k.holds k.facts i small in
-        record {
-          machine = wake_at i present;
-          holds = then small;
-          facts = wake-facts present k.holds k.facts i small;
-          same = wake-first present k.holds k.facts i small time due least before ∙ k.same;
-          number = omega arith;
-        }
+  pub waking-more : {xs : List ℕ} {remain : ℕ} (i : ℕ) → FirstDue (due_at present) present.timed time i
+      → (i < present.timed → Holds xs (wake_at i present)) → remain + 1 ≡ left → Waking xs m time remain
+  waking-more i f then one_less =
+      let a = k.number in
+      let b = wake-left present k.holds k.facts i f.inside in
+      record {
+        machine = wake_at i present;
+        holds = then f.inside;
+        facts = wake-facts present k.holds k.facts i f.inside;
+        same = wake-first present k.holds k.facts i f.inside time f.in_time f.least f.before ∙ k.same;
+        number = omega arith;
+      }

@@ -1,5 +1,5 @@
 -- A clock move in the steps of the code: the first of those due earliest wakes, until none is due. Assumes nothing: these are definitions.
-use Rattle.std.specs.Prelude.{◌≡◌, ◌++◌, map, ℕ, ◌+◌, ◌<◌, ◌≤◌, pos, get_or}
+use Rattle.std.specs.Prelude.{◌≡◌, ◌++◌, map, ℕ, ◌+◌, ◌<◌, ◌≤◌, pos, get_or, Option, MatchOption}
 use Rattle.job.specs.Test.{occurrences, once, without}
 use Rattle.model.specs.Machine.Blank.{token_at}
 use Rattle.model.specs.Machine.Clock.{woken_by, joining, staying}
@@ -20,10 +20,16 @@ pub record ClockFacts (m : Machine) : Type 0 where
 abbrev pub due_at : Machine → (i : ℕ) → ℕ
 due_at m i = due_time_of (token_at m.tokens (get_or (timers_of m) i 0)).state
 
--- of n due times, i is the first of the earliest that are not after a time; 64 where all are after it
-pub data Earliest (due : ℕ → ℕ) (n time i : ℕ) : Type 0 where
-  none-due : i ≡ 64 → ((j : ℕ) → j < n → time < due j) → Earliest due n time i
-  first-due : i < n → due i ≤ time → ((j : ℕ) → j < n → due i ≤ due j) → ((j : ℕ) → j < i → due i < due j) → Earliest due n time i
+-- of n due times, i is the first of the earliest, and not after a time
+pub record FirstDue (due : ℕ → ℕ) (n time i : ℕ) : Type 0 where
+  pub inside : i < n
+  pub in_time : due i ≤ time
+  pub least : (j : ℕ) → j < n → due i ≤ due j
+  pub before : (j : ℕ) → j < i → due i < due j
+
+-- .. and there is none where all are after it
+abbrev pub Earliest : (due : ℕ → ℕ) (n time : ℕ) → Option ℕ → Type 0
+Earliest due n time found = MatchOption found ((j : ℕ) → j < n → time < due j) (λ i. FirstDue due n time i)
 
 -- ready, with value 0
 abbrev pub awake : Token → Token

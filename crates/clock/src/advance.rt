@@ -1,5 +1,5 @@
 // "A clock move adds those now due, with value 0, by due time, then by order of call": one by one, the earliest first.
-ghost use Rattle.std.specs.Prelude.{◌≡◌, true, ◌<◌};
+ghost use Rattle.std.specs.Prelude.{◌≡◌, true, ◌<◌, IfSome};
 ghost use Rattle.job.specs.Node.{Dag};
 ghost use Rattle.model.specs.Machine.Clock.{after_advance, takes_time};
 ghost use Rattle.model.specs.Machine.Limits.{paper};
@@ -11,6 +11,7 @@ ghost use Rattle.clock.specs.WakeOneByOne.{ClockFacts, Earliest, due_at, wake_at
 use job::wide::wide;
 use model::record::Machine;
 use record::layout::{LAST_TIME, READY_STATE};
+use record::order::{CallOrder, Queue};
 use record::{count, order, token};
 
 // "15, the clock would go back or leave its range"
@@ -26,31 +27,30 @@ fn due_time(w: &[u32; Machine::WORDS], i: usize) -> u32
     requires { i < 64 }
     ensures { (m : Machine) → Holds w.now m → ClockFacts m → i < m.timed → result ≡ due_at m i }
 {
-    let p = wide(order::timer_name(w, i));
+    let p = wide(order::place_at::<CallOrder>(w, i));
     if p < Machine::TOKENS {
         return token::state_number(w, p);
     }
     0
 }
 
-// Where the order of call names the first of those due earliest, by a time; 64 where none is due.
-fn earliest(w: &[u32; Machine::WORDS], time: u32) -> usize
-    ensures { (m : Machine) → Holds w.now m → ClockFacts m → Earliest (due_at m) m.timed time result }
+// Where the order of call names the first of those due earliest, by a time.
+fn earliest(w: &[u32; Machine::WORDS], time: u32) -> Option<usize>
+    ensures place { IfSome result (λ i. i < 64) }
+    ensures first { (m : Machine) → Holds w.now m → ClockFacts m → Earliest (due_at m) m.timed time result }
 {
-    let timed = wide(order::timed(w));
-    let mut found: usize = Machine::TOKENS;
+    let timed = wide(order::count::<CallOrder>(w));
     if Machine::TOKENS < timed {
-        return found;
+        return None;
     }
+    let mut found = None;
     let mut bound = wide(time) + 1;
-    let mut i: usize = 0;
-    while i < timed {
+    for i in 0..timed {
         let due = wide(due_time(w, i));
         if due < bound {
-            found = i;
+            found = Some(i);
             bound = due;
         }
-        i += 1;
     }
     found
 }
@@ -60,13 +60,13 @@ fn wake_at(w: &mut [u32; Machine::WORDS], i: usize)
     requires { i < 64 }
     ensures { (m : Machine) → Holds w.old m → ClockFacts m → i < m.timed → Holds w.new (wake_at i m) }
 {
-    let name = order::timer_name(w, i);
+    let name = order::place_at::<CallOrder>(w, i);
     let p = wide(name);
     if p < Machine::TOKENS {
-        order::leave_timers(w, i);
+        order::leave::<CallOrder>(w, i);
         token::set_value(w, p, 1, 0);
         token::set_state(w, p, READY_STATE, 0);
-        order::join(w, name);
+        order::join::<Queue>(w, name);
     }
 }
 
@@ -74,14 +74,11 @@ fn wake_at(w: &mut [u32; Machine::WORDS], i: usize)
 fn wake_due(w: &mut [u32; Machine::WORDS], time: u32)
     ensures { (m : Machine) → Holds w.old m → ClockFacts m → Holds w.new (all_woken m time) }
 {
-    let mut left = wide(order::timed(w));
-    while 0 < left {
-        let i = earliest(w, time);
-        if Machine::TOKENS <= i {
+    for _ in 0..order::count::<CallOrder>(w) {
+        let Some(i) = earliest(w, time) else {
             return;
-        }
+        };
         wake_at(w, i);
-        left -= 1;
     }
 }
 

@@ -15,7 +15,7 @@ use crate::turn::{deliver_turn, step_turn};
 use job::dag::{GOAL, WORDS};
 use lines::last_lines::{show_end, show_last, show_limit};
 use model::record::Machine;
-use record::order;
+use record::order::{self, Queue};
 use unchecked::start::start;
 
 // "With 100,000 steps made and a token ready: `limit`."
@@ -42,7 +42,7 @@ fn run_turns(
     let mut at: usize = 0;
     let mut total: usize = 0;
     loop {
-        if order::queued(w) == 0 {
+        if order::count::<Queue>(w) == 0 {
             let left = rest.len() - at;
             if left < 8 {
                 return show_last(left, steps, output, from, total);

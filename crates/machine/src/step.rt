@@ -7,7 +7,7 @@ use job::dag::WORDS;
 use job::wide::wide;
 use model::record::Machine;
 use model::reply::{Refusal, Reply, Report};
-use record::order::queued;
+use record::order::{Queue, count};
 
 // "A step tests 14, 9, then 10, 11 or 13." A refused one leaves every word.
 pub fn step(w: &mut [u32; Machine::WORDS], dag: &[u32; WORDS], place: usize) -> Report
@@ -18,7 +18,7 @@ pub fn step(w: &mut [u32; Machine::WORDS], dag: &[u32; WORDS], place: usize) -> 
     if !is_lawful(w, dag, &mut tokens, &mut cells) {
         return plain(Reply::Refused(Refusal::Rule));
     }
-    if wide(queued(w)) <= place {
+    if wide(count::<Queue>(w)) <= place {
         return plain(Reply::Refused(Refusal::NoToken));
     }
     let mut shared = [true; Machine::TOKENS];

@@ -1,18 +1,33 @@
 -- The names of an order among the words, and what it says of each token, from how often it names each place. Assumes nothing: these are
 -- definitions.
-use Rattle.std.specs.Prelude.{◌≡◌, Bool, true, List, ℕ, zero, suc, ◌+◌, ◌<◌, length, get_or, eqb}
-use Rattle.job.specs.Test.{◌and◌, once}
+use Rattle.std.specs.Prelude.{◌≡◌, Bool, true, false, List, ℕ, zero, suc, ◌+◌, Option, Some, MatchOption, get_or, eqb}
+use Rattle.job.specs.Test.{◌and◌, all_from, once}
+use Rattle.model.specs.Machine.Rules.{names_once}
 use Rattle.model.specs.declared.token.Token.{Token}
+use Rattle.model.specs.declared.record.Machine.{Machine}
 use Rattle.record.specs.Layout.{state_kind}
-
--- the 64 words from an index on are these names
-pub record NamesAt (ws : List ℕ) (at : ℕ) (names : List ℕ) : Type 0 where
-  pub long : length names ≡ 64
-  pub words : (i : ℕ) → i < 64 → get_or ws (at + i) 0 ≡ get_or names i 0
+use Rattle.record.specs.OrderWords as orders
+use Rattle.order_rules.specs.declared.order.OrderCounts.{OrderCounts}
+use Rattle.record.specs.OrderWords.{Which, state_of, in_state, array_of, count_of}
 
 -- a token in the state of that kind is named once, any other never
 abbrev pub named_as : (kind : ℕ) → (counts : List ℕ) → ℕ → Token → Bool
 named_as kind counts p t = eqb (get_or counts p 0) (once (eqb (state_kind t.state) kind))
+
+-- an order's rule: it names each token in its state once, and nothing else
+abbrev pub order_rule : Which → Machine → Bool
+order_rule k m = names_once (in_state k) m.tokens (array_of k m) (count_of k m)
+
+-- counts say of the tokens what the order's rule says of its names; where there are none the rule doesn't hold
+abbrev pub CountedOnce : Which → Machine → Option (List ℕ) → Type 0
+CountedOnce k m counts =
+    MatchOption counts (order_rule k m ≡ false) (λ c. all_from (named_as (state_of k) c) 0 m.tokens ≡ order_rule k m)
+
+-- .. of all three
+abbrev pub AllCounted : Machine → Option OrderCounts → Type 0
+AllCounted m counts =
+    MatchOption counts ((order_rule orders.queue m and order_rule orders.waits m and order_rule orders.timers m) ≡ false)
+    (λ c. CountedOnce orders.queue m (Some c.queue) × CountedOnce orders.waits m (Some c.waits) × CountedOnce orders.timers m (Some c.timers))
 
 -- the queue names the ready ones, the wait order those that wait, the order of call those that are due later
 abbrev pub named_by_orders : (queue waits timers : List ℕ) → ℕ → Token → Bool

@@ -7,6 +7,7 @@ use Prim.Native.Nat.{ℕ, zero, suc, ◌+◌, ◌-◌, ◌<◌, ◌≤◌}
 use native.Mathlib.Numerals.{add-one}
 use native.Mathlib.Omega.{arith}
 use lib.ListN.{length, get_or, set, take, drop, replicate, length-append, length-set}
+use Rattle.std.proofs.lemmas.List.{take_all, drop_all}
 use lib.Seq.{take-suc, drop-cons, length-take-le, get_or_at, set_at, set-append_left}
 use Rattle.job.specs.Test.{select, padded}
 use Rattle.orders.specs.NamesRetained.{marked_of, Retained}
@@ -69,11 +70,6 @@ select-same {A} f g (x ∷ xs) e = ap₂ (λ (b : Bool) (ys : List A). elim b as
 zero-behind : (n : ℕ) (rest : List ℕ) → replicate n 0 ++ (0 ∷ rest) ≡ 0 ∷ (replicate n 0 ++ rest)
 zero-behind zero rest = refl
 zero-behind (suc n) rest = ap (◌∷◌ 0) (zero-behind n rest)
-
-replicate-add : (n k : ℕ) → replicate n 0 ++ replicate k 0 ≡ replicate {A = ℕ} (n + k) 0
-replicate-add zero k = let e : k ≡ 0 + k = omega arith in ap (λ j. replicate j 0) e
-replicate-add (suc n) k = let e : suc (n + k) ≡ suc n + k = omega arith in
-    ap (◌∷◌ 0) (replicate-add n k) ∙ ap (λ j. replicate {A = ℕ} j 0) e
 
 module _ (names : List ℕ) (marks : List Bool) where
   abbrev pub front : ℕ → List ℕ
@@ -143,64 +139,53 @@ module _ (names : List ℕ) (marks : List Bool) where
         omega arith
 
 -- where the pass is after i turns, and a turn more
-pub record TurnLeaves (names : List ℕ) (count : ℕ) (marks : List Bool) (i : ℕ) (after : List ℕ) (n : ℕ) : Type 0 where
-  pub below : i ≤ count
+pub record TurnLeaves (names : List ℕ) (marks : List Bool) (i : ℕ) (after : List ℕ) (n : ℕ) : Type 0 where
   pub few : n ≤ i
   pub size : length after ≡ length names
   pub number : n ≡ length (front names marks i)
   pub array : after ≡ turned names marks i
 
-pub turned-first : (names : List ℕ) (count : ℕ) (marks : List Bool) → TurnLeaves names count marks 0 names 0
+pub turned-first : (names : List ℕ) (marks : List Bool) → TurnLeaves names marks 0 names 0
 unfolding select padded
-turned-first names count marks = record { below = omega arith; few = omega arith; size = refl; number = refl; array = refl }
+turned-first names marks = record { few = omega arith; size = refl; number = refl; array = refl }
 
-module _ {names after : List ℕ} {count i n : ℕ} {marks : List Bool} (t : TurnLeaves names count marks i after n) where
-  module _ (b : Bool) (l : i < count) (fit : count ≤ length names) (e : b ≡ get_or marks (get_or after i 0) false) where
+module _ {names after : List ℕ} {i n : ℕ} {marks : List Bool} (t : TurnLeaves names marks i after n) where
+  module _ (b : Bool) (l : i < length names) (e : b ≡ get_or marks (get_or after i 0) false) where
     name : get_or after i 0 ≡ get_or names i 0
-    name = ap (λ r. get_or r i 0) t.array ∙ turn-name names marks i (omega (arith, t.below))
+    name = ap (λ r. get_or r i 0) t.array ∙ turn-name names marks i l
 
     mark : get_or marks (get_or names i 0) false ≡ b
     mark = ap (λ p. get_or marks p false) (sym name) ∙ sym e
 
-    pub turned-drops : (xs : List ℕ) (k : ℕ) → b ≡ false → xs ≡ set after i 0 → k ≡ n → TurnLeaves names count marks (i + 1) xs k
+    pub turned-drops : (xs : List ℕ) (k : ℕ) → b ≡ false → xs ≡ set after i 0 → k ≡ n → TurnLeaves names marks (i + 1) xs k
     turned-drops xs k f ex ek =
-        let inside : i < length names = omega arith in
         record {
-          below = omega arith;
           few = omega (arith, t.few);
           size = ap length ex ∙ length-set after i 0 ∙ t.size;
-          number = count-drops names marks i inside k (ek ∙ t.number) (mark ∙ f);
-          array = ex ∙ ap (λ r. set r i 0) t.array ∙ turn-drops names marks i inside (mark ∙ f);
+          number = count-drops names marks i l k (ek ∙ t.number) (mark ∙ f);
+          array = ex ∙ ap (λ r. set r i 0) t.array ∙ turn-drops names marks i l (mark ∙ f);
         }
 
     pub turned-keeps : (xs : List ℕ) (k : ℕ) → b ≡ true → xs ≡ set (set after i 0) n (get_or after i 0) → k ≡ n + 1
-        → TurnLeaves names count marks (i + 1) xs k
+        → TurnLeaves names marks (i + 1) xs k
     turned-keeps xs k f ex ek =
-        let inside : i < length names = omega arith in
         record {
-          below = omega arith;
           few = omega (arith, t.few);
           size = ap length ex ∙ length-set (set after i 0) n (get_or after i 0) ∙ length-set after i 0 ∙ t.size;
-          number = ek ∙ count-keeps names marks i inside n t.number (mark ∙ f);
-          array = ex ∙ ap₂ (λ r p. set (set r i 0) n p) t.array name ∙ turn-keeps names marks i inside n t.number (mark ∙ f);
+          number = ek ∙ count-keeps names marks i l n t.number (mark ∙ f);
+          array = ex ∙ ap₂ (λ r p. set (set r i 0) n p) t.array name ∙ turn-keeps names marks i l n t.number (mark ∙ f);
         }
 
   -- all names are seen
-  pub retained-all : count ≤ i → length names ≡ 64 → count ≤ 64 → Retained names count marks after n
-  unfolding padded
-  retained-all l size fit =
-      let all : i ≡ count = omega (arith, t.below) in
-      let kept = front names marks count in
-      let short = front-short names marks count (omega arith) in
-      let zeros : count - length kept + (64 - count) ≡ 64 - length kept = omega arith in
+  pub retained-all : i ≡ length names → Retained names marks after n
+  retained-all all =
+      let whole : take i names ≡ names = take_all i names (omega arith) in
+      let rest : drop i names ≡ [] = drop_all i names (omega arith) in
       record {
-        array =
-            λ rest.
-            t.array
-            ∙ ap (turned names marks) all
-            ∙ append_assoc kept (replicate (count - length kept) 0) (drop count names)
-            ∙ ap (λ r. kept ++ (replicate (count - length kept) 0 ++ r)) rest
-            ∙ ap (◌++◌ kept) (replicate-add (count - length kept) (64 - count) ∙ ap (λ k. replicate k 0) zeros);
+        array = t.array
+            ∙ ap₂ (λ xs ys. padded 0 i (marked_of marks xs) ++ ys) whole rest
+            ∙ append-nil (padded 0 i (marked_of marks names))
+            ∙ ap (λ k. padded 0 k (marked_of marks names)) all;
         few = omega (arith, t.few);
-        number = t.number ∙ ap (λ k. length (front names marks k)) all;
+        number = t.number ∙ ap (λ xs. length (marked_of marks xs)) whole;
       }

@@ -1,24 +1,20 @@
-// An order in an array: its names come first, zeros behind them.
-ghost use Rattle.std.specs.Prelude.{◌≡◌, false, [], ◌∷◌, ◌++◌, ◌<◌, ◌≤◌, ◌-◌, length, get_or, take, drop, replicate};
-ghost use Rattle.job.specs.Test.{padded, without};
+// Names of an order, which stand at the front of its array.
+ghost use Rattle.std.specs.Prelude.{◌≡◌, false, [], ◌∷◌, ◌++◌, ◌<◌, length, get_or};
+ghost use Rattle.job.specs.Test.{without};
 ghost use Rattle.orders.specs.NamesRetained.{Retained};
 
 use job::wide::wide;
+use std::mem;
 
-// An order with the name at an index left out and another word behind the last: from the back, each name goes one place to the front.
+// The name at an index is left out, and another word stands behind the last: from the back, each name goes one place to the front.
 // (Most orders are short, and a loop from the front is made a call of `memmove`.)
-pub fn left_out(names: &mut [u32], count: usize, index: usize, last: u32)
-    requires { (index < count) × (count ≤ 64) × (length names.old ≡ 64) }
-    ensures { drop count names.old ≡ replicate (64 - count) 0
-        → names.new ≡ padded 0 64 (without index (take count names.old) ++ (last ∷ [])) }
+pub fn left_out(names: &mut [u32], index: usize, last: u32)
+    requires { index < length names.old }
+    ensures { names.new ≡ without index names.old ++ (last ∷ []) }
 {
     let mut carried = last;
-    let mut i = count;
-    while index < i {
-        i -= 1;
-        let here = names[i];
-        names[i] = carried;
-        carried = here;
+    for i in (index..names.len()).rev() {
+        carried = mem::replace(&mut names[i], carried);
     }
 }
 
@@ -26,28 +22,20 @@ pub fn left_out(names: &mut [u32], count: usize, index: usize, last: u32)
 pub fn is_marked(marks: &[bool], name: u32) -> bool
     ensures { result ≡ get_or marks.now name false }
 {
-    let p = wide(name);
-    if p < marks.len() {
-        return marks[p];
-    }
-    false
+    marks.get(wide(name)).copied().unwrap_or(false)
 }
 
-// Those of an order's names that are marked, and how many they are.
-pub fn retained(names: &mut [u32], count: usize, keep: &[bool]) -> usize
-    requires { (count ≤ 64) × (length names.old ≡ 64) }
-    ensures { Retained names.old count keep.now names.new result }
+// The names that are marked come first, zeros behind them; and how many they are.
+pub fn retained(names: &mut [u32], keep: &[bool]) -> usize
+    ensures { Retained names.old keep.now names.new result }
 {
     let mut n: usize = 0;
-    let mut i: usize = 0;
-    while i < count {
-        let name = names[i];
-        names[i] = 0;
+    for i in 0..names.len() {
+        let name = mem::take(&mut names[i]);
         if is_marked(keep, name) {
             names[n] = name;
             n += 1;
         }
-        i += 1;
     }
     n
 }

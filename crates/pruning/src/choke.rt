@@ -19,6 +19,7 @@ use job::wide::wide;
 use model::record::Machine;
 use orders::names::is_marked;
 use record::layout::{DUE_STATE, READY_STATE, WAITING_STATE};
+use record::order::{Queue, CallOrder, WaitOrder};
 use record::{cell, order, token};
 
 // Is the place that has a number the cell or one of its descendants? A number above those of the cells names no cell.
@@ -92,7 +93,7 @@ fn join_marked(w: &mut [u32; Machine::WORDS], name: u32, marks: &[bool; Machine:
         → Holds w.new (with_orders (queue_of m ++ marked_of marks.now (name ∷ [])) (waits_of m) m) }
 {
     if is_marked(marks, name) {
-        order::join(w, name);
+        order::join::<Queue>(w, name);
     }
 }
 
@@ -101,13 +102,13 @@ fn wake(w: &mut [u32; Machine::WORDS], ready: &[bool; Machine::TOKENS])
     ensures { (m : Machine) → Holds w.old m → m.queued + m.waiting ≤ 64
         → Holds w.new (with_orders (queue_of m ++ marked_of ready.now (waits_of m)) (waits_of m) m) }
 {
-    let count = wide(order::waiting(w));
+    let count = wide(order::count::<WaitOrder>(w));
     if Machine::TOKENS < count {
         return;
     }
     let mut i: usize = 0;
     while i < count {
-        let name = order::wait_name(w, i);
+        let name = order::place_at::<WaitOrder>(w, i);
         join_marked(w, name, ready);
         i += 1;
     }
@@ -123,9 +124,9 @@ fn reorder(w: &mut [u32; Machine::WORDS], end: usize)
     mark_state(w, READY_STATE, end, &mut ready);
     let mut waiting = [false; Machine::TOKENS];
     mark_state(w, WAITING_STATE, end, &mut waiting);
-    order::retain_queue(w, &ready);
+    order::retain::<Queue>(w, &ready);
     wake(w, &ready);
-    order::retain_waits(w, &waiting);
+    order::retain::<WaitOrder>(w, &waiting);
 }
 
 // The order of call keeps the tokens that are still due; it mostly names none.
@@ -133,12 +134,12 @@ fn retain_due(w: &mut [u32; Machine::WORDS], end: usize)
     requires { end ≤ 64 }
     ensures { (m : Machine) → Holds w.old m → BlankFrom m end → Holds w.new (still_due m) }
 {
-    if order::timed(w) == 0 {
+    if order::count::<CallOrder>(w) == 0 {
         return;
     }
     let mut due = [false; Machine::TOKENS];
     mark_state(w, DUE_STATE, end, &mut due);
-    order::retain_timers(w, &due);
+    order::retain::<CallOrder>(w, &due);
 }
 
 // "Set the cell; all tokens of it and of its descendants end; waiters become ready, longest wait first." From the end on no token is in
@@ -155,7 +156,7 @@ pub fn written(
     ensures { (m : Machine) (v : Held) → Holds w.old m → BlankFrom m end → ChokeFacts m place → held_kind v ≡ kind
         → held_number v ≡ number → Holds w.new (after_choke c v (dequeued m place)) }
 {
-    order::leave(w, place);
+    order::leave::<Queue>(w, place);
     choke_rows(w, c, end);
     cell::set_value(w, c, kind, number);
     reorder(w, end);

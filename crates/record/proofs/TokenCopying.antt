@@ -1,68 +1,41 @@
--- A row is written word by word: a paste of its first words, one more with each turn. Assumes nothing.
-use mathlib.Core.Path.{◌≡◌, sym, ap, ap₂, subst, ◌∙◌}
+-- A row that is copied or cleared at once: a paste of its words. Assumes nothing.
+use mathlib.Core.Path.{◌≡◌, refl, sym, ap, subst, ◌∙◌}
 use mathlib.Core.List.{List, ◌++◌}
-use Prim.Native.Nat.{ℕ, ◌+◌, ◌-◌, ◌*◌, ◌<◌, ◌≤◌}
-use native.Mathlib.Decide.{dec_lt}
-use native.Mathlib.Numerals.{add-one}
+use Prim.Native.Nat.{ℕ, ◌+◌, ◌*◌, ◌<◌}
 use native.Mathlib.Omega.{arith}
-use lib.ListN.{length, get_or, set, take, drop, get_or-append}
-use lib.Seq.{paste, paste-suc, length_paste_head, length-take-le, get_or-take, get_or-drop}
-use Rattle.model.specs.Machine.Blank.{token_at}
+use lib.ListN.{length, take, drop, replicate, length-drop}
+use lib.Seq.{paste, take_all, length-take-le}
+use borrow.Rule.Slice.PartMut.{put_mid}
+use Rattle.std.proofs.lemmas.Slice.{put_mid-paste}
+use Rattle.job.proofs.Lists.{part-is}
+use Rattle.model.specs.Machine.Blank.{blank_token, token_at, slot_at}
 use Rattle.model.specs.Machine.Update.{put}
-use Rattle.model.specs.declared.token.Token.{Token}
 use Rattle.model.specs.declared.record.Machine.{Machine}
 use Rattle.record.specs.Layout.{row_of}
-use Rattle.record.specs.Holds.{Codes, Holds}
-use Rattle.record.proofs.LayoutTable.{get-behind}
+use Rattle.record.specs.Holds.{Holds}
 use Rattle.record.proofs.LayoutParts.{row-wide}
 use Rattle.record.proofs.TokenRow.{token-word, row_put}
 use Rattle.record.proofs.CountLaws.{words_long}
 
-module _ (d : List ℕ) (at : ℕ) (s : List ℕ) (n k : ℕ) (inside : at + n ≤ length d) (some : n ≤ length s) where
-  pub paste-before : k < at → get_or (paste d at s n) k 0 ≡ get_or d k 0
-  paste-before l =
-      let a : length (take at d ++ take n s) ≡ at + n = length_paste_head d at s n (omega arith) some in
-      let b : length (take at d) ≡ at = length-take-le at d (omega arith) in
-      get_or-append (take at d ++ take n s) (drop (at + n) d) 0 k (omega arith)
-      ∙ get_or-append (take at d) (take n s) 0 k (omega arith)
-      ∙ get_or-take at d k 0 l
+module _ {ws : List ℕ} {m : Machine} (h : Holds ws m) where
+  pub copied : (from place n : ℕ) (w : List ℕ) → from < 64 → place < 64 → n ≡ 24
+      → w ≡ paste ws (24 * place) (drop (24 * from) ws) n → Holds w (put place (token_at m.tokens from) m)
+  copied from place n w f l e g =
+      let t = token_at m.tokens from in
+      let same : take 24 (drop (24 * from) ws) ≡ take 24 (row_of t) =
+      part-is ws (24 * from) 24 (row_of t) 0 (row-wide t) (omega (arith, words_long h.codes)) (token-word h.codes from f)
+      ∙ sym (take_all 24 (row_of t) (omega (arith, row-wide t))) in
+      subst (λ r. Holds r (put place t m))
+      (sym (g ∙ ap (paste ws (24 * place) (drop (24 * from) ws)) e
+      ∙ ap (λ x. (take (24 * place) ws ++ x) ++ drop (24 * place + 24) ws) same))
+      (row_put h place l t (h.codes.shaped.binds from))
 
-  pub paste-behind : at + n ≤ k → get_or (paste d at s n) k 0 ≡ get_or d k 0
-  paste-behind l =
-      let a : length (take at d ++ take n s) ≡ at + n = length_paste_head d at s n (omega arith) some in
-      let z : k ≡ at + n + (k - (at + n)) = omega arith in
-      ap (λ i. get_or (paste d at s n) i 0) z
-      ∙ get-behind (take at d ++ take n s) (drop (at + n) d) (at + n) a (k - (at + n)) 0
-      ∙ get_or-drop (at + n) d (k - (at + n)) 0
-      ∙ ap (λ i. get_or d i 0) (sym z)
-
-module _ {ws : List ℕ} {m : Machine} (h : Codes ws m) (from place i : ℕ) (f : from < 64) (l : place < 64) (s : i < 24) where
-  abbrev row : List ℕ
-  row = row_of (token_at m.tokens from)
-
-  read : Dec (from < place) → get_or (paste ws (24 * place) row i) (24 * from + i) 0 ≡ get_or ws (24 * from + i) 0
-  read (yes b) = paste-before ws (24 * place) row i (24 * from + i) (omega (arith, words_long h))
-      (omega (arith, row-wide (token_at m.tokens from))) (omega arith)
-  read (no b) = paste-behind ws (24 * place) row i (24 * from + i) (omega (arith, words_long h))
-      (omega (arith, row-wide (token_at m.tokens from))) (omega arith)
-
-  pub copy-on : (w : List ℕ) → w ≡ paste ws (24 * place) row i
-      → set w (24 * place + i) (get_or w (24 * from + i) 0) ≡ paste ws (24 * place) row (i + 1)
-  copy-on w e =
-      ap₂ (λ r v. set r (24 * place + i) v) e
-      (ap (λ r. get_or r (24 * from + i) 0) e ∙ read (dec_lt from place) ∙ token-word h from f i s)
-      ∙ paste-suc ws (24 * place) row i 0 (omega (arith, words_long h)) (omega (arith, row-wide (token_at m.tokens from)))
-      ∙ ap (paste ws (24 * place) row) (sym (add-one i))
-
-pub row_done : {ws : List ℕ} {m : Machine} → Holds ws m → (place i : ℕ) (t : Token) (w : List ℕ)
-    → place < 64 → length t.binds ≡ 8 → i ≡ 24 → w ≡ paste ws (24 * place) (row_of t) i → Holds w (put place t m)
-row_done {ws} {m} h place i t w l b e f =
-    subst (λ r. Holds r (put place t m)) (sym (f ∙ ap (paste ws (24 * place) (row_of t)) e)) (row_put h place l t b)
-
--- a row that is lent
-pub row_on : (ws row w : List ℕ) (p i : ℕ) → length ws ≡ 1863 → length row ≡ 24 → p < 64 → i < 24 → w ≡ paste ws (24 * p) row i
-    → set w (24 * p + i) (get_or row i 0) ≡ paste ws (24 * p) row (i + 1)
-row_on ws row w p i l r a b e =
-    ap (λ x. set x (24 * p + i) (get_or row i 0)) e
-    ∙ paste-suc ws (24 * p) row i 0 (omega arith) (omega arith)
-    ∙ ap (paste ws (24 * p) row) (sym (add-one i))
+  pub blanked : (p k : ℕ) (row : List ℕ) → p < 64 → k ≡ 24 → row ≡ replicate (length (take k (drop (24 * p) ws))) 0
+      → Holds (put_mid (24 * p) k ws row) (put p blank_token m)
+  unfolding row_of slot_at
+  blanked p k row l e f =
+      let wide : length (take k (drop (24 * p) ws)) ≡ 24 =
+      length-take-le k (drop (24 * p) ws) (omega (arith, words_long h.codes, length-drop (24 * p) ws)) ∙ e in
+      subst (λ r. Holds r (put p blank_token m))
+      (sym (put_mid-paste (24 * p) k ws row (row_of blank_token) 24 (f ∙ ap (λ n. replicate n 0) wide) (sym e) refl))
+      (row_put h p l blank_token refl)

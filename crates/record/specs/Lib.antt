@@ -3,3 +3,4 @@ pub mod Layout
 pub mod LayoutDecoded
 pub mod Changes
 pub mod Holds
+pub mod OrderWords

@@ -1,10 +1,10 @@
 // The queue, the wait order and the order of call: the first names of 64 words each, and how many they are. What stands behind them is 0.
-ghost use Rattle.std.specs.Prelude.{◌≡◌, false, [], ◌∷◌, ◌++◌, ℕ, ◌<◌, ◌-◌, length, get_or};
+ghost use Rattle.std.specs.Prelude.{◌≡◌, refl, false, ℕ, ◌<◌, get_or};
 ghost use Rattle.job.specs.Test.{select, without};
-ghost use Rattle.model.specs.Machine.Update.{enqueue, with_orders, with_timers, queue_of, waits_of, timers_of};
 ghost use Rattle.model.specs.declared.record.Machine.{Machine};
 ghost use Rattle.record.specs.Holds.{Codes, Holds};
-ghost use Rattle.record.specs.Changes.{dequeued, delayed};
+ghost use Rattle.record.specs.OrderWords.{Which, queue, waits, timers, first_at, count_at};
+ghost use Rattle.record.specs.OrderWords.{names_of, array_of, count_of, with_names, joined};
 
 use crate::layout::{
     QUEUE_LENGTH, QUEUE_START, TIMERS_LENGTH, TIMERS_START, WAITS_LENGTH, WAITS_START,
@@ -13,200 +13,145 @@ use job::wide::wide;
 use model::record::Machine;
 use orders::names::{left_out, retained};
 
-pub fn queued(w: &[u32; Machine::WORDS]) -> u32
-    ensures { (m : Machine) → Codes w.now m → result ≡ m.queued }
-{
-    w[QUEUE_LENGTH]
+// An order names the tokens in a state, each once.
+pub trait Order {
+    // Where its names begin among the words, and where their number stands.
+    const START: usize;
+
+    const LENGTH: usize;
+
+    ghost START: { ℕ };
+
+    ghost LENGTH: { ℕ };
+
+    ghost which: { Which };
+
+    ghost starts: { START ≡ first_at which };
+
+    ghost counted: { LENGTH ≡ count_at which };
 }
 
-pub fn waiting(w: &[u32; Machine::WORDS]) -> u32
-    ensures { (m : Machine) → Codes w.now m → result ≡ m.waiting }
-{
-    w[WAITS_LENGTH]
+// The ready tokens.
+pub struct Queue;
+
+impl Order for Queue {
+    const START: usize = QUEUE_START;
+
+    const LENGTH: usize = QUEUE_LENGTH;
+
+    ghost START = { 1664 };
+
+    ghost LENGTH = { 1792 };
+
+    ghost which = { queue };
+
+    ghost starts = { refl };
+
+    ghost counted = { refl };
 }
 
-pub fn timed(w: &[u32; Machine::WORDS]) -> u32
-    ensures { (m : Machine) → Codes w.now m → result ≡ m.timed }
-{
-    w[TIMERS_LENGTH]
+// The waiting tokens, longest wait first.
+pub struct WaitOrder;
+
+impl Order for WaitOrder {
+    const START: usize = WAITS_START;
+
+    const LENGTH: usize = WAITS_LENGTH;
+
+    ghost START = { 1728 };
+
+    ghost LENGTH = { 1793 };
+
+    ghost which = { waits };
+
+    ghost starts = { refl };
+
+    ghost counted = { refl };
 }
 
-// The place that the queue names at an index.
-pub fn queue_name(w: &[u32; Machine::WORDS], i: usize) -> u32
+// The tokens that are due later, first call first.
+pub struct CallOrder;
+
+impl Order for CallOrder {
+    const START: usize = TIMERS_START;
+
+    const LENGTH: usize = TIMERS_LENGTH;
+
+    ghost START = { 1797 };
+
+    ghost LENGTH = { 1861 };
+
+    ghost which = { timers };
+
+    ghost starts = { refl };
+
+    ghost counted = { refl };
+}
+
+// How many names there are.
+pub fn count<O: Order>(w: &[u32; Machine::WORDS]) -> u32
+    ensures { (m : Machine) → Codes w.now m → result ≡ count_of O.which m }
+{
+    w[O::LENGTH]
+}
+
+// The place that is named at an index.
+pub fn place_at<O: Order>(w: &[u32; Machine::WORDS], i: usize) -> u32
     requires { i < 64 }
-    ensures { (m : Machine) → Codes w.now m → result ≡ get_or m.queue i 0 }
+    ensures { (m : Machine) → Codes w.now m → result ≡ get_or (array_of O.which m) i 0 }
 {
-    w[QUEUE_START + i]
+    w[O::START + i]
 }
 
-// The place that the wait order names at an index.
-pub fn wait_name(w: &[u32; Machine::WORDS], i: usize) -> u32
-    requires { i < 64 }
-    ensures { (m : Machine) → Codes w.now m → result ≡ get_or m.waits i 0 }
+// "A ready token goes to the back of the queue." So does one that waits or is due later, of its order. Each of these is named once, so there
+// is room; a full order stays as it is.
+pub fn join<O: Order>(w: &mut [u32; Machine::WORDS], p: u32)
+    ensures { (m : Machine) → Holds w.old m → count_of O.which m < 64 → Holds w.new (joined O.which p m) }
 {
-    w[WAITS_START + i]
-}
-
-// The place that the order of call names at an index.
-pub fn timer_name(w: &[u32; Machine::WORDS], i: usize) -> u32
-    requires { i < 64 }
-    ensures { (m : Machine) → Codes w.now m → result ≡ get_or m.timers i 0 }
-{
-    w[TIMERS_START + i]
-}
-
-// "A ready token goes to the back of the queue." The queue names each ready token once, so there is room; a full one stays as it is.
-pub fn join(w: &mut [u32; Machine::WORDS], p: u32)
-    ensures { (m : Machine) → Holds w.old m → m.queued < 64 → Holds w.new (enqueue p m) }
-{
-    let n = wide(w[QUEUE_LENGTH]);
+    let length = O::LENGTH;
+    let n = wide(w[length]);
     if n < Machine::TOKENS {
-        w[QUEUE_START + n] = p;
-        w[QUEUE_LENGTH] = n as u32 + 1;
+        w[O::START + n] = p;
+        w[length] = n as u32 + 1;
     }
 }
 
-// A token that waits goes to the back of the wait order.
-pub fn delay(w: &mut [u32; Machine::WORDS], p: u32)
-    ensures { (m : Machine) → Holds w.old m → m.waiting < 64 → Holds w.new (delayed p m) }
+// The name at an index leaves.
+pub fn leave<O: Order>(w: &mut [u32; Machine::WORDS], index: usize)
+    ensures { (m : Machine) → Holds w.old m → index < count_of O.which m
+        → Holds w.new (with_names O.which (without index (names_of O.which m)) m) }
 {
-    let n = wide(w[WAITS_LENGTH]);
-    if n < Machine::TOKENS {
-        w[WAITS_START + n] = p;
-        w[WAITS_LENGTH] = n as u32 + 1;
+    let length = O::LENGTH;
+    let count = wide(w[length]);
+    if count <= Machine::TOKENS && index < count {
+        let start = O::START;
+        left_out(&mut w[start..start + count], index, 0);
+        w[length] = count as u32 - 1;
     }
 }
 
-// A token that is due later goes to the back of the order of call.
-pub fn defer(w: &mut [u32; Machine::WORDS], p: u32)
-    ensures { (m : Machine) → Holds w.old m → m.timed < 64
-        → Holds w.new (with_timers (timers_of m ++ (p ∷ [])) m) }
+// The name at an index leaves and another goes to the back: as `leave` and then `join`, but the number of names is not written.
+pub fn replace<O: Order>(w: &mut [u32; Machine::WORDS], index: usize, p: u32)
+    ensures { (m : Machine) → Holds w.old m → index < count_of O.which m
+        → Holds w.new (joined O.which p (with_names O.which (without index (names_of O.which m)) m)) }
 {
-    let n = wide(w[TIMERS_LENGTH]);
-    if n < Machine::TOKENS {
-        w[TIMERS_START + n] = p;
-        w[TIMERS_LENGTH] = n as u32 + 1;
+    let count = wide(w[O::LENGTH]);
+    if count <= Machine::TOKENS && index < count {
+        let start = O::START;
+        left_out(&mut w[start..start + count], index, p);
     }
 }
 
-// A part can be lent of a slice, not of an array.
-fn leave_slice(w: &mut [u32], index: usize)
-    requires { length w.old ≡ 1863 }
-    ensures { (m : Machine) → Holds w.old m → index < m.queued → Holds w.new (dequeued m index) }
-{
-    let count = wide(w[QUEUE_LENGTH]);
-    if count <= Machine::TOKENS {
-        if index < count {
-            left_out(&mut w[QUEUE_START..WAITS_START], count, index, 0);
-            w[QUEUE_LENGTH] = count as u32 - 1;
-        }
-    }
-}
-
-// The name at an index leaves the queue.
-pub fn leave(w: &mut [u32; Machine::WORDS], index: usize)
-    ensures { (m : Machine) → Holds w.old m → index < m.queued → Holds w.new (dequeued m index) }
-{
-    leave_slice(w, index);
-}
-
-fn replace_slice(w: &mut [u32], index: usize, p: u32)
-    requires { length w.old ≡ 1863 }
-    ensures { (m : Machine) → Holds w.old m → index < m.queued → Holds w.new (enqueue p (dequeued m index)) }
-{
-    let count = wide(w[QUEUE_LENGTH]);
-    if count <= Machine::TOKENS {
-        if index < count {
-            left_out(&mut w[QUEUE_START..WAITS_START], count, index, p);
-        }
-    }
-}
-
-// The name at an index leaves the queue and another goes to its back: as `leave` and then `join`, but its length is not written.
-pub fn replace(w: &mut [u32; Machine::WORDS], index: usize, p: u32)
-    ensures { (m : Machine) → Holds w.old m → index < m.queued → Holds w.new (enqueue p (dequeued m index)) }
-{
-    replace_slice(w, index, p);
-}
-
-fn retain_queue_slice(w: &mut [u32], keep: &[bool])
-    requires { length w.old ≡ 1863 }
+// The names that are marked stay.
+pub fn retain<O: Order>(w: &mut [u32; Machine::WORDS], keep: &[bool; Machine::TOKENS])
     ensures { (m : Machine) → Holds w.old m
-        → Holds w.new (with_orders (select (λ (p : ℕ). get_or keep.now p false) (queue_of m)) (waits_of m) m) }
+        → Holds w.new (with_names O.which (select (λ (p : ℕ). get_or keep.now p false) (names_of O.which m)) m) }
 {
-    let count = wide(w[QUEUE_LENGTH]);
+    let length = O::LENGTH;
+    let count = wide(w[length]);
     if count <= Machine::TOKENS {
-        let n = retained(&mut w[QUEUE_START..WAITS_START], count, keep);
-        w[QUEUE_LENGTH] = n as u32;
+        let start = O::START;
+        let n = retained(&mut w[start..start + count], keep);
+        w[length] = n as u32;
     }
-}
-
-// The queue keeps the names that are marked.
-pub fn retain_queue(w: &mut [u32; Machine::WORDS], keep: &[bool; Machine::TOKENS])
-    ensures { (m : Machine) → Holds w.old m
-        → Holds w.new (with_orders (select (λ (p : ℕ). get_or keep.now p false) (queue_of m)) (waits_of m) m) }
-{
-    retain_queue_slice(w, keep);
-}
-
-fn retain_waits_slice(w: &mut [u32], keep: &[bool])
-    requires { length w.old ≡ 1863 }
-    ensures { (m : Machine) → Holds w.old m
-        → Holds w.new (with_orders (queue_of m) (select (λ (p : ℕ). get_or keep.now p false) (waits_of m)) m) }
-{
-    let count = wide(w[WAITS_LENGTH]);
-    if count <= Machine::TOKENS {
-        let n = retained(&mut w[WAITS_START..QUEUE_LENGTH], count, keep);
-        w[WAITS_LENGTH] = n as u32;
-    }
-}
-
-// The wait order keeps the names that are marked.
-pub fn retain_waits(w: &mut [u32; Machine::WORDS], keep: &[bool; Machine::TOKENS])
-    ensures { (m : Machine) → Holds w.old m
-        → Holds w.new (with_orders (queue_of m) (select (λ (p : ℕ). get_or keep.now p false) (waits_of m)) m) }
-{
-    retain_waits_slice(w, keep);
-}
-
-fn leave_timers_slice(w: &mut [u32], index: usize)
-    requires { length w.old ≡ 1863 }
-    ensures { (m : Machine) → Holds w.old m → index < m.timed
-        → Holds w.new (with_timers (without index (timers_of m)) m) }
-{
-    let count = wide(w[TIMERS_LENGTH]);
-    if count <= Machine::TOKENS {
-        if index < count {
-            left_out(&mut w[TIMERS_START..TIMERS_LENGTH], count, index, 0);
-            w[TIMERS_LENGTH] = count as u32 - 1;
-        }
-    }
-}
-
-// The name at an index leaves the order of call.
-pub fn leave_timers(w: &mut [u32; Machine::WORDS], index: usize)
-    ensures { (m : Machine) → Holds w.old m → index < m.timed
-        → Holds w.new (with_timers (without index (timers_of m)) m) }
-{
-    leave_timers_slice(w, index);
-}
-
-fn retain_timers_slice(w: &mut [u32], keep: &[bool])
-    requires { length w.old ≡ 1863 }
-    ensures { (m : Machine) → Holds w.old m
-        → Holds w.new (with_timers (select (λ (p : ℕ). get_or keep.now p false) (timers_of m)) m) }
-{
-    let count = wide(w[TIMERS_LENGTH]);
-    if count <= Machine::TOKENS {
-        let n = retained(&mut w[TIMERS_START..TIMERS_LENGTH], count, keep);
-        w[TIMERS_LENGTH] = n as u32;
-    }
-}
-
-// The order of call keeps the names that are marked.
-pub fn retain_timers(w: &mut [u32; Machine::WORDS], keep: &[bool; Machine::TOKENS])
-    ensures { (m : Machine) → Holds w.old m
-        → Holds w.new (with_timers (select (λ (p : ℕ). get_or keep.now p false) (timers_of m)) m) }
-{
-    retain_timers_slice(w, keep);
 }

@@ -1,5 +1,5 @@
 // A token's row: readers and writers of its fields. A writer changes the token at its place and nothing else of the record.
-ghost use Rattle.std.specs.Prelude.{◌≡◌, ◌<◌, length};
+ghost use Rattle.std.specs.Prelude.{◌≡◌, ◌<◌};
 ghost use Rattle.model.specs.Machine.Blank.{blank_token, token_at, slot_at};
 ghost use Rattle.model.specs.Machine.Update.{put, with_node, with_state, with_value, with_binding};
 ghost use Rattle.model.specs.declared.record.Machine.{Machine};
@@ -10,7 +10,7 @@ ghost use Rattle.model.specs.declared.token.State.{State};
 ghost use Rattle.model.specs.declared.token.Token.{Token};
 ghost use Rattle.record.specs.Holds.{Codes, Holds};
 ghost use Rattle.record.specs.Changes.{with_caller, with_cell};
-ghost use Rattle.record.specs.Layout.{row_of, state_kind, state_number, place_number, held_kind, held_number, slot_kind, slot_number};
+ghost use Rattle.record.specs.Layout.{state_kind, state_number, place_number, held_kind, held_number, slot_kind, slot_number};
 
 use crate::layout::{
     TOKEN_BIND_KIND, TOKEN_BIND_NUMBER, TOKEN_CALLER, TOKEN_CELL, TOKEN_NODE, TOKEN_STATE_NUMBER,
@@ -140,29 +140,8 @@ pub fn copy(w: &mut [u32; Machine::WORDS], from: usize, place: usize)
     requires { (from < 64) × (place < 64) }
     ensures { (m : Machine) → Holds w.old m → Holds w.new (put place (token_at m.tokens from) m) }
 {
-    let a = TOKEN_WORDS * from;
-    let b = TOKEN_WORDS * place;
-    let mut i: usize = 0;
-    while i < TOKEN_WORDS {
-        let v = w[a + i];
-        w[b + i] = v;
-        i += 1;
-    }
-}
-
-// The words of a row, one by one.
-fn write(w: &mut [u32; Machine::WORDS], p: usize, row: &[u32; TOKEN_WORDS])
-    requires { p < 64 }
-    ensures { (m : Machine) (t : Token) → Holds w.old m → length t.binds ≡ 8 → row.now ≡ row_of t
-        → Holds w.new (put p t m) }
-{
-    let at = TOKEN_WORDS * p;
-    let mut i: usize = 0;
-    while i < TOKEN_WORDS {
-        let v = row[i];
-        w[at + i] = v;
-        i += 1;
-    }
+    let at = TOKEN_WORDS * from;
+    w.copy_within(at..at + TOKEN_WORDS, TOKEN_WORDS * place);
 }
 
 // Document 01: blank. The place holds nothing.
@@ -170,6 +149,6 @@ pub fn blank(w: &mut [u32; Machine::WORDS], p: usize)
     requires { p < 64 }
     ensures { (m : Machine) → Holds w.old m → Holds w.new (put p blank_token m) }
 {
-    let row = [0u32; TOKEN_WORDS];
-    write(w, p, &row);
+    let at = TOKEN_WORDS * p;
+    w[at..at + TOKEN_WORDS].fill(0);
 }

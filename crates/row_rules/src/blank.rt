@@ -18,7 +18,7 @@ pub fn token_is_blank(w: &[u32; Machine::WORDS], p: usize) -> bool
         × ((m : Machine) → Codes w.now m → result ≡ token_is_blank (token_at m.tokens p)) }
 {
     let at = TOKEN_WORDS * p;
-    all_zero(w, at, at + TOKEN_WORDS)
+    all_zero(&w[at..at + TOKEN_WORDS])
 }
 
 pub fn cell_is_blank(w: &[u32; Machine::WORDS], c: usize) -> bool
@@ -34,7 +34,7 @@ pub fn tokens_are_blank(w: &[u32; Machine::WORDS], from: usize) -> bool
     ensures { (result ≡ true → (p : ℕ) → from ≤ p → p < 64 → token_coded w.now p ≡ true)
         × ((m : Machine) → Codes w.now m → result ≡ for_all token_is_blank (drop from m.tokens)) }
 {
-    all_zero(w, TOKEN_WORDS * from, CELLS_START)
+    all_zero(&w[TOKEN_WORDS * from..CELLS_START])
 }
 
 // The same for cells.
@@ -43,5 +43,5 @@ pub fn cells_are_blank(w: &[u32; Machine::WORDS], from: usize) -> bool
     ensures { (result ≡ true → (c : ℕ) → from ≤ c → c < 32 → cell_at_coded w.now c ≡ true)
         × ((m : Machine) → Codes w.now m → result ≡ for_all cell_is_blank (drop from m.cells)) }
 {
-    all_zero(w, CELLS_START + CELL_WORDS * from, QUEUE_START)
+    all_zero(&w[CELLS_START + CELL_WORDS * from..QUEUE_START])
 }

@@ -19,36 +19,40 @@ use Rattle.model.specs.Machine.Rules.{due_in_range, clock_holds}
 use Rattle.model.specs.declared.token.Token.{Token}
 use Rattle.model.specs.declared.cell.Cell.{Cell}
 use Rattle.model.specs.declared.record.Machine.{Machine}
-use Rattle.job.proofs.Test.{and_left, and_right, and_both}
+use Rattle.job.proofs.Test.{and_left, and_right, and_both, false_of, clash}
 use Rattle.model.proofs.Machine.InUse.{tokens-used, cells-used}
 use Rattle.job.proofs.Lists.{same-when}
-use Rattle.job.proofs.Both.{both, three-are, and_assoc}
+use Rattle.job.proofs.Both.{both, and_assoc}
 use Rattle.row_rules.specs.RowRules.{token_rule, cell_rule}
-use Rattle.order_rules.specs.OrderCounts.{named_as, named_by_orders}
+use Rattle.record.specs.OrderWords as orders
+use Rattle.order_rules.specs.OrderCounts.{named_as, named_by_orders, order_rule}
+use Rattle.model.proofs.Machine.Rules.{each-rule-holds}
 use Rattle.rules.proofs.RestBlank.{all_both}
 use Rattle.rules.proofs.RulesRows.{from-both}
 
--- the tests in the code's order and in the sentences'; each order is tested in two parts
-regrouped : (s k r cr ce tu h tw ta du tb cb a b c q w l : Bool)
-    → ((((((((r and ta and tu and tw and du) and tb) and (a and b and c)) and h) and ((cr and ce) and cb)) and (s and k))
-    and (q and w and l)))
-    ≡ (s and r and cr and (a and q) and ce and tu and h and (b and w) and tw and ta and tb and cb and (k and du and (c and l)))
-regrouped s k r cr ce tu h tw ta du tb cb a b c q w l =
+-- the tests in the code's order and in the sentences'
+regrouped : (s k r cr ce tu h tw ta du tb cb a b c : Bool)
+    → (((((((r and ta and tu and tw and du) and tb) and (a and b and c)) and h) and ((cr and ce) and cb)) and (s and k)))
+    ≡ (s and r and cr and a and ce and tu and h and b and tw and ta and tb and cb and (k and du and c))
+regrouped s k r cr ce tu h tw ta du tb cb a b c =
     same-when _ _ (λ e. search (and_left, and_right, and_both) depth 18) (λ e. search (and_left, and_right, and_both) depth 18)
 
-with-orders : (s k r cr ce tu h tw ta du tb cb a b c q w l : Bool) {queue waits timers : Bool}
-    → (a and q) ≡ queue → (b and w) ≡ waits → (c and l) ≡ timers
-    → ((((((((r and ta and tu and tw and du) and tb) and (a and b and c)) and h) and ((cr and ce) and cb)) and (s and k))
-    and (q and w and l)))
+with-orders : (s k r cr ce tu h tw ta du tb cb : Bool) {a b c queue waits timers : Bool} → a ≡ queue → b ≡ waits → c ≡ timers
+    → (((((((r and ta and tu and tw and du) and tb) and (a and b and c)) and h) and ((cr and ce) and cb)) and (s and k)))
     ≡ (s and r and cr and queue and ce and tu and h and waits and tw and ta and tb and cb and (k and du and timers))
-with-orders s k r cr ce tu h tw ta du tb cb a b c q w l e f g =
-    regrouped s k r cr ce tu h tw ta du tb cb a b c q w l ∙ rw (e, f, g)
+with-orders s k r cr ce tu h tw ta du tb cb e f g = rw (e, f, g) (regrouped s k r cr ce tu h tw ta du tb cb _ _ _)
 
 module _ (d : Dag) (m : Machine) where
   -- the dag's rules first
   pub dag-breaks : dag_holds d ≡ false → false ≡ rules_hold paper d m
   unfolding rules_hold ◌and◌
   dag-breaks e = rw e
+
+  -- .. and each of the three orders
+  pub orders-break : (order_rule orders.queue m and order_rule orders.waits m and order_rule orders.timers m) ≡ false → false ≡ rules_hold paper d m
+  orders-break f = sym (false_of (rules_hold paper d m) (λ e.
+      let each = each-rule-holds paper d m e in
+      clash (and_both each.queue (and_both each.waits each.timers)) f))
 
   dag-keeps : dag_holds d ≡ true → machine_holds paper d m ≡ rules_hold paper d m
   unfolding rules_hold ◌and◌
@@ -93,21 +97,20 @@ module _ (d : Dag) (m : Machine) where
 
     -- all results together
     pub rules-are : dag_holds d ≡ true → {used marks : List Bool} → used ≡ tokens_used m → marks ≡ cells_used m
-        → (queue waits timers : List ℕ) (queued waited timed : Bool) {first second sizes : Bool}
+        → (queue waits timers : List ℕ) {first second sizes : Bool}
         → first
         ≡ (((for_all (token_rule d m) m.tokens and rest_is_blank token_is_blank used m.tokens) and all_from
         (named_by_orders queue waits timers) 0 m.tokens)
         and distinct (open_handles m.tokens))
         → second ≡ (for_all (cell_rule m.cells) m.cells and rest_is_blank cell_is_blank marks m.cells)
         → sizes ≡ (leb m.calls 1000000 and ltb m.lasttoken 64 and ltb m.lastcell 32 and leb m.clock last_time)
-        → (all_from (named_as 1 queue) 0 m.tokens and queued) ≡ names_once is_ready m.tokens m.queue m.queued
-        → (all_from (named_as 2 waits) 0 m.tokens and waited) ≡ names_once is_waiting m.tokens m.waits m.waiting
-        → (all_from (named_as 4 timers) 0 m.tokens and timed) ≡ names_once is_due m.tokens m.timers m.timed
-        → (first && second && sizes && (queued && waited && timed)) ≡ rules_hold paper d m
+        → all_from (named_as 1 queue) 0 m.tokens ≡ names_once is_ready m.tokens m.queue m.queued
+        → all_from (named_as 2 waits) 0 m.tokens ≡ names_once is_waiting m.tokens m.waits m.waiting
+        → all_from (named_as 4 timers) 0 m.tokens ≡ names_once is_due m.tokens m.timers m.timed
+        → (first && second && sizes) ≡ rules_hold paper d m
     unfolding machine_holds clock_holds
-    rules-are holds e f queue waits timers queued waited timed firsts seconds sized queues delays dues =
+    rules-are holds e f queue waits timers firsts seconds sized queues delays dues =
         both
-        (both
         (both
         (firsts
         ∙ ap₂ (λ x y. (x and y) and distinct (open_handles m.tokens))
@@ -115,7 +118,6 @@ module _ (d : Dag) (m : Machine) where
         (from-both (named_as 1 queue) (λ p t. named_as 2 waits p t and named_as 4 timers p t) 0 m.tokens
         ∙ ap (◌and◌ _) (from-both (named_as 2 waits) (named_as 4 timers) 0 m.tokens)))
         (seconds ∙ ap₂ ◌and◌ cell-rules (ap (λ us. rest_is_blank cell_is_blank us m.cells) f)))
-        (sized ∙ sym sizes-parts))
-        (three-are queued waited timed)
-        ∙ with-orders _ _ _ _ _ _ _ _ _ _ _ _ _ _ _ _ _ _ queues delays dues
+        (sized ∙ sym sizes-parts)
+        ∙ with-orders _ _ _ _ _ _ _ _ _ _ _ _ queues delays dues
         ∙ dag-keeps holds

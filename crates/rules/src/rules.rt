@@ -6,7 +6,7 @@ use crate::tokens::tokens_hold;
 use dag_rules::dag::dag_holds;
 use job::dag::WORDS;
 use model::record::Machine;
-use order_rules::order::{queue_order, timer_order, wait_order};
+use order_rules::order::OrderCounts;
 use row_rules::range::sizes_in_range;
 
 // "14: dag or machine record breaks an index rule", or the words are no record's. The marks say which tokens and cells are in use.
@@ -21,13 +21,8 @@ pub fn rules_hold(
     if !dag_holds(dag) {
         return false;
     }
-    let queue = queue_order(w);
-    let waits = wait_order(w);
-    let timers = timer_order(w);
-    let ready = queue.counts;
-    let delayed = waits.counts;
-    let due = timers.counts;
-    let orders = queue.ok & waits.ok & timers.ok;
-    let tables = tokens_hold(w, tokens, dag, &ready, &delayed, &due) & cells_hold(w, cells);
-    tables & sizes_in_range(w) & orders
+    let Some(counts) = OrderCounts::read(w) else {
+        return false;
+    };
+    tokens_hold(w, tokens, dag, &counts) & cells_hold(w, cells) & sizes_in_range(w)
 }

@@ -17,7 +17,7 @@ use coded::word_tests::token_coded;
 use job::dag::{NODE_COUNT, WORDS};
 use job::wide::wide;
 use model::record::Machine;
-use order_rules::order::{counts_agree, unnamed_from};
+use order_rules::order::{OrderCounts, counts_agree, unnamed_from};
 use reach::marks::few_or_all;
 use record::layout::CALLED_STATE;
 use record::token::{node, state, state_number};
@@ -60,15 +60,13 @@ pub(crate) fn tokens_hold(
     w: &[u32; Machine::WORDS],
     used: &[bool; Machine::TOKENS],
     dag: &[u32; WORDS],
-    queue: &[u8; Machine::TOKENS],
-    waits: &[u8; Machine::TOKENS],
-    timers: &[u8; Machine::TOKENS],
+    counts: &OrderCounts,
 ) -> bool
     requires { dag_holds (dag_of dag.now) ≡ true }
     ensures { (result ≡ true → (p : ℕ) → p < 64 → token_coded w.now p ≡ true)
         × ((m : Machine) → ValuesFit w.now m → length used.now ≡ 64
         → result ≡ (((for_all (token_rule (dag_of dag.now) m) m.tokens and rest_is_blank token_is_blank used.now m.tokens)
-        and all_from (named_by_orders queue.now waits.now timers.now) 0 m.tokens)
+        and all_from (named_by_orders counts.now.queue counts.now.waits counts.now.timers) 0 m.tokens)
         and distinct (open_handles m.tokens))) }
 {
     let mut handles = [0u32; Machine::TOKENS];
@@ -78,13 +76,14 @@ pub(crate) fn tokens_hold(
     for i in 0..end {
         if used[i] {
             let kind = state(w, i);
-            ok &= token_holds(w, i, dag) & counts_agree(kind, queue[i], waits[i], timers[i]);
+            ok &= token_holds(w, i, dag)
+                & counts_agree(kind, counts.queue[i], counts.waits[i], counts.timers[i]);
             handles[count] = state_number(w, i);
             count += handles_of(kind);
         } else {
-            ok &= is_vacant(w, i, queue[i], waits[i], timers[i]);
+            ok &= is_vacant(w, i, counts.queue[i], counts.waits[i], counts.timers[i]);
         }
     }
-    let rest = unnamed_from(queue, waits, timers, end) & tokens_are_blank(w, end);
+    let rest = unnamed_from(counts, end) & tokens_are_blank(w, end);
     ok & rest & all_differ(&handles[..count])
 }

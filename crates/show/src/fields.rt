@@ -9,6 +9,7 @@ use record::layout::{
     BLANK_STATE, CALLED_STATE, DUE_STATE, EMPTY_SLOT, QUEUE_START, READY_STATE, TIMERS_START,
     VALUE_SLOT, WAITING_STATE, WAITS_START,
 };
+use record::order::{Queue, CallOrder, WaitOrder};
 use record::{cell, count, order, token};
 use row_rules::blank::{cell_is_blank, token_is_blank};
 use sites::number::signed;
@@ -162,9 +163,9 @@ fn show_order(
 }
 
 fn orders(rt: &impl Print, w: &[u32; Machine::WORDS]) -> io::Result<()> {
-    show_order(rt, w, b"  queue", QUEUE_START, order::queued(w))?;
-    show_order(rt, w, b"  waits", WAITS_START, order::waiting(w))?;
-    show_order(rt, w, b"  timers", TIMERS_START, order::timed(w))
+    show_order(rt, w, b"  queue", QUEUE_START, order::count::<Queue>(w))?;
+    show_order(rt, w, b"  waits", WAITS_START, order::count::<WaitOrder>(w))?;
+    show_order(rt, w, b"  timers", TIMERS_START, order::count::<CallOrder>(w))
 }
 
 fn counts(rt: &impl Print, w: &[u32; Machine::WORDS]) -> io::Result<()> {

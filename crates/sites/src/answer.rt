@@ -9,6 +9,7 @@ ghost use Rattle.sites.specs.Answer.{place_below, NextCalled, Answered};
 use crate::number::unsigned;
 use model::record::Machine;
 use record::layout::{CALLED_STATE, READY_STATE};
+use record::order::Queue;
 use record::{order, token};
 
 // The first place from an index on whose token is called out, or the end.
@@ -53,6 +54,6 @@ pub fn answer(w: &mut [u32; Machine::WORDS], handle: u32, value: i32, end: usize
     }
     token::set_value(w, p, 1, unsigned(value));
     token::set_state(w, p, READY_STATE, 0);
-    order::join(w, p as u32);
+    order::join::<Queue>(w, p as u32);
     true
 }

@@ -19,7 +19,7 @@ use job::wide::wide;
 use model::record::Machine;
 use record::count::set_last_token;
 use record::layout::{FRAME_STATE, READY_STATE, VALUE_SLOT};
-use record::order::replace;
+use record::order::{Queue, replace};
 use record::token::{
     bind_kind, bind_number, cell, set_bind, set_caller, set_cell, set_node, set_state,
 };
@@ -99,7 +99,7 @@ pub fn written(
         (put p (with_node next (with_state states.Frame (token_at m.tokens p))) (dequeued m place)))) }
 {
     let home = cell(w, p);
-    replace(w, place, new as u32);
+    replace::<Queue>(w, place, new as u32);
     set_state(w, p, FRAME_STATE, 0);
     set_node(w, p, next);
     put_callee(w, dag, at, p, new, root, home);

@@ -8,7 +8,7 @@ ghost use Rattle.model.specs.Machine.Update.{with_node, put, enqueue, new_token}
 
 use model::record::Machine;
 use record::count::set_last_token;
-use record::order::{join, replace};
+use record::order::{Queue, join, replace};
 use record::token::{copy, set_node};
 
 // What a fork writes, with the right token at the place `new`.
@@ -27,10 +27,10 @@ pub fn written(
         (new_token new (with_node right (token_at m.tokens p))
         (put p (with_node left (token_at m.tokens p)) (dequeued m place))))) }
 {
-    replace(w, place, p as u32);
+    replace::<Queue>(w, place, p as u32);
     set_node(w, p, left);
     copy(w, p, new);
     set_node(w, new, right);
     set_last_token(w, new as u32);
-    join(w, new as u32);
+    join::<Queue>(w, new as u32);
 }

@@ -12,7 +12,7 @@ use model::record::Machine;
 use record::cell::put_unset;
 use record::count::{set_last_cell, set_last_token};
 use record::layout::CELL_SLOT;
-use record::order::{join, replace};
+use record::order::{Queue, join, replace};
 use record::token::{cell, copy, set_bind, set_cell, set_node};
 
 // The two tokens: the right one is a copy at the place `new`, in the cell c; the left one binds x to c.
@@ -58,10 +58,10 @@ pub fn written(
         (put p (with_node left (with_binding x (slots.Cell c) (token_at m.tokens p))) (dequeued m place)))))) }
 {
     let parent = cell(w, p);
-    replace(w, place, p as u32);
+    replace::<Queue>(w, place, p as u32);
     split_tokens(w, p, new, c, x, left, right);
     set_last_token(w, new as u32);
     put_unset(w, c, parent);
     set_last_cell(w, c as u32);
-    join(w, new as u32);
+    join::<Queue>(w, new as u32);
 }

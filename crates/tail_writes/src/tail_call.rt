@@ -12,7 +12,7 @@ ghost use Rattle.sites.specs.Row.{ParamsHold, params_at};
 use crate::passing::{bind_slots, passed_slots};
 use job::dag::WORDS;
 use model::record::Machine;
-use record::order::replace;
+use record::order::{Queue, replace};
 use record::token::{set_node, set_value};
 
 // "with no value and only its formals bound": caller, cell and state stay.
@@ -34,7 +34,7 @@ pub fn written(
     let mut kinds = [0u32; 8];
     let mut numbers = [0u32; 8];
     passed_slots(w, dag, at, p, &mut kinds, &mut numbers);
-    replace(w, place, p as u32);
+    replace::<Queue>(w, place, p as u32);
     bind_slots(w, p, &kinds, &numbers);
     set_value(w, p, 0, 0);
     set_node(w, p, root);

@@ -11,7 +11,7 @@ use job::dag::{HEAD_WORDS, ROW_WORDS, WORDS};
 use job::wide::wide;
 use model::record::Machine;
 use model::reply::Report;
-use record::order::queue_name;
+use record::order::{Queue, place_at};
 use record::token::node;
 
 // One step of the token that the queue has at a place.
@@ -29,7 +29,7 @@ pub fn step(
         → Stepped (Step.step paper (dag_of dag.now) m place) m w.new tokens.new cells.new
         shared.new result }
 {
-    let p = wide(queue_name(w, place));
+    let p = wide(place_at::<Queue>(w, place));
     let at = HEAD_WORDS + ROW_WORDS * wide(node(w, p));
     act(w, tokens, cells, shared, dag, place, p, at)
 }

@@ -9,7 +9,7 @@ ghost use Rattle.model.specs.declared.token.Slot.{Slot};
 ghost use Rattle.record.specs.Layout.{slot_kind, slot_number};
 
 use model::record::Machine;
-use record::order::replace;
+use record::order::{Queue, replace};
 use record::token::{set_bind, set_node};
 
 // The slot whose words these are is bound to x, and the token goes on.
@@ -26,7 +26,7 @@ pub fn written(
     ensures { (m : Machine) (s : Slot) → Holds w.old m → place < m.queued → slot_kind s ≡ kind → slot_number s ≡ number
         → Holds w.new (enqueue p (put p (with_node next (with_binding x s (token_at m.tokens p))) (dequeued m place))) }
 {
-    replace(w, place, p as u32);
+    replace::<Queue>(w, place, p as u32);
     set_bind(w, p, x, kind, number);
     set_node(w, p, next);
 }

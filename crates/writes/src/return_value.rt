@@ -9,7 +9,7 @@ ghost use Rattle.model.specs.declared.token.State.TheVariants as states;
 
 use model::record::Machine;
 use record::layout::READY_STATE;
-use record::order::replace;
+use record::order::{Queue, replace};
 use record::token::{copy, set_state, set_value, value, value_kind};
 
 // The token at p becomes the frame at f, with its own value.
@@ -22,7 +22,7 @@ pub fn written(w: &mut [u32; Machine::WORDS], place: usize, p: usize, f: usize)
 {
     let has = value_kind(w, p);
     let number = value(w, p);
-    replace(w, place, p as u32);
+    replace::<Queue>(w, place, p as u32);
     copy(w, f, p);
     set_value(w, p, has, number);
     set_state(w, p, READY_STATE, 0);

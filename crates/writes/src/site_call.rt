@@ -14,7 +14,7 @@ ghost use Rattle.record.specs.Layout.{held_kind, held_number};
 use model::record::Machine;
 use record::count::set_calls_made;
 use record::layout::{CALLED_STATE, DUE_STATE, WAITING_STATE};
-use record::order::{defer, delay, leave, replace};
+use record::order::{Queue, CallOrder, WaitOrder, join, leave, replace};
 use record::token::{set_node, set_state, set_value};
 
 // "the first unset cell makes the token wait there": at the cell c.
@@ -23,9 +23,9 @@ pub fn wait(w: &mut [u32; Machine::WORDS], place: usize, p: usize, c: u32)
     ensures { (m : Machine) → Holds w.old m → place < m.queued → m.waiting < 64
         → Holds w.new (delayed p (put p (with_state (states.Waiting c) (token_at m.tokens p)) (dequeued m place))) }
 {
-    leave(w, place);
+    leave::<Queue>(w, place);
     set_state(w, p, WAITING_STATE, c);
-    delay(w, p as u32);
+    join::<WaitOrder>(w, p as u32);
 }
 
 // "A built-in replies and the token goes on", with the value that has these 32 bits.
@@ -34,7 +34,7 @@ pub fn reply(w: &mut [u32; Machine::WORDS], place: usize, p: usize, bits: u32, n
     ensures { (m : Machine) (v : Held) → Holds w.old m → place < m.queued → held_kind v ≡ 1 → held_number v ≡ bits
         → Holds w.new (enqueue p (put p (with_node next (with_value v (token_at m.tokens p))) (dequeued m place))) }
 {
-    replace(w, place, p as u32);
+    replace::<Queue>(w, place, p as u32);
     set_value(w, p, 1, bits);
     set_node(w, p, next);
 }
@@ -47,7 +47,7 @@ pub fn call_out(w: &mut [u32; Machine::WORDS], place: usize, p: usize, handle: u
         (with_counts (suc handle) m.lasttoken m.lastcell
         (put p (with_node next (with_state (states.Called handle) (token_at m.tokens p))) (dequeued m place))) }
 {
-    leave(w, place);
+    leave::<Queue>(w, place);
     set_state(w, p, CALLED_STATE, handle);
     set_node(w, p, next);
     set_calls_made(w, handle + 1);
@@ -61,8 +61,8 @@ pub fn due_later(w: &mut [u32; Machine::WORDS], place: usize, p: usize, due: u32
         (with_timers (timers_of (dequeued m place) ++ (p ∷ []))
         (put p (with_node next (with_state (states.Due due) (token_at m.tokens p))) (dequeued m place))) }
 {
-    leave(w, place);
+    leave::<Queue>(w, place);
     set_state(w, p, DUE_STATE, due);
     set_node(w, p, next);
-    defer(w, p as u32);
+    join::<CallOrder>(w, p as u32);
 }

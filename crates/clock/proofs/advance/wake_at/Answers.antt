@@ -19,14 +19,14 @@ returns-then-p-lt-TOKENS c = λ m h f l.
     let p = c.wide-p.result in
     let out = left_out m h f i l in
     let t = token_at out.tokens p in
-    let one = c.leave_timers.ensures m h l in
+    let one = c.leave.ensures m h l in
     let two = c.set_value.ensures out t (helds.Value (pos 0)) (subst (Holds _) (sym (put_self out p)) one) refl refl in
     let three = c.set_state.ensures out (with_value (helds.Value (pos 0)) t) states.Ready two refl refl in
-    wake-is m h f i l p c.timer_name-name.result (c.timer_name-name.ensures m h.codes) c.wide-p.ensures
+    wake-is m h f i l p c.place_at-name.result (c.place_at-name.ensures m h.codes) c.wide-p.ensures
     (c.join.ensures _ three (wake-room m h f i l p _))
 
 pub returns-else-p-lt-TOKENS : goal.returns-else-p-lt-TOKENS
 returns-else-p-lt-TOKENS c = λ m h f l.
     let small = name-inside m h f c.args.i l c.wide-p.result
-    (c.wide-p.ensures ∙ c.timer_name-name.ensures m h.codes) in
+    (c.wide-p.ensures ∙ c.place_at-name.ensures m h.codes) in
     absurd (omega arith)

@@ -18,27 +18,27 @@ pub show_last-requires : goal.show_last-requires
 show_last-requires c = let room = c.loop-left.invariant.0.going.room in omega arith
 
 pub returns-then-left-lt8 : goal.returns-then-left-lt8
-returns-then-left-lt8 c = lent-last _ _ _ _ c.loop-left.invariant.0 _ c.queued.ensures c.if-queued-eq0.true c.if-left-lt8.true
+returns-then-left-lt8 c = lent-last _ _ _ _ c.loop-left.invariant.0 _ c.count.ensures c.if-count-eq0.true c.if-left-lt8.true
     c.show_last.ensures
 
 pub deliver_turn-total-requires : goal.deliver_turn-total-requires
 deliver_turn-total-requires c = let lent = c.loop-left.invariant.0 in
     let room = lent.going.room in
-    (lent-there _ _ _ _ lent _ c.queued.ensures c.if-queued-eq0.true c.if-left-lt8.false, omega arith)
+    (lent-there _ _ _ _ lent _ c.count.ensures c.if-count-eq0.true c.if-left-lt8.false, omega arith)
 
 pub overflow_add-at : goal.overflow_add-at
 overflow_add-at c = let inside = c.loop-left.invariant.0.going.inside in
     let few = c.requires.accepted.1 in
     omega arith
 
-pub loop-left-smaller-then-queued-eq0 : goal.loop-left-smaller-then-queued-eq0
-loop-left-smaller-then-queued-eq0 c = lent-delivers-less _ _ _ _ c.loop-left.invariant.0 _ c.queued.ensures c.if-queued-eq0.true
+pub loop-left-smaller-then-count-eq0 : goal.loop-left-smaller-then-count-eq0
+loop-left-smaller-then-count-eq0 c = lent-delivers-less _ _ _ _ c.loop-left.invariant.0 _ c.count.ensures c.if-count-eq0.true
     c.if-left-lt8.false _
     c.deliver_turn-total.ensures
 
-pub loop-left-preserved-then-queued-eq0 : goal.loop-left-preserved-then-queued-eq0
-loop-left-preserved-then-queued-eq0 c = (
-  lent-delivers _ _ _ _ c.loop-left.invariant.0 _ c.queued.ensures c.if-queued-eq0.true c.if-left-lt8.false _
+pub loop-left-preserved-then-count-eq0 : goal.loop-left-preserved-then-count-eq0
+loop-left-preserved-then-count-eq0 c = (
+  lent-delivers _ _ _ _ c.loop-left.invariant.0 _ c.count.ensures c.if-count-eq0.true c.if-left-lt8.false _
       c.deliver_turn-total.ensures,
   search rules,
 )
@@ -47,22 +47,22 @@ pub show_limit-requires : goal.show_limit-requires
 show_limit-requires c = let room = c.loop-left.invariant.0.going.room in omega arith
 
 pub returns-then-steps-eq-STEPS : goal.returns-then-steps-eq-STEPS
-returns-then-steps-eq-STEPS c = lent_limit _ _ _ _ c.loop-left.invariant.0 _ c.queued.ensures c.if-queued-eq0.false c.if-steps-eq-STEPS.true
+returns-then-steps-eq-STEPS c = lent_limit _ _ _ _ c.loop-left.invariant.0 _ c.count.ensures c.if-count-eq0.false c.if-steps-eq-STEPS.true
     c.show_limit.ensures
 
 pub step_turn-turned-requires : goal.step_turn-turned-requires
 step_turn-turned-requires c = let lent = c.loop-left.invariant.0 in
     let room = lent.going.room in
-    (lent-ready _ _ _ _ lent _ c.queued.ensures c.if-queued-eq0.false, omega arith)
+    (lent-ready _ _ _ _ lent _ c.count.ensures c.if-count-eq0.false, omega arith)
 
 pub show_end-requires : goal.show_end-requires
 show_end-requires c = let lent = c.loop-left.invariant.0 in
     let room = lent.going.room in
-    let small = lent-few _ _ _ _ lent _ c.queued.ensures c.if-queued-eq0.false c.if-steps-eq-STEPS.false _ c.step_turn-turned.ensures in
+    let small = lent-few _ _ _ _ lent _ c.count.ensures c.if-count-eq0.false c.if-steps-eq-STEPS.false _ c.step_turn-turned.ensures in
     omega arith
 
 pub returns-then-turned : goal.returns-then-turned
-returns-then-turned c = lent-ends _ _ _ _ c.loop-left.invariant.0 _ c.queued.ensures c.if-queued-eq0.false c.if-steps-eq-STEPS.false _
+returns-then-turned c = lent-ends _ _ _ _ c.loop-left.invariant.0 _ c.count.ensures c.if-count-eq0.false c.if-steps-eq-STEPS.false _
     c.step_turn-turned.ensures
     c.if-turned.true c.show_end.ensures
 
@@ -71,13 +71,13 @@ overflow_add-steps c = let few = c.loop-left.invariant.0.going.few in
     omega arith
 
 pub loop-left-smaller : goal.loop-left-smaller
-loop-left-smaller c = lent-steps-less _ _ _ _ c.loop-left.invariant.0 _ c.queued.ensures c.if-queued-eq0.false c.if-steps-eq-STEPS.false _
+loop-left-smaller c = lent-steps-less _ _ _ _ c.loop-left.invariant.0 _ c.count.ensures c.if-count-eq0.false c.if-steps-eq-STEPS.false _
     c.step_turn-turned.ensures
     c.if-turned.false
 
 pub loop-left-preserved : goal.loop-left-preserved
 loop-left-preserved c = (
-  lent-steps _ _ _ _ c.loop-left.invariant.0 _ c.queued.ensures c.if-queued-eq0.false c.if-steps-eq-STEPS.false _
+  lent-steps _ _ _ _ c.loop-left.invariant.0 _ c.count.ensures c.if-count-eq0.false c.if-steps-eq-STEPS.false _
       c.step_turn-turned.ensures
       c.if-turned.false,
   search rules,

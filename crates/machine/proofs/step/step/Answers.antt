@@ -10,7 +10,7 @@ returns-then-not-is_lawful c = step-rule _ _ _ _ _ c.is_lawful.ensures.value c.i
 pub returns-then-wide-place : goal.returns-then-wide-place
 returns-then-wide-place c = let a = c.is_lawful.ensures.lawful
     c.if-not-is_lawful.false in
-    step-no-token _ _ a _ _ (let e = c.queued.ensures _ a.holds.codes in
+    step-no-token _ _ a _ _ (let e = c.count.ensures _ a.holds.codes in
     let f = c.wide.ensures in omega arith) c.plain-then-wide-place.ensures
 
 pub step-requires : goal.step-requires
@@ -21,7 +21,7 @@ step-requires c = let a = c.is_lawful.ensures.lawful
       is =
           record {
             lawful = a;
-            queued = (let e = c.queued.ensures _ a.holds.codes in
+            queued = (let e = c.count.ensures _ a.holds.codes in
                 let f = c.wide.ensures in omega arith);
           };
     }
@@ -34,7 +34,7 @@ returns c = let a = c.is_lawful.ensures.lawful
     (record {
       lawful = a;
       queued =
-          (let e = c.queued.ensures _ a.holds.codes in
+          (let e = c.count.ensures _ a.holds.codes in
           let f = c.wide.ensures in omega arith);
     })
     (all-shared a)).gives

@@ -5,33 +5,29 @@ use native.Mathlib.Omega.{arith}
 use Rattle.job.specs.Test.{◌and◌}
 use Rattle.job.proofs.Both.{four_are}
 use Rattle.order_rules.specs.OrderCounts.{each_from, unnamed}
-use borrow.Author.Rules.{rules}
 use Rattle.order_rules.proofs.order.unnamed_from.Goals as goal
 
 pub loop-i-init : goal.loop-i-init
 unfolding each_from
 loop-i-init c = let args = c.args in
     let z : args.from - args.from ≡ 0 = omega arith in
-    (search rules, search rules, rw z)
+    rw z
 
 pub loop-i-preserved : goal.loop-i-preserved
 unfolding each_from
 loop-i-preserved c = let args = c.args in
     let now = c.loop-i in
-    let queue = args.queue.now in
-    let waits = args.waits.now in
-    let timers = args.timers.now in
+    let queue = args.counts.now.queue in
+    let waits = args.counts.now.waits in
+    let timers = args.counts.now.timers in
     let here : args.from + (now.i - args.from) ≡ now.i = omega arith in
-    let next : now.i + 1 - args.from ≡ suc (now.i - args.from) = omega arith in (
-      search rules,
-      search rules,
-      four_are now.ok _ _ _
-          ∙ ap₂ ◌and◌ now.invariant.2 (ap (unnamed queue waits timers) (sym here))
-          ∙ sym (ap (each_from (unnamed queue waits timers) args.from) next),
-    )
+    let next : now.i + 1 - args.from ≡ suc (now.i - args.from) = omega arith in
+    four_are now.ok _ _ _
+    ∙ ap₂ ◌and◌ now.invariant (ap (unnamed queue waits timers) (sym here))
+    ∙ sym (ap (each_from (unnamed queue waits timers) args.from) next)
 
 pub returns : goal.returns
 returns c = let args = c.args in
     let last = c.loop-i in
     let e : last.i ≡ 64 = omega arith in
-    last.invariant.2 ∙ ap (λ i. each_from (unnamed args.queue.now args.waits.now args.timers.now) args.from (i - args.from)) e
+    last.invariant ∙ ap (λ i. each_from (unnamed args.counts.now.queue args.counts.now.waits args.counts.now.timers) args.from (i - args.from)) e

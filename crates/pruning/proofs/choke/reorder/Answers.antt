@@ -16,6 +16,6 @@ pub returns : goal.returns
 returns c = λ m h blank l.
     let ready = c.mark_state.ensures m h.codes blank refl in
     let waiting = c.mark_state-2.ensures m h.codes blank refl in
-    let one = c.retain_queue.ensures m h in
+    let one = c.retain.ensures m h in
     let two = c.wake.ensures (first m (marks ready)) one (first-room h (marks ready) l) in
-    subst (Holds _) (reorder-is m _ _ ready waiting) (c.retain_waits.ensures (second m (marks ready)) two)
+    subst (Holds _) (reorder-is m _ _ ready waiting) (c.retain-2.ensures (second m (marks ready)) two)

@@ -28,7 +28,7 @@ loop-i-init c = let args = c.args in (
   search rules,
   refl,
   λ e p l. absurd (omega arith),
-  λ m h l. seen_none (dag_of args.dag.now) m args.used.now args.queue.now args.waits.now args.timers.now,
+  λ m h l. seen_none (dag_of args.dag.now) m args.used.now args.counts.now.queue args.counts.now.waits args.counts.now.timers,
   λ m h e. refl,
 )
 
@@ -39,9 +39,9 @@ pub loop-i-preserved : goal.loop-i-preserved
 unfolding token_at
 loop-i-preserved c = let args = c.args in
     let now = c.loop-i in
-    let queue = args.queue.now in
-    let waits = args.waits.now in
-    let timers = args.timers.now in
+    let queue = args.counts.now.queue in
+    let waits = args.counts.now.waits in
+    let timers = args.counts.now.timers in
     let room : now.count < length now.handles = omega arith in (
       elim c.if-used-i.branch [
         | then-used-i w ↦ omega (arith, w.handles_of-count.ensures.1, w.count-is)
@@ -132,13 +132,13 @@ returns c = let args = c.args in
           ∙ ap (λ i. open_handles (take i m.tokens)) e
           ∙ blank-rest m.tokens end.result (sym (blank.ensures.1 m h.codes) ∙ none)))
           ∙ ap (λ b. b and distinct (open_handles m.tokens))
-          (seen-rest d m args.used.now args.queue.now args.waits.now args.timers.now end.result n (omega (arith, long))
+          (seen-rest d m args.used.now args.counts.now.queue args.counts.now.waits args.counts.now.timers end.result n (omega (arith, long))
           (l ∙ sym long)
           (λ i f b. end.ensures.upper_bound.1 i f (omega (arith, long)))
           (λ i. token-blank d m (token_at m.tokens i) (h.codes.shaped.binds i) c.requires)
-          (last.invariant.3 m h l ∙ ap (seen d m args.used.now args.queue.now args.waits.now args.timers.now) e)
+          (last.invariant.3 m h l ∙ ap (seen d m args.used.now args.counts.now.queue args.counts.now.waits args.counts.now.timers) e)
           names.ensures
           (blank.ensures.1 m h.codes)
-          ∙ seen_done d m args.used.now args.queue.now args.waits.now args.timers.now (end.result + n)
+          ∙ seen_done d m args.used.now args.counts.now.queue args.counts.now.waits args.counts.now.timers (end.result + n)
           (omega (arith, long))),
     )

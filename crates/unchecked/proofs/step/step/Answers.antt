@@ -5,12 +5,12 @@ use Rattle.acts.proofs.Outcomes.{token-inside}
 use mathlib.Core.Path.{ap, ◌∙◌}
 use Rattle.unchecked.proofs.step.step.Goals as goal
 
-pub queue_name-requires : goal.queue_name-requires
-queue_name-requires c = place_inside c.requires.is
+pub place_at-requires : goal.place_at-requires
+place_at-requires c = place_inside c.requires.is
 
 pub node-requires : goal.node-requires
 node-requires c = let r = c.requires.is in
-    token-inside (taking-of r (c.wide-p.ensures ∙ c.queue_name.ensures _ r.lawful.holds.codes))
+    token-inside (taking-of r (c.wide-p.ensures ∙ c.place_at.ensures _ r.lawful.holds.codes))
 
 pub act-requires : goal.act-requires
 act-requires c = let r = c.requires.is in
@@ -19,7 +19,7 @@ act-requires c = let r = c.requires.is in
       machine = c.requires.machine;
       is = acting-of r
           (c.wide-p.ensures
-          ∙ c.queue_name.ensures _ codes)
+          ∙ c.place_at.ensures _ codes)
           (ap (λ n. 67 + 12 * n)
           (c.wide.ensures ∙ c.node.ensures _ codes));
     }
@@ -28,7 +28,7 @@ pub returns : goal.returns
 returns c = λ m r one. let codes = r.lawful.holds.codes in
     c.act.ensures m
     (acting-of r (c.wide-p.ensures
-    ∙ c.queue_name.ensures m codes)
+    ∙ c.place_at.ensures m codes)
     (ap (λ n. 67 + 12 * n)
     (c.wide.ensures
     ∙ c.node.ensures m codes))) one

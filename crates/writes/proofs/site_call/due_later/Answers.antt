@@ -16,4 +16,4 @@ returns c = λ m h q room.
     let rest = dequeued m a.place in
     let later = c.set_state.ensures rest t (states.Due a.due)
     (begins rest a.p t refl (c.leave.ensures m h q)) refl refl in
-    c.defer.ensures _ (c.set_node.ensures rest _ later) room
+    c.join.ensures _ (c.set_node.ensures rest _ later) room

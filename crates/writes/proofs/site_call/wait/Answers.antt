@@ -16,6 +16,6 @@ returns c = λ m h q room.
     let t = token_at m.tokens a.p in
     let rest = dequeued m a.place in
     let same = waiting-taken a.place h in
-    c.delay.ensures _
+    c.join.ensures _
     (c.set_state.ensures rest t (states.Waiting a.c)
     (begins rest a.p t refl (c.leave.ensures m h q)) refl refl) (omega arith)
